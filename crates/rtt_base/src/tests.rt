@@ -1,0 +1,67 @@
+use crate::{Blocks, Bytes, Name, Packet, Path, Text, TextBlock, after};
+use std::test::Fail;
+
+#[test]
+fn stamps_are_ordered_within_half_the_circle(rt: HostRuntime) {
+    let cases = [
+        (1, 0, true),
+        (0, 0, false),
+        (0, 1, false),
+        (0, 4294967295, true),
+        (2147483647, 0, true),
+        (2147483648, 0, false),
+        (2147483649, 0, false),
+    ];
+    for (x, y, expected) in cases {
+        assert_eq!(rt; after(x, y), expected);
+    }
+}
+
+#[test]
+fn a_text_takes_1023_octets(rt: HostRuntime) {
+    let mut text = Text::new();
+    assert!(rt; text.append(&[65; 1022]).is_ok());
+    assert!(rt; text.append(&[65; 2]).is_err());
+    assert_eq!(rt; text.len(), 1022);
+    text.push(66);
+    assert_eq!(rt; text.len(), 1023);
+    text.clear();
+    assert!(rt; text.is_empty());
+}
+
+#[test]
+fn a_packet_takes_4224_octets(rt: HostRuntime) {
+    let mut packet = Packet::new();
+    assert!(rt; packet.append(&[0; 4224]).is_ok());
+    assert!(rt; packet.append(&[0; 1]).is_err());
+    assert_eq!(rt; packet.len(), 4224);
+}
+
+#[test]
+fn blocks_keep_their_order(rt: HostRuntime) {
+    let mut blocks = Blocks::new();
+    for offset in [600, 300, 0] {
+        if blocks.len() < Blocks::CAPACITY {
+            blocks.push(TextBlock {
+                offset,
+                text: Text::new(),
+            });
+        }
+    }
+    assert_eq!(rt; blocks.len(), 3);
+    assert_eq!(rt; blocks.as_slice()[1].offset, 300);
+}
+
+#[test]
+fn what_grows_finds_memory(rt: HostRuntime) -> Result<(), Fail> {
+    let mut bytes = Bytes::new(rt.alloc());
+    bytes.push(65)?;
+    bytes.append(b"nn")?;
+    assert_eq!(rt; bytes.as_slice(), b"Ann".as_slice());
+    let path = Path::from_text(rt.alloc(), "ann.rtp")?;
+    assert_eq!(rt; path.as_str(), "ann.rtp");
+    let mut name = Name::new();
+    name.push('A');
+    assert_eq!(rt; name.as_str(), "A");
+    Ok(())
+}
