@@ -1,0 +1,2 @@
+//! What command words mean. The crate has definitions alone: contracts above cite them.
+#![tactic(auto)]
