@@ -1,0 +1,4 @@
+//! One command of the program: words in, a status out.
+#![tactic(auto)]
+
+mod words;

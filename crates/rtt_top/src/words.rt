@@ -1,0 +1,83 @@
+//! Command words.
+ghost use Rattle.std.specs.Prelude.{◌≡◌, ◌<◌, ◌^◌, map, string_bytes};
+ghost use Rattle.std.specs.Option.{option_map};
+ghost use Rattle.std.specs.List.{list_all};
+ghost use Rattle.std.specs.Char.{is_ascii_digit};
+ghost use Rattle.file_spec.specs.Numbers.{number, is_number};
+ghost use Rattle.file_spec.specs.Words.{command, is_word};
+ghost use Rattle.rtt_top.specs.Commands.{meaning};
+
+use rtt_base::Pts;
+
+/// What `read` is asked for.
+pub struct ReadWords<'a> {
+    /// The name of the recording.
+    pub file: &'a str,
+    /// Whose packets.
+    pub ssrc: u32,
+    /// Whose text in them.
+    pub source: u32,
+    pub pts: Pts,
+}
+
+/// What the words ask for.
+pub enum Command<'a> {
+    Read(ReadWords<'a>),
+}
+
+fn all_digits(text: &[u8]) -> bool
+    ensures { result ≡ list_all (λ c. is_ascii_digit c) text.now }
+{
+    text.iter().all(|c| c.is_ascii_digit())
+}
+
+/// Whether the text is one to ten decimal digits.
+fn is_numeral(text: &[u8]) -> bool
+    ensures { result ≡ is_number text.now }
+{
+    !text.is_empty() && text.len() <= 10 && all_digits(text)
+}
+
+/// A number of one to ten decimal digits that is at most `most`.
+fn number_of(text: &str, most: u32) -> Option<u32>
+    ensures { result ≡ number most text.now }
+{
+    if !is_numeral(text.as_bytes()) {
+        return None;
+    }
+    let Ok(value) = text.parse::<u64>() else {
+        return None;
+    };
+    if value > u64::from(most) {
+        return None;
+    }
+    Some(value as u32)
+}
+
+/// Whether the word is neither empty nor begins with `-`.
+fn is_plain(word: &str) -> bool
+    ensures { result ≡ is_word word.now }
+{
+    match word.as_bytes() {
+        [] => false,
+        [first, ..] => *first != b'-',
+    }
+}
+
+/// What these words ask for, if they are in the word table.
+pub fn command_of(words: &[String]) -> Option<Command<'_>>
+    ensures { option_map meaning result ≡ command (map string_bytes words.now) }
+{
+    match words {
+        [name, file, ssrc] if name.as_str() == "read" && is_plain(file.as_str()) => {
+            let ssrc = number_of(ssrc.as_str(), u32::MAX)?;
+            Some(Command::Read(ReadWords {
+                file: file.as_str(),
+                ssrc,
+                source: ssrc,
+                pts: Pts { t140: 98, red: 100 },
+            }))
+        }
+        _ => None,
+    }
+}
