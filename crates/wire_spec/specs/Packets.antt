@@ -1,0 +1,45 @@
+-- Packets of text and their arrivals, as the laws on streams see them (RFC 2198, section 3; RFC 4103, section 4).
+use Rattle.std.specs.Prelude.{ℕ, ◌+◌, ◌-◌, ◌%◌, ◌^◌, Bool, true, false, List, [], ◌∷◌}
+use Rattle.rtt_base.specs.declared.blocks.TextBlock.{TextBlock}
+use Rattle.rtt_base.specs.declared.text_packets.TextPacket.{TextPacket}
+
+-- a packet: its redundant blocks, oldest first, and its primary text
+pub record Packet : Type 0 where
+  pub mark : Bool
+  pub seq : ℕ
+  pub stamp : ℕ
+  pub ssrc : ℕ
+  pub source : ℕ
+  pub older : List TextBlock
+  pub primary : List ℕ
+
+-- a packet and the moment at which it came, in milliseconds
+pub record Arrival : Type 0 where
+  pub time : ℕ
+  pub packet : Packet
+
+-- all blocks but the last
+abbrev pub redundant : List TextBlock → List TextBlock
+redundant [] = []
+redundant (b ∷ []) = []
+redundant (b ∷ c ∷ bs) = b ∷ redundant (c ∷ bs)
+
+-- the text of the last block
+abbrev pub primary_text : List TextBlock → List ℕ
+primary_text [] = []
+primary_text (b ∷ []) = b.text
+primary_text (b ∷ c ∷ bs) = primary_text (c ∷ bs)
+
+-- what a program's packet stands for
+abbrev pub packet_of : TextPacket → Packet
+packet_of p =
+    record { mark = p.mark; seq = p.seq; stamp = p.stamp; ssrc = p.ssrc; source = p.source; older = redundant p.blocks; primary = primary_text p.blocks }
+
+-- whether a block has text
+abbrev pub has_text : List ℕ → Bool
+has_text [] = false
+has_text (x ∷ xs) = true
+
+-- the stamp of a block that lies this far before the packet's: they go round modulo 2^32
+abbrev pub back : ℕ → ℕ → ℕ
+back stamp offset = (stamp + 2 ^ 32 - offset) % 2 ^ 32

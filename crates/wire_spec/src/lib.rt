@@ -1,0 +1,6 @@
+//! The meaning of packets, blocks and recordings: definitions and their laws, and hardly any code.
+#![tactic(auto)]
+
+mod faults;
+
+pub use faults::{DumpKind, RedFault, RtpFault, TextFault};
