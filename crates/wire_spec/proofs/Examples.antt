@@ -1,0 +1,256 @@
+-- What the definitions give on packets and recordings that stand in octets: each of these computes.
+use Rattle.std.specs.Prelude.{◌≡◌, ℕ, ◌+◌, ◌-◌, ◌*◌, ◌==◌, Bool, true, false, List, [], ◌∷◌, ◌++◌, length, replicate, take, Option, None, Some, Result, Ok, Err, nat_lt, if◌then◌else◌, codes}
+use Rattle.std.proofs.Common.{refl}
+use Rattle.std.specs.Str.{is_utf8, chars}
+use Rattle.std.specs.Int.{w32, to_be_bytes}
+use lib.Utf8.{encode}
+use Rattle.rtt_base.specs.declared.blocks.TextBlock.{TextBlock}
+use Rattle.rtt_base.specs.declared.text_packets.Pts.{Pts}
+use Rattle.wire_spec.specs.declared.faults.TextFault.{TextFault}
+use Rattle.wire_spec.specs.declared.faults.TextFault.TheVariants.{Short, Version, Padding, Sources, WrongType, Cut, Many, NotText, Foreign}
+use Rattle.wire_spec.specs.declared.faults.DumpKind.{DumpKind}
+use Rattle.wire_spec.specs.declared.faults.DumpKind.TheVariants.{NotDump, EndsInside, TooLong, TooLarge}
+use Rattle.wire_spec.specs.Packets.{Packet, Arrival}
+use Rattle.wire_spec.specs.Rtp.{Head, rtp, rtp_of_header, rtp_written}
+use Rattle.wire_spec.specs.Red.{primary, headers_at, texts_at, red, red_written}
+use Rattle.wire_spec.specs.Text.{text_of_short, text_of}
+use Rattle.wire_spec.specs.Dump.{Item, Sent, Fault, arrivals, opening, dump_step, records_within, records, dump, usual_limit, dump_written}
+
+-- ---- octets in hexadecimal digits
+
+abbrev digit : ℕ → ℕ
+digit c = if nat_lt c 58 then c - 48 else c - 55
+
+abbrev digits : List ℕ → List ℕ
+digits [] = []
+digits (c ∷ cs) = if c == 32 then digits cs else digit c ∷ digits cs
+
+abbrev pairs : List ℕ → List ℕ
+pairs [] = []
+pairs (x ∷ []) = []
+pairs (x ∷ y ∷ rest) = (16 * x + y) ∷ pairs rest
+
+abbrev hex : List ℕ → List ℕ
+hex text = pairs (digits text)
+
+abbrev types : Pts
+types = record { t140 = 98; red = 100 }
+
+abbrev block : ℕ → List ℕ → TextBlock
+block offset text = record { offset = offset; text = text }
+
+-- ---- two letters, 300 ms apart, each repeated in the next two packets
+
+abbrev packet : Bool → ℕ → ℕ → List TextBlock → List ℕ → Packet
+packet mark seq stamp older text =
+    record { mark = mark; seq = seq; stamp = stamp; ssrc = 1001; source = 1001; older = older; primary = text }
+
+abbrev head : Bool → ℕ → ℕ → Head
+head mark seq stamp = record { mark = mark; pt = 100; seq = seq; stamp = stamp; ssrc = 1001; csrc = None }
+
+abbrev written : Bool → ℕ → ℕ → List TextBlock → List ℕ → List ℕ
+written mark seq stamp older text = rtp_written (head mark seq stamp) (red_written (older ++ primary text ∷ []) types)
+
+abbrev A : List ℕ
+A = 65 ∷ []
+
+abbrev B : List ℕ
+B = 66 ∷ []
+
+abbrev first : List ℕ
+first = hex (codes "80E4 0000 00000000 000003E9 E2FFFC00 E2FFFC00 62 41")
+
+abbrev second : List ℕ
+second = hex (codes "8064 0001 0000012C 000003E9 E2FFFC00 E204B001 62 4142")
+
+abbrev third : List ℕ
+third = hex (codes "8064 0002 00000258 000003E9 E2096001 E204B001 62 4142")
+
+abbrev fourth : List ℕ
+fourth = hex (codes "8064 0003 00000384 000003E9 E2096001 E204B000 62 42")
+
+first-written : written true 0 0 (block 16383 [] ∷ block 16383 [] ∷ []) A ≡ first
+first-written = refl
+
+first-reads : text_of first None types ≡ Ok (packet true 0 0 (block 16383 [] ∷ block 16383 [] ∷ []) A)
+unfolding text_of text_of_short rtp rtp_of_header red headers_at texts_at is_utf8 chars encode
+first-reads = refl
+
+second-written : written false 1 300 (block 16383 [] ∷ block 300 A ∷ []) B ≡ second
+second-written = refl
+
+second-reads : text_of second None types ≡ Ok (packet false 1 300 (block 16383 [] ∷ block 300 A ∷ []) B)
+unfolding text_of text_of_short rtp rtp_of_header red headers_at texts_at is_utf8 chars encode
+second-reads = refl
+
+third-written : written false 2 600 (block 600 A ∷ block 300 B ∷ []) [] ≡ third
+third-written = refl
+
+third-reads : text_of third None types ≡ Ok (packet false 2 600 (block 600 A ∷ block 300 B ∷ []) [])
+unfolding text_of text_of_short rtp rtp_of_header red headers_at texts_at is_utf8 chars encode
+third-reads = refl
+
+fourth-written : written false 3 900 (block 600 B ∷ block 300 [] ∷ []) [] ≡ fourth
+fourth-written = refl
+
+fourth-reads : text_of fourth None types ≡ Ok (packet false 3 900 (block 600 B ∷ block 300 [] ∷ []) [])
+unfolding text_of text_of_short rtp rtp_of_header red headers_at texts_at is_utf8 chars encode
+fourth-reads = refl
+
+-- ---- their recording, of 166 octets
+
+abbrev recording_to : ℕ → List ℕ
+recording_to time =
+    codes "#!rtpplay1.0 127.0.0.1/5004" ++ 10 ∷ hex (codes "00000000 00000000 7F000001 138C 0000")
+    ++ hex (codes "001E 0016") ++ to_be_bytes w32 time ++ first
+    ++ hex (codes "001F 0017 0000012C") ++ second
+    ++ hex (codes "001F 0017 00000258") ++ third
+    ++ hex (codes "001E 0016 00000384") ++ fourth
+
+abbrev recording : List ℕ
+recording = recording_to 0
+
+abbrev sent : ℕ → List ℕ → Item
+sent time octets = record { time = time; what = Sent octets }
+
+recording-size : length recording ≡ 166
+recording-size = refl
+
+recording-written : dump_written ((0, first) ∷ (300, second) ∷ (600, third) ∷ (900, fourth) ∷ []) ≡ recording
+recording-written = refl
+
+recording-reads : dump usual_limit recording ≡ record { items = sent 0 first ∷ sent 300 second ∷ sent 600 third ∷ sent 900 fourth ∷ []; fault = None }
+unfolding dump records records_within dump_step opening
+recording-reads = refl
+
+abbrev came : ℕ → Packet → Arrival
+came time p = record { time = time; packet = p }
+
+recording-arrivals : arrivals recording 1001 types ≡
+    came 900 (packet false 3 900 (block 600 B ∷ block 300 [] ∷ []) [])
+    ∷ came 600 (packet false 2 600 (block 600 A ∷ block 300 B ∷ []) [])
+    ∷ came 300 (packet false 1 300 (block 16383 [] ∷ block 300 A ∷ []) B)
+    ∷ came 0 (packet true 0 0 (block 16383 [] ∷ block 16383 [] ∷ []) A) ∷ []
+unfolding text_of text_of_short rtp rtp_of_header red headers_at texts_at is_utf8 chars encode arrivals dump records records_within dump_step opening
+recording-arrivals = refl
+
+other-stream : arrivals recording 7 types ≡ []
+unfolding text_of text_of_short rtp rtp_of_header red headers_at texts_at is_utf8 chars encode arrivals dump records records_within dump_step opening
+other-stream = refl
+
+abbrev fault : ℕ → DumpKind → Option Fault
+fault byte kind = Some (record { byte = byte; kind = kind })
+
+after-four-hours : (dump usual_limit (recording_to 14400001)).fault ≡ fault 44 TooLong
+unfolding dump records records_within dump_step opening
+after-four-hours = refl
+
+one-octet-less : (dump usual_limit (take 165 recording)).fault ≡ fault 136 EndsInside
+unfolding dump records records_within dump_step opening
+one-octet-less = refl
+
+past-the-limit : (dump 165 recording).fault ≡ fault 136 TooLarge
+unfolding dump records records_within dump_step opening
+past-the-limit = refl
+
+nothing-at-all : (dump usual_limit []).fault ≡ fault 0 NotDump
+unfolding dump records records_within dump_step opening
+nothing-at-all = refl
+
+opening-alone : dump usual_limit (take 44 recording) ≡ record { items = []; fault = None }
+unfolding dump records records_within dump_step opening
+opening-alone = refl
+
+-- ---- packets that are refused, and their neighbours that are not
+
+abbrev H : List ℕ
+H = hex (codes "0000 00000000 000003E9")
+
+abbrev octets_of : List ℕ → List ℕ → List ℕ
+octets_of front behind = hex front ++ (H ++ hex behind)
+
+abbrev plain : ℕ → List ℕ → Result Packet TextFault
+plain source text = Ok (record { mark = false; seq = 0; stamp = 0; ssrc = 1001; source = source; older = []; primary = text })
+
+one-octet : text_of (hex (codes "80")) None types ≡ Err Short
+unfolding text_of text_of_short rtp rtp_of_header red headers_at texts_at is_utf8 chars encode
+one-octet = refl
+
+version-one : text_of (hex (codes "40E4") ++ H) None types ≡ Err Version
+unfolding text_of text_of_short rtp rtp_of_header red headers_at texts_at is_utf8 chars encode
+version-one = refl
+
+source-cut : text_of (hex (codes "81E4") ++ H) None types ≡ Err Short
+unfolding text_of text_of_short rtp rtp_of_header red headers_at texts_at is_utf8 chars encode
+source-cut = refl
+
+padding-of-none : text_of (octets_of (codes "A0E4") (codes "00")) None types ≡ Err Padding
+unfolding text_of text_of_short rtp rtp_of_header red headers_at texts_at is_utf8 chars encode
+padding-of-none = refl
+
+padding-without-octets : text_of (hex (codes "A0E4") ++ H) None types ≡ Err Padding
+unfolding text_of text_of_short rtp rtp_of_header red headers_at texts_at is_utf8 chars encode
+padding-without-octets = refl
+
+padding-of-one : text_of (octets_of (codes "A062") (codes "41 01")) None types ≡ plain 1001 A
+unfolding text_of text_of_short rtp rtp_of_header red headers_at texts_at is_utf8 chars encode
+padding-of-one = refl
+
+extension : text_of (octets_of (codes "9062") (codes "BEDE0001 00000000 41")) None types ≡ plain 1001 A
+unfolding text_of text_of_short rtp rtp_of_header red headers_at texts_at is_utf8 chars encode
+extension = refl
+
+extension-cut : text_of (octets_of (codes "9062") (codes "BEDE0002 00000000")) None types ≡ Err Short
+unfolding text_of text_of_short rtp rtp_of_header red headers_at texts_at is_utf8 chars encode
+extension-cut = refl
+
+two-sources : text_of (octets_of (codes "8262") (codes "00000001 00000002 41")) None types ≡ Err Sources
+unfolding text_of text_of_short rtp rtp_of_header red headers_at texts_at is_utf8 chars encode
+two-sources = refl
+
+one-source : text_of (octets_of (codes "8162") (codes "00000007 41")) None types ≡ plain 7 A
+unfolding text_of text_of_short rtp rtp_of_header red headers_at texts_at is_utf8 chars encode
+one-source = refl
+
+other-type : text_of (octets_of (codes "8000") (codes "41")) None types ≡ Err WrongType
+unfolding text_of text_of_short rtp rtp_of_header red headers_at texts_at is_utf8 chars encode
+other-type = refl
+
+no-text : text_of (hex (codes "8062") ++ H) None types ≡ plain 1001 []
+unfolding text_of text_of_short rtp rtp_of_header red headers_at texts_at is_utf8 chars encode
+no-text = refl
+
+no-header : text_of (hex (codes "8064") ++ H) None types ≡ Err Cut
+unfolding text_of text_of_short rtp rtp_of_header red headers_at texts_at is_utf8 chars encode
+no-header = refl
+
+header-cut : text_of (octets_of (codes "8064") (codes "E2FFFC")) None types ≡ Err Cut
+unfolding text_of text_of_short rtp rtp_of_header red headers_at texts_at is_utf8 chars encode
+header-cut = refl
+
+text-cut : text_of (octets_of (codes "8064") (codes "E2FFFC01 62")) None types ≡ Err Cut
+unfolding text_of text_of_short rtp rtp_of_header red headers_at texts_at is_utf8 chars encode
+text-cut = refl
+
+block-of-other-type : text_of (octets_of (codes "8064") (codes "E1FFFC00 62")) None types ≡ Err WrongType
+unfolding text_of text_of_short rtp rtp_of_header red headers_at texts_at is_utf8 chars encode
+block-of-other-type = refl
+
+abbrev empty : TextBlock
+empty = block 16383 []
+
+eight-redundant : text_of (octets_of (codes "8064") (codes "E2FFFC00 E2FFFC00 E2FFFC00 E2FFFC00 E2FFFC00 E2FFFC00 E2FFFC00 E2FFFC00 62 41")) None types ≡ Ok (packet false 0 0 (replicate 8 empty) A)
+unfolding text_of text_of_short rtp rtp_of_header red headers_at texts_at is_utf8 chars encode
+eight-redundant = refl
+
+nine-redundant : text_of (octets_of (codes "8064") (codes "E2FFFC00 E2FFFC00 E2FFFC00 E2FFFC00 E2FFFC00 E2FFFC00 E2FFFC00 E2FFFC00 E2FFFC00 62 41")) None types ≡ Err Many
+unfolding text_of text_of_short rtp rtp_of_header red headers_at texts_at is_utf8 chars encode
+nine-redundant = refl
+
+no-utf8 : text_of (octets_of (codes "8064") (codes "62 C3")) None types ≡ Err NotText
+unfolding text_of text_of_short rtp rtp_of_header red headers_at texts_at is_utf8 chars encode
+no-utf8 = refl
+
+foreign : text_of first (Some 7) types ≡ Err Foreign
+unfolding text_of text_of_short rtp rtp_of_header red headers_at texts_at is_utf8 chars encode
+foreign = refl

@@ -1,0 +1,57 @@
+-- The packet of text that octets are, or why they are none (RFC 4103, section 4; RFC 9071: one source per packet).
+use Rattle.std.specs.Prelude.{ℕ, ◌==◌, Bool, true, Option, None, Some, unwrap_or, List, length, Result, Ok, Err, nat_lt, if◌then◌else◌}
+use Rattle.rtt_base.specs.declared.blocks.TextBlock.{TextBlock}
+use Rattle.rtt_base.specs.declared.text_packets.Pts.{Pts}
+use Rattle.wire_spec.specs.declared.faults.RtpFault.{RtpFault}
+use Rattle.wire_spec.specs.declared.faults.RtpFault.TheVariants as rtp_faults
+use Rattle.wire_spec.specs.declared.faults.RedFault.{RedFault}
+use Rattle.wire_spec.specs.declared.faults.RedFault.TheVariants as red_faults
+use Rattle.wire_spec.specs.declared.faults.TextFault.{TextFault}
+use Rattle.wire_spec.specs.declared.faults.TextFault.TheVariants.{Short, Version, Padding, Sources, WrongType, Cut, Many, Long, NotText, Foreign}
+use Rattle.wire_spec.specs.Steps.{◌>>=◌}
+use Rattle.wire_spec.specs.Packets.{Packet, redundant, primary_text}
+use Rattle.wire_spec.specs.Rtp.{Reading, rtp}
+use Rattle.wire_spec.specs.Red.{red}
+
+-- a refusal of the header, of a packet
+abbrev pub header_fault : RtpFault → TextFault
+header_fault rtp_faults.Short = Short
+header_fault rtp_faults.Version = Version
+header_fault rtp_faults.Padding = Padding
+
+-- a refusal of the blocks, of a packet
+abbrev pub blocks_fault : RedFault → TextFault
+blocks_fault red_faults.WrongType = WrongType
+blocks_fault red_faults.Cut = Cut
+blocks_fault red_faults.Many = Many
+blocks_fault red_faults.Long = Long
+blocks_fault red_faults.NotText = NotText
+
+abbrev pub refused_as : {A E : Type 0} → (E → TextFault) → Result A E → Result A TextFault
+refused_as fault (Ok x) = Ok x
+refused_as fault (Err e) = Err (fault e)
+
+-- whether this SSRC is asked for: any is, where none is named
+abbrev pub is_asked : Option ℕ → ℕ → Bool
+is_asked None ssrc = true
+is_asked (Some asked) ssrc = ssrc == asked
+
+-- of its stream, and with at most one CSRC
+abbrev pub accepted : Option ℕ → Reading → Result Reading TextFault
+accepted asked r = if is_asked asked r.ssrc then (if nat_lt 1 r.cc then Err Sources else Ok r) else Err Foreign
+
+-- the packet of these blocks: its source is the only CSRC, or the SSRC
+abbrev pub text_packet : Reading → List TextBlock → Packet
+text_packet r blocks =
+    record { mark = r.mark; seq = r.seq; stamp = r.stamp; ssrc = r.ssrc; source = unwrap_or r.csrc r.ssrc; older = redundant blocks; primary = primary_text blocks }
+
+-- a packet of at most 4224 octets
+unfoldable pub text_of_short : List ℕ → Option ℕ → Pts → Result Packet TextFault
+text_of_short octets asked pts = do
+  reading ← refused_as header_fault (rtp octets)
+  r ← accepted asked reading
+  blocks ← refused_as blocks_fault (red r.payload r.pt pts)
+  Ok (text_packet r blocks)
+
+unfoldable pub text_of : List ℕ → Option ℕ → Pts → Result Packet TextFault
+text_of octets asked pts = if nat_lt 4224 (length octets) then Err Long else text_of_short octets asked pts
