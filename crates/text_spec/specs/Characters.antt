@@ -1,0 +1,34 @@
+-- The classes of characters (T.140, section 8; the silent characters are this profile's choice).
+-- A character is its code. The characters of a text in UTF-8 are std's `chars`.
+use Rattle.std.specs.Prelude.{ℕ, Bool, true, false, ◌||◌, ◌&&◌, nat_lt, nat_le, ◌==◌, if◌then◌else◌}
+use Rattle.text_spec.specs.declared.classes.CharClass.{CharClass}
+use Rattle.text_spec.specs.declared.classes.CharClass.TheVariants.{Erase, Bell, NewLine, Silent, Print}
+
+-- LF, CR and U+2028
+abbrev pub is_new_line : ℕ → Bool
+is_new_line c = c == 0x0A || c == 0x0D || c == 0x2028
+
+-- the control characters of both sets, DEL, and the byte order mark
+abbrev pub is_silent : ℕ → Bool
+is_silent c = nat_lt c 0x20 || (nat_le 0x7F c && nat_le c 0x9F) || c == 0xFEFF
+
+unfoldable pub class_of : ℕ → CharClass
+class_of c =
+    if c == 0x08 then Erase else (
+    if c == 0x07 then Bell else (
+    if is_new_line c then NewLine else (
+    if is_silent c then Silent else Print)))
+
+abbrev pub is_erasure : CharClass → Bool
+is_erasure Erase = true
+is_erasure _ = false
+
+abbrev pub is_bell : CharClass → Bool
+is_bell Bell = true
+is_bell _ = false
+
+-- what an erasure can take back
+abbrev pub is_erasable : CharClass → Bool
+is_erasable NewLine = true
+is_erasable Print = true
+is_erasable _ = false

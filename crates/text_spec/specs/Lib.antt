@@ -1,0 +1,5 @@
+pub mod Characters
+pub mod Shown
+pub mod Ends
+pub mod Views
+pub mod Examples

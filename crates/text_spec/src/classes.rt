@@ -1,0 +1,16 @@
+//! The classes of characters.
+
+/// What a character does on a display (T.140).
+#[derive(Clone, Copy, Debug, PartialEq, Eq)]
+pub enum CharClass {
+    /// U+0008 takes back the last character or new line that still stands.
+    Erase,
+    /// U+0007 rings and shows nothing.
+    Bell,
+    /// U+2028, CR or LF begins a new line.
+    NewLine,
+    /// The other control characters and U+FEFF show nothing.
+    Silent,
+    /// Every other character is shown as it is.
+    Print,
+}

@@ -1,0 +1,8 @@
+//! What characters mean and how text is shown: definitions, their laws, and hardly any code.
+#![tactic(auto)]
+
+mod classes;
+mod counts;
+
+pub use classes::CharClass;
+pub use counts::Counts;
