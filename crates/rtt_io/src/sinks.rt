@@ -1,0 +1,29 @@
+//! What is written to.
+ghost use Rattle.std.specs.Prelude.{◌≡◌, ℕ, ◌≤◌, List, ◌++◌, length, take, OnOk, OnErr};
+ghost use Rattle.rtt_io.specs.Counts.{Rose};
+
+use rtt_base::Failed;
+
+/// Something that octets are written to, in order.
+pub trait Sink {
+    /// Whether sinks of this type tell what they took. Those over real files and terminals don't.
+    ghost tells: { Type 0 };
+
+    /// The octets that it took so far.
+    ghost took: { Self → List ℕ };
+
+    /// How often it failed.
+    ghost faults: { Self → ℕ };
+
+    /// The name that it was created under.
+    ghost name: { Self → List ℕ };
+
+    /// Writes all octets. After `Failed` it took some of them from the front, or none.
+    fn write_all(&mut self, bytes: &[u8]) -> Result<(), Failed>
+        ensures never_falls { faults self.old ≤ faults self.new }
+        ensures failed { OnErr result (Rose (faults self.old) (faults self.new)) }
+        ensures same_name { name self.new ≡ name self.old }
+
+        ensures appended { tells → OnOk result (took self.new ≡ took self.old ++ bytes.now) }
+        ensures prefix { tells → OnErr result ((n : ℕ) × (took self.new ≡ took self.old ++ take n bytes.now)) };
+}
