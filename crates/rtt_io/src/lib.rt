@@ -2,11 +2,16 @@
 #![tactic(auto)]
 
 mod gates;
+mod mem_sinks;
+mod mem_sources;
+mod reads;
 mod sinks;
 mod sources;
 mod worlds;
 
 pub use gates::{Gate, StillGate};
+pub use mem_sinks::{FailingWrite, MemSink};
+pub use mem_sources::{MemSource, SteadySource};
 pub use sinks::Sink;
 pub use sources::Source;
 pub use worlds::World;

@@ -1,0 +1,137 @@
+//! Sources in memory.
+ghost use Rattle.std.specs.Prelude.{◌≡◌, ◌≤◌, ◌<◌, [], length};
+
+use crate::Source;
+use crate::reads::hand_out;
+use rtt_base::{Bytes, Failed, NoMemory, Path};
+use std::alloc::Global;
+
+/// A source in memory, of whose reads some are to fail.
+#[derive(Debug, Drop)]
+pub struct MemSource {
+    name: Path,
+    octets: Bytes,
+    // how many of them were read
+    position: usize,
+    // the most that one read answers
+    step: usize,
+    // how many reads were made
+    reads: u64,
+    failing: Vec<u64>,
+    faults: u64,
+    ghost within: { position ≤ length octets },
+    ghost moves: { 0 < step },
+}
+
+impl Source for MemSource {
+    ghost use Rattle.std.specs.Prelude.{drop};
+
+    ghost tells = { Unit {0} };
+
+    ghost left = { λ source. drop source.position source.octets };
+
+    ghost faults = { λ source. source.faults };
+
+    ghost name = { λ source. source.name };
+
+    fn read(&mut self, buf: &mut [u8]) -> Result<usize, Failed> {
+        self.reads = self.reads.saturating_add(1);
+        if self.failing.as_slice().contains(&self.reads) {
+            self.faults = self.faults.saturating_add(1);
+            return Err(Failed);
+        }
+        let number = hand_out(&self.octets.as_slice()[self.position..], buf, self.step);
+        self.position += number;
+        Ok(number)
+    }
+}
+
+impl MemSource {
+    /// A source of these octets, none of whose reads is to fail. It takes no memory.
+    pub fn new(alloc: Global, name: Path, octets: Bytes) -> MemSource
+        ensures holds { ⟦<MemSource as Source>⟧.left result ≡ octets }
+        ensures named { ⟦<MemSource as Source>⟧.name result ≡ name }
+        ensures fresh { ⟦<MemSource as Source>⟧.faults result ≡ 0 }
+    {
+        MemSource {
+            name,
+            octets,
+            position: 0,
+            step: usize::MAX,
+            reads: 0,
+            failing: Vec::new(alloc),
+            faults: 0,
+        }
+    }
+
+    /// From now on one read answers at most `step` octets.
+    pub fn set_step(&mut self, step: usize)
+        requires { 0 < step }
+        ensures same_left { ⟦<MemSource as Source>⟧.left self.new ≡ ⟦<MemSource as Source>⟧.left self.old }
+        ensures same_name { ⟦<MemSource as Source>⟧.name self.new ≡ ⟦<MemSource as Source>⟧.name self.old }
+        ensures same_faults { ⟦<MemSource as Source>⟧.faults self.new ≡ ⟦<MemSource as Source>⟧.faults self.old }
+    {
+        self.step = step;
+    }
+
+    /// The read of this number is to fail. The first one has number 1.
+    pub fn fail_at(&mut self, read: u64) -> Result<(), NoMemory>
+        ensures same_left { ⟦<MemSource as Source>⟧.left self.new ≡ ⟦<MemSource as Source>⟧.left self.old }
+        ensures same_name { ⟦<MemSource as Source>⟧.name self.new ≡ ⟦<MemSource as Source>⟧.name self.old }
+        ensures same_faults { ⟦<MemSource as Source>⟧.faults self.new ≡ ⟦<MemSource as Source>⟧.faults self.old }
+    {
+        match self.failing.push(read) {
+            Ok(()) => Ok(()),
+            Err(_) => Err(NoMemory),
+        }
+    }
+}
+
+/// A source in memory that never fails. It has the empty name.
+#[derive(Debug, Drop)]
+pub struct SteadySource {
+    octets: Bytes,
+    position: usize,
+    step: usize,
+    ghost within: { position ≤ length octets },
+    ghost moves: { 0 < step },
+}
+
+impl Source for SteadySource {
+    ghost use Rattle.std.specs.Prelude.{drop};
+
+    ghost tells = { Unit {0} };
+
+    ghost left = { λ source. drop source.position source.octets };
+
+    ghost faults = { λ _. 0 };
+
+    ghost name = { λ _. [] };
+
+    fn read(&mut self, buf: &mut [u8]) -> Result<usize, Failed> {
+        let number = hand_out(&self.octets.as_slice()[self.position..], buf, self.step);
+        self.position += number;
+        Ok(number)
+    }
+}
+
+impl SteadySource {
+    /// A source of these octets. It takes no memory.
+    pub fn new(octets: Bytes) -> SteadySource
+        ensures { ⟦<SteadySource as Source>⟧.left result ≡ octets }
+    {
+        SteadySource {
+            octets,
+            position: 0,
+            step: usize::MAX,
+        }
+    }
+
+    /// From now on one read answers at most `step` octets.
+    pub fn set_step(&mut self, step: usize)
+        requires { 0 < step }
+        ensures { ⟦<SteadySource as Source>⟧.left self.new ≡ ⟦<SteadySource as Source>⟧.left self.old }
+    {
+        self.step = step;
+    }
+}
