@@ -1,4 +1,5 @@
 //! One command of the program: words in, a status out.
 #![tactic(auto)]
 
+mod faults;
 mod words;
