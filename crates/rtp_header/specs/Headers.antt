@@ -7,5 +7,5 @@ abbrev pub reading : RtpView → Reading
 reading v =
     record { mark = v.mark; pt = v.pt; seq = v.seq; stamp = v.stamp; ssrc = v.ssrc; cc = v.cc; csrc = v.csrc; payload = v.payload.now }
 
-abbrev pub head : RtpHead → Head
-head h = record { mark = h.mark; pt = h.pt; seq = h.seq; stamp = h.stamp; ssrc = h.ssrc; csrc = h.csrc }
+abbrev pub spelled : RtpHead → Head
+spelled h = record { mark = h.mark; pt = h.pt; seq = h.seq; stamp = h.stamp; ssrc = h.ssrc; csrc = h.csrc }

@@ -3,8 +3,8 @@
 
 mod headers;
 mod reading;
-//mod writing;
+mod writing;
 
 pub use headers::{RtpHead, RtpView};
 pub use reading::read_rtp;
-//pub use writing::write_rtp;
+pub use writing::write_rtp;

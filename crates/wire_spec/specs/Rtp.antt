@@ -142,6 +142,10 @@ abbrev pub rtp_written : Head → List ℕ → List ℕ
 rtp_written h payload =
     fixed_header false false (length (option_to_list h.csrc)) (reading_of h payload) ++ (flat_map (to_be_bytes w32) (option_to_list h.csrc) ++ payload)
 
+-- how many octets stand before the payload: twelve, or sixteen with a CSRC
+abbrev pub header_size : Head → ℕ
+header_size h = 12 + 4 * length (option_to_list h.csrc)
+
 -- what has a spelling
 pub record FitsHeader (h : Head) : Type 0 where
   pub pt : h.pt < 2 ^ 7
