@@ -1,0 +1,220 @@
+-- A history that grows by one entry at its end.
+use Rattle.std.proofs.Common.{◌^◌, ◌⊎◌, ◌≤◌, ◌≡◌, ℕ, zero, suc, ◌+◌, ◌-◌, ◌<◌, Bool, true, false, cond, inl, inr, List, [], ◌∷◌, ◌++◌, length, drop, refl, ap, subst, sym, ◌∙◌, arith}
+use Rattle.std.specs.Prelude.{filter, ◌*◌, ◌&&◌, ◌==◌, nat_lt, nat_le, IsUtf8, if◌then◌else◌}
+use Rattle.std.specs.List.{concat}
+use Rattle.std.proofs.lemmas.Bool.{cases_Bool, cases_lt, eqb-true, le-ltb, lt-ltb, le-leb, lt-leb, and_left, and_right}
+use Rattle.wire_spec.specs.Packets.{Packet, has_text}
+use Rattle.stream_spec.specs.Lists.{In}
+use Rattle.stream_spec.specs.History.{Lawful, ReachFits, octets, texts_of, History, Entry, Placed, sent_by, placed_at, placed_after, placed, low, window, IsPacket}
+use Rattle.stream_spec.specs.Kept.{is_entry_of}
+use Rattle.stream_spec.proofs.Lists.{in_append}
+use Rattle.stream_spec.proofs.Places.{one_more_own}
+
+abbrev pub grown : History → Entry → History
+grown h e = record h { entries = h.entries ++ e ∷ [] }
+
+abbrev pub last : History → Entry → Placed
+last h e = record { place = length h.entries; index = sent_by e.source h.entries; source = e.source; media = e.media; text = e.text; gens = e.gens; reach = e.reach }
+
+abbrev pub onto : List Entry → List Entry → List Entry
+onto before [] = before
+onto before (e ∷ es) = onto (e ∷ before) es
+
+length_onto : (before es : List Entry) → length (onto before es) ≡ length before + length es
+length_onto before [] = omega arith
+length_onto before (e ∷ es) = let r = length_onto (e ∷ before) es in omega arith
+
+sent_onto : (s : ℕ) (before es : List Entry) → sent_by s (onto before es) ≡ sent_by s before + sent_by s es
+sent_onto s before [] = omega arith
+sent_onto s before (e ∷ es) = let r = sent_onto s (e ∷ before) es in omega arith
+
+snoc_after : (before es : List Entry) (e : Entry) → placed_after before (es ++ e ∷ []) ≡ placed_after before es ++ placed_at (onto before es) e ∷ []
+snoc_after before [] e = refl
+snoc_after before (f ∷ es) e = ap (λ xs. placed_at before f ∷ xs) (snoc_after (f ∷ before) es e)
+
+pub placed_grown : (h : History) (e : Entry) → placed (grown h e) ≡ placed h ++ last h e ∷ []
+placed_grown h e =
+    let l : length (onto [] h.entries) ≡ length h.entries = (let r = length_onto [] h.entries in omega arith) in
+    let n : sent_by e.source (onto [] h.entries) ≡ sent_by e.source h.entries = (let r = sent_onto e.source [] h.entries in omega arith) in
+    snoc_after [] h.entries e ∙ rw (l, n) refl
+
+index_under : (before es : List Entry) (x : Placed) → In x (placed_after before es) → x.index < sent_by x.source before + sent_by x.source es
+index_under before [] x i = absurd i
+index_under before (e ∷ es) x (inl p) =
+    let s = ap (λ (z : Placed). z.source) p in
+    let n = ap (λ (z : Placed). z.index) p in
+    let same : sent_by e.source before ≡ sent_by x.source before = ap (λ k. sent_by k before) (sym s) in
+    let own = one_more_own x.source e es (sym s) in omega arith
+index_under before (e ∷ es) x (inr i) = let r = index_under (e ∷ before) es x i in omega arith
+
+filter_snoc : {X : Type 0} (p : X → Bool) (xs : List X) (x : X) → p x ≡ false → filter p (xs ++ x ∷ []) ≡ filter p xs
+filter_snoc p [] x h = rw h
+filter_snoc p (y ∷ xs) x h = ap (λ ys. cond (p y) (y ∷ ys) ys) (filter_snoc p xs x h)
+
+pub window_grown : (h : History) (e : Entry) (x : Placed) → In x (placed h) → window (grown h e) x ≡ window h x
+window_grown h e x i = rw (placed_grown h e) (filter_snoc (λ (y : Placed). (y.source == x.source) && (nat_le (low x) y.index && nat_lt y.index x.index)) (placed h) (last h e) outside)
+  where
+    outside : ((e.source == x.source) && (nat_le (low x) (last h e).index && nat_lt (last h e).index x.index)) ≡ false
+    outside = elim (cases_Bool (e.source == x.source)) [
+      | inl t ↦
+          let u = index_under [] h.entries x i in
+          let same : sent_by e.source h.entries ≡ sent_by x.source h.entries = ap (λ n. sent_by n h.entries) (eqb-true e.source x.source t) in
+          and_right (e.source == x.source) (nat_le (low x) (last h e).index && nat_lt (last h e).index x.index) (and_right (nat_le (low x) (last h e).index) (nat_lt (last h e).index x.index) (le-ltb (sent_by e.source h.entries) x.index (omega arith)))
+      | inr f ↦ and_left (e.source == x.source) (nat_le (low x) (last h e).index && nat_lt (last h e).index x.index) f
+    ]
+
+-- a packet of an entry stays one
+pub packet_grown : (h : History) (e : Entry) (x : Placed) (p : Packet) → In x (placed h) → IsPacket h x p → IsPacket (grown h e) x p
+packet_grown h e x p i is = record {
+  seq = is.seq;
+  stamp = is.stamp;
+  ssrc = is.ssrc;
+  source = is.source;
+  primary = is.primary;
+  count = is.count;
+  older = rw (window_grown h e x i) is.older;
+  oldest = is.oldest;
+}
+
+-- ---- the window of the last entry: the last `gens` entries of its source
+abbrev pub own : History → ℕ → List Placed
+own h s = filter (is_entry_of s) (placed h)
+
+abbrev pub Consecutive : ℕ → List Placed → Type 0
+Consecutive k [] = Unit {0}
+Consecutive k (x ∷ xs) = (x.index ≡ k) × Consecutive (suc k) xs
+
+own_consecutive : (s : ℕ) (before es : List Entry) → Consecutive (sent_by s before) (filter (is_entry_of s) (placed_after before es))
+own_consecutive s before [] = tt
+own_consecutive s before (e ∷ es) = go (e.source == s) refl (own_consecutive s (e ∷ before) es)
+  where
+    go : (b : Bool) → (e.source == s) ≡ b → Consecutive (sent_by s (e ∷ before)) (filter (is_entry_of s) (placed_after (e ∷ before) es))
+        → Consecutive (sent_by s before) (cond b (placed_at before e ∷ filter (is_entry_of s) (placed_after (e ∷ before) es)) (filter (is_entry_of s) (placed_after (e ∷ before) es)))
+    go true t c = (ap (λ n. sent_by n before) (eqb-true e.source s t), let k : sent_by s (e ∷ before) ≡ suc (sent_by s before) = rw t (omega arith) in subst (λ (n : ℕ). Consecutive n (filter (is_entry_of s) (placed_after (e ∷ before) es))) k c)
+    go false f c = let k : sent_by s (e ∷ before) ≡ sent_by s before = rw f (omega arith) in subst (λ (n : ℕ). Consecutive n (filter (is_entry_of s) (placed_after (e ∷ before) es))) k c
+
+from_index : (k lo : ℕ) (xs : List Placed) → Consecutive k xs → filter (λ (y : Placed). nat_le lo y.index) xs ≡ drop (lo - k) xs
+from_index k lo [] c = empty (lo - k)
+  where
+    empty : (n : ℕ) → let none : List Placed = [] in none ≡ drop n none
+    empty zero = refl
+    empty (suc n) = refl
+from_index k lo (x ∷ xs) c = elim (cases_lt k lo) [
+  | inl lt ↦
+      let d : lo - k ≡ suc (lo - suc k) = omega arith in
+      rw (lt-leb lo x.index (omega (arith, c.0)), d) (from_index (suc k) lo xs c.1)
+  | inr ge ↦
+      let d : lo - k ≡ 0 = omega arith in
+      let d' : lo - suc k ≡ 0 = omega arith in
+      rw (le-leb lo x.index (omega (arith, c.0)), d) (ap (λ ys. x ∷ ys) (from_index (suc k) lo xs c.1 ∙ ap (λ n. drop n xs) d'))
+]
+
+filter_same : {X : Type 0} (p q : X → Bool) (xs : List X) → ((x : X) → In x xs → p x ≡ q x) → filter p xs ≡ filter q xs
+filter_same p q [] f = refl
+filter_same p q (x ∷ xs) f = rw (f x (inl refl), filter_same p q xs (λ y i. f y (inr i))) refl
+
+filter_twice : {X : Type 0} (p q : X → Bool) (xs : List X) → filter q (filter p xs) ≡ filter (λ x. p x && q x) xs
+filter_twice p q [] = refl
+filter_twice p q (x ∷ xs) = go (p x) (q x) (filter_twice p q xs)
+  where
+    go : (a b : Bool) → filter q (filter p xs) ≡ filter (λ x. p x && q x) xs → filter q (cond a (x ∷ filter p xs) (filter p xs)) ≡ cond (a && q x) (x ∷ filter (λ x. p x && q x) xs) (filter (λ x. p x && q x) xs)
+    go true b e = ap (λ ys. cond (q x) (x ∷ ys) ys) e
+    go false b e = e
+
+pub window_last : (h : History) (e : Entry) → window (grown h e) (last h e) ≡ drop (sent_by e.source h.entries - e.gens) (own h e.source)
+window_last h e =
+    let s = e.source in
+    let n = sent_by s h.entries in
+    let lo = n - e.gens in
+    let zero_off : lo - 0 ≡ lo = omega arith in
+    rw (placed_grown h e)
+    (filter_snoc (λ (y : Placed). (y.source == s) && (nat_le lo y.index && nat_lt y.index n)) (placed h) (last h e)
+    (and_right (s == s) (nat_le lo n && nat_lt n n) (and_right (nat_le lo n) (nat_lt n n) (le-ltb n n (omega arith))))
+    ∙ (filter_same (λ (y : Placed). (y.source == s) && (nat_le lo y.index && nat_lt y.index n)) (λ (y : Placed). (y.source == s) && nat_le lo y.index) (placed h) within
+    ∙ (sym (filter_twice (is_entry_of s) (λ (y : Placed). nat_le lo y.index) (placed h)) ∙ (from_index 0 lo (own h s) (own_consecutive s [] h.entries) ∙ ap (λ k. drop k (own h s)) zero_off))))
+  where
+    within : (y : Placed) → In y (placed h) → ((y.source == e.source) && (nat_le (sent_by e.source h.entries - e.gens) y.index && nat_lt y.index (sent_by e.source h.entries))) ≡ ((y.source == e.source) && nat_le (sent_by e.source h.entries - e.gens) y.index)
+    within y i = go (y.source == e.source) refl
+      where
+        both : (b : Bool) → (b && true) ≡ b
+        both true = refl
+        both false = refl
+
+        go : (b : Bool) → (y.source == e.source) ≡ b → (b && (nat_le (sent_by e.source h.entries - e.gens) y.index && nat_lt y.index (sent_by e.source h.entries))) ≡ (b && nat_le (sent_by e.source h.entries - e.gens) y.index)
+        go false f = refl
+        go true t =
+            let u = index_under [] h.entries y i in
+            let same : sent_by y.source h.entries ≡ sent_by e.source h.entries = ap (λ n. sent_by n h.entries) (eqb-true y.source e.source t) in
+            rw (lt-ltb y.index (sent_by e.source h.entries) (omega arith)) (both (nat_le (sent_by e.source h.entries - e.gens) y.index))
+
+-- ---- a lawful history stays lawful
+pub octets_grown : (h : History) (e : Entry) (x : Placed) → In x (placed h) → octets (grown h e) x ≡ octets h x
+octets_grown h e x i = ap (λ xs. (if x.source == h.ssrc then 12 else 16) + (4 * x.gens + 1) + length (concat (texts_of xs) ++ x.text)) (window_grown h e x i)
+
+pub reach_grown : (h : History) (e : Entry) (x : Placed) → In x (placed h) → ReachFits h x → ReachFits (grown h e) x
+reach_grown h e x i fits l = elim (fits l) [ inl z ↦ inl z | inr y ↦ inr (y.0, subst (λ (xs : List Placed). In y.0 xs) (sym (window_grown h e x i)) y.1, y.2) ]
+
+-- an entry of the grown history is an old one or the last
+pub split : (h : History) (e : Entry) (x : Placed) → In x (placed (grown h e)) → In x (placed h) ⊎ (x ≡ last h e)
+split h e x i = elim (in_append x (placed h) (last h e ∷ []) (subst (λ (xs : List Placed). In x xs) (placed_grown h e) i)) [ inl j ↦ inl j | inr (inl s) ↦ inr s | inr (inr j) ↦ absurd j ]
+
+-- the entry e may follow h
+pub record Follows (h : History) (e : Entry) : Type 0 where
+  pub later : (x : Placed) → In x (placed h) → (x.media ≤ e.media) × (e.media < x.media + 2 ^ 31)
+  pub own_later : (x : Placed) → In x (placed h) → x.source ≡ e.source → (x.media < e.media) × (low x ≤ low (last h e))
+  pub near : (x : Placed) → In x (placed h) → x.source ≡ e.source → low (last h e) ≤ x.index → has_text x.text ≡ true → e.media ≤ x.media + 16383
+  pub gens : e.gens ≤ 8
+  pub reach : e.reach < 2 ^ 14
+  pub reach_fits : ReachFits (grown h e) (last h e)
+  pub text : (length e.text ≤ 1023) × IsUtf8 e.text
+  pub sized : octets (grown h e) (last h e) ≤ 4224
+
+pub lawful_grown : (h : History) (e : Entry) → Lawful h → Follows h e → Lawful (grown h e)
+lawful_grown h e law f = record {
+  orders = λ x y i j l. orders x y (split h e x i) (split h e y j) l;
+  spans = λ x y i j. spans x y (split h e x i) (split h e y j);
+  rises = λ x y i j s l. (both x y (split h e x i) (split h e y j) s l).0;
+  low_rises = λ x y i j s l. (both x y (split h e x i) (split h e y j) s l).1;
+  near = λ x y i j s l r t. near x y (split h e x i) (split h e y j) s l r t;
+  gens = λ x i. elim (split h e x i) [ inl j ↦ law.gens x j | inr q ↦ subst (λ (z : Placed). z.gens ≤ 8) (sym q) f.gens ];
+  reach = λ x i. elim (split h e x i) [ inl j ↦ law.reach x j | inr q ↦ subst (λ (z : Placed). z.reach < 2 ^ 14) (sym q) f.reach ];
+  reach_fits = λ x i. elim (split h e x i) [ inl j ↦ reach_grown h e x j (law.reach_fits x j) | inr q ↦ subst (ReachFits (grown h e)) (sym q) f.reach_fits ];
+  text = λ x i. elim (split h e x i) [ inl j ↦ law.text x j | inr q ↦ subst (λ (z : Placed). (length z.text ≤ 1023) × IsUtf8 z.text) (sym q) f.text ];
+  sized = λ x i. elim (split h e x i) [ inl j ↦ subst (λ (n : ℕ). n ≤ 4224) (sym (octets_grown h e x j)) (law.sized x j) | inr q ↦ subst (λ (z : Placed). octets (grown h e) z ≤ 4224) (sym q) f.sized ];
+}
+  where
+    below : (es before : List Entry) (x : Placed) → In x (placed_after before es) → x.place < length before + length es
+    below [] before x i = absurd i
+    below (f ∷ es) before x (inl s) = omega (arith, ap (λ (z : Placed). z.place) s)
+    below (f ∷ es) before x (inr j) = let r = below es (f ∷ before) x j in omega arith
+
+    media : (x : Placed) → x ≡ last h e → x.media ≡ e.media
+    media x s = ap (λ (z : Placed). z.media) s
+
+    orders : (x y : Placed) → In x (placed h) ⊎ (x ≡ last h e) → In y (placed h) ⊎ (y ≡ last h e) → x.place ≤ y.place → x.media ≤ y.media
+    orders x y (inl i) (inl j) l = law.orders x y i j l
+    orders x y (inl i) (inr t) l = let n = f.later x i in omega (arith, media y t, n.0)
+    orders x y (inr s) (inl j) l = let b = below h.entries [] y j in absurd (omega (arith, ap (λ (z : Placed). z.place) s))
+    orders x y (inr s) (inr t) l = omega (arith, media x s, media y t)
+
+    spans : (x y : Placed) → In x (placed h) ⊎ (x ≡ last h e) → In y (placed h) ⊎ (y ≡ last h e) → x.media < y.media + 2 ^ 31
+    spans x y (inl i) (inl j) = law.spans x y i j
+    spans x y (inl i) (inr t) = let n = f.later x i in omega (arith, media y t, n.0)
+    spans x y (inr s) (inl j) = let n = f.later y j in omega (arith, media x s, n.1)
+    spans x y (inr s) (inr t) = omega (arith, media x s, media y t)
+
+    both : (x y : Placed) → In x (placed h) ⊎ (x ≡ last h e) → In y (placed h) ⊎ (y ≡ last h e) → x.source ≡ y.source → x.place < y.place → (x.media < y.media) × (low x ≤ low y)
+    both x y (inl i) (inl j) s l = (law.rises x y i j s l, law.low_rises x y i j s l)
+    both x y (inl i) (inr t) s l = let o = f.own_later x i (s ∙ ap (λ (z : Placed). z.source) t) in (omega (arith, media y t, o.0), subst (λ (z : Placed). low x ≤ low z) (sym t) o.1)
+    both x y (inr t) (inl j) s l = let b = below h.entries [] y j in absurd (omega (arith, ap (λ (z : Placed). z.place) t))
+    both x y (inr t) (inr u) s l = absurd (omega (arith, ap (λ (z : Placed). z.place) t, ap (λ (z : Placed). z.place) u))
+
+    near : (x y : Placed) → In x (placed h) ⊎ (x ≡ last h e) → In y (placed h) ⊎ (y ≡ last h e) → x.source ≡ y.source → x.index < y.index → low y ≤ x.index → has_text x.text ≡ true → y.media ≤ x.media + 16383
+    near x y (inl i) (inl j) s l r t = law.near x y i j s l r t
+    near x y (inl i) (inr q) s l r t = omega (arith, media y q, f.near x i (s ∙ ap (λ (z : Placed). z.source) q) (subst (λ (z : Placed). low z ≤ x.index) q r) t)
+    near x y (inr q) (inl j) s l r t =
+        let u = index_under [] h.entries y j in
+        let same : sent_by y.source h.entries ≡ sent_by e.source h.entries = ap (λ n. sent_by n h.entries) (sym s ∙ ap (λ (z : Placed). z.source) q) in
+        let empty : sent_by y.source [] ≡ 0 = refl in
+        absurd (omega (arith, ap (λ (z : Placed). z.index) q))
+    near x y (inr q) (inr w) s l r t = absurd (omega (arith, ap (λ (z : Placed). z.index) q, ap (λ (z : Placed). z.index) w))

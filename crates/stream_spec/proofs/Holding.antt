@@ -1,0 +1,331 @@
+-- Each step of a tracker keeps `Holds`.
+use Rattle.std.proofs.Common.{◌≡◌, ℕ, suc, ◌+◌, ◌<◌, ◌≤◌, Bool, true, false, cond, not, ◌⊎◌, inl, inr, List, [], ◌∷◌, ◌++◌, length, refl, ap, subst, sym, ◌∙◌, arith, append_assoc}
+use Rattle.std.specs.Prelude.{◌&&◌, ◌||◌, ◌==◌, nat_lt, nat_le, if◌then◌else◌}
+use Rattle.std.specs.List.{list_any}
+use Rattle.std.proofs.lemmas.Bool.{cases_lt, true≢false, cases_order, eq-eqb, eqb-true, ne_eqb, leb-true, lt-leb, ltb-true, ltb-false, lt-ltb, le-ltb, le-leb, and_parts, and_from, and_right, or_cases, or_left, or_right, false_from_ne_true, not-true, not_from_true, not_from_false}
+use Rattle.stream_spec.specs.Numbering.{Numbered, first_number, has_number, in_time, by_number, used, distinct_from, is_given_up}
+use Rattle.stream_spec.specs.Lists.{In}
+use Rattle.stream_spec.specs.Holding.{Holds, RisingNumbers}
+use Rattle.stream_spec.proofs.Lists.{in_right, in_append}
+use Rattle.stream_spec.proofs.Matched.{in_by_number, used_in}
+
+-- ---- tests on lists
+pub any_in : {X : Type 0} (p : X → Bool) (xs : List X) → list_any p xs ≡ true → (x : X) × In x xs × (p x ≡ true)
+any_in p [] h = absurd (true≢false (sym h))
+any_in p (y ∷ xs) h = elim (or_cases (p y) (list_any p xs) h) [ inl t ↦ (y, inl refl, t) | inr t ↦ let r = any_in p xs t in (r.0, inr r.1, r.2) ]
+
+pub in_any : {X : Type 0} (p : X → Bool) (xs : List X) (x : X) → In x xs → p x ≡ true → list_any p xs ≡ true
+in_any p [] x i h = absurd i
+in_any p (y ∷ xs) x (inl e) h = or_left (p y) (list_any p xs) (sym (ap p e) ∙ h)
+in_any p (y ∷ xs) x (inr i) h = or_right (p y) (list_any p xs) (in_any p xs x i h)
+
+pub has_in : (n : ℕ) (es : List Numbered) → has_number es n ≡ true → (u : Numbered) × In u es × (u.number ≡ n)
+has_in n es h = let r = any_in (λ (e : Numbered). e.number == n) es h in (r.0, r.1, eqb-true r.0.number n r.2)
+
+pub in_has : (n : ℕ) (es : List Numbered) (u : Numbered) → In u es → u.number ≡ n → has_number es n ≡ true
+in_has n es u i e = in_any (λ (x : Numbered). x.number == n) es u i (eq-eqb u.number n e)
+
+-- ---- counts
+abbrev pub one : Bool → ℕ
+one b = if b then 1 else 0
+
+fresh : (n : ℕ) (e : Numbered) (past : List Numbered) → Bool
+fresh n e past = nat_le n e.number && not (has_number past e.number)
+
+pub distinct_split : (n : ℕ) (past : List Numbered) → distinct_from n past ≡ one (has_number past n) + distinct_from (suc n) past
+distinct_split n [] = refl
+distinct_split n (e ∷ past) = elim (cases_order e.number n) [
+  | inl q ↦ let s : has_number past e.number ≡ has_number past n = ap (has_number past) q in
+      rw (eq-eqb e.number n q, s, le-leb n e.number (omega arith), lt-leb (suc n) e.number (omega arith)) (same (has_number past n) (distinct_split n past))
+  | inr (inl lt) ↦ rw (ne_eqb e.number n (omega arith), lt-leb n e.number (omega arith), lt-leb (suc n) e.number (omega arith)) (omega (arith, distinct_split n past))
+  | inr (inr gt) ↦ rw (ne_eqb e.number n (omega arith), le-leb n e.number (omega arith), le-leb (suc n) e.number (omega arith)) (omega (arith, distinct_split n past))
+]
+  where
+    same : (b : Bool) → distinct_from n past ≡ one b + distinct_from (suc n) past → one (not b) + distinct_from n past ≡ 1 + (0 + distinct_from (suc n) past)
+    same true h = omega arith
+    same false h = omega arith
+
+pub distinct_down : (m n : ℕ) (past : List Numbered) → m ≤ n → distinct_from n past ≤ distinct_from m past
+distinct_down m n [] l = omega arith
+distinct_down m n (e ∷ past) l = go (nat_le m e.number) refl (nat_le n e.number) refl (not (has_number past e.number)) (distinct_down m n past l)
+  where
+    go : (s : Bool) → nat_le m e.number ≡ s → (t : Bool) → nat_le n e.number ≡ t → (b : Bool) → distinct_from n past ≤ distinct_from m past → one (t && b) + distinct_from n past ≤ one (s && b) + distinct_from m past
+    go false p true q b h = let u = leb-true n e.number q in absurd (true≢false (sym (le-leb m e.number (omega arith)) ∙ p))
+    go true p true q b h = omega arith
+    go true p false q b h = omega arith
+    go false p false q b h = omega arith
+
+-- no number from m on below n came
+pub distinct_same : (m n : ℕ) (past : List Numbered) → m ≤ n → ((u : Numbered) → In u past → m ≤ u.number → n ≤ u.number) → distinct_from m past ≡ distinct_from n past
+distinct_same m n [] l f = refl
+distinct_same m n (e ∷ past) l f =
+    let r = distinct_same m n past l (λ u i. f u (inr i)) in
+    elim (cases_lt e.number m) [
+      | inl lt ↦ rw (lt-leb m e.number lt, lt-leb n e.number (omega arith)) (omega (arith, r))
+      | inr ge ↦ let g = f e (inl refl) ge in rw (le-leb m e.number ge, le-leb n e.number g) (omega (arith, r))
+    ]
+
+-- ---- giving up
+any_weaker : {X : Type 0} (p q : X → Bool) (xs : List X) → ((x : X) → In x xs → p x ≡ true → q x ≡ true) → list_any p xs ≡ true → list_any q xs ≡ true
+any_weaker p q xs f h = let r = any_in p xs h in in_any q xs r.0 r.1 (f r.0 r.1 r.2)
+
+abbrev pub is_cause : ℕ → ℕ → ℕ → Numbered → Bool
+is_cause wait t n x = nat_lt n x.number && nat_le (x.time + wait) t
+
+pub up_weaker : (wait t t' m n : ℕ) (past past' : List Numbered) → ((x : Numbered) → In x past → is_cause wait t n x ≡ true → list_any (is_cause wait t' m) past' ≡ true)
+    → distinct_from (suc n) past ≤ distinct_from (suc m) past' → is_given_up wait past t n ≡ true → is_given_up wait past' t' m ≡ true
+up_weaker wait t t' m n past past' f d h = elim (or_cases (list_any (is_cause wait t n) past) (nat_lt 64 (distinct_from (suc n) past)) h) [
+  | inl a ↦ let r = any_in (is_cause wait t n) past a in or_left (list_any (is_cause wait t' m) past') (nat_lt 64 (distinct_from (suc m) past')) (f r.0 r.1 r.2)
+  | inr b ↦ let u = ltb-true 64 (distinct_from (suc n) past) b in or_right (list_any (is_cause wait t' m) past') (nat_lt 64 (distinct_from (suc m) past')) (lt-ltb 64 (distinct_from (suc m) past') (omega arith))
+]
+
+pub cause_at : (wait t n : ℕ) (x : Numbered) → is_cause wait t n x ≡ true → (n < x.number) × (x.time + wait ≤ t)
+cause_at wait t n x h = let r = and_parts (nat_lt n x.number) (nat_le (x.time + wait) t) h in (ltb-true n x.number r.0, leb-true (x.time + wait) t r.1)
+
+pub cause_from : (wait t n : ℕ) (x : Numbered) → n < x.number → x.time + wait ≤ t → is_cause wait t n x ≡ true
+cause_from wait t n x a b = and_from (nat_lt n x.number) (nat_le (x.time + wait) t) (lt-ltb n x.number a) (le-leb (x.time + wait) t b)
+
+pub up_later : (wait t t' n : ℕ) (past : List Numbered) → t ≤ t' → is_given_up wait past t n ≡ true → is_given_up wait past t' n ≡ true
+up_later wait t t' n past l h = up_weaker wait t t' n n past past (λ x i c. let r = cause_at wait t n x c in in_any (is_cause wait t' n) past x i (cause_from wait t' n x r.0 (omega (arith, r.1)))) (omega arith) h
+
+pub up_below : (wait t m n : ℕ) (past : List Numbered) → m ≤ n → is_given_up wait past t n ≡ true → is_given_up wait past t m ≡ true
+up_below wait t m n past l h = up_weaker wait t t m n past past (λ x i c. let r = cause_at wait t n x c in in_any (is_cause wait t m) past x i (cause_from wait t m x (omega (arith, r.0)) r.1)) (distinct_down (suc m) (suc n) past (omega arith)) h
+
+pub up_more : (wait t n : ℕ) (e : Numbered) (past : List Numbered) → is_given_up wait past t n ≡ true → is_given_up wait (e ∷ past) t n ≡ true
+up_more wait t n e past h = up_weaker wait t t n n past (e ∷ past) (λ x i c. or_right (is_cause wait t n e) (list_any (is_cause wait t n) past) (in_any (is_cause wait t n) past x i c)) (omega arith) h
+
+-- ---- steps
+pub later : (wait : ℕ) (past : List Numbered) (t t' first front : ℕ) (out held : List Numbered) → t ≤ t' → Holds wait past t first front out held → Holds wait past t' first front out held
+later wait past t t' first front out held l h = record {
+  used_is = h.used_is;
+  first_is = h.first_is;
+  begun = h.begun;
+  low = h.low;
+  high = h.high;
+  rising = h.rising;
+  came = λ u i. let c = h.came u i in omega arith;
+  all = h.all;
+  count = h.count;
+  ended = λ n a b. elim (h.ended n a b) [ inl c ↦ inl c | inr g ↦ inr (up_later wait t t' n past l g) ];
+}
+
+pub held_in_past : (wait : ℕ) (past : List Numbered) (t first front : ℕ) (out held : List Numbered) → Holds wait past t first front out held → (u : Numbered) → In u held → In u past
+held_in_past wait past t first front out held h u i = used_in wait past u (subst (λ (us : List Numbered). In u us) (sym h.used_is) (in_right u out held i))
+
+-- the number at the front came
+pub come : (wait : ℕ) (past : List Numbered) (t first : ℕ) (out : List Numbered) (x : Numbered) (held : List Numbered)
+    → Holds wait past t first x.number out (x ∷ held) → Holds wait past t first (suc x.number) (out ++ x ∷ []) held
+come wait past t first out x held h =
+    let here : has_number past x.number ≡ true = in_has x.number past x (held_in_past wait past t first x.number out (x ∷ held) h x (inl refl)) refl in
+    let split = distinct_split x.number past in
+    let count = h.count in
+    record {
+      used_is = h.used_is ∙ sym (append_assoc out (x ∷ []) held);
+      first_is = h.first_is;
+      begun = omega (arith, h.begun);
+      low = λ u i. elim (in_append u out (x ∷ []) i) [ inl j ↦ let r = h.low u j in omega arith | inr (inl e) ↦ omega (arith, ap (λ (z : Numbered). z.number) e) | inr (inr j) ↦ absurd j ];
+      high = λ u i. h.rising.0 u i;
+      rising = h.rising.1;
+      came = h.came;
+      all = λ u i l. let r = h.all u i (omega arith) in (r.0, behind u l r.0 r.2 r.1, r.2, r.3);
+      count = let e : one (has_number past x.number) ≡ 1 = rw here in omega arith;
+      ended = λ n a b. elim (cases_lt n x.number) [ inl l ↦ h.ended n a l | inr g ↦ let e : n ≡ x.number = omega arith in inl (rw e here) ];
+    }
+  where
+    behind : (u : Numbered) → suc x.number ≤ u.number → (v : Numbered) → v.number ≡ u.number → In v (x ∷ held) → In v held
+    behind u l v e (inl s) = absurd (omega (arith, ap (λ (z : Numbered). z.number) s))
+    behind u l v e (inr j) = j
+
+-- the number at the front is given up
+pub jump : (wait : ℕ) (past : List Numbered) (t first front : ℕ) (out : List Numbered) (x : Numbered) (held : List Numbered) → is_given_up wait past t front ≡ true
+    → Holds wait past t first front out (x ∷ held) → Holds wait past t first x.number out (x ∷ held)
+jump wait past t first front out x held g h =
+    let hx = h.high x (inl refl) in
+    record {
+      used_is = h.used_is;
+      first_is = h.first_is;
+      begun = omega (arith, h.begun);
+      low = λ u i. let r = h.low u i in omega arith;
+      high = from_x;
+      rising = h.rising;
+      came = h.came;
+      all = λ u i l. h.all u i (omega arith);
+      count = sym (distinct_same front x.number past hx above) ∙ h.count;
+      ended = λ n a b. elim (cases_lt n front) [
+        | inl l ↦ h.ended n a l
+        | inr ge ↦ inr (up_weaker wait t t n front past past
+            (λ y i c. let r = cause_at wait t front y c in let y_above = above y i (omega (arith, r.0)) in in_any (is_cause wait t n) past y i (cause_from wait t n y (omega arith) r.1))
+            (let s = distinct_same (suc front) (suc n) past (omega arith) (λ u i l. let v = above u i (omega arith) in omega arith) in omega arith) g)
+      ];
+    }
+  where
+    from_x : (u : Numbered) → In u (x ∷ held) → x.number ≤ u.number
+    from_x u (inl e) = omega (arith, ap (λ (z : Numbered). z.number) e)
+    from_x u (inr j) = let r = h.rising.0 u j in omega arith
+
+    above : (u : Numbered) → In u past → front ≤ u.number → x.number ≤ u.number
+    above u i l = let r = h.all u i l in let v = from_x r.0 r.1 in omega (arith, r.2)
+
+-- ---- arrivals
+by_number_behind : (e : Numbered) (out held : List Numbered) → ((u : Numbered) → In u out → u.number ≤ e.number) → by_number e (out ++ held) ≡ out ++ by_number e held
+by_number_behind e [] held f = refl
+by_number_behind e (x ∷ out) held f = let l = f x (inl refl) in rw (le-ltb e.number x.number l) (ap (λ us. x ∷ us) (by_number_behind e out held (λ u i. f u (inr i))))
+
+length_by_number : (e : Numbered) (xs : List Numbered) → length (by_number e xs) ≡ suc (length xs)
+length_by_number e [] = refl
+length_by_number e (x ∷ xs) = go (nat_lt e.number x.number) (length_by_number e xs)
+  where
+    go : (t : Bool) → length (by_number e xs) ≡ suc (length xs) → length (cond t (e ∷ x ∷ xs) (x ∷ by_number e xs)) ≡ suc (suc (length xs))
+    go true h = refl
+    go false h = ap suc h
+
+by_number_in : (e y : Numbered) (xs : List Numbered) → (y ≡ e) ⊎ In y xs → In y (by_number e xs)
+by_number_in e y [] (inl q) = inl q
+by_number_in e y [] (inr i) = absurd i
+by_number_in e y (x ∷ xs) i = go (nat_lt e.number x.number) (by_number_in e y xs) i
+  where
+    go : (t : Bool) → ((y ≡ e) ⊎ In y xs → In y (by_number e xs)) → (y ≡ e) ⊎ In y (x ∷ xs) → In y (cond t (e ∷ x ∷ xs) (x ∷ by_number e xs))
+    go true f (inl q) = inl q
+    go true f (inr j) = inr j
+    go false f (inl q) = inr (f (inl q))
+    go false f (inr (inl q)) = inl q
+    go false f (inr (inr j)) = inr (f (inr j))
+
+rising_by_number : (e : Numbered) (xs : List Numbered) → RisingNumbers xs → has_number xs e.number ≡ false → RisingNumbers (by_number e xs)
+rising_by_number e [] r n = ((λ y i. absurd i), tt)
+rising_by_number e (x ∷ xs) r n = go (nat_lt e.number x.number) refl (rising_by_number e xs r.1 fewer)
+  where
+    fewer : has_number xs e.number ≡ false
+    fewer = false_from_ne_true (has_number xs e.number) (λ t. true≢false (sym (or_right (x.number == e.number) (has_number xs e.number) t) ∙ n))
+
+    ne : x.number ≡ e.number → ⊥
+    ne q = true≢false (sym (or_left (x.number == e.number) (has_number xs e.number) (eq-eqb x.number e.number q)) ∙ n)
+
+    go : (t : Bool) → nat_lt e.number x.number ≡ t → RisingNumbers (by_number e xs) → RisingNumbers (cond t (e ∷ x ∷ xs) (x ∷ by_number e xs))
+    go true q s = let l = ltb-true e.number x.number q in ((λ y i. elim i [ inl w ↦ omega (arith, ap (λ (z : Numbered). z.number) w) | inr j ↦ let u = r.0 y j in omega arith ]), (r.0, r.1))
+    go false q s = let g = ltb-false e.number x.number q in let d = ne in
+        ((λ y i. elim (in_by_number e y xs i) [ inl w ↦ omega (arith, ap (λ (z : Numbered). z.number) w) | inr j ↦ r.0 y j ]), s)
+
+-- a number from the front on that is not held, while the front waits
+pub arrive : (wait : ℕ) (past : List Numbered) (first front : ℕ) (out held : List Numbered) (e : Numbered) → Holds wait past e.time first front out held
+    → is_given_up wait past e.time front ≡ false → front ≤ e.number → has_number held e.number ≡ false
+    → (in_time wait e past ≡ true) × Holds wait (e ∷ past) e.time first front out (by_number e held)
+arrive wait past first front out held e h waits l fresh = (
+  in_time_is,
+  record {
+    used_is = ap (λ t. cond t (by_number e (used wait past)) (used wait past)) in_time_is ∙ (ap (by_number e) h.used_is ∙ by_number_behind e out held (λ u i. let r = h.low u i in omega arith));
+    first_is = λ n. h.first_is e.number;
+    begun = h.begun;
+    low = h.low;
+    high = λ u i. elim (in_by_number e u held i) [ inl q ↦ omega (arith, ap (λ (z : Numbered). z.number) q) | inr j ↦ h.high u j ];
+    rising = rising_by_number e held h.rising fresh;
+    came = λ u i. elim i [ inl q ↦ omega (arith, ap (λ (z : Numbered). z.time) q) | inr j ↦ h.came u j ];
+    all = λ u i m. elim i [
+      | inl q ↦ (u, by_number_in e u held (inl q), refl, omega arith)
+      | inr j ↦ let r = h.all u j m in (r.0, by_number_in e r.0 held (inr r.1), r.2, r.3)
+    ];
+    count = rw (le-leb front e.number l, not_come) (omega (arith, h.count, length_by_number e held));
+    ended = λ n a b. elim (h.ended n a b) [ inl c ↦ inl (or_right (e.number == n) (has_number past n) c) | inr g ↦ inr (up_more wait e.time n e past g) ];
+  },
+)
+  where
+    not_come : has_number past e.number ≡ false
+    not_come = false_from_ne_true (has_number past e.number) (λ t.
+        let r = has_in e.number past t in let s = h.all r.0 r.1 (omega (arith, r.2)) in
+        true≢false (sym (in_has e.number held s.0 s.1 (s.2 ∙ r.2)) ∙ fresh))
+
+    waits_here : is_given_up wait past e.time e.number ≡ false
+    waits_here = false_from_ne_true (is_given_up wait past e.time e.number) (λ t. true≢false (sym (up_below wait e.time front e.number past l t) ∙ waits))
+
+    in_time_is : in_time wait e past ≡ true
+    in_time_is = and_from (nat_le (first_number e.number past) e.number) (not (has_number past e.number) && not (is_given_up wait past e.time e.number))
+        (rw (h.first_is e.number) (let b = h.begun in le-leb first e.number (omega arith)))
+        (and_from (not (has_number past e.number)) (not (is_given_up wait past e.time e.number)) (not_from_false (has_number past e.number) not_come) (not_from_false (is_given_up wait past e.time e.number) waits_here))
+
+-- below the front, or held: it is not in time, and changes nothing
+pub ignore : (wait : ℕ) (past : List Numbered) (first front : ℕ) (out held : List Numbered) (e : Numbered) → Holds wait past e.time first front out held
+    → (e.number < front) ⊎ (has_number held e.number ≡ true)
+    → (in_time wait e past ≡ false) × Holds wait (e ∷ past) e.time first front out held
+ignore wait past first front out held e h why = (
+  late,
+  record {
+    used_is = ap (λ t. cond t (by_number e (used wait past)) (used wait past)) late ∙ h.used_is;
+    first_is = λ n. h.first_is e.number;
+    begun = h.begun;
+    low = h.low;
+    high = h.high;
+    rising = h.rising;
+    came = λ u i. elim i [ inl q ↦ omega (arith, ap (λ (z : Numbered). z.time) q) | inr j ↦ h.came u j ];
+    all = λ u i m. elim i [ inl q ↦ mine why u q m | inr j ↦ h.all u j m ];
+    count = omega (arith, none why, h.count);
+    ended = λ n a b. elim (h.ended n a b) [ inl c ↦ inl (or_right (e.number == n) (has_number past n) c) | inr g ↦ inr (up_more wait e.time n e past g) ];
+  },
+)
+  where
+    came_before : has_number held e.number ≡ true → has_number past e.number ≡ true
+    came_before t = let r = has_in e.number held t in in_has e.number past r.0 (held_in_past wait past e.time first front out held h r.0 r.1) r.2
+
+    mine : (e.number < front) ⊎ (has_number held e.number ≡ true) → (u : Numbered) → u ≡ e → front ≤ u.number → (v : Numbered) × In v held × (v.number ≡ u.number) × (v.time ≤ u.time)
+    mine (inl l) u q m = absurd (omega (arith, ap (λ (z : Numbered). z.number) q))
+    mine (inr t) u q m =
+        let r = has_in e.number held t in
+        let c = h.came r.0 (held_in_past wait past e.time first front out held h r.0 r.1) in
+        (r.0, r.1, r.2 ∙ sym (ap (λ (z : Numbered). z.number) q), omega (arith, c, ap (λ (z : Numbered). z.time) q))
+
+    none : (e.number < front) ⊎ (has_number held e.number ≡ true) → one (nat_le front e.number && not (has_number past e.number)) ≡ 0
+    none (inl l) = rw (lt-leb front e.number l)
+    none (inr t) = ap one (and_right (nat_le front e.number) (not (has_number past e.number)) (not_from_true (has_number past e.number) (came_before t)))
+
+    late : in_time wait e past ≡ false
+    late = false_from_ne_true (in_time wait e past) (λ t.
+        let q = and_parts (nat_le (first_number e.number past) e.number) (not (has_number past e.number) && not (is_given_up wait past e.time e.number)) t in
+        let r = and_parts (not (has_number past e.number)) (not (is_given_up wait past e.time e.number)) q.1 in
+        let f = leb-true (first_number e.number past) e.number q.0 in
+        let no = not-true (has_number past e.number) r.0 in
+        elim why [
+          | inl l ↦ elim (h.ended e.number (omega (arith, f, h.first_is e.number)) l) [
+            | inl c ↦ true≢false (sym c ∙ no)
+            | inr g ↦ true≢false (sym g ∙ not-true (is_given_up wait past e.time e.number) r.1)
+          ]
+          | inr b ↦ true≢false (sym (came_before b) ∙ no)
+        ])
+
+-- the very first
+pub begin : (wait : ℕ) (e : Numbered) → Holds wait (e ∷ []) e.time e.number e.number [] (e ∷ [])
+begin wait e = record {
+  used_is = rw (le-leb e.number e.number (omega arith));
+  first_is = λ n. refl;
+  begun = omega arith;
+  low = λ u i. absurd i;
+  high = λ u i. elim i [ inl q ↦ omega (arith, ap (λ (z : Numbered). z.number) q) | inr j ↦ absurd j ];
+  rising = ((λ y i. absurd i), tt);
+  came = λ u i. elim i [ inl q ↦ omega (arith, ap (λ (z : Numbered). z.time) q) | inr j ↦ absurd j ];
+  all = λ u i l. elim i [ inl q ↦ (u, inl q, refl, omega arith) | inr j ↦ absurd j ];
+  count = rw (le-leb e.number e.number (omega arith));
+  ended = λ n a b. absurd (omega arith);
+}
+
+-- what the code tests: whether the front is given up shows in what is held
+pub held_tells : (wait : ℕ) (past : List Numbered) (t first front : ℕ) (out held : List Numbered) → Holds wait past t first front out held → has_number held front ≡ false
+    → is_given_up wait past t front ≡ (list_any (λ x. nat_le (x.time + wait) t) held || nat_lt 64 (length held))
+held_tells wait past t first front out held h gone =
+    let not_come : has_number past front ≡ false = false_from_ne_true (has_number past front) (λ q.
+    let r = has_in front past q in let s = h.all r.0 r.1 (omega (arith, r.2)) in true≢false (sym (in_has front held s.0 s.1 (s.2 ∙ r.2)) ∙ gone)) in
+    let split = distinct_split front past in
+    let n : distinct_from (suc front) past ≡ length held = (let e : one (has_number past front) ≡ 0 = rw not_come in omega (arith, h.count)) in
+    rw n (ap (λ b. b || nat_lt 64 (length held)) (same (list_any (is_cause wait t front) past) (list_any (λ (x : Numbered). nat_le (x.time + wait) t) held) there back))
+  where
+    same : (a b : Bool) → (a ≡ true → b ≡ true) → (b ≡ true → a ≡ true) → a ≡ b
+    same true b f g = sym (f refl)
+    same false true f g = g refl
+    same false false f g = refl
+
+    there : list_any (is_cause wait t front) past ≡ true → list_any (λ (x : Numbered). nat_le (x.time + wait) t) held ≡ true
+    there q = let r = any_in (is_cause wait t front) past q in let c = cause_at wait t front r.0 r.2 in let s = h.all r.0 r.1 (omega (arith, c.0)) in
+        in_any (λ (x : Numbered). nat_le (x.time + wait) t) held s.0 s.1 (le-leb (s.0.time + wait) t (omega (arith, s.3, c.1)))
+
+    back : list_any (λ (x : Numbered). nat_le (x.time + wait) t) held ≡ true → list_any (is_cause wait t front) past ≡ true
+    back q = let r = any_in (λ (x : Numbered). nat_le (x.time + wait) t) held q in
+        let hi = h.high r.0 r.1 in
+        let ne = (λ (e : r.0.number ≡ front). true≢false (sym (in_has front held r.0 r.1 e) ∙ gone)) in
+        in_any (is_cause wait t front) past r.0 (held_in_past wait past t first front out held h r.0 r.1) (cause_from wait t front r.0 (omega (arith, ne)) (leb-true (r.0.time + wait) t r.2))

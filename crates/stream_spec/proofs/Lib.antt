@@ -1,0 +1,12 @@
+pub mod Stamps
+pub mod Lists
+pub mod Places
+pub mod Blocks
+pub mod Gaps
+pub mod Matched
+pub mod Walks
+pub mod Holding
+pub mod Ready
+pub mod Grows
+pub mod Ends
+pub mod Taking

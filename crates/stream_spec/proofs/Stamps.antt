@@ -1,0 +1,30 @@
+-- Numbers and stamps against places and media times.
+use Rattle.std.proofs.Common.{◌≡◌, ℕ, ◌+◌, ◌%◌, ◌^◌, ◌<◌, ◌≤◌, arith}
+use Rattle.std.specs.Prelude.{nat_lt}
+use Rattle.std.proofs.lemmas.Bool.Decides.{nat_tests}
+use Rattle.wire_spec.specs.Packets.{back}
+use Rattle.rtt_base.specs.Stamps.{is_after}
+use Rattle.stream_spec.specs.Numbering.{nearest}
+
+-- `nearest` is congruent, and near
+pub nearest_mod : (top seq : ℕ) → seq < 65536 → nearest top seq % 65536 ≡ seq
+nearest_mod top seq h = omega arith
+
+pub nearest_low : (top seq : ℕ) → 65536 ≤ top → top ≤ nearest top seq + 32768
+nearest_low top seq h = omega arith
+
+pub nearest_high : (top seq : ℕ) → 65536 ≤ top → nearest top seq ≤ top + 32767
+nearest_high top seq h = omega arith
+
+-- the number of place k, where the greatest so far has place j
+pub nearest_place : (first p d j k top seq : ℕ) → 65536 ≤ top → d % 65536 ≡ (first + p) % 65536 → top + p ≡ j + d
+    → seq ≡ (first + k) % 65536 → k ≤ j + 32767 → j ≤ k + 32767 → nearest top seq + p ≡ k + d
+nearest_place first p d j k top seq big hd ht hs up down = omega arith
+
+pub after_is : (base m n : ℕ) → m < n + 2 ^ 31 → n < m + 2 ^ 31 → is_after ((base + m) % 2 ^ 32) ((base + n) % 2 ^ 32) ≡ nat_lt n m
+after_is base m n a b = grind (arith, nat_tests)
+
+-- a block offset before the stamp of m is after that of n exactly where n and the offset lie below m
+pub after_back : (base m n offset : ℕ) → m < n + 2 ^ 31 → n < m + 2 ^ 31 → offset < 2 ^ 31
+    → n ≤ m → is_after (back ((base + m) % 2 ^ 32) offset) ((base + n) % 2 ^ 32) ≡ nat_lt (n + offset) m
+after_back base m n offset a b o c = grind (arith, nat_tests)

@@ -1,0 +1,9 @@
+pub mod Lists
+pub mod Numbering
+pub mod Hearing
+pub mod Ready
+pub mod Holding
+pub mod History
+pub mod Kept
+pub mod Carries
+pub mod Own

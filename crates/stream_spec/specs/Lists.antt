@@ -1,0 +1,7 @@
+-- A word for lists.
+use Rattle.std.specs.Prelude.{◌≡◌, ◌⊎◌, List, [], ◌∷◌}
+
+-- x is in xs
+abbrev pub In : {X : Type 0} → X → List X → Type 0
+In x [] = ⊥
+In x (y ∷ ys) = (x ≡ y) ⊎ In x ys

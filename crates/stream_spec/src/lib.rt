@@ -1,0 +1,6 @@
+//! What a stream of text packets tells: definitions, and the laws that hold of them. No code stands here.
+#![tactic(auto)]
+
+mod laws;
+
+pub use laws::{carriers_decide, heard_is_kept, mark_stands, no_gap_no_mark};
