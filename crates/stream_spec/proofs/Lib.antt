@@ -10,3 +10,4 @@ pub mod Ready
 pub mod Grows
 pub mod Ends
 pub mod Taking
+pub mod Examples

@@ -1,0 +1,219 @@
+-- The definitions computed on examples: packets as they stand on the wire, what is heard of them, and what the places
+-- that came tell.
+use Rattle.std.proofs.Common.{◌≡◌, ℕ, suc, ◌+◌, Bool, true, false, List, [], ◌∷◌, length, refl}
+use Rattle.std.specs.Prelude.{map, zero, ◌==◌, if◌then◌else◌}
+use Rattle.std.specs.List.{list_any}
+use Rattle.rtt_base.specs.declared.blocks.TextBlock.{TextBlock}
+use Rattle.wire_spec.specs.Packets.{Packet, Arrival}
+use Rattle.stream_spec.specs.Numbering.{Numbered, numbered, in_time, used}
+use Rattle.stream_spec.specs.Hearing.{heard, marker}
+use Rattle.stream_spec.specs.Ready.{chunks, chunk}
+use Rattle.stream_spec.specs.History.{History, Placed, placed, places}
+use Rattle.stream_spec.specs.Kept.{kept, texts}
+use Rattle.stream_spec.specs.Own.{Sent, Stream, own_packet, sent_history, packet_after, history_of}
+
+abbrev block : ℕ → List ℕ → TextBlock
+block o t = record { offset = o; text = t }
+
+abbrev A : List ℕ
+A = 65 ∷ []
+
+abbrev B : List ℕ
+B = 66 ∷ []
+
+abbrev C : List ℕ
+C = 67 ∷ []
+
+abbrev D : List ℕ
+D = 68 ∷ []
+
+abbrev at : ℕ → Packet → Arrival
+at t p = record { time = t; packet = p }
+
+-- a packet of the stream 1001
+abbrev red : Bool → ℕ → ℕ → List TextBlock → List ℕ → Packet
+red mark seq stamp older primary = record { mark = mark; seq = seq; stamp = stamp; ssrc = 1001; source = 1001; older = older; primary = primary }
+
+-- A, B, C, D typed at 0, 300, 600, 900, the first sequence number being n
+abbrev p0 : ℕ → Packet
+p0 n = red true n 0 (block 16383 [] ∷ block 16383 [] ∷ []) A
+
+abbrev p1 : ℕ → Packet
+p1 n = red false n 300 (block 16383 [] ∷ block 300 A ∷ []) B
+
+abbrev p2 : ℕ → Packet
+p2 n = red false n 600 (block 600 A ∷ block 300 B ∷ []) C
+
+abbrev p3 : ℕ → Packet
+p3 n = red false n 900 (block 600 B ∷ block 300 C ∷ []) D
+
+abbrev p4 : ℕ → Packet
+p4 n = red false n 1200 (block 600 C ∷ block 300 D ∷ []) []
+
+abbrev p5 : ℕ → Packet
+p5 n = red false n 1500 (block 600 D ∷ block 300 [] ∷ []) []
+
+two_lost : heard 1000 (at 1500 (p5 5) ∷ at 1200 (p4 4) ∷ at 900 (p3 3) ∷ at 0 (p0 0) ∷ []) 1001 ≡ A ∷ B ∷ C ∷ D ∷ []
+two_lost = refl
+
+three_lost : heard 1000 (at 1500 (p5 5) ∷ at 1200 (p4 4) ∷ at 0 (p0 0) ∷ []) 1001 ≡ A ∷ marker ∷ C ∷ D ∷ []
+three_lost = refl
+
+end_lost : heard 1000 (at 600 (p2 2) ∷ at 300 (p1 1) ∷ at 0 (p0 0) ∷ []) 1001 ≡ A ∷ B ∷ C ∷ []
+end_lost = refl
+
+abbrev whole : List Arrival
+whole = at 1500 (p5 3) ∷ at 1200 (p4 2) ∷ at 900 (p3 1) ∷ at 600 (p2 0) ∷ at 300 (p1 65535) ∷ at 0 (p0 65534) ∷ []
+
+numbers_wrap : heard 1000 whole 1001 ≡ A ∷ B ∷ C ∷ D ∷ []
+numbers_wrap = refl
+
+five_copies : length (used 1000 (numbered (at 0 (p0 0) ∷ at 0 (p0 0) ∷ at 0 (p0 0) ∷ at 0 (p0 0) ∷ at 0 (p0 0) ∷ []))) ≡ 1
+five_copies = refl
+
+-- two come in reversed order, one of them again
+turned : heard 1000 (at 1899 (p1 1) ∷ at 1300 (p1 1) ∷ at 1200 (p2 2) ∷ at 0 (p0 0) ∷ []) 1001 ≡ A ∷ B ∷ C ∷ []
+turned = refl
+
+-- ---- packets without redundant blocks
+abbrev plain : ℕ → ℕ → List ℕ → Packet
+plain seq stamp text = red false seq stamp [] text
+
+-- the number between two that came is given up 1000 after the later one
+abbrev late_by : ℕ → List Arrival
+late_by t = at t (plain 8 300 B) ∷ at 300 (plain 9 600 C) ∷ at 0 (plain 7 0 A) ∷ []
+
+late_by_none : heard 1000 (late_by 1299) 1001 ≡ A ∷ B ∷ C ∷ []
+late_by_none = refl
+
+late_by_one : heard 1000 (late_by 1300) 1001 ≡ A ∷ marker ∷ C ∷ []
+late_by_one = refl
+
+-- the numbers 9, 10, .. behind 7, one each millisecond, newest first
+abbrev later : ℕ → List Arrival
+later zero = at 0 (plain 7 0 A) ∷ []
+later (suc k) = at (suc k) (plain (k + 9) (k + 2) C) ∷ later k
+
+-- 8 after 64 greater numbers, and after 65
+abbrev eight : ℕ → Numbered
+eight t = record { time = t; number = 65544; packet = plain 8 1 B }
+
+sixty_four_greater : in_time 1000 (eight 65) (numbered (later 64)) ≡ true
+sixty_four_greater = refl
+
+sixty_five_greater : in_time 1000 (eight 66) (numbered (later 65)) ≡ false
+sixty_five_greater = refl
+
+number_before_first : heard 1000 (at 10 (plain 40000 10 B) ∷ at 0 (plain 0 0 A) ∷ []) 1001 ≡ A ∷ []
+number_before_first = refl
+
+tie_is_lower : heard 1000 (at 10 (plain 32768 10 B) ∷ at 0 (plain 0 0 A) ∷ []) 1001 ≡ A ∷ []
+tie_is_lower = refl
+
+largest_jump : heard 1000 (at 10 (plain 32767 10 B) ∷ at 0 (plain 0 0 A) ∷ []) 1001 ≡ A ∷ marker ∷ B ∷ []
+largest_jump = refl
+
+-- the records say 5000, 100 and 0
+time_never_falls : heard 1000 (at 5000 (plain 8 300 B) ∷ at 5000 (plain 9 600 C) ∷ at 5000 (plain 7 0 A) ∷ []) 1001 ≡ A ∷ B ∷ C ∷ []
+time_never_falls = refl
+
+-- ---- when a text may be taken
+ready_with_the_gap : chunks 1000 3 (at 900 (p3 3) ∷ at 0 (p0 0) ∷ []) 1001 ≡ chunk 3 0 A ∷ chunk 3 1900 B ∷ chunk 3 1900 C ∷ chunk 3 1900 D ∷ []
+ready_with_the_gap = refl
+
+-- ---- what is sent
+abbrev c : Stream
+c = record { ssrc = 1001; first = 0; base = 0; gens = 2 }
+
+abbrev sent : ℕ → List ℕ → Sent
+sent m t = record { source = 1001; media = m; text = t }
+
+abbrev six : List Sent
+six = sent 1500 [] ∷ sent 1200 [] ∷ sent 900 D ∷ sent 600 C ∷ sent 300 B ∷ sent 0 A ∷ []
+
+own_packets : map (own_packet (sent_history c six)) (placed (sent_history c six)) ≡ p0 0 ∷ p1 1 ∷ p2 2 ∷ p3 3 ∷ p4 4 ∷ p5 5 ∷ []
+own_packets = refl
+
+last_packet : packet_after c (sent 1200 [] ∷ sent 900 D ∷ sent 600 C ∷ sent 300 B ∷ sent 0 A ∷ []) (sent 1500 []) ≡ p5 5
+last_packet = refl
+
+read_back : history_of (p0 0 ∷ p1 1 ∷ p2 2 ∷ p3 3 ∷ p4 4 ∷ p5 5 ∷ []) 0 ≡ sent_history c six
+read_back = refl
+
+kept_three_lost : texts (kept (sent_history c six) (places 1000 (sent_history c six) (at 1500 (p5 5) ∷ at 1200 (p4 4) ∷ at 0 (p0 0) ∷ [])) 1001) ≡ A ∷ marker ∷ C ∷ D ∷ []
+kept_three_lost = refl
+
+-- ---- three sources in turn, each with 1, 2, 3, 4 typed at 0, 300, 600, 900, in 18 packets 100 apart
+abbrev mixer : Stream
+mixer = record { ssrc = 9000; first = 100; base = 5000; gens = 2 }
+
+abbrev by : ℕ → ℕ → List ℕ → Sent
+by s m t = record { source = s; media = m; text = t }
+
+abbrev one : List ℕ
+one = 49 ∷ []
+
+abbrev two : List ℕ
+two = 50 ∷ []
+
+abbrev three : List ℕ
+three = 51 ∷ []
+
+abbrev four : List ℕ
+four = 52 ∷ []
+
+abbrev round : ℕ → List ℕ → List Sent → List Sent
+round m t past = by 1003 (m + 200) t ∷ by 1002 (m + 100) t ∷ by 1001 m t ∷ past
+
+abbrev eighteen : History
+eighteen = sent_history mixer (round 1500 [] (round 1200 [] (round 900 four (round 600 three (round 300 two (round 0 one []))))))
+
+-- the packets come as they were sent, but for those at the lost places; newest first
+abbrev arrive : List ℕ → List Placed → List Arrival → List Arrival
+arrive lost [] past = past
+arrive lost (x ∷ xs) past = arrive lost xs (if list_any (λ k. k == x.place) lost then past else at x.media (own_packet eighteen x) ∷ past)
+
+abbrev without : List ℕ → ℕ → List (List ℕ)
+without lost s = heard 1000 (arrive lost (placed eighteen) []) s
+
+abbrev all_four : List (List ℕ)
+all_four = one ∷ two ∷ three ∷ four ∷ []
+
+round_of_three_a : without (3 ∷ 4 ∷ 5 ∷ []) 1001 ≡ all_four
+round_of_three_a = refl
+
+round_of_three_b : without (3 ∷ 4 ∷ 5 ∷ []) 1002 ≡ all_four
+round_of_three_b = refl
+
+round_of_three_c : without (3 ∷ 4 ∷ 5 ∷ []) 1003 ≡ all_four
+round_of_three_c = refl
+
+-- these marks are needless: no text is missing
+six_lost_a : without (3 ∷ 4 ∷ 5 ∷ 6 ∷ 7 ∷ 8 ∷ []) 1001 ≡ one ∷ marker ∷ two ∷ three ∷ four ∷ []
+six_lost_a = refl
+
+six_lost_b : without (3 ∷ 4 ∷ 5 ∷ 6 ∷ 7 ∷ 8 ∷ []) 1002 ≡ one ∷ marker ∷ two ∷ three ∷ four ∷ []
+six_lost_b = refl
+
+six_lost_c : without (3 ∷ 4 ∷ 5 ∷ 6 ∷ 7 ∷ 8 ∷ []) 1003 ≡ one ∷ marker ∷ two ∷ three ∷ four ∷ []
+six_lost_c = refl
+
+scattered_lost_a : without (1 ∷ 2 ∷ 4 ∷ []) 1001 ≡ all_four
+scattered_lost_a = refl
+
+scattered_lost_b : without (1 ∷ 2 ∷ 4 ∷ []) 1002 ≡ marker ∷ all_four
+scattered_lost_b = refl
+
+scattered_lost_c : without (1 ∷ 2 ∷ 4 ∷ []) 1003 ≡ marker ∷ all_four
+scattered_lost_c = refl
+
+-- ---- all texts of 66 arrivals
+abbrev times : ℕ → List (List ℕ)
+times zero = []
+times (suc k) = C ∷ times k
+
+heard_after_sixty_four : heard 1000 (at 65 (plain 8 1 B) ∷ later 64) 1001 ≡ A ∷ B ∷ times 64
+heard_after_sixty_four = refl
+
+heard_after_sixty_five : heard 1000 (at 66 (plain 8 1 B) ∷ later 65) 1001 ≡ A ∷ marker ∷ times 65
+heard_after_sixty_five = refl
