@@ -32,3 +32,7 @@ abbrev pub is_erasable : CharClass → Bool
 is_erasable NewLine = true
 is_erasable Print = true
 is_erasable _ = false
+
+abbrev pub is_print : CharClass → Bool
+is_print Print = true
+is_print _ = false

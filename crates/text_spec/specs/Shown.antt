@@ -61,3 +61,16 @@ shown text = record {
   lines = map encode_utf8_all (lines_of (survivors (signs (chars text))));
   bells = bells (chars text);
 }
+
+-- Words of the laws on one more character.
+-- all but the last
+abbrev pub without_last : List ℕ → List ℕ
+without_last [] = []
+without_last (c ∷ []) = []
+without_last (c ∷ d ∷ cs) = c ∷ without_last (d ∷ cs)
+
+-- the last one is CR
+abbrev pub ends_with_cr : List ℕ → Bool
+ends_with_cr [] = false
+ends_with_cr (c ∷ []) = c == 0x0D
+ends_with_cr (c ∷ d ∷ cs) = ends_with_cr (d ∷ cs)

@@ -3,6 +3,7 @@
 
 mod classes;
 mod counts;
+pub mod laws;
 
 pub use classes::CharClass;
 pub use counts::Counts;

@@ -1,0 +1,8 @@
+use Rattle.text_spec.proofs.Lines.{shown_some, never_longer}
+use Rattle.text_spec.proofs.laws.lines.Goals as goal
+
+pub returns-clause-some : goal.returns-clause-some
+returns-clause-some c = shown_some
+
+pub returns-clause-short : goal.returns-clause-short
+returns-clause-short c = never_longer

@@ -1,0 +1,11 @@
+use Rattle.text_spec.proofs.Erasing.{erased, appended, passed}
+use Rattle.text_spec.proofs.laws.one_more_sign.Goals as goal
+
+pub returns-clause-erasure : goal.returns-clause-erasure
+returns-clause-erasure c = erased
+
+pub returns-clause-erasable : goal.returns-clause-erasable
+returns-clause-erasable c = appended
+
+pub returns-clause-others : goal.returns-clause-others
+returns-clause-others c = passed

@@ -1,0 +1,47 @@
+//! Laws of the definitions, each the contract of a function that does nothing.
+ghost use Rattle.std.specs.Prelude.{◌≡◌, ℕ, ◌+◌, ◌<◌, ◌≤◌, true, false, ◌&&◌, List, [], ◌∷◌, ◌++◌, length, chars, IsUtf8};
+ghost use Rattle.std.specs.List.{concat, list_all};
+ghost use Rattle.text_spec.specs.declared.classes.CharClass.TheVariants.{Erase};
+ghost use Rattle.text_spec.specs.Characters.{class_of, is_bell, is_erasable, is_erasure, is_print};
+ghost use Rattle.text_spec.specs.Shown.{begins_with_lf, bells, ends_with_cr, shown, signs, survivors, without_last};
+
+/// One more sign at the end of a text: what survives is what a stack holds.
+pub fn one_more_sign()
+    // An erasure takes the last survivor away, if there is one.
+    ensures erasure { (cs : List ℕ) (c : ℕ) → class_of c ≡ Erase
+        → survivors (cs ++ c ∷ []) ≡ without_last (survivors cs) }
+    // A letter or a new line is put behind the survivors.
+    ensures erasable { (cs : List ℕ) (c : ℕ) → is_erasable (class_of c) ≡ true
+        → survivors (cs ++ c ∷ []) ≡ survivors cs ++ c ∷ [] }
+    // Anything else changes nothing.
+    ensures others { (cs : List ℕ) (c : ℕ) → is_erasable (class_of c) ≡ false
+        → is_erasure (class_of c) ≡ false → survivors (cs ++ c ∷ []) ≡ survivors cs }
+{}
+
+/// A text may be read piece by piece, if one remembers whether CR came last.
+pub fn pieces()
+    // The signs of two pieces are those of the one and of the other, unless a CR LF is cut in two.
+    ensures apart { (xs ys : List ℕ) → (ends_with_cr xs && begins_with_lf ys) ≡ false
+        → signs (xs ++ ys) ≡ signs xs ++ signs ys }
+    // An LF that follows a CR is no sign of its own.
+    ensures cr_lf { (xs : List ℕ) → ends_with_cr xs ≡ true → signs (xs ++ 10 ∷ []) ≡ signs xs }
+    ensures bells { (xs ys : List ℕ) → bells (xs ++ ys) ≡ bells xs + bells ys }
+{}
+
+/// A text of printing characters is one line, and that line is the text.
+pub fn plain_text()
+    ensures { (text : List ℕ) → IsUtf8 text
+        → list_all (λ c. is_print (class_of c)) (chars text) ≡ true
+        → shown text ≡ record { lines = text ∷ []; bells = 0 } }
+{}
+
+/// The empty text is one empty line.
+pub fn empty_text()
+    ensures { shown [] ≡ record { lines = [] ∷ []; bells = 0 } }
+{}
+
+/// There is always a line, and all lines together are no longer than the text.
+pub fn lines()
+    ensures some { (text : List ℕ) → 0 < length (shown text).lines }
+    ensures short { (text : List ℕ) → IsUtf8 text → length (concat (shown text).lines) ≤ length text }
+{}
