@@ -12,19 +12,43 @@ pub struct TextBlock {
     pub text: Text,
 }
 
+impl TextBlock {
+    /// Puts this offset and a copy of this text, of at most 1023 octets, in place of what was there.
+    pub fn set(&mut self, offset: u16, text: &[u8])
+        requires { length text.now < 1024 }
+        ensures { self.new ≡ record { offset = offset; text = text.now } }
+    {
+        self.offset = offset;
+        self.text.clear();
+        let _ = self.text.append(text);
+    }
+}
+
 /// The blocks of one packet: at most eight redundant ones, oldest first, and then the primary one, whose offset is 0.
-#[derive(Debug, Default, Drop)]
+#[derive(Debug, Drop)]
 pub struct Blocks {
-    blocks: ArrayVec<TextBlock, 9>,
+    /// The blocks, and behind them those that were cleared and are written over when their place is needed again.
+    places: ArrayVec<TextBlock, 9>,
+    len: usize,
 }
 
 impl Model for Blocks {
-    ghost use Rattle.std.specs.Prelude.{List};
+    ghost use Rattle.std.specs.Prelude.{List, ◌≤◌, length, take};
     ghost use Rattle.rtt_base.specs.declared.blocks.TextBlock.{TextBlock};
 
     ghost Value = { List TextBlock };
 
-    ghost view = { λ b. b.blocks.items };
+    ghost view = { λ b. take b.len b.places.items };
+
+    ghost invariant = { λ b. (b.len ≤ 9) × (b.len ≤ length b.places.items) };
+}
+
+impl Default for Blocks {
+    ghost is_default = { λ b. b ≡ [] };
+
+    fn default() -> Blocks {
+        Blocks::new()
+    }
 }
 
 impl Blocks {
@@ -36,7 +60,8 @@ impl Blocks {
         ensures { result ≡ [] }
     {
         Blocks {
-            blocks: ArrayVec::new(),
+            places: ArrayVec::new(),
+            len: 0,
         }
     }
 
@@ -45,20 +70,20 @@ impl Blocks {
         ensures value { result ≡ length self.now }
         ensures fits { result ≤ 9 }
     {
-        self.blocks.len()
+        self.len
     }
 
     pub fn is_empty(&self) -> bool
         ensures { result ≡ (length self.now == 0) }
     {
-        self.blocks.is_empty()
+        self.len == 0
     }
 
     pub fn as_slice(&self) -> &[TextBlock]
         ensures value { result.now ≡ self.now }
         ensures fits { length result.now ≤ 9 }
     {
-        self.blocks.as_slice()
+        &self.places.as_slice()[..self.len]
     }
 
     /// Appends a block, for which there must be room.
@@ -66,12 +91,30 @@ impl Blocks {
         requires { length self.old < 9 }
         ensures { self.new ≡ self.old ++ block ∷ [] }
     {
-        self.blocks.push(block);
+        if self.len == self.places.len() {
+            self.places.push(block);
+        } else {
+            self.places.as_mut_slice()[self.len] = block;
+        }
+        self.len += 1;
+    }
+
+    /// Appends a block with a copy of this text, for which there must be room.
+    pub fn push_copy(&mut self, offset: u16, text: &[u8])
+        requires room { length self.old < 9 }
+        requires fits { length text.now < 1024 }
+        ensures { self.new ≡ self.old ++ record { offset = offset; text = text.now } ∷ [] }
+    {
+        if self.len == self.places.len() {
+            self.places.push(TextBlock::default());
+        }
+        self.places.as_mut_slice()[self.len].set(offset, text);
+        self.len += 1;
     }
 
     pub fn clear(&mut self)
         ensures { self.new ≡ [] }
     {
-        self.blocks.clear();
+        self.len = 0;
     }
 }
