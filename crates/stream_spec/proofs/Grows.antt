@@ -5,7 +5,7 @@ use Rattle.std.specs.List.{concat}
 use Rattle.std.proofs.lemmas.Bool.{cases_Bool, cases_lt, eqb-true, le-ltb, lt-ltb, le-leb, lt-leb, and_left, and_right}
 use Rattle.wire_spec.specs.Packets.{Packet, has_text}
 use Rattle.stream_spec.specs.Lists.{In}
-use Rattle.stream_spec.specs.History.{Lawful, ReachFits, octets, texts_of, History, Entry, Placed, sent_by, placed_at, placed_after, placed, low, window, IsPacket}
+use Rattle.stream_spec.specs.History.{Lawful, ReachFits, octets, texts_of, History, Entry, Placed, sent_by, placed_at, placed_after, placed, low, before, window, IsPacket}
 use Rattle.stream_spec.specs.Kept.{is_entry_of}
 use Rattle.stream_spec.proofs.Lists.{in_append}
 use Rattle.stream_spec.proofs.Places.{one_more_own}
@@ -38,7 +38,7 @@ placed_grown h e =
     let n : sent_by e.source (onto [] h.entries) ≡ sent_by e.source h.entries = (let r = sent_onto e.source [] h.entries in omega arith) in
     snoc_after [] h.entries e ∙ rw (l, n) refl
 
-index_under : (before es : List Entry) (x : Placed) → In x (placed_after before es) → x.index < sent_by x.source before + sent_by x.source es
+pub index_under : (before es : List Entry) (x : Placed) → In x (placed_after before es) → x.index < sent_by x.source before + sent_by x.source es
 index_under before [] x i = absurd i
 index_under before (e ∷ es) x (inl p) =
     let s = ap (λ (z : Placed). z.source) p in
@@ -47,21 +47,24 @@ index_under before (e ∷ es) x (inl p) =
     let own = one_more_own x.source e es (sym s) in omega arith
 index_under before (e ∷ es) x (inr i) = let r = index_under (e ∷ before) es x i in omega arith
 
-filter_snoc : {X : Type 0} (p : X → Bool) (xs : List X) (x : X) → p x ≡ false → filter p (xs ++ x ∷ []) ≡ filter p xs
+pub filter_snoc : {X : Type 0} (p : X → Bool) (xs : List X) (x : X) → p x ≡ false → filter p (xs ++ x ∷ []) ≡ filter p xs
 filter_snoc p [] x h = rw h
 filter_snoc p (y ∷ xs) x h = ap (λ ys. cond (p y) (y ∷ ys) ys) (filter_snoc p xs x h)
 
-pub window_grown : (h : History) (e : Entry) (x : Placed) → In x (placed h) → window (grown h e) x ≡ window h x
-window_grown h e x i = rw (placed_grown h e) (filter_snoc (λ (y : Placed). (y.source == x.source) && (nat_le (low x) y.index && nat_lt y.index x.index)) (placed h) (last h e) outside)
+pub before_grown : (h : History) (e : Entry) (m : ℕ) (x : Placed) → In x (placed h) → before (grown h e) m x ≡ before h m x
+before_grown h e m x i = rw (placed_grown h e) (filter_snoc (λ (y : Placed). (y.source == x.source) && (nat_le (x.index - m) y.index && nat_lt y.index x.index)) (placed h) (last h e) outside)
   where
-    outside : ((e.source == x.source) && (nat_le (low x) (last h e).index && nat_lt (last h e).index x.index)) ≡ false
+    outside : ((e.source == x.source) && (nat_le (x.index - m) (last h e).index && nat_lt (last h e).index x.index)) ≡ false
     outside = elim (cases_Bool (e.source == x.source)) [
       | inl t ↦
           let u = index_under [] h.entries x i in
           let same : sent_by e.source h.entries ≡ sent_by x.source h.entries = ap (λ n. sent_by n h.entries) (eqb-true e.source x.source t) in
-          and_right (e.source == x.source) (nat_le (low x) (last h e).index && nat_lt (last h e).index x.index) (and_right (nat_le (low x) (last h e).index) (nat_lt (last h e).index x.index) (le-ltb (sent_by e.source h.entries) x.index (omega arith)))
-      | inr f ↦ and_left (e.source == x.source) (nat_le (low x) (last h e).index && nat_lt (last h e).index x.index) f
+          and_right (e.source == x.source) (nat_le (x.index - m) (last h e).index && nat_lt (last h e).index x.index) (and_right (nat_le (x.index - m) (last h e).index) (nat_lt (last h e).index x.index) (le-ltb (sent_by e.source h.entries) x.index (omega arith)))
+      | inr f ↦ and_left (e.source == x.source) (nat_le (x.index - m) (last h e).index && nat_lt (last h e).index x.index) f
     ]
+
+pub window_grown : (h : History) (e : Entry) (x : Placed) → In x (placed h) → window (grown h e) x ≡ window h x
+window_grown h e x i = before_grown h e x.gens x i
 
 -- a packet of an entry stays one
 pub packet_grown : (h : History) (e : Entry) (x : Placed) (p : Packet) → In x (placed h) → IsPacket h x p → IsPacket (grown h e) x p
@@ -121,11 +124,12 @@ filter_twice p q (x ∷ xs) = go (p x) (q x) (filter_twice p q xs)
     go true b e = ap (λ ys. cond (q x) (x ∷ ys) ys) e
     go false b e = e
 
-pub window_last : (h : History) (e : Entry) → window (grown h e) (last h e) ≡ drop (sent_by e.source h.entries - e.gens) (own h e.source)
-window_last h e =
+-- the m entries before the last one
+pub before_last : (h : History) (e : Entry) (m : ℕ) → before (grown h e) m (last h e) ≡ drop (sent_by e.source h.entries - m) (own h e.source)
+before_last h e m =
     let s = e.source in
     let n = sent_by s h.entries in
-    let lo = n - e.gens in
+    let lo = n - m in
     let zero_off : lo - 0 ≡ lo = omega arith in
     rw (placed_grown h e)
     (filter_snoc (λ (y : Placed). (y.source == s) && (nat_le lo y.index && nat_lt y.index n)) (placed h) (last h e)
@@ -133,19 +137,23 @@ window_last h e =
     ∙ (filter_same (λ (y : Placed). (y.source == s) && (nat_le lo y.index && nat_lt y.index n)) (λ (y : Placed). (y.source == s) && nat_le lo y.index) (placed h) within
     ∙ (sym (filter_twice (is_entry_of s) (λ (y : Placed). nat_le lo y.index) (placed h)) ∙ (from_index 0 lo (own h s) (own_consecutive s [] h.entries) ∙ ap (λ k. drop k (own h s)) zero_off))))
   where
-    within : (y : Placed) → In y (placed h) → ((y.source == e.source) && (nat_le (sent_by e.source h.entries - e.gens) y.index && nat_lt y.index (sent_by e.source h.entries))) ≡ ((y.source == e.source) && nat_le (sent_by e.source h.entries - e.gens) y.index)
+    within : (y : Placed) → In y (placed h) → ((y.source == e.source) && (nat_le (sent_by e.source h.entries - m) y.index && nat_lt y.index (sent_by e.source h.entries))) ≡ ((y.source == e.source) && nat_le (sent_by e.source h.entries - m) y.index)
     within y i = go (y.source == e.source) refl
       where
         both : (b : Bool) → (b && true) ≡ b
         both true = refl
         both false = refl
 
-        go : (b : Bool) → (y.source == e.source) ≡ b → (b && (nat_le (sent_by e.source h.entries - e.gens) y.index && nat_lt y.index (sent_by e.source h.entries))) ≡ (b && nat_le (sent_by e.source h.entries - e.gens) y.index)
+        go : (b : Bool) → (y.source == e.source) ≡ b → (b && (nat_le (sent_by e.source h.entries - m) y.index && nat_lt y.index (sent_by e.source h.entries))) ≡ (b && nat_le (sent_by e.source h.entries - m) y.index)
         go false f = refl
         go true t =
             let u = index_under [] h.entries y i in
             let same : sent_by y.source h.entries ≡ sent_by e.source h.entries = ap (λ n. sent_by n h.entries) (eqb-true y.source e.source t) in
-            rw (lt-ltb y.index (sent_by e.source h.entries) (omega arith)) (both (nat_le (sent_by e.source h.entries - e.gens) y.index))
+            rw (lt-ltb y.index (sent_by e.source h.entries) (omega arith)) (both (nat_le (sent_by e.source h.entries - m) y.index))
+
+-- the entries that the last one repeats
+pub window_last : (h : History) (e : Entry) → window (grown h e) (last h e) ≡ drop (sent_by e.source h.entries - e.gens) (own h e.source)
+window_last h e = before_last h e e.gens
 
 -- ---- a lawful history stays lawful
 pub octets_grown : (h : History) (e : Entry) (x : Placed) → In x (placed h) → octets (grown h e) x ≡ octets h x

@@ -11,3 +11,4 @@ pub mod Grows
 pub mod Ends
 pub mod Taking
 pub mod Examples
+pub mod OwnPackets

@@ -1,13 +1,13 @@
 -- A history as a sender of this bridge makes it, the one packet of each of its entries, and the history that packets
 -- tell (RFC 4103, section 4.1, for the M bit; the offsets of empty blocks are a profile).
-use Rattle.std.specs.Prelude.{◌≡◌, ℕ, zero, suc, ◌+◌, ◌-◌, ◌%◌, ◌^◌, ◌<◌, ◌==◌, Bool, not, true, Option, None, Some, List, [], ◌∷◌, ◌++◌, length, map, min, max, if◌then◌else◌}
+use Rattle.std.specs.Prelude.{◌≡◌, ℕ, zero, suc, ◌+◌, ◌-◌, ◌%◌, ◌^◌, ◌<◌, ◌==◌, Bool, not, true, Option, None, Some, List, [], ◌∷◌, ◌++◌, length, map, take, min, max, if◌then◌else◌, ◌≤◌, IsUtf8}
 use Rattle.std.specs.List.{list_any}
 use Rattle.rtt_base.specs.declared.blocks.TextBlock.{TextBlock}
 use Rattle.rtt_base.specs.Stamps.{ahead}
-use Rattle.wire_spec.specs.Packets.{Packet, has_text}
+use Rattle.wire_spec.specs.Packets.{Packet, Arrival, has_text}
 use Rattle.stream_spec.specs.Lists.{In}
 use Rattle.stream_spec.specs.Hearing.{oldest_offset}
-use Rattle.stream_spec.specs.History.{History, Entry, Placed, placed, before, slots, sent_by}
+use Rattle.stream_spec.specs.History.{History, Entry, Placed, placed, before, slots, sent_by, IsNear}
 
 -- how far an empty block is said to lie before the packet
 abbrev pub offset_of : ℕ → ℕ → ℕ
@@ -34,6 +34,16 @@ own_packet h x = record {
   older = map (block_of x) (slots h x);
   primary = x.text;
 }
+
+-- arrivals of own packets, newest first, with their entries
+abbrev pub come_from : History → List (ℕ × Placed) → List Arrival
+come_from h [] = []
+come_from h (a ∷ past) = record { time = a.0; packet = own_packet h a.1 } ∷ come_from h past
+
+-- each of these entries is near the greatest place before it
+abbrev pub NearEach : History → List (ℕ × Placed) → Type 0
+NearEach h [] = Unit {0}
+NearEach h (a ∷ past) = In a.1 (placed h) × (IsNear h a.1.place (come_from h past) × NearEach h past)
 
 -- each entry has g redundant blocks, and `reach` is the offset of the oldest block of its packet
 pub record Own (g : ℕ) (h : History) : Type 0 where
@@ -103,9 +113,7 @@ repeats (suc g) media past = repeat_of media (nth g past) ∷ repeats g media pa
 
 -- one of the last n of these has text
 abbrev pub has_text_in : ℕ → List Sent → Bool
-has_text_in zero past = Bool.false
-has_text_in (suc n) [] = Bool.false
-has_text_in (suc n) (e ∷ past) = if has_text e.text then true else has_text_in n past
+has_text_in n past = list_any (λ e. has_text e.text) (take n past)
 
 abbrev pub entry_after : ℕ → List Sent → Sent → Entry
 entry_after g past e = record { source = e.source; media = e.media; text = e.text; gens = g; reach = oldest_offset (repeats g e.media (sent_of e.source past)) }
@@ -130,3 +138,14 @@ packet_after c past e = record {
   older = repeats c.gens e.media (sent_of e.source past);
   primary = e.text;
 }
+
+-- e may be sent after these: it is later than each, and near to each text that it repeats
+pub record MaySend (c : Stream) (past : List Sent) (e : Sent) : Type 0 where
+  pub later : (x : Sent) → In x past → (x.media < e.media) × (e.media < x.media + 2 ^ 31)
+  pub near : (x : Sent) → In x (take c.gens (sent_of e.source past)) → has_text x.text ≡ true → e.media ≤ x.media + 16383
+  pub text : (length e.text ≤ 1023) × IsUtf8 e.text
+
+-- each of these could be sent after those before it
+abbrev pub Sendable : Stream → List Sent → Type 0
+Sendable c [] = Unit {0}
+Sendable c (e ∷ past) = MaySend c past e × Sendable c past
