@@ -12,3 +12,4 @@ pub mod Ends
 pub mod Taking
 pub mod Examples
 pub mod OwnPackets
+pub mod Sent
