@@ -2,8 +2,10 @@
 #![tactic(auto)]
 
 mod gates;
+mod mem_files;
 mod mem_sinks;
 mod mem_sources;
+mod mem_worlds;
 mod reads;
 mod sinks;
 mod sources;
@@ -12,6 +14,7 @@ mod worlds;
 pub use gates::{Gate, StillGate};
 pub use mem_sinks::{FailingWrite, MemSink};
 pub use mem_sources::{MemSource, SteadySource};
+pub use mem_worlds::{FailingCall, MemWorld};
 pub use sinks::Sink;
 pub use sources::Source;
 pub use worlds::World;

@@ -81,6 +81,20 @@ impl MemSink {
         self.taken.as_slice()
     }
 
+    // Its name, what it took and how often it failed.
+    pub(crate) fn into_parts(self) -> (Path, Bytes, u64)
+        ensures { result ≡ (self.name, self.taken, self.faults) }
+    {
+        let MemSink {
+            name,
+            taken,
+            writes: _,
+            failing: _failing,
+            faults,
+        } = self;
+        (name, taken, faults)
+    }
+
     // How many octets the write of the present number still takes, where it is to fail.
     fn through(&self) -> Option<usize> {
         self.failing

@@ -9,7 +9,7 @@ use std::alloc::Global;
 /// A source in memory, of whose reads some are to fail.
 #[derive(Debug, Drop)]
 pub struct MemSource {
-    name: Path,
+    pub(crate) name: Path,
     octets: Bytes,
     // how many of them were read
     position: usize,
@@ -18,7 +18,7 @@ pub struct MemSource {
     // how many reads were made
     reads: u64,
     failing: Vec<u64>,
-    faults: u64,
+    pub(crate) faults: u64,
     ghost within: { position ≤ length octets },
     ghost moves: { 0 < step },
 }

@@ -1,0 +1,280 @@
+//! A world in memory.
+ghost use Rattle.std.specs.Prelude.{◌≡◌, ◌≢◌, ℕ, ◌≤◌, List, [], Option, IsSome, OnOk, OnErr, IfOk, IfSome, map, option_map, option_copied};
+ghost use Rattle.rtt_io.specs.Counts.{Rose, counted};
+ghost use Rattle.rtt_io.specs.Files.{octets_of, own_of, objects_of};
+
+use crate::mem_files::{MemFile, place};
+use crate::{FailingWrite, MemSink, MemSource, Source, World};
+use rtt_base::{Bytes, Failed, NoMemory, Path};
+use std::alloc::Global;
+
+/// A call that is to fail.
+#[derive(Debug, Drop)]
+pub enum FailingCall {
+    /// Each `open_source` of this name.
+    Open(Path),
+    /// A read of each source of this name, by its number. The first read has number 1.
+    Read(Path, u64),
+    /// Each `create_sink` of this name.
+    Create(Path),
+    /// A write to each sink of this name.
+    Write(Path, FailingWrite),
+}
+
+/// Files in memory, and a list of the calls that are to fail. Where that list is empty, a call fails only where
+/// memory runs out, or where a name is opened under which nothing is. A fault that no file can count, since none
+/// has its name, counts for every name.
+#[derive(Debug, Drop)]
+pub struct MemWorld {
+    alloc: Global,
+    files: Vec<MemFile>,
+    failing: Vec<FailingCall>,
+    own_faults: u64,
+    object_faults: u64,
+}
+
+impl World for MemWorld {
+    type Src = MemSource;
+
+    type Dst = MemSink;
+
+    ghost tells = { Unit {0} };
+
+    ghost contents = { λ world. octets_of world.files.items };
+
+    ghost own_faults = { λ world. own_of world.own_faults world.files.items };
+
+    ghost object_faults = { λ world. objects_of world.object_faults world.files.items };
+
+    fn open_source(&mut self, name: &str) -> Result<MemSource, Failed> {
+        match self.source(name) {
+            Some(source) => Ok(source),
+            None => {
+                self.count_own(name);
+                Err(Failed)
+            }
+        }
+    }
+
+    fn create_sink(&mut self, name: &str) -> Result<MemSink, Failed> {
+        if let Some(sink) = self.sink(name) {
+            if self.make_empty(name).is_ok() {
+                return Ok(sink);
+            }
+        }
+        self.count_own(name);
+        Err(Failed)
+    }
+
+    fn done_src(&mut self, source: MemSource) {
+        self.count_object(source.name.as_str(), source.faults);
+    }
+
+    fn done_dst(&mut self, sink: MemSink) {
+        let (name, taken, faults) = sink.into_parts();
+        self.count_object(name.as_str(), faults);
+        self.store(name.as_str(), taken);
+    }
+}
+
+impl MemWorld {
+    /// A world that holds nothing and in which no call is to fail. It takes no memory.
+    pub fn new(alloc: Global) -> MemWorld
+        ensures empty { (n : List ℕ) → ⟦<MemWorld as World>⟧.contents result n ≡ None }
+        ensures fresh { (n : List ℕ) → ⟦<MemWorld as World>⟧.own_faults result n ≡ 0 }
+        ensures fresh_objects { (n : List ℕ) → ⟦<MemWorld as World>⟧.object_faults result n ≡ 0 }
+    {
+        MemWorld {
+            alloc,
+            files: Vec::new(alloc),
+            failing: Vec::new(alloc),
+            own_faults: 0,
+            object_faults: 0,
+        }
+    }
+
+    /// Puts a file into the world, in place of what was under its name.
+    pub fn add_file(&mut self, name: &str, octets: &[u8]) -> Result<(), NoMemory>
+        ensures ok { OnOk result (⟦<MemWorld as World>⟧.contents self.new name.now ≡ Some octets.now) }
+        ensures others { (n : List ℕ) → n ≢ name.now → ⟦<MemWorld as World>⟧.contents self.new n ≡ ⟦<MemWorld as World>⟧.contents self.old n }
+    {
+        let mut copy = Bytes::new(self.alloc);
+        copy.append(octets)?;
+        self.make_empty(name)?;
+        self.store(name, copy);
+        Ok(())
+    }
+
+    /// This call is to fail.
+    pub fn fail(&mut self, call: FailingCall) -> Result<(), NoMemory>
+        ensures same_contents { (n : List ℕ) → ⟦<MemWorld as World>⟧.contents self.new n ≡ ⟦<MemWorld as World>⟧.contents self.old n }
+        ensures same_own { (n : List ℕ) → ⟦<MemWorld as World>⟧.own_faults self.new n ≡ ⟦<MemWorld as World>⟧.own_faults self.old n }
+        ensures same_objects { (n : List ℕ) → ⟦<MemWorld as World>⟧.object_faults self.new n ≡ ⟦<MemWorld as World>⟧.object_faults self.old n }
+    {
+        self.failing.push(call)?;
+        Ok(())
+    }
+
+    /// What is under a name.
+    pub fn contents(&self, name: &str) -> Option<&[u8]>
+        ensures { option_map (λ octets. octets.now) result ≡ ⟦<MemWorld as World>⟧.contents self.now name.now }
+    {
+        let at = place(self.files.as_slice(), name)?;
+        Some(self.files[at].octets.as_slice())
+    }
+
+    // The source of a name, where its opening is not to fail, something is under the name and there is memory.
+    fn source(&self, name: &str) -> Option<MemSource>
+        ensures named { IfSome result (λ source. source.name ≡ name.now) }
+        ensures fresh { IfSome result (λ source. source.faults ≡ 0) }
+        ensures holds { IfSome result (λ source. octets_of self.now.files.items name.now ≡ Some (⟦<MemSource as Source>⟧.left source)) }
+    {
+        if self.fails_to_open(name) {
+            return None;
+        }
+        let stored = self.contents(name)?;
+        self.source_of(name, stored).ok()
+    }
+
+    // A source of these octets, with the reads that are to fail under this name.
+    fn source_of(&self, name: &str, stored: &[u8]) -> Result<MemSource, NoMemory>
+        ensures named { IfOk result (λ source. source.name ≡ name.now) }
+        ensures fresh { IfOk result (λ source. source.faults ≡ 0) }
+        ensures holds { IfOk result (λ source. ⟦<MemSource as Source>⟧.left source ≡ stored.now) }
+    {
+        let mut octets = Bytes::new(self.alloc);
+        octets.append(stored)?;
+        let mut source = MemSource::new(self.alloc, Path::from_text(self.alloc, name)?, octets);
+        self.plan_reads(name, &mut source)?;
+        Ok(source)
+    }
+
+    // The sink of a name, where its creation is not to fail and there is memory.
+    fn sink(&self, name: &str) -> Option<MemSink>
+        ensures named { IfSome result (λ sink. sink.name ≡ name.now) }
+        ensures fresh { IfSome result (λ sink. sink.faults ≡ 0) }
+        ensures empty { IfSome result (λ sink. sink.taken ≡ []) }
+    {
+        if self.fails_to_create(name) {
+            return None;
+        }
+        let path = Path::from_text(self.alloc, name).ok()?;
+        let mut sink = MemSink::new(self.alloc, path);
+        self.plan_writes(name, &mut sink).ok()?;
+        Some(sink)
+    }
+
+    fn fails_to_open(&self, name: &str) -> bool {
+        self.failing.iter().any(|call| match call {
+            FailingCall::Open(path) => path.as_str() == name,
+            _ => false,
+        })
+    }
+
+    fn fails_to_create(&self, name: &str) -> bool {
+        self.failing.iter().any(|call| match call {
+            FailingCall::Create(path) => path.as_str() == name,
+            _ => false,
+        })
+    }
+
+    // Tells a source which of its reads are to fail.
+    fn plan_reads(&self, name: &str, source: &mut MemSource) -> Result<(), NoMemory>
+        ensures same_left { ⟦<MemSource as Source>⟧.left source.new ≡ ⟦<MemSource as Source>⟧.left source.old }
+        ensures same_name { source.new.name ≡ source.old.name }
+        ensures same_faults { source.new.faults ≡ source.old.faults }
+    {
+        for call in &self.failing {
+            if let FailingCall::Read(path, read) = call
+                && path.as_str() == name
+            {
+                source.fail_at(*read)?;
+            }
+        }
+        Ok(())
+    }
+
+    // Tells a sink which of its writes are to fail.
+    fn plan_writes(&self, name: &str, sink: &mut MemSink) -> Result<(), NoMemory>
+        ensures same_took { sink.new.taken ≡ sink.old.taken }
+        ensures same_name { sink.new.name ≡ sink.old.name }
+        ensures same_faults { sink.new.faults ≡ sink.old.faults }
+    {
+        for call in &self.failing {
+            if let FailingCall::Write(path, write) = call
+                && path.as_str() == name
+            {
+                sink.fail_at(*write)?;
+            }
+        }
+        Ok(())
+    }
+
+    // Makes what is under a name empty.
+    fn make_empty(&mut self, name: &str) -> Result<(), NoMemory>
+        ensures ok { OnOk result (octets_of self.new.files.items name.now ≡ Some []) }
+        ensures others { (n : List ℕ) → n ≢ name.now → octets_of self.new.files.items n ≡ octets_of self.old.files.items n }
+        ensures err { OnErr result ((n : List ℕ) → octets_of self.new.files.items n ≡ octets_of self.old.files.items n) }
+        ensures same_own { (n : List ℕ) → own_of self.new.own_faults self.new.files.items n ≡ own_of self.old.own_faults self.old.files.items n }
+        ensures same_objects { (n : List ℕ) → objects_of self.new.object_faults self.new.files.items n ≡ objects_of self.old.object_faults self.old.files.items n }
+    {
+        if let Some(at) = place(self.files.as_slice(), name) {
+            let file = &mut self.files[at];
+            file.octets.clear();
+            return Ok(());
+        }
+        let file = MemFile {
+            name: Path::from_text(self.alloc, name)?,
+            octets: Bytes::new(self.alloc),
+            own_faults: 0,
+            object_faults: 0,
+        };
+        self.files.push(file)?;
+        Ok(())
+    }
+
+    // Puts octets in place of what is under a name, where something is.
+    fn store(&mut self, name: &str, octets: Bytes)
+        ensures stored { IsSome (octets_of self.old.files.items name.now) → octets_of self.new.files.items name.now ≡ Some octets }
+        ensures others { (n : List ℕ) → n ≢ name.now → octets_of self.new.files.items n ≡ octets_of self.old.files.items n }
+        ensures same_own { (n : List ℕ) → own_of self.new.own_faults self.new.files.items n ≡ own_of self.old.own_faults self.old.files.items n }
+        ensures same_objects { (n : List ℕ) → objects_of self.new.object_faults self.new.files.items n ≡ objects_of self.old.object_faults self.old.files.items n }
+    {
+        if let Some(at) = place(self.files.as_slice(), name) {
+            let file = &mut self.files[at];
+            file.octets = octets;
+        }
+    }
+
+    // Counts a fault of a call that opens or creates a name.
+    fn count_own(&mut self, name: &str)
+        ensures rose { Rose (own_of self.old.own_faults self.old.files.items name.now) (own_of self.new.own_faults self.new.files.items name.now) }
+        ensures never_falls { (n : List ℕ) → own_of self.old.own_faults self.old.files.items n ≤ own_of self.new.own_faults self.new.files.items n }
+        ensures same_contents { (n : List ℕ) → octets_of self.new.files.items n ≡ octets_of self.old.files.items n }
+        ensures same_objects { (n : List ℕ) → objects_of self.new.object_faults self.new.files.items n ≡ objects_of self.old.object_faults self.old.files.items n }
+    {
+        match place(self.files.as_slice(), name) {
+            Some(at) => {
+                let file = &mut self.files[at];
+                file.own_faults = file.own_faults.saturating_add(1);
+            }
+            None => self.own_faults = self.own_faults.saturating_add(1),
+        }
+    }
+
+    // Adds the faults of an object to those of its name.
+    fn count_object(&mut self, name: &str, faults: u64)
+        ensures added { objects_of self.new.object_faults self.new.files.items name.now ≡ counted (objects_of self.old.object_faults self.old.files.items name.now) faults }
+        ensures never_fall { (n : List ℕ) → objects_of self.old.object_faults self.old.files.items n ≤ objects_of self.new.object_faults self.new.files.items n }
+        ensures same_contents { (n : List ℕ) → octets_of self.new.files.items n ≡ octets_of self.old.files.items n }
+        ensures same_own { (n : List ℕ) → own_of self.new.own_faults self.new.files.items n ≡ own_of self.old.own_faults self.old.files.items n }
+    {
+        match place(self.files.as_slice(), name) {
+            Some(at) => {
+                let file = &mut self.files[at];
+                file.object_faults = file.object_faults.saturating_add(faults);
+            }
+            None => self.object_faults = self.object_faults.saturating_add(faults),
+        }
+    }
+}
