@@ -1,2 +1,5 @@
+pub mod Lines
 pub mod Numbers
+pub mod Script
+pub mod Steps
 pub mod Words
