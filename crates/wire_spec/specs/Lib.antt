@@ -1,5 +1,6 @@
 pub mod Packets
 pub mod Steps
+pub mod Faults
 pub mod Rtp
 pub mod Red
 pub mod Text

@@ -1,5 +1,5 @@
 -- The blocks of a payload: a plain text, or redundant blocks before a primary one (RFC 2198, section 3; RFC 4103, section 4).
-use Rattle.std.specs.Prelude.{◌≡◌, ℕ, zero, suc, ◌+◌, ◌*◌, ◌/◌, ◌%◌, ◌^◌, ◌<◌, ◌≤◌, ◌≢◌, ◌==◌, List, [], ◌∷◌, ◌++◌, length, take, drop, Result, Ok, Err, nat_lt, if◌then◌else◌, IsUtf8, Bool, true, ◌&&◌, slice_index}
+use Rattle.std.specs.Prelude.{◌≡◌, ℕ, zero, suc, ◌+◌, ◌*◌, ◌/◌, ◌%◌, ◌^◌, ◌<◌, ◌≤◌, ◌≢◌, ◌==◌, List, [], ◌∷◌, ◌++◌, length, take, drop, Result, Ok, Err, nat_lt, if◌then◌else◌, IsUtf8, Bool, true, false, Option, None, Some, ◌&&◌, slice_index}
 use Rattle.std.specs.List.{flat_map, AllByRecursion}
 use Rattle.std.specs.Str.{is_utf8}
 use Rattle.std.specs.Int.{bytes_high_first}
@@ -7,6 +7,7 @@ use Rattle.rtt_base.specs.declared.blocks.TextBlock.{TextBlock}
 use Rattle.rtt_base.specs.declared.text_packets.Pts.{Pts}
 use Rattle.wire_spec.specs.declared.faults.RedFault.{RedFault}
 use Rattle.wire_spec.specs.declared.faults.RedFault.TheVariants.{WrongType, Cut, Many, Long, NotText}
+use Rattle.wire_spec.specs.declared.headers.RedHeader.{RedHeader}
 use Rattle.wire_spec.specs.Steps.{◌>>=◌}
 use Rattle.wire_spec.specs.Packets.{redundant, primary_text}
 
@@ -54,47 +55,47 @@ pub record Red (octets : List ℕ) (pt : ℕ) (pts : Pts) (blocks : List TextBlo
 
 -- ---- reading, with the first test that fails
 
--- what the header of a redundant block says
-pub record Header : Type 0 where
-  pub offset : ℕ
-  pub size : ℕ
-
 -- the headers, and the texts behind the last
 pub record Headers : Type 0 where
-  pub headers : List Header
+  pub headers : List RedHeader
   pub texts : List ℕ
 
-abbrev pub with_header : Header → Headers → Headers
+abbrev pub with_header : RedHeader → Headers → Headers
 with_header h hs = record { headers = h ∷ hs.headers; texts = hs.texts }
 
--- the 24 bits of a redundant header
-abbrev pub header_of : List ℕ → Header
-header_of octets =
-    let bits = 65536 * slice_index octets 0 + (256 * slice_index octets 1 + slice_index octets 2) in record { offset = bits / 1024; size = bits % 1024 }
+-- the 24 bits behind the first octet of a redundant header
+abbrev pub header_bits : List ℕ → ℕ
+header_bits octets = 65536 * slice_index octets 1 + (256 * slice_index octets 2 + slice_index octets 3)
 
--- the last header, whose F is 0
-abbrev pub last_header : ℕ → ℕ → List ℕ → Result Headers RedFault
-last_header t140 first rest = if first == t140 then Ok (record { headers = []; texts = rest }) else Err WrongType
+abbrev pub header_of : List ℕ → RedHeader
+header_of octets = record { offset = header_bits octets / 1024; size = header_bits octets % 1024 }
 
--- a header of this first octet, where `more` is the answer for a redundant one whose octets are there
-abbrev pub a_header : ℕ → ℕ → List ℕ → Result Headers RedFault → Result Headers RedFault
-a_header t140 first rest more =
-    if nat_lt first 128 then last_header t140 first rest else (if nat_lt (length rest) 3 then Err Cut else more)
+-- the header in front: that of a redundant block, or none where it is the last, whose F is 0
+abbrev pub header_at : Bool → ℕ → List ℕ → Result (Option RedHeader) RedFault
+header_at full t140 octets =
+    if length octets == 0 then Err Cut
+    else (if nat_lt (slice_index octets 0) 128 then (if slice_index octets 0 == t140 then Ok None else Err WrongType)
+    else (if nat_lt (length octets) 4 then Err Cut
+    else (if full then Err Many
+    else (if slice_index octets 0 == 128 + t140 then Ok (Some (header_of octets)) else Err WrongType))))
+
+-- what comes of a header and of the others, as they were read
+abbrev pub and_others : List ℕ → Result Headers RedFault → Option RedHeader → Result Headers RedFault
+and_others octets others None = Ok (record { headers = []; texts = drop 1 octets })
+and_others octets others (Some h) = others >>= λ hs. Ok (with_header h hs)
 
 -- the headers up to the last, with at most so many redundant ones
 unfoldable pub headers_at : ℕ → ℕ → List ℕ → Result Headers RedFault
-headers_at room t140 [] = Err Cut
-headers_at zero t140 (first ∷ rest) = a_header t140 first rest (Err Many)
-headers_at (suc room) t140 (first ∷ rest) =
-    a_header t140 first rest (if first == 128 + t140 then (headers_at room t140 (drop 3 rest) >>= λ hs. Ok (with_header (header_of rest) hs)) else Err WrongType)
+headers_at zero t140 octets = header_at true t140 octets >>= and_others octets (Err Many)
+headers_at (suc room) t140 octets = header_at false t140 octets >>= and_others octets (headers_at room t140 (drop 4 octets))
 
 -- how many octets the redundant texts have
-abbrev pub older_size : List Header → ℕ
+abbrev pub older_size : List RedHeader → ℕ
 older_size [] = 0
 older_size (h ∷ hs) = h.size + older_size hs
 
 -- each header's text, and then the primary one
-abbrev pub blocks_at : List Header → List ℕ → List TextBlock
+abbrev pub blocks_at : List RedHeader → List ℕ → List TextBlock
 blocks_at [] octets = primary octets ∷ []
 blocks_at (h ∷ hs) octets = record { offset = h.offset; text = take h.size octets } ∷ blocks_at hs (drop h.size octets)
 
@@ -102,11 +103,15 @@ abbrev pub all_utf8 : List TextBlock → Bool
 all_utf8 [] = true
 all_utf8 (b ∷ bs) = is_utf8 b.text && all_utf8 bs
 
-unfoldable pub texts_at : List Header → List ℕ → Result (List TextBlock) RedFault
+abbrev pub checked : List TextBlock → Result (List TextBlock) RedFault
+checked blocks = if all_utf8 blocks then Ok blocks else Err NotText
+
+-- the blocks of these headers in the octets behind them
+unfoldable pub texts_at : List RedHeader → List ℕ → Result (List TextBlock) RedFault
 texts_at hs octets =
     if nat_lt (length octets) (older_size hs) then Err Cut
     else (if nat_lt (older_size hs + 1023) (length octets) then Err Long
-    else (if all_utf8 (blocks_at hs octets) then Ok (blocks_at hs octets) else Err NotText))
+    else checked (blocks_at hs octets))
 
 unfoldable pub red : List ℕ → ℕ → Pts → Result (List TextBlock) RedFault
 red octets pt pts =

@@ -2,30 +2,13 @@
 use Rattle.std.specs.Prelude.{ℕ, ◌==◌, Bool, true, Option, None, Some, unwrap_or, List, length, Result, Ok, Err, nat_lt, if◌then◌else◌}
 use Rattle.rtt_base.specs.declared.blocks.TextBlock.{TextBlock}
 use Rattle.rtt_base.specs.declared.text_packets.Pts.{Pts}
-use Rattle.wire_spec.specs.declared.faults.RtpFault.{RtpFault}
-use Rattle.wire_spec.specs.declared.faults.RtpFault.TheVariants as rtp_faults
-use Rattle.wire_spec.specs.declared.faults.RedFault.{RedFault}
-use Rattle.wire_spec.specs.declared.faults.RedFault.TheVariants as red_faults
 use Rattle.wire_spec.specs.declared.faults.TextFault.{TextFault}
-use Rattle.wire_spec.specs.declared.faults.TextFault.TheVariants.{Short, Version, Padding, Sources, WrongType, Cut, Many, Long, NotText, Foreign}
+use Rattle.wire_spec.specs.declared.faults.TextFault.TheVariants.{Sources, Long, Foreign}
+use Rattle.wire_spec.specs.Faults.{header_fault, blocks_fault}
 use Rattle.wire_spec.specs.Steps.{◌>>=◌}
 use Rattle.wire_spec.specs.Packets.{Packet, redundant, primary_text}
 use Rattle.wire_spec.specs.Rtp.{Reading, rtp}
 use Rattle.wire_spec.specs.Red.{red}
-
--- a refusal of the header, of a packet
-abbrev pub header_fault : RtpFault → TextFault
-header_fault rtp_faults.Short = Short
-header_fault rtp_faults.Version = Version
-header_fault rtp_faults.Padding = Padding
-
--- a refusal of the blocks, of a packet
-abbrev pub blocks_fault : RedFault → TextFault
-blocks_fault red_faults.WrongType = WrongType
-blocks_fault red_faults.Cut = Cut
-blocks_fault red_faults.Many = Many
-blocks_fault red_faults.Long = Long
-blocks_fault red_faults.NotText = NotText
 
 abbrev pub refused_as : {A E : Type 0} → (E → TextFault) → Result A E → Result A TextFault
 refused_as fault (Ok x) = Ok x

@@ -1,4 +1,6 @@
 //! Why a packet, its blocks or a recording is refused.
+ghost use Rattle.std.specs.Prelude.{◌≡◌};
+
 use thiserror::Error;
 
 /// Why octets are no RTP packet (RFC 3550, section 5.1).
@@ -68,6 +70,36 @@ pub enum TextFault {
     /// The SSRC is not the one that was asked for.
     #[error("Foreign")]
     Foreign,
+}
+
+impl From<RtpFault> for TextFault {
+    ghost use Rattle.wire_spec.specs.Faults.{header_fault};
+
+    ghost from_gives = { λ fault result. result ≡ header_fault fault };
+
+    fn from(fault: RtpFault) -> TextFault {
+        match fault {
+            RtpFault::Short => TextFault::Short,
+            RtpFault::Version => TextFault::Version,
+            RtpFault::Padding => TextFault::Padding,
+        }
+    }
+}
+
+impl From<RedFault> for TextFault {
+    ghost use Rattle.wire_spec.specs.Faults.{blocks_fault};
+
+    ghost from_gives = { λ fault result. result ≡ blocks_fault fault };
+
+    fn from(fault: RedFault) -> TextFault {
+        match fault {
+            RedFault::WrongType => TextFault::WrongType,
+            RedFault::Cut => TextFault::Cut,
+            RedFault::Many => TextFault::Many,
+            RedFault::Long => TextFault::Long,
+            RedFault::NotText => TextFault::NotText,
+        }
+    }
 }
 
 /// Why a recording can't be read further.

@@ -2,5 +2,7 @@
 #![tactic(auto)]
 
 mod faults;
+mod headers;
 
 pub use faults::{DumpKind, RedFault, RtpFault, TextFault};
+pub use headers::RedHeader;
