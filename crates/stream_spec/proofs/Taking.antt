@@ -1,12 +1,14 @@
 -- A receiver that takes the used packets one by one.
-use Rattle.std.proofs.Common.{◌≡◌, ℕ, zero, suc, ◌+◌, ◌-◌, ◌<◌, ◌≤◌, Bool, true, false, cond, inl, inr, Option, Some, None, List, [], ◌∷◌, ◌++◌, refl, ap, sym, ◌∙◌, arith, append_assoc}
+use Rattle.std.proofs.Common.{◌≡◌, ℕ, zero, suc, ◌+◌, ◌-◌, ◌<◌, ◌≤◌, Bool, true, false, cond, not, length, inl, inr, Option, Some, None, List, [], ◌∷◌, ◌++◌, refl, ap, sym, ◌∙◌, arith, append_assoc}
 use Rattle.std.specs.Prelude.{◌&&◌, ◌||◌, ◌==◌, filter, nat_lt, nat_le, if◌then◌else◌}
-use Rattle.std.proofs.lemmas.Bool.{cases_lt, cases_order, true≢false, eq-eqb, ne_eqb, lt-ltb, le-ltb, le-leb, lt-leb, false_from_ne_true}
-use Rattle.stream_spec.specs.Numbering.{Numbered, has_number}
+use Rattle.std.proofs.lemmas.Bool.{cases_lt, cases_order, true≢false, eq-eqb, eqb-true, ne_eqb, leb-true, and_parts, lt-ltb, le-ltb, le-leb, lt-leb, false_from_ne_true}
+use Rattle.wire_spec.specs.Packets.{Arrival}
+use Rattle.stream_spec.specs.Numbering.{Numbered, numbered, number_it, used, in_time, by_number, is_given_up, first_number, has_number}
 use Rattle.stream_spec.specs.Lists.{In}
-use Rattle.stream_spec.specs.Hearing.{missing, missing_between, piece, heard_over, is_packet_of}
+use Rattle.stream_spec.specs.Hearing.{IsLastOf, heard, heard_of, last_of, adds_marker, adds_texts, heard_by, marker, missing, missing_between, piece, heard_over, is_packet_of}
 use Rattle.stream_spec.specs.Holding.{RisingNumbers}
 use Rattle.stream_spec.proofs.Holding.{has_in, one}
+use Rattle.stream_spec.proofs.Lists.{in_right, in_append}
 
 -- ---- a count in place of the missing numbers
 abbrev pub inside : ℕ → ℕ → List Numbered → ℕ
@@ -62,10 +64,6 @@ heard_same : (f g : ℕ → Bool) (first : ℕ) (prev : Option Numbered) (us : L
 heard_same f g first prev [] b l e = refl
 heard_same f g first prev (u ∷ us) b l e = rw (piece_same f g first prev u b (l u (inl refl)) e, heard_same f g first (Some u) us b (λ v i. l v (inr i)) e) refl
 
-abbrev pub last_of : Option Numbered → List Numbered → Option Numbered
-last_of prev [] = prev
-last_of prev (u ∷ us) = last_of (Some u) us
-
 heard_last : (f : ℕ → Bool) (first : ℕ) (prev : Option Numbered) (us : List Numbered) (b : Numbered) → heard_over f first prev (us ++ b ∷ []) ≡ heard_over f first prev us ++ piece f first (last_of prev us) b
 heard_last f first prev [] b = nil (piece f first prev b)
   where
@@ -73,10 +71,6 @@ heard_last f first prev [] b = nil (piece f first prev b)
     nil [] = refl
     nil (x ∷ xs) = ap (λ ys. x ∷ ys) (nil xs)
 heard_last f first prev (u ∷ us) b = ap (λ ts. piece f first prev u ++ ts) (heard_last f first (Some u) us b) ∙ sym (append_assoc (piece f first prev u) (heard_over f first (Some u) us) (piece f first (last_of (Some u) us) b))
-
--- what is heard of the packets taken so far
-abbrev pub heard_of : ℕ → ℕ → List Numbered → List (List ℕ)
-heard_of first s us = heard_over (has_number us) first None (filter (is_packet_of s) us)
 
 filter_last : {X : Type 0} (p : X → Bool) (xs : List X) (x : X) → filter p (xs ++ x ∷ []) ≡ filter p xs ++ (if p x then x ∷ [] else [])
 filter_last p [] x = refl
@@ -121,3 +115,138 @@ heard_more first s us b above =
         ∙ (ap (λ ts. ts ++ piece (has_number (us ++ b ∷ [])) first (last_of None (filter (is_packet_of s) us)) b) same
         ∙ ap (λ ts. heard_of first s us ++ ts) (piece_same (has_number (us ++ b ∷ [])) (has_number us) first (last_of None (filter (is_packet_of s) us)) b b.number (omega arith) (λ k l. has_more us b k l)))
     go false = ap (heard_over (has_number (us ++ b ∷ [])) first None) (nil (filter (is_packet_of s) us)) ∙ (same ∙ sym (nil (heard_of first s us)))
+
+-- what b adds behind packets of lower numbers
+pub heard_by_more : (us : List Numbered) (b : Numbered) (s : ℕ) → ((u : Numbered) → In u us → u.number < b.number)
+    → heard_by (us ++ b ∷ []) s ≡ heard_by us s ++ (if b.packet.source == s then (if adds_marker us b then marker ∷ [] else []) ++ adds_texts us b else [])
+heard_by_more [] b s above = go (b.packet.source == s)
+  where
+    z : b.number - (b.number + 1) ≡ 0
+    z = omega arith
+
+    same : (f g : ℕ → Bool) → piece f b.number None b ≡ piece g b.number None b
+    same f g = rw z refl
+
+    go : (t : Bool) → heard_over (has_number (b ∷ [])) b.number None (cond t (b ∷ []) []) ≡ (if t then piece (has_number []) b.number None b else [])
+    go true = nil (piece (has_number (b ∷ [])) b.number None b) ∙ same (has_number (b ∷ [])) (has_number [])
+      where
+        nil : {X : Type 0} (xs : List X) → xs ++ [] ≡ xs
+        nil [] = refl
+        nil (x ∷ xs) = ap (λ ys. x ∷ ys) (nil xs)
+    go false = refl
+heard_by_more (u ∷ us) b s above =
+    heard_more u.number s (u ∷ us) b above ∙ ap (λ ts. heard_of u.number s (u ∷ us) ++ ts) (go (b.packet.source == s) refl)
+  where
+    go : (t : Bool) → (b.packet.source == s) ≡ t
+        → (if t then piece (has_number (u ∷ us)) u.number (last_of None (filter (is_packet_of s) (u ∷ us))) b else [])
+        ≡ (if t then (if adds_marker (u ∷ us) b then marker ∷ [] else []) ++ adds_texts (u ∷ us) b else [])
+    go true e = ap (λ n. piece (has_number (u ∷ us)) u.number (last_of None (filter (is_packet_of n) (u ∷ us))) b) (sym (eqb-true b.packet.source s e))
+    go false e = refl
+
+-- ---- the used packets of arrivals begin with the first
+abbrev pub Headed : ℕ → List Numbered → Type 0
+Headed n [] = ⊥
+Headed n (u ∷ us) = u.number ≡ n
+
+headed_put : (n : ℕ) (e : Numbered) (us : List Numbered) → Headed n us → n ≤ e.number → Headed n (by_number e us)
+headed_put n e [] h l = absurd h
+headed_put n e (u ∷ us) h l = rw (le-ltb e.number u.number (omega arith)) h
+
+pub used_headed : (wait : ℕ) (e : Numbered) (past : List Numbered) → Headed (first_number 0 (e ∷ past)) (used wait (e ∷ past))
+used_headed wait e [] = rw (le-leb e.number e.number (omega arith)) refl
+used_headed wait e (f ∷ past) = go (in_time wait e (f ∷ past)) refl (used_headed wait f past)
+  where
+    ahead : in_time wait e (f ∷ past) ≡ true → first_number 0 (f ∷ past) ≤ e.number
+    ahead t = leb-true (first_number e.number (f ∷ past)) e.number (and_parts (nat_le (first_number e.number (f ∷ past)) e.number) (not (has_number (f ∷ past) e.number) && not (is_given_up wait (f ∷ past) e.time e.number)) t).0
+
+    go : (t : Bool) → in_time wait e (f ∷ past) ≡ t → Headed (first_number 0 (f ∷ past)) (used wait (f ∷ past))
+        → Headed (first_number 0 (f ∷ past)) (cond t (by_number e (used wait (f ∷ past))) (used wait (f ∷ past)))
+    go true q h = headed_put (first_number 0 (f ∷ past)) e (used wait (f ∷ past)) h (ahead q)
+    go false q h = h
+
+by_first : (n s : ℕ) (us : List Numbered) → Headed n us → heard_of n s us ≡ heard_by us s
+by_first n s [] h = absurd h
+by_first n s (u ∷ us) h = ap (λ m. heard_of m s (u ∷ us)) (sym h)
+
+pub heard_used : (wait : ℕ) (a : List Arrival) (s : ℕ) → heard wait a s ≡ heard_by (used wait (numbered a)) s
+heard_used wait [] s = refl
+heard_used wait (a ∷ past) s = by_first (first_number 0 (numbered (a ∷ past))) s (used wait (numbered (a ∷ past))) (used_headed wait (number_it (numbered past) a) (numbered past))
+
+-- ---- what a receiver counts in place of a list of packets
+inside_append : (lo n : ℕ) (xs ys : List Numbered) → inside lo n (xs ++ ys) ≡ inside lo n xs + inside lo n ys
+inside_append lo n [] ys = omega arith
+inside_append lo n (x ∷ xs) ys = omega (arith, inside_append lo n xs ys)
+
+inside_below : (lo n : ℕ) (xs : List Numbered) → ((u : Numbered) → In u xs → u.number < lo) → inside lo n xs ≡ 0
+inside_below lo n [] f = refl
+inside_below lo n (x ∷ xs) f = let r = inside_below lo n xs (λ u i. f u (inr i)) in rw (lt-leb lo x.number (f x (inl refl))) (omega (arith, r))
+
+inside_all : (lo n : ℕ) (xs : List Numbered) → ((u : Numbered) → In u xs → (lo ≤ u.number) × (u.number < lo + n)) → inside lo n xs ≡ length xs
+inside_all lo n [] f = refl
+inside_all lo n (x ∷ xs) f =
+    let h = f x (inl refl) in
+    let r = inside_all lo n xs (λ u i. f u (inr i)) in
+    rw (le-leb lo x.number h.0, lt-ltb x.number (lo + n) h.1) (omega (arith, r))
+
+-- the parts of a rising list
+rising_parts : (xs : List Numbered) (a : Numbered) (ys : List Numbered) → RisingNumbers (xs ++ a ∷ ys)
+    → ((u : Numbered) → In u xs → u.number < a.number) × ((u : Numbered) → In u ys → a.number < u.number)
+rising_parts [] a ys r = ((λ u i. absurd i), r.0)
+rising_parts (x ∷ xs) a ys r =
+    let q = rising_parts xs a ys r.1 in
+    let l = r.0 a (in_right a xs (a ∷ ys) (inl refl)) in
+    ((λ u i. elim i [ inl e ↦ omega (arith, ap (λ (z : Numbered). z.number) e) | inr j ↦ q.0 u j ]), q.1)
+
+-- what is missing between a and b, where b comes behind all, is what the packets behind a leave
+pub missing_after : (xs : List Numbered) (a : Numbered) (ys : List Numbered) (b : ℕ) → RisingNumbers (xs ++ a ∷ ys) → ((u : Numbered) → In u (xs ++ a ∷ ys) → u.number < b)
+    → missing_between (has_number (xs ++ a ∷ ys)) a.number b + length ys + suc a.number ≡ b
+missing_after xs a ys b r above =
+    let lo : ℕ = a.number + 1 in
+    let n : ℕ = b - lo in
+    let parts = rising_parts xs a ys r in
+    let below = above a (in_right a xs (a ∷ ys) (inl refl)) in
+    let c = missing_count lo n (xs ++ a ∷ ys) r in
+    let front = inside_below lo n xs (λ u i. let l = parts.0 u i in omega arith) in
+    let here : inside lo n (a ∷ ys) ≡ inside lo n ys = rw (lt-leb lo a.number (omega arith)) (omega arith) in
+    let back = inside_all lo n ys (λ u i. let l = parts.1 u i in let h = above u (in_right u xs (a ∷ ys) (inr i)) in (omega arith, omega arith)) in
+    omega (arith, c, front, here, back, inside_append lo n xs (a ∷ ys))
+
+-- ---- the last packet of a source among these
+none_left : (s : ℕ) (us : List Numbered) → ((u : Numbered) → In u us → u.packet.source ≡ s → ⊥) → filter (is_packet_of s) us ≡ []
+none_left s [] f = refl
+none_left s (u ∷ us) f = rw (ne_eqb u.packet.source s (f u (inl refl))) (none_left s us (λ v i. f v (inr i)))
+
+filter_both : (s : ℕ) (xs ys : List Numbered) → filter (is_packet_of s) (xs ++ ys) ≡ filter (is_packet_of s) xs ++ filter (is_packet_of s) ys
+filter_both s [] ys = refl
+filter_both s (x ∷ xs) ys = go (is_packet_of s x) (filter_both s xs ys)
+  where
+    go : (b : Bool) → filter (is_packet_of s) (xs ++ ys) ≡ filter (is_packet_of s) xs ++ filter (is_packet_of s) ys
+        → cond b (x ∷ filter (is_packet_of s) (xs ++ ys)) (filter (is_packet_of s) (xs ++ ys)) ≡ cond b (x ∷ filter (is_packet_of s) xs) (filter (is_packet_of s) xs) ++ filter (is_packet_of s) ys
+    go true e = ap (λ zs. x ∷ zs) e
+    go false e = e
+
+last_end_of : (prev : Option Numbered) (xs : List Numbered) (a : Numbered) → last_of prev (xs ++ a ∷ []) ≡ Some a
+last_end_of prev [] a = refl
+last_end_of prev (x ∷ xs) a = last_end_of (Some x) xs a
+
+pub last_is : (s : ℕ) (us : List Numbered) (a : Numbered) → IsLastOf s us a → last_of None (filter (is_packet_of s) us) ≡ Some a
+last_is s us a l =
+    let tail : filter (is_packet_of s) (a ∷ l.back) ≡ a ∷ [] = rw (eq-eqb a.packet.source s l.source, none_left s l.back l.others) refl in
+    ap (λ vs. last_of None (filter (is_packet_of s) vs)) l.is
+    ∙ (ap (last_of None) (filter_both s l.front (a ∷ l.back) ∙ ap (λ vs. filter (is_packet_of s) l.front ++ vs) tail) ∙ last_end_of None (filter (is_packet_of s) l.front) a)
+
+pub none_is : (s : ℕ) (us : List Numbered) → ((u : Numbered) → In u us → u.packet.source ≡ s → ⊥) → last_of None (filter (is_packet_of s) us) ≡ None
+none_is s us f = ap (last_of None) (none_left s us f)
+
+-- one more packet, of another source or of this one
+pub last_stays : (s : ℕ) (us : List Numbered) (a b : Numbered) → (b.packet.source ≡ s → ⊥) → IsLastOf s us a → IsLastOf s (us ++ b ∷ []) a
+last_stays s us a b other l = record {
+  front = l.front;
+  back = l.back ++ b ∷ [];
+  is = ap (λ vs. vs ++ b ∷ []) l.is ∙ append_assoc l.front (a ∷ l.back) (b ∷ []);
+  source = l.source;
+  others = λ u i q. elim (in_append u l.back (b ∷ []) i) [ inl j ↦ l.others u j q | inr (inl e) ↦ other (sym (ap (λ (z : Numbered). z.packet.source) e) ∙ q) | inr (inr j) ↦ absurd j ];
+}
+
+pub last_now : (s : ℕ) (us : List Numbered) (b : Numbered) → b.packet.source ≡ s → IsLastOf s (us ++ b ∷ []) b
+last_now s us b q = record { front = us; back = []; is = refl; source = q; others = λ u i e. absurd i }

@@ -1,9 +1,10 @@
 -- What a receiver hears of a source: each text once, and U+FFFD where text may be missing (RFC 4103, section 4 and
 -- Addendum 1; the rule for a marker where many sources share one numbering is a profile).
-use Rattle.std.specs.Prelude.{ℕ, zero, suc, ◌+◌, ◌-◌, ◌==◌, Bool, true, Option, None, Some, List, [], ◌∷◌, ◌++◌, length, filter, ◌&&◌, nat_lt, if◌then◌else◌}
+use Rattle.std.specs.Prelude.{◌≡◌, ℕ, zero, suc, ◌+◌, ◌-◌, ◌==◌, Bool, true, Option, None, Some, List, [], ◌∷◌, ◌++◌, length, filter, ◌&&◌, nat_lt, if◌then◌else◌}
 use Rattle.rtt_base.specs.declared.blocks.TextBlock.{TextBlock}
 use Rattle.rtt_base.specs.Stamps.{is_after}
 use Rattle.wire_spec.specs.Packets.{Arrival, back, has_text}
+use Rattle.stream_spec.specs.Lists.{In}
 use Rattle.stream_spec.specs.Numbering.{Numbered, numbered, used, has_number, first_number}
 
 -- how many of the n numbers from low on are not present
@@ -72,3 +73,38 @@ heard_of first s us = heard_over (has_number us) first None (filter (is_packet_o
 -- what is heard of the source s by these arrivals
 abbrev pub heard : ℕ → List Arrival → ℕ → List (List ℕ)
 heard wait a s = heard_of (first_number 0 (numbered a)) s (used wait (numbered a))
+
+-- ---- packet by packet: what b adds behind used packets of lower numbers
+-- the first number
+abbrev pub first_of : List Numbered → Numbered → ℕ
+first_of [] b = b.number
+first_of (u ∷ us) b = u.number
+
+abbrev pub last_of : Option Numbered → List Numbered → Option Numbered
+last_of prev [] = prev
+last_of prev (u ∷ us) = last_of (Some u) us
+
+-- the packet of b's source before it
+abbrev pub before_it : List Numbered → Numbered → Option Numbered
+before_it us b = last_of None (filter (is_packet_of b.packet.source) us)
+
+-- a is the last of these of the source s
+pub record IsLastOf (s : ℕ) (us : List Numbered) (a : Numbered) : Type 0 where
+  pub front : List Numbered
+  pub back : List Numbered
+  pub is : us ≡ front ++ a ∷ back
+  pub source : a.packet.source ≡ s
+  pub others : (u : Numbered) → In u back → u.packet.source ≡ s → ⊥
+
+-- whether a marker stands before the texts of b
+abbrev pub adds_marker : List Numbered → Numbered → Bool
+adds_marker us b = is_marked (has_number us) (first_of us b) (before_it us b) b
+
+-- the new texts of b
+abbrev pub adds_texts : List Numbered → Numbered → List (List ℕ)
+adds_texts us b = new_texts (before_it us b) b
+
+-- what is heard of the source s by these used packets, in rising number
+abbrev pub heard_by : List Numbered → ℕ → List (List ℕ)
+heard_by [] s = []
+heard_by (u ∷ us) s = heard_of u.number s (u ∷ us)

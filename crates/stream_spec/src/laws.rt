@@ -1,8 +1,9 @@
 //! The laws of a stream: what is heard of a lawful history, whatever packets were lost, repeated, reordered or late.
-ghost use Rattle.std.specs.Prelude.{◌≡◌, ◌<◌, ◌↔◌, ℕ, List, Bool, filter};
+ghost use Rattle.std.specs.Prelude.{◌≡◌, ◌<◌, ◌↔◌, ◌==◌, [], ◌∷◌, ◌++◌, if◌then◌else◌, ℕ, List, Bool, filter};
 ghost use Rattle.wire_spec.specs.Packets.{Arrival, has_text};
 ghost use Rattle.stream_spec.specs.Lists.{In};
-ghost use Rattle.stream_spec.specs.Hearing.{heard};
+ghost use Rattle.stream_spec.specs.Numbering.{Numbered, numbered, used};
+ghost use Rattle.stream_spec.specs.Hearing.{heard, heard_by, adds_marker, adds_texts, marker};
 ghost use Rattle.stream_spec.specs.History.{History, Placed, Lawful, Come, placed, places};
 ghost use Rattle.stream_spec.specs.Kept.{Mark, Block, kept, texts, blocks_in, Rising, ArePlaces, IsCarried, NoGap, Parts, is_text_of};
 
@@ -10,6 +11,14 @@ ghost use Rattle.stream_spec.specs.Kept.{Mark, Block, kept, texts, blocks_in, Ri
 pub fn heard_is_kept()
     ensures places { (wait : ℕ) (h : History) (a : List Arrival) → Come h a → ArePlaces h (places wait h a) }
     ensures heard { (wait : ℕ) (h : History) → Lawful h → (a : List Arrival) → Come h a → (s : ℕ) → heard wait a s ≡ texts (kept h (places wait h a) s) }
+{}
+
+/// What is heard is told by the used packets, and packet by packet: each adds a marker or none, and its new texts, to
+/// what those of lower numbers tell.
+pub fn heard_one_by_one()
+    ensures used { (wait : ℕ) (a : List Arrival) (s : ℕ) → heard wait a s ≡ heard_by (used wait (numbered a)) s }
+    ensures next { (us : List Numbered) (b : Numbered) (s : ℕ) → ((u : Numbered) → In u us → u.number < b.number)
+        → heard_by (us ++ b ∷ []) s ≡ heard_by us s ++ (if b.packet.source == s then (if adds_marker us b then marker ∷ [] else []) ++ adds_texts us b else []) }
 {}
 
 /// The blocks rise, each at most once, and a block is there exactly where one of its carriers came.

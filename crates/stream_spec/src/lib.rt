@@ -3,4 +3,4 @@
 
 mod laws;
 
-pub use laws::{carriers_decide, heard_is_kept, mark_stands, no_gap_no_mark};
+pub use laws::{carriers_decide, heard_is_kept, heard_one_by_one, mark_stands, no_gap_no_mark};
