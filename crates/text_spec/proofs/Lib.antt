@@ -1,3 +1,6 @@
 pub mod Erasing
 pub mod Signs
 pub mod Lines
+pub mod Steps
+pub mod Octets
+pub mod Separators

@@ -6,7 +6,7 @@ use Rattle.std.specs.Fmt.{digits}
 use Rattle.text_spec.specs.Characters.{class_of}
 use Rattle.text_spec.specs.Shown.{shown}
 use Rattle.text_spec.specs.Ends.{ends_line, ends_sentence}
-use Rattle.text_spec.specs.Views.{text_view, counts_line, aware_view, source_view, label}
+use Rattle.text_spec.specs.Views.{text_view, counts_line, aware_view, aware_title, source_view, label}
 
 -- `ab`, three erasures, `c`
 three_erasures : shown (97 ∷ 98 ∷ 8 ∷ 8 ∷ 8 ∷ 99 ∷ []) ≡ record { lines = (99 ∷ []) ∷ []; bells = 0 }
@@ -85,7 +85,7 @@ no_line_end = refl
 -- an aware terminal with one source
 view_of_one_source : aware_view (codes "Bob") (record { name = codes "Cy"; display = shown (codes "yes") } ∷ []) (record { packets = 3; used = 3; refused = 0; foreign = 0 })
     ≡ codes "== Bob aware\nCy: yes\n-- Cy bells 0\n-- packets 3 used 3 refused 0 foreign 0\n"
-unfolding shown class_of chars encode_utf8 digits aware_view source_view counts_line
+unfolding shown class_of chars encode_utf8 digits aware_view aware_title source_view counts_line
 view_of_one_source = refl
 
 label_of_bob : label (codes "Bob") ≡ codes "[Bob] "

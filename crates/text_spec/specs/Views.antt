@@ -31,15 +31,20 @@ unfoldable pub source_view : Source → List ℕ
 source_view s = printed_lines (s.name ++ codes ": ") s.display.lines
     ++ printed_line (codes "-- " ++ s.name ++ codes " bells " ++ decimal s.display.bells)
 
+-- the first line of a terminal's view, which says whether it keeps its sources apart
+unfoldable pub aware_title : List ℕ → List ℕ
+aware_title name = printed_line (codes "== " ++ name ++ codes " aware")
+
+unfoldable pub unaware_title : List ℕ → List ℕ
+unaware_title name = printed_line (codes "== " ++ name ++ codes " unaware")
+
 -- a terminal that keeps its sources apart
 unfoldable pub aware_view : List ℕ → List Source → Counts → List ℕ
-aware_view name sources c = printed_line (codes "== " ++ name ++ codes " aware")
-    ++ flat_map source_view sources
-    ++ counts_line c
+aware_view name sources c = aware_title name ++ flat_map source_view sources ++ counts_line c
 
 -- a terminal that gets one text
 unfoldable pub unaware_view : List ℕ → Display → Counts → List ℕ
-unaware_view name d c = printed_line (codes "== " ++ name ++ codes " unaware") ++ text_view d c
+unaware_view name d c = unaware_title name ++ text_view d c
 
 -- the label before a speaker's text
 unfoldable pub label : List ℕ → List ℕ
