@@ -1,12 +1,12 @@
 -- Lines of octets are the octets of lines; and what is printed of them.
-use Rattle.std.proofs.Common.{◌≡◌, ℕ, zero, suc, ◌+◌, ◌<◌, Bool, true, false, cond, eqb, List, [], ◌∷◌, ◌++◌, map, length, get_or, ◌⊎◌, inl, inr, refl, sym, ap, ◌∙◌, arith, append_assoc, append-nil, encode_utf8_all}
+use Rattle.std.proofs.Common.{◌≡◌, ℕ, suc, ◌<◌, Bool, true, false, cond, eqb, List, [], ◌∷◌, ◌++◌, map, length, get_or, inl, inr, refl, sym, ap, ◌∙◌, arith, append_assoc, append-nil, encode_utf8_all}
 use Rattle.std.proofs.lemmas.Bool.{cases_eq}
 use Rattle.std.proofs.lemmas.Bool.Decides.{nat_tests}
 use Rattle.std.proofs.lemmas.Str.{inside_one, encode_ascii}
 use Rattle.std.specs.Char.{encode_utf8}
 use Rattle.std.specs.List.{flat_map, join_with_byte}
 use Rattle.text_spec.specs.Shown.{lines_of, in_first_line}
-use Rattle.text_spec.specs.Views.{printed_lines, printed_line}
+use Rattle.text_spec.specs.Views.{printed_lines}
 
 -- octets before the first line
 abbrev before_first : List ℕ → List (List ℕ) → List (List ℕ)
@@ -58,7 +58,7 @@ lines_of-encode (c ∷ cs) = elim (cases_eq c 0x0A) [
   | inr other ↦
       let e : eqb c 0x0A ≡ false = other_code c 0x0A other in
       rw e (lines_of-append (encode_utf8 c) (encode_utf8_all cs) (no_lf_inside c other)
-          ∙ (ap (before_first (encode_utf8 c)) (lines_of-encode cs) ∙ sym (encoded_in_first c (lines_of cs))))
+      ∙ (ap (before_first (encode_utf8 c)) (lines_of-encode cs) ∙ sym (encoded_in_first c (lines_of cs))))
 ]
 
 -- the lines with LF between each two

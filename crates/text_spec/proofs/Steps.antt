@@ -1,11 +1,11 @@
 -- One more character: what it does to what stands, by its class.
-use Rattle.std.proofs.Common.{◌≡◌, ℕ, ◌+◌, Bool, true, false, ◌||◌, ◌&&◌, cond, eqb, List, [], ◌∷◌, ◌++◌, length, refl, sym, ap, ◌∙◌, arith, length-append, append-nil, nat_lt, ◌≤◌, filter}
+use Rattle.std.proofs.Common.{◌≡◌, ℕ, ◌+◌, Bool, true, false, ◌||◌, ◌&&◌, cond, eqb, List, [], ◌∷◌, ◌++◌, length, refl, ap, ◌∙◌, arith, length-append, ◌≤◌, filter}
 use Rattle.std.proofs.lemmas.List.Elements.{filter-append}
 use Rattle.std.proofs.lemmas.Bool.Decides.{nat_tests}
 use Rattle.text_spec.specs.declared.classes.CharClass.{CharClass}
 use Rattle.text_spec.specs.declared.classes.CharClass.TheVariants.{Erase, Bell, NewLine, Silent, Print}
-use Rattle.text_spec.specs.Characters.{class_of, is_new_line, is_silent, is_bell}
-use Rattle.text_spec.specs.Shown.{begins_with_lf, signs, ends_with_cr, survivors, without_last, bells}
+use Rattle.text_spec.specs.Characters.{class_of, is_new_line, is_bell}
+use Rattle.text_spec.specs.Shown.{signs, ends_with_cr, survivors, without_last, bells}
 use Rattle.text_spec.proofs.Erasing.{erased, appended, passed}
 use Rattle.text_spec.proofs.Signs.{signs-append, signs-cr_lf}
 
