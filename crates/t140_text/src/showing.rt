@@ -17,7 +17,7 @@ pub struct Shown {
     pub bells: u64,
 }
 
-/// What a text in UTF-8 shows (T.140). It reads the text once.
+/// What a text in UTF-8 shows (T.140), in time linear in the text.
 pub fn show(alloc: Global, text: &[u8]) -> Result<Shown, NoMemory>
     requires { IsUtf8 text.now }
     ensures lines { IfOk result (λ display. display.lines ≡ (shown text.now).lines) }

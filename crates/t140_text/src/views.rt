@@ -12,7 +12,8 @@ use rtt_base::{Bytes, NoMemory};
 pub fn append_aware_title(name: &[u8], out: &mut Bytes) -> Result<(), NoMemory>
     ensures { OnOk result (out.new ≡ out.old ++ aware_title name.now) }
 {
-    append_both(b"== ", name, out)?;
+    out.append(b"== ")?;
+    out.append(name)?;
     out.append(b" aware\n")
 }
 
@@ -21,7 +22,8 @@ pub fn append_aware_title(name: &[u8], out: &mut Bytes) -> Result<(), NoMemory>
 pub fn append_unaware_title(name: &[u8], out: &mut Bytes) -> Result<(), NoMemory>
     ensures { OnOk result (out.new ≡ out.old ++ unaware_title name.now) }
 {
-    append_both(b"== ", name, out)?;
+    out.append(b"== ")?;
+    out.append(name)?;
     out.append(b" unaware\n")
 }
 
@@ -74,19 +76,11 @@ fn append_number(words: &[u8], number: u64, out: &mut Bytes) -> Result<(), NoMem
 fn append_lines(name: &[u8], mark: &[u8], lines: &Lines, out: &mut Bytes) -> Result<(), NoMemory>
     ensures { OnOk result (out.new ≡ out.old ++ printed_lines (name.now ++ mark.now) lines.now) }
 {
-    append_both(name, mark, out)?;
-    for octet in lines.joined().as_bytes() {
-        out.push(*octet)?;
-        if *octet == b'\n' {
-            append_both(name, mark, out)?;
-        }
+    for line in lines.joined().split('\n') {
+        out.append(name)?;
+        out.append(mark)?;
+        out.append(line.as_bytes())?;
+        out.push(b'\n')?;
     }
-    out.push(b'\n')
-}
-
-fn append_both(first: &[u8], second: &[u8], out: &mut Bytes) -> Result<(), NoMemory>
-    ensures { OnOk result (out.new ≡ out.old ++ (first.now ++ second.now)) }
-{
-    out.append(first)?;
-    out.append(second)
+    Ok(())
 }

@@ -1,6 +1,6 @@
 -- The lines of what is shown: plain texts, and how long they are.
 use Rattle.std.proofs.Common.{◌≡◌, ℕ, ◌+◌, ◌<◌, ◌≤◌, Bool, true, false, ◌||◌, ◌&&◌, not, cond, eqb, List, [], ◌∷◌, ◌++◌, map, length, refl, sym, ap, ap₂, subst, ◌∙◌, arith, length-append, encode_utf8_all, IsUtf8}
-use Rattle.std.specs.List.{list_all, concat}
+use Rattle.std.specs.List.{list_all, concat, onto_first}
 use Rattle.std.proofs.lemmas.List.{length-map}
 use Rattle.std.proofs.lemmas.Bool.{and_parts}
 use Rattle.std.proofs.lemmas.Str.{encodes-chars, length-encode, len_utf8_bounds}
@@ -9,7 +9,7 @@ use Rattle.std.specs.Str.{chars}
 use Rattle.text_spec.specs.declared.classes.CharClass.{CharClass}
 use Rattle.text_spec.specs.declared.classes.CharClass.TheVariants.{Erase, Bell, NewLine, Silent, Print}
 use Rattle.text_spec.specs.Characters.{class_of, is_new_line, is_erasable, is_bell, is_print, is_silent}
-use Rattle.text_spec.specs.Shown.{begins_with_lf, signs, survivors, takes_back, lines_of, in_first_line, shown, bells, Display}
+use Rattle.text_spec.specs.Shown.{begins_with_lf, signs, survivors, takes_back, lines_of, shown, bells, Display}
 use Rattle.text_spec.proofs.Erasing.{Stands, reach, survivors_with, reach_stands}
 
 -- how many octets lie on the lines
@@ -17,7 +17,7 @@ abbrev pub octets : List (List ℕ) → ℕ
 octets [] = 0
 octets (line ∷ lines) = length (encode_utf8_all line) + octets lines
 
-octets_in_first : (c : ℕ) (lines : List (List ℕ)) → octets (in_first_line c lines) ≡ length (encode_utf8 c) + octets lines
+octets_in_first : (c : ℕ) (lines : List (List ℕ)) → octets (onto_first c lines) ≡ length (encode_utf8 c) + octets lines
 octets_in_first c [] = omega (arith, length-append (encode_utf8 c) [])
 octets_in_first c (line ∷ lines) = omega (arith, length-append (encode_utf8 c) (encode_utf8_all line))
 
@@ -27,7 +27,7 @@ octets_lines (c ∷ cs) =
     let longer = length-append (encode_utf8 c) (encode_utf8_all cs) in
     go (eqb c 0x0A) longer (octets_lines cs)
   where
-    go : (b : Bool) → length (encode_utf8 c ++ encode_utf8_all cs) ≡ length (encode_utf8 c) + length (encode_utf8_all cs) → octets (lines_of cs) ≤ length (encode_utf8_all cs) → octets (cond b ([] ∷ lines_of cs) (in_first_line c (lines_of cs))) ≤ length (encode_utf8 c ++ encode_utf8_all cs)
+    go : (b : Bool) → length (encode_utf8 c ++ encode_utf8_all cs) ≡ length (encode_utf8 c) + length (encode_utf8_all cs) → octets (lines_of cs) ≤ length (encode_utf8_all cs) → octets (cond b ([] ∷ lines_of cs) (onto_first c (lines_of cs))) ≤ length (encode_utf8 c ++ encode_utf8_all cs)
     go true longer again = omega arith
     go false longer again = omega (arith, octets_in_first c (lines_of cs))
 
@@ -170,7 +170,7 @@ unfolding shown chars
 shown_nothing = refl
 
 -- there is a line
-some_in_first : (c : ℕ) (lines : List (List ℕ)) → 0 < length (in_first_line c lines)
+some_in_first : (c : ℕ) (lines : List (List ℕ)) → 0 < length (onto_first c lines)
 some_in_first c [] = omega arith
 some_in_first c (line ∷ lines) = omega arith
 
@@ -178,7 +178,7 @@ some_line : (cs : List ℕ) → 0 < length (lines_of cs)
 some_line [] = omega arith
 some_line (c ∷ cs) = go (eqb c 0x0A)
   where
-    go : (b : Bool) → 0 < length (cond b ([] ∷ lines_of cs) (in_first_line c (lines_of cs)))
+    go : (b : Bool) → 0 < length (cond b ([] ∷ lines_of cs) (onto_first c (lines_of cs)))
     go true = omega arith
     go false = some_in_first c (lines_of cs)
 

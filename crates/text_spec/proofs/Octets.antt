@@ -1,19 +1,18 @@
--- Lines of octets are the octets of lines; and what is printed of them.
-use Rattle.std.proofs.Common.{◌≡◌, ℕ, suc, ◌<◌, Bool, true, false, cond, eqb, List, [], ◌∷◌, ◌++◌, map, length, get_or, inl, inr, refl, sym, ap, ◌∙◌, arith, append_assoc, append-nil, encode_utf8_all}
+-- Lines of octets are the octets of lines.
+use Rattle.std.proofs.Common.{◌≡◌, ℕ, suc, ◌<◌, Bool, true, false, cond, eqb, List, [], ◌∷◌, ◌++◌, map, length, get_or, inl, inr, refl, sym, ap, ◌∙◌, arith, append-nil, encode_utf8_all}
 use Rattle.std.proofs.lemmas.Bool.{cases_eq}
 use Rattle.std.proofs.lemmas.Bool.Decides.{nat_tests}
 use Rattle.std.proofs.lemmas.Str.{inside_one, encode_ascii}
 use Rattle.std.specs.Char.{encode_utf8}
-use Rattle.std.specs.List.{flat_map, join_with_byte}
-use Rattle.text_spec.specs.Shown.{lines_of, in_first_line}
-use Rattle.text_spec.specs.Views.{printed_lines}
+use Rattle.std.specs.List.{onto_first}
+use Rattle.text_spec.specs.Shown.{lines_of}
 
 -- octets before the first line
 abbrev before_first : List ℕ → List (List ℕ) → List (List ℕ)
 before_first xs [] = xs ∷ []
 before_first xs (line ∷ lines) = (xs ++ line) ∷ lines
 
-in_first-before_first : (x : ℕ) (xs : List ℕ) (lines : List (List ℕ)) → in_first_line x (before_first xs lines) ≡ before_first (x ∷ xs) lines
+in_first-before_first : (x : ℕ) (xs : List ℕ) (lines : List (List ℕ)) → onto_first x (before_first xs lines) ≡ before_first (x ∷ xs) lines
 in_first-before_first x xs [] = refl
 in_first-before_first x xs (line ∷ lines) = refl
 
@@ -25,7 +24,7 @@ some_line : (cs : List ℕ) → (line : List ℕ) × (lines : List (List ℕ)) �
 some_line [] = ([], [], refl)
 some_line (c ∷ cs) = go (eqb c 0x0A) (lines_of cs)
   where
-    go : (b : Bool) (rest : List (List ℕ)) → (line : List ℕ) × (lines : List (List ℕ)) × (cond b ([] ∷ rest) (in_first_line c rest) ≡ line ∷ lines)
+    go : (b : Bool) (rest : List (List ℕ)) → (line : List ℕ) × (lines : List (List ℕ)) × (cond b ([] ∷ rest) (onto_first c rest) ≡ line ∷ lines)
     go true rest = ([], rest, refl)
     go false [] = (c ∷ [], [], refl)
     go false (line ∷ lines) = (c ∷ line, lines, refl)
@@ -38,9 +37,9 @@ lines_of-append : (xs ys : List ℕ) → ((k : ℕ) → k < length xs → get_or
 lines_of-append [] ys h = before_none (lines_of ys) (some_line ys)
 lines_of-append (x ∷ xs) ys h =
     let other : eqb x 0x0A ≡ false = other_code x 0x0A (h 0 (omega arith)) in
-    rw other (ap (in_first_line x) (lines_of-append xs ys (λ k below. h (suc k) (omega arith))) ∙ in_first-before_first x xs (lines_of ys))
+    rw other (ap (onto_first x) (lines_of-append xs ys (λ k below. h (suc k) (omega arith))) ∙ in_first-before_first x xs (lines_of ys))
 
-encoded_in_first : (c : ℕ) (lines : List (List ℕ)) → map encode_utf8_all (in_first_line c lines) ≡ before_first (encode_utf8 c) (map encode_utf8_all lines)
+encoded_in_first : (c : ℕ) (lines : List (List ℕ)) → map encode_utf8_all (onto_first c lines) ≡ before_first (encode_utf8 c) (map encode_utf8_all lines)
 encoded_in_first c [] = ap (λ l. l ∷ []) (append-nil (encode_utf8 c))
 encoded_in_first c (line ∷ lines) = refl
 
@@ -60,52 +59,3 @@ lines_of-encode (c ∷ cs) = elim (cases_eq c 0x0A) [
       rw e (lines_of-append (encode_utf8 c) (encode_utf8_all cs) (no_lf_inside c other)
       ∙ (ap (before_first (encode_utf8 c)) (lines_of-encode cs) ∙ sym (encoded_in_first c (lines_of cs))))
 ]
-
--- the lines with LF between each two
-joined_in_first : (c : ℕ) (lines : List (List ℕ)) → join_with_byte 0x0A (in_first_line c lines) ≡ c ∷ join_with_byte 0x0A lines
-joined_in_first c [] = refl
-joined_in_first c (line ∷ []) = refl
-joined_in_first c (line ∷ next ∷ lines) = refl
-
-joined_empty : (lines : List (List ℕ)) → (line : List ℕ) × (more : List (List ℕ)) × (lines ≡ line ∷ more) → join_with_byte 0x0A ([] ∷ lines) ≡ 0x0A ∷ join_with_byte 0x0A lines
-joined_empty [] h = absurd (let e : [] ≡ h.0 ∷ h.1 = h.2 in cc)
-joined_empty (line ∷ lines) h = refl
-
-pub joined-lines_of : (cs : List ℕ) → join_with_byte 0x0A (lines_of cs) ≡ cs
-joined-lines_of [] = refl
-joined-lines_of (c ∷ cs) = elim (cases_eq c 0x0A) [
-  | inl same ↦ rw same (joined_empty (lines_of cs) (some_line cs) ∙ ap (λ l. 0x0A ∷ l) (joined-lines_of cs))
-  | inr other ↦
-      let e : eqb c 0x0A ≡ false = other_code c 0x0A other in
-      rw e (joined_in_first c (lines_of cs) ∙ ap (λ l. c ∷ l) (joined-lines_of cs))
-]
-
--- the octets with the words before a line behind each LF
-abbrev pub spread : List ℕ → List ℕ → List ℕ
-spread before cs = flat_map (λ c. cond (eqb c 0x0A) (0x0A ∷ before) (c ∷ [])) cs
-
--- what is printed, less the words before the first line
-abbrev after_first : List ℕ → List (List ℕ) → List ℕ
-after_first before [] = []
-after_first before (line ∷ lines) = line ++ (0x0A ∷ printed_lines before lines)
-
-after_in_first : (before : List ℕ) (c : ℕ) (lines : List (List ℕ)) → (line : List ℕ) × (more : List (List ℕ)) × (lines ≡ line ∷ more) → after_first before (in_first_line c lines) ≡ c ∷ after_first before lines
-after_in_first before c [] h = absurd (let e : [] ≡ h.0 ∷ h.1 = h.2 in cc)
-after_in_first before c (line ∷ lines) h = refl
-
-printed_some : (before : List ℕ) (lines : List (List ℕ)) → (line : List ℕ) × (more : List (List ℕ)) × (lines ≡ line ∷ more) → printed_lines before lines ≡ before ++ after_first before lines
-printed_some before [] h = absurd (let e : [] ≡ h.0 ∷ h.1 = h.2 in cc)
-printed_some before (line ∷ lines) h = append_assoc (before ++ line) (0x0A ∷ []) (printed_lines before lines) ∙ append_assoc before line (0x0A ∷ printed_lines before lines)
-
-after_spread : (before cs : List ℕ) → after_first before (lines_of cs) ≡ spread before cs ++ 0x0A ∷ []
-after_spread before [] = refl
-after_spread before (c ∷ cs) = elim (cases_eq c 0x0A) [
-  | inl same ↦ rw same (
-      ap (λ l. 0x0A ∷ l) (printed_some before (lines_of cs) (some_line cs) ∙ (ap (λ l. before ++ l) (after_spread before cs) ∙ sym (append_assoc before _ _))))
-  | inr other ↦
-      let e : eqb c 0x0A ≡ false = other_code c 0x0A other in
-      rw e (after_in_first before c (lines_of cs) (some_line cs) ∙ ap (λ l. c ∷ l) (after_spread before cs))
-]
-
-pub printed_spread : (before cs : List ℕ) → printed_lines before (lines_of cs) ≡ before ++ (spread before cs ++ 0x0A ∷ [])
-printed_spread before cs = printed_some before (lines_of cs) (some_line cs) ∙ ap (λ l. before ++ l) (after_spread before cs)

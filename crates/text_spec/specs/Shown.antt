@@ -1,6 +1,6 @@
 -- How a text is shown (T.140, section 8; what an erasure takes back is this profile's choice).
 use Rattle.std.specs.Prelude.{ℕ, Bool, false, ◌&&◌, not, nat_lt, ◌==◌, if◌then◌else◌, List, [], ◌∷◌, map, length, filter, chars, encode_utf8_all}
-use Rattle.std.specs.List.{list_any}
+use Rattle.std.specs.List.{list_any, slice_split}
 use Rattle.text_spec.specs.Characters.{class_of, is_new_line, is_erasure, is_erasable, is_bell}
 
 -- whether an LF comes first
@@ -41,15 +41,9 @@ survivors [] = []
 survivors (c ∷ cs) =
     if is_erasable (class_of c) && not (takes_back cs) then c ∷ survivors cs else survivors cs
 
--- c in front of the first line
-abbrev pub in_first_line : ℕ → List (List ℕ) → List (List ℕ)
-in_first_line c [] = (c ∷ []) ∷ []
-in_first_line c (line ∷ lines) = (c ∷ line) ∷ lines
-
 -- the lines between the LFs, one more than there are LFs
 abbrev pub lines_of : List ℕ → List (List ℕ)
-lines_of [] = [] ∷ []
-lines_of (c ∷ cs) = if c == 0x0A then [] ∷ lines_of cs else in_first_line c (lines_of cs)
+lines_of cs = slice_split (λ c. c == 0x0A) cs
 
 -- what a text in UTF-8 shows: its lines, each in UTF-8, and how often it rings
 pub record Display : Type 0 where

@@ -1,11 +1,11 @@
-use Rattle.std.proofs.Common.{◌++◌, ap, ◌∙◌}
-use Rattle.std.proofs.lemmas.Result.{on_ok_weaker}
-use Rattle.text_spec.specs.Shown.{lines_of}
-use Rattle.t140_text.proofs.Printed.{whole_lines}
+use Rattle.std.proofs.Common.{◌++◌, ap, ◌∙◌, lit<}
+use Rattle.std.proofs.lemmas.Iterator.Consumers.{YieldsList-end}
+use Rattle.std.proofs.lemmas.Iterator.Splits.{YieldsList-from_str_split}
+use Rattle.text_spec.specs.Views.{printed_lines}
 use Rattle.t140_text.proofs.views.append_lines.Goals as goal
 
 pub returns : goal.returns
-returns c = on_ok_weaker c.push-2.result
-    (whole_lines c.args.out.now c.loop-octet.out c.push-2.new.self (c.args.name.now ++ c.args.mark.now) c.as_bytes-octet-items.result.now c.args.lines.now c.loop-octet.octet-index
-    c.loop-octet.invariant c.loop-octet-test.false (ap lines_of c.as_bytes-octet-items.ensures.value ∙ c.joined.ensures.lines))
-    c.push-2.ensures.ok
+returns c =
+    let lines = YieldsList-from_str_split 0x0A c.joined.result.now (lit< tt) (cc) (cc) (cc) in
+    let end = YieldsList-end lines c.loop-line.yielded _ c.loop-line.yielded_by _ _ c.in-None.is c.next.ensures.steps in
+    c.loop-line.invariant ∙ ap (λ ls. c.args.out.now ++ printed_lines (c.args.name.now ++ c.args.mark.now) ls) (end.0 ∙ c.joined.ensures.lines)

@@ -1,6 +1,6 @@
-use Rattle.std.proofs.Common.{◌≡◌, ◌++◌, take}
-use Rattle.text_spec.proofs.Octets.{spread}
+use Rattle.std.proofs.Common.{◌≡◌, ◌++◌, map}
+use Rattle.text_spec.specs.Views.{printed_lines}
 use Rattle.t140_text.proofs.views.append_lines.Given as goal
 
-abbrev pub invariant-loop-octet : goal.invariant-loop-octet
-invariant-loop-octet l = l.out ≡ l.fn.out ++ ((l.name ++ l.mark) ++ spread (l.name ++ l.mark) (take l.octet-index l.octet-items))
+abbrev pub invariant-loop-line : goal.invariant-loop-line
+invariant-loop-line l = l.out ≡ l.fn.out ++ printed_lines (l.name ++ l.mark) (map (λ line. line.now) l.yielded)
