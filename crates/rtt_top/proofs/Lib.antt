@@ -1,3 +1,6 @@
 pub mod Numerals
 pub mod Counts
 mod Examples
+pub mod Erasing
+pub mod Rising
+pub mod Utf8
