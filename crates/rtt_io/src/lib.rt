@@ -7,14 +7,20 @@ mod mem_sinks;
 mod mem_sources;
 mod mem_worlds;
 mod reads;
+mod real;
 mod sinks;
 mod sources;
+mod streams;
 mod worlds;
 
 pub use gates::{Gate, StillGate};
 pub use mem_sinks::{FailingWrite, MemSink};
 pub use mem_sources::{MemSource, SteadySource};
 pub use mem_worlds::{FailingCall, MemWorld};
+pub use real::{FileSink, FileSource, RealWorld, StandardError, StandardOutput, StreamSink};
 pub use sinks::Sink;
 pub use sources::Source;
 pub use worlds::World;
+
+#[cfg(test)]
+mod tests;

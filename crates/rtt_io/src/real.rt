@@ -1,0 +1,205 @@
+//! The real outside: files and the standard streams.
+ghost use Rattle.std.specs.Prelude.{◌≡◌, [], None, IfSome};
+
+use crate::streams::{read_once, write_whole};
+use crate::{Sink, Source, World};
+use rtt_base::{Failed, Path};
+use std::alloc::Global;
+use std::fs;
+use std::fs::File;
+use std::io::{Stderr, Stdout, Write};
+use std::rt::Files;
+
+/// A file that is read.
+#[derive(Drop)]
+pub struct FileSource {
+    file: File,
+    name: Path,
+    faults: u64,
+}
+
+impl Source for FileSource {
+    ghost tells = { ⊥ };
+
+    ghost left = { λ _. [] };
+
+    ghost faults = { λ source. source.faults };
+
+    ghost name = { λ source. source.name };
+
+    fn read(&mut self, buf: &mut [u8]) -> Result<usize, Failed> {
+        match read_once(&mut self.file, buf) {
+            Ok(number) => Ok(number),
+            Err(failed) => {
+                self.faults = self.faults.saturating_add(1);
+                Err(failed)
+            }
+        }
+    }
+}
+
+/// A file that is written.
+#[derive(Drop)]
+pub struct FileSink {
+    file: File,
+    name: Path,
+    faults: u64,
+}
+
+impl Sink for FileSink {
+    ghost tells = { ⊥ };
+
+    ghost took = { λ _. [] };
+
+    ghost faults = { λ sink. sink.faults };
+
+    ghost name = { λ sink. sink.name };
+
+    fn write_all(&mut self, bytes: &[u8]) -> Result<(), Failed> {
+        match write_whole(&mut self.file, bytes) {
+            Ok(()) => Ok(()),
+            Err(failed) => {
+                self.faults = self.faults.saturating_add(1);
+                Err(failed)
+            }
+        }
+    }
+}
+
+/// A stream that is written. It has the empty name.
+#[derive(Drop)]
+pub struct StreamSink<W> {
+    stream: W,
+    faults: u64,
+}
+
+/// The standard output.
+pub type StandardOutput = StreamSink<Stdout>;
+
+/// The standard error.
+pub type StandardError = StreamSink<Stderr>;
+
+impl<W> StreamSink<W> {
+    /// A stream that did not fail yet.
+    pub fn new(stream: W) -> StreamSink<W>
+        ensures { result.faults ≡ 0 }
+    {
+        StreamSink { stream, faults: 0 }
+    }
+}
+
+impl<W: Write> Sink for StreamSink<W> {
+    ghost tells = { ⊥ };
+
+    ghost took = { λ _. [] };
+
+    ghost faults = { λ sink. sink.faults };
+
+    ghost name = { λ _. [] };
+
+    fn write_all(&mut self, bytes: &[u8]) -> Result<(), Failed> {
+        match write_whole(&mut self.stream, bytes) {
+            Ok(()) => Ok(()),
+            Err(failed) => {
+                self.faults = self.faults.saturating_add(1);
+                Err(failed)
+            }
+        }
+    }
+}
+
+/// The files of the system. One number of each kind counts the faults of all names.
+#[derive(Drop)]
+pub struct RealWorld<R> {
+    rt: R,
+    alloc: Global,
+    own_faults: u64,
+    object_faults: u64,
+}
+
+impl<R> RealWorld<R> {
+    /// The files of this runtime. It takes no memory.
+    pub fn new(rt: R, alloc: Global) -> RealWorld<R>
+        ensures fresh { result.own_faults ≡ 0 }
+        ensures fresh_objects { result.object_faults ≡ 0 }
+    {
+        RealWorld {
+            rt,
+            alloc,
+            own_faults: 0,
+            object_faults: 0,
+        }
+    }
+}
+
+impl<R: Files<File = File>> RealWorld<R> {
+    // The file of a name, open for reading, where the system opens it.
+    fn source(&self, name: &str) -> Option<FileSource>
+        ensures named { IfSome result (λ source. source.name ≡ name.now) }
+        ensures fresh { IfSome result (λ source. source.faults ≡ 0) }
+    {
+        let path = Path::from_text(self.alloc, name).ok()?;
+        let file = fs::open(&self.rt, name).ok()?;
+        Some(FileSource {
+            file,
+            name: path,
+            faults: 0,
+        })
+    }
+
+    // The file of a name, made anew, where the system makes it.
+    fn sink(&self, name: &str) -> Option<FileSink>
+        ensures named { IfSome result (λ sink. sink.name ≡ name.now) }
+        ensures fresh { IfSome result (λ sink. sink.faults ≡ 0) }
+    {
+        let path = Path::from_text(self.alloc, name).ok()?;
+        let file = fs::create(&self.rt, name).ok()?;
+        Some(FileSink {
+            file,
+            name: path,
+            faults: 0,
+        })
+    }
+}
+
+impl<R: Files<File = File>> World for RealWorld<R> {
+    type Src = FileSource;
+
+    type Dst = FileSink;
+
+    ghost tells = { ⊥ };
+
+    ghost contents = { λ _ _. None };
+
+    ghost own_faults = { λ world _. world.own_faults };
+
+    ghost object_faults = { λ world _. world.object_faults };
+
+    fn open_source(&mut self, name: &str) -> Result<FileSource, Failed> {
+        match self.source(name) {
+            Some(source) => Ok(source),
+            None => {
+                self.own_faults = self.own_faults.saturating_add(1);
+                Err(Failed)
+            }
+        }
+    }
+
+    fn create_sink(&mut self, name: &str) -> Result<FileSink, Failed> {
+        match self.sink(name) {
+            Some(sink) => Ok(sink),
+            None => {
+                self.own_faults = self.own_faults.saturating_add(1);
+                Err(Failed)
+            }
+        }
+    }
+
+    fn done_src(&mut self, source: FileSource) {
+        self.object_faults = self.object_faults.saturating_add(source.faults);
+    }
+
+    fn done_dst(&mut self, sink: FileSink) {
+        self.object_faults = self.object_faults.saturating_add(sink.faults);
+    }
+}

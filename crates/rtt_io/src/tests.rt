@@ -1,0 +1,166 @@
+use crate::{
+    FailingCall, FailingWrite, MemSink, MemSource, MemWorld, RealWorld, Sink, Source, SteadySource,
+    StreamSink, World,
+};
+use rtt_base::{Bytes, Path};
+use std::io::{ErrorKind, Write};
+use std::test::Fail;
+
+fn holds(world: &MemWorld, name: &str, octets: &[u8]) -> bool {
+    match world.contents(name) {
+        Some(stored) => stored == octets,
+        None => false,
+    }
+}
+
+#[test]
+fn a_source_in_memory_fails_where_it_is_told_and_goes_on(rt: HostRuntime) -> Result<(), Fail> {
+    let mut octets = Bytes::new(rt.alloc());
+    octets.append(b"abcdefg")?;
+    let name = Path::from_text(rt.alloc(), "a.in")?;
+    let mut source = MemSource::new(rt.alloc(), name, octets);
+    source.set_step(3);
+    source.fail_at(2)?;
+    let mut buf = [0; 16];
+    assert_eq!(rt; source.read(&mut buf)?, 3);
+    assert!(rt; source.read(&mut buf).is_err());
+    assert_eq!(rt; source.read(&mut buf)?, 3);
+    assert_eq!(rt; buf[..3], b"def"[..]);
+    assert_eq!(rt; source.read(&mut buf)?, 1);
+    assert_eq!(rt; buf[0], b'g');
+    assert_eq!(rt; source.read(&mut buf)?, 0);
+    Ok(())
+}
+
+#[test]
+fn a_steady_source_answers_to_its_end(rt: HostRuntime) -> Result<(), Fail> {
+    let mut octets = Bytes::new(rt.alloc());
+    octets.append(b"abc")?;
+    let mut source = SteadySource::new(octets);
+    source.set_step(2);
+    let mut buf = [0; 2];
+    assert_eq!(rt; source.read(&mut buf)?, 2);
+    assert_eq!(rt; source.read(&mut buf)?, 1);
+    assert_eq!(rt; buf[0], b'c');
+    assert_eq!(rt; source.read(&mut buf)?, 0);
+    Ok(())
+}
+
+#[test]
+fn a_sink_in_memory_takes_a_part_of_a_failing_write(rt: HostRuntime) -> Result<(), Fail> {
+    let mut sink = MemSink::new(rt.alloc(), Path::from_text(rt.alloc(), "a.out")?);
+    sink.fail_at(FailingWrite {
+        write: 2,
+        through: 1,
+    })?;
+    sink.write_all(b"ab")?;
+    assert!(rt; sink.write_all(b"cd").is_err());
+    sink.write_all(b"ef")?;
+    assert_eq!(rt; sink.taken(), b"abcef".as_slice());
+    Ok(())
+}
+
+#[test]
+fn a_world_in_memory_keeps_its_files(rt: HostRuntime) -> Result<(), Fail> {
+    let mut world = MemWorld::new(rt.alloc());
+    world.add_file("a.in", b"one")?;
+    world.add_file("b.in", b"two")?;
+    world.add_file("a.in", b"three")?;
+    assert!(rt; world.open_source("c.in").is_err());
+    let mut source = world.open_source("a.in")?;
+    let mut sink = world.create_sink("a.out")?;
+    assert!(rt; holds(&world, "a.out", b""));
+    let mut buf = [0; 16];
+    let number = source.read(&mut buf)?;
+    if number <= buf.len() {
+        sink.write_all(&buf[..number])?;
+    }
+    world.done_src(source);
+    world.done_dst(sink);
+    assert!(rt; holds(&world, "a.out", b"three"));
+    assert!(rt; holds(&world, "b.in", b"two"));
+    assert!(rt; world.contents("c.in").is_none());
+    Ok(())
+}
+
+#[test]
+fn each_kind_of_call_fails_in_a_world_that_says_so(rt: HostRuntime) -> Result<(), Fail> {
+    let mut world = MemWorld::new(rt.alloc());
+    world.add_file("a", b"abc")?;
+    world.add_file("b", b"abc")?;
+    world.fail(FailingCall::Open(Path::from_text(rt.alloc(), "b")?))?;
+    world.fail(FailingCall::Read(Path::from_text(rt.alloc(), "a")?, 1))?;
+    world.fail(FailingCall::Create(Path::from_text(rt.alloc(), "b")?))?;
+    let write = FailingWrite {
+        write: 1,
+        through: 2,
+    };
+    world.fail(FailingCall::Write(Path::from_text(rt.alloc(), "a")?, write))?;
+    assert!(rt; world.open_source("b").is_err());
+    assert!(rt; world.create_sink("b").is_err());
+    assert!(rt; holds(&world, "b", b"abc"));
+    let mut source = world.open_source("a")?;
+    let mut buf = [0; 4];
+    assert!(rt; source.read(&mut buf).is_err());
+    assert_eq!(rt; source.read(&mut buf)?, 3);
+    let mut sink = world.create_sink("a")?;
+    assert!(rt; sink.write_all(b"xyz").is_err());
+    world.done_src(source);
+    world.done_dst(sink);
+    assert!(rt; holds(&world, "a", b"xy"));
+    Ok(())
+}
+
+// Takes two octets a write, is broken off once, and takes nothing any more after five octets.
+#[derive(Drop)]
+struct Narrow {
+    taken: usize,
+    broken: bool,
+}
+
+impl Write for Narrow {
+    fn write(&mut self, buf: &[u8]) -> std::io::Result<usize> {
+        if !self.broken {
+            self.broken = true;
+            return Err(ErrorKind::Interrupted.into());
+        }
+        let number = buf.len().min(2).min(5usize.saturating_sub(self.taken));
+        self.taken = self.taken.saturating_add(number);
+        Ok(number)
+    }
+
+    fn flush(&mut self) -> std::io::Result<()> {
+        Ok(())
+    }
+}
+
+#[test]
+fn a_stream_that_takes_nothing_any_more_fails(rt: HostRuntime) -> Result<(), Fail> {
+    let mut sink = StreamSink::new(Narrow {
+        taken: 0,
+        broken: false,
+    });
+    sink.write_all(b"abc")?;
+    sink.write_all(b"")?;
+    assert!(rt; sink.write_all(b"def").is_err());
+    sink.write_all(b"")?;
+    Ok(())
+}
+
+#[test]
+fn a_real_file_is_written_and_read_back(rt: HostRuntime) -> Result<(), Fail> {
+    let mut world = RealWorld::new(rt, rt.alloc());
+    let mut sink = world.create_sink("rtt_io_test_file")?;
+    sink.write_all(b"one ")?;
+    sink.write_all(b"two")?;
+    world.done_dst(sink);
+    let mut source = world.open_source("rtt_io_test_file")?;
+    let mut buf = [0; 16];
+    assert_eq!(rt; source.read(&mut buf)?, 7);
+    assert_eq!(rt; buf[..7], b"one two"[..]);
+    assert_eq!(rt; source.read(&mut buf)?, 0);
+    world.done_src(source);
+    assert!(rt; world.open_source("rtt_io_no_such_file").is_err());
+    std::fs::remove_file(&rt, "rtt_io_test_file")?;
+    Ok(())
+}
