@@ -10,9 +10,9 @@ use Rattle.wire_spec.specs.declared.faults.TextFault.{TextFault}
 use Rattle.wire_spec.specs.declared.faults.TextFault.TheVariants.{Short, Version, Padding, Sources, WrongType, Cut, Many, NotText, Foreign}
 use Rattle.wire_spec.specs.declared.faults.DumpKind.{DumpKind}
 use Rattle.wire_spec.specs.declared.faults.DumpKind.TheVariants.{NotDump, EndsInside, TooLong, TooLarge}
-use Rattle.wire_spec.specs.Packets.{Packet, Arrival}
+use Rattle.wire_spec.specs.Packets.{Packet, Arrival, primary}
 use Rattle.wire_spec.specs.Rtp.{Head, rtp, rtp_of_header, rtp_written}
-use Rattle.wire_spec.specs.Red.{primary, headers_at, texts_at, red, red_written}
+use Rattle.wire_spec.specs.Red.{headers_at, texts_at, red, red_written}
 use Rattle.wire_spec.specs.Text.{text_of_short, text_of}
 use Rattle.wire_spec.specs.Dump.{Item, Sent, Fault, arrivals, opening, dump_step, records_within, records, dump, usual_limit, dump_written}
 

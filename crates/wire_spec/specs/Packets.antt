@@ -1,5 +1,5 @@
 -- Packets of text and their arrivals, as the laws on streams see them (RFC 2198, section 3; RFC 4103, section 4).
-use Rattle.std.specs.Prelude.{ℕ, ◌+◌, ◌-◌, ◌%◌, ◌^◌, Bool, true, false, List, [], ◌∷◌}
+use Rattle.std.specs.Prelude.{◌≡◌, ℕ, ◌+◌, ◌-◌, ◌%◌, ◌^◌, Bool, true, false, List, [], ◌∷◌, ◌++◌}
 use Rattle.rtt_base.specs.declared.blocks.TextBlock.{TextBlock}
 use Rattle.rtt_base.specs.declared.text_packets.TextPacket.{TextPacket}
 
@@ -29,6 +29,18 @@ abbrev pub primary_text : List TextBlock → List ℕ
 primary_text [] = []
 primary_text (b ∷ []) = b.text
 primary_text (b ∷ c ∷ bs) = primary_text (c ∷ bs)
+
+-- the block of a primary text
+abbrev pub primary : List ℕ → TextBlock
+primary text = record { offset = 0; text = text }
+
+-- the last block is a primary one
+abbrev pub HasPrimary : List TextBlock → Type 0
+HasPrimary blocks = blocks ≡ redundant blocks ++ primary (primary_text blocks) ∷ []
+
+-- all blocks of a packet, the primary one last
+abbrev pub blocks_of : Packet → List TextBlock
+blocks_of p = p.older ++ primary p.primary ∷ []
 
 -- what a program's packet stands for
 abbrev pub packet_of : TextPacket → Packet

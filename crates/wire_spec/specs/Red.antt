@@ -9,7 +9,7 @@ use Rattle.wire_spec.specs.declared.faults.RedFault.{RedFault}
 use Rattle.wire_spec.specs.declared.faults.RedFault.TheVariants.{WrongType, Cut, Many, Long, NotText}
 use Rattle.wire_spec.specs.declared.headers.RedHeader.{RedHeader}
 use Rattle.wire_spec.specs.Steps.{◌>>=◌}
-use Rattle.wire_spec.specs.Packets.{redundant, primary_text}
+use Rattle.wire_spec.specs.Packets.{primary, redundant, primary_text, HasPrimary}
 
 -- ---- the payload as the sum of its parts
 
@@ -20,9 +20,6 @@ IsText text = (length text < 2 ^ 10) × IsUtf8 text
 -- a block whose header can be written
 abbrev pub IsRedundant : TextBlock → Type 0
 IsRedundant b = (b.offset < 2 ^ 14) × IsText b.text
-
-abbrev pub primary : List ℕ → TextBlock
-primary text = record { offset = 0; text = text }
 
 -- the header of a redundant block: F is 1, then 14 bits of offset and 10 of length
 abbrev pub red_header : ℕ → TextBlock → List ℕ
@@ -126,7 +123,7 @@ red_written blocks pts = red_spelling pts.t140 (redundant blocks) (primary_text 
 
 -- what has a spelling
 pub record FitsRed (blocks : List TextBlock) (pts : Pts) : Type 0 where
-  pub all : blocks ≡ redundant blocks ++ primary (primary_text blocks) ∷ []
+  pub all : HasPrimary blocks
   pub few : length blocks ≤ 9
   pub each : AllByRecursion IsRedundant (redundant blocks)
   pub is_text : IsText (primary_text blocks)

@@ -1,0 +1,31 @@
+-- How far a reading of blocks has come (RFC 2198, section 3).
+use Rattle.std.specs.Prelude.{ℕ, ◌<◌, ◌^◌, List, [], ◌∷◌, ◌++◌, Result, Ok, Err, if◌then◌else◌}
+use Rattle.std.specs.Str.{is_utf8}
+use Rattle.std.specs.Borrow.{Bor}
+use Rattle.arrayvec.specs.ArrayVec.{ArrayVec}
+use Rattle.rtt_base.specs.declared.blocks.TextBlock.{TextBlock}
+use Rattle.wire_spec.specs.declared.headers.RedHeader.{RedHeader}
+use Rattle.wire_spec.specs.declared.faults.RedFault.{RedFault}
+use Rattle.wire_spec.specs.declared.faults.RedFault.TheVariants.{NotText}
+use Rattle.wire_spec.specs.Steps.{◌>>=◌}
+use Rattle.wire_spec.specs.Red.{Headers}
+
+-- the length has ten bits
+pub record IsSmall (h : RedHeader) : Type 0 where
+  pub size : h.size < 2 ^ 10
+
+-- what was read of the headers
+abbrev pub headers_view : ArrayVec RedHeader × Bor (List ℕ) → Headers
+headers_view p = record { headers = p.0.items; texts = p.1.now }
+
+-- headers in front of others, as they were read
+abbrev pub after_headers : List RedHeader → Result Headers RedFault → Result Headers RedFault
+after_headers front read = read >>= λ hs. Ok (record { headers = front ++ hs.headers; texts = hs.texts })
+
+-- blocks in front of others, as they were read
+abbrev pub after_blocks : List TextBlock → Result (List TextBlock) RedFault → Result (List TextBlock) RedFault
+after_blocks front read = read >>= λ blocks. Ok (front ++ blocks)
+
+-- blocks and one more, where it is UTF-8
+abbrev pub after_block : List TextBlock → ℕ → List ℕ → Result (List TextBlock) RedFault
+after_block front offset text = if is_utf8 text then Ok (front ++ record { offset = offset; text = text } ∷ []) else Err NotText

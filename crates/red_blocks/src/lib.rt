@@ -1,0 +1,8 @@
+//! The blocks of a packet of text (RFC 2198, section 3; RFC 4103, section 4), and whole packets of text.
+#![tactic(auto)]
+
+mod packets;
+mod reading;
+
+pub use packets::read_text;
+pub use reading::read_blocks;

@@ -1,0 +1,68 @@
+//! Reading a whole packet of text.
+ghost use Rattle.std.specs.Prelude.{◌≡◌, ◌≤◌, ◌++◌, ◌∷◌, [], length, OnOk, OnErr};
+ghost use Rattle.wire_spec.specs.Steps.{Gives};
+ghost use Rattle.wire_spec.specs.Packets.{packet_of, blocks_of};
+ghost use Rattle.wire_spec.specs.Text.{accepted, text_of, text_of_short};
+ghost use Rattle.rtp_header.specs.Headers.{reading};
+
+use crate::read_blocks;
+use rtp_header::{RtpView, read_rtp};
+use rtt_base::{Packet, Pts, TextPacket};
+use wire_spec::TextFault;
+
+/// A packet of the stream that is asked for, with one source.
+fn accept(view: RtpView<'_>, asked: Option<u32>) -> Result<RtpView<'_>, TextFault>
+    ensures { Gives reading result (accepted asked (reading view.entry)) }
+{
+    if let Some(ssrc) = asked {
+        if view.ssrc != ssrc {
+            return Err(TextFault::Foreign);
+        }
+    }
+    if view.cc > 1 {
+        return Err(TextFault::Sources);
+    }
+    Ok(view)
+}
+
+/// Reads a packet of at most 4224 octets, over blocks that may be there.
+fn read_short(
+    bytes: &[u8],
+    ssrc: Option<u32>,
+    pts: Pts,
+    out: &mut TextPacket,
+) -> Result<(), TextFault>
+    requires { out.old.blocks ≡ [] }
+    ensures exact { Gives (λ _. packet_of out.new) result (text_of_short bytes.now ssrc pts) }
+    ensures blocks { OnOk result (out.new.blocks ≡ blocks_of (packet_of out.new)) }
+    ensures err { OnErr result (out.new.blocks ≡ []) }
+{
+    let view = accept(read_rtp(bytes)?, ssrc)?;
+    read_blocks(view.payload, view.pt, pts, &mut out.blocks)?;
+    out.mark = view.mark;
+    out.seq = view.seq;
+    out.stamp = view.stamp;
+    out.ssrc = view.ssrc;
+    out.source = view.csrc.unwrap_or(view.ssrc);
+    Ok(())
+}
+
+/// Reads a packet of text in place of what was in `out`, with the first test that fails: of the stream `ssrc`, where
+/// one is named. After a refusal `out` has no blocks. It takes no memory.
+#[tactic(auto, unfolding(wire_spec::specs::Text::text_of))]
+pub fn read_text(
+    bytes: &[u8],
+    ssrc: Option<u32>,
+    pts: Pts,
+    out: &mut TextPacket,
+) -> Result<(), TextFault>
+    ensures exact { Gives (λ _. packet_of out.new) result (text_of bytes.now ssrc pts) }
+    ensures blocks { OnOk result (out.new.blocks ≡ blocks_of (packet_of out.new)) }
+    ensures err { OnErr result (out.new.blocks ≡ []) }
+{
+    out.blocks.clear();
+    if bytes.len() > Packet::CAPACITY {
+        return Err(TextFault::Long);
+    }
+    read_short(bytes, ssrc, pts, out)
+}
