@@ -4,3 +4,4 @@ mod Examples
 pub mod Erasing
 pub mod Rising
 pub mod Utf8
+pub mod Accepted
