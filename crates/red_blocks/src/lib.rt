@@ -3,6 +3,8 @@
 
 mod packets;
 mod reading;
+mod writing;
 
 pub use packets::read_text;
 pub use reading::read_blocks;
+pub use writing::write_blocks;
