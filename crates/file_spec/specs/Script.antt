@@ -32,6 +32,12 @@ unescaped (c ∷ d ∷ more) =
     if c == byte "\\" then followed (escape d) (unescaped more)
     else followed (Some (c ∷ [])) (unescaped (d ∷ more))
 
+-- what a line types: its escapes are read before its length is measured
+abbrev pub typed : List ℕ → Result (List ℕ) ConfKind
+typed octets = do
+  text ← ok_or (unescaped octets) Escape
+  unless (nat_lt 1023 (length text)) Long text
+
 -- what stands before the first space and after it
 abbrev pub around_space : List ℕ → Option (List ℕ × List ℕ)
 around_space octets =
@@ -46,9 +52,8 @@ script_line latest line = do
   parts ← ok_or (around_space octets) Count
   moment ← ok_or (number 14400000 parts.0) Number
   at ← unless (nat_lt moment latest) Order moment
-  text ← ok_or (unescaped parts.1) Escape
-  short ← unless (nat_lt 1023 (length text)) Long text
-  Ok (record { line = line.number; at = at; text = short })
+  text ← typed parts.1
+  Ok (record { line = line.number; at = at; text = text })
 
 -- the latest moment of lines
 abbrev pub latest : List ScriptLine → ℕ

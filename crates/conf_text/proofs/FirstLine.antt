@@ -1,0 +1,48 @@
+-- The first line of octets, and the lines after it.
+use Rattle.std.proofs.Common.{◌≡◌, ℕ, ◌+◌, ◌<◌, ◌≤◌, Bool, true, false, eqb, cond, List, [], ◌∷◌, length, take, drop, Some, None, refl, ap, ◌∙◌, arith}
+use Rattle.std.specs.Prelude.{not}
+use Rattle.std.specs.List.{slice_split, onto_first, position_or_len, position}
+use Rattle.std.specs.Str.Lines.{lines, lines_of_parts, strip_carriage_return}
+use Rattle.std.proofs.lemmas.List.Splits.{slice_split_first, length-slice_split}
+use Rattle.std.proofs.lemmas.List.Sums.{prefix_len-le-length}
+use Rattle.std.proofs.lemmas.Bool.{ltb-false, ne_eqb}
+
+lines_of_parts-cons : (x : List ℕ) (parts : List (List ℕ)) → 0 < length parts → lines_of_parts (x ∷ parts) ≡ strip_carriage_return x ∷ lines_of_parts parts
+lines_of_parts-cons x [] l = absurd (omega arith)
+lines_of_parts-cons x (y ∷ more) l = refl
+
+found : (b : Bool) (p i : ℕ) → cond b (Some p) None ≡ Some i → (b ≡ true) × (p ≡ i)
+found true p i e = (refl, cc)
+found false p i e = absurd (cc)
+
+pub a_line_ends : (octets : List ℕ) (end : ℕ) → position (λ c. eqb c 10) octets ≡ Some end
+    → lines octets ≡ strip_carriage_return (take end octets) ∷ lines (drop (end + 1) octets)
+a_line_ends octets end e =
+    let p = λ (c : ℕ). eqb c 10 in
+    let at = found _ _ _ e in
+    let within : position_or_len p octets < length octets = grind (arith, at.0) in
+    let parts = slice_split_first p octets 0 within in
+    ap lines_of_parts parts
+    ∙ lines_of_parts-cons (take (position_or_len p octets) octets) (slice_split p (drop (position_or_len p octets + 1) octets)) (omega (arith, length-slice_split p (drop (position_or_len p octets + 1) octets)))
+    ∙ ap (λ n. strip_carriage_return (take n octets) ∷ lines (drop (n + 1) octets)) at.1
+
+part_step : (b : Bool) (c : ℕ) (more : List ℕ) → cond (not b) (1 + position_or_len (λ c. eqb c 10) more) 0 ≡ 1 + length more
+    → (position_or_len (λ c. eqb c 10) more ≡ length more → slice_split (λ c. eqb c 10) more ≡ more ∷ [])
+    → cond b ([] ∷ slice_split (λ c. eqb c 10) more) (onto_first c (slice_split (λ c. eqb c 10) more)) ≡ (c ∷ more) ∷ []
+part_step true c more e ih = absurd (omega arith)
+part_step false c more e ih = ap (λ parts. onto_first c parts) (ih (omega arith))
+
+one_part : (octets : List ℕ) → position_or_len (λ c. eqb c 10) octets ≡ length octets → slice_split (λ c. eqb c 10) octets ≡ octets ∷ []
+one_part [] e = refl
+one_part (c ∷ more) e = part_step (eqb c 10) c more (e ∙ omega arith) (one_part more)
+
+missing : (b : Bool) (p : ℕ) → cond b (Some p) None ≡ None → b ≡ false
+missing true p e = absurd (cc)
+missing false p e = refl
+
+pub no_line_ends : (octets : List ℕ) → position (λ c. eqb c 10) octets ≡ None → 0 < length octets → lines octets ≡ octets ∷ []
+no_line_ends octets e some =
+    let p = λ (c : ℕ). eqb c 10 in
+    let past = missing _ _ e in
+    let at_end : position_or_len p octets ≡ length octets = let far : length octets ≤ position_or_len p octets = ltb-false _ _ past in omega (arith, prefix_len-le-length (λ c. not (p c)) octets) in
+    ap lines_of_parts (one_part octets at_end) ∙ ap (λ t. cond t [] (octets ∷ [])) (ne_eqb (length octets) 0 (λ z. omega arith))

@@ -1,0 +1,5 @@
+pub mod DecimalDigits
+pub mod EscapeLoop
+pub mod FirstLine
+pub mod ScriptLoop
+pub mod TextLine

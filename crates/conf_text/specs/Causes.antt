@@ -1,0 +1,9 @@
+-- The causes of a refused file (profile): the definition's first bad line, or want of memory, which is free.
+use Rattle.std.specs.Prelude.{◌≡◌, Result, Err}
+use Rattle.file_spec.specs.Lines.{Refusal as FirstBad}
+use Rattle.conf_text.specs.declared.faults.ConfFault.{ConfFault}
+use Rattle.conf_text.specs.declared.faults.ConfFault.TheVariants.{Refused, NoMemory}
+
+abbrev pub IsCause : {A : Type 0} → ConfFault → Result A FirstBad → Type 0
+IsCause (Refused line kind) read = read ≡ Err (record { line = line; kind = kind })
+IsCause NoMemory read = Unit {0}

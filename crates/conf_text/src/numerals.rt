@@ -1,0 +1,33 @@
+//! Numbers as they are written.
+ghost use Rattle.std.specs.Prelude.{◌≡◌};
+ghost use Rattle.std.specs.List.{list_all};
+ghost use Rattle.std.specs.Char.{is_ascii_digit};
+ghost use Rattle.file_spec.specs.Numbers.{number, is_number};
+
+fn all_digits(text: &[u8]) -> bool
+    ensures { result ≡ list_all (λ c. is_ascii_digit c) text.now }
+{
+    text.iter().all(|c| c.is_ascii_digit())
+}
+
+fn is_numeral(text: &[u8]) -> bool
+    ensures { result ≡ is_number text.now }
+{
+    !text.is_empty() && text.len() <= 10 && all_digits(text)
+}
+
+/// A number of one to ten decimal digits that is at most `most`.
+pub(crate) fn number_of(text: &str, most: u32) -> Option<u32>
+    ensures { result ≡ number most text.now }
+{
+    if !is_numeral(text.as_bytes()) {
+        return None;
+    }
+    let Ok(value) = text.parse::<u64>() else {
+        return None;
+    };
+    if value > u64::from(most) {
+        return None;
+    }
+    Some(value as u32)
+}

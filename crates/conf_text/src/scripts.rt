@@ -1,0 +1,63 @@
+//! The lines of a script.
+ghost use Rattle.std.specs.Prelude.{◌≡◌, ◌==◌, [], ◌∷◌, ◌++◌, length, OnOk, OnErr};
+
+use file_spec::ScriptLine;
+use rtt_base::NoMemory;
+use std::alloc::Global;
+use std::marker::Model;
+
+/// Script lines in the file's order. It keeps the allocator that it was made with.
+#[derive(Debug, Drop)]
+pub struct Script {
+    lines: Vec<ScriptLine>,
+}
+
+impl Model for Script {
+    ghost use Rattle.std.specs.Prelude.{List};
+    ghost use Rattle.file_spec.specs.declared.script_lines.ScriptLine.{ScriptLine};
+
+    ghost Value = { List ScriptLine };
+
+    ghost view = { λ s. s.lines.items };
+}
+
+impl Script {
+    /// No lines, which takes no memory.
+    pub fn new(alloc: Global) -> Script
+        ensures { result ≡ [] }
+    {
+        Script {
+            lines: Vec::new(alloc),
+        }
+    }
+
+    /// The number of lines.
+    pub fn len(&self) -> usize
+        ensures { result ≡ length self.now }
+    {
+        self.lines.len()
+    }
+
+    pub fn is_empty(&self) -> bool
+        ensures { result ≡ (length self.now == 0) }
+    {
+        self.lines.is_empty()
+    }
+
+    pub fn as_slice(&self) -> &[ScriptLine]
+        ensures { result.now ≡ self.now }
+    {
+        self.lines.as_slice()
+    }
+
+    /// Appends a line. After `NoMemory` the list is as before.
+    pub fn push(&mut self, line: ScriptLine) -> Result<(), NoMemory>
+        ensures ok { OnOk result (self.new ≡ self.old ++ line ∷ []) }
+        ensures err { OnErr result (self.new ≡ self.old) }
+    {
+        match self.lines.push(line) {
+            Ok(()) => Ok(()),
+            Err(_) => Err(NoMemory),
+        }
+    }
+}
