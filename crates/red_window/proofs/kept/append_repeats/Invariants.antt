@@ -1,0 +1,9 @@
+use Rattle.std.proofs.Common.{◌≡◌, ◌+◌, ◌++◌, length}
+use Rattle.red_window.specs.Kept.{blocks_kept}
+use Rattle.red_window.proofs.kept.append_repeats.Given as goal
+
+abbrev pub invariant-loop-age : goal.invariant-loop-age
+invariant-loop-age l = record {
+  blocks : l.out ++ blocks_kept l.age l.stamp l.kept ≡ l.initial.out ++ blocks_kept l.generations l.stamp l.kept;
+  count : length l.out + l.age ≡ length l.initial.out + l.generations;
+}

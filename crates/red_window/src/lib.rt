@@ -1,0 +1,10 @@
+//! The redundancy of one source (RFC 4103, section 4): each packet repeats the last blocks before it.
+#![tactic(auto)]
+
+mod kept;
+mod windows;
+
+pub use windows::Window;
+
+#[cfg(test)]
+mod tests;
