@@ -1,2 +1,3 @@
+mod ConfExamples
 mod Examples
 mod ScriptExamples

@@ -1,3 +1,4 @@
+pub mod Conf
 pub mod Lines
 pub mod Numbers
 pub mod Script

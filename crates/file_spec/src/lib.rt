@@ -1,8 +1,10 @@
 //! What command words, scripts and conferences mean: definitions and their laws, and hardly any code.
 #![tactic(auto)]
 
+mod conf_lines;
 mod kinds;
 mod script_lines;
 
+pub use conf_lines::{Form, LegLine, MixerLine, PlanLine, What};
 pub use kinds::ConfKind;
 pub use script_lines::ScriptLine;

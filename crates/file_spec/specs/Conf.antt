@@ -1,0 +1,246 @@
+-- A conference: its legs, its mixer, its times, and what becomes of packets (profile).
+use Rattle.std.specs.Prelude.{ℕ, ◌+◌, ◌==◌, nat_lt, nat_le, Bool, true, false, not, ◌&&◌, ◌||◌, if◌then◌else◌, List, [], ◌∷◌, ◌++◌, length, Option, None, Some, is_some, unwrap_or, option_and_then, Result, Ok, Err, codes, bytes_eq}
+use Rattle.std.specs.List.{list_any, list_all, position}
+use Rattle.std.specs.Option.{ok_or}
+use Rattle.std.specs.Char.{is_ascii_alphanumeric}
+use Rattle.std.specs.Str.{byte, is_utf8}
+use Rattle.std.specs.Str.Lines.{lines}
+use Rattle.rtt_base.specs.declared.text_packets.Pts.{Pts}
+use Rattle.file_spec.specs.declared.kinds.ConfKind.{ConfKind}
+use Rattle.file_spec.specs.declared.kinds.ConfKind.TheVariants.{NotText, Word, Count, Name, Number, Many, PlanMany, Twice, Clash, Few, Large}
+use Rattle.file_spec.specs.declared.conf_lines.Form.{Form}
+use Rattle.file_spec.specs.declared.conf_lines.Form.TheVariants.{Files, Links}
+use Rattle.file_spec.specs.declared.conf_lines.MixerLine.{MixerLine}
+use Rattle.file_spec.specs.declared.conf_lines.LegLine.{LegLine}
+use Rattle.file_spec.specs.declared.conf_lines.PlanLine.{PlanLine}
+use Rattle.file_spec.specs.declared.conf_lines.What.{What}
+use Rattle.file_spec.specs.declared.conf_lines.What.TheVariants as what
+use Rattle.file_spec.specs.Steps.{◌>>=◌, unless}
+use Rattle.file_spec.specs.Lines.{Line, Refusal, told, is_comment, words, at_line, read_lines}
+use Rattle.file_spec.specs.Numbers.{number}
+use Rattle.file_spec.specs.Words.{most_ssrc}
+
+pub record Conf : Type 0 where
+  pub legs : List LegLine
+  pub tick : ℕ
+  pub spacing : ℕ
+  pub wait : ℕ
+  pub turns : ℕ
+  pub mixer : MixerLine
+  pub plan : List PlanLine
+
+-- what the lines so far say
+pub record Above : Type 0 where
+  pub legs : List LegLine
+  pub tick : Option ℕ
+  pub spacing : Option ℕ
+  pub wait : Option ℕ
+  pub turns : Option ℕ
+  pub mixer : Option MixerLine
+  pub plan : List PlanLine
+
+-- what one line says
+pub data Entry : Type 0 where
+  Leg : LegLine → Entry
+  Tick : ℕ → Entry
+  Spacing : ℕ → Entry
+  Wait : ℕ → Entry
+  Turns : ℕ → Entry
+  Mixer : MixerLine → Entry
+  Plan : PlanLine → Entry
+
+abbrev pub nothing : Above
+nothing = record { legs = []; tick = None; spacing = None; wait = None; turns = None; mixer = None; plan = [] }
+
+abbrev pub with_entry : Above → Entry → Above
+with_entry a (Leg l) = record a { legs = a.legs ++ l ∷ [] }
+with_entry a (Tick n) = record a { tick = Some n }
+with_entry a (Spacing n) = record a { spacing = Some n }
+with_entry a (Wait n) = record a { wait = Some n }
+with_entry a (Turns n) = record a { turns = Some n }
+with_entry a (Mixer m) = record a { mixer = Some m }
+with_entry a (Plan p) = record a { plan = a.plan ++ p ∷ [] }
+
+-- ---- numbers, times and the mixer
+
+abbrev pub number_between : ℕ → ℕ → List ℕ → Option ℕ
+number_between least most text = option_and_then (λ n. if nat_lt n least then None else Some n) (number most text)
+
+-- one number, on one line
+abbrev pub setting : (ℕ → Entry) → ℕ → ℕ → Option ℕ → List (List ℕ) → Result Entry ConfKind
+setting entry least most above (text ∷ []) = ok_or (number_between least most text) Number >>= λ n. unless (is_some above) Twice (entry n)
+setting entry least most above _ = Err Count
+
+abbrev pub mixer : Above → List (List ℕ) → Result Entry ConfKind
+mixer above (ssrc ∷ seq ∷ stamp ∷ []) = do
+  sender ← ok_or (number most_ssrc ssrc) Number
+  first ← ok_or (number 65535 seq) Number
+  start ← ok_or (number 4294967295 stamp) Number
+  line ← unless (is_some above.mixer) Twice (record { ssrc = sender; seq = first; stamp = start })
+  unless (list_any (λ leg. leg.ssrc == sender) above.legs) Clash (Mixer line)
+mixer above _ = Err Count
+
+-- ---- legs
+
+abbrev pub aware_of : List ℕ → Option Bool
+aware_of mode = if bytes_eq mode (codes "aware") then Some true else (if bytes_eq mode (codes "unaware") then Some false else None)
+
+-- an ASCII letter, a digit, or one of `.`, `_` and `-`
+abbrev pub is_name_octet : ℕ → Bool
+is_name_octet c = is_ascii_alphanumeric c || (c == byte "." || (c == byte "_" || c == byte "-"))
+
+abbrev pub is_name : List ℕ → Bool
+is_name text = nat_lt 0 (length text) && (nat_le (length text) 32 && list_all is_name_octet text)
+
+abbrev pub is_path : List ℕ → Bool
+is_path text = nat_lt 0 (length text) && nat_le (length text) 255
+
+-- the port at which a link hears
+abbrev pub port : List ℕ → Option ℕ
+port text = number_between 1 65535 text
+
+-- the input is a path among files; among links it's a port, and that is a matter of numbers
+abbrev pub has_names : Form → List ℕ → List ℕ → List ℕ → Bool
+has_names Files name input output = is_name name && (is_path input && is_path output)
+has_names Links name input output = is_name name && is_path output
+
+abbrev pub has_port : Form → List ℕ → Bool
+has_port Files input = true
+has_port Links input = is_some (port input)
+
+abbrev pub payload_type : List ℕ → Option ℕ
+payload_type text = number_between 96 127 text
+
+abbrev pub pts : List ℕ → List ℕ → Option Pts
+pts t140 red = option_and_then (λ t. option_and_then (λ r. Some (record { t140 = t; red = r })) (payload_type red)) (payload_type t140)
+
+abbrev pub same_port : Option ℕ → Option ℕ → Bool
+same_port (Some a) (Some b) = a == b
+same_port _ _ = false
+
+-- whether two legs, the first one above the second, want the same path or port
+abbrev pub shares_path : Form → LegLine → LegLine → Bool
+shares_path Files above leg = bytes_eq above.output leg.output || (bytes_eq above.input leg.output || bytes_eq above.output leg.input)
+shares_path Links above leg = bytes_eq above.output leg.output || same_port (port above.input) (port leg.input)
+
+-- whether a leg's own paths or payload types are the same
+abbrev pub shares_own : Form → LegLine → Bool
+shares_own Files leg = leg.pts.t140 == leg.pts.red || bytes_eq leg.output leg.input
+shares_own Links leg = leg.pts.t140 == leg.pts.red
+
+abbrev pub is_mixers : Option MixerLine → ℕ → Bool
+is_mixers None ssrc = false
+is_mixers (Some m) ssrc = m.ssrc == ssrc
+
+abbrev pub clashes : Form → Above → LegLine → Bool
+clashes form above leg =
+    list_any (λ a. a.ssrc == leg.ssrc) above.legs || (is_mixers above.mixer leg.ssrc
+    || (shares_own form leg || list_any (λ a. shares_path form a leg) above.legs))
+
+abbrev pub new_leg : Form → Above → LegLine → Result Entry ConfKind
+new_leg form above leg =
+    unless (nat_le 16 (length above.legs)) Many leg
+    >>= unless (list_any (λ a. bytes_eq a.name leg.name) above.legs) Twice
+    >>= unless (clashes form above leg) Clash
+    >>= λ l. Ok (Leg l)
+
+unfoldable pub leg_of : Form → Above → ℕ → List ℕ → List ℕ → List ℕ → List ℕ → List ℕ → Option Pts → Result Entry ConfKind
+leg_of form above n name mode ssrc input output types = do
+  aware ← ok_or (aware_of mode) Word
+  named ← unless (not (has_names form name input output)) Name name
+  sender ← ok_or (number most_ssrc ssrc) Number
+  from ← unless (not (has_port form input)) Number input
+  pts ← ok_or types Number
+  new_leg form above (record { line = n; name = named; aware = aware; ssrc = sender; input = from; output = output; pts = pts })
+
+-- without payload types, 98 and 100
+abbrev pub leg : Form → Above → ℕ → List (List ℕ) → Result Entry ConfKind
+leg form above n (name ∷ mode ∷ ssrc ∷ input ∷ output ∷ []) = leg_of form above n name mode ssrc input output (Some (record { t140 = 98; red = 100 }))
+leg form above n (name ∷ mode ∷ ssrc ∷ input ∷ output ∷ t140 ∷ red ∷ []) = leg_of form above n name mode ssrc input output (pts t140 red)
+leg form above n _ = Err Count
+
+-- ---- what becomes of packets
+
+abbrev pub same_word : What → What → Bool
+same_word what.Lose what.Lose = true
+same_word (what.Delay a) (what.Delay b) = true
+same_word what.Twice what.Twice = true
+same_word _ _ = false
+
+abbrev pub same_packet : PlanLine → PlanLine → Bool
+same_packet a b = same_word a.what b.what && (a.terminal == b.terminal && a.packet == b.packet)
+
+unfoldable pub plan_of : Above → List ℕ → List ℕ → Option What → Result Entry ConfKind
+plan_of above name packet happens = do
+  terminal ← ok_or (position (λ leg. bytes_eq leg.name name) above.legs) Name
+  k ← ok_or (number 4294967295 packet) Number
+  w ← ok_or happens Number
+  line ← unless (nat_le 4096 (length above.plan)) PlanMany (record { terminal = terminal; packet = k; what = w })
+  unless (list_any (λ p. same_packet p line) above.plan) Twice (Plan line)
+
+abbrev pub plan : Above → What → List (List ℕ) → Result Entry ConfKind
+plan above w (name ∷ packet ∷ []) = plan_of above name packet (Some w)
+plan above w _ = Err Count
+
+abbrev pub delay_of : List ℕ → Option What
+delay_of text = option_and_then (λ ms. Some (what.Delay ms)) (number 60000 text)
+
+abbrev pub delay : Above → List (List ℕ) → Result Entry ConfKind
+delay above (name ∷ packet ∷ late ∷ []) = plan_of above name packet (delay_of late)
+delay above _ = Err Count
+
+-- the plan has words in the form Files alone
+abbrev pub plan_word : Form → Above → List ℕ → List (List ℕ) → Result Entry ConfKind
+plan_word Links above word more = Err Word
+plan_word Files above word more =
+    if bytes_eq word (codes "lose") then plan above what.Lose more
+    else (if bytes_eq word (codes "delay") then delay above more
+    else (if bytes_eq word (codes "twice") then plan above what.Twice more else Err Word))
+
+-- ---- lines
+
+-- what the words of a line say: the first one decides how many there are
+unfoldable pub entry : Form → Above → ℕ → List (List ℕ) → Result Entry ConfKind
+entry form above n [] = Err Word
+entry form above n (word ∷ more) =
+    if bytes_eq word (codes "leg") then leg form above n more
+    else (if bytes_eq word (codes "mixer") then mixer above more
+    else (if bytes_eq word (codes "tick") then setting Tick 20 400 above.tick more
+    else (if bytes_eq word (codes "spacing") then setting Spacing 100 1000 above.spacing more
+    else (if bytes_eq word (codes "wait") then setting Wait 0 10000 above.wait more
+    else (if bytes_eq word (codes "turns") then setting Turns 1 5000000 above.turns more
+    else plan_word form above word more)))))
+
+abbrev pub is_blank : List ℕ → Bool
+is_blank octets = is_comment octets || length (words octets) == 0
+
+-- a line and those above it
+abbrev pub and_line : Form → Above → Line → Result Above ConfKind
+and_line form above line = do
+  octets ← unless (not (is_utf8 line.octets)) NotText line.octets
+  said ← entry form above line.number (words octets)
+  Ok (with_entry above said)
+
+-- ---- the whole
+
+-- two legs at least, and a mixer; what isn't said has its default
+abbrev pub complete : Above → Option MixerLine → Result Conf ConfKind
+complete above None = Err Few
+complete above (Some m) =
+    unless (nat_lt (length above.legs) 2) Few
+    (record {
+      legs = above.legs;
+      tick = unwrap_or above.tick 100;
+      spacing = unwrap_or above.spacing 300;
+      wait = unwrap_or above.wait 1000;
+      turns = unwrap_or above.turns 5000000;
+      mixer = m;
+      plan = above.plan;
+    })
+
+-- the conference that a file describes, or its first bad line; the line after the last one is bad where something is missing
+abbrev pub conf : Form → List ℕ → Result Conf Refusal
+conf form octets =
+    if nat_lt 262144 (length octets) then Err (record { line = 0; kind = Large })
+    else read_lines (and_line form) nothing (told is_blank 1 (lines octets))
+    >>= λ above. at_line (length (lines octets) + 1) (complete above above.mixer)

@@ -1,0 +1,57 @@
+//! What the lines of a conference say.
+use rtt_base::{Name, Path, Pts};
+
+/// What the legs of a conference are.
+#[derive(Clone, Copy, Debug, PartialEq, Eq)]
+pub enum Form {
+    /// Recordings in files.
+    Files,
+    /// Links to the outside.
+    Links,
+}
+
+/// The mixer's own stream.
+#[derive(Clone, Copy, Debug, PartialEq, Eq)]
+pub struct MixerLine {
+    pub ssrc: u32,
+    /// Its first sequence number.
+    pub seq: u16,
+    /// The timestamp at media time 0.
+    pub stamp: u32,
+}
+
+/// A leg: one participant, what it sends and where it is sent to.
+#[derive(Debug, Drop)]
+pub struct LegLine {
+    /// The number of the line in its file, from 1; 0 where there is no file.
+    pub line: u32,
+    pub name: Name,
+    /// Whether its terminal knows that packets may have several sources.
+    pub aware: bool,
+    pub ssrc: u32,
+    pub input: Path,
+    pub output: Path,
+    /// The payload types of both directions.
+    pub pts: Pts,
+}
+
+/// What becomes of a packet on its way to a terminal.
+#[derive(Clone, Copy, Debug, PartialEq, Eq)]
+pub enum What {
+    /// It is lost.
+    Lose,
+    /// It comes so many milliseconds late.
+    Delay(u32),
+    /// It comes twice.
+    Twice,
+}
+
+/// One packet to one terminal, and what becomes of it.
+#[derive(Clone, Copy, Debug, PartialEq, Eq)]
+pub struct PlanLine {
+    /// The leg whose terminal it is sent to, counted from 0.
+    pub terminal: u8,
+    /// The packet, counted from 0.
+    pub packet: u32,
+    pub what: What,
+}
