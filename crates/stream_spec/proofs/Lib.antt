@@ -13,3 +13,4 @@ pub mod Taking
 pub mod Examples
 pub mod OwnPackets
 pub mod Sent
+pub mod TypedExamples

@@ -7,3 +7,4 @@ pub mod History
 pub mod Kept
 pub mod Carries
 pub mod Own
+pub mod Typed

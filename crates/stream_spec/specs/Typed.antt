@@ -1,0 +1,100 @@
+-- What a sender of typed text sends, and when (RFC 4103, sections 4 and 5; the moments, the limit of a text and the
+-- media time behind a long pause are a profile). Lists are newest first.
+use Rattle.std.specs.Prelude.{◌≡◌, ℕ, zero, suc, ◌+◌, ◌^◌, ◌<◌, ◌≤◌, ◌==◌, Bool, true, Option, None, Some, List, [], ◌∷◌, ◌++◌, length, map, take, drop, min, slice_index, option_to_list, ◌&&◌, ◌||◌, nat_lt, nat_le, if◌then◌else◌, IsUtf8}
+use Rattle.wire_spec.specs.Packets.{Packet, has_text}
+use Rattle.stream_spec.specs.Own.{Sent, Stream, has_text_in, packet_after}
+
+-- a text is typed, or the sender is asked at a moment in milliseconds
+pub data Event : Type 0 where
+  Text : List ℕ → Event
+  Ask : ℕ → Event
+
+-- an entry, and the moment of the ask at which it stands
+pub record Turned : Type 0 where
+  pub at : ℕ
+  pub sent : Sent
+
+-- what was sent
+abbrev pub sents : List Turned → List Sent
+sents es = map (λ e. e.sent) es
+
+-- the texts that were sent, one behind the other
+abbrev pub carried : List Turned → List ℕ
+carried [] = []
+carried (e ∷ es) = carried es ++ e.sent.text
+
+-- the texts that were typed, one behind the other
+abbrev pub typed : List Event → List ℕ
+typed [] = []
+typed (Text text ∷ past) = typed past ++ text
+typed (Ask t ∷ past) = typed past
+
+-- a character ends before place n: the octet there, if there is one, does not continue a character
+abbrev pub is_end : List ℕ → ℕ → Bool
+is_end octets n = nat_lt (slice_index octets n) 128 || nat_le 192 (slice_index octets n)
+
+-- the greatest of the places up to n at which a character ends
+abbrev pub last_end : List ℕ → ℕ → ℕ
+last_end octets zero = zero
+last_end octets (suc n) = if is_end octets (suc n) then suc n else last_end octets n
+
+-- the longest front of whole characters that has at most n octets
+abbrev pub front : ℕ → List ℕ → List ℕ
+front n octets = take (last_end octets (min n (length octets))) octets
+
+-- no entry is there, or the last one stands so long before t
+abbrev pub has_passed : ℕ → List Turned → ℕ → Bool
+has_passed interval [] t = true
+has_passed interval (e ∷ es) t = nat_le (e.at + interval) t
+
+-- the media time at t: where text is still to be repeated, at most 8000 after the last one
+abbrev pub media_at : ℕ → List Turned → ℕ → ℕ
+media_at g [] t = t
+media_at g (e ∷ es) t = if has_text_in g (sents (e ∷ es)) then min t (e.sent.media + 8000) else t
+
+-- an entry stands at t: text waits or is still to be repeated, and the interval has passed
+abbrev pub is_due : Stream → ℕ → List Turned → List ℕ → ℕ → Bool
+is_due c interval es waits t = (has_text waits || has_text_in c.gens (sents es)) && has_passed interval es t
+
+-- the entry at t, after these, where this text waits
+abbrev pub entry_at : Stream → List Turned → List ℕ → ℕ → Turned
+entry_at c es waits t = record { at = t; sent = record { source = c.ssrc; media = media_at c.gens es t; text = front 1023 waits } }
+
+-- what waits of all that was typed
+abbrev pub left : List Turned → List ℕ → List ℕ
+left es octets = drop (length (carried es)) octets
+
+-- the entries of a script
+abbrev pub entries : Stream → ℕ → List Event → List Turned
+entries c interval [] = []
+entries c interval (Text text ∷ past) = entries c interval past
+entries c interval (Ask t ∷ past) =
+    let es = entries c interval past in
+    let waits = left es (typed past) in
+    if is_due c interval es waits t then entry_at c es waits t ∷ es else es
+
+-- what waits
+abbrev pub waiting : Stream → ℕ → List Event → List ℕ
+waiting c interval past = left (entries c interval past) (typed past)
+
+-- an entry stands at an ask at t
+abbrev pub due_at : Stream → ℕ → List Event → ℕ → Bool
+due_at c interval past t = is_due c interval (entries c interval past) (waiting c interval past) t
+
+-- the packet of an ask at t, if an entry stands there
+abbrev pub packet_at : Stream → ℕ → List Event → ℕ → Option Packet
+packet_at c interval past t =
+    let es = entries c interval past in
+    if due_at c interval past t then Some (packet_after c (sents es) (entry_at c es (waiting c interval past) t).sent) else None
+
+-- the moment of the last ask
+abbrev pub last_ask : List Event → ℕ
+last_ask [] = 0
+last_ask (Text text ∷ past) = last_ask past
+last_ask (Ask t ∷ past) = t
+
+-- texts are UTF-8, and the moments of the asks never fall
+abbrev pub IsScript : List Event → Type 0
+IsScript [] = Unit {0}
+IsScript (Text text ∷ past) = IsUtf8 text × IsScript past
+IsScript (Ask t ∷ past) = (last_ask past ≤ t) × (t < 2 ^ 31) × IsScript past
