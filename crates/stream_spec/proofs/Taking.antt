@@ -239,7 +239,7 @@ pub none_is : (s : ℕ) (us : List Numbered) → ((u : Numbered) → In u us →
 none_is s us f = ap (last_of None) (none_left s us f)
 
 -- one more packet, of another source or of this one
-pub last_stays : (s : ℕ) (us : List Numbered) (a b : Numbered) → (b.packet.source ≡ s → ⊥) → IsLastOf s us a → IsLastOf s (us ++ b ∷ []) a
+abbrev pub last_stays : (s : ℕ) (us : List Numbered) (a b : Numbered) → (b.packet.source ≡ s → ⊥) → IsLastOf s us a → IsLastOf s (us ++ b ∷ []) a
 last_stays s us a b other l = record {
   front = l.front;
   back = l.back ++ b ∷ [];
@@ -248,5 +248,5 @@ last_stays s us a b other l = record {
   others = λ u i q. elim (in_append u l.back (b ∷ []) i) [ inl j ↦ l.others u j q | inr (inl e) ↦ other (sym (ap (λ (z : Numbered). z.packet.source) e) ∙ q) | inr (inr j) ↦ absurd j ];
 }
 
-pub last_now : (s : ℕ) (us : List Numbered) (b : Numbered) → b.packet.source ≡ s → IsLastOf s (us ++ b ∷ []) b
+abbrev pub last_now : (s : ℕ) (us : List Numbered) (b : Numbered) → b.packet.source ≡ s → IsLastOf s (us ++ b ∷ []) b
 last_now s us b q = record { front = us; back = []; is = refl; source = q; others = λ u i e. absurd i }

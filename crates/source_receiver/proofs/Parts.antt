@@ -1,0 +1,120 @@
+-- What the loops and the look-up of a receiver give.
+use Rattle.std.proofs.Common.{◌≡◌, ℕ, zero, suc, ◌+◌, ◌-◌, ◌%◌, ◌^◌, ◌<◌, ◌≤◌, Bool, true, false, cond, Option, None, List, [], ◌∷◌, ◌++◌, length, get_or, take, refl, ap, sym, ◌∙◌, arith, append_assoc, add-one, length-append, inl, inr, subst}
+use Rattle.std.specs.Prelude.{if◌then◌else◌, map, ◌≢◌, AllPairs}
+use Rattle.std.proofs.Math.Seq.{take-suc}
+use Rattle.rtt_base.specs.declared.blocks.TextBlock.{TextBlock}
+use Rattle.wire_spec.specs.Packets.{back, redundant, primary_text}
+use Rattle.rtt_base.specs.declared.text_packets.TextPacket.{TextPacket}
+use Rattle.stream_spec.specs.Hearing.{text_list}
+use Rattle.stream_spec.specs.Lists.{In}
+use Rattle.stream_spec.proofs.Lists.{in_append}
+use Rattle.source_receiver.specs.declared.receivers.Seen.{Seen}
+use Rattle.source_receiver.specs.declared.receivers.Listed.{Listed}
+use Rattle.source_receiver.specs.declared.receivers.Receiver.{Receiver}
+use Rattle.source_receiver.specs.Stands.{Stands, IsSeen}
+use Rattle.source_receiver.specs.Steps.{is_new_since, older_since, texts_since}
+
+abbrev pub one_older : Option Seen → ℕ → TextBlock → List (List ℕ)
+one_older seen stamp b = if is_new_since seen (back stamp b.offset) then text_list b.text else []
+
+older_append : (seen : Option Seen) (stamp : ℕ) (xs ys : List TextBlock) → older_since seen stamp (xs ++ ys) ≡ older_since seen stamp xs ++ older_since seen stamp ys
+older_append seen stamp [] ys = refl
+older_append seen stamp (x ∷ xs) ys = ap (λ ts. one_older seen stamp x ++ ts) (older_append seen stamp xs ys) ∙ sym (append_assoc (one_older seen stamp x) (older_since seen stamp xs) (older_since seen stamp ys))
+
+nil : {X : Type 0} (xs : List X) → xs ++ [] ≡ xs
+nil [] = refl
+nil (x ∷ xs) = ap (λ ys. x ∷ ys) (nil xs)
+
+-- the texts of one block more
+pub older_more : (seen : Option Seen) (stamp : ℕ) (xs : List TextBlock) (i : ℕ) (d : TextBlock) → i < length xs
+    → older_since seen stamp (take (i + 1) xs) ≡ older_since seen stamp (take i xs) ++ one_older seen stamp (get_or xs i d)
+older_more seen stamp xs i d l =
+    rw (add-one) (ap (older_since seen stamp) (take-suc xs i d l) ∙ (older_append seen stamp (take i xs) (get_or xs i d ∷ []) ∙ ap (λ ts. older_since seen stamp (take i xs) ++ ts) (nil (one_older seen stamp (get_or xs i d)))))
+
+text_list_length : (t : List ℕ) → length (text_list t) ≤ 1
+text_list_length [] = omega arith
+text_list_length (x ∷ xs) = omega arith
+
+module _ (seen : Option Seen) (stamp : ℕ) (xs : List TextBlock) (i : ℕ) (b : TextBlock) (initial texts more : List (List ℕ)) (is : b ≡ get_or xs i b) (within : i < length xs)
+    (before : (texts ≡ initial ++ older_since seen stamp (take i xs)) × (length texts ≤ length initial + i)) where
+  grows : {c : Bool} → is_new_since seen (back stamp b.offset) ≡ c → more ≡ texts ++ (if c then text_list b.text else []) → more ≡ initial ++ older_since seen stamp (take (i + 1) xs)
+  grows {c} e m =
+      m ∙ (ap (λ n. texts ++ cond n (text_list b.text) []) (sym e) ∙ (ap (λ ts. ts ++ one_older seen stamp b) before.0
+      ∙ (append_assoc initial (older_since seen stamp (take i xs)) (one_older seen stamp b)
+      ∙ ap (λ ts. initial ++ ts) (ap (λ x. older_since seen stamp (take i xs) ++ one_older seen stamp x) is ∙ sym (older_more seen stamp xs i b within)))))
+
+  -- the block is new
+  pub one_new : is_new_since seen (back stamp b.offset) ≡ true → more ≡ texts ++ text_list b.text → (more ≡ initial ++ older_since seen stamp (take (i + 1) xs)) × (length more ≤ length initial + (i + 1))
+  one_new e m = (grows e m, omega (arith, before.1, ap length m, length-append texts (text_list b.text), text_list_length b.text))
+
+  -- the block is not new
+  pub one_old : is_new_since seen (back stamp b.offset) ≡ false → (texts ≡ initial ++ older_since seen stamp (take (i + 1) xs)) × (length texts ≤ length initial + (i + 1))
+  one_old e = (grows', omega (arith, before.1))
+    where
+      grows' : texts ≡ initial ++ older_since seen stamp (take (i + 1) xs)
+      grows' = before.0 ∙ ap (λ ts. initial ++ ts) (sym (nil (older_since seen stamp (take i xs))) ∙ (ap (λ n. older_since seen stamp (take i xs) ++ cond n (text_list b.text) []) (sym e)
+          ∙ (ap (λ x. older_since seen stamp (take i xs) ++ one_older seen stamp x) is ∙ sym (older_more seen stamp xs i b within))))
+
+-- a seat more
+pub seat_more : (items more : List Listed) (sources : List ℕ) (i : ℕ) (x : Listed) → more ≡ items ++ x ∷ [] → x.source ≡ get_or sources i 0 → x.seen ≡ None → i < length sources
+    → (map (λ y. y.source) items ≡ take i sources) × ((y : Listed) → In y items → y.seen ≡ None)
+    → (map (λ y. y.source) more ≡ take (i + 1) sources) × ((y : Listed) → In y more → y.seen ≡ None)
+seat_more items more sources i x m s n l before = (
+  ap (map (λ (y : Listed). y.source)) m ∙ (map_append items ∙ (ap (λ ys. ys ++ x.source ∷ []) before.0 ∙ (ap (λ k. take i sources ++ k ∷ []) s ∙ (sym (take-suc sources i 0 l) ∙ ap (λ k. take k sources) (sym add-one'))))),
+  (λ y j. elim (in_append y items (x ∷ []) (subst (λ (ys : List Listed). In y ys) m j)) [
+    | inl k ↦ before.1 y k
+    | inr (inl q) ↦ ap (λ (z : Listed). z.seen) q ∙ n
+    | inr (inr k) ↦ absurd k
+  ]),
+)
+  where
+    map_append : (ys : List Listed) → map (λ (y : Listed). y.source) (ys ++ x ∷ []) ≡ map (λ (y : Listed). y.source) ys ++ x.source ∷ []
+    map_append [] = refl
+    map_append (y ∷ ys) = ap (λ zs. y.source ∷ zs) (map_append ys)
+
+    add-one' : i + 1 ≡ suc i
+    add-one' = omega arith
+
+-- a receiver that took nothing
+pub stands_for_none : (r : Receiver) (sources : List ℕ) → map (λ l. l.source) r.listed.items ≡ sources → ((x : Listed) → In x r.listed.items → x.seen ≡ None) → length sources ≤ 16 → AllPairs (λ a b. a ≢ b) sources
+    → r.latest ≡ None → r.missing ≡ 0 → Stands r sources []
+stands_for_none r sources s n few differ l m = record {
+  listed = s;
+  few = few;
+  differ = differ;
+  rising = tt;
+  count = (l, m);
+  seen = λ x i. subst (IsSeen [] x.source) (sym (n x i)) (λ u j e. j);
+}
+
+-- the test as the code makes it
+pub new_at : (seen : Option Seen) (stamp n offset : ℕ) (b c : Bool) → n ≡ offset → n < 4294967296 → b ≡ is_new_since seen ((stamp + (4294967296 - n)) % 4294967296) → b ≡ c → is_new_since seen (back stamp offset) ≡ c
+new_at seen stamp n offset b c e l i t =
+    let same : (stamp + 2 ^ 32 - offset) % 2 ^ 32 ≡ (stamp + (4294967296 - n)) % 4294967296 = omega arith in
+    ap (is_new_since seen) same ∙ (sym i ∙ t)
+
+take_all : {X : Type 0} (n : ℕ) (xs : List X) → length xs ≤ n → take n xs ≡ xs
+take_all zero [] l = refl
+take_all zero (x ∷ xs) l = absurd (omega arith)
+take_all (suc n) [] l = refl
+take_all (suc n) (x ∷ xs) l = ap (λ ys. x ∷ ys) (take_all n xs (omega arith))
+
+-- all seats are made
+pub all_seats : (items : List Listed) (sources : List ℕ) (n : ℕ) → map (λ y. y.source) items ≡ take n sources → length sources ≤ n → map (λ y. y.source) items ≡ sources
+all_seats items sources n e l = e ∙ take_all n sources l
+
+-- the blocks of a packet: the redundant ones and the primary one
+pub redundant_is : (rest : List TextBlock) (b : TextBlock) → redundant (rest ++ b ∷ []) ≡ rest
+redundant_is [] b = refl
+redundant_is (x ∷ []) b = refl
+redundant_is (x ∷ y ∷ rest) b = ap (λ bs. x ∷ bs) (redundant_is (y ∷ rest) b)
+
+pub primary_is : (rest : List TextBlock) (b : TextBlock) → primary_text (rest ++ b ∷ []) ≡ b.text
+primary_is [] b = refl
+primary_is (x ∷ []) b = refl
+primary_is (x ∷ y ∷ rest) b = primary_is (y ∷ rest) b
+
+pub texts_are : (seen : Option Seen) (p : TextPacket) (rest : List TextBlock) (b : TextBlock) → p.blocks ≡ rest ++ b ∷ [] → older_since seen p.stamp rest ++ text_list b.text ≡ texts_since seen p
+texts_are seen p rest b e =
+    ap (λ bs. older_since seen p.stamp bs ++ text_list b.text) (sym (ap redundant e ∙ redundant_is rest b))
+    ∙ ap (λ t. older_since seen p.stamp (redundant p.blocks) ++ text_list t) (sym (ap primary_text e ∙ primary_is rest b))

@@ -1,0 +1,50 @@
+-- What a receiver stands for: the sources that it lists, and the used packets that it took, in rising number (profile).
+use Rattle.std.specs.Prelude.{◌≡◌, ◌≢◌, ℕ, suc, ◌+◌, ◌≤◌, ◌==◌, Option, None, Some, List, [], ◌∷◌, ◌++◌, length, map, AllPairs, if◌then◌else◌}
+use Rattle.rtt_base.specs.declared.text_packets.TextPacket.{TextPacket}
+use Rattle.wire_spec.specs.Packets.{packet_of}
+use Rattle.stream_spec.specs.Lists.{In}
+use Rattle.stream_spec.specs.Numbering.{Numbered}
+use Rattle.stream_spec.specs.Hearing.{IsLastOf, marker}
+use Rattle.stream_spec.specs.Holding.{RisingNumbers}
+use Rattle.source_receiver.specs.declared.receivers.Receiver.{Receiver}
+use Rattle.source_receiver.specs.declared.receivers.Listed.{Listed}
+use Rattle.source_receiver.specs.declared.receivers.Seen.{Seen}
+use Rattle.source_receiver.specs.declared.hearing.Heard.{Heard}
+
+-- a packet that was used under this number; when it came makes no difference to what is heard
+abbrev pub used_packet : ℕ → ℕ → TextPacket → Numbered
+used_packet time number p = record { time = time; number = number; packet = packet_of p }
+
+-- the number of the last packet taken
+abbrev pub latest_number : Receiver → Option ℕ
+latest_number r = r.latest
+
+abbrev pub when_at : ℕ → Option ℕ → List (List ℕ) → List (List ℕ)
+when_at k None texts = []
+when_at k (Some place) texts = if place == k then texts else []
+
+-- what was given of the source at the place k
+abbrev pub given_at : ℕ → Heard → List (List ℕ)
+given_at k heard = when_at k heard.place ((if heard.marker then marker ∷ [] else []) ++ heard.texts)
+
+-- `latest` and `missing` are right after these: the numbers from the first to the last are those of these and the missing ones
+abbrev pub IsCount : List Numbered → Option ℕ → ℕ → Type 0
+IsCount [] latest missing = (latest ≡ None) × (missing ≡ 0)
+IsCount (u ∷ us) latest missing = (n : ℕ) × (latest ≡ Some n) × (missing + length (u ∷ us) + u.number ≡ suc n) × ((v : Numbered) → In v (u ∷ us) → v.number ≤ n)
+
+abbrev pub first_from : ℕ → List Numbered → ℕ
+first_from n [] = n
+first_from n (u ∷ us) = u.number
+
+-- what is kept of a source is right after these
+abbrev pub IsSeen : List Numbered → ℕ → Option Seen → Type 0
+IsSeen us s None = (u : Numbered) → In u us → u.packet.source ≢ s
+IsSeen us s (Some seen) = (a : Numbered) × (l : IsLastOf s us a) × (seen.stamp ≡ a.packet.stamp) × (seen.missing + suc (length l.front) + first_from a.number l.front ≡ suc a.number)
+
+pub record Stands (r : Receiver) (sources : List ℕ) (us : List Numbered) : Type 0 where
+  pub listed : map (λ l. l.source) r.listed.items ≡ sources
+  pub few : length sources ≤ 16
+  pub differ : AllPairs (λ a b. a ≢ b) sources
+  pub rising : RisingNumbers us
+  pub count : IsCount us r.latest r.missing
+  pub seen : (l : Listed) → In l r.listed.items → IsSeen us l.source l.seen

@@ -1,0 +1,13 @@
+//! Hearing: the used packets of a stream go in, in rising number, and each gives the new text of its source.
+#![tactic(auto)]
+
+mod hearing;
+mod receivers;
+mod text_lists;
+
+pub use hearing::Heard;
+pub use receivers::Receiver;
+pub use text_lists::Texts;
+
+#[cfg(test)]
+mod tests;
