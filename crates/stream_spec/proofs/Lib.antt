@@ -14,3 +14,4 @@ pub mod Examples
 pub mod OwnPackets
 pub mod Sent
 pub mod TypedExamples
+pub mod Typing
