@@ -97,16 +97,18 @@ fn place_of(listed: &[Listed], source: u32) -> Option<usize>
 
 /// Tells what the packet gives after what was seen of its source.
 fn tell(seen: Option<Seen>, missing: u64, packet: &TextPacket, out: &mut Heard)
-    requires blocks { 0 < length packet.now.blocks }
-    requires fresh { out.old.texts ≡ [] }
+    requires { out.old.texts ≡ [] }
     ensures place { out.new.place ≡ out.old.place }
     ensures marker { out.new.marker ≡ is_marked_since seen missing packet.now.stamp (redundant packet.now.blocks) }
     ensures texts { out.new.texts ≡ texts_since seen packet.now }
 {
-    if let Some((primary, older)) = packet.blocks.as_slice().split_last() {
-        out.marker = is_marked(seen, missing, packet.stamp, older);
-        push_older(seen, packet.stamp, older, &mut out.texts);
-        push_text(&primary.text, &mut out.texts);
+    match packet.blocks.as_slice().split_last() {
+        Some((primary, older)) => {
+            out.marker = is_marked(seen, missing, packet.stamp, older);
+            push_older(seen, packet.stamp, older, &mut out.texts);
+            push_text(&primary.text, &mut out.texts);
+        }
+        None => out.marker = is_marked(seen, missing, packet.stamp, &[]),
     }
 }
 
@@ -148,8 +150,7 @@ impl Receiver {
 
     /// Takes a used packet, whose number is above that of the one before, and fills `out` with what it gives.
     pub fn take(&mut self, number: u64, packet: &TextPacket, out: &mut Heard)
-        requires rising { ForSome (latest_number self.old) (λ latest. latest < number) }
-        requires blocks { 0 < length packet.now.blocks }
+        requires { ForSome (latest_number self.old) (λ latest. latest < number) }
         ensures latest { latest_number self.new ≡ Some number }
         ensures stands { (sources : List ℕ) (us : List Numbered) (time : ℕ) → Stands self.old sources us
             → Stands self.new sources (us ++ used_packet time number packet.now ∷ []) }
