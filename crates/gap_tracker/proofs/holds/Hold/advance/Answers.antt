@@ -1,0 +1,15 @@
+use Rattle.std.proofs.Common.{◌≡◌, Some, sym, ◌∙◌}
+use Rattle.gap_tracker.specs.States.{next_latest}
+use Rattle.gap_tracker.proofs.Counting.{counted_still}
+use Rattle.gap_tracker.proofs.Steps.{settle_follows, settle_same, settle_less}
+use Rattle.gap_tracker.proofs.holds.Hold.advance.Goals as goal
+
+pub loop-latest-preserved : goal.loop-latest-preserved
+loop-latest-preserved c =
+    let s = c.loop-latest.self in
+    let to = c.in-Some.latest in
+    let can : next_latest s ≡ Some to = sym c.next_latest.ensures.value ∙ c.in-Some.is in
+    rw c.settle.ensures (record {
+      same = settle_same _ s to c.loop-latest.invariant.same;
+      stands = λ story f. settle_follows s story to can (c.loop-latest.invariant.stands story f);
+    })

@@ -1,0 +1,96 @@
+-- What a tracker holds, and how it changes (profile).
+use Rattle.std.specs.Prelude.{◌≡◌, ℕ, suc, ◌+◌, ◌-◌, ◌<◌, ◌≤◌, ◌==◌, Bool, true, false, List, [], ◌∷◌, ◌++◌, length, Option, None, Some, nat_lt, nat_le, if◌then◌else◌, min, max, insert, take, drop, get_or}
+use Rattle.stream_spec.specs.Numbering.{Numbered, has_number}
+use Rattle.gap_tracker.specs.Stories.{Given}
+use Rattle.gap_tracker.specs.declared.answers.Taken.{Taken}
+use Rattle.gap_tracker.specs.declared.answers.Taken.TheVariants.{Before, Old, Repeat, Ready, Held}
+
+-- `first`: the first arrival's number; `top`: the greatest number; below `front` each number has come or is given up, the last of them at `latest`
+pub record State : Type 0 where
+  pub wait : ℕ
+  pub moment : ℕ
+  pub arrivals : ℕ
+  pub finished : Bool
+  pub first : ℕ
+  pub top : ℕ
+  pub front : ℕ
+  pub latest : ℕ
+  pub settled : List Given
+  pub held : List Numbered
+
+abbrev pub fresh : ℕ → State
+fresh wait = record { wait = wait; moment = 0; arrivals = 0; finished = false; first = 0; top = 0; front = 0; latest = 0; settled = []; held = [] }
+
+abbrev pub has_some : {X : Type 0} → List X → Bool
+has_some [] = false
+has_some (x ∷ xs) = true
+
+-- whether a held packet is settled
+abbrev pub has_ready : State → Bool
+has_ready s = has_some s.settled
+
+abbrev pub arrivals_of : State → ℕ
+arrivals_of s = s.arrivals
+
+abbrev pub is_finished : State → Bool
+is_finished s = s.finished
+
+abbrev pub passed : State → ℕ → State
+passed s now = record s { moment = max s.moment now }
+
+-- the least of t and the times of these
+abbrev pub oldest_from : ℕ → List Numbered → ℕ
+oldest_from t [] = t
+oldest_from t (x ∷ xs) = oldest_from (min t x.time) xs
+
+abbrev pub when_by : ℕ → ℕ → Option ℕ
+when_by t m = if nat_le m t then Some m else None
+
+-- when a number below all of these was given up, if it is by now
+abbrev pub given_up_at : ℕ → ℕ → List Numbered → Option ℕ
+given_up_at wait t held = if nat_lt 64 (length held) then Some t else when_by t (oldest_from t held + wait)
+
+abbrev pub latest_after : ℕ → ℕ → Option ℕ → Option ℕ
+latest_after latest time None = None
+latest_after latest time (Some end) = Some (max (max latest end) time)
+
+-- the latest end, once the first of these is settled, if it can be
+abbrev pub latest_from : ℕ → ℕ → ℕ → ℕ → List Numbered → Option ℕ
+latest_from wait t front latest [] = None
+latest_from wait t front latest (x ∷ xs) = if x.number == front then Some (max latest x.time) else latest_after latest x.time (given_up_at wait t (x ∷ xs))
+
+abbrev pub next_latest : State → Option ℕ
+next_latest s = latest_from s.wait s.moment s.front s.latest s.held
+
+abbrev pub settled_over : State → ℕ → List Numbered → State
+settled_over s latest [] = s
+settled_over s latest (x ∷ xs) = record s { front = x.number + 1; latest = latest; settled = s.settled ++ record { number = x.number; ready = latest; packet = x.packet } ∷ []; held = xs }
+
+-- the first that is held is settled
+abbrev pub settled_first : State → ℕ → State
+settled_first s latest = settled_over s latest s.held
+
+-- an arrival is counted
+abbrev pub counted : State → ℕ → State
+counted s n = record s { arrivals = s.arrivals + 1; first = if s.arrivals == 0 then n else s.first; front = if s.arrivals == 0 then n else s.front; top = max s.top n }
+
+abbrev pub put_at : State → ℕ → Numbered → State
+put_at s place e = record s { held = insert s.held place e }
+
+-- why a packet with this number is not held
+abbrev pub IsRefused : State → ℕ → Taken → Type 0
+IsRefused s n Before = n < s.first
+IsRefused s n Old = (s.first ≤ n) × (n < s.front)
+IsRefused s n Repeat = (s.first ≤ n) × (s.front ≤ n) × (has_number s.held n ≡ true)
+IsRefused s n Ready = ⊥
+IsRefused s n Held = ⊥
+
+abbrev pub AllAbove : ℕ → List Numbered → Type 0
+AllAbove n [] = Unit {0}
+AllAbove n (x ∷ xs) = (n < x.number) × AllAbove n xs
+
+-- where a number that is not among these belongs
+pub record IsPlace (n : ℕ) (held : List Numbered) (place : ℕ) : Type 0 where
+  pub within : place ≤ length held
+  pub above : AllAbove n (drop place held)
+  pub behind : (d : Numbered) → 0 < place → (get_or held (place - 1) d).number < n

@@ -1,0 +1,12 @@
+//! The order of one stream's packets: a tracker numbers what comes, holds what came too early, and gives the packets
+//! out in order, each at the moment at which nothing before it is waited for any longer.
+#![tactic(auto)]
+
+mod answers;
+mod holds;
+mod lines;
+mod numbering;
+mod tracking;
+
+pub use answers::{Due, Taken};
+pub use tracking::Tracker;
