@@ -10,3 +10,6 @@ mod tracking;
 
 pub use answers::{Due, Taken};
 pub use tracking::Tracker;
+
+#[cfg(test)]
+mod tests;

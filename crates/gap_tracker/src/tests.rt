@@ -1,0 +1,193 @@
+//! Runs of a tracker against cases worked out by hand.
+ghost use Rattle.std.specs.Prelude.{◌≡◌};
+ghost use Rattle.gap_tracker.specs.States.{is_finished};
+
+use crate::{Taken, Tracker};
+use rtt_base::TextPacket;
+use std::alloc::Global;
+use std::test::Fail;
+
+/// What came of a run: the answer to each arrival, and the sequence number and the ready time of each packet given.
+#[derive(Debug, Drop)]
+struct Played {
+    answers: Vec<Taken>,
+    given: Vec<(u16, u64)>,
+}
+
+fn packet(seq: u16) -> TextPacket {
+    let mut packet = TextPacket::default();
+    packet.seq = seq;
+    packet
+}
+
+/// Takes what is ready.
+fn drain(tracker: &mut Tracker, given: &mut Vec<(u16, u64)>) -> Result<(), Fail>
+    ensures { is_finished tracker.new ≡ is_finished tracker.old }
+{
+    for _ in 0..65 {
+        match tracker.next() {
+            Some(due) => given.push((due.packet.seq, due.ready))?,
+            None => return Ok(()),
+        }
+    }
+    Ok(())
+}
+
+/// Hands in a packet.
+fn hand_in(tracker: &mut Tracker, at: u64, seq: u16) -> Option<Taken>
+    ensures { is_finished tracker.new ≡ is_finished tracker.old }
+{
+    if tracker.ready() || tracker.arrivals() >= 1 << 40 || at >= 1 << 48 {
+        return None;
+    }
+    Some(tracker.arrive(at, packet(seq)))
+}
+
+/// Hands in packets, each a time and a sequence number, then the end, and takes what is ready after each.
+fn play(alloc: Global, wait: u64, arrivals: &[(u64, u16)]) -> Result<Played, Fail> {
+    let mut tracker = Tracker::new(alloc, wait.min(10000))?;
+    let mut answers = Vec::new(alloc);
+    let mut given = Vec::new(alloc);
+    for (at, seq) in arrivals {
+        if let Some(taken) = hand_in(&mut tracker, *at, *seq) {
+            answers.push(taken)?;
+        }
+        drain(&mut tracker, &mut given)?;
+    }
+    if !tracker.ready() {
+        tracker.finish();
+    }
+    drain(&mut tracker, &mut given)?;
+    Ok(Played { answers, given })
+}
+
+#[test]
+fn one_millisecond_late_is_late(rt: HostRuntime) -> Result<(), Fail> {
+    let played = play(rt.alloc(), 1000, &[(0, 10), (300, 12), (1299, 11)])?;
+    let answers = [Taken::Ready, Taken::Held, Taken::Ready];
+    assert_eq!(rt; played.answers.as_slice(), answers.as_slice());
+    let given = [(10, 0), (11, 1299), (12, 1299)];
+    assert_eq!(rt; played.given.as_slice(), given.as_slice());
+
+    let played = play(rt.alloc(), 1000, &[(0, 10), (300, 12), (1300, 11)])?;
+    let answers = [Taken::Ready, Taken::Held, Taken::Old];
+    assert_eq!(rt; played.answers.as_slice(), answers.as_slice());
+    let given = [(10, 0), (12, 1300)];
+    assert_eq!(rt; played.given.as_slice(), given.as_slice());
+    Ok(())
+}
+
+#[test]
+fn a_number_is_given_up_when_time_goes_on(rt: HostRuntime) -> Result<(), Fail> {
+    let mut tracker = Tracker::new(rt.alloc(), 1000)?;
+    let mut given = Vec::new(rt.alloc());
+    hand_in(&mut tracker, 0, 10);
+    drain(&mut tracker, &mut given)?;
+    hand_in(&mut tracker, 300, 12);
+    if !tracker.ready() {
+        tracker.expire(1299);
+    }
+    assert!(rt; !tracker.ready());
+    if !tracker.ready() {
+        tracker.expire(1300);
+    }
+    assert!(rt; tracker.ready());
+    drain(&mut tracker, &mut given)?;
+    assert_eq!(rt; given.as_slice(), [(10, 0), (12, 1300)].as_slice());
+    assert_eq!(rt; tracker.arrivals(), 2);
+    Ok(())
+}
+
+/// Number 0 at 0, the numbers 2 to `last` one per millisecond from 1 on, and then number 1.
+fn with_one_missing(alloc: Global, last: u16) -> Result<Played, Fail> {
+    let mut arrivals = Vec::new(alloc);
+    arrivals.push((0, 0))?;
+    for number in 2..=last {
+        arrivals.push((u64::from(number) - 1, number))?;
+    }
+    arrivals.push((u64::from(last), 1))?;
+    play(alloc, 1000, arrivals.as_slice())
+}
+
+#[test]
+fn sixty_four_greater_numbers_wait_and_sixty_five_do_not(rt: HostRuntime) -> Result<(), Fail> {
+    let played = with_one_missing(rt.alloc(), 65)?;
+    assert_eq!(rt; played.given.len(), 66);
+    assert_eq!(rt; played.given.get(1).copied(), Some((1, 65)));
+    assert_eq!(rt; played.given.get(65).copied(), Some((65, 65)));
+    assert_eq!(rt; played.answers.get(65).copied(), Some(Taken::Ready));
+
+    let played = with_one_missing(rt.alloc(), 66)?;
+    assert_eq!(rt; played.given.len(), 66);
+    assert_eq!(rt; played.given.get(1).copied(), Some((2, 65)));
+    assert_eq!(rt; played.answers.get(65).copied(), Some(Taken::Ready));
+    assert_eq!(rt; played.answers.get(66).copied(), Some(Taken::Old));
+    Ok(())
+}
+
+#[test]
+fn numbers_go_on_where_sequence_numbers_go_round(rt: HostRuntime) -> Result<(), Fail> {
+    let played = play(
+        rt.alloc(),
+        1000,
+        &[(0, 65534), (300, 65535), (600, 0), (900, 1)],
+    )?;
+    let given = [(65534, 0), (65535, 300), (0, 600), (1, 900)];
+    assert_eq!(rt; played.given.as_slice(), given.as_slice());
+    let played = play(rt.alloc(), 1000, &[(0, 65535), (10, 1), (20, 0)])?;
+    let given = [(65535, 0), (0, 20), (1, 20)];
+    assert_eq!(rt; played.given.as_slice(), given.as_slice());
+    Ok(())
+}
+
+#[test]
+fn a_packet_counts_once(rt: HostRuntime) -> Result<(), Fail> {
+    let played = play(
+        rt.alloc(),
+        1000,
+        &[(0, 7), (0, 7), (10, 7), (20, 9), (30, 9)],
+    )?;
+    let answers = [
+        Taken::Ready,
+        Taken::Old,
+        Taken::Old,
+        Taken::Held,
+        Taken::Repeat,
+    ];
+    assert_eq!(rt; played.answers.as_slice(), answers.as_slice());
+    assert_eq!(rt; played.given.as_slice(), [(7, 0), (9, 1020)].as_slice());
+    Ok(())
+}
+
+#[test]
+fn a_far_number_is_the_nearest_and_on_a_tie_the_lower(rt: HostRuntime) -> Result<(), Fail> {
+    let cases = [
+        (32767, Taken::Held, 2),
+        (32768, Taken::Before, 1),
+        (40000, Taken::Before, 1),
+        (65535, Taken::Before, 1),
+    ];
+    for (seq, expected, count) in cases {
+        let played = play(rt.alloc(), 1000, &[(0, 0), (10, seq)])?;
+        assert_eq!(rt; played.answers.get(1).copied(), Some(expected));
+        assert_eq!(rt; played.given.len(), count);
+    }
+    Ok(())
+}
+
+#[test]
+fn time_never_falls(rt: HostRuntime) -> Result<(), Fail> {
+    let played = play(rt.alloc(), 1000, &[(5000, 10), (100, 12), (0, 11)])?;
+    let given = [(10, 5000), (11, 5000), (12, 5000)];
+    assert_eq!(rt; played.given.as_slice(), given.as_slice());
+    Ok(())
+}
+
+#[test]
+fn the_end_settles_what_is_held(rt: HostRuntime) -> Result<(), Fail> {
+    let played = play(rt.alloc(), 1000, &[(0, 10), (100, 12), (250, 15)])?;
+    let given = [(10, 0), (12, 1100), (15, 1250)];
+    assert_eq!(rt; played.given.as_slice(), given.as_slice());
+    assert_eq!(rt; play(rt.alloc(), 1000, &[])?.given.len(), 0);
+    Ok(())
+}
