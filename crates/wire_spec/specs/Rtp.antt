@@ -17,6 +17,9 @@ pub record Reading : Type 0 where
   pub csrc : Option ℕ
   pub payload : List ℕ
 
+abbrev pub IsOctets : List ℕ → Type 0
+IsOctets octets = (i : ℕ) → slice_index octets i < 256
+
 -- ---- the packet as the sum of its parts
 
 -- a flag as a number

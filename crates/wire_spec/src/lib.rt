@@ -3,6 +3,7 @@
 
 mod faults;
 mod headers;
+pub mod laws;
 
 pub use faults::{DumpKind, RedFault, RtpFault, TextFault};
 pub use headers::RedHeader;

@@ -1,0 +1,23 @@
+//! Laws of the definitions. Each is the contract of a function that does nothing.
+ghost use Rattle.std.specs.Prelude.{◌≡◌, ◌≤◌, ℕ, List, length, Ok};
+ghost use Rattle.wire_spec.specs.Rtp.{IsOctets, Reading, Rtp, rtp, Head, FitsHeader, reading_of, rtp_written};
+ghost use Rattle.wire_spec.specs.Dump.{Place, dump_step, records_by, records_within, records};
+
+/// A packet is read as what it is the sum of, and only such a sum is read: so a packet has one reading at most.
+pub fn packets_are_sums()
+    ensures only { (octets : List ℕ) (r : Reading) → Rtp octets r → rtp octets ≡ Ok r }
+    ensures found { (octets : List ℕ) (r : Reading) → IsOctets octets → rtp octets ≡ Ok r → Rtp octets r }
+{}
+
+/// A packet that is written is read back, and has no other reading.
+pub fn headers_are_read_back()
+    ensures again { (h : Head) (payload : List ℕ) → FitsHeader h → rtp (rtp_written h payload) ≡ Ok (reading_of h payload) }
+    ensures alone { (h : Head) (payload : List ℕ) (r : Reading) → FitsHeader h → Rtp (rtp_written h payload) r → r ≡ reading_of h payload }
+{}
+
+/// What is still to come of a recording is one step and what comes after it. More steps than there are octets change
+/// nothing.
+pub fn records_unroll()
+    ensures one_step { (limit : ℕ) (p : Place) → records limit p ≡ records_by (records limit) (dump_step limit p) }
+    ensures enough { (n limit : ℕ) (p : Place) → length p.rest ≤ n → records_within n limit p ≡ records limit p }
+{}
