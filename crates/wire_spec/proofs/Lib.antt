@@ -3,3 +3,5 @@ pub mod Records
 pub mod HeaderLaws
 pub mod HeaderParts
 pub mod Written
+pub mod BlockLaws
+pub mod BlockParts

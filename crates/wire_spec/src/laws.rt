@@ -1,6 +1,9 @@
 //! Laws of the definitions. Each is the contract of a function that does nothing.
 ghost use Rattle.std.specs.Prelude.{◌≡◌, ◌≤◌, ℕ, List, length, Ok};
 ghost use Rattle.wire_spec.specs.Rtp.{IsOctets, Reading, Rtp, rtp, Head, FitsHeader, reading_of, rtp_written};
+ghost use Rattle.rtt_base.specs.declared.blocks.TextBlock.{TextBlock};
+ghost use Rattle.rtt_base.specs.declared.text_packets.Pts.{Pts};
+ghost use Rattle.wire_spec.specs.Red.{Red, red, FitsRed, red_written};
 ghost use Rattle.wire_spec.specs.Dump.{Place, dump_step, records_by, records_within, records};
 
 /// A packet is read as what it is the sum of, and only such a sum is read: so a packet has one reading at most.
@@ -13,6 +16,20 @@ pub fn packets_are_sums()
 pub fn headers_are_read_back()
     ensures again { (h : Head) (payload : List ℕ) → FitsHeader h → rtp (rtp_written h payload) ≡ Ok (reading_of h payload) }
     ensures alone { (h : Head) (payload : List ℕ) (r : Reading) → FitsHeader h → Rtp (rtp_written h payload) r → r ≡ reading_of h payload }
+{}
+
+/// A payload is read as the blocks that it is the sum of, and only such a sum is read: so a payload has one reading at
+/// most.
+pub fn payloads_are_sums()
+    ensures only { (octets : List ℕ) (pt : ℕ) (pts : Pts) (blocks : List TextBlock) → Red octets pt pts blocks → red octets pt pts ≡ Ok blocks }
+    ensures found { (octets : List ℕ) (pt : ℕ) (pts : Pts) (blocks : List TextBlock) → IsOctets octets → red octets pt pts ≡ Ok blocks → Red octets pt pts blocks }
+{}
+
+/// Blocks that are written are read back, and have no other reading.
+pub fn blocks_are_read_back()
+    ensures again { (blocks : List TextBlock) (pts : Pts) → FitsRed blocks pts → red (red_written blocks pts) pts.red pts ≡ Ok blocks }
+    ensures alone { (blocks : List TextBlock) (pts : Pts) (others : List TextBlock) → FitsRed blocks pts
+        → Red (red_written blocks pts) pts.red pts others → others ≡ blocks }
 {}
 
 /// What is still to come of a recording is one step and what comes after it. More steps than there are octets change
