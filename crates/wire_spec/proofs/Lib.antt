@@ -5,3 +5,4 @@ pub mod HeaderParts
 pub mod Written
 pub mod BlockLaws
 pub mod BlockParts
+pub mod Recordings

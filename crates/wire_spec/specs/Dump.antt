@@ -1,5 +1,5 @@
 -- Recordings of packets (the file form of rtpdump), what arrives out of one, and the one form in which one is written (profile).
-use Rattle.std.specs.Prelude.{ℕ, zero, suc, ◌+◌, ◌-◌, ◌==◌, max, nat_eq, List, [], ◌∷◌, ◌++◌, length, take, drop, Option, None, Some, Result, Ok, Err, nat_lt, if◌then◌else◌, codes}
+use Rattle.std.specs.Prelude.{ℕ, zero, suc, ◌<◌, ◌≤◌, ◌+◌, ◌-◌, ◌==◌, max, nat_eq, List, [], ◌∷◌, ◌++◌, length, take, drop, Option, None, Some, Result, Ok, Err, nat_lt, if◌then◌else◌, codes}
 use Rattle.std.specs.List.{flat_map, starts_with}
 use Rattle.std.specs.Int.{w16, w32, to_be_bytes, from_be_bytes}
 use Rattle.rtt_base.specs.declared.text_packets.Pts.{Pts}
@@ -169,3 +169,13 @@ record_written r = to_be_bytes w16 (length r.1 + 8) ++ (to_be_bytes w16 (length 
 
 abbrev pub dump_written : List (ℕ × List ℕ) → List ℕ
 dump_written rs = dump_opening ++ flat_map record_written rs
+
+-- what can be written and is read back: a packet of 1 to 4224 octets, in the first four hours
+pub record FitsRecord (r : ℕ × List ℕ) : Type 0 where
+  pub time : r.0 ≤ 14400000
+  pub some : 0 < length r.1
+  pub few : length r.1 ≤ 4224
+
+-- as it is read
+abbrev pub sent_item : ℕ × List ℕ → Item
+sent_item r = record { time = r.0; what = Sent r.1 }

@@ -1,10 +1,11 @@
 //! Laws of the definitions. Each is the contract of a function that does nothing.
-ghost use Rattle.std.specs.Prelude.{◌≡◌, ◌≤◌, ℕ, List, length, Ok};
+ghost use Rattle.std.specs.Prelude.{◌≡◌, ◌≤◌, ℕ, List, length, map, Ok, None};
 ghost use Rattle.wire_spec.specs.Rtp.{IsOctets, Reading, Rtp, rtp, Head, FitsHeader, reading_of, rtp_written};
+ghost use Rattle.std.specs.List.{AllByRecursion};
 ghost use Rattle.rtt_base.specs.declared.blocks.TextBlock.{TextBlock};
 ghost use Rattle.rtt_base.specs.declared.text_packets.Pts.{Pts};
 ghost use Rattle.wire_spec.specs.Red.{Red, red, FitsRed, red_written};
-ghost use Rattle.wire_spec.specs.Dump.{Place, dump_step, records_by, records_within, records};
+ghost use Rattle.wire_spec.specs.Dump.{Place, dump_step, records_by, records_within, records, dump, dump_written, FitsRecord, sent_item};
 
 /// A packet is read as what it is the sum of, and only such a sum is read: so a packet has one reading at most.
 pub fn packets_are_sums()
@@ -37,4 +38,10 @@ pub fn blocks_are_read_back()
 pub fn records_unroll()
     ensures one_step { (limit : ℕ) (p : Place) → records limit p ≡ records_by (records limit) (dump_step limit p) }
     ensures enough { (n limit : ℕ) (p : Place) → length p.rest ≤ n → records_within n limit p ≡ records limit p }
+{}
+
+/// A recording that is written is read back, wherever its packets and times fit and it has at most `limit` octets.
+pub fn recordings_are_read_back()
+    ensures { (limit : ℕ) (rs : List (ℕ × List ℕ)) → AllByRecursion FitsRecord rs → length (dump_written rs) ≤ limit
+        → dump limit (dump_written rs) ≡ record { items = map sent_item rs; fault = None } }
 {}
