@@ -8,3 +8,6 @@ mod writing;
 pub use packets::read_text;
 pub use reading::read_blocks;
 pub use writing::write_blocks;
+
+#[cfg(test)]
+mod tests;
