@@ -69,9 +69,7 @@ fn push_text(text: &Text, texts: &mut Texts)
     ensures { texts.new ≡ texts.old ++ text_list text.now }
 {
     if !text.is_empty() {
-        let mut copy = Text::new();
-        let _ = copy.append(text.as_slice());
-        texts.push(copy);
+        texts.push_copy(text.as_slice());
     }
 }
 
