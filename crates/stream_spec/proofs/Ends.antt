@@ -101,7 +101,7 @@ end_by_crowd wait e past front gone waits crowd =
     ])
 
 -- ---- what is settled is exactly what is ready by now
-used_above : (wait : ℕ) (past : List Numbered) (u : Numbered) (n : ℕ) → In u (used wait past) → first_number n past ≤ u.number
+pub used_above : (wait : ℕ) (past : List Numbered) (u : Numbered) (n : ℕ) → In u (used wait past) → first_number n past ≤ u.number
 used_above wait [] u n i = absurd i
 used_above wait (e ∷ past) u n i = go (in_time wait e past) refl (used_above wait past u e.number) i
   where

@@ -2,12 +2,12 @@
 use Rattle.std.proofs.Common.{◌^◌, ◌⊎◌, ◌≤◌, ◌≡◌, ℕ, zero, suc, ◌+◌, ◌-◌, ◌<◌, Bool, true, false, cond, inl, inr, List, [], ◌∷◌, ◌++◌, length, drop, refl, ap, subst, sym, ◌∙◌, arith}
 use Rattle.std.specs.Prelude.{filter, ◌*◌, ◌&&◌, ◌==◌, nat_lt, nat_le, IsUtf8, if◌then◌else◌}
 use Rattle.std.specs.List.{concat}
-use Rattle.std.proofs.lemmas.Bool.{cases_Bool, cases_lt, eqb-true, le-ltb, lt-ltb, le-leb, lt-leb, and_left, and_right}
+use Rattle.std.proofs.lemmas.Bool.{cases_Bool, cases_lt, eqb-true, eq-eqb, le-ltb, lt-ltb, le-leb, lt-leb, and_left, and_right}
 use Rattle.wire_spec.specs.Packets.{Packet, has_text}
 use Rattle.stream_spec.specs.Lists.{In}
 use Rattle.stream_spec.specs.History.{Lawful, ReachFits, octets, texts_of, History, Entry, Placed, sent_by, placed_at, placed_after, placed, low, before, window, IsPacket}
 use Rattle.stream_spec.specs.Kept.{is_entry_of}
-use Rattle.stream_spec.proofs.Lists.{in_append}
+use Rattle.stream_spec.proofs.Lists.{in_append, filter_in}
 use Rattle.stream_spec.proofs.Places.{one_more_own}
 
 abbrev pub grown : History → Entry → History
@@ -123,6 +123,13 @@ filter_twice p q (x ∷ xs) = go (p x) (q x) (filter_twice p q xs)
     go : (a b : Bool) → filter q (filter p xs) ≡ filter (λ x. p x && q x) xs → filter q (cond a (x ∷ filter p xs) (filter p xs)) ≡ cond (a && q x) (x ∷ filter (λ x. p x && q x) xs) (filter (λ x. p x && q x) xs)
     go true b e = ap (λ ys. cond (q x) (x ∷ ys) ys) e
     go false b e = e
+
+-- an entry whose index is lo or above stands behind the first lo of its source
+pub late_in : (h : History) (x : Placed) (lo : ℕ) → In x (placed h) → lo ≤ x.index → In x (drop lo (own h x.source))
+late_in h x lo i l =
+    let zero_off : lo - 0 ≡ lo = omega arith in
+    subst (λ (ys : List Placed). In x ys) (from_index 0 lo (own h x.source) (own_consecutive x.source [] h.entries) ∙ ap (λ k. drop k (own h x.source)) zero_off)
+    (filter_in (λ (y : Placed). nat_le lo y.index) x (own h x.source) (filter_in (is_entry_of x.source) x (placed h) i (eq-eqb x.source x.source refl)) (le-leb lo x.index l))
 
 -- the m entries before the last one
 pub before_last : (h : History) (e : Entry) (m : ℕ) → before (grown h e) m (last h e) ≡ drop (sent_by e.source h.entries - m) (own h e.source)

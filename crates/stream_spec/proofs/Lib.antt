@@ -15,3 +15,5 @@ pub mod OwnPackets
 pub mod Sent
 pub mod TypedExamples
 pub mod Typing
+pub mod ReadBack
+pub mod ChunkTexts

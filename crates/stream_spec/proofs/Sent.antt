@@ -2,7 +2,7 @@
 use Rattle.std.proofs.Common.{◌≡◌, ℕ, zero, suc, ◌+◌, ◌-◌, ◌*◌, ◌^◌, ◌<◌, ◌≤◌, Bool, true, false, cond, ◌⊎◌, inl, inr, Option, Some, None, List, [], ◌∷◌, ◌++◌, length, length-append, length-drop, take, drop, refl, ap, subst, sym, ◌∙◌, arith}
 use Rattle.std.specs.Prelude.{◌==◌, ◌||◌, filter, map, min, max, if◌then◌else◌}
 use Rattle.std.specs.List.{list_any, concat}
-use Rattle.std.proofs.lemmas.Bool.{cases_lt, eqb-true}
+use Rattle.std.proofs.lemmas.Bool.{cases_lt, eqb-true, true≢false, or_left, or_right}
 use Rattle.std.proofs.lemmas.List.{drop-append-le}
 use Rattle.std.proofs.lemmas.List.Folds.{list_any-append}
 use Rattle.std.proofs.Math.Bool.{or_comm}
@@ -12,9 +12,10 @@ use Rattle.stream_spec.specs.Lists.{In}
 use Rattle.stream_spec.specs.Hearing.{oldest_offset}
 use Rattle.stream_spec.specs.History.{History, Entry, Placed, sent_by, placed, low, before, window, nones, slots, Lawful, octets, texts_of}
 use Rattle.stream_spec.specs.Kept.{is_entry_of}
-use Rattle.stream_spec.specs.Own.{Own, block_of, own_packet, Sent, Stream, sent_of, nth, repeat_of, repeats, has_text_in, entry_after, entries_sent, sent_history, packet_after, MaySend, Sendable}
-use Rattle.stream_spec.proofs.Lists.{in_left, in_append}
-use Rattle.stream_spec.proofs.Grows.{grown, last, own, placed_grown, window_grown, before_last, window_last, index_under, split, Follows, lawful_grown}
+use Rattle.stream_spec.specs.Own.{Own, Closed, block_of, own_packet, Sent, Stream, sent_of, nth, repeat_of, repeats, has_text_in, entry_after, entries_sent, sent_history, packet_after, MaySend, Sendable}
+use Rattle.stream_spec.proofs.Lists.{in_left, in_right, in_append}
+use Rattle.stream_spec.proofs.Places.{same_place_after}
+use Rattle.stream_spec.proofs.Grows.{grown, last, own, placed_grown, window_grown, before_last, window_last, late_in, index_under, split, Follows, lawful_grown}
 use Rattle.stream_spec.proofs.Blocks.{in_window, window_in}
 
 -- ---- the placed entries of a source, oldest first, beside what was sent of it, newest first
@@ -391,3 +392,29 @@ sent_lawful c [] small s = record {
 sent_lawful c (e ∷ past) small s =
     let law = sent_lawful c past small s.1 in
     lawful_grown (sent_history c past) (entry_after c.gens past e) law (may_follow c past e small law s.0)
+
+-- the last entry is the one at the last place
+pub last_is_sent : (c : Stream) (past : List Sent) (e : Sent) (x : Placed) → In x (placed (sent_history c (e ∷ past))) → x.place ≡ length past
+    → own_packet (sent_history c (e ∷ past)) x ≡ packet_after c past e
+last_is_sent c past e x i q =
+    let there : In (the_last c past e) (placed (sent_history c (e ∷ past))) =
+    subst (λ (xs : List Placed). In (the_last c past e) xs) (sym (placed_grown (sent_history c past) (entry_after c.gens past e))) (in_right (the_last c past e) (placed (sent_history c past)) (the_last c past e ∷ []) (inl refl)) in
+    let same : x ≡ the_last c past e = same_place_after [] (entries_sent c.gens (e ∷ past)) x (the_last c past e) i there (omega (arith, length_sent c.gens past)) in
+    ap (own_packet (sent_history c (e ∷ past))) same ∙ last_packet c past e
+
+text_in : (n : ℕ) (zs : List Sent) (z : Sent) → In z (take n zs) → has_text z.text ≡ true → has_text_in n zs ≡ true
+text_in zero zs z i t = absurd i
+text_in (suc n) [] z i t = absurd i
+text_in (suc n) (y ∷ zs) z (inl q) t = or_left (has_text y.text) (has_text_in n zs) (sym (ap (λ (x : Sent). has_text x.text) q) ∙ t)
+text_in (suc n) (y ∷ zs) z (inr i) t = or_right (has_text y.text) (has_text_in n zs) (text_in n zs z i t)
+
+-- where none of the last ones of any source has text, each text was repeated
+pub sent_closed : (c : Stream) (past : List Sent) → ((s : ℕ) → has_text_in c.gens (sent_of s past) ≡ false) → Closed c.gens (sent_history c past)
+sent_closed c past quiet x i t = elim (cases_lt (x.index + c.gens) (sent_by x.source (entries_sent c.gens past))) [
+  | inl l ↦ l
+  | inr ge ↦
+      let n = sent_count c.gens x.source past in
+      let j = late_in (sent_history c past) x (length (sent_of x.source past) - c.gens) i (omega (arith, n)) in
+      let r = mirror_in c.gens (own (sent_history c past) x.source) (sent_of x.source past) x (mirrors c x.source past) j in
+      absurd (true≢false (sym (text_in c.gens (sent_of x.source past) r.0 r.1 (sym (ap has_text r.2.text) ∙ t)) ∙ quiet x.source))
+]

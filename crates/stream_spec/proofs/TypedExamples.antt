@@ -1,10 +1,9 @@
 -- What is typed and sent, computed on examples.
-use Rattle.std.proofs.Common.{◌≡◌, ℕ, zero, suc, true, false, Option, Some, None, List, [], ◌∷◌, ◌++◌, length, take, refl}
-use Rattle.std.specs.Prelude.{map, replicate}
+use Rattle.std.proofs.Common.{◌≡◌, ℕ, zero, suc, true, false, Some, None, List, [], ◌∷◌, length, refl}
+use Rattle.std.specs.Prelude.{map}
 use Rattle.rtt_base.specs.declared.blocks.TextBlock.{TextBlock}
-use Rattle.wire_spec.specs.Packets.{Packet}
 use Rattle.stream_spec.specs.Own.{Sent, Stream}
-use Rattle.stream_spec.specs.Typed.{Event, Text, Ask, entries, sents, waiting, packet_at, front}
+use Rattle.stream_spec.specs.Typed.{Event, Text, Ask, entries, sents, packet_at}
 
 abbrev c : Stream
 c = record { ssrc = 1001; first = 0; base = 0; gens = 2 }

@@ -1,13 +1,13 @@
 -- What is typed and sent: the texts sent and what waits are all that was typed, and what is sent may be sent.
-use Rattle.std.proofs.Common.{◌≡◌, ℕ, zero, suc, ◌+◌, ◌-◌, ◌^◌, ◌<◌, ◌≤◌, Bool, true, false, cond, ◌⊎◌, inl, inr, Option, Some, None, List, [], ◌∷◌, ◌++◌, length, take, drop, append_assoc, refl, ap, subst, sym, ◌∙◌, arith}
+use Rattle.std.proofs.Common.{◌≡◌, ℕ, zero, suc, ◌+◌, ◌^◌, ◌<◌, ◌≤◌, Bool, true, false, cond, inl, inr, List, [], ◌∷◌, ◌++◌, length, take, drop, append_assoc, refl, ap, subst, sym, ◌∙◌, arith}
 use Rattle.std.specs.Prelude.{◌==◌, ◌||◌, ◌&&◌, min, nat_lt, nat_le, slice_index, IsUtf8}
 use Rattle.std.specs.Str.{IsCharBoundary}
 use Rattle.std.proofs.lemmas.Str.{IsUtf8-nil, IsUtf8-append, IsUtf8-take, IsUtf8-drop, IsCharBoundary-start}
 use Rattle.std.proofs.lemmas.Bool.Decides.{nat_tests}
 use Rattle.wire_spec.specs.Packets.{has_text}
 use Rattle.stream_spec.specs.Lists.{In}
-use Rattle.stream_spec.specs.Own.{Sent, Stream, sent_of, has_text_in, MaySend, Sendable}
-use Rattle.stream_spec.specs.Typed.{Event, Text, Ask, Turned, sents, carried, typed, is_end, last_end, front, has_passed, media_at, is_due, entry_at, left, entries, waiting, due_at, last_ask, IsScript}
+use Rattle.stream_spec.specs.Own.{Sent, Stream, sent_of, has_text_in, Sendable}
+use Rattle.stream_spec.specs.Typed.{Event, Text, Ask, Turned, sents, carried, typed, is_end, last_end, front, has_passed, media_at, entry_at, left, entries, waiting, due_at, last_ask, IsScript}
 
 -- ---- fronts
 dropped : (xs ys : List ℕ) → drop (length xs) (xs ++ ys) ≡ ys

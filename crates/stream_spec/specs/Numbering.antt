@@ -16,6 +16,10 @@ pub record Numbered : Type 0 where
 abbrev pub nearest : ℕ → ℕ → ℕ
 nearest top seq = (top - 32768) + (seq + 65536 - (top - 32768) % 65536) % 65536
 
+-- how far two numbers lie apart
+abbrev pub distance : ℕ → ℕ → ℕ
+distance m n = (m - n) + (n - m)
+
 -- the greatest number of all
 abbrev pub greatest : List Numbered → ℕ
 greatest [] = 0

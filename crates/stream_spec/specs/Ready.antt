@@ -1,7 +1,8 @@
 -- When a number ends, when a packet is ready, and the heard texts with their moments (profile).
-use Rattle.std.specs.Prelude.{ℕ, zero, suc, ◌+◌, ◌-◌, ◌==◌, Bool, Option, None, Some, List, [], ◌∷◌, ◌++◌, filter, map, ◌&&◌, nat_lt, if◌then◌else◌, min, max}
+use Rattle.std.specs.Prelude.{ℕ, ◌≤◌, zero, suc, ◌+◌, ◌-◌, ◌==◌, Bool, Option, None, Some, List, [], ◌∷◌, ◌++◌, filter, map, ◌&&◌, nat_lt, if◌then◌else◌, min, max}
 use Rattle.rtt_base.specs.declared.records.Chunk.{Chunk}
 use Rattle.wire_spec.specs.Packets.{Arrival}
+use Rattle.stream_spec.specs.Lists.{In}
 use Rattle.stream_spec.specs.Numbering.{Numbered, numbered, used, in_time, distinct_from, has_number, first_number}
 use Rattle.stream_spec.specs.Hearing.{piece, is_packet_of}
 
@@ -43,6 +44,11 @@ abbrev pub chunks_over : (Numbered → ℕ) → ℕ → (ℕ → Bool) → ℕ �
 chunks_over ready place present first prev [] = []
 chunks_over ready place present first prev (b ∷ bs) =
     map (chunk place (ready b)) (piece present first prev b) ++ chunks_over ready place present first (Some b) bs
+
+-- ready moments never fall
+abbrev pub ReadyRises : List Chunk → Type 0
+ReadyRises [] = Unit {0}
+ReadyRises (c ∷ cs) = ((d : Chunk) → In d cs → c.ready ≤ d.ready) × ReadyRises cs
 
 -- What is heard of the source s as chunks, the source being at this place among the legs.
 abbrev pub chunks : ℕ → ℕ → List Arrival → ℕ → List Chunk

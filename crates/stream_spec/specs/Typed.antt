@@ -1,6 +1,6 @@
 -- What a sender of typed text sends, and when (RFC 4103, sections 4 and 5; the moments, the limit of a text and the
 -- media time behind a long pause are a profile). Lists are newest first.
-use Rattle.std.specs.Prelude.{◌≡◌, ℕ, zero, suc, ◌+◌, ◌^◌, ◌<◌, ◌≤◌, ◌==◌, Bool, true, Option, None, Some, List, [], ◌∷◌, ◌++◌, length, map, take, drop, min, slice_index, option_to_list, ◌&&◌, ◌||◌, nat_lt, nat_le, if◌then◌else◌, IsUtf8}
+use Rattle.std.specs.Prelude.{ℕ, zero, suc, ◌+◌, ◌^◌, ◌<◌, ◌≤◌, Bool, true, Option, None, Some, List, [], ◌∷◌, ◌++◌, length, map, take, drop, min, slice_index, ◌&&◌, ◌||◌, nat_lt, nat_le, if◌then◌else◌, IsUtf8}
 use Rattle.wire_spec.specs.Packets.{Packet, has_text}
 use Rattle.stream_spec.specs.Own.{Sent, Stream, has_text_in, packet_after}
 

@@ -1,11 +1,15 @@
-//! The laws of a stream: what is heard of a lawful history, whatever packets were lost, repeated, reordered or late.
-ghost use Rattle.std.specs.Prelude.{◌≡◌, ◌<◌, ◌↔◌, ◌==◌, [], ◌∷◌, ◌++◌, if◌then◌else◌, ℕ, List, Bool, filter};
+//! The laws of a stream: what is heard of a lawful history, whatever packets were lost, repeated, reordered or late;
+//! and what a sender makes.
+ghost use Rattle.std.specs.Prelude.{◌≡◌, ◌+◌, ◌%◌, ◌^◌, ◌≤◌, ◌<◌, ◌↔◌, ◌==◌, [], ◌∷◌, ◌++◌, if◌then◌else◌, ℕ, List, Bool, filter, map, length};
 ghost use Rattle.wire_spec.specs.Packets.{Arrival, has_text};
 ghost use Rattle.stream_spec.specs.Lists.{In};
-ghost use Rattle.stream_spec.specs.Numbering.{Numbered, numbered, used};
+ghost use Rattle.stream_spec.specs.Numbering.{Numbered, numbered, used, nearest, distance};
 ghost use Rattle.stream_spec.specs.Hearing.{heard, heard_by, adds_marker, adds_texts, marker};
-ghost use Rattle.stream_spec.specs.History.{History, Placed, Lawful, Come, placed, places};
+ghost use Rattle.stream_spec.specs.Ready.{chunks, ReadyRises};
+ghost use Rattle.stream_spec.specs.Holding.{Falling};
+ghost use Rattle.stream_spec.specs.History.{History, Placed, Lawful, IsPacket, Come, placed, places};
 ghost use Rattle.stream_spec.specs.Kept.{Mark, Block, kept, texts, blocks_in, Rising, ArePlaces, IsCarried, NoGap, Parts, is_text_of};
+ghost use Rattle.stream_spec.specs.Own.{Own, Closed, Stream, Sent, Sendable, NearEach, own_packet, come_from, history_of, sent_history, sent_of, has_text_in, packet_after};
 
 /// What is heard of a source is what the places that came in time tell of it.
 pub fn heard_is_kept()
@@ -41,4 +45,37 @@ pub fn mark_stands()
 pub fn no_gap_no_mark()
     ensures no_mark { (h : History) (i : List Placed) (s : ℕ) → NoGap i → In Mark (kept h i s) → ⊥ }
     ensures all { (h : History) → Lawful h → (s : ℕ) → blocks_in (kept h (placed h) s) ≡ filter (is_text_of s) (placed h) }
+{}
+
+/// A number is congruent to its sequence number and nearest to the greatest number before it. On a tie it is the lower
+/// one: each lower number that is congruent lies farther.
+pub fn numbers_are_nearest()
+    ensures congruent { (top seq : ℕ) → seq < 65536 → nearest top seq % 65536 ≡ seq }
+    ensures nearest { (top seq n : ℕ) → 65536 ≤ top → seq < 65536 → n % 65536 ≡ seq → distance (nearest top seq) top ≤ distance n top }
+    ensures lower { (top seq n : ℕ) → 65536 ≤ top → seq < 65536 → n % 65536 ≡ seq → n < nearest top seq
+        → distance (nearest top seq) top < distance n top }
+{}
+
+/// The texts of the chunks are what is heard. Where times never fall, their ready moments never fall.
+pub fn chunks_are_heard()
+    ensures texts { (wait place : ℕ) (a : List Arrival) (s : ℕ) → map (λ c. c.text) (chunks wait place a s) ≡ heard wait a s }
+    ensures ready { (wait place : ℕ) (a : List Arrival) (s : ℕ) → Falling (numbered a) → ReadyRises (chunks wait place a s) }
+{}
+
+/// What is sent, each entry where it may be, is a lawful history of its own packets, and is closed where nothing is
+/// left to repeat.
+pub fn sent_is_lawful()
+    ensures lawful { (c : Stream) (past : List Sent) → c.gens ≤ 3 → Sendable c past → Lawful (sent_history c past) }
+    ensures own { (c : Stream) (past : List Sent) → Own c.gens (sent_history c past) }
+    ensures last { (c : Stream) (past : List Sent) (e : Sent) (x : Placed) → In x (placed (sent_history c (e ∷ past))) → x.place ≡ length past
+        → own_packet (sent_history c (e ∷ past)) x ≡ packet_after c past e }
+    ensures closed { (c : Stream) (past : List Sent) → ((s : ℕ) → has_text_in c.gens (sent_of s past) ≡ Bool.false) → Closed c.gens (sent_history c past) }
+{}
+
+/// The packets of an own history are its packets, wherever they come, and together they tell it.
+pub fn own_packets_tell()
+    ensures packet { (g : ℕ) (h : History) → Lawful h → Own g h → (x : Placed) → In x (placed h) → IsPacket h x (own_packet h x) }
+    ensures come { (g : ℕ) (h : History) → Lawful h → Own g h → (xs : List (ℕ × Placed)) → NearEach h xs → Come h (come_from h xs) }
+    ensures history { (g : ℕ) (h : History) → Lawful h → Own g h → 0 < length h.entries → h.first < 65536 → ((x : Placed) → In x (placed h) → x.media < 2 ^ 32)
+        → history_of (map (own_packet h) (placed h)) h.base ≡ h }
 {}

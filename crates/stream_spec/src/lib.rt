@@ -3,4 +3,7 @@
 
 mod laws;
 
-pub use laws::{carriers_decide, heard_is_kept, heard_one_by_one, mark_stands, no_gap_no_mark};
+pub use laws::{
+    carriers_decide, chunks_are_heard, heard_is_kept, heard_one_by_one, mark_stands,
+    no_gap_no_mark, numbers_are_nearest, own_packets_tell, sent_is_lawful,
+};
