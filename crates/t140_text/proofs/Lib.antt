@@ -1,2 +1,1 @@
 pub mod Erased
-pub mod Printed
