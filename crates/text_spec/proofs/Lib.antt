@@ -4,3 +4,5 @@ pub mod Lines
 pub mod Steps
 pub mod Octets
 pub mod Separators
+pub mod Kept
+pub mod Ending

@@ -58,7 +58,7 @@ bell_line : (c : ℕ) → class_of c ≡ Bell → is_new_line c ≡ false
 unfolding class_of
 bell_line c e = let same : c ≡ 0x07 = same_code c 0x07 (tests_bell _ _ _ _ e) in rw same refl
 
-new_line : (c : ℕ) → class_of c ≡ NewLine → is_new_line c ≡ true
+pub new_line : (c : ℕ) → class_of c ≡ NewLine → is_new_line c ≡ true
 unfolding class_of
 new_line c e = tests_new_line _ _ _ _ e
 

@@ -1,4 +1,4 @@
--- The classes of characters (T.140, section 8; the silent characters are this profile's choice).
+-- The classes of characters (T.140; which characters are silent is this profile's choice).
 -- A character is its code. The characters of a text in UTF-8 are std's `chars`.
 use Rattle.std.specs.Prelude.{ℕ, Bool, true, false, ◌||◌, ◌&&◌, nat_lt, nat_le, ◌==◌, if◌then◌else◌}
 use Rattle.text_spec.specs.declared.classes.CharClass.{CharClass}

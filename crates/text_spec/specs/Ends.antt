@@ -1,4 +1,4 @@
--- Where a text may be followed by another person's (profile; RFC 9071, section 4.2, leaves the moment open).
+-- Where a text ends a line or a sentence, so that another person's may follow (profile).
 -- In UTF-8 a text ends with a character exactly where its octets end with the character's.
 use Rattle.std.specs.Prelude.{ℕ, Bool, ◌||◌, nat_eq, List, [], ◌∷◌, encode_utf8}
 use Rattle.std.specs.List.{ends_with}

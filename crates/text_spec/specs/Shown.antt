@@ -1,4 +1,4 @@
--- How a text is shown (T.140, section 8; what an erasure takes back is this profile's choice).
+-- How a text is shown (T.140; what an erasure takes back is this profile's choice).
 use Rattle.std.specs.Prelude.{ℕ, Bool, false, ◌&&◌, not, nat_lt, ◌==◌, if◌then◌else◌, List, [], ◌∷◌, map, length, filter, chars, encode_utf8_all}
 use Rattle.std.specs.List.{list_any, slice_split}
 use Rattle.text_spec.specs.Characters.{class_of, is_new_line, is_erasure, is_erasable, is_bell}

@@ -1,8 +1,10 @@
 //! Laws of the definitions, each the contract of a function that does nothing.
-ghost use Rattle.std.specs.Prelude.{◌≡◌, ℕ, ◌+◌, ◌<◌, ◌≤◌, true, false, ◌&&◌, List, [], ◌∷◌, ◌++◌, length, chars, IsUtf8};
+ghost use Rattle.std.specs.Prelude.{◌≡◌, ◌==◌, ◌↔◌, ℕ, ◌+◌, ◌<◌, ◌≤◌, true, false, ◌&&◌, List, [], ◌∷◌, ◌++◌, length, All, chars, encode_utf8_all, IsUtf8};
 ghost use Rattle.std.specs.List.{concat, list_all};
-ghost use Rattle.text_spec.specs.declared.classes.CharClass.TheVariants.{Erase};
+ghost use Rattle.std.specs.Str.{all_scalars};
+ghost use Rattle.text_spec.specs.declared.classes.CharClass.TheVariants.{Bell, Erase, NewLine, Print, Silent};
 ghost use Rattle.text_spec.specs.Characters.{class_of, is_bell, is_erasable, is_erasure, is_print};
+ghost use Rattle.text_spec.specs.Ends.{ends_in};
 ghost use Rattle.text_spec.specs.Shown.{begins_with_lf, bells, ends_with_cr, shown, signs, survivors, without_last};
 
 /// One more sign at the end of a text: what survives is what a stack holds.
@@ -28,6 +30,24 @@ pub fn pieces()
     ensures bells { (xs ys : List ℕ) → bells (xs ++ ys) ≡ bells xs + bells ys }
 {}
 
+/// One more character at the end of a text: what then survives.
+pub fn one_more_character()
+    ensures erasure { (cs : List ℕ) (c : ℕ) → class_of c ≡ Erase
+        → survivors (signs (cs ++ c ∷ [])) ≡ without_last (survivors (signs cs)) }
+    ensures letter { (cs : List ℕ) (c : ℕ) → class_of c ≡ Print
+        → survivors (signs (cs ++ c ∷ [])) ≡ survivors (signs cs) ++ c ∷ [] }
+    ensures new_line { (cs : List ℕ) (c : ℕ) → class_of c ≡ NewLine
+        → ((c == 10) && ends_with_cr cs) ≡ false
+        → survivors (signs (cs ++ c ∷ [])) ≡ survivors (signs cs) ++ 10 ∷ [] }
+    // The LF of a CR LF changes nothing.
+    ensures cr_lf { (cs : List ℕ) → ends_with_cr cs ≡ true
+        → survivors (signs (cs ++ 10 ∷ [])) ≡ survivors (signs cs) }
+    ensures bell { (cs : List ℕ) (c : ℕ) → class_of c ≡ Bell
+        → survivors (signs (cs ++ c ∷ [])) ≡ survivors (signs cs) }
+    ensures silent { (cs : List ℕ) (c : ℕ) → class_of c ≡ Silent
+        → survivors (signs (cs ++ c ∷ [])) ≡ survivors (signs cs) }
+{}
+
 /// A text of printing characters is one line, and that line is the text.
 pub fn plain_text()
     ensures { (text : List ℕ) → IsUtf8 text
@@ -40,8 +60,17 @@ pub fn empty_text()
     ensures { shown [] ≡ record { lines = [] ∷ []; bells = 0 } }
 {}
 
-/// There is always a line, and all lines together are no longer than the text.
+/// There is always a line; a line has printing characters alone; and all lines together are no longer than the text.
 pub fn lines()
     ensures some { (text : List ℕ) → 0 < length (shown text).lines }
+    ensures plain { (text : List ℕ) → IsUtf8 text → All (λ line.
+        IsUtf8 line × (list_all (λ c. is_print (class_of c)) (chars line) ≡ true)) (shown text).lines }
     ensures short { (text : List ℕ) → IsUtf8 text → length (concat (shown text).lines) ≤ length text }
+{}
+
+/// In UTF-8 a text ends with the octets of some characters exactly where its characters end with them.
+pub fn ends()
+    ensures { (cs ds : List ℕ) → all_scalars cs ≡ true → all_scalars ds ≡ true
+        → (ends_in (encode_utf8_all cs) (encode_utf8_all ds) ≡ true)
+        ↔ ((front : List ℕ) × (cs ≡ front ++ ds)) }
 {}
