@@ -1,0 +1,15 @@
+use Rattle.std.proofs.Common.{◌≡◌, ◌∙◌, ◌+◌, ℕ, Ok, Some, None, true, false, ap, refl, sym}
+use Rattle.rtpdump_io.proofs.Recordings.{no_opening, no_line, no_head, opens}
+use Rattle.rtpdump_io.proofs.readers.DumpReader.open.Goals as goal
+
+pub returns-then-not-branch-clause-opened : goal.returns-then-not-branch-clause-opened
+returns-then-not-branch-clause-opened g c = λ t. no_opening _ (c.in_ok-begins_with.ensures.no t (ap Ok c.if-not-branch.true))
+
+pub returns-in_default-clause-opened : goal.returns-in_default-clause-opened
+returns-in_default-clause-opened g c = λ t. no_line _ _ (c.in_ok-begins_with.ensures.yes t (ap Ok c.if-not-branch.false)) (rw c.in_default.is at (c.in_ok-more.ensures.line t))
+
+pub returns-then-not-branch-2-clause-opened : goal.returns-then-not-branch-2-clause-opened
+returns-then-not-branch-2-clause-opened g c = λ t. rw c.from.ensures (no_head _ _ _ c.in-Some.more (c.in_ok-begins_with.ensures.yes t (ap Ok c.if-not-branch.false)) (rw c.in-Some.is at (c.in_ok-more.ensures.line t)) (rw c.in-Some.is at (c.in_ok-more.ensures.number t)) (c.in_ok-pass.ensures.missing t (ap Ok c.if-not-branch-2.true)))
+
+pub returns-clause-opened : goal.returns-clause-opened
+returns-clause-opened g c = λ t. rw c.from.ensures (opens _ _ _ _ c.in-Some.more (c.in_ok-begins_with.ensures.yes t (ap Ok c.if-not-branch.false)) (rw c.in-Some.is at (c.in_ok-more.ensures.line t)) (rw c.in-Some.is at (c.in_ok-more.ensures.number t)) (c.in_ok-pass.ensures.there t (ap Ok c.if-not-branch-2.false)))

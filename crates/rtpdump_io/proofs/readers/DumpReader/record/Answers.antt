@@ -1,0 +1,55 @@
+use Rattle.std.proofs.Common.{◌≡◌, ◌∙◌, ◌<◌, ◌≤◌, ◌+◌, ◌-◌, ℕ, List, ◌++◌, Ok, true, false, ap, arith, length, rules}
+use Rattle.wire_spec.specs.Dump.{time_of}
+use Rattle.rtpdump_io.specs.Input.{unread, Passes}
+use Rattle.rtpdump_io.proofs.Recordings.{nothing_left, few_left, all_there, found_bad_length, found_too_large, found_end, found_too_long, found_record}
+use Rattle.rtpdump_io.proofs.readers.DumpReader.record.Goals as goal
+
+pub returns-then-number-eq0-clause-found : goal.returns-then-number-eq0-clause-found
+returns-then-number-eq0-clause-found g c = λ t.
+    let eight : length c.read_full.new.buf ≡ 8 = omega arith in
+    let read = c.in_ok-number.ensures in
+    nothing_left _ _ _ _ _ _ (read.given t) eight (read.ended t) c.if-number-eq0.true
+
+pub returns-then-number-lt8-clause-found : goal.returns-then-number-lt8-clause-found
+returns-then-number-lt8-clause-found g c = λ t.
+    let eight : length c.read_full.new.buf ≡ 8 = omega arith in
+    let read = c.in_ok-number.ensures in
+    few_left _ _ _ _ _ _ (read.given t) eight (read.ended t) c.if-number-eq0.false c.if-number-lt8.true
+
+pub returns-then-head-lt8-clause-found : goal.returns-then-head-lt8-clause-found
+returns-then-head-lt8-clause-found g c = λ t.
+    let eight : length c.read_full.new.buf ≡ 8 = omega arith in
+    let read = c.in_ok-number.ensures in
+    found_bad_length _ _ c.from_octets-head.result.size c.from_octets-head.result.packet_size c.from_octets-head.result.time _ c.read_full.new.buf _ (all_there _ _ _ _ (read.given t) eight c.if-number-lt8.false) eight c.from_octets-head.ensures.size c.from_octets-head.ensures.packet_size c.from_octets-head.ensures.time c.if-head-lt8.true
+
+pub returns-then-end-from-clause-found : goal.returns-then-end-from-clause-found
+returns-then-end-from-clause-found g c = λ t.
+    let eight : length c.read_full.new.buf ≡ 8 = omega arith in
+    let read = c.in_ok-number.ensures in
+    let size : 8 ≤ c.from_octets-head.result.size = c.if-head-lt8.false in
+    let large : c.args.self.now.limit < c.args.self.now.offset + c.from_octets-head.result.size = omega (arith, c.from.ensures, c.from-2.ensures) in
+    found_too_large _ _ c.from_octets-head.result.size c.from_octets-head.result.packet_size c.from_octets-head.result.time _ c.read_full.new.buf _ (all_there _ _ _ _ (read.given t) eight c.if-number-lt8.false) eight c.from_octets-head.ensures.size c.from_octets-head.ensures.packet_size c.from_octets-head.ensures.time size large
+
+pub returns-then-not-branch-clause-found : goal.returns-then-not-branch-clause-found
+returns-then-not-branch-clause-found g c = λ t.
+    let eight : length c.read_full.new.buf ≡ 8 = omega arith in
+    let read = c.in_ok-number.ensures in
+    let size : 8 ≤ c.from_octets-head.result.size = c.if-head-lt8.false in
+    let fits : c.args.self.now.offset + c.from_octets-head.result.size ≤ c.args.self.now.limit = omega (arith, c.from.ensures, c.from-2.ensures) in
+    rw c.body.ensures.same_offset (found_end _ _ c.from_octets-head.result.size c.from_octets-head.result.packet_size c.from_octets-head.result.time _ c.read_full.new.buf _ (all_there _ _ _ _ (read.given t) eight c.if-number-lt8.false) eight c.from_octets-head.ensures.size c.from_octets-head.ensures.packet_size c.from_octets-head.ensures.time size fits (c.in_ok-body.ensures.missing t (ap Ok c.if-not-branch.true)))
+
+pub returns-then-head-gt14400000-clause-found : goal.returns-then-head-gt14400000-clause-found
+returns-then-head-gt14400000-clause-found g c = λ t.
+    let eight : length c.read_full.new.buf ≡ 8 = omega arith in
+    let read = c.in_ok-number.ensures in
+    let size : 8 ≤ c.from_octets-head.result.size = c.if-head-lt8.false in
+    let fits : c.args.self.now.offset + c.from_octets-head.result.size ≤ c.args.self.now.limit = omega (arith, c.from.ensures, c.from-2.ensures) in
+    rw c.body.ensures.same_offset (found_too_long _ _ c.from_octets-head.result.size c.from_octets-head.result.packet_size c.from_octets-head.result.time _ c.read_full.new.buf _ (all_there _ _ _ _ (read.given t) eight c.if-number-lt8.false) eight c.from_octets-head.ensures.size c.from_octets-head.ensures.packet_size c.from_octets-head.ensures.time _ size fits (c.in_ok-body.ensures.there t (ap Ok c.if-not-branch.false)) c.if-head-gt14400000.true)
+
+pub returns-clause-found : goal.returns-clause-found
+returns-clause-found g c = λ t.
+    let eight : length c.read_full.new.buf ≡ 8 = omega arith in
+    let read = c.in_ok-number.ensures in
+    let size : 8 ≤ c.from_octets-head.result.size = c.if-head-lt8.false in
+    let fits : c.args.self.now.offset + c.from_octets-head.result.size ≤ c.args.self.now.limit = omega (arith, c.from.ensures, c.from-2.ensures) in
+    rw c.from.ensures (found_record _ _ c.from_octets-head.result.size c.from_octets-head.result.packet_size c.from_octets-head.result.time _ c.read_full.new.buf _ (all_there _ _ _ _ (read.given t) eight c.if-number-lt8.false) eight c.from_octets-head.ensures.size c.from_octets-head.ensures.packet_size c.from_octets-head.ensures.time _ _ size fits (c.in_ok-body.ensures.there t (ap Ok c.if-not-branch.false)) c.if-head-gt14400000.false (c.in_ok-body.ensures.kept t (ap Ok c.if-not-branch.false)) _ c.item.ensures)

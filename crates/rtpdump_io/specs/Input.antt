@@ -1,0 +1,17 @@
+-- What a reading that goes by blocks has before it (profile): first the rest of its block, then what its source has left.
+use Rattle.std.specs.Prelude.{ℕ, ◌≡◌, ◌≤◌, List, ◌++◌, length, take, drop}
+use Rattle.rtpdump_io.specs.declared.inputs.Input.{Input}
+
+-- so many octets are there, and the others follow
+pub record Passes (count : ℕ) (old new : List ℕ) : Type 0 where
+  pub enough : count ≤ length old
+  pub rest : new ≡ drop count old
+
+module _ {S : Type 0} where
+  -- the rest of the block
+  abbrev pub held : Input S → List ℕ
+  held input = drop input.start (take input.end input.block)
+
+  -- all octets that are still to be read
+  abbrev pub unread : (S → List ℕ) → Input S → List ℕ
+  unread left input = held input ++ left input.source

@@ -1,0 +1,79 @@
+-- What is still to come of a reading of a recording, and what one call gives of it (profile).
+use Rattle.std.specs.Prelude.{◌≡◌, ℕ, ◌++◌, List, [], Bool, true, false, None, Some, Result, Ok, Err}
+use Rattle.wire_spec.specs.declared.faults.DumpKind.{DumpKind}
+use Rattle.wire_spec.specs.declared.faults.DumpKind.TheVariants as kind
+use Rattle.wire_spec.specs.Dump.{Item, Sent, Place, Fault, Step, Next, Broken, Recording, with_item, records, dump}
+use Rattle.wire_spec.specs.Dump as dumps
+use Rattle.rtpdump_io.specs.declared.items.DumpItem.{DumpItem}
+use Rattle.rtpdump_io.specs.declared.items.DumpItem.TheVariants.{Packet, Rtcp, Cut, Large, End}
+use Rattle.rtpdump_io.specs.declared.items.DumpFault.{DumpFault}
+use Rattle.rtpdump_io.specs.declared.readers.Stage.{Stage}
+use Rattle.rtpdump_io.specs.declared.readers.Stage.TheVariants.{Opening, Records, Ended}
+use Rattle.rtpdump_io.specs.declared.readers.DumpReader.{DumpReader}
+use Rattle.rtpdump_io.specs.Input.{unread}
+
+-- no records, and no fault
+abbrev pub nothing : Recording
+nothing = record { items = []; fault = None }
+
+-- no records, but a fault
+abbrev pub broken : ℕ → DumpKind → Recording
+broken byte kind = record { items = []; fault = Some (record { byte = byte; kind = kind }) }
+
+-- the record that an answer stands for, where it stands for one; a packet's octets are handed out beside it
+abbrev pub item_at : ℕ → dumps.What → Item
+item_at at what = record { time = at; what = what }
+
+-- the recording is broken at this byte; of a fault in reading nothing is said here
+abbrev pub Breaks : DumpKind → ℕ → Recording → Type 0
+Breaks kind.Read byte old = Unit {0}
+Breaks kind.NotDump byte old = old ≡ broken byte kind.NotDump
+Breaks kind.BadLength byte old = old ≡ broken byte kind.BadLength
+Breaks kind.EndsInside byte old = old ≡ broken byte kind.EndsInside
+Breaks kind.TooLong byte old = old ≡ broken byte kind.TooLong
+Breaks kind.TooLarge byte old = old ≡ broken byte kind.TooLarge
+
+-- what was to come began with what this answer says, and what is to come now is the rest
+abbrev pub Gives : Result DumpItem DumpFault → List ℕ → Recording → Recording → Type 0
+Gives (Ok (Packet at)) out old new = old ≡ with_item (item_at at (Sent out)) new
+Gives (Ok (Rtcp at)) out old new = old ≡ with_item (item_at at dumps.Rtcp) new
+Gives (Ok (Cut at)) out old new = old ≡ with_item (item_at at dumps.Cut) new
+Gives (Ok (Large at)) out old new = old ≡ with_item (item_at at dumps.Large) new
+Gives (Ok End) out old new = old ≡ nothing
+Gives (Err fault) out old new = Breaks fault.kind fault.offset old
+
+-- nothing comes after this answer
+abbrev pub is_last : Result DumpItem DumpFault → Bool
+is_last (Ok End) = true
+is_last (Ok (Packet at)) = false
+is_last (Ok (Rtcp at)) = false
+is_last (Ok (Cut at)) = false
+is_last (Ok (Large at)) = false
+is_last (Err fault) = true
+
+abbrev pub coming : Stage → ℕ → ℕ → List ℕ → Recording
+coming Opening limit byte octets = dump limit octets
+coming Records limit byte octets = records limit (record { byte = byte; rest = octets })
+coming Ended limit byte octets = nothing
+
+abbrev pub is_over : Stage → Bool
+is_over Opening = false
+is_over Records = false
+is_over Ended = true
+
+module _ {S : Type 0} where
+  -- what is still to come of a reader
+  abbrev pub to_come : (S → List ℕ) → DumpReader S → Recording
+  to_come left reader = coming reader.stage reader.limit reader.offset (unread left reader.input)
+
+  -- it gave its last answer
+  abbrev pub is_ended : DumpReader S → Bool
+  is_ended reader = is_over reader.stage
+
+  -- what it reads from
+  abbrev pub source_of : DumpReader S → S
+  source_of reader = reader.input.source
+
+  -- the place in the recording at which it stands
+  abbrev pub place_of : (S → List ℕ) → DumpReader S → Place
+  place_of left reader = record { byte = reader.offset; rest = unread left reader.input }

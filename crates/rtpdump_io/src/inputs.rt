@@ -1,0 +1,166 @@
+//! Octets that are read block by block.
+ghost use Rattle.std.specs.Prelude.{◌≡◌, ℕ, ◌<◌, ◌≤◌, ◌+◌, [], ◌++◌, length, take, drop, Ok, None, true, false, OnOk, OnErr, IfOk, option_to_list};
+
+use rtt_base::{Failed, Packet};
+use rtt_io::Source;
+
+/// A source, and the block that was read last.
+#[derive(Drop)]
+pub(crate) struct Input<S> {
+    pub source: S,
+    pub block: [u8; 4096],
+    // the part of the block that is still to be handed out
+    pub start: usize,
+    pub end: usize,
+    ghost ordered: { start ≤ end },
+    ghost within: { end ≤ 4096 },
+}
+
+impl<S: Source> Input<S> {
+    ghost use Rattle.rtt_io.specs.Counts.{Rose};
+    ghost use Rattle.rtpdump_io.specs.Input.{held, unread, Passes};
+
+    pub fn new(source: S) -> Input<S>
+        ensures source { result.source ≡ source }
+        ensures unread { unread S.left result ≡ S.left source }
+    {
+        Input {
+            source,
+            block: [0; 4096],
+            start: 0,
+            end: 0,
+        }
+    }
+
+    pub fn into_source(self) -> S
+        ensures { result ≡ self.source }
+    {
+        let Input {
+            source,
+            block: _,
+            start: _,
+            end: _,
+        } = self;
+        source
+    }
+
+    // The rest of the block.
+    fn held(&self) -> &[u8]
+        ensures { result.now ≡ held self.now }
+    {
+        &self.block[self.start..self.end]
+    }
+
+    // Passes over so many octets of the block.
+    fn advance(&mut self, number: usize)
+        requires { number ≤ length (held self.old) }
+        ensures source { self.new.source ≡ self.old.source }
+        ensures held { held self.new ≡ drop number (held self.old) }
+    {
+        self.start += number;
+    }
+
+    // Reads a block where none is left. The octets that stand in the block are none only at the end.
+    fn fill(&mut self) -> Result<(), Failed>
+        ensures never_falls { S.faults self.old.source ≤ S.faults self.new.source }
+        ensures failed { OnErr result (Rose (S.faults self.old.source) (S.faults self.new.source)) }
+        ensures same_name { S.name self.new.source ≡ S.name self.old.source }
+        ensures unread { S.tells → unread S.left self.new ≡ unread S.left self.old }
+        ensures ended { S.tells → result ≡ Ok tt → held self.new ≡ [] → unread S.left self.old ≡ [] }
+    {
+        if self.start == self.end {
+            self.start = 0;
+            self.end = 0;
+            self.end = self.source.read(&mut self.block)?;
+        }
+        Ok(())
+    }
+
+    /// The next octet, or none at the end.
+    pub fn octet(&mut self) -> Result<Option<u8>, Failed>
+        ensures never_falls { S.faults self.old.source ≤ S.faults self.new.source }
+        ensures failed { OnErr result (Rose (S.faults self.old.source) (S.faults self.new.source)) }
+        ensures same_name { S.name self.new.source ≡ S.name self.old.source }
+        ensures given { S.tells → IfOk result (λ octet. unread S.left self.old ≡ option_to_list octet ++ unread S.left self.new) }
+        ensures ended { S.tells → result ≡ Ok None → unread S.left self.new ≡ [] }
+    {
+        self.fill()?;
+        let Some(octet) = self.held().first().copied() else {
+            return Ok(None);
+        };
+        self.advance(1);
+        Ok(Some(octet))
+    }
+
+    /// Fills `buf`, as far as there are octets, and answers with how many.
+    pub fn read_full(&mut self, buf: &mut [u8]) -> Result<usize, Failed>
+        ensures fits { IfOk result (λ number. number ≤ length buf.new) }
+        ensures never_falls { S.faults self.old.source ≤ S.faults self.new.source }
+        ensures failed { OnErr result (Rose (S.faults self.old.source) (S.faults self.new.source)) }
+        ensures same_name { S.name self.new.source ≡ S.name self.old.source }
+        ensures given { S.tells → IfOk result (λ number. unread S.left self.old ≡ take number buf.new ++ unread S.left self.new) }
+        ensures ended { S.tells → IfOk result (λ number. number < length buf.new → unread S.left self.new ≡ []) }
+    {
+        for place in 0..buf.len() {
+            let Some(octet) = self.octet()? else {
+                return Ok(place);
+            };
+            buf[place] = octet;
+        }
+        Ok(buf.len())
+    }
+
+    /// Passes over so many octets, and answers whether all of them were there.
+    pub fn pass(&mut self, count: usize) -> Result<bool, Failed>
+        ensures never_falls { S.faults self.old.source ≤ S.faults self.new.source }
+        ensures failed { OnErr result (Rose (S.faults self.old.source) (S.faults self.new.source)) }
+        ensures same_name { S.name self.new.source ≡ S.name self.old.source }
+        ensures there { S.tells → result ≡ Ok true → Passes count (unread S.left self.old) (unread S.left self.new) }
+        ensures missing { S.tells → result ≡ Ok false → length (unread S.left self.old) < count }
+    {
+        let mut done = 0;
+        while done < count {
+            self.fill()?;
+            let number = self.held().len().min(count - done);
+            if number == 0 {
+                return Ok(false);
+            }
+            self.advance(number);
+            done += number;
+        }
+        Ok(true)
+    }
+
+    /// Copies so many octets behind those of `out`, and answers whether all of them were there.
+    pub fn copy(&mut self, count: usize, out: &mut Packet) -> Result<bool, Failed>
+        requires { length out.old + count ≤ 4224 }
+        ensures never_falls { S.faults self.old.source ≤ S.faults self.new.source }
+        ensures failed { OnErr result (Rose (S.faults self.old.source) (S.faults self.new.source)) }
+        ensures same_name { S.name self.new.source ≡ S.name self.old.source }
+        ensures there { S.tells → result ≡ Ok true → Passes count (unread S.left self.old) (unread S.left self.new) }
+        ensures copied { S.tells → result ≡ Ok true → out.new ≡ out.old ++ take count (unread S.left self.old) }
+        ensures missing { S.tells → result ≡ Ok false → length (unread S.left self.old) < count }
+    {
+        let mut done = 0;
+        while done < count {
+            self.fill()?;
+            let number = self.held().len().min(count - done);
+            if number == 0 {
+                return Ok(false);
+            }
+            append(out, &self.held()[..number]);
+            self.advance(number);
+            done += number;
+        }
+        Ok(true)
+    }
+}
+
+// Appends octets to a packet that has room for them.
+fn append(out: &mut Packet, octets: &[u8])
+    requires { length out.old + length octets.now ≤ 4224 }
+    ensures { out.new ≡ out.old ++ octets.now }
+{
+    let appended = out.append(octets);
+    prove!(appended.is_ok());
+}

@@ -1,0 +1,243 @@
+//! Reading of recordings.
+ghost use Rattle.std.specs.Prelude.{◌≤◌};
+
+use crate::inputs::Input;
+use crate::items::{DumpFault, DumpItem};
+use crate::record_heads::RecordHead;
+use rtt_base::{Failed, Packet};
+use rtt_io::Source;
+use wire_spec::DumpKind;
+
+/// What a reader reads next.
+#[derive(Clone, Copy, Debug, PartialEq, Eq)]
+pub(crate) enum Stage {
+    /// The line and the head.
+    Opening,
+    /// A record.
+    Records,
+    /// Nothing any more.
+    Ended,
+}
+
+/// Reads a recording in the file form of rtpdump, record by record, in one pass.
+#[derive(Drop)]
+pub struct DumpReader<S> {
+    pub(crate) input: Input<S>,
+    // the most octets that the recording may have
+    pub(crate) limit: u32,
+    // the first octet of what is read next
+    pub(crate) offset: u64,
+    pub(crate) stage: Stage,
+    ghost bounded: { limit ≤ 4194304 },
+    ghost within: { offset ≤ 4194304 },
+}
+
+impl<S: Source> DumpReader<S> {
+    ghost use Rattle.std.specs.Prelude.{◌≡◌, ◌≢◌, ◌<◌, ◌≤◌, ◌-◌, true, false, Ok, OnOk, OnErr, IfErr, IfOk, length, take, drop};
+    ghost use Rattle.rtt_io.specs.Counts.{Rose};
+    ghost use Rattle.wire_spec.specs.Dump.{dump, dump_step, opening, usual_limit};
+    ghost use Rattle.rtpdump_io.specs.Reading.{Gives, is_last, to_come, is_ended, source_of, place_of};
+    ghost use Rattle.rtpdump_io.specs.Found.{opened_as, found_as, came_as, ready_as, kept_of};
+    ghost use Rattle.rtpdump_io.specs.Input.{unread, Passes};
+
+    /// A reader of a recording of at most 4194304 octets, from its first octet on. It takes no memory.
+    pub fn new(source: S) -> DumpReader<S>
+        ensures to_come { to_come S.left result ≡ dump usual_limit (S.left source) }
+        ensures not_ended { is_ended result ≡ false }
+        ensures source { source_of result ≡ source }
+    {
+        DumpReader::with_limit(source, 4194304)
+    }
+
+    /// A reader of a recording of at most `limit` octets.
+    pub fn with_limit(source: S, limit: u32) -> DumpReader<S>
+        requires { limit ≤ 4194304 }
+        ensures to_come { to_come S.left result ≡ dump limit (S.left source) }
+        ensures not_ended { is_ended result ≡ false }
+        ensures source { source_of result ≡ source }
+    {
+        DumpReader {
+            input: Input::new(source),
+            limit,
+            offset: 0,
+            stage: Stage::Opening,
+        }
+    }
+
+    /// Whether the last answer was `End` or a fault.
+    pub fn ended(&self) -> bool
+        ensures { result ≡ is_ended self.now }
+    {
+        self.stage == Stage::Ended
+    }
+
+    /// The source, as far as it was read.
+    pub fn into_source(self) -> S
+        ensures { result ≡ source_of self }
+    {
+        let DumpReader {
+            input,
+            limit: _,
+            offset: _,
+            stage: _,
+        } = self;
+        input.into_source()
+    }
+
+    /// Reads what stands next. The octets of a packet are then in `out`; after another answer what is in `out` is
+    /// of no use. A fault `Read` is one of the source.
+    pub fn next(&mut self, out: &mut Packet) -> Result<DumpItem, DumpFault>
+        requires { is_ended self.old ≡ false }
+        ensures gives { S.tells → Gives result out.new (to_come S.left self.old) (to_come S.left self.new) }
+        ensures read { IfErr result (λ fault. fault.kind ≡ DumpKind.Read → Rose (S.faults (source_of self.old)) (S.faults (source_of self.new))) }
+        ensures ended { is_ended self.new ≡ is_last result }
+        ensures never_falls { S.faults (source_of self.old) ≤ S.faults (source_of self.new) }
+        ensures same_name { S.name (source_of self.new) ≡ S.name (source_of self.old) }
+    {
+        match self.step(out) {
+            Ok(Ok(DumpItem::End)) => {
+                self.stage = Stage::Ended;
+                Ok(DumpItem::End)
+            }
+            Ok(Ok(item)) => Ok(item),
+            Ok(Err(kind)) => Err(self.fault(kind)),
+            Err(Failed) => Err(self.fault(DumpKind::Read)),
+        }
+    }
+
+    // The fault of this kind, after which nothing is read any more.
+    fn fault(&mut self, kind: DumpKind) -> DumpFault
+        ensures source { self.new.input ≡ self.old.input }
+        ensures ended { is_ended self.new ≡ true }
+        ensures fault { result ≡ record { offset = self.old.offset; kind = kind } }
+    {
+        self.stage = Stage::Ended;
+        DumpFault {
+            offset: self.offset,
+            kind,
+        }
+    }
+
+    // Reads the opening first, where that was not done yet, and then a record.
+    fn step(&mut self, out: &mut Packet) -> Result<Result<DumpItem, DumpKind>, Failed>
+        requires { is_ended self.old ≡ false }
+        ensures came { S.tells → IfOk result (λ found. to_come S.left self.old ≡ came_as found out.new self.new.offset (to_come S.left self.new)) }
+        ensures not_read { IfOk result (λ found. IfErr found (λ kind. kind ≢ DumpKind.Read)) }
+        ensures not_ended { is_ended self.new ≡ false }
+        ensures failed { OnErr result (Rose (S.faults (source_of self.old)) (S.faults (source_of self.new))) }
+        ensures never_falls { S.faults (source_of self.old) ≤ S.faults (source_of self.new) }
+        ensures same_name { S.name (source_of self.new) ≡ S.name (source_of self.old) }
+    {
+        if let Err(kind) = self.make_ready()? {
+            return Ok(Err(kind));
+        }
+        self.record(out)
+    }
+
+    // Reads the opening, where that was not done yet.
+    fn make_ready(&mut self) -> Result<Result<(), DumpKind>, Failed>
+        requires { is_ended self.old ≡ false }
+        ensures came { S.tells → IfOk result (λ found. to_come S.left self.old ≡ ready_as found self.new.offset (to_come S.left self.new)) }
+        ensures ready { IfOk result (λ found. OnOk found (self.new.stage ≡ Stage.Records)) }
+        ensures not_read { IfOk result (λ found. IfErr found (λ kind. kind ≢ DumpKind.Read)) }
+        ensures not_ended { is_ended self.new ≡ false }
+        ensures failed { OnErr result (Rose (S.faults (source_of self.old)) (S.faults (source_of self.new))) }
+        ensures never_falls { S.faults (source_of self.old) ≤ S.faults (source_of self.new) }
+        ensures same_name { S.name (source_of self.new) ≡ S.name (source_of self.old) }
+    {
+        match self.stage {
+            Stage::Opening => {
+                if let Err(kind) = self.open()? {
+                    return Ok(Err(kind));
+                }
+                self.stage = Stage::Records;
+                Ok(Ok(()))
+            }
+            Stage::Records => Ok(Ok(())),
+            Stage::Ended => unreachable!(),
+        }
+    }
+
+    // Reads the line and the head.
+    fn open(&mut self) -> Result<Result<(), DumpKind>, Failed>
+        ensures opened { S.tells → IfOk result (λ found. opening (unread S.left self.old.input) ≡ opened_as found (place_of S.left self.new)) }
+        ensures not_read { IfOk result (λ found. IfErr found (λ kind. kind ≢ DumpKind.Read)) }
+        ensures same_limit { self.new.limit ≡ self.old.limit }
+        ensures same_stage { self.new.stage ≡ self.old.stage }
+        ensures failed { OnErr result (Rose (S.faults (source_of self.old)) (S.faults (source_of self.new))) }
+        ensures never_falls { S.faults (source_of self.old) ≤ S.faults (source_of self.new) }
+        ensures same_name { S.name (source_of self.new) ≡ S.name (source_of self.old) }
+    {
+        self.offset = 0;
+        if !self.input.begins_with(b"#!rtpplay1.0 ")? {
+            return Ok(Err(DumpKind::NotDump));
+        }
+        let Some(more) = self.input.past_line(115)? else {
+            return Ok(Err(DumpKind::NotDump));
+        };
+        self.offset = 13 + u64::from(more);
+        if !self.input.pass(16)? {
+            return Ok(Err(DumpKind::EndsInside));
+        }
+        self.offset += 16;
+        Ok(Ok(()))
+    }
+
+    // Reads a record, or finds the end.
+    fn record(&mut self, out: &mut Packet) -> Result<Result<DumpItem, DumpKind>, Failed>
+        ensures found { S.tells → IfOk result (λ found. dump_step self.old.limit (place_of S.left self.old) ≡ found_as found out.new (place_of S.left self.new)) }
+        ensures not_read { IfOk result (λ found. IfErr found (λ kind. kind ≢ DumpKind.Read)) }
+        ensures same_limit { self.new.limit ≡ self.old.limit }
+        ensures same_stage { self.new.stage ≡ self.old.stage }
+        ensures failed { OnErr result (Rose (S.faults (source_of self.old)) (S.faults (source_of self.new))) }
+        ensures never_falls { S.faults (source_of self.old) ≤ S.faults (source_of self.new) }
+        ensures same_name { S.name (source_of self.new) ≡ S.name (source_of self.old) }
+    {
+        let mut octets = [0; 8];
+        let number = self.input.read_full(&mut octets)?;
+        if number == 0 {
+            return Ok(Ok(DumpItem::End));
+        }
+        if number < 8 {
+            return Ok(Err(DumpKind::EndsInside));
+        }
+        let head = RecordHead::from_octets(&octets);
+        if head.size < 8 {
+            return Ok(Err(DumpKind::BadLength));
+        }
+        let end = self.offset + u64::from(head.size);
+        if end > u64::from(self.limit) {
+            return Ok(Err(DumpKind::TooLarge));
+        }
+        if !self.body(&head, out)? {
+            return Ok(Err(DumpKind::EndsInside));
+        }
+        if head.time > 14400000 {
+            return Ok(Err(DumpKind::TooLong));
+        }
+        self.offset = end;
+        Ok(Ok(head.item()))
+    }
+
+    // Reads what a record has behind its head, and keeps the octets of a packet. Answers whether all was there.
+    fn body(&mut self, head: &RecordHead, out: &mut Packet) -> Result<bool, Failed>
+        requires { 8 ≤ head.now.size }
+        ensures there { S.tells → result ≡ Ok true → Passes (head.now.size - 8) (unread S.left self.old.input) (unread S.left self.new.input) }
+        ensures kept { S.tells → result ≡ Ok true → out.new ≡ take (kept_of head.now.packet_size (head.now.size - 8)) (unread S.left self.old.input) }
+        ensures missing { S.tells → result ≡ Ok false → length (unread S.left self.old.input) < head.now.size - 8 }
+        ensures same_offset { self.new.offset ≡ self.old.offset }
+        ensures same_limit { self.new.limit ≡ self.old.limit }
+        ensures same_stage { self.new.stage ≡ self.old.stage }
+        ensures failed { OnErr result (Rose (S.faults (source_of self.old)) (S.faults (source_of self.new))) }
+        ensures never_falls { S.faults (source_of self.old) ≤ S.faults (source_of self.new) }
+        ensures same_name { S.name (source_of self.new) ≡ S.name (source_of self.old) }
+    {
+        let size = usize::from(head.size - 8);
+        let kept = head.kept();
+        out.clear();
+        if !self.input.copy(kept, out)? {
+            return Ok(false);
+        }
+        self.input.pass(size - kept)
+    }
+}

@@ -1,0 +1,62 @@
+//! The head of a record.
+ghost use Rattle.std.specs.Prelude.{◌≡◌, ◌≤◌, ◌-◌};
+ghost use Rattle.wire_spec.specs.Dump.{size_of, packet_size_of, time_of};
+ghost use Rattle.rtpdump_io.specs.Found.{kind_of, kept_of};
+
+use crate::items::DumpItem;
+
+/// The eight octets at the front of a record.
+#[derive(Clone, Copy, Debug)]
+pub(crate) struct RecordHead {
+    /// The octets of the whole record.
+    pub size: u16,
+    /// The octets that the packet had.
+    pub packet_size: u16,
+    /// In milliseconds.
+    pub time: u32,
+}
+
+impl RecordHead {
+    pub fn from_octets(octets: &[u8; 8]) -> RecordHead
+        ensures size { result.size ≡ size_of octets.now }
+        ensures packet_size { result.packet_size ≡ packet_size_of octets.now }
+        ensures time { result.time ≡ time_of octets.now }
+    {
+        RecordHead {
+            size: u16::from_be_bytes([octets[0], octets[1]]),
+            packet_size: u16::from_be_bytes([octets[2], octets[3]]),
+            time: u32::from_be_bytes([octets[4], octets[5], octets[6], octets[7]]),
+        }
+    }
+
+    /// What the record is.
+    pub fn item(&self) -> DumpItem
+        requires { 8 ≤ self.now.size }
+        ensures { result ≡ kind_of self.now.packet_size (self.now.size - 8) self.now.time }
+    {
+        let at = self.time;
+        if self.packet_size == 0 {
+            DumpItem::Rtcp { at }
+        } else if self.packet_size > self.size - 8 {
+            DumpItem::Cut { at }
+        } else if self.packet_size > 4224 {
+            DumpItem::Large { at }
+        } else {
+            DumpItem::Packet { at }
+        }
+    }
+
+    /// How many octets behind the head are handed out: those of a packet, and none of another record.
+    pub fn kept(&self) -> usize
+        requires { 8 ≤ self.now.size }
+        ensures value { result ≡ kept_of self.now.packet_size (self.now.size - 8) }
+        ensures within { result ≤ self.now.size - 8 }
+        ensures fits { result ≤ 4224 }
+    {
+        if self.packet_size > self.size - 8 || self.packet_size > 4224 {
+            0
+        } else {
+            usize::from(self.packet_size)
+        }
+    }
+}
