@@ -1,11 +1,11 @@
 -- An arrival that is held, or is not used.
-use Rattle.std.proofs.Common.{◌≡◌, ℕ, zero, suc, ◌+◌, ◌-◌, ◌<◌, ◌≤◌, Bool, true, false, cond, not, ◌⊎◌, inl, inr, List, [], ◌∷◌, ◌++◌, length, refl, ap, subst, sym, ◌∙◌, arith, Option, None, Some}
-use Rattle.std.specs.Prelude.{map, max, insert, ◌==◌, ◌&&◌, nat_lt, nat_le}
-use Rattle.std.proofs.lemmas.Bool.{true≢false, leb-true, and_parts, or_left, false_from_ne_true}
+use Rattle.std.proofs.Common.{◌≡◌, ℕ, suc, ◌-◌, ◌<◌, ◌≤◌, Bool, true, false, cond, not, ◌⊎◌, inl, inr, List, [], ◌∷◌, ◌++◌, length, refl, ap, subst, sym, ◌∙◌, arith, None}
+use Rattle.std.specs.Prelude.{map, max, insert, ◌&&◌, nat_lt, nat_le}
+use Rattle.std.proofs.lemmas.Bool.{leb-true, and_parts}
 use Rattle.stream_spec.specs.Lists.{In}
-use Rattle.stream_spec.specs.Numbering.{Numbered, first_number, has_number, is_given_up, in_time, by_number, used, distinct_from}
+use Rattle.stream_spec.specs.Numbering.{Numbered, first_number, has_number, is_given_up, in_time, by_number, used}
 use Rattle.stream_spec.specs.Holding.{Holds, Timed, Falling}
-use Rattle.stream_spec.specs.Ready.{end_of, last_end, ready_of}
+use Rattle.stream_spec.specs.Ready.{end_of, last_end}
 use Rattle.stream_spec.proofs.Lists.{in_left}
 use Rattle.stream_spec.proofs.Matched.{in_by_number}
 use Rattle.stream_spec.proofs.Holding.{arrive, ignore, begin, distinct_split, one}

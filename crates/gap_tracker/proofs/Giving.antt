@@ -1,11 +1,11 @@
 -- What is given, in order, and the end.
-use Rattle.std.proofs.Common.{◌≡◌, ℕ, suc, ◌+◌, ◌<◌, ◌≤◌, Bool, true, false, cond, ◌⊎◌, inl, inr, List, [], ◌∷◌, ◌++◌, length, refl, ap, subst, sym, ◌∙◌, arith, append_assoc, length-append, Option, None, Some}
-use Rattle.std.specs.Prelude.{IfSome, IfNone, map, filter, nat_lt, nat_le, ◌||◌, ◌==◌}
+use Rattle.std.proofs.Common.{◌≡◌, ℕ, suc, ◌+◌, ◌≤◌, Bool, true, false, inl, inr, List, [], ◌∷◌, ◌++◌, length, refl, ap, subst, sym, ◌∙◌, arith, append_assoc, length-append, Option, None, Some}
+use Rattle.std.specs.Prelude.{IfSome, IfNone, map, filter, nat_lt, nat_le}
 use Rattle.std.specs.List.{list_any}
 use Rattle.std.proofs.lemmas.Bool.{true≢false, le-leb, leb-true, lt-ltb, le-ltb, or_left, false_from_ne_true}
 use Rattle.std.proofs.lemmas.List.{append-nil}
 use Rattle.stream_spec.specs.Lists.{In}
-use Rattle.stream_spec.specs.Numbering.{Numbered, numbered, used, has_number, distinct_from, is_given_up}
+use Rattle.stream_spec.specs.Numbering.{Numbered, numbered, has_number, distinct_from, is_given_up}
 use Rattle.stream_spec.specs.Ready.{ready_of}
 use Rattle.stream_spec.proofs.Lists.{in_left, in_right}
 use Rattle.stream_spec.proofs.Holding.{is_cause, cause_from, in_any, in_has, held_in_past}
@@ -13,9 +13,8 @@ use Rattle.stream_spec.proofs.Ends.{settled_law}
 use Rattle.gap_tracker.specs.declared.answers.Due.{Due}
 use Rattle.gap_tracker.specs.Stories.{Story, Given, due_at, dues, dues_of, is_due, ready_dues, begun, gave, given_of, ended}
 use Rattle.gap_tracker.specs.States.{State, next_latest, has_ready, has_some, fresh}
-use Rattle.gap_tracker.specs.Tracks.{Holding, Waiting, Phase, Before, Within, Follows, Tracks}
+use Rattle.gap_tracker.specs.Tracks.{Holding, Phase, Before, Within, Follows, Tracks}
 use Rattle.gap_tracker.proofs.Settling.{still_front}
-use Rattle.gap_tracker.proofs.Arriving.{few}
 use Rattle.gap_tracker.proofs.Steps.{map_more, later_holding}
 
 filter_all : (p : Given → Bool) (f : Numbered → Given) (us : List Numbered) (ys : List Given) → ((u : Numbered) → In u us → p (f u) ≡ true) → filter p (map f us ++ ys) ≡ map f us ++ filter p ys

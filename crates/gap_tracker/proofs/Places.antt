@@ -1,6 +1,6 @@
 -- Where a number belongs among those that are held.
-use Rattle.std.proofs.Common.{◌≡◌, ℕ, zero, suc, ◌+◌, ◌-◌, ◌^◌, ◌<◌, ◌≤◌, Bool, true, false, inl, inr, List, [], ◌∷◌, length, get_or, drop, refl, ap, subst, sym, ◌∙◌, arith}
-use Rattle.std.specs.Prelude.{map, insert, ◌==◌, nat_lt}
+use Rattle.std.proofs.Common.{◌≡◌, ℕ, zero, suc, ◌-◌, ◌^◌, ◌<◌, ◌≤◌, true, false, inl, inr, List, [], ◌∷◌, length, get_or, drop, refl, ap, subst, ◌∙◌, arith}
+use Rattle.std.specs.Prelude.{map, insert, ◌==◌}
 use Rattle.std.proofs.lemmas.Bool.{eq-eqb, ne_eqb, lt-ltb, le-ltb, or_left, or_right}
 use Rattle.stream_spec.specs.Numbering.{Numbered, has_number, by_number}
 use Rattle.stream_spec.specs.Lists.{In}

@@ -1,15 +1,14 @@
 -- What it takes to settle the first held packet.
-use Rattle.std.proofs.Common.{◌≡◌, ℕ, zero, suc, ◌+◌, ◌-◌, ◌<◌, ◌≤◌, Bool, true, false, cond, ◌⊎◌, inl, inr, List, [], ◌∷◌, ◌++◌, length, refl, ap, subst, sym, ◌∙◌, arith, unwrap_or, Option, None, Some}
+use Rattle.std.proofs.Common.{◌≡◌, ℕ, suc, ◌+◌, ◌<◌, ◌≤◌, Bool, true, false, cond, inl, inr, List, [], ◌∷◌, ◌++◌, length, refl, ap, subst, sym, ◌∙◌, arith, unwrap_or, Option, None, Some}
 use Rattle.std.specs.Prelude.{◌||◌, ◌==◌, nat_lt, nat_le, max}
 use Rattle.std.specs.List.{list_any}
-use Rattle.std.proofs.lemmas.Bool.{cases_Bool, true≢false, eqb-true, eqb-false, ltb-true, ltb-false, leb-true, le-leb, or_left, or_right, or_cases, false_from_ne_true}
+use Rattle.std.proofs.lemmas.Bool.{true≢false, eqb-true, eqb-false, ltb-true, ltb-false, leb-true, le-leb, or_left, or_right, or_cases, false_from_ne_true}
 use Rattle.std.proofs.lemmas.Bool.Decides.{nat_tests}
 use Rattle.stream_spec.specs.Numbering.{Numbered, has_number, is_given_up, used}
 use Rattle.stream_spec.specs.Lists.{In}
 use Rattle.stream_spec.specs.Holding.{Holds, Timed, Falling}
-use Rattle.stream_spec.specs.Ready.{moments, least, end_of, last_end, ready_of}
+use Rattle.stream_spec.specs.Ready.{least, end_of, ready_of}
 use Rattle.stream_spec.proofs.Lists.{in_right}
-use Rattle.stream_spec.proofs.Matched.{used_in}
 use Rattle.stream_spec.proofs.Holding.{has_in, in_has, any_in, in_any, come, jump, held_in_past, held_tells, distinct_split, one}
 use Rattle.stream_spec.proofs.Ready.{up_moment, timed_come, timed_jump, least_in}
 use Rattle.stream_spec.proofs.Ends.{end_by_wait, waits_of}

@@ -1,14 +1,13 @@
 -- Each change of what is held keeps what it stands for.
-use Rattle.std.proofs.Common.{◌≡◌, ℕ, zero, suc, ◌+◌, ◌-◌, ◌<◌, ◌≤◌, Bool, true, false, cond, ◌⊎◌, inl, inr, List, [], ◌∷◌, ◌++◌, length, refl, ap, subst, sym, ◌∙◌, arith, append_assoc, length-append, Option, None, Some}
-use Rattle.std.specs.Prelude.{map, max, insert, ◌==◌}
-use Rattle.stream_spec.specs.Numbering.{Numbered, numbered, greatest, first_number, number_after, nearest, has_number, is_given_up, in_time}
-use Rattle.stream_spec.specs.Holding.{Holds, Timed, Falling}
-use Rattle.stream_spec.specs.Ready.{end_of, ready_of}
+use Rattle.std.proofs.Common.{◌≡◌, ℕ, suc, ◌+◌, ◌<◌, ◌≤◌, List, [], ◌∷◌, ◌++◌, length, refl, ap, subst, sym, ◌∙◌, arith, append_assoc, length-append, None, Some}
+use Rattle.std.specs.Prelude.{map, max}
+use Rattle.stream_spec.specs.Numbering.{Numbered, numbered}
+use Rattle.stream_spec.specs.Holding.{Holds}
 use Rattle.stream_spec.proofs.Holding.{later}
 use Rattle.stream_spec.proofs.Ready.{timed_later}
 use Rattle.gap_tracker.specs.Stories.{Story, Given, due_at, went}
 use Rattle.gap_tracker.specs.States.{State, latest_from, next_latest, settled_over, settled_first, passed}
-use Rattle.gap_tracker.specs.Tracks.{SameBut, Holding, Waiting, Phase, Before, Within, Follows, Tracks}
+use Rattle.gap_tracker.specs.Tracks.{SameBut, Holding, Phase, Before, Within, Follows, Tracks}
 use Rattle.gap_tracker.proofs.Settling.{settle_step, none_some}
 use Rattle.gap_tracker.proofs.Arriving.{few}
 

@@ -1,5 +1,5 @@
 -- What a hold stands for.
-use Rattle.std.specs.Prelude.{◌≡◌, ℕ, ◌+◌, ◌*◌, ◌^◌, ◌<◌, ◌≤◌, Bool, length, map}
+use Rattle.std.specs.Prelude.{◌≡◌, ◌+◌, ◌*◌, ◌^◌, ◌<◌, ◌≤◌, Bool, length, map}
 use Rattle.gap_tracker.specs.States.{State}
 use Rattle.gap_tracker.specs.Views.{numbered_of, settled_of, AreSmall}
 use Rattle.gap_tracker.specs.declared.holds.Hold.TheInside.{Inside}

@@ -1,5 +1,5 @@
 -- What a tracker holds, and how it changes (profile).
-use Rattle.std.specs.Prelude.{◌≡◌, ℕ, suc, ◌+◌, ◌-◌, ◌<◌, ◌≤◌, ◌==◌, Bool, true, false, List, [], ◌∷◌, ◌++◌, length, Option, None, Some, nat_lt, nat_le, if◌then◌else◌, min, max, insert, take, drop, get_or}
+use Rattle.std.specs.Prelude.{◌≡◌, ℕ, ◌+◌, ◌-◌, ◌<◌, ◌≤◌, ◌==◌, Bool, true, false, List, [], ◌∷◌, ◌++◌, length, Option, None, Some, nat_lt, nat_le, if◌then◌else◌, min, max, insert, drop, get_or}
 use Rattle.stream_spec.specs.Numbering.{Numbered, has_number}
 use Rattle.gap_tracker.specs.Stories.{Given}
 use Rattle.gap_tracker.specs.declared.answers.Taken.{Taken}

@@ -1,5 +1,5 @@
 -- What a tracker's state stands for.
-use Rattle.std.specs.Prelude.{◌≡◌, ℕ, ◌+◌, ◌<◌, ◌≤◌, Bool, List, [], ◌∷◌, ◌++◌, length, map, None}
+use Rattle.std.specs.Prelude.{◌≡◌, ◌+◌, ◌<◌, ◌≤◌, Bool, List, [], ◌++◌, length, map, None}
 use Rattle.stream_spec.specs.Numbering.{Numbered, numbered, greatest, has_number}
 use Rattle.stream_spec.specs.Holding.{Holds, Timed, Falling}
 use Rattle.stream_spec.specs.Ready.{end_of}

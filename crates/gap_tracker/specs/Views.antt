@@ -1,5 +1,5 @@
 -- What the parts of a hold stand for.
-use Rattle.std.specs.Prelude.{ℕ, ◌+◌, ◌^◌, ◌<◌, ◌≤◌, ◌==◌, Bool, List, [], ◌∷◌, if◌then◌else◌}
+use Rattle.std.specs.Prelude.{ℕ, ◌+◌, ◌^◌, ◌<◌, ◌==◌, List, [], ◌∷◌, if◌then◌else◌}
 use Rattle.wire_spec.specs.Packets.{packet_of}
 use Rattle.stream_spec.specs.Numbering.{Numbered, nearest}
 use Rattle.gap_tracker.specs.Stories.{Given}

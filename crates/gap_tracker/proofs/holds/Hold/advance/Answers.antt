@@ -1,7 +1,6 @@
 use Rattle.std.proofs.Common.{◌≡◌, Some, sym, ◌∙◌}
 use Rattle.gap_tracker.specs.States.{next_latest}
-use Rattle.gap_tracker.proofs.Counting.{counted_still}
-use Rattle.gap_tracker.proofs.Steps.{settle_follows, settle_same, settle_less}
+use Rattle.gap_tracker.proofs.Steps.{settle_follows, settle_same}
 use Rattle.gap_tracker.proofs.holds.Hold.advance.Goals as goal
 
 pub loop-latest-preserved : goal.loop-latest-preserved
