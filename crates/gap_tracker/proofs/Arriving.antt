@@ -2,6 +2,7 @@
 use Rattle.std.proofs.Common.{◌≡◌, ℕ, suc, ◌-◌, ◌<◌, ◌≤◌, Bool, true, false, cond, not, ◌⊎◌, inl, inr, List, [], ◌∷◌, ◌++◌, length, refl, ap, subst, sym, ◌∙◌, arith, None}
 use Rattle.std.specs.Prelude.{map, max, insert, ◌&&◌, nat_lt, nat_le}
 use Rattle.std.proofs.lemmas.Bool.{leb-true, and_parts}
+use Rattle.rtt_base.specs.declared.text_packets.TextPacket.{TextPacket}
 use Rattle.stream_spec.specs.Lists.{In}
 use Rattle.stream_spec.specs.Numbering.{Numbered, first_number, has_number, is_given_up, in_time, by_number, used}
 use Rattle.stream_spec.specs.Holding.{Holds, Timed, Falling}
@@ -97,9 +98,9 @@ module _ (s : State) (past : List Numbered) (given : List Given) (e : Numbered) 
       )
 
   -- it is held
-  pub hold_on : (place : ℕ) → e.time ≡ s.moment → next_latest s ≡ None → s.front ≤ e.number → IsPlace e.number s.held place → Holding s past given
-      → (in_time s.wait e past ≡ true) × Holding (put_at (record s { arrivals = arrivals; top = top }) place e) (e ∷ past) given
-  hold_on place m still l p h =
+  pub hold_on : (place : ℕ) (q : TextPacket) → e.time ≡ s.moment → next_latest s ≡ None → s.front ≤ e.number → IsPlace e.number s.held place → Holding s past given
+      → (in_time s.wait e past ≡ true) × Holding (put_at (record s { arrivals = arrivals; top = top }) place e q) (e ∷ past) given
+  hold_on place q m still l p h =
       let fresh = not_held e.number s.held place h.holds.rising p in
       let r = arrive s.wait past s.first s.front h.out s.held e (at_arrival m h) (waits m still h) l fresh in
       let put : by_number e s.held ≡ insert s.held place e = put_is e s.held place h.holds.rising p in
@@ -127,9 +128,9 @@ module _ (s : State) (past : List Numbered) (given : List Given) (e : Numbered) 
           go false q = ap suc q
 
   -- it is the first
-  pub start : (place : ℕ) → e.time ≡ s.moment → s.held ≡ [] → s.settled ≡ [] → s.latest ≡ 0 → IsPlace e.number s.held place
-      → Holding (put_at (record s { arrivals = arrivals; first = e.number; front = e.number; top = top }) place e) (e ∷ []) []
-  start place m held settled latest p =
+  pub start : (place : ℕ) (q : TextPacket) → e.time ≡ s.moment → s.held ≡ [] → s.settled ≡ [] → s.latest ≡ 0 → IsPlace e.number s.held place
+      → Holding (put_at (record s { arrivals = arrivals; first = e.number; front = e.number; top = top }) place e q) (e ∷ []) []
+  start place q m held settled latest p =
       let none : length s.held ≡ 0 = ap length held in
       let zero_place : place ≡ 0 = omega (arith, p.within) in
       let put : insert s.held place e ≡ e ∷ [] = rw (held, zero_place) refl in

@@ -1,7 +1,8 @@
 -- An arrival is counted, and is held or not used.
-use Rattle.std.proofs.Common.{◌≡◌, ℕ, suc, ◌+◌, ◌≤◌, Bool, true, false, cond, List, [], ◌∷◌, length, refl, ap, subst, sym, ◌∙◌, arith, None}
+use Rattle.std.proofs.Common.{◌⊎◌, inl, inr, ◌≡◌, ℕ, suc, ◌+◌, ◌≤◌, Bool, true, false, cond, List, [], ◌∷◌, length, refl, ap, subst, sym, ◌∙◌, arith, None}
 use Rattle.std.specs.Prelude.{max, nat_lt, ◌==◌}
 use Rattle.std.proofs.lemmas.Bool.{true≢false, eq-eqb, ne_eqb, eqb-true}
+use Rattle.rtt_base.specs.declared.text_packets.TextPacket.{TextPacket}
 use Rattle.wire_spec.specs.Packets.{Packet, Arrival}
 use Rattle.stream_spec.specs.Numbering.{Numbered, numbered, greatest, first_number, number_after, nearest, has_number, in_time}
 use Rattle.gap_tracker.specs.declared.answers.Taken.{Taken}
@@ -13,7 +14,8 @@ use Rattle.gap_tracker.specs.Tracks.{Holding, Waiting, Phase, Before, Within, Fo
 use Rattle.gap_tracker.proofs.Settling.{still_front}
 use Rattle.gap_tracker.proofs.Arriving.{pass_by, hold_on, start}
 use Rattle.gap_tracker.proofs.Answering.{refused_why, refused_answer, held_answer, start_answer, start_in_time, settled_tells}
-use Rattle.gap_tracker.proofs.Places.{not_held}
+use Rattle.stream_spec.specs.Lists.{In}
+use Rattle.gap_tracker.proofs.Places.{not_held, in_put}
 use Rattle.gap_tracker.proofs.Steps.{pass_follows}
 
 -- ---- before the first packet, and after it
@@ -105,32 +107,32 @@ refused_step s story n p taken k q r = go k.follows.phase
         same Held l = l
 
 -- what is held
-pub record Put (s : State) (story : Story) (n : ℕ) (p : Packet) (place : ℕ) : Type 0 where
-  pub follows : Follows (put_at (counted s n) place (now_coming s n p)) (arrived story p)
+pub record Put (s : State) (story : Story) (n : ℕ) (p : Packet) (place : ℕ) (it : TextPacket) : Type 0 where
+  pub follows : Follows (put_at (counted s n) place (now_coming s n p) it) (arrived story p)
   pub answer_is : taken_as story.wait (numbered story.past) (arriving story p) ≡ cond (is_settled story.wait (numbered (arrived story p).past) story.moment n) Ready Held
   pub used_is : true ≡ in_time story.wait (arriving story p) (numbered story.past)
 
-pub put_step : (s : State) (story : Story) (n : ℕ) (p : Packet) (place : ℕ) → Tracks s story → n ≡ number_after (numbered story.past) p.seq → IsPlace n s.held place → (counted s n).first ≤ n → (counted s n).front ≤ n → Put s story n p place
-put_step s story n p place k q at a b = go k.follows.phase
+pub put_step : (s : State) (story : Story) (n : ℕ) (p : Packet) (place : ℕ) (it : TextPacket) → Tracks s story → n ≡ number_after (numbered story.past) p.seq → IsPlace n s.held place → (counted s n).first ≤ n → (counted s n).front ≤ n → Put s story n p place it
+put_step s story n p place it k q at a b = go k.follows.phase
   where
     e : Numbered
     e = now_coming s n p
 
-    go : Phase s story → Put s story n p place
+    go : Phase s story → Put s story n p place it
     go (Before w) =
         let is = counted_first s n (no_past s story k.follows w) in
         let eq = coming_is s story n p k.follows q in
         let none : numbered story.past ≡ [] = ap numbered w.past in
-        let h = start s [] [] (now_coming s n p) (s.arrivals + 1) (max s.top n) place refl w.held w.settled w.latest at in
+        let h = start s [] [] (now_coming s n p) (s.arrivals + 1) (max s.top n) place it refl w.held w.settled w.latest at in
         record {
-          follows = subst (λ (t : State). Follows (put_at t place (now_coming s n p)) (arrived story p)) (sym is) (record {
+          follows = subst (λ (t : State). Follows (put_at t place (now_coming s n p) it) (arrived story p)) (sym is) (record {
             wait = k.follows.wait;
             moment = k.follows.moment;
             arrivals = let m = k.follows.arrivals in omega arith;
             top = one_more s story n p k.follows q;
-            phase = Within (subst (λ (us : List Numbered). Holding (put_at (record s { arrivals = s.arrivals + 1; first = n; front = n; top = max s.top n }) place (now_coming s n p)) (arriving story p ∷ us) story.given) (sym none)
-                (subst (λ (gs : List Given). Holding (put_at (record s { arrivals = s.arrivals + 1; first = n; front = n; top = max s.top n }) place (now_coming s n p)) (arriving story p ∷ []) gs) (sym w.given)
-                (subst (λ (x : Numbered). Holding (put_at (record s { arrivals = s.arrivals + 1; first = n; front = n; top = max s.top n }) place (now_coming s n p)) (x ∷ []) []) eq h)));
+            phase = Within (subst (λ (us : List Numbered). Holding (put_at (record s { arrivals = s.arrivals + 1; first = n; front = n; top = max s.top n }) place (now_coming s n p) it) (arriving story p ∷ us) story.given) (sym none)
+                (subst (λ (gs : List Given). Holding (put_at (record s { arrivals = s.arrivals + 1; first = n; front = n; top = max s.top n }) place (now_coming s n p) it) (arriving story p ∷ []) gs) (sym w.given)
+                (subst (λ (x : Numbered). Holding (put_at (record s { arrivals = s.arrivals + 1; first = n; front = n; top = max s.top n }) place (now_coming s n p) it) (x ∷ []) []) eq h)));
           });
           answer_is = subst (λ (us : List Numbered). taken_as story.wait us (arriving story p) ≡ cond (is_settled story.wait (arriving story p ∷ us) story.moment n) Ready Held) (sym none)
               (start_answer story.wait (arriving story p) ∙ ap (λ m. cond (is_settled story.wait (arriving story p ∷ []) story.moment m) Ready Held) (sym q));
@@ -141,16 +143,16 @@ put_step s story n p place k q at a b = go k.follows.phase
         let eq = coming_is s story n p k.follows q in
         let first_le : s.first ≤ n = subst (λ (t : State). t.first ≤ n) is a in
         let front_le : s.front ≤ n = subst (λ (t : State). t.front ≤ n) is b in
-        let on = hold_on s (numbered story.past) story.given (now_coming s n p) (s.arrivals + 1) (max s.top n) place refl k.still front_le at h in
+        let on = hold_on s (numbered story.past) story.given (now_coming s n p) (s.arrivals + 1) (max s.top n) place it refl k.still front_le at h in
         let fresh = not_held n s.held place h.holds.rising at in
         let told = held_answer s (numbered story.past) story.given (now_coming s n p) refl k.still h first_le front_le fresh in
         record {
-          follows = subst (λ (t : State). Follows (put_at t place (now_coming s n p)) (arrived story p)) (sym is) (record {
+          follows = subst (λ (t : State). Follows (put_at t place (now_coming s n p) it) (arrived story p)) (sym is) (record {
             wait = k.follows.wait;
             moment = k.follows.moment;
             arrivals = let m = k.follows.arrivals in omega arith;
             top = one_more s story n p k.follows q;
-            phase = Within (subst (λ (x : Numbered). Holding (put_at (record s { arrivals = s.arrivals + 1; top = max s.top n }) place (now_coming s n p)) (x ∷ numbered story.past) story.given) eq on.1);
+            phase = Within (subst (λ (x : Numbered). Holding (put_at (record s { arrivals = s.arrivals + 1; top = max s.top n }) place (now_coming s n p) it) (x ∷ numbered story.past) story.given) eq on.1);
           });
           answer_is = subst (λ (w : ℕ). taken_as w (numbered story.past) (arriving story p) ≡ cond (is_settled w (arriving story p ∷ numbered story.past) story.moment n) Ready Held) k.follows.wait
               (subst (λ (t : ℕ). taken_as s.wait (numbered story.past) (arriving story p) ≡ cond (is_settled s.wait (arriving story p ∷ numbered story.past) t n) Ready Held) k.follows.moment
@@ -200,17 +202,17 @@ refused_all s0 sp s1 sc story now n p taken e stands still q c r k =
       d.used_is,
     )
 
-pub put_all : (s0 sp s1 sc st s2 : State) (story : Story) (now n place : ℕ) (p : Packet) (taken : Taken) → sp ≡ passed s0 now → ((st : Story) → Follows sp st → Follows s1 st) → next_latest s1 ≡ None
+pub put_all : (s0 sp s1 sc st s2 : State) (story : Story) (now n place : ℕ) (p : Packet) (it : TextPacket) (taken : Taken) → sp ≡ passed s0 now → ((st : Story) → Follows sp st → Follows s1 st) → next_latest s1 ≡ None
     → n ≡ next_number s1 p.seq → sc ≡ counted s1 n → IsPlace n sc.held place → sc.first ≤ n → sc.front ≤ n
-    → st ≡ put_at sc place (record { time = sc.moment; number = n; packet = p }) → ((story : Story) → Follows st story → Follows s2 story) → next_latest s2 ≡ None → s2.first ≡ st.first
+    → st ≡ put_at sc place (record { time = sc.moment; number = n; packet = p }) it → ((story : Story) → Follows st story → Follows s2 story) → next_latest s2 ≡ None → s2.first ≡ st.first
     → taken ≡ cond (nat_lt n s2.front) Ready Held → Tracks s0 story
     → Tracks s2 (came story now p) × (taken ≡ answer story now p) × (is_used taken ≡ is_in_time story now p)
-put_all s0 sp s1 sc st s2 story now n place p taken e stands still q c at a b t stands2 still2 same told k =
+put_all s0 sp s1 sc st s2 story now n place p it taken e stands still q c at a b t stands2 still2 same told k =
     let k1 = then_tracks s0 sp s1 story now e stands still k in
     let first_le : (counted s1 n).first ≤ n = subst (λ (s : State). s.first ≤ n) c a in
     let front_le : (counted s1 n).front ≤ n = subst (λ (s : State). s.front ≤ n) c b in
-    let d = put_step s1 (went story now) n p place k1 (q ∙ number_is s1 (went story now) p.seq k1.follows) (subst (λ (s : State). IsPlace n s.held place) c at) first_le front_le in
-    let put : st ≡ put_at (counted s1 n) place (now_coming s1 n p) = t ∙ ap (λ (s : State). put_at s place (record { time = s.moment; number = n; packet = p })) c in
+    let d = put_step s1 (went story now) n p place it k1 (q ∙ number_is s1 (went story now) p.seq k1.follows) (subst (λ (s : State). IsPlace n s.held place) c at) first_le front_le in
+    let put : st ≡ put_at (counted s1 n) place (now_coming s1 n p) it = t ∙ ap (λ (s : State). put_at s place (record { time = s.moment; number = n; packet = p }) it) c in
     let k2 : Tracks s2 (came story now p) = record { follows = stands2 (came story now p) (subst (λ (s : State). Follows s (came story now p)) (sym put) d.follows); still = still2 } in
     let first : st.first ≡ (counted s1 n).first = ap (λ (s : State). s.first) put in
     let done = done_step s2 (went story now) n p k2 (omega (arith, same, first, first_le)) in (
@@ -222,3 +224,11 @@ put_all s0 sp s1 sc st s2 story now n place p taken e stands still q c at a b t 
     either : (b : Bool) → is_used (cond b Ready Held) ≡ true
     either true = refl
     either false = refl
+
+-- what is inside afterwards came now or was inside before
+pub inside_came : (s0 sp s1 sc st s2 : State) (now n place : ℕ) (e : Numbered) (it q : TextPacket) → sp ≡ passed s0 now → s1.packets ≡ sp.packets → sc ≡ counted s1 n → st ≡ put_at sc place e it → s2.packets ≡ st.packets
+    → In q s2.packets → (q ≡ it) ⊎ In q s0.packets
+inside_came s0 sp s1 sc st s2 now n place e it q a b c d f i =
+    let old : sc.packets ≡ s0.packets = ap (λ (s : State). s.packets) c ∙ (b ∙ ap (λ (s : State). s.packets) a) in
+    let new = f ∙ ap (λ (s : State). s.packets) d in
+    elim (in_put sc.packets (length sc.settled + place) it q (subst (λ (qs : List TextPacket). In q qs) new i)) [ inl s ↦ inl s | inr j ↦ inr (subst (λ (qs : List TextPacket). In q qs) old j) ]

@@ -86,13 +86,13 @@ pub all_given : (s : State) (story : Story) → s.settled ≡ [] → Tracks s st
 all_given s story e k = sym ((order_is s story k).ready_is ∙ (ap (λ gs. story.given ++ gs) e ∙ append-nil story.given))
 
 -- ---- one is given
-pub give_step : (s t : State) (story : Story) (g : Given) → s.settled ≡ g ∷ t.settled → t ≡ record s { settled = t.settled } → Tracks s story → Tracks t (gave story g)
+pub give_step : (s t : State) (story : Story) (g : Given) → s.settled ≡ g ∷ t.settled → t ≡ record s { settled = t.settled; packets = t.packets } → Tracks s story → Tracks t (gave story g)
 give_step s t story g first same k = subst (λ (u : State). Tracks u (gave story g)) (sym same) (record {
   follows = record { wait = k.follows.wait; moment = k.follows.moment; arrivals = k.follows.arrivals; top = k.follows.top; phase = go k.follows.phase };
   still = k.still;
 })
   where
-    go : Phase s story → Phase (record s { settled = t.settled }) (gave story g)
+    go : Phase s story → Phase (record s { settled = t.settled; packets = t.packets }) (gave story g)
     go (Before w) = absurd (clash (sym first ∙ w.settled))
       where
         clash : g ∷ t.settled ≡ [] → ⊥
@@ -161,7 +161,7 @@ end_all s t story k after =
         (let a = after.follows.moment in let b = after.follows.wait in let c = k.follows.moment in omega arith)
 
 -- ---- what one call gives
-pub give_some : (r : Option Due) (s t : State) → IfSome r (λ due. (s.settled ≡ given_of due ∷ t.settled) × (t ≡ record s { settled = t.settled })) → IfSome r (λ due. (story : Story) → Tracks s story → Tracks t (gave story (given_of due)))
+pub give_some : (r : Option Due) (s t : State) → IfSome r (λ due. (s.settled ≡ given_of due ∷ t.settled) × (t ≡ record s { settled = t.settled; packets = t.packets })) → IfSome r (λ due. (story : Story) → Tracks s story → Tracks t (gave story (given_of due)))
 give_some None s t h = tt
 give_some (Some due) s t h = λ story k. give_step s t story (given_of due) h.0 h.1 k
 

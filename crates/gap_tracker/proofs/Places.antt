@@ -1,13 +1,14 @@
 -- Where a number belongs among those that are held.
-use Rattle.std.proofs.Common.{◌≡◌, ℕ, zero, suc, ◌-◌, ◌^◌, ◌<◌, ◌≤◌, true, false, inl, inr, List, [], ◌∷◌, length, get_or, drop, refl, ap, subst, ◌∙◌, arith}
+use Rattle.std.proofs.Common.{◌≡◌, ℕ, zero, suc, ◌+◌, ◌-◌, ◌^◌, ◌<◌, ◌≤◌, ◌⊎◌, true, false, inl, inr, List, [], ◌∷◌, ◌++◌, length, get_or, drop, refl, ap, subst, ◌∙◌, arith}
 use Rattle.std.specs.Prelude.{map, insert, ◌==◌}
 use Rattle.std.proofs.lemmas.Bool.{eq-eqb, ne_eqb, lt-ltb, le-ltb, or_left, or_right}
 use Rattle.stream_spec.specs.Numbering.{Numbered, has_number, by_number}
 use Rattle.stream_spec.specs.Lists.{In}
 use Rattle.stream_spec.specs.Holding.{RisingNumbers}
 use Rattle.gap_tracker.specs.States.{AllAbove, IsPlace}
-use Rattle.gap_tracker.specs.Views.{numbered_of, AreSmall}
+use Rattle.gap_tracker.specs.Views.{numbered_of, settled_of, held_packet, settled_packet, AreSmall}
 use Rattle.gap_tracker.specs.declared.holds.HeldPacket.{HeldPacket}
+use Rattle.gap_tracker.specs.declared.holds.SettledPacket.{SettledPacket}
 
 -- one more that is above
 pub above_more : (n : ℕ) (xs : List HeldPacket) (place : ℕ) (d : HeldPacket) → 0 < place → place ≤ length xs → n < (get_or xs (place - 1) d).number → AllAbove n (drop place (map numbered_of xs)) → AllAbove n (drop (place - 1) (map numbered_of xs))
@@ -110,3 +111,34 @@ pub small_put : (xs : List HeldPacket) (place : ℕ) (x : HeldPacket) → AreSma
 small_put xs zero x s l = (l, s)
 small_put [] (suc k) x s l = (l, tt)
 small_put (y ∷ xs) (suc k) x s l = (s.0, small_put xs k x s.1 l)
+
+-- ---- the packets inside
+append_put : {X : Type 0} (xs ys : List X) (place : ℕ) (y : X) → xs ++ insert ys place y ≡ insert (xs ++ ys) (length xs + place) y
+append_put [] ys place y = let e : place ≡ 0 + place = omega arith in ap (λ n. insert ys n y) e
+append_put (x ∷ xs) ys place y = let e : suc (length xs + place) ≡ suc (length xs) + place = omega arith in ap (λ zs. x ∷ zs) (append_put xs ys place y) ∙ ap (λ n. insert (x ∷ (xs ++ ys)) n y) e
+
+pub in_put : {X : Type 0} (xs : List X) (place : ℕ) (x y : X) → In y (insert xs place x) → (y ≡ x) ⊎ In y xs
+in_put xs zero x y (inl e) = inl e
+in_put xs zero x y (inr i) = inr i
+in_put [] (suc k) x y (inl e) = inl e
+in_put [] (suc k) x y (inr i) = absurd i
+in_put (z ∷ xs) (suc k) x y (inl e) = inr (inl e)
+in_put (z ∷ xs) (suc k) x y (inr i) = elim (in_put xs k x y i) [ inl e ↦ inl e | inr j ↦ inr (inr j) ]
+
+packets_put : (xs : List HeldPacket) (place : ℕ) (x : HeldPacket) → map held_packet (insert xs place x) ≡ insert (map held_packet xs) place (held_packet x)
+packets_put xs zero x = refl
+packets_put [] (suc k) x = refl
+packets_put (y ∷ xs) (suc k) x = ap (λ us. held_packet y ∷ us) (packets_put xs k x)
+
+pub inside_put : (settled : List SettledPacket) (xs : List HeldPacket) (place : ℕ) (x : HeldPacket)
+    → map settled_packet settled ++ map held_packet (insert xs place x) ≡ insert (map settled_packet settled ++ map held_packet xs) (length (map settled_of settled) + place) (held_packet x)
+inside_put settled xs place x =
+    ap (λ us. map settled_packet settled ++ us) (packets_put xs place x) ∙ (append_put (map settled_packet settled) (map held_packet xs) place (held_packet x) ∙ ap (λ n. insert (map settled_packet settled ++ map held_packet xs) (n + place) (held_packet x)) (same settled))
+  where
+    same : (ys : List SettledPacket) → length (map settled_packet ys) ≡ length (map settled_of ys)
+    same [] = refl
+    same (y ∷ ys) = ap suc (same ys)
+
+pub inside_settle : (settled : List SettledPacket) (x : HeldPacket) (xs : List HeldPacket) (y : SettledPacket) → settled_packet y ≡ held_packet x → map settled_packet (settled ++ y ∷ []) ++ map held_packet xs ≡ map settled_packet settled ++ (held_packet x ∷ map held_packet xs)
+inside_settle [] x xs y e = ap (λ q. q ∷ map held_packet xs) e
+inside_settle (z ∷ settled) x xs y e = ap (λ us. settled_packet z ∷ us) (inside_settle settled x xs y e)

@@ -73,6 +73,7 @@ settle_same first s to same = go s.held refl
       finished = same.finished;
       first = same.first;
       top = same.top;
+      packets = same.packets;
       total = let n : length s.held ≡ suc (length xs) = ap length e in let t = same.total in
           let it : Given = record { number = x.number; ready = to; packet = x.packet } in
           let a = length-append s.settled (it ∷ []) in omega arith;

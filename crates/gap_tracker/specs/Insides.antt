@@ -1,12 +1,12 @@
 -- What a hold stands for.
-use Rattle.std.specs.Prelude.{◌≡◌, ◌+◌, ◌*◌, ◌^◌, ◌<◌, ◌≤◌, Bool, length, map}
+use Rattle.std.specs.Prelude.{◌≡◌, ◌+◌, ◌*◌, ◌^◌, ◌<◌, ◌≤◌, Bool, ◌++◌, length, map}
 use Rattle.gap_tracker.specs.States.{State}
-use Rattle.gap_tracker.specs.Views.{numbered_of, settled_of, AreSmall}
+use Rattle.gap_tracker.specs.Views.{numbered_of, settled_of, held_packet, settled_packet, AreSmall}
 use Rattle.gap_tracker.specs.declared.holds.Hold.TheInside.{Inside}
 
 abbrev pub state_of : Inside → State
 state_of h =
-    record { wait = h.wait; moment = h.moment; arrivals = h.arrivals; finished = h.finished; first = h.first; top = h.top; front = h.front; latest = h.latest; settled = map settled_of h.settled; held = map numbered_of h.held }
+    record { wait = h.wait; moment = h.moment; arrivals = h.arrivals; finished = h.finished; first = h.first; top = h.top; front = h.front; latest = h.latest; settled = map settled_of h.settled; held = map numbered_of h.held; packets = map settled_packet h.settled ++ map held_packet h.held }
 
 pub record IsSound (h : Inside) : Type 0 where
   pub room : length h.settled + length h.held + length h.spare ≡ 65

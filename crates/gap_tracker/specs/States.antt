@@ -1,5 +1,6 @@
 -- What a tracker holds, and how it changes (profile).
 use Rattle.std.specs.Prelude.{◌≡◌, ℕ, ◌+◌, ◌-◌, ◌<◌, ◌≤◌, ◌==◌, Bool, true, false, List, [], ◌∷◌, ◌++◌, length, Option, None, Some, nat_lt, nat_le, if◌then◌else◌, min, max, insert, drop, get_or}
+use Rattle.rtt_base.specs.declared.text_packets.TextPacket.{TextPacket}
 use Rattle.stream_spec.specs.Numbering.{Numbered, has_number}
 use Rattle.gap_tracker.specs.Stories.{Given}
 use Rattle.gap_tracker.specs.declared.answers.Taken.{Taken}
@@ -17,9 +18,10 @@ pub record State : Type 0 where
   pub latest : ℕ
   pub settled : List Given
   pub held : List Numbered
+  pub packets : List TextPacket
 
 abbrev pub fresh : ℕ → State
-fresh wait = record { wait = wait; moment = 0; arrivals = 0; finished = false; first = 0; top = 0; front = 0; latest = 0; settled = []; held = [] }
+fresh wait = record { wait = wait; moment = 0; arrivals = 0; finished = false; first = 0; top = 0; front = 0; latest = 0; settled = []; held = []; packets = [] }
 
 abbrev pub has_some : {X : Type 0} → List X → Bool
 has_some [] = false
@@ -34,6 +36,10 @@ arrivals_of s = s.arrivals
 
 abbrev pub is_finished : State → Bool
 is_finished s = s.finished
+
+-- the packets inside, as they came: those that are settled, and those that are held
+abbrev pub packets_in : State → List TextPacket
+packets_in s = s.packets
 
 abbrev pub passed : State → ℕ → State
 passed s now = record s { moment = max s.moment now }
@@ -74,8 +80,9 @@ settled_first s latest = settled_over s latest s.held
 abbrev pub counted : State → ℕ → State
 counted s n = record s { arrivals = s.arrivals + 1; first = if s.arrivals == 0 then n else s.first; front = if s.arrivals == 0 then n else s.front; top = max s.top n }
 
-abbrev pub put_at : State → ℕ → Numbered → State
-put_at s place e = record s { held = insert s.held place e }
+-- e is held, which the program has as q
+abbrev pub put_at : State → ℕ → Numbered → TextPacket → State
+put_at s place e q = record s { held = insert s.held place e; packets = insert s.packets (length s.settled + place) q }
 
 -- why a packet with this number is not held
 abbrev pub IsRefused : State → ℕ → Taken → Type 0

@@ -48,4 +48,5 @@ pub record SameBut (s t : State) : Type 0 where
   pub finished : t.finished ≡ s.finished
   pub first : t.first ≡ s.first
   pub top : t.top ≡ s.top
+  pub packets : t.packets ≡ s.packets
   pub total : length t.settled + length t.held ≡ length s.settled + length s.held

@@ -1,6 +1,8 @@
 //! What a tracker holds.
-ghost use Rattle.std.specs.Prelude.{◌≡◌, ◌+◌, ◌-◌, ◌*◌, ◌^◌, ◌<◌, ◌≤◌, ◌==◌, ℕ, [], ◌∷◌, length, map, drop, slice_index_or, nat_lt, Bool, true, false, IfOk, OnOk, IfErr, IsSome, IfSome, IfNone, Some, None, if◌then◌else◌};
+ghost use Rattle.std.specs.Prelude.{◌≡◌, ◌+◌, ◌-◌, ◌*◌, ◌^◌, ◌<◌, ◌≤◌, ◌==◌, ◌⊎◌, ℕ, [], ◌∷◌, length, map, drop, slice_index_or, nat_lt, Bool, true, false, IfOk, OnOk, IfErr, IsSome, IfSome, IfNone, Some, None, if◌then◌else◌};
+ghost use Rattle.rtt_base.specs.declared.text_packets.TextPacket.{TextPacket};
 ghost use Rattle.wire_spec.specs.Packets.{packet_of};
+ghost use Rattle.stream_spec.specs.Lists.{In};
 ghost use Rattle.gap_tracker.specs.Stories.{Story, came, went, ended, answer, gave, given_of, dues, ready_dues, is_used, is_in_time};
 ghost use Rattle.gap_tracker.specs.States.{fresh, has_ready, passed, oldest_from, given_up_at, next_latest, settled_first, counted, put_at, IsRefused, AllAbove, IsPlace};
 ghost use Rattle.gap_tracker.specs.Views.{numbered_of, next_number};
@@ -249,7 +251,7 @@ impl Hold {
         requires room { length self.old.settled + length self.old.held ≤ 64 }
         requires within { place ≤ length self.old.held }
         requires number { number < 2 ^ 60 }
-        ensures { self.new ≡ put_at self.old place (record { time = self.old.moment; number = number; packet = packet_of packet }) }
+        ensures { self.new ≡ put_at self.old place (record { time = self.old.moment; number = number; packet = packet_of packet }) packet }
     {
         let mut slot = self.spare.take_last();
         *slot = packet;
@@ -272,6 +274,7 @@ impl Hold {
         ensures stands { (story : Story) → Tracks self.old story → Tracks self.new (came story now (packet_of packet)) }
         ensures answer { (story : Story) → Tracks self.old story → result ≡ answer story now (packet_of packet) }
         ensures used { (story : Story) → Tracks self.old story → is_used result ≡ is_in_time story now (packet_of packet) }
+        ensures packets { (q : TextPacket) → In q self.new.packets → (q ≡ packet) ⊎ In q self.old.packets }
         ensures arrivals { self.new.arrivals ≡ self.old.arrivals + 1 }
         ensures finished { self.new.finished ≡ self.old.finished }
         ensures still { next_latest self.new ≡ None }
@@ -305,6 +308,7 @@ impl Hold {
         requires { self.old.finished ≡ false }
         ensures stands { (story : Story) → Tracks self.old story → Tracks self.new (ended story) }
         ensures all { (story : Story) → Tracks self.old story → ready_dues (ended story) ≡ dues story }
+        ensures packets { self.new.packets ≡ self.old.packets }
         ensures arrivals { self.new.arrivals ≡ self.old.arrivals }
         ensures finished { self.new.finished ≡ true }
         ensures still { next_latest self.new ≡ None }
@@ -317,7 +321,8 @@ impl Hold {
     /// Gives the first settled packet.
     pub fn next(&mut self) -> Option<Due>
         ensures none { IfNone result ((self.old.settled ≡ []) × (self.new ≡ self.old)) }
-        ensures some { IfSome result (λ due. (self.old.settled ≡ given_of due ∷ self.new.settled) × (self.new ≡ record self.old { settled = self.new.settled })) }
+        ensures some { IfSome result (λ due. (self.old.settled ≡ given_of due ∷ self.new.settled) × (self.new ≡ record self.old { settled = self.new.settled; packets = self.new.packets })) }
+        ensures packet { IfSome result (λ due. self.old.packets ≡ due.packet ∷ self.new.packets) }
     {
         if self.settled.is_empty() {
             return None;

@@ -1,8 +1,10 @@
 //! The tracker of one stream.
-ghost use Rattle.std.specs.Prelude.{◌≡◌, ◌+◌, ◌^◌, ◌<◌, ◌≤◌, ◌++◌, List, Bool, true, false, is_some, length, nat_lt, IfOk, IfSome, IfNone};
+ghost use Rattle.std.specs.Prelude.{◌≡◌, ◌+◌, ◌^◌, ◌<◌, ◌≤◌, ◌++◌, ◌⊎◌, [], ◌∷◌, List, Bool, true, false, is_some, length, nat_lt, IfOk, IfSome, IfNone};
+ghost use Rattle.rtt_base.specs.declared.text_packets.TextPacket.{TextPacket};
 ghost use Rattle.wire_spec.specs.Packets.{packet_of};
+ghost use Rattle.stream_spec.specs.Lists.{In};
 ghost use Rattle.gap_tracker.specs.Stories.{Story, Given, begun, came, went, ended, gave, given_of, dues, ready_dues, answer, is_used, is_in_time};
-ghost use Rattle.gap_tracker.specs.States.{has_ready, arrivals_of, is_finished};
+ghost use Rattle.gap_tracker.specs.States.{has_ready, packets_in, arrivals_of, is_finished};
 ghost use Rattle.gap_tracker.specs.Tracks.{Tracks};
 
 use crate::holds::Hold;
@@ -40,6 +42,7 @@ impl Tracker {
         requires { wait ≤ 10000 }
         ensures stands { IfOk result (λ tracker. Tracks tracker (begun wait)) }
         ensures ready { IfOk result (λ tracker. has_ready tracker ≡ false) }
+        ensures packets { IfOk result (λ tracker. packets_in tracker ≡ []) }
         ensures arrivals { IfOk result (λ tracker. arrivals_of tracker ≡ 0) }
         ensures finished { IfOk result (λ tracker. is_finished tracker ≡ false) }
     {
@@ -56,6 +59,8 @@ impl Tracker {
         ensures stands { (story : Story) → Tracks self.old story → Tracks self.new (came story now (packet_of p)) }
         ensures answer { (story : Story) → Tracks self.old story → result ≡ answer story now (packet_of p) }
         ensures used { (story : Story) → Tracks self.old story → is_used result ≡ is_in_time story now (packet_of p) }
+        // What is inside came.
+        ensures packets { (q : TextPacket) → In q (packets_in self.new) → (q ≡ p) ⊎ In q (packets_in self.old) }
         ensures arrivals { arrivals_of self.new ≡ arrivals_of self.old + 1 }
         ensures finished { is_finished self.new ≡ is_finished self.old }
     {
@@ -67,6 +72,7 @@ impl Tracker {
         requires now { now < 2 ^ 48 }
         requires quiet { has_ready self.old ≡ false }
         ensures stands { (story : Story) → Tracks self.old story → Tracks self.new (went story now) }
+        ensures packets { packets_in self.new ≡ packets_in self.old }
         ensures arrivals { arrivals_of self.new ≡ arrivals_of self.old }
         ensures finished { is_finished self.new ≡ is_finished self.old }
     {
@@ -80,6 +86,7 @@ impl Tracker {
         ensures stands { (story : Story) → Tracks self.old story → Tracks self.new (ended story) }
         // Each used packet is ready by then.
         ensures all { (story : Story) → Tracks self.old story → ready_dues (ended story) ≡ dues story }
+        ensures packets { packets_in self.new ≡ packets_in self.old }
         ensures arrivals { arrivals_of self.new ≡ arrivals_of self.old }
         ensures finished { is_finished self.new ≡ true }
     {
@@ -104,6 +111,8 @@ impl Tracker {
         ensures order { (story : Story) → Tracks self.new story → (rest : List Given) × (dues story ≡ ready_dues story ++ rest) }
         // All that is ready by the greatest moment was given.
         ensures none { IfNone result ((story : Story) → Tracks self.old story → story.given ≡ ready_dues story) }
+        // It is given as it came.
+        ensures packet { IfSome result (λ due. packets_in self.old ≡ due.packet ∷ packets_in self.new) }
         ensures unchanged { IfNone result (self.new ≡ self.old) }
         ensures arrivals { arrivals_of self.new ≡ arrivals_of self.old }
         ensures finished { is_finished self.new ≡ is_finished self.old }

@@ -2,7 +2,7 @@ use Rattle.std.proofs.Common.{refl, ap, ◌∙◌, arith, length, length-append,
 use Rattle.std.specs.Box.{with_value}
 use Rattle.gap_tracker.specs.declared.holds.HeldPacket.{HeldPacket}
 use Rattle.gap_tracker.specs.States.{State}
-use Rattle.gap_tracker.proofs.Places.{map_put, length_put, small_put}
+use Rattle.gap_tracker.proofs.Places.{inside_put, map_put, length_put, small_put}
 use Rattle.gap_tracker.proofs.holds.Hold.put.Goals as goal
 
 pub invariant_of-self : goal.invariant_of-self
@@ -26,4 +26,4 @@ invariant_of-self c =
 pub returns : goal.returns
 returns c =
     let x : HeldPacket = record { number = c.args.number; time = c.self.inside.moment; packet = with_value c.take_last-slot.result c.args.packet } in
-    rw (← c.self.view_is, c.insert.ensures, map_put c.self.inside.held c.args.place x) refl
+    rw (← c.self.view_is, c.insert.ensures, map_put c.self.inside.held c.args.place x, inside_put c.self.inside.settled c.self.inside.held c.args.place x) refl
