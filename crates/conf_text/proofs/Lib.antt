@@ -1,4 +1,6 @@
+pub mod ConfLoop
 pub mod DecimalDigits
+pub mod EntryWords
 pub mod EscapeLoop
 pub mod FirstLine
 pub mod ScriptLoop

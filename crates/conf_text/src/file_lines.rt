@@ -3,6 +3,9 @@ ghost use Rattle.std.specs.Prelude.{◌≡◌, ◌<◌, ◌==◌, [], ◌∷◌,
 ghost use Rattle.std.specs.List.{position};
 ghost use Rattle.std.specs.Str.Lines.{lines, strip_carriage_return};
 ghost use Rattle.file_spec.specs.Lines.{is_comment};
+ghost use Rattle.conf_text.specs.Texts.{octets_of, text_in};
+
+use simdutf8::compat::from_utf8;
 
 fn without_return(line: &[u8]) -> &[u8]
     ensures { result.now ≡ strip_carriage_return line.now }
@@ -40,5 +43,15 @@ pub(crate) fn says_nothing(line: &[u8]) -> bool
     match line {
         [] => true,
         [first, ..] => *first == b'#',
+    }
+}
+
+/// The octets as text, if they are UTF-8.
+pub(crate) fn text_of(octets: &[u8]) -> Option<&str>
+    ensures { octets_of result ≡ text_in octets.now }
+{
+    match from_utf8(octets) {
+        Ok(text) => Some(text),
+        Err(_) => None,
     }
 }

@@ -2,7 +2,10 @@
 ghost use Rattle.std.specs.Prelude.{◌≡◌};
 ghost use Rattle.std.specs.List.{list_all};
 ghost use Rattle.std.specs.Char.{is_ascii_digit};
+ghost use Rattle.file_spec.specs.Conf.{number_between, pts};
 ghost use Rattle.file_spec.specs.Numbers.{number, is_number};
+
+use rtt_base::Pts;
 
 fn all_digits(text: &[u8]) -> bool
     ensures { result ≡ list_all (λ c. is_ascii_digit c) text.now }
@@ -30,4 +33,27 @@ pub(crate) fn number_of(text: &str, most: u32) -> Option<u32>
         return None;
     }
     Some(value as u32)
+}
+
+/// The same of a number that is at least `least`.
+pub(crate) fn number_from(text: &str, least: u32, most: u32) -> Option<u32>
+    ensures { result ≡ number_between least most text.now }
+{
+    let value = number_of(text, most)?;
+    if value < least {
+        return None;
+    }
+    Some(value)
+}
+
+/// The two payload types, if both are of the dynamic ones (RFC 3551, section 3).
+pub(crate) fn pts_of(t140: &str, red: &str) -> Option<Pts>
+    ensures { result ≡ pts t140.now red.now }
+{
+    let t140 = number_from(t140, 96, 127)?;
+    let red = number_from(red, 96, 127)?;
+    Some(Pts {
+        t140: t140 as u8,
+        red: red as u8,
+    })
 }

@@ -2,13 +2,12 @@
 ghost use Rattle.std.specs.Prelude.{◌≡◌, ◌≤◌, IfOk, IfErr};
 ghost use Rattle.file_spec.specs.Script.{around_space, script, script_line};
 ghost use Rattle.conf_text.specs.Causes.{IsCause};
-ghost use Rattle.conf_text.specs.Texts.{octets_of, parts_of, text_in};
+ghost use Rattle.conf_text.specs.Texts.{parts_of};
 
 use crate::escapes::read_text;
-use crate::file_lines::{next_line, says_nothing};
+use crate::file_lines::{next_line, says_nothing, text_of};
 use crate::numerals::number_of;
 use crate::{ConfFault, ConfKind, Script, ScriptLine};
-use simdutf8::compat::from_utf8;
 use std::alloc::Global;
 
 /// The last moment of a script line, four hours, in milliseconds.
@@ -16,15 +15,6 @@ const LAST_MOMENT: u32 = 14_400_000;
 
 /// The greatest size of a script, in octets.
 const MOST_OCTETS: usize = 1_048_576;
-
-fn text_of(octets: &[u8]) -> Option<&str>
-    ensures { octets_of result ≡ text_in octets.now }
-{
-    match from_utf8(octets) {
-        Ok(text) => Some(text),
-        Err(_) => None,
-    }
-}
 
 fn split_at_space(line: &str) -> Option<(&str, &str)>
     ensures { parts_of result ≡ around_space line.now }

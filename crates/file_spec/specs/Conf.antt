@@ -67,17 +67,20 @@ abbrev pub number_between : ℕ → ℕ → List ℕ → Option ℕ
 number_between least most text = option_and_then (λ n. if nat_lt n least then None else Some n) (number most text)
 
 -- one number, on one line
-abbrev pub setting : (ℕ → Entry) → ℕ → ℕ → Option ℕ → List (List ℕ) → Result Entry ConfKind
-setting entry least most above (text ∷ []) = ok_or (number_between least most text) Number >>= λ n. unless (is_some above) Twice (entry n)
-setting entry least most above _ = Err Count
+abbrev pub setting : ℕ → ℕ → Option ℕ → List (List ℕ) → Result ℕ ConfKind
+setting least most above (text ∷ []) = ok_or (number_between least most text) Number >>= unless (is_some above) Twice
+setting least most above _ = Err Count
 
-abbrev pub mixer : Above → List (List ℕ) → Result Entry ConfKind
-mixer above (ssrc ∷ seq ∷ stamp ∷ []) = do
+unfoldable pub mixer_of : Above → List ℕ → List ℕ → List ℕ → Result MixerLine ConfKind
+mixer_of above ssrc seq stamp = do
   sender ← ok_or (number most_ssrc ssrc) Number
   first ← ok_or (number 65535 seq) Number
   start ← ok_or (number 4294967295 stamp) Number
   line ← unless (is_some above.mixer) Twice (record { ssrc = sender; seq = first; stamp = start })
-  unless (list_any (λ leg. leg.ssrc == sender) above.legs) Clash (Mixer line)
+  unless (list_any (λ leg. leg.ssrc == sender) above.legs) Clash line
+
+abbrev pub mixer : Above → List (List ℕ) → Result MixerLine ConfKind
+mixer above (ssrc ∷ seq ∷ stamp ∷ []) = mixer_of above ssrc seq stamp
 mixer above _ = Err Count
 
 -- ---- legs
@@ -137,14 +140,13 @@ clashes form above leg =
     list_any (λ a. a.ssrc == leg.ssrc) above.legs || (is_mixers above.mixer leg.ssrc
     || (shares_own form leg || list_any (λ a. shares_path form a leg) above.legs))
 
-abbrev pub new_leg : Form → Above → LegLine → Result Entry ConfKind
+abbrev pub new_leg : Form → Above → LegLine → Result LegLine ConfKind
 new_leg form above leg =
     unless (nat_le 16 (length above.legs)) Many leg
     >>= unless (list_any (λ a. bytes_eq a.name leg.name) above.legs) Twice
     >>= unless (clashes form above leg) Clash
-    >>= λ l. Ok (Leg l)
 
-unfoldable pub leg_of : Form → Above → ℕ → List ℕ → List ℕ → List ℕ → List ℕ → List ℕ → Option Pts → Result Entry ConfKind
+unfoldable pub leg_of : Form → Above → ℕ → List ℕ → List ℕ → List ℕ → List ℕ → List ℕ → Option Pts → Result LegLine ConfKind
 leg_of form above n name mode ssrc input output types = do
   aware ← ok_or (aware_of mode) Word
   named ← unless (not (has_names form name input output)) Name name
@@ -154,7 +156,7 @@ leg_of form above n name mode ssrc input output types = do
   new_leg form above (record { line = n; name = named; aware = aware; ssrc = sender; input = from; output = output; pts = pts })
 
 -- without payload types, 98 and 100
-abbrev pub leg : Form → Above → ℕ → List (List ℕ) → Result Entry ConfKind
+abbrev pub leg : Form → Above → ℕ → List (List ℕ) → Result LegLine ConfKind
 leg form above n (name ∷ mode ∷ ssrc ∷ input ∷ output ∷ []) = leg_of form above n name mode ssrc input output (Some (record { t140 = 98; red = 100 }))
 leg form above n (name ∷ mode ∷ ssrc ∷ input ∷ output ∷ t140 ∷ red ∷ []) = leg_of form above n name mode ssrc input output (pts t140 red)
 leg form above n _ = Err Count
@@ -170,27 +172,27 @@ same_word _ _ = false
 abbrev pub same_packet : PlanLine → PlanLine → Bool
 same_packet a b = same_word a.what b.what && (a.terminal == b.terminal && a.packet == b.packet)
 
-unfoldable pub plan_of : Above → List ℕ → List ℕ → Option What → Result Entry ConfKind
+unfoldable pub plan_of : Above → List ℕ → List ℕ → Option What → Result PlanLine ConfKind
 plan_of above name packet happens = do
   terminal ← ok_or (position (λ leg. bytes_eq leg.name name) above.legs) Name
   k ← ok_or (number 4294967295 packet) Number
   w ← ok_or happens Number
   line ← unless (nat_le 4096 (length above.plan)) PlanMany (record { terminal = terminal; packet = k; what = w })
-  unless (list_any (λ p. same_packet p line) above.plan) Twice (Plan line)
+  unless (list_any (λ p. same_packet p line) above.plan) Twice line
 
-abbrev pub plan : Above → What → List (List ℕ) → Result Entry ConfKind
+abbrev pub plan : Above → What → List (List ℕ) → Result PlanLine ConfKind
 plan above w (name ∷ packet ∷ []) = plan_of above name packet (Some w)
 plan above w _ = Err Count
 
 abbrev pub delay_of : List ℕ → Option What
 delay_of text = option_and_then (λ ms. Some (what.Delay ms)) (number 60000 text)
 
-abbrev pub delay : Above → List (List ℕ) → Result Entry ConfKind
+abbrev pub delay : Above → List (List ℕ) → Result PlanLine ConfKind
 delay above (name ∷ packet ∷ late ∷ []) = plan_of above name packet (delay_of late)
 delay above _ = Err Count
 
 -- the plan has words in the form Files alone
-abbrev pub plan_word : Form → Above → List ℕ → List (List ℕ) → Result Entry ConfKind
+abbrev pub plan_word : Form → Above → List ℕ → List (List ℕ) → Result PlanLine ConfKind
 plan_word Links above word more = Err Word
 plan_word Files above word more =
     if bytes_eq word (codes "lose") then plan above what.Lose more
@@ -199,20 +201,30 @@ plan_word Files above word more =
 
 -- ---- lines
 
+abbrev pub says : {A : Type 0} → (A → Entry) → Result A ConfKind → Result Entry ConfKind
+says entry (Ok x) = Ok (entry x)
+says entry (Err kind) = Err kind
+
+-- the times, one number each, and the plan
+unfoldable pub time_or_plan : Form → Above → List ℕ → List (List ℕ) → Result Entry ConfKind
+time_or_plan form above word more =
+    if bytes_eq word (codes "tick") then says Tick (setting 20 400 above.tick more)
+    else (if bytes_eq word (codes "spacing") then says Spacing (setting 100 1000 above.spacing more)
+    else (if bytes_eq word (codes "wait") then says Wait (setting 0 10000 above.wait more)
+    else (if bytes_eq word (codes "turns") then says Turns (setting 1 5000000 above.turns more)
+    else says Plan (plan_word form above word more))))
+
 -- what the words of a line say: the first one decides how many there are
 unfoldable pub entry : Form → Above → ℕ → List (List ℕ) → Result Entry ConfKind
 entry form above n [] = Err Word
 entry form above n (word ∷ more) =
-    if bytes_eq word (codes "leg") then leg form above n more
-    else (if bytes_eq word (codes "mixer") then mixer above more
-    else (if bytes_eq word (codes "tick") then setting Tick 20 400 above.tick more
-    else (if bytes_eq word (codes "spacing") then setting Spacing 100 1000 above.spacing more
-    else (if bytes_eq word (codes "wait") then setting Wait 0 10000 above.wait more
-    else (if bytes_eq word (codes "turns") then setting Turns 1 5000000 above.turns more
-    else plan_word form above word more)))))
+    if bytes_eq word (codes "leg") then says Leg (leg form above n more)
+    else (if bytes_eq word (codes "mixer") then says Mixer (mixer above more)
+    else time_or_plan form above word more)
 
+-- spaces alone, or a comment
 abbrev pub is_blank : List ℕ → Bool
-is_blank octets = is_comment octets || length (words octets) == 0
+is_blank octets = list_all (λ c. c == byte " ") octets || is_comment octets
 
 -- a line and those above it
 abbrev pub and_line : Form → Above → Line → Result Above ConfKind

@@ -1,5 +1,5 @@
 -- The lines of a file and their words (profile). A line ends with LF, and a CR right before the LF is no part of it; the last line need not end.
-use Rattle.std.specs.Prelude.{ℕ, ◌+◌, ◌==◌, nat_lt, Bool, true, not, List, [], ◌∷◌, length, filter, Result, Ok, Err}
+use Rattle.std.specs.Prelude.{ℕ, ◌+◌, ◌==◌, Bool, true, not, List, [], ◌∷◌, length, filter, Result, Ok, Err}
 use Rattle.std.specs.List.{slice_split}
 use Rattle.std.specs.Str.{byte}
 use Rattle.file_spec.specs.declared.kinds.ConfKind.{ConfKind}
@@ -25,7 +25,7 @@ is_comment (c ∷ _) = c == byte "#"
 
 -- what stands between spaces, one or more
 abbrev pub words : List ℕ → List (List ℕ)
-words octets = filter (λ word. nat_lt 0 (length word)) (slice_split (λ c. c == byte " ") octets)
+words octets = filter (λ word. not (length word == 0)) (slice_split (λ c. c == byte " ") octets)
 
 -- the first bad line, and why
 pub record Refusal : Type 0 where

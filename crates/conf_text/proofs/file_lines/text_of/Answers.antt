@@ -1,7 +1,7 @@
 use Rattle.std.proofs.Common.{Some, ap}
 use Rattle.std.proofs.lemmas.Str.{is_utf8-from_IsUtf8}
 use Rattle.conf_text.proofs.TextLine.{no_text}
-use Rattle.conf_text.proofs.script_reader.text_of.Goals as goal
+use Rattle.conf_text.proofs.file_lines.text_of.Goals as goal
 
 pub returns-in-Ok : goal.returns-in-Ok
 returns-in-Ok c = rw (is_utf8-from_IsUtf8 c.args.octets.now c.in-Ok.ensures.cases.1) (ap Some c.in-Ok.ensures.cases.0)

@@ -1,0 +1,117 @@
+//! Reads conferences.
+ghost use Rattle.std.specs.Prelude.{◌≡◌, ◌==◌, ◌||◌, IfOk, IfErr, OnOk, map};
+ghost use Rattle.std.specs.List.{list_all};
+ghost use Rattle.file_spec.specs.Lines.{words};
+ghost use Rattle.file_spec.specs.Conf.{and_line, complete, conf, is_blank};
+ghost use Rattle.conf_text.specs.Causes.{IsCause, IsCauseAt};
+ghost use Rattle.conf_text.specs.Lines.{above_of, conf_of};
+
+use crate::drafts::Draft;
+use crate::entries::read_entry;
+use crate::file_lines::{next_line, says_nothing, text_of};
+use crate::{Conf, ConfFault, ConfKind};
+use file_spec::Form;
+use rtt_base::NoMemory;
+use std::alloc::Global;
+
+/// The greatest size of a conference file, in octets.
+const MOST_OCTETS: usize = 262_144;
+
+fn all_spaces(line: &[u8]) -> bool
+    ensures { result ≡ list_all (λ c. c == 32) line.now }
+{
+    line.iter().all(|octet| *octet == b' ')
+}
+
+fn is_passed_over(line: &[u8]) -> bool
+    ensures { result ≡ is_blank line.now }
+{
+    all_spaces(line) || says_nothing(line)
+}
+
+/// The words of a line: what stands between its spaces.
+fn words_of(alloc: Global, line: &str) -> Result<Vec<&str>, NoMemory>
+    ensures { IfOk result (λ v. map (λ w. w.now) v.items ≡ words line.now) }
+{
+    match line
+        .split(' ')
+        .filter(|word| !word.is_empty())
+        .collect(alloc)
+    {
+        Ok(words) => Ok(words),
+        Err(_) => Err(NoMemory),
+    }
+}
+
+fn read_line(
+    alloc: Global,
+    form: Form,
+    draft: &mut Draft,
+    line: u32,
+    octets: &[u8],
+) -> Result<(), ConfFault>
+    ensures ok { OnOk result (and_line form (above_of draft.old) (record { number = line; octets = octets.now }) ≡ Ok (above_of draft.new)) }
+    ensures err { IfErr result (λ fault. IsCauseAt line fault (and_line form (above_of draft.old) (record { number = line; octets = octets.now }))) }
+{
+    let Some(text) = text_of(octets) else {
+        return Err(ConfFault::Refused {
+            line,
+            kind: ConfKind::NotText,
+        });
+    };
+    let words = words_of(alloc, text)?;
+    match read_entry(form, draft, line, words.as_slice()) {
+        Ok(said) => draft.add(alloc, said)?,
+        Err(kind) => return Err(ConfFault::Refused { line, kind }),
+    }
+    Ok(())
+}
+
+fn finish(draft: Draft, line: u32) -> Result<Conf, ConfFault>
+    ensures ok { IfOk result (λ c. complete (above_of draft) draft.mixer ≡ Ok (conf_of c)) }
+    ensures err { IfErr result (λ fault. IsCauseAt line fault (complete (above_of draft) draft.mixer)) }
+{
+    let few = ConfFault::Refused {
+        line,
+        kind: ConfKind::Few,
+    };
+    let Some(mixer) = draft.mixer else {
+        return Err(few);
+    };
+    if draft.legs.len() < 2 {
+        return Err(few);
+    }
+    Ok(Conf {
+        legs: draft.legs,
+        tick: draft.tick.unwrap_or(100),
+        spacing: draft.spacing.unwrap_or(300),
+        wait: draft.wait.unwrap_or(1000),
+        turns: draft.turns.unwrap_or(5_000_000),
+        mixer,
+        plan: draft.plan,
+    })
+}
+
+/// Reads a conference, whose legs are recordings in files or links to the outside.
+pub fn read_conf(alloc: Global, bytes: &[u8], form: Form) -> Result<Conf, ConfFault>
+    ensures value { IfOk result (λ c. conf form bytes.now ≡ Ok (conf_of c)) }
+    ensures refused { IfErr result (λ fault. IsCause fault (conf form bytes.now)) }
+{
+    if bytes.len() > MOST_OCTETS {
+        return Err(ConfFault::Refused {
+            line: 0,
+            kind: ConfKind::Large,
+        });
+    }
+    let mut draft = Draft::new(alloc);
+    let mut number = 0;
+    let mut rest = bytes;
+    while let Some((line, after)) = next_line(rest) {
+        rest = after;
+        number += 1;
+        if !is_passed_over(line) {
+            read_line(alloc, form, &mut draft, number, line)?;
+        }
+    }
+    finish(draft, number + 1)
+}

@@ -1,0 +1,19 @@
+//! Conferences.
+use crate::{Legs, Plan};
+use file_spec::MixerLine;
+
+/// A conference: who takes part, and when the mixer does what. Times are in milliseconds.
+#[derive(Debug, Drop)]
+pub struct Conf {
+    pub legs: Legs,
+    /// How far apart the mixer's turns are.
+    pub tick: u32,
+    /// How far apart two packets of a source to a terminal are at least.
+    pub spacing: u32,
+    /// How long a lost packet is waited for.
+    pub wait: u32,
+    /// The most turns that the mixer takes.
+    pub turns: u32,
+    pub mixer: MixerLine,
+    pub plan: Plan,
+}

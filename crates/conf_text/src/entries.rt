@@ -1,0 +1,115 @@
+//! The lines of a conference.
+ghost use Rattle.std.specs.Prelude.{◌≡◌, ◌∷◌, map, IfOk};
+ghost use Rattle.file_spec.specs.Conf.{entry, mixer, mixer_of, setting, time_or_plan};
+ghost use Rattle.conf_text.specs.Lines.{above_of, meaning, seen, HasSeat};
+
+use crate::ConfKind;
+use crate::drafts::{Draft, Entry};
+use crate::leg_lines::{has_ssrc, read_leg};
+use crate::numerals::{number_from, number_of};
+use crate::plan_lines::read_plan;
+use file_spec::{Form, MixerLine};
+
+fn read_setting(least: u32, most: u32, above: Option<u32>, words: &[&str]) -> Result<u32, ConfKind>
+    ensures { result ≡ setting least most above (map (λ w. w.now) words.now) }
+{
+    let [text] = words else {
+        return Err(ConfKind::Count);
+    };
+    let Some(value) = number_from(text, least, most) else {
+        return Err(ConfKind::Number);
+    };
+    if above.is_some() {
+        return Err(ConfKind::Twice);
+    }
+    Ok(value)
+}
+
+#[tactic(auto, unfolding(file_spec::specs::Conf::mixer_of))]
+fn read_stream(above: &Draft, ssrc: &str, seq: &str, stamp: &str) -> Result<MixerLine, ConfKind>
+    ensures { result ≡ mixer_of (above_of above.now) ssrc.now seq.now stamp.now }
+{
+    let Some(ssrc) = number_of(ssrc, u32::MAX) else {
+        return Err(ConfKind::Number);
+    };
+    let Some(seq) = number_of(seq, 65_535) else {
+        return Err(ConfKind::Number);
+    };
+    let Some(stamp) = number_of(stamp, u32::MAX) else {
+        return Err(ConfKind::Number);
+    };
+    if above.mixer.is_some() {
+        return Err(ConfKind::Twice);
+    }
+    if has_ssrc(above.legs.as_slice(), ssrc) {
+        return Err(ConfKind::Clash);
+    }
+    Ok(MixerLine {
+        ssrc,
+        seq: seq as u16,
+        stamp,
+    })
+}
+
+fn read_mixer(above: &Draft, words: &[&str]) -> Result<MixerLine, ConfKind>
+    ensures { result ≡ mixer (above_of above.now) (map (λ w. w.now) words.now) }
+{
+    match words {
+        [ssrc, seq, stamp] => read_stream(above, ssrc, seq, stamp),
+        _ => Err(ConfKind::Count),
+    }
+}
+
+#[tactic(auto, unfolding(file_spec::specs::Conf::time_or_plan))]
+fn read_time_or_plan<'a>(
+    form: Form,
+    above: &Draft,
+    word: &str,
+    words: &[&str],
+) -> Result<Entry<'a>, ConfKind>
+    ensures exact { seen meaning result ≡ time_or_plan form (above_of above.now) word.now (map (λ w. w.now) words.now) }
+    ensures seat { IfOk result (λ said. HasSeat (above_of above.now) (meaning said)) }
+{
+    match word {
+        "tick" => Ok(Entry::Tick(read_setting(20, 400, above.tick, words)?)),
+        "spacing" => Ok(Entry::Spacing(read_setting(100, 1000, above.spacing, words)?)),
+        "wait" => Ok(Entry::Wait(read_setting(0, 10_000, above.wait, words)?)),
+        "turns" => Ok(Entry::Turns(read_setting(1, 5_000_000, above.turns, words)?)),
+        other => Ok(Entry::Plan(read_plan(form, above, other, words)?)),
+    }
+}
+
+#[tactic(auto, unfolding(file_spec::specs::Conf::entry))]
+fn read_worded<'a>(
+    form: Form,
+    above: &Draft,
+    line: u32,
+    word: &str,
+    words: &[&'a str],
+) -> Result<Entry<'a>, ConfKind>
+    ensures exact { seen meaning result ≡ entry form (above_of above.now) line (word.now ∷ map (λ w. w.now) words.now) }
+    ensures seat { IfOk result (λ said. HasSeat (above_of above.now) (meaning said)) }
+{
+    match word {
+        "leg" => Ok(Entry::Leg(read_leg(form, above, line, words)?)),
+        "mixer" => Ok(Entry::Mixer(read_mixer(above, words)?)),
+        other => read_time_or_plan(form, above, other, words),
+    }
+}
+
+/// What the words of a line say.
+#[tactic(auto, unfolding(file_spec::specs::Conf::entry))]
+pub(crate) fn read_entry<'a>(
+    form: Form,
+    above: &Draft,
+    line: u32,
+    words: &[&'a str],
+) -> Result<Entry<'a>, ConfKind>
+    ensures exact { seen meaning result ≡ entry form (above_of above.now) line (map (λ w. w.now) words.now) }
+    ensures seat { IfOk result (λ said. HasSeat (above_of above.now) (meaning said)) }
+{
+    let [word, more @ ..] = words else {
+        return Err(ConfKind::Word);
+    };
+    read_worded(form, above, line, word, more)
+}

@@ -1,0 +1,198 @@
+//! The lines of legs.
+ghost use Rattle.std.specs.Prelude.{◌≡◌, ◌==◌, ◌<◌, bytes_eq, map, length, OnOk};
+ghost use Rattle.std.specs.List.{list_any};
+ghost use Rattle.file_spec.specs.Conf.{clashes, has_names, has_port, is_mixers, leg, leg_of, new_leg, port, same_port, shares_own, shares_path};
+ghost use Rattle.conf_text.specs.Lines.{above_of, leg_line, seen};
+
+use crate::ConfKind;
+use crate::drafts::{Draft, NewLeg};
+use crate::names::{awareness, name_of, names_leg, names_path};
+use crate::numerals::{number_from, number_of, pts_of};
+use file_spec::{Form, LegLine, MixerLine};
+use rtt_base::Pts;
+
+/// The most legs of a conference.
+const MOST_LEGS: usize = 16;
+
+/// The words of a leg, without its payload types.
+#[derive(Clone, Copy)]
+struct LegWords<'a> {
+    name: &'a str,
+    mode: &'a str,
+    ssrc: &'a str,
+    input: &'a str,
+    output: &'a str,
+}
+
+fn are_named(form: Form, words: &LegWords<'_>) -> bool
+    ensures { result ≡ has_names form words.now.name.now words.now.input.now words.now.output.now }
+{
+    names_leg(words.name)
+        && (form == Form::Links || names_path(words.input))
+        && names_path(words.output)
+}
+
+fn port_of(input: &str) -> Option<u32>
+    ensures { result ≡ port input.now }
+{
+    number_from(input, 1, 65_535)
+}
+
+fn is_heard(form: Form, input: &str) -> bool
+    ensures { result ≡ has_port form input.now }
+{
+    form == Form::Files || port_of(input).is_some()
+}
+
+fn share_port(above: Option<u32>, port: Option<u32>) -> bool
+    ensures { result ≡ same_port above port }
+{
+    match (above, port) {
+        (Some(above), Some(port)) => above == port,
+        _ => false,
+    }
+}
+
+fn share_path(form: Form, above: &LegLine, leg: &NewLeg<'_>) -> bool
+    ensures { result ≡ shares_path form above.now (leg_line leg.now) }
+{
+    if above.output.as_str() == leg.output {
+        return true;
+    }
+    match form {
+        Form::Files => above.input.as_str() == leg.output || above.output.as_str() == leg.input,
+        Form::Links => share_port(port_of(above.input.as_str()), port_of(leg.input)),
+    }
+}
+
+fn share_own(form: Form, leg: &NewLeg<'_>) -> bool
+    ensures { result ≡ shares_own form (leg_line leg.now) }
+{
+    leg.pts.t140 == leg.pts.red || form == Form::Files && leg.output == leg.input
+}
+
+fn has_mixer(mixer: &Option<MixerLine>, ssrc: u32) -> bool
+    ensures { result ≡ is_mixers mixer.now ssrc }
+{
+    match mixer {
+        Some(line) => line.ssrc == ssrc,
+        None => false,
+    }
+}
+
+pub(crate) fn has_ssrc(legs: &[LegLine], ssrc: u32) -> bool
+    ensures { result ≡ list_any (λ a. a.ssrc == ssrc) legs.now }
+{
+    legs.iter().any(|above| above.ssrc == ssrc)
+}
+
+fn has_name(legs: &[LegLine], name: &str) -> bool
+    ensures { result ≡ list_any (λ a. bytes_eq a.name name.now) legs.now }
+{
+    legs.iter().any(|above| above.name.as_str() == name)
+}
+
+fn share_paths(form: Form, legs: &[LegLine], leg: &NewLeg<'_>) -> bool
+    ensures { result ≡ list_any (λ a. shares_path form a (leg_line leg.now)) legs.now }
+{
+    legs.iter().any(|above| share_path(form, above, leg))
+}
+
+fn does_clash(form: Form, above: &Draft, leg: &NewLeg<'_>) -> bool
+    ensures { result ≡ clashes form (above_of above.now) (leg_line leg.now) }
+{
+    let legs = above.legs.as_slice();
+    has_ssrc(legs, leg.ssrc)
+        || has_mixer(&above.mixer, leg.ssrc)
+        || share_own(form, leg)
+        || share_paths(form, legs, leg)
+}
+
+fn join<'a>(form: Form, above: &Draft, leg: NewLeg<'a>) -> Result<NewLeg<'a>, ConfKind>
+    ensures exact { seen leg_line result ≡ new_leg form (above_of above.now) (leg_line leg.entry) }
+    ensures seat { OnOk result (length above.now.legs < 16) }
+{
+    if above.legs.len() >= MOST_LEGS {
+        return Err(ConfKind::Many);
+    }
+    if has_name(above.legs.as_slice(), leg.name.as_str()) {
+        return Err(ConfKind::Twice);
+    }
+    if does_clash(form, above, &leg) {
+        return Err(ConfKind::Clash);
+    }
+    Ok(leg)
+}
+
+#[tactic(auto, unfolding(file_spec::specs::Conf::leg_of))]
+fn read_words<'a>(
+    form: Form,
+    above: &Draft,
+    line: u32,
+    words: &LegWords<'a>,
+    pts: Option<Pts>,
+) -> Result<NewLeg<'a>, ConfKind>
+    ensures exact { seen leg_line result ≡ leg_of form (above_of above.now) line words.now.name.now words.now.mode.now words.now.ssrc.now words.now.input.now words.now.output.now pts }
+    ensures seat { OnOk result (length above.now.legs < 16) }
+{
+    let Some(aware) = awareness(words.mode) else {
+        return Err(ConfKind::Word);
+    };
+    if !are_named(form, words) {
+        return Err(ConfKind::Name);
+    }
+    let Some(ssrc) = number_of(words.ssrc, u32::MAX) else {
+        return Err(ConfKind::Number);
+    };
+    if !is_heard(form, words.input) {
+        return Err(ConfKind::Number);
+    }
+    let Some(pts) = pts else {
+        return Err(ConfKind::Number);
+    };
+    let leg = NewLeg {
+        line,
+        name: name_of(words.name),
+        aware,
+        ssrc,
+        input: words.input,
+        output: words.output,
+        pts,
+    };
+    join(form, above, leg)
+}
+
+/// The leg of a line, from the words after the first.
+pub(crate) fn read_leg<'a>(
+    form: Form,
+    above: &Draft,
+    line: u32,
+    words: &[&'a str],
+) -> Result<NewLeg<'a>, ConfKind>
+    ensures exact { seen leg_line result ≡ leg form (above_of above.now) line (map (λ w. w.now) words.now) }
+    ensures seat { OnOk result (length above.now.legs < 16) }
+{
+    match words {
+        [name, mode, ssrc, input, output] => {
+            let words = LegWords {
+                name,
+                mode,
+                ssrc,
+                input,
+                output,
+            };
+            read_words(form, above, line, &words, Some(Pts { t140: 98, red: 100 }))
+        }
+        [name, mode, ssrc, input, output, t140, red] => {
+            let words = LegWords {
+                name,
+                mode,
+                ssrc,
+                input,
+                output,
+            };
+            read_words(form, above, line, &words, pts_of(t140, red))
+        }
+        _ => Err(ConfKind::Count),
+    }
+}

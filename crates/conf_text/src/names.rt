@@ -1,0 +1,55 @@
+//! Names and paths as conferences write them.
+ghost use Rattle.std.specs.Prelude.{◌≡◌, IsTrue};
+ghost use Rattle.std.specs.List.{list_all};
+ghost use Rattle.file_spec.specs.Conf.{is_name, is_name_octet, is_path, aware_of};
+
+use rtt_base::Name;
+
+fn is_name_letter(octet: u8) -> bool
+    ensures { result ≡ is_name_octet octet }
+{
+    octet.is_ascii_alphanumeric() || octet == b'.' || octet == b'_' || octet == b'-'
+}
+
+fn all_letters(text: &[u8]) -> bool
+    ensures { result ≡ list_all is_name_octet text.now }
+{
+    text.iter().all(|octet| is_name_letter(*octet))
+}
+
+/// Whether the text names a leg: 1 to 32 letters, digits, dots, underscores and dashes.
+pub(crate) fn names_leg(text: &str) -> bool
+    ensures { result ≡ is_name text.now }
+{
+    !text.is_empty() && text.len() <= Name::CAPACITY && all_letters(text.as_bytes())
+}
+
+/// Whether the text may be a path: 1 to 255 octets.
+pub(crate) fn names_path(text: &str) -> bool
+    ensures { result ≡ is_path text.now }
+{
+    !text.is_empty() && text.len() <= 255
+}
+
+/// The name that the text is.
+pub(crate) fn name_of(text: &str) -> Name
+    requires { IsTrue (is_name text.now) }
+    ensures { result ≡ text.now }
+{
+    let mut name = Name::new();
+    for octet in text.as_bytes() {
+        name.push(char::from(*octet));
+    }
+    name
+}
+
+/// Whether the terminal is aware.
+pub(crate) fn awareness(mode: &str) -> Option<bool>
+    ensures { result ≡ aware_of mode.now }
+{
+    match mode {
+        "aware" => Some(true),
+        "unaware" => Some(false),
+        _ => None,
+    }
+}

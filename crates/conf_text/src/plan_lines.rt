@@ -1,0 +1,124 @@
+//! The lines of a plan.
+ghost use Rattle.std.specs.Prelude.{◌≡◌, bytes_eq, map};
+ghost use Rattle.std.specs.List.{list_any, position};
+ghost use Rattle.file_spec.specs.Conf.{delay, delay_of, plan, plan_of, plan_word, same_packet, same_word};
+ghost use Rattle.conf_text.specs.Lines.{above_of};
+
+use crate::ConfKind;
+use crate::drafts::Draft;
+use crate::numerals::number_of;
+use file_spec::{Form, LegLine, PlanLine, What};
+
+/// The most plan lines of a conference.
+const MOST_PLAN_LINES: usize = 4096;
+
+/// The longest delay of a packet, in milliseconds.
+const LONGEST_DELAY: u32 = 60_000;
+
+fn leg_place(legs: &[LegLine], name: &str) -> Option<usize>
+    ensures { result ≡ position (λ l. bytes_eq l.name name.now) legs.now }
+{
+    legs.iter().position(|leg| leg.name.as_str() == name)
+}
+
+fn is_same_event(one: What, other: What) -> bool
+    ensures { result ≡ same_word one other }
+{
+    match (one, other) {
+        (What::Lose, What::Lose) => true,
+        (What::Delay(_), What::Delay(_)) => true,
+        (What::Twice, What::Twice) => true,
+        _ => false,
+    }
+}
+
+fn is_same(one: &PlanLine, other: &PlanLine) -> bool
+    ensures { result ≡ same_packet one.now other.now }
+{
+    is_same_event(one.what, other.what)
+        && one.terminal == other.terminal
+        && one.packet == other.packet
+}
+
+fn is_planned(plan: &[PlanLine], line: &PlanLine) -> bool
+    ensures { result ≡ list_any (λ p. same_packet p line.now) plan.now }
+{
+    plan.iter().any(|above| is_same(above, line))
+}
+
+#[tactic(auto, unfolding(file_spec::specs::Conf::plan_of))]
+fn read_event(
+    above: &Draft,
+    name: &str,
+    packet: &str,
+    what: Option<What>,
+) -> Result<PlanLine, ConfKind>
+    ensures { result ≡ plan_of (above_of above.now) name.now packet.now what }
+{
+    let Some(terminal) = leg_place(above.legs.as_slice(), name) else {
+        return Err(ConfKind::Name);
+    };
+    let Some(packet) = number_of(packet, u32::MAX) else {
+        return Err(ConfKind::Number);
+    };
+    let Some(what) = what else {
+        return Err(ConfKind::Number);
+    };
+    if above.plan.len() >= MOST_PLAN_LINES {
+        return Err(ConfKind::PlanMany);
+    }
+    let line = PlanLine {
+        terminal: terminal as u8,
+        packet,
+        what,
+    };
+    if is_planned(above.plan.as_slice(), &line) {
+        return Err(ConfKind::Twice);
+    }
+    Ok(line)
+}
+
+fn delay_from(text: &str) -> Option<What>
+    ensures { result ≡ delay_of text.now }
+{
+    let late = number_of(text, LONGEST_DELAY)?;
+    Some(What::Delay(late))
+}
+
+fn read_plain(above: &Draft, what: What, words: &[&str]) -> Result<PlanLine, ConfKind>
+    ensures { result ≡ plan (above_of above.now) what (map (λ w. w.now) words.now) }
+{
+    match words {
+        [name, packet] => read_event(above, name, packet, Some(what)),
+        _ => Err(ConfKind::Count),
+    }
+}
+
+fn read_delay(above: &Draft, words: &[&str]) -> Result<PlanLine, ConfKind>
+    ensures { result ≡ delay (above_of above.now) (map (λ w. w.now) words.now) }
+{
+    match words {
+        [name, packet, late] => read_event(above, name, packet, delay_from(late)),
+        _ => Err(ConfKind::Count),
+    }
+}
+
+/// The plan line of a line, from its first word and those after it.
+pub(crate) fn read_plan(
+    form: Form,
+    above: &Draft,
+    word: &str,
+    words: &[&str],
+) -> Result<PlanLine, ConfKind>
+    ensures { result ≡ plan_word form (above_of above.now) word.now (map (λ w. w.now) words.now) }
+{
+    if form == Form::Links {
+        return Err(ConfKind::Word);
+    }
+    match word {
+        "lose" => read_plain(above, What::Lose, words),
+        "delay" => read_delay(above, words),
+        "twice" => read_plain(above, What::Twice, words),
+        _ => Err(ConfKind::Word),
+    }
+}
