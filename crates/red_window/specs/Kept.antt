@@ -1,6 +1,6 @@
 -- The blocks that a window keeps, and those of a packet that repeat them (RFC 2198, section 3; the offsets of empty
 -- blocks are a profile).
-use Rattle.std.specs.Prelude.{ℕ, zero, suc, List, [], ◌∷◌, Option, None, Some, min, slice_get}
+use Rattle.std.specs.Prelude.{◌<◌, ◌^◌, length, ℕ, zero, suc, List, [], ◌∷◌, Option, None, Some, min, slice_get}
 use Rattle.rtt_base.specs.declared.blocks.TextBlock.{TextBlock}
 use Rattle.rtt_base.specs.Stamps.{ahead}
 use Rattle.red_window.specs.declared.kept.KeptBlock.{KeptBlock}
@@ -9,6 +9,11 @@ use Rattle.red_window.specs.declared.kept.KeptBlock.{KeptBlock}
 pub record Memory : Type 0 where
   pub gens : ℕ
   pub kept : List KeptBlock
+
+-- the offset has 14 bits, and the length of the text has 10
+pub record IsWritable (b : TextBlock) : Type 0 where
+  pub offset : b.offset < 2 ^ 14
+  pub size : length b.text < 2 ^ 10
 
 -- the block, in a packet with this stamp, that repeats a kept one
 abbrev pub block_kept : ℕ → Option KeptBlock → TextBlock

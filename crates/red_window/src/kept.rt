@@ -1,8 +1,8 @@
 //! The blocks that a window keeps.
-ghost use Rattle.std.specs.Prelude.{◌≡◌, ◌+◌, ◌≤◌, ◌<◌, ◌^◌, ◌∷◌, ◌++◌, ◌==◌, [], length, take, not};
+ghost use Rattle.std.specs.Prelude.{◌≡◌, ◌+◌, ◌≤◌, ◌<◌, ◌^◌, ◌∷◌, ◌++◌, ◌==◌, [], length, take, not, All};
 ghost use Rattle.std.specs.List.{list_any};
 ghost use Rattle.std.specs.Option.{option_copied};
-ghost use Rattle.red_window.specs.Kept.{block_kept, blocks_kept};
+ghost use Rattle.red_window.specs.Kept.{IsWritable, block_kept, blocks_kept};
 
 use arrayvec::ArrayVec;
 use rtt_base::{Blocks, Text};
@@ -20,7 +20,8 @@ pub struct KeptBlock {
 /// Appends the block that repeats this one in a packet with this timestamp: an empty one, where there is none.
 fn append_repeat(kept: Option<&KeptBlock>, stamp: u32, out: &mut Blocks)
     requires { length out.old < 9 }
-    ensures { out.new ≡ out.old ++ block_kept stamp (option_copied kept.entry) ∷ [] }
+    ensures block { out.new ≡ out.old ++ block_kept stamp (option_copied kept.entry) ∷ [] }
+    ensures fits { IsWritable (block_kept stamp (option_copied kept.entry)) }
 {
     match kept {
         None => out.push_copy(LONGEST as u16, &[]),
@@ -36,6 +37,7 @@ pub fn append_repeats(kept: &[KeptBlock], generations: usize, stamp: u32, out: &
     requires { length out.old + generations ≤ 9 }
     ensures blocks { out.new ≡ out.old ++ blocks_kept generations stamp kept.now }
     ensures count { length out.new ≡ length out.old + generations }
+    ensures fits { All IsWritable out.old → All IsWritable out.new }
 {
     for age in (0..generations).rev() {
         append_repeat(kept.get(age), stamp, out);

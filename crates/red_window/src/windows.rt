@@ -1,5 +1,5 @@
 //! The window of one source.
-ghost use Rattle.std.specs.Prelude.{◌≡◌, ◌+◌, ◌%◌, ◌^◌, ◌<◌, ◌≤◌, ◌∷◌, ◌++◌, [], ℕ, List, length};
+ghost use Rattle.std.specs.Prelude.{◌≡◌, ◌+◌, ◌%◌, ◌^◌, ◌<◌, ◌≤◌, ◌∷◌, ◌++◌, [], ℕ, List, length, All};
 
 use crate::kept::{KeptBlock, any_text, append_repeats, keep};
 use arrayvec::ArrayVec;
@@ -30,7 +30,8 @@ impl Model for Window {
 
 impl Window {
     ghost use Rattle.stream_spec.specs.Own.{Sent, repeats, has_text_in};
-    ghost use Rattle.wire_spec.specs.Red.{primary};
+    ghost use Rattle.wire_spec.specs.Packets.{primary};
+    ghost use Rattle.red_window.specs.Kept.{IsWritable};
     ghost use Rattle.red_window.specs.Standing.{StandsFor, MayFollow};
 
     /// A window of a source of which nothing was sent.

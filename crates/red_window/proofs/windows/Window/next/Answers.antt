@@ -1,6 +1,6 @@
 use Rattle.std.proofs.Common.{ℕ, List, [], ◌∷◌, ◌++◌, ◌≡◌, map, ap, ◌∙◌, take, arith}
 use Rattle.rtt_base.specs.declared.blocks.TextBlock.{TextBlock}
-use Rattle.wire_spec.specs.Red.{primary}
+use Rattle.wire_spec.specs.Packets.{primary}
 use Rattle.stream_spec.specs.Own.{repeats}
 use Rattle.red_window.specs.Kept.{Memory, blocks_kept}
 use Rattle.red_window.specs.Standing.{kept_of}
