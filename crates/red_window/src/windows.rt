@@ -57,6 +57,8 @@ impl Window {
     pub fn next(&mut self, stamp: u32, text: Text, out: &mut Blocks)
         ensures blocks { (g base media : ℕ) (past : List Sent) → StandsFor g base self.old past → stamp ≡ (base + media) % 2 ^ 32 → MayFollow g media past
             → out.new ≡ repeats g media past ++ primary text ∷ [] }
+        ensures count { (0 < length out.new) × (length out.new ≤ 4) }
+        ensures fits { All IsWritable out.new }
         ensures stands { (g base : ℕ) (past : List Sent) (e : Sent) → StandsFor g base self.old past → stamp ≡ (base + e.media) % 2 ^ 32 → text ≡ e.text
             → StandsFor g base self.new (e ∷ past) }
     {
