@@ -1,0 +1,5 @@
+pub mod Confs
+pub mod Written
+pub mod States
+pub mod Insides
+pub mod Standing

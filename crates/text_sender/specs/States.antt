@@ -1,0 +1,13 @@
+-- What a sender knows.
+use Rattle.std.specs.Prelude.{ℕ, Option, List}
+use Rattle.red_window.specs.Kept.{Memory}
+use Rattle.text_sender.specs.declared.senders.SendConf.{SendConf}
+use Rattle.text_sender.specs.declared.senders.Last.{Last}
+
+-- the text that waits, the blocks to be repeated, the next sequence number, and the last packet, if there was one
+pub record State : Type 0 where
+  pub conf : SendConf
+  pub waits : List ℕ
+  pub window : Memory
+  pub seq : ℕ
+  pub last : Option Last

@@ -1,0 +1,182 @@
+//! The sender.
+ghost use Rattle.std.specs.Prelude.{◌≡◌, ◌+◌, ◌%◌, ◌^◌, ◌<◌, ◌≤◌, ◌∷◌, ◌++◌, ◌↔◌, [], ℕ, List, true, length, IfOk, IsOk, OnOk, OnErr, IsUtf8};
+ghost use Rattle.stream_spec.specs.Typed.{Event, Text as text_event, Ask};
+
+use crate::waiting::Waiting;
+use crate::writing::packet_of;
+use red_window::Window;
+use rtp_header::RtpHead;
+use rtt_base::{Blocks, Full, NoMemory, Packet, Pts};
+use std::alloc::Global;
+use std::marker::Model;
+
+/// How a sender sends.
+#[derive(Clone, Copy, Debug)]
+pub struct SendConf {
+    pub ssrc: u32,
+    /// The first sequence number.
+    pub seq: u16,
+    /// The timestamp at the media time 0.
+    pub stamp: u32,
+    /// The payload types, below 128 and different.
+    pub pts: Pts,
+    /// The least time between two packets, 100 to 1000 ms.
+    pub interval: u64,
+}
+
+/// The last packet that was sent.
+#[derive(Clone, Copy, Debug)]
+struct Last {
+    /// The moment in ms at which it was sent.
+    at: u64,
+    /// Its media time in ms.
+    media: u64,
+}
+
+/// How far the media time may go on at once while text is to be repeated, in ms: so that the offsets of its repeats
+/// fit in 14 bits.
+const LONGEST_STEP: u64 = 8000;
+
+/// A sender of one stream of typed text.
+#[derive(Drop)]
+pub struct Sender {
+    conf: SendConf,
+    waiting: Waiting,
+    window: Window,
+    seq: u16,
+    last: Option<Last>,
+}
+
+impl Model for Sender {
+    ghost use Rattle.text_sender.specs.States.{State};
+
+    ghost Value = { State };
+
+    ghost view = { λ s. record { conf = s.conf; waits = s.waiting; window = s.window; seq = s.seq; last = s.last } };
+
+    ghost use Rattle.text_sender.specs.Insides.{IsSound};
+
+    ghost invariant = { IsSound };
+}
+
+impl Sender {
+    ghost use Rattle.stream_spec.specs.Own.{packet_after};
+    ghost use Rattle.stream_spec.specs.Typed.{last_ask, sents, has_passed, media_at, entry_at, due_at, packet_at};
+    ghost use Rattle.text_sender.specs.Written.{packet_written};
+    ghost use Rattle.text_sender.specs.Confs.{IsConf, stream_of};
+    ghost use Rattle.text_sender.specs.Standing.{StandsFor, sent_by, waits_for, has_more, next_due_of};
+    ghost use Rattle.std.specs.Option.{option_map};
+
+    /// A sender that was given no text. It reserves the room for all text that may wait.
+    pub fn new(alloc: Global, conf: SendConf) -> Result<Sender, NoMemory>
+        requires { IsConf conf }
+        ensures { IfOk result (λ s. StandsFor conf s []) }
+    {
+        let seq = conf.seq;
+        Ok(Sender {
+            conf,
+            waiting: Waiting::new(alloc)?,
+            window: Window::new(),
+            seq,
+            last: None,
+        })
+    }
+
+    /// Takes a text, which is UTF-8. `Full`: what waits with it passes 16384 octets; then the sender is as before. It
+    /// takes no memory.
+    pub fn typed(&mut self, text: &[u8]) -> Result<(), Full>
+        requires { IsUtf8 text.now }
+        ensures room { (conf : SendConf) (past : List Event) → StandsFor conf self.old past
+            → IsOk result ↔ (length (waits_for conf past) + length text.now ≤ 16384) }
+        ensures ok { OnOk result ((conf : SendConf) (past : List Event) → StandsFor conf self.old past → StandsFor conf self.new (text_event text.now ∷ past)) }
+        ensures err { OnErr result (self.new ≡ self.old) }
+    {
+        self.waiting.append(text)
+    }
+
+    /// Whether a packet is sent at this moment, in ms: text waits or is to be repeated, and nothing was sent yet or the
+    /// interval has passed.
+    pub fn due(&self, now: u64) -> bool
+        ensures { (conf : SendConf) (past : List Event) → StandsFor conf self.now past → result ≡ due_at (stream_of conf) conf.interval past now }
+    {
+        self.has_more() && self.has_passed(now)
+    }
+
+    /// The moment, in ms, from which the next packet is due, where one was sent and text waits or is to be repeated.
+    pub fn next_due(&self) -> Option<u64>
+        ensures { (conf : SendConf) (past : List Event) → StandsFor conf self.now past → result ≡ next_due_of conf past }
+    {
+        match self.last {
+            Some(last) if self.has_more() => Some(last.at + self.conf.interval),
+            _ => None,
+        }
+    }
+
+    /// Sends the packet that is due at this moment, in ms, if there is one. It takes no memory.
+    pub fn turn(&mut self, now: u64) -> Option<Packet>
+        requires { now < 2 ^ 31 }
+        ensures packet { (conf : SendConf) (past : List Event) → StandsFor conf self.old past → last_ask past ≤ now
+            → result ≡ option_map (packet_written conf.pts) (packet_at (stream_of conf) conf.interval past now) }
+        ensures stands { (conf : SendConf) (past : List Event) → StandsFor conf self.old past → last_ask past ≤ now → StandsFor conf self.new (Ask now ∷ past) }
+    {
+        if self.due(now) {
+            Some(self.packet(now))
+        } else {
+            None
+        }
+    }
+
+    /// Whether text waits or is still to be repeated.
+    fn has_more(&self) -> bool
+        ensures { (conf : SendConf) (past : List Event) → StandsFor conf self.now past → result ≡ has_more conf past }
+    {
+        !self.waiting.is_empty() || self.window.due()
+    }
+
+    /// Whether nothing was sent yet, or the interval has passed.
+    fn has_passed(&self, now: u64) -> bool
+        ensures { (conf : SendConf) (past : List Event) → StandsFor conf self.now past → result ≡ has_passed conf.interval (sent_by conf past) now }
+    {
+        match self.last {
+            None => true,
+            Some(last) => now.saturating_sub(last.at) >= self.conf.interval,
+        }
+    }
+
+    /// The media time of a packet at this moment.
+    fn media_at(&self, now: u64) -> u64
+        requires { now < 2 ^ 31 }
+        ensures value { (conf : SendConf) (past : List Event) → StandsFor conf self.now past → result ≡ media_at 2 (sent_by conf past) now }
+        ensures fits { result ≤ now }
+    {
+        match self.last {
+            Some(last) if self.window.due() => now.min(last.media + LONGEST_STEP),
+            _ => now,
+        }
+    }
+
+    /// The packet at this moment, which is due.
+    fn packet(&mut self, now: u64) -> Packet
+        requires { now < 2 ^ 31 }
+        ensures octets { (conf : SendConf) (past : List Event) → StandsFor conf self.old past → last_ask past ≤ now → due_at (stream_of conf) conf.interval past now ≡ true
+            → result ≡ packet_written conf.pts (packet_after (stream_of conf) (sents (sent_by conf past)) (entry_at (stream_of conf) (sent_by conf past) (waits_for conf past) now).sent) }
+        ensures stands { (conf : SendConf) (past : List Event) → StandsFor conf self.old past → last_ask past ≤ now → due_at (stream_of conf) conf.interval past now ≡ true
+            → StandsFor conf self.new (Ask now ∷ past) }
+    {
+        let media = self.media_at(now);
+        let head = RtpHead {
+            mark: !self.window.due(),
+            pt: self.conf.pts.red,
+            seq: self.seq,
+            stamp: self.conf.stamp.wrapping_add(media as u32),
+            ssrc: self.conf.ssrc,
+            csrc: None,
+        };
+        let mut blocks = Blocks::new();
+        self.window
+            .next(head.stamp, self.waiting.take_front(), &mut blocks);
+        self.seq = self.seq.wrapping_add(1);
+        self.last = Some(Last { at: now, media });
+        packet_of(&head, &blocks, self.conf.pts)
+    }
+}

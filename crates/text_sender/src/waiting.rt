@@ -1,0 +1,91 @@
+//! The text that waits to be sent.
+ghost use Rattle.std.specs.Prelude.{◌≡◌, ◌+◌, ◌≤◌, ◌<◌, ◌++◌, ◌↔◌, ◌==◌, [], length, min, take, drop, IfOk, IsOk, OnOk, OnErr};
+ghost use Rattle.stream_spec.specs.Typed.{is_end, last_end, front};
+
+use circular_buffer::HeapCircularBuffer;
+use rtt_base::{Full, NoMemory, Text};
+use std::alloc::Global;
+use std::marker::Model;
+
+/// Octets of text that wait, at most so many.
+const ROOM: usize = 16384;
+
+/// A ring of octets that wait.
+#[derive(Drop)]
+pub struct Waiting {
+    ring: HeapCircularBuffer<u8>,
+}
+
+impl Model for Waiting {
+    ghost use Rattle.std.specs.Prelude.{ℕ, List, ◌≡◌};
+
+    ghost Value = { List ℕ };
+
+    ghost view = { λ w. w.ring.items };
+
+    ghost invariant = { λ w. w.ring.capacity ≡ 16384 };
+}
+
+impl Waiting {
+    pub fn new(alloc: Global) -> Result<Waiting, NoMemory>
+        ensures { IfOk result (λ w. w ≡ []) }
+    {
+        let ring = HeapCircularBuffer::with_capacity(alloc, ROOM)?;
+        Ok(Waiting { ring })
+    }
+
+    pub fn is_empty(&self) -> bool
+        ensures { result ≡ (length self.now == 0) }
+    {
+        self.ring.is_empty()
+    }
+
+    /// Appends a text, or nothing where it passes the room left.
+    pub fn append(&mut self, text: &[u8]) -> Result<(), Full>
+        ensures room { IsOk result ↔ (length self.old + length text.now ≤ 16384) }
+        ensures ok { OnOk result (self.new ≡ self.old ++ text.now) }
+        ensures err { OnErr result (self.new ≡ self.old) }
+    {
+        if ROOM - self.ring.len() < text.len() {
+            return Err(Full);
+        }
+        self.ring.fill_from_slice(text);
+        Ok(())
+    }
+
+    /// Whether a character ends before this place: the octet there does not continue one.
+    fn ends_at(&self, place: usize) -> bool
+        ensures { result ≡ is_end self.now place }
+    {
+        match self.ring.get(place) {
+            None => true,
+            Some(&octet) => octet < 128 || octet >= 192,
+        }
+    }
+
+    /// The length of the longest front of whole characters that fits in a block.
+    fn front_len(&self) -> usize
+        ensures value { result ≡ last_end self.now (min 1023 (length self.now)) }
+        ensures fits { (result ≤ 1023) × (result ≤ length self.now) }
+    {
+        let mut len = self.ring.len().min(Text::CAPACITY);
+        while len > 0 && !self.ends_at(len) {
+            len -= 1;
+        }
+        len
+    }
+
+    /// Takes the longest front of whole characters that fits in a block.
+    pub fn take_front(&mut self) -> Text
+        ensures text { result ≡ front 1023 self.old }
+        ensures rest { self.new ≡ drop (length result) self.old }
+    {
+        let len = self.front_len();
+        let mut octets = [0; Text::CAPACITY];
+        let front = &mut octets[..len];
+        self.ring.read_into(front);
+        let mut text = Text::new();
+        let _ = text.append(front);
+        text
+    }
+}
