@@ -17,3 +17,4 @@ pub mod TypedExamples
 pub mod Typing
 pub mod ReadBack
 pub mod ChunkTexts
+pub mod Closing
