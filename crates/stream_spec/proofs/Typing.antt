@@ -20,12 +20,12 @@ cut zero xs = refl
 cut (suc k) [] = refl
 cut (suc k) (x ∷ xs) = ap (λ ys. x ∷ ys) (cut k xs)
 
-length_of_front : (k : ℕ) (xs : List ℕ) → k ≤ length xs → length (take k xs) ≡ k
+pub length_of_front : (k : ℕ) (xs : List ℕ) → k ≤ length xs → length (take k xs) ≡ k
 length_of_front zero xs l = refl
 length_of_front (suc k) [] l = absurd (omega arith)
 length_of_front (suc k) (x ∷ xs) l = let r = length_of_front k xs (omega arith) in omega arith
 
-last_end_le : (octets : List ℕ) (n : ℕ) → last_end octets n ≤ n
+pub last_end_le : (octets : List ℕ) (n : ℕ) → last_end octets n ≤ n
 last_end_le octets zero = omega arith
 last_end_le octets (suc n) = go (is_end octets (suc n)) (last_end_le octets n)
   where

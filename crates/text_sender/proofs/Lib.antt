@@ -1,3 +1,4 @@
 pub mod Fronts
 pub mod Sizes
 pub mod Sending
+pub mod Scripts

@@ -49,7 +49,7 @@ take_in (suc n) [] z i = absurd i
 take_in (suc n) (y ∷ zs) z (inl q) = inl q
 take_in (suc n) (y ∷ zs) z (inr i) = inr (take_in n zs z i)
 
-length_sents : (es : List Turned) → length (sents es) ≡ length es
+pub length_sents : (es : List Turned) → length (sents es) ≡ length es
 length_sents [] = refl
 length_sents (e ∷ es) = let r = length_sents es in omega arith
 

@@ -1,7 +1,9 @@
 -- What a sender stands for: a script, and the packets that it tells.
 use Rattle.std.specs.Prelude.{◌≡◌, ℕ, ◌+◌, ◌%◌, ◌||◌, Bool, Option, None, Some, List, [], ◌∷◌, length, if◌then◌else◌}
 use Rattle.wire_spec.specs.Packets.{has_text}
-use Rattle.stream_spec.specs.Own.{has_text_in}
+use Rattle.std.specs.List.{flat_map}
+use Rattle.stream_spec.specs.History.{History}
+use Rattle.stream_spec.specs.Own.{has_text_in, sent_history}
 use Rattle.stream_spec.specs.Typed.{Event, Turned, IsScript, sents, entries, waiting}
 use Rattle.red_window.specs.Standing as window
 use Rattle.text_sender.specs.declared.senders.SendConf.{SendConf}
@@ -41,3 +43,11 @@ pub record StandsFor (conf : SendConf) (s : State) (past : List Event) : Type 0 
   pub window : window.StandsFor 2 conf.stamp s.window (sents (sent_by conf past))
   pub seq : s.seq ≡ (conf.seq + length (sent_by conf past)) % 65536
   pub last : s.last ≡ last_of (sent_by conf past)
+
+-- the history of what was sent
+abbrev pub history_sent : SendConf → List Event → History
+history_sent conf past = sent_history (stream_of conf) (sents (sent_by conf past))
+
+-- the texts of the entries, one behind the other
+abbrev pub primaries : History → List ℕ
+primaries h = flat_map (λ e. e.text) h.entries
