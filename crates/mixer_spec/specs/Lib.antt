@@ -1,0 +1,10 @@
+pub mod Chunks
+pub mod Rounds
+pub mod Setups
+pub mod Composed
+pub mod Table
+pub mod Legs
+pub mod Core
+pub mod Plain
+pub mod Arrives
+pub mod Through
