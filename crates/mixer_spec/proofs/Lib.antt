@@ -1,1 +1,4 @@
 pub mod CallExample
+pub mod RoundExample
+pub mod LabelExample
+pub mod SlotExample
