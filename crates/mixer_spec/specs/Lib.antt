@@ -8,3 +8,4 @@ pub mod Core
 pub mod Plain
 pub mod Arrives
 pub mod Through
+pub mod Laws

@@ -1,0 +1,20 @@
+-- Words of the laws on the mixer: what was sent of a leg, chunks that are texts, and how often a leg was served.
+use Rattle.std.specs.Prelude.{◌≡◌, ℕ, ◌+◌, ◌<◌, ◌≤◌, ◌==◌, true, List, [], ◌∷◌, ◌++◌, if◌then◌else◌, IsUtf8}
+use Rattle.rtt_base.specs.declared.records.Chunk.{Chunk}
+use Rattle.wire_spec.specs.Packets.{has_text}
+use Rattle.mixer_spec.specs.Table.{Mixed}
+
+-- the chunks of a leg that were sent, in order
+abbrev pub carried : ℕ → List Mixed → List Chunk
+carried i [] = []
+carried i (e ∷ past) = carried i past ++ (if e.leg == i then e.chunks else [])
+
+-- how many packets carry the leg
+abbrev pub count_of : ℕ → List Mixed → ℕ
+count_of i [] = 0
+count_of i (e ∷ past) = (if e.leg == i then 1 else 0) + count_of i past
+
+-- each has a text that is not empty and is UTF-8
+abbrev pub AreTexts : List Chunk → Type 0
+AreTexts [] = Unit {0}
+AreTexts (c ∷ cs) = (has_text c.text ≡ true) × IsUtf8 c.text × AreTexts cs
