@@ -5,3 +5,7 @@ pub mod SlotExample
 pub mod Lists
 pub mod Legs
 pub mod Kept
+pub mod Texts
+pub mod Rounds
+pub mod Paced
+pub mod Turns

@@ -34,7 +34,7 @@ pub record IsSetup (s : Setup) : Type 0 where
   pub names : (a : ℕ) → (length (s.name a) ≤ 32) × IsUtf8 (s.name a)
   pub gens : (j : ℕ) → s.gens j ≤ 3
   pub step : 0 < s.step
-  pub near : (j : ℕ) → s.gens j * gap s ≤ 16383
+  pub near : (j : ℕ) → gap s * s.gens j ≤ 16383
 
 -- ---- of a conference file
 abbrev pub leg_at : List LegLine → ℕ → Option LegLine
