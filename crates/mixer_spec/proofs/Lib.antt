@@ -9,3 +9,5 @@ pub mod Texts
 pub mod Rounds
 pub mod Paced
 pub mod Turns
+pub mod After
+pub mod Final

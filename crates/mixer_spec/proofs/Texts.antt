@@ -135,7 +135,7 @@ begun_text s is waits a before u =
     let same = written_length [] (joined (front (1023 - length (label_after before (s.name u))) (waits u))) in (
       omega (arith, size, most, same, length-append (label_after before (s.name u)) (written [] (joined (front (1023 - length (label_after before (s.name u))) (waits u))))),
       IsUtf8-append (label_after before (s.name u)) (written [] (joined (front (1023 - length (label_after before (s.name u))) (waits u))))
-      (label_utf8 before (s.name u) (is.names u).1) (written_utf8 [] (joined (front (1023 - length (label_after before (s.name u))) (waits u))) (front_utf8 (1023 - length (label_after before (s.name u))) (waits u) (a u))),
+          (label_utf8 before (s.name u) (is.names u).1) (written_utf8 [] (joined (front (1023 - length (label_after before (s.name u))) (waits u))) (front_utf8 (1023 - length (label_after before (s.name u))) (waits u) (a u))),
     )
 
 on_text : (waits : ℕ → List Chunk) → ((i : ℕ) → AreTexts (waits i)) → (run : List ℕ) (c : ℕ) → IsText (gone_on waits run c).text

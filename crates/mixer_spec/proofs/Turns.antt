@@ -140,10 +140,9 @@ aware_turn s is j k now t media d a lj nx p h = go (served s j t d) refl
     go (Some u) q =
         let f = round_some (is_due s j t d) (round_start d.past) s.legs u (start_in s j d.past h.own) q in
         let nj = (due_parts s j t d u f.passes).0 in
-        let cs = front 1023 (d.waits u) in
-        (
+        let cs = front 1023 (d.waits u) in (
           more_paced s j k t media d.past (packet s now t u (front 1023 (d.waits u))) b p refl (front_size 1023 (d.waits u), front_utf8 1023 (d.waits u) (a u))
-          (λ m w l. let r = waited s j t u m d.past media f.below lj nj h.spaced nx w l b.empty in omega arith),
+              (λ m w l. let r = waited s j t u m d.past media f.below lj nj h.spaced nx w l b.empty in omega arith),
           record {
             own = λ e i. elim i [ inl z ↦ subst (IsOwn s j) (sym z) (record { below = f.below; other = nj; source = refl; text = refl }) | inr i ↦ h.own e i ];
             spaced = λ i m li ne w l. spaced_after s is j k now t u i m media d (front 1023 (d.waits u)) lj nx p h f li ne w l;
@@ -165,7 +164,7 @@ one_more : (s : Setup) → IsSetup s → (j k t : ℕ) (media : Option ℕ) (pas
 one_more s is j k t media past e nx p u src at text =
     let b = before_turn s k t media past p.within nx in (
       more_paced s j k t media past e b p at text
-      (λ m w l. one_waited s j t m past media u.spaced nx is.two (sym (ap (λ (y : ℕ). window (s.gens j) y past) src) ∙ w) (sym (ap (λ (y : ℕ). last y past) src) ∙ l) b.empty),
+          (λ m w l. one_waited s j t m past media u.spaced nx is.two (sym (ap (λ (y : ℕ). window (s.gens j) y past) src) ∙ w) (sym (ap (λ (y : ℕ). last y past) src) ∙ l) b.empty),
       record {
         own = λ x i. elim i [ inl q ↦ ap (λ (y : Mixed). y.sent.source) q ∙ src | inr i ↦ u.own x i ];
         spaced = λ m w l. let same : e.sent.media ≡ m = cc (sym (last_own s.mixer e past src) ∙ l) in omega (arith, at);

@@ -1,10 +1,13 @@
 //! The laws of the mixer: what holds after every list of events, and at the end of plain mixing.
-ghost use Rattle.std.specs.Prelude.{◌≡◌, ℕ, List, ◌++◌};
+ghost use Rattle.std.specs.Prelude.{◌≡◌, ◌<◌, ◌≤◌, ◌+◌, ◌-◌, ◌*◌, ◌^◌, ◌⊎◌, ℕ, List, Bool, Option, Some, ◌++◌};
 ghost use Rattle.rtt_base.specs.declared.records.Chunk.{Chunk};
-ghost use Rattle.mixer_spec.specs.Setups.{Setup};
+ghost use Rattle.stream_spec.specs.History.{Come, Lawful, Placed};
+ghost use Rattle.stream_spec.specs.Own.{NearEach, Own, come_from, has_text_in};
+ghost use Rattle.mixer_spec.specs.Setups.{IsSetup, Setup};
+ghost use Rattle.mixer_spec.specs.Table.{history, last_media, rank, sent_by};
 ghost use Rattle.mixer_spec.specs.Legs.{all_of};
-ghost use Rattle.mixer_spec.specs.Core.{Event, after};
-ghost use Rattle.mixer_spec.specs.Laws.{carried};
+ghost use Rattle.mixer_spec.specs.Core.{Event, after, turns_in};
+ghost use Rattle.mixer_spec.specs.Laws.{AreTexts, carried};
 
 /// A leg's chunks stay in order: taken, in the hand, in the queue, still to push.
 pub fn chunks_in_order()
@@ -16,4 +19,24 @@ pub fn chunks_are_kept()
     ensures { (s : Setup) (chunks : ℕ → List Chunk) (past : List Event) (j i : ℕ) → (i ≡ j → ⊥)
         → let w = after s chunks past in
         carried i (w.table.terminals j).past ++ (w.table.terminals j).waits i ≡ (w.legs i).taken }
+{}
+
+/// Each terminal's history is lawful, with the mixer's own packets, and whatever of these comes, in whatever order,
+/// comes from that history.
+pub fn histories_are_lawful()
+    ensures lawful { (s : Setup) (chunks : ℕ → List Chunk) (past : List Event) (j : ℕ) → IsSetup s → ((i : ℕ) → AreTexts (chunks i)) → s.step * turns_in past < 2 ^ 31 → j < s.legs
+        → Lawful (history s j ((after s chunks past).table.terminals j).past) }
+    ensures own { (s : Setup) (chunks : ℕ → List Chunk) (past : List Event) (j : ℕ) → Own (s.gens j) (history s j ((after s chunks past).table.terminals j).past) }
+    ensures come { (s : Setup) (chunks : ℕ → List Chunk) (past : List Event) (j : ℕ) → IsSetup s → ((i : ℕ) → AreTexts (chunks i)) → s.step * turns_in past < 2 ^ 31 → j < s.legs
+        → let h = history s j ((after s chunks past).table.terminals j).past in
+        (xs : List (ℕ × Placed)) → NearEach h xs → Come h (come_from h xs) }
+{}
+
+/// A leg whose text is still to be repeated at an aware terminal is not due yet, or waits the less the nearer it is to
+/// its turn.
+pub fn waits_are_short()
+    ensures { (s : Setup) (chunks : ℕ → List Chunk) (past : List Event) (j i t m : ℕ) → IsSetup s → ((i : ℕ) → AreTexts (chunks i)) → s.aware j ≡ Bool.true → j < s.legs → i < s.legs → (i ≡ j → ⊥)
+        → let w = (after s chunks past).table in
+        w.media ≡ Some t → has_text_in (s.gens j) (sent_by (s.ssrc i) (w.terminals j)) ≡ Bool.true → last_media (sent_by (s.ssrc i) (w.terminals j)) ≡ Some m
+        → (t < m + s.spacing) ⊎ (t + s.step * rank s j (w.terminals j).past i ≤ m + s.spacing + s.step * (s.legs - 2)) }
 {}

@@ -3,4 +3,4 @@
 
 mod laws;
 
-pub use laws::{chunks_are_kept, chunks_in_order};
+pub use laws::{chunks_are_kept, chunks_in_order, histories_are_lawful, waits_are_short};
