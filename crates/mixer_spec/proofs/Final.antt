@@ -8,7 +8,7 @@ use Rattle.stream_spec.proofs.OwnPackets.{own_come}
 use Rattle.mixer_spec.specs.Setups.{Setup, IsSetup, stream, gap}
 use Rattle.mixer_spec.specs.Table.{Mixed, Terminal, Table, sents, history, sent_by, last_media, rank}
 use Rattle.mixer_spec.specs.Core.{Event, after, turns_in}
-use Rattle.mixer_spec.specs.Laws.{AreTexts}
+use Rattle.mixer_spec.specs.Laws.{AreTexts, Tight}
 use Rattle.mixer_spec.proofs.Paced.{Spaced, is_lawful}
 use Rattle.mixer_spec.proofs.After.{core_good}
 
@@ -39,3 +39,6 @@ spacing_law s chunks past j i t m is a aw lj li n e d l =
     let w = (after s chunks past).table in
     let sp : Spaced s j (Some t) (w.terminals j).past = subst (λ (o : Option ℕ). Spaced s j o (w.terminals j).past) e (((core_good s is chunks a past).timed j lj).aware aw).spaced in
     sp i m li n d l
+
+pub near_law : (s : Setup) (chunks : ℕ → List Chunk) (past : List Event) (j x : ℕ) → IsSetup s → ((i : ℕ) → AreTexts (chunks i)) → j < s.legs → Tight (s.gens j) (gap s) (sent_by x ((after s chunks past).table.terminals j))
+near_law s chunks past j x is a lj = ((core_good s is chunks a past).timed j lj).paced.tight x

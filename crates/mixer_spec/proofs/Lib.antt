@@ -11,3 +11,4 @@ pub mod Paced
 pub mod Turns
 pub mod After
 pub mod Final
+pub mod Served

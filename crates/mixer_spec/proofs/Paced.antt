@@ -10,6 +10,7 @@ use Rattle.stream_spec.specs.Own.{Sent, Stream, sent_of, has_text_in, MaySend, S
 use Rattle.stream_spec.proofs.Sent.{sent_lawful}
 use Rattle.mixer_spec.specs.Chunks.{joined}
 use Rattle.mixer_spec.specs.Setups.{Setup, IsSetup, stream, gap}
+use Rattle.mixer_spec.specs.Laws.{Tight}
 use Rattle.mixer_spec.specs.Table.{Mixed, sents, history, last_media, rank}
 
 -- of the source x on the wire: text is still to be repeated; the last media time
@@ -28,11 +29,6 @@ Falling (e ∷ past) = ((x : Mixed) → In x past → x.sent.media < e.sent.medi
 abbrev pub Within : ℕ → ℕ → Option ℕ → List Mixed → Type 0
 Within step k None past = past ≡ []
 Within step k (Some t) past = (e : Mixed) → In e past → (e.sent.media ≤ t) × (t ≤ e.sent.media + step * k)
-
--- each of these, of one source, comes at most n behind the one before it where one of the g before it has text
-abbrev pub Tight : ℕ → ℕ → List Sent → Type 0
-Tight g n [] = Unit {0}
-Tight g n (z ∷ zs) = ((m : ℕ) → has_text_in g zs ≡ true → last_media zs ≡ Some m → z.media ≤ m + n) × Tight g n zs
 
 pub record Paced (s : Setup) (j k : ℕ) (media : Option ℕ) (past : List Mixed) : Type 0 where
   pub texts : (e : Mixed) → In e past → (length e.sent.text ≤ 1023) × IsUtf8 e.sent.text

@@ -11,10 +11,10 @@ use Rattle.mixer_spec.specs.Chunks.{joined, has_chunk, front}
 use Rattle.mixer_spec.specs.Setups.{Setup, IsSetup, gap}
 use Rattle.mixer_spec.specs.Composed.{Given}
 use Rattle.mixer_spec.specs.Table.{Mixed, Terminal, sents, sent_by, last_media, is_spaced, has_work, is_due, round_start, served, rank, serve, turn_aware, is_asked, answer_at, repeated, compose, turn_unaware, next_media, turn_at}
-use Rattle.mixer_spec.specs.Laws.{AreTexts}
+use Rattle.mixer_spec.specs.Laws.{AreTexts, Tight}
 use Rattle.mixer_spec.proofs.Texts.{IsText, front_size, front_utf8, answer_text}
 use Rattle.mixer_spec.proofs.Rounds.{IsFirst, round_some, round_none, rank_bound, rank_falls}
-use Rattle.mixer_spec.proofs.Paced.{window, last, Within, Tight, Paced, Spaced, IsOwn, Aware, SpacedOne, Unaware, Timed, last_own, last_other, window_other, more_tight}
+use Rattle.mixer_spec.proofs.Paced.{window, last, Within, Paced, Spaced, IsOwn, Aware, SpacedOne, Unaware, Timed, last_own, last_other, window_other, more_tight}
 
 -- ---- media time
 abbrev pub IsNext : ℕ → Option ℕ → ℕ → Type 0

@@ -1,8 +1,9 @@
 -- Words of the laws on the mixer: what was sent of a leg, chunks that are texts, and how often a leg was served.
-use Rattle.std.specs.Prelude.{◌≡◌, ℕ, ◌+◌, ◌<◌, ◌≤◌, ◌==◌, true, List, [], ◌∷◌, ◌++◌, if◌then◌else◌, IsUtf8}
+use Rattle.std.specs.Prelude.{◌≡◌, ℕ, ◌+◌, ◌<◌, ◌≤◌, ◌==◌, true, Some, List, [], ◌∷◌, ◌++◌, if◌then◌else◌, IsUtf8}
 use Rattle.rtt_base.specs.declared.records.Chunk.{Chunk}
 use Rattle.wire_spec.specs.Packets.{has_text}
-use Rattle.mixer_spec.specs.Table.{Mixed}
+use Rattle.stream_spec.specs.Own.{Sent, has_text_in}
+use Rattle.mixer_spec.specs.Table.{Mixed, last_media}
 
 -- the chunks of a leg that were sent, in order
 abbrev pub carried : ℕ → List Mixed → List Chunk
@@ -13,6 +14,12 @@ carried i (e ∷ past) = carried i past ++ (if e.leg == i then e.chunks else [])
 abbrev pub count_of : ℕ → List Mixed → ℕ
 count_of i [] = 0
 count_of i (e ∷ past) = (if e.leg == i then 1 else 0) + count_of i past
+
+-- Each of these, sent of one source and newest first, comes at most n behind the one before it, where one of the g
+-- before it has text.
+abbrev pub Tight : ℕ → ℕ → List Sent → Type 0
+Tight g n [] = Unit {0}
+Tight g n (z ∷ zs) = ((m : ℕ) → has_text_in g zs ≡ true → last_media zs ≡ Some m → z.media ≤ m + n) × Tight g n zs
 
 -- each has a text that is not empty and is UTF-8
 abbrev pub AreTexts : List Chunk → Type 0

@@ -1,13 +1,13 @@
 //! The laws of the mixer: what holds after every list of events, and at the end of plain mixing.
-ghost use Rattle.std.specs.Prelude.{◌≡◌, ◌<◌, ◌≤◌, ◌+◌, ◌-◌, ◌*◌, ◌^◌, ◌⊎◌, ℕ, List, Bool, Option, Some, ◌++◌};
+ghost use Rattle.std.specs.Prelude.{◌≡◌, ◌<◌, ◌≤◌, ◌+◌, ◌-◌, ◌*◌, ◌^◌, ◌⊎◌, ℕ, List, Bool, Option, Some, ◌∷◌, ◌++◌, suc};
 ghost use Rattle.rtt_base.specs.declared.records.Chunk.{Chunk};
 ghost use Rattle.stream_spec.specs.History.{Come, Lawful, Placed};
 ghost use Rattle.stream_spec.specs.Own.{NearEach, Own, come_from, has_text_in};
-ghost use Rattle.mixer_spec.specs.Setups.{IsSetup, Setup};
-ghost use Rattle.mixer_spec.specs.Table.{history, last_media, rank, sent_by};
+ghost use Rattle.mixer_spec.specs.Setups.{IsSetup, Setup, gap};
+ghost use Rattle.mixer_spec.specs.Table.{history, is_due, last_media, next_media, rank, sent_by};
 ghost use Rattle.mixer_spec.specs.Legs.{all_of};
-ghost use Rattle.mixer_spec.specs.Core.{Event, after, turns_in};
-ghost use Rattle.mixer_spec.specs.Laws.{AreTexts, carried};
+ghost use Rattle.mixer_spec.specs.Core.{Event, Turn, after, turns_in};
+ghost use Rattle.mixer_spec.specs.Laws.{AreTexts, Tight, carried, count_of};
 
 /// A leg's chunks stay in order: taken, in the hand, in the queue, still to push.
 pub fn chunks_in_order()
@@ -39,4 +39,25 @@ pub fn waits_are_short()
         → let w = (after s chunks past).table in
         w.media ≡ Some t → has_text_in (s.gens j) (sent_by (s.ssrc i) (w.terminals j)) ≡ Bool.true → last_media (sent_by (s.ssrc i) (w.terminals j)) ≡ Some m
         → (t < m + s.spacing) ⊎ (t + s.step * rank s j (w.terminals j).past i ≤ m + s.spacing + s.step * (s.legs - 2)) }
+{}
+
+/// Where the earlier of two successive packets of a source, or one of those before it, is still to be repeated, the
+/// later one comes at most `gap` of media time behind it.
+pub fn packets_are_near()
+    ensures { (s : Setup) (chunks : ℕ → List Chunk) (past : List Event) (j x : ℕ) → IsSetup s → ((i : ℕ) → AreTexts (chunks i)) → j < s.legs
+        → Tight (s.gens j) (gap s) (sent_by x ((after s chunks past).table.terminals j)) }
+{}
+
+/// A leg that is due at a turn is served within as many turns as the terminal has sources, that turn among them. Each
+/// turn that serves another one brings it nearer to its own.
+pub fn due_is_served()
+    ensures soon { (s : Setup) (chunks : ℕ → List Chunk) (before es : List Event) (j i now : ℕ) → IsSetup s → ((i : ℕ) → AreTexts (chunks i)) → s.aware j ≡ Bool.true → j < s.legs → i < s.legs
+        → let w = (after s chunks before).table in
+        let v = (after s chunks (es ++ Turn now ∷ before)).table in
+        is_due s j (next_media s.step w.media now) (w.terminals j) i ≡ Bool.true → s.legs ≤ turns_in es + 2 → count_of i (w.terminals j).past < count_of i (v.terminals j).past }
+    ensures nearer { (s : Setup) (chunks : ℕ → List Chunk) (before es : List Event) (j i now : ℕ) → IsSetup s → ((i : ℕ) → AreTexts (chunks i)) → s.aware j ≡ Bool.true → j < s.legs → i < s.legs
+        → let w = (after s chunks before).table in
+        let v = (after s chunks (es ++ Turn now ∷ before)).table in
+        is_due s j (next_media s.step w.media now) (w.terminals j) i ≡ Bool.true
+        → (count_of i (w.terminals j).past < count_of i (v.terminals j).past) ⊎ (suc (turns_in es) + rank s j (v.terminals j).past i ≤ rank s j (w.terminals j).past i) }
 {}

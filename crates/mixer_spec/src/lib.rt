@@ -3,4 +3,7 @@
 
 mod laws;
 
-pub use laws::{chunks_are_kept, chunks_in_order, histories_are_lawful, waits_are_short};
+pub use laws::{
+    chunks_are_kept, chunks_in_order, due_is_served, histories_are_lawful, packets_are_near,
+    waits_are_short,
+};
