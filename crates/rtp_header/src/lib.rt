@@ -8,3 +8,6 @@ mod writing;
 pub use headers::{RtpHead, RtpView};
 pub use reading::read_rtp;
 pub use writing::write_rtp;
+
+#[cfg(test)]
+mod tests;

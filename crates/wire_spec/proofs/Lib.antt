@@ -6,3 +6,4 @@ pub mod Written
 pub mod BlockLaws
 pub mod BlockParts
 pub mod Recordings
+pub mod WholePackets

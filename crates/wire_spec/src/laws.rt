@@ -1,10 +1,11 @@
 //! Laws of the definitions. Each is the contract of a function that does nothing.
-ghost use Rattle.std.specs.Prelude.{◌≡◌, ◌≤◌, ℕ, List, length, map, Ok, None};
+ghost use Rattle.std.specs.Prelude.{◌≡◌, ◌≤◌, ℕ, List, length, map, Ok, None, Option, true};
 ghost use Rattle.wire_spec.specs.Rtp.{IsOctets, Reading, Rtp, rtp, Head, FitsHeader, reading_of, rtp_written};
 ghost use Rattle.std.specs.List.{AllByRecursion};
 ghost use Rattle.rtt_base.specs.declared.blocks.TextBlock.{TextBlock};
 ghost use Rattle.rtt_base.specs.declared.text_packets.Pts.{Pts};
 ghost use Rattle.wire_spec.specs.Red.{Red, red, FitsRed, red_written};
+ghost use Rattle.wire_spec.specs.Text.{is_asked, text_packet, text_of};
 ghost use Rattle.wire_spec.specs.Dump.{Place, dump_step, records_by, records_within, records, dump, dump_written, FitsRecord, sent_item};
 
 /// A packet is read as what it is the sum of, and only such a sum is read: so a packet has one reading at most.
@@ -31,6 +32,13 @@ pub fn blocks_are_read_back()
     ensures again { (blocks : List TextBlock) (pts : Pts) → FitsRed blocks pts → red (red_written blocks pts) pts.red pts ≡ Ok blocks }
     ensures alone { (blocks : List TextBlock) (pts : Pts) (others : List TextBlock) → FitsRed blocks pts
         → Red (red_written blocks pts) pts.red pts others → others ≡ blocks }
+{}
+
+/// A packet of text that is written in red form is read back, where its stream is asked for.
+pub fn packets_are_read_back()
+    ensures { (h : Head) (blocks : List TextBlock) (asked : Option ℕ) (pts : Pts) → FitsHeader h → h.pt ≡ pts.red → FitsRed blocks pts
+        → is_asked asked h.ssrc ≡ true → length (rtp_written h (red_written blocks pts)) ≤ 4224
+        → text_of (rtp_written h (red_written blocks pts)) asked pts ≡ Ok (text_packet (reading_of h (red_written blocks pts)) blocks) }
 {}
 
 /// What is still to come of a recording is one step and what comes after it. More steps than there are octets change

@@ -1,0 +1,23 @@
+-- A packet of text that is written is read back.
+use Rattle.std.proofs.Common.{◌≡◌, ℕ, ◌≤◌, true, false, ltb, List, length, Option, None, Some, option_to_list, Ok, refl, ap, ◌∙◌, arith}
+use Rattle.std.proofs.lemmas.Bool.{le-ltb}
+use Rattle.rtt_base.specs.declared.blocks.TextBlock.{TextBlock}
+use Rattle.rtt_base.specs.declared.text_packets.Pts.{Pts}
+use Rattle.wire_spec.specs.Rtp.{Head, FitsHeader, reading_of, rtp_written}
+use Rattle.wire_spec.specs.Red.{FitsRed, red, red_written}
+use Rattle.wire_spec.specs.Text.{is_asked, text_packet, text_of_short, text_of}
+use Rattle.wire_spec.proofs.Written.{rtp_read_back}
+use Rattle.wire_spec.proofs.BlockLaws.{red_read_back}
+
+one_source : (csrc : Option ℕ) → length (option_to_list csrc) ≤ 1
+one_source None = omega arith
+one_source (Some source) = omega arith
+
+pub text_read_back : (h : Head) (blocks : List TextBlock) (asked : Option ℕ) (pts : Pts) → FitsHeader h → h.pt ≡ pts.red → FitsRed blocks pts → is_asked asked h.ssrc ≡ true → length (rtp_written h (red_written blocks pts)) ≤ 4224
+    → text_of (rtp_written h (red_written blocks pts)) asked pts ≡ Ok (text_packet (reading_of h (red_written blocks pts)) blocks)
+unfolding text_of text_of_short
+text_read_back h blocks asked pts fits type blocks_fit is_its short =
+    let long : ltb 4224 (length (rtp_written h (red_written blocks pts))) ≡ false = le-ltb 4224 (length (rtp_written h (red_written blocks pts))) short in
+    let sources : ltb 1 (length (option_to_list h.csrc)) ≡ false = le-ltb 1 (length (option_to_list h.csrc)) (one_source h.csrc) in
+    let payload = ap (λ (pt : ℕ). red (red_written blocks pts) pt pts) type ∙ red_read_back blocks pts blocks_fit in
+    rw (long, rtp_read_back h (red_written blocks pts) fits, is_its, sources, payload) refl
