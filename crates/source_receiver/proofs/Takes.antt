@@ -15,12 +15,12 @@ use Rattle.stream_spec.specs.Lists.{In}
 use Rattle.stream_spec.specs.Numbering.{Numbered, has_number}
 use Rattle.stream_spec.specs.Hearing.{missing, missing_between, missing_before, is_new, older_texts, text_list, marker, oldest_offset, first_of, before_it, adds_marker, adds_texts, heard_by}
 use Rattle.stream_spec.specs.Holding.{RisingNumbers}
-use Rattle.stream_spec.proofs.Lists.{in_append}
+use Rattle.stream_spec.proofs.Lists.{in_append, in_right}
 use Rattle.stream_spec.proofs.Taking.{heard_by_more, missing_after, last_is, none_is, last_stays, last_now}
 use Rattle.source_receiver.specs.declared.receivers.Seen.{Seen}
 use Rattle.source_receiver.specs.declared.receivers.Listed.{Listed}
 use Rattle.source_receiver.specs.declared.receivers.Receiver.{Receiver}
-use Rattle.source_receiver.specs.Stands.{Stands, IsCount, IsSeen, first_from, used_packet, when_at}
+use Rattle.source_receiver.specs.Stands.{Stands, latest_number, IsCount, IsSeen, first_from, used_packet, when_at}
 use Rattle.source_receiver.specs.Steps as steps
 use Rattle.source_receiver.specs.Steps.{missing_up_to, missing_then, is_new_since, is_marked_since, older_since, texts_since}
 
@@ -30,9 +30,21 @@ above_all : (us : List Numbered) (latest : Option ℕ) (missing number : ℕ) �
 above_all [] latest missing number k f u i = absurd i
 above_all (v ∷ us) latest missing number k f u i = let l = f k.0 k.1 in let m = k.3 u i in omega arith
 
+-- a number above all is above the latest
+pub above_latest : (r : Receiver) (sources : List ℕ) (us : List Numbered) (number : ℕ) → Stands r sources us → ((u : Numbered) → In u us → u.number < number) → ForSome (latest_number r) (λ l. l < number)
+above_latest r sources us number s f = go us r.latest r.missing s.count f
+  where
+    go : (us : List Numbered) (latest : Option ℕ) (missing : ℕ) → IsCount us latest missing → ((u : Numbered) → In u us → u.number < number) → ForSome latest (λ l. l < number)
+    go [] latest missing k f l e = cc (sym k.0 ∙ e)
+    go (v ∷ us) latest missing k f l e =
+        let same : k.0 ≡ l = cc (sym k.1 ∙ e) in
+        let h = f k.4.it k.4.is_in in
+        omega (arith, same, k.4.number)
+
 count_next : (us : List Numbered) (latest : Option ℕ) (missing number : ℕ) (b : Numbered) → b.number ≡ number → IsCount us latest missing → ForSome latest (λ l. l < number)
     → IsCount (us ++ b ∷ []) (Some number) (steps.missing_before missing latest number)
-count_next [] None missing number b e k f = (number, refl, omega (arith, k.1, e), λ v i. elim i [ inl q ↦ omega (arith, ap (λ (z : Numbered). z.number) q, e) | inr j ↦ absurd j ])
+count_next [] None missing number b e k f =
+    (number, refl, omega (arith, k.1, e), (λ v i. elim i [ inl q ↦ omega (arith, ap (λ (z : Numbered). z.number) q, e) | inr j ↦ absurd j ]), record { it = b; is_in = inl refl; number = e })
 count_next [] (Some l) missing number b e k f = cc k.0
 count_next (u ∷ us) None missing number b e k f = cc k.1
 count_next (u ∷ us) (Some l) missing number b e k f =
@@ -41,11 +53,12 @@ count_next (u ∷ us) (Some l) missing number b e k f =
       number,
       refl,
       omega (arith, k.2, same, length-append us (b ∷ [])),
-      λ v i. elim (in_append v (u ∷ us) (b ∷ []) i) [
+      (λ v i. elim (in_append v (u ∷ us) (b ∷ []) i) [
         | inl j ↦ let n = k.3 v j in omega (arith, same)
         | inr (inl q) ↦ omega (arith, ap (λ (z : Numbered). z.number) q, e)
         | inr (inr j) ↦ absurd j
-      ],
+      ]),
+      record { it = b; is_in = in_right b (u ∷ us) (b ∷ []) (inl refl); number = e },
     )
 
 -- no more numbers are missing than there are

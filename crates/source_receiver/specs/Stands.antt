@@ -27,10 +27,16 @@ when_at k (Some place) texts = if place == k then texts else []
 abbrev pub given_at : ℕ → Heard → List (List ℕ)
 given_at k heard = when_at k heard.place ((if heard.marker then marker ∷ [] else []) ++ heard.texts)
 
--- `latest` and `missing` are right after these: the numbers from the first to the last are those of these and the missing ones
+-- one of these has the number n
+pub record HasNumber (us : List Numbered) (n : ℕ) : Type 0 where
+  pub it : Numbered
+  pub is_in : In it us
+  pub number : it.number ≡ n
+
+-- `latest` is the greatest number of these, and `missing` is how many numbers from the first up to it none of these has
 abbrev pub IsCount : List Numbered → Option ℕ → ℕ → Type 0
 IsCount [] latest missing = (latest ≡ None) × (missing ≡ 0)
-IsCount (u ∷ us) latest missing = (n : ℕ) × (latest ≡ Some n) × (missing + length (u ∷ us) + u.number ≡ suc n) × ((v : Numbered) → In v (u ∷ us) → v.number ≤ n)
+IsCount (u ∷ us) latest missing = (n : ℕ) × (latest ≡ Some n) × (missing + length (u ∷ us) + u.number ≡ suc n) × ((v : Numbered) → In v (u ∷ us) → v.number ≤ n) × HasNumber (u ∷ us) n
 
 abbrev pub first_from : ℕ → List Numbered → ℕ
 first_from n [] = n

@@ -1,16 +1,24 @@
 -- The definitions computed on examples: packets as they stand on the wire, what is heard of them, and what the places
 -- that came tell.
-use Rattle.std.proofs.Common.{◌≡◌, ℕ, suc, ◌+◌, Bool, true, false, List, [], ◌∷◌, length, refl}
-use Rattle.std.specs.Prelude.{map, zero, ◌==◌, if◌then◌else◌}
+use Rattle.std.proofs.Common.{◌≡◌, ℕ, suc, ◌+◌, ◌^◌, ◌≤◌, ◌<◌, Bool, true, false, not, inl, inr, List, [], ◌∷◌, length, take, refl, ap, sym, ◌∙◌, lit≤, lit<}
+use Rattle.std.specs.Prelude.{map, zero, ◌==◌, ◌&&◌, ◌||◌, nat_lt, nat_le, if◌then◌else◌, IsUtf8}
+use Rattle.std.specs.Str.{IsAscii}
+use Rattle.std.proofs.lemmas.Str.{IsUtf8-from_ascii}
+use Rattle.std.proofs.lemmas.Bool.{cases_Bool, ltb-true, leb-true, and_parts, or_cases, true≢false, not-true}
 use Rattle.std.specs.List.{list_any}
 use Rattle.rtt_base.specs.declared.blocks.TextBlock.{TextBlock}
-use Rattle.wire_spec.specs.Packets.{Packet, Arrival}
+use Rattle.wire_spec.specs.Packets.{Packet, Arrival, has_text}
+use Rattle.stream_spec.specs.Lists.{In}
 use Rattle.stream_spec.specs.Numbering.{Numbered, numbered, in_time, used}
 use Rattle.stream_spec.specs.Hearing.{heard, marker}
 use Rattle.stream_spec.specs.Ready.{chunks, chunk}
-use Rattle.stream_spec.specs.History.{History, Placed, placed, places}
+use Rattle.stream_spec.specs.History.{History, Placed, Lawful, Come, placed, places}
 use Rattle.stream_spec.specs.Kept.{kept, texts}
-use Rattle.stream_spec.specs.Own.{Sent, Stream, own_packet, sent_history, packet_after, history_of}
+use Rattle.stream_spec.specs.Carries.{Carries}
+use Rattle.stream_spec.specs.Own.{Closed, Sent, Stream, own_packet, sent_history, packet_after, history_of, sent_of, MaySend, Sendable}
+use Rattle.stream_spec.proofs.Walks.{l1}
+use Rattle.stream_spec.proofs.OwnPackets.{own_come}
+use Rattle.stream_spec.proofs.Sent.{sent_lawful, sent_own, sent_closed}
 
 abbrev block : ℕ → List ℕ → TextBlock
 block o t = record { offset = o; text = t }
@@ -217,3 +225,84 @@ heard_after_sixty_four = refl
 
 heard_after_sixty_five : heard 1000 (at 66 (plain 8 1 B) ∷ later 65) 1001 ≡ A ∷ marker ∷ times 65
 heard_after_sixty_five = refl
+
+-- ---- the premises of the laws are met by what a sender makes
+every : {X : Type 0} → (X → Bool) → List X → Bool
+every p [] = true
+every p (x ∷ xs) = p x && every p xs
+
+every_in : {X : Type 0} (p : X → Bool) (xs : List X) → every p xs ≡ true → (x : X) → In x xs → p x ≡ true
+unfolding every
+every_in p [] e x i = absurd i
+every_in p (y ∷ xs) e x (inl q) = ap p q ∙ (and_parts (p y) (every p xs) e).0
+every_in p (y ∷ xs) e x (inr i) = every_in p xs (and_parts (p y) (every p xs) e).1 x i
+
+abbrev is_later : Sent → Sent → Bool
+is_later e x = nat_lt x.media e.media && nat_lt e.media (x.media + 2 ^ 31)
+
+abbrev is_close : Sent → Sent → Bool
+is_close e x = not (has_text x.text) || nat_le e.media (x.media + 16383)
+
+may : (s : Stream) (past : List Sent) (e : Sent) → every (is_later e) past ≡ true → every (is_close e) (take s.gens (sent_of e.source past)) ≡ true → (length e.text ≤ 1023) × IsUtf8 e.text → MaySend s past e
+may s past e l n t = record {
+  later = λ x i. let a = and_parts (nat_lt x.media e.media) (nat_lt e.media (x.media + 2 ^ 31)) (every_in (is_later e) past l x i) in (ltb-true x.media e.media a.0, ltb-true e.media (x.media + 2 ^ 31) a.1);
+  near = λ x i h. elim (or_cases (not (has_text x.text)) (nat_le e.media (x.media + 16383)) (every_in (is_close e) (take s.gens (sent_of e.source past)) n x i)) [
+    | inl f ↦ absurd (true≢false (sym h ∙ not-true (has_text x.text) f))
+    | inr g ↦ leb-true e.media (x.media + 16383) g
+  ];
+  text = t;
+}
+
+ascii : (n : ℕ) → n < 128 → IsAscii (n ∷ [])
+ascii n l zero = l
+ascii n l (suc i) = lit< tt
+
+letter : (n : ℕ) → n < 128 → (length (n ∷ []) ≤ 1023) × IsUtf8 (n ∷ [])
+letter n l = (lit≤ tt, IsUtf8-from_ascii (n ∷ []) (ascii n l))
+
+silence : let none : List ℕ = [] in (length none ≤ 1023) × IsUtf8 none
+silence = (lit≤ tt, IsUtf8-from_ascii [] (λ i. lit< tt))
+
+six_sendable : Sendable c six
+unfolding every
+six_sendable = (
+  may c (sent 1200 [] ∷ sent 900 D ∷ sent 600 C ∷ sent 300 B ∷ sent 0 A ∷ []) (sent 1500 []) refl refl silence,
+  (
+    may c (sent 900 D ∷ sent 600 C ∷ sent 300 B ∷ sent 0 A ∷ []) (sent 1200 []) refl refl silence,
+    (
+      may c (sent 600 C ∷ sent 300 B ∷ sent 0 A ∷ []) (sent 900 D) refl refl (letter 68 (lit< tt)),
+      (
+        may c (sent 300 B ∷ sent 0 A ∷ []) (sent 600 C) refl refl (letter 67 (lit< tt)),
+        (
+          may c (sent 0 A ∷ []) (sent 300 B) refl refl (letter 66 (lit< tt)),
+          (may c [] (sent 0 A) refl refl (letter 65 (lit< tt)), tt),
+        ),
+      ),
+    ),
+  ),
+)
+
+six_lawful : Lawful (sent_history c six)
+six_lawful = sent_lawful c six (lit≤ tt) six_sendable
+
+-- the entries at the places 0, 4 and 5
+abbrev zeroth : Placed
+zeroth = record { place = 0; index = 0; source = 1001; media = 0; text = A; gens = 2; reach = 16383 }
+
+abbrev fourth : Placed
+fourth = record { place = 4; index = 4; source = 1001; media = 1200; text = []; gens = 2; reach = 600 }
+
+three_come : Come (sent_history c six) (at 1200 (p4 4) ∷ at 0 (p0 0) ∷ [])
+three_come = own_come 2 (sent_history c six) six_lawful (sent_own c six) ((1200, fourth) ∷ (0, zeroth) ∷ []) (inr (inr (inr (inr (inl refl)))), ((lit≤ tt, lit≤ tt), (inl refl, (tt, tt))))
+
+-- what is heard is what is kept, as the law says
+law_applies : heard 1000 (at 1200 (p4 4) ∷ at 0 (p0 0) ∷ []) 1001 ≡ texts (kept (sent_history c six) (places 1000 (sent_history c six) (at 1200 (p4 4) ∷ at 0 (p0 0) ∷ [])) 1001)
+law_applies = l1 1000 (sent_history c six) six_lawful (at 1200 (p4 4) ∷ at 0 (p0 0) ∷ []) three_come 1001
+
+-- each text was repeated twice
+six_closed : Closed 2 (sent_history c six)
+six_closed = sent_closed c six (λ s. elim (cases_Bool (1001 == s)) [ inl t ↦ rw t refl | inr f ↦ rw f refl ])
+
+-- two texts are carried by one entry
+two_carried : Carries (sent_history c (sent 300 [] ∷ sent 0 (65 ∷ 66 ∷ []) ∷ [])) 1001 (A ∷ B ∷ [])
+two_carried = (A ∷ B ∷ [], [], refl, refl, lit≤ tt, refl)

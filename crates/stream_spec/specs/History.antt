@@ -91,8 +91,8 @@ abbrev pub texts_of : List Placed → List (List ℕ)
 texts_of [] = []
 texts_of (x ∷ xs) = x.text ∷ texts_of xs
 
--- The octets of the packet of x: the fixed header and, where the source is another than the stream's, one CSRC; the
--- block headers; the texts.
+-- The octets of the packet of x in red form: the fixed header and, where the source is another than the stream's, one
+-- CSRC; the block headers; the texts.
 abbrev pub octets : History → Placed → ℕ
 octets h x = (if x.source == h.ssrc then 12 else 16) + (4 * x.gens + 1) + length (concat (texts_of (window h x)) ++ x.text)
 

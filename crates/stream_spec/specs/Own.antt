@@ -19,7 +19,7 @@ abbrev pub block_of : Placed → Option Placed → TextBlock
 block_of x None = record { offset = 16383; text = [] }
 block_of x (Some y) = record { offset = if has_text y.text then x.media - y.media else offset_of x.media y.media; text = y.text }
 
--- x begins after a pause: none of the entries before it that x repeats has text, or not the last one, if x repeats none
+-- The M bit: none of the entries that x repeats has text; where x repeats none, the one before it has none.
 abbrev pub is_after_pause : History → Placed → Bool
 is_after_pause h x = not (list_any (λ y. has_text y.text) (before h (max 1 x.gens) x))
 
