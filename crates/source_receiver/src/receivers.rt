@@ -51,14 +51,8 @@ fn is_new(seen: Option<Seen>, stamp: u32) -> bool
 fn is_marked(seen: Option<Seen>, missing: u64, stamp: u32, older: &[TextBlock]) -> bool
     ensures { result ≡ is_marked_since seen missing stamp older.now }
 {
-    let before = match seen {
-        Some(seen) => seen.missing,
-        None => 0,
-    };
-    let offset = match older.first() {
-        Some(block) => block.offset,
-        None => 0,
-    };
+    let before = seen.map_or(0, |seen| seen.missing);
+    let offset = older.first().map_or(0, |block| block.offset);
     missing.saturating_sub(before) > older.len() as u64
         && is_new(seen, stamp.wrapping_sub(u32::from(offset)))
 }
