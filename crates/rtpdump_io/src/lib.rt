@@ -9,3 +9,6 @@ mod record_heads;
 
 pub use items::{DumpFault, DumpItem};
 pub use readers::DumpReader;
+
+#[cfg(test)]
+mod tests;
