@@ -1,9 +1,8 @@
 -- the opening and the records of a recording, part by part
-use Rattle.std.proofs.Common.{◌≡◌, ◌∙◌, ℕ, zero, suc, ◌+◌, ◌-◌, ◌<◌, ◌≤◌, Bool, true, false, cond, nat_eq, nat_lt, List, [], ◌∷◌, ◌++◌, length, take, drop, get_or, refl, sym, ap, subst, arith, Option, Some, None, Result, Ok, Err, IfOk, length-append, length-drop, length-take}
+use Rattle.std.proofs.Common.{◌≡◌, ◌∙◌, ℕ, zero, suc, ◌+◌, ◌-◌, ◌<◌, ◌≤◌, Bool, true, false, cond, nat_eq, nat_lt, List, [], ◌∷◌, ◌++◌, length, take, drop, refl, sym, ap, arith, Option, Some, None, Result, Ok, Err, IfOk, length-append, length-drop, length-take}
 use Rattle.std.specs.Prelude.{codes}
 use Rattle.std.specs.List.{starts_with}
 use Rattle.std.proofs.lemmas.Bool.{le-ltb, lt-ltb, ne_eqb, ltb-false}
-use Rattle.std.proofs.lemmas.List.{drop-append-le, take-append-le, drop-drop}
 use Rattle.std.proofs.Math.Seq.{drop-append_seam, drop-append-add, take-append-add}
 use Rattle.wire_spec.specs.declared.faults.DumpKind.{DumpKind}
 use Rattle.wire_spec.specs.declared.faults.DumpKind.TheVariants.{NotDump, BadLength, EndsInside, TooLong, TooLarge}
@@ -13,7 +12,7 @@ use Rattle.wire_spec.specs.Dump.{Item, What, Place, Fault, Step, End, Broken, Ne
 use Rattle.rtpdump_io.specs.Input.{Passes}
 use Rattle.rtpdump_io.specs.Reading.{broken, item_at, Gives, Breaks, is_last, coming}
 use Rattle.rtpdump_io.specs.declared.readers.Stage.{Stage}
-use Rattle.rtpdump_io.specs.declared.readers.Stage.TheVariants.{Opening, Records, Ended}
+use Rattle.rtpdump_io.specs.declared.readers.Stage.TheVariants.{Opening, Records}
 use Rattle.rtpdump_io.specs.Found.{opened_as, found_as, came_as, kind_of, kept_of}
 use Rattle.rtpdump_io.specs.declared.items.DumpItem.{DumpItem}
 use Rattle.rtpdump_io.specs.declared.items.DumpItem.TheVariants as answer

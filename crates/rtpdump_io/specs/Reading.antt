@@ -1,5 +1,5 @@
 -- What is still to come of a reading of a recording, and what one call gives of it (profile).
-use Rattle.std.specs.Prelude.{◌≡◌, ℕ, ◌++◌, List, [], Bool, true, false, None, Some, Result, Ok, Err}
+use Rattle.std.specs.Prelude.{◌≡◌, ℕ, ◌-◌, List, [], Bool, true, false, None, Some, Result, Ok, Err}
 use Rattle.wire_spec.specs.declared.faults.DumpKind.{DumpKind}
 use Rattle.wire_spec.specs.declared.faults.DumpKind.TheVariants as kind
 use Rattle.wire_spec.specs.Dump.{Item, Sent, Place, Fault, Step, Next, Broken, Recording, with_item, records, dump}
@@ -61,6 +61,12 @@ is_over Opening = false
 is_over Records = false
 is_over Ended = true
 
+-- more than so many answers do not come, of a recording of at most 4194304 octets
+abbrev pub answers_left : Stage → ℕ → ℕ
+answers_left Opening byte = 4194306
+answers_left Records byte = 4194305 - byte
+answers_left Ended byte = 0
+
 module _ {S : Type 0} where
   -- what is still to come of a reader
   abbrev pub to_come : (S → List ℕ) → DumpReader S → Recording
@@ -77,3 +83,7 @@ module _ {S : Type 0} where
   -- the place in the recording at which it stands
   abbrev pub place_of : (S → List ℕ) → DumpReader S → Place
   place_of left reader = record { byte = reader.offset; rest = unread left reader.input }
+
+  -- how many answers may come at most
+  abbrev pub most_answers : DumpReader S → ℕ
+  most_answers reader = answers_left reader.stage reader.offset

@@ -36,7 +36,7 @@ impl<S: Source> DumpReader<S> {
     ghost use Rattle.std.specs.Prelude.{◌≡◌, ◌≢◌, ◌<◌, ◌≤◌, ◌-◌, true, false, Ok, OnOk, OnErr, IfErr, IfOk, length, take, drop};
     ghost use Rattle.rtt_io.specs.Counts.{Rose};
     ghost use Rattle.wire_spec.specs.Dump.{dump, dump_step, opening, usual_limit};
-    ghost use Rattle.rtpdump_io.specs.Reading.{Gives, is_last, to_come, is_ended, source_of, place_of};
+    ghost use Rattle.rtpdump_io.specs.Reading.{Gives, is_last, to_come, most_answers, is_ended, source_of, place_of};
     ghost use Rattle.rtpdump_io.specs.Found.{opened_as, found_as, came_as, ready_as, kept_of};
     ghost use Rattle.rtpdump_io.specs.Input.{unread, Passes};
 
@@ -91,6 +91,7 @@ impl<S: Source> DumpReader<S> {
         ensures gives { S.tells → Gives result out.new (to_come S.left self.old) (to_come S.left self.new) }
         ensures read { IfErr result (λ fault. fault.kind ≡ DumpKind.Read → Rose (S.faults (source_of self.old)) (S.faults (source_of self.new))) }
         ensures ended { is_ended self.new ≡ is_last result }
+        ensures nearer { most_answers self.new < most_answers self.old }
         ensures never_falls { S.faults (source_of self.old) ≤ S.faults (source_of self.new) }
         ensures same_name { S.name (source_of self.new) ≡ S.name (source_of self.old) }
     {
@@ -124,6 +125,7 @@ impl<S: Source> DumpReader<S> {
         ensures came { S.tells → IfOk result (λ found. to_come S.left self.old ≡ came_as found out.new self.new.offset (to_come S.left self.new)) }
         ensures not_read { IfOk result (λ found. IfErr found (λ kind. kind ≢ DumpKind.Read)) }
         ensures not_ended { is_ended self.new ≡ false }
+        ensures nearer { IfOk result (λ found. IfOk found (λ item. item ≢ DumpItem.End → most_answers self.new < most_answers self.old)) }
         ensures failed { OnErr result (Rose (S.faults (source_of self.old)) (S.faults (source_of self.new))) }
         ensures never_falls { S.faults (source_of self.old) ≤ S.faults (source_of self.new) }
         ensures same_name { S.name (source_of self.new) ≡ S.name (source_of self.old) }
@@ -139,6 +141,7 @@ impl<S: Source> DumpReader<S> {
         requires { is_ended self.old ≡ false }
         ensures came { S.tells → IfOk result (λ found. to_come S.left self.old ≡ ready_as found self.new.offset (to_come S.left self.new)) }
         ensures ready { IfOk result (λ found. OnOk found (self.new.stage ≡ Stage.Records)) }
+        ensures not_farther { IfOk result (λ found. OnOk found (most_answers self.new ≤ most_answers self.old)) }
         ensures not_read { IfOk result (λ found. IfErr found (λ kind. kind ≢ DumpKind.Read)) }
         ensures not_ended { is_ended self.new ≡ false }
         ensures failed { OnErr result (Rose (S.faults (source_of self.old)) (S.faults (source_of self.new))) }
@@ -185,6 +188,7 @@ impl<S: Source> DumpReader<S> {
 
     // Reads a record, or finds the end.
     fn record(&mut self, out: &mut Packet) -> Result<Result<DumpItem, DumpKind>, Failed>
+        ensures farther { IfOk result (λ found. IfOk found (λ item. item ≢ DumpItem.End → self.old.offset < self.new.offset)) }
         ensures found { S.tells → IfOk result (λ found. dump_step self.old.limit (place_of S.left self.old) ≡ found_as found out.new (place_of S.left self.new)) }
         ensures not_read { IfOk result (λ found. IfErr found (λ kind. kind ≢ DumpKind.Read)) }
         ensures same_limit { self.new.limit ≡ self.old.limit }

@@ -1,6 +1,5 @@
-use Rattle.std.proofs.Common.{◌≡◌, ◌∙◌, ℕ, List, ◌++◌, take, ap, arith}
+use Rattle.std.proofs.Common.{◌∙◌, ℕ, List, ◌++◌, take, ap}
 use Rattle.rtpdump_io.proofs.Lines.{differs}
-use Rattle.rtpdump_io.proofs.Recordings.{no_opening, no_line, opens, no_head, at_end, too_short}
 use Rattle.rtpdump_io.proofs.inputs.Input.begins_with.Goals as goal
 
 pub returns-in_default-clause-no : goal.returns-in_default-clause-no

@@ -1,5 +1,5 @@
-use Rattle.std.proofs.Common.{◌≡◌, ◌∙◌, ◌≤◌, ℕ, List, ap, arith, drop, take, length, ◌++◌, length-append, length-take}
-use Rattle.rtpdump_io.specs.Input.{held, unread, Passes}
+use Rattle.std.proofs.Common.{◌≡◌, ◌∙◌, ◌≤◌, ℕ, List, ap, arith, take, length, ◌++◌, length-append, length-take}
+use Rattle.rtpdump_io.specs.Input.{held}
 use Rattle.rtpdump_io.proofs.Pieces.{passes_more, copies_more}
 use Rattle.rtpdump_io.proofs.inputs.Input.copy.Goals as goal
 

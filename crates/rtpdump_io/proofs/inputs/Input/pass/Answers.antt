@@ -1,5 +1,5 @@
-use Rattle.std.proofs.Common.{◌≡◌, ◌∙◌, ◌≤◌, ap, arith, drop, length, ◌++◌}
-use Rattle.rtpdump_io.specs.Input.{held, unread, Passes}
+use Rattle.std.proofs.Common.{◌∙◌, ◌≤◌, ap, arith, length}
+use Rattle.rtpdump_io.specs.Input.{held}
 use Rattle.rtpdump_io.proofs.Pieces.{passes_more}
 use Rattle.rtpdump_io.proofs.inputs.Input.pass.Goals as goal
 

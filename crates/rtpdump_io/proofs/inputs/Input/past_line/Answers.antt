@@ -1,4 +1,4 @@
-use Rattle.std.proofs.Common.{◌≡◌, ◌∙◌, ◌≤◌, ℕ, List, ap, arith, length, ◌++◌, Ok}
+use Rattle.std.proofs.Common.{◌∙◌, ap, arith, Ok}
 use Rattle.rtpdump_io.proofs.Lines.{line_found, line_on, line_none, one_more}
 use Rattle.rtpdump_io.proofs.inputs.Input.past_line.Goals as goal
 

@@ -1,4 +1,3 @@
-use Rattle.std.proofs.Common.{◌≡◌, ◌∙◌, ℕ, ap, refl, sym}
 use Rattle.rtpdump_io.proofs.Recordings.{opening_broken, opening_done}
 use Rattle.rtpdump_io.proofs.readers.DumpReader.make_ready.Goals as goal
 

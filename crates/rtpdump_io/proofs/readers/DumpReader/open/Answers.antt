@@ -1,4 +1,4 @@
-use Rattle.std.proofs.Common.{◌≡◌, ◌∙◌, ◌+◌, ℕ, Ok, Some, None, true, false, ap, refl, sym}
+use Rattle.std.proofs.Common.{Ok, ap}
 use Rattle.rtpdump_io.proofs.Recordings.{no_opening, no_line, no_head, opens}
 use Rattle.rtpdump_io.proofs.readers.DumpReader.open.Goals as goal
 

@@ -1,6 +1,4 @@
-use Rattle.std.proofs.Common.{◌≡◌, ◌∙◌, ◌<◌, ◌≤◌, ◌+◌, ◌-◌, ℕ, List, ◌++◌, Ok, true, false, ap, arith, length, rules}
-use Rattle.wire_spec.specs.Dump.{time_of}
-use Rattle.rtpdump_io.specs.Input.{unread, Passes}
+use Rattle.std.proofs.Common.{◌≡◌, ◌<◌, ◌≤◌, ◌+◌, Ok, ap, arith, length}
 use Rattle.rtpdump_io.proofs.Recordings.{nothing_left, few_left, all_there, found_bad_length, found_too_large, found_end, found_too_long, found_record}
 use Rattle.rtpdump_io.proofs.readers.DumpReader.record.Goals as goal
 

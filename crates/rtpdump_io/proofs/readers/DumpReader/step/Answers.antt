@@ -1,4 +1,4 @@
-use Rattle.std.proofs.Common.{◌≡◌, ◌∙◌, ℕ, ap, refl, sym}
+use Rattle.std.proofs.Common.{◌∙◌, refl}
 use Rattle.rtpdump_io.proofs.Recordings.{came_of, at_records}
 use Rattle.rtpdump_io.proofs.readers.DumpReader.step.Goals as goal
 
