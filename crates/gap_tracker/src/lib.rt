@@ -12,4 +12,6 @@ pub use answers::{Due, Taken};
 pub use tracking::Tracker;
 
 #[cfg(test)]
+mod plain;
+#[cfg(test)]
 mod tests;

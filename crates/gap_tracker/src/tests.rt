@@ -2,6 +2,7 @@
 ghost use Rattle.std.specs.Prelude.{◌≡◌};
 ghost use Rattle.gap_tracker.specs.States.{is_finished};
 
+use crate::plain::{Came, number_after, ready_of, taken, used_under};
 use crate::{Taken, Tracker};
 use rtt_base::TextPacket;
 use std::alloc::Global;
@@ -189,5 +190,65 @@ fn the_end_settles_what_is_held(rt: HostRuntime) -> Result<(), Fail> {
     let given = [(10, 0), (12, 1100), (15, 1250)];
     assert_eq!(rt; played.given.as_slice(), given.as_slice());
     assert_eq!(rt; play(rt.alloc(), 1000, &[])?.given.len(), 0);
+    Ok(())
+}
+
+/// The next of a row of numbers that look random.
+fn next_state(state: u64) -> u64 {
+    state
+        .wrapping_mul(6364136223846793005)
+        .wrapping_add(1442695040888963407)
+}
+
+/// Twelve arrivals whose numbers lie near the wrap and whose times rise by a few milliseconds.
+fn some_arrivals(alloc: Global, seed: u64) -> Result<Vec<(u64, u16)>, Fail> {
+    let mut arrivals = Vec::new(alloc);
+    let mut state = seed;
+    let mut time = 0u64;
+    for _ in 0..12 {
+        state = next_state(state);
+        time = time.saturating_add((state >> 40) % 6);
+        let number = 65532 + (state >> 33) % 10;
+        arrivals.push((time, (number % 65536) as u16))?;
+    }
+    Ok(arrivals)
+}
+
+/// What the rules say of these arrivals.
+fn expected(alloc: Global, wait: u64, arrivals: &[(u64, u16)]) -> Result<Played, Fail> {
+    let mut past = Vec::new(alloc);
+    let mut answers = Vec::new(alloc);
+    for (time, seq) in arrivals {
+        let number = number_after(past.as_slice(), *seq);
+        past.push(Came {
+            time: *time,
+            number,
+            seq: *seq,
+        })?;
+        if let Some(taken) = taken(past.as_slice(), wait) {
+            answers.push(taken)?;
+        }
+    }
+    let mut given = Vec::new(alloc);
+    let first = past.first().map_or(0, |came| came.number);
+    for number in first..first.saturating_add(40) {
+        if let Some(came) = used_under(past.as_slice(), wait, number) {
+            given.push((came.seq, ready_of(past.as_slice(), wait, &came)))?;
+        }
+    }
+    Ok(Played { answers, given })
+}
+
+#[test]
+fn the_rules_told_plainly_give_the_same(rt: HostRuntime) -> Result<(), Fail> {
+    for seed in 0..70 {
+        for wait in [0, 4, 9] {
+            let arrivals = some_arrivals(rt.alloc(), next_state(seed))?;
+            let played = play(rt.alloc(), wait, arrivals.as_slice())?;
+            let plain = expected(rt.alloc(), wait, arrivals.as_slice())?;
+            assert_eq!(rt; played.answers.as_slice(), plain.answers.as_slice());
+            assert_eq!(rt; played.given.as_slice(), plain.given.as_slice());
+        }
+    }
     Ok(())
 }
