@@ -2,6 +2,7 @@
 use Rattle.std.specs.Prelude.{◌<◌, Result, Ok, Err, length}
 use Rattle.file_spec.specs.declared.conf_lines.LegLine.{LegLine}
 use Rattle.file_spec.specs.Conf as conf
+use Rattle.file_spec.specs.Sound.{IsBetween}
 use Rattle.conf_text.specs.declared.confs.Conf.{Conf}
 use Rattle.conf_text.specs.declared.drafts.NewLeg.{NewLeg}
 use Rattle.conf_text.specs.declared.drafts.Draft.{Draft}
@@ -28,15 +29,15 @@ abbrev pub seen : {A B E : Type 0} → (A → B) → Result A E → Result B E
 seen view (Ok x) = Ok (view x)
 seen view (Err e) = Err e
 
--- a leg finds a place
-abbrev pub HasSeat : conf.Above → conf.Entry → Type 0
-HasSeat above (conf.Leg l) = length above.legs < 16
-HasSeat above (conf.Tick n) = Unit {0}
-HasSeat above (conf.Spacing n) = Unit {0}
-HasSeat above (conf.Wait n) = Unit {0}
-HasSeat above (conf.Turns n) = Unit {0}
-HasSeat above (conf.Mixer m) = Unit {0}
-HasSeat above (conf.Plan p) = Unit {0}
+-- a line within its range, for which there is room
+abbrev pub MayFollow : conf.Above → conf.Entry → Type 0
+MayFollow above (conf.Leg l) = length above.legs < 16
+MayFollow above (conf.Tick n) = IsBetween 20 400 n
+MayFollow above (conf.Spacing n) = IsBetween 100 1000 n
+MayFollow above (conf.Wait n) = IsBetween 0 10000 n
+MayFollow above (conf.Turns n) = IsBetween 1 5000000 n
+MayFollow above (conf.Mixer m) = Unit {0}
+MayFollow above (conf.Plan p) = length above.plan < 4096
 
 abbrev pub conf_of : Conf → conf.Conf
 conf_of c = record { legs = c.legs; tick = c.tick; spacing = c.spacing; wait = c.wait; turns = c.turns; mixer = c.mixer; plan = c.plan }

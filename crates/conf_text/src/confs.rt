@@ -1,4 +1,7 @@
 //! Conferences.
+ghost use Rattle.std.specs.Prelude.{◌≤◌, length};
+ghost use Rattle.file_spec.specs.Sound.{IsBetween};
+
 use crate::{Legs, Plan};
 use file_spec::MixerLine;
 
@@ -16,4 +19,10 @@ pub struct Conf {
     pub turns: u32,
     pub mixer: MixerLine,
     pub plan: Plan,
+    pub ghost legs_fit: { IsBetween 2 16 (length legs) },
+    pub ghost plan_fits: { length plan ≤ 4096 },
+    pub ghost tick_fits: { IsBetween 20 400 tick },
+    pub ghost spacing_fits: { IsBetween 100 1000 spacing },
+    pub ghost wait_fits: { IsBetween 0 10000 wait },
+    pub ghost turns_fits: { IsBetween 1 5000000 turns },
 }

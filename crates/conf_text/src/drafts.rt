@@ -1,6 +1,8 @@
 //! What the lines of a conference say, one by one and so far.
 ghost use Rattle.std.specs.Prelude.{◌≡◌, ◌<◌, ◌≤◌, length, OnOk};
+ghost use Rattle.std.specs.Option.{ForSome};
 ghost use Rattle.file_spec.specs.Conf.{Leg, nothing, with_entry};
+ghost use Rattle.file_spec.specs.Sound.{IsBetween};
 
 use crate::{Legs, Plan};
 use file_spec::{LegLine, MixerLine, PlanLine};
@@ -42,10 +44,15 @@ pub(crate) struct Draft {
     pub mixer: Option<MixerLine>,
     pub plan: Plan,
     ghost seats: { length legs ≤ 16 },
+    ghost planned: { length plan ≤ 4096 },
+    ghost tick_fits: { ForSome tick (λ n. IsBetween 20 400 n) },
+    ghost spacing_fits: { ForSome spacing (λ n. IsBetween 100 1000 n) },
+    ghost wait_fits: { ForSome wait (λ n. IsBetween 0 10000 n) },
+    ghost turns_fits: { ForSome turns (λ n. IsBetween 1 5000000 n) },
 }
 
 impl Draft {
-    ghost use Rattle.conf_text.specs.Lines.{above_of, leg_line, meaning, HasSeat};
+    ghost use Rattle.conf_text.specs.Lines.{above_of, leg_line, meaning, MayFollow};
 
     pub fn new(alloc: Global) -> Draft
         ensures { above_of result ≡ nothing }
@@ -80,7 +87,7 @@ impl Draft {
 
     /// The lines so far and one more.
     pub fn add(&mut self, alloc: Global, entry: Entry<'_>) -> Result<(), NoMemory>
-        requires { HasSeat (above_of self.old) (meaning entry) }
+        requires { MayFollow (above_of self.old) (meaning entry) }
         ensures { OnOk result (above_of self.new ≡ with_entry (above_of self.old) (meaning entry.entry)) }
     {
         match entry {

@@ -1,7 +1,8 @@
 //! The lines of a conference.
 ghost use Rattle.std.specs.Prelude.{◌≡◌, ◌∷◌, map, IfOk};
 ghost use Rattle.file_spec.specs.Conf.{entry, mixer, mixer_of, setting, time_or_plan};
-ghost use Rattle.conf_text.specs.Lines.{above_of, meaning, seen, HasSeat};
+ghost use Rattle.file_spec.specs.Sound.{IsBetween};
+ghost use Rattle.conf_text.specs.Lines.{above_of, meaning, seen, MayFollow};
 
 use crate::ConfKind;
 use crate::drafts::{Draft, Entry};
@@ -11,7 +12,8 @@ use crate::plan_lines::read_plan;
 use file_spec::{Form, MixerLine};
 
 fn read_setting(least: u32, most: u32, above: Option<u32>, words: &[&str]) -> Result<u32, ConfKind>
-    ensures { result ≡ setting least most above (map (λ w. w.now) words.now) }
+    ensures exact { result ≡ setting least most above (map (λ w. w.now) words.now) }
+    ensures fits { IfOk result (λ n. IsBetween least most n) }
 {
     let [text] = words else {
         return Err(ConfKind::Count);
@@ -68,7 +70,7 @@ fn read_time_or_plan<'a>(
     words: &[&str],
 ) -> Result<Entry<'a>, ConfKind>
     ensures exact { seen meaning result ≡ time_or_plan form (above_of above.now) word.now (map (λ w. w.now) words.now) }
-    ensures seat { IfOk result (λ said. HasSeat (above_of above.now) (meaning said)) }
+    ensures follows { IfOk result (λ said. MayFollow (above_of above.now) (meaning said)) }
 {
     match word {
         "tick" => Ok(Entry::Tick(read_setting(20, 400, above.tick, words)?)),
@@ -88,7 +90,7 @@ fn read_worded<'a>(
     words: &[&'a str],
 ) -> Result<Entry<'a>, ConfKind>
     ensures exact { seen meaning result ≡ entry form (above_of above.now) line (word.now ∷ map (λ w. w.now) words.now) }
-    ensures seat { IfOk result (λ said. HasSeat (above_of above.now) (meaning said)) }
+    ensures follows { IfOk result (λ said. MayFollow (above_of above.now) (meaning said)) }
 {
     match word {
         "leg" => Ok(Entry::Leg(read_leg(form, above, line, words)?)),
@@ -106,7 +108,7 @@ pub(crate) fn read_entry<'a>(
     words: &[&'a str],
 ) -> Result<Entry<'a>, ConfKind>
     ensures exact { seen meaning result ≡ entry form (above_of above.now) line (map (λ w. w.now) words.now) }
-    ensures seat { IfOk result (λ said. HasSeat (above_of above.now) (meaning said)) }
+    ensures follows { IfOk result (λ said. MayFollow (above_of above.now) (meaning said)) }
 {
     let [word, more @ ..] = words else {
         return Err(ConfKind::Word);

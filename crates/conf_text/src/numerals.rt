@@ -1,9 +1,10 @@
 //! Numbers as they are written.
-ghost use Rattle.std.specs.Prelude.{◌≡◌};
+ghost use Rattle.std.specs.Prelude.{◌≡◌, ◌≤◌, IfSome};
 ghost use Rattle.std.specs.List.{list_all};
 ghost use Rattle.std.specs.Char.{is_ascii_digit};
 ghost use Rattle.file_spec.specs.Conf.{number_between, pts};
 ghost use Rattle.file_spec.specs.Numbers.{number, is_number};
+ghost use Rattle.file_spec.specs.Sound.{IsBetween};
 
 use rtt_base::Pts;
 
@@ -21,7 +22,8 @@ fn is_numeral(text: &[u8]) -> bool
 
 /// A number of one to ten decimal digits that is at most `most`.
 pub(crate) fn number_of(text: &str, most: u32) -> Option<u32>
-    ensures { result ≡ number most text.now }
+    ensures exact { result ≡ number most text.now }
+    ensures fits { IfSome result (λ n. n ≤ most) }
 {
     if !is_numeral(text.as_bytes()) {
         return None;
@@ -37,7 +39,8 @@ pub(crate) fn number_of(text: &str, most: u32) -> Option<u32>
 
 /// The same of a number that is at least `least`.
 pub(crate) fn number_from(text: &str, least: u32, most: u32) -> Option<u32>
-    ensures { result ≡ number_between least most text.now }
+    ensures exact { result ≡ number_between least most text.now }
+    ensures fits { IfSome result (λ n. IsBetween least most n) }
 {
     let value = number_of(text, most)?;
     if value < least {

@@ -1,5 +1,5 @@
 //! The lines of a plan.
-ghost use Rattle.std.specs.Prelude.{◌≡◌, bytes_eq, map};
+ghost use Rattle.std.specs.Prelude.{◌≡◌, ◌<◌, bytes_eq, map, length, OnOk};
 ghost use Rattle.std.specs.List.{list_any, position};
 ghost use Rattle.file_spec.specs.Conf.{delay, delay_of, plan, plan_of, plan_word, same_packet, same_word};
 ghost use Rattle.conf_text.specs.Lines.{above_of};
@@ -53,7 +53,8 @@ fn read_event(
     packet: &str,
     what: Option<What>,
 ) -> Result<PlanLine, ConfKind>
-    ensures { result ≡ plan_of (above_of above.now) name.now packet.now what }
+    ensures exact { result ≡ plan_of (above_of above.now) name.now packet.now what }
+    ensures room { OnOk result (length above.now.plan < 4096) }
 {
     let Some(terminal) = leg_place(above.legs.as_slice(), name) else {
         return Err(ConfKind::Name);
@@ -86,7 +87,8 @@ fn delay_from(text: &str) -> Option<What>
 }
 
 fn read_plain(above: &Draft, what: What, words: &[&str]) -> Result<PlanLine, ConfKind>
-    ensures { result ≡ plan (above_of above.now) what (map (λ w. w.now) words.now) }
+    ensures exact { result ≡ plan (above_of above.now) what (map (λ w. w.now) words.now) }
+    ensures room { OnOk result (length above.now.plan < 4096) }
 {
     match words {
         [name, packet] => read_event(above, name, packet, Some(what)),
@@ -95,7 +97,8 @@ fn read_plain(above: &Draft, what: What, words: &[&str]) -> Result<PlanLine, Con
 }
 
 fn read_delay(above: &Draft, words: &[&str]) -> Result<PlanLine, ConfKind>
-    ensures { result ≡ delay (above_of above.now) (map (λ w. w.now) words.now) }
+    ensures exact { result ≡ delay (above_of above.now) (map (λ w. w.now) words.now) }
+    ensures room { OnOk result (length above.now.plan < 4096) }
 {
     match words {
         [name, packet, late] => read_event(above, name, packet, delay_from(late)),
@@ -110,7 +113,8 @@ pub(crate) fn read_plan(
     word: &str,
     words: &[&str],
 ) -> Result<PlanLine, ConfKind>
-    ensures { result ≡ plan_word form (above_of above.now) word.now (map (λ w. w.now) words.now) }
+    ensures exact { result ≡ plan_word form (above_of above.now) word.now (map (λ w. w.now) words.now) }
+    ensures room { OnOk result (length above.now.plan < 4096) }
 {
     if form == Form::Links {
         return Err(ConfKind::Word);
