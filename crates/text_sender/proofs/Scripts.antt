@@ -1,15 +1,15 @@
 -- What a sender sends over a whole script.
-use Rattle.std.proofs.Common.{◌≡◌, ℕ, zero, suc, ◌+◌, ◌≤◌, Bool, true, false, cond, Option, Some, None, inl, inr, List, [], ◌∷◌, ◌++◌, length, take, append_assoc, refl, ap, subst, sym, ◌∙◌, arith}
+use Rattle.std.proofs.Common.{◌≡◌, ℕ, ◌+◌, ◌≤◌, Bool, true, false, cond, Some, None, List, [], ◌∷◌, ◌++◌, length, take, append_assoc, refl, ap, subst, sym, ◌∙◌, arith}
 use Rattle.std.specs.Prelude.{◌||◌, ◌&&◌, nat_le, min, IsUtf8}
 use Rattle.std.specs.List.{flat_map}
 use Rattle.wire_spec.specs.Packets.{has_text}
 use Rattle.stream_spec.specs.Lists.{In}
 use Rattle.stream_spec.specs.History.{Entry, Placed, placed, Lawful}
-use Rattle.stream_spec.specs.Own.{Sent, Stream, Own, Closed, sent_of, has_text_in, entry_after, entries_sent, sent_history, own_packet, packet_after}
-use Rattle.stream_spec.specs.Typed.{Event, Text, Ask, Turned, sents, carried, typed, has_passed, last_end, front, is_due, entry_at, due_at, packet_at, IsScript}
+use Rattle.stream_spec.specs.Own.{Sent, Own, Closed, sent_of, has_text_in, entry_after, entries_sent, sent_history, own_packet, packet_after}
+use Rattle.stream_spec.specs.Typed.{Event, Ask, Turned, sents, carried, typed, has_passed, last_end, front, due_at, packet_at, IsScript}
 use Rattle.stream_spec.proofs.Sent.{the_last, sent_lawful, sent_own, in_sent_of}
-use Rattle.stream_spec.proofs.Typing.{typed_is, entries_more, entries_same, waits_same, paced, front_fits, length_of_front, last_end_le}
-use Rattle.stream_spec.proofs.Closing.{IsLast, last_is, sent_closed, longest}
+use Rattle.stream_spec.proofs.Typing.{typed_is, entries_more, entries_same, waits_same, paced, length_of_front, last_end_le}
+use Rattle.stream_spec.proofs.Closing.{last_is, sent_closed, longest}
 use Rattle.text_sender.specs.declared.senders.SendConf.{SendConf}
 use Rattle.text_sender.specs.Confs.{IsConf, stream_of}
 use Rattle.text_sender.specs.Standing.{sent_by, waits_for, has_more, next_at, next_due_of, history_sent, primaries}
@@ -38,18 +38,19 @@ own conf past = sent_own (stream_of conf) (sents (sent_by conf past))
 
 pub own_packets : (conf : SendConf) (past : List Event) (t : ℕ) → due_at (stream_of conf) conf.interval past t ≡ true
     → (x : Placed) × In x (placed (history_sent conf (Ask t ∷ past))) × (x.place ≡ length (sent_by conf past))
-      × (packet_at (stream_of conf) conf.interval past t ≡ Some (own_packet (history_sent conf (Ask t ∷ past)) x))
+    × (packet_at (stream_of conf) conf.interval past t ≡ Some (own_packet (history_sent conf (Ask t ∷ past)) x))
 own_packets conf past t d =
     let c = stream_of conf in
     let es = sent_by conf past in
     let e = next_entry conf past t in
     let more = entries_more c conf.interval past t d in
     let l = last_is c (sents es) e.sent in
-    let x = the_last c (sents es) e.sent in
-    (x,
+    let x = the_last c (sents es) e.sent in (
+      x,
       subst (λ (fs : List Turned). In x (placed (sent_history c (sents fs)))) (sym more) l.is_in,
       l.place ∙ length_sents es,
-      ap (λ b. cond b (Some (packet_after c (sents es) e.sent)) None) d ∙ (ap (λ p. Some p) (sym l.packet) ∙ ap (λ (fs : List Turned). Some (own_packet (sent_history c (sents fs)) x)) (sym more)))
+      ap (λ b. cond b (Some (packet_after c (sents es) e.sent)) None) d ∙ (ap (λ p. Some p) (sym l.packet) ∙ ap (λ (fs : List Turned). Some (own_packet (sent_history c (sents fs)) x)) (sym more)),
+    )
 
 or_none : (a b : Bool) → (a || b) ≡ false → (a ≡ false) × (b ≡ false)
 or_none true b h = cc h
@@ -70,7 +71,7 @@ end_closed conf past k s h =
     let p = paced (stream_of conf) conf.interval past refl (let l = k.least in omega arith) s in
     sent_closed (stream_of conf) (sents (sent_by conf past))
     (λ z i. let q = in_sent_of conf.ssrc (sents (sent_by conf past)) z (subst (λ (zs : List Sent). In z zs) (sym p.own) i) in
-      ap (λ m. has_text_in 2 (sent_of m (sents (sent_by conf past)))) q.1 ∙ (ap (λ (zs : List Sent). has_text_in 2 zs) p.own ∙ n.1))
+    ap (λ m. has_text_in 2 (sent_of m (sents (sent_by conf past)))) q.1 ∙ (ap (λ (zs : List Sent). has_text_in 2 zs) p.own ∙ n.1))
 
 passed_from : (interval : ℕ) (es : List Turned) (m t : ℕ) → next_at interval es ≡ Some m → has_passed interval es t ≡ nat_le m t
 passed_from interval [] m t e = cc e

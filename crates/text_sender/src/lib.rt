@@ -6,5 +6,11 @@ mod senders;
 mod waiting;
 mod writing;
 
-pub use laws::{all_is_sent_in_order, due_from_next, end_is_closed, front_is_longest, history_is_lawful, packets_are_own};
+pub use laws::{
+    all_is_sent_in_order, due_from_next, end_is_closed, front_is_longest, history_is_lawful,
+    packets_are_own,
+};
 pub use senders::{SendConf, Sender};
+
+#[cfg(test)]
+mod tests;

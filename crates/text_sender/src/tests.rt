@@ -1,0 +1,143 @@
+ghost use Rattle.text_sender.specs.Confs.{IsConf};
+
+use crate::{SendConf, Sender};
+use rtt_base::{Packet, Pts};
+use std::process::Abort;
+use std::test::Fail;
+
+fn conf() -> SendConf
+    ensures { IsConf result }
+{
+    SendConf {
+        ssrc: 1001,
+        seq: 0,
+        stamp: 0,
+        pts: Pts { t140: 98, red: 100 },
+        interval: 300,
+    }
+}
+
+/// The packet is there and has these octets.
+fn expect_octets(rt: &impl Abort, packet: &Option<Packet>, octets: &[u8]) {
+    match packet {
+        Some(packet) => assert!(rt; packet.as_slice() == octets),
+        None => panic!(rt; "no packet is due"),
+    }
+}
+
+/// The packet is there, and these octets are its primary text, behind redundant texts of so many octets together.
+fn expect_primary(rt: &impl Abort, packet: &Option<Packet>, repeated: usize, primary: &[u8]) {
+    match packet {
+        Some(packet) => {
+            let octets = packet.as_slice();
+            let place = repeated.saturating_add(21);
+            assert_eq!(rt; octets.len(), place.saturating_add(primary.len()));
+            let end = octets.get(place..);
+            assert!(rt; end == Some(primary));
+        }
+        None => panic!(rt; "no packet is due"),
+    }
+}
+
+#[test]
+fn two_letters_are_each_repeated_twice(rt: HostRuntime) -> Result<(), Fail> {
+    let mut sender = Sender::new(rt.alloc(), conf())?;
+    assert!(rt; sender.turn(0).is_none());
+    assert_eq!(rt; sender.next_due(), None);
+    sender.typed("A".as_bytes())?;
+    assert!(rt; sender.due(0));
+    let first = sender.turn(0);
+    expect_octets(
+        &rt,
+        &first,
+        b"\x80\xE4\x00\x00\x00\x00\x00\x00\x00\x00\x03\xE9\xE2\xFF\xFC\x00\xE2\xFF\xFC\x00\x62\x41",
+    );
+    assert_eq!(rt; sender.next_due(), Some(300));
+    assert!(rt; sender.turn(299).is_none());
+    sender.typed("B".as_bytes())?;
+    let second = sender.turn(300);
+    expect_octets(
+        &rt,
+        &second,
+        b"\x80\x64\x00\x01\x00\x00\x01\x2C\x00\x00\x03\xE9\xE2\xFF\xFC\x00\xE2\x04\xB0\x01\x62\x41\x42",
+    );
+    let third = sender.turn(600);
+    expect_octets(
+        &rt,
+        &third,
+        b"\x80\x64\x00\x02\x00\x00\x02\x58\x00\x00\x03\xE9\xE2\x09\x60\x01\xE2\x04\xB0\x01\x62\x41\x42",
+    );
+    let fourth = sender.turn(900);
+    expect_octets(
+        &rt,
+        &fourth,
+        b"\x80\x64\x00\x03\x00\x00\x03\x84\x00\x00\x03\xE9\xE2\x09\x60\x01\xE2\x04\xB0\x00\x62\x42",
+    );
+    assert_eq!(rt; sender.next_due(), None);
+    assert!(rt; sender.turn(1200).is_none());
+    Ok(())
+}
+
+/// This text, so often.
+fn times(rt: &HostRuntime, text: &str, count: usize) -> Result<String, Fail> {
+    let mut all = String::new(rt.alloc());
+    for _ in 0..count {
+        all.push_str(text)?;
+    }
+    Ok(all)
+}
+
+#[test]
+fn no_more_than_16384_octets_wait(rt: HostRuntime) -> Result<(), Fail> {
+    let mut sender = Sender::new(rt.alloc(), conf())?;
+    let line = times(&rt, "A", 1023)?;
+    let rest = times(&rt, "A", 16)?;
+    for _ in 0..16 {
+        sender.typed(line.as_str().as_bytes())?;
+    }
+    assert!(rt; sender.typed("AAAAAAAAAAAAAAAAA".as_bytes()).is_err());
+    sender.typed(rest.as_str().as_bytes())?;
+    assert!(rt; sender.typed("A".as_bytes()).is_err());
+    expect_primary(&rt, &sender.turn(0), 0, line.as_str().as_bytes());
+    sender.typed(line.as_str().as_bytes())?;
+    assert!(rt; sender.typed("A".as_bytes()).is_err());
+    Ok(())
+}
+
+#[test]
+fn no_character_is_cut_between_two_packets(rt: HostRuntime) -> Result<(), Fail> {
+    let mut sender = Sender::new(rt.alloc(), conf())?;
+    let euros = times(&rt, "€", 341)?;
+    sender.typed("A".as_bytes())?;
+    sender.typed(euros.as_str().as_bytes())?;
+    let front = times(&rt, "€", 340)?;
+    let mut first = String::new(rt.alloc());
+    first.push_str("A")?;
+    first.push_str(front.as_str())?;
+    expect_primary(&rt, &sender.turn(0), 0, first.as_str().as_bytes());
+    expect_primary(&rt, &sender.turn(300), 1021, "€".as_bytes());
+    Ok(())
+}
+
+#[test]
+fn the_media_time_goes_on_by_8000_at_most_while_text_is_repeated(
+    rt: HostRuntime,
+) -> Result<(), Fail> {
+    let mut sender = Sender::new(rt.alloc(), conf())?;
+    sender.typed("A".as_bytes())?;
+    assert!(rt; sender.turn(0).is_some());
+    let second = sender.turn(100000);
+    expect_octets(
+        &rt,
+        &second,
+        b"\x80\x64\x00\x01\x00\x00\x1F\x40\x00\x00\x03\xE9\xE2\xFF\xFC\x00\xE2\x7D\x00\x01\x62\x41",
+    );
+    let third = sender.turn(200000);
+    expect_octets(
+        &rt,
+        &third,
+        b"\x80\x64\x00\x02\x00\x00\x3E\x80\x00\x00\x03\xE9\xE2\xFA\x00\x01\xE2\x7D\x00\x00\x62\x41",
+    );
+    assert_eq!(rt; sender.next_due(), None);
+    Ok(())
+}
