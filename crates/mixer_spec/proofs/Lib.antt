@@ -12,3 +12,6 @@ pub mod Turns
 pub mod After
 pub mod Final
 pub mod Served
+pub mod Carries
+pub mod Closed
+pub mod Ends
