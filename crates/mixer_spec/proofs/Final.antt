@@ -2,15 +2,28 @@
 use Rattle.std.proofs.Common.{◌≡◌, ℕ, zero, suc, ◌+◌, ◌-◌, ◌*◌, ◌^◌, ◌<◌, ◌≤◌, Bool, true, false, ◌⊎◌, inl, inr, Option, Some, None, List, [], ◌∷◌, ◌++◌, refl, ap, subst, sym, ◌∙◌, arith}
 use Rattle.rtt_base.specs.declared.records.Chunk.{Chunk}
 use Rattle.stream_spec.specs.History.{Lawful, Placed, Come}
-use Rattle.stream_spec.specs.Own.{Own, has_text_in, come_from, NearEach}
+use Rattle.stream_spec.specs.Own.{Own, Sent, Closed, sent_of, has_text_in, come_from, NearEach}
 use Rattle.stream_spec.proofs.Sent.{sent_own}
 use Rattle.stream_spec.proofs.OwnPackets.{own_come}
 use Rattle.mixer_spec.specs.Setups.{Setup, IsSetup, stream, gap}
 use Rattle.mixer_spec.specs.Table.{Mixed, Terminal, Table, sents, history, sent_by, last_media, rank}
 use Rattle.mixer_spec.specs.Core.{Event, after, turns_in}
-use Rattle.mixer_spec.specs.Laws.{AreTexts, Tight}
-use Rattle.mixer_spec.proofs.Paced.{Spaced, is_lawful}
+use Rattle.mixer_spec.specs.Laws.{AreTexts, Tight, carried}
+use Rattle.mixer_spec.specs.Chunks.{texts_of}
+use Rattle.mixer_spec.specs.Legs.{left}
+use Rattle.mixer_spec.specs.Plain.{Desk, is_over, plain}
+use Rattle.stream_spec.specs.Lists.{In}
+use Rattle.stream_spec.specs.Carries.{Carries, CarriesFront}
+use Rattle.std.proofs.Math.Nat.{mul-le-mul_left}
+use Rattle.mixer_spec.proofs.Paced.{window, Spaced, Timed, is_lawful, sent_in}
 use Rattle.mixer_spec.proofs.After.{core_good}
+use Rattle.mixer_spec.proofs.Lists.{nil}
+use Rattle.mixer_spec.proofs.Legs.{in_order}
+use Rattle.mixer_spec.proofs.Kept.{core_kept}
+use Rattle.mixer_spec.proofs.Texts.{texts_left}
+use Rattle.mixer_spec.proofs.Carries.{carries_by}
+use Rattle.mixer_spec.proofs.Closed.{is_closed}
+use Rattle.mixer_spec.proofs.Ends.{plainly_over, sound_over, carried_whole, no_window, no_mixer_window}
 
 -- the history of the terminal j after these events
 abbrev history_after : Setup → (ℕ → List Chunk) → List Event → ℕ → List Mixed
@@ -42,3 +55,52 @@ spacing_law s chunks past j i t m is a aw lj li n e d l =
 
 pub near_law : (s : Setup) (chunks : ℕ → List Chunk) (past : List Event) (j x : ℕ) → IsSetup s → ((i : ℕ) → AreTexts (chunks i)) → j < s.legs → Tight (s.gens j) (gap s) (sent_by x ((after s chunks past).table.terminals j))
 near_law s chunks past j x is a lj = ((core_good s is chunks a past).timed j lj).paced.tight x
+
+pub front_law : (s : Setup) (chunks : ℕ → List Chunk) (past : List Event) (j i : ℕ) → IsSetup s → ((i : ℕ) → AreTexts (chunks i)) → s.aware j ≡ true → j < s.legs → i < s.legs → (i ≡ j → ⊥)
+    → let w = after s chunks past in
+    CarriesFront (history s j (w.table.terminals j).past) (s.ssrc i) (texts_of (w.legs i).taken) (texts_of ((w.table.terminals j).waits i))
+front_law s chunks past j i is a aw lj li n =
+    let w = after s chunks past in
+    let t = (core_good s is chunks a past).timed j lj in
+    carries_by s is (s.gens j) j i (w.table.terminals j).past (w.legs i).taken ((w.table.terminals j).waits i) li (λ e k. (t.paced.texts e k).0) (t.aware aw).own
+    (texts_left (w.legs i).taken (left (w.legs i)) (subst AreTexts (sym (in_order s chunks past i)) (a i))) (core_kept s chunks past j i n)
+
+-- ---- at the end of plain mixing
+pub all_law : (s : Setup) (chunks : ℕ → List Chunk) (tick turns j i : ℕ) (table : Table) → j < s.legs → i < s.legs → (i ≡ j → ⊥) → plain s tick turns chunks ≡ Some table → carried i (table.terminals j).past ≡ chunks i
+all_law s chunks tick turns j i table lj li n e =
+    let o = plainly_over s chunks tick turns table e in
+    subst (λ (t : Table). carried i (t.terminals j).past ≡ chunks i) o.is (carried_whole s chunks o.desk j i o.holds o.over lj li n)
+
+pub whole_law : (s : Setup) (chunks : ℕ → List Chunk) (tick turns j i : ℕ) (table : Table) → IsSetup s → ((i : ℕ) → AreTexts (chunks i)) → s.aware j ≡ true → j < s.legs → i < s.legs → (i ≡ j → ⊥)
+    → plain s tick turns chunks ≡ Some table → Carries (history s j (table.terminals j).past) (s.ssrc i) (texts_of (chunks i))
+whole_law s chunks tick turns j i table is a aw lj li n e =
+    let o = sound_over s is chunks a tick turns table e in
+    let t : Timed s j o.made table.media (table.terminals j).past = subst (λ (x : Table). Timed s j o.made x.media (x.terminals j).past) o.is (o.holds.good.timed j lj) in
+    carries_by s is (s.gens j) j i (table.terminals j).past (chunks i) [] li (λ x k. (t.paced.texts x k).0) (t.aware aw).own (a i)
+    (nil (carried i (table.terminals j).past) ∙ all_law s chunks tick turns j i table lj li n e)
+
+pub end_lawful : (s : Setup) (chunks : ℕ → List Chunk) (tick turns j : ℕ) (table : Table) → IsSetup s → ((i : ℕ) → AreTexts (chunks i)) → s.step * turns < 2 ^ 31 → j < s.legs
+    → plain s tick turns chunks ≡ Some table → Lawful (history s j (table.terminals j).past)
+end_lawful s chunks tick turns j table is a b lj e =
+    let o = sound_over s is chunks a tick turns table e in
+    let up : s.step * o.made ≤ s.step * turns = mul-le-mul_left s.step o.enough in
+    subst (λ (x : Table). Lawful (history s j (x.terminals j).past)) o.is (is_lawful s is j o.made o.desk.table.media (o.desk.table.terminals j).past (omega (arith, up, b)) (o.holds.good.timed j lj).paced)
+
+pub end_own : (s : Setup) (j : ℕ) (past : List Mixed) → Own (s.gens j) (history s j past)
+end_own s j past = sent_own (stream s j) (sents past)
+
+pub end_closed : (s : Setup) (chunks : ℕ → List Chunk) (tick turns j : ℕ) (table : Table) → IsSetup s → ((i : ℕ) → AreTexts (chunks i)) → j < s.legs
+    → plain s tick turns chunks ≡ Some table → Closed (s.gens j) (history s j (table.terminals j).past)
+end_closed s chunks tick turns j table is a lj e =
+    let o = sound_over s is chunks a tick turns table e in
+    subst (λ (x : Table). Closed (s.gens j) (history s j (x.terminals j).past)) o.is
+    (is_closed (stream s j) (sents (o.desk.table.terminals j).past) (λ x k. let r = sent_in (o.desk.table.terminals j).past x k in
+    ap (λ (y : Sent). has_text_in (s.gens j) (sent_of y.source (sents (o.desk.table.terminals j).past))) r.2
+    ∙ still o.desk o.made (s.aware j) refl (o.holds.good.timed j lj) o.over r.0 r.1))
+  where
+    still : (d : Desk) (k : ℕ) (b : Bool) → s.aware j ≡ b → Timed s j k d.table.media (d.table.terminals j).past → is_over s d ≡ true
+        → (p : Mixed) → In p (d.table.terminals j).past → window (s.gens j) p.sent.source (d.table.terminals j).past ≡ false
+    still d k true q t v p i =
+        let r = (t.aware q).own p i in
+        ap (λ (x : ℕ). window (s.gens j) x (d.table.terminals j).past) r.source ∙ no_window s d j p.leg v lj r.below r.other
+    still d k false q t v p i = ap (λ (x : ℕ). window (s.gens j) x (d.table.terminals j).past) ((t.unaware q).own p i) ∙ no_mixer_window s d j v lj

@@ -60,7 +60,7 @@ serve_keeps s now t i d (Some u) =
 abbrev pub IsFront : (ℕ → List Chunk) → Given → Type 0
 IsFront waits g = g.chunks ++ g.rest ≡ waits g.source
 
-begin_front : (s : Setup) (waits : ℕ → List Chunk) (asks : List Asked) (o : Option ℕ) (g : Given) → begin_with s waits asks o ≡ Some g → IsFront waits g
+begin_front : (s : Setup) (waits : ℕ → List Chunk) (asks : List Asked) (o : Option ℕ) (g : Given) → begin_with s.name waits asks o ≡ Some g → IsFront waits g
 begin_front s waits asks None g e = cc e
 begin_front s waits asks (Some u) g e = subst (IsFront waits) (some_is (begin_is u) g e) (front_behind (1023 - length (label_of u)) (waits u))
   where
@@ -73,7 +73,7 @@ begin_front s waits asks (Some u) g e = subst (IsFront waits) (some_is (begin_is
     some_is : (a b : Given) → Some a ≡ Some b → a ≡ b
     some_is a b e = cc e
 
-pub answer_front : (s : Setup) (own now : ℕ) (due : Bool) (waits : ℕ → List Chunk) (asks : List Asked) (g : Given) → answer s own now due waits asks ≡ Some g → IsFront waits g
+pub answer_front : (s : Setup) (own now : ℕ) (due : Bool) (waits : ℕ → List Chunk) (asks : List Asked) (g : Given) → answer s.legs s.name own now due waits asks ≡ Some g → IsFront waits g
 answer_front s own now false waits asks g e = cc e
 answer_front s own now true waits asks g e = from (latest asks) e
   where
@@ -81,13 +81,13 @@ answer_front s own now true waits asks g e = from (latest asks) e
     rest true c e = let same : gone_on waits (joined (run_of asks)) c ≡ g = cc e in subst (IsFront waits) same (front_behind 1023 (waits c))
     rest false c e = cc e
 
-    either : (b : Bool) (c : ℕ) → cond b (begin_with s waits asks (first_round (waits_here own waits) (suc c) s.legs)) (if has_chunk (waits c) then Some (gone_on waits (joined (run_of asks)) c) else None) ≡ Some g → IsFront waits g
+    either : (b : Bool) (c : ℕ) → cond b (begin_with s.name waits asks (first_round (waits_here own waits) (suc c) s.legs)) (if has_chunk (waits c) then Some (gone_on waits (joined (run_of asks)) c) else None) ≡ Some g → IsFront waits g
     either true c e = begin_front s waits asks (first_round (waits_here own waits) (suc c) s.legs) g e
     either false c e = rest (has_chunk (waits c)) c e
 
-    from : (o : Option Given) → answer_after s own now waits asks o ≡ Some g → IsFront waits g
+    from : (o : Option Given) → answer_after s.legs s.name own now waits asks o ≡ Some g → IsFront waits g
     from None e = begin_front s waits asks (first_round (waits_here own waits) 0 s.legs) g e
-    from (Some h) e = either (is_switch s own now waits asks h.source) h.source e
+    from (Some h) e = either (is_switch s.legs own now waits asks h.source) h.source e
 
 either_none : (b : Bool) → let none : List Chunk = [] in (if b then none else []) ≡ []
 either_none true = refl

@@ -15,3 +15,4 @@ pub mod Served
 pub mod Carries
 pub mod Closed
 pub mod Ends
+pub mod Offers

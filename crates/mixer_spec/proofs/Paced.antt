@@ -106,7 +106,7 @@ near g n (suc k) z (y ∷ ys) x t l i h =
     go (inr j) one m ih = let r = ih j in omega arith
 
 -- ---- each could be sent
-sent_in : (past : List Mixed) (x : Sent) → In x (sents past) → (e : Mixed) × In e past × (x ≡ e.sent)
+pub sent_in : (past : List Mixed) (x : Sent) → In x (sents past) → (e : Mixed) × In e past × (x ≡ e.sent)
 sent_in [] x i = absurd i
 sent_in (e ∷ past) x (inl q) = (e, inl refl, q)
 sent_in (e ∷ past) x (inr i) = let r = sent_in past x i in (r.0, inr r.1, r.2)

@@ -144,11 +144,11 @@ on_text waits a run c = (
   written_utf8 run (joined (front 1023 (waits c))) (front_utf8 1023 (waits c) (a c)),
 )
 
-pub answer_text : (s : Setup) → IsSetup s → (own now : ℕ) (due : Bool) (waits : ℕ → List Chunk) → ((i : ℕ) → AreTexts (waits i)) → (asks : List Asked) (g : Given) → answer s own now due waits asks ≡ Some g → IsText g.text
+pub answer_text : (s : Setup) → IsSetup s → (own now : ℕ) (due : Bool) (waits : ℕ → List Chunk) → ((i : ℕ) → AreTexts (waits i)) → (asks : List Asked) (g : Given) → answer s.legs s.name own now due waits asks ≡ Some g → IsText g.text
 answer_text s is own now false waits a asks g e = cc e
 answer_text s is own now true waits a asks g e = from (latest asks) e
   where
-    begins : (o : Option ℕ) → begin_with s waits asks o ≡ Some g → IsText g.text
+    begins : (o : Option ℕ) → begin_with s.name waits asks o ≡ Some g → IsText g.text
     begins None e = cc e
     begins (Some u) e =
         let same : begun waits (label_after (text_given (latest asks)) (s.name u)) u ≡ g = cc e in
@@ -158,10 +158,10 @@ answer_text s is own now true waits a asks g e = from (latest asks) e
     rest true c e = let same : gone_on waits (joined (run_of asks)) c ≡ g = cc e in subst (λ (x : Given). IsText x.text) same (on_text waits a (joined (run_of asks)) c)
     rest false c e = cc e
 
-    either : (b : Bool) (c : ℕ) → cond b (begin_with s waits asks (first_round (waits_here own waits) (suc c) s.legs)) (if has_chunk (waits c) then Some (gone_on waits (joined (run_of asks)) c) else None) ≡ Some g → IsText g.text
+    either : (b : Bool) (c : ℕ) → cond b (begin_with s.name waits asks (first_round (waits_here own waits) (suc c) s.legs)) (if has_chunk (waits c) then Some (gone_on waits (joined (run_of asks)) c) else None) ≡ Some g → IsText g.text
     either true c e = begins (first_round (waits_here own waits) (suc c) s.legs) e
     either false c e = rest (has_chunk (waits c)) c e
 
-    from : (o : Option Given) → answer_after s own now waits asks o ≡ Some g → IsText g.text
+    from : (o : Option Given) → answer_after s.legs s.name own now waits asks o ≡ Some g → IsText g.text
     from None e = begins (first_round (waits_here own waits) 0 s.legs) e
-    from (Some h) e = either (is_switch s own now waits asks h.source) h.source e
+    from (Some h) e = either (is_switch s.legs own now waits asks h.source) h.source e

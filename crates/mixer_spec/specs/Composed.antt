@@ -8,7 +8,6 @@ use Rattle.text_spec.specs.Shown.{signs, survivors}
 use Rattle.text_spec.specs.Views.{label_after}
 use Rattle.mixer_spec.specs.Chunks.{joined, has_chunk, front, behind}
 use Rattle.mixer_spec.specs.Rounds.{first_round, or_else, any_below}
-use Rattle.mixer_spec.specs.Setups.{Setup}
 
 -- an answer: a speaker, whether a run begins with it, its chunks, what of it still waits then, and the text
 pub record Given : Type 0 where
@@ -88,13 +87,13 @@ ends_turn text = ends_line text || ends_sentence text
 
 -- Whether the current speaker c is left: the run has a chunk, another speaker waits, and the run's text ends a line
 -- or a sentence, or nothing of c waits and it was given 2000 ms ago, or another one has waited for 7000 ms.
-abbrev pub is_switch : Setup → ℕ → ℕ → (ℕ → List Chunk) → List Asked → ℕ → Bool
-is_switch setup own now waits asks c =
+abbrev pub is_switch : ℕ → ℕ → ℕ → (ℕ → List Chunk) → List Asked → ℕ → Bool
+is_switch legs own now waits asks c =
     has_chunk (run_of asks)
-    && (any_below (λ s. not (s == c) && waits_here own waits s) setup.legs
+    && (any_below (λ s. not (s == c) && waits_here own waits s) legs
     && (ends_turn (joined (run_of asks))
     || ((not (has_chunk (waits c)) && is_ago 2000 now (given_at c asks))
-    || any_below (λ s. not (s == c) && (waits_here own waits s && is_ago 7000 now (since s asks))) setup.legs)))
+    || any_below (λ s. not (s == c) && (waits_here own waits s && is_ago 7000 now (since s asks))) legs)))
 
 -- a new run of s: the label, and the chunks that fit beside it
 abbrev pub begun : (ℕ → List Chunk) → List ℕ → ℕ → Given
@@ -116,18 +115,19 @@ gone_on waits run c = record {
   text = written run (joined (front 1023 (waits c)));
 }
 
-abbrev pub begin_with : Setup → (ℕ → List Chunk) → List Asked → Option ℕ → Option Given
-begin_with setup waits asks None = None
-begin_with setup waits asks (Some s) = Some (begun waits (label_after (text_given (latest asks)) (setup.name s)) s)
+abbrev pub begin_with : (ℕ → List ℕ) → (ℕ → List Chunk) → List Asked → Option ℕ → Option Given
+begin_with name waits asks None = None
+begin_with name waits asks (Some s) = Some (begun waits (label_after (text_given (latest asks)) (name s)) s)
 
 -- the first speaker in leg order that waits, or the next one after the current one, or the current one
-abbrev pub answer_after : Setup → ℕ → ℕ → (ℕ → List Chunk) → List Asked → Option Given → Option Given
-answer_after setup own now waits asks None = begin_with setup waits asks (first_round (waits_here own waits) 0 setup.legs)
-answer_after setup own now waits asks (Some g) =
-    if is_switch setup own now waits asks g.source
-    then begin_with setup waits asks (first_round (waits_here own waits) (suc g.source) setup.legs)
+abbrev pub answer_after : ℕ → (ℕ → List ℕ) → ℕ → ℕ → (ℕ → List Chunk) → List Asked → Option Given → Option Given
+answer_after legs name own now waits asks None = begin_with name waits asks (first_round (waits_here own waits) 0 legs)
+answer_after legs name own now waits asks (Some g) =
+    if is_switch legs own now waits asks g.source
+    then begin_with name waits asks (first_round (waits_here own waits) (suc g.source) legs)
     else (if has_chunk (waits g.source) then Some (gone_on waits (joined (run_of asks)) g.source) else None)
 
--- what the composer of the terminal `own` gives at the media time now, where `due` says whether text may be given
-abbrev pub answer : Setup → ℕ → ℕ → Bool → (ℕ → List Chunk) → List Asked → Option Given
-answer setup own now due waits asks = if due then answer_after setup own now waits asks (latest asks) else None
+-- What the composer of the terminal `own` gives at the media time now, where there are so many legs with these names;
+-- `due` says whether text may be given.
+abbrev pub answer : ℕ → (ℕ → List ℕ) → ℕ → ℕ → Bool → (ℕ → List Chunk) → List Asked → Option Given
+answer legs name own now due waits asks = if due then answer_after legs name own now waits asks (latest asks) else None

@@ -1,9 +1,10 @@
 -- Words of the laws on the mixer: what was sent of a leg, chunks that are texts, and how often a leg was served.
-use Rattle.std.specs.Prelude.{◌≡◌, ℕ, ◌+◌, ◌<◌, ◌≤◌, ◌==◌, true, Some, List, [], ◌∷◌, ◌++◌, if◌then◌else◌, IsUtf8}
+use Rattle.std.specs.Prelude.{◌≡◌, ℕ, zero, suc, ◌+◌, ◌<◌, ◌≤◌, ◌==◌, true, Some, List, [], ◌∷◌, ◌++◌, if◌then◌else◌, IsUtf8}
 use Rattle.rtt_base.specs.declared.records.Chunk.{Chunk}
 use Rattle.wire_spec.specs.Packets.{has_text}
 use Rattle.stream_spec.specs.Own.{Sent, has_text_in}
 use Rattle.mixer_spec.specs.Table.{Mixed, last_media}
+use Rattle.mixer_spec.specs.Core.{Event, Push, Take}
 
 -- the chunks of a leg that were sent, in order
 abbrev pub carried : ℕ → List Mixed → List Chunk
@@ -25,3 +26,8 @@ Tight g n (z ∷ zs) = ((m : ℕ) → has_text_in g zs ≡ true → last_media z
 abbrev pub AreTexts : List Chunk → Type 0
 AreTexts [] = Unit {0}
 AreTexts (c ∷ cs) = (has_text c.text ≡ true) × IsUtf8 c.text × AreTexts cs
+
+-- n times a Push and a Take of the leg i at the moment t
+abbrev pub moves : ℕ → ℕ → ℕ → List Event
+moves i t zero = []
+moves i t (suc n) = Take i t ∷ Push i ∷ moves i t n

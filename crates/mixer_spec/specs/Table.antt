@@ -130,7 +130,7 @@ abbrev pub is_asked : Setup → ℕ → Terminal → Bool
 is_asked s t d = is_spaced s.spacing t (last_media (sent_by s.mixer d))
 
 abbrev pub answer_at : Setup → ℕ → ℕ → Terminal → Option Given
-answer_at s j t d = answer s j t (is_asked s t d) d.waits d.asks
+answer_at s j t d = answer s.legs s.name j t (is_asked s t d) d.waits d.asks
 
 abbrev pub asked_at : ℕ → Terminal → Option Given → List Asked
 asked_at t d o = record { media = t; waiting = λ i. has_chunk (d.waits i); given = o } ∷ d.asks

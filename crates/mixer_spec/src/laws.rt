@@ -2,11 +2,14 @@
 ghost use Rattle.std.specs.Prelude.{◌≡◌, ◌<◌, ◌≤◌, ◌+◌, ◌-◌, ◌*◌, ◌^◌, ◌⊎◌, ℕ, List, Bool, Option, Some, ◌∷◌, ◌++◌, suc};
 ghost use Rattle.rtt_base.specs.declared.records.Chunk.{Chunk};
 ghost use Rattle.stream_spec.specs.History.{Come, Lawful, Placed};
-ghost use Rattle.stream_spec.specs.Own.{NearEach, Own, come_from, has_text_in};
+ghost use Rattle.stream_spec.specs.Carries.{Carries, CarriesFront};
+ghost use Rattle.stream_spec.specs.Own.{Closed, NearEach, Own, come_from, has_text_in};
+ghost use Rattle.mixer_spec.specs.Chunks.{texts_of};
 ghost use Rattle.mixer_spec.specs.Setups.{IsSetup, Setup, gap};
-ghost use Rattle.mixer_spec.specs.Table.{history, is_due, last_media, next_media, rank, sent_by};
+ghost use Rattle.mixer_spec.specs.Table.{Mixed, Table, history, is_due, last_media, next_media, rank, sent_by};
 ghost use Rattle.mixer_spec.specs.Legs.{all_of};
 ghost use Rattle.mixer_spec.specs.Core.{Event, Turn, after, turns_in};
+ghost use Rattle.mixer_spec.specs.Plain.{plain};
 ghost use Rattle.mixer_spec.specs.Laws.{AreTexts, Tight, carried, count_of};
 
 /// A leg's chunks stay in order: taken, in the hand, in the queue, still to push.
@@ -60,4 +63,25 @@ pub fn due_is_served()
         let v = (after s chunks (es ++ Turn now ∷ before)).table in
         is_due s j (next_media s.step w.media now) (w.terminals j) i ≡ Bool.true
         → (count_of i (w.terminals j).past < count_of i (v.terminals j).past) ⊎ (suc (turns_in es) + rank s j (v.terminals j).past i ≤ rank s j (w.terminals j).past i) }
+{}
+
+/// At an aware terminal the entries of a leg carry a front of what was taken of it, and the rest waits there.
+pub fn front_is_carried()
+    ensures { (s : Setup) (chunks : ℕ → List Chunk) (past : List Event) (j i : ℕ) → IsSetup s → ((i : ℕ) → AreTexts (chunks i)) → s.aware j ≡ Bool.true → j < s.legs → i < s.legs → (i ≡ j → ⊥)
+        → let w = after s chunks past in
+        CarriesFront (history s j (w.table.terminals j).past) (s.ssrc i) (texts_of (w.legs i).taken) (texts_of ((w.table.terminals j).waits i)) }
+{}
+
+/// Where plain mixing is over, all text was carried, in order, and each text was repeated as often as it is to be.
+pub fn plain_carries_all()
+    // The chunks of each leg, at each other terminal, aware or not.
+    ensures chunks { (s : Setup) (chunks : ℕ → List Chunk) (tick turns j i : ℕ) (table : Table) → j < s.legs → i < s.legs → (i ≡ j → ⊥)
+        → plain s tick turns chunks ≡ Some table → carried i (table.terminals j).past ≡ chunks i }
+    ensures texts { (s : Setup) (chunks : ℕ → List Chunk) (tick turns j i : ℕ) (table : Table) → IsSetup s → ((i : ℕ) → AreTexts (chunks i)) → s.aware j ≡ Bool.true → j < s.legs → i < s.legs → (i ≡ j → ⊥)
+        → plain s tick turns chunks ≡ Some table → Carries (history s j (table.terminals j).past) (s.ssrc i) (texts_of (chunks i)) }
+    ensures lawful { (s : Setup) (chunks : ℕ → List Chunk) (tick turns j : ℕ) (table : Table) → IsSetup s → ((i : ℕ) → AreTexts (chunks i)) → s.step * turns < 2 ^ 31 → j < s.legs
+        → plain s tick turns chunks ≡ Some table → Lawful (history s j (table.terminals j).past) }
+    ensures own { (s : Setup) (j : ℕ) (past : List Mixed) → Own (s.gens j) (history s j past) }
+    ensures closed { (s : Setup) (chunks : ℕ → List Chunk) (tick turns j : ℕ) (table : Table) → IsSetup s → ((i : ℕ) → AreTexts (chunks i)) → j < s.legs
+        → plain s tick turns chunks ≡ Some table → Closed (s.gens j) (history s j (table.terminals j).past) }
 {}

@@ -4,6 +4,6 @@
 mod laws;
 
 pub use laws::{
-    chunks_are_kept, chunks_in_order, due_is_served, histories_are_lawful, packets_are_near,
-    waits_are_short,
+    chunks_are_kept, chunks_in_order, due_is_served, front_is_carried, histories_are_lawful,
+    packets_are_near, plain_carries_all, waits_are_short,
 };
