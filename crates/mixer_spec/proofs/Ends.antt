@@ -122,7 +122,7 @@ pub record Over (s : Setup) (P : ℕ → Desk → Type 0) (turns : ℕ) (table :
 abbrev after_turn : Setup → ℕ → Desk → Desk
 after_turn s now v = record { left = v.left; table = turned s now v.table }
 
-over_from : (s : Setup) (P : ℕ → Desk → Type 0) → ((k t : ℕ) (d : Desk) → P k d → P k (offers_below s t s.legs d)) → ((k now : ℕ) (d : Desk) → P k d → P (suc k) (record { left = d.left; table = turned s now d.table }))
+pub over_from : (s : Setup) (P : ℕ → Desk → Type 0) → ((k t : ℕ) (d : Desk) → P k d → P k (offers_below s t s.legs d)) → ((k now : ℕ) (d : Desk) → P k d → P (suc k) (record { left = d.left; table = turned s now d.table }))
     → (tick n k : ℕ) (d : Desk) (table : Table) → P k d → plain_from s tick n k d ≡ Some table → Over s P (k + n) table
 over_from s P offer turn tick zero k d table p e = go (is_over s (offers_below s (k * tick) s.legs d)) refl e
   where
@@ -177,7 +177,7 @@ quiet_parts s j i d e l n = elim (or_cases (i == j) (not (has_work s j d i)) (be
 quiet_at : (s : Setup) (d : Desk) (j : ℕ) → is_over s d ≡ true → j < s.legs → is_quiet s j (d.table.terminals j) ≡ true
 quiet_at s d j e lj = below_all (λ j. is_quiet s j (d.table.terminals j)) s.legs j (and_parts (all_below (λ i. not (has_chunk (d.left i))) s.legs) (all_below (λ j. is_quiet s j (d.table.terminals j)) s.legs) e).1 lj
 
-nothing_left : (s : Setup) (d : Desk) (i : ℕ) → is_over s d ≡ true → i < s.legs → d.left i ≡ []
+pub nothing_left : (s : Setup) (d : Desk) (i : ℕ) → is_over s d ≡ true → i < s.legs → d.left i ≡ []
 nothing_left s d i e li = none_left (d.left i) (not-true (has_chunk (d.left i)) (below_all (λ i. not (has_chunk (d.left i))) s.legs i (and_parts (all_below (λ i. not (has_chunk (d.left i))) s.legs) (all_below (λ j. is_quiet s j (d.table.terminals j)) s.legs) e).0 li))
 
 -- all chunks of a leg are carried, at each other terminal

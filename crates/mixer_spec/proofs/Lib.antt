@@ -16,3 +16,4 @@ pub mod Carries
 pub mod Closed
 pub mod Ends
 pub mod Offers
+pub mod Runs

@@ -214,3 +214,15 @@ offered_after s i t (suc n) w l = by (ready (w.legs i)).hand refl (offered_after
 -- as often as the leg can move, or more often
 pub moves_offer : (s : Setup) (i t n : ℕ) (w : Core) → length (left (w.legs i)) ≤ n → Offered s i t w (after_from s w (moves i t n))
 moves_offer s i t n w l = subst (Offered s i t w) (sym (moves_are s i t n w)) (offered_after s i t n w l)
+
+pub left_law : (s : Setup) (w : Core) (i t n : ℕ) → length (left (w.legs i)) ≤ n → left ((after_from s w (moves i t n)).legs i) ≡ left_over s i t w.table (left (w.legs i))
+left_law s w i t n l = (moves_offer s i t n w l).rest
+
+pub taken_law : (s : Setup) (w : Core) (i t n : ℕ) → length (left (w.legs i)) ≤ n → ((after_from s w (moves i t n)).legs i).taken ≡ (w.legs i).taken ++ taken s i t w.table (left (w.legs i))
+taken_law s w i t n l = (moves_offer s i t n w l).took
+
+pub table_law : (s : Setup) (w : Core) (i t n : ℕ) → length (left (w.legs i)) ≤ n → (after_from s w (moves i t n)).table ≡ table_after s i t w.table (left (w.legs i))
+table_law s w i t n l = (moves_offer s i t n w l).table
+
+pub others_law : (s : Setup) (w : Core) (i t n x : ℕ) → length (left (w.legs i)) ≤ n → (x ≡ i → ⊥) → (after_from s w (moves i t n)).legs x ≡ w.legs x
+others_law s w i t n x l ne = (moves_offer s i t n w l).others x ne

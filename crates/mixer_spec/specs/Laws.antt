@@ -3,8 +3,9 @@ use Rattle.std.specs.Prelude.{◌≡◌, ℕ, zero, suc, ◌+◌, ◌<◌, ◌�
 use Rattle.rtt_base.specs.declared.records.Chunk.{Chunk}
 use Rattle.wire_spec.specs.Packets.{has_text}
 use Rattle.stream_spec.specs.Own.{Sent, has_text_in}
-use Rattle.mixer_spec.specs.Table.{Mixed, last_media}
-use Rattle.mixer_spec.specs.Core.{Event, Push, Take}
+use Rattle.mixer_spec.specs.Setups.{Setup}
+use Rattle.mixer_spec.specs.Table.{Mixed, Table, last_media}
+use Rattle.mixer_spec.specs.Core.{Event, Push, Take, after, turns_in}
 
 -- the chunks of a leg that were sent, in order
 abbrev pub carried : ℕ → List Mixed → List Chunk
@@ -31,3 +32,10 @@ AreTexts (c ∷ cs) = (has_text c.text ≡ true) × IsUtf8 c.text × AreTexts cs
 abbrev pub moves : ℕ → ℕ → ℕ → List Event
 moves i t zero = []
 moves i t (suc n) = Take i t ∷ Push i ∷ moves i t n
+
+-- Events that lead to the table, with at most so many turns, and after which all chunks were taken.
+pub record IsRun (s : Setup) (chunks : ℕ → List Chunk) (turns : ℕ) (table : Table) : Type 0 where
+  pub past : List Event
+  pub few : turns_in past ≤ turns
+  pub leads : (after s chunks past).table ≡ table
+  pub all : (i : ℕ) → i < s.legs → ((after s chunks past).legs i).taken ≡ chunks i

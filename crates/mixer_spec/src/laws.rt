@@ -1,5 +1,5 @@
 //! The laws of the mixer: what holds after every list of events, and at the end of plain mixing.
-ghost use Rattle.std.specs.Prelude.{◌≡◌, ◌<◌, ◌≤◌, ◌+◌, ◌-◌, ◌*◌, ◌^◌, ◌⊎◌, ℕ, List, Bool, Option, Some, ◌∷◌, ◌++◌, suc};
+ghost use Rattle.std.specs.Prelude.{◌≡◌, ◌<◌, ◌≤◌, ◌+◌, ◌-◌, ◌*◌, ◌^◌, ◌⊎◌, ℕ, List, Bool, Option, Some, ◌∷◌, ◌++◌, suc, length};
 ghost use Rattle.rtt_base.specs.declared.records.Chunk.{Chunk};
 ghost use Rattle.stream_spec.specs.History.{Come, Lawful, Placed};
 ghost use Rattle.stream_spec.specs.Carries.{Carries, CarriesFront};
@@ -7,10 +7,10 @@ ghost use Rattle.stream_spec.specs.Own.{Closed, NearEach, Own, come_from, has_te
 ghost use Rattle.mixer_spec.specs.Chunks.{texts_of};
 ghost use Rattle.mixer_spec.specs.Setups.{IsSetup, Setup, gap};
 ghost use Rattle.mixer_spec.specs.Table.{Mixed, Table, history, is_due, last_media, next_media, rank, sent_by};
-ghost use Rattle.mixer_spec.specs.Legs.{all_of};
-ghost use Rattle.mixer_spec.specs.Core.{Event, Turn, after, turns_in};
-ghost use Rattle.mixer_spec.specs.Plain.{plain};
-ghost use Rattle.mixer_spec.specs.Laws.{AreTexts, Tight, carried, count_of};
+ghost use Rattle.mixer_spec.specs.Legs.{all_of, left};
+ghost use Rattle.mixer_spec.specs.Core.{Core, Event, Turn, after, after_from, turns_in};
+ghost use Rattle.mixer_spec.specs.Plain.{left_over, plain, table_after, taken};
+ghost use Rattle.mixer_spec.specs.Laws.{AreTexts, IsRun, Tight, carried, count_of, moves};
 
 /// A leg's chunks stay in order: taken, in the hand, in the queue, still to push.
 pub fn chunks_in_order()
@@ -84,4 +84,14 @@ pub fn plain_carries_all()
     ensures own { (s : Setup) (j : ℕ) (past : List Mixed) → Own (s.gens j) (history s j past) }
     ensures closed { (s : Setup) (chunks : ℕ → List Chunk) (tick turns j : ℕ) (table : Table) → IsSetup s → ((i : ℕ) → AreTexts (chunks i)) → j < s.legs
         → plain s tick turns chunks ≡ Some table → Closed (s.gens j) (history s j (table.terminals j).past) }
+{}
+
+/// Pushing and taking at one moment, as often as a leg can move or more often, does what offering its chunks in order
+/// does, so plain mixing is a run of the core.
+pub fn offers_are_moves()
+    ensures left { (s : Setup) (w : Core) (i t n : ℕ) → length (left (w.legs i)) ≤ n → left ((after_from s w (moves i t n)).legs i) ≡ left_over s i t w.table (left (w.legs i)) }
+    ensures taken { (s : Setup) (w : Core) (i t n : ℕ) → length (left (w.legs i)) ≤ n → ((after_from s w (moves i t n)).legs i).taken ≡ (w.legs i).taken ++ taken s i t w.table (left (w.legs i)) }
+    ensures table { (s : Setup) (w : Core) (i t n : ℕ) → length (left (w.legs i)) ≤ n → (after_from s w (moves i t n)).table ≡ table_after s i t w.table (left (w.legs i)) }
+    ensures others { (s : Setup) (w : Core) (i t n x : ℕ) → length (left (w.legs i)) ≤ n → (x ≡ i → ⊥) → (after_from s w (moves i t n)).legs x ≡ w.legs x }
+    ensures run { (s : Setup) (chunks : ℕ → List Chunk) (tick turns : ℕ) (table : Table) → plain s tick turns chunks ≡ Some table → IsRun s chunks turns table }
 {}
