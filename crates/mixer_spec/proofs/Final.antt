@@ -22,7 +22,7 @@ use Rattle.mixer_spec.proofs.Legs.{in_order}
 use Rattle.mixer_spec.proofs.Kept.{core_kept}
 use Rattle.mixer_spec.proofs.Texts.{texts_left}
 use Rattle.mixer_spec.proofs.Carries.{carries_by}
-use Rattle.mixer_spec.proofs.Closed.{is_closed}
+use Rattle.stream_spec.proofs.Closing.{sent_closed}
 use Rattle.mixer_spec.proofs.Ends.{plainly_over, sound_over, carried_whole, no_window, no_mixer_window}
 
 -- the history of the terminal j after these events
@@ -94,7 +94,7 @@ pub end_closed : (s : Setup) (chunks : ℕ → List Chunk) (tick turns j : ℕ) 
 end_closed s chunks tick turns j table is a lj e =
     let o = sound_over s is chunks a tick turns table e in
     subst (λ (x : Table). Closed (s.gens j) (history s j (x.terminals j).past)) o.is
-    (is_closed (stream s j) (sents (o.desk.table.terminals j).past) (λ x k. let r = sent_in (o.desk.table.terminals j).past x k in
+    (sent_closed (stream s j) (sents (o.desk.table.terminals j).past) (λ x k. let r = sent_in (o.desk.table.terminals j).past x k in
     ap (λ (y : Sent). has_text_in (s.gens j) (sent_of y.source (sents (o.desk.table.terminals j).past))) r.2
     ∙ still o.desk o.made (s.aware j) refl (o.holds.good.timed j lj) o.over r.0 r.1))
   where

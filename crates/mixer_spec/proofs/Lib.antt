@@ -13,7 +13,7 @@ pub mod After
 pub mod Final
 pub mod Served
 pub mod Carries
-pub mod Closed
 pub mod Ends
 pub mod Offers
 pub mod Runs
+pub mod Through
