@@ -1,16 +1,15 @@
 -- What holds of the table after every list of events.
-use Rattle.std.proofs.Common.{◌≡◌, ℕ, zero, suc, ◌+◌, ◌<◌, ◌≤◌, Bool, true, false, cond, inl, inr, Option, Some, None, List, [], ◌∷◌, ◌++◌, refl, ap, subst, sym, ◌∙◌, arith}
+use Rattle.std.proofs.Common.{◌≡◌, ℕ, suc, ◌<◌, Bool, true, false, cond, inl, inr, Option, Some, None, List, [], ◌∷◌, ◌++◌, refl, ap, subst, sym, ◌∙◌}
 use Rattle.std.specs.Prelude.{◌==◌}
 use Rattle.std.proofs.lemmas.Bool.{cases_eq}
 use Rattle.rtt_base.specs.declared.records.Chunk.{Chunk}
-use Rattle.stream_spec.specs.Lists.{In}
-use Rattle.mixer_spec.specs.Chunks.{joined, front, behind}
+use Rattle.mixer_spec.specs.Chunks.{front, behind}
 use Rattle.mixer_spec.specs.Rounds.{set_at}
 use Rattle.mixer_spec.specs.Setups.{Setup, IsSetup}
 use Rattle.mixer_spec.specs.Composed.{Given}
-use Rattle.mixer_spec.specs.Table.{Mixed, Terminal, Table, empty, give, given, served, serve, turn_aware, is_asked, answer_at, compose, turn_unaware, turn_at, next_media, turned}
-use Rattle.mixer_spec.specs.Legs.{Leg, take_hand, picked, held, left, all_of}
-use Rattle.mixer_spec.specs.Core.{Core, Event, Push, Take, Turn, is_taken, offer_hand, happens, start, after, turns_in}
+use Rattle.mixer_spec.specs.Table.{Terminal, Table, empty, give, given, served, serve, turn_aware, is_asked, answer_at, compose, turn_unaware, turn_at, next_media, turned}
+use Rattle.mixer_spec.specs.Legs.{Leg, take_hand, picked, held, all_of}
+use Rattle.mixer_spec.specs.Core.{Core, Event, Push, Take, Turn, is_taken, offer_hand, after, turns_in}
 use Rattle.mixer_spec.specs.Laws.{AreTexts}
 use Rattle.mixer_spec.proofs.Lists.{set_same, set_other}
 use Rattle.mixer_spec.proofs.Legs.{pick_keeps, in_order}

@@ -1,5 +1,5 @@
 -- The entries of a leg carry a front of what was taken of it.
-use Rattle.std.proofs.Common.{◌≡◌, ℕ, ◌<◌, ◌≤◌, Bool, true, false, cond, inl, inr, List, [], ◌∷◌, ◌++◌, length, refl, ap, subst, sym, ◌∙◌, append_assoc}
+use Rattle.std.proofs.Common.{◌≡◌, ℕ, ◌<◌, ◌≤◌, Bool, true, false, inl, inr, List, [], ◌∷◌, ◌++◌, length, refl, ap, subst, sym, ◌∙◌, append_assoc}
 use Rattle.std.specs.Prelude.{◌==◌, ◌&&◌, if◌then◌else◌}
 use Rattle.std.specs.List.{concat}
 use Rattle.std.proofs.lemmas.Bool.{cases_eq, eq-eqb, ne_eqb}
@@ -7,11 +7,11 @@ use Rattle.rtt_base.specs.declared.records.Chunk.{Chunk}
 use Rattle.wire_spec.specs.Packets.{has_text}
 use Rattle.stream_spec.specs.Lists.{In}
 use Rattle.stream_spec.specs.History.{Entry}
-use Rattle.stream_spec.specs.Carries.{texts_by, Groups, CarriesFront}
+use Rattle.stream_spec.specs.Carries.{texts_by, Groups}
 use Rattle.stream_spec.specs.Own.{entry_after, entries_sent}
 use Rattle.mixer_spec.specs.Chunks.{joined, texts_of}
 use Rattle.mixer_spec.specs.Setups.{Setup, IsSetup}
-use Rattle.mixer_spec.specs.Table.{Mixed, sents, history}
+use Rattle.mixer_spec.specs.Table.{Mixed, sents}
 use Rattle.mixer_spec.specs.Laws.{carried, AreTexts}
 use Rattle.mixer_spec.proofs.Lists.{nil}
 use Rattle.mixer_spec.proofs.Texts.{texts_left, texts_right}

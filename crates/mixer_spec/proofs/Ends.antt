@@ -1,6 +1,6 @@
 -- What holds where plain mixing is over.
 use Rattle.std.proofs.Common.{◌≡◌, ℕ, zero, suc, ◌+◌, ◌*◌, ◌<◌, ◌≤◌, Bool, true, false, cond, inl, inr, Option, Some, None, List, [], ◌∷◌, ◌++◌, refl, ap, subst, sym, ◌∙◌, arith, not, append_assoc}
-use Rattle.std.specs.Prelude.{◌==◌, ◌&&◌, ◌||◌}
+use Rattle.std.specs.Prelude.{◌==◌, ◌||◌}
 use Rattle.std.proofs.lemmas.Bool.{cases_eq, and_parts, or_cases, or_parts, eqb-true, not-true}
 use Rattle.rtt_base.specs.declared.records.Chunk.{Chunk}
 use Rattle.mixer_spec.specs.Chunks.{has_chunk}
@@ -11,7 +11,7 @@ use Rattle.mixer_spec.specs.Core.{is_taken}
 use Rattle.mixer_spec.specs.Plain.{Desk, taken, left_over, table_after, offers, offers_below, is_quiet, is_over, plain_from, plain}
 use Rattle.mixer_spec.specs.Laws.{carried, AreTexts}
 use Rattle.mixer_spec.proofs.Lists.{nil, set_same, set_other}
-use Rattle.mixer_spec.proofs.Kept.{at_terminal, Kept, given_kept, turned_kept, kept_same}
+use Rattle.mixer_spec.proofs.Kept.{Kept, given_kept, turned_kept, kept_same}
 use Rattle.mixer_spec.proofs.Paced.{window}
 use Rattle.mixer_spec.proofs.After.{Good, empty_good, given_good, turned_good}
 

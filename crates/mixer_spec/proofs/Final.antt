@@ -1,12 +1,12 @@
 -- The laws.
-use Rattle.std.proofs.Common.{◌≡◌, ℕ, zero, suc, ◌+◌, ◌-◌, ◌*◌, ◌^◌, ◌<◌, ◌≤◌, Bool, true, false, ◌⊎◌, inl, inr, Option, Some, None, List, [], ◌∷◌, ◌++◌, refl, ap, subst, sym, ◌∙◌, arith}
+use Rattle.std.proofs.Common.{◌≡◌, ℕ, ◌+◌, ◌-◌, ◌*◌, ◌^◌, ◌<◌, ◌≤◌, Bool, true, false, ◌⊎◌, Option, Some, List, [], refl, ap, subst, sym, ◌∙◌, arith}
 use Rattle.rtt_base.specs.declared.records.Chunk.{Chunk}
 use Rattle.stream_spec.specs.History.{Lawful, Placed, Come}
 use Rattle.stream_spec.specs.Own.{Own, Sent, Closed, sent_of, has_text_in, come_from, NearEach}
 use Rattle.stream_spec.proofs.Sent.{sent_own}
 use Rattle.stream_spec.proofs.OwnPackets.{own_come}
 use Rattle.mixer_spec.specs.Setups.{Setup, IsSetup, stream, gap}
-use Rattle.mixer_spec.specs.Table.{Mixed, Terminal, Table, sents, history, sent_by, last_media, rank}
+use Rattle.mixer_spec.specs.Table.{Mixed, Table, sents, history, sent_by, last_media, rank}
 use Rattle.mixer_spec.specs.Core.{Event, after, turns_in}
 use Rattle.mixer_spec.specs.Laws.{AreTexts, Tight, carried}
 use Rattle.mixer_spec.specs.Chunks.{texts_of}

@@ -9,9 +9,9 @@ use Rattle.mixer_spec.specs.Chunks.{joined, has_chunk, front, behind}
 use Rattle.mixer_spec.specs.Rounds.{first_round, set_at}
 use Rattle.mixer_spec.specs.Setups.{Setup}
 use Rattle.mixer_spec.specs.Composed.{Given, Asked, latest, run_of, is_switch, waits_here, text_given, begun, begin_with, gone_on, answer_after, answer}
-use Rattle.mixer_spec.specs.Table.{Mixed, Terminal, Table, sent_by, give, given, served, serve, turn_aware, is_asked, answer_at, repeated, compose, turn_unaware, turn_at, next_media, turned, turned_to}
-use Rattle.mixer_spec.specs.Legs.{Leg, push, pick, take_hand, pushed, picked}
-use Rattle.mixer_spec.specs.Core.{Core, Event, Push, Take, Turn, is_taken, offer_hand, happens, start, after}
+use Rattle.mixer_spec.specs.Table.{Mixed, Terminal, Table, sent_by, give, given, served, serve, turn_aware, is_asked, answer_at, repeated, compose, turn_unaware, turn_at, next_media, turned}
+use Rattle.mixer_spec.specs.Legs.{Leg, take_hand, pushed, picked}
+use Rattle.mixer_spec.specs.Core.{Core, Event, Push, Take, Turn, is_taken, offer_hand, happens, after}
 use Rattle.mixer_spec.specs.Laws.{carried}
 use Rattle.mixer_spec.proofs.Lists.{nil, set_same, set_other}
 use Rattle.mixer_spec.proofs.Legs.{push_left, picked_left}

@@ -7,7 +7,7 @@ use Rattle.mixer_spec.specs.Rounds.{set_at}
 use Rattle.mixer_spec.specs.Setups.{Setup}
 use Rattle.mixer_spec.specs.Table.{given}
 use Rattle.mixer_spec.specs.Legs.{Leg, push, pick, take_hand, pushed, picked, held, left, all_of}
-use Rattle.mixer_spec.specs.Core.{Core, Event, Push, Take, Turn, is_taken, offer_hand, happens, start, after}
+use Rattle.mixer_spec.specs.Core.{Core, Event, Push, Take, Turn, is_taken, offer_hand, happens, after}
 use Rattle.mixer_spec.proofs.Lists.{set_same, set_other}
 
 abbrev pub more : Leg → Chunk → List Chunk → Leg

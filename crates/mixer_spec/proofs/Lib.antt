@@ -17,3 +17,4 @@ pub mod Ends
 pub mod Offers
 pub mod Runs
 pub mod Through
+pub mod Hops

@@ -1,14 +1,14 @@
 -- Pushing and taking until nothing moves does what offers in order do.
-use Rattle.std.proofs.Common.{◌≡◌, ℕ, zero, suc, ◌+◌, ◌*◌, ◌≤◌, ◌<◌, Bool, true, false, cond, inl, inr, Option, Some, None, List, [], ◌∷◌, ◌++◌, length, refl, ap, subst, sym, ◌∙◌, arith, append_assoc}
+use Rattle.std.proofs.Common.{◌≡◌, ℕ, zero, suc, ◌≤◌, Bool, true, false, cond, inl, inr, Option, Some, None, List, [], ◌∷◌, ◌++◌, length, refl, ap, subst, sym, ◌∙◌, arith, append_assoc}
 use Rattle.std.specs.Prelude.{nat_lt}
-use Rattle.std.proofs.lemmas.Bool.{cases_Bool, cases_eq}
+use Rattle.std.proofs.lemmas.Bool.{cases_Bool}
 use Rattle.rtt_base.specs.declared.records.Chunk.{Chunk}
 use Rattle.mixer_spec.specs.Rounds.{set_at}
 use Rattle.mixer_spec.specs.Setups.{Setup}
-use Rattle.mixer_spec.specs.Table.{Table, given, turned}
-use Rattle.mixer_spec.specs.Legs.{Leg, begin, push, pick, take_hand, pushed, picked, held, left}
-use Rattle.mixer_spec.specs.Core.{Core, Event, Push, Take, Turn, is_taken, offer_hand, happens, after_from, start, after, turns_in}
-use Rattle.mixer_spec.specs.Plain.{Desk, taken, left_over, table_after, offers, offers_below, is_over, plain_from, plain}
+use Rattle.mixer_spec.specs.Table.{Table, given}
+use Rattle.mixer_spec.specs.Legs.{Leg, push, pick, take_hand, pushed, picked, held, left}
+use Rattle.mixer_spec.specs.Core.{Core, Push, Take, is_taken, offer_hand, happens, after_from}
+use Rattle.mixer_spec.specs.Plain.{taken, left_over, table_after}
 use Rattle.mixer_spec.specs.Laws.{moves}
 use Rattle.mixer_spec.proofs.Lists.{nil, set_same, set_other}
 use Rattle.mixer_spec.proofs.Legs.{more, push_left, picked_left}

@@ -1,12 +1,12 @@
 -- What holds of what was sent to a terminal: its media times, and how far packets of a source lie apart.
-use Rattle.std.proofs.Common.{◌≡◌, ℕ, zero, suc, ◌+◌, ◌-◌, ◌*◌, ◌^◌, ◌<◌, ◌≤◌, Bool, true, false, cond, ◌⊎◌, inl, inr, Option, Some, None, List, [], ◌∷◌, length, take, map, refl, ap, subst, sym, ◌∙◌, arith}
-use Rattle.std.specs.Prelude.{◌==◌, ◌||◌, IsUtf8}
-use Rattle.std.proofs.lemmas.Bool.{cases_Bool, eqb-true, eq-eqb, ne_eqb, or_right, or_left}
-use Rattle.std.proofs.Math.Nat.{mul-suc, mul-le-mul_left}
+use Rattle.std.proofs.Common.{◌≡◌, ℕ, zero, suc, ◌+◌, ◌-◌, ◌*◌, ◌^◌, ◌<◌, ◌≤◌, Bool, true, false, cond, ◌⊎◌, inl, inr, Option, Some, None, List, [], ◌∷◌, length, take, refl, ap, subst, sym, ◌∙◌, arith}
+use Rattle.std.specs.Prelude.{◌==◌, IsUtf8}
+use Rattle.std.proofs.lemmas.Bool.{eqb-true, eq-eqb, ne_eqb, or_right, or_left}
+use Rattle.std.proofs.Math.Nat.{mul-suc}
 use Rattle.wire_spec.specs.Packets.{has_text}
 use Rattle.stream_spec.specs.Lists.{In}
 use Rattle.stream_spec.specs.History.{Lawful}
-use Rattle.stream_spec.specs.Own.{Sent, Stream, sent_of, has_text_in, MaySend, Sendable}
+use Rattle.stream_spec.specs.Own.{Sent, sent_of, has_text_in, Sendable}
 use Rattle.stream_spec.proofs.Sent.{sent_lawful}
 use Rattle.mixer_spec.specs.Chunks.{joined}
 use Rattle.mixer_spec.specs.Setups.{Setup, IsSetup, stream, gap}

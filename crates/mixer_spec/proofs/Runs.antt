@@ -1,18 +1,17 @@
 -- Plain mixing is a run of the core.
-use Rattle.std.proofs.Common.{◌≡◌, ℕ, zero, suc, ◌+◌, ◌≤◌, ◌<◌, inl, inr, Option, Some, List, [], ◌∷◌, ◌++◌, length, refl, ap, subst, sym, ◌∙◌, arith}
+use Rattle.std.proofs.Common.{◌≡◌, ℕ, zero, suc, inl, inr, Some, List, [], ◌∷◌, ◌++◌, length, refl, ap, sym, ◌∙◌, arith}
 use Rattle.std.proofs.lemmas.Bool.{cases_eq}
 use Rattle.rtt_base.specs.declared.records.Chunk.{Chunk}
-use Rattle.mixer_spec.specs.Rounds.{set_at}
 use Rattle.mixer_spec.specs.Setups.{Setup}
 use Rattle.mixer_spec.specs.Table.{Table, empty, turned}
 use Rattle.mixer_spec.specs.Legs.{left}
-use Rattle.mixer_spec.specs.Core.{Core, Event, Push, Take, Turn, happens, after_from, start, after, turns_in}
+use Rattle.mixer_spec.specs.Core.{Core, Event, Turn, happens, after_from, start, after, turns_in}
 use Rattle.mixer_spec.specs.Plain.{Desk, left_over, table_after, offers, offers_below, plain}
 use Rattle.mixer_spec.specs.Laws.{moves, IsRun}
 use Rattle.mixer_spec.proofs.Lists.{nil, set_same, set_other}
 use Rattle.mixer_spec.proofs.Legs.{in_order}
 use Rattle.mixer_spec.proofs.Offers.{moves_offer}
-use Rattle.mixer_spec.proofs.Ends.{Over, over_from, nothing_left}
+use Rattle.mixer_spec.proofs.Ends.{over_from, nothing_left}
 
 after_more : (s : Setup) (w : Core) (es past : List Event) → after_from s w (es ++ past) ≡ after_from s (after_from s w past) es
 after_more s w [] past = refl

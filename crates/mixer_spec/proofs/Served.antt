@@ -1,12 +1,12 @@
 -- A leg that is due is served soon.
 use Rattle.std.proofs.Common.{◌≡◌, ℕ, suc, ◌+◌, ◌<◌, ◌≤◌, Bool, true, false, cond, ◌⊎◌, inl, inr, Option, Some, None, List, [], ◌∷◌, ◌++◌, refl, ap, subst, sym, ◌∙◌, arith}
-use Rattle.std.specs.Prelude.{◌==◌, ◌&&◌, ◌||◌}
+use Rattle.std.specs.Prelude.{◌==◌, ◌||◌}
 use Rattle.std.proofs.lemmas.Bool.{cases_Bool, cases_eq, true≢false, le-leb, leb-true, or_cases, or_left, or_right, eq-eqb}
 use Rattle.rtt_base.specs.declared.records.Chunk.{Chunk}
-use Rattle.mixer_spec.specs.Chunks.{joined, has_chunk, front, behind}
+use Rattle.mixer_spec.specs.Chunks.{has_chunk, front, behind}
 use Rattle.mixer_spec.specs.Rounds.{set_at}
 use Rattle.mixer_spec.specs.Setups.{Setup, IsSetup}
-use Rattle.mixer_spec.specs.Table.{Mixed, Terminal, Table, is_spaced, give, given, is_due, round_start, served, rank, serve, turn_aware, turn_unaware, turn_at, next_media, turned}
+use Rattle.mixer_spec.specs.Table.{Mixed, Terminal, Table, is_spaced, give, given, is_due, round_start, served, rank, serve, turn_aware, turn_at, next_media, turned}
 use Rattle.mixer_spec.specs.Legs.{Leg, take_hand, picked}
 use Rattle.mixer_spec.specs.Core.{Core, Event, Push, Take, Turn, is_taken, offer_hand, happens, after, turns_in}
 use Rattle.mixer_spec.specs.Laws.{AreTexts, count_of}

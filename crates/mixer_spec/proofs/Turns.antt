@@ -1,17 +1,16 @@
 -- A turn keeps what holds of a terminal.
-use Rattle.std.proofs.Common.{◌≡◌, ℕ, zero, suc, ◌+◌, ◌-◌, ◌*◌, ◌<◌, ◌≤◌, Bool, true, false, cond, ◌⊎◌, inl, inr, Option, Some, None, List, [], ◌∷◌, length, refl, ap, subst, sym, ◌∙◌, arith, not}
-use Rattle.std.specs.Prelude.{◌==◌, ◌&&◌, IsUtf8}
-use Rattle.std.proofs.lemmas.Bool.{cases_Bool, cases_lt, cases_eq, true≢false, eq-eqb, eqb-true, eqb-false, ne_eqb, le-leb, and_parts, and_from, or_right, not-true, not_from_false}
+use Rattle.std.proofs.Common.{◌≡◌, ℕ, suc, ◌+◌, ◌-◌, ◌*◌, ◌<◌, ◌≤◌, Bool, true, false, cond, ◌⊎◌, inl, inr, Option, Some, None, List, [], ◌∷◌, refl, ap, subst, sym, ◌∙◌, arith, not}
+use Rattle.std.specs.Prelude.{◌==◌, ◌&&◌}
+use Rattle.std.proofs.lemmas.Bool.{cases_Bool, cases_lt, cases_eq, true≢false, eqb-false, ne_eqb, le-leb, and_parts, and_from, or_right, not-true, not_from_false}
 use Rattle.std.proofs.lemmas.Str.{IsUtf8-nil}
 use Rattle.std.proofs.Math.Nat.{mul-suc, mul-le-mul_left}
 use Rattle.rtt_base.specs.declared.records.Chunk.{Chunk}
 use Rattle.stream_spec.specs.Lists.{In}
-use Rattle.stream_spec.specs.Own.{has_text_in, sent_of}
 use Rattle.mixer_spec.specs.Chunks.{joined, has_chunk, front}
 use Rattle.mixer_spec.specs.Setups.{Setup, IsSetup, gap}
 use Rattle.mixer_spec.specs.Composed.{Given}
-use Rattle.mixer_spec.specs.Table.{Mixed, Terminal, sents, sent_by, last_media, is_spaced, has_work, is_due, round_start, served, rank, serve, turn_aware, is_asked, answer_at, repeated, compose, turn_unaware, next_media, turn_at}
-use Rattle.mixer_spec.specs.Laws.{AreTexts, Tight}
+use Rattle.mixer_spec.specs.Table.{Mixed, Terminal, is_spaced, has_work, is_due, round_start, served, rank, serve, turn_aware, is_asked, answer_at, repeated, compose, turn_unaware, next_media, turn_at}
+use Rattle.mixer_spec.specs.Laws.{AreTexts}
 use Rattle.mixer_spec.proofs.Texts.{IsText, front_size, front_utf8, answer_text}
 use Rattle.mixer_spec.proofs.Rounds.{IsFirst, round_some, round_none, rank_bound, rank_falls}
 use Rattle.mixer_spec.proofs.Paced.{window, last, Within, Paced, Spaced, IsOwn, Aware, SpacedOne, Unaware, Timed, last_own, last_other, window_other, more_tight}

@@ -1,7 +1,9 @@
 -- Words of the laws on the mixer: what was sent of a leg, chunks that are texts, and how often a leg was served.
 use Rattle.std.specs.Prelude.{◌≡◌, ℕ, zero, suc, ◌+◌, ◌<◌, ◌≤◌, ◌==◌, true, Some, List, [], ◌∷◌, ◌++◌, if◌then◌else◌, IsUtf8}
 use Rattle.rtt_base.specs.declared.records.Chunk.{Chunk}
-use Rattle.wire_spec.specs.Packets.{has_text}
+use Rattle.wire_spec.specs.Packets.{Arrival, has_text}
+use Rattle.stream_spec.specs.History.{History, Lawful, Come}
+use Rattle.stream_spec.specs.Ready.{chunks}
 use Rattle.stream_spec.specs.Own.{Sent, has_text_in}
 use Rattle.mixer_spec.specs.Setups.{Setup}
 use Rattle.mixer_spec.specs.Table.{Mixed, Table, last_media}
@@ -39,3 +41,9 @@ pub record IsRun (s : Setup) (chunks : ℕ → List Chunk) (turns : ℕ) (table 
   pub few : turns_in past ≤ turns
   pub leads : (after s chunks past).table ≡ table
   pub all : (i : ℕ) → i < s.legs → ((after s chunks past).legs i).taken ≡ chunks i
+
+-- these chunks are what is heard of a source by arrivals that come of a lawful history
+pub record IsHeard (h : History) (wait place source : ℕ) (a : List Arrival) (cs : List Chunk) : Type 0 where
+  pub lawful : Lawful h
+  pub come : Come h a
+  pub chunks : cs ≡ chunks wait place a source

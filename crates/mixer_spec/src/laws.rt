@@ -1,7 +1,12 @@
 //! The laws of the mixer: what holds after every list of events, and at the end of plain mixing.
 ghost use Rattle.std.specs.Prelude.{◌≡◌, ◌<◌, ◌≤◌, ◌+◌, ◌-◌, ◌*◌, ◌^◌, ◌⊎◌, ℕ, List, Bool, Option, Some, ◌∷◌, ◌++◌, suc, length};
+ghost use Rattle.std.specs.List.{concat};
 ghost use Rattle.rtt_base.specs.declared.records.Chunk.{Chunk};
-ghost use Rattle.stream_spec.specs.History.{Come, Lawful, Placed};
+ghost use Rattle.wire_spec.specs.Packets.{Arrival};
+ghost use Rattle.stream_spec.specs.Lists.{In};
+ghost use Rattle.stream_spec.specs.Hearing.{heard};
+ghost use Rattle.stream_spec.specs.History.{Come, History, Lawful, Placed, places};
+ghost use Rattle.stream_spec.specs.Kept.{kept, texts};
 ghost use Rattle.stream_spec.specs.Carries.{Carries, CarriesFront};
 ghost use Rattle.stream_spec.specs.Own.{Closed, NearEach, Own, come_from, has_text_in};
 ghost use Rattle.mixer_spec.specs.Chunks.{texts_of};
@@ -10,7 +15,8 @@ ghost use Rattle.mixer_spec.specs.Table.{Mixed, Table, history, is_due, last_med
 ghost use Rattle.mixer_spec.specs.Legs.{all_of, left};
 ghost use Rattle.mixer_spec.specs.Core.{Core, Event, Turn, after, after_from, turns_in};
 ghost use Rattle.mixer_spec.specs.Plain.{left_over, plain, table_after, taken};
-ghost use Rattle.mixer_spec.specs.Laws.{AreTexts, IsRun, Tight, carried, count_of, moves};
+ghost use Rattle.mixer_spec.specs.Through.{group_of, text_entries, through};
+ghost use Rattle.mixer_spec.specs.Laws.{AreTexts, IsHeard, IsRun, Tight, carried, count_of, moves};
 
 /// A leg's chunks stay in order: taken, in the hand, in the queue, still to push.
 pub fn chunks_in_order()
@@ -94,4 +100,27 @@ pub fn offers_are_moves()
     ensures table { (s : Setup) (w : Core) (i t n : ℕ) → length (left (w.legs i)) ≤ n → (after_from s w (moves i t n)).table ≡ table_after s i t w.table (left (w.legs i)) }
     ensures others { (s : Setup) (w : Core) (i t n x : ℕ) → length (left (w.legs i)) ≤ n → (x ≡ i → ⊥) → (after_from s w (moves i t n)).legs x ≡ w.legs x }
     ensures run { (s : Setup) (chunks : ℕ → List Chunk) (tick turns : ℕ) (table : Table) → plain s tick turns chunks ≡ Some table → IsRun s chunks turns table }
+{}
+
+/// What an aware terminal hears of a leg is what two hops tell: what came of the leg's own lawful stream, and what came
+/// to the terminal, whatever was lost, repeated, late or out of order on either.
+pub fn two_hops()
+    // After every list of events.
+    ensures any { (s : Setup) (chunks : ℕ → List Chunk) (past : List Event) (j i : ℕ) → IsSetup s → ((i : ℕ) → AreTexts (chunks i)) → s.step * turns_in past < 2 ^ 31 → s.aware j ≡ Bool.true → j < s.legs → i < s.legs → (i ≡ j → ⊥)
+        → (h1 : History) (wait place x : ℕ) (a1 : List Arrival) → IsHeard h1 wait place x a1 (chunks i)
+        → let h2 = history s j ((after s chunks past).table.terminals j).past in
+        (wait2 : ℕ) (a2 : List Arrival) → Come h2 a2 → concat (heard wait2 a2 (s.ssrc i)) ≡ concat (texts (through h1 (places wait h1 a1) x h2 (places wait2 h2 a2) (s.ssrc i))) }
+    // At the end of plain mixing.
+    ensures plain { (s : Setup) (chunks : ℕ → List Chunk) (tick turns j i : ℕ) (table : Table) → IsSetup s → ((i : ℕ) → AreTexts (chunks i)) → s.step * turns < 2 ^ 31 → s.aware j ≡ Bool.true → j < s.legs → i < s.legs → (i ≡ j → ⊥)
+        → plain s tick turns chunks ≡ Some table
+        → (h1 : History) (wait place x : ℕ) (a1 : List Arrival) → IsHeard h1 wait place x a1 (chunks i)
+        → let h2 = history s j (table.terminals j).past in
+        (wait2 : ℕ) (a2 : List Arrival) → Come h2 a2 → concat (heard wait2 a2 (s.ssrc i)) ≡ concat (texts (through h1 (places wait h1 a1) x h2 (places wait2 h2 a2) (s.ssrc i))) }
+    // The items that stand for an entry of the second hop have its text.
+    ensures group { (s : Setup) (chunks : ℕ → List Chunk) (past : List Event) (j i : ℕ) → IsSetup s → ((i : ℕ) → AreTexts (chunks i)) → s.aware j ≡ Bool.true → j < s.legs → i < s.legs → (i ≡ j → ⊥)
+        → (h1 : History) (wait place x : ℕ) (a1 : List Arrival) → IsHeard h1 wait place x a1 (chunks i)
+        → let es = text_entries (history s j ((after s chunks past).table.terminals j).past) (s.ssrc i) in
+        (y : Placed) → In y es → concat (texts (group_of es (kept h1 (places wait h1 a1) x) y)) ≡ y.text }
+    // What is heard of a lawful stream are texts.
+    ensures heard { (h : History) (wait place x : ℕ) (a : List Arrival) (cs : List Chunk) → IsHeard h wait place x a cs → AreTexts cs }
 {}
