@@ -1,0 +1,131 @@
+//! Scripts from outside: their texts as a sender sees them, and each refusal.
+use crate::{ConfFault, ConfKind, read_script};
+use std::test::Fail;
+
+fn refusal(alloc: std::alloc::Global, octets: &[u8]) -> Option<(u32, ConfKind)> {
+    match read_script(alloc, octets) {
+        Err(ConfFault::Refused { line, kind }) => Some((line, kind)),
+        _ => None,
+    }
+}
+
+#[test]
+fn a_script_is_its_lines_with_their_numbers(rt: HostRuntime) -> Result<(), Fail> {
+    let script = read_script(
+        rt.alloc(),
+        "# typed by Ann\r\n0 H\r\n\n0300  e \n300 \u{e9}\u{20ac}\u{1f600}\r".as_bytes(),
+    )?;
+    let lines = script.as_slice();
+    assert_eq!(rt; lines.len(), 3);
+    assert_eq!(rt; (lines[0].line, lines[0].at), (2, 0));
+    assert_eq!(rt; lines[0].text.as_slice(), b"H".as_slice());
+    assert_eq!(rt; (lines[1].line, lines[1].at), (4, 300));
+    assert_eq!(rt; lines[1].text.as_slice(), b" e ".as_slice());
+    assert_eq!(rt; (lines[2].line, lines[2].at), (5, 300));
+    assert_eq!(rt;
+        lines[2].text.as_slice(),
+        "\u{e9}\u{20ac}\u{1f600}\r".as_bytes()
+    );
+    Ok(())
+}
+
+#[test]
+fn each_escape_is_its_character(rt: HostRuntime) -> Result<(), Fail> {
+    let script = read_script(rt.alloc(), b"0 a\\nb\\bc\\ad\\\\ne")?;
+    assert_eq!(rt; script.len(), 1);
+    assert_eq!(rt;
+        script.as_slice()[0].text.as_slice(),
+        "a\u{2028}b\u{8}c\u{7}d\\ne".as_bytes()
+    );
+    Ok(())
+}
+
+#[test]
+fn an_empty_file_is_a_script_without_lines(rt: HostRuntime) -> Result<(), Fail> {
+    assert!(rt; read_script(rt.alloc(), b"")?.is_empty());
+    assert!(rt; read_script(rt.alloc(), b"\n\r\n#\xFF\n")?.is_empty());
+    Ok(())
+}
+
+#[test]
+fn the_first_test_that_fails_names_the_refusal(rt: HostRuntime) {
+    let cases: [(&[u8], u32, ConfKind); 17] = [
+        (b"0 \xC3", 1, ConfKind::NotText),
+        (b"\n#\n300", 3, ConfKind::Count),
+        (b"  ", 1, ConfKind::Number),
+        (b" # no comment", 1, ConfKind::Number),
+        (b"1a H", 1, ConfKind::Number),
+        (b"14400001 H", 1, ConfKind::Number),
+        (b"00000000001 H", 1, ConfKind::Number),
+        (b"300 e\n299 H", 2, ConfKind::Order),
+        (b"0 \\", 1, ConfKind::Escape),
+        (b"0 \\N", 1, ConfKind::Escape),
+        // two causes on one line
+        (b"\xC3", 1, ConfKind::NotText),
+        (b"x \xC3", 1, ConfKind::NotText),
+        (b"300 e\n1 \xC3\\", 2, ConfKind::NotText),
+        (b"300 e\n-1 H", 2, ConfKind::Number),
+        (b"x \\", 1, ConfKind::Number),
+        (b"300 e\n1 \\", 2, ConfKind::Order),
+        // two bad lines
+        (b"0 \\\n0", 1, ConfKind::Escape),
+    ];
+    for (octets, line, kind) in cases {
+        assert_eq!(rt; refusal(rt.alloc(), octets), Some((line, kind)));
+    }
+}
+
+fn long_line(
+    alloc: std::alloc::Global,
+    start: &[u8],
+    octet: u8,
+    count: usize,
+) -> Result<Vec<u8>, std::alloc::AllocError> {
+    let mut octets = start.to_vec(alloc)?;
+    for _ in 0..count {
+        octets.push(octet)?;
+    }
+    Ok(octets)
+}
+
+#[test]
+fn a_text_has_at_most_1023_octets(rt: HostRuntime) -> Result<(), Fail> {
+    let line = long_line(rt.alloc(), b"0 ", b'a', 1023)?;
+    assert!(rt; read_script(rt.alloc(), &line).is_ok());
+    let line = long_line(rt.alloc(), b"0 ", b'a', 1024)?;
+    assert_eq!(rt; refusal(rt.alloc(), &line), Some((1, ConfKind::Long)));
+    // an escape counts as the octets that it stands for
+    let line = long_line(rt.alloc(), b"0 \\n", b'a', 1020)?;
+    assert!(rt; read_script(rt.alloc(), &line).is_ok());
+    let line = long_line(rt.alloc(), b"0 \\n", b'a', 1021)?;
+    assert_eq!(rt; refusal(rt.alloc(), &line), Some((1, ConfKind::Long)));
+    // a bad escape comes before the length
+    let mut line = long_line(rt.alloc(), b"0 ", b'a', 2000)?;
+    line.push(b'\\')?;
+    assert_eq!(rt; refusal(rt.alloc(), &line), Some((1, ConfKind::Escape)));
+    let late = long_line(rt.alloc(), b"7 e\n0 ", b'a', 1024)?;
+    assert_eq!(rt; refusal(rt.alloc(), &late), Some((2, ConfKind::Order)));
+    Ok(())
+}
+
+#[test]
+fn a_script_has_at_most_1048576_octets(rt: HostRuntime) -> Result<(), Fail> {
+    let file = long_line(rt.alloc(), b"", b'\n', 1_048_576)?;
+    assert!(rt; read_script(rt.alloc(), &file)?.is_empty());
+    let file = long_line(rt.alloc(), b"", b'\n', 1_048_577)?;
+    assert_eq!(rt; refusal(rt.alloc(), &file), Some((0, ConfKind::Large)));
+    Ok(())
+}
+
+#[test]
+fn a_refusal_prints_its_line_and_kind(rt: HostRuntime) -> Result<(), Fail> {
+    let fault = ConfFault::Refused {
+        line: 17,
+        kind: ConfKind::Full,
+    };
+    assert_eq!(rt;
+        format!(in rt.alloc(); "{fault}")?.as_str(),
+        "line 17: Full"
+    );
+    Ok(())
+}
