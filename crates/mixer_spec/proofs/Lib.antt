@@ -18,3 +18,4 @@ pub mod Offers
 pub mod Runs
 pub mod Through
 pub mod Hops
+pub mod Asks

@@ -85,7 +85,7 @@ turn_is : (s : Setup) (j now t : ℕ) (d : Terminal) → s.aware j ≡ true → 
 turn_is s j now t d e = rw e refl
 
 -- what holds of a table and of each that it becomes by giving holds after a Take
-take_table : (s : Setup) (w : Core) (i t : ℕ) (P : Table → Type 0) → P w.table → ((c : Chunk) → P (given i c w.table)) → P (happens s w (Take i t)).table
+pub take_table : (s : Setup) (w : Core) (i t : ℕ) (P : Table → Type 0) → P w.table → ((c : Chunk) → P (given i c w.table)) → P (happens s w (Take i t)).table
 take_table s w i t P same more = hand (picked (w.legs i)) (picked (w.legs i)).hand
   where
     room : (l : Leg) (c : Chunk) (b : Bool) → P (cond {A = Core} b (record { legs = set_at w.legs i (take_hand l c); table = given i c w.table }) (record { legs = set_at w.legs i l; table = w.table })).table

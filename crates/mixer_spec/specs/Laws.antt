@@ -1,11 +1,13 @@
 -- Words of the laws on the mixer: what was sent of a leg, chunks that are texts, and how often a leg was served.
-use Rattle.std.specs.Prelude.{◌≡◌, ℕ, zero, suc, ◌+◌, ◌<◌, ◌≤◌, ◌==◌, true, Some, List, [], ◌∷◌, ◌++◌, if◌then◌else◌, IsUtf8}
+use Rattle.std.specs.Prelude.{◌≡◌, ℕ, zero, suc, ◌+◌, ◌<◌, ◌≤◌, ◌==◌, Bool, true, Option, None, Some, List, [], ◌∷◌, ◌++◌, map, option_to_list, if◌then◌else◌, IsUtf8}
 use Rattle.rtt_base.specs.declared.records.Chunk.{Chunk}
 use Rattle.wire_spec.specs.Packets.{Arrival, has_text}
 use Rattle.stream_spec.specs.History.{History, Lawful, Come}
 use Rattle.stream_spec.specs.Ready.{chunks}
 use Rattle.stream_spec.specs.Own.{Sent, has_text_in}
 use Rattle.mixer_spec.specs.Setups.{Setup}
+use Rattle.mixer_spec.specs.Chunks.{has_chunk}
+use Rattle.mixer_spec.specs.Composed.{Given, Asked, answer}
 use Rattle.mixer_spec.specs.Table.{Mixed, Table, last_media}
 use Rattle.mixer_spec.specs.Core.{Event, Push, Take, after, turns_in}
 
@@ -47,3 +49,34 @@ pub record IsHeard (h : History) (wait place source : ℕ) (a : List Arrival) (c
   pub lawful : Lawful h
   pub come : Come h a
   pub chunks : cs ≡ chunks wait place a source
+
+-- ---- a terminal that is not aware
+-- the ask after these was answered as the composer answers, from what waited then
+pub record IsAnswered (s : Setup) (own : ℕ) (past : List Asked) (a : Asked) : Type 0 where
+  pub waits : ℕ → List Chunk
+  pub due : Bool
+  pub waiting : (i : ℕ) → a.waiting i ≡ has_chunk (waits i)
+  pub answers : a.given ≡ answer s.legs s.name own a.media due waits past
+
+-- each of these asks was
+abbrev pub IsComposed : Setup → ℕ → List Asked → Type 0
+IsComposed s own [] = Unit {0}
+IsComposed s own (a ∷ past) = IsAnswered s own past a × IsComposed s own past
+
+-- the texts that were given, newest first
+abbrev pub texts_given : List Asked → List (List ℕ)
+texts_given [] = []
+texts_given (a ∷ past) = map (λ g. g.text) (option_to_list a.given) ++ texts_given past
+
+-- the texts that were sent, newest first
+abbrev pub texts_sent : List Mixed → List (List ℕ)
+texts_sent past = map (λ e. e.sent.text) past
+
+abbrev pub chunks_of : ℕ → Option Given → List Chunk
+chunks_of i None = []
+chunks_of i (Some g) = if g.source == i then g.chunks else []
+
+-- the chunks of the leg that were given, in order
+abbrev pub chunks_given : ℕ → List Asked → List Chunk
+chunks_given i [] = []
+chunks_given i (a ∷ past) = chunks_given i past ++ chunks_of i a.given

@@ -1,8 +1,8 @@
 //! The laws of the mixer: what holds after every list of events, and at the end of plain mixing.
-ghost use Rattle.std.specs.Prelude.{◌≡◌, ◌<◌, ◌≤◌, ◌+◌, ◌-◌, ◌*◌, ◌^◌, ◌⊎◌, ℕ, List, Bool, Option, Some, ◌∷◌, ◌++◌, suc, length};
+ghost use Rattle.std.specs.Prelude.{◌≡◌, ◌<◌, ◌≤◌, ◌+◌, ◌-◌, ◌*◌, ◌^◌, ◌⊎◌, ℕ, List, Bool, Option, Some, ◌∷◌, ◌++◌, suc, length, filter};
 ghost use Rattle.std.specs.List.{concat};
 ghost use Rattle.rtt_base.specs.declared.records.Chunk.{Chunk};
-ghost use Rattle.wire_spec.specs.Packets.{Arrival};
+ghost use Rattle.wire_spec.specs.Packets.{Arrival, has_text};
 ghost use Rattle.stream_spec.specs.Lists.{In};
 ghost use Rattle.stream_spec.specs.Hearing.{heard};
 ghost use Rattle.stream_spec.specs.History.{Come, History, Lawful, Placed, places};
@@ -16,7 +16,7 @@ ghost use Rattle.mixer_spec.specs.Legs.{all_of, left};
 ghost use Rattle.mixer_spec.specs.Core.{Core, Event, Turn, after, after_from, turns_in};
 ghost use Rattle.mixer_spec.specs.Plain.{left_over, plain, table_after, taken};
 ghost use Rattle.mixer_spec.specs.Through.{group_of, text_entries, through};
-ghost use Rattle.mixer_spec.specs.Laws.{AreTexts, IsHeard, IsRun, Tight, carried, count_of, moves};
+ghost use Rattle.mixer_spec.specs.Laws.{AreTexts, IsComposed, IsHeard, IsRun, Tight, carried, chunks_given, count_of, moves, texts_given, texts_sent};
 
 /// A leg's chunks stay in order: taken, in the hand, in the queue, still to push.
 pub fn chunks_in_order()
@@ -123,4 +123,20 @@ pub fn two_hops()
         (y : Placed) → In y es → concat (texts (group_of es (kept h1 (places wait h1 a1) x) y)) ≡ y.text }
     // What is heard of a lawful stream are texts.
     ensures heard { (h : History) (wait place x : ℕ) (a : List Arrival) (cs : List Chunk) → IsHeard h wait place x a cs → AreTexts cs }
+{}
+
+/// At a terminal that is not aware the texts are those that the composer gives, and the chunks that it gave of a leg are
+/// those that were sent of it.
+pub fn texts_are_composed()
+    ensures composed { (s : Setup) (chunks : ℕ → List Chunk) (past : List Event) (j : ℕ) → s.aware j ≡ Bool.false → IsComposed s j ((after s chunks past).table.terminals j).asks }
+    ensures texts { (s : Setup) (chunks : ℕ → List Chunk) (past : List Event) (j : ℕ) → s.aware j ≡ Bool.false
+        → let d = (after s chunks past).table.terminals j in filter has_text (texts_sent d.past) ≡ filter has_text (texts_given d.asks) }
+    ensures given { (s : Setup) (chunks : ℕ → List Chunk) (past : List Event) (j i : ℕ) → s.aware j ≡ Bool.false
+        → let d = (after s chunks past).table.terminals j in carried i d.past ≡ chunks_given i d.asks }
+    // At the end of plain mixing all chunks were given.
+    ensures end_composed { (s : Setup) (chunks : ℕ → List Chunk) (tick turns j : ℕ) (table : Table) → s.aware j ≡ Bool.false → plain s tick turns chunks ≡ Some table → IsComposed s j (table.terminals j).asks }
+    ensures end_texts { (s : Setup) (chunks : ℕ → List Chunk) (tick turns j : ℕ) (table : Table) → s.aware j ≡ Bool.false → plain s tick turns chunks ≡ Some table
+        → filter has_text (texts_sent (table.terminals j).past) ≡ filter has_text (texts_given (table.terminals j).asks) }
+    ensures end_given { (s : Setup) (chunks : ℕ → List Chunk) (tick turns j i : ℕ) (table : Table) → s.aware j ≡ Bool.false → j < s.legs → i < s.legs → (i ≡ j → ⊥) → plain s tick turns chunks ≡ Some table
+        → chunks_given i (table.terminals j).asks ≡ chunks i }
 {}

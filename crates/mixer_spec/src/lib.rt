@@ -5,5 +5,6 @@ mod laws;
 
 pub use laws::{
     chunks_are_kept, chunks_in_order, due_is_served, front_is_carried, histories_are_lawful,
-    offers_are_moves, packets_are_near, plain_carries_all, two_hops, waits_are_short,
+    offers_are_moves, packets_are_near, plain_carries_all, texts_are_composed, two_hops,
+    waits_are_short,
 };
