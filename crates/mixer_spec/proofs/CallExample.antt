@@ -1,5 +1,5 @@
 -- A call of two, by computing.
-use Rattle.std.proofs.Common.{◌≡◌, ℕ, true, false, cond, Option, Some, None, List, [], ◌∷◌, ◌++◌, drop, refl}
+use Rattle.std.proofs.Common.{◌≡◌, ℕ, true, false, cond, Option, Some, None, List, [], ◌∷◌, ◌++◌, take, refl}
 use Rattle.std.specs.Prelude.{codes, map, is_some, ◌==◌}
 use Rattle.rtt_base.specs.declared.records.Chunk.{Chunk}
 use Rattle.rtt_base.specs.declared.blocks.TextBlock.{TextBlock}
@@ -43,18 +43,18 @@ enough = refl
 too_few : plain two 100 16 heard ≡ None
 too_few = refl
 
-to_ann : times (sent_to 0 (plain two 100 17 heard)) ≡ 1600 ∷ 1300 ∷ 1000 ∷ []
+to_ann : times (sent_to 0 (plain two 100 17 heard)) ≡ 1000 ∷ 1300 ∷ 1600 ∷ []
 to_ann = refl
 
-to_bob : times (sent_to 1 (plain two 100 17 heard)) ≡ 1200 ∷ 900 ∷ 600 ∷ 300 ∷ 0 ∷ []
+to_bob : times (sent_to 1 (plain two 100 17 heard)) ≡ 0 ∷ 300 ∷ 600 ∷ 900 ∷ 1200 ∷ []
 to_bob = refl
 
 abbrev block : ℕ → List ℕ → TextBlock
 block offset text = record { offset = offset; text = text }
 
--- the first two packets to Bob, newest first
-first_two : drop 3 (sent_to 1 (plain two 100 17 heard))
-    ≡ record { time = 300; packet = record { mark = false; seq = 101; stamp = 5300; ssrc = 9000; source = 1001; older = block 16383 [] ∷ block 300 (codes "H") ∷ []; primary = codes "e" } }
-    ∷ record { time = 0; packet = record { mark = true; seq = 100; stamp = 5000; ssrc = 9000; source = 1001; older = block 16383 [] ∷ block 16383 [] ∷ []; primary = codes "H" } }
+-- the first two packets to Bob
+first_two : take 2 (sent_to 1 (plain two 100 17 heard))
+    ≡ record { time = 0; packet = record { mark = true; seq = 100; stamp = 5000; ssrc = 9000; source = 1001; older = block 16383 [] ∷ block 16383 [] ∷ []; primary = codes "H" } }
+    ∷ record { time = 300; packet = record { mark = false; seq = 101; stamp = 5300; ssrc = 9000; source = 1001; older = block 16383 [] ∷ block 300 (codes "H") ∷ []; primary = codes "e" } }
     ∷ []
 first_two = refl

@@ -22,6 +22,9 @@ use Rattle.mixer_spec.proofs.Legs.{in_order}
 use Rattle.mixer_spec.proofs.Kept.{core_kept}
 use Rattle.mixer_spec.proofs.Texts.{texts_left}
 use Rattle.mixer_spec.proofs.Carries.{carries_by}
+use Rattle.wire_spec.specs.Packets.{Arrival}
+use Rattle.stream_spec.specs.Hearing.{heard}
+use Rattle.stream_spec.proofs.ChunkTexts.{chunk_texts}
 use Rattle.stream_spec.proofs.Closing.{sent_closed}
 use Rattle.mixer_spec.proofs.Ends.{plainly_over, sound_over, carried_whole, no_window, no_mixer_window}
 
@@ -104,3 +107,10 @@ end_closed s chunks tick turns j table is a lj e =
         let r = (t.aware q).own p i in
         ap (λ (x : ℕ). window (s.gens j) x (d.table.terminals j).past) r.source ∙ no_window s d j p.leg v lj r.below r.other
     still d k false q t v p i = ap (λ (x : ℕ). window (s.gens j) x (d.table.terminals j).past) ((t.unaware q).own p i) ∙ no_mixer_window s d j v lj
+
+-- without a lawful history of the leg's own stream
+pub heard_law : (s : Setup) (chunks : ℕ → List Chunk) (tick turns j i : ℕ) (table : Table) → IsSetup s → ((i : ℕ) → AreTexts (chunks i)) → s.aware j ≡ true → j < s.legs → i < s.legs → (i ≡ j → ⊥)
+    → plain s tick turns chunks ≡ Some table
+    → (wait place x : ℕ) (a : List Arrival) → chunks i ≡ Rattle.stream_spec.specs.Ready.chunks wait place a x → Carries (history s j (table.terminals j).past) (s.ssrc i) (heard wait a x)
+heard_law s chunks tick turns j i table is t aw lj li n e wait place x a q =
+    subst (Carries (history s j (table.terminals j).past) (s.ssrc i)) (ap texts_of q ∙ chunk_texts wait place a x) (whole_law s chunks tick turns j i table is t aw lj li n e)

@@ -19,3 +19,5 @@ pub mod Runs
 pub mod Through
 pub mod Hops
 pub mod Asks
+pub mod OwnPackets
+pub mod Heard

@@ -36,10 +36,10 @@ to_d None = []
 to_d (Some t) = packets (stream four 3) (t.terminals 3).past
 
 abbrev times : List Arrival → List ℕ
-times sent = reverse (map (λ a. a.time) sent)
+times sent = map (λ a. a.time) sent
 
 abbrev sources : List Arrival → List ℕ
-sources sent = reverse (map (λ a. a.packet.source) sent)
+sources sent = map (λ a. a.packet.source) sent
 
 mixed_times : times (to_d (plain four 100 30 typed))
     ≡ 0 ∷ 100 ∷ 200 ∷ 300 ∷ 400 ∷ 500 ∷ 600 ∷ 700 ∷ 800 ∷ 900 ∷ 1000 ∷ 1100 ∷ 1200 ∷ 1300 ∷ 1400 ∷ 1500 ∷ 1600 ∷ 1700 ∷ []
@@ -54,7 +54,7 @@ abbrev lose : ℕ → PlanLine
 lose k = record { terminal = 3; packet = k; what = Lose }
 
 abbrev at_d : List PlanLine → List Arrival
-at_d plan = arrivals plan 3 (reverse (to_d (plain four 100 30 typed)))
+at_d plan = arrivals plan 3 (to_d (plain four 100 30 typed))
 
 abbrev hears : List PlanLine → ℕ → List (List ℕ)
 hears plan i = heard 1000 (at_d plan) (four.ssrc i)

@@ -1,7 +1,8 @@
 -- Words of the laws on the mixer: what was sent of a leg, chunks that are texts, and how often a leg was served.
 use Rattle.std.specs.Prelude.{◌≡◌, ℕ, zero, suc, ◌+◌, ◌<◌, ◌≤◌, ◌==◌, Bool, true, Option, None, Some, List, [], ◌∷◌, ◌++◌, map, option_to_list, if◌then◌else◌, IsUtf8}
+use Rattle.rtt_base.specs.declared.blocks.TextBlock.{TextBlock}
 use Rattle.rtt_base.specs.declared.records.Chunk.{Chunk}
-use Rattle.wire_spec.specs.Packets.{Arrival, has_text}
+use Rattle.wire_spec.specs.Packets.{Packet, Arrival, has_text}
 use Rattle.stream_spec.specs.History.{History, Lawful, Come}
 use Rattle.stream_spec.specs.Ready.{chunks}
 use Rattle.stream_spec.specs.Own.{Sent, has_text_in}
@@ -43,6 +44,20 @@ pub record IsRun (s : Setup) (chunks : ℕ → List Chunk) (turns : ℕ) (table 
   pub few : turns_in past ≤ turns
   pub leads : (after s chunks past).table ≡ table
   pub all : (i : ℕ) → i < s.legs → ((after s chunks past).legs i).taken ≡ chunks i
+
+-- ---- a leg's own stream
+abbrev pub AreTextBlocks : List TextBlock → Type 0
+AreTextBlocks [] = Unit {0}
+AreTextBlocks (b ∷ bs) = IsUtf8 b.text × AreTextBlocks bs
+
+-- all texts of the packet are UTF-8
+pub record IsTextPacket (p : Packet) : Type 0 where
+  pub older : AreTextBlocks p.older
+  pub primary : IsUtf8 p.primary
+
+abbrev pub AreTextArrivals : List Arrival → Type 0
+AreTextArrivals [] = Unit {0}
+AreTextArrivals (a ∷ past) = IsTextPacket a.packet × AreTextArrivals past
 
 -- these chunks are what is heard of a source by arrivals that come of a lawful history
 pub record IsHeard (h : History) (wait place source : ℕ) (a : List Arrival) (cs : List Chunk) : Type 0 where

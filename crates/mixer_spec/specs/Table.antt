@@ -41,10 +41,10 @@ sents past = map (λ e. e.sent) past
 abbrev pub history : Setup → ℕ → List Mixed → History
 history s j past = sent_history (stream s j) (sents past)
 
--- the packets, each at the moment of its turn
+-- the packets in the order in which they were sent, each at the moment of its turn
 abbrev pub packets : Stream → List Mixed → List Arrival
 packets c [] = []
-packets c (e ∷ past) = record { time = e.at; packet = packet_after c (sents past) e.sent } ∷ packets c past
+packets c (e ∷ past) = packets c past ++ record { time = e.at; packet = packet_after c (sents past) e.sent } ∷ []
 
 -- what was sent of a source on the wire
 abbrev pub sent_by : ℕ → Terminal → List Sent

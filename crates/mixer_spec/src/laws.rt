@@ -1,22 +1,23 @@
 //! The laws of the mixer: what holds after every list of events, and at the end of plain mixing.
-ghost use Rattle.std.specs.Prelude.{◌≡◌, ◌<◌, ◌≤◌, ◌+◌, ◌-◌, ◌*◌, ◌^◌, ◌⊎◌, ℕ, List, Bool, Option, Some, ◌∷◌, ◌++◌, suc, length, filter};
+ghost use Rattle.std.specs.Prelude.{◌≡◌, ◌<◌, ◌≤◌, ◌+◌, ◌-◌, ◌*◌, ◌^◌, ◌⊎◌, ℕ, List, Bool, Option, Some, ◌∷◌, ◌++◌, suc, length, filter, map};
 ghost use Rattle.std.specs.List.{concat};
 ghost use Rattle.rtt_base.specs.declared.records.Chunk.{Chunk};
 ghost use Rattle.wire_spec.specs.Packets.{Arrival, has_text};
 ghost use Rattle.stream_spec.specs.Lists.{In};
 ghost use Rattle.stream_spec.specs.Hearing.{heard};
-ghost use Rattle.stream_spec.specs.History.{Come, History, Lawful, Placed, places};
+ghost use Rattle.stream_spec.specs.History.{Come, History, Lawful, Placed, placed, places};
+ghost use Rattle.stream_spec.specs.Ready;
 ghost use Rattle.stream_spec.specs.Kept.{kept, texts};
 ghost use Rattle.stream_spec.specs.Carries.{Carries, CarriesFront};
-ghost use Rattle.stream_spec.specs.Own.{Closed, NearEach, Own, come_from, has_text_in};
+ghost use Rattle.stream_spec.specs.Own.{Closed, NearEach, Own, come_from, has_text_in, own_packet};
 ghost use Rattle.mixer_spec.specs.Chunks.{texts_of};
-ghost use Rattle.mixer_spec.specs.Setups.{IsSetup, Setup, gap};
-ghost use Rattle.mixer_spec.specs.Table.{Mixed, Table, history, is_due, last_media, next_media, rank, sent_by};
+ghost use Rattle.mixer_spec.specs.Setups.{IsSetup, Setup, gap, stream};
+ghost use Rattle.mixer_spec.specs.Table.{Mixed, Table, history, is_due, last_media, next_media, packets, rank, sent_by};
 ghost use Rattle.mixer_spec.specs.Legs.{all_of, left};
 ghost use Rattle.mixer_spec.specs.Core.{Core, Event, Turn, after, after_from, turns_in};
 ghost use Rattle.mixer_spec.specs.Plain.{left_over, plain, table_after, taken};
 ghost use Rattle.mixer_spec.specs.Through.{group_of, text_entries, through};
-ghost use Rattle.mixer_spec.specs.Laws.{AreTexts, IsComposed, IsHeard, IsRun, Tight, carried, chunks_given, count_of, moves, texts_given, texts_sent};
+ghost use Rattle.mixer_spec.specs.Laws.{AreTextArrivals, AreTexts, IsComposed, IsHeard, IsRun, Tight, carried, chunks_given, count_of, moves, texts_given, texts_sent};
 
 /// A leg's chunks stay in order: taken, in the hand, in the queue, still to push.
 pub fn chunks_in_order()
@@ -36,6 +37,7 @@ pub fn histories_are_lawful()
     ensures lawful { (s : Setup) (chunks : ℕ → List Chunk) (past : List Event) (j : ℕ) → IsSetup s → ((i : ℕ) → AreTexts (chunks i)) → s.step * turns_in past < 2 ^ 31 → j < s.legs
         → Lawful (history s j ((after s chunks past).table.terminals j).past) }
     ensures own { (s : Setup) (chunks : ℕ → List Chunk) (past : List Event) (j : ℕ) → Own (s.gens j) (history s j ((after s chunks past).table.terminals j).past) }
+    ensures packets { (s : Setup) (j : ℕ) (past : List Mixed) → map (λ a. a.packet) (packets (stream s j) past) ≡ map (own_packet (history s j past)) (placed (history s j past)) }
     ensures come { (s : Setup) (chunks : ℕ → List Chunk) (past : List Event) (j : ℕ) → IsSetup s → ((i : ℕ) → AreTexts (chunks i)) → s.step * turns_in past < 2 ^ 31 → j < s.legs
         → let h = history s j ((after s chunks past).table.terminals j).past in
         (xs : List (ℕ × Placed)) → NearEach h xs → Come h (come_from h xs) }
@@ -85,6 +87,10 @@ pub fn plain_carries_all()
         → plain s tick turns chunks ≡ Some table → carried i (table.terminals j).past ≡ chunks i }
     ensures texts { (s : Setup) (chunks : ℕ → List Chunk) (tick turns j i : ℕ) (table : Table) → IsSetup s → ((i : ℕ) → AreTexts (chunks i)) → s.aware j ≡ Bool.true → j < s.legs → i < s.legs → (i ≡ j → ⊥)
         → plain s tick turns chunks ≡ Some table → Carries (history s j (table.terminals j).past) (s.ssrc i) (texts_of (chunks i)) }
+    // That is what is heard of the leg's own stream.
+    ensures heard { (s : Setup) (chunks : ℕ → List Chunk) (tick turns j i : ℕ) (table : Table) → IsSetup s → ((i : ℕ) → AreTexts (chunks i)) → s.aware j ≡ Bool.true → j < s.legs → i < s.legs → (i ≡ j → ⊥)
+        → plain s tick turns chunks ≡ Some table
+        → (wait place x : ℕ) (a : List Arrival) → chunks i ≡ Ready.chunks wait place a x → Carries (history s j (table.terminals j).past) (s.ssrc i) (heard wait a x) }
     ensures lawful { (s : Setup) (chunks : ℕ → List Chunk) (tick turns j : ℕ) (table : Table) → IsSetup s → ((i : ℕ) → AreTexts (chunks i)) → s.step * turns < 2 ^ 31 → j < s.legs
         → plain s tick turns chunks ≡ Some table → Lawful (history s j (table.terminals j).past) }
     ensures own { (s : Setup) (j : ℕ) (past : List Mixed) → Own (s.gens j) (history s j past) }
@@ -139,4 +145,9 @@ pub fn texts_are_composed()
         → filter has_text (texts_sent (table.terminals j).past) ≡ filter has_text (texts_given (table.terminals j).asks) }
     ensures end_given { (s : Setup) (chunks : ℕ → List Chunk) (tick turns j i : ℕ) (table : Table) → s.aware j ≡ Bool.false → j < s.legs → i < s.legs → (i ≡ j → ⊥) → plain s tick turns chunks ≡ Some table
         → chunks_given i (table.terminals j).asks ≡ chunks i }
+{}
+
+/// What is heard of packets whose texts are UTF-8 are texts.
+pub fn heard_are_texts()
+    ensures { (wait place x : ℕ) (a : List Arrival) → AreTextArrivals a → AreTexts (Ready.chunks wait place a x) }
 {}

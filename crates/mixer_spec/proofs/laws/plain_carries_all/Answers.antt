@@ -1,5 +1,5 @@
 use Rattle.mixer_spec.proofs.laws.plain_carries_all.Goals as goal
-use Rattle.mixer_spec.proofs.Final.{all_law, whole_law, end_lawful, end_own, end_closed}
+use Rattle.mixer_spec.proofs.Final.{all_law, whole_law, heard_law, end_lawful, end_own, end_closed}
 
 pub returns-clause-chunks : goal.returns-clause-chunks
 returns-clause-chunks c = all_law
@@ -15,3 +15,6 @@ returns-clause-own c = end_own
 
 pub returns-clause-closed : goal.returns-clause-closed
 returns-clause-closed c = end_closed
+
+pub returns-clause-heard : goal.returns-clause-heard
+returns-clause-heard c = heard_law
