@@ -122,17 +122,17 @@ pub record Over (s : Setup) (P : ℕ → Desk → Type 0) (turns : ℕ) (table :
 abbrev after_turn : Setup → ℕ → Desk → Desk
 after_turn s now v = record { left = v.left; table = turned s now v.table }
 
-pub over_from : (s : Setup) (P : ℕ → Desk → Type 0) → ((k t : ℕ) (d : Desk) → P k d → P k (offers_below s t s.legs d)) → ((k now : ℕ) (d : Desk) → P k d → P (suc k) (record { left = d.left; table = turned s now d.table }))
-    → (tick n k : ℕ) (d : Desk) (table : Table) → P k d → plain_from s tick n k d ≡ Some table → Over s P (k + n) table
-over_from s P offer turn tick zero k d table p e = go (is_over s (offers_below s (k * tick) s.legs d)) refl e
+pub over_from : (s : Setup) (P : ℕ → Desk → Type 0) → ((k t : ℕ) (d : Desk) → P k d → P k (offers_below s t s.legs d)) → (tick : ℕ) → ((k : ℕ) (d : Desk) → P k d → P (suc k) (record { left = d.left; table = turned s (k * tick) d.table }))
+    → (n k : ℕ) (d : Desk) (table : Table) → P k d → plain_from s tick n k d ≡ Some table → Over s P (k + n) table
+over_from s P offer tick turn zero k d table p e = go (is_over s (offers_below s (k * tick) s.legs d)) refl e
   where
     go : (b : Bool) → is_over s (offers_below s (k * tick) s.legs d) ≡ b → cond b (Some (offers_below s (k * tick) s.legs d).table) None ≡ Some table → Over s P (k + 0) table
     go true q e = record { made = k; enough = omega arith; desk = offers_below s (k * tick) s.legs d; is = cc e; holds = offer k (k * tick) d p; over = q }
     go false q e = absurd (cc e)
-over_from s P offer turn tick (suc n) k d table p e =
+over_from s P offer tick turn (suc n) k d table p e =
     go (is_over s (offers_below s (k * tick) s.legs d)) refl e
-    (over_from s P offer turn tick n (suc k) (record { left = (offers_below s (k * tick) s.legs d).left; table = turned s (k * tick) (offers_below s (k * tick) s.legs d).table }) table
-    (turn k (k * tick) (offers_below s (k * tick) s.legs d) (offer k (k * tick) d p)))
+    (over_from s P offer tick turn n (suc k) (record { left = (offers_below s (k * tick) s.legs d).left; table = turned s (k * tick) (offers_below s (k * tick) s.legs d).table }) table
+    (turn k (offers_below s (k * tick) s.legs d) (offer k (k * tick) d p)))
   where
     v : Desk
     v = offers_below s (k * tick) s.legs d
@@ -149,13 +149,13 @@ over_from s P offer turn tick (suc n) k d table p e =
 
 pub plainly_over : (s : Setup) (chunks : ℕ → List Chunk) (tick turns : ℕ) (table : Table) → plain s tick turns chunks ≡ Some table → Over s (λ k d. Plainly s chunks d) turns table
 plainly_over s chunks tick turns table e =
-    let o = over_from s (λ k d. Plainly s chunks d) (λ k t d p. all_plainly s chunks t s.legs d p) (λ k now d p. record { took = p.took; all = p.all; kept = turned_kept s p.took d.table now p.kept }) tick turns 0
+    let o = over_from s (λ k d. Plainly s chunks d) (λ k t d p. all_plainly s chunks t s.legs d p) tick (λ k d p. record { took = p.took; all = p.all; kept = turned_kept s p.took d.table (k * tick) p.kept }) turns 0
     (record { left = chunks; table = empty }) table (record { took = λ i. []; all = λ i. refl; kept = λ j i n. refl }) e in
     record { made = o.made; enough = omega (arith, o.enough); desk = o.desk; is = o.is; holds = o.holds; over = o.over }
 
 pub sound_over : (s : Setup) → IsSetup s → (chunks : ℕ → List Chunk) → ((i : ℕ) → AreTexts (chunks i)) → (tick turns : ℕ) (table : Table) → plain s tick turns chunks ≡ Some table → Over s (Sound s) turns table
 sound_over s is chunks a tick turns table e =
-    let o = over_from s (Sound s) (λ k t d p. all_sound s k t s.legs d p) (λ k now d p. record { left = p.left; good = turned_good s is k d.table now p.good }) tick turns 0
+    let o = over_from s (Sound s) (λ k t d p. all_sound s k t s.legs d p) tick (λ k d p. record { left = p.left; good = turned_good s is k d.table (k * tick) p.good }) turns 0
     (record { left = chunks; table = empty }) table (record { left = a; good = empty_good s }) e in
     record { made = o.made; enough = omega (arith, o.enough); desk = o.desk; is = o.is; holds = o.holds; over = o.over }
 

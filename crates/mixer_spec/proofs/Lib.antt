@@ -21,3 +21,4 @@ pub mod Hops
 pub mod Asks
 pub mod OwnPackets
 pub mod Heard
+pub mod Plans

@@ -1,5 +1,5 @@
 -- Plain mixing is a run of the core.
-use Rattle.std.proofs.Common.{◌≡◌, ℕ, zero, suc, inl, inr, Some, List, [], ◌∷◌, ◌++◌, length, refl, ap, sym, ◌∙◌, arith}
+use Rattle.std.proofs.Common.{◌*◌, ◌≡◌, ℕ, zero, suc, inl, inr, Some, List, [], ◌∷◌, ◌++◌, length, refl, ap, sym, ◌∙◌, arith}
 use Rattle.std.proofs.lemmas.Bool.{cases_eq}
 use Rattle.rtt_base.specs.declared.records.Chunk.{Chunk}
 use Rattle.mixer_spec.specs.Setups.{Setup}
@@ -55,7 +55,7 @@ leads_turn s chunks k now d r = record { past = Turn now ∷ r.past; turns = ap 
 
 pub run_law : (s : Setup) (chunks : ℕ → List Chunk) (tick turns : ℕ) (table : Table) → plain s tick turns chunks ≡ Some table → IsRun s chunks turns table
 run_law s chunks tick turns table e =
-    let o = over_from s (Leads s chunks) (λ k t d r. leads_all s chunks k t s.legs d r) (λ k now d r. leads_turn s chunks k now d r) tick turns 0
+    let o = over_from s (Leads s chunks) (λ k t d r. leads_all s chunks k t s.legs d r) tick (λ k d r. leads_turn s chunks k (k * tick) d r) turns 0
     (record { left = chunks; table = empty }) table (record { past = []; turns = refl; rest = λ i. refl; table = refl }) e in
     let h = o.holds in
     record {

@@ -1,10 +1,11 @@
 -- What comes of the packets sent to a terminal, by the plan of a conference: some are lost, come late or come twice
 -- (profile).
-use Rattle.std.specs.Prelude.{ℕ, zero, suc, ◌+◌, ◌==◌, Bool, true, false, ◌&&◌, ◌||◌, List, [], ◌∷◌, ◌++◌, filter, map, nat_lt, if◌then◌else◌}
+use Rattle.std.specs.Prelude.{◌≤◌, ℕ, zero, suc, ◌+◌, ◌==◌, Bool, true, false, ◌&&◌, ◌||◌, List, [], ◌∷◌, ◌++◌, length, filter, map, nat_lt, if◌then◌else◌}
 use Rattle.std.specs.List.{list_any}
 use Rattle.file_spec.specs.declared.conf_lines.PlanLine.{PlanLine}
 use Rattle.file_spec.specs.declared.conf_lines.What.{What}
 use Rattle.file_spec.specs.declared.conf_lines.What.TheVariants.{Lose, Delay, Twice}
+use Rattle.stream_spec.specs.Lists.{In}
 use Rattle.wire_spec.specs.Packets.{Arrival}
 
 -- the packet with this number, counted from 0, comes at this moment
@@ -60,15 +61,15 @@ abbrev pub arrives : List PlanLine → ℕ → List ℕ → List Copy
 arrives plan t sent = in_order (all_copies plan t 0 sent)
 
 -- ---- the packets themselves
--- the k-th of these
-abbrev pub packet_at : ℕ → List Arrival → List Arrival
-packet_at k [] = []
-packet_at zero (a ∷ sent) = a ∷ []
-packet_at (suc k) (a ∷ sent) = packet_at k sent
+-- the k-th of these, if there is one
+abbrev pub one_at : {X : Type 0} → ℕ → List X → List X
+one_at k [] = []
+one_at zero (x ∷ xs) = x ∷ []
+one_at (suc k) (x ∷ xs) = one_at k xs
 
 -- a packet at the moment of its copy
 abbrev pub arrival : List Arrival → Copy → List Arrival
-arrival sent c = map (λ a. record { time = c.at; packet = a.packet }) (packet_at c.index sent)
+arrival sent c = map (λ a. record { time = c.at; packet = a.packet }) (one_at c.index sent)
 
 -- the copies as arrivals, newest first, where these were sent, in order
 abbrev pub arrivals_of : List Arrival → List Copy → List Arrival
@@ -78,3 +79,8 @@ arrivals_of sent (c ∷ cs) = arrivals_of sent cs ++ arrival sent c
 -- what comes to the terminal t of these packets, sent in this order: newest first
 abbrev pub arrivals : List PlanLine → ℕ → List Arrival → List Arrival
 arrivals plan t sent = arrivals_of sent (arrives plan t (map (λ a. a.time) sent))
+
+-- what the plan of a conference keeps
+pub record IsPlan (plan : List PlanLine) : Type 0 where
+  pub few : length plan ≤ 4096
+  pub late : (l : PlanLine) → In l plan → delay (l.what ∷ []) ≤ 60000
