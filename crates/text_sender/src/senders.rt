@@ -87,7 +87,7 @@ impl Sender {
     pub fn typed(&mut self, text: &[u8]) -> Result<(), Full>
         requires { IsUtf8 text.now }
         ensures room { (conf : SendConf) (past : List Event) → StandsFor conf self.old past
-            → IsOk result ↔ (length (waits_for conf past) + length text.now ≤ 16384) }
+            → (IsOk result ↔ (length (waits_for conf past) + length text.now ≤ 16384)) }
         ensures ok { OnOk result ((conf : SendConf) (past : List Event) → StandsFor conf self.old past → StandsFor conf self.new (text_event text.now ∷ past)) }
         ensures err { OnErr result (self.new ≡ self.old) }
     {
