@@ -5,3 +5,5 @@ pub mod Erasing
 pub mod Rising
 pub mod Utf8
 pub mod Accepted
+pub mod Gathering
+pub mod Listening

@@ -10,25 +10,9 @@ use Rattle.wire_spec.specs.Packets.{Packet, Arrival, has_text}
 use Rattle.stream_spec.specs.Lists.{In}
 use Rattle.stream_spec.specs.Numbering.{Numbered, numbered, used, has_number, first_number}
 use Rattle.stream_spec.specs.Hearing.{piece, heard_over, heard, is_packet_of, older_texts, new_texts, text_list, marker, is_marked, is_new}
+use Rattle.rtt_top.specs.Texts.{AllUtf8, AreTexts, IsTextPacket, AreTextArrivals}
 use Rattle.stream_spec.proofs.Matched.{used_in}
 use Rattle.stream_spec.proofs.Lists.{in_filter}
-
-abbrev pub AllUtf8 : List (List ℕ) → Type 0
-AllUtf8 [] = Unit {0}
-AllUtf8 (t ∷ ts) = IsUtf8 t × AllUtf8 ts
-
-abbrev pub AreTexts : List TextBlock → Type 0
-AreTexts [] = Unit {0}
-AreTexts (b ∷ bs) = IsUtf8 b.text × AreTexts bs
-
--- all texts of the packet are UTF-8
-pub record IsTextPacket (p : Packet) : Type 0 where
-  pub older : AreTexts p.older
-  pub primary : IsUtf8 p.primary
-
-abbrev pub AreTextArrivals : List Arrival → Type 0
-AreTextArrivals [] = Unit {0}
-AreTextArrivals (a ∷ past) = IsTextPacket a.packet × AreTextArrivals past
 
 all_append : (xs ys : List (List ℕ)) → AllUtf8 xs → AllUtf8 ys → AllUtf8 (xs ++ ys)
 all_append [] ys p q = q

@@ -2,3 +2,5 @@ pub mod Commands
 pub mod Messages
 pub mod ReadView
 pub mod Bare
+pub mod Texts
+pub mod Hears

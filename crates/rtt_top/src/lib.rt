@@ -2,4 +2,5 @@
 #![tactic(auto)]
 
 mod faults;
+mod listeners;
 mod words;

@@ -1,0 +1,29 @@
+//! The program: its words go to `run`, over the files of the system and its standard streams.
+#![tactic(auto)]
+
+use rtt_io::{RealWorld, StandardError, StandardOutput, StillGate};
+use rtt_top::run;
+use std::env;
+use std::process::ExitCode;
+
+/// The words after the program's own name. Words that are not UTF-8 count as no words at all.
+fn words_of(rt: &HostRuntime) -> Result<Vec<String>, std::alloc::AllocError> {
+    let mut words = Vec::new(rt.alloc());
+    let Ok(all) = env::args(rt) else {
+        return Ok(words);
+    };
+    for word in all.skip(1) {
+        words.push(word)?;
+    }
+    Ok(words)
+}
+
+fn main(rt: HostRuntime) -> ExitCode {
+    let Ok(words) = words_of(&rt) else {
+        return ExitCode::from(70);
+    };
+    let mut world = RealWorld::new(rt.clone(), rt.alloc());
+    let mut out = StandardOutput::new(rt.stdout());
+    let mut err = StandardError::new(rt.stderr());
+    ExitCode::from(run(&rt, rt.alloc(), words.as_slice(), &mut world, &mut out, &mut err, &StillGate))
+}
