@@ -7,3 +7,5 @@ pub mod Utf8
 pub mod Accepted
 pub mod Gathering
 pub mod Listening
+pub mod Reading
+pub mod Viewing

@@ -3,4 +3,5 @@
 
 mod faults;
 mod listeners;
+mod reads;
 mod words;
