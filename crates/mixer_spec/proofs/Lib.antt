@@ -22,3 +22,5 @@ pub mod Asks
 pub mod OwnPackets
 pub mod Heard
 pub mod Plans
+pub mod Arriving
+pub mod Spread
