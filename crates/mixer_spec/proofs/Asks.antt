@@ -1,18 +1,14 @@
 -- At a terminal that is not aware the texts are those that the composer gave.
-use Rattle.std.proofs.Common.{◌≡◌, ℕ, suc, ◌+◌, ◌<◌, Bool, true, false, cond, inl, inr, Option, Some, None, List, [], ◌∷◌, ◌++◌, refl, ap, subst, sym, ◌∙◌}
+use Rattle.std.proofs.Common.{◌≡◌, ℕ, ◌<◌, Bool, true, false, cond, Option, Some, None, List, [], ◌∷◌, ◌++◌, refl, ap, subst, sym, ◌∙◌}
 use Rattle.std.specs.Prelude.{◌==◌, ◌&&◌, filter, if◌then◌else◌}
-use Rattle.std.proofs.lemmas.Bool.{true≢false}
 use Rattle.rtt_base.specs.declared.records.Chunk.{Chunk}
 use Rattle.wire_spec.specs.Packets.{has_text}
-use Rattle.mixer_spec.specs.Chunks.{has_chunk}
-use Rattle.mixer_spec.specs.Rounds.{set_at}
 use Rattle.mixer_spec.specs.Setups.{Setup}
-use Rattle.mixer_spec.specs.Composed.{Given, Asked}
-use Rattle.mixer_spec.specs.Table.{Mixed, Terminal, Table, give, given, turn_aware, is_asked, answer_at, repeated, compose, turn_unaware, turn_at, next_media}
-use Rattle.mixer_spec.specs.Legs.{Leg, take_hand, picked}
-use Rattle.mixer_spec.specs.Core.{Core, Event, Push, Take, Turn, is_taken, offer_hand, happens, after}
+use Rattle.mixer_spec.specs.Composed.{Given}
+use Rattle.mixer_spec.specs.Table.{Terminal, Table, give, given, turn_aware, is_asked, answer_at, repeated, compose, turn_unaware, turn_at, next_media}
+use Rattle.mixer_spec.specs.Core.{Event, Push, Take, Turn, after}
 use Rattle.mixer_spec.specs.Plain.{plain}
-use Rattle.mixer_spec.specs.Laws.{carried, IsAnswered, IsComposed, texts_given, texts_sent, chunks_of, chunks_given, IsRun}
+use Rattle.mixer_spec.specs.Laws.{carried, IsComposed, texts_given, texts_sent, chunks_given}
 use Rattle.mixer_spec.proofs.Lists.{nil}
 use Rattle.mixer_spec.proofs.Paced.{window}
 use Rattle.mixer_spec.proofs.Served.{take_table}

@@ -17,8 +17,11 @@ use Rattle.stream_spec.proofs.Walks.{are_places, l1}
 use Rattle.stream_spec.proofs.Blocks.{l2_only}
 use Rattle.stream_spec.proofs.ChunkTexts.{chunk_texts}
 use Rattle.mixer_spec.specs.Chunks.{texts_of}
-use Rattle.mixer_spec.specs.Setups.{Setup, IsSetup}
-use Rattle.mixer_spec.specs.Table.{Table, history}
+use Rattle.file_spec.specs.declared.conf_lines.PlanLine.{PlanLine}
+use Rattle.mixer_spec.specs.Setups.{Setup, IsSetup, stream}
+use Rattle.mixer_spec.specs.Arrives.{IsPlan, arrivals}
+use Rattle.mixer_spec.proofs.Spread.{plan_law}
+use Rattle.mixer_spec.specs.Table.{Table, history, packets}
 use Rattle.mixer_spec.specs.Legs.{left}
 use Rattle.mixer_spec.specs.Core.{Event, after, turns_in}
 use Rattle.mixer_spec.specs.Plain.{plain}
@@ -103,3 +106,13 @@ whole_law s chunks tick turns j i table is a b aw lj li n e h1 wait place x a1 q
     subst (λ (t : Table). (wait2 : ℕ) (a2 : List Arrival) → Come (history s j (t.terminals j).past) a2
     → concat (heard wait2 a2 (s.ssrc i)) ≡ concat (texts (through h1 (places wait h1 a1) x (history s j (t.terminals j).past) (places wait2 (history s j (t.terminals j).past) a2) (s.ssrc i)))) r.leads
     (hops_law s chunks r.past j i is a (omega (arith, up, b)) aw lj li n h1 wait place x a1 q)
+
+pub planned_law : (s : Setup) (chunks : ℕ → List Chunk) (tick turns j i : ℕ) (table : Table) → IsSetup s → ((i : ℕ) → AreTexts (chunks i)) → s.step * turns < 2 ^ 31 → 20 ≤ tick → s.aware j ≡ true → j < s.legs → i < s.legs → (i ≡ j → ⊥)
+    → plain s tick turns chunks ≡ Some table
+    → (h1 : History) (wait place x : ℕ) (a1 : List Arrival) → IsHeard h1 wait place x a1 (chunks i)
+    → (plan : List PlanLine) → IsPlan plan → (wait2 : ℕ)
+    → let h2 = history s j (table.terminals j).past in
+    let a2 = arrivals plan j (packets (stream s j) (table.terminals j).past) in
+    concat (heard wait2 a2 (s.ssrc i)) ≡ concat (texts (through h1 (places wait h1 a1) x h2 (places wait2 h2 a2) (s.ssrc i)))
+planned_law s chunks tick turns j i table is a b l aw lj li n e h1 wait place x a1 q plan p wait2 =
+    whole_law s chunks tick turns j i table is a b aw lj li n e h1 wait place x a1 q wait2 (arrivals plan j (packets (stream s j) (table.terminals j).past)) (plan_law s chunks tick turns j table is a b l lj e plan p)

@@ -24,3 +24,4 @@ pub mod Heard
 pub mod Plans
 pub mod Arriving
 pub mod Spread
+pub mod Conferences

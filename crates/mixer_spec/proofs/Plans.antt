@@ -1,14 +1,14 @@
 -- What comes of packets by a plan: which copies there are, and that they come in order.
-use Rattle.std.proofs.Common.{◌≡◌, ℕ, zero, suc, ◌+◌, ◌-◌, ◌*◌, ◌<◌, ◌≤◌, Bool, true, false, cond, ◌⊎◌, inl, inr, List, [], ◌∷◌, ◌++◌, length, refl, ap, subst, sym, ◌∙◌, arith}
-use Rattle.std.specs.Prelude.{◌==◌, ◌&&◌, ◌||◌, filter, map, nat_le, nat_lt, if◌then◌else◌}
+use Rattle.std.proofs.Common.{◌≡◌, ℕ, zero, suc, ◌+◌, ◌-◌, ◌<◌, ◌≤◌, Bool, true, false, cond, ◌⊎◌, inl, inr, List, [], ◌∷◌, length, refl, ap, subst, sym, ◌∙◌, arith}
+use Rattle.std.specs.Prelude.{◌==◌, ◌&&◌, filter, map, nat_le, nat_lt, if◌then◌else◌}
 use Rattle.std.specs.List.{list_any}
-use Rattle.std.proofs.lemmas.Bool.{cases_Bool, cases_lt, cases_eq, true≢false, eqb-true, eq-eqb, ltb-true, lt-ltb, le-leb, leb-true, and_parts, and_from, or_cases, or_left, or_right}
+use Rattle.std.proofs.lemmas.Bool.{cases_Bool, cases_lt, cases_eq, true≢false, eqb-true, ltb-true, lt-ltb, le-leb, and_parts, and_from, or_cases, or_left}
 use Rattle.file_spec.specs.declared.conf_lines.PlanLine.{PlanLine}
 use Rattle.file_spec.specs.declared.conf_lines.What.{What}
 use Rattle.file_spec.specs.declared.conf_lines.What.TheVariants.{Lose, Delay, Twice}
 use Rattle.stream_spec.specs.Lists.{In}
 use Rattle.stream_spec.proofs.Lists.{in_left, in_right, in_append, in_filter}
-use Rattle.mixer_spec.specs.Arrives.{Copy, loses, doubles, lines_of, delay, copies, all_copies, is_sooner, among, in_order, arrives, IsPlan}
+use Rattle.mixer_spec.specs.Arrives.{Copy, loses, doubles, lines_of, delay, copies, all_copies, is_sooner, among, in_order, IsPlan}
 
 -- ---- delays
 late_in : (plan : List PlanLine) → IsPlan plan → (ls : List PlanLine) → ((l : PlanLine) → In l ls → In l plan) → delay (map (λ (l : PlanLine). l.what) ls) ≤ 60000

@@ -1,6 +1,6 @@
 -- Three that type and one that is silent, by computing: what is sent in turn, and what is heard when packets are lost.
 use Rattle.std.proofs.Common.{◌≡◌, ℕ, ◌+◌, true, cond, Option, Some, None, List, [], ◌∷◌, refl}
-use Rattle.std.specs.Prelude.{codes, map, ◌==◌, reverse}
+use Rattle.std.specs.Prelude.{codes, map, ◌==◌}
 use Rattle.rtt_base.specs.declared.records.Chunk.{Chunk}
 use Rattle.file_spec.specs.declared.conf_lines.PlanLine.{PlanLine}
 use Rattle.file_spec.specs.declared.conf_lines.What.TheVariants.{Lose, Delay, Twice}

@@ -1,18 +1,18 @@
 -- In plain mixing the moments of the packets to a terminal rise by a tick at least.
-use Rattle.std.proofs.Common.{◌≡◌, ℕ, zero, suc, ◌+◌, ◌-◌, ◌*◌, ◌^◌, ◌<◌, ◌≤◌, Bool, true, false, cond, ◌⊎◌, inl, inr, Option, Some, None, List, [], ◌∷◌, ◌++◌, length, length-append, refl, ap, subst, sym, ◌∙◌, arith}
+use Rattle.std.proofs.Common.{◌≡◌, ℕ, zero, suc, ◌+◌, ◌-◌, ◌*◌, ◌^◌, ◌<◌, ◌≤◌, Bool, true, false, cond, inl, inr, Option, Some, None, List, [], ◌∷◌, ◌++◌, length, length-append, refl, ap, subst, sym, ◌∙◌, arith}
 use Rattle.std.specs.Prelude.{map, ◌==◌, ◌&&◌}
-use Rattle.std.proofs.lemmas.Bool.{cases_lt, cases_eq}
+use Rattle.std.proofs.lemmas.Bool.{cases_lt}
 use Rattle.std.proofs.Math.Nat.{suc-mul}
 use Rattle.rtt_base.specs.declared.records.Chunk.{Chunk}
 use Rattle.file_spec.specs.declared.conf_lines.PlanLine.{PlanLine}
 use Rattle.wire_spec.specs.Packets.{Arrival}
 use Rattle.stream_spec.specs.History.{Come}
-use Rattle.stream_spec.specs.Own.{Stream, has_text_in, packet_after}
+use Rattle.stream_spec.specs.Own.{Stream, packet_after}
 use Rattle.mixer_spec.specs.Setups.{Setup, IsSetup, stream}
 use Rattle.mixer_spec.specs.Composed.{Given}
-use Rattle.mixer_spec.specs.Table.{Mixed, Terminal, Table, sents, history, packets, empty, give, given, served, serve, turn_aware, is_asked, answer_at, repeated, compose, turn_unaware, turn_at, next_media, turned}
+use Rattle.mixer_spec.specs.Table.{Mixed, Terminal, Table, sents, history, packets, empty, give, given, served, serve, turn_aware, is_asked, answer_at, repeated, compose, turn_unaware, turn_at, next_media}
 use Rattle.mixer_spec.specs.Core.{is_taken}
-use Rattle.mixer_spec.specs.Plain.{Desk, table_after, offers, offers_below, plain}
+use Rattle.mixer_spec.specs.Plain.{Desk, table_after, offers_below, plain}
 use Rattle.mixer_spec.specs.Arrives.{arrivals, IsPlan}
 use Rattle.mixer_spec.specs.Laws.{AreTexts}
 use Rattle.mixer_spec.proofs.Paced.{window}

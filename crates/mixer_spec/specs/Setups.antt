@@ -2,6 +2,7 @@
 use Rattle.std.specs.Prelude.{◌≡◌, ℕ, zero, suc, ◌+◌, ◌-◌, ◌*◌, ◌<◌, ◌≤◌, Bool, false, Option, None, Some, List, [], ◌∷◌, length, IsUtf8}
 use Rattle.file_spec.specs.declared.conf_lines.LegLine.{LegLine}
 use Rattle.file_spec.specs.Conf.{Conf}
+use Rattle.stream_spec.specs.Lists.{In}
 use Rattle.stream_spec.specs.Own.{Stream}
 
 -- Legs are numbered from 0. The terminal of a leg is aware where it knows that packets may have several sources; it
@@ -68,3 +69,16 @@ setup c = record {
   first = c.mixer.seq;
   base = c.mixer.stamp;
 }
+
+-- each leg's SSRC is another than those below it
+abbrev pub Differ : List LegLine → Type 0
+Differ [] = Unit {0}
+Differ (l ∷ ls) = ((m : LegLine) → In m ls → l.ssrc ≡ m.ssrc → ⊥) × Differ ls
+
+-- what a conference keeps of its limits
+pub record IsConference (c : Conf) : Type 0 where
+  pub two : 2 ≤ length c.legs
+  pub most : length c.legs ≤ 16
+  pub differ : Differ c.legs
+  pub names : (l : LegLine) → In l c.legs → (length l.name ≤ 32) × IsUtf8 l.name
+  pub spacing : c.spacing ≤ 1000

@@ -10,12 +10,15 @@ ghost use Rattle.stream_spec.specs.Ready;
 ghost use Rattle.stream_spec.specs.Kept.{kept, texts};
 ghost use Rattle.stream_spec.specs.Carries.{Carries, CarriesFront};
 ghost use Rattle.stream_spec.specs.Own.{Closed, NearEach, Own, come_from, has_text_in, own_packet};
+ghost use Rattle.file_spec.specs.declared.conf_lines.PlanLine.{PlanLine};
+ghost use Rattle.file_spec.specs.Conf.{Conf};
 ghost use Rattle.mixer_spec.specs.Chunks.{texts_of};
-ghost use Rattle.mixer_spec.specs.Setups.{IsSetup, Setup, gap, stream};
+ghost use Rattle.mixer_spec.specs.Setups.{IsConference, IsSetup, Setup, gap, setup, stream};
 ghost use Rattle.mixer_spec.specs.Table.{Mixed, Table, history, is_due, last_media, next_media, packets, rank, sent_by};
 ghost use Rattle.mixer_spec.specs.Legs.{all_of, left};
 ghost use Rattle.mixer_spec.specs.Core.{Core, Event, Turn, after, after_from, turns_in};
 ghost use Rattle.mixer_spec.specs.Plain.{left_over, plain, table_after, taken};
+ghost use Rattle.mixer_spec.specs.Arrives.{IsPlan, arrivals};
 ghost use Rattle.mixer_spec.specs.Through.{group_of, text_entries, through};
 ghost use Rattle.mixer_spec.specs.Laws.{AreTextArrivals, AreTexts, IsComposed, IsHeard, IsRun, Tight, carried, chunks_given, count_of, moves, texts_given, texts_sent};
 
@@ -122,6 +125,14 @@ pub fn two_hops()
         → (h1 : History) (wait place x : ℕ) (a1 : List Arrival) → IsHeard h1 wait place x a1 (chunks i)
         → let h2 = history s j (table.terminals j).past in
         (wait2 : ℕ) (a2 : List Arrival) → Come h2 a2 → concat (heard wait2 a2 (s.ssrc i)) ≡ concat (texts (through h1 (places wait h1 a1) x h2 (places wait2 h2 a2) (s.ssrc i))) }
+    // And under any plan.
+    ensures planned { (s : Setup) (chunks : ℕ → List Chunk) (tick turns j i : ℕ) (table : Table) → IsSetup s → ((i : ℕ) → AreTexts (chunks i)) → s.step * turns < 2 ^ 31 → 20 ≤ tick → s.aware j ≡ Bool.true → j < s.legs → i < s.legs → (i ≡ j → ⊥)
+        → plain s tick turns chunks ≡ Some table
+        → (h1 : History) (wait place x : ℕ) (a1 : List Arrival) → IsHeard h1 wait place x a1 (chunks i)
+        → (plan : List PlanLine) → IsPlan plan → (wait2 : ℕ)
+        → let h2 = history s j (table.terminals j).past in
+        let a2 = arrivals plan j (packets (stream s j) (table.terminals j).past) in
+        concat (heard wait2 a2 (s.ssrc i)) ≡ concat (texts (through h1 (places wait h1 a1) x h2 (places wait2 h2 a2) (s.ssrc i))) }
     // The items that stand for an entry of the second hop have its text.
     ensures group { (s : Setup) (chunks : ℕ → List Chunk) (past : List Event) (j i : ℕ) → IsSetup s → ((i : ℕ) → AreTexts (chunks i)) → s.aware j ≡ Bool.true → j < s.legs → i < s.legs → (i ≡ j → ⊥)
         → (h1 : History) (wait place x : ℕ) (a1 : List Arrival) → IsHeard h1 wait place x a1 (chunks i)
@@ -150,4 +161,17 @@ pub fn texts_are_composed()
 /// What is heard of packets whose texts are UTF-8 are texts.
 pub fn heard_are_texts()
     ensures { (wait place x : ℕ) (a : List Arrival) → AreTextArrivals a → AreTexts (Ready.chunks wait place a x) }
+{}
+
+/// Whatever a plan loses, delays or sends twice, what comes to a terminal of the packets of plain mixing comes from its
+/// history.
+pub fn planned_packets_come()
+    ensures { (s : Setup) (chunks : ℕ → List Chunk) (tick turns j : ℕ) (table : Table) → IsSetup s → ((i : ℕ) → AreTexts (chunks i)) → s.step * turns < 2 ^ 31 → 20 ≤ tick → j < s.legs → plain s tick turns chunks ≡ Some table
+        → (plan : List PlanLine) → IsPlan plan → Come (history s j (table.terminals j).past) (arrivals plan j (packets (stream s j) (table.terminals j).past)) }
+{}
+
+/// A conference within its limits is a setup, and its media times stay within half the circle of timestamps.
+pub fn conference_is_setup()
+    ensures setup { (c : Conf) → IsConference c → IsSetup (setup c) }
+    ensures media { (c : Conf) → c.turns ≤ 5000000 → (setup c).step * c.turns < 2 ^ 31 }
 {}
