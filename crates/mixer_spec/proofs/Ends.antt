@@ -6,9 +6,9 @@ use Rattle.rtt_base.specs.declared.records.Chunk.{Chunk}
 use Rattle.mixer_spec.specs.Chunks.{has_chunk}
 use Rattle.mixer_spec.specs.Rounds.{all_below, set_at}
 use Rattle.mixer_spec.specs.Setups.{Setup, IsSetup}
-use Rattle.mixer_spec.specs.Table.{Terminal, Table, empty, given, turned, has_work}
+use Rattle.mixer_spec.specs.Table.{Terminal, Table, empty, given, turned, has_work, is_quiet}
 use Rattle.mixer_spec.specs.Core.{is_taken}
-use Rattle.mixer_spec.specs.Plain.{Desk, taken, left_over, table_after, offers, offers_below, is_quiet, is_over, plain_from, plain}
+use Rattle.mixer_spec.specs.Plain.{Desk, taken, left_over, table_after, offers, offers_below, is_over, plain_from, plain}
 use Rattle.mixer_spec.specs.Laws.{carried, AreTexts}
 use Rattle.mixer_spec.proofs.Lists.{nil, set_same, set_other}
 use Rattle.mixer_spec.proofs.Kept.{Kept, given_kept, turned_kept, kept_same}

@@ -25,3 +25,4 @@ pub mod Plans
 pub mod Arriving
 pub mod Spread
 pub mod Conferences
+pub mod OnePacket

@@ -17,6 +17,11 @@ abbrev pub carried : ℕ → List Mixed → List Chunk
 carried i [] = []
 carried i (e ∷ past) = carried i past ++ (if e.leg == i then e.chunks else [])
 
+-- sent in a turn at the moment `now`, with the media time t
+pub record IsNew (now t : ℕ) (e : Mixed) : Type 0 where
+  pub at : e.at ≡ now
+  pub media : e.sent.media ≡ t
+
 -- how many packets carry the leg
 abbrev pub count_of : ℕ → List Mixed → ℕ
 count_of i [] = 0

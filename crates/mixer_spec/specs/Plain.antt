@@ -1,11 +1,10 @@
 -- Mixing on one thread: before each turn each leg offers what is ready (profile).
-use Rattle.std.specs.Prelude.{ℕ, zero, suc, ◌*◌, ◌==◌, Bool, true, false, not, ◌&&◌, ◌||◌, Option, None, Some, List, [], ◌∷◌, if◌then◌else◌}
+use Rattle.std.specs.Prelude.{ℕ, zero, suc, ◌*◌, Bool, true, false, not, ◌&&◌, Option, None, Some, List, [], ◌∷◌, if◌then◌else◌}
 use Rattle.rtt_base.specs.declared.records.Chunk.{Chunk}
-use Rattle.stream_spec.specs.Own.{has_text_in}
 use Rattle.mixer_spec.specs.Chunks.{has_chunk}
 use Rattle.mixer_spec.specs.Rounds.{all_below, set_at}
 use Rattle.mixer_spec.specs.Setups.{Setup}
-use Rattle.mixer_spec.specs.Table.{Terminal, Table, empty, given, turned, has_work, sent_by}
+use Rattle.mixer_spec.specs.Table.{Table, empty, given, turned, is_idle}
 use Rattle.mixer_spec.specs.Core.{is_taken}
 
 -- what each leg has still to offer, and the table
@@ -38,13 +37,9 @@ offers_below s t zero d = d
 offers_below s t (suc n) d = offers s t n (offers_below s t n d)
 
 -- ---- the end
--- nothing waits at the terminal j, and no source's text is still to be repeated there
-abbrev pub is_quiet : Setup → ℕ → Terminal → Bool
-is_quiet s j d = not (has_text_in (s.gens j) (sent_by s.mixer d)) && all_below (λ i. (i == j) || not (has_work s j d i)) s.legs
-
--- nothing is left to offer, and each terminal is quiet
+-- nothing is left to offer, and the table is idle
 abbrev pub is_over : Setup → Desk → Bool
-is_over s d = all_below (λ i. not (has_chunk (d.left i))) s.legs && all_below (λ j. is_quiet s j (d.table.terminals j)) s.legs
+is_over s d = all_below (λ i. not (has_chunk (d.left i))) s.legs && is_idle s d.table
 
 -- ---- turns
 -- from the turn k on, with at most n turns more; turn k is at k ticks

@@ -3,11 +3,11 @@
 -- are numbers of legs. Lists of what was sent are newest first.
 use Rattle.std.specs.Prelude.{ℕ, zero, suc, ◌+◌, ◌==◌, Bool, true, not, ◌&&◌, ◌||◌, Option, None, Some, List, [], ◌∷◌, ◌++◌, length, map, min, max, nat_le, if◌then◌else◌}
 use Rattle.rtt_base.specs.declared.records.Chunk.{Chunk}
-use Rattle.wire_spec.specs.Packets.{Arrival}
+use Rattle.wire_spec.specs.Packets.{Packet, Arrival}
 use Rattle.stream_spec.specs.History.{History}
 use Rattle.stream_spec.specs.Own.{Sent, Stream, sent_of, has_text_in, sent_history, packet_after}
 use Rattle.mixer_spec.specs.Chunks.{joined, octets, has_chunk, front, behind}
-use Rattle.mixer_spec.specs.Rounds.{first_round, count_below, is_before, set_at}
+use Rattle.mixer_spec.specs.Rounds.{all_below, first_round, count_below, is_before, set_at}
 use Rattle.mixer_spec.specs.Setups.{Setup, stream}
 use Rattle.mixer_spec.specs.Composed.{Given, Asked, answer}
 
@@ -170,6 +170,34 @@ turned_to s now t table = record { terminals = λ j. turn_at s j now t (table.te
 -- a turn at the moment `now`
 abbrev pub turned : Setup → ℕ → Table → Table
 turned s now table = turned_to s now (next_media s.step table.media now) table
+
+-- a packet to a terminal
+pub record Post : Type 0 where
+  pub terminal : ℕ
+  pub packet : Packet
+
+-- the packet that was sent between these two, if there is one
+abbrev pub new_packet : Stream → List Mixed → List Mixed → List Packet
+new_packet c before [] = []
+new_packet c before (e ∷ past) = if length past == length before then packet_after c (sents past) e.sent ∷ [] else []
+
+abbrev pub posts_below : Setup → Table → Table → ℕ → List Post
+posts_below s before after zero = []
+posts_below s before after (suc n) =
+    posts_below s before after n ++ map (λ p. record { terminal = n; packet = p }) (new_packet (stream s n) (before.terminals n).past (after.terminals n).past)
+
+-- the packets of a turn at the moment `now`, in leg order
+abbrev pub batch : Setup → ℕ → Table → List Post
+batch s now table = posts_below s table (turned s now table) s.legs
+
+-- ---- the end
+-- nothing waits at the terminal j, and no source's text is still to be repeated there
+abbrev pub is_quiet : Setup → ℕ → Terminal → Bool
+is_quiet s j d = not (has_text_in (s.gens j) (sent_by s.mixer d)) && all_below (λ i. (i == j) || not (has_work s j d i)) s.legs
+
+-- each terminal is quiet
+abbrev pub is_idle : Setup → Table → Bool
+is_idle s table = all_below (λ j. is_quiet s j (table.terminals j)) s.legs
 
 -- ---- offers and turns, newest first
 pub data Call : Type 0 where

@@ -14,13 +14,13 @@ ghost use Rattle.file_spec.specs.declared.conf_lines.PlanLine.{PlanLine};
 ghost use Rattle.file_spec.specs.Conf.{Conf};
 ghost use Rattle.mixer_spec.specs.Chunks.{texts_of};
 ghost use Rattle.mixer_spec.specs.Setups.{IsConference, IsSetup, Setup, gap, setup, stream};
-ghost use Rattle.mixer_spec.specs.Table.{Mixed, Table, history, is_due, last_media, next_media, packets, rank, sent_by};
+ghost use Rattle.mixer_spec.specs.Table.{Mixed, Table, history, is_due, last_media, next_media, packets, rank, sent_by, turned};
 ghost use Rattle.mixer_spec.specs.Legs.{all_of, left};
 ghost use Rattle.mixer_spec.specs.Core.{Core, Event, Turn, after, after_from, turns_in};
 ghost use Rattle.mixer_spec.specs.Plain.{left_over, plain, table_after, taken};
 ghost use Rattle.mixer_spec.specs.Arrives.{IsPlan, arrivals};
 ghost use Rattle.mixer_spec.specs.Through.{group_of, text_entries, through};
-ghost use Rattle.mixer_spec.specs.Laws.{AreTextArrivals, AreTexts, IsComposed, IsHeard, IsRun, Tight, carried, chunks_given, count_of, moves, texts_given, texts_sent};
+ghost use Rattle.mixer_spec.specs.Laws.{AreTextArrivals, AreTexts, IsComposed, IsHeard, IsNew, IsRun, Tight, carried, chunks_given, count_of, moves, texts_given, texts_sent};
 
 /// A leg's chunks stay in order: taken, in the hand, in the queue, still to push.
 pub fn chunks_in_order()
@@ -174,4 +174,12 @@ pub fn planned_packets_come()
 pub fn conference_is_setup()
     ensures setup { (c : Conf) → IsConference c → IsSetup (setup c) }
     ensures media { (c : Conf) → c.turns ≤ 5000000 → (setup c).step * c.turns < 2 ^ 31 }
+{}
+
+/// A turn sends at most one packet to a terminal, at its moment and its media time.
+pub fn turn_sends_one()
+    ensures { (s : Setup) (now j : ℕ) (table : Table)
+        → let before = (table.terminals j).past in
+        let after = ((turned s now table).terminals j).past in
+        (after ≡ before) ⊎ ((e : Mixed) × (after ≡ e ∷ before) × IsNew now (next_media s.step table.media now) e) }
 {}
