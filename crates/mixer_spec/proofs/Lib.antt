@@ -26,3 +26,5 @@ pub mod Arriving
 pub mod Spread
 pub mod Conferences
 pub mod OnePacket
+pub mod Accepted
+pub mod HopOrder

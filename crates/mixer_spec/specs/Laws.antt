@@ -6,10 +6,12 @@ use Rattle.wire_spec.specs.Packets.{Packet, Arrival, has_text}
 use Rattle.stream_spec.specs.History.{History, Lawful, Come}
 use Rattle.stream_spec.specs.Ready.{chunks}
 use Rattle.stream_spec.specs.Own.{Sent, has_text_in}
-use Rattle.mixer_spec.specs.Setups.{Setup}
+use Rattle.mixer_spec.specs.Setups.{Setup, IsConference}
 use Rattle.mixer_spec.specs.Chunks.{has_chunk}
 use Rattle.mixer_spec.specs.Composed.{Given, Asked, answer}
 use Rattle.mixer_spec.specs.Table.{Mixed, Table, last_media}
+use Rattle.file_spec.specs.Conf.{Conf}
+use Rattle.mixer_spec.specs.Arrives.{IsPlan}
 use Rattle.mixer_spec.specs.Core.{Event, Push, Take, after, turns_in}
 
 -- the chunks of a leg that were sent, in order
@@ -100,3 +102,10 @@ chunks_of i (Some g) = if g.source == i then g.chunks else []
 abbrev pub chunks_given : ℕ → List Asked → List Chunk
 chunks_given i [] = []
 chunks_given i (a ∷ past) = chunks_given i past ++ chunks_of i a.given
+
+-- what a conference that was accepted keeps
+pub record IsAccepted (c : Conf) : Type 0 where
+  pub conference : IsConference c
+  pub tick : (20 ≤ c.tick) × (c.tick ≤ 400)
+  pub turns : c.turns ≤ 5000000
+  pub plan : IsPlan c.plan

@@ -1,5 +1,5 @@
 //! The laws of the mixer: what holds after every list of events, and at the end of plain mixing.
-ghost use Rattle.std.specs.Prelude.{◌≡◌, ◌<◌, ◌≤◌, ◌+◌, ◌-◌, ◌*◌, ◌^◌, ◌⊎◌, ℕ, List, Bool, Option, Some, ◌∷◌, ◌++◌, suc, length, filter, map};
+ghost use Rattle.std.specs.Prelude.{◌≡◌, ◌<◌, ◌≤◌, ◌+◌, ◌-◌, ◌*◌, ◌^◌, ◌⊎◌, ◌↔◌, ℕ, List, Bool, Option, Ok, Some, ◌∷◌, ◌++◌, suc, length, filter, map};
 ghost use Rattle.std.specs.List.{concat};
 ghost use Rattle.rtt_base.specs.declared.records.Chunk.{Chunk};
 ghost use Rattle.wire_spec.specs.Packets.{Arrival, has_text};
@@ -7,11 +7,12 @@ ghost use Rattle.stream_spec.specs.Lists.{In};
 ghost use Rattle.stream_spec.specs.Hearing.{heard};
 ghost use Rattle.stream_spec.specs.History.{Come, History, Lawful, Placed, placed, places};
 ghost use Rattle.stream_spec.specs.Ready;
-ghost use Rattle.stream_spec.specs.Kept.{kept, texts};
+ghost use Rattle.stream_spec.specs.Kept.{ArePlaces, Block, Rising, blocks_in, kept, texts};
 ghost use Rattle.stream_spec.specs.Carries.{Carries, CarriesFront};
 ghost use Rattle.stream_spec.specs.Own.{Closed, NearEach, Own, come_from, has_text_in, own_packet};
+ghost use Rattle.file_spec.specs.declared.conf_lines.Form.{Form};
 ghost use Rattle.file_spec.specs.declared.conf_lines.PlanLine.{PlanLine};
-ghost use Rattle.file_spec.specs.Conf.{Conf};
+ghost use Rattle.file_spec.specs.Conf.{Conf, conf};
 ghost use Rattle.mixer_spec.specs.Chunks.{texts_of};
 ghost use Rattle.mixer_spec.specs.Setups.{IsConference, IsSetup, Setup, gap, setup, stream};
 ghost use Rattle.mixer_spec.specs.Table.{Mixed, Table, history, is_due, last_media, next_media, packets, rank, sent_by, turned};
@@ -20,7 +21,7 @@ ghost use Rattle.mixer_spec.specs.Core.{Core, Event, Turn, after, after_from, tu
 ghost use Rattle.mixer_spec.specs.Plain.{left_over, plain, table_after, taken};
 ghost use Rattle.mixer_spec.specs.Arrives.{IsPlan, arrivals};
 ghost use Rattle.mixer_spec.specs.Through.{group_of, text_entries, through};
-ghost use Rattle.mixer_spec.specs.Laws.{AreTextArrivals, AreTexts, IsComposed, IsHeard, IsNew, IsRun, Tight, carried, chunks_given, count_of, moves, texts_given, texts_sent};
+ghost use Rattle.mixer_spec.specs.Laws.{AreTextArrivals, AreTexts, IsAccepted, IsComposed, IsHeard, IsNew, IsRun, Tight, carried, chunks_given, count_of, moves, texts_given, texts_sent};
 
 /// A leg's chunks stay in order: taken, in the hand, in the queue, still to push.
 pub fn chunks_in_order()
@@ -170,8 +171,9 @@ pub fn planned_packets_come()
         → (plan : List PlanLine) → IsPlan plan → Come (history s j (table.terminals j).past) (arrivals plan j (packets (stream s j) (table.terminals j).past)) }
 {}
 
-/// A conference within its limits is a setup, and its media times stay within half the circle of timestamps.
+/// A conference that a file describes keeps its limits. Within them it is a setup, and its media times stay within half the circle of timestamps.
 pub fn conference_is_setup()
+    ensures accepted { (form : Form) (octets : List ℕ) (c : Conf) → conf form octets ≡ Ok c → IsAccepted c }
     ensures setup { (c : Conf) → IsConference c → IsSetup (setup c) }
     ensures media { (c : Conf) → c.turns ≤ 5000000 → (setup c).step * c.turns < 2 ^ 31 }
 {}
@@ -182,4 +184,13 @@ pub fn turn_sends_one()
         → let before = (table.terminals j).past in
         let after = ((turned s now table).terminals j).past in
         (after ≡ before) ⊎ ((e : Mixed) × (after ≡ e ∷ before) × IsNew now (next_media s.step table.media now) e) }
+{}
+
+/// What two hops tell of a source is its blocks in order, each at most once: those that the first hop tells, and of
+/// them those that are carried by an entry that the second hop tells.
+pub fn hops_keep_order()
+    ensures rising { (h1 h2 : History) (i1 i2 : List Placed) (s1 s2 : ℕ) → ArePlaces h1 i1 → ArePlaces h2 i2 → Rising (blocks_in (through h1 i1 s1 h2 i2 s2)) }
+    ensures blocks { (h1 h2 : History) (i1 i2 : List Placed) (s1 s2 : ℕ) (k : Placed)
+        → In (Block k) (through h1 i1 s1 h2 i2 s2) ↔ ((y : Placed) × In (Block y) (kept h2 i2 s2) × In (Block k) (group_of (text_entries h2 s2) (kept h1 i1 s1) y)) }
+    ensures first { (h1 : History) (i1 : List Placed) (s1 : ℕ) (es : List Placed) (y k : Placed) → In (Block k) (group_of es (kept h1 i1 s1) y) → In (Block k) (kept h1 i1 s1) }
 {}
