@@ -10,7 +10,7 @@ use Rattle.stream_spec.proofs.Blocks.{blocks_in_append, in_blocks_in, rising_app
 use Rattle.mixer_spec.specs.Through.{front_group, after_group, group_of, replaced, text_entries, through}
 
 -- ---- blocks and items
-block_in : (k : Placed) (items : List Item) → In (Block k) items → In k (blocks_in items)
+pub block_in : (k : Placed) (items : List Item) → In (Block k) items → In k (blocks_in items)
 block_in k [] i = i
 block_in k (Mark ∷ items) (inl e) = absurd (cc e)
 block_in k (Mark ∷ items) (inr i) = block_in k items i
@@ -21,12 +21,12 @@ block_in k (Block x ∷ items) (inl e) = inl (same k x e)
 block_in k (Block x ∷ items) (inr i) = inr (block_in k items i)
 
 -- ---- rising lists and their parts
-record Parts (xs ys : List Placed) : Type 0 where
-  left : Rising xs
-  right : Rising ys
-  cross : (a b : Placed) → In a xs → In b ys → a.place < b.place
+pub record Segments (xs ys : List Placed) : Type 0 where
+  pub left : Rising xs
+  pub right : Rising ys
+  pub cross : (a b : Placed) → In a xs → In b ys → a.place < b.place
 
-parts : (xs ys : List Placed) → Rising (xs ++ ys) → Parts xs ys
+pub parts : (xs ys : List Placed) → Rising (xs ++ ys) → Segments xs ys
 parts [] ys r = record { left = tt; right = r; cross = λ a b i j. absurd i }
 parts (x ∷ xs) ys r =
     let p = parts xs ys r.1 in
@@ -42,7 +42,7 @@ front_after n [] = refl
 front_after zero (x ∷ xs) = refl
 front_after (suc n) (x ∷ xs) = ap (λ ys. x ∷ ys) (front_after (suc n - length (text_of x)) xs)
 
-split_blocks : (n : ℕ) (items : List Item) → Rising (blocks_in items) → Parts (blocks_in (front_group n items)) (blocks_in (after_group n items))
+split_blocks : (n : ℕ) (items : List Item) → Rising (blocks_in items) → Segments (blocks_in (front_group n items)) (blocks_in (after_group n items))
 split_blocks n items r =
     parts (blocks_in (front_group n items)) (blocks_in (after_group n items)) (subst Rising (ap blocks_in (sym (front_after n items)) ∙ blocks_in_append (front_group n items) (after_group n items)) r)
 
@@ -52,7 +52,7 @@ in_front n items x i = subst (λ (ys : List Item). In x ys) (front_after n items
 in_after : (n : ℕ) (items : List Item) (x : Item) → In x (after_group n items) → In x items
 in_after n items x i = subst (λ (ys : List Item). In x ys) (front_after n items) (in_right x (front_group n items) (after_group n items) i)
 
-group_within : (es : List Placed) (items : List Item) (y : Placed) (x : Item) → In x (group_of es items y) → In x items
+pub group_within : (es : List Placed) (items : List Item) (y : Placed) (x : Item) → In x (group_of es items y) → In x items
 group_within [] items y x i = absurd i
 group_within (e ∷ es) items y x i = go (e.place == y.place) i (group_within es (after_group (length e.text) items) y x)
   where
@@ -60,7 +60,7 @@ group_within (e ∷ es) items y x i = go (e.place == y.place) i (group_within es
     go true i f = in_front (length e.text) items x i
     go false i f = in_after (length e.text) items x (f i)
 
-group_has : (es : List Placed) (items : List Item) (y : Placed) (x : Item) → In x (group_of es items y) → (e : Placed) × In e es × (e.place ≡ y.place)
+pub group_has : (es : List Placed) (items : List Item) (y : Placed) (x : Item) → In x (group_of es items y) → (e : Placed) × In e es × (e.place ≡ y.place)
 group_has [] items y x i = absurd i
 group_has (e ∷ es) items y x i = go (e.place == y.place) refl i (group_has es (after_group (length e.text) items) y x)
   where
@@ -78,7 +78,7 @@ group_rises (e ∷ es) items y r = let p = split_blocks (length e.text) items r 
     go true p q = p
     go false p q = q
 
-group_order : (es : List Placed) (items : List Item) (y z a b : Placed) → Rising es → Rising (blocks_in items) → y.place < z.place → In (Block a) (group_of es items y) → In (Block b) (group_of es items z) → a.place < b.place
+pub group_order : (es : List Placed) (items : List Item) (y z a b : Placed) → Rising es → Rising (blocks_in items) → y.place < z.place → In (Block a) (group_of es items y) → In (Block b) (group_of es items z) → a.place < b.place
 group_order [] items y z a b re r l i j = absurd i
 group_order (e ∷ es) items y z a b re r l i j =
     let p = split_blocks (length e.text) items r in
@@ -102,7 +102,7 @@ group_order (e ∷ es) items y z a b re r l i j =
     go false false p q i j cross f = f i j
 
 -- ---- all groups
-block_from : (es : List Placed) (items xs : List Item) (k : Placed) → In (Block k) (replaced es items xs) → (y : Placed) × In (Block y) xs × In (Block k) (group_of es items y)
+pub block_from : (es : List Placed) (items xs : List Item) (k : Placed) → In (Block k) (replaced es items xs) → (y : Placed) × In (Block y) xs × In (Block k) (group_of es items y)
 block_from es items [] k i = absurd i
 block_from es items (Mark ∷ xs) k (inl e) = absurd (cc e)
 block_from es items (Mark ∷ xs) k (inr i) = let r = block_from es items xs k i in (r.0, inr r.1, r.2)

@@ -28,3 +28,4 @@ pub mod Conferences
 pub mod OnePacket
 pub mod Accepted
 pub mod HopOrder
+pub mod HopMarks

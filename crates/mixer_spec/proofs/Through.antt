@@ -18,7 +18,7 @@ NoneEmpty [] = Unit {0}
 NoneEmpty (x ∷ xs) = (0 < length (text_of x)) × NoneEmpty xs
 
 -- the group is any front whose texts fill the octets
-group_is : (g rest : List Item) → NoneEmpty g → front_group (length (concat (texts g))) (g ++ rest) ≡ g
+pub group_is : (g rest : List Item) → NoneEmpty g → front_group (length (concat (texts g))) (g ++ rest) ≡ g
 group_is [] [] p = refl
 group_is [] (x ∷ rest) p = refl
 group_is (x ∷ g) rest p = go (length (text_of x ++ concat (texts g))) refl (group_is g rest p.1)
@@ -32,7 +32,7 @@ group_is (x ∷ g) rest p = go (length (text_of x ++ concat (texts g))) refl (gr
         let d : suc k - length (text_of x) ≡ length (concat (texts g)) = omega (arith, n, e) in
         ap (λ ys. x ∷ ys) (ap (λ m. front_group m (g ++ rest)) d ∙ ih)
 
-rest_is : (g rest : List Item) → NoneEmpty g → after_group (length (concat (texts g))) (g ++ rest) ≡ rest
+pub rest_is : (g rest : List Item) → NoneEmpty g → after_group (length (concat (texts g))) (g ++ rest) ≡ rest
 rest_is [] [] p = refl
 rest_is [] (x ∷ rest) p = refl
 rest_is (x ∷ g) rest p = go (length (text_of x ++ concat (texts g))) refl (rest_is g rest p.1)
@@ -91,10 +91,10 @@ hops_group h s items y c i = group_text (text_entries h s) items y c i (one_plac
 
 -- ---- from groups of texts to groups of items
 -- the first items whose texts are these
-abbrev Splits : List (List ℕ) → List (List ℕ) → List Item → Type 0
+abbrev pub Splits : List (List ℕ) → List (List ℕ) → List Item → Type 0
 Splits group more items = (g : List Item) × (r : List Item) × (items ≡ g ++ r) × (texts g ≡ group) × (texts r ≡ more)
 
-split_items : (group more : List (List ℕ)) (items : List Item) → texts items ≡ group ++ more → Splits group more items
+pub split_items : (group more : List (List ℕ)) (items : List Item) → texts items ≡ group ++ more → Splits group more items
 split_items [] more items e = ([], items, refl, refl, e)
 split_items (t ∷ group) more [] e = cc e
 split_items (t ∷ group) more (x ∷ items) e =
@@ -105,11 +105,11 @@ split_items (t ∷ group) more (x ∷ items) e =
     tail : (xs ys : List (List ℕ)) (x y : List ℕ) → x ∷ xs ≡ y ∷ ys → xs ≡ ys
     tail xs ys x y e = cc e
 
-none_left : (g r : List Item) → NoneEmpty (g ++ r) → NoneEmpty g
+pub none_left : (g r : List Item) → NoneEmpty (g ++ r) → NoneEmpty g
 none_left [] r n = tt
 none_left (x ∷ g) r n = (n.0, none_left g r n.1)
 
-none_right : (g r : List Item) → NoneEmpty (g ++ r) → NoneEmpty r
+pub none_right : (g r : List Item) → NoneEmpty (g ++ r) → NoneEmpty r
 none_right [] r n = n
 none_right (x ∷ g) r n = none_right g r n.1
 
@@ -126,7 +126,7 @@ carry_of (y ∷ es) items rest n c =
       subst (Carry es) (sym after) (carry_of es s.1 rest nr (subst (λ (ts : List (List ℕ)). Groups (map (λ (y : Placed). y.text) es) ts rest) (sym s.4) c.5)),
     )
 
-entries_are : (s : ℕ) (before es : List Entry) → texts_by s es ≡ map (λ (y : Placed). y.text) (filter (is_text_of s) (placed_after before es))
+pub entries_are : (s : ℕ) (before es : List Entry) → texts_by s es ≡ map (λ (y : Placed). y.text) (filter (is_text_of s) (placed_after before es))
 entries_are s before [] = refl
 entries_are s before (e ∷ es) = go ((e.source == s) && has_text e.text) (entries_are s (e ∷ before) es)
   where

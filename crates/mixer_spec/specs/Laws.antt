@@ -3,7 +3,9 @@ use Rattle.std.specs.Prelude.{◌≡◌, ℕ, zero, suc, ◌+◌, ◌<◌, ◌�
 use Rattle.rtt_base.specs.declared.blocks.TextBlock.{TextBlock}
 use Rattle.rtt_base.specs.declared.records.Chunk.{Chunk}
 use Rattle.wire_spec.specs.Packets.{Packet, Arrival, has_text}
-use Rattle.stream_spec.specs.History.{History, Lawful, Come}
+use Rattle.stream_spec.specs.History.{History, Placed, Lawful, Come}
+use Rattle.stream_spec.specs.Lists.{In}
+use Rattle.stream_spec.specs.Kept.{Item, Mark, Block}
 use Rattle.stream_spec.specs.Ready.{chunks}
 use Rattle.stream_spec.specs.Own.{Sent, has_text_in}
 use Rattle.mixer_spec.specs.Setups.{Setup, IsConference}
@@ -109,3 +111,7 @@ pub record IsAccepted (c : Conf) : Type 0 where
   pub tick : (20 ≤ c.tick) × (c.tick ≤ 400)
   pub turns : c.turns ≤ 5000000
   pub plan : IsPlan c.plan
+
+-- a mark parts the blocks that stand below k in the first hop's history from those that stand above it
+abbrev pub PartsAt : Placed → List Item → Type 0
+PartsAt k items = (xs ys : List Item) × (items ≡ xs ++ Mark ∷ ys) × ((x : Placed) → In (Block x) xs → x.place < k.place) × ((x : Placed) → In (Block x) ys → k.place < x.place)

@@ -7,7 +7,7 @@ ghost use Rattle.stream_spec.specs.Lists.{In};
 ghost use Rattle.stream_spec.specs.Hearing.{heard};
 ghost use Rattle.stream_spec.specs.History.{Come, History, Lawful, Placed, placed, places};
 ghost use Rattle.stream_spec.specs.Ready;
-ghost use Rattle.stream_spec.specs.Kept.{ArePlaces, Block, Rising, blocks_in, kept, texts};
+ghost use Rattle.stream_spec.specs.Kept.{ArePlaces, Block, Parts, Rising, blocks_in, kept, texts};
 ghost use Rattle.stream_spec.specs.Carries.{Carries, CarriesFront};
 ghost use Rattle.stream_spec.specs.Own.{Closed, NearEach, Own, come_from, has_text_in, own_packet};
 ghost use Rattle.file_spec.specs.declared.conf_lines.Form.{Form};
@@ -21,7 +21,7 @@ ghost use Rattle.mixer_spec.specs.Core.{Core, Event, Turn, after, after_from, tu
 ghost use Rattle.mixer_spec.specs.Plain.{left_over, plain, table_after, taken};
 ghost use Rattle.mixer_spec.specs.Arrives.{IsPlan, arrivals};
 ghost use Rattle.mixer_spec.specs.Through.{group_of, text_entries, through};
-ghost use Rattle.mixer_spec.specs.Laws.{AreTextArrivals, AreTexts, IsAccepted, IsComposed, IsHeard, IsNew, IsRun, Tight, carried, chunks_given, count_of, moves, texts_given, texts_sent};
+ghost use Rattle.mixer_spec.specs.Laws.{AreTextArrivals, AreTexts, IsAccepted, IsComposed, IsHeard, IsNew, IsRun, PartsAt, Tight, carried, chunks_given, count_of, moves, texts_given, texts_sent};
 
 /// A leg's chunks stay in order: taken, in the hand, in the queue, still to push.
 pub fn chunks_in_order()
@@ -193,4 +193,18 @@ pub fn hops_keep_order()
     ensures blocks { (h1 h2 : History) (i1 i2 : List Placed) (s1 s2 : ℕ) (k : Placed)
         → In (Block k) (through h1 i1 s1 h2 i2 s2) ↔ ((y : Placed) × In (Block y) (kept h2 i2 s2) × In (Block k) (group_of (text_entries h2 s2) (kept h1 i1 s1) y)) }
     ensures first { (h1 : History) (i1 : List Placed) (s1 : ℕ) (es : List Placed) (y k : Placed) → In (Block k) (group_of es (kept h1 i1 s1) y) → In (Block k) (kept h1 i1 s1) }
+{}
+
+/// Where all that the first hop tells is carried, a block is absent only where it was lost on one hop, and then a mark
+/// stands for it wherever the stream that lost it shows one.
+pub fn losses_are_marked()
+    // Each block that the first hop tells is carried by an entry of the second.
+    ensures carried { (h1 h2 : History) (i1 : List Placed) (s1 s2 : ℕ) (k : Placed) → ArePlaces h1 i1 → Carries h2 s2 (texts (kept h1 i1 s1)) → In (Block k) (kept h1 i1 s1)
+        → (y : Placed) × In y (text_entries h2 s2) × In (Block k) (group_of (text_entries h2 s2) (kept h1 i1 s1) y) }
+    // The second hop lost the entry that carries it.
+    ensures second { (h1 h2 : History) (i1 i2 : List Placed) (s1 s2 : ℕ) (k y : Placed) → ArePlaces h1 i1 → ArePlaces h2 i2 → In y (placed h2) → y.source ≡ s2
+        → In (Block k) (group_of (text_entries h2 s2) (kept h1 i1 s1) y) → Parts y (kept h2 i2 s2) → PartsAt k (through h1 i1 s1 h2 i2 s2) }
+    // The first hop lost it, and its mark is carried by an entry, which came or was lost in turn.
+    ensures first { (h1 h2 : History) (i1 i2 : List Placed) (s1 s2 : ℕ) (k : Placed) → ArePlaces h1 i1 → ArePlaces h2 i2 → Carries h2 s2 (texts (kept h1 i1 s1)) → In k (placed h1) → k.source ≡ s1 → Parts k (kept h1 i1 s1)
+        → (y : Placed) × In y (text_entries h2 s2) × (In (Block y) (kept h2 i2 s2) ⊎ Parts y (kept h2 i2 s2) → PartsAt k (through h1 i1 s1 h2 i2 s2)) }
 {}
