@@ -37,10 +37,10 @@ cut (x ∷ us) m vs (y ∷ g) r e =
     ]
 
 -- ---- the group of one item
-first_group : (e : Placed) (es : List Placed) (items : List Item) (z : Placed) → e.place ≡ z.place → group_of (e ∷ es) items z ≡ front_group (length e.text) items
+pub first_group : (e : Placed) (es : List Placed) (items : List Item) (z : Placed) → e.place ≡ z.place → group_of (e ∷ es) items z ≡ front_group (length e.text) items
 first_group e es items z q = rw (eq-eqb e.place z.place q) refl
 
-next_group : (e : Placed) (es : List Placed) (items : List Item) (z : Placed) → (e.place ≡ z.place → ⊥) → group_of (e ∷ es) items z ≡ group_of es (after_group (length e.text) items) z
+pub next_group : (e : Placed) (es : List Placed) (items : List Item) (z : Placed) → (e.place ≡ z.place → ⊥) → group_of (e ∷ es) items z ≡ group_of es (after_group (length e.text) items) z
 next_group e es items z q = rw (ne_eqb e.place z.place q) refl
 
 -- the entry whose group has the item m between us and vs; the groups of lower entries lie in us, of higher ones in vs
@@ -112,10 +112,10 @@ replaced_append es items [] ys = refl
 replaced_append es items (Mark ∷ xs) ys = ap (λ zs. Mark ∷ zs) (replaced_append es items xs ys)
 replaced_append es items (Block y ∷ xs) ys = ap (λ zs. group_of es items y ++ zs) (replaced_append es items xs ys) ∙ sym (append_assoc (group_of es items y) (replaced es items xs) (replaced es items ys))
 
-rising_entries : (h : History) (s : ℕ) → Rising (text_entries h s)
+pub rising_entries : (h : History) (s : ℕ) → Rising (text_entries h s)
 rising_entries h s = rising_filter (is_text_of s) (placed h) (rising_placed_after [] h.entries)
 
-groups_of : (h : History) (s : ℕ) (ts : List (List ℕ)) → Carries h s ts → Groups (map (λ (y : Placed). y.text) (text_entries h s)) ts []
+pub groups_of : (h : History) (s : ℕ) (ts : List (List ℕ)) → Carries h s ts → Groups (map (λ (y : Placed). y.text) (text_entries h s)) ts []
 groups_of h s ts c = subst (λ (es : List (List ℕ)). Groups es ts []) (entries_are s [] h.entries) c
 
 -- what lies below in index lies below in place

@@ -29,3 +29,4 @@ pub mod OnePacket
 pub mod Accepted
 pub mod HopOrder
 pub mod HopMarks
+pub mod HopWhole

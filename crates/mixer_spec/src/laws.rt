@@ -7,7 +7,7 @@ ghost use Rattle.stream_spec.specs.Lists.{In};
 ghost use Rattle.stream_spec.specs.Hearing.{heard};
 ghost use Rattle.stream_spec.specs.History.{Come, History, Lawful, Placed, placed, places};
 ghost use Rattle.stream_spec.specs.Ready;
-ghost use Rattle.stream_spec.specs.Kept.{ArePlaces, Block, Parts, Rising, blocks_in, kept, texts};
+ghost use Rattle.stream_spec.specs.Kept.{ArePlaces, Block, Mark, Parts, Rising, blocks_in, kept, texts};
 ghost use Rattle.stream_spec.specs.Carries.{Carries, CarriesFront};
 ghost use Rattle.stream_spec.specs.Own.{Closed, NearEach, Own, come_from, has_text_in, own_packet};
 ghost use Rattle.file_spec.specs.declared.conf_lines.Form.{Form};
@@ -207,4 +207,12 @@ pub fn losses_are_marked()
     // The first hop lost it, and its mark is carried by an entry, which came or was lost in turn.
     ensures first { (h1 h2 : History) (i1 i2 : List Placed) (s1 s2 : ℕ) (k : Placed) → ArePlaces h1 i1 → ArePlaces h2 i2 → Carries h2 s2 (texts (kept h1 i1 s1)) → In k (placed h1) → k.source ≡ s1 → Parts k (kept h1 i1 s1)
         → (y : Placed) × In y (text_entries h2 s2) × (In (Block y) (kept h2 i2 s2) ⊎ Parts y (kept h2 i2 s2) → PartsAt k (through h1 i1 s1 h2 i2 s2)) }
+{}
+
+/// Where neither hop shows a mark none stands behind both. Where the second hop tells all its entries with text, and
+/// no mark, what two hops tell is what the first one tells.
+pub fn hops_add_nothing()
+    ensures no_mark { (h1 h2 : History) (i1 i2 : List Placed) (s1 s2 : ℕ) → (In Mark (kept h1 i1 s1) → ⊥) → (In Mark (kept h2 i2 s2) → ⊥) → In Mark (through h1 i1 s1 h2 i2 s2) → ⊥ }
+    ensures whole { (h1 h2 : History) (i1 i2 : List Placed) (s1 s2 : ℕ) → ArePlaces h1 i1 → Carries h2 s2 (texts (kept h1 i1 s1)) → kept h2 i2 s2 ≡ map Block (text_entries h2 s2)
+        → through h1 i1 s1 h2 i2 s2 ≡ kept h1 i1 s1 }
 {}
