@@ -30,3 +30,4 @@ pub mod Accepted
 pub mod HopOrder
 pub mod HopMarks
 pub mod HopWhole
+pub mod PlanOrder

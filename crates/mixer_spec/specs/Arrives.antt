@@ -1,6 +1,6 @@
 -- What comes of the packets sent to a terminal, by the plan of a conference: some are lost, come late or come twice
 -- (profile).
-use Rattle.std.specs.Prelude.{◌≤◌, ℕ, zero, suc, ◌+◌, ◌==◌, Bool, true, false, ◌&&◌, ◌||◌, List, [], ◌∷◌, ◌++◌, length, filter, map, nat_lt, if◌then◌else◌}
+use Rattle.std.specs.Prelude.{◌≡◌, ◌≤◌, ℕ, zero, suc, ◌+◌, ◌==◌, Bool, true, false, ◌&&◌, ◌||◌, List, [], ◌∷◌, ◌++◌, length, filter, map, nat_lt, if◌then◌else◌}
 use Rattle.std.specs.List.{list_any}
 use Rattle.file_spec.specs.declared.conf_lines.PlanLine.{PlanLine}
 use Rattle.file_spec.specs.declared.conf_lines.What.{What}
@@ -59,6 +59,11 @@ in_order (c ∷ cs) = among c (in_order cs)
 -- what comes to the terminal t of the packets sent at these moments, in order of the moments and then of the numbers
 abbrev pub arrives : List PlanLine → ℕ → List ℕ → List Copy
 arrives plan t sent = in_order (all_copies plan t 0 sent)
+
+-- none is sooner than those before it
+abbrev pub InOrder : List Copy → Type 0
+InOrder [] = Unit {0}
+InOrder (c ∷ cs) = ((d : Copy) → In d cs → is_sooner d c ≡ false) × InOrder cs
 
 -- ---- the packets themselves
 -- the k-th of these, if there is one

@@ -19,7 +19,7 @@ ghost use Rattle.mixer_spec.specs.Table.{Mixed, Table, history, is_due, last_med
 ghost use Rattle.mixer_spec.specs.Legs.{all_of, left};
 ghost use Rattle.mixer_spec.specs.Core.{Core, Event, Turn, after, after_from, turns_in};
 ghost use Rattle.mixer_spec.specs.Plain.{left_over, plain, table_after, taken};
-ghost use Rattle.mixer_spec.specs.Arrives.{IsPlan, arrivals};
+ghost use Rattle.mixer_spec.specs.Arrives.{Copy, InOrder, IsPlan, all_copies, arrivals, arrives};
 ghost use Rattle.mixer_spec.specs.Through.{group_of, text_entries, through};
 ghost use Rattle.mixer_spec.specs.Laws.{AreTextArrivals, AreTexts, IsAccepted, IsComposed, IsHeard, IsNew, IsRun, PartsAt, Tight, carried, chunks_given, count_of, moves, texts_given, texts_sent};
 
@@ -162,6 +162,13 @@ pub fn texts_are_composed()
 /// What is heard of packets whose texts are UTF-8 are texts.
 pub fn heard_are_texts()
     ensures { (wait place x : ℕ) (a : List Arrival) → AreTextArrivals a → AreTexts (Ready.chunks wait place a x) }
+{}
+
+/// What comes by a plan is exactly the copies of the packets that are not lost, in order of their moments and then of
+/// their numbers.
+pub fn plan_keeps_order()
+    ensures order { (plan : List PlanLine) (t : ℕ) (sent : List ℕ) → InOrder (arrives plan t sent) }
+    ensures exact { (plan : List PlanLine) (t : ℕ) (sent : List ℕ) (c : Copy) → In c (arrives plan t sent) ↔ In c (all_copies plan t 0 sent) }
 {}
 
 /// Whatever a plan loses, delays or sends twice, what comes to a terminal of the packets of plain mixing comes from its
