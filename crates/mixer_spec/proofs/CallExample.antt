@@ -58,3 +58,14 @@ first_two : take 2 (sent_to 1 (plain two 100 17 heard))
     ∷ record { time = 300; packet = record { mark = false; seq = 101; stamp = 5300; ssrc = 9000; source = 1001; older = block 16383 [] ∷ block 300 (codes "H") ∷ []; primary = codes "e" } }
     ∷ []
 first_two = refl
+
+-- with three generations each text is repeated three times, and with none never
+abbrev moments : ℕ → Option Table → List ℕ
+moments j None = []
+moments j (Some t) = map (λ e. e.at) (t.terminals j).past
+
+three_generations : moments 1 (plain (record two { gens = λ j. 3 }) 100 30 heard) ≡ 1500 ∷ 1200 ∷ 900 ∷ 600 ∷ 300 ∷ 0 ∷ []
+three_generations = refl
+
+no_generations : moments 1 (plain (record two { gens = λ j. 0 }) 100 30 heard) ≡ 600 ∷ 300 ∷ 0 ∷ []
+no_generations = refl
