@@ -5,3 +5,5 @@ pub mod Bare
 pub mod Texts
 pub mod Hears
 pub mod Recordings
+pub mod Runs
+pub mod Faults
