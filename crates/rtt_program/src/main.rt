@@ -3,11 +3,12 @@
 
 use rtt_io::{RealWorld, StandardError, StandardOutput, StillGate};
 use rtt_top::run;
+use std::alloc::AllocError;
 use std::env;
 use std::process::ExitCode;
 
-/// The words after the program's own name. Words that are not UTF-8 count as no words at all.
-fn words_of(rt: &HostRuntime) -> Result<Vec<String>, std::alloc::AllocError> {
+/// The words after the program's own name. Words that are not UTF-8 count as no words.
+fn words_of(rt: &HostRuntime) -> Result<Vec<String>, AllocError> {
     let mut words = Vec::new(rt.alloc());
     let Ok(all) = env::args(rt) else {
         return Ok(words);
@@ -22,8 +23,17 @@ fn main(rt: HostRuntime) -> ExitCode {
     let Ok(words) = words_of(&rt) else {
         return ExitCode::from(70);
     };
-    let mut world = RealWorld::new(rt.clone(), rt.alloc());
+    let mut world = RealWorld::new(&rt, rt.alloc());
     let mut out = StandardOutput::new(rt.stdout());
     let mut err = StandardError::new(rt.stderr());
-    ExitCode::from(run(&rt, rt.alloc(), words.as_slice(), &mut world, &mut out, &mut err, &StillGate))
+    let status = run(
+        &rt,
+        rt.alloc(),
+        words.as_slice(),
+        &mut world,
+        &mut out,
+        &mut err,
+        &StillGate,
+    );
+    ExitCode::from(status)
 }

@@ -9,3 +9,4 @@ pub mod Gathering
 pub mod Listening
 pub mod Reading
 pub mod Viewing
+pub mod Ending

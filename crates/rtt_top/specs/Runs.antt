@@ -1,5 +1,6 @@
 -- What a run of the program tells: by its words, its status, and what lay outside before and after it.
 use Rattle.std.specs.Prelude.{◌≡◌, ◌⊎◌, ℕ, Option, None, Some, List}
+use Rattle.rtt_io.specs.Counts.{Rose}
 use Rattle.wire_spec.specs.Dump.{Fault, dump, usual_limit}
 use Rattle.file_spec.specs.Words.{ReadWords, Command, Read}
 
@@ -19,3 +20,7 @@ fault_of octets = (dump usual_limit octets).fault
 -- one of the program's statuses
 abbrev pub IsStatus : ℕ → Type 0
 IsStatus s = (s ≡ 0) ⊎ (s ≡ 2) ⊎ (s ≡ 3) ⊎ (s ≡ 4) ⊎ (s ≡ 6) ⊎ (s ≡ 7) ⊎ (s ≡ 70)
+
+-- no fault came between these two values of a count
+abbrev pub IsCalm : ℕ → ℕ → Type 0
+IsCalm old new = Rose old new → ⊥

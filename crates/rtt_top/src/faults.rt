@@ -9,6 +9,7 @@ use rtt_io::Sink;
 use wire_spec::DumpKind;
 
 /// Why a command did not do its work.
+#[derive(Debug, Drop)]
 pub enum Fault<'a> {
     /// The words are outside the word table.
     WrongWords,

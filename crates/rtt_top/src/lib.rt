@@ -5,4 +5,7 @@ mod commands;
 mod faults;
 mod listeners;
 mod reads;
+mod runs;
 mod words;
+
+pub use runs::{run, run_plain};

@@ -18,6 +18,7 @@ use rtt_io::Source;
 use std::alloc::Global;
 
 /// Why a recording was not heard to its end.
+#[derive(Debug, Drop)]
 pub enum ListenFault {
     /// It can't be read further.
     Recorded(DumpFault),

@@ -10,6 +10,7 @@ ghost use Rattle.rtt_top.specs.Commands.{meaning};
 use rtt_base::Pts;
 
 /// What `read` is asked for.
+#[derive(Debug, Drop)]
 pub struct ReadWords<'a> {
     /// The name of the recording.
     pub file: &'a str,
@@ -18,11 +19,6 @@ pub struct ReadWords<'a> {
     /// Whose text in them.
     pub source: u32,
     pub pts: Pts,
-}
-
-/// What the words ask for.
-pub enum Command<'a> {
-    Read(ReadWords<'a>),
 }
 
 fn all_digits(text: &[u8]) -> bool
@@ -64,19 +60,19 @@ fn is_plain(word: &str) -> bool
     }
 }
 
-/// What these words ask for, if they are in the word table.
-pub fn command_of(words: &[String]) -> Option<Command<'_>>
+/// What these words ask for, if they are in the word table. Each row of it asks for a `read`.
+pub fn read_of(words: &[String]) -> Option<ReadWords<'_>>
     ensures { option_map meaning result ≡ command (map string_bytes words.now) }
 {
     match words {
         [name, file, ssrc] if name.as_str() == "read" && is_plain(file.as_str()) => {
             let ssrc = number_of(ssrc.as_str(), u32::MAX)?;
-            Some(Command::Read(ReadWords {
+            Some(ReadWords {
                 file: file.as_str(),
                 ssrc,
                 source: ssrc,
                 pts: Pts { t140: 98, red: 100 },
-            }))
+            })
         }
         _ => None,
     }
