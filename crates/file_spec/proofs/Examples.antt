@@ -18,6 +18,12 @@ a_sign_is_no_digit = refl
 read_a_source : command (codes "read" ∷ codes "a.rtp" ∷ codes "1001" ∷ []) ≡ Some (Read (record { file = codes "a.rtp"; ssrc = 1001; source = 1001; t140 = 98; red = 100 }))
 read_a_source = refl
 
+read_another_source : command (codes "read" ∷ codes "a.rtp" ∷ codes "1001" ∷ codes "7" ∷ []) ≡ Some (Read (record { file = codes "a.rtp"; ssrc = 1001; source = 7; t140 = 98; red = 100 }))
+read_another_source = refl
+
+five_words : command (codes "read" ∷ codes "a.rtp" ∷ codes "1001" ∷ codes "7" ∷ codes "98" ∷ []) ≡ None
+five_words = refl
+
 read_without_a_source : command (codes "read" ∷ codes "a.rtp" ∷ []) ≡ None
 read_without_a_source = refl
 

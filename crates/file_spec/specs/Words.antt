@@ -22,13 +22,16 @@ abbrev pub is_word : List ℕ → Bool
 is_word [] = false
 is_word (c ∷ cs) = not (c == 45)
 
-abbrev pub read_of : List ℕ → Option ℕ → Option Command
-read_of file None = None
-read_of file (Some ssrc) = Some (Read (record { file = file; ssrc = ssrc; source = ssrc; t140 = 98; red = 100 }))
+-- the words of a `read`, where the numbers are numbers
+abbrev pub read_of : List ℕ → Option ℕ → Option ℕ → Option Command
+read_of file None source = None
+read_of file (Some ssrc) None = None
+read_of file (Some ssrc) (Some source) = Some (Read (record { file = file; ssrc = ssrc; source = source; t140 = 98; red = 100 }))
 
--- `read FILE SSRC`
+-- `FILE SSRC` and `FILE SSRC SOURCE`: where no source is named it is the SSRC
 abbrev pub read_words : List (List ℕ) → Option Command
-read_words (file ∷ ssrc ∷ []) = if is_word file then read_of file (number most_ssrc ssrc) else None
+read_words (file ∷ ssrc ∷ []) = if is_word file then read_of file (number most_ssrc ssrc) (number most_ssrc ssrc) else None
+read_words (file ∷ ssrc ∷ source ∷ []) = if is_word file then read_of file (number most_ssrc ssrc) (number most_ssrc source) else None
 read_words _ = None
 
 -- what the words ask for, if they are in the word table
