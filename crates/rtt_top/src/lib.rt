@@ -9,3 +9,6 @@ mod runs;
 mod words;
 
 pub use runs::{run, run_plain};
+
+#[cfg(test)]
+mod tests;
