@@ -53,6 +53,7 @@ fn view_of<'a, W: World>(
     ensures refused { W.tells → IfErr result (λ fault. (octets : List ℕ) → W.contents world.old (asked read.now).file ≡ Some octets → IsFaultOf (fault_of octets) fault) }
     ensures whole { W.tells → OnOk result ((octets : List ℕ) → W.contents world.old (asked read.now).file ≡ Some octets → fault_of octets ≡ None) }
     ensures view { W.tells → IfOk result (λ view. (octets : List ℕ) → W.contents world.old (asked read.now).file ≡ Some octets → view ≡ read_view (asked read.now) octets) }
+    ensures same_contents { W.tells → (n : List ℕ) → W.contents world.new n ≡ W.contents world.old n }
 {
     let Ok(source) = world.open_source(read.file) else {
         return Err(Fault::CannotOpen(read.file));
@@ -85,6 +86,7 @@ pub fn read<'a, W: World, K: Sink>(
     ensures partly_printed { W.tells → K.tells → IfErr result (λ fault. status_of fault ≡ 7 → (octets : List ℕ) → W.contents world.old (asked words.now).file ≡ Some octets
         → (n : ℕ) × (K.took out.new ≡ K.took out.old ++ take n (read_view (asked words.now) octets))) }
     ensures nothing_printed { K.tells → IfErr result (λ fault. (status_of fault ≡ 7 → ⊥) → K.took out.new ≡ K.took out.old) }
+    ensures same_contents { W.tells → (n : List ℕ) → W.contents world.new n ≡ W.contents world.old n }
 {
     let view = match view_of(alloc, words, world) {
         Ok(view) => view,

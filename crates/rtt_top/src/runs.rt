@@ -39,6 +39,7 @@ fn attempt<'a, W: World, K: Sink>(
     ensures partly_printed { W.tells → K.tells → ended result ≡ 7 → ForRecording (command (map string_bytes words.now)) (W.contents world.old) (λ r octets.
         (n : ℕ) × (K.took out.new ≡ K.took out.old ++ take n (read_view r octets))) }
     ensures nothing_printed { K.tells → ended result ≢ 0 → ended result ≢ 7 → K.took out.new ≡ K.took out.old }
+    ensures same_contents { W.tells → (n : List ℕ) → W.contents world.new n ≡ W.contents world.old n }
 {
     match read_of(words) {
         None => Err(Fault::WrongWords),
@@ -74,6 +75,7 @@ pub fn run_plain<W: World, K: Sink, E: Sink>(
     ensures partly_printed { W.tells → K.tells → result ≡ Some 7 → ForRecording (command (map string_bytes words.now)) (W.contents world.old) (λ r octets.
         (n : ℕ) × (K.took out.new ≡ K.took out.old ++ take n (read_view r octets))) }
     ensures nothing_printed { K.tells → result ≢ Some 0 → result ≢ Some 7 → K.took out.new ≡ K.took out.old }
+    ensures same_contents { W.tells → (n : List ℕ) → W.contents world.new n ≡ W.contents world.old n }
 {
     match attempt(alloc, words, world, out) {
         Ok(()) => Some(0),
@@ -117,6 +119,8 @@ pub fn run<R: Threads + Wait + Sync, W: World, K: Sink, E: Sink, G: Gate + Sync>
     ensures partly_printed { W.tells → K.tells → result ≡ 7 → ForRecording (command (map string_bytes words.now)) (W.contents world.old) (λ r octets.
         (n : ℕ) × (K.took out.new ≡ K.took out.old ++ take n (read_view r octets))) }
     ensures nothing_printed { K.tells → result ≢ 0 → result ≢ 7 → K.took out.new ≡ K.took out.old }
+    // No file is changed.
+    ensures same_contents { W.tells → (n : List ℕ) → W.contents world.new n ≡ W.contents world.old n }
 {
     match run_plain(alloc, words, world, out, err) {
         Some(status) => status,
