@@ -25,10 +25,27 @@ kind_name Read = codes "Read"
 abbrev pub place_message : List ℕ → ℕ → DumpKind → List ℕ
 place_message name byte kind = name ++ codes " byte " ++ (decimal byte ++ codes ": ") ++ (kind_name kind ++ codes "\n")
 
+-- for words outside the word table
+abbrev pub usage : List ℕ
+usage = codes "usage: rtt_program read FILE SSRC [SOURCE]\n"
+
+-- of a file with this name
+abbrev pub opening_message : List ℕ → List ℕ
+opening_message name = codes "cannot open " ++ (name ++ codes "\n")
+
+abbrev pub reading_message : List ℕ → List ℕ
+reading_message name = codes "cannot read " ++ (name ++ codes "\n")
+
+abbrev pub writing_message : List ℕ
+writing_message = codes "cannot write the output\n"
+
+abbrev pub memory_message : List ℕ
+memory_message = codes "out of memory\n"
+
 abbrev pub message_of : Fault → List ℕ
-message_of WrongWords = codes "usage: rtt_program read FILE SSRC [SOURCE]\n"
-message_of (CannotOpen name) = codes "cannot open " ++ (name.now ++ codes "\n")
-message_of (CannotRead name) = codes "cannot read " ++ (name.now ++ codes "\n")
+message_of WrongWords = usage
+message_of (CannotOpen name) = opening_message name.now
+message_of (CannotRead name) = reading_message name.now
 message_of (BadRecording name byte kind) = place_message name.now byte kind
-message_of CannotWrite = codes "cannot write the output\n"
-message_of NoMemory = codes "out of memory\n"
+message_of CannotWrite = writing_message
+message_of NoMemory = memory_message

@@ -1,9 +1,10 @@
 //! One run of the program.
-ghost use Rattle.std.specs.Prelude.{◌≡◌, ◌≢◌, ◌⊎◌, ◌↔◌, ℕ, ◌++◌, List, None, Some, IsSome, IfSome, map, take, string_bytes};
+ghost use Rattle.std.specs.Prelude.{◌≡◌, ◌≢◌, ◌⊎◌, ◌↔◌, ℕ, ◌++◌, List, None, Some, IsSome, IfSome, IfErr, map, take, string_bytes};
 ghost use Rattle.rtt_io.specs.Counts.{Rose};
 ghost use Rattle.file_spec.specs.Words.{ReadWords as Asked, Read, command};
 ghost use Rattle.rtt_top.specs.ReadView.{read_view};
 ghost use Rattle.rtt_top.specs.Faults.{ended};
+ghost use Rattle.rtt_top.specs.Messages.{status_of, message_of, usage, opening_message, reading_message, place_message, writing_message, memory_message};
 ghost use Rattle.rtt_top.specs.Runs.{ForRead, ForRecording, IsStatus, IsCalm, fault_of};
 
 use crate::commands::read;
@@ -40,6 +41,10 @@ fn attempt<'a, W: World, K: Sink>(
         (n : ℕ) × (K.took out.new ≡ K.took out.old ++ take n (read_view r octets))) }
     ensures nothing_printed { K.tells → ended result ≢ 0 → ended result ≢ 7 → K.took out.new ≡ K.took out.old }
     ensures same_contents { W.tells → (n : List ℕ) → W.contents world.new n ≡ W.contents world.old n }
+    ensures opening { IfErr result (λ fault. status_of fault ≡ 3 → ForRead (command (map string_bytes words.now)) (λ r. message_of fault ≡ opening_message r.file)) }
+    ensures reading { IfErr result (λ fault. status_of fault ≡ 4 → ForRead (command (map string_bytes words.now)) (λ r. message_of fault ≡ reading_message r.file)) }
+    ensures place { W.tells → IfErr result (λ fault. status_of fault ≡ 6 → ForRecording (command (map string_bytes words.now)) (W.contents world.old) (λ r octets.
+        IfSome (fault_of octets) (λ found. message_of fault ≡ place_message r.file found.byte found.kind))) }
 {
     match read_of(words) {
         None => Err(Fault::WrongWords),
@@ -76,6 +81,14 @@ pub fn run_plain<W: World, K: Sink, E: Sink>(
         (n : ℕ) × (K.took out.new ≡ K.took out.old ++ take n (read_view r octets))) }
     ensures nothing_printed { K.tells → result ≢ Some 0 → result ≢ Some 7 → K.took out.new ≡ K.took out.old }
     ensures same_contents { W.tells → (n : List ℕ) → W.contents world.new n ≡ W.contents world.old n }
+    ensures silent { result ≡ Some 0 → E.took err.new ≡ E.took err.old }
+    ensures told_usage { E.tells → IsCalm (E.faults err.old) (E.faults err.new) → result ≡ Some 2 → E.took err.new ≡ E.took err.old ++ usage }
+    ensures told_opening { E.tells → IsCalm (E.faults err.old) (E.faults err.new) → result ≡ Some 3 → ForRead (command (map string_bytes words.now)) (λ r. E.took err.new ≡ E.took err.old ++ opening_message r.file) }
+    ensures told_reading { E.tells → IsCalm (E.faults err.old) (E.faults err.new) → result ≡ Some 4 → ForRead (command (map string_bytes words.now)) (λ r. E.took err.new ≡ E.took err.old ++ reading_message r.file) }
+    ensures told_place { W.tells → E.tells → IsCalm (E.faults err.old) (E.faults err.new) → result ≡ Some 6 → ForRecording (command (map string_bytes words.now)) (W.contents world.old) (λ r octets.
+        IfSome (fault_of octets) (λ found. E.took err.new ≡ E.took err.old ++ place_message r.file found.byte found.kind)) }
+    ensures told_writing { E.tells → IsCalm (E.faults err.old) (E.faults err.new) → result ≡ Some 7 → E.took err.new ≡ E.took err.old ++ writing_message }
+    ensures told_memory { E.tells → IsCalm (E.faults err.old) (E.faults err.new) → result ≡ Some 70 → E.took err.new ≡ E.took err.old ++ memory_message }
 {
     match attempt(alloc, words, world, out) {
         Ok(()) => Some(0),
@@ -121,6 +134,15 @@ pub fn run<R: Threads + Wait + Sync, W: World, K: Sink, E: Sink, G: Gate + Sync>
     ensures nothing_printed { K.tells → result ≢ 0 → result ≢ 7 → K.took out.new ≡ K.took out.old }
     // No file is changed.
     ensures same_contents { W.tells → (n : List ℕ) → W.contents world.new n ≡ W.contents world.old n }
+    // With 0 nothing is told on `err`, and else, where no count of it rose, why the work was not done.
+    ensures silent { result ≡ 0 → E.took err.new ≡ E.took err.old }
+    ensures told_usage { E.tells → IsCalm (E.faults err.old) (E.faults err.new) → result ≡ 2 → E.took err.new ≡ E.took err.old ++ usage }
+    ensures told_opening { E.tells → IsCalm (E.faults err.old) (E.faults err.new) → result ≡ 3 → ForRead (command (map string_bytes words.now)) (λ r. E.took err.new ≡ E.took err.old ++ opening_message r.file) }
+    ensures told_reading { E.tells → IsCalm (E.faults err.old) (E.faults err.new) → result ≡ 4 → ForRead (command (map string_bytes words.now)) (λ r. E.took err.new ≡ E.took err.old ++ reading_message r.file) }
+    ensures told_place { W.tells → E.tells → IsCalm (E.faults err.old) (E.faults err.new) → result ≡ 6 → ForRecording (command (map string_bytes words.now)) (W.contents world.old) (λ r octets.
+        IfSome (fault_of octets) (λ found. E.took err.new ≡ E.took err.old ++ place_message r.file found.byte found.kind)) }
+    ensures told_writing { E.tells → IsCalm (E.faults err.old) (E.faults err.new) → result ≡ 7 → E.took err.new ≡ E.took err.old ++ writing_message }
+    ensures told_memory { E.tells → IsCalm (E.faults err.old) (E.faults err.new) → result ≡ 70 → E.took err.new ≡ E.took err.old ++ memory_message }
 {
     match run_plain(alloc, words, world, out, err) {
         Some(status) => status,

@@ -5,7 +5,7 @@ use Rattle.file_spec.specs.Words.{ReadWords}
 use Rattle.rtt_top.specs.Commands.{asked}
 use Rattle.rtt_top.specs.Faults.{ended}
 use Rattle.rtt_top.specs.Runs.{IsCalm, fault_of}
-use Rattle.rtt_top.proofs.Ending.{read_same, refused_by, completes, at_octets}
+use Rattle.rtt_top.proofs.Ending.{read_same, refused_by, completes, at_octets, opening_by, reading_by, place_by}
 use Rattle.rtt_top.proofs.runs.attempt.Goals as goal
 
 pub returns-in-Some-clause-refused : goal.returns-in-Some-clause-refused
@@ -24,3 +24,12 @@ returns-in-Some-clause-complete g c = λ t r right octets held own objects writt
     c.read.ensures.about c.read.ensures.cannot_open c.read.ensures.cannot_read c.read.ensures.cannot_write
     (at_octets c.read.result (g.W.World.contents c.args.world.now q.file) octets h (c.read.ensures.refused t)) a b written none in
     subst P (read_same _ q r c.in-Some.ensures right) here held own objects
+
+pub returns-in-Some-clause-opening : goal.returns-in-Some-clause-opening
+returns-in-Some-clause-opening g c = opening_by _ (asked c.in-Some.words) c.read.result c.in-Some.ensures c.read.ensures.about
+
+pub returns-in-Some-clause-reading : goal.returns-in-Some-clause-reading
+returns-in-Some-clause-reading g c = reading_by _ (asked c.in-Some.words) c.read.result c.in-Some.ensures c.read.ensures.about
+
+pub returns-in-Some-clause-place : goal.returns-in-Some-clause-place
+returns-in-Some-clause-place g c = λ t. place_by _ (asked c.in-Some.words) (g.W.World.contents c.args.world.now) c.read.result c.in-Some.ensures c.read.ensures.about (c.read.ensures.refused t)
