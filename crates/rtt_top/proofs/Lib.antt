@@ -3,6 +3,7 @@ pub mod Counts
 mod Examples
 pub mod Erasing
 pub mod Rising
+pub mod Kept
 pub mod Utf8
 pub mod Accepted
 pub mod Gathering

@@ -9,6 +9,8 @@ use Rattle.wire_spec.specs.Text.{text_of}
 use Rattle.wire_spec.specs.Dump.{Item, What, Sent, Rtcp, Cut, Large, dump, usual_limit, arrivals}
 use Rattle.stream_spec.specs.Numbering.{numbered, used}
 use Rattle.stream_spec.specs.Hearing.{heard}
+use Rattle.stream_spec.specs.History.{History, places}
+use Rattle.stream_spec.specs.Kept.{kept, texts}
 use Rattle.text_spec.specs.declared.counts.Counts.{Counts}
 use Rattle.text_spec.specs.Shown.{shown}
 use Rattle.text_spec.specs.Views.{text_view}
@@ -79,3 +81,8 @@ counts_read r octets = record {
 
 unfoldable pub read_view : ReadWords → List ℕ → List ℕ
 read_view r octets = text_view (shown (text_read r octets)) (counts_read r octets)
+
+-- What is printed of arrivals that come from a history: the source's blocks of the packets that came in time, in their
+-- order, each once, and the marks.
+unfoldable pub history_view : History → ReadWords → List ℕ → List ℕ
+history_view h r octets = text_view (shown (concat (texts (kept h (places usual_wait h (arrivals_of r octets)) r.source)))) (counts_read r octets)

@@ -2,7 +2,8 @@
 ghost use Rattle.std.specs.Prelude.{◌≡◌, ◌≢◌, ◌⊎◌, ◌↔◌, ℕ, ◌++◌, List, None, Some, IsSome, IfSome, IfErr, map, take, string_bytes};
 ghost use Rattle.rtt_io.specs.Counts.{Rose};
 ghost use Rattle.file_spec.specs.Words.{ReadWords as Asked, Read, command};
-ghost use Rattle.rtt_top.specs.ReadView.{read_view};
+ghost use Rattle.stream_spec.specs.History.{History, Lawful, Come};
+ghost use Rattle.rtt_top.specs.ReadView.{read_view, arrivals_of, history_view};
 ghost use Rattle.rtt_top.specs.Faults.{ended};
 ghost use Rattle.rtt_top.specs.Messages.{status_of, message_of, usage, opening_message, reading_message, place_message, writing_message, memory_message};
 ghost use Rattle.rtt_top.specs.Runs.{ForRead, ForRecording, IsStatus, IsCalm, fault_of};
@@ -37,6 +38,8 @@ fn attempt<'a, W: World, K: Sink>(
     ensures whole { W.tells → ended result ≡ 0 → ForRecording (command (map string_bytes words.now)) (W.contents world.old) (λ r octets. fault_of octets ≡ None) }
     ensures printed { W.tells → K.tells → ended result ≡ 0 → ForRecording (command (map string_bytes words.now)) (W.contents world.old) (λ r octets.
         K.took out.new ≡ K.took out.old ++ read_view r octets) }
+    ensures kept { W.tells → K.tells → ended result ≡ 0 → (h : History) → Lawful h → ForRecording (command (map string_bytes words.now)) (W.contents world.old) (λ r octets.
+        Come h (arrivals_of r octets) → K.took out.new ≡ K.took out.old ++ history_view h r octets) }
     ensures partly_printed { W.tells → K.tells → ended result ≡ 7 → ForRecording (command (map string_bytes words.now)) (W.contents world.old) (λ r octets.
         (n : ℕ) × (K.took out.new ≡ K.took out.old ++ take n (read_view r octets))) }
     ensures nothing_printed { K.tells → ended result ≢ 0 → ended result ≢ 7 → K.took out.new ≡ K.took out.old }
@@ -77,6 +80,8 @@ pub fn run_plain<W: World, K: Sink, E: Sink>(
     ensures whole { W.tells → result ≡ Some 0 → ForRecording (command (map string_bytes words.now)) (W.contents world.old) (λ r octets. fault_of octets ≡ None) }
     ensures printed { W.tells → K.tells → result ≡ Some 0 → ForRecording (command (map string_bytes words.now)) (W.contents world.old) (λ r octets.
         K.took out.new ≡ K.took out.old ++ read_view r octets) }
+    ensures kept { W.tells → K.tells → result ≡ Some 0 → (h : History) → Lawful h → ForRecording (command (map string_bytes words.now)) (W.contents world.old) (λ r octets.
+        Come h (arrivals_of r octets) → K.took out.new ≡ K.took out.old ++ history_view h r octets) }
     ensures partly_printed { W.tells → K.tells → result ≡ Some 7 → ForRecording (command (map string_bytes words.now)) (W.contents world.old) (λ r octets.
         (n : ℕ) × (K.took out.new ≡ K.took out.old ++ take n (read_view r octets))) }
     ensures nothing_printed { K.tells → result ≢ Some 0 → result ≢ Some 7 → K.took out.new ≡ K.took out.old }
@@ -129,6 +134,9 @@ pub fn run<R: Threads + Wait + Sync, W: World, K: Sink, E: Sink, G: Gate + Sync>
     // With 0 the whole view was printed, with 7 a front of it, and else nothing.
     ensures printed { W.tells → K.tells → result ≡ 0 → ForRecording (command (map string_bytes words.now)) (W.contents world.old) (λ r octets.
         K.took out.new ≡ K.took out.old ++ read_view r octets) }
+    // Where the packets are those of a lawful history, that is the source's blocks which came in time, each once, and marks.
+    ensures kept { W.tells → K.tells → result ≡ 0 → (h : History) → Lawful h → ForRecording (command (map string_bytes words.now)) (W.contents world.old) (λ r octets.
+        Come h (arrivals_of r octets) → K.took out.new ≡ K.took out.old ++ history_view h r octets) }
     ensures partly_printed { W.tells → K.tells → result ≡ 7 → ForRecording (command (map string_bytes words.now)) (W.contents world.old) (λ r octets.
         (n : ℕ) × (K.took out.new ≡ K.took out.old ++ take n (read_view r octets))) }
     ensures nothing_printed { K.tells → result ≢ 0 → result ≢ 7 → K.took out.new ≡ K.took out.old }

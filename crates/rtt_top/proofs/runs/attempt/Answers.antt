@@ -6,6 +6,7 @@ use Rattle.rtt_top.specs.Commands.{asked}
 use Rattle.rtt_top.specs.Faults.{ended}
 use Rattle.rtt_top.specs.Runs.{IsCalm, fault_of}
 use Rattle.rtt_top.proofs.Ending.{read_same, refused_by, completes, at_octets, opening_by, reading_by, place_by}
+use Rattle.rtt_top.proofs.Kept.{kept_by}
 use Rattle.rtt_top.proofs.runs.attempt.Goals as goal
 
 pub returns-in-Some-clause-refused : goal.returns-in-Some-clause-refused
@@ -33,3 +34,7 @@ returns-in-Some-clause-reading g c = reading_by _ (asked c.in-Some.words) c.read
 
 pub returns-in-Some-clause-place : goal.returns-in-Some-clause-place
 returns-in-Some-clause-place g c = λ t. place_by _ (asked c.in-Some.words) (g.W.World.contents c.args.world.now) c.read.result c.in-Some.ensures c.read.ensures.about (c.read.ensures.refused t)
+
+pub returns-in-Some-clause-kept : goal.returns-in-Some-clause-kept
+returns-in-Some-clause-kept g c = λ t k s h law. kept_by _ (asked c.in-Some.words) (g.W.World.contents c.args.world.now) c.read.result (g.K.Sink.took c.args.out.now) (g.K.Sink.took c.read.new.out) h law c.in-Some.ensures
+    (c.read.ensures.printed t k) s
