@@ -193,7 +193,7 @@ walk_of h i s a = record {
   follows = tt;
 }
 
--- L2
+-- a block is there exactly where one of its carriers came
 pub l2_rises : (h : History) (i : List Placed) (s : ℕ) → ArePlaces h i → Rising (blocks_in (kept h i s))
 l2_rises h i s a = kept_rises h (has_place i) (least_place i) s None (filter (is_entry_of s) i) (walk_of h i s a)
 

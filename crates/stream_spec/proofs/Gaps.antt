@@ -75,7 +75,7 @@ gap_count h present lo (suc d) k y i j s e l f =
       | inr (inr gt) ↦ absurd (omega arith)
     ]
 
--- ---- L4
+-- ---- without a gap there is no mark
 pub has_place_at : (i : List Placed) (k : ℕ) → has_place i k ≡ true → (x : Placed) × In x i × (x.place ≡ k)
 has_place_at [] k h = absurd (true≢false (sym h))
 has_place_at (y ∷ i) k h = elim (or_cases (y.place == k) (has_place i k) h) [
@@ -171,7 +171,7 @@ l4_all h s law =
     let a = and_parts (is_entry_of s x) (has_text x.text) r.1 in
     in_blocks x (kept h (placed h) s) (l2_each h law (placed h) s x x all r.0 (eqb-true x.source s a.0) a.1 r.0 (record { source = refl; reaches = omega arith; behind = omega arith })))
 
--- ---- L3
+-- ---- a mark stands where a block is absent
 -- what the walk over the entries of s in i knows of i
 pub record Rest (i : List Placed) (s : ℕ) (prev : Option Placed) (bs : List Placed) : Type 0 where
   pub all : (x : Placed) → In x i → x.source ≡ s → is_above prev x ≡ true → In x bs

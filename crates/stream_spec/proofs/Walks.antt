@@ -267,7 +267,7 @@ places_headed wait h p d a (b ∷ before) f c = go (in_time wait (number_it (num
     go true q r = headed_put p (entry_of h a.packet) (places wait h (b ∷ before)) r (ahead q)
     go false q r = r
 
--- ---- L1
+-- ---- what is heard is what is kept
 within_of : (h : History) (p d : ℕ) (us : List Numbered) (xs : List Placed) → AllZip (Matches h p d) us xs → (x : Placed) → In x xs → In x (placed h)
 within_of h p d [] [] q x i = absurd i
 within_of h p d [] (y ∷ ys) q x i = absurd q
