@@ -2,8 +2,7 @@
 ghost use Rattle.std.specs.Prelude.{◌≡◌, ◌≤◌, IfSome};
 ghost use Rattle.std.specs.List.{list_all};
 ghost use Rattle.std.specs.Char.{is_ascii_digit};
-ghost use Rattle.file_spec.specs.Conf.{number_between, pts};
-ghost use Rattle.file_spec.specs.Numbers.{number, is_number};
+ghost use Rattle.file_spec.specs.Numbers.{number, is_number, number_between, pts};
 ghost use Rattle.file_spec.specs.Sound.{IsBetween};
 
 use rtt_base::Pts;

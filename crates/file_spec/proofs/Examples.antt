@@ -1,7 +1,7 @@
 -- Worked examples of command words, by computing.
 use Rattle.std.proofs.Common.{◌≡◌, refl, [], ◌∷◌, None, Some, codes}
 use Rattle.file_spec.specs.Numbers.{number}
-use Rattle.file_spec.specs.Words.{command, Read}
+use Rattle.file_spec.specs.Words.{command, Read, ListRecords, Send}
 
 leading_zeros_count_for_nothing : number 65535 (codes "0000065535") ≡ Some 65535
 leading_zeros_count_for_nothing = refl
@@ -15,10 +15,10 @@ one_more_than_the_greatest = refl
 a_sign_is_no_digit : number 65535 (codes "+1") ≡ None
 a_sign_is_no_digit = refl
 
-read_a_source : command (codes "read" ∷ codes "a.rtp" ∷ codes "1001" ∷ []) ≡ Some (Read (record { file = codes "a.rtp"; ssrc = 1001; source = 1001; t140 = 98; red = 100 }))
+read_a_source : command (codes "read" ∷ codes "a.rtp" ∷ codes "1001" ∷ []) ≡ Some (Read (record { file = codes "a.rtp"; ssrc = 1001; source = 1001; pts = record { t140 = 98; red = 100 } }))
 read_a_source = refl
 
-read_another_source : command (codes "read" ∷ codes "a.rtp" ∷ codes "1001" ∷ codes "7" ∷ []) ≡ Some (Read (record { file = codes "a.rtp"; ssrc = 1001; source = 7; t140 = 98; red = 100 }))
+read_another_source : command (codes "read" ∷ codes "a.rtp" ∷ codes "1001" ∷ codes "7" ∷ []) ≡ Some (Read (record { file = codes "a.rtp"; ssrc = 1001; source = 7; pts = record { t140 = 98; red = 100 } }))
 read_another_source = refl
 
 five_words : command (codes "read" ∷ codes "a.rtp" ∷ codes "1001" ∷ codes "7" ∷ codes "98" ∷ []) ≡ None
@@ -35,3 +35,35 @@ no_options = refl
 
 no_help : command (codes "help" ∷ []) ≡ None
 no_help = refl
+
+read_under_other_payload_types : command (codes "read" ∷ codes "a.rtp" ∷ codes "1001" ∷ codes "7" ∷ codes "96" ∷ codes "127" ∷ [])
+    ≡ Some (Read (record { file = codes "a.rtp"; ssrc = 1001; source = 7; pts = record { t140 = 96; red = 127 } }))
+read_under_other_payload_types = refl
+
+payload_types_differ : command (codes "read" ∷ codes "a.rtp" ∷ codes "1001" ∷ codes "7" ∷ codes "98" ∷ codes "098" ∷ []) ≡ None
+payload_types_differ = refl
+
+payload_types_are_dynamic : command (codes "list" ∷ codes "a.rtp" ∷ codes "95" ∷ codes "100" ∷ []) ≡ None
+payload_types_are_dynamic = refl
+
+payload_types_have_seven_bits : command (codes "list" ∷ codes "a.rtp" ∷ codes "98" ∷ codes "128" ∷ []) ≡ None
+payload_types_have_seven_bits = refl
+
+list_a_recording : command (codes "list" ∷ codes "a.rtp" ∷ []) ≡ Some (ListRecords (record { file = codes "a.rtp"; pts = record { t140 = 98; red = 100 } }))
+list_a_recording = refl
+
+list_with_one_payload_type : command (codes "list" ∷ codes "a.rtp" ∷ codes "98" ∷ []) ≡ None
+list_with_one_payload_type = refl
+
+send_a_script : command (codes "send" ∷ codes "s.txt" ∷ codes "a.rtp" ∷ codes "1001" ∷ codes "65535" ∷ codes "4294967295" ∷ [])
+    ≡ Some (Send (record { script = codes "s.txt"; out = codes "a.rtp"; ssrc = 1001; seq = 65535; stamp = 4294967295 }))
+send_a_script = refl
+
+no_such_sequence_number : command (codes "send" ∷ codes "s" ∷ codes "o" ∷ codes "1" ∷ codes "65536" ∷ codes "0" ∷ []) ≡ None
+no_such_sequence_number = refl
+
+no_recording_named_like_an_option : command (codes "send" ∷ codes "s" ∷ codes "-o" ∷ codes "1" ∷ codes "0" ∷ codes "0" ∷ []) ≡ None
+no_recording_named_like_an_option = refl
+
+mix_is_not_built : command (codes "mix" ∷ codes "c.txt" ∷ []) ≡ None
+mix_is_not_built = refl

@@ -17,8 +17,7 @@ use Rattle.file_spec.specs.declared.conf_lines.What.{What}
 use Rattle.file_spec.specs.declared.conf_lines.What.TheVariants as what
 use Rattle.file_spec.specs.Steps.{◌>>=◌, unless}
 use Rattle.file_spec.specs.Lines.{Line, Refusal, told, is_comment, words, at_line, read_lines}
-use Rattle.file_spec.specs.Numbers.{number}
-use Rattle.file_spec.specs.Words.{most_ssrc}
+use Rattle.file_spec.specs.Numbers.{number, number_between, most_ssrc, pts}
 
 pub record Conf : Type 0 where
   pub legs : List LegLine
@@ -62,9 +61,6 @@ with_entry a (Mixer m) = record a { mixer = Some m }
 with_entry a (Plan p) = record a { plan = a.plan ++ p ∷ [] }
 
 -- ---- numbers, times and the mixer
-
-abbrev pub number_between : ℕ → ℕ → List ℕ → Option ℕ
-number_between least most text = option_and_then (λ n. if nat_lt n least then None else Some n) (number most text)
 
 -- one number, on one line
 abbrev pub setting : ℕ → ℕ → Option ℕ → List (List ℕ) → Result ℕ ConfKind
@@ -110,12 +106,6 @@ has_names Links name input output = is_name name && is_path output
 abbrev pub has_port : Form → List ℕ → Bool
 has_port Files input = true
 has_port Links input = is_some (port input)
-
-abbrev pub payload_type : List ℕ → Option ℕ
-payload_type text = number_between 96 127 text
-
-abbrev pub pts : List ℕ → List ℕ → Option Pts
-pts t140 red = option_and_then (λ t. option_and_then (λ r. Some (record { t140 = t; red = r })) (payload_type red)) (payload_type t140)
 
 abbrev pub same_port : Option ℕ → Option ℕ → Bool
 same_port (Some a) (Some b) = a == b

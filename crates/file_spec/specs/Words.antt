@@ -1,40 +1,88 @@
--- The command words of the program (profile).
-use Rattle.std.specs.Prelude.{ℕ, Bool, false, not, Option, None, Some, List, [], ◌∷◌, ◌==◌, bytes_eq, codes, if◌then◌else◌}
-use Rattle.file_spec.specs.Numbers.{number}
+-- The command words of the program (profile). A file is named by a word that is not empty and does not begin with `-`.
+use Rattle.std.specs.Prelude.{ℕ, Bool, false, not, Option, None, Some, List, [], ◌∷◌, ◌==◌, ◌&&◌, bytes_eq, codes, if◌then◌else◌, option_and_then}
+use Rattle.std.specs.Option.{option_map}
+use Rattle.rtt_base.specs.declared.text_packets.Pts.{Pts}
+use Rattle.file_spec.specs.Numbers.{number, most_ssrc, pts}
 
 -- what `read` is asked for: the text of a source in the packets of an SSRC of a recording, under two payload types
 pub record ReadWords : Type 0 where
   pub file : List ℕ
   pub ssrc : ℕ
   pub source : ℕ
-  pub t140 : ℕ
-  pub red : ℕ
+  pub pts : Pts
+
+-- what `list` is asked for: the records of a recording, under two payload types
+pub record ListWords : Type 0 where
+  pub file : List ℕ
+  pub pts : Pts
+
+-- what `send` is asked for: a script sent into a recording, by a stream of this SSRC, first sequence number and timestamp at time 0
+pub record SendWords : Type 0 where
+  pub script : List ℕ
+  pub out : List ℕ
+  pub ssrc : ℕ
+  pub seq : ℕ
+  pub stamp : ℕ
 
 pub data Command : Type 0 where
   Read : ReadWords → Command
-
--- the greatest SSRC
-abbrev pub most_ssrc : ℕ
-most_ssrc = 4294967295
+  ListRecords : ListWords → Command
+  Send : SendWords → Command
 
 -- a word that is empty or begins with `-` is none
 abbrev pub is_word : List ℕ → Bool
 is_word [] = false
 is_word (c ∷ cs) = not (c == 45)
 
--- the words of a `read`, where the numbers are numbers
-abbrev pub read_of : List ℕ → Option ℕ → Option ℕ → Option Command
-read_of file None source = None
-read_of file (Some ssrc) None = None
-read_of file (Some ssrc) (Some source) = Some (Read (record { file = file; ssrc = ssrc; source = source; t140 = 98; red = 100 }))
+-- where no payload types are named
+abbrev pub usual_pts : Pts
+usual_pts = record { t140 = 98; red = 100 }
 
--- `FILE SSRC` and `FILE SSRC SOURCE`: where no source is named it is the SSRC
+abbrev pub if_different : Pts → Option Pts
+if_different p = if p.t140 == p.red then None else Some p
+
+-- two payload types that differ
+abbrev pub payload_types : List ℕ → List ℕ → Option Pts
+payload_types t140 red = option_and_then if_different (pts t140 red)
+
+-- the words of a `read`, where the numbers are numbers
+abbrev pub read_of : List ℕ → Option ℕ → Option ℕ → Option Pts → Option Command
+read_of file ssrc source types =
+    option_and_then (λ s. option_and_then (λ t. option_map (λ p. Read (record { file = file; ssrc = s; source = t; pts = p })) types) source) ssrc
+
+-- `FILE SSRC`, `FILE SSRC SOURCE` and `FILE SSRC SOURCE T140 RED`: where no source is named it is the SSRC
 abbrev pub read_words : List (List ℕ) → Option Command
-read_words (file ∷ ssrc ∷ []) = if is_word file then read_of file (number most_ssrc ssrc) (number most_ssrc ssrc) else None
-read_words (file ∷ ssrc ∷ source ∷ []) = if is_word file then read_of file (number most_ssrc ssrc) (number most_ssrc source) else None
+read_words (file ∷ ssrc ∷ []) = if is_word file then read_of file (number most_ssrc ssrc) (number most_ssrc ssrc) (Some usual_pts) else None
+read_words (file ∷ ssrc ∷ source ∷ []) = if is_word file then read_of file (number most_ssrc ssrc) (number most_ssrc source) (Some usual_pts) else None
+read_words (file ∷ ssrc ∷ source ∷ t140 ∷ red ∷ []) =
+    if is_word file then read_of file (number most_ssrc ssrc) (number most_ssrc source) (payload_types t140 red) else None
 read_words _ = None
+
+abbrev pub list_of : List ℕ → Option Pts → Option Command
+list_of file types = option_map (λ p. ListRecords (record { file = file; pts = p })) types
+
+-- `FILE` and `FILE T140 RED`
+abbrev pub list_words : List (List ℕ) → Option Command
+list_words (file ∷ []) = if is_word file then list_of file (Some usual_pts) else None
+list_words (file ∷ t140 ∷ red ∷ []) = if is_word file then list_of file (payload_types t140 red) else None
+list_words _ = None
+
+-- the words of a `send`, where the numbers are numbers
+abbrev pub send_of : List ℕ → List ℕ → Option ℕ → Option ℕ → Option ℕ → Option Command
+send_of script out ssrc seq stamp =
+    option_and_then (λ s. option_and_then (λ q. option_map (λ t.
+        Send (record { script = script; out = out; ssrc = s; seq = q; stamp = t })) stamp) seq) ssrc
+
+-- `SCRIPT OUT SSRC SEQ STAMP`
+abbrev pub send_words : List (List ℕ) → Option Command
+send_words (script ∷ out ∷ ssrc ∷ seq ∷ stamp ∷ []) =
+    if is_word script && is_word out then send_of script out (number most_ssrc ssrc) (number 65535 seq) (number 4294967295 stamp) else None
+send_words _ = None
 
 -- what the words ask for, if they are in the word table
 abbrev pub command : List (List ℕ) → Option Command
 command [] = None
-command (name ∷ words) = if bytes_eq name (codes "read") then read_words words else None
+command (name ∷ words) =
+    if bytes_eq name (codes "read") then read_words words
+    else (if bytes_eq name (codes "list") then list_words words
+    else (if bytes_eq name (codes "send") then send_words words else None))

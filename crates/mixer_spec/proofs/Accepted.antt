@@ -21,9 +21,8 @@ use Rattle.file_spec.specs.declared.conf_lines.What.{What}
 use Rattle.file_spec.specs.declared.conf_lines.What.TheVariants as what
 use Rattle.file_spec.specs.Steps.{◌>>=◌, unless}
 use Rattle.file_spec.specs.Lines.{Line, told, words, at_line, read_lines}
-use Rattle.file_spec.specs.Numbers.{is_number, number}
-use Rattle.file_spec.specs.Words.{most_ssrc}
-use Rattle.file_spec.specs.Conf.{Conf, Above, Entry, Leg, Tick, Spacing, Wait, Turns, Mixer, Plan, says, time_or_plan, nothing, with_entry, number_between, setting, mixer, is_name_octet, is_name, has_names, has_port, clashes, new_leg, aware_of, leg_of, leg, pts, same_packet, plan_of, plan, delay_of, delay, plan_word, entry, is_blank, and_line, complete, conf}
+use Rattle.file_spec.specs.Numbers.{is_number, number, number_between, most_ssrc, pts}
+use Rattle.file_spec.specs.Conf.{Conf, Above, Entry, Leg, Tick, Spacing, Wait, Turns, Mixer, Plan, says, time_or_plan, nothing, with_entry, setting, mixer, is_name_octet, is_name, has_names, has_port, clashes, new_leg, aware_of, leg_of, leg, same_packet, plan_of, plan, delay_of, delay, plan_word, entry, is_blank, and_line, complete, conf}
 use Rattle.stream_spec.specs.Lists.{In}
 use Rattle.stream_spec.proofs.Lists.{in_append}
 use Rattle.mixer_spec.specs.Setups.{Differ}
