@@ -1,0 +1,63 @@
+//! Numbers as they are written in command words and files.
+#![tactic(auto)]
+
+ghost use Rattle.std.specs.Prelude.{◌≡◌, ◌≤◌, IfSome};
+ghost use Rattle.std.specs.List.{list_all};
+ghost use Rattle.std.specs.Char.{is_ascii_digit};
+ghost use Rattle.file_spec.specs.Numbers.{number, is_number, number_between, pts};
+ghost use Rattle.file_spec.specs.Sound.{IsBetween};
+
+use rtt_base::Pts;
+
+fn all_digits(text: &[u8]) -> bool
+    ensures { result ≡ list_all (λ c. is_ascii_digit c) text.now }
+{
+    text.iter().all(|c| c.is_ascii_digit())
+}
+
+fn is_numeral(text: &[u8]) -> bool
+    ensures { result ≡ is_number text.now }
+{
+    !text.is_empty() && text.len() <= 10 && all_digits(text)
+}
+
+/// A number of one to ten decimal digits that is at most `most`.
+pub fn number_of(text: &str, most: u32) -> Option<u32>
+    ensures exact { result ≡ number most text.now }
+    ensures fits { IfSome result (λ n. n ≤ most) }
+{
+    if !is_numeral(text.as_bytes()) {
+        return None;
+    }
+    let Ok(value) = text.parse::<u64>() else {
+        return None;
+    };
+    if value > u64::from(most) {
+        return None;
+    }
+    Some(value as u32)
+}
+
+/// The same of a number that is at least `least`.
+pub fn number_from(text: &str, least: u32, most: u32) -> Option<u32>
+    ensures exact { result ≡ number_between least most text.now }
+    ensures fits { IfSome result (λ n. IsBetween least most n) }
+{
+    let value = number_of(text, most)?;
+    if value < least {
+        return None;
+    }
+    Some(value)
+}
+
+/// The two payload types, if both are of the dynamic ones (RFC 3551, section 3).
+pub fn pts_of(t140: &str, red: &str) -> Option<Pts>
+    ensures { result ≡ pts t140.now red.now }
+{
+    let t140 = number_from(t140, 96, 127)?;
+    let red = number_from(red, 96, 127)?;
+    Some(Pts {
+        t140: t140 as u8,
+        red: red as u8,
+    })
+}

@@ -1,0 +1,82 @@
+-- What is accepted as a packet of text has texts in UTF-8.
+use Rattle.std.proofs.Common.{◌≡◌, ℕ, ◌+◌, Bool, true, false, cond, Option, List, [], ◌∷◌, refl, Result, Ok, Err}
+use Rattle.std.specs.Prelude.{IsUtf8, length, nat_lt, ◌==◌}
+use Rattle.std.specs.Str.{is_utf8}
+use Rattle.std.proofs.lemmas.Str.{IsUtf8-nil, IsUtf8-from_is_utf8}
+use Rattle.std.proofs.lemmas.Bool.{and_parts}
+use Rattle.rtt_base.specs.declared.blocks.TextBlock.{TextBlock}
+use Rattle.rtt_base.specs.declared.text_packets.Pts.{Pts}
+use Rattle.wire_spec.specs.declared.faults.TextFault.{TextFault}
+use Rattle.wire_spec.specs.declared.faults.TextFault.TheVariants as text_faults
+use Rattle.wire_spec.specs.declared.faults.RedFault.TheVariants as red_faults
+use Rattle.wire_spec.specs.Steps.{◌>>=◌}
+use Rattle.wire_spec.specs.Packets.{Packet, redundant, primary_text}
+use Rattle.wire_spec.specs.Rtp.{rtp}
+use Rattle.wire_spec.specs.Red.{red, headers_at, texts_at, blocks_at, all_utf8, older_size, checked}
+use Rattle.wire_spec.specs.Text.{text_of, text_of_short, refused_as, accepted, text_packet}
+use Rattle.wire_spec.specs.declared.headers.RedHeader.{RedHeader}
+use Rattle.wire_spec.specs.Faults.{header_fault, blocks_fault}
+use Rattle.rtt_read.specs.Texts.{IsTextPacket, AreTexts}
+
+bind_ok : {A B E : Type 0} (r : Result A E) (f : A → Result B E) (y : B) → (r >>= f) ≡ Ok y → (x : A) × (r ≡ Ok x) × (f x ≡ Ok y)
+bind_ok (Ok x) f y e = (x, refl, e)
+bind_ok (Err e) f y h = absurd (cc)
+
+refused_ok : {A E : Type 0} (fault : E → TextFault) (r : Result A E) (x : A) → refused_as fault r ≡ Ok x → r ≡ Ok x
+refused_ok fault (Ok y) x e = cc
+refused_ok fault (Err d) x e = absurd (cc)
+
+-- behind a test that refuses, and behind one that accepts
+past_refusal : {A E : Type 0} (b : Bool) (d : E) (r : Result A E) (y : A) → cond b (Err d) r ≡ Ok y → r ≡ Ok y
+past_refusal true d r y e = absurd (cc)
+past_refusal false d r y e = e
+
+past_acceptance : {A E : Type 0} (b : Bool) (d : E) (r : Result A E) (y : A) → cond b r (Err d) ≡ Ok y → r ≡ Ok y
+past_acceptance true d r y e = e
+past_acceptance false d r y e = absurd (cc)
+
+checked_ok : (blocks bs : List TextBlock) → checked blocks ≡ Ok bs → all_utf8 bs ≡ true
+checked_ok blocks bs e = go (all_utf8 blocks) refl e
+  where
+    go : (t : Bool) → all_utf8 blocks ≡ t → cond t (Ok blocks) (Err red_faults.NotText) ≡ Ok bs → all_utf8 bs ≡ true
+    go true h f = let same : blocks ≡ bs = cc in rw (← same) h
+    go false h f = absurd (cc)
+
+-- texts that are read
+texts_ok : (hs : List RedHeader) (octets : List ℕ) (bs : List TextBlock) → texts_at hs octets ≡ Ok bs → all_utf8 bs ≡ true
+unfolding texts_at
+texts_ok hs octets bs e =
+    checked_ok (blocks_at hs octets) bs (past_refusal (nat_lt (older_size hs + 1023) (length octets)) red_faults.Long _ bs
+    (past_refusal (nat_lt (length octets) (older_size hs)) red_faults.Cut _ bs e))
+
+red_ok : (octets : List ℕ) (pt : ℕ) (pts : Pts) (bs : List TextBlock) → red octets pt pts ≡ Ok bs → all_utf8 bs ≡ true
+unfolding red
+red_ok octets pt pts bs e = go (pt == pts.t140) e
+  where
+    go : (t : Bool) → cond t (texts_at [] octets) (cond (pt == pts.red) (headers_at 8 pts.t140 octets >>= λ hs. texts_at hs.headers hs.texts) (Err red_faults.WrongType)) ≡ Ok bs → all_utf8 bs ≡ true
+    go true f = texts_ok [] octets bs f
+    go false f =
+        let h = bind_ok (headers_at 8 pts.t140 octets) (λ hs. texts_at hs.headers hs.texts) bs (past_acceptance (pt == pts.red) red_faults.WrongType _ bs f) in
+        texts_ok h.0.headers h.0.texts bs h.2
+
+texts_of : (bs : List TextBlock) → all_utf8 bs ≡ true → AreTexts (redundant bs) × IsUtf8 (primary_text bs)
+texts_of [] e = (tt, IsUtf8-nil)
+texts_of (b ∷ []) e = (tt, IsUtf8-from_is_utf8 b.text (and_parts _ _ e).0)
+texts_of (b ∷ c ∷ bs) e =
+    let parts = and_parts (is_utf8 b.text) (all_utf8 (c ∷ bs)) e in
+    let rest = texts_of (c ∷ bs) parts.1 in
+    ((IsUtf8-from_is_utf8 b.text parts.0, rest.0), rest.1)
+
+short_ok : (octets : List ℕ) (asked : Option ℕ) (pts : Pts) (p : Packet) → text_of_short octets asked pts ≡ Ok p → IsTextPacket p
+unfolding text_of_short
+short_ok octets asked pts p e =
+    let a = bind_ok (refused_as header_fault (rtp octets)) (λ reading. accepted asked reading >>= λ r. refused_as blocks_fault (red r.payload r.pt pts) >>= λ blocks. Ok (text_packet r blocks)) p e in
+    let b = bind_ok (accepted asked a.0) (λ r. refused_as blocks_fault (red r.payload r.pt pts) >>= λ blocks. Ok (text_packet r blocks)) p a.2 in
+    let c = bind_ok (refused_as blocks_fault (red b.0.payload b.0.pt pts)) (λ blocks. Ok (text_packet b.0 blocks)) p b.2 in
+    let same : text_packet b.0 c.0 ≡ p = cc in
+    let texts = texts_of c.0 (red_ok b.0.payload b.0.pt pts c.0 (refused_ok blocks_fault _ c.0 c.1)) in
+    rw (← same) (record { older = texts.0; primary = texts.1 })
+
+pub accepted_text : (octets : List ℕ) (asked : Option ℕ) (pts : Pts) (p : Packet) → text_of octets asked pts ≡ Ok p → IsTextPacket p
+unfolding text_of
+accepted_text octets asked pts p e = short_ok octets asked pts p (past_refusal (nat_lt 4224 (length octets)) text_faults.Long _ p e)

@@ -1,0 +1,110 @@
+-- One more used packet is heard.
+use Rattle.std.proofs.Common.{◌≡◌, ℕ, zero, suc, ◌+◌, ◌<◌, ◌≤◌, false, Option, Some, None, List, [], ◌∷◌, ◌++◌, refl, ap, sym, ◌∙◌, inl, inr, arith, length, map, length-append, append_assoc, take, get_or, add-one}
+use Rattle.std.specs.Prelude.{◌==◌, position}
+use Rattle.std.specs.List.{concat}
+use Rattle.std.specs.Option.{ForSome}
+use Rattle.std.proofs.lemmas.List.{map-append, length-map, append-nil}
+use Rattle.std.proofs.Math.Seq.{take-suc}
+use Rattle.std.proofs.lemmas.List.Folds.{concat-append}
+use Rattle.std.proofs.lemmas.List.Quantifiers.{position-Some}
+use Rattle.wire_spec.specs.Packets.{Arrival}
+use Rattle.stream_spec.specs.Lists.{In}
+use Rattle.stream_spec.specs.Numbering.{Numbered, numbered, used}
+use Rattle.stream_spec.specs.Hearing.{heard_by}
+use Rattle.stream_spec.specs.Holding.{RisingNumbers}
+use Rattle.gap_tracker.specs.Stories.{Story, Given, gave, given_of, dues, due_at, ready_dues}
+use Rattle.gap_tracker.specs.Tracks.{Tracks}
+use Rattle.gap_tracker.specs.States.{State, arrivals_of}
+use Rattle.gap_tracker.specs.declared.answers.Due.{Due}
+use Rattle.source_receiver.specs.Stands.{Stands, latest_number, used_packet, given_at}
+use Rattle.source_receiver.specs.declared.hearing.Heard.{Heard}
+use Rattle.rtt_read.specs.declared.listeners.Listener.{Listener}
+use Rattle.rtt_read.specs.Bare.{bare, all_bare}
+use Rattle.rtt_read.specs.Hears.{Hears, IsOnly, bare_given, given_packets, last_after}
+use Rattle.rtt_read.proofs.Rising.{used_rises, rising_last, length-used}
+
+last_snoc : (last : Option ℕ) (us : List Numbered) (u : Numbered) → last_after last (us ++ u ∷ []) ≡ Some u.number
+last_snoc last [] u = refl
+last_snoc last (v ∷ us) u = last_snoc (Some v.number) us u
+
+-- what rises without its moments
+rising_bare : (us : List Numbered) → RisingNumbers us → RisingNumbers (all_bare us)
+rising_bare [] r = tt
+rising_bare (u ∷ us) r = ((λ y i. let f = in_bare us y i in let l = r.0 f.0 f.1 in omega (arith, f.2)), rising_bare us r.1)
+  where
+    in_bare : (vs : List Numbered) (y : Numbered) → In y (all_bare vs) → (v : Numbered) × In v vs × (v.number ≡ y.number)
+    in_bare [] y i = absurd i
+    in_bare (v ∷ vs) y (inl e) = (v, inl refl, sym (ap (λ (w : Numbered). w.number) e))
+    in_bare (v ∷ vs) y (inr i) = let f = in_bare vs y i in (f.0, inr f.1, f.2)
+
+pub bare_dues : (wait : ℕ) (past us : List Numbered) → given_packets (map (due_at wait past) us) ≡ all_bare us
+bare_dues wait past [] = refl
+bare_dues wait past (u ∷ us) = ap (λ xs. bare u ∷ xs) (bare_dues wait past us)
+
+-- all that is due rises
+pub dues_rise : (story : Story) → RisingNumbers (given_packets (dues story))
+dues_rise story = rw (bare_dues story.wait (numbered story.past) (used story.wait (numbered story.past))) (rising_bare _ (used_rises story.wait (numbered story.past)))
+
+-- what was given is a front of what is due
+pub record Fronts (story : Story) : Type 0 where
+  pub rest : List Given
+  pub is : dues story ≡ story.given ++ rest
+
+pub fronts : (story : Story) → (f : (rest : List Given) × (ready_dues story ≡ story.given ++ rest)) → (o : (rest : List Given) × (dues story ≡ ready_dues story ++ rest)) → Fronts story
+fronts story f o = record { rest = f.0 ++ o.0; is = o.1 ∙ (ap (λ xs. xs ++ o.0) f.1 ∙ append_assoc story.given f.0 o.0) }
+
+-- no more was given than came
+pub given_fits : (s : State) (story : Story) → Tracks s story → Fronts story → length story.given ≤ arrivals_of s
+given_fits s story t f =
+    let all : length (dues story) ≡ length (used story.wait (numbered story.past)) = length-map (used story.wait (numbered story.past)) (due_at story.wait (numbered story.past)) in
+    let few = length-used story.wait (numbered story.past) in
+    let came : length (numbered story.past) ≡ length story.past = numbered_length story.past in
+    let two : length (dues story) ≡ length story.given + length f.rest = ap length f.is ∙ length-append story.given f.rest in
+    omega (arith, t.follows.arrivals)
+  where
+    numbered_length : (a : List Arrival) → length (numbered a) ≡ length a
+    numbered_length [] = refl
+    numbered_length (x ∷ past) = ap suc (numbered_length past)
+
+-- the next number is above the last one
+pub next_rises : (story : Story) (g : Given) → Fronts (gave story g) → ForSome (last_after None (given_packets story.given)) (λ latest. latest < g.number)
+next_rises story g f latest e = above (given_packets story.given) None (λ n q. absurd (cc)) (rising_last (given_packets story.given) (bare_given g) (given_packets f.rest) all) e
+  where
+    all : RisingNumbers (given_packets story.given ++ bare_given g ∷ given_packets f.rest)
+    all = let r = dues_rise (gave story g) in
+        rw (f.is, map-append bare_given (story.given ++ g ∷ []) f.rest, map-append bare_given story.given (g ∷ []), append_assoc (given_packets story.given) (bare_given g ∷ []) (given_packets f.rest)) at r
+
+    above : (us : List Numbered) (last : Option ℕ) → ((n : ℕ) → last ≡ Some n → n < g.number) → ((y : Numbered) → In y us → y.number < g.number) → last_after last us ≡ Some latest → latest < g.number
+    above [] last p q h = p latest h
+    above (u ∷ us) last p q h = above us (Some u.number) (λ n k. let m : u.number ≡ n = cc in let l = q u (inl refl) in omega (arith, m)) (λ y i. q y (inr i)) h
+
+-- one more packet was taken
+pub heard_one : (l m : Listener) (source : ℕ) (story : Story) (due : Due) (heard : Heard) → Hears l source story → Tracks m.tracker (gave story (given_of due))
+    → Stands m.receiver (source ∷ []) (given_packets story.given ++ used_packet 0 due.number due.packet ∷ []) → latest_number m.receiver ≡ Some due.number
+    → heard_by (given_packets story.given ++ used_packet 0 due.number due.packet ∷ []) source ≡ heard_by (given_packets story.given) source ++ given_at 0 heard
+    → m.text ≡ l.text ++ concat (given_at 0 heard) → m.counts.used ≡ l.counts.used + 1
+    → Hears m source (gave story (given_of due))
+heard_one l m source story due heard h t s n a x u =
+    let more : given_packets (story.given ++ given_of due ∷ []) ≡ given_packets story.given ++ used_packet 0 due.number due.packet ∷ [] = map-append bare_given story.given (given_of due ∷ []) in
+    record {
+      tracks = t;
+      stands = rw more s;
+      latest = n ∙ sym (ap (last_after None) more ∙ last_snoc None (given_packets story.given) (used_packet 0 due.number due.packet));
+      text = x ∙ (ap (λ ts. ts ++ concat (given_at 0 heard)) h.text ∙ sym (ap (λ us. concat (heard_by us source)) more ∙ (ap concat a ∙ concat-append (heard_by (given_packets story.given) source) (given_at 0 heard))));
+      used = u ∙ (ap (λ k. k + 1) h.used ∙ sym (length-append story.given (given_of due ∷ [])));
+    }
+
+-- the only source that is listened to gives all that is heard
+pub only_one : (heard : Heard) (source mine : ℕ) → heard.place ≡ position (λ s. s == mine) (source ∷ []) → (heard.place ≡ None → (heard.marker ≡ false) × (heard.texts ≡ [])) → IsOnly heard
+only_one heard source mine p none = go heard.place p refl
+  where
+    go : (o : Option ℕ) → o ≡ position (λ s. s == mine) (source ∷ []) → heard.place ≡ o → IsOnly heard
+    go None e h = let n = none h in rw (h, n.0, n.1) refl
+    go (Some zero) e h = rw h refl
+    go (Some (suc k)) e h = let l = (position-Some (λ s. s == mine) (source ∷ []) (suc k) 0 (sym e)).0 in absurd (omega (arith, l))
+
+-- the texts up to one more
+pub concat_more : (xs : List (List ℕ)) (i : ℕ) (x : List ℕ) → i < length xs → x ≡ get_or xs i x → concat (take (i + 1) xs) ≡ concat (take i xs) ++ x
+concat_more xs i x l e =
+    let cut : take (i + 1) xs ≡ take i xs ++ (get_or xs i x ∷ []) = rw (add-one i) (take-suc xs i x l) in
+    ap concat cut ∙ (concat-append (take i xs) (get_or xs i x ∷ []) ∙ (ap (λ t. concat (take i xs) ++ (t ++ [])) (sym e) ∙ ap (λ t. concat (take i xs) ++ t) (append-nil x)))

@@ -1,0 +1,5 @@
+pub mod ReadView
+pub mod Bare
+pub mod Texts
+pub mod Hears
+pub mod Recordings

@@ -1,0 +1,21 @@
+-- What the words of the code mean.
+use Rattle.file_spec.specs.Words as words
+use Rattle.rtt_words.specs.declared.commands.ReadWords.{ReadWords}
+use Rattle.rtt_words.specs.declared.commands.ListWords.{ListWords}
+use Rattle.rtt_words.specs.declared.commands.SendWords.{SendWords}
+use Rattle.rtt_words.specs.declared.commands.Command.{Command}
+use Rattle.rtt_words.specs.declared.commands.Command.TheVariants.{Read, ListRecords, Send}
+
+abbrev pub asked : ReadWords → words.ReadWords
+asked r = record { file = r.file.now; ssrc = r.ssrc; source = r.source; pts = r.pts }
+
+abbrev pub listed : ListWords → words.ListWords
+listed l = record { file = l.file.now; pts = l.pts }
+
+abbrev pub sent : SendWords → words.SendWords
+sent s = record { script = s.script.now; out = s.out.now; ssrc = s.ssrc; seq = s.seq; stamp = s.stamp }
+
+abbrev pub meaning : Command → words.Command
+meaning (Read r) = words.Read (asked r)
+meaning (ListRecords l) = words.ListRecords (listed l)
+meaning (Send s) = words.Send (sent s)

@@ -1,0 +1,47 @@
+//! What the program is asked for.
+use rtt_base::Pts;
+
+/// What `read` is asked for.
+#[derive(Clone, Copy, Debug, PartialEq, Eq)]
+pub struct ReadWords<'a> {
+    /// The name of the recording.
+    pub file: &'a str,
+    /// Whose packets.
+    pub ssrc: u32,
+    /// Whose text in them.
+    pub source: u32,
+    pub pts: Pts,
+}
+
+/// What `list` is asked for.
+#[derive(Clone, Copy, Debug, PartialEq, Eq)]
+pub struct ListWords<'a> {
+    /// The name of the recording.
+    pub file: &'a str,
+    pub pts: Pts,
+}
+
+/// What `send` is asked for.
+#[derive(Clone, Copy, Debug, PartialEq, Eq)]
+pub struct SendWords<'a> {
+    /// The name of the script.
+    pub script: &'a str,
+    /// The name of the recording that is made.
+    pub out: &'a str,
+    pub ssrc: u32,
+    /// The first sequence number.
+    pub seq: u16,
+    /// The timestamp at the time 0.
+    pub stamp: u32,
+}
+
+/// A command, with the words after its name.
+#[derive(Clone, Copy, Debug, PartialEq, Eq)]
+pub enum Command<'a> {
+    /// Shows the text of a source of a recording.
+    Read(ReadWords<'a>),
+    /// Prints a line for each record of a recording.
+    ListRecords(ListWords<'a>),
+    /// Sends a typed script into a recording.
+    Send(SendWords<'a>),
+}

@@ -1,0 +1,8 @@
+//! Command words: what they ask for, if they are in the word table.
+#![tactic(auto)]
+
+mod commands;
+mod words;
+
+pub use commands::{Command, ListWords, ReadWords, SendWords};
+pub use words::{WordFault, command_of};
