@@ -11,6 +11,7 @@ mod real;
 mod sinks;
 mod sources;
 mod streams;
+mod whole;
 mod worlds;
 
 pub use gates::{Gate, StillGate};
@@ -20,6 +21,7 @@ pub use mem_worlds::{FailingCall, MemWorld};
 pub use real::{FileSink, FileSource, RealWorld, StandardError, StandardOutput, StreamSink};
 pub use sinks::Sink;
 pub use sources::Source;
+pub use whole::{ReadFault, read_whole};
 pub use worlds::World;
 
 #[cfg(test)]

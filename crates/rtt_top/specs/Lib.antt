@@ -1,9 +1,5 @@
-pub mod Commands
+pub mod Tasks
 pub mod Messages
-pub mod ReadView
-pub mod Bare
-pub mod Texts
-pub mod Hears
-pub mod Recordings
-pub mod Runs
 pub mod Faults
+pub mod Files
+pub mod Runs

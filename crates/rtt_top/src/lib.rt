@@ -3,10 +3,10 @@
 
 mod commands;
 mod faults;
-mod listeners;
-mod reads;
+mod files;
+mod recordings;
 mod runs;
-mod words;
+mod scripts;
 
 pub use runs::{run, run_plain};
 
