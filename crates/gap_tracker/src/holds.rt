@@ -35,7 +35,8 @@ pub struct SettledPacket {
 
 /// The packets that wait, those that are settled, and what the next ones are measured by.
 ///
-/// There are 65 boxes, each in one of the three lists, so a packet stays where it was put when others come and go.
+/// There are 65 boxes, each in one of the three lists. A packet comes and goes with its box, for which another one goes
+/// the other way: no packet is copied.
 #[derive(Debug, Drop)]
 pub struct Hold {
     wait: u64,
@@ -265,7 +266,7 @@ impl Hold {
         );
     }
 
-    /// Takes a packet. If it is held or settled, a spare box comes in exchange.
+    /// Takes a packet. A spare box comes in exchange for one that is used.
     pub fn arrive(&mut self, now: u64, packet: &mut Box<TextPacket>) -> Taken
         requires now { now < 2 ^ 48 }
         requires quiet { has_ready self.old ≡ false }
