@@ -1,5 +1,8 @@
-use crate::{DumpFault, DumpItem, DumpReader};
-use rtt_base::{Bytes, Failed, NoMemory, Packet, Path};
+ghost use Rattle.std.specs.Prelude.{◌<◌, ◌≤◌, length, IfOk};
+ghost use Rattle.rtpdump_io.specs.Writing.{Holds};
+
+use crate::{DumpFault, DumpItem, DumpReader, write_dump, write_opening, write_record};
+use rtt_base::{Bytes, Failed, NoMemory, Packet, Path, Record};
 use rtt_io::{MemSource, Source, SteadySource};
 use std::alloc::Global;
 use std::test::Fail;
@@ -206,5 +209,48 @@ fn a_fault_of_the_source_is_told_where_it_came(rt: HostRuntime) -> Result<(), Fa
         let mut buf = [0; 1];
         let _again: Result<usize, Failed> = source.read(&mut buf);
     }
+    Ok(())
+}
+
+#[test]
+fn records_are_written_behind_the_opening(rt: HostRuntime) -> Result<(), Fail> {
+    let mut out = Bytes::new(rt.alloc());
+    write_opening(&mut out)?;
+    write_record(70000, b"\x80\x64A", &mut out)?;
+    write_record(14400000, &[7; 4225], &mut out)?;
+    let mut expected = Bytes::new(rt.alloc());
+    expected.append(&OPENING)?;
+    append_record(&mut expected, [0, 11, 0, 3, 0, 1, 0x11, 0x70], b"\x80\x64A")?;
+    append_record(
+        &mut expected,
+        [0x10, 0x89, 0x10, 0x81, 0, 219, 186, 0],
+        &[7; 4225],
+    )?;
+    assert!(rt; out.as_slice() == expected.as_slice());
+    Ok(())
+}
+
+fn sent(alloc: Global, at: u32, packet: &[u8]) -> Result<Record, NoMemory>
+    requires some { 0 < length packet.now }
+    requires fits { length packet.now ≤ 65527 }
+    ensures { IfOk result Holds }
+{
+    let mut bytes = Bytes::new(alloc);
+    bytes.append(packet)?;
+    Ok(Record { at, bytes })
+}
+
+#[test]
+fn a_whole_recording_is_written(rt: HostRuntime) -> Result<(), Fail> {
+    let alloc = rt.alloc();
+    let records = [
+        sent(alloc, 0, &FIRST)?,
+        sent(alloc, 300, &SECOND)?,
+        sent(alloc, 600, &THIRD)?,
+        sent(alloc, 900, &FOURTH)?,
+    ];
+    let mut out = Bytes::new(alloc);
+    write_dump(alloc, &records, &mut out)?;
+    assert!(rt; out.as_slice() == recording(alloc)?.as_slice());
     Ok(())
 }
