@@ -1,5 +1,5 @@
 //! Octets that are read block by block.
-ghost use Rattle.std.specs.Prelude.{◌≡◌, ℕ, ◌<◌, ◌≤◌, ◌+◌, [], ◌++◌, length, take, drop, Ok, None, true, false, OnOk, OnErr, IfOk, option_to_list};
+ghost use Rattle.std.specs.Prelude.{◌≡◌, ℕ, ◌<◌, ◌≤◌, ◌+◌, [], ◌++◌, length, take, drop, min, Ok, None, true, false, OnOk, OnErr, IfOk, option_to_list};
 
 use rtt_base::{Failed, Packet};
 use rtt_io::Source;
@@ -76,6 +76,20 @@ impl<S: Source> Input<S> {
         Ok(())
     }
 
+    // Moves octets of the block to the front of `buf`, as many as there are and fit, and answers how many.
+    fn hand_out(&mut self, buf: &mut [u8]) -> usize
+        ensures number { result ≡ min (length (held self.old)) (length buf.old) }
+        ensures size { length buf.new ≡ length buf.old }
+        ensures source { self.new.source ≡ self.old.source }
+        ensures given { held self.old ≡ take result buf.new ++ held self.new }
+    {
+        let held = self.held();
+        let number = held.len().min(buf.len());
+        buf[..number].copy_from_slice(&held[..number]);
+        self.advance(number);
+        number
+    }
+
     /// The next octet, or none at the end.
     pub fn octet(&mut self) -> Result<Option<u8>, Failed>
         ensures never_falls { S.faults self.old.source ≤ S.faults self.new.source }
@@ -101,13 +115,16 @@ impl<S: Source> Input<S> {
         ensures given { S.tells → IfOk result (λ number. unread S.left self.old ≡ take number buf.new ++ unread S.left self.new) }
         ensures ended { S.tells → IfOk result (λ number. number < length buf.new → unread S.left self.new ≡ []) }
     {
-        for place in 0..buf.len() {
-            let Some(octet) = self.octet()? else {
-                return Ok(place);
-            };
-            buf[place] = octet;
+        let mut done = 0;
+        while done < buf.len() {
+            self.fill()?;
+            let number = self.hand_out(&mut buf[done..]);
+            if number == 0 {
+                return Ok(done);
+            }
+            done += number;
         }
-        Ok(buf.len())
+        Ok(done)
     }
 
     /// Passes over so many octets, and answers whether all of them were there.
