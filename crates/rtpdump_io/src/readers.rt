@@ -206,7 +206,7 @@ impl<S: Source> DumpReader<S> {
             return Ok(Err(DumpKind::EndsInside));
         }
         let head = RecordHead::from_octets(&octets);
-        if head.size < 8 {
+        if head.is_short() {
             return Ok(Err(DumpKind::BadLength));
         }
         let end = self.offset + u64::from(head.size);
@@ -216,7 +216,7 @@ impl<S: Source> DumpReader<S> {
         if !self.body(&head, out)? {
             return Ok(Err(DumpKind::EndsInside));
         }
-        if head.time > 14400000 {
+        if head.is_late() {
             return Ok(Err(DumpKind::TooLong));
         }
         self.offset = end;

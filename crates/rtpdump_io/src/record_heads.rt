@@ -1,5 +1,5 @@
 //! The head of a record.
-ghost use Rattle.std.specs.Prelude.{◌≡◌, ◌≤◌, ◌-◌};
+ghost use Rattle.std.specs.Prelude.{◌≡◌, ◌≤◌, ◌-◌, nat_lt};
 ghost use Rattle.wire_spec.specs.Dump.{size_of, packet_size_of, time_of};
 ghost use Rattle.rtpdump_io.specs.Found.{kind_of, kept_of};
 
@@ -27,6 +27,20 @@ impl RecordHead {
             packet_size: u16::from_be_bytes([octets[2], octets[3]]),
             time: u32::from_be_bytes([octets[4], octets[5], octets[6], octets[7]]),
         }
+    }
+
+    /// Whether the record's own length does not even count its head.
+    pub fn is_short(&self) -> bool
+        ensures { result ≡ nat_lt self.now.size 8 }
+    {
+        self.size < 8
+    }
+
+    /// Whether the record lies behind the first four hours.
+    pub fn is_late(&self) -> bool
+        ensures { result ≡ nat_lt 14400000 self.now.time }
+    {
+        self.time > 14400000
     }
 
     /// What the record is.

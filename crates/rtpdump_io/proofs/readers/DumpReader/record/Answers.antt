@@ -1,4 +1,5 @@
-use Rattle.std.proofs.Common.{◌≡◌, ◌<◌, ◌≤◌, ◌+◌, Ok, ap, arith, length}
+use Rattle.std.proofs.Common.{◌≡◌, ◌<◌, ◌≤◌, ◌+◌, Ok, ◌∙◌, sym, ap, arith, length}
+use Rattle.std.proofs.lemmas.Bool.{ltb-true, ltb-false}
 use Rattle.rtpdump_io.proofs.Recordings.{nothing_left, few_left, all_there, found_bad_length, found_too_large, found_end, found_too_long, found_record}
 use Rattle.rtpdump_io.proofs.readers.DumpReader.record.Goals as goal
 
@@ -14,17 +15,17 @@ returns-then-number-lt8-clause-found g c = λ t.
     let read = c.in_ok-number.ensures in
     few_left _ _ _ _ _ _ (read.given t) eight (read.ended t) c.if-number-eq0.false c.if-number-lt8.true
 
-pub returns-then-head-lt8-clause-found : goal.returns-then-head-lt8-clause-found
-returns-then-head-lt8-clause-found g c = λ t.
+pub returns-then-is_short-clause-found : goal.returns-then-is_short-clause-found
+returns-then-is_short-clause-found g c = λ t.
     let eight : length c.read_full.new.buf ≡ 8 = omega arith in
     let read = c.in_ok-number.ensures in
-    found_bad_length _ _ c.from_octets-head.result.size c.from_octets-head.result.packet_size c.from_octets-head.result.time _ c.read_full.new.buf _ (all_there _ _ _ _ (read.given t) eight c.if-number-lt8.false) eight c.from_octets-head.ensures.size c.from_octets-head.ensures.packet_size c.from_octets-head.ensures.time c.if-head-lt8.true
+    found_bad_length _ _ c.from_octets-head.result.size c.from_octets-head.result.packet_size c.from_octets-head.result.time _ c.read_full.new.buf _ (all_there _ _ _ _ (read.given t) eight c.if-number-lt8.false) eight c.from_octets-head.ensures.size c.from_octets-head.ensures.packet_size c.from_octets-head.ensures.time (ltb-true _ _ (sym c.is_short.ensures ∙ c.if-is_short.true))
 
 pub returns-then-end-from-clause-found : goal.returns-then-end-from-clause-found
 returns-then-end-from-clause-found g c = λ t.
     let eight : length c.read_full.new.buf ≡ 8 = omega arith in
     let read = c.in_ok-number.ensures in
-    let size : 8 ≤ c.from_octets-head.result.size = c.if-head-lt8.false in
+    let size : 8 ≤ c.from_octets-head.result.size = ltb-false _ _ (sym c.is_short.ensures ∙ c.if-is_short.false) in
     let large : c.args.self.now.limit < c.args.self.now.offset + c.from_octets-head.result.size = omega (arith, c.from.ensures, c.from-2.ensures) in
     found_too_large _ _ c.from_octets-head.result.size c.from_octets-head.result.packet_size c.from_octets-head.result.time _ c.read_full.new.buf _ (all_there _ _ _ _ (read.given t) eight c.if-number-lt8.false) eight c.from_octets-head.ensures.size c.from_octets-head.ensures.packet_size c.from_octets-head.ensures.time size large
 
@@ -32,22 +33,22 @@ pub returns-then-not-branch-clause-found : goal.returns-then-not-branch-clause-f
 returns-then-not-branch-clause-found g c = λ t.
     let eight : length c.read_full.new.buf ≡ 8 = omega arith in
     let read = c.in_ok-number.ensures in
-    let size : 8 ≤ c.from_octets-head.result.size = c.if-head-lt8.false in
+    let size : 8 ≤ c.from_octets-head.result.size = ltb-false _ _ (sym c.is_short.ensures ∙ c.if-is_short.false) in
     let fits : c.args.self.now.offset + c.from_octets-head.result.size ≤ c.args.self.now.limit = omega (arith, c.from.ensures, c.from-2.ensures) in
     rw c.body.ensures.same_offset (found_end _ _ c.from_octets-head.result.size c.from_octets-head.result.packet_size c.from_octets-head.result.time _ c.read_full.new.buf _ (all_there _ _ _ _ (read.given t) eight c.if-number-lt8.false) eight c.from_octets-head.ensures.size c.from_octets-head.ensures.packet_size c.from_octets-head.ensures.time size fits (c.in_ok-body.ensures.missing t (ap Ok c.if-not-branch.true)))
 
-pub returns-then-head-gt14400000-clause-found : goal.returns-then-head-gt14400000-clause-found
-returns-then-head-gt14400000-clause-found g c = λ t.
+pub returns-then-is_late-clause-found : goal.returns-then-is_late-clause-found
+returns-then-is_late-clause-found g c = λ t.
     let eight : length c.read_full.new.buf ≡ 8 = omega arith in
     let read = c.in_ok-number.ensures in
-    let size : 8 ≤ c.from_octets-head.result.size = c.if-head-lt8.false in
+    let size : 8 ≤ c.from_octets-head.result.size = ltb-false _ _ (sym c.is_short.ensures ∙ c.if-is_short.false) in
     let fits : c.args.self.now.offset + c.from_octets-head.result.size ≤ c.args.self.now.limit = omega (arith, c.from.ensures, c.from-2.ensures) in
-    rw c.body.ensures.same_offset (found_too_long _ _ c.from_octets-head.result.size c.from_octets-head.result.packet_size c.from_octets-head.result.time _ c.read_full.new.buf _ (all_there _ _ _ _ (read.given t) eight c.if-number-lt8.false) eight c.from_octets-head.ensures.size c.from_octets-head.ensures.packet_size c.from_octets-head.ensures.time _ size fits (c.in_ok-body.ensures.there t (ap Ok c.if-not-branch.false)) c.if-head-gt14400000.true)
+    rw c.body.ensures.same_offset (found_too_long _ _ c.from_octets-head.result.size c.from_octets-head.result.packet_size c.from_octets-head.result.time _ c.read_full.new.buf _ (all_there _ _ _ _ (read.given t) eight c.if-number-lt8.false) eight c.from_octets-head.ensures.size c.from_octets-head.ensures.packet_size c.from_octets-head.ensures.time _ size fits (c.in_ok-body.ensures.there t (ap Ok c.if-not-branch.false)) (ltb-true _ _ (sym c.is_late.ensures ∙ c.if-is_late.true)))
 
 pub returns-clause-found : goal.returns-clause-found
 returns-clause-found g c = λ t.
     let eight : length c.read_full.new.buf ≡ 8 = omega arith in
     let read = c.in_ok-number.ensures in
-    let size : 8 ≤ c.from_octets-head.result.size = c.if-head-lt8.false in
+    let size : 8 ≤ c.from_octets-head.result.size = ltb-false _ _ (sym c.is_short.ensures ∙ c.if-is_short.false) in
     let fits : c.args.self.now.offset + c.from_octets-head.result.size ≤ c.args.self.now.limit = omega (arith, c.from.ensures, c.from-2.ensures) in
-    rw c.from.ensures (found_record _ _ c.from_octets-head.result.size c.from_octets-head.result.packet_size c.from_octets-head.result.time _ c.read_full.new.buf _ (all_there _ _ _ _ (read.given t) eight c.if-number-lt8.false) eight c.from_octets-head.ensures.size c.from_octets-head.ensures.packet_size c.from_octets-head.ensures.time _ _ size fits (c.in_ok-body.ensures.there t (ap Ok c.if-not-branch.false)) c.if-head-gt14400000.false (c.in_ok-body.ensures.kept t (ap Ok c.if-not-branch.false)) _ c.item.ensures)
+    rw c.from.ensures (found_record _ _ c.from_octets-head.result.size c.from_octets-head.result.packet_size c.from_octets-head.result.time _ c.read_full.new.buf _ (all_there _ _ _ _ (read.given t) eight c.if-number-lt8.false) eight c.from_octets-head.ensures.size c.from_octets-head.ensures.packet_size c.from_octets-head.ensures.time _ _ size fits (c.in_ok-body.ensures.there t (ap Ok c.if-not-branch.false)) (ltb-false _ _ (sym c.is_late.ensures ∙ c.if-is_late.false)) (c.in_ok-body.ensures.kept t (ap Ok c.if-not-branch.false)) _ c.item.ensures)
