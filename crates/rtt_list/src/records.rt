@@ -1,0 +1,143 @@
+//! The lines of records.
+ghost use Rattle.std.specs.Prelude.{◌≡◌, ◌+◌, ◌≤◌, ◌++◌, flat_map, length, decimal};
+ghost use Rattle.wire_spec.specs.Packets.{packet_of, blocks_of};
+ghost use Rattle.rtt_list.specs.Lists.{fault_name, bit, block_length, packet_line, refused_line, record_line};
+ghost use Rattle.rtt_list.specs.Listing.{record_of, is_end};
+
+use crate::lines::Line;
+use red_blocks::read_text;
+use rtpdump_io::DumpItem;
+use rtt_base::{Pts, TextBlock, TextPacket};
+use wire_spec::TextFault;
+
+fn name_of(fault: TextFault) -> &'static [u8]
+    ensures name { result.now ≡ fault_name fault }
+    ensures short { length result.now ≤ 9 }
+{
+    match fault {
+        TextFault::Short => b"Short",
+        TextFault::Version => b"Version",
+        TextFault::Padding => b"Padding",
+        TextFault::Sources => b"Sources",
+        TextFault::WrongType => b"WrongType",
+        TextFault::Cut => b"Cut",
+        TextFault::Many => b"Many",
+        TextFault::Long => b"Long",
+        TextFault::NotText => b"NotText",
+        TextFault::Foreign => b"Foreign",
+    }
+}
+
+fn digit_of(mark: bool) -> &'static [u8]
+    ensures digit { result.now ≡ bit mark }
+    ensures short { length result.now ≡ 1 }
+{
+    if mark { b"1" } else { b"0" }
+}
+
+/// Writes the lengths of the blocks in front of the line, each behind a space.
+fn write_lengths(line: &mut Line, blocks: &[TextBlock])
+    requires room { length line.old ≤ 100 }
+    requires few { length blocks.now ≤ 9 }
+    ensures lengths { line.new ≡ flat_map block_length blocks.now ++ line.old }
+    ensures fits { length line.new ≤ 99 + length line.old }
+{
+    for block in blocks.iter().rev() {
+        line.number(block.text.len() as u32);
+        line.text(b" ");
+    }
+}
+
+/// Writes the line of a packet, which came at `at`.
+fn write_packet(line: &mut Line, at: u32, packet: &TextPacket)
+    requires { packet.now.blocks ≡ blocks_of (packet_of packet.now) }
+    ensures { line.new ≡ packet_line at (packet_of packet.now) }
+{
+    line.clear();
+    line.text(b"\n");
+    write_lengths(line, packet.blocks.as_slice());
+    line.text(b" texts");
+    line.number(packet.source);
+    line.text(b" source ");
+    line.number(packet.ssrc);
+    line.text(b" ssrc ");
+    line.number(packet.stamp);
+    line.text(b" stamp ");
+    line.text(digit_of(packet.mark));
+    line.text(b" mark ");
+    line.number(u32::from(packet.seq));
+    line.text(b" ");
+    line.number(at);
+}
+
+/// Writes the line of a packet that is refused.
+fn write_refused(line: &mut Line, at: u32, fault: TextFault)
+    ensures { line.new ≡ refused_line at fault }
+{
+    line.clear();
+    line.text(b"\n");
+    line.text(name_of(fault));
+    line.text(b" refused ");
+    line.number(at);
+}
+
+/// Writes the line of a record that is no whole packet: its time, and what it is with LF behind it.
+fn write_word(line: &mut Line, at: u32, word: &[u8])
+    requires { length word.now ≤ 100 }
+    ensures { line.new ≡ decimal at ++ word.now }
+{
+    line.clear();
+    line.text(word);
+    line.number(at);
+}
+
+/// Makes the lines of records, one after another, over one packet and one line.
+#[derive(Drop)]
+pub(crate) struct RecordLines {
+    pts: Pts,
+    packet: TextPacket,
+    line: Line,
+}
+
+impl RecordLines {
+    ghost use Rattle.std.specs.Prelude.{◌≡◌, [], Bool};
+    ghost use Rattle.rtt_list.specs.Lists.{record_line};
+    ghost use Rattle.rtt_list.specs.Listing.{record_of, is_end};
+
+    pub(crate) fn new(pts: Pts) -> RecordLines
+        ensures { result.pts ≡ pts }
+    {
+        RecordLines {
+            pts,
+            packet: TextPacket::default(),
+            line: Line::new(),
+        }
+    }
+
+    /// The line that was made last.
+    pub(crate) fn line(&self) -> &[u8]
+        ensures { result.now ≡ self.now.line }
+    {
+        self.line.as_slice()
+    }
+
+    /// Makes the line of a record, whose octets are these where it is a packet.
+    pub(crate) fn make(&mut self, item: DumpItem, octets: &[u8])
+        requires { is_end item ≡ Bool.false }
+        ensures line { self.new.line ≡ record_line self.old.pts (record_of item octets.now) }
+        ensures same_pts { self.new.pts ≡ self.old.pts }
+    {
+        match item {
+            DumpItem::Packet { at } => {
+                match read_text(octets, None, self.pts, &mut self.packet) {
+                    Ok(()) => write_packet(&mut self.line, at, &self.packet),
+                    Err(fault) => write_refused(&mut self.line, at, fault),
+                }
+            }
+            DumpItem::Rtcp { at } => write_word(&mut self.line, at, b" rtcp\n"),
+            DumpItem::Cut { at } => write_word(&mut self.line, at, b" cut\n"),
+            DumpItem::Large { at } => write_word(&mut self.line, at, b" large\n"),
+            DumpItem::End => {}
+        }
+    }
+}
