@@ -30,7 +30,7 @@ abbrev pub block_length : TextBlock → List ℕ
 block_length block = codes " " ++ decimal (length block.text)
 
 -- a packet that is one of text, with the lengths of its blocks: oldest first, the primary one last
-abbrev pub packet_line : ℕ → Packet → List ℕ
+unfoldable pub packet_line : ℕ → Packet → List ℕ
 packet_line at p = decimal at ++ codes " " ++ decimal p.seq ++ codes " mark " ++ bit p.mark ++ codes " stamp " ++ decimal p.stamp
     ++ codes " ssrc " ++ decimal p.ssrc ++ codes " source " ++ decimal p.source
     ++ codes " texts" ++ flat_map block_length (blocks_of p) ++ codes "\n"
@@ -55,5 +55,5 @@ abbrev pub last_line : ℕ → List ℕ
 last_line records = codes "-- records " ++ decimal records ++ codes "\n"
 
 -- all lines of a recording
-abbrev pub list_view : Pts → List Item → List ℕ
+unfoldable pub list_view : Pts → List Item → List ℕ
 list_view pts items = flat_map (record_line pts) items ++ last_line (length items)

@@ -6,3 +6,6 @@ mod lists;
 mod records;
 
 pub use lists::{ListFault, list_records};
+
+#[cfg(test)]
+mod tests;

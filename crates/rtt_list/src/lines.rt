@@ -4,7 +4,7 @@ ghost use Rattle.std.specs.Prelude.{◌≡◌, ◌+◌, ◌≤◌, [], ◌++◌,
 use itoa::write_digits;
 use std::marker::Model;
 
-/// A line of at most 256 octets, written from its end to its front, as the digits of a number come.
+/// A line of at most 256 octets (126 are the most that one has), written from its end to its front, as the digits of a number come.
 #[derive(Drop)]
 pub(crate) struct Line {
     octets: [u8; 256],
@@ -45,7 +45,7 @@ impl Line {
     }
 
     /// Writes a text in front of the line.
-    pub(crate) fn text(&mut self, text: &[u8])
+    pub(crate) fn prepend(&mut self, text: &[u8])
         requires { length text.now + length self.old ≤ 256 }
         ensures { self.new ≡ text.now ++ self.old }
     {
@@ -55,9 +55,9 @@ impl Line {
     }
 
     /// Writes a number in front of the line, in at most ten digits.
-    pub(crate) fn number(&mut self, number: u32)
+    pub(crate) fn prepend_number(&mut self, number: u32)
         requires { length self.old ≤ 246 }
-        ensures number { self.new ≡ decimal number ++ self.old }
+        ensures line { self.new ≡ decimal number ++ self.old }
         ensures fits { length self.new ≤ 10 + length self.old }
     {
         self.start = write_digits(u64::from(number), &mut self.octets, self.start);

@@ -66,6 +66,7 @@ fn append_records<S: Source>(
 
 /// What `list` prints of a recording: a line for each record, with the payload types `pts` of text, and then how many
 /// there are. It takes no memory but that of its answer.
+#[tactic(auto, unfolding(crate::specs::Lists::list_view))]
 pub fn list_records<S: Source>(
     alloc: Global,
     reader: &mut DumpReader<S>,

@@ -1,5 +1,5 @@
 //! The lines of records.
-ghost use Rattle.std.specs.Prelude.{◌≡◌, ◌+◌, ◌≤◌, ◌++◌, flat_map, length, decimal};
+ghost use Rattle.std.specs.Prelude.{◌≡◌, ◌+◌, ◌≤◌, ◌++◌, flat_map, length, decimal, Bool};
 ghost use Rattle.wire_spec.specs.Packets.{packet_of, blocks_of};
 ghost use Rattle.rtt_list.specs.Lists.{fault_name, bit, block_length, packet_line, refused_line, record_line};
 ghost use Rattle.rtt_list.specs.Listing.{record_of, is_end};
@@ -43,8 +43,8 @@ fn write_lengths(line: &mut Line, blocks: &[TextBlock])
     ensures fits { length line.new ≤ 99 + length line.old }
 {
     for block in blocks.iter().rev() {
-        line.number(block.text.len() as u32);
-        line.text(b" ");
+        line.prepend_number(block.text.len() as u32);
+        line.prepend(b" ");
     }
 }
 
@@ -54,20 +54,20 @@ fn write_packet(line: &mut Line, at: u32, packet: &TextPacket)
     ensures { line.new ≡ packet_line at (packet_of packet.now) }
 {
     line.clear();
-    line.text(b"\n");
+    line.prepend(b"\n");
     write_lengths(line, packet.blocks.as_slice());
-    line.text(b" texts");
-    line.number(packet.source);
-    line.text(b" source ");
-    line.number(packet.ssrc);
-    line.text(b" ssrc ");
-    line.number(packet.stamp);
-    line.text(b" stamp ");
-    line.text(digit_of(packet.mark));
-    line.text(b" mark ");
-    line.number(u32::from(packet.seq));
-    line.text(b" ");
-    line.number(at);
+    line.prepend(b" texts");
+    line.prepend_number(packet.source);
+    line.prepend(b" source ");
+    line.prepend_number(packet.ssrc);
+    line.prepend(b" ssrc ");
+    line.prepend_number(packet.stamp);
+    line.prepend(b" stamp ");
+    line.prepend(digit_of(packet.mark));
+    line.prepend(b" mark ");
+    line.prepend_number(u32::from(packet.seq));
+    line.prepend(b" ");
+    line.prepend_number(at);
 }
 
 /// Writes the line of a packet that is refused.
@@ -75,10 +75,10 @@ fn write_refused(line: &mut Line, at: u32, fault: TextFault)
     ensures { line.new ≡ refused_line at fault }
 {
     line.clear();
-    line.text(b"\n");
-    line.text(name_of(fault));
-    line.text(b" refused ");
-    line.number(at);
+    line.prepend(b"\n");
+    line.prepend(name_of(fault));
+    line.prepend(b" refused ");
+    line.prepend_number(at);
 }
 
 /// Writes the line of a record that is no whole packet: its time, and what it is with LF behind it.
@@ -87,8 +87,8 @@ fn write_word(line: &mut Line, at: u32, word: &[u8])
     ensures { line.new ≡ decimal at ++ word.now }
 {
     line.clear();
-    line.text(word);
-    line.number(at);
+    line.prepend(word);
+    line.prepend_number(at);
 }
 
 /// Makes the lines of records, one after another, over one packet and one line.
@@ -100,10 +100,6 @@ pub(crate) struct RecordLines {
 }
 
 impl RecordLines {
-    ghost use Rattle.std.specs.Prelude.{◌≡◌, [], Bool};
-    ghost use Rattle.rtt_list.specs.Lists.{record_line};
-    ghost use Rattle.rtt_list.specs.Listing.{record_of, is_end};
-
     pub(crate) fn new(pts: Pts) -> RecordLines
         ensures { result.pts ≡ pts }
     {

@@ -1,5 +1,7 @@
 use Rattle.std.proofs.Common.{append_assoc}
+use Rattle.rtt_list.specs.Lists.{packet_line}
 use Rattle.rtt_list.proofs.records.write_packet.Goals as goal
 
 pub returns : goal.returns
+unfolding packet_line
 returns c = simp append_assoc (cc)

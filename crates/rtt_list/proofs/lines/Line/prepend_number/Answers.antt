@@ -1,6 +1,6 @@
 use Rattle.std.proofs.Common.{◌≤◌, length, decimal, drop, arith, ap, length-append}
 use Rattle.rtt_list.proofs.Digits.{digits_of_word, start_of}
-use Rattle.rtt_list.proofs.lines.Line.number.Goals as goal
+use Rattle.rtt_list.proofs.lines.Line.prepend_number.Goals as goal
 
 pub write_digits-self-inside-requires : goal.write_digits-self-inside-requires
 write_digits-self-inside-requires c =
