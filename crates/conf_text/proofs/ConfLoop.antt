@@ -6,6 +6,8 @@ use Rattle.file_spec.specs.declared.kinds.ConfKind.{ConfKind}
 use Rattle.file_spec.specs.Steps.{◌>>=◌}
 use Rattle.file_spec.specs.Lines.{Refusal, told, read_lines, at_line}
 use Rattle.file_spec.specs.Conf.{Above, nothing, and_line, is_blank, complete, conf}
+use Rattle.conf_text.specs.Kept.{Keeps}
+use Rattle.conf_text.proofs.KeptLines.{line_keeps, nothing_keeps}
 use Rattle.conf_text.proofs.ScriptLoop.{passed_over, one_read, one_refused}
 
 pub record HasReadLines (form : Form) (octets rest : List ℕ) (above : Above) (number : ℕ) : Type 0 where
@@ -13,9 +15,10 @@ pub record HasReadLines (form : Form) (octets rest : List ℕ) (above : Above) (
   pub count : number + length (lines rest) ≡ length (lines octets)
   pub counted : number + length rest ≤ length octets
   pub fits : length octets ≤ 262144
+  pub kept : Keeps above
 
 pub none_read : (form : Form) (octets : List ℕ) → length octets ≤ 262144 → HasReadLines form octets octets nothing 0
-none_read form octets h = record { same = refl; count = omega arith; counted = omega arith; fits = h }
+none_read form octets h = record { same = refl; count = omega arith; counted = omega arith; fits = h; kept = nothing_keeps }
 
 one_fewer : (octets rest line after : List ℕ) (number : ℕ) → lines rest ≡ line ∷ lines after → number + length (lines rest) ≡ length (lines octets) → number + 1 + length (lines after) ≡ length (lines octets)
 one_fewer octets rest line after number first count = let e = ap length first in let s : length (line ∷ lines after) ≡ suc (length (lines after)) = refl in omega arith
@@ -29,6 +32,7 @@ blank_read form octets rest line after above number first shorter blank read =
       count = one_fewer octets rest line after number first read.count;
       counted = let c = read.counted in omega arith;
       fits = read.fits;
+      kept = read.kept;
     }
 
 pub line_read : (form : Form) (octets rest line after : List ℕ) (above later : Above) (number : ℕ)
@@ -41,6 +45,7 @@ line_read form octets rest line after above later number first shorter told_it o
       count = one_fewer octets rest line after number first read.count;
       counted = let c = read.counted in omega arith;
       fits = read.fits;
+      kept = line_keeps form above later (record { number = number + 1; octets = line }) ok read.kept;
     }
 
 conf_is : (form : Form) (octets : List ℕ) (read : Result Above Refusal) → length octets ≤ 262144 → read ≡ read_lines (and_line form) nothing (told is_blank 1 (lines octets))

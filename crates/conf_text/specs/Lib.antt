@@ -1,3 +1,4 @@
 pub mod Causes
+pub mod Kept
 pub mod Lines
 pub mod Texts

@@ -4,6 +4,7 @@ ghost use Rattle.std.specs.List.{list_all};
 ghost use Rattle.file_spec.specs.Lines.{words};
 ghost use Rattle.file_spec.specs.Conf.{and_line, complete, conf, is_blank};
 ghost use Rattle.conf_text.specs.Causes.{IsCause, IsCauseAt};
+ghost use Rattle.conf_text.specs.Kept.{Keeps};
 ghost use Rattle.conf_text.specs.Lines.{above_of, conf_of};
 
 use crate::drafts::Draft;
@@ -68,6 +69,7 @@ fn read_line(
 }
 
 fn finish(draft: Draft, line: u32) -> Result<Conf, ConfFault>
+    requires { Keeps (above_of draft) }
     ensures ok { IfOk result (λ c. complete (above_of draft) draft.mixer ≡ Ok (conf_of c)) }
     ensures err { IfErr result (λ fault. IsCauseAt line fault (complete (above_of draft) draft.mixer)) }
 {

@@ -1,11 +1,14 @@
 //! Conferences.
 ghost use Rattle.std.specs.Prelude.{◌≤◌, length};
 ghost use Rattle.file_spec.specs.Sound.{IsBetween};
+ghost use Rattle.conf_text.specs.Kept.{DelaysFit, MixerDiffers, NamesDiffer, NamesFit, OutputsDiffer, PlanLinesDiffer, SsrcsDiffer, TerminalsFit, TypesFit};
 
 use crate::{Legs, Plan};
 use file_spec::MixerLine;
 
 /// A conference: who takes part, and when the mixer does what. Times are in milliseconds.
+/// It keeps what was tested of its file, but for its paths, of which it keeps that no two legs
+/// have the same output.
 #[derive(Debug, Drop)]
 pub struct Conf {
     pub legs: Legs,
@@ -25,4 +28,13 @@ pub struct Conf {
     pub ghost spacing_fits: { IsBetween 100 1000 spacing },
     pub ghost wait_fits: { IsBetween 0 10000 wait },
     pub ghost turns_fits: { IsBetween 1 5000000 turns },
+    pub ghost types_fit: { TypesFit legs },
+    pub ghost names_fit: { NamesFit legs },
+    pub ghost names_differ: { NamesDiffer legs },
+    pub ghost ssrcs_differ: { SsrcsDiffer legs },
+    pub ghost outputs_differ: { OutputsDiffer legs },
+    pub ghost mixer_differs: { MixerDiffers legs mixer },
+    pub ghost terminals_fit: { TerminalsFit legs plan },
+    pub ghost delays_fit: { DelaysFit plan },
+    pub ghost plan_lines_differ: { PlanLinesDiffer plan },
 }
