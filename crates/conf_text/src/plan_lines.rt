@@ -35,9 +35,9 @@ fn is_same_event(one: What, other: What) -> bool
 fn is_same(one: &PlanLine, other: &PlanLine) -> bool
     ensures { result ≡ same_packet one.now other.now }
 {
-    is_same_event(one.what, other.what)
+    one.packet == other.packet
         && one.terminal == other.terminal
-        && one.packet == other.packet
+        && is_same_event(one.what, other.what)
 }
 
 fn is_planned(plan: &[PlanLine], line: &PlanLine) -> bool

@@ -19,10 +19,18 @@ fn refusal_of(alloc: Global, octets: &[u8], form: Form) -> Result<String, AllocE
     }
 }
 
-fn check_files(rt: &impl Abort, alloc: Global, table: &str, form: Form) -> Result<(), Fail> {
+/// Reads for each row the lines above and the row's own, which semicolons part, and compares what
+/// they are refused for.
+fn check_rows(
+    rt: &impl Abort,
+    alloc: Global,
+    form: Form,
+    above: &str,
+    table: &str,
+) -> Result<(), Fail> {
     for row in table.lines() {
         let (lines, refusal) = row.split_once(" => ").ok_or("no row")?;
-        let mut file = String::new(alloc);
+        let mut file = String::from_str(alloc, above)?;
         for line in lines.split(';') {
             file.push_str(line)?;
             file.push('\n')?;
@@ -103,7 +111,9 @@ fn what_is_not_said_has_its_default(rt: HostRuntime) -> Result<(), Fail> {
     Ok(())
 }
 
-/// The third line of a conference whose first two are legs, and what it is refused for.
+const TWO_LEGS: &str = "leg A aware 1 a.in a.out\nleg B aware 2 b.in b.out\n";
+
+/// The line after the two legs, and what it is refused for.
 const THIRD_LINES: &str = "legs A aware 1 a b => line 3: Word\n\
 leg C deaf 3 c d => line 3: Word\n\
 tick => line 3: Count\n\
@@ -166,80 +176,86 @@ leg A aware 1 c d => line 3: Twice\n\
 
 #[test]
 fn the_first_test_that_fails_names_the_refusal(rt: HostRuntime) -> Result<(), Fail> {
+    check_rows(&rt, rt.alloc(), Form::Files, TWO_LEGS, THIRD_LINES)
+}
+
+#[test]
+fn a_line_that_is_no_text_is_refused_before_all_else(rt: HostRuntime) -> Result<(), Fail> {
     for row in THIRD_LINES.lines() {
-        let (line, refusal) = row.split_once(" => ").ok_or("no row")?;
-        let mut file = b"leg A aware 1 a.in a.out\nleg B aware 2 b.in b.out\n".to_vec(rt.alloc())?;
+        let (line, _) = row.split_once(" => ").ok_or("no row")?;
+        let mut file = TWO_LEGS.as_bytes().to_vec(rt.alloc())?;
         file.extend_from_slice(line.as_bytes())?;
+        file.push(0xC3)?;
         assert_eq!(rt;
-            refusal_of(rt.alloc(), &file, Form::Files)?.as_str(),
-            refusal
+            refusal(rt.alloc(), &file, Form::Files),
+            Some((3, ConfKind::NotText))
         );
     }
     Ok(())
 }
 
 #[test]
-fn a_line_that_is_no_text_is_refused_before_all_else(rt: HostRuntime) -> Result<(), Fail> {
+fn a_comment_begins_at_the_first_octet(rt: HostRuntime) {
     assert_eq!(rt;
-        refusal_of(rt.alloc(), b"legs \xC3", Form::Files)?.as_str(),
-        "line 1: NotText"
+        refusal(rt.alloc(), b"#\xC3", Form::Files),
+        Some((2, ConfKind::Few))
     );
     assert_eq!(rt;
-        refusal_of(rt.alloc(), b"tick 20 \xC3", Form::Files)?.as_str(),
-        "line 1: NotText"
+        refusal(rt.alloc(), b" # no comment", Form::Files),
+        Some((1, ConfKind::Word))
     );
-    assert_eq!(rt;
-        refusal_of(rt.alloc(), b"tick \xC3", Form::Files)?.as_str(),
-        "line 1: NotText"
-    );
-    assert_eq!(rt;
-        refusal_of(rt.alloc(), b"leg C/D aware 3 \xC3 d", Form::Files)?.as_str(),
-        "line 1: NotText"
-    );
-    // a comment begins at the first octet, text or not
-    assert_eq!(rt;
-        refusal_of(rt.alloc(), b"#\xC3", Form::Files)?.as_str(),
-        "line 2: Few"
-    );
-    assert_eq!(rt;
-        refusal_of(rt.alloc(), b" # no comment", Form::Files)?.as_str(),
-        "line 1: Word"
-    );
-    Ok(())
 }
 
-/// Lines with semicolons between them, and what they are refused for.
+/// Lines, and what they are refused for.
 const SAID_TWICE: &str = "tick 20; tick 20 => line 2: Twice\n\
 tick 20; tick x => line 2: Number\n\
+tick 20; tick 20 20 => line 2: Count\n\
 spacing 100; spacing 100 => line 2: Twice\n\
 wait 0; wait 0 => line 2: Twice\n\
 turns 1; turns 1 => line 2: Twice\n\
 mixer 1 0 0; mixer 2 0 0 => line 2: Twice\n\
+mixer 1 0 0; mixer 2 65536 0 => line 2: Number\n\
+mixer 1 0 0; mixer 2 0 => line 2: Count\n\
 mixer 1 0 0; leg A aware 1 a b => line 2: Clash\n\
+mixer 9 0 0; leg A aware 1 a b; leg B aware 1 c d => line 3: Clash\n\
 leg A aware 1 a b; mixer 2 0 0; mixer 1 0 0 => line 3: Twice\n\
 leg A aware 1 a b; lose A 1; twice A 1; lose A 01 => line 4: Twice\n\
+leg A aware 1 a b; lose A 1; lose A => line 3: Count\n\
 leg A aware 1 a b; delay A 1 5; delay A 1 6 => line 3: Twice\n\
+leg A aware 1 a b; delay A 1 5; delay A 1 60001 => line 3: Number\n\
 ";
 
 #[test]
 fn what_was_said_is_not_said_twice(rt: HostRuntime) -> Result<(), Fail> {
-    check_files(&rt, rt.alloc(), SAID_TWICE, Form::Files)
+    check_rows(&rt, rt.alloc(), Form::Files, "", SAID_TWICE)
 }
 
-/// Lines with semicolons between them, and what they are refused for.
+/// Lines of the form Links, and what they are refused for.
 const LINKS: &str = "leg A aware 1 0 h:1 => line 1: Number\n\
 leg A aware 1 65536 h:1 => line 1: Number\n\
 leg A aware 1 a.in h:1 => line 1: Number\n\
+leg A aware 1 5004 => line 1: Count\n\
+leg A aware 1 0 => line 1: Count\n\
+leg A deaf 1 0 h:1 => line 1: Word\n\
+leg A/B aware 1 0 h:1 => line 1: Name\n\
+leg A aware 1 5004 h:1 98 98 => line 1: Clash\n\
+leg A aware 1 5004 h:1; leg B aware 1 5006 h:2 => line 2: Clash\n\
 leg A aware 1 5004 h:1; leg B aware 2 05004 h:2 => line 2: Clash\n\
 leg A aware 1 5004 h:1; leg B aware 2 5006 h:1 => line 2: Clash\n\
+leg A aware 1 5004 h:1; leg B aware 2 0 h:1 => line 2: Number\n\
+leg A aware 1 5004 h:1; leg A aware 2 0 h:2 => line 2: Number\n\
+leg A aware 1 5004 h:1; leg A aware 2 5004 h:2 => line 2: Twice\n\
 leg A aware 1 5004 h:1; lose A 1 => line 2: Word\n\
 leg A aware 1 5004 h:1; delay A => line 2: Word\n\
+leg A aware 1 5004 h:1; delay A 1 60001 => line 2: Word\n\
+leg A aware 1 5004 h:1; twice B x => line 2: Word\n\
+leg A aware 1 5004 5004; leg B aware 2 5006 h:2 => line 3: Few\n\
 leg A aware 1 5004 5006; leg B aware 2 5006 5004 => line 3: Few\n\
 ";
 
 #[test]
 fn links_have_ports_and_no_plan(rt: HostRuntime) -> Result<(), Fail> {
-    check_files(&rt, rt.alloc(), LINKS, Form::Links)
+    check_rows(&rt, rt.alloc(), Form::Links, "", LINKS)
 }
 
 #[test]
@@ -267,64 +283,127 @@ fn leg_lines(alloc: Global, count: u32) -> Result<String, AllocError> {
     Ok(file)
 }
 
+fn plan_lines(alloc: Global, count: u32) -> Result<String, AllocError> {
+    let mut file = leg_lines(alloc, 2)?;
+    for number in 0..count {
+        let line = format!(in alloc; "lose L1 {number}\n")?;
+        file.push_str(line.as_str())?;
+    }
+    Ok(file)
+}
+
+/// What follows the mixer on line 1 and sixteen legs on lines 2 to 17, and what it is refused for.
+const AFTER_SIXTEEN_LEGS: &str = "leg Q aware 99 q.in q.out => line 18: Many\n\
+leg L0 aware 99 q.in q.out => line 18: Many\n\
+leg Q aware 0 q.in q.out => line 18: Many\n\
+leg Q aware 9000 q.in 0.out => line 18: Many\n\
+leg Q aware 99 q.in q.out 98 98 => line 18: Many\n\
+leg Q aware x q.in q.out => line 18: Number\n\
+leg Q aware 99 q.in q.out 95 100 => line 18: Number\n\
+leg Q/R aware 99 q.in q.out => line 18: Name\n\
+leg Q deaf 99 q.in q.out => line 18: Word\n\
+leg Q aware 99 q.in => line 18: Count\n\
+tick 20;leg Q aware 99 q.in q.out => line 19: Many\n\
+";
+
 #[test]
 fn a_conference_has_at_most_sixteen_legs(rt: HostRuntime) -> Result<(), Fail> {
     let file = leg_lines(rt.alloc(), 16)?;
-    assert_eq!(rt;
-        read_conf(rt.alloc(), file.as_bytes(), Form::Files)?
-            .legs
-            .len(),
-        16
-    );
-    let mut file = leg_lines(rt.alloc(), 17)?;
-    assert_eq!(rt;
-        refusal(rt.alloc(), file.as_bytes(), Form::Files),
-        Some((18, ConfKind::Many))
-    );
-    file = leg_lines(rt.alloc(), 16)?;
-    file.push_str("leg L0 aware 0 0.in 0.out\n")?;
-    assert_eq!(rt;
-        refusal(rt.alloc(), file.as_bytes(), Form::Files),
-        Some((18, ConfKind::Many))
-    );
-    Ok(())
+    let conf = read_conf(rt.alloc(), file.as_bytes(), Form::Files)?;
+    assert_eq!(rt; conf.legs.len(), 16);
+    check_rows(
+        &rt,
+        rt.alloc(),
+        Form::Files,
+        file.as_str(),
+        AFTER_SIXTEEN_LEGS,
+    )
 }
+
+/// What follows 4096 plan lines on lines 4 to 4099, and what it is refused for.
+const AFTER_A_FULL_PLAN: &str = "lose L1 7 => line 4100: PlanMany\n\
+delay L1 7 60001 => line 4100: Number\n\
+lose Q 7 => line 4100: Name\n\
+lose L1 => line 4100: Count\n\
+tick 20;twice L0 7 => line 4101: PlanMany\n\
+";
 
 #[test]
 fn a_plan_has_at_most_4096_lines(rt: HostRuntime) -> Result<(), Fail> {
-    let mut file = leg_lines(rt.alloc(), 2)?;
-    for number in 0..4096_u32 {
-        let line = format!(in rt.alloc(); "lose L1 {number}\n")?;
-        file.push_str(line.as_str())?;
+    let file = plan_lines(rt.alloc(), 4096)?;
+    let conf = read_conf(rt.alloc(), file.as_bytes(), Form::Files)?;
+    assert_eq!(rt; conf.plan.len(), 4096);
+    check_rows(
+        &rt,
+        rt.alloc(),
+        Form::Files,
+        file.as_str(),
+        AFTER_A_FULL_PLAN,
+    )
+}
+
+/// What the text before, a path of so many octets and the text after it are refused for.
+fn refusal_of_path(
+    alloc: Global,
+    form: Form,
+    before: &str,
+    count: usize,
+    after: &str,
+) -> Result<String, AllocError> {
+    let mut file = String::from_str(alloc, before)?;
+    for _ in 0..count {
+        file.push('p')?;
     }
-    assert_eq!(rt;
-        read_conf(rt.alloc(), file.as_bytes(), Form::Files)?
-            .plan
-            .len(),
-        4096
-    );
-    file.push_str("lose L1 7")?;
-    assert_eq!(rt;
-        refusal(rt.alloc(), file.as_bytes(), Form::Files),
-        Some((4100, ConfKind::PlanMany))
-    );
+    file.push_str(after)?;
+    refusal_of(alloc, file.as_bytes(), form)
+}
+
+#[test]
+fn a_path_has_at_most_255_octets(rt: HostRuntime) -> Result<(), Fail> {
+    let cases = [
+        (Form::Files, "leg A aware 1 ", 255, " b", "line 2: Few"),
+        (Form::Files, "leg A aware 1 ", 256, " b", "line 1: Name"),
+        (Form::Files, "leg A aware 1 a ", 255, "", "line 2: Few"),
+        (Form::Files, "leg A aware 1 a ", 256, "", "line 1: Name"),
+        (
+            Form::Files,
+            "leg A aware 1 a b\nleg A aware 1 ",
+            256,
+            " b",
+            "line 2: Name",
+        ),
+        (Form::Links, "leg A aware 1 0 ", 256, "", "line 1: Name"),
+        (Form::Links, "leg A aware 1 ", 256, " h:1", "line 1: Number"),
+    ];
+    for (form, before, count, after, refused) in cases {
+        assert_eq!(rt;
+            refusal_of_path(rt.alloc(), form, before, count, after)?.as_str(),
+            refused
+        );
+    }
     Ok(())
 }
 
 #[test]
 fn a_conference_has_at_most_262144_octets(rt: HostRuntime) -> Result<(), Fail> {
-    let mut file = Vec::new(rt.alloc());
-    for _ in 0..262_144 {
+    let mut file = b"legs".to_vec(rt.alloc())?;
+    for _ in 4..262_144 {
         file.push(b'\n')?;
     }
     assert_eq!(rt;
         refusal(rt.alloc(), &file, Form::Files),
-        Some((262_145, ConfKind::Few))
+        Some((1, ConfKind::Word))
     );
     file.push(b'\n')?;
     assert_eq!(rt;
         refusal(rt.alloc(), &file, Form::Files),
         Some((0, ConfKind::Large))
+    );
+    file[0] = b'#';
+    file.pop();
+    assert_eq!(rt;
+        refusal(rt.alloc(), &file, Form::Files),
+        Some((262_141, ConfKind::Few))
     );
     Ok(())
 }

@@ -1,8 +1,9 @@
 //! Scripts from outside: their texts as a sender sees them, and each refusal.
 use crate::{ConfFault, ConfKind, read_script};
+use std::alloc::{AllocError, Global};
 use std::test::Fail;
 
-fn refusal(alloc: std::alloc::Global, octets: &[u8]) -> Option<(u32, ConfKind)> {
+fn refusal(alloc: Global, octets: &[u8]) -> Option<(u32, ConfKind)> {
     match read_script(alloc, octets) {
         Err(ConfFault::Refused { line, kind }) => Some((line, kind)),
         _ => None,
@@ -47,40 +48,69 @@ fn an_empty_file_is_a_script_without_lines(rt: HostRuntime) -> Result<(), Fail> 
     Ok(())
 }
 
-#[test]
-fn the_first_test_that_fails_names_the_refusal(rt: HostRuntime) {
-    let cases: [(&[u8], u32, ConfKind); 17] = [
-        (b"0 \xC3", 1, ConfKind::NotText),
-        (b"\n#\n300", 3, ConfKind::Count),
-        (b"  ", 1, ConfKind::Number),
-        (b" # no comment", 1, ConfKind::Number),
-        (b"1a H", 1, ConfKind::Number),
-        (b"14400001 H", 1, ConfKind::Number),
-        (b"00000000001 H", 1, ConfKind::Number),
-        (b"300 e\n299 H", 2, ConfKind::Order),
-        (b"0 \\", 1, ConfKind::Escape),
-        (b"0 \\N", 1, ConfKind::Escape),
-        // two causes on one line
-        (b"\xC3", 1, ConfKind::NotText),
-        (b"x \xC3", 1, ConfKind::NotText),
-        (b"300 e\n1 \xC3\\", 2, ConfKind::NotText),
-        (b"300 e\n-1 H", 2, ConfKind::Number),
-        (b"x \\", 1, ConfKind::Number),
-        (b"300 e\n1 \\", 2, ConfKind::Order),
-        // two bad lines
-        (b"0 \\\n0", 1, ConfKind::Escape),
-    ];
-    for (octets, line, kind) in cases {
-        assert_eq!(rt; refusal(rt.alloc(), octets), Some((line, kind)));
+fn refusal_of(alloc: Global, octets: &[u8]) -> Result<String, AllocError> {
+    match read_script(alloc, octets) {
+        Err(fault) => format!(in alloc; "{fault}"),
+        Ok(_) => String::from_str(alloc, "read"),
     }
 }
 
-fn long_line(
-    alloc: std::alloc::Global,
-    start: &[u8],
-    octet: u8,
-    count: usize,
-) -> Result<Vec<u8>, std::alloc::AllocError> {
+/// The line after `300 e` and what it is refused for.
+const SECOND_LINES: &str = "300 => line 2: Count\n\
+299 => line 2: Count\n\
+x => line 2: Count\n\
+\\ => line 2: Count\n\
+\x20\x20 => line 2: Number\n\
+\x20# no comment => line 2: Number\n\
+3a H => line 2: Number\n\
+-1 H => line 2: Number\n\
+14400001 H => line 2: Number\n\
+00000000300 H => line 2: Number\n\
+x \\ => line 2: Number\n\
+299 H => line 2: Order\n\
+299 \\ => line 2: Order\n\
+300 \\ => line 2: Escape\n\
+300 \\N => line 2: Escape\n\
+0300 \\\\ => read\n\
+14400000 H => read\n\
+";
+
+fn second_line(alloc: Global, row: &str) -> Result<Vec<u8>, AllocError> {
+    let mut file = b"300 e\n".to_vec(alloc)?;
+    file.extend_from_slice(row.as_bytes())?;
+    Ok(file)
+}
+
+#[test]
+fn the_first_test_that_fails_names_the_refusal(rt: HostRuntime) -> Result<(), Fail> {
+    for row in SECOND_LINES.lines() {
+        let (line, refusal) = row.split_once(" => ").ok_or("no row")?;
+        let file = second_line(rt.alloc(), line)?;
+        assert_eq!(rt; refusal_of(rt.alloc(), &file)?.as_str(), refusal);
+    }
+    Ok(())
+}
+
+#[test]
+fn a_line_that_is_no_text_is_refused_before_all_else(rt: HostRuntime) -> Result<(), Fail> {
+    for row in SECOND_LINES.lines() {
+        let (line, _) = row.split_once(" => ").ok_or("no row")?;
+        let mut file = second_line(rt.alloc(), line)?;
+        file.push(0xC3)?;
+        assert_eq!(rt; refusal(rt.alloc(), &file), Some((2, ConfKind::NotText)));
+    }
+    Ok(())
+}
+
+#[test]
+fn the_first_bad_line_is_named(rt: HostRuntime) {
+    assert_eq!(rt;
+        refusal(rt.alloc(), b"\n#\n0 \\\n0"),
+        Some((3, ConfKind::Escape))
+    );
+}
+
+fn long_line(alloc: Global, start: &[u8], octet: u8, count: usize) -> Result<Vec<u8>, AllocError> {
     let mut octets = start.to_vec(alloc)?;
     for _ in 0..count {
         octets.push(octet)?;
@@ -105,6 +135,13 @@ fn a_text_has_at_most_1023_octets(rt: HostRuntime) -> Result<(), Fail> {
     assert_eq!(rt; refusal(rt.alloc(), &line), Some((1, ConfKind::Escape)));
     let late = long_line(rt.alloc(), b"7 e\n0 ", b'a', 1024)?;
     assert_eq!(rt; refusal(rt.alloc(), &late), Some((2, ConfKind::Order)));
+    let no_moment = long_line(rt.alloc(), b"x ", b'a', 1024)?;
+    assert_eq!(rt;
+        refusal(rt.alloc(), &no_moment),
+        Some((1, ConfKind::Number))
+    );
+    let no_text = long_line(rt.alloc(), b"0 ", 0xC3, 1024)?;
+    assert_eq!(rt; refusal(rt.alloc(), &no_text), Some((1, ConfKind::NotText)));
     Ok(())
 }
 
@@ -112,7 +149,7 @@ fn a_text_has_at_most_1023_octets(rt: HostRuntime) -> Result<(), Fail> {
 fn a_script_has_at_most_1048576_octets(rt: HostRuntime) -> Result<(), Fail> {
     let file = long_line(rt.alloc(), b"", b'\n', 1_048_576)?;
     assert!(rt; read_script(rt.alloc(), &file)?.is_empty());
-    let file = long_line(rt.alloc(), b"", b'\n', 1_048_577)?;
+    let file = long_line(rt.alloc(), b"x", b'\n', 1_048_576)?;
     assert_eq!(rt; refusal(rt.alloc(), &file), Some((0, ConfKind::Large)));
     Ok(())
 }
