@@ -1,0 +1,214 @@
+-- How long a sender that is given no more text goes on.
+use Rattle.std.proofs.Common.{◌≡◌, ℕ, zero, suc, ◌+◌, ◌-◌, ◌*◌, ◌<◌, ◌≤◌, ◌^◌, Bool, true, false, cond, ◌⊎◌, inl, inr, List, [], ◌∷◌, ◌++◌, length, take, drop, length-drop, refl, ap, subst, sym, ◌∙◌, arith}
+use Rattle.std.specs.Prelude.{◌&&◌, ◌||◌, nat_le, min, All, IsUtf8}
+use Rattle.std.proofs.lemmas.Bool.{cases_lt}
+use Rattle.std.proofs.lemmas.Bool.Decides.{nat_tests}
+use Rattle.wire_spec.specs.Packets.{has_text}
+use Rattle.file_spec.specs.declared.script_lines.ScriptLine.{ScriptLine}
+use Rattle.stream_spec.specs.Own.{Sent, has_text_in}
+use Rattle.stream_spec.specs.Lists.{In}
+use Rattle.stream_spec.specs.Typed.{Event, Text, Ask, Turned, sents, front, last_end, due_at, entry_at, has_passed, last_ask, IsScript}
+use Rattle.stream_spec.proofs.Typing.{entries_more, waits_less, waits_utf8, paced}
+use Rattle.text_sender.specs.declared.senders.SendConf.{SendConf}
+use Rattle.text_sender.specs.Confs.{IsConf, stream_of}
+use Rattle.text_sender.specs.Standing.{sent_by, waits_for, has_more}
+use Rattle.rtt_send.specs.Scripts.{events_before, events_until, events_through}
+use Rattle.rtt_send.proofs.Events.{before_suc, until_later, script_on, asked_until}
+use Rattle.rtt_send.proofs.Asking.{Same, idle, no_more}
+use Rattle.rtt_send.proofs.Fronts.{some_front}
+
+-- ---- the packets that are left, at most
+-- so many repeats are left of what was sent
+abbrev rank : List Sent → ℕ
+rank zs = cond (has_text_in 1 zs) 2 (cond (has_text_in 2 zs) 1 0)
+
+abbrev weight : List Turned → List ℕ → ℕ
+weight es w = 4 * length w + rank (sents es)
+
+rank_le : (zs : List Sent) → rank zs ≤ 2
+rank_le zs = go (has_text_in 1 zs) (has_text_in 2 zs)
+  where
+    go : (a b : Bool) → cond a 2 (cond b 1 0) ≤ 2
+    go true b = omega arith
+    go false true = omega arith
+    go false false = omega arith
+
+rank_falls : (e : Sent) (zs : List Sent) → has_text e.text ≡ false → has_text_in 2 zs ≡ true → rank (e ∷ zs) + 1 ≤ rank zs
+rank_falls e zs h two =
+    let one : has_text_in 1 (e ∷ zs) ≡ false = rw h refl in
+    let more : has_text_in 2 (e ∷ zs) ≡ has_text_in 1 zs = rw h refl in
+    let new : rank (e ∷ zs) ≡ cond (has_text_in 1 zs) 1 0 = ap (λ b. cond b 2 (cond (has_text_in 2 (e ∷ zs)) 1 0)) one ∙ ap (λ b. cond b 1 0) more in
+    let old : rank zs ≡ cond (has_text_in 1 zs) 2 1 = ap (λ b. cond (has_text_in 1 zs) 2 (cond b 1 0)) two in
+    let falls = go (has_text_in 1 zs) in
+    omega (arith, new, old, falls)
+  where
+    go : (b : Bool) → cond b 1 0 + 1 ≤ cond b 2 1
+    go true = omega arith
+    go false = omega arith
+
+empty : (w : List ℕ) → length w ≡ 0 → has_text w ≡ false
+empty [] e = refl
+empty (x ∷ w) e = absurd (omega arith)
+
+no_octets : (w : List ℕ) → has_text w ≡ false → length w ≡ 0
+no_octets [] h = refl
+no_octets (x ∷ w) h = cc h
+
+
+front_short : (w : List ℕ) → length (front 1023 w) ≤ length w
+front_short w = go (last_end w (min 1023 (length w))) w
+  where
+    go : (k : ℕ) (xs : List ℕ) → length (take k xs) ≤ length xs
+    go zero xs = omega arith
+    go (suc k) [] = omega arith
+    go (suc k) (x ∷ xs) = let r = go k xs in omega arith
+
+weight_falls : (es : List Turned) (e : Turned) (w : List ℕ) → IsUtf8 w → e.sent.text ≡ front 1023 w → (has_text w || has_text_in 2 (sents es)) ≡ true
+    → weight (e ∷ es) (drop (length (front 1023 w)) w) + 1 ≤ weight es w
+weight_falls es e w u t h = go (has_text w) refl h
+  where
+    go : (b : Bool) → has_text w ≡ b → (b || has_text_in 2 (sents es)) ≡ true → weight (e ∷ es) (drop (length (front 1023 w)) w) + 1 ≤ weight es w
+    go true q d =
+        let some = some_front w u q in
+        let size = length-drop (length (front 1023 w)) w in
+        let short = front_short w in
+        let new = rank_le (sents (e ∷ es)) in
+        omega (arith, some, size, short, new)
+    go false q d =
+        let none = no_octets w q in
+        let short = front_short w in
+        let no : has_text e.sent.text ≡ false = ap has_text t ∙ empty (front 1023 w) (omega arith) in
+        let size = length-drop (length (front 1023 w)) w in
+        let falls = rank_falls e.sent (sents es) no d in
+        omega (arith, size, falls)
+
+-- ---- the milliseconds that are left, at most
+abbrev remaining : ℕ → List Turned → ℕ → ℕ
+remaining interval [] t = 0
+remaining interval (e ∷ es) t = (e.at + interval) - t
+
+abbrev potential : SendConf → List Event → ℕ → ℕ
+potential conf past t = 1000 * weight (sent_by conf past) (waits_for conf past) + remaining conf.interval (sent_by conf past) t
+
+and_more : (a b : Bool) → a ≡ true → (a && b) ≡ false → b ≡ false
+and_more true b h d = d
+and_more false b h d = cc h
+
+and_first : (a b : Bool) → (a && b) ≡ true → a ≡ true
+and_first true b h = refl
+and_first false b h = h
+
+waits_on : (interval : ℕ) (es : List Turned) (t : ℕ) → has_passed interval es t ≡ false → remaining interval es (suc t) + 1 ≤ remaining interval es t
+waits_on interval [] t h = cc h
+waits_on interval (e ∷ es) t h = let l : t < e.at + interval = early (e.at + interval) t h in omega arith
+  where
+    early : (a b : ℕ) → nat_le a b ≡ false → b < a
+    early a b q = grind (arith, nat_tests)
+
+ask_falls : (conf : SendConf) (past : List Event) (t : ℕ) → IsConf conf → IsUtf8 (waits_for conf past)
+    → (has_more conf (Ask t ∷ past) ≡ false) ⊎ (potential conf (Ask t ∷ past) (suc t) + 1 ≤ potential conf past t)
+ask_falls conf past t k u = go (due_at (stream_of conf) conf.interval past t) refl
+  where
+    sends : due_at (stream_of conf) conf.interval past t ≡ true → potential conf (Ask t ∷ past) (suc t) + 1 ≤ potential conf past t
+    sends d =
+        let c = stream_of conf in
+        let es = sent_by conf past in
+        let w = waits_for conf past in
+        let e = entry_at c es w t in
+        let falls = weight_falls es e w u refl (and_first (has_more conf past) (has_passed conf.interval es t) d) in
+        let is : potential conf (Ask t ∷ past) (suc t) ≡ 1000 * weight (e ∷ es) (drop (length (front 1023 w)) w) + ((t + conf.interval) - suc t) =
+          ap (λ (fs : List Turned). 1000 * weight fs (waits_for conf (Ask t ∷ past)) + remaining conf.interval fs (suc t)) (entries_more c conf.interval past t d)
+          ∙ ap (λ (v : List ℕ). 1000 * weight (e ∷ es) v + ((t + conf.interval) - suc t)) (waits_less c conf.interval past t d) in
+        let l = k.least in
+        let m = k.most in
+        below (potential conf (Ask t ∷ past) (suc t)) (weight (e ∷ es) (drop (length (front 1023 w)) w)) (weight es w) (remaining conf.interval es t) t conf.interval is falls l m
+      where
+        below : (p new old rest s i : ℕ) → p ≡ 1000 * new + ((s + i) - suc s) → new + 1 ≤ old → 100 ≤ i → i ≤ 1000 → p + 1 ≤ 1000 * old + rest
+        below p new old rest s i q f l m = omega arith
+
+    rests : due_at (stream_of conf) conf.interval past t ≡ false → (b : Bool) → has_more conf past ≡ b
+      → (has_more conf (Ask t ∷ past) ≡ false) ⊎ (potential conf (Ask t ∷ past) (suc t) + 1 ≤ potential conf past t)
+    rests d b h =
+        let same = idle conf past t d in
+        let more : has_more conf (Ask t ∷ past) ≡ has_more conf past =
+          ap (λ (w : List ℕ). has_text w || has_text_in 2 (sents (sent_by conf (Ask t ∷ past)))) same.waits
+          ∙ ap (λ (es : List Turned). has_text (waits_for conf past) || has_text_in 2 (sents es)) same.sent in
+        let is : potential conf (Ask t ∷ past) (suc t) ≡ potential conf past (suc t) =
+          ap (λ (w : List ℕ). 1000 * weight (sent_by conf (Ask t ∷ past)) w + remaining conf.interval (sent_by conf (Ask t ∷ past)) (suc t)) same.waits
+          ∙ ap (λ (es : List Turned). 1000 * weight es (waits_for conf past) + remaining conf.interval es (suc t)) same.sent in
+        case b h more is
+      where
+        case : (b : Bool) → has_more conf past ≡ b → has_more conf (Ask t ∷ past) ≡ has_more conf past → potential conf (Ask t ∷ past) (suc t) ≡ potential conf past (suc t)
+          → (has_more conf (Ask t ∷ past) ≡ false) ⊎ (potential conf (Ask t ∷ past) (suc t) + 1 ≤ potential conf past t)
+        case false q more is = inl (more ∙ q)
+        case true q more is =
+            let late = waits_on conf.interval (sent_by conf past) t (and_more (has_more conf past) (has_passed conf.interval (sent_by conf past) t) q d) in
+            inr (sum (potential conf (Ask t ∷ past) (suc t)) (weight (sent_by conf past) (waits_for conf past)) (remaining conf.interval (sent_by conf past) (suc t)) (remaining conf.interval (sent_by conf past) t) is late)
+          where
+            sum : (p n a b : ℕ) → p ≡ 1000 * n + a → a + 1 ≤ b → p + 1 ≤ 1000 * n + b
+            sum p n a b q l = omega arith
+
+    go : (b : Bool) → due_at (stream_of conf) conf.interval past t ≡ b → (has_more conf (Ask t ∷ past) ≡ false) ⊎ (potential conf (Ask t ∷ past) (suc t) + 1 ≤ potential conf past t)
+    go true d = inr (sends d)
+    go false d = rests d (has_more conf past) refl
+
+-- where all lines were typed, each further ask takes a millisecond off, or nothing is left
+left_at : (conf : SendConf) (lines : List ScriptLine) (now k : ℕ) → IsConf conf → IsScript (events_until lines now) → All (λ l. l.at ≤ now) lines → now < k → k ≤ 2 ^ 31
+    → (has_more conf (events_before lines k) ≡ false) ⊎ (potential conf (events_before lines k) k + k ≤ potential conf (events_until lines now) now + now)
+left_at conf lines now zero c s a l m = absurd (omega arith)
+left_at conf lines now (suc k) c s a l m =
+    subst (λ (past : List Event). (has_more conf past ≡ false) ⊎ (potential conf past (suc k) + suc k ≤ potential conf (events_until lines now) now + now)) (sym (before_suc lines k)) (elim (cases_lt now k) [
+      | inl lt ↦ (
+        let on = script_on lines now k a lt (omega arith) s in
+        let same = until_later lines now k a lt in
+        subst (λ (past : List Event). (has_more conf (Ask k ∷ past) ≡ false) ⊎ (potential conf (Ask k ∷ past) (suc k) + suc k ≤ potential conf (events_until lines now) now + now)) (sym same)
+        (next (events_before lines k) on (left_at conf lines now k c s a lt (omega arith))))
+      | inr ge ↦ (
+        let q : now ≡ k = omega arith in
+        let script : IsScript (events_until lines k) = subst (λ n. IsScript (events_until lines n)) q s in
+        elim (ask_falls conf (events_until lines k) k c (waits_utf8 (stream_of conf) conf.interval (events_until lines k) script)) [
+          | inl none ↦ inl none
+          | inr falls ↦ inr (first (potential conf (events_through lines k) (suc k)) (potential conf (events_until lines k) k) (potential conf (events_until lines now) now) k now (ap (λ n. potential conf (events_until lines n) n) (sym q)) q falls)
+        ])
+    ])
+  where
+    first : (p q r n m : ℕ) → q ≡ r → m ≡ n → p + 1 ≤ q → p + suc n ≤ r + m
+    first p q r n m a b f = omega arith
+
+    later : (p q r n m : ℕ) → p + 1 ≤ q → q + n ≤ r + m → p + suc n ≤ r + m
+    later p q r n m a b = omega arith
+
+    next : (past : List Event) → IsScript past → (has_more conf past ≡ false) ⊎ (potential conf past k + k ≤ potential conf (events_until lines now) now + now)
+      → (has_more conf (Ask k ∷ past) ≡ false) ⊎ (potential conf (Ask k ∷ past) (suc k) + suc k ≤ potential conf (events_until lines now) now + now)
+    next past script (inl none) = inl (still past none)
+      where
+        still : (past : List Event) → has_more conf past ≡ false → has_more conf (Ask k ∷ past) ≡ false
+        still past none =
+            let same = idle conf past k (no_more conf past k none) in
+            ap (λ (w : List ℕ). has_text w || has_text_in 2 (sents (sent_by conf (Ask k ∷ past)))) same.waits
+            ∙ (ap (λ (es : List Turned). has_text (waits_for conf past) || has_text_in 2 (sents es)) same.sent ∙ none)
+    next past script (inr some) = elim (ask_falls conf past k c (waits_utf8 (stream_of conf) conf.interval past script)) [
+      | inl none ↦ inl none
+      | inr falls ↦ inr (later (potential conf (Ask k ∷ past) (suc k)) (potential conf past k) (potential conf (events_until lines now) now) k now falls some)
+    ]
+
+recent : (conf : SendConf) (past : List Event) (now : ℕ) (es : List Turned) → sent_by conf past ≡ es → ((e : Turned) → In e es → (e.sent.media ≤ e.at) × (e.at ≤ now)) → remaining conf.interval es now ≤ conf.interval
+recent conf past now [] q h = omega arith
+recent conf past now (e ∷ es) q h = let a = h e (inl refl) in omega (arith, a.1)
+
+-- by then nothing is left
+pub ends_by : (conf : SendConf) (lines : List ScriptLine) (now n : ℕ) → IsConf conf → IsScript (events_until lines now) → All (λ l. l.at ≤ now) lines
+    → length (waits_for conf (events_until lines now)) ≤ 16384 → now ≤ 14400000 → 79999999 ≤ n → n < 2 ^ 31 → has_more conf (events_through lines n) ≡ false
+ends_by conf lines now n c s a room early late top =
+    subst (λ (past : List Event). has_more conf past ≡ false) (before_suc lines n) (elim (left_at conf lines now (suc n) c s a (omega arith) (omega arith)) [
+      | inl none ↦ none
+      | inr p ↦ (
+        let past = events_until lines now in
+        let pace = paced (stream_of conf) conf.interval past refl (let l = c.least in omega arith) s in
+        let asked = asked_until lines now in
+        let rest = recent conf past now (sent_by conf past) refl (λ e i. let r = pace.early e i in (r.0, omega (arith, r.1))) in
+        absurd (too_long (potential conf (events_before lines (suc n)) (suc n)) (potential conf past now) (length (waits_for conf past)) (rank (sents (sent_by conf past))) (remaining conf.interval (sent_by conf past) now) conf.interval n now refl (rank_le (sents (sent_by conf past))) rest c.most room early late p))
+    ])
+  where
+    too_long : (p q w r m i n now : ℕ) → q ≡ 1000 * (4 * w + r) + m → r ≤ 2 → m ≤ i → i ≤ 1000 → w ≤ 16384 → now ≤ 14400000 → 79999999 ≤ n → p + suc n ≤ q + now → ⊥
+    too_long p q w r m i n now e a b d f g h l = omega arith

@@ -1,0 +1,36 @@
+use Rattle.std.proofs.Common.{◌≡◌, ◌≤◌, ◌<◌, ◌+◌, ◌++◌, ℕ, List, length, Some, None, suc, refl, ap, sym, subst, ◌∙◌, arith, add-one}
+use Rattle.wire_spec.specs.Dump.{record_written}
+use Rattle.rtt_send.specs.declared.recorders.Recorder.{Recorder}
+use Rattle.rtt_send.specs.Scripts.{events_until, events_through}
+use Rattle.rtt_send.specs.Insides.{Records, IsAsked}
+use Rattle.rtt_send.proofs.Events.{asked_until}
+use Rattle.rtt_send.proofs.Asking.{asked_idle, asked_more, some_octets}
+use Rattle.rtt_send.proofs.recorders.Recorder.ask.Goals as goal
+use Rattle.rtt_send.proofs.recorders.Recorder.ask.Goals.{in-Some+in_ok-write_record, in_default}
+
+pub write_record-requires-clause-some : goal.write_record-requires-clause-some
+write_record-requires-clause-some c =
+    let k = c.requires.known in
+    let now = c.args.self.now.now in
+    subst (λ (xs : List ℕ). 0 < length xs) (sym c.as_slice.ensures.value) (some_octets k.conf (events_until k.lines now) now c.in-Some.packet (c.in-Some.ensures.packet k.conf (events_until k.lines now) k.is_at.records.sender (asked_until k.lines now)))
+
+pub returns-clause-asked : goal.returns-clause-asked
+returns-clause-asked c = λ conf lines a.
+    let old = c.args.self.now in
+    let past = events_until lines old.now in
+    let stands = c.turn.ensures.stands conf past a.records.sender (asked_until lines old.now) in
+    let asked = λ (r : Recorder) (e : c.match-turn.self ≡ r) (n : r.now ≡ old.now) (x : Records conf r.sender r.octets (events_through lines old.now)).
+      (let y : IsAsked conf lines (record { sender = c.match-turn.self.sender; octets = c.match-turn.self.octets; now = c.match-turn.self.now + 1 }) = record {
+        last = old.now;
+        now = ap (λ (q : Recorder). q.now + 1) e ∙ (ap (λ (m : ℕ). m + 1) n ∙ add-one old.now);
+        records = subst (λ (q : Recorder). Records conf q.sender q.octets (events_through lines old.now)) (sym e) x;
+        typed = a.typed;
+      } in y) in
+    elim c.match-turn.branch [
+      | in-Some+in_ok-write_record w ↦ asked (record { sender = c.turn.new.self; octets = w.write_record.new.out; now = old.now }) w.self-is refl (
+        asked_more conf old.sender c.turn.new.self old.octets w.write_record.new.out w.in-Some.packet past old.now a.records
+        (w.in-Some.ensures.packet conf past a.records.sender (asked_until lines old.now)) stands
+        (w.in_ok-write_record.ensures.ok ∙ ap (λ (p : List ℕ). old.octets ++ record_written (old.now, p)) w.as_slice.ensures.value))
+      | in_default w ↦ asked (record { sender = c.turn.new.self; octets = old.octets; now = old.now }) w.self-is refl (
+        asked_idle conf old.sender c.turn.new.self old.octets past old.now a.records (w.in_default.ensures.packet conf past a.records.sender (asked_until lines old.now)) stands)
+    ]

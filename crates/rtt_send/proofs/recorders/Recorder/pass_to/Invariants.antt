@@ -1,0 +1,14 @@
+use Rattle.std.proofs.Common.{◌-◌, ◌≤◌, List}
+use Rattle.text_sender.specs.declared.senders.SendConf.{SendConf}
+use Rattle.file_spec.specs.declared.script_lines.ScriptLine.{ScriptLine}
+use Rattle.rtt_send.specs.Insides.{IsAt}
+use Rattle.rtt_send.proofs.recorders.Recorder.pass_to.Given as goal
+
+abbrev pub invariant-loop-self : goal.invariant-loop-self
+invariant-loop-self l = record {
+  is_at : (conf : SendConf) (lines : List ScriptLine) → IsAt conf lines l.initial.self → IsAt conf lines l.self;
+  within : l.initial.self.now ≤ l.at → l.self.now ≤ l.at;
+}
+
+abbrev pub decreases-loop-self : goal.decreases-loop-self
+decreases-loop-self l = l.at - l.self.now

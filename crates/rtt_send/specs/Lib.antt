@@ -1,0 +1,4 @@
+pub mod Scripts
+pub mod Recordings
+pub mod Answers
+pub mod Insides

@@ -1,0 +1,97 @@
+//! A sender whose packets are recorded.
+ghost use Rattle.std.specs.Prelude.{◌≡◌, ◌+◌, ◌<◌, ◌≤◌, ◌↔◌, ◌^◌, ◌∷◌, ◌++◌, [], List, length, IfOk, IsOk, OnOk, IsUtf8};
+
+use crate::writing::{write_opening, write_record};
+use file_spec::ScriptLine;
+use rtt_base::{Bytes, Full, NoMemory};
+use std::alloc::Global;
+use text_sender::{SendConf, Sender};
+
+/// A sender that is asked at each millisecond, and the recording of what it sent. Milliseconds at which nothing is due
+/// are passed over.
+#[derive(Drop)]
+pub struct Recorder {
+    pub sender: Sender,
+    pub octets: Bytes,
+    /// The millisecond of the next ask.
+    pub now: u64,
+}
+
+impl Recorder {
+    ghost use Rattle.text_sender.specs.declared.senders.SendConf.{SendConf};
+    ghost use Rattle.file_spec.specs.declared.script_lines.ScriptLine.{ScriptLine};
+    ghost use Rattle.text_sender.specs.Confs.{IsConf};
+    ghost use Rattle.text_sender.specs.Standing.{waits_for};
+    ghost use Rattle.rtt_send.specs.Scripts.{events_until};
+    ghost use Rattle.rtt_send.specs.Insides.{IsAt, IsAsked, Known};
+
+    /// A sender that was neither given a text nor asked.
+    pub fn new(alloc: Global, conf: SendConf) -> Result<Recorder, NoMemory>
+        requires { IsConf conf }
+        ensures at { IfOk result (λ r. IsAt conf [] r) }
+        ensures now { IfOk result (λ r. r.now ≡ 0) }
+    {
+        let sender = Sender::new(alloc, conf)?;
+        let mut octets = Bytes::new(alloc);
+        write_opening(&mut octets)?;
+        Ok(Recorder {
+            sender,
+            octets,
+            now: 0,
+        })
+    }
+
+    /// Types a line of this millisecond. `Full`: too much waits with it.
+    pub fn type_line(&mut self, line: &ScriptLine) -> Result<(), Full>
+        requires text { IsUtf8 line.now.text }
+        requires now { self.old.now ≡ line.now.at }
+        ensures room { (conf : SendConf) (lines : List ScriptLine) → IsAt conf lines self.old
+            → (IsOk result ↔ (length (waits_for conf (events_until lines self.old.now)) + length line.now.text ≤ 16384)) }
+        ensures ok { OnOk result ((conf : SendConf) (lines : List ScriptLine) → IsAt conf lines self.old → IsAt conf (lines ++ line.now ∷ []) self.new) }
+        ensures now { self.new.now ≡ self.old.now }
+    {
+        self.sender.typed(line.text.as_slice())
+    }
+
+    /// Asks at each millisecond before this one.
+    pub fn pass_to(&mut self, at: u64) -> Result<(), NoMemory>
+        requires known { Known self.old }
+        requires early { at < 2 ^ 31 }
+        ensures at { OnOk result ((conf : SendConf) (lines : List ScriptLine) → IsAt conf lines self.old → IsAt conf lines self.new) }
+        ensures now { OnOk result (self.old.now ≤ at → self.new.now ≡ at) }
+    {
+        while self.now < at {
+            self.ask()?;
+            self.skip_to(at);
+        }
+        Ok(())
+    }
+
+    /// Asks at this millisecond.
+    fn ask(&mut self) -> Result<(), NoMemory>
+        requires known { Known self.old }
+        requires early { self.old.now < 2 ^ 31 }
+        ensures asked { OnOk result ((conf : SendConf) (lines : List ScriptLine) → IsAt conf lines self.old → IsAsked conf lines self.new) }
+        ensures now { OnOk result (self.new.now ≡ self.old.now + 1) }
+    {
+        if let Some(packet) = self.sender.turn(self.now) {
+            write_record(self.now as u32, packet.as_slice(), &mut self.octets)?;
+        }
+        self.now += 1;
+        Ok(())
+    }
+
+    /// Passes over the milliseconds before `at` at which nothing is due.
+    fn skip_to(&mut self, at: u64)
+        requires room { self.old.now ≤ at }
+        requires early { at < 2 ^ 31 }
+        ensures at { (conf : SendConf) (lines : List ScriptLine) → IsAsked conf lines self.old → IsAt conf lines self.new }
+        ensures within { self.new.now ≤ at }
+        ensures later { (conf : SendConf) (lines : List ScriptLine) → IsAsked conf lines self.old → self.old.now ≤ self.new.now }
+    {
+        self.now = match self.sender.next_due() {
+            Some(due) => due.min(at),
+            None => at,
+        };
+    }
+}

@@ -1,0 +1,39 @@
+//! Sends a script.
+ghost use Rattle.std.specs.Prelude.{◌≡◌, ◌<◌, ◌^◌, ℕ, None, IfOk, IfErr};
+ghost use Rattle.text_sender.specs.Confs.{IsConf};
+ghost use Rattle.rtt_send.specs.Scripts.{AreLines, IsEnd, full_line};
+ghost use Rattle.rtt_send.specs.Recordings.{recording_sent};
+ghost use Rattle.rtt_send.specs.Answers.{IsCause};
+
+use crate::SendFault;
+use crate::recorders::Recorder;
+use conf_text::Script;
+use rtt_base::Bytes;
+use std::alloc::Global;
+use text_sender::SendConf;
+
+/// By this millisecond all text of a script was sent and repeated: its last line is typed in the first four hours, and
+/// each of the at most 16384 octets that wait then takes at most four packets, a second apart.
+const LAST: u64 = 80_000_000;
+
+/// The recording of what a sender sends that is given the texts of a script and asked at each millisecond, up to the
+/// end, where nothing waits and nothing is to be repeated. It takes time in the lines and packets, not in the
+/// milliseconds.
+pub fn send_script(alloc: Global, script: &Script, conf: SendConf) -> Result<Bytes, SendFault>
+    requires conf { IsConf conf }
+    requires lines { AreLines script.now }
+    ensures sent { IfOk result (λ octets. (t : ℕ) → IsEnd conf script.now t → octets ≡ recording_sent conf script.now t) }
+    ensures ends { IfOk result (λ octets. (t : ℕ) × IsEnd conf script.now t × (t < 2 ^ 31)) }
+    ensures room { IfOk result (λ octets. full_line conf script.now ≡ None) }
+    ensures cause { IfErr result (λ fault. IsCause fault (full_line conf script.now)) }
+{
+    let mut recorder = Recorder::new(alloc, conf)?;
+    for line in script.as_slice() {
+        recorder.pass_to(u64::from(line.at))?;
+        if recorder.type_line(line).is_err() {
+            return Err(SendFault::Full { line: line.line });
+        }
+    }
+    recorder.pass_to(LAST)?;
+    Ok(recorder.octets)
+}
