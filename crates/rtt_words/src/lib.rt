@@ -6,3 +6,6 @@ mod words;
 
 pub use commands::{Command, ListWords, ReadWords, SendWords};
 pub use words::{WordFault, command_of};
+
+#[cfg(test)]
+mod tests;

@@ -65,40 +65,23 @@ fn read_from<'a>(
     })
 }
 
-/// The words of a `read` behind its source.
-fn read_types<'a>(
-    file: &'a str,
-    ssrc: &str,
-    source: &str,
-    types: &[String],
-) -> Option<ReadWords<'a>>
-    ensures { option_map (λ r. Read (asked r)) result ≡ read_words (file.now ∷ ssrc.now ∷ source.now ∷ map string_bytes types.now) }
-{
-    match types {
-        [] => read_from(file, ssrc, source, Some(USUAL)),
-        [t140, red] => {
-            let types = payload_types_of(t140.as_str(), red.as_str());
-            read_from(file, ssrc, source, types)
-        }
-        _ => None,
-    }
-}
-
-/// The words of a `read` behind its SSRC.
-fn read_more<'a>(file: &'a str, ssrc: &str, more: &[String]) -> Option<ReadWords<'a>>
-    ensures { option_map (λ r. Read (asked r)) result ≡ read_words (file.now ∷ ssrc.now ∷ map string_bytes more.now) }
-{
-    match more {
-        [] => read_from(file, ssrc, ssrc, Some(USUAL)),
-        [source, types @ ..] => read_types(file, ssrc, source.as_str(), types),
-    }
-}
-
 fn read_command(words: &[String]) -> Option<ReadWords<'_>>
     ensures { option_map (λ r. Read (asked r)) result ≡ read_words (map string_bytes words.now) }
 {
     match words {
-        [file, ssrc, more @ ..] => read_more(file.as_str(), ssrc.as_str(), more),
+        [file, ssrc] => read_from(file.as_str(), ssrc.as_str(), ssrc.as_str(), Some(USUAL)),
+        [file, ssrc, source] => read_from(
+            file.as_str(),
+            ssrc.as_str(),
+            source.as_str(),
+            Some(USUAL),
+        ),
+        [file, ssrc, source, t140, red] => read_from(
+            file.as_str(),
+            ssrc.as_str(),
+            source.as_str(),
+            payload_types_of(t140.as_str(), red.as_str()),
+        ),
         _ => None,
     }
 }

@@ -1,0 +1,123 @@
+use crate::{Command, ListWords, ReadWords, SendWords, WordFault, command_of};
+use rtt_base::Pts;
+use std::alloc::Global;
+use std::test::Fail;
+
+const NAMED: Pts = Pts { t140: 96, red: 127 };
+
+const USUAL: Pts = Pts { t140: 98, red: 100 };
+
+// The words, separated by spaces.
+fn split(alloc: Global, text: &str) -> Result<Vec<String>, Fail> {
+    let mut words = Vec::new(alloc);
+    for word in text.split(' ') {
+        words.push(String::from_str(alloc, word)?)?;
+    }
+    Ok(words)
+}
+
+fn asks(alloc: Global, text: &str, wanted: Command<'_>) -> Result<bool, Fail> {
+    let words = split(alloc, text)?;
+    let asked = match command_of(alloc, words.as_slice()) {
+        Ok(command) => command == wanted,
+        Err(_) => false,
+    };
+    Ok(asked)
+}
+
+fn is_wrong(alloc: Global, text: &str) -> Result<bool, Fail> {
+    let words = split(alloc, text)?;
+    let wrong = match command_of(alloc, words.as_slice()) {
+        Ok(_) => false,
+        Err(fault) => fault == WordFault::Wrong,
+    };
+    Ok(wrong)
+}
+
+fn read(source: u32, pts: Pts) -> Command<'static> {
+    Command::Read(ReadWords {
+        file: "a.rtp",
+        ssrc: 1001,
+        source,
+        pts,
+    })
+}
+
+#[test]
+fn a_read_without_a_source_hears_the_ssrc(rt: HostRuntime) -> Result<(), Fail> {
+    assert!(rt; asks(rt.alloc(), "read a.rtp 1001", read(1001, USUAL))?);
+    Ok(())
+}
+
+#[test]
+fn a_read_names_source_and_payload_types(rt: HostRuntime) -> Result<(), Fail> {
+    assert!(rt; asks(rt.alloc(), "read a.rtp 1001 7", read(7, USUAL))?);
+    assert!(rt; asks(rt.alloc(), "read a.rtp 1001 7 96 127", read(7, NAMED))?);
+    Ok(())
+}
+
+#[test]
+fn a_list_may_name_payload_types(rt: HostRuntime) -> Result<(), Fail> {
+    let list = |pts: Pts| Command::ListRecords(ListWords { file: "a.rtp", pts });
+    assert!(rt; asks(rt.alloc(), "list a.rtp", list(USUAL))?);
+    assert!(rt; asks(rt.alloc(), "list a.rtp 98 100", list(USUAL))?);
+    assert!(rt; asks(rt.alloc(), "list a.rtp 96 127", list(NAMED))?);
+    Ok(())
+}
+
+#[test]
+fn a_send_takes_the_greatest_numbers(rt: HostRuntime) -> Result<(), Fail> {
+    let send = Command::Send(SendWords {
+        script: "s.txt",
+        out: "a.rtp",
+        ssrc: 1001,
+        seq: 65_535,
+        stamp: 4_294_967_295,
+    });
+    assert!(rt; asks(rt.alloc(), "send s.txt a.rtp 1001 65535 4294967295", send)?);
+    Ok(())
+}
+
+#[test]
+fn no_words_ask_for_nothing(rt: HostRuntime) -> Result<(), Fail> {
+    let words: [String; 0] = [];
+    let asked = command_of(rt.alloc(), words.as_slice());
+    assert!(rt; asked == Err(WordFault::Wrong));
+    Ok(())
+}
+
+#[test]
+fn other_commands_are_wrong(rt: HostRuntime) -> Result<(), Fail> {
+    assert!(rt; is_wrong(rt.alloc(), "mix c")?);
+    assert!(rt; is_wrong(rt.alloc(), "help")?);
+    assert!(rt; is_wrong(rt.alloc(), "--help")?);
+    Ok(())
+}
+
+#[test]
+fn too_few_and_too_many_words_are_wrong(rt: HostRuntime) -> Result<(), Fail> {
+    assert!(rt; is_wrong(rt.alloc(), "read")?);
+    assert!(rt; is_wrong(rt.alloc(), "read a.rtp")?);
+    assert!(rt; is_wrong(rt.alloc(), "read a.rtp 1001 7 98")?);
+    assert!(rt; is_wrong(rt.alloc(), "read a.rtp 1001 7 96 127 1")?);
+    assert!(rt; is_wrong(rt.alloc(), "list a.rtp 98")?);
+    Ok(())
+}
+
+#[test]
+fn no_word_is_empty_or_begins_with_a_hyphen(rt: HostRuntime) -> Result<(), Fail> {
+    assert!(rt; is_wrong(rt.alloc(), "read  1")?);
+    assert!(rt; is_wrong(rt.alloc(), "read -a 1")?);
+    assert!(rt; is_wrong(rt.alloc(), "read a.rtp -1")?);
+    assert!(rt; is_wrong(rt.alloc(), "read --help 1")?);
+    Ok(())
+}
+
+#[test]
+fn numbers_outside_their_range_are_wrong(rt: HostRuntime) -> Result<(), Fail> {
+    assert!(rt; is_wrong(rt.alloc(), "read a.rtp 12345678901")?);
+    assert!(rt; is_wrong(rt.alloc(), "list a.rtp 95 100")?);
+    assert!(rt; is_wrong(rt.alloc(), "list a.rtp 98 98")?);
+    assert!(rt; is_wrong(rt.alloc(), "send s o 1 65536 0")?);
+    Ok(())
+}
