@@ -1,16 +1,15 @@
 -- What an ask changes.
-use Rattle.std.proofs.Common.{◌≡◌, ℕ, zero, suc, ◌+◌, ◌<◌, ◌≤◌, ◌^◌, ◌%◌, Bool, true, false, cond, inl, inr, Option, None, Some, List, [], ◌∷◌, ◌++◌, append_assoc, length, drop, length-drop, refl, ap, subst, sym, ◌∙◌, arith}
-use Rattle.std.specs.Prelude.{◌&&◌, nat_le, All, IsUtf8}
+use Rattle.std.proofs.Common.{◌≡◌, ℕ, zero, suc, ◌+◌, ◌<◌, ◌≤◌, ◌%◌, Bool, true, false, cond, inl, inr, Option, None, Some, List, [], ◌∷◌, ◌++◌, append_assoc, length, length-drop, refl, ap, subst, sym, ◌∙◌, arith}
+use Rattle.std.specs.Prelude.{◌&&◌, nat_le, All}
 use Rattle.std.specs.List.{flat_map}
 use Rattle.std.specs.Option.{option_map}
 use Rattle.std.proofs.lemmas.Bool.{cases_lt}
 use Rattle.std.proofs.lemmas.Bool.Decides.{nat_tests}
 use Rattle.std.proofs.lemmas.Grind.{flat_map-append}
-use Rattle.wire_spec.specs.Packets.{Packet}
 use Rattle.wire_spec.specs.Dump.{dump_opening, dump_written, record_written}
 use Rattle.file_spec.specs.declared.script_lines.ScriptLine.{ScriptLine}
 use Rattle.stream_spec.specs.Own.{packet_after}
-use Rattle.stream_spec.specs.Typed.{Event, Text, Ask, Turned, sents, front, is_due, due_at, packet_at, entry_at, last_ask, IsScript, has_passed}
+use Rattle.stream_spec.specs.Typed.{Event, Ask, Turned, sents, front, is_due, due_at, packet_at, entry_at, IsScript, has_passed}
 use Rattle.stream_spec.proofs.Typing.{entries_more, entries_same, waits_same, waits_less}
 use Rattle.red_window.specs.Standing as window
 use Rattle.text_sender.specs.declared.senders.SendConf.{SendConf}
@@ -22,7 +21,7 @@ use Rattle.text_sender.proofs.Scripts.{due_from, none_due}
 use Rattle.rtt_send.specs.Scripts.{events_before, events_until, events_through}
 use Rattle.rtt_send.specs.Recordings.{records_of}
 use Rattle.rtt_send.specs.Insides.{Records}
-use Rattle.rtt_send.proofs.Events.{before_suc, until_later, script_on}
+use Rattle.rtt_send.proofs.Events.{before_suc, until_later}
 
 -- the same was sent, and the same waits
 pub record Same (conf : SendConf) (new old : List Event) : Type 0 where
@@ -50,11 +49,11 @@ pub idle_on : (conf : SendConf) (lines : List ScriptLine) (last k : ℕ) → All
 idle_on conf lines last zero a l quiet = absurd (omega arith)
 idle_on conf lines last (suc k) a l quiet = same_on conf (events_before lines (suc k)) (events_through lines k) (events_through lines last) (same_refl conf (events_before lines (suc k)) (events_through lines k) (before_suc lines k)) (elim (cases_lt last k) [
   | inl lt ↦ (
-    let r = idle_on conf lines last k a lt (λ t lo hi. quiet t lo (omega arith)) in
-    let same : Same conf (events_until lines k) (events_through lines last) = same_on conf (events_until lines k) (events_before lines k) (events_through lines last) (same_refl conf (events_until lines k) (events_before lines k) (until_later lines last k a lt)) r in
-    let d = same_due conf (events_until lines k) (events_through lines last) k same ∙ quiet k lt (omega arith) in
-    same_on conf (events_through lines k) (events_until lines k) (events_through lines last) (idle conf (events_until lines k) k d) same
-  )
+      let r = idle_on conf lines last k a lt (λ t lo hi. quiet t lo (omega arith)) in
+      let same : Same conf (events_until lines k) (events_through lines last) = same_on conf (events_until lines k) (events_before lines k) (events_through lines last) (same_refl conf (events_until lines k) (events_before lines k) (until_later lines last k a lt)) r in
+      let d = same_due conf (events_until lines k) (events_through lines last) k same ∙ quiet k lt (omega arith) in
+      same_on conf (events_through lines k) (events_until lines k) (events_through lines last) (idle conf (events_until lines k) k d) same
+      )
   | inr ge ↦ (let q : k ≡ last = omega arith in same_refl conf (events_through lines k) (events_through lines last) (ap (events_through lines) q))
 ])
 
@@ -166,11 +165,11 @@ asked_more conf s new octets written packet past t r e stands w =
       conf_is = r.conf_is;
       sender = stands;
       recorded =
-        w
-        ∙ (ap (λ (xs : List ℕ). xs ++ record_written (t, packet)) r.recorded
-        ∙ (ap (λ (p : List ℕ). dump_written (records_of conf (sent_by conf past)) ++ record_written (t, p)) d.1
-        ∙ (one_more (records_of conf (sent_by conf past)) (t, packet_of conf past t)
-        ∙ ap (λ (es : List Turned). dump_written (records_of conf es)) (sym more))));
+          w
+          ∙ (ap (λ (xs : List ℕ). xs ++ record_written (t, packet)) r.recorded
+          ∙ (ap (λ (p : List ℕ). dump_written (records_of conf (sent_by conf past)) ++ record_written (t, p)) d.1
+          ∙ (one_more (records_of conf (sent_by conf past)) (t, packet_of conf past t)
+          ∙ ap (λ (es : List Turned). dump_written (records_of conf es)) (sym more))));
       room = let n = ap (λ (w : List ℕ). length w) (waits_less (stream_of conf) conf.interval past t d.0) in omega (arith, r.room, length-drop (length (front 1023 (waits_for conf past))) (waits_for conf past));
     }
 

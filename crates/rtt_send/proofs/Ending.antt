@@ -1,5 +1,5 @@
 -- How long a sender that is given no more text goes on.
-use Rattle.std.proofs.Common.{◌≡◌, ℕ, zero, suc, ◌+◌, ◌-◌, ◌*◌, ◌<◌, ◌≤◌, ◌^◌, Bool, true, false, cond, ◌⊎◌, inl, inr, List, [], ◌∷◌, ◌++◌, length, take, drop, length-drop, refl, ap, subst, sym, ◌∙◌, arith}
+use Rattle.std.proofs.Common.{◌≡◌, ℕ, zero, suc, ◌+◌, ◌-◌, ◌*◌, ◌<◌, ◌≤◌, ◌^◌, Bool, true, false, cond, ◌⊎◌, inl, inr, List, [], ◌∷◌, length, take, drop, length-drop, refl, ap, subst, sym, ◌∙◌, arith}
 use Rattle.std.specs.Prelude.{◌&&◌, ◌||◌, nat_le, min, All, IsUtf8}
 use Rattle.std.proofs.lemmas.Bool.{cases_lt}
 use Rattle.std.proofs.lemmas.Bool.Decides.{nat_tests}
@@ -7,14 +7,14 @@ use Rattle.wire_spec.specs.Packets.{has_text}
 use Rattle.file_spec.specs.declared.script_lines.ScriptLine.{ScriptLine}
 use Rattle.stream_spec.specs.Own.{Sent, has_text_in}
 use Rattle.stream_spec.specs.Lists.{In}
-use Rattle.stream_spec.specs.Typed.{Event, Text, Ask, Turned, sents, front, last_end, due_at, entry_at, has_passed, last_ask, IsScript}
+use Rattle.stream_spec.specs.Typed.{Event, Ask, Turned, sents, front, last_end, due_at, entry_at, has_passed, IsScript}
 use Rattle.stream_spec.proofs.Typing.{entries_more, waits_less, waits_utf8, paced}
 use Rattle.text_sender.specs.declared.senders.SendConf.{SendConf}
 use Rattle.text_sender.specs.Confs.{IsConf, stream_of}
 use Rattle.text_sender.specs.Standing.{sent_by, waits_for, has_more}
 use Rattle.rtt_send.specs.Scripts.{events_before, events_until, events_through}
 use Rattle.rtt_send.proofs.Events.{before_suc, until_later, script_on, asked_until}
-use Rattle.rtt_send.proofs.Asking.{Same, idle, no_more}
+use Rattle.rtt_send.proofs.Asking.{idle, no_more}
 use Rattle.rtt_send.proofs.Fronts.{some_front}
 
 -- ---- the packets that are left, at most
@@ -53,7 +53,6 @@ empty (x ∷ w) e = absurd (omega arith)
 no_octets : (w : List ℕ) → has_text w ≡ false → length w ≡ 0
 no_octets [] h = refl
 no_octets (x ∷ w) h = cc h
-
 
 front_short : (w : List ℕ) → length (front 1023 w) ≤ length w
 front_short w = go (last_end w (min 1023 (length w))) w
@@ -117,8 +116,8 @@ ask_falls conf past t k u = go (due_at (stream_of conf) conf.interval past t) re
         let e = entry_at c es w t in
         let falls = weight_falls es e w u refl (and_first (has_more conf past) (has_passed conf.interval es t) d) in
         let is : potential conf (Ask t ∷ past) (suc t) ≡ 1000 * weight (e ∷ es) (drop (length (front 1023 w)) w) + ((t + conf.interval) - suc t) =
-          ap (λ (fs : List Turned). 1000 * weight fs (waits_for conf (Ask t ∷ past)) + remaining conf.interval fs (suc t)) (entries_more c conf.interval past t d)
-          ∙ ap (λ (v : List ℕ). 1000 * weight (e ∷ es) v + ((t + conf.interval) - suc t)) (waits_less c conf.interval past t d) in
+        ap (λ (fs : List Turned). 1000 * weight fs (waits_for conf (Ask t ∷ past)) + remaining conf.interval fs (suc t)) (entries_more c conf.interval past t d)
+        ∙ ap (λ (v : List ℕ). 1000 * weight (e ∷ es) v + ((t + conf.interval) - suc t)) (waits_less c conf.interval past t d) in
         let l = k.least in
         let m = k.most in
         below (potential conf (Ask t ∷ past) (suc t)) (weight (e ∷ es) (drop (length (front 1023 w)) w)) (weight es w) (remaining conf.interval es t) t conf.interval is falls l m
@@ -127,19 +126,19 @@ ask_falls conf past t k u = go (due_at (stream_of conf) conf.interval past t) re
         below p new old rest s i q f l m = omega arith
 
     rests : due_at (stream_of conf) conf.interval past t ≡ false → (b : Bool) → has_more conf past ≡ b
-      → (has_more conf (Ask t ∷ past) ≡ false) ⊎ (potential conf (Ask t ∷ past) (suc t) + 1 ≤ potential conf past t)
+        → (has_more conf (Ask t ∷ past) ≡ false) ⊎ (potential conf (Ask t ∷ past) (suc t) + 1 ≤ potential conf past t)
     rests d b h =
         let same = idle conf past t d in
         let more : has_more conf (Ask t ∷ past) ≡ has_more conf past =
-          ap (λ (w : List ℕ). has_text w || has_text_in 2 (sents (sent_by conf (Ask t ∷ past)))) same.waits
-          ∙ ap (λ (es : List Turned). has_text (waits_for conf past) || has_text_in 2 (sents es)) same.sent in
+        ap (λ (w : List ℕ). has_text w || has_text_in 2 (sents (sent_by conf (Ask t ∷ past)))) same.waits
+        ∙ ap (λ (es : List Turned). has_text (waits_for conf past) || has_text_in 2 (sents es)) same.sent in
         let is : potential conf (Ask t ∷ past) (suc t) ≡ potential conf past (suc t) =
-          ap (λ (w : List ℕ). 1000 * weight (sent_by conf (Ask t ∷ past)) w + remaining conf.interval (sent_by conf (Ask t ∷ past)) (suc t)) same.waits
-          ∙ ap (λ (es : List Turned). 1000 * weight es (waits_for conf past) + remaining conf.interval es (suc t)) same.sent in
+        ap (λ (w : List ℕ). 1000 * weight (sent_by conf (Ask t ∷ past)) w + remaining conf.interval (sent_by conf (Ask t ∷ past)) (suc t)) same.waits
+        ∙ ap (λ (es : List Turned). 1000 * weight es (waits_for conf past) + remaining conf.interval es (suc t)) same.sent in
         case b h more is
       where
         case : (b : Bool) → has_more conf past ≡ b → has_more conf (Ask t ∷ past) ≡ has_more conf past → potential conf (Ask t ∷ past) (suc t) ≡ potential conf past (suc t)
-          → (has_more conf (Ask t ∷ past) ≡ false) ⊎ (potential conf (Ask t ∷ past) (suc t) + 1 ≤ potential conf past t)
+            → (has_more conf (Ask t ∷ past) ≡ false) ⊎ (potential conf (Ask t ∷ past) (suc t) + 1 ≤ potential conf past t)
         case false q more is = inl (more ∙ q)
         case true q more is =
             let late = waits_on conf.interval (sent_by conf past) t (and_more (has_more conf past) (has_passed conf.interval (sent_by conf past) t) q d) in
@@ -159,17 +158,17 @@ left_at conf lines now zero c s a l m = absurd (omega arith)
 left_at conf lines now (suc k) c s a l m =
     subst (λ (past : List Event). (has_more conf past ≡ false) ⊎ (potential conf past (suc k) + suc k ≤ potential conf (events_until lines now) now + now)) (sym (before_suc lines k)) (elim (cases_lt now k) [
       | inl lt ↦ (
-        let on = script_on lines now k a lt (omega arith) s in
-        let same = until_later lines now k a lt in
-        subst (λ (past : List Event). (has_more conf (Ask k ∷ past) ≡ false) ⊎ (potential conf (Ask k ∷ past) (suc k) + suc k ≤ potential conf (events_until lines now) now + now)) (sym same)
-        (next (events_before lines k) on (left_at conf lines now k c s a lt (omega arith))))
+          let on = script_on lines now k a lt (omega arith) s in
+          let same = until_later lines now k a lt in
+          subst (λ (past : List Event). (has_more conf (Ask k ∷ past) ≡ false) ⊎ (potential conf (Ask k ∷ past) (suc k) + suc k ≤ potential conf (events_until lines now) now + now)) (sym same)
+          (next (events_before lines k) on (left_at conf lines now k c s a lt (omega arith))))
       | inr ge ↦ (
-        let q : now ≡ k = omega arith in
-        let script : IsScript (events_until lines k) = subst (λ n. IsScript (events_until lines n)) q s in
-        elim (ask_falls conf (events_until lines k) k c (waits_utf8 (stream_of conf) conf.interval (events_until lines k) script)) [
-          | inl none ↦ inl none
-          | inr falls ↦ inr (first (potential conf (events_through lines k) (suc k)) (potential conf (events_until lines k) k) (potential conf (events_until lines now) now) k now (ap (λ n. potential conf (events_until lines n) n) (sym q)) q falls)
-        ])
+          let q : now ≡ k = omega arith in
+          let script : IsScript (events_until lines k) = subst (λ n. IsScript (events_until lines n)) q s in
+          elim (ask_falls conf (events_until lines k) k c (waits_utf8 (stream_of conf) conf.interval (events_until lines k) script)) [
+            | inl none ↦ inl none
+            | inr falls ↦ inr (first (potential conf (events_through lines k) (suc k)) (potential conf (events_until lines k) k) (potential conf (events_until lines now) now) k now (ap (λ n. potential conf (events_until lines n) n) (sym q)) q falls)
+          ])
     ])
   where
     first : (p q r n m : ℕ) → q ≡ r → m ≡ n → p + 1 ≤ q → p + suc n ≤ r + m
@@ -179,7 +178,7 @@ left_at conf lines now (suc k) c s a l m =
     later p q r n m a b = omega arith
 
     next : (past : List Event) → IsScript past → (has_more conf past ≡ false) ⊎ (potential conf past k + k ≤ potential conf (events_until lines now) now + now)
-      → (has_more conf (Ask k ∷ past) ≡ false) ⊎ (potential conf (Ask k ∷ past) (suc k) + suc k ≤ potential conf (events_until lines now) now + now)
+        → (has_more conf (Ask k ∷ past) ≡ false) ⊎ (potential conf (Ask k ∷ past) (suc k) + suc k ≤ potential conf (events_until lines now) now + now)
     next past script (inl none) = inl (still past none)
       where
         still : (past : List Event) → has_more conf past ≡ false → has_more conf (Ask k ∷ past) ≡ false
@@ -203,11 +202,11 @@ ends_by conf lines now n c s a room early late top =
     subst (λ (past : List Event). has_more conf past ≡ false) (before_suc lines n) (elim (left_at conf lines now (suc n) c s a (omega arith) (omega arith)) [
       | inl none ↦ none
       | inr p ↦ (
-        let past = events_until lines now in
-        let pace = paced (stream_of conf) conf.interval past refl (let l = c.least in omega arith) s in
-        let asked = asked_until lines now in
-        let rest = recent conf past now (sent_by conf past) refl (λ e i. let r = pace.early e i in (r.0, omega (arith, r.1))) in
-        absurd (too_long (potential conf (events_before lines (suc n)) (suc n)) (potential conf past now) (length (waits_for conf past)) (rank (sents (sent_by conf past))) (remaining conf.interval (sent_by conf past) now) conf.interval n now refl (rank_le (sents (sent_by conf past))) rest c.most room early late p))
+          let past = events_until lines now in
+          let pace = paced (stream_of conf) conf.interval past refl (let l = c.least in omega arith) s in
+          let asked = asked_until lines now in
+          let rest = recent conf past now (sent_by conf past) refl (λ e i. let r = pace.early e i in (r.0, omega (arith, r.1))) in
+          absurd (too_long (potential conf (events_before lines (suc n)) (suc n)) (potential conf past now) (length (waits_for conf past)) (rank (sents (sent_by conf past))) (remaining conf.interval (sent_by conf past) now) conf.interval n now refl (rank_le (sents (sent_by conf past))) rest c.most room early late p))
     ])
   where
     too_long : (p q w r m i n now : ℕ) → q ≡ 1000 * (4 * w + r) + m → r ≤ 2 → m ≤ i → i ≤ 1000 → w ≤ 16384 → now ≤ 14400000 → 79999999 ≤ n → p + suc n ≤ q + now → ⊥

@@ -4,3 +4,6 @@ pub mod Steps
 pub mod Fronts
 pub mod Ending
 pub mod Lines
+pub mod Accepted
+pub mod Typed
+pub mod ReadBack

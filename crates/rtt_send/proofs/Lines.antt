@@ -1,23 +1,21 @@
 -- A script, line after line, and its ends.
-use Rattle.std.proofs.Common.{◌≡◌, ℕ, zero, suc, ◌+◌, ◌<◌, ◌≤◌, ◌^◌, true, false, inl, inr, Some, None, List, [], ◌∷◌, ◌++◌, append_assoc, length, get_or, take, drop, cond, refl, ap, subst, sym, ◌∙◌, arith}
+use Rattle.std.proofs.Common.{◌≡◌, ℕ, suc, ◌+◌, ◌<◌, ◌≤◌, ◌^◌, true, false, inl, inr, Some, None, List, [], ◌∷◌, ◌++◌, append_assoc, length, get_or, take, drop, cond, refl, ap, subst, sym, ◌∙◌, arith}
 use Rattle.std.specs.Prelude.{All, nat_lt, IsUtf8}
-use Rattle.std.proofs.lemmas.List.Elements.{All-nil, All-head, All-tail, All-weaker}
+use Rattle.std.proofs.lemmas.List.Elements.{All-head, All-tail, All-weaker}
 use Rattle.std.proofs.lemmas.List.{at_drop_more, take_more, drop_all}
 use Rattle.std.proofs.lemmas.Bool.{cases_lt}
 use Rattle.std.proofs.lemmas.Bool.Decides.{nat_tests}
 use Rattle.wire_spec.specs.Dump.{dump_written}
 use Rattle.file_spec.specs.declared.script_lines.ScriptLine.{ScriptLine}
-use Rattle.stream_spec.specs.Typed.{Event, Ask, Turned}
+use Rattle.stream_spec.specs.Typed.{Event, Turned}
 use Rattle.text_sender.specs.declared.senders.SendConf.{SendConf}
-use Rattle.text_sender.specs.Confs.{IsConf}
-use Rattle.text_sender.specs.States.{State}
-use Rattle.text_sender.specs.Standing.{sent_by, waits_for, has_more}
-use Rattle.rtt_send.specs.Scripts.{InOrder, AreLines, events_before, events_until, events_through, IsEnd, full_below, full_line}
+use Rattle.text_sender.specs.Standing.{sent_by, waits_for}
+use Rattle.rtt_send.specs.Scripts.{AreLines, events_until, events_through, IsEnd, full_below, full_line}
 use Rattle.rtt_send.specs.Recordings.{records_of, recording_sent}
 use Rattle.rtt_send.specs.Insides.{Records, IsAt}
 use Rattle.rtt_send.specs.declared.recorders.Recorder.{Recorder}
 use Rattle.rtt_send.proofs.Events.{before_suc, until_later}
-use Rattle.rtt_send.proofs.Asking.{Same, idle_on, no_more, same_on, same_refl}
+use Rattle.rtt_send.proofs.Asking.{idle_on, no_more}
 use Rattle.rtt_send.proofs.Ending.{ends_by}
 
 -- ---- two ends

@@ -1,11 +1,11 @@
 -- The steps of a recorder.
-use Rattle.std.proofs.Common.{◌≡◌, ℕ, zero, suc, ◌+◌, ◌<◌, ◌≤◌, ◌^◌, true, false, inl, inr, Option, None, Some, Result, Ok, Err, List, [], ◌∷◌, ◌++◌, length, length-append, refl, ap, subst, sym, ◌∙◌, rules, arith}
+use Rattle.std.proofs.Common.{◌≡◌, ℕ, suc, ◌+◌, ◌<◌, ◌≤◌, ◌^◌, true, false, inl, inr, None, Some, Result, Ok, Err, List, [], ◌∷◌, ◌++◌, length, length-append, refl, ap, subst, sym, ◌∙◌, rules, arith}
 use Rattle.std.specs.Prelude.{All, IsOk, OnOk, min, ◌↔◌, is_err}
 use Rattle.std.proofs.lemmas.Bool.{cases_lt}
 use Rattle.std.proofs.lemmas.List.Elements.{All-push, All-weaker}
 use Rattle.wire_spec.specs.Dump.{dump_opening}
 use Rattle.file_spec.specs.declared.script_lines.ScriptLine.{ScriptLine}
-use Rattle.stream_spec.specs.Typed.{Event, Text, Ask, due_at, IsScript}
+use Rattle.stream_spec.specs.Typed.{Text, due_at}
 use Rattle.stream_spec.proofs.Typing.{waits_more}
 use Rattle.text_sender.specs.declared.senders.SendConf.{SendConf}
 use Rattle.text_sender.specs.Confs.{IsConf, stream_of}
@@ -13,8 +13,8 @@ use Rattle.text_sender.specs.States.{State}
 use Rattle.text_sender.specs.Standing.{StandsFor, waits_for, next_due_of}
 use Rattle.rtt_send.specs.Scripts.{events_before, events_until, events_through}
 use Rattle.rtt_send.specs.Insides.{Records}
-use Rattle.rtt_send.proofs.Events.{none_before, before_suc, until_one, until_later, script_on}
-use Rattle.rtt_send.proofs.Asking.{idle_on, same_on, same_refl, before_next, no_next, next_later, records_also}
+use Rattle.rtt_send.proofs.Events.{none_before, until_one, until_later, script_on}
+use Rattle.rtt_send.proofs.Asking.{idle_on, before_next, no_next, next_later, records_also}
 
 pub on_ok_with : {T E P Q : Type 0} (r : Result T E) → (IsOk r → P → Q) → OnOk r P → OnOk r Q
 on_ok_with (Ok x) f p = f (search rules) p

@@ -1,9 +1,9 @@
 -- The recording of what a script sends (profile).
-use Rattle.std.specs.Prelude.{◌≡◌, ℕ, List, [], ◌∷◌, ◌++◌}
+use Rattle.std.specs.Prelude.{ℕ, List, [], ◌∷◌, ◌++◌}
 use Rattle.wire_spec.specs.Dump.{dump_written}
 use Rattle.file_spec.specs.declared.script_lines.ScriptLine.{ScriptLine}
 use Rattle.stream_spec.specs.Own.{packet_after}
-use Rattle.stream_spec.specs.Typed.{Event, Turned, sents}
+use Rattle.stream_spec.specs.Typed.{Turned, sents}
 use Rattle.text_sender.specs.declared.senders.SendConf.{SendConf}
 use Rattle.text_sender.specs.Confs.{stream_of}
 use Rattle.text_sender.specs.Standing.{sent_by}

@@ -1,6 +1,7 @@
 -- What a script asks of a sender (profile): at each millisecond the texts of its lines, in the file's order, and then
 -- an ask. Lists of events are newest first.
 use Rattle.std.specs.Prelude.{◌≡◌, ℕ, zero, suc, ◌+◌, ◌≤◌, ◌==◌, false, nat_lt, Option, None, Some, List, [], ◌∷◌, ◌++◌, length, All, IsUtf8, if◌then◌else◌}
+use Rattle.std.specs.List.{flat_map}
 use Rattle.file_spec.specs.declared.script_lines.ScriptLine.{ScriptLine}
 use Rattle.stream_spec.specs.Typed.{Event, Text, Ask}
 use Rattle.text_sender.specs.declared.senders.SendConf.{SendConf}
@@ -16,6 +17,10 @@ pub record AreLines (lines : List ScriptLine) : Type 0 where
   pub ordered : InOrder lines
   pub early : All (λ l. l.at ≤ 14400000) lines
   pub texts : All (λ l. IsUtf8 l.text) lines
+
+-- the texts of the lines, one behind the other
+abbrev pub texts : List ScriptLine → List ℕ
+texts lines = flat_map (λ l. l.text) lines
 
 -- the texts of the lines of millisecond t, typed after these events
 abbrev pub typed_at : ℕ → List ScriptLine → List Event → List Event

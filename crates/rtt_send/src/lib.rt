@@ -2,9 +2,13 @@
 #![tactic(auto)]
 
 mod faults;
+mod laws;
 mod recorders;
 mod sending;
-mod writing;
 
 pub use faults::SendFault;
+pub use laws::{accepted_scripts_are_lines, ends_agree, sent_history, sent_is_read_back};
 pub use sending::send_script;
+
+#[cfg(test)]
+mod tests;

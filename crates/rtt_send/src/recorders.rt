@@ -1,8 +1,8 @@
 //! A sender whose packets are recorded.
 ghost use Rattle.std.specs.Prelude.{◌≡◌, ◌+◌, ◌<◌, ◌≤◌, ◌↔◌, ◌^◌, ◌∷◌, ◌++◌, [], List, length, IfOk, IsOk, OnOk, IsUtf8};
 
-use crate::writing::{write_opening, write_record};
 use file_spec::ScriptLine;
+use rtpdump_io::{write_opening, write_record};
 use rtt_base::{Bytes, Full, NoMemory};
 use std::alloc::Global;
 use text_sender::{SendConf, Sender};

@@ -6,10 +6,11 @@ use Rattle.file_spec.specs.Lines.{Refusal}
 use Rattle.file_spec.specs.Words.{Command, Read, ListRecords, Send}
 use Rattle.rtt_top.specs.declared.faults.Fault.{Fault}
 use Rattle.rtt_top.specs.declared.faults.Fault.TheVariants.{WrongWords, CannotOpen, CannotRead, BadScript, BadRecording, CannotPrint, CannotWrite, NoMemory}
-use Rattle.rtt_top.specs.Tasks.{Refused, AtByte, AtLine, input_of, IsOutput, IsLineRefusal, IsByteRefusal}
+use Rattle.rtt_top.specs.Tasks.{Refused, AtByte, AtLine, input_of, refusal_of, IsOutput, IsLineRefusal, IsByteRefusal}
 use Rattle.rtt_top.specs.Messages.{status_of, refusal_status, message_of, refusal_message, opening_message, reading_message, saving_message, writing_message, line_message, place_message}
 use Rattle.rtt_top.specs.Faults.{IsAbout, IsCaused, IsTrueOf, IsPrinting, ended}
-use Rattle.rtt_top.specs.Runs.{IsCalm, CannotBeWritten}
+use Rattle.rtt_top.specs.Runs.{ForInput, IsCalm, CannotBeWritten}
+use Rattle.rtt_top.proofs.Asking.{for_command}
 
 -- ---- what is calm
 calm_own : (c : Command) (Own Objects : List ℕ → Type 0) (Out : Type 0) → IsCalm c Own Objects Out → Own (input_of c) → ⊥
@@ -264,3 +265,10 @@ done (Err fault) p s = absurd (never_zero fault s)
 pub undone : {P : Type 0} (res : Result (Unit {0}) Fault) → IfErr res (λ fault. P) → ended res ≡ 7 → P
 undone (Ok u) p s = absurd (omega arith)
 undone (Err fault) p s = p
+
+pub told_of : (asked : Option Command) (c : Command) (contents : List ℕ → Option (List ℕ)) (res : Result (Unit {0}) Fault) → asked ≡ Some c
+    → IfErr res (λ fault. (status_of fault ≡ 5) ⊎ (status_of fault ≡ 6) → (octets : List ℕ) → contents (input_of c) ≡ Some octets → IfSome (refusal_of c octets) (λ r. message_of fault ≡ refusal_message (input_of c) r))
+    → IfErr res (λ fault. (status_of fault ≡ 5) ⊎ (status_of fault ≡ 6) → ForInput asked contents (λ d octets. IfSome (refusal_of d octets) (λ r. message_of fault ≡ refusal_message (input_of d) r)))
+told_of asked c contents (Ok u) e f = tt
+told_of asked c contents (Err fault) e f = λ s.
+    for_command asked c (λ d. (octets : List ℕ) → contents (input_of d) ≡ Some octets → IfSome (refusal_of d octets) (λ r. message_of fault ≡ refusal_message (input_of d) r)) e (f s)

@@ -1,4 +1,4 @@
 pub mod Counts
-pub mod Ending
 pub mod Asking
+pub mod Ending
 pub mod Kept

@@ -7,11 +7,14 @@ use Rattle.file_spec.specs.declared.script_lines.ScriptLine.{ScriptLine}
 use Rattle.file_spec.specs.Lines.{Refusal}
 use Rattle.file_spec.specs.Script.{script}
 use Rattle.file_spec.specs.Words.{ReadWords, ListWords, SendWords, Command, Read, ListRecords, Send, usual_pts}
+use Rattle.stream_spec.specs.History.{History, Lawful}
+use Rattle.stream_spec.specs.Own.{Own, Closed}
 use Rattle.text_sender.specs.declared.senders.SendConf.{SendConf}
+use Rattle.text_sender.specs.Standing.{history_sent, primaries}
 use Rattle.rtt_read.specs.declared.confs.ReadConf.{ReadConf}
 use Rattle.rtt_read.specs.ReadView.{read_view}
 use Rattle.rtt_list.specs.Lists.{list_view}
-use Rattle.rtt_send.specs.Scripts.{IsEnd, full_line}
+use Rattle.rtt_send.specs.Scripts.{IsEnd, full_line, events_through, texts}
 use Rattle.rtt_send.specs.Recordings.{recording_sent}
 
 -- what is read of a recording
@@ -76,13 +79,22 @@ printed_by (Read r) octets = read_view (read_conf r) octets
 printed_by (ListRecords l) octets = list_view l.pts (dump usual_limit octets).items
 printed_by (Send s) octets = []
 
--- the recording of what is sent for a script, up to its end
+-- what is sent for these lines up to a moment
+abbrev pub history_of : SendWords → List ScriptLine → ℕ → History
+history_of s lines t = history_sent (send_conf s) (events_through lines t)
+
+-- The recording of what is sent for a script, up to its end: a lawful history, in which each text is repeated twice,
+-- and whose texts together are those of the script.
 pub record IsSent (s : SendWords) (octets file : List ℕ) : Type 0 where
   pub lines : List ScriptLine
   pub read : script octets ≡ Ok lines
   pub end : ℕ
   pub ends : IsEnd (send_conf s) lines end
   pub sent : file ≡ recording_sent (send_conf s) lines end
+  pub lawful : Lawful (history_of s lines end)
+  pub own : Own 2 (history_of s lines end)
+  pub closed : Closed 2 (history_of s lines end)
+  pub whole : primaries (history_of s lines end) ≡ texts lines
 
 -- it lies under a name
 abbrev pub IsSaved : SendWords → List ℕ → Option (List ℕ) → Type 0

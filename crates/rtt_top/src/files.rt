@@ -2,24 +2,12 @@
 ghost use Rattle.std.specs.Prelude.{◌≡◌, ◌≢◌, ◌⊎◌, ℕ, ◌≤◌, ◌++◌, List, None, Some, take, length, OnOk, OnErr, IfOk, IfErr};
 ghost use Rattle.rtt_io.specs.Counts.{Rose};
 ghost use Rattle.rtt_top.specs.Faults.{IsReading, IsSaving, IsCaused};
-ghost use Rattle.rtt_top.specs.Messages.{status_of};
 ghost use Rattle.rtt_top.specs.Files.{IsFrontOf};
 
 use crate::faults::Fault;
 use rtt_base::{Bytes, Failed};
 use rtt_io::{ReadFault, Sink, World, read_whole};
 use std::alloc::Global;
-
-/// The fault of a file that was not read to its end.
-fn fault_of_reading<'a>(name: &'a str, fault: ReadFault) -> Fault<'a>
-    ensures reading { IsReading name.now result }
-    ensures read { status_of result ≡ 4 → fault ≡ ReadFault.Failed }
-{
-    match fault {
-        ReadFault::Failed => Fault::CannotRead(name),
-        ReadFault::NoMemory => Fault::NoMemory,
-    }
-}
 
 /// Reads a file to its end, or until it has given more than `most` octets.
 pub fn read_file<'a, W: World>(
@@ -42,7 +30,8 @@ pub fn read_file<'a, W: World>(
     world.done_src(source);
     match octets {
         Ok(octets) => Ok(octets),
-        Err(fault) => Err(fault_of_reading(name, fault)),
+        Err(ReadFault::Failed) => Err(Fault::CannotRead(name)),
+        Err(ReadFault::NoMemory) => Err(Fault::NoMemory),
     }
 }
 

@@ -1,12 +1,9 @@
-use Rattle.std.proofs.Common.{◌≡◌, ◌≤◌, ◌<◌, ◌+◌, ◌∷◌, ◌++◌, [], ℕ, List, Some, length, take, drop, refl, ap, sym, subst, ◌∙◌, arith}
-use Rattle.std.specs.Prelude.{All, IsUtf8}
+use Rattle.std.proofs.Common.{◌≡◌, ◌≤◌, ◌+◌, List, length, take, drop, ap, sym, subst, ◌∙◌, arith}
+use Rattle.std.specs.Prelude.{IsUtf8}
 use Rattle.std.proofs.lemmas.List.Elements.{All-head}
 use Rattle.file_spec.specs.declared.script_lines.ScriptLine.{ScriptLine}
 use Rattle.text_sender.specs.Standing.{waits_for}
-use Rattle.rtt_send.specs.declared.recorders.Recorder.{Recorder}
-use Rattle.rtt_send.specs.Scripts.{events_until, IsEnd, full_line}
-use Rattle.rtt_send.specs.Recordings.{recording_sent}
-use Rattle.rtt_send.specs.Insides.{IsAt}
+use Rattle.rtt_send.specs.Scripts.{events_until, full_line}
 use Rattle.rtt_send.proofs.Steps.{err_over, ok_fits, from_ok}
 use Rattle.rtt_send.proofs.Lines.{Sends, Sent, at_line, above_to, all_lines, next_line, full_here, at_last, ends_agree}
 use Rattle.rtt_send.proofs.sending.send_script.Goals as goal

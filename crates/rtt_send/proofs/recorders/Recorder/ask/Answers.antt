@@ -1,4 +1,4 @@
-use Rattle.std.proofs.Common.{◌≡◌, ◌≤◌, ◌<◌, ◌+◌, ◌++◌, ℕ, List, length, Some, None, suc, refl, ap, sym, subst, ◌∙◌, arith, add-one}
+use Rattle.std.proofs.Common.{◌≡◌, ◌<◌, ◌+◌, ◌++◌, ℕ, List, length, refl, ap, sym, subst, ◌∙◌, add-one}
 use Rattle.wire_spec.specs.Dump.{record_written}
 use Rattle.rtt_send.specs.declared.recorders.Recorder.{Recorder}
 use Rattle.rtt_send.specs.Scripts.{events_until, events_through}
@@ -20,17 +20,17 @@ returns-clause-asked c = λ conf lines a.
     let past = events_until lines old.now in
     let stands = c.turn.ensures.stands conf past a.records.sender (asked_until lines old.now) in
     let asked = λ (r : Recorder) (e : c.match-turn.self ≡ r) (n : r.now ≡ old.now) (x : Records conf r.sender r.octets (events_through lines old.now)).
-      (let y : IsAsked conf lines (record { sender = c.match-turn.self.sender; octets = c.match-turn.self.octets; now = c.match-turn.self.now + 1 }) = record {
-        last = old.now;
-        now = ap (λ (q : Recorder). q.now + 1) e ∙ (ap (λ (m : ℕ). m + 1) n ∙ add-one old.now);
-        records = subst (λ (q : Recorder). Records conf q.sender q.octets (events_through lines old.now)) (sym e) x;
-        typed = a.typed;
-      } in y) in
+    (let y : IsAsked conf lines (record { sender = c.match-turn.self.sender; octets = c.match-turn.self.octets; now = c.match-turn.self.now + 1 }) = record {
+      last = old.now;
+      now = ap (λ (q : Recorder). q.now + 1) e ∙ (ap (λ (m : ℕ). m + 1) n ∙ add-one old.now);
+      records = subst (λ (q : Recorder). Records conf q.sender q.octets (events_through lines old.now)) (sym e) x;
+      typed = a.typed;
+    } in y) in
     elim c.match-turn.branch [
       | in-Some+in_ok-write_record w ↦ asked (record { sender = c.turn.new.self; octets = w.write_record.new.out; now = old.now }) w.self-is refl (
-        asked_more conf old.sender c.turn.new.self old.octets w.write_record.new.out w.in-Some.packet past old.now a.records
-        (w.in-Some.ensures.packet conf past a.records.sender (asked_until lines old.now)) stands
-        (w.in_ok-write_record.ensures.ok ∙ ap (λ (p : List ℕ). old.octets ++ record_written (old.now, p)) w.as_slice.ensures.value))
+          asked_more conf old.sender c.turn.new.self old.octets w.write_record.new.out w.in-Some.packet past old.now a.records
+          (w.in-Some.ensures.packet conf past a.records.sender (asked_until lines old.now)) stands
+          (w.in_ok-write_record.ensures.ok ∙ ap (λ (p : List ℕ). old.octets ++ record_written (old.now, p)) w.as_slice.ensures.value))
       | in_default w ↦ asked (record { sender = c.turn.new.self; octets = old.octets; now = old.now }) w.self-is refl (
-        asked_idle conf old.sender c.turn.new.self old.octets past old.now a.records (w.in_default.ensures.packet conf past a.records.sender (asked_until lines old.now)) stands)
+          asked_idle conf old.sender c.turn.new.self old.octets past old.now a.records (w.in_default.ensures.packet conf past a.records.sender (asked_until lines old.now)) stands)
     ]

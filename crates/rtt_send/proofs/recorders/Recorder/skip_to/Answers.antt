@@ -1,7 +1,7 @@
-use Rattle.std.proofs.Common.{◌≡◌, ◌≤◌, ◌<◌, ◌^◌, ℕ, Some, None, suc, ap, sym, subst, ◌∙◌, arith}
-use Rattle.std.specs.Prelude.{min, All}
+use Rattle.std.proofs.Common.{◌≡◌, ◌≤◌, ℕ, Some, None, suc, sym, subst, ◌∙◌, arith}
+use Rattle.std.specs.Prelude.{min}
 use Rattle.rtt_send.specs.Scripts.{events_until, events_through}
-use Rattle.rtt_send.specs.Insides.{Records, IsAt, IsAsked}
+use Rattle.rtt_send.specs.Insides.{Records}
 use Rattle.rtt_send.proofs.Steps.{skip_some, skip_none, typed_later}
 use Rattle.rtt_send.proofs.recorders.Recorder.skip_to.Goals as goal
 use Rattle.rtt_send.proofs.recorders.Recorder.skip_to.Goals.{in-Some, in-None}
@@ -13,22 +13,22 @@ returns-clause-at c = λ conf lines a.
     let room : suc a.last ≤ c.args.at = omega (arith, a.now, c.requires.room) in
     elim c.match-next_due.branch [
       | in-Some w ↦ (
-        let e : Some w.in-Some.due ≡ _ = w.in-Some.ensures conf (events_through lines a.last) a.records.sender in
-        let n : c.match-next_due.self ≡ min w.in-Some.due c.args.at = w.self-is ∙ w.min-self.ensures in
-        let r = skip_some conf s o lines a.last c.args.at w.in-Some.due a.records a.typed room c.requires.early e in
-        record {
-          records = subst (λ (k : ℕ). Records conf s o (events_until lines k)) (sym n) r.0;
-          typed = typed_later lines a.last c.match-next_due.self a.typed (omega (arith, n, r.1));
-        }
-      )
+          let e : Some w.in-Some.due ≡ _ = w.in-Some.ensures conf (events_through lines a.last) a.records.sender in
+          let n : c.match-next_due.self ≡ min w.in-Some.due c.args.at = w.self-is ∙ w.min-self.ensures in
+          let r = skip_some conf s o lines a.last c.args.at w.in-Some.due a.records a.typed room c.requires.early e in
+          record {
+            records = subst (λ (k : ℕ). Records conf s o (events_until lines k)) (sym n) r.0;
+            typed = typed_later lines a.last c.match-next_due.self a.typed (omega (arith, n, r.1));
+          }
+          )
       | in-None w ↦ (
-        let e : None ≡ _ = w.in-None.ensures conf (events_through lines a.last) a.records.sender in
-        let n : c.match-next_due.self ≡ c.args.at = w.self-is in
-        record {
-          records = subst (λ (k : ℕ). Records conf s o (events_until lines k)) (sym n) (skip_none conf s o lines a.last c.args.at a.records a.typed room c.requires.early e);
-          typed = typed_later lines a.last c.match-next_due.self a.typed (omega (arith, n));
-        }
-      )
+          let e : None ≡ _ = w.in-None.ensures conf (events_through lines a.last) a.records.sender in
+          let n : c.match-next_due.self ≡ c.args.at = w.self-is in
+          record {
+            records = subst (λ (k : ℕ). Records conf s o (events_until lines k)) (sym n) (skip_none conf s o lines a.last c.args.at a.records a.typed room c.requires.early e);
+            typed = typed_later lines a.last c.match-next_due.self a.typed (omega (arith, n));
+          }
+          )
     ]
 
 pub returns-clause-later : goal.returns-clause-later
@@ -36,9 +36,9 @@ returns-clause-later c = λ conf lines a.
     let room : suc a.last ≤ c.args.at = omega (arith, a.now, c.requires.room) in
     elim c.match-next_due.branch [
       | in-Some w ↦ (
-        let e : Some w.in-Some.due ≡ _ = w.in-Some.ensures conf (events_through lines a.last) a.records.sender in
-        let r = skip_some conf c.args.self.now.sender c.args.self.now.octets lines a.last c.args.at w.in-Some.due a.records a.typed room c.requires.early e in
-        omega (arith, w.self-is, w.min-self.ensures, r.1, a.now)
-      )
+          let e : Some w.in-Some.due ≡ _ = w.in-Some.ensures conf (events_through lines a.last) a.records.sender in
+          let r = skip_some conf c.args.self.now.sender c.args.self.now.octets lines a.last c.args.at w.in-Some.due a.records a.typed room c.requires.early e in
+          omega (arith, w.self-is, w.min-self.ensures, r.1, a.now)
+          )
       | in-None w ↦ omega (arith, w.self-is, c.requires.room)
     ]

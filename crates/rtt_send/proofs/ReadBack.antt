@@ -1,0 +1,175 @@
+-- What a script sends is read back.
+use Rattle.std.proofs.Common.{◌≡◌, ℕ, zero, suc, ◌+◌, ◌-◌, ◌<◌, ◌≤◌, ◌^◌, Bool, true, false, cond, inl, inr, Option, Some, None, Ok, Result, List, [], ◌∷◌, ◌++◌, length, take, refl, ap, subst, sym, ◌∙◌, arith}
+use Rattle.std.specs.Prelude.{map, min, max, ◌==◌, All, IsUtf8}
+use Rattle.std.specs.List.{AllByRecursion}
+use Rattle.std.proofs.lemmas.List.Elements.{All-from_recursion, recursion_from_All}
+use Rattle.std.proofs.lemmas.Bool.Decides.{nat_tests}
+use Rattle.std.proofs.lemmas.Str.{IsUtf8-nil}
+use Rattle.rtt_base.specs.declared.blocks.TextBlock.{TextBlock}
+use Rattle.wire_spec.specs.declared.faults.TextFault.{TextFault}
+use Rattle.wire_spec.specs.Packets.{Packet, has_text, primary, blocks_of}
+use Rattle.wire_spec.specs.Rtp.{Head, FitsHeader, rtp_written}
+use Rattle.wire_spec.specs.Red.{IsText, IsRedundant, FitsRed, red_written}
+use Rattle.wire_spec.specs.Text.{text_of}
+use Rattle.wire_spec.specs.Dump.{FitsRecord, dump, sent_item, usual_limit}
+use Rattle.wire_spec.proofs.WholePackets.{text_read_back}
+use Rattle.wire_spec.proofs.Recordings.{read_back}
+use Rattle.file_spec.specs.declared.script_lines.ScriptLine.{ScriptLine}
+use Rattle.stream_spec.specs.Lists.{In}
+use Rattle.stream_spec.specs.History.{History, Entry, Placed, placed}
+use Rattle.stream_spec.specs.Own.{Sent, Stream, sent_of, nth, repeat_of, MaySend, Sendable, own_packet, packet_after, entry_after, sent_history}
+use Rattle.stream_spec.specs.Typed.{Event, Turned, sents, IsScript}
+use Rattle.stream_spec.proofs.Grows.{grown, placed_grown, before_grown, window_grown}
+use Rattle.stream_spec.proofs.Sent.{the_last, last_packet, in_sent_of}
+use Rattle.stream_spec.proofs.Typing.{paced}
+use Rattle.red_window.specs.Kept.{IsWritable}
+use Rattle.text_sender.specs.declared.senders.SendConf.{SendConf}
+use Rattle.text_sender.specs.Confs.{IsConf, stream_of}
+use Rattle.text_sender.specs.Standing.{sent_by, history_sent}
+use Rattle.text_sender.specs.Written.{csrc_of, packet_written}
+use Rattle.text_sender.proofs.Sizes.{few_octets}
+use Rattle.rtt_send.specs.Scripts.{AreLines, events_through}
+use Rattle.rtt_send.specs.Recordings.{records_of, records_sent, recording_sent}
+use Rattle.rtt_send.proofs.Typed.{script_through}
+
+-- ---- the blocks of a packet
+take_in : (n : ℕ) (zs : List Sent) (z : Sent) → In z (take n zs) → In z zs
+take_in zero zs z i = absurd i
+take_in (suc n) [] z i = absurd i
+take_in (suc n) (y ∷ zs) z (inl q) = inl q
+take_in (suc n) (y ∷ zs) z (inr i) = inr (take_in n zs z i)
+
+nth_in : (n k : ℕ) (zs : List Sent) (z : Sent) → k < n → nth k zs ≡ Some z → In z (take n zs)
+nth_in zero k zs z l e = absurd (omega arith)
+nth_in (suc n) k [] z l e = cc e
+nth_in (suc n) zero (y ∷ zs) z l e = inl (let q : y ≡ z = cc e in sym q)
+nth_in (suc n) (suc k) (y ∷ zs) z l e = inr (nth_in n k zs z (omega arith) e)
+
+text_sent : (c : Stream) (zs : List Sent) (z : Sent) → Sendable c zs → In z zs → (length z.text ≤ 1023) × IsUtf8 z.text
+text_sent c [] z s i = absurd i
+text_sent c (y ∷ zs) z s (inl q) = subst (λ (x : Sent). (length x.text ≤ 1023) × IsUtf8 x.text) (sym q) s.0.text
+text_sent c (y ∷ zs) z s (inr i) = text_sent c zs z s.1 i
+
+redundant_is : (media : ℕ) (o : Option Sent) → ((z : Sent) → o ≡ Some z → (length z.text ≤ 1023) × IsUtf8 z.text × (has_text z.text ≡ true → media ≤ z.media + 16383)) → IsRedundant (repeat_of media o)
+redundant_is media None f = (omega arith, (omega arith, IsUtf8-nil))
+redundant_is media (Some z) f = let t = f z refl in (go (has_text z.text) t.2, (omega (arith, t.0), t.1))
+  where
+    go : (b : Bool) → (b ≡ true → media ≤ z.media + 16383) → cond b (media - z.media) (min 16383 (media - z.media)) < 2 ^ 14
+    go true n = let l = n refl in omega arith
+    go false n = omega arith
+
+block_is : (c : Stream) (zs : List Sent) (e : Sent) (k : ℕ) → c.gens ≡ 2 → MaySend c zs e → Sendable c zs → k < 2 → IsRedundant (repeat_of e.media (nth k (sent_of e.source zs)))
+block_is c zs e k two m s l = redundant_is e.media (nth k (sent_of e.source zs)) (λ z q.
+    let i = nth_in 2 k (sent_of e.source zs) z l q in
+    let t = text_sent c zs z s (in_sent_of e.source zs z (take_in 2 (sent_of e.source zs) z i)).0 in
+    (t.0, t.1, λ h. m.near z (subst (λ g. In z (take g (sent_of e.source zs))) (sym two) i) h))
+
+writable : (b : TextBlock) → IsRedundant b → IsWritable b
+writable b r = record { offset = r.0; size = r.1.0 }
+
+-- ---- a packet
+pub record IsBack (conf : SendConf) (p : Packet) : Type 0 where
+  pub text_is : text_of (packet_written conf.pts p) (Some conf.ssrc) conf.pts ≡ Ok p
+  pub some : 0 < length (packet_written conf.pts p)
+  pub few : length (packet_written conf.pts p) ≤ 4224
+
+same_source : (p : Packet) → p.source ≡ p.ssrc → csrc_of p ≡ None
+same_source p e = let same : (p.source == p.ssrc) ≡ true = grind (arith, nat_tests) in rw same refl
+
+-- the stream's own header
+abbrev own_head : SendConf → Packet → Head
+own_head conf p = record { mark = p.mark; pt = conf.pts.red; seq = p.seq; stamp = p.stamp; ssrc = p.ssrc; csrc = None }
+
+packet_back : (conf : SendConf) (zs : List Sent) (e : Sent) → IsConf conf → conf.ssrc < 2 ^ 32 → e.source ≡ conf.ssrc → MaySend (stream_of conf) zs e → Sendable (stream_of conf) zs
+    → IsBack conf (packet_after (stream_of conf) zs e)
+packet_back conf zs e k ssrc own m s =
+    let c = stream_of conf in
+    let p : Packet = packet_after c zs e in
+    let first = block_is c zs e 1 refl m s (omega arith) in
+    let second = block_is c zs e 0 refl m s (omega arith) in
+    let last : IsText e.text = (omega (arith, m.text.0), m.text.1) in
+    let fits : FitsRed (blocks_of p) conf.pts = record { all = refl; few = omega arith; each = (first, (second, tt)); is_text = last; t140 = k.t140; differ = k.differ } in
+    let head : FitsHeader (own_head conf p) = record { pt = k.red; seq = omega arith; stamp = omega arith; ssrc = ssrc; csrc = tt } in
+    let written : packet_written conf.pts p ≡ rtp_written (own_head conf p) (red_written (blocks_of p) conf.pts) = ap (λ (o : Option ℕ). rtp_written (record { mark = p.mark; pt = conf.pts.red; seq = p.seq; stamp = p.stamp; ssrc = p.ssrc; csrc = o }) (red_written (blocks_of p) conf.pts)) (same_source p own) in
+    let size = few_octets (blocks_of p) conf.pts (omega arith) (omega arith) (All-from_recursion IsWritable (blocks_of p) (writable _ first, (writable _ second, ((let w : IsWritable (primary e.text) = record { offset = omega arith; size = last.0 } in w), tt)))) in
+    let few : length (rtp_written (own_head conf p) (red_written (blocks_of p) conf.pts)) ≤ 4224 = omega (arith, size) in
+    let asked : (p.ssrc == conf.ssrc) ≡ true = grind (arith, nat_tests) in
+    let read = text_read_back (own_head conf p) (blocks_of p) (Some conf.ssrc) conf.pts head refl fits asked few in
+    record {
+      text_is = ap (λ (xs : List ℕ). text_of xs (Some conf.ssrc) conf.pts) written ∙ (read ∙ ap (λ (n : ℕ). let q : Result Packet TextFault = Ok (record { mark = p.mark; seq = p.seq; stamp = p.stamp; ssrc = p.ssrc; source = n; older = p.older; primary = p.primary }) in q) (sym own));
+      some = subst (λ (xs : List ℕ). 0 < length xs) (sym written) (omega arith);
+      few = subst (λ (xs : List ℕ). length xs ≤ 4224) (sym written) few;
+    }
+
+-- ---- all packets
+abbrev pub Backs : SendConf → List Turned → Type 0
+Backs conf [] = Unit {0}
+Backs conf (e ∷ es) = IsBack conf (packet_after (stream_of conf) (sents es) e.sent) × Backs conf es
+
+backs : (conf : SendConf) (es : List Turned) → IsConf conf → conf.ssrc < 2 ^ 32 → ((z : Sent) → In z (sents es) → z.source ≡ conf.ssrc) → Sendable (stream_of conf) (sents es) → Backs conf es
+backs conf [] k b own s = tt
+backs conf (e ∷ es) k b own s = (packet_back conf (sents es) e.sent k b (own e.sent (inl refl)) s.0 s.1, backs conf es k b (λ z i. own z (inr i)) s.1)
+
+pub all_back : (conf : SendConf) (past : List Event) → IsConf conf → conf.ssrc < 2 ^ 32 → IsScript past → Backs conf (sent_by conf past)
+all_back conf past k b s =
+    let p = paced (stream_of conf) conf.interval past refl (let l = k.least in omega arith) s in
+    backs conf (sent_by conf past) k b (λ z i. (in_sent_of conf.ssrc (sents (sent_by conf past)) z (subst (λ (zs : List Sent). In z zs) (sym p.own) i)).1) p.sendable
+
+-- ---- the own packets of the history
+map_append : {X Y : Type 0} (f : X → Y) (xs ys : List X) → map f (xs ++ ys) ≡ map f xs ++ map f ys
+map_append f [] ys = refl
+map_append f (x ∷ xs) ys = ap (λ zs. f x ∷ zs) (map_append f xs ys)
+
+map_same : {X Y : Type 0} (f g : X → Y) (xs : List X) → ((x : X) → In x xs → f x ≡ g x) → map f xs ≡ map g xs
+map_same f g [] e = refl
+map_same f g (x ∷ xs) e = ap (λ y. y ∷ map f xs) (e x (inl refl)) ∙ ap (λ ys. g x ∷ ys) (map_same f g xs (λ y i. e y (inr i)))
+
+packet_stays : (h : History) (e : Entry) (x : Placed) → In x (placed h) → own_packet (grown h e) x ≡ own_packet h x
+packet_stays h e x i = rw (before_grown h e (max 1 x.gens) x i, window_grown h e x i) refl
+
+-- a packet of a record, read; and the own packet of an entry, as it is read
+abbrev pub read_of : SendConf → ℕ × List ℕ → Result Packet TextFault
+read_of conf r = text_of r.1 (Some conf.ssrc) conf.pts
+
+abbrev pub own_of : History → Placed → Result Packet TextFault
+own_of h x = Ok (own_packet h x)
+
+pub read_are : (conf : SendConf) (es : List Turned) → Backs conf es → map (read_of conf) (records_of conf es) ≡ map (own_of (sent_history (stream_of conf) (sents es))) (placed (sent_history (stream_of conf) (sents es)))
+read_are conf [] b = refl
+read_are conf (e ∷ es) b =
+    let c = stream_of conf in
+    let zs = sents es in
+    let h : History = sent_history c zs in
+    let more : History = sent_history c (sents (e ∷ es)) in
+    map_append (read_of conf) (records_of conf es) ((e.at, packet_written conf.pts (packet_after c zs e.sent)) ∷ [])
+    ∙ (ap (λ (ps : List (Result Packet TextFault)). ps ++ read_of conf (e.at, packet_written conf.pts (packet_after c zs e.sent)) ∷ [])
+    (read_are conf es b.1 ∙ sym (map_same (own_of more) (own_of h) (placed h) (λ x i. ap (λ (p : Packet). let q : Result Packet TextFault = Ok p in q) (packet_stays h (entry_after c.gens zs e.sent) x i))))
+    ∙ (ap (λ (p : Result Packet TextFault). map (own_of more) (placed h) ++ p ∷ []) (b.0.text_is ∙ ap (λ (p : Packet). let q : Result Packet TextFault = Ok p in q) (sym (last_packet c zs e.sent)))
+    ∙ (sym (map_append (own_of more) (placed h) (the_last c zs e.sent ∷ []))
+    ∙ ap (map (own_of more)) (sym (placed_grown h (entry_after c.gens zs e.sent))))))
+
+-- ---- the recording
+all_append : {X : Type 0} (P : X → Type 0) (xs : List X) (x : X) → AllByRecursion P xs → P x → AllByRecursion P (xs ++ x ∷ [])
+all_append P [] x a p = (p, tt)
+all_append P (y ∷ xs) x a p = (a.0, all_append P xs x a.1 p)
+
+all_front : {X : Type 0} (P : X → Type 0) (xs : List X) (x : X) → AllByRecursion P (xs ++ x ∷ []) → AllByRecursion P xs × P x
+all_front P [] x a = (tt, a.0)
+all_front P (y ∷ xs) x a = let r = all_front P xs x a.1 in ((a.0, r.0), r.1)
+
+fit : (conf : SendConf) (es : List Turned) → Backs conf es → AllByRecursion (λ r. r.0 ≤ 14400000) (records_of conf es) → AllByRecursion FitsRecord (records_of conf es)
+fit conf [] b a = tt
+fit conf (e ∷ es) b a =
+    let r : ℕ × List ℕ = (e.at, packet_written conf.pts (packet_after (stream_of conf) (sents es) e.sent)) in
+    let f = all_front (λ r. r.0 ≤ 14400000) (records_of conf es) r a in
+    all_append FitsRecord (records_of conf es) r (fit conf es b.1 f.0) (record { time = f.1; some = b.0.some; few = b.0.few })
+
+pub packets_back : (conf : SendConf) (lines : List ScriptLine) (t : ℕ) → IsConf conf → conf.ssrc < 2 ^ 32 → AreLines lines → t < 2 ^ 31
+    → map (read_of conf) (records_sent conf lines t) ≡ map (own_of (history_sent conf (events_through lines t))) (placed (history_sent conf (events_through lines t)))
+packets_back conf lines t k b a l = read_are conf (sent_by conf (events_through lines t)) (all_back conf (events_through lines t) k b (script_through lines t a l))
+
+pub items_back : (conf : SendConf) (lines : List ScriptLine) (t : ℕ) → IsConf conf → conf.ssrc < 2 ^ 32 → AreLines lines → t < 2 ^ 31 → All (λ r. r.0 ≤ 14400000) (records_sent conf lines t)
+    → length (recording_sent conf lines t) ≤ usual_limit → dump usual_limit (recording_sent conf lines t) ≡ record { items = map sent_item (records_sent conf lines t); fault = None }
+items_back conf lines t k b a l early small =
+    read_back usual_limit (records_sent conf lines t)
+    (fit conf (sent_by conf (events_through lines t)) (all_back conf (events_through lines t) k b (script_through lines t a l)) (recursion_from_All (λ r. r.0 ≤ 14400000) (records_sent conf lines t) early)) small

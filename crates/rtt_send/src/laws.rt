@@ -1,0 +1,47 @@
+//! What holds of scripts and of what they send. No code stands here.
+ghost use Rattle.std.specs.Prelude.{◌≡◌, ◌<◌, ◌≤◌, ◌^◌, ℕ, List, Some, None, Ok, All, map, length};
+ghost use Rattle.file_spec.specs.declared.script_lines.ScriptLine.{ScriptLine};
+ghost use Rattle.file_spec.specs.Script.{script};
+ghost use Rattle.wire_spec.specs.Text.{text_of};
+ghost use Rattle.wire_spec.specs.Dump.{dump, usual_limit, sent_item};
+ghost use Rattle.stream_spec.specs.History.{Lawful, placed};
+ghost use Rattle.stream_spec.specs.Own.{Own, Closed, own_packet};
+ghost use Rattle.text_sender.specs.declared.senders.SendConf.{SendConf};
+ghost use Rattle.text_sender.specs.Confs.{IsConf};
+ghost use Rattle.text_sender.specs.Standing.{history_sent, primaries};
+ghost use Rattle.rtt_send.specs.Scripts.{AreLines, events_through, texts, IsEnd};
+ghost use Rattle.rtt_send.specs.Recordings.{records_sent, recording_sent};
+
+/// A script that is accepted has its lines in order, in the first four hours, and their texts are UTF-8.
+pub fn accepted_scripts_are_lines()
+    ensures { (octets : List ℕ) (lines : List ScriptLine) → script octets ≡ Ok lines → AreLines lines }
+{}
+
+/// The recording is the same at each end.
+pub fn ends_agree()
+    ensures { (conf : SendConf) (lines : List ScriptLine) (t u : ℕ) → IsEnd conf lines t → IsEnd conf lines u
+        → recording_sent conf lines t ≡ recording_sent conf lines u }
+{}
+
+/// What a script sends is a lawful history, each entry of which has two generations. At an end each text was repeated
+/// twice, and the texts of the history together are those of all lines, in order.
+pub fn sent_history()
+    ensures lawful { (conf : SendConf) (lines : List ScriptLine) (t : ℕ) → IsConf conf → AreLines lines → t < 2 ^ 31
+        → Lawful (history_sent conf (events_through lines t)) }
+    ensures own { (conf : SendConf) (lines : List ScriptLine) (t : ℕ) → Own 2 (history_sent conf (events_through lines t)) }
+    ensures closed { (conf : SendConf) (lines : List ScriptLine) (t : ℕ) → IsConf conf → AreLines lines → t < 2 ^ 31 → IsEnd conf lines t
+        → Closed 2 (history_sent conf (events_through lines t)) }
+    ensures texts { (conf : SendConf) (lines : List ScriptLine) (t : ℕ) → AreLines lines → IsEnd conf lines t
+        → primaries (history_sent conf (events_through lines t)) ≡ texts lines }
+{}
+
+/// A recording that is neither too large nor too long is read back as its records, and their packets are read as the
+/// packets of the history, each of its entry, in order.
+pub fn sent_is_read_back()
+    ensures records { (conf : SendConf) (lines : List ScriptLine) (t : ℕ) → IsConf conf → conf.ssrc < 2 ^ 32 → AreLines lines → t < 2 ^ 31
+        → All (λ r. r.0 ≤ 14400000) (records_sent conf lines t) → length (recording_sent conf lines t) ≤ usual_limit
+        → dump usual_limit (recording_sent conf lines t) ≡ record { items = map sent_item (records_sent conf lines t); fault = None } }
+    ensures packets { (conf : SendConf) (lines : List ScriptLine) (t : ℕ) → IsConf conf → conf.ssrc < 2 ^ 32 → AreLines lines → t < 2 ^ 31
+        → map (λ r. text_of r.1 (Some conf.ssrc) conf.pts) (records_sent conf lines t)
+        ≡ map (λ x. Ok (own_packet (history_sent conf (events_through lines t)) x)) (placed (history_sent conf (events_through lines t))) }
+{}
