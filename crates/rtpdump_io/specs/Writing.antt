@@ -1,5 +1,5 @@
 -- What can be written of records (profile).
-use Rattle.std.specs.Prelude.{ℕ, ◌<◌, ◌≤◌, List, length}
+use Rattle.std.specs.Prelude.{ℕ, ◌≡◌, ◌<◌, ◌≤◌, ◌++◌, List, length}
 use Rattle.rtt_base.specs.declared.records.Record.{Record}
 
 -- the size of a record, its head included, has sixteen bits, and a packet of no octets is one of RTCP
@@ -10,3 +10,8 @@ pub record Holds (r : Record) : Type 0 where
 -- a record as its time and its packet's octets
 abbrev pub timed : Record → ℕ × List ℕ
 timed r = (r.at, r.bytes)
+
+-- what was there before stands first
+pub record Extends (old new : List ℕ) : Type 0 where
+  pub more : List ℕ
+  pub is : new ≡ old ++ more

@@ -250,7 +250,7 @@ fn a_whole_recording_is_written(rt: HostRuntime) -> Result<(), Fail> {
         sent(alloc, 900, &FOURTH)?,
     ];
     let mut out = Bytes::new(alloc);
-    write_dump(alloc, &records, &mut out)?;
+    write_dump(&records, &mut out)?;
     assert!(rt; out.as_slice() == recording(alloc)?.as_slice());
     Ok(())
 }

@@ -1,5 +1,5 @@
 //! Octets whose number has no bound of its own.
-ghost use Rattle.std.specs.Prelude.{◌≡◌, ◌==◌, [], ◌∷◌, ◌++◌, length, OnOk, OnErr};
+ghost use Rattle.std.specs.Prelude.{◌≡◌, ◌==◌, [], ◌∷◌, ◌++◌, length, take, OnOk, OnErr};
 
 use crate::NoMemory;
 use std::alloc::Global;
@@ -68,6 +68,13 @@ impl Bytes {
             Ok(()) => Ok(()),
             Err(_) => Err(NoMemory),
         }
+    }
+
+    /// Keeps the first `len` octets, or all where they are not more.
+    pub fn truncate(&mut self, len: usize)
+        ensures { self.new ≡ take len self.old }
+    {
+        self.octets.truncate(len);
     }
 
     pub fn clear(&mut self)
