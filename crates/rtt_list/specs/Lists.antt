@@ -21,6 +21,7 @@ fault_name Long = codes "Long"
 fault_name NotText = codes "NotText"
 fault_name Foreign = codes "Foreign"
 
+-- the M bit
 abbrev pub bit : Bool → List ℕ
 bit true = codes "1"
 bit false = codes "0"
@@ -35,6 +36,7 @@ packet_line at p = decimal at ++ codes " " ++ decimal p.seq ++ codes " mark " ++
     ++ codes " ssrc " ++ decimal p.ssrc ++ codes " source " ++ decimal p.source
     ++ codes " texts" ++ flat_map block_length (blocks_of p) ++ codes "\n"
 
+-- a packet that is none, with the first test that fails
 abbrev pub refused_line : ℕ → TextFault → List ℕ
 refused_line at fault = decimal at ++ codes " refused " ++ fault_name fault ++ codes "\n"
 

@@ -64,8 +64,9 @@ fn append_records<S: Source>(
     }
 }
 
-/// What `list` prints of a recording: a line for each record, with the payload types `pts` of text, and then how many
-/// there are. It takes no memory but that of its answer.
+/// What `list` prints of a recording: a line for each record, with the payload types `pts` of text, and last how many
+/// there are. `Dump` tells why the recording can't be read to its end: with the fault `Read` the source failed. It
+/// takes no memory but that of its answer.
 #[tactic(auto, unfolding(crate::specs::Lists::list_view))]
 pub fn list_records<S: Source>(
     alloc: Global,
