@@ -1,5 +1,5 @@
 //! One run of the program.
-ghost use Rattle.std.specs.Prelude.{◌≡◌, ◌≢◌, ◌⊎◌, ◌↔◌, ℕ, ◌++◌, List, None, Some, IsSome, IfSome, IfErr, map, take, string_bytes};
+ghost use Rattle.std.specs.Prelude.{◌≡◌, ◌≢◌, ◌⊎◌, ℕ, ◌++◌, List, None, Some, IsSome, IfSome, IfErr, map, take, string_bytes};
 ghost use Rattle.rtt_io.specs.Counts.{Rose};
 ghost use Rattle.file_spec.specs.Words.{Command, command};
 ghost use Rattle.stream_spec.specs.History.{History, Lawful, Come};
@@ -25,7 +25,8 @@ fn attempt<'a, W: World, K: Sink>(
     out: &mut K,
 ) -> Result<(), Fault<'a>>
     ensures known { IsStatus (ended result) }
-    ensures wrong_words { (ended result ≡ 2) ↔ (command (map string_bytes words.now) ≡ None) }
+    ensures wrong_words { ended result ≡ 2 → command (map string_bytes words.now) ≡ None }
+    ensures words_refused { command (map string_bytes words.now) ≡ None → (ended result ≡ 2) ⊎ (ended result ≡ 70) }
     ensures cannot_open { ended result ≡ 3 → ForCommand (command (map string_bytes words.now)) (λ c. Rose (W.own_faults world.old (input_of c)) (W.own_faults world.new (input_of c))) }
     ensures cannot_read { ended result ≡ 4 → ForCommand (command (map string_bytes words.now)) (λ c. Rose (W.object_faults world.old (input_of c)) (W.object_faults world.new (input_of c))) }
     ensures cannot_write { ended result ≡ 7 → ForCommand (command (map string_bytes words.now)) (λ c. CannotBeWritten c (λ n. Rose (W.own_faults world.old n) (W.own_faults world.new n))
@@ -74,7 +75,8 @@ pub fn run_plain<W: World, K: Sink, E: Sink>(
 ) -> Option<u8>
     ensures built { IsSome result }
     ensures known { IfSome result (λ status. IsStatus status) }
-    ensures wrong_words { IfSome result (λ status. (status ≡ 2) ↔ (command (map string_bytes words.now) ≡ None)) }
+    ensures wrong_words { IfSome result (λ status. status ≡ 2 → command (map string_bytes words.now) ≡ None) }
+    ensures words_refused { command (map string_bytes words.now) ≡ None → IfSome result (λ status. (status ≡ 2) ⊎ (status ≡ 70)) }
     ensures cannot_open { IfSome result (λ status. status ≡ 3 → ForCommand (command (map string_bytes words.now)) (λ c. Rose (W.own_faults world.old (input_of c)) (W.own_faults world.new (input_of c)))) }
     ensures cannot_read { IfSome result (λ status. status ≡ 4 → ForCommand (command (map string_bytes words.now)) (λ c. Rose (W.object_faults world.old (input_of c)) (W.object_faults world.new (input_of c)))) }
     ensures cannot_write { IfSome result (λ status. status ≡ 7 → ForCommand (command (map string_bytes words.now)) (λ c. CannotBeWritten c (λ n. Rose (W.own_faults world.old n) (W.own_faults world.new n))
@@ -128,8 +130,9 @@ pub fn run<R: Threads + Wait + Sync, W: World, K: Sink, E: Sink, G: Gate + Sync>
     _gate: &G,
 ) -> u8
     ensures known { IsStatus result }
-    // 2 comes exactly where the words are outside the word table.
-    ensures wrong_words { (result ≡ 2) ↔ (command (map string_bytes words.now) ≡ None) }
+    // 2 comes exactly where the words are outside the word table, or memory ran out.
+    ensures wrong_words { result ≡ 2 → command (map string_bytes words.now) ≡ None }
+    ensures words_refused { command (map string_bytes words.now) ≡ None → (result ≡ 2) ⊎ (result ≡ 70) }
     // 3, 4 and 7 come only where the outside failed, at a file that the words name or at `out`.
     ensures cannot_open { result ≡ 3 → ForCommand (command (map string_bytes words.now)) (λ c. Rose (W.own_faults world.old (input_of c)) (W.own_faults world.new (input_of c))) }
     ensures cannot_read { result ≡ 4 → ForCommand (command (map string_bytes words.now)) (λ c. Rose (W.object_faults world.old (input_of c)) (W.object_faults world.new (input_of c))) }
