@@ -1,11 +1,10 @@
 -- What a conference keeps, line by line.
-use Rattle.std.proofs.Common.{◌≡◌, ℕ, ◌+◌, ◌<◌, ◌≤◌, Bool, true, false, Option, Some, None, List, [], ◌∷◌, ◌++◌, length, get_or, refl, ap, subst, sym, ◌∙◌, arith}
-use Rattle.std.specs.Prelude.{◌≢◌, ◌==◌, ◌&&◌, ◌||◌, not, nat_le, nat_lt, if◌then◌else◌, Result, Ok, Err, is_some, unwrap_or, codes, bytes_eq, All, AllPairs}
+use Rattle.std.proofs.Common.{◌≡◌, ℕ, ◌<◌, Bool, true, false, Option, Some, None, List, [], ◌∷◌, length, get_or, refl, ap, subst, sym, ◌∙◌, arith}
+use Rattle.std.specs.Prelude.{◌≢◌, ◌==◌, not, nat_le, if◌then◌else◌, Result, Ok, Err, is_some, codes, bytes_eq, All}
 use Rattle.std.specs.List.{list_any, position}
 use Rattle.std.specs.Option.{ForSome, ok_or}
 use Rattle.std.specs.Str.{is_utf8}
-use Rattle.std.specs.Str.Lines.{lines}
-use Rattle.std.proofs.lemmas.Bool.{true≢false, false≢true, and_parts, or_parts, eq-eqb, not-false}
+use Rattle.std.proofs.lemmas.Bool.{true≢false, and_parts, or_parts, eq-eqb, not-false}
 use Rattle.std.proofs.lemmas.List.{length_push}
 use Rattle.std.proofs.lemmas.List.Elements.{All-nil, All-push}
 use Rattle.std.proofs.lemmas.List.Folds.{list_any_at}
@@ -13,7 +12,7 @@ use Rattle.std.proofs.lemmas.List.Quantifiers.{all_pairs_push, position-Some}
 use Rattle.std.proofs.lemmas.Slice.Eq.{bytes_eq-Decides}
 use Rattle.rtt_base.specs.declared.text_packets.Pts.{Pts}
 use Rattle.file_spec.specs.declared.kinds.ConfKind.{ConfKind}
-use Rattle.file_spec.specs.declared.kinds.ConfKind.TheVariants.{NotText, Word, Name, Number, Many, PlanMany, Twice, Clash, Few}
+use Rattle.file_spec.specs.declared.kinds.ConfKind.TheVariants.{NotText, Word, Name, Number, Many, PlanMany, Twice, Clash}
 use Rattle.file_spec.specs.declared.conf_lines.Form.{Form}
 use Rattle.file_spec.specs.declared.conf_lines.Form.TheVariants.{Files, Links}
 use Rattle.file_spec.specs.declared.conf_lines.MixerLine.{MixerLine}

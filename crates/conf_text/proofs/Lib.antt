@@ -1,5 +1,4 @@
 pub mod ConfLoop
-pub mod DecimalDigits
 pub mod EntryWords
 pub mod EscapeLoop
 pub mod FirstLine

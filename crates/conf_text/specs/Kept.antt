@@ -19,6 +19,7 @@ pub record AreTwoTypes (pts : Pts) : Type 0 where
 abbrev pub TypesFit : List LegLine → Type 0
 TypesFit legs = All (λ leg. AreTwoTypes leg.pts) legs
 
+-- each name has 1 to 32 letters, digits, `.`, `_` and `-`
 abbrev pub NamesFit : List LegLine → Type 0
 NamesFit legs = All (λ leg. IsTrue (is_name leg.name)) legs
 

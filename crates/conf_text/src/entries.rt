@@ -7,9 +7,9 @@ ghost use Rattle.conf_text.specs.Lines.{above_of, meaning, seen, MayFollow};
 use crate::ConfKind;
 use crate::drafts::{Draft, Entry};
 use crate::leg_lines::{has_ssrc, read_leg};
-use crate::numerals::{number_from, number_of};
 use crate::plan_lines::read_plan;
 use file_spec::{Form, MixerLine};
+use numerals::{number_from, number_of};
 
 fn read_setting(least: u32, most: u32, above: Option<u32>, words: &[&str]) -> Result<u32, ConfKind>
     ensures exact { result ≡ setting least most above (map (λ w. w.now) words.now) }

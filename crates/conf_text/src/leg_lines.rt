@@ -7,8 +7,8 @@ ghost use Rattle.conf_text.specs.Lines.{above_of, leg_line, seen};
 use crate::ConfKind;
 use crate::drafts::{Draft, NewLeg};
 use crate::names::{awareness, name_of, names_leg, names_path};
-use crate::numerals::{number_from, number_of, pts_of};
 use file_spec::{Form, LegLine, MixerLine};
+use numerals::{number_from, number_of, pts_of};
 use rtt_base::Pts;
 
 /// The most legs of a conference.

@@ -11,7 +11,6 @@ mod file_lines;
 mod leg_lines;
 mod legs;
 mod names;
-mod numerals;
 mod plan_lines;
 mod plans;
 mod script_reader;

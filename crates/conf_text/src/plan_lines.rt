@@ -6,8 +6,8 @@ ghost use Rattle.conf_text.specs.Lines.{above_of};
 
 use crate::ConfKind;
 use crate::drafts::Draft;
-use crate::numerals::number_of;
 use file_spec::{Form, LegLine, PlanLine, What};
+use numerals::number_of;
 
 /// The most plan lines of a conference.
 const MOST_PLAN_LINES: usize = 4096;

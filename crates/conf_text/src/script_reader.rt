@@ -6,8 +6,8 @@ ghost use Rattle.conf_text.specs.Texts.{parts_of};
 
 use crate::escapes::read_text;
 use crate::file_lines::{next_line, says_nothing, text_of};
-use crate::numerals::number_of;
 use crate::{ConfFault, ConfKind, Script, ScriptLine};
+use numerals::number_of;
 use std::alloc::Global;
 
 /// The last moment of a script line, four hours, in milliseconds.

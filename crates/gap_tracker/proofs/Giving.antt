@@ -4,6 +4,7 @@ use Rattle.std.specs.Prelude.{IfSome, IfNone, map, filter, nat_lt, nat_le}
 use Rattle.std.specs.List.{list_any}
 use Rattle.std.proofs.lemmas.Bool.{true≢false, le-leb, leb-true, lt-ltb, le-ltb, or_left, false_from_ne_true}
 use Rattle.std.proofs.lemmas.List.{append-nil}
+use Rattle.rtt_base.specs.declared.text_packets.TextPacket.{TextPacket}
 use Rattle.stream_spec.specs.Lists.{In}
 use Rattle.stream_spec.specs.Numbering.{Numbered, numbered, has_number, distinct_from, is_given_up}
 use Rattle.stream_spec.specs.Ready.{ready_of}
@@ -161,9 +162,9 @@ end_all s t story k after =
         (let a = after.follows.moment in let b = after.follows.wait in let c = k.follows.moment in omega arith)
 
 -- ---- what one call gives
-pub give_some : (r : Option Due) (s t : State) → IfSome r (λ due. (s.settled ≡ given_of due ∷ t.settled) × (t ≡ record s { settled = t.settled; packets = t.packets })) → IfSome r (λ due. (story : Story) → Tracks s story → Tracks t (gave story (given_of due)))
-give_some None s t h = tt
-give_some (Some due) s t h = λ story k. give_step s t story (given_of due) h.0 h.1 k
+pub give_some : (r : Option Due) (p : TextPacket) (s t : State) → IfSome r (λ due. (s.settled ≡ given_of due p ∷ t.settled) × (t ≡ record s { settled = t.settled; packets = t.packets })) → IfSome r (λ due. (story : Story) → Tracks s story → Tracks t (gave story (given_of due p)))
+give_some None p s t h = tt
+give_some (Some due) p s t h = λ story k. give_step s t story (given_of due p) h.0 h.1 k
 
 pub give_none : (r : Option Due) (s t : State) → IfNone r ((s.settled ≡ []) × (t ≡ s)) → IfNone r ((story : Story) → Tracks s story → story.given ≡ ready_dues story)
 give_none None s t h = λ story k. all_given s story h.0 k

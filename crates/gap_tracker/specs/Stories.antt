@@ -1,5 +1,6 @@
 -- What a tracker was told and has given, and what it owes by then (profile).
 use Rattle.std.specs.Prelude.{ℕ, zero, suc, ◌+◌, ◌-◌, Bool, true, false, List, [], ◌∷◌, ◌++◌, map, filter, ◌&&◌, ◌||◌, nat_lt, nat_le, if◌then◌else◌, max}
+use Rattle.rtt_base.specs.declared.text_packets.TextPacket.{TextPacket}
 use Rattle.wire_spec.specs.Packets.{Packet, Arrival, packet_of}
 use Rattle.stream_spec.specs.Numbering.{Numbered, numbered, number_after, first_number, has_number, is_given_up, in_time, used}
 use Rattle.stream_spec.specs.Ready.{ready_of}
@@ -13,8 +14,8 @@ pub record Given : Type 0 where
   pub ready : ℕ
   pub packet : Packet
 
-abbrev pub given_of : Due → Given
-given_of d = record { number = d.number; ready = d.ready; packet = packet_of d.packet }
+abbrev pub given_of : Due → TextPacket → Given
+given_of d p = record { number = d.number; ready = d.ready; packet = packet_of p }
 
 -- `past`: the arrivals, newest first; `moment`: the greatest moment handed in; `given`: what was given out, in order
 pub record Story : Type 0 where

@@ -1,5 +1,4 @@
 //! What a tracker answers.
-use rtt_base::TextPacket;
 
 /// What became of a packet that came.
 #[derive(Clone, Copy, Debug, PartialEq, Eq)]
@@ -16,12 +15,11 @@ pub enum Taken {
     Held,
 }
 
-/// A packet that is settled.
-#[derive(Debug, Drop)]
+/// The number of a packet that is settled, and since when it is.
+#[derive(Clone, Copy, Debug, PartialEq, Eq)]
 pub struct Due {
     /// The sequence number, extended so that it does not go round: the stream's first packet has its own plus 65536.
     pub number: u64,
     /// The first moment, in milliseconds, at which the packet and each number before it had come or was given up.
     pub ready: u64,
-    pub packet: TextPacket,
 }

@@ -35,7 +35,8 @@ pub struct SettledPacket {
 
 /// The packets that wait, those that are settled, and what the next ones are measured by.
 ///
-/// There are 65 boxes, each in one of the three lists, so a packet stays where it was put when others come and go.
+/// There are 65 boxes, each in one of the three lists. A packet comes and goes with its box, for which another one goes
+/// the other way: no packet is copied.
 #[derive(Debug, Drop)]
 pub struct Hold {
     wait: u64,
@@ -245,36 +246,37 @@ impl Hold {
         Ok(place)
     }
 
-    /// Holds a packet that comes now.
-    fn put(&mut self, place: usize, number: u64, packet: TextPacket)
+    /// Holds a packet that comes now, in exchange for a spare box.
+    fn put(&mut self, place: usize, number: u64, packet: &mut Box<TextPacket>)
         requires counted { 0 < self.old.arrivals }
         requires room { length self.old.settled + length self.old.held ≤ 64 }
         requires within { place ≤ length self.old.held }
         requires number { number < 2 ^ 60 }
-        ensures { self.new ≡ put_at self.old place (record { time = self.old.moment; number = number; packet = packet_of packet }) packet }
+        ensures { self.new ≡ put_at self.old place (record { time = self.old.moment; number = number; packet = packet_of packet.old.value }) packet.old.value }
     {
-        let mut slot = self.spare.take_last();
-        *slot = packet;
+        let spare = self.spare.take_last();
+        let packet = mem::replace(packet, spare);
         self.held.insert(
             place,
             HeldPacket {
                 number,
                 time: self.moment,
-                packet: slot,
+                packet,
             },
         );
     }
 
-    /// Takes a packet.
-    pub fn arrive(&mut self, now: u64, packet: TextPacket) -> Taken
+    /// Takes a packet. A spare box comes in exchange for one that is used.
+    pub fn arrive(&mut self, now: u64, packet: &mut Box<TextPacket>) -> Taken
         requires now { now < 2 ^ 48 }
         requires quiet { has_ready self.old ≡ false }
         requires still { next_latest self.old ≡ None }
         requires few { self.old.arrivals < 2 ^ 40 }
-        ensures stands { (story : Story) → Tracks self.old story → Tracks self.new (came story now (packet_of packet)) }
-        ensures answer { (story : Story) → Tracks self.old story → result ≡ answer story now (packet_of packet) }
-        ensures used { (story : Story) → Tracks self.old story → is_used result ≡ is_in_time story now (packet_of packet) }
-        ensures packets { (q : TextPacket) → In q self.new.packets → (q ≡ packet) ⊎ In q self.old.packets }
+        ensures stands { (story : Story) → Tracks self.old story → Tracks self.new (came story now (packet_of packet.old.value)) }
+        ensures answer { (story : Story) → Tracks self.old story → result ≡ answer story now (packet_of packet.old.value) }
+        ensures used { (story : Story) → Tracks self.old story → is_used result ≡ is_in_time story now (packet_of packet.old.value) }
+        ensures packets { (q : TextPacket) → In q self.new.packets → (q ≡ packet.old.value) ⊎ In q self.old.packets }
+        ensures same { is_used result ≡ false → packet.new ≡ packet.old }
         ensures arrivals { self.new.arrivals ≡ self.old.arrivals + 1 }
         ensures finished { self.new.finished ≡ self.old.finished }
         ensures still { next_latest self.new ≡ None }
@@ -318,22 +320,21 @@ impl Hold {
         self.advance();
     }
 
-    /// Gives the first settled packet.
-    pub fn next(&mut self) -> Option<Due>
+    /// Gives the first settled packet in exchange for another box.
+    pub fn next(&mut self, packet: &mut Box<TextPacket>) -> Option<Due>
         ensures none { IfNone result ((self.old.settled ≡ []) × (self.new ≡ self.old)) }
-        ensures some { IfSome result (λ due. (self.old.settled ≡ given_of due ∷ self.new.settled) × (self.new ≡ record self.old { settled = self.new.settled; packets = self.new.packets })) }
-        ensures packet { IfSome result (λ due. self.old.packets ≡ due.packet ∷ self.new.packets) }
+        ensures some { IfSome result (λ due. (self.old.settled ≡ given_of due packet.new.value ∷ self.new.settled) × (self.new ≡ record self.old { settled = self.new.settled; packets = self.new.packets })) }
+        ensures packet { IsSome result → self.old.packets ≡ packet.new.value ∷ self.new.packets }
+        ensures same { IfNone result (packet.new ≡ packet.old) }
     {
         if self.settled.is_empty() {
             return None;
         }
-        let mut first = self.settled.take_first();
-        let packet = mem::take(&mut *first.packet);
-        self.spare.push(first.packet);
+        let first = self.settled.take_first();
+        self.spare.push(mem::replace(packet, first.packet));
         Some(Due {
             number: first.number,
             ready: first.ready,
-            packet,
         })
     }
 }

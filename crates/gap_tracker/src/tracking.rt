@@ -1,5 +1,5 @@
 //! The tracker of one stream.
-ghost use Rattle.std.specs.Prelude.{◌≡◌, ◌+◌, ◌^◌, ◌<◌, ◌≤◌, ◌++◌, ◌⊎◌, [], ◌∷◌, List, Bool, true, false, is_some, length, nat_lt, IfOk, IfSome, IfNone};
+ghost use Rattle.std.specs.Prelude.{◌≡◌, ◌+◌, ◌^◌, ◌<◌, ◌≤◌, ◌++◌, ◌⊎◌, [], ◌∷◌, List, Bool, true, false, is_some, length, nat_lt, IfOk, IsSome, IfSome, IfNone};
 ghost use Rattle.rtt_base.specs.declared.text_packets.TextPacket.{TextPacket};
 ghost use Rattle.wire_spec.specs.Packets.{packet_of};
 ghost use Rattle.stream_spec.specs.Lists.{In};
@@ -52,19 +52,23 @@ impl Tracker {
     }
 
     /// Takes a packet that comes at `now`, or at the greatest moment handed in before, where that is later.
-    pub fn arrive(&mut self, now: u64, p: TextPacket) -> Taken
+    ///
+    /// A packet that is held or settled stays inside: in its place the caller gets a spare box, whose content is of no
+    /// use. With `Before`, `Old` and `Repeat` the packet is as before.
+    pub fn arrive(&mut self, now: u64, packet: &mut Box<TextPacket>) -> Taken
         requires now { now < 2 ^ 48 }
         requires quiet { has_ready self.old ≡ false }
         requires few { arrivals_of self.old < 2 ^ 40 }
-        ensures stands { (story : Story) → Tracks self.old story → Tracks self.new (came story now (packet_of p)) }
-        ensures answer { (story : Story) → Tracks self.old story → result ≡ answer story now (packet_of p) }
-        ensures used { (story : Story) → Tracks self.old story → is_used result ≡ is_in_time story now (packet_of p) }
+        ensures stands { (story : Story) → Tracks self.old story → Tracks self.new (came story now (packet_of packet.old.value)) }
+        ensures answer { (story : Story) → Tracks self.old story → result ≡ answer story now (packet_of packet.old.value) }
+        ensures used { (story : Story) → Tracks self.old story → is_used result ≡ is_in_time story now (packet_of packet.old.value) }
+        ensures unused { is_used result ≡ false → packet.new ≡ packet.old }
         // What is inside came.
-        ensures packets { (q : TextPacket) → In q (packets_in self.new) → (q ≡ p) ⊎ In q (packets_in self.old) }
+        ensures packets { (q : TextPacket) → In q (packets_in self.new) → (q ≡ packet.old.value) ⊎ In q (packets_in self.old) }
         ensures arrivals { arrivals_of self.new ≡ arrivals_of self.old + 1 }
         ensures finished { is_finished self.new ≡ is_finished self.old }
     {
-        self.hold.arrive(now, p)
+        self.hold.arrive(now, packet)
     }
 
     /// Lets time go on to `now`.
@@ -102,22 +106,24 @@ impl Tracker {
         self.hold.has_ready()
     }
 
-    /// The settled packet with the lowest number.
-    pub fn next(&mut self) -> Option<Due>
+    /// The settled packet with the lowest number. It comes into `packet`, in exchange for the caller's box, whose content
+    /// is lost. Where none is settled, the box is as before.
+    pub fn next(&mut self, packet: &mut Box<TextPacket>) -> Option<Due>
         ensures variant { is_some result ≡ has_ready self.old }
-        ensures some { IfSome result (λ due. (story : Story) → Tracks self.old story → Tracks self.new (gave story (given_of due))) }
+        ensures some { IfSome result (λ due. (story : Story) → Tracks self.old story → Tracks self.new (gave story (given_of due packet.new.value))) }
         // What was given is a front of what is ready, and that is a front of all that is used.
         ensures front { (story : Story) → Tracks self.new story → (rest : List Given) × (ready_dues story ≡ story.given ++ rest) }
         ensures order { (story : Story) → Tracks self.new story → (rest : List Given) × (dues story ≡ ready_dues story ++ rest) }
         // All that is ready by the greatest moment was given.
         ensures none { IfNone result ((story : Story) → Tracks self.old story → story.given ≡ ready_dues story) }
         // It is given as it came.
-        ensures packet { IfSome result (λ due. packets_in self.old ≡ due.packet ∷ packets_in self.new) }
+        ensures packet { IsSome result → packets_in self.old ≡ packet.new.value ∷ packets_in self.new }
         ensures unchanged { IfNone result (self.new ≡ self.old) }
+        ensures same { IfNone result (packet.new ≡ packet.old) }
         ensures arrivals { arrivals_of self.new ≡ arrivals_of self.old }
         ensures finished { is_finished self.new ≡ is_finished self.old }
     {
-        self.hold.next()
+        self.hold.next(packet)
     }
 
     /// How many packets came.

@@ -7,6 +7,7 @@ use Rattle.std.proofs.lemmas.List.{map-append, length-map, append-nil}
 use Rattle.std.proofs.Math.Seq.{take-suc}
 use Rattle.std.proofs.lemmas.List.Folds.{concat-append}
 use Rattle.std.proofs.lemmas.List.Quantifiers.{position-Some}
+use Rattle.rtt_base.specs.declared.text_packets.TextPacket.{TextPacket}
 use Rattle.wire_spec.specs.Packets.{Arrival}
 use Rattle.stream_spec.specs.Lists.{In}
 use Rattle.stream_spec.specs.Numbering.{Numbered, numbered, used}
@@ -79,19 +80,19 @@ next_rises story g f latest e = above (given_packets story.given) None (λ n q. 
     above (u ∷ us) last p q h = above us (Some u.number) (λ n k. let m : u.number ≡ n = cc in let l = q u (inl refl) in omega (arith, m)) (λ y i. q y (inr i)) h
 
 -- one more packet was taken
-pub heard_one : (l m : Listener) (source : ℕ) (story : Story) (due : Due) (heard : Heard) → Hears l source story → Tracks m.tracker (gave story (given_of due))
-    → Stands m.receiver (source ∷ []) (given_packets story.given ++ used_packet 0 due.number due.packet ∷ []) → latest_number m.receiver ≡ Some due.number
-    → heard_by (given_packets story.given ++ used_packet 0 due.number due.packet ∷ []) source ≡ heard_by (given_packets story.given) source ++ given_at 0 heard
+pub heard_one : (l m : Listener) (source : ℕ) (story : Story) (due : Due) (p : TextPacket) (heard : Heard) → Hears l source story → Tracks m.tracker (gave story (given_of due p))
+    → Stands m.receiver (source ∷ []) (given_packets story.given ++ used_packet 0 due.number p ∷ []) → latest_number m.receiver ≡ Some due.number
+    → heard_by (given_packets story.given ++ used_packet 0 due.number p ∷ []) source ≡ heard_by (given_packets story.given) source ++ given_at 0 heard
     → m.text ≡ l.text ++ concat (given_at 0 heard) → m.counts.used ≡ l.counts.used + 1
-    → Hears m source (gave story (given_of due))
-heard_one l m source story due heard h t s n a x u =
-    let more : given_packets (story.given ++ given_of due ∷ []) ≡ given_packets story.given ++ used_packet 0 due.number due.packet ∷ [] = map-append bare_given story.given (given_of due ∷ []) in
+    → Hears m source (gave story (given_of due p))
+heard_one l m source story due p heard h t s n a x u =
+    let more : given_packets (story.given ++ given_of due p ∷ []) ≡ given_packets story.given ++ used_packet 0 due.number p ∷ [] = map-append bare_given story.given (given_of due p ∷ []) in
     record {
       tracks = t;
       stands = rw more s;
-      latest = n ∙ sym (ap (last_after None) more ∙ last_snoc None (given_packets story.given) (used_packet 0 due.number due.packet));
+      latest = n ∙ sym (ap (last_after None) more ∙ last_snoc None (given_packets story.given) (used_packet 0 due.number p));
       text = x ∙ (ap (λ ts. ts ++ concat (given_at 0 heard)) h.text ∙ sym (ap (λ us. concat (heard_by us source)) more ∙ (ap concat a ∙ concat-append (heard_by (given_packets story.given) source) (given_at 0 heard))));
-      used = u ∙ (ap (λ k. k + 1) h.used ∙ sym (length-append story.given (given_of due ∷ [])));
+      used = u ∙ (ap (λ k. k + 1) h.used ∙ sym (length-append story.given (given_of due p ∷ [])));
     }
 
 -- the only source that is listened to gives all that is heard

@@ -1,10 +1,11 @@
 -- A listener that is told of one more arrival, or of the end.
-use Rattle.std.proofs.Common.{◌≡◌, ℕ, suc, ◌+◌, ◌<◌, ◌≤◌, Bool, false, Option, Some, List, [], ◌∷◌, ◌++◌, refl, ap, sym, ◌∙◌, arith, length, map, Result, Ok, Err}
+use Rattle.std.proofs.Common.{◌≡◌, ℕ, suc, ◌+◌, ◌<◌, ◌≤◌, Bool, false, Option, Some, List, [], ◌∷◌, ◌++◌, refl, ap, sym, ◌∙◌, arith, length, map, Result, Ok, Err, Box, Global}
 use Rattle.std.specs.Prelude.{max, OnOk}
 use Rattle.std.specs.List.{concat}
 use Rattle.std.proofs.Math.Nat.{max_comm}
 use Rattle.std.proofs.lemmas.List.{length-map}
 use Rattle.rtt_base.specs.declared.text_packets.Pts.{Pts}
+use Rattle.rtt_base.specs.declared.text_packets.TextPacket.{TextPacket}
 use Rattle.wire_spec.specs.declared.faults.TextFault.{TextFault}
 use Rattle.wire_spec.specs.Packets.{Packet, Arrival}
 use Rattle.wire_spec.specs.Text.{text_of}
@@ -32,12 +33,9 @@ pub on_ok2 : {X E P Q R : Type 0} (r : Result X E) → OnOk r P → OnOk r Q →
 on_ok2 (Ok x) p q f = f p q
 on_ok2 (Err e) p q f = tt
 
--- with another tracker
-pub with_tracker : Listener → State → Listener
-with_tracker l t = record l { tracker = t }
-
-pub hears_told : (l : Listener) (t : State) (source : ℕ) (story told : Story) → Hears l source story → told.given ≡ story.given → Tracks t told → Hears (record l { tracker = t }) source told
-hears_told l t source story told h e k = record {
+-- the tracker was told of what came, and the packet's place may hold another one
+pub hears_told : (l : Listener) (t : State) (b : Box TextPacket Global) (source : ℕ) (story told : Story) → Hears l source story → told.given ≡ story.given → Tracks t told → Hears (record l { tracker = t; packet = b }) source told
+hears_told l t b source story told h e k = record {
   tracks = k;
   stands = rw e h.stands;
   latest = h.latest ∙ ap (λ gs. Rattle.rtt_read.specs.Hears.last_after Rattle.std.proofs.Common.None (given_packets gs)) (sym e);
@@ -46,10 +44,10 @@ hears_told l t source story told h e k = record {
 }
 
 -- one more packet of the stream came
-pub took : (l m : Listener) (t : State) (r : ReadConf) (past : List Arrival) (at : ℕ) (p : Packet) (li : Listens l r past) → Hears (record l { tracker = t }) r.source (came li.story at p)
-    → Gathers (record l { tracker = t }) m → has_ready m.tracker ≡ false → is_finished t ≡ is_finished l.tracker → arrivals_of t ≡ arrivals_of l.tracker + 1
+pub took : (l m : Listener) (t : State) (b : Box TextPacket Global) (r : ReadConf) (past : List Arrival) (at : ℕ) (p : Packet) (li : Listens l r past) → Hears (record l { tracker = t; packet = b }) r.source (came li.story at p)
+    → Gathers (record l { tracker = t; packet = b }) m → has_ready m.tracker ≡ false → is_finished t ≡ is_finished l.tracker → arrivals_of t ≡ arrivals_of l.tracker + 1
     → arrivals_of l.tracker < l.counts.packets → IsTextPacket p → Listens m r (record { time = max at (latest past); packet = p } ∷ past)
-took l m t r past at p li h g quiet done more room text =
+took l m t b r past at p li h g quiet done more room text =
     let new = g.hears r.source (came li.story at p) h in
     let moment : max li.story.moment at ≡ max at (latest past) = ap (λ n. max n at) li.moment ∙ max_comm (latest past) at in
     record {
@@ -68,9 +66,9 @@ took l m t r past at p li h g quiet done more room text =
       open_still = g.finished ∙ (done ∙ li.open_still);
     }
 
--- one more packet is counted
-pub counted_up : (l : Listener) (r : ReadConf) (past : List Arrival) → Listens l r past → Listens (record l { counts = record l.counts { packets = l.counts.packets + 1 } }) r past
-counted_up l r past li = record {
+-- one more packet is counted, and is read
+pub counted_up : (l : Listener) (b : Box TextPacket Global) (r : ReadConf) (past : List Arrival) → Listens l r past → Listens (record l { packet = b; counts = record l.counts { packets = l.counts.packets + 1 } }) r past
+counted_up l b r past li = record {
   story = li.story;
   hears = record { tracks = li.hears.tracks; stands = li.hears.stands; latest = li.hears.latest; text = li.hears.text; used = li.hears.used };
   wait = li.wait;

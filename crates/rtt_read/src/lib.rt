@@ -7,3 +7,6 @@ mod reads;
 
 pub use confs::ReadConf;
 pub use reads::{ListenFault, heard_view};
+
+#[cfg(test)]
+mod tests;

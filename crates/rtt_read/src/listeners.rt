@@ -38,6 +38,9 @@ pub struct Listener {
     pts: Pts,
     tracker: Tracker,
     receiver: Receiver,
+    /// The packet that is read, or heard.
+    packet: Box<TextPacket>,
+    /// What it gave.
     heard: Heard,
     text: Bytes,
     counts: Counts,
@@ -67,6 +70,7 @@ impl Listener {
             pts: conf.pts,
             tracker: Tracker::new(alloc, WAIT)?,
             receiver: Receiver::new(alloc, &[conf.source])?,
+            packet: Box::new(alloc, TextPacket::default())?,
             heard: Heard::new(),
             text: Bytes::new(alloc),
             counts: Counts::default(),
@@ -81,25 +85,26 @@ impl Listener {
         ensures all { OnOk result ((source : ℕ) (story : Story) → Hears self.new source story → story.given ≡ ready_dues story) }
         ensures quiet { OnOk result (has_ready self.new.tracker ≡ Bool.false) }
     {
-        while let Some(due) = self.tracker.next() {
-            self.receiver.take(due.number, &due.packet, &mut self.heard);
+        while let Some(due) = self.tracker.next(&mut self.packet) {
+            self.receiver
+                .take(due.number, &self.packet, &mut self.heard);
             append_heard(&self.heard, &mut self.text)?;
             self.counts.used += 1;
         }
         Ok(())
     }
 
-    /// Takes a packet of the stream, which came at `at`.
-    fn take(&mut self, at: u32, packet: TextPacket) -> Result<(), NoMemory>
+    /// Takes the packet that is read, which is of the stream and came at `at`.
+    fn take(&mut self, at: u32) -> Result<(), NoMemory>
         requires stands { IsListening self.old }
         requires few { arrivals_of self.old.tracker < 2 ^ 40 }
         requires room { arrivals_of self.old.tracker < self.old.counts.packets }
-        requires texts { IsTextPacket (packet_of packet) }
+        requires texts { IsTextPacket (packet_of self.old.packet.value) }
         ensures listens { OnOk result ((r : ReadConf) (past : List Arrival) → Listens self.old r past
-            → Listens self.new r (record { time = max at (latest past); packet = packet_of packet } ∷ past)) }
+            → Listens self.new r (record { time = max at (latest past); packet = packet_of self.old.packet.value } ∷ past)) }
         ensures counts { OnOk result (SameStream self.old self.new) }
     {
-        let _taken = self.tracker.arrive(u64::from(at), packet);
+        let _taken = self.tracker.arrive(u64::from(at), &mut self.packet);
         self.gather()
     }
 
@@ -113,9 +118,8 @@ impl Listener {
             → CountsAs (fate_of (text_of octets.now (Some r.ssrc) r.pts)) self.old.counts self.new.counts) }
     {
         self.counts.packets += 1;
-        let mut packet = TextPacket::default();
-        match read_text(octets, Some(self.ssrc), self.pts, &mut packet) {
-            Ok(()) => self.take(at, packet),
+        match read_text(octets, Some(self.ssrc), self.pts, &mut self.packet) {
+            Ok(()) => self.take(at),
             Err(TextFault::Foreign) => {
                 self.counts.foreign += 1;
                 Ok(())

@@ -9,8 +9,8 @@ ghost use Rattle.rtt_read.specs.ReadView.{fate, read_view};
 ghost use Rattle.rtt_read.specs.Hears.{CountsAs, Listens, IsListening};
 ghost use Rattle.rtt_read.specs.Recordings.{record_of, is_end, Hearing, IsSourceFault, ListenFaultOf};
 
-use crate::listeners::Listener;
 use crate::ReadConf;
+use crate::listeners::Listener;
 use rtpdump_io::{DumpFault, DumpItem, DumpReader};
 use rtt_base::{Bytes, NoMemory as OutOfMemory, Packet};
 use rtt_io::Source;

@@ -7,3 +7,5 @@ pub mod Lines
 pub mod Accepted
 pub mod Typed
 pub mod ReadBack
+pub mod Arriving
+pub mod Heard

@@ -124,7 +124,7 @@ map_same : {X Y : Type 0} (f g : X → Y) (xs : List X) → ((x : X) → In x xs
 map_same f g [] e = refl
 map_same f g (x ∷ xs) e = ap (λ y. y ∷ map f xs) (e x (inl refl)) ∙ ap (λ ys. g x ∷ ys) (map_same f g xs (λ y i. e y (inr i)))
 
-packet_stays : (h : History) (e : Entry) (x : Placed) → In x (placed h) → own_packet (grown h e) x ≡ own_packet h x
+pub packet_stays : (h : History) (e : Entry) (x : Placed) → In x (placed h) → own_packet (grown h e) x ≡ own_packet h x
 packet_stays h e x i = rw (before_grown h e (max 1 x.gens) x i, window_grown h e x i) refl
 
 -- a packet of a record, read; and the own packet of an entry, as it is read

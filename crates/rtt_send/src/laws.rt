@@ -3,14 +3,16 @@ ghost use Rattle.std.specs.Prelude.{◌≡◌, ◌<◌, ◌≤◌, ◌^◌, ℕ,
 ghost use Rattle.file_spec.specs.declared.script_lines.ScriptLine.{ScriptLine};
 ghost use Rattle.file_spec.specs.Script.{script};
 ghost use Rattle.wire_spec.specs.Text.{text_of};
-ghost use Rattle.wire_spec.specs.Dump.{dump, usual_limit, sent_item};
-ghost use Rattle.stream_spec.specs.History.{Lawful, placed};
+ghost use Rattle.wire_spec.specs.Dump.{dump, usual_limit, sent_item, arrivals};
+ghost use Rattle.std.specs.List.{concat};
+ghost use Rattle.stream_spec.specs.Hearing.{heard};
+ghost use Rattle.stream_spec.specs.History.{Lawful, Come, placed, places};
 ghost use Rattle.stream_spec.specs.Own.{Own, Closed, own_packet};
 ghost use Rattle.text_sender.specs.declared.senders.SendConf.{SendConf};
 ghost use Rattle.text_sender.specs.Confs.{IsConf};
 ghost use Rattle.text_sender.specs.Standing.{history_sent, primaries};
 ghost use Rattle.rtt_send.specs.Scripts.{AreLines, events_through, texts, IsEnd};
-ghost use Rattle.rtt_send.specs.Recordings.{records_sent, recording_sent};
+ghost use Rattle.rtt_send.specs.Recordings.{records_sent, recording_sent, IsReadable};
 
 /// A script that is accepted has its lines in order, in the first four hours, and their texts are UTF-8.
 pub fn accepted_scripts_are_lines()
@@ -35,13 +37,27 @@ pub fn sent_history()
         → primaries (history_sent conf (events_through lines t)) ≡ texts lines }
 {}
 
-/// A recording that is neither too large nor too long is read back as its records, and their packets are read as the
-/// packets of the history, each of its entry, in order.
+/// A recording that is neither too large nor too long is read back as its records. Their packets are read as the
+/// packets of the history, in order.
 pub fn sent_is_read_back()
-    ensures records { (conf : SendConf) (lines : List ScriptLine) (t : ℕ) → IsConf conf → conf.ssrc < 2 ^ 32 → AreLines lines → t < 2 ^ 31
-        → All (λ r. r.0 ≤ 14400000) (records_sent conf lines t) → length (recording_sent conf lines t) ≤ usual_limit
+    ensures records { (conf : SendConf) (lines : List ScriptLine) (t : ℕ) → IsReadable conf lines t
         → dump usual_limit (recording_sent conf lines t) ≡ record { items = map sent_item (records_sent conf lines t); fault = None } }
     ensures packets { (conf : SendConf) (lines : List ScriptLine) (t : ℕ) → IsConf conf → conf.ssrc < 2 ^ 32 → AreLines lines → t < 2 ^ 31
         → map (λ r. text_of r.1 (Some conf.ssrc) conf.pts) (records_sent conf lines t)
         ≡ map (λ x. Ok (own_packet (history_sent conf (events_through lines t)) x)) (placed (history_sent conf (events_through lines t))) }
+{}
+
+/// What arrives out of such a recording are packets of the history, and all of them come in time.
+pub fn sent_arrives()
+    ensures come { (conf : SendConf) (lines : List ScriptLine) (t : ℕ) → IsReadable conf lines t
+        → Come (history_sent conf (events_through lines t)) (arrivals (recording_sent conf lines t) conf.ssrc conf.pts) }
+    ensures all { (conf : SendConf) (lines : List ScriptLine) (t wait : ℕ) → IsReadable conf lines t
+        → places wait (history_sent conf (events_through lines t)) (arrivals (recording_sent conf lines t) conf.ssrc conf.pts)
+        ≡ placed (history_sent conf (events_through lines t)) }
+{}
+
+/// What is heard of such a recording, however long a gap is waited for, is the text of all lines.
+pub fn sent_is_heard()
+    ensures { (conf : SendConf) (lines : List ScriptLine) (t wait : ℕ) → IsReadable conf lines t → IsEnd conf lines t
+        → concat (heard wait (arrivals (recording_sent conf lines t) conf.ssrc conf.pts) conf.ssrc) ≡ texts lines }
 {}

@@ -7,7 +7,10 @@ mod recorders;
 mod sending;
 
 pub use faults::SendFault;
-pub use laws::{accepted_scripts_are_lines, ends_agree, sent_history, sent_is_read_back};
+pub use laws::{
+    accepted_scripts_are_lines, ends_agree, sent_arrives, sent_history, sent_is_heard,
+    sent_is_read_back,
+};
 pub use sending::send_script;
 
 #[cfg(test)]

@@ -1,6 +1,8 @@
 -- What holds of the command that the words ask for.
 use Rattle.std.proofs.Common.{◌≡◌, ℕ, Option, Some, None, List, sym, subst}
 use Rattle.file_spec.specs.Words.{Command}
+use Rattle.std.specs.Prelude.{IfSome}
+use Rattle.rtt_top.specs.Tasks.{Refused}
 use Rattle.rtt_top.specs.Runs.{ForCommand}
 
 pub for_command : (asked : Option Command) (c : Command) (P : Command → Type 0) → asked ≡ Some c → P c → ForCommand asked P
@@ -14,3 +16,7 @@ and_so (Some c) P Q f p = f c p
 -- words ask for one command
 pub same_command : (asked : Option Command) (c d : Command) → asked ≡ Some c → asked ≡ Some d → c ≡ d
 same_command asked c d e f = cc
+
+pub some_so : (o : Option Refused) (P Q : Refused → Type 0) → ((r : Refused) → P r → Q r) → IfSome o P → IfSome o Q
+some_so None P Q f p = tt
+some_so (Some r) P Q f p = f r p

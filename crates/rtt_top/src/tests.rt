@@ -1,6 +1,6 @@
 use crate::run;
 use rtt_base::{Bytes, NoMemory, Path};
-use rtt_io::{FailingCall, MemSink, MemWorld, StillGate};
+use rtt_io::{FailingCall, FailingWrite, MemSink, MemWorld, StillGate};
 use std::alloc::Global;
 use std::sync::Wait;
 use std::test::Fail;
@@ -25,6 +25,13 @@ const D_AGAIN: [u8; 23] =
 
 const D_LAST: [u8; 22] =
     *b"\x80\x64\0\x05\0\0\x05\xDC\0\0\x03\xE9\xE2\x09\x60\x01\xE2\x04\xB0\0\x62D";
+
+// What is told of words outside the word table.
+const USAGE: &str = "\
+usage: rtt_program read FILE SSRC [SOURCE [T140 RED]]
+\x20      rtt_program list FILE [T140 RED]
+\x20      rtt_program send SCRIPT OUT SSRC SEQ STAMP
+";
 
 /// What a run left: its status, and what it wrote.
 #[derive(Drop)]
@@ -150,6 +157,33 @@ fn two_letters(alloc: Global) -> Result<Bytes, NoMemory> {
         900,
         b"\x80\x64\0\x03\0\0\x03\x84\0\0\x03\xE9\xE2\x09\x60\x01\xE2\x04\xB0\0\x62B",
     )?;
+    Ok(recording)
+}
+
+fn twice(alloc: Global, octets: &[u8]) -> Result<Bytes, NoMemory> {
+    let mut both = Bytes::new(alloc);
+    both.append(octets)?;
+    both.append(octets)?;
+    Ok(both)
+}
+
+fn eight_times(alloc: Global, octets: &[u8]) -> Result<Bytes, NoMemory> {
+    let two = twice(alloc, octets)?;
+    let four = twice(alloc, two.as_slice())?;
+    twice(alloc, four.as_slice())
+}
+
+// 128 records of 32768 octets each, behind the 44 octets of the opening.
+fn large(alloc: Global) -> Result<Bytes, NoMemory> {
+    let body = eight_times(alloc, &[0; 4095])?;
+    let mut record = Bytes::new(alloc);
+    record.append(b"\x80\0\0\x01\0\0\0\0")?;
+    record.append(body.as_slice())?;
+    let eight = eight_times(alloc, record.as_slice())?;
+    let most = eight_times(alloc, eight.as_slice())?;
+    let all = twice(alloc, most.as_slice())?;
+    let mut recording = opening(alloc)?;
+    recording.append(all.as_slice())?;
     Ok(recording)
 }
 
@@ -434,6 +468,28 @@ fn broken_recordings_are_refused_at_their_byte(rt: HostRuntime) -> Result<(), Fa
     let mut short = opening(rt.alloc())?;
     short.append(b"\0\x07\0\0\0\0\0\0")?;
     world.add_file("short.rtp", short.as_slice())?;
+    world.add_file("head.rtp", &OPENING[..43])?;
+    world.add_file("large.rtp", large(rt.alloc())?.as_slice())?;
+    assert!(rt;
+        fails(
+            &rt,
+            rt.alloc(),
+            &mut world,
+            "read head.rtp 1001",
+            6,
+            "head.rtp byte 28: EndsInside\n"
+        )?
+    );
+    assert!(rt;
+        fails(
+            &rt,
+            rt.alloc(),
+            &mut world,
+            "list large.rtp",
+            6,
+            "large.rtp byte 4161580: TooLarge\n"
+        )?
+    );
     assert!(rt;
         fails(
             &rt,
@@ -479,7 +535,7 @@ fn broken_recordings_are_refused_at_their_byte(rt: HostRuntime) -> Result<(), Fa
 
 #[test]
 fn wrong_words_are_answered_with_the_usage(rt: HostRuntime) -> Result<(), Fail> {
-    let usage = "usage: rtt_program read FILE SSRC [SOURCE]\n";
+    let usage = USAGE;
     let mut world = MemWorld::new(rt.alloc());
     assert!(rt; fails(&rt, rt.alloc(), &mut world, "read a.rtp", 2, usage)?);
     assert!(rt; fails(&rt, rt.alloc(), &mut world, "read a.rtp -1", 2, usage)?);
@@ -496,6 +552,10 @@ fn wrong_words_are_answered_with_the_usage(rt: HostRuntime) -> Result<(), Fail> 
     );
     assert!(rt; fails(&rt, rt.alloc(), &mut world, "help", 2, usage)?);
     assert!(rt; fails(&rt, rt.alloc(), &mut world, "", 2, usage)?);
+    assert!(rt; fails(&rt, rt.alloc(), &mut world, "mix", 2, usage)?);
+    assert!(rt; fails(&rt, rt.alloc(), &mut world, "mix a b", 2, usage)?);
+    assert!(rt; fails(&rt, rt.alloc(), &mut world, "list a.rtp 98", 2, usage)?);
+    assert!(rt; fails(&rt, rt.alloc(), &mut world, "send s o 1 65536 0", 2, usage)?);
     Ok(())
 }
 
@@ -524,6 +584,195 @@ fn faults_of_the_outside_are_told(rt: HostRuntime) -> Result<(), Fail> {
             4,
             "cannot read a.rtp\n"
         )?
+    );
+    Ok(())
+}
+
+#[test]
+fn each_record_has_its_line(rt: HostRuntime) -> Result<(), Fail> {
+    let recording = two_letters(rt.alloc())?;
+    let ran = play_recording(&rt, rt.alloc(), &recording, "list a.rtp")?;
+    assert_eq!(rt; ran.status, 0);
+    assert_eq!(rt;
+        ran.out.taken(),
+        b"0 0 mark 1 stamp 0 ssrc 1001 source 1001 texts 0 0 1\n\
+        300 1 mark 0 stamp 300 ssrc 1001 source 1001 texts 0 1 1\n\
+        600 2 mark 0 stamp 600 ssrc 1001 source 1001 texts 1 1 0\n\
+        900 3 mark 0 stamp 900 ssrc 1001 source 1001 texts 1 0 0\n\
+        -- records 4\n"
+            .as_slice()
+    );
+    Ok(())
+}
+
+#[test]
+fn payload_types_are_those_of_the_words(rt: HostRuntime) -> Result<(), Fail> {
+    let recording = two_letters(rt.alloc())?;
+    let ran = play_recording(&rt, rt.alloc(), &recording, "read a.rtp 1001 1001 98 99")?;
+    assert_eq!(rt;
+        ran.out.taken(),
+        b"| \n-- bells 0\n-- packets 4 used 0 refused 4 foreign 0\n".as_slice()
+    );
+    let ran = play_recording(&rt, rt.alloc(), &recording, "list a.rtp 99 100")?;
+    assert_eq!(rt;
+        ran.out.taken(),
+        b"0 refused WrongType\n300 refused WrongType\n600 refused WrongType\n900 refused WrongType\n-- records 4\n".as_slice()
+    );
+    Ok(())
+}
+
+// Whether a run of these words ends with 0 and writes nothing on `out` and `err`.
+fn is_quiet<R: Threads + Wait + Sync>(
+    rt: &R,
+    alloc: Global,
+    world: &mut MemWorld,
+    text: &str,
+) -> Result<bool, Fail> {
+    let ran = play(rt, alloc, world, text)?;
+    Ok(ran.status == 0 && ran.out.taken().is_empty() && ran.err.taken().is_empty())
+}
+
+fn front(octets: &[u8], most: usize) -> &[u8] {
+    &octets[..octets.len().min(most)]
+}
+
+// Whether a file holds these octets.
+fn holds(world: &MemWorld, name: &str, octets: &[u8]) -> bool {
+    match world.contents(name) {
+        Some(held) => held == octets,
+        None => false,
+    }
+}
+
+#[test]
+fn a_script_of_two_letters_is_sent(rt: HostRuntime) -> Result<(), Fail> {
+    let mut world = MemWorld::new(rt.alloc());
+    world.add_file("s.txt", b"0 A\n300 B\n")?;
+    assert!(rt; is_quiet(&rt, rt.alloc(), &mut world, "send s.txt a.rtp 1001 0 0")?);
+    assert!(rt; holds(&world, "a.rtp", two_letters(rt.alloc())?.as_slice()));
+    assert!(rt; holds(&world, "s.txt", b"0 A\n300 B\n"));
+    Ok(())
+}
+
+#[test]
+fn a_script_that_was_sent_shows_its_text(rt: HostRuntime) -> Result<(), Fail> {
+    let mut world = MemWorld::new(rt.alloc());
+    // wide characters, a pause of 20 seconds, a new line, an erasure and a bell
+    world.add_file(
+        "s.txt",
+        "# a call\n0 Gr\u{fc}\u{df}e\n\n20000 \u{1F600}\\nx\\a\n20100 y\\bz\n".as_bytes(),
+    )?;
+    assert!(rt;
+        is_quiet(
+            &rt,
+            rt.alloc(),
+            &mut world,
+            "send s.txt a.rtp 4294967295 65535 4294967295"
+        )?
+    );
+    let ran = play(&rt, rt.alloc(), &mut world, "read a.rtp 4294967295")?;
+    assert_eq!(rt; ran.status, 0);
+    assert_eq!(rt;
+        ran.out.taken(),
+        "| Gr\u{fc}\u{df}e\u{1F600}\n| xz\n-- bells 1\n-- packets 7 used 7 refused 0 foreign 0\n".as_bytes()
+    );
+    Ok(())
+}
+
+#[test]
+fn a_refused_script_makes_no_recording(rt: HostRuntime) -> Result<(), Fail> {
+    let mut world = MemWorld::new(rt.alloc());
+    world.add_file("s.txt", b"0 A\n# B\nx C\n")?;
+    assert!(rt;
+        fails(
+            &rt,
+            rt.alloc(),
+            &mut world,
+            "send s.txt a.rtp 1001 0 0",
+            5,
+            "s.txt line 3: Number\n"
+        )?
+    );
+    assert!(rt; world.contents("a.rtp").is_none());
+    Ok(())
+}
+
+// A script whose first 16 lines have 1023 octets of text each, all at once.
+fn full(alloc: Global, last: &[u8]) -> Result<Bytes, NoMemory> {
+    let mut line = Bytes::new(alloc);
+    line.append(b"0 ")?;
+    line.append(&[b'x'; 1023])?;
+    line.append(b"\n")?;
+    let eight = eight_times(alloc, line.as_slice())?;
+    let mut script = twice(alloc, eight.as_slice())?;
+    script.append(last)?;
+    Ok(script)
+}
+
+#[test]
+fn a_line_that_makes_too_much_wait_is_refused(rt: HostRuntime) -> Result<(), Fail> {
+    let mut world = MemWorld::new(rt.alloc());
+    world.add_file(
+        "full.txt",
+        full(rt.alloc(), b"0 12345678901234567")?.as_slice(),
+    )?;
+    world.add_file(
+        "most.txt",
+        full(rt.alloc(), b"0 1234567890123456")?.as_slice(),
+    )?;
+    assert!(rt;
+        fails(
+            &rt,
+            rt.alloc(),
+            &mut world,
+            "send full.txt a.rtp 1001 0 0",
+            5,
+            "full.txt line 17: Full\n"
+        )?
+    );
+    assert!(rt; is_quiet(&rt, rt.alloc(), &mut world, "send most.txt a.rtp 1001 0 0")?);
+    Ok(())
+}
+
+#[test]
+fn a_recording_that_cannot_be_written_is_told(rt: HostRuntime) -> Result<(), Fail> {
+    let mut world = MemWorld::new(rt.alloc());
+    world.add_file("s.txt", b"0 A\n300 B\n")?;
+    world.fail(FailingCall::Create(Path::from_text(rt.alloc(), "a.rtp")?))?;
+    world.fail(FailingCall::Write(
+        Path::from_text(rt.alloc(), "b.rtp")?,
+        FailingWrite {
+            write: 1,
+            through: 100,
+        },
+    ))?;
+    assert!(rt;
+        fails(
+            &rt,
+            rt.alloc(),
+            &mut world,
+            "send s.txt a.rtp 1001 0 0",
+            7,
+            "cannot write a.rtp\n"
+        )?
+    );
+    assert!(rt; world.contents("a.rtp").is_none());
+    assert!(rt;
+        fails(
+            &rt,
+            rt.alloc(),
+            &mut world,
+            "send s.txt b.rtp 1001 0 0",
+            7,
+            "cannot write b.rtp\n"
+        )?
+    );
+    assert!(rt;
+        holds(
+            &world,
+            "b.rtp",
+            front(two_letters(rt.alloc())?.as_slice(), 100)
+        )
     );
     Ok(())
 }

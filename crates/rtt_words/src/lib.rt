@@ -2,6 +2,7 @@
 #![tactic(auto)]
 
 mod commands;
+mod forms;
 mod words;
 
 pub use commands::{Command, ListWords, ReadWords, SendWords};

@@ -18,20 +18,18 @@ fn split(alloc: Global, text: &str) -> Result<Vec<String>, Fail> {
 
 fn asks(alloc: Global, text: &str, wanted: Command<'_>) -> Result<bool, Fail> {
     let words = split(alloc, text)?;
-    let asked = match command_of(alloc, words.as_slice()) {
-        Ok(command) => command == wanted,
-        Err(_) => false,
-    };
-    Ok(asked)
+    let asked = command_of(alloc, words.as_slice())?;
+    Ok(asked == wanted)
 }
 
+// Want of memory is no answer, and ends the test.
 fn is_wrong(alloc: Global, text: &str) -> Result<bool, Fail> {
     let words = split(alloc, text)?;
-    let wrong = match command_of(alloc, words.as_slice()) {
-        Ok(_) => false,
-        Err(fault) => fault == WordFault::Wrong,
-    };
-    Ok(wrong)
+    match command_of(alloc, words.as_slice()) {
+        Ok(_) => Ok(false),
+        Err(WordFault::Wrong) => Ok(true),
+        Err(fault) => Err(Fail::from(fault)),
+    }
 }
 
 fn read(source: u32, pts: Pts) -> Command<'static> {

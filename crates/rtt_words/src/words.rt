@@ -1,14 +1,19 @@
 //! Reads command words.
-ghost use Rattle.std.specs.Prelude.{◌≡◌, [], ◌∷◌, map, string_bytes, IfOk, if◌then◌else◌};
+ghost use Rattle.std.specs.Prelude.{◌≡◌, [], ◌∷◌, map, string_bytes, IfOk, true, drop, codes};
+ghost use Rattle.std.specs.List.{list_all};
 ghost use Rattle.std.specs.Option.{option_map};
-ghost use Rattle.file_spec.specs.Numbers.{number, most_ssrc};
-ghost use Rattle.file_spec.specs.Words.{Read, ListRecords, Send, command, is_word, payload_types, read_of, read_words, list_of, list_words, send_words};
+ghost use Rattle.clap.specs.Words.{first_value, found_of};
+ghost use Rattle.file_spec.specs.Words.{Read, ListRecords, Send, command, is_word, payload_types, read_words, list_words, send_words};
+ghost use Rattle.rtt_words.specs.Apps.{pts_given, read_given, list_given, send_given};
 ghost use Rattle.rtt_words.specs.Commands.{asked, listed, sent, meaning};
 
+use crate::forms::{list_matches, read_matches, send_matches};
 use crate::{Command, ListWords, ReadWords, SendWords};
+use clap::ArgMatches;
+use clap::error::ErrorKind;
 use numerals::{number_of, pts_of};
 use rtt_base::Pts;
-use std::alloc::Global;
+use std::alloc::{AllocError, Global};
 use thiserror::Error;
 
 /// Why words ask for nothing.
@@ -17,21 +22,54 @@ pub enum WordFault {
     /// They are outside the word table.
     #[error("wrong words")]
     Wrong,
+    /// Memory ran out before the words were read.
     #[error("out of memory")]
     NoMemory,
+}
+
+impl From<AllocError> for WordFault {
+    ghost use Rattle.std.specs.Prelude.{◌≡◌};
+    ghost use Rattle.rtt_words.specs.declared.words.WordFault.TheVariants.{NoMemory};
+
+    ghost from_gives = { λ _ fault. fault ≡ NoMemory };
+
+    fn from(_error: AllocError) -> WordFault {
+        WordFault::NoMemory
+    }
+}
+
+impl From<clap::Error> for WordFault {
+    ghost use Rattle.std.specs.Prelude.{◌≡◌};
+    ghost use Rattle.clap.specs.Words.{kind_of};
+    ghost use Rattle.rtt_words.specs.Apps.{fault_by};
+
+    ghost from_gives = { λ error fault. fault ≡ fault_by (kind_of error) };
+
+    fn from(error: clap::Error) -> WordFault {
+        match error.kind() {
+            ErrorKind::OutOfMemory => WordFault::NoMemory,
+            _ => WordFault::Wrong,
+        }
+    }
 }
 
 /// The payload types where none are named.
 const USUAL: Pts = Pts { t140: 98, red: 100 };
 
 /// Whether the word is neither empty nor begins with `-`.
-fn is_plain(word: &str) -> bool
-    ensures { result ≡ is_word word.now }
+fn is_plain(word: &String) -> bool
+    ensures { result ≡ is_word (string_bytes word.now) }
 {
-    match word.as_bytes() {
+    match word.as_str().as_bytes() {
         [] => false,
         [first, ..] => *first != b'-',
     }
+}
+
+fn all_plain(words: &[String]) -> bool
+    ensures { result ≡ list_all (λ w. is_word (string_bytes w)) words.now }
+{
+    words.iter().all(|word| is_plain(word))
 }
 
 /// Two payload types that differ.
@@ -42,21 +80,27 @@ fn payload_types_of(t140: &str, red: &str) -> Option<Pts>
     if pts.t140 == pts.red { None } else { Some(pts) }
 }
 
-/// A `read`, where the words are in its rows.
-fn read_from<'a>(
-    file: &'a str,
-    ssrc: &str,
-    source: &str,
-    types: Option<Pts>,
-) -> Option<ReadWords<'a>>
-    ensures { option_map (λ r. Read (asked r)) result ≡ (if is_word file.now then read_of file.now (number most_ssrc ssrc.now) (number most_ssrc source.now) types else None) }
+/// The payload types that a command names, both or neither.
+fn pts_matched(matches: &ArgMatches<'_>) -> Option<Pts>
+    ensures { result ≡ pts_given (first_value (found_of matches.now) (codes "T140")) (first_value (found_of matches.now) (codes "RED")) }
 {
-    if !is_plain(file) {
-        return None;
+    match (matches.get_str("T140"), matches.get_str("RED")) {
+        (None, None) => Some(USUAL),
+        (Some(t140), Some(red)) => payload_types_of(t140, red),
+        _ => None,
     }
+}
+
+/// A `read` with these arguments, if their numbers are in range.
+fn read_matched<'a>(matches: &ArgMatches<'a>) -> Option<ReadWords<'a>>
+    ensures { option_map (λ r. Read (asked r)) result ≡ read_given (first_value (found_of matches.now)) }
+{
+    let file = matches.get_str("FILE")?;
+    let ssrc = matches.get_str("SSRC")?;
+    let source = matches.get_str("SOURCE").unwrap_or(ssrc);
     let ssrc = number_of(ssrc, u32::MAX)?;
     let source = number_of(source, u32::MAX)?;
-    let pts = types?;
+    let pts = pts_matched(matches)?;
     Some(ReadWords {
         file,
         ssrc,
@@ -65,67 +109,24 @@ fn read_from<'a>(
     })
 }
 
-fn read_command(words: &[String]) -> Option<ReadWords<'_>>
-    ensures { option_map (λ r. Read (asked r)) result ≡ read_words (map string_bytes words.now) }
+/// A `list` with these arguments, if their numbers are in range.
+fn list_matched<'a>(matches: &ArgMatches<'a>) -> Option<ListWords<'a>>
+    ensures { option_map (λ l. ListRecords (listed l)) result ≡ list_given (first_value (found_of matches.now)) }
 {
-    match words {
-        [file, ssrc] => read_from(file.as_str(), ssrc.as_str(), ssrc.as_str(), Some(USUAL)),
-        [file, ssrc, source] => read_from(
-            file.as_str(),
-            ssrc.as_str(),
-            source.as_str(),
-            Some(USUAL),
-        ),
-        [file, ssrc, source, t140, red] => read_from(
-            file.as_str(),
-            ssrc.as_str(),
-            source.as_str(),
-            payload_types_of(t140.as_str(), red.as_str()),
-        ),
-        _ => None,
-    }
-}
-
-/// A `list`, where the words are in its rows.
-fn list_from(file: &str, types: Option<Pts>) -> Option<ListWords<'_>>
-    ensures { option_map (λ l. ListRecords (listed l)) result ≡ (if is_word file.now then list_of file.now types else None) }
-{
-    if !is_plain(file) {
-        return None;
-    }
-    let pts = types?;
+    let file = matches.get_str("FILE")?;
+    let pts = pts_matched(matches)?;
     Some(ListWords { file, pts })
 }
 
-fn list_command(words: &[String]) -> Option<ListWords<'_>>
-    ensures { option_map (λ l. ListRecords (listed l)) result ≡ list_words (map string_bytes words.now) }
+/// A `send` with these arguments, if their numbers are in range.
+fn send_matched<'a>(matches: &ArgMatches<'a>) -> Option<SendWords<'a>>
+    ensures { option_map (λ s. Send (sent s)) result ≡ send_given (first_value (found_of matches.now)) }
 {
-    match words {
-        [file] => list_from(file.as_str(), Some(USUAL)),
-        [file, t140, red] => list_from(
-            file.as_str(),
-            payload_types_of(t140.as_str(), red.as_str()),
-        ),
-        _ => None,
-    }
-}
-
-/// A `send`, where the words are in its row.
-fn send_from<'a>(
-    script: &'a str,
-    out: &'a str,
-    ssrc: &str,
-    seq: &str,
-    stamp: &str,
-) -> Option<SendWords<'a>>
-    ensures { option_map (λ s. Send (sent s)) result ≡ send_words (script.now ∷ out.now ∷ ssrc.now ∷ seq.now ∷ stamp.now ∷ []) }
-{
-    if !is_plain(script) || !is_plain(out) {
-        return None;
-    }
-    let ssrc = number_of(ssrc, u32::MAX)?;
-    let seq = number_of(seq, 65_535)?;
-    let stamp = number_of(stamp, u32::MAX)?;
+    let script = matches.get_str("SCRIPT")?;
+    let out = matches.get_str("OUT")?;
+    let ssrc = number_of(matches.get_str("SSRC")?, u32::MAX)?;
+    let seq = number_of(matches.get_str("SEQ")?, 65_535)?;
+    let stamp = number_of(matches.get_str("STAMP")?, u32::MAX)?;
     Some(SendWords {
         script,
         out,
@@ -135,43 +136,60 @@ fn send_from<'a>(
     })
 }
 
-fn send_command(words: &[String]) -> Option<SendWords<'_>>
-    ensures { option_map (λ s. Send (sent s)) result ≡ send_words (map string_bytes words.now) }
+/// A `read`, where the words after its name are in its rows.
+fn read_command(alloc: Global, words: &[String]) -> Result<ReadWords<'_>, WordFault>
+    requires { list_all is_word (drop 1 (map string_bytes words.now)) ≡ true }
+    ensures asked { IfOk result (λ r. read_words (drop 1 (map string_bytes words.now)) ≡ Some (Read (asked r))) }
+    ensures wrong { result ≡ Err WordFault.Wrong → read_words (drop 1 (map string_bytes words.now)) ≡ None }
 {
-    match words {
-        [script, out, ssrc, seq, stamp] => send_from(
-            script.as_str(),
-            out.as_str(),
-            ssrc.as_str(),
-            seq.as_str(),
-            stamp.as_str(),
-        ),
-        _ => None,
-    }
+    let matches = read_matches(alloc, words)?;
+    read_matched(&matches).ok_or(WordFault::Wrong)
 }
 
-/// The command of this name, where the words after it are in its rows.
-fn named<'a>(name: &str, words: &'a [String]) -> Option<Command<'a>>
-    ensures { option_map meaning result ≡ command (name.now ∷ map string_bytes words.now) }
+/// A `list`, where the words after its name are in its rows.
+fn list_command(alloc: Global, words: &[String]) -> Result<ListWords<'_>, WordFault>
+    requires { list_all is_word (drop 1 (map string_bytes words.now)) ≡ true }
+    ensures asked { IfOk result (λ l. list_words (drop 1 (map string_bytes words.now)) ≡ Some (ListRecords (listed l))) }
+    ensures wrong { result ≡ Err WordFault.Wrong → list_words (drop 1 (map string_bytes words.now)) ≡ None }
+{
+    let matches = list_matches(alloc, words)?;
+    list_matched(&matches).ok_or(WordFault::Wrong)
+}
+
+/// A `send`, where the words after its name are in its row.
+fn send_command(alloc: Global, words: &[String]) -> Result<SendWords<'_>, WordFault>
+    requires { list_all is_word (drop 1 (map string_bytes words.now)) ≡ true }
+    ensures asked { IfOk result (λ s. send_words (drop 1 (map string_bytes words.now)) ≡ Some (Send (sent s))) }
+    ensures wrong { result ≡ Err WordFault.Wrong → send_words (drop 1 (map string_bytes words.now)) ≡ None }
+{
+    let matches = send_matches(alloc, words)?;
+    send_matched(&matches).ok_or(WordFault::Wrong)
+}
+
+/// The command of this name, where the words after the first are in its rows.
+fn named<'a>(alloc: Global, name: &str, words: &'a [String]) -> Result<Command<'a>, WordFault>
+    requires { list_all is_word (drop 1 (map string_bytes words.now)) ≡ true }
+    ensures asked { IfOk result (λ c. command (name.now ∷ drop 1 (map string_bytes words.now)) ≡ Some (meaning c)) }
+    ensures wrong { result ≡ Err WordFault.Wrong → command (name.now ∷ drop 1 (map string_bytes words.now)) ≡ None }
 {
     match name {
-        "read" => Some(Command::Read(read_command(words)?)),
-        "list" => Some(Command::ListRecords(list_command(words)?)),
-        "send" => Some(Command::Send(send_command(words)?)),
-        _ => None,
+        "read" => Ok(Command::Read(read_command(alloc, words)?)),
+        "list" => Ok(Command::ListRecords(list_command(alloc, words)?)),
+        "send" => Ok(Command::Send(send_command(alloc, words)?)),
+        _ => Err(WordFault::Wrong),
     }
 }
 
 /// What these words, which are those after the program's name, ask for.
-pub fn command_of(_alloc: Global, words: &[String]) -> Result<Command<'_>, WordFault>
+pub fn command_of(alloc: Global, words: &[String]) -> Result<Command<'_>, WordFault>
     ensures asked { IfOk result (λ c. command (map string_bytes words.now) ≡ Some (meaning c)) }
     ensures wrong { result ≡ Err WordFault.Wrong → command (map string_bytes words.now) ≡ None }
 {
     let [name, more @ ..] = words else {
         return Err(WordFault::Wrong);
     };
-    match named(name.as_str(), more) {
-        Some(command) => Ok(command),
-        None => Err(WordFault::Wrong),
+    if !all_plain(more) {
+        return Err(WordFault::Wrong);
     }
+    named(alloc, name.as_str(), words)
 }

@@ -40,6 +40,27 @@ fn check_rows(
     Ok(())
 }
 
+/// Puts half a character at the end of each row's line, which is refused for that alone.
+fn check_no_text(
+    rt: &impl Abort,
+    alloc: Global,
+    above: &str,
+    table: &str,
+    number: u32,
+) -> Result<(), Fail> {
+    for row in table.lines() {
+        let (line, _) = row.split_once(" => ").ok_or("no row")?;
+        let mut file = above.as_bytes().to_vec(alloc)?;
+        file.extend_from_slice(line.as_bytes())?;
+        file.push(0xC3)?;
+        assert_eq!(rt;
+            refusal(alloc, &file, Form::Files),
+            Some((number, ConfKind::NotText))
+        );
+    }
+    Ok(())
+}
+
 #[test]
 fn a_conference_of_all_kinds_of_lines(rt: HostRuntime) -> Result<(), Fail> {
     let file =
@@ -177,21 +198,6 @@ leg A aware 1 c d => line 3: Twice\n\
 #[test]
 fn the_first_test_that_fails_names_the_refusal(rt: HostRuntime) -> Result<(), Fail> {
     check_rows(&rt, rt.alloc(), Form::Files, TWO_LEGS, THIRD_LINES)
-}
-
-#[test]
-fn a_line_that_is_no_text_is_refused_before_all_else(rt: HostRuntime) -> Result<(), Fail> {
-    for row in THIRD_LINES.lines() {
-        let (line, _) = row.split_once(" => ").ok_or("no row")?;
-        let mut file = TWO_LEGS.as_bytes().to_vec(rt.alloc())?;
-        file.extend_from_slice(line.as_bytes())?;
-        file.push(0xC3)?;
-        assert_eq!(rt;
-            refusal(rt.alloc(), &file, Form::Files),
-            Some((3, ConfKind::NotText))
-        );
-    }
-    Ok(())
 }
 
 #[test]
@@ -342,6 +348,21 @@ fn a_plan_has_at_most_4096_lines(rt: HostRuntime) -> Result<(), Fail> {
     )
 }
 
+#[test]
+fn a_line_that_is_no_text_is_refused_before_all_else(rt: HostRuntime) -> Result<(), Fail> {
+    check_no_text(&rt, rt.alloc(), TWO_LEGS, THIRD_LINES, 3)?;
+    let legs = leg_lines(rt.alloc(), 16)?;
+    check_no_text(&rt, rt.alloc(), legs.as_str(), AFTER_SIXTEEN_LEGS, 18)?;
+    let plan = plan_lines(rt.alloc(), 4096)?;
+    check_no_text(
+        &rt,
+        rt.alloc(),
+        plan.as_str(),
+        "lose L1 7 => PlanMany",
+        4100,
+    )
+}
+
 /// What the text before, a path of so many octets and the text after it are refused for.
 fn refusal_of_path(
     alloc: Global,
@@ -375,10 +396,10 @@ fn a_path_has_at_most_255_octets(rt: HostRuntime) -> Result<(), Fail> {
         (Form::Links, "leg A aware 1 0 ", 256, "", "line 1: Name"),
         (Form::Links, "leg A aware 1 ", 256, " h:1", "line 1: Number"),
     ];
-    for (form, before, count, after, refused) in cases {
+    for (form, before, count, after, answer) in cases {
         assert_eq!(rt;
             refusal_of_path(rt.alloc(), form, before, count, after)?.as_str(),
-            refused
+            answer
         );
     }
     Ok(())

@@ -1,4 +1,4 @@
-use Rattle.std.proofs.Common.{[], refl, sym, ◌∙◌}
+use Rattle.std.proofs.Common.{[], sym, ◌∙◌}
 use Rattle.rtpdump_io.specs.Reading.{to_come}
 use Rattle.rtt_read.specs.ReadView.{usual_wait}
 use Rattle.rtt_read.proofs.Utf8.{heard_utf8}

@@ -9,4 +9,4 @@ take-requires-clause-texts c = accepted_text c.args.octets.now (Some c.args.self
 
 pub returns-in-Ok-clause-listens : goal.returns-in-Ok-clause-listens
 returns-in-Ok-clause-listens c = on_ok c.take.result c.take.ensures.listens (λ f r past li.
-    rw (asked_same c.args.self.now r past c.args.octets.now _ li c.in-Ok.ensures.exact) (f r past (counted_up c.args.self.now r past li)))
+    rw (asked_same c.args.self.now r past c.args.octets.now _ li c.in-Ok.ensures.exact) (f r past (counted_up c.args.self.now _ r past li)))

@@ -1,6 +1,7 @@
 use Rattle.std.proofs.Common.{◌∷◌, [], ◌++◌, length-append, refl, ap, sym, ◌∙◌, arith}
 use Rattle.std.specs.List.{concat}
 use Rattle.gap_tracker.specs.Stories.{Story, gave, given_of}
+use Rattle.gap_tracker.specs.Tracks.{Tracks}
 use Rattle.rtt_read.specs.Hears.{given_packets, IsOnly}
 use Rattle.rtt_read.proofs.Gathering.{fronts, given_fits, next_rises, heard_one, only_one}
 use Rattle.rtt_read.proofs.listeners.Listener.gather.Goals as goal
@@ -10,17 +11,17 @@ take-requires c = λ latest e.
     let now = c.loop-due.invariant.hears c.requires.stands.0 c.requires.stands.1 c.requires.stands.2 in
     let story : Story = record c.requires.stands.1 { given = now.0 } in
     let told = c.in-Some.ensures.some story now.1.tracks in
-    let front = fronts (gave story (given_of c.in-Some.due)) (c.in-Some.ensures.front (gave story (given_of c.in-Some.due)) told) (c.in-Some.ensures.order (gave story (given_of c.in-Some.due)) told) in
-    next_rises story (given_of c.in-Some.due) front latest (sym now.1.latest ∙ e)
+    let front = fronts (gave story (given_of c.in-Some.due c.next.new.packet.value)) (c.in-Some.ensures.front (gave story (given_of c.in-Some.due c.next.new.packet.value)) told) (c.in-Some.ensures.order (gave story (given_of c.in-Some.due c.next.new.packet.value)) told) in
+    next_rises story (given_of c.in-Some.due c.next.new.packet.value) front latest (sym now.1.latest ∙ e)
 
 pub overflow_add-self : goal.overflow_add-self
 overflow_add-self c =
     let now = c.loop-due.invariant.hears c.requires.stands.0 c.requires.stands.1 c.requires.stands.2 in
     let story : Story = record c.requires.stands.1 { given = now.0 } in
     let told = c.in-Some.ensures.some story now.1.tracks in
-    let front = fronts (gave story (given_of c.in-Some.due)) (c.in-Some.ensures.front (gave story (given_of c.in-Some.due)) told) (c.in-Some.ensures.order (gave story (given_of c.in-Some.due)) told) in
-    let few = given_fits c.next.new.self (gave story (given_of c.in-Some.due)) told front in
-    let more = length-append now.0 (given_of c.in-Some.due ∷ []) in
+    let front = fronts (gave story (given_of c.in-Some.due c.next.new.packet.value)) (c.in-Some.ensures.front (gave story (given_of c.in-Some.due c.next.new.packet.value)) told) (c.in-Some.ensures.order (gave story (given_of c.in-Some.due c.next.new.packet.value)) told) in
+    let few = given_fits c.next.new.self (gave story (given_of c.in-Some.due c.next.new.packet.value)) told front in
+    let more = length-append now.0 (given_of c.in-Some.due c.next.new.packet.value ∷ []) in
     omega (arith, few, more, now.1.used, c.in-Some.ensures.arrivals, c.loop-due.invariant.arrivals, c.requires.few)
 
 pub loop-due-smaller : goal.loop-due-smaller
@@ -28,19 +29,20 @@ loop-due-smaller c =
     let now = c.loop-due.invariant.hears c.requires.stands.0 c.requires.stands.1 c.requires.stands.2 in
     let story : Story = record c.requires.stands.1 { given = now.0 } in
     let told = c.in-Some.ensures.some story now.1.tracks in
-    let front = fronts (gave story (given_of c.in-Some.due)) (c.in-Some.ensures.front (gave story (given_of c.in-Some.due)) told) (c.in-Some.ensures.order (gave story (given_of c.in-Some.due)) told) in
-    let few = given_fits c.next.new.self (gave story (given_of c.in-Some.due)) told front in
-    let more = length-append now.0 (given_of c.in-Some.due ∷ []) in
+    let front = fronts (gave story (given_of c.in-Some.due c.next.new.packet.value)) (c.in-Some.ensures.front (gave story (given_of c.in-Some.due c.next.new.packet.value)) told) (c.in-Some.ensures.order (gave story (given_of c.in-Some.due c.next.new.packet.value)) told) in
+    let few = given_fits c.next.new.self (gave story (given_of c.in-Some.due c.next.new.packet.value)) told front in
+    let more = length-append now.0 (given_of c.in-Some.due c.next.new.packet.value ∷ []) in
     omega (arith, few, more, now.1.used, c.in-Some.ensures.arrivals)
 
 pub loop-due-preserved : goal.loop-due-preserved
 loop-due-preserved c = record {
   hears = λ source story h.
       let now = c.loop-due.invariant.hears source story h in
-      let told = c.in-Some.ensures.some (record story { given = now.0 }) now.1.tracks in
-      let only : IsOnly c.take.new.out = only_one c.take.new.out source c.in-Some.due.packet.source (c.take.ensures.place (source ∷ []) (given_packets now.0) now.1.stands) (c.take.ensures.unlisted (source ∷ []) (given_packets now.0) now.1.stands) in (
-        now.0 ++ given_of c.in-Some.due ∷ [],
-        heard_one c.loop-due.self _ source (record story { given = now.0 }) c.in-Some.due c.take.new.out now.1 told
+      let heard = c.deref.result.now in
+      let told : Tracks c.next.new.self (gave (record story { given = now.0 }) (given_of c.in-Some.due heard)) = rw c.deref.ensures (c.in-Some.ensures.some (record story { given = now.0 }) now.1.tracks) in
+      let only : IsOnly c.take.new.out = only_one c.take.new.out source heard.source (c.take.ensures.place (source ∷ []) (given_packets now.0) now.1.stands) (c.take.ensures.unlisted (source ∷ []) (given_packets now.0) now.1.stands) in (
+        now.0 ++ given_of c.in-Some.due heard ∷ [],
+        heard_one c.loop-due.self _ source (record story { given = now.0 }) c.in-Some.due heard c.take.new.out now.1 told
             (c.take.ensures.stands (source ∷ []) (given_packets now.0) 0 now.1.stands) c.take.ensures.latest
             (c.take.ensures.heard (source ∷ []) (given_packets now.0) 0 0 now.1.stands (omega arith))
             (c.in_ok-append_heard.ensures ∙ ap (λ ts. c.loop-due.self.text ++ concat ts) only) refl,

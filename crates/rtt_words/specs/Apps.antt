@@ -1,0 +1,66 @@
+-- The arguments of each command, as `clap` sees them, and what their texts ask for.
+use Rattle.std.specs.Prelude.{ℕ, true, List, codes, Option, Some, None, option_and_then, unwrap_or}
+use Rattle.clap.specs.Words.{App, Rule, new_app, new_rule, with_rule}
+use Rattle.clap.specs.declared.error.kind.ErrorKind.{ErrorKind}
+use Rattle.clap.specs.declared.error.kind.ErrorKind.TheVariants.{OutOfMemory}
+use Rattle.rtt_words.specs.declared.words.WordFault.{WordFault}
+use Rattle.rtt_words.specs.declared.words.WordFault.TheVariants.{Wrong, NoMemory}
+use Rattle.clap.specs.Simple.{on_top}
+use Rattle.rtt_base.specs.declared.text_packets.Pts.{Pts}
+use Rattle.file_spec.specs.Numbers.{number, most_ssrc}
+use Rattle.file_spec.specs.Words.{Command, payload_types, usual_pts, read_of, list_of, send_of}
+
+-- a refusal of `clap`, by its kind
+abbrev pub fault_by : ErrorKind → WordFault
+fault_by OutOfMemory = NoMemory
+fault_by _ = Wrong
+
+-- a command without arguments, not even `--help`
+abbrev pub bare_app : List ℕ → App
+bare_app name = on_top (λ s. record s { disable_help_flag = true }) (new_app name)
+
+-- an argument that every row has
+abbrev pub required_rule : List ℕ → Rule
+required_rule id = record (new_rule id) { required = true }
+
+-- `read FILE SSRC`, and then SOURCE, T140 and RED
+abbrev pub read_app : App
+read_app =
+    with_rule (with_rule (with_rule (with_rule (with_rule (bare_app (codes "read")) (required_rule (codes "FILE"))) (required_rule (codes "SSRC")))
+    (new_rule (codes "SOURCE"))) (new_rule (codes "T140"))) (new_rule (codes "RED"))
+
+-- `list FILE`, and then T140 and RED
+abbrev pub list_app : App
+list_app = with_rule (with_rule (with_rule (bare_app (codes "list")) (required_rule (codes "FILE"))) (new_rule (codes "T140"))) (new_rule (codes "RED"))
+
+-- `send SCRIPT OUT SSRC SEQ STAMP`
+abbrev pub send_app : App
+send_app =
+    with_rule (with_rule (with_rule (with_rule (with_rule (bare_app (codes "send")) (required_rule (codes "SCRIPT"))) (required_rule (codes "OUT")))
+    (required_rule (codes "SSRC"))) (required_rule (codes "SEQ"))) (required_rule (codes "STAMP"))
+
+-- ---- what is asked for where each argument has this text
+
+-- the payload types are named both or not at all
+abbrev pub pts_given : Option (List ℕ) → Option (List ℕ) → Option Pts
+pts_given None None = Some usual_pts
+pts_given (Some t140) (Some red) = payload_types t140 red
+pts_given _ _ = None
+
+-- the texts of the arguments, by their ids
+abbrev pub Texts : Type 0
+Texts = List ℕ → Option (List ℕ)
+
+abbrev pub read_given : Texts → Option Command
+read_given text =
+    option_and_then (λ file. option_and_then (λ ssrc. read_of file (number most_ssrc ssrc) (number most_ssrc (unwrap_or (text (codes "SOURCE")) ssrc))
+    (pts_given (text (codes "T140")) (text (codes "RED")))) (text (codes "SSRC"))) (text (codes "FILE"))
+
+abbrev pub list_given : Texts → Option Command
+list_given text = option_and_then (λ file. list_of file (pts_given (text (codes "T140")) (text (codes "RED")))) (text (codes "FILE"))
+
+abbrev pub send_given : Texts → Option Command
+send_given text =
+    option_and_then (λ script. option_and_then (λ out. option_and_then (λ ssrc. option_and_then (λ seq. option_and_then (λ stamp.
+    send_of script out (number most_ssrc ssrc) (number 65535 seq) (number 4294967295 stamp))
+    (text (codes "STAMP"))) (text (codes "SEQ"))) (text (codes "SSRC"))) (text (codes "OUT"))) (text (codes "SCRIPT"))
