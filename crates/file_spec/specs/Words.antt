@@ -71,7 +71,7 @@ list_words _ = None
 abbrev pub send_of : List ℕ → List ℕ → Option ℕ → Option ℕ → Option ℕ → Option Command
 send_of script out ssrc seq stamp =
     option_and_then (λ s. option_and_then (λ q. option_map (λ t.
-        Send (record { script = script; out = out; ssrc = s; seq = q; stamp = t })) stamp) seq) ssrc
+    Send (record { script = script; out = out; ssrc = s; seq = q; stamp = t })) stamp) seq) ssrc
 
 -- `SCRIPT OUT SSRC SEQ STAMP`
 abbrev pub send_words : List (List ℕ) → Option Command

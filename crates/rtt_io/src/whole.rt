@@ -18,11 +18,7 @@ pub enum ReadFault {
 }
 
 /// Reads a source to its end, or until it has given more than `most` octets.
-pub fn read_whole<S: Source>(
-    alloc: Global,
-    source: &mut S,
-    most: usize,
-) -> Result<Bytes, ReadFault>
+pub fn read_whole<S: Source>(alloc: Global, source: &mut S, most: usize) -> Result<Bytes, ReadFault>
     ensures given { S.tells → IfOk result (λ octets. S.left source.old ≡ octets ++ S.left source.new) }
     ensures ended { S.tells → IfOk result (λ octets. length octets ≤ most → S.left source.new ≡ []) }
     ensures failed { result ≡ Err ReadFault.Failed → Rose (S.faults source.old) (S.faults source.new) }
