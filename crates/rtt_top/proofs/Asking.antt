@@ -1,5 +1,5 @@
 -- What holds of the command that the words ask for.
-use Rattle.std.proofs.Common.{◌≡◌, ℕ, Option, Some, None, List, sym, subst}
+use Rattle.std.proofs.Common.{◌≡◌, Option, Some, None, sym, subst}
 use Rattle.file_spec.specs.Words.{Command}
 use Rattle.std.specs.Prelude.{IfSome}
 use Rattle.rtt_top.specs.Tasks.{Refused}

@@ -1,8 +1,6 @@
 -- The status of a command and what is told of it, from what is known of its fault.
-use Rattle.std.proofs.Common.{◌≡◌, ℕ, Option, Some, None, List, refl, ap, sym, ◌∙◌, inl, inr, arith, subst, Result, Ok, Err}
+use Rattle.std.proofs.Common.{◌≡◌, ℕ, Option, Some, None, List, refl, ap, sym, inl, inr, arith, subst, Result, Ok, Err}
 use Rattle.std.specs.Prelude.{◌⊎◌, IfErr, OnOk, IfSome}
-use Rattle.wire_spec.specs.Dump.{Fault as DumpFault}
-use Rattle.file_spec.specs.Lines.{Refusal}
 use Rattle.file_spec.specs.Words.{Command, Read, ListRecords, Send}
 use Rattle.rtt_top.specs.declared.faults.Fault.{Fault}
 use Rattle.rtt_top.specs.declared.faults.Fault.TheVariants.{WrongWords, CannotOpen, CannotRead, BadScript, BadRecording, CannotPrint, CannotWrite, NoMemory}

@@ -1,5 +1,5 @@
 -- The recording that is made of a script.
-use Rattle.std.proofs.Common.{◌≡◌, ℕ, ◌<◌, ◌^◌, List, Ok, Some, None, arith}
+use Rattle.std.proofs.Common.{◌≡◌, ℕ, ◌<◌, ◌^◌, List, Ok, arith}
 use Rattle.file_spec.specs.declared.script_lines.ScriptLine.{ScriptLine}
 use Rattle.file_spec.specs.Script.{script}
 use Rattle.file_spec.specs.Words.{SendWords}

@@ -1,12 +1,12 @@
 -- What each command reads, prints and writes (profile).
-use Rattle.std.specs.Prelude.{◌≡◌, ℕ, Option, None, Some, List, [], take, Result, Ok, Err, ◌++◌, ◌⊎◌}
+use Rattle.std.specs.Prelude.{◌≡◌, ℕ, Option, Some, List, [], take, Result, Ok, Err, ◌⊎◌}
 use Rattle.std.specs.Option.{option_map}
 use Rattle.wire_spec.specs.Dump.{Fault, dump, usual_limit}
 use Rattle.file_spec.specs.declared.kinds.ConfKind.TheVariants.{Full}
 use Rattle.file_spec.specs.declared.script_lines.ScriptLine.{ScriptLine}
 use Rattle.file_spec.specs.Lines.{Refusal}
 use Rattle.file_spec.specs.Script.{script}
-use Rattle.file_spec.specs.Words.{ReadWords, ListWords, SendWords, Command, Read, ListRecords, Send, usual_pts}
+use Rattle.file_spec.specs.Words.{ReadWords, SendWords, Command, Read, ListRecords, Send, usual_pts}
 use Rattle.stream_spec.specs.History.{History, Lawful}
 use Rattle.stream_spec.specs.Own.{Own, Closed}
 use Rattle.text_sender.specs.declared.senders.SendConf.{SendConf}

@@ -1,4 +1,4 @@
-use Rattle.std.proofs.Common.{◌≡◌, ap, subst, ◌∙◌, Option}
+use Rattle.std.proofs.Common.{◌≡◌, ap, subst, ◌∙◌}
 use Rattle.std.specs.Option.{option_map}
 use Rattle.rtpdump_io.specs.Reading.{to_come}
 use Rattle.wire_spec.specs.Dump.{Recording, dump, usual_limit}

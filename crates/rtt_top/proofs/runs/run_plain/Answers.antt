@@ -1,6 +1,5 @@
 use Rattle.std.proofs.Common.{◌≡◌, ℕ, Some, List, ◌++◌, ap, sym, ◌∙◌, subst}
 use Rattle.std.specs.Prelude.{◌⊎◌, IfSome}
-use Rattle.file_spec.specs.Words.{Command}
 use Rattle.rtt_top.specs.Messages.{message_of, refusal_message, opening_message, reading_message, writing_message}
 use Rattle.rtt_top.specs.Tasks.{input_of, refusal_of}
 use Rattle.rtt_top.proofs.Asking.{and_so, some_so}
