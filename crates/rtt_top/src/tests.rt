@@ -462,6 +462,17 @@ fn broken_recordings_are_refused_at_their_byte(rt: HostRuntime) -> Result<(), Fa
     let mut world = MemWorld::new(rt.alloc());
     world.add_file("cut.rtp", &whole.as_slice()[..whole.len().min(165)])?;
     world.add_file("empty.rtp", b"")?;
+    world.add_file("few.rtp", &whole.as_slice()[..whole.len().min(143)])?;
+    assert!(rt;
+        fails(
+            &rt,
+            rt.alloc(),
+            &mut world,
+            "read few.rtp 1001",
+            6,
+            "few.rtp byte 136: EndsInside\n"
+        )?
+    );
     let mut long = opening(rt.alloc())?;
     append_record(&mut long, 14400001, &A)?;
     world.add_file("long.rtp", long.as_slice())?;
@@ -654,28 +665,76 @@ fn a_script_of_two_letters_is_sent(rt: HostRuntime) -> Result<(), Fail> {
     Ok(())
 }
 
+// Whether `read` shows this of the recording of what is sent for a script.
+fn sends<R: Threads + Wait + Sync>(
+    rt: &R,
+    alloc: Global,
+    script: &[u8],
+    view: &[u8],
+) -> Result<bool, Fail> {
+    let mut world = MemWorld::new(alloc);
+    world.add_file("s.txt", script)?;
+    let quiet = is_quiet(
+        rt,
+        alloc,
+        &mut world,
+        "send s.txt a.rtp 4294967295 65535 4294967295",
+    )?;
+    let ran = play(rt, alloc, &mut world, "read a.rtp 4294967295")?;
+    Ok(quiet && ran.status == 0 && ran.out.taken() == view)
+}
+
 #[test]
 fn a_script_that_was_sent_shows_its_text(rt: HostRuntime) -> Result<(), Fail> {
-    let mut world = MemWorld::new(rt.alloc());
     // wide characters, a pause of 20 seconds, a new line, an erasure and a bell
-    world.add_file(
-        "s.txt",
-        "# a call\n0 Gr\u{fc}\u{df}e\n\n20000 \u{1F600}\\nx\\a\n20100 y\\bz\n".as_bytes(),
-    )?;
     assert!(rt;
-        is_quiet(
+        sends(
             &rt,
             rt.alloc(),
-            &mut world,
-            "send s.txt a.rtp 4294967295 65535 4294967295"
+            "# a call\n0 Gr\u{fc}\u{df}e\n\n20000 \u{1F600}\\nx\\a\n20100 y\\bz\n".as_bytes(),
+            "| Gr\u{fc}\u{df}e\u{1F600}\n| xz\n-- bells 1\n-- packets 7 used 7 refused 0 foreign 0\n".as_bytes()
         )?
     );
-    let ran = play(&rt, rt.alloc(), &mut world, "read a.rtp 4294967295")?;
-    assert_eq!(rt; ran.status, 0);
-    assert_eq!(rt;
-        ran.out.taken(),
-        "| Gr\u{fc}\u{df}e\u{1F600}\n| xz\n-- bells 1\n-- packets 7 used 7 refused 0 foreign 0\n".as_bytes()
+    // the last line of the longest day, and a pause in which text is still to be repeated
+    assert!(rt;
+        sends(
+            &rt,
+            rt.alloc(),
+            b"0 a\n100 b\n14399000 c",
+            b"| abc\n-- bells 0\n-- packets 7 used 7 refused 0 foreign 0\n"
+        )?
     );
+    // nothing is typed
+    assert!(rt;
+        sends(
+            &rt,
+            rt.alloc(),
+            b"# nothing\n0 \n",
+            b"| \n-- bells 0\n-- packets 0 used 0 refused 0 foreign 0\n"
+        )?
+    );
+    Ok(())
+}
+
+#[test]
+fn characters_of_long_lines_are_not_cut(rt: HostRuntime) -> Result<(), Fail> {
+    let eight = eight_times(rt.alloc(), "\u{20AC}".as_bytes())?;
+    let most = eight_times(rt.alloc(), eight.as_slice())?;
+    let half = twice(rt.alloc(), most.as_slice())?;
+    let signs = twice(rt.alloc(), half.as_slice())?;
+    let mut script = Bytes::new(rt.alloc());
+    let mut view = Bytes::new(rt.alloc());
+    // 256 signs of three octets behind four letters, twice: a block of 1023 octets would end inside a sign
+    script.append(b"0 abcd")?;
+    script.append(signs.as_slice())?;
+    script.append(b"\n0 efgh")?;
+    script.append(signs.as_slice())?;
+    view.append(b"| abcd")?;
+    view.append(signs.as_slice())?;
+    view.append(b"efgh")?;
+    view.append(signs.as_slice())?;
+    view.append(b"\n-- bells 0\n-- packets 4 used 4 refused 0 foreign 0\n")?;
+    assert!(rt; sends(&rt, rt.alloc(), script.as_slice(), view.as_slice())?);
     Ok(())
 }
 
