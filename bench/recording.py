@@ -1,7 +1,7 @@
 #!/usr/bin/env python3
-"""Writes a recording of just under 4 MiB: one sender types a letter every 300 ms, in packets of 60 octets.
+"""Writes a recording of just under 4 MiB: one sender types 13 letters every 300 ms, in packets of 60 octets.
 
-usage: recording.py FILE [PACKETS]
+usage: recording.py FILE [PACKETS]      (prints the number of packets)
 
 Each packet has two redundant blocks (RFC 2198, RFC 4103) and 13 letters in each of its three texts.
 """
@@ -38,6 +38,7 @@ def main():
             # four hours are the most that a recording lasts
             at = min(300 * k, 14400000)
             out.write(struct.pack(">HHI", len(octets) + 8, len(octets), at) + octets)
+    print(most)
 
 
 main()
