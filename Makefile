@@ -1,12 +1,14 @@
-# make run       builds the proved program and prints the view of the stored recording
-# make test      the gate: proves everything from nothing
-# make examples  runs the commands of the documents and compares what they print
-# make bench     how fast the program reads
-# make install   the program and its page, below PREFIX
+# make run         builds the proved program and prints the view of the stored recording
+# make test        the gate: proves everything from nothing
+# make examples    runs the commands of the documents and compares what they print, and the stored recordings
+# make recordings  makes the stored recordings of examples/ anew
+# make bench       how fast the program reads and lists
+# make install     the program and its page, below PREFIX
+# PROGRAM=.. names another program than the one that `make run` built.
 PREFIX ?= /usr/local
 PROGRAM = crates/rtt_program/out/rtt_program
 
-.PHONY: run test examples bench install
+.PHONY: run test examples recordings bench install
 
 run:
 	cd crates/rtt_program && rt run -- read data/call.rtp 1001
@@ -20,8 +22,12 @@ $(PROGRAM):
 examples: $(PROGRAM)
 	examples/check $(PROGRAM)
 
+recordings: $(PROGRAM)
+	examples/make $(PROGRAM)
+
 bench: $(PROGRAM)
 	bench/read $(PROGRAM)
+	bench/list $(PROGRAM)
 
 install: $(PROGRAM)
 	install -D -m 755 $(PROGRAM) $(DESTDIR)$(PREFIX)/bin/rtt_program
