@@ -2,3 +2,4 @@ pub mod Input
 pub mod Reading
 pub mod Found
 pub mod Writing
+pub mod Answers

@@ -2,7 +2,7 @@
 ghost use Rattle.std.specs.Prelude.{◌≡◌, ◌+◌, ◌≤◌, ◌++◌, flat_map, length, decimal, Bool};
 ghost use Rattle.wire_spec.specs.Packets.{packet_of, blocks_of};
 ghost use Rattle.rtt_list.specs.Lists.{fault_name, bit, block_length, packet_line, refused_line, record_line};
-ghost use Rattle.rtt_list.specs.Listing.{record_of, is_end};
+ghost use Rattle.rtpdump_io.specs.Answers.{record_of, is_end};
 
 use crate::lines::Line;
 use red_blocks::read_text;

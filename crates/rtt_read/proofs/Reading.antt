@@ -1,5 +1,5 @@
 -- A listener that is told of the records of a recording, one after another.
-use Rattle.std.proofs.Common.{◌≡◌, ℕ, ◌+◌, ◌≤◌, Bool, true, false, cond, Some, List, ◌∷◌, refl, ap, sym, ◌∙◌, arith, length, subst, Ok, Err, ◌⊎◌, inl, inr}
+use Rattle.std.proofs.Common.{◌≡◌, ℕ, ◌+◌, ◌≤◌, Bool, true, false, cond, Some, List, ◌∷◌, refl, ap, sym, ◌∙◌, arith, length, subst, Err, ◌⊎◌, inl, inr}
 use Rattle.std.specs.Prelude.{filter}
 use Rattle.wire_spec.specs.Packets.{Arrival}
 use Rattle.wire_spec.specs.Dump.{Item, Recording, with_item, arrivals_with, arrivals_after, arrived}
@@ -8,15 +8,16 @@ use Rattle.wire_spec.specs.declared.faults.DumpKind.{DumpKind}
 use Rattle.wire_spec.specs.declared.faults.DumpKind.TheVariants as kinds
 use Rattle.std.proofs.lemmas.Bool.{true≢false}
 use Rattle.rtpdump_io.specs.declared.items.DumpFault.{DumpFault}
-use Rattle.rtpdump_io.specs.Reading.{Gives, is_last, is_ended, most_answers, source_of, to_come}
+use Rattle.rtpdump_io.specs.Reading.{Gives, is_ended, most_answers, source_of, to_come}
 use Rattle.rtpdump_io.specs.declared.items.DumpItem.{DumpItem}
-use Rattle.rtpdump_io.specs.declared.items.DumpItem.TheVariants.{Packet, Rtcp, Cut, Large, End}
+use Rattle.rtpdump_io.specs.declared.items.DumpItem.TheVariants.{Packet, Cut, Large}
 use Rattle.rtpdump_io.specs.declared.readers.DumpReader.{DumpReader}
 use Rattle.rtt_read.specs.declared.confs.ReadConf.{ReadConf}
 use Rattle.rtt_read.specs.declared.listeners.Listener.{Listener}
 use Rattle.rtt_read.specs.ReadView.{Fate, fate, fate_of, many, is_packet, is_refused, is_foreign}
 use Rattle.rtt_read.specs.Hears.{Listens, IsListening, CountsAs, one_if}
-use Rattle.rtt_read.specs.Recordings.{Heard, Hearing, record_of, is_end, is_read}
+use Rattle.rtt_read.specs.Recordings.{Heard, Hearing, is_read}
+use Rattle.rtpdump_io.specs.Answers.{record_of}
 
 pub one_at_most : (b : Bool) → one_if b ≤ 1
 one_at_most true = omega arith
@@ -46,14 +47,6 @@ heard_step r before now next l m n past item h e li c = record {
 pub heard_none : (before : Recording) (l : Listener) → Hearing before l before l
 heard_none before l r past li = record { arrivals = past; listens = li; same = refl; fault = refl; packets = refl; refused = refl; foreign = refl }
 
--- what an answer that is no end says of what was to come
-pub gives_item : (item : DumpItem) (out : List ℕ) (old new : Recording) → is_end item ≡ false → Gives (Ok item) out old new → old ≡ with_item (record_of item out) new
-gives_item (Packet at) out old new e g = g
-gives_item (Rtcp at) out old new e g = g
-gives_item (Cut at) out old new e g = g
-gives_item (Large at) out old new e g = g
-gives_item End out old new e g = absurd (true≢false e)
-
 -- a fault that is none of the source is the recording's
 gives_kind : (offset : ℕ) (k : DumpKind) (out : List ℕ) (old new : Recording) → Gives (Err (record { offset = offset; kind = k })) out old new → is_read k ≡ false → old.fault ≡ Some (record { byte = offset; kind = k })
 gives_kind offset kinds.NotDump out old new g e = ap (λ (q : Recording). q.fault) g
@@ -65,21 +58,6 @@ gives_kind offset kinds.Read out old new g e = absurd (true≢false e)
 
 pub gives_fault : (fault : DumpFault) (out : List ℕ) (old new : Recording) → Gives (Err fault) out old new → is_read fault.kind ≡ false → old.fault ≡ Some (record { byte = fault.offset; kind = fault.kind })
 gives_fault fault out old new g e = gives_kind fault.offset fault.kind out old new g e
-
--- an answer that is no end is not the last
-pub not_end : (item : DumpItem) → (item ≡ End → ⊥) → is_end item ≡ false
-not_end (Packet at) n = refl
-not_end (Rtcp at) n = refl
-not_end (Cut at) n = refl
-not_end (Large at) n = refl
-not_end End n = absurd (n refl)
-
-pub not_last : (item : DumpItem) → is_end item ≡ false → is_last (Ok item) ≡ false
-not_last (Packet at) e = refl
-not_last (Rtcp at) e = refl
-not_last (Cut at) e = refl
-not_last (Large at) e = refl
-not_last End e = absurd (true≢false e)
 
 -- a packet that is handed out
 pub as_packet : (item : DumpItem) (at : ℕ) (octets : List ℕ) (l m : Listener) → item ≡ Packet at

@@ -7,7 +7,8 @@ ghost use Rattle.rtt_io.specs.Counts.{Rose};
 ghost use Rattle.rtt_read.specs.declared.confs.ReadConf.{ReadConf};
 ghost use Rattle.rtt_read.specs.ReadView.{fate, read_view};
 ghost use Rattle.rtt_read.specs.Hears.{CountsAs, Listens, IsListening};
-ghost use Rattle.rtt_read.specs.Recordings.{record_of, is_end, Hearing, IsSourceFault, ListenFaultOf};
+ghost use Rattle.rtpdump_io.specs.Answers.{record_of, is_end};
+ghost use Rattle.rtt_read.specs.Recordings.{Hearing, IsSourceFault, ListenFaultOf};
 
 use crate::ReadConf;
 use crate::listeners::Listener;

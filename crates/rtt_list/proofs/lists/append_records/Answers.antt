@@ -3,8 +3,9 @@ use Rattle.rtt_base.specs.declared.text_packets.Pts.{Pts}
 use Rattle.wire_spec.specs.Dump.{with_item}
 use Rattle.rtpdump_io.specs.Reading.{to_come}
 use Rattle.rtt_list.specs.Lists.{record_line}
-use Rattle.rtt_list.specs.Listing.{is_end, record_of}
-use Rattle.rtt_list.proofs.Going.{gives_item, not_end, not_last, one_listed}
+use Rattle.rtpdump_io.specs.Answers.{is_end, record_of}
+use Rattle.rtpdump_io.proofs.Records.{gives_item, not_end, not_last}
+use Rattle.rtt_list.proofs.Going.{one_listed}
 use Rattle.rtt_list.proofs.lists.append_records.Goals as goal
 
 pub loop-item-preserved : goal.loop-item-preserved
