@@ -283,7 +283,9 @@ fn what_is_missing_is_missed_after_the_last_line(rt: HostRuntime) {
 fn leg_lines(alloc: Global, count: u32) -> Result<String, AllocError> {
     let mut file = String::from_str(alloc, "mixer 9000 0 0\n")?;
     for number in 0..count {
-        let line = format!(in alloc; "leg L{number} aware {number} {number}.in {number}.out\n")?;
+        let line = format!(in alloc;
+            "leg party{number} aware {number} {number}.in {number}.out\n"
+        )?;
         file.push_str(line.as_str())?;
     }
     Ok(file)
@@ -292,7 +294,7 @@ fn leg_lines(alloc: Global, count: u32) -> Result<String, AllocError> {
 fn plan_lines(alloc: Global, count: u32) -> Result<String, AllocError> {
     let mut file = leg_lines(alloc, 2)?;
     for number in 0..count {
-        let line = format!(in alloc; "lose L1 {number}\n")?;
+        let line = format!(in alloc; "lose party1 {number}\n")?;
         file.push_str(line.as_str())?;
     }
     Ok(file)
@@ -300,7 +302,7 @@ fn plan_lines(alloc: Global, count: u32) -> Result<String, AllocError> {
 
 /// What follows the mixer on line 1 and sixteen legs on lines 2 to 17, and what it is refused for.
 const AFTER_SIXTEEN_LEGS: &str = "leg Q aware 99 q.in q.out => line 18: Many\n\
-leg L0 aware 99 q.in q.out => line 18: Many\n\
+leg party0 aware 99 q.in q.out => line 18: Many\n\
 leg Q aware 0 q.in q.out => line 18: Many\n\
 leg Q aware 9000 q.in 0.out => line 18: Many\n\
 leg Q aware 99 q.in q.out 98 98 => line 18: Many\n\
@@ -327,11 +329,11 @@ fn a_conference_has_at_most_sixteen_legs(rt: HostRuntime) -> Result<(), Fail> {
 }
 
 /// What follows 4096 plan lines on lines 4 to 4099, and what it is refused for.
-const AFTER_A_FULL_PLAN: &str = "lose L1 7 => line 4100: PlanMany\n\
-delay L1 7 60001 => line 4100: Number\n\
+const AFTER_A_FULL_PLAN: &str = "lose party1 7 => line 4100: PlanMany\n\
+delay party1 7 60001 => line 4100: Number\n\
 lose Q 7 => line 4100: Name\n\
-lose L1 => line 4100: Count\n\
-tick 20;twice L0 7 => line 4101: PlanMany\n\
+lose party1 => line 4100: Count\n\
+tick 20;twice party0 7 => line 4101: PlanMany\n\
 ";
 
 #[test]
@@ -358,7 +360,7 @@ fn a_line_that_is_no_text_is_refused_before_all_else(rt: HostRuntime) -> Result<
         &rt,
         rt.alloc(),
         plan.as_str(),
-        "lose L1 7 => PlanMany",
+        "lose party1 7 => PlanMany",
         4100,
     )
 }
