@@ -1,6 +1,6 @@
 //! Reading the blocks of a payload.
-ghost use Rattle.std.specs.Prelude.{◌≡◌, ◌+◌, ◌^◌, ◌≤◌, ◌<◌, [], false, length, map, IfOk, IfSome, OnOk, OnErr, All, Ok, None};
-ghost use Rattle.std.specs.Str.{is_utf8};
+ghost use Rattle.std.specs.Prelude.{◌≡◌, ◌+◌, ◌^◌, ◌≤◌, ◌<◌, [], false, ◌↔◌, length, map, IfOk, IfSome, OnOk, OnErr, IsTrue, IsUtf8, All, Ok, None};
+ghost use Rattle.std.specs.Str.{is_utf8, IsAscii};
 ghost use Rattle.wire_spec.specs.Steps.{Gives};
 ghost use Rattle.wire_spec.specs.Packets.{HasPrimary};
 ghost use Rattle.wire_spec.specs.Red.{header_of, header_at, headers_at, older_size, blocks_at, checked, texts_at, red};
@@ -93,20 +93,39 @@ fn size_of_older(headers: &[RedHeader]) -> usize
     size
 }
 
-/// Appends a block, where its text is UTF-8.
-fn append_block(offset: u16, text: &[u8], out: &mut Blocks) -> Result<(), RedFault>
+/// Whether a text of any octets is UTF-8. Out of line: the texts of most packets are ASCII.
+#[inline(never)]
+fn is_text(text: &[u8]) -> bool
+    ensures { IsTrue result ↔ IsUtf8 text.now }
+{
+    simdutf8::is_utf8(text)
+}
+
+/// Whether a text is UTF-8. `plain`: it is known to be ASCII.
+#[inline(always)]
+fn passes(text: &[u8], plain: bool) -> bool
+    requires { IsTrue plain → IsAscii text.now }
+    ensures { IsTrue result ↔ IsUtf8 text.now }
+{
+    plain || is_text(text)
+}
+
+/// Appends a block, where its text is UTF-8. `plain`: it is known to be ASCII.
+#[inline(always)]
+fn append_block(offset: u16, text: &[u8], plain: bool, out: &mut Blocks) -> Result<(), RedFault>
     requires room { length out.old < 9 }
     requires fits { length text.now < 1024 }
+    requires plain { IsTrue plain → IsAscii text.now }
     ensures { Gives (λ _. out.new) result (after_block out.old offset text.now) }
 {
-    if !simdutf8::is_utf8(text) {
+    if !passes(text, plain) {
         return Err(RedFault::NotText);
     }
     out.push_copy(offset, text);
     Ok(())
 }
 
-/// Appends the block of each header, and the primary one with what is left.
+/// Appends the block of each header, and the primary one with what is left. All texts are tested for ASCII at once.
 fn append_blocks(headers: &[RedHeader], texts: &[u8], out: &mut Blocks) -> Result<(), RedFault>
     requires room { length out.old + length headers.now < 9 }
     requires small { All IsSmall headers.now }
@@ -114,13 +133,14 @@ fn append_blocks(headers: &[RedHeader], texts: &[u8], out: &mut Blocks) -> Resul
     requires fits { length texts.now < older_size headers.now + 1024 }
     ensures { Gives (λ _. out.new) result (after_blocks out.old (checked (blocks_at headers.now texts.now))) }
 {
+    let plain = texts.is_ascii();
     let mut rest = texts;
     for header in headers {
         let (text, after) = rest.split_at(usize::from(header.size));
-        append_block(header.offset, text, out)?;
+        append_block(header.offset, text, plain, out)?;
         rest = after;
     }
-    append_block(0, rest, out)
+    append_block(0, rest, plain, out)
 }
 
 /// Reads the texts behind the headers. There is no block before.
