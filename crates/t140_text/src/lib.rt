@@ -4,6 +4,7 @@
 mod classes;
 mod ends;
 mod lines;
+mod plain;
 mod screens;
 mod showing;
 pub mod views;

@@ -1,6 +1,6 @@
 //! What a text shows so far, character by character.
-ghost use Rattle.std.specs.Prelude.{◌≡◌, ℕ, ◌+◌, ◌<◌, ◌^◌, List, [], ◌∷◌, ◌++◌, OnOk};
-ghost use Rattle.t140_text.specs.Screens.{Holds};
+ghost use Rattle.std.specs.Prelude.{◌≡◌, ℕ, ◌+◌, ◌-◌, ◌<◌, ◌≤◌, ◌^◌, List, [], ◌∷◌, ◌++◌, length, All, OnOk, IfOk};
+ghost use Rattle.t140_text.specs.Screens.{Holds, IsPlain, Reads};
 
 use crate::class;
 use rtt_base::NoMemory;
@@ -44,5 +44,31 @@ impl Screen {
         }
         self.after_cr = c == '\r';
         Ok(())
+    }
+
+    /// Takes plain characters, which stand before `rest`.
+    pub(crate) fn print(&mut self, plain: &str) -> Result<(), NoMemory>
+        requires { All IsPlain plain.now }
+        ensures { (rest whole : List ℕ) → Reads self.old (plain.now ++ rest) whole → OnOk result (Reads self.new rest whole) }
+    {
+        if !plain.is_empty() {
+            self.text.push_str(plain)?;
+            self.after_cr = false;
+        }
+        Ok(())
+    }
+
+    /// Takes the first character of a text, if there is one, and answers with the others.
+    pub(crate) fn read_first<'a>(&mut self, text: &'a str) -> Result<&'a str, NoMemory>
+        requires { self.old.bells + 1 < 2 ^ 64 }
+        ensures reads { (whole : List ℕ) → Reads self.old text.now whole → IfOk result (λ rest. Reads self.new rest.now whole) }
+        ensures shorter { IfOk result (λ rest. length rest.now ≤ length text.now - 1) }
+    {
+        let mut chars = text.chars();
+        let Some(c) = chars.next() else {
+            return Ok(text);
+        };
+        self.read(c)?;
+        Ok(chars.as_str())
     }
 }

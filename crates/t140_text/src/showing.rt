@@ -4,6 +4,7 @@ ghost use Rattle.text_spec.specs.Shown.{shown};
 ghost use Rattle.t140_text.specs.Screens.{Holds};
 
 use crate::Lines;
+use crate::plain::plain_len;
 use crate::screens::Screen;
 use rtt_base::NoMemory;
 use std::alloc::Global;
@@ -38,8 +39,11 @@ fn read(alloc: Global, text: &str) -> Result<Screen, NoMemory>
     ensures { IfOk result (λ screen. Holds screen (chars text.now)) }
 {
     let mut screen = Screen::new(alloc);
-    for c in text.chars() {
-        screen.read(c)?;
+    let mut rest = text;
+    while !rest.is_empty() {
+        let (plain, after) = rest.split_at(plain_len(rest.as_bytes()));
+        screen.print(plain)?;
+        rest = screen.read_first(after)?;
     }
     Ok(screen)
 }
