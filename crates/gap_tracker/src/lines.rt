@@ -57,7 +57,9 @@ impl<T: Drop> Line<T> {
         requires room { length self.old < 65 }
         ensures { self.new ≡ insert self.old place item }
     {
-        if self.items.insert(place, item).is_err() {
+        if place == self.items.len() {
+            self.items.push_reserved(item);
+        } else if self.items.insert(place, item).is_err() {
             unreachable!();
         }
     }
