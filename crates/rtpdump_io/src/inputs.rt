@@ -106,8 +106,25 @@ impl<S: Source> Input<S> {
         Ok(Some(octet))
     }
 
-    /// Fills `buf`, as far as there are octets, and answers with how many.
+    /// Fills `buf`, as far as there are octets, and answers with how many. Mostly all stand in the block.
+    #[inline(always)]
     pub fn read_full(&mut self, buf: &mut [u8]) -> Result<usize, Failed>
+        ensures fits { IfOk result (λ number. number ≤ length buf.new) }
+        ensures never_falls { S.faults self.old.source ≤ S.faults self.new.source }
+        ensures failed { OnErr result (Rose (S.faults self.old.source) (S.faults self.new.source)) }
+        ensures same_name { S.name self.new.source ≡ S.name self.old.source }
+        ensures given { S.tells → IfOk result (λ number. unread S.left self.old ≡ take number buf.new ++ unread S.left self.new) }
+        ensures ended { S.tells → IfOk result (λ number. number < length buf.new → unread S.left self.new ≡ []) }
+    {
+        if self.held().len() < buf.len() {
+            return self.read_parts(buf);
+        }
+        Ok(self.hand_out(buf))
+    }
+
+    // Fills `buf` part by part.
+    #[inline(never)]
+    fn read_parts(&mut self, buf: &mut [u8]) -> Result<usize, Failed>
         ensures fits { IfOk result (λ number. number ≤ length buf.new) }
         ensures never_falls { S.faults self.old.source ≤ S.faults self.new.source }
         ensures failed { OnErr result (Rose (S.faults self.old.source) (S.faults self.new.source)) }
@@ -148,8 +165,27 @@ impl<S: Source> Input<S> {
         Ok(true)
     }
 
-    /// Copies so many octets behind those of `out`, and answers whether all of them were there.
+    /// Copies so many octets behind those of `out`, and answers whether all of them were there. Mostly they stand in the block.
     pub fn copy(&mut self, count: usize, out: &mut Packet) -> Result<bool, Failed>
+        requires { length out.old + count ≤ 4224 }
+        ensures never_falls { S.faults self.old.source ≤ S.faults self.new.source }
+        ensures failed { OnErr result (Rose (S.faults self.old.source) (S.faults self.new.source)) }
+        ensures same_name { S.name self.new.source ≡ S.name self.old.source }
+        ensures there { S.tells → result ≡ Ok true → Passes count (unread S.left self.old) (unread S.left self.new) }
+        ensures copied { S.tells → result ≡ Ok true → out.new ≡ out.old ++ take count (unread S.left self.old) }
+        ensures missing { S.tells → result ≡ Ok false → length (unread S.left self.old) < count }
+    {
+        if self.held().len() < count {
+            return self.copy_parts(count, out);
+        }
+        append(out, &self.held()[..count]);
+        self.advance(count);
+        Ok(true)
+    }
+
+    // Copies octets part by part.
+    #[inline(never)]
+    fn copy_parts(&mut self, count: usize, out: &mut Packet) -> Result<bool, Failed>
         requires { length out.old + count ≤ 4224 }
         ensures never_falls { S.faults self.old.source ≤ S.faults self.new.source }
         ensures failed { OnErr result (Rose (S.faults self.old.source) (S.faults self.new.source)) }

@@ -1,7 +1,7 @@
 use Rattle.std.proofs.Common.{◌≡◌, ◌∙◌, ◌≤◌, ℕ, List, ap, arith, take, length, ◌++◌, length-append, length-take}
 use Rattle.rtpdump_io.specs.Input.{held}
 use Rattle.rtpdump_io.proofs.Pieces.{passes_more, copies_more}
-use Rattle.rtpdump_io.proofs.inputs.Input.copy.Goals as goal
+use Rattle.rtpdump_io.proofs.inputs.Input.copy_parts.Goals as goal
 
 pub loop-done-preserved : goal.loop-done-preserved
 loop-done-preserved g c =

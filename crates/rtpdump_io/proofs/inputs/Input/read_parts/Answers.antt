@@ -1,6 +1,6 @@
 use Rattle.std.proofs.Common.{◌≡◌, ◌∙◌, ◌≤◌, ◌-◌, ap, arith, length, length-append, length-take, length-drop}
 use Rattle.rtpdump_io.proofs.Pieces.{fills_more}
-use Rattle.rtpdump_io.proofs.inputs.Input.read_full.Goals as goal
+use Rattle.rtpdump_io.proofs.inputs.Input.read_parts.Goals as goal
 
 pub loop-done-preserved : goal.loop-done-preserved
 loop-done-preserved g c =

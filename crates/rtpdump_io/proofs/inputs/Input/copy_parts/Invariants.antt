@@ -1,6 +1,6 @@
 use Rattle.std.proofs.Common.{◌≡◌, ◌≤◌, ◌-◌, ◌+◌, ◌++◌, take, length}
 use Rattle.rtpdump_io.specs.Input.{unread, Passes}
-use Rattle.rtpdump_io.proofs.inputs.Input.copy.Given as goal
+use Rattle.rtpdump_io.proofs.inputs.Input.copy_parts.Given as goal
 
 abbrev pub invariant-loop-done : goal.invariant-loop-done
 invariant-loop-done g l = record {

@@ -1,6 +1,6 @@
 use Rattle.std.proofs.Common.{◌≡◌, ◌≤◌, ◌-◌, ◌++◌, take, length}
 use Rattle.rtpdump_io.specs.Input.{unread}
-use Rattle.rtpdump_io.proofs.inputs.Input.read_full.Given as goal
+use Rattle.rtpdump_io.proofs.inputs.Input.read_parts.Given as goal
 
 abbrev pub invariant-loop-done : goal.invariant-loop-done
 invariant-loop-done g l = record {
