@@ -2,21 +2,31 @@
 ghost use Rattle.std.specs.Prelude.{◌≡◌, ◌+◌, ◌≤◌, ◌<◌, ◌==◌, ◌↔◌, [], ◌∷◌, ◌++◌, length, IsOk, OnOk, OnErr};
 
 use crate::Full;
-use arrayvec::ArrayVec;
 use std::marker::Model;
 
 /// The octets of one packet, at most 4224.
-#[derive(Debug, Default, Drop)]
+#[derive(Debug, Drop)]
 pub struct Packet {
-    octets: ArrayVec<u8, 4224>,
+    octets: [u8; 4224],
+    len: usize,
+}
+
+impl Default for Packet {
+    ghost is_default = { λ t. t ≡ [] };
+
+    fn default() -> Packet {
+        Packet::new()
+    }
 }
 
 impl Model for Packet {
-    ghost use Rattle.std.specs.Prelude.{ℕ, List};
+    ghost use Rattle.std.specs.Prelude.{ℕ, List, ◌≤◌, take};
 
     ghost Value = { List ℕ };
 
-    ghost view = { λ p. p.octets.items };
+    ghost view = { λ p. take p.len p.octets };
+
+    ghost invariant = { λ p. p.len ≤ 4224 };
 }
 
 impl Packet {
@@ -28,7 +38,8 @@ impl Packet {
         ensures { result ≡ [] }
     {
         Packet {
-            octets: ArrayVec::new(),
+            octets: [0; 4224],
+            len: 0,
         }
     }
 
@@ -37,20 +48,20 @@ impl Packet {
         ensures value { result ≡ length self.now }
         ensures fits { result ≤ 4224 }
     {
-        self.octets.len()
+        self.len
     }
 
     pub fn is_empty(&self) -> bool
         ensures { result ≡ (length self.now == 0) }
     {
-        self.octets.is_empty()
+        self.len == 0
     }
 
     pub fn as_slice(&self) -> &[u8]
         ensures value { result.now ≡ self.now }
         ensures fits { length result.now ≤ 4224 }
     {
-        self.octets.as_slice()
+        &self.octets[..self.len]
     }
 
     /// Appends one octet, for which there must be room.
@@ -58,7 +69,8 @@ impl Packet {
         requires { length self.old < 4224 }
         ensures { self.new ≡ self.old ++ octet ∷ [] }
     {
-        self.octets.push(octet);
+        self.octets[self.len] = octet;
+        self.len += 1;
     }
 
     /// Appends octets, or nothing where they pass the room left.
@@ -67,15 +79,18 @@ impl Packet {
         ensures ok { OnOk result (self.new ≡ self.old ++ octets.now) }
         ensures err { OnErr result (self.new ≡ self.old) }
     {
-        match self.octets.try_extend_from_slice(octets) {
-            Ok(()) => Ok(()),
-            Err(_) => Err(Full),
+        if octets.len() > Packet::CAPACITY - self.len {
+            return Err(Full);
         }
+        let end = self.len + octets.len();
+        self.octets[self.len..end].copy_from_slice(octets);
+        self.len = end;
+        Ok(())
     }
 
     pub fn clear(&mut self)
         ensures { self.new ≡ [] }
     {
-        self.octets.clear();
+        self.len = 0;
     }
 }

@@ -2,21 +2,31 @@
 ghost use Rattle.std.specs.Prelude.{◌≡◌, ◌+◌, ◌≤◌, ◌<◌, ◌==◌, ◌↔◌, [], ◌∷◌, ◌++◌, length, take, IsOk, OnOk, OnErr};
 
 use crate::Full;
-use arrayvec::ArrayVec;
 use std::marker::Model;
 
 /// The text of a block, at most 1023 octets (RFC 2198, section 3: a length has 10 bits).
-#[derive(Debug, Default, Drop)]
+#[derive(Debug, Drop)]
 pub struct Text {
-    octets: ArrayVec<u8, 1023>,
+    octets: [u8; 1023],
+    len: usize,
+}
+
+impl Default for Text {
+    ghost is_default = { λ t. t ≡ [] };
+
+    fn default() -> Text {
+        Text::new()
+    }
 }
 
 impl Model for Text {
-    ghost use Rattle.std.specs.Prelude.{ℕ, List};
+    ghost use Rattle.std.specs.Prelude.{ℕ, List, ◌≤◌, take};
 
     ghost Value = { List ℕ };
 
-    ghost view = { λ t. t.octets.items };
+    ghost view = { λ t. take t.len t.octets };
+
+    ghost invariant = { λ t. t.len ≤ 1023 };
 }
 
 impl Text {
@@ -28,7 +38,8 @@ impl Text {
         ensures { result ≡ [] }
     {
         Text {
-            octets: ArrayVec::new(),
+            octets: [0; 1023],
+            len: 0,
         }
     }
 
@@ -37,20 +48,20 @@ impl Text {
         ensures value { result ≡ length self.now }
         ensures fits { result ≤ 1023 }
     {
-        self.octets.len()
+        self.len
     }
 
     pub fn is_empty(&self) -> bool
         ensures { result ≡ (length self.now == 0) }
     {
-        self.octets.is_empty()
+        self.len == 0
     }
 
     pub fn as_slice(&self) -> &[u8]
         ensures value { result.now ≡ self.now }
         ensures fits { length result.now ≤ 1023 }
     {
-        self.octets.as_slice()
+        &self.octets[..self.len]
     }
 
     /// Appends one octet, for which there must be room.
@@ -58,7 +69,8 @@ impl Text {
         requires { length self.old < 1023 }
         ensures { self.new ≡ self.old ++ octet ∷ [] }
     {
-        self.octets.push(octet);
+        self.octets[self.len] = octet;
+        self.len += 1;
     }
 
     /// Appends octets, or nothing where they pass the room left.
@@ -67,15 +79,18 @@ impl Text {
         ensures ok { OnOk result (self.new ≡ self.old ++ octets.now) }
         ensures err { OnErr result (self.new ≡ self.old) }
     {
-        match self.octets.try_extend_from_slice(octets) {
-            Ok(()) => Ok(()),
-            Err(_) => Err(Full),
+        if octets.len() > Text::CAPACITY - self.len {
+            return Err(Full);
         }
+        let end = self.len + octets.len();
+        self.octets[self.len..end].copy_from_slice(octets);
+        self.len = end;
+        Ok(())
     }
 
     pub fn clear(&mut self)
         ensures { self.new ≡ [] }
     {
-        self.octets.clear();
+        self.len = 0;
     }
 }
