@@ -51,11 +51,17 @@ pub fn any_text(kept: &[KeptBlock]) -> bool
     kept.iter().any(|block| !block.text.is_empty())
 }
 
-/// Puts a block in front, and lets go of those beyond so many.
-pub fn keep(kept: &mut ArrayVec<KeptBlock, 4>, generations: usize, block: KeptBlock)
-    requires { length kept.old.items < 4 }
-    ensures { kept.new.items ≡ take generations (block ∷ kept.old.items) }
+/// Puts a block with a copy of this text in front, and lets go of those beyond so many.
+pub fn keep(kept: &mut ArrayVec<KeptBlock, 4>, generations: usize, stamp: u32, text: &[u8])
+    requires room { length kept.old.items < 4 }
+    requires fits { length text.now < 1024 }
+    ensures { kept.new.items ≡ take generations (record { stamp = stamp; text = text.now } ∷ kept.old.items) }
 {
+    let mut block = KeptBlock {
+        stamp,
+        text: Text::new(),
+    };
+    let _ = block.text.append(text);
     kept.insert(0, block);
     kept.truncate(generations);
 }

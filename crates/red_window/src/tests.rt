@@ -23,14 +23,14 @@ fn each_text_is_repeated_twice(rt: HostRuntime) {
     let mut window = Window::new();
     let mut blocks = Blocks::new();
     assert!(rt; !window.due());
-    window.next(4294967295, text_of(&rt, b"A"), &mut blocks);
+    window.next(4294967295, &text_of(&rt, b"A"), &mut blocks);
     expect_blocks(&rt, &blocks, &[(16383, b""), (16383, b""), (0, b"A")]);
-    window.next(299, text_of(&rt, b"B"), &mut blocks);
+    window.next(299, &text_of(&rt, b"B"), &mut blocks);
     expect_blocks(&rt, &blocks, &[(16383, b""), (300, b"A"), (0, b"B")]);
-    window.next(599, Text::new(), &mut blocks);
+    window.next(599, &Text::new(), &mut blocks);
     expect_blocks(&rt, &blocks, &[(600, b"A"), (300, b"B"), (0, b"")]);
     assert!(rt; window.due());
-    window.next(899, Text::new(), &mut blocks);
+    window.next(899, &Text::new(), &mut blocks);
     expect_blocks(&rt, &blocks, &[(600, b"B"), (300, b""), (0, b"")]);
     assert!(rt; !window.due());
 }
@@ -39,7 +39,7 @@ fn each_text_is_repeated_twice(rt: HostRuntime) {
 fn an_empty_block_lies_at_most_16383_before(rt: HostRuntime) {
     let mut window = Window::new();
     let mut blocks = Blocks::new();
-    window.next(0, Text::new(), &mut blocks);
-    window.next(70000, text_of(&rt, b"A"), &mut blocks);
+    window.next(0, &Text::new(), &mut blocks);
+    window.next(70000, &text_of(&rt, b"A"), &mut blocks);
     expect_blocks(&rt, &blocks, &[(16383, b""), (16383, b""), (0, b"A")]);
 }

@@ -52,19 +52,19 @@ impl Window {
     }
 
     /// Fills `out` with the blocks of the next packet of the source: the kept ones, oldest first, and then this text.
-    /// The text is kept in turn. Its timestamp is after that of the call before, less than 2^31 above that of the
+    /// A copy of the text is kept in turn. Its timestamp is after that of the call before, less than 2^31 above that of the
     /// first one, and at most 16383 ticks above that of each kept block with text.
-    pub fn next(&mut self, stamp: u32, text: Text, out: &mut Blocks)
+    pub fn next(&mut self, stamp: u32, text: &Text, out: &mut Blocks)
         ensures blocks { (g base media : ℕ) (past : List Sent) → StandsFor g base self.old past → stamp ≡ (base + media) % 2 ^ 32 → MayFollow g media past
-            → out.new ≡ repeats g media past ++ primary text ∷ [] }
+            → out.new ≡ repeats g media past ++ primary text.now ∷ [] }
         ensures count { (0 < length out.new) × (length out.new ≤ 4) }
         ensures fits { All IsWritable out.new }
-        ensures stands { (g base : ℕ) (past : List Sent) (e : Sent) → StandsFor g base self.old past → stamp ≡ (base + e.media) % 2 ^ 32 → text ≡ e.text
+        ensures stands { (g base : ℕ) (past : List Sent) (e : Sent) → StandsFor g base self.old past → stamp ≡ (base + e.media) % 2 ^ 32 → text.now ≡ e.text
             → StandsFor g base self.new (e ∷ past) }
     {
         out.clear();
         append_repeats(self.kept.as_slice(), self.generations, stamp, out);
         out.push_copy(0, text.as_slice());
-        keep(&mut self.kept, self.generations, KeptBlock { stamp, text });
+        keep(&mut self.kept, self.generations, stamp, text.as_slice());
     }
 }

@@ -3,7 +3,7 @@ ghost use Rattle.std.specs.Prelude.{◌≡◌, ◌+◌, ◌<◌, ◌≤◌, ◌�
 
 use file_spec::ScriptLine;
 use rtpdump_io::{write_opening, write_record};
-use rtt_base::{Bytes, Full, NoMemory};
+use rtt_base::{Bytes, Full, NoMemory, Packet};
 use std::alloc::Global;
 use text_sender::{SendConf, Sender};
 
@@ -13,6 +13,8 @@ use text_sender::{SendConf, Sender};
 pub struct Recorder {
     pub sender: Sender,
     pub octets: Bytes,
+    /// The last packet, which the next one is written over.
+    pub packet: Packet,
     /// The millisecond of the next ask.
     pub now: u64,
 }
@@ -37,6 +39,7 @@ impl Recorder {
         Ok(Recorder {
             sender,
             octets,
+            packet: Packet::new(),
             now: 0,
         })
     }
@@ -74,8 +77,8 @@ impl Recorder {
         ensures asked { OnOk result ((conf : SendConf) (lines : List ScriptLine) → IsAt conf lines self.old → IsAsked conf lines self.new) }
         ensures now { OnOk result (self.new.now ≡ self.old.now + 1) }
     {
-        if let Some(packet) = self.sender.turn(self.now) {
-            write_record(self.now as u32, packet.as_slice(), &mut self.octets)?;
+        if self.sender.turn_into(self.now, &mut self.packet) {
+            write_record(self.now as u32, self.packet.as_slice(), &mut self.octets)?;
         }
         self.now += 1;
         Ok(())

@@ -1,7 +1,9 @@
 -- How many octets the blocks of a packet have at most.
-use Rattle.std.proofs.Common.{ℕ, zero, suc, ◌+◌, ◌-◌, ◌*◌, ◌<◌, ◌≤◌, List, [], ◌∷◌, length, take, length-append, true, false, Option, None, Some, Result, Ok, Err, ◌≡◌, rules, arith}
+use Rattle.std.proofs.Common.{ℕ, zero, suc, ◌+◌, ◌-◌, ◌*◌, ◌<◌, ◌≤◌, List, [], ◌∷◌, ◌++◌, length, take, length-append, true, false, Option, None, Some, Result, Ok, Err, ◌≡◌, rules, arith}
 use Rattle.std.specs.Prelude.{All, IsOk, OnOk, is_ok, option_to_list}
-use Rattle.wire_spec.specs.Rtp.{Head, header_size}
+use Rattle.wire_spec.specs.Rtp.{Head, header_size, rtp_written}
+use Rattle.std.specs.Int.{w32, to_be_bytes}
+use Rattle.std.specs.List.{flat_map}
 use Rattle.std.proofs.lemmas.List.Elements.{All-head, All-tail, All-weaker}
 use Rattle.rtt_base.specs.declared.blocks.TextBlock.{TextBlock}
 use Rattle.rtt_base.specs.declared.text_packets.Pts.{Pts}
@@ -41,3 +43,11 @@ from_ok (Err x) e p = cc e
 pub cannot_fail : {T E : Type 0} (r : Result T E) → IsOk r → is_ok r ≡ false → ⊥
 cannot_fail (Ok x) i e = cc e
 cannot_fail (Err x) i e = search (rules, i)
+
+-- a header with nothing behind it
+pub headed_size : (h : Head) → length (rtp_written h []) ≤ 16
+headed_size h = let small = go h.csrc in omega (arith, small)
+  where
+    go : (o : Option ℕ) → 12 + length (flat_map (to_be_bytes w32) (option_to_list o) ++ []) ≤ 16
+    go None = omega arith
+    go (Some s) = omega arith

@@ -1,12 +1,12 @@
 //! The sender.
-ghost use Rattle.std.specs.Prelude.{◌≡◌, ◌+◌, ◌%◌, ◌^◌, ◌<◌, ◌≤◌, ◌∷◌, ◌++◌, ◌↔◌, [], ℕ, List, true, length, IfOk, IsOk, OnOk, OnErr, IsUtf8};
+ghost use Rattle.std.specs.Prelude.{◌≡◌, ◌+◌, ◌%◌, ◌^◌, ◌<◌, ◌≤◌, ◌∷◌, ◌++◌, ◌↔◌, [], ℕ, List, true, if◌then◌else◌, Some, None, length, IfOk, IsOk, OnOk, OnErr, IsUtf8};
 ghost use Rattle.stream_spec.specs.Typed.{Event, Text as text_event, Ask};
 
 use crate::waiting::Waiting;
-use crate::writing::packet_of;
+use crate::writing::write_packet;
 use red_window::Window;
 use rtp_header::RtpHead;
-use rtt_base::{Blocks, Full, NoMemory, Packet, Pts};
+use rtt_base::{Blocks, Full, NoMemory, Packet, Pts, Text};
 use std::alloc::Global;
 use std::marker::Model;
 
@@ -45,6 +45,9 @@ pub struct Sender {
     window: Window,
     seq: u16,
     last: Option<Last>,
+    /// What the last packet was made of: they are written over for the next one.
+    text: Text,
+    blocks: Blocks,
 }
 
 impl Model for Sender {
@@ -79,6 +82,8 @@ impl Sender {
             window: Window::new(),
             seq,
             last: None,
+            text: Text::new(),
+            blocks: Blocks::new(),
         })
     }
 
@@ -119,10 +124,27 @@ impl Sender {
             → result ≡ option_map (packet_written conf.pts) (packet_at (stream_of conf) conf.interval past now) }
         ensures stands { (conf : SendConf) (past : List Event) → StandsFor conf self.old past → last_ask past ≤ now → StandsFor conf self.new (Ask now ∷ past) }
     {
-        if self.due(now) {
-            Some(self.packet(now))
+        let mut packet = Packet::new();
+        if self.turn_into(now, &mut packet) {
+            Some(packet)
         } else {
             None
+        }
+    }
+
+    /// Writes the packet that is due at this moment, in ms, into `out`, if there is one, and answers whether there was.
+    /// It takes no memory.
+    pub fn turn_into(&mut self, now: u64, out: &mut Packet) -> bool
+        requires { now < 2 ^ 31 }
+        ensures packet { (conf : SendConf) (past : List Event) → StandsFor conf self.old past → last_ask past ≤ now
+            → (if result then Some out.new else None) ≡ option_map (packet_written conf.pts) (packet_at (stream_of conf) conf.interval past now) }
+        ensures stands { (conf : SendConf) (past : List Event) → StandsFor conf self.old past → last_ask past ≤ now → StandsFor conf self.new (Ask now ∷ past) }
+    {
+        if self.due(now) {
+            self.write(now, out);
+            true
+        } else {
+            false
         }
     }
 
@@ -155,11 +177,11 @@ impl Sender {
         }
     }
 
-    /// The packet at this moment, which is due.
-    fn packet(&mut self, now: u64) -> Packet
+    /// Writes the packet at this moment, which is due.
+    fn write(&mut self, now: u64, out: &mut Packet)
         requires { now < 2 ^ 31 }
         ensures octets { (conf : SendConf) (past : List Event) → StandsFor conf self.old past → last_ask past ≤ now → due_at (stream_of conf) conf.interval past now ≡ true
-            → result ≡ packet_written conf.pts (packet_after (stream_of conf) (sents (sent_by conf past)) (entry_at (stream_of conf) (sent_by conf past) (waits_for conf past) now).sent) }
+            → out.new ≡ packet_written conf.pts (packet_after (stream_of conf) (sents (sent_by conf past)) (entry_at (stream_of conf) (sent_by conf past) (waits_for conf past) now).sent) }
         ensures stands { (conf : SendConf) (past : List Event) → StandsFor conf self.old past → last_ask past ≤ now → due_at (stream_of conf) conf.interval past now ≡ true
             → StandsFor conf self.new (Ask now ∷ past) }
     {
@@ -172,11 +194,10 @@ impl Sender {
             ssrc: self.conf.ssrc,
             csrc: None,
         };
-        let mut blocks = Blocks::new();
-        self.window
-            .next(head.stamp, self.waiting.take_front(), &mut blocks);
+        self.waiting.take_front(&mut self.text);
+        self.window.next(head.stamp, &self.text, &mut self.blocks);
         self.seq = self.seq.wrapping_add(1);
         self.last = Some(Last { at: now, media });
-        packet_of(&head, &blocks, self.conf.pts)
+        write_packet(&head, &self.blocks, self.conf.pts, out);
     }
 }

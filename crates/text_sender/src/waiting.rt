@@ -75,17 +75,17 @@ impl Waiting {
         len
     }
 
-    /// Takes the longest front of whole characters that fits in a block.
-    pub fn take_front(&mut self) -> Text
-        ensures text { result ≡ front 1023 self.old }
-        ensures rest { self.new ≡ drop (length result) self.old }
+    /// Takes the longest front of whole characters that fits in a block, in place of what was in `text`.
+    pub fn take_front(&mut self, text: &mut Text)
+        ensures text { text.new ≡ front 1023 self.old }
+        ensures rest { self.new ≡ drop (length text.new) self.old }
     {
         let len = self.front_len();
-        let mut octets = [0; Text::CAPACITY];
-        let front = &mut octets[..len];
-        self.ring.read_into(front);
-        let mut text = Text::new();
-        let _ = text.append(front);
-        text
+        let (first, second) = self.ring.as_slices();
+        let from_first = first.len().min(len);
+        text.clear();
+        let _ = text.append(&first[..from_first]);
+        let _ = text.append(&second[..len - from_first]);
+        self.ring.truncate_front(self.ring.len() - len);
     }
 }

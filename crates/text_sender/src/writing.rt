@@ -9,18 +9,16 @@ use red_blocks::write_blocks;
 use rtp_header::{RtpHead, write_rtp};
 use rtt_base::{Blocks, Packet, Pts};
 
-/// The packet of this header and these blocks, in red form.
-pub fn packet_of(head: &RtpHead, blocks: &Blocks, pts: Pts) -> Packet
+/// Writes the packet of this header and these blocks, in red form, in place of what was in `out`.
+pub fn write_packet(head: &RtpHead, blocks: &Blocks, pts: Pts, out: &mut Packet)
     requires count { (0 < length blocks.now) × (length blocks.now ≤ 4) }
     requires fits { All IsWritable blocks.now }
     requires types { (pts.t140 < 2 ^ 7) × (head.now.pt < 2 ^ 7) }
-    ensures { result ≡ rtp_written (spelled head.now) (red_written blocks.now pts) }
+    ensures { out.new ≡ rtp_written (spelled head.now) (red_written blocks.now pts) }
 {
-    let mut payload = Packet::new();
-    let mut packet = Packet::new();
-    let written = write_blocks(blocks, pts, &mut payload).is_ok();
-    prove!(written);
-    let whole = write_rtp(head, payload.as_slice(), &mut packet).is_ok();
+    out.clear();
+    let headed = write_rtp(head, &[], out).is_ok();
+    prove!(headed);
+    let whole = write_blocks(blocks, pts, out).is_ok();
     prove!(whole);
-    packet
 }

@@ -13,7 +13,7 @@ returns-clause-blocks c = λ g base media past s q f.
     let kept : c.as_slice.result.now ≡ map (kept_of base) (take g past) = c.as_slice.ensures.value ∙ (ap (λ (m : Memory). m.kept) c.self.view_is ∙ s.kept) in
     let older : blocks_kept c.self.inside.generations c.args.stamp c.as_slice.result.now ≡ repeats g media past =
     rw (gens, kept, q) (repeats_are g g base media past (omega arith) f) in
-    let text : c.as_slice-2.result.now ≡ c.args.text = c.as_slice-2.ensures.value in
+    let text : c.as_slice-2.result.now ≡ c.args.text.now = c.as_slice-2.ensures.value in
     c.push_copy.ensures
     ∙ (ap (λ (bs : List TextBlock). bs ++ primary c.as_slice-2.result.now ∷ []) (c.append_repeats.ensures.blocks ∙ (ap (λ (bs : List TextBlock). bs ++ blocks_kept c.self.inside.generations c.args.stamp c.as_slice.result.now) c.clear.ensures ∙ older))
     ∙ ap (λ (t : List ℕ). repeats g media past ++ primary t ∷ []) text)
@@ -21,5 +21,5 @@ returns-clause-blocks c = λ g base media past s q f.
 pub returns-clause-stands : goal.returns-clause-stands
 returns-clause-stands c = λ g base past e s q t. record {
   gens = ap (λ (m : Memory). m.gens) c.self.view_is ∙ s.gens;
-  kept = kept_next g base past e _ _ _ _ _ (ap (λ (m : Memory). m.gens) c.self.view_is ∙ s.gens) (ap (λ (m : Memory). m.kept) c.self.view_is ∙ s.kept) q t c.keep.ensures;
+  kept = kept_next g base past e _ _ _ _ _ (ap (λ (m : Memory). m.gens) c.self.view_is ∙ s.gens) (ap (λ (m : Memory). m.kept) c.self.view_is ∙ s.kept) q (c.as_slice-3.ensures.value ∙ t) c.keep.ensures;
 }
