@@ -1,6 +1,6 @@
 -- One header, or one block, more.
-use Rattle.std.proofs.Common.{◌≡◌, ℕ, zero, suc, ◌+◌, ◌-◌, ◌<◌, ◌≤◌, ◌≢◌, Bool, true, false, cond, ltb, List, [], ◌∷◌, ◌++◌, length, drop, take, eqb, inl, inr, ◌⊎◌, Option, None, Some, Result, Ok, Err, refl, sym, ap, ◌∙◌, append_assoc, arith}
-use Rattle.std.proofs.lemmas.List.{length_push, append-nil}
+use Rattle.std.proofs.Common.{◌≡◌, ℕ, zero, suc, ◌+◌, ◌-◌, ◌*◌, ◌&&◌, ◌<◌, ◌≤◌, ◌≢◌, Bool, true, false, cond, ltb, List, [], ◌∷◌, ◌++◌, length, drop, take, eqb, inl, inr, ◌⊎◌, Option, None, Some, Result, Ok, Err, refl, sym, ap, subst, ◌∙◌, append_assoc, arith}
+use Rattle.std.proofs.lemmas.List.{length_push, append-nil, drop-drop}
 use Rattle.std.proofs.lemmas.Bool.{lt-ltb, le-ltb, ne_eqb, false≢true}
 use Rattle.std.proofs.lemmas.Str.{IsUtf8-from_is_utf8, is_utf8-from_IsUtf8}
 use Rattle.std.specs.Prelude.{IsUtf8, IsTrue, ◌↔◌, IfOk, OnOk}
@@ -12,8 +12,8 @@ use Rattle.wire_spec.specs.declared.faults.RedFault.TheVariants.{Cut, Many, Long
 use Rattle.std.proofs.lemmas.Result.{IfOk-at_ok}
 use Rattle.wire_spec.specs.Packets.{HasPrimary}
 use Rattle.wire_spec.specs.Steps.{◌>>=◌, Gives}
-use Rattle.wire_spec.specs.Red.{Headers, header_at, headers_at, and_others, older_size, blocks_at, all_utf8, checked, texts_at, with_header}
-use Rattle.red_blocks.specs.Reading.{after_headers, after_blocks, after_block}
+use Rattle.wire_spec.specs.Red.{Headers, header_of, header_at, headers_at, and_others, older_size, blocks_at, all_utf8, checked, texts_at, with_header}
+use Rattle.red_blocks.specs.Reading.{headers_of, after_headers, after_blocks, after_block}
 
 -- ---- blocks
 
@@ -129,3 +129,100 @@ texts_end hs octets =
 pub primary_read : {X : Type 0} (result : Result X RedFault) (hs : List RedHeader) (octets : List ℕ) (blocks : List TextBlock) → Gives (λ _. blocks) result (texts_at hs octets) → OnOk result (HasPrimary blocks)
 primary_read (Ok x) hs octets blocks e = IfOk-at_ok HasPrimary e (texts_end hs octets)
 primary_read (Err f) hs octets blocks e = tt
+
+-- ---- headers as they stand
+
+pub headers_cut : (n : ℕ) (octets : List ℕ) → 0 < n → headers_of n octets ≡ header_of octets ∷ headers_of (n - 1) (drop 4 octets)
+headers_cut zero octets l = absurd (omega arith)
+headers_cut (suc n) octets l = let e : suc n - 1 ≡ n = omega arith in rw e refl
+
+pub headers_push : (n : ℕ) (octets : List ℕ) → headers_of (n + 1) octets ≡ headers_of n octets ++ header_of (drop (4 * n) octets) ∷ []
+headers_push zero octets = refl
+headers_push (suc n) octets =
+    let k : suc n + 1 ≡ suc (n + 1) = omega arith in
+    let d : 4 + 4 * n ≡ 4 * suc n = omega arith in
+    rw k (ap (λ (hs : List RedHeader). header_of octets ∷ hs) (headers_push n (drop 4 octets)
+    ∙ ap (λ (o : List ℕ). headers_of n (drop 4 octets) ++ header_of o ∷ []) (drop-drop (4 * n) 4 octets ∙ ap (λ (m : ℕ). drop m octets) d)))
+
+pub headers_count : (n : ℕ) (octets : List ℕ) → length (headers_of n octets) ≡ n
+headers_count zero octets = refl
+headers_count (suc n) octets = ap suc (headers_count n (drop 4 octets))
+
+pub size_push : (hs : List RedHeader) (h : RedHeader) → older_size (hs ++ h ∷ []) ≡ older_size hs + h.size
+size_push [] h = omega arith
+size_push (g ∷ hs) h = let r = size_push hs h in omega (arith, r)
+
+-- ---- one block more
+
+abbrev blocks_got : Result (List TextBlock) RedFault → List TextBlock
+blocks_got (Ok bs) = bs
+blocks_got (Err f) = []
+
+one_block : (front : List TextBlock) (b : TextBlock) (bs new : List TextBlock) (u v : Bool) → cond u (Ok (front ++ b ∷ [])) (Err NotText) ≡ Ok new
+    → after_blocks front (cond (u && v) (Ok (b ∷ bs)) (Err NotText)) ≡ after_blocks new (cond v (Ok bs) (Err NotText))
+one_block front b bs new true true e = ap (λ (x : List TextBlock). Ok x) (sym (append_assoc front (b ∷ []) bs) ∙ ap (λ (x : List TextBlock). x ++ bs) (ap blocks_got e))
+one_block front b bs new true false e = refl
+one_block front b bs new false v e = cc e
+
+no_block : (front : List TextBlock) (b : TextBlock) (bs : List TextBlock) (f : RedFault) (u v : Bool) → cond u (Ok (front ++ b ∷ [])) (Err NotText) ≡ Err f
+    → after_blocks front (cond (u && v) (Ok (b ∷ bs)) (Err NotText)) ≡ Err f
+no_block front b bs f true v e = cc e
+no_block front b bs f false v e = cc e
+
+pub next_block : (n : ℕ) (out new : List TextBlock) (heads rest : List ℕ) (h : RedHeader) (total : Result (List TextBlock) RedFault) → 0 < n → h ≡ header_of heads
+    → after_block out h.offset (take h.size rest) ≡ Ok new → after_blocks out (checked (blocks_at (headers_of n heads) rest)) ≡ total
+    → after_blocks new (checked (blocks_at (headers_of (n - 1) (drop 4 heads)) (drop h.size rest))) ≡ total
+next_block n out new heads rest h total l q e so_far =
+    let bs = blocks_at (headers_of (n - 1) (drop 4 heads)) (drop h.size rest) in
+    sym (one_block out (record { offset = h.offset; text = take h.size rest }) bs new (is_utf8 (take h.size rest)) (all_utf8 bs) e)
+    ∙ (ap (λ (x : RedHeader). after_blocks out (checked (blocks_at (x ∷ headers_of (n - 1) (drop 4 heads)) rest))) q
+    ∙ (ap (λ (hs : List RedHeader). after_blocks out (checked (blocks_at hs rest))) (sym (headers_cut n heads l)) ∙ so_far))
+
+pub block_fault : (n : ℕ) (out : List TextBlock) (heads rest : List ℕ) (h : RedHeader) (total : Result (List TextBlock) RedFault) (f : RedFault) → 0 < n → h ≡ header_of heads
+    → after_block out h.offset (take h.size rest) ≡ Err f → after_blocks out (checked (blocks_at (headers_of n heads) rest)) ≡ total → total ≡ Err f
+block_fault n out heads rest h total f l q e so_far =
+    let bs = blocks_at (headers_of (n - 1) (drop 4 heads)) (drop h.size rest) in
+    sym so_far
+    ∙ (ap (λ (hs : List RedHeader). after_blocks out (checked (blocks_at hs rest))) (headers_cut n heads l)
+    ∙ (ap (λ (x : RedHeader). after_blocks out (checked (blocks_at (x ∷ headers_of (n - 1) (drop 4 heads)) rest))) (sym q)
+    ∙ no_block out (record { offset = h.offset; text = take h.size rest }) bs f (is_utf8 (take h.size rest)) (all_utf8 bs) e))
+
+-- what the next header takes of the texts
+pub next_size : (n : ℕ) (heads : List ℕ) (h : RedHeader) → 0 < n → h ≡ header_of heads → older_size (headers_of n heads) ≡ h.size + older_size (headers_of (n - 1) (drop 4 heads))
+next_size n heads h l q = ap older_size (headers_cut n heads l) ∙ ap (λ (x : RedHeader). x.size + older_size (headers_of (n - 1) (drop 4 heads))) (sym q)
+
+-- ---- headers counted
+
+pub scan_refused : (n : ℕ) (octets rest : List ℕ) (t140 : ℕ) (total : Result Headers RedFault) (fault : RedFault) → n ≤ 8 → Err fault ≡ header_at (eqb n 8) t140 rest
+    → after_headers (headers_of n octets) (headers_at (8 - n) t140 rest) ≡ total → total ≡ Err fault
+scan_refused n octets rest t140 total fault few e so_far =
+    let k = headers_count n octets in
+    header_refused (headers_of n octets) (eqb n 8) t140 rest total fault (rw k few) (rw k refl) e (rw k so_far)
+
+pub scan_last : (n : ℕ) (octets rest : List ℕ) (t140 : ℕ) (total : Result Headers RedFault) → n ≤ 8 → Ok None ≡ header_at (eqb n 8) t140 rest
+    → after_headers (headers_of n octets) (headers_at (8 - n) t140 rest) ≡ total → total ≡ Ok (record { headers = headers_of n octets; texts = drop 1 rest })
+scan_last n octets rest t140 total few e so_far =
+    let k = headers_count n octets in
+    header_last (headers_of n octets) (eqb n 8) t140 rest total (rw k few) (rw k refl) e (rw k so_far)
+
+-- the next header is the one that stands there
+pub pushed : (n : ℕ) (octets rest : List ℕ) (h : RedHeader) → rest ≡ drop (4 * n) octets → h ≡ header_of rest → headers_of n octets ++ h ∷ [] ≡ headers_of (n + 1) octets
+pushed n octets rest h at is = ap (λ (x : RedHeader). headers_of n octets ++ x ∷ []) (is ∙ ap header_of at) ∙ sym (headers_push n octets)
+
+pub scan_more : (n : ℕ) (octets rest : List ℕ) (h : RedHeader) (t140 : ℕ) (total : Result Headers RedFault) → n ≤ 8 → rest ≡ drop (4 * n) octets → h ≡ header_of rest → eqb n 8 ≡ false → Ok (Some h) ≡ header_at (eqb n 8) t140 rest
+    → after_headers (headers_of n octets) (headers_at (8 - n) t140 rest) ≡ total → after_headers (headers_of (n + 1) octets) (headers_at (8 - (n + 1)) t140 (drop 4 rest)) ≡ total
+scan_more n octets rest h t140 total few at is open_ e so_far =
+    let k = headers_count n octets in
+    subst (λ (m : ℕ). after_headers (headers_of (n + 1) octets) (headers_at (8 - m) t140 (drop 4 rest)) ≡ total) (headers_count (n + 1) octets)
+    (subst (λ (hs : List RedHeader). after_headers hs (headers_at (8 - length hs) t140 (drop 4 rest)) ≡ total) (pushed n octets rest h at is)
+    (header_more (headers_of n octets) h (eqb n 8) t140 rest total (rw k few) (rw k refl) open_ e (rw k so_far)))
+
+pub size_more : (n : ℕ) (octets rest : List ℕ) (h : RedHeader) → rest ≡ drop (4 * n) octets → h ≡ header_of rest → older_size (headers_of (n + 1) octets) ≡ older_size (headers_of n octets) + h.size
+size_more n octets rest h at is = ap older_size (sym (pushed n octets rest h at is)) ∙ size_push (headers_of n octets) h
+
+pub block_length : (front new : List TextBlock) (offset : ℕ) (text : List ℕ) → after_block front offset text ≡ Ok new → length new ≡ length front + 1
+block_length front new offset text e = go (is_utf8 text) e
+  where
+    go : (u : Bool) → cond u (Ok (front ++ record { offset = offset; text = text } ∷ [])) (Err NotText) ≡ Ok new → length new ≡ length front + 1
+    go true q = ap length (sym (ap blocks_got q)) ∙ length_push front (record { offset = offset; text = text })
+    go false q = cc q

@@ -1,12 +1,11 @@
 //! Reading the blocks of a payload.
-ghost use Rattle.std.specs.Prelude.{◌≡◌, ◌+◌, ◌^◌, ◌≤◌, ◌<◌, [], false, ◌↔◌, length, map, IfOk, IfSome, OnOk, OnErr, IsTrue, IsUtf8, All, Ok, None};
+ghost use Rattle.std.specs.Prelude.{◌≡◌, ◌+◌, ◌*◌, ◌^◌, ◌≤◌, ◌<◌, [], false, ◌↔◌, length, map, IfOk, IfSome, OnOk, OnErr, IsTrue, IsUtf8, All, Ok, None};
 ghost use Rattle.std.specs.Str.{is_utf8, IsAscii};
 ghost use Rattle.wire_spec.specs.Steps.{Gives};
 ghost use Rattle.wire_spec.specs.Packets.{HasPrimary};
 ghost use Rattle.wire_spec.specs.Red.{header_of, header_at, headers_at, older_size, blocks_at, checked, texts_at, red};
-ghost use Rattle.red_blocks.specs.Reading.{IsSmall, headers_view, after_blocks, after_block};
+ghost use Rattle.red_blocks.specs.Reading.{IsSmall, headers_of, headers_view, after_blocks, after_block};
 
-use arrayvec::ArrayVec;
 use rtt_base::{Blocks, Pts};
 use wire_spec::{RedFault, RedHeader};
 
@@ -15,6 +14,9 @@ const F: u8 = 128;
 
 /// How many redundant blocks a packet has at most.
 const MAX_OLDER: usize = 8;
+
+/// How many octets a redundant header has.
+const HEADER: usize = 4;
 
 /// How many octets a text has at most.
 const MAX_TEXT: usize = 1023;
@@ -25,9 +27,9 @@ fn redundant_header(octets: &[u8]) -> RedHeader
     ensures value { result ≡ header_of octets.now }
     ensures small { result.size < 2 ^ 10 }
 {
-    let bits = u32::from_be_bytes([0, octets[1], octets[2], octets[3]]);
+    let bits = u32::from_be_bytes([octets[0], octets[1], octets[2], octets[3]]);
     RedHeader {
-        offset: (bits / 1024) as u16,
+        offset: (bits / 1024 % 16384) as u16,
         size: (bits % 1024) as u16,
     }
 }
@@ -38,6 +40,7 @@ fn front_header(octets: &[u8], t140: u8, full: bool) -> Result<Option<RedHeader>
     ensures room { IfOk result (λ header. IfSome header (λ _. full ≡ false)) }
     ensures octets { IfOk result (λ header. IfSome header (λ _. 4 ≤ length octets.now)) }
     ensures small { IfOk result (λ header. IfSome header IsSmall) }
+    ensures header { IfOk result (λ header. IfSome header (λ h. h ≡ header_of octets.now)) }
     ensures last { result ≡ Ok None → 1 ≤ length octets.now }
 {
     if octets.is_empty() {
@@ -63,34 +66,22 @@ fn front_header(octets: &[u8], t140: u8, full: bool) -> Result<Option<RedHeader>
     Ok(Some(redundant_header(octets)))
 }
 
-/// The redundant headers, and the octets behind the last header.
-fn read_headers(
-    octets: &[u8],
-    t140: u8,
-) -> Result<(ArrayVec<RedHeader, MAX_OLDER>, &[u8]), RedFault>
-    ensures exact { Gives headers_view result (headers_at 8 t140 octets.now) }
-    ensures few { IfOk result (λ read. length read.0.items ≤ 8) }
-    ensures small { IfOk result (λ read. All IsSmall read.0.items) }
+/// How many redundant headers stand in front, how many octets their texts have, and the octets behind the last header.
+fn scan_headers(octets: &[u8], t140: u8) -> Result<(usize, usize, &[u8]), RedFault>
+    ensures exact { Gives (headers_view octets.now) result (headers_at 8 t140 octets.now) }
+    ensures few { IfOk result (λ read. read.0 ≤ 8) }
+    ensures there { IfOk result (λ read. 4 * read.0 ≤ length octets.now) }
+    ensures older { IfOk result (λ read. read.1 ≡ older_size (headers_of read.0 octets.now)) }
 {
-    let mut headers = ArrayVec::new();
+    let mut count = 0;
+    let mut older = 0;
     let mut rest = octets;
-    while let Some(header) = front_header(rest, t140, headers.is_full())? {
-        headers.push(header);
-        rest = &rest[4..];
+    while let Some(header) = front_header(rest, t140, count == MAX_OLDER)? {
+        count += 1;
+        older += usize::from(header.size);
+        rest = &rest[HEADER..];
     }
-    Ok((headers, &rest[1..]))
-}
-
-/// How many octets the texts of the redundant blocks have.
-fn size_of_older(headers: &[RedHeader]) -> usize
-    requires { length headers.now ≤ 8 }
-    ensures { result ≡ older_size headers.now }
-{
-    let mut size = 0;
-    for header in headers {
-        size += usize::from(header.size);
-    }
-    size
+    Ok((count, older, &rest[1..]))
 }
 
 /// Whether a text of any octets is UTF-8. Out of line: the texts of most packets are ASCII.
@@ -125,40 +116,58 @@ fn append_block(offset: u16, text: &[u8], plain: bool, out: &mut Blocks) -> Resu
     Ok(())
 }
 
-/// Appends the block of each header, and the primary one with what is left. All texts are tested for ASCII at once.
-fn append_blocks(headers: &[RedHeader], texts: &[u8], out: &mut Blocks) -> Result<(), RedFault>
-    requires room { length out.old + length headers.now < 9 }
-    requires small { All IsSmall headers.now }
-    requires there { older_size headers.now ≤ length texts.now }
-    requires fits { length texts.now < older_size headers.now + 1024 }
-    ensures { Gives (λ _. out.new) result (after_blocks out.old (checked (blocks_at headers.now texts.now))) }
+/// Appends the blocks of so many headers, and the primary one with what is left. All texts are tested for ASCII at once.
+#[inline(always)]
+fn append_blocks(
+    count: usize,
+    headers: &[u8],
+    texts: &[u8],
+    out: &mut Blocks,
+) -> Result<(), RedFault>
+    requires room { length out.old + count < 9 }
+    requires headers { 4 * count ≤ length headers.now }
+    requires there { older_size (headers_of count headers.now) ≤ length texts.now }
+    requires fits { length texts.now < older_size (headers_of count headers.now) + 1024 }
+    ensures { Gives (λ _. out.new) result (after_blocks out.old (checked (blocks_at (headers_of count headers.now) texts.now))) }
 {
     let plain = texts.is_ascii();
+    let mut heads = headers;
     let mut rest = texts;
-    for header in headers {
+    let mut left = count;
+    while left > 0 {
+        let header = redundant_header(heads);
         let (text, after) = rest.split_at(usize::from(header.size));
         append_block(header.offset, text, plain, out)?;
+        heads = &heads[HEADER..];
         rest = after;
+        left -= 1;
     }
     append_block(0, rest, plain, out)
 }
 
-/// Reads the texts behind the headers. There is no block before.
-fn read_texts(headers: &[RedHeader], texts: &[u8], out: &mut Blocks) -> Result<(), RedFault>
+/// Reads the texts behind so many headers, whose texts have `older` octets. There is no block before.
+#[inline(always)]
+fn read_texts(
+    count: usize,
+    headers: &[u8],
+    older: usize,
+    texts: &[u8],
+    out: &mut Blocks,
+) -> Result<(), RedFault>
     requires none { out.old ≡ [] }
-    requires few { length headers.now ≤ 8 }
-    requires small { All IsSmall headers.now }
-    ensures exact { Gives (λ _. out.new) result (texts_at headers.now texts.now) }
+    requires few { count ≤ 8 }
+    requires headers { 4 * count ≤ length headers.now }
+    requires older { older ≡ older_size (headers_of count headers.now) }
+    ensures exact { Gives (λ _. out.new) result (texts_at (headers_of count headers.now) texts.now) }
     ensures primary { OnOk result (HasPrimary out.new) }
 {
-    let older = size_of_older(headers);
     if texts.len() < older {
         return Err(RedFault::Cut);
     }
     if texts.len() - older > MAX_TEXT {
         return Err(RedFault::Long);
     }
-    append_blocks(headers, texts, out)
+    append_blocks(count, headers, texts, out)
 }
 
 /// Reads the blocks behind those that were there.
@@ -169,13 +178,13 @@ fn read_into(payload: &[u8], pt: u8, pts: Pts, out: &mut Blocks) -> Result<(), R
     ensures primary { OnOk result (HasPrimary out.new) }
 {
     if pt == pts.t140 {
-        return read_texts(&[], payload, out);
+        return read_texts(0, &[], 0, payload, out);
     }
     if pt != pts.red {
         return Err(RedFault::WrongType);
     }
-    let (headers, texts) = read_headers(payload, pts.t140)?;
-    read_texts(headers.as_slice(), texts, out)
+    let (count, older, texts) = scan_headers(payload, pts.t140)?;
+    read_texts(count, payload, older, texts, out)
 }
 
 /// Reads the blocks of a payload of type `pt` in place of those that were there, with the first test that fails.
