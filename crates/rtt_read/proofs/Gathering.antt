@@ -1,12 +1,9 @@
 -- One more used packet is heard.
-use Rattle.std.proofs.Common.{◌≡◌, ℕ, zero, suc, ◌+◌, ◌<◌, ◌≤◌, false, Option, Some, None, List, [], ◌∷◌, ◌++◌, refl, ap, sym, ◌∙◌, inl, inr, arith, length, map, length-append, append_assoc, take, get_or, add-one}
-use Rattle.std.specs.Prelude.{◌==◌, position}
+use Rattle.std.proofs.Common.{◌≡◌, ℕ, suc, ◌+◌, ◌<◌, ◌≤◌, Option, Some, None, List, [], ◌∷◌, ◌++◌, refl, ap, sym, ◌∙◌, inl, inr, arith, length, map, length-append, append_assoc}
 use Rattle.std.specs.List.{concat}
 use Rattle.std.specs.Option.{ForSome}
-use Rattle.std.proofs.lemmas.List.{map-append, length-map, append-nil}
-use Rattle.std.proofs.Math.Seq.{take-suc}
+use Rattle.std.proofs.lemmas.List.{map-append, length-map}
 use Rattle.std.proofs.lemmas.List.Folds.{concat-append}
-use Rattle.std.proofs.lemmas.List.Quantifiers.{position-Some}
 use Rattle.rtt_base.specs.declared.text_packets.TextPacket.{TextPacket}
 use Rattle.wire_spec.specs.Packets.{Arrival}
 use Rattle.stream_spec.specs.Lists.{In}
@@ -17,11 +14,10 @@ use Rattle.gap_tracker.specs.Stories.{Story, Given, gave, given_of, dues, due_at
 use Rattle.gap_tracker.specs.Tracks.{Tracks}
 use Rattle.gap_tracker.specs.States.{State, arrivals_of}
 use Rattle.gap_tracker.specs.declared.answers.Due.{Due}
-use Rattle.source_receiver.specs.Stands.{Stands, latest_number, used_packet, given_at}
-use Rattle.source_receiver.specs.declared.hearing.Heard.{Heard}
+use Rattle.source_receiver.specs.Stands.{Stands, latest_number, used_packet}
 use Rattle.rtt_read.specs.declared.listeners.Listener.{Listener}
 use Rattle.rtt_read.specs.Bare.{bare, all_bare}
-use Rattle.rtt_read.specs.Hears.{Hears, IsOnly, bare_given, given_packets, last_after}
+use Rattle.rtt_read.specs.Hears.{Hears, bare_given, given_packets, last_after}
 use Rattle.rtt_read.proofs.Rising.{used_rises, rising_last, length-used}
 
 last_snoc : (last : Option ℕ) (us : List Numbered) (u : Numbered) → last_after last (us ++ u ∷ []) ≡ Some u.number
@@ -80,32 +76,17 @@ next_rises story g f latest e = above (given_packets story.given) None (λ n q. 
     above (u ∷ us) last p q h = above us (Some u.number) (λ n k. let m : u.number ≡ n = cc in let l = q u (inl refl) in omega (arith, m)) (λ y i. q y (inr i)) h
 
 -- one more packet was taken
-pub heard_one : (l m : Listener) (source : ℕ) (story : Story) (due : Due) (p : TextPacket) (heard : Heard) → Hears l source story → Tracks m.tracker (gave story (given_of due p))
+pub heard_one : (l m : Listener) (source : ℕ) (story : Story) (due : Due) (p : TextPacket) (given : List (List ℕ)) → Hears l source story → Tracks m.tracker (gave story (given_of due p))
     → Stands m.receiver (source ∷ []) (given_packets story.given ++ used_packet 0 due.number p ∷ []) → latest_number m.receiver ≡ Some due.number
-    → heard_by (given_packets story.given ++ used_packet 0 due.number p ∷ []) source ≡ heard_by (given_packets story.given) source ++ given_at 0 heard
-    → m.text ≡ l.text ++ concat (given_at 0 heard) → m.counts.used ≡ l.counts.used + 1
+    → heard_by (given_packets story.given ++ used_packet 0 due.number p ∷ []) source ≡ heard_by (given_packets story.given) source ++ given
+    → m.text ≡ l.text ++ concat (given) → m.counts.used ≡ l.counts.used + 1
     → Hears m source (gave story (given_of due p))
-heard_one l m source story due p heard h t s n a x u =
+heard_one l m source story due p given h t s n a x u =
     let more : given_packets (story.given ++ given_of due p ∷ []) ≡ given_packets story.given ++ used_packet 0 due.number p ∷ [] = map-append bare_given story.given (given_of due p ∷ []) in
     record {
       tracks = t;
       stands = rw more s;
       latest = n ∙ sym (ap (last_after None) more ∙ last_snoc None (given_packets story.given) (used_packet 0 due.number p));
-      text = x ∙ (ap (λ ts. ts ++ concat (given_at 0 heard)) h.text ∙ sym (ap (λ us. concat (heard_by us source)) more ∙ (ap concat a ∙ concat-append (heard_by (given_packets story.given) source) (given_at 0 heard))));
+      text = x ∙ (ap (λ ts. ts ++ concat (given)) h.text ∙ sym (ap (λ us. concat (heard_by us source)) more ∙ (ap concat a ∙ concat-append (heard_by (given_packets story.given) source) (given))));
       used = u ∙ (ap (λ k. k + 1) h.used ∙ sym (length-append story.given (given_of due p ∷ [])));
     }
-
--- the only source that is listened to gives all that is heard
-pub only_one : (heard : Heard) (source mine : ℕ) → heard.place ≡ position (λ s. s == mine) (source ∷ []) → (heard.place ≡ None → (heard.marker ≡ false) × (heard.texts ≡ [])) → IsOnly heard
-only_one heard source mine p none = go heard.place p refl
-  where
-    go : (o : Option ℕ) → o ≡ position (λ s. s == mine) (source ∷ []) → heard.place ≡ o → IsOnly heard
-    go None e h = let n = none h in rw (h, n.0, n.1) refl
-    go (Some zero) e h = rw h refl
-    go (Some (suc k)) e h = let l = (position-Some (λ s. s == mine) (source ∷ []) (suc k) 0 (sym e)).0 in absurd (omega (arith, l))
-
--- the texts up to one more
-pub concat_more : (xs : List (List ℕ)) (i : ℕ) (x : List ℕ) → i < length xs → x ≡ get_or xs i x → concat (take (i + 1) xs) ≡ concat (take i xs) ++ x
-concat_more xs i x l e =
-    let cut : take (i + 1) xs ≡ take i xs ++ (get_or xs i x ∷ []) = rw (add-one i) (take-suc xs i x l) in
-    ap concat cut ∙ (concat-append (take i xs) (get_or xs i x ∷ []) ∙ (ap (λ t. concat (take i xs) ++ (t ++ [])) (sym e) ∙ ap (λ t. concat (take i xs) ++ t) (append-nil x)))

@@ -1,15 +1,14 @@
 -- What a listener stands for: the arrivals so far, and what was heard of the source by the used packets given out so far.
-use Rattle.std.specs.Prelude.{◌≡◌, ℕ, ◌+◌, ◌≤◌, Bool, Option, None, Some, List, [], ◌∷◌, ◌++◌, length, map, if◌then◌else◌}
+use Rattle.std.specs.Prelude.{◌≡◌, ℕ, ◌+◌, ◌≤◌, Bool, Option, None, Some, List, [], ◌∷◌, length, map, if◌then◌else◌}
 use Rattle.std.specs.List.{concat}
 use Rattle.wire_spec.specs.Packets.{Arrival}
 use Rattle.wire_spec.specs.Dump.{latest}
 use Rattle.stream_spec.specs.Numbering.{Numbered}
-use Rattle.stream_spec.specs.Hearing.{heard_by, marker}
+use Rattle.stream_spec.specs.Hearing.{heard_by}
 use Rattle.gap_tracker.specs.Stories.{Story, Given}
 use Rattle.gap_tracker.specs.Tracks.{Tracks}
 use Rattle.gap_tracker.specs.States.{has_ready, arrivals_of, is_finished}
-use Rattle.source_receiver.specs.Stands.{Stands, latest_number, given_at}
-use Rattle.source_receiver.specs.declared.hearing.Heard.{Heard}
+use Rattle.source_receiver.specs.Stands.{Stands, latest_number}
 use Rattle.text_spec.specs.declared.counts.Counts.{Counts}
 use Rattle.rtt_read.specs.declared.confs.ReadConf.{ReadConf}
 use Rattle.rtt_read.specs.ReadView.{usual_wait, Fate, is_packet, is_refused, is_foreign}
@@ -34,14 +33,6 @@ pub record Hears (l : Listener) (source : ℕ) (story : Story) : Type 0 where
   pub latest : latest_number l.receiver ≡ last_after None (given_packets story.given)
   pub text : l.text ≡ concat (heard_by (given_packets story.given) source)
   pub used : l.counts.used ≡ length story.given
-
--- all that one packet gives: a marker, if text may be missing, and its new texts
-abbrev pub pieces : Heard → List (List ℕ)
-pieces heard = (if heard.marker then marker ∷ [] else []) ++ heard.texts
-
--- what a source gives that is the only one
-abbrev pub IsOnly : Heard → Type 0
-IsOnly heard = pieces heard ≡ given_at 0 heard
 
 -- all but the text, the tracker, the receiver and the number of used packets stays
 pub record SameStream (old new : Listener) : Type 0 where

@@ -13,13 +13,13 @@ ghost use Rattle.text_spec.specs.Shown.{shown};
 ghost use Rattle.text_spec.specs.Views.{text_view};
 ghost use Rattle.rtt_read.specs.Texts.{IsTextPacket};
 ghost use Rattle.rtt_read.specs.ReadView.{usual_wait, fate_of, Refused};
-ghost use Rattle.rtt_read.specs.Hears.{Hears, Gathers, SameStream, CountsAs, Listens, IsListening, pieces};
+ghost use Rattle.rtt_read.specs.Hears.{Hears, Gathers, SameStream, CountsAs, Listens, IsListening};
 
 use crate::ReadConf;
 use gap_tracker::Tracker;
 use red_blocks::read_text;
 use rtt_base::{Bytes, NoMemory, Pts, TextPacket};
-use source_receiver::{Heard, Receiver};
+use source_receiver::Receiver;
 use std::alloc::Global;
 use t140_text::views::append_text_view;
 use t140_text::{Counts, show};
@@ -27,9 +27,6 @@ use wire_spec::TextFault;
 
 /// How long a gap in the sequence numbers is waited for, in milliseconds.
 const WAIT: u64 = 1000;
-
-/// U+FFFD, which stands where text may be missing (T.140, Addendum 1).
-const MARKER: [u8; 3] = [0xEF, 0xBF, 0xBD];
 
 /// Hears one source in the packets of one stream, and counts the packets.
 #[derive(Drop)]
@@ -40,23 +37,8 @@ pub struct Listener {
     receiver: Receiver,
     /// The packet that is read, or heard.
     packet: Box<TextPacket>,
-    /// What it gave.
-    heard: Heard,
     text: Bytes,
     counts: Counts,
-}
-
-/// Appends what one packet gave.
-fn append_heard(heard: &Heard, text: &mut Bytes) -> Result<(), NoMemory>
-    ensures { OnOk result (text.new ≡ text.old ++ concat (pieces heard.now)) }
-{
-    if heard.marker {
-        text.append(&MARKER)?;
-    }
-    for part in heard.texts.as_slice() {
-        text.append(part.as_slice())?;
-    }
-    Ok(())
 }
 
 impl Listener {
@@ -71,7 +53,6 @@ impl Listener {
             tracker: Tracker::new(alloc, WAIT)?,
             receiver: Receiver::new(alloc, &[conf.source])?,
             packet: Box::new(alloc, TextPacket::default())?,
-            heard: Heard::new(),
             text: Bytes::new(alloc),
             counts: Counts::default(),
         })
@@ -87,8 +68,7 @@ impl Listener {
     {
         while let Some(due) = self.tracker.next(&mut self.packet) {
             self.receiver
-                .take(due.number, &self.packet, &mut self.heard);
-            append_heard(&self.heard, &mut self.text)?;
+                .take_into(due.number, &self.packet, &mut self.text)?;
             self.counts.used += 1;
         }
         Ok(())

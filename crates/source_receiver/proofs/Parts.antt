@@ -1,6 +1,9 @@
 -- What the loops and the look-up of a receiver give.
-use Rattle.std.proofs.Common.{◌≡◌, ℕ, zero, suc, ◌+◌, ◌-◌, ◌%◌, ◌^◌, ◌<◌, ◌≤◌, Bool, true, false, cond, Option, None, List, [], ◌∷◌, ◌++◌, length, get_or, take, refl, ap, sym, ◌∙◌, arith, append_assoc, add-one, length-append, inl, inr, subst}
+use Rattle.std.proofs.Common.{◌≡◌, ℕ, zero, suc, ◌+◌, ◌-◌, ◌%◌, ◌^◌, ◌<◌, ◌≤◌, Bool, true, false, cond, Option, None, Result, Ok, Err, List, [], ◌∷◌, ◌++◌, length, get_or, take, refl, ap, sym, ◌∙◌, arith, append_assoc, add-one, length-append, inl, inr, subst}
 use Rattle.std.specs.Prelude.{if◌then◌else◌, map, ◌≢◌, AllPairs}
+use Rattle.std.specs.Prelude.{OnOk}
+use Rattle.std.specs.List.{concat}
+use Rattle.std.proofs.lemmas.List.Folds.{concat-append}
 use Rattle.std.proofs.Math.Seq.{take-suc}
 use Rattle.rtt_base.specs.declared.blocks.TextBlock.{TextBlock}
 use Rattle.wire_spec.specs.Packets.{back, redundant, primary_text}
@@ -12,7 +15,7 @@ use Rattle.source_receiver.specs.declared.receivers.Seen.{Seen}
 use Rattle.source_receiver.specs.declared.receivers.Listed.{Listed}
 use Rattle.source_receiver.specs.declared.receivers.Receiver.{Receiver}
 use Rattle.source_receiver.specs.Stands.{Stands, IsSeen}
-use Rattle.source_receiver.specs.Steps.{is_new_since, older_since, texts_since}
+use Rattle.source_receiver.specs.Steps.{is_new_since, new_since, older_since, texts_since}
 
 abbrev pub one_older : Option Seen → ℕ → TextBlock → List (List ℕ)
 one_older seen stamp b = if is_new_since seen (back stamp b.offset) then text_list b.text else []
@@ -118,3 +121,32 @@ pub texts_are : (seen : Option Seen) (p : TextPacket) (rest : List TextBlock) (b
 texts_are seen p rest b e =
     ap (λ bs. older_since seen p.stamp bs ++ text_list b.text) (sym (ap redundant e ∙ redundant_is rest b))
     ∙ ap (λ t. older_since seen p.stamp (redundant p.blocks) ++ text_list t) (sym (ap primary_text e ∙ primary_is rest b))
+
+-- ---- octets that are appended
+
+-- what holds where it went well, one step on
+pub on_ok_then : {T E P Q : Type 0} (r : Result T E) → (P → Q) → OnOk r P → OnOk r Q
+on_ok_then (Ok x) f p = f p
+on_ok_then (Err x) f p = tt
+
+-- the octets of one block more
+pub octets_more : (seen : Option Seen) (stamp : ℕ) (xs : List TextBlock) (i : ℕ) (b : TextBlock) (initial out more : List ℕ) → b ≡ get_or xs i b → i < length xs
+    → out ≡ initial ++ concat (older_since seen stamp (take i xs)) → more ≡ out ++ concat (new_since seen stamp b) → more ≡ initial ++ concat (older_since seen stamp (take (i + 1) xs))
+octets_more seen stamp xs i b initial out more is within before e =
+    e ∙ (ap (λ (t : List ℕ). t ++ concat (new_since seen stamp b)) before
+    ∙ (append_assoc initial (concat (older_since seen stamp (take i xs))) (concat (new_since seen stamp b))
+    ∙ ap (λ (t : List ℕ). initial ++ t) (sym (concat-append (older_since seen stamp (take i xs)) (new_since seen stamp b))
+    ∙ ap concat (ap (λ (x : TextBlock). older_since seen stamp (take i xs) ++ new_since seen stamp x) is ∙ sym (older_more seen stamp xs i b within)))))
+
+concat_text : (t : List ℕ) → concat (text_list t) ≡ t
+concat_text [] = refl
+concat_text (x ∷ xs) = nil (x ∷ xs)
+
+-- the marker, the older texts and the primary one
+pub octets_told : (out one two three text : List ℕ) (m o all : List (List ℕ)) → one ≡ out ++ concat m → two ≡ one ++ concat o → three ≡ two ++ text → o ++ text_list text ≡ all → three ≡ out ++ concat (m ++ all)
+octets_told out one two three text m o all e f g h =
+    g ∙ (ap (λ (t : List ℕ). t ++ text) (f ∙ ap (λ (t : List ℕ). t ++ concat o) e)
+    ∙ (append_assoc (out ++ concat m) (concat o) text
+    ∙ (append_assoc out (concat m) (concat o ++ text)
+    ∙ ap (λ (t : List ℕ). out ++ t) (ap (λ (t : List ℕ). concat m ++ (concat o ++ t)) (sym (concat_text text))
+    ∙ (ap (λ (t : List ℕ). concat m ++ t) (sym (concat-append o (text_list text)) ∙ ap concat h) ∙ sym (concat-append m all))))))

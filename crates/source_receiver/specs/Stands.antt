@@ -1,5 +1,6 @@
 -- What a receiver stands for: the sources that it lists, and the used packets that it took, in rising number (profile).
 use Rattle.std.specs.Prelude.{◌≡◌, ◌≢◌, ℕ, suc, ◌+◌, ◌≤◌, ◌==◌, Option, None, Some, List, [], ◌∷◌, ◌++◌, length, map, AllPairs, if◌then◌else◌}
+use Rattle.std.specs.List.{concat}
 use Rattle.rtt_base.specs.declared.text_packets.TextPacket.{TextPacket}
 use Rattle.wire_spec.specs.Packets.{packet_of}
 use Rattle.stream_spec.specs.Lists.{In}
@@ -54,3 +55,9 @@ pub record Stands (r : Receiver) (sources : List ℕ) (us : List Numbered) : Typ
   pub rising : RisingNumbers us
   pub count : IsCount us r.latest r.missing
   pub seen : (l : Listed) → In l r.listed.items → IsSeen us l.source l.seen
+
+-- what was appended is what is heard more
+pub record AppendsHeard (old new : List ℕ) (before after : List (List ℕ)) : Type 0 where
+  pub more : List (List ℕ)
+  pub appended : new ≡ old ++ concat more
+  pub heard : after ≡ before ++ more

@@ -4,7 +4,7 @@ use Rattle.rtt_base.specs.declared.blocks.TextBlock.{TextBlock}
 use Rattle.rtt_base.specs.declared.text_packets.TextPacket.{TextPacket}
 use Rattle.rtt_base.specs.Stamps.{is_after}
 use Rattle.wire_spec.specs.Packets.{redundant, primary_text, back}
-use Rattle.stream_spec.specs.Hearing.{text_list, oldest_offset}
+use Rattle.stream_spec.specs.Hearing.{marker, text_list, oldest_offset}
 use Rattle.source_receiver.specs.declared.receivers.Receiver.{Receiver}
 use Rattle.source_receiver.specs.declared.receivers.Seen.{Seen}
 
@@ -28,9 +28,17 @@ abbrev pub is_marked_since : Option Seen → ℕ → ℕ → List TextBlock → 
 is_marked_since seen missing stamp older =
     nat_lt (length older) (missing - missing_then seen) && is_new_since seen (back stamp (oldest_offset older))
 
+-- the text of a block, where it is new
+abbrev pub new_since : Option Seen → ℕ → TextBlock → List (List ℕ)
+new_since seen stamp b = if is_new_since seen (back stamp b.offset) then text_list b.text else []
+
 abbrev pub older_since : Option Seen → ℕ → List TextBlock → List (List ℕ)
 older_since seen stamp [] = []
 older_since seen stamp (b ∷ bs) = (if is_new_since seen (back stamp b.offset) then text_list b.text else []) ++ older_since seen stamp bs
 
 abbrev pub texts_since : Option Seen → TextPacket → List (List ℕ)
 texts_since seen p = older_since seen p.stamp (redundant p.blocks) ++ text_list (primary_text p.blocks)
+
+-- all that the packet gives
+abbrev pub told_since : Option Seen → ℕ → TextPacket → List (List ℕ)
+told_since seen missing p = (if is_marked_since seen missing p.stamp (redundant p.blocks) then marker ∷ [] else []) ++ texts_since seen p

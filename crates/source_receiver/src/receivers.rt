@@ -1,15 +1,19 @@
 //! Hearing, source by source (RFC 4103, section 4).
-ghost use Rattle.std.specs.Prelude.{◌≡◌, ◌≢◌, ◌≤◌, ◌<◌, ◌+◌, ◌==◌, ℕ, Bool, List, [], ◌∷◌, ◌++◌, length, position, slice_index, AllPairs, IfOk, OnSome};
+ghost use Rattle.std.specs.Prelude.{◌≡◌, ◌≢◌, ◌≤◌, ◌<◌, ◌+◌, ◌==◌, ℕ, Bool, List, [], ◌∷◌, ◌++◌, length, position, slice_index, AllPairs, IfOk, OnOk, OnSome, if◌then◌else◌};
+ghost use Rattle.std.specs.List.{concat};
 ghost use Rattle.std.specs.Option.{ForSome};
 ghost use Rattle.wire_spec.specs.Packets.{redundant};
 ghost use Rattle.stream_spec.specs.Numbering.{Numbered};
-ghost use Rattle.stream_spec.specs.Hearing.{heard_by, adds_marker, adds_texts, text_list};
-ghost use Rattle.source_receiver.specs.Stands.{Stands, used_packet, latest_number, given_at};
-ghost use Rattle.source_receiver.specs.Steps.{missing_up_to, is_new_since, is_marked_since, older_since, texts_since};
+ghost use Rattle.stream_spec.specs.Hearing.{heard_by, adds_marker, adds_texts, marker, text_list};
+ghost use Rattle.source_receiver.specs.Stands.{Stands, used_packet, latest_number, given_at, AppendsHeard};
+ghost use Rattle.source_receiver.specs.Steps.{missing_up_to, is_new_since, is_marked_since, new_since, older_since, texts_since, told_since};
 
 use crate::{Heard, Texts};
-use rtt_base::{NoMemory, Text, TextBlock, TextPacket, after};
+use rtt_base::{Bytes, NoMemory, Text, TextBlock, TextPacket, after};
 use std::alloc::Global;
+
+/// U+FFFD, which stands where text may be missing (T.140, Addendum 1).
+const MARKER: [u8; 3] = [0xEF, 0xBF, 0xBD];
 
 /// What is kept of the last packet of a source.
 #[derive(Clone, Copy, Debug)]
@@ -104,6 +108,65 @@ fn tell(seen: Option<Seen>, missing: u64, packet: &TextPacket, out: &mut Heard)
     }
 }
 
+/// Appends the text of a redundant block, where it is new.
+fn append_new(
+    seen: Option<Seen>,
+    stamp: u32,
+    block: &TextBlock,
+    out: &mut Bytes,
+) -> Result<(), NoMemory>
+    ensures { OnOk result (out.new ≡ out.old ++ concat (new_since seen stamp block.now)) }
+{
+    if is_new(seen, stamp.wrapping_sub(u32::from(block.offset))) {
+        out.append(block.text.as_slice())?;
+    }
+    Ok(())
+}
+
+/// Appends the new texts of redundant blocks.
+fn append_older(
+    seen: Option<Seen>,
+    stamp: u32,
+    older: &[TextBlock],
+    out: &mut Bytes,
+) -> Result<(), NoMemory>
+    ensures { OnOk result (out.new ≡ out.old ++ concat (older_since seen stamp older.now)) }
+{
+    for block in older {
+        append_new(seen, stamp, block, out)?;
+    }
+    Ok(())
+}
+
+/// Appends a marker, where one stands before the texts.
+fn append_marker(marked: bool, out: &mut Bytes) -> Result<(), NoMemory>
+    ensures { OnOk result (out.new ≡ out.old ++ concat (if marked then marker ∷ [] else [])) }
+{
+    if marked {
+        out.append(&MARKER)?;
+    }
+    Ok(())
+}
+
+/// Appends what the packet gives after what was seen of its source.
+fn append_told(
+    seen: Option<Seen>,
+    missing: u64,
+    packet: &TextPacket,
+    out: &mut Bytes,
+) -> Result<(), NoMemory>
+    ensures { OnOk result (out.new ≡ out.old ++ concat (told_since seen missing packet.now)) }
+{
+    match packet.blocks.as_slice().split_last() {
+        Some((primary, older)) => {
+            append_marker(is_marked(seen, missing, packet.stamp, older), out)?;
+            append_older(seen, packet.stamp, older, out)?;
+            out.append(primary.text.as_slice())
+        }
+        None => append_marker(is_marked(seen, missing, packet.stamp, &[]), out),
+    }
+}
+
 impl Receiver {
     /// A receiver that listens to these sources: 1 to 16 of them, all different.
     pub fn new(alloc: Global, sources: &[u32]) -> Result<Receiver, NoMemory>
@@ -168,5 +231,30 @@ impl Receiver {
             stamp: packet.stamp,
             missing: self.missing,
         });
+    }
+
+    /// Takes a used packet, as `take` does, and appends what is heard of it. It is for a receiver of one source.
+    pub fn take_into(
+        &mut self,
+        number: u64,
+        packet: &TextPacket,
+        out: &mut Bytes,
+    ) -> Result<(), NoMemory>
+        requires { ForSome (latest_number self.old) (λ latest. latest < number) }
+        ensures latest { OnOk result (latest_number self.new ≡ Some number) }
+        ensures stands { OnOk result ((sources : List ℕ) (us : List Numbered) (time : ℕ) → Stands self.old sources us
+            → Stands self.new sources (us ++ used_packet time number packet.now ∷ [])) }
+        ensures heard { OnOk result ((source : ℕ) (us : List Numbered) (time : ℕ) → Stands self.old (source ∷ []) us
+            → AppendsHeard out.old out.new (heard_by us source) (heard_by (us ++ used_packet time number packet.now ∷ []) source)) }
+    {
+        self.count(number);
+        let Some(place) = place_of(self.listed.as_slice(), packet.source) else {
+            return Ok(());
+        };
+        append_told(self.listed[place].seen, self.missing, packet, out)?;
+        let (stamp, missing) = (packet.stamp, self.missing);
+        let kept = Some(Seen { stamp, missing });
+        self.listed[place].seen = kept;
+        Ok(())
     }
 }

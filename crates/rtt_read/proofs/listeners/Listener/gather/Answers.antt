@@ -1,13 +1,12 @@
-use Rattle.std.proofs.Common.{◌∷◌, [], ◌++◌, length-append, refl, ap, sym, ◌∙◌, arith}
-use Rattle.std.specs.List.{concat}
+use Rattle.std.proofs.Common.{◌∷◌, [], ◌++◌, length-append, refl, sym, ◌∙◌, arith}
 use Rattle.gap_tracker.specs.Stories.{Story, gave, given_of}
 use Rattle.gap_tracker.specs.Tracks.{Tracks}
-use Rattle.rtt_read.specs.Hears.{given_packets, IsOnly}
-use Rattle.rtt_read.proofs.Gathering.{fronts, given_fits, next_rises, heard_one, only_one}
+use Rattle.rtt_read.specs.Hears.{given_packets}
+use Rattle.rtt_read.proofs.Gathering.{fronts, given_fits, next_rises, heard_one}
 use Rattle.rtt_read.proofs.listeners.Listener.gather.Goals as goal
 
-pub take-requires : goal.take-requires
-take-requires c = λ latest e.
+pub take_into-requires : goal.take_into-requires
+take_into-requires c = λ latest e.
     let now = c.loop-due.invariant.hears c.requires.stands.0 c.requires.stands.1 c.requires.stands.2 in
     let story : Story = record c.requires.stands.1 { given = now.0 } in
     let told = c.in-Some.ensures.some story now.1.tracks in
@@ -40,12 +39,10 @@ loop-due-preserved c = record {
       let now = c.loop-due.invariant.hears source story h in
       let heard = c.deref.result.now in
       let told : Tracks c.next.new.self (gave (record story { given = now.0 }) (given_of c.in-Some.due heard)) = rw c.deref.ensures (c.in-Some.ensures.some (record story { given = now.0 }) now.1.tracks) in
-      let only : IsOnly c.take.new.out = only_one c.take.new.out source heard.source (c.take.ensures.place (source ∷ []) (given_packets now.0) now.1.stands) (c.take.ensures.unlisted (source ∷ []) (given_packets now.0) now.1.stands) in (
+      let more = c.in_ok-take_into.ensures.heard source (given_packets now.0) 0 now.1.stands in (
         now.0 ++ given_of c.in-Some.due heard ∷ [],
-        heard_one c.loop-due.self _ source (record story { given = now.0 }) c.in-Some.due heard c.take.new.out now.1 told
-            (c.take.ensures.stands (source ∷ []) (given_packets now.0) 0 now.1.stands) c.take.ensures.latest
-            (c.take.ensures.heard (source ∷ []) (given_packets now.0) 0 0 now.1.stands (omega arith))
-            (c.in_ok-append_heard.ensures ∙ ap (λ ts. c.loop-due.self.text ++ concat ts) only) refl,
+        heard_one c.loop-due.self _ source (record story { given = now.0 }) c.in-Some.due heard more.more now.1 told
+            (c.in_ok-take_into.ensures.stands (source ∷ []) (given_packets now.0) 0 now.1.stands) c.in_ok-take_into.ensures.latest more.heard more.appended refl,
       );
   same = record {
     ssrc = c.loop-due.invariant.same.ssrc;
