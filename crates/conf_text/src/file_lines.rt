@@ -5,7 +5,7 @@ ghost use Rattle.std.specs.Str.Lines.{lines, strip_carriage_return};
 ghost use Rattle.file_spec.specs.Lines.{is_comment};
 ghost use Rattle.conf_text.specs.Texts.{octets_of, text_in};
 
-use simdutf8::compat::from_utf8;
+use simdutf8::basic::from_utf8;
 
 fn without_return(line: &[u8]) -> &[u8]
     ensures { result.now ≡ strip_carriage_return line.now }

@@ -4,7 +4,7 @@ use Rattle.conf_text.proofs.TextLine.{no_text}
 use Rattle.conf_text.proofs.file_lines.text_of.Goals as goal
 
 pub returns-in-Ok : goal.returns-in-Ok
-returns-in-Ok c = rw (is_utf8-from_IsUtf8 c.args.octets.now c.in-Ok.ensures.cases.1) (ap Some c.in-Ok.ensures.cases.0)
+returns-in-Ok c = rw (is_utf8-from_IsUtf8 c.args.octets.now c.in-Ok.ensures.1) (ap Some c.in-Ok.ensures.0)
 
 pub returns-in-Err : goal.returns-in-Err
-returns-in-Err c = rw (no_text c.args.octets.now c.in-Err.ensures.cases.0)
+returns-in-Err c = rw (no_text c.args.octets.now c.in-Err.ensures)
