@@ -17,6 +17,18 @@ pub struct KeptBlock {
     pub text: Text,
 }
 
+impl KeptBlock {
+    /// Puts this stamp and a copy of this text, of at most 1023 octets, in place of what was there.
+    fn set(&mut self, stamp: u32, text: &[u8])
+        requires { length text.now < 1024 }
+        ensures { self.new ≡ record { stamp = stamp; text = text.now } }
+    {
+        self.stamp = stamp;
+        self.text.clear();
+        let _ = self.text.append(text);
+    }
+}
+
 /// Appends the block that repeats this one in a packet with this timestamp: an empty one, where there is none.
 fn append_repeat(kept: Option<&KeptBlock>, stamp: u32, out: &mut Blocks)
     requires { length out.old < 9 }
@@ -51,17 +63,20 @@ pub fn any_text(kept: &[KeptBlock]) -> bool
     kept.iter().any(|block| !block.text.is_empty())
 }
 
-/// Puts a block with a copy of this text in front, and lets go of those beyond so many.
+/// Puts a block with a copy of this text in front, and lets go of those beyond so many. It is written over the oldest.
 pub fn keep(kept: &mut ArrayVec<KeptBlock, 4>, generations: usize, stamp: u32, text: &[u8])
-    requires room { length kept.old.items < 4 }
+    requires most { generations ≤ 3 }
+    requires few { length kept.old.items ≤ generations }
     requires fits { length text.now < 1024 }
     ensures { kept.new.items ≡ take generations (record { stamp = stamp; text = text.now } ∷ kept.old.items) }
 {
-    let mut block = KeptBlock {
-        stamp,
-        text: Text::new(),
-    };
-    let _ = block.text.append(text);
-    kept.insert(0, block);
-    kept.truncate(generations);
+    if kept.len() < generations {
+        kept.push(KeptBlock::default());
+    }
+    let places = kept.as_mut_slice();
+    if places.is_empty() {
+        return;
+    }
+    places.rotate_right(1);
+    places[0].set(stamp, text);
 }
