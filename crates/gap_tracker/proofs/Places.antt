@@ -1,11 +1,12 @@
 -- Where a number belongs among those that are held.
 use Rattle.std.proofs.Common.{◌≡◌, ℕ, zero, suc, ◌+◌, ◌-◌, ◌^◌, ◌<◌, ◌≤◌, ◌⊎◌, true, false, inl, inr, List, [], ◌∷◌, ◌++◌, length, get_or, drop, refl, ap, subst, ◌∙◌, arith}
-use Rattle.std.specs.Prelude.{map, insert, ◌==◌}
+use Rattle.std.specs.Prelude.{map, max, insert, Some, ◌==◌}
 use Rattle.std.proofs.lemmas.Bool.{eq-eqb, ne_eqb, lt-ltb, le-ltb, or_left, or_right}
 use Rattle.stream_spec.specs.Numbering.{Numbered, has_number, by_number}
 use Rattle.stream_spec.specs.Lists.{In}
 use Rattle.stream_spec.specs.Holding.{RisingNumbers}
-use Rattle.gap_tracker.specs.States.{AllAbove, IsPlace}
+use Rattle.rtt_base.specs.declared.text_packets.TextPacket.{TextPacket}
+use Rattle.gap_tracker.specs.States.{State, AllAbove, IsPlace, next_latest, latest_from, put_at}
 use Rattle.gap_tracker.specs.Views.{numbered_of, settled_of, held_packet, settled_packet, AreSmall}
 use Rattle.gap_tracker.specs.declared.holds.HeldPacket.{HeldPacket}
 use Rattle.gap_tracker.specs.declared.holds.SettledPacket.{SettledPacket}
@@ -142,3 +143,7 @@ inside_put settled xs place x =
 pub inside_settle : (settled : List SettledPacket) (x : HeldPacket) (xs : List HeldPacket) (y : SettledPacket) → settled_packet y ≡ held_packet x → map settled_packet (settled ++ y ∷ []) ++ map held_packet xs ≡ map settled_packet settled ++ (held_packet x ∷ map held_packet xs)
 inside_settle [] x xs y e = ap (λ q. q ∷ map held_packet xs) e
 inside_settle (z ∷ settled) x xs y e = ap (λ us. settled_packet z ∷ us) (inside_settle settled x xs y e)
+
+-- the next number, where none is held, is settled at once
+pub at_once : (s : State) (e : Numbered) (q : TextPacket) → s.held ≡ [] → e.number ≡ s.front → next_latest (put_at s 0 e q) ≡ Some (max s.latest e.time)
+at_once s e q none next = ap (λ (held : List Numbered). latest_from s.wait s.moment s.front s.latest (insert held 0 e)) none ∙ (rw (next, eq-eqb s.front s.front refl) refl)

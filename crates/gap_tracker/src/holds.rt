@@ -1,5 +1,5 @@
 //! What a tracker holds.
-ghost use Rattle.std.specs.Prelude.{◌≡◌, ◌+◌, ◌-◌, ◌*◌, ◌^◌, ◌<◌, ◌≤◌, ◌==◌, ◌⊎◌, ℕ, [], ◌∷◌, length, map, drop, slice_index_or, nat_lt, Bool, true, false, IfOk, OnOk, IfErr, IsSome, IfSome, IfNone, Some, None, if◌then◌else◌};
+ghost use Rattle.std.specs.Prelude.{max, ◌≡◌, ◌+◌, ◌-◌, ◌*◌, ◌^◌, ◌<◌, ◌≤◌, ◌==◌, ◌⊎◌, ℕ, [], ◌∷◌, length, map, drop, slice_index_or, nat_lt, Bool, true, false, IfOk, OnOk, IfErr, IsSome, IfSome, IfNone, Some, None, if◌then◌else◌};
 ghost use Rattle.rtt_base.specs.declared.text_packets.TextPacket.{TextPacket};
 ghost use Rattle.wire_spec.specs.Packets.{packet_of};
 ghost use Rattle.stream_spec.specs.Lists.{In};
@@ -266,6 +266,44 @@ impl Hold {
         );
     }
 
+    /// Settles a packet that comes now, in exchange for a spare box: it is the next one, and none is held.
+    fn settle_at_once(&mut self, number: u64, packet: &mut Box<TextPacket>)
+        requires counted { 0 < self.old.arrivals }
+        requires room { length self.old.settled ≤ 64 }
+        requires none { self.old.held ≡ [] }
+        requires number { number < 2 ^ 60 }
+        ensures { self.new ≡ settled_first (put_at self.old 0 (record { time = self.old.moment; number = number; packet = packet_of packet.old.value }) packet.old.value) (max self.old.latest self.old.moment) }
+    {
+        let spare = self.spare.take_last();
+        let packet = mem::replace(packet, spare);
+        let ready = self.latest.max(self.moment);
+        self.front = number + 1;
+        self.latest = ready;
+        self.settled.push(SettledPacket {
+            number,
+            ready,
+            packet,
+        });
+    }
+
+    /// Holds a packet that comes now, in exchange for a spare box, and settles what it settles.
+    fn take_in(&mut self, place: usize, number: u64, packet: &mut Box<TextPacket>)
+        requires counted { 0 < self.old.arrivals }
+        requires room { length self.old.settled + length self.old.held ≤ 64 }
+        requires within { place ≤ length self.old.held }
+        requires number { number < 2 ^ 60 }
+        ensures stands { (story : Story) → Follows (put_at self.old place (record { time = self.old.moment; number = number; packet = packet_of packet.old.value }) packet.old.value) story → Follows self.new story }
+        ensures still { next_latest self.new ≡ None }
+        ensures same { SameBut (put_at self.old place (record { time = self.old.moment; number = number; packet = packet_of packet.old.value }) packet.old.value) self.new }
+    {
+        if self.held.is_empty() && number == self.front {
+            self.settle_at_once(number, packet);
+        } else {
+            self.put(place, number, packet);
+            self.advance();
+        }
+    }
+
     /// Takes a packet. A spare box comes in exchange for one that is used.
     pub fn arrive(&mut self, now: u64, packet: &mut Box<TextPacket>) -> Taken
         requires now { now < 2 ^ 48 }
@@ -289,8 +327,7 @@ impl Hold {
             Ok(place) => place,
             Err(taken) => return taken,
         };
-        self.put(place, number, packet);
-        self.advance();
+        self.take_in(place, number, packet);
         self.taken(number)
     }
 
