@@ -69,6 +69,9 @@ impl<T: Drop> Line<T> {
         requires { 0 < length self.old }
         ensures { self.old ≡ result ∷ self.new }
     {
+        if self.items.len() == 1 {
+            return self.take_last();
+        }
         self.items.remove(0)
     }
 
