@@ -35,7 +35,7 @@ fn read_short(
     requires { out.old.blocks ≡ [] }
     ensures exact { Gives (λ _. packet_of out.new) result (text_of_short bytes.now ssrc pts) }
     ensures blocks { OnOk result (out.new.blocks ≡ blocks_of (packet_of out.new)) }
-    ensures err { OnErr result (out.new.blocks ≡ []) }
+    ensures err { OnErr result (out.new ≡ record out.old { blocks = [] }) }
 {
     let view = accept(read_rtp(bytes)?, ssrc)?;
     read_blocks(view.payload, view.pt, pts, &mut out.blocks)?;
@@ -58,7 +58,7 @@ pub fn read_text(
 ) -> Result<(), TextFault>
     ensures exact { Gives (λ _. packet_of out.new) result (text_of bytes.now ssrc pts) }
     ensures blocks { OnOk result (out.new.blocks ≡ blocks_of (packet_of out.new)) }
-    ensures err { OnErr result (out.new.blocks ≡ []) }
+    ensures err { OnErr result (out.new ≡ record out.old { blocks = [] }) }
 {
     out.blocks.clear();
     if bytes.len() > Packet::CAPACITY {

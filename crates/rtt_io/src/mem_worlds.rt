@@ -97,6 +97,9 @@ impl MemWorld {
     pub fn add_file(&mut self, name: &str, octets: &[u8]) -> Result<(), NoMemory>
         ensures ok { OnOk result (⟦<MemWorld as World>⟧.contents self.new name.now ≡ Some octets.now) }
         ensures others { (n : List ℕ) → n ≢ name.now → ⟦<MemWorld as World>⟧.contents self.new n ≡ ⟦<MemWorld as World>⟧.contents self.old n }
+        ensures err { OnErr result ((n : List ℕ) → ⟦<MemWorld as World>⟧.contents self.new n ≡ ⟦<MemWorld as World>⟧.contents self.old n) }
+        ensures same_own { (n : List ℕ) → ⟦<MemWorld as World>⟧.own_faults self.new n ≡ ⟦<MemWorld as World>⟧.own_faults self.old n }
+        ensures same_objects { (n : List ℕ) → ⟦<MemWorld as World>⟧.object_faults self.new n ≡ ⟦<MemWorld as World>⟧.object_faults self.old n }
     {
         let mut copy = Bytes::new(self.alloc);
         copy.append(octets)?;

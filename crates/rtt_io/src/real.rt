@@ -7,21 +7,23 @@ use rtt_base::{Failed, Path};
 use std::alloc::Global;
 use std::fs;
 use std::fs::File;
-use std::io::{Stderr, Stdout, Write};
+use std::io::{Read, Stderr, Stdout, Write};
 use std::rt::Files;
 
 /// A file that is read.
 #[derive(Drop)]
-pub struct FileSource {
-    file: File,
+pub struct FileSource<F = File> {
+    file: F,
     name: Path,
     faults: u64,
 }
 
-impl Source for FileSource {
-    ghost tells = { ⊥ };
+impl<F: Read> Source for FileSource<F> {
+    ghost use Rattle.std.specs.Prelude.{IsSome, unwrap_or};
 
-    ghost left = { λ _. [] };
+    ghost tells = { (f : F) → IsSome (F.remaining f) };
+
+    ghost left = { λ source. unwrap_or (F.remaining source.file) [] };
 
     ghost faults = { λ source. source.faults };
 
@@ -40,16 +42,18 @@ impl Source for FileSource {
 
 /// A file that is written.
 #[derive(Drop)]
-pub struct FileSink {
-    file: File,
+pub struct FileSink<F = File> {
+    file: F,
     name: Path,
     faults: u64,
 }
 
-impl Sink for FileSink {
-    ghost tells = { ⊥ };
+impl<F: Write> Sink for FileSink<F> {
+    ghost use Rattle.std.specs.Prelude.{IsSome, unwrap_or};
 
-    ghost took = { λ _. [] };
+    ghost tells = { (f : F) → IsSome (F.contents f) };
+
+    ghost took = { λ sink. unwrap_or (F.contents sink.file) [] };
 
     ghost faults = { λ sink. sink.faults };
 
@@ -79,19 +83,21 @@ pub type StandardOutput = StreamSink<Stdout>;
 /// The standard error.
 pub type StandardError = StreamSink<Stderr>;
 
-impl<W> StreamSink<W> {
+impl<W: Write> StreamSink<W> {
     /// A stream that did not fail yet.
     pub fn new(stream: W) -> StreamSink<W>
-        ensures { result.faults ≡ 0 }
+        ensures { ⟦<StreamSink<W> as Sink>⟧.faults result ≡ 0 }
     {
         StreamSink { stream, faults: 0 }
     }
 }
 
 impl<W: Write> Sink for StreamSink<W> {
-    ghost tells = { ⊥ };
+    ghost use Rattle.std.specs.Prelude.{IsSome, unwrap_or};
 
-    ghost took = { λ _. [] };
+    ghost tells = { (w : W) → IsSome (W.contents w) };
+
+    ghost took = { λ sink. unwrap_or (W.contents sink.stream) [] };
 
     ghost faults = { λ sink. sink.faults };
 

@@ -23,6 +23,7 @@ pub trait Sink {
         ensures never_falls { faults self.old ≤ faults self.new }
         ensures failed { OnErr result (Rose (faults self.old) (faults self.new)) }
         ensures same_name { name self.new ≡ name self.old }
+        ensures calm { OnOk result (faults self.new ≡ faults self.old) }
 
         ensures appended { tells → OnOk result (took self.new ≡ took self.old ++ bytes.now) }
         ensures prefix { tells → OnErr result ((n : ℕ) × (took self.new ≡ took self.old ++ take n bytes.now)) };

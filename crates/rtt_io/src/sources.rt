@@ -1,5 +1,5 @@
 //! What is read from.
-ghost use Rattle.std.specs.Prelude.{◌≡◌, ℕ, ◌<◌, ◌≤◌, List, [], ◌++◌, length, take, Ok, OnErr, IfOk};
+ghost use Rattle.std.specs.Prelude.{◌≡◌, ℕ, ◌<◌, ◌≤◌, List, [], ◌++◌, length, take, Ok, OnErr, OnOk, IfOk};
 ghost use Rattle.rtt_io.specs.Counts.{Rose};
 
 use rtt_base::Failed;
@@ -26,6 +26,7 @@ pub trait Source {
         ensures failed { OnErr result (Rose (faults self.old) (faults self.new)) }
         ensures fits { IfOk result (λ n. n ≤ length buf.new) }
         ensures same_name { name self.new ≡ name self.old }
+        ensures calm { OnOk result (faults self.new ≡ faults self.old) }
 
         ensures given { tells → IfOk result (λ n. left self.old ≡ take n buf.new ++ left self.new) }
         ensures ended { tells → result ≡ Ok 0 → left self.old ≡ [] }

@@ -1,13 +1,16 @@
 //! Reading and writing of real streams.
-ghost use Rattle.std.specs.Prelude.{◌≡◌, ◌≤◌, length, take, IfOk, OnOk};
-ghost use Rattle.std.specs.Io.KnownBytes.{Appends};
+ghost use Rattle.std.specs.Prelude.{◌≡◌, ◌≤◌, ◌<◌, ℕ, length, take, IfOk, OnOk, OnErr, Ok};
+ghost use Rattle.std.specs.Io.KnownBytes.{Appends, Consumes, Keeps, IsAtEnd};
 
 use rtt_base::Failed;
 use std::io::{ErrorKind, Read, Write};
 
 /// Reads once, and again where the system broke the read off.
 pub(crate) fn read_once<R: Read>(from: &mut R, buf: &mut [u8]) -> Result<usize, Failed>
-    ensures { IfOk result (λ n. n ≤ length buf.new) }
+    ensures fits { IfOk result (λ n. n ≤ length buf.new) }
+    ensures given { IfOk result (λ n. Consumes (R.remaining from.old) (R.remaining from.new) (take n buf.new)) }
+    ensures ended { result ≡ Ok 0 → 0 < length buf.new → IsAtEnd (R.remaining from.new) }
+    ensures kept { OnErr result (Keeps (R.remaining from.old) (R.remaining from.new)) }
 {
     for _ in 0..u64::MAX {
         match from.read(buf) {
@@ -21,7 +24,8 @@ pub(crate) fn read_once<R: Read>(from: &mut R, buf: &mut [u8]) -> Result<usize, 
 
 /// Writes all octets, piece by piece. A write that takes nothing of a piece that is not empty is a fault.
 pub(crate) fn write_whole<W: Write>(to: &mut W, octets: &[u8]) -> Result<(), Failed>
-    ensures { OnOk result (Appends (W.contents to.old) (W.contents to.new) octets.now) }
+    ensures whole { OnOk result (Appends (W.contents to.old) (W.contents to.new) octets.now) }
+    ensures partly { OnErr result ((n : ℕ) × Appends (W.contents to.old) (W.contents to.new) (take n octets.now)) }
 {
     let mut done = 0;
     while done < octets.len() {
@@ -38,6 +42,7 @@ pub(crate) fn write_whole<W: Write>(to: &mut W, octets: &[u8]) -> Result<(), Fai
 fn write_once<W: Write>(to: &mut W, piece: &[u8]) -> Result<usize, Failed>
     ensures fits { IfOk result (λ n. n ≤ length piece.now) }
     ensures appended { IfOk result (λ n. Appends (W.contents to.old) (W.contents to.new) (take n piece.now)) }
+    ensures kept { OnErr result (Keeps (W.contents to.old) (W.contents to.new)) }
 {
     for _ in 0..u64::MAX {
         match to.write(piece) {

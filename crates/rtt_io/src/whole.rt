@@ -21,6 +21,7 @@ pub enum ReadFault {
 pub fn read_whole<S: Source>(alloc: Global, source: &mut S, most: usize) -> Result<Bytes, ReadFault>
     ensures given { S.tells → IfOk result (λ octets. S.left source.old ≡ octets ++ S.left source.new) }
     ensures ended { S.tells → IfOk result (λ octets. length octets ≤ most → S.left source.new ≡ []) }
+    ensures bounded { IfOk result (λ octets. length octets ≤ most + 4096) }
     ensures failed { result ≡ Err ReadFault.Failed → Rose (S.faults source.old) (S.faults source.new) }
     ensures never_falls { S.faults source.old ≤ S.faults source.new }
     ensures same_name { S.name source.new ≡ S.name source.old }

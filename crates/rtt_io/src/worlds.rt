@@ -7,9 +7,9 @@ use rtt_base::Failed;
 
 /// What holds octets under names. Each source and sink that it gives is handed back by its `done_` call.
 pub trait World {
-    type Src: Source + Send + Drop;
+    type Src: Source + Send;
 
-    type Dst: Sink + Send + Drop;
+    type Dst: Sink + Send;
 
     /// Whether worlds of this type tell what is under a name. Those over real files don't.
     ghost tells: { Type 0 };
@@ -29,6 +29,7 @@ pub trait World {
         ensures failed { OnErr result (Rose (own_faults self.old name.now) (own_faults self.new name.now)) }
         ensures same_objects { (n : List ℕ) → object_faults self.new n ≡ object_faults self.old n }
 
+        ensures calm { OnOk result ((n : List ℕ) → own_faults self.new n ≡ own_faults self.old n) }
         ensures named { IfOk result (λ source. Self.Src.name source ≡ name.now) }
         ensures fresh { IfOk result (λ source. Self.Src.faults source ≡ 0) }
         ensures told { tells → OnOk result Self.Src.tells }
@@ -41,6 +42,7 @@ pub trait World {
         ensures failed { OnErr result (Rose (own_faults self.old name.now) (own_faults self.new name.now)) }
         ensures same_objects { (n : List ℕ) → object_faults self.new n ≡ object_faults self.old n }
 
+        ensures calm { OnOk result ((n : List ℕ) → own_faults self.new n ≡ own_faults self.old n) }
         ensures named { IfOk result (λ sink. Self.Dst.name sink ≡ name.now) }
         ensures fresh { IfOk result (λ sink. Self.Dst.faults sink ≡ 0) }
         ensures told { tells → OnOk result Self.Dst.tells }

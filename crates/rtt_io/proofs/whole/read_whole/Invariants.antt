@@ -6,6 +6,7 @@ invariant-loop-block g l = record {
   given : g.S.Source.tells → g.S.Source.left l.initial.source ≡ l.octets ++ g.S.Source.left l.source;
   never_falls : g.S.Source.faults l.initial.source ≤ g.S.Source.faults l.source;
   same_name : g.S.Source.name l.source ≡ g.S.Source.name l.initial.source;
+  bounded : length l.octets ≤ l.most + 4096;
 }
 
 abbrev pub decreases-loop-block : goal.decreases-loop-block
