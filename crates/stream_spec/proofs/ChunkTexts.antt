@@ -22,7 +22,7 @@ texts_back : (place ready : ℕ) (ts : List (List ℕ)) → map (λ (c : Chunk).
 texts_back place ready [] = refl
 texts_back place ready (t ∷ ts) = ap (λ us. t ∷ us) (texts_back place ready ts)
 
-over_texts : (ready : Numbered → ℕ) (place : ℕ) (present : ℕ → Bool) (first : ℕ) (prev : Option Numbered) (us : List Numbered)
+pub over_texts : (ready : Numbered → ℕ) (place : ℕ) (present : ℕ → Bool) (first : ℕ) (prev : Option Numbered) (us : List Numbered)
     → map (λ (c : Chunk). c.text) (chunks_over ready place present first prev us) ≡ heard_over present first prev us
 over_texts ready place present first prev [] = refl
 over_texts ready place present first prev (u ∷ us) =

@@ -17,4 +17,5 @@ pub mod TypedExamples
 pub mod Typing
 pub mod ReadBack
 pub mod ChunkTexts
+pub mod ByNumber
 pub mod Closing

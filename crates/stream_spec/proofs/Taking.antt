@@ -56,7 +56,7 @@ between_same f g m n b l e = elim (cases_lt m n) [
   | inr ge ↦ let z : n - (m + 1) ≡ 0 = omega arith in rw z refl
 ]
 
-piece_same : (f g : ℕ → Bool) (first : ℕ) (prev : Option Numbered) (x : Numbered) (b : ℕ) → x.number ≤ b → ((k : ℕ) → k < b → f k ≡ g k) → piece f first prev x ≡ piece g first prev x
+pub piece_same : (f g : ℕ → Bool) (first : ℕ) (prev : Option Numbered) (x : Numbered) (b : ℕ) → x.number ≤ b → ((k : ℕ) → k < b → f k ≡ g k) → piece f first prev x ≡ piece g first prev x
 piece_same f g first None x b l e = rw (between_same f g first x.number b l e) refl
 piece_same f g first (Some a) x b l e = rw (between_same f g a.number x.number b l e) refl
 
@@ -72,7 +72,7 @@ heard_last f first prev [] b = nil (piece f first prev b)
     nil (x ∷ xs) = ap (λ ys. x ∷ ys) (nil xs)
 heard_last f first prev (u ∷ us) b = ap (λ ts. piece f first prev u ++ ts) (heard_last f first (Some u) us b) ∙ sym (append_assoc (piece f first prev u) (heard_over f first (Some u) us) (piece f first (last_of (Some u) us) b))
 
-filter_last : {X : Type 0} (p : X → Bool) (xs : List X) (x : X) → filter p (xs ++ x ∷ []) ≡ filter p xs ++ (if p x then x ∷ [] else [])
+pub filter_last : {X : Type 0} (p : X → Bool) (xs : List X) (x : X) → filter p (xs ++ x ∷ []) ≡ filter p xs ++ (if p x then x ∷ [] else [])
 filter_last p [] x = refl
 filter_last p (y ∷ xs) x = go (p y) (filter_last p xs x)
   where
@@ -80,11 +80,11 @@ filter_last p (y ∷ xs) x = go (p y) (filter_last p xs x)
     go true e = ap (λ ys. y ∷ ys) e
     go false e = e
 
-has_more : (us : List Numbered) (b : Numbered) (k : ℕ) → k < b.number → has_number (us ++ b ∷ []) k ≡ has_number us k
+pub has_more : (us : List Numbered) (b : Numbered) (k : ℕ) → k < b.number → has_number (us ++ b ∷ []) k ≡ has_number us k
 has_more [] b k l = rw (ne_eqb b.number k (omega arith)) refl
 has_more (u ∷ us) b k l = ap (λ t. (u.number == k) || t) (has_more us b k l)
 
-filter_in_list : (p : Numbered → Bool) (us : List Numbered) (u : Numbered) → In u (filter p us) → In u us
+pub filter_in_list : (p : Numbered → Bool) (us : List Numbered) (u : Numbered) → In u (filter p us) → In u us
 filter_in_list p [] u i = absurd i
 filter_in_list p (v ∷ us) u i = go (p v) (filter_in_list p us u) i
   where

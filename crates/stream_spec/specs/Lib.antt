@@ -2,6 +2,7 @@ pub mod Lists
 pub mod Numbering
 pub mod Hearing
 pub mod Ready
+pub mod ChunksBy
 pub mod Holding
 pub mod History
 pub mod Kept
