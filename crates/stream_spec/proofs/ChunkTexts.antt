@@ -2,13 +2,12 @@
 use Rattle.std.proofs.Common.{◌≡◌, ℕ, zero, suc, ◌+◌, ◌-◌, ◌<◌, ◌≤◌, Bool, true, false, cond, not, inl, inr, Option, Some, None, List, [], ◌∷◌, ◌++◌, refl, ap, sym, ◌∙◌, arith}
 use Rattle.std.specs.Prelude.{map, filter, ◌&&◌, nat_le, nat_lt}
 use Rattle.std.proofs.lemmas.Bool.{cases_lt, true≢false, ltb-true, ltb-false, and_parts, not-true}
-use Rattle.rtt_base.specs.declared.records.Chunk.{Chunk}
 use Rattle.wire_spec.specs.Packets.{Arrival}
 use Rattle.stream_spec.specs.Lists.{In}
 use Rattle.stream_spec.specs.Numbering.{Numbered, numbered, used, in_time, by_number, has_number, first_number, is_given_up}
 use Rattle.stream_spec.specs.Hearing.{piece, heard_over, heard, is_packet_of}
 use Rattle.stream_spec.specs.Holding.{RisingNumbers, Falling}
-use Rattle.stream_spec.specs.Ready.{chunk, chunks_over, chunks, ready_of, last_end, ReadyRises}
+use Rattle.stream_spec.specs.Ready.{Chunk, chunk, chunks_over, chunks, ready_of, last_end, ReadyRises}
 use Rattle.stream_spec.proofs.Lists.{in_append, in_filter}
 use Rattle.stream_spec.proofs.Matched.{in_by_number, used_in, has_number_of}
 use Rattle.stream_spec.proofs.Ready.{end_used}

@@ -1,6 +1,6 @@
 -- When a number ends, when a packet is ready, and the heard texts with their moments (profile).
 use Rattle.std.specs.Prelude.{ℕ, ◌≤◌, zero, suc, ◌+◌, ◌-◌, ◌==◌, Bool, Option, None, Some, List, [], ◌∷◌, ◌++◌, filter, map, ◌&&◌, nat_lt, if◌then◌else◌, min, max}
-use Rattle.rtt_base.specs.declared.records.Chunk.{Chunk}
+use Rattle.rtt_base.specs.declared.records.Chunk.{Chunk as ChunkValue}
 use Rattle.wire_spec.specs.Packets.{Arrival}
 use Rattle.stream_spec.specs.Lists.{In}
 use Rattle.stream_spec.specs.Numbering.{Numbered, numbered, used, in_time, distinct_from, has_number, first_number}
@@ -35,6 +35,17 @@ last_end wait past low (suc k) = max (last_end wait past low k) (end_of wait pas
 -- b, which is used, is ready when it came and each number from the first up to it has ended
 abbrev pub ready_of : ℕ → List Numbered → Numbered → ℕ
 ready_of wait past b = max b.time (last_end wait past (first_number 0 past) (suc b.number - first_number 0 past))
+
+-- A heard text: the number of the leg of which it is heard, the moment in milliseconds from which it may be mixed, and the
+-- octets.
+pub record Chunk : Type 0 where
+  pub source : ℕ
+  pub ready : ℕ
+  pub text : List ℕ
+
+-- as a value of the program has it
+abbrev pub chunk_of : ChunkValue → Chunk
+chunk_of c = record { source = c.source; ready = c.ready; text = c.text }
 
 abbrev pub chunk : ℕ → ℕ → List ℕ → Chunk
 chunk place ready text = record { source = place; ready = ready; text = text }
