@@ -39,6 +39,12 @@ older_since seen stamp (b ∷ bs) = (if is_new_since seen (back stamp b.offset) 
 abbrev pub texts_since : Option Seen → TextPacket → List (List ℕ)
 texts_since seen p = older_since seen p.stamp (redundant p.blocks) ++ text_list (primary_text p.blocks)
 
+-- the texts of blocks of which the last is the primary one: each that is new, and the last
+abbrev pub blocks_since : Option Seen → ℕ → List TextBlock → List (List ℕ)
+blocks_since seen stamp [] = []
+blocks_since seen stamp (b ∷ []) = text_list b.text
+blocks_since seen stamp (b ∷ c ∷ bs) = new_since seen stamp b ++ blocks_since seen stamp (c ∷ bs)
+
 -- all that the packet gives
 abbrev pub told_since : Option Seen → ℕ → TextPacket → List (List ℕ)
 told_since seen missing p = (if is_marked_since seen missing p.stamp (redundant p.blocks) then marker ∷ [] else []) ++ texts_since seen p

@@ -2,10 +2,12 @@
 #![tactic(auto)]
 
 mod hearing;
+mod pieces;
 mod receivers;
 mod text_lists;
 
 pub use hearing::Heard;
+pub use pieces::Piece;
 pub use receivers::Receiver;
 pub use text_lists::Texts;
 

@@ -7,17 +7,18 @@ ghost use Rattle.stream_spec.specs.Numbering.{Numbered};
 ghost use Rattle.stream_spec.specs.Hearing.{heard_by, adds_marker, adds_texts, marker, text_list};
 ghost use Rattle.source_receiver.specs.Stands.{Stands, used_packet, latest_number, given_at, AppendsHeard};
 ghost use Rattle.source_receiver.specs.Steps.{missing_up_to, is_new_since, is_marked_since, new_since, older_since, texts_since, told_since};
+ghost use Rattle.source_receiver.specs.Pieces.{left_of};
 
-use crate::{Heard, Texts};
+use crate::{Heard, Piece, Texts};
 use rtt_base::{Bytes, NoMemory, Text, TextBlock, TextPacket, after};
 use std::alloc::Global;
 
 /// U+FFFD, which stands where text may be missing (T.140, Addendum 1).
-const MARKER: [u8; 3] = [0xEF, 0xBF, 0xBD];
+pub(crate) const MARKER: [u8; 3] = [0xEF, 0xBF, 0xBD];
 
 /// What is kept of the last packet of a source.
 #[derive(Clone, Copy, Debug)]
-struct Seen {
+pub(crate) struct Seen {
     stamp: u32,
     /// How many numbers were missing up to it.
     missing: u64,
@@ -42,7 +43,7 @@ pub struct Receiver {
 }
 
 /// Whether a block with this stamp is new after what was seen.
-fn is_new(seen: Option<Seen>, stamp: u32) -> bool
+pub(crate) fn is_new(seen: Option<Seen>, stamp: u32) -> bool
     ensures { result ≡ is_new_since seen stamp }
 {
     match seen {
@@ -105,6 +106,16 @@ fn tell(seen: Option<Seen>, missing: u64, packet: &TextPacket, out: &mut Heard)
             push_text(&primary.text, &mut out.texts);
         }
         None => out.marker = is_marked(seen, missing, packet.stamp, &[]),
+    }
+}
+
+/// Whether a marker stands before what the packet gives.
+fn marks(seen: Option<Seen>, missing: u64, packet: &TextPacket) -> bool
+    ensures { result ≡ is_marked_since seen missing packet.now.stamp (redundant packet.now.blocks) }
+{
+    match packet.blocks.as_slice().split_last() {
+        Some((_, older)) => is_marked(seen, missing, packet.stamp, older),
+        None => is_marked(seen, missing, packet.stamp, &[]),
     }
 }
 
@@ -256,5 +267,27 @@ impl Receiver {
         let kept = Some(Seen { stamp, missing });
         self.listed[place].seen = kept;
         Ok(())
+    }
+
+    /// Takes a used packet, as `take` does, and tells what is to be heard of it. It is for a receiver of one source.
+    pub fn take_piece(&mut self, number: u64, packet: &TextPacket) -> Piece
+        requires { ForSome (latest_number self.old) (λ latest. latest < number) }
+        ensures latest { latest_number self.new ≡ Some number }
+        ensures stands { (sources : List ℕ) (us : List Numbered) (time : ℕ) → Stands self.old sources us
+            → Stands self.new sources (us ++ used_packet time number packet.now ∷ []) }
+        ensures heard { (source : ℕ) (us : List Numbered) (time : ℕ) → Stands self.old (source ∷ []) us
+            → heard_by (us ++ used_packet time number packet.now ∷ []) source ≡ heard_by us source ++ left_of result packet.now }
+    {
+        self.count(number);
+        let Some(place) = place_of(self.listed.as_slice(), packet.source) else {
+            return Piece::none();
+        };
+        let seen = self.listed[place].seen;
+        let marker = marks(seen, self.missing, packet);
+        let (stamp, missing) = (packet.stamp, self.missing);
+        let kept = Some(Seen { stamp, missing });
+        self.listed[place].seen = kept;
+        let rest = packet.blocks.len();
+        Piece { seen, marker, rest }
     }
 }

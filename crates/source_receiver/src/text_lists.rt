@@ -32,7 +32,7 @@ impl Default for Texts {
 }
 
 /// Puts a copy of this text, of at most 1023 octets, in place of what was there.
-fn write_over(place: &mut Text, text: &[u8])
+pub(crate) fn write_over(place: &mut Text, text: &[u8])
     requires { length text.now < 1024 }
     ensures { place.new ≡ text.now }
 {
