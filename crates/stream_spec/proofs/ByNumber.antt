@@ -3,7 +3,7 @@ use Rattle.std.proofs.Common.{◌≡◌, ℕ, ◌+◌, ◌-◌, ◌<◌, ◌≤�
 use Rattle.std.specs.Prelude.{◌||◌, ◌==◌, filter, map, if◌then◌else◌}
 use Rattle.std.proofs.lemmas.Bool.{eqb-true}
 use Rattle.rtt_base.specs.declared.blocks.TextBlock.{TextBlock}
-use Rattle.rtt_base.specs.declared.records.Chunk.{Chunk}
+use Rattle.stream_spec.specs.Ready.{Chunk}
 use Rattle.wire_spec.specs.Packets.{Arrival, back}
 use Rattle.stream_spec.specs.Lists.{In}
 use Rattle.stream_spec.specs.Numbering.{Numbered, numbered, number_it, used, first_number, has_number}

@@ -1,6 +1,6 @@
 -- Chunks, packet by packet: what used packets of rising number give, each at the moment at which it is ready.
 use Rattle.std.specs.Prelude.{ℕ, ◌==◌, None, List, [], ◌∷◌, ◌++◌, filter, map, if◌then◌else◌}
-use Rattle.rtt_base.specs.declared.records.Chunk.{Chunk}
+use Rattle.stream_spec.specs.Ready.{Chunk}
 use Rattle.wire_spec.specs.Packets.{Arrival}
 use Rattle.stream_spec.specs.Numbering.{Numbered, numbered, used, has_number}
 use Rattle.stream_spec.specs.Hearing.{is_packet_of, adds_marker, adds_texts, marker}
