@@ -266,7 +266,7 @@ impl Hold {
         );
     }
 
-    /// Settles a packet that comes now, in exchange for a spare box: it is the next one, and none is held.
+    /// Settles a packet that comes now, in exchange for a spare box, where it is the next one and none is held.
     fn settle_at_once(&mut self, number: u64, packet: &mut Box<TextPacket>)
         requires counted { 0 < self.old.arrivals }
         requires room { length self.old.settled ≤ 64 }
@@ -286,7 +286,8 @@ impl Hold {
         });
     }
 
-    /// Holds a packet that comes now, in exchange for a spare box, and settles what it settles.
+    /// Holds a packet that comes now, in exchange for a spare box, and settles what can be settled. The next one, where
+    /// none is held, is settled at once, as most are.
     fn take_in(&mut self, place: usize, number: u64, packet: &mut Box<TextPacket>)
         requires counted { 0 < self.old.arrivals }
         requires room { length self.old.settled + length self.old.held ≤ 64 }

@@ -51,7 +51,7 @@ impl<T: Drop> Line<T> {
         self.items.push_reserved(item);
     }
 
-    /// Puts an item at a place, before those that stand from there on.
+    /// Puts an item at a place, before those that stand from there on. At the end nothing is moved.
     pub fn insert(&mut self, place: usize, item: T)
         requires within { place ≤ length self.old }
         requires room { length self.old < 65 }
@@ -64,7 +64,7 @@ impl<T: Drop> Line<T> {
         }
     }
 
-    /// Takes the first item.
+    /// Takes the first item. Where it is the only one, nothing is moved.
     pub fn take_first(&mut self) -> T
         requires { 0 < length self.old }
         ensures { self.old ≡ result ∷ self.new }

@@ -21,7 +21,8 @@ const HEADER: usize = 4;
 /// How many octets a text has at most.
 const MAX_TEXT: usize = 1023;
 
-/// The header of a redundant block, whose four octets are there.
+/// The header of a redundant block, whose four octets are there: F and the type in 8 bits, the offset in 14, the size
+/// in 10 (RFC 2198, section 3).
 fn redundant_header(octets: &[u8]) -> RedHeader
     requires { 4 ≤ length octets.now }
     ensures value { result ≡ header_of octets.now }
@@ -54,7 +55,7 @@ fn front_header(octets: &[u8], t140: u8, full: bool) -> Result<Option<RedHeader>
             Err(RedFault::WrongType)
         };
     }
-    if octets.len() < 4 {
+    if octets.len() < HEADER {
         return Err(RedFault::Cut);
     }
     if full {
@@ -84,7 +85,7 @@ fn scan_headers(octets: &[u8], t140: u8) -> Result<(usize, usize, &[u8]), RedFau
     Ok((count, older, &rest[1..]))
 }
 
-/// Whether a text of any octets is UTF-8. Out of line: the texts of most packets are ASCII.
+/// Whether a text of any octets is UTF-8. The texts of most packets are ASCII, so this stands out of their way.
 #[inline(never)]
 fn is_text(text: &[u8]) -> bool
     ensures { IsTrue result ↔ IsUtf8 text.now }
@@ -116,7 +117,8 @@ fn append_block(offset: u16, text: &[u8], plain: bool, out: &mut Blocks) -> Resu
     Ok(())
 }
 
-/// Appends the blocks of so many headers, and the primary one with what is left. All texts are tested for ASCII at once.
+/// Appends the blocks of so many headers, and the primary one with what is left. One test tells whether all texts are
+/// ASCII.
 #[inline(always)]
 fn append_blocks(
     count: usize,
@@ -131,14 +133,14 @@ fn append_blocks(
     ensures { Gives (λ _. out.new) result (after_blocks out.old (checked (blocks_at (headers_of count headers.now) texts.now))) }
 {
     let plain = texts.is_ascii();
-    let mut heads = headers;
+    let mut ahead = headers;
     let mut rest = texts;
     let mut left = count;
     while left > 0 {
-        let header = redundant_header(heads);
+        let header = redundant_header(ahead);
         let (text, after) = rest.split_at(usize::from(header.size));
         append_block(header.offset, text, plain, out)?;
-        heads = &heads[HEADER..];
+        ahead = &ahead[HEADER..];
         rest = after;
         left -= 1;
     }

@@ -106,7 +106,7 @@ impl<S: Source> Input<S> {
         Ok(Some(octet))
     }
 
-    /// Fills `buf`, as far as there are octets, and answers with how many. Mostly all stand in the block.
+    /// Fills `buf`, as far as there are octets, and answers with how many. Most calls find all of them in the block.
     #[inline(always)]
     pub fn read_full(&mut self, buf: &mut [u8]) -> Result<usize, Failed>
         ensures fits { IfOk result (λ number. number ≤ length buf.new) }
@@ -122,7 +122,7 @@ impl<S: Source> Input<S> {
         Ok(self.hand_out(buf))
     }
 
-    // Fills `buf` part by part.
+    // Fills `buf` part by part, from as many blocks as it takes.
     #[inline(never)]
     fn read_parts(&mut self, buf: &mut [u8]) -> Result<usize, Failed>
         ensures fits { IfOk result (λ number. number ≤ length buf.new) }
@@ -165,7 +165,8 @@ impl<S: Source> Input<S> {
         Ok(true)
     }
 
-    /// Copies so many octets behind those of `out`, and answers whether all of them were there. Mostly they stand in the block.
+    /// Copies so many octets behind those of `out`, and answers whether all of them were there. Most calls find all of
+    /// them in the block.
     pub fn copy(&mut self, count: usize, out: &mut Packet) -> Result<bool, Failed>
         requires { length out.old + count ≤ 4224 }
         ensures never_falls { S.faults self.old.source ≤ S.faults self.new.source }
@@ -183,7 +184,7 @@ impl<S: Source> Input<S> {
         Ok(true)
     }
 
-    // Copies octets part by part.
+    // Copies octets part by part, from as many blocks as it takes.
     #[inline(never)]
     fn copy_parts(&mut self, count: usize, out: &mut Packet) -> Result<bool, Failed>
         requires { length out.old + count ≤ 4224 }

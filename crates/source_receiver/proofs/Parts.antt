@@ -17,12 +17,9 @@ use Rattle.source_receiver.specs.declared.receivers.Receiver.{Receiver}
 use Rattle.source_receiver.specs.Stands.{Stands, IsSeen}
 use Rattle.source_receiver.specs.Steps.{is_new_since, new_since, older_since, texts_since}
 
-abbrev pub one_older : Option Seen → ℕ → TextBlock → List (List ℕ)
-one_older seen stamp b = if is_new_since seen (back stamp b.offset) then text_list b.text else []
-
 older_append : (seen : Option Seen) (stamp : ℕ) (xs ys : List TextBlock) → older_since seen stamp (xs ++ ys) ≡ older_since seen stamp xs ++ older_since seen stamp ys
 older_append seen stamp [] ys = refl
-older_append seen stamp (x ∷ xs) ys = ap (λ ts. one_older seen stamp x ++ ts) (older_append seen stamp xs ys) ∙ sym (append_assoc (one_older seen stamp x) (older_since seen stamp xs) (older_since seen stamp ys))
+older_append seen stamp (x ∷ xs) ys = ap (λ ts. new_since seen stamp x ++ ts) (older_append seen stamp xs ys) ∙ sym (append_assoc (new_since seen stamp x) (older_since seen stamp xs) (older_since seen stamp ys))
 
 nil : {X : Type 0} (xs : List X) → xs ++ [] ≡ xs
 nil [] = refl
@@ -30,9 +27,9 @@ nil (x ∷ xs) = ap (λ ys. x ∷ ys) (nil xs)
 
 -- the texts of one block more
 pub older_more : (seen : Option Seen) (stamp : ℕ) (xs : List TextBlock) (i : ℕ) (d : TextBlock) → i < length xs
-    → older_since seen stamp (take (i + 1) xs) ≡ older_since seen stamp (take i xs) ++ one_older seen stamp (get_or xs i d)
+    → older_since seen stamp (take (i + 1) xs) ≡ older_since seen stamp (take i xs) ++ new_since seen stamp (get_or xs i d)
 older_more seen stamp xs i d l =
-    rw (add-one) (ap (older_since seen stamp) (take-suc xs i d l) ∙ (older_append seen stamp (take i xs) (get_or xs i d ∷ []) ∙ ap (λ ts. older_since seen stamp (take i xs) ++ ts) (nil (one_older seen stamp (get_or xs i d)))))
+    rw (add-one) (ap (older_since seen stamp) (take-suc xs i d l) ∙ (older_append seen stamp (take i xs) (get_or xs i d ∷ []) ∙ ap (λ ts. older_since seen stamp (take i xs) ++ ts) (nil (new_since seen stamp (get_or xs i d)))))
 
 text_list_length : (t : List ℕ) → length (text_list t) ≤ 1
 text_list_length [] = omega arith
@@ -42,9 +39,9 @@ module _ (seen : Option Seen) (stamp : ℕ) (xs : List TextBlock) (i : ℕ) (b :
     (before : (texts ≡ initial ++ older_since seen stamp (take i xs)) × (length texts ≤ length initial + i)) where
   grows : {c : Bool} → is_new_since seen (back stamp b.offset) ≡ c → more ≡ texts ++ (if c then text_list b.text else []) → more ≡ initial ++ older_since seen stamp (take (i + 1) xs)
   grows {c} e m =
-      m ∙ (ap (λ n. texts ++ cond n (text_list b.text) []) (sym e) ∙ (ap (λ ts. ts ++ one_older seen stamp b) before.0
-      ∙ (append_assoc initial (older_since seen stamp (take i xs)) (one_older seen stamp b)
-      ∙ ap (λ ts. initial ++ ts) (ap (λ x. older_since seen stamp (take i xs) ++ one_older seen stamp x) is ∙ sym (older_more seen stamp xs i b within)))))
+      m ∙ (ap (λ n. texts ++ cond n (text_list b.text) []) (sym e) ∙ (ap (λ ts. ts ++ new_since seen stamp b) before.0
+      ∙ (append_assoc initial (older_since seen stamp (take i xs)) (new_since seen stamp b)
+      ∙ ap (λ ts. initial ++ ts) (ap (λ x. older_since seen stamp (take i xs) ++ new_since seen stamp x) is ∙ sym (older_more seen stamp xs i b within)))))
 
   -- the block is new
   pub one_new : is_new_since seen (back stamp b.offset) ≡ true → more ≡ texts ++ text_list b.text → (more ≡ initial ++ older_since seen stamp (take (i + 1) xs)) × (length more ≤ length initial + (i + 1))
@@ -56,7 +53,7 @@ module _ (seen : Option Seen) (stamp : ℕ) (xs : List TextBlock) (i : ℕ) (b :
     where
       grows' : texts ≡ initial ++ older_since seen stamp (take (i + 1) xs)
       grows' = before.0 ∙ ap (λ ts. initial ++ ts) (sym (nil (older_since seen stamp (take i xs))) ∙ (ap (λ n. older_since seen stamp (take i xs) ++ cond n (text_list b.text) []) (sym e)
-          ∙ (ap (λ x. older_since seen stamp (take i xs) ++ one_older seen stamp x) is ∙ sym (older_more seen stamp xs i b within))))
+          ∙ (ap (λ x. older_since seen stamp (take i xs) ++ new_since seen stamp x) is ∙ sym (older_more seen stamp xs i b within))))
 
 -- a seat more
 pub seat_more : (items more : List Listed) (sources : List ℕ) (i : ℕ) (x : Listed) → more ≡ items ++ x ∷ [] → x.source ≡ get_or sources i 0 → x.seen ≡ None → i < length sources

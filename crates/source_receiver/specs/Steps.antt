@@ -34,7 +34,7 @@ new_since seen stamp b = if is_new_since seen (back stamp b.offset) then text_li
 
 abbrev pub older_since : Option Seen → ℕ → List TextBlock → List (List ℕ)
 older_since seen stamp [] = []
-older_since seen stamp (b ∷ bs) = (if is_new_since seen (back stamp b.offset) then text_list b.text else []) ++ older_since seen stamp bs
+older_since seen stamp (b ∷ bs) = new_since seen stamp b ++ older_since seen stamp bs
 
 abbrev pub texts_since : Option Seen → TextPacket → List (List ℕ)
 texts_since seen p = older_since seen p.stamp (redundant p.blocks) ++ text_list (primary_text p.blocks)

@@ -244,7 +244,8 @@ impl Receiver {
         });
     }
 
-    /// Takes a used packet, as `take` does, and appends what is heard of it. It is for a receiver of one source.
+    /// Takes a used packet, as `take` does, and appends what is heard of it to `out`, the marker as U+FFFD. It is for a
+    /// receiver of one source: `heard` says nothing of more. After `NoMemory` a part may stand in `out`.
     pub fn take_into(
         &mut self,
         number: u64,

@@ -1,4 +1,4 @@
-//! Runs of plain characters, which only stand where they are.
+//! Runs of plain characters: those of printable ASCII, which erase nothing and end no line.
 ghost use Rattle.std.specs.Prelude.{◌≤◌, length, take, All};
 ghost use Rattle.std.specs.Bool.{OnTrue};
 ghost use Rattle.t140_text.specs.Screens.{IsPlain};
@@ -6,13 +6,14 @@ ghost use Rattle.t140_text.specs.Screens.{IsPlain};
 /// How many octets are tested at once.
 const STEP: usize = 32;
 
+/// Whether this is a printable character of ASCII.
 fn is_plain(octet: u8) -> bool
     ensures { OnTrue result (IsPlain octet) }
 {
     b' ' <= octet && octet <= b'~'
 }
 
-/// Whether all of these are plain. No octet ends the loop, so that many are tested at a time.
+/// Whether all of these are plain. No octet ends the loop, so that the compiler tests many at a time.
 fn are_plain(octets: &[u8]) -> bool
     ensures { OnTrue result (All IsPlain octets.now) }
 {

@@ -46,7 +46,7 @@ impl Screen {
         Ok(())
     }
 
-    /// Takes plain characters, which stand before `rest`.
+    /// Takes a run of plain characters.
     pub(crate) fn print(&mut self, plain: &str) -> Result<(), NoMemory>
         requires { All IsPlain plain.now }
         ensures { (rest whole : List ℕ) → Reads self.old (plain.now ++ rest) whole → OnOk result (Reads self.new rest whole) }

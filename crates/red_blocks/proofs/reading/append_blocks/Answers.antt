@@ -9,7 +9,7 @@ pub loop-left-preserved : goal.loop-left-preserved
 loop-left-preserved c =
     let i = c.loop-left.invariant in
     let left = c.loop-left.left in
-    let heads = c.loop-left.heads.now in
+    let heads = c.loop-left.ahead.now in
     let rest = c.loop-left.rest.now in
     let h = c.redundant_header-header.result in
     let some = c.loop-left-test.true in
@@ -23,7 +23,7 @@ loop-left-preserved c =
       read = rw (take_rest heads 4, back) (next_block left c.loop-left.out c.append_block.new.out heads rest h _ some is taken i.read);
       plain = λ p. rw back (IsAscii-drop rest h.size (i.plain p));
       room = omega (arith, i.room, some, block_length c.loop-left.out c.append_block.new.out h.offset (take h.size rest) taken);
-      heads = rw (take_rest heads 4) (omega (arith, i.heads, some, length-drop 4 heads));
+      ahead = rw (take_rest heads 4) (omega (arith, i.ahead, some, length-drop 4 heads));
       there = rw (take_rest heads 4) (omega (arith, size, i.there, gone, length-drop h.size rest));
       fits = rw (take_rest heads 4) (omega (arith, size, i.there, i.fits, gone, length-drop h.size rest));
     }
