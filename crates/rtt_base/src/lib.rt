@@ -2,6 +2,7 @@
 #![tactic(auto)]
 
 mod blocks;
+mod buffers;
 mod bytes;
 mod errors;
 mod names;
@@ -13,6 +14,7 @@ mod text_packets;
 mod texts;
 
 pub use blocks::{Blocks, TextBlock};
+pub use buffers::OctetBuffer;
 pub use bytes::Bytes;
 pub use errors::{Failed, Full, NoMemory};
 pub use names::Name;

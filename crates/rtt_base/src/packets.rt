@@ -1,5 +1,5 @@
 //! The octets of one packet.
-ghost use Rattle.std.specs.Prelude.{◌≡◌, ◌+◌, ◌≤◌, ◌<◌, ◌==◌, ◌↔◌, [], ◌∷◌, ◌++◌, length, IsOk, OnOk, OnErr};
+ghost use Rattle.std.specs.Prelude.{◌≡◌, ◌+◌, ◌≤◌, ◌<◌, ◌==◌, ◌↔◌, [], ◌∷◌, ◌++◌, length, take, IsOk, OnOk, OnErr};
 
 use crate::Full;
 use std::marker::Model;
@@ -86,6 +86,13 @@ impl Packet {
         self.octets[self.len..end].copy_from_slice(octets);
         self.len = end;
         Ok(())
+    }
+
+    /// Keeps the first `len` octets, or all where they are not more.
+    pub fn truncate(&mut self, len: usize)
+        ensures { self.new ≡ take len self.old }
+    {
+        self.len = self.len.min(len);
     }
 
     pub fn clear(&mut self)

@@ -1,4 +1,4 @@
-use crate::{Blocks, Bytes, Name, Packet, Path, Text, TextBlock, after};
+use crate::{Blocks, Bytes, Name, OctetBuffer, Packet, Path, Text, TextBlock, after};
 use std::test::Fail;
 
 #[test]
@@ -64,4 +64,21 @@ fn what_grows_finds_memory(rt: HostRuntime) -> Result<(), Fail> {
     name.push('A');
     assert_eq!(rt; name.as_str(), "A");
     Ok(())
+}
+
+/// Appends `ab`, keeps the first octet, and answers how many there are.
+fn append_and_cut<O: OctetBuffer>(out: &mut O) -> usize {
+    let taken = out.append(b"ab").is_ok();
+    out.truncate(1);
+    if taken { out.len() } else { 0 }
+}
+
+#[test]
+fn a_packet_and_a_list_are_appended_to_alike(rt: HostRuntime) {
+    let mut packet = Packet::new();
+    assert_eq!(rt; append_and_cut(&mut packet), 1);
+    assert_eq!(rt; packet.as_slice(), b"a".as_slice());
+    let mut bytes = Bytes::new(rt.alloc());
+    assert_eq!(rt; append_and_cut(&mut bytes), 1);
+    assert_eq!(rt; bytes.as_slice(), b"a".as_slice());
 }

@@ -20,7 +20,7 @@ use Rattle.stream_spec.proofs.Typing.{paced}
 use Rattle.text_sender.specs.declared.senders.SendConf.{SendConf}
 use Rattle.text_sender.specs.Confs.{IsConf, stream_of}
 use Rattle.text_sender.specs.Standing.{sent_by, history_sent}
-use Rattle.text_sender.specs.Written.{packet_written}
+use Rattle.wire_spec.specs.SentPackets.{packet_written}
 use Rattle.text_sender.proofs.Sending.{length_sents}
 use Rattle.rtt_send.specs.Scripts.{AreLines, events_through}
 use Rattle.rtt_send.specs.Recordings.{records_of, records_sent, recording_sent}
@@ -45,13 +45,13 @@ abbrev Rises : List Turned → Type 0
 Rises [] = Unit {0}
 Rises (e ∷ es) = ((f : Turned) → In f es → f.at ≤ e.at) × Rises es
 
-rises : (c : Stream) (i : ℕ) (past : List Event) → c.gens ≡ 2 → 1 ≤ i → IsScript past → Rises (entries c i past)
-rises c i [] two o s = tt
-rises c i (Text text ∷ past) two o s = rises c i past two o s.1
-rises c i (Ask t ∷ past) two o s = go (due_at c i past t) (rises c i past two o s.2)
+rises : (c : Stream) (i : ℕ) (past : List Event) → c.gens ≤ 3 → 1 ≤ i → IsScript past → Rises (entries c i past)
+rises c i [] few o s = tt
+rises c i (Text text ∷ past) few o s = rises c i past few o s.1
+rises c i (Ask t ∷ past) few o s = go (due_at c i past t) (rises c i past few o s.2)
   where
     go : (b : Bool) → Rises (entries c i past) → Rises (cond b (entry_at c (entries c i past) (waiting c i past) t ∷ entries c i past) (entries c i past))
-    go true r = (λ f j. let p = (paced c i past two o s.2).early f j in omega (arith, p.1, s.0), r)
+    go true r = (λ f j. let p = (paced c i past few o s.2).early f j in omega (arith, p.1, s.0), r)
     go false r = r
 
 -- ---- the recording's arrivals
@@ -259,5 +259,5 @@ recording_arrives conf lines t k b a l early small =
     let script = script_through lines t a l in
     let is : arrivals_after conf.ssrc conf.pts [] (dump usual_limit (recording_sent conf lines t)).items ≡ arrivals_sent conf es =
     ap (λ (r : Recording). arrivals_after conf.ssrc conf.pts [] r.items) (items_back conf lines t k b a l early small)
-    ∙ arrive conf es (all_back conf (events_through lines t) k b script) (rises (stream_of conf) conf.interval (events_through lines t) refl (let m = k.least in omega arith) script) in
+    ∙ arrive conf es (all_back conf (events_through lines t) k b script) (rises (stream_of conf) conf.interval (events_through lines t) (omega arith) (let m = k.least in omega arith) script) in
     subst (Arrives conf lines t) (sym is) (came conf lines t k a l)

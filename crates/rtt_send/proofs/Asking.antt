@@ -9,14 +9,14 @@ use Rattle.std.proofs.lemmas.Grind.{flat_map-append}
 use Rattle.wire_spec.specs.Dump.{dump_opening, dump_written, record_written}
 use Rattle.file_spec.specs.declared.script_lines.ScriptLine.{ScriptLine}
 use Rattle.stream_spec.specs.Own.{packet_after}
-use Rattle.stream_spec.specs.Typed.{Event, Ask, Turned, sents, front, is_due, due_at, packet_at, entry_at, IsScript, has_passed}
+use Rattle.stream_spec.specs.Typed.{Event, Ask, Turned, sents, front, is_due, due_at, packet_at, entry_at, IsScript, has_passed, next_at}
 use Rattle.stream_spec.proofs.Typing.{entries_more, entries_same, waits_same, waits_less}
 use Rattle.red_window.specs.Standing as window
 use Rattle.text_sender.specs.declared.senders.SendConf.{SendConf}
 use Rattle.text_sender.specs.Confs.{stream_of}
 use Rattle.text_sender.specs.States.{State}
-use Rattle.text_sender.specs.Standing.{StandsFor, sent_by, waits_for, has_more, next_at, next_due_of, last_of}
-use Rattle.text_sender.specs.Written.{packet_written}
+use Rattle.text_sender.specs.Standing.{StandsFor, sent_by, waits_for, has_more, next_due_of, last_of}
+use Rattle.wire_spec.specs.SentPackets.{packet_written}
 use Rattle.text_sender.proofs.Scripts.{due_from, none_due}
 use Rattle.rtt_send.specs.Scripts.{events_before, events_until, events_through}
 use Rattle.rtt_send.specs.Recordings.{records_of}

@@ -203,7 +203,7 @@ ends_by conf lines now n c s a room early late top =
       | inl none ↦ none
       | inr p ↦ (
           let past = events_until lines now in
-          let pace = paced (stream_of conf) conf.interval past refl (let l = c.least in omega arith) s in
+          let pace = paced (stream_of conf) conf.interval past (omega arith) (let l = c.least in omega arith) s in
           let asked = asked_until lines now in
           let rest = recent conf past now (sent_by conf past) refl (λ e i. let r = pace.early e i in (r.0, omega (arith, r.1))) in
           absurd (too_long (potential conf (events_before lines (suc n)) (suc n)) (potential conf past now) (length (waits_for conf past)) (rank (sents (sent_by conf past))) (remaining conf.interval (sent_by conf past) now) conf.interval n now refl (rank_le (sents (sent_by conf past))) rest c.most room early late p))

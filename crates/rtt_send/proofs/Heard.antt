@@ -12,13 +12,13 @@ use Rattle.stream_spec.specs.Hearing.{heard}
 use Rattle.stream_spec.specs.History.{History, Entry, Placed, Lawful, placed, placed_after}
 use Rattle.stream_spec.specs.Kept.{Item, Mark, Block, has_place, kept, blocks_in, NoGap, is_text_of}
 use Rattle.stream_spec.specs.Kept as kept_items
-use Rattle.stream_spec.specs.Typed.{sents}
+use Rattle.stream_spec.specs.Typed.{sents, primaries}
 use Rattle.stream_spec.proofs.Gaps.{l4_no_mark, l4_all}
 use Rattle.stream_spec.proofs.Walks.{l1}
 use Rattle.stream_spec.proofs.Sent.{was_sent}
 use Rattle.text_sender.specs.declared.senders.SendConf.{SendConf}
 use Rattle.text_sender.specs.Confs.{IsConf, stream_of}
-use Rattle.text_sender.specs.Standing.{sent_by, history_sent, primaries}
+use Rattle.text_sender.specs.Standing.{sent_by, history_sent}
 use Rattle.text_sender.proofs.Sending.{own_sents}
 use Rattle.stream_spec.proofs.Sent.{in_sent_of}
 use Rattle.stream_spec.specs.Own.{Sent}

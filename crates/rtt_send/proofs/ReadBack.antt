@@ -26,7 +26,7 @@ use Rattle.red_window.specs.Kept.{IsWritable}
 use Rattle.text_sender.specs.declared.senders.SendConf.{SendConf}
 use Rattle.text_sender.specs.Confs.{IsConf, stream_of}
 use Rattle.text_sender.specs.Standing.{sent_by, history_sent}
-use Rattle.text_sender.specs.Written.{csrc_of, packet_written}
+use Rattle.wire_spec.specs.SentPackets.{csrc_of, packet_written}
 use Rattle.text_sender.proofs.Sizes.{few_octets}
 use Rattle.rtt_send.specs.Scripts.{AreLines, events_through}
 use Rattle.rtt_send.specs.Recordings.{records_of, records_sent, recording_sent}
@@ -112,7 +112,7 @@ backs conf (e ∷ es) k b own s = (packet_back conf (sents es) e.sent k b (own e
 
 pub all_back : (conf : SendConf) (past : List Event) → IsConf conf → conf.ssrc < 2 ^ 32 → IsScript past → Backs conf (sent_by conf past)
 all_back conf past k b s =
-    let p = paced (stream_of conf) conf.interval past refl (let l = k.least in omega arith) s in
+    let p = paced (stream_of conf) conf.interval past (omega arith) (let l = k.least in omega arith) s in
     backs conf (sent_by conf past) k b (λ z i. (in_sent_of conf.ssrc (sents (sent_by conf past)) z (subst (λ (zs : List Sent). In z zs) (sym p.own) i)).1) p.sendable
 
 -- ---- the own packets of the history

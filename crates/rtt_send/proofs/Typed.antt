@@ -8,10 +8,10 @@ use Rattle.std.proofs.lemmas.Bool.{cases_lt}
 use Rattle.file_spec.specs.declared.script_lines.ScriptLine.{ScriptLine}
 use Rattle.stream_spec.specs.History.{Lawful}
 use Rattle.stream_spec.specs.Own.{Closed}
-use Rattle.stream_spec.specs.Typed.{Event, Text, typed, IsScript}
+use Rattle.stream_spec.specs.Typed.{Event, Text, typed, IsScript, primaries}
 use Rattle.text_sender.specs.declared.senders.SendConf.{SendConf}
 use Rattle.text_sender.specs.Confs.{IsConf}
-use Rattle.text_sender.specs.Standing.{history_sent, primaries}
+use Rattle.text_sender.specs.Standing.{history_sent}
 use Rattle.text_sender.proofs.Scripts.{lawful, end_sent, end_closed}
 use Rattle.rtt_send.specs.Scripts.{InOrder, AreLines, texts, typed_at, events_before, events_until, events_through, IsEnd}
 use Rattle.rtt_send.proofs.Events.{before_suc, none_before, until_later, until_one, asked_until}

@@ -7,7 +7,7 @@ use Rattle.stream_spec.specs.Typed.{Turned, sents}
 use Rattle.text_sender.specs.declared.senders.SendConf.{SendConf}
 use Rattle.text_sender.specs.Confs.{IsConf, stream_of}
 use Rattle.text_sender.specs.Standing.{sent_by}
-use Rattle.text_sender.specs.Written.{packet_written}
+use Rattle.wire_spec.specs.SentPackets.{packet_written}
 use Rattle.rtt_send.specs.Scripts.{AreLines, events_through}
 
 -- the packets of entries with the moments of their asks, oldest first

@@ -1,4 +1,5 @@
 //! What holds of scripts and of what they send. No code stands here.
+ghost use Rattle.stream_spec.specs.Typed.{primaries};
 ghost use Rattle.std.specs.Prelude.{◌≡◌, ◌<◌, ◌≤◌, ◌^◌, ℕ, List, Some, None, Ok, All, map, length};
 ghost use Rattle.file_spec.specs.declared.script_lines.ScriptLine.{ScriptLine};
 ghost use Rattle.file_spec.specs.Script.{script};
@@ -10,7 +11,7 @@ ghost use Rattle.stream_spec.specs.History.{Lawful, Come, placed, places};
 ghost use Rattle.stream_spec.specs.Own.{Own, Closed, own_packet};
 ghost use Rattle.text_sender.specs.declared.senders.SendConf.{SendConf};
 ghost use Rattle.text_sender.specs.Confs.{IsConf};
-ghost use Rattle.text_sender.specs.Standing.{history_sent, primaries};
+ghost use Rattle.text_sender.specs.Standing.{history_sent};
 ghost use Rattle.rtt_send.specs.Scripts.{AreLines, events_through, texts, IsEnd};
 ghost use Rattle.rtt_send.specs.Recordings.{records_sent, recording_sent, IsReadable};
 

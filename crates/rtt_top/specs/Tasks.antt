@@ -1,4 +1,5 @@
 -- What each command reads, prints and writes (profile).
+use Rattle.stream_spec.specs.Typed.{primaries}
 use Rattle.std.specs.Prelude.{◌≡◌, ℕ, Option, Some, List, [], take, Result, Ok, Err, ◌⊎◌}
 use Rattle.std.specs.Option.{option_map}
 use Rattle.wire_spec.specs.Dump.{Fault, dump, usual_limit}
@@ -10,7 +11,7 @@ use Rattle.file_spec.specs.Words.{ReadWords, SendWords, Command, Read, ListRecor
 use Rattle.stream_spec.specs.History.{History, Lawful}
 use Rattle.stream_spec.specs.Own.{Own, Closed}
 use Rattle.text_sender.specs.declared.senders.SendConf.{SendConf}
-use Rattle.text_sender.specs.Standing.{history_sent, primaries}
+use Rattle.text_sender.specs.Standing.{history_sent}
 use Rattle.rtt_read.specs.declared.confs.ReadConf.{ReadConf}
 use Rattle.rtt_read.specs.ReadView.{read_view}
 use Rattle.rtt_list.specs.Lists.{list_view}

@@ -50,6 +50,23 @@ asked_late = refl
 long_pause : sents (entries c 300 (Ask 90000 ∷ Ask 60000 ∷ Ask 30000 ∷ typed_b)) ≡ sent 24000 [] ∷ sent 16000 [] ∷ sent 8000 B ∷ sent 0 A ∷ []
 long_pause = refl
 
+-- with three generations the steps are shorter: the third repeat of B lies 15000 behind it
+abbrev three : Stream
+three = record { ssrc = 1001; first = 0; base = 0; gens = 3 }
+
+long_pause_of_three : sents (entries three 300 (Ask 120000 ∷ Ask 90000 ∷ Ask 60000 ∷ Ask 30000 ∷ typed_b)) ≡ sent 20000 [] ∷ sent 15000 [] ∷ sent 10000 [] ∷ sent 5000 B ∷ sent 0 A ∷ []
+long_pause_of_three = refl
+
+-- without generations nothing is repeated, and each packet with a text before it has no M bit
+abbrev none : Stream
+none = record { ssrc = 1001; first = 0; base = 0; gens = 0 }
+
+once : sents (entries none 300 asked) ≡ sent 300 B ∷ sent 0 A ∷ []
+once = refl
+
+plain_packet : packet_at none 300 typed_b 300 ≡ Some (record { mark = false; seq = 1; stamp = 300; ssrc = 1001; source = 1001; older = []; primary = B })
+plain_packet = refl
+
 -- a text of 1026 octets, 342 times U+20AC, which has three octets: 341 characters fit
 abbrev wide : ℕ → List ℕ
 wide zero = []

@@ -7,7 +7,7 @@ use Rattle.std.proofs.lemmas.Bool.Decides.{nat_tests}
 use Rattle.wire_spec.specs.Packets.{has_text}
 use Rattle.stream_spec.specs.Lists.{In}
 use Rattle.stream_spec.specs.Own.{Sent, Stream, sent_of, has_text_in, Sendable}
-use Rattle.stream_spec.specs.Typed.{Event, Text, Ask, Turned, sents, carried, typed, is_end, last_end, front, has_passed, media_at, entry_at, left, entries, waiting, due_at, last_ask, IsScript}
+use Rattle.stream_spec.specs.Typed.{Event, Text, Ask, Turned, sents, carried, typed, is_end, last_end, front, has_passed, media_at, entry_at, longest_step, left, entries, waiting, due_at, last_ask, IsScript}
 
 -- ---- fronts
 dropped : (xs ys : List ℕ) → drop (length xs) (xs ++ ys) ≡ ys
@@ -127,107 +127,125 @@ waits_utf8 c i (Ask t ∷ past) s = go (due_at c i past t) refl (waits_utf8 c i 
     go false d u = subst IsUtf8 (sym (waits_same c i past t d)) u
 
 -- ---- what is sent may be sent
--- where text is still to be repeated, the media time is at most 8000 after the last one
-abbrev pub Near : Turned → List Turned → Type 0
-Near e [] = Unit {0}
-Near e (f ∷ es) = has_text_in 2 (sents (f ∷ es)) ≡ true → e.sent.media ≤ f.sent.media + 8000
+-- where text is still to be repeated, the media time is at most the longest step after the last one
+abbrev pub Near : ℕ → ℕ → List Turned → Type 0
+Near g media [] = Unit {0}
+Near g media (f ∷ es) = has_text_in g (sents (f ∷ es)) ≡ true → media ≤ f.sent.media + longest_step g
 
-abbrev pub Pauses : List Turned → Type 0
-Pauses [] = Unit {0}
-Pauses (e ∷ es) = Near e es × Pauses es
+abbrev pub Pauses : ℕ → List Turned → Type 0
+Pauses g [] = Unit {0}
+Pauses g (e ∷ es) = Near g e.sent.media es × Pauses g es
 
 pub record Paced (c : Stream) (last : ℕ) (es : List Turned) : Type 0 where
   pub early : (e : Turned) → In e es → (e.sent.media ≤ e.at) × (e.at ≤ last)
   pub own : sent_of c.ssrc (sents es) ≡ sents es
   pub sendable : Sendable c (sents es)
-  pub pauses : Pauses es
+  pub pauses : Pauses c.gens es
 
 paced_later : (c : Stream) (m t : ℕ) (es : List Turned) → m ≤ t → Paced c m es → Paced c t es
 paced_later c m t es l p = record { early = λ e j. let r = p.early e j in (r.0, omega (arith, r.1)); own = p.own; sendable = p.sendable; pauses = p.pauses }
 
-or_left : (b : Bool) → (true || b) ≡ true
-or_left true = refl
-or_left false = refl
-
-or_right : (b : Bool) → (b || (true || false)) ≡ true
+or_right : (b : Bool) → (b || true) ≡ true
 or_right true = refl
 or_right false = refl
 
-first_text : (e : Sent) (past : List Sent) → has_text e.text ≡ true → has_text_in 2 (e ∷ past) ≡ true
-first_text e [] h = rw h refl
-first_text e (f ∷ past) h = rw h refl
+take_more : (k g : ℕ) (zs : List Sent) (z : Sent) → k ≤ g → In z (take k zs) → In z (take g zs)
+take_more zero g zs z l i = absurd i
+take_more (suc k) g [] z l i = absurd i
+take_more (suc k) zero (y ∷ zs) z l i = absurd (omega arith)
+take_more (suc k) (suc g) (y ∷ zs) z l (inl q) = inl q
+take_more (suc k) (suc g) (y ∷ zs) z l (inr i) = inr (take_more k g zs z (omega arith) i)
 
-second_text : (e f : Sent) (past : List Sent) → has_text f.text ≡ true → has_text_in 2 (e ∷ f ∷ past) ≡ true
-second_text e f past h = rw h (or_right (has_text e.text))
+text_in : (g : ℕ) (zs : List Sent) (z : Sent) → In z (take g zs) → has_text z.text ≡ true → has_text_in g zs ≡ true
+text_in zero zs z i h = absurd i
+text_in (suc g) [] z i h = absurd i
+text_in (suc g) (y ∷ zs) z (inl q) h = let t : has_text y.text ≡ true = ap (λ (x : Sent). has_text x.text) (sym q) ∙ h in rw t refl
+text_in (suc g) (y ∷ zs) z (inr i) h = rw (text_in g zs z i h) (or_right (has_text y.text))
 
-media_near : (t : ℕ) (f : Turned) (es : List Turned) → has_text_in 2 (sents (f ∷ es)) ≡ true → media_at 2 (f ∷ es) t ≤ f.sent.media + 8000
-media_near t f es h = rw h (omega arith)
+-- how far so many steps go
+abbrev steps : ℕ → ℕ → ℕ
+steps zero step = 0
+steps (suc k) step = step + steps k step
 
-media_between : (t : ℕ) (f : Turned) (es : List Turned) → f.sent.media < t → (f.sent.media < media_at 2 (f ∷ es) t) × (media_at 2 (f ∷ es) t ≤ t)
-media_between t f es l = go (has_text_in 2 (sents (f ∷ es)))
+-- each of the last k with text lies at most k steps before
+within_steps : (g k media : ℕ) (es : List Turned) → k ≤ g → Near g media es → Pauses g es → (x : Sent) → In x (take k (sents es)) → has_text x.text ≡ true → media ≤ x.media + steps k (longest_step g)
+within_steps g zero media es l n p x i h = absurd i
+within_steps g (suc k) media [] l n p x i h = absurd i
+within_steps g (suc k) media (f ∷ es) l n p x i h =
+    let near = n (text_in g (f.sent ∷ sents es) x (take_more (suc k) g (f.sent ∷ sents es) x l i) h) in
+    elim i [
+      | inl q ↦ omega (arith, near, ap (λ (z : Sent). z.media) q)
+      | inr j ↦ let r = within_steps g k f.sent.media es (omega arith) p.0 p.1 x j h in omega (arith, near, r)
+    ]
+
+fits_offset : (g : ℕ) → g ≤ 3 → steps g (longest_step g) ≤ 16383
+fits_offset zero l = omega arith
+fits_offset (suc zero) l = omega arith
+fits_offset (suc (suc zero)) l = omega arith
+fits_offset (suc (suc (suc zero))) l = omega arith
+fits_offset (suc (suc (suc (suc g)))) l = absurd (omega arith)
+
+media_near : (g t : ℕ) (es : List Turned) → Near g (media_at g es t) es
+media_near g t [] = tt
+media_near g t (f ∷ es) = λ h. rw h (omega arith)
+
+near_texts : (g t : ℕ) (es : List Turned) → g ≤ 3 → Pauses g es → (x : Sent) → In x (take g (sents es)) → has_text x.text ≡ true → media_at g es t ≤ x.media + 16383
+near_texts g t es l p x i h = let r = within_steps g g (media_at g es t) es (omega arith) (media_near g t es) p x i h in omega (arith, fits_offset g l)
+
+some_step : (g : ℕ) → 0 < longest_step g
+some_step g = go (nat_le g 2)
   where
-    go : (b : Bool) → (f.sent.media < cond b (min t (f.sent.media + 8000)) t) × (cond b (min t (f.sent.media + 8000)) t ≤ t)
-    go true = (omega arith, omega arith)
-    go false = (omega arith, omega arith)
+    go : (b : Bool) → 0 < cond b 8000 5000
+    go true = omega arith
+    go false = omega arith
 
-near_texts : (t : ℕ) (es : List Turned) → Pauses es → (x : Sent) → In x (take 2 (sents es)) → has_text x.text ≡ true → media_at 2 es t ≤ x.media + 16383
-near_texts t [] p x i h = absurd i
-near_texts t (f ∷ []) p x (inl q) h = let n = media_near t f [] (first_text f.sent [] (ap (λ (z : Sent). has_text z.text) (sym q) ∙ h)) in omega (arith, ap (λ (z : Sent). z.media) q)
-near_texts t (f ∷ []) p x (inr j) h = absurd j
-near_texts t (f ∷ g ∷ es) p x (inl q) h =
-    let n = media_near t f (g ∷ es) (first_text f.sent (sents (g ∷ es)) (ap (λ (z : Sent). has_text z.text) (sym q) ∙ h)) in omega (arith, ap (λ (z : Sent). z.media) q)
-near_texts t (f ∷ g ∷ es) p x (inr (inl q)) h =
-    let text : has_text g.sent.text ≡ true = ap (λ (z : Sent). has_text z.text) (sym q) ∙ h in
-    let n = media_near t f (g ∷ es) (second_text f.sent g.sent (sents es) text) in
-    let m = p.0 (first_text g.sent (sents es) text) in
-    omega (arith, ap (λ (z : Sent). z.media) q)
-near_texts t (f ∷ g ∷ es) p x (inr (inr j)) h = absurd j
+media_between : (g t : ℕ) (f : Turned) (es : List Turned) → f.sent.media < t → (f.sent.media < media_at g (f ∷ es) t) × (media_at g (f ∷ es) t ≤ t)
+media_between g t f es l = go (has_text_in g (sents (f ∷ es))) (some_step g)
+  where
+    go : (b : Bool) → 0 < longest_step g → (f.sent.media < cond b (min t (f.sent.media + longest_step g)) t) × (cond b (min t (f.sent.media + longest_step g)) t ≤ t)
+    go true s = (omega arith, omega arith)
+    go false s = (omega arith, omega arith)
 
 -- the media time at t is later than each before it
 later_media : (c : Stream) (i t m : ℕ) (es : List Turned) → 1 ≤ i → m ≤ t → has_passed i es t ≡ true → Paced c m es
-    → (media_at 2 es t ≤ t) × ((x : Sent) → In x (sents es) → x.media < media_at 2 es t)
+    → (media_at c.gens es t ≤ t) × ((x : Sent) → In x (sents es) → x.media < media_at c.gens es t)
 later_media c i t m [] o l d p = (omega arith, λ x j. absurd j)
 later_media c i t m (f ∷ es) o l d p =
     let a = p.early f (inl refl) in
     let passed : f.at + i ≤ t = grind (arith, nat_tests) in
-    let b = media_between t f es (omega (arith, a.0)) in
+    let b = media_between c.gens t f es (omega (arith, a.0)) in
     (b.1, λ x j. elim j [ inl q ↦ omega (arith, ap (λ (z : Sent). z.media) q, b.0) | inr k ↦ let r = p.sendable.0.later x k in omega (arith, r.0, b.0) ])
 
-paced_more : (c : Stream) (i t m : ℕ) (es : List Turned) (w : List ℕ) → c.gens ≡ 2 → 1 ≤ i → m ≤ t → t < 2 ^ 31 → IsUtf8 w → has_passed i es t ≡ true → Paced c m es
+paced_more : (c : Stream) (i t m : ℕ) (es : List Turned) (w : List ℕ) → c.gens ≤ 3 → 1 ≤ i → m ≤ t → t < 2 ^ 31 → IsUtf8 w → has_passed i es t ≡ true → Paced c m es
     → Paced c t (entry_at c es w t ∷ es)
-paced_more c i t m es w two o l top u d p =
+paced_more c i t m es w most o l top u d p =
     let n = later_media c i t m es o l d p in
-    let is : media_at c.gens es t ≡ media_at 2 es t = ap (λ g. media_at g es t) two in
     let f = front_fits 1023 w u in
     record {
-      early = λ e j. elim j [ inl q ↦ (omega (arith, n.0, is, ap (λ (z : Turned). z.sent.media) q, ap (λ (z : Turned). z.at) q), omega (arith, ap (λ (z : Turned). z.at) q)) | inr k ↦ let r = p.early e k in (r.0, omega (arith, r.1)) ];
+      early = λ e j. elim j [ inl q ↦ (omega (arith, n.0, ap (λ (z : Turned). z.sent.media) q, ap (λ (z : Turned). z.at) q), omega (arith, ap (λ (z : Turned). z.at) q)) | inr k ↦ let r = p.early e k in (r.0, omega (arith, r.1)) ];
       own = own;
       sendable = (
         record {
-          later = λ x j. let a = n.1 x j in (omega arith, omega (arith, n.0));
-          near = λ x j h. let k = near_texts t es p.pauses x (subst (λ (zs : List Sent). In x zs) (ap (λ g. take g (sent_of c.ssrc (sents es))) two ∙ ap (take 2) p.own) j) h in omega arith;
+          later = λ x j. let a = n.1 x j in (a, omega (arith, n.0));
+          near = λ x j h. near_texts c.gens t es most p.pauses x (subst (λ (zs : List Sent). In x (take c.gens zs)) p.own j) h;
           text = (f.short, f.front_is);
         },
         p.sendable,
       );
-      pauses = (near es refl, p.pauses);
+      pauses = (media_near c.gens t es, p.pauses);
     }
   where
     own : sent_of c.ssrc (sents (entry_at c es w t ∷ es)) ≡ sents (entry_at c es w t ∷ es)
     own = let same : (c.ssrc == c.ssrc) ≡ true = grind (arith, nat_tests) in ap (λ b. cond b ((entry_at c es w t).sent ∷ sent_of c.ssrc (sents es)) (sent_of c.ssrc (sents es))) same ∙ ap (λ zs. (entry_at c es w t).sent ∷ zs) p.own
 
-    near : (fs : List Turned) → es ≡ fs → Near (entry_at c es w t) fs
-    near [] q = tt
-    near (f ∷ fs) q = λ h. let is : media_at c.gens es t ≡ media_at 2 (f ∷ fs) t = ap (λ g. media_at g es t) two ∙ ap (λ gs. media_at 2 gs t) q in let k = media_near t f fs h in omega arith
-
 pub and_second : (a b : Bool) → (a && b) ≡ true → b ≡ true
 and_second true b h = h
 and_second false b h = cc h
 
-pub paced : (c : Stream) (i : ℕ) (past : List Event) → c.gens ≡ 2 → 1 ≤ i → IsScript past → Paced c (last_ask past) (entries c i past)
-paced c i [] two o s = record { early = λ e j. absurd j; own = refl; sendable = tt; pauses = tt }
-paced c i (Text text ∷ past) two o s = paced c i past two o s.1
-paced c i (Ask t ∷ past) two o s =
+pub paced : (c : Stream) (i : ℕ) (past : List Event) → c.gens ≤ 3 → 1 ≤ i → IsScript past → Paced c (last_ask past) (entries c i past)
+paced c i [] most o s = record { early = λ e j. absurd j; own = refl; sendable = tt; pauses = tt }
+paced c i (Text text ∷ past) most o s = paced c i past most o s.1
+paced c i (Ask t ∷ past) most o s =
     asked (Paced c t) (due_at c i past t) (entry_at c (entries c i past) (waiting c i past) t) (entries c i past)
-    (λ d. paced_more c i t (last_ask past) (entries c i past) (waiting c i past) two o s.0 s.1 (waits_utf8 c i past s.2) (and_second (has_text (waiting c i past) || has_text_in c.gens (sents (entries c i past))) (has_passed i (entries c i past) t) d) (paced c i past two o s.2))
-    (paced_later c (last_ask past) t (entries c i past) s.0 (paced c i past two o s.2))
+    (λ d. paced_more c i t (last_ask past) (entries c i past) (waiting c i past) most o s.0 s.1 (waits_utf8 c i past s.2) (and_second (has_text (waiting c i past) || has_text_in c.gens (sents (entries c i past))) (has_passed i (entries c i past) t) d) (paced c i past most o s.2))
+    (paced_later c (last_ask past) t (entries c i past) s.0 (paced c i past most o s.2))

@@ -1,8 +1,10 @@
 -- What a sender of typed text sends, and when (RFC 4103, sections 4 and 5; the moments, the limit of a text and the
 -- media time behind a long pause are a profile). Lists are newest first.
+use Rattle.std.specs.List.{flat_map}
 use Rattle.std.specs.Prelude.{ℕ, zero, suc, ◌+◌, ◌^◌, ◌<◌, ◌≤◌, Bool, true, Option, None, Some, List, [], ◌∷◌, ◌++◌, length, map, take, drop, min, slice_index, ◌&&◌, ◌||◌, nat_lt, nat_le, if◌then◌else◌, IsUtf8}
 use Rattle.wire_spec.specs.Packets.{Packet, has_text}
-use Rattle.stream_spec.specs.Own.{Sent, Stream, has_text_in, packet_after}
+use Rattle.stream_spec.specs.History.{History}
+use Rattle.stream_spec.specs.Own.{Sent, Stream, has_text_in, packet_after, sent_history}
 
 -- a text is typed, or the sender is asked at a moment in milliseconds
 pub data Event : Type 0 where
@@ -47,10 +49,15 @@ abbrev pub has_passed : ℕ → List Turned → ℕ → Bool
 has_passed interval [] t = true
 has_passed interval (e ∷ es) t = nat_le (e.at + interval) t
 
--- the media time at t: where text is still to be repeated, at most 8000 after the last one
+-- How far the media time goes on at most where text is still to be repeated, with so many generations: so that the
+-- offset of the oldest block fits in 14 bits.
+abbrev pub longest_step : ℕ → ℕ
+longest_step g = if nat_le g 2 then 8000 else 5000
+
+-- the media time at t: where text is still to be repeated, at most the longest step after the last one
 abbrev pub media_at : ℕ → List Turned → ℕ → ℕ
 media_at g [] t = t
-media_at g (e ∷ es) t = if has_text_in g (sents (e ∷ es)) then min t (e.sent.media + 8000) else t
+media_at g (e ∷ es) t = if has_text_in g (sents (e ∷ es)) then min t (e.sent.media + longest_step g) else t
 
 -- an entry stands at t: text waits or is still to be repeated, and the interval has passed
 abbrev pub is_due : Stream → ℕ → List Turned → List ℕ → ℕ → Bool
@@ -86,6 +93,27 @@ abbrev pub packet_at : Stream → ℕ → List Event → ℕ → Option Packet
 packet_at c interval past t =
     let es = entries c interval past in
     if due_at c interval past t then Some (packet_after c (sents es) (entry_at c es (waiting c interval past) t).sent) else None
+
+-- text waits, or is still to be repeated
+abbrev pub has_more : Stream → ℕ → List Event → Bool
+has_more c interval past = has_text (waiting c interval past) || has_text_in c.gens (sents (entries c interval past))
+
+-- the first moment at which another entry may stand, where one is there
+abbrev pub next_at : ℕ → List Turned → Option ℕ
+next_at interval [] = None
+next_at interval (e ∷ es) = Some (e.at + interval)
+
+-- the moment from which the next entry is due, where one is there and text waits or is still to be repeated
+abbrev pub next_due : Stream → ℕ → List Event → Option ℕ
+next_due c interval past = if has_more c interval past then next_at interval (entries c interval past) else None
+
+-- the history of what was sent
+abbrev pub history_typed : Stream → ℕ → List Event → History
+history_typed c interval past = sent_history c (sents (entries c interval past))
+
+-- the texts of the entries, one behind the other
+abbrev pub primaries : History → List ℕ
+primaries h = flat_map (λ e. e.text) h.entries
 
 -- the moment of the last ask
 abbrev pub last_ask : List Event → ℕ

@@ -6,13 +6,13 @@ use Rattle.wire_spec.specs.Packets.{has_text}
 use Rattle.stream_spec.specs.Lists.{In}
 use Rattle.stream_spec.specs.History.{Entry, Placed, placed, Lawful}
 use Rattle.stream_spec.specs.Own.{Sent, Own, Closed, sent_of, has_text_in, entry_after, entries_sent, sent_history, own_packet, packet_after}
-use Rattle.stream_spec.specs.Typed.{Event, Ask, Turned, sents, carried, typed, has_passed, last_end, front, due_at, packet_at, IsScript}
+use Rattle.stream_spec.specs.Typed.{Event, Ask, Turned, sents, carried, typed, has_passed, last_end, front, due_at, packet_at, IsScript, next_at, primaries}
 use Rattle.stream_spec.proofs.Sent.{the_last, sent_lawful, sent_own, in_sent_of}
 use Rattle.stream_spec.proofs.Typing.{typed_is, entries_more, entries_same, waits_same, paced, length_of_front, last_end_le}
 use Rattle.stream_spec.proofs.Closing.{last_is, sent_closed, longest}
 use Rattle.text_sender.specs.declared.senders.SendConf.{SendConf}
 use Rattle.text_sender.specs.Confs.{IsConf, stream_of}
-use Rattle.text_sender.specs.Standing.{sent_by, waits_for, has_more, next_at, next_due_of, history_sent, primaries}
+use Rattle.text_sender.specs.Standing.{sent_by, waits_for, has_more, next_due_of, history_sent}
 use Rattle.text_sender.proofs.Sending.{next_entry, length_sents}
 
 nil : (xs : List ℕ) → xs ++ [] ≡ xs
@@ -31,7 +31,7 @@ pub all_sent : (conf : SendConf) (past : List Event) → typed past ≡ primarie
 all_sent conf past = typed_is (stream_of conf) conf.interval past ∙ ap (λ (xs : List ℕ). xs ++ waits_for conf past) (sym (carried_is 2 (sent_by conf past)))
 
 pub lawful : (conf : SendConf) (past : List Event) → IsConf conf → IsScript past → Lawful (history_sent conf past)
-lawful conf past k s = sent_lawful (stream_of conf) (sents (sent_by conf past)) (omega arith) (paced (stream_of conf) conf.interval past refl (let l = k.least in omega arith) s).sendable
+lawful conf past k s = sent_lawful (stream_of conf) (sents (sent_by conf past)) (omega arith) (paced (stream_of conf) conf.interval past (omega arith) (let l = k.least in omega arith) s).sendable
 
 pub own : (conf : SendConf) (past : List Event) → Own 2 (history_sent conf past)
 own conf past = sent_own (stream_of conf) (sents (sent_by conf past))
@@ -68,7 +68,7 @@ end_sent conf past h =
 pub end_closed : (conf : SendConf) (past : List Event) → IsConf conf → IsScript past → has_more conf past ≡ false → Closed 2 (history_sent conf past)
 end_closed conf past k s h =
     let n = or_none (has_text (waits_for conf past)) (has_text_in 2 (sents (sent_by conf past))) h in
-    let p = paced (stream_of conf) conf.interval past refl (let l = k.least in omega arith) s in
+    let p = paced (stream_of conf) conf.interval past (omega arith) (let l = k.least in omega arith) s in
     sent_closed (stream_of conf) (sents (sent_by conf past))
     (λ z i. let q = in_sent_of conf.ssrc (sents (sent_by conf past)) z (subst (λ (zs : List Sent). In z zs) (sym p.own) i) in
     ap (λ m. has_text_in 2 (sent_of m (sents (sent_by conf past)))) q.1 ∙ (ap (λ (zs : List Sent). has_text_in 2 zs) p.own ∙ n.1))

@@ -12,7 +12,7 @@ use Rattle.stream_spec.specs.Typed.{Event, Text, Ask, Turned, sents, media_at, e
 use Rattle.stream_spec.proofs.Typing.{waits_more, waits_less, entries_more, paced}
 use Rattle.red_window.specs.Standing as window
 use Rattle.red_window.specs.Standing.{MayFollow}
-use Rattle.text_sender.specs.Written.{csrc_of, head_of, packet_written}
+use Rattle.wire_spec.specs.SentPackets.{csrc_of, head_of, packet_written}
 use Rattle.text_sender.specs.declared.senders.SendConf.{SendConf}
 use Rattle.text_sender.specs.declared.senders.Last.{Last}
 use Rattle.text_sender.specs.Confs.{stream_of}
@@ -61,8 +61,8 @@ pub may_follow : (conf : SendConf) (past : List Event) (now : ℕ) → 1 ≤ con
     → MayFollow 2 (media_at 2 (sent_by conf past) now) (sents (sent_by conf past))
 may_follow conf past now o s d =
     let c = stream_of conf in
-    let before = paced c conf.interval past refl o s.2 in
-    let p = paced c conf.interval (Ask now ∷ past) refl o s in
+    let before = paced c conf.interval past (omega arith) o s.2 in
+    let p = paced c conf.interval (Ask now ∷ past) (omega arith) o s in
     let both : Sendable c (sents (next_entry conf past now ∷ sent_by conf past)) = subst (λ (es : List Turned). Sendable c (sents es)) (entries_more c conf.interval past now d) p.sendable in
     let m : MaySend c (sents (sent_by conf past)) (next_entry conf past now).sent = both.0 in
     record {
@@ -114,4 +114,4 @@ octets_are conf given es w now mark seq stamp blocks q own m s t b =
     ∙ ap (λ (x : SendConf). rtp_written (head_of conf.pts p) (red_written (blocks_of p) x.pts)) q)
 
 pub own_sents : (conf : SendConf) (past : List Event) → 1 ≤ conf.interval → IsScript past → sent_of conf.ssrc (sents (sent_by conf past)) ≡ sents (sent_by conf past)
-own_sents conf past o s = (paced (stream_of conf) conf.interval past refl o s).own
+own_sents conf past o s = (paced (stream_of conf) conf.interval past (omega arith) o s).own

@@ -3,10 +3,10 @@ ghost use Rattle.std.specs.Prelude.{◌≡◌, ◌≤◌, ◌++◌, ◌∷◌, �
 ghost use Rattle.stream_spec.specs.Lists.{In};
 ghost use Rattle.stream_spec.specs.History.{Placed, Lawful, placed};
 ghost use Rattle.stream_spec.specs.Own.{Own, Closed, own_packet};
-ghost use Rattle.stream_spec.specs.Typed.{Event, Ask, typed, front, due_at, packet_at, IsScript};
+ghost use Rattle.stream_spec.specs.Typed.{Event, Ask, typed, front, due_at, packet_at, IsScript, primaries};
 ghost use Rattle.text_sender.specs.declared.senders.SendConf.{SendConf};
 ghost use Rattle.text_sender.specs.Confs.{IsConf, stream_of};
-ghost use Rattle.text_sender.specs.Standing.{sent_by, waits_for, has_more, next_due_of, history_sent, primaries};
+ghost use Rattle.text_sender.specs.Standing.{sent_by, waits_for, has_more, next_due_of, history_sent};
 
 /// All that was typed is sent in order, up to what waits.
 pub fn all_is_sent_in_order()

@@ -65,7 +65,7 @@ impl Model for Sender {
 impl Sender {
     ghost use Rattle.stream_spec.specs.Own.{packet_after};
     ghost use Rattle.stream_spec.specs.Typed.{last_ask, sents, has_passed, media_at, entry_at, due_at, packet_at};
-    ghost use Rattle.text_sender.specs.Written.{packet_written};
+    ghost use Rattle.wire_spec.specs.SentPackets.{packet_written};
     ghost use Rattle.text_sender.specs.Confs.{IsConf, stream_of};
     ghost use Rattle.text_sender.specs.Standing.{StandsFor, sent_by, waits_for, has_more, next_due_of};
     ghost use Rattle.std.specs.Option.{option_map};

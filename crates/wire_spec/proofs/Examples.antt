@@ -14,6 +14,7 @@ use Rattle.wire_spec.specs.Packets.{Packet, Arrival, primary}
 use Rattle.wire_spec.specs.Rtp.{Head, rtp, rtp_of_header, rtp_written}
 use Rattle.wire_spec.specs.Red.{headers_at, texts_at, red, red_written}
 use Rattle.wire_spec.specs.Text.{text_of_short, text_of}
+use Rattle.wire_spec.specs.SentPackets.{packet_written}
 use Rattle.wire_spec.specs.Dump.{Item, Sent, Fault, arrivals, opening, dump_step, records_within, records, dump, usual_limit, dump_written}
 
 -- ---- octets in hexadecimal digits
@@ -97,7 +98,32 @@ fourth-reads : text_of fourth None types ≡ Ok (packet false 3 900 (block 600 B
 unfolding text_of text_of_short rtp rtp_of_header red headers_at texts_at is_utf8 chars encode
 fourth-reads = refl
 
--- ---- their recording, of 166 octets
+-- ---- one letter of the source 1001 in a mixer's stream, at 5000: in red form, and in plain form where nothing is repeated
+
+abbrev mixed : List TextBlock → Packet
+mixed older = record { mark = true; seq = 100; stamp = 5000; ssrc = 9000; source = 1001; older = older; primary = 72 ∷ [] }
+
+abbrev two_headers : List ℕ
+two_headers = hex (codes "81E4 0064 00001388 00002328 000003E9 E2FFFC00 E2FFFC00 62 48")
+
+abbrev no_header : List ℕ
+no_header = hex (codes "81E2 0064 00001388 00002328 000003E9 48")
+
+mixed-red : packet_written types (mixed (block 16383 [] ∷ block 16383 [] ∷ [])) ≡ two_headers
+mixed-red = refl
+
+mixed-plain : packet_written types (mixed []) ≡ no_header
+mixed-plain = refl
+
+mixed-plain-reads : text_of no_header (Some 9000) types ≡ Ok (mixed [])
+unfolding text_of text_of_short rtp rtp_of_header red headers_at texts_at is_utf8 chars encode
+mixed-plain-reads = refl
+
+-- a stream's own text has no CSRC
+own-plain : packet_written types (packet true 0 0 [] A) ≡ hex (codes "80E2 0000 00000000 000003E9 41")
+own-plain = refl
+
+-- ---- the recording of the two letters, of 166 octets
 
 abbrev recording_to : ℕ → List ℕ
 recording_to time =

@@ -7,3 +7,4 @@ pub mod BlockLaws
 pub mod BlockParts
 pub mod Recordings
 pub mod WholePackets
+pub mod SentBack

@@ -5,3 +5,4 @@ pub mod Rtp
 pub mod Red
 pub mod Text
 pub mod Dump
+pub mod SentPackets

@@ -1,0 +1,86 @@
+-- A packet that is sent is read back, in either form.
+use Rattle.std.proofs.Common.{◌≡◌, ℕ, ◌<◌, ◌≤◌, ◌^◌, Bool, true, false, cond, ltb, List, [], ◌∷◌, ◌++◌, length, Option, None, Some, Result, Ok, refl, ap, subst, sym, arith}
+use Rattle.std.specs.Prelude.{◌==◌, option_to_list, unwrap_or, IfSome}
+use Rattle.std.proofs.lemmas.Bool.{le-ltb}
+use Rattle.std.proofs.lemmas.Bool.Decides.{nat_tests}
+use Rattle.rtt_base.specs.declared.blocks.TextBlock.{TextBlock}
+use Rattle.rtt_base.specs.declared.text_packets.Pts.{Pts}
+use Rattle.wire_spec.specs.declared.faults.TextFault.{TextFault}
+use Rattle.wire_spec.specs.Packets.{Packet, redundant, primary_text, primary, blocks_of}
+use Rattle.wire_spec.specs.Rtp.{FitsHeader}
+use Rattle.std.specs.List.{AllByRecursion}
+use Rattle.wire_spec.specs.Red.{Red, IsRedundant, red}
+use Rattle.wire_spec.specs.Text.{is_asked, text_of_short, text_of}
+use Rattle.wire_spec.specs.SentPackets.{csrc_of, type_sent, payload_sent, head_of, packet_written, FitsPacket}
+use Rattle.wire_spec.proofs.Written.{rtp_read_back}
+use Rattle.wire_spec.proofs.BlockLaws.{red_only}
+
+-- ---- the blocks
+redundant_front : (older : List TextBlock) (b : TextBlock) → redundant (older ++ b ∷ []) ≡ older
+redundant_front [] b = refl
+redundant_front (x ∷ []) b = refl
+redundant_front (x ∷ y ∷ older) b = ap (λ (bs : List TextBlock). x ∷ bs) (redundant_front (y ∷ older) b)
+
+primary_last : (older : List TextBlock) (b : TextBlock) → primary_text (older ++ b ∷ []) ≡ b.text
+primary_last [] b = refl
+primary_last (x ∷ []) b = refl
+primary_last (x ∷ y ∷ older) b = primary_last (y ∷ older) b
+
+payload_is : (pts : Pts) (p : Packet) → FitsPacket pts p → (older : List TextBlock) → p.older ≡ older → Red (payload_sent pts older p.primary) (type_sent pts older) pts (older ++ primary p.primary ∷ [])
+payload_is pts p f [] e = record { plain = λ q. record { all = refl; is_text = f.primary }; red = λ n. absurd (n refl) }
+payload_is pts p f (b ∷ older) e = record {
+  plain = λ q. absurd (f.differ (sym q));
+  red = λ n. (
+    refl,
+    record {
+      older = b ∷ older;
+      text = p.primary;
+      all = refl;
+      parts = refl;
+      few = omega (arith, f.few, ap (λ (bs : List TextBlock). length bs) e);
+      each = subst (AllByRecursion IsRedundant) e f.older;
+      is_text = f.primary;
+      t140_fits = f.t140;
+    },
+  );
+}
+
+blocks_back : (pts : Pts) (p : Packet) → FitsPacket pts p → red (payload_sent pts p.older p.primary) (type_sent pts p.older) pts ≡ Ok (blocks_of p)
+blocks_back pts p f = red_only (payload_sent pts p.older p.primary) (type_sent pts p.older) pts (blocks_of p) (payload_is pts p f p.older refl)
+
+-- ---- the header
+type_fits : (pts : Pts) (older : List TextBlock) → pts.t140 < 2 ^ 7 → pts.red < 2 ^ 7 → type_sent pts older < 2 ^ 7
+type_fits pts [] t r = t
+type_fits pts (b ∷ older) t r = r
+
+source_fits : (b : Bool) (source : ℕ) → source < 2 ^ 32 → IfSome (cond b None (Some source)) (λ s. s < 2 ^ 32)
+source_fits true source l = tt
+source_fits false source l = l
+
+source_back : (source ssrc : ℕ) → unwrap_or (cond (source == ssrc) None (Some source)) ssrc ≡ source
+source_back source ssrc = go (source == ssrc) refl
+  where
+    go : (b : Bool) → (source == ssrc) ≡ b → unwrap_or (cond b None (Some source)) ssrc ≡ source
+    go true e = grind (arith, nat_tests)
+    go false e = refl
+
+one_source : (csrc : Option ℕ) → length (option_to_list csrc) ≤ 1
+one_source None = omega arith
+one_source (Some source) = omega arith
+
+head_fits : (pts : Pts) (p : Packet) → FitsPacket pts p → FitsHeader (head_of pts p)
+head_fits pts p f = record { pt = type_fits pts p.older f.t140 f.red; seq = f.seq; stamp = f.stamp; ssrc = f.ssrc; csrc = source_fits (p.source == p.ssrc) p.source f.source }
+
+same_packet : (p : Packet) (source : ℕ) (older : List TextBlock) (text : List ℕ) → source ≡ p.source → older ≡ p.older → text ≡ p.primary
+    → (let r : Result Packet TextFault = Ok (record { mark = p.mark; seq = p.seq; stamp = p.stamp; ssrc = p.ssrc; source = source; older = older; primary = text }) in r) ≡ Ok p
+same_packet p source older text a b c = rw (a, b, c) refl
+
+pub sent_back : (pts : Pts) (p : Packet) (asked : Option ℕ) → FitsPacket pts p → is_asked asked p.ssrc ≡ true → length (packet_written pts p) ≤ 4224
+    → text_of (packet_written pts p) asked pts ≡ Ok p
+unfolding text_of text_of_short
+sent_back pts p asked f its short =
+    let long : ltb 4224 (length (packet_written pts p)) ≡ false = le-ltb 4224 (length (packet_written pts p)) short in
+    let sources : ltb 1 (length (option_to_list (csrc_of p))) ≡ false = le-ltb 1 (length (option_to_list (csrc_of p))) (one_source (csrc_of p)) in
+    let read = rtp_read_back (head_of pts p) (payload_sent pts p.older p.primary) (head_fits pts p f) in
+    rw (long, read, its, sources, blocks_back pts p f)
+    (same_packet p _ _ _ (source_back p.source p.ssrc) (redundant_front p.older (primary p.primary)) (primary_last p.older (primary p.primary)))
