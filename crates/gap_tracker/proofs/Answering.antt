@@ -4,10 +4,11 @@ use Rattle.std.specs.Prelude.{◌==◌, ◌&&◌, ◌||◌, nat_lt, nat_le}
 use Rattle.std.proofs.lemmas.Bool.{cases_Bool, cases_lt, true≢false, eqb-true, lt-ltb, le-ltb, le-leb, and_from, and_left, and_right, or_cases, or_left, or_right, not_from_false, false_from_ne_true}
 use Rattle.stream_spec.specs.Lists.{In}
 use Rattle.stream_spec.specs.Numbering.{Numbered, first_number, has_number, is_given_up, in_time, by_number, used}
-use Rattle.stream_spec.specs.Holding.{Holds}
+use Rattle.gap_tracker.specs.Holding.{Holds}
 use Rattle.stream_spec.proofs.Lists.{in_append, in_right}
 use Rattle.stream_spec.proofs.Matched.{used_in}
-use Rattle.stream_spec.proofs.Holding.{has_in, in_has, up_later, up_more}
+use Rattle.stream_spec.proofs.Rising.{by_number_in, used_more}
+use Rattle.stream_spec.proofs.GivingUp.{has_in, in_has, up_later, up_more}
 use Rattle.gap_tracker.specs.declared.answers.Taken.{Taken}
 use Rattle.gap_tracker.specs.declared.answers.Taken.TheVariants.{Before, Old, Repeat, Ready, Held}
 use Rattle.gap_tracker.specs.Stories.{Given, all_settled, is_settled, taken_as, is_used}
@@ -16,25 +17,6 @@ use Rattle.gap_tracker.specs.Tracks.{Holding}
 use Rattle.gap_tracker.proofs.Settling.{still_front}
 
 -- ---- a number that came was used or is given up
-in_put : (e y : Numbered) (xs : List Numbered) → (y ≡ e) ⊎ In y xs → In y (by_number e xs)
-in_put e y [] (inl q) = inl q
-in_put e y [] (inr i) = absurd i
-in_put e y (x ∷ xs) i = go (nat_lt e.number x.number) (in_put e y xs) i
-  where
-    go : (t : Bool) → ((y ≡ e) ⊎ In y xs → In y (by_number e xs)) → (y ≡ e) ⊎ In y (x ∷ xs) → In y (cond t (e ∷ x ∷ xs) (x ∷ by_number e xs))
-    go true f (inl q) = inl q
-    go true f (inr j) = inr j
-    go false f (inl q) = inr (f (inl q))
-    go false f (inr (inl q)) = inl q
-    go false f (inr (inr j)) = inr (f (inr j))
-
-used_more : (wait : ℕ) (e : Numbered) (past : List Numbered) (u : Numbered) → In u (used wait past) → In u (used wait (e ∷ past))
-used_more wait e past u i = go (in_time wait e past)
-  where
-    go : (b : Bool) → In u (cond b (by_number e (used wait past)) (used wait past))
-    go true = in_put e u (used wait past) (inr i)
-    go false = i
-
 first_any : (past : List Numbered) (n a b : ℕ) → has_number past n ≡ true → first_number a past ≡ first_number b past
 first_any [] n a b h = absurd (true≢false (sym h))
 first_any (e ∷ past) n a b h = refl
@@ -59,7 +41,7 @@ used_or_up wait t n (e ∷ past) c low h =
           let in_is : in_time wait e past ≡ true = and_from (nat_le (first_number e.number past) e.number) (not (has_number past e.number) && not (is_given_up wait past e.time e.number))
           (le-leb (first_number e.number past) e.number (let l = low 0 h in omega (arith, s)))
           (and_from (not (has_number past e.number)) (not (is_given_up wait past e.time e.number)) (not_from_false (has_number past e.number) (ap (has_number past) s ∙ q)) (not_from_false (is_given_up wait past e.time e.number) (ap (is_given_up wait past e.time) s ∙ g))) in
-          inl (e, subst (λ (b : Bool). In e (cond b (by_number e (used wait past)) (used wait past))) (sym in_is) (in_put e e (used wait past) (inl refl)), s)
+          inl (e, subst (λ (b : Bool). In e (cond b (by_number e (used wait past)) (used wait past))) (sym in_is) (by_number_in e e (used wait past) (inl refl)), s)
     ]
 
 -- ---- what is settled shows in the front

@@ -1,38 +1,26 @@
 -- An arrival that is held, or is not used.
-use Rattle.std.proofs.Common.{◌≡◌, ℕ, suc, ◌-◌, ◌<◌, ◌≤◌, Bool, true, false, cond, not, ◌⊎◌, inl, inr, List, [], ◌∷◌, ◌++◌, length, refl, ap, subst, sym, ◌∙◌, arith, None}
-use Rattle.std.specs.Prelude.{map, max, insert, ◌&&◌, nat_lt, nat_le}
-use Rattle.std.proofs.lemmas.Bool.{leb-true, and_parts}
+use Rattle.std.proofs.Common.{◌≡◌, ℕ, suc, ◌-◌, ◌<◌, ◌≤◌, true, false, ◌⊎◌, inl, inr, List, [], ◌∷◌, ◌++◌, length, refl, ap, subst, sym, ◌∙◌, arith, None}
+use Rattle.std.specs.Prelude.{map, max, insert}
 use Rattle.rtt_base.specs.declared.text_packets.TextPacket.{TextPacket}
 use Rattle.stream_spec.specs.Lists.{In}
-use Rattle.stream_spec.specs.Numbering.{Numbered, first_number, has_number, is_given_up, in_time, by_number, used}
-use Rattle.stream_spec.specs.Holding.{Holds, Timed, Falling}
+use Rattle.stream_spec.specs.Numbering.{Numbered, first_number, has_number, is_given_up, in_time, by_number, Falling}
 use Rattle.stream_spec.specs.Ready.{end_of, last_end}
 use Rattle.stream_spec.proofs.Lists.{in_left}
-use Rattle.stream_spec.proofs.Matched.{in_by_number}
-use Rattle.stream_spec.proofs.Holding.{arrive, ignore, begin, distinct_split, one}
-use Rattle.stream_spec.proofs.Ready.{timed_more}
-use Rattle.stream_spec.proofs.Ends.{end_by_crowd}
 use Rattle.gap_tracker.specs.Stories.{Given, due_at}
 use Rattle.gap_tracker.specs.States.{State, next_latest, put_at, IsPlace}
 use Rattle.gap_tracker.specs.Tracks.{Holding}
 use Rattle.gap_tracker.proofs.Settling.{still_few, still_front}
 use Rattle.gap_tracker.proofs.Places.{put_is, not_held}
+use Rattle.gap_tracker.specs.Holding.{Holds, Timed}
+use Rattle.gap_tracker.proofs.Keeping.{arrive, ignore, begin}
+use Rattle.stream_spec.proofs.GivingUp.{distinct_split, one}
+use Rattle.gap_tracker.proofs.Timing.{timed_more, end_by_crowd}
+use Rattle.stream_spec.proofs.Rising.{used_above, length_by_number}
 
 pub few : (s : State) → next_latest s ≡ None → length s.held ≤ 64
 few s still = still_few s.wait [] s.moment 0 s.front [] s.latest s.held still
 
 -- ---- ready times stay
-pub used_above : (wait : ℕ) (past : List Numbered) (u : Numbered) (n : ℕ) → In u (used wait past) → first_number n past ≤ u.number
-used_above wait [] u n i = absurd i
-used_above wait (e ∷ past) u n i = go (in_time wait e past) refl (used_above wait past u e.number) i
-  where
-    go : (b : Bool) → in_time wait e past ≡ b → (In u (used wait past) → first_number e.number past ≤ u.number) → In u (cond b (by_number e (used wait past)) (used wait past)) → first_number e.number past ≤ u.number
-    go false t ih j = ih j
-    go true t ih j = elim (in_by_number e u (used wait past) j) [
-      | inl s ↦ let l = leb-true (first_number e.number past) e.number (and_parts (nat_le (first_number e.number past) e.number) (not (has_number past e.number) && not (is_given_up wait past e.time e.number)) t).0 in omega (arith, ap (λ (z : Numbered). z.number) s)
-      | inr k ↦ ih k
-    ]
-
 module _ (wait : ℕ) (past : List Numbered) (t first front latest : ℕ) (out held : List Numbered) (h : Holds wait past t first front out held) where
   pub out_above : (u : Numbered) → In u out → first ≤ u.number
   out_above u i =
@@ -106,7 +94,7 @@ module _ (s : State) (past : List Numbered) (given : List Given) (e : Numbered) 
       let put : by_number e s.held ≡ insert s.held place e = put_is e s.held place h.holds.rising p in
       let holds : Holds s.wait (e ∷ past) e.time s.first s.front h.out (insert s.held place e) = subst (λ (us : List Numbered). Holds s.wait (e ∷ past) e.time s.first s.front h.out us) put r.1 in
       let u = few s still in
-      let long : length (insert s.held place e) ≡ suc (length s.held) = ap length (sym put) ∙ length_put e s.held in (
+      let long : length (insert s.held place e) ≡ suc (length s.held) = ap length (sym put) ∙ length_by_number e s.held in (
         r.0,
         record {
           out = h.out;
@@ -118,14 +106,6 @@ module _ (s : State) (past : List Numbered) (given : List Given) (e : Numbered) 
           crowd = λ l n. crowded s.wait past s.moment s.first s.front s.latest h.out s.held h.holds e (insert s.held place e) (waits m still h) holds l n ∙ m;
         },
       )
-    where
-      length_put : (e : Numbered) (xs : List Numbered) → length (by_number e xs) ≡ suc (length xs)
-      length_put e [] = refl
-      length_put e (x ∷ xs) = go (nat_lt e.number x.number) (length_put e xs)
-        where
-          go : (b : Bool) → length (by_number e xs) ≡ suc (length xs) → length (cond b (e ∷ x ∷ xs) (x ∷ by_number e xs)) ≡ suc (suc (length xs))
-          go true q = refl
-          go false q = ap suc q
 
   -- it is the first
   pub start : (place : ℕ) (q : TextPacket) → e.time ≡ s.moment → s.held ≡ [] → s.settled ≡ [] → s.latest ≡ 0 → IsPlace e.number s.held place

@@ -8,15 +8,16 @@ use Rattle.rtt_base.specs.declared.text_packets.TextPacket.{TextPacket}
 use Rattle.stream_spec.specs.Lists.{In}
 use Rattle.stream_spec.specs.Numbering.{Numbered, numbered, has_number, distinct_from, is_given_up}
 use Rattle.stream_spec.specs.Ready.{ready_of}
-use Rattle.stream_spec.proofs.Lists.{in_left, in_right}
-use Rattle.stream_spec.proofs.Holding.{is_cause, cause_from, in_any, in_has, held_in_past}
-use Rattle.stream_spec.proofs.Ends.{settled_law}
+use Rattle.stream_spec.proofs.Lists.{in_left, in_right, in_any}
 use Rattle.gap_tracker.specs.declared.answers.Due.{Due}
 use Rattle.gap_tracker.specs.Stories.{Story, Given, due_at, dues, dues_of, is_due, ready_dues, begun, gave, given_of, ended}
 use Rattle.gap_tracker.specs.States.{State, next_latest, has_ready, has_some, fresh}
 use Rattle.gap_tracker.specs.Tracks.{Holding, Phase, Before, Within, Follows, Tracks}
 use Rattle.gap_tracker.proofs.Settling.{still_front}
 use Rattle.gap_tracker.proofs.Steps.{map_more, later_holding}
+use Rattle.stream_spec.proofs.GivingUp.{is_cause, cause_from, in_has}
+use Rattle.gap_tracker.proofs.Keeping.{held_in_past}
+use Rattle.gap_tracker.proofs.Timing.{settled_law}
 
 filter_all : (p : Given → Bool) (f : Numbered → Given) (us : List Numbered) (ys : List Given) → ((u : Numbered) → In u us → p (f u) ≡ true) → filter p (map f us ++ ys) ≡ map f us ++ filter p ys
 filter_all p f [] ys h = refl

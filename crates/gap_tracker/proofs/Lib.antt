@@ -1,3 +1,5 @@
+pub mod Keeping
+pub mod Timing
 pub mod Places
 pub mod Oldest
 pub mod Settling

@@ -4,8 +4,8 @@ use Rattle.std.specs.Prelude.{min}
 use Rattle.stream_spec.specs.Numbering.{Numbered}
 use Rattle.stream_spec.specs.Lists.{In}
 use Rattle.stream_spec.specs.Ready.{least}
-use Rattle.stream_spec.proofs.Ends.{waits_of}
 use Rattle.gap_tracker.specs.States.{oldest_from}
+use Rattle.gap_tracker.proofs.Timing.{waits_of}
 
 oldest_min : (s t : ℕ) (xs : List Numbered) → oldest_from (min s t) xs ≡ min s (oldest_from t xs)
 oldest_min s t [] = refl

@@ -2,9 +2,8 @@
 use Rattle.std.proofs.Common.{◌≡◌, ℕ, zero, suc, ◌+◌, ◌-◌, ◌^◌, ◌<◌, ◌≤◌, ◌⊎◌, true, false, inl, inr, List, [], ◌∷◌, ◌++◌, length, get_or, drop, refl, ap, subst, ◌∙◌, arith}
 use Rattle.std.specs.Prelude.{map, max, insert, Some, ◌==◌}
 use Rattle.std.proofs.lemmas.Bool.{eq-eqb, ne_eqb, lt-ltb, le-ltb, or_left, or_right}
-use Rattle.stream_spec.specs.Numbering.{Numbered, has_number, by_number}
+use Rattle.stream_spec.specs.Numbering.{Numbered, has_number, by_number, RisingNumbers}
 use Rattle.stream_spec.specs.Lists.{In}
-use Rattle.stream_spec.specs.Holding.{RisingNumbers}
 use Rattle.rtt_base.specs.declared.text_packets.TextPacket.{TextPacket}
 use Rattle.gap_tracker.specs.States.{State, AllAbove, IsPlace, next_latest, latest_from, put_at}
 use Rattle.gap_tracker.specs.Views.{numbered_of, settled_of, held_packet, settled_packet, AreSmall}

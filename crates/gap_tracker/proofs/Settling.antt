@@ -4,16 +4,17 @@ use Rattle.std.specs.Prelude.{◌||◌, ◌==◌, nat_lt, nat_le, max}
 use Rattle.std.specs.List.{list_any}
 use Rattle.std.proofs.lemmas.Bool.{true≢false, eqb-true, eqb-false, ltb-true, ltb-false, leb-true, le-leb, or_left, or_right, or_cases, false_from_ne_true}
 use Rattle.std.proofs.lemmas.Bool.Decides.{nat_tests}
-use Rattle.stream_spec.specs.Numbering.{Numbered, has_number, is_given_up, used}
+use Rattle.stream_spec.specs.Numbering.{Numbered, has_number, is_given_up, used, Falling}
 use Rattle.stream_spec.specs.Lists.{In}
-use Rattle.stream_spec.specs.Holding.{Holds, Timed, Falling}
 use Rattle.stream_spec.specs.Ready.{least, end_of, ready_of}
-use Rattle.stream_spec.proofs.Lists.{in_right}
-use Rattle.stream_spec.proofs.Holding.{has_in, in_has, any_in, in_any, come, jump, held_in_past, held_tells, distinct_split, one}
-use Rattle.stream_spec.proofs.Ready.{up_moment, timed_come, timed_jump, least_in}
-use Rattle.stream_spec.proofs.Ends.{end_by_wait, waits_of}
+use Rattle.stream_spec.proofs.Lists.{in_right, any_in, in_any}
+use Rattle.stream_spec.proofs.Ready.{up_moment, least_in}
 use Rattle.gap_tracker.specs.States.{oldest_from, when_by, given_up_at, latest_after, latest_from}
 use Rattle.gap_tracker.proofs.Oldest.{oldest_member, least_is_oldest, waited}
+use Rattle.gap_tracker.specs.Holding.{Holds, Timed}
+use Rattle.stream_spec.proofs.GivingUp.{has_in, in_has, distinct_split, one}
+use Rattle.gap_tracker.proofs.Keeping.{come, jump, held_in_past, held_tells}
+use Rattle.gap_tracker.proofs.Timing.{timed_come, timed_jump, end_by_wait, waits_of}
 
 pub some_is : (m n : ℕ) → Some m ≡ Some n → m ≡ n
 some_is m n e = ap (λ o. unwrap_or o 0) e

@@ -2,14 +2,14 @@
 use Rattle.std.proofs.Common.{◌≡◌, ℕ, suc, ◌+◌, ◌<◌, ◌≤◌, List, [], ◌∷◌, ◌++◌, length, refl, ap, subst, sym, ◌∙◌, arith, append_assoc, length-append, None, Some}
 use Rattle.std.specs.Prelude.{map, max}
 use Rattle.stream_spec.specs.Numbering.{Numbered, numbered}
-use Rattle.stream_spec.specs.Holding.{Holds}
-use Rattle.stream_spec.proofs.Holding.{later}
-use Rattle.stream_spec.proofs.Ready.{timed_later}
 use Rattle.gap_tracker.specs.Stories.{Story, Given, due_at, went}
 use Rattle.gap_tracker.specs.States.{State, latest_from, next_latest, settled_over, settled_first, passed}
 use Rattle.gap_tracker.specs.Tracks.{SameBut, Holding, Phase, Before, Within, Follows, Tracks}
 use Rattle.gap_tracker.proofs.Settling.{settle_step, none_some}
 use Rattle.gap_tracker.proofs.Arriving.{few}
+use Rattle.gap_tracker.specs.Holding.{Holds}
+use Rattle.gap_tracker.proofs.Keeping.{later}
+use Rattle.gap_tracker.proofs.Timing.{timed_later}
 
 pub map_more : (f : Numbered → Given) (xs ys : List Numbered) → map f (xs ++ ys) ≡ map f xs ++ map f ys
 map_more f [] ys = refl

@@ -2,4 +2,5 @@ pub mod Stories
 pub mod States
 pub mod Views
 pub mod Insides
+pub mod Holding
 pub mod Tracks

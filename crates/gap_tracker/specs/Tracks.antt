@@ -1,10 +1,10 @@
 -- What a tracker's state stands for.
 use Rattle.std.specs.Prelude.{◌≡◌, ◌+◌, ◌<◌, ◌≤◌, Bool, List, [], ◌++◌, length, map, None}
-use Rattle.stream_spec.specs.Numbering.{Numbered, numbered, greatest, has_number}
-use Rattle.stream_spec.specs.Holding.{Holds, Timed, Falling}
+use Rattle.stream_spec.specs.Numbering.{Numbered, numbered, greatest, has_number, Falling}
 use Rattle.stream_spec.specs.Ready.{end_of}
 use Rattle.gap_tracker.specs.Stories.{Story, Given, due_at}
 use Rattle.gap_tracker.specs.States.{State, next_latest}
+use Rattle.gap_tracker.specs.Holding.{Holds, Timed}
 
 -- A first packet came, and `given` was given. `out` is what is settled, given or not.
 pub record Holding (s : State) (past : List Numbered) (given : List Given) : Type 0 where

@@ -7,9 +7,8 @@ use Rattle.std.proofs.lemmas.List.Folds.{concat-append}
 use Rattle.rtt_base.specs.declared.text_packets.TextPacket.{TextPacket}
 use Rattle.wire_spec.specs.Packets.{Arrival}
 use Rattle.stream_spec.specs.Lists.{In}
-use Rattle.stream_spec.specs.Numbering.{Numbered, numbered, used}
+use Rattle.stream_spec.specs.Numbering.{Numbered, numbered, used, RisingNumbers}
 use Rattle.stream_spec.specs.Hearing.{heard_by}
-use Rattle.stream_spec.specs.Holding.{RisingNumbers}
 use Rattle.gap_tracker.specs.Stories.{Story, Given, gave, given_of, dues, due_at, ready_dues}
 use Rattle.gap_tracker.specs.Tracks.{Tracks}
 use Rattle.gap_tracker.specs.States.{State, arrivals_of}
@@ -18,7 +17,8 @@ use Rattle.source_receiver.specs.Stands.{Stands, latest_number, used_packet}
 use Rattle.rtt_read.specs.declared.listeners.Listener.{Listener}
 use Rattle.rtt_read.specs.Bare.{bare, all_bare}
 use Rattle.rtt_read.specs.Hears.{Hears, bare_given, given_packets, last_after}
-use Rattle.rtt_read.proofs.Rising.{used_rises, rising_last, length-used}
+use Rattle.stream_spec.proofs.Rising.{used_rises}
+use Rattle.rtt_read.proofs.Rising.{rising_last, length-used}
 
 last_snoc : (last : Option ℕ) (us : List Numbered) (u : Numbered) → last_after last (us ++ u ∷ []) ≡ Some u.number
 last_snoc last [] u = refl

@@ -10,17 +10,17 @@ use Rattle.std.proofs.lemmas.List.Sums.{position_or_len_is, fails_before_first, 
 use Rattle.rtt_base.specs.declared.blocks.TextBlock.{TextBlock}
 use Rattle.rtt_base.specs.declared.text_packets.TextPacket.{TextPacket}
 use Rattle.rtt_base.specs.Stamps.{is_after}
+use Rattle.std.proofs.lemmas.List.{length-map}
 use Rattle.wire_spec.specs.Packets.{redundant, primary_text, back}
 use Rattle.stream_spec.specs.Lists.{In}
-use Rattle.stream_spec.specs.Numbering.{Numbered, has_number}
+use Rattle.stream_spec.specs.Numbering.{Numbered, has_number, RisingNumbers}
 use Rattle.stream_spec.specs.Hearing.{missing, missing_between, missing_before, is_new, older_texts, text_list, marker, oldest_offset, first_of, before_it, adds_marker, adds_texts, heard_by}
-use Rattle.stream_spec.specs.Holding.{RisingNumbers}
 use Rattle.stream_spec.proofs.Lists.{in_append, in_right}
 use Rattle.stream_spec.proofs.Taking.{heard_by_more, missing_after, last_is, none_is, last_stays, last_now}
 use Rattle.source_receiver.specs.declared.receivers.Seen.{Seen}
 use Rattle.source_receiver.specs.declared.receivers.Listed.{Listed}
 use Rattle.source_receiver.specs.declared.receivers.Receiver.{Receiver}
-use Rattle.source_receiver.specs.Stands.{Stands, latest_number, IsCount, IsSeen, first_from, used_packet, when_at}
+use Rattle.source_receiver.specs.Stands.{Stands, IsCount, IsSeen, first_from, used_packet, when_at}
 use Rattle.source_receiver.specs.Steps as steps
 use Rattle.source_receiver.specs.Steps.{missing_up_to, missing_then, is_new_since, is_marked_since, older_since, texts_since}
 
@@ -31,16 +31,6 @@ above_all [] latest missing number k f u i = absurd i
 above_all (v ∷ us) latest missing number k f u i = let l = f k.0 k.1 in let m = k.3 u i in omega arith
 
 -- a number above all is above the latest
-pub above_latest : (r : Receiver) (sources : List ℕ) (us : List Numbered) (number : ℕ) → Stands r sources us → ((u : Numbered) → In u us → u.number < number) → ForSome (latest_number r) (λ l. l < number)
-above_latest r sources us number s f = go us r.latest r.missing s.count f
-  where
-    go : (us : List Numbered) (latest : Option ℕ) (missing : ℕ) → IsCount us latest missing → ((u : Numbered) → In u us → u.number < number) → ForSome latest (λ l. l < number)
-    go [] latest missing k f l e = cc (sym k.0 ∙ e)
-    go (v ∷ us) latest missing k f l e =
-        let same : k.0 ≡ l = cc (sym k.1 ∙ e) in
-        let h = f k.4.it k.4.is_in in
-        omega (arith, same, k.4.number)
-
 count_next : (us : List Numbered) (latest : Option ℕ) (missing number : ℕ) (b : Numbered) → b.number ≡ number → IsCount us latest missing → ForSome latest (λ l. l < number)
     → IsCount (us ++ b ∷ []) (Some number) (steps.missing_before missing latest number)
 count_next [] None missing number b e k f =
@@ -143,12 +133,8 @@ prefix_map : (s : ℕ) (items : List Listed) → prefix_len (λ l. not (l.source
 prefix_map s [] = refl
 prefix_map s (l ∷ items) = ap (λ n. cond (not (l.source == s)) (1 + n) 0) (prefix_map s items)
 
-length_map : (items : List Listed) → length (map (λ (l : Listed). l.source) items) ≡ length items
-length_map [] = refl
-length_map (l ∷ items) = ap suc (length_map items)
-
 pub place_map : (s : ℕ) (items : List Listed) → position (λ l. l.source == s) items ≡ position (λ n. n == s) (map (λ l. l.source) items)
-place_map s items = rw (prefix_map s items, length_map items) refl
+place_map s items = rw (prefix_map s items, length-map items (λ (l : Listed). l.source)) refl
 
 -- the place of a source
 pub record IsPlace (s : ℕ) (xs : List ℕ) (k : ℕ) : Type 0 where
@@ -254,7 +240,7 @@ module _ (r next : Receiver) (sources : List ℕ) (us : List Numbered) (time num
         let j : In l r.listed.items = subst (λ v. In l v.items) k.listed i in
         let at = place_in r.listed.items l j in
         let same : get_or sources at.0 0 ≡ l.source = sym (ap (λ xs. get_or xs at.0 0) s.listed) ∙ at.2 in
-        let n : length sources ≡ length r.listed.items = sym (ap length s.listed) ∙ length_map r.listed.items in
+        let n : length sources ≡ length r.listed.items = sym (ap length s.listed) ∙ length-map r.listed.items (λ (l : Listed). l.source) in
         seen_other us (used_packet time number p) l.source l.seen (λ q. place_none p.source sources at.0 none (omega (arith, at.1, n)) (same ∙ sym q)) (s.seen l j);
   }
 
@@ -275,7 +261,7 @@ module _ (r next : Receiver) (sources : List ℕ) (us : List Numbered) (time num
       let q : position (λ n. n == p.source) sources ≡ Some place =
       ap (position (λ n. n == p.source)) (sym s.listed) ∙ (sym (place_map p.source r.listed.items) ∙ (ap (λ v. position (λ (x : Listed). x.source == p.source) v.items) (sym k.listed) ∙ e)) in
       let w = place_some p.source sources place q in
-      let n : length sources ≡ length r.listed.items = sym (ap length s.listed) ∙ length_map r.listed.items in
+      let n : length sources ≡ length r.listed.items = sym (ap length s.listed) ∙ length-map r.listed.items (λ (l : Listed). l.source) in
       let here : l ≡ get_or r.listed.items place l = at ∙ ap (λ v. get_or v.items place l) k.listed in
       let inside : place < length r.listed.items = omega (arith, w.within, n) in
       record {
@@ -302,7 +288,7 @@ module _ (r next : Receiver) (sources : List ℕ) (us : List Numbered) (time num
       | inl w ↦ subst (λ (z : Listed). IsSeen (us ++ used_packet time number p ∷ []) z.source z.seen) (sym w)
           (subst (IsSeen (us ++ used_packet time number p ∷ []) x.source) (sym n) (seen_own us (used_packet time number p) x.source next.missing p.stamp (sym (q ∙ t.own)) refl count))
       | inr w ↦
-          let n2 : length sources ≡ length r.listed.items = sym (ap length s.listed) ∙ length_map r.listed.items in
+          let n2 : length sources ≡ length r.listed.items = sym (ap length s.listed) ∙ length-map r.listed.items (λ (l : Listed). l.source) in
           let there = place_some p.source sources place t.position_is in
           let here : get_or sources w.1.0 0 ≡ y.source = sym (ap (λ xs. get_or xs w.1.0 0) s.listed) ∙ w.1.3 in
           seen_other us (used_packet time number p) y.source y.seen (λ z. apart w.1.0 place (omega (arith, w.1.1, n2)) there.within w.1.2 (here ∙ (sym z ∙ sym there.is))) (s.seen y w.0)

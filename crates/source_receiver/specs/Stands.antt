@@ -4,9 +4,8 @@ use Rattle.std.specs.List.{concat}
 use Rattle.rtt_base.specs.declared.text_packets.TextPacket.{TextPacket}
 use Rattle.wire_spec.specs.Packets.{packet_of}
 use Rattle.stream_spec.specs.Lists.{In}
-use Rattle.stream_spec.specs.Numbering.{Numbered}
+use Rattle.stream_spec.specs.Numbering.{Numbered, RisingNumbers}
 use Rattle.stream_spec.specs.Hearing.{IsLastOf, marker}
-use Rattle.stream_spec.specs.Holding.{RisingNumbers}
 use Rattle.source_receiver.specs.declared.receivers.Receiver.{Receiver}
 use Rattle.source_receiver.specs.declared.receivers.Listed.{Listed}
 use Rattle.source_receiver.specs.declared.receivers.Seen.{Seen}

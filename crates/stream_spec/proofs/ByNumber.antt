@@ -4,13 +4,15 @@ use Rattle.std.specs.Prelude.{◌||◌, ◌==◌, filter, map, if◌then◌else�
 use Rattle.std.proofs.lemmas.Bool.{eqb-true}
 use Rattle.rtt_base.specs.declared.blocks.TextBlock.{TextBlock}
 use Rattle.stream_spec.specs.Ready.{Chunk}
+use Rattle.std.proofs.lemmas.List.Elements.{filter-append}
 use Rattle.wire_spec.specs.Packets.{Arrival, back}
 use Rattle.stream_spec.specs.Lists.{In}
 use Rattle.stream_spec.specs.Numbering.{Numbered, numbered, number_it, used, first_number, has_number}
 use Rattle.stream_spec.specs.Hearing.{heard_by, last_of, adds_marker, adds_texts, marker, piece, is_packet_of, is_marked, is_new, older_texts, text_list}
 use Rattle.stream_spec.specs.Ready.{chunk, chunks_over, chunks, ready_of}
 use Rattle.stream_spec.specs.ChunksBy.{stamped, used_ready, chunks_from, chunks_by, chunks_added}
-use Rattle.stream_spec.proofs.Taking.{Headed, used_headed, piece_same, filter_last, has_more, filter_in_list}
+use Rattle.stream_spec.proofs.Lists.{in_filter}
+use Rattle.stream_spec.proofs.Taking.{Headed, used_headed, piece_same, has_more}
 use Rattle.stream_spec.proofs.ChunkTexts.{over_texts}
 
 -- ---- one more packet
@@ -29,11 +31,11 @@ over_last place f first prev (u ∷ us) b = ap (λ ts. map (chunk place u.time) 
 
 from_more : (place first s : ℕ) (us : List Numbered) (b : Numbered) → ((u : Numbered) → In u us → u.number < b.number)
     → chunks_from place first s (us ++ b ∷ []) ≡ chunks_from place first s us ++ (if b.packet.source == s then map (chunk place b.time) (piece (has_number us) first (last_of None (filter (is_packet_of s) us)) b) else [])
-from_more place first s us b above = rw (filter_last (is_packet_of s) us b) (go (b.packet.source == s))
+from_more place first s us b above = rw (filter-append (is_packet_of s) us (b ∷ [])) (go (b.packet.source == s))
   where
     same : chunks_over at_time place (has_number (us ++ b ∷ [])) first None (filter (is_packet_of s) us) ≡ chunks_from place first s us
     same = over_same place (has_number (us ++ b ∷ [])) (has_number us) first None (filter (is_packet_of s) us) b.number
-        (λ u i. let l = above u (filter_in_list (is_packet_of s) us u i) in omega arith) (λ k l. has_more us b k l)
+        (λ u i. let l = above u (in_filter (is_packet_of s) u us i).0 in omega arith) (λ k l. has_more us b k l)
 
     go : (t : Bool) → chunks_over at_time place (has_number (us ++ b ∷ [])) first None (filter (is_packet_of s) us ++ (if t then b ∷ [] else []))
         ≡ chunks_from place first s us ++ (if t then map (chunk place b.time) (piece (has_number us) first (last_of None (filter (is_packet_of s) us)) b) else [])

@@ -1,21 +1,16 @@
 -- The texts of the chunks are what is heard, and their moments never fall.
-use Rattle.std.proofs.Common.{◌≡◌, ℕ, zero, suc, ◌+◌, ◌-◌, ◌<◌, ◌≤◌, Bool, true, false, cond, not, inl, inr, Option, Some, None, List, [], ◌∷◌, ◌++◌, refl, ap, sym, ◌∙◌, arith}
-use Rattle.std.specs.Prelude.{map, filter, ◌&&◌, nat_le, nat_lt}
-use Rattle.std.proofs.lemmas.Bool.{cases_lt, true≢false, ltb-true, ltb-false, and_parts, not-true}
+use Rattle.std.proofs.Common.{◌≡◌, ℕ, zero, suc, ◌+◌, ◌-◌, ◌<◌, ◌≤◌, Bool, inl, inr, Option, Some, None, List, [], ◌∷◌, ◌++◌, refl, ap, ◌∙◌, arith}
+use Rattle.std.specs.Prelude.{map, filter}
+use Rattle.std.proofs.lemmas.Bool.{cases_lt}
+use Rattle.std.proofs.lemmas.List.{map-append}
 use Rattle.wire_spec.specs.Packets.{Arrival}
 use Rattle.stream_spec.specs.Lists.{In}
-use Rattle.stream_spec.specs.Numbering.{Numbered, numbered, used, in_time, by_number, has_number, first_number, is_given_up}
+use Rattle.stream_spec.specs.Numbering.{Numbered, RisingNumbers, Falling, numbered, used, has_number, first_number}
 use Rattle.stream_spec.specs.Hearing.{piece, heard_over, heard, is_packet_of}
-use Rattle.stream_spec.specs.Holding.{RisingNumbers, Falling}
 use Rattle.stream_spec.specs.Ready.{Chunk, chunk, chunks_over, chunks, ready_of, last_end, ReadyRises}
 use Rattle.stream_spec.proofs.Lists.{in_append, in_filter}
-use Rattle.stream_spec.proofs.Matched.{in_by_number, used_in, has_number_of}
+use Rattle.stream_spec.proofs.Rising.{used_rises, used_above, rising_filter}
 use Rattle.stream_spec.proofs.Ready.{end_used}
-use Rattle.stream_spec.proofs.Ends.{used_above}
-
-map_append : (xs ys : List Chunk) → map (λ (c : Chunk). c.text) (xs ++ ys) ≡ map (λ (c : Chunk). c.text) xs ++ map (λ (c : Chunk). c.text) ys
-map_append [] ys = refl
-map_append (x ∷ xs) ys = ap (λ ts. x.text ∷ ts) (map_append xs ys)
 
 texts_back : (place ready : ℕ) (ts : List (List ℕ)) → map (λ (c : Chunk). c.text) (map (chunk place ready) ts) ≡ ts
 texts_back place ready [] = refl
@@ -25,45 +20,13 @@ pub over_texts : (ready : Numbered → ℕ) (place : ℕ) (present : ℕ → Boo
     → map (λ (c : Chunk). c.text) (chunks_over ready place present first prev us) ≡ heard_over present first prev us
 over_texts ready place present first prev [] = refl
 over_texts ready place present first prev (u ∷ us) =
-    map_append (map (chunk place (ready u)) (piece present first prev u)) (chunks_over ready place present first (Some u) us)
+    map-append (λ (c : Chunk). c.text) (map (chunk place (ready u)) (piece present first prev u)) (chunks_over ready place present first (Some u) us)
     ∙ (ap (λ ts. ts ++ map (λ (c : Chunk). c.text) (chunks_over ready place present first (Some u) us)) (texts_back place (ready u) (piece present first prev u))
     ∙ ap (λ ts. piece present first prev u ++ ts) (over_texts ready place present first (Some u) us))
 
 pub chunk_texts : (wait place : ℕ) (a : List Arrival) (s : ℕ) → map (λ (c : Chunk). c.text) (chunks wait place a s) ≡ heard wait a s
 chunk_texts wait place a s =
     over_texts (ready_of wait (numbered a)) place (has_number (used wait (numbered a))) (first_number 0 (numbered a)) None (filter (is_packet_of s) (used wait (numbered a)))
-
--- ---- used packets rise
-rising_put : (x : Numbered) (xs : List Numbered) → RisingNumbers xs → ((y : Numbered) → In y xs → y.number ≡ x.number → ⊥) → RisingNumbers (by_number x xs)
-rising_put x [] r f = ((λ y i. absurd i), tt)
-rising_put x (z ∷ xs) r f = go (nat_lt x.number z.number) refl (rising_put x xs r.1 (λ y i. f y (inr i)))
-  where
-    go : (t : Bool) → nat_lt x.number z.number ≡ t → RisingNumbers (by_number x xs) → RisingNumbers (cond t (x ∷ z ∷ xs) (z ∷ by_number x xs))
-    go true e q = let l = ltb-true x.number z.number e in ((λ y i. elim i [ inl s ↦ omega (arith, ap (λ (w : Numbered). w.number) s) | inr j ↦ let u = r.0 y j in omega arith ]), (r.0, r.1))
-    go false e q = let g = ltb-false x.number z.number e in
-        ((λ y i. elim (in_by_number x y xs i) [ inl s ↦ let n = f z (inl refl) in omega (arith, ap (λ (w : Numbered). w.number) s) | inr j ↦ r.0 y j ]), q)
-
-new_number : (wait : ℕ) (e : Numbered) (past : List Numbered) → in_time wait e past ≡ true → (y : Numbered) → In y past → y.number ≡ e.number → ⊥
-new_number wait e past t y i same =
-    let parts = and_parts (nat_le (first_number e.number past) e.number) (not (has_number past e.number) && not (is_given_up wait past e.time e.number)) t in
-    let fresh = (and_parts (not (has_number past e.number)) (not (is_given_up wait past e.time e.number)) parts.1).0 in
-    true≢false (sym (has_number_of y past i) ∙ (ap (has_number past) same ∙ not-true (has_number past e.number) fresh))
-
-pub used_rises : (wait : ℕ) (past : List Numbered) → RisingNumbers (used wait past)
-used_rises wait [] = tt
-used_rises wait (e ∷ past) = go (in_time wait e past) refl (used_rises wait past)
-  where
-    go : (t : Bool) → in_time wait e past ≡ t → RisingNumbers (used wait past) → RisingNumbers (cond t (by_number e (used wait past)) (used wait past))
-    go true q r = rising_put e (used wait past) r (λ y i. new_number wait e past q y (used_in wait past y i))
-    go false q r = r
-
-rising_filter : (p : Numbered → Bool) (us : List Numbered) → RisingNumbers us → RisingNumbers (filter p us)
-rising_filter p [] r = tt
-rising_filter p (u ∷ us) r = go (p u) (rising_filter p us r.1)
-  where
-    go : (b : Bool) → RisingNumbers (filter p us) → RisingNumbers (cond b (u ∷ filter p us) (filter p us))
-    go true q = ((λ y i. r.0 y (in_filter p y us i).0), q)
-    go false q = q
 
 -- ---- ready times
 last_up : (wait : ℕ) (past : List Numbered) (lo k l : ℕ) → k ≤ l → last_end wait past lo k ≤ last_end wait past lo l

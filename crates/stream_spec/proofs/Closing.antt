@@ -13,7 +13,7 @@ use Rattle.stream_spec.specs.Own.{Sent, Stream, Closed, sent_of, nth, has_text_i
 use Rattle.stream_spec.specs.Typed.{is_end, last_end}
 use Rattle.stream_spec.proofs.Lists.{in_right}
 use Rattle.stream_spec.proofs.Grows.{placed_grown, split}
-use Rattle.stream_spec.proofs.Sent.{the_last, sent_count, length_sent, was_sent, last_packet}
+use Rattle.stream_spec.proofs.Sent.{the_last, sent_count, length_sent, was_sent, last_packet, nth_in, text_in}
 
 -- an entry stands so far behind the last one of its source
 pub record Behind (c : Stream) (past : List Sent) (x : Placed) : Type 0 where
@@ -52,16 +52,6 @@ behind c (e ∷ past) x i = elim (split (sent_history c past) (entry_after c.gen
   | inr q ↦ subst (Behind c (e ∷ past)) (sym q) (the_last_one c past e)
 ]
 
-or_true : (b : Bool) → (b || true) ≡ true
-or_true true = refl
-or_true false = refl
-
-text_in : (g k : ℕ) (zs : List Sent) (z : Sent) → nth k zs ≡ Some z → k < g → has_text z.text ≡ true → has_text_in g zs ≡ true
-text_in g k [] z e l h = cc e
-text_in zero k (y ∷ zs) z e l h = absurd (omega arith)
-text_in (suc g) zero (y ∷ zs) z e l h = let t : has_text y.text ≡ true = (let q : y ≡ z = cc e in ap (λ (x : Sent). has_text x.text) q ∙ h) in rw t refl
-text_in (suc g) (suc k) (y ∷ zs) z e l h = rw (text_in g k zs z e (omega arith) h) (or_true (has_text y.text))
-
 -- where no source has text left to be repeated
 pub sent_closed : (c : Stream) (past : List Sent) → ((z : Sent) → In z past → has_text_in c.gens (sent_of z.source past) ≡ false) → Closed c.gens (sent_history c past)
 sent_closed c past none = λ x i h.
@@ -70,7 +60,7 @@ sent_closed c past none = λ x i h.
     let quiet : has_text_in c.gens (sent_of x.source past) ≡ false = ap (λ s. has_text_in c.gens (sent_of s past)) w.source ∙ none w.sent_one w.is_in in
     let n = sent_count c.gens x.source past in
     elim (cases_lt (length (sent_of x.source past) - suc x.index) c.gens) [
-      | inl lt ↦ absurd (false≢true (sym quiet ∙ text_in c.gens (length (sent_of x.source past) - suc x.index) (sent_of x.source past) r.one r.is lt (ap has_text (sym r.text) ∙ h)))
+      | inl lt ↦ absurd (false≢true (sym quiet ∙ text_in c.gens (sent_of x.source past) r.one (nth_in (length (sent_of x.source past) - suc x.index) c.gens (sent_of x.source past) r.one r.is lt) (ap has_text (sym r.text) ∙ h)))
       | inr ge ↦ omega (arith, n, r.within)
     ]
 

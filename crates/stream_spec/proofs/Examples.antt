@@ -1,6 +1,6 @@
 -- The definitions computed on examples: packets as they stand on the wire, what is heard of them, and what the places
 -- that came tell.
-use Rattle.std.proofs.Common.{◌≡◌, ℕ, suc, ◌+◌, ◌^◌, ◌≤◌, ◌<◌, Bool, true, false, not, inl, inr, List, [], ◌∷◌, length, take, refl, ap, sym, ◌∙◌, lit≤, lit<}
+use Rattle.std.proofs.Common.{◌≡◌, ℕ, suc, ◌+◌, ◌^◌, ◌≤◌, ◌<◌, Bool, true, false, not, inl, inr, List, [], ◌∷◌, length, take, refl, ap, sym, ◌∙◌, arith, lit≤, lit<}
 use Rattle.std.specs.Prelude.{map, zero, ◌==◌, ◌&&◌, ◌||◌, nat_lt, nat_le, if◌then◌else◌, IsUtf8}
 use Rattle.std.specs.Str.{IsAscii}
 use Rattle.std.proofs.lemmas.Str.{IsUtf8-from_ascii}
@@ -11,14 +11,15 @@ use Rattle.wire_spec.specs.Packets.{Packet, Arrival, has_text}
 use Rattle.stream_spec.specs.Lists.{In}
 use Rattle.stream_spec.specs.Numbering.{Numbered, numbered, in_time, used}
 use Rattle.stream_spec.specs.Hearing.{heard, marker}
-use Rattle.stream_spec.specs.Ready.{chunks, chunk}
-use Rattle.stream_spec.specs.History.{History, Placed, Lawful, Come, placed, places}
+use Rattle.stream_spec.specs.Ready.{Chunk, chunks, chunk}
+use Rattle.stream_spec.specs.History.{History, Placed, Lawful, Come, IsNear, placed, places}
 use Rattle.stream_spec.specs.Kept.{kept, texts}
 use Rattle.stream_spec.specs.Carries.{Carries}
 use Rattle.stream_spec.specs.Own.{Closed, Sent, Stream, own_packet, sent_history, packet_after, history_of, sent_of, MaySend, Sendable}
 use Rattle.stream_spec.proofs.Walks.{l1}
 use Rattle.stream_spec.proofs.OwnPackets.{own_come}
-use Rattle.stream_spec.proofs.Sent.{sent_lawful, sent_own, sent_closed}
+use Rattle.stream_spec.proofs.Sent.{sent_lawful, sent_own}
+use Rattle.stream_spec.proofs.Closing.{sent_closed}
 
 abbrev block : ℕ → List ℕ → TextBlock
 block o t = record { offset = o; text = t }
@@ -129,6 +130,24 @@ time_never_falls = refl
 ready_with_the_gap : chunks 1000 3 (at 900 (p3 3) ∷ at 0 (p0 0) ∷ []) 1001 ≡ chunk 3 0 A ∷ chunk 3 1900 B ∷ chunk 3 1900 C ∷ chunk 3 1900 D ∷ []
 ready_with_the_gap = refl
 
+-- just in time, and given up
+ready_at_1299 : chunks 1000 3 (late_by 1299) 1001 ≡ chunk 3 0 A ∷ chunk 3 1299 B ∷ chunk 3 1299 C ∷ []
+ready_at_1299 = refl
+
+ready_at_1300 : chunks 1000 3 (late_by 1300) 1001 ≡ chunk 3 0 A ∷ chunk 3 1300 marker ∷ chunk 3 1300 C ∷ []
+ready_at_1300 = refl
+
+-- the number 8 is missing: 64 greater ones wait for it, and with the 65th all are ready
+abbrev ready_times : ℕ → ℕ → List Chunk
+ready_times zero t = []
+ready_times (suc k) t = chunk 3 t C ∷ ready_times k t
+
+ready_after_sixty_four : chunks 1000 3 (later 64) 1001 ≡ chunk 3 0 A ∷ chunk 3 1001 marker ∷ ready_times 64 1001
+ready_after_sixty_four = refl
+
+ready_after_sixty_five : chunks 1000 3 (later 65) 1001 ≡ chunk 3 0 A ∷ chunk 3 65 marker ∷ ready_times 65 65
+ready_after_sixty_five = refl
+
 -- ---- what is sent
 abbrev c : Stream
 c = record { ssrc = 1001; first = 0; base = 0; gens = 2 }
@@ -144,6 +163,28 @@ own_packets = refl
 
 last_packet : packet_after c (sent 1200 [] ∷ sent 900 D ∷ sent 600 C ∷ sent 300 B ∷ sent 0 A ∷ []) (sent 1500 []) ≡ p5 5
 last_packet = refl
+
+-- A, B and then nothing, in packets that repeat none, one or three
+abbrev with_gens : ℕ → Stream
+with_gens g = record { ssrc = 1001; first = 0; base = 0; gens = g }
+
+abbrev three_sent : List Sent
+three_sent = sent 600 [] ∷ sent 300 B ∷ sent 0 A ∷ []
+
+abbrev packets_of : ℕ → List Packet
+packets_of g = map (own_packet (sent_history (with_gens g) three_sent)) (placed (sent_history (with_gens g) three_sent))
+
+no_generation : packets_of 0 ≡ red true 0 0 [] A ∷ red false 1 300 [] B ∷ red false 2 600 [] [] ∷ []
+no_generation = refl
+
+one_generation : packets_of 1 ≡ red true 0 0 (block 16383 [] ∷ []) A ∷ red false 1 300 (block 300 A ∷ []) B ∷ red false 2 600 (block 300 B ∷ []) [] ∷ []
+one_generation = refl
+
+three_generations : packets_of 3 ≡
+    red true 0 0 (block 16383 [] ∷ block 16383 [] ∷ block 16383 [] ∷ []) A
+    ∷ red false 1 300 (block 16383 [] ∷ block 16383 [] ∷ block 300 A ∷ []) B
+    ∷ red false 2 600 (block 16383 [] ∷ block 600 A ∷ block 300 B ∷ []) [] ∷ []
+three_generations = refl
 
 read_back : history_of (p0 0 ∷ p1 1 ∷ p2 2 ∷ p3 3 ∷ p4 4 ∷ p5 5 ∷ []) 0 ≡ sent_history c six
 read_back = refl
@@ -301,7 +342,27 @@ law_applies = l1 1000 (sent_history c six) six_lawful (at 1200 (p4 4) ∷ at 0 (
 
 -- each text was repeated twice
 six_closed : Closed 2 (sent_history c six)
-six_closed = sent_closed c six (λ s. elim (cases_Bool (1001 == s)) [ inl t ↦ rw t refl | inr f ↦ rw f refl ])
+six_closed = sent_closed c six (λ z i. elim (cases_Bool (1001 == z.source)) [ inl t ↦ rw t refl | inr f ↦ rw f refl ])
+
+-- B was repeated once
+abbrev repeated_once : History
+repeated_once = sent_history c (sent 600 [] ∷ sent 300 B ∷ sent 0 A ∷ [])
+
+not_closed : Closed 2 repeated_once → ⊥
+not_closed f = absurd (below (f (record { place = 1; index = 1; source = 1001; media = 300; text = B; gens = 2; reach = 16383 }) (inr (inl refl)) refl))
+  where
+    below : 3 < 3 → ⊥
+    below l = omega arith
+
+-- a place is near the first at 32767, and is not at 32768
+near_at_32767 : IsNear (sent_history c six) 32767 (at 0 (p0 0) ∷ [])
+near_at_32767 = (lit≤ tt, lit≤ tt)
+
+far_at_32768 : IsNear (sent_history c six) 32768 (at 0 (p0 0) ∷ []) → ⊥
+far_at_32768 n = beyond n.0
+  where
+    beyond : 32768 ≤ 32767 → ⊥
+    beyond l = omega arith
 
 -- two texts are carried by one entry
 two_carried : Carries (sent_history c (sent 300 [] ∷ sent 0 (65 ∷ 66 ∷ []) ∷ [])) 1001 (A ∷ B ∷ [])

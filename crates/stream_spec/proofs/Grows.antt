@@ -3,9 +3,9 @@ use Rattle.std.proofs.Common.{◌^◌, ◌⊎◌, ◌≤◌, ◌≡◌, ℕ, zer
 use Rattle.std.specs.Prelude.{filter, ◌*◌, ◌&&◌, ◌==◌, nat_lt, nat_le, IsUtf8, if◌then◌else◌}
 use Rattle.std.specs.List.{concat}
 use Rattle.std.proofs.lemmas.Bool.{cases_Bool, cases_lt, eqb-true, eq-eqb, le-ltb, lt-ltb, le-leb, lt-leb, and_left, and_right}
-use Rattle.wire_spec.specs.Packets.{Packet, has_text}
+use Rattle.wire_spec.specs.Packets.{has_text}
 use Rattle.stream_spec.specs.Lists.{In}
-use Rattle.stream_spec.specs.History.{Lawful, ReachFits, octets, texts_of, History, Entry, Placed, sent_by, placed_at, placed_after, placed, low, before, window, IsPacket}
+use Rattle.stream_spec.specs.History.{Lawful, ReachFits, octets, texts_of, History, Entry, Placed, sent_by, placed_at, placed_after, placed, low, before, window}
 use Rattle.stream_spec.specs.Kept.{is_entry_of}
 use Rattle.stream_spec.proofs.Lists.{in_append, filter_in}
 use Rattle.stream_spec.proofs.Places.{one_more_own}
@@ -65,19 +65,6 @@ before_grown h e m x i = rw (placed_grown h e) (filter_snoc (λ (y : Placed). (y
 
 pub window_grown : (h : History) (e : Entry) (x : Placed) → In x (placed h) → window (grown h e) x ≡ window h x
 window_grown h e x i = before_grown h e x.gens x i
-
--- a packet of an entry stays one
-pub packet_grown : (h : History) (e : Entry) (x : Placed) (p : Packet) → In x (placed h) → IsPacket h x p → IsPacket (grown h e) x p
-packet_grown h e x p i is = record {
-  seq = is.seq;
-  stamp = is.stamp;
-  ssrc = is.ssrc;
-  source = is.source;
-  primary = is.primary;
-  count = is.count;
-  older = rw (window_grown h e x i) is.older;
-  oldest = is.oldest;
-}
 
 -- ---- the window of the last entry: the last `gens` entries of its source
 abbrev pub own : History → ℕ → List Placed

@@ -5,10 +5,10 @@ pub mod Blocks
 pub mod Gaps
 pub mod Matched
 pub mod Walks
-pub mod Holding
+pub mod GivingUp
+pub mod Rising
 pub mod Ready
 pub mod Grows
-pub mod Ends
 pub mod Taking
 pub mod Examples
 pub mod OwnPackets
@@ -19,3 +19,5 @@ pub mod ReadBack
 pub mod ChunkTexts
 pub mod ByNumber
 pub mod Closing
+pub mod InTime
+pub mod Falls

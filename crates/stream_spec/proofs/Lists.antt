@@ -1,7 +1,8 @@
 -- Members of lists.
 use Rattle.std.proofs.Common.{◌≡◌, Bool, true, false, cond, ◌⊎◌, inl, inr, List, [], ◌∷◌, ◌++◌, refl, ap, sym, ◌∙◌}
 use Rattle.std.specs.Prelude.{filter}
-use Rattle.std.proofs.lemmas.Bool.{true≢false}
+use Rattle.std.specs.List.{list_any}
+use Rattle.std.proofs.lemmas.Bool.{true≢false, or_cases, or_left, or_right}
 use Rattle.stream_spec.specs.Lists.{In}
 
 pub in_left : {X : Type 0} (x : X) (xs ys : List X) → In x xs → In x (xs ++ ys)
@@ -44,3 +45,13 @@ in_when false x y i = absurd i
 pub when_in : {X : Type 0} (b : Bool) (x y : X) → b ≡ true → x ≡ y → In x (cond b (y ∷ []) [])
 when_in true x y e p = inl p
 when_in false x y e p = absurd (true≢false (sym e))
+
+-- ---- tests on lists
+pub any_in : {X : Type 0} (p : X → Bool) (xs : List X) → list_any p xs ≡ true → (x : X) × In x xs × (p x ≡ true)
+any_in p [] h = absurd (true≢false (sym h))
+any_in p (y ∷ xs) h = elim (or_cases (p y) (list_any p xs) h) [ inl t ↦ (y, inl refl, t) | inr t ↦ let r = any_in p xs t in (r.0, inr r.1, r.2) ]
+
+pub in_any : {X : Type 0} (p : X → Bool) (xs : List X) (x : X) → In x xs → p x ≡ true → list_any p xs ≡ true
+in_any p [] x i h = absurd i
+in_any p (y ∷ xs) x (inl e) h = or_left (p y) (list_any p xs) (sym (ap p e) ∙ h)
+in_any p (y ∷ xs) x (inr i) h = or_right (p y) (list_any p xs) (in_any p xs x i h)

@@ -1,7 +1,7 @@
 -- What was used stands beside the places that it came from.
 use Rattle.std.proofs.Common.{◌≡◌, ℕ, ◌+◌, ◌%◌, ◌≤◌, Bool, true, false, cond, not, ◌⊎◌, inl, inr, List, [], ◌∷◌, refl, ap, subst, sym, ◌∙◌, arith}
-use Rattle.std.specs.Prelude.{◌&&◌, ◌==◌, nat_lt, nat_le, max}
-use Rattle.std.proofs.lemmas.Bool.{true≢false, eq-eqb, ltb-true, ltb-false, and_parts, or_right, not-true}
+use Rattle.std.specs.Prelude.{◌&&◌, nat_lt, nat_le, max}
+use Rattle.std.proofs.lemmas.Bool.{true≢false, ltb-true, ltb-false, and_parts, not-true}
 use Rattle.std.proofs.lemmas.Bool.Decides.{nat_tests}
 use Rattle.wire_spec.specs.Packets.{Arrival}
 use Rattle.stream_spec.specs.Numbering.{number_it, Numbered, greatest, number_after, numbered, first_number, has_number, in_time, by_number, used, is_given_up}
@@ -9,6 +9,7 @@ use Rattle.std.specs.List.{AllZip}
 use Rattle.stream_spec.specs.Lists.{In}
 use Rattle.stream_spec.specs.History.{History, Placed, placed, IsPacket, Come, entry_of, top_place, by_place, places}
 use Rattle.stream_spec.specs.Kept.{Rising}
+use Rattle.stream_spec.proofs.GivingUp.{in_has}
 use Rattle.stream_spec.proofs.Stamps.{nearest_place}
 
 -- the number of a packet is its place, moved by a fixed amount
@@ -136,11 +137,6 @@ used_in wait (e ∷ past) u i = go (in_time wait e past) (used_in wait past u) i
     go true f j = elim (in_by_number e u (used wait past) j) [ inl s ↦ inl s | inr k ↦ inr (f k) ]
     go false f j = inr (f j)
 
-pub has_number_of : (u : Numbered) (past : List Numbered) → In u past → has_number past u.number ≡ true
-has_number_of u [] i = absurd i
-has_number_of u (e ∷ past) (inl s) = rw (eq-eqb e.number u.number (ap (λ (w : Numbered). w.number) (sym s)))
-has_number_of u (e ∷ past) (inr i) = or_right (e.number == u.number) (has_number past u.number) (has_number_of u past i)
-
 -- the partner of a place
 partner : (h : History) (p d : ℕ) (us : List Numbered) (xs : List Placed) (x : Placed) → AllZip (Matches h p d) us xs → In x xs → (u : Numbered) × In u us × Matches h p d u x
 partner h p d [] [] x q i = absurd i
@@ -164,7 +160,7 @@ places_rise wait h p d (a ∷ before) f c = go (in_time wait (number_it (numbere
         let r = and_parts (not (has_number (numbered before) n)) (not (is_given_up wait (numbered before) a.time n)) q.1 in
         let w = partner h p d (used wait (numbered before)) (places wait h before) y (matched wait h p d before (earlier before f) c.3) i in
         let same : w.0.number ≡ n = omega (arith, w.2.number, e, (counted h p d a before f c).here) in
-        true≢false (sym (has_number_of w.0 (numbered before) (used_in wait (numbered before) w.0 w.1)) ∙ (ap (has_number (numbered before)) same ∙ not-true (has_number (numbered before) n) r.0))
+        true≢false (sym (in_has n (numbered before) w.0 (used_in wait (numbered before) w.0 w.1) same) ∙ not-true (has_number (numbered before) n) r.0)
 
     go : (t : Bool) → in_time wait (number_it (numbered before) a) (numbered before) ≡ t → Rising (places wait h before)
         → Rising (cond t (by_place (entry_of h a.packet) (places wait h before)) (places wait h before))

@@ -3,6 +3,7 @@ use Rattle.std.proofs.Common.{◌≡◌, ℕ, zero, suc, ◌+◌, ◌-◌, ◌^�
 use Rattle.std.specs.Prelude.{◌==◌, ◌&&◌, nat_le, nat_lt, filter, map}
 use Rattle.std.specs.List.{AllZip}
 use Rattle.std.proofs.lemmas.Bool.{cases_lt, cases_eq, cases_order, true≢false, and_parts, eq-eqb, eqb-true, ne_eqb, le-leb, lt-leb, lt-ltb, le-ltb, and_from, and_left, and_right}
+use Rattle.std.proofs.lemmas.List.{length-map}
 use Rattle.wire_spec.specs.Packets.{has_text}
 use Rattle.stream_spec.specs.Lists.{In}
 use Rattle.stream_spec.specs.History.{History, Entry, Placed, sent_by, placed_at, placed_after, placed, low, window, nones, slots, Repeats, IsPacket, Lawful, named, entry_of, IsNear, Come}
@@ -93,10 +94,6 @@ index_in before (e ∷ es) x (inr i) = elim (cases_eq e.source x.source) [
   | inr q ↦ omega (arith, index_in (e ∷ before) es x i, other_more x.source e es q, other_more x.source e before q)
 ]
 
-length_map : {X Y : Type 0} (f : X → Y) (xs : List X) → length (map f xs) ≡ length xs
-length_map f [] = refl
-length_map f (x ∷ xs) = ap suc (length_map f xs)
-
 length_nones : (n : ℕ) → length (nones n) ≡ n
 length_nones zero = refl
 length_nones (suc n) = ap suc (length_nones n)
@@ -133,7 +130,7 @@ own_is_packet g h x law own i = record {
   ssrc = refl;
   source = refl;
   primary = refl;
-  count = length_map (block_of x) (slots h x) ∙ slots_length;
+  count = length-map (slots h x) (block_of x) ∙ slots_length;
   older = pairs_are x (slots h x) (λ y j.
       let r = in_window h x y (some_in (x.gens - x.index) (window h x) y j) in
       let lt = law.rises y x r.0 i r.1 (place_rises h y x r.0 i r.1 r.3) in omega arith);
@@ -141,7 +138,7 @@ own_is_packet g h x law own i = record {
 }
   where
     slots_length : length (slots h x) ≡ x.gens
-    slots_length = omega (arith, length-append (nones (x.gens - x.index)) (map Some (window h x)), length_nones (x.gens - x.index), length_map {X = Placed} Some (window h x), window_length h x i)
+    slots_length = omega (arith, length-append (nones (x.gens - x.index)) (map Some (window h x)), length_nones (x.gens - x.index), length-map (window h x) Some, window_length h x i)
 
 -- ---- the entry that a packet names is its own
 same_media : (base a b : ℕ) → a < b + 2 ^ 31 → b < a + 2 ^ 31 → (base + a) % 2 ^ 32 ≡ (base + b) % 2 ^ 32 → a ≡ b

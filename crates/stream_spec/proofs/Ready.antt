@@ -1,16 +1,14 @@
--- Ends are stable, and are what a tracker computes.
-use Rattle.std.proofs.Common.{◌≡◌, ℕ, zero, suc, ◌+◌, ◌-◌, ◌<◌, ◌≤◌, Bool, true, false, cond, not, ◌⊎◌, inl, inr, List, [], ◌∷◌, ◌++◌, refl, ap, subst, sym, ◌∙◌, arith}
-use Rattle.std.specs.Prelude.{◌&&◌, ◌==◌, nat_lt, nat_le, min, max}
+-- The moments that end a number, and its end, which is stable.
+use Rattle.std.proofs.Common.{◌≡◌, ℕ, suc, ◌+◌, ◌<◌, ◌≤◌, Bool, true, false, cond, not, ◌⊎◌, inl, inr, List, [], ◌∷◌, ◌++◌, refl, ap, subst, sym, ◌∙◌, arith}
+use Rattle.std.specs.Prelude.{◌&&◌, ◌==◌, nat_lt, nat_le, min}
 use Rattle.std.specs.List.{list_any}
 use Rattle.std.proofs.lemmas.Bool.{cases_Bool, cases_lt, true≢false, eq-eqb, ne_eqb, ltb-true, lt-ltb, le-ltb, and_parts, and_from, or_cases, or_left, or_right, not-true}
-use Rattle.stream_spec.specs.Numbering.{Numbered, first_number, has_number, in_time, used, by_number, distinct_from, is_given_up}
+use Rattle.stream_spec.specs.Numbering.{Numbered, Falling, first_number, has_number, in_time, used, by_number, distinct_from, is_given_up}
 use Rattle.stream_spec.specs.Lists.{In}
-use Rattle.stream_spec.specs.Holding.{Timed, Falling}
-use Rattle.stream_spec.specs.Ready.{when, moments, least, end_of, last_end, ready_of}
+use Rattle.stream_spec.specs.Ready.{when, moments, least, end_of}
 use Rattle.stream_spec.proofs.Lists.{in_left, in_right, in_append, in_when, when_in}
 use Rattle.stream_spec.proofs.Matched.{in_by_number, used_in}
-use Rattle.std.proofs.lemmas.Bool.Decides.{nat_tests}
-use Rattle.stream_spec.proofs.Holding.{is_cause, cause_at, cause_from, distinct_same}
+use Rattle.stream_spec.proofs.GivingUp.{is_cause, cause_at, cause_from, distinct_same}
 
 -- ---- least
 min_is : (m n : ℕ) → (min m n ≡ m) ⊎ (min m n ≡ n)
@@ -109,7 +107,6 @@ moment_tells wait t n (e ∷ past) m i l = elim (new_moment wait e past n m i) [
   ]
 ]
 
--- times never fall
 -- the end of a used number is its arrival
 pub end_used : (wait : ℕ) (past : List Numbered) (u : Numbered) → Falling past → In u (used wait past) → In u.time (moments wait past u.number) × (end_of wait past u.number ≡ u.time)
 end_used wait [] u f i = absurd i
@@ -166,102 +163,29 @@ moments_same wait (e ∷ past) m n l f =
       | inr ge ↦ let g = f e (inl refl) ge in lt-ltb m e.number (omega arith) ∙ sym (lt-ltb n e.number g)
     ]
 
--- ---- the latest end
-larger_ge : (a b : ℕ) → (a ≤ max a b) × (b ≤ max a b)
-larger_ge a b = grind (arith, nat_tests)
+-- what a moment is
+pub data Kind (wait : ℕ) (past : List Numbered) (n m : ℕ) : Type 0 where
+  Came : has_number past n ≡ true → Kind wait past n m
+  Above : (x : Numbered) → In x past → n < x.number → m ≡ x.time + wait → Kind wait past n m
+  Crowd : 64 < distinct_from (suc n) past → Kind wait past n m
 
-larger_le : (a b c : ℕ) → a ≤ c → b ≤ c → max a b ≤ c
-larger_le a b c p q = grind (arith, nat_tests)
-
-larger_twice : (a b : ℕ) → max (max a b) b ≡ max a b
-larger_twice a b = grind (arith, nat_tests)
-
-larger_own : (a b : ℕ) → max b (max a b) ≡ max a b
-larger_own a b = grind (arith, nat_tests)
-
-last_same : (wait : ℕ) (past past' : List Numbered) (lo k : ℕ) → ((n : ℕ) → lo ≤ n → n < lo + k → end_of wait past n ≡ end_of wait past' n) → last_end wait past lo k ≡ last_end wait past' lo k
-last_same wait past past' lo zero f = refl
-last_same wait past past' lo (suc k) f = rw (f (lo + k) (omega arith) (omega arith), last_same wait past past' lo k (λ n a b. f n a (omega arith))) refl
-
--- k more numbers with one end
-last_run : (wait : ℕ) (past : List Numbered) (lo k m : ℕ) (j : ℕ) → ((n : ℕ) → lo + k ≤ n → n < lo + k + suc j → end_of wait past n ≡ m) → last_end wait past lo (suc j + k) ≡ max (last_end wait past lo k) m
-last_run wait past lo k m zero f = let e : 1 + k ≡ suc k = omega arith in rw (e, f (lo + k) (omega arith) (omega arith)) refl
-last_run wait past lo k m (suc j) f =
-    let r = last_run wait past lo k m j (λ n a b. f n a (omega arith)) in
-    let e : suc (suc j) + k ≡ suc (suc j + k) = omega arith in
-    rw (e, f (lo + (suc j + k)) (omega arith) (omega arith), r) (larger_twice (last_end wait past lo k) m)
-
-last_le : (wait : ℕ) (past : List Numbered) (lo k t : ℕ) → ((n : ℕ) → lo ≤ n → n < lo + k → end_of wait past n ≤ t) → last_end wait past lo k ≤ t
-last_le wait past lo zero t f = omega arith
-last_le wait past lo (suc k) t f = larger_le (last_end wait past lo k) (end_of wait past (lo + k)) t (last_le wait past lo k t (λ n a b. f n a (omega arith))) (f (lo + k) (omega arith) (omega arith))
-
-last_ge : (wait : ℕ) (past : List Numbered) (lo k n : ℕ) → lo ≤ n → n < lo + k → end_of wait past n ≤ last_end wait past lo k
-last_ge wait past lo zero n a b = absurd (omega arith)
-last_ge wait past lo (suc k) n a b = elim (cases_lt n (lo + k)) [
-  | inl l ↦ let r = last_ge wait past lo k n a l in let g = larger_ge (last_end wait past lo k) (end_of wait past (lo + k)) in omega (arith, g.0)
-  | inr ge ↦ let e : n ≡ lo + k = omega arith in let g = larger_ge (last_end wait past lo k) (end_of wait past (lo + k)) in rw e (omega (arith, g.1))
+pub kind_of : (wait : ℕ) (past : List Numbered) (n m : ℕ) → In m (moments wait past n) → Kind wait past n m
+kind_of wait [] n m i = absurd i
+kind_of wait (e ∷ past) n m i = elim (new_moment wait e past n m i) [
+  | inl a ↦ Came (or_left (e.number == n) (has_number past n) (and_parts (in_time wait e past) (e.number == n) a.1).1)
+  | inr (inl a) ↦ Above e (inl refl) (ltb-true n e.number a.1) a.0
+  | inr (inr (inl a)) ↦ Crowd (ltb-true 64 (distinct_from (suc n) (e ∷ past)) a.1)
+  | inr (inr (inr a)) ↦ more (kind_of wait past n m a)
 ]
-
--- ---- steps of Timed
-pub timed_more : (wait : ℕ) (e : Numbered) (past : List Numbered) (t first front latest : ℕ) → t ≤ e.time → first ≤ front → Timed wait past t first front latest → Timed wait (e ∷ past) e.time first front latest
-timed_more wait e past t first front latest l b h = record {
-  latest_is = h.latest_is ∙ last_same wait past (e ∷ past) first (front - first) (λ n p q. let r = h.by_now n p (omega arith) in sym (end_stays wait e past n r.0 r.1 (omega (arith, r.2))));
-  by_now = λ n p q. let r = h.by_now n p q in (r.0, moment_before wait e past n r.0 r.1, omega (arith, r.2));
-}
-
-pub timed_later : (wait : ℕ) (past : List Numbered) (t t' first front latest : ℕ) → t ≤ t' → Timed wait past t first front latest → Timed wait past t' first front latest
-timed_later wait past t t' first front latest l h = record { latest_is = h.latest_is; by_now = λ n p q. let r = h.by_now n p q in (r.0, r.1, omega (arith, r.2)) }
-
-pub timed_come : (wait : ℕ) (past : List Numbered) (t first latest : ℕ) (x : Numbered) → Falling past → In x (used wait past) → x.time ≤ t → first ≤ x.number
-    → Timed wait past t first x.number latest → Timed wait past t first (suc x.number) (max latest x.time)
-timed_come wait past t first latest x f i l b h =
-    let r = end_used wait past x f i in
-    let k : suc x.number - first ≡ suc (x.number - first) = omega arith in
-    let at : first + (x.number - first) ≡ x.number = omega arith in
-    record {
-      latest_is = rw (k, at, r.1, h.latest_is) refl;
-      by_now = λ n p q. elim (cases_lt n x.number) [ inl lt ↦ h.by_now n p lt | inr ge ↦ let e : n ≡ x.number = omega arith in rw e (x.time, r.0, l) ];
-    }
-
-pub timed_jump : (wait : ℕ) (past : List Numbered) (t first front latest to m : ℕ) → first ≤ front → front < to → ((u : Numbered) → In u past → front ≤ u.number → to ≤ u.number)
-    → In m (moments wait past front) → m ≤ t → Timed wait past t first front latest → Timed wait past t first to (max latest (end_of wait past front))
-timed_jump wait past t first front latest to m b l above i q h =
-    let run = last_run wait past first (front - first) (end_of wait past front) (to - front - 1)
-    (λ n p s. ap least (sym (moments_same wait past front n (omega arith) (λ u j g. let a = above u j g in omega arith)))) in
-    let k : suc (to - front - 1) + (front - first) ≡ to - first = omega arith in
-    record {
-      latest_is = rw h.latest_is (sym run ∙ ap (last_end wait past first) k);
-      by_now = λ n p s. elim (cases_lt n front) [
-        | inl lt ↦ h.by_now n p lt
-        | inr ge ↦ (m, subst (λ (ms : List ℕ). In m ms) (moments_same wait past front n ge (λ u j g. let a = above u j g in omega arith)) i, q)
-      ];
-    }
-
--- ---- what is given is exactly what is ready by now
-pub given_ready : (wait : ℕ) (past : List Numbered) (t first front latest : ℕ) (x : Numbered) → ((n : ℕ) → first_number n past ≡ first) → first ≤ x.number → x.number < front → Falling past → In x (used wait past)
-    → Timed wait past t first front latest → ready_of wait past x ≤ t
-given_ready wait past t first front latest x fi b l f i h =
-    let r = end_used wait past x f i in
-    let own = h.by_now x.number b l in
-    let own_le = least_below (moments wait past x.number) own.0 own.1 in
-    rw (fi 0) (larger_le x.time (last_end wait past first (suc x.number - first)) t (omega (arith, r.1, own.2, own_le))
-    (last_le wait past first (suc x.number - first) t (λ n p q. let s = h.by_now n p (omega arith) in let u = least_below (moments wait past n) s.0 s.1 in omega (arith, s.2))))
-
-pub held_not_ready : (wait : ℕ) (past : List Numbered) (t first front : ℕ) (x : Numbered) → ((n : ℕ) → first_number n past ≡ first) → first ≤ front → front < x.number → In x past
-    → has_number past front ≡ false → is_given_up wait past t front ≡ false → t < ready_of wait past x
-held_not_ready wait past t first front x fi b l i gone waits =
-    let some = later_moment past i in
-    let inn = least_in (moments wait past front) (x.time + wait) some in
-    let ge = last_ge wait past first (suc x.number - first) front b (omega arith) in
-    let big = larger_ge x.time (last_end wait past first (suc x.number - first)) in
-    rw (fi 0) (elim (cases_lt t (end_of wait past front)) [
-      | inl lt ↦ omega (arith, big.1)
-      | inr le ↦ absurd (elim (moment_tells wait t front past (end_of wait past front) inn le) [ inl h ↦ true≢false (sym h ∙ gone) | inr g ↦ true≢false (sym g ∙ waits) ])
-    ])
   where
-    later_moment : (ps : List Numbered) → In x ps → In (x.time + wait) (moments wait ps front)
-    later_moment [] j = absurd j
-    later_moment (e ∷ ps) (inl s) = in_right (x.time + wait) (when (in_time wait e ps && e.number == front) e.time) (when (nat_lt front e.number) (e.time + wait) ++ (when (nat_lt 64 (distinct_from (suc front) (e ∷ ps))) e.time ++ moments wait ps front))
-        (in_left (x.time + wait) (when (nat_lt front e.number) (e.time + wait)) (when (nat_lt 64 (distinct_from (suc front) (e ∷ ps))) e.time ++ moments wait ps front)
-        (when_in (nat_lt front e.number) (x.time + wait) (e.time + wait) (lt-ltb front e.number (omega (arith, ap (λ (z : Numbered). z.number) s))) (ap (λ (z : Numbered). z.time + wait) s)))
-    later_moment (e ∷ ps) (inr j) = moment_before wait e ps front (x.time + wait) (later_moment ps j)
+    more : Kind wait past n m → Kind wait (e ∷ past) n m
+    more (Came h) = Came (or_right (e.number == n) (has_number past n) h)
+    more (Above x j l q) = Above x (inr j) l q
+    more (Crowd h) = Crowd (let d = distinct_more (suc n) e past in omega arith)
+
+pub above_moment : (wait : ℕ) (past : List Numbered) (n : ℕ) (x : Numbered) → In x past → n < x.number → In (x.time + wait) (moments wait past n)
+above_moment wait [] n x i l = absurd i
+above_moment wait (e ∷ past) n x (inl s) l = in_right (x.time + wait) (when (in_time wait e past && e.number == n) e.time) (when (nat_lt n e.number) (e.time + wait) ++ (when (nat_lt 64 (distinct_from (suc n) (e ∷ past))) e.time ++ moments wait past n))
+    (in_left (x.time + wait) (when (nat_lt n e.number) (e.time + wait)) (when (nat_lt 64 (distinct_from (suc n) (e ∷ past))) e.time ++ moments wait past n)
+    (when_in (nat_lt n e.number) (x.time + wait) (e.time + wait) (lt-ltb n e.number (omega (arith, ap (λ (z : Numbered). z.number) s))) (ap (λ (z : Numbered). z.time + wait) s)))
+above_moment wait (e ∷ past) n x (inr i) l = moment_before wait e past n (x.time + wait) (above_moment wait past n x i l)

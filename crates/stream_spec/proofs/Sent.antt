@@ -2,8 +2,9 @@
 use Rattle.std.proofs.Common.{◌≡◌, ℕ, zero, suc, ◌+◌, ◌-◌, ◌*◌, ◌^◌, ◌<◌, ◌≤◌, Bool, true, false, cond, ◌⊎◌, inl, inr, Option, Some, None, List, [], ◌∷◌, ◌++◌, length, length-append, length-drop, take, drop, refl, ap, subst, sym, ◌∙◌, arith}
 use Rattle.std.specs.Prelude.{◌==◌, ◌||◌, filter, map, min, max, if◌then◌else◌}
 use Rattle.std.specs.List.{list_any, concat}
-use Rattle.std.proofs.lemmas.Bool.{cases_lt, eqb-true, true≢false, or_left, or_right}
-use Rattle.std.proofs.lemmas.List.{drop-append-le}
+use Rattle.std.proofs.lemmas.Bool.{cases_lt, eqb-true, or_left, or_right}
+use Rattle.std.proofs.lemmas.List.{append-nil, drop-append-le}
+use Rattle.std.proofs.lemmas.List.Elements.{filter-append}
 use Rattle.std.proofs.lemmas.List.Folds.{list_any-append}
 use Rattle.std.proofs.Math.Bool.{or_comm}
 use Rattle.std.proofs.Math.Seq.{drop-append_seam, drop-length}
@@ -12,10 +13,10 @@ use Rattle.stream_spec.specs.Lists.{In}
 use Rattle.stream_spec.specs.Hearing.{oldest_offset}
 use Rattle.stream_spec.specs.History.{History, Entry, Placed, sent_by, placed, low, before, window, nones, slots, Lawful, octets, texts_of}
 use Rattle.stream_spec.specs.Kept.{is_entry_of}
-use Rattle.stream_spec.specs.Own.{Own, Closed, block_of, own_packet, Sent, Stream, sent_of, nth, repeat_of, repeats, has_text_in, entry_after, entries_sent, sent_history, packet_after, MaySend, Sendable}
+use Rattle.stream_spec.specs.Own.{Own, block_of, own_packet, Sent, Stream, sent_of, nth, repeat_of, repeats, has_text_in, entry_after, entries_sent, sent_history, packet_after, MaySend, Sendable}
 use Rattle.stream_spec.proofs.Lists.{in_left, in_right, in_append}
 use Rattle.stream_spec.proofs.Places.{same_place_after}
-use Rattle.stream_spec.proofs.Grows.{grown, last, own, placed_grown, window_grown, before_last, window_last, late_in, index_under, split, Follows, lawful_grown}
+use Rattle.stream_spec.proofs.Grows.{grown, last, own, placed_grown, window_grown, before_last, window_last, index_under, split, Follows, lawful_grown}
 use Rattle.stream_spec.proofs.Blocks.{in_window, window_in}
 
 -- ---- the placed entries of a source, oldest first, beside what was sent of it, newest first
@@ -31,18 +32,6 @@ length_mirror : (ps : List Placed) (zs : List Sent) → Mirrors ps zs → length
 length_mirror ps [] m = ap length m
 length_mirror ps (z ∷ zs) m = let r = length_mirror m.0 zs m.4 in omega (arith, ap length m.2, length-append m.0 (m.1 ∷ []))
 
-filter_append : {X : Type 0} (p : X → Bool) (xs : List X) (x : X) → filter p (xs ++ x ∷ []) ≡ filter p xs ++ (if p x then x ∷ [] else [])
-filter_append p [] x = refl
-filter_append p (y ∷ xs) x = go (p y) (filter_append p xs x)
-  where
-    go : (b : Bool) → filter p (xs ++ x ∷ []) ≡ filter p xs ++ (if p x then x ∷ [] else []) → cond b (y ∷ filter p (xs ++ x ∷ [])) (filter p (xs ++ x ∷ [])) ≡ cond b (y ∷ filter p xs) (filter p xs) ++ (if p x then x ∷ [] else [])
-    go true e = ap (λ ys. y ∷ ys) e
-    go false e = e
-
-nil : {X : Type 0} (xs : List X) → xs ++ [] ≡ xs
-nil [] = refl
-nil (x ∷ xs) = ap (λ ys. x ∷ ys) (nil xs)
-
 abbrev pub the_last : Stream → List Sent → Sent → Placed
 the_last c past e = last (sent_history c past) (entry_after c.gens past e)
 
@@ -52,11 +41,11 @@ mirrors c s [] = refl
 mirrors c s (e ∷ past) = subst (λ (ps : List Placed). Mirrors ps (sent_of s (e ∷ past))) (sym grows) (go (e.source == s) (mirrors c s past))
   where
     grows : own (sent_history c (e ∷ past)) s ≡ own (sent_history c past) s ++ (if e.source == s then the_last c past e ∷ [] else [])
-    grows = ap (filter (is_entry_of s)) (placed_grown (sent_history c past) (entry_after c.gens past e)) ∙ filter_append (is_entry_of s) (placed (sent_history c past)) (the_last c past e)
+    grows = ap (filter (is_entry_of s)) (placed_grown (sent_history c past) (entry_after c.gens past e)) ∙ filter-append (is_entry_of s) (placed (sent_history c past)) (the_last c past e ∷ [])
 
     go : (b : Bool) → Mirrors (own (sent_history c past) s) (sent_of s past) → Mirrors (own (sent_history c past) s ++ cond b (the_last c past e ∷ []) []) (cond b (e ∷ sent_of s past) (sent_of s past))
     go true m = (own (sent_history c past) s, the_last c past e, refl, record { text = refl; media = refl }, m)
-    go false m = subst (λ (ps : List Placed). Mirrors ps (sent_of s past)) (sym (nil (own (sent_history c past) s))) m
+    go false m = subst (λ (ps : List Placed). Mirrors ps (sent_of s past)) (sym (append-nil (own (sent_history c past) s))) m
 
 sent_append : (s : ℕ) (es : List Entry) (e : Entry) → sent_by s (es ++ e ∷ []) ≡ sent_by s es + (if e.source == s then 1 else 0)
 sent_append s [] e = omega arith
@@ -254,13 +243,13 @@ in_sent_of s (e ∷ past) z i = go (e.source == s) refl (in_sent_of s past z) i
     go false t f j = let r = f j in (inr r.0, r.1)
 
 -- the k-th of these is among the first n
-nth_in : (k n : ℕ) (zs : List Sent) (z : Sent) → nth k zs ≡ Some z → k < n → In z (take n zs)
+pub nth_in : (k n : ℕ) (zs : List Sent) (z : Sent) → nth k zs ≡ Some z → k < n → In z (take n zs)
 nth_in k n [] z e l = cc e
 nth_in k zero (y ∷ zs) z e l = absurd (omega arith)
 nth_in zero (suc n) (y ∷ zs) z e l = inl (cc e)
 nth_in (suc k) (suc n) (y ∷ zs) z e l = inr (nth_in k n zs z e (omega arith))
 
-take_in : (n : ℕ) (zs : List Sent) (z : Sent) → In z (take n zs) → In z zs
+pub take_in : (n : ℕ) (zs : List Sent) (z : Sent) → In z (take n zs) → In z zs
 take_in zero zs z i = absurd i
 take_in (suc n) [] z i = absurd i
 take_in (suc n) (y ∷ zs) z (inl q) = inl q
@@ -402,19 +391,8 @@ last_is_sent c past e x i q =
     let same : x ≡ the_last c past e = same_place_after [] (entries_sent c.gens (e ∷ past)) x (the_last c past e) i there (omega (arith, length_sent c.gens past)) in
     ap (own_packet (sent_history c (e ∷ past))) same ∙ last_packet c past e
 
-text_in : (n : ℕ) (zs : List Sent) (z : Sent) → In z (take n zs) → has_text z.text ≡ true → has_text_in n zs ≡ true
+pub text_in : (n : ℕ) (zs : List Sent) (z : Sent) → In z (take n zs) → has_text z.text ≡ true → has_text_in n zs ≡ true
 text_in zero zs z i t = absurd i
 text_in (suc n) [] z i t = absurd i
 text_in (suc n) (y ∷ zs) z (inl q) t = or_left (has_text y.text) (has_text_in n zs) (sym (ap (λ (x : Sent). has_text x.text) q) ∙ t)
 text_in (suc n) (y ∷ zs) z (inr i) t = or_right (has_text y.text) (has_text_in n zs) (text_in n zs z i t)
-
--- where none of the last ones of any source has text, each text was repeated
-pub sent_closed : (c : Stream) (past : List Sent) → ((s : ℕ) → has_text_in c.gens (sent_of s past) ≡ false) → Closed c.gens (sent_history c past)
-sent_closed c past quiet x i t = elim (cases_lt (x.index + c.gens) (sent_by x.source (entries_sent c.gens past))) [
-  | inl l ↦ l
-  | inr ge ↦
-      let n = sent_count c.gens x.source past in
-      let j = late_in (sent_history c past) x (length (sent_of x.source past) - c.gens) i (omega (arith, n)) in
-      let r = mirror_in c.gens (own (sent_history c past) x.source) (sent_of x.source past) x (mirrors c x.source past) j in
-      absurd (true≢false (sym (text_in c.gens (sent_of x.source past) r.0 r.1 (sym (ap has_text r.2.text) ∙ t)) ∙ quiet x.source))
-]

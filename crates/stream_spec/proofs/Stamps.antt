@@ -22,9 +22,6 @@ pub nearest_place : (first p d j k top seq : ℕ) → 65536 ≤ top → d % 6553
     → seq ≡ (first + k) % 65536 → k ≤ j + 32767 → j ≤ k + 32767 → nearest top seq + p ≡ k + d
 nearest_place first p d j k top seq big hd ht hs up down = omega arith
 
-pub after_is : (base m n : ℕ) → m < n + 2 ^ 31 → n < m + 2 ^ 31 → is_after ((base + m) % 2 ^ 32) ((base + n) % 2 ^ 32) ≡ nat_lt n m
-after_is base m n a b = grind (arith, nat_tests)
-
 -- a block offset before the stamp of m is after that of n exactly where n and the offset lie below m
 pub after_back : (base m n offset : ℕ) → m < n + 2 ^ 31 → n < m + 2 ^ 31 → offset < 2 ^ 31
     → n ≤ m → is_after (back ((base + m) % 2 ^ 32) offset) ((base + n) % 2 ^ 32) ≡ nat_lt (n + offset) m

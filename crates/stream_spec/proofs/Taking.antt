@@ -2,13 +2,14 @@
 use Rattle.std.proofs.Common.{◌≡◌, ℕ, zero, suc, ◌+◌, ◌-◌, ◌<◌, ◌≤◌, Bool, true, false, cond, not, length, inl, inr, Option, Some, None, List, [], ◌∷◌, ◌++◌, refl, ap, sym, ◌∙◌, arith, append_assoc}
 use Rattle.std.specs.Prelude.{◌&&◌, ◌||◌, ◌==◌, filter, nat_lt, nat_le, if◌then◌else◌}
 use Rattle.std.proofs.lemmas.Bool.{cases_lt, cases_order, true≢false, eq-eqb, eqb-true, ne_eqb, leb-true, and_parts, lt-ltb, le-ltb, le-leb, lt-leb, false_from_ne_true}
+use Rattle.std.proofs.lemmas.List.{append-nil}
+use Rattle.std.proofs.lemmas.List.Elements.{filter-append}
 use Rattle.wire_spec.specs.Packets.{Arrival}
-use Rattle.stream_spec.specs.Numbering.{Numbered, numbered, number_it, used, in_time, by_number, is_given_up, first_number, has_number}
+use Rattle.stream_spec.specs.Numbering.{Numbered, RisingNumbers, numbered, number_it, used, in_time, by_number, is_given_up, first_number, has_number}
 use Rattle.stream_spec.specs.Lists.{In}
 use Rattle.stream_spec.specs.Hearing.{IsLastOf, heard, heard_of, last_of, adds_marker, adds_texts, heard_by, marker, missing, missing_between, piece, heard_over, is_packet_of}
-use Rattle.stream_spec.specs.Holding.{RisingNumbers}
-use Rattle.stream_spec.proofs.Holding.{has_in, one}
-use Rattle.stream_spec.proofs.Lists.{in_right, in_append}
+use Rattle.stream_spec.proofs.GivingUp.{has_in, one}
+use Rattle.stream_spec.proofs.Lists.{in_right, in_append, in_filter}
 
 -- ---- a count in place of the missing numbers
 abbrev pub inside : ℕ → ℕ → List Numbered → ℕ
@@ -65,56 +66,31 @@ heard_same f g first prev [] b l e = refl
 heard_same f g first prev (u ∷ us) b l e = rw (piece_same f g first prev u b (l u (inl refl)) e, heard_same f g first (Some u) us b (λ v i. l v (inr i)) e) refl
 
 heard_last : (f : ℕ → Bool) (first : ℕ) (prev : Option Numbered) (us : List Numbered) (b : Numbered) → heard_over f first prev (us ++ b ∷ []) ≡ heard_over f first prev us ++ piece f first (last_of prev us) b
-heard_last f first prev [] b = nil (piece f first prev b)
-  where
-    nil : {X : Type 0} (xs : List X) → xs ++ [] ≡ xs
-    nil [] = refl
-    nil (x ∷ xs) = ap (λ ys. x ∷ ys) (nil xs)
+heard_last f first prev [] b = append-nil (piece f first prev b)
 heard_last f first prev (u ∷ us) b = ap (λ ts. piece f first prev u ++ ts) (heard_last f first (Some u) us b) ∙ sym (append_assoc (piece f first prev u) (heard_over f first (Some u) us) (piece f first (last_of (Some u) us) b))
-
-pub filter_last : {X : Type 0} (p : X → Bool) (xs : List X) (x : X) → filter p (xs ++ x ∷ []) ≡ filter p xs ++ (if p x then x ∷ [] else [])
-filter_last p [] x = refl
-filter_last p (y ∷ xs) x = go (p y) (filter_last p xs x)
-  where
-    go : (b : Bool) → filter p (xs ++ x ∷ []) ≡ filter p xs ++ (if p x then x ∷ [] else []) → cond b (y ∷ filter p (xs ++ x ∷ [])) (filter p (xs ++ x ∷ [])) ≡ cond b (y ∷ filter p xs) (filter p xs) ++ (if p x then x ∷ [] else [])
-    go true e = ap (λ ys. y ∷ ys) e
-    go false e = e
 
 pub has_more : (us : List Numbered) (b : Numbered) (k : ℕ) → k < b.number → has_number (us ++ b ∷ []) k ≡ has_number us k
 has_more [] b k l = rw (ne_eqb b.number k (omega arith)) refl
 has_more (u ∷ us) b k l = ap (λ t. (u.number == k) || t) (has_more us b k l)
 
-pub filter_in_list : (p : Numbered → Bool) (us : List Numbered) (u : Numbered) → In u (filter p us) → In u us
-filter_in_list p [] u i = absurd i
-filter_in_list p (v ∷ us) u i = go (p v) (filter_in_list p us u) i
-  where
-    go : (b : Bool) → (In u (filter p us) → In u us) → In u (cond b (v ∷ filter p us) (filter p us)) → In u (v ∷ us)
-    go true f (inl e) = inl e
-    go true f (inr j) = inr (f j)
-    go false f j = inr (f j)
-
 -- taking b, of the source, adds its piece, by what came before it alone; taking another's packet adds nothing
 pub heard_more : (first s : ℕ) (us : List Numbered) (b : Numbered) → ((u : Numbered) → In u us → u.number < b.number)
     → heard_of first s (us ++ b ∷ []) ≡ heard_of first s us ++ (if b.packet.source == s then piece (has_number us) first (last_of None (filter (is_packet_of s) us)) b else [])
 heard_more first s us b above =
-    rw (filter_last (is_packet_of s) us b) (go (b.packet.source == s))
+    rw (filter-append (is_packet_of s) us (b ∷ [])) (go (b.packet.source == s))
   where
     f : ℕ → Bool
     f = has_number (us ++ b ∷ [])
 
     same : heard_over (has_number (us ++ b ∷ [])) first None (filter (is_packet_of s) us) ≡ heard_of first s us
     same = heard_same (has_number (us ++ b ∷ [])) (has_number us) first None (filter (is_packet_of s) us) b.number
-        (λ u i. let l = above u (filter_in_list (is_packet_of s) us u i) in omega arith) (λ k l. has_more us b k l)
-
-    nil : {X : Type 0} (xs : List X) → xs ++ [] ≡ xs
-    nil [] = refl
-    nil (x ∷ xs) = ap (λ ys. x ∷ ys) (nil xs)
+        (λ u i. let l = above u (in_filter (is_packet_of s) u us i).0 in omega arith) (λ k l. has_more us b k l)
 
     go : (t : Bool) → heard_over (has_number (us ++ b ∷ [])) first None (filter (is_packet_of s) us ++ (if t then b ∷ [] else [])) ≡ heard_of first s us ++ (if t then piece (has_number us) first (last_of None (filter (is_packet_of s) us)) b else [])
     go true = heard_last (has_number (us ++ b ∷ [])) first None (filter (is_packet_of s) us) b
         ∙ (ap (λ ts. ts ++ piece (has_number (us ++ b ∷ [])) first (last_of None (filter (is_packet_of s) us)) b) same
         ∙ ap (λ ts. heard_of first s us ++ ts) (piece_same (has_number (us ++ b ∷ [])) (has_number us) first (last_of None (filter (is_packet_of s) us)) b b.number (omega arith) (λ k l. has_more us b k l)))
-    go false = ap (heard_over (has_number (us ++ b ∷ [])) first None) (nil (filter (is_packet_of s) us)) ∙ (same ∙ sym (nil (heard_of first s us)))
+    go false = ap (heard_over (has_number (us ++ b ∷ [])) first None) (append-nil (filter (is_packet_of s) us)) ∙ (same ∙ sym (append-nil (heard_of first s us)))
 
 -- what b adds behind packets of lower numbers
 pub heard_by_more : (us : List Numbered) (b : Numbered) (s : ℕ) → ((u : Numbered) → In u us → u.number < b.number)
@@ -128,11 +104,7 @@ heard_by_more [] b s above = go (b.packet.source == s)
     same f g = rw z refl
 
     go : (t : Bool) → heard_over (has_number (b ∷ [])) b.number None (cond t (b ∷ []) []) ≡ (if t then piece (has_number []) b.number None b else [])
-    go true = nil (piece (has_number (b ∷ [])) b.number None b) ∙ same (has_number (b ∷ [])) (has_number [])
-      where
-        nil : {X : Type 0} (xs : List X) → xs ++ [] ≡ xs
-        nil [] = refl
-        nil (x ∷ xs) = ap (λ ys. x ∷ ys) (nil xs)
+    go true = append-nil (piece (has_number (b ∷ [])) b.number None b) ∙ same (has_number (b ∷ [])) (has_number [])
     go false = refl
 heard_by_more (u ∷ us) b s above =
     heard_more u.number s (u ∷ us) b above ∙ ap (λ ts. heard_of u.number s (u ∷ us) ++ ts) (go (b.packet.source == s) refl)
@@ -216,15 +188,6 @@ none_left : (s : ℕ) (us : List Numbered) → ((u : Numbered) → In u us → u
 none_left s [] f = refl
 none_left s (u ∷ us) f = rw (ne_eqb u.packet.source s (f u (inl refl))) (none_left s us (λ v i. f v (inr i)))
 
-filter_both : (s : ℕ) (xs ys : List Numbered) → filter (is_packet_of s) (xs ++ ys) ≡ filter (is_packet_of s) xs ++ filter (is_packet_of s) ys
-filter_both s [] ys = refl
-filter_both s (x ∷ xs) ys = go (is_packet_of s x) (filter_both s xs ys)
-  where
-    go : (b : Bool) → filter (is_packet_of s) (xs ++ ys) ≡ filter (is_packet_of s) xs ++ filter (is_packet_of s) ys
-        → cond b (x ∷ filter (is_packet_of s) (xs ++ ys)) (filter (is_packet_of s) (xs ++ ys)) ≡ cond b (x ∷ filter (is_packet_of s) xs) (filter (is_packet_of s) xs) ++ filter (is_packet_of s) ys
-    go true e = ap (λ zs. x ∷ zs) e
-    go false e = e
-
 last_end_of : (prev : Option Numbered) (xs : List Numbered) (a : Numbered) → last_of prev (xs ++ a ∷ []) ≡ Some a
 last_end_of prev [] a = refl
 last_end_of prev (x ∷ xs) a = last_end_of (Some x) xs a
@@ -233,7 +196,7 @@ pub last_is : (s : ℕ) (us : List Numbered) (a : Numbered) → IsLastOf s us a 
 last_is s us a l =
     let tail : filter (is_packet_of s) (a ∷ l.back) ≡ a ∷ [] = rw (eq-eqb a.packet.source s l.source, none_left s l.back l.others) refl in
     ap (λ vs. last_of None (filter (is_packet_of s) vs)) l.is
-    ∙ (ap (last_of None) (filter_both s l.front (a ∷ l.back) ∙ ap (λ vs. filter (is_packet_of s) l.front ++ vs) tail) ∙ last_end_of None (filter (is_packet_of s) l.front) a)
+    ∙ (ap (last_of None) (filter-append (is_packet_of s) l.front (a ∷ l.back) ∙ ap (λ vs. filter (is_packet_of s) l.front ++ vs) tail) ∙ last_end_of None (filter (is_packet_of s) l.front) a)
 
 pub none_is : (s : ℕ) (us : List Numbered) → ((u : Numbered) → In u us → u.packet.source ≡ s → ⊥) → last_of None (filter (is_packet_of s) us) ≡ None
 none_is s us f = ap (last_of None) (none_left s us f)

@@ -3,6 +3,7 @@ use Rattle.std.proofs.Common.{◌≡◌, ℕ, zero, suc, ◌+◌, ◌-◌, ◌^�
 use Rattle.std.specs.Prelude.{filter, map, ◌&&◌, ◌==◌, nat_lt, nat_le, if◌then◌else◌}
 use Rattle.std.proofs.lemmas.Bool.{cases_lt, cases_order, leb-true, lt-ltb, le-ltb, le-leb, and_parts}
 use Rattle.std.proofs.lemmas.Bool.Decides.{nat_tests}
+use Rattle.std.proofs.lemmas.List.{append-nil, map-append}
 use Rattle.wire_spec.specs.Packets.{Packet, Arrival, back, has_text}
 use Rattle.rtt_base.specs.declared.blocks.TextBlock.{TextBlock}
 use Rattle.stream_spec.specs.Numbering.{number_it, Numbered, numbered, first_number, has_number, in_time, used, is_given_up}
@@ -101,10 +102,6 @@ somes_map : (xs : List Placed) → somes (map Some xs) ≡ xs
 somes_map [] = refl
 somes_map (x ∷ xs) = ap (λ ys. x ∷ ys) (somes_map xs)
 
-texts_append : (xs ys : List Item) → texts (xs ++ ys) ≡ texts xs ++ texts ys
-texts_append [] ys = refl
-texts_append (x ∷ xs) ys = ap (λ zs. text_of x ∷ zs) (texts_append xs ys)
-
 abbrev pub block_item : Option Placed → Placed → List Item
 block_item prev y = if is_above prev y && has_text y.text then k.Block y ∷ [] else []
 
@@ -170,7 +167,7 @@ older_is h law p d prev prev' b x (c ∷ cs) (Some y ∷ sl) m l i is q f =
     let r = older_is h law p d prev prev' b x cs sl m l i is q.1 (λ z j. f z (inr j)) in
     let g = f y (inl refl) in
     let e = block_is h law p d prev prev' b x y c m l i is g.0 g.1 q.0 in
-    ap (λ ts. ts ++ older_texts prev b.stamp cs) e ∙ (ap (λ ts. texts (block_item prev' y) ++ ts) r ∙ sym (texts_append (block_item prev' y) (blocks_of prev' (somes sl))))
+    ap (λ ts. ts ++ older_texts prev b.stamp cs) e ∙ (ap (λ ts. texts (block_item prev' y) ++ ts) r ∙ sym (map-append text_of (block_item prev' y) (blocks_of prev' (somes sl))))
 
 prev_above : (h : History) (prev' : Option Placed) (x : Placed) → PrevBefore h prev' x → In x (placed h) → is_above prev' x ≡ true
 prev_above h None x l i = refl
@@ -183,10 +180,6 @@ own_text x = go (has_text x.text)
     go true = refl
     go false = refl
 
-append-nil' : {X : Type 0} (xs : List X) → xs ++ [] ≡ xs
-append-nil' [] = refl
-append-nil' (x ∷ xs) = ap (λ ys. x ∷ ys) (append-nil' xs)
-
 -- what one packet gives
 pub piece_is : (h : History) (law : Lawful h) (p d : ℕ) (f g : ℕ → Bool) (first least : ℕ) (prev : Option Numbered) (prev' : Option Placed) (b : Numbered) (x : Placed) → SameTests p d f g → first + p ≡ least + d
     → PrevMatches h p d prev prev' → PrevBefore h prev' x → Matches h p d b x → piece f first prev b ≡ texts (items_of h g least prev' x)
@@ -196,11 +189,11 @@ piece_is h law p d f g first least prev prev' b x e z m l q =
     (λ y j. let r = in_window h x y (subst (λ (ys : List Placed). In y ys) same j) in (r.0, r.1)) in
     let older' : older_texts prev b.packet.stamp b.packet.older ≡ texts (blocks_of prev' (window h x)) = older ∙ ap (λ ys. texts (blocks_of prev' ys)) same in
     let own : text_list b.packet.primary ≡ texts (blocks_of prev' (x ∷ [])) =
-    ap text_list q.is.primary ∙ (own_text x ∙ ap texts (sym (append-nil' (block_item prev' x) ∙ ap (λ t. if t && has_text x.text then k.Block x ∷ [] else []) (prev_above h prev' x l q.within)))) in
+    ap text_list q.is.primary ∙ (own_text x ∙ ap texts (sym (append-nil (block_item prev' x) ∙ ap (λ t. if t && has_text x.text then k.Block x ∷ [] else []) (prev_above h prev' x l q.within)))) in
     let marks = mark_is h law p d f g first least prev prev' b x e z m l q in
     let all : older_texts prev b.packet.stamp b.packet.older ++ text_list b.packet.primary ≡ texts (blocks_of prev' (carried h x)) =
     ap (λ ts. ts ++ text_list b.packet.primary) older' ∙ (ap (λ ts. texts (blocks_of prev' (window h x)) ++ ts) own
-    ∙ (sym (texts_append (blocks_of prev' (window h x)) (blocks_of prev' (x ∷ []))) ∙ ap texts (sym (blocks_append prev' (window h x) (x ∷ []))))) in
+    ∙ (sym (map-append text_of (blocks_of prev' (window h x)) (blocks_of prev' (x ∷ []))) ∙ ap texts (sym (blocks_append prev' (window h x) (x ∷ []))))) in
     rw marks (go (has_mark g least prev' x) all)
   where
     go : (t : Bool) → older_texts prev b.packet.stamp b.packet.older ++ text_list b.packet.primary ≡ texts (blocks_of prev' (carried h x))
@@ -222,7 +215,7 @@ walk_is h law p d s f g first least prev prev' (u ∷ us) (x ∷ xs) e z m w q =
     let one = piece_is h law p d f g first least prev prev' u x e z m (first_before h s prev' x xs w) q.0 in
     let rest = walk_is h law p d s f g first least (Some u) (Some x) us xs e z q.0 (next h s prev' x xs w) q.1 in
     ap (λ ts. ts ++ heard_over f first (Some u) us) one ∙ (ap (λ ts. texts (items_of h g least prev' x) ++ ts) rest
-    ∙ sym (texts_append (items_of h g least prev' x) (kept_over h g least (Some x) xs)))
+    ∙ sym (map-append text_of (items_of h g least prev' x) (kept_over h g least (Some x) xs)))
 
 -- ---- the packets of one source
 pub pairs_filter : (h : History) (p d s : ℕ) (us : List Numbered) (xs : List Placed) → AllZip (Matches h p d) us xs → AllZip (Matches h p d) (filter (is_packet_of s) us) (filter (is_entry_of s) xs)

@@ -3,9 +3,9 @@ pub mod Numbering
 pub mod Hearing
 pub mod Ready
 pub mod ChunksBy
-pub mod Holding
 pub mod History
 pub mod Kept
 pub mod Carries
 pub mod Own
 pub mod Typed
+pub mod InTime

@@ -1,9 +1,10 @@
 -- Which number each arrival of a stream has, and which arrivals are used (RFC 3550, section 5.1, for sequence
 -- numbers; how long a gap is waited for is a profile). Lists of arrivals are newest first, so what stands behind an
 -- arrival is what came before it.
-use Rattle.std.specs.Prelude.{ℕ, suc, ◌+◌, ◌-◌, ◌%◌, ◌==◌, Bool, not, List, [], ◌∷◌, ◌&&◌, ◌||◌, nat_lt, nat_le, if◌then◌else◌, max}
+use Rattle.std.specs.Prelude.{ℕ, ◌<◌, ◌≤◌, suc, ◌+◌, ◌-◌, ◌%◌, ◌==◌, Bool, not, List, [], ◌∷◌, ◌&&◌, ◌||◌, nat_lt, nat_le, if◌then◌else◌, max}
 use Rattle.std.specs.List.{list_any}
 use Rattle.wire_spec.specs.Packets.{Packet, Arrival}
+use Rattle.stream_spec.specs.Lists.{In}
 
 -- an arrival with its number
 pub record Numbered : Type 0 where
@@ -69,3 +70,13 @@ by_number e (x ∷ xs) = if nat_lt e.number x.number then e ∷ x ∷ xs else x 
 abbrev pub used : ℕ → List Numbered → List Numbered
 used wait [] = []
 used wait (e ∷ past) = if in_time wait e past then by_number e (used wait past) else used wait past
+
+-- strictly rising in number
+abbrev pub RisingNumbers : List Numbered → Type 0
+RisingNumbers [] = Unit {0}
+RisingNumbers (x ∷ xs) = ((y : Numbered) → In y xs → x.number < y.number) × RisingNumbers xs
+
+-- times never fall
+abbrev pub Falling : List Numbered → Type 0
+Falling [] = Unit {0}
+Falling (e ∷ past) = ((u : Numbered) → In u past → u.time ≤ e.time) × Falling past

@@ -1,12 +1,14 @@
 //! The laws of a stream: what is heard of a lawful history, whatever packets were lost, repeated, reordered or late;
 //! and what a sender makes.
-ghost use Rattle.std.specs.Prelude.{◌≡◌, ◌+◌, ◌%◌, ◌^◌, ◌≤◌, ◌<◌, ◌↔◌, ◌==◌, [], ◌∷◌, ◌++◌, if◌then◌else◌, ℕ, List, Bool, filter, map, length};
+ghost use Rattle.std.specs.Prelude.{◌≡◌, ◌+◌, ◌%◌, ◌^◌, ◌≤◌, ◌<◌, ◌↔◌, ◌⊎◌, ◌==◌, [], ◌∷◌, ◌++◌, if◌then◌else◌, ℕ, List, Bool, filter, map, length};
+ghost use Rattle.rtt_base.specs.declared.text_packets.Pts.{Pts};
 ghost use Rattle.wire_spec.specs.Packets.{Arrival, has_text};
+ghost use Rattle.wire_spec.specs.Dump;
 ghost use Rattle.stream_spec.specs.Lists.{In};
-ghost use Rattle.stream_spec.specs.Numbering.{Numbered, numbered, used, nearest, distance};
+ghost use Rattle.stream_spec.specs.Numbering.{Numbered, Falling, RisingNumbers, numbered, used, first_number, has_number, is_given_up, nearest, distance};
 ghost use Rattle.stream_spec.specs.Hearing.{heard, heard_by, adds_marker, adds_texts, marker};
-ghost use Rattle.stream_spec.specs.Ready.{chunks, ReadyRises};
-ghost use Rattle.stream_spec.specs.Holding.{Falling};
+ghost use Rattle.stream_spec.specs.Ready.{chunks, moments, ReadyRises};
+ghost use Rattle.stream_spec.specs.InTime.{CameInTime, IsOverdue, IsOvertaken};
 ghost use Rattle.stream_spec.specs.History.{History, Placed, Lawful, IsPacket, Come, placed, places};
 ghost use Rattle.stream_spec.specs.Kept.{Mark, Block, kept, texts, blocks_in, Rising, ArePlaces, IsCarried, NoGap, Parts, is_text_of};
 ghost use Rattle.stream_spec.specs.Own.{Own, Closed, Stream, Sent, Sendable, NearEach, own_packet, come_from, history_of, sent_history, sent_of, has_text_in, packet_after};
@@ -78,4 +80,25 @@ pub fn own_packets_tell()
     ensures come { (g : ℕ) (h : History) → Lawful h → Own g h → (xs : List (ℕ × Placed)) → NearEach h xs → Come h (come_from h xs) }
     ensures history { (g : ℕ) (h : History) → Lawful h → Own g h → 0 < length h.entries → h.first < 65536 → ((x : Placed) → In x (placed h) → x.media < 2 ^ 32)
         → history_of (map (own_packet h) (placed h)) h.base ≡ h }
+{}
+
+/// The used packets are exactly those that came in time, in rising number.
+pub fn used_came_in_time()
+    ensures rising { (wait : ℕ) (past : List Numbered) → RisingNumbers (used wait past) }
+    ensures exact { (wait : ℕ) (past : List Numbered) (x : Numbered) → In x (used wait past) ↔ CameInTime wait past x }
+{}
+
+/// A number is given up by a moment exactly where one of two causes has come by then. Where times never fall, the moments
+/// that end a number, from the first on, are those by which it came or is given up.
+pub fn numbers_end()
+    ensures causes { (wait t n : ℕ) (past : List Numbered) → is_given_up wait past t n ≡ Bool.true ↔ (IsOverdue wait past t n ⊎ IsOvertaken past n) }
+    ensures by_then { (wait t n : ℕ) (past : List Numbered) → Falling past → ((u : Numbered) → In u past → u.time ≤ t) → first_number n past ≤ n
+        → ((m : ℕ) × In m (moments wait past n) × (m ≤ t)) ↔ ((has_number past n ≡ Bool.true) ⊎ (is_given_up wait past t n ≡ Bool.true)) }
+{}
+
+/// The times of a recording's arrivals never fall, and so the ready moments of what is heard never fall.
+pub fn recordings_never_fall()
+    ensures items { (items : List Dump.Item) (ssrc : ℕ) (pts : Pts) → Falling (numbered (Dump.arrivals_after ssrc pts [] items)) }
+    ensures times { (octets : List ℕ) (ssrc : ℕ) (pts : Pts) → Falling (numbered (Dump.arrivals octets ssrc pts)) }
+    ensures ready { (octets : List ℕ) (ssrc : ℕ) (pts : Pts) (wait place s : ℕ) → ReadyRises (chunks wait place (Dump.arrivals octets ssrc pts) s) }
 {}

@@ -10,6 +10,7 @@ use Rattle.text_spec.specs.declared.classes.CharClass.{CharClass}
 use Rattle.text_spec.specs.declared.classes.CharClass.TheVariants.{Erase, Bell, NewLine, Silent, Print}
 use Rattle.text_spec.specs.Characters.{class_of, is_new_line, is_erasable, is_bell, is_print, is_silent}
 use Rattle.text_spec.specs.Shown.{begins_with_lf, signs, survivors, takes_back, lines_of, shown, bells, Display}
+use Rattle.text_spec.proofs.Signs.{not_lf}
 use Rattle.text_spec.proofs.Erasing.{Stands, reach, survivors_with, reach_stands}
 
 -- how many octets lie on the lines
@@ -105,13 +106,6 @@ not_cr c e = no_second (eqb c 0x0A) (eqb c 0x0D) (eqb c 0x2028) e
     no_second x false z f = refl
     no_second true true z f = absurd (cc)
     no_second false true z f = absurd (cc)
-
-not_lf : (c : ℕ) → is_new_line c ≡ false → eqb c 0x0A ≡ false
-not_lf c e = no_first (eqb c 0x0A) (eqb c 0x0D) (eqb c 0x2028) e
-  where
-    no_first : (x y z : Bool) → x || y || z ≡ false → x ≡ false
-    no_first false y z f = refl
-    no_first true y z f = absurd (cc)
 
 abbrev pub are_print : List ℕ → Bool
 are_print cs = list_all (λ c. is_print (class_of c)) cs

@@ -1,8 +1,15 @@
 -- One more character: its sign, where it isn't the LF of a CR LF.
-use Rattle.std.proofs.Common.{◌≡◌, ℕ, Bool, true, false, ◌&&◌, cond, eqb, List, [], ◌∷◌, ◌++◌, refl, ap, ◌∙◌, arith}
+use Rattle.std.proofs.Common.{◌≡◌, ℕ, Bool, true, false, ◌&&◌, ◌||◌, cond, eqb, List, [], ◌∷◌, ◌++◌, refl, ap, ◌∙◌, arith}
 use Rattle.std.proofs.lemmas.Bool.Decides.{nat_tests}
 use Rattle.text_spec.specs.Characters.{is_new_line}
 use Rattle.text_spec.specs.Shown.{begins_with_lf, signs, ends_with_cr}
+
+pub not_lf : (c : ℕ) → is_new_line c ≡ false → eqb c 0x0A ≡ false
+not_lf c e = no_first (eqb c 0x0A) (eqb c 0x0D) (eqb c 0x2028) e
+  where
+    no_first : (x y z : Bool) → x || y || z ≡ false → x ≡ false
+    no_first false y z f = refl
+    no_first true y z f = absurd (cc)
 
 -- what one character adds before the given signs
 abbrev sign_before : Bool → ℕ → List ℕ → List ℕ

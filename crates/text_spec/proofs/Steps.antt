@@ -1,13 +1,14 @@
 -- One more character: what it does to what stands, by its class.
-use Rattle.std.proofs.Common.{◌≡◌, ℕ, ◌+◌, Bool, true, false, ◌||◌, ◌&&◌, cond, eqb, List, [], ◌∷◌, ◌++◌, length, refl, ap, ◌∙◌, arith, length-append, ◌≤◌, filter}
+use Rattle.std.proofs.Common.{◌≡◌, ℕ, ◌+◌, Bool, true, false, ◌&&◌, cond, eqb, List, [], ◌∷◌, ◌++◌, length, refl, ap, ◌∙◌, arith, length-append, ◌≤◌, filter}
 use Rattle.std.proofs.lemmas.List.Elements.{filter-append}
+use Rattle.std.proofs.lemmas.Bool.{and_right}
 use Rattle.std.proofs.lemmas.Bool.Decides.{nat_tests}
 use Rattle.text_spec.specs.declared.classes.CharClass.{CharClass}
 use Rattle.text_spec.specs.declared.classes.CharClass.TheVariants.{Erase, Bell, NewLine, Silent, Print}
 use Rattle.text_spec.specs.Characters.{class_of, is_new_line, is_bell}
 use Rattle.text_spec.specs.Shown.{signs, ends_with_cr, survivors, without_last, bells}
 use Rattle.text_spec.proofs.Erasing.{erased, appended, passed}
-use Rattle.text_spec.proofs.Signs.{signs-append, signs-cr_lf}
+use Rattle.text_spec.proofs.Signs.{not_lf, signs-append, signs-cr_lf}
 
 -- a class by the tests, in their order
 abbrev by_tests : Bool → Bool → Bool → Bool → CharClass
@@ -79,20 +80,9 @@ sign_of : (first : Bool) (n : Bool) (c : ℕ) → cond (first && false) [] (cond
 sign_of true n c = refl
 sign_of false n c = refl
 
-not_lf : (c : ℕ) → is_new_line c ≡ false → eqb c 0x0A ≡ false
-not_lf c e = no_first (eqb c 0x0A) (eqb c 0x0D) (eqb c 0x2028) e
-  where
-    no_first : (x y z : Bool) → x || y || z ≡ false → x ≡ false
-    no_first false y z f = refl
-    no_first true y z f = absurd (cc)
-
-and_false : (b d : Bool) → d ≡ false → b && d ≡ false
-and_false true d e = e
-and_false false d e = refl
-
 signs_letter : (cs : List ℕ) (c : ℕ) → is_new_line c ≡ false → signs (cs ++ c ∷ []) ≡ signs cs ++ c ∷ []
 signs_letter cs c e =
-    signs-append cs (c ∷ []) (and_false (ends_with_cr cs) (eqb c 0x0A) (not_lf c e))
+    signs-append cs (c ∷ []) (and_right (ends_with_cr cs) (eqb c 0x0A) (not_lf c e))
     ∙ ap (λ l. signs cs ++ l) (sign_of (eqb c 0x0D) (is_new_line c) c ∙ ap (λ b. cond b (0x0A ∷ []) (c ∷ [])) e)
 
 signs_new_line : (cs : List ℕ) (c : ℕ) → is_new_line c ≡ true → eqb c 0x0A && ends_with_cr cs ≡ false → signs (cs ++ c ∷ []) ≡ signs cs ++ 0x0A ∷ []

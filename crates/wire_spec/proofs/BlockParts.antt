@@ -1,10 +1,10 @@
 -- What is read of a payload is the sum of its parts.
-use Rattle.std.proofs.Common.{◌≡◌, ℕ, zero, suc, ◌+◌, ◌*◌, ◌/◌, ◌%◌, ◌^◌, ◌<◌, ◌≤◌, ◌⊎◌, Bool, true, false, cond, eqb, ltb, ◌&&◌, List, [], ◌∷◌, ◌++◌, length, take, drop, Option, None, Some, inl, inr, Result, Ok, Err, is_ok, refl, sym, ap, subst, ◌∙◌, arith, append_assoc, length-take, length-drop, get_or-drop}
+use Rattle.std.proofs.Common.{◌≡◌, ℕ, zero, suc, ◌+◌, ◌*◌, ◌/◌, ◌%◌, ◌^◌, ◌<◌, ◌≤◌, Bool, true, false, cond, eqb, ltb, List, [], ◌∷◌, ◌++◌, length, take, drop, Option, None, Some, inl, inr, Result, Ok, Err, refl, sym, ap, subst, ◌∙◌, arith, append_assoc, length-take, length-drop, get_or-drop}
 use Rattle.std.specs.Prelude.{IsUtf8}
 use Rattle.std.specs.List.{flat_map, AllByRecursion}
 use Rattle.std.specs.Str.{is_utf8}
 use Rattle.std.specs.Int.{bytes_high_first}
-use Rattle.std.proofs.lemmas.Bool.{ltb-false, ltb-true, eqb-true, false≢true}
+use Rattle.std.proofs.lemmas.Bool.{ltb-false, ltb-true, eqb-true, false≢true, and_parts}
 use Rattle.std.proofs.lemmas.Bool.Decides.{eqb_tells}
 use Rattle.std.proofs.lemmas.List.{take-append-drop}
 use Rattle.std.proofs.lemmas.Str.{IsUtf8-from_is_utf8}
@@ -14,27 +14,10 @@ use Rattle.wire_spec.specs.declared.headers.RedHeader.{RedHeader}
 use Rattle.wire_spec.specs.declared.faults.RedFault.{RedFault}
 use Rattle.wire_spec.specs.declared.faults.RedFault.TheVariants.{WrongType, Cut, Many, Long, NotText}
 use Rattle.wire_spec.specs.Steps.{◌>>=◌}
+use Rattle.wire_spec.proofs.Tests.{bind_ok, chosen, guard, guard_else, ok_is, failed}
 use Rattle.wire_spec.specs.Packets.{primary}
 use Rattle.wire_spec.specs.Rtp.{IsOctets}
 use Rattle.wire_spec.specs.Red.{IsRedundant, red_header, RedBlocks, PlainText, Red, Headers, with_header, header_of, header_at, and_others, headers_at, older_size, blocks_at, all_utf8, checked, texts_at, red}
-
-bind_ok : {A B E : Type 0} (r : Result A E) (f : A → Result B E) (y : B) → (r >>= f) ≡ Ok y → (x : A) × (r ≡ Ok x) × (f x ≡ Ok y)
-bind_ok (Ok x) f y e = (x, refl, e)
-bind_ok (Err d) f y e = absurd cc
-
-guard : {A : Type 0} (b : Bool) (d : RedFault) (x : Result A RedFault) (y : A) → cond b (Err d) x ≡ Ok y → (b ≡ false) × (x ≡ Ok y)
-guard true d x y e = absurd cc
-guard false d x y e = (refl, e)
-
-guard_else : {A : Type 0} (b : Bool) (d : RedFault) (x : Result A RedFault) (y : A) → cond b x (Err d) ≡ Ok y → (b ≡ true) × (x ≡ Ok y)
-guard_else true d x y e = (refl, e)
-guard_else false d x y e = absurd cc
-
-abbrev done : {A : Type 0} → A → Result A RedFault
-done x = Ok x
-
-ok_is : {A : Type 0} (x y : A) → done x ≡ done y → x ≡ y
-ok_is x y e = cc
 
 IsOctets-drop : (n : ℕ) (octets : List ℕ) → IsOctets octets → IsOctets (drop n octets)
 IsOctets-drop n octets h i = rw get_or-drop (h (n + i))
@@ -61,13 +44,6 @@ three x y z h k l =
 abbrev Says : Bool → ℕ → List ℕ → Option RedHeader → Type 0
 Says full t140 octets None = (t140 < 128) × (octets ≡ t140 ∷ drop 1 octets)
 Says full t140 octets (Some h) = (t140 < 128) × (full ≡ false) × IsRead h × (octets ≡ header_octets t140 h ++ drop 4 octets)
-
-chosen : {A : Type 0} (b : Bool) (x y z : A) → cond b x y ≡ z → ((b ≡ true) × (x ≡ z)) ⊎ ((b ≡ false) × (y ≡ z))
-chosen true x y z e = inl (refl, e)
-chosen false x y z e = inr (refl, e)
-
-failed : {A : Type 0} (f : RedFault) (x : A) → Err f ≡ done x → ⊥
-failed f x e = false≢true (ap (λ (r : Result _ RedFault). is_ok r) e)
 
 redundant_says : (full : Bool) (t140 f : ℕ) (rest : List ℕ) → IsOctets (f ∷ rest) → 4 ≤ length (f ∷ rest) → full ≡ false → f ≡ 128 + t140 → Says full t140 (f ∷ rest) (Some (header_of (f ∷ rest)))
 redundant_says full t140 f [] h long e k = absurd (omega arith)
@@ -170,14 +146,10 @@ text_size (x ∷ hs) octets h =
     let rest = text_size hs (drop x.size octets) (omega (arith, length-drop x.size octets)) in
     omega (arith, rest, length-drop x.size octets)
 
-both : (x y : Bool) → x && y ≡ true → (x ≡ true) × (y ≡ true)
-both true y e = (refl, e)
-both false y e = absurd (false≢true e)
-
 older_each : (hs : List RedHeader) (octets : List ℕ) → AllByRecursion IsRead hs → all_utf8 (blocks_at hs octets) ≡ true → AllByRecursion IsRedundant (older_of hs octets) × IsUtf8 (text_behind hs octets)
-older_each [] octets h e = (tt, IsUtf8-from_is_utf8 octets (both (is_utf8 octets) true e).0)
+older_each [] octets h e = (tt, IsUtf8-from_is_utf8 octets (and_parts (is_utf8 octets) true e).0)
 older_each (x ∷ hs) octets h e =
-    let t = both (is_utf8 (take x.size octets)) (all_utf8 (blocks_at hs (drop x.size octets))) e in
+    let t = and_parts (is_utf8 (take x.size octets)) (all_utf8 (blocks_at hs (drop x.size octets))) e in
     let rest = older_each hs (drop x.size octets) h.1 t.1 in
     let size : length (take x.size octets) < 2 ^ 10 = omega (arith, length-take x.size octets, h.0.size) in
     (((h.0.offset, (size, IsUtf8-from_is_utf8 (take x.size octets) t.0)), rest.0), rest.1)

@@ -7,7 +7,7 @@ use lib.Utf8.{encode}
 use Rattle.rtt_base.specs.declared.blocks.TextBlock.{TextBlock}
 use Rattle.rtt_base.specs.declared.text_packets.Pts.{Pts}
 use Rattle.wire_spec.specs.declared.faults.TextFault.{TextFault}
-use Rattle.wire_spec.specs.declared.faults.TextFault.TheVariants.{Short, Version, Padding, Sources, WrongType, Cut, Many, NotText, Foreign}
+use Rattle.wire_spec.specs.declared.faults.TextFault.TheVariants.{Short, Version, Padding, Sources, WrongType, Cut, Many, Long, NotText, Foreign}
 use Rattle.wire_spec.specs.declared.faults.DumpKind.{DumpKind}
 use Rattle.wire_spec.specs.declared.faults.DumpKind.TheVariants.{NotDump, EndsInside, TooLong, TooLarge}
 use Rattle.wire_spec.specs.Packets.{Packet, Arrival, primary}
@@ -164,6 +164,26 @@ other-stream : arrivals recording 7 types ≡ []
 unfolding text_of text_of_short rtp rtp_of_header red headers_at texts_at is_utf8 chars encode arrivals dump records records_within dump_step opening
 other-stream = refl
 
+-- Its times fall, and between its packets stand one of another stream, one that is cut, one of RTCP and one that is no
+-- packet, each at 5 s: these hand in no time.
+abbrev falling : List ℕ
+falling =
+    take 44 recording
+    ++ hex (codes "001E 0016 0000012C") ++ first
+    ++ hex (codes "001F 0017 00001388") ++ hex (codes "8064 0001 0000012C 00000007 E2FFFC00 E204B001 62 4142")
+    ++ hex (codes "0009 0002 00001388 80")
+    ++ hex (codes "0008 0000 00001388")
+    ++ hex (codes "0009 0001 00001388 80")
+    ++ hex (codes "001F 0017 00000064") ++ second
+    ++ hex (codes "001F 0017 00000190") ++ third
+
+falling-arrivals : arrivals falling 1001 types ≡
+    came 400 (packet false 2 600 (block 600 A ∷ block 300 B ∷ []) [])
+    ∷ came 300 (packet false 1 300 (block 16383 [] ∷ block 300 A ∷ []) B)
+    ∷ came 300 (packet true 0 0 (block 16383 [] ∷ block 16383 [] ∷ []) A) ∷ []
+unfolding text_of text_of_short rtp rtp_of_header red headers_at texts_at is_utf8 chars encode arrivals dump records records_within dump_step opening
+falling-arrivals = refl
+
 abbrev fault : ℕ → DumpKind → Option Fault
 fault byte kind = Some (record { byte = byte; kind = kind })
 
@@ -280,3 +300,40 @@ no-utf8 = refl
 foreign : text_of first (Some 7) types ≡ Err Foreign
 unfolding text_of text_of_short rtp rtp_of_header red headers_at texts_at is_utf8 chars encode
 foreign = refl
+
+-- of another stream, and with two sources
+foreign-with-two-sources : text_of (octets_of (codes "8262") (codes "00000001 00000002 41")) (Some 7) types ≡ Err Foreign
+unfolding text_of text_of_short rtp rtp_of_header red headers_at texts_at is_utf8 chars encode
+foreign-with-two-sources = refl
+
+-- the ninth redundant block is of another type
+many-of-other-type : text_of (octets_of (codes "8064") (codes "E2FFFC00 E2FFFC00 E2FFFC00 E2FFFC00 E2FFFC00 E2FFFC00 E2FFFC00 E2FFFC00 E1FFFC00 62 41")) None types ≡ Err Many
+unfolding text_of text_of_short rtp rtp_of_header red headers_at texts_at is_utf8 chars encode
+many-of-other-type = refl
+
+-- ---- the greatest text and the greatest packet
+
+text-of-1023 : text_of (hex (codes "8062") ++ (H ++ replicate 1023 65)) None types ≡ plain 1001 (replicate 1023 65)
+unfolding text_of text_of_short rtp rtp_of_header red headers_at texts_at is_utf8 chars encode
+text-of-1023 = refl
+
+text-of-1024 : text_of (hex (codes "8062") ++ (H ++ replicate 1024 65)) None types ≡ Err Long
+unfolding text_of text_of_short rtp rtp_of_header red headers_at texts_at is_utf8 chars encode
+text-of-1024 = refl
+
+red-text-of-1023 : text_of (hex (codes "8064") ++ (H ++ (98 ∷ replicate 1023 65))) None types ≡ plain 1001 (replicate 1023 65)
+unfolding text_of text_of_short rtp rtp_of_header red headers_at texts_at is_utf8 chars encode
+red-text-of-1023 = refl
+
+red-text-of-1024 : text_of (hex (codes "8064") ++ (H ++ (98 ∷ replicate 1024 65))) None types ≡ Err Long
+unfolding text_of text_of_short rtp rtp_of_header red headers_at texts_at is_utf8 chars encode
+red-text-of-1024 = refl
+
+-- of another type, so that only its length is looked at before
+packet-of-4224 : text_of (hex (codes "8000") ++ (H ++ replicate 4212 65)) None types ≡ Err WrongType
+unfolding text_of text_of_short rtp rtp_of_header red headers_at texts_at is_utf8 chars encode
+packet-of-4224 = refl
+
+packet-of-4225 : text_of (hex (codes "8000") ++ (H ++ replicate 4213 65)) None types ≡ Err Long
+unfolding text_of text_of_short rtp rtp_of_header red headers_at texts_at is_utf8 chars encode
+packet-of-4225 = refl

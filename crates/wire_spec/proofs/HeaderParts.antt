@@ -1,32 +1,14 @@
 -- What is read of a packet is the sum of its parts.
-use Rattle.std.proofs.Common.{◌≡◌, ℕ, zero, suc, ◌+◌, ◌-◌, ◌*◌, ◌/◌, ◌%◌, ◌^◌, ◌<◌, ◌≤◌, Bool, true, false, cond, eqb, ltb, leb, List, [], ◌∷◌, ◌++◌, length, take, drop, get_or, Result, Ok, Err, is_ok, refl, sym, ap, subst, ◌∙◌, arith, length-take, length-drop, get_or-drop, get_or-take, inl, inr, ◌&&◌}
+use Rattle.std.proofs.Common.{◌≡◌, ℕ, zero, suc, ◌+◌, ◌-◌, ◌*◌, ◌/◌, ◌%◌, ◌^◌, ◌<◌, ◌≤◌, Bool, true, false, cond, eqb, ltb, leb, List, [], ◌∷◌, ◌++◌, length, take, drop, get_or, Ok, Err, refl, sym, ap, subst, ◌∙◌, arith, length-take, length-drop, get_or-drop, get_or-take, inl, inr, ◌&&◌}
 use Rattle.std.specs.List.{flat_map, AllByRecursion}
 use Rattle.std.specs.Int.{w16, w32, to_be_bytes, from_be_bytes}
-use Rattle.std.proofs.lemmas.Bool.{le-leb, lt-leb, ltb-false, leb-true, eqb-true, false≢true, cases_lt}
+use Rattle.std.proofs.lemmas.Bool.{le-leb, lt-leb, ltb-false, leb-true, eqb-true, cases_lt, and_parts}
 use Rattle.std.proofs.lemmas.List.{take-append-drop, drop_more, take_more, take_all, append-nil, get_or_past}
 use Rattle.std.proofs.lemmas.Nat.{be_bytes_2, be_bytes_4}
-use Rattle.wire_spec.specs.declared.faults.RtpFault.{RtpFault}
 use Rattle.wire_spec.specs.declared.faults.RtpFault.TheVariants.{Short, Version, Padding}
 use Rattle.wire_spec.specs.Steps.{◌>>=◌}
+use Rattle.wire_spec.proofs.Tests.{bind_ok, guard, guard_else, guard_ok, guard_ended, ok_is, failed}
 use Rattle.wire_spec.specs.Rtp.{Reading, Rtp, IsOctets, bit, first_of, IsExtension, IsPadding, past, first_source, past_extension, unpadded, rtp_of_header, rtp}
-
-bind_ok : {A B E : Type 0} (r : Result A E) (f : A → Result B E) (y : B) → (r >>= f) ≡ Ok y → (x : A) × (r ≡ Ok x) × (f x ≡ Ok y)
-bind_ok (Ok x) f y e = (x, refl, e)
-bind_ok (Err d) f y e = absurd cc
-
-abbrev done : {A : Type 0} → A → Result A RtpFault
-done x = Ok x
-
-ok_is : {A : Type 0} (x y : A) → done x ≡ done y → x ≡ y
-ok_is x y e = cc
-
-guard_ok : {A : Type 0} (b : Bool) (d : RtpFault) (x y : A) → cond b (Err d) (Ok x) ≡ Ok y → (b ≡ false) × (x ≡ y)
-guard_ok true d x y e = absurd cc
-guard_ok false d x y e = (refl, cc)
-
-guard_ended : {A : Type 0} (b : Bool) (d : RtpFault) (x y : A) → cond b (Ok x) (Err d) ≡ Ok y → (b ≡ true) × (x ≡ y)
-guard_ended true d x y e = (refl, cc)
-guard_ended false d x y e = absurd cc
 
 IsOctets-drop : (n : ℕ) (octets : List ℕ) → IsOctets octets → IsOctets (drop n octets)
 IsOctets-drop n octets h i = rw get_or-drop (h (n + i))
@@ -74,9 +56,6 @@ sources_of (suc n) (a ∷ b ∷ c ∷ d ∷ octets) e h =
       first = λ rest. refl;
     }
 
-failed : {A : Type 0} (f : RtpFault) (x : A) → Err f ≡ done x → ⊥
-failed f x e = false≢true (ap (λ (r : Result _ RtpFault). is_ok r) e)
-
 extension_parts : (extended : Bool) (octets rest : List ℕ) → IsOctets octets → past_extension extended octets ≡ Ok rest → (extension : List ℕ) × (octets ≡ extension ++ rest) × IsExtension extended extension
 extension_parts false octets rest h e = ([], ok_is octets rest e, refl)
 extension_parts true [] rest h e = absurd (failed Short rest e)
@@ -105,10 +84,6 @@ extension_parts true (a ∷ b ∷ c ∷ d ∷ octets) rest h e =
       },
     )
 
-both : (x y : Bool) → x && y ≡ true → (x ≡ true) × (y ≡ true)
-both true y e = (refl, e)
-both false y e = absurd (false≢true e)
-
 counted : (q : ℕ) (padding : List ℕ) → 1 ≤ q → length padding ≡ q → get_or padding (q - 1) 0 ≡ q → (front : List ℕ) × (padding ≡ front ++ (length front + 1) ∷ [])
 counted q padding some size last =
     let one : take (q - 1 + 1) padding ≡ take (q - 1) padding ++ get_or padding (q - 1) 0 ∷ [] = take_more padding (q - 1) 0 (omega arith) in
@@ -121,7 +96,7 @@ padding_parts false octets payload e = ([], ok_is octets payload e ∙ sym (appe
 padding_parts true octets payload e =
     let q : ℕ = get_or octets (length octets - 1) 0 in
     let g = guard_ended (leb 1 q && leb q (length octets)) Padding (take (length octets - q) octets) payload e in
-    let t = both (leb 1 q) (leb q (length octets)) g.0 in
+    let t = and_parts (leb 1 q) (leb q (length octets)) g.0 in
     let some : 1 ≤ q = leb-true _ _ t.0 in
     let there : q ≤ length octets = leb-true _ _ t.1 in
     let place : length octets - q + (q - 1) ≡ length octets - 1 = omega arith in
@@ -154,14 +129,6 @@ second_is second h =
 twelve : (octets : List ℕ) → 12 ≤ length octets → octets ≡ get_or octets 0 0 ∷ get_or octets 1 0 ∷ get_or octets 2 0 ∷ get_or octets 3 0 ∷ get_or octets 4 0 ∷ get_or octets 5 0 ∷ get_or octets 6 0 ∷ get_or octets 7 0 ∷ get_or octets 8 0 ∷ get_or octets 9 0 ∷ get_or octets 10 0 ∷ get_or octets 11 0 ∷ drop 12 octets
 twelve octets h =
     drop_more octets 0 0 (omega arith) ∙ ap (λ (y : List ℕ). get_or octets 0 0 ∷ y) (drop_more octets 1 0 (omega arith) ∙ ap (λ (y : List ℕ). get_or octets 1 0 ∷ y) (drop_more octets 2 0 (omega arith) ∙ ap (λ (y : List ℕ). get_or octets 2 0 ∷ y) (drop_more octets 3 0 (omega arith) ∙ ap (λ (y : List ℕ). get_or octets 3 0 ∷ y) (drop_more octets 4 0 (omega arith) ∙ ap (λ (y : List ℕ). get_or octets 4 0 ∷ y) (drop_more octets 5 0 (omega arith) ∙ ap (λ (y : List ℕ). get_or octets 5 0 ∷ y) (drop_more octets 6 0 (omega arith) ∙ ap (λ (y : List ℕ). get_or octets 6 0 ∷ y) (drop_more octets 7 0 (omega arith) ∙ ap (λ (y : List ℕ). get_or octets 7 0 ∷ y) (drop_more octets 8 0 (omega arith) ∙ ap (λ (y : List ℕ). get_or octets 8 0 ∷ y) (drop_more octets 9 0 (omega arith) ∙ ap (λ (y : List ℕ). get_or octets 9 0 ∷ y) (drop_more octets 10 0 (omega arith) ∙ ap (λ (y : List ℕ). get_or octets 10 0 ∷ y) (drop_more octets 11 0 (omega arith))))))))))))
-
-guard : {A : Type 0} (b : Bool) (d : RtpFault) (x : Result A RtpFault) (y : A) → cond b (Err d) x ≡ Ok y → (b ≡ false) × (x ≡ Ok y)
-guard true d x y e = absurd cc
-guard false d x y e = (refl, e)
-
-guard_else : {A : Type 0} (b : Bool) (d : RtpFault) (x : Result A RtpFault) (y : A) → cond b x (Err d) ≡ Ok y → (b ≡ true) × (x ≡ Ok y)
-guard_else true d x y e = (refl, e)
-guard_else false d x y e = absurd cc
 
 tests_passed : (octets : List ℕ) (r : Reading) → rtp octets ≡ Ok r → (12 ≤ length octets) × (get_or octets 0 0 / 64 ≡ 2) × (rtp_of_header octets ≡ Ok r)
 unfolding rtp

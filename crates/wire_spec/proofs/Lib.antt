@@ -1,4 +1,5 @@
 mod Examples
+pub mod Tests
 pub mod Records
 pub mod HeaderLaws
 pub mod HeaderParts

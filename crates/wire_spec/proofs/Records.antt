@@ -1,14 +1,10 @@
 -- The records of a recording, step by step.
-use Rattle.std.proofs.Common.{◌≡◌, ℕ, zero, suc, ◌+◌, ◌<◌, ◌≤◌, ◌⊎◌, inl, inr, Bool, true, false, cond, eqb, ltb, List, [], length, drop, Option, None, Some, is_some, refl, sym, ap, ◌∙◌, arith, length-drop}
+use Rattle.std.proofs.Common.{◌≡◌, ℕ, zero, suc, ◌+◌, ◌<◌, ◌≤◌, inl, inr, Bool, true, false, eqb, ltb, List, [], length, drop, Option, None, Some, is_some, refl, sym, ap, ◌∙◌, arith, length-drop}
 use Rattle.std.proofs.lemmas.Bool.{ltb-false, false≢true}
 use Rattle.wire_spec.specs.declared.faults.DumpKind.{DumpKind}
+use Rattle.wire_spec.proofs.Tests.{chosen}
 use Rattle.wire_spec.specs.declared.faults.DumpKind.TheVariants.{BadLength, EndsInside, TooLong, TooLarge}
 use Rattle.wire_spec.specs.Dump.{Item, Place, Recording, Step, End, Broken, Next, size_of, time_of, record_fault, step_or, dump_step, with_item, records_by, records_within, records}
-
--- which way a test went
-pub chosen : {A : Type 0} (b : Bool) (x y z : A) → cond b x y ≡ z → ((b ≡ true) × (x ≡ z)) ⊎ ((b ≡ false) × (y ≡ z))
-chosen true x y z e = inl (refl, e)
-chosen false x y z e = inr (refl, e)
 
 -- a record at which no test fails
 pub record Passes (limit : ℕ) (p : Place) : Type 0 where

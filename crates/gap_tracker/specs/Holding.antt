@@ -1,18 +1,9 @@
 -- What is settled and what is held of the arrivals so far (profile). `past` is newest first, `t` is the greatest
 -- moment so far.
-use Rattle.std.specs.Prelude.{◌≡◌, ℕ, ◌-◌, ◌<◌, ◌≤◌, ◌⊎◌, true, List, [], ◌∷◌, ◌++◌, length}
+use Rattle.std.specs.Prelude.{◌≡◌, ℕ, ◌-◌, ◌<◌, ◌≤◌, ◌⊎◌, true, List, ◌++◌, length}
 use Rattle.stream_spec.specs.Lists.{In}
-use Rattle.stream_spec.specs.Numbering.{Numbered, used, first_number, has_number, distinct_from, is_given_up}
+use Rattle.stream_spec.specs.Numbering.{Numbered, RisingNumbers, used, first_number, has_number, distinct_from, is_given_up}
 use Rattle.stream_spec.specs.Ready.{moments, last_end}
-
-abbrev pub RisingNumbers : List Numbered → Type 0
-RisingNumbers [] = Unit {0}
-RisingNumbers (x ∷ xs) = ((y : Numbered) → In y xs → x.number < y.number) × RisingNumbers xs
-
--- times never fall
-abbrev pub Falling : List Numbered → Type 0
-Falling [] = Unit {0}
-Falling (e ∷ past) = ((u : Numbered) → In u past → u.time ≤ e.time) × Falling past
 
 -- `front`: below it each number has come or is given up. `out`: what is settled. `held`: the rest. Both rise.
 pub record Holds (wait : ℕ) (past : List Numbered) (t first front : ℕ) (out held : List Numbered) : Type 0 where

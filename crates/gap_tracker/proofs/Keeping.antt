@@ -1,100 +1,16 @@
 -- Each step of a tracker keeps `Holds`.
 use Rattle.std.proofs.Common.{◌≡◌, ℕ, suc, ◌+◌, ◌<◌, ◌≤◌, Bool, true, false, cond, not, ◌⊎◌, inl, inr, List, [], ◌∷◌, ◌++◌, length, refl, ap, subst, sym, ◌∙◌, arith, append_assoc}
-use Rattle.std.specs.Prelude.{◌&&◌, ◌||◌, ◌==◌, nat_lt, nat_le, if◌then◌else◌}
+use Rattle.std.specs.Prelude.{◌&&◌, ◌||◌, ◌==◌, nat_lt, nat_le}
 use Rattle.std.specs.List.{list_any}
-use Rattle.std.proofs.lemmas.Bool.{cases_lt, true≢false, cases_order, eq-eqb, eqb-true, ne_eqb, leb-true, lt-leb, ltb-true, ltb-false, lt-ltb, le-ltb, le-leb, and_parts, and_from, and_right, or_cases, or_left, or_right, false_from_ne_true, not-true, not_from_true, not_from_false}
+use Rattle.std.proofs.lemmas.Bool.{cases_lt, true≢false, leb-true, le-leb, lt-leb, le-ltb, and_parts, and_from, and_right, or_right, false_from_ne_true, not-true, not_from_true, not_from_false}
 use Rattle.stream_spec.specs.Numbering.{Numbered, first_number, has_number, in_time, by_number, used, distinct_from, is_given_up}
 use Rattle.stream_spec.specs.Lists.{In}
-use Rattle.stream_spec.specs.Holding.{Holds, RisingNumbers}
-use Rattle.stream_spec.proofs.Lists.{in_right, in_append}
+use Rattle.stream_spec.proofs.Lists.{any_in, in_any, in_right, in_append}
 use Rattle.stream_spec.proofs.Matched.{in_by_number, used_in}
+use Rattle.stream_spec.proofs.Rising.{by_number_in, length_by_number, rising_put}
+use Rattle.stream_spec.proofs.GivingUp.{has_in, in_has, one, distinct_split, distinct_same, is_cause, cause_at, cause_from, up_weaker, up_later, up_below, up_more}
+use Rattle.gap_tracker.specs.Holding.{Holds}
 
--- ---- tests on lists
-pub any_in : {X : Type 0} (p : X → Bool) (xs : List X) → list_any p xs ≡ true → (x : X) × In x xs × (p x ≡ true)
-any_in p [] h = absurd (true≢false (sym h))
-any_in p (y ∷ xs) h = elim (or_cases (p y) (list_any p xs) h) [ inl t ↦ (y, inl refl, t) | inr t ↦ let r = any_in p xs t in (r.0, inr r.1, r.2) ]
-
-pub in_any : {X : Type 0} (p : X → Bool) (xs : List X) (x : X) → In x xs → p x ≡ true → list_any p xs ≡ true
-in_any p [] x i h = absurd i
-in_any p (y ∷ xs) x (inl e) h = or_left (p y) (list_any p xs) (sym (ap p e) ∙ h)
-in_any p (y ∷ xs) x (inr i) h = or_right (p y) (list_any p xs) (in_any p xs x i h)
-
-pub has_in : (n : ℕ) (es : List Numbered) → has_number es n ≡ true → (u : Numbered) × In u es × (u.number ≡ n)
-has_in n es h = let r = any_in (λ (e : Numbered). e.number == n) es h in (r.0, r.1, eqb-true r.0.number n r.2)
-
-pub in_has : (n : ℕ) (es : List Numbered) (u : Numbered) → In u es → u.number ≡ n → has_number es n ≡ true
-in_has n es u i e = in_any (λ (x : Numbered). x.number == n) es u i (eq-eqb u.number n e)
-
--- ---- counts
-abbrev pub one : Bool → ℕ
-one b = if b then 1 else 0
-
-fresh : (n : ℕ) (e : Numbered) (past : List Numbered) → Bool
-fresh n e past = nat_le n e.number && not (has_number past e.number)
-
-pub distinct_split : (n : ℕ) (past : List Numbered) → distinct_from n past ≡ one (has_number past n) + distinct_from (suc n) past
-distinct_split n [] = refl
-distinct_split n (e ∷ past) = elim (cases_order e.number n) [
-  | inl q ↦ let s : has_number past e.number ≡ has_number past n = ap (has_number past) q in
-      rw (eq-eqb e.number n q, s, le-leb n e.number (omega arith), lt-leb (suc n) e.number (omega arith)) (same (has_number past n) (distinct_split n past))
-  | inr (inl lt) ↦ rw (ne_eqb e.number n (omega arith), lt-leb n e.number (omega arith), lt-leb (suc n) e.number (omega arith)) (omega (arith, distinct_split n past))
-  | inr (inr gt) ↦ rw (ne_eqb e.number n (omega arith), le-leb n e.number (omega arith), le-leb (suc n) e.number (omega arith)) (omega (arith, distinct_split n past))
-]
-  where
-    same : (b : Bool) → distinct_from n past ≡ one b + distinct_from (suc n) past → one (not b) + distinct_from n past ≡ 1 + (0 + distinct_from (suc n) past)
-    same true h = omega arith
-    same false h = omega arith
-
-pub distinct_down : (m n : ℕ) (past : List Numbered) → m ≤ n → distinct_from n past ≤ distinct_from m past
-distinct_down m n [] l = omega arith
-distinct_down m n (e ∷ past) l = go (nat_le m e.number) refl (nat_le n e.number) refl (not (has_number past e.number)) (distinct_down m n past l)
-  where
-    go : (s : Bool) → nat_le m e.number ≡ s → (t : Bool) → nat_le n e.number ≡ t → (b : Bool) → distinct_from n past ≤ distinct_from m past → one (t && b) + distinct_from n past ≤ one (s && b) + distinct_from m past
-    go false p true q b h = let u = leb-true n e.number q in absurd (true≢false (sym (le-leb m e.number (omega arith)) ∙ p))
-    go true p true q b h = omega arith
-    go true p false q b h = omega arith
-    go false p false q b h = omega arith
-
--- no number from m on below n came
-pub distinct_same : (m n : ℕ) (past : List Numbered) → m ≤ n → ((u : Numbered) → In u past → m ≤ u.number → n ≤ u.number) → distinct_from m past ≡ distinct_from n past
-distinct_same m n [] l f = refl
-distinct_same m n (e ∷ past) l f =
-    let r = distinct_same m n past l (λ u i. f u (inr i)) in
-    elim (cases_lt e.number m) [
-      | inl lt ↦ rw (lt-leb m e.number lt, lt-leb n e.number (omega arith)) (omega (arith, r))
-      | inr ge ↦ let g = f e (inl refl) ge in rw (le-leb m e.number ge, le-leb n e.number g) (omega (arith, r))
-    ]
-
--- ---- giving up
-any_weaker : {X : Type 0} (p q : X → Bool) (xs : List X) → ((x : X) → In x xs → p x ≡ true → q x ≡ true) → list_any p xs ≡ true → list_any q xs ≡ true
-any_weaker p q xs f h = let r = any_in p xs h in in_any q xs r.0 r.1 (f r.0 r.1 r.2)
-
-abbrev pub is_cause : ℕ → ℕ → ℕ → Numbered → Bool
-is_cause wait t n x = nat_lt n x.number && nat_le (x.time + wait) t
-
-pub up_weaker : (wait t t' m n : ℕ) (past past' : List Numbered) → ((x : Numbered) → In x past → is_cause wait t n x ≡ true → list_any (is_cause wait t' m) past' ≡ true)
-    → distinct_from (suc n) past ≤ distinct_from (suc m) past' → is_given_up wait past t n ≡ true → is_given_up wait past' t' m ≡ true
-up_weaker wait t t' m n past past' f d h = elim (or_cases (list_any (is_cause wait t n) past) (nat_lt 64 (distinct_from (suc n) past)) h) [
-  | inl a ↦ let r = any_in (is_cause wait t n) past a in or_left (list_any (is_cause wait t' m) past') (nat_lt 64 (distinct_from (suc m) past')) (f r.0 r.1 r.2)
-  | inr b ↦ let u = ltb-true 64 (distinct_from (suc n) past) b in or_right (list_any (is_cause wait t' m) past') (nat_lt 64 (distinct_from (suc m) past')) (lt-ltb 64 (distinct_from (suc m) past') (omega arith))
-]
-
-pub cause_at : (wait t n : ℕ) (x : Numbered) → is_cause wait t n x ≡ true → (n < x.number) × (x.time + wait ≤ t)
-cause_at wait t n x h = let r = and_parts (nat_lt n x.number) (nat_le (x.time + wait) t) h in (ltb-true n x.number r.0, leb-true (x.time + wait) t r.1)
-
-pub cause_from : (wait t n : ℕ) (x : Numbered) → n < x.number → x.time + wait ≤ t → is_cause wait t n x ≡ true
-cause_from wait t n x a b = and_from (nat_lt n x.number) (nat_le (x.time + wait) t) (lt-ltb n x.number a) (le-leb (x.time + wait) t b)
-
-pub up_later : (wait t t' n : ℕ) (past : List Numbered) → t ≤ t' → is_given_up wait past t n ≡ true → is_given_up wait past t' n ≡ true
-up_later wait t t' n past l h = up_weaker wait t t' n n past past (λ x i c. let r = cause_at wait t n x c in in_any (is_cause wait t' n) past x i (cause_from wait t' n x r.0 (omega (arith, r.1)))) (omega arith) h
-
-pub up_below : (wait t m n : ℕ) (past : List Numbered) → m ≤ n → is_given_up wait past t n ≡ true → is_given_up wait past t m ≡ true
-up_below wait t m n past l h = up_weaker wait t t m n past past (λ x i c. let r = cause_at wait t n x c in in_any (is_cause wait t m) past x i (cause_from wait t m x (omega (arith, r.0)) r.1)) (distinct_down (suc m) (suc n) past (omega arith)) h
-
-pub up_more : (wait t n : ℕ) (e : Numbered) (past : List Numbered) → is_given_up wait past t n ≡ true → is_given_up wait (e ∷ past) t n ≡ true
-up_more wait t n e past h = up_weaker wait t t n n past (e ∷ past) (λ x i c. or_right (is_cause wait t n e) (list_any (is_cause wait t n) past) (in_any (is_cause wait t n) past x i c)) (omega arith) h
-
--- ---- steps
 pub later : (wait : ℕ) (past : List Numbered) (t t' first front : ℕ) (out held : List Numbered) → t ≤ t' → Holds wait past t first front out held → Holds wait past t' first front out held
 later wait past t t' first front out held l h = record {
   used_is = h.used_is;
@@ -171,41 +87,6 @@ by_number_behind : (e : Numbered) (out held : List Numbered) → ((u : Numbered)
 by_number_behind e [] held f = refl
 by_number_behind e (x ∷ out) held f = let l = f x (inl refl) in rw (le-ltb e.number x.number l) (ap (λ us. x ∷ us) (by_number_behind e out held (λ u i. f u (inr i))))
 
-length_by_number : (e : Numbered) (xs : List Numbered) → length (by_number e xs) ≡ suc (length xs)
-length_by_number e [] = refl
-length_by_number e (x ∷ xs) = go (nat_lt e.number x.number) (length_by_number e xs)
-  where
-    go : (t : Bool) → length (by_number e xs) ≡ suc (length xs) → length (cond t (e ∷ x ∷ xs) (x ∷ by_number e xs)) ≡ suc (suc (length xs))
-    go true h = refl
-    go false h = ap suc h
-
-by_number_in : (e y : Numbered) (xs : List Numbered) → (y ≡ e) ⊎ In y xs → In y (by_number e xs)
-by_number_in e y [] (inl q) = inl q
-by_number_in e y [] (inr i) = absurd i
-by_number_in e y (x ∷ xs) i = go (nat_lt e.number x.number) (by_number_in e y xs) i
-  where
-    go : (t : Bool) → ((y ≡ e) ⊎ In y xs → In y (by_number e xs)) → (y ≡ e) ⊎ In y (x ∷ xs) → In y (cond t (e ∷ x ∷ xs) (x ∷ by_number e xs))
-    go true f (inl q) = inl q
-    go true f (inr j) = inr j
-    go false f (inl q) = inr (f (inl q))
-    go false f (inr (inl q)) = inl q
-    go false f (inr (inr j)) = inr (f (inr j))
-
-rising_by_number : (e : Numbered) (xs : List Numbered) → RisingNumbers xs → has_number xs e.number ≡ false → RisingNumbers (by_number e xs)
-rising_by_number e [] r n = ((λ y i. absurd i), tt)
-rising_by_number e (x ∷ xs) r n = go (nat_lt e.number x.number) refl (rising_by_number e xs r.1 fewer)
-  where
-    fewer : has_number xs e.number ≡ false
-    fewer = false_from_ne_true (has_number xs e.number) (λ t. true≢false (sym (or_right (x.number == e.number) (has_number xs e.number) t) ∙ n))
-
-    ne : x.number ≡ e.number → ⊥
-    ne q = true≢false (sym (or_left (x.number == e.number) (has_number xs e.number) (eq-eqb x.number e.number q)) ∙ n)
-
-    go : (t : Bool) → nat_lt e.number x.number ≡ t → RisingNumbers (by_number e xs) → RisingNumbers (cond t (e ∷ x ∷ xs) (x ∷ by_number e xs))
-    go true q s = let l = ltb-true e.number x.number q in ((λ y i. elim i [ inl w ↦ omega (arith, ap (λ (z : Numbered). z.number) w) | inr j ↦ let u = r.0 y j in omega arith ]), (r.0, r.1))
-    go false q s = let g = ltb-false e.number x.number q in let d = ne in
-        ((λ y i. elim (in_by_number e y xs i) [ inl w ↦ omega (arith, ap (λ (z : Numbered). z.number) w) | inr j ↦ r.0 y j ]), s)
-
 -- a number from the front on that is not held, while the front waits
 pub arrive : (wait : ℕ) (past : List Numbered) (first front : ℕ) (out held : List Numbered) (e : Numbered) → Holds wait past e.time first front out held
     → is_given_up wait past e.time front ≡ false → front ≤ e.number → has_number held e.number ≡ false
@@ -218,7 +99,7 @@ arrive wait past first front out held e h waits l fresh = (
     begun = h.begun;
     low = h.low;
     high = λ u i. elim (in_by_number e u held i) [ inl q ↦ omega (arith, ap (λ (z : Numbered). z.number) q) | inr j ↦ h.high u j ];
-    rising = rising_by_number e held h.rising fresh;
+    rising = rising_put e held h.rising (λ y i q. true≢false (sym (in_has e.number held y i q) ∙ fresh));
     came = λ u i. elim i [ inl q ↦ omega (arith, ap (λ (z : Numbered). z.time) q) | inr j ↦ h.came u j ];
     all = λ u i m. elim i [
       | inl q ↦ (u, by_number_in e u held (inl q), refl, omega arith)
