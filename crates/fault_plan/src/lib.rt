@@ -1,0 +1,9 @@
+//! What comes to a terminal of the packets that were sent to it, by the plan of a conference.
+#![tactic(auto)]
+
+mod arriving;
+mod fates;
+#[cfg(test)]
+mod tests;
+
+pub use arriving::{Arrival, arrivals};
