@@ -2,7 +2,7 @@
 # make test        the gate: proves everything from nothing
 # make examples    runs the commands of the documents and compares what they print, and the stored recordings
 # make recordings  makes the stored recordings of examples/ anew
-# make bench       how fast the program reads and lists
+# make bench       how fast the program reads, lists and sends
 # make install     the program and its page, below PREFIX
 # PROGRAM=.. names another program than the one that `make run` built.
 PREFIX ?= /usr/local
@@ -28,6 +28,7 @@ recordings: $(PROGRAM)
 bench: $(PROGRAM)
 	bench/read $(PROGRAM)
 	bench/list $(PROGRAM)
+	bench/send $(PROGRAM)
 
 install: $(PROGRAM)
 	install -D -m 755 $(PROGRAM) $(DESTDIR)$(PREFIX)/bin/rtt_program
