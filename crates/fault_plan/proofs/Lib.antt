@@ -1,2 +1,3 @@
-pub mod Packets
 pub mod Order
+pub mod Packets
+pub mod Unplanned

@@ -27,13 +27,13 @@ same_test false true false false = refl
 same_test false false r s = refl
 
 -- c comes at the moment of d with a number that is no greater, or before it
-abbrev NotAfter : Copy → Copy → Type 0
+abbrev pub NotAfter : Copy → Copy → Type 0
 NotAfter c d = (c.at < d.at) ⊎ ((c.at ≡ d.at) × (c.index ≤ d.index))
 
 tells : (c d : Copy) → is_sooner d c ≡ false → NotAfter c d
 tells c d e = grind (arith, nat_tests)
 
-told : (c d : Copy) → NotAfter c d → is_sooner d c ≡ false
+pub told : (c d : Copy) → NotAfter c d → is_sooner d c ≡ false
 told c d (inl l) = grind (arith, nat_tests)
 told c d (inr r) = let p = r.0 in let q = r.1 in grind (arith, nat_tests)
 
@@ -44,7 +44,7 @@ between c d e (inr a) (inl b) = inl (omega (arith, a.0))
 between c d e (inr a) (inr b) = inr (a.0 ∙ b.0, omega (arith, a.1, b.1))
 
 -- none is sooner than the one before it
-abbrev Rises : List Copy → Type 0
+abbrev pub Rises : List Copy → Type 0
 Rises [] = Unit {0}
 Rises (c ∷ []) = Unit {0}
 Rises (c ∷ d ∷ ds) = (is_sooner d c ≡ false) × Rises (d ∷ ds)
@@ -58,7 +58,7 @@ rest_rises : (c : Copy) (cs : List Copy) → Rises (c ∷ cs) → Rises cs
 rest_rises c [] r = tt
 rest_rises c (d ∷ ds) r = r.1
 
-in_order_of : (cs : List Copy) → Rises cs → InOrder cs
+pub in_order_of : (cs : List Copy) → Rises cs → InOrder cs
 in_order_of [] r = tt
 in_order_of (c ∷ cs) r = (after_first c cs r, in_order_of cs (rest_rises c cs r))
 

@@ -1,2 +1,3 @@
 pub mod Arriving
 pub mod Fates
+pub mod Unplanned

@@ -3,6 +3,7 @@
 
 mod arriving;
 mod fates;
+pub mod laws;
 #[cfg(test)]
 mod tests;
 
