@@ -1,6 +1,7 @@
 # make run         builds the proved program and prints the view of the stored recording
 # make test        the gate: proves everything from nothing
-# make examples    runs the commands of the documents and compares what they print, and the stored recordings
+# make examples    runs the commands of the documents and compares what they print, and the stored recordings; tries the
+#                  program against the system, and with each request of memory refused
 # make recordings  makes the stored recordings of examples/ anew
 # make bench       how fast the program reads, lists and sends
 # make install     the program and its page, below PREFIX
@@ -21,6 +22,8 @@ $(PROGRAM):
 
 examples: $(PROGRAM)
 	examples/check $(PROGRAM)
+	examples/system $(PROGRAM)
+	examples/memory $(PROGRAM)
 
 recordings: $(PROGRAM)
 	examples/make $(PROGRAM)
