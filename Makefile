@@ -1,7 +1,7 @@
 # make run         builds the proved program and prints the view of the stored recording
 # make test        the gate: proves everything from nothing
-# make examples    runs the commands of the documents and compares what they print, and the stored recordings; tries the
-#                  program against the system, and with each request of memory refused
+# make examples    runs the commands of the documents and compares what they print, and the stored recordings
+# make trials      tries the program against the system, and with each request of memory refused
 # make recordings  makes the stored recordings of examples/ anew
 # make bench       how fast the program reads, lists and sends
 # make install     the program and its page, below PREFIX
@@ -9,7 +9,7 @@
 PREFIX ?= /usr/local
 PROGRAM = crates/rtt_program/out/rtt_program
 
-.PHONY: run test examples recordings bench install
+.PHONY: run test examples trials recordings bench install
 
 run:
 	cd crates/rtt_program && rt run -- read data/call.rtp 1001
@@ -22,6 +22,8 @@ $(PROGRAM):
 
 examples: $(PROGRAM)
 	examples/check $(PROGRAM)
+
+trials: $(PROGRAM)
 	examples/system $(PROGRAM)
 	examples/memory $(PROGRAM)
 
