@@ -10,10 +10,10 @@ use Rattle.std.proofs.lemmas.List.Sorted.{sum_by-IsPermutation}
 use Rattle.std.proofs.lemmas.List.Sums.{sum_by-cons}
 use Rattle.file_spec.specs.declared.conf_lines.PlanLine.{PlanLine}
 use Rattle.stream_spec.specs.Lists.{In}
-use Rattle.mixer_spec.specs.Arrives.{Copy, all_copies, arrives, InOrder, is_same, is_sooner, times_in}
+use Rattle.mixer_spec.specs.Arrives.{Copy, arrives, InOrder, is_same, is_sooner, times_in}
 use Rattle.mixer_spec.proofs.OneOrder.{only_law}
 use Rattle.fault_plan.specs.declared.arriving.Arrival.{Arrival}
-use Rattle.fault_plan.specs.Arriving.{copies_of, copy_of}
+use Rattle.fault_plan.specs.Arriving.{AreCopies, copies_of, copy_of}
 
 -- how the code compares two arrivals
 abbrev pub order : Arrival → Arrival → Ordering
@@ -77,8 +77,7 @@ times_is c [] = refl
 times_is c (a ∷ xs) =
     ap (λ (n : ℕ). (if is_same c (copy_of a) then 1 else 0) + n) (times_is c xs) ∙ sym (sum_by-cons (λ (b : Arrival). if is_same c (copy_of b) then 1 else 0) a xs)
 
--- all copies in another order, that of their moments and numbers, are what comes
-pub sorted_arrives : (plan : List PlanLine) (t : ℕ) (sent : List ℕ) (all xs : List Arrival) → copies_of all ≡ all_copies plan t 0 sent → IsPermutation all xs → IsSorted order xs
-    → copies_of xs ≡ arrives plan t sent
-sorted_arrives plan t sent all xs is moved sorted =
-    only_law plan t sent (copies_of xs) (in_order_of (copies_of xs) (rising xs sorted)) (λ c. times_is c xs ∙ (sum_by-IsPermutation (λ (a : Arrival). if is_same c (copy_of a) then 1 else 0) all xs moved ∙ (sym (times_is c all) ∙ ap (times_in c) is)))
+-- all copies in the order of their moments and numbers are what comes
+pub sorted_arrives : (plan : List PlanLine) (t : ℕ) (sent : List ℕ) (all xs : List Arrival) → AreCopies plan t sent all → IsPermutation all xs → IsSorted order xs → copies_of xs ≡ arrives plan t sent
+sorted_arrives plan t sent all xs are moved sorted =
+    only_law plan t sent (copies_of xs) (in_order_of (copies_of xs) (rising xs sorted)) (λ c. times_is c xs ∙ (sum_by-IsPermutation (λ (a : Arrival). if is_same c (copy_of a) then 1 else 0) all xs moved ∙ (sym (times_is c all) ∙ are c)))

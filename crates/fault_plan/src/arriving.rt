@@ -1,10 +1,10 @@
 //! The copies that come, in their order.
-ghost use Rattle.std.specs.Prelude.{◌≡◌, ℕ, ◌++◌, ◌<◌, ◌^◌, List, length, All, OnOk, IfOk};
+ghost use Rattle.std.specs.Prelude.{◌≡◌, ℕ, ◌+◌, ◌++◌, ◌<◌, ◌^◌, List, length, All, OnOk, IfOk};
 ghost use Rattle.file_spec.specs.declared.conf_lines.PlanLine.{PlanLine};
 ghost use Rattle.file_spec.specs.declared.conf_lines.What.{What};
-ghost use Rattle.mixer_spec.specs.Arrives.{all_copies, arrives, copies};
+ghost use Rattle.mixer_spec.specs.Arrives.{Copy, arrives, copies, times_in};
 ghost use Rattle.fault_plan.specs.Fates.{fate_of, AreFates};
-ghost use Rattle.fault_plan.specs.Arriving.{copies_of, IsOfFirst};
+ghost use Rattle.fault_plan.specs.Arriving.{copies_of, times_of, AreCopies, IsOfFirst};
 
 use crate::fates::{Fate, fates_of};
 use file_spec::PlanLine;
@@ -36,21 +36,49 @@ fn append_copies(fate: Fate, index: u32, sent: u32, out: &mut Vec<Arrival>) -> R
     Ok(())
 }
 
-/// The copies of packets with these fates, packet by packet.
+/// Appends the copies that come of a packet with this fate to those in time or to the late ones.
+fn append_either(
+    fate: Fate,
+    index: u32,
+    sent: u32,
+    in_time: &mut Vec<Arrival>,
+    late: &mut Vec<Arrival>,
+) -> Result<(), NoMemory>
+    ensures times { (lines : List What) → fate ≡ fate_of lines → OnOk result ((c : Copy) → times_of c in_time.new.items + times_of c late.new.items ≡ times_of c in_time.old.items + times_of c late.old.items + times_in c (copies lines index sent)) }
+    ensures sent { (n : ℕ) → index < n → All (IsOfFirst n) in_time.old.items → OnOk result (All (IsOfFirst n) in_time.new.items) }
+    ensures late { (n : ℕ) → index < n → All (IsOfFirst n) late.old.items → OnOk result (All (IsOfFirst n) late.new.items) }
+{
+    if fate.delay == 0 {
+        append_copies(fate, index, sent, in_time)
+    } else {
+        append_copies(fate, index, sent, late)
+    }
+}
+
+/// The copies of packets with these fates: those in time packet by packet, and the late ones behind them, so that most
+/// stand in order already.
 fn copies_with(alloc: Global, fates: &[Fate], sent: &[u32]) -> Result<Vec<Arrival>, NoMemory>
     requires count { length sent.now ≡ length fates.now }
     requires few { length sent.now < 2 ^ 32 }
-    ensures copies { (plan : List PlanLine) (t : ℕ) → AreFates plan t fates.now → IfOk result (λ copies. copies_of copies.items ≡ all_copies plan t 0 sent.now) }
+    ensures copies { (plan : List PlanLine) (t : ℕ) → AreFates plan t fates.now → IfOk result (λ copies. AreCopies plan t sent.now copies.items) }
     ensures sent { IfOk result (λ copies. All (IsOfFirst (length sent.now)) copies.items) }
 {
     let mut copies = Vec::with_capacity(alloc, sent.len())?;
+    let mut late = Vec::new(alloc);
     for index in 0..sent.len() {
-        append_copies(fates[index], index as u32, sent[index], &mut copies)?;
+        append_either(
+            fates[index],
+            index as u32,
+            sent[index],
+            &mut copies,
+            &mut late,
+        )?;
     }
+    copies.append(&mut late)?;
     Ok(copies)
 }
 
-/// All copies that come by the plan, packet by packet.
+/// All copies that come by the plan.
 fn copies_by(
     alloc: Global,
     plan: &[PlanLine],
@@ -58,7 +86,7 @@ fn copies_by(
     sent: &[u32],
 ) -> Result<Vec<Arrival>, NoMemory>
     requires { length sent.now < 2 ^ 32 }
-    ensures copies { IfOk result (λ copies. copies_of copies.items ≡ all_copies plan.now terminal 0 sent.now) }
+    ensures copies { IfOk result (λ copies. AreCopies plan.now terminal sent.now copies.items) }
     ensures sent { IfOk result (λ copies. All (IsOfFirst (length sent.now)) copies.items) }
 {
     let fates = fates_of(alloc, plan, terminal, sent.len())?;
@@ -69,7 +97,7 @@ fn copies_by(
 /// moments, in milliseconds: packet `k` at `sent[k]`. A packet is lost, comes late or comes twice as its lines say, and
 /// late by the first of them that delays it. What comes is ordered by its moments, and at one moment by its packets.
 ///
-/// The work grows with the plan's lines, and with the packets times the logarithm of how many come out of order.
+/// The work grows with the packets, where their moments never fall, and with the plan's lines times their logarithm.
 pub fn arrivals(
     alloc: Global,
     plan: &[PlanLine],
