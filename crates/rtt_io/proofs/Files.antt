@@ -116,6 +116,9 @@ rose_one o a b e = grind arith
 counted_more : (o a b more : ℕ) → b ≡ min (a + more) (2 ^ 64 - 1) → counted o b ≡ counted (counted o a) more
 counted_more o a b more e = omega arith
 
+counted_none : (o a b more : ℕ) → b ≡ min (a + more) (2 ^ 64 - 1) → more ≡ 0 → counted o b ≡ counted o a
+counted_none o a b more e z = omega arith
+
 module _ {old new : List MemFile} {name : List ℕ} {before : Option MemFile} {after : MemFile} (c : Changes old new name before after) where
   pub octets_stay : octets_in before ≡ Some after.octets → (n : List ℕ) → octets_of new n ≡ octets_of old n
   octets_stay e n = elim (told n name) [
@@ -152,6 +155,12 @@ module _ {old new : List MemFile} {name : List ℕ} {before : Option MemFile} {a
 
   pub objects_added : (more : ℕ) → after.object_faults ≡ min (object_count before + more) (2 ^ 64 - 1) → (o : ℕ) → objects_of o new name ≡ counted (objects_of o old name) more
   objects_added more e o = rw (c.becomes, c.was) (counted_more o _ _ more e)
+
+  pub objects_calm : (more : ℕ) → after.object_faults ≡ min (object_count before + more) (2 ^ 64 - 1) → more ≡ 0 → (o : ℕ) (n : List ℕ) → objects_of o new n ≡ objects_of o old n
+  objects_calm more e z o n = elim (told n name) [
+    | inl same ↦ rw (same, c.becomes, c.was) (counted_none o _ _ more e z)
+    | inr other ↦ rw (c.others n other) refl
+  ]
 
   pub octets_become : octets_of new name ≡ Some after.octets
   octets_become = rw c.becomes refl

@@ -268,6 +268,7 @@ impl MemWorld {
     // Adds the faults of an object to those of its name.
     fn count_object(&mut self, name: &str, faults: u64)
         ensures added { objects_of self.new.object_faults self.new.files.items name.now ≡ counted (objects_of self.old.object_faults self.old.files.items name.now) faults }
+        ensures calm { faults ≡ 0 → (n : List ℕ) → objects_of self.new.object_faults self.new.files.items n ≡ objects_of self.old.object_faults self.old.files.items n }
         ensures never_fall { (n : List ℕ) → objects_of self.old.object_faults self.old.files.items n ≤ objects_of self.new.object_faults self.new.files.items n }
         ensures same_contents { (n : List ℕ) → octets_of self.new.files.items n ≡ octets_of self.old.files.items n }
         ensures same_own { (n : List ℕ) → own_of self.new.own_faults self.new.files.items n ≡ own_of self.old.own_faults self.old.files.items n }

@@ -1,5 +1,5 @@
 //! The real outside: files and the standard streams.
-ghost use Rattle.std.specs.Prelude.{◌≡◌, [], None, IfSome};
+ghost use Rattle.std.specs.Prelude.{◌≡◌, ℕ, List, [], None, IfSome, unwrap_or};
 
 use crate::streams::{read_once, write_whole};
 use crate::{Sink, Source, World};
@@ -10,7 +10,7 @@ use std::fs::File;
 use std::io::{Read, Stderr, Stdout, Write};
 use std::rt::Files;
 
-/// A file that is read.
+/// A file that is read, or another reader. Where the reader tells what it holds, the source does.
 #[derive(Drop)]
 pub struct FileSource<F = File> {
     file: F,
@@ -40,7 +40,22 @@ impl<F: Read> Source for FileSource<F> {
     }
 }
 
-/// A file that is written.
+impl<F: Read> FileSource<F> {
+    /// A source over this reader, which did not fail yet.
+    pub fn new(file: F, name: Path) -> FileSource<F>
+        ensures holds { ⟦<FileSource<F> as Source>⟧.left result ≡ unwrap_or (F.remaining file) [] }
+        ensures named { ⟦<FileSource<F> as Source>⟧.name result ≡ name }
+        ensures fresh { ⟦<FileSource<F> as Source>⟧.faults result ≡ 0 }
+    {
+        FileSource {
+            file,
+            name,
+            faults: 0,
+        }
+    }
+}
+
+/// A file that is written, or another writer. Where the writer tells what it took, the sink does.
 #[derive(Drop)]
 pub struct FileSink<F = File> {
     file: F,
@@ -70,6 +85,21 @@ impl<F: Write> Sink for FileSink<F> {
     }
 }
 
+impl<F: Write> FileSink<F> {
+    /// A sink over this writer, which did not fail yet.
+    pub fn new(file: F, name: Path) -> FileSink<F>
+        ensures holds { ⟦<FileSink<F> as Sink>⟧.took result ≡ unwrap_or (F.contents file) [] }
+        ensures named { ⟦<FileSink<F> as Sink>⟧.name result ≡ name }
+        ensures fresh { ⟦<FileSink<F> as Sink>⟧.faults result ≡ 0 }
+    {
+        FileSink {
+            file,
+            name,
+            faults: 0,
+        }
+    }
+}
+
 /// A stream that is written. It has the empty name.
 #[derive(Drop)]
 pub struct StreamSink<W> {
@@ -86,7 +116,8 @@ pub type StandardError = StreamSink<Stderr>;
 impl<W: Write> StreamSink<W> {
     /// A stream that did not fail yet.
     pub fn new(stream: W) -> StreamSink<W>
-        ensures { ⟦<StreamSink<W> as Sink>⟧.faults result ≡ 0 }
+        ensures holds { ⟦<StreamSink<W> as Sink>⟧.took result ≡ unwrap_or (W.contents stream) [] }
+        ensures fresh { ⟦<StreamSink<W> as Sink>⟧.faults result ≡ 0 }
     {
         StreamSink { stream, faults: 0 }
     }
@@ -123,11 +154,11 @@ pub struct RealWorld<R> {
     object_faults: u64,
 }
 
-impl<R> RealWorld<R> {
+impl<R: Files<File = File>> RealWorld<R> {
     /// The files of this runtime. It takes no memory.
     pub fn new(rt: R, alloc: Global) -> RealWorld<R>
-        ensures fresh { result.own_faults ≡ 0 }
-        ensures fresh_objects { result.object_faults ≡ 0 }
+        ensures fresh { (n : List ℕ) → ⟦<RealWorld<R> as World>⟧.own_faults result n ≡ 0 }
+        ensures fresh_objects { (n : List ℕ) → ⟦<RealWorld<R> as World>⟧.object_faults result n ≡ 0 }
     {
         RealWorld {
             rt,
@@ -136,9 +167,7 @@ impl<R> RealWorld<R> {
             object_faults: 0,
         }
     }
-}
 
-impl<R: Files<File = File>> RealWorld<R> {
     // The file of a name, open for reading, where the system opens it.
     fn source(&self, name: &str) -> Option<FileSource>
         ensures named { IfSome result (λ source. source.name ≡ name.now) }
@@ -146,11 +175,7 @@ impl<R: Files<File = File>> RealWorld<R> {
     {
         let path = Path::from_text(self.alloc, name).ok()?;
         let file = fs::open(&self.rt, name).ok()?;
-        Some(FileSource {
-            file,
-            name: path,
-            faults: 0,
-        })
+        Some(FileSource::new(file, path))
     }
 
     // The file of a name, made anew, where the system makes it.
@@ -160,11 +185,7 @@ impl<R: Files<File = File>> RealWorld<R> {
     {
         let path = Path::from_text(self.alloc, name).ok()?;
         let file = fs::create(&self.rt, name).ok()?;
-        Some(FileSink {
-            file,
-            name: path,
-            faults: 0,
-        })
+        Some(FileSink::new(file, path))
     }
 }
 

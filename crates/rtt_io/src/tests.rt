@@ -1,6 +1,6 @@
 use crate::{
-    FailingCall, FailingWrite, MemSink, MemSource, MemWorld, RealWorld, Sink, Source, SteadySource,
-    StreamSink, World,
+    FailingCall, FailingWrite, FileSink, FileSource, MemSink, MemSource, MemWorld, ReadFault,
+    RealWorld, Sink, Source, SteadySource, StreamSink, World, read_whole,
 };
 use rtt_base::{Bytes, Path};
 use std::io::{ErrorKind, Write};
@@ -162,5 +162,57 @@ fn a_real_file_is_written_and_read_back(rt: HostRuntime) -> Result<(), Fail> {
     world.done_src(source);
     assert!(rt; world.open_source("rtt_io_no_such_file").is_err());
     std::fs::remove_file(&rt, "rtt_io_test_file")?;
+    Ok(())
+}
+
+#[test]
+fn real_forms_over_memory_give_and_take_what_it_holds(rt: HostRuntime) -> Result<(), Fail> {
+    let octets: &[u8] = b"abc";
+    let mut source = FileSource::new(octets, Path::from_text(rt.alloc(), "a.in")?);
+    let mut buf = [0; 8];
+    assert_eq!(rt; source.read(&mut buf)?, 3);
+    assert_eq!(rt; buf[..3], b"abc"[..]);
+    assert_eq!(rt; source.read(&mut buf)?, 0);
+    let mut sink = FileSink::new(Vec::new(rt.alloc()), Path::from_text(rt.alloc(), "a.out")?);
+    sink.write_all(b"one ")?;
+    sink.write_all(b"two")?;
+    let mut stream = StreamSink::new(Vec::new(rt.alloc()));
+    stream.write_all(b"three")?;
+    Ok(())
+}
+
+#[test]
+fn a_whole_source_is_read_to_its_end_or_one_block_past_the_limit(
+    rt: HostRuntime,
+) -> Result<(), Fail> {
+    let mut octets = Bytes::new(rt.alloc());
+    octets.append(b"abcdef")?;
+    let mut source = SteadySource::new(octets);
+    source.set_step(2);
+    let front = read_whole(rt.alloc(), &mut source, 3)?;
+    assert_eq!(rt; front.as_slice(), b"abcd".as_slice());
+    let rest = read_whole(rt.alloc(), &mut source, 3)?;
+    assert_eq!(rt; rest.as_slice(), b"ef".as_slice());
+    Ok(())
+}
+
+#[test]
+fn a_world_fails_no_call_that_it_was_not_told(rt: HostRuntime) -> Result<(), Fail> {
+    let mut world = MemWorld::new(rt.alloc());
+    world.add_file("a", b"abc")?;
+    let mut source = world.open_source("a")?;
+    let octets = read_whole(rt.alloc(), &mut source, 100)?;
+    world.done_src(source);
+    let mut sink = world.create_sink("b")?;
+    sink.write_all(octets.as_slice())?;
+    world.done_dst(sink);
+    assert!(rt; holds(&world, "b", b"abc"));
+    let mut failing = MemWorld::new(rt.alloc());
+    failing.add_file("a", b"abc")?;
+    failing.fail(FailingCall::Read(Path::from_text(rt.alloc(), "a")?, 1))?;
+    let mut source = failing.open_source("a")?;
+    let answer = read_whole(rt.alloc(), &mut source, 100);
+    failing.done_src(source);
+    assert!(rt; matches!(answer, Err(ReadFault::Failed)));
     Ok(())
 }

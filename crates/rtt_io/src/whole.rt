@@ -1,5 +1,5 @@
 //! Reading of a whole source.
-ghost use Rattle.std.specs.Prelude.{◌≡◌, ◌<◌, ◌≤◌, ◌+◌, ◌^◌, [], ◌++◌, length, take, OnErr, IfOk, Err};
+ghost use Rattle.std.specs.Prelude.{◌≡◌, ◌≢◌, ◌<◌, ◌≤◌, ◌+◌, ◌^◌, [], ◌++◌, length, take, OnErr, IfOk, Err};
 ghost use Rattle.rtt_io.specs.Counts.{Rose};
 
 use crate::Source;
@@ -17,12 +17,14 @@ pub enum ReadFault {
     NoMemory,
 }
 
-/// Reads a source to its end, or until it has given more than `most` octets.
+/// Reads a source to its end, or until it has given more than `most` octets: it reads in blocks of 4096, so at most
+/// one block more.
 pub fn read_whole<S: Source>(alloc: Global, source: &mut S, most: usize) -> Result<Bytes, ReadFault>
     ensures given { S.tells → IfOk result (λ octets. S.left source.old ≡ octets ++ S.left source.new) }
     ensures ended { S.tells → IfOk result (λ octets. length octets ≤ most → S.left source.new ≡ []) }
     ensures bounded { IfOk result (λ octets. length octets ≤ most + 4096) }
     ensures failed { result ≡ Err ReadFault.Failed → Rose (S.faults source.old) (S.faults source.new) }
+    ensures calm { result ≢ Err ReadFault.Failed → S.faults source.new ≡ S.faults source.old }
     ensures never_falls { S.faults source.old ≤ S.faults source.new }
     ensures same_name { S.name source.new ≡ S.name source.old }
 {

@@ -55,6 +55,7 @@ pub trait World {
     fn done_src(&mut self, source: Self::Src)
         ensures same_own { (n : List ℕ) → own_faults self.new n ≡ own_faults self.old n }
         ensures objects_never_fall { (n : List ℕ) → object_faults self.old n ≤ object_faults self.new n }
+        ensures calm { Self.Src.faults source ≡ 0 → (n : List ℕ) → object_faults self.new n ≡ object_faults self.old n }
         ensures added { object_faults self.new (Self.Src.name source) ≡ counted (object_faults self.old (Self.Src.name source)) (Self.Src.faults source) }
         ensures same_contents { tells → (n : List ℕ) → contents self.new n ≡ contents self.old n };
 
@@ -62,6 +63,7 @@ pub trait World {
     fn done_dst(&mut self, sink: Self::Dst)
         ensures same_own { (n : List ℕ) → own_faults self.new n ≡ own_faults self.old n }
         ensures objects_never_fall { (n : List ℕ) → object_faults self.old n ≤ object_faults self.new n }
+        ensures calm { Self.Dst.faults sink ≡ 0 → (n : List ℕ) → object_faults self.new n ≡ object_faults self.old n }
         ensures added { object_faults self.new (Self.Dst.name sink) ≡ counted (object_faults self.old (Self.Dst.name sink)) (Self.Dst.faults sink) }
         ensures stored { tells → IsSome (contents self.old (Self.Dst.name sink)) → contents self.new (Self.Dst.name sink) ≡ Some (Self.Dst.took sink) }
         ensures other_contents { tells → (n : List ℕ) → n ≢ Self.Dst.name sink → contents self.new n ≡ contents self.old n };

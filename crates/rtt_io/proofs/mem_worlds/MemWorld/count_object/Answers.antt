@@ -1,7 +1,7 @@
 use Rattle.std.proofs.Common.{◌∙◌, ap, refl, arith}
 use Rattle.std.specs.List.{position}
 use Rattle.rtt_io.specs.Files.{is_named}
-use Rattle.rtt_io.proofs.Files.{written, octets_stay, own_stay, objects_rise, objects_added}
+use Rattle.rtt_io.proofs.Files.{written, octets_stay, own_stay, objects_rise, objects_added, objects_calm}
 use Rattle.rtt_io.proofs.mem_worlds.MemWorld.count_object.Goals as goal
 
 pub returns-in-Some-clause-added : goal.returns-in-Some-clause-added
@@ -19,3 +19,7 @@ returns-in-Some-clause-same_contents c =
 pub returns-in-Some-clause-same_own : goal.returns-in-Some-clause-same_own
 returns-in-Some-clause-same_own c =
     own_stay (written c.args.self.now.files.items c.args.name.now c.in-Some.at c.index_mut-file.result.now _ (c.in-Some.ensures ∙ ap (position (is_named c.args.name.now)) c.as_slice.ensures.value) c.index_mut-file.ensures.value refl) refl _
+
+pub returns-in-Some-clause-calm : goal.returns-in-Some-clause-calm
+returns-in-Some-clause-calm c z =
+    objects_calm (written c.args.self.now.files.items c.args.name.now c.in-Some.at c.index_mut-file.result.now _ (c.in-Some.ensures ∙ ap (position (is_named c.args.name.now)) c.as_slice.ensures.value) c.index_mut-file.ensures.value refl) _ c.saturating_add-file.ensures z _
