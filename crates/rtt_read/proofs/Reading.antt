@@ -19,10 +19,6 @@ use Rattle.rtt_read.specs.Hears.{Listens, IsListening, CountsAs, one_if}
 use Rattle.rtt_read.specs.Recordings.{Heard, Hearing, is_read}
 use Rattle.rtpdump_io.specs.Answers.{record_of}
 
-pub one_at_most : (b : Bool) → one_if b ≤ 1
-one_at_most true = omega arith
-one_at_most false = omega arith
-
 many_more : (p : Fate → Bool) (r : ReadConf) (item : Item) (items : List Item) → many p r (item ∷ items) ≡ one_if (p (fate r item)) + many p r items
 many_more p r item items = go (p (fate r item))
   where

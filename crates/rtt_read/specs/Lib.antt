@@ -1,5 +1,3 @@
 pub mod ReadView
-pub mod Bare
-pub mod Texts
 pub mod Hears
 pub mod Recordings

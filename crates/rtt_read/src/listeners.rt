@@ -1,25 +1,22 @@
-//! Hearing one source in the packets of one stream.
-ghost use Rattle.std.specs.Prelude.{◌≡◌, ℕ, ◌+◌, ◌≤◌, ◌<◌, ◌^◌, List, [], ◌∷◌, ◌++◌, length, max, Bool, Some, None, OnOk, IfOk, IsUtf8};
+//! Hearing one source in the packets of one stream, and counting the packets.
+ghost use Rattle.std.specs.Prelude.{◌≡◌, ℕ, ◌+◌, ◌≤◌, ◌<◌, ◌^◌, List, [], length, Bool, Some, Err, OnOk, IfOk, IsUtf8};
 ghost use Rattle.std.specs.List.{concat};
-ghost use Rattle.wire_spec.specs.Packets.{Arrival, packet_of};
+ghost use Rattle.wire_spec.specs.Packets.{Arrival};
 ghost use Rattle.wire_spec.specs.Text.{text_of};
-ghost use Rattle.wire_spec.specs.Dump.{arrived, latest};
+ghost use Rattle.wire_spec.specs.Dump.{arrived};
 ghost use Rattle.stream_spec.specs.Numbering.{numbered, used};
 ghost use Rattle.stream_spec.specs.Hearing.{heard};
-ghost use Rattle.gap_tracker.specs.Stories.{Story, Given, ready_dues};
-ghost use Rattle.gap_tracker.specs.States.{has_ready, arrivals_of, is_finished};
+ghost use Rattle.gap_tracker.specs.Stories.{Story};
+ghost use Rattle.ear.specs.Hears.{all_given, arrivals_of, is_clear, is_quiet, is_finished};
 ghost use Rattle.rtt_read.specs.declared.confs.ReadConf.{ReadConf};
 ghost use Rattle.text_spec.specs.Shown.{shown};
 ghost use Rattle.text_spec.specs.Views.{text_view};
-ghost use Rattle.rtt_read.specs.Texts.{IsTextPacket};
-ghost use Rattle.rtt_read.specs.ReadView.{usual_wait, fate_of, Refused};
-ghost use Rattle.rtt_read.specs.Hears.{Hears, Gathers, SameStream, CountsAs, Listens, IsListening};
+ghost use Rattle.rtt_read.specs.ReadView.{usual_wait, fate_of, is_refused, is_foreign, Refused};
+ghost use Rattle.rtt_read.specs.Hears.{HearsText, IsHearingText, SameStream, one_if, CountsAs, Listens, IsListening};
 
 use crate::ReadConf;
-use gap_tracker::Tracker;
-use red_blocks::read_text;
-use rtt_base::{Bytes, NoMemory, Pts, TextPacket};
-use source_receiver::Receiver;
+use ear::{Ear, EarConf};
+use rtt_base::{Bytes, NoMemory};
 use std::alloc::Global;
 use t140_text::views::append_text_view;
 use t140_text::{Counts, show};
@@ -31,12 +28,7 @@ const WAIT: u64 = 1000;
 /// Hears one source in the packets of one stream, and counts the packets.
 #[derive(Drop)]
 pub struct Listener {
-    ssrc: u32,
-    pts: Pts,
-    tracker: Tracker,
-    receiver: Receiver,
-    /// The packet that is read, or heard.
-    packet: Box<TextPacket>,
+    ear: Ear,
     text: Bytes,
     counts: Counts,
 }
@@ -47,12 +39,14 @@ impl Listener {
         ensures listens { IfOk result (λ listener. Listens listener conf []) }
         ensures counts { IfOk result (λ listener. (listener.counts.packets ≡ 0) × (listener.counts.refused ≡ 0) × (listener.counts.foreign ≡ 0)) }
     {
-        Ok(Listener {
+        let asked = EarConf {
+            place: 0,
             ssrc: conf.ssrc,
             pts: conf.pts,
-            tracker: Tracker::new(alloc, WAIT)?,
-            receiver: Receiver::new(alloc, &[conf.source])?,
-            packet: Box::new(alloc, TextPacket::default())?,
+            wait: WAIT,
+        };
+        Ok(Listener {
+            ear: Ear::new(alloc, asked, &[conf.source])?,
             text: Bytes::new(alloc),
             counts: Counts::default(),
         })
@@ -60,32 +54,34 @@ impl Listener {
 
     /// Hears the packets that are settled.
     fn gather(&mut self) -> Result<(), NoMemory>
-        requires stands { (source : ℕ) × (story : Story) × Hears self.old source story }
-        requires few { arrivals_of self.old.tracker ≤ 2 ^ 40 }
-        ensures gathers { OnOk result (Gathers self.old self.new) }
-        ensures all { OnOk result ((source : ℕ) (story : Story) → Hears self.new source story → story.given ≡ ready_dues story) }
-        ensures quiet { OnOk result (has_ready self.new.tracker ≡ Bool.false) }
+        requires stands { IsHearingText self.old }
+        requires clear { is_clear self.old.ear ≡ Bool.true }
+        requires few { arrivals_of self.old.ear ≤ 2 ^ 40 }
+        ensures gathers { OnOk result ((r : ReadConf) (story : Story) → HearsText self.old r story → HearsText self.new r (all_given story)) }
+        ensures same { OnOk result (SameStream self.old self.new) }
+        ensures quiet { OnOk result (is_quiet self.new.ear ≡ Bool.true) }
+        ensures arrivals { OnOk result (arrivals_of self.new.ear ≡ arrivals_of self.old.ear) }
+        ensures finished { OnOk result (is_finished self.new.ear ≡ is_finished self.old.ear) }
     {
-        while let Some(due) = self.tracker.next(&mut self.packet) {
-            self.receiver
-                .take_into(due.number, &self.packet, &mut self.text)?;
-            self.counts.used += 1;
-        }
+        let used = self.ear.gather(&mut self.text)?;
+        self.counts.used += used;
         Ok(())
     }
 
-    /// Takes the packet that is read, which is of the stream and came at `at`.
-    fn take(&mut self, at: u32) -> Result<(), NoMemory>
-        requires stands { IsListening self.old }
-        requires few { arrivals_of self.old.tracker < 2 ^ 40 }
-        requires room { arrivals_of self.old.tracker < self.old.counts.packets }
-        requires texts { IsTextPacket (packet_of self.old.packet.value) }
-        ensures listens { OnOk result ((r : ReadConf) (past : List Arrival) → Listens self.old r past
-            → Listens self.new r (record { time = max at (latest past); packet = packet_of self.old.packet.value } ∷ past)) }
-        ensures counts { OnOk result (SameStream self.old self.new) }
+    /// Counts a packet that was refused.
+    fn count_refused(&mut self, fault: TextFault)
+        requires few { (self.old.counts.refused < 2 ^ 41) × (self.old.counts.foreign < 2 ^ 41) }
+        ensures ear { self.new.ear ≡ self.old.ear }
+        ensures text { self.new.text ≡ self.old.text }
+        ensures packets { self.new.counts.packets ≡ self.old.counts.packets }
+        ensures used { self.new.counts.used ≡ self.old.counts.used }
+        ensures refused { self.new.counts.refused ≡ self.old.counts.refused + one_if (is_refused (fate_of (Err fault))) }
+        ensures foreign { self.new.counts.foreign ≡ self.old.counts.foreign + one_if (is_foreign (fate_of (Err fault))) }
     {
-        let _taken = self.tracker.arrive(u64::from(at), &mut self.packet);
-        self.gather()
+        match fault {
+            TextFault::Foreign => self.counts.foreign += 1,
+            _ => self.counts.refused += 1,
+        }
     }
 
     /// Takes what a record has: a packet, which came at `at`.
@@ -98,14 +94,10 @@ impl Listener {
             → CountsAs (fate_of (text_of octets.now (Some r.ssrc) r.pts)) self.old.counts self.new.counts) }
     {
         self.counts.packets += 1;
-        match read_text(octets, Some(self.ssrc), self.pts, &mut self.packet) {
-            Ok(()) => self.take(at),
-            Err(TextFault::Foreign) => {
-                self.counts.foreign += 1;
-                Ok(())
-            }
-            Err(_) => {
-                self.counts.refused += 1;
+        match self.ear.hear(u64::from(at), octets) {
+            Ok(()) => self.gather(),
+            Err(fault) => {
+                self.count_refused(fault);
                 Ok(())
             }
         }
@@ -132,7 +124,7 @@ impl Listener {
             → self.new.counts.used ≡ length (used usual_wait (numbered past))) }
         ensures same { OnOk result (SameStream self.old self.new) }
     {
-        self.tracker.finish();
+        self.ear.finish();
         self.gather()
     }
 

@@ -2,8 +2,8 @@ use Rattle.std.proofs.Common.{arith}
 use Rattle.rtt_read.specs.ReadView.{is_packet, fate_of}
 use Rattle.wire_spec.specs.Text.{text_of}
 use Rattle.std.proofs.Common.{Some}
-use Rattle.rtt_read.proofs.Listening.{on_ok}
-use Rattle.rtt_read.proofs.Reading.{one_at_most, as_packet, as_refused, packet_counts}
+use Rattle.rtt_read.proofs.Listening.{on_ok, one_at_most}
+use Rattle.rtt_read.proofs.Reading.{as_packet, as_refused, packet_counts}
 use Rattle.rtt_read.proofs.reads.hear_record.Goals as goal
 
 pub returns-in-Packet-clause-listens : goal.returns-in-Packet-clause-listens

@@ -1,7 +1,8 @@
-use Rattle.std.proofs.Common.{[], sym, ◌∙◌}
+use Rattle.std.proofs.Common.{[], sym, ◌∙◌, subst}
+use Rattle.ear.specs.Texts.{AreTextArrivals}
 use Rattle.rtpdump_io.specs.Reading.{to_come}
 use Rattle.rtt_read.specs.ReadView.{usual_wait}
-use Rattle.rtt_read.proofs.Utf8.{heard_utf8}
+use Rattle.ear.proofs.Utf8.{heard_utf8}
 use Rattle.rtt_read.proofs.Viewing.{ends, view_is}
 use Rattle.rtt_read.proofs.reads.heard_view.Goals as goal
 
@@ -11,7 +12,7 @@ listen-requires-clause-stands g c = (c.args.conf, [], c.in-Ok.ensures.listens)
 pub view-requires : goal.view-requires
 view-requires g c =
     let now = c.in_default-listen.ensures.stands in
-    rw (c.in-Ok-finish.ensures.heard now.0 now.1 now.2) (heard_utf8 usual_wait now.1 now.0.source now.2.texts)
+    rw (c.in-Ok-finish.ensures.heard now.0 now.1 now.2) (heard_utf8 usual_wait now.1 now.0.source (subst AreTextArrivals now.2.told.arrivals now.2.hears.hears.texts))
 
 pub returns-in-Ok-view-clause-view : goal.returns-in-Ok-view-clause-view
 returns-in-Ok-view-clause-view g c = λ t octets e.

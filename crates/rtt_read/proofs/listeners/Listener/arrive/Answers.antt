@@ -1,12 +1,22 @@
-use Rattle.std.proofs.Common.{Some}
-use Rattle.wire_spec.specs.Packets.{packet_of}
-use Rattle.rtt_read.proofs.Accepted.{accepted_text}
-use Rattle.rtt_read.proofs.Listening.{on_ok, counted_up, asked_same}
+use Rattle.std.proofs.Common.{refl, sym}
+use Rattle.rtt_read.proofs.Listening.{on_ok5, took, refused, refused_counts, told_text}
 use Rattle.rtt_read.proofs.listeners.Listener.arrive.Goals as goal
 
-pub take-requires-clause-texts : goal.take-requires-clause-texts
-take-requires-clause-texts c = accepted_text c.args.octets.now (Some c.args.self.now.ssrc) c.args.self.now.pts (packet_of c.read_text.new.out) c.in-Ok.ensures.exact
+pub gather-requires-clause-stands : goal.gather-requires-clause-stands
+gather-requires-clause-stands c =
+    let r = c.requires.stands in
+    (r.0, _, told_text c.args.self.now _ c.from.result c.args.octets.now r.0 r.2.story c.hear.ensures.becomes refl refl r.2.hears)
 
 pub returns-in-Ok-clause-listens : goal.returns-in-Ok-clause-listens
-returns-in-Ok-clause-listens c = on_ok c.take.result c.take.ensures.listens (λ f r past li.
-    rw (asked_same c.args.self.now r past c.args.octets.now _ li c.in-Ok.ensures.exact) (f r past (counted_up c.args.self.now _ r past li)))
+returns-in-Ok-clause-listens c = on_ok5 c.gather.result c.gather.ensures.gathers c.gather.ensures.same c.gather.ensures.quiet c.gather.ensures.arrivals c.gather.ensures.finished (λ g same quiet arrivals finished r past li.
+    rw (sym c.from.ensures) (took c.args.self.now _ c.gather.new.self c.from.result c.args.octets.now c.hear.ensures.becomes refl refl c.hear.ensures.finished c.hear.ensures.arrivals g same quiet arrivals finished r past li))
+
+pub returns-in-Err-clause-listens : goal.returns-in-Err-clause-listens
+returns-in-Err-clause-listens c = λ r past li.
+    rw (sym c.from.ensures) (refused c.args.self.now (record c.args.self.now { ear = c.hear.new.self }) c.count_refused.new.self c.from.result c.args.octets.now c.in-Err.fault c.hear.ensures.becomes c.count_refused.ensures.ear c.count_refused.ensures.text c.count_refused.ensures.used
+    c.count_refused.ensures.packets c.count_refused.ensures.refused c.count_refused.ensures.foreign c.in-Err.ensures.quiet c.hear.ensures.finished c.hear.ensures.arrivals r past li)
+
+pub returns-in-Err-clause-counts : goal.returns-in-Err-clause-counts
+returns-in-Err-clause-counts c = λ r past li.
+    refused_counts c.args.self.now (record c.args.self.now { ear = c.hear.new.self }) c.count_refused.new.self c.from.result c.args.octets.now c.in-Err.fault c.hear.ensures.becomes c.count_refused.ensures.ear c.count_refused.ensures.text c.count_refused.ensures.used
+    c.count_refused.ensures.packets c.count_refused.ensures.refused c.count_refused.ensures.foreign c.in-Err.ensures.err r past li

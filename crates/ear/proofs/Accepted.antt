@@ -16,7 +16,7 @@ use Rattle.wire_spec.specs.Red.{red, headers_at, texts_at, blocks_at, all_utf8, 
 use Rattle.wire_spec.specs.Text.{text_of, text_of_short, refused_as, accepted, text_packet}
 use Rattle.wire_spec.specs.declared.headers.RedHeader.{RedHeader}
 use Rattle.wire_spec.specs.Faults.{header_fault, blocks_fault}
-use Rattle.rtt_read.specs.Texts.{IsTextPacket, AreTexts}
+use Rattle.ear.specs.Texts.{IsTextPacket, AreTexts}
 
 bind_ok : {A B E : Type 0} (r : Result A E) (f : A → Result B E) (y : B) → (r >>= f) ≡ Ok y → (x : A) × (r ≡ Ok x) × (f x ≡ Ok y)
 bind_ok (Ok x) f y e = (x, refl, e)

@@ -1,11 +1,12 @@
--- Packets of text have texts in UTF-8 (RFC 4103, section 3).
-use Rattle.std.specs.Prelude.{ℕ, List, [], ◌∷◌, IsUtf8}
+-- Packets of text have texts in UTF-8 (RFC 4103, section 3), and so has what is heard of them.
+use Rattle.std.specs.Prelude.{◌≡◌, ℕ, true, List, [], ◌∷◌, IsUtf8}
 use Rattle.rtt_base.specs.declared.blocks.TextBlock.{TextBlock}
-use Rattle.wire_spec.specs.Packets.{Packet, Arrival}
+use Rattle.wire_spec.specs.Packets.{Packet, Arrival, has_text}
 
-abbrev pub AllUtf8 : List (List ℕ) → Type 0
-AllUtf8 [] = Unit {0}
-AllUtf8 (t ∷ ts) = IsUtf8 t × AllUtf8 ts
+-- each of these is a text: it is not empty, and is UTF-8
+abbrev pub AreHeardTexts : List (List ℕ) → Type 0
+AreHeardTexts [] = Unit {0}
+AreHeardTexts (t ∷ ts) = (has_text t ≡ true) × IsUtf8 t × AreHeardTexts ts
 
 abbrev pub AreTexts : List TextBlock → Type 0
 AreTexts [] = Unit {0}

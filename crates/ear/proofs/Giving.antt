@@ -1,0 +1,285 @@
+-- An ear that is told, and one that gives.
+use Rattle.std.proofs.Common.{◌≡◌, ℕ, ◌+◌, ◌<◌, true, Some, None, List, [], ◌∷◌, ◌++◌, refl, ap, sym, ◌∙◌, arith, length, map, length-append, append-nil, append_assoc, subst, Result, Ok, Err, Box, Global}
+use Rattle.std.specs.Prelude.{not}
+use Rattle.std.specs.List.{concat}
+use Rattle.std.proofs.lemmas.Bool.{and_parts}
+use Rattle.std.proofs.lemmas.List.{map-append, append_cancel_left}
+use Rattle.std.proofs.lemmas.List.Folds.{concat-append}
+use Rattle.rtt_base.specs.declared.text_packets.TextPacket.{TextPacket}
+use Rattle.wire_spec.specs.declared.faults.TextFault.{TextFault}
+use Rattle.wire_spec.specs.Packets.{Packet}
+use Rattle.wire_spec.specs.Text.{text_of}
+use Rattle.stream_spec.specs.Lists.{In}
+use Rattle.stream_spec.specs.Numbering.{Numbered}
+use Rattle.stream_spec.specs.Hearing.{heard_by}
+use Rattle.stream_spec.specs.Ready.{Chunk, chunk}
+use Rattle.stream_spec.specs.ChunksBy.{chunks_by, texts_added}
+use Rattle.stream_spec.proofs.ByNumber.{by_more}
+use Rattle.stream_spec.proofs.Taking.{heard_by_more}
+use Rattle.gap_tracker.specs.Stories.{Story, Given, came, ended, gave, given_of, dues, ready_dues}
+use Rattle.gap_tracker.specs.Tracks.{Tracks}
+use Rattle.gap_tracker.specs.States.{State, has_ready}
+use Rattle.gap_tracker.specs.declared.answers.Due.{Due}
+use Rattle.gap_tracker.proofs.Giving.{order_is}
+use Rattle.source_receiver.specs.Stands.{Stands, AppendsHeard, latest_number, used_packet}
+use Rattle.source_receiver.specs.Pieces.{left_of, is_heard}
+use Rattle.source_receiver.proofs.Blockwise.{heard_left}
+use Rattle.ear.specs.declared.confs.EarConf.{EarConf}
+use Rattle.ear.specs.declared.ears.Ear.{Ear}
+use Rattle.ear.specs.Texts.{AreHeardTexts}
+use Rattle.ear.specs.Hears.{told, arrivals_of, is_finished, is_quiet, texts_left, ready_packet, ready_packets, last_after, Hears, Gave, GaveSome, Becomes, Gathered, ready_chunks, story_chunks}
+use Rattle.ear.proofs.Utf8.{added_utf8}
+use Rattle.ear.proofs.Accepted.{accepted_text}
+use Rattle.ear.proofs.Given.{fronts, above_given, given_fits, given_text, last_snoc}
+use Rattle.ear.proofs.ReadyBy.{chunks_due, chunks_ready, chunks_front}
+
+-- ---- what comes
+quiet_left : (e : Ear) (p : TextPacket) → is_quiet e ≡ true → left_of e.piece p ≡ []
+quiet_left e p q = heard_left e.piece p (and_parts (not (has_ready e.tracker)) (is_heard e.piece) q).1
+
+-- nothing is left of the packet given last, and another may stand in its place
+module _ (e : Ear) (t : State) (b : Box TextPacket Global) (quiet : is_quiet e ≡ true) where
+  none_left : (conf : EarConf) (source : ℕ) (story : Story) (given : List Chunk) → Gave e conf source story given → given ++ map (chunk conf.place e.ready) (left_of e.piece b.value) ≡ chunks_by conf.place (ready_packets story.given) source
+  none_left conf source story given g =
+      ap (λ ts. given ++ map (chunk conf.place e.ready) ts) (quiet_left e b.value quiet ∙ sym (quiet_left e e.packet.value quiet)) ∙ g.chunks
+
+  pub becomes : (f : EarConf → Story → Story) → ((conf : EarConf) (sources : List ℕ) (story : Story) → Hears e conf sources story → Hears (record e { tracker = t; packet = b }) conf sources (f conf story))
+      → ((conf : EarConf) (story : Story) → (f conf story).given ≡ story.given) → Becomes e (record e { tracker = t; packet = b }) f
+  becomes f h same = record {
+    hears = h;
+    gave = λ conf source story given g. record {
+      hears = h conf (source ∷ []) story g.hears;
+      chunks = none_left conf source story given g ∙ ap (λ gs. chunks_by conf.place (ready_packets gs) source) (sym (same conf story));
+      texts = subst AreHeardTexts (sym (quiet_left e b.value quiet)) tt;
+    };
+    clear = (and_parts (not (has_ready e.tracker)) (is_heard e.piece) quiet).1;
+  }
+
+pub told_given : (story : Story) (now : ℕ) (x : Result Packet TextFault) → (told story now x).given ≡ story.given
+told_given story now (Ok p) = refl
+told_given story now (Err f) = refl
+
+-- what is read for the ear is what is asked for
+asked_same : (a b : EarConf) (octets : List ℕ) → a ≡ b → text_of octets (Some a.ssrc) a.pts ≡ text_of octets (Some b.ssrc) b.pts
+asked_same a b octets e = ap (λ (c : EarConf). text_of octets (Some c.ssrc) c.pts) e
+
+pub takes : (e : Ear) (t : State) (b : Box TextPacket Global) (now : ℕ) (octets : List ℕ) (p : Packet) → is_quiet e ≡ true → text_of octets (Some e.conf.ssrc) e.conf.pts ≡ Ok p
+    → ((story : Story) → Tracks e.tracker story → Tracks t (came story now p))
+    → Becomes e (record e { tracker = t; packet = b }) (λ conf story. told story now (text_of octets (Some conf.ssrc) conf.pts))
+takes e t b now octets p quiet x k = becomes e t b quiet (λ conf story. told story now (text_of octets (Some conf.ssrc) conf.pts))
+    (λ conf sources story h.
+    let same : text_of octets (Some conf.ssrc) conf.pts ≡ Ok p = sym (asked_same e.conf conf octets h.asked) ∙ x in
+    subst (λ r. Hears (record e { tracker = t; packet = b }) conf sources (told story now r)) (sym same) (record {
+      asked = h.asked;
+      wait = h.wait;
+      tracks = k story h.tracks;
+      stands = h.stands;
+      latest = h.latest;
+      texts = (accepted_text octets (Some e.conf.ssrc) e.conf.pts p x, h.texts);
+    }))
+    (λ conf story. told_given story now (text_of octets (Some conf.ssrc) conf.pts))
+
+-- what is refused changes nothing but the packet's place
+pub refuses : (e : Ear) (b : Box TextPacket Global) (now : ℕ) (octets : List ℕ) (f : TextFault) → is_quiet e ≡ true → text_of octets (Some e.conf.ssrc) e.conf.pts ≡ Err f
+    → Becomes e (record e { packet = b }) (λ conf story. told story now (text_of octets (Some conf.ssrc) conf.pts))
+refuses e b now octets f quiet x = becomes e e.tracker b quiet (λ conf story. told story now (text_of octets (Some conf.ssrc) conf.pts))
+    (λ conf sources story h.
+    let same : text_of octets (Some conf.ssrc) conf.pts ≡ Err f = sym (asked_same e.conf conf octets h.asked) ∙ x in
+    subst (λ r. Hears (record e { packet = b }) conf sources (told story now r)) (sym same) (record {
+      asked = h.asked;
+      wait = h.wait;
+      tracks = h.tracks;
+      stands = h.stands;
+      latest = h.latest;
+      texts = h.texts;
+    }))
+    (λ conf story. told_given story now (text_of octets (Some conf.ssrc) conf.pts))
+
+-- each chunk is ready by the end
+pub end_chunks : (conf : EarConf) (source : ℕ) (story : Story) → story.wait ≡ conf.wait → ready_dues (ended story) ≡ dues story → ready_chunks conf source (ended story) ≡ story_chunks conf source story
+end_chunks conf source story w e =
+    let all : dues (ended story) ≡ ready_dues (ended story) ++ [] = sym (append-nil (ready_dues (ended story)) ∙ e) in
+    sym (chunks_ready conf source (ended story) [] w all) ∙ (ap (λ gs. chunks_by conf.place (ready_packets gs) source) e ∙ sym (chunks_due conf source story w))
+
+-- ---- one more packet is given
+pub heard_one : (e m : Ear) (conf : EarConf) (sources : List ℕ) (story : Story) (due : Due) (p : TextPacket) → m.conf ≡ e.conf → Hears e conf sources story → Tracks m.tracker (gave story (given_of due p))
+    → Stands m.receiver sources (ready_packets story.given ++ used_packet due.ready due.number p ∷ []) → latest_number m.receiver ≡ Some due.number
+    → Hears m conf sources (gave story (given_of due p))
+heard_one e m conf sources story due p c h t s n =
+    let more : ready_packets (story.given ++ given_of due p ∷ []) ≡ ready_packets story.given ++ used_packet due.ready due.number p ∷ [] = map-append ready_packet story.given (given_of due p ∷ []) in
+    record {
+      asked = c ∙ h.asked;
+      wait = h.wait;
+      tracks = t;
+      stands = rw more s;
+      latest = n ∙ sym (ap (last_after None) more ∙ last_snoc None (ready_packets story.given) (used_packet due.ready due.number p));
+      texts = h.texts;
+    }
+
+-- ---- between two chunks
+pub record Going (old e : Ear) : Type 0 where
+  pub gave : (conf : EarConf) (source : ℕ) (story : Story) (given : List Chunk) → Gave old conf source story given → GaveSome e conf source story given
+  pub conf : e.conf ≡ old.conf
+  pub arrivals : arrivals_of e ≡ arrivals_of old
+  pub finished : is_finished e ≡ is_finished old
+
+pub starts : (e : Ear) → Going e e
+starts e = record { gave = λ conf source story given g. (story.given, g); conf = refl; arrivals = refl; finished = refl }
+
+-- a text of the packet is given
+pub peels : (old e m : Ear) (c : Chunk) → Going old e → m.conf ≡ e.conf → m.tracker ≡ e.tracker → m.receiver ≡ e.receiver → m.ready ≡ e.ready → c ≡ chunk e.conf.place e.ready c.text → texts_left e ≡ c.text ∷ texts_left m
+    → (conf : EarConf) (source : ℕ) (story : Story) (given : List Chunk) → Gave old conf source story given → GaveSome m conf source story (given ++ c ∷ [])
+peels old e m c going k t r y is left conf source story given g =
+    let now = going.gave conf source story given g in
+    let h = now.1.hears in
+    let texts : AreHeardTexts (c.text ∷ texts_left m) = subst AreHeardTexts left now.1.texts in (
+      now.0,
+      record {
+        hears = record {
+          asked = k ∙ h.asked;
+          wait = h.wait;
+          tracks = rw t h.tracks;
+          stands = rw r h.stands;
+          latest = rw r h.latest;
+          texts = h.texts;
+        };
+        chunks = append_assoc given (c ∷ []) (map (chunk conf.place m.ready) (texts_left m))
+            ∙ (ap (λ d. given ++ d ∷ map (chunk conf.place m.ready) (texts_left m)) (is ∙ ap (λ (q : EarConf). chunk q.place e.ready c.text) h.asked)
+            ∙ (ap (λ n. given ++ chunk conf.place e.ready c.text ∷ map (chunk conf.place n) (texts_left m)) y
+            ∙ (ap (λ ts. given ++ map (chunk conf.place e.ready) ts) (sym left) ∙ now.1.chunks)));
+        texts = texts.2;
+      },
+    )
+
+-- what b adds
+added_is : (us : List Numbered) (b : Numbered) (s : ℕ) (ts : List (List ℕ)) → ((u : Numbered) → In u us → u.number < b.number)
+    → heard_by (us ++ b ∷ []) s ≡ heard_by us s ++ ts → ts ≡ texts_added us b s
+added_is us b s ts above e = append_cancel_left (heard_by us s) ts (texts_added us b s) (sym e ∙ heard_by_more us b s above)
+
+-- a packet is taken, and nothing was left of the one before
+pub opens : (old e m : Ear) (due : Due) → Going old e → m.conf ≡ e.conf → texts_left e ≡ []
+    → m.ready ≡ due.ready
+    → ((story : Story) → Tracks e.tracker story → Tracks m.tracker (gave story (given_of due m.packet.value)))
+    → ((sources : List ℕ) (us : List Numbered) (time : ℕ) → Stands e.receiver sources us → Stands m.receiver sources (us ++ used_packet time due.number m.packet.value ∷ []))
+    → latest_number m.receiver ≡ Some due.number
+    → ((source : ℕ) (us : List Numbered) (time : ℕ) → Stands e.receiver (source ∷ []) us → heard_by (us ++ used_packet time due.number m.packet.value ∷ []) source ≡ heard_by us source ++ texts_left m)
+    → (conf : EarConf) (source : ℕ) (story : Story) (given : List Chunk) → Gave old conf source story given → GaveSome m conf source story given
+opens old e m due going k none y t s n heard conf source story given g =
+    let now = going.gave conf source story given g in
+    let h = now.1.hears in
+    let before : Story = record story { given = now.0 } in
+    let us : List Numbered = ready_packets now.0 in
+    let one : Given = given_of due m.packet.value in
+    let u : Numbered = used_packet due.ready due.number m.packet.value in
+    let told : Tracks m.tracker (gave before one) = t before h.tracks in
+    let above = above_given m.tracker before one told in
+    let added : texts_left m ≡ texts_added us u source = added_is us u source (texts_left m) above (heard source us due.ready h.stands) in
+    let whole : given ≡ chunks_by conf.place us source = sym (append-nil given) ∙ (ap (λ ts. given ++ map (chunk conf.place e.ready) ts) (sym none) ∙ now.1.chunks) in (
+      now.0 ++ one ∷ [],
+      record {
+        hears = heard_one e m conf (source ∷ []) before due m.packet.value k h told (s (source ∷ []) us due.ready h.stands) n;
+        chunks = ap (λ cs. cs ++ map (chunk conf.place m.ready) (texts_left m)) whole
+            ∙ (ap (λ r. chunks_by conf.place us source ++ map (chunk conf.place r) (texts_left m)) y
+            ∙ (ap (λ ts. chunks_by conf.place us source ++ map (chunk conf.place due.ready) ts) added
+            ∙ (sym (by_more conf.place us u source above) ∙ ap (λ vs. chunks_by conf.place vs source) (sym (map-append ready_packet now.0 (one ∷ []))))));
+        texts = subst AreHeardTexts (sym added) (added_utf8 us u source (given_text m.tracker before one told h.texts));
+      },
+    )
+
+-- nothing more is ready
+pub rests : (old e m : Ear) → Going old e → m.conf ≡ e.conf → m.tracker ≡ e.tracker → m.receiver ≡ e.receiver → texts_left e ≡ [] → texts_left m ≡ []
+    → (conf : EarConf) (source : ℕ) (story : Story) (given : List Chunk) → Gave old conf source story given → GaveSome m conf source story given
+rests old e m going k t r none left conf source story given g =
+    let now = going.gave conf source story given g in
+    let h = now.1.hears in (
+      now.0,
+      record {
+        hears = record { asked = k ∙ h.asked; wait = h.wait; tracks = rw t h.tracks; stands = rw r h.stands; latest = rw r h.latest; texts = h.texts };
+        chunks = ap (λ ts. given ++ map (chunk conf.place m.ready) ts) left ∙ (ap (λ ts. given ++ map (chunk conf.place e.ready) ts) (sym none) ∙ now.1.chunks);
+        texts = subst AreHeardTexts (sym left) tt;
+      },
+    )
+
+pub gave_ready : (old e : Ear) → Going old e → texts_left e ≡ [] → ((story : Story) → Tracks e.tracker story → story.given ≡ ready_dues story)
+    → (conf : EarConf) (source : ℕ) (story : Story) (given : List Chunk) → Gave old conf source story given → given ≡ ready_chunks conf source story
+gave_ready old e going none all conf source story given g =
+    let now = going.gave conf source story given g in
+    let h = now.1.hears in
+    let before : Story = record story { given = now.0 } in
+    let o = order_is e.tracker before h.tracks in
+    sym (append-nil given) ∙ (ap (λ ts. given ++ map (chunk conf.place e.ready) ts) (sym none) ∙ (now.1.chunks
+    ∙ (ap (λ gs. chunks_by conf.place (ready_packets gs) source) (all before h.tracks) ∙ chunks_ready conf source story _ h.wait o.dues_are)))
+
+pub gave_front : (e : Ear) (conf : EarConf) (source : ℕ) (story : Story) (given : List Chunk) → Gave e conf source story given → (rest : List Chunk) × (story_chunks conf source story ≡ given ++ rest)
+gave_front e conf source story given g =
+    let f = fronts e.tracker story g.hears.tracks in
+    let left : List Chunk = map (chunk conf.place e.ready) (texts_left e) in
+    let c = chunks_front conf source story story.given f.rest g.hears.wait f.is in
+    (left ++ c.0, c.1 ∙ (ap (λ cs. cs ++ c.0) (sym g.chunks) ∙ append_assoc given left c.0))
+
+-- ---- all at once
+pub record Gathering (old e : Ear) (n : ℕ) (out more : List ℕ) : Type 0 where
+  pub hears : (conf : EarConf) (source : ℕ) (story : Story) → Hears old conf (source ∷ []) story
+      → (given : List Given) × Hears e conf (source ∷ []) (record story { given = given }) × (length given ≡ length story.given + n) × AppendsHeard out more (heard_by (ready_packets story.given) source) (heard_by (ready_packets given) source)
+  pub conf : e.conf ≡ old.conf
+  pub piece : e.piece ≡ old.piece
+  pub arrivals : arrivals_of e ≡ arrivals_of old
+  pub finished : is_finished e ≡ is_finished old
+
+pub gathers_none : (e : Ear) (out : List ℕ) → Gathering e e 0 out out
+gathers_none e out = record {
+  hears = λ conf source story h. (story.given, h, omega arith, record { more = []; appended = sym (append-nil out); heard = sym (append-nil _) });
+  conf = refl;
+  piece = refl;
+  arrivals = refl;
+  finished = refl;
+}
+
+pub gathers_one : (old e m : Ear) (due : Due) (n : ℕ) (out some more : List ℕ) → Gathering old e n out some → m.conf ≡ e.conf
+    → ((story : Story) → Tracks e.tracker story → Tracks m.tracker (gave story (given_of due m.packet.value)))
+    → ((sources : List ℕ) (us : List Numbered) (time : ℕ) → Stands e.receiver sources us → Stands m.receiver sources (us ++ used_packet time due.number m.packet.value ∷ []))
+    → latest_number m.receiver ≡ Some due.number
+    → ((source : ℕ) (us : List Numbered) (time : ℕ) → Stands e.receiver (source ∷ []) us → AppendsHeard some more (heard_by us source) (heard_by (us ++ used_packet time due.number m.packet.value ∷ []) source))
+    → (conf : EarConf) (source : ℕ) (story : Story) → Hears old conf (source ∷ []) story
+    → (given : List Given) × Hears m conf (source ∷ []) (record story { given = given }) × (length given ≡ length story.given + (n + 1)) × AppendsHeard out more (heard_by (ready_packets story.given) source) (heard_by (ready_packets given) source)
+gathers_one old e m due n out some more g k t s latest heard conf source story h =
+    let now = g.hears conf source story h in
+    let before : Story = record story { given = now.0 } in
+    let one : Given = given_of due m.packet.value in
+    let us : List Numbered = ready_packets now.0 in
+    let a = heard source us due.ready now.1.stands in
+    let b = now.3 in (
+      now.0 ++ one ∷ [],
+      heard_one e m conf (source ∷ []) before due m.packet.value k now.1 (t before now.1.tracks) (s (source ∷ []) us due.ready now.1.stands) latest,
+      omega (arith, length-append now.0 (one ∷ []), now.2),
+      record {
+        more = b.more ++ a.more;
+        appended = a.appended ∙ (ap (λ (o : List ℕ). o ++ concat a.more) b.appended ∙ (append_assoc out (concat b.more) (concat a.more) ∙ ap (λ (o : List ℕ). out ++ o) (sym (concat-append b.more a.more))));
+        heard = ap (λ vs. heard_by vs source) (map-append ready_packet now.0 (one ∷ [])) ∙ (a.heard ∙ (ap (λ ts. ts ++ a.more) b.heard ∙ append_assoc (heard_by (ready_packets story.given) source) b.more a.more));
+      },
+    )
+
+-- nothing more is ready
+pub gathered : (old e : Ear) (n : ℕ) (out more : List ℕ) → Gathering old e n out more → ((story : Story) → Tracks e.tracker story → story.given ≡ ready_dues story)
+    → (conf : EarConf) (source : ℕ) (story : Story) → Hears old conf (source ∷ []) story → Gathered e conf source story n out more
+gathered old e n out more g all conf source story h =
+    let now = g.hears conf source story h in
+    let whole : now.0 ≡ ready_dues story = all (record story { given = now.0 }) now.1.tracks in
+    let few = given_fits e.tracker (record story { given = now.0 }) now.1.tracks in
+    let same : length now.0 ≡ length (ready_dues story) = ap (λ (gs : List Given). length gs) whole in
+    record {
+      hears = subst (λ (gs : List Given). Hears e conf (source ∷ []) (record story { given = gs })) whole now.1;
+      appends = subst (λ (gs : List Given). AppendsHeard out more (heard_by (ready_packets story.given) source) (heard_by (ready_packets gs) source)) whole now.3;
+      used = sym same ∙ now.2;
+      few = omega (arith, same, few);
+    }
+
+-- another packet may stand in the place of the one given last
+pub gathered_moved : (e m : Ear) (conf : EarConf) (source : ℕ) (story : Story) (n : ℕ) (out more : List ℕ) → m.conf ≡ e.conf → m.tracker ≡ e.tracker → m.receiver ≡ e.receiver
+    → Gathered e conf source story n out more → Gathered m conf source story n out more
+gathered_moved e m conf source story n out more k t r g = record {
+  hears = record { asked = k ∙ g.hears.asked; wait = g.hears.wait; tracks = rw t g.hears.tracks; stands = rw r g.hears.stands; latest = rw r g.hears.latest; texts = g.hears.texts };
+  appends = g.appends;
+  used = g.used;
+  few = omega (arith, g.few, ap (λ (s : State). s.arrivals) t);
+}

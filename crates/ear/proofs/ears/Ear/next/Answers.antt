@@ -1,0 +1,53 @@
+use Rattle.std.proofs.Common.{◌≡◌, ◌∷◌, [], ◌++◌, refl, sym, ◌∙◌, subst}
+use Rattle.rtt_base.specs.declared.text_packets.TextPacket.{TextPacket}
+use Rattle.stream_spec.specs.Hearing.{heard_by}
+use Rattle.gap_tracker.specs.Stories.{Story, given_of}
+use Rattle.source_receiver.specs.Stands.{Stands, used_packet}
+use Rattle.source_receiver.specs.Pieces.{left_of}
+use Rattle.source_receiver.proofs.Blockwise.{heard_left}
+use Rattle.ear.proofs.Given.{next_rises}
+use Rattle.ear.proofs.Giving.{peels, opens, rests, gave_ready, gave_front}
+use Rattle.ear.proofs.ears.Ear.next.Goals as goal
+
+pub returns-then-next-clause-some : goal.returns-then-next-clause-some
+returns-then-next-clause-some c = λ ok.
+    peels c.args.self.now c.loop-chunk.self _ _ c.loop-chunk.invariant refl refl refl refl refl
+    (subst (λ (p : TextPacket). left_of c.loop-chunk.self.piece p ≡ c.next.new.out ∷ left_of c.next.new.self p) c.deref.ensures (c.next.ensures.some c.if-next.true))
+
+pub returns-then-next-clause-front : goal.returns-then-next-clause-front
+returns-then-next-clause-front c = gave_front _
+
+pub returns-in_default-clause-none : goal.returns-in_default-clause-none
+returns-in_default-clause-none c = λ ok.
+    rests c.args.self.now c.loop-chunk.self _ c.loop-chunk.invariant refl c.in_default.ensures.unchanged refl
+    (subst (λ (p : TextPacket). left_of c.loop-chunk.self.piece p ≡ []) c.deref.ensures (c.next.ensures.none c.if-next.false))
+    (heard_left c.next.new.self c.next-in-loop-chunk.new.packet.value (c.next.ensures.heard c.if-next.false))
+
+pub returns-in_default-clause-all : goal.returns-in_default-clause-all
+returns-in_default-clause-all c = λ ok.
+    gave_ready c.args.self.now c.loop-chunk.self c.loop-chunk.invariant
+    (subst (λ (p : TextPacket). left_of c.loop-chunk.self.piece p ≡ []) c.deref.ensures (c.next.ensures.none c.if-next.false))
+    c.in_default.ensures.none
+
+pub returns-in_default-clause-front : goal.returns-in_default-clause-front
+returns-in_default-clause-front c = gave_front _
+
+pub take_piece-self-requires : goal.take_piece-self-requires
+take_piece-self-requires c = λ latest e.
+    let r = c.requires.gave in
+    let now = c.loop-chunk.invariant.gave r.0 r.1 r.2 r.3 r.4 in
+    let before : Story = record r.2 { given = now.0 } in
+    next_rises c.next-in-loop-chunk.new.self before (given_of c.in-Some.due c.next-in-loop-chunk.new.packet.value) (c.in-Some.ensures.some before now.1.hears.tracks) latest (sym now.1.hears.latest ∙ e)
+
+pub loop-chunk-preserved : goal.loop-chunk-preserved
+loop-chunk-preserved c = record {
+  gave = opens c.args.self.now c.loop-chunk.self _ c.in-Some.due c.loop-chunk.invariant refl
+      (subst (λ (p : TextPacket). left_of c.loop-chunk.self.piece p ≡ []) c.deref.ensures (c.next.ensures.none c.if-next.false))
+      refl c.in-Some.ensures.some
+      (λ sources us time s. subst (λ (p : TextPacket). Stands c.take_piece-self.new.self sources (us ++ used_packet time c.in-Some.due.number p ∷ [])) c.deref-in-loop-chunk.ensures (c.take_piece-self.ensures.stands sources us time s))
+      c.take_piece-self.ensures.latest
+      (λ source us time s. subst (λ (p : TextPacket). heard_by (us ++ used_packet time c.in-Some.due.number p ∷ []) source ≡ heard_by us source ++ left_of c.take_piece-self.result p) c.deref-in-loop-chunk.ensures (c.take_piece-self.ensures.heard source us time s));
+  conf = c.loop-chunk.invariant.conf;
+  arrivals = c.in-Some.ensures.arrivals ∙ c.loop-chunk.invariant.arrivals;
+  finished = c.in-Some.ensures.finished ∙ c.loop-chunk.invariant.finished;
+}

@@ -1,0 +1,153 @@
+-- What an ear stands for: what it was told, and what it gave (profile).
+use Rattle.std.specs.Prelude.{◌≡◌, ℕ, ◌+◌, ◌≤◌, Bool, true, not, ◌&&◌, nat_le, Option, None, Some, Result, Ok, Err, List, [], ◌∷◌, ◌++◌, length, filter, map}
+use Rattle.wire_spec.specs.declared.faults.TextFault.{TextFault}
+use Rattle.wire_spec.specs.Packets.{Packet, Arrival}
+use Rattle.wire_spec.specs.Dump.{latest}
+use Rattle.stream_spec.specs.Numbering.{Numbered}
+use Rattle.stream_spec.specs.Hearing.{heard_by}
+use Rattle.stream_spec.specs.Ready.{Chunk, chunk, chunks}
+use Rattle.stream_spec.specs.ChunksBy.{chunks_by}
+use Rattle.gap_tracker.specs.Stories.{Story, Given, came, ended, dues, ready_dues}
+use Rattle.gap_tracker.specs.Tracks.{Tracks}
+use Rattle.gap_tracker.specs.States.{has_ready}
+use Rattle.gap_tracker.specs.States as tracker
+use Rattle.source_receiver.specs.Stands.{Stands, AppendsHeard, latest_number}
+use Rattle.source_receiver.specs.Pieces.{left_of, is_heard}
+use Rattle.ear.specs.declared.confs.EarConf.{EarConf}
+use Rattle.ear.specs.declared.ears.Ear.{Ear}
+use Rattle.ear.specs.Texts.{AreHeardTexts, AreTextArrivals}
+
+-- ---- what is seen of an ear
+
+abbrev pub conf_of : Ear → EarConf
+conf_of e = e.conf
+
+-- how many packets came
+abbrev pub arrivals_of : Ear → ℕ
+arrivals_of e = tracker.arrivals_of e.tracker
+
+abbrev pub is_finished : Ear → Bool
+is_finished e = tracker.is_finished e.tracker
+
+-- nothing is left of the packet given last
+abbrev pub is_clear : Ear → Bool
+is_clear e = is_heard e.piece
+
+-- all that is settled by now was given
+abbrev pub is_quiet : Ear → Bool
+is_quiet e = not (has_ready e.tracker) && is_clear e
+
+-- the texts of the packet given last that are still to be heard
+abbrev pub texts_left : Ear → List (List ℕ)
+texts_left e = left_of e.piece e.packet.value
+
+-- ---- what it was told
+
+-- an octet string that is a packet of text comes at `now`; nothing else hands in a moment
+abbrev pub told : Story → ℕ → Result Packet TextFault → Story
+told story now (Ok p) = came story now p
+told story now (Err fault) = story
+
+-- it was told of these arrivals, newest first, and of no other moment
+pub record IsToldOf (story : Story) (past : List Arrival) : Type 0 where
+  pub arrivals : story.past ≡ past
+  pub moment : story.moment ≡ latest past
+
+-- all that is ready was given
+abbrev pub all_given : Story → Story
+all_given story = record story { given = ready_dues story }
+
+-- ---- what it gave
+
+-- a packet that was given, with the moment at which it was ready
+abbrev pub ready_packet : Given → Numbered
+ready_packet g = record { time = g.ready; number = g.number; packet = g.packet }
+
+abbrev pub ready_packets : List Given → List Numbered
+ready_packets given = map ready_packet given
+
+abbrev pub last_after : Option ℕ → List Numbered → Option ℕ
+last_after last [] = last
+last_after last (u ∷ us) = last_after (Some u.number) us
+
+-- The ear listens to these sources. Its tracker was told and gave what the story says, and its receiver took that.
+pub record Hears (e : Ear) (conf : EarConf) (sources : List ℕ) (story : Story) : Type 0 where
+  pub asked : e.conf ≡ conf
+  pub wait : story.wait ≡ conf.wait
+  pub tracks : Tracks e.tracker story
+  pub stands : Stands e.receiver sources (ready_packets story.given)
+  pub latest : latest_number e.receiver ≡ last_after None (ready_packets story.given)
+  pub texts : AreTextArrivals story.past
+
+-- the ear listens to one source
+abbrev pub IsHearing : Ear → Type 0
+IsHearing e = (conf : EarConf) × (source : ℕ) × (story : Story) × Hears e conf (source ∷ []) story
+
+-- The ear listens to one source and gave these chunks, oldest first. With what is left of the packet given last they
+-- are the chunks of all packets given.
+pub record Gave (e : Ear) (conf : EarConf) (source : ℕ) (story : Story) (gave : List Chunk) : Type 0 where
+  pub hears : Hears e conf (source ∷ []) story
+  pub chunks : gave ++ map (chunk conf.place e.ready) (texts_left e) ≡ chunks_by conf.place (ready_packets story.given) source
+  pub texts : AreHeardTexts (texts_left e)
+
+abbrev pub IsGiving : Ear → Type 0
+IsGiving e = (conf : EarConf) × (source : ℕ) × (story : Story) × (gave : List Chunk) × Gave e conf source story gave
+
+-- the ear gave them, having taken some of the packets that are ready
+abbrev pub GaveSome : Ear → EarConf → ℕ → Story → List Chunk → Type 0
+GaveSome e conf source story gave = (given : List Given) × Gave e conf source (record story { given = given }) gave
+
+-- ---- by when it gave it
+
+-- all chunks of the source, by what came so far
+abbrev pub story_chunks : EarConf → ℕ → Story → List Chunk
+story_chunks conf source story = chunks conf.wait conf.place story.past source
+
+abbrev pub is_ready_by : ℕ → Chunk → Bool
+is_ready_by t c = nat_le c.ready t
+
+-- those of them that are ready by the greatest moment
+abbrev pub ready_chunks : EarConf → ℕ → Story → List Chunk
+ready_chunks conf source story = filter (is_ready_by story.moment) (story_chunks conf source story)
+
+-- ---- what calls make of it
+
+-- what came is another, and what was given stays, of which nothing is left
+pub record Becomes (old new : Ear) (f : EarConf → Story → Story) : Type 0 where
+  pub hears : (conf : EarConf) (sources : List ℕ) (story : Story) → Hears old conf sources story → Hears new conf sources (f conf story)
+  pub gave : (conf : EarConf) (source : ℕ) (story : Story) (gave : List Chunk) → Gave old conf source story gave → Gave new conf source (f conf story) gave
+  pub clear : is_clear new ≡ true
+
+-- a chunk was given
+abbrev pub GivesChunk : Ear → Ear → Chunk → Type 0
+GivesChunk old new c = (conf : EarConf) (source : ℕ) (story : Story) (gave : List Chunk) → Gave old conf source story gave → GaveSome new conf source story (gave ++ c ∷ [])
+
+-- none was given
+abbrev pub GivesNone : Ear → Ear → Type 0
+GivesNone old new = (conf : EarConf) (source : ℕ) (story : Story) (gave : List Chunk) → Gave old conf source story gave → GaveSome new conf source story gave
+
+-- exactly the chunks that are ready by the greatest moment were given
+abbrev pub GaveReady : Ear → Type 0
+GaveReady e = (conf : EarConf) (source : ℕ) (story : Story) (gave : List Chunk) → Gave e conf source story gave → gave ≡ ready_chunks conf source story
+
+-- what was given is a front of all chunks
+abbrev pub GaveFront : Ear → Type 0
+GaveFront e = (conf : EarConf) (source : ℕ) (story : Story) (gave : List Chunk) → Gave e conf source story gave → (rest : List Chunk) × (story_chunks conf source story ≡ gave ++ rest)
+
+-- each used packet is ready by the end, and so is each chunk
+pub record IsReadyAtEnd (conf : EarConf) (story : Story) : Type 0 where
+  pub packets : ready_dues (ended story) ≡ dues story
+  pub chunks : (source : ℕ) → ready_chunks conf source (ended story) ≡ story_chunks conf source story
+
+abbrev pub AllReady : Ear → Type 0
+AllReady e = (conf : EarConf) (sources : List ℕ) (story : Story) → Hears e conf sources story → IsReadyAtEnd conf story
+
+-- All that is ready was given, n packets of it now, and the octets of what is heard of them were appended.
+pub record Gathered (e : Ear) (conf : EarConf) (source : ℕ) (story : Story) (n : ℕ) (old new : List ℕ) : Type 0 where
+  pub hears : Hears e conf (source ∷ []) (all_given story)
+  pub appends : AppendsHeard old new (heard_by (ready_packets story.given) source) (heard_by (ready_packets (ready_dues story)) source)
+  pub used : length (ready_dues story) ≡ length story.given + n
+  pub few : length (ready_dues story) ≤ arrivals_of e
+
+abbrev pub Gathers : Ear → Ear → ℕ → List ℕ → List ℕ → Type 0
+Gathers old new n out more = (conf : EarConf) (source : ℕ) (story : Story) → Hears old conf (source ∷ []) story → Gathered new conf source story n out more

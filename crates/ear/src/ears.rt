@@ -1,0 +1,168 @@
+//! The ear of one stream.
+ghost use Rattle.std.specs.Prelude.{◌≡◌, ◌≢◌, ℕ, ◌+◌, ◌≤◌, ◌<◌, ◌^◌, List, [], ◌∷◌, ◌++◌, length, Bool, Some, Ok, Err, OnOk, OnErr, IfOk, IfErr, IsUtf8, AllPairs};
+ghost use Rattle.wire_spec.specs.Packets.{Packet, has_text, packet_of};
+ghost use Rattle.wire_spec.specs.Text.{text_of};
+ghost use Rattle.stream_spec.specs.Ready.{chunk_of};
+ghost use Rattle.gap_tracker.specs.Stories.{Story, begun, went, ended};
+ghost use Rattle.ear.specs.declared.confs.EarConf.{EarConf};
+ghost use Rattle.ear.specs.Hears.{conf_of, arrivals_of, is_finished, is_clear, is_quiet, told, Hears, IsHearing, Gave, IsGiving, Becomes, GivesChunk, GivesNone, GaveReady, GaveFront, AllReady, Gathers};
+
+use crate::EarConf;
+use gap_tracker::Tracker;
+use red_blocks::read_text;
+use rtt_base::{Bytes, Chunk, NoMemory, TextPacket};
+use source_receiver::{Piece, Receiver};
+use std::alloc::Global;
+use wire_spec::TextFault;
+
+/// Hears the packets of one stream, and gives what is heard of them: each text once, in order, with a marker U+FFFD
+/// where text may be missing. A text is given as soon as nothing before it is waited for any longer.
+///
+/// Times are in milliseconds. A time before the greatest one so far stands for that one.
+#[derive(Drop)]
+pub struct Ear {
+    conf: EarConf,
+    tracker: Tracker,
+    receiver: Receiver,
+    /// The packet that is read, or heard.
+    packet: Box<TextPacket>,
+    /// What is still to be heard of it.
+    piece: Piece,
+    /// When it was ready.
+    ready: u64,
+}
+
+impl Ear {
+    /// An ear to which nothing came yet, for the text of these sources: 1 to 16, all different. It takes all memory
+    /// that it needs; only `gather` takes more, for what it appends.
+    pub fn new(alloc: Global, conf: EarConf, sources: &[u32]) -> Result<Ear, NoMemory>
+        requires wait { conf.wait ≤ 10000 }
+        requires some { 0 < length sources.now }
+        requires few { length sources.now ≤ 16 }
+        requires differ { AllPairs (λ a b. a ≢ b) sources.now }
+        ensures hears { IfOk result (λ ear. Hears ear conf sources.now (begun conf.wait)) }
+        ensures gave { IfOk result (λ ear. (source : ℕ) → sources.now ≡ source ∷ [] → Gave ear conf source (begun conf.wait) []) }
+        ensures quiet { IfOk result (λ ear. is_quiet ear ≡ Bool.true) }
+        ensures arrivals { IfOk result (λ ear. arrivals_of ear ≡ 0) }
+        ensures open { IfOk result (λ ear. is_finished ear ≡ Bool.false) }
+    {
+        Ok(Ear {
+            conf,
+            tracker: Tracker::new(alloc, conf.wait)?,
+            receiver: Receiver::new(alloc, sources)?,
+            packet: Box::new(alloc, TextPacket::default())?,
+            piece: Piece::none(),
+            ready: 0,
+        })
+    }
+
+    /// Takes a packet that came at `now`. What is no packet of text of the stream is refused, and hands in no time.
+    pub fn hear(&mut self, now: u64, octets: &[u8]) -> Result<(), TextFault>
+        requires now { now < 2 ^ 48 }
+        requires quiet { is_quiet self.old ≡ Bool.true }
+        requires few { arrivals_of self.old < 2 ^ 40 }
+        ensures ok { OnOk result ((p : Packet) × (text_of octets.now (Some (conf_of self.old).ssrc) (conf_of self.old).pts ≡ Ok p)) }
+        ensures err { IfErr result (λ fault. text_of octets.now (Some (conf_of self.old).ssrc) (conf_of self.old).pts ≡ Err fault) }
+        ensures becomes { Becomes self.old self.new (λ conf story. told story now (text_of octets.now (Some conf.ssrc) conf.pts)) }
+        ensures quiet { OnErr result (is_quiet self.new ≡ Bool.true) }
+        ensures conf { conf_of self.new ≡ conf_of self.old }
+        ensures arrivals { arrivals_of self.new ≤ arrivals_of self.old + 1 }
+        ensures finished { is_finished self.new ≡ is_finished self.old }
+    {
+        match read_text(
+            octets,
+            Some(self.conf.ssrc),
+            self.conf.pts,
+            &mut self.packet,
+        ) {
+            Ok(()) => {
+                let _taken = self.tracker.arrive(now, &mut self.packet);
+                Ok(())
+            }
+            Err(fault) => Err(fault),
+        }
+    }
+
+    /// Lets time go on to `now`.
+    pub fn expire(&mut self, now: u64)
+        requires now { now < 2 ^ 48 }
+        requires quiet { is_quiet self.old ≡ Bool.true }
+        ensures becomes { Becomes self.old self.new (λ conf story. went story now) }
+        ensures conf { conf_of self.new ≡ conf_of self.old }
+        ensures arrivals { arrivals_of self.new ≡ arrivals_of self.old }
+        ensures finished { is_finished self.new ≡ is_finished self.old }
+    {
+        self.tracker.expire(now);
+    }
+
+    /// Lets the wait go by after the greatest moment so far, so that all that came is given.
+    pub fn finish(&mut self)
+        requires quiet { is_quiet self.old ≡ Bool.true }
+        requires once { is_finished self.old ≡ Bool.false }
+        ensures becomes { Becomes self.old self.new (λ conf story. ended story) }
+        // Each chunk is ready by then.
+        ensures all { AllReady self.old }
+        ensures conf { conf_of self.new ≡ conf_of self.old }
+        ensures arrivals { arrivals_of self.new ≡ arrivals_of self.old }
+        ensures finished { is_finished self.new ≡ Bool.true }
+    {
+        self.tracker.finish();
+    }
+
+    /// Puts the next text that is heard of the source in place of what is in `chunk`, and tells whether there was one.
+    /// A marker is a text of its own. It is for an ear of one source.
+    pub fn next(&mut self, chunk: &mut Chunk) -> bool
+        requires gave { IsGiving self.old }
+        ensures some { result ≡ Bool.true → GivesChunk self.old self.new (chunk_of chunk.new) }
+        ensures none { result ≡ Bool.false → GivesNone self.old self.new }
+        ensures all { result ≡ Bool.false → GaveReady self.old }
+        ensures front { GaveFront self.new }
+        ensures text { result ≡ Bool.true → has_text chunk.new.text ≡ Bool.true }
+        ensures utf8 { result ≡ Bool.true → IsUtf8 chunk.new.text }
+        ensures place { result ≡ Bool.true → chunk.new.source ≡ (conf_of self.new).place }
+        ensures quiet { result ≡ Bool.false → is_quiet self.new ≡ Bool.true }
+        ensures conf { conf_of self.new ≡ conf_of self.old }
+        ensures arrivals { arrivals_of self.new ≡ arrivals_of self.old }
+        ensures finished { is_finished self.new ≡ is_finished self.old }
+    {
+        loop {
+            if self.piece.next(&self.packet, &mut chunk.text) {
+                chunk.source = self.conf.place;
+                chunk.ready = self.ready;
+                return true;
+            }
+            let Some(due) = self.tracker.next(&mut self.packet) else {
+                return false;
+            };
+            self.piece = self.receiver.take_piece(due.number, &self.packet);
+            self.ready = due.ready;
+        }
+    }
+
+    /// Appends all that is heard of the source by now, and tells how many packets were used for it. It is for an ear of
+    /// one source.
+    pub fn gather(&mut self, out: &mut Bytes) -> Result<u64, NoMemory>
+        requires hears { IsHearing self.old }
+        requires clear { is_clear self.old ≡ Bool.true }
+        requires few { arrivals_of self.old ≤ 2 ^ 40 }
+        ensures gathers { IfOk result (λ used. Gathers self.old self.new used out.old out.new) }
+        ensures quiet { OnOk result (is_quiet self.new ≡ Bool.true) }
+        ensures conf { OnOk result (conf_of self.new ≡ conf_of self.old) }
+        ensures arrivals { OnOk result (arrivals_of self.new ≡ arrivals_of self.old) }
+        ensures finished { OnOk result (is_finished self.new ≡ is_finished self.old) }
+    {
+        let mut used = 0;
+        while let Some(due) = self.tracker.next(&mut self.packet) {
+            self.receiver.take_into(due.number, &self.packet, out)?;
+            used += 1;
+        }
+        Ok(used)
+    }
+
+    /// How many packets came.
+    pub fn arrivals(&self) -> u64
+        ensures { result ≡ arrivals_of self.now }
+    {
+        self.tracker.arrivals()
+    }
+}

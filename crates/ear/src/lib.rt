@@ -1,0 +1,8 @@
+//! An ear: what is heard of the packets of one stream, whatever was lost, repeated, reordered or late.
+#![tactic(auto)]
+
+mod confs;
+mod ears;
+
+pub use confs::EarConf;
+pub use ears::Ear;
