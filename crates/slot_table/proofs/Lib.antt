@@ -1,0 +1,10 @@
+pub mod Lists
+pub mod Fronts
+pub mod Sizes
+pub mod Holding
+pub mod Taking
+pub mod Adding
+pub mod Rebasing
+pub mod Spanning
+pub mod Starting
+pub mod Sources

@@ -1,0 +1,25 @@
+use Rattle.std.proofs.Common.{◌≡◌, ◌≤◌, ◌+◌, ◌-◌, ℕ, List, ap, ◌∙◌, ◌++◌, length, length-take, length-append, append_assoc, take, drop, arith}
+use Rattle.slot_table.specs.Rings.{Chunks}
+use Rattle.slot_table.proofs.Lists.{on_ok, parts_between}
+use Rattle.slot_table.proofs.rings.Ring.append_to.Goals as goal
+
+pub returns : goal.returns
+returns c =
+    let first = c.as_slices.result.0.now in
+    let second = c.as_slices.result.1.now in
+    let from = c.args.from in
+    let end = c.args.end in
+    let a = c.min-from_first.result in
+    let b = c.min-end_first.result in
+    let one_part = take (b - a) (drop a first) in
+    let two_part = take ((end - b) - (from - a)) (drop (from - a) second) in
+    let whole : take (b - a) (drop a first) ++ take ((end - b) - (from - a)) (drop (from - a) second) ≡ take (end - from) (drop from c.args.self.now.octets) =
+    parts_between c.args.self.now.octets first second from end a b (c.as_slices.ensures ∙ ap (λ (w : Chunks). w.octets) c.self.view_is) c.requires.order c.min-from_first.ensures c.min-end_first.ensures in
+    let rest = drop from c.args.self.now.octets in
+    let size : length one_part + length two_part ≤ end - from =
+    omega (arith, length-append one_part two_part, ap (λ (l : List ℕ). length l) whole, length-take (end - from) rest) in
+    let one : c.append.new.self ≡ c.args.text.now ++ one_part =
+    on_ok c.append.result (c.append.ensures.room.1 (omega (arith, size, c.requires.fits))) c.append.ensures.ok in
+    let two : c.append-2.new.self ≡ c.append.new.self ++ two_part =
+    on_ok c.append-2.result (c.append-2.ensures.room.1 (omega (arith, size, c.requires.fits, ap (λ (l : List ℕ). length l) one, length-append c.args.text.now one_part))) c.append-2.ensures.ok in
+    two ∙ (ap (λ (l : List ℕ). l ++ two_part) one ∙ (append_assoc c.args.text.now one_part two_part ∙ ap (λ (l : List ℕ). c.args.text.now ++ l) whole))

@@ -1,0 +1,138 @@
+//! What waits of one source, at every terminal.
+ghost use Rattle.std.specs.Prelude.{◌≡◌, ◌+◌, ◌-◌, ◌<◌, ◌≤◌, ◌==◌, ◌∷◌, ◌++◌, ◌↔◌, [], ℕ, List, Bool, true, not, length, if◌then◌else◌, IsOk, IfOk, OnOk, OnErr};
+ghost use Rattle.stream_spec.specs.Ready.{Chunk};
+ghost use Rattle.mixer_spec.specs.Rounds.{set_at};
+ghost use Rattle.mixer_spec.specs.Setups.{Setup};
+ghost use Rattle.mixer_spec.specs.Chunks.{joined, octets, front, behind, has_chunk};
+ghost use Rattle.mixer_spec.specs.Table.{Taken, Table, is_fit, is_given, span_with};
+
+use crate::parts::{Part, count_from, first_parts, oldest};
+use crate::rings::{Place, Ring};
+use rtt_base::{Full, NoMemory, Text};
+use std::alloc::Global;
+use std::marker::Model;
+
+/// The chunks of one source, and the part of them that waits for each terminal.
+#[derive(Drop)]
+pub struct Lane {
+    ring: Ring,
+    parts: Vec<Part>,
+}
+
+impl Model for Lane {
+    ghost use Rattle.slot_table.specs.Lanes.{Waiting};
+
+    ghost Value = { Waiting };
+
+    ghost use Rattle.slot_table.specs.LaneInsides.{waiting_in, IsLane};
+
+    ghost view = { waiting_in };
+
+    ghost invariant = { IsLane };
+}
+
+impl Lane {
+    ghost use Rattle.slot_table.specs.Lanes.{Waiting};
+    ghost use Rattle.slot_table.specs.Words.{all_listen};
+    ghost use Rattle.slot_table.specs.Standing.{Holds, SourceStands};
+
+    /// The lane of the source `own`, which is heard by each of so many terminals but its own.
+    pub fn new(alloc: Global, terminals: usize, own: usize) -> Result<Lane, NoMemory>
+        ensures terminals { IfOk result (λ w. length w.parts ≡ terminals) }
+        ensures holds { IfOk result (λ w. Holds w [] (is_given all_listen.seats own) (λ j. [])) }
+    {
+        let ring = Ring::new(alloc)?;
+        let parts = first_parts(alloc, terminals, own)?;
+        Ok(Lane { ring, parts })
+    }
+
+    /// Whether the terminal hears what comes from now on. Where it is to, what waits for it is let go.
+    pub fn listen(&mut self, terminal: usize, on: bool)
+        requires { terminal < length self.old.parts }
+        ensures terminals { length self.new.parts ≡ length self.old.parts }
+        ensures holds { (taken : List Taken) (listens : ℕ → Bool) (waits : ℕ → List Chunk) → Holds self.old taken listens waits
+            → Holds self.new taken (set_at listens terminal on) (if on then set_at waits terminal [] else waits) }
+    {
+        let heard = self.parts[terminal].heard(on, self.ring.end());
+        self.parts[terminal] = heard;
+    }
+
+    /// The octets that wait at the terminal.
+    pub fn waiting(&self, terminal: usize) -> usize
+        requires { terminal < length self.now.parts }
+        ensures { (taken : List Taken) (listens : ℕ → Bool) (waits : ℕ → List Chunk) → Holds self.now taken listens waits
+            → result ≡ octets (waits terminal) }
+    {
+        let part = self.parts[terminal];
+        let end = part.end(self.ring.end());
+        end.octets - part.from.octets
+    }
+
+    /// Whether a chunk waits at the terminal.
+    pub fn has_waiting(&self, terminal: usize) -> bool
+        requires { terminal < length self.now.parts }
+        ensures { (taken : List Taken) (listens : ℕ → Bool) (waits : ℕ → List Chunk) → Holds self.now taken listens waits
+            → result ≡ has_chunk (waits terminal) }
+    {
+        let part = self.parts[terminal];
+        let end = part.end(self.ring.end());
+        part.from.chunks < end.chunks
+    }
+
+    /// Appends the longest list of whole chunks with at most `room` octets that waits at the terminal, and takes it from there.
+    pub fn take(&mut self, terminal: usize, room: usize, text: &mut Text)
+        requires terminal { terminal < length self.old.parts }
+        requires fits { length text.old + room ≤ 1023 }
+        ensures terminals { length self.new.parts ≡ length self.old.parts }
+        ensures text { (taken : List Taken) (listens : ℕ → Bool) (waits : ℕ → List Chunk) → Holds self.old taken listens waits
+            → text.new ≡ text.old ++ joined (front room (waits terminal)) }
+        ensures fits { length text.new ≤ length text.old + room }
+        ensures holds { (taken : List Taken) (listens : ℕ → Bool) (waits : ℕ → List Chunk) → Holds self.old taken listens waits
+            → Holds self.new taken listens (set_at waits terminal (behind room (waits terminal))) }
+    {
+        let all = self.ring.end();
+        let part = self.parts[terminal];
+        let end = part.end(all);
+        let place = self.ring.place_behind(part.from, end.chunks, room);
+        self.ring.append_to(part.from.octets, place.octets, text);
+        self.parts[terminal].from = place;
+    }
+
+    /// Appends a chunk. `Full`: the span with it has more than 16384 octets or 512 chunks; then all is as before.
+    pub fn offer(&mut self, text: &[u8]) -> Result<(), Full>
+        requires { length text.now ≤ 1023 }
+        ensures terminals { length self.new.parts ≡ length self.old.parts }
+        ensures room { (s : Setup) (i : ℕ) (table : Table) (c : Chunk) → SourceStands s i self.old table → c.text ≡ text.now
+            → (IsOk result ↔ (is_fit (span_with s i c table) ≡ true)) }
+        ensures ok { OnOk result ((taken : List Taken) (listens : ℕ → Bool) (waits : ℕ → List Chunk) (c : Chunk) → Holds self.old taken listens waits → c.text ≡ text.now
+            → Holds self.new (taken ++ record { chunk = c; given = listens } ∷ []) listens (λ j. if listens j then waits j ++ c ∷ [] else waits j)) }
+        ensures err { OnErr result (self.new ≡ self.old) }
+    {
+        if self.ring.has_room(Place::START, text.len()) {
+            self.ring.push(text);
+            return Ok(());
+        }
+        self.offer_where_full(text)
+    }
+
+    /// `offer`, where chunks must be given up first.
+    #[inline(never)]
+    fn offer_where_full(&mut self, text: &[u8]) -> Result<(), Full>
+        requires { length text.now ≤ 1023 }
+        ensures terminals { length self.new.parts ≡ length self.old.parts }
+        ensures room { (s : Setup) (i : ℕ) (table : Table) (c : Chunk) → SourceStands s i self.old table → c.text ≡ text.now
+            → (IsOk result ↔ (is_fit (span_with s i c table) ≡ true)) }
+        ensures ok { OnOk result ((taken : List Taken) (listens : ℕ → Bool) (waits : ℕ → List Chunk) (c : Chunk) → Holds self.old taken listens waits → c.text ≡ text.now
+            → Holds self.new (taken ++ record { chunk = c; given = listens } ∷ []) listens (λ j. if listens j then waits j ++ c ∷ [] else waits j)) }
+        ensures err { OnErr result (self.new ≡ self.old) }
+    {
+        let front = oldest(&self.parts, self.ring.end());
+        if !self.ring.has_room(front, text.len()) {
+            return Err(Full);
+        }
+        self.ring.give_up(front);
+        count_from(&mut self.parts, front);
+        self.ring.push(text);
+        Ok(())
+    }
+}
