@@ -1,3 +1,4 @@
 mod ConfExamples
 mod Examples
+pub mod Passed
 mod ScriptExamples

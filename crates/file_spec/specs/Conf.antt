@@ -1,5 +1,5 @@
 -- A conference: its legs, its mixer, its times, and what becomes of packets (profile).
-use Rattle.std.specs.Prelude.{ℕ, ◌+◌, ◌==◌, nat_lt, nat_le, Bool, true, false, not, ◌&&◌, ◌||◌, if◌then◌else◌, List, [], ◌∷◌, ◌++◌, length, Option, None, Some, is_some, unwrap_or, option_and_then, Result, Ok, Err, codes, bytes_eq}
+use Rattle.std.specs.Prelude.{ℕ, zero, suc, ◌+◌, ◌==◌, nat_lt, nat_le, Bool, true, false, not, ◌&&◌, ◌||◌, if◌then◌else◌, List, [], ◌∷◌, ◌++◌, length, Option, None, Some, is_some, unwrap_or, option_and_then, Result, Ok, Err, codes, bytes_eq}
 use Rattle.std.specs.List.{list_any, list_all, position}
 use Rattle.std.specs.Option.{ok_or}
 use Rattle.std.specs.Char.{is_ascii_alphanumeric}
@@ -7,17 +7,22 @@ use Rattle.std.specs.Str.{byte, is_utf8}
 use Rattle.std.specs.Str.Lines.{lines}
 use Rattle.rtt_base.specs.declared.text_packets.Pts.{Pts}
 use Rattle.file_spec.specs.declared.kinds.ConfKind.{ConfKind}
-use Rattle.file_spec.specs.declared.kinds.ConfKind.TheVariants.{NotText, Word, Count, Name, Number, Many, PlanMany, Twice, Clash, Few, Large}
+use Rattle.file_spec.specs.declared.kinds.ConfKind.TheVariants.{NotText, Word, Count, Name, Number, Many, PlanMany, Twice, Clash, Few, Crowd, Large}
 use Rattle.file_spec.specs.declared.conf_lines.Form.{Form}
 use Rattle.file_spec.specs.declared.conf_lines.Form.TheVariants.{Files, Links}
 use Rattle.file_spec.specs.declared.conf_lines.MixerLine.{MixerLine}
 use Rattle.file_spec.specs.declared.conf_lines.LegLine.{LegLine}
+use Rattle.file_spec.specs.declared.conf_lines.Stay.{Stay}
+use Rattle.file_spec.specs.declared.conf_lines.GensLine.{GensLine}
+use Rattle.file_spec.specs.declared.conf_lines.StayLine.{StayLine}
 use Rattle.file_spec.specs.declared.conf_lines.PlanLine.{PlanLine}
 use Rattle.file_spec.specs.declared.conf_lines.What.{What}
 use Rattle.file_spec.specs.declared.conf_lines.What.TheVariants as what
+use Rattle.file_spec.specs.declared.limits.TheConstants.{FEWEST_LEGS, MOST_LEGS, MOST_LINKS, LEAST_TICK, MOST_TICK, USUAL_TICK, LEAST_SPACING, MOST_SPACING, USUAL_SPACING, LONGEST_WAIT, USUAL_WAIT, MOST_TURNS, MOST_GENS, USUAL_GENS, MOST_PLAN_LINES, LONGEST_DELAY, LAST_MOMENT, USUAL_T140, USUAL_RED, LONGEST_NAME, LONGEST_PATH, MOST_CONF_OCTETS}
 use Rattle.file_spec.specs.Steps.{◌>>=◌, unless}
 use Rattle.file_spec.specs.Lines.{Line, Refusal, told, is_comment, words, at_line, read_lines}
 use Rattle.file_spec.specs.Numbers.{number, number_between, most_ssrc, pts}
+use Rattle.file_spec.specs.Stays.{is_crowd}
 
 pub record Conf : Type 0 where
   pub legs : List LegLine
@@ -28,9 +33,11 @@ pub record Conf : Type 0 where
   pub mixer : MixerLine
   pub plan : List PlanLine
 
--- what the lines so far say
+-- what the lines so far say: the legs with their generations and stays, and of which legs lines have told these
 pub record Above : Type 0 where
   pub legs : List LegLine
+  pub gens : List ℕ
+  pub stays : List ℕ
   pub tick : Option ℕ
   pub spacing : Option ℕ
   pub wait : Option ℕ
@@ -41,6 +48,8 @@ pub record Above : Type 0 where
 -- what one line says
 pub data Entry : Type 0 where
   Leg : LegLine → Entry
+  Gens : GensLine → Entry
+  Stays : StayLine → Entry
   Tick : ℕ → Entry
   Spacing : ℕ → Entry
   Wait : ℕ → Entry
@@ -49,10 +58,24 @@ pub data Entry : Type 0 where
   Plan : PlanLine → Entry
 
 abbrev pub nothing : Above
-nothing = record { legs = []; tick = None; spacing = None; wait = None; turns = None; mixer = None; plan = [] }
+nothing = record { legs = []; gens = []; stays = []; tick = None; spacing = None; wait = None; turns = None; mixer = None; plan = [] }
+
+-- the legs, the one at this place changed
+abbrev pub change_leg : (LegLine → LegLine) → ℕ → List LegLine → List LegLine
+change_leg change k [] = []
+change_leg change zero (leg ∷ more) = change leg ∷ more
+change_leg change (suc k) (leg ∷ more) = leg ∷ change_leg change k more
+
+abbrev pub with_gens : ℕ → LegLine → LegLine
+with_gens n leg = record leg { gens = n }
+
+abbrev pub with_stay : Stay → LegLine → LegLine
+with_stay stay leg = record leg { stay = stay }
 
 abbrev pub with_entry : Above → Entry → Above
 with_entry a (Leg l) = record a { legs = a.legs ++ l ∷ [] }
+with_entry a (Gens g) = record a { legs = change_leg (with_gens g.gens) g.leg a.legs; gens = a.gens ++ g.leg ∷ [] }
+with_entry a (Stays s) = record a { legs = change_leg (with_stay s.stay) s.leg a.legs; stays = a.stays ++ s.leg ∷ [] }
 with_entry a (Tick n) = record a { tick = Some n }
 with_entry a (Spacing n) = record a { spacing = Some n }
 with_entry a (Wait n) = record a { wait = Some n }
@@ -89,10 +112,10 @@ abbrev pub is_name_octet : ℕ → Bool
 is_name_octet c = is_ascii_alphanumeric c || (c == byte "." || (c == byte "_" || c == byte "-"))
 
 abbrev pub is_name : List ℕ → Bool
-is_name text = nat_lt 0 (length text) && (nat_le (length text) 32 && list_all is_name_octet text)
+is_name text = nat_lt 0 (length text) && (nat_le (length text) LONGEST_NAME && list_all is_name_octet text)
 
 abbrev pub is_path : List ℕ → Bool
-is_path text = nat_lt 0 (length text) && nat_le (length text) 255
+is_path text = nat_lt 0 (length text) && nat_le (length text) LONGEST_PATH
 
 -- the port at which a link hears
 abbrev pub port : List ℕ → Option ℕ
@@ -130,11 +153,20 @@ clashes form above leg =
     list_any (λ a. a.ssrc == leg.ssrc) above.legs || (is_mixers above.mixer leg.ssrc
     || (shares_own form leg || list_any (λ a. shares_path form a leg) above.legs))
 
+-- how many legs there may be
+abbrev pub most_legs : Form → ℕ
+most_legs Files = MOST_LEGS
+most_legs Links = MOST_LINKS
+
 abbrev pub new_leg : Form → Above → LegLine → Result LegLine ConfKind
 new_leg form above leg =
-    unless (nat_le 16 (length above.legs)) Many leg
+    unless (nat_le (most_legs form) (length above.legs)) Many leg
     >>= unless (list_any (λ a. bytes_eq a.name leg.name) above.legs) Twice
     >>= unless (clashes form above leg) Clash
+
+-- without end
+abbrev pub whole_stay : Stay
+whole_stay = record { from = 0; until = None }
 
 unfoldable pub leg_of : Form → Above → ℕ → List ℕ → List ℕ → List ℕ → List ℕ → List ℕ → Option Pts → Result LegLine ConfKind
 leg_of form above n name mode ssrc input output types = do
@@ -143,13 +175,43 @@ leg_of form above n name mode ssrc input output types = do
   sender ← ok_or (number most_ssrc ssrc) Number
   from ← unless (not (has_port form input)) Number input
   pts ← ok_or types Number
-  new_leg form above (record { line = n; name = named; aware = aware; ssrc = sender; input = from; output = output; pts = pts })
+  new_leg form above (record { line = n; name = named; aware = aware; ssrc = sender; input = from; output = output; pts = pts; gens = USUAL_GENS; stay = whole_stay })
 
--- without payload types, 98 and 100
+abbrev pub usual_types : Pts
+usual_types = record { t140 = USUAL_T140; red = USUAL_RED }
+
 abbrev pub leg : Form → Above → ℕ → List (List ℕ) → Result LegLine ConfKind
-leg form above n (name ∷ mode ∷ ssrc ∷ input ∷ output ∷ []) = leg_of form above n name mode ssrc input output (Some (record { t140 = 98; red = 100 }))
+leg form above n (name ∷ mode ∷ ssrc ∷ input ∷ output ∷ []) = leg_of form above n name mode ssrc input output (Some usual_types)
 leg form above n (name ∷ mode ∷ ssrc ∷ input ∷ output ∷ t140 ∷ red ∷ []) = leg_of form above n name mode ssrc input output (pts t140 red)
 leg form above n _ = Err Count
+
+-- ---- generations and stays
+
+-- the leg above that has this name, by its place
+abbrev pub place_of : Above → List ℕ → Result ℕ ConfKind
+place_of above name = ok_or (position (λ leg. bytes_eq leg.name name) above.legs) Name
+
+unfoldable pub gens_of : Above → List ℕ → List ℕ → Result GensLine ConfKind
+gens_of above name count = do
+  k ← place_of above name
+  n ← ok_or (number MOST_GENS count) Number
+  unless (list_any (λ other. other == k) above.gens) Twice (record { leg = k; gens = n })
+
+abbrev pub gens : Above → List (List ℕ) → Result GensLine ConfKind
+gens above (name ∷ count ∷ []) = gens_of above name count
+gens above _ = Err Count
+
+unfoldable pub stay_of : Above → List ℕ → List ℕ → List ℕ → Result StayLine ConfKind
+stay_of above name from until = do
+  k ← place_of above name
+  comes ← ok_or (number LAST_MOMENT from) Number
+  goes ← ok_or (number LAST_MOMENT until) Number
+  line ← unless (nat_le goes comes) Number (record { leg = k; stay = record { from = comes; until = Some goes } })
+  unless (list_any (λ other. other == k) above.stays) Twice line
+
+abbrev pub stay : Above → List (List ℕ) → Result StayLine ConfKind
+stay above (name ∷ from ∷ until ∷ []) = stay_of above name from until
+stay above _ = Err Count
 
 -- ---- what becomes of packets
 
@@ -164,10 +226,10 @@ same_packet a b = same_word a.what b.what && (a.terminal == b.terminal && a.pack
 
 unfoldable pub plan_of : Above → List ℕ → List ℕ → Option What → Result PlanLine ConfKind
 plan_of above name packet happens = do
-  terminal ← ok_or (position (λ leg. bytes_eq leg.name name) above.legs) Name
+  terminal ← place_of above name
   k ← ok_or (number 4294967295 packet) Number
   w ← ok_or happens Number
-  line ← unless (nat_le 4096 (length above.plan)) PlanMany (record { terminal = terminal; packet = k; what = w })
+  line ← unless (nat_le MOST_PLAN_LINES (length above.plan)) PlanMany (record { terminal = terminal; packet = k; what = w })
   unless (list_any (λ p. same_packet p line) above.plan) Twice line
 
 abbrev pub plan : Above → What → List (List ℕ) → Result PlanLine ConfKind
@@ -175,16 +237,14 @@ plan above w (name ∷ packet ∷ []) = plan_of above name packet (Some w)
 plan above w _ = Err Count
 
 abbrev pub delay_of : List ℕ → Option What
-delay_of text = option_and_then (λ ms. Some (what.Delay ms)) (number 60000 text)
+delay_of text = option_and_then (λ ms. Some (what.Delay ms)) (number LONGEST_DELAY text)
 
 abbrev pub delay : Above → List (List ℕ) → Result PlanLine ConfKind
 delay above (name ∷ packet ∷ late ∷ []) = plan_of above name packet (delay_of late)
 delay above _ = Err Count
 
--- the plan has words in the form Files alone
-abbrev pub plan_word : Form → Above → List ℕ → List (List ℕ) → Result PlanLine ConfKind
-plan_word Links above word more = Err Word
-plan_word Files above word more =
+abbrev pub plan_word : Above → List ℕ → List (List ℕ) → Result PlanLine ConfKind
+plan_word above word more =
     if bytes_eq word (codes "lose") then plan above what.Lose more
     else (if bytes_eq word (codes "delay") then delay above more
     else (if bytes_eq word (codes "twice") then plan above what.Twice more else Err Word))
@@ -195,14 +255,21 @@ abbrev pub says : {A : Type 0} → (A → Entry) → Result A ConfKind → Resul
 says entry (Ok x) = Ok (entry x)
 says entry (Err kind) = Err kind
 
--- the times, one number each, and the plan
-unfoldable pub time_or_plan : Form → Above → List ℕ → List (List ℕ) → Result Entry ConfKind
-time_or_plan form above word more =
-    if bytes_eq word (codes "tick") then says Tick (setting 20 400 above.tick more)
-    else (if bytes_eq word (codes "spacing") then says Spacing (setting 100 1000 above.spacing more)
-    else (if bytes_eq word (codes "wait") then says Wait (setting 0 10000 above.wait more)
-    else (if bytes_eq word (codes "turns") then says Turns (setting 1 5000000 above.turns more)
-    else says Plan (plan_word form above word more))))
+-- stays and plans have words in the form Files alone
+unfoldable pub stay_or_plan : Form → Above → List ℕ → List (List ℕ) → Result Entry ConfKind
+stay_or_plan Links above word more = Err Word
+stay_or_plan Files above word more =
+    if bytes_eq word (codes "stay") then says Stays (stay above more)
+    else says Plan (plan_word above word more)
+
+-- the times, one number each
+unfoldable pub time_or_other : Form → Above → List ℕ → List (List ℕ) → Result Entry ConfKind
+time_or_other form above word more =
+    if bytes_eq word (codes "tick") then says Tick (setting LEAST_TICK MOST_TICK above.tick more)
+    else (if bytes_eq word (codes "spacing") then says Spacing (setting LEAST_SPACING MOST_SPACING above.spacing more)
+    else (if bytes_eq word (codes "wait") then says Wait (setting 0 LONGEST_WAIT above.wait more)
+    else (if bytes_eq word (codes "turns") then says Turns (setting 1 MOST_TURNS above.turns more)
+    else stay_or_plan form above word more)))
 
 -- what the words of a line say: the first one decides how many there are
 unfoldable pub entry : Form → Above → ℕ → List (List ℕ) → Result Entry ConfKind
@@ -210,7 +277,8 @@ entry form above n [] = Err Word
 entry form above n (word ∷ more) =
     if bytes_eq word (codes "leg") then says Leg (leg form above n more)
     else (if bytes_eq word (codes "mixer") then says Mixer (mixer above more)
-    else time_or_plan form above word more)
+    else (if bytes_eq word (codes "gens") then says Gens (gens above more)
+    else time_or_other form above word more))
 
 -- spaces alone, or a comment
 abbrev pub is_blank : List ℕ → Bool
@@ -225,24 +293,28 @@ and_line form above line = do
 
 -- ---- the whole
 
--- two legs at least, and a mixer; what isn't said has its default
+-- what isn't said has its default
+abbrev pub whole : Above → MixerLine → Conf
+whole above mixer = record {
+  legs = above.legs;
+  tick = unwrap_or above.tick USUAL_TICK;
+  spacing = unwrap_or above.spacing USUAL_SPACING;
+  wait = unwrap_or above.wait USUAL_WAIT;
+  turns = unwrap_or above.turns MOST_TURNS;
+  mixer = mixer;
+  plan = above.plan;
+}
+
+-- two legs at least, a mixer, and a place for each leg that stays
 abbrev pub complete : Above → Option MixerLine → Result Conf ConfKind
 complete above None = Err Few
-complete above (Some m) =
-    unless (nat_lt (length above.legs) 2) Few
-    (record {
-      legs = above.legs;
-      tick = unwrap_or above.tick 100;
-      spacing = unwrap_or above.spacing 300;
-      wait = unwrap_or above.wait 1000;
-      turns = unwrap_or above.turns 5000000;
-      mixer = m;
-      plan = above.plan;
-    })
+complete above (Some mixer) =
+    unless (nat_lt (length above.legs) FEWEST_LEGS) Few (whole above mixer)
+    >>= unless (is_crowd above.legs) Crowd
 
 -- the conference that a file describes, or its first bad line; the line after the last one is bad where something is missing
 abbrev pub conf : Form → List ℕ → Result Conf Refusal
 conf form octets =
-    if nat_lt 262144 (length octets) then Err (record { line = 0; kind = Large })
+    if nat_lt MOST_CONF_OCTETS (length octets) then Err (record { line = 0; kind = Large })
     else read_lines (and_line form) nothing (told is_blank 1 (lines octets))
     >>= λ above. at_line (length (lines octets) + 1) (complete above above.mixer)

@@ -3,6 +3,7 @@ use Rattle.std.specs.Prelude.{ℕ, Bool, Option, None, Some, List, length, ◌&&
 use Rattle.std.specs.List.{list_all}
 use Rattle.std.specs.Char.{is_ascii_digit}
 use Rattle.std.specs.Str.Parse.{digits_value}
+use Rattle.file_spec.specs.declared.limits.TheConstants.{FIRST_TYPE, LAST_TYPE}
 use Rattle.rtt_base.specs.declared.text_packets.Pts.{Pts}
 
 abbrev pub is_number : List ℕ → Bool
@@ -22,7 +23,7 @@ most_ssrc = 4294967295
 
 -- a dynamic payload type (RFC 3551, section 3)
 abbrev pub payload_type : List ℕ → Option ℕ
-payload_type text = number_between 96 127 text
+payload_type text = number_between FIRST_TYPE LAST_TYPE text
 
 abbrev pub pts : List ℕ → List ℕ → Option Pts
 pts t140 red = option_and_then (λ t. option_and_then (λ r. Some (record { t140 = t; red = r })) (payload_type red)) (payload_type t140)

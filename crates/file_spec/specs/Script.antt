@@ -7,6 +7,7 @@ use Rattle.std.specs.Str.Lines.{lines}
 use Rattle.file_spec.specs.declared.kinds.ConfKind.{ConfKind}
 use Rattle.file_spec.specs.declared.kinds.ConfKind.TheVariants.{NotText, Count, Number, Order, Escape, Long, Large}
 use Rattle.file_spec.specs.declared.script_lines.ScriptLine.{ScriptLine}
+use Rattle.file_spec.specs.declared.limits.TheConstants.{LAST_MOMENT, LONGEST_TEXT, MOST_SCRIPT_OCTETS}
 use Rattle.file_spec.specs.Steps.{◌>>=◌, unless}
 use Rattle.file_spec.specs.Lines.{Line, Refusal, told, is_comment, read_lines}
 use Rattle.file_spec.specs.Numbers.{number}
@@ -36,7 +37,7 @@ unescaped (c ∷ d ∷ more) =
 abbrev pub typed : List ℕ → Result (List ℕ) ConfKind
 typed octets = do
   text ← ok_or (unescaped octets) Escape
-  unless (nat_lt 1023 (length text)) Long text
+  unless (nat_lt LONGEST_TEXT (length text)) Long text
 
 -- what stands before the first space and after it
 abbrev pub around_space : List ℕ → Option (List ℕ × List ℕ)
@@ -50,7 +51,7 @@ unfoldable pub script_line : ℕ → Line → Result ScriptLine ConfKind
 script_line latest line = do
   octets ← unless (not (is_utf8 line.octets)) NotText line.octets
   parts ← ok_or (around_space octets) Count
-  moment ← ok_or (number 14400000 parts.0) Number
+  moment ← ok_or (number LAST_MOMENT parts.0) Number
   at ← unless (nat_lt moment latest) Order moment
   text ← typed parts.1
   Ok (record { line = line.number; at = at; text = text })
@@ -67,5 +68,5 @@ and_line above line = script_line (latest above) line >>= λ said. Ok (above ++ 
 -- the lines of a script in the file's order, or its first bad line
 abbrev pub script : List ℕ → Result (List ScriptLine) Refusal
 script octets =
-    if nat_lt 1048576 (length octets) then Err (record { line = 0; kind = Large })
+    if nat_lt MOST_SCRIPT_OCTETS (length octets) then Err (record { line = 0; kind = Large })
     else read_lines and_line [] (told is_comment 1 (lines octets))

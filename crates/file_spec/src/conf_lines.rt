@@ -20,6 +20,15 @@ pub struct MixerLine {
     pub stamp: u32,
 }
 
+/// When a leg stays, in milliseconds.
+#[derive(Clone, Copy, Debug, PartialEq, Eq)]
+pub struct Stay {
+    /// Its first moment.
+    pub from: u32,
+    /// Its end, which is no part of it; without one the leg stays for good.
+    pub until: Option<u32>,
+}
+
 /// A leg: one participant, what it sends and where it is sent to.
 #[derive(Debug, Drop)]
 pub struct LegLine {
@@ -33,6 +42,23 @@ pub struct LegLine {
     pub output: Path,
     /// The payload types of both directions.
     pub pts: Pts,
+    /// How many redundant generations its terminal is sent.
+    pub gens: u8,
+    pub stay: Stay,
+}
+
+/// How many redundant generations the terminal of a leg is sent. The leg is counted from 0.
+#[derive(Clone, Copy, Debug, PartialEq, Eq)]
+pub struct GensLine {
+    pub leg: u8,
+    pub gens: u8,
+}
+
+/// When a leg stays. The leg is counted from 0.
+#[derive(Clone, Copy, Debug, PartialEq, Eq)]
+pub struct StayLine {
+    pub leg: u8,
+    pub stay: Stay,
 }
 
 /// What becomes of a packet on its way to a terminal.

@@ -16,7 +16,7 @@ pub enum ConfKind {
     /// A name or a path is outside its shape, or no leg above has the name.
     #[error("Name")]
     Name,
-    /// A number is none, or out of its range.
+    /// A number is none, or out of its range, or a stay ends before it begins.
     #[error("Number")]
     Number,
     /// There are more legs than a conference may have.
@@ -34,6 +34,9 @@ pub enum ConfKind {
     /// There are fewer than two legs, or there is no mixer.
     #[error("Few")]
     Few,
+    /// At some moment more legs stay than the mixer has places.
+    #[error("Crowd")]
+    Crowd,
     /// The file has too many octets.
     #[error("Large")]
     Large,

@@ -3,8 +3,9 @@
 
 mod conf_lines;
 mod kinds;
+pub mod limits;
 mod script_lines;
 
-pub use conf_lines::{Form, LegLine, MixerLine, PlanLine, What};
+pub use conf_lines::{Form, GensLine, LegLine, MixerLine, PlanLine, Stay, StayLine, What};
 pub use kinds::ConfKind;
 pub use script_lines::ScriptLine;

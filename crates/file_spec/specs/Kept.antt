@@ -1,0 +1,86 @@
+-- What a conference keeps that a file describes (profile).
+use Rattle.std.specs.Prelude.{◌≡◌, ◌≢◌, ◌<◌, ◌≤◌, ℕ, false, IsTrue, List, length, All, AllPairs}
+use Rattle.std.specs.Option.{ForSome}
+use Rattle.rtt_base.specs.declared.text_packets.Pts.{Pts}
+use Rattle.file_spec.specs.declared.limits.TheConstants.{FEWEST_LEGS, MOST_LEGS, LEAST_TICK, MOST_TICK, LEAST_SPACING, MOST_SPACING, LONGEST_WAIT, MOST_TURNS, MOST_GENS, MOST_PLAN_LINES, LONGEST_DELAY, FIRST_TYPE, LAST_TYPE}
+use Rattle.file_spec.specs.declared.conf_lines.LegLine.{LegLine}
+use Rattle.file_spec.specs.declared.conf_lines.MixerLine.{MixerLine}
+use Rattle.file_spec.specs.declared.conf_lines.PlanLine.{PlanLine}
+use Rattle.file_spec.specs.declared.conf_lines.What.{What}
+use Rattle.file_spec.specs.declared.conf_lines.What.TheVariants.{Delay}
+use Rattle.file_spec.specs.Conf.{Above, Conf, is_name, same_packet}
+use Rattle.file_spec.specs.Sound.{IsBetween}
+use Rattle.file_spec.specs.Stays.{IsStay, NeverCrowd}
+
+-- two dynamic payload types (RFC 3551, section 3)
+pub record AreTwoTypes (pts : Pts) : Type 0 where
+  pub t140 : IsBetween FIRST_TYPE LAST_TYPE pts.t140
+  pub red : IsBetween FIRST_TYPE LAST_TYPE pts.red
+  pub differ : pts.t140 ≢ pts.red
+
+-- a leg by itself: its name has 1 to 32 letters, digits, `.`, `_` and `-`
+pub record IsLeg (leg : LegLine) : Type 0 where
+  pub name : IsTrue (is_name leg.name)
+  pub types : AreTwoTypes leg.pts
+  pub gens : leg.gens ≤ MOST_GENS
+  pub stay : IsStay leg.stay
+
+-- two legs beside each other
+pub record Differ (a b : LegLine) : Type 0 where
+  pub names : a.name ≢ b.name
+  pub ssrcs : a.ssrc ≢ b.ssrc
+  pub outputs : a.output ≢ b.output
+
+pub record AreLegs (legs : List LegLine) : Type 0 where
+  pub most : length legs ≤ MOST_LEGS
+  pub each : All (λ leg. IsLeg leg) legs
+  pub differ : AllPairs (λ a b. Differ a b) legs
+
+-- no leg has the mixer's SSRC
+pub record IsMixerFor (legs : List LegLine) (mixer : MixerLine) : Type 0 where
+  pub seq : mixer.seq < 65536
+  pub differs : All (λ leg. leg.ssrc ≢ mixer.ssrc) legs
+
+abbrev pub IsShort : What → Type 0
+IsShort what = (ms : ℕ) → what ≡ Delay ms → ms ≤ LONGEST_DELAY
+
+-- each line is about a packet to a leg, no two say the same of a packet
+pub record IsPlanFor (legs : List LegLine) (plan : List PlanLine) : Type 0 where
+  pub most : length plan ≤ MOST_PLAN_LINES
+  pub terminals : All (λ p. p.terminal < length legs) plan
+  pub delays : All (λ p. IsShort p.what) plan
+  pub differ : AllPairs (λ a b. same_packet a b ≡ false) plan
+
+abbrev pub IsTick : ℕ → Type 0
+IsTick n = IsBetween LEAST_TICK MOST_TICK n
+
+abbrev pub IsSpacing : ℕ → Type 0
+IsSpacing n = IsBetween LEAST_SPACING MOST_SPACING n
+
+abbrev pub IsWait : ℕ → Type 0
+IsWait n = n ≤ LONGEST_WAIT
+
+abbrev pub AreTurns : ℕ → Type 0
+AreTurns n = IsBetween 1 MOST_TURNS n
+
+-- what the lines so far keep
+pub record Keeps (above : Above) : Type 0 where
+  pub legs : AreLegs above.legs
+  pub tick : ForSome above.tick (λ n. IsTick n)
+  pub spacing : ForSome above.spacing (λ n. IsSpacing n)
+  pub wait : ForSome above.wait (λ n. IsWait n)
+  pub turns : ForSome above.turns (λ n. AreTurns n)
+  pub mixer : ForSome above.mixer (λ m. IsMixerFor above.legs m)
+  pub plan : IsPlanFor above.legs above.plan
+
+-- what the whole keeps
+pub record IsConference (c : Conf) : Type 0 where
+  pub two : FEWEST_LEGS ≤ length c.legs
+  pub legs : AreLegs c.legs
+  pub room : NeverCrowd c.legs
+  pub tick : IsTick c.tick
+  pub spacing : IsSpacing c.spacing
+  pub wait : IsWait c.wait
+  pub turns : AreTurns c.turns
+  pub mixer : IsMixerFor c.legs c.mixer
+  pub plan : IsPlanFor c.legs c.plan

@@ -1,0 +1,53 @@
+//! The limits of conferences and scripts. Moments and lengths of time are in milliseconds, sizes in octets.
+
+/// The fewest legs of a conference.
+pub const FEWEST_LEGS: usize = 2;
+/// The most legs of a conference of files.
+pub const MOST_LEGS: usize = 64;
+/// The most legs of a conference of links.
+pub const MOST_LINKS: usize = 16;
+/// The most legs that stay at one moment.
+pub const MOST_STAYING: usize = 16;
+
+/// The range of the milliseconds between two turns of the mixer.
+pub const LEAST_TICK: u32 = 20;
+pub const MOST_TICK: u32 = 200;
+pub const USUAL_TICK: u32 = 100;
+/// The range of the milliseconds between two packets of a source to a terminal.
+pub const LEAST_SPACING: u32 = 100;
+pub const MOST_SPACING: u32 = 500;
+pub const USUAL_SPACING: u32 = 300;
+/// How long a missing packet is waited for.
+pub const LONGEST_WAIT: u32 = 10_000;
+pub const USUAL_WAIT: u32 = 1000;
+/// How many turns the mixer may take: at least one.
+pub const MOST_TURNS: u32 = 5_000_000;
+/// How many redundant generations a terminal is sent.
+pub const MOST_GENS: u32 = 3;
+pub const USUAL_GENS: u8 = 2;
+
+/// The most lines of a plan.
+pub const MOST_PLAN_LINES: usize = 4096;
+/// The longest delay of a packet in a plan.
+pub const LONGEST_DELAY: u32 = 60_000;
+
+/// The last moment of a script line and of a stay: four hours.
+pub const LAST_MOMENT: u32 = 14_400_000;
+
+/// The dynamic payload types (RFC 3551, section 3).
+pub const FIRST_TYPE: u32 = 96;
+pub const LAST_TYPE: u32 = 127;
+/// The payload types of a leg that names none.
+pub const USUAL_T140: u8 = 98;
+pub const USUAL_RED: u8 = 100;
+
+/// The longest name of a leg.
+pub const LONGEST_NAME: usize = 32;
+/// The longest input and output of a leg.
+pub const LONGEST_PATH: usize = 255;
+/// The greatest size of a conference file.
+pub const MOST_CONF_OCTETS: usize = 262_144;
+/// The greatest size of a script.
+pub const MOST_SCRIPT_OCTETS: usize = 1_048_576;
+/// The longest text of a script line, its escapes read.
+pub const LONGEST_TEXT: usize = 1023;
