@@ -1,11 +1,16 @@
 -- Worked examples of conferences, by computing.
-use Rattle.std.proofs.Common.{◌≡◌, refl, [], ◌∷◌, Ok, Err, None, codes, true, false}
+use Rattle.std.proofs.Common.{◌≡◌, ℕ, refl, [], ◌∷◌, ◌++◌, Ok, Err, None, Some, codes, true, false}
+use Rattle.std.specs.Prelude.{replicate}
 use Rattle.std.specs.Str.{is_utf8, chars}
 use Rattle.std.specs.Char.{encode_utf8}
-use Rattle.file_spec.specs.declared.kinds.ConfKind.TheVariants.{Word, Clash, Few}
+use Rattle.file_spec.specs.declared.kinds.ConfKind.TheVariants.{NotText, Word, Count, Name, Number, Many, PlanMany, Twice, Clash, Few, Crowd}
 use Rattle.file_spec.specs.declared.conf_lines.Form.TheVariants.{Files, Links}
+use Rattle.file_spec.specs.declared.conf_lines.LegLine.{LegLine}
+use Rattle.file_spec.specs.declared.conf_lines.MixerLine.{MixerLine}
+use Rattle.file_spec.specs.declared.conf_lines.Stay.{Stay}
 use Rattle.file_spec.specs.declared.conf_lines.What.TheVariants as what
-use Rattle.file_spec.specs.Conf.{conf, entry, gens_of, leg_of, mixer_of, plan_of, stay_of, stay_or_plan, time_or_other}
+use Rattle.file_spec.specs.Stays.{is_crowd}
+use Rattle.file_spec.specs.Conf.{Above, complete, conf, entry, gens_of, leg_of, mixer_of, new_leg, nothing, plan_of, stay_of, stay_or_plan, time_or_other, usual_types, whole, whole_stay}
 
 two_legs_and_a_loss : conf Files (codes "mixer 9000 100 5000\n\n# who\n leg Ann aware 1001 ann.in ann.out\r\nleg Bob  unaware 1002 bob.in bob.out 96 97\ntick 20\nlose Bob 1")
     ≡ Ok (record {
@@ -18,16 +23,144 @@ two_legs_and_a_loss : conf Files (codes "mixer 9000 100 5000\n\n# who\n leg Ann 
       mixer = record { ssrc = 9000; seq = 100; stamp = 5000 };
       plan = record { terminal = 1; packet = 1; what = what.Lose } ∷ [];
     })
-unfolding entry time_or_other stay_or_plan leg_of mixer_of plan_of is_utf8 chars encode_utf8
+unfolding entry gens_of leg_of mixer_of plan_of stay_of stay_or_plan time_or_other is_utf8 chars encode_utf8
 two_legs_and_a_loss = refl
+
+generations_and_stays : conf Files (codes "leg A aware 1 a.in a.out\nleg B aware 2 b.in b.out\ngens B 0\nstay A 300 900\nmixer 3 0 0")
+    ≡ Ok (record {
+      legs = record { line = 1; name = codes "A"; aware = true; ssrc = 1; input = codes "a.in"; output = codes "a.out"; pts = record { t140 = 98; red = 100 }; gens = 2; stay = record { from = 300; until = Some 900 } }
+          ∷ record { line = 2; name = codes "B"; aware = true; ssrc = 2; input = codes "b.in"; output = codes "b.out"; pts = record { t140 = 98; red = 100 }; gens = 0; stay = record { from = 0; until = None } } ∷ [];
+      tick = 100;
+      spacing = 300;
+      wait = 1000;
+      turns = 5000000;
+      mixer = record { ssrc = 3; seq = 0; stamp = 0 };
+      plan = [];
+    })
+unfolding entry gens_of leg_of mixer_of plan_of stay_of stay_or_plan time_or_other is_utf8 chars encode_utf8
+generations_and_stays = refl
 
 nothing_is_too_little : conf Files [] ≡ Err (record { line = 1; kind = Few })
 nothing_is_too_little = refl
 
+half_a_character : conf Files (codes "wait 1\n" ++ 195 ∷ []) ≡ Err (record { line = 2; kind = NotText })
+unfolding entry gens_of leg_of mixer_of plan_of stay_of stay_or_plan time_or_other is_utf8 chars encode_utf8
+half_a_character = refl
+
+no_such_word : conf Files (codes "wait 1\nwaits 1") ≡ Err (record { line = 2; kind = Word })
+unfolding entry gens_of leg_of mixer_of plan_of stay_of stay_or_plan time_or_other is_utf8 chars encode_utf8
+no_such_word = refl
+
+neither_aware_nor_unaware : conf Files (codes "leg A deaf 1 a b") ≡ Err (record { line = 1; kind = Word })
+unfolding entry gens_of leg_of mixer_of plan_of stay_of stay_or_plan time_or_other is_utf8 chars encode_utf8
+neither_aware_nor_unaware = refl
+
+a_word_too_many : conf Files (codes "tick 20 20") ≡ Err (record { line = 1; kind = Count })
+unfolding entry gens_of leg_of mixer_of plan_of stay_of stay_or_plan time_or_other is_utf8 chars encode_utf8
+a_word_too_many = refl
+
+no_stay_without_an_end : conf Files (codes "leg A aware 1 a b\nstay A 5") ≡ Err (record { line = 2; kind = Count })
+unfolding entry gens_of leg_of mixer_of plan_of stay_of stay_or_plan time_or_other is_utf8 chars encode_utf8
+no_stay_without_an_end = refl
+
+no_such_leg : conf Files (codes "leg A aware 1 a b\ngens B 1") ≡ Err (record { line = 2; kind = Name })
+unfolding entry gens_of leg_of mixer_of plan_of stay_of stay_or_plan time_or_other is_utf8 chars encode_utf8
+no_such_leg = refl
+
+a_name_of_33_letters : conf Files (codes "leg AAAAAAAAAAAAAAAAAAAAAAAAAAAAAAAAA aware 1 a b") ≡ Err (record { line = 1; kind = Name })
+unfolding entry gens_of leg_of mixer_of plan_of stay_of stay_or_plan time_or_other is_utf8 chars encode_utf8
+a_name_of_33_letters = refl
+
+a_long_tick : conf Files (codes "tick 201") ≡ Err (record { line = 1; kind = Number })
+unfolding entry gens_of leg_of mixer_of plan_of stay_of stay_or_plan time_or_other is_utf8 chars encode_utf8
+a_long_tick = refl
+
+short_spacing : conf Files (codes "spacing 99") ≡ Err (record { line = 1; kind = Number })
+unfolding entry gens_of leg_of mixer_of plan_of stay_of stay_or_plan time_or_other is_utf8 chars encode_utf8
+short_spacing = refl
+
+four_generations : conf Files (codes "leg A aware 1 a b\ngens A 4") ≡ Err (record { line = 2; kind = Number })
+unfolding entry gens_of leg_of mixer_of plan_of stay_of stay_or_plan time_or_other is_utf8 chars encode_utf8
+four_generations = refl
+
+an_empty_stay : conf Files (codes "leg A aware 1 a b\nstay A 5 5") ≡ Err (record { line = 2; kind = Number })
+unfolding entry gens_of leg_of mixer_of plan_of stay_of stay_or_plan time_or_other is_utf8 chars encode_utf8
+an_empty_stay = refl
+
+two_stays : conf Files (codes "leg A aware 1 a b\nstay A 0 5\nstay A 7 8") ≡ Err (record { line = 3; kind = Twice })
+unfolding entry gens_of leg_of mixer_of plan_of stay_of stay_or_plan time_or_other is_utf8 chars encode_utf8
+two_stays = refl
+
+generations_said_again : conf Files (codes "leg A aware 1 a b\ngens A 2\ngens A 2") ≡ Err (record { line = 3; kind = Twice })
+unfolding entry gens_of leg_of mixer_of plan_of stay_of stay_or_plan time_or_other is_utf8 chars encode_utf8
+generations_said_again = refl
+
+one_name_for_two_legs : conf Files (codes "leg A aware 1 a b\nleg A aware 1 a b") ≡ Err (record { line = 2; kind = Twice })
+unfolding entry gens_of leg_of mixer_of plan_of stay_of stay_or_plan time_or_other is_utf8 chars encode_utf8
+one_name_for_two_legs = refl
+
 one_sender_for_two_legs : conf Files (codes "mixer 1 0 0\nleg A aware 2 a b\nleg B aware 02 a c") ≡ Err (record { line = 3; kind = Clash })
-unfolding entry time_or_other stay_or_plan leg_of mixer_of plan_of is_utf8 chars encode_utf8
+unfolding entry gens_of leg_of mixer_of plan_of stay_of stay_or_plan time_or_other is_utf8 chars encode_utf8
 one_sender_for_two_legs = refl
 
+one_output_for_two_links : conf Links (codes "leg A aware 1 5004 h:1\nleg B aware 2 5006 h:1") ≡ Err (record { line = 2; kind = Clash })
+unfolding entry gens_of leg_of mixer_of plan_of stay_of stay_or_plan time_or_other is_utf8 chars encode_utf8
+one_output_for_two_links = refl
+
+one_port_for_two_links : conf Links (codes "leg A aware 1 5004 h:1\nleg B aware 2 05004 h:2") ≡ Err (record { line = 2; kind = Clash })
+unfolding entry gens_of leg_of mixer_of plan_of stay_of stay_or_plan time_or_other is_utf8 chars encode_utf8
+one_port_for_two_links = refl
+
+no_mixer : conf Files (codes "leg A aware 1 a b\nleg B aware 2 a c\n") ≡ Err (record { line = 3; kind = Few })
+unfolding entry gens_of leg_of mixer_of plan_of stay_of stay_or_plan time_or_other is_utf8 chars encode_utf8
+no_mixer = refl
+
 no_plan_among_links : conf Links (codes "mixer 1 0 0\nleg A aware 2 5004 h:1\nlose A 0") ≡ Err (record { line = 3; kind = Word })
-unfolding entry time_or_other stay_or_plan leg_of mixer_of plan_of is_utf8 chars encode_utf8
+unfolding entry gens_of leg_of mixer_of plan_of stay_of stay_or_plan time_or_other is_utf8 chars encode_utf8
 no_plan_among_links = refl
+
+no_stay_among_links : conf Links (codes "leg A aware 2 5004 h:1\nstay A 0 1") ≡ Err (record { line = 2; kind = Word })
+unfolding entry gens_of leg_of mixer_of plan_of stay_of stay_or_plan time_or_other is_utf8 chars encode_utf8
+no_stay_among_links = refl
+
+-- ---- many legs, by themselves
+someone : Stay → LegLine
+someone s = record { line = 0; name = []; aware = true; ssrc = 0; input = []; output = []; pts = usual_types; gens = 2; stay = s }
+
+-- so many legs so far that stay without end
+with_legs : ℕ → Above
+with_legs n = record nothing { legs = replicate n (someone whole_stay) }
+
+new_one : LegLine
+new_one = record { line = 0; name = codes "A"; aware = true; ssrc = 1; input = codes "1"; output = codes "b"; pts = usual_types; gens = 2; stay = whole_stay }
+
+the_65th_leg : (new_leg Files (with_legs 64) new_one ≡ Err Many) × (new_leg Files (with_legs 63) new_one ≡ Ok new_one)
+unfolding with_legs new_one someone
+the_65th_leg = (refl, refl)
+
+the_17th_link : (new_leg Links (with_legs 16) new_one ≡ Err Many) × (new_leg Links (with_legs 15) new_one ≡ Ok new_one)
+unfolding with_legs new_one someone
+the_17th_link = (refl, refl)
+
+mixer_line : MixerLine
+mixer_line = record { ssrc = 1; seq = 0; stamp = 0 }
+
+seventeen_stay : (complete (with_legs 17) (Some mixer_line) ≡ Err Crowd) × (complete (with_legs 16) (Some mixer_line) ≡ Ok (whole (with_legs 16) mixer_line))
+unfolding with_legs mixer_line someone
+seventeen_stay = (refl, refl)
+
+-- the end of a stay is no part of it
+one_goes_as_another_comes : is_crowd (someone (record { from = 0; until = Some 5 }) ∷ someone (record { from = 5; until = None }) ∷ replicate 15 (someone whole_stay)) ≡ false
+unfolding someone
+one_goes_as_another_comes = refl
+
+one_goes_after_another_comes : is_crowd (someone (record { from = 0; until = Some 6 }) ∷ someone (record { from = 5; until = None }) ∷ replicate 15 (someone whole_stay)) ≡ true
+unfolding someone
+one_goes_after_another_comes = refl
+
+planned : ℕ → Above
+planned n = record nothing { legs = new_one ∷ []; plan = replicate n (record { terminal = 0; packet = 1; what = what.Twice }) }
+
+the_4097th_plan_line : plan_of (planned 4096) (codes "A") (codes "0") (Some what.Lose) ≡ Err PlanMany
+unfolding planned new_one plan_of
+the_4097th_plan_line = refl

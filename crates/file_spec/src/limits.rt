@@ -11,19 +11,25 @@ pub const MOST_STAYING: usize = 16;
 
 /// The range of the milliseconds between two turns of the mixer.
 pub const LEAST_TICK: u32 = 20;
+
 pub const MOST_TICK: u32 = 200;
+
 pub const USUAL_TICK: u32 = 100;
 /// The range of the milliseconds between two packets of a source to a terminal.
 pub const LEAST_SPACING: u32 = 100;
+
 pub const MOST_SPACING: u32 = 500;
+
 pub const USUAL_SPACING: u32 = 300;
 /// How long a missing packet is waited for.
 pub const LONGEST_WAIT: u32 = 10_000;
+
 pub const USUAL_WAIT: u32 = 1000;
 /// How many turns the mixer may take: at least one.
 pub const MOST_TURNS: u32 = 5_000_000;
 /// How many redundant generations a terminal is sent.
 pub const MOST_GENS: u32 = 3;
+
 pub const USUAL_GENS: u8 = 2;
 
 /// The most lines of a plan.
@@ -36,9 +42,11 @@ pub const LAST_MOMENT: u32 = 14_400_000;
 
 /// The dynamic payload types (RFC 3551, section 3).
 pub const FIRST_TYPE: u32 = 96;
+
 pub const LAST_TYPE: u32 = 127;
 /// The payload types of a leg that names none.
 pub const USUAL_T140: u8 = 98;
+
 pub const USUAL_RED: u8 = 100;
 
 /// The longest name of a leg.

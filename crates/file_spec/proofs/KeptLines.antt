@@ -1,0 +1,518 @@
+-- What a conference keeps, line by line.
+use Rattle.std.proofs.Common.{◌≡◌, ℕ, zero, suc, ◌+◌, ◌<◌, ◌≤◌, Bool, true, false, Option, Some, None, List, [], ◌∷◌, length, get_or, refl, ap, subst, sym, ◌∙◌, arith}
+use Rattle.std.specs.Prelude.{◌≢◌, ◌==◌, not, nat_le, nat_lt, if◌then◌else◌, unwrap_or, Result, Ok, Err, is_some, codes, bytes_eq, All}
+use Rattle.std.specs.List.{list_any, position}
+use Rattle.std.specs.Option.{ForSome, ok_or}
+use Rattle.std.specs.Str.{is_utf8}
+use Rattle.std.specs.Str.Lines.{lines}
+use Rattle.std.proofs.lemmas.Bool.{true≢false, and_parts, or_parts, eq-eqb, not-false, leb-false, ltb-false}
+use Rattle.std.proofs.lemmas.List.{length_push}
+use Rattle.std.proofs.lemmas.List.Elements.{All-nil, All-push}
+use Rattle.std.proofs.lemmas.List.Folds.{list_any_at}
+use Rattle.std.proofs.lemmas.List.Quantifiers.{all_pairs_push, position-Some}
+use Rattle.std.proofs.lemmas.Slice.Eq.{bytes_eq-Decides}
+use Rattle.rtt_base.specs.declared.text_packets.Pts.{Pts}
+use Rattle.file_spec.specs.declared.limits.TheConstants.{FEWEST_LEGS, MOST_LEGS, LEAST_TICK, MOST_TICK, USUAL_TICK, LEAST_SPACING, MOST_SPACING, USUAL_SPACING, LONGEST_WAIT, USUAL_WAIT, MOST_TURNS, MOST_GENS, USUAL_GENS, MOST_PLAN_LINES, LONGEST_DELAY, FIRST_TYPE, LAST_TYPE, LAST_MOMENT, MOST_CONF_OCTETS}
+use Rattle.file_spec.specs.declared.kinds.ConfKind.{ConfKind}
+use Rattle.file_spec.specs.declared.kinds.ConfKind.TheVariants.{NotText, Word, Name, Number, Many, PlanMany, Twice, Clash, Few, Crowd, Large}
+use Rattle.file_spec.specs.declared.conf_lines.Form.{Form}
+use Rattle.file_spec.specs.declared.conf_lines.Form.TheVariants.{Files, Links}
+use Rattle.file_spec.specs.declared.conf_lines.MixerLine.{MixerLine}
+use Rattle.file_spec.specs.declared.conf_lines.Stay.{Stay}
+use Rattle.file_spec.specs.declared.conf_lines.GensLine.{GensLine}
+use Rattle.file_spec.specs.declared.conf_lines.StayLine.{StayLine}
+use Rattle.file_spec.specs.declared.conf_lines.LegLine.{LegLine}
+use Rattle.file_spec.specs.declared.conf_lines.PlanLine.{PlanLine}
+use Rattle.file_spec.specs.declared.conf_lines.What.{What}
+use Rattle.file_spec.specs.declared.conf_lines.What.TheVariants as what
+use Rattle.file_spec.specs.Steps.{◌>>=◌, unless}
+use Rattle.file_spec.specs.Lines.{Line, words, told, at_line, read_lines}
+use Rattle.file_spec.specs.Numbers.{number, most_ssrc, number_between, payload_type, pts}
+use Rattle.file_spec.specs.Stays.{IsStay, is_crowd}
+use Rattle.file_spec.specs.Conf.{Above, Conf, Entry, Leg, Gens, Stays, Tick, Spacing, Wait, Turns, Mixer, Plan, says, time_or_other, stay_or_plan, nothing, with_entry, change_leg, with_gens, with_stay, setting, mixer, mixer_of, is_mixers, is_name, has_names, has_port, shares_own, shares_path, clashes, most_legs, new_leg, aware_of, whole_stay, usual_types, leg_of, leg, place_of, gens_of, gens, stay_of, stay, same_packet, plan_of, plan, delay_of, delay, plan_word, entry, is_blank, and_line, whole, complete, conf}
+use Rattle.file_spec.specs.Sound.{IsBetween}
+use Rattle.file_spec.specs.Kept.{IsLeg, Differ, AreLegs, IsMixerFor, IsShort, IsTick, IsSpacing, IsWait, AreTurns, Keeps, IsConference}
+use Rattle.file_spec.proofs.Crowds.{crowds_seen}
+use Rattle.file_spec.proofs.Passed.{bind_ok, unless_ok, ok_or_ok, then_some, number_most, number_in}
+
+some_same : {A : Type 0} (x y : A) → Some x ≡ Some y → x ≡ y
+some_same x y e = cc e
+
+-- ---- what a line adds
+record IsNewLeg (above : Above) (l : LegLine) : Type 0 where
+  room : length above.legs < MOST_LEGS
+  leg : IsLeg l
+  differ : All (λ a. Differ a l) above.legs
+  mixer : ForSome above.mixer (λ m. l.ssrc ≢ m.ssrc)
+
+record IsNewPlan (above : Above) (p : PlanLine) : Type 0 where
+  room : length above.plan < MOST_PLAN_LINES
+  terminal : p.terminal < length above.legs
+  delay : IsShort p.what
+  others : All (λ a. same_packet a p ≡ false) above.plan
+
+abbrev IsNew : Above → Entry → Type 0
+IsNew above (Leg l) = IsNewLeg above l
+IsNew above (Gens g) = g.gens ≤ MOST_GENS
+IsNew above (Stays s) = IsStay s.stay
+IsNew above (Tick n) = IsTick n
+IsNew above (Spacing n) = IsSpacing n
+IsNew above (Wait n) = IsWait n
+IsNew above (Turns n) = AreTurns n
+IsNew above (Mixer m) = IsMixerFor above.legs m
+IsNew above (Plan p) = IsNewPlan above p
+
+leg_more : (above : Above) (l : LegLine) → Keeps above → IsNewLeg above l → Keeps (with_entry above (Leg l))
+leg_more above l k new = record {
+  legs = record {
+    most = let r = new.room in omega (arith, length_push above.legs l);
+    each = All-push (λ a. IsLeg a) above.legs l k.legs.each new.leg;
+    differ = all_pairs_push (λ a b. Differ a b) above.legs l k.legs.differ new.differ;
+  };
+  tick = k.tick;
+  spacing = k.spacing;
+  wait = k.wait;
+  turns = k.turns;
+  mixer = λ m e. record { seq = (k.mixer m e).seq; differs = All-push (λ a. a.ssrc ≢ m.ssrc) above.legs l (k.mixer m e).differs (new.mixer m e) };
+  plan = record {
+    most = k.plan.most;
+    terminals = λ i d h. let t = k.plan.terminals i d h in omega (arith, length_push above.legs l);
+    delays = k.plan.delays;
+    differ = k.plan.differ;
+  };
+}
+
+plan_more : (above : Above) (p : PlanLine) → Keeps above → IsNewPlan above p → Keeps (with_entry above (Plan p))
+plan_more above p k new = record {
+  legs = k.legs;
+  tick = k.tick;
+  spacing = k.spacing;
+  wait = k.wait;
+  turns = k.turns;
+  mixer = k.mixer;
+  plan = record {
+    most = let r = new.room in omega (arith, length_push above.plan p);
+    terminals = All-push (λ a. a.terminal < length above.legs) above.plan p k.plan.terminals new.terminal;
+    delays = All-push (λ a. IsShort a.what) above.plan p k.plan.delays new.delay;
+    differ = all_pairs_push (λ a b. same_packet a b ≡ false) above.plan p k.plan.differ new.others;
+  };
+}
+
+-- ---- a leg that is changed
+-- what is said of a leg leaves what it is known by
+record Leaves (change : LegLine → LegLine) : Type 0 where
+  name : (l : LegLine) → (change l).name ≡ l.name
+  ssrc : (l : LegLine) → (change l).ssrc ≡ l.ssrc
+  output : (l : LegLine) → (change l).output ≡ l.output
+  leg : (l : LegLine) → IsLeg l → IsLeg (change l)
+
+length-change : (change : LegLine → LegLine) (k : ℕ) (ls : List LegLine) → length (change_leg change k ls) ≡ length ls
+length-change change k [] = refl
+length-change change zero (l ∷ ls) = refl
+length-change change (suc k) (l ∷ ls) = ap suc (length-change change k ls)
+
+part_at : {A : Type 0} (change : LegLine → LegLine) (part : LegLine → A) → ((l : LegLine) → part (change l) ≡ part l)
+    → (ls : List LegLine) (k i : ℕ) (d : LegLine) → part (get_or (change_leg change k ls) i d) ≡ part (get_or ls i d)
+part_at change part same [] k i d = refl
+part_at change part same (l ∷ ls) zero zero d = same l
+part_at change part same (l ∷ ls) zero (suc i) d = refl
+part_at change part same (l ∷ ls) (suc k) zero d = refl
+part_at change part same (l ∷ ls) (suc k) (suc i) d = part_at change part same ls k i d
+
+changed_at : (change : LegLine → LegLine) (P : LegLine → Type 0) → ((l : LegLine) → P l → P (change l))
+    → (ls : List LegLine) (k i : ℕ) (d : LegLine) → P (get_or ls i d) → P (get_or (change_leg change k ls) i d)
+changed_at change P keeps [] k i d h = h
+changed_at change P keeps (l ∷ ls) zero zero d h = keeps l h
+changed_at change P keeps (l ∷ ls) zero (suc i) d h = h
+changed_at change P keeps (l ∷ ls) (suc k) zero d h = h
+changed_at change P keeps (l ∷ ls) (suc k) (suc i) d h = changed_at change P keeps ls k i d h
+
+changed_pair : (change : LegLine → LegLine) → Leaves change → (ls : List LegLine) (k i j : ℕ) (d : LegLine) → Differ (get_or ls i d) (get_or ls j d)
+    → Differ (get_or (change_leg change k ls) i d) (get_or (change_leg change k ls) j d)
+changed_pair change leaves ls k i j d differ = record {
+  names = λ e. differ.names (sym (part_at change (λ l. l.name) leaves.name ls k i d) ∙ (e ∙ part_at change (λ l. l.name) leaves.name ls k j d));
+  ssrcs = λ e. differ.ssrcs (sym (part_at change (λ l. l.ssrc) leaves.ssrc ls k i d) ∙ (e ∙ part_at change (λ l. l.ssrc) leaves.ssrc ls k j d));
+  outputs = λ e. differ.outputs (sym (part_at change (λ l. l.output) leaves.output ls k i d) ∙ (e ∙ part_at change (λ l. l.output) leaves.output ls k j d));
+}
+
+shorter : (change : LegLine → LegLine) (k : ℕ) (ls : List LegLine) (i : ℕ) → i < length (change_leg change k ls) → i < length ls
+shorter change k ls i h = subst (λ n. i < n) (length-change change k ls) h
+
+changed_legs : (change : LegLine → LegLine) → Leaves change → (k : ℕ) (ls : List LegLine) → AreLegs ls → AreLegs (change_leg change k ls)
+changed_legs change leaves k ls legs = record {
+  most = let m = legs.most in omega (arith, length-change change k ls);
+  each = λ i d h. changed_at change IsLeg leaves.leg ls k i d (legs.each i d (shorter change k ls i h));
+  differ = λ i j d l h. changed_pair change leaves ls k i j d (legs.differ i j d l (shorter change k ls j h));
+}
+
+changed : (above : Above) (change : LegLine → LegLine) → Leaves change → (k : ℕ) (gs ss : List ℕ) → Keeps above → Keeps (record above { legs = change_leg change k above.legs; gens = gs; stays = ss })
+changed above change leaves k gs ss kept = record {
+  legs = changed_legs change leaves k above.legs kept.legs;
+  tick = kept.tick;
+  spacing = kept.spacing;
+  wait = kept.wait;
+  turns = kept.turns;
+  mixer = λ m e. record {
+    seq = (kept.mixer m e).seq;
+    differs = λ i d h. changed_at change (λ l. l.ssrc ≢ m.ssrc) (λ l f q. f (sym (leaves.ssrc l) ∙ q)) above.legs k i d ((kept.mixer m e).differs i d (shorter change k above.legs i h));
+  };
+  plan = record {
+    most = kept.plan.most;
+    terminals = λ i d h. let t = kept.plan.terminals i d h in omega (arith, length-change change k above.legs);
+    delays = kept.plan.delays;
+    differ = kept.plan.differ;
+  };
+}
+
+gens_leave : (n : ℕ) → n ≤ MOST_GENS → Leaves (with_gens n)
+gens_leave n few = record { name = λ l. refl; ssrc = λ l. refl; output = λ l. refl; leg = λ l is. record { name = is.name; types = is.types; gens = few; stay = is.stay } }
+
+stay_leaves : (s : Stay) → IsStay s → Leaves (with_stay s)
+stay_leaves s stays = record { name = λ l. refl; ssrc = λ l. refl; output = λ l. refl; leg = λ l is. record { name = is.name; types = is.types; gens = is.gens; stay = stays } }
+
+more : (above : Above) (said : Entry) → Keeps above → IsNew above said → Keeps (with_entry above said)
+more above (Leg l) k new = leg_more above l k new
+more above (Gens g) k new = changed above (with_gens g.gens) (gens_leave g.gens new) g.leg _ above.stays k
+more above (Stays s) k new = changed above (with_stay s.stay) (stay_leaves s.stay new) s.leg above.gens _ k
+more above (Tick n) k new = record { legs = k.legs; tick = λ m e. subst IsTick (some_same n m e) new; spacing = k.spacing; wait = k.wait; turns = k.turns; mixer = k.mixer; plan = k.plan }
+more above (Spacing n) k new = record { legs = k.legs; tick = k.tick; spacing = λ m e. subst IsSpacing (some_same n m e) new; wait = k.wait; turns = k.turns; mixer = k.mixer; plan = k.plan }
+more above (Wait n) k new = record { legs = k.legs; tick = k.tick; spacing = k.spacing; wait = λ m e. subst IsWait (some_same n m e) new; turns = k.turns; mixer = k.mixer; plan = k.plan }
+more above (Turns n) k new = record { legs = k.legs; tick = k.tick; spacing = k.spacing; wait = k.wait; turns = λ m e. subst AreTurns (some_same n m e) new; mixer = k.mixer; plan = k.plan }
+more above (Mixer x) k new = record { legs = k.legs; tick = k.tick; spacing = k.spacing; wait = k.wait; turns = k.turns; mixer = λ m e. subst (IsMixerFor above.legs) (some_same x m e) new; plan = k.plan }
+more above (Plan p) k new = plan_more above p k new
+
+-- ---- tests of the lines above
+none_passes : {A : Type 0} (test : A → Bool) (xs : List A) → list_any test xs ≡ false → All (λ x. test x ≡ false) xs
+none_passes test xs e i d h = go (test (get_or xs i d)) refl
+  where
+    go : (b : Bool) → test (get_or xs i d) ≡ b → b ≡ false
+    go true q = absurd (true≢false (sym (list_any_at test xs i d h q) ∙ e))
+    go false q = refl
+
+no_number : (a b : ℕ) → (a == b) ≡ false → a ≢ b
+no_number a b e same = true≢false (sym (eq-eqb a b same) ∙ e)
+
+no_text : (a b : List ℕ) → bytes_eq a b ≡ false → a ≢ b
+no_text a b e same = true≢false (sym ((bytes_eq-Decides a b).1 same) ∙ e)
+
+no_ssrc : (legs : List LegLine) (n : ℕ) → list_any (λ a. a.ssrc == n) legs ≡ false → All (λ a. a.ssrc ≢ n) legs
+no_ssrc legs n e i d h = no_number (get_or legs i d).ssrc n (none_passes (λ a. a.ssrc == n) legs e i d h)
+
+no_name : (legs : List LegLine) (text : List ℕ) → list_any (λ a. bytes_eq a.name text) legs ≡ false → All (λ a. a.name ≢ text) legs
+no_name legs text e i d h = no_text (get_or legs i d).name text (none_passes (λ a. bytes_eq a.name text) legs e i d h)
+
+other_output : (form : Form) (a l : LegLine) → shares_path form a l ≡ false → a.output ≢ l.output
+other_output Files a l e = no_text a.output l.output (or_parts (bytes_eq a.output l.output) _ e).0
+other_output Links a l e = no_text a.output l.output (or_parts (bytes_eq a.output l.output) _ e).0
+
+no_mixer : (o : Option MixerLine) (n : ℕ) → is_mixers o n ≡ false → ForSome o (λ m. n ≢ m.ssrc)
+no_mixer None n e m q same = absurd (cc q)
+no_mixer (Some x) n e m q same = true≢false (sym (eq-eqb x.ssrc n (ap (λ (y : MixerLine). y.ssrc) (some_same x m q) ∙ sym same)) ∙ e)
+
+-- ---- legs
+named : (form : Form) (name input output : List ℕ) → has_names form name input output ≡ true → is_name name ≡ true
+named Files name input output e = (and_parts (is_name name) _ e).0
+named Links name input output e = (and_parts (is_name name) _ e).0
+
+own_types : (form : Form) (l : LegLine) → shares_own form l ≡ false → l.pts.t140 ≢ l.pts.red
+own_types Files l e = no_number l.pts.t140 l.pts.red (or_parts (l.pts.t140 == l.pts.red) (bytes_eq l.output l.input) e).0
+own_types Links l e = no_number l.pts.t140 l.pts.red e
+
+most_is : (form : Form) (n : ℕ) → n < most_legs form → n < MOST_LEGS
+most_is Files n h = h
+most_is Links n h = omega arith
+
+-- two dynamic types, which may still be the same
+record AreDynamic (types : Pts) : Type 0 where
+  t140 : IsBetween FIRST_TYPE LAST_TYPE types.t140
+  red : IsBetween FIRST_TYPE LAST_TYPE types.red
+
+-- what the tests of the words alone have let through
+record IsWorded (l : LegLine) : Type 0 where
+  name : is_name l.name ≡ true
+  types : AreDynamic l.pts
+  gens : l.gens ≤ MOST_GENS
+  stay : IsStay l.stay
+
+-- what `new_leg` has let through
+new_ok : (form : Form) (above : Above) (l x : LegLine) → IsWorded l → new_leg form above l ≡ Ok x → IsNewLeg above x
+new_ok form above l x worded e =
+    let a = bind_ok (unless (nat_le (most_legs form) (length above.legs)) Many l >>= unless (list_any (λ a. bytes_eq a.name l.name) above.legs) Twice) (unless (clashes form above l) Clash) x e in
+    let b = bind_ok (unless (nat_le (most_legs form) (length above.legs)) Many l) (unless (list_any (λ a. bytes_eq a.name l.name) above.legs) Twice) a.0 a.1 in
+    let c = unless_ok (nat_le (most_legs form) (length above.legs)) Many l b.0 b.1 in
+    let d = unless_ok (list_any (λ a. bytes_eq a.name l.name) above.legs) Twice b.0 a.0 b.2 in
+    let f = unless_ok (clashes form above l) Clash a.0 x a.2 in
+    let p = or_parts (list_any (λ a. a.ssrc == l.ssrc) above.legs) _ f.0 in
+    let q = or_parts (is_mixers above.mixer l.ssrc) _ p.1 in
+    let r = or_parts (shares_own form l) _ q.1 in
+    subst (IsNewLeg above) (c.1 ∙ (d.1 ∙ f.1)) (record {
+      room = most_is form (length above.legs) (leb-false (most_legs form) (length above.legs) c.0);
+      leg = record {
+        name = worded.name;
+        types = record { t140 = worded.types.t140; red = worded.types.red; differ = own_types form l r.0 };
+        gens = worded.gens;
+        stay = worded.stay;
+      };
+      differ = λ i dd h. record {
+        names = no_text (get_or above.legs i dd).name l.name (none_passes (λ a. bytes_eq a.name l.name) above.legs d.0 i dd h);
+        ssrcs = no_ssrc above.legs l.ssrc p.0 i dd h;
+        outputs = other_output form (get_or above.legs i dd) l (none_passes (λ a. shares_path form a l) above.legs r.1 i dd h);
+      };
+      mixer = no_mixer above.mixer l.ssrc q.0;
+    })
+
+always : IsStay whole_stay
+always = record { from = omega arith; until = λ n e. absurd (cc e); some = λ n e. absurd (cc e) }
+
+leg_of_ok : (form : Form) (above : Above) (n : ℕ) (name mode ssrc input output : List ℕ) (types : Option Pts) (x : LegLine) → ((p : Pts) → types ≡ Some p → AreDynamic p) → leg_of form above n name mode ssrc input output types ≡ Ok x → IsNewLeg above x
+unfolding leg_of
+leg_of_ok form above n name mode ssrc input output types x dynamic e =
+    let a = bind_ok (ok_or (aware_of mode) Word) _ x e in
+    let b = bind_ok (unless (not (has_names form name input output)) Name name) _ x a.2 in
+    let c = bind_ok (ok_or (number most_ssrc ssrc) Number) _ x b.2 in
+    let d = bind_ok (unless (not (has_port form input)) Number input) _ x c.2 in
+    let f = bind_ok (ok_or types Number) _ x d.2 in
+    let u = unless_ok (not (has_names form name input output)) Name name b.0 b.1 in
+    new_ok form above (record { line = n; name = b.0; aware = a.0; ssrc = c.0; input = d.0; output = output; pts = f.0; gens = USUAL_GENS; stay = whole_stay }) x
+    (record {
+      name = subst (λ (text : List ℕ). is_name text ≡ true) u.1 (named form name input output (not-false (has_names form name input output) u.0));
+      types = dynamic f.0 (ok_or_ok types Number f.0 f.1);
+      gens = omega arith;
+      stay = always;
+    }) f.2
+
+usual : (p : Pts) → Some usual_types ≡ Some p → AreDynamic p
+usual p e = subst AreDynamic (some_same usual_types p e) (record { t140 = record { low = omega arith; high = omega arith }; red = record { low = omega arith; high = omega arith } })
+
+written : (t140 red : List ℕ) (p : Pts) → pts t140 red ≡ Some p → AreDynamic p
+written t140 red p e =
+    let a = then_some (payload_type t140) _ p e in
+    let b = then_some (payload_type red) _ p a.2 in
+    subst AreDynamic (some_same (record { t140 = a.0; red = b.0 }) p b.2) (record { t140 = number_in FIRST_TYPE LAST_TYPE t140 a.0 a.1; red = number_in FIRST_TYPE LAST_TYPE red b.0 b.1 })
+
+leg_ok : (form : Form) (above : Above) (n : ℕ) (ws : List (List ℕ)) (x : LegLine) → leg form above n ws ≡ Ok x → IsNewLeg above x
+leg_ok form above n [] x e = absurd (cc e)
+leg_ok form above n (a ∷ []) x e = absurd (cc e)
+leg_ok form above n (a ∷ b ∷ []) x e = absurd (cc e)
+leg_ok form above n (a ∷ b ∷ c ∷ []) x e = absurd (cc e)
+leg_ok form above n (a ∷ b ∷ c ∷ d ∷ []) x e = absurd (cc e)
+leg_ok form above n (a ∷ b ∷ c ∷ d ∷ f ∷ []) x e = leg_of_ok form above n a b c d f (Some usual_types) x usual e
+leg_ok form above n (a ∷ b ∷ c ∷ d ∷ f ∷ g ∷ []) x e = absurd (cc e)
+leg_ok form above n (a ∷ b ∷ c ∷ d ∷ f ∷ g ∷ h ∷ []) x e = leg_of_ok form above n a b c d f (pts g h) x (written g h) e
+leg_ok form above n (a ∷ b ∷ c ∷ d ∷ f ∷ g ∷ h ∷ i ∷ more) x e = absurd (cc e)
+
+-- ---- generations and stays
+gens_of_ok : (above : Above) (name count : List ℕ) (x : GensLine) → gens_of above name count ≡ Ok x → x.gens ≤ MOST_GENS
+unfolding gens_of
+gens_of_ok above name count x e =
+    let a = bind_ok (place_of above name) _ x e in
+    let b = bind_ok (ok_or (number MOST_GENS count) Number) _ x a.2 in
+    let u = unless_ok (list_any (λ other. other == a.0) above.gens) Twice (record { leg = a.0; gens = b.0 }) x b.2 in
+    let n = number_most MOST_GENS count b.0 (ok_or_ok (number MOST_GENS count) Number b.0 b.1) in
+    subst (λ (y : GensLine). y.gens ≤ MOST_GENS) u.1 n
+
+gens_ok : (above : Above) (ws : List (List ℕ)) (x : GensLine) → gens above ws ≡ Ok x → x.gens ≤ MOST_GENS
+gens_ok above [] x e = absurd (cc e)
+gens_ok above (a ∷ []) x e = absurd (cc e)
+gens_ok above (a ∷ b ∷ []) x e = gens_of_ok above a b x e
+gens_ok above (a ∷ b ∷ c ∷ more) x e = absurd (cc e)
+
+stay_of_ok : (above : Above) (name from until : List ℕ) (x : StayLine) → stay_of above name from until ≡ Ok x → IsStay x.stay
+unfolding stay_of
+stay_of_ok above name from until x e =
+    let a = bind_ok (place_of above name) _ x e in
+    let b = bind_ok (ok_or (number LAST_MOMENT from) Number) _ x a.2 in
+    let c = bind_ok (ok_or (number LAST_MOMENT until) Number) _ x b.2 in
+    let d = bind_ok (unless (nat_le c.0 b.0) Number (record { leg = a.0; stay = record { from = b.0; until = Some c.0 } })) _ x c.2 in
+    let u = unless_ok (nat_le c.0 b.0) Number (record { leg = a.0; stay = record { from = b.0; until = Some c.0 } }) d.0 d.1 in
+    let v = unless_ok (list_any (λ other. other == a.0) above.stays) Twice d.0 x d.2 in
+    let comes = number_most LAST_MOMENT from b.0 (ok_or_ok (number LAST_MOMENT from) Number b.0 b.1) in
+    let goes = number_most LAST_MOMENT until c.0 (ok_or_ok (number LAST_MOMENT until) Number c.0 c.1) in
+    let after = leb-false c.0 b.0 u.0 in
+    subst (λ (y : StayLine). IsStay y.stay) (u.1 ∙ v.1) (record {
+      from = comes;
+      until = λ n q. subst (λ y. y ≤ LAST_MOMENT) (some_same c.0 n q) goes;
+      some = λ n q. subst (λ y. b.0 < y) (some_same c.0 n q) after;
+    })
+
+stay_ok : (above : Above) (ws : List (List ℕ)) (x : StayLine) → stay above ws ≡ Ok x → IsStay x.stay
+stay_ok above [] x e = absurd (cc e)
+stay_ok above (a ∷ []) x e = absurd (cc e)
+stay_ok above (a ∷ b ∷ []) x e = absurd (cc e)
+stay_ok above (a ∷ b ∷ c ∷ []) x e = stay_of_ok above a b c x e
+stay_ok above (a ∷ b ∷ c ∷ d ∷ more) x e = absurd (cc e)
+
+-- ---- the mixer
+mixer_of_ok : (above : Above) (ssrc seq stamp : List ℕ) (x : MixerLine) → mixer_of above ssrc seq stamp ≡ Ok x → IsMixerFor above.legs x
+unfolding mixer_of
+mixer_of_ok above ssrc seq stamp x e =
+    let a = bind_ok (ok_or (number most_ssrc ssrc) Number) _ x e in
+    let b = bind_ok (ok_or (number 65535 seq) Number) _ x a.2 in
+    let c = bind_ok (ok_or (number 4294967295 stamp) Number) _ x b.2 in
+    let d = bind_ok (unless (is_some above.mixer) Twice (record { ssrc = a.0; seq = b.0; stamp = c.0 })) _ x c.2 in
+    let u = unless_ok (is_some above.mixer) Twice (record { ssrc = a.0; seq = b.0; stamp = c.0 }) d.0 d.1 in
+    let v = unless_ok (list_any (λ l. l.ssrc == a.0) above.legs) Clash d.0 x d.2 in
+    let n = number_most 65535 seq b.0 (ok_or_ok (number 65535 seq) Number b.0 b.1) in
+    subst (IsMixerFor above.legs) (u.1 ∙ v.1) (record { seq = omega arith; differs = no_ssrc above.legs a.0 v.0 })
+
+mixer_ok : (above : Above) (ws : List (List ℕ)) (x : MixerLine) → mixer above ws ≡ Ok x → IsMixerFor above.legs x
+mixer_ok above [] x e = absurd (cc e)
+mixer_ok above (a ∷ []) x e = absurd (cc e)
+mixer_ok above (a ∷ b ∷ []) x e = absurd (cc e)
+mixer_ok above (a ∷ b ∷ c ∷ []) x e = mixer_of_ok above a b c x e
+mixer_ok above (a ∷ b ∷ c ∷ d ∷ more) x e = absurd (cc e)
+
+-- ---- the plan
+plan_of_ok : (above : Above) (name packet : List ℕ) (happens : Option What) (x : PlanLine) → ((w : What) → happens ≡ Some w → IsShort w) → plan_of above name packet happens ≡ Ok x → IsNewPlan above x
+unfolding plan_of
+plan_of_ok above name packet happens x short e =
+    let a = bind_ok (place_of above name) _ x e in
+    let b = bind_ok (ok_or (number 4294967295 packet) Number) _ x a.2 in
+    let c = bind_ok (ok_or happens Number) _ x b.2 in
+    let d = bind_ok (unless (nat_le MOST_PLAN_LINES (length above.plan)) PlanMany (record { terminal = a.0; packet = b.0; what = c.0 })) _ x c.2 in
+    let u = unless_ok (nat_le MOST_PLAN_LINES (length above.plan)) PlanMany (record { terminal = a.0; packet = b.0; what = c.0 }) d.0 d.1 in
+    let v = unless_ok (list_any (λ p. same_packet p d.0) above.plan) Twice d.0 x d.2 in
+    let at = position-Some (λ leg. bytes_eq leg.name name) above.legs a.0 a_leg (ok_or_ok (position (λ leg. bytes_eq leg.name name) above.legs) Name a.0 a.1) in
+    let line : PlanLine = record { terminal = a.0; packet = b.0; what = c.0 } in
+    let others : All (λ q. same_packet q line ≡ false) above.plan = subst (λ p. All (λ q. same_packet q p ≡ false) above.plan) (sym u.1) (none_passes (λ q. same_packet q d.0) above.plan v.0) in
+    subst (IsNewPlan above) (u.1 ∙ v.1) (record { room = leb-false MOST_PLAN_LINES (length above.plan) u.0; terminal = at.0; delay = short c.0 (ok_or_ok happens Number c.0 c.1); others = others })
+  where
+    a_leg : LegLine
+    a_leg = record { line = 0; name = []; aware = false; ssrc = 0; input = []; output = []; pts = record { t140 = 0; red = 0 }; gens = 0; stay = whole_stay }
+
+plan_ok : (above : Above) (w : What) (ws : List (List ℕ)) (x : PlanLine) → IsShort w → plan above w ws ≡ Ok x → IsNewPlan above x
+plan_ok above w [] x short e = absurd (cc e)
+plan_ok above w (a ∷ []) x short e = absurd (cc e)
+plan_ok above w (a ∷ b ∷ []) x short e = plan_of_ok above a b (Some w) x (λ v q. subst IsShort (some_same w v q) short) e
+plan_ok above w (a ∷ b ∷ c ∷ more) x short e = absurd (cc e)
+
+delay_short : (text : List ℕ) (w : What) → delay_of text ≡ Some w → IsShort w
+delay_short text w e =
+    let a = then_some (number LONGEST_DELAY text) (λ ms. Some (what.Delay ms)) w e in
+    λ ms q. let same : a.0 ≡ ms = cc (a.2, q) in let most = number_most LONGEST_DELAY text a.0 a.1 in omega arith
+
+delay_ok : (above : Above) (ws : List (List ℕ)) (x : PlanLine) → delay above ws ≡ Ok x → IsNewPlan above x
+delay_ok above [] x e = absurd (cc e)
+delay_ok above (a ∷ []) x e = absurd (cc e)
+delay_ok above (a ∷ b ∷ []) x e = absurd (cc e)
+delay_ok above (a ∷ b ∷ c ∷ []) x e = plan_of_ok above a b (delay_of c) x (λ w q. delay_short c w q) e
+delay_ok above (a ∷ b ∷ c ∷ d ∷ more) x e = absurd (cc e)
+
+plan_word_ok : (above : Above) (word : List ℕ) (more : List (List ℕ)) (x : PlanLine) → plan_word above word more ≡ Ok x → IsNewPlan above x
+plan_word_ok above word more x e = go (bytes_eq word (codes "lose")) (bytes_eq word (codes "delay")) (bytes_eq word (codes "twice")) e
+  where
+    go : (a b c : Bool) → (if a then plan above what.Lose more else (if b then delay above more else (if c then plan above what.Twice more else Err Word))) ≡ Ok x → IsNewPlan above x
+    go true b c e = plan_ok above what.Lose more x (λ ms q. absurd (cc q)) e
+    go false true c e = delay_ok above more x e
+    go false false true e = plan_ok above what.Twice more x (λ ms q. absurd (cc q)) e
+    go false false false e = absurd (cc e)
+
+-- ---- times
+setting_ok : (least most : ℕ) (above : Option ℕ) (ws : List (List ℕ)) (x : ℕ) → setting least most above ws ≡ Ok x → IsBetween least most x
+setting_ok least most above [] x e = absurd (cc e)
+setting_ok least most above (text ∷ []) x e =
+    let a = bind_ok (ok_or (number_between least most text) Number) (unless (is_some above) Twice) x e in
+    let u = unless_ok (is_some above) Twice a.0 x a.2 in
+    subst (IsBetween least most) u.1 (number_in least most text a.0 (ok_or_ok (number_between least most text) Number a.0 a.1))
+setting_ok least most above (a ∷ b ∷ more) x e = absurd (cc e)
+
+-- ---- lines
+says_ok : {A : Type 0} (make : A → Entry) (r : Result A ConfKind) (e : Entry) → says make r ≡ Ok e → (x : A) × (r ≡ Ok x) × (make x ≡ e)
+says_ok make (Ok x) e q = (x, refl, cc q)
+says_ok make (Err k) e q = absurd (cc q)
+
+stay_or_plan_ok : (form : Form) (above : Above) (word : List ℕ) (more : List (List ℕ)) (e : Entry) → stay_or_plan form above word more ≡ Ok e → IsNew above e
+unfolding stay_or_plan
+stay_or_plan_ok Links above word more e q = absurd (cc q)
+stay_or_plan_ok Files above word more e q = go (bytes_eq word (codes "stay")) q
+  where
+    go : (a : Bool) → (if a then says Stays (stay above more) else says Plan (plan_word above word more)) ≡ Ok e → IsNew above e
+    go true q = let r = says_ok Stays (stay above more) e q in subst (IsNew above) r.2 (stay_ok above more r.0 r.1)
+    go false q = let r = says_ok Plan (plan_word above word more) e q in subst (IsNew above) r.2 (plan_word_ok above word more r.0 r.1)
+
+time_ok : (form : Form) (above : Above) (word : List ℕ) (more : List (List ℕ)) (e : Entry) → time_or_other form above word more ≡ Ok e → IsNew above e
+unfolding time_or_other
+time_ok form above word more e q = go (bytes_eq word (codes "tick")) (bytes_eq word (codes "spacing")) (bytes_eq word (codes "wait")) (bytes_eq word (codes "turns")) q
+  where
+    go : (a b c d : Bool)
+        → (if a then says Tick (setting LEAST_TICK MOST_TICK above.tick more) else (if b then says Spacing (setting LEAST_SPACING MOST_SPACING above.spacing more) else (if c then says Wait (setting 0 LONGEST_WAIT above.wait more) else (if d then says Turns (setting 1 MOST_TURNS above.turns more) else stay_or_plan form above word more)))) ≡ Ok e
+        → IsNew above e
+    go true b c d q = let r = says_ok Tick (setting LEAST_TICK MOST_TICK above.tick more) e q in subst (IsNew above) r.2 (setting_ok LEAST_TICK MOST_TICK above.tick more r.0 r.1)
+    go false true c d q = let r = says_ok Spacing (setting LEAST_SPACING MOST_SPACING above.spacing more) e q in subst (IsNew above) r.2 (setting_ok LEAST_SPACING MOST_SPACING above.spacing more r.0 r.1)
+    go false false true d q = let r = says_ok Wait (setting 0 LONGEST_WAIT above.wait more) e q in subst (IsNew above) r.2 (setting_ok 0 LONGEST_WAIT above.wait more r.0 r.1).high
+    go false false false true q = let r = says_ok Turns (setting 1 MOST_TURNS above.turns more) e q in subst (IsNew above) r.2 (setting_ok 1 MOST_TURNS above.turns more r.0 r.1)
+    go false false false false q = stay_or_plan_ok form above word more e q
+
+entry_ok : (form : Form) (above : Above) (n : ℕ) (ws : List (List ℕ)) (e : Entry) → entry form above n ws ≡ Ok e → IsNew above e
+unfolding entry
+entry_ok form above n [] e q = absurd (cc q)
+entry_ok form above n (word ∷ more) e q = go (bytes_eq word (codes "leg")) (bytes_eq word (codes "mixer")) (bytes_eq word (codes "gens")) q
+  where
+    go : (a b c : Bool) → (if a then says Leg (leg form above n more) else (if b then says Mixer (mixer above more) else (if c then says Gens (gens above more) else time_or_other form above word more))) ≡ Ok e → IsNew above e
+    go true b c q = let r = says_ok Leg (leg form above n more) e q in subst (IsNew above) r.2 (leg_ok form above n more r.0 r.1)
+    go false true c q = let r = says_ok Mixer (mixer above more) e q in subst (IsNew above) r.2 (mixer_ok above more r.0 r.1)
+    go false false true q = let r = says_ok Gens (gens above more) e q in subst (IsNew above) r.2 (gens_ok above more r.0 r.1)
+    go false false false q = time_ok form above word more e q
+
+pub line_keeps : (form : Form) (above later : Above) (line : Line) → and_line form above line ≡ Ok later → Keeps above → Keeps later
+line_keeps form above later line e k =
+    let a = bind_ok (unless (not (is_utf8 line.octets)) NotText line.octets) _ later e in
+    let b = bind_ok (entry form above line.number (words a.0)) (λ said. Ok (with_entry above said)) later a.2 in
+    let same : with_entry above b.0 ≡ later = cc b.2 in
+    subst Keeps same (more above b.0 k (entry_ok form above line.number (words a.0) b.0 b.1))
+
+pub nothing_keeps : Keeps nothing
+nothing_keeps = record {
+  legs = record { most = omega arith; each = All-nil (λ a. IsLeg a); differ = λ i j d l h. absurd (omega arith) };
+  tick = λ m e. absurd (cc e);
+  spacing = λ m e. absurd (cc e);
+  wait = λ m e. absurd (cc e);
+  turns = λ m e. absurd (cc e);
+  mixer = λ m e. absurd (cc e);
+  plan = record { most = omega arith; terminals = All-nil (λ a. a.terminal < 0); delays = All-nil (λ a. IsShort a.what); differ = λ i j d l h. absurd (omega arith) };
+}
+
+at_ok : {A : Type 0} (n : ℕ) (r : Result A ConfKind) (x : A) → at_line n r ≡ Ok x → r ≡ Ok x
+at_ok n (Ok y) x e = let same : y ≡ x = cc e in ap (λ z. Ok z) same
+at_ok n (Err k) x e = absurd (cc e)
+
+lines_keep : (form : Form) (above last : Above) (ls : List Line) → read_lines (and_line form) above ls ≡ Ok last → Keeps above → Keeps last
+lines_keep form above last [] e k = let same : above ≡ last = cc e in subst Keeps same k
+lines_keep form above last (line ∷ more) e k =
+    let a = bind_ok (at_line line.number (and_line form above line)) (λ said. read_lines (and_line form) said more) last e in
+    lines_keep form a.0 last more a.2 (line_keeps form above a.0 line (at_ok line.number (and_line form above line) a.0 a.1) k)
+
+-- ---- the whole
+or_usual : (o : Option ℕ) (n : ℕ) (P : ℕ → Type 0) → P n → ForSome o P → P (unwrap_or o n)
+or_usual None n P a f = a
+or_usual (Some m) n P a f = f m refl
+
+pub whole_keeps : (above : Above) (m : MixerLine) → Keeps above → above.mixer ≡ Some m → FEWEST_LEGS ≤ length above.legs → is_crowd above.legs ≡ false → IsConference (whole above m)
+whole_keeps above m k said two room = record {
+  two = two;
+  legs = k.legs;
+  room = crowds_seen above.legs room;
+  tick = or_usual above.tick USUAL_TICK IsTick (record { low = omega arith; high = omega arith }) k.tick;
+  spacing = or_usual above.spacing USUAL_SPACING IsSpacing (record { low = omega arith; high = omega arith }) k.spacing;
+  wait = or_usual above.wait USUAL_WAIT IsWait (omega arith) k.wait;
+  turns = or_usual above.turns MOST_TURNS AreTurns (record { low = omega arith; high = omega arith }) k.turns;
+  mixer = k.mixer m said;
+  plan = k.plan;
+}
+
+complete_keeps : (above : Above) (m : Option MixerLine) (c : Conf) → Keeps above → above.mixer ≡ m → complete above m ≡ Ok c → IsConference c
+complete_keeps above None c k said e = absurd (cc e)
+complete_keeps above (Some m) c k said e =
+    let a = bind_ok (unless (nat_lt (length above.legs) FEWEST_LEGS) Few (whole above m)) (unless (is_crowd above.legs) Crowd) c e in
+    let u = unless_ok (nat_lt (length above.legs) FEWEST_LEGS) Few (whole above m) a.0 a.1 in
+    let v = unless_ok (is_crowd above.legs) Crowd a.0 c a.2 in
+    subst IsConference (u.1 ∙ v.1) (whole_keeps above m k said (ltb-false (length above.legs) FEWEST_LEGS u.0) v.0)
+
+pub accepted_keeps : (form : Form) (octets : List ℕ) (c : Conf) → conf form octets ≡ Ok c → IsConference c
+accepted_keeps form octets c e = go (nat_lt MOST_CONF_OCTETS (length octets)) e
+  where
+    go : (b : Bool) → (if b then Err (record { line = 0; kind = Large }) else (read_lines (and_line form) nothing (told is_blank 1 (lines octets)) >>= λ above. at_line (length (lines octets) + 1) (complete above above.mixer))) ≡ Ok c → IsConference c
+    go true e = absurd (cc e)
+    go false e =
+        let a = bind_ok (read_lines (and_line form) nothing (told is_blank 1 (lines octets))) (λ above. at_line (length (lines octets) + 1) (complete above above.mixer)) c e in
+        complete_keeps a.0 a.0.mixer c (lines_keep form nothing a.0 (told is_blank 1 (lines octets)) a.1 nothing_keeps) refl (at_ok (length (lines octets) + 1) (complete a.0 a.0.mixer) c a.2)
