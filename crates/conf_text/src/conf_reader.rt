@@ -3,20 +3,21 @@ ghost use Rattle.std.specs.Prelude.{◌≡◌, ◌==◌, ◌||◌, IfOk, IfErr, 
 ghost use Rattle.std.specs.List.{list_all};
 ghost use Rattle.file_spec.specs.Lines.{words};
 ghost use Rattle.file_spec.specs.Conf.{and_line, complete, conf, is_blank};
-ghost use Rattle.conf_text.specs.Causes.{IsCause, IsCauseAt};
-ghost use Rattle.conf_text.specs.Kept.{Keeps};
+ghost use Rattle.file_spec.specs.Kept.{Keeps};
+ghost use Rattle.file_lines.specs.Causes.{IsCause, IsCauseAt};
 ghost use Rattle.conf_text.specs.Lines.{above_of, conf_of};
 
+use crate::crowds::has_crowd;
 use crate::drafts::Draft;
 use crate::entries::read_entry;
-use crate::file_lines::{next_line, says_nothing, text_of};
 use crate::{Conf, ConfFault, ConfKind};
+use file_lines::{next_line, says_nothing, text_of};
 use file_spec::Form;
+use file_spec::limits::{
+    FEWEST_LEGS, MOST_CONF_OCTETS, MOST_TURNS, USUAL_SPACING, USUAL_TICK, USUAL_WAIT,
+};
 use rtt_base::NoMemory;
 use std::alloc::Global;
-
-/// The greatest size of a conference file, in octets.
-const MOST_OCTETS: usize = 262_144;
 
 fn all_spaces(line: &[u8]) -> bool
     ensures { result ≡ list_all (λ c. c == 32) line.now }
@@ -80,15 +81,21 @@ fn finish(draft: Draft, line: u32) -> Result<Conf, ConfFault>
     let Some(mixer) = draft.mixer else {
         return Err(few);
     };
-    if draft.legs.len() < 2 {
+    if draft.legs.len() < FEWEST_LEGS {
         return Err(few);
+    }
+    if has_crowd(draft.legs.as_slice()) {
+        return Err(ConfFault::Refused {
+            line,
+            kind: ConfKind::Crowd,
+        });
     }
     Ok(Conf {
         legs: draft.legs,
-        tick: draft.tick.unwrap_or(100),
-        spacing: draft.spacing.unwrap_or(300),
-        wait: draft.wait.unwrap_or(1000),
-        turns: draft.turns.unwrap_or(5_000_000),
+        tick: draft.tick.unwrap_or(USUAL_TICK),
+        spacing: draft.spacing.unwrap_or(USUAL_SPACING),
+        wait: draft.wait.unwrap_or(USUAL_WAIT),
+        turns: draft.turns.unwrap_or(MOST_TURNS),
         mixer,
         plan: draft.plan,
     })
@@ -99,7 +106,7 @@ pub fn read_conf(alloc: Global, bytes: &[u8], form: Form) -> Result<Conf, ConfFa
     ensures value { IfOk result (λ c. conf form bytes.now ≡ Ok (conf_of c)) }
     ensures refused { IfErr result (λ fault. IsCause fault (conf form bytes.now)) }
 {
-    if bytes.len() > MOST_OCTETS {
+    if bytes.len() > MOST_CONF_OCTETS {
         return Err(ConfFault::Refused {
             line: 0,
             kind: ConfKind::Large,

@@ -1,11 +1,10 @@
 //! What the lines of a conference say, one by one and so far.
-ghost use Rattle.std.specs.Prelude.{◌≡◌, ◌<◌, ◌≤◌, length, OnOk};
-ghost use Rattle.std.specs.Option.{ForSome};
-ghost use Rattle.file_spec.specs.Conf.{Leg, nothing, with_entry};
-ghost use Rattle.file_spec.specs.Sound.{IsBetween};
+ghost use Rattle.std.specs.Prelude.{◌≡◌, ◌<◌, ◌≤◌, ◌∷◌, [], ◌++◌, length, OnOk};
+ghost use Rattle.file_spec.specs.Conf.{Gens, Leg, Stays, nothing, with_entry};
 
 use crate::{Legs, Plan};
-use file_spec::{LegLine, MixerLine, PlanLine};
+use file_spec::limits::{MOST_LEGS, USUAL_GENS};
+use file_spec::{GensLine, LegLine, MixerLine, PlanLine, Stay, StayLine};
 use rtt_base::{Name, NoMemory, Path, Pts};
 use std::alloc::Global;
 
@@ -25,6 +24,8 @@ pub(crate) struct NewLeg<'a> {
 #[derive(Drop)]
 pub(crate) enum Entry<'a> {
     Leg(NewLeg<'a>),
+    Gens(GensLine),
+    Stays(StayLine),
     Tick(u32),
     Spacing(u32),
     Wait(u32),
@@ -37,18 +38,26 @@ pub(crate) enum Entry<'a> {
 #[derive(Drop)]
 pub(crate) struct Draft {
     pub legs: Legs,
+    /// The legs, counted from 0, whose generations were told.
+    pub gens: Vec<u8>,
+    /// The legs, counted from 0, whose stays were told.
+    pub stays: Vec<u8>,
     pub tick: Option<u32>,
     pub spacing: Option<u32>,
     pub wait: Option<u32>,
     pub turns: Option<u32>,
     pub mixer: Option<MixerLine>,
     pub plan: Plan,
-    ghost seats: { length legs ≤ 16 },
-    ghost planned: { length plan ≤ 4096 },
-    ghost tick_fits: { ForSome tick (λ n. IsBetween 20 400 n) },
-    ghost spacing_fits: { ForSome spacing (λ n. IsBetween 100 1000 n) },
-    ghost wait_fits: { ForSome wait (λ n. IsBetween 0 10000 n) },
-    ghost turns_fits: { ForSome turns (λ n. IsBetween 1 5000000 n) },
+    ghost seats: { length legs ≤ 64 },
+}
+
+fn push_place(places: &mut Vec<u8>, place: u8) -> Result<(), NoMemory>
+    ensures { OnOk result (places.new.items ≡ places.old.items ++ place ∷ []) }
+{
+    match places.push(place) {
+        Ok(()) => Ok(()),
+        Err(_) => Err(NoMemory),
+    }
 }
 
 impl Draft {
@@ -59,6 +68,8 @@ impl Draft {
     {
         Draft {
             legs: Legs::new(alloc),
+            gens: Vec::new(alloc),
+            stays: Vec::new(alloc),
             tick: None,
             spacing: None,
             wait: None,
@@ -69,7 +80,7 @@ impl Draft {
     }
 
     fn add_leg(&mut self, alloc: Global, leg: NewLeg<'_>) -> Result<(), NoMemory>
-        requires { length self.old.legs < 16 }
+        requires { length self.old.legs < MOST_LEGS }
         ensures { OnOk result (above_of self.new ≡ with_entry (above_of self.old) (Leg (leg_line leg.entry))) }
     {
         let input = Path::from_text(alloc, leg.input)?;
@@ -82,7 +93,30 @@ impl Draft {
             input,
             output,
             pts: leg.pts,
+            gens: USUAL_GENS,
+            stay: Stay {
+                from: 0,
+                until: None,
+            },
         })
+    }
+
+    fn add_gens(&mut self, line: GensLine) -> Result<(), NoMemory>
+        requires { line.leg < length self.old.legs }
+        ensures { OnOk result (above_of self.new ≡ with_entry (above_of self.old) (Gens line)) }
+    {
+        push_place(&mut self.gens, line.leg)?;
+        self.legs.set_gens(usize::from(line.leg), line.gens);
+        Ok(())
+    }
+
+    fn add_stay(&mut self, line: StayLine) -> Result<(), NoMemory>
+        requires { line.leg < length self.old.legs }
+        ensures { OnOk result (above_of self.new ≡ with_entry (above_of self.old) (Stays line)) }
+    {
+        push_place(&mut self.stays, line.leg)?;
+        self.legs.set_stay(usize::from(line.leg), line.stay);
+        Ok(())
     }
 
     /// The lines so far and one more.
@@ -92,6 +126,8 @@ impl Draft {
     {
         match entry {
             Entry::Leg(leg) => return self.add_leg(alloc, leg),
+            Entry::Gens(line) => return self.add_gens(line),
+            Entry::Stays(line) => return self.add_stay(line),
             Entry::Tick(value) => self.tick = Some(value),
             Entry::Spacing(value) => self.spacing = Some(value),
             Entry::Wait(value) => self.wait = Some(value),

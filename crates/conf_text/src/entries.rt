@@ -1,19 +1,21 @@
 //! The lines of a conference.
 ghost use Rattle.std.specs.Prelude.{◌≡◌, ◌∷◌, map, IfOk};
-ghost use Rattle.file_spec.specs.Conf.{entry, mixer, mixer_of, setting, time_or_plan};
-ghost use Rattle.file_spec.specs.Sound.{IsBetween};
+ghost use Rattle.file_spec.specs.Conf.{entry, mixer, mixer_of, setting, stay_or_plan, time_or_other};
 ghost use Rattle.conf_text.specs.Lines.{above_of, meaning, seen, MayFollow};
 
 use crate::ConfKind;
 use crate::drafts::{Draft, Entry};
 use crate::leg_lines::{has_ssrc, read_leg};
 use crate::plan_lines::read_plan;
+use crate::stay_lines::{read_gens, read_stay};
+use file_spec::limits::{
+    LEAST_SPACING, LEAST_TICK, LONGEST_WAIT, MOST_SPACING, MOST_TICK, MOST_TURNS,
+};
 use file_spec::{Form, MixerLine};
 use numerals::{number_from, number_of};
 
 fn read_setting(least: u32, most: u32, above: Option<u32>, words: &[&str]) -> Result<u32, ConfKind>
-    ensures exact { result ≡ setting least most above (map (λ w. w.now) words.now) }
-    ensures fits { IfOk result (λ n. IsBetween least most n) }
+    ensures { result ≡ setting least most above (map (λ w. w.now) words.now) }
 {
     let [text] = words else {
         return Err(ConfKind::Count);
@@ -62,22 +64,46 @@ fn read_mixer(above: &Draft, words: &[&str]) -> Result<MixerLine, ConfKind>
     }
 }
 
-#[tactic(auto, unfolding(file_spec::specs::Conf::time_or_plan))]
-fn read_time_or_plan<'a>(
+#[tactic(auto, unfolding(file_spec::specs::Conf::stay_or_plan))]
+fn read_stay_or_plan<'a>(
     form: Form,
     above: &Draft,
     word: &str,
     words: &[&str],
 ) -> Result<Entry<'a>, ConfKind>
-    ensures exact { seen meaning result ≡ time_or_plan form (above_of above.now) word.now (map (λ w. w.now) words.now) }
+    ensures exact { seen meaning result ≡ stay_or_plan form (above_of above.now) word.now (map (λ w. w.now) words.now) }
+    ensures follows { IfOk result (λ said. MayFollow (above_of above.now) (meaning said)) }
+{
+    if form == Form::Links {
+        return Err(ConfKind::Word);
+    }
+    match word {
+        "stay" => Ok(Entry::Stays(read_stay(above, words)?)),
+        other => Ok(Entry::Plan(read_plan(above, other, words)?)),
+    }
+}
+
+#[tactic(auto, unfolding(file_spec::specs::Conf::time_or_other))]
+fn read_time_or_other<'a>(
+    form: Form,
+    above: &Draft,
+    word: &str,
+    words: &[&str],
+) -> Result<Entry<'a>, ConfKind>
+    ensures exact { seen meaning result ≡ time_or_other form (above_of above.now) word.now (map (λ w. w.now) words.now) }
     ensures follows { IfOk result (λ said. MayFollow (above_of above.now) (meaning said)) }
 {
     match word {
-        "tick" => Ok(Entry::Tick(read_setting(20, 400, above.tick, words)?)),
-        "spacing" => Ok(Entry::Spacing(read_setting(100, 1000, above.spacing, words)?)),
-        "wait" => Ok(Entry::Wait(read_setting(0, 10_000, above.wait, words)?)),
-        "turns" => Ok(Entry::Turns(read_setting(1, 5_000_000, above.turns, words)?)),
-        other => Ok(Entry::Plan(read_plan(form, above, other, words)?)),
+        "tick" => Ok(Entry::Tick(read_setting(LEAST_TICK, MOST_TICK, above.tick, words)?)),
+        "spacing" => Ok(Entry::Spacing(read_setting(
+            LEAST_SPACING,
+            MOST_SPACING,
+            above.spacing,
+            words,
+        )?)),
+        "wait" => Ok(Entry::Wait(read_setting(0, LONGEST_WAIT, above.wait, words)?)),
+        "turns" => Ok(Entry::Turns(read_setting(1, MOST_TURNS, above.turns, words)?)),
+        other => read_stay_or_plan(form, above, other, words),
     }
 }
 
@@ -95,7 +121,8 @@ fn read_worded<'a>(
     match word {
         "leg" => Ok(Entry::Leg(read_leg(form, above, line, words)?)),
         "mixer" => Ok(Entry::Mixer(read_mixer(above, words)?)),
-        other => read_time_or_plan(form, above, other, words),
+        "gens" => Ok(Entry::Gens(read_gens(above, words)?)),
+        other => read_time_or_other(form, above, other, words),
     }
 }
 

@@ -1,18 +1,22 @@
 //! The lines of legs.
 ghost use Rattle.std.specs.Prelude.{◌≡◌, ◌==◌, ◌<◌, bytes_eq, map, length, OnOk};
 ghost use Rattle.std.specs.List.{list_any};
-ghost use Rattle.file_spec.specs.Conf.{clashes, has_names, has_port, is_mixers, leg, leg_of, new_leg, port, same_port, shares_own, shares_path};
+ghost use Rattle.file_spec.specs.Conf.{clashes, has_names, has_port, is_mixers, leg, leg_of, most_legs, new_leg, port, same_port, shares_own, shares_path};
 ghost use Rattle.conf_text.specs.Lines.{above_of, leg_line, seen};
 
 use crate::ConfKind;
 use crate::drafts::{Draft, NewLeg};
 use crate::names::{awareness, name_of, names_leg, names_path};
+use file_spec::limits::{MOST_LEGS, MOST_LINKS, USUAL_RED, USUAL_T140};
 use file_spec::{Form, LegLine, MixerLine};
 use numerals::{number_from, number_of, pts_of};
 use rtt_base::Pts;
 
-/// The most legs of a conference.
-const MOST_LEGS: usize = 16;
+/// The payload types of a leg that names none.
+const USUAL_TYPES: Pts = Pts {
+    t140: USUAL_T140,
+    red: USUAL_RED,
+};
 
 /// The words of a leg, without its payload types.
 #[derive(Clone, Copy)]
@@ -108,11 +112,20 @@ fn does_clash(form: Form, above: &Draft, leg: &NewLeg<'_>) -> bool
         || share_paths(form, legs, leg)
 }
 
+fn seats(form: Form) -> usize
+    ensures { result ≡ most_legs form }
+{
+    match form {
+        Form::Files => MOST_LEGS,
+        Form::Links => MOST_LINKS,
+    }
+}
+
 fn join<'a>(form: Form, above: &Draft, leg: NewLeg<'a>) -> Result<NewLeg<'a>, ConfKind>
     ensures exact { seen leg_line result ≡ new_leg form (above_of above.now) (leg_line leg.entry) }
-    ensures seat { OnOk result (length above.now.legs < 16) }
+    ensures seat { OnOk result (length above.now.legs < MOST_LEGS) }
 {
-    if above.legs.len() >= MOST_LEGS {
+    if above.legs.len() >= seats(form) {
         return Err(ConfKind::Many);
     }
     if has_name(above.legs.as_slice(), leg.name.as_str()) {
@@ -133,7 +146,7 @@ fn read_words<'a>(
     pts: Option<Pts>,
 ) -> Result<NewLeg<'a>, ConfKind>
     ensures exact { seen leg_line result ≡ leg_of form (above_of above.now) line words.now.name.now words.now.mode.now words.now.ssrc.now words.now.input.now words.now.output.now pts }
-    ensures seat { OnOk result (length above.now.legs < 16) }
+    ensures seat { OnOk result (length above.now.legs < MOST_LEGS) }
 {
     let Some(aware) = awareness(words.mode) else {
         return Err(ConfKind::Word);
@@ -170,7 +183,7 @@ pub(crate) fn read_leg<'a>(
     words: &[&'a str],
 ) -> Result<NewLeg<'a>, ConfKind>
     ensures exact { seen leg_line result ≡ leg form (above_of above.now) line (map (λ w. w.now) words.now) }
-    ensures seat { OnOk result (length above.now.legs < 16) }
+    ensures seat { OnOk result (length above.now.legs < MOST_LEGS) }
 {
     match words {
         [name, mode, ssrc, input, output] => {
@@ -181,7 +194,7 @@ pub(crate) fn read_leg<'a>(
                 input,
                 output,
             };
-            read_words(form, above, line, &words, Some(Pts { t140: 98, red: 100 }))
+            read_words(form, above, line, &words, Some(USUAL_TYPES))
         }
         [name, mode, ssrc, input, output, t140, red] => {
             let words = LegWords {

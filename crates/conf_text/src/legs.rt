@@ -1,7 +1,8 @@
 //! The legs of a conference.
-ghost use Rattle.std.specs.Prelude.{◌≡◌, ◌==◌, [], ◌∷◌, ◌++◌, length, OnOk, OnErr};
+ghost use Rattle.std.specs.Prelude.{◌≡◌, ◌<◌, ◌==◌, [], ◌∷◌, ◌++◌, length, OnOk, OnErr};
+ghost use Rattle.file_spec.specs.Conf.{change_leg, with_gens, with_stay};
 
-use file_spec::LegLine;
+use file_spec::{LegLine, Stay};
 use rtt_base::NoMemory;
 use std::alloc::Global;
 use std::marker::Model;
@@ -59,5 +60,21 @@ impl Legs {
             Ok(()) => Ok(()),
             Err(_) => Err(NoMemory),
         }
+    }
+
+    /// Tells how many redundant generations the terminal of a leg is sent.
+    pub(crate) fn set_gens(&mut self, leg: usize, gens: u8)
+        requires { leg < length self.old }
+        ensures { self.new ≡ change_leg (with_gens gens) leg self.old }
+    {
+        self.lines[leg].gens = gens;
+    }
+
+    /// Tells when a leg stays.
+    pub(crate) fn set_stay(&mut self, leg: usize, stay: Stay)
+        requires { leg < length self.old }
+        ensures { self.new ≡ change_leg (with_stay stay) leg self.old }
+    {
+        self.lines[leg].stay = stay;
     }
 }

@@ -3,6 +3,7 @@ ghost use Rattle.std.specs.Prelude.{◌≡◌, IsTrue};
 ghost use Rattle.std.specs.List.{list_all};
 ghost use Rattle.file_spec.specs.Conf.{is_name, is_name_octet, is_path, aware_of};
 
+use file_spec::limits::{LONGEST_NAME, LONGEST_PATH};
 use rtt_base::Name;
 
 fn is_name_letter(octet: u8) -> bool
@@ -21,14 +22,14 @@ fn all_letters(text: &[u8]) -> bool
 pub(crate) fn names_leg(text: &str) -> bool
     ensures { result ≡ is_name text.now }
 {
-    !text.is_empty() && text.len() <= Name::CAPACITY && all_letters(text.as_bytes())
+    !text.is_empty() && text.len() <= LONGEST_NAME && all_letters(text.as_bytes())
 }
 
 /// Whether the text may be a path: 1 to 255 octets.
 pub(crate) fn names_path(text: &str) -> bool
     ensures { result ≡ is_path text.now }
 {
-    !text.is_empty() && text.len() <= 255
+    !text.is_empty() && text.len() <= LONGEST_PATH
 }
 
 /// The name that the text is.

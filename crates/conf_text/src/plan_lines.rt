@@ -1,25 +1,15 @@
 //! The lines of a plan.
-ghost use Rattle.std.specs.Prelude.{◌≡◌, ◌<◌, bytes_eq, map, length, OnOk};
-ghost use Rattle.std.specs.List.{list_any, position};
+ghost use Rattle.std.specs.Prelude.{◌≡◌, map};
+ghost use Rattle.std.specs.List.{list_any};
 ghost use Rattle.file_spec.specs.Conf.{delay, delay_of, plan, plan_of, plan_word, same_packet, same_word};
 ghost use Rattle.conf_text.specs.Lines.{above_of};
 
 use crate::ConfKind;
 use crate::drafts::Draft;
-use file_spec::{Form, LegLine, PlanLine, What};
+use crate::stay_lines::leg_place;
+use file_spec::limits::{LONGEST_DELAY, MOST_PLAN_LINES};
+use file_spec::{PlanLine, What};
 use numerals::number_of;
-
-/// The most plan lines of a conference.
-const MOST_PLAN_LINES: usize = 4096;
-
-/// The longest delay of a packet, in milliseconds.
-const LONGEST_DELAY: u32 = 60_000;
-
-fn leg_place(legs: &[LegLine], name: &str) -> Option<usize>
-    ensures { result ≡ position (λ l. bytes_eq l.name name.now) legs.now }
-{
-    legs.iter().position(|leg| leg.name.as_str() == name)
-}
 
 fn is_same_event(one: What, other: What) -> bool
     ensures { result ≡ same_word one other }
@@ -53,10 +43,9 @@ fn read_event(
     packet: &str,
     what: Option<What>,
 ) -> Result<PlanLine, ConfKind>
-    ensures exact { result ≡ plan_of (above_of above.now) name.now packet.now what }
-    ensures room { OnOk result (length above.now.plan < 4096) }
+    ensures { result ≡ plan_of (above_of above.now) name.now packet.now what }
 {
-    let Some(terminal) = leg_place(above.legs.as_slice(), name) else {
+    let Some(terminal) = leg_place(above, name) else {
         return Err(ConfKind::Name);
     };
     let Some(packet) = number_of(packet, u32::MAX) else {
@@ -69,7 +58,7 @@ fn read_event(
         return Err(ConfKind::PlanMany);
     }
     let line = PlanLine {
-        terminal: terminal as u8,
+        terminal,
         packet,
         what,
     };
@@ -87,8 +76,7 @@ fn delay_from(text: &str) -> Option<What>
 }
 
 fn read_plain(above: &Draft, what: What, words: &[&str]) -> Result<PlanLine, ConfKind>
-    ensures exact { result ≡ plan (above_of above.now) what (map (λ w. w.now) words.now) }
-    ensures room { OnOk result (length above.now.plan < 4096) }
+    ensures { result ≡ plan (above_of above.now) what (map (λ w. w.now) words.now) }
 {
     match words {
         [name, packet] => read_event(above, name, packet, Some(what)),
@@ -97,8 +85,7 @@ fn read_plain(above: &Draft, what: What, words: &[&str]) -> Result<PlanLine, Con
 }
 
 fn read_delay(above: &Draft, words: &[&str]) -> Result<PlanLine, ConfKind>
-    ensures exact { result ≡ delay (above_of above.now) (map (λ w. w.now) words.now) }
-    ensures room { OnOk result (length above.now.plan < 4096) }
+    ensures { result ≡ delay (above_of above.now) (map (λ w. w.now) words.now) }
 {
     match words {
         [name, packet, late] => read_event(above, name, packet, delay_from(late)),
@@ -107,18 +94,9 @@ fn read_delay(above: &Draft, words: &[&str]) -> Result<PlanLine, ConfKind>
 }
 
 /// The plan line of a line, from its first word and those after it.
-pub(crate) fn read_plan(
-    form: Form,
-    above: &Draft,
-    word: &str,
-    words: &[&str],
-) -> Result<PlanLine, ConfKind>
-    ensures exact { result ≡ plan_word form (above_of above.now) word.now (map (λ w. w.now) words.now) }
-    ensures room { OnOk result (length above.now.plan < 4096) }
+pub(crate) fn read_plan(above: &Draft, word: &str, words: &[&str]) -> Result<PlanLine, ConfKind>
+    ensures { result ≡ plan_word (above_of above.now) word.now (map (λ w. w.now) words.now) }
 {
-    if form == Form::Links {
-        return Err(ConfKind::Word);
-    }
     match word {
         "lose" => read_plain(above, What::Lose, words),
         "delay" => read_delay(above, words),

@@ -106,7 +106,7 @@ record Leaves (change : LegLine → LegLine) : Type 0 where
   output : (l : LegLine) → (change l).output ≡ l.output
   leg : (l : LegLine) → IsLeg l → IsLeg (change l)
 
-length-change : (change : LegLine → LegLine) (k : ℕ) (ls : List LegLine) → length (change_leg change k ls) ≡ length ls
+pub length-change : (change : LegLine → LegLine) (k : ℕ) (ls : List LegLine) → length (change_leg change k ls) ≡ length ls
 length-change change k [] = refl
 length-change change zero (l ∷ ls) = refl
 length-change change (suc k) (l ∷ ls) = ap suc (length-change change k ls)

@@ -6,11 +6,16 @@ use Rattle.std.specs.Str.{byte, is_utf8}
 use Rattle.std.specs.Str.Lines.{lines}
 use Rattle.file_spec.specs.declared.kinds.ConfKind.{ConfKind}
 use Rattle.file_spec.specs.declared.kinds.ConfKind.TheVariants.{NotText, Count, Number, Order, Escape, Long, Large}
-use Rattle.file_spec.specs.declared.script_lines.ScriptLine.{ScriptLine}
 use Rattle.file_spec.specs.declared.limits.TheConstants.{LAST_MOMENT, LONGEST_TEXT, MOST_SCRIPT_OCTETS}
 use Rattle.file_spec.specs.Steps.{◌>>=◌, unless}
 use Rattle.file_spec.specs.Lines.{Line, Refusal, told, is_comment, read_lines}
 use Rattle.file_spec.specs.Numbers.{number}
+
+-- a text and when it is typed, with the number of its line in the file
+pub record ScriptLine : Type 0 where
+  pub line : ℕ
+  pub at : ℕ
+  pub text : List ℕ
 
 -- what a backslash and this stand for: U+2028, U+0008, U+0007 or a backslash
 abbrev pub escape : ℕ → Option (List ℕ)

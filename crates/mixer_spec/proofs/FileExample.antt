@@ -20,7 +20,7 @@ use Rattle.stream_spec.proofs.OwnPackets.{own_come}
 use Rattle.stream_spec.proofs.Walks.{are_places}
 use Rattle.file_spec.specs.declared.conf_lines.Form.TheVariants.{Files}
 use Rattle.file_spec.specs.declared.conf_lines.What.TheVariants.{Lose}
-use Rattle.file_spec.specs.Conf.{Conf, conf, entry, leg_of, mixer_of, plan_of, time_or_plan}
+use Rattle.file_spec.specs.Conf.{Conf, conf, entry, leg_of, mixer_of, plan_of, stay_or_plan, time_or_other}
 use Rattle.text_spec.specs.Characters.{class_of}
 use Rattle.text_spec.specs.Ends.{ends_line, ends_sentence}
 use Rattle.text_spec.specs.Views.{label, label_after}
@@ -46,9 +46,9 @@ file = codes "leg Ann aware 1001 ann.in ann.out\nleg Bob aware 1002 bob.in bob.o
 
 abbrev call : Conf
 call = record {
-  legs = record { line = 1; name = codes "Ann"; aware = true; ssrc = 1001; input = codes "ann.in"; output = codes "ann.out"; pts = record { t140 = 98; red = 100 } }
-      ∷ record { line = 2; name = codes "Bob"; aware = true; ssrc = 1002; input = codes "bob.in"; output = codes "bob.out"; pts = record { t140 = 98; red = 100 } }
-      ∷ record { line = 3; name = codes "Cy"; aware = false; ssrc = 1003; input = codes "cy.in"; output = codes "cy.out"; pts = record { t140 = 98; red = 100 } } ∷ [];
+  legs = record { line = 1; name = codes "Ann"; aware = true; ssrc = 1001; input = codes "ann.in"; output = codes "ann.out"; pts = record { t140 = 98; red = 100 }; gens = 2; stay = record { from = 0; until = None } }
+      ∷ record { line = 2; name = codes "Bob"; aware = true; ssrc = 1002; input = codes "bob.in"; output = codes "bob.out"; pts = record { t140 = 98; red = 100 }; gens = 2; stay = record { from = 0; until = None } }
+      ∷ record { line = 3; name = codes "Cy"; aware = false; ssrc = 1003; input = codes "cy.in"; output = codes "cy.out"; pts = record { t140 = 98; red = 100 }; gens = 2; stay = record { from = 0; until = None } } ∷ [];
   tick = 100;
   spacing = 300;
   wait = 1000;
@@ -58,7 +58,7 @@ call = record {
 }
 
 is_read : conf Files file ≡ Ok call
-unfolding entry time_or_plan leg_of mixer_of plan_of is_utf8 chars encode_utf8
+unfolding entry time_or_other stay_or_plan leg_of mixer_of plan_of is_utf8 chars encode_utf8
 is_read = refl
 
 accepted : IsAccepted call

@@ -7,6 +7,7 @@ ghost use Rattle.std.specs.Char.{is_ascii_digit};
 ghost use Rattle.file_spec.specs.Numbers.{number, is_number, number_between, pts};
 ghost use Rattle.file_spec.specs.Sound.{IsBetween};
 
+use file_spec::limits::{FIRST_TYPE, LAST_TYPE};
 use rtt_base::Pts;
 
 fn all_digits(text: &[u8]) -> bool
@@ -54,8 +55,8 @@ pub fn number_from(text: &str, least: u32, most: u32) -> Option<u32>
 pub fn pts_of(t140: &str, red: &str) -> Option<Pts>
     ensures { result ≡ pts t140.now red.now }
 {
-    let t140 = number_from(t140, 96, 127)?;
-    let red = number_from(red, 96, 127)?;
+    let t140 = number_from(t140, FIRST_TYPE, LAST_TYPE)?;
+    let red = number_from(red, FIRST_TYPE, LAST_TYPE)?;
     Some(Pts {
         t140: t140 as u8,
         red: red as u8,

@@ -6,7 +6,7 @@ use Rattle.std.proofs.lemmas.Bool.Decides.{nat_tests}
 use Rattle.wire_spec.specs.Packets.{Packet, Arrival}
 use Rattle.wire_spec.specs.Text.{text_of}
 use Rattle.wire_spec.specs.Dump.{Item, sent_item, latest, arrived, arrivals_with, arrivals_after, arrivals, dump, usual_limit, Recording}
-use Rattle.file_spec.specs.declared.script_lines.ScriptLine.{ScriptLine}
+use Rattle.file_spec.specs.Script.{ScriptLine}
 use Rattle.stream_spec.specs.Lists.{In}
 use Rattle.stream_spec.specs.Numbering.{Numbered, nearest, greatest, number_after, number_it, numbered, first_number, has_number, distinct_from, in_time}
 use Rattle.stream_spec.specs.History.{History, Entry, Placed, Lawful, placed, placed_after, entry_of, top_place, IsNear, Come, by_place, places}

@@ -7,7 +7,7 @@ use Rattle.std.proofs.lemmas.Bool.{cases_lt}
 use Rattle.std.proofs.lemmas.Bool.Decides.{nat_tests}
 use Rattle.std.proofs.lemmas.Grind.{flat_map-append}
 use Rattle.wire_spec.specs.Dump.{dump_opening, dump_written, record_written}
-use Rattle.file_spec.specs.declared.script_lines.ScriptLine.{ScriptLine}
+use Rattle.file_spec.specs.Script.{ScriptLine}
 use Rattle.stream_spec.specs.Own.{packet_after}
 use Rattle.stream_spec.specs.Typed.{Event, Ask, Turned, sents, front, is_due, due_at, packet_at, entry_at, IsScript, has_passed, next_at}
 use Rattle.stream_spec.proofs.Typing.{entries_more, entries_same, waits_same, waits_less}

@@ -4,7 +4,7 @@ use Rattle.std.specs.Prelude.{◌&&◌, ◌||◌, nat_le, min, All, IsUtf8}
 use Rattle.std.proofs.lemmas.Bool.{cases_lt}
 use Rattle.std.proofs.lemmas.Bool.Decides.{nat_tests}
 use Rattle.wire_spec.specs.Packets.{has_text}
-use Rattle.file_spec.specs.declared.script_lines.ScriptLine.{ScriptLine}
+use Rattle.file_spec.specs.Script.{ScriptLine}
 use Rattle.stream_spec.specs.Own.{Sent, has_text_in}
 use Rattle.stream_spec.specs.Lists.{In}
 use Rattle.stream_spec.specs.Typed.{Event, Ask, Turned, sents, front, last_end, due_at, entry_at, has_passed, IsScript}

@@ -6,7 +6,7 @@ use Rattle.std.proofs.lemmas.Bool.{cases_lt}
 use Rattle.std.proofs.lemmas.Bool.Decides.{nat_tests}
 use Rattle.wire_spec.specs.Packets.{has_text}
 use Rattle.wire_spec.specs.Dump.{arrivals, usual_limit}
-use Rattle.file_spec.specs.declared.script_lines.ScriptLine.{ScriptLine}
+use Rattle.file_spec.specs.Script.{ScriptLine}
 use Rattle.stream_spec.specs.Lists.{In}
 use Rattle.stream_spec.specs.Hearing.{heard}
 use Rattle.stream_spec.specs.History.{History, Entry, Placed, Lawful, placed, placed_after}

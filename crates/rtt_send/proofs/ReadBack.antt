@@ -14,7 +14,7 @@ use Rattle.wire_spec.specs.Text.{text_of}
 use Rattle.wire_spec.specs.Dump.{FitsRecord, dump, sent_item, usual_limit}
 use Rattle.wire_spec.proofs.WholePackets.{text_read_back}
 use Rattle.wire_spec.proofs.Recordings.{read_back}
-use Rattle.file_spec.specs.declared.script_lines.ScriptLine.{ScriptLine}
+use Rattle.file_spec.specs.Script.{ScriptLine}
 use Rattle.stream_spec.specs.Lists.{In}
 use Rattle.stream_spec.specs.History.{History, Entry, Placed, placed}
 use Rattle.stream_spec.specs.Own.{Sent, Stream, sent_of, nth, repeat_of, MaySend, Sendable, own_packet, packet_after, entry_after, sent_history}

@@ -4,7 +4,7 @@ use Rattle.std.specs.Prelude.{All, IsOk, OnOk, min, ◌↔◌, is_err}
 use Rattle.std.proofs.lemmas.Bool.{cases_lt}
 use Rattle.std.proofs.lemmas.List.Elements.{All-push, All-weaker}
 use Rattle.wire_spec.specs.Dump.{dump_opening}
-use Rattle.file_spec.specs.declared.script_lines.ScriptLine.{ScriptLine}
+use Rattle.file_spec.specs.Script.{ScriptLine}
 use Rattle.stream_spec.specs.Typed.{Text, due_at}
 use Rattle.stream_spec.proofs.Typing.{waits_more}
 use Rattle.text_sender.specs.declared.senders.SendConf.{SendConf}

@@ -1,7 +1,7 @@
 -- The recording of what a script sends (profile).
 use Rattle.std.specs.Prelude.{ℕ, ◌<◌, ◌≤◌, ◌^◌, List, [], ◌∷◌, ◌++◌, length, All}
 use Rattle.wire_spec.specs.Dump.{dump_written, usual_limit}
-use Rattle.file_spec.specs.declared.script_lines.ScriptLine.{ScriptLine}
+use Rattle.file_spec.specs.Script.{ScriptLine}
 use Rattle.stream_spec.specs.Own.{packet_after}
 use Rattle.stream_spec.specs.Typed.{Turned, sents}
 use Rattle.text_sender.specs.declared.senders.SendConf.{SendConf}

@@ -2,7 +2,7 @@
 -- an ask. Lists of events are newest first.
 use Rattle.std.specs.Prelude.{◌≡◌, ℕ, zero, suc, ◌+◌, ◌≤◌, ◌==◌, false, nat_lt, Option, None, Some, List, [], ◌∷◌, ◌++◌, length, All, IsUtf8, if◌then◌else◌}
 use Rattle.std.specs.List.{flat_map}
-use Rattle.file_spec.specs.declared.script_lines.ScriptLine.{ScriptLine}
+use Rattle.file_spec.specs.Script.{ScriptLine}
 use Rattle.stream_spec.specs.Typed.{Event, Text, Ask}
 use Rattle.text_sender.specs.declared.senders.SendConf.{SendConf}
 use Rattle.text_sender.specs.Standing.{waits_for, has_more}

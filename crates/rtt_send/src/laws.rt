@@ -1,7 +1,7 @@
 //! What holds of scripts and of what they send. No code stands here.
 ghost use Rattle.stream_spec.specs.Typed.{primaries};
 ghost use Rattle.std.specs.Prelude.{◌≡◌, ◌<◌, ◌≤◌, ◌^◌, ℕ, List, Some, None, Ok, All, map, length};
-ghost use Rattle.file_spec.specs.declared.script_lines.ScriptLine.{ScriptLine};
+ghost use Rattle.file_spec.specs.Script.{ScriptLine};
 ghost use Rattle.file_spec.specs.Script.{script};
 ghost use Rattle.wire_spec.specs.Text.{text_of};
 ghost use Rattle.wire_spec.specs.Dump.{dump, usual_limit, sent_item, arrivals};

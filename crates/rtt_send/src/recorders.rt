@@ -1,9 +1,9 @@
 //! A sender whose packets are recorded.
 ghost use Rattle.std.specs.Prelude.{◌≡◌, ◌+◌, ◌<◌, ◌≤◌, ◌↔◌, ◌^◌, ◌∷◌, ◌++◌, [], List, length, IfOk, IsOk, OnOk, IsUtf8};
 
-use file_spec::ScriptLine;
 use rtpdump_io::{write_opening, write_record};
 use rtt_base::{Bytes, Full, NoMemory, Packet};
+use script_text::ScriptLine;
 use std::alloc::Global;
 use text_sender::{SendConf, Sender};
 
@@ -21,7 +21,8 @@ pub struct Recorder {
 
 impl Recorder {
     ghost use Rattle.text_sender.specs.declared.senders.SendConf.{SendConf};
-    ghost use Rattle.file_spec.specs.declared.script_lines.ScriptLine.{ScriptLine};
+    ghost use Rattle.file_spec.specs.Script as spec;
+    ghost use Rattle.script_text.specs.ScriptLines.{line_of};
     ghost use Rattle.text_sender.specs.Confs.{IsConf};
     ghost use Rattle.text_sender.specs.Standing.{waits_for};
     ghost use Rattle.rtt_send.specs.Scripts.{events_until};
@@ -45,22 +46,22 @@ impl Recorder {
     }
 
     /// Types a line of this millisecond. `Full`: too much waits with it.
-    pub fn type_line(&mut self, line: &ScriptLine) -> Result<(), Full>
-        requires text { IsUtf8 line.now.text }
-        requires now { self.old.now ≡ line.now.at }
-        ensures room { (conf : SendConf) (lines : List ScriptLine) → IsAt conf lines self.old
-            → (IsOk result ↔ (length (waits_for conf (events_until lines self.old.now)) + length line.now.text ≤ 16384)) }
-        ensures ok { OnOk result ((conf : SendConf) (lines : List ScriptLine) → IsAt conf lines self.old → IsAt conf (lines ++ line.now ∷ []) self.new) }
+    pub fn type_line(&mut self, line: ScriptLine<'_>) -> Result<(), Full>
+        requires text { IsUtf8 line.text.now }
+        requires now { self.old.now ≡ line.at }
+        ensures room { (conf : SendConf) (lines : List spec.ScriptLine) → IsAt conf lines self.old
+            → (IsOk result ↔ (length (waits_for conf (events_until lines self.old.now)) + length line.entry.text.now ≤ 16384)) }
+        ensures ok { OnOk result ((conf : SendConf) (lines : List spec.ScriptLine) → IsAt conf lines self.old → IsAt conf (lines ++ line_of line.entry ∷ []) self.new) }
         ensures now { self.new.now ≡ self.old.now }
     {
-        self.sender.typed(line.text.as_slice())
+        self.sender.typed(line.text)
     }
 
     /// Asks at each millisecond before this one.
     pub fn pass_to(&mut self, at: u64) -> Result<(), NoMemory>
         requires known { Known self.old }
         requires early { at < 2 ^ 31 }
-        ensures at { OnOk result ((conf : SendConf) (lines : List ScriptLine) → IsAt conf lines self.old → IsAt conf lines self.new) }
+        ensures at { OnOk result ((conf : SendConf) (lines : List spec.ScriptLine) → IsAt conf lines self.old → IsAt conf lines self.new) }
         ensures now { OnOk result (self.old.now ≤ at → self.new.now ≡ at) }
     {
         while self.now < at {
@@ -74,7 +75,7 @@ impl Recorder {
     fn ask(&mut self) -> Result<(), NoMemory>
         requires known { Known self.old }
         requires early { self.old.now < 2 ^ 31 }
-        ensures asked { OnOk result ((conf : SendConf) (lines : List ScriptLine) → IsAt conf lines self.old → IsAsked conf lines self.new) }
+        ensures asked { OnOk result ((conf : SendConf) (lines : List spec.ScriptLine) → IsAt conf lines self.old → IsAsked conf lines self.new) }
         ensures now { OnOk result (self.new.now ≡ self.old.now + 1) }
     {
         if self.sender.turn_into(self.now, &mut self.packet) {
@@ -88,9 +89,9 @@ impl Recorder {
     fn skip_to(&mut self, at: u64)
         requires room { self.old.now ≤ at }
         requires early { at < 2 ^ 31 }
-        ensures at { (conf : SendConf) (lines : List ScriptLine) → IsAsked conf lines self.old → IsAt conf lines self.new }
+        ensures at { (conf : SendConf) (lines : List spec.ScriptLine) → IsAsked conf lines self.old → IsAt conf lines self.new }
         ensures within { self.new.now ≤ at }
-        ensures later { (conf : SendConf) (lines : List ScriptLine) → IsAsked conf lines self.old → self.old.now ≤ self.new.now }
+        ensures later { (conf : SendConf) (lines : List spec.ScriptLine) → IsAsked conf lines self.old → self.old.now ≤ self.new.now }
     {
         self.now = match self.sender.next_due() {
             Some(due) => due.min(at),

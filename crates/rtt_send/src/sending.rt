@@ -7,8 +7,8 @@ ghost use Rattle.rtt_send.specs.Answers.{IsCause};
 
 use crate::SendFault;
 use crate::recorders::Recorder;
-use conf_text::Script;
 use rtt_base::Bytes;
+use script_text::Script;
 use std::alloc::Global;
 use text_sender::SendConf;
 
@@ -28,7 +28,8 @@ pub fn send_script(alloc: Global, script: &Script, conf: SendConf) -> Result<Byt
     ensures cause { IfErr result (λ fault. IsCause fault (full_line conf script.now)) }
 {
     let mut recorder = Recorder::new(alloc, conf)?;
-    for line in script.as_slice() {
+    for index in 0..script.len() {
+        let line = script.line(index);
         recorder.pass_to(u64::from(line.at))?;
         if recorder.type_line(line).is_err() {
             return Err(SendFault::Full { line: line.line });

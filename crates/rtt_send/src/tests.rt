@@ -2,8 +2,8 @@
 ghost use Rattle.text_sender.specs.Confs.{IsConf};
 
 use crate::{SendFault, send_script};
-use conf_text::read_script;
 use rtt_base::{Bytes, Pts};
+use script_text::read_script;
 use std::alloc::Global;
 use std::process::Abort;
 use std::test::Fail;

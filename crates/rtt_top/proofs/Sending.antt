@@ -1,6 +1,6 @@
 -- The recording that is made of a script.
 use Rattle.std.proofs.Common.{◌≡◌, ℕ, ◌<◌, ◌^◌, List, Ok, arith}
-use Rattle.file_spec.specs.declared.script_lines.ScriptLine.{ScriptLine}
+use Rattle.file_spec.specs.Script.{ScriptLine}
 use Rattle.file_spec.specs.Script.{script}
 use Rattle.file_spec.specs.Words.{SendWords}
 use Rattle.text_sender.specs.Confs.{IsConf}

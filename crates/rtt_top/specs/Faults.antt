@@ -1,6 +1,6 @@
 -- What a fault of a command says.
 use Rattle.std.specs.Prelude.{◌≡◌, ◌⊎◌, ℕ, Option, Some, List, Result, Ok, Err}
-use Rattle.file_spec.specs.declared.script_lines.ScriptLine.{ScriptLine}
+use Rattle.file_spec.specs.Script.{ScriptLine}
 use Rattle.file_spec.specs.Lines.{Refusal}
 use Rattle.file_spec.specs.Words.{Command, Read, ListRecords, Send}
 use Rattle.rtt_top.specs.Tasks.{Refused, AtByte, AtLine, input_of, IsOutput}

@@ -4,7 +4,7 @@ use Rattle.std.specs.Prelude.{◌≡◌, ℕ, Option, Some, List, [], take, Resu
 use Rattle.std.specs.Option.{option_map}
 use Rattle.wire_spec.specs.Dump.{Fault, dump, usual_limit}
 use Rattle.file_spec.specs.declared.kinds.ConfKind.TheVariants.{Full}
-use Rattle.file_spec.specs.declared.script_lines.ScriptLine.{ScriptLine}
+use Rattle.file_spec.specs.Script.{ScriptLine}
 use Rattle.file_spec.specs.Lines.{Refusal}
 use Rattle.file_spec.specs.Script.{script}
 use Rattle.file_spec.specs.Words.{ReadWords, SendWords, Command, Read, ListRecords, Send, usual_pts}

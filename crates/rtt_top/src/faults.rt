@@ -71,6 +71,7 @@ fn conf_kind_name(kind: ConfKind) -> &'static [u8]
         ConfKind::Twice => b"Twice",
         ConfKind::Clash => b"Clash",
         ConfKind::Few => b"Few",
+        ConfKind::Crowd => b"Crowd",
         ConfKind::Large => b"Large",
         ConfKind::Order => b"Order",
         ConfKind::Escape => b"Escape",

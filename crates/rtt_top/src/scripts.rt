@@ -10,12 +10,12 @@ ghost use Rattle.rtt_top.specs.Tasks.{refusal_of, IsSent};
 
 use crate::faults::Fault;
 use crate::files::read_file;
-use conf_text::{ConfFault, Script, read_script};
 use file_spec::ConfKind;
 use rtt_base::{Bytes, Pts};
 use rtt_io::World;
 use rtt_send::{SendFault, send_script};
 use rtt_words::SendWords;
+use script_text::{ConfFault, Script, read_script};
 use std::alloc::Global;
 use text_sender::SendConf;
 

@@ -1,7 +1,7 @@
 use Rattle.rtt_send.proofs.Steps.{at_start}
 use Rattle.std.proofs.lemmas.List.Elements.{All-nil}
 use Rattle.std.proofs.Common.{◌++◌, ℕ, List, ap, ◌∙◌, ◌≤◌}
-use Rattle.file_spec.specs.declared.script_lines.ScriptLine.{ScriptLine}
+use Rattle.file_spec.specs.Script.{ScriptLine}
 use Rattle.wire_spec.specs.Dump.{dump_opening}
 use Rattle.rtt_send.proofs.recorders.Recorder.new.Goals as goal
 

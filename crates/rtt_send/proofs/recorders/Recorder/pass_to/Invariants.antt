@@ -1,6 +1,6 @@
 use Rattle.std.proofs.Common.{◌-◌, ◌≤◌, List}
 use Rattle.text_sender.specs.declared.senders.SendConf.{SendConf}
-use Rattle.file_spec.specs.declared.script_lines.ScriptLine.{ScriptLine}
+use Rattle.file_spec.specs.Script.{ScriptLine}
 use Rattle.rtt_send.specs.Insides.{IsAt}
 use Rattle.rtt_send.proofs.recorders.Recorder.pass_to.Given as goal
 

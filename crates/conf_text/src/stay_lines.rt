@@ -1,0 +1,104 @@
+//! The lines of generations and of stays.
+ghost use Rattle.std.specs.Prelude.{◌≡◌, ◌<◌, ◌==◌, bytes_eq, map, length, IfOk, IfSome};
+ghost use Rattle.std.specs.List.{list_any, position};
+ghost use Rattle.file_spec.specs.Conf.{gens, gens_of, stay, stay_of};
+ghost use Rattle.conf_text.specs.Lines.{above_of};
+
+use crate::ConfKind;
+use crate::drafts::Draft;
+use file_spec::limits::{LAST_MOMENT, MOST_GENS};
+use file_spec::{GensLine, LegLine, Stay, StayLine};
+use numerals::number_of;
+
+fn place_of(legs: &[LegLine], name: &str) -> Option<usize>
+    ensures value { result ≡ position (λ l. bytes_eq l.name name.now) legs.now }
+    ensures within { IfSome result (λ k. k < length legs.now) }
+{
+    legs.iter().position(|leg| leg.name.as_str() == name)
+}
+
+/// The leg above that has this name, counted from 0.
+pub(crate) fn leg_place(above: &Draft, name: &str) -> Option<u8>
+    ensures value { result ≡ position (λ l. bytes_eq l.name name.now) above.now.legs }
+    ensures within { IfSome result (λ k. k < length above.now.legs) }
+{
+    match place_of(above.legs.as_slice(), name) {
+        Some(place) => Some(place as u8),
+        None => None,
+    }
+}
+
+fn is_told(places: &[u8], place: u8) -> bool
+    ensures { result ≡ list_any (λ other. other == place) places.now }
+{
+    places.iter().any(|other| *other == place)
+}
+
+#[tactic(auto, unfolding(file_spec::specs::Conf::gens_of))]
+fn read_count(above: &Draft, name: &str, count: &str) -> Result<GensLine, ConfKind>
+    ensures exact { result ≡ gens_of (above_of above.now) name.now count.now }
+    ensures place { IfOk result (λ line. line.leg < length above.now.legs) }
+{
+    let Some(leg) = leg_place(above, name) else {
+        return Err(ConfKind::Name);
+    };
+    let Some(gens) = number_of(count, MOST_GENS) else {
+        return Err(ConfKind::Number);
+    };
+    if is_told(above.gens.as_slice(), leg) {
+        return Err(ConfKind::Twice);
+    }
+    Ok(GensLine {
+        leg,
+        gens: gens as u8,
+    })
+}
+
+/// The generations of a line, from the words after the first.
+pub(crate) fn read_gens(above: &Draft, words: &[&str]) -> Result<GensLine, ConfKind>
+    ensures exact { result ≡ gens (above_of above.now) (map (λ w. w.now) words.now) }
+    ensures place { IfOk result (λ line. line.leg < length above.now.legs) }
+{
+    match words {
+        [name, count] => read_count(above, name, count),
+        _ => Err(ConfKind::Count),
+    }
+}
+
+#[tactic(auto, unfolding(file_spec::specs::Conf::stay_of))]
+fn read_moments(above: &Draft, name: &str, from: &str, until: &str) -> Result<StayLine, ConfKind>
+    ensures exact { result ≡ stay_of (above_of above.now) name.now from.now until.now }
+    ensures place { IfOk result (λ line. line.leg < length above.now.legs) }
+{
+    let Some(leg) = leg_place(above, name) else {
+        return Err(ConfKind::Name);
+    };
+    let Some(from) = number_of(from, LAST_MOMENT) else {
+        return Err(ConfKind::Number);
+    };
+    let Some(until) = number_of(until, LAST_MOMENT) else {
+        return Err(ConfKind::Number);
+    };
+    if until <= from {
+        return Err(ConfKind::Number);
+    }
+    if is_told(above.stays.as_slice(), leg) {
+        return Err(ConfKind::Twice);
+    }
+    let stay = Stay {
+        from,
+        until: Some(until),
+    };
+    Ok(StayLine { leg, stay })
+}
+
+/// The stay of a line, from the words after the first.
+pub(crate) fn read_stay(above: &Draft, words: &[&str]) -> Result<StayLine, ConfKind>
+    ensures exact { result ≡ stay (above_of above.now) (map (λ w. w.now) words.now) }
+    ensures place { IfOk result (λ line. line.leg < length above.now.legs) }
+{
+    match words {
+        [name, from, until] => read_moments(above, name, from, until),
+        _ => Err(ConfKind::Count),
+    }
+}

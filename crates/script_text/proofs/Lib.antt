@@ -1,0 +1,4 @@
+pub mod EscapeLoop
+pub mod ScriptLoop
+pub mod SpanLines
+pub mod TextLine
