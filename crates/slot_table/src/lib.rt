@@ -7,3 +7,8 @@ mod rings;
 mod slots;
 
 pub use slots::Slots;
+
+#[cfg(test)]
+mod plain;
+#[cfg(test)]
+mod tests;
