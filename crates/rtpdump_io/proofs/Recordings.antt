@@ -6,11 +6,11 @@ use Rattle.std.proofs.lemmas.Bool.{le-ltb, lt-ltb, ne_eqb, ltb-false}
 use Rattle.std.proofs.Math.Seq.{drop-append_seam, drop-append-add, take-append-add}
 use Rattle.wire_spec.specs.declared.faults.DumpKind.{DumpKind}
 use Rattle.wire_spec.specs.declared.faults.DumpKind.TheVariants.{NotDump, BadLength, EndsInside, TooLong, TooLarge}
-use Rattle.wire_spec.specs.declared.faults.DumpKind.TheVariants as kind
 use Rattle.wire_spec.specs.Dump as dumps
 use Rattle.wire_spec.specs.Dump.{Item, What, Place, Fault, Step, End, Broken, Next, past_line, past_head, after_line, opening, what_of, size_of, packet_size_of, time_of, item_of, record_fault, step_or, dump_step, Recording, with_item, records_by, records_within, records, dump_from, dump}
 use Rattle.rtpdump_io.specs.Input.{Passes}
-use Rattle.rtpdump_io.specs.Reading.{broken, item_at, Gives, Breaks, is_last, coming}
+use Rattle.rtpdump_io.specs.Structures.{IsHead}
+use Rattle.rtpdump_io.specs.Reading.{broken, item_at, Gives, is_last, coming}
 use Rattle.rtpdump_io.specs.declared.readers.Stage.{Stage}
 use Rattle.rtpdump_io.specs.declared.readers.Stage.TheVariants.{Opening, Records}
 use Rattle.rtpdump_io.specs.Found.{opened_as, found_as, came_as, kind_of, kept_of}
@@ -40,6 +40,13 @@ no_head u v w number e h n short = head_of u v w number e h n ∙ rw (lt-ltb (le
 
 pub opens : (u v w x : List ℕ) (number : ℕ) → u ≡ codes "#!rtpplay1.0 " ++ v → past_line 115 v ≡ Some w → length v ≡ number + length w → Passes 16 w x → opening u ≡ Ok (record { byte = 13 + number + 16; rest = x })
 opens u v w x number e h n p = head_of u v w number e h n ∙ rw (le-ltb (length w) 16 p.enough, p.rest) refl
+
+-- the octets of the line, the head and those behind them are all
+pub opens_all : (u v w x : List ℕ) (number : ℕ) → u ≡ codes "#!rtpplay1.0 " ++ v → length v ≡ number + length w → Passes 16 w x → 13 + number + 16 + length x ≡ length u
+opens_all u v w x number e n p = rw (e, p.rest) (simp length-drop (omega (arith, n, p.enough)))
+
+pub head_begins : (u v w : List ℕ) (number : ℕ) → u ≡ codes "#!rtpplay1.0 " ++ v → past_line 115 v ≡ Some w → length v ≡ number + length w → IsHead u (13 + number)
+head_begins u v w number e h n = record { behind = w; line = rw e h; all = rw e (omega (arith, n)) }
 
 -- ---- one record
 
@@ -279,6 +286,13 @@ module _ (limit byte size packet time : ℕ) (u h v : List ℕ) (cut : u ≡ h +
       go : 8 ≤ size → byte + size ≤ limit → Passes (size - 8) v w → time ≤ 14400000 → out ≡ take (kept_of packet (size - 8)) v → dump_step limit (record { byte = byte; rest = u }) ≡ found_as (Ok (kind_of packet (size - 8) time)) out (record { byte = byte + size; rest = w })
       go = rw (size_told, packet_told, time_told) (a_record limit byte u h v cut eight w out)
 
+-- the octets of a record and those behind it are all
+pub record_all : (byte size : ℕ) (u h v w : List ℕ) → u ≡ h ++ v → length h ≡ 8 → 8 ≤ size → Passes (size - 8) v w → byte + size + length w ≡ byte + length u
+record_all byte size u h v w cut eight a p = rw (cut, p.rest) (simp (length-append, length-drop) (omega (arith, eight, p.enough)))
+
+pub nothing_all : (byte number : ℕ) (u buf v : List ℕ) → u ≡ take number buf ++ v → number ≡ 0 → byte + length v ≡ byte + length u
+nothing_all byte number u buf v given none = rw (given, none) refl
+
 -- ---- what a call answers
 
 pub came_of : {E : Type 0} (limit : ℕ) (p q : Place) (out : List ℕ) (old new : Recording) (r : Result (Result DumpItem DumpKind) E) → IfOk r (λ found. dump_step limit p ≡ found_as found out q) → old ≡ records limit p → new ≡ records limit q → IfOk r (λ found. old ≡ came_as found out q.byte new)
@@ -298,14 +312,6 @@ not_last (answer.Rtcp at) other = refl
 not_last (answer.Cut at) other = refl
 not_last (answer.Large at) other = refl
 not_last answer.End other = absurd (other refl)
-
-pub breaks : (k : DumpKind) (byte : ℕ) (old : Recording) → old ≡ broken byte k → Breaks k byte old
-breaks kind.Read byte old e = tt
-breaks kind.NotDump byte old e = e
-breaks kind.BadLength byte old e = e
-breaks kind.EndsInside byte old e = e
-breaks kind.TooLong byte old e = e
-breaks kind.TooLarge byte old e = e
 
 pub at_records : (stage : Stage) (limit other byte : ℕ) (octets : List ℕ) → stage ≡ Records → limit ≡ other → coming stage limit byte octets ≡ records other (record { byte = byte; rest = octets })
 at_records stage limit other byte octets e l = rw (e, l) refl

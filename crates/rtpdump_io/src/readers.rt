@@ -33,16 +33,18 @@ pub struct DumpReader<S> {
 }
 
 impl<S: Source> DumpReader<S> {
-    ghost use Rattle.std.specs.Prelude.{◌≡◌, ◌≢◌, ◌<◌, ◌≤◌, ◌-◌, true, false, Ok, OnOk, OnErr, IfErr, IfOk, length, take, drop};
+    ghost use Rattle.std.specs.Prelude.{◌≡◌, ◌≢◌, ◌⊎◌, ◌<◌, ◌≤◌, ◌+◌, ◌-◌, true, false, Ok, OnOk, OnErr, IfErr, IfOk, length, take, drop};
     ghost use Rattle.rtt_io.specs.Counts.{Rose};
     ghost use Rattle.wire_spec.specs.Dump.{dump, dump_step, opening, usual_limit};
-    ghost use Rattle.rtpdump_io.specs.Reading.{Gives, is_last, to_come, most_answers, is_ended, source_of, place_of};
+    ghost use Rattle.rtpdump_io.specs.Reading.{Gives, is_last, nothing, to_come, most_answers, is_ended, source_of, place_of};
+    ghost use Rattle.rtpdump_io.specs.Structures.{Starts, IsHead, all_octets};
     ghost use Rattle.rtpdump_io.specs.Found.{opened_as, found_as, came_as, ready_as, kept_of};
     ghost use Rattle.rtpdump_io.specs.Input.{unread, Passes};
 
     /// A reader of a recording of at most 4194304 octets, from its first octet on. It takes no memory.
     pub fn new(source: S) -> DumpReader<S>
         ensures to_come { to_come S.left result ≡ dump usual_limit (S.left source) }
+        ensures all { all_octets S.left result ≡ length (S.left source) }
         ensures not_ended { is_ended result ≡ false }
         ensures source { source_of result ≡ source }
     {
@@ -53,6 +55,7 @@ impl<S: Source> DumpReader<S> {
     pub fn with_limit(source: S, limit: u32) -> DumpReader<S>
         requires { limit ≤ 4194304 }
         ensures to_come { to_come S.left result ≡ dump limit (S.left source) }
+        ensures all { all_octets S.left result ≡ length (S.left source) }
         ensures not_ended { is_ended result ≡ false }
         ensures source { source_of result ≡ source }
     {
@@ -85,12 +88,15 @@ impl<S: Source> DumpReader<S> {
     }
 
     /// Reads what stands next. The octets of a packet are then in `out`; after another answer what is in `out` is
-    /// of no use. A fault `Read` is one of the source.
+    /// of no use. A fault `Read` is one of the source, and its byte that of the structure that was being read.
     pub fn next(&mut self, out: &mut Packet) -> Result<DumpItem, DumpFault>
         requires { is_ended self.old ≡ false }
         ensures gives { S.tells → Gives result out.new (to_come S.left self.old) (to_come S.left self.new) }
         ensures read { IfErr result (λ fault. fault.kind ≡ DumpKind.Read → Rose (S.faults (source_of self.old)) (S.faults (source_of self.new))) }
+        ensures read_at { S.tells → IfErr result (λ fault. fault.kind ≡ DumpKind.Read → Starts S.left self.old fault.offset) }
+        ensures all { S.tells → OnOk result (all_octets S.left self.new ≡ all_octets S.left self.old) }
         ensures ended { is_ended self.new ≡ is_last result }
+        ensures over { is_last result ≡ true → to_come S.left self.new ≡ nothing }
         ensures nearer { most_answers self.new < most_answers self.old }
         ensures never_falls { S.faults (source_of self.old) ≤ S.faults (source_of self.new) }
         ensures same_name { S.name (source_of self.new) ≡ S.name (source_of self.old) }
@@ -124,6 +130,9 @@ impl<S: Source> DumpReader<S> {
         requires { is_ended self.old ≡ false }
         ensures came { S.tells → IfOk result (λ found. to_come S.left self.old ≡ came_as found out.new self.new.offset (to_come S.left self.new)) }
         ensures not_read { IfOk result (λ found. IfErr found (λ kind. kind ≢ DumpKind.Read)) }
+        ensures read_at { S.tells → OnErr result (Starts S.left self.old self.new.offset) }
+        ensures all { S.tells → IfOk result (λ found. OnOk found (self.new.offset + length (unread S.left self.new.input) ≡ all_octets S.left self.old)) }
+        ensures ready { IfOk result (λ found. OnOk found (self.new.stage ≡ Stage.Records)) }
         ensures not_ended { is_ended self.new ≡ false }
         ensures nearer { IfOk result (λ found. IfOk found (λ item. item ≢ DumpItem.End → most_answers self.new < most_answers self.old)) }
         ensures failed { OnErr result (Rose (S.faults (source_of self.old)) (S.faults (source_of self.new))) }
@@ -141,6 +150,9 @@ impl<S: Source> DumpReader<S> {
         requires { is_ended self.old ≡ false }
         ensures came { S.tells → IfOk result (λ found. to_come S.left self.old ≡ ready_as found self.new.offset (to_come S.left self.new)) }
         ensures ready { IfOk result (λ found. OnOk found (self.new.stage ≡ Stage.Records)) }
+        ensures read_at { S.tells → OnErr result (Starts S.left self.old self.new.offset) }
+        ensures starts { S.tells → IfOk result (λ found. OnOk found (Starts S.left self.old self.new.offset)) }
+        ensures all { S.tells → IfOk result (λ found. OnOk found (self.new.offset + length (unread S.left self.new.input) ≡ all_octets S.left self.old)) }
         ensures not_farther { IfOk result (λ found. OnOk found (most_answers self.new ≤ most_answers self.old)) }
         ensures not_read { IfOk result (λ found. IfErr found (λ kind. kind ≢ DumpKind.Read)) }
         ensures not_ended { is_ended self.new ≡ false }
@@ -163,6 +175,8 @@ impl<S: Source> DumpReader<S> {
 
     // Reads the line and the head.
     fn open(&mut self) -> Result<Result<(), DumpKind>, Failed>
+        ensures read_at { S.tells → OnErr result (self.new.offset ≡ 0 ⊎ IsHead (unread S.left self.old.input) self.new.offset) }
+        ensures all { S.tells → IfOk result (λ found. OnOk found (self.new.offset + length (unread S.left self.new.input) ≡ length (unread S.left self.old.input))) }
         ensures opened { S.tells → IfOk result (λ found. opening (unread S.left self.old.input) ≡ opened_as found (place_of S.left self.new)) }
         ensures not_read { IfOk result (λ found. IfErr found (λ kind. kind ≢ DumpKind.Read)) }
         ensures same_limit { self.new.limit ≡ self.old.limit }
@@ -188,6 +202,8 @@ impl<S: Source> DumpReader<S> {
 
     // Reads a record, or finds the end.
     fn record(&mut self, out: &mut Packet) -> Result<Result<DumpItem, DumpKind>, Failed>
+        ensures same_offset { OnErr result (self.new.offset ≡ self.old.offset) }
+        ensures all { S.tells → IfOk result (λ found. OnOk found (self.new.offset + length (unread S.left self.new.input) ≡ self.old.offset + length (unread S.left self.old.input))) }
         ensures farther { IfOk result (λ found. IfOk found (λ item. item ≢ DumpItem.End → self.old.offset < self.new.offset)) }
         ensures found { S.tells → IfOk result (λ found. dump_step self.old.limit (place_of S.left self.old) ≡ found_as found out.new (place_of S.left self.new)) }
         ensures not_read { IfOk result (λ found. IfErr found (λ kind. kind ≢ DumpKind.Read)) }
