@@ -1,13 +1,17 @@
 -- An ear that is told, and one that gives.
-use Rattle.std.proofs.Common.{◌≡◌, ℕ, ◌+◌, ◌<◌, true, Some, None, List, [], ◌∷◌, ◌++◌, refl, ap, sym, ◌∙◌, arith, length, map, length-append, append-nil, append_assoc, subst, Result, Ok, Err, Box, Global}
+use Rattle.std.proofs.Common.{◌≡◌, ℕ, ◌+◌, ◌<◌, Bool, true, false, IsUtf8, Some, None, List, [], ◌∷◌, ◌++◌, refl, ap, sym, ◌∙◌, arith, length, map, length-append, append-nil, append_assoc, subst, Result, Ok, Err, Box, Global, inl, inr}
 use Rattle.std.specs.Prelude.{not}
 use Rattle.std.specs.List.{concat}
-use Rattle.std.proofs.lemmas.Bool.{and_parts}
+use Rattle.std.proofs.lemmas.Bool.{and_parts, cases_lt, true≢false}
+use Rattle.std.proofs.lemmas.Grind.{not_there}
+use Rattle.std.proofs.lemmas.Str.{IsUtf8-had}
+use Rattle.std.proofs.Math.Logic.{∥∥₁_map}
+use Rattle.std.specs.Option.{ForSome}
 use Rattle.std.proofs.lemmas.List.{map-append, append_cancel_left}
 use Rattle.std.proofs.lemmas.List.Folds.{concat-append}
 use Rattle.rtt_base.specs.declared.text_packets.TextPacket.{TextPacket}
 use Rattle.wire_spec.specs.declared.faults.TextFault.{TextFault}
-use Rattle.wire_spec.specs.Packets.{Packet}
+use Rattle.wire_spec.specs.Packets.{Packet, has_text}
 use Rattle.wire_spec.specs.Text.{text_of}
 use Rattle.stream_spec.specs.Lists.{In}
 use Rattle.stream_spec.specs.Numbering.{Numbered}
@@ -27,10 +31,10 @@ use Rattle.source_receiver.proofs.Blockwise.{heard_left}
 use Rattle.ear.specs.declared.confs.EarConf.{EarConf}
 use Rattle.ear.specs.declared.ears.Ear.{Ear}
 use Rattle.ear.specs.Texts.{AreHeardTexts}
-use Rattle.ear.specs.Hears.{told, arrivals_of, is_finished, is_quiet, texts_left, ready_packet, ready_packets, last_after, Hears, Gave, GaveSome, Becomes, Gathered, ready_chunks, story_chunks}
+use Rattle.ear.specs.Hears.{told, arrivals_of, is_finished, is_quiet, texts_left, ready_packet, ready_packets, last_after, Hears, Gave, IsGiving, GaveSome, Becomes, Gathered, ready_chunks, story_chunks}
 use Rattle.ear.proofs.Utf8.{added_utf8}
 use Rattle.ear.proofs.Accepted.{accepted_text}
-use Rattle.ear.proofs.Given.{fronts, above_given, given_fits, given_text, last_snoc}
+use Rattle.ear.proofs.Given.{fronts, above_given, given_fits, given_text, last_snoc, next_rises}
 use Rattle.ear.proofs.ReadyBy.{chunks_due, chunks_ready, chunks_front}
 
 -- ---- what comes
@@ -217,32 +221,57 @@ gave_front e conf source story given g =
     let c = chunks_front conf source story story.given f.rest g.hears.wait f.is in
     (left ++ c.0, c.1 ∙ (ap (λ cs. cs ++ c.0) (sym g.chunks) ∙ append_assoc given left c.0))
 
+-- what is given is a text
+stable : (b : Bool) → ¬ (¬ (b ≡ true)) → b ≡ true
+stable true n = refl
+stable false n = absurd (n (λ e. true≢false (sym e)))
+
+pub given_texts : (old e : Ear) (t : List ℕ) (rest : List (List ℕ)) → Going old e → ∥ IsGiving old ∥₁ → texts_left e ≡ t ∷ rest → (has_text t ≡ true) × IsUtf8 t
+given_texts old e t rest going is left = (stable (has_text t) (λ n. not_there is (λ i. n (texts i).0)), IsUtf8-had t (∥∥₁_map is (λ i. (texts i).1)))
+  where
+    texts : IsGiving old → (has_text t ≡ true) × IsUtf8 t
+    texts i =
+        let now = going.gave i.0 i.1 i.2 i.3 i.4 in
+        let all : AreHeardTexts (t ∷ rest) = subst AreHeardTexts left now.1.texts in
+        (all.0, all.1)
+
+-- the next number is above the last one
+pub rises_next : (old e : Ear) (s : State) (due : Due) (p : TextPacket) → Going old e → ∥ IsGiving old ∥₁ → ((story : Story) → Tracks e.tracker story → Tracks s (gave story (given_of due p)))
+    → ForSome (latest_number e.receiver) (λ latest. latest < due.number)
+rises_next old e s due p going is t latest l = elim (cases_lt latest due.number) [ inl lt ↦ lt | inr ge ↦ absurd (not_there is (λ i. let m = rises i in omega (arith, m, ge))) ]
+  where
+    rises : IsGiving old → latest < due.number
+    rises i =
+        let now = going.gave i.0 i.1 i.2 i.3 i.4 in
+        let before : Story = record i.2 { given = now.0 } in
+        next_rises s before (given_of due p) (t before now.1.hears.tracks) latest (sym now.1.hears.latest ∙ l)
+
 -- ---- all at once
-pub record Gathering (old e : Ear) (n : ℕ) (out more : List ℕ) : Type 0 where
+pub record Gathering (old e : Ear) (before used : ℕ) (out more : List ℕ) : Type 0 where
   pub hears : (conf : EarConf) (source : ℕ) (story : Story) → Hears old conf (source ∷ []) story
-      → (given : List Given) × Hears e conf (source ∷ []) (record story { given = given }) × (length given ≡ length story.given + n) × AppendsHeard out more (heard_by (ready_packets story.given) source) (heard_by (ready_packets given) source)
+      → (given : List Given) × Hears e conf (source ∷ []) (record story { given = given }) × (used + length story.given ≡ before + length given) × AppendsHeard out more (heard_by (ready_packets story.given) source) (heard_by (ready_packets given) source)
   pub conf : e.conf ≡ old.conf
   pub piece : e.piece ≡ old.piece
   pub arrivals : arrivals_of e ≡ arrivals_of old
   pub finished : is_finished e ≡ is_finished old
 
-pub gathers_none : (e : Ear) (out : List ℕ) → Gathering e e 0 out out
-gathers_none e out = record {
-  hears = λ conf source story h. (story.given, h, omega arith, record { more = []; appended = sym (append-nil out); heard = sym (append-nil _) });
+pub gathers_none : (e : Ear) (used : ℕ) (out : List ℕ) → Gathering e e used used out out
+gathers_none e used out = record {
+  hears = λ conf source story h. (story.given, h, refl, record { more = []; appended = sym (append-nil out); heard = sym (append-nil _) });
   conf = refl;
   piece = refl;
   arrivals = refl;
   finished = refl;
 }
 
-pub gathers_one : (old e m : Ear) (due : Due) (n : ℕ) (out some more : List ℕ) → Gathering old e n out some → m.conf ≡ e.conf
+pub gathers_one : (old e m : Ear) (due : Due) (first n : ℕ) (out some more : List ℕ) → Gathering old e first n out some → m.conf ≡ e.conf
     → ((story : Story) → Tracks e.tracker story → Tracks m.tracker (gave story (given_of due m.packet.value)))
     → ((sources : List ℕ) (us : List Numbered) (time : ℕ) → Stands e.receiver sources us → Stands m.receiver sources (us ++ used_packet time due.number m.packet.value ∷ []))
     → latest_number m.receiver ≡ Some due.number
     → ((source : ℕ) (us : List Numbered) (time : ℕ) → Stands e.receiver (source ∷ []) us → AppendsHeard some more (heard_by us source) (heard_by (us ++ used_packet time due.number m.packet.value ∷ []) source))
     → (conf : EarConf) (source : ℕ) (story : Story) → Hears old conf (source ∷ []) story
-    → (given : List Given) × Hears m conf (source ∷ []) (record story { given = given }) × (length given ≡ length story.given + (n + 1)) × AppendsHeard out more (heard_by (ready_packets story.given) source) (heard_by (ready_packets given) source)
-gathers_one old e m due n out some more g k t s latest heard conf source story h =
+    → (given : List Given) × Hears m conf (source ∷ []) (record story { given = given }) × (n + 1 + length story.given ≡ first + length given) × AppendsHeard out more (heard_by (ready_packets story.given) source) (heard_by (ready_packets given) source)
+gathers_one old e m due first n out some more g k t s latest heard conf source story h =
     let now = g.hears conf source story h in
     let before : Story = record story { given = now.0 } in
     let one : Given = given_of due m.packet.value in
@@ -259,27 +288,23 @@ gathers_one old e m due n out some more g k t s latest heard conf source story h
       },
     )
 
--- nothing more is ready
-pub gathered : (old e : Ear) (n : ℕ) (out more : List ℕ) → Gathering old e n out more → ((story : Story) → Tracks e.tracker story → story.given ≡ ready_dues story)
-    → (conf : EarConf) (source : ℕ) (story : Story) → Hears old conf (source ∷ []) story → Gathered e conf source story n out more
-gathered old e n out more g all conf source story h =
-    let now = g.hears conf source story h in
-    let whole : now.0 ≡ ready_dues story = all (record story { given = now.0 }) now.1.tracks in
-    let few = given_fits e.tracker (record story { given = now.0 }) now.1.tracks in
-    let same : length now.0 ≡ length (ready_dues story) = ap (λ (gs : List Given). length gs) whole in
-    record {
-      hears = subst (λ (gs : List Given). Hears e conf (source ∷ []) (record story { given = gs })) whole now.1;
-      appends = subst (λ (gs : List Given). AppendsHeard out more (heard_by (ready_packets story.given) source) (heard_by (ready_packets gs) source)) whole now.3;
-      used = sym same ∙ now.2;
-      few = omega (arith, same, few);
-    }
+-- nothing more is ready, and another packet may stand in the place of the one given last
+module _ (old e : Ear) (before used : ℕ) (out more : List ℕ) (g : Gathering old e before used out more) (all : (story : Story) → Tracks e.tracker story → story.given ≡ ready_dues story) where
+  pub gathered : (m : Ear) → m.conf ≡ e.conf → m.tracker ≡ e.tracker → m.receiver ≡ e.receiver → (conf : EarConf) (source : ℕ) (story : Story) → Hears old conf (source ∷ []) story → Gathered m conf source story out more
+  gathered m k t r conf source story h =
+      let now = g.hears conf source story h in
+      let whole : now.0 ≡ ready_dues story = all (record story { given = now.0 }) now.1.tracks in
+      let few = given_fits e.tracker (record story { given = now.0 }) now.1.tracks in
+      let same : length now.0 ≡ length (ready_dues story) = ap (λ (gs : List Given). length gs) whole in
+      let moved : Hears m conf (source ∷ []) (record story { given = now.0 }) =
+      record { asked = k ∙ now.1.asked; wait = now.1.wait; tracks = rw t now.1.tracks; stands = rw r now.1.stands; latest = rw r now.1.latest; texts = now.1.texts } in
+      record {
+        hears = subst (λ (gs : List Given). Hears m conf (source ∷ []) (record story { given = gs })) whole moved;
+        appends = subst (λ (gs : List Given). AppendsHeard out more (heard_by (ready_packets story.given) source) (heard_by (ready_packets gs) source)) whole now.3;
+        few = omega (arith, same, few, ap (λ (s : State). s.arrivals) t);
+      }
 
--- another packet may stand in the place of the one given last
-pub gathered_moved : (e m : Ear) (conf : EarConf) (source : ℕ) (story : Story) (n : ℕ) (out more : List ℕ) → m.conf ≡ e.conf → m.tracker ≡ e.tracker → m.receiver ≡ e.receiver
-    → Gathered e conf source story n out more → Gathered m conf source story n out more
-gathered_moved e m conf source story n out more k t r g = record {
-  hears = record { asked = k ∙ g.hears.asked; wait = g.hears.wait; tracks = rw t g.hears.tracks; stands = rw r g.hears.stands; latest = rw r g.hears.latest; texts = g.hears.texts };
-  appends = g.appends;
-  used = g.used;
-  few = omega (arith, g.few, ap (λ (s : State). s.arrivals) t);
-}
+  pub counts_used : (conf : EarConf) (source : ℕ) (story : Story) → Hears old conf (source ∷ []) story → used + length story.given ≡ before + length (ready_dues story)
+  counts_used conf source story h =
+      let now = g.hears conf source story h in
+      now.2 ∙ ap (λ (gs : List Given). before + length gs) (all (record story { given = now.0 }) now.1.tracks)

@@ -142,12 +142,15 @@ pub record IsReadyAtEnd (conf : EarConf) (story : Story) : Type 0 where
 abbrev pub AllReady : Ear → Type 0
 AllReady e = (conf : EarConf) (sources : List ℕ) (story : Story) → Hears e conf sources story → IsReadyAtEnd conf story
 
--- All that is ready was given, n packets of it now, and the octets of what is heard of them were appended.
-pub record Gathered (e : Ear) (conf : EarConf) (source : ℕ) (story : Story) (n : ℕ) (old new : List ℕ) : Type 0 where
+-- All that is ready was given, and the octets of what is heard of it now were appended.
+pub record Gathered (e : Ear) (conf : EarConf) (source : ℕ) (story : Story) (old new : List ℕ) : Type 0 where
   pub hears : Hears e conf (source ∷ []) (all_given story)
   pub appends : AppendsHeard old new (heard_by (ready_packets story.given) source) (heard_by (ready_packets (ready_dues story)) source)
-  pub used : length (ready_dues story) ≡ length story.given + n
   pub few : length (ready_dues story) ≤ arrivals_of e
 
-abbrev pub Gathers : Ear → Ear → ℕ → List ℕ → List ℕ → Type 0
-Gathers old new n out more = (conf : EarConf) (source : ℕ) (story : Story) → Hears old conf (source ∷ []) story → Gathered new conf source story n out more
+abbrev pub Gathers : Ear → Ear → List ℕ → List ℕ → Type 0
+Gathers old new out more = (conf : EarConf) (source : ℕ) (story : Story) → Hears old conf (source ∷ []) story → Gathered new conf source story out more
+
+-- the packets that are ready and were not given are counted
+abbrev pub CountsUsed : Ear → ℕ → ℕ → Type 0
+CountsUsed e old new = (conf : EarConf) (source : ℕ) (story : Story) → Hears e conf (source ∷ []) story → new + length story.given ≡ old + length (ready_dues story)

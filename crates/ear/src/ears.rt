@@ -5,7 +5,7 @@ ghost use Rattle.wire_spec.specs.Text.{text_of};
 ghost use Rattle.stream_spec.specs.Ready.{chunk_of};
 ghost use Rattle.gap_tracker.specs.Stories.{Story, begun, went, ended};
 ghost use Rattle.ear.specs.declared.confs.EarConf.{EarConf};
-ghost use Rattle.ear.specs.Hears.{conf_of, arrivals_of, is_finished, is_clear, is_quiet, told, Hears, IsHearing, Gave, IsGiving, Becomes, GivesChunk, GivesNone, GaveReady, GaveFront, AllReady, Gathers};
+ghost use Rattle.ear.specs.Hears.{conf_of, arrivals_of, is_finished, is_clear, is_quiet, told, Hears, IsHearing, Gave, IsGiving, Becomes, GivesChunk, GivesNone, GaveReady, GaveFront, AllReady, Gathers, CountsUsed};
 
 use crate::EarConf;
 use gap_tracker::Tracker;
@@ -112,7 +112,7 @@ impl Ear {
     /// Puts the next text that is heard of the source in place of what is in `chunk`, and tells whether there was one.
     /// A marker is a text of its own. It is for an ear of one source.
     pub fn next(&mut self, chunk: &mut Chunk) -> bool
-        requires gave { IsGiving self.old }
+        requires gave { ∥ IsGiving self.old ∥₁ }
         ensures some { result ≡ Bool.true → GivesChunk self.old self.new (chunk_of chunk.new) }
         ensures none { result ≡ Bool.false → GivesNone self.old self.new }
         ensures all { result ≡ Bool.false → GaveReady self.old }
@@ -139,24 +139,25 @@ impl Ear {
         }
     }
 
-    /// Appends all that is heard of the source by now, and tells how many packets were used for it. It is for an ear of
-    /// one source.
-    pub fn gather(&mut self, out: &mut Bytes) -> Result<u64, NoMemory>
+    /// Appends all that is heard of the source by now, and adds to `used` how many packets were used for it. It is for
+    /// an ear of one source. After `NoMemory` a part may stand in `out`.
+    pub fn gather(&mut self, out: &mut Bytes, used: &mut u64) -> Result<(), NoMemory>
         requires hears { IsHearing self.old }
         requires clear { is_clear self.old ≡ Bool.true }
         requires few { arrivals_of self.old ≤ 2 ^ 40 }
-        ensures gathers { IfOk result (λ used. Gathers self.old self.new used out.old out.new) }
+        requires fits { used.old ≤ 2 ^ 40 }
+        ensures gathers { OnOk result (Gathers self.old self.new out.old out.new) }
+        ensures used { OnOk result (CountsUsed self.old used.old used.new) }
         ensures quiet { OnOk result (is_quiet self.new ≡ Bool.true) }
         ensures conf { OnOk result (conf_of self.new ≡ conf_of self.old) }
         ensures arrivals { OnOk result (arrivals_of self.new ≡ arrivals_of self.old) }
         ensures finished { OnOk result (is_finished self.new ≡ is_finished self.old) }
     {
-        let mut used = 0;
         while let Some(due) = self.tracker.next(&mut self.packet) {
             self.receiver.take_into(due.number, &self.packet, out)?;
-            used += 1;
+            *used += 1;
         }
-        Ok(used)
+        Ok(())
     }
 
     /// How many packets came.

@@ -14,7 +14,7 @@ use Rattle.stream_spec.specs.Hearing.{heard, heard_by}
 use Rattle.gap_tracker.specs.Stories.{Story, Given, ended, dues, due_at}
 use Rattle.ear.specs.declared.confs.EarConf.{EarConf}
 use Rattle.ear.specs.declared.ears.Ear.{Ear}
-use Rattle.ear.specs.Hears.{told, all_given, arrivals_of, is_quiet, is_finished, ready_packets, Becomes, Gathers, AllReady}
+use Rattle.ear.specs.Hears.{told, all_given, arrivals_of, is_quiet, is_finished, ready_packets, Becomes, Gathers, CountsUsed, AllReady}
 use Rattle.ear.proofs.Giving.{told_given}
 use Rattle.ear.proofs.ReadyBy.{heard_dues, told_arrived}
 use Rattle.text_spec.specs.declared.counts.Counts.{Counts}
@@ -28,21 +28,24 @@ pub on_ok : {X E P Q : Type 0} (r : Result X E) → OnOk r P → (P → Q) → O
 on_ok (Ok x) p f = f p
 on_ok (Err e) p f = tt
 
+pub on_ok2 : {X E P Q R : Type 0} (r : Result X E) → OnOk r P → OnOk r Q → (P → Q → R) → OnOk r R
+on_ok2 (Ok x) p q f = f p q
+on_ok2 (Err e) p q f = tt
+
 pub on_ok5 : {X E P Q R S T U : Type 0} (r : Result X E) → OnOk r P → OnOk r Q → OnOk r R → OnOk r S → OnOk r T → (P → Q → R → S → T → U) → OnOk r U
 on_ok5 (Ok x) p q r s t f = f p q r s t
 on_ok5 (Err e) p q r s t f = tt
 
 -- all that is settled is heard
-pub gathers : (l : Listener) (e : Ear) (n : ℕ) (text : List ℕ) → Gathers l.ear e n l.text text
-    → (r : ReadConf) (story : Story) → HearsText l r story → HearsText (record { ear = e; text = text; counts = record l.counts { used = l.counts.used + n } }) r (all_given story)
-gathers l e n text g r story h =
+pub gathers : (l m : Listener) → Gathers l.ear m.ear l.text m.text → CountsUsed l.ear l.counts.used m.counts.used → (r : ReadConf) (story : Story) → HearsText l r story → HearsText m r (all_given story)
+gathers l m g n r story h =
     let d = g (ear_conf r) r.source story h.hears in
     let a = d.appends in
     record {
       hears = d.hears;
       text = a.appended ∙ (ap (λ (t : List ℕ). t ++ concat a.more) h.text
           ∙ (sym (concat-append (heard_by (ready_packets story.given) r.source) a.more) ∙ ap concat (sym a.heard)));
-      used = omega (arith, d.used, h.used);
+      used = omega (arith, n (ear_conf r) r.source story h.hears, h.used);
     }
 
 -- the ear was told

@@ -63,9 +63,7 @@ impl Listener {
         ensures arrivals { OnOk result (arrivals_of self.new.ear ≡ arrivals_of self.old.ear) }
         ensures finished { OnOk result (is_finished self.new.ear ≡ is_finished self.old.ear) }
     {
-        let used = self.ear.gather(&mut self.text)?;
-        self.counts.used += used;
-        Ok(())
+        self.ear.gather(&mut self.text, &mut self.counts.used)
     }
 
     /// Counts a packet that was refused.

@@ -4,7 +4,7 @@ use Rattle.ear.proofs.Giving.{Gathering}
 use Rattle.ear.proofs.ears.Ear.gather.Given as goal
 
 abbrev pub invariant-loop-due : goal.invariant-loop-due
-invariant-loop-due l = Gathering l.initial.self l.self l.used l.initial.out l.out
+invariant-loop-due l = Gathering l.initial.self l.self l.initial.used l.used l.initial.out l.out
 
 -- each turn takes a packet out of the tracker
 abbrev pub decreases-loop-due : goal.decreases-loop-due

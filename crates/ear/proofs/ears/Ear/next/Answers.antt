@@ -1,12 +1,10 @@
-use Rattle.std.proofs.Common.{◌≡◌, ◌∷◌, [], ◌++◌, refl, sym, ◌∙◌, subst}
+use Rattle.std.proofs.Common.{◌≡◌, ◌∷◌, [], ◌++◌, refl, ◌∙◌, subst}
 use Rattle.rtt_base.specs.declared.text_packets.TextPacket.{TextPacket}
 use Rattle.stream_spec.specs.Hearing.{heard_by}
-use Rattle.gap_tracker.specs.Stories.{Story, given_of}
 use Rattle.source_receiver.specs.Stands.{Stands, used_packet}
 use Rattle.source_receiver.specs.Pieces.{left_of}
 use Rattle.source_receiver.proofs.Blockwise.{heard_left}
-use Rattle.ear.proofs.Given.{next_rises}
-use Rattle.ear.proofs.Giving.{peels, opens, rests, gave_ready, gave_front}
+use Rattle.ear.proofs.Giving.{peels, opens, rests, gave_ready, gave_front, given_texts, rises_next}
 use Rattle.ear.proofs.ears.Ear.next.Goals as goal
 
 pub returns-then-next-clause-some : goal.returns-then-next-clause-some
@@ -33,11 +31,15 @@ pub returns-in_default-clause-front : goal.returns-in_default-clause-front
 returns-in_default-clause-front c = gave_front _
 
 pub take_piece-self-requires : goal.take_piece-self-requires
-take_piece-self-requires c = λ latest e.
-    let r = c.requires.gave in
-    let now = c.loop-chunk.invariant.gave r.0 r.1 r.2 r.3 r.4 in
-    let before : Story = record r.2 { given = now.0 } in
-    next_rises c.next-in-loop-chunk.new.self before (given_of c.in-Some.due c.next-in-loop-chunk.new.packet.value) (c.in-Some.ensures.some before now.1.hears.tracks) latest (sym now.1.hears.latest ∙ e)
+take_piece-self-requires c = rises_next c.args.self.now c.loop-chunk.self c.next-in-loop-chunk.new.self c.in-Some.due c.next-in-loop-chunk.new.packet.value c.loop-chunk.invariant c.requires.gave c.in-Some.ensures.some
+
+pub returns-then-next-clause-text : goal.returns-then-next-clause-text
+returns-then-next-clause-text c = λ ok. (given_texts c.args.self.now c.loop-chunk.self c.next.new.out (left_of c.next.new.self c.loop-chunk.self.packet.value) c.loop-chunk.invariant c.requires.gave
+    (subst (λ (p : TextPacket). left_of c.loop-chunk.self.piece p ≡ c.next.new.out ∷ left_of c.next.new.self p) c.deref.ensures (c.next.ensures.some c.if-next.true))).0
+
+pub returns-then-next-clause-utf8 : goal.returns-then-next-clause-utf8
+returns-then-next-clause-utf8 c = λ ok. (given_texts c.args.self.now c.loop-chunk.self c.next.new.out (left_of c.next.new.self c.loop-chunk.self.packet.value) c.loop-chunk.invariant c.requires.gave
+    (subst (λ (p : TextPacket). left_of c.loop-chunk.self.piece p ≡ c.next.new.out ∷ left_of c.next.new.self p) c.deref.ensures (c.next.ensures.some c.if-next.true))).1
 
 pub loop-chunk-preserved : goal.loop-chunk-preserved
 loop-chunk-preserved c = record {

@@ -1,13 +1,13 @@
 use Rattle.std.proofs.Common.{arith}
-use Rattle.rtt_read.specs.Hears.{ear_conf}
-use Rattle.rtt_read.proofs.Listening.{gathers}
+use Rattle.ear.proofs.Given.{given_fits}
+use Rattle.rtt_read.proofs.Listening.{on_ok2, gathers}
 use Rattle.rtt_read.proofs.listeners.Listener.gather.Goals as goal
 
-pub overflow_add-self : goal.overflow_add-self
-overflow_add-self c =
+pub gather-requires-clause-fits : goal.gather-requires-clause-fits
+gather-requires-clause-fits c =
     let r = c.requires.stands in
-    let g = c.in_ok-used.ensures.gathers (ear_conf r.0) r.0.source r.1 r.2.hears in
-    omega (arith, g.used, g.few, r.2.used, c.in_ok-used.ensures.arrivals, c.requires.few)
+    let few = given_fits c.args.self.now.ear.tracker r.1 r.2.hears.tracks in
+    omega (arith, few, r.2.used, c.requires.few)
 
 pub returns-clause-gathers : goal.returns-clause-gathers
-returns-clause-gathers c = gathers c.args.self.now c.gather.new.self c.in_ok-used.used c.gather.new.out c.in_ok-used.ensures.gathers
+returns-clause-gathers c = on_ok2 c.gather.result c.gather.ensures.gathers c.gather.ensures.used (λ g n. gathers c.args.self.now _ g n)
