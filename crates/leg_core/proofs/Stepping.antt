@@ -1,0 +1,135 @@
+-- A leg that reads a record, and one that gives what is heard.
+use Rattle.std.proofs.Common.{◌≡◌, ℕ, ◌+◌, ◌≤◌, ◌<◌, true, false, Some, None, Ok, Err, List, [], ◌∷◌, ◌++◌, refl, ap, sym, ◌∙◌, arith, subst}
+use Rattle.std.proofs.lemmas.Bool.{true≢false}
+use Rattle.wire_spec.specs.declared.faults.DumpKind.{DumpKind}
+use Rattle.wire_spec.specs.declared.faults.DumpKind.TheVariants as kinds
+use Rattle.wire_spec.specs.Packets.{Arrival}
+use Rattle.wire_spec.specs.Dump.{Recording, with_item, arrivals_with, arrivals_after}
+use Rattle.wire_spec.specs.Text.{text_of}
+use Rattle.stream_spec.specs.Ready.{Chunk, chunks}
+use Rattle.gap_tracker.specs.Stories.{Story, Given, ended}
+use Rattle.rtpdump_io.specs.declared.items.DumpFault.{DumpFault}
+use Rattle.rtpdump_io.specs.declared.items.DumpItem.{DumpItem}
+use Rattle.rtpdump_io.specs.declared.items.DumpItem.TheVariants.{Packet, Rtcp, Cut, Large, End}
+use Rattle.rtpdump_io.specs.declared.readers.DumpReader.{DumpReader}
+use Rattle.rtpdump_io.specs.Reading.{Gives, nothing, to_come, is_ended, most_answers}
+use Rattle.rtpdump_io.specs.Reading as reading
+use Rattle.rtpdump_io.specs.Answers.{record_of, is_end}
+use Rattle.rtpdump_io.proofs.Records.{gives_item, not_last}
+use Rattle.ear.specs.declared.confs.EarConf.{EarConf}
+use Rattle.ear.specs.declared.ears.Ear.{Ear}
+use Rattle.ear.specs.Hears.{IsGiving, Becomes, GivesChunk, GivesNone, GaveReady, AllReady, IsToldOf, IsReadyAtEnd, arrivals_of, is_finished}
+use Rattle.ear.proofs.ReadyBy.{told_arrived}
+use Rattle.leg_core.specs.declared.legs.Leg.{Leg}
+use Rattle.leg_core.specs.Sound.{FewCame, EndsWith}
+use Rattle.leg_core.specs.Items.{after_item}
+use Rattle.leg_core.specs.Gives.{LegPast, gave_chunk, recording_of, chunks_of, is_read, IsFaultOf, IsRead, IsWhole, Phase, Within, Behind, Stands}
+
+-- ---- a fault that is none of the source is the recording's
+gives_kind : (offset : ℕ) (k : DumpKind) (out : List ℕ) (old new : Recording) → Gives (Err (record { offset = offset; kind = k })) out old new → is_read k ≡ false → old.fault ≡ Some (record { byte = offset; kind = k })
+gives_kind offset kinds.NotDump out old new g e = ap (λ (q : Recording). q.fault) g
+gives_kind offset kinds.BadLength out old new g e = ap (λ (q : Recording). q.fault) g
+gives_kind offset kinds.EndsInside out old new g e = ap (λ (q : Recording). q.fault) g
+gives_kind offset kinds.TooLong out old new g e = ap (λ (q : Recording). q.fault) g
+gives_kind offset kinds.TooLarge out old new g e = ap (λ (q : Recording). q.fault) g
+gives_kind offset kinds.Read out old new g e = absurd (true≢false e)
+
+-- ---- what is always so
+pub still_giving : (old new : Ear) (c : Chunk) → GivesChunk old new c → IsGiving old → IsGiving new
+still_giving old new c g i = let m = g i.0 i.1 i.2 i.3 i.4 in (i.0, i.1, record i.2 { given = m.0 }, i.3 ++ c ∷ [], m.1)
+
+pub rests_giving : (old new : Ear) → GivesNone old new → IsGiving old → IsGiving new
+rests_giving old new g i = let m = g i.0 i.1 i.2 i.3 i.4 in (i.0, i.1, record i.2 { given = m.0 }, i.3, m.1)
+
+pub becomes_giving : (old new : Ear) (f : EarConf → Story → Story) → Becomes old new f → IsGiving old → IsGiving new
+becomes_giving old new f b i = (i.0, i.1, f i.0 i.2, i.3, b.gave i.0 i.1 i.2 i.3 i.4)
+
+open_item : (item : DumpItem) → reading.is_last (Ok item) ≡ false → is_end item ≡ false
+open_item (Packet at) e = refl
+open_item (Rtcp at) e = refl
+open_item (Cut at) e = refl
+open_item (Large at) e = refl
+open_item End e = e
+
+module _ {S : Type 0} where
+  pub reads_few : (before after : DumpReader S) (old new : Ear) → FewCame before old → most_answers after < most_answers before → arrivals_of new ≤ arrivals_of old + 1 → FewCame after new
+  reads_few before after old new s n a = omega (arith, n, a, s)
+
+  pub reads_ends : (after : DumpReader S) (new : Ear) (item : DumpItem) → is_ended after ≡ reading.is_last (Ok item) → is_finished new ≡ is_end item → EndsWith after new
+  reads_ends after new item e d o = d ∙ open_item item (sym e ∙ o)
+
+-- ---- what is given
+module _ {S : Type 0} (left : S → List ℕ) where
+  moved : (reader : DumpReader S) (past : LegPast) (story : Story) (c : Chunk) (given : List Given) → Phase left reader past story → Phase left reader (gave_chunk past c) (record story { given = given })
+  moved reader past story c given (Within o r) = Within o (record { came = r.came; told = record { arrivals = r.told.arrivals; moment = r.told.moment }; same = r.same; fault = r.fault })
+  moved reader past story c given (Behind e w) = Behind e (record { came = w.came; ready = w.ready; no_fault = w.no_fault })
+
+  waits : (reader : DumpReader S) (past : LegPast) (story : Story) (given : List Given) → Phase left reader past story → Phase left reader past (record story { given = given })
+  waits reader past story given (Within o r) = Within o (record { came = r.came; told = record { arrivals = r.told.arrivals; moment = r.told.moment }; same = r.same; fault = r.fault })
+  waits reader past story given (Behind e w) = Behind e (record { came = w.came; ready = w.ready; no_fault = w.no_fault })
+
+  pub gives_chunk : (l m : Leg S) (c : Chunk) → m.reader ≡ l.reader → GivesChunk l.ear m.ear c → (past : LegPast) → Stands left l past → Stands left m (gave_chunk past c)
+  gives_chunk l m c r g past s =
+      let more = g past.conf past.conf.ssrc s.story past.gave s.gave in
+      record { story = record s.story { given = more.0 }; gave = more.1; phase = subst (λ (q : DumpReader S). Phase left q (gave_chunk past c) (record s.story { given = more.0 })) (sym r) (moved l.reader past s.story c more.0 s.phase) }
+
+  pub gives_none : (l m : Leg S) → m.reader ≡ l.reader → GivesNone l.ear m.ear → (past : LegPast) → Stands left l past → Stands left m past
+  gives_none l m r g past s =
+      let more = g past.conf past.conf.ssrc s.story past.gave s.gave in
+      record { story = record s.story { given = more.0 }; gave = more.1; phase = subst (λ (q : DumpReader S). Phase left q past (record s.story { given = more.0 })) (sym r) (waits l.reader past s.story more.0 s.phase) }
+
+  pub gives_end : (l : Leg S) → is_ended l.reader ≡ true → GaveReady l.ear → (past : LegPast) → Stands left l past → (past.gave ≡ chunks_of past) × ((recording_of past).fault ≡ None)
+  gives_end l e g past s = go s.phase
+    where
+      go : Phase left l.reader past s.story → (past.gave ≡ chunks_of past) × ((recording_of past).fault ≡ None)
+      go (Within o r) = absurd (true≢false (sym e ∙ o))
+      go (Behind f w) = (g past.conf past.conf.ssrc s.story past.gave s.gave ∙ (w.ready ∙ ap (λ (a : List Arrival). chunks past.conf.wait past.conf.place a past.conf.ssrc) w.came), w.no_fault)
+
+  -- ---- what is read
+  reads_on : (past : LegPast) (story : Story) (item : DumpItem) (out : List ℕ) (before rest : Recording) → IsRead past story before → before ≡ with_item (record_of item out) rest → is_end item ≡ false → IsRead past (after_item past.conf story item out) rest
+  reads_on past story item out before rest r e n = record {
+    came = arrivals_with past.conf.ssrc past.conf.pts (record_of item out) r.came;
+    told = told item n;
+    same = ap (λ (q : Recording). arrivals_after past.conf.ssrc past.conf.pts r.came q.items) (sym e) ∙ r.same;
+    fault = ap (λ (q : Recording). q.fault) (sym e) ∙ r.fault;
+  }
+    where
+      told : (i : DumpItem) → is_end i ≡ false → IsToldOf (after_item past.conf story i out) (arrivals_with past.conf.ssrc past.conf.pts (record_of i out) r.came)
+      told (Packet at) e = told_arrived story r.came at (text_of out (Some past.conf.ssrc) past.conf.pts) r.told
+      told (Rtcp at) e = r.told
+      told (Cut at) e = r.told
+      told (Large at) e = r.told
+      told End e = absurd (true≢false e)
+
+  reads_end : (past : LegPast) (story : Story) (before : Recording) → IsRead past story before → before ≡ nothing → IsReadyAtEnd past.conf story → IsWhole past (ended story)
+  reads_end past story before r e d = record {
+    came = r.told.arrivals ∙ (ap (λ (q : Recording). arrivals_after past.conf.ssrc past.conf.pts r.came q.items) (sym e) ∙ r.same);
+    ready = d.chunks past.conf.ssrc;
+    no_fault = sym r.fault ∙ ap (λ (q : Recording). q.fault) e;
+  }
+
+  reading_yet : (reader : DumpReader S) (past : LegPast) (story : Story) → is_ended reader ≡ false → Phase left reader past story → IsRead past story (to_come left reader)
+  reading_yet reader past story o (Within p r) = r
+  reading_yet reader past story o (Behind e w) = absurd (true≢false (sym e ∙ o))
+
+  pub reads_item : (l m : Leg S) (item : DumpItem) (out : List ℕ) → is_ended l.reader ≡ false → Gives (Ok item) out (to_come left l.reader) (to_come left m.reader) → is_ended m.reader ≡ reading.is_last (Ok item)
+      → Becomes l.ear m.ear (λ conf story. after_item conf story item out) → (item ≡ End → AllReady l.ear) → (past : LegPast) → Stands left l past → Stands left m past
+  reads_item l m item out o g e b all past s = record { story = after_item past.conf s.story item out; gave = b.gave past.conf past.conf.ssrc s.story past.gave s.gave; phase = go item refl g e }
+    where
+      r : IsRead past s.story (to_come left l.reader)
+      r = reading_yet l.reader past s.story o s.phase
+
+      on : (i : DumpItem) → is_end i ≡ false → Gives (Ok i) out (to_come left l.reader) (to_come left m.reader) → is_ended m.reader ≡ reading.is_last (Ok i) → Phase left m.reader past (after_item past.conf s.story i out)
+      on i n h f = Within (f ∙ not_last i n) (reads_on past s.story i out (to_come left l.reader) (to_come left m.reader) r (gives_item i out (to_come left l.reader) (to_come left m.reader) n h) n)
+
+      go : (i : DumpItem) → item ≡ i → Gives (Ok i) out (to_come left l.reader) (to_come left m.reader) → is_ended m.reader ≡ reading.is_last (Ok i) → Phase left m.reader past (after_item past.conf s.story i out)
+      go (Packet at) q h f = on (Packet at) refl h f
+      go (Rtcp at) q h f = on (Rtcp at) refl h f
+      go (Cut at) q h f = on (Cut at) refl h f
+      go (Large at) q h f = on (Large at) refl h f
+      go End q h f = Behind f (reads_end past s.story (to_come left l.reader) r h (all q past.conf (past.conf.ssrc ∷ []) s.story s.gave.hears))
+
+  pub reads_fault : (l : Leg S) (fault : DumpFault) (out : List ℕ) (rest : Recording) → is_ended l.reader ≡ false → Gives (Err fault) out (to_come left l.reader) rest → (past : LegPast) → Stands left l past → IsFaultOf (recording_of past) fault
+  reads_fault l fault out rest o g past s not_read =
+      let r = reading_yet l.reader past s.story o s.phase in
+      sym r.fault ∙ gives_kind fault.offset fault.kind out (to_come left l.reader) rest g not_read

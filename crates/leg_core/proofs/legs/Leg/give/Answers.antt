@@ -1,0 +1,26 @@
+use Rattle.std.proofs.Common.{◌∙◌, arith}
+use Rattle.std.proofs.Math.Logic.{∥∥₁_map}
+use Rattle.stream_spec.specs.Ready.{chunk_of}
+use Rattle.leg_core.proofs.Stepping.{still_giving, rests_giving}
+use Rattle.leg_core.proofs.legs.Leg.give.Goals as goal
+
+pub invariant_of-self : goal.invariant_of-self
+invariant_of-self g c = record {
+  giving = ∥∥₁_map c.args.self.now.giving (still_giving c.args.self.now.ear c.next.new.self (chunk_of c.next.new.chunk) (c.next.ensures.some c.if-next.true));
+  few = omega (arith, c.next.ensures.arrivals, c.args.self.now.few);
+  open_still = λ o. c.next.ensures.finished ∙ c.args.self.now.open_still o;
+}
+
+pub invariant_of-self-then-ended : goal.invariant_of-self-then-ended
+invariant_of-self-then-ended g c = record {
+  giving = ∥∥₁_map c.args.self.now.giving (rests_giving c.args.self.now.ear c.next.new.self (c.next.ensures.none c.if-next.false));
+  few = omega (arith, c.next.ensures.arrivals, c.args.self.now.few);
+  open_still = λ o. c.next.ensures.finished ∙ c.args.self.now.open_still o;
+}
+
+pub invariant_of-self-else-ended : goal.invariant_of-self-else-ended
+invariant_of-self-else-ended g c = record {
+  giving = ∥∥₁_map c.args.self.now.giving (rests_giving c.args.self.now.ear c.next.new.self (c.next.ensures.none c.if-next.false));
+  few = omega (arith, c.next.ensures.arrivals, c.args.self.now.few);
+  open_still = λ o. c.next.ensures.finished ∙ c.args.self.now.open_still o;
+}

@@ -1,0 +1,108 @@
+-- What a leg gives of its recording (profile).
+use Rattle.std.specs.Prelude.{◌≡◌, ℕ, Bool, true, false, None, Some, Result, Ok, Err, List, [], ◌∷◌, ◌++◌}
+use Rattle.wire_spec.specs.declared.faults.DumpKind.{DumpKind}
+use Rattle.wire_spec.specs.declared.faults.DumpKind.TheVariants.{Read}
+use Rattle.wire_spec.specs.Packets.{Arrival}
+use Rattle.wire_spec.specs.Dump.{Recording, dump, arrivals_after}
+use Rattle.stream_spec.specs.Ready.{Chunk, chunks}
+use Rattle.gap_tracker.specs.Stories.{Story}
+use Rattle.rtpdump_io.specs.declared.items.DumpFault.{DumpFault}
+use Rattle.rtpdump_io.specs.declared.readers.DumpReader.{DumpReader}
+use Rattle.rtpdump_io.specs.Reading.{to_come, is_ended, most_answers}
+use Rattle.rtpdump_io.specs.Reading as reading
+use Rattle.ear.specs.declared.confs.EarConf.{EarConf}
+use Rattle.ear.specs.Hears.{Gave, IsToldOf, conf_of, ready_chunks, story_chunks}
+use Rattle.leg_core.specs.declared.steps.LegStep.{LegStep}
+use Rattle.leg_core.specs.declared.steps.LegStep.TheVariants as step
+use Rattle.leg_core.specs.declared.legs.Leg.{Leg}
+
+-- ---- the past of a leg
+
+-- It is to hear the source `conf.ssrc` in a recording of these octets, at most `limit`, and gave these chunks so far,
+-- oldest first.
+pub record LegPast : Type 0 where
+  pub conf : EarConf
+  pub limit : ℕ
+  pub octets : List ℕ
+  pub gave : List Chunk
+
+-- one more chunk
+abbrev pub gave_chunk : LegPast → Chunk → LegPast
+gave_chunk past c = record past { gave = past.gave ++ c ∷ [] }
+
+abbrev pub recording_of : LegPast → Recording
+recording_of past = dump past.limit past.octets
+
+-- what comes of the recording, newest first
+abbrev pub came_of : LegPast → List Arrival
+came_of past = arrivals_after past.conf.ssrc past.conf.pts [] (recording_of past).items
+
+-- all chunks of the recording
+abbrev pub chunks_of : LegPast → List Chunk
+chunks_of past = chunks past.conf.wait past.conf.place (came_of past) past.conf.ssrc
+
+-- ---- what it answers
+
+-- the recording has this fault, where it is none of the source
+abbrev pub is_read : DumpKind → Bool
+is_read Read = true
+is_read _ = false
+
+abbrev pub IsFaultOf : Recording → DumpFault → Type 0
+IsFaultOf recording fault = is_read fault.kind ≡ false → recording.fault ≡ Some (record { byte = fault.offset; kind = fault.kind })
+
+-- nothing comes after this answer
+abbrev pub is_last : Result LegStep DumpFault → Bool
+is_last (Ok step.Chunk) = false
+is_last (Ok step.More) = false
+is_last (Ok step.End) = true
+is_last (Err fault) = true
+
+-- ---- what it stands for
+
+-- The records that are still to come, after those of which the ear was told, are those of the recording.
+pub record IsRead (past : LegPast) (story : Story) (rest : Recording) : Type 0 where
+  pub came : List Arrival
+  pub told : IsToldOf story came
+  pub same : arrivals_after past.conf.ssrc past.conf.pts came rest.items ≡ came_of past
+  pub fault : rest.fault ≡ (recording_of past).fault
+
+-- the ear was told of the whole recording, and of its end
+pub record IsWhole (past : LegPast) (story : Story) : Type 0 where
+  pub came : story.past ≡ came_of past
+  pub ready : ready_chunks past.conf past.conf.ssrc story ≡ story_chunks past.conf past.conf.ssrc story
+  pub no_fault : (recording_of past).fault ≡ None
+
+module _ {S : Type 0} where
+  -- it gave its last answer
+  abbrev pub is_over : Leg S → Bool
+  is_over leg = leg.over
+
+  -- how many records it may still read, at most
+  abbrev pub unread : Leg S → ℕ
+  unread leg = most_answers leg.reader
+
+  -- the source of its chunks: its place among the legs
+  abbrev pub place_of : Leg S → ℕ
+  place_of leg = (conf_of leg.ear).place
+
+  -- what it reads from
+  abbrev pub source_of : Leg S → S
+  source_of leg = reading.source_of leg.reader
+
+  pub data Phase (left : S → List ℕ) (reader : DumpReader S) (past : LegPast) (story : Story) : Type 0 where
+    Within : is_ended reader ≡ false → IsRead past story (to_come left reader) → Phase left reader past story
+    Behind : is_ended reader ≡ true → IsWhole past story → Phase left reader past story
+
+  -- it has this past
+  pub record Stands (left : S → List ℕ) (leg : Leg S) (past : LegPast) : Type 0 where
+    pub story : Story
+    pub gave : Gave leg.ear past.conf past.conf.ssrc story past.gave
+    pub phase : Phase left leg.reader past story
+
+  -- one step of a leg with this past, in which this chunk was handed out
+  abbrev pub Steps : (S → List ℕ) → Result LegStep DumpFault → Chunk → LegPast → Leg S → Type 0
+  Steps left (Ok step.Chunk) c past leg = Stands left leg (gave_chunk past c)
+  Steps left (Ok step.More) c past leg = Stands left leg past
+  Steps left (Ok step.End) c past leg = (past.gave ≡ chunks_of past) × ((recording_of past).fault ≡ None)
+  Steps left (Err fault) c past leg = IsFaultOf (recording_of past) fault

@@ -1,0 +1,177 @@
+//! A leg over a recording.
+ghost use Rattle.ear.specs.Hears.{IsGiving};
+ghost use Rattle.leg_core.specs.Sound.{FewCame, EndsWith};
+
+use crate::LegStep;
+use crate::records::hear_item;
+use ear::{Ear, EarConf};
+use rtpdump_io::{DumpFault, DumpReader};
+use rtt_base::{Chunk, Packet};
+use rtt_io::Source;
+use std::alloc::Global;
+
+/// A leg: what is heard of its source in its recording, each text with the moment from which it may be mixed.
+#[derive(Drop)]
+pub struct Leg<S> {
+    reader: DumpReader<S>,
+    ear: Ear,
+    /// The packet of the record that was read last.
+    packet: Box<Packet>,
+    /// Whether the last answer was given.
+    over: bool,
+    ghost giving: { ∥ IsGiving ear ∥₁ },
+    ghost few: { FewCame reader ear },
+    ghost open_still: { EndsWith reader ear },
+}
+
+/// Memory ran out. The source comes back.
+#[derive(Drop)]
+pub struct LegLost<S> {
+    pub source: S,
+}
+
+impl<S: Source> Leg<S> {
+    ghost use Rattle.std.specs.Prelude.{◌≡◌, ◌≤◌, ◌<◌, ◌+◌, [], true, false, Ok, IfOk, IfErr, IsUtf8};
+    ghost use Rattle.wire_spec.specs.declared.faults.DumpKind.{DumpKind};
+    ghost use Rattle.wire_spec.specs.Packets.{has_text};
+    ghost use Rattle.stream_spec.specs.Ready.{chunk_of};
+    ghost use Rattle.rtt_io.specs.Counts.{Rose};
+    ghost use Rattle.rtpdump_io.specs.Reading.{Gives, is_ended, most_answers, to_come};
+    ghost use Rattle.rtpdump_io.specs.Answers.{is_end};
+    ghost use Rattle.rtpdump_io.specs.Reading as reading;
+    ghost use Rattle.ear.specs.declared.confs.EarConf.{EarConf};
+    ghost use Rattle.ear.specs.Hears.{Becomes, GivesChunk, GivesNone, GaveReady, AllReady, arrivals_of, is_finished, is_quiet, conf_of};
+    ghost use Rattle.leg_core.specs.Gives.{LegPast, Stands, Steps, is_last, is_over, place_of, source_of, unread};
+
+    /// A leg over a recording of at most 4194304 octets. The wait is at most 10000 milliseconds.
+    pub fn new(alloc: Global, source: S, conf: EarConf) -> Result<Leg<S>, LegLost<S>>
+        requires { conf.wait ≤ 10000 }
+        ensures stands { S.tells → IfOk result (λ leg. Stands S.left leg (record { conf = conf; limit = 4194304; octets = S.left source; gave = [] })) }
+        ensures place { IfOk result (λ leg. place_of leg ≡ conf.place) }
+        ensures open { IfOk result (λ leg. is_over leg ≡ false) }
+        ensures source { IfOk result (λ leg. source_of leg ≡ source) }
+        ensures lost { IfErr result (λ lost. lost.source ≡ source) }
+    {
+        Leg::with_limit(alloc, source, conf, 4194304)
+    }
+
+    /// A leg over a recording of at most `limit` octets.
+    pub fn with_limit(
+        alloc: Global,
+        source: S,
+        conf: EarConf,
+        limit: u32,
+    ) -> Result<Leg<S>, LegLost<S>>
+        requires wait { conf.wait ≤ 10000 }
+        requires limit { limit ≤ 4194304 }
+        ensures stands { S.tells → IfOk result (λ leg. Stands S.left leg (record { conf = conf; limit = limit; octets = S.left source; gave = [] })) }
+        ensures place { IfOk result (λ leg. place_of leg ≡ conf.place) }
+        ensures open { IfOk result (λ leg. is_over leg ≡ false) }
+        ensures source { IfOk result (λ leg. source_of leg ≡ source) }
+        ensures lost { IfErr result (λ lost. lost.source ≡ source) }
+    {
+        let Ok(ear) = Ear::new(alloc, conf, &[conf.ssrc]) else {
+            return Err(LegLost { source });
+        };
+        let Ok(packet) = Box::new(alloc, Packet::new()) else {
+            return Err(LegLost { source });
+        };
+        Ok(Leg {
+            reader: DumpReader::with_limit(source, limit),
+            ear,
+            packet,
+            over: false,
+        })
+    }
+
+    /// Gives the next text in place of what is in `chunk`, or reads a record. A fault `Read` is one of the source.
+    pub fn step(&mut self, chunk: &mut Chunk) -> Result<LegStep, DumpFault>
+        requires { is_over self.old ≡ false }
+        ensures steps { S.tells → (past : LegPast) → Stands S.left self.old past → Steps S.left result (chunk_of chunk.new) past self.new }
+        ensures text { result ≡ Ok LegStep.Chunk → has_text chunk.new.text ≡ true }
+        ensures utf8 { result ≡ Ok LegStep.Chunk → IsUtf8 chunk.new.text }
+        ensures source { result ≡ Ok LegStep.Chunk → chunk.new.source ≡ place_of self.new }
+        ensures reads { result ≡ Ok LegStep.More → unread self.new < unread self.old }
+        ensures over { is_over self.new ≡ is_last result }
+        ensures read { IfErr result (λ fault. fault.kind ≡ DumpKind.Read → Rose (S.faults (source_of self.old)) (S.faults (source_of self.new))) }
+        ensures never_falls { S.faults (source_of self.old) ≤ S.faults (source_of self.new) }
+        ensures same_name { S.name (source_of self.new) ≡ S.name (source_of self.old) }
+        ensures place { place_of self.new ≡ place_of self.old }
+    {
+        match self.give(chunk) {
+            LegStep::More => self.read(chunk),
+            step => Ok(step),
+        }
+    }
+
+    /// Gives the next text that is heard by now, or the end.
+    fn give(&mut self, chunk: &mut Chunk) -> LegStep
+        requires { is_over self.old ≡ false }
+        ensures steps { (past : LegPast) → Stands S.left self.old past → Steps S.left (Ok result) (chunk_of chunk.new) past self.new }
+        ensures text { result ≡ LegStep.Chunk → has_text chunk.new.text ≡ true }
+        ensures utf8 { result ≡ LegStep.Chunk → IsUtf8 chunk.new.text }
+        ensures source { result ≡ LegStep.Chunk → chunk.new.source ≡ place_of self.new }
+        ensures over { is_over self.new ≡ is_last (Ok result) }
+        ensures quiet { result ≡ LegStep.More → is_quiet self.new.ear ≡ true }
+        ensures more { result ≡ LegStep.More → is_ended self.new.reader ≡ false }
+        ensures reader { self.new.reader ≡ self.old.reader }
+        ensures place { place_of self.new ≡ place_of self.old }
+    {
+        if self.ear.next(chunk) {
+            return LegStep::Chunk;
+        }
+        if self.reader.ended() {
+            self.over = true;
+            return LegStep::End;
+        }
+        LegStep::More
+    }
+
+    /// Reads a record, and gives what is heard then.
+    fn read(&mut self, chunk: &mut Chunk) -> Result<LegStep, DumpFault>
+        requires over { is_over self.old ≡ false }
+        requires open { is_ended self.old.reader ≡ false }
+        requires quiet { is_quiet self.old.ear ≡ true }
+        ensures steps { S.tells → (past : LegPast) → Stands S.left self.old past → Steps S.left result (chunk_of chunk.new) past self.new }
+        ensures text { result ≡ Ok LegStep.Chunk → has_text chunk.new.text ≡ true }
+        ensures utf8 { result ≡ Ok LegStep.Chunk → IsUtf8 chunk.new.text }
+        ensures source { result ≡ Ok LegStep.Chunk → chunk.new.source ≡ place_of self.new }
+        ensures reads { result ≡ Ok LegStep.More → unread self.new < unread self.old }
+        ensures over { is_over self.new ≡ is_last result }
+        ensures read { IfErr result (λ fault. fault.kind ≡ DumpKind.Read → Rose (S.faults (source_of self.old)) (S.faults (source_of self.new))) }
+        ensures never_falls { S.faults (source_of self.old) ≤ S.faults (source_of self.new) }
+        ensures same_name { S.name (source_of self.new) ≡ S.name (source_of self.old) }
+        ensures place { place_of self.new ≡ place_of self.old }
+    {
+        match self.reader.next(&mut self.packet) {
+            Ok(item) => {
+                hear_item(&mut self.ear, item, self.packet.as_slice());
+                Ok(self.give(chunk))
+            }
+            Err(fault) => {
+                self.over = true;
+                Err(fault)
+            }
+        }
+    }
+
+    /// Whether the last answer was given.
+    pub fn ended(&self) -> bool
+        ensures { result ≡ is_over self.now }
+    {
+        self.over
+    }
+
+    /// The source, as far as it was read.
+    pub fn into_source(self) -> S
+        ensures { result ≡ source_of self }
+    {
+        let Leg {
+            reader,
+            ear: _,
+            packet: _,
+            over: _,
+        } = self;
+        reader.into_source()
+    }
+}
