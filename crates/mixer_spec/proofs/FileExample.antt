@@ -6,6 +6,7 @@ use Rattle.std.specs.Str.{is_utf8, chars}
 use Rattle.std.specs.Char.{encode_utf8}
 use Rattle.std.proofs.lemmas.Str.{IsUtf8-from_is_utf8, IsUtf8-nil}
 use lib.Utf8.{encode}
+use Rattle.rtt_base.specs.declared.text_packets.Pts.{Pts}
 use Rattle.wire_spec.specs.Packets.{Packet, blocks_of}
 use Rattle.wire_spec.specs.Rtp.{rtp, rtp_of_header, rtp_written}
 use Rattle.wire_spec.specs.Red.{headers_at, texts_at, red, red_written}
@@ -19,23 +20,27 @@ use Rattle.stream_spec.proofs.Sent.{sent_lawful, sent_own}
 use Rattle.stream_spec.proofs.OwnPackets.{own_come}
 use Rattle.stream_spec.proofs.Walks.{are_places}
 use Rattle.file_spec.specs.declared.conf_lines.Form.TheVariants.{Files}
+use Rattle.file_spec.specs.declared.conf_lines.LegLine.{LegLine}
+use Rattle.file_spec.specs.declared.conf_lines.Stay.{Stay}
 use Rattle.file_spec.specs.declared.conf_lines.What.TheVariants.{Lose}
+use Rattle.file_spec.specs.Kept.{IsConference}
+use Rattle.file_spec.specs.Conf as line
 use Rattle.file_spec.specs.Conf.{Conf, conf, entry, leg_of, mixer_of, plan_of, stay_or_plan, time_or_other}
 use Rattle.text_spec.specs.Characters.{class_of}
 use Rattle.text_spec.specs.Ends.{ends_line, ends_sentence}
 use Rattle.text_spec.specs.Views.{label, label_after}
 use Rattle.mixer_spec.specs.Setups.{AllStay, setup, stream, leg_at}
-use Rattle.mixer_spec.specs.Table.{Call, Admit, Offer, Turn, Taken, Table, after_calls, chunks_taken, is_due, last_media, packets, sent_by}
+use Rattle.mixer_spec.specs.Table.{Call, Admit, Hush, Leave, Offer, Turn, Taken, Table, after_calls, chunks_taken, is_due, last_media, packets, sent_by}
 use Rattle.mixer_spec.specs.Core.{Core, Event, Enter, Push, Take, after, turns_in}
 use Rattle.mixer_spec.specs.Core as event
 use Rattle.mixer_spec.specs.Calls.{AreMade, took}
 use Rattle.mixer_spec.specs.Plain.{plain}
 use Rattle.mixer_spec.specs.Arrives.{arrivals}
-use Rattle.mixer_spec.specs.Laws.{IsAccepted, AreShort}
+use Rattle.mixer_spec.specs.Laws.{AreShort}
 use Rattle.mixer_spec.specs.Headline.{IsHop}
 use Rattle.mixer_spec.specs.Bridged.{Bridged, IsPair, IsMixed, IsRunning, leg_arrivals, leg_chunks, leg_heard, hop_from, input_limit, told_by_packets, IsConferenceMixed}
 use Rattle.mixer_spec.proofs.Lists.{set_other}
-use Rattle.mixer_spec.proofs.Accepted.{accepted_law}
+use Rattle.mixer_spec.proofs.Conferences.{accepted_law, plan_law}
 use Rattle.mixer_spec.proofs.Runs.{run_law}
 use Rattle.mixer_spec.proofs.OfFiles.{mixed_law, aware_law, short}
 use Rattle.mixer_spec.proofs.MixedExample.{table_of}
@@ -44,11 +49,24 @@ use Rattle.mixer_spec.proofs.MixedExample.{table_of}
 abbrev file : List ℕ
 file = codes "leg Ann aware 1001 ann.in ann.out\nleg Bob aware 1002 bob.in bob.out\nleg Cy unaware 1003 cy.in cy.out\nmixer 9000 100 5000\nturns 30\nlose Bob 1\n"
 
+abbrev types : Pts
+types = record { t140 = 98; red = 100 }
+
+abbrev for_good : Stay
+for_good = record { from = 0; until = None }
+
+abbrev ann_leg : LegLine
+ann_leg = record { line = 1; name = codes "Ann"; aware = true; ssrc = 1001; input = codes "ann.in"; output = codes "ann.out"; pts = types; gens = 2; stay = for_good }
+
+abbrev bob_leg : LegLine
+bob_leg = record { line = 2; name = codes "Bob"; aware = true; ssrc = 1002; input = codes "bob.in"; output = codes "bob.out"; pts = types; gens = 2; stay = for_good }
+
+abbrev cy_leg : LegLine
+cy_leg = record { line = 3; name = codes "Cy"; aware = false; ssrc = 1003; input = codes "cy.in"; output = codes "cy.out"; pts = types; gens = 2; stay = for_good }
+
 abbrev call : Conf
 call = record {
-  legs = record { line = 1; name = codes "Ann"; aware = true; ssrc = 1001; input = codes "ann.in"; output = codes "ann.out"; pts = record { t140 = 98; red = 100 }; gens = 2; stay = record { from = 0; until = None } }
-      ∷ record { line = 2; name = codes "Bob"; aware = true; ssrc = 1002; input = codes "bob.in"; output = codes "bob.out"; pts = record { t140 = 98; red = 100 }; gens = 2; stay = record { from = 0; until = None } }
-      ∷ record { line = 3; name = codes "Cy"; aware = false; ssrc = 1003; input = codes "cy.in"; output = codes "cy.out"; pts = record { t140 = 98; red = 100 }; gens = 2; stay = record { from = 0; until = None } } ∷ [];
+  legs = ann_leg ∷ bob_leg ∷ cy_leg ∷ [];
   tick = 100;
   spacing = 300;
   wait = 1000;
@@ -61,8 +79,8 @@ is_read : conf Files file ≡ Ok call
 unfolding entry time_or_other stay_or_plan leg_of mixer_of plan_of is_utf8 chars encode_utf8
 is_read = refl
 
-accepted : IsAccepted call
-accepted = accepted_law Files file call is_read
+accepted : IsConference call
+accepted = (accepted_law Files file call is_read).0
 
 -- ---- what Ann sends: one letter, which is repeated twice
 abbrev of_ann : Stream
@@ -75,7 +93,7 @@ abbrev ann : History
 ann = sent_history of_ann sent
 
 abbrev octets_of : Packet → List ℕ
-octets_of p = rtp_written (record { mark = p.mark; pt = 100; seq = p.seq; stamp = p.stamp; ssrc = p.ssrc; csrc = None }) (red_written (blocks_of p) (record { t140 = 98; red = 100 }))
+octets_of p = rtp_written (record { mark = p.mark; pt = 100; seq = p.seq; stamp = p.stamp; ssrc = p.ssrc; csrc = None }) (red_written (blocks_of p) types)
 
 -- the recordings of Ann's packets, and of nobody's
 abbrev inputs : ℕ → List ℕ
@@ -171,14 +189,26 @@ cy_is_unaware : (setup call).aware 2 ≡ false
 cy_is_unaware = refl
 
 all_stay : AllStay (setup call)
-all_stay = record { seats = omega arith; from = λ i. refl; until = λ i. refl }
+all_stay = record { seats = omega arith; from = from; until = until }
+  where
+    from : (i : ℕ) → (setup call).from i ≡ 0
+    from zero = refl
+    from (suc zero) = refl
+    from (suc (suc zero)) = refl
+    from (suc (suc (suc i))) = refl
+
+    until : (i : ℕ) → (setup call).until i ≡ None
+    until zero = refl
+    until (suc zero) = refl
+    until (suc (suc zero)) = refl
+    until (suc (suc (suc i))) = refl
 
 bridged : Bridged (setup call) mixed.0 1 0 (told_by_packets (setup call) 1 (mixed.0.terminals 1).past) (hop_from call inputs 0 ann) (leg_heard call inputs 0)
 bridged = aware_law call inputs mixed.0 accepted mixed.1 1 0 pair ann
 
 -- what comes to Bob, who loses a packet
 come : Come (told_by_packets (setup call) 1 (mixed.0.terminals 1).past) (arrivals call.plan 1 (packets (stream (setup call) 1) (mixed.0.terminals 1).past))
-come = bridged.comes call.plan accepted.plan
+come = bridged.comes call.plan (plan_law call accepted)
 
 -- ---- events
 running : (past : List Event) × IsRunning (setup call) (leg_chunks call inputs) past
@@ -221,3 +251,32 @@ made = (
 took_all : (i : ℕ) → said i ≡ took (setup call) i calls ++ []
 took_all zero = refl
 took_all (suc i) = sym (ap (λ (xs : List Taken). chunks_taken xs ++ []) (set_other (after_calls (setup call) (Admit 1 true ∷ Admit 0 true ∷ [])).taken 0 _ (suc i) (λ q. omega (arith, q))))
+
+-- ---- the same call, where Ann goes at 500 and Bob is sent no generation
+abbrev going : Conf
+going = record call { legs = record ann_leg { stay = record { from = 0; until = Some 500 } } ∷ record bob_leg { gens = 0 } ∷ cy_leg ∷ [] }
+
+going_is_read : conf Files (file ++ codes "gens Bob 0\nstay Ann 0 500\n") ≡ Ok going
+unfolding entry time_or_other stay_or_plan leg_of mixer_of plan_of line.gens_of line.stay_of is_utf8 chars encode_utf8
+going_is_read = refl
+
+ann_goes : (setup going).until 0 ≡ Some 500
+ann_goes = refl
+
+none_to_bob : (setup going).gens 1 ≡ 0
+none_to_bob = refl
+
+two_to_cy : (setup going).gens 2 ≡ 2
+two_to_cy = refl
+
+goes : AreMade (setup going) (λ i. []) (Leave 0 ∷ Hush 0 ∷ Admit 1 true ∷ Admit 0 true ∷ [])
+goes = (
+  λ e. refl,
+  (
+    record { at = 500; seated = refl; over = refl },
+    (
+      record { at = 0; leg = omega arith; fresh = refl; begun = omega arith; listens = refl },
+      (record { at = 0; leg = omega arith; fresh = refl; begun = omega arith; listens = refl }, tt),
+    ),
+  ),
+)
