@@ -7,7 +7,7 @@ mod writing;
 
 pub use packets::read_text;
 pub use reading::read_blocks;
-pub use writing::write_blocks;
+pub use writing::{BlockView, OlderBlocks, TextHead, write_blocks, write_text};
 
 #[cfg(test)]
 mod tests;

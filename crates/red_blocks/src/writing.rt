@@ -1,20 +1,87 @@
-//! Writing the blocks of a payload.
-ghost use Rattle.std.specs.Prelude.{◌≡◌, ◌+◌, ◌*◌, ◌^◌, ◌≤◌, ◌<◌, ◌++◌, ◌↔◌, length, All, IsOk, OnOk, OnErr};
+//! Writing the blocks of a payload, and whole packets of text.
+ghost use Rattle.std.specs.Prelude.{ℕ, List, Some, ◌≡◌, ◌*◌, ◌^◌, ◌≤◌, ◌<◌, ◌++◌, ◌∷◌, [], length, map, slice_get, All};
 ghost use Rattle.std.specs.List.{flat_map};
-ghost use Rattle.wire_spec.specs.Red.{red_header, red_written};
-ghost use Rattle.red_blocks.specs.Writing.{HasOffset, text_octets};
+ghost use Rattle.rtt_base.specs.declared.blocks.TextBlock.{TextBlock};
+ghost use Rattle.rtt_base.specs.Buffers.{Appends};
+ghost use Rattle.wire_spec.specs.Red.{red_header, red_spelling, red_written};
+ghost use Rattle.wire_spec.specs.SentPackets.{payload_sent, head_of, packet_written};
+ghost use Rattle.rtp_header.specs.Headers.{spelled};
+ghost use Rattle.wire_spec.specs.Packets.{redundant};
+ghost use Rattle.red_blocks.specs.Writing.{HasOffset, clamped, seen, text_octets, packet_with};
 
 use byteorder::{BigEndian, ByteOrder};
-use rtt_base::{Blocks, Full, Packet, Pts, TextBlock};
+use rtp_header::{RtpHead, write_header};
+use rtt_base::{Blocks, OctetBuffer, Pts};
 
 /// F, the bit of a header's first octet that tells a redundant header from the last.
 const F: u8 = 128;
 
-/// The header of a redundant block.
-fn header_octets(block: &TextBlock, t140: u8) -> [u8; 4]
-    requires offset { HasOffset block.now }
+/// The greatest offset that fits in 14 bits.
+const LONGEST: u16 = 16383;
+
+/// A redundant block where it is kept: how far it lies before its packet, below 2^14 ticks of 1 ms, and its text, of at
+/// most 1023 octets.
+#[derive(Clone, Copy, Debug)]
+pub struct BlockView<'a> {
+    pub offset: u16,
+    pub text: &'a [u8],
+}
+
+/// The redundant blocks of a packet, wherever they are kept.
+pub trait OlderBlocks {
+    // the blocks of a packet with this timestamp, oldest first
+    ghost blocks: { Self → ℕ → List TextBlock };
+
+    /// How many there are.
+    fn len(&self) -> usize
+        ensures { (stamp : ℕ) → result ≡ length (blocks self.now stamp) };
+
+    /// The block at this place, counted from the oldest, in a packet with this timestamp.
+    fn block(&self, place: usize, stamp: u32) -> BlockView<'_>
+        requires { place < length (blocks self.now stamp) }
+        ensures block { slice_get (blocks self.now stamp) place ≡ Some (seen result) }
+        ensures offset { result.offset < 2 ^ 14 }
+        ensures text { length result.text.now < 2 ^ 10 };
+}
+
+impl OlderBlocks for Blocks {
+    // all but the last, with offsets that fit in 14 bits
+    ghost blocks = { λ all stamp. map clamped (redundant all) };
+
+    fn len(&self) -> usize {
+        self.len().saturating_sub(1)
+    }
+
+    fn block(&self, place: usize, _stamp: u32) -> BlockView<'_> {
+        let block = &self.as_slice()[place];
+        BlockView {
+            offset: block.offset.min(LONGEST),
+            text: block.text.as_slice(),
+        }
+    }
+}
+
+/// What a packet of text says beside its blocks.
+#[derive(Clone, Copy, Debug)]
+pub struct TextHead {
+    /// The M bit.
+    pub mark: bool,
+    /// The sequence number.
+    pub seq: u16,
+    /// The timestamp, in ticks of 1 ms.
+    pub stamp: u32,
+    /// The SSRC of the stream.
+    pub ssrc: u32,
+    /// Whose text it is: it is named by a CSRC where it is not the SSRC (RFC 9071).
+    pub source: u32,
+}
+
+/// The header of a redundant block (RFC 2198, section 3).
+fn header_octets(block: &BlockView<'_>, t140: u8) -> [u8; 4]
+    requires offset { block.now.offset < 2 ^ 14 }
+    requires text { length block.now.text.now < 2 ^ 10 }
     requires t140 { t140 < 2 ^ 7 }
-    ensures { result ≡ red_header t140 block.now }
+    ensures { result ≡ red_header t140 (seen block.now) }
 {
     let mut octets = [0; 4];
     octets[0] = F + t140;
@@ -23,62 +90,159 @@ fn header_octets(block: &TextBlock, t140: u8) -> [u8; 4]
     octets
 }
 
-/// Appends the headers of redundant blocks, for which there is room.
-fn append_headers(older: &[TextBlock], t140: u8, out: &mut Packet) -> Result<(), Full>
-    requires offsets { All HasOffset older.now }
-    requires t140 { t140 < 2 ^ 7 }
-    requires room { length out.old + 4 * length older.now ≤ 4224 }
-    ensures room { IsOk result }
-    ensures ok { OnOk result (out.new ≡ out.old ++ flat_map (red_header t140) older.now) }
+/// Appends the headers of redundant blocks, and the last header.
+fn write_headers<O: OctetBuffer, B: OlderBlocks>(
+    older: &B,
+    stamp: u32,
+    t140: u8,
+    out: &mut O,
+) -> Result<(), O::Refusal>
+    requires { t140 < 2 ^ 7 }
+    ensures { Appends O.greatest (O.written out.old) (O.written out.new) (flat_map (red_header t140) (B.blocks older.now stamp) ++ t140 ∷ []) result }
 {
-    for block in older {
-        out.append(&header_octets(block, t140))?;
+    let before = out.len();
+    for place in 0..older.len() {
+        let header = header_octets(&older.block(place, stamp), t140);
+        let appended = out.append(&header);
+        if appended.is_err() {
+            out.truncate(before);
+            return appended;
+        }
     }
-    Ok(())
+    let last = out.append(&[t140]);
+    if last.is_err() {
+        out.truncate(before);
+    }
+    last
 }
 
-/// How many octets the texts of blocks have.
-fn size_of_texts(blocks: &[TextBlock]) -> usize
-    requires { length blocks.now ≤ 9 }
-    ensures value { result ≡ length (text_octets blocks.now) }
-    ensures fits { result ≤ 9207 }
+/// Appends the texts of redundant blocks, and then the primary text.
+fn write_texts<O: OctetBuffer, B: OlderBlocks>(
+    older: &B,
+    stamp: u32,
+    text: &[u8],
+    out: &mut O,
+) -> Result<(), O::Refusal>
+    ensures { Appends O.greatest (O.written out.old) (O.written out.new) (text_octets (B.blocks older.now stamp) ++ text.now) result }
 {
-    let mut size = 0;
-    for block in blocks {
-        size += block.text.len();
+    let before = out.len();
+    for place in 0..older.len() {
+        let block = older.block(place, stamp);
+        let appended = out.append(block.text);
+        if appended.is_err() {
+            out.truncate(before);
+            return appended;
+        }
     }
-    size
+    let last = out.append(text);
+    if last.is_err() {
+        out.truncate(before);
+    }
+    last
 }
 
-/// Appends the texts of blocks, for which there is room.
-fn append_texts(blocks: &[TextBlock], out: &mut Packet) -> Result<(), Full>
-    requires { length out.old + length (text_octets blocks.now) ≤ 4224 }
-    ensures room { IsOk result }
-    ensures ok { OnOk result (out.new ≡ out.old ++ text_octets blocks.now) }
+/// Appends a payload in red form.
+fn write_red<O: OctetBuffer, B: OlderBlocks>(
+    older: &B,
+    stamp: u32,
+    text: &[u8],
+    t140: u8,
+    out: &mut O,
+) -> Result<(), O::Refusal>
+    requires { t140 < 2 ^ 7 }
+    ensures { Appends O.greatest (O.written out.old) (O.written out.new) (red_spelling t140 (B.blocks older.now stamp) text.now) result }
 {
-    for block in blocks {
-        out.append(block.text.as_slice())?;
+    let before = out.len();
+    let headed = write_headers(older, stamp, t140, out);
+    if headed.is_err() {
+        return headed;
     }
-    Ok(())
+    let written = write_texts(older, stamp, text, out);
+    if written.is_err() {
+        out.truncate(before);
+    }
+    written
 }
 
-/// Appends the red form of blocks, of which the last is the primary one. `Full`: it passes the room left. It takes
-/// no memory.
-pub fn write_blocks(blocks: &Blocks, pts: Pts, out: &mut Packet) -> Result<(), Full>
+/// Appends the red form of blocks, of which the last is the primary one.
+pub fn write_blocks<O: OctetBuffer>(
+    blocks: &Blocks,
+    pts: Pts,
+    out: &mut O,
+) -> Result<(), O::Refusal>
     requires some { 0 < length blocks.now }
     requires offsets { All HasOffset blocks.now }
     requires t140 { pts.t140 < 2 ^ 7 }
-    ensures room { IsOk result ↔ (length out.old + length (red_written blocks.now pts) ≤ 4224) }
-    ensures ok { OnOk result (out.new ≡ out.old ++ red_written blocks.now pts) }
-    ensures err { OnErr result (out.new ≡ out.old) }
+    ensures { Appends O.greatest (O.written out.old) (O.written out.new) (red_written blocks.now pts) result }
 {
-    let blocks = blocks.as_slice();
-    let older = &blocks[..blocks.len() - 1];
-    let size = 4 * older.len() + 1 + size_of_texts(blocks);
-    if Packet::CAPACITY - out.len() < size {
-        return Err(Full);
+    let all = blocks.as_slice();
+    let primary = &all[all.len() - 1];
+    write_red(blocks, 0, primary.text.as_slice(), pts.t140, out)
+}
+
+/// Appends a payload: in red form where there is a redundant block, else in plain form.
+fn write_payload<O: OctetBuffer, B: OlderBlocks>(
+    older: &B,
+    stamp: u32,
+    text: &[u8],
+    pts: Pts,
+    out: &mut O,
+) -> Result<(), O::Refusal>
+    requires { pts.t140 < 2 ^ 7 }
+    ensures { Appends O.greatest (O.written out.old) (O.written out.new) (payload_sent pts (B.blocks older.now stamp) text.now) result }
+{
+    if older.len() > 0 {
+        write_red(older, stamp, text, pts.t140, out)
+    } else {
+        out.append(text)
     }
-    append_headers(older, pts.t140, out)?;
-    out.push(pts.t140);
-    append_texts(blocks, out)
+}
+
+/// The header of a packet of text.
+fn rtp_head<B: OlderBlocks>(head: &TextHead, older: &B, pts: Pts) -> RtpHead
+    requires t140 { pts.t140 < 2 ^ 7 }
+    requires red { pts.red < 2 ^ 7 }
+    ensures value { (text : List ℕ) → spelled result ≡ head_of pts (packet_with head.now (B.blocks older.now head.now.stamp) text) }
+    ensures fits { result.pt < 2 ^ 7 }
+{
+    let pt = if older.len() == 0 { pts.t140 } else { pts.red };
+    let csrc = if head.source == head.ssrc {
+        None
+    } else {
+        Some(head.source)
+    };
+    RtpHead {
+        mark: head.mark,
+        pt,
+        seq: head.seq,
+        stamp: head.stamp,
+        ssrc: head.ssrc,
+        csrc,
+    }
+}
+
+/// Appends a packet of text, of the payload type `pts.red` where there is a redundant block, else of `pts.t140`. Where
+/// the buffer refuses it, nothing is appended.
+pub fn write_text<O: OctetBuffer, B: OlderBlocks>(
+    head: &TextHead,
+    older: &B,
+    text: &[u8],
+    pts: Pts,
+    out: &mut O,
+) -> Result<(), O::Refusal>
+    requires t140 { pts.t140 < 2 ^ 7 }
+    requires red { pts.red < 2 ^ 7 }
+    ensures { Appends O.greatest (O.written out.old) (O.written out.new) (packet_written pts (packet_with head.now (B.blocks older.now head.now.stamp) text.now)) result }
+{
+    let before = out.len();
+    let rtp = rtp_head(head, older, pts);
+    let headed = write_header(&rtp, out);
+    if headed.is_err() {
+        return headed;
+    }
+    let written = write_payload(older, head.stamp, text, pts, out);
+    if written.is_err() {
+        out.truncate(before);
+    }
+    written
 }

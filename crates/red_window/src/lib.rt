@@ -2,8 +2,10 @@
 #![tactic(auto)]
 
 mod kept;
+mod laws;
 mod windows;
 
+pub use laws::{packets_fit, windows_repeat};
 pub use windows::Window;
 
 #[cfg(test)]

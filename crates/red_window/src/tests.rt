@@ -1,45 +1,51 @@
 use crate::Window;
-use rtt_base::{Blocks, Text};
+use red_blocks::OlderBlocks;
 use std::process::Abort;
 
-fn text_of(rt: &impl Abort, octets: &[u8]) -> Text {
-    let mut text = Text::new();
-    assert!(rt; text.append(octets).is_ok());
-    text
-}
-
-/// The blocks are these, as offset and text.
-fn expect_blocks(rt: &impl Abort, blocks: &Blocks, expected: &[(u16, &[u8])]) {
-    let found = blocks.as_slice();
-    assert_eq!(rt; found.len(), expected.len());
-    for (block, (offset, text)) in found.iter().zip(expected) {
-        assert_eq!(rt; block.offset, *offset);
-        assert!(rt; block.text.as_slice() == *text);
+/// The blocks of a packet with this timestamp are these, as offset and text.
+fn expect_blocks(rt: &impl Abort, window: &Window, stamp: u32, expected: &[(u16, &[u8])]) {
+    assert_eq!(rt; window.len(), expected.len());
+    for (place, (offset, text)) in expected.iter().enumerate() {
+        if place < window.len() {
+            let block = window.block(place, stamp);
+            assert_eq!(rt; block.offset, *offset);
+            assert!(rt; block.text == *text);
+        }
     }
 }
 
 #[test]
 fn each_text_is_repeated_twice(rt: HostRuntime) {
     let mut window = Window::new();
-    let mut blocks = Blocks::new();
     assert!(rt; !window.due());
-    window.next(4294967295, &text_of(&rt, b"A"), &mut blocks);
-    expect_blocks(&rt, &blocks, &[(16383, b""), (16383, b""), (0, b"A")]);
-    window.next(299, &text_of(&rt, b"B"), &mut blocks);
-    expect_blocks(&rt, &blocks, &[(16383, b""), (300, b"A"), (0, b"B")]);
-    window.next(599, &Text::new(), &mut blocks);
-    expect_blocks(&rt, &blocks, &[(600, b"A"), (300, b"B"), (0, b"")]);
+    expect_blocks(&rt, &window, 4294967295, &[(16383, b""), (16383, b"")]);
+    window.keep(4294967295, b"A");
+    expect_blocks(&rt, &window, 299, &[(16383, b""), (300, b"A")]);
+    window.keep(299, b"B");
+    expect_blocks(&rt, &window, 599, &[(600, b"A"), (300, b"B")]);
+    window.keep(599, b"");
     assert!(rt; window.due());
-    window.next(899, &Text::new(), &mut blocks);
-    expect_blocks(&rt, &blocks, &[(600, b"B"), (300, b""), (0, b"")]);
+    expect_blocks(&rt, &window, 899, &[(600, b"B"), (300, b"")]);
+    window.keep(899, b"");
     assert!(rt; !window.due());
 }
 
 #[test]
 fn an_empty_block_lies_at_most_16383_before(rt: HostRuntime) {
     let mut window = Window::new();
-    let mut blocks = Blocks::new();
-    window.next(0, &Text::new(), &mut blocks);
-    window.next(70000, &text_of(&rt, b"A"), &mut blocks);
-    expect_blocks(&rt, &blocks, &[(16383, b""), (16383, b""), (0, b"A")]);
+    window.keep(0, b"");
+    expect_blocks(&rt, &window, 70000, &[(16383, b""), (16383, b"")]);
+}
+
+#[test]
+fn three_generations_and_none(rt: HostRuntime) {
+    let mut three = Window::with(3);
+    three.keep(5000, b"H");
+    three.keep(5300, b"e");
+    three.keep(5600, b"y");
+    expect_blocks(&rt, &three, 5900, &[(900, b"H"), (600, b"e"), (300, b"y")]);
+    let mut none = Window::with(0);
+    none.keep(5000, b"H");
+    assert!(rt; !none.due());
+    expect_blocks(&rt, &none, 5300, &[]);
 }

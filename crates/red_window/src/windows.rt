@@ -1,46 +1,59 @@
 //! The window of one source.
-ghost use Rattle.std.specs.Prelude.{◌≡◌, ◌+◌, ◌%◌, ◌^◌, ◌<◌, ◌≤◌, ◌∷◌, ◌++◌, [], ℕ, List, length, All};
+ghost use Rattle.std.specs.Prelude.{◌≡◌, ◌+◌, ◌%◌, ◌^◌, ◌<◌, ◌≤◌, ◌∷◌, [], ℕ, List, length};
 
-use crate::kept::{KeptBlock, any_text, append_repeats, keep};
-use arrayvec::ArrayVec;
-use rtt_base::{Blocks, Text};
+use crate::kept::{KeptBlock, any_text};
+use red_blocks::{BlockView, OlderBlocks};
 use std::marker::Model;
 
-/// How many blocks of a source each packet repeats (RFC 4103, section 4: two generations are usual).
-const GENERATIONS: usize = 2;
+/// How many blocks of a source each packet repeats, where nothing else is said (RFC 4103, section 4).
+const USUAL: u8 = 2;
 
 /// What of one source was sent last: the blocks that its next packet repeats.
 #[derive(Debug, Drop)]
 pub struct Window {
+    /// So many of the places are used, in turn.
     generations: usize,
-    /// At most so many, newest first; one more while a block is put in.
-    kept: ArrayVec<KeptBlock, 4>,
+    /// The place of the oldest block, which the next one is written over.
+    oldest: usize,
+    places: [KeptBlock; 3],
 }
 
 impl Model for Window {
-    ghost use Rattle.std.specs.Prelude.{◌≤◌, length};
-    ghost use Rattle.red_window.specs.Kept.{Memory};
+    ghost use Rattle.std.specs.Prelude.{List, ◌≡◌, ◌<◌, ◌≤◌, length, take, max};
+    ghost use Rattle.red_window.specs.declared.kept.KeptBlock.{KeptBlock};
+    ghost use Rattle.red_window.specs.Kept.{in_turn};
 
-    ghost Value = { Memory };
+    ghost Value = { List KeptBlock };
 
-    ghost view = { λ w. record { gens = w.generations; kept = w.kept.items } };
+    ghost view = { λ w. in_turn w.oldest (take w.generations w.places) };
 
-    ghost invariant = { λ w. (w.generations ≤ 3) × (length w.kept.items ≤ w.generations) };
+    ghost invariant = { λ w. (w.generations ≤ 3) × (w.oldest < max 1 w.generations) × (length w.places ≡ 3) };
 }
 
 impl Window {
-    ghost use Rattle.stream_spec.specs.Own.{Sent, repeats, has_text_in};
-    ghost use Rattle.wire_spec.specs.Packets.{primary};
-    ghost use Rattle.red_window.specs.Kept.{IsWritable};
-    ghost use Rattle.red_window.specs.Standing.{StandsFor, MayFollow};
+    ghost use Rattle.stream_spec.specs.Own.{Sent, has_text_in};
+    ghost use Rattle.red_window.specs.Standing.{StandsFor};
 
-    /// A window of a source of which nothing was sent.
+    /// A window of two generations, of a source of which nothing was sent.
     pub fn new() -> Window
         ensures { (base : ℕ) → StandsFor 2 base result [] }
     {
+        Window::with(USUAL)
+    }
+
+    /// A window of so many generations, 0 to 3, of a source of which nothing was sent.
+    pub fn with(generations: u8) -> Window
+        requires { generations ≤ 3 }
+        ensures { (base : ℕ) → StandsFor generations base result [] }
+    {
         Window {
-            generations: GENERATIONS,
-            kept: ArrayVec::new(),
+            generations: usize::from(generations),
+            oldest: 0,
+            places: [
+                KeptBlock::default(),
+                KeptBlock::default(),
+                KeptBlock::default(),
+            ],
         }
     }
 
@@ -48,23 +61,46 @@ impl Window {
     pub fn due(&self) -> bool
         ensures { (g base : ℕ) (past : List Sent) → StandsFor g base self.now past → result ≡ has_text_in g past }
     {
-        any_text(self.kept.as_slice())
+        any_text(&self.places[..self.generations])
     }
 
-    /// Fills `out` with the blocks of the next packet of the source: the kept ones, oldest first, and then this text.
-    /// A copy of the text is kept in turn. Its timestamp is after that of the call before, less than 2^31 above that of the
-    /// first one, and at most 16383 ticks above that of each kept block with text.
-    pub fn next(&mut self, stamp: u32, text: &Text, out: &mut Blocks)
-        ensures blocks { (g base media : ℕ) (past : List Sent) → StandsFor g base self.old past → stamp ≡ (base + media) % 2 ^ 32 → MayFollow g media past
-            → out.new ≡ repeats g media past ++ primary text.now ∷ [] }
-        ensures count { (0 < length out.new) × (length out.new ≤ 4) }
-        ensures fits { All IsWritable out.new }
-        ensures stands { (g base : ℕ) (past : List Sent) (e : Sent) → StandsFor g base self.old past → stamp ≡ (base + e.media) % 2 ^ 32 → text.now ≡ e.text
+    /// Keeps a copy of the text of a packet with this timestamp, over the oldest block.
+    pub fn keep(&mut self, stamp: u32, text: &[u8])
+        requires { length text.now < 1024 }
+        ensures { (g base : ℕ) (past : List Sent) (e : Sent) → StandsFor g base self.old past → stamp ≡ (base + e.media) % 2 ^ 32 → text.now ≡ e.text
             → StandsFor g base self.new (e ∷ past) }
     {
-        out.clear();
-        append_repeats(self.kept.as_slice(), self.generations, stamp, out);
-        out.push_copy(0, text.as_slice());
-        keep(&mut self.kept, self.generations, stamp, text.as_slice());
+        if self.oldest < self.generations {
+            self.places[self.oldest].set(stamp, text);
+            self.oldest = if self.oldest + 1 == self.generations {
+                0
+            } else {
+                self.oldest + 1
+            };
+        }
+    }
+}
+
+impl OlderBlocks for Window {
+    ghost use Rattle.red_window.specs.Kept.{blocks_kept};
+
+    ghost blocks = { λ window stamp. blocks_kept stamp window };
+
+    fn len(&self) -> usize {
+        self.generations
+    }
+
+    fn block(&self, place: usize, stamp: u32) -> BlockView<'_> {
+        let behind = self.oldest + place;
+        let index = if behind < self.generations {
+            behind
+        } else {
+            behind - self.generations
+        };
+        let kept = &self.places[index];
+        BlockView {
+            offset: kept.offset(stamp),
+            text: kept.text.as_slice(),
+        }
     }
 }

@@ -7,7 +7,7 @@ mod writing;
 
 pub use headers::{RtpHead, RtpView};
 pub use reading::read_rtp;
-pub use writing::write_rtp;
+pub use writing::{write_header, write_rtp};
 
 #[cfg(test)]
 mod tests;

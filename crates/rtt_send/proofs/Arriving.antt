@@ -83,7 +83,7 @@ pairs_in : (conf : SendConf) (es : List Turned) (a : ℕ × Placed) → In a (pa
 pairs_in conf [] a i = absurd i
 pairs_in conf (e ∷ es) a i =
     let last : Placed = the_last (stream_of conf) (sents es) e.sent in
-    subst (λ (xs : List Placed). In a.1 xs) (sym (placed_grown (hist conf es) (entry_after 2 (sents es) e.sent))) (elim i [
+    subst (λ (xs : List Placed). In a.1 xs) (sym (placed_grown (hist conf es) (entry_after conf.gens (sents es) e.sent))) (elim i [
       | inl q ↦ in_right a.1 (placed (hist conf es)) (last ∷ []) (inl (ap (λ (x : ℕ × Placed). x.1) q))
       | inr j ↦ in_left a.1 (placed (hist conf es)) (last ∷ []) (pairs_in conf es a j)
     ])
@@ -99,11 +99,11 @@ come_is conf [] = refl
 come_is conf (e ∷ es) =
     ap (λ (p : Packet). let x : Arrival = record { time = e.at; packet = p } in x ∷ come_from (hist conf (e ∷ es)) (pairs conf es)) (last_packet (stream_of conf) (sents es) e.sent)
     ∙ ap (λ (ys : List Arrival). let x : Arrival = record { time = e.at; packet = packet_after (stream_of conf) (sents es) e.sent } in x ∷ ys)
-    (come_stays (hist conf es) (entry_after 2 (sents es) e.sent) (pairs conf es) (pairs_in conf es) ∙ come_is conf es)
+    (come_stays (hist conf es) (entry_after conf.gens (sents es) e.sent) (pairs conf es) (pairs_in conf es) ∙ come_is conf es)
 
 -- ---- each is near, and in time
 last_place : (conf : SendConf) (es : List Turned) (e : Turned) → (the_last (stream_of conf) (sents es) e.sent).place ≡ length es
-last_place conf es e = length_sent 2 (sents es) ∙ length_sents es
+last_place conf es e = length_sent conf.gens (sents es) ∙ length_sents es
 
 -- these are the first entries of a lawful history
 record Front (conf : SendConf) (h : History) (es : List Turned) : Type 0 where
@@ -226,14 +226,14 @@ places_are wait conf h (e ∷ es) f =
     let r = counted conf h es g in
     let number = r.next (own_packet h last).seq (seq_is conf h e es f) in
     let came = greatest_in_time wait (number_it (numbered past) a) (numbered past) (λ u i. let k = r.below u i in omega (arith, number)) in
-    let all = length_sent 2 (sents es) in
+    let all = length_sent conf.gens (sents es) in
     let size = length_sents es in
     let place = last_place conf es e in
     ap (λ b. cond b (by_place (entry_of h (own_packet h last)) (places wait h past)) (places wait h past)) came
     ∙ (ap (λ x. by_place x (places wait h past)) (named_is conf h e es f)
     ∙ (ap (by_place last) (places_are wait conf h es g)
     ∙ (by_place_last last (placed (hist conf es)) (λ y i. let k = place_under [] (hist conf es).entries y i in omega arith)
-    ∙ sym (placed_grown (hist conf es) (entry_after 2 (sents es) e.sent)))))
+    ∙ sym (placed_grown (hist conf es) (entry_after conf.gens (sents es) e.sent)))))
 
 -- ---- what a recording gives
 pub record Arrives (conf : SendConf) (lines : List ScriptLine) (t : ℕ) (past : List Arrival) : Type 0 where
@@ -247,7 +247,7 @@ came conf lines t k a l =
     let law = lawful_sent conf lines t k a l in
     let f : Front conf h es = record { law = law; first = refl; within = pairs_in conf es } in
     record {
-      come = subst (Come h) (come_is conf es) (own_come 2 h law (sent_own (stream_of conf) (sents es)) (pairs conf es) (near conf h es f));
+      come = subst (Come h) (come_is conf es) (own_come conf.gens h law (sent_own (stream_of conf) (sents es)) (pairs conf es) (near conf h es f));
       all = λ wait. subst (λ (xs : List Arrival). places wait h xs ≡ placed h) (come_is conf es) (places_are wait conf h es f);
     }
 
@@ -259,5 +259,5 @@ recording_arrives conf lines t k b a l early small =
     let script = script_through lines t a l in
     let is : arrivals_after conf.ssrc conf.pts [] (dump usual_limit (recording_sent conf lines t)).items ≡ arrivals_sent conf es =
     ap (λ (r : Recording). arrivals_after conf.ssrc conf.pts [] r.items) (items_back conf lines t k b a l early small)
-    ∙ arrive conf es (all_back conf (events_through lines t) k b script) (rises (stream_of conf) conf.interval (events_through lines t) (omega arith) (let m = k.least in omega arith) script) in
+    ∙ arrive conf es (all_back conf (events_through lines t) k b script) (rises (stream_of conf) conf.interval (events_through lines t) k.gens (let m = k.least in omega arith) script) in
     subst (Arrives conf lines t) (sym is) (came conf lines t k a l)

@@ -19,32 +19,34 @@ use Rattle.rtt_send.proofs.Fronts.{some_front}
 
 -- ---- the packets that are left, at most
 -- so many repeats are left of what was sent
-abbrev rank : List Sent → ℕ
-rank zs = cond (has_text_in 1 zs) 2 (cond (has_text_in 2 zs) 1 0)
+abbrev rank : ℕ → List Sent → ℕ
+rank zero zs = 0
+rank (suc g) zs = cond (has_text_in (suc g) zs) 1 0 + rank g zs
 
-abbrev weight : List Turned → List ℕ → ℕ
-weight es w = 4 * length w + rank (sents es)
+abbrev weight : ℕ → List Turned → List ℕ → ℕ
+weight g es w = 4 * length w + rank g (sents es)
 
-rank_le : (zs : List Sent) → rank zs ≤ 2
-rank_le zs = go (has_text_in 1 zs) (has_text_in 2 zs)
+rank_le : (g : ℕ) (zs : List Sent) → rank g zs ≤ g
+rank_le zero zs = omega arith
+rank_le (suc g) zs = let r = rank_le g zs in let c = go (has_text_in (suc g) zs) in omega (arith, r, c)
   where
-    go : (a b : Bool) → cond a 2 (cond b 1 0) ≤ 2
-    go true b = omega arith
-    go false true = omega arith
-    go false false = omega arith
-
-rank_falls : (e : Sent) (zs : List Sent) → has_text e.text ≡ false → has_text_in 2 zs ≡ true → rank (e ∷ zs) + 1 ≤ rank zs
-rank_falls e zs h two =
-    let one : has_text_in 1 (e ∷ zs) ≡ false = rw h refl in
-    let more : has_text_in 2 (e ∷ zs) ≡ has_text_in 1 zs = rw h refl in
-    let new : rank (e ∷ zs) ≡ cond (has_text_in 1 zs) 1 0 = ap (λ b. cond b 2 (cond (has_text_in 2 (e ∷ zs)) 1 0)) one ∙ ap (λ b. cond b 1 0) more in
-    let old : rank zs ≡ cond (has_text_in 1 zs) 2 1 = ap (λ b. cond (has_text_in 1 zs) 2 (cond b 1 0)) two in
-    let falls = go (has_text_in 1 zs) in
-    omega (arith, new, old, falls)
-  where
-    go : (b : Bool) → cond b 1 0 + 1 ≤ cond b 2 1
+    go : (b : Bool) → cond b 1 0 ≤ 1
     go true = omega arith
     go false = omega arith
+
+rank_after : (g : ℕ) (e : Sent) (zs : List Sent) → has_text e.text ≡ false → rank (suc g) (e ∷ zs) ≡ rank g zs
+rank_after zero e zs h = rw h refl
+rank_after (suc g) e zs h =
+    let more : has_text_in (suc (suc g)) (e ∷ zs) ≡ has_text_in (suc g) zs = rw h refl in
+    let r = rank_after g e zs h in
+    ap (λ b. cond b 1 0 + rank (suc g) (e ∷ zs)) more ∙ ap (λ n. cond (has_text_in (suc g) zs) 1 0 + n) r
+
+rank_falls : (g : ℕ) (e : Sent) (zs : List Sent) → has_text e.text ≡ false → has_text_in g zs ≡ true → rank g (e ∷ zs) + 1 ≤ rank g zs
+rank_falls zero e zs h d = cc d
+rank_falls (suc g) e zs h d =
+    let new = rank_after g e zs h in
+    let old : rank (suc g) zs ≡ 1 + rank g zs = ap (λ b. cond b 1 0 + rank g zs) d in
+    omega (arith, new, old)
 
 empty : (w : List ℕ) → length w ≡ 0 → has_text w ≡ false
 empty [] e = refl
@@ -62,23 +64,23 @@ front_short w = go (last_end w (min 1023 (length w))) w
     go (suc k) [] = omega arith
     go (suc k) (x ∷ xs) = let r = go k xs in omega arith
 
-weight_falls : (es : List Turned) (e : Turned) (w : List ℕ) → IsUtf8 w → e.sent.text ≡ front 1023 w → (has_text w || has_text_in 2 (sents es)) ≡ true
-    → weight (e ∷ es) (drop (length (front 1023 w)) w) + 1 ≤ weight es w
-weight_falls es e w u t h = go (has_text w) refl h
+weight_falls : (g : ℕ) (es : List Turned) (e : Turned) (w : List ℕ) → g ≤ 3 → IsUtf8 w → e.sent.text ≡ front 1023 w → (has_text w || has_text_in g (sents es)) ≡ true
+    → weight g (e ∷ es) (drop (length (front 1023 w)) w) + 1 ≤ weight g es w
+weight_falls g es e w m u t h = go (has_text w) refl h
   where
-    go : (b : Bool) → has_text w ≡ b → (b || has_text_in 2 (sents es)) ≡ true → weight (e ∷ es) (drop (length (front 1023 w)) w) + 1 ≤ weight es w
+    go : (b : Bool) → has_text w ≡ b → (b || has_text_in g (sents es)) ≡ true → weight g (e ∷ es) (drop (length (front 1023 w)) w) + 1 ≤ weight g es w
     go true q d =
         let some = some_front w u q in
         let size = length-drop (length (front 1023 w)) w in
         let short = front_short w in
-        let new = rank_le (sents (e ∷ es)) in
+        let new = rank_le g (sents (e ∷ es)) in
         omega (arith, some, size, short, new)
     go false q d =
         let none = no_octets w q in
         let short = front_short w in
         let no : has_text e.sent.text ≡ false = ap has_text t ∙ empty (front 1023 w) (omega arith) in
         let size = length-drop (length (front 1023 w)) w in
-        let falls = rank_falls e.sent (sents es) no d in
+        let falls = rank_falls g e.sent (sents es) no d in
         omega (arith, size, falls)
 
 -- ---- the milliseconds that are left, at most
@@ -87,7 +89,7 @@ remaining interval [] t = 0
 remaining interval (e ∷ es) t = (e.at + interval) - t
 
 abbrev potential : SendConf → List Event → ℕ → ℕ
-potential conf past t = 1000 * weight (sent_by conf past) (waits_for conf past) + remaining conf.interval (sent_by conf past) t
+potential conf past t = 1000 * weight conf.gens (sent_by conf past) (waits_for conf past) + remaining conf.interval (sent_by conf past) t
 
 and_more : (a b : Bool) → a ≡ true → (a && b) ≡ false → b ≡ false
 and_more true b h d = d
@@ -114,13 +116,13 @@ ask_falls conf past t k u = go (due_at (stream_of conf) conf.interval past t) re
         let es = sent_by conf past in
         let w = waits_for conf past in
         let e = entry_at c es w t in
-        let falls = weight_falls es e w u refl (and_first (has_more conf past) (has_passed conf.interval es t) d) in
-        let is : potential conf (Ask t ∷ past) (suc t) ≡ 1000 * weight (e ∷ es) (drop (length (front 1023 w)) w) + ((t + conf.interval) - suc t) =
-        ap (λ (fs : List Turned). 1000 * weight fs (waits_for conf (Ask t ∷ past)) + remaining conf.interval fs (suc t)) (entries_more c conf.interval past t d)
-        ∙ ap (λ (v : List ℕ). 1000 * weight (e ∷ es) v + ((t + conf.interval) - suc t)) (waits_less c conf.interval past t d) in
+        let falls = weight_falls conf.gens es e w k.gens u refl (and_first (has_more conf past) (has_passed conf.interval es t) d) in
+        let is : potential conf (Ask t ∷ past) (suc t) ≡ 1000 * weight conf.gens (e ∷ es) (drop (length (front 1023 w)) w) + ((t + conf.interval) - suc t) =
+        ap (λ (fs : List Turned). 1000 * weight conf.gens fs (waits_for conf (Ask t ∷ past)) + remaining conf.interval fs (suc t)) (entries_more c conf.interval past t d)
+        ∙ ap (λ (v : List ℕ). 1000 * weight conf.gens (e ∷ es) v + ((t + conf.interval) - suc t)) (waits_less c conf.interval past t d) in
         let l = k.least in
         let m = k.most in
-        below (potential conf (Ask t ∷ past) (suc t)) (weight (e ∷ es) (drop (length (front 1023 w)) w)) (weight es w) (remaining conf.interval es t) t conf.interval is falls l m
+        below (potential conf (Ask t ∷ past) (suc t)) (weight conf.gens (e ∷ es) (drop (length (front 1023 w)) w)) (weight conf.gens es w) (remaining conf.interval es t) t conf.interval is falls l m
       where
         below : (p new old rest s i : ℕ) → p ≡ 1000 * new + ((s + i) - suc s) → new + 1 ≤ old → 100 ≤ i → i ≤ 1000 → p + 1 ≤ 1000 * old + rest
         below p new old rest s i q f l m = omega arith
@@ -130,11 +132,11 @@ ask_falls conf past t k u = go (due_at (stream_of conf) conf.interval past t) re
     rests d b h =
         let same = idle conf past t d in
         let more : has_more conf (Ask t ∷ past) ≡ has_more conf past =
-        ap (λ (w : List ℕ). has_text w || has_text_in 2 (sents (sent_by conf (Ask t ∷ past)))) same.waits
-        ∙ ap (λ (es : List Turned). has_text (waits_for conf past) || has_text_in 2 (sents es)) same.sent in
+        ap (λ (w : List ℕ). has_text w || has_text_in conf.gens (sents (sent_by conf (Ask t ∷ past)))) same.waits
+        ∙ ap (λ (es : List Turned). has_text (waits_for conf past) || has_text_in conf.gens (sents es)) same.sent in
         let is : potential conf (Ask t ∷ past) (suc t) ≡ potential conf past (suc t) =
-        ap (λ (w : List ℕ). 1000 * weight (sent_by conf (Ask t ∷ past)) w + remaining conf.interval (sent_by conf (Ask t ∷ past)) (suc t)) same.waits
-        ∙ ap (λ (es : List Turned). 1000 * weight es (waits_for conf past) + remaining conf.interval es (suc t)) same.sent in
+        ap (λ (w : List ℕ). 1000 * weight conf.gens (sent_by conf (Ask t ∷ past)) w + remaining conf.interval (sent_by conf (Ask t ∷ past)) (suc t)) same.waits
+        ∙ ap (λ (es : List Turned). 1000 * weight conf.gens es (waits_for conf past) + remaining conf.interval es (suc t)) same.sent in
         case b h more is
       where
         case : (b : Bool) → has_more conf past ≡ b → has_more conf (Ask t ∷ past) ≡ has_more conf past → potential conf (Ask t ∷ past) (suc t) ≡ potential conf past (suc t)
@@ -142,7 +144,7 @@ ask_falls conf past t k u = go (due_at (stream_of conf) conf.interval past t) re
         case false q more is = inl (more ∙ q)
         case true q more is =
             let late = waits_on conf.interval (sent_by conf past) t (and_more (has_more conf past) (has_passed conf.interval (sent_by conf past) t) q d) in
-            inr (sum (potential conf (Ask t ∷ past) (suc t)) (weight (sent_by conf past) (waits_for conf past)) (remaining conf.interval (sent_by conf past) (suc t)) (remaining conf.interval (sent_by conf past) t) is late)
+            inr (sum (potential conf (Ask t ∷ past) (suc t)) (weight conf.gens (sent_by conf past) (waits_for conf past)) (remaining conf.interval (sent_by conf past) (suc t)) (remaining conf.interval (sent_by conf past) t) is late)
           where
             sum : (p n a b : ℕ) → p ≡ 1000 * n + a → a + 1 ≤ b → p + 1 ≤ 1000 * n + b
             sum p n a b q l = omega arith
@@ -184,8 +186,8 @@ left_at conf lines now (suc k) c s a l m =
         still : (past : List Event) → has_more conf past ≡ false → has_more conf (Ask k ∷ past) ≡ false
         still past none =
             let same = idle conf past k (no_more conf past k none) in
-            ap (λ (w : List ℕ). has_text w || has_text_in 2 (sents (sent_by conf (Ask k ∷ past)))) same.waits
-            ∙ (ap (λ (es : List Turned). has_text (waits_for conf past) || has_text_in 2 (sents es)) same.sent ∙ none)
+            ap (λ (w : List ℕ). has_text w || has_text_in conf.gens (sents (sent_by conf (Ask k ∷ past)))) same.waits
+            ∙ (ap (λ (es : List Turned). has_text (waits_for conf past) || has_text_in conf.gens (sents es)) same.sent ∙ none)
     next past script (inr some) = elim (ask_falls conf past k c (waits_utf8 (stream_of conf) conf.interval past script)) [
       | inl none ↦ inl none
       | inr falls ↦ inr (later (potential conf (Ask k ∷ past) (suc k)) (potential conf past k) (potential conf (events_until lines now) now) k now falls some)
@@ -203,11 +205,11 @@ ends_by conf lines now n c s a room early late top =
       | inl none ↦ none
       | inr p ↦ (
           let past = events_until lines now in
-          let pace = paced (stream_of conf) conf.interval past (omega arith) (let l = c.least in omega arith) s in
+          let pace = paced (stream_of conf) conf.interval past c.gens (let l = c.least in omega arith) s in
           let asked = asked_until lines now in
           let rest = recent conf past now (sent_by conf past) refl (λ e i. let r = pace.early e i in (r.0, omega (arith, r.1))) in
-          absurd (too_long (potential conf (events_before lines (suc n)) (suc n)) (potential conf past now) (length (waits_for conf past)) (rank (sents (sent_by conf past))) (remaining conf.interval (sent_by conf past) now) conf.interval n now refl (rank_le (sents (sent_by conf past))) rest c.most room early late p))
+          absurd (too_long (potential conf (events_before lines (suc n)) (suc n)) (potential conf past now) (length (waits_for conf past)) (rank conf.gens (sents (sent_by conf past))) (remaining conf.interval (sent_by conf past) now) conf.interval n now refl (let few = rank_le conf.gens (sents (sent_by conf past)) in let most = c.gens in omega (arith, few, most)) rest c.most room early late p))
     ])
   where
-    too_long : (p q w r m i n now : ℕ) → q ≡ 1000 * (4 * w + r) + m → r ≤ 2 → m ≤ i → i ≤ 1000 → w ≤ 16384 → now ≤ 14400000 → 79999999 ≤ n → p + suc n ≤ q + now → ⊥
+    too_long : (p q w r m i n now : ℕ) → q ≡ 1000 * (4 * w + r) + m → r ≤ 3 → m ≤ i → i ≤ 1000 → w ≤ 16384 → now ≤ 14400000 → 79999999 ≤ n → p + suc n ≤ q + now → ⊥
     too_long p q w r m i n now e a b d f g h l = omega arith

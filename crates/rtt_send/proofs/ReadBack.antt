@@ -12,7 +12,7 @@ use Rattle.wire_spec.specs.Rtp.{Head, FitsHeader, rtp_written}
 use Rattle.wire_spec.specs.Red.{IsText, IsRedundant, FitsRed, red_written}
 use Rattle.wire_spec.specs.Text.{text_of}
 use Rattle.wire_spec.specs.Dump.{FitsRecord, dump, sent_item, usual_limit}
-use Rattle.wire_spec.proofs.WholePackets.{text_read_back}
+use Rattle.wire_spec.proofs.SentBack.{sent_back}
 use Rattle.wire_spec.proofs.Recordings.{read_back}
 use Rattle.file_spec.specs.Script.{ScriptLine}
 use Rattle.stream_spec.specs.Lists.{In}
@@ -22,50 +22,14 @@ use Rattle.stream_spec.specs.Typed.{Event, Turned, sents, IsScript}
 use Rattle.stream_spec.proofs.Grows.{grown, placed_grown, before_grown, window_grown}
 use Rattle.stream_spec.proofs.Sent.{the_last, last_packet, in_sent_of}
 use Rattle.stream_spec.proofs.Typing.{paced}
-use Rattle.red_window.specs.Kept.{IsWritable}
 use Rattle.text_sender.specs.declared.senders.SendConf.{SendConf}
 use Rattle.text_sender.specs.Confs.{IsConf, stream_of}
 use Rattle.text_sender.specs.Standing.{sent_by, history_sent}
 use Rattle.wire_spec.specs.SentPackets.{csrc_of, packet_written}
-use Rattle.text_sender.proofs.Sizes.{few_octets}
+use Rattle.red_window.proofs.Fitting.{packet_fits, few_octets}
 use Rattle.rtt_send.specs.Scripts.{AreLines, events_through}
 use Rattle.rtt_send.specs.Recordings.{records_of, records_sent, recording_sent}
 use Rattle.rtt_send.proofs.Typed.{script_through}
-
--- ---- the blocks of a packet
-take_in : (n : ℕ) (zs : List Sent) (z : Sent) → In z (take n zs) → In z zs
-take_in zero zs z i = absurd i
-take_in (suc n) [] z i = absurd i
-take_in (suc n) (y ∷ zs) z (inl q) = inl q
-take_in (suc n) (y ∷ zs) z (inr i) = inr (take_in n zs z i)
-
-nth_in : (n k : ℕ) (zs : List Sent) (z : Sent) → k < n → nth k zs ≡ Some z → In z (take n zs)
-nth_in zero k zs z l e = absurd (omega arith)
-nth_in (suc n) k [] z l e = cc e
-nth_in (suc n) zero (y ∷ zs) z l e = inl (let q : y ≡ z = cc e in sym q)
-nth_in (suc n) (suc k) (y ∷ zs) z l e = inr (nth_in n k zs z (omega arith) e)
-
-text_sent : (c : Stream) (zs : List Sent) (z : Sent) → Sendable c zs → In z zs → (length z.text ≤ 1023) × IsUtf8 z.text
-text_sent c [] z s i = absurd i
-text_sent c (y ∷ zs) z s (inl q) = subst (λ (x : Sent). (length x.text ≤ 1023) × IsUtf8 x.text) (sym q) s.0.text
-text_sent c (y ∷ zs) z s (inr i) = text_sent c zs z s.1 i
-
-redundant_is : (media : ℕ) (o : Option Sent) → ((z : Sent) → o ≡ Some z → (length z.text ≤ 1023) × IsUtf8 z.text × (has_text z.text ≡ true → media ≤ z.media + 16383)) → IsRedundant (repeat_of media o)
-redundant_is media None f = (omega arith, (omega arith, IsUtf8-nil))
-redundant_is media (Some z) f = let t = f z refl in (go (has_text z.text) t.2, (omega (arith, t.0), t.1))
-  where
-    go : (b : Bool) → (b ≡ true → media ≤ z.media + 16383) → cond b (media - z.media) (min 16383 (media - z.media)) < 2 ^ 14
-    go true n = let l = n refl in omega arith
-    go false n = omega arith
-
-block_is : (c : Stream) (zs : List Sent) (e : Sent) (k : ℕ) → c.gens ≡ 2 → MaySend c zs e → Sendable c zs → k < 2 → IsRedundant (repeat_of e.media (nth k (sent_of e.source zs)))
-block_is c zs e k two m s l = redundant_is e.media (nth k (sent_of e.source zs)) (λ z q.
-    let i = nth_in 2 k (sent_of e.source zs) z l q in
-    let t = text_sent c zs z s (in_sent_of e.source zs z (take_in 2 (sent_of e.source zs) z i)).0 in
-    (t.0, t.1, λ h. m.near z (subst (λ g. In z (take g (sent_of e.source zs))) (sym two) i) h))
-
-writable : (b : TextBlock) → IsRedundant b → IsWritable b
-writable b r = record { offset = r.0; size = r.1.0 }
 
 -- ---- a packet
 pub record IsBack (conf : SendConf) (p : Packet) : Type 0 where
@@ -73,33 +37,15 @@ pub record IsBack (conf : SendConf) (p : Packet) : Type 0 where
   pub some : 0 < length (packet_written conf.pts p)
   pub few : length (packet_written conf.pts p) ≤ 4224
 
-same_source : (p : Packet) → p.source ≡ p.ssrc → csrc_of p ≡ None
-same_source p e = let same : (p.source == p.ssrc) ≡ true = grind (arith, nat_tests) in rw same refl
-
--- the stream's own header
-abbrev own_head : SendConf → Packet → Head
-own_head conf p = record { mark = p.mark; pt = conf.pts.red; seq = p.seq; stamp = p.stamp; ssrc = p.ssrc; csrc = None }
-
-packet_back : (conf : SendConf) (zs : List Sent) (e : Sent) → IsConf conf → conf.ssrc < 2 ^ 32 → e.source ≡ conf.ssrc → MaySend (stream_of conf) zs e → Sendable (stream_of conf) zs
+packet_back : (conf : SendConf) (zs : List Sent) (e : Sent) → IsConf conf → conf.ssrc < 2 ^ 32 → e.source ≡ conf.ssrc → Sendable (stream_of conf) (e ∷ zs)
     → IsBack conf (packet_after (stream_of conf) zs e)
-packet_back conf zs e k ssrc own m s =
+packet_back conf zs e k ssrc own s =
     let c = stream_of conf in
     let p : Packet = packet_after c zs e in
-    let first = block_is c zs e 1 refl m s (omega arith) in
-    let second = block_is c zs e 0 refl m s (omega arith) in
-    let last : IsText e.text = (omega (arith, m.text.0), m.text.1) in
-    let fits : FitsRed (blocks_of p) conf.pts = record { all = refl; few = omega arith; each = (first, (second, tt)); is_text = last; t140 = k.t140; differ = k.differ } in
-    let head : FitsHeader (own_head conf p) = record { pt = k.red; seq = omega arith; stamp = omega arith; ssrc = ssrc; csrc = tt } in
-    let written : packet_written conf.pts p ≡ rtp_written (own_head conf p) (red_written (blocks_of p) conf.pts) = ap (λ (o : Option ℕ). rtp_written (record { mark = p.mark; pt = conf.pts.red; seq = p.seq; stamp = p.stamp; ssrc = p.ssrc; csrc = o }) (red_written (blocks_of p) conf.pts)) (same_source p own) in
-    let size = few_octets (blocks_of p) conf.pts (omega arith) (omega arith) (All-from_recursion IsWritable (blocks_of p) (writable _ first, (writable _ second, ((let w : IsWritable (primary e.text) = record { offset = omega arith; size = last.0 } in w), tt)))) in
-    let few : length (rtp_written (own_head conf p) (red_written (blocks_of p) conf.pts)) ≤ 4224 = omega (arith, size) in
+    let fits = packet_fits conf.pts c zs e k.t140 k.red k.differ k.gens ssrc (omega (arith, own, ssrc)) s in
+    let few = few_octets conf.pts c zs e k.gens s in
     let asked : (p.ssrc == conf.ssrc) ≡ true = grind (arith, nat_tests) in
-    let read = text_read_back (own_head conf p) (blocks_of p) (Some conf.ssrc) conf.pts head refl fits asked few in
-    record {
-      text_is = ap (λ (xs : List ℕ). text_of xs (Some conf.ssrc) conf.pts) written ∙ (read ∙ ap (λ (n : ℕ). let q : Result Packet TextFault = Ok (record { mark = p.mark; seq = p.seq; stamp = p.stamp; ssrc = p.ssrc; source = n; older = p.older; primary = p.primary }) in q) (sym own));
-      some = subst (λ (xs : List ℕ). 0 < length xs) (sym written) (omega arith);
-      few = subst (λ (xs : List ℕ). length xs ≤ 4224) (sym written) few;
-    }
+    record { text_is = sent_back conf.pts p (Some conf.ssrc) fits asked few; some = omega arith; few = few }
 
 -- ---- all packets
 abbrev pub Backs : SendConf → List Turned → Type 0
@@ -108,11 +54,11 @@ Backs conf (e ∷ es) = IsBack conf (packet_after (stream_of conf) (sents es) e.
 
 backs : (conf : SendConf) (es : List Turned) → IsConf conf → conf.ssrc < 2 ^ 32 → ((z : Sent) → In z (sents es) → z.source ≡ conf.ssrc) → Sendable (stream_of conf) (sents es) → Backs conf es
 backs conf [] k b own s = tt
-backs conf (e ∷ es) k b own s = (packet_back conf (sents es) e.sent k b (own e.sent (inl refl)) s.0 s.1, backs conf es k b (λ z i. own z (inr i)) s.1)
+backs conf (e ∷ es) k b own s = (packet_back conf (sents es) e.sent k b (own e.sent (inl refl)) s, backs conf es k b (λ z i. own z (inr i)) s.1)
 
 pub all_back : (conf : SendConf) (past : List Event) → IsConf conf → conf.ssrc < 2 ^ 32 → IsScript past → Backs conf (sent_by conf past)
 all_back conf past k b s =
-    let p = paced (stream_of conf) conf.interval past (omega arith) (let l = k.least in omega arith) s in
+    let p = paced (stream_of conf) conf.interval past k.gens (let l = k.least in omega arith) s in
     backs conf (sent_by conf past) k b (λ z i. (in_sent_of conf.ssrc (sents (sent_by conf past)) z (subst (λ (zs : List Sent). In z zs) (sym p.own) i)).1) p.sendable
 
 -- ---- the own packets of the history

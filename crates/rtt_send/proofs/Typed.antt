@@ -74,7 +74,7 @@ all_typed lines t o e =
 pub lawful_sent : (conf : SendConf) (lines : List ScriptLine) (t : ℕ) → IsConf conf → AreLines lines → t < 2 ^ 31 → Lawful (history_sent conf (events_through lines t))
 lawful_sent conf lines t k a l = lawful conf (events_through lines t) k (script_through lines t a l)
 
-pub closed_sent : (conf : SendConf) (lines : List ScriptLine) (t : ℕ) → IsConf conf → AreLines lines → t < 2 ^ 31 → IsEnd conf lines t → Closed 2 (history_sent conf (events_through lines t))
+pub closed_sent : (conf : SendConf) (lines : List ScriptLine) (t : ℕ) → IsConf conf → AreLines lines → t < 2 ^ 31 → IsEnd conf lines t → Closed conf.gens (history_sent conf (events_through lines t))
 closed_sent conf lines t k a l e = end_closed conf (events_through lines t) k (script_through lines t a l) e.all_sent
 
 pub texts_sent : (conf : SendConf) (lines : List ScriptLine) (t : ℕ) → AreLines lines → IsEnd conf lines t → primaries (history_sent conf (events_through lines t)) ≡ texts lines

@@ -31,9 +31,9 @@ pub fn ends_agree()
 pub fn sent_history()
     ensures lawful { (conf : SendConf) (lines : List ScriptLine) (t : ℕ) → IsConf conf → AreLines lines → t < 2 ^ 31
         → Lawful (history_sent conf (events_through lines t)) }
-    ensures own { (conf : SendConf) (lines : List ScriptLine) (t : ℕ) → Own 2 (history_sent conf (events_through lines t)) }
+    ensures own { (conf : SendConf) (lines : List ScriptLine) (t : ℕ) → Own conf.gens (history_sent conf (events_through lines t)) }
     ensures closed { (conf : SendConf) (lines : List ScriptLine) (t : ℕ) → IsConf conf → AreLines lines → t < 2 ^ 31 → IsEnd conf lines t
-        → Closed 2 (history_sent conf (events_through lines t)) }
+        → Closed conf.gens (history_sent conf (events_through lines t)) }
     ensures texts { (conf : SendConf) (lines : List ScriptLine) (t : ℕ) → AreLines lines → IsEnd conf lines t
         → primaries (history_sent conf (events_through lines t)) ≡ texts lines }
 {}

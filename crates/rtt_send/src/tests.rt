@@ -18,6 +18,7 @@ fn conf() -> SendConf
         stamp: 0,
         pts: Pts { t140: 98, red: 100 },
         interval: 300,
+        gens: 2,
     }
 }
 

@@ -11,7 +11,7 @@ use Rattle.rtt_send.proofs.Typed.{lawful_sent, closed_sent, texts_sent}
 use Rattle.rtt_top.specs.Tasks.{send_conf, IsSent}
 
 usual_conf : (s : SendWords) → IsConf (send_conf s)
-usual_conf s = record { least = omega arith; most = omega arith; t140 = omega arith; red = omega arith; differ = λ e. omega arith }
+usual_conf s = record { least = omega arith; most = omega arith; t140 = omega arith; red = omega arith; gens = omega arith; differ = λ e. omega arith }
 
 pub is_sent : (s : SendWords) (octets file : List ℕ) (lines : List ScriptLine) → script octets ≡ Ok lines → AreLines lines
     → ((t : ℕ) → IsEnd (send_conf s) lines t → file ≡ recording_sent (send_conf s) lines t) → ((t : ℕ) × IsEnd (send_conf s) lines t × (t < 2 ^ 31)) → IsSent s octets file

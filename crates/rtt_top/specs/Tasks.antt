@@ -22,9 +22,9 @@ use Rattle.rtt_send.specs.Recordings.{recording_sent}
 abbrev pub read_conf : ReadWords → ReadConf
 read_conf r = record { ssrc = r.ssrc; source = r.source; pts = r.pts }
 
--- the sender of a script: at most one packet in 300 ms, under the usual payload types
+-- the sender of a script: at most one packet in 300 ms, each text repeated twice, under the usual payload types
 abbrev pub send_conf : SendWords → SendConf
-send_conf s = record { ssrc = s.ssrc; seq = s.seq; stamp = s.stamp; pts = usual_pts; interval = 300 }
+send_conf s = record { ssrc = s.ssrc; seq = s.seq; stamp = s.stamp; pts = usual_pts; interval = 300; gens = 2 }
 
 -- the file that a command reads
 abbrev pub input_of : Command → List ℕ

@@ -69,6 +69,7 @@ pub fn recording_of<'a, W: World>(
         stamp: words.stamp,
         pts: Pts { t140: 98, red: 100 },
         interval: 300,
+        gens: 2,
     };
     match send_script(alloc, &script, conf) {
         Ok(octets) => Ok(octets),

@@ -1,4 +1,3 @@
 pub mod Fronts
-pub mod Sizes
 pub mod Sending
 pub mod Scripts

@@ -28,12 +28,12 @@ carried_is g [] = refl
 carried_is g (e ∷ es) = one_text (entries_sent g (sents es)) (entry_after g (sents es) e.sent) ∙ ap (λ (xs : List ℕ). xs ++ e.sent.text) (carried_is g es)
 
 pub all_sent : (conf : SendConf) (past : List Event) → typed past ≡ primaries (history_sent conf past) ++ waits_for conf past
-all_sent conf past = typed_is (stream_of conf) conf.interval past ∙ ap (λ (xs : List ℕ). xs ++ waits_for conf past) (sym (carried_is 2 (sent_by conf past)))
+all_sent conf past = typed_is (stream_of conf) conf.interval past ∙ ap (λ (xs : List ℕ). xs ++ waits_for conf past) (sym (carried_is conf.gens (sent_by conf past)))
 
 pub lawful : (conf : SendConf) (past : List Event) → IsConf conf → IsScript past → Lawful (history_sent conf past)
-lawful conf past k s = sent_lawful (stream_of conf) (sents (sent_by conf past)) (omega arith) (paced (stream_of conf) conf.interval past (omega arith) (let l = k.least in omega arith) s).sendable
+lawful conf past k s = sent_lawful (stream_of conf) (sents (sent_by conf past)) k.gens (paced (stream_of conf) conf.interval past k.gens (let l = k.least in omega arith) s).sendable
 
-pub own : (conf : SendConf) (past : List Event) → Own 2 (history_sent conf past)
+pub own : (conf : SendConf) (past : List Event) → Own conf.gens (history_sent conf past)
 own conf past = sent_own (stream_of conf) (sents (sent_by conf past))
 
 pub own_packets : (conf : SendConf) (past : List Event) (t : ℕ) → due_at (stream_of conf) conf.interval past t ≡ true
@@ -62,16 +62,16 @@ empty (x ∷ w) h = cc h
 
 pub end_sent : (conf : SendConf) (past : List Event) → has_more conf past ≡ false → typed past ≡ primaries (history_sent conf past)
 end_sent conf past h =
-    let n = or_none (has_text (waits_for conf past)) (has_text_in 2 (sents (sent_by conf past))) h in
+    let n = or_none (has_text (waits_for conf past)) (has_text_in conf.gens (sents (sent_by conf past))) h in
     all_sent conf past ∙ (ap (λ (xs : List ℕ). primaries (history_sent conf past) ++ xs) (empty (waits_for conf past) n.0) ∙ nil (primaries (history_sent conf past)))
 
-pub end_closed : (conf : SendConf) (past : List Event) → IsConf conf → IsScript past → has_more conf past ≡ false → Closed 2 (history_sent conf past)
+pub end_closed : (conf : SendConf) (past : List Event) → IsConf conf → IsScript past → has_more conf past ≡ false → Closed conf.gens (history_sent conf past)
 end_closed conf past k s h =
-    let n = or_none (has_text (waits_for conf past)) (has_text_in 2 (sents (sent_by conf past))) h in
-    let p = paced (stream_of conf) conf.interval past (omega arith) (let l = k.least in omega arith) s in
+    let n = or_none (has_text (waits_for conf past)) (has_text_in conf.gens (sents (sent_by conf past))) h in
+    let p = paced (stream_of conf) conf.interval past k.gens (let l = k.least in omega arith) s in
     sent_closed (stream_of conf) (sents (sent_by conf past))
     (λ z i. let q = in_sent_of conf.ssrc (sents (sent_by conf past)) z (subst (λ (zs : List Sent). In z zs) (sym p.own) i) in
-    ap (λ m. has_text_in 2 (sent_of m (sents (sent_by conf past)))) q.1 ∙ (ap (λ (zs : List Sent). has_text_in 2 zs) p.own ∙ n.1))
+    ap (λ m. has_text_in conf.gens (sent_of m (sents (sent_by conf past)))) q.1 ∙ (ap (λ (zs : List Sent). has_text_in conf.gens zs) p.own ∙ n.1))
 
 passed_from : (interval : ℕ) (es : List Turned) (m t : ℕ) → next_at interval es ≡ Some m → has_passed interval es t ≡ nat_le m t
 passed_from interval [] m t e = cc e
@@ -101,8 +101,8 @@ none_due conf past t e = go (has_more conf (Ask t ∷ past)) refl
         let same = entries_same c conf.interval past t d in
         let none : sent_by conf past ≡ [] = sym same ∙ q in
         let less : has_more conf past ≡ false = sym (ap (λ (es : List Turned). has_more conf past && has_passed conf.interval es t) none ∙ and_true (has_more conf past)) ∙ d in
-        ap (λ (w : List ℕ). has_text w || has_text_in 2 (sents (sent_by conf (Ask t ∷ past)))) (waits_same c conf.interval past t d)
-        ∙ (ap (λ (es : List Turned). has_text (waits_for conf past) || has_text_in 2 (sents es)) same ∙ less)
+        ap (λ (w : List ℕ). has_text w || has_text_in conf.gens (sents (sent_by conf (Ask t ∷ past)))) (waits_same c conf.interval past t d)
+        ∙ (ap (λ (es : List Turned). has_text (waits_for conf past) || has_text_in conf.gens (sents es)) same ∙ less)
 
     by_due : (b : Bool) → due_at (stream_of conf) conf.interval past t ≡ b → sent_by conf (Ask t ∷ past) ≡ [] → has_more conf (Ask t ∷ past) ≡ false
     by_due true d q = let more = entries_more (stream_of conf) conf.interval past t d in cc (more, q)

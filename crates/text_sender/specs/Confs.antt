@@ -3,14 +3,15 @@ use Rattle.std.specs.Prelude.{◌<◌, ◌≤◌, ◌^◌, ◌≢◌}
 use Rattle.stream_spec.specs.Own.{Stream}
 use Rattle.text_sender.specs.declared.senders.SendConf.{SendConf}
 
--- the stream, with two generations
+-- the stream
 abbrev pub stream_of : SendConf → Stream
-stream_of conf = record { ssrc = conf.ssrc; first = conf.seq; base = conf.stamp; gens = 2 }
+stream_of conf = record { ssrc = conf.ssrc; first = conf.seq; base = conf.stamp; gens = conf.gens }
 
--- the interval is 100 to 1000 ms, and the payload types fit in seven bits and differ
+-- the interval is 100 to 1000 ms, there are at most three generations, and the payload types fit in seven bits and differ
 pub record IsConf (conf : SendConf) : Type 0 where
   pub least : 100 ≤ conf.interval
   pub most : conf.interval ≤ 1000
   pub t140 : conf.pts.t140 < 2 ^ 7
   pub red : conf.pts.red < 2 ^ 7
+  pub gens : conf.gens ≤ 3
   pub differ : conf.pts.t140 ≢ conf.pts.red

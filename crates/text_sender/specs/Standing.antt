@@ -1,6 +1,7 @@
 -- What a sender stands for: a script, and the packets that it tells.
 use Rattle.std.specs.Prelude.{◌≡◌, ℕ, ◌+◌, ◌%◌, Bool, Option, None, Some, List, [], ◌∷◌, length}
 use Rattle.stream_spec.specs.History.{History}
+use Rattle.stream_spec.specs.Own.{has_text_in}
 use Rattle.stream_spec.specs.Typed as script
 use Rattle.stream_spec.specs.Typed.{Event, Turned, IsScript, sents, entries, waiting, next_due, history_typed}
 use Rattle.red_window.specs.Standing as window
@@ -38,6 +39,7 @@ pub record StandsFor (conf : SendConf) (s : State) (past : List Event) : Type 0 
   pub script : IsScript past
   pub conf_is : s.conf ≡ conf
   pub waits : s.waits ≡ waits_for conf past
-  pub window : window.StandsFor 2 conf.stamp s.window (sents (sent_by conf past))
+  pub window : window.StandsFor conf.gens conf.stamp s.window (sents (sent_by conf past))
+  pub spoke : s.spoke ≡ has_text_in 1 (sents (sent_by conf past))
   pub seq : s.seq ≡ (conf.seq + length (sent_by conf past)) % 65536
   pub last : s.last ≡ last_of (sent_by conf past)

@@ -13,10 +13,10 @@ pub fn all_is_sent_in_order()
     ensures { (conf : SendConf) (past : List Event) → typed past ≡ primaries (history_sent conf past) ++ waits_for conf past }
 {}
 
-/// What is sent is a lawful history, each entry of which has two generations.
+/// What is sent is a lawful history, each entry of which has the sender's generations.
 pub fn history_is_lawful()
     ensures lawful { (conf : SendConf) (past : List Event) → IsConf conf → IsScript past → Lawful (history_sent conf past) }
-    ensures own { (conf : SendConf) (past : List Event) → Own 2 (history_sent conf past) }
+    ensures own { (conf : SendConf) (past : List Event) → Own conf.gens (history_sent conf past) }
 {}
 
 /// The packet of an ask is that of the last entry of the history with this ask.
@@ -26,10 +26,11 @@ pub fn packets_are_own()
         × (packet_at (stream_of conf) conf.interval past t ≡ Some (own_packet (history_sent conf (Ask t ∷ past)) x)) }
 {}
 
-/// Where nothing waits and nothing is left to be repeated, all that was typed was sent, and each text was repeated twice.
+/// Where nothing waits and nothing is left to be repeated, all that was typed was sent, and each text was
+/// repeated as often as it is to be.
 pub fn end_is_closed()
     ensures sent { (conf : SendConf) (past : List Event) → has_more conf past ≡ Bool.false → typed past ≡ primaries (history_sent conf past) }
-    ensures closed { (conf : SendConf) (past : List Event) → IsConf conf → IsScript past → has_more conf past ≡ Bool.false → Closed 2 (history_sent conf past) }
+    ensures closed { (conf : SendConf) (past : List Event) → IsConf conf → IsScript past → has_more conf past ≡ Bool.false → Closed conf.gens (history_sent conf past) }
 {}
 
 /// From the moment that `next_due` names a packet is due, and not before. Where it names none after an ask, nothing

@@ -1,10 +1,9 @@
-//! A sender of typed text (RFC 4103): it puts what is typed into packets, each text with two generations of repeats.
+//! A sender of typed text (RFC 4103): it puts what is typed into packets, each text with so many generations of repeats.
 #![tactic(auto)]
 
 mod laws;
 mod senders;
 mod waiting;
-mod writing;
 
 pub use laws::{
     all_is_sent_in_order, due_from_next, end_is_closed, front_is_longest, history_is_lawful,

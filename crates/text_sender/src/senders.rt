@@ -1,12 +1,11 @@
 //! The sender.
-ghost use Rattle.std.specs.Prelude.{◌≡◌, ◌+◌, ◌%◌, ◌^◌, ◌<◌, ◌≤◌, ◌∷◌, ◌++◌, ◌↔◌, [], ℕ, List, true, if◌then◌else◌, Some, None, length, IfOk, IsOk, OnOk, OnErr, IsUtf8};
-ghost use Rattle.stream_spec.specs.Typed.{Event, Text as text_event, Ask};
+ghost use Rattle.std.specs.Prelude.{◌≡◌, ◌+◌, ◌%◌, ◌^◌, ◌<◌, ◌≤◌, ◌∷◌, ◌++◌, ◌↔◌, [], ℕ, List, true, if◌then◌else◌, not, max, Some, None, length, IfOk, IsOk, OnOk, OnErr, IsUtf8};
+ghost use Rattle.stream_spec.specs.Typed.{Event, Text as text_event, Ask, longest_step};
 
 use crate::waiting::Waiting;
-use crate::writing::write_packet;
+use red_blocks::{TextHead, write_text};
 use red_window::Window;
-use rtp_header::RtpHead;
-use rtt_base::{Blocks, Full, NoMemory, Packet, Pts, Text};
+use rtt_base::{Full, NoMemory, Packet, Pts, Text};
 use std::alloc::Global;
 use std::marker::Model;
 
@@ -22,6 +21,8 @@ pub struct SendConf {
     pub pts: Pts,
     /// The least time between two packets, 100 to 1000 ms.
     pub interval: u64,
+    /// How many blocks each packet repeats, 0 to 3.
+    pub gens: u8,
 }
 
 /// The last packet that was sent.
@@ -35,7 +36,11 @@ struct Last {
 
 /// How far the media time may go on at once while text is to be repeated, in ms: so that the offsets of its repeats
 /// fit in 14 bits.
-const LONGEST_STEP: u64 = 8000;
+fn longest_step(generations: u8) -> u64
+    ensures { result ≡ longest_step generations }
+{
+    if generations <= 2 { 8000 } else { 5000 }
+}
 
 /// A sender of one stream of typed text.
 #[derive(Drop)]
@@ -43,11 +48,12 @@ pub struct Sender {
     conf: SendConf,
     waiting: Waiting,
     window: Window,
+    /// Whether the last packet had text.
+    spoke: bool,
     seq: u16,
     last: Option<Last>,
-    /// What the last packet was made of: they are written over for the next one.
+    /// The text of the last packet, which is written over for the next one.
     text: Text,
-    blocks: Blocks,
 }
 
 impl Model for Sender {
@@ -55,7 +61,7 @@ impl Model for Sender {
 
     ghost Value = { State };
 
-    ghost view = { λ s. record { conf = s.conf; waits = s.waiting; window = s.window; seq = s.seq; last = s.last } };
+    ghost view = { λ s. record { conf = s.conf; waits = s.waiting; window = s.window; spoke = s.spoke; seq = s.seq; last = s.last } };
 
     ghost use Rattle.text_sender.specs.Insides.{IsSound};
 
@@ -63,7 +69,7 @@ impl Model for Sender {
 }
 
 impl Sender {
-    ghost use Rattle.stream_spec.specs.Own.{packet_after};
+    ghost use Rattle.stream_spec.specs.Own.{packet_after, has_text_in};
     ghost use Rattle.stream_spec.specs.Typed.{last_ask, sents, has_passed, media_at, entry_at, due_at, packet_at};
     ghost use Rattle.wire_spec.specs.SentPackets.{packet_written};
     ghost use Rattle.text_sender.specs.Confs.{IsConf, stream_of};
@@ -75,15 +81,15 @@ impl Sender {
         requires { IsConf conf }
         ensures { IfOk result (λ s. StandsFor conf s []) }
     {
-        let seq = conf.seq;
+        let (seq, gens) = (conf.seq, conf.gens);
         Ok(Sender {
             conf,
             waiting: Waiting::new(alloc)?,
-            window: Window::new(),
+            window: Window::with(gens),
+            spoke: false,
             seq,
             last: None,
             text: Text::new(),
-            blocks: Blocks::new(),
         })
     }
 
@@ -165,14 +171,22 @@ impl Sender {
         }
     }
 
+    /// Whether the next packet comes after a pause: no text before it is still to be repeated, and the last packet had
+    /// none.
+    fn is_after_pause(&self) -> bool
+        ensures { (conf : SendConf) (past : List Event) → StandsFor conf self.now past → result ≡ not (has_text_in (max 1 conf.gens) (sents (sent_by conf past))) }
+    {
+        !self.window.due() && !self.spoke
+    }
+
     /// The media time of a packet at this moment.
     fn media_at(&self, now: u64) -> u64
         requires { now < 2 ^ 31 }
-        ensures value { (conf : SendConf) (past : List Event) → StandsFor conf self.now past → result ≡ media_at 2 (sent_by conf past) now }
+        ensures value { (conf : SendConf) (past : List Event) → StandsFor conf self.now past → result ≡ media_at conf.gens (sent_by conf past) now }
         ensures fits { result ≤ now }
     {
         match self.last {
-            Some(last) if self.window.due() => now.min(last.media + LONGEST_STEP),
+            Some(last) if self.window.due() => now.min(last.media + longest_step(self.conf.gens)),
             _ => now,
         }
     }
@@ -186,18 +200,20 @@ impl Sender {
             → StandsFor conf self.new (Ask now ∷ past) }
     {
         let media = self.media_at(now);
-        let head = RtpHead {
-            mark: !self.window.due(),
-            pt: self.conf.pts.red,
+        let head = TextHead {
+            mark: self.is_after_pause(),
             seq: self.seq,
             stamp: self.conf.stamp.wrapping_add(media as u32),
             ssrc: self.conf.ssrc,
-            csrc: None,
+            source: self.conf.ssrc,
         };
         self.waiting.take_front(&mut self.text);
-        self.window.next(head.stamp, &self.text, &mut self.blocks);
+        let text = self.text.as_slice();
+        out.clear();
+        let _ = write_text(&head, &self.window, text, self.conf.pts, out);
+        self.window.keep(head.stamp, text);
+        self.spoke = !text.is_empty();
         self.seq = self.seq.wrapping_add(1);
         self.last = Some(Last { at: now, media });
-        write_packet(&head, &self.blocks, self.conf.pts, out);
     }
 }

@@ -1,3 +1,4 @@
+ghost use Rattle.std.specs.Prelude.{◌≤◌};
 ghost use Rattle.text_sender.specs.Confs.{IsConf};
 
 use crate::{SendConf, Sender};
@@ -8,12 +9,21 @@ use std::test::Fail;
 fn conf() -> SendConf
     ensures { IsConf result }
 {
+    conf_of(2)
+}
+
+/// A sender that repeats so many blocks.
+fn conf_of(gens: u8) -> SendConf
+    requires { gens ≤ 3 }
+    ensures { IsConf result }
+{
     SendConf {
         ssrc: 1001,
         seq: 0,
         stamp: 0,
         pts: Pts { t140: 98, red: 100 },
         interval: 300,
+        gens,
     }
 }
 
@@ -75,6 +85,27 @@ fn two_letters_are_each_repeated_twice(rt: HostRuntime) -> Result<(), Fail> {
     );
     assert_eq!(rt; sender.next_due(), None);
     assert!(rt; sender.turn(1200).is_none());
+    Ok(())
+}
+
+#[test]
+fn without_generations_each_text_is_sent_once(rt: HostRuntime) -> Result<(), Fail> {
+    let mut sender = Sender::new(rt.alloc(), conf_of(0))?;
+    sender.typed("A".as_bytes())?;
+    let first = sender.turn(0);
+    expect_octets(
+        &rt,
+        &first,
+        b"\x80\xE2\x00\x00\x00\x00\x00\x00\x00\x00\x03\xE9\x41",
+    );
+    assert_eq!(rt; sender.next_due(), None);
+    sender.typed("B".as_bytes())?;
+    let second = sender.turn(300);
+    expect_octets(
+        &rt,
+        &second,
+        b"\x80\x62\x00\x01\x00\x00\x01\x2C\x00\x00\x03\xE9\x42",
+    );
     Ok(())
 }
 

@@ -1,5 +1,7 @@
-use Rattle.std.proofs.Common.{sym, subst, ◌∙◌}
-use Rattle.stream_spec.specs.Typed.{sents}
+use Rattle.std.proofs.Common.{◌≡◌, ℕ, ◌+◌, ap, sym, subst, ◌∙◌}
+use Rattle.std.specs.Prelude.{min}
+use Rattle.stream_spec.specs.Typed.{sents, longest_step}
+use Rattle.text_sender.specs.declared.senders.SendConf.{SendConf}
 use Rattle.text_sender.specs.States.{State}
 use Rattle.text_sender.specs.Standing.{StandsFor, sent_by}
 use Rattle.text_sender.proofs.Sending.{media_more, media_now}
@@ -8,9 +10,11 @@ use Rattle.text_sender.proofs.senders.Sender.media_at.Goals as goal
 pub returns-in-Some-clause-value : goal.returns-in-Some-clause-value
 returns-in-Some-clause-value c = λ conf past s.
     let r = subst (λ (st : State). StandsFor conf st past) (sym c.self.view_is) s in
-    c.min.ensures ∙ media_more (sent_by conf past) c.in-Some.last c.args.now (sym c.in-Some.is ∙ r.last) (sym (c.due.ensures 2 conf.stamp (sents (sent_by conf past)) r.window) ∙ c.if-due.true)
+    let step : c.longest_step.result ≡ longest_step conf.gens = c.longest_step.ensures ∙ ap (λ (x : SendConf). longest_step x.gens) r.conf_is in
+    c.min.ensures ∙ (ap (λ (n : ℕ). min c.args.now (c.in-Some.last.media + n)) step
+    ∙ media_more conf.gens (sent_by conf past) c.in-Some.last c.args.now (sym c.in-Some.is ∙ r.last) (sym (c.due.ensures conf.gens conf.stamp (sents (sent_by conf past)) r.window) ∙ c.if-due.true))
 
 pub returns-in_default-clause-value : goal.returns-in_default-clause-value
 returns-in_default-clause-value c = λ conf past s.
     let r = subst (λ (st : State). StandsFor conf st past) (sym c.self.view_is) s in
-    media_now (sent_by conf past) c.args.now (sym (c.due.ensures 2 conf.stamp (sents (sent_by conf past)) r.window) ∙ c.if-due.false)
+    media_now conf.gens (sent_by conf past) c.args.now (sym (c.due.ensures conf.gens conf.stamp (sents (sent_by conf past)) r.window) ∙ c.if-due.false)

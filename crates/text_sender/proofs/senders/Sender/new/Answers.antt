@@ -6,7 +6,8 @@ returns c = record {
   script = tt;
   conf_is = refl;
   waits = c.in_ok-new.ensures;
-  window = c.new-2.ensures c.args.conf.stamp;
+  window = c.with.ensures c.args.conf.stamp;
+  spoke = refl;
   seq = omega arith;
   last = refl;
 }

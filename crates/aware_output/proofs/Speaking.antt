@@ -1,0 +1,209 @@
+-- The steps of an output.
+use Rattle.std.proofs.Common.{◌≡◌, ℕ, zero, suc, ◌+◌, ◌%◌, ◌<◌, ◌≤◌, ◌^◌, Bool, true, false, cond, inl, inr, List, [], ◌∷◌, ◌++◌, length, take, get_or, set, refl, ap, subst, sym, ◌∙◌, arith}
+use Rattle.std.specs.Prelude.{map, max, not, ◌&&◌, ◌||◌, ◌==◌, slice_index, IfSome}
+use Rattle.std.proofs.lemmas.Bool.Decides.{nat_tests}
+use Rattle.rtt_base.specs.declared.blocks.TextBlock.{TextBlock}
+use Rattle.wire_spec.specs.Packets.{Packet, has_text}
+use Rattle.wire_spec.specs.SentPackets.{packet_written}
+use Rattle.stream_spec.specs.Lists.{In}
+use Rattle.stream_spec.specs.Own.{Sent, Stream, sent_of, nth, has_text_in, repeats, packet_after, MaySend, Sendable}
+use Rattle.stream_spec.proofs.Sent.{in_sent_of}
+use Rattle.red_window.specs.declared.kept.KeptBlock.{KeptBlock}
+use Rattle.red_window.specs.Kept.{blocks_kept}
+use Rattle.red_window.specs.Standing.{kept_last, MayFollow}
+use Rattle.red_window.specs.Standing as window
+use Rattle.red_window.proofs.Repeating.{last_or_more, repeats_are}
+use Rattle.aware_output.specs.declared.outputs.OutConf.{OutConf}
+use Rattle.aware_output.specs.declared.speakers.Speaker.{Speaker}
+use Rattle.aware_output.specs.Confs.{IsConf, stream_of}
+use Rattle.aware_output.specs.Speakers.{AreDistinct, IsNext, EachIsNext, speaker_at, text_of}
+use Rattle.aware_output.specs.States.{State}
+use Rattle.aware_output.specs.Standing.{StandsFor, speaker_of, source_at}
+
+-- ---- what is sent may be sent
+-- where text of these is still to be repeated, the media time is at most 5000 after the last one
+abbrev Link : ℕ → ℕ → List Sent → Type 0
+Link g media [] = Unit {0}
+Link g media (z ∷ zs) = has_text_in g (z ∷ zs) ≡ true → media ≤ z.media + 5000
+
+abbrev Chain : ℕ → List Sent → Type 0
+Chain g [] = Unit {0}
+Chain g (z ∷ zs) = Link g z.media zs × Chain g zs
+
+link_of : (g media : ℕ) (zs : List Sent) → (has_text_in g zs ≡ true → IfSome (nth 0 zs) (λ last. media ≤ last.media + 5000)) → Link g media zs
+link_of g media [] f = tt
+link_of g media (z ∷ zs) f = f
+
+chain_of : (c : Stream) (past : List Sent) (s : ℕ) → EachIsNext c past → Chain c.gens (sent_of s past)
+chain_of c [] s p = tt
+chain_of c (e ∷ past) s p = go (e.source == s) refl (chain_of c past s p.1)
+  where
+    go : (b : Bool) → (e.source == s) ≡ b → Chain c.gens (sent_of s past) → Chain c.gens (cond b (e ∷ sent_of s past) (sent_of s past))
+    go true q r =
+        let same : e.source ≡ s = grind (arith, nat_tests) in
+        (subst (λ (n : ℕ). Link c.gens e.media (sent_of n past)) same (link_of c.gens e.media (sent_of e.source past) p.0.near), r)
+    go false q r = r
+
+or_right : (b : Bool) → (b || true) ≡ true
+or_right true = refl
+or_right false = refl
+
+take_more : (k g : ℕ) (zs : List Sent) (z : Sent) → k ≤ g → In z (take k zs) → In z (take g zs)
+take_more zero g zs z l i = absurd i
+take_more (suc k) g [] z l i = absurd i
+take_more (suc k) zero (y ∷ zs) z l i = absurd (omega arith)
+take_more (suc k) (suc g) (y ∷ zs) z l (inl q) = inl q
+take_more (suc k) (suc g) (y ∷ zs) z l (inr i) = inr (take_more k g zs z (omega arith) i)
+
+text_in : (g : ℕ) (zs : List Sent) (z : Sent) → In z (take g zs) → has_text z.text ≡ true → has_text_in g zs ≡ true
+text_in zero zs z i h = absurd i
+text_in (suc g) [] z i h = absurd i
+text_in (suc g) (y ∷ zs) z (inl q) h = let t : has_text y.text ≡ true = ap (λ (x : Sent). has_text x.text) (sym q) ∙ h in rw t refl
+text_in (suc g) (y ∷ zs) z (inr i) h = rw (text_in g zs z i h) (or_right (has_text y.text))
+
+abbrev steps : ℕ → ℕ
+steps zero = 0
+steps (suc k) = 5000 + steps k
+
+-- each of the last k with text lies at most k steps before
+within_steps : (g k media : ℕ) (zs : List Sent) → k ≤ g → Link g media zs → Chain g zs → (x : Sent) → In x (take k zs) → has_text x.text ≡ true → media ≤ x.media + steps k
+within_steps g zero media zs l n p x i h = absurd i
+within_steps g (suc k) media [] l n p x i h = absurd i
+within_steps g (suc k) media (z ∷ zs) l n p x i h =
+    let near = n (text_in g (z ∷ zs) x (take_more (suc k) g (z ∷ zs) x l i) h) in
+    elim i [
+      | inl q ↦ omega (arith, near, ap (λ (y : Sent). y.media) q)
+      | inr j ↦ let r = within_steps g k z.media zs (omega arith) p.0 p.1 x j h in omega (arith, near, r)
+    ]
+
+fits_offset : (g : ℕ) → g ≤ 3 → steps g ≤ 16383
+fits_offset zero l = omega arith
+fits_offset (suc zero) l = omega arith
+fits_offset (suc (suc zero)) l = omega arith
+fits_offset (suc (suc (suc zero))) l = omega arith
+fits_offset (suc (suc (suc (suc g)))) l = absurd (omega arith)
+
+pub may_send : (c : Stream) (past : List Sent) (e : Sent) → c.gens ≤ 3 → EachIsNext c past → IsNext c past e → MaySend c past e
+may_send c past e l p n = record {
+  later = n.later;
+  near = λ x i h. let r = within_steps c.gens c.gens e.media (sent_of e.source past) (omega arith) (link_of c.gens e.media (sent_of e.source past) n.near) (chain_of c past e.source p) x i h in omega (arith, r, fits_offset c.gens l);
+  text = n.text;
+}
+
+pub sendable : (c : Stream) (past : List Sent) → c.gens ≤ 3 → EachIsNext c past → Sendable c past
+sendable c [] l p = tt
+sendable c (e ∷ past) l p = (may_send c past e l p.1 p.0, sendable c past l p.1)
+
+-- ---- the packet
+take_in : (n : ℕ) (zs : List Sent) (z : Sent) → In z (take n zs) → In z zs
+take_in zero zs z i = absurd i
+take_in (suc n) [] z i = absurd i
+take_in (suc n) (y ∷ zs) z (inl q) = inl q
+take_in (suc n) (y ∷ zs) z (inr i) = inr (take_in n zs z i)
+
+may_follow : (c : Stream) (past : List Sent) (e : Sent) → MaySend c past e → MayFollow c.gens e.media (sent_of e.source past)
+may_follow c past e m = record {
+  later = λ x i. m.later x (in_sent_of e.source past x (take_in c.gens (sent_of e.source past) x i)).0;
+  near = m.near;
+}
+
+pub pause_is : (g : ℕ) (zs : List Sent) (due spoke result : Bool) → due ≡ has_text_in g zs → spoke ≡ has_text_in 1 zs → result ≡ (not due && not spoke) → result ≡ not (has_text_in (max 1 g) zs)
+pause_is g zs due spoke result d s r = r ∙ (both due spoke ∙ (ap (λ b. not (b || spoke)) d ∙ (ap (λ b. not (has_text_in g zs || b)) s ∙ ap (λ b. not b) (last_or_more g zs))))
+  where
+    both : (a b : Bool) → (not a && not b) ≡ not (a || b)
+    both true b = refl
+    both false b = refl
+
+same_packet : (m m' : Bool) (s s' t t' c c' o o' : ℕ) (bs bs' : List TextBlock) (x : List ℕ) → m ≡ m' → s ≡ s' → t ≡ t' → c ≡ c' → o ≡ o' → bs ≡ bs'
+    → (let p : Packet = record { mark = m; seq = s; stamp = t; ssrc = c; source = o; older = bs; primary = x } in p) ≡ record { mark = m'; seq = s'; stamp = t'; ssrc = c'; source = o'; older = bs'; primary = x }
+same_packet m m' s s' t t' c c' o o' bs bs' x a b d e f g = rw (a, b, d, e, f, g) refl
+
+-- the packet of what is written is that of the text
+pub packet_is : (conf given : OutConf) (past : List Sent) (e : Sent) (speaker : Speaker) (mark : Bool) (seq stamp : ℕ) → IsConf conf → given ≡ conf → EachIsNext (stream_of conf) past → IsNext (stream_of conf) past e
+    → speaker ≡ speaker_of conf past e.source → mark ≡ not (has_text_in (max 1 conf.gens) (sent_of e.source past)) → seq ≡ (conf.seq + length past) % 65536 → stamp ≡ (conf.stamp + e.media) % 2 ^ 32
+    → packet_written given.pts (record { mark = mark; seq = seq; stamp = stamp; ssrc = given.ssrc; source = speaker.source; older = blocks_kept stamp speaker.window; primary = e.text })
+    ≡ packet_written conf.pts (packet_after (stream_of conf) past e)
+packet_is conf given past e speaker mark seq stamp k q p n w m s t =
+    let a = packet_after (stream_of conf) past e in
+    let kept : window.StandsFor conf.gens conf.stamp speaker.window (sent_of e.source past) = record { last = ap (λ (x : Speaker). x.window) w } in
+    let older = repeats_are conf.gens conf.stamp e.media stamp speaker.window (sent_of e.source past) kept t (may_follow (stream_of conf) past e (may_send (stream_of conf) past e k.gens p n)) in
+    let same = same_packet mark a.mark seq a.seq stamp a.stamp given.ssrc conf.ssrc speaker.source e.source (blocks_kept stamp speaker.window) a.older e.text m s t (ap (λ (x : OutConf). x.ssrc) q) (ap (λ (x : Speaker). x.source) w) older in
+    ap (packet_written given.pts) same ∙ ap (λ (x : OutConf). packet_written x.pts a) q
+
+-- ---- the sources
+pub speaker_there : (conf : OutConf) (past : List Sent) (sources : List ℕ) (i : ℕ) (d : Speaker) → i < length sources → get_or (map (speaker_of conf past) sources) i d ≡ speaker_of conf past (source_at sources i)
+speaker_there conf past [] i d l = absurd (omega arith)
+speaker_there conf past (s ∷ sources) zero d l = refl
+speaker_there conf past (s ∷ sources) (suc i) d l = speaker_there conf past sources i d (omega arith)
+
+source_in : (sources : List ℕ) (i : ℕ) → i < length sources → In (source_at sources i) sources
+source_in [] i l = absurd (omega arith)
+source_in (s ∷ sources) zero l = inl refl
+source_in (s ∷ sources) (suc i) l = inr (source_in sources i (omega arith))
+
+-- nothing changes of another source
+other_stays : (conf : OutConf) (past : List Sent) (e : Sent) (t : ℕ) → (e.source ≡ t → ⊥) → speaker_of conf past t ≡ speaker_of conf (e ∷ past) t
+other_stays conf past e t n = go (e.source == t) refl
+  where
+    go : (b : Bool) → (e.source == t) ≡ b → speaker_at conf.gens conf.stamp t (sent_of t past) ≡ speaker_at conf.gens conf.stamp t (cond b (e ∷ sent_of t past) (sent_of t past))
+    go true q = absurd (n (let same : e.source ≡ t = grind (arith, nat_tests) in same))
+    go false q = refl
+
+others_stay : (conf : OutConf) (past : List Sent) (e : Sent) (sources : List ℕ) → ((t : ℕ) → In t sources → e.source ≡ t → ⊥) → map (speaker_of conf past) sources ≡ map (speaker_of conf (e ∷ past)) sources
+others_stay conf past e [] n = refl
+others_stay conf past e (t ∷ sources) n = rw (other_stays conf past e t (n t (inl refl)), others_stay conf past e sources (λ u i. n u (inr i))) refl
+
+-- one source has sent a text
+pub speakers_after : (conf : OutConf) (past : List Sent) (e : Sent) (sources : List ℕ) (i : ℕ) (speaker : Speaker) → AreDistinct sources → i < length sources → e.source ≡ source_at sources i
+    → speaker ≡ speaker_of conf (e ∷ past) e.source → set (map (speaker_of conf past) sources) i speaker ≡ map (speaker_of conf (e ∷ past)) sources
+speakers_after conf past e [] i speaker a l q w = absurd (omega arith)
+speakers_after conf past e (s ∷ sources) zero speaker a l q w =
+    rw (others_stay conf past e sources (λ t j r. a.0 t j (sym q ∙ r))) (ap (λ (x : Speaker). x ∷ map (speaker_of conf (e ∷ past)) sources) (w ∙ ap (speaker_of conf (e ∷ past)) q))
+speakers_after conf past e (s ∷ sources) (suc i) speaker a l q w =
+    let there = source_in sources i (omega arith) in
+    rw (other_stays conf past e s (λ r. a.0 (source_at sources i) there (sym r ∙ q))) (ap (λ (xs : List Speaker). speaker_of conf (e ∷ past) s ∷ xs) (speakers_after conf past e sources i speaker a.1 (omega arith) q w))
+
+pub own_sent : (e : Sent) (past : List Sent) → sent_of e.source (e ∷ past) ≡ e ∷ sent_of e.source past
+own_sent e past = let same : (e.source == e.source) ≡ true = grind (arith, nat_tests) in rw same refl
+
+pub kept_after : (conf : OutConf) (sources : List ℕ) (past : List Sent) (e : Sent) (i : ℕ) (s new : State) (speaker : Speaker) → StandsFor conf sources s past → IsNext (stream_of conf) past e → i < length sources
+    → e.source ≡ source_at sources i → speaker ≡ speaker_at conf.gens conf.stamp e.source (e ∷ sent_of e.source past) → new.conf ≡ s.conf → new.seq ≡ (s.seq + 1) % 65536
+    → new.speakers ≡ set s.speakers i speaker → StandsFor conf sources new (e ∷ past)
+kept_after conf sources past e i s new speaker r n l q w c k u = record {
+  sent = (n, r.sent);
+  distinct = r.distinct;
+  conf_is = c ∙ r.conf_is;
+  seq = counted s.seq new.seq conf.seq (length past) r.seq k;
+  speakers = u ∙ (ap (λ (xs : List Speaker). set xs i speaker) r.speakers
+      ∙ speakers_after conf past e sources i speaker r.distinct l q (w ∙ ap (λ (zs : List Sent). speaker_at conf.gens conf.stamp e.source zs) (sym (own_sent e past))));
+}
+  where
+    counted : (old new first n : ℕ) → old ≡ (first + n) % 65536 → new ≡ (old + 1) % 65536 → new ≡ (first + suc n) % 65536
+    counted old new first n p q = omega arith
+
+-- ---- within the sources
+pub map_length : (conf : OutConf) (past : List Sent) (sources : List ℕ) → length (map (speaker_of conf past) sources) ≡ length sources
+map_length conf past [] = refl
+map_length conf past (s ∷ sources) = let r = map_length conf past sources in omega (arith, r)
+
+pub within : (conf : OutConf) (sources : List ℕ) (s : State) (past : List Sent) (i : ℕ) → StandsFor conf sources s past → i < length s.speakers → i < length sources
+within conf sources s past i r l = omega (arith, l, ap (λ (xs : List Speaker). length xs) r.speakers, map_length conf past sources)
+
+pub speaker_is : (conf : OutConf) (sources : List ℕ) (s : State) (past : List Sent) (i : ℕ) (x : Speaker) → StandsFor conf sources s past → i < length s.speakers → x ≡ get_or s.speakers i x
+    → x ≡ speaker_of conf past (source_at sources i)
+speaker_is conf sources s past i x r l e = e ∙ (ap (λ (xs : List Speaker). get_or xs i x) r.speakers ∙ speaker_there conf past sources i x (within conf sources s past i r l))
+
+-- ---- a new output
+pub new_speakers : (conf : OutConf) (sources : List ℕ) (i : ℕ) (x : Speaker) → i < length sources → x ≡ speaker_of conf [] (get_or sources i 0)
+    → map (speaker_of conf []) (take i sources) ++ x ∷ [] ≡ map (speaker_of conf []) (take (i + 1) sources)
+new_speakers conf [] i x l e = absurd (omega arith)
+new_speakers conf (s ∷ sources) zero x l e = ap (λ (y : Speaker). y ∷ []) e
+new_speakers conf (s ∷ sources) (suc i) x l e =
+    let k : suc i + 1 ≡ suc (i + 1) = omega arith in
+    ap (λ (xs : List Speaker). speaker_of conf [] s ∷ xs) (new_speakers conf sources i x (omega arith) e) ∙ ap (λ n. map (speaker_of conf []) (take n (s ∷ sources))) (sym k)
+
+pub all_taken : (conf : OutConf) (sources : List ℕ) (i : ℕ) → length sources ≤ i → map (speaker_of conf []) (take i sources) ≡ map (speaker_of conf []) sources
+all_taken conf [] zero l = refl
+all_taken conf [] (suc i) l = refl
+all_taken conf (s ∷ sources) zero l = absurd (omega arith)
+all_taken conf (s ∷ sources) (suc i) l = ap (λ (xs : List Speaker). speaker_of conf [] s ∷ xs) (all_taken conf sources i (omega arith))

@@ -1,0 +1,23 @@
+use Rattle.std.proofs.Common.{◌≡◌, ◌<◌, ℕ, List, length, subst, sym}
+use Rattle.rtt_base.specs.Buffers.{Appends}
+use Rattle.stream_spec.specs.Own.{sent_of}
+use Rattle.aware_output.specs.declared.outputs.OutConf.{OutConf}
+use Rattle.aware_output.specs.Confs.{IsConf}
+use Rattle.aware_output.specs.States.{State}
+use Rattle.aware_output.specs.Speakers.{text_of}
+use Rattle.aware_output.specs.Standing.{StandsFor, source_at}
+use Rattle.aware_output.proofs.Speaking.{speaker_is, packet_is}
+use Rattle.aware_output.proofs.outputs.Output.write.Goals as goal
+
+pub returns : goal.returns
+returns g c = λ conf sources past media s q n.
+    let written = g.O.OctetBuffer.written in
+    let r = subst (λ (st : State). StandsFor conf sources st past) (sym c.self.view_is) s in
+    let k = subst (λ (x : OutConf). IsConf x) r.conf_is c.self.invariant in
+    let there : c.args.source < length c.self.inside.speakers.items = subst (λ (st : State). c.args.source < length st.speakers) (sym c.self.view_is) c.requires in
+    let speaker = speaker_is conf sources _ past c.args.source c.index-speaker.result.now r there c.index-speaker.ensures in
+    let e = text_of sources c.args.source media c.args.text.now in
+    let mark = c.is_after_pause.ensures conf.gens conf.stamp (source_at sources c.args.source) (sent_of (source_at sources c.args.source) past) speaker in
+    subst (λ (xs : List ℕ). Appends g.O.OctetBuffer.greatest (written c.args.out.now) (written c.write_text.new.out) xs c.write_text.result)
+    (packet_is conf c.self.inside.conf past e c.index-speaker.result.now c.is_after_pause.result c.self.inside.seq c.args.stamp k r.conf_is r.sent n speaker mark r.seq q)
+    c.write_text.ensures

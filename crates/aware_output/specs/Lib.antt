@@ -1,0 +1,4 @@
+pub mod Confs
+pub mod Speakers
+pub mod States
+pub mod Standing

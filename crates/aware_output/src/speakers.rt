@@ -1,0 +1,48 @@
+//! A source at an output.
+ghost use Rattle.std.specs.Prelude.{◌≡◌, ◌+◌, ◌%◌, ◌^◌, ◌<◌, ◌≤◌, ◌∷◌, [], ℕ, List, length, max, not};
+ghost use Rattle.stream_spec.specs.Own.{Sent, has_text_in};
+ghost use Rattle.aware_output.specs.Speakers.{speaker_at};
+
+use red_window::Window;
+
+/// A source: what of it is to be repeated, and whether its last packet had text.
+#[derive(Drop)]
+pub struct Speaker {
+    /// The source as packets name it.
+    pub source: u32,
+    pub window: Window,
+    /// Whether the last packet of the source had text. Without generations no window tells it.
+    pub spoke: bool,
+}
+
+impl Speaker {
+    /// A source of which nothing was sent, with so many generations.
+    pub fn new(source: u32, generations: u8) -> Speaker
+        requires { generations ≤ 3 }
+        ensures { (base : ℕ) → result ≡ speaker_at generations base source [] }
+    {
+        Speaker {
+            source,
+            window: Window::with(generations),
+            spoke: false,
+        }
+    }
+
+    /// Whether the next packet of the source comes after a pause (RFC 4103, section 4.1): none of the last packets that it
+    /// repeats had text, nor had the last one.
+    pub fn is_after_pause(&self) -> bool
+        ensures { (g base source : ℕ) (sent : List Sent) → self.now ≡ speaker_at g base source sent → result ≡ not (has_text_in (max 1 g) sent) }
+    {
+        !self.window.due() && !self.spoke
+    }
+
+    /// Keeps what was sent in a packet with this timestamp.
+    pub fn keep(&mut self, stamp: u32, text: &[u8])
+        requires { length text.now < 1024 }
+        ensures { (g base source : ℕ) (sent : List Sent) (e : Sent) → self.old ≡ speaker_at g base source sent → stamp ≡ (base + e.media) % 2 ^ 32 → text.now ≡ e.text
+            → self.new ≡ speaker_at g base source (e ∷ sent) }
+    {
+        self.window.keep(stamp, text);
+        self.spoke = !text.is_empty();
+    }
+}

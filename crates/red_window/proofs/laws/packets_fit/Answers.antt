@@ -1,0 +1,5 @@
+use Rattle.red_window.proofs.Fitting.{packet_fits, few_octets}
+use Rattle.red_window.proofs.laws.packets_fit.Goals as goal
+
+pub returns : goal.returns
+returns c = record { fits = packet_fits; few = few_octets }
