@@ -1,10 +1,10 @@
 -- What a table of slots stands for: at each terminal what waits of each source, who listens, and what was taken of each
 -- source with who was given it. Chunks that wait nowhere any more are kept for a while, or not.
-use Rattle.std.specs.Prelude.{◌≡◌, ℕ, Bool, true, false, None, Some, List, [], ◌++◌, length, map, slice_get, if◌then◌else◌}
+use Rattle.std.specs.Prelude.{◌≡◌, ℕ, Bool, true, false, None, Some, List, [], ◌∷◌, ◌++◌, ◌↔◌, length, map, slice_get, if◌then◌else◌}
 use Rattle.stream_spec.specs.Ready.{Chunk}
 use Rattle.mixer_spec.specs.Chunks.{joined, octets}
 use Rattle.mixer_spec.specs.Setups.{Setup}
-use Rattle.mixer_spec.specs.Table.{Taken, Table, chunks_taken, is_given}
+use Rattle.mixer_spec.specs.Table.{Taken, Table, chunks_taken, is_given, is_fit, span_with}
 use Rattle.mixer_spec.specs.Laws.{AllGiven}
 use Rattle.slot_table.specs.declared.rings.Place.{Place}
 use Rattle.slot_table.specs.declared.parts.Part.{Part}
@@ -41,12 +41,33 @@ pub record Holds (w : Waiting) (taken : List Taken) (listens : ℕ → Bool) (wa
   pub chunks : w.chunks ≡ kept_of kept
   pub parts : (j : ℕ) (p : Part) → slice_get w.parts j ≡ Some p → IsPart j (listens j) (waits j) kept p
 
+-- of whatever the lane holds
+abbrev pub LaneTells : Waiting → (List Taken → (ℕ → Bool) → (ℕ → List Chunk) → Type 0) → Type 0
+LaneTells w P = (taken : List Taken) (listens : ℕ → Bool) (waits : ℕ → List Chunk) → Holds w taken listens waits → P taken listens waits
+
+-- a chunk with this text comes behind the others, for each terminal that listens
+abbrev pub Adds : List ℕ → Waiting → Waiting → Type 0
+Adds text old new = (taken : List Taken) (listens : ℕ → Bool) (waits : ℕ → List Chunk) (c : Chunk) → Holds old taken listens waits → c.text ≡ text
+    → Holds new (taken ++ record { chunk = c; given = listens } ∷ []) listens (λ j. if listens j then waits j ++ c ∷ [] else waits j)
+
 -- the source i
 pub record SourceStands (s : Setup) (i : ℕ) (w : Waiting) (table : Table) : Type 0 where
   pub terminals : length w.parts ≡ s.legs
   pub holds : Holds w (table.taken i) (is_given table.seats i) (λ j. (table.terminals j).waits i)
 
+-- it is so exactly where the span has room for a chunk with this text
+abbrev pub TellsRoom : List ℕ → Waiting → Type 0 → Type 0
+TellsRoom text w P = (s : Setup) (i : ℕ) (table : Table) (c : Chunk) → SourceStands s i w table → c.text ≡ text → P ↔ (is_fit (span_with s i c table) ≡ true)
+
 -- each source; of the table nothing else counts, and of the setup nothing but how many legs there are
 pub record StandsFor (s : Setup) (slots : List Waiting) (table : Table) : Type 0 where
   pub legs : length slots ≡ s.legs
   pub sources : (i : ℕ) (w : Waiting) → slice_get slots i ≡ Some w → SourceStands s i w table
+
+-- of each table for which the slots stand
+abbrev pub Tells : List Waiting → (Setup → Table → Type 0) → Type 0
+Tells slots P = (s : Setup) (table : Table) → StandsFor s slots table → P s table
+
+-- from each table for which they stood they come to another one
+abbrev pub Leads : List Waiting → List Waiting → (Table → Table) → Type 0
+Leads old new f = (s : Setup) (table : Table) → StandsFor s old table → StandsFor s new (f table)

@@ -34,7 +34,7 @@ impl Model for Lane {
 impl Lane {
     ghost use Rattle.slot_table.specs.Lanes.{Waiting};
     ghost use Rattle.slot_table.specs.Words.{all_listen};
-    ghost use Rattle.slot_table.specs.Standing.{Holds, SourceStands};
+    ghost use Rattle.slot_table.specs.Standing.{Adds, Holds, LaneTells, TellsRoom};
 
     /// The lane of the source `own`, which is heard by each of so many terminals but its own.
     pub fn new(alloc: Global, terminals: usize, own: usize) -> Result<Lane, NoMemory>
@@ -50,8 +50,8 @@ impl Lane {
     pub fn listen(&mut self, terminal: usize, on: bool)
         requires { terminal < length self.old.parts }
         ensures terminals { length self.new.parts ≡ length self.old.parts }
-        ensures holds { (taken : List Taken) (listens : ℕ → Bool) (waits : ℕ → List Chunk) → Holds self.old taken listens waits
-            → Holds self.new taken (set_at listens terminal on) (if on then set_at waits terminal [] else waits) }
+        ensures holds { LaneTells self.old (λ taken listens waits.
+            Holds self.new taken (set_at listens terminal on) (if on then set_at waits terminal [] else waits)) }
     {
         let heard = self.parts[terminal].heard(on, self.ring.end());
         self.parts[terminal] = heard;
@@ -60,8 +60,7 @@ impl Lane {
     /// The octets that wait at the terminal.
     pub fn waiting(&self, terminal: usize) -> usize
         requires { terminal < length self.now.parts }
-        ensures { (taken : List Taken) (listens : ℕ → Bool) (waits : ℕ → List Chunk) → Holds self.now taken listens waits
-            → result ≡ octets (waits terminal) }
+        ensures { LaneTells self.now (λ taken listens waits. result ≡ octets (waits terminal)) }
     {
         let part = self.parts[terminal];
         let end = part.end(self.ring.end());
@@ -71,8 +70,7 @@ impl Lane {
     /// Whether a chunk waits at the terminal.
     pub fn has_waiting(&self, terminal: usize) -> bool
         requires { terminal < length self.now.parts }
-        ensures { (taken : List Taken) (listens : ℕ → Bool) (waits : ℕ → List Chunk) → Holds self.now taken listens waits
-            → result ≡ has_chunk (waits terminal) }
+        ensures { LaneTells self.now (λ taken listens waits. result ≡ has_chunk (waits terminal)) }
     {
         let part = self.parts[terminal];
         let end = part.end(self.ring.end());
@@ -84,11 +82,10 @@ impl Lane {
         requires terminal { terminal < length self.old.parts }
         requires fits { length text.old + room ≤ 1023 }
         ensures terminals { length self.new.parts ≡ length self.old.parts }
-        ensures text { (taken : List Taken) (listens : ℕ → Bool) (waits : ℕ → List Chunk) → Holds self.old taken listens waits
-            → text.new ≡ text.old ++ joined (front room (waits terminal)) }
+        ensures text { LaneTells self.old (λ taken listens waits. text.new ≡ text.old ++ joined (front room (waits terminal))) }
         ensures fits { length text.new ≤ length text.old + room }
-        ensures holds { (taken : List Taken) (listens : ℕ → Bool) (waits : ℕ → List Chunk) → Holds self.old taken listens waits
-            → Holds self.new taken listens (set_at waits terminal (behind room (waits terminal))) }
+        ensures holds { LaneTells self.old (λ taken listens waits.
+            Holds self.new taken listens (set_at waits terminal (behind room (waits terminal)))) }
     {
         let all = self.ring.end();
         let part = self.parts[terminal];
@@ -102,10 +99,8 @@ impl Lane {
     pub fn offer(&mut self, text: &[u8]) -> Result<(), Full>
         requires { length text.now ≤ 1023 }
         ensures terminals { length self.new.parts ≡ length self.old.parts }
-        ensures room { (s : Setup) (i : ℕ) (table : Table) (c : Chunk) → SourceStands s i self.old table → c.text ≡ text.now
-            → (IsOk result ↔ (is_fit (span_with s i c table) ≡ true)) }
-        ensures ok { OnOk result ((taken : List Taken) (listens : ℕ → Bool) (waits : ℕ → List Chunk) (c : Chunk) → Holds self.old taken listens waits → c.text ≡ text.now
-            → Holds self.new (taken ++ record { chunk = c; given = listens } ∷ []) listens (λ j. if listens j then waits j ++ c ∷ [] else waits j)) }
+        ensures room { TellsRoom text.now self.old (IsOk result) }
+        ensures ok { OnOk result (Adds text.now self.old self.new) }
         ensures err { OnErr result (self.new ≡ self.old) }
     {
         if self.ring.has_room(Place::START, text.len()) {
@@ -120,10 +115,8 @@ impl Lane {
     fn offer_where_full(&mut self, text: &[u8]) -> Result<(), Full>
         requires { length text.now ≤ 1023 }
         ensures terminals { length self.new.parts ≡ length self.old.parts }
-        ensures room { (s : Setup) (i : ℕ) (table : Table) (c : Chunk) → SourceStands s i self.old table → c.text ≡ text.now
-            → (IsOk result ↔ (is_fit (span_with s i c table) ≡ true)) }
-        ensures ok { OnOk result ((taken : List Taken) (listens : ℕ → Bool) (waits : ℕ → List Chunk) (c : Chunk) → Holds self.old taken listens waits → c.text ≡ text.now
-            → Holds self.new (taken ++ record { chunk = c; given = listens } ∷ []) listens (λ j. if listens j then waits j ++ c ∷ [] else waits j)) }
+        ensures room { TellsRoom text.now self.old (IsOk result) }
+        ensures ok { OnOk result (Adds text.now self.old self.new) }
         ensures err { OnErr result (self.new ≡ self.old) }
     {
         let front = oldest(&self.parts, self.ring.end());

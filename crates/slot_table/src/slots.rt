@@ -38,7 +38,7 @@ fn hears(terminal: usize, source: usize, on: bool) -> bool
 
 impl Slots {
     ghost use Rattle.slot_table.specs.Words.{all_listen, listening, fetched, NoneWaits};
-    ghost use Rattle.slot_table.specs.Standing.{StandsFor};
+    ghost use Rattle.slot_table.specs.Standing.{StandsFor, Tells, Leads};
 
     /// Nothing waits, and every terminal listens.
     pub fn new(alloc: Global, legs: usize) -> Result<Slots, NoMemory>
@@ -57,8 +57,8 @@ impl Slots {
     pub fn listen(&mut self, terminal: usize, on: bool)
         requires { terminal < length self.old }
         ensures legs { length self.new ≡ length self.old }
-        ensures stands { (s : Setup) (table : Table) → StandsFor s self.old table → (on ≡ true → NoneWaits s terminal table)
-            → StandsFor s self.new (listening terminal on table) }
+        ensures stands { Tells self.old (λ s table. (on ≡ true → NoneWaits s terminal table)
+            → StandsFor s self.new (listening terminal on table)) }
     {
         for source in 0..self.lanes.len() {
             let on = hears(terminal, source, on);
@@ -72,10 +72,9 @@ impl Slots {
     pub fn offer(&mut self, chunk: &Chunk) -> Result<(), Full>
         requires { chunk.now.source < length self.old }
         ensures legs { length self.new ≡ length self.old }
-        ensures room { (s : Setup) (table : Table) → StandsFor s self.old table
-            → (IsOk result ↔ (is_fit (span_with s chunk.now.source (chunk_of chunk.now) table) ≡ true)) }
-        ensures ok { OnOk result ((s : Setup) (table : Table) → StandsFor s self.old table
-            → StandsFor s self.new (given chunk.now.source (chunk_of chunk.now) table)) }
+        ensures room { Tells self.old (λ s table.
+            IsOk result ↔ (is_fit (span_with s chunk.now.source (chunk_of chunk.now) table) ≡ true)) }
+        ensures ok { OnOk result (Leads self.old self.new (given chunk.now.source (chunk_of chunk.now))) }
         ensures err { OnErr result (self.new ≡ self.old) }
     {
         let lane = &mut self.lanes[chunk.source as usize];
@@ -85,7 +84,7 @@ impl Slots {
     /// The octets of the source that wait at the terminal.
     pub fn waiting(&self, terminal: usize, source: usize) -> usize
         requires { (terminal < length self.now) × (source < length self.now) }
-        ensures { (s : Setup) (table : Table) → StandsFor s self.now table → result ≡ octets ((table.terminals terminal).waits source) }
+        ensures { Tells self.now (λ s table. result ≡ octets ((table.terminals terminal).waits source)) }
     {
         let lane = &self.lanes[source];
         lane.waiting(terminal)
@@ -94,7 +93,7 @@ impl Slots {
     /// Whether a chunk of the source waits at the terminal.
     pub fn has_waiting(&self, terminal: usize, source: usize) -> bool
         requires { (terminal < length self.now) × (source < length self.now) }
-        ensures { (s : Setup) (table : Table) → StandsFor s self.now table → result ≡ has_chunk ((table.terminals terminal).waits source) }
+        ensures { Tells self.now (λ s table. result ≡ has_chunk ((table.terminals terminal).waits source)) }
     {
         let lane = &self.lanes[source];
         lane.has_waiting(terminal)
@@ -106,11 +105,10 @@ impl Slots {
         requires within { (terminal < length self.old) × (source < length self.old) }
         requires fits { length text.old + room ≤ 1023 }
         ensures legs { length self.new ≡ length self.old }
-        ensures text { (s : Setup) (table : Table) → StandsFor s self.old table
-            → text.new ≡ text.old ++ joined (front room ((table.terminals terminal).waits source)) }
+        ensures text { Tells self.old (λ s table.
+            text.new ≡ text.old ++ joined (front room ((table.terminals terminal).waits source))) }
         ensures fits { length text.new ≤ length text.old + room }
-        ensures stands { (s : Setup) (table : Table) → StandsFor s self.old table
-            → StandsFor s self.new (fetched terminal source room table) }
+        ensures stands { Leads self.old self.new (fetched terminal source room) }
     {
         let lane = &mut self.lanes[source];
         lane.take(terminal, room, text);
