@@ -422,6 +422,17 @@ fn at_most_sixteen_legs_stay_at_one_moment(rt: HostRuntime) -> Result<(), Fail> 
     Ok(())
 }
 
+#[test]
+fn a_missing_mixer_is_told_before_a_crowd(rt: HostRuntime) -> Result<(), Fail> {
+    let file = leg_lines(rt.alloc(), 17)?;
+    let (_, legs) = file.as_str().split_once('\n').ok_or("no legs")?;
+    assert_eq!(rt;
+        refusal(rt.alloc(), legs.as_bytes(), Form::Files),
+        Some((18, ConfKind::Few))
+    );
+    Ok(())
+}
+
 /// What follows 4096 plan lines on lines 4 to 4099, and what it is refused for.
 const AFTER_A_FULL_PLAN: &str = "lose party1 7 => line 4100: PlanMany\n\
 delay party1 7 60001 => line 4100: Number\n\
