@@ -21,6 +21,7 @@ pub use mem_worlds::{FailingCall, MemWorld};
 pub use real::{FileSink, FileSource, RealWorld, StandardError, StandardOutput, StreamSink};
 pub use sinks::Sink;
 pub use sources::Source;
+pub use streams::Stored;
 pub use whole::{ReadFault, read_whole};
 pub use worlds::World;
 

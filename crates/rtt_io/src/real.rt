@@ -1,7 +1,7 @@
 //! The real outside: files and the standard streams.
 ghost use Rattle.std.specs.Prelude.{◌≡◌, ℕ, List, [], None, IfSome, unwrap_or};
 
-use crate::streams::{read_once, write_whole};
+use crate::streams::{Stored, read_once, write_stored, write_whole};
 use crate::{Sink, Source, World};
 use rtt_base::{Failed, Path};
 use std::alloc::Global;
@@ -55,7 +55,8 @@ impl<F: Read> FileSource<F> {
     }
 }
 
-/// A file that is written, or another writer. Where the writer tells what it took, the sink does.
+/// A file that is written, or another writer. Where the writer tells what it took, the sink does. Each write waits until
+/// its octets are stored, so that a fault which the system tells only then is one of the write.
 #[derive(Drop)]
 pub struct FileSink<F = File> {
     file: F,
@@ -63,7 +64,7 @@ pub struct FileSink<F = File> {
     faults: u64,
 }
 
-impl<F: Write> Sink for FileSink<F> {
+impl<F: Stored> Sink for FileSink<F> {
     ghost use Rattle.std.specs.Prelude.{IsSome, unwrap_or};
 
     ghost tells = { (f : F) → IsSome (F.contents f) };
@@ -75,7 +76,7 @@ impl<F: Write> Sink for FileSink<F> {
     ghost name = { λ sink. sink.name };
 
     fn write_all(&mut self, bytes: &[u8]) -> Result<(), Failed> {
-        match write_whole(&mut self.file, bytes) {
+        match write_stored(&mut self.file, bytes) {
             Ok(()) => Ok(()),
             Err(failed) => {
                 self.faults = self.faults.saturating_add(1);
@@ -85,7 +86,7 @@ impl<F: Write> Sink for FileSink<F> {
     }
 }
 
-impl<F: Write> FileSink<F> {
+impl<F: Stored> FileSink<F> {
     /// A sink over this writer, which did not fail yet.
     pub fn new(file: F, name: Path) -> FileSink<F>
         ensures holds { ⟦<FileSink<F> as Sink>⟧.took result ≡ unwrap_or (F.contents file) [] }

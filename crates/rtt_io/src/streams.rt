@@ -3,6 +3,7 @@ ghost use Rattle.std.specs.Prelude.{◌≡◌, ◌≤◌, ◌<◌, ℕ, length, 
 ghost use Rattle.std.specs.Io.KnownBytes.{Appends, Consumes, Keeps, IsAtEnd};
 
 use rtt_base::Failed;
+use std::fs::File;
 use std::io::{ErrorKind, Read, Write};
 
 /// Reads once, and again where the system broke the read off.
@@ -36,6 +37,40 @@ pub(crate) fn write_whole<W: Write>(to: &mut W, octets: &[u8]) -> Result<(), Fai
         done += number;
     }
     Ok(())
+}
+
+/// A writer whose octets are stored behind it.
+pub trait Stored: Write {
+    /// Waits until what was written is stored. What stores nothing, as a pipe, answers `Ok`.
+    fn store(&self) -> Result<(), Failed>;
+}
+
+impl Stored for File {
+    fn store(&self) -> Result<(), Failed> {
+        match self.sync_data() {
+            Ok(()) => Ok(()),
+            // The system's answer for pipes and terminals.
+            Err(error) if error.kind() == ErrorKind::InvalidInput => Ok(()),
+            Err(_) => Err(Failed),
+        }
+    }
+}
+
+impl Stored for Vec<u8> {
+    fn store(&self) -> Result<(), Failed> {
+        Ok(())
+    }
+}
+
+/// Writes all octets, and waits until they are stored.
+pub(crate) fn write_stored<W: Stored>(to: &mut W, octets: &[u8]) -> Result<(), Failed>
+    ensures whole { OnOk result (Appends (W.contents to.old) (W.contents to.new) octets.now) }
+    ensures partly { OnErr result ((n : ℕ) × Appends (W.contents to.old) (W.contents to.new) (take n octets.now)) }
+{
+    match write_whole(to, octets) {
+        Ok(()) => to.store(),
+        Err(failed) => Err(failed),
+    }
 }
 
 // Writes once, and again where the system broke the write off.
