@@ -8,7 +8,7 @@ use Rattle.wire_spec.specs.Rtp.{rtp, rtp_of_header}
 use Rattle.wire_spec.specs.Red.{red, headers_at, texts_at}
 use Rattle.wire_spec.specs.Text.{text_of, text_of_short}
 use Rattle.wire_spec.specs.Dump.{Item, Sent, Rtcp, Cut, Large}
-use Rattle.rtt_list.specs.Lists.{packet_line, list_view}
+use Rattle.command_spec.specs.Listing.{packet_line, list_view}
 
 abbrev usual : Pts
 usual = record { t140 = 98; red = 100 }

@@ -4,7 +4,7 @@ use Rattle.rtt_base.specs.declared.text_packets.Pts.{Pts}
 use Rattle.wire_spec.specs.Dump.{Item, Recording, with_item}
 use Rattle.rtpdump_io.specs.declared.readers.DumpReader.{DumpReader}
 use Rattle.rtpdump_io.specs.Reading.{is_ended, most_answers, source_of, to_come}
-use Rattle.rtt_list.specs.Lists.{record_line}
+use Rattle.command_spec.specs.Listing.{record_line}
 
 -- between two moments the records that came were listed: how many, and their lines
 pub record Listed (pts : Pts) (before : Recording) (old : List ℕ) (now : Recording) (new : List ℕ) (count : ℕ) : Type 0 where

@@ -2,7 +2,7 @@
 ghost use Rattle.std.specs.Prelude.{◌≡◌, ◌++◌, ◌≤◌, None, OnOk, IfOk, IfErr, Bool, flat_map, length};
 ghost use Rattle.rtt_io.specs.Counts.{Rose};
 ghost use Rattle.rtpdump_io.specs.Reading.{is_ended, to_come, source_of};
-ghost use Rattle.rtt_list.specs.Lists.{record_line, last_line, list_view};
+ghost use Rattle.command_spec.specs.Listing.{record_line, last_line, list_view};
 ghost use Rattle.rtt_list.specs.Listing.{IsSourceFault, FaultOf};
 
 use crate::records::RecordLines;
@@ -67,7 +67,7 @@ fn append_records<S: Source>(
 /// What `list` prints of a recording: a line for each record, with the payload types `pts` of text, and last how many
 /// there are. `Dump` tells why the recording can't be read to its end: with the fault `Read` the source failed. It
 /// takes no memory but that of its answer.
-#[tactic(auto, unfolding(crate::specs::Lists::list_view))]
+#[tactic(auto, unfolding(command_spec::specs::Listing::list_view))]
 pub fn list_records<S: Source>(
     alloc: Global,
     reader: &mut DumpReader<S>,

@@ -1,7 +1,7 @@
 //! The lines of records.
 ghost use Rattle.std.specs.Prelude.{◌≡◌, ◌+◌, ◌≤◌, ◌++◌, flat_map, length, decimal, Bool};
 ghost use Rattle.wire_spec.specs.Packets.{packet_of, blocks_of};
-ghost use Rattle.rtt_list.specs.Lists.{fault_name, bit, block_length, packet_line, refused_line, record_line};
+ghost use Rattle.command_spec.specs.Listing.{fault_name, bit, block_length, packet_line, refused_line, record_line};
 ghost use Rattle.rtpdump_io.specs.Answers.{record_of, is_end};
 
 use crate::lines::Line;

@@ -1,43 +1,92 @@
 //! The program: its words go to `run`, over the files of the system and its standard streams.
 #![tactic(auto)]
 
-use rtt_io::{RealWorld, Sink, StandardError, StandardOutput, StillGate};
+ghost use Rattle.std.specs.Prelude.{◌≡◌, ◌++◌, drop, codes};
+ghost use Rattle.std.specs.Process.{exit_status};
+ghost use Rattle.rtt_io.specs.Counts.{Rose};
+ghost use Rattle.rtt_top.specs.Outside.{outside, output};
+ghost use Rattle.rtt_top.specs.Runs.{asked_by, Runs};
+
+use rtt_io::{RealWorld, Sink, StandardError, StandardOutput, StillGate, World};
 use rtt_top::run;
-use std::alloc::AllocError;
+use std::alloc::{AllocError, Global};
 use std::env;
 use std::io::ErrorKind;
 use std::process::ExitCode;
+use std::sync::Wait;
+use std::thread::Threads;
 
-/// The words after the program's own name. Words that are not UTF-8 count as no words.
-fn words_of(rt: &HostRuntime) -> Result<Vec<String>, AllocError> {
+/// All words, of which the first is the program's name. Words that are not UTF-8 count as no words.
+fn all_words(rt: &HostRuntime) -> Result<Vec<String>, AllocError> {
     let mut words = Vec::new(rt.alloc());
     let all = match env::args(rt) {
         Ok(all) => all,
         Err(error) if error.kind() == ErrorKind::OutOfMemory => return Err(AllocError),
         Err(_) => return Ok(words),
     };
-    for word in all.skip(1) {
+    for word in all {
         words.push(word)?;
     }
     Ok(words)
 }
 
+/// The words after the program's name.
+fn after_name(words: &[String]) -> &[String]
+    ensures { result.now ≡ drop 1 words.now }
+{
+    match words {
+        [] => &[],
+        [_, more @ ..] => more,
+    }
+}
+
+/// Runs what the words after the first ask for.
+fn answer<R: Threads + Wait + Sync, W: World, K: Sink, E: Sink>(
+    rt: &R,
+    alloc: Global,
+    words: &[String],
+    world: &mut W,
+    out: &mut K,
+    err: &mut E,
+) -> u8
+    ensures { Runs (asked_by (drop 1 words.now)) W.tells K.tells E.tells
+        (outside (W.contents world.old) (W.own_faults world.old) (W.object_faults world.old) (output (K.took out.old) (K.faults out.old)))
+        (outside (W.contents world.new) (W.own_faults world.new) (W.object_faults world.new) (output (K.took out.new) (K.faults out.new)))
+        (output (E.took err.old) (E.faults err.old)) (output (E.took err.new) (E.faults err.new)) result }
+{
+    run(rt, alloc, after_name(words), world, out, err, &StillGate)
+}
+
+/// The status where memory ran out before the words were read, which is told.
+fn no_memory<E: Sink>(err: &mut E) -> u8
+    ensures status { result ≡ 70 }
+    ensures told { E.tells → (Rose (E.faults err.old) (E.faults err.new) → ⊥) → E.took err.new ≡ E.took err.old ++ codes "out of memory\n" }
+{
+    let _ = err.write_all(b"out of memory\n");
+    70
+}
+
+/// The program's exit with a status.
+fn exit_with(status: u8) -> ExitCode
+    ensures { exit_status result ≡ status }
+{
+    ExitCode::from(status)
+}
+
 fn main(rt: HostRuntime) -> ExitCode {
     let mut err = StandardError::new(rt.stderr());
-    let Ok(words) = words_of(&rt) else {
-        let _ = err.write_all(b"out of memory\n");
-        return ExitCode::from(70);
+    let Ok(words) = all_words(&rt) else {
+        return exit_with(no_memory(&mut err));
     };
     let mut world = RealWorld::new(&rt, rt.alloc());
     let mut out = StandardOutput::new(rt.stdout());
-    let status = run(
+    let status = answer(
         &rt,
         rt.alloc(),
         words.as_slice(),
         &mut world,
         &mut out,
         &mut err,
-        &StillGate,
     );
-    ExitCode::from(status)
+    exit_with(status)
 }

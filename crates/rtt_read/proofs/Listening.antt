@@ -18,9 +18,9 @@ use Rattle.ear.specs.Hears.{told, all_given, arrivals_of, is_quiet, is_finished,
 use Rattle.ear.proofs.Giving.{told_given}
 use Rattle.ear.proofs.ReadyBy.{heard_dues, told_arrived}
 use Rattle.text_spec.specs.declared.counts.Counts.{Counts}
-use Rattle.rtt_read.specs.declared.confs.ReadConf.{ReadConf}
+use Rattle.command_spec.specs.declared.requests.ReadRequest.{ReadRequest}
 use Rattle.rtt_read.specs.declared.listeners.Listener.{Listener}
-use Rattle.rtt_read.specs.ReadView.{usual_wait, fate_of, is_packet, is_refused, is_foreign}
+use Rattle.command_spec.specs.Reading.{usual_wait, fate_of, is_packet, is_refused, is_foreign}
 use Rattle.rtt_read.specs.Hears.{ear_conf, HearsText, SameStream, one_if, CountsAs, Listens}
 
 -- facts of a success give another
@@ -37,7 +37,7 @@ on_ok5 (Ok x) p q r s t f = f p q r s t
 on_ok5 (Err e) p q r s t f = tt
 
 -- all that is settled is heard
-pub gathers : (l m : Listener) → Gathers l.ear m.ear l.text m.text → CountsUsed l.ear l.counts.used m.counts.used → (r : ReadConf) (story : Story) → HearsText l r story → HearsText m r (all_given story)
+pub gathers : (l m : Listener) → Gathers l.ear m.ear l.text m.text → CountsUsed l.ear l.counts.used m.counts.used → (r : ReadRequest) (story : Story) → HearsText l r story → HearsText m r (all_given story)
 gathers l m g n r story h =
     let d = g (ear_conf r) r.source story h.hears in
     let a = d.appends in
@@ -49,7 +49,7 @@ gathers l m g n r story h =
     }
 
 -- the ear was told
-becomes_text : (l k : Listener) (f : EarConf → Story → Story) (r : ReadConf) (story : Story) → Becomes l.ear k.ear f → (f (ear_conf r) story).given ≡ story.given → k.text ≡ l.text → k.counts.used ≡ l.counts.used → HearsText l r story
+becomes_text : (l k : Listener) (f : EarConf → Story → Story) (r : ReadRequest) (story : Story) → Becomes l.ear k.ear f → (f (ear_conf r) story).given ≡ story.given → k.text ≡ l.text → k.counts.used ≡ l.counts.used → HearsText l r story
     → HearsText k r (f (ear_conf r) story)
 becomes_text l k f r story b same t u h = record {
   hears = b.hears (ear_conf r) (r.source ∷ []) story h.hears;
@@ -57,18 +57,18 @@ becomes_text l k f r story b same t u h = record {
   used = u ∙ (h.used ∙ ap (λ (gs : List Given). length gs) (sym same));
 }
 
-pub told_text : (l k : Listener) (at : ℕ) (octets : List ℕ) (r : ReadConf) (story : Story) → Becomes l.ear k.ear (λ conf s. told s at (text_of octets (Some conf.ssrc) conf.pts)) → k.text ≡ l.text → k.counts.used ≡ l.counts.used → HearsText l r story
+pub told_text : (l k : Listener) (at : ℕ) (octets : List ℕ) (r : ReadRequest) (story : Story) → Becomes l.ear k.ear (λ conf s. told s at (text_of octets (Some conf.ssrc) conf.pts)) → k.text ≡ l.text → k.counts.used ≡ l.counts.used → HearsText l r story
     → HearsText k r (told story at (text_of octets (Some r.ssrc) r.pts))
 told_text l k at octets r story b = becomes_text l k (λ conf s. told s at (text_of octets (Some conf.ssrc) conf.pts)) r story b (told_given story at (text_of octets (Some r.ssrc) r.pts))
 
-pub ended_text : (l k : Listener) (r : ReadConf) (story : Story) → Becomes l.ear k.ear (λ conf s. ended s) → k.text ≡ l.text → k.counts.used ≡ l.counts.used → HearsText l r story → HearsText k r (ended story)
+pub ended_text : (l k : Listener) (r : ReadRequest) (story : Story) → Becomes l.ear k.ear (λ conf s. ended s) → k.text ≡ l.text → k.counts.used ≡ l.counts.used → HearsText l r story → HearsText k r (ended story)
 ended_text l k r story b = becomes_text l k (λ conf s. ended s) r story b refl
 
 -- one more packet of the stream came, and what is settled was heard
 pub took : (l k m : Listener) (at : ℕ) (octets : List ℕ) → Becomes l.ear k.ear (λ conf s. told s at (text_of octets (Some conf.ssrc) conf.pts)) → k.text ≡ l.text
     → k.counts ≡ record l.counts { packets = l.counts.packets + 1 } → is_finished k.ear ≡ is_finished l.ear → arrivals_of k.ear ≤ arrivals_of l.ear + 1
-    → ((r : ReadConf) (story : Story) → HearsText k r story → HearsText m r (all_given story)) → SameStream k m → is_quiet m.ear ≡ true → arrivals_of m.ear ≡ arrivals_of k.ear → is_finished m.ear ≡ is_finished k.ear
-    → (r : ReadConf) (past : List Arrival) → Listens l r past → Listens m r (arrived at (text_of octets (Some r.ssrc) r.pts) past)
+    → ((r : ReadRequest) (story : Story) → HearsText k r story → HearsText m r (all_given story)) → SameStream k m → is_quiet m.ear ≡ true → arrivals_of m.ear ≡ arrivals_of k.ear → is_finished m.ear ≡ is_finished k.ear
+    → (r : ReadRequest) (past : List Arrival) → Listens l r past → Listens m r (arrived at (text_of octets (Some r.ssrc) r.pts) past)
 took l k m at octets b t c f a g same quiet arrivals finished r past li =
     let x = text_of octets (Some r.ssrc) r.pts in
     let now = told_arrived li.story past at x li.told in
@@ -84,7 +84,7 @@ took l k m at octets b t c f a g same quiet arrivals finished r past li =
     }
 
 -- what is asked of the ear is what is asked for
-pub asked_same : (l : Listener) (r : ReadConf) (past : List Arrival) (octets : List ℕ) (x : Result Packet TextFault) → Listens l r past → text_of octets (Some l.ear.conf.ssrc) l.ear.conf.pts ≡ x → text_of octets (Some r.ssrc) r.pts ≡ x
+pub asked_same : (l : Listener) (r : ReadRequest) (past : List Arrival) (octets : List ℕ) (x : Result Packet TextFault) → Listens l r past → text_of octets (Some l.ear.conf.ssrc) l.ear.conf.pts ≡ x → text_of octets (Some r.ssrc) r.pts ≡ x
 asked_same l r past octets x li e = sym (ap (λ (c : EarConf). text_of octets (Some c.ssrc) c.pts) li.hears.hears.asked) ∙ e
 
 pub one_at_most : (b : Bool) → one_if b ≤ 1
@@ -108,7 +108,7 @@ counted_fault faults.Foreign = refl
 module _ (l k m : Listener) (at : ℕ) (octets : List ℕ) (fault : TextFault) (b : Becomes l.ear k.ear (λ conf s. told s at (text_of octets (Some conf.ssrc) conf.pts))) (same : m.ear ≡ k.ear) (t : m.text ≡ l.text) (u : m.counts.used ≡ l.counts.used)
     (p : m.counts.packets ≡ l.counts.packets + 1) (q : m.counts.refused ≡ l.counts.refused + one_if (is_refused (fate_of (Err fault)))) (f : m.counts.foreign ≡ l.counts.foreign + one_if (is_foreign (fate_of (Err fault)))) where
   pub refused : is_quiet k.ear ≡ true → is_finished k.ear ≡ is_finished l.ear → arrivals_of k.ear ≤ arrivals_of l.ear + 1
-      → (r : ReadConf) (past : List Arrival) → Listens l r past → Listens m r (arrived at (text_of octets (Some r.ssrc) r.pts) past)
+      → (r : ReadRequest) (past : List Arrival) → Listens l r past → Listens m r (arrived at (text_of octets (Some r.ssrc) r.pts) past)
   refused quiet finished a r past li =
       let x = text_of octets (Some r.ssrc) r.pts in
       record {
@@ -122,7 +122,7 @@ module _ (l k m : Listener) (at : ℕ) (octets : List ℕ) (fault : TextFault) (
         open_still = ap is_finished same ∙ (finished ∙ li.open_still);
       }
 
-  pub refused_counts : text_of octets (Some l.ear.conf.ssrc) l.ear.conf.pts ≡ Err fault → (r : ReadConf) (past : List Arrival) → Listens l r past → CountsAs (fate_of (text_of octets (Some r.ssrc) r.pts)) l.counts m.counts
+  pub refused_counts : text_of octets (Some l.ear.conf.ssrc) l.ear.conf.pts ≡ Err fault → (r : ReadRequest) (past : List Arrival) → Listens l r past → CountsAs (fate_of (text_of octets (Some r.ssrc) r.pts)) l.counts m.counts
   refused_counts e r past li = subst (λ (x : Result Packet TextFault). CountsAs (fate_of x) l.counts m.counts) (sym (asked_same l r past octets (Err fault) li e)) (record { packets = p ∙ ap (λ n. l.counts.packets + n) (sym (counted_fault fault)); refused = q; foreign = f })
 
 -- nothing comes any more
@@ -131,8 +131,8 @@ pub record Finished (m : Listener) (past : List Arrival) (source : ℕ) : Type 0
   pub used : m.counts.used ≡ length (used usual_wait (numbered past))
 
 pub finished : (l k m : Listener) → Becomes l.ear k.ear (λ conf s. ended s) → AllReady l.ear → k.text ≡ l.text → k.counts ≡ l.counts
-    → ((r : ReadConf) (story : Story) → HearsText k r story → HearsText m r (all_given story))
-    → (r : ReadConf) (past : List Arrival) → Listens l r past → Finished m past r.source
+    → ((r : ReadRequest) (story : Story) → HearsText k r story → HearsText m r (all_given story))
+    → (r : ReadRequest) (past : List Arrival) → Listens l r past → Finished m past r.source
 finished l k m b all t c g r past li =
     let h = g r (ended li.story) (ended_text l k r li.story b t (ap (λ (n : Counts). n.used) c) li.hears) in
     let due = (all (ear_conf r) (r.source ∷ []) li.story li.hears.hears).packets in

@@ -12,14 +12,14 @@ use Rattle.rtpdump_io.specs.Reading.{Gives, is_ended, most_answers, source_of, t
 use Rattle.rtpdump_io.specs.declared.items.DumpItem.{DumpItem}
 use Rattle.rtpdump_io.specs.declared.items.DumpItem.TheVariants.{Packet, Cut, Large}
 use Rattle.rtpdump_io.specs.declared.readers.DumpReader.{DumpReader}
-use Rattle.rtt_read.specs.declared.confs.ReadConf.{ReadConf}
+use Rattle.command_spec.specs.declared.requests.ReadRequest.{ReadRequest}
 use Rattle.rtt_read.specs.declared.listeners.Listener.{Listener}
-use Rattle.rtt_read.specs.ReadView.{Fate, fate, fate_of, many, is_packet, is_refused, is_foreign}
+use Rattle.command_spec.specs.Reading.{Fate, fate, fate_of, many, is_packet, is_refused, is_foreign}
 use Rattle.rtt_read.specs.Hears.{Listens, IsListening, CountsAs, one_if}
 use Rattle.rtt_read.specs.Recordings.{Heard, Hearing, is_read}
 use Rattle.rtpdump_io.specs.Answers.{record_of}
 
-many_more : (p : Fate → Bool) (r : ReadConf) (item : Item) (items : List Item) → many p r (item ∷ items) ≡ one_if (p (fate r item)) + many p r items
+many_more : (p : Fate → Bool) (r : ReadRequest) (item : Item) (items : List Item) → many p (fate r) (item ∷ items) ≡ one_if (p (fate r item)) + many p (fate r) items
 many_more p r item items = go (p (fate r item))
   where
     go : (b : Bool) → length (cond b (item ∷ filter (λ i. p (fate r i)) items) (filter (λ i. p (fate r i)) items)) ≡ one_if b + length (filter (λ i. p (fate r i)) items)
@@ -27,16 +27,16 @@ many_more p r item items = go (p (fate r item))
     go false = omega arith
 
 -- one more record
-pub heard_step : (r : ReadConf) (before now next : Recording) (l m n : Listener) (past : List Arrival) (item : Item) → (h : Heard r before l past now m) → now ≡ with_item item next
+pub heard_step : (r : ReadRequest) (before now next : Recording) (l m n : Listener) (past : List Arrival) (item : Item) → (h : Heard r before l past now m) → now ≡ with_item item next
     → Listens n r (arrivals_with r.ssrc r.pts item h.arrivals) → CountsAs (fate r item) m.counts n.counts → Heard r before l past next n
 heard_step r before now next l m n past item h e li c = record {
   arrivals = arrivals_with r.ssrc r.pts item h.arrivals;
   listens = li;
   same = ap (λ (q : Recording). arrivals_after r.ssrc r.pts h.arrivals q.items) (sym e) ∙ h.same;
   fault = ap (λ (q : Recording). q.fault) (sym e) ∙ h.fault;
-  packets = omega (arith, c.packets, h.packets, many_more is_packet r item next.items, ap (λ (q : Recording). many is_packet r q.items) e);
-  refused = omega (arith, c.refused, h.refused, many_more is_refused r item next.items, ap (λ (q : Recording). many is_refused r q.items) e);
-  foreign = omega (arith, c.foreign, h.foreign, many_more is_foreign r item next.items, ap (λ (q : Recording). many is_foreign r q.items) e);
+  packets = omega (arith, c.packets, h.packets, many_more is_packet r item next.items, ap (λ (q : Recording). many is_packet (fate r) q.items) e);
+  refused = omega (arith, c.refused, h.refused, many_more is_refused r item next.items, ap (λ (q : Recording). many is_refused (fate r) q.items) e);
+  foreign = omega (arith, c.foreign, h.foreign, many_more is_foreign r item next.items, ap (λ (q : Recording). many is_foreign (fate r) q.items) e);
 }
 
 -- at the beginning nothing was told
@@ -57,25 +57,25 @@ gives_fault fault out old new g e = gives_kind fault.offset fault.kind out old n
 
 -- a packet that is handed out
 pub as_packet : (item : DumpItem) (at : ℕ) (octets : List ℕ) (l m : Listener) → item ≡ Packet at
-    → ((r : ReadConf) (past : List Arrival) → Listens l r past → Listens m r (arrived at (text_of octets (Some r.ssrc) r.pts) past))
-    → (r : ReadConf) (past : List Arrival) → Listens l r past → Listens m r (arrivals_with r.ssrc r.pts (record_of item octets) past)
+    → ((r : ReadRequest) (past : List Arrival) → Listens l r past → Listens m r (arrived at (text_of octets (Some r.ssrc) r.pts) past))
+    → (r : ReadRequest) (past : List Arrival) → Listens l r past → Listens m r (arrivals_with r.ssrc r.pts (record_of item octets) past)
 as_packet item at octets l m e f =
-    let P : DumpItem → Type 0 = λ i. (r : ReadConf) (past : List Arrival) → Listens l r past → Listens m r (arrivals_with r.ssrc r.pts (record_of i octets) past) in
+    let P : DumpItem → Type 0 = λ i. (r : ReadRequest) (past : List Arrival) → Listens l r past → Listens m r (arrivals_with r.ssrc r.pts (record_of i octets) past) in
     subst P (sym e) f
 
 -- a record of which not all octets are there, or of too many
 pub as_refused : (item : DumpItem) (octets : List ℕ) (l m : Listener) → ((at : ℕ) × (item ≡ Cut at)) ⊎ ((at : ℕ) × (item ≡ Large at))
-    → ((r : ReadConf) (past : List Arrival) → Listens l r past → Listens m r past)
-    → (r : ReadConf) (past : List Arrival) → Listens l r past → Listens m r (arrivals_with r.ssrc r.pts (record_of item octets) past)
+    → ((r : ReadRequest) (past : List Arrival) → Listens l r past → Listens m r past)
+    → (r : ReadRequest) (past : List Arrival) → Listens l r past → Listens m r (arrivals_with r.ssrc r.pts (record_of item octets) past)
 as_refused item octets l m e f =
-    let P : DumpItem → Type 0 = λ i. (r : ReadConf) (past : List Arrival) → Listens l r past → Listens m r (arrivals_with r.ssrc r.pts (record_of i octets) past) in
+    let P : DumpItem → Type 0 = λ i. (r : ReadRequest) (past : List Arrival) → Listens l r past → Listens m r (arrivals_with r.ssrc r.pts (record_of i octets) past) in
     elim e [ inl (at, c) ↦ subst P (sym c) f | inr (at, g) ↦ subst P (sym g) f ]
 
 pub packet_counts : (item : DumpItem) (at : ℕ) (octets : List ℕ) (l m : Listener) → item ≡ Packet at
-    → ((r : ReadConf) (past : List Arrival) → Listens l r past → CountsAs (fate_of (text_of octets (Some r.ssrc) r.pts)) l.counts m.counts)
-    → (r : ReadConf) (past : List Arrival) → Listens l r past → CountsAs (fate r (record_of item octets)) l.counts m.counts
+    → ((r : ReadRequest) (past : List Arrival) → Listens l r past → CountsAs (fate_of (text_of octets (Some r.ssrc) r.pts)) l.counts m.counts)
+    → (r : ReadRequest) (past : List Arrival) → Listens l r past → CountsAs (fate r (record_of item octets)) l.counts m.counts
 packet_counts item at octets l m e f =
-    let P : DumpItem → Type 0 = λ i. (r : ReadConf) (past : List Arrival) → Listens l r past → CountsAs (fate r (record_of i octets)) l.counts m.counts in
+    let P : DumpItem → Type 0 = λ i. (r : ReadRequest) (past : List Arrival) → Listens l r past → CountsAs (fate r (record_of i octets)) l.counts m.counts in
     subst P (sym e) f
 
 -- what holds of the reader and the listener between two records

@@ -7,22 +7,22 @@ use Rattle.gap_tracker.specs.Stories.{Story}
 use Rattle.ear.specs.declared.confs.EarConf.{EarConf}
 use Rattle.ear.specs.Hears.{Hears, IsToldOf, ready_packets, arrivals_of, is_quiet, is_finished}
 use Rattle.text_spec.specs.declared.counts.Counts.{Counts}
-use Rattle.rtt_read.specs.declared.confs.ReadConf.{ReadConf}
-use Rattle.rtt_read.specs.ReadView.{usual_wait, Fate, is_packet, is_refused, is_foreign}
+use Rattle.command_spec.specs.declared.requests.ReadRequest.{ReadRequest}
+use Rattle.command_spec.specs.Reading.{usual_wait, Fate, is_packet, is_refused, is_foreign}
 use Rattle.rtt_read.specs.declared.listeners.Listener.{Listener}
 
 -- what is asked of the ear
-abbrev pub ear_conf : ReadConf → EarConf
+abbrev pub ear_conf : ReadRequest → EarConf
 ear_conf r = record { place = 0; ssrc = r.ssrc; pts = r.pts; wait = usual_wait }
 
 -- the ear was told and gave what the story says, and the text is what is heard of the source by what it gave
-pub record HearsText (l : Listener) (r : ReadConf) (story : Story) : Type 0 where
+pub record HearsText (l : Listener) (r : ReadRequest) (story : Story) : Type 0 where
   pub hears : Hears l.ear (ear_conf r) (r.source ∷ []) story
   pub text : l.text ≡ concat (heard_by (ready_packets story.given) r.source)
   pub used : l.counts.used ≡ length story.given
 
 abbrev pub IsHearingText : Listener → Type 0
-IsHearingText l = (r : ReadConf) × (story : Story) × HearsText l r story
+IsHearingText l = (r : ReadRequest) × (story : Story) × HearsText l r story
 
 -- all but the ear, the text and the number of used packets stays
 pub record SameStream (old new : Listener) : Type 0 where
@@ -41,7 +41,7 @@ pub record CountsAs (f : Fate) (old new : Counts) : Type 0 where
   pub foreign : new.foreign ≡ old.foreign + one_if (is_foreign f)
 
 -- the listener was told of these arrivals, newest first, of the stream that is asked for
-pub record Listens (l : Listener) (r : ReadConf) (past : List Arrival) : Type 0 where
+pub record Listens (l : Listener) (r : ReadRequest) (past : List Arrival) : Type 0 where
   pub story : Story
   pub hears : HearsText l r story
   pub told : IsToldOf story past
@@ -53,4 +53,4 @@ pub record Listens (l : Listener) (r : ReadConf) (past : List Arrival) : Type 0 
 
 -- some arrivals came so
 abbrev pub IsListening : Listener → Type 0
-IsListening l = (r : ReadConf) × (past : List Arrival) × Listens l r past
+IsListening l = (r : ReadRequest) × (past : List Arrival) × Listens l r past

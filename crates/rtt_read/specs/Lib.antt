@@ -1,3 +1,2 @@
-pub mod ReadView
 pub mod Hears
 pub mod Recordings

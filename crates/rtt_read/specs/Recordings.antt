@@ -5,26 +5,26 @@ use Rattle.wire_spec.specs.declared.faults.DumpKind.TheVariants.{Read}
 use Rattle.wire_spec.specs.Packets.{Arrival}
 use Rattle.wire_spec.specs.Dump.{Recording, arrivals_after}
 use Rattle.rtpdump_io.specs.declared.items.DumpFault.{DumpFault}
-use Rattle.rtt_read.specs.declared.confs.ReadConf.{ReadConf}
-use Rattle.rtt_read.specs.ReadView.{many, is_packet, is_refused, is_foreign}
+use Rattle.command_spec.specs.declared.requests.ReadRequest.{ReadRequest}
+use Rattle.command_spec.specs.Reading.{many, fate, is_packet, is_refused, is_foreign}
 use Rattle.rtt_read.specs.Hears.{Listens}
 use Rattle.rtt_read.specs.declared.listeners.Listener.{Listener}
 use Rattle.rtt_read.specs.declared.reads.ListenFault.{ListenFault}
 use Rattle.rtt_read.specs.declared.reads.ListenFault.TheVariants.{Recorded, NoMemory}
 
 -- between two moments the listener was told of the records that came
-pub record Heard (r : ReadConf) (before : Recording) (l : Listener) (past : List Arrival) (now : Recording) (m : Listener) : Type 0 where
+pub record Heard (r : ReadRequest) (before : Recording) (l : Listener) (past : List Arrival) (now : Recording) (m : Listener) : Type 0 where
   pub arrivals : List Arrival
   pub listens : Listens m r arrivals
   pub same : arrivals_after r.ssrc r.pts arrivals now.items ≡ arrivals_after r.ssrc r.pts past before.items
   pub fault : now.fault ≡ before.fault
-  pub packets : m.counts.packets + many is_packet r now.items ≡ l.counts.packets + many is_packet r before.items
-  pub refused : m.counts.refused + many is_refused r now.items ≡ l.counts.refused + many is_refused r before.items
-  pub foreign : m.counts.foreign + many is_foreign r now.items ≡ l.counts.foreign + many is_foreign r before.items
+  pub packets : m.counts.packets + many is_packet (fate r) now.items ≡ l.counts.packets + many is_packet (fate r) before.items
+  pub refused : m.counts.refused + many is_refused (fate r) now.items ≡ l.counts.refused + many is_refused (fate r) before.items
+  pub foreign : m.counts.foreign + many is_foreign (fate r) now.items ≡ l.counts.foreign + many is_foreign (fate r) before.items
 
 -- from a recording to another, whatever is asked for
 abbrev pub Hearing : Recording → Listener → Recording → Listener → Type 0
-Hearing before l now m = (r : ReadConf) (past : List Arrival) → Listens l r past → Heard r before l past now m
+Hearing before l now m = (r : ReadRequest) (past : List Arrival) → Listens l r past → Heard r before l past now m
 
 -- the source failed
 abbrev pub is_read : DumpKind → Bool

@@ -1,11 +1,9 @@
 //! What one source of a recording typed: the recording is heard to its end, and its view is made.
 #![tactic(auto)]
 
-mod confs;
 mod listeners;
 mod reads;
 
-pub use confs::ReadConf;
 pub use reads::{ListenFault, heard_view};
 
 #[cfg(test)]

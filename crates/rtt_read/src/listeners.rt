@@ -8,13 +8,13 @@ ghost use Rattle.stream_spec.specs.Numbering.{numbered, used};
 ghost use Rattle.stream_spec.specs.Hearing.{heard};
 ghost use Rattle.gap_tracker.specs.Stories.{Story};
 ghost use Rattle.ear.specs.Hears.{all_given, arrivals_of, is_clear, is_quiet, is_finished};
-ghost use Rattle.rtt_read.specs.declared.confs.ReadConf.{ReadConf};
+ghost use Rattle.command_spec.specs.declared.requests.ReadRequest.{ReadRequest};
 ghost use Rattle.text_spec.specs.Shown.{shown};
 ghost use Rattle.text_spec.specs.Views.{text_view};
-ghost use Rattle.rtt_read.specs.ReadView.{usual_wait, fate_of, is_refused, is_foreign, Refused};
+ghost use Rattle.command_spec.specs.Reading.{usual_wait, fate_of, is_refused, is_foreign, Refused};
 ghost use Rattle.rtt_read.specs.Hears.{HearsText, IsHearingText, SameStream, one_if, CountsAs, Listens, IsListening};
 
-use crate::ReadConf;
+use command_spec::ReadRequest;
 use ear::{Ear, EarConf};
 use rtt_base::{Bytes, NoMemory};
 use std::alloc::Global;
@@ -35,7 +35,7 @@ pub struct Listener {
 
 impl Listener {
     /// A listener to whom nothing came yet.
-    pub fn new(alloc: Global, conf: ReadConf) -> Result<Listener, NoMemory>
+    pub fn new(alloc: Global, conf: ReadRequest) -> Result<Listener, NoMemory>
         ensures listens { IfOk result (λ listener. Listens listener conf []) }
         ensures counts { IfOk result (λ listener. (listener.counts.packets ≡ 0) × (listener.counts.refused ≡ 0) × (listener.counts.foreign ≡ 0)) }
     {
@@ -57,7 +57,7 @@ impl Listener {
         requires stands { IsHearingText self.old }
         requires clear { is_clear self.old.ear ≡ Bool.true }
         requires few { arrivals_of self.old.ear ≤ 2 ^ 40 }
-        ensures gathers { OnOk result ((r : ReadConf) (story : Story) → HearsText self.old r story → HearsText self.new r (all_given story)) }
+        ensures gathers { OnOk result ((r : ReadRequest) (story : Story) → HearsText self.old r story → HearsText self.new r (all_given story)) }
         ensures same { OnOk result (SameStream self.old self.new) }
         ensures quiet { OnOk result (is_quiet self.new.ear ≡ Bool.true) }
         ensures arrivals { OnOk result (arrivals_of self.new.ear ≡ arrivals_of self.old.ear) }
@@ -86,9 +86,9 @@ impl Listener {
     pub fn arrive(&mut self, at: u32, octets: &[u8]) -> Result<(), NoMemory>
         requires stands { IsListening self.old }
         requires few { self.old.counts.packets < 2 ^ 40 }
-        ensures listens { OnOk result ((r : ReadConf) (past : List Arrival) → Listens self.old r past
+        ensures listens { OnOk result ((r : ReadRequest) (past : List Arrival) → Listens self.old r past
             → Listens self.new r (arrived at (text_of octets.now (Some r.ssrc) r.pts) past)) }
-        ensures counts { OnOk result ((r : ReadConf) (past : List Arrival) → Listens self.old r past
+        ensures counts { OnOk result ((r : ReadRequest) (past : List Arrival) → Listens self.old r past
             → CountsAs (fate_of (text_of octets.now (Some r.ssrc) r.pts)) self.old.counts self.new.counts) }
     {
         self.counts.packets += 1;
@@ -105,7 +105,7 @@ impl Listener {
     pub fn refuse(&mut self)
         requires stands { IsListening self.old }
         requires few { self.old.counts.packets < 2 ^ 40 }
-        ensures listens { (r : ReadConf) (past : List Arrival) → Listens self.old r past → Listens self.new r past }
+        ensures listens { (r : ReadRequest) (past : List Arrival) → Listens self.old r past → Listens self.new r past }
         ensures counts { CountsAs Refused self.old.counts self.new.counts }
     {
         self.counts.packets += 1;
@@ -116,9 +116,9 @@ impl Listener {
     pub fn finish(&mut self) -> Result<(), NoMemory>
         requires stands { IsListening self.old }
         requires few { self.old.counts.packets < 2 ^ 40 }
-        ensures heard { OnOk result ((r : ReadConf) (past : List Arrival) → Listens self.old r past
+        ensures heard { OnOk result ((r : ReadRequest) (past : List Arrival) → Listens self.old r past
             → self.new.text ≡ concat (heard usual_wait past r.source)) }
-        ensures used { OnOk result ((r : ReadConf) (past : List Arrival) → Listens self.old r past
+        ensures used { OnOk result ((r : ReadRequest) (past : List Arrival) → Listens self.old r past
             → self.new.counts.used ≡ length (used usual_wait (numbered past))) }
         ensures same { OnOk result (SameStream self.old self.new) }
     {

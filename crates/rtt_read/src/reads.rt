@@ -4,14 +4,14 @@ ghost use Rattle.wire_spec.specs.Packets.{Arrival};
 ghost use Rattle.wire_spec.specs.Dump.{Recording, arrivals_with, dump, usual_limit};
 ghost use Rattle.rtpdump_io.specs.Reading.{is_ended, to_come, source_of};
 ghost use Rattle.rtt_io.specs.Counts.{Rose};
-ghost use Rattle.rtt_read.specs.declared.confs.ReadConf.{ReadConf};
-ghost use Rattle.rtt_read.specs.ReadView.{fate, read_view};
+ghost use Rattle.command_spec.specs.declared.requests.ReadRequest.{ReadRequest};
+ghost use Rattle.command_spec.specs.Reading.{fate, read_view};
 ghost use Rattle.rtt_read.specs.Hears.{CountsAs, Listens, IsListening};
 ghost use Rattle.rtpdump_io.specs.Answers.{record_of, is_end};
 ghost use Rattle.rtt_read.specs.Recordings.{Hearing, IsSourceFault, ListenFaultOf};
 
-use crate::ReadConf;
 use crate::listeners::Listener;
+use command_spec::ReadRequest;
 use rtpdump_io::{DumpFault, DumpItem, DumpReader};
 use rtt_base::{Bytes, NoMemory as OutOfMemory, Packet};
 use rtt_io::Source;
@@ -30,9 +30,9 @@ fn hear_record(listener: &mut Listener, item: DumpItem, octets: &[u8]) -> Result
     requires stands { IsListening listener.old }
     requires few { listener.old.counts.packets < 2 ^ 40 }
     requires more { is_end item ≡ Bool.false }
-    ensures listens { OnOk result ((r : ReadConf) (past : List Arrival) → Listens listener.old r past
+    ensures listens { OnOk result ((r : ReadRequest) (past : List Arrival) → Listens listener.old r past
         → Listens listener.new r (arrivals_with r.ssrc r.pts (record_of item octets.now) past)) }
-    ensures counts { OnOk result ((r : ReadConf) (past : List Arrival) → Listens listener.old r past
+    ensures counts { OnOk result ((r : ReadRequest) (past : List Arrival) → Listens listener.old r past
         → CountsAs (fate r (record_of item octets.now)) listener.old.counts listener.new.counts) }
     ensures few { OnOk result (listener.new.counts.packets ≤ listener.old.counts.packets + 1) }
 {
@@ -79,7 +79,7 @@ fn listen<S: Source>(reader: &mut DumpReader<S>, listener: &mut Listener) -> Res
 pub fn heard_view<S: Source>(
     alloc: Global,
     reader: &mut DumpReader<S>,
-    conf: ReadConf,
+    conf: ReadRequest,
 ) -> Result<Bytes, ListenFault>
     requires open { is_ended reader.old ≡ Bool.false }
     ensures view { S.tells → IfOk result (λ view. (octets : List ℕ) → to_come S.left reader.old ≡ dump usual_limit octets

@@ -1,4 +1,5 @@
-use crate::{ListenFault, ReadConf, heard_view};
+use crate::{ListenFault, heard_view};
+use command_spec::ReadRequest;
 use rtpdump_io::{DumpFault, DumpReader};
 use rtt_base::{Bytes, NoMemory, Pts};
 use rtt_io::{Source, SteadySource};
@@ -6,7 +7,7 @@ use std::alloc::Global;
 use std::test::Fail;
 use wire_spec::DumpKind;
 
-const ANN: ReadConf = ReadConf {
+const ANN: ReadRequest = ReadRequest {
     ssrc: 1001,
     source: 1001,
     pts: Pts { t140: 98, red: 100 },

@@ -20,7 +20,7 @@ use Rattle.file_spec.specs.Steps.{◌>>=◌, unless}
 use Rattle.file_spec.specs.Lines.{Line, told, is_comment, at_line, read_lines}
 use Rattle.file_spec.specs.Numbers.{is_number, number}
 use Rattle.file_spec.specs.Script.{escape, followed, unescaped, typed, around_space, script_line, latest, and_line, script}
-use Rattle.rtt_send.specs.Scripts.{InOrder, AreLines}
+use Rattle.command_spec.specs.Scripts.{InOrder, AreLines}
 
 -- ---- one test after another
 bind_ok : {A B E : Type 0} (x : Result A E) (f : A → Result B E) (y : B) → (x >>= f) ≡ Ok y → (a : A) × (x ≡ Ok a) × (f a ≡ Ok y)

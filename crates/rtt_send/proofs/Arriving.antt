@@ -22,8 +22,8 @@ use Rattle.text_sender.specs.Confs.{IsConf, stream_of}
 use Rattle.text_sender.specs.Standing.{sent_by, history_sent}
 use Rattle.wire_spec.specs.SentPackets.{packet_written}
 use Rattle.text_sender.proofs.Sending.{length_sents}
-use Rattle.rtt_send.specs.Scripts.{AreLines, events_through}
-use Rattle.rtt_send.specs.Recordings.{records_of, records_sent, recording_sent}
+use Rattle.command_spec.specs.Scripts.{AreLines, events_through}
+use Rattle.rtt_send.specs.Scripts.{records_of, records_sent, recording_sent}
 use Rattle.rtt_send.proofs.ReadBack.{Backs, all_back, items_back, packet_stays}
 use Rattle.rtt_send.proofs.Typed.{script_through, lawful_sent}
 

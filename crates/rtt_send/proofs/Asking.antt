@@ -18,8 +18,8 @@ use Rattle.text_sender.specs.States.{State}
 use Rattle.text_sender.specs.Standing.{StandsFor, sent_by, waits_for, has_more, next_due_of, last_of}
 use Rattle.wire_spec.specs.SentPackets.{packet_written}
 use Rattle.text_sender.proofs.Scripts.{due_from, none_due}
-use Rattle.rtt_send.specs.Scripts.{events_before, events_until, events_through}
-use Rattle.rtt_send.specs.Recordings.{records_of}
+use Rattle.command_spec.specs.Scripts.{events_before, events_until, events_through}
+use Rattle.rtt_send.specs.Scripts.{records_of}
 use Rattle.rtt_send.specs.Insides.{Records}
 use Rattle.rtt_send.proofs.Events.{before_suc, until_later}
 

@@ -12,7 +12,7 @@ use Rattle.stream_spec.proofs.Typing.{entries_more, waits_less, waits_utf8, pace
 use Rattle.text_sender.specs.declared.senders.SendConf.{SendConf}
 use Rattle.text_sender.specs.Confs.{IsConf, stream_of}
 use Rattle.text_sender.specs.Standing.{sent_by, waits_for, has_more}
-use Rattle.rtt_send.specs.Scripts.{events_before, events_until, events_through}
+use Rattle.command_spec.specs.Scripts.{events_before, events_until, events_through}
 use Rattle.rtt_send.proofs.Events.{before_suc, until_later, script_on, asked_until}
 use Rattle.rtt_send.proofs.Asking.{idle, no_more}
 use Rattle.rtt_send.proofs.Fronts.{some_front}

@@ -7,7 +7,7 @@ use Rattle.std.proofs.lemmas.Bool.{cases_lt}
 use Rattle.std.proofs.lemmas.Bool.Decides.{nat_tests}
 use Rattle.file_spec.specs.Script.{ScriptLine}
 use Rattle.stream_spec.specs.Typed.{Event, Text, Ask, last_ask, IsScript}
-use Rattle.rtt_send.specs.Scripts.{typed_at, events_before, events_until, events_through}
+use Rattle.command_spec.specs.Scripts.{typed_at, events_before, events_until, events_through}
 
 -- ---- the lines of a millisecond
 none_at : (t : ℕ) (lines : List ScriptLine) (past : List Event) → AllByRecursion (λ l. l.at < t) lines → typed_at t lines past ≡ past

@@ -22,8 +22,9 @@ use Rattle.text_sender.specs.Standing.{sent_by, history_sent}
 use Rattle.text_sender.proofs.Sending.{own_sents}
 use Rattle.stream_spec.proofs.Sent.{in_sent_of}
 use Rattle.stream_spec.specs.Own.{Sent}
-use Rattle.rtt_send.specs.Scripts.{AreLines, texts, events_through, IsEnd}
-use Rattle.rtt_send.specs.Recordings.{records_sent, recording_sent}
+use Rattle.command_spec.specs.Scripts.{AreLines, texts, events_through}
+use Rattle.rtt_send.specs.Scripts.{IsEnd}
+use Rattle.rtt_send.specs.Scripts.{records_sent, recording_sent}
 use Rattle.rtt_send.proofs.Arriving.{place_under, recording_arrives}
 use Rattle.rtt_send.proofs.Typed.{script_through, lawful_sent, texts_sent}
 

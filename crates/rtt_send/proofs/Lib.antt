@@ -6,6 +6,7 @@ pub mod Ending
 pub mod Lines
 pub mod Accepted
 pub mod Typed
+pub mod Firsts
 pub mod ReadBack
 pub mod Arriving
 pub mod Heard

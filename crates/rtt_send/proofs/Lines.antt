@@ -10,8 +10,9 @@ use Rattle.file_spec.specs.Script.{ScriptLine}
 use Rattle.stream_spec.specs.Typed.{Event, Turned}
 use Rattle.text_sender.specs.declared.senders.SendConf.{SendConf}
 use Rattle.text_sender.specs.Standing.{sent_by, waits_for}
-use Rattle.rtt_send.specs.Scripts.{AreLines, events_until, events_through, IsEnd, full_below, full_line}
-use Rattle.rtt_send.specs.Recordings.{records_of, recording_sent}
+use Rattle.command_spec.specs.Scripts.{AreLines, events_until, events_through}
+use Rattle.rtt_send.specs.Scripts.{IsEnd, full_below, full_line}
+use Rattle.rtt_send.specs.Scripts.{records_of, recording_sent}
 use Rattle.rtt_send.specs.Insides.{Records, IsAt}
 use Rattle.rtt_send.specs.declared.recorders.Recorder.{Recorder}
 use Rattle.rtt_send.proofs.Events.{before_suc, until_later}

@@ -27,8 +27,8 @@ use Rattle.text_sender.specs.Confs.{IsConf, stream_of}
 use Rattle.text_sender.specs.Standing.{sent_by, history_sent}
 use Rattle.wire_spec.specs.SentPackets.{csrc_of, packet_written}
 use Rattle.red_window.proofs.Fitting.{packet_fits, few_octets}
-use Rattle.rtt_send.specs.Scripts.{AreLines, events_through}
-use Rattle.rtt_send.specs.Recordings.{records_of, records_sent, recording_sent}
+use Rattle.command_spec.specs.Scripts.{AreLines, events_through}
+use Rattle.rtt_send.specs.Scripts.{records_of, records_sent, recording_sent}
 use Rattle.rtt_send.proofs.Typed.{script_through}
 
 -- ---- a packet

@@ -11,7 +11,7 @@ use Rattle.text_sender.specs.declared.senders.SendConf.{SendConf}
 use Rattle.text_sender.specs.Confs.{IsConf, stream_of}
 use Rattle.text_sender.specs.States.{State}
 use Rattle.text_sender.specs.Standing.{StandsFor, waits_for, next_due_of}
-use Rattle.rtt_send.specs.Scripts.{events_before, events_until, events_through}
+use Rattle.command_spec.specs.Scripts.{events_before, events_until, events_through}
 use Rattle.rtt_send.specs.Insides.{Records}
 use Rattle.rtt_send.proofs.Events.{none_before, until_one, until_later, script_on}
 use Rattle.rtt_send.proofs.Asking.{idle_on, before_next, no_next, next_later, records_also}

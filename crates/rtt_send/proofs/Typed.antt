@@ -13,7 +13,8 @@ use Rattle.text_sender.specs.declared.senders.SendConf.{SendConf}
 use Rattle.text_sender.specs.Confs.{IsConf}
 use Rattle.text_sender.specs.Standing.{history_sent}
 use Rattle.text_sender.proofs.Scripts.{lawful, end_sent, end_closed}
-use Rattle.rtt_send.specs.Scripts.{InOrder, AreLines, texts, typed_at, events_before, events_until, events_through, IsEnd}
+use Rattle.command_spec.specs.Scripts.{InOrder, AreLines, texts, typed_at, events_before, events_until, events_through}
+use Rattle.rtt_send.specs.Scripts.{IsEnd}
 use Rattle.rtt_send.proofs.Events.{before_suc, none_before, until_later, until_one, asked_until}
 
 -- ---- a script of a sender

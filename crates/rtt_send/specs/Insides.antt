@@ -8,8 +8,8 @@ use Rattle.text_sender.specs.Confs.{IsConf}
 use Rattle.text_sender.specs.States.{State}
 use Rattle.text_sender.specs.Standing.{StandsFor, sent_by, waits_for}
 use Rattle.rtt_send.specs.declared.recorders.Recorder.{Recorder}
-use Rattle.rtt_send.specs.Scripts.{events_until, events_through}
-use Rattle.rtt_send.specs.Recordings.{records_of}
+use Rattle.command_spec.specs.Scripts.{events_until, events_through}
+use Rattle.rtt_send.specs.Scripts.{records_of}
 
 -- The sender stands for these events, and the octets are the recording of what it sent.
 pub record Records (conf : SendConf) (s : State) (octets : List ℕ) (past : List Event) : Type 0 where

@@ -12,8 +12,9 @@ ghost use Rattle.stream_spec.specs.Own.{Own, Closed, own_packet};
 ghost use Rattle.text_sender.specs.declared.senders.SendConf.{SendConf};
 ghost use Rattle.text_sender.specs.Confs.{IsConf};
 ghost use Rattle.text_sender.specs.Standing.{history_sent};
-ghost use Rattle.rtt_send.specs.Scripts.{AreLines, events_through, texts, IsEnd};
-ghost use Rattle.rtt_send.specs.Recordings.{records_sent, recording_sent, IsReadable};
+ghost use Rattle.command_spec.specs.Scripts.{AreLines, events_through, texts};
+ghost use Rattle.rtt_send.specs.Scripts.{IsEnd, full_line, first_end, records_sent, recording_sent};
+ghost use Rattle.rtt_send.specs.Recordings.{IsReadable};
 
 /// A script that is accepted has its lines in order, in the first four hours, and their texts are UTF-8.
 pub fn accepted_scripts_are_lines()
@@ -24,6 +25,15 @@ pub fn accepted_scripts_are_lines()
 pub fn ends_agree()
     ensures { (conf : SendConf) (lines : List ScriptLine) (t u : ℕ) → IsEnd conf lines t → IsEnd conf lines u
         → recording_sent conf lines t ≡ recording_sent conf lines u }
+{}
+
+/// A script of which no line is full has an end. The first one comes before 80000000 ms, and before each other.
+pub fn scripts_end()
+    ensures end { (conf : SendConf) (lines : List ScriptLine) → IsConf conf → AreLines lines → full_line conf lines ≡ None
+        → IsEnd conf lines (first_end conf lines) }
+    ensures early { (conf : SendConf) (lines : List ScriptLine) → IsConf conf → AreLines lines → full_line conf lines ≡ None
+        → first_end conf lines < 80000000 }
+    ensures first { (conf : SendConf) (lines : List ScriptLine) (t : ℕ) → t < 2 ^ 31 → IsEnd conf lines t → first_end conf lines ≤ t }
 {}
 
 /// What a script sends is a lawful history, each entry of which has two generations. At an end each text was repeated

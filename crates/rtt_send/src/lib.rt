@@ -8,7 +8,7 @@ mod sending;
 
 pub use faults::SendFault;
 pub use laws::{
-    accepted_scripts_are_lines, ends_agree, sent_arrives, sent_history, sent_is_heard,
+    accepted_scripts_are_lines, ends_agree, scripts_end, sent_arrives, sent_history, sent_is_heard,
     sent_is_read_back,
 };
 pub use sending::send_script;

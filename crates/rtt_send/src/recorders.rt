@@ -25,7 +25,7 @@ impl Recorder {
     ghost use Rattle.script_text.specs.ScriptLines.{line_of};
     ghost use Rattle.text_sender.specs.Confs.{IsConf};
     ghost use Rattle.text_sender.specs.Standing.{waits_for};
-    ghost use Rattle.rtt_send.specs.Scripts.{events_until};
+    ghost use Rattle.command_spec.specs.Scripts.{events_until};
     ghost use Rattle.rtt_send.specs.Insides.{IsAt, IsAsked, Known};
 
     /// A sender that was neither given a text nor asked.

@@ -1,8 +1,8 @@
 //! Sends a script.
 ghost use Rattle.std.specs.Prelude.{◌≡◌, ◌<◌, ◌^◌, ℕ, None, IfOk, IfErr};
 ghost use Rattle.text_sender.specs.Confs.{IsConf};
-ghost use Rattle.rtt_send.specs.Scripts.{AreLines, IsEnd, full_line};
-ghost use Rattle.rtt_send.specs.Recordings.{recording_sent};
+ghost use Rattle.command_spec.specs.Scripts.{AreLines};
+ghost use Rattle.rtt_send.specs.Scripts.{full_line, recording};
 ghost use Rattle.rtt_send.specs.Answers.{IsCause};
 
 use crate::SendFault;
@@ -22,8 +22,7 @@ const LAST: u64 = 80_000_000;
 pub fn send_script(alloc: Global, script: &Script, conf: SendConf) -> Result<Bytes, SendFault>
     requires conf { IsConf conf }
     requires lines { AreLines script.now }
-    ensures sent { IfOk result (λ octets. (t : ℕ) → IsEnd conf script.now t → octets ≡ recording_sent conf script.now t) }
-    ensures ends { IfOk result (λ octets. (t : ℕ) × IsEnd conf script.now t × (t < 2 ^ 31)) }
+    ensures sent { IfOk result (λ octets. octets ≡ recording conf script.now) }
     ensures room { IfOk result (λ octets. full_line conf script.now ≡ None) }
     ensures cause { IfErr result (λ fault. IsCause fault (full_line conf script.now)) }
 {

@@ -1,272 +1,100 @@
--- The status of a command and what is told of it, from what is known of its fault.
-use Rattle.std.proofs.Common.{◌≡◌, ℕ, Option, Some, None, List, refl, ap, sym, inl, inr, arith, subst, Result, Ok, Err}
-use Rattle.std.specs.Prelude.{◌⊎◌, IfErr, OnOk, IfSome}
-use Rattle.file_spec.specs.Words.{Command, Read, ListRecords, Send}
-use Rattle.rtt_top.specs.declared.faults.Fault.{Fault}
-use Rattle.rtt_top.specs.declared.faults.Fault.TheVariants.{WrongWords, CannotOpen, CannotRead, BadScript, BadRecording, CannotPrint, CannotWrite, NoMemory}
-use Rattle.rtt_top.specs.Tasks.{Refused, AtByte, AtLine, input_of, refusal_of, IsOutput, IsLineRefusal, IsByteRefusal}
-use Rattle.rtt_top.specs.Messages.{status_of, refusal_status, message_of, refusal_message, opening_message, reading_message, saving_message, writing_message, line_message, place_message}
-use Rattle.rtt_top.specs.Faults.{IsAbout, IsCaused, IsTrueOf, IsPrinting, ended}
-use Rattle.rtt_top.specs.Runs.{ForInput, IsCalm, CannotBeWritten}
-use Rattle.rtt_top.proofs.Asking.{for_command}
+-- What a run is, from how its command ends.
+use Rattle.std.proofs.Common.{◌≡◌, ℕ, true, Option, Some, None, List, [], ◌∷◌, ◌++◌, Result, Ok, Err, refl, ap, sym, subst, ◌∙◌, inl, inr, arith}
+use Rattle.std.specs.Prelude.{◌⊎◌}
+use Rattle.wire_spec.specs.Dump.{dump, usual_limit}
+use Rattle.wire_spec.specs.Dump as dumps
+use Rattle.stream_spec.specs.History.{History, Lawful, Come}
+use Rattle.file_spec.specs.Words.{ReadWords, Command, Read}
+use Rattle.command_spec.specs.declared.faults.Fault.{Fault}
+use Rattle.command_spec.specs.declared.faults.Fault.TheVariants.{WrongWords, CannotOpen, CannotRead, Refused, CannotPrint, CannotWrite, NoMemory}
+use Rattle.command_spec.specs.Work.{Contents, Made, Makes, Work}
+use Rattle.command_spec.specs.Outcomes.{Outcome, Missing, Done, outcome, outcome_from, IsDone, AllStored, Same}
+use Rattle.command_spec.specs.Outcomes as outcomes
+use Rattle.command_spec.specs.Reading.{arrivals_of, read_view, history_view}
+use Rattle.command_spec.specs.Commands.{request_of, unless_broken, work}
+use Rattle.command_spec.specs.Messages.{Ending, ending_of, status_of, message_of}
+use Rattle.rtt_top.specs.Outside.{Outside, Output, Failed}
+use Rattle.rtt_top.specs.Runs.{Prints, Unchanged, Ends, IsCalm, IsAsWorked, IsOfWords, IsViewOf, Runs}
+use Rattle.command_spec.proofs.Views.{same_view}
+use Rattle.rtt_top.proofs.Working.{lies}
 
--- ---- what is calm
-calm_own : (c : Command) (Own Objects : List ℕ → Type 0) (Out : Type 0) → IsCalm c Own Objects Out → Own (input_of c) → ⊥
-calm_own (Read r) Own Objects Out k = k.0
-calm_own (ListRecords l) Own Objects Out k = k.0
-calm_own (Send s) Own Objects Out k = k.0
+-- ---- where nothing outside failed
+all_done : (o : Outcome) (P : List ℕ → List Made → Type 0) → IsDone o P → Ok tt ≡ ending_of o
+all_done (Missing n) P d = absurd d
+all_done (outcomes.Refused n refusal) P d = absurd d
+all_done (Done printed files) P d = refl
 
-calm_objects : (c : Command) (Own Objects : List ℕ → Type 0) (Out : Type 0) → IsCalm c Own Objects Out → Objects (input_of c) → ⊥
-calm_objects (Read r) Own Objects Out k = k.1
-calm_objects (ListRecords l) Own Objects Out k = k.1
-calm_objects (Send s) Own Objects Out k = k.1
+as_worked : (w : Work) (Told Shown : Type 0) (old new : Outside) (name : List ℕ) (ending : Ending) → Told → Ends w Told Shown old new name ending → IsCalm w Told old new
+    → IsAsWorked w old ending
+as_worked w Told Shown old new name (Ok u) told e calm = inl (all_done (outcome old.contents w.steps) _ (e told))
+as_worked w Told Shown old new name (Err WrongWords) told e calm = absurd e.0
+as_worked w Told Shown old new name (Err (CannotOpen n)) told e calm = absurd (calm.inputs n name e.0.0 (inl e.0.1))
+as_worked w Told Shown old new name (Err (CannotRead n)) told e calm = absurd (calm.inputs n name e.0.0 (inr e.0.1))
+as_worked w Told Shown old new name (Err (Refused n refusal)) told e calm = inl (ap ending_of (sym (e.0.1 told)))
+as_worked w Told Shown old new name (Err CannotPrint) told e calm = absurd (calm.output e.0 e.1)
+as_worked w Told Shown old new name (Err (CannotWrite n)) told e calm = absurd (calm.outputs n name e.0 e.1)
+as_worked w Told Shown old new name (Err NoMemory) told e calm = inr refl
 
-calm_out : (c : Command) (Own Objects : List ℕ → Type 0) (Out : Type 0) → IsCalm c Own Objects Out → IsPrinting c → Out → ⊥
-calm_out (Read r) Own Objects Out k p = k.2
-calm_out (ListRecords l) Own Objects Out k p = k.2
-calm_out (Send s) Own Objects Out k p = absurd p
+-- ---- a lawful history
+from_view : (held : Contents) (found : Option dumps.Fault) (view : List ℕ) (P : List ℕ → List Made → Type 0) → IsDone (outcome_from 1 held (unless_broken found (Makes view []))) P → P view []
+from_view held None view P d = d
+from_view held (Some fault) view P d = absurd d
 
-calm_file : (c : Command) (Own Objects : List ℕ → Type 0) (Out : Type 0) (name : List ℕ) → IsCalm c Own Objects Out → IsOutput c name → Own name ⊎ Objects name → ⊥
-calm_file (Read r) Own Objects Out name k p = absurd p
-calm_file (ListRecords l) Own Objects Out name k p = absurd p
-calm_file (Send s) Own Objects Out name k p = λ rose. elim rose [ inl own ↦ k.2 (subst Own p own) | inr object ↦ k.3 (subst Objects p object) ]
+viewed : (Told Shown : Type 0) (old new : Outside) (name : List ℕ) (h : History) → Lawful h → Told → Shown → (r : ReadWords) (octets view : List ℕ) → old.contents r.file ≡ Some octets
+    → Come h (arrivals_of (request_of r) octets) → view ≡ history_view h (request_of r) octets → Ends (work (Read r)) Told Shown old new name (Ok tt) → Prints view old new
+viewed Told Shown old new name h law told shown r octets view held come is ends =
+    let P : List ℕ → List Made → Type 0 = λ printed files. AllStored files old.contents new.contents × (Shown → Prints printed old new) in
+    let at = subst (λ o. IsDone o P) (lies old.contents r.file (λ octets. unless_broken (dump usual_limit octets).fault (Makes (read_view (request_of r) octets) [])) octets held) (ends told) in
+    let p = from_view old.contents (dump usual_limit octets).fault (read_view (request_of r) octets) P at in
+    p.1 shown ∙ ap (λ (v : List ℕ). old.out.octets ++ v) (same_view h law (request_of r) octets come ∙ sym is)
 
-opened : (c : Command) (Own Objects : List ℕ → Type 0) (Out : Type 0) (fault : Fault) → IsAbout c fault → IsCaused Own Objects Out fault → status_of fault ≡ 3 → Own (input_of c)
-opened c Own Objects Out WrongWords a k s = absurd a
-opened c Own Objects Out (CannotOpen name) a k s = subst Own a k
-opened c Own Objects Out (CannotRead name) a k s = absurd (omega arith)
-opened c Own Objects Out (BadScript name line kind) a k s = absurd (omega arith)
-opened c Own Objects Out (BadRecording name byte kind) a k s = absurd (omega arith)
-opened c Own Objects Out CannotPrint a k s = absurd (omega arith)
-opened c Own Objects Out (CannotWrite name) a k s = absurd (omega arith)
-opened c Own Objects Out NoMemory a k s = absurd (omega arith)
+the_same : (c : Command) (r : ReadWords) → Some c ≡ Some (Read r) → c ≡ Read r
+the_same c r e = cc
 
-pub cannot_open : (c : Command) (Own Objects : List ℕ → Type 0) (Out : Type 0) (res : Result (Unit {0}) Fault) → IfErr res (IsAbout c) → IfErr res (IsCaused Own Objects Out) → ended res ≡ 3 → Own (input_of c)
-cannot_open c Own Objects Out (Ok u) a k s = absurd (omega arith)
-cannot_open c Own Objects Out (Err fault) a k s = opened c Own Objects Out fault a k s
+pub runs : (c : Command) (Told Shown Heard : Type 0) (old new : Outside) (before after : Output) (status : ℕ) (ending : Ending) (name : List ℕ)
+    → status ≡ status_of ending → Ends (work c) Told Shown old new name ending → (ending ≡ Ok tt → after.octets ≡ before.octets)
+    → (Heard → (Failed before after → ⊥) → after.octets ≡ before.octets ++ message_of name ending) → Runs (Some c) Told Shown Heard old new before after status
+runs c Told Shown Heard old new before after status ending name is ends silent told = record {
+  ending = ending;
+  name = name;
+  is_status = is;
+  ends = ends;
+  calm = λ t d e calm. subst (λ k. IsCalm (work k) Told old new → IsAsWorked (work k) old ending) (some_same c d e) (λ calm. as_worked (work c) Told Shown old new name ending t ends calm) calm;
+  kept = λ t s ok h law view v.
+      let P : Command → Type 0 = λ k. Ends (work k) Told Shown old new name ending in
+      let Q : Ending → Type 0 = λ q. Ends (work (Read v.request)) Told Shown old new name q in
+      viewed Told Shown old new name h law t s v.request v.octets view v.lies v.come v.view_is (subst Q ok (subst P (the_same c v.request v.reads) ends));
+  silent = silent;
+  told = told;
+}
+  where
+    some_same : (c d : Command) → Some c ≡ Some d → c ≡ d
+    some_same c d e = cc
 
-failed : (c : Command) (Own Objects : List ℕ → Type 0) (Out : Type 0) (fault : Fault) → IsAbout c fault → IsCaused Own Objects Out fault → status_of fault ≡ 4 → Objects (input_of c)
-failed c Own Objects Out WrongWords a k s = absurd a
-failed c Own Objects Out (CannotOpen name) a k s = absurd (omega arith)
-failed c Own Objects Out (CannotRead name) a k s = subst Objects a k
-failed c Own Objects Out (BadScript name line kind) a k s = absurd (omega arith)
-failed c Own Objects Out (BadRecording name byte kind) a k s = absurd (omega arith)
-failed c Own Objects Out CannotPrint a k s = absurd (omega arith)
-failed c Own Objects Out (CannotWrite name) a k s = absurd (omega arith)
-failed c Own Objects Out NoMemory a k s = absurd (omega arith)
+-- words outside the word table
+pub no_words : (words : Option Command) (Told Shown Heard : Type 0) (old : Outside) (before after : Output) (status : ℕ) (fault : Fault) (name : List ℕ)
+    → words ≡ None → IsOfWords (Err fault) → status ≡ status_of (Err fault)
+    → (let none : Ending = Err fault in none ≡ Ok tt → after.octets ≡ before.octets)
+    → (Heard → (Failed before after → ⊥) → after.octets ≡ before.octets ++ message_of name (Err fault)) → Runs words Told Shown Heard old old before after status
+no_words words Told Shown Heard old before after status fault name none is s silent told =
+    subst (λ w. Runs w Told Shown Heard old old before after status) (sym none) (let here : Runs None Told Shown Heard old old before after status = record {
+      ending = Err fault;
+      name = name;
+      is_status = s;
+      ends = (is, ((λ shown. refl), λ told name. refl));
+      calm = λ t c e. absurd (no_command c e);
+      kept = λ t s ok h law view v. absurd (no_command (Read v.request) v.reads);
+      silent = silent;
+      told = told;
+    } in here)
+  where
+    no_command : (c : Command) → let nothing : Option Command = None in nothing ≡ Some c → ⊥
+    no_command c e = cc e
 
-pub cannot_read : (c : Command) (Own Objects : List ℕ → Type 0) (Out : Type 0) (res : Result (Unit {0}) Fault) → IfErr res (IsAbout c) → IfErr res (IsCaused Own Objects Out) → ended res ≡ 4 → Objects (input_of c)
-cannot_read c Own Objects Out (Ok u) a k s = absurd (omega arith)
-cannot_read c Own Objects Out (Err fault) a k s = failed c Own Objects Out fault a k s
-
-unprinted : (c : Command) (Own Objects : List ℕ → Type 0) (Out : Type 0) → IsPrinting c → Out → CannotBeWritten c Own Objects Out
-unprinted (Read r) Own Objects Out p k = k
-unprinted (ListRecords l) Own Objects Out p k = k
-unprinted (Send s) Own Objects Out p k = absurd p
-
-unsaved : (c : Command) (Own Objects : List ℕ → Type 0) (Out : Type 0) (name : List ℕ) → IsOutput c name → Own name ⊎ Objects name → CannotBeWritten c Own Objects Out
-unsaved (Read r) Own Objects Out name p k = absurd p
-unsaved (ListRecords l) Own Objects Out name p k = absurd p
-unsaved (Send s) Own Objects Out name p k = elim k [ inl own ↦ inl (subst Own p own) | inr object ↦ inr (subst Objects p object) ]
-
-written : (c : Command) (Own Objects : List ℕ → Type 0) (Out : Type 0) (fault : Fault) → IsAbout c fault → IsCaused Own Objects Out fault → status_of fault ≡ 7 → CannotBeWritten c Own Objects Out
-written c Own Objects Out WrongWords a k s = absurd a
-written c Own Objects Out (CannotOpen name) a k s = absurd (omega arith)
-written c Own Objects Out (CannotRead name) a k s = absurd (omega arith)
-written c Own Objects Out (BadScript name line kind) a k s = absurd (omega arith)
-written c Own Objects Out (BadRecording name byte kind) a k s = absurd (omega arith)
-written c Own Objects Out CannotPrint a k s = unprinted c Own Objects Out a k
-written c Own Objects Out (CannotWrite name) a k s = unsaved c Own Objects Out name.now a k
-written c Own Objects Out NoMemory a k s = absurd (omega arith)
-
-pub cannot_write : (c : Command) (Own Objects : List ℕ → Type 0) (Out : Type 0) (res : Result (Unit {0}) Fault) → IfErr res (IsAbout c) → IfErr res (IsCaused Own Objects Out) → ended res ≡ 7 → CannotBeWritten c Own Objects Out
-cannot_write c Own Objects Out (Ok u) a k s = absurd (omega arith)
-cannot_write c Own Objects Out (Err fault) a k s = written c Own Objects Out fault a k s
-
--- ---- what is refused
-at_line : (found : Option Refused) (fault : Fault) → IsTrueOf found fault → status_of fault ≡ 5 → IsLineRefusal found
-at_line found WrongWords t s = absurd (omega arith)
-at_line found (CannotOpen name) t s = absurd (omega arith)
-at_line found (CannotRead name) t s = absurd (omega arith)
-at_line found (BadScript name line kind) t s = (record { line = line; kind = kind }, t)
-at_line found (BadRecording name byte kind) t s = absurd (omega arith)
-at_line found CannotPrint t s = absurd (omega arith)
-at_line found (CannotWrite name) t s = absurd (omega arith)
-at_line found NoMemory t s = absurd (omega arith)
-
-at_byte : (found : Option Refused) (fault : Fault) → IsTrueOf found fault → status_of fault ≡ 6 → IsByteRefusal found
-at_byte found WrongWords t s = absurd (omega arith)
-at_byte found (CannotOpen name) t s = absurd (omega arith)
-at_byte found (CannotRead name) t s = absurd (omega arith)
-at_byte found (BadScript name line kind) t s = absurd (omega arith)
-at_byte found (BadRecording name byte kind) t s = (record { byte = byte; kind = kind }, t)
-at_byte found CannotPrint t s = absurd (omega arith)
-at_byte found (CannotWrite name) t s = absurd (omega arith)
-at_byte found NoMemory t s = absurd (omega arith)
-
-pub script_refused : (found : Option Refused) (res : Result (Unit {0}) Fault) → IfErr res (IsTrueOf found) → ended res ≡ 5 → IsLineRefusal found
-script_refused found (Ok u) t s = absurd (omega arith)
-script_refused found (Err fault) t s = at_line found fault t s
-
-pub recording_refused : (found : Option Refused) (res : Result (Unit {0}) Fault) → IfErr res (IsTrueOf found) → ended res ≡ 6 → IsByteRefusal found
-recording_refused found (Ok u) t s = absurd (omega arith)
-recording_refused found (Err fault) t s = at_byte found fault t s
-
-none_some : {A : Type 0} (found : Option A) (x : A) → found ≡ None → found ≡ Some x → ⊥
-none_some found x n s = cc
-
-no_cause : (c : Command) (Own Objects : List ℕ → Type 0) (Out : Type 0) (found : Option Refused) (fault : Fault) → IsAbout c fault → IsCaused Own Objects Out fault → IsTrueOf found fault → IsCalm c Own Objects Out → found ≡ None → (status_of fault ≡ 0) ⊎ (status_of fault ≡ 70)
-no_cause c Own Objects Out found WrongWords a k t calm n = absurd a
-no_cause c Own Objects Out found (CannotOpen name) a k t calm n = absurd (calm_own c Own Objects Out calm (subst Own a k))
-no_cause c Own Objects Out found (CannotRead name) a k t calm n = absurd (calm_objects c Own Objects Out calm (subst Objects a k))
-no_cause c Own Objects Out found (BadScript name line kind) a k t calm n = absurd (none_some found (AtLine (record { line = line; kind = kind })) n t)
-no_cause c Own Objects Out found (BadRecording name byte kind) a k t calm n = absurd (none_some found (AtByte (record { byte = byte; kind = kind })) n t)
-no_cause c Own Objects Out found CannotPrint a k t calm n = absurd (calm_out c Own Objects Out calm a k)
-no_cause c Own Objects Out found (CannotWrite name) a k t calm n = absurd (calm_file c Own Objects Out name.now calm a k)
-no_cause c Own Objects Out found NoMemory a k t calm n = inr refl
-
--- where nothing outside failed and the file is not refused, the work is done or memory ran out
-pub completes : (c : Command) (Own Objects : List ℕ → Type 0) (Out : Type 0) (found : Option Refused) (res : Result (Unit {0}) Fault) → IfErr res (IsAbout c) → IfErr res (IsCaused Own Objects Out) → IfErr res (IsTrueOf found)
-    → IsCalm c Own Objects Out → found ≡ None → (ended res ≡ 0) ⊎ (ended res ≡ 70)
-completes c Own Objects Out found (Ok u) a k t calm n = inl refl
-completes c Own Objects Out found (Err fault) a k t calm n = no_cause c Own Objects Out found fault a k t calm n
-
--- the status of what is found is that of the refusal
-status_found : (found : Option Refused) (x r : Refused) → found ≡ Some x → found ≡ Some r → refusal_status x ≡ refusal_status r
-status_found found x r e f = ap refusal_status (let same : x ≡ r = cc in same)
-
-refused_as : (c : Command) (Own Objects : List ℕ → Type 0) (Out : Type 0) (found : Option Refused) (r : Refused) (fault : Fault) → IsAbout c fault → IsCaused Own Objects Out fault → IsTrueOf found fault → IsCalm c Own Objects Out → found ≡ Some r → (status_of fault ≡ refusal_status r) ⊎ (status_of fault ≡ 70)
-refused_as c Own Objects Out found r WrongWords a k t calm n = absurd a
-refused_as c Own Objects Out found r (CannotOpen name) a k t calm n = absurd (calm_own c Own Objects Out calm (subst Own a k))
-refused_as c Own Objects Out found r (CannotRead name) a k t calm n = absurd (calm_objects c Own Objects Out calm (subst Objects a k))
-refused_as c Own Objects Out found r (BadScript name line kind) a k t calm n = inl (status_found found (AtLine (record { line = line; kind = kind })) r t n)
-refused_as c Own Objects Out found r (BadRecording name byte kind) a k t calm n = inl (status_found found (AtByte (record { byte = byte; kind = kind })) r t n)
-refused_as c Own Objects Out found r CannotPrint a k t calm n = absurd (calm_out c Own Objects Out calm a k)
-refused_as c Own Objects Out found r (CannotWrite name) a k t calm n = absurd (calm_file c Own Objects Out name.now calm a k)
-refused_as c Own Objects Out found r NoMemory a k t calm n = inr refl
-
--- where nothing outside failed and the file is refused, the status is the refusal's, or memory ran out
-pub refuses : (c : Command) (Own Objects : List ℕ → Type 0) (Out : Type 0) (found : Option Refused) (r : Refused) (res : Result (Unit {0}) Fault) → IfErr res (IsAbout c) → IfErr res (IsCaused Own Objects Out) → IfErr res (IsTrueOf found)
-    → OnOk res (found ≡ None) → IsCalm c Own Objects Out → found ≡ Some r → (ended res ≡ refusal_status r) ⊎ (ended res ≡ 70)
-refuses c Own Objects Out found r (Ok u) a k t whole calm n = absurd (none_some found r whole n)
-refuses c Own Objects Out found r (Err fault) a k t whole calm n = refused_as c Own Objects Out found r fault a k t calm n
-
--- ---- what is told
-opening_text : (c : Command) (fault : Fault) → IsAbout c fault → status_of fault ≡ 3 → message_of fault ≡ opening_message (input_of c)
-opening_text c WrongWords a s = absurd a
-opening_text c (CannotOpen name) a s = ap opening_message a
-opening_text c (CannotRead name) a s = absurd (omega arith)
-opening_text c (BadScript name line kind) a s = absurd (omega arith)
-opening_text c (BadRecording name byte kind) a s = absurd (omega arith)
-opening_text c CannotPrint a s = absurd (omega arith)
-opening_text c (CannotWrite name) a s = absurd (omega arith)
-opening_text c NoMemory a s = absurd (omega arith)
-
-reading_text : (c : Command) (fault : Fault) → IsAbout c fault → status_of fault ≡ 4 → message_of fault ≡ reading_message (input_of c)
-reading_text c WrongWords a s = absurd a
-reading_text c (CannotOpen name) a s = absurd (omega arith)
-reading_text c (CannotRead name) a s = ap reading_message a
-reading_text c (BadScript name line kind) a s = absurd (omega arith)
-reading_text c (BadRecording name byte kind) a s = absurd (omega arith)
-reading_text c CannotPrint a s = absurd (omega arith)
-reading_text c (CannotWrite name) a s = absurd (omega arith)
-reading_text c NoMemory a s = absurd (omega arith)
-
-printing_text : (c : Command) → IsPrinting c → message_of CannotPrint ≡ writing_message c
-printing_text (Read r) p = refl
-printing_text (ListRecords l) p = refl
-printing_text (Send s) p = absurd p
-
-saving_text : (c : Command) (name : List ℕ) → IsOutput c name → saving_message name ≡ writing_message c
-saving_text (Read r) name p = absurd p
-saving_text (ListRecords l) name p = absurd p
-saving_text (Send s) name p = ap saving_message p
-
-writing_text : (c : Command) (fault : Fault) → IsAbout c fault → status_of fault ≡ 7 → message_of fault ≡ writing_message c
-writing_text c WrongWords a s = absurd a
-writing_text c (CannotOpen name) a s = absurd (omega arith)
-writing_text c (CannotRead name) a s = absurd (omega arith)
-writing_text c (BadScript name line kind) a s = absurd (omega arith)
-writing_text c (BadRecording name byte kind) a s = absurd (omega arith)
-writing_text c CannotPrint a s = printing_text c a
-writing_text c (CannotWrite name) a s = saving_text c name.now a
-writing_text c NoMemory a s = absurd (omega arith)
-
-line_text : (c : Command) (found : Option Refused) (fault : Fault) → IsAbout c fault → IsTrueOf found fault → status_of fault ≡ 5 → IfSome found (λ r. message_of fault ≡ refusal_message (input_of c) r)
-line_text c found WrongWords a t s = absurd a
-line_text c found (CannotOpen name) a t s = absurd (omega arith)
-line_text c found (CannotRead name) a t s = absurd (omega arith)
-line_text c found (BadScript name line kind) a t s = let P : Option Refused → Type 0 = λ o. IfSome o (λ r. line_message name.now line kind ≡ refusal_message (input_of c) r) in subst P (sym t) (ap (λ n. line_message n line kind) a)
-line_text c found (BadRecording name byte kind) a t s = absurd (omega arith)
-line_text c found CannotPrint a t s = absurd (omega arith)
-line_text c found (CannotWrite name) a t s = absurd (omega arith)
-line_text c found NoMemory a t s = absurd (omega arith)
-
-byte_text : (c : Command) (found : Option Refused) (fault : Fault) → IsAbout c fault → IsTrueOf found fault → status_of fault ≡ 6 → IfSome found (λ r. message_of fault ≡ refusal_message (input_of c) r)
-byte_text c found WrongWords a t s = absurd a
-byte_text c found (CannotOpen name) a t s = absurd (omega arith)
-byte_text c found (CannotRead name) a t s = absurd (omega arith)
-byte_text c found (BadScript name line kind) a t s = absurd (omega arith)
-byte_text c found (BadRecording name byte kind) a t s = let P : Option Refused → Type 0 = λ o. IfSome o (λ r. place_message name.now byte kind ≡ refusal_message (input_of c) r) in subst P (sym t) (ap (λ n. place_message n byte kind) a)
-byte_text c found CannotPrint a t s = absurd (omega arith)
-byte_text c found (CannotWrite name) a t s = absurd (omega arith)
-byte_text c found NoMemory a t s = absurd (omega arith)
-
-pub opening : (c : Command) (res : Result (Unit {0}) Fault) → IfErr res (IsAbout c) → IfErr res (λ fault. status_of fault ≡ 3 → message_of fault ≡ opening_message (input_of c))
-opening c (Ok u) a = tt
-opening c (Err fault) a = opening_text c fault a
-
-pub reading : (c : Command) (res : Result (Unit {0}) Fault) → IfErr res (IsAbout c) → IfErr res (λ fault. status_of fault ≡ 4 → message_of fault ≡ reading_message (input_of c))
-reading c (Ok u) a = tt
-reading c (Err fault) a = reading_text c fault a
-
-pub writing : (c : Command) (res : Result (Unit {0}) Fault) → IfErr res (IsAbout c) → IfErr res (λ fault. status_of fault ≡ 7 → message_of fault ≡ writing_message c)
-writing c (Ok u) a = tt
-writing c (Err fault) a = writing_text c fault a
-
-refusal_text : (c : Command) (found : Option Refused) (fault : Fault) → IsAbout c fault → IsTrueOf found fault → (status_of fault ≡ 5) ⊎ (status_of fault ≡ 6) → IfSome found (λ r. message_of fault ≡ refusal_message (input_of c) r)
-refusal_text c found fault a t (inl s) = line_text c found fault a t s
-refusal_text c found fault a t (inr s) = byte_text c found fault a t s
-
-pub refusing : (c : Command) (contents : Option (List ℕ)) (refused : List ℕ → Option Refused) (res : Result (Unit {0}) Fault) → IfErr res (IsAbout c)
-    → IfErr res (λ fault. (octets : List ℕ) → contents ≡ Some octets → IsTrueOf (refused octets) fault)
-    → IfErr res (λ fault. (status_of fault ≡ 5) ⊎ (status_of fault ≡ 6) → (octets : List ℕ) → contents ≡ Some octets → IfSome (refused octets) (λ r. message_of fault ≡ refusal_message (input_of c) r))
-refusing c contents refused (Ok u) a t = tt
-refusing c contents refused (Err fault) a t = λ s octets held. refusal_text c (refused octets) fault a (t octets held) s
-
--- of the octets that lie under the name
-pub at_octets : (res : Result (Unit {0}) Fault) (held : Option (List ℕ)) (refused : List ℕ → Option Refused) (octets : List ℕ) → held ≡ Some octets
-    → IfErr res (λ fault. (o : List ℕ) → held ≡ Some o → IsTrueOf (refused o) fault) → IfErr res (IsTrueOf (refused octets))
-at_octets (Ok u) held refused octets h f = tt
-at_octets (Err fault) held refused octets h f = f octets h
-
-pub whole_at : (res : Result (Unit {0}) Fault) (held : Option (List ℕ)) (refused : List ℕ → Option Refused) (octets : List ℕ) → held ≡ Some octets
-    → OnOk res ((o : List ℕ) → held ≡ Some o → refused o ≡ None) → OnOk res (refused octets ≡ None)
-whole_at (Ok u) held refused octets h f = f octets h
-whole_at (Err fault) held refused octets h f = tt
-
--- with status 0 the work is done
-never_zero : (fault : Fault) → status_of fault ≡ 0 → ⊥
-never_zero WrongWords s = omega arith
-never_zero (CannotOpen name) s = omega arith
-never_zero (CannotRead name) s = omega arith
-never_zero (BadScript name line kind) s = omega arith
-never_zero (BadRecording name byte kind) s = omega arith
-never_zero CannotPrint s = omega arith
-never_zero (CannotWrite name) s = omega arith
-never_zero NoMemory s = omega arith
-
-pub done : {P : Type 0} (res : Result (Unit {0}) Fault) → OnOk res P → ended res ≡ 0 → P
-done (Ok u) p s = p
-done (Err fault) p s = absurd (never_zero fault s)
-
-pub undone : {P : Type 0} (res : Result (Unit {0}) Fault) → IfErr res (λ fault. P) → ended res ≡ 7 → P
-undone (Ok u) p s = absurd (omega arith)
-undone (Err fault) p s = p
-
-pub told_of : (asked : Option Command) (c : Command) (contents : List ℕ → Option (List ℕ)) (res : Result (Unit {0}) Fault) → asked ≡ Some c
-    → IfErr res (λ fault. (status_of fault ≡ 5) ⊎ (status_of fault ≡ 6) → (octets : List ℕ) → contents (input_of c) ≡ Some octets → IfSome (refusal_of c octets) (λ r. message_of fault ≡ refusal_message (input_of c) r))
-    → IfErr res (λ fault. (status_of fault ≡ 5) ⊎ (status_of fault ≡ 6) → ForInput asked contents (λ d octets. IfSome (refusal_of d octets) (λ r. message_of fault ≡ refusal_message (input_of d) r)))
-told_of asked c contents (Ok u) e f = tt
-told_of asked c contents (Err fault) e f = λ s.
-    for_command asked c (λ d. (octets : List ℕ) → contents (input_of d) ≡ Some octets → IfSome (refusal_of d octets) (λ r. message_of fault ≡ refusal_message (input_of d) r)) e (f s)
+-- memory ran out before the words were read
+pub no_memory : (words : Option Command) (Told Shown Heard : Type 0) (old : Outside) (before after : Output) (status : ℕ) (name : List ℕ) → status ≡ 70
+    → (let none : Ending = Err NoMemory in none ≡ Ok tt → after.octets ≡ before.octets)
+    → (Heard → (Failed before after → ⊥) → after.octets ≡ before.octets ++ message_of name (Err NoMemory)) → Runs words Told Shown Heard old old before after status
+no_memory None Told Shown Heard old before after status name s silent told = no_words None Told Shown Heard old before after status NoMemory name refl (inr refl) s silent told
+no_memory (Some c) Told Shown Heard old before after status name s silent told =
+    runs c Told Shown Heard old old before after status (Err NoMemory) name s (tt, ((λ shown. refl), λ told name. refl)) silent told

@@ -1,5 +1,6 @@
 pub mod Counts
-pub mod Asking
+pub mod Sources
+pub mod Working
 pub mod Ending
-pub mod Kept
 pub mod Sending
+pub mod Histories

@@ -1,28 +1,135 @@
--- The recording that is made of a script.
-use Rattle.std.proofs.Common.{◌≡◌, ℕ, ◌<◌, ◌^◌, List, Ok, arith}
+-- A script that is sent.
+use Rattle.std.proofs.Common.{◌≡◌, ℕ, ◌+◌, ◌<◌, ◌≤◌, true, false, cond, Option, Some, None, List, [], ◌∷◌, ◌++◌, length, length-append, take, Result, Ok, Err, refl, ap, sym, subst, ◌∙◌, inl, inr, arith}
+use Rattle.std.specs.Prelude.{◌⊎◌, nat_lt, IfErr, OnOk, OnErr}
+use Rattle.std.proofs.lemmas.Bool.Decides.{nat_tests}
+use Rattle.file_spec.specs.declared.kinds.ConfKind.{ConfKind}
+use Rattle.file_spec.specs.declared.kinds.ConfKind.TheVariants.{Full, Large}
 use Rattle.file_spec.specs.Script.{ScriptLine}
-use Rattle.file_spec.specs.Script.{script}
-use Rattle.file_spec.specs.Words.{SendWords}
-use Rattle.text_sender.specs.Confs.{IsConf}
-use Rattle.text_sender.proofs.Scripts.{own}
-use Rattle.rtt_send.specs.Scripts.{AreLines, IsEnd, events_through}
-use Rattle.rtt_send.specs.Recordings.{recording_sent}
-use Rattle.rtt_send.proofs.Typed.{lawful_sent, closed_sent, texts_sent}
-use Rattle.rtt_top.specs.Tasks.{send_conf, IsSent}
+use Rattle.file_spec.specs.Lines as lines
+use Rattle.file_spec.specs.Lines.{read_lines, told, is_comment}
+use Rattle.std.specs.Str.Lines as str
+use Rattle.file_spec.specs.Script.{script, and_line}
+use Rattle.file_spec.specs.Words.{SendWords, Send}
+use Rattle.rtt_io.specs.Counts.{Rose}
+use Rattle.command_spec.specs.declared.faults.Refusal.{Refusal}
+use Rattle.command_spec.specs.declared.faults.Refusal.TheVariants.{AtLine}
+use Rattle.command_spec.specs.declared.faults.Fault.{Fault}
+use Rattle.command_spec.specs.declared.faults.Fault.TheVariants.{Refused, CannotWrite}
+use Rattle.command_spec.specs.Scripts as scripts
+use Rattle.command_spec.specs.Work.{Contents, Made, Steps, Reads, Refuses, Makes, IsInput, IsOutput}
+use Rattle.command_spec.specs.Outcomes.{outcome, outcome_from, Done, IsDone, Same, Stores, AllStored}
+use Rattle.command_spec.specs.Outcomes as outcomes
+use Rattle.command_spec.specs.Commands.{sending_of, sends, unless_full, work}
+use Rattle.command_spec.specs.Messages.{Ending}
+use Rattle.rtt_top.specs.Files.{IsFrontOf, IsPartlyStored}
+use Rattle.rtt_top.specs.Faults.{Stops, name_in}
+use Rattle.rtt_top.specs.Outside.{Outside, Output, CallFailed, ObjectFailed}
+use Rattle.rtt_top.specs.Runs.{PartlyStored, Unchanged, Ends}
+use Rattle.rtt_top.proofs.Counts.{rose_since, rose_before}
+use Rattle.rtt_top.proofs.Working.{lies, done}
 
-usual_conf : (s : SendWords) → IsConf (send_conf s)
-usual_conf s = record { least = omega arith; most = omega arith; t140 = omega arith; red = omega arith; gens = omega arith; differ = λ e. omega arith }
+-- ---- what was read is a script
+too_large : (octets : List ℕ) → 1048576 < length octets → script octets ≡ Err (record { line = 0; kind = Large })
+too_large octets l =
+    let over : nat_lt 1048576 (length octets) ≡ true = grind (arith, nat_tests) in
+    ap (λ b. cond b (Err (record { line = 0; kind = Large })) (read_lines and_line [] (told is_comment 1 (str.lines octets)))) over
 
-pub is_sent : (s : SendWords) (octets file : List ℕ) (lines : List ScriptLine) → script octets ≡ Ok lines → AreLines lines
-    → ((t : ℕ) → IsEnd (send_conf s) lines t → file ≡ recording_sent (send_conf s) lines t) → ((t : ℕ) × IsEnd (send_conf s) lines t × (t < 2 ^ 31)) → IsSent s octets file
-is_sent s octets file lines read are sent end = record {
-  lines = lines;
-  read = read;
-  end = end.0;
-  ends = end.1;
-  sent = sent end.0 end.1;
-  lawful = lawful_sent (send_conf s) lines end.0 (usual_conf s) are end.2;
-  own = own (send_conf s) (events_through lines end.0);
-  closed = closed_sent (send_conf s) lines end.0 (usual_conf s) are end.2 end.1;
-  whole = texts_sent (send_conf s) lines end.0 are end.1;
-}
+-- a front of more than the most says the same as the whole
+pub same_script : (octets whole : List ℕ) → IsFrontOf 1048576 octets whole → script whole ≡ script octets
+same_script octets whole (inl e) = ap script e
+same_script octets whole (inr f) =
+    let more = ap (λ (xs : List ℕ). length xs) f.2 in
+    too_large whole (omega (arith, f.0, more, length-append octets f.1)) ∙ sym (too_large octets f.0)
+
+accepted_front : (octets whole : List ℕ) (ls : List ScriptLine) → IsFrontOf 1048576 octets whole → script octets ≡ Ok ls → whole ≡ octets
+accepted_front octets whole ls (inl e) s = e
+accepted_front octets whole ls (inr f) s = let large = too_large octets f.0 in absurd (cc (s, large))
+
+-- the octets that were read, which lie there as far as that is told
+pub read_octets : (Told : Type 0) (held : Option (List ℕ)) (octets : List ℕ) (ls : List ScriptLine) → (Told → (whole : List ℕ) × (held ≡ Some whole) × IsFrontOf 1048576 octets whole)
+    → script octets ≡ Ok ls → (o : List ℕ) × (Told → held ≡ Some o) × (script o ≡ Ok ls)
+read_octets Told held octets ls given s = (octets, λ t. let g = given t in g.1 ∙ ap (λ (o : List ℕ). Some o) (accepted_front octets g.0 ls g.2 s), s)
+
+-- ---- a line that is refused
+pub refused_at : (Told : Type 0) (held : Contents) (s : SendWords) (Call Object : List ℕ → Type 0) (line : ℕ) (kind : ConfKind)
+    → (Told → (octets : List ℕ) × (held s.script ≡ Some octets) × (sends s (script octets) ≡ Refuses 0 (AtLine line kind)))
+    → Stops Told held (work (Send s)).steps Call Object s.script (Refused 0 (AtLine line kind))
+refused_at Told held s Call Object line kind t =
+    (refl, λ told. let h = t told in lies held s.script (λ octets. sends s (script octets)) h.0 h.1 ∙ ap (outcome_from 1 held) h.2)
+
+pub script_refused : (Told : Type 0) (held : Contents) (s : SendWords) (Call Object : List ℕ → Type 0) (octets : List ℕ) (line : ℕ) (kind : ConfKind)
+    → (Told → (whole : List ℕ) × (held s.script ≡ Some whole) × IsFrontOf 1048576 octets whole) → script octets ≡ Err (record { line = line; kind = kind })
+    → Stops Told held (work (Send s)).steps Call Object s.script (Refused 0 (AtLine line kind))
+script_refused Told held s Call Object octets line kind given e =
+    refused_at Told held s Call Object line kind (λ told. let g = given told in (g.0, g.1, ap (sends s) (same_script octets g.0 g.2 ∙ e)))
+
+pub full_refused : (Told : Type 0) (held : Contents) (s : SendWords) (Call Object : List ℕ → Type 0) (ls : List ScriptLine) (line : ℕ)
+    → (octets : List ℕ) × (Told → held s.script ≡ Some octets) × (script octets ≡ Ok ls) → scripts.full_line (sending_of s) ls ≡ Some line
+    → Stops Told held (work (Send s)).steps Call Object s.script (Refused 0 (AtLine line Full))
+full_refused Told held s Call Object ls line r full =
+    let made : List Made = record { name = s.out; octets = scripts.recording (sending_of s) ls } ∷ [] in
+    refused_at Told held s Call Object line Full (λ told. (r.0, r.1 told, ap (sends s) r.2 ∙ ap (λ o. unless_full o (Makes [] made)) full))
+
+-- ---- a recording that is made
+pub recorded : (s : SendWords) (octets file : List ℕ) (ls : List ScriptLine) → script octets ≡ Ok ls → scripts.full_line (sending_of s) ls ≡ None
+    → file ≡ scripts.recording (sending_of s) ls → sends s (script octets) ≡ Makes [] (record { name = s.out; octets = file } ∷ [])
+recorded s octets file ls read room is =
+    let made : List ℕ → List Made = λ f. record { name = s.out; octets = f } ∷ [] in
+    ap (sends s) read ∙ (ap (λ o. unless_full o (Makes [] (made (scripts.recording (sending_of s) ls)))) room ∙ ap (λ f. Makes [] (made f)) (sym is))
+
+-- ---- how a `send` ends
+output_is : (Told : Type 0) (held : Contents) (s : SendWords) (octets file : List ℕ) → (Told → held s.script ≡ Some octets)
+    → sends s (script octets) ≡ Makes [] (record { name = s.out; octets = file } ∷ []) → IsOutput Told held (work (Send s)).steps 0 s.out
+output_is Told held s octets file t e = (octets, t, subst (λ steps. IsOutput Told held steps 0 s.out) (sym e) refl)
+
+made_of : (held : Contents) (s : SendWords) (octets file : List ℕ) → held s.script ≡ Some octets
+    → sends s (script octets) ≡ Makes [] (record { name = s.out; octets = file } ∷ []) → outcome held (work (Send s)).steps ≡ Done [] (record { name = s.out; octets = file } ∷ [])
+made_of held s octets file h e = lies held s.script (λ octets. sends s (script octets)) octets h ∙ ap (outcome_from 1 held) e
+
+stores_after : (file : Made) (old between new : Contents) → Same old between → Stores file between new → Stores file old new
+stores_after file old between new same stores = record { stored = stores.stored; others = λ name other. stores.others name other ∙ same name }
+
+-- what was changed before the file is made is nothing
+partly_after : (Call Object CallBefore ObjectBefore : Type 0) (file : Made) (old between new : Contents) → (CallBefore → Call) → (ObjectBefore → Object) → Same old between
+    → IsPartlyStored CallBefore ObjectBefore file between new → IsPartlyStored Call Object file old new
+partly_after Call Object CallBefore ObjectBefore file old between new f g same (inl p) = inl (f p.0, λ name. p.1 name ∙ same name)
+partly_after Call Object CallBefore ObjectBefore file old between new f g same (inr p) =
+    inr (g p.0, (p.1.0, stores_after (record file { octets = take p.1.0 file.octets }) old between new same p.1.1))
+
+either : (A B C D : Type 0) → (A → C) → (B → D) → A ⊎ B → C ⊎ D
+either A B C D f g (inl a) = inl (f a)
+either A B C D f g (inr b) = inr (g b)
+
+append_none : (xs : List ℕ) → xs ≡ xs ++ []
+append_none [] = refl
+append_none (x ∷ xs) = ap (λ ys. x ∷ ys) (append_none xs)
+
+pub saves : (s : SendWords) (Told Shown : Type 0) (old new : Outside) (between : Contents) (calls objects : List ℕ → ℕ) (input file : List ℕ) (res : Ending)
+    → new.out ≡ old.out → (octets : List ℕ) × (Told → old.contents s.script ≡ Some octets) × (sends s (script octets) ≡ Makes [] (record { name = s.out; octets = file } ∷ []))
+    → (Told → Same old.contents between) → ((n : List ℕ) → old.calls n ≤ calls n) → ((n : List ℕ) → old.objects n ≤ objects n)
+    → IfErr res (λ fault. fault ≡ CannotWrite 0)
+    → (Told → OnOk res (Stores (record { name = s.out; octets = file }) between new.contents))
+    → OnErr res (Rose (calls s.out) (new.calls s.out) ⊎ Rose (objects s.out) (new.objects s.out))
+    → (Told → OnErr res (IsPartlyStored (Rose (calls s.out) (new.calls s.out)) (Rose (objects s.out) (new.objects s.out)) (record { name = s.out; octets = file }) between new.contents))
+    → Ends (work (Send s)) Told Shown old new (name_in input s.out res) res
+saves s Told Shown old new between calls objects input file (Ok u) out made same f g fault saved cause partly =
+    λ told. done (outcome old.contents (work (Send s)).steps) [] (record { name = s.out; octets = file } ∷ [])
+    (λ printed files. AllStored files old.contents new.contents × (Shown → new.out.octets ≡ old.out.octets ++ printed))
+    (made_of old.contents s made.0 file (made.1 told) made.2) (
+      (new.contents, stores_after (record { name = s.out; octets = file }) old.contents between new.contents (same told) (saved told), λ name. refl),
+      λ shown. ap (λ (o : Output). o.octets) out ∙ append_none old.out.octets,
+    )
+saves s Told Shown old new between calls objects input file (Err fault) out made same f g is saved cause partly =
+    let P : Fault → Type 0 = λ q. Ends (work (Send s)) Told Shown old new (name_in input s.out (Err q)) (Err q) in
+    let call : Rose (calls s.out) (new.calls s.out) → CallFailed old new s.out = λ r. rose_since (old.calls s.out) (calls s.out) (new.calls s.out) (f s.out) r in
+    let object : Rose (objects s.out) (new.objects s.out) → ObjectFailed old new s.out = λ r. rose_since (old.objects s.out) (objects s.out) (new.objects s.out) (g s.out) r in
+    subst P (sym is) (
+      output_is Told old.contents s made.0 file made.1 made.2,
+      either (Rose (calls s.out) (new.calls s.out)) (Rose (objects s.out) (new.objects s.out)) (CallFailed old new s.out) (ObjectFailed old new s.out) call object cause,
+      (λ shown. ap (λ (o : Output). o.octets) out),
+      λ told. done (outcome old.contents (work (Send s)).steps) [] (record { name = s.out; octets = file } ∷ [])
+          (λ printed files. PartlyStored (CallFailed old new) (ObjectFailed old new) 0 files old.contents new.contents)
+          (made_of old.contents s made.0 file (made.1 told) made.2)
+          (partly_after (CallFailed old new s.out) (ObjectFailed old new s.out) (Rose (calls s.out) (new.calls s.out)) (Rose (objects s.out) (new.objects s.out))
+          (record { name = s.out; octets = file }) old.contents between new.contents call object (same told) (partly told)),
+    )

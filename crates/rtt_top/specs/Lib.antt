@@ -1,5 +1,4 @@
-pub mod Tasks
-pub mod Messages
-pub mod Faults
 pub mod Files
+pub mod Faults
+pub mod Outside
 pub mod Runs

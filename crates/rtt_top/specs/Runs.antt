@@ -1,40 +1,92 @@
--- What a run of the program tells: by its words, its status, and what lay outside before and after it.
-use Rattle.std.specs.Prelude.{◌≡◌, ◌⊎◌, ℕ, Option, None, Some, List}
-use Rattle.file_spec.specs.Words.{ReadWords, SendWords, Command, Read, ListRecords, Send}
-use Rattle.rtt_top.specs.Tasks.{input_of}
+-- What a run of the program is: how it ends, and what then lies outside (profile). `Told`, `Shown` and `Heard` say that
+-- the world, the output and the output of errors tell what they hold.
+use Rattle.std.specs.Prelude.{◌≡◌, ◌⊎◌, ℕ, true, Option, None, Some, List, [], ◌∷◌, ◌++◌, take, Ok, Err, suc, zero, map, String, string_bytes}
+use Rattle.std.specs.Global.{Global}
+use Rattle.file_spec.specs.Words.{ReadWords, Command, Read, command}
+use Rattle.stream_spec.specs.History.{History, Lawful, Come}
+use Rattle.command_spec.specs.declared.faults.Fault.{Fault}
+use Rattle.command_spec.specs.declared.faults.Fault.TheVariants.{WrongWords, CannotOpen, CannotRead, Refused, CannotPrint, CannotWrite, NoMemory}
+use Rattle.command_spec.specs.Work.{Contents, Made, Work, Steps, IsInput, IsOutput}
+use Rattle.command_spec.specs.Outcomes.{outcome, IsDone, Same, Stores, AllStored}
+use Rattle.command_spec.specs.Reading.{arrivals_of, history_view}
+use Rattle.command_spec.specs.Commands.{request_of, work}
+use Rattle.command_spec.specs.Messages.{Ending, ending_of, status_of, message_of}
+use Rattle.rtt_top.specs.Faults.{Stops}
+use Rattle.rtt_top.specs.Files.{IsPartlyStored}
+use Rattle.rtt_top.specs.Outside.{Outside, Output, Failed, CallFailed, ObjectFailed}
 
--- this holds of the command that the words ask for
-abbrev pub ForCommand : Option Command → (Command → Type 0) → Type 0
-ForCommand None P = Unit {0}
-ForCommand (Some c) P = P c
+-- what these words ask for, if they are in the word table
+abbrev pub asked_by : List (String Global) → Option Command
+asked_by words = command (map string_bytes words)
 
--- where something lies under the name of the file that the command reads, this holds of it
-abbrev pub ForInput : Option Command → (List ℕ → Option (List ℕ)) → (Command → List ℕ → Type 0) → Type 0
-ForInput asked contents P = ForCommand asked (λ c. (octets : List ℕ) → contents (input_of c) ≡ Some octets → P c octets)
+-- this was printed
+abbrev pub Prints : List ℕ → Outside → Outside → Type 0
+Prints octets old new = new.out.octets ≡ old.out.octets ++ octets
 
--- a command of this name
-abbrev pub ForRead : Command → (ReadWords → Type 0) → Type 0
-ForRead (Read r) P = P r
-ForRead (ListRecords l) P = Unit {0}
-ForRead (Send s) P = Unit {0}
+-- a front of this was printed
+abbrev pub PrintsFront : List ℕ → Outside → Outside → Type 0
+PrintsFront octets old new = (n : ℕ) × Prints (take n octets) old new
 
-abbrev pub ForSend : Command → (SendWords → Type 0) → Type 0
-ForSend (Read r) P = Unit {0}
-ForSend (ListRecords l) P = Unit {0}
-ForSend (Send s) P = P s
+-- nothing was printed, and no file was changed
+abbrev pub Unchanged : (Told Shown : Type 0) → Outside → Outside → Type 0
+Unchanged Told Shown old new = (Shown → new.out.octets ≡ old.out.octets) × (Told → Same old.contents new.contents)
 
--- one of the program's statuses
-abbrev pub IsStatus : ℕ → Type 0
-IsStatus s = (s ≡ 0) ⊎ (s ≡ 2) ⊎ (s ≡ 3) ⊎ (s ≡ 4) ⊎ (s ≡ 5) ⊎ (s ≡ 6) ⊎ (s ≡ 7) ⊎ (s ≡ 70)
+-- Of the files that are made those before number n are whole. That one is as before where it could not be created, and
+-- a front of it is there where its sink failed. Those behind it, and all others, are as before.
+abbrev pub PartlyStored : (Call Object : List ℕ → Type 0) → ℕ → List Made → Contents → Contents → Type 0
+PartlyStored Call Object n [] old new = ⊥
+PartlyStored Call Object zero (file ∷ more) old new =
+    IsPartlyStored (Call file.name) (Object file.name) file old new
+PartlyStored Call Object (suc n) (file ∷ more) old new = (between : Contents) × Stores file old between × PartlyStored Call Object n more between new
 
--- what the command writes could not be written: a count rose, of the output or of its file
-abbrev pub CannotBeWritten : Command → (Own Objects : List ℕ → Type 0) → Type 0 → Type 0
-CannotBeWritten (Read r) Own Objects Out = Out
-CannotBeWritten (ListRecords l) Own Objects Out = Out
-CannotBeWritten (Send s) Own Objects Out = Own s.out ⊎ Objects s.out
+-- How a command may end, where the file that is told of has this name. 0: all is made. 7: a front of it is. With 3, 4, 5, 6
+-- and 70 nothing is changed.
+abbrev pub Ends : Work → (Told Shown : Type 0) → Outside → Outside → List ℕ → Ending → Type 0
+Ends w Told Shown old new name (Ok done) =
+    Told → IsDone (outcome old.contents w.steps) (λ printed files. AllStored files old.contents new.contents × (Shown → Prints printed old new))
+Ends w Told Shown old new name (Err CannotPrint) = (w.prints ≡ true) × Failed old.out new.out
+    × (Told → IsDone (outcome old.contents w.steps) (λ printed files. AllStored files old.contents new.contents × (Shown → PrintsFront printed old new)))
+Ends w Told Shown old new name (Err (CannotWrite output)) = IsOutput Told old.contents w.steps output name
+    × (CallFailed old new name ⊎ ObjectFailed old new name)
+    × (Shown → new.out.octets ≡ old.out.octets)
+    × (Told → IsDone (outcome old.contents w.steps) (λ printed files. PartlyStored (CallFailed old new) (ObjectFailed old new) output files old.contents new.contents))
+Ends w Told Shown old new name (Err fault) = Stops Told old.contents w.steps (CallFailed old new) (ObjectFailed old new) name fault × Unchanged Told Shown old new
 
--- no fault came at what a command uses
-abbrev pub IsCalm : Command → (Own Objects : List ℕ → Type 0) → Type 0 → Type 0
-IsCalm (Read r) Own Objects Out = (Own r.file → ⊥) × (Objects r.file → ⊥) × (Out → ⊥)
-IsCalm (ListRecords l) Own Objects Out = (Own l.file → ⊥) × (Objects l.file → ⊥) × (Out → ⊥)
-IsCalm (Send s) Own Objects Out = (Own s.script → ⊥) × (Objects s.script → ⊥) × (Own s.out → ⊥) × (Objects s.out → ⊥)
+-- no count rose at a name that the command uses, nor, where it prints, that of the output
+pub record IsCalm (w : Work) (Told : Type 0) (old new : Outside) : Type 0 where
+  pub inputs : (n : ℕ) (name : List ℕ) → IsInput Told old.contents w.steps n name → CallFailed old new name ⊎ ObjectFailed old new name → ⊥
+  pub outputs : (n : ℕ) (name : List ℕ) → IsOutput Told old.contents w.steps n name → CallFailed old new name ⊎ ObjectFailed old new name → ⊥
+  pub output : w.prints ≡ true → Failed old.out new.out → ⊥
+
+-- it ends as its outcome says, or memory ran out
+abbrev pub IsAsWorked : Work → Outside → Ending → Type 0
+IsAsWorked w old ending = (ending ≡ ending_of (outcome old.contents w.steps)) ⊎ (ending ≡ Err NoMemory)
+
+-- words outside the word table: 2, or 70 where memory runs out before they are told apart
+abbrev pub IsOfWords : Ending → Type 0
+IsOfWords ending = (ending ≡ Err WrongWords) ⊎ (ending ≡ Err NoMemory)
+
+-- how a run of what the words ask for may end
+abbrev pub RunEnds : Option Command → (Told Shown : Type 0) → Outside → Outside → List ℕ → Ending → Type 0
+RunEnds None Told Shown old new name ending = IsOfWords ending × Unchanged Told Shown old new
+RunEnds (Some c) Told Shown old new name ending = Ends (work c) Told Shown old new name ending
+
+-- a recording that is read, whose packets are those of a history, and the view of that history
+pub record IsViewOf (h : History) (words : Option Command) (held : Contents) (view : List ℕ) : Type 0 where
+  pub request : ReadWords
+  pub octets : List ℕ
+  pub reads : words ≡ Some (Read request)
+  pub lies : held request.file ≡ Some octets
+  pub come : Come h (arrivals_of (request_of request) octets)
+  pub view_is : view ≡ history_view h (request_of request) octets
+
+-- What a run is that ends with this status, where the output of errors was and is such.
+pub record Runs (words : Option Command) (Told Shown Heard : Type 0) (old new : Outside) (before after : Output) (status : ℕ) : Type 0 where
+  pub ending : Ending
+  pub name : List ℕ
+  pub is_status : status ≡ status_of ending
+  pub ends : RunEnds words Told Shown old new name ending
+  pub calm : Told → (c : Command) → words ≡ Some c → IsCalm (work c) Told old new → IsAsWorked (work c) old ending
+  pub kept : Told → Shown → ending ≡ Ok tt → (h : History) → Lawful h → (view : List ℕ) → IsViewOf h words old.contents view → Prints view old new
+  pub silent : ending ≡ Ok tt → after.octets ≡ before.octets
+  pub told : Heard → (Failed before after → ⊥) → after.octets ≡ before.octets ++ message_of name ending

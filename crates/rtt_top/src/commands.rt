@@ -1,25 +1,27 @@
 //! The commands, each from its words to its work or its fault.
-ghost use Rattle.std.specs.Prelude.{◌≡◌, ◌≢◌, ℕ, ◌≤◌, ◌++◌, List, Err, None, Some, take, OnOk, OnErr, IfOk, IfErr};
+ghost use Rattle.std.specs.Prelude.{◌≡◌, ℕ, ◌++◌, List, Ok, Err, Some, take, OnOk, OnErr, IfErr};
 ghost use Rattle.rtt_io.specs.Counts.{Rose};
 ghost use Rattle.file_spec.specs.Words.{Read, ListRecords, Send};
 ghost use Rattle.rtt_words.specs.Commands.{asked, listed, sent, meaning};
-ghost use Rattle.rtt_top.specs.Messages.{status_of};
-ghost use Rattle.rtt_top.specs.Faults.{IsAbout, IsCaused, IsTrueOf, IsPrintFault};
-ghost use Rattle.rtt_top.specs.Runs.{ForSend};
-ghost use Rattle.rtt_top.specs.Tasks.{input_of, IsOutput, refusal_of, printed_by, IsSaved, IsPartlySaved};
+ghost use Rattle.command_spec.specs.Commands.{work};
+ghost use Rattle.command_spec.specs.Messages.{status_of, message_of};
+ghost use Rattle.rtt_top.specs.Faults.{name_in};
+ghost use Rattle.rtt_top.specs.Outside.{outside, output};
+ghost use Rattle.rtt_top.specs.Runs.{Ends, Runs};
 
-use crate::faults::Fault;
-use crate::files::save_file;
+use crate::files::save_output;
+use crate::messages::{status, tell};
 use crate::recordings::{lines_of, view_of};
 use crate::scripts::recording_of;
+use command_spec::Fault;
 use rtt_base::Failed;
 use rtt_io::{Sink, World};
-use rtt_words::{Command, SendWords};
+use rtt_words::{Command, ListWords, ReadWords, SendWords};
 use std::alloc::Global;
 
 /// Prints what a command made.
-fn print<'a, K: Sink>(octets: &[u8], out: &mut K) -> Result<(), Fault<'a>>
-    ensures fault { IfErr result IsPrintFault }
+fn print<K: Sink>(octets: &[u8], out: &mut K) -> Result<(), Fault>
+    ensures fault { IfErr result (λ fault. fault ≡ Fault.CannotPrint) }
     ensures cause { OnErr result (Rose (K.faults out.old) (K.faults out.new)) }
     ensures printed { K.tells → OnOk result (K.took out.new ≡ K.took out.old ++ octets.now) }
     ensures partly { K.tells → OnErr result ((n : ℕ) × (K.took out.new ≡ K.took out.old ++ take n octets.now)) }
@@ -30,56 +32,112 @@ fn print<'a, K: Sink>(octets: &[u8], out: &mut K) -> Result<(), Fault<'a>>
     }
 }
 
-/// `send`: makes a recording of what is sent for a script.
-fn send<'a, W: World>(alloc: Global, words: &SendWords<'a>, world: &mut W) -> Result<(), Fault<'a>>
-    ensures about { IfErr result (IsAbout (Send (sent words.now))) }
-    ensures cause { IfErr result (IsCaused (λ n. Rose (W.own_faults world.old n) (W.own_faults world.new n)) (λ n. Rose (W.object_faults world.old n) (W.object_faults world.new n)) ⊥) }
-    ensures refused { W.tells → IfErr result (λ fault. (octets : List ℕ) → W.contents world.old words.now.script.now ≡ Some octets → IsTrueOf (refusal_of (Send (sent words.now)) octets) fault) }
-    ensures whole { W.tells → OnOk result ((octets : List ℕ) → W.contents world.old words.now.script.now ≡ Some octets → refusal_of (Send (sent words.now)) octets ≡ None) }
-    ensures saved { W.tells → OnOk result ((octets : List ℕ) → W.contents world.old words.now.script.now ≡ Some octets → IsSaved (sent words.now) octets (W.contents world.new words.now.out.now)) }
-    ensures partly_saved { W.tells → OnErr result ((octets : List ℕ) → W.contents world.old words.now.script.now ≡ Some octets
-        → IsPartlySaved (sent words.now) octets (W.contents world.old words.now.out.now) (W.contents world.new words.now.out.now)) }
-    ensures other_files { W.tells → (n : List ℕ) → n ≢ words.now.out.now → W.contents world.new n ≡ W.contents world.old n }
-    ensures nothing_written { W.tells → IfErr result (λ fault. (status_of fault ≡ 7 → ⊥) → (n : List ℕ) → W.contents world.new n ≡ W.contents world.old n) }
+/// `read`: prints the view of a recording.
+fn read<W: World, K: Sink>(
+    alloc: Global,
+    words: &ReadWords<'_>,
+    world: &mut W,
+    out: &mut K,
+) -> Result<(), Fault>
+    ensures { Ends (work (Read (asked words.now))) W.tells K.tells
+        (outside (W.contents world.old) (W.own_faults world.old) (W.object_faults world.old) (output (K.took out.old) (K.faults out.old)))
+        (outside (W.contents world.new) (W.own_faults world.new) (W.object_faults world.new) (output (K.took out.new) (K.faults out.new)))
+        (name_in words.now.file.now words.now.file.now result) result }
 {
-    match recording_of(alloc, words, world) {
-        Ok(octets) => save_file(words.out, octets.as_slice(), world),
+    match view_of(alloc, words, world) {
+        Ok(view) => print(view.as_slice(), out),
         Err(fault) => Err(fault),
     }
 }
 
-/// Does what is asked for.
-pub fn carry_out<'a, W: World, K: Sink>(
+/// `list`: prints a line for each record of a recording.
+fn list<W: World, K: Sink>(
     alloc: Global,
-    command: &Command<'a>,
+    words: &ListWords<'_>,
     world: &mut W,
     out: &mut K,
-) -> Result<(), Fault<'a>>
-    ensures about { IfErr result (IsAbout (meaning command.now)) }
-    ensures cause { IfErr result (IsCaused (λ n. Rose (W.own_faults world.old n) (W.own_faults world.new n)) (λ n. Rose (W.object_faults world.old n) (W.object_faults world.new n)) (Rose (K.faults out.old) (K.faults out.new))) }
-    ensures refused { W.tells → IfErr result (λ fault. (octets : List ℕ) → W.contents world.old (input_of (meaning command.now)) ≡ Some octets → IsTrueOf (refusal_of (meaning command.now) octets) fault) }
-    ensures whole { W.tells → OnOk result ((octets : List ℕ) → W.contents world.old (input_of (meaning command.now)) ≡ Some octets → refusal_of (meaning command.now) octets ≡ None) }
-    ensures printed { W.tells → K.tells → OnOk result ((octets : List ℕ) → W.contents world.old (input_of (meaning command.now)) ≡ Some octets
-        → K.took out.new ≡ K.took out.old ++ printed_by (meaning command.now) octets) }
-    ensures partly_printed { W.tells → K.tells → OnErr result ((octets : List ℕ) → W.contents world.old (input_of (meaning command.now)) ≡ Some octets
-        → (n : ℕ) × (K.took out.new ≡ K.took out.old ++ take n (printed_by (meaning command.now) octets))) }
-    ensures nothing_printed { K.tells → IfErr result (λ fault. (status_of fault ≡ 7 → ⊥) → K.took out.new ≡ K.took out.old) }
-    ensures saved { W.tells → OnOk result ((octets : List ℕ) → W.contents world.old (input_of (meaning command.now)) ≡ Some octets
-        → ForSend (meaning command.now) (λ s. IsSaved s octets (W.contents world.new s.out))) }
-    ensures partly_saved { W.tells → OnErr result ((octets : List ℕ) → W.contents world.old (input_of (meaning command.now)) ≡ Some octets
-        → ForSend (meaning command.now) (λ s. IsPartlySaved s octets (W.contents world.old s.out) (W.contents world.new s.out))) }
-    ensures other_files { W.tells → (n : List ℕ) → (IsOutput (meaning command.now) n → ⊥) → W.contents world.new n ≡ W.contents world.old n }
-    ensures nothing_written { W.tells → IfErr result (λ fault. (status_of fault ≡ 7 → ⊥) → (n : List ℕ) → W.contents world.new n ≡ W.contents world.old n) }
+) -> Result<(), Fault>
+    ensures { Ends (work (ListRecords (listed words.now))) W.tells K.tells
+        (outside (W.contents world.old) (W.own_faults world.old) (W.object_faults world.old) (output (K.took out.old) (K.faults out.old)))
+        (outside (W.contents world.new) (W.own_faults world.new) (W.object_faults world.new) (output (K.took out.new) (K.faults out.new)))
+        (name_in words.now.file.now words.now.file.now result) result }
+{
+    match lines_of(alloc, words, world) {
+        Ok(lines) => print(lines.as_slice(), out),
+        Err(fault) => Err(fault),
+    }
+}
+
+/// `send`: makes a recording of what is sent for a script. It prints nothing: `out` stands here for the contract alone.
+fn send<W: World, K: Sink>(
+    alloc: Global,
+    words: &SendWords<'_>,
+    world: &mut W,
+    out: &K,
+) -> Result<(), Fault>
+    ensures { Ends (work (Send (sent words.now))) W.tells K.tells
+        (outside (W.contents world.old) (W.own_faults world.old) (W.object_faults world.old) (output (K.took out.now) (K.faults out.now)))
+        (outside (W.contents world.new) (W.own_faults world.new) (W.object_faults world.new) (output (K.took out.now) (K.faults out.now)))
+        (name_in words.now.script.now words.now.out.now result) result }
+{
+    match recording_of(alloc, words, world) {
+        Ok(octets) => save_output(words.out, octets.as_slice(), world),
+        Err(fault) => Err(fault),
+    }
+}
+
+/// The name of the file of a fault, where there are one input and one output.
+fn file_name<'a>(fault: Fault, input: &'a str, output: &'a str) -> &'a str
+    ensures { result.now ≡ name_in input.now output.now (Err fault) }
+{
+    match fault {
+        Fault::CannotWrite { .. } => output,
+        _ => input,
+    }
+}
+
+/// Tells how a command ended whose one input and one output have these names, and answers the status.
+pub fn finish<E: Sink>(ending: Result<(), Fault>, input: &str, output: &str, err: &mut E) -> u8
+    ensures status { result ≡ status_of ending }
+    ensures silent { ending ≡ Ok tt → E.took err.new ≡ E.took err.old }
+    ensures told { E.tells → (Rose (E.faults err.old) (E.faults err.new) → ⊥)
+        → E.took err.new ≡ E.took err.old ++ message_of (name_in input.now output.now ending) ending }
+{
+    match ending {
+        Ok(()) => 0,
+        Err(fault) => {
+            let name = file_name(fault, input, output);
+            tell(err, name, fault);
+            status(fault)
+        }
+    }
+}
+
+/// Does what is asked for, and answers the status.
+pub fn carry_out<W: World, K: Sink, E: Sink>(
+    alloc: Global,
+    command: &Command<'_>,
+    world: &mut W,
+    out: &mut K,
+    err: &mut E,
+) -> u8
+    ensures { Runs (Some (meaning command.now)) W.tells K.tells E.tells
+        (outside (W.contents world.old) (W.own_faults world.old) (W.object_faults world.old) (output (K.took out.old) (K.faults out.old)))
+        (outside (W.contents world.new) (W.own_faults world.new) (W.object_faults world.new) (output (K.took out.new) (K.faults out.new)))
+        (output (E.took err.old) (E.faults err.old)) (output (E.took err.new) (E.faults err.new)) result }
 {
     match command {
-        Command::Read(words) => match view_of(alloc, words, world) {
-            Ok(view) => print(view.as_slice(), out),
-            Err(fault) => Err(fault),
-        },
-        Command::ListRecords(words) => match lines_of(alloc, words, world) {
-            Ok(lines) => print(lines.as_slice(), out),
-            Err(fault) => Err(fault),
-        },
-        Command::Send(words) => send(alloc, words, world),
+        Command::Read(words) => {
+            let ending = read(alloc, words, world, out);
+            finish(ending, words.file, words.file, err)
+        }
+        Command::ListRecords(words) => {
+            let ending = list(alloc, words, world, out);
+            finish(ending, words.file, words.file, err)
+        }
+        Command::Send(words) => {
+            let ending = send(alloc, words, world, out);
+            finish(ending, words.script, words.out, err)
+        }
     }
 }

@@ -1,57 +1,58 @@
 //! Whole files: read, and written.
 ghost use Rattle.std.specs.Prelude.{◌≡◌, ◌≢◌, ◌⊎◌, ℕ, ◌≤◌, ◌++◌, List, None, Some, take, length, OnOk, OnErr, IfOk, IfErr};
 ghost use Rattle.rtt_io.specs.Counts.{Rose};
-ghost use Rattle.rtt_top.specs.Faults.{IsReading, IsSaving, IsCaused};
-ghost use Rattle.rtt_top.specs.Files.{IsFrontOf};
+ghost use Rattle.rtt_top.specs.Outside.{RoseAt};
+ghost use Rattle.command_spec.specs.Work.{Made};
+ghost use Rattle.command_spec.specs.Outcomes.{Stores, Same};
+ghost use Rattle.rtt_top.specs.Faults.{IsUnread};
+ghost use Rattle.rtt_top.specs.Files.{IsFrontOf, IsPartlyStored};
 
-use crate::faults::Fault;
+use command_spec::Fault;
 use rtt_base::{Bytes, Failed};
 use rtt_io::{ReadFault, Sink, World, read_whole};
 use std::alloc::Global;
 
-/// Reads a file to its end, or until it has given more than `most` octets.
-pub fn read_file<'a, W: World>(
+/// Reads the first input to its end, or until it has given more than `most` octets.
+pub fn read_input<W: World>(
     alloc: Global,
-    name: &'a str,
+    name: &str,
     most: usize,
     world: &mut W,
-) -> Result<Bytes, Fault<'a>>
-    ensures reading { IfErr result (IsReading name.now) }
-    ensures cause { IfErr result (IsCaused (λ n. Rose (W.own_faults world.old n) (W.own_faults world.new n)) (λ n. Rose (W.object_faults world.old n) (W.object_faults world.new n)) ⊥) }
-    ensures own_never_fall { (n : List ℕ) → W.own_faults world.old n ≤ W.own_faults world.new n }
+) -> Result<Bytes, Fault>
+    ensures unread { IfErr result (IsUnread (RoseAt (W.own_faults world.old) (W.own_faults world.new) name.now)
+        (RoseAt (W.object_faults world.old) (W.object_faults world.new) name.now)) }
+    ensures given { W.tells → IfOk result (λ octets. (whole : List ℕ) × (W.contents world.old name.now ≡ Some whole) × IsFrontOf most octets whole) }
+    ensures same_contents { W.tells → Same (W.contents world.old) (W.contents world.new) }
+    ensures calls_never_fall { (n : List ℕ) → W.own_faults world.old n ≤ W.own_faults world.new n }
     ensures objects_never_fall { (n : List ℕ) → W.object_faults world.old n ≤ W.object_faults world.new n }
-    ensures given { W.tells → IfOk result (λ octets. (whole : List ℕ) → W.contents world.old name.now ≡ Some whole → IsFrontOf most octets whole) }
-    ensures same_contents { W.tells → (n : List ℕ) → W.contents world.new n ≡ W.contents world.old n }
 {
     let Ok(mut source) = world.open_source(name) else {
-        return Err(Fault::CannotOpen(name));
+        return Err(Fault::CannotOpen { input: 0 });
     };
     let octets = read_whole(alloc, &mut source, most);
     world.done_src(source);
     match octets {
         Ok(octets) => Ok(octets),
-        Err(ReadFault::Failed) => Err(Fault::CannotRead(name)),
+        Err(ReadFault::Failed) => Err(Fault::CannotRead { input: 0 }),
         Err(ReadFault::NoMemory) => Err(Fault::NoMemory),
     }
 }
 
-/// Creates a file anew, with these octets.
-pub fn save_file<'a, W: World>(name: &'a str, octets: &[u8], world: &mut W) -> Result<(), Fault<'a>>
-    ensures about { IfErr result (IsSaving name.now) }
-    ensures cause { OnErr result (Rose (W.own_faults world.old name.now) (W.own_faults world.new name.now) ⊎ Rose (W.object_faults world.old name.now) (W.object_faults world.new name.now)) }
-    ensures own_never_fall { (n : List ℕ) → W.own_faults world.old n ≤ W.own_faults world.new n }
-    ensures objects_never_fall { (n : List ℕ) → W.object_faults world.old n ≤ W.object_faults world.new n }
-    ensures saved { W.tells → OnOk result (W.contents world.new name.now ≡ Some octets.now) }
-    ensures partly { W.tells → OnErr result ((W.contents world.new name.now ≡ W.contents world.old name.now) ⊎ ((n : ℕ) × (W.contents world.new name.now ≡ Some (take n octets.now)))) }
-    ensures others { W.tells → (n : List ℕ) → n ≢ name.now → W.contents world.new n ≡ W.contents world.old n }
+/// Creates the first output anew, with these octets.
+pub fn save_output<W: World>(name: &str, octets: &[u8], world: &mut W) -> Result<(), Fault>
+    ensures fault { IfErr result (λ fault. fault ≡ Fault.CannotWrite 0) }
+    ensures saved { W.tells → OnOk result (Stores (record { name = name.now; octets = octets.now }) (W.contents world.old) (W.contents world.new)) }
+    ensures cause { OnErr result (RoseAt (W.own_faults world.old) (W.own_faults world.new) name.now ⊎ RoseAt (W.object_faults world.old) (W.object_faults world.new) name.now) }
+    ensures partly { W.tells → OnErr result (IsPartlyStored (RoseAt (W.own_faults world.old) (W.own_faults world.new) name.now)
+        (RoseAt (W.object_faults world.old) (W.object_faults world.new) name.now) (record { name = name.now; octets = octets.now }) (W.contents world.old) (W.contents world.new)) }
 {
     let Ok(mut sink) = world.create_sink(name) else {
-        return Err(Fault::CannotWrite(name));
+        return Err(Fault::CannotWrite { output: 0 });
     };
     let written = sink.write_all(octets);
     world.done_dst(sink);
     match written {
         Ok(()) => Ok(()),
-        Err(Failed) => Err(Fault::CannotWrite(name)),
+        Err(Failed) => Err(Fault::CannotWrite { output: 0 }),
     }
 }

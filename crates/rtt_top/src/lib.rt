@@ -2,8 +2,9 @@
 #![tactic(auto)]
 
 mod commands;
-mod faults;
 mod files;
+pub mod laws;
+mod messages;
 mod recordings;
 mod runs;
 mod scripts;

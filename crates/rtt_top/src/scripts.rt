@@ -1,15 +1,17 @@
 //! Scripts: read, and sent.
-ghost use Rattle.std.specs.Prelude.{◌≡◌, ◌⊎◌, ℕ, ◌≤◌, List, Ok, Some, None, OnOk, IfOk, IfErr};
+ghost use Rattle.std.specs.Prelude.{◌≡◌, ◌⊎◌, ℕ, ◌≤◌, List, [], ◌∷◌, Ok, Some, None, OnOk, IfOk, IfErr};
 ghost use Rattle.rtt_io.specs.Counts.{Rose};
 ghost use Rattle.file_spec.specs.Script.{script};
 ghost use Rattle.file_spec.specs.Words.{Send};
 ghost use Rattle.rtt_words.specs.Commands.{sent};
-ghost use Rattle.rtt_send.specs.Scripts.{AreLines};
-ghost use Rattle.rtt_top.specs.Faults.{IsAbout, IsCaused, IsTrueOf, IsOfScript, IsScriptFault};
-ghost use Rattle.rtt_top.specs.Tasks.{refusal_of, IsSent};
+ghost use Rattle.command_spec.specs.Work.{Makes};
+ghost use Rattle.command_spec.specs.Commands.{work, sends};
+ghost use Rattle.command_spec.specs.Outcomes.{Same};
+ghost use Rattle.rtt_top.specs.Faults.{Stops};
+ghost use Rattle.rtt_top.specs.Outside.{RoseAt};
 
-use crate::faults::Fault;
-use crate::files::read_file;
+use crate::files::read_input;
+use command_spec::{Fault, Refusal};
 use file_spec::ConfKind;
 use rtt_base::{Bytes, Pts};
 use rtt_io::World;
@@ -22,44 +24,51 @@ use text_sender::SendConf;
 /// The greatest size of a script, in octets.
 const MOST_OCTETS: usize = 1_048_576;
 
-/// The script in a file.
-fn script_of<'a, W: World>(alloc: Global, name: &'a str, world: &mut W) -> Result<Script, Fault<'a>>
-    ensures about { IfErr result (IsOfScript name.now) }
-    ensures cause { IfErr result (IsCaused (λ n. Rose (W.own_faults world.old n) (W.own_faults world.new n)) (λ n. Rose (W.object_faults world.old n) (W.object_faults world.new n)) ⊥) }
-    ensures own_never_fall { (n : List ℕ) → W.own_faults world.old n ≤ W.own_faults world.new n }
-    ensures objects_never_fall { (n : List ℕ) → W.object_faults world.old n ≤ W.object_faults world.new n }
-    ensures lines { IfOk result AreLines }
-    ensures value { W.tells → IfOk result (λ lines. (octets : List ℕ) → W.contents world.old name.now ≡ Some octets → script octets ≡ Ok lines) }
-    ensures refused { W.tells → IfErr result (λ fault. (octets : List ℕ) → W.contents world.old name.now ≡ Some octets → IsScriptFault (script octets) fault) }
-    ensures same_contents { W.tells → (n : List ℕ) → W.contents world.new n ≡ W.contents world.old n }
+/// The fault of a command whose first input is refused at a line.
+fn refused_line(line: u32, kind: ConfKind) -> Fault
+    ensures { result ≡ Fault.Refused 0 (Refusal.AtLine line kind) }
 {
-    let octets = match read_file(alloc, name, MOST_OCTETS, world) {
+    Fault::Refused {
+        input: 0,
+        refusal: Refusal::AtLine { line, kind },
+    }
+}
+
+/// The script that is sent.
+fn script_of<W: World>(alloc: Global, words: &SendWords<'_>, world: &mut W) -> Result<Script, Fault>
+    ensures stops { IfErr result (Stops W.tells (W.contents world.old) (work (Send (sent words.now))).steps
+        (RoseAt (W.own_faults world.old) (W.own_faults world.new)) (RoseAt (W.object_faults world.old) (W.object_faults world.new)) words.now.script.now) }
+    ensures read { IfOk result (λ lines. (octets : List ℕ) × (W.tells → W.contents world.old words.now.script.now ≡ Some octets) × (script octets ≡ Ok lines)) }
+    ensures same_contents { W.tells → Same (W.contents world.old) (W.contents world.new) }
+    ensures calls_never_fall { (n : List ℕ) → W.own_faults world.old n ≤ W.own_faults world.new n }
+    ensures objects_never_fall { (n : List ℕ) → W.object_faults world.old n ≤ W.object_faults world.new n }
+{
+    let octets = match read_input(alloc, words.script, MOST_OCTETS, world) {
         Ok(octets) => octets,
         Err(fault) => return Err(fault),
     };
     match read_script(alloc, octets.as_slice()) {
         Ok(script) => Ok(script),
-        Err(ConfFault::Refused { line, kind }) => Err(Fault::BadScript(name, line, kind)),
+        Err(ConfFault::Refused { line, kind }) => Err(refused_line(line, kind)),
         Err(ConfFault::NoMemory) => Err(Fault::NoMemory),
     }
 }
 
 /// The recording of what is sent for a script.
-pub fn recording_of<'a, W: World>(
+pub fn recording_of<W: World>(
     alloc: Global,
-    words: &SendWords<'a>,
+    words: &SendWords<'_>,
     world: &mut W,
-) -> Result<Bytes, Fault<'a>>
-    ensures about { IfErr result (IsAbout (Send (sent words.now))) }
-    ensures cause { IfErr result (IsCaused (λ n. Rose (W.own_faults world.old n) (W.own_faults world.new n)) (λ n. Rose (W.object_faults world.old n) (W.object_faults world.new n)) ⊥) }
-    ensures own_never_fall { (n : List ℕ) → W.own_faults world.old n ≤ W.own_faults world.new n }
+) -> Result<Bytes, Fault>
+    ensures stops { IfErr result (Stops W.tells (W.contents world.old) (work (Send (sent words.now))).steps
+        (RoseAt (W.own_faults world.old) (W.own_faults world.new)) (RoseAt (W.object_faults world.old) (W.object_faults world.new)) words.now.script.now) }
+    ensures made { IfOk result (λ file. (octets : List ℕ) × (W.tells → W.contents world.old words.now.script.now ≡ Some octets)
+        × (sends (sent words.now) (script octets) ≡ Makes [] (record { name = words.now.out.now; octets = file } ∷ []))) }
+    ensures same_contents { W.tells → Same (W.contents world.old) (W.contents world.new) }
+    ensures calls_never_fall { (n : List ℕ) → W.own_faults world.old n ≤ W.own_faults world.new n }
     ensures objects_never_fall { (n : List ℕ) → W.object_faults world.old n ≤ W.object_faults world.new n }
-    ensures refused { W.tells → IfErr result (λ fault. (octets : List ℕ) → W.contents world.old words.now.script.now ≡ Some octets → IsTrueOf (refusal_of (Send (sent words.now)) octets) fault) }
-    ensures whole { W.tells → OnOk result ((octets : List ℕ) → W.contents world.old words.now.script.now ≡ Some octets → refusal_of (Send (sent words.now)) octets ≡ None) }
-    ensures recording { W.tells → IfOk result (λ file. (octets : List ℕ) → W.contents world.old words.now.script.now ≡ Some octets → IsSent (sent words.now) octets file) }
-    ensures same_contents { W.tells → (n : List ℕ) → W.contents world.new n ≡ W.contents world.old n }
 {
-    let script = match script_of(alloc, words.script, world) {
+    let script = match script_of(alloc, words, world) {
         Ok(script) => script,
         Err(fault) => return Err(fault),
     };
@@ -73,7 +82,7 @@ pub fn recording_of<'a, W: World>(
     };
     match send_script(alloc, &script, conf) {
         Ok(octets) => Ok(octets),
-        Err(SendFault::Full { line }) => Err(Fault::BadScript(words.script, line, ConfKind::Full)),
+        Err(SendFault::Full { line }) => Err(refused_line(line, ConfKind::Full)),
         Err(SendFault::NoMemory) => Err(Fault::NoMemory),
     }
 }

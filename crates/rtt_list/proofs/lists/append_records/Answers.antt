@@ -2,7 +2,7 @@ use Rattle.std.proofs.Common.{◌≡◌, false, sym, ap, ◌∙◌, ◌++◌, Li
 use Rattle.rtt_base.specs.declared.text_packets.Pts.{Pts}
 use Rattle.wire_spec.specs.Dump.{with_item}
 use Rattle.rtpdump_io.specs.Reading.{to_come}
-use Rattle.rtt_list.specs.Lists.{record_line}
+use Rattle.command_spec.specs.Listing.{record_line}
 use Rattle.rtpdump_io.specs.Answers.{is_end, record_of}
 use Rattle.rtpdump_io.proofs.Records.{gives_item, not_end, not_last}
 use Rattle.rtt_list.proofs.Going.{one_listed}

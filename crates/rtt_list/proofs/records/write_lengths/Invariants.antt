@@ -1,5 +1,5 @@
 use Rattle.std.proofs.Common.{◌≡◌, ◌+◌, ◌*◌, ◌≤◌, ◌++◌, flat_map, length, map, reverse}
-use Rattle.rtt_list.specs.Lists.{block_length}
+use Rattle.command_spec.specs.Listing.{block_length}
 use Rattle.rtt_list.proofs.records.write_lengths.Given as goal
 
 abbrev pub invariant-loop-block : goal.invariant-loop-block

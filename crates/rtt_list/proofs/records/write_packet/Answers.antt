@@ -1,5 +1,5 @@
 use Rattle.std.proofs.Common.{append_assoc}
-use Rattle.rtt_list.specs.Lists.{packet_line}
+use Rattle.command_spec.specs.Listing.{packet_line}
 use Rattle.rtt_list.proofs.records.write_packet.Goals as goal
 
 pub returns : goal.returns

@@ -1,5 +1,5 @@
 use Rattle.std.proofs.Common.{arith}
-use Rattle.rtt_read.specs.ReadView.{is_packet, fate_of}
+use Rattle.command_spec.specs.Reading.{is_packet, fate_of}
 use Rattle.wire_spec.specs.Text.{text_of}
 use Rattle.std.proofs.Common.{Some}
 use Rattle.rtt_read.proofs.Listening.{on_ok, one_at_most}

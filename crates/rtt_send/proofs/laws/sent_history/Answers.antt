@@ -1,5 +1,5 @@
 use Rattle.text_sender.proofs.Scripts.{own}
-use Rattle.rtt_send.specs.Scripts.{events_through}
+use Rattle.command_spec.specs.Scripts.{events_through}
 use Rattle.rtt_send.proofs.Typed.{lawful_sent, closed_sent, texts_sent}
 use Rattle.rtt_send.proofs.laws.sent_history.Goals as goal
 

@@ -5,9 +5,10 @@ use Rattle.std.proofs.lemmas.Option.{get_or_from_slice_get}
 use Rattle.file_spec.specs.Script.{ScriptLine}
 use Rattle.script_text.specs.ScriptLines.{line_of}
 use Rattle.text_sender.specs.Standing.{waits_for}
-use Rattle.rtt_send.specs.Scripts.{events_until}
+use Rattle.command_spec.specs.Scripts.{events_until}
 use Rattle.rtt_send.proofs.Steps.{err_over, ok_fits, from_ok}
-use Rattle.rtt_send.proofs.Lines.{Sends, Sent, at_line, above_to, all_lines, next_line, full_here, at_last, ends_agree}
+use Rattle.rtt_send.proofs.Lines.{Sends, Sent, at_line, above_to, all_lines, next_line, full_here, at_last}
+use Rattle.rtt_send.proofs.Firsts.{at_end}
 use Rattle.rtt_send.proofs.sending.send_script.Goals as goal
 
 pub type_line-requires-clause-text : goal.type_line-requires-clause-text
@@ -54,7 +55,7 @@ loop-index-preserved c =
     (next_line conf xs (take i xs) (drop (i + 1) xs) line c.loop-index.recorder passed typed s now fits more c.type_line.ensures.now)
 
 pub returns-clause-sent : goal.returns-clause-sent
-returns-clause-sent c = λ t e.
+returns-clause-sent c =
     let conf = c.args.conf in
     let xs = c.args.script.now in
     let i = c.loop-index.index in
@@ -63,16 +64,4 @@ returns-clause-sent c = λ t e.
     let at = c.in_ok-pass_to-2.ensures.at conf (take i xs) s.is_at in
     let done : Sent conf xs last.octets 79999999 = at_last conf xs (take i xs) c.loop-index.recorder last 79999999 s at (c.in_ok-pass_to-2.ensures.now (omega (arith, s.early))) (omega arith) (omega arith) in
     let end : Sent conf c.args.script.now last.octets 79999999 = done in
-    end.recording ∙ ends_agree conf c.args.script.now 79999999 t end.is_end e
-
-pub returns-clause-ends : goal.returns-clause-ends
-returns-clause-ends c =
-    let conf = c.args.conf in
-    let xs = c.args.script.now in
-    let i = c.loop-index.index in
-    let last = c.pass_to-2.new.self in
-    let s = all_lines conf xs i c.loop-index.recorder (omega (arith, c.loop-index-test.false, c.len-index-end.ensures)) c.loop-index.invariant in
-    let at = c.in_ok-pass_to-2.ensures.at conf (take i xs) s.is_at in
-    let done : Sent conf xs last.octets 79999999 = at_last conf xs (take i xs) c.loop-index.recorder last 79999999 s at (c.in_ok-pass_to-2.ensures.now (omega (arith, s.early))) (omega arith) (omega arith) in
-    let end : Sent conf c.args.script.now last.octets 79999999 = done in
-    (79999999, end.is_end, omega arith)
+    end.recording ∙ at_end conf c.args.script.now 79999999 (omega arith) end.is_end

@@ -1,8 +1,5 @@
-use Rattle.rtt_words.specs.Commands.{sent}
-use Rattle.rtt_top.proofs.Sending.{is_sent}
+use Rattle.rtt_send.proofs.Accepted.{accepted_lines}
 use Rattle.rtt_top.proofs.scripts.recording_of.Goals as goal
 
-pub returns-in-Ok-send_script-clause-recording : goal.returns-in-Ok-send_script-clause-recording
-returns-in-Ok-send_script-clause-recording g c = λ t octets held.
-    is_sent (sent c.args.words.now) octets c.in-Ok-send_script.octets c.in-Ok.script (c.in-Ok.ensures.value t octets held) c.in-Ok.ensures.lines
-    c.in-Ok-send_script.ensures.sent c.in-Ok-send_script.ensures.ends
+pub send_script-requires-clause-lines : goal.send_script-requires-clause-lines
+send_script-requires-clause-lines g c = let read = c.in-Ok.ensures.read in accepted_lines read.0 c.in-Ok.script read.2

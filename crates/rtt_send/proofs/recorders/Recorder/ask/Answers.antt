@@ -1,7 +1,7 @@
 use Rattle.std.proofs.Common.{◌≡◌, ◌<◌, ◌+◌, ◌++◌, ℕ, List, length, refl, ap, sym, subst, ◌∙◌, add-one}
 use Rattle.wire_spec.specs.Dump.{record_written}
 use Rattle.rtt_send.specs.declared.recorders.Recorder.{Recorder}
-use Rattle.rtt_send.specs.Scripts.{events_until, events_through}
+use Rattle.command_spec.specs.Scripts.{events_until, events_through}
 use Rattle.rtt_send.specs.Insides.{Records, IsAsked}
 use Rattle.rtt_send.proofs.Events.{asked_until}
 use Rattle.rtt_send.proofs.Asking.{asked_idle, asked_more, some_octets}

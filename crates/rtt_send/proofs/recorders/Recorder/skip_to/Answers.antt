@@ -1,6 +1,6 @@
 use Rattle.std.proofs.Common.{◌≡◌, ◌≤◌, ℕ, Some, None, suc, sym, subst, ◌∙◌, arith}
 use Rattle.std.specs.Prelude.{min}
-use Rattle.rtt_send.specs.Scripts.{events_until, events_through}
+use Rattle.command_spec.specs.Scripts.{events_until, events_through}
 use Rattle.rtt_send.specs.Insides.{Records}
 use Rattle.rtt_send.proofs.Steps.{skip_some, skip_none, typed_later}
 use Rattle.rtt_send.proofs.recorders.Recorder.skip_to.Goals as goal

@@ -1,5 +1,5 @@
 use Rattle.script_text.specs.ScriptLines.{line_of}
-use Rattle.rtt_send.specs.Scripts.{events_until}
+use Rattle.command_spec.specs.Scripts.{events_until}
 use Rattle.rtt_send.proofs.Steps.{on_ok_with, typed_line, typed_one_more}
 use Rattle.rtt_send.proofs.recorders.Recorder.type_line.Goals as goal
 

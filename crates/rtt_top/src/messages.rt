@@ -1,45 +1,35 @@
-//! Why a command did not do its work, and what is told of it.
+//! What is told of a fault, and its status.
 ghost use Rattle.std.specs.Prelude.{◌≡◌, ◌++◌, ◌≤◌, codes, OnOk, OnErr};
 ghost use Rattle.rtt_io.specs.Counts.{Rose};
-ghost use Rattle.rtt_top.specs.Messages.{status_of, message_of, place_message, line_message, dump_kind_name, conf_kind_name};
+ghost use Rattle.command_spec.specs.Messages.{refusal_status, fault_status, fault_message, refusal_message, trouble, byte_message, line_message, dump_kind_name, conf_kind_name};
 
+use command_spec::{Fault, Refusal};
 use file_spec::ConfKind;
 use itoa::Buffer;
 use rtt_base::Failed;
 use rtt_io::Sink;
 use wire_spec::DumpKind;
 
-/// Why a command did not do its work.
-#[derive(Debug, Drop)]
-pub enum Fault<'a> {
-    /// The words are outside the word table.
-    WrongWords,
-    /// A file could not be opened.
-    CannotOpen(&'a str),
-    /// A file could not be read to its end.
-    CannotRead(&'a str),
-    /// A script is refused: at this line, for this reason.
-    BadScript(&'a str, u32, ConfKind),
-    /// A recording has no reading: at this byte, for this reason.
-    BadRecording(&'a str, u64, DumpKind),
-    /// What was asked for could not be written on the output.
-    CannotPrint,
-    /// A file could not be created or written.
-    CannotWrite(&'a str),
-    NoMemory,
+/// The program's status for a refusal.
+fn refusal_status(refusal: Refusal) -> u8
+    ensures { result ≡ refusal_status refusal }
+{
+    match refusal {
+        Refusal::AtLine { .. } => 5,
+        Refusal::AtByte { .. } => 6,
+    }
 }
 
 /// The program's status for a fault.
-pub fn status(fault: &Fault<'_>) -> u8
-    ensures { result ≡ status_of fault.now }
+pub fn status(fault: Fault) -> u8
+    ensures { result ≡ fault_status fault }
 {
     match fault {
         Fault::WrongWords => 2,
-        Fault::CannotOpen(_) => 3,
-        Fault::CannotRead(_) => 4,
-        Fault::BadScript(..) => 5,
-        Fault::BadRecording(..) => 6,
-        Fault::CannotPrint | Fault::CannotWrite(_) => 7,
+        Fault::CannotOpen { .. } => 3,
+        Fault::CannotRead { .. } => 4,
+        Fault::Refused { refusal, .. } => refusal_status(refusal),
+        Fault::CannotPrint | Fault::CannotWrite { .. } => 7,
         Fault::NoMemory => 70,
     }
 }
@@ -93,21 +83,21 @@ fn write_two<E: Sink>(err: &mut E, first: &[u8], second: &[u8]) -> Result<(), Fa
 
 /// Writes what went wrong with a file.
 #[tactic(auto, using(crate::proofs::Counts::rose_since, crate::proofs::Counts::rose_before))]
-fn write_trouble<E: Sink>(err: &mut E, trouble: &[u8], name: &[u8]) -> Result<(), Failed>
+fn write_trouble<E: Sink>(err: &mut E, what: &[u8], name: &[u8]) -> Result<(), Failed>
     ensures never_falls { E.faults err.old ≤ E.faults err.new }
     ensures failed { OnErr result (Rose (E.faults err.old) (E.faults err.new)) }
-    ensures written { E.tells → OnOk result (E.took err.new ≡ E.took err.old ++ (trouble.now ++ (name.now ++ codes "\n"))) }
+    ensures written { E.tells → OnOk result (E.took err.new ≡ E.took err.old ++ trouble what.now name.now) }
 {
-    err.write_all(trouble)?;
+    err.write_all(what)?;
     write_two(err, name, b"\n")
 }
 
 /// Writes at which byte a recording has no reading, and why.
 #[tactic(auto, using(crate::proofs::Counts::rose_since, crate::proofs::Counts::rose_before))]
-fn write_place<E: Sink>(err: &mut E, name: &[u8], byte: u64, kind: DumpKind) -> Result<(), Failed>
+fn write_byte<E: Sink>(err: &mut E, name: &[u8], byte: u64, kind: DumpKind) -> Result<(), Failed>
     ensures never_falls { E.faults err.old ≤ E.faults err.new }
     ensures failed { OnErr result (Rose (E.faults err.old) (E.faults err.new)) }
-    ensures written { E.tells → OnOk result (E.took err.new ≡ E.took err.old ++ place_message name.now byte kind) }
+    ensures written { E.tells → OnOk result (E.took err.new ≡ E.took err.old ++ byte_message name.now byte kind) }
 {
     let mut digits = Buffer::new();
     write_two(err, name, b" byte ")?;
@@ -135,29 +125,39 @@ usage: rtt_program read FILE SSRC [SOURCE [T140 RED]]
        rtt_program send SCRIPT OUT SSRC SEQ STAMP
 ";
 
-#[tactic(auto, using(crate::proofs::Counts::rose_since, crate::proofs::Counts::rose_before))]
-fn write_message<E: Sink>(err: &mut E, fault: &Fault<'_>) -> Result<(), Failed>
+/// Writes why what lies in a file of this name is refused.
+fn write_refusal<E: Sink>(err: &mut E, name: &[u8], refusal: Refusal) -> Result<(), Failed>
     ensures never_falls { E.faults err.old ≤ E.faults err.new }
     ensures failed { OnErr result (Rose (E.faults err.old) (E.faults err.new)) }
-    ensures written { E.tells → OnOk result (E.took err.new ≡ E.took err.old ++ message_of fault.now) }
+    ensures written { E.tells → OnOk result (E.took err.new ≡ E.took err.old ++ refusal_message name.now refusal) }
+{
+    match refusal {
+        Refusal::AtByte { byte, kind } => write_byte(err, name, byte, kind),
+        Refusal::AtLine { line, kind } => write_line(err, name, line, kind),
+    }
+}
+
+/// Writes what is told of a fault whose file has this name.
+fn write_message<E: Sink>(err: &mut E, name: &[u8], fault: Fault) -> Result<(), Failed>
+    ensures never_falls { E.faults err.old ≤ E.faults err.new }
+    ensures failed { OnErr result (Rose (E.faults err.old) (E.faults err.new)) }
+    ensures written { E.tells → OnOk result (E.took err.new ≡ E.took err.old ++ fault_message name.now fault) }
 {
     match fault {
         Fault::WrongWords => err.write_all(USAGE),
-        Fault::CannotOpen(name) => write_trouble(err, b"cannot open ", name.as_bytes()),
-        Fault::CannotRead(name) => write_trouble(err, b"cannot read ", name.as_bytes()),
-        Fault::BadScript(name, line, kind) => write_line(err, name.as_bytes(), *line, *kind),
-        Fault::BadRecording(name, byte, kind) => write_place(err, name.as_bytes(), *byte, *kind),
+        Fault::CannotOpen { .. } => write_trouble(err, b"cannot open ", name),
+        Fault::CannotRead { .. } => write_trouble(err, b"cannot read ", name),
+        Fault::Refused { refusal, .. } => write_refusal(err, name, refusal),
         Fault::CannotPrint => err.write_all(b"cannot write the output\n"),
-        Fault::CannotWrite(name) => write_trouble(err, b"cannot write ", name.as_bytes()),
+        Fault::CannotWrite { .. } => write_trouble(err, b"cannot write ", name),
         Fault::NoMemory => err.write_all(b"out of memory\n"),
     }
 }
 
 /// Tells of a fault in one line, or for wrong words in the lines of the usage text. A fault in telling it changes nothing.
-pub fn tell<E: Sink>(err: &mut E, fault: &Fault<'_>)
-    ensures never_falls { E.faults err.old ≤ E.faults err.new }
-    ensures told { E.tells → (Rose (E.faults err.old) (E.faults err.new) → ⊥)
-        → E.took err.new ≡ E.took err.old ++ message_of fault.now }
+pub fn tell<E: Sink>(err: &mut E, name: &str, fault: Fault)
+    ensures { E.tells → (Rose (E.faults err.old) (E.faults err.new) → ⊥)
+        → E.took err.new ≡ E.took err.old ++ fault_message name.now fault }
 {
-    let _ = write_message(err, fault);
+    let _ = write_message(err, name.as_bytes(), fault);
 }

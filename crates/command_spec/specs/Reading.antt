@@ -13,7 +13,7 @@ use Rattle.stream_spec.specs.Kept.{kept, texts}
 use Rattle.text_spec.specs.declared.counts.Counts.{Counts}
 use Rattle.text_spec.specs.Shown.{shown}
 use Rattle.text_spec.specs.Views.{text_view}
-use Rattle.rtt_read.specs.declared.confs.ReadConf.{ReadConf}
+use Rattle.command_spec.specs.declared.requests.ReadRequest.{ReadRequest}
 
 -- how long a gap in the numbers is waited for, in milliseconds
 abbrev pub usual_wait : ℕ
@@ -31,13 +31,13 @@ fate_of (Ok packet) = Text
 fate_of (Err Foreign) = Foreigner
 fate_of (Err fault) = Refused
 
-abbrev pub fate_of_what : ReadConf → What → Fate
+abbrev pub fate_of_what : ReadRequest → What → Fate
 fate_of_what r (Sent octets) = fate_of (text_of octets (Some r.ssrc) r.pts)
 fate_of_what r Rtcp = NoPacket
 fate_of_what r Cut = Refused
 fate_of_what r Large = Refused
 
-abbrev pub fate : ReadConf → Item → Fate
+abbrev pub fate : ReadRequest → Item → Fate
 fate r item = fate_of_what r item.what
 
 abbrev pub is_packet : Fate → Bool
@@ -52,33 +52,37 @@ abbrev pub is_foreign : Fate → Bool
 is_foreign Foreigner = true
 is_foreign _ = false
 
--- how many of the records have such a fate
-abbrev pub many : (Fate → Bool) → ReadConf → List Item → ℕ
-many p r items = length (filter (λ item. p (fate r item)) items)
+-- how many of what came have such a fate
+abbrev pub many : {A : Type 0} → (Fate → Bool) → (A → Fate) → List A → ℕ
+many p fate_of came = length (filter (λ x. p (fate_of x)) came)
+
+-- The counts over what came, each of which has a fate, and of which so many were used.
+abbrev pub counts_over : {A : Type 0} → (A → Fate) → List A → ℕ → Counts
+counts_over fate_of came used = record {
+  packets = many is_packet fate_of came;
+  used = used;
+  refused = many is_refused fate_of came;
+  foreign = many is_foreign fate_of came;
+}
 
 -- the arrivals of the stream, newest first
-abbrev pub arrivals_of : ReadConf → List ℕ → List Arrival
+abbrev pub arrivals_of : ReadRequest → List ℕ → List Arrival
 arrivals_of r octets = arrivals octets r.ssrc r.pts
 
 abbrev pub records_of : List ℕ → List Item
 records_of octets = (dump usual_limit octets).items
 
 -- the text of the source, with its markers
-abbrev pub text_read : ReadConf → List ℕ → List ℕ
+abbrev pub text_read : ReadRequest → List ℕ → List ℕ
 text_read r octets = concat (heard usual_wait (arrivals_of r octets) r.source)
 
-abbrev pub counts_read : ReadConf → List ℕ → Counts
-counts_read r octets = record {
-  packets = many is_packet r (records_of octets);
-  used = length (used usual_wait (numbered (arrivals_of r octets)));
-  refused = many is_refused r (records_of octets);
-  foreign = many is_foreign r (records_of octets);
-}
+abbrev pub counts_read : ReadRequest → List ℕ → Counts
+counts_read r octets = counts_over (fate r) (records_of octets) (length (used usual_wait (numbered (arrivals_of r octets))))
 
-unfoldable pub read_view : ReadConf → List ℕ → List ℕ
+unfoldable pub read_view : ReadRequest → List ℕ → List ℕ
 read_view r octets = text_view (shown (text_read r octets)) (counts_read r octets)
 
 -- What is printed of arrivals that come from a history: the source's blocks of the packets that came in time, in their
 -- order, each once, and the marks.
-unfoldable pub history_view : History → ReadConf → List ℕ → List ℕ
+unfoldable pub history_view : History → ReadRequest → List ℕ → List ℕ
 history_view h r octets = text_view (shown (concat (texts (kept h (places usual_wait h (arrivals_of r octets)) r.source)))) (counts_read r octets)

@@ -1,0 +1,103 @@
+-- How a command ends, the program's statuses, and what is told of a fault (profile). Each line ends with LF.
+use Rattle.std.specs.Prelude.{ℕ, List, [], ◌++◌, Result, Ok, Err, codes, decimal}
+use Rattle.wire_spec.specs.declared.faults.DumpKind.{DumpKind}
+use Rattle.wire_spec.specs.declared.faults.DumpKind.TheVariants.{NotDump, BadLength, EndsInside, TooLong, TooLarge, Read}
+use Rattle.file_spec.specs.declared.kinds.ConfKind.{ConfKind}
+use Rattle.file_spec.specs.declared.kinds.ConfKind.TheVariants as conf
+use Rattle.command_spec.specs.declared.faults.Refusal.{Refusal}
+use Rattle.command_spec.specs.declared.faults.Refusal.TheVariants.{AtByte, AtLine}
+use Rattle.command_spec.specs.declared.faults.Fault.{Fault}
+use Rattle.command_spec.specs.declared.faults.Fault.TheVariants.{WrongWords, CannotOpen, CannotRead, Refused, CannotPrint, CannotWrite, NoMemory}
+use Rattle.command_spec.specs.Outcomes.{Outcome, Missing, Done}
+use Rattle.command_spec.specs.Outcomes as outcomes
+
+-- all was done, or a fault stands in its place
+abbrev pub Ending : Type 0
+Ending = Result (Unit {0}) Fault
+
+-- how a command ends where nothing outside fails
+abbrev pub ending_of : Outcome → Ending
+ending_of (Missing input) = Err (CannotOpen input)
+ending_of (outcomes.Refused input refusal) = Err (Refused input refusal)
+ending_of (Done printed files) = Ok tt
+
+-- ---- statuses
+
+abbrev pub refusal_status : Refusal → ℕ
+refusal_status (AtLine line kind) = 5
+refusal_status (AtByte byte kind) = 6
+
+abbrev pub fault_status : Fault → ℕ
+fault_status WrongWords = 2
+fault_status (CannotOpen input) = 3
+fault_status (CannotRead input) = 4
+fault_status (Refused input refusal) = refusal_status refusal
+fault_status CannotPrint = 7
+fault_status (CannotWrite output) = 7
+fault_status NoMemory = 70
+
+abbrev pub status_of : Ending → ℕ
+status_of (Ok done) = 0
+status_of (Err fault) = fault_status fault
+
+-- ---- what is told
+
+abbrev pub dump_kind_name : DumpKind → List ℕ
+dump_kind_name NotDump = codes "NotDump"
+dump_kind_name BadLength = codes "BadLength"
+dump_kind_name EndsInside = codes "EndsInside"
+dump_kind_name TooLong = codes "TooLong"
+dump_kind_name TooLarge = codes "TooLarge"
+dump_kind_name Read = codes "Read"
+
+abbrev pub conf_kind_name : ConfKind → List ℕ
+conf_kind_name conf.NotText = codes "NotText"
+conf_kind_name conf.Word = codes "Word"
+conf_kind_name conf.Count = codes "Count"
+conf_kind_name conf.Name = codes "Name"
+conf_kind_name conf.Number = codes "Number"
+conf_kind_name conf.Many = codes "Many"
+conf_kind_name conf.PlanMany = codes "PlanMany"
+conf_kind_name conf.Twice = codes "Twice"
+conf_kind_name conf.Clash = codes "Clash"
+conf_kind_name conf.Crowd = codes "Crowd"
+conf_kind_name conf.Few = codes "Few"
+conf_kind_name conf.Large = codes "Large"
+conf_kind_name conf.Order = codes "Order"
+conf_kind_name conf.Escape = codes "Escape"
+conf_kind_name conf.Long = codes "Long"
+conf_kind_name conf.Full = codes "Full"
+
+-- where a recording has no reading, and why
+abbrev pub byte_message : List ℕ → ℕ → DumpKind → List ℕ
+byte_message name byte kind = name ++ codes " byte " ++ (decimal byte ++ codes ": ") ++ (dump_kind_name kind ++ codes "\n")
+
+-- which line of a file is refused, and why
+abbrev pub line_message : List ℕ → ℕ → ConfKind → List ℕ
+line_message name line kind = name ++ codes " line " ++ (decimal line ++ codes ": ") ++ (conf_kind_name kind ++ codes "\n")
+
+abbrev pub refusal_message : List ℕ → Refusal → List ℕ
+refusal_message name (AtByte byte kind) = byte_message name byte kind
+refusal_message name (AtLine line kind) = line_message name line kind
+
+-- for words outside the word table
+abbrev pub usage : List ℕ
+usage = codes "usage: rtt_program read FILE SSRC [SOURCE [T140 RED]]\n       rtt_program list FILE [T140 RED]\n       rtt_program send SCRIPT OUT SSRC SEQ STAMP\n"
+
+-- what went wrong with the file of this name
+abbrev pub trouble : List ℕ → List ℕ → List ℕ
+trouble what name = what ++ (name ++ codes "\n")
+
+-- what is told of a fault whose file has this name
+abbrev pub fault_message : List ℕ → Fault → List ℕ
+fault_message name WrongWords = usage
+fault_message name (CannotOpen input) = trouble (codes "cannot open ") name
+fault_message name (CannotRead input) = trouble (codes "cannot read ") name
+fault_message name (Refused input refusal) = refusal_message name refusal
+fault_message name CannotPrint = codes "cannot write the output\n"
+fault_message name (CannotWrite output) = trouble (codes "cannot write ") name
+fault_message name NoMemory = codes "out of memory\n"
+
+abbrev pub message_of : List ℕ → Ending → List ℕ
+message_of name (Ok done) = []
+message_of name (Err fault) = fault_message name fault

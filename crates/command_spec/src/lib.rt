@@ -1,0 +1,9 @@
+//! What each command does: what it is asked for, what it reads, and what it comes to. Definitions, and hardly any code.
+#![tactic(auto)]
+
+mod faults;
+pub mod laws;
+mod requests;
+
+pub use faults::{Fault, Refusal};
+pub use requests::ReadRequest;

@@ -1,0 +1,56 @@
+-- What is sent for a script.
+use Rattle.std.proofs.Common.{◌≡◌, ℕ, ◌<◌, ◌^◌, Option, Some, None, List, [], ◌∷◌, Result, Ok, Err, refl, ap, sym, arith}
+use Rattle.file_spec.specs.Script.{ScriptLine}
+use Rattle.file_spec.specs.Lines as lines
+use Rattle.file_spec.specs.Script.{script}
+use Rattle.file_spec.specs.Words.{SendWords, usual_pts}
+use Rattle.text_sender.specs.declared.senders.SendConf.{SendConf}
+use Rattle.text_sender.specs.Confs.{IsConf}
+use Rattle.text_sender.proofs.Scripts.{own}
+use Rattle.command_spec.specs.Scripts as scripts
+use Rattle.command_spec.specs.Scripts.{AreLines, events_through}
+use Rattle.command_spec.specs.Work.{Made, Steps, Makes}
+use Rattle.command_spec.specs.Commands.{sending_of, sends, unless_full}
+use Rattle.command_spec.specs.Sent.{IsSent}
+use Rattle.rtt_send.specs.Scripts.{IsEnd, first_end, full_line}
+use Rattle.rtt_send.proofs.Accepted.{accepted_lines}
+use Rattle.rtt_send.proofs.Typed.{lawful_sent, closed_sent, texts_sent}
+use Rattle.rtt_send.proofs.Firsts.{scripts_end, ends_early}
+use Rattle.rtt_send.proofs.ReadBack.{packets_back}
+
+usual_conf : (s : SendWords) → IsConf (record { ssrc = s.ssrc; seq = s.seq; stamp = s.stamp; pts = usual_pts; interval = 300; gens = 2 })
+usual_conf s = record { least = omega arith; most = omega arith; t140 = omega arith; red = omega arith; gens = omega arith; differ = λ e. omega arith }
+
+-- the file of these steps
+file_in : Steps → List ℕ
+file_in (Makes printed (made ∷ more)) = made.octets
+file_in _ = []
+
+made_full : (s : SendWords) (ls : List ScriptLine) (found : Option ℕ) (file : List ℕ)
+    → unless_full found (Makes [] (record { name = s.out; octets = scripts.recording (sending_of s) ls } ∷ [])) ≡ Makes [] (record { name = s.out; octets = file } ∷ [])
+    → (found ≡ None) × (file ≡ scripts.recording (sending_of s) ls)
+unfolding file_in
+made_full s ls None file e = (refl, sym (ap file_in e))
+made_full s ls (Some line) file e = cc e
+
+pub sent : (s : SendWords) (octets file : List ℕ) → sends s (script octets) ≡ Makes [] (record { name = s.out; octets = file } ∷ []) → IsSent s octets file
+sent s octets file e = go (script octets) refl e
+  where
+    go : (r : Result (List ScriptLine) lines.Refusal) → script octets ≡ r → sends s r ≡ Makes [] (record { name = s.out; octets = file } ∷ []) → IsSent s octets file
+    go (Err refusal) read m = cc m
+    go (Ok ls) read m =
+        let conf : SendConf = record { ssrc = s.ssrc; seq = s.seq; stamp = s.stamp; pts = usual_pts; interval = 300; gens = 2 } in
+        let made = made_full s ls (full_line conf ls) file m in
+        let are = accepted_lines octets ls read in
+        let early : first_end conf ls < 80000000 = ends_early conf ls (usual_conf s) are made.0 in
+        let end : IsEnd conf ls (first_end conf ls) = scripts_end conf ls (usual_conf s) are made.0 in
+        record {
+          lines = ls;
+          read = read;
+          file_is = made.1;
+          lawful = lawful_sent conf ls (first_end conf ls) (usual_conf s) are (omega arith);
+          own = own conf (events_through ls (first_end conf ls));
+          closed = closed_sent conf ls (first_end conf ls) (usual_conf s) are (omega arith) end;
+          whole = texts_sent conf ls (first_end conf ls) are end;
+          packets = λ ssrc. packets_back conf ls (first_end conf ls) (usual_conf s) ssrc are (omega arith);
+        }
