@@ -2,6 +2,7 @@
 use Rattle.std.specs.Prelude.{◌≡◌, ℕ, ◌+◌, ◌≤◌, Bool, true, not, ◌&&◌, nat_le, Option, None, Some, Result, Ok, Err, List, [], ◌∷◌, ◌++◌, length, filter, map}
 use Rattle.wire_spec.specs.declared.faults.TextFault.{TextFault}
 use Rattle.wire_spec.specs.Packets.{Packet, Arrival}
+use Rattle.wire_spec.specs.Text.{text_of}
 use Rattle.wire_spec.specs.Dump.{latest}
 use Rattle.stream_spec.specs.Numbering.{Numbered}
 use Rattle.stream_spec.specs.Hearing.{heard_by}
@@ -42,6 +43,10 @@ abbrev pub texts_left : Ear → List (List ℕ)
 texts_left e = left_of e.piece e.packet.value
 
 -- ---- what it was told
+
+-- the packet of the stream that these octets are, or why they are none
+abbrev pub text_for : EarConf → List ℕ → Result Packet TextFault
+text_for conf octets = text_of octets (Some conf.ssrc) conf.pts
 
 -- an octet string that is a packet of text comes at `now`; nothing else hands in a moment
 abbrev pub told : Story → ℕ → Result Packet TextFault → Story

@@ -1,11 +1,10 @@
 //! The ear of one stream.
 ghost use Rattle.std.specs.Prelude.{◌≡◌, ◌≢◌, ℕ, ◌+◌, ◌≤◌, ◌<◌, ◌^◌, List, [], ◌∷◌, ◌++◌, length, Bool, Some, Ok, Err, OnOk, OnErr, IfOk, IfErr, IsUtf8, AllPairs};
-ghost use Rattle.wire_spec.specs.Packets.{Packet, has_text, packet_of};
-ghost use Rattle.wire_spec.specs.Text.{text_of};
+ghost use Rattle.wire_spec.specs.Packets.{Packet, has_text};
 ghost use Rattle.stream_spec.specs.Ready.{chunk_of};
 ghost use Rattle.gap_tracker.specs.Stories.{Story, begun, went, ended};
 ghost use Rattle.ear.specs.declared.confs.EarConf.{EarConf};
-ghost use Rattle.ear.specs.Hears.{conf_of, arrivals_of, is_finished, is_clear, is_quiet, told, Hears, IsHearing, Gave, IsGiving, Becomes, GivesChunk, GivesNone, GaveReady, GaveFront, AllReady, Gathers, CountsUsed};
+ghost use Rattle.ear.specs.Hears.{conf_of, arrivals_of, is_finished, is_clear, is_quiet, text_for, told, Hears, IsHearing, Gave, IsGiving, Becomes, GivesChunk, GivesNone, GaveReady, GaveFront, AllReady, Gathers, CountsUsed};
 
 use crate::EarConf;
 use gap_tracker::Tracker;
@@ -61,9 +60,9 @@ impl Ear {
         requires now { now < 2 ^ 48 }
         requires quiet { is_quiet self.old ≡ Bool.true }
         requires few { arrivals_of self.old < 2 ^ 40 }
-        ensures ok { OnOk result ((p : Packet) × (text_of octets.now (Some (conf_of self.old).ssrc) (conf_of self.old).pts ≡ Ok p)) }
-        ensures err { IfErr result (λ fault. text_of octets.now (Some (conf_of self.old).ssrc) (conf_of self.old).pts ≡ Err fault) }
-        ensures becomes { Becomes self.old self.new (λ conf story. told story now (text_of octets.now (Some conf.ssrc) conf.pts)) }
+        ensures ok { OnOk result ((p : Packet) × (text_for (conf_of self.old) octets.now ≡ Ok p)) }
+        ensures err { IfErr result (λ fault. text_for (conf_of self.old) octets.now ≡ Err fault) }
+        ensures becomes { Becomes self.old self.new (λ conf story. told story now (text_for conf octets.now)) }
         ensures quiet { OnErr result (is_quiet self.new ≡ Bool.true) }
         ensures conf { conf_of self.new ≡ conf_of self.old }
         ensures arrivals { arrivals_of self.new ≤ arrivals_of self.old + 1 }

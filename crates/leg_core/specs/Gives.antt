@@ -12,6 +12,7 @@ use Rattle.rtpdump_io.specs.Reading.{to_come, is_ended, most_answers}
 use Rattle.rtpdump_io.specs.Reading as reading
 use Rattle.ear.specs.declared.confs.EarConf.{EarConf}
 use Rattle.ear.specs.Hears.{Gave, IsToldOf, conf_of, ready_chunks, story_chunks}
+use Rattle.ear.specs.Hears as ear
 use Rattle.leg_core.specs.declared.steps.LegStep.{LegStep}
 use Rattle.leg_core.specs.declared.steps.LegStep.TheVariants as step
 use Rattle.leg_core.specs.declared.legs.Leg.{Leg}
@@ -25,6 +26,10 @@ pub record LegPast : Type 0 where
   pub limit : ℕ
   pub octets : List ℕ
   pub gave : List Chunk
+
+-- nothing was given yet
+abbrev pub begins : EarConf → ℕ → List ℕ → LegPast
+begins conf limit octets = record { conf = conf; limit = limit; octets = octets; gave = [] }
 
 -- one more chunk
 abbrev pub gave_chunk : LegPast → Chunk → LegPast
@@ -78,6 +83,10 @@ module _ {S : Type 0} where
   abbrev pub is_over : Leg S → Bool
   is_over leg = leg.over
 
+  -- all that is ready by now was given
+  abbrev pub is_quiet : Leg S → Bool
+  is_quiet leg = ear.is_quiet leg.ear
+
   -- how many records it may still read, at most
   abbrev pub unread : Leg S → ℕ
   unread leg = most_answers leg.reader
@@ -106,3 +115,7 @@ module _ {S : Type 0} where
   Steps left (Ok step.More) c past leg = Stands left leg past
   Steps left (Ok step.End) c past leg = (past.gave ≡ chunks_of past) × ((recording_of past).fault ≡ None)
   Steps left (Err fault) c past leg = IsFaultOf (recording_of past) fault
+
+  -- whatever past it had, it has one more step behind it
+  abbrev pub Follows : (S → List ℕ) → Leg S → Leg S → Result LegStep DumpFault → Chunk → Type 0
+  Follows left old new result c = (past : LegPast) → Stands left old past → Steps left result c past new

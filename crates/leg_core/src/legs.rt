@@ -31,22 +31,19 @@ pub struct LegLost<S> {
 }
 
 impl<S: Source> Leg<S> {
-    ghost use Rattle.std.specs.Prelude.{◌≡◌, ◌≤◌, ◌<◌, ◌+◌, [], true, false, Ok, IfOk, IfErr, IsUtf8};
+    ghost use Rattle.std.specs.Prelude.{◌≡◌, ◌≤◌, ◌<◌, true, false, Ok, IfOk, IfErr, IsUtf8};
     ghost use Rattle.wire_spec.specs.declared.faults.DumpKind.{DumpKind};
     ghost use Rattle.wire_spec.specs.Packets.{has_text};
     ghost use Rattle.stream_spec.specs.Ready.{chunk_of};
     ghost use Rattle.rtt_io.specs.Counts.{Rose};
-    ghost use Rattle.rtpdump_io.specs.Reading.{Gives, is_ended, most_answers, to_come};
-    ghost use Rattle.rtpdump_io.specs.Answers.{is_end};
-    ghost use Rattle.rtpdump_io.specs.Reading as reading;
+    ghost use Rattle.rtpdump_io.specs.Reading.{is_ended};
     ghost use Rattle.ear.specs.declared.confs.EarConf.{EarConf};
-    ghost use Rattle.ear.specs.Hears.{Becomes, GivesChunk, GivesNone, GaveReady, AllReady, arrivals_of, is_finished, is_quiet, conf_of};
-    ghost use Rattle.leg_core.specs.Gives.{LegPast, Stands, Steps, is_last, is_over, place_of, source_of, unread};
+    ghost use Rattle.leg_core.specs.Gives.{Follows, Stands, begins, is_last, is_over, is_quiet, place_of, source_of, unread};
 
     /// A leg over a recording of at most 4194304 octets. The wait is at most 10000 milliseconds.
     pub fn new(alloc: Global, source: S, conf: EarConf) -> Result<Leg<S>, LegLost<S>>
         requires { conf.wait ≤ 10000 }
-        ensures stands { S.tells → IfOk result (λ leg. Stands S.left leg (record { conf = conf; limit = 4194304; octets = S.left source; gave = [] })) }
+        ensures stands { S.tells → IfOk result (λ leg. Stands S.left leg (begins conf 4194304 (S.left source))) }
         ensures place { IfOk result (λ leg. place_of leg ≡ conf.place) }
         ensures open { IfOk result (λ leg. is_over leg ≡ false) }
         ensures source { IfOk result (λ leg. source_of leg ≡ source) }
@@ -64,7 +61,7 @@ impl<S: Source> Leg<S> {
     ) -> Result<Leg<S>, LegLost<S>>
         requires wait { conf.wait ≤ 10000 }
         requires limit { limit ≤ 4194304 }
-        ensures stands { S.tells → IfOk result (λ leg. Stands S.left leg (record { conf = conf; limit = limit; octets = S.left source; gave = [] })) }
+        ensures stands { S.tells → IfOk result (λ leg. Stands S.left leg (begins conf limit (S.left source))) }
         ensures place { IfOk result (λ leg. place_of leg ≡ conf.place) }
         ensures open { IfOk result (λ leg. is_over leg ≡ false) }
         ensures source { IfOk result (λ leg. source_of leg ≡ source) }
@@ -87,11 +84,12 @@ impl<S: Source> Leg<S> {
     /// Gives the next text in place of what is in `chunk`, or reads a record. A fault `Read` is one of the source.
     pub fn step(&mut self, chunk: &mut Chunk) -> Result<LegStep, DumpFault>
         requires { is_over self.old ≡ false }
-        ensures steps { S.tells → (past : LegPast) → Stands S.left self.old past → Steps S.left result (chunk_of chunk.new) past self.new }
+        ensures steps { S.tells → Follows S.left self.old self.new result (chunk_of chunk.new) }
         ensures text { result ≡ Ok LegStep.Chunk → has_text chunk.new.text ≡ true }
         ensures utf8 { result ≡ Ok LegStep.Chunk → IsUtf8 chunk.new.text }
         ensures source { result ≡ Ok LegStep.Chunk → chunk.new.source ≡ place_of self.new }
-        ensures reads { result ≡ Ok LegStep.More → unread self.new < unread self.old }
+        ensures nearer { result ≡ Ok LegStep.More → unread self.new < unread self.old }
+        ensures quiet { result ≡ Ok LegStep.More → is_quiet self.new ≡ true }
         ensures over { is_over self.new ≡ is_last result }
         ensures read { IfErr result (λ fault. fault.kind ≡ DumpKind.Read → Rose (S.faults (source_of self.old)) (S.faults (source_of self.new))) }
         ensures never_falls { S.faults (source_of self.old) ≤ S.faults (source_of self.new) }
@@ -107,12 +105,12 @@ impl<S: Source> Leg<S> {
     /// Gives the next text that is heard by now, or the end.
     fn give(&mut self, chunk: &mut Chunk) -> LegStep
         requires { is_over self.old ≡ false }
-        ensures steps { (past : LegPast) → Stands S.left self.old past → Steps S.left (Ok result) (chunk_of chunk.new) past self.new }
+        ensures steps { Follows S.left self.old self.new (Ok result) (chunk_of chunk.new) }
         ensures text { result ≡ LegStep.Chunk → has_text chunk.new.text ≡ true }
         ensures utf8 { result ≡ LegStep.Chunk → IsUtf8 chunk.new.text }
         ensures source { result ≡ LegStep.Chunk → chunk.new.source ≡ place_of self.new }
         ensures over { is_over self.new ≡ is_last (Ok result) }
-        ensures quiet { result ≡ LegStep.More → is_quiet self.new.ear ≡ true }
+        ensures quiet { result ≡ LegStep.More → is_quiet self.new ≡ true }
         ensures more { result ≡ LegStep.More → is_ended self.new.reader ≡ false }
         ensures reader { self.new.reader ≡ self.old.reader }
         ensures place { place_of self.new ≡ place_of self.old }
@@ -131,12 +129,13 @@ impl<S: Source> Leg<S> {
     fn read(&mut self, chunk: &mut Chunk) -> Result<LegStep, DumpFault>
         requires over { is_over self.old ≡ false }
         requires open { is_ended self.old.reader ≡ false }
-        requires quiet { is_quiet self.old.ear ≡ true }
-        ensures steps { S.tells → (past : LegPast) → Stands S.left self.old past → Steps S.left result (chunk_of chunk.new) past self.new }
+        requires quiet { is_quiet self.old ≡ true }
+        ensures steps { S.tells → Follows S.left self.old self.new result (chunk_of chunk.new) }
         ensures text { result ≡ Ok LegStep.Chunk → has_text chunk.new.text ≡ true }
         ensures utf8 { result ≡ Ok LegStep.Chunk → IsUtf8 chunk.new.text }
         ensures source { result ≡ Ok LegStep.Chunk → chunk.new.source ≡ place_of self.new }
-        ensures reads { result ≡ Ok LegStep.More → unread self.new < unread self.old }
+        ensures nearer { result ≡ Ok LegStep.More → unread self.new < unread self.old }
+        ensures quiet { result ≡ Ok LegStep.More → is_quiet self.new ≡ true }
         ensures over { is_over self.new ≡ is_last result }
         ensures read { IfErr result (λ fault. fault.kind ≡ DumpKind.Read → Rose (S.faults (source_of self.old)) (S.faults (source_of self.new))) }
         ensures never_falls { S.faults (source_of self.old) ≤ S.faults (source_of self.new) }
