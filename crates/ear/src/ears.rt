@@ -5,12 +5,13 @@ ghost use Rattle.stream_spec.specs.Ready.{chunk_of};
 ghost use Rattle.gap_tracker.specs.Stories.{Story, begun, went, ended};
 ghost use Rattle.ear.specs.declared.confs.EarConf.{EarConf};
 ghost use Rattle.ear.specs.Hears.{conf_of, arrivals_of, is_finished, is_clear, is_quiet, text_for, told, Hears, IsHearing, Gave, IsGiving, Becomes, GivesChunk, GivesNone, GaveReady, GaveFront, AllReady, Gathers, CountsUsed};
+ghost use Rattle.ear.specs.Each.{GathersEach, IsHearingEach};
 
 use crate::EarConf;
 use gap_tracker::Tracker;
 use red_blocks::read_text;
 use rtt_base::{Bytes, Chunk, NoMemory, TextPacket};
-use source_receiver::{Piece, Receiver};
+use source_receiver::{Piece, Receiver, SourceText};
 use std::alloc::Global;
 use wire_spec::TextFault;
 
@@ -32,12 +33,12 @@ pub struct Ear {
 }
 
 impl Ear {
-    /// An ear to which nothing came yet, for the text of these sources: 1 to 16, all different. It takes all memory
-    /// that it needs; only `gather` takes more, for what it appends.
+    /// An ear to which nothing came yet, for the text of these sources: 1 to 64, all different. It takes all memory
+    /// that it needs; only `gather` and `gather_each` take more, for what it appends.
     pub fn new(alloc: Global, conf: EarConf, sources: &[u32]) -> Result<Ear, NoMemory>
         requires wait { conf.wait ≤ 10000 }
         requires some { 0 < length sources.now }
-        requires few { length sources.now ≤ 16 }
+        requires few { length sources.now ≤ 64 }
         requires differ { AllPairs (λ a b. a ≢ b) sources.now }
         ensures hears { IfOk result (λ ear. Hears ear conf sources.now (begun conf.wait)) }
         ensures gave { IfOk result (λ ear. (source : ℕ) → sources.now ≡ source ∷ [] → Gave ear conf source (begun conf.wait) []) }
@@ -157,6 +158,26 @@ impl Ear {
             *used += 1;
         }
         Ok(())
+    }
+
+    /// Adds all that is heard of each source by now to what was heard of it, and tells how many packets were used. There
+    /// is one text for each source.
+    pub fn gather_each(&mut self, heard: &mut [SourceText]) -> Result<u64, NoMemory>
+        requires hears { IsHearingEach self.old heard.old }
+        requires clear { is_clear self.old ≡ Bool.true }
+        requires few { arrivals_of self.old ≤ 2 ^ 40 }
+        ensures gathers { IfOk result (λ used. GathersEach self.old self.new used heard.old heard.new) }
+        ensures quiet { OnOk result (is_quiet self.new ≡ Bool.true) }
+        ensures conf { OnOk result (conf_of self.new ≡ conf_of self.old) }
+        ensures arrivals { OnOk result (arrivals_of self.new ≡ arrivals_of self.old) }
+        ensures finished { OnOk result (is_finished self.new ≡ is_finished self.old) }
+    {
+        let mut used = 0;
+        while let Some(due) = self.tracker.next(&mut self.packet) {
+            self.receiver.take_each(due.number, &self.packet, heard)?;
+            used += 1;
+        }
+        Ok(used)
     }
 
     /// How many packets came.

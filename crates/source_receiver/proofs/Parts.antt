@@ -76,7 +76,7 @@ seat_more items more sources i x m s n l before = (
     add-one' = omega arith
 
 -- a receiver that took nothing
-pub stands_for_none : (r : Receiver) (sources : List ℕ) → map (λ l. l.source) r.listed.items ≡ sources → ((x : Listed) → In x r.listed.items → x.seen ≡ None) → length sources ≤ 16 → AllPairs (λ a b. a ≢ b) sources
+pub stands_for_none : (r : Receiver) (sources : List ℕ) → map (λ l. l.source) r.listed.items ≡ sources → ((x : Listed) → In x r.listed.items → x.seen ≡ None) → length sources ≤ 64 → AllPairs (λ a b. a ≢ b) sources
     → r.latest ≡ None → r.missing ≡ 0 → Stands r sources []
 stands_for_none r sources s n few differ l m = record {
   listed = s;

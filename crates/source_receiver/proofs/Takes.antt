@@ -1,5 +1,5 @@
 -- One used packet more: what a receiver stands for, and what it gives.
-use Rattle.std.proofs.Common.{◌≡◌, ◌≢◌, ℕ, zero, suc, ◌+◌, ◌-◌, ◌<◌, ◌≤◌, Bool, true, false, cond, not, ◌⊎◌, inl, inr, Option, Some, None, List, [], ◌∷◌, ◌++◌, length, length-append, get_or, set, refl, ap, subst, sym, ◌∙◌, arith}
+use Rattle.std.proofs.Common.{◌≡◌, ◌≢◌, ℕ, zero, suc, ◌+◌, ◌-◌, ◌<◌, ◌≤◌, Bool, true, false, cond, not, ◌⊎◌, inl, inr, Option, Some, None, List, [], ◌∷◌, ◌++◌, length, length-append, get_or, set, refl, ap, subst, sym, ◌∙◌, arith, append-nil, append_assoc, get_or-set_other, get_or-set_same}
 use Rattle.std.specs.Prelude.{if◌then◌else◌, map, ◌==◌, nat_lt, AllPairs, position}
 use Rattle.std.specs.List.{position_or_len, prefix_len}
 use Rattle.std.specs.Prelude.{OnSome, Result, Ok, Err}
@@ -21,8 +21,15 @@ use Rattle.source_receiver.specs.declared.receivers.Seen.{Seen}
 use Rattle.source_receiver.specs.declared.receivers.Listed.{Listed}
 use Rattle.source_receiver.specs.declared.receivers.Receiver.{Receiver}
 use Rattle.source_receiver.specs.Stands.{Stands, IsCount, IsSeen, first_from, used_packet, when_at}
+use Rattle.std.specs.Prelude.{◌&&◌}
+use Rattle.std.specs.List.{concat}
+use Rattle.std.proofs.lemmas.List.Elements.{at_read}
+use Rattle.std.proofs.lemmas.List.Folds.{concat-append}
+use Rattle.stream_spec.specs.Hearing.{is_packet_of}
+use Rattle.source_receiver.specs.declared.source_texts.SourceText.{SourceText}
+use Rattle.source_receiver.specs.Each.{one_if, marks_by, marks_from, AreHeard, IsHeardOf}
 use Rattle.source_receiver.specs.Steps as steps
-use Rattle.source_receiver.specs.Steps.{missing_up_to, missing_then, is_new_since, is_marked_since, older_since, texts_since}
+use Rattle.source_receiver.specs.Steps.{missing_up_to, missing_then, is_new_since, is_marked_since, older_since, texts_since, told_since}
 
 -- ---- counts
 -- a number above the latest is above all
@@ -200,13 +207,26 @@ sources_set (y ∷ items) zero x l e s = ap (λ n. n ∷ map (λ (z : Listed). z
 sources_set (y ∷ items) (suc k) x l e s = ap (λ ns. y.source ∷ ns) (sources_set items k x l e s)
 
 -- ---- the place as an octet
-pub octet : {E : Type 0} (r : Result ℕ E) (place : ℕ) → OkIff r (place < 256) place → place < 16 → result_ok r ≡ Some place
+pub octet : {E : Type 0} (r : Result ℕ E) (place : ℕ) → OkIff r (place < 256) place → place < 64 → result_ok r ≡ Some place
 octet (Ok x) place o l = ap Some o.1
 octet (Err e) place o l = absurd (o (omega arith))
 
 pub on_some : (o : Option ℕ) (P : Type 0) → P → OnSome o P
 on_some None P h = tt
 on_some (Some x) P h = h
+
+-- ---- markers
+abbrev pub mark_at : ℕ → Option ℕ → Bool → ℕ
+mark_at i None m = 0
+mark_at i (Some place) m = one_if ((place == i) && m)
+
+pub marks_more : (before us : List Numbered) (u : Numbered) (s : ℕ) → marks_from before (us ++ u ∷ []) s ≡ marks_from before us s + one_if (is_packet_of s u && adds_marker (before ++ us) u)
+marks_more before [] u s = rw (append-nil before) (omega arith)
+marks_more before (v ∷ us) u s =
+    let more = marks_more (before ++ v ∷ []) us u s in
+    let same : one_if (is_packet_of s u && adds_marker ((before ++ v ∷ []) ++ us) u) ≡ one_if (is_packet_of s u && adds_marker (before ++ v ∷ us) u) =
+    ap (λ (l : List Numbered). one_if (is_packet_of s u && adds_marker l u)) (append_assoc before (v ∷ []) us) in
+    omega (arith, more, same)
 
 -- ---- the whole step
 -- the number is counted
@@ -251,7 +271,7 @@ module _ (r next : Receiver) (sources : List ℕ) (us : List Numbered) (time num
   pub record IsSeat (place : ℕ) (l : Listed) : Type 0 where
     pub position_is : position (λ n. n == p.source) sources ≡ Some place
     pub within : place < length r.listed.items
-    pub small : place < 16
+    pub small : place < 64
     pub is_in : In l r.listed.items
     pub at : l ≡ get_or r.listed.items place l
     pub own : l.source ≡ p.source
@@ -326,3 +346,64 @@ module _ (r next : Receiver) (sources : List ℕ) (us : List Numbered) (time num
       elsewhere : (p.source ≡ get_or sources i 0 → ⊥) → (o : Option ℕ) → o ≡ position (λ n. n == p.source) sources → when_at i o ((if m then marker ∷ [] else []) ++ texts) ≡ []
       elsewhere ne None q = refl
       elsewhere ne (Some j) q = rw (ne_eqb j i (not_here j q ne)) refl
+
+  -- what was heard of a source, and what the packet adds to it
+  pub each_one : (old new : SourceText) (i : ℕ) (place : Option ℕ) (m : Bool) (texts : List (List ℕ)) → i < length sources → place ≡ position (λ n. n == p.source) sources
+      → ((j : ℕ) → place ≡ Some j → (m ≡ adds_marker us (used_packet time number p)) × (texts ≡ adds_texts us (used_packet time number p)))
+      → IsHeardOf (get_or sources i 0) us old → new.text ≡ old.text ++ concat (when_at i place ((if m then marker ∷ [] else []) ++ texts)) → new.marks ≡ old.marks + mark_at i place m
+      → IsHeardOf (get_or sources i 0) (us ++ used_packet time number p ∷ []) new
+  each_one old new i place m texts l e g h t n = record {
+    text = t ∙ (ap (λ (o : List ℕ). o ++ concat (when_at i place ((if m then marker ∷ [] else []) ++ texts))) h.text
+        ∙ (sym (concat-append (heard_by us (get_or sources i 0)) (when_at i place ((if m then marker ∷ [] else []) ++ texts))) ∙ ap concat (sym (heard_at i place m texts l e g))));
+    marks = n ∙ (ap (λ (k : ℕ). k + mark_at i place m) h.marks ∙ (ap (λ (k : ℕ). marks_by us (get_or sources i 0) + k) once ∙ sym (marks_more [] us (used_packet time number p) (get_or sources i 0))));
+  }
+    where
+      none_there : (p.source ≡ get_or sources i 0 → ⊥) → (o : Option ℕ) → o ≡ position (λ n. n == p.source) sources → mark_at i o m ≡ 0
+      none_there ne None q = refl
+      none_there ne (Some j) q = rw (ne_eqb j i (λ w. ne (sym (place_some p.source sources j (sym q)).is ∙ ap (λ n. get_or sources n 0) w))) refl
+
+      once : mark_at i place m ≡ one_if (is_packet_of (get_or sources i 0) (used_packet time number p) && adds_marker us (used_packet time number p))
+      once = elim (cases_eq p.source (get_or sources i 0)) [
+        | inl q ↦
+            let here : place ≡ Some i = e ∙ place_at p.source sources i s.differ l (sym q) in
+            rw (eq-eqb p.source (get_or sources i 0) q, here, eq-eqb i i refl, (g i here).0) refl
+        | inr ne ↦ rw (ne_eqb p.source (get_or sources i 0) ne) (none_there ne place e)
+      ]
+
+  -- of a packet of no listed source
+  pub each_unlisted : (texts : List SourceText) → position (λ n. n == p.source) sources ≡ None → AreHeard sources us texts → AreHeard sources (us ++ used_packet time number p ∷ []) texts
+  each_unlisted texts none are i d l =
+      let t = get_or texts i d in
+      each_one t t i None false [] l (sym none) (λ j q. cc q) (are i d l) (sym (append-nil t.text)) (omega arith)
+
+  -- of a packet of a listed source, whose text is told more
+  pub each_listed : (texts : List SourceText) (place : ℕ) (l : Listed) (x told : SourceText) → IsSeat place l → length texts ≡ length r.listed.items → x ≡ get_or texts place x → AreHeard sources us texts
+      → told.text ≡ x.text ++ concat (told_since l.seen next.missing p) → told.marks ≡ x.marks + one_if (is_marked_since l.seen next.missing p.stamp (redundant p.blocks))
+      → AreHeard sources (us ++ used_packet time number p ∷ []) (set texts place told)
+  each_listed texts place l x told t n at are text mark i d below = elim (cases_eq place i) [ inl q ↦ here q | inr ne ↦ there ne ]
+    where
+      m : Bool
+      m = is_marked_since l.seen next.missing p.stamp (redundant p.blocks)
+
+      within : place < length texts
+      within = omega (arith, t.within, n)
+
+      tells : (j : ℕ) → Some place ≡ Some j → (m ≡ adds_marker us (used_packet time number p)) × (texts_since l.seen p ≡ adds_texts us (used_packet time number p))
+      tells j q = (marks place l t, texts_there place l t)
+
+      old_is : get_or texts place d ≡ x
+      old_is = at_read texts (λ (y : SourceText). y ≡ x) place x within at refl d
+
+      here : place ≡ i → IsHeardOf (get_or sources i 0) (us ++ used_packet time number p ∷ []) (get_or (set texts place told) i d)
+      here q =
+          let was : get_or texts i d ≡ x = ap (λ (k : ℕ). get_or texts k d) (sym q) ∙ old_is in
+          let is : told ≡ get_or (set texts place told) i d = sym (get_or-set_same texts place told d within) ∙ ap (λ (k : ℕ). get_or (set texts place told) k d) q in
+          subst (λ (y : SourceText). IsHeardOf (get_or sources i 0) (us ++ used_packet time number p ∷ []) y) is
+          (each_one x told i (Some place) m (texts_since l.seen p) below (sym t.position_is) tells (subst (λ (y : SourceText). IsHeardOf (get_or sources i 0) us y) was (are i d below))
+          (rw (eq-eqb place i q) text) (rw (eq-eqb place i q) mark))
+
+      there : (place ≡ i → ⊥) → IsHeardOf (get_or sources i 0) (us ++ used_packet time number p ∷ []) (get_or (set texts place told) i d)
+      there ne =
+          let o = get_or texts i d in
+          subst (λ (y : SourceText). IsHeardOf (get_or sources i 0) (us ++ used_packet time number p ∷ []) y) (sym (get_or-set_other texts place i told d (λ e. ne (sym e))))
+          (each_one o o i (Some place) m (texts_since l.seen p) below (sym t.position_is) tells (are i d below) (rw (ne_eqb place i ne) (sym (append-nil o.text))) (rw (ne_eqb place i ne) (omega arith)))

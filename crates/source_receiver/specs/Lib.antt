@@ -1,3 +1,4 @@
+pub mod Each
 pub mod Stands
 pub mod Steps
 pub mod Pieces

@@ -49,7 +49,7 @@ IsSeen us s (Some seen) = (a : Numbered) × (l : IsLastOf s us a) × (seen.stamp
 
 pub record Stands (r : Receiver) (sources : List ℕ) (us : List Numbered) : Type 0 where
   pub listed : map (λ l. l.source) r.listed.items ≡ sources
-  pub few : length sources ≤ 16
+  pub few : length sources ≤ 64
   pub differ : AllPairs (λ a b. a ≢ b) sources
   pub rising : RisingNumbers us
   pub count : IsCount us r.latest r.missing

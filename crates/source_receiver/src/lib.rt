@@ -4,11 +4,13 @@
 mod hearing;
 mod pieces;
 mod receivers;
+mod source_texts;
 mod text_lists;
 
 pub use hearing::Heard;
 pub use pieces::Piece;
 pub use receivers::Receiver;
+pub use source_texts::SourceText;
 pub use text_lists::Texts;
 
 #[cfg(test)]

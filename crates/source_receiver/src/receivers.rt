@@ -1,5 +1,5 @@
 //! Hearing, source by source (RFC 4103, section 4).
-ghost use Rattle.std.specs.Prelude.{◌≡◌, ◌≢◌, ◌≤◌, ◌<◌, ◌+◌, ◌==◌, ℕ, Bool, List, [], ◌∷◌, ◌++◌, length, position, slice_index, AllPairs, IfOk, OnOk, OnSome, if◌then◌else◌};
+ghost use Rattle.std.specs.Prelude.{◌≡◌, ◌≢◌, ◌≤◌, ◌<◌, ◌+◌, ◌^◌, ◌==◌, ℕ, Bool, List, [], ◌∷◌, ◌++◌, length, position, slice_index, All, AllPairs, IfOk, OnOk, OnSome, if◌then◌else◌};
 ghost use Rattle.std.specs.List.{concat};
 ghost use Rattle.std.specs.Option.{ForSome};
 ghost use Rattle.wire_spec.specs.Packets.{redundant};
@@ -8,8 +8,9 @@ ghost use Rattle.stream_spec.specs.Hearing.{heard_by, adds_marker, adds_texts, m
 ghost use Rattle.source_receiver.specs.Stands.{Stands, used_packet, latest_number, given_at, AppendsHeard};
 ghost use Rattle.source_receiver.specs.Steps.{missing_up_to, is_new_since, is_marked_since, new_since, older_since, texts_since, told_since};
 ghost use Rattle.source_receiver.specs.Pieces.{left_of};
+ghost use Rattle.source_receiver.specs.Each.{one_if, sources_count, AreHeard};
 
-use crate::{Heard, Piece, Texts};
+use crate::{Heard, Piece, SourceText, Texts};
 use rtt_base::{Bytes, NoMemory, Text, TextBlock, TextPacket, after};
 use std::alloc::Global;
 
@@ -178,11 +179,28 @@ fn append_told(
     }
 }
 
+/// Adds what the packet gives after what was seen of its source.
+fn tell_more(
+    seen: Option<Seen>,
+    missing: u64,
+    packet: &TextPacket,
+    heard: &mut SourceText,
+) -> Result<(), NoMemory>
+    requires { heard.old.marks + 1 < 2 ^ 64 }
+    ensures text { OnOk result (heard.new.text ≡ heard.old.text ++ concat (told_since seen missing packet.now)) }
+    ensures marks { OnOk result (heard.new.marks ≡ heard.old.marks + one_if (is_marked_since seen missing packet.now.stamp (redundant packet.now.blocks))) }
+{
+    if marks(seen, missing, packet) {
+        heard.marks += 1;
+    }
+    append_told(seen, missing, packet, &mut heard.text)
+}
+
 impl Receiver {
-    /// A receiver that listens to these sources: 1 to 16 of them, all different.
+    /// A receiver that listens to these sources: 1 to 64 of them, all different.
     pub fn new(alloc: Global, sources: &[u32]) -> Result<Receiver, NoMemory>
         requires some { 0 < length sources.now }
-        requires few { length sources.now ≤ 16 }
+        requires few { length sources.now ≤ 64 }
         requires differ { AllPairs (λ a b. a ≢ b) sources.now }
         ensures stands { IfOk result (λ receiver. Stands receiver sources.now []) }
         ensures latest { IfOk result (λ receiver. latest_number receiver ≡ None) }
@@ -264,6 +282,36 @@ impl Receiver {
             return Ok(());
         };
         append_told(self.listed[place].seen, self.missing, packet, out)?;
+        let (stamp, missing) = (packet.stamp, self.missing);
+        let kept = Some(Seen { stamp, missing });
+        self.listed[place].seen = kept;
+        Ok(())
+    }
+
+    /// Takes a used packet, as `take` does, and adds what is heard of it to what was heard of its source. There is one
+    /// text for each source. After `NoMemory` a part may stand there.
+    pub fn take_each(
+        &mut self,
+        number: u64,
+        packet: &TextPacket,
+        heard: &mut [SourceText],
+    ) -> Result<(), NoMemory>
+        requires rises { ForSome (latest_number self.old) (λ latest. latest < number) }
+        requires each { length heard.old ≡ sources_count self.old }
+        requires few { All (λ t. t.marks + 1 < 2 ^ 64) heard.old }
+        ensures latest { OnOk result (latest_number self.new ≡ Some number) }
+        ensures count { sources_count self.new ≡ sources_count self.old }
+        ensures stands { OnOk result ((sources : List ℕ) (us : List Numbered) (time : ℕ) → Stands self.old sources us
+            → Stands self.new sources (us ++ used_packet time number packet.now ∷ [])) }
+        ensures heard { OnOk result ((sources : List ℕ) (us : List Numbered) (time : ℕ) → Stands self.old sources us
+            → AreHeard sources us heard.old → AreHeard sources (us ++ used_packet time number packet.now ∷ []) heard.new) }
+    {
+        self.count(number);
+        let Some(place) = place_of(self.listed.as_slice(), packet.source) else {
+            return Ok(());
+        };
+        let told = &mut heard[place];
+        tell_more(self.listed[place].seen, self.missing, packet, told)?;
         let (stamp, missing) = (packet.stamp, self.missing);
         let kept = Some(Seen { stamp, missing });
         self.listed[place].seen = kept;

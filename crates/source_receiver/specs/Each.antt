@@ -1,0 +1,32 @@
+-- What is heard of each of many sources (profile).
+use Rattle.std.specs.Prelude.{◌≡◌, ℕ, ◌+◌, ◌<◌, Bool, ◌&&◌, List, [], ◌∷◌, ◌++◌, length, slice_index, slice_index_or, if◌then◌else◌}
+use Rattle.std.specs.List.{concat}
+use Rattle.stream_spec.specs.Numbering.{Numbered}
+use Rattle.stream_spec.specs.Hearing.{adds_marker, heard_by, is_packet_of}
+use Rattle.source_receiver.specs.declared.receivers.Receiver.{Receiver}
+use Rattle.source_receiver.specs.declared.source_texts.SourceText.{SourceText}
+
+-- how many sources are listened to
+abbrev pub sources_count : Receiver → ℕ
+sources_count r = length r.listed.items
+
+abbrev pub one_if : Bool → ℕ
+one_if b = if b then 1 else 0
+
+-- how many of these used packets of the source s put a marker before their texts, behind those before them
+abbrev pub marks_from : List Numbered → List Numbered → ℕ → ℕ
+marks_from before [] s = 0
+marks_from before (u ∷ us) s = one_if (is_packet_of s u && adds_marker before u) + marks_from (before ++ u ∷ []) us s
+
+-- how many markers are heard of the source s by these used packets, in rising number
+abbrev pub marks_by : List Numbered → ℕ → ℕ
+marks_by us s = marks_from [] us s
+
+-- what is heard of the source s by these used packets
+pub record IsHeardOf (s : ℕ) (us : List Numbered) (t : SourceText) : Type 0 where
+  pub text : t.text ≡ concat (heard_by us s)
+  pub marks : t.marks ≡ marks_by us s
+
+-- each text is what is heard of the source in its place
+abbrev pub AreHeard : List ℕ → List Numbered → List SourceText → Type 0
+AreHeard sources us texts = (k : ℕ) (d : SourceText) → k < length sources → IsHeardOf (slice_index sources k) us (slice_index_or texts k d)

@@ -1,0 +1,10 @@
+//! A terminal: what is heard of each source in the packets that come to it, and the view of it.
+#![tactic(auto)]
+
+mod confs;
+mod terminals;
+
+pub use confs::TermConf;
+pub use source_receiver::SourceText;
+pub use t140_text::Counts;
+pub use terminals::Terminal;
