@@ -1,6 +1,6 @@
 -- A terminal that is told of one more arrival, or of the end.
-use Rattle.std.proofs.Common.{◌≡◌, ℕ, ◌+◌, ◌<◌, ◌≤◌, Bool, true, false, List, [], ◌∷◌, ◌++◌, Some, refl, ap, sym, ◌∙◌, arith, length, Result, Ok, Err, subst, get_or}
-use Rattle.std.specs.Prelude.{OnOk, All, IsUtf8, slice_index, slice_index_or}
+use Rattle.std.proofs.Common.{◌≡◌, ℕ, ◌+◌, ◌<◌, ◌≤◌, Bool, true, false, List, Some, refl, ap, sym, ◌∙◌, arith, length, Result, Ok, Err, subst}
+use Rattle.std.specs.Prelude.{OnOk, All, slice_index, slice_index_or}
 use Rattle.std.specs.List.{concat}
 use Rattle.std.proofs.lemmas.List.{length-map}
 use Rattle.wire_spec.specs.declared.faults.TextFault.{TextFault}
@@ -12,7 +12,7 @@ use Rattle.stream_spec.specs.Hearing.{heard, heard_by}
 use Rattle.stream_spec.specs.ChunksBy.{used_ready}
 use Rattle.gap_tracker.specs.Stories.{Story, Given, begun, ended, dues, due_at, ready_dues}
 use Rattle.source_receiver.specs.declared.source_texts.SourceText.{SourceText}
-use Rattle.source_receiver.specs.Each.{AreHeard, IsHeardOf, marks_by}
+use Rattle.source_receiver.specs.Each.{IsHeardOf, marks_by}
 use Rattle.ear.specs.declared.confs.EarConf.{EarConf}
 use Rattle.ear.specs.declared.ears.Ear.{Ear}
 use Rattle.ear.specs.Texts.{AreTextArrivals}
@@ -25,7 +25,7 @@ use Rattle.ear.proofs.Utf8.{heard_utf8}
 use Rattle.text_spec.specs.declared.counts.Counts.{Counts}
 use Rattle.terminal.specs.declared.confs.TermConf.{TermConf}
 use Rattle.terminal.specs.declared.terminals.Terminal.{Terminal}
-use Rattle.terminal.specs.Terminals.{ear_conf, is_refused, is_foreign, one_if, IsEmpty, HearsTexts, SameCounts, CountsAs, Listens, IsTextOf, Heard, marks}
+use Rattle.terminal.specs.Terminals.{ear_conf, is_refused, is_foreign, one_if, IsEmpty, HearsTexts, SameCounts, CountsAs, Listens, IsTextOf, Heard}
 
 -- facts of a success give another
 pub on_ok : {X E P Q : Type 0} (r : Result X E) → OnOk r P → (P → Q) → OnOk r Q
