@@ -1,8 +1,24 @@
 //! A line of print, built in place.
-ghost use Rattle.std.specs.Prelude.{◌≡◌, ◌+◌, ◌≤◌, [], ◌++◌, length, decimal};
+ghost use Rattle.std.specs.Prelude.{◌≡◌, ◌+◌, ◌≤◌, [], ◌++◌, length, drop, decimal};
 
 use itoa::write_digits;
 use std::marker::Model;
+
+/// Writes a text from its end to its front, so that it ends at `end`, and returns where it starts. It goes octet by
+/// octet: most texts are a few octets that the compiler knows, so each becomes a store or two.
+fn write_text(text: &[u8], octets: &mut [u8], end: usize) -> usize
+    requires room { length text.now ≤ end }
+    requires within { end ≤ length octets.old }
+    ensures start { result + length text.now ≡ end }
+    ensures written { drop result octets.new ≡ text.now ++ drop end octets.old }
+{
+    let mut start = end;
+    for octet in text.iter().rev() {
+        start -= 1;
+        octets[start] = *octet;
+    }
+    start
+}
 
 /// A line of at most 256 octets (126 are the most that one has), written from its end to its front, as the digits of a number come.
 #[derive(Drop)]
@@ -49,9 +65,7 @@ impl Line {
         requires { length text.now + length self.old ≤ 256 }
         ensures { self.new ≡ text.now ++ self.old }
     {
-        let start = self.start - text.len();
-        self.octets[start..self.start].copy_from_slice(text);
-        self.start = start;
+        self.start = write_text(text, &mut self.octets, self.start);
     }
 
     /// Writes a number in front of the line, in at most ten digits.
