@@ -10,3 +10,4 @@ pub mod Firsts
 pub mod ReadBack
 pub mod Arriving
 pub mod Heard
+mod Examples

@@ -1,15 +1,11 @@
 -- What a script sends is read back.
-use Rattle.std.proofs.Common.{◌≡◌, ℕ, zero, suc, ◌+◌, ◌-◌, ◌<◌, ◌≤◌, ◌^◌, Bool, true, false, cond, inl, inr, Option, Some, None, Ok, Result, List, [], ◌∷◌, ◌++◌, length, take, refl, ap, subst, sym, ◌∙◌, arith}
-use Rattle.std.specs.Prelude.{map, min, max, ◌==◌, All, IsUtf8}
+use Rattle.std.proofs.Common.{◌≡◌, ℕ, ◌<◌, ◌≤◌, ◌^◌, true, inl, inr, Some, None, Ok, Result, List, [], ◌∷◌, ◌++◌, length, refl, ap, subst, sym, ◌∙◌, arith}
+use Rattle.std.specs.Prelude.{map, max, ◌==◌, All}
 use Rattle.std.specs.List.{AllByRecursion}
-use Rattle.std.proofs.lemmas.List.Elements.{All-from_recursion, recursion_from_All}
+use Rattle.std.proofs.lemmas.List.Elements.{recursion_from_All}
 use Rattle.std.proofs.lemmas.Bool.Decides.{nat_tests}
-use Rattle.std.proofs.lemmas.Str.{IsUtf8-nil}
-use Rattle.rtt_base.specs.declared.blocks.TextBlock.{TextBlock}
 use Rattle.wire_spec.specs.declared.faults.TextFault.{TextFault}
-use Rattle.wire_spec.specs.Packets.{Packet, has_text, primary, blocks_of}
-use Rattle.wire_spec.specs.Rtp.{Head, FitsHeader, rtp_written}
-use Rattle.wire_spec.specs.Red.{IsText, IsRedundant, FitsRed, red_written}
+use Rattle.wire_spec.specs.Packets.{Packet}
 use Rattle.wire_spec.specs.Text.{text_of}
 use Rattle.wire_spec.specs.Dump.{FitsRecord, dump, sent_item, usual_limit}
 use Rattle.wire_spec.proofs.SentBack.{sent_back}
@@ -17,7 +13,7 @@ use Rattle.wire_spec.proofs.Recordings.{read_back}
 use Rattle.file_spec.specs.Script.{ScriptLine}
 use Rattle.stream_spec.specs.Lists.{In}
 use Rattle.stream_spec.specs.History.{History, Entry, Placed, placed}
-use Rattle.stream_spec.specs.Own.{Sent, Stream, sent_of, nth, repeat_of, MaySend, Sendable, own_packet, packet_after, entry_after, sent_history}
+use Rattle.stream_spec.specs.Own.{Sent, Sendable, own_packet, packet_after, entry_after, sent_history}
 use Rattle.stream_spec.specs.Typed.{Event, Turned, sents, IsScript}
 use Rattle.stream_spec.proofs.Grows.{grown, placed_grown, before_grown, window_grown}
 use Rattle.stream_spec.proofs.Sent.{the_last, last_packet, in_sent_of}
@@ -25,7 +21,7 @@ use Rattle.stream_spec.proofs.Typing.{paced}
 use Rattle.text_sender.specs.declared.senders.SendConf.{SendConf}
 use Rattle.text_sender.specs.Confs.{IsConf, stream_of}
 use Rattle.text_sender.specs.Standing.{sent_by, history_sent}
-use Rattle.wire_spec.specs.SentPackets.{csrc_of, packet_written}
+use Rattle.wire_spec.specs.SentPackets.{packet_written}
 use Rattle.red_window.proofs.Fitting.{packet_fits, few_octets}
 use Rattle.command_spec.specs.Scripts.{AreLines, events_through}
 use Rattle.rtt_send.specs.Scripts.{records_of, records_sent, recording_sent}
