@@ -1,1 +1,5 @@
 pub mod Stepping
+pub mod Later
+pub mod Settled
+pub mod Fronts
+pub mod FrontsExample

@@ -1,3 +1,4 @@
 pub mod Sound
 pub mod Items
+pub mod Fronts
 pub mod Gives

@@ -1,10 +1,12 @@
 //! A leg of a conference: what is heard of its source in its recording, step by step.
 #![tactic(auto)]
 
+mod laws;
 mod legs;
 mod records;
 mod steps;
 
+pub use laws::{given_is_front, settled_stays};
 pub use legs::{Leg, LegLost};
 pub use steps::LegStep;
 

@@ -1,0 +1,8 @@
+use Rattle.leg_core.proofs.Fronts.{packets_front, settled_front}
+use Rattle.leg_core.proofs.laws.settled_stays.Goals as goal
+
+pub returns-clause-packets : goal.returns-clause-packets
+returns-clause-packets c = packets_front
+
+pub returns-clause-chunks : goal.returns-clause-chunks
+returns-clause-chunks c = settled_front
