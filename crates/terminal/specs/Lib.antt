@@ -1,1 +1,2 @@
 pub mod Terminals
+pub mod Views

@@ -3,6 +3,7 @@
 
 mod confs;
 mod terminals;
+mod views;
 
 pub use confs::TermConf;
 pub use source_receiver::SourceText;

@@ -1,23 +1,19 @@
 //! Hearing one to 64 sources in the packets of one stream, and counting the packets.
-ghost use Rattle.std.specs.Prelude.{◌≡◌, ◌≢◌, ℕ, ◌+◌, ◌≤◌, ◌<◌, ◌^◌, List, [], ◌++◌, length, Bool, Some, Err, OnOk, IfOk, All, AllPairs, IsUtf8, slice_index_or, vec_len};
+ghost use Rattle.std.specs.Prelude.{◌≡◌, ◌≢◌, ℕ, ◌+◌, ◌≤◌, ◌<◌, ◌^◌, List, [], length, Bool, Some, Err, OnOk, IfOk, All, AllPairs, vec_len};
 ghost use Rattle.wire_spec.specs.Packets.{Arrival};
 ghost use Rattle.wire_spec.specs.Text.{text_of};
 ghost use Rattle.wire_spec.specs.Dump.{arrived};
 ghost use Rattle.gap_tracker.specs.Stories.{Story};
 ghost use Rattle.ear.specs.Hears.{all_given, arrivals_of, is_clear, is_quiet, is_finished};
-ghost use Rattle.source_receiver.specs.declared.source_texts.SourceText.{SourceText};
-ghost use Rattle.text_spec.specs.Shown.{shown};
-ghost use Rattle.text_spec.specs.Views.{text_view};
 ghost use Rattle.terminal.specs.declared.confs.TermConf.{TermConf};
 ghost use Rattle.terminal.specs.Terminals.{texts_of, counts_of, is_refused, is_foreign, one_if, IsEmpty, HearsTexts, IsHearingTexts, SameCounts, CountsAs, CountsRefused, Listens, IsListening, Heard};
 
 use crate::TermConf;
 use ear::{Ear, EarConf};
-use rtt_base::{Bytes, NoMemory};
+use rtt_base::NoMemory;
 use source_receiver::SourceText;
 use std::alloc::Global;
-use t140_text::views::append_text_view;
-use t140_text::{Counts, show};
+use t140_text::Counts;
 use wire_spec::TextFault;
 
 /// Hears the sources of one stream, and counts the packets that come.
@@ -150,15 +146,5 @@ impl Terminal {
         ensures { result ≡ counts_of self.now }
     {
         self.counts
-    }
-
-    /// Appends the view of a terminal of one source, as `read` prints it. Where memory runs out a part may be appended.
-    pub fn append_view(&self, alloc: Global, out: &mut Bytes) -> Result<(), NoMemory>
-        requires one { length (texts_of self.now) ≡ 1 }
-        requires utf8 { All (λ t. IsUtf8 t.text) (texts_of self.now) }
-        ensures { OnOk result ((d : SourceText) → out.new ≡ out.old ++ text_view (shown (slice_index_or (texts_of self.now) 0 d).text) (counts_of self.now)) }
-    {
-        let shown = show(alloc, self.heard[0].text.as_slice())?;
-        append_text_view(&shown, self.counts, out)
     }
 }
