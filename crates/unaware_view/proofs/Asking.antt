@@ -1,0 +1,106 @@
+-- The choice of a composer is the answer of the definition.
+use Rattle.std.proofs.Common.{◌≡◌, ℕ, suc, ◌<◌, ◌≤◌, Bool, true, false, cond, not, ◌&&◌, ◌||◌, inl, inr, Option, Some, None, List, ◌++◌, length, refl, sym, ap, ◌∙◌, arith}
+use Rattle.std.specs.Prelude.{◌==◌}
+use Rattle.std.proofs.lemmas.Bool.{cases_eq, eq-eqb, ne_eqb}
+use Rattle.std.specs.Char.{encode_utf8}
+use Rattle.text_spec.specs.Ends.{ends_line}
+use Rattle.text_spec.specs.Views.{label, label_after}
+use Rattle.stream_spec.specs.Ready.{Chunk}
+use Rattle.labels.specs.Labels.{label_on}
+use Rattle.mixer_spec.specs.Chunks.{joined, has_chunk}
+use Rattle.mixer_spec.specs.Rounds.{any_below, first_round}
+use Rattle.mixer_spec.specs.Setups.{Setup}
+use Rattle.mixer_spec.specs.Composed.{Given, Asked, answer, answer_after, begin_with, begun, gone_on, latest, text_given, run_of, since, is_ago, is_switch, ends_turn, waits_here}
+use Rattle.unaware_view.specs.declared.composers.Current.{Current}
+use Rattle.unaware_view.specs.declared.composers.Choice.{Choice}
+use Rattle.unaware_view.specs.declared.composers.Choice.TheVariants.{Nobody, Begins, GoesOn}
+use Rattle.unaware_view.specs.declared.runs.Run.{Run}
+use Rattle.unaware_view.specs.Runs.{IsRun, is_turn}
+use Rattle.unaware_view.specs.States.{State}
+use Rattle.unaware_view.specs.Choices.{is_set, since_at, is_left, begins, choice_after, choice}
+use Rattle.unaware_view.specs.Standing.{StandsFor, IsCurrent, IsSpeaker, begins_line}
+use Rattle.unaware_view.proofs.Firsts.{any_same, round_same}
+
+-- what is given of a choice
+abbrev pub given_of : (ℕ → List ℕ) → (ℕ → List Chunk) → List Asked → Choice → Option Given
+given_of name w asks Nobody = None
+given_of name w asks (Begins i) = Some (begun w (label_after (text_given (latest asks)) (name i)) i)
+given_of name w asks (GoesOn i) = Some (gone_on w (joined (run_of asks)) i)
+
+pub label_is : (before name : List ℕ) → label_on (begins_line before) name ≡ label_after before name
+unfolding label_after encode_utf8
+label_is before name = go ((length before == 0) || ends_line before)
+  where
+    go : (b : Bool) → label_on (not b) name ≡ cond b (label name) (encode_utf8 0x2028 ++ label name)
+    go true = refl
+    go false = refl
+
+begins_given : (name : ℕ → List ℕ) (w : ℕ → List Chunk) (asks : List Asked) (o : Option ℕ) → given_of name w asks (begins o) ≡ begin_with name w asks o
+begins_given name w asks None = refl
+begins_given name w asks (Some i) = refl
+
+turn_is : (r : Run) (text : List ℕ) → IsRun r text → is_turn r.tail ≡ ends_turn text
+turn_is r text h = (λ k. sym h.tail.line k || sym h.tail.sentence k) ∙ ap ends_turn h.is
+
+-- a composer that has looked, with what waits at its terminal
+pub record Looks (s : Setup) (c : State) (asks : List Asked) (w : ℕ → List Chunk) : Type 0 where
+  pub stands : StandsFor s c asks
+  pub legs : length c.waits ≡ s.legs
+  pub flags : (i : ℕ) → i < length c.waits → is_set c.waits i ≡ waits_here c.own w i
+
+others_same : (s : Setup) (c : State) (asks : List Asked) (w : ℕ → List Chunk) (x : ℕ) → Looks s c asks w
+    → any_below (λ i. not (i == x) && is_set c.waits i) (length c.waits) ≡ any_below (λ i. not (i == x) && waits_here c.own w i) s.legs
+others_same s c asks w x h =
+    any_same (λ i. not (i == x) && is_set c.waits i) (λ i. not (i == x) && waits_here c.own w i) (length c.waits) (λ i l. ap (λ (b : Bool). not (i == x) && b) (h.flags i l))
+    ∙ ap (any_below (λ i. not (i == x) && waits_here c.own w i)) h.legs
+
+-- the terminal's own leg never counts
+long_at : (own i x now : ℕ) (asks : List Asked) (w : ℕ → List Chunk) (o : Option ℕ) → ((i ≡ own → ⊥) → o ≡ since i asks)
+    → (not (i == x) && (waits_here own w i && is_ago 7000 now o)) ≡ (not (i == x) && (waits_here own w i && is_ago 7000 now (since i asks)))
+long_at own i x now asks w o f = elim (cases_eq i own) [
+  | inl e ↦ ap (λ (b : Bool). not (i == x) && ((not b && has_chunk (w i)) && is_ago 7000 now o)) (eq-eqb i own e) ∙ sym (ap (λ (b : Bool). not (i == x) && ((not b && has_chunk (w i)) && is_ago 7000 now (since i asks))) (eq-eqb i own e))
+  | inr n ↦ ap (λ (m : Option ℕ). not (i == x) && (waits_here own w i && is_ago 7000 now m)) (f n)
+]
+
+longs_same : (s : Setup) (c : State) (asks : List Asked) (w : ℕ → List Chunk) (x now : ℕ) → Looks s c asks w
+    → any_below (λ i. not (i == x) && (is_set c.waits i && is_ago 7000 now (since_at c.since i))) (length c.waits) ≡ any_below (λ i. not (i == x) && (waits_here c.own w i && is_ago 7000 now (since i asks))) s.legs
+longs_same s c asks w x now h =
+    any_same (λ i. not (i == x) && (is_set c.waits i && is_ago 7000 now (since_at c.since i))) (λ i. not (i == x) && (waits_here c.own w i && is_ago 7000 now (since i asks))) (length c.waits)
+    (λ i l. ap (λ (b : Bool). not (i == x) && (b && is_ago 7000 now (since_at c.since i))) (h.flags i l) ∙ long_at c.own i x now asks w (since_at c.since i) (λ n. h.stands.waits_since i (let k = h.legs in omega (arith, l, k)) n))
+    ∙ ap (any_below (λ i. not (i == x) && (waits_here c.own w i && is_ago 7000 now (since i asks)))) h.legs
+
+-- of the speaker itself
+pub speaker_flag : (s : Setup) (c : State) (asks : List Asked) (w : ℕ → List Chunk) (x : ℕ) → Looks s c asks w → x < s.legs → (x ≡ c.own → ⊥) → is_set c.waits x ≡ has_chunk (w x)
+speaker_flag s c asks w x h l n = h.flags x (let k = h.legs in omega (arith, l, k)) ∙ ap (λ (b : Bool). not b && has_chunk (w x)) (ne_eqb x c.own n)
+
+switch_same : (s : Setup) (c : State) (asks : List Asked) (w : ℕ → List Chunk) (g : Given) (x : Current) (now : ℕ) → Looks s c asks w → IsSpeaker s c.own asks g x → is_left c x now ≡ is_switch s.legs c.own now w asks x.speaker
+switch_same s c asks w g x now h k = λ r.
+    h.stands.chunk r
+    && (others_same s c asks w x.speaker h r
+    && (turn_is c.run (joined (run_of asks)) h.stands.run r
+    || ((not (speaker_flag s c asks w x.speaker h k.leg k.other r) && is_ago 2000 now (sym k.given r))
+    || longs_same s c asks w x.speaker now h r)))
+
+-- ---- the choice
+pub choice_is : (s : Setup) (c : State) (asks : List Asked) (w : ℕ → List Chunk) (due : Bool) (now : ℕ) → Looks s c asks w → given_of s.name w asks (choice c due now) ≡ answer s.legs s.name c.own now due w asks
+choice_is s c asks w false now h = refl
+choice_is s c asks w true now h = go (latest asks) c.current h.stands.current
+  where
+    rounds : (start : ℕ) → start ≤ s.legs → given_of s.name w asks (begins (first_round (is_set c.waits) start (length c.waits))) ≡ begin_with s.name w asks (first_round (waits_here c.own w) start s.legs)
+    rounds start l =
+        begins_given s.name w asks (first_round (is_set c.waits) start (length c.waits))
+        ∙ ap (begin_with s.name w asks) (round_same (is_set c.waits) (waits_here c.own w) start (length c.waits) (let k = h.legs in omega (arith, l, k)) h.flags ∙ ap (first_round (waits_here c.own w) start) h.legs)
+
+    by : (b d : Bool) (k k' : Choice) (i : ℕ) (o : Option Given) → given_of s.name w asks k ≡ o → given_of s.name w asks (cond b k (cond d (GoesOn i) Nobody)) ≡ cond b o (cond d (Some (gone_on w (joined (run_of asks)) i)) None)
+    by true d k k' i o e = e
+    by false true k k' i o e = refl
+    by false false k k' i o e = refl
+
+    go : (o : Option Given) (k : Option Current) → IsCurrent s c.own asks o k → given_of s.name w asks (choice_after c now k) ≡ answer_after s.legs s.name c.own now w asks o
+    go None None u = rounds 0 (omega arith)
+    go None (Some x) u = absurd u
+    go (Some g) None u = absurd u
+    go (Some g) (Some x) u =
+        by (is_left c x now) (is_set c.waits x.speaker) (begins (first_round (is_set c.waits) (suc x.speaker) (length c.waits))) Nobody x.speaker (begin_with s.name w asks (first_round (waits_here c.own w) (suc x.speaker) s.legs)) (rounds (suc x.speaker) (let l = u.leg in omega (arith, l)))
+        ∙ ((λ r. cond (switch_same s c asks w g x now h u r) (begin_with s.name w asks (first_round (waits_here c.own w) (suc x.speaker) s.legs)) (cond (speaker_flag s c asks w x.speaker h u.leg u.other r) (Some (gone_on w (joined (run_of asks)) x.speaker)) None))
+        ∙ ap (λ (i : ℕ). cond (is_switch s.legs c.own now w asks i) (begin_with s.name w asks (first_round (waits_here c.own w) (suc i) s.legs)) (cond (has_chunk (w i)) (Some (gone_on w (joined (run_of asks)) i)) None)) (sym u.source))

@@ -1,0 +1,7 @@
+pub mod Tails
+pub mod RunSteps
+pub mod Firsts
+pub mod Flags
+pub mod Written
+pub mod Asking
+pub mod Turning

@@ -1,0 +1,24 @@
+-- A composer's own fields.
+use Rattle.std.specs.Prelude.{◌≡◌, ◌*◌, ◌^◌, ◌<◌, ◌≤◌, length}
+use Rattle.std.specs.Option.{ForSome}
+use Rattle.unaware_view.specs.declared.composers.Composer.TheInside.{Inside}
+use Rattle.unaware_view.specs.States.{State}
+
+abbrev pub state_of : Inside → State
+state_of c = record {
+  own = c.own;
+  current = c.current;
+  run = c.run;
+  fresh_line = c.fresh_line;
+  waits = c.waits.items;
+  since = c.since.items;
+  asked = c.asked;
+}
+
+-- There is a flag and a moment for each leg, and the speaker is one of them. Each ask gives at most 1023 characters.
+pub record IsSound (c : Inside) : Type 0 where
+  pub legs : length c.waits.items ≡ length c.since.items
+  pub own : c.own < length c.since.items
+  pub speaker : ForSome c.current (λ x. x.speaker < length c.since.items)
+  pub few : c.run.erasable ≤ 1023 * c.asked
+  pub asked : c.asked ≤ 2 ^ 48

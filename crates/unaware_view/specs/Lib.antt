@@ -1,0 +1,6 @@
+pub mod Runs
+pub mod States
+pub mod Choices
+pub mod Insides
+pub mod Standing
+pub mod Giving

@@ -1,0 +1,89 @@
+-- What a composer stands for: the asks so far (profile).
+use Rattle.std.specs.Prelude.{◌≡◌, ℕ, ◌+◌, ◌<◌, ◌==◌, Bool, not, ◌||◌, Option, None, Some, List, [], ◌∷◌, length, slice_index_or}
+use Rattle.text_spec.specs.Ends.{ends_line}
+use Rattle.stream_spec.specs.Ready.{Chunk}
+use Rattle.mixer_spec.specs.Chunks.{joined, has_chunk}
+use Rattle.mixer_spec.specs.Rounds.{set_at}
+use Rattle.mixer_spec.specs.Setups.{Setup}
+use Rattle.mixer_spec.specs.Table.{Terminal, Table}
+use Rattle.mixer_spec.specs.Laws.{AreTexts}
+use Rattle.mixer_spec.specs.Composed.{Given, Asked, answer, latest, text_given, run_of, given_at, since}
+use Rattle.slot_table.specs.Lanes.{Waiting}
+use Rattle.slot_table.specs.Standing as slots
+use Rattle.unaware_view.specs.declared.composers.Current.{Current}
+use Rattle.unaware_view.specs.Runs.{IsRun}
+use Rattle.unaware_view.specs.States.{State}
+use Rattle.unaware_view.specs.Choices.{since_at}
+
+-- behind this text a label begins a new line: there is one, and it ends no line
+abbrev pub begins_line : List ℕ → Bool
+begins_line text = not ((length text == 0) || ends_line text)
+
+-- the least media time of the next ask
+abbrev pub least_ask : List Asked → ℕ
+least_ask [] = 0
+least_ask (a ∷ asks) = a.media + 1
+
+-- the speaker of the last answer, another leg than the terminal's own
+pub record IsSpeaker (s : Setup) (own : ℕ) (asks : List Asked) (g : Given) (x : Current) : Type 0 where
+  pub source : g.source ≡ x.speaker
+  pub given : given_at x.speaker asks ≡ Some x.given_at
+  pub leg : x.speaker < s.legs
+  pub other : x.speaker ≡ own → ⊥
+
+abbrev pub IsCurrent : Setup → ℕ → List Asked → Option Given → Option Current → Type 0
+IsCurrent s own asks None None = Unit {0}
+IsCurrent s own asks None (Some x) = ⊥
+IsCurrent s own asks (Some g) None = ⊥
+IsCurrent s own asks (Some g) (Some x) = IsSpeaker s own asks g x
+
+-- The composer of a terminal of this setup was asked so.
+pub record StandsFor (s : Setup) (c : State) (asks : List Asked) : Type 0 where
+  pub legs : length c.since ≡ s.legs
+  pub current : IsCurrent s c.own asks (latest asks) c.current
+  pub waits_since : (i : ℕ) → i < s.legs → (i ≡ c.own → ⊥) → since_at c.since i ≡ since i asks
+  pub run : IsRun c.run (joined (run_of asks))
+  pub chunk : c.run.has_chunk ≡ has_chunk (run_of asks)
+  pub line : c.fresh_line ≡ begins_line (text_given (latest asks))
+  pub asked : c.asked ≡ least_ask asks
+
+-- ---- one ask
+abbrev pub legs_of : State → ℕ
+legs_of c = length c.since
+
+abbrev pub next_ask : State → ℕ
+next_ask c = c.asked
+
+abbrev pub name_at : List (List ℕ) → ℕ → List ℕ
+name_at names i = slice_index_or names i []
+
+-- The composer of the terminal `own` was asked so, the slots have what waits there, which are texts, and these are the names.
+pub record IsAsked (s : Setup) (table : Table) (c : State) (now : List Waiting) (called : List (List ℕ)) (asks : List Asked) : Type 0 where
+  pub stands : StandsFor s c asks
+  pub slots_stand : slots.StandsFor s now table
+  pub texts : (i : ℕ) → AreTexts ((table.terminals c.own).waits i)
+  pub names : (i : ℕ) → i < s.legs → name_at called i ≡ s.name i
+
+-- of all that it may have been asked
+abbrev pub OfAsks : State → List Waiting → List (List ℕ) → (Setup → Table → List Asked → Type 0) → Type 0
+OfAsks c now called P = (s : Setup) (table : Table) (asks : List Asked) → IsAsked s table c now called asks → P s table asks
+
+-- what waits at the terminal
+abbrev pub waiting : Table → State → ℕ → List Chunk
+waiting table c = (table.terminals c.own).waits
+
+-- what is given at this media time, where text may be given or not
+abbrev pub given_now : Setup → Table → State → ℕ → Bool → List Asked → Option Given
+given_now s table c media due asks = answer s.legs s.name c.own media due (waiting table c) asks
+
+-- with this ask
+abbrev pub asked_now : Setup → Table → State → ℕ → Bool → List Asked → List Asked
+asked_now s table c media due asks = record { media = media; waiting = λ i. has_chunk (waiting table c i); given = given_now s table c media due asks } ∷ asks
+
+abbrev pub left_after : Given → Terminal → Terminal
+left_after g d = record { past = d.past; asks = d.asks; waits = set_at d.waits g.source g.rest }
+
+-- what the answer took waits at the terminal no more
+abbrev pub answered : ℕ → Option Given → Table → Table
+answered own None table = table
+answered own (Some g) table = record table { terminals = set_at table.terminals own (left_after g (table.terminals own)) }

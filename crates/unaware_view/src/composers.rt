@@ -1,0 +1,328 @@
+//! The composer of one terminal.
+ghost use Rattle.std.specs.Prelude.{◌≡◌, ℕ, ◌+◌, ◌-◌, ◌*◌, ◌<◌, ◌≤◌, ◌==◌, ◌&&◌, ◌||◌, ◌^◌, false, List, [], length, IfOk, IfSome, Some, None, is_some};
+ghost use Rattle.labels.specs.Labels.{label_on};
+ghost use Rattle.stream_spec.specs.Ready.{Chunk};
+ghost use Rattle.mixer_spec.specs.Chunks.{front, joined};
+ghost use Rattle.mixer_spec.specs.Laws.{AreTexts};
+ghost use Rattle.mixer_spec.specs.Setups.{Setup};
+ghost use Rattle.mixer_spec.specs.Table.{Table};
+ghost use Rattle.slot_table.specs.Standing.{StandsFor as SlotsStandFor, Leads, Tells};
+ghost use Rattle.slot_table.specs.Words.{fetched};
+ghost use Rattle.unaware_view.specs.Runs.{GoesOn, IsRun};
+ghost use Rattle.unaware_view.specs.declared.runs.Run.{Run};
+ghost use Rattle.unaware_view.specs.Choices.{IsBelow, begins, choice, is_left, speaker_of};
+ghost use Rattle.unaware_view.specs.Standing.{IsAsked, OfAsks, StandsFor, answered, asked_now, given_now, legs_of, next_ask};
+ghost use Rattle.mixer_spec.specs.Composed.{Asked, text_given};
+ghost use Rattle.unaware_view.specs.Giving.{Gives, GivesRun, remembered, waits_of};
+
+use crate::choices::{any_long, any_other, first_round, is_paused, look, note};
+use crate::runs::Run;
+use labels::label;
+use rtt_base::{Name, NoMemory, Text};
+use slot_table::Slots;
+use std::alloc::Global;
+use std::marker::Model;
+use t140_text::ends_line;
+
+/// How long, in milliseconds, a speaker of whom nothing waits is left in peace.
+const PAUSE: u64 = 2000;
+
+/// How long, in milliseconds, another one has to wait at most while a speaker goes on.
+const PATIENCE: u64 = 7000;
+
+/// The current speaker.
+#[derive(Clone, Copy, Debug)]
+struct Current {
+    /// The number of its leg.
+    speaker: usize,
+    /// When text of it was last given, in milliseconds of media time.
+    given_at: u64,
+}
+
+/// Who is given text.
+#[derive(Clone, Copy, Debug)]
+enum Choice {
+    Nobody,
+    /// A new run of this leg begins.
+    Begins(usize),
+    /// The run of this leg goes on.
+    GoesOn(usize),
+}
+
+/// Puts the text of all legs into one for a terminal that shows one text: in runs, each behind its speaker's label.
+///
+/// Of what was given it keeps who speaks, what an erasure can take back of the run, what the run ends with, and since
+/// when each other leg waits.
+#[derive(Debug, Drop)]
+pub struct Composer {
+    own: usize,
+    current: Option<Current>,
+    run: Run,
+    /// Whether the next label begins a new line.
+    fresh_line: bool,
+    /// Which legs waited at the last ask, but for the terminal's own.
+    waits: Vec<bool>,
+    /// For each leg the first ask at which it waited since it was last given.
+    since: Vec<Option<u64>>,
+    /// The least media time of the next ask.
+    asked: u64,
+    /// What was taken of a leg last, as it came.
+    taken: Text,
+}
+
+impl Model for Composer {
+    ghost use Rattle.unaware_view.specs.States.{State};
+
+    ghost Value = { State };
+
+    ghost use Rattle.unaware_view.specs.Insides.{state_of, IsSound};
+
+    ghost view = { state_of };
+
+    ghost invariant = { IsSound };
+}
+
+impl Composer {
+    /// Whether the speaker is left for another one.
+    fn is_left(&self, current: Current, media: u64) -> bool
+        requires { current.speaker < length self.now.waits }
+        ensures { result ≡ is_left self.now current media }
+    {
+        let speaker = current.speaker;
+        let other = any_other(&self.waits, speaker);
+        let ends = self.run.ends_turn();
+        let paused = is_paused(self.waits[speaker], PAUSE, media, current.given_at);
+        let long = any_long(&self.waits, &self.since, PATIENCE, media, speaker);
+        self.run.has_chunk && (other && (ends || (paused || long)))
+    }
+
+    /// Who is given text at this media time, in milliseconds, where text may be given.
+    fn choose(&self, due: bool, media: u64) -> Choice
+        ensures choice { result ≡ choice self.now due media }
+        ensures leg { IsBelow (length self.now.since) result }
+    {
+        if !due {
+            return Choice::Nobody;
+        }
+        let Some(current) = self.current else {
+            return begins(first_round(&self.waits, 0));
+        };
+        if self.is_left(current, media) {
+            return begins(first_round(&self.waits, current.speaker + 1));
+        }
+        if self.waits[current.speaker] {
+            return Choice::GoesOn(current.speaker);
+        }
+        Choice::Nobody
+    }
+
+    /// The composer of the terminal of this leg, where there are so many legs. It takes all memory that it ever needs.
+    pub fn new(alloc: Global, legs: usize, own: usize) -> Result<Composer, NoMemory>
+        requires { own < legs }
+        ensures stands { IfOk result (λ c. (s : Setup) → s.legs ≡ legs → StandsFor s c []) }
+        ensures own { IfOk result (λ c. c.own ≡ own) }
+        ensures legs { IfOk result (λ c. legs_of c ≡ legs) }
+        ensures next { IfOk result (λ c. next_ask c ≡ 0) }
+    {
+        Ok(Composer {
+            own,
+            current: None,
+            run: Run::new(),
+            fresh_line: false,
+            waits: vec![in alloc; false; legs]?,
+            since: vec![in alloc; None; legs]?,
+            asked: 0,
+            taken: Text::new(),
+        })
+    }
+
+    /// One ask, at a turn of this media time in milliseconds, where text may be given or not. Puts into `text` what is
+    /// given, takes its chunks from what waits at the terminal, and answers whether anything was given.
+    ///
+    /// Of the names each has its leg's number.
+    pub fn turn(
+        &mut self,
+        media: u64,
+        due: bool,
+        names: &[Name],
+        slots: &mut Slots,
+        text: &mut Text,
+    ) -> bool
+        requires slots { length slots.old ≡ legs_of self.old }
+        requires names { length names.now ≡ legs_of self.old }
+        requires rises { next_ask self.old ≤ media }
+        requires media { media < 2 ^ 48 }
+        ensures given { OfAsks self.old slots.old names.now (λ s table asks.
+            result ≡ is_some (given_now s table self.old media due asks)) }
+        ensures text { OfAsks self.old slots.old names.now (λ s table asks.
+            text.new ≡ text_given (given_now s table self.old media due asks)) }
+        ensures stands { OfAsks self.old slots.old names.now (λ s table asks.
+            StandsFor s self.new (asked_now s table self.old media due asks)) }
+        ensures waits { OfAsks self.old slots.old names.now (λ s table asks.
+            SlotsStandFor s slots.new (answered self.old.own (given_now s table self.old media due asks) table)) }
+        ensures legs { length slots.new ≡ length slots.old }
+        ensures same { (self.new.own ≡ self.old.own) × (legs_of self.new ≡ legs_of self.old) }
+        ensures next { next_ask self.new ≡ media + 1 }
+    {
+        text.clear();
+        look(&mut self.waits, self.own, slots);
+        let choice = self.choose(due, media);
+        self.asked = media + 1;
+        let given = give(
+            choice,
+            self.own,
+            self.fresh_line,
+            names,
+            &mut self.run,
+            &mut self.taken,
+            slots,
+            text,
+        );
+        note(&mut self.since, &self.waits, given, media);
+        self.remember(given, media, text);
+        given.is_some()
+    }
+
+    /// Remembers what was given at this media time, if anything was.
+    fn remember(&mut self, given: Option<usize>, media: u64, text: &Text)
+        requires { IfSome given (λ s. s < length self.old.since) }
+        ensures { self.new ≡ remembered self.old given media text.now }
+    {
+        if let Some(speaker) = given {
+            self.current = Some(Current {
+                speaker,
+                given_at: media,
+            });
+            self.fresh_line = !(text.is_empty() || ends_line(text.as_slice()));
+        }
+    }
+}
+
+/// Whether one of these holds.
+fn or(a: bool, b: bool) -> bool
+    ensures { result ≡ (a || b) }
+{
+    a || b
+}
+
+/// Appends to `text` what was taken for the run, as it is sent. What was taken is UTF-8, since each chunk is.
+fn write(octets: &[u8], run: &mut Run, text: &mut Text)
+    requires fits { length text.old + length octets.now ≤ 1023 }
+    requires few { run.old.erasable + 1023 < 2 ^ 64 }
+    ensures few { run.new.erasable ≤ run.old.erasable + 1023 }
+    ensures goes_on { (before : List ℕ) (chunks : List Chunk) → IsRun run.old before → AreTexts chunks → octets.now ≡ joined chunks
+        → GoesOn run.old run.new before chunks text.old text.new }
+{
+    let Ok(taken) = str::from_utf8(octets) else {
+        return;
+    };
+    let has_chunk = or(run.has_chunk, !taken.is_empty());
+    run.write(taken, text);
+    run.has_chunk = has_chunk;
+}
+
+/// Appends what fits of the chunks of the leg that wait.
+fn go_on(
+    own: usize,
+    speaker: usize,
+    run: &mut Run,
+    taken: &mut Text,
+    slots: &mut Slots,
+    text: &mut Text,
+)
+    requires within { (own < length slots.old) × (speaker < length slots.old) }
+    requires few { run.old.erasable + 1023 < 2 ^ 64 }
+    ensures few { run.new.erasable ≤ run.old.erasable + 1023 }
+    ensures legs { length slots.new ≡ length slots.old }
+    ensures slots { Leads slots.old slots.new (fetched own speaker (1023 - length text.old)) }
+    ensures goes_on { Tells slots.old (λ s table. (before : List ℕ)
+        → AreTexts (waits_of table own speaker) → IsRun run.old before
+        → GoesOn run.old run.new before (front (1023 - length text.old) (waits_of table own speaker)) text.old text.new) }
+{
+    let room = Text::CAPACITY - text.len();
+    taken.clear();
+    slots.take(own, speaker, room, taken);
+    write(taken.as_slice(), run, text);
+}
+
+/// Begins a run of the leg with its label.
+fn begin(
+    own: usize,
+    speaker: usize,
+    name: &Name,
+    fresh_line: bool,
+    run: &mut Run,
+    taken: &mut Text,
+    slots: &mut Slots,
+    text: &mut Text,
+)
+    requires within { (own < length slots.old) × (speaker < length slots.old) }
+    requires text { text.old ≡ [] }
+    ensures few { run.new.erasable ≤ 1023 }
+    ensures legs { length slots.new ≡ length slots.old }
+    ensures begins { Tells slots.old (λ s table. AreTexts (waits_of table own speaker)
+        → GivesRun s table own run.new speaker (label_on fresh_line name.now) text.new slots.new) }
+{
+    let short = name.len() <= Name::CAPACITY;
+    prove!(short);
+    let Ok(()) = label(name.as_str(), fresh_line, text) else {
+        unreachable!()
+    };
+    *run = Run::new();
+    go_on(own, speaker, run, taken, slots, text);
+}
+
+/// Gives the text of the choice, and answers whose it is.
+fn give(
+    choice: Choice,
+    own: usize,
+    fresh_line: bool,
+    names: &[Name],
+    run: &mut Run,
+    taken: &mut Text,
+    slots: &mut Slots,
+    text: &mut Text,
+) -> Option<usize>
+    requires own { own < length slots.old }
+    requires names { length names.now ≡ length slots.old }
+    requires leg { IsBelow (length slots.old) choice }
+    requires few { run.old.erasable + 1023 < 2 ^ 64 }
+    requires text { text.old ≡ [] }
+    ensures speaker { result ≡ speaker_of choice }
+    ensures few { run.new.erasable ≤ run.old.erasable + 1023 }
+    ensures legs { length slots.new ≡ length slots.old }
+    ensures gives { Tells slots.old (λ s table. (before : List ℕ)
+        → ((i : ℕ) → AreTexts (waits_of table own i)) → IsRun run.old before
+        → Gives s table own fresh_line run.old run.new choice names.now before text.new slots.new) }
+{
+    match choice {
+        Choice::Nobody => None,
+        Choice::Begins(speaker) => {
+            begin(
+                own,
+                speaker,
+                &names[speaker],
+                fresh_line,
+                run,
+                taken,
+                slots,
+                text,
+            );
+            Some(speaker)
+        }
+        Choice::GoesOn(speaker) => {
+            go_on(own, speaker, run, taken, slots, text);
+            Some(speaker)
+        }
+    }
+}
+
+/// A run of the leg begins, where there is one.
+fn begins(speaker: Option<usize>) -> Choice
+    ensures { result ≡ begins speaker }
+{
+    match speaker {
+        Some(speaker) => Choice::Begins(speaker),
+        None => Choice::Nobody,
+    }
+}
