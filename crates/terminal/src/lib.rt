@@ -3,6 +3,8 @@
 
 mod confs;
 mod terminals;
+#[cfg(test)]
+mod tests;
 mod views;
 
 pub use confs::TermConf;

@@ -1,0 +1,17 @@
+use Rattle.std.proofs.Common.{ℕ, ◌≤◌, List, [], ◌∷◌}
+use Rattle.wire_spec.specs.Packets.{Arrival}
+use Rattle.terminal.specs.declared.confs.TermConf.{TermConf}
+use Rattle.terminal.specs.Terminals.{counts_of, Listens}
+use Rattle.terminal.proofs.tests.shows.Given as goal
+
+abbrev pub asked : TermConf
+asked = record { ssrc = 9000; pts = record { t140 = 98; red = 100 }; wait = 1000 }
+
+abbrev pub writers : List ℕ
+writers = 1001 ∷ 1002 ∷ 1003 ∷ []
+
+abbrev pub invariant-loop-number : goal.invariant-loop-number
+invariant-loop-number l = record {
+  stands : (past : List Arrival) × Listens l.terminal asked writers past;
+  few : (counts_of l.terminal).packets ≤ l.number;
+}
