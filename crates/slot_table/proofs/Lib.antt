@@ -8,3 +8,5 @@ pub mod Rebasing
 pub mod Spanning
 pub mod Starting
 pub mod Sources
+pub mod Listing
+pub mod ListedSources

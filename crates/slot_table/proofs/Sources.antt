@@ -66,11 +66,11 @@ stands_set s slots old new i w h n a = record {
 }
 
 -- ---- a chunk
-given_waits : (b : Bool) (i : ℕ) (c : Chunk) (d : Terminal) → (if b then give i c d else d).waits i ≡ (if b then d.waits i ++ c ∷ [] else d.waits i)
+pub given_waits : (b : Bool) (i : ℕ) (c : Chunk) (d : Terminal) → (if b then give i c d else d).waits i ≡ (if b then d.waits i ++ c ∷ [] else d.waits i)
 given_waits true i c d = set_same d.waits i (d.waits i ++ c ∷ []) i refl
 given_waits false i c d = refl
 
-given_others : (b : Bool) (i k : ℕ) (c : Chunk) (d : Terminal) → (k ≡ i → ⊥) → (if b then give i c d else d).waits k ≡ d.waits k
+pub given_others : (b : Bool) (i k : ℕ) (c : Chunk) (d : Terminal) → (k ≡ i → ⊥) → (if b then give i c d else d).waits k ≡ d.waits k
 given_others true i k c d n = set_other d.waits i (d.waits i ++ c ∷ []) k n
 given_others false i k c d n = refl
 
@@ -148,20 +148,20 @@ told_more j on n old new h w v g d = record {
   left = λ k x l e. h.left k x (omega arith) (sym (get_set_other new n k v (λ q. omega (arith, q, l))) ∙ e);
 }
 
-hears_same : (j i x : ℕ) (on : Bool) (seats : Seats) → set_at (is_given seats i) j (not (j == i) && on) x ≡ (not (x == i) && set_at seats.listens j on x)
+pub hears_same : (j i x : ℕ) (on : Bool) (seats : Seats) → set_at (is_given seats i) j (not (j == i) && on) x ≡ (not (x == i) && set_at seats.listens j on x)
 hears_same j i x on seats = elim (cases_eq x j) [
   | inl e ↦ set_same (is_given seats i) j (not (j == i) && on) x e ∙ (ap (λ (y : ℕ). not (y == i) && on) (sym e) ∙ ap (λ (b : Bool). not (x == i) && b) (sym (set_same seats.listens j on x e)))
   | inr n ↦ set_other (is_given seats i) j (not (j == i) && on) x n ∙ ap (λ (b : Bool). not (x == i) && b) (sym (set_other seats.listens j on x n))
 ]
 
-waits_same : (j : ℕ) (on : Bool) (waits : ℕ → List Chunk) (x : ℕ) → (on ≡ true → waits j ≡ []) → waits x ≡ (if on then set_at waits j [] else waits) x
+pub waits_same : (j : ℕ) (on : Bool) (waits : ℕ → List Chunk) (x : ℕ) → (on ≡ true → waits j ≡ []) → waits x ≡ (if on then set_at waits j [] else waits) x
 waits_same j true waits x f = elim (cases_eq x j) [
   | inl e ↦ ap waits e ∙ (f refl ∙ sym (set_same waits j [] x e))
   | inr n ↦ sym (set_other waits j [] x n)
 ]
 waits_same j false waits x f = refl
 
-right_of : (a b : Bool) → (a && b) ≡ true → b ≡ true
+pub right_of : (a b : Bool) → (a && b) ≡ true → b ≡ true
 right_of true b e = e
 right_of false b e = cc e
 
@@ -194,7 +194,7 @@ stands_new s slots legs e l f = record {
   sources = λ k w g. record { terminals = (f k w g).parts ∙ sym e; holds = (f k w g).holds };
 }
 
-get_push : {X : Type 0} (xs : List X) (y : X) (k : ℕ) (x : X) → slice_get (xs ++ y ∷ []) k ≡ Some x → (slice_get xs k ≡ Some x) ⊎ ((k ≡ length xs) × (x ≡ y))
+pub get_push : {X : Type 0} (xs : List X) (y : X) (k : ℕ) (x : X) → slice_get (xs ++ y ∷ []) k ≡ Some x → (slice_get xs k ≡ Some x) ⊎ ((k ≡ length xs) × (x ≡ y))
 get_push [] y zero x e = inr (refl, cc e)
 get_push [] y (suc k) x e = absurd (cc e)
 get_push (z ∷ xs) y zero x e = inl e

@@ -5,3 +5,4 @@ pub mod LaneInsides
 pub mod Words
 pub mod Standing
 pub mod SlotInsides
+pub mod Listed

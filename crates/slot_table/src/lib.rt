@@ -11,4 +11,8 @@ pub use slots::Slots;
 #[cfg(test)]
 mod plain;
 #[cfg(test)]
+mod plain_lanes;
+#[cfg(test)]
+mod plain_queues;
+#[cfg(test)]
 mod tests;

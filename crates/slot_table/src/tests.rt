@@ -127,9 +127,12 @@ impl Chance {
 struct Both {
     slots: Slots,
     plain: Plain,
+    listens: [bool; 4],
     chunk: Chunk,
     text: Text,
+    plain_text: Text,
     ghost legs: { length slots ≡ 4 },
+    ghost plain_legs: { length plain ≡ 4 },
 }
 
 impl Both {
@@ -137,8 +140,10 @@ impl Both {
         Ok(Both {
             slots: Slots::new(alloc, 4)?,
             plain: Plain::new(alloc, 4)?,
+            listens: [true; 4],
             chunk: chunk_of_length(0, 0),
             text: Text::new(),
+            plain_text: Text::new(),
         })
     }
 
@@ -154,39 +159,31 @@ impl Both {
     {
         fill(&mut self.chunk.text, octets, source);
         self.chunk.source = source;
-        let taken = self
-            .plain
-            .offer(alloc, source as usize, self.chunk.text.as_slice())?;
-        assert_eq!(rt; self.slots.offer(&self.chunk).is_ok(), taken);
-        Ok(taken)
+        let is_taken = self.plain.offer(alloc, &self.chunk)?;
+        assert_eq!(rt; self.slots.offer(&self.chunk).is_ok(), is_taken);
+        Ok(is_taken)
     }
 
-    fn take(
-        &mut self,
-        rt: &impl Abort,
-        alloc: Global,
-        terminal: usize,
-        source: usize,
-        room: usize,
-    ) -> Result<(), Fail>
+    fn take(&mut self, rt: &impl Abort, terminal: usize, source: usize, room: usize)
         requires { (terminal < 4) × (source < 4) × (room ≤ 1023) }
     {
         self.text.clear();
+        self.plain_text.clear();
         self.slots.take(terminal, source, room, &mut self.text);
-        let taken = self.plain.take(alloc, terminal, source, room)?;
-        assert!(rt; self.text.as_slice() == taken.as_slice());
+        self.plain
+            .take(terminal, source, room, &mut self.plain_text);
+        assert!(rt; self.text.as_slice() == self.plain_text.as_slice());
         assert_eq!(rt;
             self.slots.waiting(terminal, source),
             self.plain.waiting(terminal, source)
         );
-        Ok(())
     }
 
     /// The terminal listens no more, or again where nothing waits for it.
     fn turn(&mut self, terminal: usize)
         requires { terminal < 4 }
     {
-        let on = !self.plain.listens(terminal);
+        let on = !self.listens[terminal];
         let mut is_free = true;
         for source in 0..4usize {
             is_free = is_free && !self.plain.has_waiting(terminal, source);
@@ -194,6 +191,7 @@ impl Both {
         if !on || is_free {
             self.slots.listen(terminal, on);
             self.plain.listen(terminal, on);
+            self.listens[terminal] = on;
         }
     }
 
@@ -209,7 +207,7 @@ impl Both {
         } else if kind < 40 {
             is_full = !self.offer(rt, alloc, source, octets)?;
         } else {
-            self.take(rt, alloc, terminal, source as usize, octets)?;
+            self.take(rt, terminal, source as usize, octets);
         }
         let waits = self.plain.has_waiting(terminal, source as usize);
         assert_eq!(rt; self.slots.has_waiting(terminal, source as usize), waits);
