@@ -30,8 +30,8 @@ pub record AreLines (lines : List ScriptLine) : Type 0 where
   pub texts : All (λ l. IsUtf8 l.text) lines
 
 -- the texts of the lines, one behind the other
-abbrev pub texts : List ScriptLine → List ℕ
-texts lines = flat_map (λ l. l.text) lines
+abbrev pub text_of_lines : List ScriptLine → List ℕ
+text_of_lines lines = flat_map (λ l. l.text) lines
 
 -- the texts of the lines of millisecond t, typed after these events
 abbrev pub typed_at : ℕ → List ScriptLine → List Event → List Event

@@ -7,7 +7,7 @@ use Rattle.file_spec.specs.Words.{SendWords}
 use Rattle.stream_spec.specs.History.{Lawful, placed}
 use Rattle.stream_spec.specs.Own.{Own, Closed, own_packet}
 use Rattle.stream_spec.specs.Typed.{primaries}
-use Rattle.command_spec.specs.Scripts.{history, recording, records_sent, first_end, texts}
+use Rattle.command_spec.specs.Scripts.{history, recording, records_sent, first_end, text_of_lines}
 use Rattle.command_spec.specs.Commands.{sending_of}
 
 -- A recording of a script: its records are the own packets of a lawful history, in which each text is repeated twice, and
@@ -19,6 +19,6 @@ pub record IsSent (s : SendWords) (octets file : List ℕ) : Type 0 where
   pub lawful : Lawful (history (sending_of s) lines)
   pub own : Own 2 (history (sending_of s) lines)
   pub closed : Closed 2 (history (sending_of s) lines)
-  pub whole : primaries (history (sending_of s) lines) ≡ texts lines
+  pub whole : primaries (history (sending_of s) lines) ≡ text_of_lines lines
   pub packets : s.ssrc < 2 ^ 32 → map (λ r. text_of r.1 (Some s.ssrc) (sending_of s).pts) (records_sent (sending_of s) lines (first_end (sending_of s) lines))
       ≡ map (λ x. Ok (own_packet (history (sending_of s) lines) x)) (placed (history (sending_of s) lines))

@@ -1,7 +1,7 @@
 //! The lines of legs.
 ghost use Rattle.std.specs.Prelude.{◌≡◌, ◌==◌, ◌<◌, bytes_eq, map, length, OnOk};
 ghost use Rattle.std.specs.List.{list_any};
-ghost use Rattle.file_spec.specs.Conf.{clashes, has_names, has_port, is_mixers, leg, leg_of, most_legs, new_leg, port, same_port, shares_own, shares_path};
+ghost use Rattle.file_spec.specs.Conf.{clashes, has_names, has_port, is_mixers, leg, leg_of, most_legs, new_leg, port, is_same_port, shares_own, shares_path};
 ghost use Rattle.conf_text.specs.Lines.{above_of, leg_line, seen};
 
 use crate::ConfKind;
@@ -49,7 +49,7 @@ fn is_heard(form: Form, input: &str) -> bool
 }
 
 fn share_port(above: Option<u32>, port: Option<u32>) -> bool
-    ensures { result ≡ same_port above port }
+    ensures { result ≡ is_same_port above port }
 {
     match (above, port) {
         (Some(above), Some(port)) => above == port,

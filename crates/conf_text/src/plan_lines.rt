@@ -1,7 +1,7 @@
 //! The lines of a plan.
 ghost use Rattle.std.specs.Prelude.{◌≡◌, map};
 ghost use Rattle.std.specs.List.{list_any};
-ghost use Rattle.file_spec.specs.Conf.{delay, delay_of, plan, plan_of, plan_word, same_packet, same_word};
+ghost use Rattle.file_spec.specs.Conf.{delay, delay_of, plan, plan_of, plan_word, is_same_packet, is_same_word};
 ghost use Rattle.conf_text.specs.Lines.{above_of};
 
 use crate::ConfKind;
@@ -12,7 +12,7 @@ use file_spec::{PlanLine, What};
 use numerals::number_of;
 
 fn is_same_event(one: What, other: What) -> bool
-    ensures { result ≡ same_word one other }
+    ensures { result ≡ is_same_word one other }
 {
     match (one, other) {
         (What::Lose, What::Lose) => true,
@@ -23,7 +23,7 @@ fn is_same_event(one: What, other: What) -> bool
 }
 
 fn is_same(one: &PlanLine, other: &PlanLine) -> bool
-    ensures { result ≡ same_packet one.now other.now }
+    ensures { result ≡ is_same_packet one.now other.now }
 {
     one.packet == other.packet
         && one.terminal == other.terminal
@@ -31,7 +31,7 @@ fn is_same(one: &PlanLine, other: &PlanLine) -> bool
 }
 
 fn is_planned(plan: &[PlanLine], line: &PlanLine) -> bool
-    ensures { result ≡ list_any (λ p. same_packet p line.now) plan.now }
+    ensures { result ≡ list_any (λ p. is_same_packet p line.now) plan.now }
 {
     plan.iter().any(|above| is_same(above, line))
 }

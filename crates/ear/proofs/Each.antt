@@ -15,7 +15,7 @@ use Rattle.source_receiver.specs.Stands.{Stands, latest_number, used_packet}
 use Rattle.source_receiver.specs.Each.{AreHeard, marks_by, marks_from, one_if, sources_count}
 use Rattle.ear.specs.declared.confs.EarConf.{EarConf}
 use Rattle.ear.specs.declared.ears.Ear.{Ear}
-use Rattle.ear.specs.Hears.{Hears, arrivals_of, is_finished, ready_packet, ready_packets}
+use Rattle.ear.specs.Hears.{Hears, arrival_count, is_finished, ready_packet, ready_packets}
 use Rattle.ear.specs.Each.{GatheredEach, HearsEach}
 use Rattle.ear.proofs.Given.{given_fits}
 use Rattle.ear.proofs.Giving.{heard_one}
@@ -33,7 +33,7 @@ pub texts_there : (e : Ear) (conf : EarConf) (sources : List ℕ) (story : Story
 texts_there e conf sources story texts h = h.each ∙ (sym (ap (λ (l : List ℕ). length l) h.hears.stands.listed) ∙ length-map e.receiver.listed.items (λ (l : Listed). l.source))
 
 -- there are fewer markers than packets
-pub marks_small : (e : Ear) (conf : EarConf) (sources : List ℕ) (story : Story) (texts : List SourceText) → HearsEach e conf sources story texts → arrivals_of e ≤ 2 ^ 40 → All (λ (t : SourceText). t.marks + 1 < 2 ^ 64) texts
+pub marks_small : (e : Ear) (conf : EarConf) (sources : List ℕ) (story : Story) (texts : List SourceText) → HearsEach e conf sources story texts → arrival_count e ≤ 2 ^ 40 → All (λ (t : SourceText). t.marks + 1 < 2 ^ 64) texts
 marks_small e conf sources story texts h few k d below =
     let source = slice_index sources k in
     let is = (h.heard k d (omega (arith, below, h.each))).marks in
@@ -47,7 +47,7 @@ pub record GatheringEach (old e : Ear) (n : ℕ) (texts more : List SourceText) 
   pub hears : (conf : EarConf) (sources : List ℕ) (story : Story) → HearsEach old conf sources story texts → (given : List Given) × HearsEach e conf sources (record story { given = given }) more × (length given ≡ length story.given + n)
   pub conf : e.conf ≡ old.conf
   pub piece : e.piece ≡ old.piece
-  pub arrivals : arrivals_of e ≡ arrivals_of old
+  pub arrivals : arrival_count e ≡ arrival_count old
   pub finished : is_finished e ≡ is_finished old
 
 pub gathers_each_none : (e : Ear) (texts : List SourceText) → GatheringEach e e 0 texts texts

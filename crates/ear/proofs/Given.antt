@@ -11,7 +11,7 @@ use Rattle.stream_spec.proofs.Lists.{in_right, in_left}
 use Rattle.stream_spec.proofs.Matched.{used_in}
 use Rattle.gap_tracker.specs.Stories.{Story, Given, gave, dues, due_at}
 use Rattle.gap_tracker.specs.Tracks.{Tracks}
-use Rattle.gap_tracker.specs.States.{State, arrivals_of}
+use Rattle.gap_tracker.specs.States.{State, arrival_count}
 use Rattle.gap_tracker.proofs.Giving.{order_is}
 use Rattle.ear.specs.Texts.{IsTextPacket, AreTextArrivals}
 use Rattle.ear.specs.Hears.{ready_packet, ready_packets, last_after}
@@ -64,7 +64,7 @@ fronts s story k =
     let held : List Given = map (due_at story.wait (numbered story.past)) s.held in
     record { rest = s.settled ++ held; is = o.dues_are ∙ (ap (λ gs. gs ++ held) o.ready_is ∙ append_assoc story.given s.settled held) }
 
-pub given_fits : (s : State) (story : Story) → Tracks s story → length story.given ≤ arrivals_of s
+pub given_fits : (s : State) (story : Story) → Tracks s story → length story.given ≤ arrival_count s
 given_fits s story t =
     let f = fronts s story t in
     let all : length (dues story) ≡ length (used story.wait (numbered story.past)) = length-map (used story.wait (numbered story.past)) (due_at story.wait (numbered story.past)) in

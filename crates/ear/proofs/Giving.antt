@@ -31,7 +31,7 @@ use Rattle.source_receiver.proofs.Blockwise.{heard_left}
 use Rattle.ear.specs.declared.confs.EarConf.{EarConf}
 use Rattle.ear.specs.declared.ears.Ear.{Ear}
 use Rattle.ear.specs.Texts.{AreHeardTexts}
-use Rattle.ear.specs.Hears.{told, arrivals_of, is_finished, is_quiet, texts_left, ready_packet, ready_packets, last_after, Hears, Gave, IsGiving, GaveSome, Becomes, Gathered, ready_chunks, story_chunks}
+use Rattle.ear.specs.Hears.{told, arrival_count, is_finished, is_quiet, texts_left, ready_packet, ready_packets, last_after, Hears, Gave, IsGiving, GaveSome, Becomes, Gathered, ready_chunks, story_chunks}
 use Rattle.ear.proofs.Utf8.{added_utf8}
 use Rattle.ear.proofs.Accepted.{accepted_text}
 use Rattle.ear.proofs.Given.{fronts, above_given, given_fits, given_text, last_snoc, next_rises}
@@ -124,7 +124,7 @@ heard_one e m conf sources story due p c h t s n =
 pub record Going (old e : Ear) : Type 0 where
   pub gave : (conf : EarConf) (source : ℕ) (story : Story) (given : List Chunk) → Gave old conf source story given → GaveSome e conf source story given
   pub conf : e.conf ≡ old.conf
-  pub arrivals : arrivals_of e ≡ arrivals_of old
+  pub arrivals : arrival_count e ≡ arrival_count old
   pub finished : is_finished e ≡ is_finished old
 
 pub starts : (e : Ear) → Going e e
@@ -252,7 +252,7 @@ pub record Gathering (old e : Ear) (before used : ℕ) (out more : List ℕ) : T
       → (given : List Given) × Hears e conf (source ∷ []) (record story { given = given }) × (used + length story.given ≡ before + length given) × AppendsHeard out more (heard_by (ready_packets story.given) source) (heard_by (ready_packets given) source)
   pub conf : e.conf ≡ old.conf
   pub piece : e.piece ≡ old.piece
-  pub arrivals : arrivals_of e ≡ arrivals_of old
+  pub arrivals : arrival_count e ≡ arrival_count old
   pub finished : is_finished e ≡ is_finished old
 
 pub gathers_none : (e : Ear) (used : ℕ) (out : List ℕ) → Gathering e e used used out out

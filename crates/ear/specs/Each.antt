@@ -5,7 +5,7 @@ use Rattle.source_receiver.specs.declared.source_texts.SourceText.{SourceText}
 use Rattle.source_receiver.specs.Each.{AreHeard}
 use Rattle.ear.specs.declared.confs.EarConf.{EarConf}
 use Rattle.ear.specs.declared.ears.Ear.{Ear}
-use Rattle.ear.specs.Hears.{Hears, all_given, arrivals_of, ready_packets}
+use Rattle.ear.specs.Hears.{Hears, all_given, arrival_count, ready_packets}
 
 -- the ear was told and gave what the story says, and the texts are what is heard of each source by what it gave
 pub record HearsEach (e : Ear) (conf : EarConf) (sources : List ℕ) (story : Story) (texts : List SourceText) : Type 0 where
@@ -20,7 +20,7 @@ IsHearingEach e texts = (conf : EarConf) × (sources : List ℕ) × (story : Sto
 pub record GatheredEach (e : Ear) (conf : EarConf) (sources : List ℕ) (story : Story) (n : ℕ) (texts : List SourceText) : Type 0 where
   pub hears : HearsEach e conf sources (all_given story) texts
   pub used : length (ready_dues story) ≡ length story.given + n
-  pub few : length (ready_dues story) ≤ arrivals_of e
+  pub few : length (ready_dues story) ≤ arrival_count e
 
 abbrev pub GathersEach : Ear → Ear → ℕ → List SourceText → List SourceText → Type 0
 GathersEach old new n texts more = (conf : EarConf) (sources : List ℕ) (story : Story) → HearsEach old conf sources story texts → GatheredEach new conf sources story n more

@@ -24,8 +24,8 @@ abbrev pub conf_of : Ear → EarConf
 conf_of e = e.conf
 
 -- how many packets came
-abbrev pub arrivals_of : Ear → ℕ
-arrivals_of e = tracker.arrivals_of e.tracker
+abbrev pub arrival_count : Ear → ℕ
+arrival_count e = tracker.arrival_count e.tracker
 
 abbrev pub is_finished : Ear → Bool
 is_finished e = tracker.is_finished e.tracker
@@ -151,7 +151,7 @@ AllReady e = (conf : EarConf) (sources : List ℕ) (story : Story) → Hears e c
 pub record Gathered (e : Ear) (conf : EarConf) (source : ℕ) (story : Story) (old new : List ℕ) : Type 0 where
   pub hears : Hears e conf (source ∷ []) (all_given story)
   pub appends : AppendsHeard old new (heard_by (ready_packets story.given) source) (heard_by (ready_packets (ready_dues story)) source)
-  pub few : length (ready_dues story) ≤ arrivals_of e
+  pub few : length (ready_dues story) ≤ arrival_count e
 
 abbrev pub Gathers : Ear → Ear → List ℕ → List ℕ → Type 0
 Gathers old new out more = (conf : EarConf) (source : ℕ) (story : Story) → Hears old conf (source ∷ []) story → Gathered new conf source story out more

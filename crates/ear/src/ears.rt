@@ -4,7 +4,7 @@ ghost use Rattle.wire_spec.specs.Packets.{Packet, has_text};
 ghost use Rattle.stream_spec.specs.Ready.{chunk_of};
 ghost use Rattle.gap_tracker.specs.Stories.{Story, begun, went, ended};
 ghost use Rattle.ear.specs.declared.confs.EarConf.{EarConf};
-ghost use Rattle.ear.specs.Hears.{conf_of, arrivals_of, is_finished, is_clear, is_quiet, text_for, told, Hears, IsHearing, Gave, IsGiving, Becomes, GivesChunk, GivesNone, GaveReady, GaveFront, AllReady, Gathers, CountsUsed};
+ghost use Rattle.ear.specs.Hears.{conf_of, arrival_count, is_finished, is_clear, is_quiet, text_for, told, Hears, IsHearing, Gave, IsGiving, Becomes, GivesChunk, GivesNone, GaveReady, GaveFront, AllReady, Gathers, CountsUsed};
 ghost use Rattle.ear.specs.Each.{GathersEach, IsHearingEach};
 
 use crate::EarConf;
@@ -43,7 +43,7 @@ impl Ear {
         ensures hears { IfOk result (λ ear. Hears ear conf sources.now (begun conf.wait)) }
         ensures gave { IfOk result (λ ear. (source : ℕ) → sources.now ≡ source ∷ [] → Gave ear conf source (begun conf.wait) []) }
         ensures quiet { IfOk result (λ ear. is_quiet ear ≡ Bool.true) }
-        ensures arrivals { IfOk result (λ ear. arrivals_of ear ≡ 0) }
+        ensures arrivals { IfOk result (λ ear. arrival_count ear ≡ 0) }
         ensures open { IfOk result (λ ear. is_finished ear ≡ Bool.false) }
     {
         Ok(Ear {
@@ -60,13 +60,13 @@ impl Ear {
     pub fn hear(&mut self, now: u64, octets: &[u8]) -> Result<(), TextFault>
         requires now { now < 2 ^ 48 }
         requires quiet { is_quiet self.old ≡ Bool.true }
-        requires few { arrivals_of self.old < 2 ^ 40 }
+        requires few { arrival_count self.old < 2 ^ 40 }
         ensures ok { OnOk result ((p : Packet) × (text_for (conf_of self.old) octets.now ≡ Ok p)) }
         ensures err { IfErr result (λ fault. text_for (conf_of self.old) octets.now ≡ Err fault) }
         ensures becomes { Becomes self.old self.new (λ conf story. told story now (text_for conf octets.now)) }
         ensures quiet { OnErr result (is_quiet self.new ≡ Bool.true) }
         ensures conf { conf_of self.new ≡ conf_of self.old }
-        ensures arrivals { arrivals_of self.new ≤ arrivals_of self.old + 1 }
+        ensures arrivals { arrival_count self.new ≤ arrival_count self.old + 1 }
         ensures finished { is_finished self.new ≡ is_finished self.old }
     {
         match read_text(
@@ -89,7 +89,7 @@ impl Ear {
         requires quiet { is_quiet self.old ≡ Bool.true }
         ensures becomes { Becomes self.old self.new (λ conf story. went story now) }
         ensures conf { conf_of self.new ≡ conf_of self.old }
-        ensures arrivals { arrivals_of self.new ≡ arrivals_of self.old }
+        ensures arrivals { arrival_count self.new ≡ arrival_count self.old }
         ensures finished { is_finished self.new ≡ is_finished self.old }
     {
         self.tracker.expire(now);
@@ -103,7 +103,7 @@ impl Ear {
         // Each chunk is ready by then.
         ensures all { AllReady self.old }
         ensures conf { conf_of self.new ≡ conf_of self.old }
-        ensures arrivals { arrivals_of self.new ≡ arrivals_of self.old }
+        ensures arrivals { arrival_count self.new ≡ arrival_count self.old }
         ensures finished { is_finished self.new ≡ Bool.true }
     {
         self.tracker.finish();
@@ -122,7 +122,7 @@ impl Ear {
         ensures place { result ≡ Bool.true → chunk.new.source ≡ (conf_of self.new).place }
         ensures quiet { result ≡ Bool.false → is_quiet self.new ≡ Bool.true }
         ensures conf { conf_of self.new ≡ conf_of self.old }
-        ensures arrivals { arrivals_of self.new ≡ arrivals_of self.old }
+        ensures arrivals { arrival_count self.new ≡ arrival_count self.old }
         ensures finished { is_finished self.new ≡ is_finished self.old }
     {
         loop {
@@ -144,13 +144,13 @@ impl Ear {
     pub fn gather(&mut self, out: &mut Bytes, used: &mut u64) -> Result<(), NoMemory>
         requires hears { IsHearing self.old }
         requires clear { is_clear self.old ≡ Bool.true }
-        requires few { arrivals_of self.old ≤ 2 ^ 40 }
+        requires few { arrival_count self.old ≤ 2 ^ 40 }
         requires fits { used.old ≤ 2 ^ 40 }
         ensures gathers { OnOk result (Gathers self.old self.new out.old out.new) }
         ensures used { OnOk result (CountsUsed self.old used.old used.new) }
         ensures quiet { OnOk result (is_quiet self.new ≡ Bool.true) }
         ensures conf { OnOk result (conf_of self.new ≡ conf_of self.old) }
-        ensures arrivals { OnOk result (arrivals_of self.new ≡ arrivals_of self.old) }
+        ensures arrivals { OnOk result (arrival_count self.new ≡ arrival_count self.old) }
         ensures finished { OnOk result (is_finished self.new ≡ is_finished self.old) }
     {
         while let Some(due) = self.tracker.next(&mut self.packet) {
@@ -165,11 +165,11 @@ impl Ear {
     pub fn gather_each(&mut self, heard: &mut [SourceText]) -> Result<u64, NoMemory>
         requires hears { IsHearingEach self.old heard.old }
         requires clear { is_clear self.old ≡ Bool.true }
-        requires few { arrivals_of self.old ≤ 2 ^ 40 }
+        requires few { arrival_count self.old ≤ 2 ^ 40 }
         ensures gathers { IfOk result (λ used. GathersEach self.old self.new used heard.old heard.new) }
         ensures quiet { OnOk result (is_quiet self.new ≡ Bool.true) }
         ensures conf { OnOk result (conf_of self.new ≡ conf_of self.old) }
-        ensures arrivals { OnOk result (arrivals_of self.new ≡ arrivals_of self.old) }
+        ensures arrivals { OnOk result (arrival_count self.new ≡ arrival_count self.old) }
         ensures finished { OnOk result (is_finished self.new ≡ is_finished self.old) }
     {
         let mut used = 0;
@@ -182,7 +182,7 @@ impl Ear {
 
     /// How many packets came.
     pub fn arrivals(&self) -> u64
-        ensures { result ≡ arrivals_of self.now }
+        ensures { result ≡ arrival_count self.now }
     {
         self.tracker.arrivals()
     }

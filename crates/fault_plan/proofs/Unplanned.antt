@@ -8,7 +8,7 @@ use Rattle.std.proofs.lemmas.Bool.Decides.{nat_tests}
 use Rattle.file_spec.specs.declared.conf_lines.PlanLine.{PlanLine}
 use Rattle.file_spec.specs.declared.conf_lines.What.{What}
 use Rattle.wire_spec.specs.Packets.{Arrival}
-use Rattle.mixer_spec.specs.Arrives.{Copy, all_copies, arrival, arrivals, arrivals_of, arrives, copies, lines_of, one_at, times_in}
+use Rattle.mixer_spec.specs.Arrives.{Copy, all_copies, arrival, arrivals, arrivals_of_copies, arrives, copies, lines_of, one_at, times_in}
 use Rattle.mixer_spec.proofs.OneOrder.{only_law}
 use Rattle.fault_plan.specs.Unplanned.{IsUnplanned}
 use Rattle.fault_plan.proofs.Order.{NotAfter, Rises, in_order_of, told}
@@ -51,14 +51,14 @@ there : (front : List Arrival) (a : Arrival) (rest : List Arrival) → one_at (l
 there [] a rest = refl
 there (x ∷ front) a rest = there front a rest
 
-given : (whole front rest : List Arrival) (k : ℕ) → whole ≡ front ++ rest → k ≡ length front → arrivals_of whole (each_once k (map (λ (a : Arrival). a.time) rest)) ≡ reverse rest
+given : (whole front rest : List Arrival) (k : ℕ) → whole ≡ front ++ rest → k ≡ length front → arrivals_of_copies whole (each_once k (map (λ (a : Arrival). a.time) rest)) ≡ reverse rest
 given whole front [] k e n = refl
 given whole front (a ∷ rest) k e n =
-    let later : arrivals_of whole (each_once (suc k) (map (λ (b : Arrival). b.time) rest)) ≡ reverse rest =
+    let later : arrivals_of_copies whole (each_once (suc k) (map (λ (b : Arrival). b.time) rest)) ≡ reverse rest =
     given whole (front ++ a ∷ []) rest (suc k) (e ∙ sym (append_assoc front (a ∷ []) rest)) (omega (arith, n, length-append front (a ∷ []))) in
     let own : one_at k whole ≡ a ∷ [] = ap (λ (m : ℕ). one_at m whole) n ∙ (ap (one_at (length front)) e ∙ there front a rest) in
     ap (λ (l : List Arrival). l ++ arrival whole (record { at = a.time; index = k })) later
     ∙ (ap (λ (l : List Arrival). reverse rest ++ map (λ (b : Arrival). record { time = a.time; packet = b.packet }) l) own ∙ sym (reverse-append (a ∷ []) rest))
 
 pub as_sent : (plan : List PlanLine) (t : ℕ) (sent : List Arrival) → IsUnplanned plan t → IsNonDecreasing (map (λ (a : Arrival). a.time) sent) → arrivals plan t sent ≡ reverse sent
-as_sent plan t sent u h = ap (arrivals_of sent) (arrives_once plan t (map (λ (a : Arrival). a.time) sent) u h) ∙ given sent [] sent 0 refl refl
+as_sent plan t sent u h = ap (arrivals_of_copies sent) (arrives_once plan t (map (λ (a : Arrival). a.time) sent) u h) ∙ given sent [] sent 0 refl refl

@@ -29,7 +29,7 @@ use Rattle.file_spec.specs.Steps.{◌>>=◌, unless}
 use Rattle.file_spec.specs.Lines.{Line, words, told, at_line, read_lines}
 use Rattle.file_spec.specs.Numbers.{number, most_ssrc, number_between, payload_type, pts}
 use Rattle.file_spec.specs.Stays.{IsStay, is_crowd}
-use Rattle.file_spec.specs.Conf.{Above, Conf, Entry, Leg, Gens, Stays, Tick, Spacing, Wait, Turns, Mixer, Plan, says, time_or_other, stay_or_plan, nothing, with_entry, change_leg, with_gens, with_stay, setting, mixer, mixer_of, is_mixers, is_name, has_names, has_port, shares_own, shares_path, clashes, most_legs, new_leg, aware_of, whole_stay, usual_types, leg_of, leg, place_of, gens_of, gens, stay_of, stay, same_packet, plan_of, plan, delay_of, delay, plan_word, entry, is_blank, and_line, whole, complete, conf}
+use Rattle.file_spec.specs.Conf.{Above, Conf, Entry, Leg, Gens, Stays, Tick, Spacing, Wait, Turns, Mixer, Plan, says, time_or_other, stay_or_plan, nothing, with_entry, change_leg, with_gens, with_stay, setting, mixer, mixer_of, is_mixers, is_name, has_names, has_port, shares_own, shares_path, clashes, most_legs, new_leg, aware_of, whole_stay, usual_types, leg_of, leg, place_of, gens_of, gens, stay_of, stay, is_same_packet, plan_of, plan, delay_of, delay, plan_word, entry, is_blank, and_line, whole, complete, conf}
 use Rattle.file_spec.specs.Sound.{IsBetween}
 use Rattle.file_spec.specs.Kept.{IsLeg, Differ, AreLegs, IsMixerFor, IsShort, IsTick, IsSpacing, IsWait, AreTurns, Keeps, IsConference}
 use Rattle.file_spec.proofs.Crowds.{crowds_seen}
@@ -49,7 +49,7 @@ record IsNewPlan (above : Above) (p : PlanLine) : Type 0 where
   room : length above.plan < MOST_PLAN_LINES
   terminal : p.terminal < length above.legs
   delay : IsShort p.what
-  others : All (λ a. same_packet a p ≡ false) above.plan
+  others : All (λ a. is_same_packet a p ≡ false) above.plan
 
 abbrev IsNew : Above → Entry → Type 0
 IsNew above (Leg l) = IsNewLeg above l
@@ -94,7 +94,7 @@ plan_more above p k new = record {
     most = let r = new.room in omega (arith, length_push above.plan p);
     terminals = All-push (λ a. a.terminal < length above.legs) above.plan p k.plan.terminals new.terminal;
     delays = All-push (λ a. IsShort a.what) above.plan p k.plan.delays new.delay;
-    differ = all_pairs_push (λ a b. same_packet a b ≡ false) above.plan p k.plan.differ new.others;
+    differ = all_pairs_push (λ a b. is_same_packet a b ≡ false) above.plan p k.plan.differ new.others;
   };
 }
 
@@ -371,10 +371,10 @@ plan_of_ok above name packet happens x short e =
     let c = bind_ok (ok_or happens Number) _ x b.2 in
     let d = bind_ok (unless (nat_le MOST_PLAN_LINES (length above.plan)) PlanMany (record { terminal = a.0; packet = b.0; what = c.0 })) _ x c.2 in
     let u = unless_ok (nat_le MOST_PLAN_LINES (length above.plan)) PlanMany (record { terminal = a.0; packet = b.0; what = c.0 }) d.0 d.1 in
-    let v = unless_ok (list_any (λ p. same_packet p d.0) above.plan) Twice d.0 x d.2 in
+    let v = unless_ok (list_any (λ p. is_same_packet p d.0) above.plan) Twice d.0 x d.2 in
     let at = position-Some (λ leg. bytes_eq leg.name name) above.legs a.0 a_leg (ok_or_ok (position (λ leg. bytes_eq leg.name name) above.legs) Name a.0 a.1) in
     let line : PlanLine = record { terminal = a.0; packet = b.0; what = c.0 } in
-    let others : All (λ q. same_packet q line ≡ false) above.plan = subst (λ p. All (λ q. same_packet q p ≡ false) above.plan) (sym u.1) (none_passes (λ q. same_packet q d.0) above.plan v.0) in
+    let others : All (λ q. is_same_packet q line ≡ false) above.plan = subst (λ p. All (λ q. is_same_packet q p ≡ false) above.plan) (sym u.1) (none_passes (λ q. is_same_packet q d.0) above.plan v.0) in
     subst (IsNewPlan above) (u.1 ∙ v.1) (record { room = leb-false MOST_PLAN_LINES (length above.plan) u.0; terminal = at.0; delay = short c.0 (ok_or_ok happens Number c.0 c.1); others = others })
   where
     a_leg : LegLine

@@ -130,14 +130,14 @@ abbrev pub has_port : Form → List ℕ → Bool
 has_port Files input = true
 has_port Links input = is_some (port input)
 
-abbrev pub same_port : Option ℕ → Option ℕ → Bool
-same_port (Some a) (Some b) = a == b
-same_port _ _ = false
+abbrev pub is_same_port : Option ℕ → Option ℕ → Bool
+is_same_port (Some a) (Some b) = a == b
+is_same_port _ _ = false
 
 -- whether two legs, the first one above the second, want the same path or port
 abbrev pub shares_path : Form → LegLine → LegLine → Bool
 shares_path Files above leg = bytes_eq above.output leg.output || (bytes_eq above.input leg.output || bytes_eq above.output leg.input)
-shares_path Links above leg = bytes_eq above.output leg.output || same_port (port above.input) (port leg.input)
+shares_path Links above leg = bytes_eq above.output leg.output || is_same_port (port above.input) (port leg.input)
 
 -- whether a leg's own paths or payload types are the same
 abbrev pub shares_own : Form → LegLine → Bool
@@ -215,14 +215,14 @@ stay above _ = Err Count
 
 -- ---- what becomes of packets
 
-abbrev pub same_word : What → What → Bool
-same_word what.Lose what.Lose = true
-same_word (what.Delay a) (what.Delay b) = true
-same_word what.Twice what.Twice = true
-same_word _ _ = false
+abbrev pub is_same_word : What → What → Bool
+is_same_word what.Lose what.Lose = true
+is_same_word (what.Delay a) (what.Delay b) = true
+is_same_word what.Twice what.Twice = true
+is_same_word _ _ = false
 
-abbrev pub same_packet : PlanLine → PlanLine → Bool
-same_packet a b = same_word a.what b.what && (a.terminal == b.terminal && a.packet == b.packet)
+abbrev pub is_same_packet : PlanLine → PlanLine → Bool
+is_same_packet a b = is_same_word a.what b.what && (a.terminal == b.terminal && a.packet == b.packet)
 
 unfoldable pub plan_of : Above → List ℕ → List ℕ → Option What → Result PlanLine ConfKind
 plan_of above name packet happens = do
@@ -230,7 +230,7 @@ plan_of above name packet happens = do
   k ← ok_or (number 4294967295 packet) Number
   w ← ok_or happens Number
   line ← unless (nat_le MOST_PLAN_LINES (length above.plan)) PlanMany (record { terminal = terminal; packet = k; what = w })
-  unless (list_any (λ p. same_packet p line) above.plan) Twice line
+  unless (list_any (λ p. is_same_packet p line) above.plan) Twice line
 
 abbrev pub plan : Above → What → List (List ℕ) → Result PlanLine ConfKind
 plan above w (name ∷ packet ∷ []) = plan_of above name packet (Some w)

@@ -8,7 +8,7 @@ use Rattle.file_spec.specs.declared.conf_lines.MixerLine.{MixerLine}
 use Rattle.file_spec.specs.declared.conf_lines.PlanLine.{PlanLine}
 use Rattle.file_spec.specs.declared.conf_lines.What.{What}
 use Rattle.file_spec.specs.declared.conf_lines.What.TheVariants.{Delay}
-use Rattle.file_spec.specs.Conf.{Above, Conf, is_name, same_packet}
+use Rattle.file_spec.specs.Conf.{Above, Conf, is_name, is_same_packet}
 use Rattle.file_spec.specs.Sound.{IsBetween}
 use Rattle.file_spec.specs.Stays.{IsStay, NeverCrowd}
 
@@ -49,7 +49,7 @@ pub record IsPlanFor (legs : List LegLine) (plan : List PlanLine) : Type 0 where
   pub most : length plan ≤ MOST_PLAN_LINES
   pub terminals : All (λ p. p.terminal < length legs) plan
   pub delays : All (λ p. IsShort p.what) plan
-  pub differ : AllPairs (λ a b. same_packet a b ≡ false) plan
+  pub differ : AllPairs (λ a b. is_same_packet a b ≡ false) plan
 
 abbrev pub IsTick : ℕ → Type 0
 IsTick n = IsBetween LEAST_TICK MOST_TICK n

@@ -4,7 +4,7 @@ use Rattle.std.specs.Prelude.{map, max, insert}
 use Rattle.rtt_base.specs.declared.text_packets.TextPacket.{TextPacket}
 use Rattle.stream_spec.specs.Lists.{In}
 use Rattle.stream_spec.specs.Numbering.{Numbered, first_number, has_number, is_given_up, in_time, by_number, Falling}
-use Rattle.stream_spec.specs.Ready.{end_of, last_end}
+use Rattle.stream_spec.specs.Ready.{end_of, latest_end}
 use Rattle.stream_spec.proofs.Lists.{in_left}
 use Rattle.gap_tracker.specs.Stories.{Given, due_at}
 use Rattle.gap_tracker.specs.States.{State, next_latest, put_at, IsPlace}
@@ -31,9 +31,9 @@ module _ (wait : ℕ) (past : List Numbered) (t first front latest : ℕ) (out h
   due_stays e u l m i =
       let above = out_above u i in
       let below = h.low u i in
-      let short : Timed wait past t first (suc u.number) (last_end wait past first (suc u.number - first)) = record { latest_is = refl; by_now = λ n a b. m.by_now n a (omega arith) } in
-      let r = timed_more wait e past t first (suc u.number) (last_end wait past first (suc u.number - first)) l (omega arith) short in
-      let same : last_end wait past (first_number 0 past) (suc u.number - first_number 0 past) ≡ last_end wait (e ∷ past) (first_number e.number past) (suc u.number - first_number e.number past) = rw (h.first_is 0, h.first_is e.number) r.latest_is in
+      let short : Timed wait past t first (suc u.number) (latest_end wait past first (suc u.number - first)) = record { latest_is = refl; by_now = λ n a b. m.by_now n a (omega arith) } in
+      let r = timed_more wait e past t first (suc u.number) (latest_end wait past first (suc u.number - first)) l (omega arith) short in
+      let same : latest_end wait past (first_number 0 past) (suc u.number - first_number 0 past) ≡ latest_end wait (e ∷ past) (first_number e.number past) (suc u.number - first_number e.number past) = rw (h.first_is 0, h.first_is e.number) r.latest_is in
       ap (λ n. record { number = u.number; ready = max u.time n; packet = u.packet }) same
 
   pub dues_stay : (e : Numbered) → t ≤ e.time → Timed wait past t first front latest → map (due_at wait past) out ≡ map (due_at wait (e ∷ past)) out

@@ -5,7 +5,7 @@ use Rattle.std.proofs.lemmas.Bool.{cases_lt, true≢false, lt-ltb, or_right}
 use Rattle.std.proofs.lemmas.Bool.Decides.{nat_tests}
 use Rattle.stream_spec.specs.Numbering.{Numbered, Falling, first_number, has_number, in_time, used, distinct_from, is_given_up}
 use Rattle.stream_spec.specs.Lists.{In}
-use Rattle.stream_spec.specs.Ready.{when, moments, least, end_of, last_end, ready_of}
+use Rattle.stream_spec.specs.Ready.{when, moments, least, end_of, latest_end, ready_of}
 use Rattle.stream_spec.proofs.Lists.{in_left, in_right, in_append, when_in}
 use Rattle.stream_spec.proofs.Matched.{used_in}
 use Rattle.stream_spec.proofs.GivingUp.{in_has}
@@ -24,27 +24,27 @@ larger_le a b c p q = grind (arith, nat_tests)
 larger_twice : (a b : ℕ) → max (max a b) b ≡ max a b
 larger_twice a b = grind (arith, nat_tests)
 
-last_same : (wait : ℕ) (past past' : List Numbered) (lo k : ℕ) → ((n : ℕ) → lo ≤ n → n < lo + k → end_of wait past n ≡ end_of wait past' n) → last_end wait past lo k ≡ last_end wait past' lo k
+last_same : (wait : ℕ) (past past' : List Numbered) (lo k : ℕ) → ((n : ℕ) → lo ≤ n → n < lo + k → end_of wait past n ≡ end_of wait past' n) → latest_end wait past lo k ≡ latest_end wait past' lo k
 last_same wait past past' lo zero f = refl
 last_same wait past past' lo (suc k) f = rw (f (lo + k) (omega arith) (omega arith), last_same wait past past' lo k (λ n a b. f n a (omega arith))) refl
 
 -- k more numbers with one end
-last_run : (wait : ℕ) (past : List Numbered) (lo k m : ℕ) (j : ℕ) → ((n : ℕ) → lo + k ≤ n → n < lo + k + suc j → end_of wait past n ≡ m) → last_end wait past lo (suc j + k) ≡ max (last_end wait past lo k) m
+last_run : (wait : ℕ) (past : List Numbered) (lo k m : ℕ) (j : ℕ) → ((n : ℕ) → lo + k ≤ n → n < lo + k + suc j → end_of wait past n ≡ m) → latest_end wait past lo (suc j + k) ≡ max (latest_end wait past lo k) m
 last_run wait past lo k m zero f = let e : 1 + k ≡ suc k = omega arith in rw (e, f (lo + k) (omega arith) (omega arith)) refl
 last_run wait past lo k m (suc j) f =
     let r = last_run wait past lo k m j (λ n a b. f n a (omega arith)) in
     let e : suc (suc j) + k ≡ suc (suc j + k) = omega arith in
-    rw (e, f (lo + (suc j + k)) (omega arith) (omega arith), r) (larger_twice (last_end wait past lo k) m)
+    rw (e, f (lo + (suc j + k)) (omega arith) (omega arith), r) (larger_twice (latest_end wait past lo k) m)
 
-last_le : (wait : ℕ) (past : List Numbered) (lo k t : ℕ) → ((n : ℕ) → lo ≤ n → n < lo + k → end_of wait past n ≤ t) → last_end wait past lo k ≤ t
+last_le : (wait : ℕ) (past : List Numbered) (lo k t : ℕ) → ((n : ℕ) → lo ≤ n → n < lo + k → end_of wait past n ≤ t) → latest_end wait past lo k ≤ t
 last_le wait past lo zero t f = omega arith
-last_le wait past lo (suc k) t f = larger_le (last_end wait past lo k) (end_of wait past (lo + k)) t (last_le wait past lo k t (λ n a b. f n a (omega arith))) (f (lo + k) (omega arith) (omega arith))
+last_le wait past lo (suc k) t f = larger_le (latest_end wait past lo k) (end_of wait past (lo + k)) t (last_le wait past lo k t (λ n a b. f n a (omega arith))) (f (lo + k) (omega arith) (omega arith))
 
-last_ge : (wait : ℕ) (past : List Numbered) (lo k n : ℕ) → lo ≤ n → n < lo + k → end_of wait past n ≤ last_end wait past lo k
+last_ge : (wait : ℕ) (past : List Numbered) (lo k n : ℕ) → lo ≤ n → n < lo + k → end_of wait past n ≤ latest_end wait past lo k
 last_ge wait past lo zero n a b = absurd (omega arith)
 last_ge wait past lo (suc k) n a b = elim (cases_lt n (lo + k)) [
-  | inl l ↦ let r = last_ge wait past lo k n a l in let g = larger_ge (last_end wait past lo k) (end_of wait past (lo + k)) in omega (arith, g.0)
-  | inr ge ↦ let e : n ≡ lo + k = omega arith in let g = larger_ge (last_end wait past lo k) (end_of wait past (lo + k)) in rw e (omega (arith, g.1))
+  | inl l ↦ let r = last_ge wait past lo k n a l in let g = larger_ge (latest_end wait past lo k) (end_of wait past (lo + k)) in omega (arith, g.0)
+  | inr ge ↦ let e : n ≡ lo + k = omega arith in let g = larger_ge (latest_end wait past lo k) (end_of wait past (lo + k)) in rw e (omega (arith, g.1))
 ]
 
 -- ---- steps of Timed
@@ -75,7 +75,7 @@ timed_jump wait past t first front latest to m b l above i q h =
     (λ n p s. ap least (sym (moments_same wait past front n (omega arith) (λ u j g. let a = above u j g in omega arith)))) in
     let k : suc (to - front - 1) + (front - first) ≡ to - first = omega arith in
     record {
-      latest_is = rw h.latest_is (sym run ∙ ap (last_end wait past first) k);
+      latest_is = rw h.latest_is (sym run ∙ ap (latest_end wait past first) k);
       by_now = λ n p s. elim (cases_lt n front) [
         | inl lt ↦ h.by_now n p lt
         | inr ge ↦ (m, subst (λ (ms : List ℕ). In m ms) (moments_same wait past front n ge (λ u j g. let a = above u j g in omega arith)) i, q)
@@ -89,7 +89,7 @@ given_ready wait past t first front latest x fi b l f i h =
     let r = end_used wait past x f i in
     let own = h.by_now x.number b l in
     let own_le = least_below (moments wait past x.number) own.0 own.1 in
-    rw (fi 0) (larger_le x.time (last_end wait past first (suc x.number - first)) t (omega (arith, r.1, own.2, own_le))
+    rw (fi 0) (larger_le x.time (latest_end wait past first (suc x.number - first)) t (omega (arith, r.1, own.2, own_le))
     (last_le wait past first (suc x.number - first) t (λ n p q. let s = h.by_now n p (omega arith) in let u = least_below (moments wait past n) s.0 s.1 in omega (arith, s.2))))
 
 pub held_not_ready : (wait : ℕ) (past : List Numbered) (t first front : ℕ) (x : Numbered) → ((n : ℕ) → first_number n past ≡ first) → first ≤ front → front < x.number → In x past
@@ -98,7 +98,7 @@ held_not_ready wait past t first front x fi b l i gone waits =
     let some = above_moment wait past front x i l in
     let inn = least_in (moments wait past front) (x.time + wait) some in
     let ge = last_ge wait past first (suc x.number - first) front b (omega arith) in
-    let big = larger_ge x.time (last_end wait past first (suc x.number - first)) in
+    let big = larger_ge x.time (latest_end wait past first (suc x.number - first)) in
     rw (fi 0) (elim (cases_lt t (end_of wait past front)) [
       | inl lt ↦ omega (arith, big.1)
       | inr le ↦ absurd (elim (moment_tells wait t front past (end_of wait past front) inn le) [ inl h ↦ true≢false (sym h ∙ gone) | inr g ↦ true≢false (sym g ∙ waits) ])

@@ -3,7 +3,7 @@
 use Rattle.std.specs.Prelude.{◌≡◌, ℕ, ◌-◌, ◌<◌, ◌≤◌, ◌⊎◌, true, List, ◌++◌, length}
 use Rattle.stream_spec.specs.Lists.{In}
 use Rattle.stream_spec.specs.Numbering.{Numbered, RisingNumbers, used, first_number, has_number, distinct_from, is_given_up}
-use Rattle.stream_spec.specs.Ready.{moments, last_end}
+use Rattle.stream_spec.specs.Ready.{moments, latest_end}
 
 -- `front`: below it each number has come or is given up. `out`: what is settled. `held`: the rest. Both rise.
 pub record Holds (wait : ℕ) (past : List Numbered) (t first front : ℕ) (out held : List Numbered) : Type 0 where
@@ -20,5 +20,5 @@ pub record Holds (wait : ℕ) (past : List Numbered) (t first front : ℕ) (out 
 
 -- Each number from the first below the front has ended by t, the latest of them at `latest`.
 pub record Timed (wait : ℕ) (past : List Numbered) (t first front latest : ℕ) : Type 0 where
-  pub latest_is : latest ≡ last_end wait past first (front - first)
+  pub latest_is : latest ≡ latest_end wait past first (front - first)
   pub by_now : (n : ℕ) → first ≤ n → n < front → (m : ℕ) × In m (moments wait past n) × (m ≤ t)

@@ -31,8 +31,8 @@ has_some (x ∷ xs) = true
 abbrev pub has_ready : State → Bool
 has_ready s = has_some s.settled
 
-abbrev pub arrivals_of : State → ℕ
-arrivals_of s = s.arrivals
+abbrev pub arrival_count : State → ℕ
+arrival_count s = s.arrivals
 
 abbrev pub is_finished : State → Bool
 is_finished s = s.finished

@@ -4,7 +4,7 @@ ghost use Rattle.rtt_base.specs.declared.text_packets.TextPacket.{TextPacket};
 ghost use Rattle.wire_spec.specs.Packets.{packet_of};
 ghost use Rattle.stream_spec.specs.Lists.{In};
 ghost use Rattle.gap_tracker.specs.Stories.{Story, Given, begun, came, went, ended, gave, given_of, dues, ready_dues, answer, is_used, is_in_time};
-ghost use Rattle.gap_tracker.specs.States.{has_ready, packets_in, arrivals_of, is_finished};
+ghost use Rattle.gap_tracker.specs.States.{has_ready, packets_in, arrival_count, is_finished};
 ghost use Rattle.gap_tracker.specs.Tracks.{Tracks};
 
 use crate::holds::Hold;
@@ -43,7 +43,7 @@ impl Tracker {
         ensures stands { IfOk result (λ tracker. Tracks tracker (begun wait)) }
         ensures ready { IfOk result (λ tracker. has_ready tracker ≡ false) }
         ensures packets { IfOk result (λ tracker. packets_in tracker ≡ []) }
-        ensures arrivals { IfOk result (λ tracker. arrivals_of tracker ≡ 0) }
+        ensures arrivals { IfOk result (λ tracker. arrival_count tracker ≡ 0) }
         ensures finished { IfOk result (λ tracker. is_finished tracker ≡ false) }
     {
         Ok(Tracker {
@@ -58,14 +58,14 @@ impl Tracker {
     pub fn arrive(&mut self, now: u64, packet: &mut Box<TextPacket>) -> Taken
         requires now { now < 2 ^ 48 }
         requires quiet { has_ready self.old ≡ false }
-        requires few { arrivals_of self.old < 2 ^ 40 }
+        requires few { arrival_count self.old < 2 ^ 40 }
         ensures stands { (story : Story) → Tracks self.old story → Tracks self.new (came story now (packet_of packet.old.value)) }
         ensures answer { (story : Story) → Tracks self.old story → result ≡ answer story now (packet_of packet.old.value) }
         ensures used { (story : Story) → Tracks self.old story → is_used result ≡ is_in_time story now (packet_of packet.old.value) }
         ensures unused { is_used result ≡ false → packet.new ≡ packet.old }
         // What is inside came.
         ensures packets { (q : TextPacket) → In q (packets_in self.new) → (q ≡ packet.old.value) ⊎ In q (packets_in self.old) }
-        ensures arrivals { arrivals_of self.new ≡ arrivals_of self.old + 1 }
+        ensures arrivals { arrival_count self.new ≡ arrival_count self.old + 1 }
         ensures finished { is_finished self.new ≡ is_finished self.old }
     {
         self.hold.arrive(now, packet)
@@ -77,7 +77,7 @@ impl Tracker {
         requires quiet { has_ready self.old ≡ false }
         ensures stands { (story : Story) → Tracks self.old story → Tracks self.new (went story now) }
         ensures packets { packets_in self.new ≡ packets_in self.old }
-        ensures arrivals { arrivals_of self.new ≡ arrivals_of self.old }
+        ensures arrivals { arrival_count self.new ≡ arrival_count self.old }
         ensures finished { is_finished self.new ≡ is_finished self.old }
     {
         self.hold.expire(now);
@@ -91,7 +91,7 @@ impl Tracker {
         // Each used packet is ready by then.
         ensures all { (story : Story) → Tracks self.old story → ready_dues (ended story) ≡ dues story }
         ensures packets { packets_in self.new ≡ packets_in self.old }
-        ensures arrivals { arrivals_of self.new ≡ arrivals_of self.old }
+        ensures arrivals { arrival_count self.new ≡ arrival_count self.old }
         ensures finished { is_finished self.new ≡ true }
     {
         self.hold.finish();
@@ -120,7 +120,7 @@ impl Tracker {
         ensures packet { IsSome result → packets_in self.old ≡ packet.new.value ∷ packets_in self.new }
         ensures unchanged { IfNone result (self.new ≡ self.old) }
         ensures same { IfNone result (packet.new ≡ packet.old) }
-        ensures arrivals { arrivals_of self.new ≡ arrivals_of self.old }
+        ensures arrivals { arrival_count self.new ≡ arrival_count self.old }
         ensures finished { is_finished self.new ≡ is_finished self.old }
     {
         self.hold.next(packet)
@@ -128,7 +128,7 @@ impl Tracker {
 
     /// How many packets came.
     pub fn arrivals(&self) -> u64
-        ensures value { result ≡ arrivals_of self.now }
+        ensures value { result ≡ arrival_count self.now }
         ensures exact { (story : Story) → Tracks self.now story → result ≡ length story.past }
     {
         self.hold.arrivals()

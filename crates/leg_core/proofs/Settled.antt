@@ -6,7 +6,7 @@ use Rattle.wire_spec.specs.Packets.{Arrival}
 use Rattle.stream_spec.specs.Lists.{In}
 use Rattle.leg_core.specs.Fronts.{AreFrom}
 use Rattle.stream_spec.specs.Numbering.{Numbered, Falling, RisingNumbers, numbered, number_it, first_number, has_number, in_time, is_given_up, used, by_number}
-use Rattle.stream_spec.specs.Ready.{moments, end_of, last_end, ready_of}
+use Rattle.stream_spec.specs.Ready.{moments, end_of, latest_end, ready_of}
 use Rattle.stream_spec.specs.ChunksBy.{stamped}
 use Rattle.stream_spec.proofs.Lists.{in_append, in_right}
 use Rattle.stream_spec.proofs.Matched.{used_in}
@@ -26,7 +26,7 @@ by_number_behind : (e : Numbered) (out held : List Numbered) → ((u : Numbered)
 by_number_behind e [] held f = refl
 by_number_behind e (x ∷ out) held f = let l = f x (inl refl) in rw (le-ltb e.number x.number l) (ap (λ us. x ∷ us) (by_number_behind e out held (λ u i. f u (inr i))))
 
-last_same : (wait : ℕ) (past past' : List Numbered) (lo k : ℕ) → ((n : ℕ) → lo ≤ n → n < lo + k → end_of wait past n ≡ end_of wait past' n) → last_end wait past lo k ≡ last_end wait past' lo k
+last_same : (wait : ℕ) (past past' : List Numbered) (lo k : ℕ) → ((n : ℕ) → lo ≤ n → n < lo + k → end_of wait past n ≡ end_of wait past' n) → latest_end wait past lo k ≡ latest_end wait past' lo k
 last_same wait past past' lo zero f = refl
 last_same wait past past' lo (suc k) f = rw (f (lo + k) (omega arith) (omega arith), last_same wait past past' lo k (λ n a b. f n a (omega arith))) refl
 
@@ -66,10 +66,10 @@ module _ (wait t : ℕ) (e : Numbered) (past : List Numbered) (first front : ℕ
   ready_same : (u : Numbered) → In u out → ready_of wait (e ∷ past) u ≡ ready_of wait past u
   ready_same u i =
       let b = s.low u i in
-      let k : last_end wait (e ∷ past) first (suc u.number - first) ≡ last_end wait past first (suc u.number - first)
+      let k : latest_end wait (e ∷ past) first (suc u.number - first) ≡ latest_end wait past first (suc u.number - first)
       = last_same wait (e ∷ past) past first (suc u.number - first) (λ n a c. let r = s.ended n a (omega arith) in end_stays wait e past n r.0 r.1 (omega (arith, r.2))) in
-      ap (λ n. max u.time (last_end wait (e ∷ past) n (suc u.number - n))) (s.first_is e.number)
-      ∙ (ap (max u.time) k ∙ ap (λ n. max u.time (last_end wait past n (suc u.number - n))) (sym (s.first_is 0)))
+      ap (λ n. max u.time (latest_end wait (e ∷ past) n (suc u.number - n))) (s.first_is e.number)
+      ∙ (ap (max u.time) k ∙ ap (λ n. max u.time (latest_end wait past n (suc u.number - n))) (sym (s.first_is 0)))
 
 -- ---- many more
 stamps_same : (wait : ℕ) (p q us : List Numbered) → ((u : Numbered) → In u us → ready_of wait p u ≡ ready_of wait q u) → map (stamped wait p) us ≡ map (stamped wait q) us
@@ -96,14 +96,14 @@ stays wait t (a ∷ later) earlier first front out f s =
     }
 
 -- ---- what is ready by t is settled
-last_up : (wait : ℕ) (past : List Numbered) (lo k l : ℕ) → k ≤ l → last_end wait past lo k ≤ last_end wait past lo l
+last_up : (wait : ℕ) (past : List Numbered) (lo k l : ℕ) → k ≤ l → latest_end wait past lo k ≤ latest_end wait past lo l
 last_up wait past lo k zero h = let e : k ≡ 0 = omega arith in rw e (omega arith)
 last_up wait past lo k (suc l) h = elim (cases_lt l k) [
   | inl lt ↦ let e : k ≡ suc l = omega arith in rw e (omega arith)
   | inr ge ↦ let r = last_up wait past lo k l ge in omega arith
 ]
 
-last_has : (wait : ℕ) (past : List Numbered) (lo k n : ℕ) → lo ≤ n → n < lo + k → end_of wait past n ≤ last_end wait past lo k
+last_has : (wait : ℕ) (past : List Numbered) (lo k n : ℕ) → lo ≤ n → n < lo + k → end_of wait past n ≤ latest_end wait past lo k
 last_has wait past lo zero n a b = absurd (omega arith)
 last_has wait past lo (suc k) n a b = elim (cases_lt n (lo + k)) [
   | inl lt ↦ let r = last_has wait past lo k n a lt in omega arith
@@ -129,10 +129,10 @@ pub record Split (wait t : ℕ) (past : List Numbered) (first : ℕ) : Type 0 wh
 module _ (wait t : ℕ) (past : List Numbered) (first : ℕ) (f : Falling past) (first_is : (n : ℕ) → first_number n past ≡ first) where
   -- the last end up to its number
   abbrev last : Numbered → ℕ
-  last u = last_end wait past first (suc u.number - first)
+  last u = latest_end wait past first (suc u.number - first)
 
   ready_is : (u : Numbered) → ready_of wait past u ≡ max u.time (last u)
-  ready_is u = ap (λ n. max u.time (last_end wait past n (suc u.number - n))) (first_is 0)
+  ready_is u = ap (λ n. max u.time (latest_end wait past n (suc u.number - n))) (first_is 0)
 
   begun : (u : Numbered) → In u (used wait past) → first ≤ u.number
   begun u i = subst (λ (n : ℕ). n ≤ u.number) (first_is 0) (used_above wait past u 0 i)

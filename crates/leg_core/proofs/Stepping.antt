@@ -18,7 +18,7 @@ use Rattle.rtpdump_io.specs.Answers.{record_of, is_end}
 use Rattle.rtpdump_io.proofs.Records.{gives_item, not_last}
 use Rattle.ear.specs.declared.confs.EarConf.{EarConf}
 use Rattle.ear.specs.declared.ears.Ear.{Ear}
-use Rattle.ear.specs.Hears.{IsGiving, Becomes, GivesChunk, GivesNone, GaveReady, AllReady, IsToldOf, IsReadyAtEnd, arrivals_of, is_finished}
+use Rattle.ear.specs.Hears.{IsGiving, Becomes, GivesChunk, GivesNone, GaveReady, AllReady, IsToldOf, IsReadyAtEnd, arrival_count, is_finished}
 use Rattle.ear.proofs.ReadyBy.{told_arrived}
 use Rattle.leg_core.specs.declared.legs.Leg.{Leg}
 use Rattle.leg_core.specs.Sound.{FewCame, EndsWith}
@@ -52,7 +52,7 @@ open_item (Large at) e = refl
 open_item End e = e
 
 module _ {S : Type 0} where
-  pub reads_few : (before after : DumpReader S) (old new : Ear) → FewCame before old → most_answers after < most_answers before → arrivals_of new ≤ arrivals_of old + 1 → FewCame after new
+  pub reads_few : (before after : DumpReader S) (old new : Ear) → FewCame before old → most_answers after < most_answers before → arrival_count new ≤ arrival_count old + 1 → FewCame after new
   reads_few before after old new s n a = omega (arith, n, a, s)
 
   pub reads_ends : (after : DumpReader S) (new : Ear) (item : DumpItem) → is_ended after ≡ reading.is_last (Ok item) → is_finished new ≡ is_end item → EndsWith after new

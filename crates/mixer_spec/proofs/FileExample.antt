@@ -30,7 +30,7 @@ use Rattle.text_spec.specs.Characters.{class_of}
 use Rattle.text_spec.specs.Ends.{ends_line, ends_sentence}
 use Rattle.text_spec.specs.Views.{label, label_after}
 use Rattle.mixer_spec.specs.Setups.{AllStay, setup, stream, leg_at}
-use Rattle.mixer_spec.specs.Table.{Call, Admit, Hush, Leave, Offer, Turn, Taken, Table, after_calls, chunks_taken, is_due, last_media, packets, sent_by}
+use Rattle.mixer_spec.specs.Table.{Call, Admit, Hush, Leave, Offer, Turn, Taken, Table, after_calls, chunks_taken, is_due, last_media, packets, sent_from}
 use Rattle.mixer_spec.specs.Core.{Core, Event, Enter, Push, Take, after, turns_in}
 use Rattle.mixer_spec.specs.Core as event
 use Rattle.mixer_spec.specs.Calls.{AreMade, took}
@@ -232,10 +232,10 @@ enough_turns : (setup call).places ≤ turns_in (replicate 14 (event.Turn 0)) + 
 enough_turns = omega arith
 
 -- after a turn it is still to be repeated
-repeated : has_text_in ((setup call).gens 1) (sent_by ((setup call).ssrc 0) ((after (setup call) said (event.Turn 0 ∷ taken)).table.terminals 1)) ≡ true
+repeated : has_text_in ((setup call).gens 1) (sent_from ((setup call).ssrc 0) ((after (setup call) said (event.Turn 0 ∷ taken)).table.terminals 1)) ≡ true
 repeated = refl
 
-at_once : last_media (sent_by ((setup call).ssrc 0) ((after (setup call) said (event.Turn 0 ∷ taken)).table.terminals 1)) ≡ Some 0
+at_once : last_media (sent_from ((setup call).ssrc 0) ((after (setup call) said (event.Turn 0 ∷ taken)).table.terminals 1)) ≡ Some 0
 at_once = refl
 
 -- ---- calls

@@ -14,7 +14,7 @@ use Rattle.stream_spec.specs.Hearing.{heard, heard_by}
 use Rattle.gap_tracker.specs.Stories.{Story, Given, ended, dues, due_at}
 use Rattle.ear.specs.declared.confs.EarConf.{EarConf}
 use Rattle.ear.specs.declared.ears.Ear.{Ear}
-use Rattle.ear.specs.Hears.{told, all_given, arrivals_of, is_quiet, is_finished, ready_packets, Becomes, Gathers, CountsUsed, AllReady}
+use Rattle.ear.specs.Hears.{told, all_given, arrival_count, is_quiet, is_finished, ready_packets, Becomes, Gathers, CountsUsed, AllReady}
 use Rattle.ear.proofs.Giving.{told_given}
 use Rattle.ear.proofs.ReadyBy.{heard_dues, told_arrived}
 use Rattle.text_spec.specs.declared.counts.Counts.{Counts}
@@ -66,8 +66,8 @@ ended_text l k r story b = becomes_text l k (λ conf s. ended s) r story b refl
 
 -- one more packet of the stream came, and what is settled was heard
 pub took : (l k m : Listener) (at : ℕ) (octets : List ℕ) → Becomes l.ear k.ear (λ conf s. told s at (text_of octets (Some conf.ssrc) conf.pts)) → k.text ≡ l.text
-    → k.counts ≡ record l.counts { packets = l.counts.packets + 1 } → is_finished k.ear ≡ is_finished l.ear → arrivals_of k.ear ≤ arrivals_of l.ear + 1
-    → ((r : ReadRequest) (story : Story) → HearsText k r story → HearsText m r (all_given story)) → SameStream k m → is_quiet m.ear ≡ true → arrivals_of m.ear ≡ arrivals_of k.ear → is_finished m.ear ≡ is_finished k.ear
+    → k.counts ≡ record l.counts { packets = l.counts.packets + 1 } → is_finished k.ear ≡ is_finished l.ear → arrival_count k.ear ≤ arrival_count l.ear + 1
+    → ((r : ReadRequest) (story : Story) → HearsText k r story → HearsText m r (all_given story)) → SameStream k m → is_quiet m.ear ≡ true → arrival_count m.ear ≡ arrival_count k.ear → is_finished m.ear ≡ is_finished k.ear
     → (r : ReadRequest) (past : List Arrival) → Listens l r past → Listens m r (arrived at (text_of octets (Some r.ssrc) r.pts) past)
 took l k m at octets b t c f a g same quiet arrivals finished r past li =
     let x = text_of octets (Some r.ssrc) r.pts in
@@ -107,7 +107,7 @@ counted_fault faults.Foreign = refl
 -- what was refused is counted
 module _ (l k m : Listener) (at : ℕ) (octets : List ℕ) (fault : TextFault) (b : Becomes l.ear k.ear (λ conf s. told s at (text_of octets (Some conf.ssrc) conf.pts))) (same : m.ear ≡ k.ear) (t : m.text ≡ l.text) (u : m.counts.used ≡ l.counts.used)
     (p : m.counts.packets ≡ l.counts.packets + 1) (q : m.counts.refused ≡ l.counts.refused + one_if (is_refused (fate_of (Err fault)))) (f : m.counts.foreign ≡ l.counts.foreign + one_if (is_foreign (fate_of (Err fault)))) where
-  pub refused : is_quiet k.ear ≡ true → is_finished k.ear ≡ is_finished l.ear → arrivals_of k.ear ≤ arrivals_of l.ear + 1
+  pub refused : is_quiet k.ear ≡ true → is_finished k.ear ≡ is_finished l.ear → arrival_count k.ear ≤ arrival_count l.ear + 1
       → (r : ReadRequest) (past : List Arrival) → Listens l r past → Listens m r (arrived at (text_of octets (Some r.ssrc) r.pts) past)
   refused quiet finished a r past li =
       let x = text_of octets (Some r.ssrc) r.pts in
@@ -115,7 +115,7 @@ module _ (l k m : Listener) (at : ℕ) (octets : List ℕ) (fault : TextFault) (
         story = told li.story at x;
         hears = told_text l m at octets r li.story (subst (λ (e : Ear). Becomes l.ear e (λ conf s. told s at (text_of octets (Some conf.ssrc) conf.pts))) (sym same) b) t u li.hears;
         told = told_arrived li.story past at x li.told;
-        few = omega (arith, ap arrivals_of same, a, li.few, p);
+        few = omega (arith, ap arrival_count same, a, li.few, p);
         few_refused = omega (arith, p, q, one_at_most (is_refused (fate_of (Err fault))), li.few_refused);
         few_foreign = omega (arith, p, f, one_at_most (is_foreign (fate_of (Err fault))), li.few_foreign);
         quiet = ap is_quiet same ∙ quiet;

@@ -5,7 +5,7 @@ use Rattle.wire_spec.specs.Packets.{Arrival}
 use Rattle.stream_spec.specs.Hearing.{heard_by}
 use Rattle.gap_tracker.specs.Stories.{Story}
 use Rattle.ear.specs.declared.confs.EarConf.{EarConf}
-use Rattle.ear.specs.Hears.{Hears, IsToldOf, ready_packets, arrivals_of, is_quiet, is_finished}
+use Rattle.ear.specs.Hears.{Hears, IsToldOf, ready_packets, arrival_count, is_quiet, is_finished}
 use Rattle.text_spec.specs.declared.counts.Counts.{Counts}
 use Rattle.command_spec.specs.declared.requests.ReadRequest.{ReadRequest}
 use Rattle.command_spec.specs.Reading.{usual_wait, Fate, is_packet, is_refused, is_foreign}
@@ -45,7 +45,7 @@ pub record Listens (l : Listener) (r : ReadRequest) (past : List Arrival) : Type
   pub story : Story
   pub hears : HearsText l r story
   pub told : IsToldOf story past
-  pub few : arrivals_of l.ear ≤ l.counts.packets
+  pub few : arrival_count l.ear ≤ l.counts.packets
   pub few_refused : l.counts.refused ≤ l.counts.packets
   pub few_foreign : l.counts.foreign ≤ l.counts.packets
   pub quiet : is_quiet l.ear ≡ Bool.true

@@ -7,7 +7,7 @@ ghost use Rattle.wire_spec.specs.Dump.{arrived};
 ghost use Rattle.stream_spec.specs.Numbering.{numbered, used};
 ghost use Rattle.stream_spec.specs.Hearing.{heard};
 ghost use Rattle.gap_tracker.specs.Stories.{Story};
-ghost use Rattle.ear.specs.Hears.{all_given, arrivals_of, is_clear, is_quiet, is_finished};
+ghost use Rattle.ear.specs.Hears.{all_given, arrival_count, is_clear, is_quiet, is_finished};
 ghost use Rattle.command_spec.specs.declared.requests.ReadRequest.{ReadRequest};
 ghost use Rattle.text_spec.specs.Shown.{shown};
 ghost use Rattle.text_spec.specs.Views.{text_view};
@@ -56,11 +56,11 @@ impl Listener {
     fn gather(&mut self) -> Result<(), NoMemory>
         requires stands { IsHearingText self.old }
         requires clear { is_clear self.old.ear ≡ Bool.true }
-        requires few { arrivals_of self.old.ear ≤ 2 ^ 40 }
+        requires few { arrival_count self.old.ear ≤ 2 ^ 40 }
         ensures gathers { OnOk result ((r : ReadRequest) (story : Story) → HearsText self.old r story → HearsText self.new r (all_given story)) }
         ensures same { OnOk result (SameStream self.old self.new) }
         ensures quiet { OnOk result (is_quiet self.new.ear ≡ Bool.true) }
-        ensures arrivals { OnOk result (arrivals_of self.new.ear ≡ arrivals_of self.old.ear) }
+        ensures arrivals { OnOk result (arrival_count self.new.ear ≡ arrival_count self.old.ear) }
         ensures finished { OnOk result (is_finished self.new.ear ≡ is_finished self.old.ear) }
     {
         self.ear.gather(&mut self.text, &mut self.counts.used)

@@ -9,7 +9,7 @@ use Rattle.std.proofs.lemmas.Grind.{flat_map-append}
 use Rattle.wire_spec.specs.Dump.{dump_opening, dump_written, record_written}
 use Rattle.file_spec.specs.Script.{ScriptLine}
 use Rattle.stream_spec.specs.Own.{packet_after, has_text_in}
-use Rattle.stream_spec.specs.Typed.{Event, Ask, Turned, sents, front, is_due, due_at, packet_at, entry_at, IsScript, has_passed, next_at}
+use Rattle.stream_spec.specs.Typed.{Event, Ask, Turned, sents, whole_front, is_due, due_at, packet_at, entry_at, IsScript, has_passed, next_at}
 use Rattle.stream_spec.proofs.Typing.{entries_more, entries_same, waits_same, waits_less}
 use Rattle.red_window.specs.Standing as window
 use Rattle.text_sender.specs.declared.senders.SendConf.{SendConf}
@@ -171,7 +171,7 @@ asked_more conf s new octets written packet past t r e stands w =
           ∙ (ap (λ (p : List ℕ). dump_written (records_of conf (sent_by conf past)) ++ record_written (t, p)) d.1
           ∙ (one_more (records_of conf (sent_by conf past)) (t, packet_of conf past t)
           ∙ ap (λ (es : List Turned). dump_written (records_of conf es)) (sym more))));
-      room = let n = ap (λ (w : List ℕ). length w) (waits_less (stream_of conf) conf.interval past t d.0) in omega (arith, r.room, length-drop (length (front 1023 (waits_for conf past))) (waits_for conf past));
+      room = let n = ap (λ (w : List ℕ). length w) (waits_less (stream_of conf) conf.interval past t d.0) in omega (arith, r.room, length-drop (length (whole_front 1023 (waits_for conf past))) (waits_for conf past));
     }
 
 -- a packet is not empty

@@ -7,7 +7,7 @@ use Rattle.wire_spec.specs.Packets.{has_text}
 use Rattle.file_spec.specs.Script.{ScriptLine}
 use Rattle.stream_spec.specs.Own.{Sent, has_text_in}
 use Rattle.stream_spec.specs.Lists.{In}
-use Rattle.stream_spec.specs.Typed.{Event, Ask, Turned, sents, front, last_end, due_at, entry_at, has_passed, IsScript}
+use Rattle.stream_spec.specs.Typed.{Event, Ask, Turned, sents, whole_front, last_end, due_at, entry_at, has_passed, IsScript}
 use Rattle.stream_spec.proofs.Typing.{entries_more, waits_less, waits_utf8, paced}
 use Rattle.text_sender.specs.declared.senders.SendConf.{SendConf}
 use Rattle.text_sender.specs.Confs.{IsConf, stream_of}
@@ -56,7 +56,7 @@ no_octets : (w : List ℕ) → has_text w ≡ false → length w ≡ 0
 no_octets [] h = refl
 no_octets (x ∷ w) h = cc h
 
-front_short : (w : List ℕ) → length (front 1023 w) ≤ length w
+front_short : (w : List ℕ) → length (whole_front 1023 w) ≤ length w
 front_short w = go (last_end w (min 1023 (length w))) w
   where
     go : (k : ℕ) (xs : List ℕ) → length (take k xs) ≤ length xs
@@ -64,22 +64,22 @@ front_short w = go (last_end w (min 1023 (length w))) w
     go (suc k) [] = omega arith
     go (suc k) (x ∷ xs) = let r = go k xs in omega arith
 
-weight_falls : (g : ℕ) (es : List Turned) (e : Turned) (w : List ℕ) → g ≤ 3 → IsUtf8 w → e.sent.text ≡ front 1023 w → (has_text w || has_text_in g (sents es)) ≡ true
-    → weight g (e ∷ es) (drop (length (front 1023 w)) w) + 1 ≤ weight g es w
+weight_falls : (g : ℕ) (es : List Turned) (e : Turned) (w : List ℕ) → g ≤ 3 → IsUtf8 w → e.sent.text ≡ whole_front 1023 w → (has_text w || has_text_in g (sents es)) ≡ true
+    → weight g (e ∷ es) (drop (length (whole_front 1023 w)) w) + 1 ≤ weight g es w
 weight_falls g es e w m u t h = go (has_text w) refl h
   where
-    go : (b : Bool) → has_text w ≡ b → (b || has_text_in g (sents es)) ≡ true → weight g (e ∷ es) (drop (length (front 1023 w)) w) + 1 ≤ weight g es w
+    go : (b : Bool) → has_text w ≡ b → (b || has_text_in g (sents es)) ≡ true → weight g (e ∷ es) (drop (length (whole_front 1023 w)) w) + 1 ≤ weight g es w
     go true q d =
         let some = some_front w u q in
-        let size = length-drop (length (front 1023 w)) w in
+        let size = length-drop (length (whole_front 1023 w)) w in
         let short = front_short w in
         let new = rank_le g (sents (e ∷ es)) in
         omega (arith, some, size, short, new)
     go false q d =
         let none = no_octets w q in
         let short = front_short w in
-        let no : has_text e.sent.text ≡ false = ap has_text t ∙ empty (front 1023 w) (omega arith) in
-        let size = length-drop (length (front 1023 w)) w in
+        let no : has_text e.sent.text ≡ false = ap has_text t ∙ empty (whole_front 1023 w) (omega arith) in
+        let size = length-drop (length (whole_front 1023 w)) w in
         let falls = rank_falls g e.sent (sents es) no d in
         omega (arith, size, falls)
 
@@ -117,12 +117,12 @@ ask_falls conf past t k u = go (due_at (stream_of conf) conf.interval past t) re
         let w = waits_for conf past in
         let e = entry_at c es w t in
         let falls = weight_falls conf.gens es e w k.gens u refl (and_first (has_more conf past) (has_passed conf.interval es t) d) in
-        let is : potential conf (Ask t ∷ past) (suc t) ≡ 1000 * weight conf.gens (e ∷ es) (drop (length (front 1023 w)) w) + ((t + conf.interval) - suc t) =
+        let is : potential conf (Ask t ∷ past) (suc t) ≡ 1000 * weight conf.gens (e ∷ es) (drop (length (whole_front 1023 w)) w) + ((t + conf.interval) - suc t) =
         ap (λ (fs : List Turned). 1000 * weight conf.gens fs (waits_for conf (Ask t ∷ past)) + remaining conf.interval fs (suc t)) (entries_more c conf.interval past t d)
         ∙ ap (λ (v : List ℕ). 1000 * weight conf.gens (e ∷ es) v + ((t + conf.interval) - suc t)) (waits_less c conf.interval past t d) in
         let l = k.least in
         let m = k.most in
-        below (potential conf (Ask t ∷ past) (suc t)) (weight conf.gens (e ∷ es) (drop (length (front 1023 w)) w)) (weight conf.gens es w) (remaining conf.interval es t) t conf.interval is falls l m
+        below (potential conf (Ask t ∷ past) (suc t)) (weight conf.gens (e ∷ es) (drop (length (whole_front 1023 w)) w)) (weight conf.gens es w) (remaining conf.interval es t) t conf.interval is falls l m
       where
         below : (p new old rest s i : ℕ) → p ≡ 1000 * new + ((s + i) - suc s) → new + 1 ≤ old → 100 ≤ i → i ≤ 1000 → p + 1 ≤ 1000 * old + rest
         below p new old rest s i q f l m = omega arith

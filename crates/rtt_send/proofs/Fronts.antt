@@ -5,7 +5,7 @@ use Rattle.std.proofs.Math.Seq.{take-append_seam}
 use Rattle.std.proofs.Math.Utf8.{scalar, scalars, encode, encodes}
 use Rattle.std.proofs.lemmas.Str.{length-encode, len_utf8_bounds}
 use Rattle.wire_spec.specs.Packets.{has_text}
-use Rattle.stream_spec.specs.Typed.{front}
+use Rattle.stream_spec.specs.Typed.{whole_front}
 use Rattle.text_sender.proofs.Scripts.{longest_front}
 
 nil : (xs : List ℕ) → xs ++ [] ≡ xs
@@ -16,7 +16,7 @@ first_true : (a b : Bool) → (a && b) ≡ true → (a && true) ≡ true
 first_true true b h = refl
 first_true false b h = h
 
-first_character : (cs octets : List ℕ) → scalars cs ≡ true → encodes cs ≡ octets → has_text octets ≡ true → IsUtf8 octets → 1 ≤ length (front 1023 octets)
+first_character : (cs octets : List ℕ) → scalars cs ≡ true → encodes cs ≡ octets → has_text octets ≡ true → IsUtf8 octets → 1 ≤ length (whole_front 1023 octets)
 first_character [] octets s e h u = let none : has_text octets ≡ false = ap has_text (sym e) in cc (none, h)
 first_character (c ∷ cs) octets s e h u =
     let k = length (encode c) in
@@ -28,5 +28,5 @@ first_character (c ∷ cs) octets s e h u =
     let longest = longest_front 1023 k octets u (omega (arith, bounds.1)) (omega (arith, length-append (encode c) (encodes cs))) (subst IsUtf8 (sym cut) one) in
     omega (arith, bounds.0)
 
-pub some_front : (octets : List ℕ) → IsUtf8 octets → has_text octets ≡ true → 1 ≤ length (front 1023 octets)
+pub some_front : (octets : List ℕ) → IsUtf8 octets → has_text octets ≡ true → 1 ≤ length (whole_front 1023 octets)
 some_front octets u h = first_character u.0 octets u.1.0 u.1.1 h u

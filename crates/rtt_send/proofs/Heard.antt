@@ -22,7 +22,7 @@ use Rattle.text_sender.specs.Standing.{sent_by, history_sent}
 use Rattle.text_sender.proofs.Sending.{own_sents}
 use Rattle.stream_spec.proofs.Sent.{in_sent_of}
 use Rattle.stream_spec.specs.Own.{Sent}
-use Rattle.command_spec.specs.Scripts.{AreLines, texts, events_through}
+use Rattle.command_spec.specs.Scripts.{AreLines, text_of_lines, events_through}
 use Rattle.rtt_send.specs.Scripts.{IsEnd}
 use Rattle.rtt_send.specs.Scripts.{records_sent, recording_sent}
 use Rattle.rtt_send.proofs.Arriving.{place_under, recording_arrives}
@@ -85,7 +85,7 @@ one_source conf lines t k a l x i =
 
 pub script_heard : (conf : SendConf) (lines : List ScriptLine) (t wait : ℕ) → IsConf conf → conf.ssrc < 2 ^ 32 → AreLines lines → t < 2 ^ 31 → IsEnd conf lines t
     → All (λ r. r.0 ≤ 14400000) (records_sent conf lines t) → length (recording_sent conf lines t) ≤ usual_limit
-    → concat (heard wait (arrivals (recording_sent conf lines t) conf.ssrc conf.pts) conf.ssrc) ≡ texts lines
+    → concat (heard wait (arrivals (recording_sent conf lines t) conf.ssrc conf.pts) conf.ssrc) ≡ text_of_lines lines
 script_heard conf lines t wait k b a l e early small =
     let h = history_sent conf (events_through lines t) in
     let law = lawful_sent conf lines t k a l in

@@ -13,7 +13,7 @@ use Rattle.text_sender.specs.declared.senders.SendConf.{SendConf}
 use Rattle.text_sender.specs.Confs.{IsConf}
 use Rattle.text_sender.specs.Standing.{history_sent}
 use Rattle.text_sender.proofs.Scripts.{lawful, end_sent, end_closed}
-use Rattle.command_spec.specs.Scripts.{InOrder, AreLines, texts, typed_at, events_before, events_until, events_through}
+use Rattle.command_spec.specs.Scripts.{InOrder, AreLines, text_of_lines, typed_at, events_before, events_until, events_through}
 use Rattle.rtt_send.specs.Scripts.{IsEnd}
 use Rattle.rtt_send.proofs.Events.{before_suc, none_before, until_later, until_one, asked_until}
 
@@ -52,21 +52,21 @@ nil : {X : Type 0} (xs : List X) → xs ++ [] ≡ xs
 nil [] = refl
 nil (x ∷ xs) = ap (λ ys. x ∷ ys) (nil xs)
 
-texts_more : (above : List ScriptLine) (l : ScriptLine) → texts (above ++ l ∷ []) ≡ texts above ++ l.text
-texts_more above l = flat_map-append (λ (x : ScriptLine). x.text) above (l ∷ []) ∙ ap (λ xs. texts above ++ xs) (nil l.text)
+texts_more : (above : List ScriptLine) (l : ScriptLine) → text_of_lines (above ++ l ∷ []) ≡ text_of_lines above ++ l.text
+texts_more above l = flat_map-append (λ (x : ScriptLine). x.text) above (l ∷ []) ∙ ap (λ xs. text_of_lines above ++ xs) (nil l.text)
 
 typed_lines : (above below : List ScriptLine) (m t : ℕ) → All (λ l. l.at ≤ m) above → All (λ l. m ≤ l.at) below → InOrder below → All (λ l. l.at ≤ t) below → m ≤ t
-    → typed (events_until above m) ≡ texts above → typed (events_until (above ++ below) t) ≡ texts (above ++ below)
-typed_lines above [] m t a b o e l p = subst (λ xs. typed (events_until xs t) ≡ texts xs) (sym (nil above)) (typed_until above m t a l ∙ p)
+    → typed (events_until above m) ≡ text_of_lines above → typed (events_until (above ++ below) t) ≡ text_of_lines (above ++ below)
+typed_lines above [] m t a b o e l p = subst (λ xs. typed (events_until xs t) ≡ text_of_lines xs) (sym (nil above)) (typed_until above m t a l ∙ p)
 typed_lines above (x ∷ more) m t a b o e l p =
     let later = All-head (λ l. m ≤ l.at) x more b in
-    let typed_then : typed (events_until (above ++ x ∷ []) x.at) ≡ texts (above ++ x ∷ []) =
+    let typed_then : typed (events_until (above ++ x ∷ []) x.at) ≡ text_of_lines (above ++ x ∷ []) =
     ap typed (until_one above x x.at refl) ∙ (ap (λ xs. xs ++ x.text) (typed_until above m x.at a later ∙ p) ∙ sym (texts_more above x)) in
     let up = All-push (λ l. l.at ≤ x.at) above x (All-weaker (λ l. l.at ≤ m) (λ l. l.at ≤ x.at) (λ y h. omega arith) above a) (omega arith) in
-    subst (λ xs. typed (events_until xs t) ≡ texts xs) (append_assoc above (x ∷ []) more)
+    subst (λ xs. typed (events_until xs t) ≡ text_of_lines xs) (append_assoc above (x ∷ []) more)
     (typed_lines (above ++ x ∷ []) more x.at t up o.0 o.1 (All-tail (λ l. l.at ≤ t) x more e) (All-head (λ l. l.at ≤ t) x more e) typed_then)
 
-all_typed : (lines : List ScriptLine) (t : ℕ) → InOrder lines → All (λ l. l.at ≤ t) lines → typed (events_through lines t) ≡ texts lines
+all_typed : (lines : List ScriptLine) (t : ℕ) → InOrder lines → All (λ l. l.at ≤ t) lines → typed (events_through lines t) ≡ text_of_lines lines
 all_typed lines t o e =
     typed_lines [] lines 0 t (All-nil (λ (l : ScriptLine). l.at ≤ 0)) (All-weaker (λ l. l.at ≤ t) (λ l. 0 ≤ l.at) (λ l h. omega arith) lines e) o e (omega arith)
     (ap typed (none_before []))
@@ -78,5 +78,5 @@ lawful_sent conf lines t k a l = lawful conf (events_through lines t) k (script_
 pub closed_sent : (conf : SendConf) (lines : List ScriptLine) (t : ℕ) → IsConf conf → AreLines lines → t < 2 ^ 31 → IsEnd conf lines t → Closed conf.gens (history_sent conf (events_through lines t))
 closed_sent conf lines t k a l e = end_closed conf (events_through lines t) k (script_through lines t a l) e.all_sent
 
-pub texts_sent : (conf : SendConf) (lines : List ScriptLine) (t : ℕ) → AreLines lines → IsEnd conf lines t → primaries (history_sent conf (events_through lines t)) ≡ texts lines
+pub texts_sent : (conf : SendConf) (lines : List ScriptLine) (t : ℕ) → AreLines lines → IsEnd conf lines t → primaries (history_sent conf (events_through lines t)) ≡ text_of_lines lines
 texts_sent conf lines t a e = sym (end_sent conf (events_through lines t) e.all_sent) ∙ all_typed lines t a.ordered e.all_typed

@@ -12,7 +12,7 @@ ghost use Rattle.stream_spec.specs.Own.{Own, Closed, own_packet};
 ghost use Rattle.text_sender.specs.declared.senders.SendConf.{SendConf};
 ghost use Rattle.text_sender.specs.Confs.{IsConf};
 ghost use Rattle.text_sender.specs.Standing.{history_sent};
-ghost use Rattle.command_spec.specs.Scripts.{AreLines, events_through, texts};
+ghost use Rattle.command_spec.specs.Scripts.{AreLines, events_through, text_of_lines};
 ghost use Rattle.rtt_send.specs.Scripts.{IsEnd, full_line, first_end, records_sent, recording_sent};
 ghost use Rattle.rtt_send.specs.Recordings.{IsReadable};
 
@@ -45,7 +45,7 @@ pub fn sent_history()
     ensures closed { (conf : SendConf) (lines : List ScriptLine) (t : ℕ) → IsConf conf → AreLines lines → t < 2 ^ 31 → IsEnd conf lines t
         → Closed conf.gens (history_sent conf (events_through lines t)) }
     ensures texts { (conf : SendConf) (lines : List ScriptLine) (t : ℕ) → AreLines lines → IsEnd conf lines t
-        → primaries (history_sent conf (events_through lines t)) ≡ texts lines }
+        → primaries (history_sent conf (events_through lines t)) ≡ text_of_lines lines }
 {}
 
 /// A recording that is neither too large nor too long is read back as its records. Their packets are read as the
@@ -70,5 +70,5 @@ pub fn sent_arrives()
 /// What is heard of such a recording, however long a gap is waited for, is the text of all lines.
 pub fn sent_is_heard()
     ensures { (conf : SendConf) (lines : List ScriptLine) (t wait : ℕ) → IsReadable conf lines t → IsEnd conf lines t
-        → concat (heard wait (arrivals (recording_sent conf lines t) conf.ssrc conf.pts) conf.ssrc) ≡ texts lines }
+        → concat (heard wait (arrivals (recording_sent conf lines t) conf.ssrc conf.pts) conf.ssrc) ≡ text_of_lines lines }
 {}

@@ -14,7 +14,7 @@ use Rattle.std.proofs.lemmas.List.{length-map}
 use Rattle.wire_spec.specs.Packets.{redundant, primary_text, back}
 use Rattle.stream_spec.specs.Lists.{In}
 use Rattle.stream_spec.specs.Numbering.{Numbered, has_number, RisingNumbers}
-use Rattle.stream_spec.specs.Hearing.{missing, missing_between, missing_before, is_new, older_texts, text_list, marker, oldest_offset, first_of, before_it, adds_marker, adds_texts, heard_by}
+use Rattle.stream_spec.specs.Hearing.{missing, missing_between, missing_before, is_new, older_texts, text_list, marker, oldest_offset, first_number_of, before_it, adds_marker, adds_texts, heard_by}
 use Rattle.stream_spec.proofs.Lists.{in_append, in_right}
 use Rattle.stream_spec.proofs.Taking.{heard_by_more, missing_after, last_is, none_is, last_stays, last_now}
 use Rattle.source_receiver.specs.declared.receivers.Seen.{Seen}
@@ -99,10 +99,10 @@ texts_same : (us : List Numbered) (time number : ℕ) (p : TextPacket) (seen : O
 texts_same us time number p seen k = ap (λ ts. ts ++ text_list (primary_text p.blocks)) (older_same us (used_packet time number p) seen p.stamp (redundant p.blocks) k)
 
 missing_same : (us : List Numbered) (b : Numbered) (seen : Option Seen) (missing : ℕ) → RisingNumbers us → ((u : Numbered) → In u us → u.number < b.number) → IsCount (us ++ b ∷ []) (Some b.number) missing
-    → IsSeen us b.packet.source seen → missing - missing_then seen ≡ missing_before (has_number us) (first_of us b) (before_it us b) b
-missing_same us b None m r f c k = none us r f c ∙ ap (λ (o : Option Numbered). missing_before (has_number us) (first_of us b) o b) (sym (none_is b.packet.source us k))
+    → IsSeen us b.packet.source seen → missing - missing_then seen ≡ missing_before (has_number us) (first_number_of us b) (before_it us b) b
+missing_same us b None m r f c k = none us r f c ∙ ap (λ (o : Option Numbered). missing_before (has_number us) (first_number_of us b) o b) (sym (none_is b.packet.source us k))
   where
-    none : (us : List Numbered) → RisingNumbers us → ((u : Numbered) → In u us → u.number < b.number) → IsCount (us ++ b ∷ []) (Some b.number) m → m - 0 ≡ missing_between (has_number us) (first_of us b) b.number
+    none : (us : List Numbered) → RisingNumbers us → ((u : Numbered) → In u us → u.number < b.number) → IsCount (us ++ b ∷ []) (Some b.number) m → m - 0 ≡ missing_between (has_number us) (first_number_of us b) b.number
     none [] r f c =
         let n : b.number ≡ c.0 = cc c.1 in
         let z : b.number - (b.number + 1) ≡ 0 = omega arith in
@@ -112,7 +112,7 @@ missing_same us b None m r f c k = none us r f c ∙ ap (λ (o : Option Numbered
         let a = missing_after [] u us b.number r f in
         omega (arith, c.2, n, a, length-append us (b ∷ []))
 missing_same us b (Some x) m r f c k =
-    behind ∙ ap (λ (o : Option Numbered). missing_before (has_number us) (first_of us b) o b) (sym (last_is b.packet.source us k.0 k.1))
+    behind ∙ ap (λ (o : Option Numbered). missing_before (has_number us) (first_number_of us b) o b) (sym (last_is b.packet.source us k.0 k.1))
   where
     first_is : (front : List Numbered) (a : Numbered) (back : List Numbered) (n : ℕ) → first_from n (front ++ a ∷ back) ≡ first_from a.number front
     first_is [] a back n = refl

@@ -5,7 +5,7 @@ use Rattle.std.proofs.lemmas.Bool.{cases_Bool, cases_lt, true≢false, cases_ord
 use Rattle.wire_spec.specs.Packets.{has_text}
 use Rattle.stream_spec.specs.Hearing.{missing, missing_between}
 use Rattle.stream_spec.specs.Lists.{In}
-use Rattle.stream_spec.specs.History.{Entry, Placed, History, placed, placed_after, sent_by, placed_at, low, Lawful, ReachFits}
+use Rattle.stream_spec.specs.History.{Entry, Placed, History, placed, placed_after, entry_count, placed_at, low, Lawful, ReachFits}
 use Rattle.stream_spec.specs.Kept.{Item, Mark, Block, blocks_of, items_of, has_mark, lost_before, is_linked_after, kept_over, kept, is_above, is_entry_of, Rising, ArePlaces, IsCarrier, blocks_in, has_place, least_place, NoGap, is_text_of, Parts}
 use Rattle.stream_spec.proofs.Lists.{in_append, in_filter, filter_in, in_when}
 use Rattle.stream_spec.proofs.Places.{index_rises, place_rises, same_index, same_place_after}
@@ -29,22 +29,22 @@ pub missing_here : (present : ℕ → Bool) (lo n : ℕ) → present (lo + n) �
 missing_here present lo n h = rw h
 
 -- ---- entries of each index
-index_below_after : (before es : List Entry) (y : Placed) (j : ℕ) → In y (placed_after before es) → sent_by y.source before ≤ j → j < y.index
+index_below_after : (before es : List Entry) (y : Placed) (j : ℕ) → In y (placed_after before es) → entry_count y.source before ≤ j → j < y.index
     → (z : Placed) × In z (placed_after before es) × (z.source ≡ y.source) × (z.index ≡ j)
 index_below_after before [] y j i l u = absurd i
 index_below_after before (e ∷ es) y j (inl p) l u =
-    let same : sent_by y.source before ≡ sent_by e.source before = ap (λ (z : Placed). sent_by z.source before) p in
+    let same : entry_count y.source before ≡ entry_count e.source before = ap (λ (z : Placed). entry_count z.source before) p in
     absurd (omega (arith, same, ap (λ (z : Placed). z.index) p))
-index_below_after before (e ∷ es) y j (inr i) l u = go (cases_Bool (e.source == y.source)) (cases_lt (sent_by y.source before) j) (index_below_after (e ∷ before) es y j i)
+index_below_after before (e ∷ es) y j (inr i) l u = go (cases_Bool (e.source == y.source)) (cases_lt (entry_count y.source before) j) (index_below_after (e ∷ before) es y j i)
   where
-    go : ((e.source == y.source) ≡ true) ⊎ ((e.source == y.source) ≡ false) → (sent_by y.source before < j) ⊎ (j ≤ sent_by y.source before)
-        → (sent_by y.source (e ∷ before) ≤ j → j < y.index → (z : Placed) × In z (placed_after (e ∷ before) es) × (z.source ≡ y.source) × (z.index ≡ j))
+    go : ((e.source == y.source) ≡ true) ⊎ ((e.source == y.source) ≡ false) → (entry_count y.source before < j) ⊎ (j ≤ entry_count y.source before)
+        → (entry_count y.source (e ∷ before) ≤ j → j < y.index → (z : Placed) × In z (placed_after (e ∷ before) es) × (z.source ≡ y.source) × (z.index ≡ j))
         → (z : Placed) × In z (placed_after before (e ∷ es)) × (z.source ≡ y.source) × (z.index ≡ j)
-    go (inl t) (inl lt) f = let c : sent_by y.source (e ∷ before) ≤ j = rw t (omega arith) in let r = f c u in (r.0, inr r.1, r.2, r.3)
-    go (inl t) (inr ge) f = let s = eqb-true e.source y.source t in let e2 : sent_by e.source before ≡ sent_by y.source before = ap (λ n. sent_by n before) s in (placed_at before e, inl refl, s, omega (arith, e2))
-    go (inr t) q f = let c : sent_by y.source (e ∷ before) ≤ j = rw t (omega arith) in let r = f c u in (r.0, inr r.1, r.2, r.3)
+    go (inl t) (inl lt) f = let c : entry_count y.source (e ∷ before) ≤ j = rw t (omega arith) in let r = f c u in (r.0, inr r.1, r.2, r.3)
+    go (inl t) (inr ge) f = let s = eqb-true e.source y.source t in let e2 : entry_count e.source before ≡ entry_count y.source before = ap (λ n. entry_count n before) s in (placed_at before e, inl refl, s, omega (arith, e2))
+    go (inr t) q f = let c : entry_count y.source (e ∷ before) ≤ j = rw t (omega arith) in let r = f c u in (r.0, inr r.1, r.2, r.3)
 
-nothing_sent : (s : ℕ) → sent_by s [] ≡ 0
+nothing_sent : (s : ℕ) → entry_count s [] ≡ 0
 nothing_sent s = refl
 
 pub index_below : (h : History) (y : Placed) (j : ℕ) → In y (placed h) → j < y.index → (z : Placed) × In z (placed h) × (z.source ≡ y.source) × (z.index ≡ j)

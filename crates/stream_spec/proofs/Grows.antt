@@ -5,7 +5,7 @@ use Rattle.std.specs.List.{concat}
 use Rattle.std.proofs.lemmas.Bool.{cases_Bool, cases_lt, eqb-true, eq-eqb, le-ltb, lt-ltb, le-leb, lt-leb, and_left, and_right}
 use Rattle.wire_spec.specs.Packets.{has_text}
 use Rattle.stream_spec.specs.Lists.{In}
-use Rattle.stream_spec.specs.History.{Lawful, ReachFits, octets, texts_of, History, Entry, Placed, sent_by, placed_at, placed_after, placed, low, before, window}
+use Rattle.stream_spec.specs.History.{Lawful, ReachFits, octets, texts_of, History, Entry, Placed, entry_count, placed_at, placed_after, placed, low, before, window}
 use Rattle.stream_spec.specs.Kept.{is_entry_of}
 use Rattle.stream_spec.proofs.Lists.{in_append, filter_in}
 use Rattle.stream_spec.proofs.Places.{one_more_own}
@@ -14,7 +14,7 @@ abbrev pub grown : History → Entry → History
 grown h e = record h { entries = h.entries ++ e ∷ [] }
 
 abbrev pub last : History → Entry → Placed
-last h e = record { place = length h.entries; index = sent_by e.source h.entries; source = e.source; media = e.media; text = e.text; gens = e.gens; reach = e.reach }
+last h e = record { place = length h.entries; index = entry_count e.source h.entries; source = e.source; media = e.media; text = e.text; gens = e.gens; reach = e.reach }
 
 abbrev pub onto : List Entry → List Entry → List Entry
 onto before [] = before
@@ -24,7 +24,7 @@ length_onto : (before es : List Entry) → length (onto before es) ≡ length be
 length_onto before [] = omega arith
 length_onto before (e ∷ es) = let r = length_onto (e ∷ before) es in omega arith
 
-sent_onto : (s : ℕ) (before es : List Entry) → sent_by s (onto before es) ≡ sent_by s before + sent_by s es
+sent_onto : (s : ℕ) (before es : List Entry) → entry_count s (onto before es) ≡ entry_count s before + entry_count s es
 sent_onto s before [] = omega arith
 sent_onto s before (e ∷ es) = let r = sent_onto s (e ∷ before) es in omega arith
 
@@ -35,15 +35,15 @@ snoc_after before (f ∷ es) e = ap (λ xs. placed_at before f ∷ xs) (snoc_aft
 pub placed_grown : (h : History) (e : Entry) → placed (grown h e) ≡ placed h ++ last h e ∷ []
 placed_grown h e =
     let l : length (onto [] h.entries) ≡ length h.entries = (let r = length_onto [] h.entries in omega arith) in
-    let n : sent_by e.source (onto [] h.entries) ≡ sent_by e.source h.entries = (let r = sent_onto e.source [] h.entries in omega arith) in
+    let n : entry_count e.source (onto [] h.entries) ≡ entry_count e.source h.entries = (let r = sent_onto e.source [] h.entries in omega arith) in
     snoc_after [] h.entries e ∙ rw (l, n) refl
 
-pub index_under : (before es : List Entry) (x : Placed) → In x (placed_after before es) → x.index < sent_by x.source before + sent_by x.source es
+pub index_under : (before es : List Entry) (x : Placed) → In x (placed_after before es) → x.index < entry_count x.source before + entry_count x.source es
 index_under before [] x i = absurd i
 index_under before (e ∷ es) x (inl p) =
     let s = ap (λ (z : Placed). z.source) p in
     let n = ap (λ (z : Placed). z.index) p in
-    let same : sent_by e.source before ≡ sent_by x.source before = ap (λ k. sent_by k before) (sym s) in
+    let same : entry_count e.source before ≡ entry_count x.source before = ap (λ k. entry_count k before) (sym s) in
     let own = one_more_own x.source e es (sym s) in omega arith
 index_under before (e ∷ es) x (inr i) = let r = index_under (e ∷ before) es x i in omega arith
 
@@ -58,8 +58,8 @@ before_grown h e m x i = rw (placed_grown h e) (filter_snoc (λ (y : Placed). (y
     outside = elim (cases_Bool (e.source == x.source)) [
       | inl t ↦
           let u = index_under [] h.entries x i in
-          let same : sent_by e.source h.entries ≡ sent_by x.source h.entries = ap (λ n. sent_by n h.entries) (eqb-true e.source x.source t) in
-          and_right (e.source == x.source) (nat_le (x.index - m) (last h e).index && nat_lt (last h e).index x.index) (and_right (nat_le (x.index - m) (last h e).index) (nat_lt (last h e).index x.index) (le-ltb (sent_by e.source h.entries) x.index (omega arith)))
+          let same : entry_count e.source h.entries ≡ entry_count x.source h.entries = ap (λ n. entry_count n h.entries) (eqb-true e.source x.source t) in
+          and_right (e.source == x.source) (nat_le (x.index - m) (last h e).index && nat_lt (last h e).index x.index) (and_right (nat_le (x.index - m) (last h e).index) (nat_lt (last h e).index x.index) (le-ltb (entry_count e.source h.entries) x.index (omega arith)))
       | inr f ↦ and_left (e.source == x.source) (nat_le (x.index - m) (last h e).index && nat_lt (last h e).index x.index) f
     ]
 
@@ -74,14 +74,14 @@ abbrev pub Consecutive : ℕ → List Placed → Type 0
 Consecutive k [] = Unit {0}
 Consecutive k (x ∷ xs) = (x.index ≡ k) × Consecutive (suc k) xs
 
-own_consecutive : (s : ℕ) (before es : List Entry) → Consecutive (sent_by s before) (filter (is_entry_of s) (placed_after before es))
+own_consecutive : (s : ℕ) (before es : List Entry) → Consecutive (entry_count s before) (filter (is_entry_of s) (placed_after before es))
 own_consecutive s before [] = tt
 own_consecutive s before (e ∷ es) = go (e.source == s) refl (own_consecutive s (e ∷ before) es)
   where
-    go : (b : Bool) → (e.source == s) ≡ b → Consecutive (sent_by s (e ∷ before)) (filter (is_entry_of s) (placed_after (e ∷ before) es))
-        → Consecutive (sent_by s before) (cond b (placed_at before e ∷ filter (is_entry_of s) (placed_after (e ∷ before) es)) (filter (is_entry_of s) (placed_after (e ∷ before) es)))
-    go true t c = (ap (λ n. sent_by n before) (eqb-true e.source s t), let k : sent_by s (e ∷ before) ≡ suc (sent_by s before) = rw t (omega arith) in subst (λ (n : ℕ). Consecutive n (filter (is_entry_of s) (placed_after (e ∷ before) es))) k c)
-    go false f c = let k : sent_by s (e ∷ before) ≡ sent_by s before = rw f (omega arith) in subst (λ (n : ℕ). Consecutive n (filter (is_entry_of s) (placed_after (e ∷ before) es))) k c
+    go : (b : Bool) → (e.source == s) ≡ b → Consecutive (entry_count s (e ∷ before)) (filter (is_entry_of s) (placed_after (e ∷ before) es))
+        → Consecutive (entry_count s before) (cond b (placed_at before e ∷ filter (is_entry_of s) (placed_after (e ∷ before) es)) (filter (is_entry_of s) (placed_after (e ∷ before) es)))
+    go true t c = (ap (λ n. entry_count n before) (eqb-true e.source s t), let k : entry_count s (e ∷ before) ≡ suc (entry_count s before) = rw t (omega arith) in subst (λ (n : ℕ). Consecutive n (filter (is_entry_of s) (placed_after (e ∷ before) es))) k c)
+    go false f c = let k : entry_count s (e ∷ before) ≡ entry_count s before = rw f (omega arith) in subst (λ (n : ℕ). Consecutive n (filter (is_entry_of s) (placed_after (e ∷ before) es))) k c
 
 from_index : (k lo : ℕ) (xs : List Placed) → Consecutive k xs → filter (λ (y : Placed). nat_le lo y.index) xs ≡ drop (lo - k) xs
 from_index k lo [] c = empty (lo - k)
@@ -119,10 +119,10 @@ late_in h x lo i l =
     (filter_in (λ (y : Placed). nat_le lo y.index) x (own h x.source) (filter_in (is_entry_of x.source) x (placed h) i (eq-eqb x.source x.source refl)) (le-leb lo x.index l))
 
 -- the m entries before the last one
-pub before_last : (h : History) (e : Entry) (m : ℕ) → before (grown h e) m (last h e) ≡ drop (sent_by e.source h.entries - m) (own h e.source)
+pub before_last : (h : History) (e : Entry) (m : ℕ) → before (grown h e) m (last h e) ≡ drop (entry_count e.source h.entries - m) (own h e.source)
 before_last h e m =
     let s = e.source in
-    let n = sent_by s h.entries in
+    let n = entry_count s h.entries in
     let lo = n - m in
     let zero_off : lo - 0 ≡ lo = omega arith in
     rw (placed_grown h e)
@@ -131,22 +131,22 @@ before_last h e m =
     ∙ (filter_same (λ (y : Placed). (y.source == s) && (nat_le lo y.index && nat_lt y.index n)) (λ (y : Placed). (y.source == s) && nat_le lo y.index) (placed h) within
     ∙ (sym (filter_twice (is_entry_of s) (λ (y : Placed). nat_le lo y.index) (placed h)) ∙ (from_index 0 lo (own h s) (own_consecutive s [] h.entries) ∙ ap (λ k. drop k (own h s)) zero_off))))
   where
-    within : (y : Placed) → In y (placed h) → ((y.source == e.source) && (nat_le (sent_by e.source h.entries - m) y.index && nat_lt y.index (sent_by e.source h.entries))) ≡ ((y.source == e.source) && nat_le (sent_by e.source h.entries - m) y.index)
+    within : (y : Placed) → In y (placed h) → ((y.source == e.source) && (nat_le (entry_count e.source h.entries - m) y.index && nat_lt y.index (entry_count e.source h.entries))) ≡ ((y.source == e.source) && nat_le (entry_count e.source h.entries - m) y.index)
     within y i = go (y.source == e.source) refl
       where
         both : (b : Bool) → (b && true) ≡ b
         both true = refl
         both false = refl
 
-        go : (b : Bool) → (y.source == e.source) ≡ b → (b && (nat_le (sent_by e.source h.entries - m) y.index && nat_lt y.index (sent_by e.source h.entries))) ≡ (b && nat_le (sent_by e.source h.entries - m) y.index)
+        go : (b : Bool) → (y.source == e.source) ≡ b → (b && (nat_le (entry_count e.source h.entries - m) y.index && nat_lt y.index (entry_count e.source h.entries))) ≡ (b && nat_le (entry_count e.source h.entries - m) y.index)
         go false f = refl
         go true t =
             let u = index_under [] h.entries y i in
-            let same : sent_by y.source h.entries ≡ sent_by e.source h.entries = ap (λ n. sent_by n h.entries) (eqb-true y.source e.source t) in
-            rw (lt-ltb y.index (sent_by e.source h.entries) (omega arith)) (both (nat_le (sent_by e.source h.entries - m) y.index))
+            let same : entry_count y.source h.entries ≡ entry_count e.source h.entries = ap (λ n. entry_count n h.entries) (eqb-true y.source e.source t) in
+            rw (lt-ltb y.index (entry_count e.source h.entries) (omega arith)) (both (nat_le (entry_count e.source h.entries - m) y.index))
 
 -- the entries that the last one repeats
-pub window_last : (h : History) (e : Entry) → window (grown h e) (last h e) ≡ drop (sent_by e.source h.entries - e.gens) (own h e.source)
+pub window_last : (h : History) (e : Entry) → window (grown h e) (last h e) ≡ drop (entry_count e.source h.entries - e.gens) (own h e.source)
 window_last h e = before_last h e e.gens
 
 -- ---- a lawful history stays lawful
@@ -216,7 +216,7 @@ lawful_grown h e law f = record {
     near x y (inl i) (inr q) s l r t = omega (arith, media y q, f.near x i (s ∙ ap (λ (z : Placed). z.source) q) (subst (λ (z : Placed). low z ≤ x.index) q r) t)
     near x y (inr q) (inl j) s l r t =
         let u = index_under [] h.entries y j in
-        let same : sent_by y.source h.entries ≡ sent_by e.source h.entries = ap (λ n. sent_by n h.entries) (sym s ∙ ap (λ (z : Placed). z.source) q) in
-        let empty : sent_by y.source [] ≡ 0 = refl in
+        let same : entry_count y.source h.entries ≡ entry_count e.source h.entries = ap (λ n. entry_count n h.entries) (sym s ∙ ap (λ (z : Placed). z.source) q) in
+        let empty : entry_count y.source [] ≡ 0 = refl in
         absurd (omega (arith, ap (λ (z : Placed). z.index) q))
     near x y (inr q) (inr w) s l r t = absurd (omega (arith, ap (λ (z : Placed). z.index) q, ap (λ (z : Placed). z.index) w))

@@ -6,7 +6,7 @@ use Rattle.std.proofs.lemmas.Bool.{cases_lt, cases_eq, cases_order, true≢false
 use Rattle.std.proofs.lemmas.List.{length-map}
 use Rattle.wire_spec.specs.Packets.{has_text}
 use Rattle.stream_spec.specs.Lists.{In}
-use Rattle.stream_spec.specs.History.{History, Entry, Placed, sent_by, placed_at, placed_after, placed, low, window, nones, slots, Repeats, IsPacket, Lawful, named, entry_of, IsNear, Come}
+use Rattle.stream_spec.specs.History.{History, Entry, Placed, entry_count, placed_at, placed_after, placed, low, window, nones, slots, Repeats, IsPacket, Lawful, named, entry_of, IsNear, Come}
 use Rattle.stream_spec.specs.Own.{Own, block_of, own_packet, come_from, NearEach}
 use Rattle.stream_spec.proofs.Places.{place_rises, same_place_after}
 use Rattle.stream_spec.proofs.Blocks.{in_window}
@@ -14,10 +14,10 @@ use Rattle.stream_spec.proofs.Blocks.{in_window}
 abbrev is_within : ℕ → ℕ → ℕ → Placed → Bool
 is_within s lo hi y = (y.source == s) && (nat_le lo y.index && nat_lt y.index hi)
 
-own_more : (s : ℕ) (e : Entry) (before : List Entry) → e.source ≡ s → sent_by s (e ∷ before) ≡ suc (sent_by s before)
+own_more : (s : ℕ) (e : Entry) (before : List Entry) → e.source ≡ s → entry_count s (e ∷ before) ≡ suc (entry_count s before)
 own_more s e before q = rw (eq-eqb e.source s q) (omega arith)
 
-other_more : (s : ℕ) (e : Entry) (before : List Entry) → (e.source ≡ s → ⊥) → sent_by s (e ∷ before) ≡ sent_by s before
+other_more : (s : ℕ) (e : Entry) (before : List Entry) → (e.source ≡ s → ⊥) → entry_count s (e ∷ before) ≡ entry_count s before
 other_more s e before q = rw (ne_eqb e.source s q) (omega arith)
 
 -- what the filter does with the first entry
@@ -31,49 +31,49 @@ keeps s lo hi e before es f = ap (λ b. cond b (placed_at before e ∷ filter (i
 
 -- the place of an entry against the two bounds
 within_other : (s lo hi : ℕ) (e : Entry) (before : List Entry) → (e.source ≡ s → ⊥) → is_within s lo hi (placed_at before e) ≡ false
-within_other s lo hi e before q = and_left (e.source == s) (nat_le lo (sent_by e.source before) && nat_lt (sent_by e.source before) hi) (ne_eqb e.source s q)
+within_other s lo hi e before q = and_left (e.source == s) (nat_le lo (entry_count e.source before) && nat_lt (entry_count e.source before) hi) (ne_eqb e.source s q)
 
-within_under : (s lo hi : ℕ) (e : Entry) (before : List Entry) → e.source ≡ s → sent_by s before < lo → is_within s lo hi (placed_at before e) ≡ false
+within_under : (s lo hi : ℕ) (e : Entry) (before : List Entry) → e.source ≡ s → entry_count s before < lo → is_within s lo hi (placed_at before e) ≡ false
 within_under s lo hi e before q l =
-    let m : sent_by e.source before ≡ sent_by s before = ap (λ (n : ℕ). sent_by n before) q in
-    and_right (e.source == s) (nat_le lo (sent_by e.source before) && nat_lt (sent_by e.source before) hi)
-    (and_left (nat_le lo (sent_by e.source before)) (nat_lt (sent_by e.source before) hi) (lt-leb lo (sent_by e.source before) (omega arith)))
+    let m : entry_count e.source before ≡ entry_count s before = ap (λ (n : ℕ). entry_count n before) q in
+    and_right (e.source == s) (nat_le lo (entry_count e.source before) && nat_lt (entry_count e.source before) hi)
+    (and_left (nat_le lo (entry_count e.source before)) (nat_lt (entry_count e.source before) hi) (lt-leb lo (entry_count e.source before) (omega arith)))
 
-within_over : (s lo hi : ℕ) (e : Entry) (before : List Entry) → e.source ≡ s → hi ≤ sent_by s before → is_within s lo hi (placed_at before e) ≡ false
+within_over : (s lo hi : ℕ) (e : Entry) (before : List Entry) → e.source ≡ s → hi ≤ entry_count s before → is_within s lo hi (placed_at before e) ≡ false
 within_over s lo hi e before q l =
-    let m : sent_by e.source before ≡ sent_by s before = ap (λ (n : ℕ). sent_by n before) q in
-    and_right (e.source == s) (nat_le lo (sent_by e.source before) && nat_lt (sent_by e.source before) hi)
-    (and_right (nat_le lo (sent_by e.source before)) (nat_lt (sent_by e.source before) hi) (le-ltb (sent_by e.source before) hi (omega arith)))
+    let m : entry_count e.source before ≡ entry_count s before = ap (λ (n : ℕ). entry_count n before) q in
+    and_right (e.source == s) (nat_le lo (entry_count e.source before) && nat_lt (entry_count e.source before) hi)
+    (and_right (nat_le lo (entry_count e.source before)) (nat_lt (entry_count e.source before) hi) (le-ltb (entry_count e.source before) hi (omega arith)))
 
-within_in : (s lo hi : ℕ) (e : Entry) (before : List Entry) → e.source ≡ s → lo ≤ sent_by s before → sent_by s before < hi → is_within s lo hi (placed_at before e) ≡ true
+within_in : (s lo hi : ℕ) (e : Entry) (before : List Entry) → e.source ≡ s → lo ≤ entry_count s before → entry_count s before < hi → is_within s lo hi (placed_at before e) ≡ true
 within_in s lo hi e before q a b =
-    let m : sent_by e.source before ≡ sent_by s before = ap (λ (n : ℕ). sent_by n before) q in
-    and_from (e.source == s) (nat_le lo (sent_by e.source before) && nat_lt (sent_by e.source before) hi) (eq-eqb e.source s q)
-    (and_from (nat_le lo (sent_by e.source before)) (nat_lt (sent_by e.source before) hi) (le-leb lo (sent_by e.source before) (omega arith)) (lt-ltb (sent_by e.source before) hi (omega arith)))
+    let m : entry_count e.source before ≡ entry_count s before = ap (λ (n : ℕ). entry_count n before) q in
+    and_from (e.source == s) (nat_le lo (entry_count e.source before) && nat_lt (entry_count e.source before) hi) (eq-eqb e.source s q)
+    (and_from (nat_le lo (entry_count e.source before)) (nat_lt (entry_count e.source before) hi) (le-leb lo (entry_count e.source before) (omega arith)) (lt-ltb (entry_count e.source before) hi (omega arith)))
 
 -- none from hi on
-count_over : (s lo hi : ℕ) (before es : List Entry) → hi ≤ sent_by s before → length (filter (is_within s lo hi) (placed_after before es)) ≡ 0
+count_over : (s lo hi : ℕ) (before es : List Entry) → hi ≤ entry_count s before → length (filter (is_within s lo hi) (placed_after before es)) ≡ 0
 count_over s lo hi before [] l = refl
 count_over s lo hi before (e ∷ es) l = elim (cases_eq e.source s) [
   | inl q ↦ ap length (skips s lo hi e before es (within_over s lo hi e before q l)) ∙ count_over s lo hi (e ∷ before) es (omega (arith, own_more s e before q))
   | inr q ↦ ap length (skips s lo hi e before es (within_other s lo hi e before q)) ∙ count_over s lo hi (e ∷ before) es (omega (arith, other_more s e before q))
 ]
 
-count_in : (s lo hi : ℕ) (before es : List Entry) → lo ≤ sent_by s before → sent_by s before ≤ hi → hi ≤ sent_by s before + sent_by s es → length (filter (is_within s lo hi) (placed_after before es)) + sent_by s before ≡ hi
+count_in : (s lo hi : ℕ) (before es : List Entry) → lo ≤ entry_count s before → entry_count s before ≤ hi → hi ≤ entry_count s before + entry_count s es → length (filter (is_within s lo hi) (placed_after before es)) + entry_count s before ≡ hi
 count_in s lo hi before [] a b c = omega arith
 count_in s lo hi before (e ∷ es) a b c = elim (cases_eq e.source s) [
   | inr q ↦ let r = count_in s lo hi (e ∷ before) es (omega (arith, other_more s e before q)) (omega (arith, other_more s e before q)) (omega (arith, other_more s e before q, other_more s e es q)) in
       omega (arith, ap length (skips s lo hi e before es (within_other s lo hi e before q)), r, other_more s e before q)
-  | inl q ↦ elim (cases_lt (sent_by s before) hi) [
+  | inl q ↦ elim (cases_lt (entry_count s before) hi) [
     | inl lt ↦ let r = count_in s lo hi (e ∷ before) es (omega (arith, own_more s e before q)) (omega (arith, own_more s e before q)) (omega (arith, own_more s e before q, own_more s e es q)) in
         omega (arith, ap length (keeps s lo hi e before es (within_in s lo hi e before q a lt)), r, own_more s e before q)
     | inr ge ↦ let r = count_over s lo hi before (e ∷ es) ge in omega (arith, r)
   ]
 ]
 
-count_below_lo : (s lo hi : ℕ) (before es : List Entry) → sent_by s before ≤ lo → lo ≤ hi → hi ≤ sent_by s before + sent_by s es → length (filter (is_within s lo hi) (placed_after before es)) + lo ≡ hi
+count_below_lo : (s lo hi : ℕ) (before es : List Entry) → entry_count s before ≤ lo → lo ≤ hi → hi ≤ entry_count s before + entry_count s es → length (filter (is_within s lo hi) (placed_after before es)) + lo ≡ hi
 count_below_lo s lo hi before [] a b c = omega arith
-count_below_lo s lo hi before (e ∷ es) a b c = elim (cases_lt (sent_by s before) lo) [
+count_below_lo s lo hi before (e ∷ es) a b c = elim (cases_lt (entry_count s before) lo) [
   | inr ge ↦ let r = count_in s lo hi before (e ∷ es) ge (omega arith) c in omega (arith, r)
   | inl lt ↦ elim (cases_eq e.source s) [
     | inl q ↦ let r = count_below_lo s lo hi (e ∷ before) es (omega (arith, own_more s e before q)) b (omega (arith, own_more s e before q, own_more s e es q)) in
@@ -83,11 +83,11 @@ count_below_lo s lo hi before (e ∷ es) a b c = elim (cases_lt (sent_by s befor
   ]
 ]
 
-index_in : (before es : List Entry) (x : Placed) → In x (placed_after before es) → x.index < sent_by x.source before + sent_by x.source es
+index_in : (before es : List Entry) (x : Placed) → In x (placed_after before es) → x.index < entry_count x.source before + entry_count x.source es
 index_in before [] x i = absurd i
 index_in before (e ∷ es) x (inl p) =
     let s : e.source ≡ x.source = sym (ap (λ (z : Placed). z.source) p) in
-    let m : sent_by e.source before ≡ sent_by x.source before = ap (λ (n : ℕ). sent_by n before) s in
+    let m : entry_count e.source before ≡ entry_count x.source before = ap (λ (n : ℕ). entry_count n before) s in
     omega (arith, own_more x.source e es s, ap (λ (z : Placed). z.index) p, m)
 index_in before (e ∷ es) x (inr i) = elim (cases_eq e.source x.source) [
   | inl q ↦ omega (arith, index_in (e ∷ before) es x i, own_more x.source e es q, own_more x.source e before q)
@@ -98,7 +98,7 @@ length_nones : (n : ℕ) → length (nones n) ≡ n
 length_nones zero = refl
 length_nones (suc n) = ap suc (length_nones n)
 
-nothing_before : (s : ℕ) → sent_by s [] ≡ 0
+nothing_before : (s : ℕ) → entry_count s [] ≡ 0
 nothing_before s = refl
 
 window_length : (h : History) (x : Placed) → In x (placed h) → length (window h x) + low x ≡ x.index

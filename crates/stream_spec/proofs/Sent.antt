@@ -11,7 +11,7 @@ use Rattle.std.proofs.Math.Seq.{drop-append_seam, drop-length}
 use Rattle.wire_spec.specs.Packets.{has_text}
 use Rattle.stream_spec.specs.Lists.{In}
 use Rattle.stream_spec.specs.Hearing.{oldest_offset}
-use Rattle.stream_spec.specs.History.{History, Entry, Placed, sent_by, placed, low, before, window, nones, slots, Lawful, octets, texts_of}
+use Rattle.stream_spec.specs.History.{History, Entry, Placed, entry_count, placed, low, before, window, nones, slots, Lawful, octets, texts_of}
 use Rattle.stream_spec.specs.Kept.{is_entry_of}
 use Rattle.stream_spec.specs.Own.{Own, block_of, own_packet, Sent, Stream, sent_of, nth, repeat_of, repeats, has_text_in, entry_after, entries_sent, sent_history, packet_after, MaySend, Sendable}
 use Rattle.stream_spec.proofs.Lists.{in_left, in_right, in_append}
@@ -47,16 +47,16 @@ mirrors c s (e ∷ past) = subst (λ (ps : List Placed). Mirrors ps (sent_of s (
     go true m = (own (sent_history c past) s, the_last c past e, refl, record { text = refl; media = refl }, m)
     go false m = subst (λ (ps : List Placed). Mirrors ps (sent_of s past)) (sym (append-nil (own (sent_history c past) s))) m
 
-sent_append : (s : ℕ) (es : List Entry) (e : Entry) → sent_by s (es ++ e ∷ []) ≡ sent_by s es + (if e.source == s then 1 else 0)
+sent_append : (s : ℕ) (es : List Entry) (e : Entry) → entry_count s (es ++ e ∷ []) ≡ entry_count s es + (if e.source == s then 1 else 0)
 sent_append s [] e = omega arith
 sent_append s (f ∷ es) e = omega (arith, sent_append s es e)
 
-pub sent_count : (g s : ℕ) (past : List Sent) → sent_by s (entries_sent g past) ≡ length (sent_of s past)
+pub sent_count : (g s : ℕ) (past : List Sent) → entry_count s (entries_sent g past) ≡ length (sent_of s past)
 sent_count g s [] = refl
 sent_count g s (e ∷ past) = let a = sent_append s (entries_sent g past) (entry_after g past e) in go (e.source == s) a (sent_count g s past)
   where
-    go : (b : Bool) → sent_by s (entries_sent g past ++ entry_after g past e ∷ []) ≡ sent_by s (entries_sent g past) + (if b then 1 else 0) → sent_by s (entries_sent g past) ≡ length (sent_of s past)
-        → sent_by s (entries_sent g past ++ entry_after g past e ∷ []) ≡ length (cond b (e ∷ sent_of s past) (sent_of s past))
+    go : (b : Bool) → entry_count s (entries_sent g past ++ entry_after g past e ∷ []) ≡ entry_count s (entries_sent g past) + (if b then 1 else 0) → entry_count s (entries_sent g past) ≡ length (sent_of s past)
+        → entry_count s (entries_sent g past ++ entry_after g past e ∷ []) ≡ length (cond b (e ∷ sent_of s past) (sent_of s past))
     go true a r = omega arith
     go false a r = omega arith
 
@@ -298,14 +298,14 @@ may_follow c past e small law m = record {
     zs : List Sent
     zs = sent_of e.source past
 
-    under : (x : Placed) → In x (placed (sent_history c past)) → x.source ≡ e.source → x.index < sent_by e.source (entries_sent c.gens past)
+    under : (x : Placed) → In x (placed (sent_history c past)) → x.source ≡ e.source → x.index < entry_count e.source (entries_sent c.gens past)
     under x i s =
         let u = index_under [] (entries_sent c.gens past) x i in
-        let empty : sent_by x.source [] ≡ 0 = refl in
-        let same : sent_by x.source (entries_sent c.gens past) ≡ sent_by e.source (entries_sent c.gens past) = ap (λ n. sent_by n (entries_sent c.gens past)) s in
+        let empty : entry_count x.source [] ≡ 0 = refl in
+        let same : entry_count x.source (entries_sent c.gens past) ≡ entry_count e.source (entries_sent c.gens past) = ap (λ n. entry_count n (entries_sent c.gens past)) s in
         omega arith
 
-    window_has : (x : Placed) → In x (placed (sent_history c past)) → x.source ≡ e.source → low (the_last c past e) ≤ x.index → x.index < sent_by e.source (entries_sent c.gens past)
+    window_has : (x : Placed) → In x (placed (sent_history c past)) → x.source ≡ e.source → low (the_last c past e) ≤ x.index → x.index < entry_count e.source (entries_sent c.gens past)
         → In x (window (sent_history c (e ∷ past)) (the_last c past e))
     window_has x i s l u = window_in (sent_history c (e ∷ past)) (the_last c past e) x
         (subst (λ (xs : List Placed). In x xs) (sym (placed_grown (sent_history c past) (entry_after c.gens past e))) (in_left x (placed (sent_history c past)) (the_last c past e ∷ []) i)) s l u

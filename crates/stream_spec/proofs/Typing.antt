@@ -7,7 +7,7 @@ use Rattle.std.proofs.lemmas.Bool.Decides.{nat_tests}
 use Rattle.wire_spec.specs.Packets.{has_text}
 use Rattle.stream_spec.specs.Lists.{In}
 use Rattle.stream_spec.specs.Own.{Sent, Stream, sent_of, has_text_in, Sendable}
-use Rattle.stream_spec.specs.Typed.{Event, Text, Ask, Turned, sents, carried, typed, is_end, last_end, front, has_passed, media_at, entry_at, longest_step, left, entries, waiting, due_at, last_ask, IsScript}
+use Rattle.stream_spec.specs.Typed.{Event, Text, Ask, Turned, sents, carried, typed, is_end, last_end, whole_front, has_passed, media_at, entry_at, longest_step, left, entries, waiting, due_at, last_ask, IsScript}
 
 -- ---- fronts
 dropped : (xs ys : List ℕ) → drop (length xs) (xs ++ ys) ≡ ys
@@ -45,16 +45,16 @@ ends octets (suc n) u l = go (is_end octets (suc n)) refl (ends octets n u (omeg
     go false e r = r
 
 pub record Fits (n : ℕ) (octets : List ℕ) : Type 0 where
-  pub front_is : IsUtf8 (front n octets)
-  pub rest_is : IsUtf8 (drop (length (front n octets)) octets)
-  pub short : length (front n octets) ≤ n
+  pub front_is : IsUtf8 (whole_front n octets)
+  pub rest_is : IsUtf8 (drop (length (whole_front n octets)) octets)
+  pub short : length (whole_front n octets) ≤ n
 
 pub front_fits : (n : ℕ) (octets : List ℕ) → IsUtf8 octets → Fits n octets
 front_fits n octets u =
     let k = min n (length octets) in
     let b = last_end_le octets k in
     let within : k ≤ length octets = omega arith in
-    let len : length (front n octets) ≡ last_end octets k = length_of_front (last_end octets k) octets (omega arith) in
+    let len : length (whole_front n octets) ≡ last_end octets k = length_of_front (last_end octets k) octets (omega arith) in
     let at_end = ends octets k u within in
     record {
       front_is = IsUtf8-take octets (last_end octets k) u at_end;
@@ -100,12 +100,12 @@ pub waits_more : (c : Stream) (i : ℕ) (past : List Event) (text : List ℕ) �
 waits_more c i past text = text_left (entries c i past) (typed past) text (waiting c i past) (typed_is c i past)
 
 pub waits_less : (c : Stream) (i : ℕ) (past : List Event) (t : ℕ) → due_at c i past t ≡ true
-    → waiting c i (Ask t ∷ past) ≡ drop (length (front 1023 (waiting c i past))) (waiting c i past)
+    → waiting c i (Ask t ∷ past) ≡ drop (length (whole_front 1023 (waiting c i past))) (waiting c i past)
 waits_less c i past t d =
     let es = entries c i past in
     let w = waiting c i past in
     ap (λ b. left (cond b (entry_at c es w t ∷ es) es) (typed past)) d
-    ∙ more_left es (entry_at c es w t) (typed past) w (drop (length (front 1023 w)) w) (typed_is c i past) (cut (last_end w (min 1023 (length w))) w)
+    ∙ more_left es (entry_at c es w t) (typed past) w (drop (length (whole_front 1023 w)) w) (typed_is c i past) (cut (last_end w (min 1023 (length w))) w)
 
 pub waits_same : (c : Stream) (i : ℕ) (past : List Event) (t : ℕ) → due_at c i past t ≡ false → waiting c i (Ask t ∷ past) ≡ waiting c i past
 waits_same c i past t d = ap (λ b. left (cond b (entry_at c (entries c i past) (waiting c i past) t ∷ entries c i past) (entries c i past)) (typed past)) d

@@ -76,9 +76,9 @@ heard wait a s = heard_of (first_number 0 (numbered a)) s (used wait (numbered a
 
 -- ---- packet by packet: what b adds behind used packets of lower numbers
 -- the first number
-abbrev pub first_of : List Numbered → Numbered → ℕ
-first_of [] b = b.number
-first_of (u ∷ us) b = u.number
+abbrev pub first_number_of : List Numbered → Numbered → ℕ
+first_number_of [] b = b.number
+first_number_of (u ∷ us) b = u.number
 
 abbrev pub last_of : Option Numbered → List Numbered → Option Numbered
 last_of prev [] = prev
@@ -98,7 +98,7 @@ pub record IsLastOf (s : ℕ) (us : List Numbered) (a : Numbered) : Type 0 where
 
 -- whether a marker stands before the texts of b
 abbrev pub adds_marker : List Numbered → Numbered → Bool
-adds_marker us b = is_marked (has_number us) (first_of us b) (before_it us b) b
+adds_marker us b = is_marked (has_number us) (first_number_of us b) (before_it us b) b
 
 -- the new texts of b
 abbrev pub adds_texts : List Numbered → Numbered → List (List ℕ)

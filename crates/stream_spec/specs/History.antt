@@ -34,12 +34,12 @@ pub record Placed : Type 0 where
   pub reach : ℕ
 
 -- how many entries are of the source
-abbrev pub sent_by : ℕ → List Entry → ℕ
-sent_by s [] = 0
-sent_by s (e ∷ es) = (if e.source == s then 1 else 0) + sent_by s es
+abbrev pub entry_count : ℕ → List Entry → ℕ
+entry_count s [] = 0
+entry_count s (e ∷ es) = (if e.source == s then 1 else 0) + entry_count s es
 
 abbrev pub placed_at : List Entry → Entry → Placed
-placed_at before e = record { place = length before; index = sent_by e.source before; source = e.source; media = e.media; text = e.text; gens = e.gens; reach = e.reach }
+placed_at before e = record { place = length before; index = entry_count e.source before; source = e.source; media = e.media; text = e.text; gens = e.gens; reach = e.reach }
 
 abbrev pub placed_after : List Entry → List Entry → List Placed
 placed_after before [] = []

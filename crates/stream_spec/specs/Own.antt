@@ -7,7 +7,7 @@ use Rattle.rtt_base.specs.Stamps.{ahead}
 use Rattle.wire_spec.specs.Packets.{Packet, Arrival, has_text}
 use Rattle.stream_spec.specs.Lists.{In}
 use Rattle.stream_spec.specs.Hearing.{oldest_offset}
-use Rattle.stream_spec.specs.History.{History, Entry, Placed, placed, before, slots, sent_by, IsNear}
+use Rattle.stream_spec.specs.History.{History, Entry, Placed, placed, before, slots, entry_count, IsNear}
 
 -- how far an empty block is said to lie before the packet
 abbrev pub offset_of : ℕ → ℕ → ℕ
@@ -52,7 +52,7 @@ pub record Own (g : ℕ) (h : History) : Type 0 where
 
 -- each text was repeated g times
 abbrev pub Closed : ℕ → History → Type 0
-Closed g h = (x : Placed) → In x (placed h) → has_text x.text ≡ true → x.index + g < sent_by x.source h.entries
+Closed g h = (x : Placed) → In x (placed h) → has_text x.text ≡ true → x.index + g < entry_count x.source h.entries
 
 -- The media time that a stamp tells, where the entry before it has the media time m: the first one from m on.
 abbrev pub media_of : ℕ → ℕ → ℕ → ℕ

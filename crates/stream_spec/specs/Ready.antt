@@ -28,13 +28,13 @@ abbrev pub end_of : ℕ → List Numbered → ℕ → ℕ
 end_of wait past n = least (moments wait past n)
 
 -- the latest end of the k numbers from low on
-abbrev pub last_end : ℕ → List Numbered → ℕ → ℕ → ℕ
-last_end wait past low zero = 0
-last_end wait past low (suc k) = max (last_end wait past low k) (end_of wait past (low + k))
+abbrev pub latest_end : ℕ → List Numbered → ℕ → ℕ → ℕ
+latest_end wait past low zero = 0
+latest_end wait past low (suc k) = max (latest_end wait past low k) (end_of wait past (low + k))
 
 -- b, which is used, is ready when it came and each number from the first up to it has ended
 abbrev pub ready_of : ℕ → List Numbered → Numbered → ℕ
-ready_of wait past b = max b.time (last_end wait past (first_number 0 past) (suc b.number - first_number 0 past))
+ready_of wait past b = max b.time (latest_end wait past (first_number 0 past) (suc b.number - first_number 0 past))
 
 -- A heard text: the number of the leg of which it is heard, the moment in milliseconds from which it may be mixed, and the
 -- octets.

@@ -41,8 +41,8 @@ last_end octets zero = zero
 last_end octets (suc n) = if is_end octets (suc n) then suc n else last_end octets n
 
 -- the longest front of whole characters that has at most n octets
-abbrev pub front : ℕ → List ℕ → List ℕ
-front n octets = take (last_end octets (min n (length octets))) octets
+abbrev pub whole_front : ℕ → List ℕ → List ℕ
+whole_front n octets = take (last_end octets (min n (length octets))) octets
 
 -- no entry is there, or the last one stands so long before t
 abbrev pub has_passed : ℕ → List Turned → ℕ → Bool
@@ -65,7 +65,7 @@ is_due c interval es waits t = (has_text waits || has_text_in c.gens (sents es))
 
 -- the entry at t, after these, where this text waits
 abbrev pub entry_at : Stream → List Turned → List ℕ → ℕ → Turned
-entry_at c es waits t = record { at = t; sent = record { source = c.ssrc; media = media_at c.gens es t; text = front 1023 waits } }
+entry_at c es waits t = record { at = t; sent = record { source = c.ssrc; media = media_at c.gens es t; text = whole_front 1023 waits } }
 
 -- what waits of all that was typed
 abbrev pub left : List Turned → List ℕ → List ℕ

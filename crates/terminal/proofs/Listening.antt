@@ -16,7 +16,7 @@ use Rattle.source_receiver.specs.Each.{IsHeardOf, marks_by}
 use Rattle.ear.specs.declared.confs.EarConf.{EarConf}
 use Rattle.ear.specs.declared.ears.Ear.{Ear}
 use Rattle.ear.specs.Texts.{AreTextArrivals}
-use Rattle.ear.specs.Hears.{told, all_given, arrivals_of, is_quiet, is_finished, ready_packets, Becomes, AllReady, Hears}
+use Rattle.ear.specs.Hears.{told, all_given, arrival_count, is_quiet, is_finished, ready_packets, Becomes, AllReady, Hears}
 use Rattle.ear.specs.Each.{HearsEach, GathersEach}
 use Rattle.ear.proofs.Given.{ready_stamped}
 use Rattle.ear.proofs.Giving.{told_given}
@@ -66,8 +66,8 @@ ended_text l k c sources story b = becomes_text l k (λ conf s. ended s) c sourc
 
 -- one more packet of the stream came, and what is settled was heard
 pub took : (l k m : Terminal) (at : ℕ) (octets : List ℕ) → Becomes l.ear k.ear (λ conf s. told s at (text_of octets (Some conf.ssrc) conf.pts)) → k.heard ≡ l.heard
-    → k.counts ≡ record l.counts { packets = l.counts.packets + 1 } → is_finished k.ear ≡ is_finished l.ear → arrivals_of k.ear ≤ arrivals_of l.ear + 1
-    → ((c : TermConf) (sources : List ℕ) (story : Story) → HearsTexts k c sources story → HearsTexts m c sources (all_given story)) → SameCounts k.counts m.counts → is_quiet m.ear ≡ true → arrivals_of m.ear ≡ arrivals_of k.ear → is_finished m.ear ≡ is_finished k.ear
+    → k.counts ≡ record l.counts { packets = l.counts.packets + 1 } → is_finished k.ear ≡ is_finished l.ear → arrival_count k.ear ≤ arrival_count l.ear + 1
+    → ((c : TermConf) (sources : List ℕ) (story : Story) → HearsTexts k c sources story → HearsTexts m c sources (all_given story)) → SameCounts k.counts m.counts → is_quiet m.ear ≡ true → arrival_count m.ear ≡ arrival_count k.ear → is_finished m.ear ≡ is_finished k.ear
     → (c : TermConf) (sources : List ℕ) (past : List Arrival) → Listens l c sources past → Listens m c sources (arrived at (text_of octets (Some c.ssrc) c.pts) past)
 took l k m at octets b t n f a g same quiet arrivals finished c sources past li =
     let x = text_of octets (Some c.ssrc) c.pts in
@@ -105,7 +105,7 @@ took_counts l k m octets p e n same c sources past li =
 -- what was refused is counted
 module _ (l k m : Terminal) (at : ℕ) (octets : List ℕ) (fault : TextFault) (b : Becomes l.ear k.ear (λ conf s. told s at (text_of octets (Some conf.ssrc) conf.pts))) (same : m.ear ≡ k.ear) (t : m.heard ≡ l.heard) (u : m.counts.used ≡ l.counts.used)
     (p : m.counts.packets ≡ l.counts.packets + 1) (q : m.counts.refused ≡ l.counts.refused + one_if (is_refused (Err fault))) (f : m.counts.foreign ≡ l.counts.foreign + one_if (is_foreign (Err fault))) where
-  pub refused : is_quiet k.ear ≡ true → is_finished k.ear ≡ is_finished l.ear → arrivals_of k.ear ≤ arrivals_of l.ear + 1
+  pub refused : is_quiet k.ear ≡ true → is_finished k.ear ≡ is_finished l.ear → arrival_count k.ear ≤ arrival_count l.ear + 1
       → (c : TermConf) (sources : List ℕ) (past : List Arrival) → Listens l c sources past → Listens m c sources (arrived at (text_of octets (Some c.ssrc) c.pts) past)
   refused quiet finished a c sources past li =
       let x = text_of octets (Some c.ssrc) c.pts in
@@ -113,7 +113,7 @@ module _ (l k m : Terminal) (at : ℕ) (octets : List ℕ) (fault : TextFault) (
         story = told li.story at x;
         hears = told_text l m at octets c sources li.story (subst (λ (e : Ear). Becomes l.ear e (λ conf s. told s at (text_of octets (Some conf.ssrc) conf.pts))) (sym same) b) t u li.hears;
         told = told_arrived li.story past at x li.told;
-        few = omega (arith, ap arrivals_of same, a, li.few, p);
+        few = omega (arith, ap arrival_count same, a, li.few, p);
         few_refused = omega (arith, p, q, one_at_most (is_refused (Err fault)), li.few_refused);
         few_foreign = omega (arith, p, f, one_at_most (is_foreign (Err fault)), li.few_foreign);
         quiet = ap is_quiet same ∙ quiet;

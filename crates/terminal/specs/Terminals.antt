@@ -11,7 +11,7 @@ use Rattle.gap_tracker.specs.Stories.{Story}
 use Rattle.source_receiver.specs.declared.source_texts.SourceText.{SourceText}
 use Rattle.source_receiver.specs.Each.{marks_by}
 use Rattle.ear.specs.declared.confs.EarConf.{EarConf}
-use Rattle.ear.specs.Hears.{IsToldOf, arrivals_of, is_quiet, is_finished}
+use Rattle.ear.specs.Hears.{IsToldOf, arrival_count, is_quiet, is_finished}
 use Rattle.ear.specs.Each.{HearsEach}
 use Rattle.text_spec.specs.declared.counts.Counts.{Counts}
 use Rattle.terminal.specs.declared.confs.TermConf.{TermConf}
@@ -49,7 +49,7 @@ pub record Listens (t : Terminal) (c : TermConf) (sources : List ℕ) (past : Li
   pub story : Story
   pub hears : HearsTexts t c sources story
   pub told : IsToldOf story past
-  pub few : arrivals_of t.ear ≤ t.counts.packets
+  pub few : arrival_count t.ear ≤ t.counts.packets
   pub few_refused : t.counts.refused ≤ t.counts.packets
   pub few_foreign : t.counts.foreign ≤ t.counts.packets
   pub quiet : is_quiet t.ear ≡ true

@@ -4,7 +4,7 @@ ghost use Rattle.wire_spec.specs.Packets.{Arrival};
 ghost use Rattle.wire_spec.specs.Text.{text_of};
 ghost use Rattle.wire_spec.specs.Dump.{arrived};
 ghost use Rattle.gap_tracker.specs.Stories.{Story};
-ghost use Rattle.ear.specs.Hears.{all_given, arrivals_of, is_clear, is_quiet, is_finished};
+ghost use Rattle.ear.specs.Hears.{all_given, arrival_count, is_clear, is_quiet, is_finished};
 ghost use Rattle.terminal.specs.declared.confs.TermConf.{TermConf};
 ghost use Rattle.terminal.specs.Terminals.{texts_of, counts_of, is_refused, is_foreign, one_if, IsEmpty, HearsTexts, IsHearingTexts, SameCounts, CountsAs, CountsRefused, Listens, IsListening, Heard};
 
@@ -65,11 +65,11 @@ impl Terminal {
     fn gather(&mut self) -> Result<(), NoMemory>
         requires stands { IsHearingTexts self.old }
         requires clear { is_clear self.old.ear ≡ Bool.true }
-        requires few { arrivals_of self.old.ear ≤ 2 ^ 40 }
+        requires few { arrival_count self.old.ear ≤ 2 ^ 40 }
         ensures gathers { OnOk result ((c : TermConf) (sources : List ℕ) (story : Story) → HearsTexts self.old c sources story → HearsTexts self.new c sources (all_given story)) }
         ensures same { OnOk result (SameCounts self.old.counts self.new.counts) }
         ensures quiet { OnOk result (is_quiet self.new.ear ≡ Bool.true) }
-        ensures arrivals { OnOk result (arrivals_of self.new.ear ≡ arrivals_of self.old.ear) }
+        ensures arrivals { OnOk result (arrival_count self.new.ear ≡ arrival_count self.old.ear) }
         ensures finished { OnOk result (is_finished self.new.ear ≡ is_finished self.old.ear) }
     {
         let used = self.ear.gather_each(self.heard.as_mut_slice())?;

@@ -6,7 +6,7 @@ use Rattle.wire_spec.specs.Packets.{has_text}
 use Rattle.stream_spec.specs.Lists.{In}
 use Rattle.stream_spec.specs.History.{Entry, Placed, placed, Lawful}
 use Rattle.stream_spec.specs.Own.{Sent, Own, Closed, sent_of, has_text_in, entry_after, entries_sent, sent_history, own_packet, packet_after}
-use Rattle.stream_spec.specs.Typed.{Event, Ask, Turned, sents, carried, typed, has_passed, last_end, front, due_at, packet_at, IsScript, next_at, primaries}
+use Rattle.stream_spec.specs.Typed.{Event, Ask, Turned, sents, carried, typed, has_passed, last_end, whole_front, due_at, packet_at, IsScript, next_at, primaries}
 use Rattle.stream_spec.proofs.Sent.{the_last, sent_lawful, sent_own, in_sent_of}
 use Rattle.stream_spec.proofs.Typing.{typed_is, entries_more, entries_same, waits_same, paced, length_of_front, last_end_le}
 use Rattle.stream_spec.proofs.Closing.{last_is, sent_closed, longest}
@@ -114,7 +114,7 @@ none_due conf past t e = go (has_more conf (Ask t ∷ past)) refl
         let n : next_at conf.interval (sent_by conf (Ask t ∷ past)) ≡ None = sym (ap (λ b. cond b (next_at conf.interval (sent_by conf (Ask t ∷ past))) None) h) ∙ e in
         by_due (due_at (stream_of conf) conf.interval past t) refl (no_entry conf.interval (sent_by conf (Ask t ∷ past)) n)
 
-pub longest_front : (n k : ℕ) (octets : List ℕ) → IsUtf8 octets → k ≤ n → k ≤ length octets → IsUtf8 (take k octets) → k ≤ length (front n octets)
+pub longest_front : (n k : ℕ) (octets : List ℕ) → IsUtf8 octets → k ≤ n → k ≤ length octets → IsUtf8 (take k octets) → k ≤ length (whole_front n octets)
 longest_front n k octets u l m t =
     let b = last_end_le octets (min n (length octets)) in
     let len = length_of_front (last_end octets (min n (length octets))) octets (omega arith) in

@@ -8,7 +8,7 @@ use Rattle.wire_spec.specs.Packets.{Packet, has_text}
 use Rattle.wire_spec.specs.SentPackets.{packet_written}
 use Rattle.stream_spec.specs.Lists.{In}
 use Rattle.stream_spec.specs.Own.{Sent, sent_of, repeats, has_text_in, packet_after, Sendable}
-use Rattle.stream_spec.specs.Typed.{Event, Text, Ask, Turned, sents, longest_step, media_at, entry_at, due_at, last_ask, front, IsScript}
+use Rattle.stream_spec.specs.Typed.{Event, Text, Ask, Turned, sents, longest_step, media_at, entry_at, due_at, last_ask, whole_front, IsScript}
 use Rattle.stream_spec.proofs.Typing.{waits_more, waits_less, entries_more, paced}
 use Rattle.red_window.specs.Standing as window
 use Rattle.red_window.specs.Standing.{MayFollow}
@@ -89,19 +89,19 @@ pause_is g zs due spoke result d s r = r ∙ (both due spoke ∙ (ap (λ b. not 
     both false b = refl
 
 pub turned : (conf : SendConf) (past : List Event) (now : ℕ) (s new : State) (text : List ℕ) → StandsFor conf s past → last_ask past ≤ now → now < 2 ^ 31
-    → due_at (stream_of conf) conf.interval past now ≡ true → new.conf ≡ s.conf → text ≡ front 1023 s.waits → new.waits ≡ drop (length text) s.waits
+    → due_at (stream_of conf) conf.interval past now ≡ true → new.conf ≡ s.conf → text ≡ whole_front 1023 s.waits → new.waits ≡ drop (length text) s.waits
     → window.StandsFor conf.gens conf.stamp new.window ((next_entry conf past now).sent ∷ sents (sent_by conf past)) → new.spoke ≡ has_text text → new.seq ≡ (s.seq + 1) % 65536
     → new.last ≡ Some (record { at = now; media = media_at conf.gens (sent_by conf past) now }) → StandsFor conf new (Ask now ∷ past)
 turned conf past now s new text r l top d cs f w win spoke seq last =
     let c = stream_of conf in
     let more = entries_more c conf.interval past now d in
-    let sent : text ≡ front 1023 (waits_for conf past) = f ∙ ap (λ (v : List ℕ). front 1023 v) r.waits in
+    let sent : text ≡ whole_front 1023 (waits_for conf past) = f ∙ ap (λ (v : List ℕ). whole_front 1023 v) r.waits in
     record {
       script = (l, top, r.script);
       conf_is = cs ∙ r.conf_is;
-      waits = w ∙ (ap (λ (t : List ℕ). drop (length t) s.waits) f ∙ (ap (λ (v : List ℕ). drop (length (front 1023 v)) v) r.waits ∙ sym (waits_less c conf.interval past now d)));
+      waits = w ∙ (ap (λ (t : List ℕ). drop (length t) s.waits) f ∙ (ap (λ (v : List ℕ). drop (length (whole_front 1023 v)) v) r.waits ∙ sym (waits_less c conf.interval past now d)));
       window = subst (λ (es : List Turned). window.StandsFor conf.gens conf.stamp new.window (sents es)) (sym more) win;
-      spoke = spoke ∙ (ap has_text sent ∙ (alone (has_text (front 1023 (waits_for conf past))) ∙ sym (ap (λ (es : List Turned). has_text_in 1 (sents es)) more)));
+      spoke = spoke ∙ (ap has_text sent ∙ (alone (has_text (whole_front 1023 (waits_for conf past))) ∙ sym (ap (λ (es : List Turned). has_text_in 1 (sents es)) more)));
       seq = let n : length (sent_by conf (Ask now ∷ past)) ≡ suc (length (sent_by conf past)) = ap (λ (es : List Turned). length es) more in counted s.seq new.seq conf.seq (length (sent_by conf past)) (length (sent_by conf (Ask now ∷ past))) r.seq seq n;
       last = last ∙ sym (ap last_of more);
     }
@@ -120,7 +120,7 @@ same_packet m m' s s' t t' c c' bs bs' x x' a b d e f g = rw (a, b, d, e, f, g) 
 -- the packet of what is written is that of the entry
 pub packet_is : (conf given : SendConf) (es : List Turned) (w : List ℕ) (now : ℕ) (mark : Bool) (seq stamp : ℕ) (older : List TextBlock) (text : List ℕ) → given ≡ conf
     → sent_of conf.ssrc (sents es) ≡ sents es → mark ≡ not (has_text_in (max 1 conf.gens) (sents es)) → seq ≡ (conf.seq + length es) % 65536
-    → stamp ≡ (conf.stamp + media_at conf.gens es now) % 2 ^ 32 → older ≡ repeats conf.gens (media_at conf.gens es now) (sents es) → text ≡ front 1023 w
+    → stamp ≡ (conf.stamp + media_at conf.gens es now) % 2 ^ 32 → older ≡ repeats conf.gens (media_at conf.gens es now) (sents es) → text ≡ whole_front 1023 w
     → packet_written given.pts (record { mark = mark; seq = seq; stamp = stamp; ssrc = given.ssrc; source = given.ssrc; older = older; primary = text })
     ≡ packet_written conf.pts (packet_after (stream_of conf) (sents es) (entry_at (stream_of conf) es w now).sent)
 packet_is conf given es w now mark seq stamp older text q own m s t o x =

@@ -3,7 +3,7 @@ ghost use Rattle.std.specs.Prelude.{◌≡◌, ◌≤◌, ◌++◌, ◌∷◌, �
 ghost use Rattle.stream_spec.specs.Lists.{In};
 ghost use Rattle.stream_spec.specs.History.{Placed, Lawful, placed};
 ghost use Rattle.stream_spec.specs.Own.{Own, Closed, own_packet};
-ghost use Rattle.stream_spec.specs.Typed.{Event, Ask, typed, front, due_at, packet_at, IsScript, primaries};
+ghost use Rattle.stream_spec.specs.Typed.{Event, Ask, typed, whole_front, due_at, packet_at, IsScript, primaries};
 ghost use Rattle.text_sender.specs.declared.senders.SendConf.{SendConf};
 ghost use Rattle.text_sender.specs.Confs.{IsConf, stream_of};
 ghost use Rattle.text_sender.specs.Standing.{sent_by, waits_for, has_more, next_due_of, history_sent};
@@ -42,7 +42,7 @@ pub fn due_from_next()
 
 /// A front of whole characters cuts no character, and no longer one fits.
 pub fn front_is_longest()
-    ensures whole { (n : ℕ) (octets : List ℕ) → IsUtf8 octets → IsUtf8 (front n octets) }
-    ensures fits { (n : ℕ) (octets : List ℕ) → IsUtf8 octets → length (front n octets) ≤ n }
-    ensures longest { (n k : ℕ) (octets : List ℕ) → IsUtf8 octets → k ≤ n → k ≤ length octets → IsUtf8 (take k octets) → k ≤ length (front n octets) }
+    ensures whole { (n : ℕ) (octets : List ℕ) → IsUtf8 octets → IsUtf8 (whole_front n octets) }
+    ensures fits { (n : ℕ) (octets : List ℕ) → IsUtf8 octets → length (whole_front n octets) ≤ n }
+    ensures longest { (n k : ℕ) (octets : List ℕ) → IsUtf8 octets → k ≤ n → k ≤ length octets → IsUtf8 (take k octets) → k ≤ length (whole_front n octets) }
 {}

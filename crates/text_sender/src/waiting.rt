@@ -1,6 +1,6 @@
 //! The text that waits to be sent.
 ghost use Rattle.std.specs.Prelude.{◌≡◌, ◌+◌, ◌≤◌, ◌<◌, ◌++◌, ◌↔◌, ◌==◌, [], length, min, take, drop, IfOk, IsOk, OnOk, OnErr};
-ghost use Rattle.stream_spec.specs.Typed.{is_end, last_end, front};
+ghost use Rattle.stream_spec.specs.Typed.{is_end, last_end, whole_front};
 
 use circular_buffer::HeapCircularBuffer;
 use rtt_base::{Full, NoMemory, Text};
@@ -77,7 +77,7 @@ impl Waiting {
 
     /// Takes the longest front of whole characters that fits in a block, in place of what was in `text`.
     pub fn take_front(&mut self, text: &mut Text)
-        ensures text { text.new ≡ front 1023 self.old }
+        ensures text { text.new ≡ whole_front 1023 self.old }
         ensures rest { self.new ≡ drop (length text.new) self.old }
     {
         let len = self.front_len();

@@ -7,7 +7,7 @@ use Rattle.std.proofs.lemmas.List.{take_at, drop_at, get_or_at, length_push, app
 use Rattle.std.proofs.lemmas.Nat.{from_be_bytes-to_be_bytes_2, from_be_bytes-to_be_bytes_4}
 use Rattle.wire_spec.specs.declared.faults.RtpFault.{RtpFault}
 use Rattle.wire_spec.specs.Steps.{◌>>=◌}
-use Rattle.wire_spec.specs.Rtp.{Reading, Rtp, bit, first_of, IsExtension, IsPadding, fixed_header, past, first_source, past_extension, before_padding, unpadded, rtp_of_header, rtp}
+use Rattle.wire_spec.specs.Rtp.{Reading, Rtp, bit, first_in, IsExtension, IsPadding, fixed_header, past, first_source, past_extension, before_padding, unpadded, rtp_of_header, rtp}
 
 -- ---- the first two octets
 
@@ -46,7 +46,7 @@ past_front n front rest e =
     let long : ltb (length (front ++ rest)) n ≡ false = le-ltb (length (front ++ rest)) n (omega (arith, length-append front rest)) in
     rw (long, drop_at front rest n e) refl
 
-pub first_source_is : (sources rest : List ℕ) → AllByRecursion (λ source. source < 2 ^ 32) sources → first_source (length sources) (flat_map (to_be_bytes w32) sources ++ rest) ≡ first_of sources
+pub first_source_is : (sources rest : List ℕ) → AllByRecursion (λ source. source < 2 ^ 32) sources → first_source (length sources) (flat_map (to_be_bytes w32) sources ++ rest) ≡ first_in sources
 first_source_is [] rest h = refl
 first_source_is (s ∷ ss) rest h = ap (λ (n : ℕ). Some n) (from_be_bytes-to_be_bytes_4 s h.0)
 

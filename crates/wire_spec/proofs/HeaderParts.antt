@@ -8,7 +8,7 @@ use Rattle.std.proofs.lemmas.Nat.{be_bytes_2, be_bytes_4}
 use Rattle.wire_spec.specs.declared.faults.RtpFault.TheVariants.{Short, Version, Padding}
 use Rattle.wire_spec.specs.Steps.{◌>>=◌}
 use Rattle.wire_spec.proofs.Tests.{bind_ok, guard, guard_else, guard_ok, guard_ended, ok_is, failed}
-use Rattle.wire_spec.specs.Rtp.{Reading, Rtp, IsOctets, bit, first_of, IsExtension, IsPadding, past, first_source, past_extension, unpadded, rtp_of_header, rtp}
+use Rattle.wire_spec.specs.Rtp.{Reading, Rtp, IsOctets, bit, first_in, IsExtension, IsPadding, past, first_source, past_extension, unpadded, rtp_of_header, rtp}
 
 IsOctets-drop : (n : ℕ) (octets : List ℕ) → IsOctets octets → IsOctets (drop n octets)
 IsOctets-drop n octets h i = rw get_or-drop (h (n + i))
@@ -32,7 +32,7 @@ pub record Sources (n : ℕ) (octets : List ℕ) : Type 0 where
   pub parts : octets ≡ flat_map (to_be_bytes w32) sources
   pub count : length sources ≡ n
   pub each : AllByRecursion (λ source. source < 2 ^ 32) sources
-  pub first : (rest : List ℕ) → first_source n (octets ++ rest) ≡ first_of sources
+  pub first : (rest : List ℕ) → first_source n (octets ++ rest) ≡ first_in sources
 
 sources_of : (n : ℕ) (octets : List ℕ) → length octets ≡ 4 * n → IsOctets octets → Sources n octets
 sources_of zero octets e h = record { sources = []; parts = nil_of octets e; count = refl; each = tt; first = λ rest. refl }

@@ -5,7 +5,7 @@ use Rattle.std.specs.List.{flat_map, AllByRecursion}
 use Rattle.std.specs.Int.{w32, to_be_bytes}
 use Rattle.std.proofs.lemmas.List.{append-nil}
 use Rattle.wire_spec.specs.declared.faults.RtpFault.{RtpFault}
-use Rattle.wire_spec.specs.Rtp.{Reading, Rtp, Head, FitsHeader, first_of, fixed_header, reading_of, rtp, rtp_written}
+use Rattle.wire_spec.specs.Rtp.{Reading, Rtp, Head, FitsHeader, first_in, fixed_header, reading_of, rtp, rtp_written}
 use Rattle.wire_spec.proofs.HeaderLaws.{rtp_only}
 
 few_sources : (csrc : Option ℕ) → length (option_to_list csrc) < 2 ^ 4
@@ -16,7 +16,7 @@ each_source : (csrc : Option ℕ) → IfSome csrc (λ source. source < 2 ^ 32) �
 each_source None h = tt
 each_source (Some source) h = (h, tt)
 
-first_source_written : (csrc : Option ℕ) → csrc ≡ first_of (option_to_list csrc)
+first_source_written : (csrc : Option ℕ) → csrc ≡ first_in (option_to_list csrc)
 first_source_written None = refl
 first_source_written (Some source) = refl
 

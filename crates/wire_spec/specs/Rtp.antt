@@ -27,9 +27,9 @@ abbrev pub bit : Bool → ℕ
 bit true = 1
 bit false = 0
 
-abbrev pub first_of : List ℕ → Option ℕ
-first_of [] = None
-first_of (n ∷ ns) = Some n
+abbrev pub first_in : List ℕ → Option ℕ
+first_in [] = None
+first_in (n ∷ ns) = Some n
 
 -- nothing, or two octets of any value, the number n in two, and n words of four
 pub record IsHeaderExtension (octets : List ℕ) : Type 0 where
@@ -71,7 +71,7 @@ pub record Rtp (octets : List ℕ) (r : Reading) : Type 0 where
   pub few : length sources < 2 ^ 4
   pub each : AllByRecursion (λ source. source < 2 ^ 32) sources
   pub cc : r.cc ≡ length sources
-  pub csrc : r.csrc ≡ first_of sources
+  pub csrc : r.csrc ≡ first_in sources
 
 -- ---- reading, with the first test that fails
 

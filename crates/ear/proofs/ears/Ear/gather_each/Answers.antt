@@ -3,7 +3,7 @@ use Rattle.rtt_base.specs.declared.text_packets.TextPacket.{TextPacket}
 use Rattle.gap_tracker.specs.Stories.{Story, given_of}
 use Rattle.source_receiver.specs.Stands.{Stands, used_packet}
 use Rattle.source_receiver.specs.Each.{AreHeard}
-use Rattle.ear.specs.Hears.{arrivals_of}
+use Rattle.ear.specs.Hears.{arrival_count}
 use Rattle.ear.proofs.Given.{next_rises, given_fits}
 use Rattle.ear.proofs.Each.{texts_there, marks_small, gathers_each_one, gathered_each, gathered_each_moved}
 use Rattle.ear.proofs.ears.Ear.gather_each.Goals as goal
@@ -25,7 +25,7 @@ pub take_each-requires-clause-few : goal.take_each-requires-clause-few
 take_each-requires-clause-few c =
     let r = c.requires.hears in
     let now = c.loop-due.invariant.hears r.0 r.1 r.2 r.3 in
-    let few : arrivals_of c.loop-due.self ≤ 2 ^ 40 = omega (arith, c.loop-due.invariant.arrivals, c.requires.few) in
+    let few : arrival_count c.loop-due.self ≤ 2 ^ 40 = omega (arith, c.loop-due.invariant.arrivals, c.requires.few) in
     marks_small c.loop-due.self r.0 r.1 (record r.2 { given = now.0 }) c.loop-due.heard now.1 few
 
 pub overflow_add-used : goal.overflow_add-used

@@ -4,7 +4,7 @@ use Rattle.rtt_base.specs.declared.blocks.TextBlock.{TextBlock}
 use Rattle.wire_spec.specs.Packets.{has_text}
 use Rattle.wire_spec.specs.SentPackets.{packet_written}
 use Rattle.stream_spec.specs.Own.{repeats, packet_after}
-use Rattle.stream_spec.specs.Typed.{Ask, IsScript, sents, front, media_at}
+use Rattle.stream_spec.specs.Typed.{Ask, IsScript, sents, whole_front, media_at}
 use Rattle.text_sender.specs.declared.senders.SendConf.{SendConf}
 use Rattle.text_sender.specs.declared.senders.Last.{Last}
 use Rattle.text_sender.specs.Confs.{IsConf, stream_of}
@@ -23,7 +23,7 @@ returns-clause-octets c = λ conf past s l d.
     let script : IsScript (Ask c.args.now ∷ past) = (l, c.requires, r.script) in
     let media : c.media_at-media.result ≡ media_at conf.gens es c.args.now = c.media_at-media.ensures.value conf past s in
     let stamp = stamp_is c.self.inside.conf.stamp conf.stamp c.media_at-media.result (media_at conf.gens es c.args.now) (ap (λ (x : SendConf). x.stamp) r.conf_is) media in
-    let text : c.as_slice-text.result.now ≡ front 1023 (waits_for conf past) = c.as_slice-text.ensures.value ∙ (c.take_front.ensures.text ∙ ap (λ (w : List ℕ). front 1023 w) r.waits) in
+    let text : c.as_slice-text.result.now ≡ whole_front 1023 (waits_for conf past) = c.as_slice-text.ensures.value ∙ (c.take_front.ensures.text ∙ ap (λ (w : List ℕ). whole_front 1023 w) r.waits) in
     let older = repeats_are conf.gens conf.stamp (media_at conf.gens es c.args.now) _ c.self.inside.window (sents es) r.window stamp (may_follow conf past c.args.now k script d) in
     let packet = packet_is conf c.self.inside.conf es (waits_for conf past) c.args.now _ _ _ _ _ r.conf_is (own_sents conf past k r.script) (c.is_after_pause.ensures conf past s) r.seq stamp older text in
     let few = few_octets conf.pts (stream_of conf) (sents es) (next_entry conf past c.args.now).sent k.gens (may_send conf past c.args.now k script d) in
@@ -35,8 +35,8 @@ returns-clause-stands c = λ conf past s l d.
     let es = sent_by conf past in
     let media : c.media_at-media.result ≡ media_at conf.gens es c.args.now = c.media_at-media.ensures.value conf past s in
     let stamp = stamp_is c.self.inside.conf.stamp conf.stamp c.media_at-media.result (media_at conf.gens es c.args.now) (ap (λ (x : SendConf). x.stamp) r.conf_is) media in
-    let text : c.as_slice-text.result.now ≡ front 1023 c.self.inside.waiting = c.as_slice-text.ensures.value ∙ c.take_front.ensures.text in
-    let sent : c.as_slice-text.result.now ≡ front 1023 (waits_for conf past) = text ∙ ap (λ (w : List ℕ). front 1023 w) r.waits in
+    let text : c.as_slice-text.result.now ≡ whole_front 1023 c.self.inside.waiting = c.as_slice-text.ensures.value ∙ c.take_front.ensures.text in
+    let sent : c.as_slice-text.result.now ≡ whole_front 1023 (waits_for conf past) = text ∙ ap (λ (w : List ℕ). whole_front 1023 w) r.waits in
     turned conf past c.args.now _ _ c.as_slice-text.result.now r l c.requires d refl text (c.take_front.ensures.rest ∙ ap (λ (t : List ℕ). drop (length t) c.self.inside.waiting) (sym c.as_slice-text.ensures.value))
     (c.keep.ensures conf.gens conf.stamp (sents es) (next_entry conf past c.args.now).sent r.window stamp sent)
     (ap (λ (b : Bool). not b) c.is_empty.ensures ∙ text_is c.as_slice-text.result.now)
