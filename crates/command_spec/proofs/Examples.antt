@@ -3,7 +3,7 @@ use Rattle.std.proofs.Common.{◌≡◌, ℕ, Some, None, List, [], ◌∷◌, r
 use Rattle.std.specs.Prelude.{codes}
 use Rattle.wire_spec.specs.Dump.{dump, dump_opening, opening}
 use Rattle.wire_spec.specs.declared.faults.DumpKind.TheVariants.{NotDump}
-use Rattle.file_spec.specs.Words.{Read, ListRecords, Send, usual_pts}
+use Rattle.command_spec.specs.Words.{Read, ListRecords, Send, usual_pts}
 use Rattle.command_spec.specs.declared.faults.Refusal.TheVariants.{AtByte}
 use Rattle.command_spec.specs.Scripts.{events_before, first_from, first_end}
 use Rattle.command_spec.specs.Work.{Contents}

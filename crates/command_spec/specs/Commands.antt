@@ -6,7 +6,7 @@ use Rattle.file_spec.specs.declared.kinds.ConfKind.TheVariants.{Full}
 use Rattle.file_spec.specs.Script.{ScriptLine}
 use Rattle.file_spec.specs.Lines as lines
 use Rattle.file_spec.specs.Script.{script}
-use Rattle.file_spec.specs.Words.{ReadWords, SendWords, Command, Read, ListRecords, Send, usual_pts}
+use Rattle.command_spec.specs.Words.{ReadWords, SendWords, Command, Read, ListRecords, Send, usual_pts}
 use Rattle.command_spec.specs.declared.faults.Refusal.TheVariants.{AtByte, AtLine}
 use Rattle.command_spec.specs.declared.requests.ReadRequest.{ReadRequest}
 use Rattle.command_spec.specs.Listing.{list_view}

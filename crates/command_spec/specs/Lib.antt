@@ -6,3 +6,4 @@ pub mod Outcomes
 pub mod Commands
 pub mod Messages
 pub mod Sent
+pub mod Words

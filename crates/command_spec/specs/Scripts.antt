@@ -5,6 +5,7 @@ use Rattle.std.specs.List.{flat_map, list_all}
 use Rattle.rtt_base.specs.declared.text_packets.Pts.{Pts}
 use Rattle.wire_spec.specs.Dump.{dump_written}
 use Rattle.file_spec.specs.Script.{ScriptLine}
+use Rattle.file_spec.specs.declared.limits.TheConstants.{LAST_MOMENT}
 use Rattle.stream_spec.specs.History.{History}
 use Rattle.stream_spec.specs.Own.{Stream, packet_after}
 use Rattle.stream_spec.specs.Typed.{Event, Text, Ask, Turned, sents, entries, waiting, has_more, history_typed}
@@ -26,7 +27,7 @@ InOrder (line ∷ more) = All (λ l. line.at ≤ l.at) more × InOrder more
 -- the lines of a script: in order, in the first four hours, and their texts are UTF-8
 pub record AreLines (lines : List ScriptLine) : Type 0 where
   pub ordered : InOrder lines
-  pub early : All (λ l. l.at ≤ 14400000) lines
+  pub early : All (λ l. l.at ≤ LAST_MOMENT) lines
   pub texts : All (λ l. IsUtf8 l.text) lines
 
 -- the texts of the lines, one behind the other

@@ -3,7 +3,7 @@ use Rattle.std.specs.Prelude.{◌≡◌, ◌<◌, ◌^◌, ℕ, Some, List, map,
 use Rattle.wire_spec.specs.Text.{text_of}
 use Rattle.file_spec.specs.Script.{ScriptLine}
 use Rattle.file_spec.specs.Script.{script}
-use Rattle.file_spec.specs.Words.{SendWords}
+use Rattle.command_spec.specs.Words.{SendWords}
 use Rattle.stream_spec.specs.History.{Lawful, placed}
 use Rattle.stream_spec.specs.Own.{Own, Closed, own_packet}
 use Rattle.stream_spec.specs.Typed.{primaries}

@@ -1,6 +1,6 @@
 mod ConfExamples
 pub mod Crowds
-mod Examples
+mod NumberExamples
 pub mod KeptLines
 pub mod NameTexts
 pub mod Passed

@@ -6,4 +6,3 @@ pub mod Script
 pub mod Sound
 pub mod Stays
 pub mod Steps
-pub mod Words

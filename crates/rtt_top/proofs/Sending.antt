@@ -9,7 +9,7 @@ use Rattle.file_spec.specs.Lines as lines
 use Rattle.file_spec.specs.Lines.{read_lines, told, is_comment}
 use Rattle.std.specs.Str.Lines as str
 use Rattle.file_spec.specs.Script.{script, and_line}
-use Rattle.file_spec.specs.Words.{SendWords, Send}
+use Rattle.command_spec.specs.Words.{SendWords, Send}
 use Rattle.rtt_io.specs.Counts.{Rose}
 use Rattle.command_spec.specs.declared.faults.Refusal.{Refusal}
 use Rattle.command_spec.specs.declared.faults.Refusal.TheVariants.{AtLine}

@@ -1,7 +1,7 @@
 //! The commands, each from its words to its work or its fault.
 ghost use Rattle.std.specs.Prelude.{◌≡◌, ℕ, ◌++◌, List, Ok, Err, Some, take, OnOk, OnErr, IfErr};
 ghost use Rattle.rtt_io.specs.Counts.{Rose};
-ghost use Rattle.file_spec.specs.Words.{Read, ListRecords, Send};
+ghost use Rattle.command_spec.specs.Words.{Read, ListRecords, Send};
 ghost use Rattle.rtt_words.specs.Commands.{asked, listed, sent, meaning};
 ghost use Rattle.command_spec.specs.Commands.{work};
 ghost use Rattle.command_spec.specs.Messages.{status_of, message_of};

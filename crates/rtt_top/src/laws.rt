@@ -1,7 +1,7 @@
 //! What holds of what a run makes. No code stands here.
 ghost use Rattle.std.specs.Prelude.{◌≡◌, ℕ, List, [], ◌∷◌};
 ghost use Rattle.file_spec.specs.Script.{script};
-ghost use Rattle.file_spec.specs.Words.{SendWords};
+ghost use Rattle.command_spec.specs.Words.{SendWords};
 ghost use Rattle.command_spec.specs.Work.{Makes};
 ghost use Rattle.command_spec.specs.Commands.{sends};
 ghost use Rattle.command_spec.specs.Sent.{IsSent};

@@ -2,7 +2,7 @@
 ghost use Rattle.std.specs.Prelude.{◌≡◌, ◌⊎◌, ℕ, ◌≤◌, List, [], Some, None, OnOk, IfOk, IfErr};
 ghost use Rattle.rtt_io.specs.Counts.{Rose};
 ghost use Rattle.wire_spec.specs.Dump.{Recording};
-ghost use Rattle.file_spec.specs.Words.{Read, ListRecords};
+ghost use Rattle.command_spec.specs.Words.{Read, ListRecords};
 ghost use Rattle.rtt_words.specs.Commands.{asked, listed};
 ghost use Rattle.rtt_read.specs.Recordings.{IsSourceFault, ListenFaultOf};
 ghost use Rattle.rtt_list.specs.Listing.{IsSourceFault as IsListSourceFault, FaultOf};

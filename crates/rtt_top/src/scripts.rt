@@ -2,7 +2,7 @@
 ghost use Rattle.std.specs.Prelude.{◌≡◌, ◌⊎◌, ℕ, ◌≤◌, List, [], ◌∷◌, Ok, Some, None, OnOk, IfOk, IfErr};
 ghost use Rattle.rtt_io.specs.Counts.{Rose};
 ghost use Rattle.file_spec.specs.Script.{script};
-ghost use Rattle.file_spec.specs.Words.{Send};
+ghost use Rattle.command_spec.specs.Words.{Send};
 ghost use Rattle.rtt_words.specs.Commands.{sent};
 ghost use Rattle.command_spec.specs.Work.{Makes};
 ghost use Rattle.command_spec.specs.Commands.{work, sends};
@@ -13,6 +13,7 @@ ghost use Rattle.rtt_top.specs.Outside.{RoseAt};
 use crate::files::read_input;
 use command_spec::{Fault, Refusal};
 use file_spec::ConfKind;
+use file_spec::limits::{MOST_SCRIPT_OCTETS, USUAL_RED, USUAL_T140};
 use rtt_base::{Bytes, Pts};
 use rtt_io::World;
 use rtt_send::{SendFault, send_script};
@@ -20,9 +21,6 @@ use rtt_words::SendWords;
 use script_text::{ConfFault, Script, read_script};
 use std::alloc::Global;
 use text_sender::SendConf;
-
-/// The greatest size of a script, in octets.
-const MOST_OCTETS: usize = 1_048_576;
 
 /// The fault of a command whose first input is refused at a line.
 fn refused_line(line: u32, kind: ConfKind) -> Fault
@@ -43,7 +41,7 @@ fn script_of<W: World>(alloc: Global, words: &SendWords<'_>, world: &mut W) -> R
     ensures calls_never_fall { (n : List ℕ) → W.own_faults world.old n ≤ W.own_faults world.new n }
     ensures objects_never_fall { (n : List ℕ) → W.object_faults world.old n ≤ W.object_faults world.new n }
 {
-    let octets = match read_input(alloc, words.script, MOST_OCTETS, world) {
+    let octets = match read_input(alloc, words.script, MOST_SCRIPT_OCTETS, world) {
         Ok(octets) => octets,
         Err(fault) => return Err(fault),
     };
@@ -76,7 +74,10 @@ pub fn recording_of<W: World>(
         ssrc: words.ssrc,
         seq: words.seq,
         stamp: words.stamp,
-        pts: Pts { t140: 98, red: 100 },
+        pts: Pts {
+            t140: USUAL_T140,
+            red: USUAL_RED,
+        },
         interval: 300,
         gens: 2,
     };

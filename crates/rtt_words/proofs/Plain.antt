@@ -8,7 +8,7 @@ use Rattle.std.specs.Str.{bytes_eq}
 use Rattle.std.proofs.lemmas.List.{take_rest}
 use Rattle.rtt_base.specs.declared.text_packets.Pts.{Pts}
 use Rattle.file_spec.specs.Numbers.{is_number, number, most_ssrc, payload_type}
-use Rattle.file_spec.specs.Words.{Command, command, if_different, is_word, list_of, list_words, payload_types, read_of, read_words, send_of, send_words, usual_pts}
+use Rattle.command_spec.specs.Words.{Command, command, if_different, is_word, list_of, list_words, payload_types, read_of, read_words, send_of, send_words, usual_pts}
 
 abbrev Text : Type 0
 Text = List ℕ

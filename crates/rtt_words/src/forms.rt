@@ -2,7 +2,7 @@
 ghost use Rattle.std.specs.Prelude.{◌≡◌, ◌≢◌, List, ℕ, [], true, false, map, string_bytes, IfOk, drop};
 ghost use Rattle.std.specs.List.{list_all};
 ghost use Rattle.clap.specs.Words.{app_of, fault_of, first_of, first_value, found_of, is_simple_and_free, matches_of, new_rule, rule_of};
-ghost use Rattle.file_spec.specs.Words.{is_word, read_words, list_words, send_words};
+ghost use Rattle.command_spec.specs.Words.{is_word, read_words, list_words, send_words};
 ghost use Rattle.rtt_words.specs.Apps.{bare_app, required_rule, read_app, list_app, send_app, read_given, list_given, send_given};
 
 use crate::WordFault;

@@ -3,7 +3,7 @@ ghost use Rattle.std.specs.Prelude.{◌≡◌, [], ◌∷◌, map, string_bytes,
 ghost use Rattle.std.specs.List.{list_all};
 ghost use Rattle.std.specs.Option.{option_map};
 ghost use Rattle.clap.specs.Words.{first_value, found_of};
-ghost use Rattle.file_spec.specs.Words.{Read, ListRecords, Send, command, is_word, payload_types, read_words, list_words, send_words};
+ghost use Rattle.command_spec.specs.Words.{Read, ListRecords, Send, command, is_word, payload_types, read_words, list_words, send_words};
 ghost use Rattle.rtt_words.specs.Apps.{pts_given, read_given, list_given, send_given};
 ghost use Rattle.rtt_words.specs.Commands.{asked, listed, sent, meaning};
 
@@ -11,6 +11,7 @@ use crate::forms::{list_matches, read_matches, send_matches};
 use crate::{Command, ListWords, ReadWords, SendWords};
 use clap::ArgMatches;
 use clap::error::ErrorKind;
+use file_spec::limits::{USUAL_RED, USUAL_T140};
 use numerals::{number_of, pts_of};
 use rtt_base::Pts;
 use std::alloc::{AllocError, Global};
@@ -54,7 +55,10 @@ impl From<clap::Error> for WordFault {
 }
 
 /// The payload types where none are named.
-const USUAL: Pts = Pts { t140: 98, red: 100 };
+const USUAL: Pts = Pts {
+    t140: USUAL_T140,
+    red: USUAL_RED,
+};
 
 /// Whether the word is neither empty nor begins with `-`.
 fn is_plain(word: &String) -> bool

@@ -1,5 +1,5 @@
 use Rattle.std.proofs.Common.{Some, sym, subst}
-use Rattle.file_spec.specs.Words as words
+use Rattle.command_spec.specs.Words as words
 use Rattle.rtt_words.specs.declared.commands.Command.{Command}
 use Rattle.rtt_words.specs.Commands.{asked, listed, sent, meaning}
 use Rattle.rtt_top.specs.Faults.{name_in}
