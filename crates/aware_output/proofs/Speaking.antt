@@ -1,22 +1,21 @@
 -- The steps of an output.
 use Rattle.std.proofs.Common.{◌≡◌, ℕ, zero, suc, ◌+◌, ◌%◌, ◌<◌, ◌≤◌, ◌^◌, Bool, true, false, cond, inl, inr, List, [], ◌∷◌, ◌++◌, length, take, get_or, set, refl, ap, subst, sym, ◌∙◌, arith}
-use Rattle.std.specs.Prelude.{map, max, not, ◌&&◌, ◌||◌, ◌==◌, slice_index, IfSome}
+use Rattle.std.specs.Prelude.{map, max, not, ◌&&◌, ◌||◌, ◌==◌, IfSome}
 use Rattle.std.proofs.lemmas.Bool.Decides.{nat_tests}
 use Rattle.rtt_base.specs.declared.blocks.TextBlock.{TextBlock}
 use Rattle.wire_spec.specs.Packets.{Packet, has_text}
 use Rattle.wire_spec.specs.SentPackets.{packet_written}
 use Rattle.stream_spec.specs.Lists.{In}
-use Rattle.stream_spec.specs.Own.{Sent, Stream, sent_of, nth, has_text_in, repeats, packet_after, MaySend, Sendable}
-use Rattle.stream_spec.proofs.Sent.{in_sent_of}
-use Rattle.red_window.specs.declared.kept.KeptBlock.{KeptBlock}
+use Rattle.stream_spec.specs.Own.{Sent, Stream, sent_of, nth, has_text_in, packet_after, MaySend, Sendable}
+use Rattle.stream_spec.proofs.Sent.{in_sent_of, take_in}
 use Rattle.red_window.specs.Kept.{blocks_kept}
-use Rattle.red_window.specs.Standing.{kept_last, MayFollow}
+use Rattle.red_window.specs.Standing.{MayFollow}
 use Rattle.red_window.specs.Standing as window
 use Rattle.red_window.proofs.Repeating.{last_or_more, repeats_are}
 use Rattle.aware_output.specs.declared.outputs.OutConf.{OutConf}
 use Rattle.aware_output.specs.declared.speakers.Speaker.{Speaker}
 use Rattle.aware_output.specs.Confs.{IsConf, stream_of}
-use Rattle.aware_output.specs.Speakers.{AreDistinct, IsNext, EachIsNext, speaker_at, text_of}
+use Rattle.aware_output.specs.Speakers.{AreDistinct, IsNext, EachIsNext, speaker_at}
 use Rattle.aware_output.specs.States.{State}
 use Rattle.aware_output.specs.Standing.{StandsFor, speaker_of, source_at}
 
@@ -95,12 +94,6 @@ sendable c [] l p = tt
 sendable c (e ∷ past) l p = (may_send c past e l p.1 p.0, sendable c past l p.1)
 
 -- ---- the packet
-take_in : (n : ℕ) (zs : List Sent) (z : Sent) → In z (take n zs) → In z zs
-take_in zero zs z i = absurd i
-take_in (suc n) [] z i = absurd i
-take_in (suc n) (y ∷ zs) z (inl q) = inl q
-take_in (suc n) (y ∷ zs) z (inr i) = inr (take_in n zs z i)
-
 may_follow : (c : Stream) (past : List Sent) (e : Sent) → MaySend c past e → MayFollow c.gens e.media (sent_of e.source past)
 may_follow c past e m = record {
   later = λ x i. m.later x (in_sent_of e.source past x (take_in c.gens (sent_of e.source past) x i)).0;

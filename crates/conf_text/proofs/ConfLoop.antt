@@ -3,7 +3,7 @@ use Rattle.std.proofs.Common.{◌≡◌, ℕ, suc, ◌+◌, ◌<◌, ◌≤◌, 
 use Rattle.std.specs.Str.Lines.{lines}
 use Rattle.file_spec.specs.declared.conf_lines.Form.{Form}
 use Rattle.file_spec.specs.declared.kinds.ConfKind.{ConfKind}
-use Rattle.file_spec.specs.Steps.{◌>>=◌}
+use Rattle.rtt_base.specs.Steps.{◌>>=◌}
 use Rattle.file_spec.specs.Lines.{Refusal, told, read_lines, at_line}
 use Rattle.file_spec.specs.Conf.{Above, nothing, and_line, is_blank, complete, conf}
 use Rattle.file_spec.specs.Kept.{Keeps}

@@ -9,18 +9,14 @@ use Rattle.rtt_base.specs.declared.text_packets.Pts.{Pts}
 use Rattle.wire_spec.specs.declared.faults.TextFault.{TextFault}
 use Rattle.wire_spec.specs.declared.faults.TextFault.TheVariants as text_faults
 use Rattle.wire_spec.specs.declared.faults.RedFault.TheVariants as red_faults
-use Rattle.wire_spec.specs.Steps.{◌>>=◌}
-use Rattle.wire_spec.specs.Packets.{Packet, redundant, primary_text}
+use Rattle.rtt_base.specs.Steps.{◌>>=◌}
+use Rattle.rtt_base.proofs.Steps.{bind_ok}
+use Rattle.wire_spec.specs.Packets.{Packet, redundant, primary_text, IsTextPacket, AreTextBlocks}
 use Rattle.wire_spec.specs.Rtp.{rtp}
 use Rattle.wire_spec.specs.Red.{red, headers_at, texts_at, blocks_at, all_utf8, older_size, checked}
 use Rattle.wire_spec.specs.Text.{text_of, text_of_short, refused_as, accepted, text_packet}
 use Rattle.wire_spec.specs.declared.headers.RedHeader.{RedHeader}
 use Rattle.wire_spec.specs.Faults.{header_fault, blocks_fault}
-use Rattle.ear.specs.Texts.{IsTextPacket, AreTexts}
-
-bind_ok : {A B E : Type 0} (r : Result A E) (f : A → Result B E) (y : B) → (r >>= f) ≡ Ok y → (x : A) × (r ≡ Ok x) × (f x ≡ Ok y)
-bind_ok (Ok x) f y e = (x, refl, e)
-bind_ok (Err e) f y h = absurd (cc)
 
 refused_ok : {A E : Type 0} (fault : E → TextFault) (r : Result A E) (x : A) → refused_as fault r ≡ Ok x → r ≡ Ok x
 refused_ok fault (Ok y) x e = cc
@@ -59,7 +55,7 @@ red_ok octets pt pts bs e = go (pt == pts.t140) e
         let h = bind_ok (headers_at 8 pts.t140 octets) (λ hs. texts_at hs.headers hs.texts) bs (past_acceptance (pt == pts.red) red_faults.WrongType _ bs f) in
         texts_ok h.0.headers h.0.texts bs h.2
 
-texts_of : (bs : List TextBlock) → all_utf8 bs ≡ true → AreTexts (redundant bs) × IsUtf8 (primary_text bs)
+texts_of : (bs : List TextBlock) → all_utf8 bs ≡ true → AreTextBlocks (redundant bs) × IsUtf8 (primary_text bs)
 texts_of [] e = (tt, IsUtf8-nil)
 texts_of (b ∷ []) e = (tt, IsUtf8-from_is_utf8 b.text (and_parts _ _ e).0)
 texts_of (b ∷ c ∷ bs) e =

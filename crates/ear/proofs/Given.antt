@@ -2,20 +2,20 @@
 use Rattle.std.proofs.Common.{◌≡◌, ℕ, suc, ◌+◌, ◌<◌, ◌≤◌, Bool, true, false, cond, Option, Some, None, List, [], ◌∷◌, ◌++◌, refl, ap, sym, ◌∙◌, inl, inr, arith, length, map, length-append, append_assoc, subst}
 use Rattle.std.specs.Option.{ForSome}
 use Rattle.std.proofs.lemmas.List.{map-append, length-map}
-use Rattle.wire_spec.specs.Packets.{Arrival}
+use Rattle.wire_spec.specs.Packets.{Arrival, IsTextPacket, AreTextArrivals}
 use Rattle.stream_spec.specs.Lists.{In}
 use Rattle.stream_spec.specs.Numbering.{Numbered, RisingNumbers, numbered, in_time, used, by_number}
 use Rattle.stream_spec.specs.ChunksBy.{stamped}
-use Rattle.stream_spec.proofs.Rising.{used_rises, length_by_number}
+use Rattle.stream_spec.proofs.Rising.{used_rises, length_by_number, rising_below}
 use Rattle.stream_spec.proofs.Lists.{in_right, in_left}
+use Rattle.stream_spec.proofs.ReadyBy.{rising_stamped}
 use Rattle.stream_spec.proofs.Matched.{used_in}
 use Rattle.gap_tracker.specs.Stories.{Story, Given, gave, dues, due_at}
 use Rattle.gap_tracker.specs.Tracks.{Tracks}
 use Rattle.gap_tracker.specs.States.{State, arrival_count}
 use Rattle.gap_tracker.proofs.Giving.{order_is}
-use Rattle.ear.specs.Texts.{IsTextPacket, AreTextArrivals}
 use Rattle.ear.specs.Hears.{ready_packet, ready_packets, last_after}
-use Rattle.ear.proofs.Utf8.{numbered_texts}
+use Rattle.stream_spec.proofs.HeardTexts.{numbered_texts}
 
 -- ---- no more than came
 length-used : (wait : ℕ) (past : List Numbered) → length (used wait past) ≤ length past
@@ -31,27 +31,12 @@ numbered_length [] = refl
 numbered_length (x ∷ past) = ap suc (numbered_length past)
 
 -- ---- in rising number
-rising_stamped : (wait : ℕ) (past us : List Numbered) → RisingNumbers us → RisingNumbers (map (stamped wait past) us)
-rising_stamped wait past [] r = tt
-rising_stamped wait past (u ∷ us) r = ((λ y i. let f = back us y i in let l = r.0 f.0 f.1 in omega (arith, f.2)), rising_stamped wait past us r.1)
-  where
-    back : (vs : List Numbered) (y : Numbered) → In y (map (stamped wait past) vs) → (v : Numbered) × In v vs × (v.number ≡ y.number)
-    back [] y i = absurd i
-    back (v ∷ vs) y (inl e) = (v, inl refl, sym (ap (λ (w : Numbered). w.number) e))
-    back (v ∷ vs) y (inr i) = let f = back vs y i in (f.0, inr f.1, f.2)
-
 pub ready_stamped : (wait : ℕ) (past us : List Numbered) → ready_packets (map (due_at wait past) us) ≡ map (stamped wait past) us
 ready_stamped wait past [] = refl
 ready_stamped wait past (u ∷ us) = ap (λ xs. stamped wait past u ∷ xs) (ready_stamped wait past us)
 
 pub dues_rise : (story : Story) → RisingNumbers (ready_packets (dues story))
 dues_rise story = rw (ready_stamped story.wait (numbered story.past) (used story.wait (numbered story.past))) (rising_stamped story.wait (numbered story.past) _ (used_rises story.wait (numbered story.past)))
-
--- what stands in a rising list stands above all before it
-pub rising_last : (xs : List Numbered) (x : Numbered) (ys : List Numbered) → RisingNumbers (xs ++ x ∷ ys) → (y : Numbered) → In y xs → y.number < x.number
-rising_last [] x ys r y i = absurd i
-rising_last (z ∷ xs) x ys r y (inl e) = let l = r.0 x (in_right x xs (x ∷ ys) (inl refl)) in omega (arith, ap (λ (w : Numbered). w.number) e)
-rising_last (z ∷ xs) x ys r y (inr i) = rising_last xs x ys r.1 y i
 
 -- ---- what was given is a front of what is due
 pub record Fronts (story : Story) : Type 0 where
@@ -75,7 +60,7 @@ given_fits s story t =
 
 -- the packets given before are below the one given now
 pub above_given : (s : State) (story : Story) (g : Given) → Tracks s (gave story g) → (y : Numbered) → In y (ready_packets story.given) → y.number < g.number
-above_given s story g t = rising_last (ready_packets story.given) (ready_packet g) (ready_packets (fronts s (gave story g) t).rest) all
+above_given s story g t = rising_below (ready_packets story.given) (ready_packet g) (ready_packets (fronts s (gave story g) t).rest) all
   where
     all : RisingNumbers (ready_packets story.given ++ ready_packet g ∷ ready_packets (fronts s (gave story g) t).rest)
     all = let r = dues_rise (gave story g) in

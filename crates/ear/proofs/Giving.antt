@@ -15,7 +15,7 @@ use Rattle.wire_spec.specs.Packets.{Packet, has_text}
 use Rattle.wire_spec.specs.Text.{text_of}
 use Rattle.stream_spec.specs.Lists.{In}
 use Rattle.stream_spec.specs.Numbering.{Numbered}
-use Rattle.stream_spec.specs.Hearing.{heard_by}
+use Rattle.stream_spec.specs.Hearing.{heard_by, AreHeardTexts}
 use Rattle.stream_spec.specs.Ready.{Chunk, chunk}
 use Rattle.stream_spec.specs.ChunksBy.{chunks_by, texts_added}
 use Rattle.stream_spec.proofs.ByNumber.{by_more}
@@ -30,9 +30,8 @@ use Rattle.source_receiver.specs.Pieces.{left_of, is_heard}
 use Rattle.source_receiver.proofs.Blockwise.{heard_left}
 use Rattle.ear.specs.declared.confs.EarConf.{EarConf}
 use Rattle.ear.specs.declared.ears.Ear.{Ear}
-use Rattle.ear.specs.Texts.{AreHeardTexts}
 use Rattle.ear.specs.Hears.{told, arrival_count, is_finished, is_quiet, texts_left, ready_packet, ready_packets, last_after, Hears, Gave, IsGiving, GaveSome, Becomes, Gathered, ready_chunks, story_chunks}
-use Rattle.ear.proofs.Utf8.{added_utf8}
+use Rattle.stream_spec.proofs.HeardTexts.{added_utf8}
 use Rattle.ear.proofs.Accepted.{accepted_text}
 use Rattle.ear.proofs.Given.{fronts, above_given, given_fits, given_text, last_snoc, next_rises}
 use Rattle.ear.proofs.ReadyBy.{chunks_due, chunks_ready, chunks_front}

@@ -1,5 +1,4 @@
 pub mod Each
-pub mod Utf8
 pub mod Accepted
 pub mod Given
 pub mod ReadyBy

@@ -1,25 +1,27 @@
 -- The chunks of the packets that are ready by a moment are the chunks that are ready by then, and the first of all.
-use Rattle.std.proofs.Common.{◌≡◌, ℕ, ◌<◌, ◌≤◌, Bool, true, false, cond, Option, Some, None, List, [], ◌∷◌, ◌++◌, refl, ap, sym, ◌∙◌, inl, inr, arith, map, append-nil, append_assoc, subst, Result, Ok, Err}
+use Rattle.std.proofs.Common.{◌≡◌, ℕ, ◌<◌, ◌≤◌, Bool, true, false, cond, List, [], ◌∷◌, ◌++◌, refl, ap, sym, ◌∙◌, inl, inr, arith, map, append-nil, subst, Result, Ok, Err}
 use Rattle.std.specs.Prelude.{filter, max}
 use Rattle.std.proofs.Math.Nat.{max_comm}
-use Rattle.std.proofs.lemmas.Bool.{le-leb, lt-leb, leb-true, leb-false, false_from_ne_true}
+use Rattle.std.proofs.lemmas.Bool.{leb-true, leb-false, false_from_ne_true}
 use Rattle.std.proofs.lemmas.List.{map-append, append_cancel_left}
 use Rattle.std.proofs.lemmas.List.Elements.{filter-append}
 use Rattle.wire_spec.specs.declared.faults.TextFault.{TextFault}
 use Rattle.wire_spec.specs.Packets.{Packet, Arrival}
 use Rattle.wire_spec.specs.Dump.{latest, arrived}
 use Rattle.stream_spec.specs.Lists.{In}
-use Rattle.stream_spec.specs.Numbering.{Numbered, RisingNumbers, numbered, used, has_number}
-use Rattle.stream_spec.specs.Hearing.{is_packet_of, piece, heard, heard_by}
-use Rattle.stream_spec.specs.Ready.{Chunk, chunk, chunks_over, chunks}
-use Rattle.stream_spec.specs.ChunksBy.{chunks_by, chunks_added, texts_added}
-use Rattle.stream_spec.proofs.ByNumber.{all_by, by_more, by_texts}
+use Rattle.stream_spec.specs.Numbering.{Numbered, RisingNumbers, numbered, used}
+use Rattle.stream_spec.specs.Hearing.{heard, heard_by}
+use Rattle.stream_spec.specs.Ready.{Chunk, chunks}
+use Rattle.stream_spec.specs.ChunksBy.{chunks_by}
+use Rattle.stream_spec.proofs.ByNumber.{all_by, by_texts}
 use Rattle.stream_spec.proofs.ChunkTexts.{chunk_texts}
+use Rattle.stream_spec.specs.Fronts.{is_ready_by}
+use Rattle.stream_spec.proofs.ReadyBy.{by_early, by_late, by_front}
 use Rattle.stream_spec.proofs.Lists.{in_filter, filter_in}
 use Rattle.gap_tracker.specs.Stories.{Story, Given, dues, ready_dues, is_due}
 use Rattle.ear.specs.declared.confs.EarConf.{EarConf}
-use Rattle.ear.specs.Hears.{told, IsToldOf, ready_packet, ready_packets, is_ready_by, ready_chunks, story_chunks}
-use Rattle.ear.proofs.Given.{dues_rise, ready_stamped, rising_last}
+use Rattle.ear.specs.Hears.{told, IsToldOf, ready_packet, ready_packets, ready_chunks, story_chunks}
+use Rattle.ear.proofs.Given.{dues_rise, ready_stamped}
 
 -- ---- filters
 filter_twice : {X : Type 0} (p : X → Bool) (xs : List X) → filter p (filter p xs) ≡ filter p xs
@@ -37,52 +39,6 @@ rest_fails p xs zs e z i = false_from_ne_true (p z) (λ t. subst (In z) none (fi
     none : filter p zs ≡ []
     none = append_cancel_left (filter p xs) (filter p zs) []
         (ap (λ ys. ys ++ filter p zs) (sym (filter_twice p xs)) ∙ (sym (filter-append p (filter p xs) zs) ∙ (sym (ap (filter p) e) ∙ sym (append-nil (filter p xs)))))
-
--- ---- by a moment
-module _ (t place s : ℕ) where
-  abbrev by_then : List Chunk → List Chunk
-  by_then cs = filter (is_ready_by t) cs
-
-  early : (n : ℕ) (ts : List (List ℕ)) → n ≤ t → by_then (map (chunk place n) ts) ≡ map (chunk place n) ts
-  early n [] l = refl
-  early n (x ∷ ts) l = rw (le-leb n t l) (ap (λ cs. chunk place n x ∷ cs) (early n ts l))
-
-  late : (n : ℕ) (ts : List (List ℕ)) → t < n → by_then (map (chunk place n) ts) ≡ []
-  late n [] l = refl
-  late n (x ∷ ts) l = rw (lt-leb n t l) (late n ts l)
-
-  over_early : (present : ℕ → Bool) (first : ℕ) (prev : Option Numbered) (us : List Numbered) → ((u : Numbered) → In u us → u.time ≤ t)
-      → by_then (chunks_over (λ u. u.time) place present first prev us) ≡ chunks_over (λ u. u.time) place present first prev us
-  over_early present first prev [] f = refl
-  over_early present first prev (u ∷ us) f =
-      filter-append (is_ready_by t) (map (chunk place u.time) (piece present first prev u)) (chunks_over (λ v. v.time) place present first (Some u) us)
-      ∙ (ap (λ cs. cs ++ by_then (chunks_over (λ v. v.time) place present first (Some u) us)) (early u.time (piece present first prev u) (f u (inl refl)))
-      ∙ ap (λ cs. map (chunk place u.time) (piece present first prev u) ++ cs) (over_early present first (Some u) us (λ v i. f v (inr i))))
-
-  by_early : (us : List Numbered) → ((u : Numbered) → In u us → u.time ≤ t) → by_then (chunks_by place us s) ≡ chunks_by place us s
-  by_early [] f = refl
-  by_early (u ∷ us) f = over_early (has_number (u ∷ us)) u.number None (filter (is_packet_of s) (u ∷ us)) (λ v i. f v (in_filter (is_packet_of s) v (u ∷ us) i).0)
-
-  by_late : (vs us : List Numbered) → RisingNumbers (us ++ vs) → ((v : Numbered) → In v vs → t < v.time) → by_then (chunks_by place (us ++ vs) s) ≡ by_then (chunks_by place us s)
-  by_late [] us r f = ap (λ ws. by_then (chunks_by place ws s)) (append-nil us)
-  by_late (v ∷ vs) us r f =
-      let one : (us ++ v ∷ []) ++ vs ≡ us ++ v ∷ vs = append_assoc us (v ∷ []) vs in
-      ap (λ ws. by_then (chunks_by place ws s)) (sym one)
-      ∙ (by_late vs (us ++ v ∷ []) (subst RisingNumbers (sym one) r) (λ w i. f w (inr i))
-      ∙ (ap by_then (by_more place us v s (rising_last us v vs r))
-      ∙ (filter-append (is_ready_by t) (chunks_by place us s) (chunks_added place us v s)
-      ∙ (ap (λ cs. by_then (chunks_by place us s) ++ cs) (late v.time (texts_added us v s) (f v (inl refl))) ∙ append-nil (by_then (chunks_by place us s))))))
-
--- the chunks of the first packets are the first chunks
-pub by_front : (place s : ℕ) (vs us : List Numbered) → RisingNumbers (us ++ vs) → (rest : List Chunk) × (chunks_by place (us ++ vs) s ≡ chunks_by place us s ++ rest)
-by_front place s [] us r = ([], ap (λ ws. chunks_by place ws s) (append-nil us) ∙ sym (append-nil (chunks_by place us s)))
-by_front place s (v ∷ vs) us r =
-    let one : (us ++ v ∷ []) ++ vs ≡ us ++ v ∷ vs = append_assoc us (v ∷ []) vs in
-    let f = by_front place s vs (us ++ v ∷ []) (subst RisingNumbers (sym one) r) in (
-      chunks_added place us v s ++ f.0,
-      ap (λ ws. chunks_by place ws s) (sym one) ∙ (f.1
-          ∙ (ap (λ cs. cs ++ f.0) (by_more place us v s (rising_last us v vs r)) ∙ append_assoc (chunks_by place us s) (chunks_added place us v s) f.0)),
-    )
 
 -- ---- of a story
 pub chunks_due : (conf : EarConf) (source : ℕ) (story : Story) → story.wait ≡ conf.wait → story_chunks conf source story ≡ chunks_by conf.place (ready_packets (dues story)) source

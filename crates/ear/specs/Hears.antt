@@ -1,12 +1,13 @@
 -- What an ear stands for: what it was told, and what it gave (profile).
-use Rattle.std.specs.Prelude.{◌≡◌, ℕ, ◌+◌, ◌≤◌, Bool, true, not, ◌&&◌, nat_le, Option, None, Some, Result, Ok, Err, List, [], ◌∷◌, ◌++◌, length, filter, map}
+use Rattle.std.specs.Prelude.{◌≡◌, ℕ, ◌+◌, ◌≤◌, Bool, true, not, ◌&&◌, Option, None, Some, Result, Ok, Err, List, [], ◌∷◌, ◌++◌, length, filter, map}
 use Rattle.wire_spec.specs.declared.faults.TextFault.{TextFault}
-use Rattle.wire_spec.specs.Packets.{Packet, Arrival}
+use Rattle.wire_spec.specs.Packets.{Packet, Arrival, AreTextArrivals}
 use Rattle.wire_spec.specs.Text.{text_of}
 use Rattle.wire_spec.specs.Dump.{latest}
 use Rattle.stream_spec.specs.Numbering.{Numbered}
-use Rattle.stream_spec.specs.Hearing.{heard_by}
+use Rattle.stream_spec.specs.Hearing.{heard_by, AreHeardTexts}
 use Rattle.stream_spec.specs.Ready.{Chunk, chunk, chunks}
+use Rattle.stream_spec.specs.Fronts.{is_ready_by}
 use Rattle.stream_spec.specs.ChunksBy.{chunks_by}
 use Rattle.gap_tracker.specs.Stories.{Story, Given, came, ended, dues, ready_dues}
 use Rattle.gap_tracker.specs.Tracks.{Tracks}
@@ -16,7 +17,6 @@ use Rattle.source_receiver.specs.Stands.{Stands, AppendsHeard, latest_number}
 use Rattle.source_receiver.specs.Pieces.{left_of, is_heard}
 use Rattle.ear.specs.declared.confs.EarConf.{EarConf}
 use Rattle.ear.specs.declared.ears.Ear.{Ear}
-use Rattle.ear.specs.Texts.{AreHeardTexts, AreTextArrivals}
 
 -- ---- what is seen of an ear
 
@@ -107,9 +107,6 @@ GaveSome e conf source story gave = (given : List Given) × Gave e conf source (
 -- all chunks of the source, by what came so far
 abbrev pub story_chunks : EarConf → ℕ → Story → List Chunk
 story_chunks conf source story = chunks conf.wait conf.place story.past source
-
-abbrev pub is_ready_by : ℕ → Chunk → Bool
-is_ready_by t c = nat_le c.ready t
 
 -- those of them that are ready by the greatest moment
 abbrev pub ready_chunks : EarConf → ℕ → Story → List Chunk

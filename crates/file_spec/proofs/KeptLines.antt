@@ -25,7 +25,8 @@ use Rattle.file_spec.specs.declared.conf_lines.LegLine.{LegLine}
 use Rattle.file_spec.specs.declared.conf_lines.PlanLine.{PlanLine}
 use Rattle.file_spec.specs.declared.conf_lines.What.{What}
 use Rattle.file_spec.specs.declared.conf_lines.What.TheVariants as what
-use Rattle.file_spec.specs.Steps.{◌>>=◌, unless}
+use Rattle.rtt_base.specs.Steps.{◌>>=◌}
+use Rattle.file_spec.specs.Steps.{unless}
 use Rattle.file_spec.specs.Lines.{Line, words, told, at_line, read_lines}
 use Rattle.file_spec.specs.Numbers.{number, most_ssrc, number_between, payload_type, pts}
 use Rattle.file_spec.specs.Stays.{IsStay, is_crowd}
@@ -33,7 +34,8 @@ use Rattle.file_spec.specs.Conf.{Above, Conf, Entry, Leg, Gens, Stays, Tick, Spa
 use Rattle.file_spec.specs.Sound.{IsBetween}
 use Rattle.file_spec.specs.Kept.{IsLeg, Differ, AreLegs, IsMixerFor, IsShort, IsTick, IsSpacing, IsWait, AreTurns, Keeps, IsConference}
 use Rattle.file_spec.proofs.Crowds.{crowds_seen}
-use Rattle.file_spec.proofs.Passed.{bind_ok, unless_ok, ok_or_ok, then_some, number_most, number_in}
+use Rattle.rtt_base.proofs.Steps.{bind_ok}
+use Rattle.file_spec.proofs.Passed.{unless_ok, ok_or_ok, then_some, number_most, number_in}
 
 some_same : {A : Type 0} (x y : A) → Some x ≡ Some y → x ≡ y
 some_same x y e = cc e

@@ -1,16 +1,12 @@
 -- What tests have let through.
 use Rattle.std.proofs.Common.{◌≡◌, ℕ, ◌≤◌, Bool, true, false, Option, Some, None, List, refl, arith}
-use Rattle.std.specs.Prelude.{◌&&◌, nat_le, nat_lt, if◌then◌else◌, Result, Ok, Err, option_and_then}
+use Rattle.std.specs.Prelude.{◌&&◌, nat_le, nat_lt, if◌then◌else◌, Ok, option_and_then}
 use Rattle.std.specs.Option.{ok_or}
 use Rattle.std.specs.Str.Parse.{digits_value}
 use Rattle.std.proofs.lemmas.Bool.{and_parts, leb-true, ltb-false}
-use Rattle.file_spec.specs.Steps.{◌>>=◌, unless}
+use Rattle.file_spec.specs.Steps.{unless}
 use Rattle.file_spec.specs.Numbers.{is_number, number, number_between}
 use Rattle.file_spec.specs.Sound.{IsBetween}
-
-pub bind_ok : {A B E : Type 0} (x : Result A E) (f : A → Result B E) (y : B) → (x >>= f) ≡ Ok y → (a : A) × (x ≡ Ok a) × (f a ≡ Ok y)
-bind_ok (Ok a) f y e = (a, refl, e)
-bind_ok (Err r) f y e = absurd (cc e)
 
 pub unless_ok : {A E : Type 0} (b : Bool) (r : E) (x y : A) → unless b r x ≡ Ok y → (b ≡ false) × (x ≡ y)
 unless_ok true r x y e = absurd (cc e)

@@ -7,7 +7,8 @@ use Rattle.std.specs.Str.Lines.{lines}
 use Rattle.file_spec.specs.declared.kinds.ConfKind.{ConfKind}
 use Rattle.file_spec.specs.declared.kinds.ConfKind.TheVariants.{NotText, Count, Number, Order, Escape, Long, Large}
 use Rattle.file_spec.specs.declared.limits.TheConstants.{LAST_MOMENT, LONGEST_TEXT, MOST_SCRIPT_OCTETS}
-use Rattle.file_spec.specs.Steps.{◌>>=◌, unless}
+use Rattle.rtt_base.specs.Steps.{◌>>=◌}
+use Rattle.file_spec.specs.Steps.{unless}
 use Rattle.file_spec.specs.Lines.{Line, Refusal, told, is_comment, read_lines}
 use Rattle.file_spec.specs.Numbers.{number}
 

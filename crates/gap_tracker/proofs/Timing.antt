@@ -6,6 +6,7 @@ use Rattle.std.proofs.lemmas.Bool.Decides.{nat_tests}
 use Rattle.stream_spec.specs.Numbering.{Numbered, Falling, first_number, has_number, in_time, used, distinct_from, is_given_up}
 use Rattle.stream_spec.specs.Lists.{In}
 use Rattle.stream_spec.specs.Ready.{when, moments, least, end_of, latest_end, ready_of}
+use Rattle.stream_spec.proofs.LatestEnds.{last_same, last_has}
 use Rattle.stream_spec.proofs.Lists.{in_left, in_right, in_append, when_in}
 use Rattle.stream_spec.proofs.Matched.{used_in}
 use Rattle.stream_spec.proofs.GivingUp.{in_has}
@@ -24,10 +25,6 @@ larger_le a b c p q = grind (arith, nat_tests)
 larger_twice : (a b : ℕ) → max (max a b) b ≡ max a b
 larger_twice a b = grind (arith, nat_tests)
 
-last_same : (wait : ℕ) (past past' : List Numbered) (lo k : ℕ) → ((n : ℕ) → lo ≤ n → n < lo + k → end_of wait past n ≡ end_of wait past' n) → latest_end wait past lo k ≡ latest_end wait past' lo k
-last_same wait past past' lo zero f = refl
-last_same wait past past' lo (suc k) f = rw (f (lo + k) (omega arith) (omega arith), last_same wait past past' lo k (λ n a b. f n a (omega arith))) refl
-
 -- k more numbers with one end
 last_run : (wait : ℕ) (past : List Numbered) (lo k m : ℕ) (j : ℕ) → ((n : ℕ) → lo + k ≤ n → n < lo + k + suc j → end_of wait past n ≡ m) → latest_end wait past lo (suc j + k) ≡ max (latest_end wait past lo k) m
 last_run wait past lo k m zero f = let e : 1 + k ≡ suc k = omega arith in rw (e, f (lo + k) (omega arith) (omega arith)) refl
@@ -39,13 +36,6 @@ last_run wait past lo k m (suc j) f =
 last_le : (wait : ℕ) (past : List Numbered) (lo k t : ℕ) → ((n : ℕ) → lo ≤ n → n < lo + k → end_of wait past n ≤ t) → latest_end wait past lo k ≤ t
 last_le wait past lo zero t f = omega arith
 last_le wait past lo (suc k) t f = larger_le (latest_end wait past lo k) (end_of wait past (lo + k)) t (last_le wait past lo k t (λ n a b. f n a (omega arith))) (f (lo + k) (omega arith) (omega arith))
-
-last_ge : (wait : ℕ) (past : List Numbered) (lo k n : ℕ) → lo ≤ n → n < lo + k → end_of wait past n ≤ latest_end wait past lo k
-last_ge wait past lo zero n a b = absurd (omega arith)
-last_ge wait past lo (suc k) n a b = elim (cases_lt n (lo + k)) [
-  | inl l ↦ let r = last_ge wait past lo k n a l in let g = larger_ge (latest_end wait past lo k) (end_of wait past (lo + k)) in omega (arith, g.0)
-  | inr ge ↦ let e : n ≡ lo + k = omega arith in let g = larger_ge (latest_end wait past lo k) (end_of wait past (lo + k)) in rw e (omega (arith, g.1))
-]
 
 -- ---- steps of Timed
 pub timed_more : (wait : ℕ) (e : Numbered) (past : List Numbered) (t first front latest : ℕ) → t ≤ e.time → first ≤ front → Timed wait past t first front latest → Timed wait (e ∷ past) e.time first front latest
@@ -97,7 +87,7 @@ pub held_not_ready : (wait : ℕ) (past : List Numbered) (t first front : ℕ) (
 held_not_ready wait past t first front x fi b l i gone waits =
     let some = above_moment wait past front x i l in
     let inn = least_in (moments wait past front) (x.time + wait) some in
-    let ge = last_ge wait past first (suc x.number - first) front b (omega arith) in
+    let ge = last_has wait past first (suc x.number - first) front b (omega arith) in
     let big = larger_ge x.time (latest_end wait past first (suc x.number - first)) in
     rw (fi 0) (elim (cases_lt t (end_of wait past front)) [
       | inl lt ↦ omega (arith, big.1)

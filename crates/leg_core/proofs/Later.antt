@@ -7,7 +7,7 @@ use Rattle.wire_spec.specs.Packets.{Packet, Arrival}
 use Rattle.wire_spec.specs.Text.{text_of}
 use Rattle.wire_spec.specs.Dump.{Item, What, latest, arrived, arrivals_with, arrivals_after}
 use Rattle.wire_spec.specs.Dump as recording
-use Rattle.leg_core.specs.Fronts.{AreFrom}
+use Rattle.stream_spec.specs.Fronts.{AreFrom}
 
 -- `all` are these arrivals, and others that came at t or later
 pub record Later (t : ℕ) (came all : List Arrival) : Type 0 where

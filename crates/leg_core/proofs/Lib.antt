@@ -1,5 +1,3 @@
 pub mod Stepping
 pub mod Later
-pub mod Settled
 pub mod Fronts
-pub mod FrontsExample

@@ -1,7 +1,6 @@
 -- A leg that reads a record, and one that gives what is heard.
 use Rattle.std.proofs.Common.{◌≡◌, ℕ, ◌+◌, ◌≤◌, ◌<◌, true, false, Some, None, Ok, Err, List, [], ◌∷◌, ◌++◌, refl, ap, sym, ◌∙◌, arith, subst}
 use Rattle.std.proofs.lemmas.Bool.{true≢false}
-use Rattle.wire_spec.specs.declared.faults.DumpKind.{DumpKind}
 use Rattle.wire_spec.specs.declared.faults.DumpKind.TheVariants as kinds
 use Rattle.wire_spec.specs.Packets.{Arrival}
 use Rattle.wire_spec.specs.Dump.{Recording, with_item, arrivals_with, arrivals_after}
@@ -12,10 +11,11 @@ use Rattle.rtpdump_io.specs.declared.items.DumpFault.{DumpFault}
 use Rattle.rtpdump_io.specs.declared.items.DumpItem.{DumpItem}
 use Rattle.rtpdump_io.specs.declared.items.DumpItem.TheVariants.{Packet, Rtcp, Cut, Large, End}
 use Rattle.rtpdump_io.specs.declared.readers.DumpReader.{DumpReader}
-use Rattle.rtpdump_io.specs.Reading.{Gives, nothing, to_come, is_ended, most_answers}
+use Rattle.rtpdump_io.specs.Reading.{Gives, nothing, to_come, is_ended, most_answers, IsFaultOf}
 use Rattle.rtpdump_io.specs.Reading as reading
 use Rattle.rtpdump_io.specs.Answers.{record_of, is_end}
 use Rattle.rtpdump_io.proofs.Records.{gives_item, not_last}
+use Rattle.rtpdump_io.proofs.Told.{gives_fault}
 use Rattle.ear.specs.declared.confs.EarConf.{EarConf}
 use Rattle.ear.specs.declared.ears.Ear.{Ear}
 use Rattle.ear.specs.Hears.{IsGiving, Becomes, GivesChunk, GivesNone, GaveReady, AllReady, IsToldOf, IsReadyAtEnd, arrival_count, is_finished}
@@ -23,16 +23,7 @@ use Rattle.ear.proofs.ReadyBy.{told_arrived}
 use Rattle.leg_core.specs.declared.legs.Leg.{Leg}
 use Rattle.leg_core.specs.Sound.{FewCame, EndsWith}
 use Rattle.leg_core.specs.Items.{after_item}
-use Rattle.leg_core.specs.Gives.{LegPast, gave_chunk, recording_of, chunks_of, is_read, IsFaultOf, IsRead, IsWhole, Phase, Within, Behind, Stands}
-
--- ---- a fault that is none of the source is the recording's
-gives_kind : (offset : ℕ) (k : DumpKind) (out : List ℕ) (old new : Recording) → Gives (Err (record { offset = offset; kind = k })) out old new → is_read k ≡ false → old.fault ≡ Some (record { byte = offset; kind = k })
-gives_kind offset kinds.NotDump out old new g e = ap (λ (q : Recording). q.fault) g
-gives_kind offset kinds.BadLength out old new g e = ap (λ (q : Recording). q.fault) g
-gives_kind offset kinds.EndsInside out old new g e = ap (λ (q : Recording). q.fault) g
-gives_kind offset kinds.TooLong out old new g e = ap (λ (q : Recording). q.fault) g
-gives_kind offset kinds.TooLarge out old new g e = ap (λ (q : Recording). q.fault) g
-gives_kind offset kinds.Read out old new g e = absurd (true≢false e)
+use Rattle.leg_core.specs.Gives.{LegPast, gave_chunk, recording_of, chunks_of, IsRead, IsWhole, Phase, Within, Behind, Stands}
 
 -- ---- what is always so
 pub still_giving : (old new : Ear) (c : Chunk) → GivesChunk old new c → IsGiving old → IsGiving new
@@ -132,4 +123,4 @@ module _ {S : Type 0} (left : S → List ℕ) where
   pub reads_fault : (l : Leg S) (fault : DumpFault) (out : List ℕ) (rest : Recording) → is_ended l.reader ≡ false → Gives (Err fault) out (to_come left l.reader) rest → (past : LegPast) → Stands left l past → IsFaultOf (recording_of past) fault
   reads_fault l fault out rest o g past s not_read =
       let r = reading_yet l.reader past s.story o s.phase in
-      sym r.fault ∙ gives_kind fault.offset fault.kind out (to_come left l.reader) rest g not_read
+      sym r.fault ∙ gives_fault fault out (to_come left l.reader) rest g not_read

@@ -1,14 +1,12 @@
 -- What a leg gives of its recording (profile).
-use Rattle.std.specs.Prelude.{◌≡◌, ℕ, Bool, true, false, None, Some, Result, Ok, Err, List, [], ◌∷◌, ◌++◌}
-use Rattle.wire_spec.specs.declared.faults.DumpKind.{DumpKind}
-use Rattle.wire_spec.specs.declared.faults.DumpKind.TheVariants.{Read}
+use Rattle.std.specs.Prelude.{◌≡◌, ℕ, Bool, true, false, None, Result, Ok, Err, List, [], ◌∷◌, ◌++◌}
 use Rattle.wire_spec.specs.Packets.{Arrival}
 use Rattle.wire_spec.specs.Dump.{Recording, dump, arrivals_after}
 use Rattle.stream_spec.specs.Ready.{Chunk, chunks}
 use Rattle.gap_tracker.specs.Stories.{Story}
 use Rattle.rtpdump_io.specs.declared.items.DumpFault.{DumpFault}
 use Rattle.rtpdump_io.specs.declared.readers.DumpReader.{DumpReader}
-use Rattle.rtpdump_io.specs.Reading.{to_come, is_ended, most_answers}
+use Rattle.rtpdump_io.specs.Reading.{to_come, is_ended, most_answers, IsFaultOf}
 use Rattle.rtpdump_io.specs.Reading as reading
 use Rattle.ear.specs.declared.confs.EarConf.{EarConf}
 use Rattle.ear.specs.Hears.{Gave, IsToldOf, conf_of, ready_chunks, story_chunks}
@@ -47,14 +45,6 @@ abbrev pub chunks_of : LegPast → List Chunk
 chunks_of past = chunks past.conf.wait past.conf.place (came_of past) past.conf.ssrc
 
 -- ---- what it answers
-
--- the recording has this fault, where it is none of the source
-abbrev pub is_read : DumpKind → Bool
-is_read Read = true
-is_read _ = false
-
-abbrev pub IsFaultOf : Recording → DumpFault → Type 0
-IsFaultOf recording fault = is_read fault.kind ≡ false → recording.fault ≡ Some (record { byte = fault.offset; kind = fault.kind })
 
 -- nothing comes after this answer
 abbrev pub is_last : Result LegStep DumpFault → Bool

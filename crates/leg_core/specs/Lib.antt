@@ -1,4 +1,3 @@
 pub mod Sound
 pub mod Items
-pub mod Fronts
 pub mod Gives

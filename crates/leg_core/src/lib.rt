@@ -6,7 +6,7 @@ mod legs;
 mod records;
 mod steps;
 
-pub use laws::{given_is_front, settled_stays};
+pub use laws::given_is_front;
 pub use legs::{Leg, LegLost};
 pub use steps::LegStep;
 

@@ -11,7 +11,8 @@ use Rattle.wire_spec.specs.declared.faults.RedFault.{RedFault}
 use Rattle.wire_spec.specs.declared.faults.RedFault.TheVariants.{Cut, Many, Long, NotText}
 use Rattle.std.proofs.lemmas.Result.{IfOk-at_ok}
 use Rattle.wire_spec.specs.Packets.{HasPrimary}
-use Rattle.wire_spec.specs.Steps.{◌>>=◌, Gives}
+use Rattle.rtt_base.specs.Steps.{◌>>=◌}
+use Rattle.wire_spec.specs.Steps.{Gives}
 use Rattle.wire_spec.specs.Red.{Headers, header_of, header_at, headers_at, and_others, older_size, blocks_at, all_utf8, checked, texts_at, with_header}
 use Rattle.red_blocks.specs.Reading.{headers_of, after_headers, after_blocks, after_block}
 

@@ -1,5 +1,5 @@
 -- The packets of a stream of at most three generations have octets, and few.
-use Rattle.std.proofs.Common.{◌≡◌, ℕ, zero, suc, ◌+◌, ◌-◌, ◌*◌, ◌%◌, ◌<◌, ◌≤◌, ◌^◌, ◌≢◌, Bool, true, false, cond, Option, None, Some, inl, inr, List, [], ◌∷◌, ◌++◌, length, take, refl, ap, subst, sym, ◌∙◌, length-append, arith}
+use Rattle.std.proofs.Common.{◌≡◌, ℕ, zero, suc, ◌+◌, ◌-◌, ◌*◌, ◌%◌, ◌<◌, ◌≤◌, ◌^◌, ◌≢◌, Bool, true, false, cond, Option, None, Some, inl, inr, List, [], ◌∷◌, ◌++◌, length, take, refl, subst, sym, ◌∙◌, length-append, arith}
 use Rattle.std.specs.Prelude.{min, option_to_list, IsUtf8}
 use Rattle.std.specs.List.{flat_map, AllByRecursion}
 use Rattle.std.specs.Int.{w32, to_be_bytes}
@@ -8,25 +8,13 @@ use Rattle.rtt_base.specs.declared.blocks.TextBlock.{TextBlock}
 use Rattle.rtt_base.specs.declared.text_packets.Pts.{Pts}
 use Rattle.wire_spec.specs.Packets.{has_text}
 use Rattle.wire_spec.specs.Rtp.{Head, rtp_written}
-use Rattle.wire_spec.specs.Red.{IsText, IsRedundant}
+use Rattle.wire_spec.specs.Red.{IsRedundant}
 use Rattle.wire_spec.specs.SentPackets.{payload_sent, head_of, packet_written, FitsPacket}
 use Rattle.stream_spec.specs.Lists.{In}
-use Rattle.stream_spec.specs.Own.{Sent, Stream, sent_of, nth, repeat_of, repeats, MaySend, Sendable, packet_after}
-use Rattle.stream_spec.proofs.Sent.{in_sent_of}
+use Rattle.stream_spec.specs.Own.{Sent, Stream, sent_of, nth, repeat_of, repeats, Sendable, packet_after}
+use Rattle.stream_spec.proofs.Sent.{in_sent_of, nth_in, take_in}
 use Rattle.red_blocks.specs.Writing.{text_octets}
 use Rattle.red_blocks.proofs.Spelling.{spelling_size}
-
-take_in : (n : ℕ) (zs : List Sent) (z : Sent) → In z (take n zs) → In z zs
-take_in zero zs z i = absurd i
-take_in (suc n) [] z i = absurd i
-take_in (suc n) (y ∷ zs) z (inl q) = inl q
-take_in (suc n) (y ∷ zs) z (inr i) = inr (take_in n zs z i)
-
-nth_in : (n k : ℕ) (zs : List Sent) (z : Sent) → k < n → nth k zs ≡ Some z → In z (take n zs)
-nth_in zero k zs z l e = absurd (omega arith)
-nth_in (suc n) k [] z l e = cc e
-nth_in (suc n) zero (y ∷ zs) z l e = inl (let q : y ≡ z = cc e in sym q)
-nth_in (suc n) (suc k) (y ∷ zs) z l e = inr (nth_in n k zs z (omega arith) e)
 
 text_sent : (c : Stream) (zs : List Sent) (z : Sent) → Sendable c zs → In z zs → (length z.text ≤ 1023) × IsUtf8 z.text
 text_sent c [] z s i = absurd i
@@ -47,7 +35,7 @@ redundant_is media (Some z) f = let t = f z refl in (go (has_text z.text) t.1, (
 
 older_fits : (k g media : ℕ) (zs : List Sent) → k ≤ g → ((z : Sent) → In z (take g zs) → IsNearText media z) → AllByRecursion IsRedundant (repeats k media zs)
 older_fits zero g media zs l f = tt
-older_fits (suc k) g media zs l f = (redundant_is media (nth k zs) (λ z e. f z (nth_in g k zs z (omega arith) e)), older_fits k g media zs (omega arith) f)
+older_fits (suc k) g media zs l f = (redundant_is media (nth k zs) (λ z e. f z (nth_in k g zs z e (omega arith))), older_fits k g media zs (omega arith) f)
 
 older_count : (g media : ℕ) (zs : List Sent) → length (repeats g media zs) ≡ g
 older_count zero media zs = refl

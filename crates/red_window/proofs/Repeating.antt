@@ -1,13 +1,13 @@
 -- The kept blocks repeat what was sent.
-use Rattle.std.proofs.Common.{◌≡◌, ℕ, zero, suc, ◌+◌, ◌-◌, ◌%◌, ◌^◌, ◌<◌, ◌≤◌, Bool, true, false, cond, Option, None, Some, inl, inr, List, [], ◌∷◌, ◌++◌, length, take, drop, set, get_or, refl, ap, subst, sym, ◌∙◌, append_assoc, arith}
-use Rattle.std.specs.Prelude.{map, min, max, not, slice_get, ◌==◌, ◌||◌}
+use Rattle.std.proofs.Common.{◌≡◌, ℕ, zero, suc, ◌+◌, ◌-◌, ◌%◌, ◌^◌, ◌<◌, ◌≤◌, Bool, true, false, cond, Option, None, Some, List, [], ◌∷◌, ◌++◌, length, take, drop, set, get_or, refl, ap, subst, sym, ◌∙◌, arith}
+use Rattle.std.specs.Prelude.{min, max, not, slice_get, ◌==◌, ◌||◌}
 use Rattle.std.specs.List.{list_any}
 use Rattle.std.proofs.lemmas.Bool.Decides.{nat_tests}
 use Rattle.rtt_base.specs.declared.blocks.TextBlock.{TextBlock}
 use Rattle.rtt_base.specs.Stamps.{ahead}
 use Rattle.wire_spec.specs.Packets.{has_text}
-use Rattle.stream_spec.specs.Lists.{In}
 use Rattle.stream_spec.specs.Own.{Sent, nth, repeat_of, repeats, has_text_in}
+use Rattle.stream_spec.proofs.Sent.{nth_in}
 use Rattle.red_window.specs.Kept.{in_turn, block_kept, blocks_kept}
 use Rattle.red_window.specs.declared.kept.KeptBlock.{KeptBlock}
 use Rattle.red_window.specs.Standing.{kept_of, kept_last, StandsFor, MayFollow}
@@ -88,12 +88,6 @@ last_or_more (suc g) past = let m : max 1 (suc g) ≡ suc g = omega arith in rw 
     go (z ∷ zs) = again (has_text z.text) (has_text_in g zs)
 
 -- ---- the blocks
-nth_in : (k n : ℕ) (zs : List Sent) (z : Sent) → nth k zs ≡ Some z → k < n → In z (take n zs)
-nth_in k n [] z e l = cc e
-nth_in k zero (y ∷ zs) z e l = absurd (omega arith)
-nth_in zero (suc n) (y ∷ zs) z e l = inl (cc e)
-nth_in (suc k) (suc n) (y ∷ zs) z e l = inr (nth_in k n zs z e (omega arith))
-
 -- stamps that lie less than half the circle apart
 distance_is : (base m n : ℕ) → n ≤ m → m < n + 2 ^ 31 → ahead ((base + m) % 2 ^ 32) ((base + n) % 2 ^ 32) ≡ m - n
 distance_is base m n a b = omega arith

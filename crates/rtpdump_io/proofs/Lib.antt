@@ -2,3 +2,4 @@ pub mod Pieces
 pub mod Lines
 pub mod Recordings
 pub mod Records
+pub mod Told

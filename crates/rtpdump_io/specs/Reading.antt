@@ -2,7 +2,7 @@
 use Rattle.std.specs.Prelude.{◌≡◌, ℕ, ◌-◌, List, [], Bool, true, false, None, Some, Result, Ok, Err}
 use Rattle.wire_spec.specs.declared.faults.DumpKind.{DumpKind}
 use Rattle.wire_spec.specs.declared.faults.DumpKind.TheVariants as kind
-use Rattle.wire_spec.specs.Dump.{Item, Sent, Place, Fault, Step, Next, Broken, Recording, with_item, records, dump}
+use Rattle.wire_spec.specs.Dump.{Item, Sent, Place, Recording, with_item, records, dump}
 use Rattle.wire_spec.specs.Dump as dumps
 use Rattle.rtpdump_io.specs.declared.items.DumpItem.{DumpItem}
 use Rattle.rtpdump_io.specs.declared.items.DumpItem.TheVariants.{Packet, Rtcp, Cut, Large, End}
@@ -41,6 +41,15 @@ Gives (Ok (Cut at)) out old new = old ≡ with_item (item_at at dumps.Cut) new
 Gives (Ok (Large at)) out old new = old ≡ with_item (item_at at dumps.Large) new
 Gives (Ok End) out old new = old ≡ nothing
 Gives (Err fault) out old new = Breaks fault.kind fault.offset old
+
+-- the source failed, and not the recording
+abbrev pub is_of_source : DumpKind → Bool
+is_of_source kind.Read = true
+is_of_source _ = false
+
+-- the recording has this fault, where it is none of the source
+abbrev pub IsFaultOf : Recording → DumpFault → Type 0
+IsFaultOf recording fault = is_of_source fault.kind ≡ false → recording.fault ≡ Some (record { byte = fault.offset; kind = fault.kind })
 
 -- nothing comes after this answer
 abbrev pub is_last : Result DumpItem DumpFault → Bool

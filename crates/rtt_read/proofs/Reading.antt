@@ -1,14 +1,11 @@
 -- A listener that is told of the records of a recording, one after another.
-use Rattle.std.proofs.Common.{◌≡◌, ℕ, ◌+◌, ◌≤◌, Bool, true, false, cond, Some, List, ◌∷◌, refl, ap, sym, ◌∙◌, arith, length, subst, Err, ◌⊎◌, inl, inr}
+use Rattle.std.proofs.Common.{◌≡◌, ℕ, ◌+◌, ◌≤◌, Bool, true, false, cond, Some, List, ◌∷◌, refl, ap, sym, ◌∙◌, arith, length, subst, ◌⊎◌, inl, inr}
 use Rattle.std.specs.Prelude.{filter}
 use Rattle.wire_spec.specs.Packets.{Arrival}
 use Rattle.wire_spec.specs.Dump.{Item, Recording, with_item, arrivals_with, arrivals_after, arrived}
 use Rattle.wire_spec.specs.Text.{text_of}
-use Rattle.wire_spec.specs.declared.faults.DumpKind.{DumpKind}
 use Rattle.wire_spec.specs.declared.faults.DumpKind.TheVariants as kinds
-use Rattle.std.proofs.lemmas.Bool.{true≢false}
-use Rattle.rtpdump_io.specs.declared.items.DumpFault.{DumpFault}
-use Rattle.rtpdump_io.specs.Reading.{Gives, is_ended, most_answers, source_of, to_come}
+use Rattle.rtpdump_io.specs.Reading.{is_ended, most_answers, source_of, to_come}
 use Rattle.rtpdump_io.specs.declared.items.DumpItem.{DumpItem}
 use Rattle.rtpdump_io.specs.declared.items.DumpItem.TheVariants.{Packet, Cut, Large}
 use Rattle.rtpdump_io.specs.declared.readers.DumpReader.{DumpReader}
@@ -16,7 +13,7 @@ use Rattle.command_spec.specs.declared.requests.ReadRequest.{ReadRequest}
 use Rattle.rtt_read.specs.declared.listeners.Listener.{Listener}
 use Rattle.command_spec.specs.Reading.{Fate, fate, fate_of, many, is_packet, is_refused, is_foreign}
 use Rattle.rtt_read.specs.Hears.{Listens, IsListening, CountsAs, one_if}
-use Rattle.rtt_read.specs.Recordings.{Heard, Hearing, is_read}
+use Rattle.rtt_read.specs.Recordings.{Heard, Hearing}
 use Rattle.rtpdump_io.specs.Answers.{record_of}
 
 many_more : (p : Fate → Bool) (r : ReadRequest) (item : Item) (items : List Item) → many p (fate r) (item ∷ items) ≡ one_if (p (fate r item)) + many p (fate r) items
@@ -42,18 +39,6 @@ heard_step r before now next l m n past item h e li c = record {
 -- at the beginning nothing was told
 pub heard_none : (before : Recording) (l : Listener) → Hearing before l before l
 heard_none before l r past li = record { arrivals = past; listens = li; same = refl; fault = refl; packets = refl; refused = refl; foreign = refl }
-
--- a fault that is none of the source is the recording's
-gives_kind : (offset : ℕ) (k : DumpKind) (out : List ℕ) (old new : Recording) → Gives (Err (record { offset = offset; kind = k })) out old new → is_read k ≡ false → old.fault ≡ Some (record { byte = offset; kind = k })
-gives_kind offset kinds.NotDump out old new g e = ap (λ (q : Recording). q.fault) g
-gives_kind offset kinds.BadLength out old new g e = ap (λ (q : Recording). q.fault) g
-gives_kind offset kinds.EndsInside out old new g e = ap (λ (q : Recording). q.fault) g
-gives_kind offset kinds.TooLong out old new g e = ap (λ (q : Recording). q.fault) g
-gives_kind offset kinds.TooLarge out old new g e = ap (λ (q : Recording). q.fault) g
-gives_kind offset kinds.Read out old new g e = absurd (true≢false e)
-
-pub gives_fault : (fault : DumpFault) (out : List ℕ) (old new : Recording) → Gives (Err fault) out old new → is_read fault.kind ≡ false → old.fault ≡ Some (record { byte = fault.offset; kind = fault.kind })
-gives_fault fault out old new g e = gives_kind fault.offset fault.kind out old new g e
 
 -- a packet that is handed out
 pub as_packet : (item : DumpItem) (at : ℕ) (octets : List ℕ) (l m : Listener) → item ≡ Packet at

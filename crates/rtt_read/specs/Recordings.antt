@@ -1,10 +1,8 @@
 -- How far a recording was heard, record by record.
-use Rattle.std.specs.Prelude.{◌≡◌, ◌+◌, Bool, Some, List}
-use Rattle.wire_spec.specs.declared.faults.DumpKind.{DumpKind}
-use Rattle.wire_spec.specs.declared.faults.DumpKind.TheVariants.{Read}
+use Rattle.std.specs.Prelude.{◌≡◌, ◌+◌, Bool, List}
 use Rattle.wire_spec.specs.Packets.{Arrival}
 use Rattle.wire_spec.specs.Dump.{Recording, arrivals_after}
-use Rattle.rtpdump_io.specs.declared.items.DumpFault.{DumpFault}
+use Rattle.rtpdump_io.specs.Reading.{is_of_source, IsFaultOf}
 use Rattle.command_spec.specs.declared.requests.ReadRequest.{ReadRequest}
 use Rattle.command_spec.specs.Reading.{many, fate, is_packet, is_refused, is_foreign}
 use Rattle.rtt_read.specs.Hears.{Listens}
@@ -27,18 +25,10 @@ abbrev pub Hearing : Recording → Listener → Recording → Listener → Type 
 Hearing before l now m = (r : ReadRequest) (past : List Arrival) → Listens l r past → Heard r before l past now m
 
 -- the source failed
-abbrev pub is_read : DumpKind → Bool
-is_read Read = Bool.true
-is_read _ = Bool.false
-
 abbrev pub IsSourceFault : ListenFault → Type 0
-IsSourceFault (Recorded fault) = is_read fault.kind ≡ Bool.true
+IsSourceFault (Recorded fault) = is_of_source fault.kind ≡ Bool.true
 IsSourceFault NoMemory = ⊥
 
--- the recording has this fault, where it is none of the source
-abbrev pub FaultOf : Recording → DumpFault → Type 0
-FaultOf recording fault = is_read fault.kind ≡ Bool.false → recording.fault ≡ Some (record { byte = fault.offset; kind = fault.kind })
-
 abbrev pub ListenFaultOf : Recording → ListenFault → Type 0
-ListenFaultOf recording (Recorded fault) = FaultOf recording fault
+ListenFaultOf recording (Recorded fault) = IsFaultOf recording fault
 ListenFaultOf recording NoMemory = Unit {0}

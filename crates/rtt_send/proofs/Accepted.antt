@@ -15,32 +15,18 @@ use Rattle.std.proofs.lemmas.Bool.Decides.{nat_tests}
 use Rattle.std.proofs.lemmas.Str.{IsUtf8-append, IsUtf8-take, IsUtf8-drop, IsUtf8-from_is_utf8, IsCharBoundary-before_ascii, IsCharBoundary-after_ascii}
 use Rattle.file_spec.specs.declared.kinds.ConfKind.{ConfKind}
 use Rattle.file_spec.specs.declared.kinds.ConfKind.TheVariants.{NotText, Count, Number, Order, Escape, Long, Large}
-use Rattle.file_spec.specs.Script.{ScriptLine}
-use Rattle.file_spec.specs.Steps.{◌>>=◌, unless}
+use Rattle.file_spec.specs.Script.{ScriptLine, escape, followed, unescaped, typed, around_space, script_line, latest, and_line, script}
+use Rattle.rtt_base.proofs.Steps.{bind_ok}
+use Rattle.file_spec.specs.Steps.{unless}
+use Rattle.file_spec.proofs.Passed.{unless_ok, ok_or_ok, number_most}
 use Rattle.file_spec.specs.Lines.{Line, told, is_comment, at_line, read_lines}
 use Rattle.file_spec.specs.Numbers.{is_number, number}
-use Rattle.file_spec.specs.Script.{escape, followed, unescaped, typed, around_space, script_line, latest, and_line, script}
 use Rattle.command_spec.specs.Scripts.{InOrder, AreLines}
 
 -- ---- one test after another
-bind_ok : {A B E : Type 0} (x : Result A E) (f : A → Result B E) (y : B) → (x >>= f) ≡ Ok y → (a : A) × (x ≡ Ok a) × (f a ≡ Ok y)
-bind_ok (Ok a) f y e = (a, refl, e)
-bind_ok (Err r) f y e = absurd (cc e)
-
-unless_ok : {A E : Type 0} (b : Bool) (r : E) (x y : A) → unless b r x ≡ Ok y → (b ≡ false) × (x ≡ y)
-unless_ok true r x y e = absurd (cc e)
-unless_ok false r x y e = (refl, cc e)
-
-ok_or_ok : {A E : Type 0} (o : Option A) (r : E) (y : A) → ok_or o r ≡ Ok y → o ≡ Some y
-ok_or_ok None r y e = absurd (cc e)
-ok_or_ok (Some x) r y e = cc e
-
 not_false : (b : Bool) → not b ≡ false → b ≡ true
 not_false true e = refl
 not_false false e = cc e
-
-number_most : (most : ℕ) (text : List ℕ) (n : ℕ) → number most text ≡ Some n → n ≤ most
-number_most most text n e = go (is_number text && nat_le (digits_value 10 text) most) refl e
   where
     go : (b : Bool) → (is_number text && nat_le (digits_value 10 text) most) ≡ b → (if b then Some (digits_value 10 text) else None) ≡ Some n → n ≤ most
     go true q e = let s : digits_value 10 text ≡ n = cc e in let l = leb-true (digits_value 10 text) most (and_parts (is_number text) (nat_le (digits_value 10 text) most) q).1 in omega arith

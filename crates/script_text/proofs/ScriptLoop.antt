@@ -1,9 +1,8 @@
 -- What a loop has read of a script.
 use Rattle.std.proofs.Common.{◌≡◌, ℕ, ◌+◌, ◌<◌, ◌≤◌, false, List, [], ◌∷◌, ◌++◌, length, Ok, refl, ap, sym, ◌∙◌, arith}
-use Rattle.file_spec.specs.Script.{ScriptLine}
+use Rattle.file_spec.specs.Script.{ScriptLine, latest, and_line, script_line}
 use Rattle.file_spec.specs.Lines.{told, is_comment, read_lines}
-use Rattle.file_spec.specs.Script.{latest, and_line, script_line}
-use Rattle.file_spec.specs.Steps.{◌>>=◌}
+use Rattle.rtt_base.specs.Steps.{◌>>=◌}
 use Rattle.std.specs.Str.Lines.{lines}
 use Rattle.file_lines.proofs.LineByLine.{one_read}
 

@@ -1,13 +1,13 @@
 -- The texts of the chunks are what is heard, and their moments never fall.
-use Rattle.std.proofs.Common.{◌≡◌, ℕ, zero, suc, ◌+◌, ◌-◌, ◌<◌, ◌≤◌, Bool, inl, inr, Option, Some, None, List, [], ◌∷◌, ◌++◌, refl, ap, ◌∙◌, arith}
+use Rattle.std.proofs.Common.{◌≡◌, ℕ, suc, ◌+◌, ◌-◌, ◌<◌, ◌≤◌, Bool, inl, inr, Option, Some, None, List, [], ◌∷◌, ◌++◌, refl, ap, ◌∙◌, arith}
 use Rattle.std.specs.Prelude.{map, filter}
-use Rattle.std.proofs.lemmas.Bool.{cases_lt}
 use Rattle.std.proofs.lemmas.List.{map-append}
 use Rattle.wire_spec.specs.Packets.{Arrival}
 use Rattle.stream_spec.specs.Lists.{In}
 use Rattle.stream_spec.specs.Numbering.{Numbered, RisingNumbers, Falling, numbered, used, has_number, first_number}
 use Rattle.stream_spec.specs.Hearing.{piece, heard_over, heard, is_packet_of}
 use Rattle.stream_spec.specs.Ready.{Chunk, chunk, chunks_over, chunks, ready_of, latest_end, ReadyRises}
+use Rattle.stream_spec.proofs.LatestEnds.{last_up}
 use Rattle.stream_spec.proofs.Lists.{in_append, in_filter}
 use Rattle.stream_spec.proofs.Rising.{used_rises, used_above, rising_filter}
 use Rattle.stream_spec.proofs.Ready.{end_used}
@@ -29,13 +29,6 @@ chunk_texts wait place a s =
     over_texts (ready_of wait (numbered a)) place (has_number (used wait (numbered a))) (first_number 0 (numbered a)) None (filter (is_packet_of s) (used wait (numbered a)))
 
 -- ---- ready times
-last_up : (wait : ℕ) (past : List Numbered) (lo k l : ℕ) → k ≤ l → latest_end wait past lo k ≤ latest_end wait past lo l
-last_up wait past lo k zero h = let e : k ≡ 0 = omega arith in rw e (omega arith)
-last_up wait past lo k (suc l) h = elim (cases_lt l k) [
-  | inl lt ↦ let e : k ≡ suc l = omega arith in rw e (omega arith)
-  | inr ge ↦ let r = last_up wait past lo k l ge in omega arith
-]
-
 -- a used packet has come by the last end up to its number
 used_by : (wait : ℕ) (past : List Numbered) (u : Numbered) → Falling past → In u (used wait past) → first_number 0 past ≤ u.number → u.time ≤ latest_end wait past (first_number 0 past) (suc u.number - first_number 0 past)
 used_by wait past u f i l =

@@ -21,3 +21,9 @@ pub mod ByNumber
 pub mod Closing
 pub mod InTime
 pub mod Falls
+pub mod HeardTexts
+pub mod LatestEnds
+pub mod Settled
+pub mod ReadyBy
+pub mod Fronts
+pub mod FrontsExample

@@ -1,10 +1,10 @@
 -- Used packets rise in number, from the first number on.
-use Rattle.std.proofs.Common.{◌≡◌, ℕ, suc, ◌≤◌, Bool, true, false, cond, not, ◌⊎◌, inl, inr, List, [], ◌∷◌, length, refl, ap, sym, ◌∙◌, arith}
+use Rattle.std.proofs.Common.{◌≡◌, ℕ, suc, ◌<◌, ◌≤◌, Bool, true, false, cond, not, ◌⊎◌, inl, inr, List, [], ◌∷◌, ◌++◌, length, refl, ap, sym, ◌∙◌, arith}
 use Rattle.std.specs.Prelude.{filter, ◌&&◌, nat_le, nat_lt}
 use Rattle.std.proofs.lemmas.Bool.{true≢false, leb-true, ltb-true, ltb-false, and_parts, not-true}
 use Rattle.stream_spec.specs.Lists.{In}
 use Rattle.stream_spec.specs.Numbering.{Numbered, RisingNumbers, used, in_time, by_number, has_number, first_number, is_given_up}
-use Rattle.stream_spec.proofs.Lists.{in_filter}
+use Rattle.stream_spec.proofs.Lists.{in_filter, in_right}
 use Rattle.stream_spec.proofs.GivingUp.{in_has}
 use Rattle.stream_spec.proofs.Matched.{in_by_number, used_in}
 
@@ -78,3 +78,14 @@ used_more wait e past u i = go (in_time wait e past)
     go : (b : Bool) → In u (cond b (by_number e (used wait past)) (used wait past))
     go true = by_number_in e u (used wait past) (inr i)
     go false = i
+
+-- ---- parts of a rising list
+pub rising_above : (xs : List Numbered) (x : Numbered) (ys : List Numbered) → RisingNumbers (xs ++ x ∷ ys) → (y : Numbered) → In y ys → x.number < y.number
+rising_above [] x ys r y i = r.0 y i
+rising_above (z ∷ xs) x ys r y i = rising_above xs x ys r.1 y i
+
+-- what stands in a rising list stands above all before it
+pub rising_below : (xs : List Numbered) (x : Numbered) (ys : List Numbered) → RisingNumbers (xs ++ x ∷ ys) → (y : Numbered) → In y xs → y.number < x.number
+rising_below [] x ys r y i = absurd i
+rising_below (z ∷ xs) x ys r y (inl e) = let l = r.0 x (in_right x xs (x ∷ ys) (inl refl)) in omega (arith, ap (λ (w : Numbered). w.number) e)
+rising_below (z ∷ xs) x ys r y (inr i) = rising_below xs x ys r.1 y i

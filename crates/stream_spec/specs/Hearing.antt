@@ -1,6 +1,6 @@
 -- What a receiver hears of a source: each text once, and U+FFFD where text may be missing (RFC 4103, section 4 and
 -- Addendum 1; the rule for a marker where many sources share one numbering is a profile).
-use Rattle.std.specs.Prelude.{◌≡◌, ℕ, zero, suc, ◌+◌, ◌-◌, ◌==◌, Bool, true, Option, None, Some, List, [], ◌∷◌, ◌++◌, length, filter, ◌&&◌, nat_lt, if◌then◌else◌}
+use Rattle.std.specs.Prelude.{◌≡◌, ℕ, zero, suc, ◌+◌, ◌-◌, ◌==◌, Bool, true, Option, None, Some, List, [], ◌∷◌, ◌++◌, length, filter, IsUtf8, ◌&&◌, nat_lt, if◌then◌else◌}
 use Rattle.rtt_base.specs.declared.blocks.TextBlock.{TextBlock}
 use Rattle.rtt_base.specs.Stamps.{is_after}
 use Rattle.wire_spec.specs.Packets.{Arrival, back, has_text}
@@ -73,6 +73,11 @@ heard_of first s us = heard_over (has_number us) first None (filter (is_packet_o
 -- what is heard of the source s by these arrivals
 abbrev pub heard : ℕ → List Arrival → ℕ → List (List ℕ)
 heard wait a s = heard_of (first_number 0 (numbered a)) s (used wait (numbered a))
+
+-- each of these is a text: it is not empty, and is UTF-8
+abbrev pub AreHeardTexts : List (List ℕ) → Type 0
+AreHeardTexts [] = Unit {0}
+AreHeardTexts (t ∷ ts) = (has_text t ≡ true) × IsUtf8 t × AreHeardTexts ts
 
 -- ---- packet by packet: what b adds behind used packets of lower numbers
 -- the first number

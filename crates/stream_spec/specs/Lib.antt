@@ -3,6 +3,7 @@ pub mod Numbering
 pub mod Hearing
 pub mod Ready
 pub mod ChunksBy
+pub mod Fronts
 pub mod History
 pub mod Kept
 pub mod Carries

@@ -8,6 +8,8 @@ ghost use Rattle.stream_spec.specs.Lists.{In};
 ghost use Rattle.stream_spec.specs.Numbering.{Numbered, Falling, RisingNumbers, numbered, used, first_number, has_number, is_given_up, nearest, distance};
 ghost use Rattle.stream_spec.specs.Hearing.{heard, heard_by, adds_marker, adds_texts, marker};
 ghost use Rattle.stream_spec.specs.Ready.{chunks, moments, ReadyRises};
+ghost use Rattle.stream_spec.specs.ChunksBy.{used_ready};
+ghost use Rattle.stream_spec.specs.Fronts.{IsFront, AreFrom, packets_ready_by, chunks_ready_by};
 ghost use Rattle.stream_spec.specs.InTime.{CameInTime, IsOverdue, IsOvertaken};
 ghost use Rattle.stream_spec.specs.History.{History, Placed, Lawful, IsPacket, Come, placed, places};
 ghost use Rattle.stream_spec.specs.Kept.{Mark, Block, kept, texts, blocks_in, Rising, ArePlaces, IsCarried, NoGap, Parts, is_text_of};
@@ -101,4 +103,13 @@ pub fn recordings_never_fall()
     ensures items { (items : List Dump.Item) (ssrc : ℕ) (pts : Pts) → Falling (numbered (Dump.arrivals_after ssrc pts [] items)) }
     ensures times { (octets : List ℕ) (ssrc : ℕ) (pts : Pts) → Falling (numbered (Dump.arrivals octets ssrc pts)) }
     ensures ready { (octets : List ℕ) (ssrc : ℕ) (pts : Pts) (wait place s : ℕ) → ReadyRises (chunks wait place (Dump.arrivals octets ssrc pts) s) }
+{}
+
+/// Later arrivals keep what is settled. The used packets that are ready by `t` stay, with the moments at which they are
+/// ready, and stand before all others, whatever comes at `t` or later; and so do the chunks that are ready by `t`.
+pub fn settled_stays()
+    ensures packets { (wait t : ℕ) (later earlier : List Arrival) → Falling (numbered earlier) → AreFrom t later
+        → IsFront (packets_ready_by wait t earlier) (used_ready wait (later ++ earlier)) }
+    ensures chunks { (wait place s t : ℕ) (later earlier : List Arrival) → Falling (numbered earlier) → AreFrom t later
+        → IsFront (chunks_ready_by wait place t earlier s) (chunks wait place (later ++ earlier) s) }
 {}

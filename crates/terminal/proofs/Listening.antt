@@ -4,7 +4,7 @@ use Rattle.std.specs.Prelude.{OnOk, All, slice_index, slice_index_or}
 use Rattle.std.specs.List.{concat}
 use Rattle.std.proofs.lemmas.List.{length-map}
 use Rattle.wire_spec.specs.declared.faults.TextFault.{TextFault}
-use Rattle.wire_spec.specs.Packets.{Packet, Arrival}
+use Rattle.wire_spec.specs.Packets.{Packet, Arrival, AreTextArrivals}
 use Rattle.wire_spec.specs.Text.{text_of}
 use Rattle.wire_spec.specs.Dump.{arrived}
 use Rattle.stream_spec.specs.Numbering.{Numbered, numbered, used}
@@ -15,13 +15,12 @@ use Rattle.source_receiver.specs.declared.source_texts.SourceText.{SourceText}
 use Rattle.source_receiver.specs.Each.{IsHeardOf, marks_by}
 use Rattle.ear.specs.declared.confs.EarConf.{EarConf}
 use Rattle.ear.specs.declared.ears.Ear.{Ear}
-use Rattle.ear.specs.Texts.{AreTextArrivals}
 use Rattle.ear.specs.Hears.{told, all_given, arrival_count, is_quiet, is_finished, ready_packets, Becomes, AllReady, Hears}
 use Rattle.ear.specs.Each.{HearsEach, GathersEach}
 use Rattle.ear.proofs.Given.{ready_stamped}
 use Rattle.ear.proofs.Giving.{told_given}
 use Rattle.ear.proofs.ReadyBy.{heard_dues, told_arrived}
-use Rattle.ear.proofs.Utf8.{heard_utf8}
+use Rattle.stream_spec.proofs.HeardTexts.{heard_utf8}
 use Rattle.text_spec.specs.declared.counts.Counts.{Counts}
 use Rattle.terminal.specs.declared.confs.TermConf.{TermConf}
 use Rattle.terminal.specs.declared.terminals.Terminal.{Terminal}

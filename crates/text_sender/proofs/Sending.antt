@@ -1,5 +1,5 @@
 -- The steps of a sender.
-use Rattle.std.proofs.Common.{◌≡◌, ℕ, zero, suc, ◌+◌, ◌%◌, ◌<◌, ◌≤◌, ◌^◌, Bool, true, false, Some, Result, Ok, Err, List, [], ◌∷◌, ◌++◌, length, take, drop, inl, inr, refl, ap, subst, sym, ◌∙◌, arith}
+use Rattle.std.proofs.Common.{◌≡◌, ℕ, suc, ◌+◌, ◌%◌, ◌<◌, ◌≤◌, ◌^◌, Bool, true, false, Some, Result, Ok, Err, List, [], ◌∷◌, ◌++◌, length, take, drop, refl, ap, subst, sym, ◌∙◌, arith}
 use Rattle.std.specs.Prelude.{min, max, not, ◌&&◌, ◌||◌, ◌==◌, IsUtf8, IsOk, OnOk}
 use Rattle.std.proofs.lemmas.Bool.Decides.{nat_tests}
 use Rattle.rtt_base.specs.declared.blocks.TextBlock.{TextBlock}
@@ -9,10 +9,11 @@ use Rattle.wire_spec.specs.SentPackets.{packet_written}
 use Rattle.stream_spec.specs.Lists.{In}
 use Rattle.stream_spec.specs.Own.{Sent, sent_of, repeats, has_text_in, packet_after, Sendable}
 use Rattle.stream_spec.specs.Typed.{Event, Text, Ask, Turned, sents, longest_step, media_at, entry_at, due_at, last_ask, whole_front, IsScript}
+use Rattle.stream_spec.proofs.Sent.{take_in}
 use Rattle.stream_spec.proofs.Typing.{waits_more, waits_less, entries_more, paced}
 use Rattle.red_window.specs.Standing as window
 use Rattle.red_window.specs.Standing.{MayFollow}
-use Rattle.red_window.proofs.Repeating.{last_or_more, text_is}
+use Rattle.red_window.proofs.Repeating.{last_or_more}
 use Rattle.text_sender.specs.declared.senders.SendConf.{SendConf}
 use Rattle.text_sender.specs.declared.senders.Last.{Last}
 use Rattle.text_sender.specs.Confs.{IsConf, stream_of}
@@ -44,12 +45,6 @@ more_typed conf past s new text u r e = record {
 }
 
 -- ---- a packet
-take_in : (n : ℕ) (zs : List Sent) (z : Sent) → In z (take n zs) → In z zs
-take_in zero zs z i = absurd i
-take_in (suc n) [] z i = absurd i
-take_in (suc n) (y ∷ zs) z (inl q) = inl q
-take_in (suc n) (y ∷ zs) z (inr i) = inr (take_in n zs z i)
-
 pub length_sents : (es : List Turned) → length (sents es) ≡ length es
 length_sents [] = refl
 length_sents (e ∷ es) = let r = length_sents es in omega arith

@@ -10,7 +10,7 @@ use Rattle.rtt_base.specs.declared.blocks.TextBlock.{TextBlock}
 use Rattle.rtt_base.specs.declared.text_packets.Pts.{Pts}
 use Rattle.wire_spec.specs.declared.headers.RedHeader.{RedHeader}
 use Rattle.wire_spec.specs.declared.faults.RedFault.{RedFault}
-use Rattle.wire_spec.specs.Steps.{◌>>=◌}
+use Rattle.rtt_base.specs.Steps.{◌>>=◌}
 use Rattle.wire_spec.specs.Packets.{primary, redundant, primary_text}
 use Rattle.wire_spec.specs.Red.{IsText, IsRedundant, red_header, RedBlocks, PlainText, Red, Headers, with_header, header_bits, header_of, header_at, and_others, headers_at, older_size, blocks_at, all_utf8, texts_at, red, red_written, FitsRed}
 

@@ -13,8 +13,9 @@ use Rattle.rtt_base.specs.declared.text_packets.Pts.{Pts}
 use Rattle.wire_spec.specs.declared.headers.RedHeader.{RedHeader}
 use Rattle.wire_spec.specs.declared.faults.RedFault.{RedFault}
 use Rattle.wire_spec.specs.declared.faults.RedFault.TheVariants.{WrongType, Cut, Many, Long, NotText}
-use Rattle.wire_spec.specs.Steps.{◌>>=◌}
-use Rattle.wire_spec.proofs.Tests.{bind_ok, chosen, guard, guard_else, ok_is, failed}
+use Rattle.rtt_base.specs.Steps.{◌>>=◌}
+use Rattle.rtt_base.proofs.Steps.{bind_ok}
+use Rattle.wire_spec.proofs.Tests.{chosen, guard, guard_else, ok_is, failed}
 use Rattle.wire_spec.specs.Packets.{primary}
 use Rattle.wire_spec.specs.Rtp.{IsOctets}
 use Rattle.wire_spec.specs.Red.{IsRedundant, red_header, RedBlocks, PlainText, Red, Headers, with_header, header_of, header_at, and_others, headers_at, older_size, blocks_at, all_utf8, checked, texts_at, red}

@@ -6,7 +6,7 @@ use Rattle.std.proofs.lemmas.Bool.{le-ltb, le-leb, lt-leb}
 use Rattle.std.proofs.lemmas.List.{take_at, drop_at, get_or_at, length_push, append-nil}
 use Rattle.std.proofs.lemmas.Nat.{from_be_bytes-to_be_bytes_2, from_be_bytes-to_be_bytes_4}
 use Rattle.wire_spec.specs.declared.faults.RtpFault.{RtpFault}
-use Rattle.wire_spec.specs.Steps.{◌>>=◌}
+use Rattle.rtt_base.specs.Steps.{◌>>=◌}
 use Rattle.wire_spec.specs.Rtp.{Reading, Rtp, bit, first_in, IsExtension, IsPadding, fixed_header, past, first_source, past_extension, before_padding, unpadded, rtp_of_header, rtp}
 
 -- ---- the first two octets

@@ -6,8 +6,9 @@ use Rattle.std.proofs.lemmas.Bool.{le-leb, lt-leb, ltb-false, leb-true, eqb-true
 use Rattle.std.proofs.lemmas.List.{take-append-drop, drop_more, take_more, take_all, append-nil, get_or_past}
 use Rattle.std.proofs.lemmas.Nat.{be_bytes_2, be_bytes_4}
 use Rattle.wire_spec.specs.declared.faults.RtpFault.TheVariants.{Short, Version, Padding}
-use Rattle.wire_spec.specs.Steps.{◌>>=◌}
-use Rattle.wire_spec.proofs.Tests.{bind_ok, guard, guard_else, guard_ok, guard_ended, ok_is, failed}
+use Rattle.rtt_base.specs.Steps.{◌>>=◌}
+use Rattle.rtt_base.proofs.Steps.{bind_ok}
+use Rattle.wire_spec.proofs.Tests.{guard, guard_else, guard_ok, guard_ended, ok_is, failed}
 use Rattle.wire_spec.specs.Rtp.{Reading, Rtp, IsOctets, bit, first_in, IsExtension, IsPadding, past, first_source, past_extension, unpadded, rtp_of_header, rtp}
 
 IsOctets-drop : (n : ℕ) (octets : List ℕ) → IsOctets octets → IsOctets (drop n octets)

@@ -1,5 +1,5 @@
 -- Packets of text and their arrivals, as the laws on streams see them (RFC 2198, section 3; RFC 4103, section 4).
-use Rattle.std.specs.Prelude.{◌≡◌, ℕ, ◌+◌, ◌-◌, ◌%◌, ◌^◌, Bool, true, false, List, [], ◌∷◌, ◌++◌}
+use Rattle.std.specs.Prelude.{◌≡◌, ℕ, ◌+◌, ◌-◌, ◌%◌, ◌^◌, Bool, true, false, List, [], ◌∷◌, ◌++◌, IsUtf8}
 use Rattle.rtt_base.specs.declared.blocks.TextBlock.{TextBlock}
 use Rattle.rtt_base.specs.declared.text_packets.TextPacket.{TextPacket}
 
@@ -47,6 +47,21 @@ abbrev pub packet_of : TextPacket → Packet
 packet_of p =
     record { mark = p.mark; seq = p.seq; stamp = p.stamp; ssrc = p.ssrc; source = p.source; older = redundant p.blocks; primary = primary_text p.blocks }
 
+-- ---- packets whose texts are UTF-8
+abbrev pub AreTextBlocks : List TextBlock → Type 0
+AreTextBlocks [] = Unit {0}
+AreTextBlocks (b ∷ bs) = IsUtf8 b.text × AreTextBlocks bs
+
+-- all texts of the packet are UTF-8
+pub record IsTextPacket (p : Packet) : Type 0 where
+  pub older : AreTextBlocks p.older
+  pub primary : IsUtf8 p.primary
+
+abbrev pub AreTextArrivals : List Arrival → Type 0
+AreTextArrivals [] = Unit {0}
+AreTextArrivals (a ∷ past) = IsTextPacket a.packet × AreTextArrivals past
+
+-- ---- texts and stamps of blocks
 -- whether a block has text
 abbrev pub has_text : List ℕ → Bool
 has_text [] = false

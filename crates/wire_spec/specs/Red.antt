@@ -8,7 +8,7 @@ use Rattle.rtt_base.specs.declared.text_packets.Pts.{Pts}
 use Rattle.wire_spec.specs.declared.faults.RedFault.{RedFault}
 use Rattle.wire_spec.specs.declared.faults.RedFault.TheVariants.{WrongType, Cut, Many, Long, NotText}
 use Rattle.wire_spec.specs.declared.headers.RedHeader.{RedHeader}
-use Rattle.wire_spec.specs.Steps.{◌>>=◌}
+use Rattle.rtt_base.specs.Steps.{◌>>=◌}
 use Rattle.wire_spec.specs.Packets.{primary, redundant, primary_text, HasPrimary}
 
 -- ---- the payload as the sum of its parts

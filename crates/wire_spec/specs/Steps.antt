@@ -1,10 +1,5 @@
--- One test after another: the first that fails gives the refusal. And what it means that a call answers so.
+-- What it means that a call answers as a definition does.
 use Rattle.std.specs.Prelude.{◌≡◌, Result, Ok, Err}
-
-infixl 10 ◌>>=◌
-abbrev pub ◌>>=◌ : {A B E : Type 0} → Result A E → (A → Result B E) → Result B E
-(Ok x) >>= f = f x
-(Err e) >>= f = Err e
 
 -- A call gives what a definition says: the same value, seen by view, or the same refusal.
 abbrev pub Gives : {X Y E : Type 0} → (X → Y) → Result X E → Result Y E → Type 0

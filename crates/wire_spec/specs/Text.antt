@@ -5,7 +5,7 @@ use Rattle.rtt_base.specs.declared.text_packets.Pts.{Pts}
 use Rattle.wire_spec.specs.declared.faults.TextFault.{TextFault}
 use Rattle.wire_spec.specs.declared.faults.TextFault.TheVariants.{Sources, Long, Foreign}
 use Rattle.wire_spec.specs.Faults.{header_fault, blocks_fault}
-use Rattle.wire_spec.specs.Steps.{◌>>=◌}
+use Rattle.rtt_base.specs.Steps.{◌>>=◌}
 use Rattle.wire_spec.specs.Packets.{Packet, redundant, primary_text}
 use Rattle.wire_spec.specs.Rtp.{Reading, rtp}
 use Rattle.wire_spec.specs.Red.{red}

@@ -1,8 +1,8 @@
 use Rattle.std.proofs.Common.{[], sym, ◌∙◌, subst}
-use Rattle.ear.specs.Texts.{AreTextArrivals}
+use Rattle.wire_spec.specs.Packets.{AreTextArrivals}
 use Rattle.rtpdump_io.specs.Reading.{to_come}
 use Rattle.command_spec.specs.Reading.{usual_wait}
-use Rattle.ear.proofs.Utf8.{heard_utf8}
+use Rattle.stream_spec.proofs.HeardTexts.{heard_utf8}
 use Rattle.rtt_read.proofs.Viewing.{ends, view_is}
 use Rattle.rtt_read.proofs.reads.heard_view.Goals as goal
 

@@ -3,7 +3,8 @@ use Rattle.rtpdump_io.specs.Reading.{to_come}
 use Rattle.wire_spec.specs.Dump.{arrivals_with, with_item}
 use Rattle.rtpdump_io.specs.Answers.{is_end, record_of}
 use Rattle.rtpdump_io.proofs.Records.{gives_item, not_end, not_last}
-use Rattle.rtt_read.proofs.Reading.{gives_fault, heard_step}
+use Rattle.rtpdump_io.proofs.Told.{gives_fault}
+use Rattle.rtt_read.proofs.Reading.{heard_step}
 use Rattle.rtt_read.proofs.reads.listen.Goals as goal
 
 pub returns-in-Err-clause-fault : goal.returns-in-Err-clause-fault

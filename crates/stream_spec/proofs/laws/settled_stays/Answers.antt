@@ -1,5 +1,5 @@
-use Rattle.leg_core.proofs.Fronts.{packets_front, settled_front}
-use Rattle.leg_core.proofs.laws.settled_stays.Goals as goal
+use Rattle.stream_spec.proofs.Fronts.{packets_front, settled_front}
+use Rattle.stream_spec.proofs.laws.settled_stays.Goals as goal
 
 pub returns-clause-packets : goal.returns-clause-packets
 returns-clause-packets c = packets_front

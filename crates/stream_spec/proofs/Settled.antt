@@ -1,16 +1,17 @@
 -- What is ready by a moment stays so, whatever comes at that moment or later.
-use Rattle.std.proofs.Common.{◌≡◌, ℕ, zero, suc, ◌+◌, ◌-◌, ◌<◌, ◌≤◌, Bool, true, false, cond, not, inl, inr, List, [], ◌∷◌, ◌++◌, refl, ap, subst, sym, ◌∙◌, arith, append_assoc}
+use Rattle.std.proofs.Common.{◌≡◌, ℕ, suc, ◌+◌, ◌-◌, ◌<◌, ◌≤◌, Bool, true, false, cond, not, inl, inr, List, [], ◌∷◌, ◌++◌, refl, ap, subst, sym, ◌∙◌, arith, append_assoc}
 use Rattle.std.specs.Prelude.{◌&&◌, nat_le, max, map}
 use Rattle.std.proofs.lemmas.Bool.{cases_lt, true≢false, leb-true, le-ltb, and_parts, not-true, false_from_ne_true}
 use Rattle.wire_spec.specs.Packets.{Arrival}
 use Rattle.stream_spec.specs.Lists.{In}
-use Rattle.leg_core.specs.Fronts.{AreFrom}
 use Rattle.stream_spec.specs.Numbering.{Numbered, Falling, RisingNumbers, numbered, number_it, first_number, has_number, in_time, is_given_up, used, by_number}
 use Rattle.stream_spec.specs.Ready.{moments, end_of, latest_end, ready_of}
 use Rattle.stream_spec.specs.ChunksBy.{stamped}
 use Rattle.stream_spec.proofs.Lists.{in_append, in_right}
 use Rattle.stream_spec.proofs.Matched.{used_in}
-use Rattle.stream_spec.proofs.Rising.{used_rises, used_above}
+use Rattle.stream_spec.specs.Fronts.{AreFrom}
+use Rattle.stream_spec.proofs.Rising.{used_rises, used_above, rising_above, rising_below}
+use Rattle.stream_spec.proofs.LatestEnds.{last_same, last_up, last_has}
 use Rattle.stream_spec.proofs.Ready.{least_in, moment_before, moment_tells, end_stays, end_used, above_moment}
 
 -- Each number from the first below the front has ended by t, and `out` are the used packets of these numbers.
@@ -25,10 +26,6 @@ pub record Settled (wait t : ℕ) (past : List Numbered) (first front : ℕ) (ou
 by_number_behind : (e : Numbered) (out held : List Numbered) → ((u : Numbered) → In u out → u.number ≤ e.number) → by_number e (out ++ held) ≡ out ++ by_number e held
 by_number_behind e [] held f = refl
 by_number_behind e (x ∷ out) held f = let l = f x (inl refl) in rw (le-ltb e.number x.number l) (ap (λ us. x ∷ us) (by_number_behind e out held (λ u i. f u (inr i))))
-
-last_same : (wait : ℕ) (past past' : List Numbered) (lo k : ℕ) → ((n : ℕ) → lo ≤ n → n < lo + k → end_of wait past n ≡ end_of wait past' n) → latest_end wait past lo k ≡ latest_end wait past' lo k
-last_same wait past past' lo zero f = refl
-last_same wait past past' lo (suc k) f = rw (f (lo + k) (omega arith) (omega arith), last_same wait past past' lo k (λ n a b. f n a (omega arith))) refl
 
 module _ (wait t : ℕ) (e : Numbered) (past : List Numbered) (first front : ℕ) (out : List Numbered) (l : t ≤ e.time) (s : Settled wait t past first front out) where
   -- a number below the front is not in time any more
@@ -96,29 +93,6 @@ stays wait t (a ∷ later) earlier first front out f s =
     }
 
 -- ---- what is ready by t is settled
-last_up : (wait : ℕ) (past : List Numbered) (lo k l : ℕ) → k ≤ l → latest_end wait past lo k ≤ latest_end wait past lo l
-last_up wait past lo k zero h = let e : k ≡ 0 = omega arith in rw e (omega arith)
-last_up wait past lo k (suc l) h = elim (cases_lt l k) [
-  | inl lt ↦ let e : k ≡ suc l = omega arith in rw e (omega arith)
-  | inr ge ↦ let r = last_up wait past lo k l ge in omega arith
-]
-
-last_has : (wait : ℕ) (past : List Numbered) (lo k n : ℕ) → lo ≤ n → n < lo + k → end_of wait past n ≤ latest_end wait past lo k
-last_has wait past lo zero n a b = absurd (omega arith)
-last_has wait past lo (suc k) n a b = elim (cases_lt n (lo + k)) [
-  | inl lt ↦ let r = last_has wait past lo k n a lt in omega arith
-  | inr ge ↦ let e : n ≡ lo + k = omega arith in rw e (omega arith)
-]
-
-rising_above : (xs : List Numbered) (x : Numbered) (ys : List Numbered) → RisingNumbers (xs ++ x ∷ ys) → (y : Numbered) → In y ys → x.number < y.number
-rising_above [] x ys r y i = r.0 y i
-rising_above (z ∷ xs) x ys r y i = rising_above xs x ys r.1 y i
-
-rising_below : (xs : List Numbered) (x : Numbered) (ys : List Numbered) → RisingNumbers (xs ++ x ∷ ys) → (y : Numbered) → In y xs → y.number < x.number
-rising_below [] x ys r y i = absurd i
-rising_below (z ∷ xs) x ys r y (inl e) = let l = r.0 x (in_right x xs (x ∷ ys) (inl refl)) in omega (arith, ap (λ (w : Numbered). w.number) e)
-rising_below (z ∷ xs) x ys r y (inr i) = rising_below xs x ys r.1 y i
-
 pub record Split (wait t : ℕ) (past : List Numbered) (first : ℕ) : Type 0 where
   pub front : ℕ
   pub out : List Numbered

@@ -5,7 +5,6 @@ use Rattle.stream_spec.specs.Lists.{In}
 use Rattle.stream_spec.specs.Numbering.{Numbered}
 use Rattle.stream_spec.specs.Ready.{Chunk, chunks}
 use Rattle.stream_spec.specs.ChunksBy.{used_ready}
-use Rattle.ear.specs.Hears.{is_ready_by}
 
 module _ {X : Type 0} where
   -- these are the first of all
@@ -23,6 +22,9 @@ is_packet_ready_by t u = nat_le u.time t
 -- the used packets that are ready by t, each with the moment at which it is ready
 abbrev pub packets_ready_by : ℕ → ℕ → List Arrival → List Numbered
 packets_ready_by wait t a = filter (is_packet_ready_by t) (used_ready wait a)
+
+abbrev pub is_ready_by : ℕ → Chunk → Bool
+is_ready_by t c = nat_le c.ready t
 
 -- the chunks of the source s that are ready by t
 abbrev pub chunks_ready_by : ℕ → ℕ → ℕ → List Arrival → ℕ → List Chunk

@@ -6,12 +6,11 @@ use Rattle.std.specs.Str.{is_utf8, chars}
 use Rattle.std.specs.Char.{encode_utf8}
 use Rattle.std.proofs.lemmas.Str.{IsUtf8-append, IsUtf8-nil, IsUtf8-from_is_utf8}
 use Rattle.rtt_base.specs.declared.blocks.TextBlock.{TextBlock}
-use Rattle.wire_spec.specs.Packets.{Packet, Arrival, has_text}
+use Rattle.wire_spec.specs.Packets.{Arrival, AreTextBlocks, IsTextPacket, AreTextArrivals, back, has_text}
 use Rattle.stream_spec.specs.Lists.{In}
 use Rattle.stream_spec.specs.Numbering.{Numbered, numbered, used, has_number, first_number}
-use Rattle.stream_spec.specs.Hearing.{piece, heard_over, heard, is_packet_of, older_texts, new_texts, text_list, marker, is_marked, is_new, adds_marker, adds_texts, before_it}
+use Rattle.stream_spec.specs.Hearing.{AreHeardTexts, piece, heard_over, heard, is_packet_of, older_texts, new_texts, text_list, marker, is_marked, is_new, adds_marker, adds_texts, before_it}
 use Rattle.stream_spec.specs.ChunksBy.{texts_added}
-use Rattle.ear.specs.Texts.{AreHeardTexts, AreTexts, IsTextPacket, AreTextArrivals}
 use Rattle.stream_spec.proofs.Matched.{used_in}
 use Rattle.stream_spec.proofs.Lists.{in_filter}
 
@@ -34,13 +33,10 @@ list_utf8 text u = go (has_text text) refl
     go true e = (e, u, tt)
     go false e = tt
 
-older_utf8 : (prev : Option Numbered) (stamp : ℕ) (bs : List TextBlock) → AreTexts bs → AreHeardTexts (older_texts prev stamp bs)
+older_utf8 : (prev : Option Numbered) (stamp : ℕ) (bs : List TextBlock) → AreTextBlocks bs → AreHeardTexts (older_texts prev stamp bs)
 older_utf8 prev stamp [] p = tt
-older_utf8 prev stamp (b ∷ bs) p = all_append _ _ (go (is_new prev (back_of b))) (older_utf8 prev stamp bs p.1)
+older_utf8 prev stamp (b ∷ bs) p = all_append _ _ (go (is_new prev (back stamp b.offset))) (older_utf8 prev stamp bs p.1)
   where
-    back_of : TextBlock → ℕ
-    back_of c = Rattle.wire_spec.specs.Packets.back stamp c.offset
-
     go : (t : Bool) → AreHeardTexts (cond t (text_list b.text) [])
     go true = list_utf8 b.text p.0
     go false = tt
@@ -76,7 +72,10 @@ numbered_texts [] p u i = absurd i
 numbered_texts (a ∷ past) p u (inl e) = rw e p.0
 numbered_texts (a ∷ past) p u (inr i) = numbered_texts past p.1 u i
 
+pub heard_texts : (wait : ℕ) (a : List Arrival) (s : ℕ) → AreTextArrivals a → AreHeardTexts (heard wait a s)
+heard_texts wait a s p =
+    over_utf8 (has_number (used wait (numbered a))) (first_number 0 (numbered a)) None (filter (is_packet_of s) (used wait (numbered a)))
+    (λ u i. numbered_texts a p u (used_in wait (numbered a) u (in_filter (is_packet_of s) u (used wait (numbered a)) i).0))
+
 pub heard_utf8 : (wait : ℕ) (a : List Arrival) (s : ℕ) → AreTextArrivals a → IsUtf8 (concat (heard wait a s))
-heard_utf8 wait a s p = utf8_concat (heard wait a s)
-    (over_utf8 (has_number (used wait (numbered a))) (first_number 0 (numbered a)) None (filter (is_packet_of s) (used wait (numbered a)))
-    (λ u i. numbered_texts a p u (used_in wait (numbered a) u (in_filter (is_packet_of s) u (used wait (numbered a)) i).0)))
+heard_utf8 wait a s p = utf8_concat (heard wait a s) (heard_texts wait a s p)

@@ -6,7 +6,7 @@ use Rattle.std.specs.Prelude.{Bool}
 use Rattle.wire_spec.specs.Packets.{Arrival}
 use Rattle.stream_spec.specs.Numbering.{Numbered}
 use Rattle.stream_spec.specs.ChunksBy.{used_ready}
-use Rattle.leg_core.specs.Fronts.{packets_ready_by}
+use Rattle.stream_spec.specs.Fronts.{packets_ready_by}
 
 -- the packet with this number, at its time
 abbrev at : ℕ → ℕ → Arrival
