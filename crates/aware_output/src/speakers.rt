@@ -28,7 +28,7 @@ impl Speaker {
         }
     }
 
-    /// Whether the next packet of the source comes after a pause (RFC 4103, section 4.1): none of the last packets that it
+    /// Whether the next packet of the source comes after a pause (RFC 4103, section 3.5): none of the last packets that it
     /// repeats had text, nor had the last one.
     pub fn is_after_pause(&self) -> bool
         ensures { (g base source : ℕ) (sent : List Sent) → self.now ≡ speaker_at g base source sent → result ≡ not (has_text_in (max 1 g) sent) }

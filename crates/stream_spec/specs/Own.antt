@@ -1,5 +1,5 @@
 -- A history as a sender of this bridge makes it, the one packet of each of its entries, and the history that packets
--- tell (RFC 4103, section 4.1, for the M bit; the offsets of empty blocks are a profile).
+-- tell (RFC 4103, section 3.5, for the M bit; the offsets of empty blocks are a profile).
 use Rattle.std.specs.Prelude.{◌≡◌, ℕ, zero, suc, ◌+◌, ◌-◌, ◌%◌, ◌^◌, ◌<◌, ◌==◌, Bool, not, true, Option, None, Some, List, [], ◌∷◌, ◌++◌, length, map, take, min, max, if◌then◌else◌, ◌≤◌, IsUtf8}
 use Rattle.std.specs.List.{list_any}
 use Rattle.rtt_base.specs.declared.blocks.TextBlock.{TextBlock}
