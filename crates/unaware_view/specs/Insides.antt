@@ -21,4 +21,4 @@ pub record IsSound (c : Inside) : Type 0 where
   pub own : c.own < length c.since.items
   pub speaker : ForSome c.current (λ x. x.speaker < length c.since.items)
   pub few : c.run.erasable ≤ 1023 * c.asked
-  pub asked : c.asked ≤ 2 ^ 48
+  pub asked : c.asked ≤ 2 ^ 54

@@ -48,6 +48,10 @@ pub record StandsFor (s : Setup) (c : State) (asks : List Asked) : Type 0 where
   pub asked : c.asked ≡ least_ask asks
 
 -- ---- one ask
+-- the leg of its terminal
+abbrev pub own_of : State → ℕ
+own_of c = c.own
+
 abbrev pub legs_of : State → ℕ
 legs_of c = length c.since
 

@@ -11,7 +11,7 @@ ghost use Rattle.slot_table.specs.Words.{fetched};
 ghost use Rattle.unaware_view.specs.Runs.{GoesOn, IsRun};
 ghost use Rattle.unaware_view.specs.declared.runs.Run.{Run};
 ghost use Rattle.unaware_view.specs.Choices.{IsBelow, begins, choice, is_left, speaker_of};
-ghost use Rattle.unaware_view.specs.Standing.{IsAsked, OfAsks, StandsFor, answered, asked_now, given_now, legs_of, next_ask};
+ghost use Rattle.unaware_view.specs.Standing.{IsAsked, OfAsks, StandsFor, answered, asked_now, given_now, legs_of, next_ask, own_of};
 ghost use Rattle.mixer_spec.specs.Composed.{Asked, text_given};
 ghost use Rattle.unaware_view.specs.Giving.{Gives, GivesRun, remembered, waits_of};
 
@@ -120,7 +120,7 @@ impl Composer {
     pub fn new(alloc: Global, legs: usize, own: usize) -> Result<Composer, NoMemory>
         requires { own < legs }
         ensures stands { IfOk result (λ c. (s : Setup) → s.legs ≡ legs → StandsFor s c []) }
-        ensures own { IfOk result (λ c. c.own ≡ own) }
+        ensures own { IfOk result (λ c. own_of c ≡ own) }
         ensures legs { IfOk result (λ c. legs_of c ≡ legs) }
         ensures next { IfOk result (λ c. next_ask c ≡ 0) }
     {
@@ -151,7 +151,7 @@ impl Composer {
         requires slots { length slots.old ≡ legs_of self.old }
         requires names { length names.now ≡ legs_of self.old }
         requires rises { next_ask self.old ≤ media }
-        requires media { media < 2 ^ 48 }
+        requires media { media < 2 ^ 54 }
         ensures given { OfAsks self.old slots.old names.now (λ s table asks.
             result ≡ is_some (given_now s table self.old media due asks)) }
         ensures text { OfAsks self.old slots.old names.now (λ s table asks.
@@ -159,9 +159,9 @@ impl Composer {
         ensures stands { OfAsks self.old slots.old names.now (λ s table asks.
             StandsFor s self.new (asked_now s table self.old media due asks)) }
         ensures waits { OfAsks self.old slots.old names.now (λ s table asks.
-            SlotsStandFor s slots.new (answered self.old.own (given_now s table self.old media due asks) table)) }
+            SlotsStandFor s slots.new (answered (own_of self.old) (given_now s table self.old media due asks) table)) }
         ensures legs { length slots.new ≡ length slots.old }
-        ensures same { (self.new.own ≡ self.old.own) × (legs_of self.new ≡ legs_of self.old) }
+        ensures same { (own_of self.new ≡ own_of self.old) × (legs_of self.new ≡ legs_of self.old) }
         ensures next { next_ask self.new ≡ media + 1 }
     {
         text.clear();
