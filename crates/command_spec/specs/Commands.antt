@@ -12,7 +12,7 @@ use Rattle.command_spec.specs.declared.requests.ReadRequest.{ReadRequest}
 use Rattle.command_spec.specs.Listing.{list_view}
 use Rattle.command_spec.specs.Reading.{read_view}
 use Rattle.command_spec.specs.Scripts.{Sending, full_line, recording}
-use Rattle.command_spec.specs.Work.{Steps, Reads, Refuses, Makes, Work}
+use Rattle.command_spec.specs.Work.{Made, Steps, Reads, Refuses, Makes, Work}
 
 -- what is read of a recording
 abbrev pub request_of : ReadWords → ReadRequest
@@ -20,7 +20,8 @@ request_of r = record { ssrc = r.ssrc; source = r.source; pts = r.pts }
 
 -- what sends a script: two generations, at most one packet in 300 ms, and the usual payload types
 abbrev pub sending_of : SendWords → Sending
-sending_of s = record { stream = record { ssrc = s.ssrc; first = s.seq; base = s.stamp; gens = 2 }; interval = 300; pts = usual_pts }
+sending_of s =
+    record { stream = record { ssrc = s.ssrc; first = s.seq; base = s.stamp; gens = 2 }; interval = 300; pts = usual_pts }
 
 -- the first input is a recording, which is refused with its fault, or this comes then
 abbrev pub unless_broken : Option dumps.Fault → Steps → Steps
@@ -39,11 +40,15 @@ prints_recording file view = record {
   steps = Reads file (λ octets. unless_broken (dump usual_limit octets).fault (Makes (view octets) []));
 }
 
+-- the file of this name with the recording
+abbrev pub recording_at : List ℕ → Sending → List ScriptLine → Made
+recording_at out s lines = record { name = out; octets = recording s lines }
+
 -- a script is sent
 abbrev pub sends : SendWords → Result (List ScriptLine) lines.Refusal → Steps
 sends s (Err refusal) = Refuses 0 (AtLine refusal.line refusal.kind)
 sends s (Ok lines) =
-    unless_full (full_line (sending_of s) lines) (Makes [] (record { name = s.out; octets = recording (sending_of s) lines } ∷ []))
+    unless_full (full_line (sending_of s) lines) (Makes [] (recording_at s.out (sending_of s) lines ∷ []))
 
 abbrev pub work : Command → Work
 work (Read r) = prints_recording r.file (read_view (request_of r))

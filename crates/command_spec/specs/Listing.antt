@@ -32,7 +32,8 @@ block_length block = codes " " ++ decimal (length block.text)
 
 -- a packet that is one of text, with the lengths of its blocks: oldest first, the primary one last
 unfoldable pub packet_line : ℕ → Packet → List ℕ
-packet_line at p = decimal at ++ codes " " ++ decimal p.seq ++ codes " mark " ++ bit p.mark ++ codes " stamp " ++ decimal p.stamp
+packet_line at p = decimal at ++ codes " " ++ decimal p.seq ++ codes " mark " ++ bit p.mark
+    ++ codes " stamp " ++ decimal p.stamp
     ++ codes " ssrc " ++ decimal p.ssrc ++ codes " source " ++ decimal p.source
     ++ codes " texts" ++ flat_map block_length (blocks_of p) ++ codes "\n"
 

@@ -11,7 +11,8 @@ pub data Outcome : Type 0 where
 
 -- the outcome, where so many files were read before
 abbrev pub outcome_from : ℕ → Contents → Steps → Outcome
-outcome_from n held (Reads name next) = elim (held name) [ None ↦ Missing n | Some octets ↦ outcome_from (n + 1) held (next octets) ]
+outcome_from n held (Reads name next) =
+    elim (held name) [ None ↦ Missing n | Some octets ↦ outcome_from (n + 1) held (next octets) ]
 outcome_from n held (Refuses input refusal) = Refused input refusal
 outcome_from n held (Makes printed files) = Done printed files
 

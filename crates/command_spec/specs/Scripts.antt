@@ -58,7 +58,8 @@ events_through lines t = Ask t ∷ events_until lines t
 abbrev pub full_below : Sending → List ScriptLine → List ScriptLine → Option ℕ
 full_below s above [] = None
 full_below s above (line ∷ more) =
-    if nat_lt 16384 (length (waiting s.stream s.interval (events_until above line.at)) + length line.text) then Some line.line
+    if nat_lt 16384 (length (waiting s.stream s.interval (events_until above line.at)) + length line.text)
+    then Some line.line
     else full_below s (above ++ line ∷ []) more
 
 -- the number of the first line whose text makes more than 16384 octets of what waits when its turn comes
@@ -90,7 +91,8 @@ first_end s lines = first_from (is_end s lines) (2 ^ 31) 0
 -- the packets of entries with the moments of their asks, oldest first
 abbrev pub records_of : Sending → List Turned → List (ℕ × List ℕ)
 records_of s [] = []
-records_of s (e ∷ es) = records_of s es ++ (e.at, packet_written s.pts (packet_after s.stream (sents es) e.sent)) ∷ []
+records_of s (e ∷ es) =
+    records_of s es ++ (e.at, packet_written s.pts (packet_after s.stream (sents es) e.sent)) ∷ []
 
 -- what was sent up to t
 abbrev pub records_sent : Sending → List ScriptLine → ℕ → List (ℕ × List ℕ)

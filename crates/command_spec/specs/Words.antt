@@ -17,7 +17,8 @@ pub record ListWords : Type 0 where
   pub file : List ℕ
   pub pts : Pts
 
--- what `send` is asked for: a script sent into a recording, by a stream of this SSRC, first sequence number and timestamp at time 0
+-- what `send` is asked for: a script sent into a recording, by a stream of this SSRC, first sequence number and
+-- timestamp at time 0
 pub record SendWords : Type 0 where
   pub script : List ℕ
   pub out : List ℕ
@@ -49,14 +50,18 @@ payload_types t140 red = option_and_then if_different (pts t140 red)
 -- the words of a `read`, where the numbers are numbers
 abbrev pub read_of : List ℕ → Option ℕ → Option ℕ → Option Pts → Option Command
 read_of file ssrc source types =
-    option_and_then (λ s. option_and_then (λ t. option_map (λ p. Read (record { file = file; ssrc = s; source = t; pts = p })) types) source) ssrc
+    option_and_then (λ s. option_and_then (λ t. option_map (λ p.
+    Read (record { file = file; ssrc = s; source = t; pts = p })) types) source) ssrc
 
 -- `FILE SSRC`, `FILE SSRC SOURCE` and `FILE SSRC SOURCE T140 RED`: where no source is named it is the SSRC
 abbrev pub read_words : List (List ℕ) → Option Command
-read_words (file ∷ ssrc ∷ []) = if is_word file then read_of file (number most_ssrc ssrc) (number most_ssrc ssrc) (Some usual_pts) else None
-read_words (file ∷ ssrc ∷ source ∷ []) = if is_word file then read_of file (number most_ssrc ssrc) (number most_ssrc source) (Some usual_pts) else None
+read_words (file ∷ ssrc ∷ []) =
+    if is_word file then read_of file (number most_ssrc ssrc) (number most_ssrc ssrc) (Some usual_pts) else None
+read_words (file ∷ ssrc ∷ source ∷ []) =
+    if is_word file then read_of file (number most_ssrc ssrc) (number most_ssrc source) (Some usual_pts) else None
 read_words (file ∷ ssrc ∷ source ∷ t140 ∷ red ∷ []) =
-    if is_word file then read_of file (number most_ssrc ssrc) (number most_ssrc source) (payload_types t140 red) else None
+    if is_word file then read_of file (number most_ssrc ssrc) (number most_ssrc source) (payload_types t140 red)
+    else None
 read_words _ = None
 
 abbrev pub list_of : List ℕ → Option Pts → Option Command
@@ -77,7 +82,9 @@ send_of script out ssrc seq stamp =
 -- `SCRIPT OUT SSRC SEQ STAMP`
 abbrev pub send_words : List (List ℕ) → Option Command
 send_words (script ∷ out ∷ ssrc ∷ seq ∷ stamp ∷ []) =
-    if is_word script && is_word out then send_of script out (number most_ssrc ssrc) (number 65535 seq) (number 4294967295 stamp) else None
+    if is_word script && is_word out
+    then send_of script out (number most_ssrc ssrc) (number 65535 seq) (number 4294967295 stamp)
+    else None
 send_words _ = None
 
 -- what the words ask for, if they are in the word table

@@ -26,7 +26,8 @@ pub record Work : Type 0 where
 -- the file of this number that is read, where the octets of those before it lie there, as far as that is told
 abbrev pub IsInput : (Told : Type 0) → Contents → Steps → ℕ → List ℕ → Type 0
 IsInput Told held (Reads name next) zero file = file ≡ name
-IsInput Told held (Reads name next) (suc n) file = (octets : List ℕ) × (Told → held name ≡ Some octets) × IsInput Told held (next octets) n file
+IsInput Told held (Reads name next) (suc n) file =
+    (octets : List ℕ) × (Told → held name ≡ Some octets) × IsInput Told held (next octets) n file
 IsInput Told held (Refuses input refusal) n file = ⊥
 IsInput Told held (Makes printed files) n file = ⊥
 
@@ -38,6 +39,7 @@ IsNth (made ∷ more) (suc n) file = IsNth more n file
 
 -- the file of this number that is made, where the octets of what is read lie there, as far as that is told
 abbrev pub IsOutput : (Told : Type 0) → Contents → Steps → ℕ → List ℕ → Type 0
-IsOutput Told held (Reads name next) n file = (octets : List ℕ) × (Told → held name ≡ Some octets) × IsOutput Told held (next octets) n file
+IsOutput Told held (Reads name next) n file =
+    (octets : List ℕ) × (Told → held name ≡ Some octets) × IsOutput Told held (next octets) n file
 IsOutput Told held (Refuses input refusal) n file = ⊥
 IsOutput Told held (Makes printed files) n file = IsNth files n file

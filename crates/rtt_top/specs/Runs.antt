@@ -29,7 +29,8 @@ PrintsFront octets old new = (n : ℕ) × Prints (take n octets) old new
 
 -- nothing was printed, and no file was changed
 abbrev pub Unchanged : (Told Shown : Type 0) → Outside → Outside → Type 0
-Unchanged Told Shown old new = (Shown → new.out.octets ≡ old.out.octets) × (Told → Same old.contents new.contents)
+Unchanged Told Shown old new =
+    (Shown → new.out.octets ≡ old.out.octets) × (Told → Same old.contents new.contents)
 
 -- Of the files that are made those before number n are whole. That one is as before where it could not be created, and
 -- a front of it is there where its sink failed. Those behind it, and all others, are as before.
@@ -37,25 +38,35 @@ abbrev pub PartlyStored : (Call Object : List ℕ → Type 0) → ℕ → List M
 PartlyStored Call Object n [] old new = ⊥
 PartlyStored Call Object zero (file ∷ more) old new =
     IsPartlyStored (Call file.name) (Object file.name) file old new
-PartlyStored Call Object (suc n) (file ∷ more) old new = (between : Contents) × Stores file old between × PartlyStored Call Object n more between new
+PartlyStored Call Object (suc n) (file ∷ more) old new =
+    (between : Contents) × Stores file old between × PartlyStored Call Object n more between new
 
--- How a command may end, where the file that is told of has this name. 0: all is made. 7: a front of it is. With 3, 4, 5, 6
--- and 70 nothing is changed.
+-- the count of a call or of an object of this name rose
+abbrev pub FailedAt : Outside → Outside → List ℕ → Type 0
+FailedAt old new name = CallFailed old new name ⊎ ObjectFailed old new name
+
+-- How a command may end, where the file that is told of has this name. 0: all is made. 7: a front of it is. With 3, 4,
+-- 5, 6 and 70 nothing is changed.
 abbrev pub Ends : Work → (Told Shown : Type 0) → Outside → Outside → List ℕ → Ending → Type 0
 Ends w Told Shown old new name (Ok done) =
-    Told → IsDone (outcome old.contents w.steps) (λ printed files. AllStored files old.contents new.contents × (Shown → Prints printed old new))
+    Told → IsDone (outcome old.contents w.steps) (λ printed files.
+    AllStored files old.contents new.contents × (Shown → Prints printed old new))
 Ends w Told Shown old new name (Err CannotPrint) = (w.prints ≡ true) × Failed old.out new.out
-    × (Told → IsDone (outcome old.contents w.steps) (λ printed files. AllStored files old.contents new.contents × (Shown → PrintsFront printed old new)))
+    × (Told → IsDone (outcome old.contents w.steps) (λ printed files.
+    AllStored files old.contents new.contents × (Shown → PrintsFront printed old new)))
 Ends w Told Shown old new name (Err (CannotWrite output)) = IsOutput Told old.contents w.steps output name
-    × (CallFailed old new name ⊎ ObjectFailed old new name)
+    × FailedAt old new name
     × (Shown → new.out.octets ≡ old.out.octets)
-    × (Told → IsDone (outcome old.contents w.steps) (λ printed files. PartlyStored (CallFailed old new) (ObjectFailed old new) output files old.contents new.contents))
-Ends w Told Shown old new name (Err fault) = Stops Told old.contents w.steps (CallFailed old new) (ObjectFailed old new) name fault × Unchanged Told Shown old new
+    × (Told → IsDone (outcome old.contents w.steps) (λ printed files.
+    PartlyStored (CallFailed old new) (ObjectFailed old new) output files old.contents new.contents))
+Ends w Told Shown old new name (Err fault) =
+    Stops Told old.contents w.steps (CallFailed old new) (ObjectFailed old new) name fault
+    × Unchanged Told Shown old new
 
 -- no count rose at a name that the command uses, nor, where it prints, that of the output
 pub record IsCalm (w : Work) (Told : Type 0) (old new : Outside) : Type 0 where
-  pub inputs : (n : ℕ) (name : List ℕ) → IsInput Told old.contents w.steps n name → CallFailed old new name ⊎ ObjectFailed old new name → ⊥
-  pub outputs : (n : ℕ) (name : List ℕ) → IsOutput Told old.contents w.steps n name → CallFailed old new name ⊎ ObjectFailed old new name → ⊥
+  pub inputs : (n : ℕ) (name : List ℕ) → IsInput Told old.contents w.steps n name → FailedAt old new name → ⊥
+  pub outputs : (n : ℕ) (name : List ℕ) → IsOutput Told old.contents w.steps n name → FailedAt old new name → ⊥
   pub output : w.prints ≡ true → Failed old.out new.out → ⊥
 
 -- it ends as its outcome says, or memory ran out
@@ -81,12 +92,15 @@ pub record IsViewOf (h : History) (words : Option Command) (held : Contents) (vi
   pub view_is : view ≡ history_view h (request_of request) octets
 
 -- What a run is that ends with this status, where the output of errors was and is such.
-pub record Runs (words : Option Command) (Told Shown Heard : Type 0) (old new : Outside) (before after : Output) (status : ℕ) : Type 0 where
+pub record Runs (words : Option Command) (Told Shown Heard : Type 0) (old new : Outside) (before after : Output)
+    (status : ℕ) : Type 0 where
   pub ending : Ending
   pub name : List ℕ
   pub is_status : status ≡ status_of ending
   pub ends : RunEnds words Told Shown old new name ending
-  pub calm : Told → (c : Command) → words ≡ Some c → IsCalm (work c) Told old new → IsAsWorked (work c) old ending
-  pub kept : Told → Shown → ending ≡ Ok tt → (h : History) → Lawful h → (view : List ℕ) → IsViewOf h words old.contents view → Prints view old new
+  pub calm : Told → (c : Command) → words ≡ Some c
+      → IsCalm (work c) Told old new → IsAsWorked (work c) old ending
+  pub kept : Told → Shown → ending ≡ Ok tt → (h : History) → Lawful h → (view : List ℕ)
+      → IsViewOf h words old.contents view → Prints view old new
   pub silent : ending ≡ Ok tt → after.octets ≡ before.octets
   pub told : Heard → (Failed before after → ⊥) → after.octets ≡ before.octets ++ message_of name ending
