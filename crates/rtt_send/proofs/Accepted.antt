@@ -1,16 +1,15 @@
 -- The lines of a script that is accepted.
 use Rattle.std.proofs.Common.{◌≡◌, ℕ, suc, ◌+◌, ◌<◌, ◌≤◌, Bool, true, false, Option, Some, None, List, [], ◌∷◌, ◌++◌, append_assoc, length, length-append, get_or, drop, refl, ap, subst, sym, ◌∙◌, arith}
-use Rattle.std.specs.Prelude.{◌==◌, ◌&&◌, not, max, nat_lt, nat_le, if◌then◌else◌, Result, Ok, Err, All, IsUtf8}
+use Rattle.std.specs.Prelude.{◌==◌, ◌&&◌, not, max, nat_lt, if◌then◌else◌, Result, Ok, Err, All, IsUtf8}
 use Rattle.std.specs.List.{position_or_len, before_first, after_first}
 use Rattle.std.specs.Option.{ok_or}
 use Rattle.std.specs.Char.{encode_utf8}
 use Rattle.std.specs.Str.{byte, is_utf8}
 use Rattle.std.specs.Str.Lines.{lines}
-use Rattle.std.specs.Str.Parse.{digits_value}
 use Rattle.std.proofs.Math.Seq.{take-append_seam}
 use Rattle.std.proofs.lemmas.List.Sums.{passes_at_first}
 use Rattle.std.proofs.lemmas.List.Elements.{All-nil, All-head, All-tail, All-push, All-weaker, All-cons}
-use Rattle.std.proofs.lemmas.Bool.{and_parts, leb-true, ltb-false}
+use Rattle.std.proofs.lemmas.Bool.{ltb-false}
 use Rattle.std.proofs.lemmas.Bool.Decides.{nat_tests}
 use Rattle.std.proofs.lemmas.Str.{IsUtf8-append, IsUtf8-take, IsUtf8-drop, IsUtf8-from_is_utf8, IsCharBoundary-before_ascii, IsCharBoundary-after_ascii}
 use Rattle.file_spec.specs.declared.kinds.ConfKind.{ConfKind}
@@ -20,17 +19,13 @@ use Rattle.rtt_base.proofs.Steps.{bind_ok}
 use Rattle.file_spec.specs.Steps.{unless}
 use Rattle.file_spec.proofs.Passed.{unless_ok, ok_or_ok, number_most}
 use Rattle.file_spec.specs.Lines.{Line, told, is_comment, at_line, read_lines}
-use Rattle.file_spec.specs.Numbers.{is_number, number}
+use Rattle.file_spec.specs.Numbers.{number}
 use Rattle.command_spec.specs.Scripts.{InOrder, AreLines}
 
 -- ---- one test after another
 not_false : (b : Bool) → not b ≡ false → b ≡ true
 not_false true e = refl
 not_false false e = cc e
-  where
-    go : (b : Bool) → (is_number text && nat_le (digits_value 10 text) most) ≡ b → (if b then Some (digits_value 10 text) else None) ≡ Some n → n ≤ most
-    go true q e = let s : digits_value 10 text ≡ n = cc e in let l = leb-true (digits_value 10 text) most (and_parts (is_number text) (nat_le (digits_value 10 text) most) q).1 in omega arith
-    go false q e = absurd (cc e)
 
 -- ---- UTF-8 is cut at an ASCII octet
 pub record Cut (front rest : List ℕ) : Type 0 where
