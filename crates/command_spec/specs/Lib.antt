@@ -1,3 +1,4 @@
+pub mod Seen
 pub mod Listing
 pub mod Reading
 pub mod Scripts

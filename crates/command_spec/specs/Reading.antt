@@ -1,11 +1,8 @@
 -- What `read` prints of a recording (profile).
-use Rattle.std.specs.Prelude.{ℕ, Bool, true, false, List, length, filter, Result, Ok, Err, Some}
+use Rattle.std.specs.Prelude.{ℕ, List, length}
 use Rattle.std.specs.List.{concat}
-use Rattle.wire_spec.specs.declared.faults.TextFault.{TextFault}
-use Rattle.wire_spec.specs.declared.faults.TextFault.TheVariants.{Foreign}
-use Rattle.wire_spec.specs.Packets.{Packet, Arrival}
-use Rattle.wire_spec.specs.Text.{text_of}
-use Rattle.wire_spec.specs.Dump.{Item, What, Sent, Rtcp, Cut, Large, dump, usual_limit, arrivals}
+use Rattle.wire_spec.specs.Packets.{Arrival}
+use Rattle.wire_spec.specs.Dump.{Item, What, dump, usual_limit, arrivals}
 use Rattle.stream_spec.specs.Numbering.{numbered, used}
 use Rattle.stream_spec.specs.Hearing.{heard}
 use Rattle.stream_spec.specs.History.{History, places}
@@ -14,56 +11,24 @@ use Rattle.text_spec.specs.declared.counts.Counts.{Counts}
 use Rattle.text_spec.specs.Shown.{shown}
 use Rattle.text_spec.specs.Views.{text_view}
 use Rattle.command_spec.specs.declared.requests.ReadRequest.{ReadRequest}
+use Rattle.command_spec.specs.Seen.{Reception}
+use Rattle.command_spec.specs.Seen as seen
+pub use Rattle.command_spec.specs.Seen.{Fate, Text, Refused, Foreigner, NoPacket, fate_of, is_packet, is_refused, is_foreign, many, counts_over}
 
 -- how long a gap in the numbers is waited for, in milliseconds
 abbrev pub usual_wait : ℕ
 usual_wait = 1000
 
--- what becomes of a record: its packet is a text of the stream, refused, or of another sender, or it has none
-pub data Fate : Type 0 where
-  Text : Fate
-  Refused : Fate
-  Foreigner : Fate
-  NoPacket : Fate
+-- who reads is a terminal that hears the stream
+abbrev pub reception : ReadRequest → Reception
+reception r = record { ssrc = r.ssrc; pts = r.pts; wait = usual_wait }
 
-abbrev pub fate_of : Result Packet TextFault → Fate
-fate_of (Ok packet) = Text
-fate_of (Err Foreign) = Foreigner
-fate_of (Err fault) = Refused
-
+-- what becomes of a record
 abbrev pub fate_of_what : ReadRequest → What → Fate
-fate_of_what r (Sent octets) = fate_of (text_of octets (Some r.ssrc) r.pts)
-fate_of_what r Rtcp = NoPacket
-fate_of_what r Cut = Refused
-fate_of_what r Large = Refused
+fate_of_what r what = seen.fate_of_what (reception r) what
 
 abbrev pub fate : ReadRequest → Item → Fate
-fate r item = fate_of_what r item.what
-
-abbrev pub is_packet : Fate → Bool
-is_packet NoPacket = false
-is_packet _ = true
-
-abbrev pub is_refused : Fate → Bool
-is_refused Refused = true
-is_refused _ = false
-
-abbrev pub is_foreign : Fate → Bool
-is_foreign Foreigner = true
-is_foreign _ = false
-
--- how many of what came have such a fate
-abbrev pub many : {A : Type 0} → (Fate → Bool) → (A → Fate) → List A → ℕ
-many p fate_of came = length (filter (λ x. p (fate_of x)) came)
-
--- The counts over what came, each of which has a fate, and of which so many were used.
-abbrev pub counts_over : {A : Type 0} → (A → Fate) → List A → ℕ → Counts
-counts_over fate_of came used = record {
-  packets = many is_packet fate_of came;
-  used = used;
-  refused = many is_refused fate_of came;
-  foreign = many is_foreign fate_of came;
-}
+fate r item = seen.fate_at (reception r) item
 
 -- the arrivals of the stream, newest first
 abbrev pub arrivals_of : ReadRequest → List ℕ → List Arrival
