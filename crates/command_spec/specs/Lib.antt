@@ -4,6 +4,7 @@ pub mod Reading
 pub mod Scripts
 pub mod Work
 pub mod Outcomes
+pub mod Mixing
 pub mod Commands
 pub mod Messages
 pub mod Sent

@@ -5,7 +5,7 @@ use Rattle.wire_spec.specs.declared.faults.DumpKind.TheVariants.{NotDump, BadLen
 use Rattle.file_spec.specs.declared.kinds.ConfKind.{ConfKind}
 use Rattle.file_spec.specs.declared.kinds.ConfKind.TheVariants as conf
 use Rattle.command_spec.specs.declared.faults.Refusal.{Refusal}
-use Rattle.command_spec.specs.declared.faults.Refusal.TheVariants.{AtByte, AtLine}
+use Rattle.command_spec.specs.declared.faults.Refusal.TheVariants.{AtByte, AtLine, AfterTurns}
 use Rattle.command_spec.specs.declared.faults.Fault.{Fault}
 use Rattle.command_spec.specs.declared.faults.Fault.TheVariants.{WrongWords, CannotOpen, CannotRead, Refused, CannotPrint, CannotWrite, NoMemory}
 use Rattle.command_spec.specs.Outcomes.{Outcome, Missing, Done}
@@ -26,6 +26,7 @@ ending_of (Done printed files) = Ok tt
 abbrev pub refusal_status : Refusal → ℕ
 refusal_status (AtLine line kind) = 5
 refusal_status (AtByte byte kind) = 6
+refusal_status (AfterTurns turns) = 9
 
 abbrev pub fault_status : Fault → ℕ
 fault_status WrongWords = 2
@@ -76,9 +77,14 @@ byte_message name byte kind = name ++ codes " byte " ++ (decimal byte ++ codes "
 abbrev pub line_message : List ℕ → ℕ → ConfKind → List ℕ
 line_message name line kind = name ++ codes " line " ++ (decimal line ++ codes ": ") ++ (conf_kind_name kind ++ codes "\n")
 
+-- a conference that is not over names no file
+abbrev pub turns_message : ℕ → List ℕ
+turns_message turns = codes "conference too long: " ++ (decimal turns ++ codes " turns\n")
+
 abbrev pub refusal_message : List ℕ → Refusal → List ℕ
 refusal_message name (AtByte byte kind) = byte_message name byte kind
 refusal_message name (AtLine line kind) = line_message name line kind
+refusal_message name (AfterTurns turns) = turns_message turns
 
 -- for words outside the word table
 abbrev pub usage : List ℕ

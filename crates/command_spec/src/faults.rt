@@ -9,6 +9,8 @@ pub enum Refusal {
     AtByte { byte: u64, kind: DumpKind },
     /// A file of lines is refused: at this line, for this reason.
     AtLine { line: u32, kind: ConfKind },
+    /// Mixing a conference is not over after so many turns, which are all that it may have.
+    AfterTurns { turns: u32 },
 }
 
 /// Why a command did not do its work. A file is named by its role and its number: the files that a command reads are

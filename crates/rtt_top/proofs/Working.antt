@@ -4,7 +4,7 @@ use Rattle.std.specs.Prelude.{◌⊎◌, IfErr, OnOk, OnErr}
 use Rattle.wire_spec.specs.Dump.{dump, usual_limit}
 use Rattle.wire_spec.specs.Dump as dumps
 use Rattle.command_spec.specs.declared.faults.Refusal.{Refusal}
-use Rattle.command_spec.specs.declared.faults.Refusal.TheVariants.{AtByte, AtLine}
+use Rattle.command_spec.specs.declared.faults.Refusal.TheVariants.{AtByte, AtLine, AfterTurns}
 use Rattle.command_spec.specs.declared.faults.Fault.{Fault}
 use Rattle.command_spec.specs.declared.faults.Fault.TheVariants.{WrongWords, CannotOpen, CannotRead, Refused, CannotPrint, CannotWrite, NoMemory}
 use Rattle.command_spec.specs.Work.{Contents, Made, Steps, Reads, Refuses, Makes, Work, IsInput, IsOutput}
@@ -43,6 +43,7 @@ broken : (held : Contents) (found : Option dumps.Fault) (steps : Steps) (refusal
     → outcome_from 1 held (unless_broken found steps) ≡ outcomes.Refused 0 refusal
 broken held found steps (AtByte byte kind) e = ap (λ o. outcome_from 1 held (unless_broken o steps)) e
 broken held found steps (AtLine line kind) e = absurd e
+broken held found steps (AfterTurns turns) e = absurd e
 
 broken_recording : (held : Contents) (file : List ℕ) (view : List ℕ → List ℕ) (octets : List ℕ) (refusal : Refusal) → held file ≡ Some octets
     → IsOfByte (dump usual_limit octets).fault refusal → outcome held (prints_recording file view).steps ≡ outcomes.Refused 0 refusal

@@ -2,7 +2,7 @@
 use Rattle.std.specs.Prelude.{◌≡◌, ℕ, Option, Some, List, Ok, Err}
 use Rattle.wire_spec.specs.Dump as dumps
 use Rattle.command_spec.specs.declared.faults.Refusal.{Refusal}
-use Rattle.command_spec.specs.declared.faults.Refusal.TheVariants.{AtByte, AtLine}
+use Rattle.command_spec.specs.declared.faults.Refusal.TheVariants.{AtByte, AtLine, AfterTurns}
 use Rattle.command_spec.specs.declared.faults.Fault.{Fault}
 use Rattle.command_spec.specs.declared.faults.Fault.TheVariants.{WrongWords, CannotOpen, CannotRead, Refused, CannotPrint, CannotWrite, NoMemory}
 use Rattle.command_spec.specs.Work.{Contents, Steps, IsInput}
@@ -36,6 +36,7 @@ IsUnread Call Object NoMemory = Unit {0}
 abbrev pub IsOfByte : Option dumps.Fault → Refusal → Type 0
 IsOfByte found (AtByte byte kind) = found ≡ Some (record { byte = byte; kind = kind })
 IsOfByte found (AtLine line kind) = ⊥
+IsOfByte found (AfterTurns turns) = ⊥
 
 -- a fault of a first input that is a recording, where this says that its source failed
 abbrev pub IsOfRecording : (Source : Type 0) → Fault → Type 0

@@ -1,5 +1,5 @@
 //! What is told of a fault, and its status.
-ghost use Rattle.std.specs.Prelude.{◌≡◌, ◌++◌, ◌≤◌, codes, OnOk, OnErr};
+ghost use Rattle.std.specs.Prelude.{◌≡◌, ◌++◌, ◌≤◌, codes, decimal, OnOk, OnErr};
 ghost use Rattle.rtt_io.specs.Counts.{Rose};
 ghost use Rattle.command_spec.specs.Messages.{refusal_status, fault_status, fault_message, refusal_message, trouble, byte_message, line_message, dump_kind_name, conf_kind_name};
 
@@ -17,6 +17,7 @@ fn refusal_status(refusal: Refusal) -> u8
     match refusal {
         Refusal::AtLine { .. } => 5,
         Refusal::AtByte { .. } => 6,
+        Refusal::AfterTurns { .. } => 9,
     }
 }
 
@@ -118,6 +119,18 @@ fn write_line<E: Sink>(err: &mut E, name: &[u8], line: u32, kind: ConfKind) -> R
     write_two(err, conf_kind_name(kind), b"\n")
 }
 
+/// Writes a number and what stands round it.
+#[tactic(auto, using(crate::proofs::Counts::rose_since, crate::proofs::Counts::rose_before))]
+fn write_counted<E: Sink>(err: &mut E, before: &[u8], count: u32, after: &[u8]) -> Result<(), Failed>
+    ensures never_falls { E.faults err.old ≤ E.faults err.new }
+    ensures failed { OnErr result (Rose (E.faults err.old) (E.faults err.new)) }
+    ensures written { E.tells → OnOk result (E.took err.new ≡ E.took err.old ++ (before.now ++ (decimal count ++ after.now))) }
+{
+    let mut digits = Buffer::new();
+    err.write_all(before)?;
+    write_two(err, digits.format(count).as_bytes(), after)
+}
+
 /// The lines of the commands.
 const USAGE: &[u8] = b"\
 usage: rtt_program read FILE SSRC [SOURCE [T140 RED]]
@@ -134,6 +147,9 @@ fn write_refusal<E: Sink>(err: &mut E, name: &[u8], refusal: Refusal) -> Result<
     match refusal {
         Refusal::AtByte { byte, kind } => write_byte(err, name, byte, kind),
         Refusal::AtLine { line, kind } => write_line(err, name, line, kind),
+        Refusal::AfterTurns { turns } => {
+            write_counted(err, b"conference too long: ", turns, b" turns\n")
+        }
     }
 }
 

@@ -1,0 +1,107 @@
+-- What `mix` makes of a conference (profile): a recording of what is sent to each terminal, and what is seen there. Legs
+-- and their terminals are numbered from 0.
+use Rattle.std.specs.Prelude.{ℕ, suc, Option, None, Some, List, [], ◌∷◌, map, flat_map, remove, slice_index_or, Result, Ok, Err, if◌then◌else◌}
+use Rattle.std.specs.List.{enumerate_from}
+use Rattle.wire_spec.specs.Packets.{Arrival}
+use Rattle.wire_spec.specs.SentPackets.{packet_written}
+use Rattle.wire_spec.specs.Dump.{Item, Sent, dump, dump_written}
+use Rattle.file_spec.specs.declared.conf_lines.Form.TheVariants.{Files}
+use Rattle.file_spec.specs.declared.conf_lines.LegLine.{LegLine}
+use Rattle.file_spec.specs.declared.conf_lines.PlanLine.{PlanLine}
+use Rattle.file_spec.specs.Conf.{Conf, conf}
+use Rattle.file_spec.specs.Lines as lines
+use Rattle.mixer_spec.specs.Setups.{setup, stream}
+use Rattle.mixer_spec.specs.Table.{Table, packets}
+use Rattle.mixer_spec.specs.Plain.{plain}
+use Rattle.mixer_spec.specs.Arrives.{Copy, arrives, one_at}
+use Rattle.mixer_spec.specs.Bridged.{input_limit, leg_chunks}
+use Rattle.command_spec.specs.declared.faults.Refusal.TheVariants.{AtByte, AtLine, AfterTurns}
+use Rattle.command_spec.specs.Work.{Made, Steps, Reads, Refuses, Makes}
+use Rattle.command_spec.specs.Seen.{Reception, Speaker, aware_seen, unaware_seen}
+
+-- ---- what is sent to a terminal
+-- the packets to terminal j, each at the moment of its turn
+abbrev pub sent_to : Conf → Table → ℕ → List Arrival
+sent_to c table j = packets (stream (setup c) j) (table.terminals j).past
+
+-- their octets, where this is the leg j
+abbrev pub records_to : Conf → Table → ℕ → LegLine → List (ℕ × List ℕ)
+records_to c table j leg = map (λ a. (a.time, packet_written leg.pts a.packet)) (sent_to c table j)
+
+-- its recording
+abbrev pub out_of : Conf → Table → ℕ → LegLine → Made
+out_of c table j leg = record { name = leg.output; octets = dump_written (records_to c table j leg) }
+
+-- ---- what comes to it
+-- the record of a copy, at the moment at which it comes
+abbrev pub item_of : List (ℕ × List ℕ) → Copy → List Item
+item_of records copy = map (λ r. record { time = copy.at; what = Sent r.1 }) (one_at copy.index records)
+
+-- what comes to terminal j of these records by a plan, oldest first
+abbrev pub came : List PlanLine → ℕ → List (ℕ × List ℕ) → List Item
+came plan j records = flat_map (item_of records) (arrives plan j (map (λ r. r.0) records))
+
+abbrev pub came_to : Conf → Table → ℕ → LegLine → List Item
+came_to c table j leg = came c.plan j (records_to c table j leg)
+
+-- ---- what is seen there
+-- a terminal hears the mixer
+abbrev pub reception_of : Conf → LegLine → Reception
+reception_of c leg = record { ssrc = c.mixer.ssrc; pts = leg.pts; wait = c.wait }
+
+abbrev pub speaker_of : LegLine → Speaker
+speaker_of leg = record { name = leg.name; ssrc = leg.ssrc }
+
+-- an aware terminal keeps the other legs apart
+abbrev pub view_of : Conf → Table → ℕ → LegLine → List ℕ
+view_of c table j leg =
+    if leg.aware
+    then aware_seen (reception_of c leg) leg.name (map speaker_of (remove c.legs j)) (came_to c table j leg)
+    else unaware_seen (reception_of c leg) leg.name c.mixer.ssrc (came_to c table j leg)
+
+-- ---- all terminals, in leg order
+abbrev pub views : Conf → Table → List ℕ
+views c table = flat_map (λ x. view_of c table x.0 x.1) (enumerate_from 0 c.legs)
+
+abbrev pub outs : Conf → Table → List Made
+outs c table = map (λ x. out_of c table x.0 x.1) (enumerate_from 0 c.legs)
+
+-- ---- the steps
+-- where mixing is over within the turns there is a table, of which this is made
+abbrev pub makes : Conf → Option Table → Steps
+makes c None = Refuses 0 (AfterTurns c.turns)
+makes c (Some table) = Makes (views c table) (outs c table)
+
+-- the octets of the input of each leg
+abbrev pub input_at : List (List ℕ) → ℕ → List ℕ
+input_at inputs i = slice_index_or inputs i []
+
+-- The inputs from number n on are recordings of at most so many octets: the first that has a fault is refused, or this
+-- comes then.
+abbrev pub unless_one_broken : ℕ → ℕ → List (List ℕ) → Steps → Steps
+unless_one_broken limit n [] steps = steps
+unless_one_broken limit n (octets ∷ more) steps =
+    elim (dump limit octets).fault [
+      | None ↦ unless_one_broken limit (suc n) more steps
+      | Some fault ↦ Refuses n (AtByte fault.byte fault.kind)
+    ]
+
+-- the legs of a conference whose inputs have these octets are mixed
+abbrev pub mixes : Conf → List (List ℕ) → Steps
+mixes c inputs =
+    unless_one_broken (input_limit c) 1 inputs
+    (makes c (plain (setup c) c.tick c.turns (leg_chunks c (input_at inputs))))
+
+-- the input of each of these legs is read
+abbrev pub reads_inputs : List LegLine → (List (List ℕ) → Steps) → Steps
+reads_inputs [] next = next []
+reads_inputs (leg ∷ legs) next = Reads leg.input (λ octets. reads_inputs legs (λ more. next (octets ∷ more)))
+
+-- a conference is mixed, or its file refused
+abbrev pub mixes_read : Result Conf lines.Refusal → Steps
+mixes_read (Err refusal) = Refuses 0 (AtLine refusal.line refusal.kind)
+mixes_read (Ok c) = reads_inputs c.legs (mixes c)
+
+-- the conference that this file describes is mixed
+abbrev pub mixing : List ℕ → Steps
+mixing file = Reads file (λ octets. mixes_read (conf Files octets))
