@@ -1,3 +1,10 @@
 pub mod Views
 pub mod Examples
 mod WordExamples
+pub mod Fitting
+pub mod Ssrcs
+pub mod Reached
+pub mod Stored
+pub mod SentBack
+pub mod Coming
+pub mod Headlines

@@ -3,10 +3,22 @@ ghost use Rattle.std.specs.Prelude.{◌≡◌, ℕ, List};
 ghost use Rattle.stream_spec.specs.History.{History, Lawful, Come};
 ghost use Rattle.command_spec.specs.declared.requests.ReadRequest.{ReadRequest};
 ghost use Rattle.command_spec.specs.Reading.{arrivals_of, read_view, history_view};
+ghost use Rattle.command_spec.specs.Work.{Contents, Made};
+ghost use Rattle.command_spec.specs.Outcomes.{AllStored, Done, outcome};
+ghost use Rattle.command_spec.specs.Mixing.{mixing};
+ghost use Rattle.command_spec.specs.Bridges.{IsBridged};
 
 /// Where what arrives out of a recording comes from a lawful history, what `read` prints is the view of that history: the
 /// source's blocks which came in time, each once, and marks.
 pub fn histories_are_shown()
     ensures { (h : History) → Lawful h → (r : ReadRequest) (octets : List ℕ) → Come h (arrivals_of r octets)
         → read_view r octets ≡ history_view h r octets }
+{}
+
+/// What `mix` makes of a conference is bridged, whatever lies in its inputs and whatever its plan says: each output has the
+/// packets of a lawful history in which each text was repeated, and what is printed is the text of each leg, of which
+/// nothing is absent but what every packet carrying it lost.
+pub fn mixed_is_bridged()
+    ensures { (held after : Contents) (file printed : List ℕ) (files : List Made)
+        → outcome held (mixing file) ≡ Done printed files → AllStored files held after → IsBridged held after file printed }
 {}

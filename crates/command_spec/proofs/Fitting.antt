@@ -1,0 +1,104 @@
+-- The packets of a stream of at most three generations have octets, and few.
+use Rattle.std.proofs.Common.{◌≡◌, ℕ, zero, suc, ◌+◌, ◌-◌, ◌*◌, ◌<◌, ◌≤◌, ◌^◌, ◌≢◌, Bool, true, false, cond, Option, None, Some, inl, inr, List, [], ◌∷◌, ◌++◌, length, take, refl, subst, sym, length-append, arith}
+use Rattle.std.specs.Prelude.{min, option_to_list, IsUtf8}
+use Rattle.std.specs.List.{flat_map, AllByRecursion}
+use Rattle.std.specs.Int.{w32, to_be_bytes}
+use Rattle.std.proofs.lemmas.Str.{IsUtf8-nil}
+use Rattle.rtt_base.specs.declared.blocks.TextBlock.{TextBlock}
+use Rattle.rtt_base.specs.declared.text_packets.Pts.{Pts}
+use Rattle.wire_spec.specs.Packets.{has_text}
+use Rattle.wire_spec.specs.Rtp.{Head, rtp_written}
+use Rattle.wire_spec.specs.Red.{IsRedundant, red_header, red_spelling}
+use Rattle.wire_spec.specs.SentPackets.{payload_sent, head_of, packet_written, FitsPacket}
+use Rattle.stream_spec.specs.Lists.{In}
+use Rattle.stream_spec.specs.Own.{Sent, Stream, sent_of, nth, repeat_of, repeats, Sendable, packet_after}
+use Rattle.stream_spec.proofs.Sent.{in_sent_of}
+
+take_in : (n : ℕ) (zs : List Sent) (z : Sent) → In z (take n zs) → In z zs
+take_in zero zs z i = absurd i
+take_in (suc n) [] z i = absurd i
+take_in (suc n) (y ∷ zs) z (inl q) = inl q
+take_in (suc n) (y ∷ zs) z (inr i) = inr (take_in n zs z i)
+
+nth_in : (n k : ℕ) (zs : List Sent) (z : Sent) → k < n → nth k zs ≡ Some z → In z (take n zs)
+nth_in zero k zs z l e = absurd (omega arith)
+nth_in (suc n) k [] z l e = cc e
+nth_in (suc n) zero (y ∷ zs) z l e = inl (let q : y ≡ z = cc e in sym q)
+nth_in (suc n) (suc k) (y ∷ zs) z l e = inr (nth_in n k zs z (omega arith) e)
+
+text_sent : (c : Stream) (zs : List Sent) (z : Sent) → Sendable c zs → In z zs → (length z.text ≤ 1023) × IsUtf8 z.text
+text_sent c [] z s i = absurd i
+text_sent c (y ∷ zs) z s (inl q) = subst (λ (x : Sent). (length x.text ≤ 1023) × IsUtf8 x.text) (sym q) s.0.text
+text_sent c (y ∷ zs) z s (inr i) = text_sent c zs z s.1 i
+
+-- what was sent may be repeated at this media time
+abbrev IsNearText : ℕ → Sent → Type 0
+IsNearText media z = ((length z.text ≤ 1023) × IsUtf8 z.text) × (has_text z.text ≡ true → media ≤ z.media + 16383)
+
+redundant_is : (media : ℕ) (o : Option Sent) → ((z : Sent) → o ≡ Some z → IsNearText media z) → IsRedundant (repeat_of media o)
+redundant_is media None f = (omega arith, (omega arith, IsUtf8-nil))
+redundant_is media (Some z) f = let t = f z refl in (go (has_text z.text) t.1, (omega (arith, t.0.0), t.0.1))
+  where
+    go : (b : Bool) → (b ≡ true → media ≤ z.media + 16383) → cond b (media - z.media) (min 16383 (media - z.media)) < 2 ^ 14
+    go true n = let l = n refl in omega arith
+    go false n = omega arith
+
+older_fits : (k g media : ℕ) (zs : List Sent) → k ≤ g → ((z : Sent) → In z (take g zs) → IsNearText media z) → AllByRecursion IsRedundant (repeats k media zs)
+older_fits zero g media zs l f = tt
+older_fits (suc k) g media zs l f = (redundant_is media (nth k zs) (λ z e. f z (nth_in g k zs z (omega arith) e)), older_fits k g media zs (omega arith) f)
+
+older_count : (g media : ℕ) (zs : List Sent) → length (repeats g media zs) ≡ g
+older_count zero media zs = refl
+older_count (suc g) media zs = let r = older_count g media zs in omega (arith, r)
+
+near_each : (c : Stream) (past : List Sent) (e : Sent) → Sendable c (e ∷ past) → (z : Sent) → In z (take c.gens (sent_of e.source past)) → IsNearText e.media z
+near_each c past e s z i = (text_sent c past z s.1 (in_sent_of e.source past z (take_in c.gens (sent_of e.source past) z i)).0, s.0.near z i)
+
+pub packet_fits : (pts : Pts) (c : Stream) (past : List Sent) (e : Sent) → pts.t140 < 2 ^ 7 → pts.red < 2 ^ 7 → pts.t140 ≢ pts.red → c.gens ≤ 3 → c.ssrc < 2 ^ 32 → e.source < 2 ^ 32 → Sendable c (e ∷ past)
+    → FitsPacket pts (packet_after c past e)
+packet_fits pts c past e t r d l ssrc source s = record {
+  seq = omega arith;
+  stamp = omega arith;
+  ssrc = ssrc;
+  source = source;
+  few = omega (arith, older_count c.gens e.media (sent_of e.source past));
+  older = older_fits c.gens c.gens e.media (sent_of e.source past) (omega arith) (near_each c past e s);
+  primary = (omega (arith, s.0.text.0), s.0.text.1);
+  t140 = t;
+  red = r;
+  differ = d;
+}
+
+-- ---- how many octets
+abbrev text_octets : List TextBlock → List ℕ
+text_octets bs = flat_map (λ b. b.text) bs
+
+headers_size : (t140 : ℕ) (bs : List TextBlock) → length (flat_map (red_header t140) bs) ≡ 4 * length bs
+headers_size t140 [] = refl
+headers_size t140 (b ∷ bs) = let rest = headers_size t140 bs in omega (arith, rest)
+
+spelling_size : (t140 : ℕ) (older : List TextBlock) (text : List ℕ) → length (red_spelling t140 older text) ≡ 4 * length older + 1 + length (text_octets older) + length text
+spelling_size t140 older text =
+    let headers = headers_size t140 older in
+    omega (arith, headers, length-append (flat_map (red_header t140) older) (t140 ∷ (text_octets older ++ text)), length-append (text_octets older) text)
+
+texts_size : (bs : List TextBlock) → AllByRecursion IsRedundant bs → length (text_octets bs) ≤ 1023 * length bs
+texts_size [] a = omega arith
+texts_size (b ∷ bs) a = let r = texts_size bs a.1 in omega (arith, a.0.1.0, r, length-append b.text (text_octets bs))
+
+head_size : (h : Head) (payload : List ℕ) → length (rtp_written h payload) ≤ 16 + length payload
+head_size h payload = let r = go h.csrc in omega (arith, r)
+  where
+    go : (o : Option ℕ) → 12 + length (flat_map (to_be_bytes w32) (option_to_list o) ++ payload) ≤ 16 + length payload
+    go None = omega arith
+    go (Some s) = omega arith
+
+payload_size : (pts : Pts) (older : List TextBlock) (text : List ℕ) → AllByRecursion IsRedundant older → length older ≤ 3 → length text ≤ 1023 → length (payload_sent pts older text) ≤ 4105
+payload_size pts [] text a l t = omega arith
+payload_size pts (b ∷ bs) text a l t = omega (arith, spelling_size pts.t140 (b ∷ bs) text, texts_size (b ∷ bs) a)
+
+pub few_octets : (pts : Pts) (c : Stream) (past : List Sent) (e : Sent) → c.gens ≤ 3 → Sendable c (e ∷ past) → length (packet_written pts (packet_after c past e)) ≤ 4224
+few_octets pts c past e l s =
+    let p = packet_after c past e in
+    let older = older_fits c.gens c.gens e.media (sent_of e.source past) (omega arith) (near_each c past e s) in
+    omega (arith, head_size (head_of pts p) (payload_sent pts p.older p.primary), payload_size pts p.older p.primary older (omega (arith, older_count c.gens e.media (sent_of e.source past))) s.0.text.0)

@@ -1,0 +1,180 @@
+-- The headline of a conference that was mixed.
+use Rattle.std.proofs.Common.{◌≡◌, ℕ, suc, ◌+◌, ◌*◌, ◌<◌, ◌≤◌, Bool, true, false, cond, Option, Some, None, List, [], ◌∷◌, ◌++◌, length, refl, ap, subst, sym, ◌∙◌, arith}
+use Rattle.std.specs.Prelude.{map, flat_map, remove, if◌then◌else◌}
+use Rattle.std.specs.List.{AllByRecursion, concat, enumerate_from}
+use Rattle.std.proofs.Math.Nat.{mul-le-mul_left}
+use Rattle.wire_spec.specs.Packets.{Arrival}
+use Rattle.wire_spec.specs.Dump.{dump, dump_written}
+use Rattle.file_spec.specs.declared.conf_lines.Form.TheVariants.{Files}
+use Rattle.file_spec.specs.declared.conf_lines.LegLine.{LegLine}
+use Rattle.file_spec.specs.Conf.{Conf}
+use Rattle.file_spec.specs.Kept.{IsConference}
+use Rattle.stream_spec.specs.Numbering.{numbered, used, Falling}
+use Rattle.stream_spec.specs.Hearing.{heard}
+use Rattle.stream_spec.specs.History.{History, Come, placed}
+use Rattle.stream_spec.specs.Own.{own_packet}
+use Rattle.stream_spec.specs.Carries.{Carries}
+use Rattle.text_spec.specs.declared.counts.Counts.{Counts}
+use Rattle.text_spec.specs.Shown.{shown}
+use Rattle.text_spec.specs.Views.{Source, aware_view, unaware_view}
+use Rattle.mixer_spec.specs.Setups.{AllStay, leg_at, ssrc_of}
+use Rattle.mixer_spec.specs.Table.{Table}
+use Rattle.mixer_spec.specs.Headline.{hears}
+use Rattle.mixer_spec.specs.Chunks.{texts_of}
+use Rattle.mixer_spec.specs.Bridged.{Bridged, IsConferenceMixed, IsHeardOf, IsMixed, IsPair, hop_from, input_limit, leg_arrivals, leg_chunks, leg_heard, packets_to, shared_texts}
+use Rattle.mixer_spec.proofs.Conferences.{accepted_law, plan_law}
+use Rattle.mixer_spec.proofs.OfFiles.{mixed_law, aware_law, other_law}
+use Rattle.mixer_spec.proofs.Final.{AtEnd, at_end, taken_law}
+use Rattle.mixer_spec.proofs.Told.{out_of as told_out}
+use Rattle.mixer_spec.proofs.Bridged.{all_stay_law}
+use Rattle.mixer_spec.proofs.Staying.{shared_law, stay_law}
+use Rattle.stream_spec.proofs.ChunkTexts.{chunk_texts, chunks_rise}
+use Rattle.stream_spec.proofs.Falls.{items_law}
+use Rattle.command_spec.specs.Work.{Contents, Made}
+use Rattle.command_spec.specs.Outcomes.{Done, outcome, AllStored}
+use Rattle.command_spec.specs.Seen.{Text, fate_at, arrivals_at, counts_at, source_at}
+use Rattle.command_spec.specs.Mixing.{sent_to, out_of, came_to, reception_of, speaker_of, view_of, views, outs, input_at, mixing}
+use Rattle.command_spec.specs.Bridges.{Bridge, setup_of, inward, chunks_of, told_to, comes_to, onward_from_mixer, records_of, counts_behind, view_behind, IsHeard, IsHeardAsOne, IsMixedFrom, IsBridged}
+use Rattle.command_spec.proofs.Ssrcs.{ssrcs_fit}
+use Rattle.command_spec.proofs.Reached.{reached}
+use Rattle.command_spec.proofs.Stored.{stored_at}
+use Rattle.command_spec.proofs.SentBack.{IsBack, below_legs, all_back, out_is}
+use Rattle.command_spec.proofs.Coming.{comes, texts_come, all_count, none_refused, none_foreign, many_come}
+
+-- ---- what is seen
+same_counts : (a b : Counts) → a.packets ≡ b.packets → a.used ≡ b.used → a.refused ≡ b.refused → a.foreign ≡ b.foreign → a ≡ b
+same_counts a b p u r f = λ i. record { packets = p i; used = u i; refused = r i; foreign = f i }
+
+map_twice : {X Y Z : Type 0} (f : Y → Z) (g : X → Y) (xs : List X) → map f (map g xs) ≡ map (λ x. f (g x)) xs
+map_twice f g [] = refl
+map_twice f g (x ∷ xs) = ap (λ zs. f (g x) ∷ zs) (map_twice f g xs)
+
+-- the view of a leg that has these arrivals and counts
+abbrev view_with : Conf → ℕ → LegLine → List Arrival → Counts → List ℕ
+view_with c j leg a counts =
+    if leg.aware then aware_view leg.name (map (λ (l : LegLine). let s : Source = record { name = l.name; display = shown (concat (heard c.wait a l.ssrc)) } in s) (remove c.legs j)) counts
+    else unaware_view leg.name (shown (concat (heard c.wait a c.mixer.ssrc))) counts
+
+seen_with : (c : Conf) (table : Table) (j : ℕ) (leg : LegLine) → view_of c table j leg ≡ view_with c j leg (arrivals_at (reception_of c leg) (came_to c table j leg)) (counts_at (reception_of c leg) (came_to c table j leg))
+seen_with c table j leg = go leg.aware
+  where
+    go : (b : Bool)
+        → cond b (aware_view leg.name (map (source_at (reception_of c leg) (came_to c table j leg)) (map speaker_of (remove c.legs j))) (counts_at (reception_of c leg) (came_to c table j leg)))
+        (unaware_view leg.name (shown (concat (heard c.wait (arrivals_at (reception_of c leg) (came_to c table j leg)) c.mixer.ssrc))) (counts_at (reception_of c leg) (came_to c table j leg)))
+        ≡ cond b (aware_view leg.name (map (λ (l : LegLine). let s : Source = record { name = l.name; display = shown (concat (heard c.wait (arrivals_at (reception_of c leg) (came_to c table j leg)) l.ssrc)) } in s) (remove c.legs j)) (counts_at (reception_of c leg) (came_to c table j leg)))
+        (unaware_view leg.name (shown (concat (heard c.wait (arrivals_at (reception_of c leg) (came_to c table j leg)) c.mixer.ssrc))) (counts_at (reception_of c leg) (came_to c table j leg)))
+    go true = ap (λ ss. aware_view leg.name ss (counts_at (reception_of c leg) (came_to c table j leg))) (map_twice (source_at (reception_of c leg) (came_to c table j leg)) speaker_of (remove c.legs j))
+    go false = refl
+
+view_is : (b : Bridge) (j : ℕ) (leg : LegLine) → AllByRecursion (IsBack b.conference.mixer.ssrc leg.pts) (sent_to b.conference b.table j) → view_of b.conference b.table j leg ≡ view_behind b j leg
+view_is b j leg k =
+    seen_with b.conference b.table j leg
+    ∙ (ap (λ (a : List Arrival). view_with b.conference j leg a (counts_at (reception_of b.conference leg) (came_to b.conference b.table j leg))) come
+    ∙ ap (λ (n : Counts). view_with b.conference j leg (comes_to b j) n) counts)
+  where
+    come : arrivals_at (reception_of b.conference leg) (came_to b.conference b.table j leg) ≡ comes_to b j
+    come = comes (reception_of b.conference leg) b.conference.plan j (sent_to b.conference b.table j) k
+
+    texts : AllByRecursion (λ i. fate_at (reception_of b.conference leg) i ≡ Text) (came_to b.conference b.table j leg)
+    texts = texts_come (reception_of b.conference leg) b.conference.plan j (sent_to b.conference b.table j) k
+
+    counts : counts_at (reception_of b.conference leg) (came_to b.conference b.table j leg) ≡ counts_behind (onward_from_mixer b j)
+    counts = same_counts (counts_at (reception_of b.conference leg) (came_to b.conference b.table j leg)) (counts_behind (onward_from_mixer b j))
+        (all_count (reception_of b.conference leg) (came_to b.conference b.table j leg) texts ∙ many_come leg.pts b.conference.plan j (sent_to b.conference b.table j))
+        (ap (λ (a : List Arrival). length (used b.conference.wait (numbered a))) come)
+        (none_refused (reception_of b.conference leg) (came_to b.conference b.table j leg) texts)
+        (none_foreign (reception_of b.conference leg) (came_to b.conference b.table j leg) texts)
+
+-- of all legs from number n on
+views_from : (b : Bridge) (n : ℕ) (legs : List LegLine) → ((j : ℕ) (leg : LegLine) → leg_at legs j ≡ Some leg → view_of b.conference b.table (n + j) leg ≡ view_behind b (n + j) leg)
+    → flat_map (λ x. view_of b.conference b.table x.0 x.1) (enumerate_from n legs) ≡ flat_map (λ x. view_behind b x.0 x.1) (enumerate_from n legs)
+views_from b n [] same = refl
+views_from b n (l ∷ legs) same =
+    let none : n + 0 ≡ n = omega arith in
+    let first : view_of b.conference b.table n l ≡ view_behind b n l = subst (λ k. view_of b.conference b.table k l ≡ view_behind b k l) none (same 0 l refl) in
+    let rest = views_from b (n + 1) legs (λ j leg e. let k : n + suc j ≡ n + 1 + j = omega arith in subst (λ m. view_of b.conference b.table m leg ≡ view_behind b m leg) k (same (suc j) leg e)) in
+    λ i. first i ++ rest i
+
+-- ---- what is heard
+falls : (limit : ℕ) (o : Option LegLine) (octets : List ℕ) → Falling (numbered (leg_arrivals limit o octets))
+falls limit None octets = tt
+falls limit (Some l) octets = items_law (dump limit octets).items l.ssrc l.pts
+
+heard_of : (c : Conf) (inputs : ℕ → List ℕ) (i : ℕ) (h : History) → IsHeardOf (hop_from c inputs i h) i (leg_heard c inputs i)
+heard_of c inputs i h = record {
+  is = refl;
+  rises = chunks_rise c.wait i (leg_arrivals (input_limit c) (leg_at c.legs i) (inputs i)) (ssrc_of (leg_at c.legs i)) (falls (input_limit c) (leg_at c.legs i) (inputs i));
+}
+
+-- the legs are mixed to the end
+record IsWhole (b : Bridge) : Type 0 where
+  is : IsConference b.conference
+  over : IsConferenceMixed b.conference (input_at b.inputs) b.table
+
+mixed_of : (b : Bridge) → IsWhole b → IsMixed (setup_of b) (leg_chunks b.conference (input_at b.inputs)) b.conference.tick b.conference.turns b.table
+mixed_of b w = mixed_law b.conference (input_at b.inputs) b.table w.is w.over
+
+pair_heard : (b : Bridge) → IsWhole b → (j i : ℕ) → IsPair (setup_of b) j i → IsHeard b j i
+pair_heard b w j i p = record {
+  bridged = bridged;
+  headline = λ h ip. let r = (bridged h).headline ip b.conference.wait (comes_to b j) (come h) in (r.0, r.2);
+  carries_all = λ st h. subst (Carries (told_to b j) ((setup_of b).ssrc i)) (whole h st) (bridged h).carries;
+  headline_all = λ st h ip. (all_stay_law (setup_of b) (leg_chunks b.conference (input_at b.inputs)) b.conference.tick b.conference.turns b.table st (mixed_of b w) j i p (inward b i h) ip (heard_all h st) b.conference.wait (comes_to b j) (come h)).1;
+}
+  where
+    bridged : (h : History) → Bridged (setup_of b) b.table j i (told_to b j) (inward b i h) (chunks_of b i)
+    bridged h = aware_law b.conference (input_at b.inputs) b.table w.is w.over j i p h
+
+    come : (h : History) → Come (told_to b j) (comes_to b j)
+    come h = (aware_law b.conference (input_at b.inputs) b.table w.is w.over j i p h).comes b.conference.plan (plan_law b.conference w.is)
+
+    heard_all : (h : History) → AllStay (setup_of b) → IsHeardOf (inward b i h) i (leg_chunks b.conference (input_at b.inputs) i)
+    heard_all h st = subst (IsHeardOf (inward b i h) i) (sym (stay_law (setup_of b) i (chunks_of b i) st)) (heard_of b.conference (input_at b.inputs) i h)
+
+    whole : (h : History) → AllStay (setup_of b) → shared_texts b.table j i ≡ hears (inward b i h)
+    whole h st =
+        ap texts_of (shared_law (setup_of b) (leg_chunks b.conference (input_at b.inputs)) b.conference.tick b.conference.turns j i b.table st p.terminal p.other w.over
+        ∙ (taken_law (setup_of b) (leg_chunks b.conference (input_at b.inputs)) b.conference.tick b.conference.turns i b.table p.leg w.over ∙ (heard_all h st).is))
+        ∙ chunk_texts b.conference.wait i (inward b i h).came (inward b i h).source
+
+one_heard : (b : Bridge) → IsWhole b → (j : ℕ) → j < length b.conference.legs → (setup_of b).aware j ≡ false → IsHeardAsOne b j
+one_heard b w j l u =
+    let o = other_law b.conference (input_at b.inputs) b.table w.is w.over j u l in
+    record { bridged = o; one_hop = o.one_hop b.conference.wait (comes_to b j) (o.comes b.conference.plan (plan_law b.conference w.is)) }
+
+-- what was sent to a leg, aware or not, are the own packets of its history
+packets_are : (b : Bridge) → IsWhole b → (j : ℕ) → j < length b.conference.legs
+    → packets_to (setup_of b) j (b.table.terminals j).past ≡ map (own_packet (told_to b j)) (placed (told_to b j))
+packets_are b w j l =
+    let m = mixed_of b w in
+    let a : AtEnd (setup_of b) b.conference.turns j b.table = at_end (setup_of b) (leg_chunks b.conference (input_at b.inputs)) b.conference.tick b.conference.turns j b.table m.setup m.texts l w.over in
+    let up : (setup_of b).step * a.made ≤ (setup_of b).step * b.conference.turns = mul-le-mul_left (setup_of b).step a.few in
+    (told_out (setup_of b) m.setup b.table.seats j a.made b.table.media (b.table.terminals j) (omega (arith, up, m.span)) a.timed).packets_are
+
+-- ---- the whole
+is_bridged : (held after : Contents) (file printed : List ℕ) (b : Bridge) → IsMixedFrom held file b → printed ≡ views b.conference b.table → AllStored (outs b.conference b.table) held after
+    → IsBridged held after file printed
+is_bridged held after file printed b m views_are stored = record {
+  bridge = b;
+  mixed = m;
+  outs = λ j leg at. (dump_written (records_of b j leg), there j leg at, out_is b j leg (back j leg at) (packets_are b w j (below_legs b.conference.legs j leg at)));
+  views = views_are ∙ views_from b 0 b.conference.legs (λ j leg at. let k : j ≡ 0 + j = omega arith in subst (λ n. view_of b.conference b.table n leg ≡ view_behind b n leg) k (view_is b j leg (back j leg at)));
+  heard = pair_heard b w;
+  heard_as_one = one_heard b w;
+}
+  where
+    w : IsWhole b
+    w = record { is = (accepted_law Files m.read.0 b.conference m.read.2).0; over = m.over }
+
+    there : (j : ℕ) (leg : LegLine) → leg_at b.conference.legs j ≡ Some leg → after leg.output ≡ Some (dump_written (records_of b j leg))
+    there j leg at =
+        let k : 0 + j ≡ j = omega arith in
+        stored_at (out_of b.conference b.table) (λ n l. refl) 0 b.conference.legs held after w.is.legs.differ stored j leg at ∙ ap (λ n. Some (dump_written (records_of b n leg))) k
+
+    back : (j : ℕ) (leg : LegLine) → leg_at b.conference.legs j ≡ Some leg → AllByRecursion (IsBack b.conference.mixer.ssrc leg.pts) (sent_to b.conference b.table j)
+    back j leg at = all_back b.conference (input_at b.inputs) b.table w.is (ssrcs_fit Files m.read.0 b.conference m.read.2) m.over j leg at
+
+pub bridged : (held after : Contents) (file printed : List ℕ) (files : List Made) → outcome held (mixing file) ≡ Done printed files → AllStored files held after → IsBridged held after file printed
+bridged held after file printed files e stored =
+    let r = reached held file printed files e in
+    is_bridged held after file printed r.bridge r.mixed r.views_are (subst (λ (fs : List Made). AllStored fs held after) r.outs_are stored)

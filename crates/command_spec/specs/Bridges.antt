@@ -1,0 +1,149 @@
+-- The headline of a conference that was mixed, from what lay in files to what lies there then and is printed (profile).
+-- The first hop is from a leg to the mixer, the second from the mixer to a terminal.
+use Rattle.std.specs.Prelude.{◌≡◌, ◌<◌, ◌≤◌, ℕ, false, List, [], length, map, flat_map, remove, None, Some, Ok, All, if◌then◌else◌}
+use Rattle.std.specs.List.{AllZip, concat, enumerate_from}
+use Rattle.wire_spec.specs.Packets.{Arrival}
+use Rattle.wire_spec.specs.Text.{text_of}
+use Rattle.wire_spec.specs.Dump.{dump, dump_written, sent_item}
+use Rattle.file_spec.specs.declared.limits.TheConstants.{LAST_MOMENT}
+use Rattle.file_spec.specs.declared.conf_lines.Form.TheVariants.{Files}
+use Rattle.file_spec.specs.declared.conf_lines.LegLine.{LegLine}
+use Rattle.file_spec.specs.Conf.{Conf, conf}
+use Rattle.stream_spec.specs.Numbering as numbers
+use Rattle.stream_spec.specs.History.{History, placed}
+use Rattle.stream_spec.specs.Own.{own_packet}
+use Rattle.stream_spec.specs.Carries.{Carries}
+use Rattle.stream_spec.specs.Kept.{Item}
+use Rattle.stream_spec.specs.Ready.{Chunk}
+use Rattle.text_spec.specs.declared.counts.Counts.{Counts}
+use Rattle.text_spec.specs.Shown.{Display, shown}
+use Rattle.text_spec.specs.Views.{Source, aware_view, unaware_view}
+use Rattle.mixer_spec.specs.Setups.{AllStay, Setup, leg_at, setup}
+use Rattle.mixer_spec.specs.Table.{Table}
+use Rattle.mixer_spec.specs.Arrives.{arrivals}
+use Rattle.mixer_spec.specs.Headline.{Hop, IsHop, hears, OneHop, Headline}
+use Rattle.mixer_spec.specs.Bridged.{Bridged, BridgedAsOne, IsConferenceMixed, IsPair, before, hop_from, hop_to, input_limit, leg_heard, told_by_packets}
+use Rattle.command_spec.specs.Work.{Contents}
+use Rattle.command_spec.specs.Mixing.{sent_to, records_to, input_at}
+
+-- A conference, the octets of its inputs in leg order, and the table when mixing them was over.
+pub record Bridge : Type 0 where
+  pub conference : Conf
+  pub inputs : List (List ℕ)
+  pub table : Table
+
+abbrev pub setup_of : Bridge → Setup
+setup_of b = setup b.conference
+
+-- ---- the first hop: from the leg i, to whom the history h was sent
+abbrev pub inward : Bridge → ℕ → History → Hop
+inward b i h = hop_from b.conference (input_at b.inputs) i h
+
+-- what is heard of the leg, with the moments from which each text may be mixed
+abbrev pub chunks_of : Bridge → ℕ → List Chunk
+chunks_of b i = leg_heard b.conference (input_at b.inputs) i
+
+-- how many texts of it stand before those that the terminal j shares
+abbrev pub before_shared : Bridge → ℕ → ℕ → ℕ
+before_shared b j i = before (setup_of b) b.table j i (chunks_of b i)
+
+-- ---- the second hop: to the terminal j, where the source x is listened to
+-- the history that its packets tell
+abbrev pub told_to : Bridge → ℕ → History
+told_to b j = told_by_packets (setup_of b) j (b.table.terminals j).past
+
+-- what comes of its packets, as the plan says
+abbrev pub comes_to : Bridge → ℕ → List Arrival
+comes_to b j = arrivals b.conference.plan j (sent_to b.conference b.table j)
+
+abbrev pub onward : Bridge → ℕ → ℕ → Hop
+onward b j x = hop_to (told_to b j) x b.conference.wait (comes_to b j)
+
+-- where the source is the leg i
+abbrev pub onward_from : Bridge → ℕ → ℕ → Hop
+onward_from b j i = onward b j ((setup_of b).ssrc i)
+
+-- where it is the mixer
+abbrev pub onward_from_mixer : Bridge → ℕ → Hop
+onward_from_mixer b j = onward b j b.conference.mixer.ssrc
+
+-- ---- what lies in the output of a leg
+abbrev pub records_of : Bridge → ℕ → LegLine → List (ℕ × List ℕ)
+records_of b j leg = records_to b.conference b.table j leg
+
+-- These octets are the recording of what was sent to the leg j: it has the own packets of the history, in order, and is
+-- read back wherever its times and its size are within the limits.
+pub record IsOut (b : Bridge) (j : ℕ) (leg : LegLine) (octets : List ℕ) : Type 0 where
+  pub is : octets ≡ dump_written (records_of b j leg)
+  pub packets : map (λ r. text_of r.1 (Some b.conference.mixer.ssrc) leg.pts) (records_of b j leg)
+      ≡ map (λ x. Ok (own_packet (told_to b j) x)) (placed (told_to b j))
+  pub read_back : (limit : ℕ) → All (λ r. r.0 ≤ LAST_MOMENT) (records_of b j leg) → length octets ≤ limit
+      → dump limit octets ≡ record { items = map sent_item (records_of b j leg); fault = None }
+
+-- ---- what is seen
+-- what is heard behind a hop, shown
+abbrev pub display_behind : Hop → Display
+display_behind q = shown (concat (hears q))
+
+-- how many packets came, each of them a text of the mixer, and how many were used
+abbrev pub counts_behind : Hop → Counts
+counts_behind q = record {
+  packets = length q.came;
+  used = length (numbers.used q.wait (numbers.numbered q.came));
+  refused = 0;
+  foreign = 0;
+}
+
+abbrev pub source_behind : Bridge → ℕ → LegLine → Source
+source_behind b j leg = record { name = leg.name; display = display_behind (onward b j leg.ssrc) }
+
+-- the view of the leg j
+abbrev pub view_behind : Bridge → ℕ → LegLine → List ℕ
+view_behind b j leg =
+    if leg.aware
+    then aware_view leg.name (map (source_behind b j) (remove b.conference.legs j)) (counts_behind (onward_from_mixer b j))
+    else unaware_view leg.name (display_behind (onward_from_mixer b j)) (counts_behind (onward_from_mixer b j))
+
+abbrev pub views_behind : Bridge → List ℕ
+views_behind b = flat_map (λ x. view_behind b x.0 x.1) (enumerate_from 0 b.conference.legs)
+
+-- ---- what is heard
+-- What the aware terminal j hears of the leg i, whatever the inputs have, and whatever the plan loses, repeats or delays.
+pub record IsHeard (b : Bridge) (j i : ℕ) : Type 0 where
+  -- Its history is lawful, own and closed, and carries all that it shares of the leg.
+  pub bridged : (h : History) → Bridged (setup_of b) b.table j i (told_to b j) (inward b i h) (chunks_of b i)
+  -- The headline, for every lawful history of which the leg's arrivals come.
+  pub headline : (h : History) → IsHop (inward b i h)
+      → (after : List Item) × Headline (inward b i h) (onward_from b j i) (before_shared b j i) [] after
+  -- Where nobody comes later or goes, that is all that is heard of the leg.
+  pub carries_all : AllStay (setup_of b)
+      → (h : History) → Carries (told_to b j) ((setup_of b).ssrc i) (hears (inward b i h))
+  pub headline_all : AllStay (setup_of b)
+      → (h : History) → IsHop (inward b i h) → Headline (inward b i h) (onward_from b j i) 0 [] []
+
+-- What a terminal hears that is not aware: the mixer as the one source.
+pub record IsHeardAsOne (b : Bridge) (j : ℕ) : Type 0 where
+  pub bridged : BridgedAsOne (setup_of b) b.table j (told_to b j)
+  pub one_hop : OneHop (onward_from_mixer b j)
+
+-- ---- the whole
+-- The conference lies in this file, and recordings without a fault in its inputs; mixing them is over within its turns.
+pub record IsMixedFrom (held : Contents) (file : List ℕ) (b : Bridge) : Type 0 where
+  pub read : (octets : List ℕ) × (held file ≡ Some octets) × (conf Files octets ≡ Ok b.conference)
+  pub inputs_lie : AllZip (λ leg octets. held leg.input ≡ Some octets) b.conference.legs b.inputs
+  pub whole : All (λ octets. (dump (input_limit b.conference) octets).fault ≡ None) b.inputs
+  pub over : IsConferenceMixed b.conference (input_at b.inputs) b.table
+
+-- What `mix` makes of a file, where that lay in files, and this lies there then, and this is printed.
+pub record IsBridged (held after : Contents) (file printed : List ℕ) : Type 0 where
+  pub bridge : Bridge
+  pub mixed : IsMixedFrom held file bridge
+  -- In the output of each leg lies what was sent to it.
+  pub outs : (j : ℕ) (leg : LegLine) → leg_at bridge.conference.legs j ≡ Some leg
+      → (octets : List ℕ) × (after leg.output ≡ Some octets) × IsOut bridge j leg octets
+  -- What is printed is what is heard behind both hops, shown.
+  pub views : printed ≡ views_behind bridge
+  -- Of each other leg an aware terminal hears what the headline says.
+  pub heard : (j i : ℕ) → IsPair (setup_of bridge) j i → IsHeard bridge j i
+  pub heard_as_one : (j : ℕ) → j < length bridge.conference.legs → (setup_of bridge).aware j ≡ false
+      → IsHeardAsOne bridge j
