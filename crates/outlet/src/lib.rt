@@ -1,0 +1,2 @@
+//! What a mixer keeps of one terminal, and the terminal's turn.
+#![tactic(auto)]
