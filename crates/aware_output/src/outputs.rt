@@ -101,6 +101,7 @@ impl Output {
             → Appends O.greatest (O.written out.old) (O.written out.new) (packet_written conf.pts (packet_after (stream_of conf) past (text_of sources source media text.now))) result }
         ensures stands { (conf : OutConf) (sources : List ℕ) (past : List Sent) → StandsFor conf sources self.old past → IsNext (stream_of conf) past (text_of sources source media text.now)
             → OnOk result (StandsFor conf sources self.new (text_of sources source media text.now ∷ past)) }
+        ensures sources { length self.new.speakers ≡ length self.old.speakers }
         ensures err { OnErr result (self.new ≡ self.old) }
     {
         let stamp = self.stamp_at(media);
@@ -146,7 +147,8 @@ impl Output {
     fn keep(&mut self, stamp: u32, source: usize, text: &[u8])
         requires source { source < length self.old.speakers }
         requires text { length text.now < 1024 }
-        ensures { (conf : OutConf) (sources : List ℕ) (past : List Sent) (media : ℕ) → StandsFor conf sources self.old past → stamp ≡ (conf.stamp + media) % 2 ^ 32
+        ensures sources { length self.new.speakers ≡ length self.old.speakers }
+        ensures stands { (conf : OutConf) (sources : List ℕ) (past : List Sent) (media : ℕ) → StandsFor conf sources self.old past → stamp ≡ (conf.stamp + media) % 2 ^ 32
             → IsNext (stream_of conf) past (text_of sources source media text.now) → StandsFor conf sources self.new (text_of sources source media text.now ∷ past) }
     {
         self.speakers[source].keep(stamp, text);

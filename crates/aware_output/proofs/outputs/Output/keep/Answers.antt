@@ -6,8 +6,8 @@ use Rattle.aware_output.specs.Standing.{StandsFor, source_at}
 use Rattle.aware_output.proofs.Speaking.{within, speaker_is, kept_after}
 use Rattle.aware_output.proofs.outputs.Output.keep.Goals as goal
 
-pub returns : goal.returns
-returns c = λ conf sources past media s q n.
+pub returns-clause-stands : goal.returns-clause-stands
+returns-clause-stands c = λ conf sources past media s q n.
     let r = subst (λ (st : State). StandsFor conf sources st past) (sym c.self.view_is) s in
     let there : c.args.source < length c.self.inside.speakers.items = subst (λ (st : State). c.args.source < length st.speakers) (sym c.self.view_is) c.requires.source in
     let l = within conf sources _ past c.args.source r there in
