@@ -1,0 +1,2 @@
+pub mod AwareLooking
+pub mod AwareServing

@@ -1,1 +1,5 @@
 pub mod Turns
+pub mod AwareStates
+pub mod AwareInsides
+pub mod AwareStanding
+pub mod AwareTurns

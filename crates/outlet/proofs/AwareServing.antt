@@ -1,0 +1,133 @@
+-- A turn that serves a leg.
+use Rattle.std.proofs.Common.{◌≡◌, ℕ, suc, ◌+◌, ◌<◌, ◌≤◌, Bool, true, false, cond, inl, inr, Some, List, [], ◌∷◌, ◌++◌, length, set, refl, ap, subst, sym, ◌∙◌, arith}
+use Rattle.std.specs.Prelude.{Result, Ok, Err, IsOk, OnOk, ◌==◌, slice_index}
+use Rattle.std.specs.Result.{is_ok}
+use Rattle.std.proofs.lemmas.Bool.{cases_eq, eq-eqb, ne_eqb}
+use Rattle.std.proofs.lemmas.List.{length-set}
+use Rattle.std.proofs.Math.Seq.{get_or-set_same, get_or-set_other}
+use Rattle.rtt_base.specs.Buffers.{Appends}
+use Rattle.rtt_base.specs.declared.text_packets.Pts.{Pts}
+use Rattle.wire_spec.specs.SentPackets.{packet_written}
+use Rattle.stream_spec.specs.Own.{Sent, Stream, sent_of, packet_after, Sendable}
+use Rattle.mixer_spec.specs.Chunks.{front, joined}
+use Rattle.mixer_spec.specs.Setups.{Setup, stream}
+use Rattle.mixer_spec.specs.Table.{Mixed, Terminal, Table, sents, sent_by, last_media, new_packet, serve_leg}
+use Rattle.red_window.proofs.Fitting.{few_octets}
+use Rattle.aware_output.specs.Confs.{stream_of}
+use Rattle.aware_output.specs.declared.outputs.OutConf.{OutConf}
+use Rattle.aware_output.specs.Speakers.{IsNext, text_of}
+use Rattle.aware_output.specs.States.{State}
+use Rattle.aware_output.specs.Standing as outputs
+use Rattle.aware_output.proofs.Speaking.{may_send, sendable}
+use Rattle.slot_table.specs.Lanes.{Waiting}
+use Rattle.slot_table.specs.Words.{take_front, fetched}
+use Rattle.slot_table.specs.Standing as slots
+use Rattle.slot_table.proofs.Sources.{stands_same}
+use Rattle.outlet.specs.Turns.{conf_at, free_after, Puts, with_terminal}
+use Rattle.outlet.specs.AwareStates.{AwareState}
+use Rattle.outlet.specs.AwareStanding.{StandsFor}
+use Rattle.outlet.specs.AwareTurns.{IsIn, IsTurned, sent_of_leg}
+
+-- ---- what an output puts out
+pub text_is : (sources : List ℕ) (source media : ℕ) (text : List ℕ) (e : Sent) → slice_index sources source ≡ e.source → media ≡ e.media → text ≡ e.text → text_of sources source media text ≡ e
+text_is sources source media text e a b c = let same : (x y z : ℕ) (t u : List ℕ) → x ≡ y → t ≡ u → (let k : Sent = record { source = x; media = z; text = t } in k) ≡ record { source = y; media = z; text = u } = λ x y z t u p q. rw (p, q) refl in
+    same (slice_index sources source) e.source media text e.text a c ∙ ap (λ (m : ℕ). let k : Sent = record { source = e.source; media = m; text = e.text } in k) b
+
+-- the packet of e was put into an empty buffer, and the output has sent it
+pub record IsSent {T E : Type 0} (conf : OutConf) (sources : List ℕ) (past : List Sent) (e : Sent) (new : State) (after : List ℕ) (result : Result T E) : Type 0 where
+  pub put : is_ok result ≡ true
+  pub octets : after ≡ packet_written conf.pts (packet_after (stream_of conf) past e)
+  pub stands : outputs.StandsFor conf sources new (e ∷ past)
+
+pub is_sent : {T E : Type 0} (conf : OutConf) (sources : List ℕ) (past : List Sent) (e : Sent) (old new : State) (before after : List ℕ) (result : Result T E) → conf.gens ≤ 3 → outputs.StandsFor conf sources old past
+    → IsNext (stream_of conf) past e → before ≡ [] → Appends (Some 4224) before after (packet_written conf.pts (packet_after (stream_of conf) past e)) result → OnOk result (outputs.StandsFor conf sources new (e ∷ past))
+    → IsSent conf sources past e new after result
+is_sent {T} {E} conf sources past e old new before after result g h n b a s =
+    let c = stream_of conf in
+    let sends : Sendable c (e ∷ past) = (may_send c past e g h.sent n, sendable c past g h.sent) in
+    let few = few_octets conf.pts c past e g sends in
+    go result (a.room.1 (omega (arith, few, ap (λ (xs : List ℕ). length xs) b))) a.ok s
+  where
+    go : (r : Result T E) → IsOk r → OnOk r (after ≡ before ++ packet_written conf.pts (packet_after (stream_of conf) past e)) → OnOk r (outputs.StandsFor conf sources new (e ∷ past)) → IsSent conf sources past e new after r
+    go (Ok v) i p q = record { put = refl; octets = p ∙ ap (λ (xs : List ℕ). xs ++ packet_written conf.pts (packet_after (stream_of conf) past e)) b; stands = q }
+    go (Err v) i p q = cc i
+
+-- ---- the entry
+puts_one : (pts : Pts) (c : Stream) (past : List Mixed) (m : Mixed) (put : Bool) (out : List ℕ) → put ≡ true → out ≡ packet_written pts (packet_after c (sents past) m.sent)
+    → Puts pts (new_packet c past (m ∷ past)) put out
+puts_one pts c past m put out p o = let same : (length past == length past) ≡ true = eq-eqb (length past) (length past) refl in rw same (p, o)
+
+same_waits : (b : Bool) (x y z : Terminal) (i : ℕ) → x.waits i ≡ y.waits i → (cond b x z).waits i ≡ (cond b y z).waits i
+same_waits true x y z i e = e
+same_waits false x y z i e = refl
+
+sent_same : (x : ℕ) (e : Sent) (past : List Sent) → e.source ≡ x → sent_of x (e ∷ past) ≡ e ∷ sent_of x past
+sent_same x e past q = ap (λ (b : Bool). cond b (e ∷ sent_of x past) (sent_of x past)) (eq-eqb e.source x q)
+
+sent_other : (x : ℕ) (e : Sent) (past : List Sent) → (e.source ≡ x → ⊥) → sent_of x (e ∷ past) ≡ sent_of x past
+sent_other x e past n = ap (λ (b : Bool). cond b (e ∷ sent_of x past) (sent_of x past)) (ne_eqb e.source x n)
+
+-- the outlet behind a packet of the leg
+abbrev pub state_then : AwareState → State → ℕ → ℕ → ℕ → AwareState
+state_then o output leg free place = record { own = o.own; spacing = o.spacing; output = output; free_at = set o.free_at leg free; next = place + 1 }
+
+stands_then : (s : Setup) (pts : Pts) (o : AwareState) (d : Terminal) (output : State) (place leg media free now : ℕ) → (h : StandsFor s pts o.own o d) → leg < s.legs → free ≡ media + o.spacing
+    → outputs.StandsFor (conf_at s pts o.own) h.sources output (sent_of_leg s media d leg ∷ sents d.past)
+    → StandsFor s pts o.own (state_then o output leg free place) (serve_leg s now media d place (Some leg))
+stands_then s pts o d output place leg media free now h l f out =
+    let e = sent_of_leg s media d leg in
+    let behind : Terminal = serve_leg s now media d place (Some leg) in
+    record {
+      setup = h.setup;
+      places = h.places;
+      own = refl;
+      leg = h.leg;
+      spacing = h.spacing;
+      sources = h.sources;
+      are = h.are;
+      output = out;
+      legs = length-set o.free_at leg free ∙ h.legs;
+      free = λ i b. elim (cases_eq i leg) [
+        | inl q ↦
+            ap (λ (x : ℕ). slice_index (set o.free_at leg free) x) q
+            ∙ (get_or-set_same o.free_at leg free 0 (omega (arith, l, h.legs))
+            ∙ (f ∙ (ap (λ (x : ℕ). media + x) h.spacing
+            ∙ ap (λ (xs : List Sent). free_after s.spacing (last_media xs)) (sym (sent_same (s.ssrc i) e (sents d.past) (ap s.ssrc (sym q)))))))
+        | inr n ↦
+            get_or-set_other o.free_at leg i free 0 n
+            ∙ (h.free i b
+            ∙ ap (λ (xs : List Sent). free_after s.spacing (last_media xs)) (sym (sent_other (s.ssrc i) e (sents d.past) (λ q. n (sym (h.setup.differ leg i l b q))))))
+      ];
+      next = omega arith;
+      none_mixed = sent_other s.mixer e (sents d.past) (h.setup.mixer_differs leg l) ∙ h.none_mixed;
+    }
+
+slots_then : (s : Setup) (table : Table) (j leg place media now : ℕ) (after : List Waiting) → slots.StandsFor s after (fetched j leg 1023 table)
+    → slots.StandsFor s after (with_terminal j (serve_leg s now media (table.terminals j) place (Some leg)) table)
+slots_then s table j leg place media now after h =
+    stands_same s after (fetched j leg 1023 table) (with_terminal j (serve_leg s now media (table.terminals j) place (Some leg)) table) h (λ i. refl) (λ k. refl)
+    (λ k i. same_waits (k == j) (serve_leg s now media (table.terminals j) place (Some leg)) (take_front leg 1023 (table.terminals j)) (table.terminals k) i refl)
+
+pub leg_served : {T E : Type 0} (s : Setup) (pts : Pts) (table : Table) (o : AwareState) (before after : List Waiting) (output : State) (place leg media free now : ℕ) (text : List ℕ) (empty octets : List ℕ) (result : Result T E) (put : Bool)
+    → (h : IsIn s pts o before table) → leg < s.legs → IsNext (stream s o.own) (sents (table.terminals o.own).past) (sent_of_leg s media (table.terminals o.own) leg)
+    → text ≡ joined (front 1023 ((table.terminals o.own).waits leg)) → slots.StandsFor s after (fetched o.own leg 1023 table) → free ≡ media + o.spacing → empty ≡ []
+    → (let d : Terminal = table.terminals o.own in let e = text_of h.outlet.sources leg media text in
+    IsNext (stream s o.own) (sents d.past) e → Appends (Some 4224) empty octets (packet_written pts (packet_after (stream s o.own) (sents d.past) e)) result)
+    → (let d : Terminal = table.terminals o.own in let e = text_of h.outlet.sources leg media text in
+    IsNext (stream s o.own) (sents d.past) e → OnOk result (outputs.StandsFor (conf_at s pts o.own) h.outlet.sources output (e ∷ sents d.past)))
+    → put ≡ is_ok result
+    → IsTurned s pts table o.own (serve_leg s now media (table.terminals o.own) place (Some leg)) (state_then o output leg free place) after put octets
+leg_served {T} {E} s pts table o before after output place leg media free now text empty octets result put h l n t f q b a k p =
+    let d = table.terminals o.own in
+    let conf = conf_at s pts o.own in
+    let e = sent_of_leg s media d leg in
+    let is : text_of h.outlet.sources leg media text ≡ e = text_is h.outlet.sources leg media text e (h.outlet.are.each leg l) refl t in
+    let next = subst (λ (x : Sent). IsNext (stream s o.own) (sents d.past) x) (sym is) n in
+    let appends = subst (λ (x : Sent). Appends (Some 4224) empty octets (packet_written pts (packet_after (stream s o.own) (sents d.past) x)) result) is (a next) in
+    let stands = subst (λ (x : Sent). OnOk result (outputs.StandsFor conf h.outlet.sources output (x ∷ sents d.past))) is (k next) in
+    let sent = is_sent conf h.outlet.sources (sents d.past) e o.output output empty octets result (h.outlet.setup.gens o.own) h.outlet.output n b appends stands in
+    record {
+      outlet = stands_then s pts o d output place leg media free now h.outlet l q sent.stands;
+      slots_stand = slots_then s table o.own leg place media now after f;
+      puts = puts_one pts (stream s o.own) d.past (record { at = now; place = place; leg = leg; chunks = front 1023 (d.waits leg); sent = e }) put octets (p ∙ sent.put) sent.octets;
+    }

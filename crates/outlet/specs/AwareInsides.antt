@@ -1,0 +1,13 @@
+-- The fields of the outlet of an aware terminal.
+use Rattle.std.specs.Prelude.{◌≡◌, ◌≤◌, ◌<◌, length}
+use Rattle.outlet.specs.declared.aware.AwareOutlet.TheInside.{Inside}
+use Rattle.outlet.specs.AwareStates.{AwareState}
+
+abbrev pub state_of : Inside → AwareState
+state_of o = record { own = o.own; spacing = o.spacing; output = o.output; free_at = o.free_at.items; next = o.next }
+
+-- each leg is a source of the output, and has a moment
+pub record IsSound (o : Inside) : Type 0 where
+  pub legs : length o.output.speakers ≡ length o.free_at.items
+  pub own : o.own < length o.free_at.items
+  pub next : o.next ≤ 16

@@ -1,0 +1,41 @@
+-- What the outlet of an aware terminal stands for (profile).
+use Rattle.std.specs.Prelude.{◌≡◌, ℕ, ◌+◌, ◌<◌, Option, None, Some, List, [], length, slice_index}
+use Rattle.rtt_base.specs.declared.text_packets.Pts.{Pts}
+use Rattle.stream_spec.specs.Own.{Sent}
+use Rattle.mixer_spec.specs.Setups.{Setup, IsSetup, stream}
+use Rattle.mixer_spec.specs.Table.{Terminal, Table, sents, sent_by, last_media, round_start, turn_aware}
+use Rattle.aware_output.specs.declared.outputs.OutConf.{OutConf}
+use Rattle.aware_output.specs.Standing.{source_at}
+use Rattle.aware_output.specs.Standing as outputs
+use Rattle.slot_table.specs.Lanes.{Waiting}
+use Rattle.slot_table.specs.Standing as slots
+use Rattle.outlet.specs.Turns.{conf_at, free_after}
+use Rattle.outlet.specs.AwareStates.{AwareState}
+
+-- these are the SSRCs of all legs, in leg order
+pub record AreSources (s : Setup) (sources : List ℕ) : Type 0 where
+  pub count : length sources ≡ s.legs
+  pub each : (i : ℕ) → i < s.legs → source_at sources i ≡ s.ssrc i
+
+-- This was sent to the aware terminal j, with these payload types.
+pub record StandsFor (s : Setup) (pts : Pts) (j : ℕ) (o : AwareState) (d : Terminal) : Type 0 where
+  pub setup : IsSetup s
+  pub places : s.places ≡ 16
+  pub own : o.own ≡ j
+  pub leg : j < s.legs
+  pub spacing : o.spacing ≡ s.spacing
+  pub sources : List ℕ
+  pub are : AreSources s sources
+  pub output : outputs.StandsFor (conf_at s pts j) sources o.output (sents d.past)
+  pub legs : length o.free_at ≡ s.legs
+  pub free : (i : ℕ) → i < s.legs → slice_index o.free_at i ≡ free_after s.spacing (last_media (sent_by (s.ssrc i) d))
+  pub next : o.next ≡ round_start d.past
+  pub none_mixed : sent_by s.mixer d ≡ []
+
+-- An outlet of the terminal j with this stream, to these sources, with this spacing, is one of this setup.
+pub record IsMadeFor (s : Setup) (conf : OutConf) (sources : List ℕ) (j spacing : ℕ) : Type 0 where
+  pub setup : IsSetup s
+  pub places : s.places ≡ 16
+  pub conf_is : conf ≡ conf_at s conf.pts j
+  pub are : AreSources s sources
+  pub spacing_is : spacing ≡ s.spacing

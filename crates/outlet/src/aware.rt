@@ -1,0 +1,132 @@
+//! The outlet of a terminal that tells sources apart.
+ghost use Rattle.std.specs.Prelude.{◌≡◌, ◌+◌, ◌-◌, ◌^◌, ◌<◌, ◌≤◌, ◌||◌, ℕ, [], length, IfOk, IfSome, Some};
+ghost use Rattle.mixer_spec.specs.Rounds.{first_from};
+ghost use Rattle.mixer_spec.specs.Setups.{Setup, stream};
+ghost use Rattle.mixer_spec.specs.Table.{empty, has_work, is_due, is_due_at, is_spaced, last_media, sent_by, sents, serve, serve_leg, served, turn_aware};
+ghost use Rattle.aware_output.specs.Confs.{IsConf};
+ghost use Rattle.aware_output.specs.Speakers.{AreDistinct, IsNext};
+
+use aware_output::{OutConf, Output};
+use rtt_base::{NoMemory, Packet, Text};
+use slot_table::Slots;
+use std::alloc::Global;
+use std::marker::Model;
+
+/// How many places a mixer has.
+const PLACES: usize = 16;
+
+/// What a mixer keeps of a terminal that tells sources apart (RFC 9071): its packets, of one source each.
+#[derive(Drop)]
+pub struct AwareOutlet {
+    /// The number of the terminal's own leg.
+    own: usize,
+    /// The least media time, in milliseconds, between two packets of a source.
+    spacing: u32,
+    /// The output, in which each leg is a source.
+    output: Output,
+    /// For each leg the media time from which it may be served again.
+    free_at: Vec<u64>,
+    /// The place after the one served last.
+    next: usize,
+}
+
+impl Model for AwareOutlet {
+    ghost use Rattle.outlet.specs.AwareStates.{AwareState};
+
+    ghost Value = { AwareState };
+
+    ghost use Rattle.outlet.specs.AwareInsides.{state_of, IsSound};
+
+    ghost view = { state_of };
+
+    ghost invariant = { IsSound };
+}
+
+impl AwareOutlet {
+    ghost use Rattle.outlet.specs.AwareStanding.{StandsFor, IsMadeFor};
+    ghost use Rattle.outlet.specs.AwareTurns.{AtTerminal, AtTable, IsTurned, sent_of_leg};
+    ghost use Rattle.outlet.specs.Turns.{SendsNext};
+
+    /// The outlet of the terminal of this leg, to which nothing was sent. Of all legs, in leg order, these are the SSRCs. It
+    /// takes all memory that it ever needs.
+    pub fn new(
+        alloc: Global,
+        conf: OutConf,
+        sources: &[u32],
+        own: usize,
+        spacing: u32,
+    ) -> Result<AwareOutlet, NoMemory>
+        requires conf { IsConf conf }
+        requires distinct { AreDistinct sources.now }
+        requires own { own < length sources.now }
+        ensures stands { IfOk result (λ o. (s : Setup) → IsMadeFor s conf sources.now own spacing
+            → StandsFor s conf.pts own o (empty.terminals own)) }
+        ensures own { IfOk result (λ o. o.own ≡ own) }
+        ensures legs { IfOk result (λ o. length o.free_at ≡ length sources.now) }
+    {
+        let output = Output::new(alloc, conf, sources)?;
+        let free_at = vec![in alloc; 0; sources.len()]?;
+        Ok(AwareOutlet {
+            own,
+            spacing,
+            output,
+            free_at,
+            next: 0,
+        })
+    }
+
+    /// Whether a packet of the leg may be sent at this media time, as far as its last packet goes.
+    fn is_spaced(&self, leg: usize, media: u64) -> bool
+        requires { leg < length self.now.free_at }
+        ensures { AtTerminal self.now (λ s d. result ≡ is_spaced s.spacing media (last_media (sent_by (s.ssrc leg) d))) }
+    {
+        self.free_at[leg] <= media
+    }
+
+    /// Whether text of the leg waits here, or is still to be repeated.
+    pub fn has_work(&self, leg: usize, slots: &Slots) -> bool
+        requires leg { leg < length self.now.free_at }
+        requires slots { length slots.now ≡ length self.now.free_at }
+        ensures { AtTable self.now slots.now (λ s pts table d. result ≡ has_work s self.now.own d leg) }
+    {
+        slots.has_waiting(self.own, leg) || self.output.due(leg)
+    }
+
+    /// Whether the leg is due at this media time: another one than the terminal's own, which has work and is spaced.
+    fn is_due(&self, leg: usize, media: u64, slots: &Slots) -> bool
+        requires leg { leg < length self.now.free_at }
+        requires slots { length slots.now ≡ length self.now.free_at }
+        ensures { AtTable self.now slots.now (λ s pts table d. result ≡ is_due s self.now.own media d leg) }
+    {
+        leg != self.own && self.is_spaced(leg, media) && self.has_work(leg, slots)
+    }
+
+    /// Sends the packet of the leg at the place: with what fits of the text that waits, or none.
+    fn serve_leg(
+        &mut self,
+        place: usize,
+        leg: usize,
+        media: u64,
+        slots: &mut Slots,
+        text: &mut Text,
+        out: &mut Packet,
+    ) -> bool
+        requires place { place < 16 }
+        requires leg { leg < length self.old.free_at }
+        requires slots { length slots.old ≡ length self.old.free_at }
+        requires media { media < 2 ^ 48 }
+        requires out { out.old ≡ [] }
+        ensures slots { length slots.new ≡ length slots.old }
+        ensures same { (self.new.own ≡ self.old.own) × (length self.new.free_at ≡ length self.old.free_at) }
+        ensures turned { AtTable self.old slots.old (λ s pts table d. (now : ℕ) → leg < s.legs
+            → IsNext (stream s self.old.own) (sents d.past) (sent_of_leg s media d leg)
+            → IsTurned s pts table self.old.own (serve_leg s now media d place (Some leg)) self.new slots.new result out.new) }
+    {
+        text.clear();
+        slots.take(self.own, leg, Text::CAPACITY, text);
+        let put = self.output.packet(media, leg, text.as_slice(), out);
+        self.free_at[leg] = media + u64::from(self.spacing);
+        self.next = place + 1;
+        put.is_ok()
+    }
+}
