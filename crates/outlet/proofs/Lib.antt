@@ -1,2 +1,3 @@
 pub mod AwareLooking
 pub mod AwareServing
+pub mod AwareRounding

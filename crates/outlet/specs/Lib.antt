@@ -3,3 +3,4 @@ pub mod AwareStates
 pub mod AwareInsides
 pub mod AwareStanding
 pub mod AwareTurns
+pub mod AwareRounds

@@ -8,6 +8,7 @@ ghost use Rattle.aware_output.specs.Speakers.{AreDistinct, IsNext};
 
 use aware_output::{OutConf, Output};
 use rtt_base::{NoMemory, Packet, Text};
+use seating::Seating;
 use slot_table::Slots;
 use std::alloc::Global;
 use std::marker::Model;
@@ -46,6 +47,7 @@ impl AwareOutlet {
     ghost use Rattle.outlet.specs.AwareStanding.{StandsFor, IsMadeFor};
     ghost use Rattle.outlet.specs.AwareTurns.{AtTerminal, AtTable, IsTurned, sent_of_leg};
     ghost use Rattle.outlet.specs.Turns.{SendsNext};
+    ghost use Rattle.outlet.specs.AwareRounds.{AtSeats, SendsNextAt, turned};
 
     /// The outlet of the terminal of this leg, to which nothing was sent. Of all legs, in leg order, these are the SSRCs. It
     /// takes all memory that it ever needs.
@@ -101,6 +103,59 @@ impl AwareOutlet {
         leg != self.own && self.is_spaced(leg, media) && self.has_work(leg, slots)
     }
 
+    /// Whether the leg at the place is due.
+    fn is_due_at(&self, place: usize, media: u64, seating: &Seating, slots: &Slots) -> bool
+        requires place { place < 16 }
+        requires slots { length slots.now ≡ length self.now.free_at }
+        requires seating { length seating.now.legs ≡ length self.now.free_at }
+        ensures { AtSeats self.now seating.now slots.now (λ s pts table d.
+            result ≡ is_due_at s table.seats self.now.own media d place) }
+    {
+        match seating.leg_at(place) {
+            Some(leg) => self.is_due(leg, media, slots),
+            None => false,
+        }
+    }
+
+    /// The first of the places from `low` on, below `high`, whose leg is due.
+    fn first_from(
+        &self,
+        low: usize,
+        high: usize,
+        media: u64,
+        seating: &Seating,
+        slots: &Slots,
+    ) -> Option<usize>
+        requires order { low ≤ high }
+        requires high { high ≤ 16 }
+        requires slots { length slots.now ≡ length self.now.free_at }
+        requires seating { length seating.now.legs ≡ length self.now.free_at }
+        ensures first { AtSeats self.now seating.now slots.now (λ s pts table d.
+            result ≡ first_from (is_due_at s table.seats self.now.own media d) low (high - low)) }
+        ensures within { IfSome result (λ place. place < high) }
+    {
+        for place in low..high {
+            if self.is_due_at(place, media, seating, slots) {
+                return Some(place);
+            }
+        }
+        None
+    }
+
+    /// The place that a turn at this media time serves: counted round from the one after the place served last.
+    fn served(&self, media: u64, seating: &Seating, slots: &Slots) -> Option<usize>
+        requires slots { length slots.now ≡ length self.now.free_at }
+        requires seating { length seating.now.legs ≡ length self.now.free_at }
+        ensures served { AtSeats self.now seating.now slots.now (λ s pts table d.
+            result ≡ served s table.seats self.now.own media d) }
+        ensures within { IfSome result (λ place. place < 16) }
+    {
+        match self.first_from(self.next, PLACES, media, seating, slots) {
+            Some(place) => Some(place),
+            None => self.first_from(0, self.next, media, seating, slots),
+        }
+    }
+
     /// Sends the packet of the leg at the place: with what fits of the text that waits, or none.
     fn serve_leg(
         &mut self,
@@ -128,5 +183,58 @@ impl AwareOutlet {
         self.free_at[leg] = media + u64::from(self.spacing);
         self.next = place + 1;
         put.is_ok()
+    }
+
+    /// Sends the packet of the leg that holds the place.
+    fn serve(
+        &mut self,
+        place: usize,
+        media: u64,
+        seating: &Seating,
+        slots: &mut Slots,
+        text: &mut Text,
+        out: &mut Packet,
+    ) -> bool
+        requires place { place < 16 }
+        requires slots { length slots.old ≡ length self.old.free_at }
+        requires seating { length seating.now.legs ≡ length self.old.free_at }
+        requires media { media < 2 ^ 48 }
+        requires out { out.old ≡ [] }
+        ensures slots { length slots.new ≡ length slots.old }
+        ensures same { (self.new.own ≡ self.old.own) × (length self.new.free_at ≡ length self.old.free_at) }
+        ensures turned { AtSeats self.old seating.now slots.old (λ s pts table d. (now : ℕ)
+            → SendsNext (stream s self.old.own) d.past (serve s table.seats now media d (Some place)).past
+            → IsTurned s pts table self.old.own (serve s table.seats now media d (Some place)) self.new slots.new result out.new) }
+    {
+        match seating.leg_at(place) {
+            Some(leg) => self.serve_leg(place, leg, media, slots, text, out),
+            None => false,
+        }
+    }
+
+    /// One turn at this media time, in milliseconds: sends the packet of the first leg that is due, by places, counted round
+    /// from the one after the place served last. `out` is that packet, where the answer is true; `text` is used up.
+    pub fn turn(
+        &mut self,
+        media: u64,
+        seating: &Seating,
+        slots: &mut Slots,
+        text: &mut Text,
+        out: &mut Packet,
+    ) -> bool
+        requires slots { length slots.old ≡ length self.old.free_at }
+        requires seating { length seating.now.legs ≡ length self.old.free_at }
+        requires media { media < 2 ^ 48 }
+        ensures slots { length slots.new ≡ length slots.old }
+        ensures same { (self.new.own ≡ self.old.own) × (length self.new.free_at ≡ length self.old.free_at) }
+        ensures turned { AtSeats self.old seating.now slots.old (λ s pts table d. (now : ℕ)
+            → SendsNextAt s table self.old.own now media
+            → IsTurned s pts table self.old.own (turned s table self.old.own now media) self.new slots.new result out.new) }
+    {
+        out.clear();
+        match self.served(media, seating, slots) {
+            Some(place) => self.serve(place, media, seating, slots, text, out),
+            None => false,
+        }
     }
 }

@@ -1,0 +1,49 @@
+-- The round of an aware terminal, and a turn that serves nobody.
+use Rattle.std.proofs.Common.{◌≡◌, ℕ, suc, ◌+◌, ◌-◌, ◌<◌, ◌≤◌, Bool, true, false, cond, inl, inr, Option, Some, None, List, [], ◌∷◌, length, refl, ap, sym, ◌∙◌, arith}
+use Rattle.std.specs.Prelude.{◌==◌}
+use Rattle.std.specs.Option.{option_or}
+use Rattle.std.proofs.lemmas.Bool.{cases_eq, eq-eqb, ne_eqb}
+use Rattle.rtt_base.specs.declared.text_packets.Pts.{Pts}
+use Rattle.stream_spec.specs.Own.{Stream, packet_after}
+use Rattle.mixer_spec.specs.Rounds.{first_from, first_round}
+use Rattle.mixer_spec.specs.Setups.{Setup, stream}
+use Rattle.mixer_spec.specs.Table.{Mixed, Terminal, Table, sents, new_packet}
+use Rattle.slot_table.specs.Lanes.{Waiting}
+use Rattle.slot_table.proofs.Sources.{stands_same}
+use Rattle.outlet.specs.Turns.{Puts, with_terminal}
+use Rattle.outlet.specs.AwareStates.{AwareState}
+use Rattle.outlet.specs.AwareTurns.{IsIn, IsTurned}
+
+-- ---- the round
+pub round_here : (p : ℕ → Bool) (next start places u : ℕ) → next ≡ start → places ≡ 16 → Some u ≡ first_from p next (16 - next) → Some u ≡ first_round p start places
+round_here p next start places u n e f =
+    ap (λ (o : Option ℕ). option_or o (first_from p 0 start)) (f ∙ ((λ r. first_from p (n r) (16 - n r)) ∙ ap (λ (x : ℕ). first_from p start (x - start)) (sym e)))
+
+pub round_later : (p : ℕ → Bool) (next start places : ℕ) (o : Option ℕ) → next ≡ start → places ≡ 16 → None ≡ first_from p next (16 - next) → o ≡ first_from p 0 (next - 0) → o ≡ first_round p start places
+round_later p next start places o n e f g =
+    let k : next - 0 ≡ start = omega (arith, n) in
+    let none : None ≡ first_from p start (places - start) = f ∙ ((λ r. first_from p (n r) (16 - n r)) ∙ ap (λ (x : ℕ). first_from p start (x - start)) (sym e)) in
+    g ∙ (ap (first_from p 0) k ∙ ap (λ (q : Option ℕ). option_or q (first_from p 0 start)) none)
+
+-- ---- nobody is served
+puts_none : (pts : Pts) (c : Stream) (past : List Mixed) (out : List ℕ) → Puts pts (new_packet c past past) false out
+puts_none pts c [] out = refl
+puts_none pts c (m ∷ past) out = let other : (length past == suc (length past)) ≡ false = ne_eqb (length past) (suc (length past)) (λ e. omega (arith, e)) in rw other refl
+
+same_there : (b : Bool) (x z : Terminal) (i : ℕ) → (b ≡ true → x ≡ z) → (cond b x z).waits i ≡ z.waits i
+same_there true x z i e = ap (λ (d : Terminal). d.waits i) (e refl)
+same_there false x z i e = refl
+
+same_terminal : (table : Table) (j k : ℕ) → (k == j) ≡ true → table.terminals j ≡ table.terminals k
+same_terminal table j k e = elim (cases_eq k j) [
+  | inl q ↦ ap table.terminals (sym q)
+  | inr n ↦ absurd (cc (e, ne_eqb k j n))
+]
+
+pub none_served : (s : Setup) (pts : Pts) (o : AwareState) (now : List Waiting) (table : Table) (out : List ℕ) → IsIn s pts o now table → IsTurned s pts table o.own (table.terminals o.own) o now false out
+none_served s pts o now table out h = record {
+  outlet = h.outlet;
+  slots_stand = stands_same s now table (with_terminal o.own (table.terminals o.own) table) h.slots_stand (λ i. refl) (λ k. refl)
+      (λ k i. same_there (k == o.own) (table.terminals o.own) (table.terminals k) i (same_terminal table o.own k));
+  puts = puts_none pts (stream s o.own) (table.terminals o.own).past out;
+}
