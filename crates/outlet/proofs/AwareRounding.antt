@@ -12,6 +12,7 @@ use Rattle.slot_table.specs.Lanes.{Waiting}
 use Rattle.slot_table.proofs.Sources.{stands_same}
 use Rattle.outlet.specs.Turns.{Puts, with_terminal}
 use Rattle.outlet.specs.AwareStates.{AwareState}
+use Rattle.outlet.specs.AwareStanding.{StandsFor}
 use Rattle.outlet.specs.AwareTurns.{IsIn, IsTurned}
 
 -- ---- the round
@@ -40,9 +41,10 @@ same_terminal table j k e = elim (cases_eq k j) [
   | inr n ↦ absurd (cc (e, ne_eqb k j n))
 ]
 
-pub none_served : (s : Setup) (pts : Pts) (o : AwareState) (now : List Waiting) (table : Table) (out : List ℕ) → IsIn s pts o now table → IsTurned s pts table o.own (table.terminals o.own) o now false out
-none_served s pts o now table out h = record {
-  outlet = h.outlet;
+pub none_served : (s : Setup) (pts : Pts) (o new : AwareState) (now : List Waiting) (table : Table) (out : List ℕ) → IsIn s pts o now table → StandsFor s pts o.own new (table.terminals o.own)
+    → IsTurned s pts table o.own (table.terminals o.own) new now false out
+none_served s pts o new now table out h stands = record {
+  outlet = stands;
   slots_stand = stands_same s now table (with_terminal o.own (table.terminals o.own) table) h.slots_stand (λ i. refl) (λ k. refl)
       (λ k i. same_there (k == o.own) (table.terminals o.own) (table.terminals k) i (same_terminal table o.own k));
   puts = puts_none pts (stream s o.own) (table.terminals o.own).past out;

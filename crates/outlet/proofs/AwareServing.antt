@@ -69,7 +69,7 @@ sent_other x e past n = ap (λ (b : Bool). cond b (e ∷ sent_of x past) (sent_o
 
 -- the outlet behind a packet of the leg
 abbrev pub state_then : AwareState → State → ℕ → ℕ → ℕ → AwareState
-state_then o output leg free place = record { own = o.own; spacing = o.spacing; output = output; free_at = set o.free_at leg free; next = place + 1 }
+state_then o output leg free place = record { own = o.own; spacing = o.spacing; output = output; free_at = set o.free_at leg free; next = place + 1; quiet = false }
 
 stands_then : (s : Setup) (pts : Pts) (o : AwareState) (d : Terminal) (output : State) (place leg media free now : ℕ) → (h : StandsFor s pts o.own o d) → leg < s.legs → free ≡ media + o.spacing
     → outputs.StandsFor (conf_at s pts o.own) h.sources output (sent_of_leg s media d leg ∷ sents d.past)
@@ -100,6 +100,7 @@ stands_then s pts o d output place leg media free now h l f out =
       ];
       next = omega arith;
       none_mixed = sent_other s.mixer e (sents d.past) (h.setup.mixer_differs leg l) ∙ h.none_mixed;
+      rests = λ q. cc q;
     }
 
 slots_then : (s : Setup) (table : Table) (j leg place media now : ℕ) (after : List Waiting) → slots.StandsFor s after (fetched j leg 1023 table)

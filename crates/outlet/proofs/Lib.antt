@@ -1,3 +1,4 @@
 pub mod AwareLooking
 pub mod AwareServing
 pub mod AwareRounding
+pub mod AwareResting

@@ -4,7 +4,7 @@ use Rattle.outlet.specs.declared.aware.AwareOutlet.TheInside.{Inside}
 use Rattle.outlet.specs.AwareStates.{AwareState}
 
 abbrev pub state_of : Inside → AwareState
-state_of o = record { own = o.own; spacing = o.spacing; output = o.output; free_at = o.free_at.items; next = o.next }
+state_of o = record { own = o.own; spacing = o.spacing; output = o.output; free_at = o.free_at.items; next = o.next; quiet = o.quiet }
 
 -- each leg is a source of the output, and has a moment
 pub record IsSound (o : Inside) : Type 0 where

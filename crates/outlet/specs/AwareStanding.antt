@@ -1,9 +1,9 @@
 -- What the outlet of an aware terminal stands for (profile).
-use Rattle.std.specs.Prelude.{◌≡◌, ℕ, ◌+◌, ◌<◌, Option, None, Some, List, [], length, slice_index}
+use Rattle.std.specs.Prelude.{◌≡◌, ℕ, ◌+◌, ◌<◌, true, Option, None, Some, List, [], length, slice_index}
 use Rattle.rtt_base.specs.declared.text_packets.Pts.{Pts}
 use Rattle.stream_spec.specs.Own.{Sent}
 use Rattle.mixer_spec.specs.Setups.{Setup, IsSetup, stream}
-use Rattle.mixer_spec.specs.Table.{Terminal, Table, sents, sent_by, last_media, round_start, turn_aware}
+use Rattle.mixer_spec.specs.Table.{Terminal, Table, sents, sent_by, last_media, round_start, is_quiet}
 use Rattle.aware_output.specs.declared.outputs.OutConf.{OutConf}
 use Rattle.aware_output.specs.Standing.{source_at}
 use Rattle.aware_output.specs.Standing as outputs
@@ -31,6 +31,7 @@ pub record StandsFor (s : Setup) (pts : Pts) (j : ℕ) (o : AwareState) (d : Ter
   pub free : (i : ℕ) → i < s.legs → slice_index o.free_at i ≡ free_after s.spacing (last_media (sent_by (s.ssrc i) d))
   pub next : o.next ≡ round_start d.past
   pub none_mixed : sent_by s.mixer d ≡ []
+  pub rests : o.quiet ≡ true → is_quiet s j d ≡ true
 
 -- An outlet of the terminal j with this stream, to these sources, with this spacing, is one of this setup.
 pub record IsMadeFor (s : Setup) (conf : OutConf) (sources : List ℕ) (j spacing : ℕ) : Type 0 where

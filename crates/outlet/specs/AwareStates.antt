@@ -1,11 +1,13 @@
 -- What is kept of an aware terminal.
-use Rattle.std.specs.Prelude.{ℕ, List}
+use Rattle.std.specs.Prelude.{ℕ, Bool, List}
 use Rattle.aware_output.specs.States.{State}
 
--- its leg, the spacing, its output, from when each leg may be served again, and the place after the one served last
+-- its leg, the spacing, its output, from when each leg may be served again, the place after the one served last, and
+-- whether it is known to be quiet
 pub record AwareState : Type 0 where
   pub own : ℕ
   pub spacing : ℕ
   pub output : State
   pub free_at : List ℕ
   pub next : ℕ
+  pub quiet : Bool

@@ -12,8 +12,8 @@ use Rattle.outlet.specs.AwareStates.{AwareState}
 use Rattle.outlet.specs.AwareStanding.{StandsFor}
 
 -- of each terminal for which the outlet stands
-abbrev pub AtTerminal : AwareState → (Setup → Terminal → Type 0) → Type 0
-AtTerminal o P = (s : Setup) (pts : Pts) (d : Terminal) → StandsFor s pts o.own o d → P s d
+abbrev pub AtTerminal : AwareState → (Setup → Pts → Terminal → Type 0) → Type 0
+AtTerminal o P = (s : Setup) (pts : Pts) (d : Terminal) → StandsFor s pts o.own o d → P s pts d
 
 -- The outlet stands for the terminal of its leg in this table, and the slots for the table.
 pub record IsIn (s : Setup) (pts : Pts) (o : AwareState) (now : List Waiting) (table : Table) : Type 0 where

@@ -1,8 +1,9 @@
 //! The outlet of a terminal that tells sources apart.
-ghost use Rattle.std.specs.Prelude.{◌≡◌, ◌+◌, ◌-◌, ◌^◌, ◌<◌, ◌≤◌, ◌||◌, ℕ, [], length, IfOk, IfSome, Some};
+ghost use Rattle.std.specs.Prelude.{◌≡◌, ◌+◌, ◌-◌, ◌^◌, ◌<◌, ◌≤◌, ◌||◌, ◌==◌, not, ℕ, List, [], length, IfOk, IfSome, Some};
+ghost use Rattle.stream_spec.specs.Ready.{Chunk};
 ghost use Rattle.mixer_spec.specs.Rounds.{first_from};
 ghost use Rattle.mixer_spec.specs.Setups.{Setup, stream};
-ghost use Rattle.mixer_spec.specs.Table.{empty, has_work, is_due, is_due_at, is_spaced, last_media, sent_by, sents, serve, serve_leg, served, turn_aware};
+ghost use Rattle.mixer_spec.specs.Table.{empty, has_work, is_due, is_due_at, is_quiet, is_spaced, last_media, sent_by, sents, serve, serve_leg, served, turn_aware};
 ghost use Rattle.aware_output.specs.Confs.{IsConf};
 ghost use Rattle.aware_output.specs.Speakers.{AreDistinct, IsNext};
 
@@ -29,6 +30,8 @@ pub struct AwareOutlet {
     free_at: Vec<u64>,
     /// The place after the one served last.
     next: usize,
+    /// Whether it is known that nothing waits here, and that no text is still to be repeated.
+    quiet: bool,
 }
 
 impl Model for AwareOutlet {
@@ -74,13 +77,14 @@ impl AwareOutlet {
             output,
             free_at,
             next: 0,
+            quiet: false,
         })
     }
 
     /// Whether a packet of the leg may be sent at this media time, as far as its last packet goes.
     fn is_spaced(&self, leg: usize, media: u64) -> bool
         requires { leg < length self.now.free_at }
-        ensures { AtTerminal self.now (λ s d. result ≡ is_spaced s.spacing media (last_media (sent_by (s.ssrc leg) d))) }
+        ensures { AtTerminal self.now (λ s pts d. result ≡ is_spaced s.spacing media (last_media (sent_by (s.ssrc leg) d))) }
     {
         self.free_at[leg] <= media
     }
@@ -92,6 +96,39 @@ impl AwareOutlet {
         ensures { AtTable self.now slots.now (λ s pts table d. result ≡ has_work s self.now.own d leg) }
     {
         slots.has_waiting(self.own, leg) || self.output.due(leg)
+    }
+
+    /// Whether no text of the leg waits here or is still to be repeated; its own leg has none here.
+    fn is_done_with(&self, leg: usize, slots: &Slots) -> bool
+        requires leg { leg < length self.now.free_at }
+        requires slots { length slots.now ≡ length self.now.free_at }
+        ensures { AtTable self.now slots.now (λ s pts table d.
+            result ≡ ((leg == self.now.own) || not (has_work s self.now.own d leg))) }
+    {
+        leg == self.own || !self.has_work(leg, slots)
+    }
+
+    /// Whether nothing waits here, and no text is still to be repeated.
+    pub fn is_quiet(&self, slots: &Slots) -> bool
+        requires { length slots.now ≡ length self.now.free_at }
+        ensures { AtTable self.now slots.now (λ s pts table d. result ≡ is_quiet s self.now.own d) }
+    {
+        for leg in 0..self.free_at.len() {
+            if !self.is_done_with(leg, slots) {
+                return false;
+            }
+        }
+        true
+    }
+
+    /// Finds out whether the terminal is quiet.
+    fn rest(&mut self, slots: &Slots)
+        requires { length slots.now ≡ length self.old.free_at }
+        ensures same { (self.new.own ≡ self.old.own) × (length self.new.free_at ≡ length self.old.free_at) }
+        ensures stands { AtTable self.old slots.now (λ s pts table d. StandsFor s pts self.old.own self.new d) }
+    {
+        let quiet = self.is_quiet(slots);
+        self.quiet = quiet;
     }
 
     /// Whether the leg is due at this media time: another one than the terminal's own, which has work and is spaced.
@@ -182,6 +219,7 @@ impl AwareOutlet {
         let put = self.output.packet(media, leg, text.as_slice(), out);
         self.free_at[leg] = media + u64::from(self.spacing);
         self.next = place + 1;
+        self.quiet = false;
         put.is_ok()
     }
 
@@ -231,10 +269,25 @@ impl AwareOutlet {
             → SendsNextAt s table self.old.own now media
             → IsTurned s pts table self.old.own (turned s table self.old.own now media) self.new slots.new result out.new) }
     {
+        if self.quiet {
+            return false;
+        }
         out.clear();
         match self.served(media, seating, slots) {
             Some(place) => self.serve(place, media, seating, slots, text, out),
-            None => false,
+            None => {
+                self.rest(slots);
+                false
+            }
         }
+    }
+
+    /// Is told that text may wait here that did not before.
+    pub fn wake(&mut self)
+        ensures same { (self.new.own ≡ self.old.own) × (length self.new.free_at ≡ length self.old.free_at) }
+        ensures stands { AtTerminal self.old (λ s pts d. (waits : ℕ → List Chunk)
+            → StandsFor s pts self.old.own self.new (record { past = d.past; asks = d.asks; waits = waits })) }
+    {
+        self.quiet = false;
     }
 }

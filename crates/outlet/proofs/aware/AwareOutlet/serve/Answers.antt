@@ -21,4 +21,4 @@ returns-in-None-clause-turned c = λ s pts table h now.
     let d = table.terminals j in
     subst (λ (x : Option ℕ). SendsNext (stream s j) d.past (serve_leg s now c.args.media d c.args.place x).past
     → IsTurned s pts table j (serve_leg s now c.args.media d c.args.place x) c.args.self.now c.args.slots.now false c.args.out.now)
-    (c.in-None.ensures.leg s table h.seats_stand) (λ n. none_served s pts c.args.self.now c.args.slots.now table c.args.out.now h.there)
+    (c.in-None.ensures.leg s table h.seats_stand) (λ n. none_served s pts c.args.self.now c.args.self.now c.args.slots.now table c.args.out.now h.there h.there.outlet)

@@ -1,4 +1,4 @@
-use Rattle.std.proofs.Common.{◌≡◌, ◌<◌, ◌+◌, ◌++◌, ℕ, List, set, ap, subst, ◌∙◌}
+use Rattle.std.proofs.Common.{false, ◌≡◌, ◌<◌, ◌+◌, ◌++◌, ℕ, List, set, ap, subst, ◌∙◌}
 use Rattle.mixer_spec.specs.Chunks.{front, joined}
 use Rattle.mixer_spec.specs.Setups.{stream}
 use Rattle.mixer_spec.specs.Table.{sents, serve_leg}
@@ -14,7 +14,7 @@ use Rattle.outlet.proofs.aware.AwareOutlet.serve_leg.Goals as goal
 pub returns-clause-turned : goal.returns-clause-turned
 returns-clause-turned c = λ s pts table.
     let me : AwareState = state_of c.self.inside in
-    let then : AwareState = record { own = me.own; spacing = me.spacing; output = c.packet-put.new.self; free_at = set me.free_at c.args.leg (c.args.media + c.from.result); next = c.args.place + 1 } in
+    let then : AwareState = record { own = me.own; spacing = me.spacing; output = c.packet-put.new.self; free_at = set me.free_at c.args.leg (c.args.media + c.from.result); next = c.args.place + 1; quiet = false } in
     subst (λ (x : AwareState). IsIn s pts x c.args.slots.now table → (now : ℕ) → c.args.leg < s.legs
     → IsNext (stream s x.own) (sents (table.terminals x.own).past) (sent_of_leg s c.args.media (table.terminals x.own) c.args.leg)
     → IsTurned s pts table x.own (serve_leg s now c.args.media (table.terminals x.own) c.args.place (Some c.args.leg)) then c.take.new.self c.is_ok.result c.packet-put.new.out) c.self.view_is (λ h now l n.

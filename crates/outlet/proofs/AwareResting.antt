@@ -1,0 +1,95 @@
+-- A terminal that is quiet.
+use Rattle.std.proofs.Common.{◌≡◌, ℕ, zero, suc, ◌+◌, ◌<◌, ◌≤◌, Bool, true, false, not, ◌&&◌, ◌||◌, inl, inr, Option, Some, None, List, [], refl, ap, sym, ◌∙◌, arith}
+use Rattle.std.specs.Prelude.{◌==◌}
+use Rattle.std.proofs.lemmas.Bool.{cases_eq, true≢false}
+use Rattle.rtt_base.specs.declared.text_packets.Pts.{Pts}
+use Rattle.stream_spec.specs.Own.{Sent, has_text_in}
+use Rattle.stream_spec.specs.Ready.{Chunk}
+use Rattle.mixer_spec.specs.Rounds.{all_below, first_round}
+use Rattle.mixer_spec.specs.Setups.{Setup}
+use Rattle.mixer_spec.specs.Table.{Terminal, Seats, has_work, is_due, is_due_leg, is_due_at, is_spaced, last_media, sent_by, leg_in, round_start, served, is_quiet}
+use Rattle.mixer_spec.proofs.Done.{below_all}
+use Rattle.mixer_spec.proofs.Rounds.{round_some}
+use Rattle.mixer_spec.proofs.Seats.{leg_in_some}
+use Rattle.outlet.specs.AwareStates.{AwareState}
+use Rattle.outlet.specs.AwareStanding.{StandsFor}
+
+no_text : (g : ℕ) → has_text_in g [] ≡ false
+no_text zero = refl
+no_text (suc g) = refl
+
+-- no text of the leg i waits, or is still to be repeated; the terminal's own has none there
+abbrev pub is_done_with : Setup → ℕ → Terminal → ℕ → Bool
+is_done_with s j d i = (i == j) || not (has_work s j d i)
+
+-- of the mixer's own source nothing was sent
+pub quiet_is : (s : Setup) (pts : Pts) (j : ℕ) (o : AwareState) (d : Terminal) → StandsFor s pts j o d → all_below (is_done_with s j d) s.legs ≡ is_quiet s j d
+quiet_is s pts j o d h =
+    ap (λ (b : Bool). not b && all_below (is_done_with s j d) s.legs) (sym (ap (λ (xs : List Sent). has_text_in (s.gens j) xs) h.none_mixed ∙ no_text (s.gens j)))
+
+-- ---- the legs in order
+pub all_more : (p : ℕ → Bool) (n : ℕ) → all_below p n ≡ true → p n ≡ true → all_below p (n + 1) ≡ true
+all_more p n a b = let e : n + 1 ≡ suc n = omega arith in ap (all_below p) e ∙ (ap (λ (x : Bool). x && all_below p n) b ∙ a)
+
+pub fails_at : (p : ℕ → Bool) (n i : ℕ) → i < n → p i ≡ false → all_below p n ≡ false
+fails_at p zero i l e = absurd (omega arith)
+fails_at p (suc n) i l e = elim (cases_eq i n) [
+  | inl q ↦ and_left (p n) (all_below p n) (ap p (sym q) ∙ e)
+  | inr m ↦ and_right (p n) (all_below p n) (fails_at p n i (omega (arith, l, m)) e)
+]
+  where
+    and_left : (a b : Bool) → a ≡ false → (a && b) ≡ false
+    and_left true b e = cc e
+    and_left false b e = refl
+
+    and_right : (a b : Bool) → b ≡ false → (a && b) ≡ false
+    and_right true b e = e
+    and_right false b e = refl
+
+-- ---- nobody is due
+not_due : (s : Setup) (j t i : ℕ) (d : Terminal) → is_done_with s j d i ≡ true → is_due s j t d i ≡ false
+not_due s j t i d e = go (i == j) (has_work s j d i) (is_spaced s.spacing t (last_media (sent_by (s.ssrc i) d))) e
+  where
+    go : (o h p : Bool) → (o || not h) ≡ true → (not o && (h && p)) ≡ false
+    go true h p e = refl
+    go false true p e = cc e
+    go false false p e = refl
+
+quiet_serves : (s : Setup) (seats : Seats) (j t : ℕ) (d : Terminal) → is_quiet s j d ≡ true → round_start d.past ≤ s.places → None ≡ served s seats j t d
+quiet_serves s seats j t d q l = go (served s seats j t d) refl
+  where
+    all : (a b : Bool) → (a && b) ≡ true → b ≡ true
+    all true b e = e
+    all false b e = cc e
+
+    leg : (o : Option ℕ) (p : ℕ) → leg_in seats s.legs p ≡ o → is_due_leg s j t d o ≡ true → ⊥
+    leg None p e f = true≢false (sym f)
+    leg (Some i) p e f =
+        true≢false (sym f ∙ not_due s j t i d (below_all (is_done_with s j d) s.legs i (all (not (has_text_in (s.gens j) (sent_by s.mixer d))) (all_below (is_done_with s j d) s.legs) q) (leg_in_some seats s.legs p i e).0))
+
+    go : (o : Option ℕ) → served s seats j t d ≡ o → None ≡ o
+    go None e = refl
+    go (Some p) e = absurd (leg (leg_in seats s.legs p) p refl (round_some (is_due_at s seats j t d) (round_start d.past) s.places p l e).passes)
+
+pub none_due : (s : Setup) (pts : Pts) (seats : Seats) (o : AwareState) (t : ℕ) (d : Terminal) → StandsFor s pts o.own o d → o.quiet ≡ true → o.next ≤ 16 → None ≡ served s seats o.own t d
+none_due s pts seats o t d h q l = quiet_serves s seats o.own t d (h.rests q) (omega (arith, l, h.next, h.places))
+
+-- ---- what changes only what is known of quiet
+pub stands_quiet : (s : Setup) (pts : Pts) (j : ℕ) (o : AwareState) (d : Terminal) (q : Bool) (waits : ℕ → List Chunk) → StandsFor s pts j o d
+    → (let after : Terminal = record { past = d.past; asks = d.asks; waits = waits } in q ≡ true → is_quiet s j after ≡ true)
+    → StandsFor s pts j (record o { quiet = q }) (record { past = d.past; asks = d.asks; waits = waits })
+stands_quiet s pts j o d q waits h r = record {
+  setup = h.setup;
+  places = h.places;
+  own = h.own;
+  leg = h.leg;
+  spacing = h.spacing;
+  sources = h.sources;
+  are = h.are;
+  output = h.output;
+  legs = h.legs;
+  free = h.free;
+  next = h.next;
+  none_mixed = h.none_mixed;
+  rests = r;
+}
