@@ -4,3 +4,6 @@ pub mod AwareInsides
 pub mod AwareStanding
 pub mod AwareTurns
 pub mod AwareRounds
+pub mod UnawareStates
+pub mod UnawareInsides
+pub mod UnawareStanding

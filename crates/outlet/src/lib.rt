@@ -4,3 +4,6 @@
 mod aware;
 
 pub use aware::AwareOutlet;
+mod unaware;
+
+pub use unaware::UnawareOutlet;

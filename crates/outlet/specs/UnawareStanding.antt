@@ -1,0 +1,72 @@
+-- What the outlet of a terminal that is not aware stands for (profile).
+use Rattle.std.specs.Prelude.{◌≡◌, ◌+◌, ◌<◌, ◌==◌, ◌||◌, not, ℕ, Bool, true, List, [], ◌∷◌}
+use Rattle.rtt_base.specs.declared.text_packets.Pts.{Pts}
+use Rattle.wire_spec.specs.SentPackets.{packet_written}
+use Rattle.stream_spec.specs.Own.{Sent, packet_after}
+use Rattle.mixer_spec.specs.Chunks.{has_chunk}
+use Rattle.mixer_spec.specs.Setups.{Setup, IsSetup, stream}
+use Rattle.mixer_spec.specs.Laws.{AreTexts}
+use Rattle.mixer_spec.specs.Table.{Terminal, Table, sents, sent_by, last_media, turn_unaware}
+use Rattle.aware_output.specs.declared.outputs.OutConf.{OutConf}
+use Rattle.aware_output.specs.Confs.{stream_of}
+use Rattle.aware_output.specs.Standing as outputs
+use Rattle.slot_table.specs.Lanes.{Waiting}
+use Rattle.slot_table.specs.Standing as slots
+use Rattle.unaware_view.specs.Standing as composers
+use Rattle.unaware_view.specs.Standing.{name_at}
+use Rattle.outlet.specs.Turns.{conf_at, free_after, SendsNext}
+use Rattle.outlet.specs.UnawareStates.{UnawareState, own_of}
+
+-- the source of each is this one
+abbrev pub AreBy : ℕ → List Sent → Type 0
+AreBy source [] = Unit {0}
+AreBy source (e ∷ es) = (e.source ≡ source) × AreBy source es
+
+-- This was sent to the terminal j, with these payload types, and its composer was asked so.
+pub record StandsFor (s : Setup) (pts : Pts) (j : ℕ) (o : UnawareState) (d : Terminal) : Type 0 where
+  pub setup : IsSetup s
+  pub own : own_of o ≡ j
+  pub leg : j < s.legs
+  pub spacing : o.spacing ≡ s.spacing
+  pub composer : composers.StandsFor s o.composer d.asks
+  pub output : outputs.StandsFor (conf_at s pts j) (s.mixer ∷ []) o.output (sents d.past)
+  pub free : o.free_at ≡ free_after s.spacing (last_media (sent_by s.mixer d))
+  pub by_mixer : AreBy s.mixer (sents d.past)
+
+-- ---- a turn
+-- the terminal j after a turn at the moment `now`, with the media time t
+abbrev pub turned_here : Setup → ℕ → ℕ → ℕ → Table → Terminal
+turned_here s j now t table = turn_unaware s j now t (table.terminals j)
+
+-- Such a turn at the terminal j, for which the outlet stands: the slots have what waits there, which are texts, these
+-- are the names, and what is sent may be sent.
+pub record IsTurn (s : Setup) (pts : Pts) (j : ℕ) (table : Table) (o : UnawareState) (waiting : List Waiting) (called : List (List ℕ)) (now t : ℕ) : Type 0 where
+  pub stands : StandsFor s pts j o (table.terminals j)
+  pub slots_stand : slots.StandsFor s waiting table
+  pub texts : (i : ℕ) → AreTexts ((table.terminals j).waits i)
+  pub names : (i : ℕ) → i < s.legs → name_at called i ≡ s.name i
+  pub next : SendsNext (stream s j) (table.terminals j).past (turned_here s j now t table).past
+
+-- of all turns that it may be
+abbrev pub OfTurns : UnawareState → List Waiting → List (List ℕ) → ℕ → (Setup → Pts → ℕ → Table → ℕ → Type 0) → Type 0
+OfTurns o waiting called t P = (s : Setup) (pts : Pts) (j : ℕ) (table : Table) (now : ℕ) → IsTurn s pts j table o waiting called now t → P s pts j table now
+
+-- of each terminal for which it stands, where the slots have what waits
+abbrev pub OfTerminals : UnawareState → List Waiting → (Setup → ℕ → Terminal → Type 0) → Type 0
+OfTerminals o waiting P = (s : Setup) (pts : Pts) (j : ℕ) (table : Table) → StandsFor s pts j o (table.terminals j) → slots.StandsFor s waiting table → P s j (table.terminals j)
+
+-- ---- what waits
+-- nothing of the leg waits at the terminal, or it is its own
+abbrev pub none_here : ℕ → Terminal → ℕ → Bool
+none_here own d i = (i == own) || not (has_chunk (d.waits i))
+
+-- ---- a packet
+abbrev pub sent_now : ℕ → ℕ → List ℕ → Sent
+sent_now source media text = record { source = source; media = media; text = text }
+
+-- This was sent of the one source after these, and put so; the next packet comes so many milliseconds later at the earliest.
+pub record Sends (conf : OutConf) (source spacing : ℕ) (new : UnawareState) (past : List Sent) (e : Sent) (put : Bool) (out : List ℕ) : Type 0 where
+  pub put_is : put ≡ true
+  pub out_is : out ≡ packet_written conf.pts (packet_after (stream_of conf) past e)
+  pub output : outputs.StandsFor conf (source ∷ []) new.output (e ∷ past)
+  pub free : new.free_at ≡ e.media + spacing

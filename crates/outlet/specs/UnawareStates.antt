@@ -1,0 +1,22 @@
+-- What is kept of a terminal that is not aware.
+use Rattle.std.specs.Prelude.{ℕ}
+use Rattle.unaware_view.specs.States.{State as ComposerState}
+use Rattle.unaware_view.specs.Standing as composers
+use Rattle.aware_output.specs.States.{State as OutputState}
+
+-- its composer and its output, the spacing, and from when a packet may be sent again
+pub record UnawareState : Type 0 where
+  pub composer : ComposerState
+  pub output : OutputState
+  pub spacing : ℕ
+  pub free_at : ℕ
+
+abbrev pub own_of : UnawareState → ℕ
+own_of o = o.composer.own
+
+abbrev pub legs_of : UnawareState → ℕ
+legs_of o = composers.legs_of o.composer
+
+-- the least media time of the next turn
+abbrev pub next_turn : UnawareState → ℕ
+next_turn o = composers.next_ask o.composer

@@ -1,0 +1,182 @@
+//! A terminal that shows one text of many speakers.
+ghost use Rattle.std.specs.Prelude.{◌≡◌, ℕ, ◌+◌, ◌^◌, ◌<◌, ◌≤◌, ◌&&◌, ◌||◌, List, [], ◌∷◌, length, IfOk, not};
+ghost use Rattle.rtt_base.specs.declared.text_packets.Pts.{Pts};
+ghost use Rattle.stream_spec.specs.Own.{Sent};
+ghost use Rattle.mixer_spec.specs.Setups.{Setup, IsSetup, stream};
+ghost use Rattle.mixer_spec.specs.Rounds.{all_below};
+ghost use Rattle.mixer_spec.specs.Table.{empty, has_work, is_quiet, new_packet};
+ghost use Rattle.aware_output.specs.Confs.{IsConf, stream_of};
+ghost use Rattle.aware_output.specs.Speakers.{IsNext};
+ghost use Rattle.aware_output.specs.Standing as outputs;
+ghost use Rattle.slot_table.specs.Standing.{StandsFor as SlotsStandFor, Tells};
+ghost use Rattle.outlet.specs.Turns.{Puts, conf_at, with_terminal};
+ghost use Rattle.outlet.specs.UnawareStates.{legs_of, next_turn, own_of};
+ghost use Rattle.outlet.specs.UnawareStanding.{OfTerminals, OfTurns, Sends, StandsFor, none_here, sent_now, turned_here};
+
+use aware_output::{OutConf, Output};
+use rtt_base::{Name, NoMemory, Packet, Text};
+use slot_table::Slots;
+use std::alloc::Global;
+use std::marker::Model;
+use unaware_view::Composer;
+
+/// What is kept of a terminal that is sent one text of all other legs under the mixer's SSRC.
+#[derive(Drop)]
+pub struct UnawareOutlet {
+    /// The terminal's leg.
+    own: usize,
+    legs: usize,
+    /// How long after a packet the next one is sent at the earliest, in milliseconds of media time.
+    spacing: u32,
+    composer: Composer,
+    output: Output,
+    /// From when a packet may be sent again, in milliseconds of media time.
+    free_at: u64,
+}
+
+impl Model for UnawareOutlet {
+    ghost use Rattle.outlet.specs.UnawareStates.{UnawareState};
+
+    ghost Value = { UnawareState };
+
+    ghost use Rattle.outlet.specs.UnawareInsides.{IsSound, state_of};
+
+    ghost view = { state_of };
+
+    ghost invariant = { IsSound };
+}
+
+impl UnawareOutlet {
+    /// The outlet of the terminal of the leg `own`, where there are so many legs, to which nothing was sent yet. It takes
+    /// all memory that it ever needs.
+    pub fn new(
+        alloc: Global,
+        conf: OutConf,
+        spacing: u32,
+        legs: usize,
+        own: usize,
+    ) -> Result<UnawareOutlet, NoMemory>
+        requires conf { IsConf conf }
+        requires own { own < legs }
+        ensures stands { IfOk result (λ outlet. (s : Setup) (pts : Pts) → IsSetup s → s.legs ≡ legs → s.spacing ≡ spacing
+            → conf ≡ conf_at s pts own → StandsFor s pts own outlet (empty.terminals own)) }
+        ensures own { IfOk result (λ outlet. own_of outlet ≡ own) }
+        ensures legs { IfOk result (λ outlet. legs_of outlet ≡ legs) }
+        ensures next { IfOk result (λ outlet. next_turn outlet ≡ 0) }
+    {
+        let composer = Composer::new(alloc, legs, own)?;
+        let output = Output::new(alloc, conf, &[conf.ssrc])?;
+        Ok(UnawareOutlet {
+            own,
+            legs,
+            spacing,
+            composer,
+            output,
+            free_at: 0,
+        })
+    }
+
+    /// Whether text waits of another leg at the terminal, or is still to be repeated under that leg's SSRC.
+    pub fn has_work(&self, source: usize, slots: &Slots) -> bool
+        requires slots { length slots.now ≡ legs_of self.now }
+        requires source { source < legs_of self.now }
+        ensures { OfTerminals self.now slots.now (λ s j d. result ≡ has_work s j d source) }
+    {
+        slots.has_waiting(self.own, source)
+    }
+
+    /// Whether nothing waits at the terminal, and no text is still to be repeated there.
+    pub fn is_quiet(&self, slots: &Slots) -> bool
+        requires { length slots.now ≡ legs_of self.now }
+        ensures { OfTerminals self.now slots.now (λ s j d. result ≡ is_quiet s j d) }
+    {
+        if self.output.due(0) {
+            return false;
+        }
+        is_empty(self.own, slots, self.legs)
+    }
+
+    /// One turn at this media time, in milliseconds: puts the packet that is sent into `out`, which is cleared first, and
+    /// answers whether there is one. `text` is what this takes room in; of the names each has its leg's number.
+    pub fn turn(
+        &mut self,
+        media: u64,
+        names: &[Name],
+        slots: &mut Slots,
+        text: &mut Text,
+        out: &mut Packet,
+    ) -> bool
+        requires slots { length slots.old ≡ legs_of self.old }
+        requires names { length names.now ≡ legs_of self.old }
+        requires rises { next_turn self.old ≤ media }
+        requires media { media < 2 ^ 48 }
+        ensures stands { OfTurns self.old slots.old names.now media (λ s pts j table now.
+            StandsFor s pts j self.new (turned_here s j now media table)) }
+        ensures waits { OfTurns self.old slots.old names.now media (λ s pts j table now.
+            SlotsStandFor s slots.new (with_terminal j (turned_here s j now media table) table)) }
+        ensures puts { OfTurns self.old slots.old names.now media (λ s pts j table now.
+            Puts pts (new_packet (stream s j) (table.terminals j).past (turned_here s j now media table).past) result out.new) }
+        ensures slots { length slots.new ≡ length slots.old }
+        ensures same { (own_of self.new ≡ own_of self.old) × (legs_of self.new ≡ legs_of self.old) }
+        ensures next { next_turn self.new ≡ media + 1 }
+    {
+        out.clear();
+        let is_asked = self.free_at <= media;
+        let gave = self.composer.turn(media, is_asked, names, slots, text);
+        let is_sent = or_repeats(gave, is_asked, self.output.due(0));
+        if !is_sent {
+            return false;
+        }
+        self.send(media, text, out)
+    }
+
+    /// Sends the text at this media time.
+    fn send(&mut self, media: u64, text: &Text, out: &mut Packet) -> bool
+        requires media { media < 2 ^ 48 }
+        requires out { out.old ≡ [] }
+        ensures sends { (conf : OutConf) (source : ℕ) (past : List Sent) → conf.gens ≤ 3
+            → outputs.StandsFor conf (source ∷ []) self.old.output past → IsNext (stream_of conf) past (sent_now source media text.now)
+            → Sends conf source self.old.spacing self.new past (sent_now source media text.now) result out.new }
+        ensures composer { self.new.composer ≡ self.old.composer }
+        ensures spacing { self.new.spacing ≡ self.old.spacing }
+    {
+        let octets = text.as_slice();
+        let Ok(()) = self.output.packet(media, 0, octets, out) else {
+            return false;
+        };
+        self.free_at = media + u64::from(self.spacing);
+        true
+    }
+}
+
+/// Whether nothing of the leg waits at the terminal, or it is its own.
+fn none_here(own: usize, source: usize, slots: &Slots) -> bool
+    requires { (own < length slots.now) × (source < length slots.now) }
+    ensures { Tells slots.now (λ s table. result ≡ none_here own (table.terminals own) source) }
+{
+    if source == own {
+        return true;
+    }
+    !slots.has_waiting(own, source)
+}
+
+/// Whether nothing of any other leg waits at the terminal.
+fn is_empty(own: usize, slots: &Slots, legs: usize) -> bool
+    requires own { own < length slots.now }
+    requires legs { length slots.now ≡ legs }
+    ensures { Tells slots.now (λ s table. result ≡ all_below (none_here own (table.terminals own)) legs) }
+{
+    for source in 0..legs {
+        if !none_here(own, source, slots) {
+            return false;
+        }
+    }
+    true
+}
+
+/// Whether a packet is sent: text was given, or some is still to be repeated where text could be given.
+fn or_repeats(gave: bool, is_asked: bool, is_due: bool) -> bool
+    ensures { result ≡ (gave || (is_asked && is_due)) }
+{
+    gave || (is_asked && is_due)
+}
