@@ -11,12 +11,9 @@ use Rattle.mixer_spec.specs.Table.{Terminal, Seats, has_work, is_due, is_due_leg
 use Rattle.mixer_spec.proofs.Done.{below_all}
 use Rattle.mixer_spec.proofs.Rounds.{round_some}
 use Rattle.mixer_spec.proofs.Seats.{leg_in_some}
+use Rattle.outlet.proofs.Below.{no_text}
 use Rattle.outlet.specs.AwareStates.{AwareState}
 use Rattle.outlet.specs.AwareStanding.{StandsFor}
-
-no_text : (g : ℕ) → has_text_in g [] ≡ false
-no_text zero = refl
-no_text (suc g) = refl
 
 -- no text of the leg i waits, or is still to be repeated; the terminal's own has none there
 abbrev pub is_done_with : Setup → ℕ → Terminal → ℕ → Bool
@@ -26,25 +23,6 @@ is_done_with s j d i = (i == j) || not (has_work s j d i)
 pub quiet_is : (s : Setup) (pts : Pts) (j : ℕ) (o : AwareState) (d : Terminal) → StandsFor s pts j o d → all_below (is_done_with s j d) s.legs ≡ is_quiet s j d
 quiet_is s pts j o d h =
     ap (λ (b : Bool). not b && all_below (is_done_with s j d) s.legs) (sym (ap (λ (xs : List Sent). has_text_in (s.gens j) xs) h.none_mixed ∙ no_text (s.gens j)))
-
--- ---- the legs in order
-pub all_more : (p : ℕ → Bool) (n : ℕ) → all_below p n ≡ true → p n ≡ true → all_below p (n + 1) ≡ true
-all_more p n a b = let e : n + 1 ≡ suc n = omega arith in ap (all_below p) e ∙ (ap (λ (x : Bool). x && all_below p n) b ∙ a)
-
-pub fails_at : (p : ℕ → Bool) (n i : ℕ) → i < n → p i ≡ false → all_below p n ≡ false
-fails_at p zero i l e = absurd (omega arith)
-fails_at p (suc n) i l e = elim (cases_eq i n) [
-  | inl q ↦ and_left (p n) (all_below p n) (ap p (sym q) ∙ e)
-  | inr m ↦ and_right (p n) (all_below p n) (fails_at p n i (omega (arith, l, m)) e)
-]
-  where
-    and_left : (a b : Bool) → a ≡ false → (a && b) ≡ false
-    and_left true b e = cc e
-    and_left false b e = refl
-
-    and_right : (a b : Bool) → b ≡ false → (a && b) ≡ false
-    and_right true b e = e
-    and_right false b e = refl
 
 -- ---- nobody is due
 not_due : (s : Setup) (j t i : ℕ) (d : Terminal) → is_done_with s j d i ≡ true → is_due s j t d i ≡ false

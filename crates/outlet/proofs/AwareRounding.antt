@@ -10,7 +10,8 @@ use Rattle.mixer_spec.specs.Setups.{Setup, stream}
 use Rattle.mixer_spec.specs.Table.{Mixed, Terminal, Table, sents, new_packet}
 use Rattle.slot_table.specs.Lanes.{Waiting}
 use Rattle.slot_table.proofs.Sources.{stands_same}
-use Rattle.outlet.specs.Turns.{Puts, with_terminal}
+use Rattle.outlet.specs.Turns.{with_terminal}
+use Rattle.outlet.proofs.Putting.{puts_none}
 use Rattle.outlet.specs.AwareStates.{AwareState}
 use Rattle.outlet.specs.AwareStanding.{StandsFor}
 use Rattle.outlet.specs.AwareTurns.{IsIn, IsTurned}
@@ -27,10 +28,6 @@ round_later p next start places o n e f g =
     g ∙ (ap (first_from p 0) k ∙ ap (λ (q : Option ℕ). option_or q (first_from p 0 start)) none)
 
 -- ---- nobody is served
-puts_none : (pts : Pts) (c : Stream) (past : List Mixed) (out : List ℕ) → Puts pts (new_packet c past past) false out
-puts_none pts c [] out = refl
-puts_none pts c (m ∷ past) out = let other : (length past == suc (length past)) ≡ false = ne_eqb (length past) (suc (length past)) (λ e. omega (arith, e)) in rw other refl
-
 same_there : (b : Bool) (x z : Terminal) (i : ℕ) → (b ≡ true → x ≡ z) → (cond b x z).waits i ≡ z.waits i
 same_there true x z i e = ap (λ (d : Terminal). d.waits i) (e refl)
 same_there false x z i e = refl

@@ -12,18 +12,17 @@ use Rattle.stream_spec.specs.Own.{Sent, Stream, sent_of, packet_after, Sendable}
 use Rattle.mixer_spec.specs.Chunks.{front, joined}
 use Rattle.mixer_spec.specs.Setups.{Setup, stream}
 use Rattle.mixer_spec.specs.Table.{Mixed, Terminal, Table, sents, sent_by, last_media, new_packet, serve_leg}
-use Rattle.red_window.proofs.Fitting.{few_octets}
 use Rattle.aware_output.specs.Confs.{stream_of}
 use Rattle.aware_output.specs.declared.outputs.OutConf.{OutConf}
 use Rattle.aware_output.specs.Speakers.{IsNext, text_of}
 use Rattle.aware_output.specs.States.{State}
 use Rattle.aware_output.specs.Standing as outputs
-use Rattle.aware_output.proofs.Speaking.{may_send, sendable}
 use Rattle.slot_table.specs.Lanes.{Waiting}
 use Rattle.slot_table.specs.Words.{take_front, fetched}
 use Rattle.slot_table.specs.Standing as slots
 use Rattle.slot_table.proofs.Sources.{stands_same}
 use Rattle.outlet.specs.Turns.{conf_at, free_after, Puts, with_terminal}
+use Rattle.outlet.proofs.Putting.{packet_fits, put_whole, puts_one}
 use Rattle.outlet.specs.AwareStates.{AwareState}
 use Rattle.outlet.specs.AwareStanding.{StandsFor}
 use Rattle.outlet.specs.AwareTurns.{IsIn, IsTurned, sent_of_leg}
@@ -43,20 +42,14 @@ pub is_sent : {T E : Type 0} (conf : OutConf) (sources : List ℕ) (past : List 
     → IsNext (stream_of conf) past e → before ≡ [] → Appends (Some 4224) before after (packet_written conf.pts (packet_after (stream_of conf) past e)) result → OnOk result (outputs.StandsFor conf sources new (e ∷ past))
     → IsSent conf sources past e new after result
 is_sent {T} {E} conf sources past e old new before after result g h n b a s =
-    let c = stream_of conf in
-    let sends : Sendable c (e ∷ past) = (may_send c past e g h.sent n, sendable c past g h.sent) in
-    let few = few_octets conf.pts c past e g sends in
-    go result (a.room.1 (omega (arith, few, ap (λ (xs : List ℕ). length xs) b))) a.ok s
+    let w = put_whole before after (packet_written conf.pts (packet_after (stream_of conf) past e)) result b (packet_fits conf past e g h.sent n) a in
+    go result w.0 s w.1
   where
-    go : (r : Result T E) → IsOk r → OnOk r (after ≡ before ++ packet_written conf.pts (packet_after (stream_of conf) past e)) → OnOk r (outputs.StandsFor conf sources new (e ∷ past)) → IsSent conf sources past e new after r
-    go (Ok v) i p q = record { put = refl; octets = p ∙ ap (λ (xs : List ℕ). xs ++ packet_written conf.pts (packet_after (stream_of conf) past e)) b; stands = q }
-    go (Err v) i p q = cc i
+    go : (r : Result T E) → IsOk r → OnOk r (outputs.StandsFor conf sources new (e ∷ past)) → after ≡ packet_written conf.pts (packet_after (stream_of conf) past e) → IsSent conf sources past e new after r
+    go (Ok v) i q o = record { put = refl; octets = o; stands = q }
+    go (Err v) i q o = cc i
 
 -- ---- the entry
-puts_one : (pts : Pts) (c : Stream) (past : List Mixed) (m : Mixed) (put : Bool) (out : List ℕ) → put ≡ true → out ≡ packet_written pts (packet_after c (sents past) m.sent)
-    → Puts pts (new_packet c past (m ∷ past)) put out
-puts_one pts c past m put out p o = let same : (length past == length past) ≡ true = eq-eqb (length past) (length past) refl in rw same (p, o)
-
 same_waits : (b : Bool) (x y z : Terminal) (i : ℕ) → x.waits i ≡ y.waits i → (cond b x z).waits i ≡ (cond b y z).waits i
 same_waits true x y z i e = e
 same_waits false x y z i e = refl
@@ -130,5 +123,6 @@ leg_served {T} {E} s pts table o before after output place leg media free now te
     record {
       outlet = stands_then s pts o d output place leg media free now h.outlet l q sent.stands;
       slots_stand = slots_then s table o.own leg place media now after f;
-      puts = puts_one pts (stream s o.own) d.past (record { at = now; place = place; leg = leg; chunks = front 1023 (d.waits leg); sent = e }) put octets (p ∙ sent.put) sent.octets;
+      puts = subst (λ (x : Bool). Puts pts (new_packet (stream s o.own) d.past (serve_leg s now media d place (Some leg)).past) x octets) (sym (p ∙ sent.put))
+          (puts_one pts (stream s o.own) (record { at = now; place = place; leg = leg; chunks = front 1023 (d.waits leg); sent = e }) d.past octets sent.octets);
     }

@@ -1,7 +1,8 @@
+pub mod Below
+pub mod Putting
 pub mod AwareLooking
 pub mod AwareServing
 pub mod AwareRounding
 pub mod AwareResting
-pub mod Putting
 pub mod UnawareTurning
 pub mod UnawareWaiting

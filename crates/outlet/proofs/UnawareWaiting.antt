@@ -7,6 +7,7 @@ use Rattle.mixer_spec.specs.Chunks.{has_chunk}
 use Rattle.mixer_spec.specs.Rounds.{all_below}
 use Rattle.mixer_spec.specs.Setups.{Setup}
 use Rattle.mixer_spec.specs.Table.{Terminal, sents, sent_by, has_work, is_quiet}
+pub use Rattle.outlet.proofs.Below.{fails_at, all_more, no_text}
 use Rattle.outlet.specs.UnawareStanding.{AreBy, StandsFor, none_here}
 use Rattle.rtt_base.specs.declared.text_packets.Pts.{Pts}
 use Rattle.outlet.specs.UnawareStates.{UnawareState}
@@ -25,10 +26,6 @@ or_none : (b : Bool) → (b || false) ≡ b
 or_none true = refl
 or_none false = refl
 
-no_text : (n : ℕ) → has_text_in n [] ≡ false
-no_text zero = refl
-no_text (suc n) = refl
-
 -- work of another leg is what waits of it
 pub work_is : (s : Setup) (pts : Pts) (j : ℕ) (o : UnawareState) (d : Terminal) (i : ℕ) → StandsFor s pts j o d → i < s.legs → has_work s j d i ≡ has_chunk (d.waits i)
 work_is s pts j o d i h l =
@@ -39,18 +36,8 @@ pub all_same : (p q : ℕ → Bool) (n : ℕ) → ((i : ℕ) → i < n → p i �
 all_same p q zero f = refl
 all_same p q (suc n) f = rw (f n (omega arith), all_same p q n (λ i l. f i (omega arith))) refl
 
-pub fails_at : (p : ℕ → Bool) (n i : ℕ) → i < n → p i ≡ false → all_below p n ≡ false
-fails_at p zero i l e = absurd (omega arith)
-fails_at p (suc n) i l e = elim (cases_eq i n) [
-  | inl q ↦ and_left (p n) (all_below p n) (ap p (sym q) ∙ e)
-  | inr m ↦ and_right (p n) (all_below p n) (fails_at p n i (omega (arith, l, m)) e)
-]
-
 pub quiet_is : (s : Setup) (pts : Pts) (j : ℕ) (o : UnawareState) (d : Terminal) → StandsFor s pts j o d
     → is_quiet s j d ≡ (not (has_text_in (s.gens j) (sent_by s.mixer d)) && all_below (none_here j d) s.legs)
 quiet_is s pts j o d h =
     ap (λ (b : Bool). not (has_text_in (s.gens j) (sent_by s.mixer d)) && b)
     (all_same (λ i. (i == j) || not (has_work s j d i)) (none_here j d) s.legs (λ i l. ap (λ (b : Bool). (i == j) || not b) (work_is s pts j o d i h l)))
-
-pub all_more : (p : ℕ → Bool) (n : ℕ) → all_below p n ≡ true → p n ≡ true → all_below p (n + 1) ≡ true
-all_more p n a e = rw (add-one, a, e) refl

@@ -2,8 +2,7 @@
 #![tactic(auto)]
 
 mod aware;
-
-pub use aware::AwareOutlet;
 mod unaware;
 
+pub use aware::AwareOutlet;
 pub use unaware::UnawareOutlet;

@@ -1,7 +1,8 @@
 use Rattle.std.proofs.Common.{◌≡◌, ◌<◌, ◌≤◌, ℕ, length, ap, sym, ◌∙◌, arith}
 use Rattle.mixer_spec.specs.Rounds.{all_below}
 use Rattle.outlet.specs.AwareStates.{AwareState}
-use Rattle.outlet.proofs.AwareResting.{is_done_with, quiet_is, all_more, fails_at}
+use Rattle.outlet.proofs.Below.{all_more, fails_at}
+use Rattle.outlet.proofs.AwareResting.{is_done_with, quiet_is}
 use Rattle.outlet.proofs.aware.AwareOutlet.is_quiet.Goals as goal
 
 pub returns-then-not-is_done_with : goal.returns-then-not-is_done_with
