@@ -1,11 +1,11 @@
 -- A terminal that is quiet.
-use Rattle.std.proofs.Common.{◌≡◌, ℕ, zero, suc, ◌+◌, ◌<◌, ◌≤◌, Bool, true, false, not, ◌&&◌, ◌||◌, inl, inr, Option, Some, None, List, [], refl, ap, sym, ◌∙◌, arith}
+use Rattle.std.proofs.Common.{◌≡◌, ℕ, ◌≤◌, Bool, true, false, not, ◌&&◌, ◌||◌, Option, Some, None, List, refl, ap, sym, ◌∙◌, arith}
 use Rattle.std.specs.Prelude.{◌==◌}
-use Rattle.std.proofs.lemmas.Bool.{cases_eq, true≢false}
+use Rattle.std.proofs.lemmas.Bool.{true≢false}
 use Rattle.rtt_base.specs.declared.text_packets.Pts.{Pts}
 use Rattle.stream_spec.specs.Own.{Sent, has_text_in}
 use Rattle.stream_spec.specs.Ready.{Chunk}
-use Rattle.mixer_spec.specs.Rounds.{all_below, first_round}
+use Rattle.mixer_spec.specs.Rounds.{all_below}
 use Rattle.mixer_spec.specs.Setups.{Setup}
 use Rattle.mixer_spec.specs.Table.{Terminal, Seats, has_work, is_due, is_due_leg, is_due_at, is_spaced, last_media, sent_by, leg_in, round_start, served, is_quiet}
 use Rattle.mixer_spec.proofs.Done.{below_all}

@@ -1,13 +1,12 @@
 -- The round of an aware terminal, and a turn that serves nobody.
-use Rattle.std.proofs.Common.{◌≡◌, ℕ, suc, ◌+◌, ◌-◌, ◌<◌, ◌≤◌, Bool, true, false, cond, inl, inr, Option, Some, None, List, [], ◌∷◌, length, refl, ap, sym, ◌∙◌, arith}
+use Rattle.std.proofs.Common.{◌≡◌, ℕ, ◌-◌, Bool, true, false, cond, inl, inr, Option, Some, None, List, refl, ap, sym, ◌∙◌, arith}
 use Rattle.std.specs.Prelude.{◌==◌}
 use Rattle.std.specs.Option.{option_or}
-use Rattle.std.proofs.lemmas.Bool.{cases_eq, eq-eqb, ne_eqb}
+use Rattle.std.proofs.lemmas.Bool.{cases_eq, ne_eqb}
 use Rattle.rtt_base.specs.declared.text_packets.Pts.{Pts}
-use Rattle.stream_spec.specs.Own.{Stream, packet_after}
 use Rattle.mixer_spec.specs.Rounds.{first_from, first_round}
 use Rattle.mixer_spec.specs.Setups.{Setup, stream}
-use Rattle.mixer_spec.specs.Table.{Mixed, Terminal, Table, sents, new_packet}
+use Rattle.mixer_spec.specs.Table.{Terminal, Table}
 use Rattle.slot_table.specs.Lanes.{Waiting}
 use Rattle.slot_table.proofs.Sources.{stands_same}
 use Rattle.outlet.specs.Turns.{with_terminal}

@@ -1,5 +1,5 @@
 -- A turn that serves a leg.
-use Rattle.std.proofs.Common.{◌≡◌, ℕ, suc, ◌+◌, ◌<◌, ◌≤◌, Bool, true, false, cond, inl, inr, Some, List, [], ◌∷◌, ◌++◌, length, set, refl, ap, subst, sym, ◌∙◌, arith}
+use Rattle.std.proofs.Common.{◌≡◌, ℕ, ◌+◌, ◌<◌, ◌≤◌, Bool, true, false, cond, inl, inr, Some, List, [], ◌∷◌, set, refl, ap, subst, sym, ◌∙◌, arith}
 use Rattle.std.specs.Prelude.{Result, Ok, Err, IsOk, OnOk, ◌==◌, slice_index}
 use Rattle.std.specs.Result.{is_ok}
 use Rattle.std.proofs.lemmas.Bool.{cases_eq, eq-eqb, ne_eqb}
@@ -8,10 +8,10 @@ use Rattle.std.proofs.Math.Seq.{get_or-set_same, get_or-set_other}
 use Rattle.rtt_base.specs.Buffers.{Appends}
 use Rattle.rtt_base.specs.declared.text_packets.Pts.{Pts}
 use Rattle.wire_spec.specs.SentPackets.{packet_written}
-use Rattle.stream_spec.specs.Own.{Sent, Stream, sent_of, packet_after, Sendable}
+use Rattle.stream_spec.specs.Own.{Sent, sent_of, packet_after}
 use Rattle.mixer_spec.specs.Chunks.{front, joined}
 use Rattle.mixer_spec.specs.Setups.{Setup, stream}
-use Rattle.mixer_spec.specs.Table.{Mixed, Terminal, Table, sents, sent_by, last_media, new_packet, serve_leg}
+use Rattle.mixer_spec.specs.Table.{Terminal, Table, sents, last_media, new_packet, serve_leg}
 use Rattle.aware_output.specs.Confs.{stream_of}
 use Rattle.aware_output.specs.declared.outputs.OutConf.{OutConf}
 use Rattle.aware_output.specs.Speakers.{IsNext, text_of}
@@ -25,7 +25,7 @@ use Rattle.outlet.specs.Turns.{conf_at, free_after, Puts, with_terminal}
 use Rattle.outlet.proofs.Putting.{packet_fits, put_whole, puts_one}
 use Rattle.outlet.specs.AwareStates.{AwareState}
 use Rattle.outlet.specs.AwareStanding.{StandsFor}
-use Rattle.outlet.specs.AwareTurns.{IsIn, IsTurned, sent_of_leg}
+use Rattle.outlet.specs.AwareTurns.{IsIn, IsTurned, kept_served, sent_of_leg}
 
 -- ---- what an output puts out
 pub text_is : (sources : List ℕ) (source media : ℕ) (text : List ℕ) (e : Sent) → slice_index sources source ≡ e.source → media ≡ e.media → text ≡ e.text → text_of sources source media text ≡ e
@@ -62,12 +62,13 @@ sent_other x e past n = ap (λ (b : Bool). cond b (e ∷ sent_of x past) (sent_o
 
 -- the outlet behind a packet of the leg
 abbrev pub state_then : AwareState → State → ℕ → ℕ → ℕ → AwareState
-state_then o output leg free place = record { own = o.own; spacing = o.spacing; output = output; free_at = set o.free_at leg free; next = place + 1; quiet = false }
+state_then o output leg media place = kept_served place leg media (record o { output = output })
 
-stands_then : (s : Setup) (pts : Pts) (o : AwareState) (d : Terminal) (output : State) (place leg media free now : ℕ) → (h : StandsFor s pts o.own o d) → leg < s.legs → free ≡ media + o.spacing
+stands_then : (s : Setup) (pts : Pts) (o : AwareState) (d : Terminal) (output : State) (place leg media now : ℕ) → (h : StandsFor s pts o.own o d) → leg < s.legs
     → outputs.StandsFor (conf_at s pts o.own) h.sources output (sent_of_leg s media d leg ∷ sents d.past)
-    → StandsFor s pts o.own (state_then o output leg free place) (serve_leg s now media d place (Some leg))
-stands_then s pts o d output place leg media free now h l f out =
+    → StandsFor s pts o.own (state_then o output leg media place) (serve_leg s now media d place (Some leg))
+stands_then s pts o d output place leg media now h l out =
+    let free = media + o.spacing in
     let e = sent_of_leg s media d leg in
     let behind : Terminal = serve_leg s now media d place (Some leg) in
     record {
@@ -84,8 +85,8 @@ stands_then s pts o d output place leg media free now h l f out =
         | inl q ↦
             ap (λ (x : ℕ). slice_index (set o.free_at leg free) x) q
             ∙ (get_or-set_same o.free_at leg free 0 (omega (arith, l, h.legs))
-            ∙ (f ∙ (ap (λ (x : ℕ). media + x) h.spacing
-            ∙ ap (λ (xs : List Sent). free_after s.spacing (last_media xs)) (sym (sent_same (s.ssrc i) e (sents d.past) (ap s.ssrc (sym q)))))))
+            ∙ (ap (λ (x : ℕ). media + x) h.spacing
+            ∙ ap (λ (xs : List Sent). free_after s.spacing (last_media xs)) (sym (sent_same (s.ssrc i) e (sents d.past) (ap s.ssrc (sym q))))))
         | inr n ↦
             get_or-set_other o.free_at leg i free 0 n
             ∙ (h.free i b
@@ -102,16 +103,16 @@ slots_then s table j leg place media now after h =
     stands_same s after (fetched j leg 1023 table) (with_terminal j (serve_leg s now media (table.terminals j) place (Some leg)) table) h (λ i. refl) (λ k. refl)
     (λ k i. same_waits (k == j) (serve_leg s now media (table.terminals j) place (Some leg)) (take_front leg 1023 (table.terminals j)) (table.terminals k) i refl)
 
-pub leg_served : {T E : Type 0} (s : Setup) (pts : Pts) (table : Table) (o : AwareState) (before after : List Waiting) (output : State) (place leg media free now : ℕ) (text : List ℕ) (empty octets : List ℕ) (result : Result T E) (put : Bool)
+pub leg_served : {T E : Type 0} (s : Setup) (pts : Pts) (table : Table) (o : AwareState) (before after : List Waiting) (output : State) (place leg media now : ℕ) (text : List ℕ) (empty octets : List ℕ) (result : Result T E) (put : Bool)
     → (h : IsIn s pts o before table) → leg < s.legs → IsNext (stream s o.own) (sents (table.terminals o.own).past) (sent_of_leg s media (table.terminals o.own) leg)
-    → text ≡ joined (front 1023 ((table.terminals o.own).waits leg)) → slots.StandsFor s after (fetched o.own leg 1023 table) → free ≡ media + o.spacing → empty ≡ []
+    → text ≡ joined (front 1023 ((table.terminals o.own).waits leg)) → slots.StandsFor s after (fetched o.own leg 1023 table) → empty ≡ []
     → (let d : Terminal = table.terminals o.own in let e = text_of h.outlet.sources leg media text in
     IsNext (stream s o.own) (sents d.past) e → Appends (Some 4224) empty octets (packet_written pts (packet_after (stream s o.own) (sents d.past) e)) result)
     → (let d : Terminal = table.terminals o.own in let e = text_of h.outlet.sources leg media text in
     IsNext (stream s o.own) (sents d.past) e → OnOk result (outputs.StandsFor (conf_at s pts o.own) h.outlet.sources output (e ∷ sents d.past)))
     → put ≡ is_ok result
-    → IsTurned s pts table o.own (serve_leg s now media (table.terminals o.own) place (Some leg)) (state_then o output leg free place) after put octets
-leg_served {T} {E} s pts table o before after output place leg media free now text empty octets result put h l n t f q b a k p =
+    → IsTurned s pts table o.own (serve_leg s now media (table.terminals o.own) place (Some leg)) (state_then o output leg media place) after put octets
+leg_served {T} {E} s pts table o before after output place leg media now text empty octets result put h l n t f b a k p =
     let d = table.terminals o.own in
     let conf = conf_at s pts o.own in
     let e = sent_of_leg s media d leg in
@@ -121,7 +122,7 @@ leg_served {T} {E} s pts table o before after output place leg media free now te
     let stands = subst (λ (x : Sent). OnOk result (outputs.StandsFor conf h.outlet.sources output (x ∷ sents d.past))) is (k next) in
     let sent = is_sent conf h.outlet.sources (sents d.past) e o.output output empty octets result (h.outlet.setup.gens o.own) h.outlet.output n b appends stands in
     record {
-      outlet = stands_then s pts o d output place leg media free now h.outlet l q sent.stands;
+      outlet = stands_then s pts o d output place leg media now h.outlet l sent.stands;
       slots_stand = slots_then s table o.own leg place media now after f;
       puts = subst (λ (x : Bool). Puts pts (new_packet (stream s o.own) d.past (serve_leg s now media d place (Some leg)).past) x octets) (sym (p ∙ sent.put))
           (puts_one pts (stream s o.own) (record { at = now; place = place; leg = leg; chunks = front 1023 (d.waits leg); sent = e }) d.past octets sent.octets);

@@ -1,5 +1,5 @@
 -- Tests of all numbers below one, and of nothing that was sent.
-use Rattle.std.proofs.Common.{◌≡◌, ℕ, zero, suc, ◌+◌, ◌<◌, inl, inr, Bool, true, false, List, [], refl, ap, sym, ◌∙◌, add-one, arith}
+use Rattle.std.proofs.Common.{◌≡◌, ℕ, zero, suc, ◌+◌, ◌<◌, inl, inr, Bool, true, false, [], refl, ap, sym, ◌∙◌, add-one, arith}
 use Rattle.std.proofs.lemmas.Bool.{cases_eq, and_left, and_right}
 use Rattle.stream_spec.specs.Own.{has_text_in}
 use Rattle.mixer_spec.specs.Rounds.{all_below}

@@ -1,14 +1,11 @@
 -- What the outlet of an aware terminal stands for (profile).
-use Rattle.std.specs.Prelude.{◌≡◌, ℕ, ◌+◌, ◌<◌, true, Option, None, Some, List, [], length, slice_index}
+use Rattle.std.specs.Prelude.{◌≡◌, ℕ, ◌<◌, true, List, [], length, slice_index}
 use Rattle.rtt_base.specs.declared.text_packets.Pts.{Pts}
-use Rattle.stream_spec.specs.Own.{Sent}
-use Rattle.mixer_spec.specs.Setups.{Setup, IsSetup, stream}
-use Rattle.mixer_spec.specs.Table.{Terminal, Table, sents, sent_by, last_media, round_start, is_quiet}
+use Rattle.mixer_spec.specs.Setups.{Setup, IsSetup}
+use Rattle.mixer_spec.specs.Table.{Terminal, sents, sent_by, last_media, round_start, is_quiet}
 use Rattle.aware_output.specs.declared.outputs.OutConf.{OutConf}
 use Rattle.aware_output.specs.Standing.{source_at}
 use Rattle.aware_output.specs.Standing as outputs
-use Rattle.slot_table.specs.Lanes.{Waiting}
-use Rattle.slot_table.specs.Standing as slots
 use Rattle.outlet.specs.Turns.{conf_at, free_after}
 use Rattle.outlet.specs.AwareStates.{AwareState}
 

@@ -1,5 +1,5 @@
 -- What a turn of an aware terminal finds, and what it comes to.
-use Rattle.std.specs.Prelude.{◌≡◌, ℕ, Bool, List}
+use Rattle.std.specs.Prelude.{ℕ, ◌+◌, Bool, false, List, slice_set}
 use Rattle.rtt_base.specs.declared.text_packets.Pts.{Pts}
 use Rattle.stream_spec.specs.Own.{Sent}
 use Rattle.mixer_spec.specs.Chunks.{joined, front}
@@ -34,3 +34,7 @@ pub record IsTurned (s : Setup) (pts : Pts) (table : Table) (j : ℕ) (d : Termi
   pub outlet : StandsFor s pts j o d
   pub slots_stand : slots.StandsFor s now (with_terminal j d table)
   pub puts : Puts pts (new_packet (stream s j) (table.terminals j).past d.past) put out
+
+-- the outlet behind a packet of the leg that holds the place
+abbrev pub kept_served : ℕ → ℕ → ℕ → AwareState → AwareState
+kept_served place leg media o = record o { free_at = slice_set o.free_at leg (media + o.spacing); next = place + 1; quiet = false }

@@ -1,9 +1,12 @@
 //! The outlet of a terminal that tells sources apart.
 ghost use Rattle.std.specs.Prelude.{◌≡◌, ◌+◌, ◌-◌, ◌^◌, ◌<◌, ◌≤◌, ◌||◌, ◌==◌, not, ℕ, List, [], length, IfOk, IfSome, Some};
 ghost use Rattle.stream_spec.specs.Ready.{Chunk};
+ghost use Rattle.mixer_spec.specs.Chunks.{joined, front};
 ghost use Rattle.mixer_spec.specs.Rounds.{first_from};
 ghost use Rattle.mixer_spec.specs.Setups.{Setup, stream};
 ghost use Rattle.mixer_spec.specs.Table.{empty, has_work, is_due, is_due_at, is_quiet, is_spaced, last_media, sent_by, sents, serve, serve_leg, served, turn_aware};
+ghost use Rattle.slot_table.specs.Standing.{Tells, Leads};
+ghost use Rattle.slot_table.specs.Words.{fetched};
 ghost use Rattle.aware_output.specs.Confs.{IsConf};
 ghost use Rattle.aware_output.specs.Speakers.{AreDistinct, IsNext};
 
@@ -46,9 +49,20 @@ impl Model for AwareOutlet {
     ghost invariant = { IsSound };
 }
 
+/// Takes what fits into one packet of the text of the leg that waits at the terminal, in place of what `text` had.
+fn fetch(terminal: usize, leg: usize, slots: &mut Slots, text: &mut Text)
+    requires { (terminal < length slots.old) × (leg < length slots.old) }
+    ensures legs { length slots.new ≡ length slots.old }
+    ensures text { Tells slots.old (λ s table. text.new ≡ joined (front 1023 ((table.terminals terminal).waits leg))) }
+    ensures stands { Leads slots.old slots.new (fetched terminal leg 1023) }
+{
+    text.clear();
+    slots.take(terminal, leg, Text::CAPACITY, text);
+}
+
 impl AwareOutlet {
     ghost use Rattle.outlet.specs.AwareStanding.{StandsFor, IsMadeFor};
-    ghost use Rattle.outlet.specs.AwareTurns.{AtTerminal, AtTable, IsTurned, sent_of_leg};
+    ghost use Rattle.outlet.specs.AwareTurns.{AtTerminal, AtTable, IsTurned, kept_served, sent_of_leg};
     ghost use Rattle.outlet.specs.Turns.{SendsNext};
     ghost use Rattle.outlet.specs.AwareRounds.{AtSeats, SendsNextAt, turned};
 
@@ -214,13 +228,22 @@ impl AwareOutlet {
             → IsNext (stream s self.old.own) (sents d.past) (sent_of_leg s media d leg)
             → IsTurned s pts table self.old.own (serve_leg s now media d place (Some leg)) self.new slots.new result out.new) }
     {
-        text.clear();
-        slots.take(self.own, leg, Text::CAPACITY, text);
+        fetch(self.own, leg, slots, text);
         let put = self.output.packet(media, leg, text.as_slice(), out);
+        self.keep(place, leg, media);
+        put.is_ok()
+    }
+
+    /// Keeps that the leg at the place was served at this media time.
+    fn keep(&mut self, place: usize, leg: usize, media: u64)
+        requires place { place < 16 }
+        requires leg { leg < length self.old.free_at }
+        requires media { media < 2 ^ 48 }
+        ensures { self.new ≡ kept_served place leg media self.old }
+    {
         self.free_at[leg] = media + u64::from(self.spacing);
         self.next = place + 1;
         self.quiet = false;
-        put.is_ok()
     }
 
     /// Sends the packet of the leg that holds the place.

@@ -1,4 +1,4 @@
-use Rattle.std.proofs.Common.{◌≡◌, ◌-◌, ℕ, refl, ap, sym, ◌∙◌, rules, arith}
+use Rattle.std.proofs.Common.{◌≡◌, ◌-◌, ℕ, ap, sym, ◌∙◌, rules, arith}
 use Rattle.mixer_spec.specs.Rounds.{first_from}
 use Rattle.mixer_spec.specs.Table.{is_due_at}
 use Rattle.unaware_view.proofs.Firsts.{first_here, first_later, first_none}

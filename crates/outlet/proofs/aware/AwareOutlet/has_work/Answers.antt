@@ -1,8 +1,7 @@
-use Rattle.std.proofs.Common.{◌≡◌, ◌<◌, ℕ, length, ap, subst, sym, ◌∙◌, arith}
+use Rattle.std.proofs.Common.{ℕ, ap, subst, sym, ◌∙◌, arith}
 use Rattle.mixer_spec.specs.Chunks.{has_chunk}
 use Rattle.mixer_spec.specs.Table.{sents}
 use Rattle.stream_spec.specs.Own.{has_text_in, sent_of}
-use Rattle.aware_output.specs.States.{State}
 use Rattle.aware_output.specs.Standing.{StandsFor}
 use Rattle.outlet.specs.Turns.{conf_at}
 use Rattle.outlet.specs.AwareStates.{AwareState}

@@ -1,4 +1,4 @@
-use Rattle.std.proofs.Common.{◌≡◌, Bool, not, ◌||◌, ap, sym, ◌∙◌}
+use Rattle.std.proofs.Common.{Bool, not, ◌||◌, ap, sym, ◌∙◌}
 use Rattle.std.proofs.lemmas.Bool.{ne_eqb}
 use Rattle.mixer_spec.specs.Table.{has_work}
 use Rattle.outlet.specs.AwareStates.{AwareState}

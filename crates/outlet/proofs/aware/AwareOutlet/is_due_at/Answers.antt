@@ -1,4 +1,4 @@
-use Rattle.std.proofs.Common.{◌≡◌, ℕ, Option, ap, ◌∙◌}
+use Rattle.std.proofs.Common.{ℕ, Option, ap, ◌∙◌}
 use Rattle.mixer_spec.specs.Table.{is_due_leg}
 use Rattle.outlet.proofs.aware.AwareOutlet.is_due_at.Goals as goal
 

@@ -1,4 +1,4 @@
-use Rattle.std.proofs.Common.{◌≡◌, ◌<◌, ◌≤◌, ℕ, length, ap, sym, ◌∙◌, arith}
+use Rattle.std.proofs.Common.{◌≡◌, ◌<◌, length, ap, sym, ◌∙◌, arith}
 use Rattle.mixer_spec.specs.Rounds.{all_below}
 use Rattle.outlet.specs.AwareStates.{AwareState}
 use Rattle.outlet.proofs.Below.{all_more, fails_at}

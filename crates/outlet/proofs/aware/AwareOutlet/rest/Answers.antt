@@ -1,4 +1,4 @@
-use Rattle.std.proofs.Common.{◌≡◌, sym, subst, ◌∙◌}
+use Rattle.std.proofs.Common.{sym, subst, ◌∙◌}
 use Rattle.outlet.specs.AwareStates.{AwareState}
 use Rattle.outlet.specs.AwareStanding.{StandsFor}
 use Rattle.outlet.proofs.AwareResting.{stands_quiet}

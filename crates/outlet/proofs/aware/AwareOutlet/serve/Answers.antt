@@ -1,4 +1,4 @@
-use Rattle.std.proofs.Common.{◌≡◌, ◌<◌, ℕ, Option, false, refl, subst, arith}
+use Rattle.std.proofs.Common.{◌<◌, ℕ, Option, false, refl, subst, arith}
 use Rattle.mixer_spec.specs.Setups.{stream}
 use Rattle.mixer_spec.specs.Table.{serve_leg}
 use Rattle.outlet.specs.Turns.{SendsNext}

@@ -1,8 +1,6 @@
-use Rattle.std.proofs.Common.{false, ◌≡◌, ◌<◌, ◌+◌, ◌++◌, ℕ, List, set, ap, subst, ◌∙◌}
-use Rattle.mixer_spec.specs.Chunks.{front, joined}
+use Rattle.std.proofs.Common.{◌<◌, ℕ, Some, subst, sym, ◌∙◌}
 use Rattle.mixer_spec.specs.Setups.{stream}
 use Rattle.mixer_spec.specs.Table.{sents, serve_leg}
-use Rattle.std.specs.Prelude.{Some}
 use Rattle.aware_output.specs.Speakers.{IsNext}
 use Rattle.outlet.specs.Turns.{conf_at}
 use Rattle.outlet.specs.AwareStates.{AwareState}
@@ -14,14 +12,13 @@ use Rattle.outlet.proofs.aware.AwareOutlet.serve_leg.Goals as goal
 pub returns-clause-turned : goal.returns-clause-turned
 returns-clause-turned c = λ s pts table.
     let me : AwareState = state_of c.self.inside in
-    let then : AwareState = record { own = me.own; spacing = me.spacing; output = c.packet-put.new.self; free_at = set me.free_at c.args.leg (c.args.media + c.from.result); next = c.args.place + 1; quiet = false } in
     subst (λ (x : AwareState). IsIn s pts x c.args.slots.now table → (now : ℕ) → c.args.leg < s.legs
     → IsNext (stream s x.own) (sents (table.terminals x.own).past) (sent_of_leg s c.args.media (table.terminals x.own) c.args.leg)
-    → IsTurned s pts table x.own (serve_leg s now c.args.media (table.terminals x.own) c.args.place (Some c.args.leg)) then c.take.new.self c.is_ok.result c.packet-put.new.out) c.self.view_is (λ h now l n.
+    → IsTurned s pts table x.own (serve_leg s now c.args.media (table.terminals x.own) c.args.place (Some c.args.leg)) c.keep.new.self c.fetch.new.slots c.is_ok.result c.packet-put.new.out) c.self.view_is (λ h now l n.
     let d = table.terminals me.own in
-    let text = c.as_slice.ensures.value ∙ (c.take.ensures.text s table h.slots_stand ∙ ap (λ (xs : List ℕ). xs ++ joined (front 1023 (d.waits c.args.leg))) c.clear.ensures) in
-    leg_served s pts table me c.args.slots.now c.take.new.self c.packet-put.new.self c.args.place c.args.leg c.args.media (c.args.media + c.from.result) now c.as_slice.result.now c.args.out.now c.packet-put.new.out c.packet-put.result c.is_ok.result
-    h l n text (c.take.ensures.stands s table h.slots_stand) (ap (λ (x : ℕ). c.args.media + x) c.from.ensures) c.requires.out
+    subst (λ (x : AwareState). IsTurned s pts table me.own (serve_leg s now c.args.media d c.args.place (Some c.args.leg)) x c.fetch.new.slots c.is_ok.result c.packet-put.new.out) (sym c.keep.ensures)
+    (leg_served s pts table me c.args.slots.now c.fetch.new.slots c.packet-put.new.self c.args.place c.args.leg c.args.media now c.as_slice.result.now c.args.out.now c.packet-put.new.out c.packet-put.result c.is_ok.result
+    h l n (c.as_slice.ensures.value ∙ c.fetch.ensures.text s table h.slots_stand) (c.fetch.ensures.stands s table h.slots_stand) c.requires.out
     (λ m. c.packet-put.ensures.packet (conf_at s pts me.own) h.outlet.sources (sents d.past) h.outlet.output m)
     (λ m. c.packet-put.ensures.stands (conf_at s pts me.own) h.outlet.sources (sents d.past) h.outlet.output m)
-    c.is_ok.ensures.value)
+    c.is_ok.ensures.value))

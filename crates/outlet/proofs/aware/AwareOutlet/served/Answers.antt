@@ -1,4 +1,4 @@
-use Rattle.std.proofs.Common.{◌≡◌, ap, ◌∙◌}
+use Rattle.std.proofs.Common.{ap, ◌∙◌}
 use Rattle.mixer_spec.specs.Table.{is_due_at, round_start}
 use Rattle.outlet.specs.AwareStates.{AwareState}
 use Rattle.outlet.proofs.AwareRounding.{round_here, round_later}
