@@ -1,5 +1,5 @@
 //! A terminal that shows one text of many speakers.
-ghost use Rattle.std.specs.Prelude.{◌≡◌, ℕ, ◌+◌, ◌^◌, ◌<◌, ◌≤◌, ◌&&◌, ◌||◌, List, [], ◌∷◌, length, IfOk, not};
+ghost use Rattle.std.specs.Prelude.{◌≡◌, ℕ, ◌+◌, ◌^◌, ◌<◌, ◌≤◌, ◌&&◌, ◌||◌, List, [], ◌∷◌, length, IfOk, nat_le, not};
 ghost use Rattle.rtt_base.specs.declared.text_packets.Pts.{Pts};
 ghost use Rattle.stream_spec.specs.Own.{Sent};
 ghost use Rattle.mixer_spec.specs.Setups.{Setup, IsSetup, stream};
@@ -121,7 +121,7 @@ impl UnawareOutlet {
         ensures next { next_turn self.new ≡ media + 1 }
     {
         out.clear();
-        let is_asked = self.free_at <= media;
+        let is_asked = has_come(self.free_at, media);
         let gave = self.composer.turn(media, is_asked, names, slots, text);
         let is_sent = or_repeats(gave, is_asked, self.output.due(0));
         if !is_sent {
@@ -144,9 +144,24 @@ impl UnawareOutlet {
         let Ok(()) = self.output.packet(media, 0, octets, out) else {
             return false;
         };
-        self.free_at = media + u64::from(self.spacing);
+        self.wait_from(media);
         true
     }
+
+    /// Sends nothing before the spacing has passed since this media time.
+    fn wait_from(&mut self, media: u64)
+        requires { media < 2 ^ 48 }
+        ensures { self.new ≡ record self.old { free_at = media + self.old.spacing } }
+    {
+        self.free_at = media + u64::from(self.spacing);
+    }
+}
+
+/// Whether the moment has come at this media time.
+fn has_come(moment: u64, media: u64) -> bool
+    ensures { result ≡ nat_le moment media }
+{
+    moment <= media
 }
 
 /// Whether nothing of the leg waits at the terminal, or it is its own.

@@ -30,7 +30,8 @@ returns-clause-sends c = λ conf source past g h n.
     record {
       put_is = refl;
       out_is = put.1 ∙ ap (λ (text : List ℕ). packet_written conf.pts (packet_after (stream_of conf) past (sent_now source c.args.media text))) c.as_slice-octets.ensures.value;
-      output = subst (λ (text : List ℕ). outputs.StandsFor conf (source ∷ []) c.packet.new.self (sent_now source c.args.media text ∷ past)) c.as_slice-octets.ensures.value
-          (c.in-Ok.ensures.stands conf (source ∷ []) past r next);
-      free = ap (λ n. c.args.media + n) (c.from.ensures ∙ ap (λ (x : UnawareState). x.spacing) c.self.view_is);
+      output = subst (λ (x : UnawareState). outputs.StandsFor conf (source ∷ []) x.output (sent_now source c.args.media c.args.text.now ∷ past)) (sym c.wait_from.ensures)
+          (subst (λ (text : List ℕ). outputs.StandsFor conf (source ∷ []) c.packet.new.self (sent_now source c.args.media text ∷ past)) c.as_slice-octets.ensures.value
+          (c.in-Ok.ensures.stands conf (source ∷ []) past r next));
+      free = ap (λ (x : UnawareState). x.free_at) c.wait_from.ensures ∙ ap (λ (x : UnawareState). c.args.media + x.spacing) c.self.view_is;
     }

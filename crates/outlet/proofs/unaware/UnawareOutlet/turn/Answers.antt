@@ -1,5 +1,4 @@
-use Rattle.std.proofs.Common.{Bool, [], ◌∷◌, sym, subst, refl}
-use Rattle.std.specs.Prelude.{nat_le}
+use Rattle.std.proofs.Common.{Bool, [], ◌∷◌, sym, subst}
 use Rattle.mixer_spec.specs.Table.{sents}
 use Rattle.outlet.specs.Turns.{conf_at}
 use Rattle.outlet.specs.UnawareInsides.{state_of}
@@ -14,8 +13,8 @@ returns-then-not-is_sent-clause-stands c = λ s pts j table now h.
     let r = subst (λ (x : UnawareState). IsTurn s pts j table x c.args.slots.now c.args.names.now now c.args.media) (sym c.self.view_is) h in
     let so = is_asked_so s pts j table now c.args.media o c.args.slots.now c.args.names.now r in
     let asks = (table.terminals j).asks in
-    let asked = nat_le c.self.inside.free_at c.args.media in
-    let t = told s pts j table c.args.media o asked c.turn-gave.result c.due.result c.or_repeats-is_sent.result c.turn-gave.new.text c.turn-gave.new.self c.turn-gave.new.slots r.stands refl
+    let asked = c.has_come-is_asked.result in
+    let t = told s pts j table c.args.media o asked c.turn-gave.result c.due.result c.or_repeats-is_sent.result c.turn-gave.new.text c.turn-gave.new.self c.turn-gave.new.slots r.stands c.has_come-is_asked.ensures
     (c.turn-gave.ensures.given s table asks so) (c.turn-gave.ensures.text s table asks so) (c.turn-gave.ensures.stands s table asks so) (c.turn-gave.ensures.waits s table asks so)
     (c.due.ensures (conf_at s pts j) (s.mixer ∷ []) (sents (table.terminals j).past) r.stands.output) c.or_repeats-is_sent.ensures in
     let a = subst (λ (b : Bool). Added s c.args.media (table.terminals j).past (turned_here s j now c.args.media table).past c.turn-gave.new.text b) c.if-not-is_sent.true
@@ -28,8 +27,8 @@ returns-then-not-is_sent-clause-waits c = λ s pts j table now h.
     let r = subst (λ (x : UnawareState). IsTurn s pts j table x c.args.slots.now c.args.names.now now c.args.media) (sym c.self.view_is) h in
     let so = is_asked_so s pts j table now c.args.media o c.args.slots.now c.args.names.now r in
     let asks = (table.terminals j).asks in
-    let asked = nat_le c.self.inside.free_at c.args.media in
-    let t = told s pts j table c.args.media o asked c.turn-gave.result c.due.result c.or_repeats-is_sent.result c.turn-gave.new.text c.turn-gave.new.self c.turn-gave.new.slots r.stands refl
+    let asked = c.has_come-is_asked.result in
+    let t = told s pts j table c.args.media o asked c.turn-gave.result c.due.result c.or_repeats-is_sent.result c.turn-gave.new.text c.turn-gave.new.self c.turn-gave.new.slots r.stands c.has_come-is_asked.ensures
     (c.turn-gave.ensures.given s table asks so) (c.turn-gave.ensures.text s table asks so) (c.turn-gave.ensures.stands s table asks so) (c.turn-gave.ensures.waits s table asks so)
     (c.due.ensures (conf_at s pts j) (s.mixer ∷ []) (sents (table.terminals j).past) r.stands.output) c.or_repeats-is_sent.ensures in
     waits_stand s j now c.args.media table asked c.turn-gave.result c.due.result c.or_repeats-is_sent.result c.turn-gave.new.text c.turn-gave.new.self c.turn-gave.new.slots t
@@ -40,8 +39,8 @@ returns-then-not-is_sent-clause-puts c = λ s pts j table now h.
     let r = subst (λ (x : UnawareState). IsTurn s pts j table x c.args.slots.now c.args.names.now now c.args.media) (sym c.self.view_is) h in
     let so = is_asked_so s pts j table now c.args.media o c.args.slots.now c.args.names.now r in
     let asks = (table.terminals j).asks in
-    let asked = nat_le c.self.inside.free_at c.args.media in
-    let t = told s pts j table c.args.media o asked c.turn-gave.result c.due.result c.or_repeats-is_sent.result c.turn-gave.new.text c.turn-gave.new.self c.turn-gave.new.slots r.stands refl
+    let asked = c.has_come-is_asked.result in
+    let t = told s pts j table c.args.media o asked c.turn-gave.result c.due.result c.or_repeats-is_sent.result c.turn-gave.new.text c.turn-gave.new.self c.turn-gave.new.slots r.stands c.has_come-is_asked.ensures
     (c.turn-gave.ensures.given s table asks so) (c.turn-gave.ensures.text s table asks so) (c.turn-gave.ensures.stands s table asks so) (c.turn-gave.ensures.waits s table asks so)
     (c.due.ensures (conf_at s pts j) (s.mixer ∷ []) (sents (table.terminals j).past) r.stands.output) c.or_repeats-is_sent.ensures in
     let a = subst (λ (b : Bool). Added s c.args.media (table.terminals j).past (turned_here s j now c.args.media table).past c.turn-gave.new.text b) c.if-not-is_sent.true
@@ -54,8 +53,8 @@ returns-clause-stands c = λ s pts j table now h.
     let r = subst (λ (x : UnawareState). IsTurn s pts j table x c.args.slots.now c.args.names.now now c.args.media) (sym c.self.view_is) h in
     let so = is_asked_so s pts j table now c.args.media o c.args.slots.now c.args.names.now r in
     let asks = (table.terminals j).asks in
-    let asked = nat_le c.self.inside.free_at c.args.media in
-    let t = told s pts j table c.args.media o asked c.turn-gave.result c.due.result c.or_repeats-is_sent.result c.turn-gave.new.text c.turn-gave.new.self c.turn-gave.new.slots r.stands refl
+    let asked = c.has_come-is_asked.result in
+    let t = told s pts j table c.args.media o asked c.turn-gave.result c.due.result c.or_repeats-is_sent.result c.turn-gave.new.text c.turn-gave.new.self c.turn-gave.new.slots r.stands c.has_come-is_asked.ensures
     (c.turn-gave.ensures.given s table asks so) (c.turn-gave.ensures.text s table asks so) (c.turn-gave.ensures.stands s table asks so) (c.turn-gave.ensures.waits s table asks so)
     (c.due.ensures (conf_at s pts j) (s.mixer ∷ []) (sents (table.terminals j).past) r.stands.output) c.or_repeats-is_sent.ensures in
     let a = subst (λ (b : Bool). Added s c.args.media (table.terminals j).past (turned_here s j now c.args.media table).past c.turn-gave.new.text b) c.if-not-is_sent.false
@@ -70,8 +69,8 @@ returns-clause-waits c = λ s pts j table now h.
     let r = subst (λ (x : UnawareState). IsTurn s pts j table x c.args.slots.now c.args.names.now now c.args.media) (sym c.self.view_is) h in
     let so = is_asked_so s pts j table now c.args.media o c.args.slots.now c.args.names.now r in
     let asks = (table.terminals j).asks in
-    let asked = nat_le c.self.inside.free_at c.args.media in
-    let t = told s pts j table c.args.media o asked c.turn-gave.result c.due.result c.or_repeats-is_sent.result c.turn-gave.new.text c.turn-gave.new.self c.turn-gave.new.slots r.stands refl
+    let asked = c.has_come-is_asked.result in
+    let t = told s pts j table c.args.media o asked c.turn-gave.result c.due.result c.or_repeats-is_sent.result c.turn-gave.new.text c.turn-gave.new.self c.turn-gave.new.slots r.stands c.has_come-is_asked.ensures
     (c.turn-gave.ensures.given s table asks so) (c.turn-gave.ensures.text s table asks so) (c.turn-gave.ensures.stands s table asks so) (c.turn-gave.ensures.waits s table asks so)
     (c.due.ensures (conf_at s pts j) (s.mixer ∷ []) (sents (table.terminals j).past) r.stands.output) c.or_repeats-is_sent.ensures in
     waits_stand s j now c.args.media table asked c.turn-gave.result c.due.result c.or_repeats-is_sent.result c.turn-gave.new.text c.turn-gave.new.self c.turn-gave.new.slots t
@@ -82,8 +81,8 @@ returns-clause-puts c = λ s pts j table now h.
     let r = subst (λ (x : UnawareState). IsTurn s pts j table x c.args.slots.now c.args.names.now now c.args.media) (sym c.self.view_is) h in
     let so = is_asked_so s pts j table now c.args.media o c.args.slots.now c.args.names.now r in
     let asks = (table.terminals j).asks in
-    let asked = nat_le c.self.inside.free_at c.args.media in
-    let t = told s pts j table c.args.media o asked c.turn-gave.result c.due.result c.or_repeats-is_sent.result c.turn-gave.new.text c.turn-gave.new.self c.turn-gave.new.slots r.stands refl
+    let asked = c.has_come-is_asked.result in
+    let t = told s pts j table c.args.media o asked c.turn-gave.result c.due.result c.or_repeats-is_sent.result c.turn-gave.new.text c.turn-gave.new.self c.turn-gave.new.slots r.stands c.has_come-is_asked.ensures
     (c.turn-gave.ensures.given s table asks so) (c.turn-gave.ensures.text s table asks so) (c.turn-gave.ensures.stands s table asks so) (c.turn-gave.ensures.waits s table asks so)
     (c.due.ensures (conf_at s pts j) (s.mixer ∷ []) (sents (table.terminals j).past) r.stands.output) c.or_repeats-is_sent.ensures in
     let a = subst (λ (b : Bool). Added s c.args.media (table.terminals j).past (turned_here s j now c.args.media table).past c.turn-gave.new.text b) c.if-not-is_sent.false
