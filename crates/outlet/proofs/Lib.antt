@@ -6,3 +6,4 @@ pub mod AwareRounding
 pub mod AwareResting
 pub mod UnawareTurning
 pub mod UnawareWaiting
+pub mod Turning

@@ -2,7 +2,9 @@
 #![tactic(auto)]
 
 mod aware;
+mod outlets;
 mod unaware;
 
 pub use aware::AwareOutlet;
+pub use outlets::Outlet;
 pub use unaware::UnawareOutlet;

@@ -52,9 +52,9 @@ impl UnawareOutlet {
     pub fn new(
         alloc: Global,
         conf: OutConf,
-        spacing: u32,
         legs: usize,
         own: usize,
+        spacing: u32,
     ) -> Result<UnawareOutlet, NoMemory>
         requires conf { IsConf conf }
         requires own { own < legs }

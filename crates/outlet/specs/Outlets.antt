@@ -1,0 +1,67 @@
+-- What the outlet of a terminal stands for, be the terminal aware or not (profile).
+use Rattle.std.specs.Prelude.{◌≡◌, ◌<◌, ℕ, Bool, true, false, List, length}
+use Rattle.rtt_base.specs.declared.text_packets.Pts.{Pts}
+use Rattle.mixer_spec.specs.Setups.{Setup, stream}
+use Rattle.mixer_spec.specs.Laws.{AreTexts}
+use Rattle.mixer_spec.specs.Table.{Terminal, Table, is_seated, new_packet, turn_at}
+use Rattle.slot_table.specs.Lanes.{Waiting}
+use Rattle.slot_table.specs.Standing as slots
+use Rattle.seating.specs.States.{State}
+use Rattle.seating.specs.Standing as seatings
+use Rattle.unaware_view.specs.Standing.{name_at}
+use Rattle.outlet.specs.declared.outlets.Outlet.{Outlet}
+use Rattle.outlet.specs.declared.outlets.Outlet.TheVariants.{Aware, Unaware}
+use Rattle.outlet.specs.Turns.{Puts, SendsNext, with_terminal}
+use Rattle.outlet.specs.AwareStanding as aware
+use Rattle.outlet.specs.UnawareStates as unaware_state
+use Rattle.outlet.specs.UnawareStanding as unaware
+
+-- the terminal's leg
+abbrev pub own_of : Outlet → ℕ
+own_of (Aware o) = o.own
+own_of (Unaware o) = unaware_state.own_of o
+
+-- the number of legs
+abbrev pub legs_of : Outlet → ℕ
+legs_of (Aware o) = length o.free_at
+legs_of (Unaware o) = unaware_state.legs_of o
+
+-- the least media time of the next turn
+abbrev pub next_turn : Outlet → ℕ
+next_turn (Aware o) = 0
+next_turn (Unaware o) = unaware_state.next_turn o
+
+-- This was sent to the terminal j, with these payload types.
+abbrev pub StandsFor : Setup → Pts → ℕ → Outlet → Terminal → Type 0
+StandsFor s pts j (Aware o) d = (s.aware j ≡ true) × aware.StandsFor s pts j o d
+StandsFor s pts j (Unaware o) d = (s.aware j ≡ false) × unaware.StandsFor s pts j o d
+
+-- of each terminal for which it stands, where the slots have what waits
+abbrev pub OfTerminals : Outlet → List Waiting → (Setup → ℕ → Terminal → Type 0) → Type 0
+OfTerminals o waiting P = (s : Setup) (pts : Pts) (j : ℕ) (table : Table) → StandsFor s pts j o (table.terminals j) → slots.StandsFor s waiting table → P s j (table.terminals j)
+
+-- ---- a turn
+-- the terminal j after a turn at the moment `now`, with the media time t
+abbrev pub turned_here : Setup → ℕ → ℕ → ℕ → Table → Terminal
+turned_here s j now t table = turn_at s table.seats j now t (table.terminals j)
+
+-- Such a turn at the terminal j, which holds a place and for which the outlet stands: the slots have what waits there, which
+-- are texts, these are the seats and the names, and what is sent may be sent.
+pub record IsTurn (s : Setup) (pts : Pts) (j : ℕ) (table : Table) (o : Outlet) (places : State) (waiting : List Waiting) (called : List (List ℕ)) (now t : ℕ) : Type 0 where
+  pub stands : StandsFor s pts j o (table.terminals j)
+  pub seats_stand : seatings.StandsFor s places table.seats
+  pub slots_stand : slots.StandsFor s waiting table
+  pub seated : is_seated table.seats j ≡ true
+  pub texts : (i : ℕ) → AreTexts ((table.terminals j).waits i)
+  pub names : (i : ℕ) → i < s.legs → name_at called i ≡ s.name i
+  pub next : SendsNext (stream s j) (table.terminals j).past (turned_here s j now t table).past
+
+-- The turn is over: the outlet and the slots stand for what the definition leaves, and its packet was put, if it sends one.
+pub record IsTurned (s : Setup) (pts : Pts) (j : ℕ) (table : Table) (now t : ℕ) (o : Outlet) (after : List Waiting) (put : Bool) (out : List ℕ) : Type 0 where
+  pub stands : StandsFor s pts j o (turned_here s j now t table)
+  pub slots_stand : slots.StandsFor s after (with_terminal j (turned_here s j now t table) table)
+  pub puts : Puts pts (new_packet (stream s j) (table.terminals j).past (turned_here s j now t table).past) put out
+
+-- of all turns that it may be
+abbrev pub OfTurns : Outlet → State → List Waiting → List (List ℕ) → ℕ → (Setup → Pts → ℕ → Table → ℕ → Type 0) → Type 0
+OfTurns o places waiting called t P = (s : Setup) (pts : Pts) (j : ℕ) (table : Table) (now : ℕ) → IsTurn s pts j table o places waiting called now t → P s pts j table now
