@@ -3,7 +3,7 @@ use Rattle.std.proofs.Common.{◌≡◌, ℕ, Bool, true, false, not, ◌&&◌, 
 use Rattle.std.specs.Prelude.{◌==◌}
 use Rattle.std.proofs.lemmas.Bool.{eq-eqb, ne_eqb}
 use Rattle.mixer_spec.specs.Setups.{Setup}
-use Rattle.mixer_spec.specs.Table.{Terminal, has_work, is_due, is_spaced, last_media, sent_by}
+use Rattle.mixer_spec.specs.Table.{Terminal, has_work, is_due, is_spaced, last_media, sent_from}
 
 pub or_first : (b a x : Bool) → b ≡ true → b ≡ a → b ≡ (a || x)
 or_first b a x t e = t ∙ ap (λ (y : Bool). y || x) (sym t ∙ e)
@@ -12,9 +12,9 @@ pub or_second : (b a r x : Bool) → b ≡ false → b ≡ a → r ≡ x → r �
 or_second b a r x f e g = g ∙ ap (λ (y : Bool). y || x) (sym f ∙ e)
 
 -- another leg, which is spaced
-pub due_by_work : (s : Setup) (j t i : ℕ) (d : Terminal) (work spaced : Bool) → (i ≡ j → ⊥) → spaced ≡ true → spaced ≡ is_spaced s.spacing t (last_media (sent_by (s.ssrc i) d))
+pub due_by_work : (s : Setup) (j t i : ℕ) (d : Terminal) (work spaced : Bool) → (i ≡ j → ⊥) → spaced ≡ true → spaced ≡ is_spaced s.spacing t (last_media (sent_from (s.ssrc i) d))
     → work ≡ has_work s j d i → work ≡ is_due s j t d i
-due_by_work s j t i d work spaced n y e w = go (i == j) (has_work s j d i) (is_spaced s.spacing t (last_media (sent_by (s.ssrc i) d))) (ne_eqb i j n) (sym e ∙ y) w
+due_by_work s j t i d work spaced n y e w = go (i == j) (has_work s j d i) (is_spaced s.spacing t (last_media (sent_from (s.ssrc i) d))) (ne_eqb i j n) (sym e ∙ y) w
   where
     go : (o h p : Bool) → o ≡ false → p ≡ true → work ≡ h → work ≡ (not o && (h && p))
     go true h p f y e = cc f
@@ -22,10 +22,10 @@ due_by_work s j t i d work spaced n y e w = go (i == j) (has_work s j d i) (is_s
     go false false p f y e = e
 
 pub not_due_own : (s : Setup) (j t i : ℕ) (d : Terminal) → i ≡ j → false ≡ is_due s j t d i
-not_due_own s j t i d e = ap (λ (o : Bool). not o && (has_work s j d i && is_spaced s.spacing t (last_media (sent_by (s.ssrc i) d)))) (sym (eq-eqb i j e))
+not_due_own s j t i d e = ap (λ (o : Bool). not o && (has_work s j d i && is_spaced s.spacing t (last_media (sent_from (s.ssrc i) d)))) (sym (eq-eqb i j e))
 
-pub not_due_yet : (s : Setup) (j t i : ℕ) (d : Terminal) → false ≡ is_spaced s.spacing t (last_media (sent_by (s.ssrc i) d)) → false ≡ is_due s j t d i
-not_due_yet s j t i d e = go (i == j) (has_work s j d i) (is_spaced s.spacing t (last_media (sent_by (s.ssrc i) d))) e
+pub not_due_yet : (s : Setup) (j t i : ℕ) (d : Terminal) → false ≡ is_spaced s.spacing t (last_media (sent_from (s.ssrc i) d)) → false ≡ is_due s j t d i
+not_due_yet s j t i d e = go (i == j) (has_work s j d i) (is_spaced s.spacing t (last_media (sent_from (s.ssrc i) d))) e
   where
     go : (o h p : Bool) → false ≡ p → false ≡ (not o && (h && p))
     go true h p e = refl

@@ -7,7 +7,7 @@ use Rattle.stream_spec.specs.Own.{Sent, has_text_in}
 use Rattle.stream_spec.specs.Ready.{Chunk}
 use Rattle.mixer_spec.specs.Rounds.{all_below}
 use Rattle.mixer_spec.specs.Setups.{Setup}
-use Rattle.mixer_spec.specs.Table.{Terminal, Seats, has_work, is_due, is_due_leg, is_due_at, is_spaced, last_media, sent_by, leg_in, round_start, served, is_quiet}
+use Rattle.mixer_spec.specs.Table.{Terminal, Seats, has_work, is_due, is_due_leg, is_due_at, is_spaced, last_media, sent_from, leg_in, round_start, served, is_quiet}
 use Rattle.mixer_spec.proofs.Done.{below_all}
 use Rattle.mixer_spec.proofs.Rounds.{round_some}
 use Rattle.mixer_spec.proofs.Seats.{leg_in_some}
@@ -26,7 +26,7 @@ quiet_is s pts j o d h =
 
 -- ---- nobody is due
 not_due : (s : Setup) (j t i : ℕ) (d : Terminal) → is_done_with s j d i ≡ true → is_due s j t d i ≡ false
-not_due s j t i d e = go (i == j) (has_work s j d i) (is_spaced s.spacing t (last_media (sent_by (s.ssrc i) d))) e
+not_due s j t i d e = go (i == j) (has_work s j d i) (is_spaced s.spacing t (last_media (sent_from (s.ssrc i) d))) e
   where
     go : (o h p : Bool) → (o || not h) ≡ true → (not o && (h && p)) ≡ false
     go true h p e = refl
@@ -43,7 +43,7 @@ quiet_serves s seats j t d q l = go (served s seats j t d) refl
     leg : (o : Option ℕ) (p : ℕ) → leg_in seats s.legs p ≡ o → is_due_leg s j t d o ≡ true → ⊥
     leg None p e f = true≢false (sym f)
     leg (Some i) p e f =
-        true≢false (sym f ∙ not_due s j t i d (below_all (is_done_with s j d) s.legs i (all (not (has_text_in (s.gens j) (sent_by s.mixer d))) (all_below (is_done_with s j d) s.legs) q) (leg_in_some seats s.legs p i e).0))
+        true≢false (sym f ∙ not_due s j t i d (below_all (is_done_with s j d) s.legs i (all (not (has_text_in (s.gens j) (sent_from s.mixer d))) (all_below (is_done_with s j d) s.legs) q) (leg_in_some seats s.legs p i e).0))
 
     go : (o : Option ℕ) → served s seats j t d ≡ o → None ≡ o
     go None e = refl

@@ -10,7 +10,7 @@ use Rattle.mixer_spec.proofs.Lists.{set_same, set_other}
 use Rattle.mixer_spec.specs.Laws.{AreTexts}
 use Rattle.mixer_spec.specs.Setups.{Setup, stream}
 use Rattle.mixer_spec.specs.Composed.{Given, Asked, text_given, answer}
-use Rattle.mixer_spec.specs.Table.{Mixed, Terminal, Table, sents, sent_by, last_media, is_spaced, is_asked, answer_at, asked_at, repeated, compose, new_packet}
+use Rattle.mixer_spec.specs.Table.{Mixed, Terminal, Table, sents, sent_from, last_media, is_spaced, is_asked, answer_at, asked_at, repeated, compose, new_packet}
 use Rattle.aware_output.specs.Speakers.{IsNext}
 use Rattle.aware_output.specs.Standing as outputs
 use Rattle.slot_table.specs.Lanes.{Waiting}
@@ -31,8 +31,8 @@ Added s t before after text true = (e : Mixed) × (after ≡ e ∷ before) × (e
 Added s t before after text false = after ≡ before
 
 added : (s : Setup) (j now t : ℕ) (d : Terminal) (o : Option Given)
-    → Added s t d.past (compose s j now t d o).past (text_given o) (is_some o || (is_asked s t d && has_text_in (s.gens j) (sent_by s.mixer d)))
-added s j now t d None = go (is_asked s t d && has_text_in (s.gens j) (sent_by s.mixer d))
+    → Added s t d.past (compose s j now t d o).past (text_given o) (is_some o || (is_asked s t d && has_text_in (s.gens j) (sent_from s.mixer d)))
+added s j now t d None = go (is_asked s t d && has_text_in (s.gens j) (sent_from s.mixer d))
   where
     go : (b : Bool) → Added s t d.past (repeated s j now t b d.past) [] b
     go true = (record { at = now; place = 0; leg = j; chunks = []; sent = sent_now s.mixer t [] }, refl, refl)
@@ -67,7 +67,7 @@ pub record Told (s : Setup) (j t : ℕ) (table : Table) (asked gave due sends : 
   pub text_is : text ≡ text_given (answer_at s j t (table.terminals j))
   pub composer : composers.StandsFor s c (asked_at t (table.terminals j) (answer_at s j t (table.terminals j)))
   pub slots_stand : slots.StandsFor s after (answered j (answer_at s j t (table.terminals j)) table)
-  pub due_is : due ≡ has_text_in (s.gens j) (sent_by s.mixer (table.terminals j))
+  pub due_is : due ≡ has_text_in (s.gens j) (sent_from s.mixer (table.terminals j))
   pub sends_is : sends ≡ (gave || (asked && due))
 
 -- where a packet may be sent again
@@ -76,7 +76,7 @@ spaced_is spacing t None = le-leb 0 t (omega arith)
 spaced_is spacing t (Some m) = refl
 
 pub asked_of : (s : Setup) (pts : Pts) (j t : ℕ) (o : UnawareState) (d : Terminal) → StandsFor s pts j o d → nat_le o.free_at t ≡ is_asked s t d
-asked_of s pts j t o d h = ap (λ (n : ℕ). nat_le n t) h.free ∙ spaced_is s.spacing t (last_media (sent_by s.mixer d))
+asked_of s pts j t o d h = ap (λ (n : ℕ). nat_le n t) h.free ∙ spaced_is s.spacing t (last_media (sent_from s.mixer d))
 
 -- the premises of an ask of the composer
 pub is_asked_so : (s : Setup) (pts : Pts) (j : ℕ) (table : Table) (now t : ℕ) (o : UnawareState) (waiting : List Waiting) (called : List (List ℕ)) → IsTurn s pts j table o waiting called now t
@@ -101,7 +101,7 @@ pub told : (s : Setup) (pts : Pts) (j : ℕ) (table : Table) (t : ℕ) (o : Unaw
     → text ≡ text_given (given_now s table o.composer t asked (table.terminals j).asks)
     → composers.StandsFor s c (asked_now s table o.composer t asked (table.terminals j).asks)
     → slots.StandsFor s after (answered o.composer.own (given_now s table o.composer t asked (table.terminals j).asks) table)
-    → due ≡ has_text_in (s.gens j) (sent_by s.mixer (table.terminals j))
+    → due ≡ has_text_in (s.gens j) (sent_from s.mixer (table.terminals j))
     → sends ≡ (gave || (asked && due)) → Told s j t table asked gave due sends text c after
 told s pts j table t o asked gave due sends text c after h a g x p w d b =
     let asked_is = a ∙ asked_of s pts j t o (table.terminals j) h in
@@ -124,9 +124,9 @@ pub added_here : (s : Setup) (j now t : ℕ) (table : Table) (asked gave due sen
 added_here s j now t table asked gave due sends text c after h =
     let d = table.terminals j in
     let o = answer_at s j t d in
-    let is : sends ≡ (is_some o || (is_asked s t d && has_text_in (s.gens j) (sent_by s.mixer d))) = h.sends_is ∙ (λ r. h.given r || (h.asked_is r && h.due_is r)) in
+    let is : sends ≡ (is_some o || (is_asked s t d && has_text_in (s.gens j) (sent_from s.mixer d))) = h.sends_is ∙ (λ r. h.given r || (h.asked_is r && h.due_is r)) in
     subst (λ (b : Bool). Added s t d.past (turned_here s j now t table).past text b) (sym is)
-    (subst (λ (x : List ℕ). Added s t d.past (turned_here s j now t table).past x (is_some o || (is_asked s t d && has_text_in (s.gens j) (sent_by s.mixer d)))) (sym h.text_is) (added s j now t d o))
+    (subst (λ (x : List ℕ). Added s t d.past (turned_here s j now t table).past x (is_some o || (is_asked s t d && has_text_in (s.gens j) (sent_from s.mixer d)))) (sym h.text_is) (added s j now t d o))
 
 pub waits_stand : (s : Setup) (j now t : ℕ) (table : Table) (asked gave due sends : Bool) (text : List ℕ) (c : ComposerState) (after : List Waiting) → Told s j t table asked gave due sends text c after
     → slots.StandsFor s after (with_terminal j (turned_here s j now t table) table)

@@ -6,7 +6,7 @@ use Rattle.stream_spec.specs.Own.{Sent, sent_of, has_text_in}
 use Rattle.mixer_spec.specs.Chunks.{has_chunk}
 use Rattle.mixer_spec.specs.Rounds.{all_below}
 use Rattle.mixer_spec.specs.Setups.{Setup}
-use Rattle.mixer_spec.specs.Table.{Terminal, sents, sent_by, has_work, is_quiet}
+use Rattle.mixer_spec.specs.Table.{Terminal, sents, sent_from, has_work, is_quiet}
 pub use Rattle.outlet.proofs.Below.{fails_at, all_more, no_text}
 use Rattle.outlet.specs.UnawareStanding.{AreBy, StandsFor, none_here}
 use Rattle.rtt_base.specs.declared.text_packets.Pts.{Pts}
@@ -37,7 +37,7 @@ all_same p q zero f = refl
 all_same p q (suc n) f = rw (f n (omega arith), all_same p q n (λ i l. f i (omega arith))) refl
 
 pub quiet_is : (s : Setup) (pts : Pts) (j : ℕ) (o : UnawareState) (d : Terminal) → StandsFor s pts j o d
-    → is_quiet s j d ≡ (not (has_text_in (s.gens j) (sent_by s.mixer d)) && all_below (none_here j d) s.legs)
+    → is_quiet s j d ≡ (not (has_text_in (s.gens j) (sent_from s.mixer d)) && all_below (none_here j d) s.legs)
 quiet_is s pts j o d h =
-    ap (λ (b : Bool). not (has_text_in (s.gens j) (sent_by s.mixer d)) && b)
+    ap (λ (b : Bool). not (has_text_in (s.gens j) (sent_from s.mixer d)) && b)
     (all_same (λ i. (i == j) || not (has_work s j d i)) (none_here j d) s.legs (λ i l. ap (λ (b : Bool). (i == j) || not b) (work_is s pts j o d i h l)))

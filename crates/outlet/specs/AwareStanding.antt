@@ -2,7 +2,7 @@
 use Rattle.std.specs.Prelude.{◌≡◌, ℕ, ◌<◌, true, List, [], length, slice_index}
 use Rattle.rtt_base.specs.declared.text_packets.Pts.{Pts}
 use Rattle.mixer_spec.specs.Setups.{Setup, IsSetup}
-use Rattle.mixer_spec.specs.Table.{Terminal, sents, sent_by, last_media, round_start, is_quiet}
+use Rattle.mixer_spec.specs.Table.{Terminal, sents, sent_from, last_media, round_start, is_quiet}
 use Rattle.aware_output.specs.declared.outputs.OutConf.{OutConf}
 use Rattle.aware_output.specs.Standing.{source_at}
 use Rattle.aware_output.specs.Standing as outputs
@@ -25,9 +25,9 @@ pub record StandsFor (s : Setup) (pts : Pts) (j : ℕ) (o : AwareState) (d : Ter
   pub are : AreSources s sources
   pub output : outputs.StandsFor (conf_at s pts j) sources o.output (sents d.past)
   pub legs : length o.free_at ≡ s.legs
-  pub free : (i : ℕ) → i < s.legs → slice_index o.free_at i ≡ free_after s.spacing (last_media (sent_by (s.ssrc i) d))
+  pub free : (i : ℕ) → i < s.legs → slice_index o.free_at i ≡ free_after s.spacing (last_media (sent_from (s.ssrc i) d))
   pub next : o.next ≡ round_start d.past
-  pub none_mixed : sent_by s.mixer d ≡ []
+  pub none_mixed : sent_from s.mixer d ≡ []
   pub rests : o.quiet ≡ true → is_quiet s j d ≡ true
 
 -- An outlet of the terminal j with this stream, to these sources, with this spacing, is one of this setup.

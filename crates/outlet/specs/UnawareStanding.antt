@@ -6,7 +6,7 @@ use Rattle.stream_spec.specs.Own.{Sent, packet_after}
 use Rattle.mixer_spec.specs.Chunks.{has_chunk}
 use Rattle.mixer_spec.specs.Setups.{Setup, IsSetup, stream}
 use Rattle.mixer_spec.specs.Laws.{AreTexts}
-use Rattle.mixer_spec.specs.Table.{Terminal, Table, sents, sent_by, last_media, turn_unaware}
+use Rattle.mixer_spec.specs.Table.{Terminal, Table, sents, sent_from, last_media, turn_unaware}
 use Rattle.aware_output.specs.declared.outputs.OutConf.{OutConf}
 use Rattle.aware_output.specs.Confs.{stream_of}
 use Rattle.aware_output.specs.Standing as outputs
@@ -30,7 +30,7 @@ pub record StandsFor (s : Setup) (pts : Pts) (j : ℕ) (o : UnawareState) (d : T
   pub spacing : o.spacing ≡ s.spacing
   pub composer : composers.StandsFor s o.composer d.asks
   pub output : outputs.StandsFor (conf_at s pts j) (s.mixer ∷ []) o.output (sents d.past)
-  pub free : o.free_at ≡ free_after s.spacing (last_media (sent_by s.mixer d))
+  pub free : o.free_at ≡ free_after s.spacing (last_media (sent_from s.mixer d))
   pub by_mixer : AreBy s.mixer (sents d.past)
 
 -- ---- a turn

@@ -4,7 +4,7 @@ ghost use Rattle.stream_spec.specs.Ready.{Chunk};
 ghost use Rattle.mixer_spec.specs.Chunks.{joined, front};
 ghost use Rattle.mixer_spec.specs.Rounds.{first_from};
 ghost use Rattle.mixer_spec.specs.Setups.{Setup, stream};
-ghost use Rattle.mixer_spec.specs.Table.{empty, has_work, is_due, is_due_at, is_quiet, is_spaced, last_media, sent_by, sents, serve, serve_leg, served, turn_aware};
+ghost use Rattle.mixer_spec.specs.Table.{empty, has_work, is_due, is_due_at, is_quiet, is_spaced, last_media, sent_from, sents, serve, serve_leg, served, turn_aware};
 ghost use Rattle.slot_table.specs.Standing.{Tells, Leads};
 ghost use Rattle.slot_table.specs.Words.{fetched};
 ghost use Rattle.aware_output.specs.Confs.{IsConf};
@@ -98,7 +98,7 @@ impl AwareOutlet {
     /// Whether a packet of the leg may be sent at this media time, as far as its last packet goes.
     fn is_spaced(&self, leg: usize, media: u64) -> bool
         requires { leg < length self.now.free_at }
-        ensures { AtTerminal self.now (λ s pts d. result ≡ is_spaced s.spacing media (last_media (sent_by (s.ssrc leg) d))) }
+        ensures { AtTerminal self.now (λ s pts d. result ≡ is_spaced s.spacing media (last_media (sent_from (s.ssrc leg) d))) }
     {
         self.free_at[leg] <= media
     }
