@@ -5,3 +5,4 @@ pub mod Flags
 pub mod Written
 pub mod Asking
 pub mod Turning
+pub mod Passing

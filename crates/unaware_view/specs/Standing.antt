@@ -1,5 +1,5 @@
 -- What a composer stands for: the asks so far (profile).
-use Rattle.std.specs.Prelude.{◌≡◌, ℕ, ◌+◌, ◌<◌, ◌==◌, Bool, not, ◌||◌, Option, None, Some, List, [], ◌∷◌, length, slice_index_or}
+use Rattle.std.specs.Prelude.{◌≡◌, ℕ, ◌+◌, ◌<◌, ◌==◌, Bool, false, not, ◌||◌, Option, None, Some, List, [], ◌∷◌, length, slice_index_or}
 use Rattle.text_spec.specs.Ends.{ends_line}
 use Rattle.stream_spec.specs.Ready.{Chunk}
 use Rattle.mixer_spec.specs.Chunks.{joined, has_chunk}
@@ -7,7 +7,7 @@ use Rattle.mixer_spec.specs.Rounds.{set_at}
 use Rattle.mixer_spec.specs.Setups.{Setup}
 use Rattle.mixer_spec.specs.Table.{Terminal, Table}
 use Rattle.mixer_spec.specs.Laws.{AreTexts}
-use Rattle.mixer_spec.specs.Composed.{Given, Asked, answer, latest, text_given, run_of, given_at, since}
+use Rattle.mixer_spec.specs.Composed.{Given, Asked, answer, latest, text_given, run_of, given_at, since, waits_here}
 use Rattle.slot_table.specs.Lanes.{Waiting}
 use Rattle.slot_table.specs.Standing as slots
 use Rattle.unaware_view.specs.declared.composers.Current.{Current}
@@ -91,3 +91,7 @@ left_after g d = record { past = d.past; asks = d.asks; waits = set_at d.waits g
 abbrev pub answered : ℕ → Option Given → Table → Table
 answered own None table = table
 answered own (Some g) table = record table { terminals = set_at table.terminals own (left_after g (table.terminals own)) }
+
+-- no other leg than its own waits at the terminal
+abbrev pub NoneWaits : Setup → Table → State → Type 0
+NoneWaits s table c = (i : ℕ) → i < s.legs → waits_here c.own (waiting table c) i ≡ false

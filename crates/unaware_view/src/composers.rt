@@ -1,5 +1,5 @@
 //! The composer of one terminal.
-ghost use Rattle.std.specs.Prelude.{◌≡◌, ℕ, ◌+◌, ◌-◌, ◌*◌, ◌<◌, ◌≤◌, ◌==◌, ◌&&◌, ◌||◌, ◌^◌, false, List, [], length, IfOk, IfSome, Some, None, is_some};
+ghost use Rattle.std.specs.Prelude.{◌≡◌, ℕ, ◌+◌, ◌-◌, ◌*◌, ◌<◌, ◌≤◌, ◌==◌, ◌&&◌, ◌||◌, ◌^◌, Bool, false, List, [], length, IfOk, IfSome, Some, None, is_some};
 ghost use Rattle.labels.specs.Labels.{label_on};
 ghost use Rattle.stream_spec.specs.Ready.{Chunk};
 ghost use Rattle.mixer_spec.specs.Chunks.{front, joined};
@@ -11,7 +11,7 @@ ghost use Rattle.slot_table.specs.Words.{fetched};
 ghost use Rattle.unaware_view.specs.Runs.{GoesOn, IsRun};
 ghost use Rattle.unaware_view.specs.declared.runs.Run.{Run};
 ghost use Rattle.unaware_view.specs.Choices.{IsBelow, begins, choice, is_left, speaker_of};
-ghost use Rattle.unaware_view.specs.Standing.{IsAsked, OfAsks, StandsFor, answered, asked_now, given_now, legs_of, next_ask, own_of};
+ghost use Rattle.unaware_view.specs.Standing.{IsAsked, NoneWaits, OfAsks, StandsFor, answered, asked_now, given_now, legs_of, next_ask, own_of};
 ghost use Rattle.mixer_spec.specs.Composed.{Asked, text_given};
 ghost use Rattle.unaware_view.specs.Giving.{Gives, GivesRun, remembered, waits_of};
 
@@ -181,6 +181,19 @@ impl Composer {
         note(&mut self.since, &self.waits, given, media);
         self.remember(given, media, text);
         given.is_some()
+    }
+
+    /// One ask, at a turn of this media time in milliseconds, at which no other leg waits at the terminal, so that nothing is
+    /// given.
+    pub fn pass(&mut self, media: u64)
+        requires rises { next_ask self.old ≤ media }
+        requires media { media < 2 ^ 54 }
+        ensures stands { (s : Setup) (table : Table) (due : Bool) (asks : List Asked) → StandsFor s self.old asks
+            → NoneWaits s table self.old → StandsFor s self.new (asked_now s table self.old media due asks) }
+        ensures same { (own_of self.new ≡ own_of self.old) × (legs_of self.new ≡ legs_of self.old) }
+        ensures next { next_ask self.new ≡ media + 1 }
+    {
+        self.asked = media + 1;
     }
 
     /// Remembers what was given at this media time, if anything was.
