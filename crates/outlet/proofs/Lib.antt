@@ -4,6 +4,7 @@ pub mod AwareLooking
 pub mod AwareServing
 pub mod AwareRounding
 pub mod AwareResting
+pub mod UnawareAsking
 pub mod UnawareTurning
 pub mod UnawareWaiting
 pub mod Turning

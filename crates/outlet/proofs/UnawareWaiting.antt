@@ -1,10 +1,11 @@
 -- What waits at a terminal that is not aware, and what is still to be repeated there.
 use Rattle.std.proofs.Common.{◌≡◌, ℕ, zero, suc, ◌<◌, Bool, true, false, not, ◌&&◌, ◌||◌, List, [], ◌∷◌, refl, ap, sym, ◌∙◌, arith}
 use Rattle.std.specs.Prelude.{◌==◌}
-use Rattle.std.proofs.lemmas.Bool.{eq-eqb, ne_eqb}
+use Rattle.std.proofs.lemmas.Bool.{ne_eqb}
 use Rattle.stream_spec.specs.Own.{Sent, sent_of, has_text_in}
 use Rattle.mixer_spec.specs.Chunks.{has_chunk}
 use Rattle.mixer_spec.specs.Rounds.{all_below}
+use Rattle.mixer_spec.specs.Composed.{waits_here}
 use Rattle.mixer_spec.specs.Setups.{Setup}
 use Rattle.mixer_spec.specs.Table.{Terminal, sents, sent_from, has_work, is_quiet}
 pub use Rattle.outlet.proofs.Below.{fails_at, all_more, no_text}
@@ -16,11 +17,6 @@ use Rattle.outlet.specs.UnawareStates.{UnawareState}
 pub none_of : (source x : ℕ) (es : List Sent) → AreBy source es → (x ≡ source → ⊥) → sent_of x es ≡ []
 none_of source x [] h n = refl
 none_of source x (e ∷ es) h n = rw (ne_eqb e.source x (λ q. n (sym q ∙ h.0))) (none_of source x es h.1 n)
-
--- all was sent of this source
-pub all_of : (source : ℕ) (es : List Sent) → AreBy source es → sent_of source es ≡ es
-all_of source [] h = refl
-all_of source (e ∷ es) h = rw (eq-eqb e.source source h.0) (ap (λ (xs : List Sent). e ∷ xs) (all_of source es h.1))
 
 or_none : (b : Bool) → (b || false) ≡ b
 or_none true = refl
@@ -41,3 +37,12 @@ pub quiet_is : (s : Setup) (pts : Pts) (j : ℕ) (o : UnawareState) (d : Termina
 quiet_is s pts j o d h =
     ap (λ (b : Bool). not (has_text_in (s.gens j) (sent_from s.mixer d)) && b)
     (all_same (λ i. (i == j) || not (has_work s j d i)) (none_here j d) s.legs (λ i l. ap (λ (b : Bool). (i == j) || not b) (work_is s pts j o d i h l)))
+
+-- nothing waits of a leg of which nothing is here
+pub none_false : (own : ℕ) (d : Terminal) (i : ℕ) → none_here own d i ≡ true → waits_here own d.waits i ≡ false
+none_false own d i e = go (i == own) (has_chunk (d.waits i)) e
+  where
+    go : (a b : Bool) → (a || not b) ≡ true → (not a && b) ≡ false
+    go true b q = refl
+    go false true q = cc
+    go false false q = refl

@@ -5,7 +5,7 @@ use Rattle.outlet.specs.declared.unaware.UnawareOutlet.TheInside.{Inside}
 use Rattle.outlet.specs.UnawareStates.{UnawareState}
 
 abbrev pub state_of : Inside → UnawareState
-state_of o = record { composer = o.composer; output = o.output; spacing = o.spacing; free_at = o.free_at }
+state_of o = record { composer = o.composer; output = o.output; spacing = o.spacing; free_at = o.free_at; none_waits = o.none_waits }
 
 -- its own leg and the number of legs are those of the composer, and the output has one source
 pub record IsSound (o : Inside) : Type 0 where

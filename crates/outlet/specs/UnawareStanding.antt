@@ -1,9 +1,10 @@
 -- What the outlet of a terminal that is not aware stands for (profile).
-use Rattle.std.specs.Prelude.{◌≡◌, ◌+◌, ◌<◌, ◌==◌, ◌||◌, not, ℕ, Bool, true, List, [], ◌∷◌}
+use Rattle.std.specs.Prelude.{◌≡◌, ◌+◌, ◌<◌, ◌==◌, ◌||◌, not, ℕ, Bool, true, false, is_some, List, [], ◌∷◌}
 use Rattle.rtt_base.specs.declared.text_packets.Pts.{Pts}
 use Rattle.wire_spec.specs.SentPackets.{packet_written}
 use Rattle.stream_spec.specs.Own.{Sent, packet_after}
 use Rattle.mixer_spec.specs.Chunks.{has_chunk}
+use Rattle.mixer_spec.specs.Composed.{Asked, text_given, waits_here}
 use Rattle.mixer_spec.specs.Setups.{Setup, IsSetup, stream}
 use Rattle.mixer_spec.specs.Laws.{AreTexts}
 use Rattle.mixer_spec.specs.Table.{Terminal, Table, sents, sent_from, last_media, turn_unaware}
@@ -13,7 +14,9 @@ use Rattle.aware_output.specs.Standing as outputs
 use Rattle.slot_table.specs.Lanes.{Waiting}
 use Rattle.slot_table.specs.Standing as slots
 use Rattle.unaware_view.specs.Standing as composers
-use Rattle.unaware_view.specs.Standing.{name_at}
+use Rattle.unaware_view.specs.Standing.{name_at, given_now, asked_now, answered, NoneWaits}
+use Rattle.unaware_view.specs.Standing.{own_of as own_of_composer}
+use Rattle.unaware_view.specs.States.{State as ComposerState}
 use Rattle.outlet.specs.Turns.{conf_at, free_after, SendsNext}
 use Rattle.outlet.specs.UnawareStates.{UnawareState, own_of}
 
@@ -32,6 +35,7 @@ pub record StandsFor (s : Setup) (pts : Pts) (j : ℕ) (o : UnawareState) (d : T
   pub output : outputs.StandsFor (conf_at s pts j) (s.mixer ∷ []) o.output (sents d.past)
   pub free : o.free_at ≡ free_after s.spacing (last_media (sent_from s.mixer d))
   pub by_mixer : AreBy s.mixer (sents d.past)
+  pub rests : o.none_waits ≡ true → (i : ℕ) → i < s.legs → waits_here j d.waits i ≡ false
 
 -- ---- a turn
 -- the terminal j after a turn at the moment `now`, with the media time t
@@ -59,6 +63,21 @@ OfTerminals o waiting P = (s : Setup) (pts : Pts) (j : ℕ) (table : Table) → 
 -- nothing of the leg waits at the terminal, or it is its own
 abbrev pub none_here : ℕ → Terminal → ℕ → Bool
 none_here own d i = (i == own) || not (has_chunk (d.waits i))
+
+-- ---- an ask
+-- The composer, asked so, was asked once more, where text could be given or not: it gave this text or none, as the
+-- definition does, and these are the outlet and the slots then.
+pub record Composes (s : Setup) (table : Table) (c : ComposerState) (t : ℕ) (due : Bool) (asks : List Asked) (gave : Bool) (text : List ℕ) (new : UnawareState) (after : List Waiting) : Type 0 where
+  pub given : gave ≡ is_some (given_now s table c t due asks)
+  pub text_is : text ≡ text_given (given_now s table c t due asks)
+  pub composer : composers.StandsFor s new.composer (asked_now s table c t due asks)
+  pub slots_stand : slots.StandsFor s after (answered (own_of_composer c) (given_now s table c t due asks) table)
+  pub rests : new.none_waits ≡ true → NoneWaits s (answered (own_of_composer c) (given_now s table c t due asks) table) c
+
+-- of all that it may have been asked, where nothing waits if that is known
+abbrev pub OfAsks : UnawareState → List Waiting → List (List ℕ) → (Setup → Table → List Asked → Type 0) → Type 0
+OfAsks o waiting called P = (s : Setup) (table : Table) (asks : List Asked) → composers.IsAsked s table o.composer waiting called asks
+    → (o.none_waits ≡ true → NoneWaits s table o.composer) → P s table asks
 
 -- ---- a packet
 abbrev pub sent_now : ℕ → ℕ → List ℕ → Sent

@@ -1,15 +1,17 @@
 -- What is kept of a terminal that is not aware.
-use Rattle.std.specs.Prelude.{ℕ}
+use Rattle.std.specs.Prelude.{ℕ, Bool}
 use Rattle.unaware_view.specs.States.{State as ComposerState}
 use Rattle.unaware_view.specs.Standing as composers
 use Rattle.aware_output.specs.States.{State as OutputState}
 
--- its composer and its output, the spacing, and from when a packet may be sent again
+-- its composer and its output, the spacing, from when a packet may be sent again, and whether it is known that nothing of
+-- another leg waits
 pub record UnawareState : Type 0 where
   pub composer : ComposerState
   pub output : OutputState
   pub spacing : ℕ
   pub free_at : ℕ
+  pub none_waits : Bool
 
 abbrev pub own_of : UnawareState → ℕ
 own_of o = o.composer.own

@@ -111,8 +111,9 @@ impl Outlet {
         ensures same { (own_of self.new ≡ own_of self.old) × (legs_of self.new ≡ legs_of self.old) }
         ensures next { next_turn self.new ≡ next_turn self.old }
     {
-        if let Outlet::Aware(outlet) = self {
-            outlet.wake();
+        match self {
+            Outlet::Aware(outlet) => outlet.wake(),
+            Outlet::Unaware(outlet) => outlet.wake(),
         }
     }
 }

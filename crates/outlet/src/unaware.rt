@@ -2,16 +2,17 @@
 ghost use Rattle.std.specs.Prelude.{◌≡◌, ℕ, ◌+◌, ◌^◌, ◌<◌, ◌≤◌, ◌&&◌, ◌||◌, List, [], ◌∷◌, length, IfOk, nat_le, not};
 ghost use Rattle.rtt_base.specs.declared.text_packets.Pts.{Pts};
 ghost use Rattle.stream_spec.specs.Own.{Sent};
+ghost use Rattle.stream_spec.specs.Ready.{Chunk};
 ghost use Rattle.mixer_spec.specs.Setups.{Setup, IsSetup, stream};
 ghost use Rattle.mixer_spec.specs.Rounds.{all_below};
-ghost use Rattle.mixer_spec.specs.Table.{empty, has_work, is_quiet, new_packet};
+ghost use Rattle.mixer_spec.specs.Table.{Terminal, empty, has_work, is_quiet, new_packet};
 ghost use Rattle.aware_output.specs.Confs.{IsConf, stream_of};
 ghost use Rattle.aware_output.specs.Speakers.{IsNext};
 ghost use Rattle.aware_output.specs.Standing as outputs;
 ghost use Rattle.slot_table.specs.Standing.{StandsFor as SlotsStandFor, Tells};
 ghost use Rattle.outlet.specs.Turns.{Puts, conf_at, with_terminal};
 ghost use Rattle.outlet.specs.UnawareStates.{legs_of, next_turn, own_of};
-ghost use Rattle.outlet.specs.UnawareStanding.{OfTerminals, OfTurns, Sends, StandsFor, none_here, sent_now, turned_here};
+ghost use Rattle.outlet.specs.UnawareStanding.{Composes, OfAsks, OfTerminals, OfTurns, Sends, StandsFor, none_here, sent_now, turned_here};
 
 use aware_output::{OutConf, Output};
 use rtt_base::{Name, NoMemory, Packet, Text};
@@ -32,6 +33,8 @@ pub struct UnawareOutlet {
     output: Output,
     /// From when a packet may be sent again, in milliseconds of media time.
     free_at: u64,
+    /// Whether it is known that nothing of another leg waits at the terminal.
+    none_waits: bool,
 }
 
 impl Model for UnawareOutlet {
@@ -73,6 +76,7 @@ impl UnawareOutlet {
             composer,
             output,
             free_at: 0,
+            none_waits: true,
         })
     }
 
@@ -122,12 +126,54 @@ impl UnawareOutlet {
     {
         out.clear();
         let is_asked = has_come(self.free_at, media);
-        let gave = self.composer.turn(media, is_asked, names, slots, text);
+        let gave = self.ask(media, is_asked, names, slots, text);
         let is_sent = or_repeats(gave, is_asked, self.output.due(0));
         if !is_sent {
             return false;
         }
         self.send(media, text, out)
+    }
+
+    /// Asks the composer at this media time for text, where some may be given.
+    fn ask(
+        &mut self,
+        media: u64,
+        is_asked: bool,
+        names: &[Name],
+        slots: &mut Slots,
+        text: &mut Text,
+    ) -> bool
+        requires slots { length slots.old ≡ legs_of self.old }
+        requires names { length names.now ≡ legs_of self.old }
+        requires rises { next_turn self.old ≤ media }
+        requires media { media < 2 ^ 48 }
+        ensures composes { OfAsks self.old slots.old names.now (λ s table asks.
+            Composes s table self.old.composer media is_asked asks result text.new self.new slots.new) }
+        ensures slots { length slots.new ≡ length slots.old }
+        ensures same { (own_of self.new ≡ own_of self.old) × (legs_of self.new ≡ legs_of self.old) }
+        ensures next { next_turn self.new ≡ media + 1 }
+        ensures output { self.new.output ≡ self.old.output }
+        ensures times { (self.new.spacing ≡ self.old.spacing) × (self.new.free_at ≡ self.old.free_at) }
+    {
+        if self.none_waits {
+            self.composer.pass(media);
+            text.clear();
+            return false;
+        }
+        let gave = self.composer.turn(media, is_asked, names, slots, text);
+        let none_waits = is_empty(self.own, slots, self.legs);
+        self.none_waits = none_waits;
+        gave
+    }
+
+    /// Is called where a chunk is given to the terminal, which then waits there.
+    pub fn wake(&mut self)
+        ensures stands { (s : Setup) (pts : Pts) (j : ℕ) (d : Terminal) (waits : ℕ → List Chunk) → StandsFor s pts j self.old d
+            → StandsFor s pts j self.new (record d { waits = waits }) }
+        ensures same { (own_of self.new ≡ own_of self.old) × (legs_of self.new ≡ legs_of self.old) }
+        ensures next { next_turn self.new ≡ next_turn self.old }
+    {
+        self.none_waits = false;
     }
 
     /// Sends the text at this media time.
@@ -139,6 +185,7 @@ impl UnawareOutlet {
             → Sends conf source self.old.spacing self.new past (sent_now source media text.now) result out.new }
         ensures composer { self.new.composer ≡ self.old.composer }
         ensures spacing { self.new.spacing ≡ self.old.spacing }
+        ensures waits { self.new.none_waits ≡ self.old.none_waits }
     {
         let octets = text.as_slice();
         let Ok(()) = self.output.packet(media, 0, octets, out) else {
