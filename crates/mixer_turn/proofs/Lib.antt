@@ -1,0 +1,11 @@
+pub mod Leaving
+pub mod Allowing
+pub mod Sending
+pub mod Waiting
+pub mod Going
+pub mod Rounding
+pub mod Few
+pub mod Turning
+pub mod MayTurns
+pub mod Putting
+pub mod Looping

@@ -1,0 +1,22 @@
+use Rattle.std.proofs.Common.{ap, sym, ◌∙◌}
+use Rattle.mixer_turn.proofs.Putting.{filled_more, filled_same}
+use Rattle.mixer_turn.specs.Turns.{batch_with}
+use Rattle.mixer_turn.proofs.batches.Batch.turn_seated.Goals as goal
+
+pub returns-then-put-clause-put : goal.returns-then-put-clause-put
+returns-then-put-clause-put c = λ s pts j table now i. record {
+  put = c.turn_into-put.result;
+  out = c.turn_into-put.new.post.packet;
+  turned = c.turn_into-put.ensures.turned s pts j table now i;
+  batch = filled_more c.self.inside.places.items c.self.inside.len c.args.leg c.turn_into-put.new.post c.args.self.now (sym c.self.view_is) c.self.invariant.places c.self.invariant.filled c.requires.room c.turn_into-put.ensures.terminal
+      ∙ ap (λ b. batch_with b c.args.leg c.turn_into-put.new.post.packet c.args.self.now) (sym c.if-put.true);
+}
+
+pub returns-else-put-clause-put : goal.returns-else-put-clause-put
+returns-else-put-clause-put c = λ s pts j table now i. record {
+  put = c.turn_into-put.result;
+  out = c.turn_into-put.new.post.packet;
+  turned = c.turn_into-put.ensures.turned s pts j table now i;
+  batch = filled_same c.self.inside.places.items c.self.inside.len c.turn_into-put.new.post c.args.self.now (sym c.self.view_is)
+      ∙ ap (λ b. batch_with b c.args.leg c.turn_into-put.new.post.packet c.args.self.now) (sym c.if-put.false);
+}

@@ -1,0 +1,15 @@
+use Rattle.mixer_turn.proofs.laws.chunks_go_once.Goals as goal
+use Rattle.mixer_turn.proofs.Waiting.{part}
+use Rattle.mixer_turn.proofs.Going.{accepted_law, sent_law, idle_law}
+
+pub returns-clause-taken : goal.returns-clause-taken
+returns-clause-taken c = accepted_law
+
+pub returns-clause-sent : goal.returns-clause-sent
+returns-clause-sent c = sent_law
+
+pub returns-clause-idle : goal.returns-clause-idle
+returns-clause-idle c = idle_law
+
+pub returns-clause-part : goal.returns-clause-part
+returns-clause-part c = λ s calls j i a. part s calls a j i

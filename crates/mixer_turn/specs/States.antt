@@ -1,0 +1,23 @@
+-- What is known of a mixer.
+use Rattle.std.specs.Prelude.{ℕ, ◌+◌, Option, None, Some, List, length}
+use Rattle.slot_table.specs.Lanes.{Waiting}
+use Rattle.seating.specs.States as seatings
+use Rattle.outlet.specs.declared.outlets.Outlet.{Outlet}
+
+-- who holds which place, what waits, the outlet and the name of each leg, the media time of the last turn, and how many
+-- turns were made
+pub record State : Type 0 where
+  pub seating : seatings.State
+  pub slots : List Waiting
+  pub outlets : List Outlet
+  pub names : List (List ℕ)
+  pub media : Option ℕ
+  pub turns : ℕ
+
+abbrev pub legs_of : State → ℕ
+legs_of m = length m.outlets
+
+-- the least media time of the turn after one at this media time
+abbrev pub least_media : Option ℕ → ℕ
+least_media None = 0
+least_media (Some t) = t + 1
