@@ -1,0 +1,10 @@
+pub mod Lists
+pub mod Places
+pub mod Leaving
+pub mod Offering
+pub mod Reaching
+pub mod Walking
+pub mod Logging
+pub mod Turning
+pub mod Finding
+pub mod Outs

@@ -1,0 +1,222 @@
+-- Steps of a mixing, whatever the legs still give.
+use Rattle.std.proofs.Common.{◌≡◌, ◌<◌, ℕ, Bool, true, false, true≢false, cond, not, inl, inr, Option, Some, None, List, ◌++◌, length, set, refl, ap, sym, subst, ◌∙◌, arith}
+use Rattle.std.specs.Prelude.{◌&&◌, is_some, slice_get}
+use Rattle.std.proofs.lemmas.Bool.{cases_eq}
+use Rattle.stream_spec.specs.Ready.{Chunk, chunk_of}
+use Rattle.mixer_spec.specs.Rounds.{set_at}
+use Rattle.mixer_spec.specs.Setups.{Setup}
+use Rattle.mixer_spec.specs.Table.{Table, Terminal, Seats, Call, departed, stopped, entered}
+use Rattle.mixer_spec.specs.Legs.{held}
+use Rattle.mixer_spec.specs.Core.{gone}
+use Rattle.mixer_spec.specs.Plain.{Desk, left_over, table_after, offers, goes}
+use Rattle.mixer_spec.proofs.Lists.{set_same, set_other}
+use Rattle.mixer_spec.proofs.Kept.{departed_same, stopped_same, entered_same}
+use Rattle.mix_loop.specs.declared.ports.Seat.{Seat}
+use Rattle.mix_loop.specs.declared.ports.Seat.TheVariants.{Away, Listens, Hushed, Left}
+use Rattle.mix_loop.specs.declared.ports.Port.{Port}
+use Rattle.mix_loop.specs.Items.{Gave, is_open}
+use Rattle.mix_loop.specs.Mixers.{At}
+use Rattle.mix_loop.specs.Ports.{MayCome, SeatAt, SeatsKept, Gathered, hand_of, hand_with, is_away, is_hushed, is_to_leave}
+use Rattle.mix_loop.specs.Turns.{Known, all_of, desk_of, MayComeAll, Reaches, Settled, KnownAt, AllKnown, IsNow, BecomesBy, comes}
+use Rattle.mix_loop.proofs.Lists.{funext, get_set_same, get_set_other, set_length}
+use Rattle.mix_loop.proofs.Places.{gone_still}
+
+-- ---- one step behind the other
+pub reaches_none : (kn : ℕ → Known) (table : Table) → Reaches (λ d. d) kn table kn table
+reaches_none kn table = record { goes = λ rest may. (rest, may, refl, refl); pasts = λ j. refl }
+
+pub reaches_more : (f g : Desk → Desk) (kn kn1 kn2 : ℕ → Known) (table table1 table2 : Table) → Reaches f kn table kn1 table1 → Reaches g kn1 table1 kn2 table2 → Reaches (λ d. g (f d)) kn table kn2 table2
+reaches_more f g kn kn1 kn2 table table1 table2 a b = record {
+  goes = λ rest may.
+      let y = b.goes rest may in
+      let x = a.goes y.0 y.1 in
+      (x.0, x.1, x.2 ∙ y.2, ap g x.3 ∙ y.3);
+  pasts = λ j. b.pasts j ∙ a.pasts j;
+}
+
+-- ---- one leg goes
+-- whatever it has left to offer, it leaves where nothing is left
+gone_is : {I : Type 0} (s : Setup) (i : ℕ) (table : Table) (p : Port I) → SeatAt table.seats i p.seat → (hand : Option Chunk) → hand_of p ≡ hand → (rest : List Chunk) → MayCome p.ended rest
+    → (is_away p.seat ≡ false → hand ≡ None → is_open p.ended ≡ false) → gone s i (held hand ++ rest) table ≡ cond {A = Table} (is_to_leave p) (departed s i table) table
+gone_is s i table p seat hand is rest may settled = go (is_hushed p.seat) p.full (is_open p.ended) refl refl refl
+  where
+    not_away : (x : Seat) → is_hushed x ≡ true → is_away x ≡ false
+    not_away Away e = absurd (true≢false (sym e))
+    not_away Listens e = refl
+    not_away Hushed e = refl
+    not_away Left e = refl
+
+    go : (h f o : Bool) → is_hushed p.seat ≡ h → p.full ≡ f → is_open p.ended ≡ o → gone s i (held hand ++ rest) table ≡ cond {A = Table} (h && (not f && not o)) (departed s i table) table
+    go false f o eh ef eo = gone_still s i table p.seat seat eh (held hand ++ rest)
+    go true true o eh ef eo = ap (λ (x : Option Chunk). gone s i (held x ++ rest) table) (sym is ∙ ap (λ b. hand_with b (chunk_of p.hand)) ef)
+    go true false o eh ef eo = spent o eo (sym is ∙ ap (λ b. hand_with b (chunk_of p.hand)) ef) (not_away p.seat eh)
+      where
+        spent : (o : Bool) → is_open p.ended ≡ o → hand ≡ None → is_away p.seat ≡ false → gone s i (held hand ++ rest) table ≡ cond {A = Table} (not o) (departed s i table) table
+        spent true eo n a = absurd (true≢false (sym eo ∙ settled a n))
+        spent false eo n a = ap (λ (v : Option Chunk × List Chunk). gone s i (held v.0 ++ v.1) table) (λ ι. (n ι, may eo ι))
+
+-- only its seat is another
+abbrev pub seated : Known → Seat → Known
+seated x seat = record { gave = x.gave; hand = x.hand; seat = seat }
+
+module _ (kn : ℕ → Known) (i : ℕ) (seat : Seat) where
+  abbrev with_seat : ℕ → Known
+  with_seat = set_at kn i (seated (kn i) seat)
+
+  same_gave : (j : ℕ) → (with_seat j).gave ≡ (kn j).gave
+  same_gave j = elim (cases_eq j i) [
+    | inl same ↦ ap (λ (k : Known). k.gave) (set_same kn i (seated (kn i) seat) j same) ∙ ap (λ m. (kn m).gave) (sym same)
+    | inr other ↦ ap (λ (k : Known). k.gave) (set_other kn i (seated (kn i) seat) j other)
+  ]
+
+  same_hand : (j : ℕ) → (with_seat j).hand ≡ (kn j).hand
+  same_hand j = elim (cases_eq j i) [
+    | inl same ↦ ap (λ (k : Known). k.hand) (set_same kn i (seated (kn i) seat) j same) ∙ ap (λ m. (kn m).hand) (sym same)
+    | inr other ↦ ap (λ (k : Known). k.hand) (set_other kn i (seated (kn i) seat) j other)
+  ]
+
+  may_same : (rest : ℕ → List Chunk) → MayComeAll with_seat rest → MayComeAll kn rest
+  may_same rest may j = subst (λ (g : Gave). MayCome g.ended (rest j)) (same_gave j) (may j)
+
+  all_same : (rest : ℕ → List Chunk) → all_of kn rest ≡ all_of with_seat rest
+  all_same rest = funext (all_of kn rest) (all_of with_seat rest) (λ j. ap (λ (g : Gave). g.chunks ++ rest j) (sym (same_gave j)))
+
+  left_same : (rest : ℕ → List Chunk) (table : Table) → (desk_of kn rest table).left ≡ (desk_of with_seat rest table).left
+  left_same rest table = funext (desk_of kn rest table).left (desk_of with_seat rest table).left (λ j. ap (λ h. held h ++ rest j) (sym (same_hand j)))
+
+  pub settled_same : Settled kn → is_away seat ≡ is_away (kn i).seat → Settled with_seat
+  settled_same h away j a n = elim (cases_eq j i) [
+    | inl same ↦
+        let was : is_away (kn j).seat ≡ false = ap (λ m. is_away (kn m).seat) same ∙ (sym away ∙ (ap (λ (k : Known). is_away k.seat) (sym (set_same kn i (seated (kn i) seat) j same)) ∙ a)) in
+        ap (λ (g : Gave). is_open g.ended) (same_gave j) ∙ h j was (sym (same_hand j) ∙ n)
+    | inr other ↦
+        let was : is_away (kn j).seat ≡ false = ap (λ (k : Known). is_away k.seat) (sym (set_other kn i (seated (kn i) seat) j other)) ∙ a in
+        ap (λ (g : Gave). is_open g.ended) (same_gave j) ∙ h j was (sym (same_hand j) ∙ n)
+  ]
+
+  pub goes_one : {I : Type 0} (s : Setup) (t : ℕ) (table : Table) (p : Port I) → Settled kn → hand_of p ≡ (kn i).hand → p.ended ≡ (kn i).gave.ended → is_away p.seat ≡ is_away (kn i).seat → SeatAt (stopped s i t table).seats i p.seat
+      → Reaches (goes s t i) kn table with_seat (cond {A = Table} (is_to_leave p) (departed s i (stopped s i t table)) (stopped s i t table))
+  goes_one s t table p h in_hand ended away at_seat = record {
+    goes = λ rest may.
+        let u = stopped s i t table in
+        let after = cond {A = Table} (is_to_leave p) (departed s i u) u in
+        let before = may_same rest may in
+        let here : MayCome p.ended (rest i) = subst (λ e. MayCome e (rest i)) (sym ended) (before i) in
+        let still : is_away p.seat ≡ false → (kn i).hand ≡ None → is_open p.ended ≡ false = λ a n. ap is_open ended ∙ h i (sym away ∙ a) n in
+        let gone_to : gone s i (held (kn i).hand ++ rest i) u ≡ after = gone_is s i u p at_seat (kn i).hand in_hand (rest i) here still in
+        (rest, before, all_same rest, λ ι. record { left = left_same rest table ι; table = gone_to ι });
+    pasts = λ j.
+        let u = stopped s i t table in
+        ap (λ (f : ℕ → Terminal). (f j).past) (left_pasts u (is_to_leave p) ∙ (stopped_same s i t table).terminals);
+  }
+    where
+      left_pasts : (u : Table) (b : Bool) → (cond {A = Table} b (departed s i u) u).terminals ≡ u.terminals
+      left_pasts u true = (departed_same s i u).terminals
+      left_pasts u false = refl
+
+  pub comes_one : (s : Setup) (t : ℕ) (table : Table) → Reaches (comes s t i) kn table with_seat (entered s i t table)
+  comes_one s t table = record {
+    goes = λ rest may. (rest, may_same rest may, all_same rest, λ ι. record { left = left_same rest table ι; table = entered s i t table });
+    pasts = λ j. ap (λ (f : ℕ → Terminal). (f j).past) (entered_same s i t table).terminals;
+  }
+
+-- ---- one leg gave more
+-- what may come behind what all legs gave then might have come before
+abbrev pub back : (ℕ → List Chunk) → ℕ → List Chunk → ℕ → List Chunk
+back rest' i more = set_at rest' i more
+
+module _ (kn : ℕ → Known) (i : ℕ) (y : Known) (rest' : ℕ → List Chunk) where
+  pub back_may : MayComeAll (set_at kn i y) rest' → (more : List Chunk) → MayCome (kn i).gave.ended more → MayComeAll kn (back rest' i more)
+  back_may may' more may j = elim (cases_eq j i) [
+    | inl same ↦ subst (λ (v : ℕ × List Chunk). MayCome (kn v.0).gave.ended v.1) (λ ι. (sym same ι, sym (set_same rest' i more j same) ι)) may
+    | inr other ↦ subst (λ (v : Known × List Chunk). MayCome v.0.gave.ended v.1) (λ ι. (set_other kn i y j other ι, sym (set_other rest' i more j other) ι)) (may' j)
+  ]
+
+  pub back_all : (more : List Chunk) → (kn i).gave.chunks ++ more ≡ y.gave.chunks ++ rest' i → all_of kn (back rest' i more) ≡ all_of (set_at kn i y) rest'
+  back_all more is = funext (all_of kn (back rest' i more)) (all_of (set_at kn i y) rest') (λ j. elim (cases_eq j i) [
+    | inl same ↦ subst (λ (m : ℕ). all_of kn (back rest' i more) m ≡ all_of (set_at kn i y) rest' m) (sym same)
+        (ap (λ r. (kn i).gave.chunks ++ r) (set_same rest' i more i refl) ∙ (is ∙ ap (λ (k : Known). k.gave.chunks ++ rest' i) (sym (set_same kn i y i refl))))
+    | inr other ↦ ap (λ (v : Known × List Chunk). v.0.gave.chunks ++ v.1) (λ ι. (sym (set_other kn i y j other) ι, set_other rest' i more j other ι))
+  ])
+
+-- ---- one leg offers
+module _ (s : Setup) (t i : ℕ) (kn : ℕ → Known) (y : Known) (table table' : Table) (rest' : ℕ → List Chunk) (more : List Chunk)
+    (lefts : left_over s i t table (held (kn i).hand ++ more) ≡ held y.hand ++ rest' i) (tables : table_after s i t table (held (kn i).hand ++ more) ≡ table') where
+  abbrev d : Desk
+  d = desk_of kn (back rest' i more) table
+
+  left_i : d.left i ≡ held (kn i).hand ++ more
+  left_i = ap (λ r. held (kn i).hand ++ r) (set_same rest' i more i refl)
+
+  left : (offers s t i d).left ≡ (desk_of (set_at kn i y) rest' table').left
+  left = funext (offers s t i d).left (desk_of (set_at kn i y) rest' table').left (λ j. elim (cases_eq j i) [
+    | inl same ↦ subst (λ (m : ℕ). (offers s t i d).left m ≡ (desk_of (set_at kn i y) rest' table').left m) (sym same)
+        (set_same d.left i (left_over s i t table (d.left i)) i refl ∙ (ap (left_over s i t table) left_i ∙ (lefts ∙ ap (λ (k : Known). held k.hand ++ rest' i) (sym (set_same kn i y i refl)))))
+    | inr other ↦ set_other d.left i (left_over s i t table (d.left i)) j other
+        ∙ ap (λ (v : Known × List Chunk). held v.0.hand ++ v.1) (λ ι. (sym (set_other kn i y j other) ι, set_other rest' i more j other ι))
+  ])
+
+  offers_desk : offers s t i d ≡ desk_of (set_at kn i y) rest' table'
+  offers_desk = λ ι. record { left = left ι; table = (ap (table_after s i t table) left_i ∙ tables) ι }
+
+pub offers_one : (s : Setup) (t i : ℕ) (kn : ℕ → Known) (y : Known) (table table' : Table) → Gathered s i t (kn i).gave (kn i).hand table y.gave y.hand table' → Reaches (offers s t i) kn table (set_at kn i y) table'
+offers_one s t i kn y table table' g = record {
+  goes = λ rest' may'.
+      let r = g.goes (rest' i) (subst (λ (k : Known). MayCome k.gave.ended (rest' i)) (set_same kn i y i refl) (may' i)) in
+      (back rest' i r.0, back_may kn i y rest' may' r.0 r.1, back_all kn i y rest' r.0 r.2, offers_desk s t i kn y table table' rest' r.0 r.3 r.4);
+  pasts = g.pasts;
+}
+
+-- ---- what is known of one leg is another
+seat_kept : (seat : Seat) (i j : ℕ) (old new : Seats) → SeatsKept i old new → (j ≡ i → ⊥) → SeatAt old j seat → SeatAt new j seat
+seat_kept Away i j old new k n h = (k.came j n ∙ h.0, k.place j n ∙ h.1)
+seat_kept Listens i j old new k n h = (k.came j n ∙ h.0, ap is_some (k.place j n) ∙ h.1, k.listens j n ∙ h.2)
+seat_kept Hushed i j old new k n h = (k.came j n ∙ h.0, ap is_some (k.place j n) ∙ h.1, k.listens j n ∙ h.2)
+seat_kept Left i j old new k n h = (k.came j n ∙ h.0, k.place j n ∙ h.1)
+
+pub no_others : (i : ℕ) (old new : Seats) → new ≡ old → SeatsKept i old new
+no_others i old new e = record { place = λ j n. ap (λ (x : Seats). x.place j) e; came = λ j n. ap (λ (x : Seats). x.came j) e; listens = λ j n. ap (λ (x : Seats). x.listens j) e }
+
+pub kept_more : (i : ℕ) (a b c : Seats) → SeatsKept i a b → SeatsKept i b c → SeatsKept i a c
+kept_more i a b c x y = record { place = λ j n. y.place j n ∙ x.place j n; came = λ j n. y.came j n ∙ x.came j n; listens = λ j n. y.listens j n ∙ x.listens j n }
+
+module _ {I : Type 0} (stands : I → I → Gave → Type 0) (s : Setup) (firsts : List I) where
+  pub known_set : (ps : List (Port I)) (kn : ℕ → Known) (i : ℕ) (q : Port I) (y : Known) → AllKnown stands s firsts ps kn → i < length ps → KnownAt stands s firsts i q y → AllKnown stands s firsts (set ps i q) (set_at kn i y)
+  known_set ps kn i q y known low k j r e = elim (cases_eq j i) [
+    | inl same ↦
+        let same_port : Some q ≡ Some r = sym (get_set_same ps i q low) ∙ (ap (slice_get (set ps i q)) (sym same) ∙ e) in
+        let is : q ≡ r = cc same_port in
+        subst (λ (v : ℕ × Port I × Known). KnownAt stands s firsts v.0 v.1 v.2) (λ ι. (sym same ι, is ι, sym (set_same kn i y j same) ι)) k
+    | inr other ↦ subst (λ (k : Known). KnownAt stands s firsts j r k) (sym (set_other kn i y j other)) (known j r (sym (get_set_other ps i q j other) ∙ e))
+  ]
+
+  module _ {M : Type 0} (mixes : M → Setup → List Call → Type 0) where
+    pub now_more : (kn : ℕ → Known) (table table' : Table) (ps : List (Port I)) (m m' : M) (i : ℕ) (q : Port I) (y : Known) → IsNow stands mixes s firsts kn table ps m → i < length ps
+        → KnownAt stands s firsts i q y → SeatsKept i table.seats table'.seats → SeatAt table'.seats i y.seat → At mixes m' s table' → IsNow stands mixes s firsts (set_at kn i y) table' (set ps i q) m'
+    now_more kn table table' ps m m' i q y n low k kept seat mixed = record {
+      known = known_set ps kn i q y n.known low k;
+      seats = λ j less. elim (cases_eq j i) [
+        | inl same ↦ subst (λ (v : ℕ × Known). SeatAt table'.seats v.0 v.1.seat) (λ ι. (sym same ι, sym (set_same kn i y j same) ι)) seat
+        | inr other ↦ subst (λ (k : Known). SeatAt table'.seats j k.seat) (sym (set_other kn i y j other)) (seat_kept (kn j).seat i j table.seats table'.seats kept other (n.seats j less))
+      ];
+      mixed = mixed;
+      legs = n.legs ∙ sym (set_length ps i q);
+      above = λ j less. set_other kn i y j (λ e. absurd (let l = n.legs in omega (arith, e, l))) ∙ n.above j less;
+    }
+
+    abbrev pub becomes_none : (kn : ℕ → Known) (table : Table) (ps : List (Port I)) (m : M) → IsNow stands mixes s firsts kn table ps m → BecomesBy stands mixes s firsts (λ d. d) kn table ps m
+    becomes_none kn table ps m n = record { kn' = kn; table' = table; now = n; reaches = reaches_none kn table }
+
+    -- one more leg: it is known as y now, and the table is another
+    abbrev pub becomes_more : (f g : Desk → Desk) (kn : ℕ → Known) (table : Table) (ps : List (Port I)) (m m' : M) (i : ℕ) (q : Port I) (b : BecomesBy stands mixes s firsts f kn table ps m) (y : Known) (table' : Table) → i < length ps
+        → KnownAt stands s firsts i q y → SeatsKept i b.table'.seats table'.seats → SeatAt table'.seats i y.seat → At mixes m' s table' → Reaches g b.kn' b.table' (set_at b.kn' i y) table'
+        → BecomesBy stands mixes s firsts (λ d. g (f d)) kn table (set ps i q) m'
+    becomes_more f g kn table ps m m' i q b y table' low k kept seat mixed r = record {
+      kn' = set_at b.kn' i y;
+      table' = table';
+      now = now_more b.kn' b.table' table' ps m m' i q y b.now low k kept seat mixed;
+      reaches = reaches_more f g kn b.kn' (set_at b.kn' i y) table b.table' table' b.reaches r;
+    }
+
+    abbrev pub becomes_then : (f g : Desk → Desk) (kn : ℕ → Known) (table : Table) (ps qs : List (Port I)) (m m' : M) (b : BecomesBy stands mixes s firsts f kn table ps m) → BecomesBy stands mixes s firsts g b.kn' b.table' qs m' → BecomesBy stands mixes s firsts (λ d. g (f d)) kn table qs m'
+    becomes_then f g kn table ps qs m m' b c = record { kn' = c.kn'; table' = c.table'; now = c.now; reaches = reaches_more f g kn b.kn' c.kn' table b.table' c.table' b.reaches c.reaches }

@@ -1,0 +1,52 @@
+-- What a leg gave (profile).
+use Rattle.std.specs.Prelude.{◌≡◌, ℕ, Bool, true, false, Option, None, Some, List, [], ◌∷◌, ◌++◌, IsUtf8}
+use Rattle.rtpdump_io.specs.declared.items.DumpFault.{DumpFault}
+use Rattle.wire_spec.specs.Packets.{has_text}
+use Rattle.stream_spec.specs.Ready.{Chunk}
+use Rattle.mix_loop.specs.declared.items.Item.{Item}
+use Rattle.mix_loop.specs.declared.items.Item.TheVariants as item
+use Rattle.mix_loop.specs.declared.items.Ended.{Ended}
+use Rattle.mix_loop.specs.declared.items.Ended.TheVariants.{Open, AtEnd, AtFault}
+
+-- these chunks, oldest first, and how they ended
+pub record Gave : Type 0 where
+  pub chunks : List Chunk
+  pub ended : Ended
+
+abbrev pub nothing : Gave
+nothing = record { chunks = []; ended = Open }
+
+-- with one more answer, beside which this chunk was handed out
+abbrev pub gave_more : Item → Chunk → Gave → Gave
+gave_more item.Chunk c g = record { chunks = g.chunks ++ c ∷ []; ended = g.ended }
+gave_more item.Later c g = g
+gave_more item.End c g = record { chunks = g.chunks; ended = AtEnd }
+gave_more (item.Fault fault) c g = record { chunks = g.chunks; ended = AtFault fault }
+
+-- more may come behind this answer
+abbrev pub goes_on : Item → Bool
+goes_on item.Chunk = true
+goes_on item.Later = true
+goes_on item.End = false
+goes_on (item.Fault fault) = false
+
+abbrev pub is_open : Ended → Bool
+is_open Open = true
+is_open AtEnd = false
+is_open (AtFault fault) = false
+
+abbrev pub is_fault : Ended → Bool
+is_fault Open = false
+is_fault AtEnd = false
+is_fault (AtFault fault) = true
+
+abbrev pub fault_in : Ended → Option DumpFault
+fault_in Open = None
+fault_in AtEnd = None
+fault_in (AtFault fault) = Some fault
+
+-- a chunk of the leg with this number has a text
+pub record IsOf (leg : ℕ) (c : Chunk) : Type 0 where
+  pub source : c.source ≡ leg
+  pub text : has_text c.text ≡ true
+  pub utf8 : IsUtf8 c.text

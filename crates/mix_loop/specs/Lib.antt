@@ -1,0 +1,5 @@
+pub mod Items
+pub mod Logs
+pub mod Mixers
+pub mod Ports
+pub mod Turns

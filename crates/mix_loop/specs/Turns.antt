@@ -1,0 +1,255 @@
+-- How far a mixing is: whatever the legs still give, plain mixing goes on from here.
+use Rattle.std.specs.Prelude.{◌≡◌, ℕ, zero, suc, ◌-◌, ◌*◌, ◌<◌, ◌≤◌, Bool, true, false, Option, None, Some, List, [], ◌∷◌, ◌++◌, length, slice_get}
+use Rattle.rtpdump_io.specs.declared.items.DumpFault.{DumpFault}
+use Rattle.rtt_base.specs.declared.text_packets.Pts.{Pts}
+use Rattle.stream_spec.specs.Ready.{Chunk}
+use Rattle.mixer_spec.specs.Setups.{Setup}
+use Rattle.mixer_spec.specs.Table.{Table, Call, entered}
+use Rattle.mixer_spec.specs.Legs.{held}
+use Rattle.mixer_spec.specs.Plain.{Desk, is_over, plain_from, plain}
+use Rattle.mixer_spec.specs.Table as table
+use Rattle.mix_loop.specs.declared.items.Ended.{Ended}
+use Rattle.mix_loop.specs.declared.items.Ended.TheVariants.{Open, AtEnd, AtFault}
+use Rattle.mix_loop.specs.declared.ports.Seat.{Seat}
+use Rattle.mix_loop.specs.declared.ports.Seat.TheVariants.{Away}
+use Rattle.mix_loop.specs.declared.ports.Port.{Port}
+use Rattle.mix_loop.specs.declared.turns.Before.{Before}
+use Rattle.mix_loop.specs.declared.turns.Before.TheVariants as before
+use Rattle.mix_loop.specs.declared.turns.Turned.{Turned}
+use Rattle.mix_loop.specs.declared.turns.Turned.TheVariants as turned
+use Rattle.mix_loop.specs.declared.turns.Mixing.{Mixing}
+use Rattle.mix_loop.specs.declared.turns.Mixing.TheVariants as mixing
+use Rattle.mix_loop.specs.Items.{Gave, nothing, is_open, is_fault}
+use Rattle.mix_loop.specs.Logs.{LogOf}
+use Rattle.mix_loop.specs.Mixers.{At}
+use Rattle.mix_loop.specs.Ports.{MayCome, SamePasts, SeatAt, StaysAs, IsSound, Holds, hand_of, is_away}
+
+-- what a leg gave, what of it is in hand, and its seat
+pub record Known : Type 0 where
+  pub gave : Gave
+  pub hand : Option Chunk
+  pub seat : Seat
+
+abbrev pub unknown : Known
+unknown = record { gave = nothing; hand = None; seat = Away }
+
+-- all chunks of each leg, where these are still to come
+abbrev pub all_of : (ℕ → Known) → (ℕ → List Chunk) → ℕ → List Chunk
+all_of kn rest j = (kn j).gave.chunks ++ rest j
+
+-- what each leg has still to offer then
+abbrev pub desk_of : (ℕ → Known) → (ℕ → List Chunk) → Table → Desk
+desk_of kn rest table = record { left = λ j. held (kn j).hand ++ rest j; table = table }
+
+abbrev pub MayComeAll : (ℕ → Known) → (ℕ → List Chunk) → Type 0
+MayComeAll kn rest = (j : ℕ) → MayCome (kn j).gave.ended (rest j)
+
+-- the chunks that each leg gave
+abbrev pub chunks_at : (ℕ → Known) → ℕ → List Chunk
+chunks_at kn j = (kn j).gave.chunks
+
+-- From this on, f leads to that: whatever comes later might have come before, and f makes the one desk of the other.
+pub record Reaches (f : Desk → Desk) (kn : ℕ → Known) (table : Table) (kn' : ℕ → Known) (table' : Table) : Type 0 where
+  pub goes : (rest' : ℕ → List Chunk) → MayComeAll kn' rest'
+      → (rest : ℕ → List Chunk) × MayComeAll kn rest × (all_of kn rest ≡ all_of kn' rest') × (f (desk_of kn rest table) ≡ desk_of kn' rest' table')
+  pub pasts : SamePasts table table'
+
+-- each leg that came has a chunk in hand, or gives no more
+abbrev pub Settled : (ℕ → Known) → Type 0
+Settled kn = (j : ℕ) → is_away (kn j).seat ≡ false → (kn j).hand ≡ None → is_open (kn j).gave.ended ≡ false
+
+-- each of the first n legs, whether it came or not
+abbrev pub SettledBelow : ℕ → (ℕ → Known) → Type 0
+SettledBelow n kn = (j : ℕ) → j < n → (kn j).hand ≡ None → is_open (kn j).gave.ended ≡ false
+
+-- the leg n comes, where it can
+abbrev pub comes : Setup → ℕ → ℕ → Desk → Desk
+comes s t n d = record { left = d.left; table = entered s n t d.table }
+
+-- ---- plain mixing, cut behind what is done before a turn
+abbrev pub next_from : Setup → ℕ → ℕ → ℕ → Desk → Option Table
+next_from s tick zero k v = None
+next_from s tick (suc n) k v = plain_from s tick n (suc k) (record { left = v.left; table = table.turned s (k * tick) v.table })
+
+abbrev pub turn_from : Setup → ℕ → ℕ → ℕ → Desk → Option Table
+turn_from s tick n k v = elim (is_over s v) as (λ b. Option Table) [
+  | true ↦ Some v.table
+  | false ↦ next_from s tick n k v
+]
+
+-- before the turn k, where at most `turns` are made
+pub record IsBefore (s : Setup) (tick turns k : ℕ) (kn : ℕ → Known) (table : Table) : Type 0 where
+  pub goes : (rest : ℕ → List Chunk) → MayComeAll kn rest → plain s tick turns (all_of kn rest) ≡ plain_from s tick (turns - k) k (desk_of kn rest table)
+  pub settled : Settled kn
+
+-- plain mixing has this answer
+pub record Answers (s : Setup) (tick turns : ℕ) (kn : ℕ → Known) (answer : Option Table) : Type 0 where
+  pub goes : (rest : ℕ → List Chunk) → MayComeAll kn rest → plain s tick turns (all_of kn rest) ≡ answer
+
+-- some leg has a fault
+abbrev pub HasFault : (ℕ → Known) → Type 0
+HasFault kn = (j : ℕ) × (is_fault (kn j).gave.ended ≡ true)
+
+-- whether it is over
+abbrev pub IsOverAs : Bool → Setup → (ℕ → Known) → Table → Type 0
+IsOverAs b s kn table = (rest : ℕ → List Chunk) → MayComeAll kn rest → is_over s (desk_of kn rest table) ≡ b
+
+-- what is found before a turn
+abbrev pub Finds : Before → Setup → (ℕ → Known) → Table → Type 0
+Finds before.Faulted s kn table = HasFault kn
+Finds before.Over s kn table = IsOverAs true s kn table
+Finds before.Going s kn table = IsOverAs false s kn table
+
+-- what the end of the turns says
+abbrev pub AnswersAs : Turned → Setup → ℕ → ℕ → (ℕ → Known) → Table → Type 0
+AnswersAs turned.Over s tick turns kn table = Answers s tick turns kn (Some table)
+AnswersAs turned.TooLong s tick turns kn table = Answers s tick turns kn None
+AnswersAs turned.NoMemory s tick turns kn table = Unit {0}
+AnswersAs turned.Faulted s tick turns kn table = HasFault kn
+
+-- each leg may have given more
+pub record GrowsAll (kn kn' : ℕ → Known) : Type 0 where
+  pub goes : (rest' : ℕ → List Chunk) → MayComeAll kn' rest' → (rest : ℕ → List Chunk) × MayComeAll kn rest × (all_of kn rest ≡ all_of kn' rest')
+  pub kept : (j : ℕ) → is_open (kn j).gave.ended ≡ false → (kn' j).gave ≡ (kn j).gave
+
+-- ---- what is answered in the end
+abbrev pub mixing_of : Turned → Mixing
+mixing_of turned.Over = mixing.Over
+mixing_of turned.TooLong = mixing.TooLong
+mixing_of turned.Faulted = mixing.TooLong
+mixing_of turned.NoMemory = mixing.NoMemory
+
+-- each of n legs was read to the end of its recording
+abbrev pub AllAtEnd : ℕ → (ℕ → Gave) → Type 0
+AllAtEnd n gave = (j : ℕ) → j < n → (gave j).ended ≡ AtEnd
+
+-- this leg has this fault, and those below it have none
+pub record IsLowest (n leg : ℕ) (fault : DumpFault) (gave : ℕ → Gave) : Type 0 where
+  pub below : leg < n
+  pub is : (gave leg).ended ≡ AtFault fault
+  pub lowest : AllAtEnd leg gave
+
+-- Where no leg has a fault, what plain mixing of these chunks comes to; else the lowest leg's fault.
+abbrev pub Tells : Mixing → Setup → ℕ → ℕ → (ℕ → Gave) → Table → Type 0
+Tells mixing.Over s tick turns gave table = (plain s tick turns (λ j. (gave j).chunks) ≡ Some table) × AllAtEnd s.legs gave
+Tells mixing.TooLong s tick turns gave table = (plain s tick turns (λ j. (gave j).chunks) ≡ None) × AllAtEnd s.legs gave
+Tells mixing.NoMemory s tick turns gave table = Unit {0}
+Tells (mixing.Faulted leg fault) s tick turns gave table = IsLowest s.legs leg fault gave
+
+-- ---- the ports
+module _ {I : Type 0} where
+  -- port by port, each has its place
+  abbrev pub AreAt : (I → Type 0) → (I → ℕ) → List (Port I) → Type 0
+  AreAt good place ps = (j : ℕ) (p : Port I) → slice_get ps j ≡ Some p → (place p.inlet ≡ j) × IsSound good place p
+
+  pub record KnownAt (stands : I → I → Gave → Type 0) (s : Setup) (firsts : List I) (j : ℕ) (p : Port I) (k : Known) : Type 0 where
+    pub first : I
+    pub of : slice_get firsts j ≡ Some first
+    pub holds : Holds stands first p k.gave
+    pub hand : hand_of p ≡ k.hand
+    pub seat : p.seat ≡ k.seat
+    pub stays : StaysAs s j p
+
+  abbrev pub AllKnown : (I → I → Gave → Type 0) → Setup → List I → List (Port I) → (ℕ → Known) → Type 0
+  AllKnown stands s firsts ps kn = (j : ℕ) (p : Port I) → slice_get ps j ≡ Some p → KnownAt stands s firsts j p (kn j)
+
+  -- This is known of the ports, and the mixer has this table.
+  pub record IsNow {M : Type 0} (stands : I → I → Gave → Type 0) (mixes : M → Setup → List Call → Type 0) (s : Setup) (firsts : List I) (kn : ℕ → Known) (table : Table) (ps : List (Port I)) (m : M) : Type 0 where
+    pub known : AllKnown stands s firsts ps kn
+    pub seats : (j : ℕ) → j < s.legs → SeatAt table.seats j (kn j).seat
+    pub mixed : At mixes m s table
+    pub legs : s.legs ≡ length ps
+    pub above : (j : ℕ) → s.legs ≤ j → kn j ≡ unknown
+
+  -- from what was known before, f led to these
+  pub record BecomesBy {M : Type 0} (stands : I → I → Gave → Type 0) (mixes : M → Setup → List Call → Type 0) (s : Setup) (firsts : List I) (f : Desk → Desk) (kn : ℕ → Known) (table : Table) (ps : List (Port I)) (m : M) : Type 0 where
+    pub kn' : ℕ → Known
+    pub table' : Table
+    pub now : IsNow stands mixes s firsts kn' table' ps m
+    pub reaches : Reaches f kn table kn' table'
+
+  -- and each leg that came is settled still
+  pub record GoesBy {M : Type 0} (stands : I → I → Gave → Type 0) (mixes : M → Setup → List Call → Type 0) (s : Setup) (firsts : List I) (f : Desk → Desk) (kn : ℕ → Known) (table : Table) (ps : List (Port I)) (m : M) : Type 0 where
+    pub becomes : BecomesBy stands mixes s firsts f kn table ps m
+    pub settled : Settled becomes.kn'
+
+  -- and each of the first n legs is settled
+  pub record OffersBy {M : Type 0} (stands : I → I → Gave → Type 0) (mixes : M → Setup → List Call → Type 0) (s : Setup) (firsts : List I) (n : ℕ) (f : Desk → Desk) (kn : ℕ → Known) (table : Table) (ps : List (Port I)) (m : M) : Type 0 where
+    pub becomes : BecomesBy stands mixes s firsts f kn table ps m
+    pub settled : SettledBelow n becomes.kn'
+
+  -- and this is found
+  pub record SettlesBy {M : Type 0} (stands : I → I → Gave → Type 0) (mixes : M → Setup → List Call → Type 0) (s : Setup) (firsts : List I) (found : Before) (f : Desk → Desk) (kn : ℕ → Known) (table : Table) (ps : List (Port I)) (m : M) : Type 0 where
+    pub becomes : BecomesBy stands mixes s firsts f kn table ps m
+    pub settled : SettledBelow s.legs becomes.kn'
+    pub finds : Finds found s becomes.kn' becomes.table'
+
+  -- before the turn k
+  pub record BeforeTo {M : Type 0} (stands : I → I → Gave → Type 0) (mixes : M → Setup → List Call → Type 0) (pts : ℕ → Pts) (s : Setup) (firsts : List I) (tick turns k : ℕ) (ps : List (Port I)) (m : M) (log : List (List ℕ)) : Type 0 where
+    pub kn : ℕ → Known
+    pub table : Table
+    pub now : IsNow stands mixes s firsts kn table ps m
+    pub before : IsBefore s tick turns k kn table
+    pub logged : LogOf pts s table log
+
+  -- after the turns; of the log nothing is said where memory ran out
+  pub record TurnsTo {M : Type 0} (stands : I → I → Gave → Type 0) (mixes : M → Setup → List Call → Type 0) (pts : ℕ → Pts) (s : Setup) (firsts : List I) (tick turns : ℕ) (t : Turned) (ps : List (Port I)) (m : M) (log : List (List ℕ)) : Type 0 where
+    pub kn : ℕ → Known
+    pub table : Table
+    pub now : IsNow stands mixes s firsts kn table ps m
+    pub answers : AnswersAs t s tick turns kn table
+    pub logged : t ≡ turned.Over → LogOf pts s table log
+
+  -- where the first n legs were read to their ends
+  pub record DrainsTo (stands : I → I → Gave → Type 0) (s : Setup) (firsts : List I) (n : ℕ) (kn : ℕ → Known) (ps : List (Port I)) : Type 0 where
+    pub kn' : ℕ → Known
+    pub known : AllKnown stands s firsts ps kn'
+    pub grows : GrowsAll kn kn'
+    pub above : (j : ℕ) → length ps ≤ j → kn' j ≡ kn j
+    pub closed : (j : ℕ) → j < n → is_open (kn' j).gave.ended ≡ false
+
+  -- how the texts of the leg j ended
+  abbrev pub ended_at : List (Port I) → ℕ → Ended
+  ended_at [] j = Open
+  ended_at (p ∷ ps) zero = p.ended
+  ended_at (p ∷ ps) (suc j) = ended_at ps j
+
+  abbrev pub NoFaultBelow : ℕ → List (Port I) → Type 0
+  NoFaultBelow n ps = (j : ℕ) → j < n → is_fault (ended_at ps j) ≡ false
+
+  pub record IsLowestAt (ps : List (Port I)) (leg : ℕ) (fault : DumpFault) : Type 0 where
+    pub below : leg < length ps
+    pub is : ended_at ps leg ≡ AtFault fault
+    pub lowest : NoFaultBelow leg ps
+
+  -- a port of a leg that gave this, from the inlet `first` on, and gives no more
+  pub record GaveAt (stands : I → I → Gave → Type 0) (firsts : List I) (j : ℕ) (p : Port I) (gave : Gave) : Type 0 where
+    pub first : I
+    pub of : slice_get firsts j ≡ Some first
+    pub gives : stands first p.inlet gave
+    pub closed : is_open gave.ended ≡ false
+
+  -- Each leg gave no more than this, from these inlets on, and was read to its end. What is answered is what plain mixing of
+  -- these chunks comes to, or the lowest leg's fault; where mixing is over, the mixer has its table, and the log has what
+  -- was sent.
+  pub record MixedAs {M : Type 0} (stands : I → I → Gave → Type 0) (mixes : M → Setup → List Call → Type 0) (pts : ℕ → Pts) (s : Setup) (firsts : List I) (tick turns : ℕ) (answer : Mixing) (ps : List (Port I)) (m : M) (log : List (List ℕ)) : Type 0 where
+    pub gave : ℕ → Gave
+    pub table : Table
+    pub legs : (j : ℕ) (p : Port I) → slice_get ps j ≡ Some p → GaveAt stands firsts j p (gave j)
+    pub above : (j : ℕ) → s.legs ≤ j → gave j ≡ nothing
+    pub mixed : At mixes m s table
+    pub tells : Tells answer s tick turns gave table
+    pub logged : answer ≡ mixing.Over → LogOf pts s table log
+
+  -- nothing came to the port j yet
+  pub record IsFresh (stands : I → I → Gave → Type 0) (s : Setup) (firsts : List I) (j : ℕ) (p : Port I) : Type 0 where
+    pub first : I
+    pub of : slice_get firsts j ≡ Some first
+    pub gives : stands first p.inlet nothing
+    pub empty : p.full ≡ false
+    pub open_still : p.ended ≡ Open
+    pub away : p.seat ≡ Away
+    pub stays : StaysAs s j p
+
+  abbrev pub AllFresh : (I → I → Gave → Type 0) → Setup → List I → List (Port I) → Type 0
+  AllFresh stands s firsts ps = (j : ℕ) (p : Port I) → slice_get ps j ≡ Some p → IsFresh stands s firsts j p
