@@ -1,5 +1,5 @@
 -- What a leg's texts do on their way to the mixer.
-use Rattle.std.proofs.Common.{◌≡◌, ℕ, Bool, true, false, true≢false, cond, subst, Option, Some, None, List, [], ◌∷◌, refl, ap, sym, ◌∙◌, append_assoc}
+use Rattle.std.proofs.Common.{not, ◌≡◌, ℕ, Bool, true, false, true≢false, cond, subst, Option, Some, None, List, [], ◌∷◌, refl, ap, sym, ◌∙◌, append_assoc}
 use Rattle.std.specs.Prelude.{◌&&◌, nat_le}
 use Rattle.stream_spec.specs.Ready.{Chunk, chunk_of}
 use Rattle.mixer_spec.specs.Setups.{Setup}
@@ -13,7 +13,7 @@ use Rattle.mix_loop.specs.declared.items.Ended.TheVariants.{Open, AtEnd, AtFault
 use Rattle.mix_loop.specs.declared.ports.Port.{Port}
 use Rattle.mix_loop.specs.Items.{Gave, IsOf, gave_more, goes_on, is_open}
 use Rattle.mix_loop.specs.Mixers.{At, Keeps}
-use Rattle.mix_loop.specs.Ports.{SameSeat, MayCome, Pulls, Gathers, Gathered, Holds, PulledTo, GatheringTo, GatheredTo, DrainedTo, hand_of, hand_with, is_chunk, ended_by}
+use Rattle.mix_loop.specs.Ports.{OnlyHand, IsSound, SameSeat, MayCome, Pulls, Gathers, Gathered, Holds, PulledTo, GatheringTo, GatheredTo, DrainedTo, hand_of, hand_with, is_chunk, ended_by}
 
 open_is : (e : Ended) → is_open e ≡ true → e ≡ Open
 open_is Open o = refl
@@ -193,23 +193,37 @@ module _ {I M : Type 0} (stands : I → I → Gave → Type 0) (mixes : M → Se
     is : r ≡ is_taken s i t g.table' c
     is = (k s g.table' g.mixed).0 ∙ ap (λ j. is_taken s j t g.table' c) of
 
-    pub to_kept : r ≡ false → GatheredTo stands mixes s i t first gave hand table p m'
-    to_kept e = record {
-      gave' = g.gave';
-      table' = g.table';
-      holds = g.holds;
-      mixed = subst (λ (b : Bool). At mixes m' s (cond {A = Table} b (given c.source c g.table') g.table')) e (k s g.table' g.mixed).1;
-      gathered = subst (λ (h : Option Chunk). Gathered s i t gave hand table g.gave' h g.table') (sym in_hand) (gathered_kept s i t gave g.gave' hand table g.table' c so_far (sym is ∙ e));
-    }
+    pub to_kept : r ≡ false → (q : Port I) → OnlyHand p q → q.full ≡ not r → GatheredTo stands mixes s i t first gave hand table q m'
+    to_kept e q only now_full =
+        let same : q ≡ p = only ∙ ap (λ b. record p { full = b }) (now_full ∙ (ap not e ∙ sym full)) in
+        subst (λ (x : Port I). GatheredTo stands mixes s i t first gave hand table x m') (sym same) (record {
+          gave' = g.gave';
+          table' = g.table';
+          holds = g.holds;
+          mixed = subst (λ (b : Bool). At mixes m' s (cond {A = Table} b (given c.source c g.table') g.table')) e (k s g.table' g.mixed).1;
+          gathered = subst (λ (h : Option Chunk). Gathered s i t gave hand table g.gave' h g.table') (sym in_hand) (gathered_kept s i t gave g.gave' hand table g.table' c so_far (sym is ∙ e));
+        })
 
-    pub to_take : r ≡ true → (q : Port I) → q ≡ record p { full = false } → GatheringTo stands mixes s i t first gave hand table q m'
-    to_take e q same = subst (λ (x : Port I). GatheringTo stands mixes s i t first gave hand table x m') (sym same) (record {
-      gave' = g.gave';
-      table' = given i c g.table';
-      holds = record { gives = g.holds.gives; ended = g.holds.ended };
-      mixed = subst (λ (j : ℕ). At mixes m' s (given j c g.table')) of (subst (λ (b : Bool). At mixes m' s (cond {A = Table} b (given c.source c g.table') g.table')) e (k s g.table' g.mixed).1);
-      gathers = gathers_take s i t gave g.gave' hand table g.table' c so_far (sym is ∙ e);
-    })
+    pub to_take : r ≡ true → (q : Port I) → OnlyHand p q → q.full ≡ not r → GatheringTo stands mixes s i t first gave hand table q m'
+    to_take e q only now_full =
+        let same : q ≡ record p { full = false } = only ∙ ap (λ b. record p { full = b }) (now_full ∙ ap not e) in
+        subst (λ (x : Port I). GatheringTo stands mixes s i t first gave hand table x m') (sym same) (record {
+          gave' = g.gave';
+          table' = given i c g.table';
+          holds = record { gives = g.holds.gives; ended = g.holds.ended };
+          mixed = subst (λ (j : ℕ). At mixes m' s (given j c g.table')) of (subst (λ (b : Bool). At mixes m' s (cond {A = Table} b (given c.source c g.table') g.table')) e (k s g.table' g.mixed).1);
+          gathers = gathers_take s i t gave g.gave' hand table g.table' c so_far (sym is ∙ e);
+        })
+
+-- a port of which the hand alone is another
+pub hand_sound : {I : Type 0} (good : I → Type 0) (place : I → ℕ) (p q : Port I) (full : p.full ≡ true) → IsSound good place p → OnlyHand p q → IsSound good place q
+hand_sound {I} good place p q full h only = subst (λ (x : Port I). IsSound good place x) (sym only) (record { asked = h.asked; hand = λ f. h.hand full })
+
+pub hand_place : {I : Type 0} (place : I → ℕ) (p q : Port I) → OnlyHand p q → place q.inlet ≡ place p.inlet
+hand_place {I} place p q only = ap (λ (x : Port I). place x.inlet) only
+
+pub hand_seat : {I : Type 0} (p q : Port I) → OnlyHand p q → SameSeat p q
+hand_seat {I} p q only = record { stay = ap (λ (x : Port I). x.stay) only; seat = ap (λ (x : Port I). x.seat) only }
 
 -- ---- without looking at what comes
 module _ {I : Type 0} (stands : I → I → Gave → Type 0) (first : I) (gave : Gave) where

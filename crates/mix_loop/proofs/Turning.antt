@@ -143,31 +143,36 @@ module _ {I M : Type 0} (stands : I → I → Gave → Type 0) (mixes : M → Se
     | inr high ↦ absurd (true≢false (ap (λ (k : Known). is_away k.seat) (sym (n.above j high)) ∙ a))
   ]
 
-  module _ (pts : ℕ → Pts) (tick turns k : ℕ) (ps qs : List (Port I)) (m m1 : M) (log : List (List ℕ)) (b : BeforeTo stands mixes pts s firsts tick turns k ps m log) where
-    pub fault_ends : SettlesBy stands mixes s firsts before.Faulted (before_turn s (k * tick)) b.kn b.table qs m1 → TurnsTo stands mixes pts s firsts tick turns turn.Faulted qs m1 log
+  module _ (pts : ℕ → Pts) (tick turns k now : ℕ) (at : now ≡ k * tick) (ps qs : List (Port I)) (m m1 : M) (log : List (List ℕ)) (b : BeforeTo stands mixes pts s firsts tick turns k ps m log) where
+    reached : (kn' : ℕ → Known) (table' : Table) → Reaches (before_turn s now) b.kn b.table kn' table' → Reaches (before_turn s (k * tick)) b.kn b.table kn' table'
+    reached kn' table' r = subst (λ (t : ℕ). Reaches (before_turn s t) b.kn b.table kn' table') at r
+
+    pub fault_ends : SettlesBy stands mixes s firsts before.Faulted (before_turn s now) b.kn b.table qs m1 → TurnsTo stands mixes pts s firsts tick turns turn.Faulted qs m1 log
     fault_ends o = record { kn = o.becomes.kn'; table = o.becomes.table'; now = o.becomes.now; answers = o.finds; logged = λ z. absurd (cc z) }
 
-    pub over_ends : SettlesBy stands mixes s firsts before.Over (before_turn s (k * tick)) b.kn b.table qs m1 → TurnsTo stands mixes pts s firsts tick turns turn.Over qs m1 log
+    pub over_ends : SettlesBy stands mixes s firsts before.Over (before_turn s now) b.kn b.table qs m1 → TurnsTo stands mixes pts s firsts tick turns turn.Over qs m1 log
     over_ends o = record {
       kn = o.becomes.kn';
       table = o.becomes.table';
       now = o.becomes.now;
-      answers = over_answers s tick turns k b.kn o.becomes.kn' b.table o.becomes.table' b.before o.becomes.reaches o.finds;
+      answers = over_answers s tick turns k b.kn o.becomes.kn' b.table o.becomes.table' b.before (reached o.becomes.kn' o.becomes.table' o.becomes.reaches) o.finds;
       logged = λ z. log_same pts s b.table o.becomes.table' log b.logged o.becomes.reaches.pasts;
     }
 
-    pub long_ends : k ≡ turns → SettlesBy stands mixes s firsts before.Going (before_turn s (k * tick)) b.kn b.table qs m1 → TurnsTo stands mixes pts s firsts tick turns turn.TooLong qs m1 log
+    pub long_ends : k ≡ turns → SettlesBy stands mixes s firsts before.Going (before_turn s now) b.kn b.table qs m1 → TurnsTo stands mixes pts s firsts tick turns turn.TooLong qs m1 log
     long_ends e o = record {
       kn = o.becomes.kn';
       table = o.becomes.table';
       now = o.becomes.now;
-      answers = going_long s tick turns k b.kn o.becomes.kn' b.table o.becomes.table' b.before o.becomes.reaches o.finds e;
+      answers = going_long s tick turns k b.kn o.becomes.kn' b.table o.becomes.table' b.before (reached o.becomes.kn' o.becomes.table' o.becomes.reaches) o.finds e;
       logged = λ z. absurd (cc z);
     }
 
-    module _ (o : SettlesBy stands mixes s firsts before.Going (before_turn s (k * tick)) b.kn b.table qs m1) (m2 : M) (made : (s : Setup) (calls : List Call) → mixes m1 s calls → mixes m2 s (Turn (k * tick) ∷ calls)) where
+    module _ (o : SettlesBy stands mixes s firsts before.Going (before_turn s now) b.kn b.table qs m1) (m2 : M) (made : (s : Setup) (calls : List Call) → mixes m1 s calls → mixes m2 s (Turn now ∷ calls)) where
       turned_at : At mixes m2 s (turned s (k * tick) o.becomes.table')
-      turned_at = let a = o.becomes.now.mixed in record { calls = Turn (k * tick) ∷ a.calls; made = made s a.calls a.made; leads = ap (turned s (k * tick)) a.leads }
+      turned_at =
+          let a = o.becomes.now.mixed in
+          record { calls = Turn now ∷ a.calls; made = made s a.calls a.made; leads = ap (turned s now) a.leads ∙ ap (λ t. turned s t o.becomes.table') at }
 
       still_now : IsNow stands mixes s firsts o.becomes.kn' (turned s (k * tick) o.becomes.table') qs m2
       still_now = let n = o.becomes.now in record { known = n.known; seats = n.seats; mixed = turned_at; legs = n.legs; above = n.above }
@@ -175,17 +180,19 @@ module _ {I M : Type 0} (stands : I → I → Gave → Type 0) (mixes : M → Se
       pub memory_ends : (log' : List (List ℕ)) → TurnsTo stands mixes pts s firsts tick turns turn.NoMemory qs m2 log'
       memory_ends log' = record { kn = o.becomes.kn'; table = turned s (k * tick) o.becomes.table'; now = still_now; answers = tt; logged = λ z. absurd (cc z) }
 
-      pub turn_made : k < turns → (log' : List (List ℕ)) → ((s : Setup) (calls : List Call) → mixes m1 s calls → LogsTurn pts s (k * tick) (after_calls s calls) log log') → BeforeTo stands mixes pts s firsts tick turns (suc k) qs m2 log'
+      pub turn_made : k < turns → (log' : List (List ℕ)) → ((s : Setup) (calls : List Call) → mixes m1 s calls → LogsTurn pts s now (after_calls s calls) log log') → BeforeTo stands mixes pts s firsts tick turns (suc k) qs m2 log'
       turn_made low log' logs =
           let a = o.becomes.now.mixed in
           let same = log_same pts s b.table o.becomes.table' log b.logged o.becomes.reaches.pasts in
-          let here : LogsTurn pts s (k * tick) o.becomes.table' log log' = subst (λ (x : Table). LogsTurn pts s (k * tick) x log log') a.leads (logs s a.calls a.made) in
+          let here : LogsTurn pts s now o.becomes.table' log log' = subst (λ (x : Table). LogsTurn pts s now x log log') a.leads (logs s a.calls a.made) in
+          let then : LogsTurn pts s (k * tick) o.becomes.table' log log' = subst (λ (t : ℕ). LogsTurn pts s t o.becomes.table' log log') at here in
           record {
             kn = o.becomes.kn';
             table = turned s (k * tick) o.becomes.table';
             now = still_now;
-            before = going_turn s tick turns k b.kn o.becomes.kn' b.table o.becomes.table' b.before o.becomes.reaches o.finds low (settled_all o.becomes.kn' o.becomes.table' qs m1 o.becomes.now o.settled);
-            logged = log_turn pts s (k * tick) o.becomes.table' log log' same here;
+            before = going_turn s tick turns k b.kn o.becomes.kn' b.table o.becomes.table' b.before (reached o.becomes.kn' o.becomes.table' o.becomes.reaches) o.finds low
+                (settled_all o.becomes.kn' o.becomes.table' qs m1 o.becomes.now o.settled);
+            logged = log_turn pts s (k * tick) o.becomes.table' log log' same then;
           }
 
   -- ---- at the beginning

@@ -137,6 +137,10 @@ module _ {I : Type 0} where
   abbrev pub OnlySeat : Port I → Port I → Type 0
   OnlySeat old new = new ≡ record old { seat = new.seat }
 
+  -- it is as it was, but that its hand may be empty now
+  abbrev pub OnlyHand : Port I → Port I → Type 0
+  OnlyHand old new = new ≡ record old { full = new.full }
+
   -- its stay and its seat are as they were
   pub record SameSeat (old new : Port I) : Type 0 where
     pub stay : new.stay ≡ old.stay

@@ -7,7 +7,7 @@ ghost use Rattle.mix_loop.specs.Mixers.{Keeps, Of, At};
 ghost use Rattle.mix_loop.specs.Ports.{OnlySeat, StaysAs, SeatAt, is_away, is_to_leave};
 
 use crate::Mixes;
-use crate::ports::{Port, Seat, is_before_end, seat_with};
+use crate::ports::{Port, Seat, has_begun, is_before_end, seat_with};
 
 impl<I> Port<I> {
     /// Ends the listening of the leg, where its stay is over at the moment `now`.
@@ -56,7 +56,7 @@ impl<I> Port<I> {
         if !self.seat.is_away() {
             return;
         }
-        if u64::from(self.stay.from) > now {
+        if !has_begun(now, self.stay.from) {
             return;
         }
         let listens = is_before_end(now, self.stay.until);

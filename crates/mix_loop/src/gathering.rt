@@ -1,5 +1,5 @@
 //! What a leg offers, and what is let go of it.
-ghost use Rattle.std.specs.Prelude.{◌≡◌, ℕ, ◌<◌, true, false, if◌then◌else◌};
+ghost use Rattle.std.specs.Prelude.{◌≡◌, not, nat_le, ℕ, ◌<◌, true, false, if◌then◌else◌};
 ghost use Rattle.stream_spec.specs.Ready.{chunk_of};
 ghost use Rattle.rtt_base.specs.declared.text_packets.Pts.{Pts};
 ghost use Rattle.mixer_spec.specs.Setups.{Setup};
@@ -7,13 +7,20 @@ ghost use Rattle.mixer_spec.specs.Table.{Table, given};
 ghost use Rattle.mixer_spec.specs.Core.{is_taken};
 ghost use Rattle.mix_loop.specs.Items.{Gave, IsOf, is_open};
 ghost use Rattle.mix_loop.specs.Mixers.{Keeps, Of, At};
-ghost use Rattle.mix_loop.specs.Ports.{SameSeat, IsSound, Holds, PulledTo, GatheredTo, DrainedTo, hand_of};
+ghost use Rattle.mix_loop.specs.Ports.{OnlyHand, SameSeat, IsSound, Holds, PulledTo, GatheredTo, DrainedTo, hand_of};
 
 use crate::ports::Port;
 use crate::{Inlet, Mixes};
 use rtt_base::Chunk;
 use rtt_io::Gate;
 use std::sync::Wait;
+
+/// Whether a text may be mixed at the moment `now`.
+fn is_ready(chunk: &Chunk, now: u64) -> bool
+    ensures { result ≡ nat_le chunk.now.ready now }
+{
+    chunk.ready <= now
+}
 
 /// Offers a text, where it is ready, and answers whether it is taken.
 fn take<M: Mixes>(mixer: &mut M, chunk: &Chunk, now: u64) -> bool
@@ -24,7 +31,7 @@ fn take<M: Mixes>(mixer: &mut M, chunk: &Chunk, now: u64) -> bool
         → (result ≡ is_taken s chunk.now.source now table (chunk_of chunk.now))
         × At (Of M.stands pts) mixer.new s (if result then given chunk.now.source (chunk_of chunk.now) table else table) }
 {
-    if chunk.ready > now {
+    if !is_ready(chunk, now) {
         return false;
     }
     mixer.offer(chunk).is_ok()
@@ -44,6 +51,22 @@ impl<I: Inlet> Port<I> {
         let item = self.inlet.next(rt, gate, &mut self.hand);
         self.full = item.is_chunk();
         self.ended = item.ended();
+    }
+
+    /// Offers the text in hand, and lets it go where it is taken, as is answered.
+    fn offer<M: Mixes>(&mut self, mixer: &mut M, now: u64) -> bool
+        requires source { self.old.hand.source < M.legs mixer.old }
+        requires text { IsOf self.old.hand.source (chunk_of self.old.hand) }
+        ensures only { OnlyHand self.old self.new }
+        ensures full { self.new.full ≡ not result }
+        ensures keeps { Keeps M.legs M.turns mixer.old mixer.new }
+        ensures taken { (s : Setup) (pts : ℕ → Pts) (table : Table) → At (Of M.stands pts) mixer.old s table
+            → (result ≡ is_taken s self.old.hand.source now table (chunk_of self.old.hand))
+            × At (Of M.stands pts) mixer.new s (if result then given self.old.hand.source (chunk_of self.old.hand) table else table) }
+    {
+        let taken = take(mixer, &self.hand, now);
+        self.full = !taken;
+        taken
     }
 
     /// Offers what comes until a text is not taken, or nothing comes any more.
@@ -71,10 +94,9 @@ impl<I: Inlet> Port<I> {
                 self.pull(rt, gate);
                 continue;
             }
-            if !take(mixer, &self.hand, now) {
+            if !self.offer(mixer, now) {
                 return;
             }
-            self.full = false;
         }
         unreachable!()
     }

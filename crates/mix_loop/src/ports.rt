@@ -1,5 +1,5 @@
 //! One leg at the mixer.
-ghost use Rattle.std.specs.Prelude.{◌≡◌, ◌&&◌, not};
+ghost use Rattle.std.specs.Prelude.{◌≡◌, nat_le};
 ghost use Rattle.mixer_spec.specs.Setups.{is_before_end};
 ghost use Rattle.mix_loop.specs.Items.{is_open};
 ghost use Rattle.mix_loop.specs.Ports.{IsNew, is_away, is_chunk, is_spent, is_to_leave, is_to_stop, ended_by, seat_with};
@@ -92,6 +92,13 @@ pub(crate) fn is_before_end(now: u64, end: Option<u32>) -> bool
         Some(end) => now < u64::from(end),
         None => true,
     }
+}
+
+/// Whether the moment is not before this beginning.
+pub(crate) fn has_begun(now: u64, from: u32) -> bool
+    ensures { result ≡ nat_le from now }
+{
+    u64::from(from) <= now
 }
 
 /// The seat of a leg that came.

@@ -1,5 +1,5 @@
 //! The turns of a mixing.
-ghost use Rattle.std.specs.Prelude.{◌≡◌, ℕ, ◌<◌, ◌≤◌, ◌&&◌, List, length, not, MatchOption, map};
+ghost use Rattle.std.specs.Prelude.{◌≡◌, ℕ, ◌*◌, ◌<◌, ◌≤◌, ◌&&◌, List, length, not, MatchOption, map};
 ghost use Rattle.std.specs.List.{list_all, list_any};
 ghost use Rattle.rtt_base.specs.declared.text_packets.Pts.{Pts};
 ghost use Rattle.mixer_spec.specs.Setups.{Setup};
@@ -150,6 +150,15 @@ fn settle<I: Inlet, M: Mixes, R: Wait, G: Gate>(
     Before::Going
 }
 
+/// The moment of a turn: so many ticks.
+fn moment_of(turn: u64, tick: u64) -> u64
+    requires turns { turn ≤ 5000000 }
+    requires tick { tick ≤ 400 }
+    ensures { result ≡ turn * tick }
+{
+    turn * tick
+}
+
 /// Makes turns until nothing is left, or a leg has a fault, or so many turns are made. Turn `k` is at `k` ticks.
 fn take_turns<I: Inlet, M: Mixes, R: Wait, G: Gate>(
     rt: &R,
@@ -172,16 +181,17 @@ fn take_turns<I: Inlet, M: Mixes, R: Wait, G: Gate>(
         → TurnsTo I.stands (Of M.stands pts) pts s firsts tick turns result ports.new mixer.new log.new }
 {
     for k in 0..turns {
-        match settle(rt, gate, ports, mixer, k * tick) {
+        let now = moment_of(k, tick);
+        match settle(rt, gate, ports, mixer, now) {
             Before::Going => {}
             Before::Over => return Turned::Over,
             Before::Faulted => return Turned::Faulted,
         }
-        let Ok(()) = mixer.turn(k * tick, log) else {
+        let Ok(()) = mixer.turn(now, log) else {
             return Turned::NoMemory;
         };
     }
-    match settle(rt, gate, ports, mixer, turns * tick) {
+    match settle(rt, gate, ports, mixer, moment_of(turns, tick)) {
         Before::Going => Turned::TooLong,
         Before::Over => Turned::Over,
         Before::Faulted => Turned::Faulted,
