@@ -1,0 +1,74 @@
+-- What plain mixing of recordings answers.
+use Rattle.std.specs.Prelude.{◌≡◌, ◌≤◌, ◌<◌, ℕ, false, None, Some, List, [], length, slice_get}
+use Rattle.rtt_base.specs.declared.text_packets.Pts.{Pts}
+use Rattle.wire_spec.specs.declared.faults.DumpKind.TheVariants.{Read}
+use Rattle.stream_spec.specs.Ready.{Chunk}
+use Rattle.rtt_io.specs.Counts.{Rose}
+use Rattle.rtpdump_io.specs.declared.items.DumpFault.{DumpFault}
+use Rattle.rtpdump_io.specs.Reading.{IsFaultOf}
+use Rattle.mixer_spec.specs.Setups.{Setup, in_stay}
+use Rattle.mixer_spec.specs.Table.{Table, Call}
+use Rattle.mixer_spec.specs.Plain.{plain}
+use Rattle.leg_core.specs.declared.legs.Leg.{Leg}
+use Rattle.leg_core.specs.Gives.{Stands, place_of, source_of}
+use Rattle.mix_loop.specs.declared.ports.Port.{Port}
+use Rattle.mix_loop.specs.declared.turns.Mixing.{Mixing}
+use Rattle.mix_loop.specs.declared.turns.Mixing.TheVariants as mixing
+use Rattle.mix_loop.specs.Logs.{LogOf}
+use Rattle.mix_loop.specs.Mixers.{At}
+use Rattle.mix_loop.specs.Ports.{StaysAs}
+use Rattle.leg_items.specs.declared.inlets.LegInlet.{LegInlet}
+use Rattle.leg_items.specs.Feds.{Asked, IsNewLeg, past_of, recording_asked, chunks_asked}
+
+-- each of the first n recordings is read to its end
+abbrev pub AllWhole : ℕ → (ℕ → Asked) → Type 0
+AllWhole n asked = (j : ℕ) → j < n → (recording_asked (asked j)).fault ≡ None
+
+-- Plain mixing of these chunks, where each recording can be read; else the fault of the lowest leg whose recording can't be.
+abbrev pub IsAnswer : Mixing → Setup → ℕ → ℕ → (ℕ → Asked) → (ℕ → List Chunk) → Table → Type 0
+IsAnswer mixing.Over s tick turns asked chunks table = (plain s tick turns chunks ≡ Some table) × AllWhole s.legs asked
+IsAnswer mixing.TooLong s tick turns asked chunks table = (plain s tick turns chunks ≡ None) × AllWhole s.legs asked
+IsAnswer mixing.NoMemory s tick turns asked chunks table = Unit {0}
+IsAnswer (mixing.Faulted leg fault) s tick turns asked chunks table = (leg < s.legs) × IsFaultOf (recording_asked (asked leg)) fault × AllWhole leg asked
+
+-- these are the chunks that count of each leg that is asked for
+pub record AreChunks (s : Setup) (asked : ℕ → Asked) (chunks : ℕ → List Chunk) : Type 0 where
+  pub legs : (j : ℕ) → j < s.legs → chunks j ≡ in_stay s j (chunks_asked (asked j))
+  pub above : (j : ℕ) → s.legs ≤ j → chunks j ≡ []
+
+module _ {S : Type 0} where
+  -- the source of a port's leg
+  abbrev pub source_at : Port (LegInlet S) → S
+  source_at p = source_of p.inlet.leg
+
+  -- nothing came to these ports yet, and each leg has its number
+  pub record IsNewAt (j : ℕ) (p : Port (LegInlet S)) : Type 0 where
+    pub new : IsNewLeg p.inlet.leg p.stay p
+    pub place : place_of p.inlet.leg ≡ j
+
+  abbrev pub AreNew : List (Port (LegInlet S)) → Type 0
+  AreNew ps = (j : ℕ) (p : Port (LegInlet S)) → slice_get ps j ≡ Some p → IsNewAt j p
+
+  -- each leg stays as the setup says
+  abbrev pub AllStayAs : Setup → List (Port (LegInlet S)) → Type 0
+  AllStayAs s ps = (j : ℕ) (p : Port (LegInlet S)) → slice_get ps j ≡ Some p → StaysAs s j p
+
+  -- each leg is asked for this, and gave nothing yet
+  abbrev pub AllAsked : (S → List ℕ) → (ℕ → Asked) → List (Port (LegInlet S)) → Type 0
+  AllAsked left asked ps = (j : ℕ) (p : Port (LegInlet S)) → slice_get ps j ≡ Some p → Stands left p.inlet.leg (past_of (asked j) [])
+
+  -- The source of the leg j is the one that it was. Where its reading failed, its count rose.
+  pub record SourceKept (faults : S → ℕ) (name : S → List ℕ) (answer : Mixing) (j : ℕ) (old new : S) : Type 0 where
+    pub never_falls : faults old ≤ faults new
+    pub same_name : name new ≡ name old
+    pub read : (fault : DumpFault) → answer ≡ mixing.Faulted j fault → fault.kind ≡ Read → Rose (faults old) (faults new)
+
+  -- The mixer has come to this table; where mixing is over the log has what was sent. All sources are there still. Where they
+  -- tell what they hold, the answer is that of plain mixing of what is heard of them.
+  pub record PlainMixed {M : Type 0} (mixes : M → Setup → List Call → Type 0) (pts : ℕ → Pts) (tells : Type 0) (left : S → List ℕ) (faults : S → ℕ) (name : S → List ℕ)
+      (s : Setup) (tick turns : ℕ) (answer : Mixing) (old new : List (Port (LegInlet S))) (m : M) (log : List (List ℕ)) : Type 0 where
+    pub table : Table
+    pub mixed : At mixes m s table
+    pub logged : answer ≡ mixing.Over → LogOf pts s table log
+    pub sources : (j : ℕ) (p q : Port (LegInlet S)) → slice_get old j ≡ Some p → slice_get new j ≡ Some q → SourceKept faults name answer j (source_at p) (source_at q)
+    pub is : tells → (asked : ℕ → Asked) (chunks : ℕ → List Chunk) → AllAsked left asked old → AreChunks s asked chunks → IsAnswer answer s tick turns asked chunks table

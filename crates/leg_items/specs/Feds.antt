@@ -1,0 +1,79 @@
+-- What a leg that is read by who mixes gave of its recording.
+use Rattle.std.specs.Prelude.{◌≡◌, ◌≤◌, ℕ, Bool, false, not, None, Result, Ok, Err, List, [], filter, if◌then◌else◌}
+use Rattle.file_spec.specs.declared.conf_lines.Stay.{Stay}
+use Rattle.file_spec.specs.Stays.{stays_at}
+use Rattle.wire_spec.specs.declared.faults.DumpKind.{DumpKind}
+use Rattle.wire_spec.specs.declared.faults.DumpKind.TheVariants.{Read}
+use Rattle.wire_spec.specs.Dump.{Recording}
+use Rattle.stream_spec.specs.Ready.{Chunk}
+use Rattle.rtt_io.specs.Counts.{Rose}
+use Rattle.rtpdump_io.specs.declared.items.DumpFault.{DumpFault}
+use Rattle.rtpdump_io.specs.Reading.{IsFaultOf}
+use Rattle.ear.specs.declared.confs.EarConf.{EarConf}
+use Rattle.leg_core.specs.declared.steps.LegStep.{LegStep}
+use Rattle.leg_core.specs.declared.steps.LegStep.TheVariants as step
+use Rattle.leg_core.specs.declared.legs.Leg.{Leg}
+use Rattle.leg_core.specs.Gives.{LegPast, Stands, begins, chunks_of, recording_of, is_over, source_of}
+use Rattle.mix_loop.specs.declared.items.Item.{Item}
+use Rattle.mix_loop.specs.declared.items.Item.TheVariants as item
+use Rattle.mix_loop.specs.declared.items.Ended.{Ended}
+use Rattle.mix_loop.specs.declared.items.Ended.TheVariants.{Open, AtEnd, AtFault}
+use Rattle.mix_loop.specs.declared.ports.Seat.TheVariants.{Away}
+use Rattle.mix_loop.specs.declared.ports.Port.{Port}
+use Rattle.mix_loop.specs.Items.{Gave, is_open}
+use Rattle.leg_items.specs.declared.inlets.LegInlet.{LegInlet}
+
+-- what a leg is asked for: what it hears, in a recording of these octets, at most `limit`
+pub record Asked : Type 0 where
+  pub conf : EarConf
+  pub limit : ℕ
+  pub octets : List ℕ
+
+-- where it gave these chunks
+abbrev pub past_of : Asked → List Chunk → LegPast
+past_of a heard = record { conf = a.conf; limit = a.limit; octets = a.octets; gave = heard }
+
+abbrev pub recording_asked : Asked → Recording
+recording_asked a = recording_of (past_of a [])
+
+-- all chunks of the recording
+abbrev pub chunks_asked : Asked → List Chunk
+chunks_asked a = chunks_of (past_of a [])
+
+-- those of these chunks that are ready within the stay
+abbrev pub in_part : Stay → List Chunk → List Chunk
+in_part stay cs = filter (λ c. stays_at c.ready stay) cs
+
+-- What an answer of a leg comes to, beside which a text was handed out that is ready at this moment: it counts where that
+-- lies in the stay.
+abbrev pub item_for : Stay → ℕ → Result LegStep DumpFault → Item
+item_for stay ready (Ok step.Chunk) = if stays_at ready stay then item.Chunk else item.Later
+item_for stay ready (Ok step.More) = item.Later
+item_for stay ready (Ok step.End) = item.End
+item_for stay ready (Err fault) = item.Fault fault
+
+module _ {S : Type 0} where
+  -- a leg that gave these chunks, of those that count, by how they ended
+  abbrev pub GivesAs : (S → List ℕ) → Leg S → Stay → Asked → List Chunk → Ended → Type 0
+  GivesAs left leg stay a chunks Open = (heard : List Chunk) × Stands left leg (past_of a heard) × (chunks ≡ in_part stay heard)
+  GivesAs left leg stay a chunks AtEnd = (chunks ≡ in_part stay (chunks_asked a)) × ((recording_asked a).fault ≡ None)
+  GivesAs left leg stay a chunks (AtFault fault) = IsFaultOf (recording_asked a) fault
+
+  -- From `first` on, which gave nothing, this was given, and now it is `now`.
+  pub record Fed (tells : Type 0) (left : S → List ℕ) (faults : S → ℕ) (name : S → List ℕ) (first now : LegInlet S) (gave : Gave) : Type 0 where
+    pub stay : now.stay ≡ first.stay
+    pub open_still : is_open gave.ended ≡ not (is_over now.leg)
+    pub gives : tells → (a : Asked) → Stands left first.leg (past_of a []) → GivesAs left now.leg now.stay a gave.chunks gave.ended
+    pub never_falls : faults (source_of first.leg) ≤ faults (source_of now.leg)
+    pub read : (fault : DumpFault) → gave.ended ≡ AtFault fault → fault.kind ≡ Read → Rose (faults (source_of first.leg)) (faults (source_of now.leg))
+    pub same_name : name (source_of now.leg) ≡ name (source_of first.leg)
+
+  -- a port of this leg, which gave nothing yet
+  pub record IsNewLeg (leg : Leg S) (stay : Stay) (p : Port (LegInlet S)) : Type 0 where
+    pub leg_is : p.inlet.leg ≡ leg
+    pub stay_is : p.inlet.stay ≡ stay
+    pub stays : p.stay ≡ stay
+    pub empty : p.full ≡ false
+    pub open_still : p.ended ≡ Open
+    pub away : p.seat ≡ Away
+    pub not_over : is_over leg ≡ false

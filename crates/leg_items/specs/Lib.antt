@@ -1,0 +1,2 @@
+pub mod Feds
+pub mod Answers
