@@ -1,2 +1,3 @@
 pub mod Terminals
+pub mod Marks
 pub mod Views

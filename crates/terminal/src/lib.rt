@@ -2,6 +2,7 @@
 #![tactic(auto)]
 
 mod confs;
+pub mod laws;
 mod terminals;
 #[cfg(test)]
 mod tests;
