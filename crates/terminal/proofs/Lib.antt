@@ -1,2 +1,3 @@
 pub mod Listening
+pub mod Seeing
 pub mod Marks

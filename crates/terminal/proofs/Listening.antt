@@ -1,12 +1,15 @@
--- A terminal that is told of one more arrival, or of the end.
-use Rattle.std.proofs.Common.{◌≡◌, ℕ, ◌+◌, ◌<◌, ◌≤◌, Bool, true, false, List, Some, refl, ap, sym, ◌∙◌, arith, length, Result, Ok, Err, subst}
-use Rattle.std.specs.Prelude.{OnOk, All, slice_index, slice_index_or}
+-- A terminal that is told of one more packet, or of the end.
+use Rattle.std.proofs.Common.{◌≡◌, ℕ, ◌+◌, ◌<◌, ◌≤◌, Bool, true, false, cond, inl, inr, List, [], ◌∷◌, ◌++◌, Some, refl, ap, sym, ◌∙◌, arith, length, Result, Ok, Err, subst}
+use Rattle.std.specs.Prelude.{OnOk, All, filter, slice_index, slice_index_or}
 use Rattle.std.specs.List.{concat}
-use Rattle.std.proofs.lemmas.List.{length-map}
+use Rattle.std.proofs.lemmas.List.{length-map, length-append}
+use Rattle.std.proofs.lemmas.List.Elements.{filter-append}
+use Rattle.rtt_base.specs.declared.text_packets.Pts.{Pts}
 use Rattle.wire_spec.specs.declared.faults.TextFault.{TextFault}
+use Rattle.wire_spec.specs.declared.faults.TextFault.TheVariants as faults
 use Rattle.wire_spec.specs.Packets.{Packet, Arrival, AreTextArrivals}
 use Rattle.wire_spec.specs.Text.{text_of}
-use Rattle.wire_spec.specs.Dump.{arrived}
+use Rattle.wire_spec.specs.Dump.{Item, Rtcp, arrivals_with, arrivals_after, sent_item}
 use Rattle.stream_spec.specs.Numbering.{Numbered, numbered, used}
 use Rattle.stream_spec.specs.Hearing.{heard, heard_by}
 use Rattle.stream_spec.specs.ChunksBy.{used_ready}
@@ -15,21 +18,26 @@ use Rattle.source_receiver.specs.declared.source_texts.SourceText.{SourceText}
 use Rattle.source_receiver.specs.Each.{IsHeardOf, marks_by}
 use Rattle.ear.specs.declared.confs.EarConf.{EarConf}
 use Rattle.ear.specs.declared.ears.Ear.{Ear}
-use Rattle.ear.specs.Hears.{told, all_given, arrival_count, is_quiet, is_finished, ready_packets, Becomes, AllReady, Hears}
+use Rattle.ear.specs.Hears.{told, all_given, IsToldOf, arrival_count, is_quiet, is_finished, ready_packets, Becomes, AllReady, Hears}
 use Rattle.ear.specs.Each.{HearsEach, GathersEach}
 use Rattle.ear.proofs.Given.{ready_stamped}
 use Rattle.ear.proofs.Giving.{told_given}
 use Rattle.ear.proofs.ReadyBy.{heard_dues, told_arrived}
 use Rattle.stream_spec.proofs.HeardTexts.{heard_utf8}
 use Rattle.text_spec.specs.declared.counts.Counts.{Counts}
+use Rattle.command_spec.specs.Seen.{Reception, Fate, NoPacket, fate_of, fate_of_what, fate_at, is_packet, is_refused, is_foreign, many, arrivals_at, counts_at}
 use Rattle.terminal.specs.declared.confs.TermConf.{TermConf}
 use Rattle.terminal.specs.declared.terminals.Terminal.{Terminal}
-use Rattle.terminal.specs.Terminals.{ear_conf, is_refused, is_foreign, one_if, IsEmpty, HearsTexts, SameCounts, CountsAs, Listens, IsTextOf, Heard}
+use Rattle.terminal.specs.Terminals.{reception, ear_conf, one_if, is_spent, IsEmpty, IsUnread, HearsTexts, SameCounts, CountsAs, Counted, Listens, IsTextOf, Heard}
 
 -- facts of a success give another
 pub on_ok : {X E P Q : Type 0} (r : Result X E) → OnOk r P → (P → Q) → OnOk r Q
 on_ok (Ok x) p f = f p
 on_ok (Err e) p f = tt
+
+pub on_ok2 : {X E P Q R : Type 0} (r : Result X E) → OnOk r P → OnOk r Q → (P → Q → R) → OnOk r R
+on_ok2 (Ok x) p q f = f p q
+on_ok2 (Err e) p q f = tt
 
 pub on_ok5 : {X E P Q R S T U : Type 0} (r : Result X E) → OnOk r P → OnOk r Q → OnOk r R → OnOk r S → OnOk r T → (P → Q → R → S → T → U) → OnOk r U
 on_ok5 (Ok x) p q r s t f = f p q r s t
@@ -63,77 +71,200 @@ told_text l k at octets c sources story b = becomes_text l k (λ conf s. told s 
 pub ended_text : (l k : Terminal) (c : TermConf) (sources : List ℕ) (story : Story) → Becomes l.ear k.ear (λ conf s. ended s) → k.heard ≡ l.heard → k.counts.used ≡ l.counts.used → HearsTexts l c sources story → HearsTexts k c sources (ended story)
 ended_text l k c sources story b = becomes_text l k (λ conf s. ended s) c sources story b refl
 
--- one more packet of the stream came, and what is settled was heard
-pub took : (l k m : Terminal) (at : ℕ) (octets : List ℕ) → Becomes l.ear k.ear (λ conf s. told s at (text_of octets (Some conf.ssrc) conf.pts)) → k.heard ≡ l.heard
-    → k.counts ≡ record l.counts { packets = l.counts.packets + 1 } → is_finished k.ear ≡ is_finished l.ear → arrival_count k.ear ≤ arrival_count l.ear + 1
-    → ((c : TermConf) (sources : List ℕ) (story : Story) → HearsTexts k c sources story → HearsTexts m c sources (all_given story)) → SameCounts k.counts m.counts → is_quiet m.ear ≡ true → arrival_count m.ear ≡ arrival_count k.ear → is_finished m.ear ≡ is_finished k.ear
-    → (c : TermConf) (sources : List ℕ) (past : List Arrival) → Listens l c sources past → Listens m c sources (arrived at (text_of octets (Some c.ssrc) c.pts) past)
-took l k m at octets b t n f a g same quiet arrivals finished c sources past li =
-    let x = text_of octets (Some c.ssrc) c.pts in
-    let now = told_arrived li.story past at x li.told in
-    record {
-      story = all_given (told li.story at x);
-      hears = g c sources (told li.story at x) (told_text l k at octets c sources li.story b t (ap (λ (q : Counts). q.used) n) li.hears);
-      told = record { arrivals = now.arrivals; moment = now.moment };
-      few = omega (arith, arrivals, a, li.few, same.packets, ap (λ (q : Counts). q.packets) n);
-      few_refused = omega (arith, same.refused, same.packets, li.few_refused, ap (λ (q : Counts). q.packets) n, ap (λ (q : Counts). q.refused) n);
-      few_foreign = omega (arith, same.foreign, same.packets, li.few_foreign, ap (λ (q : Counts). q.packets) n, ap (λ (q : Counts). q.foreign) n);
-      quiet = quiet;
-      open_still = finished ∙ (f ∙ li.open_still);
-    }
+-- ---- one more item behind those that came
+pub arrivals_more : (ssrc : ℕ) (pts : Pts) (past : List Arrival) (came : List Item) (item : Item) → arrivals_after ssrc pts past (came ++ item ∷ []) ≡ arrivals_with ssrc pts item (arrivals_after ssrc pts past came)
+arrivals_more ssrc pts past [] item = refl
+arrivals_more ssrc pts past (i ∷ came) item = arrivals_more ssrc pts (arrivals_with ssrc pts i past) came item
 
--- what is asked of the ear is what is asked for
-pub asked_same : (l : Terminal) (c : TermConf) (sources : List ℕ) (past : List Arrival) (octets : List ℕ) (x : Result Packet TextFault) → Listens l c sources past → text_of octets (Some l.ear.conf.ssrc) l.ear.conf.pts ≡ x → text_of octets (Some c.ssrc) c.pts ≡ x
-asked_same l c sources past octets x li e = sym (ap (λ (q : EarConf). text_of octets (Some q.ssrc) q.pts) li.hears.hears.hears.asked) ∙ e
+pub many_more : (p : Fate → Bool) (r : Reception) (came : List Item) (item : Item) → many p (fate_at r) (came ++ item ∷ []) ≡ many p (fate_at r) came + one_if (p (fate_at r item))
+many_more p r came item =
+    ap length (filter-append (λ i. p (fate_at r i)) came (item ∷ []))
+    ∙ (length-append (filter (λ i. p (fate_at r i)) came) (filter (λ i. p (fate_at r i)) (item ∷ [])) ∙ ap (λ n. many p (fate_at r) came + n) (one (p (fate_at r item))))
+  where
+    one : (b : Bool) → length (cond b (item ∷ []) []) ≡ one_if b
+    one true = refl
+    one false = refl
 
 one_at_most : (b : Bool) → one_if b ≤ 1
 one_at_most true = omega arith
 one_at_most false = omega arith
 
--- what was taken is counted
-pub took_counts : (l k m : Terminal) (octets : List ℕ) (p : Packet) → text_of octets (Some l.ear.conf.ssrc) l.ear.conf.pts ≡ Ok p → k.counts ≡ record l.counts { packets = l.counts.packets + 1 } → SameCounts k.counts m.counts
-    → (c : TermConf) (sources : List ℕ) (past : List Arrival) → Listens l c sources past → CountsAs (text_of octets (Some c.ssrc) c.pts) l.counts m.counts
-took_counts l k m octets p e n same c sources past li =
-    subst (λ (x : Result Packet TextFault). CountsAs x l.counts m.counts) (sym (asked_same l c sources past octets (Ok p) li e))
-    (record {
+-- what is a packet is counted, and each but once
+fate_counted : (old new : Counts) (r : Reception) (came : List Item) (item : Item) → Counted old r came → CountsAs (fate_at r item) old new → is_packet (fate_at r item) ≡ true → Counted new r (came ++ item ∷ [])
+fate_counted old new r came item n c p =
+    let one : one_if (is_packet (fate_at r item)) ≡ 1 = ap one_if p in
+    record {
+      packets = omega (arith, n.packets, c.packets, many_more is_packet r came item);
+      refused = omega (arith, n.refused, c.refused, many_more is_refused r came item);
+      foreign = omega (arith, n.foreign, c.foreign, many_more is_foreign r came item);
+      few_refused = omega (arith, n.few_refused, c.refused, c.packets, one, one_at_most (is_refused (fate_at r item)));
+      few_foreign = omega (arith, n.few_foreign, c.foreign, c.packets, one, one_at_most (is_foreign (fate_at r item)));
+    }
+
+-- octets are a packet
+is_counted : (x : Result Packet TextFault) → is_packet (fate_of x) ≡ true
+is_counted (Ok p) = refl
+is_counted (Err faults.Short) = refl
+is_counted (Err faults.Version) = refl
+is_counted (Err faults.Padding) = refl
+is_counted (Err faults.Sources) = refl
+is_counted (Err faults.WrongType) = refl
+is_counted (Err faults.Cut) = refl
+is_counted (Err faults.Many) = refl
+is_counted (Err faults.Long) = refl
+is_counted (Err faults.NotText) = refl
+is_counted (Err faults.Foreign) = refl
+
+-- the ear was told of one more
+told_more : (story : Story) (c : TermConf) (came : List Item) (at : ℕ) (octets : List ℕ) → IsToldOf story (arrivals_at (reception c) came)
+    → IsToldOf (told story at (text_of octets (Some c.ssrc) c.pts)) (arrivals_at (reception c) (came ++ sent_item (at, octets) ∷ []))
+told_more story c came at octets t =
+    subst (IsToldOf (told story at (text_of octets (Some c.ssrc) c.pts))) (sym (arrivals_more c.ssrc c.pts [] came (sent_item (at, octets)))) (told_arrived story (arrivals_at (reception c) came) at (text_of octets (Some c.ssrc) c.pts) t)
+
+-- one more packet of the stream came, and what is settled was heard
+pub took : (l k m : Terminal) (at : ℕ) (octets : List ℕ) (p : Packet) → Becomes l.ear k.ear (λ conf s. told s at (text_of octets (Some conf.ssrc) conf.pts)) → text_of octets (Some l.ear.conf.ssrc) l.ear.conf.pts ≡ Ok p → k.heard ≡ l.heard
+    → k.counts ≡ record l.counts { packets = l.counts.packets + 1 } → is_finished k.ear ≡ is_finished l.ear → arrival_count k.ear ≤ arrival_count l.ear + 1 → is_spent k ≡ is_spent l
+    → ((c : TermConf) (sources : List ℕ) (story : Story) → HearsTexts k c sources story → HearsTexts m c sources (all_given story)) → SameCounts k.counts m.counts → is_quiet m.ear ≡ true → arrival_count m.ear ≡ arrival_count k.ear → is_finished m.ear ≡ is_finished k.ear → is_spent m ≡ is_spent k
+    → (c : TermConf) (sources : List ℕ) (came : List Item) → Listens l c sources came → Listens m c sources (came ++ sent_item (at, octets) ∷ [])
+took l k m at octets p b e t n f a w g same quiet arrivals finished spent c sources came li =
+    let x = text_of octets (Some c.ssrc) c.pts in
+    let now = told_more li.story c came at octets li.told in
+    let ok : x ≡ Ok p = sym (ap (λ (q : EarConf). text_of octets (Some q.ssrc) q.pts) li.hears.hears.hears.asked) ∙ e in
+    let counts : CountsAs (fate_of x) l.counts m.counts = subst (λ (y : Result Packet TextFault). CountsAs (fate_of y) l.counts m.counts) (sym ok) (record {
       packets = same.packets ∙ ap (λ (q : Counts). q.packets) n;
       refused = omega (arith, same.refused, ap (λ (q : Counts). q.refused) n);
       foreign = omega (arith, same.foreign, ap (λ (q : Counts). q.foreign) n);
-    })
+    }) in
+    record {
+      story = all_given (told li.story at x);
+      hears = g c sources (told li.story at x) (told_text l k at octets c sources li.story b t (ap (λ (q : Counts). q.used) n) li.hears);
+      told = record { arrivals = now.arrivals; moment = now.moment };
+      some = li.some;
+      counts = fate_counted l.counts m.counts (reception c) came (sent_item (at, octets)) li.counts counts (is_counted x);
+      few = omega (arith, arrivals, a, li.few, same.packets, ap (λ (q : Counts). q.packets) n);
+      quiet = quiet;
+      open_still = finished ∙ (f ∙ li.open_still);
+      whole = spent ∙ (w ∙ li.whole);
+    }
 
 -- what was refused is counted
-module _ (l k m : Terminal) (at : ℕ) (octets : List ℕ) (fault : TextFault) (b : Becomes l.ear k.ear (λ conf s. told s at (text_of octets (Some conf.ssrc) conf.pts))) (same : m.ear ≡ k.ear) (t : m.heard ≡ l.heard) (u : m.counts.used ≡ l.counts.used)
-    (p : m.counts.packets ≡ l.counts.packets + 1) (q : m.counts.refused ≡ l.counts.refused + one_if (is_refused (Err fault))) (f : m.counts.foreign ≡ l.counts.foreign + one_if (is_foreign (Err fault))) where
-  pub refused : is_quiet k.ear ≡ true → is_finished k.ear ≡ is_finished l.ear → arrival_count k.ear ≤ arrival_count l.ear + 1
-      → (c : TermConf) (sources : List ℕ) (past : List Arrival) → Listens l c sources past → Listens m c sources (arrived at (text_of octets (Some c.ssrc) c.pts) past)
-  refused quiet finished a c sources past li =
-      let x = text_of octets (Some c.ssrc) c.pts in
-      record {
-        story = told li.story at x;
-        hears = told_text l m at octets c sources li.story (subst (λ (e : Ear). Becomes l.ear e (λ conf s. told s at (text_of octets (Some conf.ssrc) conf.pts))) (sym same) b) t u li.hears;
-        told = told_arrived li.story past at x li.told;
-        few = omega (arith, ap arrival_count same, a, li.few, p);
-        few_refused = omega (arith, p, q, one_at_most (is_refused (Err fault)), li.few_refused);
-        few_foreign = omega (arith, p, f, one_at_most (is_foreign (Err fault)), li.few_foreign);
-        quiet = ap is_quiet same ∙ quiet;
-        open_still = ap is_finished same ∙ (finished ∙ li.open_still);
-      }
+pub refused : (l k m : Terminal) (at : ℕ) (octets : List ℕ) (fault : TextFault) → Becomes l.ear k.ear (λ conf s. told s at (text_of octets (Some conf.ssrc) conf.pts)) → text_of octets (Some l.ear.conf.ssrc) l.ear.conf.pts ≡ Err fault
+    → m.ear ≡ k.ear → m.heard ≡ l.heard → m.counts.used ≡ l.counts.used → m.counts.packets ≡ l.counts.packets + 1 → m.counts.refused ≡ l.counts.refused + one_if (is_refused (fate_of (Err fault))) → m.counts.foreign ≡ l.counts.foreign + one_if (is_foreign (fate_of (Err fault)))
+    → is_spent m ≡ is_spent l → is_quiet k.ear ≡ true → is_finished k.ear ≡ is_finished l.ear → arrival_count k.ear ≤ arrival_count l.ear + 1
+    → (c : TermConf) (sources : List ℕ) (came : List Item) → Listens l c sources came → Listens m c sources (came ++ sent_item (at, octets) ∷ [])
+refused l k m at octets fault b e same t u p q f w quiet finished a c sources came li =
+    let x = text_of octets (Some c.ssrc) c.pts in
+    let now = told_more li.story c came at octets li.told in
+    let err : x ≡ Err fault = sym (ap (λ (q : EarConf). text_of octets (Some q.ssrc) q.pts) li.hears.hears.hears.asked) ∙ e in
+    let one : one_if (is_packet (fate_of (Err fault))) ≡ 1 = ap one_if (is_counted (Err fault)) in
+    let counts : CountsAs (fate_of x) l.counts m.counts = subst (λ (y : Result Packet TextFault). CountsAs (fate_of y) l.counts m.counts) (sym err) (record { packets = omega (arith, p, one); refused = q; foreign = f }) in
+    record {
+      story = told li.story at x;
+      hears = told_text l m at octets c sources li.story (subst (λ (e : Ear). Becomes l.ear e (λ conf s. told s at (text_of octets (Some conf.ssrc) conf.pts))) (sym same) b) t u li.hears;
+      told = record { arrivals = now.arrivals; moment = now.moment };
+      some = li.some;
+      counts = fate_counted l.counts m.counts (reception c) came (sent_item (at, octets)) li.counts counts (is_counted x);
+      few = omega (arith, ap arrival_count same, a, li.few, p);
+      quiet = ap is_quiet same ∙ quiet;
+      open_still = ap is_finished same ∙ (finished ∙ li.open_still);
+      whole = w ∙ li.whole;
+    }
 
-  pub refused_counts : text_of octets (Some l.ear.conf.ssrc) l.ear.conf.pts ≡ Err fault → (c : TermConf) (sources : List ℕ) (past : List Arrival) → Listens l c sources past → CountsAs (text_of octets (Some c.ssrc) c.pts) l.counts m.counts
-  refused_counts e c sources past li = subst (λ (x : Result Packet TextFault). CountsAs x l.counts m.counts) (sym (asked_same l c sources past octets (Err fault) li e)) (record { packets = p; refused = q; foreign = f })
+-- of a packet whose octets are not there nothing is told, and it is counted
+unread_counts : (r : Reception) (item : Item) (old new : Counts) → IsUnread item.what → new ≡ record old { packets = old.packets + 1; refused = old.refused + 1 } → CountsAs (fate_at r item) old new
+unread_counts r item old new (inl e) n = let f = ap (fate_of_what r) e in record {
+  packets = omega (arith, ap (λ (q : Counts). q.packets) n, ap (λ x. one_if (is_packet x)) f);
+  refused = omega (arith, ap (λ (q : Counts). q.refused) n, ap (λ x. one_if (is_refused x)) f);
+  foreign = omega (arith, ap (λ (q : Counts). q.foreign) n, ap (λ x. one_if (is_foreign x)) f);
+}
+unread_counts r item old new (inr e) n = let f = ap (fate_of_what r) e in record {
+  packets = omega (arith, ap (λ (q : Counts). q.packets) n, ap (λ x. one_if (is_packet x)) f);
+  refused = omega (arith, ap (λ (q : Counts). q.refused) n, ap (λ x. one_if (is_refused x)) f);
+  foreign = omega (arith, ap (λ (q : Counts). q.foreign) n, ap (λ x. one_if (is_foreign x)) f);
+}
+
+unread_packet : (r : Reception) (item : Item) → IsUnread item.what → is_packet (fate_at r item) ≡ true
+unread_packet r item (inl e) = ap (λ w. is_packet (fate_of_what r w)) e
+unread_packet r item (inr e) = ap (λ w. is_packet (fate_of_what r w)) e
+
+unread_arrivals : (c : TermConf) (past : List Arrival) (item : Item) → IsUnread item.what → arrivals_with c.ssrc c.pts item past ≡ past
+unread_arrivals c past item (inl e) = ap (λ w. arrivals_with c.ssrc c.pts (record { time = item.time; what = w }) past) e
+unread_arrivals c past item (inr e) = ap (λ w. arrivals_with c.ssrc c.pts (record { time = item.time; what = w }) past) e
+
+pub passed_over : (l m : Terminal) → m.ear ≡ l.ear → m.heard ≡ l.heard → m.counts ≡ record l.counts { packets = l.counts.packets + 1; refused = l.counts.refused + 1 } → is_spent m ≡ is_spent l
+    → (c : TermConf) (sources : List ℕ) (came : List Item) (item : Item) → IsUnread item.what → Listens l c sources came → Listens m c sources (came ++ item ∷ [])
+passed_over l m e t n w c sources came item u li =
+    let past = arrivals_more c.ssrc c.pts [] came item ∙ unread_arrivals c (arrivals_at (reception c) came) item u in
+    record {
+      story = li.story;
+      hears = record {
+        hears = record {
+          hears = subst (λ (x : Ear). Hears x (ear_conf c) sources li.story) (sym e) li.hears.hears.hears;
+          each = ap (λ v. length v.items) t ∙ li.hears.hears.each;
+          heard = λ i d below. subst (λ (x : SourceText). IsHeardOf (slice_index sources i) (ready_packets li.story.given) x) (sym (ap (λ v. slice_index_or v.items i d) t)) (li.hears.hears.heard i d below);
+        };
+        used = ap (λ (q : Counts). q.used) n ∙ li.hears.used;
+      };
+      told = subst (IsToldOf li.story) (sym past) li.told;
+      some = li.some;
+      counts = fate_counted l.counts m.counts (reception c) came item li.counts (unread_counts (reception c) item l.counts m.counts u n) (unread_packet (reception c) item u);
+      few = omega (arith, ap arrival_count e, li.few, ap (λ (q : Counts). q.packets) n);
+      quiet = ap is_quiet e ∙ li.quiet;
+      open_still = ap is_finished e ∙ li.open_still;
+      whole = w ∙ li.whole;
+    }
+
+-- a record without a packet changes nothing
+rtcp_same : (r : Reception) (p : Fate → Bool) (came : List Item) (item : Item) → item.what ≡ Rtcp → p NoPacket ≡ false → many p (fate_at r) (came ++ item ∷ []) ≡ many p (fate_at r) came
+rtcp_same r p came item e f =
+    let none : one_if (p (fate_at r item)) ≡ 0 = ap (λ w. one_if (p (fate_of_what r w))) e ∙ ap one_if f in
+    omega (arith, many_more p r came item, none)
+
+pub rtcp_passed : (t : Terminal) (c : TermConf) (sources : List ℕ) (came : List Item) (item : Item) → item.what ≡ Rtcp → Listens t c sources came → Listens t c sources (came ++ item ∷ [])
+rtcp_passed t c sources came item e li =
+    let past : arrivals_at (reception c) (came ++ item ∷ []) ≡ arrivals_at (reception c) came =
+    arrivals_more c.ssrc c.pts [] came item ∙ ap (λ w. arrivals_with c.ssrc c.pts (record { time = item.time; what = w }) (arrivals_at (reception c) came)) e in
+    record {
+      story = li.story;
+      hears = li.hears;
+      told = subst (IsToldOf li.story) (sym past) li.told;
+      some = li.some;
+      counts = record {
+        packets = li.counts.packets ∙ sym (rtcp_same (reception c) is_packet came item e refl);
+        refused = li.counts.refused ∙ sym (rtcp_same (reception c) is_refused came item e refl);
+        foreign = li.counts.foreign ∙ sym (rtcp_same (reception c) is_foreign came item e refl);
+        few_refused = li.counts.few_refused;
+        few_foreign = li.counts.few_foreign;
+      };
+      few = li.few;
+      quiet = li.quiet;
+      open_still = li.open_still;
+      whole = li.whole;
+    }
 
 -- nothing comes any more
-pub finished : (l k m : Terminal) → Becomes l.ear k.ear (λ conf s. ended s) → AllReady l.ear → k.heard ≡ l.heard → k.counts ≡ l.counts
-    → ((c : TermConf) (sources : List ℕ) (story : Story) → HearsTexts k c sources story → HearsTexts m c sources (all_given story))
-    → (c : TermConf) (sources : List ℕ) (past : List Arrival) → Listens l c sources past → Heard m c sources past
-finished l k m b all t n g c sources past li = record {
+same_counts : (a b : Counts) → a.packets ≡ b.packets → a.used ≡ b.used → a.refused ≡ b.refused → a.foreign ≡ b.foreign → a ≡ b
+same_counts a b p u r f = λ i. record { packets = p i; used = u i; refused = r i; foreign = f i }
+
+pub finished : (l k m : Terminal) → Becomes l.ear k.ear (λ conf s. ended s) → AllReady l.ear → k.heard ≡ l.heard → k.counts ≡ l.counts → is_spent k ≡ is_spent l
+    → ((c : TermConf) (sources : List ℕ) (story : Story) → HearsTexts k c sources story → HearsTexts m c sources (all_given story)) → SameCounts k.counts m.counts → is_spent m ≡ is_spent k
+    → (c : TermConf) (sources : List ℕ) (came : List Item) → Listens l c sources came → Heard m c sources came
+finished l k m b all t n w g same spent c sources came li = record {
+  some = li.some;
   each = h.hears.each;
   texts = texts;
   utf8 = λ i d below. rw (texts i d (omega (arith, below, h.hears.each))).text (heard_utf8 c.wait past (slice_index sources i) (subst AreTextArrivals li.told.arrivals li.hears.hears.hears.texts));
-  used = h.used ∙ (ap (λ (gs : List Given). length gs) due ∙ (used_same
-      ∙ (ap (λ w. length (used w (numbered li.story.past))) wait ∙ ap (λ (a : List Arrival). length (used c.wait (numbered a))) li.told.arrivals)));
+  counts = same_counts m.counts (counts_at (reception c) came)
+      (same.packets ∙ (ap (λ (q : Counts). q.packets) n ∙ li.counts.packets))
+      uses
+      (same.refused ∙ (ap (λ (q : Counts). q.refused) n ∙ li.counts.refused))
+      (same.foreign ∙ (ap (λ (q : Counts). q.foreign) n ∙ li.counts.foreign));
+  whole = spent ∙ (w ∙ li.whole);
 }
   where
+    past : List Arrival
+    past = arrivals_at (reception c) came
+
     h : HearsTexts m c sources (all_given (ended li.story))
     h = g c sources (ended li.story) (ended_text l k c sources li.story b t (ap (λ (q : Counts). q.used) n) li.hears)
 
@@ -146,6 +277,10 @@ finished l k m b all t n g c sources past li = record {
     used_same : length (dues li.story) ≡ length (used li.story.wait (numbered li.story.past))
     used_same = length-map (used li.story.wait (numbered li.story.past)) (due_at li.story.wait (numbered li.story.past))
 
+    uses : m.counts.used ≡ length (used c.wait (numbered past))
+    uses = h.used ∙ (ap (λ (gs : List Given). length gs) due ∙ (used_same
+        ∙ (ap (λ w. length (used w (numbered li.story.past))) wait ∙ ap (λ (a : List Arrival). length (used c.wait (numbered a))) li.told.arrivals)))
+
     packets : ready_packets (ready_dues (ended li.story)) ≡ used_ready c.wait past
     packets = ap ready_packets due ∙ (ready_stamped li.story.wait (numbered li.story.past) (used li.story.wait (numbered li.story.past))
         ∙ (ap (λ w. used_ready w li.story.past) wait ∙ ap (used_ready c.wait) li.told.arrivals))
@@ -153,7 +288,7 @@ finished l k m b all t n g c sources past li = record {
     heard_is : (s : ℕ) → heard_by (ready_packets (ready_dues (ended li.story))) s ≡ heard c.wait past s
     heard_is s = ap (λ (gs : List Given). heard_by (ready_packets gs) s) due ∙ (heard_dues li.story s ∙ (ap (λ w. heard w li.story.past s) wait ∙ ap (λ (a : List Arrival). heard c.wait a s) li.told.arrivals))
 
-    texts : (i : ℕ) (d : SourceText) → i < length sources → IsTextOf c.wait past (slice_index sources i) (slice_index_or m.heard.items i d)
+    texts : (i : ℕ) (d : SourceText) → i < length sources → IsTextOf (reception c) came (slice_index sources i) (slice_index_or m.heard.items i d)
     texts i d below =
         let o = h.hears.heard i d below in
         record {

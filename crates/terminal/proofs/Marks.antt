@@ -8,7 +8,7 @@ use Rattle.std.proofs.lemmas.List.Elements.{filter-append}
 use Rattle.wire_spec.specs.Packets.{Arrival}
 use Rattle.stream_spec.specs.Lists.{In}
 use Rattle.stream_spec.specs.Numbering.{Numbered, RisingNumbers, numbered, used, has_number}
-use Rattle.stream_spec.specs.Hearing.{missing_between, marker, is_marked, new_texts, piece, heard_over, is_packet_of, first_of, last_of, before_it, adds_marker}
+use Rattle.stream_spec.specs.Hearing.{missing_between, marker, is_marked, new_texts, piece, heard_over, is_packet_of, first_number_of, last_of, before_it, adds_marker}
 use Rattle.stream_spec.specs.ChunksBy.{stamped, used_ready}
 use Rattle.stream_spec.specs.History.{History, Placed, Lawful, Come, places}
 use Rattle.stream_spec.specs.Kept.{Item, Mark, Block, has_place, is_above, has_mark, blocks_of, items_of, kept_over, kept, is_entry_of, texts, text_of, Rising}
@@ -121,7 +121,7 @@ abbrev first_from : ℕ → List Numbered → ℕ
 first_from n [] = n
 first_from n (u ∷ us) = u.number
 
-first_same : (before : List Numbered) (u : Numbered) (us : List Numbered) → first_of before u ≡ first_from 0 (before ++ u ∷ us)
+first_same : (before : List Numbered) (u : Numbered) (us : List Numbered) → first_number_of before u ≡ first_from 0 (before ++ u ∷ us)
 first_same [] u us = refl
 first_same (b ∷ before) u us = refl
 
@@ -166,7 +166,7 @@ from_over s before (u ∷ us) r =
 
     same : u.packet.source ≡ s → one_if (adds_marker before u) ≡ one_if (is_marked (has_number (before ++ u ∷ us)) (first_from 0 (before ++ u ∷ us)) (last_of None (filter (is_packet_of s) before)) u)
     same e =
-        marked_same (has_number before) (has_number (before ++ u ∷ us)) (first_of before u) (before_it before u) u (λ k l. sym (numbers_before before (u ∷ us) k (above k l)))
+        marked_same (has_number before) (has_number (before ++ u ∷ us)) (first_number_of before u) (before_it before u) u (λ k l. sym (numbers_before before (u ∷ us) k (above k l)))
         ∙ (ap (λ n. one_if (is_marked (has_number (before ++ u ∷ us)) n (before_it before u) u)) (first_same before u us)
         ∙ ap (λ n. one_if (is_marked (has_number (before ++ u ∷ us)) (first_from 0 (before ++ u ∷ us)) (last_of None (filter (is_packet_of n) before)) u)) e)
 

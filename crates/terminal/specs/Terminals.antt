@@ -1,11 +1,7 @@
--- What a terminal stands for: the arrivals so far, what was heard of each source, and the counts (profile).
-use Rattle.std.specs.Prelude.{◌≡◌, ℕ, ◌+◌, ◌<◌, ◌≤◌, Bool, true, false, Result, Ok, Err, List, [], length, All, IsUtf8, slice_index, slice_index_or, if◌then◌else◌}
-use Rattle.std.specs.List.{concat}
-use Rattle.wire_spec.specs.declared.faults.TextFault.{TextFault}
-use Rattle.wire_spec.specs.declared.faults.TextFault.TheVariants.{Foreign}
-use Rattle.wire_spec.specs.Packets.{Packet, Arrival}
-use Rattle.stream_spec.specs.Numbering.{numbered, used}
-use Rattle.stream_spec.specs.Hearing.{heard}
+-- What a terminal stands for: what came to it so far, what was heard of each source, and the counts (profile).
+use Rattle.std.specs.Prelude.{◌≡◌, ℕ, ◌+◌, ◌<◌, ◌≤◌, ◌⊎◌, Bool, true, false, List, [], length, All, IsUtf8, slice_index, slice_index_or, if◌then◌else◌}
+use Rattle.wire_spec.specs.Packets.{Arrival}
+use Rattle.wire_spec.specs.Dump.{Item, What, Cut, Large}
 use Rattle.stream_spec.specs.ChunksBy.{used_ready}
 use Rattle.gap_tracker.specs.Stories.{Story}
 use Rattle.source_receiver.specs.declared.source_texts.SourceText.{SourceText}
@@ -14,6 +10,7 @@ use Rattle.ear.specs.declared.confs.EarConf.{EarConf}
 use Rattle.ear.specs.Hears.{IsToldOf, arrival_count, is_quiet, is_finished}
 use Rattle.ear.specs.Each.{HearsEach}
 use Rattle.text_spec.specs.declared.counts.Counts.{Counts}
+use Rattle.command_spec.specs.Seen.{Reception, Fate, fate_at, is_packet, is_refused, is_foreign, many, arrivals_at, text_at, counts_at}
 use Rattle.terminal.specs.declared.confs.TermConf.{TermConf}
 use Rattle.terminal.specs.declared.terminals.Terminal.{Terminal}
 
@@ -26,7 +23,17 @@ texts_of t = t.heard.items
 abbrev pub counts_of : Terminal → Counts
 counts_of t = t.counts
 
+-- it had no memory to hear on, and answers so from then on
+abbrev pub is_spent : Terminal → Bool
+is_spent t = t.spent
+
+abbrev pub IsWhole : Terminal → Type 0
+IsWhole t = is_spent t ≡ false
+
 -- ---- what it heard
+
+abbrev pub reception : TermConf → Reception
+reception c = record { ssrc = c.ssrc; pts = c.pts; wait = c.wait }
 
 -- what is asked of the ear
 abbrev pub ear_conf : TermConf → EarConf
@@ -44,53 +51,67 @@ pub record HearsTexts (t : Terminal) (c : TermConf) (sources : List ℕ) (story 
 abbrev pub IsHearingTexts : Terminal → Type 0
 IsHearingTexts t = (c : TermConf) × (sources : List ℕ) × (story : Story) × HearsTexts t c sources story
 
--- the terminal was told of these arrivals, newest first, of the stream and of its sources
-pub record Listens (t : Terminal) (c : TermConf) (sources : List ℕ) (past : List Arrival) : Type 0 where
+-- the packets that came are counted
+pub record Counted (n : Counts) (r : Reception) (came : List Item) : Type 0 where
+  pub packets : n.packets ≡ many is_packet (fate_at r) came
+  pub refused : n.refused ≡ many is_refused (fate_at r) came
+  pub foreign : n.foreign ≡ many is_foreign (fate_at r) came
+  pub few_refused : n.refused ≤ n.packets
+  pub few_foreign : n.foreign ≤ n.packets
+
+-- this came to the terminal, oldest first, and more may come
+pub record Listens (t : Terminal) (c : TermConf) (sources : List ℕ) (came : List Item) : Type 0 where
   pub story : Story
   pub hears : HearsTexts t c sources story
-  pub told : IsToldOf story past
+  pub told : IsToldOf story (arrivals_at (reception c) came)
+  pub some : 0 < length sources
+  pub counts : Counted t.counts (reception c) came
   pub few : arrival_count t.ear ≤ t.counts.packets
-  pub few_refused : t.counts.refused ≤ t.counts.packets
-  pub few_foreign : t.counts.foreign ≤ t.counts.packets
   pub quiet : is_quiet t.ear ≡ true
   pub open_still : is_finished t.ear ≡ false
+  pub whole : IsWhole t
 
--- some arrivals came so
+-- something came so
 abbrev pub IsListening : Terminal → Type 0
-IsListening t = (c : TermConf) × (sources : List ℕ) × (past : List Arrival) × Listens t c sources past
+IsListening t = (c : TermConf) × (sources : List ℕ) × (came : List Item) × Listens t c sources came
+
+-- it is not finished: it listens, where it is not spent
+abbrev pub IsOpen : Terminal → Type 0
+IsOpen t = IsWhole t → IsListening t
 
 -- how many markers are heard of the source s by these arrivals
 abbrev pub marks : ℕ → List Arrival → ℕ → ℕ
 marks wait a s = marks_by (used_ready wait a) s
 
--- all that is heard of the source s by these arrivals
-pub record IsTextOf (wait : ℕ) (a : List Arrival) (s : ℕ) (t : SourceText) : Type 0 where
-  pub text : t.text ≡ concat (heard wait a s)
-  pub marks : t.marks ≡ marks wait a s
+-- all that is heard of the source s
+pub record IsTextOf (r : Reception) (came : List Item) (s : ℕ) (t : SourceText) : Type 0 where
+  pub text : t.text ≡ text_at r came s
+  pub marks : t.marks ≡ marks r.wait (arrivals_at r came) s
 
--- these arrivals were heard to their end
-pub record Heard (t : Terminal) (c : TermConf) (sources : List ℕ) (past : List Arrival) : Type 0 where
+-- what came was heard to its end
+pub record Heard (t : Terminal) (c : TermConf) (sources : List ℕ) (came : List Item) : Type 0 where
+  pub some : 0 < length sources
   pub each : length (texts_of t) ≡ length sources
-  pub texts : (k : ℕ) (d : SourceText) → k < length sources → IsTextOf c.wait past (slice_index sources k) (slice_index_or (texts_of t) k d)
+  pub texts : (k : ℕ) (d : SourceText) → k < length sources → IsTextOf (reception c) came (slice_index sources k) (slice_index_or (texts_of t) k d)
   pub utf8 : All (λ x. IsUtf8 x.text) (texts_of t)
-  pub used : (counts_of t).used ≡ length (used c.wait (numbered past))
+  pub counts : counts_of t ≡ counts_at (reception c) came
+  pub whole : IsWhole t
+
+abbrev pub IsHeard : Terminal → Type 0
+IsHeard t = (c : TermConf) × (sources : List ℕ) × (came : List Item) × Heard t c sources came
+
+-- it is finished, where it is not spent
+abbrev pub IsFinished : Terminal → Type 0
+IsFinished t = IsWhole t → IsHeard t
 
 -- ---- what it counts
 
+-- a packet whose octets are not all there, or too many
+abbrev pub IsUnread : What → Type 0
+IsUnread what = (what ≡ Cut) ⊎ (what ≡ Large)
+
 abbrev pub one_if : Bool → ℕ
 one_if b = if b then 1 else 0
-
--- whether what came is no packet of text, whosever it is
-abbrev pub is_refused : Result Packet TextFault → Bool
-is_refused (Ok packet) = false
-is_refused (Err Foreign) = false
-is_refused (Err fault) = true
-
--- whether it is of another sender
-abbrev pub is_foreign : Result Packet TextFault → Bool
-is_foreign (Ok packet) = false
-is_foreign (Err Foreign) = true
-is_foreign (Err fault) = false
 
 -- all counts but that of used packets stay
 pub record SameCounts (old new : Counts) : Type 0 where
@@ -98,15 +119,8 @@ pub record SameCounts (old new : Counts) : Type 0 where
   pub refused : new.refused ≡ old.refused
   pub foreign : new.foreign ≡ old.foreign
 
--- the counts with one packet more
-pub record CountsAs (x : Result Packet TextFault) (old new : Counts) : Type 0 where
-  pub packets : new.packets ≡ old.packets + 1
-  pub refused : new.refused ≡ old.refused + one_if (is_refused x)
-  pub foreign : new.foreign ≡ old.foreign + one_if (is_foreign x)
-
--- the counts with one packet more, whose octets are not there
-pub record CountsRefused (old new : Counts) : Type 0 where
-  pub packets : new.packets ≡ old.packets + 1
-  pub used : new.used ≡ old.used
-  pub refused : new.refused ≡ old.refused + 1
-  pub foreign : new.foreign ≡ old.foreign
+-- the counts with one more that became this
+pub record CountsAs (f : Fate) (old new : Counts) : Type 0 where
+  pub packets : new.packets ≡ old.packets + one_if (is_packet f)
+  pub refused : new.refused ≡ old.refused + one_if (is_refused f)
+  pub foreign : new.foreign ≡ old.foreign + one_if (is_foreign f)

@@ -1,12 +1,15 @@
 //! Hearing one to 64 sources in the packets of one stream, and counting the packets.
-ghost use Rattle.std.specs.Prelude.{◌≡◌, ◌≢◌, ℕ, ◌+◌, ◌≤◌, ◌<◌, ◌^◌, List, [], length, Bool, Some, Err, OnOk, IfOk, All, AllPairs, vec_len};
-ghost use Rattle.wire_spec.specs.Packets.{Arrival};
-ghost use Rattle.wire_spec.specs.Text.{text_of};
-ghost use Rattle.wire_spec.specs.Dump.{arrived};
+ghost use Rattle.std.specs.Prelude.{◌≡◌, ◌≢◌, ℕ, ◌+◌, ◌≤◌, ◌<◌, ◌^◌, List, [], ◌∷◌, ◌++◌, length, Bool, Err, OnOk, OnErr, IfOk, All, AllPairs, vec_len};
+ghost use Rattle.wire_spec.specs.Dump.{Item, sent_item};
 ghost use Rattle.gap_tracker.specs.Stories.{Story};
+<<<<<<< HEAD
 ghost use Rattle.ear.specs.Hears.{all_given, arrival_count, is_clear, is_quiet, is_finished};
+=======
+ghost use Rattle.ear.specs.Hears.{all_given, arrival_count, is_clear, is_quiet, is_finished};
+ghost use Rattle.command_spec.specs.Seen.{fate_of, is_refused, is_foreign};
+>>>>>>> af09b16 (A terminal says what came to it item by item, and is spent once memory ran out)
 ghost use Rattle.terminal.specs.declared.confs.TermConf.{TermConf};
-ghost use Rattle.terminal.specs.Terminals.{texts_of, counts_of, is_refused, is_foreign, one_if, IsEmpty, HearsTexts, IsHearingTexts, SameCounts, CountsAs, CountsRefused, Listens, IsListening, Heard};
+ghost use Rattle.terminal.specs.Terminals.{texts_of, counts_of, is_spent, one_if, IsWhole, IsEmpty, IsUnread, HearsTexts, IsHearingTexts, SameCounts, Listens, IsListening, IsOpen, Heard, IsFinished};
 
 use crate::TermConf;
 use ear::{Ear, EarConf};
@@ -17,12 +20,17 @@ use t140_text::Counts;
 use wire_spec::TextFault;
 
 /// Hears the sources of one stream, and counts the packets that come.
+///
+/// Where memory runs out in `arrive` or `finish` the terminal is spent: these two and the views answer `NoMemory` from
+/// then on.
 #[derive(Drop)]
 pub struct Terminal {
     ear: Ear,
     /// What was heard of each source, in their order.
     heard: Vec<SourceText>,
     counts: Counts,
+    /// There was no memory to hear on.
+    spent: bool,
 }
 
 /// So many sources of whom nothing was heard.
@@ -45,7 +53,7 @@ impl Terminal {
         requires few { length sources.now ≤ 64 }
         requires differ { AllPairs (λ a b. a ≢ b) sources.now }
         ensures listens { IfOk result (λ terminal. Listens terminal conf sources.now []) }
-        ensures counts { IfOk result (λ terminal. ((counts_of terminal).packets ≡ 0) × ((counts_of terminal).refused ≡ 0) × ((counts_of terminal).foreign ≡ 0)) }
+        ensures packets { IfOk result (λ terminal. (counts_of terminal).packets ≡ 0) }
     {
         let asked = EarConf {
             place: 0,
@@ -58,6 +66,7 @@ impl Terminal {
             ear: Ear::new(alloc, asked, sources)?,
             heard,
             counts: Counts::default(),
+            spent: false,
         })
     }
 
@@ -71,6 +80,8 @@ impl Terminal {
         ensures quiet { OnOk result (is_quiet self.new.ear ≡ Bool.true) }
         ensures arrivals { OnOk result (arrival_count self.new.ear ≡ arrival_count self.old.ear) }
         ensures finished { OnOk result (is_finished self.new.ear ≡ is_finished self.old.ear) }
+        ensures spent { is_spent self.new ≡ is_spent self.old }
+        ensures packets { self.new.counts.packets ≡ self.old.counts.packets }
     {
         let used = self.ear.gather_each(self.heard.as_mut_slice())?;
         self.counts.used += used;
@@ -84,8 +95,9 @@ impl Terminal {
         ensures heard { self.new.heard ≡ self.old.heard }
         ensures packets { self.new.counts.packets ≡ self.old.counts.packets }
         ensures used { self.new.counts.used ≡ self.old.counts.used }
-        ensures refused { self.new.counts.refused ≡ self.old.counts.refused + one_if (is_refused (Err fault)) }
-        ensures foreign { self.new.counts.foreign ≡ self.old.counts.foreign + one_if (is_foreign (Err fault)) }
+        ensures refused { self.new.counts.refused ≡ self.old.counts.refused + one_if (is_refused (fate_of (Err fault))) }
+        ensures foreign { self.new.counts.foreign ≡ self.old.counts.foreign + one_if (is_foreign (fate_of (Err fault))) }
+        ensures spent { is_spent self.new ≡ is_spent self.old }
     {
         match fault {
             TextFault::Foreign => self.counts.foreign += 1,
@@ -93,17 +105,16 @@ impl Terminal {
         }
     }
 
-    /// Takes a packet that came at this moment, in milliseconds. One that is refused is counted, and hands in no time.
-    pub fn arrive(&mut self, at: u32, octets: &[u8]) -> Result<(), NoMemory>
+    /// Takes a packet that came at this moment.
+    fn take(&mut self, at: u64, octets: &[u8]) -> Result<(), NoMemory>
+        requires at { at < 2 ^ 48 }
         requires stands { IsListening self.old }
         requires few { (counts_of self.old).packets < 2 ^ 40 }
-        ensures listens { OnOk result ((c : TermConf) (sources : List ℕ) (past : List Arrival) → Listens self.old c sources past
-            → Listens self.new c sources (arrived at (text_of octets.now (Some c.ssrc) c.pts) past)) }
-        ensures counts { OnOk result ((c : TermConf) (sources : List ℕ) (past : List Arrival) → Listens self.old c sources past
-            → CountsAs (text_of octets.now (Some c.ssrc) c.pts) (counts_of self.old) (counts_of self.new)) }
+        ensures listens { OnOk result ((c : TermConf) (sources : List ℕ) (came : List Item) → Listens self.old c sources came → Listens self.new c sources (came ++ sent_item (at, octets.now) ∷ [])) }
+        ensures packets { (counts_of self.new).packets ≡ (counts_of self.old).packets + 1 }
     {
         self.counts.packets += 1;
-        match self.ear.hear(u64::from(at), octets) {
+        match self.ear.hear(at, octets) {
             Ok(()) => self.gather(),
             Err(fault) => {
                 self.count_refused(fault);
@@ -112,26 +123,80 @@ impl Terminal {
         }
     }
 
+    /// Takes a packet that came at this moment, in milliseconds. One that is refused is counted, and hands in no time.
+    pub fn arrive(&mut self, at: u64, octets: &[u8]) -> Result<(), NoMemory>
+        requires at { at < 2 ^ 48 }
+        requires open { IsOpen self.old }
+        requires few { (counts_of self.old).packets < 2 ^ 40 }
+        ensures listens { OnOk result ((c : TermConf) (sources : List ℕ) (came : List Item) → Listens self.old c sources came → Listens self.new c sources (came ++ sent_item (at, octets.now) ∷ [])) }
+        ensures open { IsOpen self.new }
+        ensures whole { OnOk result (IsWhole self.old) }
+        ensures spent { OnErr result (is_spent self.new ≡ Bool.true) }
+        ensures packets { (counts_of self.new).packets ≤ (counts_of self.old).packets + 1 }
+    {
+        if self.spent {
+            return Err(NoMemory);
+        }
+        match self.take(at, octets) {
+            Ok(()) => Ok(()),
+            Err(fault) => {
+                self.spent = true;
+                Err(fault)
+            }
+        }
+    }
+
     /// Counts a packet whose octets are not there as refused.
     pub fn refuse(&mut self)
+        requires open { IsOpen self.old }
+        requires few { (counts_of self.old).packets < 2 ^ 40 }
+        ensures listens { (c : TermConf) (sources : List ℕ) (came : List Item) (item : Item) → IsUnread item.what → Listens self.old c sources came → Listens self.new c sources (came ++ item ∷ []) }
+        ensures open { IsOpen self.new }
+        ensures spent { is_spent self.new ≡ is_spent self.old }
+        ensures packets { (counts_of self.new).packets ≤ (counts_of self.old).packets + 1 }
+    {
+        if !self.spent {
+            self.counts.packets += 1;
+            self.counts.refused += 1;
+        }
+    }
+
+    /// Hears what is left.
+    fn end(&mut self) -> Result<(), NoMemory>
         requires stands { IsListening self.old }
         requires few { (counts_of self.old).packets < 2 ^ 40 }
-        ensures listens { (c : TermConf) (sources : List ℕ) (past : List Arrival) → Listens self.old c sources past → Listens self.new c sources past }
-        ensures counts { CountsRefused (counts_of self.old) (counts_of self.new) }
+        ensures heard { OnOk result ((c : TermConf) (sources : List ℕ) (came : List Item) → Listens self.old c sources came → Heard self.new c sources came) }
     {
-        self.counts.packets += 1;
-        self.counts.refused += 1;
+        self.ear.finish();
+        self.gather()
     }
 
     /// Hears what is left: nothing comes any more.
     pub fn finish(&mut self) -> Result<(), NoMemory>
-        requires stands { IsListening self.old }
+        requires open { IsOpen self.old }
         requires few { (counts_of self.old).packets < 2 ^ 40 }
-        ensures heard { OnOk result ((c : TermConf) (sources : List ℕ) (past : List Arrival) → Listens self.old c sources past → Heard self.new c sources past) }
-        ensures same { OnOk result (SameCounts (counts_of self.old) (counts_of self.new)) }
+        ensures heard { OnOk result ((c : TermConf) (sources : List ℕ) (came : List Item) → Listens self.old c sources came → Heard self.new c sources came) }
+        ensures finished { IsFinished self.new }
+        ensures whole { OnOk result (IsWhole self.old) }
+        ensures spent { OnErr result (is_spent self.new ≡ Bool.true) }
     {
-        self.ear.finish();
-        self.gather()
+        if self.spent {
+            return Err(NoMemory);
+        }
+        match self.end() {
+            Ok(()) => Ok(()),
+            Err(fault) => {
+                self.spent = true;
+                Err(fault)
+            }
+        }
+    }
+
+    /// Whether there was no memory to hear on.
+    pub fn is_spent(&self) -> bool
+        ensures { result ≡ is_spent self.now }
+    {
+        self.spent
     }
 
     /// What was heard of each source, in their order.

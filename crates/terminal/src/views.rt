@@ -1,9 +1,12 @@
 //! The views of a terminal. After `NoMemory` what was printed before is as it was.
-ghost use Rattle.std.specs.Prelude.{◌≡◌, ◌+◌, ◌<◌, ◌++◌, length, All, IsUtf8, IfOk, OnOk, OnErr, IsOk, take, flat_map};
+ghost use Rattle.std.specs.Prelude.{◌≡◌, ℕ, ◌+◌, ◌<◌, List, [], ◌∷◌, ◌++◌, length, map, All, IsUtf8, IfOk, OnOk, OnErr, IsOk, take, flat_map};
+ghost use Rattle.wire_spec.specs.Dump.{Item};
 ghost use Rattle.text_spec.specs.Shown.{shown};
 ghost use Rattle.text_spec.specs.Views.{text_view, unaware_view, aware_view, source_view};
 ghost use Rattle.t140_text.specs.Displays.{Extends, display_of};
-ghost use Rattle.terminal.specs.Terminals.{texts_of, counts_of};
+ghost use Rattle.command_spec.specs.Seen.{Speaker, text_seen, aware_seen, unaware_seen};
+ghost use Rattle.terminal.specs.declared.confs.TermConf.{TermConf};
+ghost use Rattle.terminal.specs.Terminals.{texts_of, counts_of, reception, IsWhole, Heard, IsFinished};
 ghost use Rattle.terminal.specs.Views.{first_text, named, view_of, unaware_view_of, aware_view_of};
 
 use crate::Terminal;
@@ -128,8 +131,8 @@ fn whole_or_none(
 }
 
 impl Terminal {
-    /// Appends the view of a terminal of one source, as `read` prints it.
-    pub fn append_view(&self, alloc: Global, out: &mut Bytes) -> Result<(), NoMemory>
+    /// Appends the view of a terminal that is not spent.
+    fn append_whole_view(&self, alloc: Global, out: &mut Bytes) -> Result<(), NoMemory>
         requires some { 0 < length (texts_of self.now) }
         requires utf8 { All (λ t. IsUtf8 t.text) (texts_of self.now) }
         ensures ok { OnOk result (out.new ≡ out.old ++ view_of self.now) }
@@ -140,8 +143,8 @@ impl Terminal {
         whole_or_none(appended, size, out)
     }
 
-    /// Appends the view of an unaware terminal of this name, to which all comes as one source.
-    pub fn append_unaware_view(
+    /// Appends the view of an unaware terminal that is not spent.
+    fn append_whole_unaware_view(
         &self,
         alloc: Global,
         name: &Name,
@@ -157,8 +160,8 @@ impl Terminal {
         whole_or_none(appended, size, out)
     }
 
-    /// Appends the view of an aware terminal of this name, whose sources have these names, in their order.
-    pub fn append_aware_view(
+    /// Appends the view of an aware terminal that is not spent.
+    fn append_whole_aware_view(
         &self,
         alloc: Global,
         name: &Name,
@@ -173,5 +176,58 @@ impl Terminal {
         let size = out.len();
         let appended = append_aware(alloc, name, names, self.heard(), self.counts(), out);
         whole_or_none(appended, size, out)
+    }
+
+    /// Appends the view of a finished terminal of one source, as `read` prints it.
+    pub fn append_view(&self, alloc: Global, out: &mut Bytes) -> Result<(), NoMemory>
+        requires finished { IsFinished self.now }
+        requires one { IsWhole self.now → length (texts_of self.now) ≡ 1 }
+        ensures seen { OnOk result ((c : TermConf) (source : ℕ) (came : List Item) → Heard self.now c (source ∷ []) came → out.new ≡ out.old ++ text_seen (reception c) source came) }
+        ensures whole { OnOk result (IsWhole self.now) }
+        ensures err { OnErr result (out.new ≡ out.old) }
+    {
+        if self.is_spent() {
+            return Err(NoMemory);
+        }
+        self.append_whole_view(alloc, out)
+    }
+
+    /// Appends the view of a finished unaware terminal of this name, to which all comes as one source.
+    pub fn append_unaware_view(
+        &self,
+        alloc: Global,
+        name: &Name,
+        out: &mut Bytes,
+    ) -> Result<(), NoMemory>
+        requires finished { IsFinished self.now }
+        requires one { IsWhole self.now → length (texts_of self.now) ≡ 1 }
+        ensures seen { OnOk result ((c : TermConf) (source : ℕ) (came : List Item) → Heard self.now c (source ∷ []) came → out.new ≡ out.old ++ unaware_seen (reception c) name.now source came) }
+        ensures whole { OnOk result (IsWhole self.now) }
+        ensures err { OnErr result (out.new ≡ out.old) }
+    {
+        if self.is_spent() {
+            return Err(NoMemory);
+        }
+        self.append_whole_unaware_view(alloc, name, out)
+    }
+
+    /// Appends the view of a finished aware terminal of this name, whose sources have these names, in their order.
+    pub fn append_aware_view(
+        &self,
+        alloc: Global,
+        name: &Name,
+        names: &[Name],
+        out: &mut Bytes,
+    ) -> Result<(), NoMemory>
+        requires finished { IsFinished self.now }
+        requires each { IsWhole self.now → length names.now ≡ length (texts_of self.now) }
+        ensures seen { OnOk result ((c : TermConf) (speakers : List Speaker) (came : List Item) → names.now ≡ map (λ s. s.name) speakers → Heard self.now c (map (λ s. s.ssrc) speakers) came → out.new ≡ out.old ++ aware_seen (reception c) name.now speakers came) }
+        ensures whole { OnOk result (IsWhole self.now) }
+        ensures err { OnErr result (out.new ≡ out.old) }
+    {
+        if self.is_spent() {
+            return Err(NoMemory);
+        }
+        self.append_whole_aware_view(alloc, name, names, out)
     }
 }

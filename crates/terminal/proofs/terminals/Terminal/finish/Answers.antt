@@ -1,11 +1,4 @@
-use Rattle.std.proofs.Common.{refl}
-use Rattle.terminal.proofs.Listening.{on_ok, ended_text, finished}
 use Rattle.terminal.proofs.terminals.Terminal.finish.Goals as goal
 
-pub gather-requires-clause-stands : goal.gather-requires-clause-stands
-gather-requires-clause-stands c =
-    let r = c.requires.stands in
-    (r.0, r.1, _, ended_text c.args.self.now _ r.0 r.1 r.3.story c.finish.ensures.becomes refl refl r.3.hears)
-
-pub returns-clause-heard : goal.returns-clause-heard
-returns-clause-heard c = on_ok c.gather.result c.gather.ensures.gathers (λ g q sources past li. finished c.args.self.now _ c.gather.new.self c.finish.ensures.becomes c.finish.ensures.all refl refl g q sources past li)
+pub returns-in-Ok-clause-finished : goal.returns-in-Ok-clause-finished
+returns-in-Ok-clause-finished c = λ w. let r = c.requires.open c.if-self.false in (r.0, r.1, r.2, c.in-Ok.ensures.heard r.0 r.1 r.2 r.3)
