@@ -2,12 +2,8 @@
 ghost use Rattle.std.specs.Prelude.{◌≡◌, ◌≢◌, ℕ, ◌+◌, ◌≤◌, ◌<◌, ◌^◌, List, [], ◌∷◌, ◌++◌, length, Bool, Err, OnOk, OnErr, IfOk, All, AllPairs, vec_len};
 ghost use Rattle.wire_spec.specs.Dump.{Item, sent_item};
 ghost use Rattle.gap_tracker.specs.Stories.{Story};
-<<<<<<< HEAD
-ghost use Rattle.ear.specs.Hears.{all_given, arrival_count, is_clear, is_quiet, is_finished};
-=======
 ghost use Rattle.ear.specs.Hears.{all_given, arrival_count, is_clear, is_quiet, is_finished};
 ghost use Rattle.command_spec.specs.Seen.{fate_of, is_refused, is_foreign};
->>>>>>> af09b16 (A terminal says what came to it item by item, and is spent once memory ran out)
 ghost use Rattle.terminal.specs.declared.confs.TermConf.{TermConf};
 ghost use Rattle.terminal.specs.Terminals.{texts_of, counts_of, is_spent, one_if, IsWhole, IsEmpty, IsUnread, HearsTexts, IsHearingTexts, SameCounts, Listens, IsListening, IsOpen, Heard, IsFinished};
 

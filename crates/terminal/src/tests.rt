@@ -1,7 +1,7 @@
-//! What an aware terminal shows of three writers in turn, worked out by hand.
-ghost use Rattle.std.specs.Prelude.{◌≡◌, ◌<◌, ◌+◌, ℕ, List, length, OnOk};
-ghost use Rattle.wire_spec.specs.Packets.{Arrival};
-ghost use Rattle.terminal.specs.Terminals.{counts_of, IsListening, Listens};
+//! What aware terminals show, worked out by hand: of three writers in turn, and of the other in a call of two.
+ghost use Rattle.std.specs.Prelude.{◌≡◌, ◌<◌, ◌≤◌, ◌+◌, ◌^◌, ℕ, List, length, OnOk};
+ghost use Rattle.wire_spec.specs.Dump.{Item};
+ghost use Rattle.terminal.specs.Terminals.{counts_of, IsOpen, Listens};
 ghost use Rattle.terminal.specs.declared.confs.TermConf.{TermConf};
 
 use crate::{TermConf, Terminal};
@@ -53,47 +53,103 @@ fn packet(number: u16) -> Packet {
     packet
 }
 
-/// Hands in the packet with this number, where it is not lost.
-fn hand_in(terminal: &mut Terminal, number: u16, lost: &[u16]) -> Result<(), NoMemory>
-    requires stands { IsListening terminal.old }
+/// Hands in a packet.
+fn hand_in(terminal: &mut Terminal, at: u64, octets: &[u8]) -> Result<(), NoMemory>
+    requires at { at < 2 ^ 48 }
+    requires open { IsOpen terminal.old }
     requires few { (counts_of terminal.old).packets < 100 }
-    ensures stands { OnOk result ((c : TermConf) (sources : List ℕ) (past : List Arrival) → Listens terminal.old c sources past → (more : List Arrival) × Listens terminal.new c sources more) }
-    ensures few { OnOk result ((counts_of terminal.new).packets < (counts_of terminal.old).packets + 2) }
+    ensures open { IsOpen terminal.new }
+    ensures stands { OnOk result ((c : TermConf) (sources : List ℕ) (came : List Item) → Listens terminal.old c sources came → (more : List Item) × Listens terminal.new c sources more) }
+    ensures few { (counts_of terminal.new).packets ≤ (counts_of terminal.old).packets + 1 }
+{
+    terminal.arrive(at, octets)
+}
+
+/// Hands in the packet with this number, where it is not lost.
+fn hand_in_unless_lost(terminal: &mut Terminal, number: u16, lost: &[u16]) -> Result<(), NoMemory>
+    requires open { IsOpen terminal.old }
+    requires few { (counts_of terminal.old).packets < 100 }
+    ensures open { IsOpen terminal.new }
+    ensures stands { OnOk result ((c : TermConf) (sources : List ℕ) (came : List Item) → Listens terminal.old c sources came → (more : List Item) × Listens terminal.new c sources more) }
+    ensures few { (counts_of terminal.new).packets ≤ (counts_of terminal.old).packets + 1 }
 {
     if lost.contains(&number) {
         return Ok(());
     }
-    terminal.arrive(u32::from(number) * 100, packet(number).as_slice())
+    hand_in(terminal, u64::from(number) * 100, packet(number).as_slice())
 }
 
-/// The name of one letter.
-fn name(letter: char) -> Name {
+/// The name of these letters.
+fn name(letters: &str) -> Name {
     let mut name = Name::new();
-    if letter.len_utf8() <= Name::CAPACITY {
-        name.push(letter);
+    for letter in letters.chars() {
+        if name.len() + letter.len_utf8() <= Name::CAPACITY {
+            name.push(letter);
+        }
     }
     name
 }
 
-/// What the terminal D shows where the packets with these numbers are lost.
+const CONF: TermConf = TermConf {
+    ssrc: 9000,
+    pts: Pts { t140: 98, red: 100 },
+    wait: 1000,
+};
+
+/// Whether the terminal D shows this where the packets with these numbers are lost.
 fn shows(rt: &HostRuntime, lost: &[u16], wanted: &str) -> Result<bool, Fail> {
-    let conf = TermConf {
-        ssrc: 9000,
-        pts: Pts { t140: 98, red: 100 },
-        wait: 1000,
-    };
-    let mut terminal = Terminal::new(rt.alloc(), conf, &[1001, 1002, 1003])?;
+    let mut terminal = Terminal::new(rt.alloc(), CONF, &[1001, 1002, 1003])?;
     for number in 0..18u16 {
-        hand_in(&mut terminal, number, lost)?;
+        hand_in_unless_lost(&mut terminal, number, lost)?;
     }
     terminal.finish()?;
     let mut view = Bytes::new(rt.alloc());
     terminal.append_aware_view(
         rt.alloc(),
-        &name('D'),
-        &[name('A'), name('B'), name('C')],
+        &name("D"),
+        &[name("A"), name("B"), name("C")],
         &mut view,
     )?;
+    Ok(view.as_slice() == wanted.as_bytes())
+}
+
+/// Whether the terminal of one in a call of two shows this of the other, after these packets, 300 ms apart, with so many
+/// markers.
+fn shows_other(
+    rt: &HostRuntime,
+    names: (&str, &str),
+    source: u32,
+    packets: &[&[u8]],
+    wanted: &str,
+    marks: u64,
+) -> Result<bool, Fail>
+    requires { length packets.now < 100 }
+{
+    let mut terminal = Terminal::new(rt.alloc(), CONF, &[source])?;
+    for number in 0..packets.len() {
+        hand_in(&mut terminal, number as u64 * 300, packets[number])?;
+    }
+    terminal.finish()?;
+    let mut view = Bytes::new(rt.alloc());
+    terminal.append_aware_view(rt.alloc(), &name(names.0), &[name(names.1)], &mut view)?;
+    let counted = match terminal.heard() {
+        [heard] => heard.marks == marks,
+        _ => false,
+    };
+    Ok(counted && view.as_slice() == wanted.as_bytes())
+}
+
+/// Whether the unaware terminal Ann shows this after these packets of the mixer, 300 ms apart.
+fn shows_as_one(rt: &HostRuntime, packets: &[&[u8]], wanted: &str) -> Result<bool, Fail>
+    requires { length packets.now < 100 }
+{
+    let mut terminal = Terminal::new(rt.alloc(), CONF, &[9000])?;
+    for number in 0..packets.len() {
+        hand_in(&mut terminal, number as u64 * 300, packets[number])?;
+    }
+    terminal.finish()?;
+    let mut view = Bytes::new(rt.alloc());
+    terminal.append_unaware_view(rt.alloc(), &name("Ann"), &mut view)?;
     Ok(view.as_slice() == wanted.as_bytes())
 }
 
@@ -118,5 +174,57 @@ fn scattered_losses_mark_who_may_have_lost_more(rt: HostRuntime) -> Result<(), F
     let view =
         "== D aware\nA: 1234\n-- A bells 0\nB: \u{FFFD}1234\n-- B bells 0\nC: \u{FFFD}1234\n-- C bells 0\n-- packets 15 used 15 refused 0 foreign 0\n";
     assert!(rt; shows(&rt, &[1, 2, 4], view)?);
+    Ok(())
+}
+
+#[test]
+fn each_in_a_call_of_two_sees_what_the_other_typed(rt: HostRuntime) -> Result<(), Fail> {
+    // Bob typed one text.
+    let to_ann: [&[u8]; 3] = [
+        b"\x81\xE4\0\x64\0\0\x17\x70\0\0\x23\x28\0\0\x03\xEA\xE2\xFF\xFC\0\xE2\xFF\xFC\0\x62Hi Ann",
+        b"\x81\x64\0\x65\0\0\x18\x9C\0\0\x23\x28\0\0\x03\xEA\xE2\xFF\xFC\0\xE2\x04\xB0\x06\x62Hi Ann",
+        b"\x81\x64\0\x66\0\0\x19\xC8\0\0\x23\x28\0\0\x03\xEA\xE2\x09\x60\x06\xE2\x04\xB0\0\x62Hi Ann",
+    ];
+    let ann =
+        "== Ann aware\nBob: Hi Ann\n-- Bob bells 0\n-- packets 3 used 3 refused 0 foreign 0\n";
+    assert!(rt; shows_other(&rt, ("Ann", "Bob"), 1002, &to_ann, ann, 0)?);
+    // Ann typed three, the last one with a line separator.
+    let to_bob: [&[u8]; 5] = [
+        b"\x81\xE4\0\x64\0\0\x13\x88\0\0\x23\x28\0\0\x03\xE9\xE2\xFF\xFC\0\xE2\xFF\xFC\0\x62H",
+        b"\x81\x64\0\x65\0\0\x14\xB4\0\0\x23\x28\0\0\x03\xE9\xE2\xFF\xFC\0\xE2\x04\xB0\x01\x62He",
+        b"\x81\x64\0\x66\0\0\x15\xE0\0\0\x23\x28\0\0\x03\xE9\xE2\x09\x60\x01\xE2\x04\xB0\x01\x62Hey\xE2\x80\xA8",
+        b"\x81\x64\0\x67\0\0\x17\x0C\0\0\x23\x28\0\0\x03\xE9\xE2\x09\x60\x01\xE2\x04\xB0\x04\x62ey\xE2\x80\xA8",
+        b"\x81\x64\0\x68\0\0\x18\x38\0\0\x23\x28\0\0\x03\xE9\xE2\x09\x60\x04\xE2\x04\xB0\0\x62y\xE2\x80\xA8",
+    ];
+    let bob =
+        "== Bob aware\nAnn: Hey\nAnn: \n-- Ann bells 0\n-- packets 5 used 5 refused 0 foreign 0\n";
+    assert!(rt; shows_other(&rt, ("Bob", "Ann"), 1001, &to_bob, bob, 0)?);
+    Ok(())
+}
+
+#[test]
+fn an_unaware_terminal_shows_the_labelled_text(rt: HostRuntime) -> Result<(), Fail> {
+    let packets: [&[u8]; 4] = [
+        b"\x80\xE4\0\0\0\0\0\0\0\0\x23\x28\xE2\xFF\xFC\0\xE2\xFF\xFC\0\x62[Bob] Hi. ",
+        b"\x80\x64\0\x01\0\0\x01\x2C\0\0\x23\x28\xE2\xFF\xFC\0\xE2\x04\xB0\x0A\x62[Bob] Hi. \xE2\x80\xA8[Cy] yes",
+        b"\x80\x64\0\x02\0\0\x02\x58\0\0\x23\x28\xE2\x09\x60\x0A\xE2\x04\xB0\x0B\x62[Bob] Hi. \xE2\x80\xA8[Cy] yes",
+        b"\x80\x64\0\x03\0\0\x03\x84\0\0\x23\x28\xE2\x09\x60\x0B\xE2\x04\xB0\0\x62\xE2\x80\xA8[Cy] yes",
+    ];
+    let view =
+        "== Ann unaware\n| [Bob] Hi. \n| [Cy] yes\n-- bells 0\n-- packets 4 used 4 refused 0 foreign 0\n";
+    assert!(rt; shows_as_one(&rt, &packets, view)?);
+    Ok(())
+}
+
+#[test]
+fn a_typed_replacement_character_is_no_marker(rt: HostRuntime) -> Result<(), Fail> {
+    let packets: [&[u8]; 2] = [
+        b"\x81\xE2\0\x64\0\0\x13\x88\0\0\x23\x28\0\0\x03\xE9\xEF\xBF\xBD",
+        b"\x81\x62\0\x66\0\0\x15\xE0\0\0\x23\x28\0\0\x03\xE9y",
+    ];
+    // One was typed, and one stands for the packet between that did not come.
+    let view =
+        "== Bob aware\nAnn: \u{FFFD}\u{FFFD}y\n-- Ann bells 0\n-- packets 2 used 2 refused 0 foreign 0\n";
+    assert!(rt; shows_other(&rt, ("Bob", "Ann"), 1001, &packets, view, 1)?);
     Ok(())
 }

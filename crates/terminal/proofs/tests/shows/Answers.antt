@@ -1,4 +1,4 @@
-use Rattle.std.proofs.Common.{arith, sym}
+use Rattle.std.proofs.Common.{sym, arith}
 use Rattle.terminal.proofs.tests.shows.Invariants.{asked, writers}
 use Rattle.terminal.proofs.tests.shows.Goals as goal
 
@@ -6,12 +6,10 @@ pub loop-number-preserved : goal.loop-number-preserved
 loop-number-preserved c =
     let i = c.loop-number.invariant in
     record {
-      stands = c.in_ok-hand_in.ensures.stands asked writers i.stands.0 i.stands.1;
-      few = omega (arith, i.few, c.in_ok-hand_in.ensures.few);
+      stands = c.in_ok-hand_in_unless_lost.ensures.stands asked writers i.stands.0 i.stands.1;
+      hears_on = c.hand_in_unless_lost.ensures.open;
+      few = omega (arith, i.few, c.hand_in_unless_lost.ensures.few);
     }
 
 pub append_aware_view-requires-clause-each : goal.append_aware_view-requires-clause-each
-append_aware_view-requires-clause-each c = let i = c.loop-number.invariant in sym (c.in_ok-finish.ensures.heard asked writers i.stands.0 i.stands.1).each
-
-pub append_aware_view-requires-clause-utf8 : goal.append_aware_view-requires-clause-utf8
-append_aware_view-requires-clause-utf8 c = let i = c.loop-number.invariant in (c.in_ok-finish.ensures.heard asked writers i.stands.0 i.stands.1).utf8
+append_aware_view-requires-clause-each c = λ w. let i = c.loop-number.invariant in sym (c.in_ok-finish.ensures.heard asked writers i.stands.0 i.stands.1).each

@@ -1,7 +1,7 @@
 use Rattle.std.proofs.Common.{ℕ, ◌≤◌, List, [], ◌∷◌}
-use Rattle.wire_spec.specs.Packets.{Arrival}
+use Rattle.wire_spec.specs.Dump.{Item}
 use Rattle.terminal.specs.declared.confs.TermConf.{TermConf}
-use Rattle.terminal.specs.Terminals.{counts_of, Listens}
+use Rattle.terminal.specs.Terminals.{counts_of, IsOpen, Listens}
 use Rattle.terminal.proofs.tests.shows.Given as goal
 
 abbrev pub asked : TermConf
@@ -12,6 +12,7 @@ writers = 1001 ∷ 1002 ∷ 1003 ∷ []
 
 abbrev pub invariant-loop-number : goal.invariant-loop-number
 invariant-loop-number l = record {
-  stands : (past : List Arrival) × Listens l.terminal asked writers past;
+  stands : (came : List Item) × Listens l.terminal asked writers came;
+  hears_on : IsOpen l.terminal;
   few : (counts_of l.terminal).packets ≤ l.number;
 }

@@ -1,0 +1,15 @@
+use Rattle.std.proofs.Common.{ℕ, ◌≤◌, List, [], ◌∷◌}
+use Rattle.wire_spec.specs.Dump.{Item}
+use Rattle.terminal.specs.Terminals.{counts_of, IsOpen, Listens}
+use Rattle.terminal.specs.declared.confs.TermConf.{TermConf}
+use Rattle.terminal.proofs.tests.shows_other.Given as goal
+
+abbrev pub asked : TermConf
+asked = record { ssrc = 9000; pts = record { t140 = 98; red = 100 }; wait = 1000 }
+
+abbrev pub invariant-loop-number : goal.invariant-loop-number
+invariant-loop-number l = record {
+  stands : (came : List Item) × Listens l.terminal asked (l.source ∷ []) came;
+  hears_on : IsOpen l.terminal;
+  few : (counts_of l.terminal).packets ≤ l.number;
+}
