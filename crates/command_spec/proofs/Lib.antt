@@ -8,3 +8,4 @@ pub mod Stored
 pub mod SentBack
 pub mod Coming
 pub mod Headlines
+mod MixExamples
