@@ -9,3 +9,6 @@ pub mod Turning
 pub mod MayTurns
 pub mod Putting
 pub mod Looping
+pub mod Calling
+pub mod Made
+pub mod Woken

@@ -4,3 +4,7 @@ pub mod States
 pub mod Standing
 pub mod BatchInsides
 pub mod Turns
+pub mod Insides
+pub mod Looks
+pub mod Waking
+pub mod Making

@@ -1,0 +1,13 @@
+use Rattle.std.proofs.Common.{subst, sym}
+use Rattle.mixer_spec.specs.Table.{after_calls}
+use Rattle.mixer_turn.specs.States.{State}
+use Rattle.mixer_turn.specs.Insides.{state_of}
+use Rattle.mixer_turn.specs.Standing.{StandsFor}
+use Rattle.mixer_turn.proofs.Calling.{stands_hushed}
+use Rattle.mixer_turn.proofs.mixers.Mixer.hush.Goals as goal
+
+pub returns-clause-stands : goal.returns-clause-stands
+returns-clause-stands c = λ s pts calls h a.
+    let table = after_calls s calls in
+    let k = subst (λ (m : State). StandsFor s pts m calls) (sym c.self.view_is) h in
+    stands_hushed s pts (state_of c.self.inside) calls c.args.leg c.hush.new.self c.listen.new.self k a (c.hush.ensures.stands s table k.keeps.seats) (c.listen.ensures.stands s table k.keeps.waits (λ e. cc e))

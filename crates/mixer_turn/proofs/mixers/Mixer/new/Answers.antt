@@ -1,0 +1,46 @@
+use Rattle.std.proofs.Common.{◌≡◌, ℕ, List, [], length, map, refl, ap, sym, ◌∙◌, arith}
+use Rattle.std.specs.Prelude.{slice_index_or}
+use Rattle.std.proofs.lemmas.List.{length-map}
+use Rattle.file_spec.specs.declared.conf_lines.LegLine.{LegLine}
+use Rattle.mixer_spec.specs.Setups.{setup}
+use Rattle.mixer_spec.proofs.Conferences.{setup_law}
+use Rattle.conf_text.specs.Lines.{conf_of}
+use Rattle.mixer_turn.proofs.Made.{name_there}
+use Rattle.mixer_turn.proofs.mixers.Mixer.new.Goals as goal
+
+pub invariant_of-result : goal.invariant_of-result
+invariant_of-result c =
+    let legs : length c.as_slice-legs.result.now ≡ length c.args.conf.now.legs = ap (λ (xs : List LegLine). length xs) c.as_slice-legs.ensures in
+    let made = c.in_ok-outlets.ensures in
+    let names : length c.in_ok-names.names.items ≡ length c.as_slice-legs.result.now = ap (λ (xs : List (List ℕ)). length xs) c.in_ok-names.ensures ∙ length-map c.as_slice-legs.result.now (λ l. l.name) in
+    record {
+      seats = c.in_ok-seating.ensures.legs ∙ (legs ∙ sym made.count);
+      slots = c.in_ok-slots.ensures.legs ∙ (legs ∙ sym made.count);
+      names = names ∙ (legs ∙ sym made.count);
+      outlets = λ j o g. let m = made.each j o g in record { own = m.own; all = m.legs ∙ sym made.count; next = omega (arith, m.next) };
+      media = tt;
+      turns = omega arith;
+    }
+
+pub returns-clause-stands : goal.returns-clause-stands
+returns-clause-stands c =
+    let conf = conf_of c.args.conf.now in
+    let kept = c.args.conf.now.kept in
+    let legs : length c.as_slice-legs.result.now ≡ length conf.legs = ap (λ (xs : List LegLine). length xs) c.as_slice-legs.ensures in
+    let made = c.in_ok-outlets.ensures in
+    let names : c.in_ok-names.names.items ≡ map (λ l. l.name) conf.legs = c.in_ok-names.ensures ∙ ap (λ (xs : List LegLine). map (λ l. l.name) xs) c.as_slice-legs.ensures in
+    record {
+      setup = setup_law conf kept;
+      near = omega (arith, kept.spacing.high);
+      step = refl;
+      allowed = tt;
+      keeps = record {
+        legs = made.count;
+        seats = c.in_ok-seating.ensures.stands (setup conf) (sym legs) refl;
+        waits = c.in_ok-slots.ensures.stands (setup conf) (sym legs);
+        outlets = λ j o g. (made.each j o g).stands;
+        names = λ i l. ap (λ (xs : List (List ℕ)). slice_index_or xs i []) names ∙ name_there conf.legs i l;
+      };
+      media = refl;
+      turns = refl;
+    }

@@ -1,0 +1,18 @@
+-- What outlets and slots tell of the tables for which they stand.
+use Rattle.std.specs.Prelude.{◌≡◌, ℕ, Some, List, slice_get}
+use Rattle.rtt_base.specs.declared.text_packets.Pts.{Pts}
+use Rattle.mixer_spec.specs.Setups.{Setup}
+use Rattle.mixer_spec.specs.Table.{Table}
+use Rattle.slot_table.specs.Lanes.{Waiting}
+use Rattle.slot_table.specs.Standing as slots
+use Rattle.outlet.specs.declared.outlets.Outlet.{Outlet}
+use Rattle.outlet.specs.Outlets.{legs_of}
+use Rattle.mixer_turn.specs.Standing.{AreOutlets}
+
+-- each is of so many legs
+abbrev pub AreAll : ℕ → List Outlet → Type 0
+AreAll legs all = (j : ℕ) (o : Outlet) → slice_get all j ≡ Some o → legs_of o ≡ legs
+
+-- of each such table
+abbrev pub OfTables : List Outlet → List Waiting → (Setup → Table → Type 0) → Type 0
+OfTables all waiting P = (s : Setup) (pts : ℕ → Pts) (table : Table) → AreOutlets s pts all table.terminals → slots.StandsFor s waiting table → P s table

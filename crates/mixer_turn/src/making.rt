@@ -1,0 +1,92 @@
+//! What a mixer is made of.
+ghost use Rattle.std.specs.Prelude.{◌≡◌, ◌<◌, IfOk, IsTrue, length, map};
+ghost use Rattle.file_spec.specs.Conf.{is_name};
+ghost use Rattle.mixer_spec.specs.Setups.{Setup, setup};
+ghost use Rattle.mixer_spec.specs.Table.{empty};
+ghost use Rattle.slot_table.specs.Standing as slots;
+ghost use Rattle.conf_text.specs.Lines.{conf_of};
+ghost use Rattle.mixer_turn.specs.Making.{AreMade, AreNamed, IsMade};
+
+use aware_output::OutConf;
+use conf_text::{Conf, LegLine};
+use outlet::Outlet;
+use rtt_base::{Name, NoMemory};
+use slot_table::Slots;
+use std::alloc::Global;
+
+/// The SSRC of each leg.
+pub fn sources_of(alloc: Global, legs: &[LegLine]) -> Result<Vec<u32>, NoMemory>
+    ensures { IfOk result (λ v. v.items ≡ map (λ leg. leg.ssrc) legs.now) }
+{
+    let mut sources = Vec::with_capacity(alloc, legs.len())?;
+    for leg in legs {
+        sources.push(leg.ssrc)?;
+    }
+    Ok(sources)
+}
+
+/// The same name.
+fn copy_of(name: &Name) -> Name
+    requires { IsTrue (is_name name.now) }
+    ensures { result ≡ name.now }
+{
+    let mut copy = Name::new();
+    for octet in name.as_slice() {
+        copy.push(char::from(*octet));
+    }
+    copy
+}
+
+/// The name of each leg.
+pub fn names_of(alloc: Global, legs: &[LegLine]) -> Result<Vec<Name>, NoMemory>
+    requires { AreNamed legs.now }
+    ensures { IfOk result (λ v. v.items ≡ map (λ leg. leg.name) legs.now) }
+{
+    let mut names = Vec::with_capacity(alloc, legs.len())?;
+    for leg in legs {
+        names.push(copy_of(&leg.name))?;
+    }
+    Ok(names)
+}
+
+/// Nothing waits, and nobody listens.
+pub fn silent_slots(alloc: Global, legs: usize) -> Result<Slots, NoMemory>
+    ensures legs { IfOk result (λ v. length v ≡ legs) }
+    ensures stands { IfOk result (λ v. (s : Setup) → s.legs ≡ legs → slots.StandsFor s v empty) }
+{
+    let mut slots = Slots::new(alloc, legs)?;
+    for leg in 0..legs {
+        slots.listen(leg, false);
+    }
+    Ok(slots)
+}
+
+/// The outlet of the terminal of the leg with this number.
+fn outlet_of(alloc: Global, conf: &Conf, sources: &[u32], own: usize) -> Result<Outlet, NoMemory>
+    requires own { own < length conf.now.legs }
+    requires sources { sources.now ≡ map (λ leg. leg.ssrc) conf.now.legs }
+    ensures { IfOk result (λ o. IsMade (conf_of conf.now) own o) }
+{
+    let leg = &conf.legs.as_slice()[own];
+    let stream = OutConf {
+        ssrc: conf.mixer.ssrc,
+        seq: conf.mixer.seq,
+        stamp: conf.mixer.stamp,
+        pts: leg.pts,
+        gens: leg.gens,
+    };
+    Outlet::new(alloc, leg.aware, stream, sources, own, conf.spacing)
+}
+
+/// The outlet of each leg's terminal.
+pub fn outlets_of(alloc: Global, conf: &Conf, sources: &[u32]) -> Result<Vec<Outlet>, NoMemory>
+    requires { sources.now ≡ map (λ leg. leg.ssrc) conf.now.legs }
+    ensures { IfOk result (λ v. AreMade (conf_of conf.now) v.items) }
+{
+    let mut outlets = Vec::with_capacity(alloc, conf.legs.len())?;
+    for own in 0..conf.legs.len() {
+        let outlet = outlet_of(alloc, conf, sources, own)?;
+        outlets.push(outlet)?;
+    }
+    Ok(outlets)
+}

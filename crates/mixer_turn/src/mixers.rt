@@ -1,0 +1,166 @@
+//! The mixer.
+ghost use Rattle.std.specs.Prelude.{◌≡◌, ◌<◌, ◌↔◌, true, [], length, IsOk, IfOk, is_some};
+ghost use Rattle.stream_spec.specs.Ready.{chunk_of};
+ghost use Rattle.mixer_spec.specs.Setups.{setup};
+ghost use Rattle.mixer_spec.specs.Table.{Admit, Hush, Leave, Offer, free_place, has_room, is_idle, may_leave};
+ghost use Rattle.conf_text.specs.Lines.{conf_of};
+ghost use Rattle.mixer_turn.specs.Making.{pts_at};
+
+use crate::looks::{are_quiet, is_done};
+use crate::making::{names_of, outlets_of, silent_slots, sources_of};
+use crate::waking::wake;
+use conf_text::Conf;
+use outlet::Outlet;
+use rtt_base::{Chunk, Full, Name, NoMemory, Text};
+use seating::Seating;
+use slot_table::Slots;
+use std::alloc::Global;
+use std::marker::Model;
+
+/// The mixer of a conference: it takes text of each leg, and sends it to the terminals of the others, turn by turn.
+#[derive(Drop)]
+pub struct Mixer {
+    seating: Seating,
+    slots: Slots,
+    /// The outlet of each leg's terminal.
+    outlets: Vec<Outlet>,
+    /// The name of each leg.
+    names: Vec<Name>,
+    /// The media time of the last turn, in milliseconds.
+    media: Option<u64>,
+    /// How many turns were made.
+    turns: u64,
+    /// What a turn takes room in.
+    text: Text,
+}
+
+impl Model for Mixer {
+    ghost use Rattle.mixer_turn.specs.States.{State};
+
+    ghost Value = { State };
+
+    ghost use Rattle.mixer_turn.specs.Insides.{state_of, IsMixer};
+
+    ghost view = { state_of };
+
+    ghost invariant = { IsMixer };
+}
+
+impl Mixer {
+    ghost use Rattle.mixer_turn.specs.States.{legs_of};
+    ghost use Rattle.mixer_turn.specs.Standing.{StandsFor, Tells, Leads};
+
+    /// The mixer of this conference, of which no leg came. It takes all memory that it ever needs.
+    pub fn new(alloc: Global, conf: &Conf) -> Result<Mixer, NoMemory>
+        ensures legs { IfOk result (λ mixer. legs_of mixer ≡ length conf.now.legs) }
+        ensures turns { IfOk result (λ mixer. mixer.turns ≡ 0) }
+        ensures stands { IfOk result (λ mixer. StandsFor (setup (conf_of conf.now)) (pts_at (conf_of conf.now)) mixer []) }
+    {
+        let legs = conf.legs.as_slice();
+        let sources = sources_of(alloc, legs)?;
+        let names = names_of(alloc, legs)?;
+        let seating = Seating::new(alloc, legs.len())?;
+        let slots = silent_slots(alloc, legs.len())?;
+        let outlets = outlets_of(alloc, conf, &sources)?;
+        Ok(Mixer {
+            seating,
+            slots,
+            outlets,
+            names,
+            media: None,
+            turns: 0,
+            text: Text::new(),
+        })
+    }
+
+    /// The number of legs.
+    pub fn legs(&self) -> usize
+        ensures { result ≡ legs_of self.now }
+    {
+        self.outlets.len()
+    }
+
+    /// How many turns were made.
+    pub fn turns(&self) -> u64
+        ensures { result ≡ self.now.turns }
+    {
+        self.turns
+    }
+
+    /// The leg, which never came, comes to the lowest free place, and listens or not. False where all 16 are held; then all
+    /// is as before.
+    pub fn admit(&mut self, leg: usize, listens: bool) -> bool
+        requires { leg < legs_of self.old }
+        ensures legs { legs_of self.new ≡ legs_of self.old }
+        ensures turns { self.new.turns ≡ self.old.turns }
+        ensures free { Tells self.old (λ s table. result ≡ is_some (free_place s table.seats)) }
+        ensures stands { Leads self.old self.new (Admit leg listens) }
+    {
+        if !self.seating.admit(leg, listens) {
+            return false;
+        }
+        self.slots.listen(leg, listens);
+        true
+    }
+
+    /// The leg, which holds a place, listens no more. What waits for it is still sent to it.
+    pub fn hush(&mut self, leg: usize)
+        requires { leg < legs_of self.old }
+        ensures legs { legs_of self.new ≡ legs_of self.old }
+        ensures turns { self.new.turns ≡ self.old.turns }
+        ensures stands { Leads self.old self.new (Hush leg) }
+    {
+        self.seating.hush(leg);
+        self.slots.listen(leg, false);
+    }
+
+    /// Whether the leg gives up its place: it listens no more, nothing waits of it or for it, and no text of it or at its
+    /// terminal is still to be repeated. Else all is as before.
+    pub fn leave(&mut self, leg: usize) -> bool
+        requires { leg < legs_of self.old }
+        ensures legs { legs_of self.new ≡ legs_of self.old }
+        ensures turns { self.new.turns ≡ self.old.turns }
+        ensures may { Tells self.old (λ s table. result ≡ may_leave s leg table) }
+        ensures stands { Leads self.old self.new (Leave leg) }
+    {
+        if !self.may_leave(leg) {
+            return false;
+        }
+        self.seating.free(leg);
+        true
+    }
+
+    fn may_leave(&self, leg: usize) -> bool
+        requires { leg < legs_of self.now }
+        ensures { Tells self.now (λ s table. result ≡ may_leave s leg table) }
+    {
+        !self.seating.listens(leg) && is_done(leg, &self.outlets, &self.slots)
+    }
+
+    /// Takes a chunk of text of its leg for all other legs that listen. `Full`: the leg holds no place, or more than 16384
+    /// octets or 512 chunks of it would wait; then all is as before.
+    pub fn offer(&mut self, chunk: &Chunk) -> Result<(), Full>
+        requires { chunk.now.source < legs_of self.old }
+        ensures legs { legs_of self.new ≡ legs_of self.old }
+        ensures turns { self.new.turns ≡ self.old.turns }
+        ensures room { Tells self.old (λ s table. IsOk result
+            ↔ (has_room s chunk.now.source (chunk_of chunk.now) table ≡ true)) }
+        ensures stands { Leads self.old self.new (Offer (chunk_of chunk.now)) }
+    {
+        if !self.seating.is_seated(chunk.source as usize) {
+            return Err(Full);
+        }
+        let Ok(()) = self.slots.offer(chunk) else {
+            return Err(Full);
+        };
+        wake(&mut self.outlets);
+        Ok(())
+    }
+
+    /// Whether nothing waits, and no text is still to be repeated.
+    pub fn idle(&self) -> bool
+        ensures { Tells self.now (λ s table. result ≡ is_idle s table) }
+    {
+        are_quiet(&self.outlets, &self.slots)
+    }
+}
