@@ -12,3 +12,4 @@ pub mod Looping
 pub mod Calling
 pub mod Made
 pub mod Woken
+pub mod Turned

@@ -7,6 +7,7 @@ use Rattle.mixer_turn.specs.Turns.{AreOutletsOf}
 abbrev pub state_of : Inside → State
 state_of i = record { seating = i.seating; slots = i.slots; outlets = i.outlets.items; names = i.names.items; media = i.media; turns = i.turns }
 
+-- ---- fields
 pub record IsSound (m : State) : Type 0 where
   pub seats : length m.seating.legs ≡ length m.outlets
   pub slots : length m.slots ≡ length m.outlets

@@ -3,7 +3,7 @@ use Rattle.std.specs.Prelude.{◌≡◌, ℕ, zero, suc, ◌<◌, ◌≤◌, Boo
 use Rattle.rtt_base.specs.declared.text_packets.Pts.{Pts}
 use Rattle.wire_spec.specs.SentPackets.{packet_written}
 use Rattle.mixer_spec.specs.Setups.{Setup, stream}
-use Rattle.mixer_spec.specs.Table.{Seats, Table, turn_at, turned_to, posts_below}
+use Rattle.mixer_spec.specs.Table.{Call, Seats, Table, turn_at, turned_to, posts_below, after_calls}
 use Rattle.mixer_spec.specs.Table as mixed
 use Rattle.mixer_spec.specs.Laws.{AreTexts}
 use Rattle.slot_table.specs.Lanes.{Waiting}
@@ -15,6 +15,8 @@ use Rattle.outlet.specs.Turns.{SendsNext, with_terminal}
 use Rattle.outlet.specs.Outlets as outlets
 use Rattle.outlet.specs.Outlets.{own_of, legs_of, next_turn, IsTurned}
 use Rattle.mixer_turn.specs.declared.batches.Post.{Post}
+use Rattle.mixer_turn.specs.States.{State}
+use Rattle.mixer_turn.specs.Standing as mixers
 use Rattle.mixer_turn.specs.Standing.{AreOutlets}
 
 -- ---- outlets
@@ -52,6 +54,10 @@ written pts p = record { terminal = p.terminal; packet = packet_written (pts p.t
 -- the batch has these packets, in this order
 abbrev pub HasPosts : (ℕ → Pts) → List mixed.Post → List Post → Type 0
 HasPosts pts posts batch = batch ≡ map (written pts) posts
+
+-- it has those of a turn at the moment `now`
+abbrev pub HasBatch : Setup → (ℕ → Pts) → ℕ → Table → List Post → Type 0
+HasBatch s pts now table batch = HasPosts pts (mixed.batch s now table) batch
 
 -- the batch behind a turn of the terminal n that put these octets, or none
 abbrev pub batch_with : Bool → ℕ → List ℕ → List Post → List Post
@@ -105,3 +111,7 @@ pub record AllTurned (s : Setup) (pts : ℕ → Pts) (table : Table) (now t : �
 abbrev pub OfMixers : List Outlet → seating.State → List Waiting → List (List ℕ) → ℕ → (Setup → (ℕ → Pts) → Table → ℕ → Type 0) → Type 0
 OfMixers all places waiting called t P =
     (s : Setup) (pts : ℕ → Pts) (table : Table) (now : ℕ) → AllMayTurn s pts table now t all places waiting called → P s pts table now
+
+-- of all calls for which the mixer stands, with its payload types
+abbrev pub OfCalls : State → (Setup → (ℕ → Pts) → Table → Type 0) → Type 0
+OfCalls m P = (s : Setup) (pts : ℕ → Pts) (calls : List Call) → mixers.StandsFor s pts m calls → P s pts (after_calls s calls)

@@ -1,13 +1,15 @@
 //! The mixer.
-ghost use Rattle.std.specs.Prelude.{◌≡◌, ◌<◌, ◌↔◌, true, [], length, IsOk, IfOk, is_some};
+ghost use Rattle.std.specs.Prelude.{◌≡◌, ◌+◌, ◌^◌, ◌<◌, ◌↔◌, true, [], length, IsOk, IfOk, is_some};
 ghost use Rattle.stream_spec.specs.Ready.{chunk_of};
 ghost use Rattle.mixer_spec.specs.Setups.{setup};
-ghost use Rattle.mixer_spec.specs.Table.{Admit, Hush, Leave, Offer, free_place, has_room, is_idle, may_leave};
+ghost use Rattle.mixer_spec.specs.Table.{Admit, Hush, Leave, Offer, Turn, free_place, has_room, is_idle, may_leave};
 ghost use Rattle.conf_text.specs.Lines.{conf_of};
 ghost use Rattle.mixer_turn.specs.Making.{pts_at};
 
+use crate::batches::Batch;
 use crate::looks::{are_quiet, is_done};
 use crate::making::{names_of, outlets_of, silent_slots, sources_of};
+use crate::turns::{next_media, turn_legs};
 use crate::waking::wake;
 use conf_text::Conf;
 use outlet::Outlet;
@@ -49,6 +51,7 @@ impl Model for Mixer {
 impl Mixer {
     ghost use Rattle.mixer_turn.specs.States.{legs_of};
     ghost use Rattle.mixer_turn.specs.Standing.{StandsFor, Tells, Leads};
+    ghost use Rattle.mixer_turn.specs.Turns.{HasBatch, OfCalls};
 
     /// The mixer of this conference, of which no leg came. It takes all memory that it ever needs.
     pub fn new(alloc: Global, conf: &Conf) -> Result<Mixer, NoMemory>
@@ -162,5 +165,29 @@ impl Mixer {
         ensures { Tells self.now (λ s table. result ≡ is_idle s table) }
     {
         are_quiet(&self.outlets, &self.slots)
+    }
+
+    /// A turn at this moment, in milliseconds: each terminal whose leg holds a place is sent at most one packet. The packets
+    /// are put into the batch, in leg order, in place of those of the turn before.
+    pub fn turn(&mut self, now: u64, batch: &mut Batch)
+        requires moment { now < 2 ^ 47 }
+        requires turns { self.old.turns < 5000000 }
+        ensures legs { legs_of self.new ≡ legs_of self.old }
+        ensures turns { self.new.turns ≡ self.old.turns + 1 }
+        ensures batch { OfCalls self.old (λ s pts table. HasBatch s pts now table batch.new) }
+        ensures stands { Leads self.old self.new (Turn now) }
+    {
+        let media = next_media(self.media, now);
+        turn_legs(
+            &mut self.outlets,
+            media,
+            &self.names,
+            &self.seating,
+            &mut self.slots,
+            &mut self.text,
+            batch,
+        );
+        self.media = Some(media);
+        self.turns += 1;
     }
 }

@@ -1,8 +1,8 @@
 //! A turn of all terminals.
-ghost use Rattle.std.specs.Prelude.{◌≡◌, ℕ, ◌+◌, ◌^◌, ◌<◌, ◌≤◌, List, length};
+ghost use Rattle.std.specs.Prelude.{◌≡◌, ℕ, ◌+◌, ◌^◌, ◌<◌, ◌≤◌, IfSome, List, length};
 ghost use Rattle.rtt_base.specs.declared.text_packets.Pts.{Pts};
 ghost use Rattle.mixer_spec.specs.Setups.{Setup};
-ghost use Rattle.mixer_spec.specs.Table.{Table};
+ghost use Rattle.mixer_spec.specs.Table.{Table, next_media};
 ghost use Rattle.outlet.specs.Outlets.{IsTurned, OfTurns, legs_of, next_turn, own_of};
 ghost use Rattle.mixer_turn.specs.Turns.{AreOutletsOf, IsPut, LegMayTurn, LegTurned, OfMixers, Reaches, AllTurned};
 
@@ -11,6 +11,9 @@ use outlet::Outlet;
 use rtt_base::{Name, Text};
 use seating::Seating;
 use slot_table::Slots;
+
+/// The most that media time rises by in a turn, in milliseconds (profile).
+const STEP: u64 = 200;
 
 /// One turn of the terminal of this leg, which holds a place: its packet, if there is one, is put into `post`.
 fn turn_into(
@@ -135,5 +138,16 @@ pub(crate) fn turn_legs(
     batch.clear();
     for leg in 0..outlets.len() {
         batch.turn_leg(leg, media, &mut outlets[leg], names, seating, slots, text);
+    }
+}
+
+/// The media time of a turn at the moment `now` after one at the media time `last`, in milliseconds.
+pub(crate) fn next_media(last: Option<u64>, now: u64) -> u64
+    requires { IfSome last (λ t. t < 2 ^ 62) }
+    ensures { result ≡ next_media 200 last now }
+{
+    match last {
+        None => now,
+        Some(last) => (last + 1).max(now.min(last + STEP)),
     }
 }

@@ -1,0 +1,46 @@
+use Rattle.std.proofs.Common.{◌≡◌, ℕ, ◌+◌, List, ◌∷◌, length, ap, subst, sym, ◌∙◌, arith}
+use Rattle.std.specs.Vec.{with_items}
+use Rattle.std.proofs.lemmas.List.{with_items_is}
+use Rattle.mixer_spec.specs.Table.{Turn}
+use Rattle.outlet.specs.declared.outlets.Outlet.{Outlet}
+use Rattle.mixer_turn.specs.States.{State}
+use Rattle.mixer_turn.specs.Insides.{IsSound, state_of}
+use Rattle.mixer_turn.specs.Standing.{StandsFor}
+use Rattle.mixer_turn.specs.Turns.{AreOutletsOf, OfMixers, AllTurned}
+use Rattle.mixer_turn.proofs.Turned.{with_turn, turn_stands, turn_batch, sound_after, next_from}
+use Rattle.mixer_turn.proofs.mixers.Mixer.turn.Goals as goal
+
+pub turn_legs-requires-clause-outlets : goal.turn_legs-requires-clause-outlets
+turn_legs-requires-clause-outlets c =
+    subst (λ (xs : List Outlet). AreOutletsOf (length xs) c.next_media-media.result xs) (sym c.deref_mut.ensures.value)
+    (next_from (state_of c.self.inside) c.args.now c.next_media-media.result c.self.invariant c.next_media-media.ensures)
+
+pub invariant_of-self : goal.invariant_of-self
+invariant_of-self c =
+    let count : length c.turn_legs.new.outlets ≡ length c.self.inside.outlets.items = c.turn_legs.ensures.legs ∙ ap (λ (xs : List Outlet). length xs) c.deref_mut.ensures.value in
+    let is : (with_items c.self.inside.outlets c.turn_legs.new.outlets).items ≡ c.turn_legs.new.outlets = with_items_is c.self.inside.outlets c.turn_legs.new.outlets (omega (arith, count, c.self.inside.outlets.ok.0)) in
+    subst (λ (xs : List Outlet). IsSound (with_turn (state_of c.self.inside) c.next_media-media.result xs c.turn_legs.new.slots)) (sym is)
+    (sound_after (state_of c.self.inside) c.args.now c.next_media-media.result c.turn_legs.new.outlets c.turn_legs.new.slots c.self.invariant (omega (arith, c.requires.turns, ap (λ (m : State). m.turns) c.self.view_is)) c.requires.moment
+    c.next_media-media.ensures count c.turn_legs.ensures.slots
+    (subst (λ (n : ℕ). AreOutletsOf n (c.next_media-media.result + 1) c.turn_legs.new.outlets) (ap (λ (xs : List Outlet). length xs) c.deref_mut.ensures.value) c.turn_legs.ensures.outlets))
+
+pub returns-clause-batch : goal.returns-clause-batch
+returns-clause-batch c = λ s pts calls h.
+    let k = subst (λ (m : State). StandsFor s pts m calls) (sym c.self.view_is) h in
+    turn_batch s pts (state_of c.self.inside) calls c.args.now c.next_media-media.result c.turn_legs.new.outlets c.turn_legs.new.slots c.turn_legs.new.batch k (omega (arith, c.requires.turns, ap (λ (m : State). m.turns) c.self.view_is)) c.next_media-media.ensures
+    (subst (λ (xs : List Outlet). OfMixers xs c.self.inside.seating c.self.inside.slots c.self.inside.names.items c.next_media-media.result (λ s pts table now. AllTurned s pts table now c.next_media-media.result c.turn_legs.new.outlets c.turn_legs.new.slots c.turn_legs.new.batch))
+    c.deref_mut.ensures.value
+    (subst (λ (ns : List (List ℕ)). OfMixers c.deref_mut.result.now c.self.inside.seating c.self.inside.slots ns c.next_media-media.result (λ s pts table now. AllTurned s pts table now c.next_media-media.result c.turn_legs.new.outlets c.turn_legs.new.slots c.turn_legs.new.batch))
+    c.deref.ensures.value c.turn_legs.ensures.turned))
+
+pub returns-clause-stands : goal.returns-clause-stands
+returns-clause-stands c = λ s pts calls h a.
+    let k = subst (λ (m : State). StandsFor s pts m calls) (sym c.self.view_is) h in
+    let count : length c.turn_legs.new.outlets ≡ length c.self.inside.outlets.items = c.turn_legs.ensures.legs ∙ ap (λ (xs : List Outlet). length xs) c.deref_mut.ensures.value in
+    let is : (with_items c.self.inside.outlets c.turn_legs.new.outlets).items ≡ c.turn_legs.new.outlets = with_items_is c.self.inside.outlets c.turn_legs.new.outlets (omega (arith, count, c.self.inside.outlets.ok.0)) in
+    subst (λ (xs : List Outlet). StandsFor s pts (with_turn (state_of c.self.inside) c.next_media-media.result xs c.turn_legs.new.slots) (Turn c.args.now ∷ calls)) (sym is)
+    (turn_stands s pts (state_of c.self.inside) calls c.args.now c.next_media-media.result c.turn_legs.new.outlets c.turn_legs.new.slots c.turn_legs.new.batch k (omega (arith, c.requires.turns, ap (λ (m : State). m.turns) c.self.view_is)) c.next_media-media.ensures count
+    (subst (λ (xs : List Outlet). OfMixers xs c.self.inside.seating c.self.inside.slots c.self.inside.names.items c.next_media-media.result (λ s pts table now. AllTurned s pts table now c.next_media-media.result c.turn_legs.new.outlets c.turn_legs.new.slots c.turn_legs.new.batch))
+    c.deref_mut.ensures.value
+    (subst (λ (ns : List (List ℕ)). OfMixers c.deref_mut.result.now c.self.inside.seating c.self.inside.slots ns c.next_media-media.result (λ s pts table now. AllTurned s pts table now c.next_media-media.result c.turn_legs.new.outlets c.turn_legs.new.slots c.turn_legs.new.batch))
+    c.deref.ensures.value c.turn_legs.ensures.turned)))
