@@ -1,6 +1,6 @@
 -- What one more answer of a leg does.
 use Rattle.std.proofs.Common.{◌≡◌, ◌≤◌, ℕ, Bool, true, false, true≢false, cond, not, None, List, [], ◌∷◌, ◌++◌, Ok, Err, refl, ap, sym, ◌∙◌, subst, arith, inl, inr}
-use Rattle.std.specs.Prelude.{filter, Result, IfErr}
+use Rattle.std.specs.Prelude.{Result, IfErr}
 use Rattle.std.proofs.lemmas.Bool.{not-true}
 use Rattle.std.proofs.lemmas.List.Elements.{filter-append}
 use Rattle.file_spec.specs.declared.conf_lines.Stay.{Stay}
@@ -12,7 +12,6 @@ use Rattle.rtpdump_io.specs.declared.items.DumpFault.{DumpFault}
 use Rattle.rtpdump_io.specs.Reading.{IsFaultOf}
 use Rattle.leg_core.specs.declared.steps.LegStep.{LegStep}
 use Rattle.leg_core.specs.declared.steps.LegStep.TheVariants as step
-use Rattle.leg_core.specs.declared.legs.Leg.{Leg}
 use Rattle.leg_core.specs.Gives.{Stands, Follows, is_last, is_over, source_of}
 use Rattle.mix_loop.specs.declared.items.Item.{Item}
 use Rattle.mix_loop.specs.declared.items.Item.TheVariants as item

@@ -1,32 +1,25 @@
 -- What was given of the legs is what is heard of their recordings.
-use Rattle.std.proofs.Common.{◌≡◌, ◌<◌, ◌≤◌, ℕ, zero, suc, Bool, true, false, inl, inr, Some, None, List, [], ◌∷◌, length, map, refl, ap, sym, ◌∙◌, subst, arith}
+use Rattle.std.proofs.Common.{◌≡◌, ◌<◌, ◌≤◌, ℕ, zero, suc, false, inl, inr, Some, None, List, [], ◌∷◌, length, map, refl, ap, sym, ◌∙◌, subst, arith}
 use Rattle.std.specs.Prelude.{filter, slice_get, nat_le, ◌&&◌}
-use Rattle.std.specs.Option.{option_map}
 use Rattle.file_spec.specs.declared.conf_lines.Stay.{Stay}
-use Rattle.file_spec.specs.Stays.{is_before_end, stays_at}
+use Rattle.file_spec.specs.Stays.{is_before_end}
 use Rattle.rtt_base.specs.declared.text_packets.Pts.{Pts}
-use Rattle.wire_spec.specs.declared.faults.DumpKind.TheVariants.{Read}
 use Rattle.stream_spec.specs.Ready.{Chunk}
-use Rattle.rtt_io.specs.Counts.{Rose}
-use Rattle.rtpdump_io.specs.declared.items.DumpFault.{DumpFault}
-use Rattle.rtpdump_io.specs.Reading.{IsFaultOf}
 use Rattle.mixer_spec.specs.Setups.{Setup, in_stay}
-use Rattle.mixer_spec.specs.Table.{Table, Call}
+use Rattle.mixer_spec.specs.Table.{Call}
 use Rattle.mixer_spec.specs.Plain.{plain}
-use Rattle.leg_core.specs.declared.legs.Leg.{Leg}
-use Rattle.leg_core.specs.Gives.{Stands, is_over, place_of, source_of}
+use Rattle.leg_core.specs.Gives.{is_over, place_of}
 use Rattle.mix_loop.specs.declared.items.Ended.{Ended}
-use Rattle.mix_loop.specs.declared.items.Ended.TheVariants.{Open, AtEnd, AtFault}
+use Rattle.mix_loop.specs.declared.items.Ended.TheVariants.{AtEnd}
 use Rattle.mix_loop.specs.declared.ports.Port.{Port}
 use Rattle.mix_loop.specs.declared.turns.Mixing.{Mixing}
 use Rattle.mix_loop.specs.declared.turns.Mixing.TheVariants as mixing
-use Rattle.mix_loop.specs.Items.{Gave, nothing}
-use Rattle.mix_loop.specs.Ports.{StaysAs, IsSound}
-use Rattle.mix_loop.specs.Turns.{AllAtEnd, Tells, AreAt, GaveAt, MixedAs, IsFresh, AllFresh}
-use Rattle.mix_loop.proofs.Lists.{funext, lt_or_ge, get_within}
+use Rattle.mix_loop.specs.Items.{Gave}
+use Rattle.mix_loop.specs.Turns.{AllAtEnd, Tells, AreAt, MixedAs, AllFresh}
+use Rattle.mix_loop.proofs.Lists.{funext, lt_or_ge}
 use Rattle.leg_items.specs.declared.inlets.LegInlet.{LegInlet}
-use Rattle.leg_items.specs.Feds.{Asked, GivesAs, Fed, past_of, recording_asked, chunks_asked, in_part}
-use Rattle.leg_items.specs.Answers.{AllWhole, IsAnswer, AreChunks, IsNewAt, AreNew, AllStayAs, AllAsked, SourceKept, PlainMixed, source_at}
+use Rattle.leg_items.specs.Feds.{Asked, GivesAs, Fed, recording_asked, chunks_asked, in_part}
+use Rattle.leg_items.specs.Answers.{AllWhole, IsAnswer, AreChunks, AreNew, AllStayAs, AllAsked, SourceKept, PlainMixed, source_at}
 use Rattle.leg_items.proofs.Feeding.{fed_none}
 
 module _ {S : Type 0} where
@@ -56,7 +49,7 @@ module _ {S : Type 0} where
     empty = n.new.empty;
     open_still = n.new.open_still;
     away = n.new.away;
-    stays = stays j p e;
+    stays = (let h = stays j p e in record { from = h.from; until = h.until });
   }
 
 -- what lies in the stay of a leg, where its port has that stay

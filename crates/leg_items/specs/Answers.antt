@@ -1,22 +1,24 @@
 -- What plain mixing of recordings answers.
-use Rattle.std.specs.Prelude.{◌≡◌, ◌≤◌, ◌<◌, ℕ, false, None, Some, List, [], length, slice_get}
+use Rattle.std.specs.Prelude.{◌≡◌, ◌≤◌, ◌<◌, ℕ, None, Some, List, [], slice_get}
 use Rattle.rtt_base.specs.declared.text_packets.Pts.{Pts}
 use Rattle.wire_spec.specs.declared.faults.DumpKind.TheVariants.{Read}
 use Rattle.stream_spec.specs.Ready.{Chunk}
 use Rattle.rtt_io.specs.Counts.{Rose}
 use Rattle.rtpdump_io.specs.declared.items.DumpFault.{DumpFault}
 use Rattle.rtpdump_io.specs.Reading.{IsFaultOf}
-use Rattle.mixer_spec.specs.Setups.{Setup, in_stay}
+use Rattle.file_spec.specs.declared.conf_lines.LegLine.{LegLine}
+use Rattle.file_spec.specs.declared.conf_lines.Stay.{Stay}
+use Rattle.file_spec.specs.Conf.{Conf}
+use Rattle.mixer_spec.specs.Setups.{Setup, in_stay, leg_at}
+use Rattle.mixer_spec.specs.Bridged.{input_limit}
 use Rattle.mixer_spec.specs.Table.{Table, Call}
 use Rattle.mixer_spec.specs.Plain.{plain}
-use Rattle.leg_core.specs.declared.legs.Leg.{Leg}
 use Rattle.leg_core.specs.Gives.{Stands, place_of, source_of}
 use Rattle.mix_loop.specs.declared.ports.Port.{Port}
 use Rattle.mix_loop.specs.declared.turns.Mixing.{Mixing}
 use Rattle.mix_loop.specs.declared.turns.Mixing.TheVariants as mixing
 use Rattle.mix_loop.specs.Logs.{LogOf}
 use Rattle.mix_loop.specs.Mixers.{At}
-use Rattle.mix_loop.specs.Ports.{StaysAs}
 use Rattle.leg_items.specs.declared.inlets.LegInlet.{LegInlet}
 use Rattle.leg_items.specs.Feds.{Asked, IsNewLeg, past_of, recording_asked, chunks_asked}
 
@@ -36,6 +38,17 @@ pub record AreChunks (s : Setup) (asked : ℕ → Asked) (chunks : ℕ → List 
   pub legs : (j : ℕ) → j < s.legs → chunks j ≡ in_stay s j (chunks_asked (asked j))
   pub above : (j : ℕ) → s.legs ≤ j → chunks j ≡ []
 
+-- the leg j stays so long
+pub record IsStayOf (s : Setup) (j : ℕ) (stay : Stay) : Type 0 where
+  pub from : s.from j ≡ stay.from
+  pub until : s.until j ≡ stay.until
+
+-- of a conference whose inputs have these octets: each leg hears its stream in its input
+abbrev pub AreOfConf : Conf → (ℕ → List ℕ) → (ℕ → Asked) → Type 0
+AreOfConf c inputs asked =
+    (j : ℕ) (l : LegLine) → leg_at c.legs j ≡ Some l
+    → asked j ≡ record { conf = record { place = j; ssrc = l.ssrc; pts = l.pts; wait = c.wait }; limit = input_limit c; octets = inputs j }
+
 module _ {S : Type 0} where
   -- the source of a port's leg
   abbrev pub source_at : Port (LegInlet S) → S
@@ -51,7 +64,7 @@ module _ {S : Type 0} where
 
   -- each leg stays as the setup says
   abbrev pub AllStayAs : Setup → List (Port (LegInlet S)) → Type 0
-  AllStayAs s ps = (j : ℕ) (p : Port (LegInlet S)) → slice_get ps j ≡ Some p → StaysAs s j p
+  AllStayAs s ps = (j : ℕ) (p : Port (LegInlet S)) → slice_get ps j ≡ Some p → IsStayOf s j p.stay
 
   -- each leg is asked for this, and gave nothing yet
   abbrev pub AllAsked : (S → List ℕ) → (ℕ → Asked) → List (Port (LegInlet S)) → Type 0

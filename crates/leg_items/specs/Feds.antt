@@ -1,8 +1,7 @@
 -- What a leg that is read by who mixes gave of its recording.
-use Rattle.std.specs.Prelude.{◌≡◌, ◌≤◌, ℕ, Bool, false, not, None, Result, Ok, Err, List, [], filter, if◌then◌else◌}
+use Rattle.std.specs.Prelude.{◌≡◌, ◌≤◌, ℕ, false, not, None, Result, Ok, Err, List, [], filter, if◌then◌else◌}
 use Rattle.file_spec.specs.declared.conf_lines.Stay.{Stay}
 use Rattle.file_spec.specs.Stays.{stays_at}
-use Rattle.wire_spec.specs.declared.faults.DumpKind.{DumpKind}
 use Rattle.wire_spec.specs.declared.faults.DumpKind.TheVariants.{Read}
 use Rattle.wire_spec.specs.Dump.{Recording}
 use Rattle.stream_spec.specs.Ready.{Chunk}
@@ -13,7 +12,7 @@ use Rattle.ear.specs.declared.confs.EarConf.{EarConf}
 use Rattle.leg_core.specs.declared.steps.LegStep.{LegStep}
 use Rattle.leg_core.specs.declared.steps.LegStep.TheVariants as step
 use Rattle.leg_core.specs.declared.legs.Leg.{Leg}
-use Rattle.leg_core.specs.Gives.{LegPast, Stands, begins, chunks_of, recording_of, is_over, source_of}
+use Rattle.leg_core.specs.Gives.{LegPast, Stands, chunks_of, recording_of, is_over, source_of}
 use Rattle.mix_loop.specs.declared.items.Item.{Item}
 use Rattle.mix_loop.specs.declared.items.Item.TheVariants as item
 use Rattle.mix_loop.specs.declared.items.Ended.{Ended}

@@ -2,7 +2,9 @@
 #![tactic(auto)]
 
 mod inlets;
+mod laws;
 mod plain;
 
 pub use inlets::{LegInlet, leg_port};
+pub use laws::conference_is_asked;
 pub use plain::mix_plain;

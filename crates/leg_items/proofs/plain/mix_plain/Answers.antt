@@ -1,4 +1,4 @@
-use Rattle.std.proofs.Common.{◌≡◌, [], refl, ap, sym, ◌∙◌}
+use Rattle.std.proofs.Common.{[], refl}
 use Rattle.mix_loop.specs.Mixers.{Of}
 use Rattle.leg_items.proofs.Telling.{new_at, all_fresh, plain_mixed, inlets_of}
 use Rattle.leg_items.proofs.plain.mix_plain.Goals as goal

@@ -1,6 +1,5 @@
-use Rattle.std.proofs.Common.{◌≡◌, refl, sym, ◌∙◌}
+use Rattle.std.proofs.Common.{refl, sym, ◌∙◌}
 use Rattle.stream_spec.specs.Ready.{chunk_of}
-use Rattle.mix_loop.specs.Items.{gave_more}
 use Rattle.leg_items.proofs.Feeding.{fed_step, not_over, chunk_from}
 use Rattle.leg_items.proofs.inlets.LegInletInlet.next.Goals as goal
 
