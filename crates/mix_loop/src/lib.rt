@@ -15,5 +15,5 @@ pub use inlets::Inlet;
 pub use items::{Ended, Item};
 pub use logs::Log;
 pub use mixers::Mixes;
-pub use ports::{Port, Seat};
+pub use ports::{Port, Seat, has_begun, is_before_end};
 pub use turns::{Mixing, mix_ports};

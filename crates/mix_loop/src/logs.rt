@@ -57,7 +57,7 @@ impl Log {
     }
 
     /// The recording to a terminal.
-    pub fn out(&self, terminal: usize) -> &[u8]
+    pub fn recording(&self, terminal: usize) -> &[u8]
         requires { terminal < length self.now }
         ensures { result.now ≡ out_at self.now terminal }
     {

@@ -84,8 +84,8 @@ impl<I> Port<I> {
     }
 }
 
-/// Whether the moment is before this end.
-pub(crate) fn is_before_end(now: u64, end: Option<u32>) -> bool
+/// Whether the moment (milliseconds) is before this end, if there is one.
+pub fn is_before_end(now: u64, end: Option<u32>) -> bool
     ensures { result ≡ is_before_end now end }
 {
     match end {
@@ -94,8 +94,8 @@ pub(crate) fn is_before_end(now: u64, end: Option<u32>) -> bool
     }
 }
 
-/// Whether the moment is not before this beginning.
-pub(crate) fn has_begun(now: u64, from: u32) -> bool
+/// Whether the moment (milliseconds) is not before this beginning.
+pub fn has_begun(now: u64, from: u32) -> bool
     ensures { result ≡ nat_le from now }
 {
     u64::from(from) <= now
