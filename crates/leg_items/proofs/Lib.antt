@@ -1,3 +1,4 @@
+pub mod Ports
 pub mod Feeding
 pub mod Telling
 pub mod OfConfs

@@ -1,13 +1,13 @@
 //! A leg as where its texts come from.
 ghost use Rattle.std.specs.Prelude.{◌≡◌, false, if◌then◌else◌};
-ghost use Rattle.file_spec.specs.Stays.{is_before_end, stays_at};
+ghost use Rattle.file_spec.specs.Stays.{stays_at};
 ghost use Rattle.leg_core.specs.Gives.{is_over, source_of};
 ghost use Rattle.mix_loop.specs.declared.items.Item.{Item};
 ghost use Rattle.leg_items.specs.Feds.{IsNewLeg, item_for};
 
 use file_spec::Stay;
 use leg_core::{Leg, LegStep};
-use mix_loop::{Inlet, Item, Port};
+use mix_loop::{Inlet, Item, Port, has_begun, is_before_end};
 use rtpdump_io::DumpFault;
 use rtt_base::Chunk;
 use rtt_io::{Gate, Source};
@@ -62,18 +62,7 @@ impl<S: Source> LegInlet<S> {
     fn stays_at(&self, moment: u64) -> bool
         ensures { result ≡ stays_at moment self.now.stay }
     {
-        let begun = u64::from(self.stay.from) <= moment;
-        begun && is_before_end(moment, self.stay.until)
-    }
-}
-
-/// Whether the moment is before this end.
-fn is_before_end(moment: u64, end: Option<u32>) -> bool
-    ensures { result ≡ is_before_end moment end }
-{
-    match end {
-        Some(end) => moment < u64::from(end),
-        None => true,
+        has_begun(moment, self.stay.from) && is_before_end(moment, self.stay.until)
     }
 }
 

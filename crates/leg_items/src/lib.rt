@@ -8,3 +8,6 @@ mod plain;
 pub use inlets::{LegInlet, leg_port};
 pub use laws::conference_is_asked;
 pub use plain::mix_plain;
+
+#[cfg(test)]
+mod tests;

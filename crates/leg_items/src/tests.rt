@@ -1,0 +1,159 @@
+ghost use Rattle.std.specs.Prelude.{◌≡◌, Bool, IfOk};
+ghost use Rattle.leg_core.specs.Gives.{is_over, place_of};
+
+use crate::{leg_port, mix_plain};
+use ear::EarConf;
+use file_spec::Stay;
+use leg_core::Leg;
+use mix_loop::{Log, Mixes, Mixing};
+use rtt_base::{Bytes, Chunk, Full, NoMemory, Pts};
+use rtt_io::{SteadySource, StillGate};
+use std::alloc::Global;
+use std::test::Fail;
+
+// The line and the head of a recording.
+const OPENING: [u8; 44] = *b"#!rtpplay1.0 127.0.0.1/5004\n\0\0\0\0\0\0\0\0\x7F\0\0\x01\x13\x8C\0\0";
+
+// Records at 0, 300 and 1500 ms: A, then B, then the sixth packet, C, which repeats two without text.
+const FIRST: [u8; 30] =
+    *b"\0\x1E\0\x16\0\0\0\0\x80\xE4\0\0\0\0\0\0\0\0\x03\xE9\xE2\xFF\xFC\0\xE2\xFF\xFC\0\x62A";
+
+const SECOND: [u8; 31] =
+    *b"\0\x1F\0\x17\0\0\x01\x2C\x80\x64\0\x01\0\0\x01\x2C\0\0\x03\xE9\xE2\xFF\xFC\0\xE2\x04\xB0\x01\x62AB";
+
+const SIXTH: [u8; 30] =
+    *b"\0\x1E\0\x16\0\0\x05\xDC\x80\x64\0\x05\0\0\x05\xDC\0\0\x03\xE9\xE2\x09\x60\0\xE2\x04\xB0\0\x62C";
+
+// A call of the mixer.
+#[derive(Clone, Copy, Debug, PartialEq, Eq)]
+enum Called {
+    Admit(usize, bool),
+    Hush(usize),
+    Leave(usize),
+    Offer(u8, u64),
+    Turn(u64),
+}
+
+// A mixer that notes what it is called, takes every text and is always idle.
+#[derive(Drop)]
+struct Noting {
+    calls: Vec<Called>,
+    legs: usize,
+    turns: u64,
+}
+
+impl Noting {
+    fn note(&mut self, call: Called)
+        ensures legs { self.new.legs ≡ self.old.legs }
+        ensures turns { self.new.turns ≡ self.old.turns }
+    {
+        let _full = self.calls.push(call);
+    }
+}
+
+impl Mixes for Noting {
+    ghost stands = { λ m s pts calls. ⊥ };
+
+    ghost legs = { λ m. m.legs };
+
+    ghost turns = { λ m. m.turns };
+
+    fn admit(&mut self, leg: usize, listens: bool) -> bool {
+        self.note(Called::Admit(leg, listens));
+        true
+    }
+
+    fn hush(&mut self, leg: usize) {
+        self.note(Called::Hush(leg));
+    }
+
+    fn leave(&mut self, leg: usize) -> bool {
+        self.note(Called::Leave(leg));
+        true
+    }
+
+    fn offer(&mut self, chunk: &Chunk) -> Result<(), Full> {
+        self.note(Called::Offer(chunk.source, chunk.ready));
+        Ok(())
+    }
+
+    fn turn(&mut self, now: u64, _log: &mut Log) -> Result<(), NoMemory> {
+        self.note(Called::Turn(now));
+        self.turns += 1;
+        Ok(())
+    }
+
+    fn idle(&self) -> bool {
+        true
+    }
+}
+
+// A leg over the first two of these records, or all.
+fn ann(alloc: Global, place: u8, last: &[u8]) -> Result<Leg<SteadySource>, NoMemory>
+    ensures open { IfOk result (λ leg. is_over leg ≡ Bool.false) }
+    ensures place { IfOk result (λ leg. place_of leg ≡ place) }
+{
+    let mut recording = Bytes::new(alloc);
+    recording.append(&OPENING)?;
+    recording.append(&FIRST)?;
+    recording.append(&SECOND)?;
+    recording.append(last)?;
+    let conf = EarConf {
+        place,
+        ssrc: 1001,
+        pts: Pts { t140: 98, red: 100 },
+        wait: 1000,
+    };
+    match Leg::new(alloc, SteadySource::new(recording), conf) {
+        Ok(leg) => Ok(leg),
+        Err(_) => Err(NoMemory),
+    }
+}
+
+#[test]
+fn legs_come_offer_and_go_at_their_moments(rt: HostRuntime) -> Result<(), Fail> {
+    let alloc = rt.alloc();
+    let stays = Stay {
+        from: 0,
+        until: None,
+    };
+    let goes = Stay {
+        from: 200,
+        until: Some(800),
+    };
+    let talks = ann(alloc, 0, &SIXTH)?;
+    let visits = ann(alloc, 1, b"")?;
+    let first = leg_port(talks, stays);
+    let second = leg_port(visits, goes);
+    let mut ports = [first, second];
+    let mut mixer = Noting {
+        calls: Vec::new(alloc),
+        legs: 2,
+        turns: 0,
+    };
+    let mut log = Log::new(alloc, 2)?;
+    let mixing = mix_plain(&rt, &StillGate, &mut ports, &mut mixer, 300, 20, &mut log);
+    assert!(rt; mixing == Mixing::Over);
+    let calls = [
+        Called::Admit(0, true),
+        Called::Offer(0, 0),
+        Called::Turn(0),
+        Called::Admit(1, true),
+        Called::Offer(0, 300),
+        Called::Offer(1, 300),
+        Called::Turn(300),
+        Called::Turn(600),
+        Called::Hush(1),
+        Called::Leave(1),
+        Called::Turn(900),
+        Called::Turn(1200),
+        Called::Turn(1500),
+        Called::Turn(1800),
+        Called::Turn(2100),
+        Called::Turn(2400),
+        Called::Offer(0, 2500),
+        Called::Offer(0, 2500),
+    ];
+    assert!(rt; mixer.calls.as_slice() == calls.as_slice());
+    Ok(())
+}
