@@ -1,0 +1,6 @@
+//! Mixes a conference over recordings: what is sent to each terminal, and what is seen there.
+#![tactic(auto)]
+
+mod mixed;
+
+pub use mixed::{MixFault, Mixed};
