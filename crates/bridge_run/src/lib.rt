@@ -2,5 +2,7 @@
 #![tactic(auto)]
 
 mod mixed;
+mod mixing;
 
 pub use mixed::{MixFault, Mixed};
+pub use mixing::mix;

@@ -1,0 +1,66 @@
+-- What mixing a conference comes to, from what lies under the names of its inputs. Legs are counted from 0.
+use Rattle.std.specs.Prelude.{◌≡◌, ℕ, ◌+◌, ◌<◌, false, true, Some, IsSome, unwrap_or, List, [], ◌∷◌, length, map}
+use Rattle.rtt_io.specs.Counts.{Rose}
+use Rattle.rtpdump_io.specs.declared.items.DumpFault.{DumpFault}
+use Rattle.rtpdump_io.specs.Reading.{is_of_source}
+use Rattle.file_spec.specs.declared.conf_lines.LegLine.{LegLine}
+use Rattle.file_spec.specs.Conf.{Conf}
+use Rattle.mixer_spec.specs.Setups.{leg_at}
+use Rattle.command_spec.specs.declared.faults.Refusal.TheVariants.{AtByte, AfterTurns}
+use Rattle.command_spec.specs.Work.{Contents, Made, Steps, Refuses, Makes}
+use Rattle.command_spec.specs.Mixing.{mixes}
+use Rattle.bridge_run.specs.declared.mixed.MixFault.{MixFault}
+use Rattle.bridge_run.specs.declared.mixed.MixFault.TheVariants.{Open, Dump, TooLong, NoMemory}
+use Rattle.bridge_run.specs.declared.mixed.Mixed.{Mixed}
+
+-- ---- what lies there
+abbrev pub octets_under : Contents → List ℕ → List ℕ
+octets_under held name = unwrap_or (held name) []
+
+-- the octets of the inputs of these legs
+abbrev pub inputs_under : Contents → List LegLine → List (List ℕ)
+inputs_under held legs = map (λ leg. octets_under held leg.input) legs
+
+-- something lies under the input of each of the first n legs
+abbrev pub LieBelow : ℕ → Contents → List LegLine → Type 0
+LieBelow n held legs = (k : ℕ) (leg : LegLine) → k < n → leg_at legs k ≡ Some leg → IsSome (held leg.input)
+
+-- and under that of each
+abbrev pub AllLie : Contents → List LegLine → Type 0
+AllLie held legs = LieBelow (length legs) held legs
+
+-- ---- what it comes to
+-- what is made of what lies there, or why nothing is
+abbrev pub steps_of : Contents → Conf → Steps
+steps_of held c = mixes c (inputs_under held c.legs)
+
+-- for each leg its output, with these octets
+abbrev pub outputs_of : List LegLine → List (List ℕ) → List Made
+outputs_of [] more = []
+outputs_of (leg ∷ legs) [] = []
+outputs_of (leg ∷ legs) (octets ∷ more) = record { name = leg.output; octets = octets } ∷ outputs_of legs more
+
+-- the views and the outputs
+pub record IsMade (held : Contents) (c : Conf) (mixed : Mixed) : Type 0 where
+  pub lie : AllLie held c.legs
+  pub makes : steps_of held c ≡ Makes mixed.views (outputs_of c.legs mixed.outs.items)
+
+-- the input of a leg is refused at the byte of this fault, or its source failed
+pub record IsBroken (Told : Type 0) (Object : List ℕ → Type 0) (held : Contents) (c : Conf) (number : ℕ) (leg : LegLine) (fault : DumpFault) : Type 0 where
+  pub lie : Told → AllLie held c.legs
+  pub read : is_of_source fault.kind ≡ true → Object leg.input
+  pub refused : is_of_source fault.kind ≡ false → Told → steps_of held c ≡ Refuses (number + 1) (AtByte fault.offset fault.kind)
+
+-- Why nothing is made; `Call` and `Object` tell of which names a call or an object failed. Want of memory is free.
+abbrev pub Stops : (Told : Type 0) → (Call Object : List ℕ → Type 0) → Contents → Conf → MixFault → Type 0
+Stops Told Call Object held c (Open number) =
+    (leg : LegLine) × (leg_at c.legs number ≡ Some leg) × Call leg.input × (Told → LieBelow number held c.legs)
+Stops Told Call Object held c (Dump number fault) =
+    (leg : LegLine) × (leg_at c.legs number ≡ Some leg) × IsBroken Told Object held c number leg fault
+Stops Told Call Object held c TooLong = Told → AllLie held c.legs × (steps_of held c ≡ Refuses 0 (AfterTurns c.turns))
+Stops Told Call Object held c NoMemory = Unit {0}
+
+-- ---- counts of faults
+-- the count of this name rose
+abbrev pub RoseAt : (List ℕ → ℕ) → (List ℕ → ℕ) → List ℕ → Type 0
+RoseAt old new name = Rose (old name) (new name)
