@@ -3,6 +3,8 @@
 
 mod mixed;
 mod mixing;
+mod ports;
 
 pub use mixed::{MixFault, Mixed};
 pub use mixing::mix;
+pub use ports::{close_ports, close_ports_after_fault, open_ports};

@@ -1,0 +1,90 @@
+-- The inputs of legs, opened one by one and handed back.
+use Rattle.std.proofs.Common.{◌≡◌, ℕ, zero, suc, ◌+◌, ◌<◌, ◌≤◌, ◌⊎◌, inl, inr, Option, Some, List, [], ◌∷◌, ◌++◌, length, refl, ap, subst, sym, ◌∙◌, arith}
+use Rattle.std.specs.Prelude.{IsSome, slice_get}
+use Rattle.std.proofs.lemmas.Bool.{cases_lt}
+use Rattle.file_spec.specs.declared.conf_lines.LegLine.{LegLine}
+use Rattle.rtt_io.specs.Counts.{Rose, counted, last_count}
+use Rattle.mix_loop.specs.declared.ports.Port.{Port}
+use Rattle.leg_items.specs.declared.inlets.LegInlet.{LegInlet}
+use Rattle.bridge_run.specs.declared.mixed.MixFault.{MixFault}
+use Rattle.bridge_run.specs.declared.mixed.MixFault.TheVariants.{Open, Dump, TooLong, NoMemory}
+use Rattle.mixer_spec.specs.Setups.{leg_at}
+use Rattle.leg_items.specs.Answers.{source_at}
+use Rattle.bridge_run.specs.Opened.{AllOpened, AreCalm, IsNotOpened, IsOpened, IsRefused}
+
+module _ {S : Type 0} where
+  pub calm_parts : (faults : S → ℕ) (xs ys : List (Port (LegInlet S))) → AreCalm faults (xs ++ ys) → AreCalm faults xs × AreCalm faults ys
+  calm_parts faults [] ys h = (tt, h)
+  calm_parts faults (x ∷ xs) ys h = let r = calm_parts faults xs ys h.1 in ((h.0, r.0), r.1)
+
+  pub calm_more : (faults : S → ℕ) (xs : List (Port (LegInlet S))) (p : Port (LegInlet S)) → AreCalm faults xs → faults (source_at p) ≡ 0 → AreCalm faults (xs ++ p ∷ [])
+  calm_more faults [] p h e = (e, tt)
+  calm_more faults (x ∷ xs) p h e = (h.0, calm_more faults xs p h.1 e)
+
+-- a count of faults that rose, behind others
+pub rose_behind : (before between after faults : ℕ) → before ≤ between → after ≡ counted between faults → Rose 0 faults → Rose before after
+rose_behind before between after faults l e (inl r) = elim (cases_lt (between + faults) last_count) [ inl lt ↦ inl (omega arith) | inr ge ↦ inr (omega arith) ]
+rose_behind before between after faults l e (inr r) = inr (omega arith)
+
+-- ---- elements by number
+pub is_there : {X : Type 0} (xs : List X) (i : ℕ) → i < length xs → (x : X) × (slice_get xs i ≡ Some x)
+is_there [] i l = absurd (omega arith)
+is_there (y ∷ xs) zero l = (y, refl)
+is_there (y ∷ xs) (suc i) l = is_there xs i (omega arith)
+
+pub pushed : {X : Type 0} (xs : List X) (y : X) (k : ℕ) (x : X) → slice_get (xs ++ y ∷ []) k ≡ Some x → (slice_get xs k ≡ Some x) ⊎ ((k ≡ length xs) × (x ≡ y))
+pushed [] y zero x e = inr (refl, cc e)
+pushed [] y (suc k) x e = absurd (cc e)
+pushed (z ∷ xs) y zero x e = inl e
+pushed (z ∷ xs) y (suc k) x e = elim (pushed xs y k x e) [ inl g ↦ inl g | inr p ↦ inr (ap suc p.0, p.1) ]
+
+module _ {S : Type 0} where
+  -- what lies under a name is what lay there before
+  opened_before : (tells : Type 0) (left : S → List ℕ) (faults : S → ℕ) (name_of : S → List ℕ) (now before : List ℕ → Option (List ℕ)) (wait limit j : ℕ) (leg : LegLine) (p : Port (LegInlet S))
+      → (tells → (n : List ℕ) → now n ≡ before n) → IsOpened tells left faults name_of now wait limit j leg p → IsOpened tells left faults name_of before wait limit j leg p
+  opened_before tells left faults name_of now before wait limit j leg p same h = record {
+    new = h.new;
+    place = h.place;
+    named = h.named;
+    fresh = h.fresh;
+    told = λ t. let r = h.told t in (r.0, sym (same t leg.input) ∙ r.1, r.2);
+  }
+
+  -- one more leg
+  pub opened_more : (tells : Type 0) (left : S → List ℕ) (faults : S → ℕ) (name_of : S → List ℕ) (now before : List ℕ → Option (List ℕ)) (wait limit j : ℕ) (legs : List LegLine) (leg : LegLine) (ps : List (Port (LegInlet S))) (p : Port (LegInlet S))
+      → (tells → (n : List ℕ) → now n ≡ before n) → AllOpened tells left faults name_of before wait limit legs ps → length ps ≡ j → leg_at legs j ≡ Some leg → IsOpened tells left faults name_of now wait limit j leg p
+      → AllOpened tells left faults name_of before wait limit legs (ps ++ p ∷ [])
+  opened_more tells left faults name_of now before wait limit j legs leg ps p same h l g o = λ k x e. elim (pushed ps p k x e) [
+    | inl f ↦ h k x f
+    | inr q ↦
+        let at : k ≡ j = q.0 ∙ l in (
+          leg,
+          ap (λ (i : ℕ). leg_at legs i) at ∙ g,
+          subst (λ (i : ℕ). IsOpened tells left faults name_of before wait limit i leg x) (sym at)
+              (subst (λ (y : Port (LegInlet S)). IsOpened tells left faults name_of before wait limit j leg y) (sym q.1) (opened_before tells left faults name_of now before wait limit j leg p same o)),
+        )
+  ]
+
+  -- the leg behind these was refused
+  pub not_opened : (tells : Type 0) (left : S → List ℕ) (faults : S → ℕ) (name_of : S → List ℕ) (contents : List ℕ → Option (List ℕ)) (wait limit j : ℕ) (legs : List LegLine) (leg : LegLine) (ps : List (Port (LegInlet S)))
+      (before now after last : List ℕ → ℕ) (fault : MixFault) → AllOpened tells left faults name_of contents wait limit legs ps → length ps ≡ j → leg_at legs j ≡ Some leg → ((n : List ℕ) → now n ≡ before n) → ((n : List ℕ) → last n ≡ after n)
+      → IsRefused now after j leg fault → IsNotOpened tells contents before last legs fault
+  not_opened tells left faults name_of contents wait limit j legs leg ps before now after last (Open k) h l g b a r = (
+    leg,
+    ap (λ (i : ℕ). leg_at legs i) r.0 ∙ g,
+    subst (λ (x : ℕ). Rose x (last leg.input)) (b leg.input) (subst (λ (x : ℕ). Rose (now leg.input) x) (sym (a leg.input)) r.1),
+    λ t i x u e.
+        let p = is_there ps i (omega (arith, u, r.0, l)) in
+        let o = h i p.0 p.1 in
+        let same : o.0 ≡ x = cc (o.1, e) in
+        subst (λ (y : LegLine). IsSome (contents y.input)) same (let w = o.2.told t in subst (λ (z : Option (List ℕ)). IsSome z) (sym w.1) refl),
+  )
+  not_opened tells left faults name_of contents wait limit j legs leg ps before now after last (Dump k fault) h l g b a r = r
+  not_opened tells left faults name_of contents wait limit j legs leg ps before now after last TooLong h l g b a r = r
+  not_opened tells left faults name_of contents wait limit j legs leg ps before now after last NoMemory h l g b a r = r
+
+-- the leg with this number
+pub leg_got : (legs : List LegLine) (k : ℕ) → leg_at legs k ≡ slice_get legs k
+leg_got [] k = refl
+leg_got (l ∷ legs) zero = refl
+leg_got (l ∷ legs) (suc k) = leg_got legs k

@@ -1,0 +1,40 @@
+use Rattle.std.proofs.Common.{◌+◌, List, length, refl, ap, subst, sym, ◌∙◌, arith}
+use Rattle.std.proofs.lemmas.Option.{slice_get_read}
+use Rattle.std.proofs.lemmas.List.{length_push}
+use Rattle.mix_loop.specs.declared.ports.Port.{Port}
+use Rattle.leg_items.specs.declared.inlets.LegInlet.{LegInlet}
+use Rattle.bridge_run.specs.Opened.{AllOpened, AreCalm}
+use Rattle.bridge_run.proofs.Opening.{calm_more, leg_got, not_opened, opened_more}
+use Rattle.bridge_run.proofs.ports.open_ports.Goals as goal
+
+pub returns-in-Err-clause-refused : goal.returns-in-Err-clause-refused
+returns-in-Err-clause-refused g c =
+    let legs = c.args.legs.now in
+    let got = leg_got legs c.loop-index.index ∙ slice_get_read legs (length legs) c.loop-index.index c.index-legs-index.result refl (omega (arith, c.loop-index-test.true)) c.index-legs-index.is in
+    not_opened g.W.World.tells g.W.Src.Source.left g.W.Src.Source.faults g.W.Src.Source.name (g.W.World.contents c.args.world.now) c.args.wait c.args.limit c.loop-index.index legs c.index-legs-index.result c.loop-index.ports.items
+    (g.W.World.own_faults c.args.world.now) (g.W.World.own_faults c.loop-index.world) (g.W.World.own_faults c.open_port.new.world) (g.W.World.own_faults c.close_ports.new.world) c.in-Err.fault
+    c.loop-index.invariant.opened c.loop-index.invariant.count got c.loop-index.invariant.same_own c.close_ports.ensures.same_own c.in-Err.ensures.refused
+
+pub loop-index-preserved : goal.loop-index-preserved
+loop-index-preserved g c =
+    let i = c.loop-index.invariant in
+    let legs = c.args.legs.now in
+    let port = c.in-Ok-open_port.port in
+    let now = c.loop-index.ports.items in
+    let items = c.push_reserved.ensures.items in
+    let got = leg_got legs c.loop-index.index ∙ slice_get_read legs (length legs) c.loop-index.index c.index-legs-index.result refl (omega (arith, c.loop-index-test.true)) c.index-legs-index.is in
+    record {
+      count = ap (λ (xs : List (Port (LegInlet g.row.W-Src.Denot))). length xs) items ∙ (length_push now port ∙ ap (λ n. n + 1) i.count);
+      len = omega (arith, c.push_reserved.ensures.len, i.len);
+      room = omega (arith, c.push_reserved.ensures.capacity, i.room);
+      opened = subst (λ (xs : List (Port (LegInlet g.row.W-Src.Denot))). AllOpened g.W.World.tells g.W.Src.Source.left g.W.Src.Source.faults g.W.Src.Source.name (g.W.World.contents c.args.world.now) c.args.wait c.args.limit legs xs) (sym items)
+          (opened_more g.W.World.tells g.W.Src.Source.left g.W.Src.Source.faults g.W.Src.Source.name (g.W.World.contents c.loop-index.world) (g.W.World.contents c.args.world.now) c.args.wait c.args.limit c.loop-index.index legs c.index-legs-index.result now port
+          i.contents i.opened i.count got c.in-Ok-open_port.ensures.opened);
+      calm = subst (λ (xs : List (Port (LegInlet g.row.W-Src.Denot))). AreCalm g.W.Src.Source.faults xs) (sym items) (calm_more g.W.Src.Source.faults now port i.calm c.in-Ok-open_port.ensures.opened.fresh);
+      same_own = λ n. c.in-Ok-open_port.ensures.calm n ∙ i.same_own n;
+      same_objects = λ n. c.open_port.ensures.same_objects n ∙ i.same_objects n;
+      contents = λ t n. c.open_port.ensures.same_contents t n ∙ i.contents t n;
+    }
+
+pub returns-clause-own_never_falls : goal.returns-clause-own_never_falls
+returns-clause-own_never_falls g c = λ n. omega (arith, c.loop-index.invariant.same_own n)

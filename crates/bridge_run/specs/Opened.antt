@@ -1,0 +1,53 @@
+-- The inputs of a conference's legs, opened, of which nothing was read.
+use Rattle.std.specs.Prelude.{◌≡◌, ℕ, Option, Some, List, [], ◌∷◌, slice_get}
+use Rattle.file_spec.specs.declared.conf_lines.LegLine.{LegLine}
+use Rattle.rtt_io.specs.Counts.{Rose}
+use Rattle.ear.specs.declared.confs.EarConf.{EarConf}
+use Rattle.leg_core.specs.Gives.{Stands, begins, place_of}
+use Rattle.mix_loop.specs.declared.ports.Port.{Port}
+use Rattle.leg_items.specs.declared.inlets.LegInlet.{LegInlet}
+use Rattle.leg_items.specs.Feds.{IsNewLeg}
+use Rattle.leg_items.specs.Answers.{source_at}
+use Rattle.mixer_spec.specs.Setups.{leg_at}
+use Rattle.bridge_run.specs.Mixes.{LieBelow}
+use Rattle.bridge_run.specs.declared.mixed.MixFault.{MixFault}
+use Rattle.bridge_run.specs.declared.mixed.MixFault.TheVariants.{Open, Dump, TooLong, NoMemory}
+
+-- what is heard of the leg j
+abbrev pub ear_of : ℕ → ℕ → LegLine → EarConf
+ear_of wait j leg = record { place = j; ssrc = leg.ssrc; pts = leg.pts; wait = wait }
+
+module _ {S : Type 0} where
+  -- no reading of these failed
+  abbrev pub AreCalm : (S → ℕ) → List (Port (LegInlet S)) → Type 0
+  AreCalm faults [] = Unit {0}
+  AreCalm faults (p ∷ ps) = (faults (source_at p) ≡ 0) × AreCalm faults ps
+
+  -- The port of the leg j over its input. Where sources tell what they hold, it holds the octets under its name.
+  pub record IsOpened (tells : Type 0) (left : S → List ℕ) (faults : S → ℕ) (name_of : S → List ℕ) (contents : List ℕ → Option (List ℕ)) (wait limit j : ℕ) (leg : LegLine) (p : Port (LegInlet S)) : Type 0 where
+    pub new : IsNewLeg p.inlet.leg leg.stay p
+    pub place : place_of p.inlet.leg ≡ j
+    pub named : name_of (source_at p) ≡ leg.input
+    pub fresh : faults (source_at p) ≡ 0
+    pub told : tells → (octets : List ℕ) × (contents leg.input ≡ Some octets) × Stands left p.inlet.leg (begins (ear_of wait j leg) limit octets)
+
+  -- the ports of these legs, in order
+  abbrev pub AllOpened : Type 0 → (S → List ℕ) → (S → ℕ) → (S → List ℕ) → (List ℕ → Option (List ℕ)) → ℕ → ℕ → List LegLine → List (Port (LegInlet S)) → Type 0
+  AllOpened tells left faults name_of contents wait limit legs ps = (j : ℕ) (p : Port (LegInlet S)) → slice_get ps j ≡ Some p
+      → (leg : LegLine) × (leg_at legs j ≡ Some leg) × IsOpened tells left faults name_of contents wait limit j leg p
+
+-- Why the leg j was not opened: the count of its name rose, or memory ran out.
+abbrev pub IsRefused : (List ℕ → ℕ) → (List ℕ → ℕ) → ℕ → LegLine → MixFault → Type 0
+IsRefused before after j leg (Open k) = (k ≡ j) × Rose (before leg.input) (after leg.input)
+IsRefused before after j leg (Dump k fault) = ⊥
+IsRefused before after j leg TooLong = ⊥
+IsRefused before after j leg NoMemory = Unit {0}
+
+-- Why not all legs were opened: the count of a leg's name rose, and there is something under the names of those before it; or
+-- memory ran out.
+abbrev pub IsNotOpened : Type 0 → (List ℕ → Option (List ℕ)) → (List ℕ → ℕ) → (List ℕ → ℕ) → List LegLine → MixFault → Type 0
+IsNotOpened tells contents before after legs (Open k) = (leg : LegLine) × (leg_at legs k ≡ Some leg) × Rose (before leg.input) (after leg.input)
+    × (tells → LieBelow k contents legs)
+IsNotOpened tells contents before after legs (Dump k fault) = ⊥
+IsNotOpened tells contents before after legs TooLong = ⊥
+IsNotOpened tells contents before after legs NoMemory = Unit {0}

@@ -1,0 +1,121 @@
+//! The inputs of all legs.
+ghost use Rattle.std.specs.Prelude.{◌≡◌, ◌≤◌, ◌<◌, ℕ, Some, List, length, slice_get, IfOk, IfErr};
+ghost use Rattle.rtt_io.specs.Counts.{Rose};
+ghost use Rattle.mix_loop.specs.declared.ports.Port.{Port};
+ghost use Rattle.leg_items.specs.declared.inlets.LegInlet.{LegInlet};
+ghost use Rattle.leg_items.specs.Answers.{source_at};
+ghost use Rattle.bridge_run.specs.Opened.{AllOpened, AreCalm, IsNotOpened, IsOpened, IsRefused};
+
+use crate::MixFault;
+use ear::EarConf;
+use file_spec::LegLine;
+use leg_core::Leg;
+use leg_items::{LegInlet, leg_port};
+use mix_loop::Port;
+use rtt_io::World;
+use std::alloc::Global;
+
+/// Opens the input of the leg with this number. Its source is handed back where memory runs out.
+fn open_port<W: World>(
+    alloc: Global,
+    leg: &LegLine,
+    place: u8,
+    wait: u32,
+    limit: u32,
+    world: &mut W,
+) -> Result<Port<LegInlet<W::Src>>, MixFault>
+    requires wait { wait ≤ 10000 }
+    requires limit { limit ≤ 4194304 }
+    ensures opened { IfOk result (IsOpened W.tells W.Src.left W.Src.faults W.Src.name (W.contents world.old) wait limit place leg.now) }
+    ensures refused { IfErr result (IsRefused (W.own_faults world.old) (W.own_faults world.new) place leg.now) }
+    ensures own_never_falls { (n : List ℕ) → W.own_faults world.old n ≤ W.own_faults world.new n }
+    ensures calm { IfOk result (λ _. (n : List ℕ) → W.own_faults world.new n ≡ W.own_faults world.old n) }
+    ensures same_objects { (n : List ℕ) → W.object_faults world.new n ≡ W.object_faults world.old n }
+    ensures same_contents { W.tells → (n : List ℕ) → W.contents world.new n ≡ W.contents world.old n }
+{
+    let Ok(source) = world.open_source(leg.input.as_str()) else {
+        return Err(MixFault::Open { leg: place });
+    };
+    let conf = EarConf {
+        place,
+        ssrc: leg.ssrc,
+        pts: leg.pts,
+        wait: u64::from(wait),
+    };
+    match Leg::with_limit(alloc, source, conf, limit) {
+        Ok(opened) => Ok(leg_port(opened, leg.stay)),
+        Err(lost) => {
+            world.done_src(lost.source);
+            Err(MixFault::NoMemory)
+        }
+    }
+}
+
+/// Opens the inputs of all legs, in leg order, of which each may have at most `limit` octets. Where one can't be opened, or
+/// memory runs out, the sources of those before it are handed back.
+pub fn open_ports<W: World>(
+    alloc: Global,
+    legs: &[LegLine],
+    wait: u32,
+    limit: u32,
+    world: &mut W,
+) -> Result<Vec<Port<LegInlet<W::Src>>>, MixFault>
+    requires few { length legs.now ≤ 64 }
+    requires wait { wait ≤ 10000 }
+    requires limit { limit ≤ 4194304 }
+    ensures legs { IfOk result (λ ports. length ports.items ≡ length legs.now) }
+    ensures opened { IfOk result (λ ports. AllOpened W.tells W.Src.left W.Src.faults W.Src.name (W.contents world.old) wait limit legs.now ports.items) }
+    ensures refused { IfErr result (IsNotOpened W.tells (W.contents world.old) (W.own_faults world.old) (W.own_faults world.new) legs.now) }
+    ensures own_never_falls { (n : List ℕ) → W.own_faults world.old n ≤ W.own_faults world.new n }
+    ensures calm { IfOk result (λ _. (n : List ℕ) → W.own_faults world.new n ≡ W.own_faults world.old n) }
+    ensures same_objects { (n : List ℕ) → W.object_faults world.new n ≡ W.object_faults world.old n }
+    ensures same_contents { W.tells → (n : List ℕ) → W.contents world.new n ≡ W.contents world.old n }
+{
+    let Ok(mut ports) = Vec::with_capacity(alloc, legs.len()) else {
+        return Err(MixFault::NoMemory);
+    };
+    for index in 0..legs.len() {
+        match open_port(alloc, &legs[index], index as u8, wait, limit, world) {
+            Ok(port) => ports.push_reserved(port),
+            Err(fault) => {
+                close_ports(ports, world);
+                return Err(fault);
+            }
+        }
+    }
+    Ok(ports)
+}
+
+/// Hands back the sources of all ports.
+pub fn close_ports<W: World>(ports: Vec<Port<LegInlet<W::Src>>>, world: &mut W)
+    ensures same_own { (n : List ℕ) → W.own_faults world.new n ≡ W.own_faults world.old n }
+    ensures objects_never_fall { (n : List ℕ) → W.object_faults world.old n ≤ W.object_faults world.new n }
+    ensures calm { AreCalm W.Src.faults ports.items → (n : List ℕ) → W.object_faults world.new n ≡ W.object_faults world.old n }
+    ensures same_contents { W.tells → (n : List ℕ) → W.contents world.new n ≡ W.contents world.old n }
+{
+    let mut ports = ports;
+    while let Some(port) = ports.pop() {
+        world.done_src(port.into_inlet().into_source());
+    }
+    ports.destroy_empty();
+}
+
+/// Hands back the sources of all ports, that of this leg behind the others: where its reading failed, the count of its name
+/// rises.
+pub fn close_ports_after_fault<W: World>(
+    ports: Vec<Port<LegInlet<W::Src>>>,
+    leg: usize,
+    world: &mut W,
+)
+    requires { leg < length ports.items }
+    ensures same_own { (n : List ℕ) → W.own_faults world.new n ≡ W.own_faults world.old n }
+    ensures objects_never_fall { (n : List ℕ) → W.object_faults world.old n ≤ W.object_faults world.new n }
+    ensures failed { (p : Port (LegInlet W.Src)) → slice_get ports.items leg ≡ Some p → Rose 0 (W.Src.faults (source_at p))
+        → Rose (W.object_faults world.old (W.Src.name (source_at p))) (W.object_faults world.new (W.Src.name (source_at p))) }
+    ensures same_contents { W.tells → (n : List ℕ) → W.contents world.new n ≡ W.contents world.old n }
+{
+    let mut ports = ports;
+    let port = ports.swap_remove(leg);
+    close_ports(ports, world);
+    world.done_src(port.into_inlet().into_source());
+}
