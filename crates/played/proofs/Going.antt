@@ -1,0 +1,202 @@
+-- Going through records, one after another.
+use Rattle.std.proofs.Common.{◌≡◌, ℕ, ◌+◌, ◌-◌, ◌<◌, ◌≤◌, ◌^◌, List, [], ◌∷◌, ◌++◌, length, map, drop, get_or, inl, inr, refl, ap, sym, ◌∙◌, subst, arith, append_assoc, append-nil, length-append}
+use Rattle.std.specs.Prelude.{flat_map, slice_index}
+use Rattle.std.specs.List.Sorted.{IsNonDecreasing}
+use Rattle.std.proofs.Math.Seq.{drop-append_seam, get_or-append_seam}
+use Rattle.std.proofs.lemmas.Bool.{cases_lt}
+use Rattle.std.proofs.lemmas.Grind.{flat_map-append}
+use Rattle.std.proofs.lemmas.List.{map-append, get_or_append_left}
+use Rattle.wire_spec.specs.Dump.{Item, record_written, sent_item}
+use Rattle.terminal.specs.declared.confs.TermConf.{TermConf}
+use Rattle.terminal.specs.declared.terminals.Terminal.{Terminal}
+use Rattle.terminal.specs.Terminals.{Listens}
+use Rattle.played.specs.Written.{IsRecord, AreRecords, IsSplit}
+use Rattle.played.specs.declared.found.Found.{Found}
+use Rattle.played.specs.Finds.{Stand, Finds}
+
+-- what the first record of these octets is
+abbrev pub Splits : List ℕ → ℕ → List ℕ → List ℕ → Type 0
+Splits octets at packet behind = (r : ℕ × List ℕ) (more : List ℕ) → IsRecord r → octets ≡ record_written r ++ more → IsSplit at packet behind r more
+
+-- one of these records stands first
+pub record First (at : ℕ) (body behind : List ℕ) (back : List (ℕ × List ℕ)) : Type 0 where
+  pub first : ℕ × List ℕ
+  pub later : List (ℕ × List ℕ)
+  pub is : back ≡ first ∷ later
+  pub fits : IsRecord first
+  pub moment : at ≡ first.0
+  pub packet : body ≡ first.1
+  pub left : AreRecords behind later
+
+pub first_of : (octets : List ℕ) (at : ℕ) (packet behind : List ℕ) (back : List (ℕ × List ℕ)) → Splits octets at packet behind → length behind + 8 ≤ length octets → AreRecords octets back → First at packet behind back
+first_of octets at packet behind [] f l a = absurd (omega (arith, ap (λ (xs : List ℕ). length xs) a.is, l))
+first_of octets at packet behind (b ∷ back) f l a =
+    let s = f b (flat_map record_written back) a.each.0 a.is in
+    record {
+      first = b;
+      later = back;
+      is = refl;
+      fits = a.each.0;
+      moment = s.moment;
+      packet = s.packet;
+      left = record { is = s.rest; each = a.each.1; few = omega (arith, a.few) };
+    }
+
+-- so far these records stood in front, and those are left
+pub record Passed (octets rest : List ℕ) (whole front : List (ℕ × List ℕ)) : Type 0 where
+  pub back : List (ℕ × List ℕ)
+  pub all : whole ≡ front ++ back
+  pub left : AreRecords rest back
+
+pub passed_none : (octets : List ℕ) (all : List (ℕ × List ℕ)) → AreRecords octets all → Passed octets octets all []
+passed_none octets all a = record { back = all; all = refl; left = a }
+
+pub record PassedMore (octets : List ℕ) (at : ℕ) (body behind : List ℕ) (all front : List (ℕ × List ℕ)) : Type 0 where
+  pub first : ℕ × List ℕ
+  pub moment : at ≡ first.0
+  pub packet : body ≡ first.1
+  pub passed : Passed octets behind all (front ++ first ∷ [])
+
+pub passed_more : (octets rest : List ℕ) (at : ℕ) (packet behind : List ℕ) (all front : List (ℕ × List ℕ)) → Splits rest at packet behind → length behind + 8 ≤ length rest → Passed octets rest all front → PassedMore octets at packet behind all front
+passed_more octets rest at packet behind all front f l p =
+    let d = first_of rest at packet behind p.back f l p.left in
+    record {
+      first = d.first;
+      moment = d.moment;
+      packet = d.packet;
+      passed = record { back = d.later; all = p.all ∙ (ap (λ (xs : List (ℕ × List ℕ)). front ++ xs) d.is ∙ sym (append_assoc front (d.first ∷ []) d.later)); left = d.left };
+    }
+
+-- nothing is left
+pub none_left : (rest : List ℕ) (back : List (ℕ × List ℕ)) → ((r : ℕ × List ℕ) (more : List ℕ) → IsRecord r → rest ≡ record_written r ++ more → ⊥) → AreRecords rest back → back ≡ []
+none_left rest [] f a = refl
+none_left rest (b ∷ back) f a = absurd (f b (flat_map record_written back) a.each.0 a.is)
+
+pub passed_all : (octets rest : List ℕ) (all front : List (ℕ × List ℕ)) → ((r : ℕ × List ℕ) (more : List ℕ) → IsRecord r → rest ≡ record_written r ++ more → ⊥) → Passed octets rest all front → all ≡ front
+passed_all octets rest all front f p = p.all ∙ (ap (λ (xs : List (ℕ × List ℕ)). front ++ xs) (none_left rest p.back f p.left) ∙ append-nil front)
+
+-- as many records as octets at most
+pub record Left (rest : List ℕ) (n : ℕ) : Type 0 where
+  pub back : List (ℕ × List ℕ)
+  pub left : AreRecords rest back
+  pub few : n + length back < 2 ^ 32
+
+pub left_less : (rest : List ℕ) (at : ℕ) (packet behind : List ℕ) (m n : ℕ) → Splits rest at packet behind → length behind + 8 ≤ length rest → n ≤ m + 1 → Left rest m → Left behind n
+left_less rest at packet behind m n f l u p =
+    let d = first_of rest at packet behind p.back f l p.left in
+    record { back = d.later; left = d.left; few = omega (arith, u, p.few, ap (λ (xs : List (ℕ × List ℕ)). length xs) d.is) }
+
+-- ---- heard one after another
+pub record HeardFront (t : Terminal) (c : TermConf) (sources : List ℕ) (octets rest : List ℕ) (all : List (ℕ × List ℕ)) : Type 0 where
+  pub front : List (ℕ × List ℕ)
+  pub passed : Passed octets rest all front
+  pub listens : Listens t c sources (map sent_item front)
+
+pub heard_more : (t n : Terminal) (c : TermConf) (sources : List ℕ) (octets rest : List ℕ) (all : List (ℕ × List ℕ)) (at : ℕ) (packet behind : List ℕ) → Splits rest at packet behind → length behind + 8 ≤ length rest
+    → ((came : List Item) → Listens t c sources came → Listens n c sources (came ++ sent_item (at, packet) ∷ [])) → HeardFront t c sources octets rest all → HeardFront n c sources octets behind all
+heard_more t n c sources octets rest all at packet behind f l g h =
+    let d = passed_more octets rest at packet behind all h.front f l h.passed in
+    let item : sent_item (at, packet) ≡ sent_item d.first = ap (λ (x : ℕ). sent_item (x, packet)) d.moment ∙ ap (λ (x : List ℕ). sent_item (d.first.0, x)) d.packet in
+    record {
+      front = h.front ++ d.first ∷ [];
+      passed = d.passed;
+      listens = subst (Listens n c sources) (ap (λ (i : Item). map sent_item h.front ++ i ∷ []) item ∙ sym (map-append sent_item h.front (d.first ∷ []))) (g (map sent_item h.front) h.listens);
+    }
+
+-- ---- moments that never fall
+pub record Rises (latest : ℕ) (octets rest : List ℕ) (all : List (ℕ × List ℕ)) : Type 0 where
+  pub front : List (ℕ × List ℕ)
+  pub passed : Passed octets rest all front
+  pub rises : IsNonDecreasing (map (λ r. r.0) front)
+  pub below : (i d : ℕ) → i < length (map (λ r. r.0) front) → get_or (map (λ r. r.0) front) i d ≤ latest
+
+rises_put : (xs : List ℕ) (latest m : ℕ) → IsNonDecreasing xs → ((i d : ℕ) → i < length xs → get_or xs i d ≤ latest) → latest ≤ m → IsNonDecreasing (xs ++ m ∷ [])
+rises_put xs latest m h b l i j d low high = elim (cases_lt j (length xs)) [
+  | inl below ↦ rw (get_or_append_left xs (m ∷ []) d i (omega arith), get_or_append_left xs (m ∷ []) d j below) (h i j d low below)
+  | inr over ↦
+      let last : j ≡ length xs = omega (arith, length-append xs (m ∷ [])) in
+      let there : get_or (xs ++ m ∷ []) j d ≡ m = ap (λ k. get_or (xs ++ m ∷ []) k d) last ∙ get_or-append_seam xs m [] d in
+      elim (cases_lt i (length xs)) [
+        | inl first ↦ let v = b i d first in rw (get_or_append_left xs (m ∷ []) d i first, there) (omega arith)
+        | inr same ↦ let e : i ≡ j = omega arith in rw e (omega arith)
+      ]
+]
+
+below_put : (xs : List ℕ) (latest m : ℕ) → ((i d : ℕ) → i < length xs → get_or xs i d ≤ latest) → latest ≤ m → (i d : ℕ) → i < length (xs ++ m ∷ []) → get_or (xs ++ m ∷ []) i d ≤ m
+below_put xs latest m b l i d high = elim (cases_lt i (length xs)) [
+  | inl first ↦ let v = b i d first in rw (get_or_append_left xs (m ∷ []) d i first) (omega arith)
+  | inr over ↦
+      let last : i ≡ length xs = omega (arith, length-append xs (m ∷ [])) in
+      rw (last, get_or-append_seam xs m [] d) (omega arith)
+]
+
+pub rises_none : (octets : List ℕ) (all : List (ℕ × List ℕ)) → AreRecords octets all → Rises 0 octets octets all
+rises_none octets all a = record { front = []; passed = passed_none octets all a; rises = λ i j d l h. absurd (omega arith); below = λ i d h. absurd (omega arith) }
+
+pub rises_more : (latest : ℕ) (octets rest : List ℕ) (all : List (ℕ × List ℕ)) (m : ℕ) (packet behind : List ℕ) → Splits rest m packet behind → length behind + 8 ≤ length rest → latest ≤ m → Rises latest octets rest all → Rises m octets behind all
+rises_more latest octets rest all m packet behind f l u r =
+    let d = passed_more octets rest m packet behind all r.front f l r.passed in
+    let times : map (λ x. x.0) (r.front ++ d.first ∷ []) ≡ map (λ x. x.0) r.front ++ m ∷ [] = map-append (λ x. x.0) r.front (d.first ∷ []) ∙ ap (λ (k : ℕ). map (λ x. x.0) r.front ++ k ∷ []) (sym d.moment) in
+    record {
+      front = r.front ++ d.first ∷ [];
+      passed = d.passed;
+      rises = subst IsNonDecreasing (sym times) (rises_put (map (λ x. x.0) r.front) latest m r.rises r.below u);
+      below = subst (λ (xs : List ℕ). (i d : ℕ) → i < length xs → get_or xs i d ≤ m) (sym times) (below_put (map (λ x. x.0) r.front) latest m r.below u);
+    }
+
+-- ---- where records stand
+pub record FoundFront (ms ps : List ℕ) (octets rest : List ℕ) (all : List (ℕ × List ℕ)) : Type 0 where
+  pub front : List (ℕ × List ℕ)
+  pub passed : Passed octets rest all front
+  pub moments : ms ≡ map (λ r. r.0) front
+  pub places : Stand ps octets front all
+
+pub found_none : (octets : List ℕ) (all : List (ℕ × List ℕ)) → AreRecords octets all → FoundFront [] [] octets octets all
+found_none octets all a = record { front = []; passed = passed_none octets all a; moments = refl; places = record { each = refl; there = λ k l. absurd (omega arith) } }
+
+pub found_more : (moments places octets rest : List ℕ) (all : List (ℕ × List ℕ)) (m place : ℕ) (packet behind : List ℕ) → Splits rest m packet behind → length behind + 8 ≤ length rest → AreRecords octets all → place ≡ length octets - length rest
+    → FoundFront moments places octets rest all → FoundFront (moments ++ m ∷ []) (places ++ place ∷ []) octets behind all
+found_more moments places octets rest all m place packet behind f l a at r =
+    let d = passed_more octets rest m packet behind all r.front f l r.passed in
+    record {
+      front = r.front ++ d.first ∷ [];
+      passed = d.passed;
+      moments = ap (λ (xs : List ℕ). xs ++ m ∷ []) r.moments ∙ (ap (λ (k : ℕ). map (λ x. x.0) r.front ++ k ∷ []) d.moment ∙ sym (map-append (λ x. x.0) r.front (d.first ∷ [])));
+      places = record {
+        each = omega (arith, length-append places (place ∷ []), length-append r.front (d.first ∷ []), r.places.each);
+        there = there d.first;
+      };
+    }
+  where
+    octets_are : octets ≡ flat_map record_written r.front ++ rest
+    octets_are = a.is ∙ (ap (flat_map record_written) r.passed.all ∙ (flat_map-append record_written r.front r.passed.back ∙ ap (λ (xs : List ℕ). flat_map record_written r.front ++ xs) (sym r.passed.left.is)))
+
+    here : drop place octets ≡ rest
+    here =
+        let size : length octets ≡ length (flat_map record_written r.front) + length rest = ap (λ (xs : List ℕ). length xs) octets_are ∙ length-append (flat_map record_written r.front) rest in
+        let n : place ≡ length (flat_map record_written r.front) = omega (arith, at, size) in
+        ap (λ (k : ℕ). drop k octets) n ∙ (ap (drop (length (flat_map record_written r.front))) octets_are ∙ drop-append_seam (flat_map record_written r.front) rest)
+
+    left_are : drop (length r.front) all ≡ r.passed.back
+    left_are = ap (drop (length r.front)) r.passed.all ∙ drop-append_seam r.front r.passed.back
+
+    there : (x : ℕ × List ℕ) (k : ℕ) → k < length (r.front ++ x ∷ []) → drop (slice_index (places ++ place ∷ []) k) octets ≡ flat_map record_written (drop k all)
+    there x k high = elim (cases_lt k (length r.front)) [
+      | inl below ↦ ap (λ (p : ℕ). drop p octets) (get_or_append_left places (place ∷ []) 0 k (omega (arith, r.places.each))) ∙ r.places.there k below
+      | inr over ↦
+          let last : k ≡ length r.front = omega (arith, length-append r.front (x ∷ [])) in
+          let same : k ≡ length places = omega (arith, last, r.places.each) in
+          ap (λ (p : ℕ). drop p octets) (ap (λ (i : ℕ). get_or (places ++ place ∷ []) i 0) same ∙ get_or-append_seam places place [] 0)
+          ∙ (here ∙ (r.passed.left.is ∙ ap (flat_map record_written) (sym left_are ∙ ap (λ (i : ℕ). drop i all) (sym last))))
+    ]
+
+pub found_pushed : (ms ps octets rest : List ℕ) (all : List (ℕ × List ℕ)) (ns qs : List ℕ) → ms ≡ ns → ps ≡ qs → FoundFront ns qs octets rest all → FoundFront ms ps octets rest all
+found_pushed ms ps octets rest all ns qs e f h = subst (λ (xs : List ℕ). FoundFront xs ps octets rest all) (sym e) (subst (λ (xs : List ℕ). FoundFront ns xs octets rest all) (sym f) h)
+
+pub found_all : (octets rest : List ℕ) (all : List (ℕ × List ℕ)) (found : Found) → ((r : ℕ × List ℕ) (more : List ℕ) → IsRecord r → rest ≡ record_written r ++ more → ⊥) → FoundFront found.moments.items found.places.items octets rest all → Finds found octets all
+found_all octets rest all found f h =
+    let e = passed_all octets rest all h.front f h.passed in
+    record {
+      moments = h.moments ∙ ap (map (λ r. r.0)) (sym e);
+      places = subst (λ (xs : List (ℕ × List ℕ)). Stand found.places.items octets xs all) (sym e) h.places;
+    }

@@ -1,0 +1,4 @@
+pub mod Unplanned
+pub mod Splitting
+pub mod Going
+pub mod Copies

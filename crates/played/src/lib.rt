@@ -1,0 +1,9 @@
+//! What comes to a terminal, by the plan of a conference, of the recording of what was sent to it: heard and counted.
+#![tactic(auto)]
+
+mod found;
+mod hearing;
+pub mod laws;
+mod records;
+
+pub use hearing::played;
