@@ -1,2 +1,3 @@
 pub mod Mixes
 pub mod Opened
+pub mod Logging
