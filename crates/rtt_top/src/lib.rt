@@ -12,4 +12,6 @@ mod scripts;
 pub use runs::{run, run_plain};
 
 #[cfg(test)]
+mod plays;
+#[cfg(test)]
 mod tests;

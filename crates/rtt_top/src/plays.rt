@@ -1,0 +1,244 @@
+//! Runs over files in memory, and what each has to leave.
+use crate::run;
+use rtt_base::{Bytes, NoMemory, Path};
+use rtt_io::{MemSink, MemWorld, StillGate};
+use std::alloc::Global;
+use std::sync::Wait;
+use std::test::Fail;
+use std::thread::Threads;
+
+/// The line and the head of a recording.
+pub const OPENING: [u8; 44] =
+    *b"#!rtpplay1.0 127.0.0.1/5004\n\0\0\0\0\0\0\0\0\x7F\0\0\x01\x13\x8C\0\0";
+
+/// A piece of a recording, behind its opening.
+#[derive(Clone, Copy)]
+pub enum Piece<'a> {
+    /// A packet: its millisecond and its octets.
+    Packet(u32, &'a [u8]),
+    /// A packet of plain text: its millisecond, sequence number, timestamp and text.
+    Plain(u32, u16, u32, &'a [u8]),
+    /// Octets as they are.
+    Octets(&'a [u8]),
+}
+
+/// A recording, the words of a run over it as `a.rtp`, and what that prints.
+#[derive(Clone, Copy)]
+pub struct View<'a>(pub &'a [Piece<'a>], pub &'a str, pub &'a str);
+
+/// The words of a run that prints nothing, its status, and what is told.
+#[derive(Clone, Copy)]
+pub struct Failure<'a>(pub &'a str, pub u8, pub &'a str);
+
+/// A script that is sent, and what `read` then shows.
+#[derive(Clone, Copy)]
+pub struct Call<'a>(pub &'a str, pub &'a str);
+
+/// What a run left: its status, and what it wrote.
+#[derive(Drop)]
+struct Ran {
+    status: u8,
+    out: MemSink,
+    err: MemSink,
+}
+
+fn append_packet(recording: &mut Bytes, at: u32, packet: &[u8]) -> Result<(), NoMemory> {
+    let size = u16::try_from(packet.len()).unwrap_or(0);
+    recording.append(&size.saturating_add(8).to_be_bytes())?;
+    recording.append(&size.to_be_bytes())?;
+    recording.append(&at.to_be_bytes())?;
+    recording.append(packet)
+}
+
+fn append_plain(
+    recording: &mut Bytes,
+    at: u32,
+    seq: u16,
+    stamp: u32,
+    text: &[u8],
+) -> Result<(), NoMemory> {
+    let size = u16::try_from(text.len()).unwrap_or(0).saturating_add(12);
+    recording.append(&size.saturating_add(8).to_be_bytes())?;
+    recording.append(&size.to_be_bytes())?;
+    recording.append(&at.to_be_bytes())?;
+    recording.append(b"\x80\x62")?;
+    recording.append(&seq.to_be_bytes())?;
+    recording.append(&stamp.to_be_bytes())?;
+    recording.append(b"\0\0\x03\xE9")?;
+    recording.append(text)
+}
+
+fn append_piece(recording: &mut Bytes, piece: &Piece<'_>) -> Result<(), NoMemory> {
+    match piece {
+        Piece::Packet(at, packet) => append_packet(recording, *at, packet),
+        Piece::Plain(at, seq, stamp, text) => append_plain(recording, *at, *seq, *stamp, text),
+        Piece::Octets(octets) => recording.append(octets),
+    }
+}
+
+fn append_all(recording: &mut Bytes, pieces: &[Piece<'_>]) -> Result<(), NoMemory> {
+    match pieces {
+        [first, rest @ ..] => {
+            append_piece(recording, first)?;
+            append_all(recording, rest)
+        }
+        [] => Ok(()),
+    }
+}
+
+/// A recording of these pieces.
+pub fn recording_of(alloc: Global, pieces: &[Piece<'_>]) -> Result<Bytes, NoMemory> {
+    let mut recording = Bytes::new(alloc);
+    recording.append(&OPENING)?;
+    append_all(&mut recording, pieces)?;
+    Ok(recording)
+}
+
+fn sink(alloc: Global) -> Result<MemSink, NoMemory> {
+    Ok(MemSink::new(alloc, Path::from_text(alloc, "")?))
+}
+
+// The words, separated by spaces.
+fn words(alloc: Global, text: &str) -> Result<Vec<String>, Fail> {
+    let mut words = Vec::new(alloc);
+    for word in text.split(' ') {
+        words.push(String::from_str(alloc, word)?)?;
+    }
+    Ok(words)
+}
+
+fn play<R: Threads + Wait + Sync>(
+    rt: &R,
+    alloc: Global,
+    world: &mut MemWorld,
+    text: &str,
+) -> Result<Ran, Fail> {
+    let words = words(alloc, text)?;
+    let mut out = sink(alloc)?;
+    let mut err = sink(alloc)?;
+    let status = run(
+        rt,
+        alloc,
+        words.as_slice(),
+        world,
+        &mut out,
+        &mut err,
+        &StillGate,
+    );
+    Ok(Ran { status, out, err })
+}
+
+/// Whether a run of these words ends with this status, and writes this on `out` and on `err`.
+pub fn ends<R: Threads + Wait + Sync>(
+    rt: &R,
+    alloc: Global,
+    world: &mut MemWorld,
+    text: &str,
+    status: u8,
+    out: &[u8],
+    err: &[u8],
+) -> Result<bool, Fail> {
+    let ran = play(rt, alloc, world, text)?;
+    Ok(ran.status == status && ran.out.taken() == out && ran.err.taken() == err)
+}
+
+fn is_seen<R: Threads + Wait + Sync>(rt: &R, alloc: Global, view: &View<'_>) -> Result<bool, Fail> {
+    let recording = recording_of(alloc, view.0)?;
+    let mut world = MemWorld::new(alloc);
+    world.add_file("a.rtp", recording.as_slice())?;
+    ends(rt, alloc, &mut world, view.1, 0, view.2.as_bytes(), b"")
+}
+
+/// How many of these are seen as they are to be, before the first that is not.
+pub fn views_seen<R: Threads + Wait + Sync>(
+    rt: &R,
+    alloc: Global,
+    views: &[View<'_>],
+) -> Result<usize, Fail> {
+    match views {
+        [first, rest @ ..] => {
+            if !is_seen(rt, alloc, first)? {
+                return Ok(0);
+            }
+            let more = views_seen(rt, alloc, rest)?;
+            Ok(more.saturating_add(1))
+        }
+        [] => Ok(0),
+    }
+}
+
+/// How many of these fail as they are to, in this world, before the first that does not.
+pub fn failures_told<R: Threads + Wait + Sync>(
+    rt: &R,
+    alloc: Global,
+    world: &mut MemWorld,
+    failures: &[Failure<'_>],
+) -> Result<usize, Fail> {
+    match failures {
+        [first, rest @ ..] => {
+            if !ends(rt, alloc, world, first.0, first.1, b"", first.2.as_bytes())? {
+                return Ok(0);
+            }
+            let more = failures_told(rt, alloc, world, rest)?;
+            Ok(more.saturating_add(1))
+        }
+        [] => Ok(0),
+    }
+}
+
+/// Whether a script is sent, and `read` shows this of its recording.
+pub fn is_sent<R: Threads + Wait + Sync>(
+    rt: &R,
+    alloc: Global,
+    script: &[u8],
+    view: &[u8],
+) -> Result<bool, Fail> {
+    let mut world = MemWorld::new(alloc);
+    world.add_file("s.txt", script)?;
+    let sending = "send s.txt a.rtp 4294967295 65535 4294967295";
+    if !ends(rt, alloc, &mut world, sending, 0, b"", b"")? {
+        return Ok(false);
+    }
+    ends(rt, alloc, &mut world, "read a.rtp 4294967295", 0, view, b"")
+}
+
+/// How many of these are shown as they are to be, before the first that is not.
+pub fn calls_shown<R: Threads + Wait + Sync>(
+    rt: &R,
+    alloc: Global,
+    calls: &[Call<'_>],
+) -> Result<usize, Fail> {
+    match calls {
+        [first, rest @ ..] => {
+            if !is_sent(rt, alloc, first.0.as_bytes(), first.1.as_bytes())? {
+                return Ok(0);
+            }
+            let more = calls_shown(rt, alloc, rest)?;
+            Ok(more.saturating_add(1))
+        }
+        [] => Ok(0),
+    }
+}
+
+/// Whether a file holds these octets.
+pub fn holds(world: &MemWorld, name: &str, octets: &[u8]) -> bool {
+    match world.contents(name) {
+        Some(held) => held == octets,
+        None => false,
+    }
+}
+
+/// These octets twice.
+pub fn twice(alloc: Global, octets: &[u8]) -> Result<Bytes, NoMemory> {
+    let mut both = Bytes::new(alloc);
+    both.append(octets)?;
+    both.append(octets)?;
+    Ok(both)
+}
+
+/// These octets eight times.
+pub fn eight_times(alloc: Global, octets: &[u8]) -> Result<Bytes, NoMemory> {
+    let two = twice(alloc, octets)?;
+    let four = twice(alloc, two.as_slice())?;
+    twice(alloc, four.as_slice())
+}
