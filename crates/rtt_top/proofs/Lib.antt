@@ -4,3 +4,4 @@ pub mod Working
 pub mod Ending
 pub mod Sending
 pub mod Histories
+pub mod Saving

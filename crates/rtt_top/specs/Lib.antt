@@ -2,3 +2,4 @@ pub mod Files
 pub mod Faults
 pub mod Outside
 pub mod Runs
+pub mod Outputs

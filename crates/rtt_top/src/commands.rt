@@ -81,7 +81,7 @@ fn send<W: World, K: Sink>(
         (name_in words.now.script.now words.now.out.now result) result }
 {
     match recording_of(alloc, words, world) {
-        Ok(octets) => save_output(words.out, octets.as_slice(), world),
+        Ok(octets) => save_output(0, words.out, octets.as_slice(), world),
         Err(fault) => Err(fault),
     }
 }

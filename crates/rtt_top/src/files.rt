@@ -38,21 +38,28 @@ pub fn read_input<W: World>(
     }
 }
 
-/// Creates the first output anew, with these octets.
-pub fn save_output<W: World>(name: &str, octets: &[u8], world: &mut W) -> Result<(), Fault>
-    ensures fault { IfErr result (λ fault. fault ≡ Fault.CannotWrite 0) }
+/// Creates the output of this number anew, with these octets.
+pub fn save_output<W: World>(
+    output: u32,
+    name: &str,
+    octets: &[u8],
+    world: &mut W,
+) -> Result<(), Fault>
+    ensures fault { IfErr result (λ fault. fault ≡ Fault.CannotWrite output) }
     ensures saved { W.tells → OnOk result (Stores (record { name = name.now; octets = octets.now }) (W.contents world.old) (W.contents world.new)) }
     ensures cause { OnErr result (RoseAt (W.own_faults world.old) (W.own_faults world.new) name.now ⊎ RoseAt (W.object_faults world.old) (W.object_faults world.new) name.now) }
     ensures partly { W.tells → OnErr result (IsPartlyStored (RoseAt (W.own_faults world.old) (W.own_faults world.new) name.now)
         (RoseAt (W.object_faults world.old) (W.object_faults world.new) name.now) (record { name = name.now; octets = octets.now }) (W.contents world.old) (W.contents world.new)) }
+    ensures calls_never_fall { (n : List ℕ) → W.own_faults world.old n ≤ W.own_faults world.new n }
+    ensures objects_never_fall { (n : List ℕ) → W.object_faults world.old n ≤ W.object_faults world.new n }
 {
     let Ok(mut sink) = world.create_sink(name) else {
-        return Err(Fault::CannotWrite { output: 0 });
+        return Err(Fault::CannotWrite { output });
     };
     let written = sink.write_all(octets);
     world.done_dst(sink);
     match written {
         Ok(()) => Ok(()),
-        Err(Failed) => Err(Fault::CannotWrite { output: 0 }),
+        Err(Failed) => Err(Fault::CannotWrite { output }),
     }
 }

@@ -5,6 +5,7 @@ mod commands;
 mod files;
 pub mod laws;
 mod messages;
+mod outputs;
 mod recordings;
 mod runs;
 mod scripts;
