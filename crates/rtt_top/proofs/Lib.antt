@@ -5,3 +5,4 @@ pub mod Ending
 pub mod Sending
 pub mod Histories
 pub mod Saving
+pub mod Conferring

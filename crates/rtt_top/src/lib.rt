@@ -2,6 +2,7 @@
 #![tactic(auto)]
 
 mod commands;
+mod confs;
 mod files;
 pub mod laws;
 mod messages;

@@ -23,7 +23,7 @@ use std::alloc::Global;
 use text_sender::SendConf;
 
 /// The fault of a command whose first input is refused at a line.
-fn refused_line(line: u32, kind: ConfKind) -> Fault
+pub(crate) fn refused_line(line: u32, kind: ConfKind) -> Fault
     ensures { result ≡ Fault.Refused 0 (Refusal.AtLine line kind) }
 {
     Fault::Refused {
