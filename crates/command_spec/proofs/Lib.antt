@@ -9,3 +9,4 @@ pub mod SentBack
 pub mod Coming
 pub mod Headlines
 mod MixExamples
+pub mod Outputs
