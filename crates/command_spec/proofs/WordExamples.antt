@@ -1,6 +1,6 @@
 -- Worked examples of command words, by computing.
 use Rattle.std.proofs.Common.{◌≡◌, refl, [], ◌∷◌, None, Some, codes}
-use Rattle.command_spec.specs.Words.{command, Read, ListRecords, Send}
+use Rattle.command_spec.specs.Words.{command, Read, ListRecords, Send, Mix}
 
 read_a_source : command (codes "read" ∷ codes "a.rtp" ∷ codes "1001" ∷ []) ≡ Some (Read (record { file = codes "a.rtp"; ssrc = 1001; source = 1001; pts = record { t140 = 98; red = 100 } }))
 read_a_source = refl
@@ -52,5 +52,14 @@ no_such_sequence_number = refl
 no_recording_named_like_an_option : command (codes "send" ∷ codes "s" ∷ codes "-o" ∷ codes "1" ∷ codes "0" ∷ codes "0" ∷ []) ≡ None
 no_recording_named_like_an_option = refl
 
-mix_is_not_built : command (codes "mix" ∷ codes "c.txt" ∷ []) ≡ None
-mix_is_not_built = refl
+mix_a_conference : command (codes "mix" ∷ codes "c.txt" ∷ []) ≡ Some (Mix (record { conf = codes "c.txt" }))
+mix_a_conference = refl
+
+mix_without_a_conference : command (codes "mix" ∷ []) ≡ None
+mix_without_a_conference = refl
+
+mix_one_at_a_time : command (codes "mix" ∷ codes "a" ∷ codes "b" ∷ []) ≡ None
+mix_one_at_a_time = refl
+
+live_is_not_built : command (codes "live" ∷ codes "c.txt" ∷ []) ≡ None
+live_is_not_built = refl

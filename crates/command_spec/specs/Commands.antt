@@ -6,10 +6,11 @@ use Rattle.file_spec.specs.declared.kinds.ConfKind.TheVariants.{Full}
 use Rattle.file_spec.specs.Script.{ScriptLine}
 use Rattle.file_spec.specs.Lines as lines
 use Rattle.file_spec.specs.Script.{script}
-use Rattle.command_spec.specs.Words.{ReadWords, SendWords, Command, Read, ListRecords, Send, usual_pts}
+use Rattle.command_spec.specs.Words.{ReadWords, SendWords, Command, Read, ListRecords, Send, Mix, usual_pts}
 use Rattle.command_spec.specs.declared.faults.Refusal.TheVariants.{AtByte, AtLine}
 use Rattle.command_spec.specs.declared.requests.ReadRequest.{ReadRequest}
 use Rattle.command_spec.specs.Listing.{list_view}
+use Rattle.command_spec.specs.Mixing.{mixing}
 use Rattle.command_spec.specs.Reading.{read_view}
 use Rattle.command_spec.specs.Scripts.{Sending, full_line, recording}
 use Rattle.command_spec.specs.Work.{Made, Steps, Reads, Refuses, Makes, Work}
@@ -54,3 +55,4 @@ abbrev pub work : Command → Work
 work (Read r) = prints_recording r.file (read_view (request_of r))
 work (ListRecords l) = prints_recording l.file (λ octets. list_view l.pts (dump usual_limit octets).items)
 work (Send s) = record { prints = false; steps = Reads s.script (λ octets. sends s (script octets)) }
+work (Mix m) = record { prints = true; steps = mixing m.conf }

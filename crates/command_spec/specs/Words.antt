@@ -26,10 +26,15 @@ pub record SendWords : Type 0 where
   pub seq : ℕ
   pub stamp : ℕ
 
+-- what `mix` is asked for: the conference in a file
+pub record MixWords : Type 0 where
+  pub conf : List ℕ
+
 pub data Command : Type 0 where
   Read : ReadWords → Command
   ListRecords : ListWords → Command
   Send : SendWords → Command
+  Mix : MixWords → Command
 
 -- a word that is empty or begins with `-` is none
 abbrev pub is_word : List ℕ → Bool
@@ -87,10 +92,16 @@ send_words (script ∷ out ∷ ssrc ∷ seq ∷ stamp ∷ []) =
     else None
 send_words _ = None
 
+-- `CONF`
+abbrev pub mix_words : List (List ℕ) → Option Command
+mix_words (conf ∷ []) = if is_word conf then Some (Mix (record { conf = conf })) else None
+mix_words _ = None
+
 -- what the words ask for, if they are in the word table
 abbrev pub command : List (List ℕ) → Option Command
 command [] = None
 command (name ∷ words) =
     if bytes_eq name (codes "read") then read_words words
     else (if bytes_eq name (codes "list") then list_words words
-    else (if bytes_eq name (codes "send") then send_words words else None))
+    else (if bytes_eq name (codes "send") then send_words words
+    else (if bytes_eq name (codes "mix") then mix_words words else None)))

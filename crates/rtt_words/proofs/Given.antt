@@ -3,11 +3,11 @@ use Rattle.std.proofs.Common.{◌≡◌, ◌≢◌, ◌∙◌, ◌&&◌, Bool, t
 use Rattle.std.specs.Prelude.{if◌then◌else◌}
 use Rattle.std.specs.List.{list_all}
 use Rattle.file_spec.specs.Numbers.{number, most_ssrc}
-use Rattle.command_spec.specs.Words.{Command, is_word, list_of, list_words, payload_types, read_of, read_words, send_of, send_words, usual_pts}
+use Rattle.command_spec.specs.Words.{Command, Mix, is_word, list_of, list_words, mix_words, payload_types, read_of, read_words, send_of, send_words, usual_pts}
 use Rattle.clap.specs.Walk.{Text, first_of}
 use Rattle.clap.specs.Simple.{App, Shape, built, matches_of}
 use Rattle.clap.specs.Faults.{defaults_fault, fault_of}
-use Rattle.rtt_words.specs.Apps.{Texts, list_app, list_given, read_app, read_given, send_app, send_given}
+use Rattle.rtt_words.specs.Apps.{Texts, list_app, list_given, mix_app, mix_given, read_app, read_given, send_app, send_given}
 use Rattle.rtt_words.proofs.Plain.{no_types}
 use Rattle.rtt_words.proofs.Places.{both, fault_given, fault_is, rows_are, rows_given, placed, place_fault}
 
@@ -23,6 +23,9 @@ list_shape = (built list_app).top
 
 abbrev pub send_shape : Shape
 send_shape = (built send_app).top
+
+abbrev pub mix_shape : Shape
+mix_shape = (built mix_app).top
 
 -- where the test holds, the first choice is taken
 kept : (b : Bool) (answer : Option Command) → b ≡ true → answer ≡ (if b then answer else None)
@@ -91,6 +94,18 @@ send_refused (a ∷ b ∷ c ∷ d ∷ []) h = refl
 send_refused (a ∷ b ∷ c ∷ d ∷ f ∷ []) h = absurd (h refl)
 send_refused (a ∷ b ∷ c ∷ d ∷ f ∷ g ∷ rest) h = refl
 
+pub mix_asked : (words : List Text) → list_all is_word words ≡ true → fault_given mix_shape words ≡ [] → mix_given (texts_given mix_shape words) ≡ mix_words words
+unfolding placed place_fault defaults_fault
+mix_asked [] e h = cc
+mix_asked (a ∷ []) e h = kept (is_word a) (Some (Mix (record { conf = a }))) (both (is_word a) _ e).0
+mix_asked (a ∷ b ∷ rest) e h = cc
+
+pub mix_refused : (words : List Text) → fault_given mix_shape words ≢ [] → mix_words words ≡ None
+unfolding placed place_fault defaults_fault
+mix_refused [] h = refl
+mix_refused (a ∷ []) h = absurd (h refl)
+mix_refused (a ∷ b ∷ rest) h = refl
+
 -- ---- the same of the words as they come, with the name first
 
 module _ (app : App) (words : List Text) (plain : list_all is_word (drop 1 words) ≡ true) where
@@ -135,3 +150,17 @@ module _ (app : App) (words : List Text) (plain : list_all is_word (drop 1 words
       let rest = drop 1 words in
       let some_here : fault_of send_app words ≢ [] = subst (λ (a : App). fault_of a words ≢ []) same some in
       send_refused rest (λ none. some_here (fault_is send_shape refl rest plain ∙ none))
+
+  pub mix_taken : app ≡ mix_app → (text : Texts) → fault_of app words ≡ [] → ((id : Text) → text id ≡ first_of id (matches_of app words)) → mix_given text ≡ mix_words (drop 1 words)
+  mix_taken same text none reads =
+      let rest = drop 1 words in
+      let none_here : fault_of mix_app words ≡ [] = subst (λ (a : App). fault_of a words ≡ []) same none in
+      let reads_here : (id : Text) → text id ≡ first_of id (matches_of mix_app words) = subst (λ (a : App). (id : Text) → text id ≡ first_of id (matches_of a words)) same reads in
+      let given : (id : Text) → text id ≡ texts_given mix_shape rest id = λ id. reads_here id ∙ ap (first_of id) (rows_are mix_shape refl rest plain) in
+      ap mix_given (λ i id. given id i) ∙ mix_asked rest plain (sym (fault_is mix_shape refl rest plain) ∙ none_here)
+
+  pub mix_untaken : app ≡ mix_app → fault_of app words ≢ [] → mix_words (drop 1 words) ≡ None
+  mix_untaken same some =
+      let rest = drop 1 words in
+      let some_here : fault_of mix_app words ≢ [] = subst (λ (a : App). fault_of a words ≢ []) same some in
+      mix_refused rest (λ none. some_here (fault_is mix_shape refl rest plain ∙ none))

@@ -8,7 +8,7 @@ use Rattle.std.specs.Str.{bytes_eq}
 use Rattle.std.proofs.lemmas.List.{take_rest}
 use Rattle.rtt_base.specs.declared.text_packets.Pts.{Pts}
 use Rattle.file_spec.specs.Numbers.{is_number, number, most_ssrc, payload_type}
-use Rattle.command_spec.specs.Words.{Command, command, if_different, is_word, list_of, list_words, payload_types, read_of, read_words, send_of, send_words, usual_pts}
+use Rattle.command_spec.specs.Words.{Command, command, if_different, is_word, list_of, list_words, mix_words, Mix, payload_types, read_of, read_words, send_of, send_words, usual_pts}
 
 abbrev Text : Type 0
 Text = List ℕ
@@ -160,6 +160,11 @@ send_off (a ∷ b ∷ c ∷ d ∷ f ∷ []) e =
     ])
 send_off (a ∷ b ∷ c ∷ d ∷ f ∷ g ∷ rest) e = refl
 
+mix_off : (words : List Text) → list_all is_word words ≡ false → mix_words words ≡ None
+mix_off [] e = refl
+mix_off (a ∷ []) e = under (is_word a) (Some (Mix (record { conf = a }))) (inl (off_last a e))
+mix_off (a ∷ b ∷ rest) e = refl
+
 choice : (b : Bool) (x y : Option Command) → x ≡ None → y ≡ None → (if b then x else y) ≡ None
 choice true x y p q = p
 choice false x y p q = q
@@ -168,7 +173,8 @@ pub command_off : (name : Text) (words : List Text) → list_all is_word words �
 command_off name words e =
     choice (bytes_eq name (codes "read")) (read_words words) _ (read_off words e)
     (choice (bytes_eq name (codes "list")) (list_words words) _ (list_off words e)
-    (choice (bytes_eq name (codes "send")) (send_words words) None (send_off words e) refl))
+    (choice (bytes_eq name (codes "send")) (send_words words) _ (send_off words e)
+    (choice (bytes_eq name (codes "mix")) (mix_words words) None (mix_off words e) refl)))
 
 -- the same of a list of words, of which the first is the name
 pub command_off_rest : (words : List (String Global)) → 1 ≤ length words

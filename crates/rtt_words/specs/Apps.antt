@@ -8,7 +8,7 @@ use Rattle.rtt_words.specs.declared.words.WordFault.TheVariants.{Wrong, NoMemory
 use Rattle.clap.specs.Simple.{on_top}
 use Rattle.rtt_base.specs.declared.text_packets.Pts.{Pts}
 use Rattle.file_spec.specs.Numbers.{number, most_ssrc}
-use Rattle.command_spec.specs.Words.{Command, payload_types, usual_pts, read_of, list_of, send_of}
+use Rattle.command_spec.specs.Words.{Command, Mix, payload_types, usual_pts, read_of, list_of, send_of}
 
 -- a refusal of `clap`, by its kind
 abbrev pub fault_by : ErrorKind → WordFault
@@ -39,6 +39,10 @@ send_app =
     with_rule (with_rule (with_rule (with_rule (with_rule (bare_app (codes "send")) (required_rule (codes "SCRIPT"))) (required_rule (codes "OUT")))
     (required_rule (codes "SSRC"))) (required_rule (codes "SEQ"))) (required_rule (codes "STAMP"))
 
+-- `mix CONF`
+abbrev pub mix_app : App
+mix_app = with_rule (bare_app (codes "mix")) (required_rule (codes "CONF"))
+
 -- ---- what is asked for where each argument has this text
 
 -- the payload types are named both or not at all
@@ -64,3 +68,6 @@ send_given text =
     option_and_then (λ script. option_and_then (λ out. option_and_then (λ ssrc. option_and_then (λ seq. option_and_then (λ stamp.
     send_of script out (number most_ssrc ssrc) (number 65535 seq) (number 4294967295 stamp))
     (text (codes "STAMP"))) (text (codes "SEQ"))) (text (codes "SSRC"))) (text (codes "OUT"))) (text (codes "SCRIPT"))
+
+abbrev pub mix_given : Texts → Option Command
+mix_given text = option_and_then (λ conf. Some (Mix (record { conf = conf }))) (text (codes "CONF"))

@@ -3,8 +3,9 @@ use Rattle.command_spec.specs.Words as words
 use Rattle.rtt_words.specs.declared.commands.ReadWords.{ReadWords}
 use Rattle.rtt_words.specs.declared.commands.ListWords.{ListWords}
 use Rattle.rtt_words.specs.declared.commands.SendWords.{SendWords}
+use Rattle.rtt_words.specs.declared.commands.MixWords.{MixWords}
 use Rattle.rtt_words.specs.declared.commands.Command.{Command}
-use Rattle.rtt_words.specs.declared.commands.Command.TheVariants.{Read, ListRecords, Send}
+use Rattle.rtt_words.specs.declared.commands.Command.TheVariants.{Read, ListRecords, Send, Mix}
 
 abbrev pub asked : ReadWords → words.ReadWords
 asked r = record { file = r.file.now; ssrc = r.ssrc; source = r.source; pts = r.pts }
@@ -15,7 +16,11 @@ listed l = record { file = l.file.now; pts = l.pts }
 abbrev pub sent : SendWords → words.SendWords
 sent s = record { script = s.script.now; out = s.out.now; ssrc = s.ssrc; seq = s.seq; stamp = s.stamp }
 
+abbrev pub mixed : MixWords → words.MixWords
+mixed m = record { conf = m.conf.now }
+
 abbrev pub meaning : Command → words.Command
 meaning (Read r) = words.Read (asked r)
 meaning (ListRecords l) = words.ListRecords (listed l)
 meaning (Send s) = words.Send (sent s)
+meaning (Mix m) = words.Mix (mixed m)

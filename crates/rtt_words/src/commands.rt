@@ -35,6 +35,13 @@ pub struct SendWords<'a> {
     pub stamp: u32,
 }
 
+/// What `mix` is asked for.
+#[derive(Clone, Copy, Debug, PartialEq, Eq)]
+pub struct MixWords<'a> {
+    /// The name of the conference's file.
+    pub conf: &'a str,
+}
+
 /// A command, with the words after its name.
 #[derive(Clone, Copy, Debug, PartialEq, Eq)]
 pub enum Command<'a> {
@@ -44,4 +51,6 @@ pub enum Command<'a> {
     ListRecords(ListWords<'a>),
     /// Sends a typed script into a recording.
     Send(SendWords<'a>),
+    /// Mixes a conference over recordings.
+    Mix(MixWords<'a>),
 }

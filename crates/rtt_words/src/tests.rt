@@ -1,4 +1,4 @@
-use crate::{Command, ListWords, ReadWords, SendWords, WordFault, command_of};
+use crate::{Command, ListWords, MixWords, ReadWords, SendWords, WordFault, command_of};
 use rtt_base::Pts;
 use std::alloc::Global;
 use std::test::Fail;
@@ -77,6 +77,13 @@ fn a_send_takes_the_greatest_numbers(rt: HostRuntime) -> Result<(), Fail> {
 }
 
 #[test]
+fn a_mix_names_a_conference(rt: HostRuntime) -> Result<(), Fail> {
+    let mix = Command::Mix(MixWords { conf: "c.txt" });
+    assert!(rt; asks(rt.alloc(), "mix c.txt", mix)?);
+    Ok(())
+}
+
+#[test]
 fn no_words_ask_for_nothing(rt: HostRuntime) -> Result<(), Fail> {
     let words: [String; 0] = [];
     let asked = command_of(rt.alloc(), words.as_slice());
@@ -86,7 +93,7 @@ fn no_words_ask_for_nothing(rt: HostRuntime) -> Result<(), Fail> {
 
 #[test]
 fn other_commands_are_wrong(rt: HostRuntime) -> Result<(), Fail> {
-    assert!(rt; is_wrong(rt.alloc(), "mix c")?);
+    assert!(rt; is_wrong(rt.alloc(), "live c")?);
     assert!(rt; is_wrong(rt.alloc(), "help")?);
     assert!(rt; is_wrong(rt.alloc(), "--help")?);
     Ok(())
@@ -99,6 +106,8 @@ fn too_few_and_too_many_words_are_wrong(rt: HostRuntime) -> Result<(), Fail> {
     assert!(rt; is_wrong(rt.alloc(), "read a.rtp 1001 7 98")?);
     assert!(rt; is_wrong(rt.alloc(), "read a.rtp 1001 7 96 127 1")?);
     assert!(rt; is_wrong(rt.alloc(), "list a.rtp 98")?);
+    assert!(rt; is_wrong(rt.alloc(), "mix")?);
+    assert!(rt; is_wrong(rt.alloc(), "mix a b")?);
     Ok(())
 }
 

@@ -3,12 +3,12 @@ ghost use Rattle.std.specs.Prelude.{◌≡◌, [], ◌∷◌, map, string_bytes,
 ghost use Rattle.std.specs.List.{list_all};
 ghost use Rattle.std.specs.Option.{option_map};
 ghost use Rattle.clap.specs.Words.{first_value, found_of};
-ghost use Rattle.command_spec.specs.Words.{Read, ListRecords, Send, command, is_word, payload_types, read_words, list_words, send_words};
-ghost use Rattle.rtt_words.specs.Apps.{pts_given, read_given, list_given, send_given};
-ghost use Rattle.rtt_words.specs.Commands.{asked, listed, sent, meaning};
+ghost use Rattle.command_spec.specs.Words.{Read, ListRecords, Send, Mix, command, is_word, payload_types, read_words, list_words, send_words, mix_words};
+ghost use Rattle.rtt_words.specs.Apps.{pts_given, read_given, list_given, send_given, mix_given};
+ghost use Rattle.rtt_words.specs.Commands.{asked, listed, sent, mixed, meaning};
 
-use crate::forms::{list_matches, read_matches, send_matches};
-use crate::{Command, ListWords, ReadWords, SendWords};
+use crate::forms::{list_matches, mix_matches, read_matches, send_matches};
+use crate::{Command, ListWords, MixWords, ReadWords, SendWords};
 use clap::ArgMatches;
 use clap::error::ErrorKind;
 use file_spec::limits::{USUAL_RED, USUAL_T140};
@@ -140,6 +140,14 @@ fn send_matched<'a>(matches: &ArgMatches<'a>) -> Option<SendWords<'a>>
     })
 }
 
+/// A `mix` with this argument.
+fn mix_matched<'a>(matches: &ArgMatches<'a>) -> Option<MixWords<'a>>
+    ensures { option_map (λ m. Mix (mixed m)) result ≡ mix_given (first_value (found_of matches.now)) }
+{
+    let conf = matches.get_str("CONF")?;
+    Some(MixWords { conf })
+}
+
 /// A `read`, where the words after its name are in its rows.
 fn read_command(alloc: Global, words: &[String]) -> Result<ReadWords<'_>, WordFault>
     requires { list_all is_word (drop 1 (map string_bytes words.now)) ≡ true }
@@ -170,6 +178,16 @@ fn send_command(alloc: Global, words: &[String]) -> Result<SendWords<'_>, WordFa
     send_matched(&matches).ok_or(WordFault::Wrong)
 }
 
+/// A `mix`, where the words after its name are in its row.
+fn mix_command(alloc: Global, words: &[String]) -> Result<MixWords<'_>, WordFault>
+    requires { list_all is_word (drop 1 (map string_bytes words.now)) ≡ true }
+    ensures asked { IfOk result (λ m. mix_words (drop 1 (map string_bytes words.now)) ≡ Some (Mix (mixed m))) }
+    ensures wrong { result ≡ Err WordFault.Wrong → mix_words (drop 1 (map string_bytes words.now)) ≡ None }
+{
+    let matches = mix_matches(alloc, words)?;
+    mix_matched(&matches).ok_or(WordFault::Wrong)
+}
+
 /// The command of this name, where the words after the first are in its rows.
 fn named<'a>(alloc: Global, name: &str, words: &'a [String]) -> Result<Command<'a>, WordFault>
     requires { list_all is_word (drop 1 (map string_bytes words.now)) ≡ true }
@@ -180,6 +198,7 @@ fn named<'a>(alloc: Global, name: &str, words: &'a [String]) -> Result<Command<'
         "read" => Ok(Command::Read(read_command(alloc, words)?)),
         "list" => Ok(Command::ListRecords(list_command(alloc, words)?)),
         "send" => Ok(Command::Send(send_command(alloc, words)?)),
+        "mix" => Ok(Command::Mix(mix_command(alloc, words)?)),
         _ => Err(WordFault::Wrong),
     }
 }
