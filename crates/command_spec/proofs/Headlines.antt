@@ -11,13 +11,13 @@ use Rattle.file_spec.specs.Conf.{Conf}
 use Rattle.file_spec.specs.Kept.{IsConference}
 use Rattle.stream_spec.specs.Numbering.{numbered, used, Falling}
 use Rattle.stream_spec.specs.Hearing.{heard}
-use Rattle.stream_spec.specs.History.{History, Come, placed}
-use Rattle.stream_spec.specs.Own.{own_packet}
+use Rattle.stream_spec.specs.History.{History, Come, placed, Lawful}
+use Rattle.stream_spec.specs.Own.{own_packet, Own, Closed}
 use Rattle.stream_spec.specs.Carries.{Carries}
 use Rattle.text_spec.specs.declared.counts.Counts.{Counts}
 use Rattle.text_spec.specs.Shown.{shown}
 use Rattle.text_spec.specs.Views.{Source, aware_view, unaware_view}
-use Rattle.mixer_spec.specs.Setups.{AllStay, leg_at, ssrc_of}
+use Rattle.mixer_spec.specs.Setups.{AllStay, leg_at, ssrc_of, gens_of}
 use Rattle.mixer_spec.specs.Table.{Table}
 use Rattle.mixer_spec.specs.Headline.{hears}
 use Rattle.mixer_spec.specs.Chunks.{texts_of}
@@ -142,14 +142,20 @@ one_heard b w j l u =
     let o = other_law b.conference (input_at b.inputs) b.table w.is w.over j u l in
     record { bridged = o; one_hop = o.one_hop b.conference.wait (comes_to b j) (o.comes b.conference.plan (plan_law b.conference w.is)) }
 
--- what was sent to a leg, aware or not, are the own packets of its history
-packets_are : (b : Bridge) → IsWhole b → (j : ℕ) → j < length b.conference.legs
-    → packets_to (setup_of b) j (b.table.terminals j).past ≡ map (own_packet (told_to b j)) (placed (told_to b j))
-packets_are b w j l =
+-- what was sent to a leg, aware or not, is a history, which is closed
+record IsTold (b : Bridge) (j g : ℕ) : Type 0 where
+  lawful : Lawful (told_to b j)
+  own : Own g (told_to b j)
+  closed : Closed g (told_to b j)
+  packets_are : packets_to (setup_of b) j (b.table.terminals j).past ≡ map (own_packet (told_to b j)) (placed (told_to b j))
+
+is_told : (b : Bridge) → IsWhole b → (j : ℕ) → j < length b.conference.legs → IsTold b j ((setup_of b).gens j)
+is_told b w j l =
     let m = mixed_of b w in
     let a : AtEnd (setup_of b) b.conference.turns j b.table = at_end (setup_of b) (leg_chunks b.conference (input_at b.inputs)) b.conference.tick b.conference.turns j b.table m.setup m.texts l w.over in
     let up : (setup_of b).step * a.made ≤ (setup_of b).step * b.conference.turns = mul-le-mul_left (setup_of b).step a.few in
-    (told_out (setup_of b) m.setup b.table.seats j a.made b.table.media (b.table.terminals j) (omega (arith, up, m.span)) a.timed).packets_are
+    let o = told_out (setup_of b) m.setup b.table.seats j a.made b.table.media (b.table.terminals j) (omega (arith, up, m.span)) a.timed in
+    record { lawful = o.lawful; own = o.own; closed = o.closed a.quiet; packets_are = o.packets_are }
 
 -- ---- the whole
 is_bridged : (held after : Contents) (file printed : List ℕ) (b : Bridge) → IsMixedFrom held file b → printed ≡ views b.conference b.table → AllStored (outs b.conference b.table) held after
@@ -157,7 +163,10 @@ is_bridged : (held after : Contents) (file printed : List ℕ) (b : Bridge) → 
 is_bridged held after file printed b m views_are stored = record {
   bridge = b;
   mixed = m;
-  outs = λ j leg at. (dump_written (records_of b j leg), there j leg at, out_is b j leg (back j leg at) (packets_are b w j (below_legs b.conference.legs j leg at)));
+  outs = λ j leg at.
+      let g : gens_of (leg_at b.conference.legs j) ≡ leg.gens = ap gens_of at in
+      let t = subst (IsTold b j) g (is_told b w j (below_legs b.conference.legs j leg at)) in
+      (dump_written (records_of b j leg), there j leg at, out_is b j leg (back j leg at) t.lawful t.own t.closed t.packets_are);
   views = views_are ∙ views_from b 0 b.conference.legs (λ j leg at. let k : j ≡ 0 + j = omega arith in subst (λ n. view_of b.conference b.table n leg ≡ view_behind b n leg) k (view_is b j leg (back j leg at)));
   heard = pair_heard b w;
   heard_as_one = one_heard b w;

@@ -17,8 +17,8 @@ use Rattle.file_spec.specs.declared.conf_lines.LegLine.{LegLine}
 use Rattle.file_spec.specs.Conf.{Conf}
 use Rattle.file_spec.specs.Kept.{IsConference, IsLeg, AreTwoTypes}
 use Rattle.stream_spec.specs.Lists.{In}
-use Rattle.stream_spec.specs.History.{placed}
-use Rattle.stream_spec.specs.Own.{Sendable, own_packet, packet_after}
+use Rattle.stream_spec.specs.History.{Lawful, placed}
+use Rattle.stream_spec.specs.Own.{Sendable, own_packet, packet_after, Own, Closed}
 use Rattle.mixer_spec.specs.Setups.{Setup, setup, stream, leg_at, ssrc_of}
 use Rattle.mixer_spec.specs.Table.{Mixed, Table, packets, sents}
 use Rattle.mixer_spec.specs.Bridged.{IsConferenceMixed, IsMixed, leg_chunks, packets_to}
@@ -113,8 +113,12 @@ fit ssrc pts (x ∷ sent) b a = (
 )
 
 pub out_is : (b : Bridge) (j : ℕ) (leg : LegLine) → AllByRecursion (IsBack b.conference.mixer.ssrc leg.pts) (sent_to b.conference b.table j)
+    → Lawful (told_to b j) → Own leg.gens (told_to b j) → Closed leg.gens (told_to b j)
     → packets_to (setup_of b) j (b.table.terminals j).past ≡ map (own_packet (told_to b j)) (placed (told_to b j)) → IsOut b j leg (dump_written (records_of b j leg))
-out_is b j leg k p = record {
+out_is b j leg k lawful own closed p = record {
+  lawful = lawful;
+  own = own;
+  closed = closed;
   is = refl;
   packets = texts_back b.conference.mixer.ssrc leg.pts (sent_to b.conference b.table j) k
       ∙ (ap (map (λ (p : Packet). let q : Result Packet TextFault = Ok p in q)) p ∙ map_twice (λ (p : Packet). let q : Result Packet TextFault = Ok p in q) (own_packet (told_to b j)) (placed (told_to b j)));

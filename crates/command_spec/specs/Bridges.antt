@@ -10,8 +10,8 @@ use Rattle.file_spec.specs.declared.conf_lines.Form.TheVariants.{Files}
 use Rattle.file_spec.specs.declared.conf_lines.LegLine.{LegLine}
 use Rattle.file_spec.specs.Conf.{Conf, conf}
 use Rattle.stream_spec.specs.Numbering as numbers
-use Rattle.stream_spec.specs.History.{History, placed}
-use Rattle.stream_spec.specs.Own.{own_packet}
+use Rattle.stream_spec.specs.History.{History, Lawful, placed}
+use Rattle.stream_spec.specs.Own.{Own, Closed, own_packet}
 use Rattle.stream_spec.specs.Carries.{Carries}
 use Rattle.stream_spec.specs.Kept.{Item}
 use Rattle.stream_spec.specs.Ready.{Chunk}
@@ -71,9 +71,12 @@ onward_from_mixer b j = onward b j b.conference.mixer.ssrc
 abbrev pub records_of : Bridge → ℕ → LegLine → List (ℕ × List ℕ)
 records_of b j leg = records_to b.conference b.table j leg
 
--- These octets are the recording of what was sent to the leg j: it has the own packets of the history, in order, and is
--- read back wherever its times and its size are within the limits.
+-- These octets are the file of a history that is lawful, of the mixer's own making, and closed: the recording of its own
+-- packets, in order, which is read back wherever its times and its size are within the limits.
 pub record IsOut (b : Bridge) (j : ℕ) (leg : LegLine) (octets : List ℕ) : Type 0 where
+  pub lawful : Lawful (told_to b j)
+  pub own : Own leg.gens (told_to b j)
+  pub closed : Closed leg.gens (told_to b j)
   pub is : octets ≡ dump_written (records_of b j leg)
   pub packets : map (λ r. text_of r.1 (Some b.conference.mixer.ssrc) leg.pts) (records_of b j leg)
       ≡ map (λ x. Ok (own_packet (told_to b j) x)) (placed (told_to b j))
