@@ -25,7 +25,7 @@ too_large : (octets : List ℕ) → 262144 < length octets → conf Files octets
 too_large octets l =
     let over : nat_lt 262144 (length octets) ≡ true = grind (arith, nat_tests) in
     ap (λ b. cond b (Err large) (read_lines (and_line Files) nothing (told is_blank 1 (lines octets))
-        >>= λ above. at_line (length (lines octets) + 1) (complete above above.mixer))) over
+    >>= λ above. at_line (length (lines octets) + 1) (complete above above.mixer))) over
 
 -- a front of more than the most says the same as the whole
 same_conf : (octets whole : List ℕ) → IsFrontOf 262144 octets whole → conf Files whole ≡ conf Files octets
@@ -46,6 +46,8 @@ read_conf_octets Told held octets c given s = (octets, λ t. let g = given t in 
 pub conf_refused : (Told : Type 0) (held : Contents) (file : List ℕ) (Call Object : List ℕ → Type 0) (octets : List ℕ) (line : ℕ) (kind : ConfKind)
     → (Told → (whole : List ℕ) × (held file ≡ Some whole) × IsFrontOf 262144 octets whole) → conf Files octets ≡ Err (record { line = line; kind = kind })
     → Stops Told held (mixing file) Call Object file (Refused 0 (AtLine line kind))
-conf_refused Told held file Call Object octets line kind given e =
-    (refl, λ told. let g = given told in
-        lies held file (λ octets. mixes_read (conf Files octets)) g.0 g.1 ∙ ap (outcome_from 1 held) (ap mixes_read (same_conf octets g.0 g.2 ∙ e)))
+conf_refused Told held file Call Object octets line kind given e = (
+  refl,
+  λ told. let g = given told in
+      lies held file (λ octets. mixes_read (conf Files octets)) g.0 g.1 ∙ ap (outcome_from 1 held) (ap mixes_read (same_conf octets g.0 g.2 ∙ e)),
+)

@@ -4,7 +4,7 @@ use Rattle.std.specs.Prelude.{◌⊎◌}
 use Rattle.wire_spec.specs.Dump.{dump, usual_limit}
 use Rattle.wire_spec.specs.Dump as dumps
 use Rattle.stream_spec.specs.History.{History, Lawful, Come}
-use Rattle.command_spec.specs.Words.{ReadWords, Command, Read}
+use Rattle.command_spec.specs.Words.{ReadWords, MixWords, Command, Read, Mix}
 use Rattle.command_spec.specs.declared.faults.Fault.{Fault}
 use Rattle.command_spec.specs.declared.faults.Fault.TheVariants.{WrongWords, CannotOpen, CannotRead, Refused, CannotPrint, CannotWrite, NoMemory}
 use Rattle.command_spec.specs.Work.{Contents, Made, Makes, Work}
@@ -14,7 +14,9 @@ use Rattle.command_spec.specs.Reading.{arrivals_of, read_view, history_view}
 use Rattle.command_spec.specs.Commands.{request_of, unless_broken, work}
 use Rattle.command_spec.specs.Messages.{Ending, ending_of, status_of, message_of}
 use Rattle.rtt_top.specs.Outside.{Outside, Output, Failed}
-use Rattle.rtt_top.specs.Runs.{Prints, Unchanged, Ends, IsCalm, IsAsWorked, IsOfWords, IsViewOf, Runs}
+use Rattle.rtt_top.specs.Runs.{Prints, Unchanged, Ends, IsCalm, IsAsWorked, IsOfWords, IsViewOf, IsHeadline, Runs}
+use Rattle.command_spec.specs.Mixing.{mixing}
+use Rattle.command_spec.proofs.Headlines.{bridged}
 use Rattle.command_spec.proofs.Views.{same_view}
 use Rattle.rtt_top.proofs.Working.{lies}
 
@@ -48,6 +50,20 @@ viewed Told Shown old new name h law told shown r octets view held come is ends 
     let p = from_view old.contents (dump usual_limit octets).fault (read_view (request_of r) octets) P at in
     p.1 shown ∙ ap (λ (v : List ℕ). old.out.octets ++ v) (same_view h law (request_of r) octets come ∙ sym is)
 
+-- ---- a conference
+is_done : (o : Outcome) (P : List ℕ → List Made → Type 0) → IsDone o P → (printed : List ℕ) × (files : List Made) × (o ≡ Done printed files) × P printed files
+is_done (Missing n) P d = absurd d
+is_done (outcomes.Refused n refusal) P d = absurd d
+is_done (Done printed files) P d = (printed, files, refl, d)
+
+headline : (Told Shown : Type 0) (old new : Outside) (name : List ℕ) (m : MixWords) → Told → Ends (work (Mix m)) Told Shown old new name (Ok tt) → IsHeadline Shown m old new
+headline Told Shown old new name m told e =
+    let d = is_done (outcome old.contents (mixing m.conf)) (λ printed files. AllStored files old.contents new.contents × (Shown → Prints printed old new)) (e told) in
+    record { printed = d.0; prints = d.3.1; bridged = bridged old.contents new.contents m.conf d.0 d.1 d.2 d.3.0 }
+
+the_mix : (c : Command) (m : MixWords) → Some c ≡ Some (Mix m) → c ≡ Mix m
+the_mix c m e = cc
+
 the_same : (c : Command) (r : ReadWords) → Some c ≡ Some (Read r) → c ≡ Read r
 the_same c r e = cc
 
@@ -64,6 +80,10 @@ runs c Told Shown Heard old new before after status ending name is ends silent t
       let P : Command → Type 0 = λ k. Ends (work k) Told Shown old new name ending in
       let Q : Ending → Type 0 = λ q. Ends (work (Read v.request)) Told Shown old new name q in
       viewed Told Shown old new name h law t s v.request v.octets view v.lies v.come v.view_is (subst Q ok (subst P (the_same c v.request v.reads) ends));
+  headline = λ t ok m e.
+      let P : Command → Type 0 = λ k. Ends (work k) Told Shown old new name ending in
+      let Q : Ending → Type 0 = λ q. Ends (work (Mix m)) Told Shown old new name q in
+      headline Told Shown old new name m t (subst Q ok (subst P (the_mix c m e) ends));
   silent = silent;
   told = told;
 }
@@ -84,6 +104,7 @@ no_words words Told Shown Heard old before after status fault name none is s sil
       ends = (is, ((λ shown. refl), λ told name. refl));
       calm = λ t c e. absurd (no_command c e);
       kept = λ t s ok h law view v. absurd (no_command (Read v.request) v.reads);
+      headline = λ t ok m e. absurd (no_command (Mix m) e);
       silent = silent;
       told = told;
     } in here)

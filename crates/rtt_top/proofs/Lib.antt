@@ -6,3 +6,6 @@ pub mod Sending
 pub mod Histories
 pub mod Saving
 pub mod Conferring
+pub mod Chain
+pub mod Bridging
+pub mod Since

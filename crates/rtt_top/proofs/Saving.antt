@@ -9,7 +9,8 @@ use Rattle.command_spec.specs.Work.{Contents, Made, IsNth}
 use Rattle.command_spec.specs.Outcomes.{Same, Stores, AllStored}
 use Rattle.rtt_top.specs.Files.{IsPartlyStored}
 use Rattle.rtt_top.specs.Runs.{PartlyStored}
-use Rattle.rtt_top.specs.Outputs.{outputs_of, IsUnwritten}
+use Rattle.bridge_run.specs.Mixes.{outputs_of}
+use Rattle.rtt_top.specs.Outputs.{IsUnwritten}
 use Rattle.rtt_top.specs.Outside.{RoseAt}
 use Rattle.rtt_top.proofs.Counts.{rose_since}
 
@@ -84,12 +85,12 @@ unwritten Told calls objects calls_now objects_now calls_then objects_then files
     let object : RoseAt objects_now objects_then file.name → RoseAt objects objects_then file.name = λ r. rose_since (objects file.name) (objects_now file.name) (objects_then file.name) (g file.name) r in
     let P : Fault → Type 0 = IsUnwritten Told (RoseAt calls calls_then) (RoseAt objects objects_then) files old new in
     let nth : IsNth files n file.name =
-        subst (λ k. IsNth files k file.name) at.count (subst (λ fs. IsNth fs (length (take n files)) file.name) (sym at.whole) (is_nth (take n files) file (drop (suc n) files))) in
+    subst (λ k. IsNth files k file.name) at.count (subst (λ fs. IsNth fs (length (take n files)) file.name) (sym at.whole) (is_nth (take n files) file (drop (suc n) files))) in
     let part : Told → PartlyStored (RoseAt calls calls_then) (RoseAt objects objects_then) n files old new = λ told.
-        subst (λ k. PartlyStored (RoseAt calls calls_then) (RoseAt objects objects_then) k files old new) at.count
-        (subst (λ fs. PartlyStored (RoseAt calls calls_then) (RoseAt objects objects_then) (length (take n files)) fs old new) (sym at.whole)
-        (partly_more (RoseAt calls calls_then) (RoseAt objects objects_then) (take n files) file (drop (suc n) files) old between new (before told)
-        (partly_since (RoseAt calls calls_then file.name) (RoseAt objects objects_then file.name) (RoseAt calls_now calls_then file.name) (RoseAt objects_now objects_then file.name) file between new call object (partly told)))) in
+    subst (λ k. PartlyStored (RoseAt calls calls_then) (RoseAt objects objects_then) k files old new) at.count
+    (subst (λ fs. PartlyStored (RoseAt calls calls_then) (RoseAt objects objects_then) (length (take n files)) fs old new) (sym at.whole)
+    (partly_more (RoseAt calls calls_then) (RoseAt objects objects_then) (take n files) file (drop (suc n) files) old between new (before told)
+    (partly_since (RoseAt calls calls_then file.name) (RoseAt objects objects_then file.name) (RoseAt calls_now calls_then file.name) (RoseAt objects_now objects_then file.name) file between new call object (partly told)))) in
     subst P (sym fault) (file.name, nth, either (RoseAt calls_now calls_then file.name) (RoseAt objects_now objects_then file.name) (RoseAt calls calls_then file.name) (RoseAt objects objects_then file.name) call object cause, part)
 
 pub stored_next : (files : List Made) (n : ℕ) (file : Made) (old between new : Contents) (result : Result (Unit {0}) Fault) → IsFileAt files n file → is_err result ≡ false

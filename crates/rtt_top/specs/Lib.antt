@@ -3,3 +3,4 @@ pub mod Faults
 pub mod Outside
 pub mod Runs
 pub mod Outputs
+pub mod Conferences

@@ -1,16 +1,9 @@
 -- Files that are made for the legs of a conference, and what comes of them where one fails.
 use Rattle.std.specs.Prelude.{◌⊎◌, ℕ, List, [], ◌∷◌}
-use Rattle.file_spec.specs.declared.conf_lines.LegLine.{LegLine}
 use Rattle.command_spec.specs.declared.faults.Fault.{Fault}
 use Rattle.command_spec.specs.declared.faults.Fault.TheVariants.{WrongWords, CannotOpen, CannotRead, Refused, CannotPrint, CannotWrite, NoMemory}
 use Rattle.command_spec.specs.Work.{Contents, Made, IsNth}
 use Rattle.rtt_top.specs.Runs.{PartlyStored}
-
--- for each leg its output, with these octets
-abbrev pub outputs_of : List LegLine → List (List ℕ) → List Made
-outputs_of [] more = []
-outputs_of (leg ∷ legs) [] = []
-outputs_of (leg ∷ legs) (octets ∷ more) = record { name = leg.output; octets = octets } ∷ outputs_of legs more
 
 -- One of the files could not be written: those before it are whole, and those behind it as before.
 abbrev pub IsUnwritten : (Told : Type 0) → (Call Object : List ℕ → Type 0) → List Made → Contents → Contents → Fault → Type 0

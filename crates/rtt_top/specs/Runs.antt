@@ -1,13 +1,14 @@
 -- What a run of the program is: how it ends, and what then lies outside (profile). `Told`, `Shown` and `Heard` say that
 -- the world, the output and the output of errors tell what they hold.
-use Rattle.std.specs.Prelude.{◌≡◌, ◌⊎◌, ℕ, true, Option, None, Some, List, [], ◌∷◌, ◌++◌, take, Ok, Err, suc, zero, map, String, string_bytes}
+use Rattle.std.specs.Prelude.{◌≡◌, ◌⊎◌, ℕ, Bool, true, false, Option, None, Some, List, [], ◌∷◌, ◌++◌, take, Ok, Err, suc, zero, map, String, string_bytes}
 use Rattle.std.specs.Global.{Global}
-use Rattle.command_spec.specs.Words.{ReadWords, Command, Read, command}
+use Rattle.command_spec.specs.Words.{ReadWords, MixWords, Command, Read, ListRecords, Send, Mix, command}
 use Rattle.stream_spec.specs.History.{History, Lawful, Come}
 use Rattle.command_spec.specs.declared.faults.Fault.{Fault}
 use Rattle.command_spec.specs.declared.faults.Fault.TheVariants.{WrongWords, CannotOpen, CannotRead, Refused, CannotPrint, CannotWrite, NoMemory}
 use Rattle.command_spec.specs.Work.{Contents, Made, Work, Steps, IsInput, IsOutput}
 use Rattle.command_spec.specs.Outcomes.{outcome, IsDone, Same, Stores, AllStored}
+use Rattle.command_spec.specs.Bridges.{IsBridged}
 use Rattle.command_spec.specs.Reading.{arrivals_of, history_view}
 use Rattle.command_spec.specs.Commands.{request_of, work}
 use Rattle.command_spec.specs.Messages.{Ending, ending_of, status_of, message_of}
@@ -18,6 +19,14 @@ use Rattle.rtt_top.specs.Outside.{Outside, Output, Failed, CallFailed, ObjectFai
 -- what these words ask for, if they are in the word table
 abbrev pub asked_by : List (String Global) → Option Command
 asked_by words = command (map string_bytes words)
+
+-- Commands that need no thread and wait for nobody, and words that ask for none.
+abbrev pub is_plain : Option Command → Bool
+is_plain None = true
+is_plain (Some (Read r)) = true
+is_plain (Some (ListRecords l)) = true
+is_plain (Some (Send s)) = true
+is_plain (Some (Mix m)) = false
 
 -- this was printed
 abbrev pub Prints : List ℕ → Outside → Outside → Type 0
@@ -46,7 +55,7 @@ abbrev pub FailedAt : Outside → Outside → List ℕ → Type 0
 FailedAt old new name = CallFailed old new name ⊎ ObjectFailed old new name
 
 -- How a command may end, where the file that is told of has this name. 0: all is made. 7: a front of it is. With 3, 4,
--- 5, 6 and 70 nothing is changed.
+-- 5, 6, 9 and 70 nothing is changed.
 abbrev pub Ends : Work → (Told Shown : Type 0) → Outside → Outside → List ℕ → Ending → Type 0
 Ends w Told Shown old new name (Ok done) =
     Told → IsDone (outcome old.contents w.steps) (λ printed files.
@@ -91,6 +100,12 @@ pub record IsViewOf (h : History) (words : Option Command) (held : Contents) (vi
   pub come : Come h (arrivals_of (request_of request) octets)
   pub view_is : view ≡ history_view h (request_of request) octets
 
+-- What was made of a conference is bridged: the headline, from its files to what lies there then and what was printed.
+pub record IsHeadline (Shown : Type 0) (m : MixWords) (old new : Outside) : Type 0 where
+  pub printed : List ℕ
+  pub prints : Shown → Prints printed old new
+  pub bridged : IsBridged old.contents new.contents m.conf printed
+
 -- What a run is that ends with this status, where the output of errors was and is such.
 pub record Runs (words : Option Command) (Told Shown Heard : Type 0) (old new : Outside) (before after : Output)
     (status : ℕ) : Type 0 where
@@ -102,5 +117,6 @@ pub record Runs (words : Option Command) (Told Shown Heard : Type 0) (old new : 
       → IsCalm (work c) Told old new → IsAsWorked (work c) old ending
   pub kept : Told → Shown → ending ≡ Ok tt → (h : History) → Lawful h → (view : List ℕ)
       → IsViewOf h words old.contents view → Prints view old new
+  pub headline : Told → ending ≡ Ok tt → (m : MixWords) → words ≡ Some (Mix m) → IsHeadline Shown m old new
   pub silent : ending ≡ Ok tt → after.octets ≡ before.octets
   pub told : Heard → (Failed before after → ⊥) → after.octets ≡ before.octets ++ message_of name ending

@@ -1,5 +1,5 @@
 //! The commands, each from its words to its work or its fault.
-ghost use Rattle.std.specs.Prelude.{◌≡◌, ℕ, ◌++◌, List, Ok, Err, Some, take, OnOk, OnErr, IfErr};
+ghost use Rattle.std.specs.Prelude.{◌≡◌, ℕ, ◌++◌, List, Ok, Err, Some, None, is_some, take, OnOk, OnErr, IfErr, IfSome};
 ghost use Rattle.rtt_io.specs.Counts.{Rose};
 ghost use Rattle.command_spec.specs.Words.{Read, ListRecords, Send};
 ghost use Rattle.rtt_words.specs.Commands.{asked, listed, sent, meaning};
@@ -7,20 +7,22 @@ ghost use Rattle.command_spec.specs.Commands.{work};
 ghost use Rattle.command_spec.specs.Messages.{status_of, message_of};
 ghost use Rattle.rtt_top.specs.Faults.{name_in};
 ghost use Rattle.rtt_top.specs.Outside.{outside, output};
-ghost use Rattle.rtt_top.specs.Runs.{Ends, Runs};
+ghost use Rattle.rtt_top.specs.Runs.{is_plain, Ends, Runs};
 
 use crate::files::save_output;
 use crate::messages::{status, tell};
+use crate::mixing::mix_file;
 use crate::recordings::{lines_of, view_of};
 use crate::scripts::recording_of;
 use command_spec::Fault;
 use rtt_base::Failed;
-use rtt_io::{Sink, World};
+use rtt_io::{Gate, Sink, World};
 use rtt_words::{Command, ListWords, ReadWords, SendWords};
 use std::alloc::Global;
+use std::sync::Wait;
 
 /// Prints what a command made.
-fn print<K: Sink>(octets: &[u8], out: &mut K) -> Result<(), Fault>
+pub(crate) fn print<K: Sink>(octets: &[u8], out: &mut K) -> Result<(), Fault>
     ensures fault { IfErr result (λ fault. fault ≡ Fault.CannotPrint) }
     ensures cause { OnErr result (Rose (K.faults out.old) (K.faults out.new)) }
     ensures printed { K.tells → OnOk result (K.took out.new ≡ K.took out.old ++ octets.now) }
@@ -96,6 +98,32 @@ fn file_name<'a>(fault: Fault, input: &'a str, output: &'a str) -> &'a str
     }
 }
 
+/// Tells how a command ended, where the file that is told of has this name, and answers the status.
+pub(crate) fn finish_with<E: Sink>(ending: Result<(), Fault>, name: &str, err: &mut E) -> u8
+    ensures status { result ≡ status_of ending }
+    ensures silent { ending ≡ Ok tt → E.took err.new ≡ E.took err.old }
+    ensures told { E.tells → (Rose (E.faults err.old) (E.faults err.new) → ⊥)
+        → E.took err.new ≡ E.took err.old ++ message_of name.now ending }
+{
+    match ending {
+        Ok(()) => 0,
+        Err(fault) => {
+            tell(err, name, fault);
+            status(fault)
+        }
+    }
+}
+
+/// The name of the file that is told of where a command ends so that has one input and one output.
+fn ending_name<'a>(ending: Result<(), Fault>, input: &'a str, output: &'a str) -> &'a str
+    ensures { result.now ≡ name_in input.now output.now ending }
+{
+    match ending {
+        Ok(()) => input,
+        Err(fault) => file_name(fault, input, output),
+    }
+}
+
 /// Tells how a command ended whose one input and one output have these names, and answers the status.
 pub fn finish<E: Sink>(ending: Result<(), Fault>, input: &str, output: &str, err: &mut E) -> u8
     ensures status { result ≡ status_of ending }
@@ -103,23 +131,93 @@ pub fn finish<E: Sink>(ending: Result<(), Fault>, input: &str, output: &str, err
     ensures told { E.tells → (Rose (E.faults err.old) (E.faults err.new) → ⊥)
         → E.took err.new ≡ E.took err.old ++ message_of (name_in input.now output.now ending) ending }
 {
-    match ending {
-        Ok(()) => 0,
-        Err(fault) => {
-            let name = file_name(fault, input, output);
-            tell(err, name, fault);
-            status(fault)
-        }
-    }
+    let name = ending_name(ending, input, output);
+    finish_with(ending, name, err)
 }
 
-/// Does what is asked for, and answers the status.
-pub fn carry_out<W: World, K: Sink, E: Sink>(
+/// `read`, and what is told of it.
+fn run_read<W: World, K: Sink, E: Sink>(
+    alloc: Global,
+    words: &ReadWords<'_>,
+    world: &mut W,
+    out: &mut K,
+    err: &mut E,
+) -> u8
+    ensures { Runs (Some (Read (asked words.now))) W.tells K.tells E.tells
+        (outside (W.contents world.old) (W.own_faults world.old) (W.object_faults world.old) (output (K.took out.old) (K.faults out.old)))
+        (outside (W.contents world.new) (W.own_faults world.new) (W.object_faults world.new) (output (K.took out.new) (K.faults out.new)))
+        (output (E.took err.old) (E.faults err.old)) (output (E.took err.new) (E.faults err.new)) result }
+{
+    let ending = read(alloc, words, world, out);
+    finish(ending, words.file, words.file, err)
+}
+
+/// `list`, and what is told of it.
+fn run_list<W: World, K: Sink, E: Sink>(
+    alloc: Global,
+    words: &ListWords<'_>,
+    world: &mut W,
+    out: &mut K,
+    err: &mut E,
+) -> u8
+    ensures { Runs (Some (ListRecords (listed words.now))) W.tells K.tells E.tells
+        (outside (W.contents world.old) (W.own_faults world.old) (W.object_faults world.old) (output (K.took out.old) (K.faults out.old)))
+        (outside (W.contents world.new) (W.own_faults world.new) (W.object_faults world.new) (output (K.took out.new) (K.faults out.new)))
+        (output (E.took err.old) (E.faults err.old)) (output (E.took err.new) (E.faults err.new)) result }
+{
+    let ending = list(alloc, words, world, out);
+    finish(ending, words.file, words.file, err)
+}
+
+/// `send`, and what is told of it.
+fn run_send<W: World, K: Sink, E: Sink>(
+    alloc: Global,
+    words: &SendWords<'_>,
+    world: &mut W,
+    out: &mut K,
+    err: &mut E,
+) -> u8
+    ensures { Runs (Some (Send (sent words.now))) W.tells K.tells E.tells
+        (outside (W.contents world.old) (W.own_faults world.old) (W.object_faults world.old) (output (K.took out.old) (K.faults out.old)))
+        (outside (W.contents world.new) (W.own_faults world.new) (W.object_faults world.new) (output (K.took out.new) (K.faults out.new)))
+        (output (E.took err.old) (E.faults err.old)) (output (E.took err.new) (E.faults err.new)) result }
+{
+    let ending = send(alloc, words, world, out);
+    finish(ending, words.script, words.out, err)
+}
+
+/// Does what is asked for, where that needs no thread and waits for nobody, and answers the status.
+pub fn carry_out_plain<W: World, K: Sink, E: Sink>(
     alloc: Global,
     command: &Command<'_>,
     world: &mut W,
     out: &mut K,
     err: &mut E,
+) -> Option<u8>
+    ensures plain { is_some result ≡ is_plain (Some (meaning command.now)) }
+    ensures runs { IfSome result (Runs (Some (meaning command.now)) W.tells K.tells E.tells
+        (outside (W.contents world.old) (W.own_faults world.old) (W.object_faults world.old) (output (K.took out.old) (K.faults out.old)))
+        (outside (W.contents world.new) (W.own_faults world.new) (W.object_faults world.new) (output (K.took out.new) (K.faults out.new)))
+        (output (E.took err.old) (E.faults err.old)) (output (E.took err.new) (E.faults err.new))) }
+    ensures same { result ≡ None → (world.new ≡ world.old) × (out.new ≡ out.old) × (err.new ≡ err.old) }
+{
+    match command {
+        Command::Read(words) => Some(run_read(alloc, words, world, out, err)),
+        Command::ListRecords(words) => Some(run_list(alloc, words, world, out, err)),
+        Command::Send(words) => Some(run_send(alloc, words, world, out, err)),
+        Command::Mix(_) => None,
+    }
+}
+
+/// Does what is asked for, and answers the status.
+pub fn carry_out<R: Wait, W: World, K: Sink, E: Sink, G: Gate>(
+    rt: &R,
+    alloc: Global,
+    command: &Command<'_>,
+    world: &mut W,
+    out: &mut K,
+    err: &mut E,
+    gate: &G,
 ) -> u8
     ensures { Runs (Some (meaning command.now)) W.tells K.tells E.tells
         (outside (W.contents world.old) (W.own_faults world.old) (W.object_faults world.old) (output (K.took out.old) (K.faults out.old)))
@@ -127,17 +225,9 @@ pub fn carry_out<W: World, K: Sink, E: Sink>(
         (output (E.took err.old) (E.faults err.old)) (output (E.took err.new) (E.faults err.new)) result }
 {
     match command {
-        Command::Read(words) => {
-            let ending = read(alloc, words, world, out);
-            finish(ending, words.file, words.file, err)
-        }
-        Command::ListRecords(words) => {
-            let ending = list(alloc, words, world, out);
-            finish(ending, words.file, words.file, err)
-        }
-        Command::Send(words) => {
-            let ending = send(alloc, words, world, out);
-            finish(ending, words.script, words.out, err)
-        }
+        Command::Read(words) => run_read(alloc, words, world, out, err),
+        Command::ListRecords(words) => run_list(alloc, words, world, out, err),
+        Command::Send(words) => run_send(alloc, words, world, out, err),
+        Command::Mix(words) => mix_file(rt, alloc, words, world, out, err, gate),
     }
 }

@@ -6,6 +6,7 @@ mod confs;
 mod files;
 pub mod laws;
 mod messages;
+mod mixing;
 mod outputs;
 mod recordings;
 mod runs;

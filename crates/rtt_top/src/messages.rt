@@ -121,7 +121,12 @@ fn write_line<E: Sink>(err: &mut E, name: &[u8], line: u32, kind: ConfKind) -> R
 
 /// Writes a number and what stands round it.
 #[tactic(auto, using(crate::proofs::Counts::rose_since, crate::proofs::Counts::rose_before))]
-fn write_counted<E: Sink>(err: &mut E, before: &[u8], count: u32, after: &[u8]) -> Result<(), Failed>
+fn write_counted<E: Sink>(
+    err: &mut E,
+    before: &[u8],
+    count: u32,
+    after: &[u8],
+) -> Result<(), Failed>
     ensures never_falls { E.faults err.old ≤ E.faults err.new }
     ensures failed { OnErr result (Rose (E.faults err.old) (E.faults err.new)) }
     ensures written { E.tells → OnOk result (E.took err.new ≡ E.took err.old ++ (before.now ++ (decimal count ++ after.now))) }
@@ -136,6 +141,7 @@ const USAGE: &[u8] = b"\
 usage: rtt_program read FILE SSRC [SOURCE [T140 RED]]
        rtt_program list FILE [T140 RED]
        rtt_program send SCRIPT OUT SSRC SEQ STAMP
+       rtt_program mix CONF
 ";
 
 /// Writes why what lies in a file of this name is refused.

@@ -1,7 +1,8 @@
 //! The outputs of a command that makes several files.
 ghost use Rattle.std.specs.Prelude.{◌≡◌, ℕ, ◌≤◌, List, length, OnOk, IfErr};
 ghost use Rattle.command_spec.specs.Outcomes.{AllStored};
-ghost use Rattle.rtt_top.specs.Outputs.{outputs_of, IsUnwritten};
+ghost use Rattle.bridge_run.specs.Mixes.{outputs_of};
+ghost use Rattle.rtt_top.specs.Outputs.{IsUnwritten};
 ghost use Rattle.rtt_top.specs.Outside.{RoseAt};
 
 use crate::files::save_output;

@@ -231,6 +231,7 @@ const USAGE: &str = "\
 usage: rtt_program read FILE SSRC [SOURCE [T140 RED]]
 \x20      rtt_program list FILE [T140 RED]
 \x20      rtt_program send SCRIPT OUT SSRC SEQ STAMP
+\x20      rtt_program mix CONF
 ";
 
 const WRONG_WORDS: [Failure<'static>; 10] = [

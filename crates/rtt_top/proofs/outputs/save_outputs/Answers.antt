@@ -6,7 +6,7 @@ use Rattle.command_spec.specs.declared.faults.Fault.TheVariants.{CannotWrite}
 use Rattle.command_spec.specs.Work.{Made}
 use Rattle.command_spec.specs.Outcomes.{AllStored, Stores}
 use Rattle.rtt_top.specs.Files.{IsPartlyStored}
-use Rattle.rtt_top.specs.Outputs.{outputs_of}
+use Rattle.bridge_run.specs.Mixes.{outputs_of}
 use Rattle.rtt_top.proofs.Saving.{IsFileAt, file_at, take_whole, unwritten, stored_next}
 use Rattle.rtt_top.proofs.outputs.save_outputs.Goals as goal
 
@@ -15,8 +15,8 @@ returns-then-is_err-clause-unwritten g c =
     let file : Made = record { name = c.index-legs-number.result.output; octets = c.index-outputs-number.result } in
     let saved : Made = record { name = c.as_str-name.result.now; octets = c.as_slice-octets.result.now } in
     let same : saved ≡ file =
-        ap (λ name. record { name = name; octets = c.as_slice-octets.result.now }) (c.as_str-name.ensures ∙ ap (λ (leg : LegLine). leg.output) (sym c.index-legs-number.is))
-        ∙ ap (λ octets. record { name = c.index-legs-number.result.output; octets = octets }) c.as_slice-octets.ensures in
+    ap (λ name. record { name = name; octets = c.as_slice-octets.result.now }) (c.as_str-name.ensures ∙ ap (λ (leg : LegLine). leg.output) (sym c.index-legs-number.is))
+    ∙ ap (λ octets. record { name = c.index-legs-number.result.output; octets = octets }) c.as_slice-octets.ensures in
     let at = file_at c.args.legs.now c.args.outputs.now c.loop-number.number c.index-legs-number.result c.index-outputs-number.result c.loop-number-test.true c.requires.as_many c.index-legs-number.is c.index-outputs-number.is in
     unwritten g.W.World.tells (g.W.World.own_faults c.args.world.now) (g.W.World.object_faults c.args.world.now)
     (g.W.World.own_faults c.loop-number.world) (g.W.World.object_faults c.loop-number.world)
@@ -31,10 +31,9 @@ pub loop-number-preserved : goal.loop-number-preserved
 loop-number-preserved g c =
     let saved : Made = record { name = c.as_str-name.result.now; octets = c.as_slice-octets.result.now } in
     let same : saved ≡ record { name = c.index-legs-number.result.output; octets = c.index-outputs-number.result } =
-        ap (λ name. record { name = name; octets = c.as_slice-octets.result.now }) (c.as_str-name.ensures ∙ ap (λ (leg : LegLine). leg.output) (sym c.index-legs-number.is))
-        ∙ ap (λ octets. record { name = c.index-legs-number.result.output; octets = octets }) c.as_slice-octets.ensures in
-    let at = file_at c.args.legs.now c.args.outputs.now c.loop-number.number c.index-legs-number.result c.index-outputs-number.result c.loop-number-test.true c.requires.as_many c.index-legs-number.is c.index-outputs-number.is in
-    (
+    ap (λ name. record { name = name; octets = c.as_slice-octets.result.now }) (c.as_str-name.ensures ∙ ap (λ (leg : LegLine). leg.output) (sym c.index-legs-number.is))
+    ∙ ap (λ octets. record { name = c.index-legs-number.result.output; octets = octets }) c.as_slice-octets.ensures in
+    let at = file_at c.args.legs.now c.args.outputs.now c.loop-number.number c.index-legs-number.result c.index-outputs-number.result c.loop-number-test.true c.requires.as_many c.index-legs-number.is c.index-outputs-number.is in (
       λ told. stored_next (outputs_of c.args.legs.now c.args.outputs.now) c.loop-number.number saved
           (g.W.World.contents c.args.world.now) (g.W.World.contents c.loop-number.world) (g.W.World.contents c.save_output-saved.new.world) c.save_output-saved.result
           (subst (IsFileAt (outputs_of c.args.legs.now c.args.outputs.now) c.loop-number.number) (sym same) at)

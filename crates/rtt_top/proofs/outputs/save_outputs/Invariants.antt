@@ -1,6 +1,6 @@
 use Rattle.std.proofs.Common.{◌≡◌, ℕ, ◌≤◌, List, take}
 use Rattle.command_spec.specs.Outcomes.{AllStored}
-use Rattle.rtt_top.specs.Outputs.{outputs_of}
+use Rattle.bridge_run.specs.Mixes.{outputs_of}
 use Rattle.rtt_top.proofs.outputs.save_outputs.Given as goal
 
 abbrev pub invariant-loop-number : goal.invariant-loop-number

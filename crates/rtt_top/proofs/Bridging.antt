@@ -1,0 +1,184 @@
+-- How a conference that is mixed ends.
+use Rattle.std.proofs.Common.{◌≡◌, ℕ, zero, suc, ◌+◌, ◌<◌, ◌≤◌, Bool, true, false, Option, Some, None, List, [], ◌∷◌, ◌++◌, length, take, Result, Ok, Err, refl, ap, sym, subst, ◌∙◌, inl, inr, arith}
+use Rattle.std.specs.Prelude.{◌⊎◌, IfErr, OnOk, OnErr, if◌then◌else◌}
+use Rattle.std.specs.Result.{is_err}
+use Rattle.rtpdump_io.specs.declared.items.DumpFault.{DumpFault}
+use Rattle.rtpdump_io.specs.Reading.{is_of_source}
+use Rattle.file_spec.specs.declared.conf_lines.Form.TheVariants.{Files}
+use Rattle.file_spec.specs.declared.conf_lines.LegLine.{LegLine}
+use Rattle.file_spec.specs.Conf.{Conf, conf}
+use Rattle.mixer_spec.specs.Setups.{leg_at}
+use Rattle.command_spec.specs.declared.faults.Refusal.{Refusal}
+use Rattle.command_spec.specs.declared.faults.Refusal.TheVariants.{AtByte, AfterTurns}
+use Rattle.command_spec.specs.declared.faults.Fault.{Fault}
+use Rattle.command_spec.specs.declared.faults.Fault.TheVariants.{WrongWords, CannotOpen, CannotRead, Refused, CannotPrint, CannotWrite, NoMemory}
+use Rattle.command_spec.specs.Work.{Contents, Made, Steps, Makes, IsInput, IsOutput, IsNth}
+use Rattle.command_spec.specs.Outcomes.{outcome, Done, IsDone, Same, Stores, AllStored}
+use Rattle.command_spec.specs.Outcomes as outcomes
+use Rattle.command_spec.specs.Mixing.{mixing}
+use Rattle.command_spec.specs.Messages.{Ending}
+use Rattle.bridge_run.specs.declared.mixed.MixFault.{MixFault}
+use Rattle.bridge_run.specs.declared.mixed.MixFault.TheVariants.{Open, Dump, TooLong}
+use Rattle.bridge_run.specs.declared.mixed.MixFault.TheVariants as mix
+use Rattle.bridge_run.specs.declared.mixed.Mixed.{Mixed}
+use Rattle.bridge_run.specs.Mixes.{LieBelow, AllLie, IsMade, IsBroken, outputs_of, steps_of}
+use Rattle.bridge_run.specs.Mixes as bridge
+use Rattle.rtt_top.specs.Conferences.{ending_name, fault_of_mixing, fault_of_recording, input_name, input_of, mixing_work, output_of}
+use Rattle.rtt_top.specs.Files.{IsPartlyStored}
+use Rattle.rtt_top.specs.Outputs.{IsUnwritten}
+use Rattle.rtt_top.specs.Outside.{Outside, Output, Failed, CallFailed, ObjectFailed, RoseAt}
+use Rattle.rtt_top.specs.Runs.{Prints, PrintsFront, Unchanged, PartlyStored, Ends}
+use Rattle.command_spec.proofs.Outputs.{is_output}
+use Rattle.rtt_top.proofs.Working.{done}
+use Rattle.rtt_top.proofs.Counts.{rose_since}
+use Rattle.rtt_top.proofs.Chain.{is_input, outcome_done, outcome_refused}
+
+-- ---- legs
+leg_within : (legs : List LegLine) (k : ℕ) (leg : LegLine) → leg_at legs k ≡ Some leg → k < length legs
+leg_within [] k leg at = absurd (cc at)
+leg_within (l ∷ legs) zero leg at = omega arith
+leg_within (l ∷ legs) (suc k) leg at = let below = leg_within legs k leg at in omega arith
+
+lie_below : (held : Contents) (legs : List LegLine) (n : ℕ) → AllLie held legs → LieBelow n held legs
+lie_below held legs n lie = λ k leg less at. lie k leg (leg_within legs k leg at) at
+
+-- what holds of the input of a leg holds by its number and its name
+by_number : (P : ℕ → List ℕ → Type 0) (file : List ℕ) (legs : List LegLine) (k : ℕ) (leg : LegLine) → leg_at legs k ≡ Some leg
+    → P (suc k) leg.input → P (k + 1) (input_name file legs (k + 1))
+by_number P file legs k leg at p =
+    let one : suc k ≡ k + 1 = omega arith in
+    subst (λ n. P n (input_name file legs n)) one (subst (P (suc k)) (sym (ap (input_of file) at)) p)
+
+-- ---- nothing is made
+broken : (Told Shown : Type 0) (old new : Outside) (file octets : List ℕ) (c : Conf) (k : ℕ) (leg : LegLine) (fault : DumpFault) (b : Bool)
+    → (Told → old.contents file ≡ Some octets) → conf Files octets ≡ Ok c → is_of_source fault.kind ≡ b → leg_at c.legs k ≡ Some leg
+    → IsBroken Told (ObjectFailed old new) old.contents c k leg fault → Unchanged Told Shown old new
+    → let ended : Ending = Err (if b then CannotRead (k + 1) else Refused (k + 1) (AtByte fault.offset fault.kind)) in
+    Ends (mixing_work file) Told Shown old new (ending_name file c.legs ended) ended
+broken Told Shown old new file octets c k leg fault true there read is at s u = (
+  by_number (λ n name. IsInput Told old.contents (mixing file) n name × ObjectFailed old new name) file c.legs k leg at
+      (is_input Told old.contents file octets c k leg there read at (λ told. lie_below old.contents c.legs k (s.lie told)), s.read is),
+  u,
+)
+broken Told Shown old new file octets c k leg fault false there read is at s u = (
+  by_number (λ n name. IsInput Told old.contents (mixing file) n name × (Told → outcome old.contents (mixing file) ≡ outcomes.Refused n (AtByte fault.offset fault.kind))) file c.legs k leg at (
+    is_input Told old.contents file octets c k leg there read at (λ told. lie_below old.contents c.legs k (s.lie told)),
+    λ told. (let one : k + 1 ≡ suc k = omega arith in
+        outcome_refused old.contents file octets c (k + 1) (AtByte fault.offset fault.kind) (there told) read (s.lie told) (s.refused is told)
+        ∙ ap (λ n. outcomes.Refused n (AtByte fault.offset fault.kind)) one),
+  ),
+  u,
+)
+
+pub stopped_mixing : (Told Shown : Type 0) (old new : Outside) (file octets : List ℕ) (c : Conf) (fault : MixFault) → (Told → old.contents file ≡ Some octets) → conf Files octets ≡ Ok c
+    → bridge.Stops Told (CallFailed old new) (ObjectFailed old new) old.contents c fault → Unchanged Told Shown old new
+    → Ends (mixing_work file) Told Shown old new (ending_name file c.legs (Err (fault_of_mixing c.turns fault))) (Err (fault_of_mixing c.turns fault))
+stopped_mixing Told Shown old new file octets c (Open k) there read s u = (
+  by_number (λ n name. IsInput Told old.contents (mixing file) n name × CallFailed old new name) file c.legs k s.0 s.1
+      (is_input Told old.contents file octets c k s.0 there read s.1 s.3, s.2),
+  u,
+)
+stopped_mixing Told Shown old new file octets c (Dump k fault) there read s u =
+    broken Told Shown old new file octets c k s.0 fault (is_of_source fault.kind) there read refl s.1 s.2 u
+stopped_mixing Told Shown old new file octets c TooLong there read s u =
+    ((refl, λ told. outcome_refused old.contents file octets c 0 (AfterTurns c.turns) (there told) read (s told).0 (s told).1), u)
+stopped_mixing Told Shown old new file octets c mix.NoMemory there read s u = (tt, u)
+
+-- ---- an output can't be written
+nth_output : (legs : List LegLine) (outs : List (List ℕ)) (n : ℕ) (name : List ℕ) → IsNth (outputs_of legs outs) n name
+    → (leg : LegLine) × (leg_at legs n ≡ Some leg) × (name ≡ leg.output)
+nth_output [] outs n name nth = absurd nth
+nth_output (l ∷ legs) [] n name nth = absurd nth
+nth_output (l ∷ legs) (o ∷ outs) zero name nth = (l, refl, nth)
+nth_output (l ∷ legs) (o ∷ outs) (suc n) name nth = nth_output legs outs n name nth
+
+stores_since : (file : Made) (old between new : Contents) → Same old between → Stores file between new → Stores file old new
+stores_since file old between new same s = record { stored = s.stored; others = λ name other. s.others name other ∙ same name }
+
+pub all_stored_since : (files : List Made) (old between new : Contents) → Same old between → AllStored files between new → AllStored files old new
+all_stored_since [] old between new same s = λ name. s name ∙ same name
+all_stored_since (f ∷ files) old between new same s = (s.0, stores_since f old between s.0 same s.1, s.2)
+
+pub partly_since : (Call Object Call' Object' : List ℕ → Type 0) (n : ℕ) (files : List Made) (old between new : Contents) → ((name : List ℕ) → Call' name → Call name)
+    → ((name : List ℕ) → Object' name → Object name) → Same old between → PartlyStored Call' Object' n files between new → PartlyStored Call Object n files old new
+partly_since Call Object Call' Object' n [] old between new f g same p = absurd p
+partly_since Call Object Call' Object' zero (file ∷ more) old between new f g same (inl p) = inl (f file.name p.0, λ name. p.1 name ∙ same name)
+partly_since Call Object Call' Object' zero (file ∷ more) old between new f g same (inr p) =
+    inr (g file.name p.0, (p.1.0, stores_since (record file { octets = take p.1.0 file.octets }) old between new same p.1.1))
+partly_since Call Object Call' Object' (suc n) (file ∷ more) old between new f g same p =
+    (p.0, stores_since file old between p.0 same p.1, partly_since Call Object Call' Object' n more p.0 p.0 new f g (λ name. refl) p.2)
+
+either : (A B C D : Type 0) → (A → C) → (B → D) → A ⊎ B → C ⊎ D
+either A B C D f g (inl a) = inl (f a)
+either A B C D f g (inr b) = inr (g b)
+
+-- a world that lies between two others: nothing was changed, and no count fell
+pub record IsBetween (Told : Type 0) (old new : Outside) (contents : Contents) (calls objects : List ℕ → ℕ) : Type 0 where
+  pub same : Told → Same old.contents contents
+  pub calls_rise : (name : List ℕ) → old.calls name ≤ calls name
+  pub objects_rise : (name : List ℕ) → old.objects name ≤ objects name
+
+output_is : (Told : Type 0) (held : Contents) (file octets : List ℕ) (c : Conf) (printed : List ℕ) (outs : List (List ℕ)) → (Told → held file ≡ Some octets)
+    → conf Files octets ≡ Ok c → (Told → AllLie held c.legs × (steps_of held c ≡ Makes printed (outputs_of c.legs outs)))
+    → (n : ℕ) (leg : LegLine) → leg_at c.legs n ≡ Some leg → IsOutput Told held (mixing file) n leg.output
+output_is Told held file octets c printed outs there read made n leg at =
+    is_output Told held file octets c there read (λ told k l is. (made told).0 k l (leg_within c.legs k l is) is)
+    (λ told. (printed, outputs_of c.legs outs, (made told).1)) n leg at
+
+pub unwritten_mixing : (Told Shown : Type 0) (old new : Outside) (contents : Contents) (calls objects : List ℕ → ℕ) (file octets : List ℕ) (c : Conf) (printed : List ℕ) (outs : List (List ℕ))
+    (fault : Fault) → (Told → old.contents file ≡ Some octets) → conf Files octets ≡ Ok c → (Told → AllLie old.contents c.legs × (steps_of old.contents c ≡ Makes printed (outputs_of c.legs outs)))
+    → IsBetween Told old new contents calls objects → new.out ≡ old.out
+    → IsUnwritten Told (RoseAt calls new.calls) (RoseAt objects new.objects) (outputs_of c.legs outs) contents new.contents fault
+    → Ends (mixing_work file) Told Shown old new (ending_name file c.legs (Err fault)) (Err fault)
+unwritten_mixing Told Shown old new contents calls objects file octets c printed outs WrongWords there read made between out u = absurd u
+unwritten_mixing Told Shown old new contents calls objects file octets c printed outs (CannotOpen k) there read made between out u = absurd u
+unwritten_mixing Told Shown old new contents calls objects file octets c printed outs (CannotRead k) there read made between out u = absurd u
+unwritten_mixing Told Shown old new contents calls objects file octets c printed outs (Refused k refusal) there read made between out u = absurd u
+unwritten_mixing Told Shown old new contents calls objects file octets c printed outs CannotPrint there read made between out u = absurd u
+unwritten_mixing Told Shown old new contents calls objects file octets c printed outs NoMemory there read made between out u = absurd u
+unwritten_mixing Told Shown old new contents calls objects file octets c printed outs (CannotWrite n) there read made between out u =
+    let call : (name : List ℕ) → RoseAt calls new.calls name → CallFailed old new name = λ name r. rose_since (old.calls name) (calls name) (new.calls name) (between.calls_rise name) r in
+    let object : (name : List ℕ) → RoseAt objects new.objects name → ObjectFailed old new name = λ name r. rose_since (old.objects name) (objects name) (new.objects name) (between.objects_rise name) r in
+    let nth = nth_output c.legs outs n u.0 u.1 in
+    let named : u.0 ≡ output_of file (leg_at c.legs n) = nth.2 ∙ sym (ap (output_of file) nth.1) in
+    let output : IsOutput Told old.contents (mixing file) n u.0 =
+    subst (λ name. IsOutput Told old.contents (mixing file) n name) (sym nth.2) (output_is Told old.contents file octets c printed outs there read made n nth.0 nth.1) in (
+      subst (λ name. IsOutput Told old.contents (mixing file) n name) named output,
+      subst (λ name. CallFailed old new name ⊎ ObjectFailed old new name) named (either (RoseAt calls new.calls u.0) (RoseAt objects new.objects u.0) (CallFailed old new u.0) (ObjectFailed old new u.0) (call u.0) (object u.0) u.2),
+      (λ shown. ap (λ (o : Output). o.octets) out),
+      λ told. done (outcome old.contents (mixing file)) printed (outputs_of c.legs outs)
+          (λ printed files. PartlyStored (CallFailed old new) (ObjectFailed old new) n files old.contents new.contents)
+          (outcome_done old.contents file octets c printed (outputs_of c.legs outs) (there told) read (made told).0 (made told).1)
+          (partly_since (CallFailed old new) (ObjectFailed old new) (RoseAt calls new.calls) (RoseAt objects new.objects) n (outputs_of c.legs outs) old.contents contents new.contents call object (between.same told) (u.3 told)),
+    )
+
+-- ---- all is written, and printed or not
+pub printed_mixing : (Told Shown : Type 0) (old new : Outside) (file octets : List ℕ) (c : Conf) (printed : List ℕ) (outs : List (List ℕ)) (result : Ending)
+    → (Told → old.contents file ≡ Some octets) → conf Files octets ≡ Ok c → (Told → AllLie old.contents c.legs × (steps_of old.contents c ≡ Makes printed (outputs_of c.legs outs)))
+    → (Told → AllStored (outputs_of c.legs outs) old.contents new.contents)
+    → IfErr result (λ fault. fault ≡ CannotPrint) → OnErr result (Failed old.out new.out) → (Shown → OnOk result (Prints printed old new)) → (Shown → OnErr result (PrintsFront printed old new))
+    → Ends (mixing_work file) Told Shown old new (ending_name file c.legs result) result
+printed_mixing Told Shown old new file octets c printed outs (Ok u) there read made stored fault cause whole partly =
+    λ told. done (outcome old.contents (mixing file)) printed (outputs_of c.legs outs) (λ printed files. AllStored files old.contents new.contents × (Shown → Prints printed old new))
+    (outcome_done old.contents file octets c printed (outputs_of c.legs outs) (there told) read (made told).0 (made told).1) (stored told, whole)
+printed_mixing Told Shown old new file octets c printed outs (Err f) there read made stored fault cause whole partly =
+    let P : Fault → Type 0 = λ f. Ends (mixing_work file) Told Shown old new (ending_name file c.legs (Err f)) (Err f) in
+    subst P (sym fault) (
+      refl,
+      cause,
+      λ told. done (outcome old.contents (mixing file)) printed (outputs_of c.legs outs) (λ printed files. AllStored files old.contents new.contents × (Shown → PrintsFront printed old new))
+          (outcome_done old.contents file octets c printed (outputs_of c.legs outs) (there told) read (made told).0 (made told).1) (stored told, partly),
+    )
+
+pub unwritten_result : (Told Shown : Type 0) (old new : Outside) (contents : Contents) (calls objects : List ℕ → ℕ) (file octets : List ℕ) (c : Conf) (printed : List ℕ) (outs : List (List ℕ))
+    (result : Ending) → (Told → old.contents file ≡ Some octets) → conf Files octets ≡ Ok c → (Told → AllLie old.contents c.legs × (steps_of old.contents c ≡ Makes printed (outputs_of c.legs outs)))
+    → IsBetween Told old new contents calls objects → new.out ≡ old.out → is_err result ≡ true
+    → IfErr result (IsUnwritten Told (RoseAt calls new.calls) (RoseAt objects new.objects) (outputs_of c.legs outs) contents new.contents)
+    → Ends (mixing_work file) Told Shown old new (ending_name file c.legs result) result
+unwritten_result Told Shown old new contents calls objects file octets c printed outs (Ok u) there read made between out err u' = absurd (cc err)
+unwritten_result Told Shown old new contents calls objects file octets c printed outs (Err fault) there read made between out err u =
+    unwritten_mixing Told Shown old new contents calls objects file octets c printed outs fault there read made between out u
+
+pub saved : (result : Ending) (P : Type 0) → is_err result ≡ false → OnOk result P → P
+saved (Ok u) P ok p = p
+saved (Err fault) P ok p = absurd (cc ok)

@@ -1,0 +1,92 @@
+-- A conference whose inputs are read one after another.
+use Rattle.std.proofs.Common.{◌≡◌, ℕ, zero, suc, ◌+◌, ◌-◌, ◌<◌, ◌≤◌, Option, Some, None, List, [], ◌∷◌, length, map, get_or, Result, Ok, Err, refl, ap, sym, subst, ◌∙◌, arith}
+use Rattle.std.specs.Prelude.{IsSome, unwrap_or}
+use Rattle.file_spec.specs.declared.conf_lines.Form.TheVariants.{Files}
+use Rattle.file_spec.specs.declared.conf_lines.LegLine.{LegLine}
+use Rattle.file_spec.specs.Conf.{Conf, conf}
+use Rattle.file_spec.specs.Lines as lines
+use Rattle.mixer_spec.specs.Setups.{leg_at}
+use Rattle.command_spec.specs.declared.faults.Refusal.{Refusal}
+use Rattle.command_spec.specs.Work.{Contents, Made, Steps, Reads, Refuses, Makes, IsInput}
+use Rattle.command_spec.specs.Outcomes.{Done, outcome, outcome_from}
+use Rattle.command_spec.specs.Outcomes as outcomes
+use Rattle.command_spec.specs.Mixing.{mixes, mixes_read, mixing, reads_inputs}
+use Rattle.bridge_run.specs.Mixes.{octets_under, inputs_under, LieBelow, AllLie, steps_of}
+use Rattle.rtt_top.specs.Conferences.{input_name, input_of}
+use Rattle.rtt_top.proofs.Working.{lies}
+
+some_under : (o : Option (List ℕ)) → IsSome o → o ≡ Some (unwrap_or o [])
+some_under None there = absurd (cc there)
+some_under (Some octets) there = refl
+
+-- ---- the inputs
+leg_input : (Told : Type 0) (held : Contents) (legs : List LegLine) (next : List (List ℕ) → Steps) (k : ℕ) (leg : LegLine) → leg_at legs k ≡ Some leg
+    → (Told → LieBelow k held legs) → IsInput Told held (reads_inputs legs next) k leg.input
+leg_input Told held [] next k leg at lie = absurd (cc at)
+leg_input Told held (l ∷ legs) next zero leg at lie = let same : leg ≡ l = cc at in ap (λ (x : LegLine). x.input) same
+leg_input Told held (l ∷ legs) next (suc k) leg at lie = (
+  octets_under held l.input,
+  (λ told. some_under (held l.input) (lie told 0 l (omega arith) refl)),
+  leg_input Told held legs (λ more. next (octets_under held l.input ∷ more)) k leg at (λ told i x less is. lie told (suc i) x (omega arith) is),
+)
+
+pub is_input : (Told : Type 0) (held : Contents) (file octets : List ℕ) (c : Conf) (k : ℕ) (leg : LegLine) → (Told → held file ≡ Some octets) → conf Files octets ≡ Ok c
+    → leg_at c.legs k ≡ Some leg → (Told → LieBelow k held c.legs) → IsInput Told held (mixing file) (suc k) leg.input
+is_input Told held file octets c k leg lies_there read at lie = (
+  octets,
+  lies_there,
+  subst (λ r. IsInput Told held (mixes_read r) k leg.input) (sym read) (leg_input Told held c.legs (mixes c) k leg at lie),
+)
+
+-- ---- the outcome
+chain : (held : Contents) (n : ℕ) (legs : List LegLine) (next : List (List ℕ) → Steps) → AllLie held legs
+    → outcome_from n held (reads_inputs legs next) ≡ outcome_from (length legs + n) held (next (inputs_under held legs))
+chain held n [] next lie = let none : n ≡ length {A = LegLine} [] + n = omega arith in ap (λ k. outcome_from k held (next [])) none
+chain held n (l ∷ legs) next lie =
+    let P : Option (List ℕ) → outcomes.Outcome = λ o. elim o [ None ↦ outcomes.Missing n | Some octets ↦ outcome_from (n + 1) held (reads_inputs legs (λ more. next (octets ∷ more))) ] in
+    let rest : AllLie held legs = λ i x less is. lie (suc i) x (omega arith) is in
+    let count : length legs + (n + 1) ≡ length (l ∷ legs) + n = omega arith in
+    ap P (some_under (held l.input) (lie 0 l (omega arith) refl))
+    ∙ (chain held (n + 1) legs (λ more. next (octets_under held l.input ∷ more)) rest
+    ∙ ap (λ k. outcome_from k held (next (inputs_under held (l ∷ legs)))) count)
+
+mixed_outcome : (held : Contents) (file octets : List ℕ) (c : Conf) → held file ≡ Some octets → conf Files octets ≡ Ok c → AllLie held c.legs
+    → outcome held (mixing file) ≡ outcome_from (length c.legs + 1) held (steps_of held c)
+mixed_outcome held file octets c there read lie =
+    lies held file (λ o. mixes_read (conf Files o)) octets there
+    ∙ (ap (λ r. outcome_from 1 held (mixes_read r)) read ∙ chain held 1 c.legs (mixes c) lie)
+
+pub outcome_done : (held : Contents) (file octets : List ℕ) (c : Conf) (printed : List ℕ) (files : List Made) → held file ≡ Some octets → conf Files octets ≡ Ok c
+    → AllLie held c.legs → steps_of held c ≡ Makes printed files → outcome held (mixing file) ≡ Done printed files
+outcome_done held file octets c printed files there read lie is =
+    mixed_outcome held file octets c there read lie ∙ ap (outcome_from (length c.legs + 1) held) is
+
+pub outcome_refused : (held : Contents) (file octets : List ℕ) (c : Conf) (input : ℕ) (refusal : Refusal) → held file ≡ Some octets → conf Files octets ≡ Ok c
+    → AllLie held c.legs → steps_of held c ≡ Refuses input refusal → outcome held (mixing file) ≡ outcomes.Refused input refusal
+outcome_refused held file octets c input refusal there read lie is =
+    mixed_outcome held file octets c there read lie ∙ ap (outcome_from (length c.legs + 1) held) is
+
+-- ---- a leg by its number
+pub leg_read : (legs : List LegLine) (k : ℕ) (leg : LegLine) → k < length legs → leg ≡ get_or legs k leg → leg_at legs k ≡ Some leg
+leg_read [] k leg less is = absurd (omega arith)
+leg_read (l ∷ legs) zero leg less is = ap Some (sym is)
+leg_read (l ∷ legs) (suc k) leg less is = leg_read legs k leg (omega arith) is
+
+pub leg_behind : (legs : List LegLine) (k : ℕ) → length legs ≤ k → leg_at legs k ≡ None
+leg_behind [] k more = refl
+leg_behind (l ∷ legs) zero more = absurd (omega arith)
+leg_behind (l ∷ legs) (suc k) more = leg_behind legs k (omega arith)
+
+pub input_at : (file : List ℕ) (legs : List LegLine) (n : ℕ) (leg : LegLine) → 0 < n → n ≤ length legs → leg ≡ get_or legs (n - 1) leg → leg.input ≡ input_name file legs n
+input_at file legs zero leg some within is = absurd (omega arith)
+input_at file legs (suc k) leg some within is =
+    let j : suc k - 1 ≡ k = omega arith in
+    sym (ap (input_of file) (leg_read legs k leg (omega arith) (is ∙ ap (λ i. get_or legs i leg) j)))
+
+pub input_behind : (file : List ℕ) (legs : List LegLine) (n : ℕ) → length legs < n → file ≡ input_name file legs n
+input_behind file legs zero more = absurd (omega arith)
+input_behind file legs (suc k) more = sym (ap (input_of file) (leg_behind legs k (omega arith)))
+
+pub input_first : (file : List ℕ) (legs : List LegLine) (n : ℕ) → n ≡ 0 → file ≡ input_name file legs n
+input_first file legs zero none = refl
+input_first file legs (suc k) none = absurd (omega arith)

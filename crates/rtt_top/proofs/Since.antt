@@ -1,0 +1,122 @@
+-- A command whose first part changed nothing outside ends as its second part does.
+use Rattle.std.proofs.Common.{◌≡◌, ℕ, zero, suc, ◌+◌, ◌≤◌, Option, Some, None, List, [], ◌∷◌, ◌++◌, take, Result, Ok, Err, refl, ap, sym, subst, ◌∙◌, inl, inr}
+use Rattle.std.specs.Prelude.{◌⊎◌}
+use Rattle.command_spec.specs.declared.faults.Fault.{Fault}
+use Rattle.command_spec.specs.declared.faults.Fault.TheVariants.{WrongWords, CannotOpen, CannotRead, Refused, CannotPrint, CannotWrite, NoMemory}
+use Rattle.command_spec.specs.Work.{Contents, Made, Steps, Reads, Refuses, Makes, Work, IsInput, IsOutput}
+use Rattle.command_spec.specs.Outcomes.{Outcome, Missing, Done, outcome, outcome_from, IsDone, Same, AllStored}
+use Rattle.command_spec.specs.Outcomes as outcomes
+use Rattle.command_spec.specs.Messages.{Ending}
+use Rattle.rtt_top.specs.Faults.{Stops, name_in}
+use Rattle.rtt_top.specs.Outside.{Outside, Output, Failed, CallFailed, ObjectFailed}
+use Rattle.rtt_top.specs.Runs.{FailedAt, Prints, PrintsFront, Unchanged, PartlyStored, Ends}
+use Rattle.rtt_top.proofs.Counts.{rose_since}
+use Rattle.rtt_top.proofs.Bridging.{IsBetween, all_stored_since, partly_since}
+
+-- ---- files
+input_since : (Told : Type 0) (old mid : Contents) → (Told → Same old mid) → (steps : Steps) (n : ℕ) (file : List ℕ) → IsInput Told mid steps n file → IsInput Told old steps n file
+input_since Told old mid same (Reads name next) zero file i = i
+input_since Told old mid same (Reads name next) (suc n) file i =
+    (i.0, (λ told. sym (same told name) ∙ i.1 told), input_since Told old mid same (next i.0) n file i.2)
+input_since Told old mid same (Refuses input refusal) n file i = absurd i
+input_since Told old mid same (Makes printed files) n file i = absurd i
+
+output_since : (Told : Type 0) (old mid : Contents) → (Told → Same old mid) → (steps : Steps) (n : ℕ) (file : List ℕ) → IsOutput Told mid steps n file → IsOutput Told old steps n file
+output_since Told old mid same (Reads name next) n file i =
+    (i.0, (λ told. sym (same told name) ∙ i.1 told), output_since Told old mid same (next i.0) n file i.2)
+output_since Told old mid same (Refuses input refusal) n file i = absurd i
+output_since Told old mid same (Makes printed files) n file i = i
+
+-- ---- outcomes
+outcome_since : (old mid : Contents) → Same old mid → (n : ℕ) (steps : Steps) → outcome_from n mid steps ≡ outcome_from n old steps
+outcome_since old mid same n (Reads name next) =
+    let P : Option (List ℕ) → Outcome = λ o. elim o [ None ↦ Missing n | Some octets ↦ outcome_from (n + 1) mid (next octets) ] in
+    ap P (same name) ∙ go (old name) (λ octets. outcome_since old mid same (n + 1) (next octets))
+  where
+    go : (o : Option (List ℕ)) → ((octets : List ℕ) → outcome_from (n + 1) mid (next octets) ≡ outcome_from (n + 1) old (next octets))
+        → (let P : Option (List ℕ) → Outcome = λ o. elim o [ None ↦ Missing n | Some octets ↦ outcome_from (n + 1) mid (next octets) ] in
+        let Q : Option (List ℕ) → Outcome = λ o. elim o [ None ↦ Missing n | Some octets ↦ outcome_from (n + 1) old (next octets) ] in P o ≡ Q o)
+    go None more = refl
+    go (Some octets) more = more octets
+outcome_since old mid same n (Refuses input refusal) = refl
+outcome_since old mid same n (Makes printed files) = refl
+
+done_map : (o : Outcome) (P Q : List ℕ → List Made → Type 0) → ((printed : List ℕ) (files : List Made) → P printed files → Q printed files) → IsDone o P → IsDone o Q
+done_map (Missing n) P Q f d = absurd d
+done_map (outcomes.Refused n refusal) P Q f d = absurd d
+done_map (Done printed files) P Q f d = f printed files d
+
+done_since : (old mid : Contents) (steps : Steps) (P Q : List ℕ → List Made → Type 0) → Same old mid → ((printed : List ℕ) (files : List Made) → P printed files → Q printed files)
+    → IsDone (outcome mid steps) P → IsDone (outcome old steps) Q
+done_since old mid steps P Q same f d = subst (λ o. IsDone o Q) (outcome_since old mid same 0 steps) (done_map (outcome mid steps) P Q f d)
+
+-- ---- ends
+either : (A B C D : Type 0) → (A → C) → (B → D) → A ⊎ B → C ⊎ D
+either A B C D f g (inl a) = inl (f a)
+either A B C D f g (inr b) = inr (g b)
+
+call_since : (Told : Type 0) (old mid new : Outside) → IsBetween Told old mid mid.contents mid.calls mid.objects → (name : List ℕ) → CallFailed mid new name → CallFailed old new name
+call_since Told old mid new b name r = rose_since (old.calls name) (mid.calls name) (new.calls name) (b.calls_rise name) r
+
+object_since : (Told : Type 0) (old mid new : Outside) → IsBetween Told old mid mid.contents mid.calls mid.objects → (name : List ℕ) → ObjectFailed mid new name → ObjectFailed old new name
+object_since Told old mid new b name r = rose_since (old.objects name) (mid.objects name) (new.objects name) (b.objects_rise name) r
+
+unchanged_since : (Told Shown : Type 0) (old mid new : Outside) → IsBetween Told old mid mid.contents mid.calls mid.objects → mid.out ≡ old.out
+    → Unchanged Told Shown mid new → Unchanged Told Shown old new
+unchanged_since Told Shown old mid new b out u = (
+  (λ shown. u.0 shown ∙ ap (λ (o : Output). o.octets) out),
+  λ told name. u.1 told name ∙ b.same told name,
+)
+
+pub ends_since : (w : Work) (Told Shown : Type 0) (old mid new : Outside) (name : List ℕ) (ending : Ending) → IsBetween Told old mid mid.contents mid.calls mid.objects → mid.out ≡ old.out
+    → Ends w Told Shown mid new name ending → Ends w Told Shown old new name ending
+ends_since w Told Shown old mid new name (Ok u) b out e = λ told.
+    done_since old.contents mid.contents w.steps
+    (λ printed files. AllStored files mid.contents new.contents × (Shown → Prints printed mid new))
+    (λ printed files. AllStored files old.contents new.contents × (Shown → Prints printed old new)) (b.same told)
+    (λ printed files d. (all_stored_since files old.contents mid.contents new.contents (b.same told) d.0, λ shown. d.1 shown ∙ ap (λ (o : Output). o.octets ++ printed) out)) (e told)
+ends_since w Told Shown old mid new name (Err CannotPrint) b out e = (
+  e.0,
+  subst (λ o. Failed o new.out) out e.1,
+  λ told. done_since old.contents mid.contents w.steps
+      (λ printed files. AllStored files mid.contents new.contents × (Shown → PrintsFront printed mid new))
+      (λ printed files. AllStored files old.contents new.contents × (Shown → PrintsFront printed old new)) (b.same told)
+      (λ printed files d. (
+        all_stored_since files old.contents mid.contents new.contents (b.same told) d.0,
+        λ shown. (let p = d.1 shown in (p.0, p.1 ∙ ap (λ (o : Output). o.octets ++ take p.0 printed) out)),
+      )) (e.2 told),
+)
+ends_since w Told Shown old mid new name (Err (CannotWrite n)) b out e = (
+  output_since Told old.contents mid.contents b.same w.steps n name e.0,
+  either (CallFailed mid new name) (ObjectFailed mid new name) (CallFailed old new name) (ObjectFailed old new name) (call_since Told old mid new b name) (object_since Told old mid new b name) e.1,
+  (λ shown. e.2 shown ∙ ap (λ (o : Output). o.octets) out),
+  λ told. done_since old.contents mid.contents w.steps
+      (λ printed files. PartlyStored (CallFailed mid new) (ObjectFailed mid new) n files mid.contents new.contents)
+      (λ printed files. PartlyStored (CallFailed old new) (ObjectFailed old new) n files old.contents new.contents) (b.same told)
+      (λ printed files p. partly_since (CallFailed old new) (ObjectFailed old new) (CallFailed mid new) (ObjectFailed mid new) n files old.contents mid.contents new.contents
+      (call_since Told old mid new b) (object_since Told old mid new b) (b.same told) p) (e.3 told),
+)
+ends_since w Told Shown old mid new name (Err WrongWords) b out e = absurd e.0
+ends_since w Told Shown old mid new name (Err (CannotOpen n)) b out e =
+    ((input_since Told old.contents mid.contents b.same w.steps n name e.0.0, call_since Told old mid new b name e.0.1), unchanged_since Told Shown old mid new b out e.1)
+ends_since w Told Shown old mid new name (Err (CannotRead n)) b out e =
+    ((input_since Told old.contents mid.contents b.same w.steps n name e.0.0, object_since Told old mid new b name e.0.1), unchanged_since Told Shown old mid new b out e.1)
+ends_since w Told Shown old mid new name (Err (Refused n refusal)) b out e = (
+  (
+    input_since Told old.contents mid.contents b.same w.steps n name e.0.0,
+    λ told. sym (outcome_since old.contents mid.contents (b.same told) 0 w.steps) ∙ e.0.1 told,
+  ),
+  unchanged_since Told Shown old mid new b out e.1,
+)
+ends_since w Told Shown old mid new name (Err NoMemory) b out e = (tt, unchanged_since Told Shown old mid new b out e.1)
+
+-- ---- names
+pub same_name : (name : List ℕ) (ending : Ending) → name_in name name ending ≡ name
+same_name name (Ok u) = refl
+same_name name (Err WrongWords) = refl
+same_name name (Err (CannotOpen n)) = refl
+same_name name (Err (CannotRead n)) = refl
+same_name name (Err (Refused n refusal)) = refl
+same_name name (Err CannotPrint) = refl
+same_name name (Err (CannotWrite n)) = refl
+same_name name (Err NoMemory) = refl

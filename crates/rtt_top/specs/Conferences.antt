@@ -1,0 +1,59 @@
+-- The faults of a mixing, and the names of the files that they are about.
+use Rattle.std.specs.Prelude.{ℕ, zero, suc, ◌+◌, true, false, Option, None, Some, List, Result, Ok, Err, if◌then◌else◌}
+use Rattle.rtpdump_io.specs.declared.items.DumpFault.{DumpFault}
+use Rattle.rtpdump_io.specs.Reading.{is_of_source}
+use Rattle.file_spec.specs.declared.conf_lines.LegLine.{LegLine}
+use Rattle.mixer_spec.specs.Setups.{leg_at}
+use Rattle.command_spec.specs.declared.faults.Refusal.TheVariants.{AtByte, AfterTurns}
+use Rattle.command_spec.specs.declared.faults.Fault.{Fault}
+use Rattle.command_spec.specs.declared.faults.Fault.TheVariants.{WrongWords, CannotOpen, CannotRead, Refused, CannotPrint, CannotWrite, NoMemory}
+use Rattle.command_spec.specs.Messages.{Ending}
+use Rattle.command_spec.specs.Work.{Work}
+use Rattle.command_spec.specs.Mixing.{mixing}
+use Rattle.bridge_run.specs.declared.mixed.MixFault.{MixFault}
+use Rattle.bridge_run.specs.declared.mixed.MixFault.TheVariants.{Open, Dump, TooLong}
+use Rattle.bridge_run.specs.declared.mixed.MixFault.TheVariants as mix
+
+-- the conference is the first input, and the recording of leg k is the one of number k + 1
+abbrev pub fault_of_recording : ℕ → DumpFault → Fault
+fault_of_recording leg fault =
+    if is_of_source fault.kind then CannotRead (leg + 1) else Refused (leg + 1) (AtByte fault.offset fault.kind)
+
+-- the fault of a command for that of a mixing of at most so many turns
+abbrev pub fault_of_mixing : ℕ → MixFault → Fault
+fault_of_mixing turns (Open leg) = CannotOpen (leg + 1)
+fault_of_mixing turns (Dump leg fault) = fault_of_recording leg fault
+fault_of_mixing turns TooLong = Refused 0 (AfterTurns turns)
+fault_of_mixing turns mix.NoMemory = NoMemory
+
+-- ---- names
+abbrev pub input_of : List ℕ → Option LegLine → List ℕ
+input_of file None = file
+input_of file (Some leg) = leg.input
+
+abbrev pub output_of : List ℕ → Option LegLine → List ℕ
+output_of file None = file
+output_of file (Some leg) = leg.output
+
+-- the name of the input of this number
+abbrev pub input_name : List ℕ → List LegLine → ℕ → List ℕ
+input_name file legs zero = file
+input_name file legs (suc k) = input_of file (leg_at legs k)
+
+-- the name of the file of a fault
+abbrev pub fault_name : List ℕ → List LegLine → Fault → List ℕ
+fault_name file legs WrongWords = file
+fault_name file legs (CannotOpen input) = input_name file legs input
+fault_name file legs (CannotRead input) = input_name file legs input
+fault_name file legs (Refused input refusal) = input_name file legs input
+fault_name file legs CannotPrint = file
+fault_name file legs (CannotWrite output) = output_of file (leg_at legs output)
+fault_name file legs NoMemory = file
+
+abbrev pub ending_name : List ℕ → List LegLine → Ending → List ℕ
+ending_name file legs (Ok done) = file
+ending_name file legs (Err fault) = fault_name file legs fault
+
+-- the conference in this file is mixed
+abbrev pub mixing_work : List ℕ → Work
+mixing_work file = record { prints = true; steps = mixing file }

@@ -1,0 +1,159 @@
+//! `mix`: a conference is mixed, its outputs are written, and what is seen is printed.
+ghost use Rattle.std.specs.Prelude.{◌≡◌, ℕ, List, Some, Ok};
+ghost use Rattle.rtpdump_io.specs.declared.items.DumpFault.{DumpFault};
+ghost use Rattle.conf_text.specs.Lines.{conf_of};
+ghost use Rattle.file_spec.specs.declared.conf_lines.Form.{Form};
+ghost use Rattle.file_spec.specs.Conf as files;
+ghost use Rattle.mixer_spec.specs.Setups.{leg_at};
+ghost use Rattle.rtt_top.specs.Conferences.{ending_name, fault_name, fault_of_mixing, fault_of_recording, input_name, input_of, mixing_work, output_of};
+ghost use Rattle.rtt_top.specs.Outside.{outside, output};
+ghost use Rattle.rtt_top.specs.Runs.{Ends, Runs};
+ghost use Rattle.command_spec.specs.Words.{Mix};
+ghost use Rattle.rtt_words.specs.Commands.{mixed};
+
+use crate::commands::{finish_with, print};
+use crate::confs::conf_under;
+use crate::outputs::save_outputs;
+use bridge_run::{MixFault, mix};
+use command_spec::{Fault, Refusal};
+use conf_text::{Conf, LegLine};
+use rtpdump_io::DumpFault;
+use rtt_io::{Gate, Sink, World};
+use rtt_words::MixWords;
+use std::alloc::Global;
+use std::sync::Wait;
+use wire_spec::DumpKind;
+
+/// The fault of a command for that of the recording of a leg.
+fn fault_of_recording(leg: u8, fault: DumpFault) -> Fault
+    ensures { result ≡ fault_of_recording leg fault }
+{
+    let input = u32::from(leg) + 1;
+    match fault {
+        DumpFault {
+            offset: _,
+            kind: DumpKind::Read,
+        } => Fault::CannotRead { input },
+        DumpFault { offset, kind } => Fault::Refused {
+            input,
+            refusal: Refusal::AtByte { byte: offset, kind },
+        },
+    }
+}
+
+/// The fault of a command for that of a mixing of at most so many turns.
+fn fault_of_mixing(turns: u32, fault: MixFault) -> Fault
+    ensures { result ≡ fault_of_mixing turns fault }
+{
+    match fault {
+        MixFault::Open { leg } => Fault::CannotOpen {
+            input: u32::from(leg) + 1,
+        },
+        MixFault::Dump { leg, fault } => fault_of_recording(leg, fault),
+        MixFault::TooLong => Fault::Refused {
+            input: 0,
+            refusal: Refusal::AfterTurns { turns },
+        },
+        MixFault::NoMemory => Fault::NoMemory,
+    }
+}
+
+/// The name of the input of this number: the conference is the first one, then each leg has one.
+fn input_name<'a>(file: &'a str, legs: &'a [LegLine], input: u32) -> &'a str
+    ensures { result.now ≡ input_name file.now legs.now input }
+{
+    let number = input as usize;
+    if number == 0 {
+        return file;
+    }
+    if legs.len() < number {
+        return file;
+    }
+    let leg = &legs[number - 1];
+    leg.input.as_str()
+}
+
+/// The name of the output of this number.
+fn output_name<'a>(file: &'a str, legs: &'a [LegLine], output: u32) -> &'a str
+    ensures { result.now ≡ output_of file.now (leg_at legs.now output) }
+{
+    let number = output as usize;
+    if legs.len() <= number {
+        return file;
+    }
+    let leg = &legs[number];
+    leg.output.as_str()
+}
+
+/// The name of the file of a fault.
+fn fault_name<'a>(fault: Fault, file: &'a str, legs: &'a [LegLine]) -> &'a str
+    ensures { result.now ≡ fault_name file.now legs.now fault }
+{
+    match fault {
+        Fault::CannotOpen { input }
+        | Fault::CannotRead { input }
+        | Fault::Refused { input, refusal: _ } => input_name(file, legs, input),
+        Fault::CannotWrite { output } => output_name(file, legs, output),
+        Fault::WrongWords | Fault::CannotPrint | Fault::NoMemory => file,
+    }
+}
+
+/// The name of the file that is told of where a mixing ends so.
+fn name_at_end<'a>(ending: Result<(), Fault>, file: &'a str, legs: &'a [LegLine]) -> &'a str
+    ensures { result.now ≡ ending_name file.now legs.now ending }
+{
+    match ending {
+        Ok(()) => file,
+        Err(fault) => fault_name(fault, file, legs),
+    }
+}
+
+/// Mixes a conference, writes its outputs, and prints what is seen.
+fn mix_conf<R: Wait, W: World, K: Sink, G: Gate>(
+    rt: &R,
+    alloc: Global,
+    conf: &Conf,
+    world: &mut W,
+    out: &mut K,
+    gate: &G,
+) -> Result<(), Fault>
+    ensures { (file octets : List ℕ) → (W.tells → W.contents world.old file ≡ Some octets) → files.conf Form.Files octets ≡ Ok (conf_of conf.now)
+        → Ends (mixing_work file) W.tells K.tells
+        (outside (W.contents world.old) (W.own_faults world.old) (W.object_faults world.old) (output (K.took out.old) (K.faults out.old)))
+        (outside (W.contents world.new) (W.own_faults world.new) (W.object_faults world.new) (output (K.took out.new) (K.faults out.new)))
+        (ending_name file conf.now.legs result) result }
+{
+    let mixed = match mix(rt, alloc, conf, world, gate) {
+        Ok(mixed) => mixed,
+        Err(fault) => return Err(fault_of_mixing(conf.turns, fault)),
+    };
+    let saved = save_outputs(conf.legs.as_slice(), mixed.outs.as_slice(), world);
+    if saved.is_err() {
+        return saved;
+    }
+    print(mixed.views.as_slice(), out)
+}
+
+/// `mix`: mixes the conference of a file, and answers the status.
+pub fn mix_file<R: Wait, W: World, K: Sink, E: Sink, G: Gate>(
+    rt: &R,
+    alloc: Global,
+    words: &MixWords<'_>,
+    world: &mut W,
+    out: &mut K,
+    err: &mut E,
+    gate: &G,
+) -> u8
+    ensures { Runs (Some (Mix (mixed words.now))) W.tells K.tells E.tells
+        (outside (W.contents world.old) (W.own_faults world.old) (W.object_faults world.old) (output (K.took out.old) (K.faults out.old)))
+        (outside (W.contents world.new) (W.own_faults world.new) (W.object_faults world.new) (output (K.took out.new) (K.faults out.new)))
+        (output (E.took err.old) (E.faults err.old)) (output (E.took err.new) (E.faults err.new)) result }
+{
+    let conf = match conf_under(alloc, words.conf, world) {
+        Ok(conf) => conf,
+        Err(fault) => return finish_with(Err(fault), words.conf, err),
+    };
+    let ending = mix_conf(rt, alloc, &conf, world, out, gate);
+    let name = name_at_end(ending, words.conf, conf.legs.as_slice());
+    finish_with(ending, name, err)
+}
