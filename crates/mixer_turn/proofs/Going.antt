@@ -44,7 +44,7 @@ accepted_law s (Offer c ∷ past) i = go (has_room s c.source c (after_calls s p
 accepted_law s (Turn now ∷ past) i = accepted_law s past i
 
 -- ---- who was given it
-shared_to : (s : Setup) (calls : List Call) (j i : ℕ) → shared j ((after_calls s calls).taken i) ≡ given_to s j i calls
+pub shared_to : (s : Setup) (calls : List Call) (j i : ℕ) → shared j ((after_calls s calls).taken i) ≡ given_to s j i calls
 shared_to s [] j i = refl
 shared_to s (Admit k l ∷ past) j i = ap (λ (y : ℕ → List Taken). shared j (y i)) (come_taken k l (after_calls s past) (free_place s (after_calls s past).seats)) ∙ shared_to s past j i
 shared_to s (Hush k ∷ past) j i = shared_to s past j i

@@ -13,3 +13,4 @@ pub mod Calling
 pub mod Made
 pub mod Woken
 pub mod Turned
+pub mod Sent

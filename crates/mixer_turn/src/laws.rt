@@ -1,11 +1,14 @@
 //! What holds of the mixer after all calls that are allowed. No code stands here.
-ghost use Rattle.std.specs.Prelude.{◌≡◌, ◌<◌, ◌≤◌, ◌+◌, ◌*◌, ◌^◌, ◌⊎◌, ℕ, List, Bool, Some, ◌∷◌, ◌++◌, suc};
+ghost use Rattle.std.specs.Prelude.{◌≡◌, ◌<◌, ◌≤◌, ◌+◌, ◌*◌, ◌^◌, ◌⊎◌, ℕ, List, Bool, Some, ◌∷◌, ◌++◌, suc, filter};
+ghost use Rattle.wire_spec.specs.Packets.{has_text};
+ghost use Rattle.stream_spec.specs.Carries.{CarriesFront};
 ghost use Rattle.stream_spec.specs.History.{Come, Lawful, Placed};
 ghost use Rattle.stream_spec.specs.Own.{NearEach, Own, come_from, has_text_in};
+ghost use Rattle.mixer_spec.specs.Chunks.{texts_of};
 ghost use Rattle.mixer_spec.specs.Setups.{IsSetup, Setup, gap, stream};
-ghost use Rattle.mixer_spec.specs.Table.{Call, Turn, after_calls, history, is_due, is_idle, is_seated, last_media, next_media, packets, rank, sent_from, turn_at, turn_aware, turn_unaware};
+ghost use Rattle.mixer_spec.specs.Table.{Call, Turn, after_calls, history, is_due, is_idle, is_seated, last_media, next_media, packets, rank, sent_from, shared, turn_at, turn_aware, turn_unaware};
 ghost use Rattle.mixer_spec.specs.Calls.{AreEvents, took, turns_made};
-ghost use Rattle.mixer_spec.specs.Laws.{AreShort, AreTexts, IsWaiting, Part, Tight, carried, count_of};
+ghost use Rattle.mixer_spec.specs.Laws.{AreShort, AreTexts, IsComposed, IsWaiting, Part, Tight, carried, chunks_given, count_of, texts_given, texts_sent};
 ghost use Rattle.slot_table.specs.Words.{NoneWaits};
 ghost use Rattle.unaware_view.specs.Standing.{least_ask};
 ghost use Rattle.outlet.specs.Turns.{SendsNext};
@@ -59,6 +62,10 @@ pub fn chunks_go_once()
         carried i d.past ++ d.waits i ≡ given_to s j i calls }
     ensures idle { (s : Setup) (calls : List Call) (j i : ℕ) → AreAllowed s calls → j < s.legs → i < s.legs → (i ≡ j → ⊥) → is_idle s (after_calls s calls) ≡ Bool.true
         → carried i ((after_calls s calls).terminals j).past ≡ given_to s j i calls }
+    // At an aware terminal its packets carry a front of these texts, under the leg's SSRC; the rest waits.
+    ensures carried { (s : Setup) (calls : List Call) (j i : ℕ) → IsSetup s → AreAllowed s calls → s.aware j ≡ Bool.true → j < s.legs → i < s.legs → (i ≡ j → ⊥)
+        → let d = (after_calls s calls).terminals j in
+        CarriesFront (history s j d.past) (s.ssrc i) (texts_of (given_to s j i calls)) (texts_of (d.waits i)) }
     // What a terminal was given is a consecutive part of what was taken.
     ensures part { (s : Setup) (calls : List Call) (j i : ℕ) → AreAllowed s calls → (i ≡ j → ⊥)
         → let w = after_calls s calls in
@@ -104,4 +111,17 @@ pub fn sent_is_lawful()
     ensures come { (s : Setup) (calls : List Call) (j : ℕ) → IsSetup s → AreAllowed s calls → s.step * turns_made calls < 2 ^ 31 → j < s.legs
         → let h = history s j ((after_calls s calls).terminals j).past in
         (xs : List (ℕ × Placed)) → NearEach h xs → Come h (come_from h xs) }
+{}
+
+/// At a terminal that is not aware the texts are those that the composer gives, and it gives what was sent of each leg.
+pub fn one_text_is_composed()
+    ensures composed { (s : Setup) (calls : List Call) (j : ℕ) → AreAllowed s calls → s.aware j ≡ Bool.false
+        → let w = after_calls s calls in
+        IsComposed s (λ i. shared j (w.taken i)) j (w.terminals j).asks }
+    ensures texts { (s : Setup) (calls : List Call) (j : ℕ) → AreAllowed s calls → s.aware j ≡ Bool.false
+        → let d = (after_calls s calls).terminals j in
+        filter has_text (texts_sent d.past) ≡ filter has_text (texts_given d.asks) }
+    ensures given { (s : Setup) (calls : List Call) (j i : ℕ) → AreAllowed s calls → s.aware j ≡ Bool.false
+        → let d = (after_calls s calls).terminals j in
+        carried i d.past ≡ chunks_given i d.asks }
 {}

@@ -12,6 +12,6 @@ mod waking;
 pub use batches::{Batch, Post};
 pub use laws::{
     allowed_are_events, asks_come_before, batches_are_sent, chunks_go_once, due_legs_are_served,
-    packets_come_near, sent_is_lawful, texts_wait, turns_send_next,
+    one_text_is_composed, packets_come_near, sent_is_lawful, texts_wait, turns_send_next,
 };
 pub use mixers::Mixer;
