@@ -14,3 +14,4 @@ pub mod Made
 pub mod Woken
 pub mod Turned
 pub mod Sent
+pub mod Recording

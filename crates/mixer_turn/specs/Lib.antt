@@ -8,3 +8,4 @@ pub mod Insides
 pub mod Looks
 pub mod Waking
 pub mod Making
+pub mod Early
