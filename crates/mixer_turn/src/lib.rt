@@ -15,3 +15,6 @@ pub use laws::{
     one_text_is_composed, packets_come_near, sent_is_lawful, texts_wait, turns_send_next,
 };
 pub use mixers::Mixer;
+
+#[cfg(test)]
+mod tests;
