@@ -1,6 +1,5 @@
 -- Ports of legs that gave nothing yet.
-use Rattle.std.proofs.Common.{◌≡◌, ℕ, zero, suc, Some, List, [], ◌∷◌, false, refl, ap, sym, ◌∙◌, subst}
-use Rattle.std.specs.Prelude.{slice_get}
+use Rattle.std.proofs.Common.{◌≡◌, ℕ, zero, suc, [], ◌∷◌, false, refl, ap, sym, ◌∙◌, subst}
 use Rattle.file_spec.specs.declared.conf_lines.Stay.{Stay}
 use Rattle.leg_core.specs.declared.legs.Leg.{Leg}
 use Rattle.leg_core.specs.Gives.{is_over, place_of}

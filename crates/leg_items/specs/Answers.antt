@@ -1,5 +1,5 @@
 -- What plain mixing of recordings answers.
-use Rattle.std.specs.Prelude.{◌≡◌, ◌≤◌, ◌<◌, ℕ, None, Some, List, [], slice_get}
+use Rattle.std.specs.Prelude.{◌≡◌, ◌≤◌, ◌<◌, ℕ, None, Some, List, [], length, slice_get}
 use Rattle.rtt_base.specs.declared.text_packets.Pts.{Pts}
 use Rattle.wire_spec.specs.declared.faults.DumpKind.TheVariants.{Read}
 use Rattle.stream_spec.specs.Ready.{Chunk}
@@ -17,8 +17,8 @@ use Rattle.leg_core.specs.Gives.{Stands, place_of, source_of}
 use Rattle.mix_loop.specs.declared.ports.Port.{Port}
 use Rattle.mix_loop.specs.declared.turns.Mixing.{Mixing}
 use Rattle.mix_loop.specs.declared.turns.Mixing.TheVariants as mixing
-use Rattle.mix_loop.specs.Logs.{LogOf}
-use Rattle.mix_loop.specs.Mixers.{At}
+use Rattle.mix_loop.specs.Logs.{LogOf, AllOpen}
+use Rattle.mix_loop.specs.Mixers.{At, Of}
 use Rattle.leg_items.specs.declared.inlets.LegInlet.{LegInlet}
 use Rattle.leg_items.specs.Feds.{Asked, IsNewLeg, past_of, recording_asked, chunks_asked}
 
@@ -85,3 +85,9 @@ module _ {S : Type 0} where
     pub logged : answer ≡ mixing.Over → LogOf pts s table log
     pub sources : (j : ℕ) (p q : Port (LegInlet S)) → slice_get old j ≡ Some p → slice_get new j ≡ Some q → SourceKept faults name answer j (source_at p) (source_at q)
     pub is : tells → (asked : ℕ → Asked) (chunks : ℕ → List Chunk) → AllAsked left asked old → AreChunks s asked chunks → IsAnswer answer s tick turns asked chunks table
+
+  -- In a mixing of such ports, by a mixer of which nothing was called, with an empty log, this was answered.
+  abbrev pub PlainMixes : {M : Type 0} → (M → Setup → (ℕ → Pts) → List Call → Type 0) → Type 0 → (S → List ℕ) → (S → ℕ) → (S → List ℕ) → ℕ → ℕ → Mixing → List (Port (LegInlet S)) → List (Port (LegInlet S)) → M → M → List (List ℕ) → List (List ℕ) → Type 0
+  PlainMixes mixes tells left faults name tick turns answer ps ps' m m' log log' =
+      (s : Setup) (pts : ℕ → Pts) → mixes m s pts [] → s.legs ≡ length ps → AllStayAs s ps → AllOpen log
+      → PlainMixed (Of mixes pts) pts tells left faults name s tick turns answer ps ps' m' log'

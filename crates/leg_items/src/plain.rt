@@ -1,10 +1,6 @@
 //! Plain mixing of recordings.
-ghost use Rattle.std.specs.Prelude.{◌≡◌, ◌≤◌, ℕ, [], length};
-ghost use Rattle.rtt_base.specs.declared.text_packets.Pts.{Pts};
-ghost use Rattle.mixer_spec.specs.Setups.{Setup};
-ghost use Rattle.mix_loop.specs.Logs.{AllOpen};
-ghost use Rattle.mix_loop.specs.Mixers.{Of};
-ghost use Rattle.leg_items.specs.Answers.{AreNew, AllStayAs, PlainMixed};
+ghost use Rattle.std.specs.Prelude.{◌≡◌, ◌≤◌, length};
+ghost use Rattle.leg_items.specs.Answers.{AreNew, PlainMixes};
 
 use crate::LegInlet;
 use mix_loop::{Log, Mixes, Mixing, Port, mix_ports};
@@ -30,8 +26,8 @@ pub fn mix_plain<S: Source, M: Mixes, R: Wait, G: Gate>(
     requires turns { turns ≤ 5000000 }
     requires tick { tick ≤ 400 }
     ensures terminals { length log.new ≡ length log.old }
-    ensures mixed { (s : Setup) (pts : ℕ → Pts) → M.stands mixer.old s pts [] → s.legs ≡ length ports.old → AllStayAs s ports.old → AllOpen log.old
-        → PlainMixed (Of M.stands pts) pts S.tells S.left S.faults S.name s tick turns result ports.old ports.new mixer.new log.new }
+    ensures mixed { PlainMixes M.stands S.tells S.left S.faults S.name tick turns result
+        ports.old ports.new mixer.old mixer.new log.old log.new }
 {
     mix_ports(rt, gate, ports, mixer, tick, turns, log)
 }

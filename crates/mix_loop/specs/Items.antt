@@ -23,6 +23,10 @@ gave_more item.Later c g = g
 gave_more item.End c g = record { chunks = g.chunks; ended = AtEnd }
 gave_more (item.Fault fault) c g = record { chunks = g.chunks; ended = AtFault fault }
 
+-- whatever was given from some inlet on, this is one more answer
+abbrev pub Gives : {I : Type 0} → (I → I → Gave → Type 0) → I → I → Item → Chunk → Type 0
+Gives {I} stands old new item c = (first : I) (gave : Gave) → stands first old gave → stands first new (gave_more item c gave)
+
 -- more may come behind this answer
 abbrev pub goes_on : Item → Bool
 goes_on item.Chunk = true

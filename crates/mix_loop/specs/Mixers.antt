@@ -1,8 +1,11 @@
 -- A mixer, by its table.
-use Rattle.std.specs.Prelude.{◌≡◌, ℕ, List}
+use Rattle.std.specs.Prelude.{◌≡◌, ℕ, Bool, is_some, List, ◌∷◌}
 use Rattle.rtt_base.specs.declared.text_packets.Pts.{Pts}
 use Rattle.mixer_spec.specs.Setups.{Setup}
-use Rattle.mixer_spec.specs.Table.{Table, Call, after_calls}
+use Rattle.mixer_spec.specs.Table.{Table, Call, Admit, Hush, Leave, Offer, Turn, after_calls, free_place, may_leave, has_room, is_idle}
+use Rattle.mixer_spec.specs.Calls.{IsAdmit, IsHush}
+use Rattle.stream_spec.specs.Ready.{Chunk}
+use Rattle.mix_loop.specs.Logs.{LogsTurn}
 
 module _ {M : Type 0} where
   -- it has as many legs, and made no turn
@@ -19,3 +22,37 @@ module _ {M : Type 0} where
     pub calls : List Call
     pub made : mixes m s calls
     pub leads : after_calls s calls ≡ table
+
+-- ---- what a call tells, of a mixer that stands for calls
+module _ {M : Type 0} (stands : M → Setup → (ℕ → Pts) → List Call → Type 0) where
+  -- a leg was admitted where it may be, and found a place or none
+  abbrev pub Admits : M → M → ℕ → Bool → Bool → Type 0
+  Admits old new leg listens found =
+      (s : Setup) (pts : ℕ → Pts) (calls : List Call) → stands old s pts calls → IsAdmit s leg listens calls
+      → stands new s pts (Admit leg listens ∷ calls) × (found ≡ is_some (free_place s (after_calls s calls).seats))
+
+  -- a leg was hushed where it may be
+  abbrev pub Hushes : M → M → ℕ → Type 0
+  Hushes old new leg = (s : Setup) (pts : ℕ → Pts) (calls : List Call) → stands old s pts calls → IsHush s leg calls → stands new s pts (Hush leg ∷ calls)
+
+  -- a leg left or stayed
+  abbrev pub Leaves : M → M → ℕ → Bool → Type 0
+  Leaves old new leg left =
+      (s : Setup) (pts : ℕ → Pts) (calls : List Call) → stands old s pts calls → stands new s pts (Leave leg ∷ calls) × (left ≡ may_leave s leg (after_calls s calls))
+
+  -- a chunk was taken or not
+  abbrev pub Offers : M → M → Chunk → Bool → Type 0
+  Offers old new c taken =
+      (s : Setup) (pts : ℕ → Pts) (calls : List Call) → stands old s pts calls → stands new s pts (Offer c ∷ calls) × (taken ≡ has_room s c.source c (after_calls s calls))
+
+  -- a turn was made
+  abbrev pub Turns : M → M → ℕ → Type 0
+  Turns old new now = (s : Setup) (pts : ℕ → Pts) (calls : List Call) → stands old s pts calls → stands new s pts (Turn now ∷ calls)
+
+  -- what it sends was appended
+  abbrev pub Logs : M → ℕ → List (List ℕ) → List (List ℕ) → Type 0
+  Logs old now before after = (s : Setup) (pts : ℕ → Pts) (calls : List Call) → stands old s pts calls → LogsTurn pts s now (after_calls s calls) before after
+
+  -- whether its table is idle
+  abbrev pub TellsIdle : M → Bool → Type 0
+  TellsIdle m idle = (s : Setup) (pts : ℕ → Pts) (calls : List Call) → stands m s pts calls → idle ≡ is_idle s (after_calls s calls)

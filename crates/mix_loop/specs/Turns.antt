@@ -4,7 +4,7 @@ use Rattle.rtpdump_io.specs.declared.items.DumpFault.{DumpFault}
 use Rattle.rtt_base.specs.declared.text_packets.Pts.{Pts}
 use Rattle.stream_spec.specs.Ready.{Chunk}
 use Rattle.mixer_spec.specs.Setups.{Setup}
-use Rattle.mixer_spec.specs.Table.{Table, Call, entered}
+use Rattle.mixer_spec.specs.Table.{Table, Call, empty, entered}
 use Rattle.mixer_spec.specs.Legs.{held}
 use Rattle.mixer_spec.specs.Plain.{Desk, is_over, plain_from, plain}
 use Rattle.mixer_spec.specs.Table as table
@@ -20,8 +20,8 @@ use Rattle.mix_loop.specs.declared.turns.Turned.TheVariants as turned
 use Rattle.mix_loop.specs.declared.turns.Mixing.{Mixing}
 use Rattle.mix_loop.specs.declared.turns.Mixing.TheVariants as mixing
 use Rattle.mix_loop.specs.Items.{Gave, nothing, is_open, is_fault}
-use Rattle.mix_loop.specs.Logs.{LogOf}
-use Rattle.mix_loop.specs.Mixers.{At}
+use Rattle.mix_loop.specs.Logs.{LogOf, AllOpen}
+use Rattle.mix_loop.specs.Mixers.{At, Of}
 use Rattle.mix_loop.specs.Ports.{MayCome, SamePasts, SeatAt, StaysAs, IsSound, Holds, hand_of, is_away}
 
 -- what a leg gave, what of it is in hand, and its seat
@@ -253,3 +253,9 @@ module _ {I : Type 0} where
 
   abbrev pub AllFresh : (I → I → Gave → Type 0) → Setup → List I → List (Port I) → Type 0
   AllFresh stands s firsts ps = (j : ℕ) (p : Port I) → slice_get ps j ≡ Some p → IsFresh stands s firsts j p
+
+  -- In a mixing of ports to which nothing came, by a mixer of which nothing was called, with an empty log, this was answered.
+  abbrev pub Mixed : {M : Type 0} → (I → I → Gave → Type 0) → (M → Setup → (ℕ → Pts) → List Call → Type 0) → ℕ → ℕ → Mixing → List (Port I) → List (Port I) → M → M → List (List ℕ) → List (List ℕ) → Type 0
+  Mixed stands mixes tick turns answer ps ps' m m' log log' =
+      (s : Setup) (pts : ℕ → Pts) (firsts : List I) → AllFresh stands s firsts ps → At (Of mixes pts) m s empty → s.legs ≡ length ps → AllOpen log
+      → MixedAs stands (Of mixes pts) pts s firsts tick turns answer ps' m' log'

@@ -1,7 +1,7 @@
 //! Where the texts of a leg come from.
 ghost use Rattle.std.specs.Prelude.{◌≡◌, ℕ, true};
 ghost use Rattle.stream_spec.specs.Ready.{chunk_of};
-ghost use Rattle.mix_loop.specs.Items.{Gave, IsOf, gave_more, goes_on};
+ghost use Rattle.mix_loop.specs.Items.{Gave, Gives, IsOf, goes_on};
 
 use crate::Item;
 use rtt_base::Chunk;
@@ -24,7 +24,7 @@ pub trait Inlet {
     fn next<R: Wait, G: Gate>(&mut self, rt: &R, gate: &G, chunk: &mut Chunk) -> Item
         requires { good self.old }
         ensures good { goes_on result ≡ true → good self.new }
-        ensures stands { (first : Self) (gave : Gave) → stands first self.old gave → stands first self.new (gave_more result (chunk_of chunk.new) gave) }
+        ensures stands { Gives stands self.old self.new result (chunk_of chunk.new) }
         ensures text { result ≡ Item.Chunk → IsOf (place self.old) (chunk_of chunk.new) }
         ensures place { place self.new ≡ place self.old };
 }

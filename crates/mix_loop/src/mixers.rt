@@ -1,13 +1,11 @@
 //! The mixer, by its calls.
-ghost use Rattle.std.specs.Prelude.{◌≡◌, ℕ, ◌+◌, ◌<◌, ◌^◌, ◌∷◌, List, length, is_ok, is_some, OnOk};
+ghost use Rattle.std.specs.Prelude.{◌≡◌, ℕ, ◌+◌, ◌<◌, ◌^◌, List, length, is_ok, OnOk};
 ghost use Rattle.rtt_base.specs.declared.text_packets.Pts.{Pts};
 ghost use Rattle.stream_spec.specs.Ready.{chunk_of};
 ghost use Rattle.mixer_spec.specs.Setups.{Setup};
-ghost use Rattle.mixer_spec.specs.Table.{Call, Admit, Hush, Leave, Offer, Turn, after_calls, free_place, may_leave, has_room, is_idle};
-ghost use Rattle.mixer_spec.specs.Calls.{IsAdmit, IsHush};
+ghost use Rattle.mixer_spec.specs.Table.{Call};
 ghost use Rattle.mix_loop.specs.Items.{IsOf};
-ghost use Rattle.mix_loop.specs.Logs.{LogsTurn};
-ghost use Rattle.mix_loop.specs.Mixers.{Keeps};
+ghost use Rattle.mix_loop.specs.Mixers.{Keeps, Admits, Hushes, Leaves, Offers, Turns, Logs, TellsIdle};
 
 use crate::Log;
 use rtt_base::{Chunk, Full, NoMemory};
@@ -26,29 +24,26 @@ pub trait Mixes {
     /// A leg that never came comes to the lowest free place, where there is one, as is answered.
     fn admit(&mut self, leg: usize, listens: bool) -> bool
         requires { leg < legs self.old }
-        ensures admitted { (s : Setup) (pts : ℕ → Pts) (calls : List Call) → stands self.old s pts calls → IsAdmit s leg listens calls
-            → stands self.new s pts (Admit leg listens ∷ calls) × (result ≡ is_some (free_place s (after_calls s calls).seats)) }
+        ensures admitted { Admits stands self.old self.new leg listens result }
         ensures keeps { Keeps legs turns self.old self.new };
 
     /// A leg whose stay is over listens no more.
     fn hush(&mut self, leg: usize)
         requires { leg < legs self.old }
-        ensures hushed { (s : Setup) (pts : ℕ → Pts) (calls : List Call) → stands self.old s pts calls → IsHush s leg calls → stands self.new s pts (Hush leg ∷ calls) }
+        ensures hushed { Hushes stands self.old self.new leg }
         ensures keeps { Keeps legs turns self.old self.new };
 
     /// A leg that listens no more leaves its place, where nothing of it or for it is left, as is answered.
     fn leave(&mut self, leg: usize) -> bool
         requires { leg < legs self.old }
-        ensures left { (s : Setup) (pts : ℕ → Pts) (calls : List Call) → stands self.old s pts calls
-            → stands self.new s pts (Leave leg ∷ calls) × (result ≡ may_leave s leg (after_calls s calls)) }
+        ensures left { Leaves stands self.old self.new leg result }
         ensures keeps { Keeps legs turns self.old self.new };
 
     /// Takes a text where its leg holds a place and has room for it.
     fn offer(&mut self, chunk: &Chunk) -> Result<(), Full>
         requires source { chunk.now.source < legs self.old }
         requires text { IsOf chunk.now.source (chunk_of chunk.now) }
-        ensures offered { (s : Setup) (pts : ℕ → Pts) (calls : List Call) → stands self.old s pts calls
-            → stands self.new s pts (Offer (chunk_of chunk.now) ∷ calls) × (is_ok result ≡ has_room s chunk.now.source (chunk_of chunk.now) (after_calls s calls)) }
+        ensures offered { Offers stands self.old self.new (chunk_of chunk.now) (is_ok result) }
         ensures keeps { Keeps legs turns self.old self.new };
 
     /// Makes a turn at the moment `now` (milliseconds), and appends what is sent to each terminal.
@@ -56,13 +51,13 @@ pub trait Mixes {
         requires few { turns self.old < 5000000 }
         requires now { now < 2 ^ 32 }
         requires terminals { length log.old ≡ legs self.old }
-        ensures turned { (s : Setup) (pts : ℕ → Pts) (calls : List Call) → stands self.old s pts calls → stands self.new s pts (Turn now ∷ calls) }
-        ensures logged { OnOk result ((s : Setup) (pts : ℕ → Pts) (calls : List Call) → stands self.old s pts calls → LogsTurn pts s now (after_calls s calls) log.old log.new) }
+        ensures turned { Turns stands self.old self.new now }
+        ensures logged { OnOk result (Logs stands self.old now log.old log.new) }
         ensures terminals { length log.new ≡ length log.old }
         ensures legs { legs self.new ≡ legs self.old }
         ensures turns { turns self.new ≡ turns self.old + 1 };
 
     /// Whether nothing waits and nothing is to be repeated.
     fn idle(&self) -> bool
-        ensures { (s : Setup) (pts : ℕ → Pts) (calls : List Call) → stands self.now s pts calls → result ≡ is_idle s (after_calls s calls) };
+        ensures { TellsIdle stands self.now result };
 }

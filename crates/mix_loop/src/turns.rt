@@ -8,7 +8,7 @@ ghost use Rattle.mixer_spec.specs.Plain.{goes_below, comes_below, offers_below, 
 ghost use Rattle.mix_loop.specs.Items.{is_fault, fault_in};
 ghost use Rattle.mix_loop.specs.Logs.{LogOf, AllOpen};
 ghost use Rattle.mix_loop.specs.Mixers.{Keeps, Of, At};
-ghost use Rattle.mix_loop.specs.Turns.{Known, AreAt, IsNow, BecomesBy, OffersBy, SettlesBy, Settled, TurnsTo, DrainsTo, AllKnown, AllFresh, MixedAs, NoFaultBelow, IsLowestAt, IsBefore, ended_at, mixing_of};
+ghost use Rattle.mix_loop.specs.Turns.{Known, AreAt, IsNow, BecomesBy, OffersBy, SettlesBy, Settled, TurnsTo, DrainsTo, AllKnown, Mixed, NoFaultBelow, IsLowestAt, IsBefore, ended_at, mixing_of};
 
 use crate::ports::Port;
 use crate::{Inlet, Log, Mixes};
@@ -265,8 +265,7 @@ pub fn mix_ports<I: Inlet, M: Mixes, R: Wait, G: Gate>(
     requires tick { tick ≤ 400 }
     ensures places { AreAt I.good I.place ports.new }
     ensures terminals { length log.new ≡ length log.old }
-    ensures mixed { (s : Setup) (pts : ℕ → Pts) (firsts : List I) → AllFresh I.stands s firsts ports.old → At (Of M.stands pts) mixer.old s empty → s.legs ≡ length ports.old → AllOpen log.old
-        → MixedAs I.stands (Of M.stands pts) pts s firsts tick turns result ports.new mixer.new log.new }
+    ensures mixed { Mixed I.stands M.stands tick turns result ports.old ports.new mixer.old mixer.new log.old log.new }
 {
     let turned = take_turns(rt, gate, ports, mixer, tick, turns, log);
     drain_all(rt, gate, ports);
