@@ -1,3 +1,4 @@
 pub mod Mixes
 pub mod Opened
 pub mod Logging
+pub mod Viewed

@@ -5,7 +5,9 @@ mod logging;
 mod mixed;
 mod mixing;
 mod ports;
+mod views;
 
 pub use mixed::{MixFault, Mixed};
 pub use mixing::mix;
 pub use ports::{close_ports, close_ports_after_fault, open_ports};
+pub use views::{Seen, views_of};

@@ -1,0 +1,190 @@
+//! What is seen at the terminals of a conference.
+ghost use Rattle.std.specs.Prelude.{◌≡◌, ℕ, ◌<◌, List, [], ◌++◌, length, map, remove, slice_index_or, false, true, IsTrue, All, IfOk, OnOk};
+ghost use Rattle.file_spec.specs.declared.conf_lines.LegLine.{LegLine};
+ghost use Rattle.file_spec.specs.Conf.{is_name};
+ghost use Rattle.mixer_spec.specs.Table.{Table};
+ghost use Rattle.conf_text.specs.Lines.{conf_of};
+ghost use Rattle.command_spec.specs.Mixing.{views};
+ghost use Rattle.played.specs.Written.{IsWritten, IsWrittenOf};
+ghost use Rattle.bridge_run.specs.Viewed.{AreNamed, AreSent, view_from};
+
+use conf_text::{Conf, LegLine};
+use played::played;
+use rtt_base::{Bytes, Name, NoMemory};
+use std::alloc::Global;
+use terminal::{TermConf, Terminal};
+
+/// What is seen at terminals, in leg order. The numbers are sums over them.
+#[derive(Drop)]
+pub struct Seen {
+    pub views: Bytes,
+    /// How many packets came.
+    pub packets: u64,
+    /// How many of them were used.
+    pub used: u64,
+    /// How many markers were added.
+    pub marks: u64,
+}
+
+/// Those to whom an aware terminal listens.
+#[derive(Drop)]
+struct Speakers {
+    sources: Vec<u32>,
+    names: Vec<Name>,
+}
+
+/// The same name.
+fn copy_of(name: &Name) -> Name
+    requires { IsTrue (is_name name.now) }
+    ensures { result ≡ name.now }
+{
+    let mut copy = Name::new();
+    for octet in name.as_slice() {
+        copy.push(char::from(*octet));
+    }
+    copy
+}
+
+/// Appends these legs.
+fn push_speakers(
+    legs: &[LegLine],
+    sources: &mut Vec<u32>,
+    names: &mut Vec<Name>,
+) -> Result<(), NoMemory>
+    requires { AreNamed legs.now }
+    ensures sources { OnOk result (sources.new.items ≡ sources.old.items ++ map (λ leg. leg.ssrc) legs.now) }
+    ensures names { OnOk result (names.new.items ≡ names.old.items ++ map (λ leg. leg.name) legs.now) }
+{
+    for leg in legs {
+        sources.push(leg.ssrc)?;
+        names.push(copy_of(&leg.name))?;
+    }
+    Ok(())
+}
+
+/// All legs but this one.
+fn others(alloc: Global, legs: &[LegLine], own: usize) -> Result<Speakers, NoMemory>
+    requires own { own < length legs.now }
+    requires named { AreNamed legs.now }
+    ensures sources { IfOk result (λ speakers. speakers.sources.items ≡ map (λ leg. leg.ssrc) (remove legs.now own)) }
+    ensures names { IfOk result (λ speakers. speakers.names.items ≡ map (λ leg. leg.name) (remove legs.now own)) }
+{
+    let mut sources = Vec::with_capacity(alloc, legs.len())?;
+    let mut names = Vec::with_capacity(alloc, legs.len())?;
+    push_speakers(&legs[..own], &mut sources, &mut names)?;
+    push_speakers(&legs[own + 1..], &mut sources, &mut names)?;
+    Ok(Speakers { sources, names })
+}
+
+/// What the terminal of a leg hears.
+fn conf_at(conf: &Conf, leg: &LegLine) -> TermConf
+    ensures { result ≡ record { ssrc = conf.now.mixer.ssrc; pts = leg.now.pts; wait = conf.now.wait } }
+{
+    TermConf {
+        ssrc: conf.mixer.ssrc,
+        pts: leg.pts,
+        wait: u64::from(conf.wait),
+    }
+}
+
+/// Adds what a terminal counted.
+fn count(terminal: &Terminal, seen: &mut Seen)
+    ensures { seen.new.views ≡ seen.old.views }
+{
+    let counts = terminal.counts();
+    seen.packets = seen.packets.saturating_add(counts.packets);
+    seen.used = seen.used.saturating_add(counts.used);
+    for text in terminal.heard() {
+        seen.marks = seen.marks.saturating_add(text.marks);
+    }
+}
+
+/// Appends what is seen at an aware terminal, to which this recording was sent.
+fn append_aware(
+    alloc: Global,
+    conf: &Conf,
+    own: usize,
+    recording: &[u8],
+    seen: &mut Seen,
+) -> Result<(), NoMemory>
+    requires own { own < length conf.now.legs }
+    requires written { IsWritten recording.now }
+    ensures { OnOk result ((records : List (ℕ × List ℕ)) (d : LegLine) → (slice_index_or conf.now.legs own d).aware ≡ true → IsWrittenOf recording.now records → seen.new.views ≡ seen.old.views ++ view_from (conf_of conf.now) own (slice_index_or conf.now.legs own d) records) }
+{
+    let leg = &conf.legs.as_slice()[own];
+    let speakers = others(alloc, conf.legs.as_slice(), own)?;
+    let terminal = played(
+        alloc,
+        conf_at(conf, leg),
+        speakers.sources.as_slice(),
+        recording,
+        conf.plan.as_slice(),
+        own as u8,
+    )?;
+    terminal.append_aware_view(alloc, &leg.name, speakers.names.as_slice(), &mut seen.views)?;
+    count(&terminal, seen);
+    Ok(())
+}
+
+/// Appends what is seen at another terminal, to which this recording was sent.
+fn append_unaware(
+    alloc: Global,
+    conf: &Conf,
+    own: usize,
+    recording: &[u8],
+    seen: &mut Seen,
+) -> Result<(), NoMemory>
+    requires own { own < length conf.now.legs }
+    requires written { IsWritten recording.now }
+    ensures { OnOk result ((records : List (ℕ × List ℕ)) (d : LegLine) → (slice_index_or conf.now.legs own d).aware ≡ false → IsWrittenOf recording.now records → seen.new.views ≡ seen.old.views ++ view_from (conf_of conf.now) own (slice_index_or conf.now.legs own d) records) }
+{
+    let leg = &conf.legs.as_slice()[own];
+    let terminal = played(
+        alloc,
+        conf_at(conf, leg),
+        &[conf.mixer.ssrc],
+        recording,
+        conf.plan.as_slice(),
+        own as u8,
+    )?;
+    terminal.append_unaware_view(alloc, &leg.name, &mut seen.views)?;
+    count(&terminal, seen);
+    Ok(())
+}
+
+/// Appends what is seen at the terminal of a leg, to which this recording was sent.
+fn append_view(
+    alloc: Global,
+    conf: &Conf,
+    own: usize,
+    recording: &[u8],
+    seen: &mut Seen,
+) -> Result<(), NoMemory>
+    requires own { own < length conf.now.legs }
+    requires written { IsWritten recording.now }
+    ensures { OnOk result ((records : List (ℕ × List ℕ)) (d : LegLine) → IsWrittenOf recording.now records → seen.new.views ≡ seen.old.views ++ view_from (conf_of conf.now) own (slice_index_or conf.now.legs own d) records) }
+{
+    if conf.legs.as_slice()[own].aware {
+        append_aware(alloc, conf, own, recording, seen)
+    } else {
+        append_unaware(alloc, conf, own, recording, seen)
+    }
+}
+
+/// What is seen at the terminals of a conference, where these are the recordings of what was sent to each, in leg order.
+pub fn views_of(alloc: Global, conf: &Conf, outs: &[Bytes]) -> Result<Seen, NoMemory>
+    requires each { length outs.now ≡ length conf.now.legs }
+    requires written { All (λ out. IsWritten out) outs.now }
+    ensures { IfOk result (λ seen. (table : Table) → AreSent (conf_of conf.now) table outs.now → seen.views ≡ views (conf_of conf.now) table) }
+{
+    let mut seen = Seen {
+        views: Bytes::new(alloc),
+        packets: 0,
+        used: 0,
+        marks: 0,
+    };
+    for own in 0..outs.len() {
+        append_view(alloc, conf, own, outs[own].as_slice(), &mut seen)?;
+    }
+    Ok(seen)
+}
