@@ -63,4 +63,12 @@ impl Log {
     {
         self.outs[terminal].as_slice()
     }
+
+    /// All recordings, by terminal.
+    pub fn into_recordings(self) -> Vec<Bytes>
+        ensures { result.items ≡ self }
+    {
+        let Log { outs } = self;
+        outs
+    }
 }
