@@ -2,3 +2,5 @@ pub mod Mixes
 pub mod Opened
 pub mod Logging
 pub mod Viewed
+pub mod Answered
+pub mod Loggers

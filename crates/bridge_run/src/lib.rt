@@ -1,6 +1,7 @@
 //! Mixes a conference over recordings: what is sent to each terminal, and what is seen there.
 #![tactic(auto)]
 
+mod loggers;
 mod logging;
 mod mixed;
 mod mixing;

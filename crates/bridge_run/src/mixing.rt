@@ -1,30 +1,146 @@
 //! A conference is mixed.
-ghost use Rattle.std.specs.Prelude.{◌≡◌, ℕ, ◌≤◌, List, length, IfOk, IfErr};
+ghost use Rattle.std.specs.Prelude.{◌≡◌, ◌<◌, ◌≤◌, ℕ, Err, List, All, length, slice_get, IfOk, IfErr};
+ghost use Rattle.wire_spec.specs.declared.faults.DumpKind.{DumpKind};
+ghost use Rattle.rtt_io.specs.Counts.{Rose};
+ghost use Rattle.rtpdump_io.specs.declared.items.DumpFault.{DumpFault};
+ghost use Rattle.mixer_spec.specs.Setups.{setup};
+ghost use Rattle.mixer_spec.specs.Bridged.{input_limit};
+ghost use Rattle.mixer_spec.specs.Table.{Table};
 ghost use Rattle.conf_text.specs.Lines.{conf_of};
 ghost use Rattle.command_spec.specs.Outcomes.{Same};
+ghost use Rattle.command_spec.specs.Mixing.{views};
+ghost use Rattle.mix_loop.specs.declared.ports.Port.{Port};
+ghost use Rattle.leg_items.specs.declared.inlets.LegInlet.{LegInlet};
+ghost use Rattle.leg_items.specs.Answers.{AllAsked, AllStayAs, AreNew, source_at};
+ghost use Rattle.played.specs.Written.{IsWritten};
+ghost use Rattle.bridge_run.specs.Answered.{AreKept, IsOfLegs, MixesTo, asked_of, broken_leg};
 ghost use Rattle.bridge_run.specs.Mixes.{IsMade, RoseAt, Stops};
+ghost use Rattle.bridge_run.specs.Viewed.{AreSent};
 
+use crate::loggers::Logged;
+use crate::ports::{close_ports, close_ports_after_fault, open_ports};
+use crate::views::{Seen, views_of};
 use crate::{MixFault, Mixed};
 use conf_text::Conf;
-use rtt_io::{Gate, World};
+use leg_items::{LegInlet, mix_plain};
+use mix_loop::{Log, Mixing, Port};
+use rtt_io::{Gate, Source, World};
 use std::alloc::Global;
 use std::sync::Wait;
 
+/// The most octets that an input may have.
+fn input_limit(conf: &Conf) -> u32
+    ensures { result ≡ input_limit (conf_of conf.now) }
+{
+    if conf.legs.len() > 16 {
+        1_048_576
+    } else {
+        4_194_304
+    }
+}
+
+/// What a mixing makes whose packets were recorded so.
+fn made(alloc: Global, conf: &Conf, log: Log) -> Result<Mixed, MixFault>
+    requires legs { length log ≡ length conf.now.legs }
+    requires written { All IsWritten log }
+    ensures views { IfOk result (λ mixed. (table : Table) → AreSent (conf_of conf.now) table log → mixed.views ≡ views (conf_of conf.now) table) }
+    ensures outs { IfOk result (λ mixed. mixed.outs.items ≡ log) }
+    ensures fault { IfErr result (λ fault. fault ≡ MixFault.NoMemory) }
+{
+    let outs = log.into_recordings();
+    let Ok(seen) = views_of(alloc, conf, outs.as_slice()) else {
+        return Err(MixFault::NoMemory);
+    };
+    let Seen {
+        views,
+        packets,
+        used,
+        marks,
+    } = seen;
+    Ok(Mixed {
+        views,
+        outs,
+        packets,
+        used,
+        marks,
+    })
+}
+
+/// Mixes a conference whose inputs are opened.
+fn mix_opened<S: Source, R: Wait, G: Gate>(
+    rt: &R,
+    alloc: Global,
+    conf: &Conf,
+    ports: &mut [Port<LegInlet<S>>],
+    gate: &G,
+) -> Result<Mixed, MixFault>
+    requires legs { length ports.old ≡ length conf.now.legs }
+    requires new { AreNew ports.old }
+    requires stays { AllStayAs (setup (conf_of conf.now)) ports.old }
+    ensures mixes { S.tells → (inputs : List (List ℕ)) → length inputs ≡ length conf.now.legs
+        → AllAsked S.left (asked_of (conf_of conf.now) inputs) ports.old → MixesTo (conf_of conf.now) inputs result }
+    ensures outs { IfOk result (λ mixed. length mixed.outs.items ≡ length conf.now.legs) }
+    ensures sources { AreKept S.faults S.name result ports.old ports.new }
+    ensures leg { IsOfLegs (length conf.now.legs) result }
+    ensures legs { length ports.new ≡ length ports.old }
+{
+    let Ok(mut mixer) = Logged::new(alloc, conf) else {
+        return Err(MixFault::NoMemory);
+    };
+    let Ok(mut log) = Log::new(alloc, ports.len()) else {
+        return Err(MixFault::NoMemory);
+    };
+    let tick = u64::from(conf.tick);
+    let turns = u64::from(conf.turns);
+    match mix_plain(rt, gate, ports, &mut mixer, tick, turns, &mut log) {
+        Mixing::Over => made(alloc, conf, log),
+        Mixing::TooLong => Err(MixFault::TooLong),
+        Mixing::Faulted { leg, fault } => Err(MixFault::Dump { leg, fault }),
+        Mixing::NoMemory => Err(MixFault::NoMemory),
+    }
+}
+
+/// The leg whose recording can't be read to its end, if that is why nothing is made.
+fn broken_leg(mixed: &Result<Mixed, MixFault>) -> Option<u8>
+    ensures { result ≡ broken_leg mixed.now }
+{
+    match mixed {
+        Err(MixFault::Dump { leg, fault: _ }) => Some(*leg),
+        _ => None,
+    }
+}
+
 /// Mixes a conference over the recordings under the names of its inputs. They are opened in leg order, and each is handed back.
 pub fn mix<R: Wait, W: World, G: Gate>(
-    _rt: &R,
-    _alloc: Global,
+    rt: &R,
+    alloc: Global,
     conf: &Conf,
-    _world: &mut W,
-    _gate: &G,
+    world: &mut W,
+    gate: &G,
 ) -> Result<Mixed, MixFault>
-    ensures made { W.tells → IfOk result (IsMade (W.contents _world.old) (conf_of conf.now)) }
+    ensures made { W.tells → IfOk result (IsMade (W.contents world.old) (conf_of conf.now)) }
     ensures outs { IfOk result (λ mixed. length mixed.outs.items ≡ length conf.now.legs) }
-    ensures stops { IfErr result (Stops W.tells (RoseAt (W.own_faults _world.old) (W.own_faults _world.new))
-        (RoseAt (W.object_faults _world.old) (W.object_faults _world.new)) (W.contents _world.old) (conf_of conf.now)) }
-    ensures same_contents { W.tells → Same (W.contents _world.old) (W.contents _world.new) }
-    ensures calls_never_fall { (n : List ℕ) → W.own_faults _world.old n ≤ W.own_faults _world.new n }
-    ensures objects_never_fall { (n : List ℕ) → W.object_faults _world.old n ≤ W.object_faults _world.new n }
+    ensures stops { IfErr result (Stops W.tells (RoseAt (W.own_faults world.old) (W.own_faults world.new))
+        (RoseAt (W.object_faults world.old) (W.object_faults world.new)) (W.contents world.old) (conf_of conf.now)) }
+    ensures same_contents { W.tells → Same (W.contents world.old) (W.contents world.new) }
+    ensures calls_never_fall { (n : List ℕ) → W.own_faults world.old n ≤ W.own_faults world.new n }
+    ensures objects_never_fall { (n : List ℕ) → W.object_faults world.old n ≤ W.object_faults world.new n }
 {
-    Err(MixFault::NoMemory)
+    let legs = conf.legs.as_slice();
+    let limit = input_limit(conf);
+    let mut ports = match open_ports(alloc, legs, conf.wait, limit, world) {
+        Ok(ports) => ports,
+        Err(fault) => return Err(fault),
+    };
+    let mixed = mix_opened(rt, alloc, conf, &mut ports, gate);
+    match broken_leg(&mixed) {
+        Some(leg) => {
+            close_ports_after_fault(ports, leg as usize, world);
+            mixed
+        }
+        None => {
+            close_ports(ports, world);
+            mixed
+        }
+    }
 }

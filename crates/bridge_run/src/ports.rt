@@ -1,5 +1,5 @@
 //! The inputs of all legs.
-ghost use Rattle.std.specs.Prelude.{◌≡◌, ◌≤◌, ◌<◌, ℕ, Some, List, length, slice_get, IfOk, IfErr};
+ghost use Rattle.std.specs.Prelude.{◌≡◌, ◌≤◌, ◌<◌, ℕ, Some, List, length, slice_get, IfOk, IfErr, OnOk};
 ghost use Rattle.rtt_io.specs.Counts.{Rose};
 ghost use Rattle.mix_loop.specs.declared.ports.Port.{Port};
 ghost use Rattle.leg_items.specs.declared.inlets.LegInlet.{LegInlet};
@@ -27,6 +27,7 @@ fn open_port<W: World>(
     requires wait { wait ≤ 10000 }
     requires limit { limit ≤ 4194304 }
     ensures opened { IfOk result (IsOpened W.tells W.Src.left W.Src.faults W.Src.name (W.contents world.old) wait limit place leg.now) }
+    ensures shown { W.tells → OnOk result W.Src.tells }
     ensures refused { IfErr result (IsRefused (W.own_faults world.old) (W.own_faults world.new) place leg.now) }
     ensures own_never_falls { (n : List ℕ) → W.own_faults world.old n ≤ W.own_faults world.new n }
     ensures calm { IfOk result (λ _. (n : List ℕ) → W.own_faults world.new n ≡ W.own_faults world.old n) }
@@ -65,6 +66,7 @@ pub fn open_ports<W: World>(
     requires limit { limit ≤ 4194304 }
     ensures legs { IfOk result (λ ports. length ports.items ≡ length legs.now) }
     ensures opened { IfOk result (λ ports. AllOpened W.tells W.Src.left W.Src.faults W.Src.name (W.contents world.old) wait limit legs.now ports.items) }
+    ensures shown { W.tells → OnOk result (0 < length legs.now → W.Src.tells) }
     ensures refused { IfErr result (IsNotOpened W.tells (W.contents world.old) (W.own_faults world.old) (W.own_faults world.new) legs.now) }
     ensures own_never_falls { (n : List ℕ) → W.own_faults world.old n ≤ W.own_faults world.new n }
     ensures calm { IfOk result (λ _. (n : List ℕ) → W.own_faults world.new n ≡ W.own_faults world.old n) }

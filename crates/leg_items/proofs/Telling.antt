@@ -129,6 +129,7 @@ module _ {S M : Type 0} (tells : Type 0) (left : S → List ℕ) (faults : S →
     table = x.table;
     mixed = x.mixed;
     logged = x.logged;
+    within = λ leg fault is. (let t = subst (λ a. Tells a s tick turns x.gave x.table) is x.tells in t.below);
     sources = sources_kept;
     is = λ t asked chunks asks are. answers t asked chunks asks are answer x.tells;
   }

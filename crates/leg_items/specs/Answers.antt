@@ -83,6 +83,7 @@ module _ {S : Type 0} where
     pub table : Table
     pub mixed : At mixes m s table
     pub logged : answer ≡ mixing.Over → LogOf pts s table log
+    pub within : (leg : ℕ) (fault : DumpFault) → answer ≡ mixing.Faulted leg fault → leg < s.legs
     pub sources : (j : ℕ) (p q : Port (LegInlet S)) → slice_get old j ≡ Some p → slice_get new j ≡ Some q → SourceKept faults name answer j (source_at p) (source_at q)
     pub is : tells → (asked : ℕ → Asked) (chunks : ℕ → List Chunk) → AllAsked left asked old → AreChunks s asked chunks → IsAnswer answer s tick turns asked chunks table
 

@@ -30,6 +30,7 @@ loop-index-preserved g c =
       opened = subst (λ (xs : List (Port (LegInlet g.row.W-Src.Denot))). AllOpened g.W.World.tells g.W.Src.Source.left g.W.Src.Source.faults g.W.Src.Source.name (g.W.World.contents c.args.world.now) c.args.wait c.args.limit legs xs) (sym items)
           (opened_more g.W.World.tells g.W.Src.Source.left g.W.Src.Source.faults g.W.Src.Source.name (g.W.World.contents c.loop-index.world) (g.W.World.contents c.args.world.now) c.args.wait c.args.limit c.loop-index.index legs c.index-legs-index.result now port
           i.contents i.opened i.count got c.in-Ok-open_port.ensures.opened);
+      shown = λ t l. c.in-Ok-open_port.ensures.shown t;
       calm = subst (λ (xs : List (Port (LegInlet g.row.W-Src.Denot))). AreCalm g.W.Src.Source.faults xs) (sym items) (calm_more g.W.Src.Source.faults now port i.calm c.in-Ok-open_port.ensures.opened.fresh);
       same_own = λ n. c.in-Ok-open_port.ensures.calm n ∙ i.same_own n;
       same_objects = λ n. c.open_port.ensures.same_objects n ∙ i.same_objects n;

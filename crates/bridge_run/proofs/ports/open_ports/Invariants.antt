@@ -1,4 +1,4 @@
-use Rattle.std.proofs.Common.{◌≡◌, ◌≤◌, ℕ, List, length}
+use Rattle.std.proofs.Common.{◌≡◌, ◌<◌, ◌≤◌, ℕ, List, length}
 use Rattle.std.specs.Vec.{vec_len, vec_capacity}
 use Rattle.bridge_run.specs.Opened.{AllOpened, AreCalm}
 use Rattle.bridge_run.proofs.ports.open_ports.Given as goal
@@ -9,6 +9,7 @@ invariant-loop-index g l = record {
   len : vec_len l.ports ≡ l.index;
   room : length l.legs ≤ vec_capacity l.ports;
   opened : AllOpened g.W.World.tells g.W.Src.Source.left g.W.Src.Source.faults g.W.Src.Source.name (g.W.World.contents l.fn.world) l.wait l.limit l.legs l.ports.items;
+  shown : g.W.World.tells → 0 < l.index → g.W.Src.Source.tells;
   calm : AreCalm g.W.Src.Source.faults l.ports.items;
   same_own : (n : List ℕ) → g.W.World.own_faults l.world n ≡ g.W.World.own_faults l.fn.world n;
   same_objects : (n : List ℕ) → g.W.World.object_faults l.world n ≡ g.W.World.object_faults l.fn.world n;

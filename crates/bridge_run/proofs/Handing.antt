@@ -1,0 +1,138 @@
+-- A conference is mixed over the inputs that were opened.
+use Rattle.std.proofs.Common.{◌≡◌, ℕ, zero, suc, ◌+◌, ◌<◌, ◌≤◌, Bool, true, false, Option, Some, None, List, [], ◌∷◌, length, map, Result, Ok, Err, refl, ap, sym, subst, ◌∙◌, inl, inr, arith}
+use Rattle.std.specs.Prelude.{IfErr, IfOk, IsSome, slice_get, unwrap_or}
+use Rattle.std.proofs.lemmas.List.{length-map}
+use Rattle.rtt_io.specs.Counts.{Rose}
+use Rattle.rtpdump_io.specs.declared.items.DumpFault.{DumpFault}
+use Rattle.rtpdump_io.specs.Reading.{is_of_source}
+use Rattle.file_spec.specs.declared.conf_lines.LegLine.{LegLine}
+use Rattle.file_spec.specs.Conf.{Conf}
+use Rattle.mixer_spec.specs.Setups.{leg_at, setup, ssrc_of}
+use Rattle.mixer_spec.specs.Bridged.{input_limit}
+use Rattle.command_spec.specs.Work.{Contents}
+use Rattle.command_spec.specs.Mixing.{input_at}
+use Rattle.leg_core.specs.Gives.{Stands, LegPast}
+use Rattle.mix_loop.specs.declared.ports.Port.{Port}
+use Rattle.leg_items.specs.declared.inlets.LegInlet.{LegInlet}
+use Rattle.leg_items.specs.Answers.{AllAsked, AllStayAs, AreNew, IsStayOf, source_at}
+use Rattle.leg_items.proofs.OfConfs.{stays_law}
+use Rattle.leg_items.proofs.Ports.{new_leg}
+use Rattle.mixer_turn.specs.Making.{pts_of}
+use Rattle.bridge_run.specs.declared.mixed.MixFault.{MixFault}
+use Rattle.bridge_run.specs.declared.mixed.MixFault.TheVariants.{Open, Dump, TooLong, NoMemory}
+use Rattle.bridge_run.specs.declared.mixed.Mixed.{Mixed}
+use Rattle.bridge_run.specs.Answered.{AreKept, IsOfLegs, MixesTo, asked_of, broken_leg}
+use Rattle.bridge_run.specs.Mixes.{AllLie, IsBroken, IsMade, RoseAt, Stops, inputs_under, octets_under}
+use Rattle.bridge_run.specs.Opened.{AllOpened, IsOpened}
+use Rattle.bridge_run.proofs.Answering.{leg_within}
+
+-- ---- lists
+found : {X : Type 0} (xs : List X) (k : ℕ) → k < length xs → (x : X) × (slice_get xs k ≡ Some x)
+found [] k l = absurd (omega arith)
+found (x ∷ xs) zero l = (x, refl)
+found (x ∷ xs) (suc k) l = found xs k (omega arith)
+
+input_is : (held : Contents) (legs : List LegLine) (j : ℕ) (leg : LegLine) (octets : List ℕ) → leg_at legs j ≡ Some leg → held leg.input ≡ Some octets
+    → octets ≡ input_at (inputs_under held legs) j
+input_is held [] j leg octets at is = absurd (cc at)
+input_is held (l ∷ legs) zero leg octets at is =
+    let same : l ≡ leg = cc at in sym (ap (λ (x : LegLine). octets_under held x.input) same ∙ ap (λ o. unwrap_or o []) is)
+input_is held (l ∷ legs) (suc j) leg octets at is = input_is held legs j leg octets at is
+
+some_of : (o : Option (List ℕ)) (octets : List ℕ) → o ≡ Some octets → IsSome o
+some_of None octets e = absurd (cc e)
+some_of (Some x) octets e = refl
+
+module _ {S : Type 0} (Told : Type 0) (left : S → List ℕ) (faults : S → ℕ) (name : S → List ℕ) (held : Contents) (c : Conf) (ports : List (Port (LegInlet S)))
+    (many : length ports ≡ length c.legs) (opened : AllOpened Told left faults name held c.wait (input_limit c) c.legs ports) where
+  pub are_new : AreNew ports
+  are_new = λ j p at. (let o = opened j p at in new_leg p.inlet.leg o.0.stay j p o.2.new o.2.place)
+
+  pub all_stay : AllStayAs (setup c) ports
+  all_stay = λ j p at. (let o = opened j p at in subst (IsStayOf (setup c) j) (sym o.2.new.stays) (stays_law c j o.0 o.1))
+
+  all_asked : Told → AllAsked left (asked_of c (inputs_under held c.legs)) ports
+  all_asked told = λ j p at.
+      let o = opened j p at in
+      let t = o.2.told told in
+      let octets = input_is held c.legs j o.0 t.0 o.1 t.1 in
+      let past : Option LegLine → List ℕ → LegPast = λ leg octets. record {
+        conf = record { place = j; ssrc = ssrc_of leg; pts = pts_of leg; wait = c.wait };
+        limit = input_limit c;
+        octets = octets;
+        gave = [];
+      } in
+      subst (λ leg. Stands left p.inlet.leg (past leg (input_at (inputs_under held c.legs) j))) (sym o.1) (subst (λ x. Stands left p.inlet.leg (past (Some o.0) x)) octets t.2)
+
+  all_lie : Told → AllLie held c.legs
+  all_lie told = λ k leg less at.
+      let p = found ports k (omega (arith, less, many)) in
+      let o = opened k p.0 p.1 in
+      let same : o.0 ≡ leg = let a = o.1 in cc (a, at) in
+      let t = o.2.told told in
+      some_of (held leg.input) t.0 (ap (λ (x : LegLine). held x.input) (sym same) ∙ t.1)
+
+  -- ---- what is answered
+  module _ (result : Result Mixed MixFault)
+      (mixes_to : Told → (inputs : List (List ℕ)) → length inputs ≡ length c.legs → AllAsked left (asked_of c inputs) ports → MixesTo c inputs result) where
+    answered : Told → MixesTo c (inputs_under held c.legs) result
+    answered told = mixes_to told (inputs_under held c.legs) (length-map c.legs (λ leg. octets_under held leg.input)) (all_asked told)
+
+    pub is_made : Told → IfOk result (IsMade held c)
+    is_made told = go result (answered told)
+      where
+        go : (r : Result Mixed MixFault) → MixesTo c (inputs_under held c.legs) r → IfOk r (IsMade held c)
+        go (Ok mixed) m = record { lie = all_lie told; makes = m }
+        go (Err f) m = tt
+
+    -- where no leg's recording is at fault
+    pub stops_unbroken : (Call Object : List ℕ → Type 0) → IsOfLegs (length c.legs) result → broken_leg result ≡ None → IfErr result (Stops Told Call Object held c)
+    stops_unbroken Call Object = go result answered
+      where
+        go : (r : Result Mixed MixFault) → (Told → MixesTo c (inputs_under held c.legs) r) → IsOfLegs (length c.legs) r → broken_leg r ≡ None → IfErr r (Stops Told Call Object held c)
+        go (Ok mixed) m of none = tt
+        go (Err (Open leg)) m of none = absurd of
+        go (Err (Dump leg fault)) m of none = absurd (cc none)
+        go (Err TooLong) m of none = λ told. (all_lie told, m told)
+        go (Err NoMemory) m of none = tt
+
+    -- where that of this leg is
+    pub stops_broken : (Call : List ℕ → Type 0) (objects objects_then : List ℕ → ℕ) (k : ℕ) (after : List (Port (LegInlet S))) → length after ≡ length ports
+        → AreKept faults name result ports after → IsOfLegs (length c.legs) result → broken_leg result ≡ Some k
+        → ((q : Port (LegInlet S)) → slice_get after k ≡ Some q → Rose 0 (faults (source_at q)) → Rose (objects (name (source_at q))) (objects_then (name (source_at q))))
+        → IfErr result (Stops Told Call (RoseAt objects objects_then) held c)
+    stops_broken Call objects objects_then k after same = go result answered
+      where
+        go : (r : Result Mixed MixFault) → (Told → MixesTo c (inputs_under held c.legs) r) → AreKept faults name r ports after → IsOfLegs (length c.legs) r → broken_leg r ≡ Some k
+            → ((q : Port (LegInlet S)) → slice_get after k ≡ Some q → Rose 0 (faults (source_at q)) → Rose (objects (name (source_at q))) (objects_then (name (source_at q))))
+            → IfErr r (Stops Told Call (RoseAt objects objects_then) held c)
+        go (Ok mixed) m kept of some rose = tt
+        go (Err (Open leg)) m kept of some rose = absurd of
+        go (Err TooLong) m kept of some rose = absurd (cc some)
+        go (Err NoMemory) m kept of some rose = absurd (cc some)
+        go (Err (Dump leg fault)) m kept of some rose =
+            let is_k : leg ≡ k = cc some in
+            let p = found ports leg (omega (arith, of, many)) in
+            let q = found after leg (omega (arith, of, many, same)) in
+            let o = opened leg p.0 p.1 in
+            let kept_here = kept leg p.0 q.0 p.1 q.1 in
+            let named : name (source_at q.0) ≡ o.0.input = kept_here.same_name ∙ o.2.named in (
+              o.0,
+              o.1,
+              record {
+                lie = all_lie;
+                read = λ source.
+                    subst (λ n. Rose (objects n) (objects_then n)) named
+                    (rose q.0 (subst (λ i. slice_get after i ≡ Some q.0) is_k q.1)
+                    (subst (λ n. Rose n (faults (source_at q.0))) o.2.fresh (kept_here.read fault refl source)));
+                refused = λ none told. m told none;
+              },
+            )
+
+-- ---- what was lent
+pub within_legs : (n : ℕ) (result : Result Mixed MixFault) (k : ℕ) → IsOfLegs n result → broken_leg result ≡ Some k → k < n
+within_legs n (Ok mixed) k of some = absurd (cc some)
+within_legs n (Err (Open leg)) k of some = absurd of
+within_legs n (Err (Dump leg fault)) k of some = let same : leg ≡ k = cc some in subst (λ i. i < n) same of
+within_legs n (Err TooLong) k of some = absurd (cc some)
+within_legs n (Err NoMemory) k of some = absurd (cc some)

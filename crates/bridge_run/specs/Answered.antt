@@ -1,0 +1,65 @@
+-- What mixing recordings answers, by their octets (profile).
+use Rattle.std.specs.Prelude.{◌≡◌, ℕ, ◌+◌, ◌<◌, ◌≤◌, false, true, Option, None, Some, List, Result, Ok, Err, slice_get}
+use Rattle.rtt_io.specs.Counts.{Rose}
+use Rattle.rtpdump_io.specs.declared.items.DumpFault.{DumpFault}
+use Rattle.rtpdump_io.specs.Reading.{is_of_source}
+use Rattle.file_spec.specs.Conf.{Conf}
+use Rattle.mixer_spec.specs.Setups.{leg_at, ssrc_of}
+use Rattle.mixer_spec.specs.Bridged.{input_limit}
+use Rattle.command_spec.specs.declared.faults.Refusal.TheVariants.{AtByte, AfterTurns}
+use Rattle.command_spec.specs.Work.{Refuses, Makes}
+use Rattle.command_spec.specs.Mixing.{input_at, mixes}
+use Rattle.mix_loop.specs.declared.ports.Port.{Port}
+use Rattle.leg_items.specs.declared.inlets.LegInlet.{LegInlet}
+use Rattle.leg_items.specs.Feds.{Asked}
+use Rattle.leg_items.specs.Answers.{source_at}
+use Rattle.mixer_turn.specs.Making.{pts_at}
+use Rattle.bridge_run.specs.declared.mixed.MixFault.{MixFault}
+use Rattle.bridge_run.specs.declared.mixed.MixFault.TheVariants.{Open, Dump, TooLong, NoMemory}
+use Rattle.bridge_run.specs.declared.mixed.Mixed.{Mixed}
+use Rattle.bridge_run.specs.Mixes.{outputs_of}
+
+-- what the leg j is asked for, where the inputs have these octets
+abbrev pub asked_of : Conf → List (List ℕ) → ℕ → Asked
+asked_of c inputs j = record {
+  conf = record { place = j; ssrc = ssrc_of (leg_at c.legs j); pts = pts_at c j; wait = c.wait };
+  limit = input_limit c;
+  octets = input_at inputs j;
+}
+
+-- it is what a conference comes to whose inputs have these octets
+abbrev pub MixesTo : Conf → List (List ℕ) → Result Mixed MixFault → Type 0
+MixesTo c inputs (Ok mixed) = mixes c inputs ≡ Makes mixed.views (outputs_of c.legs mixed.outs.items)
+MixesTo c inputs (Err (Open leg)) = ⊥
+MixesTo c inputs (Err (Dump leg fault)) =
+    is_of_source fault.kind ≡ false → mixes c inputs ≡ Refuses (leg + 1) (AtByte fault.offset fault.kind)
+MixesTo c inputs (Err TooLong) = mixes c inputs ≡ Refuses 0 (AfterTurns c.turns)
+MixesTo c inputs (Err NoMemory) = Unit {0}
+
+-- it is a fault of one of so many legs, where it is one of a leg's recording
+abbrev pub IsOfLegs : ℕ → Result Mixed MixFault → Type 0
+IsOfLegs n (Ok mixed) = Unit {0}
+IsOfLegs n (Err (Open leg)) = ⊥
+IsOfLegs n (Err (Dump leg fault)) = leg < n
+IsOfLegs n (Err TooLong) = Unit {0}
+IsOfLegs n (Err NoMemory) = Unit {0}
+
+-- the leg of that fault
+abbrev pub broken_leg : Result Mixed MixFault → Option ℕ
+broken_leg (Ok mixed) = None
+broken_leg (Err (Open leg)) = None
+broken_leg (Err (Dump leg fault)) = Some leg
+broken_leg (Err TooLong) = None
+broken_leg (Err NoMemory) = None
+
+module _ {S : Type 0} where
+  -- The source of the leg j is still the one that it was. Where its reading failed, its count rose.
+  pub record IsKept (faults : S → ℕ) (name : S → List ℕ) (result : Result Mixed MixFault) (j : ℕ) (old new : S) : Type 0 where
+    pub never_falls : faults old ≤ faults new
+    pub same_name : name new ≡ name old
+    pub read : (fault : DumpFault) → result ≡ Err (Dump j fault) → is_of_source fault.kind ≡ true → Rose (faults old) (faults new)
+
+  -- and so is that of each leg
+  abbrev pub AreKept : (S → ℕ) → (S → List ℕ) → Result Mixed MixFault → List (Port (LegInlet S)) → List (Port (LegInlet S)) → Type 0
+  AreKept faults name result old new =
+      (j : ℕ) (p q : Port (LegInlet S)) → slice_get old j ≡ Some p → slice_get new j ≡ Some q → IsKept faults name result j (source_at p) (source_at q)
