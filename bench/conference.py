@@ -1,0 +1,25 @@
+#!/usr/bin/env python3
+"""Writes a conference of 16 legs into a folder, with a script for each: 12 letters a second for an hour.
+
+usage: bench/conference.py FOLDER
+
+`send` makes the recordings (leg-1.txt into leg-1.rtp with the SSRC 1001, and so on); then `mix conference.txt` is what is
+measured.
+"""
+import os
+import sys
+
+LEGS = 16
+SECONDS = 3600
+
+folder = sys.argv[1]
+os.makedirs(folder, exist_ok=True)
+with open(os.path.join(folder, "conference.txt"), "w", encoding="utf-8") as conference:
+    conference.write("mixer 9000 0 0\n")
+    for leg in range(1, LEGS + 1):
+        conference.write(f"leg L{leg} aware {1000 + leg} leg-{leg}.rtp to-{leg}.rtp\n")
+for leg in range(1, LEGS + 1):
+    with open(os.path.join(folder, f"leg-{leg}.txt"), "w", encoding="utf-8") as script:
+        for second in range(SECONDS):
+            letters = "".join(chr(ord("a") + (leg + second + k) % 26) for k in range(12))
+            script.write(f"{1000 * second + 60 * leg} {letters}\n")
