@@ -21,7 +21,7 @@ mix_opened-mixed-requires-clause-new g c =
     let held = g.W.World.contents c.args.world.now in
     let many = c.in-Ok.ensures.legs ∙ ap (λ (xs : List LegLine). length xs) c.as_slice-legs.ensures in
     let opened = subst (λ l. AllOpened g.W.World.tells g.W.Src.Source.left g.W.Src.Source.faults g.W.Src.Source.name held conf.wait l conf.legs c.in-Ok.ports.items) c.input_limit-limit.ensures
-        (subst (λ (xs : List LegLine). AllOpened g.W.World.tells g.W.Src.Source.left g.W.Src.Source.faults g.W.Src.Source.name held conf.wait c.input_limit-limit.result xs c.in-Ok.ports.items) c.as_slice-legs.ensures c.in-Ok.ensures.opened) in
+    (subst (λ (xs : List LegLine). AllOpened g.W.World.tells g.W.Src.Source.left g.W.Src.Source.faults g.W.Src.Source.name held conf.wait c.input_limit-limit.result xs c.in-Ok.ports.items) c.as_slice-legs.ensures c.in-Ok.ensures.opened) in
     subst (λ (ps : List (Port (LegInlet g.row.W-Src.Denot))). AreNew ps) (sym c.deref_mut.ensures.value)
     (are_new g.W.World.tells g.W.Src.Source.left g.W.Src.Source.faults g.W.Src.Source.name held conf c.in-Ok.ports.items many opened)
 
@@ -31,7 +31,7 @@ mix_opened-mixed-requires-clause-stays g c =
     let held = g.W.World.contents c.args.world.now in
     let many = c.in-Ok.ensures.legs ∙ ap (λ (xs : List LegLine). length xs) c.as_slice-legs.ensures in
     let opened = subst (λ l. AllOpened g.W.World.tells g.W.Src.Source.left g.W.Src.Source.faults g.W.Src.Source.name held conf.wait l conf.legs c.in-Ok.ports.items) c.input_limit-limit.ensures
-        (subst (λ (xs : List LegLine). AllOpened g.W.World.tells g.W.Src.Source.left g.W.Src.Source.faults g.W.Src.Source.name held conf.wait c.input_limit-limit.result xs c.in-Ok.ports.items) c.as_slice-legs.ensures c.in-Ok.ensures.opened) in
+    (subst (λ (xs : List LegLine). AllOpened g.W.World.tells g.W.Src.Source.left g.W.Src.Source.faults g.W.Src.Source.name held conf.wait c.input_limit-limit.result xs c.in-Ok.ports.items) c.as_slice-legs.ensures c.in-Ok.ensures.opened) in
     subst (λ (ps : List (Port (LegInlet g.row.W-Src.Denot))). AllStayAs (setup conf) ps) (sym c.deref_mut.ensures.value)
     (all_stay g.W.World.tells g.W.Src.Source.left g.W.Src.Source.faults g.W.Src.Source.name held conf c.in-Ok.ports.items many opened)
 
@@ -48,11 +48,11 @@ returns-in-Some-clause-stops g c =
     let held = g.W.World.contents c.args.world.now in
     let many = c.in-Ok.ensures.legs ∙ ap (λ (xs : List LegLine). length xs) c.as_slice-legs.ensures in
     let opened = subst (λ l. AllOpened g.W.World.tells g.W.Src.Source.left g.W.Src.Source.faults g.W.Src.Source.name held conf.wait l conf.legs c.in-Ok.ports.items) c.input_limit-limit.ensures
-        (subst (λ (xs : List LegLine). AllOpened g.W.World.tells g.W.Src.Source.left g.W.Src.Source.faults g.W.Src.Source.name held conf.wait c.input_limit-limit.result xs c.in-Ok.ports.items) c.as_slice-legs.ensures c.in-Ok.ensures.opened) in
+    (subst (λ (xs : List LegLine). AllOpened g.W.World.tells g.W.Src.Source.left g.W.Src.Source.faults g.W.Src.Source.name held conf.wait c.input_limit-limit.result xs c.in-Ok.ports.items) c.as_slice-legs.ensures c.in-Ok.ensures.opened) in
     let some : 0 < length c.as_slice-legs.result.now = omega (arith, c.args.conf.now.kept.two, ap (λ (xs : List LegLine). length xs) c.as_slice-legs.ensures) in
     let mixes : g.W.World.tells → (inputs : List (List ℕ)) → length inputs ≡ length conf.legs → AllAsked g.W.Src.Source.left (asked_of conf inputs) c.in-Ok.ports.items → MixesTo conf inputs c.mix_opened-mixed.result =
-        λ told inputs count asks. c.mix_opened-mixed.ensures.mixes (c.in-Ok.ensures.shown told some) inputs count
-            (subst (λ (ps : List (Port (LegInlet g.row.W-Src.Denot))). AllAsked g.W.Src.Source.left (asked_of conf inputs) ps) (sym c.deref_mut.ensures.value) asks) in
+    λ told inputs count asks. c.mix_opened-mixed.ensures.mixes (c.in-Ok.ensures.shown told some) inputs count
+    (subst (λ (ps : List (Port (LegInlet g.row.W-Src.Denot))). AllAsked g.W.Src.Source.left (asked_of conf inputs) ps) (sym c.deref_mut.ensures.value) asks) in
     let legs = c.mix_opened-mixed.ensures.legs ∙ ap (λ (xs : List (Port (LegInlet g.row.W-Src.Denot))). length xs) c.deref_mut.ensures.value in
     stops_broken g.W.World.tells g.W.Src.Source.left g.W.Src.Source.faults g.W.Src.Source.name held conf c.in-Ok.ports.items many opened c.mix_opened-mixed.result mixes
     (RoseAt (g.W.World.own_faults c.args.world.now) (g.W.World.own_faults c.close_ports_after_fault.new.world))
@@ -60,8 +60,8 @@ returns-in-Some-clause-stops g c =
     (subst (λ (ps : List (Port (LegInlet g.row.W-Src.Denot))). AreKept g.W.Src.Source.faults g.W.Src.Source.name c.mix_opened-mixed.result ps c.mix_opened-mixed.new.ports) c.deref_mut.ensures.value c.mix_opened-mixed.ensures.sources)
     c.mix_opened-mixed.ensures.leg (sym c.broken_leg.ensures ∙ c.in-Some.is)
     (λ q at rose. subst (λ n. Rose n (g.W.World.object_faults c.close_ports_after_fault.new.world (g.W.Src.Source.name (source_at q)))) (c.in-Ok.ensures.same_objects (g.W.Src.Source.name (source_at q)))
-        (c.close_ports_after_fault.ensures.failed q
-        (subst (λ (ps : List (Port (LegInlet g.row.W-Src.Denot))). slice_get ps c.in-Some.leg ≡ Some q) (sym (with_items_is c.in-Ok.ports c.mix_opened-mixed.new.ports (omega (arith, legs, c.in-Ok.ports.ok.0)))) at) rose))
+    (c.close_ports_after_fault.ensures.failed q
+    (subst (λ (ps : List (Port (LegInlet g.row.W-Src.Denot))). slice_get ps c.in-Some.leg ≡ Some q) (sym (with_items_is c.in-Ok.ports c.mix_opened-mixed.new.ports (omega (arith, legs, c.in-Ok.ports.ok.0)))) at) rose))
 
 pub returns-in-None-clause-made : goal.returns-in-None-clause-made
 returns-in-None-clause-made g c =
@@ -69,11 +69,11 @@ returns-in-None-clause-made g c =
     let held = g.W.World.contents c.args.world.now in
     let many = c.in-Ok.ensures.legs ∙ ap (λ (xs : List LegLine). length xs) c.as_slice-legs.ensures in
     let opened = subst (λ l. AllOpened g.W.World.tells g.W.Src.Source.left g.W.Src.Source.faults g.W.Src.Source.name held conf.wait l conf.legs c.in-Ok.ports.items) c.input_limit-limit.ensures
-        (subst (λ (xs : List LegLine). AllOpened g.W.World.tells g.W.Src.Source.left g.W.Src.Source.faults g.W.Src.Source.name held conf.wait c.input_limit-limit.result xs c.in-Ok.ports.items) c.as_slice-legs.ensures c.in-Ok.ensures.opened) in
+    (subst (λ (xs : List LegLine). AllOpened g.W.World.tells g.W.Src.Source.left g.W.Src.Source.faults g.W.Src.Source.name held conf.wait c.input_limit-limit.result xs c.in-Ok.ports.items) c.as_slice-legs.ensures c.in-Ok.ensures.opened) in
     let some : 0 < length c.as_slice-legs.result.now = omega (arith, c.args.conf.now.kept.two, ap (λ (xs : List LegLine). length xs) c.as_slice-legs.ensures) in
     let mixes : g.W.World.tells → (inputs : List (List ℕ)) → length inputs ≡ length conf.legs → AllAsked g.W.Src.Source.left (asked_of conf inputs) c.in-Ok.ports.items → MixesTo conf inputs c.mix_opened-mixed.result =
-        λ told inputs count asks. c.mix_opened-mixed.ensures.mixes (c.in-Ok.ensures.shown told some) inputs count
-            (subst (λ (ps : List (Port (LegInlet g.row.W-Src.Denot))). AllAsked g.W.Src.Source.left (asked_of conf inputs) ps) (sym c.deref_mut.ensures.value) asks) in
+    λ told inputs count asks. c.mix_opened-mixed.ensures.mixes (c.in-Ok.ensures.shown told some) inputs count
+    (subst (λ (ps : List (Port (LegInlet g.row.W-Src.Denot))). AllAsked g.W.Src.Source.left (asked_of conf inputs) ps) (sym c.deref_mut.ensures.value) asks) in
     is_made g.W.World.tells g.W.Src.Source.left g.W.Src.Source.faults g.W.Src.Source.name held conf c.in-Ok.ports.items many opened c.mix_opened-mixed.result mixes
 
 pub returns-in-None-clause-stops : goal.returns-in-None-clause-stops
@@ -82,11 +82,11 @@ returns-in-None-clause-stops g c =
     let held = g.W.World.contents c.args.world.now in
     let many = c.in-Ok.ensures.legs ∙ ap (λ (xs : List LegLine). length xs) c.as_slice-legs.ensures in
     let opened = subst (λ l. AllOpened g.W.World.tells g.W.Src.Source.left g.W.Src.Source.faults g.W.Src.Source.name held conf.wait l conf.legs c.in-Ok.ports.items) c.input_limit-limit.ensures
-        (subst (λ (xs : List LegLine). AllOpened g.W.World.tells g.W.Src.Source.left g.W.Src.Source.faults g.W.Src.Source.name held conf.wait c.input_limit-limit.result xs c.in-Ok.ports.items) c.as_slice-legs.ensures c.in-Ok.ensures.opened) in
+    (subst (λ (xs : List LegLine). AllOpened g.W.World.tells g.W.Src.Source.left g.W.Src.Source.faults g.W.Src.Source.name held conf.wait c.input_limit-limit.result xs c.in-Ok.ports.items) c.as_slice-legs.ensures c.in-Ok.ensures.opened) in
     let some : 0 < length c.as_slice-legs.result.now = omega (arith, c.args.conf.now.kept.two, ap (λ (xs : List LegLine). length xs) c.as_slice-legs.ensures) in
     let mixes : g.W.World.tells → (inputs : List (List ℕ)) → length inputs ≡ length conf.legs → AllAsked g.W.Src.Source.left (asked_of conf inputs) c.in-Ok.ports.items → MixesTo conf inputs c.mix_opened-mixed.result =
-        λ told inputs count asks. c.mix_opened-mixed.ensures.mixes (c.in-Ok.ensures.shown told some) inputs count
-            (subst (λ (ps : List (Port (LegInlet g.row.W-Src.Denot))). AllAsked g.W.Src.Source.left (asked_of conf inputs) ps) (sym c.deref_mut.ensures.value) asks) in
+    λ told inputs count asks. c.mix_opened-mixed.ensures.mixes (c.in-Ok.ensures.shown told some) inputs count
+    (subst (λ (ps : List (Port (LegInlet g.row.W-Src.Denot))). AllAsked g.W.Src.Source.left (asked_of conf inputs) ps) (sym c.deref_mut.ensures.value) asks) in
     stops_unbroken g.W.World.tells g.W.Src.Source.left g.W.Src.Source.faults g.W.Src.Source.name held conf c.in-Ok.ports.items many opened c.mix_opened-mixed.result mixes
     (RoseAt (g.W.World.own_faults c.args.world.now) (g.W.World.own_faults c.close_ports.new.world))
     (RoseAt (g.W.World.object_faults c.args.world.now) (g.W.World.object_faults c.close_ports.new.world)) c.mix_opened-mixed.ensures.leg (sym c.broken_leg.ensures ∙ c.in-None.is)

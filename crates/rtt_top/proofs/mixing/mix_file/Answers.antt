@@ -23,7 +23,7 @@ returns-in-Err g c =
     runs (words.Mix (mixed c.args.words.now)) g.W.World.tells g.K.Sink.tells g.E.Sink.tells old new before after c.finish_with.result
     ending name c.finish_with.ensures.status
     (subst (λ n. Ends (mixing_work name) g.W.World.tells g.K.Sink.tells old new n ending) (same_name name ending)
-        (stopped (mixing_work name) g.W.World.tells g.K.Sink.tells old new name name c.in-Err.fault c.in-Err.ensures.stops ((λ shown. refl), c.in-Err.ensures.same_contents)))
+    (stopped (mixing_work name) g.W.World.tells g.K.Sink.tells old new name name c.in-Err.fault c.in-Err.ensures.stops ((λ shown. refl), c.in-Err.ensures.same_contents)))
     c.finish_with.ensures.silent c.finish_with.ensures.told
 
 pub returns : goal.returns
@@ -42,7 +42,7 @@ returns g c =
     runs (words.Mix (mixed c.args.words.now)) g.W.World.tells g.K.Sink.tells g.E.Sink.tells old new before after c.finish_with-2.result
     ending c.name_at_end-name.result.now c.finish_with-2.ensures.status
     (subst (λ n. Ends (mixing_work file) g.W.World.tells g.K.Sink.tells old new n ending) (sym named)
-        (ends_since (mixing_work file) g.W.World.tells g.K.Sink.tells old mid new (ending_name file c.in-Ok.conf.legs ending) ending
-        (record { same = c.in-Ok.ensures.same_contents; calls_rise = c.in-Ok.ensures.calls_never_fall; objects_rise = c.in-Ok.ensures.objects_never_fall }) refl
-        (c.mix_conf-ending.ensures file read.0 (λ told. c.in-Ok.ensures.same_contents told file ∙ read.1 told) read.2)))
+    (ends_since (mixing_work file) g.W.World.tells g.K.Sink.tells old mid new (ending_name file c.in-Ok.conf.legs ending) ending
+    (record { same = c.in-Ok.ensures.same_contents; calls_rise = c.in-Ok.ensures.calls_never_fall; objects_rise = c.in-Ok.ensures.objects_never_fall }) refl
+    (c.mix_conf-ending.ensures file read.0 (λ told. c.in-Ok.ensures.same_contents told file ∙ read.1 told) read.2)))
     c.finish_with-2.ensures.silent c.finish_with-2.ensures.told
