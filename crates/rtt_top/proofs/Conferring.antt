@@ -18,7 +18,7 @@ use Rattle.rtt_top.specs.Files.{IsFrontOf}
 use Rattle.rtt_top.specs.Faults.{Stops}
 use Rattle.rtt_top.proofs.Working.{lies}
 
-large : Refusal
+abbrev large : Refusal
 large = record { line = 0; kind = Large }
 
 too_large : (octets : List ℕ) → 262144 < length octets → conf Files octets ≡ Err large

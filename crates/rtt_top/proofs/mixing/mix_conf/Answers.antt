@@ -15,7 +15,7 @@ pub returns-in-Err : goal.returns-in-Err
 returns-in-Err g c = λ file octets there read.
     let out = output (g.K.Sink.took c.args.out.now) (g.K.Sink.faults c.args.out.now) in
     let old = outside (g.W.World.contents c.args.world.now) (g.W.World.own_faults c.args.world.now) (g.W.World.object_faults c.args.world.now) out in
-    let new = outside (g.W.World.contents c.mix.new._world) (g.W.World.own_faults c.mix.new._world) (g.W.World.object_faults c.mix.new._world) out in
+    let new = outside (g.W.World.contents c.mix.new.world) (g.W.World.own_faults c.mix.new.world) (g.W.World.object_faults c.mix.new.world) out in
     let P : Fault → Type 0 = λ f. Ends (mixing_work file) g.W.World.tells g.K.Sink.tells old new (ending_name file c.args.conf.now.legs (Err f)) (Err f) in
     subst P (sym c.fault_of_mixing.ensures)
     (stopped_mixing g.W.World.tells g.K.Sink.tells old new file octets (conf_of c.args.conf.now) c.in-Err.fault there read c.in-Err.ensures.stops ((λ shown. refl), c.in-Err.ensures.same_contents))
@@ -27,13 +27,13 @@ returns-then-is_err g c = λ file octets there read.
     let new = outside (g.W.World.contents c.save_outputs-saved.new.world) (g.W.World.own_faults c.save_outputs-saved.new.world) (g.W.World.object_faults c.save_outputs-saved.new.world) out in
     let same = ap (λ legs. outputs_of legs c.as_slice-2.result.now) c.as_slice.ensures ∙ ap (outputs_of c.args.conf.now.legs) c.as_slice-2.ensures.value in
     unwritten_result g.W.World.tells g.K.Sink.tells old new
-    (g.W.World.contents c.mix.new._world) (g.W.World.own_faults c.mix.new._world) (g.W.World.object_faults c.mix.new._world)
+    (g.W.World.contents c.mix.new.world) (g.W.World.own_faults c.mix.new.world) (g.W.World.object_faults c.mix.new.world)
     file octets (conf_of c.args.conf.now) c.in-Ok.mixed.views c.in-Ok.mixed.outs.items c.save_outputs-saved.result there read
     (λ told. let made = c.in-Ok.ensures.made told in (made.lie, made.makes))
     (record { same = c.mix.ensures.same_contents; calls_rise = c.mix.ensures.calls_never_fall; objects_rise = c.mix.ensures.objects_never_fall }) refl
     (sym c.is_err.ensures.value ∙ c.if-is_err.true)
-    (subst (λ files. IfErr c.save_outputs-saved.result (IsUnwritten g.W.World.tells (RoseAt (g.W.World.own_faults c.mix.new._world) new.calls)
-    (RoseAt (g.W.World.object_faults c.mix.new._world) new.objects) files (g.W.World.contents c.mix.new._world) new.contents)) same c.save_outputs-saved.ensures.unwritten)
+    (subst (λ files. IfErr c.save_outputs-saved.result (IsUnwritten g.W.World.tells (RoseAt (g.W.World.own_faults c.mix.new.world) new.calls)
+    (RoseAt (g.W.World.object_faults c.mix.new.world) new.objects) files (g.W.World.contents c.mix.new.world) new.contents)) same c.save_outputs-saved.ensures.unwritten)
 
 pub returns : goal.returns
 returns g c = λ file octets there read.
@@ -43,9 +43,9 @@ returns g c = λ file octets there read.
     (output (g.K.Sink.took c.print.new.out) (g.K.Sink.faults c.print.new.out)) in
     let same = ap (λ legs. outputs_of legs c.as_slice-2.result.now) c.as_slice.ensures ∙ ap (outputs_of c.args.conf.now.legs) c.as_slice-2.ensures.value in
     let stored : g.W.World.tells → AllStored (outputs_of c.args.conf.now.legs c.in-Ok.mixed.outs.items) old.contents new.contents = λ told.
-    all_stored_since (outputs_of c.args.conf.now.legs c.in-Ok.mixed.outs.items) old.contents (g.W.World.contents c.mix.new._world) new.contents (c.mix.ensures.same_contents told)
-    (subst (λ files. AllStored files (g.W.World.contents c.mix.new._world) new.contents) same
-    (saved c.save_outputs-saved.result (AllStored (outputs_of c.as_slice.result.now c.as_slice-2.result.now) (g.W.World.contents c.mix.new._world) new.contents)
+    all_stored_since (outputs_of c.args.conf.now.legs c.in-Ok.mixed.outs.items) old.contents (g.W.World.contents c.mix.new.world) new.contents (c.mix.ensures.same_contents told)
+    (subst (λ files. AllStored files (g.W.World.contents c.mix.new.world) new.contents) same
+    (saved c.save_outputs-saved.result (AllStored (outputs_of c.as_slice.result.now c.as_slice-2.result.now) (g.W.World.contents c.mix.new.world) new.contents)
     (sym c.is_err.ensures.value ∙ c.if-is_err.false) (c.save_outputs-saved.ensures.saved told))) in
     printed_mixing g.W.World.tells g.K.Sink.tells old new file octets (conf_of c.args.conf.now) c.in-Ok.mixed.views c.in-Ok.mixed.outs.items c.print.result there read
     (λ told. let made = c.in-Ok.ensures.made told in (made.lie, made.makes)) stored
