@@ -5,6 +5,7 @@ pub mod Scripts
 pub mod Work
 pub mod Outcomes
 pub mod Mixing
+pub mod Sums
 pub mod Bridges
 pub mod Commands
 pub mod Messages
