@@ -10,3 +10,4 @@ pub mod Coming
 pub mod Headlines
 mod MixExamples
 pub mod Outputs
+mod GeneratedExamples

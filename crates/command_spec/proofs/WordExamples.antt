@@ -1,6 +1,6 @@
 -- Worked examples of command words, by computing.
 use Rattle.std.proofs.Common.{◌≡◌, refl, [], ◌∷◌, None, Some, codes}
-use Rattle.command_spec.specs.Words.{command, Read, ListRecords, Send, Mix}
+use Rattle.command_spec.specs.Words.{command, Read, ListRecords, Send, Mix, Make}
 
 read_a_source : command (codes "read" ∷ codes "a.rtp" ∷ codes "1001" ∷ []) ≡ Some (Read (record { file = codes "a.rtp"; ssrc = 1001; source = 1001; pts = record { t140 = 98; red = 100 } }))
 read_a_source = refl
@@ -60,6 +60,24 @@ mix_without_a_conference = refl
 
 mix_one_at_a_time : command (codes "mix" ∷ codes "a" ∷ codes "b" ∷ []) ≡ None
 mix_one_at_a_time = refl
+
+make_a_conference : command (codes "make" ∷ codes "1000" ∷ []) ≡ Some (Make (record { number = 1000 }))
+make_a_conference = refl
+
+make_with_leading_zeros : command (codes "make" ∷ codes "0000000001" ∷ []) ≡ Some (Make (record { number = 1 }))
+make_with_leading_zeros = refl
+
+make_none : command (codes "make" ∷ codes "0" ∷ []) ≡ None
+make_none = refl
+
+make_no_more_than_1000 : command (codes "make" ∷ codes "1001" ∷ []) ≡ None
+make_no_more_than_1000 = refl
+
+make_without_a_number : command (codes "make" ∷ []) ≡ None
+make_without_a_number = refl
+
+make_one_at_a_time : command (codes "make" ∷ codes "1" ∷ codes "2" ∷ []) ≡ None
+make_one_at_a_time = refl
 
 live_is_not_built : command (codes "live" ∷ codes "c.txt" ∷ []) ≡ None
 live_is_not_built = refl

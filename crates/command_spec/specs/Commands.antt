@@ -6,23 +6,23 @@ use Rattle.file_spec.specs.declared.kinds.ConfKind.TheVariants.{Full}
 use Rattle.file_spec.specs.Script.{ScriptLine}
 use Rattle.file_spec.specs.Lines as lines
 use Rattle.file_spec.specs.Script.{script}
-use Rattle.command_spec.specs.Words.{ReadWords, SendWords, Command, Read, ListRecords, Send, Mix, usual_pts}
+use Rattle.command_spec.specs.Words.{ReadWords, SendWords, Command, Read, ListRecords, Send, Mix, Make}
 use Rattle.command_spec.specs.declared.faults.Refusal.TheVariants.{AtByte, AtLine}
 use Rattle.command_spec.specs.declared.requests.ReadRequest.{ReadRequest}
 use Rattle.command_spec.specs.Listing.{list_view}
+use Rattle.command_spec.specs.Making.{making}
 use Rattle.command_spec.specs.Mixing.{mixing}
 use Rattle.command_spec.specs.Reading.{read_view}
-use Rattle.command_spec.specs.Scripts.{Sending, full_line, recording}
+use Rattle.command_spec.specs.Scripts.{Sending, full_line, recording, usual_sending}
 use Rattle.command_spec.specs.Work.{Made, Steps, Reads, Refuses, Makes, Work}
 
 -- what is read of a recording
 abbrev pub request_of : ReadWords → ReadRequest
 request_of r = record { ssrc = r.ssrc; source = r.source; pts = r.pts }
 
--- what sends a script: two generations, at most one packet in 300 ms, and the usual payload types
+-- what sends a script
 abbrev pub sending_of : SendWords → Sending
-sending_of s =
-    record { stream = record { ssrc = s.ssrc; first = s.seq; base = s.stamp; gens = 2 }; interval = 300; pts = usual_pts }
+sending_of s = usual_sending s.ssrc s.seq s.stamp
 
 -- the first input is a recording, which is refused with its fault, or this comes then
 abbrev pub unless_broken : Option dumps.Fault → Steps → Steps
@@ -56,3 +56,4 @@ work (Read r) = prints_recording r.file (read_view (request_of r))
 work (ListRecords l) = prints_recording l.file (λ octets. list_view l.pts (dump usual_limit octets).items)
 work (Send s) = record { prints = false; steps = Reads s.script (λ octets. sends s (script octets)) }
 work (Mix m) = record { prints = true; steps = mixing m.conf }
+work (Make m) = record { prints = true; steps = making m.number }

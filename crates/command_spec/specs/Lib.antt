@@ -11,3 +11,6 @@ pub mod Commands
 pub mod Messages
 pub mod Sent
 pub mod Words
+pub mod Draws
+pub mod Generated
+pub mod Making

@@ -88,7 +88,7 @@ refusal_message name (AfterTurns turns) = turns_message turns
 
 -- for words outside the word table
 abbrev pub usage : List ℕ
-usage = codes "usage: rtt_program read FILE SSRC [SOURCE [T140 RED]]\n       rtt_program list FILE [T140 RED]\n       rtt_program send SCRIPT OUT SSRC SEQ STAMP\n       rtt_program mix CONF\n"
+usage = codes "usage: rtt_program read FILE SSRC [SOURCE [T140 RED]]\n       rtt_program list FILE [T140 RED]\n       rtt_program send SCRIPT OUT SSRC SEQ STAMP\n       rtt_program mix CONF\n       rtt_program make N\n"
 
 -- what went wrong with the file of this name
 abbrev pub trouble : List ℕ → List ℕ → List ℕ

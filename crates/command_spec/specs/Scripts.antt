@@ -10,12 +10,19 @@ use Rattle.stream_spec.specs.History.{History}
 use Rattle.stream_spec.specs.Own.{Stream, packet_after}
 use Rattle.stream_spec.specs.Typed.{Event, Text, Ask, Turned, sents, entries, waiting, has_more, history_typed}
 use Rattle.wire_spec.specs.SentPackets.{packet_written}
+use Rattle.command_spec.specs.Words.{usual_pts}
 
 -- what sends a script: a stream, the least time between two packets in milliseconds, and the payload types
 pub record Sending : Type 0 where
   pub stream : Stream
   pub interval : ℕ
   pub pts : Pts
+
+-- two generations, at most one packet in 300 ms, and the usual payload types, with this SSRC, first sequence number and
+-- timestamp at time 0
+abbrev pub usual_sending : ℕ → ℕ → ℕ → Sending
+usual_sending ssrc seq stamp =
+    record { stream = record { ssrc = ssrc; first = seq; base = stamp; gens = 2 }; interval = 300; pts = usual_pts }
 
 -- ---- what a script asks of a sender
 

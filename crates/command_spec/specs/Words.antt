@@ -2,7 +2,7 @@
 use Rattle.std.specs.Prelude.{ℕ, Bool, false, not, Option, None, Some, List, [], ◌∷◌, ◌==◌, ◌&&◌, bytes_eq, codes, if◌then◌else◌, option_and_then}
 use Rattle.std.specs.Option.{option_map}
 use Rattle.rtt_base.specs.declared.text_packets.Pts.{Pts}
-use Rattle.file_spec.specs.Numbers.{number, most_ssrc, pts}
+use Rattle.file_spec.specs.Numbers.{number, number_between, most_ssrc, pts}
 use Rattle.file_spec.specs.declared.limits.TheConstants.{USUAL_T140, USUAL_RED}
 
 -- what `read` is asked for: the text of a source in the packets of an SSRC of a recording, under two payload types
@@ -30,11 +30,16 @@ pub record SendWords : Type 0 where
 pub record MixWords : Type 0 where
   pub conf : List ℕ
 
+-- what `make` is asked for: the conference that is made from a number
+pub record MakeWords : Type 0 where
+  pub number : ℕ
+
 pub data Command : Type 0 where
   Read : ReadWords → Command
   ListRecords : ListWords → Command
   Send : SendWords → Command
   Mix : MixWords → Command
+  Make : MakeWords → Command
 
 -- a word that is empty or begins with `-` is none
 abbrev pub is_word : List ℕ → Bool
@@ -97,6 +102,11 @@ abbrev pub mix_words : List (List ℕ) → Option Command
 mix_words (conf ∷ []) = if is_word conf then Some (Mix (record { conf = conf })) else None
 mix_words _ = None
 
+-- `N`, from 1 to 1000
+abbrev pub make_words : List (List ℕ) → Option Command
+make_words (n ∷ []) = option_map (λ k. Make (record { number = k })) (number_between 1 1000 n)
+make_words _ = None
+
 -- what the words ask for, if they are in the word table
 abbrev pub command : List (List ℕ) → Option Command
 command [] = None
@@ -104,4 +114,5 @@ command (name ∷ words) =
     if bytes_eq name (codes "read") then read_words words
     else (if bytes_eq name (codes "list") then list_words words
     else (if bytes_eq name (codes "send") then send_words words
-    else (if bytes_eq name (codes "mix") then mix_words words else None)))
+    else (if bytes_eq name (codes "mix") then mix_words words
+    else (if bytes_eq name (codes "make") then make_words words else None))))

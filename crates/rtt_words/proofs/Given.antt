@@ -3,11 +3,11 @@ use Rattle.std.proofs.Common.{◌≡◌, ◌≢◌, ◌∙◌, ◌&&◌, Bool, t
 use Rattle.std.specs.Prelude.{if◌then◌else◌}
 use Rattle.std.specs.List.{list_all}
 use Rattle.file_spec.specs.Numbers.{number, most_ssrc}
-use Rattle.command_spec.specs.Words.{Command, Mix, is_word, list_of, list_words, mix_words, payload_types, read_of, read_words, send_of, send_words, usual_pts}
+use Rattle.command_spec.specs.Words.{Command, Mix, is_word, list_of, list_words, make_words, mix_words, payload_types, read_of, read_words, send_of, send_words, usual_pts}
 use Rattle.clap.specs.Walk.{Text, first_of}
 use Rattle.clap.specs.Simple.{App, Shape, built, matches_of}
 use Rattle.clap.specs.Faults.{defaults_fault, fault_of}
-use Rattle.rtt_words.specs.Apps.{Texts, list_app, list_given, mix_app, mix_given, read_app, read_given, send_app, send_given}
+use Rattle.rtt_words.specs.Apps.{Texts, list_app, list_given, make_app, make_given, mix_app, mix_given, read_app, read_given, send_app, send_given}
 use Rattle.rtt_words.proofs.Plain.{no_types}
 use Rattle.rtt_words.proofs.Places.{both, fault_given, fault_is, rows_are, rows_given, placed, place_fault}
 
@@ -26,6 +26,9 @@ send_shape = (built send_app).top
 
 abbrev pub mix_shape : Shape
 mix_shape = (built mix_app).top
+
+abbrev pub make_shape : Shape
+make_shape = (built make_app).top
 
 -- where the test holds, the first choice is taken
 kept : (b : Bool) (answer : Option Command) → b ≡ true → answer ≡ (if b then answer else None)
@@ -106,6 +109,18 @@ mix_refused [] h = refl
 mix_refused (a ∷ []) h = absurd (h refl)
 mix_refused (a ∷ b ∷ rest) h = refl
 
+pub make_asked : (words : List Text) → list_all is_word words ≡ true → fault_given make_shape words ≡ [] → make_given (texts_given make_shape words) ≡ make_words words
+unfolding placed place_fault defaults_fault
+make_asked [] e h = cc
+make_asked (a ∷ []) e h = refl
+make_asked (a ∷ b ∷ rest) e h = cc
+
+pub make_refused : (words : List Text) → fault_given make_shape words ≢ [] → make_words words ≡ None
+unfolding placed place_fault defaults_fault
+make_refused [] h = refl
+make_refused (a ∷ []) h = absurd (h refl)
+make_refused (a ∷ b ∷ rest) h = refl
+
 -- ---- the same of the words as they come, with the name first
 
 module _ (app : App) (words : List Text) (plain : list_all is_word (drop 1 words) ≡ true) where
@@ -164,3 +179,17 @@ module _ (app : App) (words : List Text) (plain : list_all is_word (drop 1 words
       let rest = drop 1 words in
       let some_here : fault_of mix_app words ≢ [] = subst (λ (a : App). fault_of a words ≢ []) same some in
       mix_refused rest (λ none. some_here (fault_is mix_shape refl rest plain ∙ none))
+
+  pub make_taken : app ≡ make_app → (text : Texts) → fault_of app words ≡ [] → ((id : Text) → text id ≡ first_of id (matches_of app words)) → make_given text ≡ make_words (drop 1 words)
+  make_taken same text none reads =
+      let rest = drop 1 words in
+      let none_here : fault_of make_app words ≡ [] = subst (λ (a : App). fault_of a words ≡ []) same none in
+      let reads_here : (id : Text) → text id ≡ first_of id (matches_of make_app words) = subst (λ (a : App). (id : Text) → text id ≡ first_of id (matches_of a words)) same reads in
+      let given : (id : Text) → text id ≡ texts_given make_shape rest id = λ id. reads_here id ∙ ap (first_of id) (rows_are make_shape refl rest plain) in
+      ap make_given (λ i id. given id i) ∙ make_asked rest plain (sym (fault_is make_shape refl rest plain) ∙ none_here)
+
+  pub make_untaken : app ≡ make_app → fault_of app words ≢ [] → make_words (drop 1 words) ≡ None
+  make_untaken same some =
+      let rest = drop 1 words in
+      let some_here : fault_of make_app words ≢ [] = subst (λ (a : App). fault_of a words ≢ []) same some in
+      make_refused rest (λ none. some_here (fault_is make_shape refl rest plain ∙ none))

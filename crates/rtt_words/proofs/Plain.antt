@@ -2,13 +2,14 @@
 use Rattle.std.proofs.Common.{List, [], ◌∷◌, ℕ, ◌≡◌, ◌∙◌, ◌&&◌, ◌⊎◌, inl, inr, Bool, true, false, true≢false, refl, sym, ap, map, Option, Some, None, length, String, Global, string_bytes, take, drop, ◌-◌, ◌≤◌, arith}
 use Rattle.std.specs.Prelude.{if◌then◌else◌, ◌==◌, not, nat_le, nat_lt, codes, option_and_then}
 use Rattle.std.specs.List.{list_all}
+use Rattle.std.specs.Option.{option_map}
 use Rattle.std.specs.Str.Parse.{digits_value}
 use Rattle.std.proofs.lemmas.Bool.Decides.{Decides-eqb}
 use Rattle.std.specs.Str.{bytes_eq}
 use Rattle.std.proofs.lemmas.List.{take_rest}
 use Rattle.rtt_base.specs.declared.text_packets.Pts.{Pts}
 use Rattle.file_spec.specs.Numbers.{is_number, number, most_ssrc, payload_type}
-use Rattle.command_spec.specs.Words.{Command, command, if_different, is_word, list_of, list_words, mix_words, Mix, payload_types, read_of, read_words, send_of, send_words, usual_pts}
+use Rattle.command_spec.specs.Words.{Command, command, if_different, is_word, list_of, list_words, make_words, Make, mix_words, Mix, payload_types, read_of, read_words, send_of, send_words, usual_pts}
 
 abbrev Text : Type 0
 Text = List ℕ
@@ -165,6 +166,13 @@ mix_off [] e = refl
 mix_off (a ∷ []) e = under (is_word a) (Some (Mix (record { conf = a }))) (inl (off_last a e))
 mix_off (a ∷ b ∷ rest) e = refl
 
+make_off : (words : List Text) → list_all is_word words ≡ false → make_words words ≡ None
+make_off [] e = refl
+make_off (a ∷ []) e =
+    ap (λ (o : Option ℕ). option_map (λ k. Make (record { number = k })) (option_and_then (λ (n : ℕ). if nat_lt n 1 then None else Some n) o))
+    (number_off 1000 a (off_last a e))
+make_off (a ∷ b ∷ rest) e = refl
+
 choice : (b : Bool) (x y : Option Command) → x ≡ None → y ≡ None → (if b then x else y) ≡ None
 choice true x y p q = p
 choice false x y p q = q
@@ -174,7 +182,8 @@ command_off name words e =
     choice (bytes_eq name (codes "read")) (read_words words) _ (read_off words e)
     (choice (bytes_eq name (codes "list")) (list_words words) _ (list_off words e)
     (choice (bytes_eq name (codes "send")) (send_words words) _ (send_off words e)
-    (choice (bytes_eq name (codes "mix")) (mix_words words) None (mix_off words e) refl)))
+    (choice (bytes_eq name (codes "mix")) (mix_words words) _ (mix_off words e)
+    (choice (bytes_eq name (codes "make")) (make_words words) None (make_off words e) refl))))
 
 -- the same of a list of words, of which the first is the name
 pub command_off_rest : (words : List (String Global)) → 1 ≤ length words

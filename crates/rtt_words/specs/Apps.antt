@@ -1,5 +1,6 @@
 -- The arguments of each command, as `clap` sees them, and what their texts ask for.
 use Rattle.std.specs.Prelude.{ℕ, true, List, codes, Option, Some, None, option_and_then, unwrap_or}
+use Rattle.std.specs.Option.{option_map}
 use Rattle.clap.specs.Words.{App, Rule, new_app, new_rule, with_rule}
 use Rattle.clap.specs.declared.error.kind.ErrorKind.{ErrorKind}
 use Rattle.clap.specs.declared.error.kind.ErrorKind.TheVariants.{OutOfMemory}
@@ -7,8 +8,8 @@ use Rattle.rtt_words.specs.declared.words.WordFault.{WordFault}
 use Rattle.rtt_words.specs.declared.words.WordFault.TheVariants.{Wrong, NoMemory}
 use Rattle.clap.specs.Simple.{on_top}
 use Rattle.rtt_base.specs.declared.text_packets.Pts.{Pts}
-use Rattle.file_spec.specs.Numbers.{number, most_ssrc}
-use Rattle.command_spec.specs.Words.{Command, Mix, payload_types, usual_pts, read_of, list_of, send_of}
+use Rattle.file_spec.specs.Numbers.{number, number_between, most_ssrc}
+use Rattle.command_spec.specs.Words.{Command, Mix, Make, payload_types, usual_pts, read_of, list_of, send_of}
 
 -- a refusal of `clap`, by its kind
 abbrev pub fault_by : ErrorKind → WordFault
@@ -43,6 +44,10 @@ send_app =
 abbrev pub mix_app : App
 mix_app = with_rule (bare_app (codes "mix")) (required_rule (codes "CONF"))
 
+-- `make N`
+abbrev pub make_app : App
+make_app = with_rule (bare_app (codes "make")) (required_rule (codes "N"))
+
 -- ---- what is asked for where each argument has this text
 
 -- the payload types are named both or not at all
@@ -71,3 +76,6 @@ send_given text =
 
 abbrev pub mix_given : Texts → Option Command
 mix_given text = option_and_then (λ conf. Some (Mix (record { conf = conf }))) (text (codes "CONF"))
+
+abbrev pub make_given : Texts → Option Command
+make_given text = option_and_then (λ n. option_map (λ k. Make (record { number = k })) (number_between 1 1000 n)) (text (codes "N"))

@@ -4,8 +4,9 @@ use Rattle.rtt_words.specs.declared.commands.ReadWords.{ReadWords}
 use Rattle.rtt_words.specs.declared.commands.ListWords.{ListWords}
 use Rattle.rtt_words.specs.declared.commands.SendWords.{SendWords}
 use Rattle.rtt_words.specs.declared.commands.MixWords.{MixWords}
+use Rattle.rtt_words.specs.declared.commands.MakeWords.{MakeWords}
 use Rattle.rtt_words.specs.declared.commands.Command.{Command}
-use Rattle.rtt_words.specs.declared.commands.Command.TheVariants.{Read, ListRecords, Send, Mix}
+use Rattle.rtt_words.specs.declared.commands.Command.TheVariants.{Read, ListRecords, Send, Mix, Make}
 
 abbrev pub asked : ReadWords → words.ReadWords
 asked r = record { file = r.file.now; ssrc = r.ssrc; source = r.source; pts = r.pts }
@@ -19,8 +20,12 @@ sent s = record { script = s.script.now; out = s.out.now; ssrc = s.ssrc; seq = s
 abbrev pub mixed : MixWords → words.MixWords
 mixed m = record { conf = m.conf.now }
 
+abbrev pub made : MakeWords → words.MakeWords
+made m = record { number = m.number }
+
 abbrev pub meaning : Command → words.Command
 meaning (Read r) = words.Read (asked r)
 meaning (ListRecords l) = words.ListRecords (listed l)
 meaning (Send s) = words.Send (sent s)
 meaning (Mix m) = words.Mix (mixed m)
+meaning (Make m) = words.Make (made m)

@@ -42,6 +42,13 @@ pub struct MixWords<'a> {
     pub conf: &'a str,
 }
 
+/// What `make` is asked for.
+#[derive(Clone, Copy, Debug, PartialEq, Eq)]
+pub struct MakeWords {
+    /// The number that the conference is made from, 1 to 1000.
+    pub number: u32,
+}
+
 /// A command, with the words after its name.
 #[derive(Clone, Copy, Debug, PartialEq, Eq)]
 pub enum Command<'a> {
@@ -53,4 +60,6 @@ pub enum Command<'a> {
     Send(SendWords<'a>),
     /// Mixes a conference over recordings.
     Mix(MixWords<'a>),
+    /// Mixes a conference that is made from a number.
+    Make(MakeWords),
 }

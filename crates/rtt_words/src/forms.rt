@@ -2,8 +2,8 @@
 ghost use Rattle.std.specs.Prelude.{◌≡◌, ◌≢◌, List, ℕ, [], true, false, map, string_bytes, IfOk, drop};
 ghost use Rattle.std.specs.List.{list_all};
 ghost use Rattle.clap.specs.Words.{app_of, fault_of, first_of, first_value, found_of, is_simple_and_free, matches_of, new_rule, rule_of};
-ghost use Rattle.command_spec.specs.Words.{is_word, read_words, list_words, send_words, mix_words};
-ghost use Rattle.rtt_words.specs.Apps.{bare_app, required_rule, read_app, list_app, send_app, mix_app, read_given, list_given, send_given, mix_given};
+ghost use Rattle.command_spec.specs.Words.{is_word, read_words, list_words, send_words, mix_words, make_words};
+ghost use Rattle.rtt_words.specs.Apps.{bare_app, required_rule, read_app, list_app, send_app, mix_app, make_app, read_given, list_given, send_given, mix_given, make_given};
 
 use crate::WordFault;
 use clap::{Arg, ArgMatches, Command};
@@ -77,6 +77,14 @@ fn mix_form<'a>(alloc: Global) -> Result<Command<'a>, AllocError>
     Ok(command)
 }
 
+/// `make N`.
+fn make_form<'a>(alloc: Global) -> Result<Command<'a>, AllocError>
+    ensures { IfOk result (λ c. app_of c ≡ make_app) }
+{
+    let command = bare(alloc, "make").arg(required(alloc, "N"))?;
+    Ok(command)
+}
+
 /// The arguments' texts among the words, of which the first is the command's name.
 fn matches_for<'a>(command: Command<'a>, words: &'a [String]) -> Result<ArgMatches<'a>, WordFault>
     requires { is_simple_and_free (app_of command) ≡ true }
@@ -122,4 +130,13 @@ pub(crate) fn mix_matches(alloc: Global, words: &[String]) -> Result<ArgMatches<
     ensures wrong { result ≡ Err WordFault.Wrong → mix_words (drop 1 (map string_bytes words.now)) ≡ None }
 {
     matches_for(mix_form(alloc)?, words)
+}
+
+/// The arguments of a `make`, where it takes so many words. The first word is its name.
+pub(crate) fn make_matches(alloc: Global, words: &[String]) -> Result<ArgMatches<'_>, WordFault>
+    requires { list_all is_word (drop 1 (map string_bytes words.now)) ≡ true }
+    ensures given { IfOk result (λ m. make_given (first_value (found_of m)) ≡ make_words (drop 1 (map string_bytes words.now))) }
+    ensures wrong { result ≡ Err WordFault.Wrong → make_words (drop 1 (map string_bytes words.now)) ≡ None }
+{
+    matches_for(make_form(alloc)?, words)
 }

@@ -1,4 +1,4 @@
-use crate::{Command, ListWords, MixWords, ReadWords, SendWords, WordFault, command_of};
+use crate::{Command, ListWords, MakeWords, MixWords, ReadWords, SendWords, WordFault, command_of};
 use rtt_base::Pts;
 use std::alloc::Global;
 use std::test::Fail;
@@ -84,6 +84,14 @@ fn a_mix_names_a_conference(rt: HostRuntime) -> Result<(), Fail> {
 }
 
 #[test]
+fn a_make_names_a_number(rt: HostRuntime) -> Result<(), Fail> {
+    let make = |number: u32| Command::Make(MakeWords { number });
+    assert!(rt; asks(rt.alloc(), "make 1", make(1))?);
+    assert!(rt; asks(rt.alloc(), "make 0001000", make(1000))?);
+    Ok(())
+}
+
+#[test]
 fn no_words_ask_for_nothing(rt: HostRuntime) -> Result<(), Fail> {
     let words: [String; 0] = [];
     let asked = command_of(rt.alloc(), words.as_slice());
@@ -108,6 +116,8 @@ fn too_few_and_too_many_words_are_wrong(rt: HostRuntime) -> Result<(), Fail> {
     assert!(rt; is_wrong(rt.alloc(), "list a.rtp 98")?);
     assert!(rt; is_wrong(rt.alloc(), "mix")?);
     assert!(rt; is_wrong(rt.alloc(), "mix a b")?);
+    assert!(rt; is_wrong(rt.alloc(), "make")?);
+    assert!(rt; is_wrong(rt.alloc(), "make 1 2")?);
     Ok(())
 }
 
@@ -126,5 +136,8 @@ fn numbers_outside_their_range_are_wrong(rt: HostRuntime) -> Result<(), Fail> {
     assert!(rt; is_wrong(rt.alloc(), "list a.rtp 95 100")?);
     assert!(rt; is_wrong(rt.alloc(), "list a.rtp 98 98")?);
     assert!(rt; is_wrong(rt.alloc(), "send s o 1 65536 0")?);
+    assert!(rt; is_wrong(rt.alloc(), "make 0")?);
+    assert!(rt; is_wrong(rt.alloc(), "make 1001")?);
+    assert!(rt; is_wrong(rt.alloc(), "make x")?);
     Ok(())
 }

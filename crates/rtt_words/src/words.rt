@@ -3,16 +3,16 @@ ghost use Rattle.std.specs.Prelude.{◌≡◌, [], ◌∷◌, map, string_bytes,
 ghost use Rattle.std.specs.List.{list_all};
 ghost use Rattle.std.specs.Option.{option_map};
 ghost use Rattle.clap.specs.Words.{first_value, found_of};
-ghost use Rattle.command_spec.specs.Words.{Read, ListRecords, Send, Mix, command, is_word, payload_types, read_words, list_words, send_words, mix_words};
-ghost use Rattle.rtt_words.specs.Apps.{pts_given, read_given, list_given, send_given, mix_given};
-ghost use Rattle.rtt_words.specs.Commands.{asked, listed, sent, mixed, meaning};
+ghost use Rattle.command_spec.specs.Words.{Read, ListRecords, Send, Mix, Make, command, is_word, payload_types, read_words, list_words, send_words, mix_words, make_words};
+ghost use Rattle.rtt_words.specs.Apps.{pts_given, read_given, list_given, send_given, mix_given, make_given};
+ghost use Rattle.rtt_words.specs.Commands.{asked, listed, sent, mixed, made, meaning};
 
-use crate::forms::{list_matches, mix_matches, read_matches, send_matches};
-use crate::{Command, ListWords, MixWords, ReadWords, SendWords};
+use crate::forms::{list_matches, make_matches, mix_matches, read_matches, send_matches};
+use crate::{Command, ListWords, MakeWords, MixWords, ReadWords, SendWords};
 use clap::ArgMatches;
 use clap::error::ErrorKind;
 use file_spec::limits::{USUAL_RED, USUAL_T140};
-use numerals::{number_of, pts_of};
+use numerals::{number_from, number_of, pts_of};
 use rtt_base::Pts;
 use std::alloc::{AllocError, Global};
 use thiserror::Error;
@@ -148,6 +148,14 @@ fn mix_matched<'a>(matches: &ArgMatches<'a>) -> Option<MixWords<'a>>
     Some(MixWords { conf })
 }
 
+/// A `make` with this argument, if its number is in range.
+fn make_matched(matches: &ArgMatches<'_>) -> Option<MakeWords>
+    ensures { option_map (λ m. Make (made m)) result ≡ make_given (first_value (found_of matches.now)) }
+{
+    let number = number_from(matches.get_str("N")?, 1, 1000)?;
+    Some(MakeWords { number })
+}
+
 /// A `read`, where the words after its name are in its rows.
 fn read_command(alloc: Global, words: &[String]) -> Result<ReadWords<'_>, WordFault>
     requires { list_all is_word (drop 1 (map string_bytes words.now)) ≡ true }
@@ -188,6 +196,16 @@ fn mix_command(alloc: Global, words: &[String]) -> Result<MixWords<'_>, WordFaul
     mix_matched(&matches).ok_or(WordFault::Wrong)
 }
 
+/// A `make`, where the words after its name are in its row.
+fn make_command(alloc: Global, words: &[String]) -> Result<MakeWords, WordFault>
+    requires { list_all is_word (drop 1 (map string_bytes words.now)) ≡ true }
+    ensures asked { IfOk result (λ m. make_words (drop 1 (map string_bytes words.now)) ≡ Some (Make (made m))) }
+    ensures wrong { result ≡ Err WordFault.Wrong → make_words (drop 1 (map string_bytes words.now)) ≡ None }
+{
+    let matches = make_matches(alloc, words)?;
+    make_matched(&matches).ok_or(WordFault::Wrong)
+}
+
 /// The command of this name, where the words after the first are in its rows.
 fn named<'a>(alloc: Global, name: &str, words: &'a [String]) -> Result<Command<'a>, WordFault>
     requires { list_all is_word (drop 1 (map string_bytes words.now)) ≡ true }
@@ -199,6 +217,7 @@ fn named<'a>(alloc: Global, name: &str, words: &'a [String]) -> Result<Command<'
         "list" => Ok(Command::ListRecords(list_command(alloc, words)?)),
         "send" => Ok(Command::Send(send_command(alloc, words)?)),
         "mix" => Ok(Command::Mix(mix_command(alloc, words)?)),
+        "make" => Ok(Command::Make(make_command(alloc, words)?)),
         _ => Err(WordFault::Wrong),
     }
 }
