@@ -4,6 +4,7 @@ use Rattle.stream_spec.specs.Lists.{In}
 use Rattle.stream_spec.specs.Own.{Sent, Stream, sent_of, nth, has_text_in}
 use Rattle.red_window.specs.Standing.{kept_last}
 use Rattle.aware_output.specs.declared.speakers.Speaker.{Speaker}
+use Rattle.rtt_base.specs.declared.limits.TheConstants.{MOST_TEXT_OCTETS}
 
 -- each is another than those behind it
 abbrev pub AreDistinct : List ℕ → Type 0
@@ -23,7 +24,7 @@ text_of sources source media text = record { source = slice_index sources source
 pub record IsNext (c : Stream) (past : List Sent) (e : Sent) : Type 0 where
   pub later : (x : Sent) → In x past → (x.media < e.media) × (e.media < x.media + 2 ^ 31)
   pub near : has_text_in c.gens (sent_of e.source past) ≡ true → IfSome (nth 0 (sent_of e.source past)) (λ last. e.media ≤ last.media + 5000)
-  pub text : (length e.text ≤ 1023) × IsUtf8 e.text
+  pub text : (length e.text ≤ MOST_TEXT_OCTETS) × IsUtf8 e.text
 
 -- each of these could be sent after those before it
 abbrev pub EachIsNext : Stream → List Sent → Type 0

@@ -14,6 +14,7 @@ use Rattle.mixer_turn.specs.Standing.{StandsFor}
 use Rattle.mixer_turn.specs.Turns.{HasBatch, OfCalls}
 use Rattle.bridge_run.specs.Logging.{ArePosts, LogsPosts}
 use Rattle.bridge_run.proofs.Logged.{turn_logged, are_posts}
+use Rattle.rtt_base.specs.declared.limits.TheConstants.{MOST_TEXT_OCTETS}
 
 pub ok_is : {E : Type 0} (r : Result (Unit {0}) E) (b : Bool) → (IsOk r ↔ (b ≡ true)) → is_ok r ≡ b
 ok_is (Ok x) true e = refl
@@ -21,7 +22,7 @@ ok_is (Ok x) false e = absurd (true≢false (sym (e.0 refl)))
 ok_is (Err x) true e = absurd (true≢false (sym (e.1 refl)))
 ok_is (Err x) false e = refl
 
-pub offered_text : (leg : ℕ) (c : Chunk) (octets : List ℕ) → IsOf leg c → octets ≡ c.text → length octets ≤ 1023 → IsOffer c
+pub offered_text : (leg : ℕ) (c : Chunk) (octets : List ℕ) → IsOf leg c → octets ≡ c.text → length octets ≤ MOST_TEXT_OCTETS → IsOffer c
 offered_text leg c octets h e few = record { some = h.text; utf8 = h.utf8; short = (let same = ap (λ (xs : List ℕ). length xs) e in omega (arith, same, few)) }
 
 -- what a turn sends was appended, whatever the mixer stands for

@@ -24,18 +24,20 @@ use crate::{MixFault, Mixed};
 use conf_text::Conf;
 use leg_items::{LegInlet, mix_plain};
 use mix_loop::{Log, Mixing, Port};
+use mixer_spec::limits::MOST_INPUT_OF_MANY;
 use rtt_io::{Gate, Source, World};
 use std::alloc::Global;
 use std::sync::Wait;
+use wire_spec::limits::MOST_RECORDING_OCTETS;
 
 /// The most octets that an input may have.
 fn input_limit(conf: &Conf) -> u32
     ensures { result ≡ input_limit (conf_of conf.now) }
 {
     if conf.legs.len() > 16 {
-        1_048_576
+        MOST_INPUT_OF_MANY
     } else {
-        4_194_304
+        MOST_RECORDING_OCTETS
     }
 }
 

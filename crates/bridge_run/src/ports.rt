@@ -5,6 +5,8 @@ ghost use Rattle.mix_loop.specs.declared.ports.Port.{Port};
 ghost use Rattle.leg_items.specs.declared.inlets.LegInlet.{LegInlet};
 ghost use Rattle.leg_items.specs.Answers.{source_at};
 ghost use Rattle.bridge_run.specs.Opened.{AllOpened, AreCalm, IsNotOpened, IsOpened, IsRefused};
+ghost use Rattle.rtt_base.specs.declared.limits.TheConstants.{LONGEST_WAIT};
+ghost use Rattle.wire_spec.specs.declared.limits.TheConstants.{MOST_RECORDING_OCTETS};
 
 use crate::MixFault;
 use ear::EarConf;
@@ -24,8 +26,8 @@ fn open_port<W: World>(
     limit: u32,
     world: &mut W,
 ) -> Result<Port<LegInlet<W::Src>>, MixFault>
-    requires wait { wait ≤ 10000 }
-    requires limit { limit ≤ 4194304 }
+    requires wait { wait ≤ LONGEST_WAIT }
+    requires limit { limit ≤ MOST_RECORDING_OCTETS }
     ensures opened { IfOk result (IsOpened W.tells W.Src.left W.Src.faults W.Src.name (W.contents world.old) wait limit place leg.now) }
     ensures shown { W.tells → OnOk result W.Src.tells }
     ensures refused { IfErr result (IsRefused (W.own_faults world.old) (W.own_faults world.new) place leg.now) }
@@ -62,8 +64,8 @@ pub fn open_ports<W: World>(
     world: &mut W,
 ) -> Result<Vec<Port<LegInlet<W::Src>>>, MixFault>
     requires few { length legs.now ≤ 64 }
-    requires wait { wait ≤ 10000 }
-    requires limit { limit ≤ 4194304 }
+    requires wait { wait ≤ LONGEST_WAIT }
+    requires limit { limit ≤ MOST_RECORDING_OCTETS }
     ensures legs { IfOk result (λ ports. length ports.items ≡ length legs.now) }
     ensures opened { IfOk result (λ ports. AllOpened W.tells W.Src.left W.Src.faults W.Src.name (W.contents world.old) wait limit legs.now ports.items) }
     ensures shown { W.tells → OnOk result (0 < length legs.now → W.Src.tells) }

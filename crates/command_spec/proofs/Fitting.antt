@@ -13,6 +13,7 @@ use Rattle.wire_spec.specs.SentPackets.{payload_sent, head_of, packet_written, F
 use Rattle.stream_spec.specs.Lists.{In}
 use Rattle.stream_spec.specs.Own.{Sent, Stream, sent_of, nth, repeat_of, repeats, Sendable, packet_after}
 use Rattle.stream_spec.proofs.Sent.{in_sent_of}
+use Rattle.rtt_base.specs.declared.limits.TheConstants.{MOST_PACKET_OCTETS, MOST_TEXT_OCTETS}
 
 take_in : (n : ℕ) (zs : List Sent) (z : Sent) → In z (take n zs) → In z zs
 take_in zero zs z i = absurd i
@@ -26,14 +27,14 @@ nth_in (suc n) k [] z l e = cc e
 nth_in (suc n) zero (y ∷ zs) z l e = inl (let q : y ≡ z = cc e in sym q)
 nth_in (suc n) (suc k) (y ∷ zs) z l e = inr (nth_in n k zs z (omega arith) e)
 
-text_sent : (c : Stream) (zs : List Sent) (z : Sent) → Sendable c zs → In z zs → (length z.text ≤ 1023) × IsUtf8 z.text
+text_sent : (c : Stream) (zs : List Sent) (z : Sent) → Sendable c zs → In z zs → (length z.text ≤ MOST_TEXT_OCTETS) × IsUtf8 z.text
 text_sent c [] z s i = absurd i
-text_sent c (y ∷ zs) z s (inl q) = subst (λ (x : Sent). (length x.text ≤ 1023) × IsUtf8 x.text) (sym q) s.0.text
+text_sent c (y ∷ zs) z s (inl q) = subst (λ (x : Sent). (length x.text ≤ MOST_TEXT_OCTETS) × IsUtf8 x.text) (sym q) s.0.text
 text_sent c (y ∷ zs) z s (inr i) = text_sent c zs z s.1 i
 
 -- what was sent may be repeated at this media time
 abbrev IsNearText : ℕ → Sent → Type 0
-IsNearText media z = ((length z.text ≤ 1023) × IsUtf8 z.text) × (has_text z.text ≡ true → media ≤ z.media + 16383)
+IsNearText media z = ((length z.text ≤ MOST_TEXT_OCTETS) × IsUtf8 z.text) × (has_text z.text ≡ true → media ≤ z.media + 16383)
 
 redundant_is : (media : ℕ) (o : Option Sent) → ((z : Sent) → o ≡ Some z → IsNearText media z) → IsRedundant (repeat_of media o)
 redundant_is media None f = (omega arith, (omega arith, IsUtf8-nil))
@@ -82,7 +83,7 @@ spelling_size t140 older text =
     let headers = headers_size t140 older in
     omega (arith, headers, length-append (flat_map (red_header t140) older) (t140 ∷ (text_octets older ++ text)), length-append (text_octets older) text)
 
-texts_size : (bs : List TextBlock) → AllByRecursion IsRedundant bs → length (text_octets bs) ≤ 1023 * length bs
+texts_size : (bs : List TextBlock) → AllByRecursion IsRedundant bs → length (text_octets bs) ≤ MOST_TEXT_OCTETS * length bs
 texts_size [] a = omega arith
 texts_size (b ∷ bs) a = let r = texts_size bs a.1 in omega (arith, a.0.1.0, r, length-append b.text (text_octets bs))
 
@@ -93,11 +94,11 @@ head_size h payload = let r = go h.csrc in omega (arith, r)
     go None = omega arith
     go (Some s) = omega arith
 
-payload_size : (pts : Pts) (older : List TextBlock) (text : List ℕ) → AllByRecursion IsRedundant older → length older ≤ 3 → length text ≤ 1023 → length (payload_sent pts older text) ≤ 4105
+payload_size : (pts : Pts) (older : List TextBlock) (text : List ℕ) → AllByRecursion IsRedundant older → length older ≤ 3 → length text ≤ MOST_TEXT_OCTETS → length (payload_sent pts older text) ≤ 4105
 payload_size pts [] text a l t = omega arith
 payload_size pts (b ∷ bs) text a l t = omega (arith, spelling_size pts.t140 (b ∷ bs) text, texts_size (b ∷ bs) a)
 
-pub few_octets : (pts : Pts) (c : Stream) (past : List Sent) (e : Sent) → c.gens ≤ 3 → Sendable c (e ∷ past) → length (packet_written pts (packet_after c past e)) ≤ 4224
+pub few_octets : (pts : Pts) (c : Stream) (past : List Sent) (e : Sent) → c.gens ≤ 3 → Sendable c (e ∷ past) → length (packet_written pts (packet_after c past e)) ≤ MOST_PACKET_OCTETS
 few_octets pts c past e l s =
     let p = packet_after c past e in
     let older = older_fits c.gens c.gens e.media (sent_of e.source past) (omega arith) (near_each c past e s) in

@@ -21,6 +21,7 @@ use Rattle.mixer_spec.proofs.Kept.{entered_same, stopped_same, gone_same}
 use Rattle.command_spec.specs.declared.faults.Refusal.TheVariants.{AtByte}
 use Rattle.command_spec.specs.Work.{Contents, Made, Steps, Reads, Refuses, Makes, IsOutput, IsNth}
 use Rattle.command_spec.specs.Mixing.{out_of, views, outs, makes, input_at, unless_one_broken, mixes, reads_inputs, mixes_read, mixing}
+use Rattle.mixer_spec.specs.declared.limits.TheConstants.{MOST_INPUT_OF_MANY}
 
 -- ---- where no leg says anything, mixing is over at once
 -- nobody has anything to offer, and nothing was sent or waits
@@ -109,7 +110,7 @@ none_heard c inputs i e = ap (λ (a : List Arrival). in_stay (setup c) i (chunks
 limit_is : (c : Conf) → 44 ≤ input_limit c
 limit_is c = go (nat_lt 16 (length c.legs))
   where
-    go : (b : Bool) → 44 ≤ cond b 1048576 usual_limit
+    go : (b : Bool) → 44 ≤ cond b MOST_INPUT_OF_MANY usual_limit
     go true = omega arith
     go false = omega arith
 

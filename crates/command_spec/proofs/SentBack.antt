@@ -29,6 +29,8 @@ use Rattle.command_spec.specs.Mixing.{sent_to}
 use Rattle.command_spec.specs.Bridges.{Bridge, setup_of, told_to, records_of, IsOut}
 use Rattle.command_spec.proofs.Fitting.{packet_fits, few_octets}
 use Rattle.command_spec.proofs.Ssrcs.{HasSsrcs}
+use Rattle.rtt_base.specs.declared.limits.TheConstants.{MOST_PACKET_OCTETS}
+use Rattle.wire_spec.specs.declared.limits.TheConstants.{LAST_RECORD_MOMENT}
 
 -- ---- legs by their numbers
 pub below_legs : (legs : List LegLine) (j : ℕ) (leg : LegLine) → leg_at legs j ≡ Some leg → j < length legs
@@ -50,7 +52,7 @@ ssrc_fits (l ∷ legs) (suc k) a = ssrc_fits legs k (All-tail (λ l. l.ssrc < 2 
 pub record IsBack (ssrc : ℕ) (pts : Pts) (a : Arrival) : Type 0 where
   pub text_is : text_of (packet_written pts a.packet) (Some ssrc) pts ≡ Ok a.packet
   pub some : 0 < length (packet_written pts a.packet)
-  pub few : length (packet_written pts a.packet) ≤ 4224
+  pub few : length (packet_written pts a.packet) ≤ MOST_PACKET_OCTETS
 
 packet_back : (s : Setup) (j : ℕ) (pts : Pts) (past : List Mixed) (e : Mixed) → s.gens j ≤ 3 → s.mixer < 2 ^ 32 → AreTwoTypes pts → e.sent.source < 2 ^ 32 → Sendable (stream s j) (sents (e ∷ past))
     → IsBack s.mixer pts (record { time = e.at; packet = packet_after (stream s j) (sents past) e.sent })
@@ -105,11 +107,11 @@ map_twice : {X Y Z : Type 0} (f : Y → Z) (g : X → Y) (xs : List X) → map f
 map_twice f g [] = refl
 map_twice f g (x ∷ xs) = ap (λ zs. f (g x) ∷ zs) (map_twice f g xs)
 
-fit : (ssrc : ℕ) (pts : Pts) (sent : List Arrival) → AllByRecursion (IsBack ssrc pts) sent → All (λ r. r.0 ≤ 14400000) (map (record_of pts) sent) → AllByRecursion FitsRecord (map (record_of pts) sent)
+fit : (ssrc : ℕ) (pts : Pts) (sent : List Arrival) → AllByRecursion (IsBack ssrc pts) sent → All (λ r. r.0 ≤ LAST_RECORD_MOMENT) (map (record_of pts) sent) → AllByRecursion FitsRecord (map (record_of pts) sent)
 fit ssrc pts [] b a = tt
 fit ssrc pts (x ∷ sent) b a = (
-  record { time = All-head (λ r. r.0 ≤ 14400000) (record_of pts x) (map (record_of pts) sent) a; some = b.0.some; few = b.0.few },
-  fit ssrc pts sent b.1 (All-tail (λ r. r.0 ≤ 14400000) (record_of pts x) (map (record_of pts) sent) a),
+  record { time = All-head (λ r. r.0 ≤ LAST_RECORD_MOMENT) (record_of pts x) (map (record_of pts) sent) a; some = b.0.some; few = b.0.few },
+  fit ssrc pts sent b.1 (All-tail (λ r. r.0 ≤ LAST_RECORD_MOMENT) (record_of pts x) (map (record_of pts) sent) a),
 )
 
 pub out_is : (b : Bridge) (j : ℕ) (leg : LegLine) → AllByRecursion (IsBack b.conference.mixer.ssrc leg.pts) (sent_to b.conference b.table j)

@@ -7,7 +7,7 @@ use Rattle.std.specs.Str.{is_utf8}
 use Rattle.std.specs.Str.Lines.{lines}
 use Rattle.std.proofs.lemmas.List.Elements.{All-nil, All-push}
 use Rattle.rtt_base.specs.declared.text_packets.Pts.{Pts}
-use Rattle.file_spec.specs.declared.limits.TheConstants.{FEWEST_LEGS, LEAST_TICK, MOST_TICK, LEAST_SPACING, MOST_SPACING, LONGEST_WAIT, MOST_TURNS, USUAL_GENS, MOST_CONF_OCTETS}
+use Rattle.file_spec.specs.declared.limits.TheConstants.{FEWEST_LEGS, LEAST_TICK, MOST_TICK, LEAST_SPACING, MOST_SPACING, MOST_TURNS, USUAL_GENS, MOST_CONF_OCTETS}
 use Rattle.file_spec.specs.declared.kinds.ConfKind.{ConfKind}
 use Rattle.file_spec.specs.declared.kinds.ConfKind.TheVariants.{NotText, Word, Name, Number, Many, Twice, Clash, Few, Crowd, Large}
 use Rattle.file_spec.specs.declared.conf_lines.Form.{Form}
@@ -22,6 +22,7 @@ use Rattle.file_spec.specs.Stays.{is_crowd}
 use Rattle.file_spec.specs.Conf.{Above, Conf, Entry, Leg, Gens, Stays, Tick, Spacing, Wait, Turns, Mixer, Plan, says, time_or_other, stay_or_plan, nothing, with_entry, change_leg, with_gens, with_stay, setting, mixer, mixer_of, has_names, has_port, clashes, most_legs, new_leg, aware_of, whole_stay, usual_types, leg_of, leg, gens, stay, plan_word, entry, is_blank, and_line, whole, complete, conf}
 use Rattle.rtt_base.proofs.Steps.{bind_ok}
 use Rattle.file_spec.proofs.Passed.{unless_ok, ok_or_ok, number_most}
+use Rattle.rtt_base.specs.declared.limits.TheConstants.{LONGEST_WAIT}
 
 -- ---- what the lines so far have
 record AreSsrcs (legs : List LegLine) (said : Option MixerLine) : Type 0 where

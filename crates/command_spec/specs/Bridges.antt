@@ -5,7 +5,6 @@ use Rattle.std.specs.List.{AllZip, concat, enumerate_from}
 use Rattle.wire_spec.specs.Packets.{Arrival}
 use Rattle.wire_spec.specs.Text.{text_of}
 use Rattle.wire_spec.specs.Dump.{dump, dump_written, sent_item}
-use Rattle.file_spec.specs.declared.limits.TheConstants.{LAST_MOMENT}
 use Rattle.file_spec.specs.declared.conf_lines.Form.TheVariants.{Files}
 use Rattle.file_spec.specs.declared.conf_lines.LegLine.{LegLine}
 use Rattle.file_spec.specs.Conf.{Conf, conf}
@@ -25,6 +24,7 @@ use Rattle.mixer_spec.specs.Headline.{Hop, IsHop, hears, OneHop, Headline}
 use Rattle.mixer_spec.specs.Bridged.{Bridged, BridgedAsOne, IsConferenceMixed, IsPair, before, hop_from, hop_to, input_limit, leg_heard, told_by_packets}
 use Rattle.command_spec.specs.Work.{Contents}
 use Rattle.command_spec.specs.Mixing.{sent_to, records_to, input_at}
+use Rattle.wire_spec.specs.declared.limits.TheConstants.{LAST_RECORD_MOMENT}
 
 -- A conference, the octets of its inputs in leg order, and the table when mixing them was over.
 pub record Bridge : Type 0 where
@@ -80,7 +80,7 @@ pub record IsOut (b : Bridge) (j : ℕ) (leg : LegLine) (octets : List ℕ) : Ty
   pub is : octets ≡ dump_written (records_of b j leg)
   pub packets : map (λ r. text_of r.1 (Some b.conference.mixer.ssrc) leg.pts) (records_of b j leg)
       ≡ map (λ x. Ok (own_packet (told_to b j) x)) (placed (told_to b j))
-  pub read_back : (limit : ℕ) → All (λ r. r.0 ≤ LAST_MOMENT) (records_of b j leg) → length octets ≤ limit
+  pub read_back : (limit : ℕ) → All (λ r. r.0 ≤ LAST_RECORD_MOMENT) (records_of b j leg) → length octets ≤ limit
       → dump limit octets ≡ record { items = map sent_item (records_of b j leg); fault = None }
 
 -- ---- what is seen

@@ -7,7 +7,8 @@ use Rattle.file_spec.specs.declared.conf_lines.MixerLine.{MixerLine}
 use Rattle.file_spec.specs.declared.conf_lines.PlanLine.{PlanLine}
 use Rattle.file_spec.specs.declared.conf_lines.What.{What}
 use Rattle.file_spec.specs.declared.conf_lines.What.TheVariants.{Lose, Delay, Twice}
-use Rattle.file_spec.specs.declared.limits.TheConstants.{MOST_TURNS, USUAL_GENS, USUAL_SPACING, USUAL_TICK, USUAL_WAIT}
+use Rattle.file_spec.specs.declared.limits.TheConstants.{MOST_TURNS, USUAL_GENS, USUAL_SPACING, USUAL_TICK}
+use Rattle.rtt_base.specs.declared.limits.TheConstants.{USUAL_WAIT}
 use Rattle.file_spec.specs.Conf.{Conf, is_same_packet, usual_types, whole_stay}
 use Rattle.file_spec.specs.Script.{ScriptLine}
 use Rattle.command_spec.specs.Draws.{Drawing, draw, give, times, ◌>>=◌}

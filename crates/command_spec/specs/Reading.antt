@@ -14,10 +14,11 @@ use Rattle.command_spec.specs.declared.requests.ReadRequest.{ReadRequest}
 use Rattle.command_spec.specs.Seen.{Reception}
 use Rattle.command_spec.specs.Seen as seen
 pub use Rattle.command_spec.specs.Seen.{Fate, Text, Refused, Foreigner, NoPacket, fate_of, is_packet, is_refused, is_foreign, many, counts_over}
+use Rattle.rtt_base.specs.declared.limits.TheConstants.{USUAL_WAIT}
 
 -- how long a gap in the numbers is waited for, in milliseconds
 abbrev pub usual_wait : ℕ
-usual_wait = 1000
+usual_wait = USUAL_WAIT
 
 -- who reads is a terminal that hears the stream
 abbrev pub reception : ReadRequest → Reception

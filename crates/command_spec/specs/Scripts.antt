@@ -10,7 +10,9 @@ use Rattle.stream_spec.specs.History.{History}
 use Rattle.stream_spec.specs.Own.{Stream, packet_after}
 use Rattle.stream_spec.specs.Typed.{Event, Text, Ask, Turned, sents, entries, waiting, has_more, history_typed}
 use Rattle.wire_spec.specs.SentPackets.{packet_written}
+use Rattle.stream_spec.specs.declared.limits.TheConstants.{MOST_WAITING_OCTETS}
 use Rattle.command_spec.specs.Words.{usual_pts}
+use Rattle.command_spec.specs.declared.limits.TheConstants.{USUAL_INTERVAL}
 
 -- what sends a script: a stream, the least time between two packets in milliseconds, and the payload types
 pub record Sending : Type 0 where
@@ -18,11 +20,11 @@ pub record Sending : Type 0 where
   pub interval : ℕ
   pub pts : Pts
 
--- two generations, at most one packet in 300 ms, and the usual payload types, with this SSRC, first sequence number and
+-- two generations, at most one packet in the usual time, and the usual payload types, with this SSRC, first sequence number and
 -- timestamp at time 0
 abbrev pub usual_sending : ℕ → ℕ → ℕ → Sending
 usual_sending ssrc seq stamp =
-    record { stream = record { ssrc = ssrc; first = seq; base = stamp; gens = 2 }; interval = 300; pts = usual_pts }
+    record { stream = record { ssrc = ssrc; first = seq; base = stamp; gens = 2 }; interval = USUAL_INTERVAL; pts = usual_pts }
 
 -- ---- what a script asks of a sender
 
@@ -65,7 +67,7 @@ events_through lines t = Ask t ∷ events_until lines t
 abbrev pub full_below : Sending → List ScriptLine → List ScriptLine → Option ℕ
 full_below s above [] = None
 full_below s above (line ∷ more) =
-    if nat_lt 16384 (length (waiting s.stream s.interval (events_until above line.at)) + length line.text)
+    if nat_lt MOST_WAITING_OCTETS (length (waiting s.stream s.interval (events_until above line.at)) + length line.text)
     then Some line.line
     else full_below s (above ++ line ∷ []) more
 

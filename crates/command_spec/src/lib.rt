@@ -3,6 +3,7 @@
 
 mod faults;
 pub mod laws;
+pub mod limits;
 mod requests;
 
 pub use faults::{Fault, Refusal};

@@ -13,10 +13,9 @@ use crate::entries::read_entry;
 use crate::{Conf, ConfFault, ConfKind};
 use file_lines::{next_line, says_nothing, text_of};
 use file_spec::Form;
-use file_spec::limits::{
-    FEWEST_LEGS, MOST_CONF_OCTETS, MOST_TURNS, USUAL_SPACING, USUAL_TICK, USUAL_WAIT,
-};
+use file_spec::limits::{FEWEST_LEGS, MOST_CONF_OCTETS, MOST_TURNS, USUAL_SPACING, USUAL_TICK};
 use rtt_base::NoMemory;
+use rtt_base::limits::USUAL_WAIT;
 use std::alloc::Global;
 
 fn all_spaces(line: &[u8]) -> bool

@@ -17,6 +17,7 @@ use Rattle.wire_spec.specs.Red.{red, headers_at, texts_at, blocks_at, all_utf8, 
 use Rattle.wire_spec.specs.Text.{text_of, text_of_short, refused_as, accepted, text_packet}
 use Rattle.wire_spec.specs.declared.headers.RedHeader.{RedHeader}
 use Rattle.wire_spec.specs.Faults.{header_fault, blocks_fault}
+use Rattle.rtt_base.specs.declared.limits.TheConstants.{MOST_PACKET_OCTETS, MOST_TEXT_OCTETS}
 
 refused_ok : {A E : Type 0} (fault : E → TextFault) (r : Result A E) (x : A) → refused_as fault r ≡ Ok x → r ≡ Ok x
 refused_ok fault (Ok y) x e = cc
@@ -42,7 +43,7 @@ checked_ok blocks bs e = go (all_utf8 blocks) refl e
 texts_ok : (hs : List RedHeader) (octets : List ℕ) (bs : List TextBlock) → texts_at hs octets ≡ Ok bs → all_utf8 bs ≡ true
 unfolding texts_at
 texts_ok hs octets bs e =
-    checked_ok (blocks_at hs octets) bs (past_refusal (nat_lt (older_size hs + 1023) (length octets)) red_faults.Long _ bs
+    checked_ok (blocks_at hs octets) bs (past_refusal (nat_lt (older_size hs + MOST_TEXT_OCTETS) (length octets)) red_faults.Long _ bs
     (past_refusal (nat_lt (length octets) (older_size hs)) red_faults.Cut _ bs e))
 
 red_ok : (octets : List ℕ) (pt : ℕ) (pts : Pts) (bs : List TextBlock) → red octets pt pts ≡ Ok bs → all_utf8 bs ≡ true
@@ -75,4 +76,4 @@ short_ok octets asked pts p e =
 
 pub accepted_text : (octets : List ℕ) (asked : Option ℕ) (pts : Pts) (p : Packet) → text_of octets asked pts ≡ Ok p → IsTextPacket p
 unfolding text_of
-accepted_text octets asked pts p e = short_ok octets asked pts p (past_refusal (nat_lt 4224 (length octets)) text_faults.Long _ p e)
+accepted_text octets asked pts p e = short_ok octets asked pts p (past_refusal (nat_lt MOST_PACKET_OCTETS (length octets)) text_faults.Long _ p e)

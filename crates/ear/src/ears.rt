@@ -6,6 +6,7 @@ ghost use Rattle.gap_tracker.specs.Stories.{Story, begun, went, ended};
 ghost use Rattle.ear.specs.declared.confs.EarConf.{EarConf};
 ghost use Rattle.ear.specs.Hears.{conf_of, arrival_count, is_finished, is_clear, is_quiet, text_for, told, Hears, IsHearing, Gave, IsGiving, Becomes, GivesChunk, GivesNone, GaveReady, GaveFront, AllReady, Gathers, CountsUsed};
 ghost use Rattle.ear.specs.Each.{GathersEach, IsHearingEach};
+ghost use Rattle.rtt_base.specs.declared.limits.TheConstants.{LONGEST_WAIT};
 
 use crate::EarConf;
 use gap_tracker::Tracker;
@@ -36,7 +37,7 @@ impl Ear {
     /// An ear to which nothing came yet, for the text of these sources: 1 to 64, all different. It takes all memory
     /// that it needs; only `gather` and `gather_each` take more, for what it appends.
     pub fn new(alloc: Global, conf: EarConf, sources: &[u32]) -> Result<Ear, NoMemory>
-        requires wait { conf.wait ≤ 10000 }
+        requires wait { conf.wait ≤ LONGEST_WAIT }
         requires some { 0 < length sources.now }
         requires few { length sources.now ≤ 64 }
         requires differ { AllPairs (λ a b. a ≢ b) sources.now }

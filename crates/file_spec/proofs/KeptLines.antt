@@ -12,7 +12,7 @@ use Rattle.std.proofs.lemmas.List.Folds.{list_any_at}
 use Rattle.std.proofs.lemmas.List.Quantifiers.{all_pairs_push, position-Some}
 use Rattle.std.proofs.lemmas.Slice.Eq.{bytes_eq-Decides}
 use Rattle.rtt_base.specs.declared.text_packets.Pts.{Pts}
-use Rattle.file_spec.specs.declared.limits.TheConstants.{FEWEST_LEGS, MOST_LEGS, LEAST_TICK, MOST_TICK, USUAL_TICK, LEAST_SPACING, MOST_SPACING, USUAL_SPACING, LONGEST_WAIT, USUAL_WAIT, MOST_TURNS, MOST_GENS, USUAL_GENS, MOST_PLAN_LINES, LONGEST_DELAY, FIRST_TYPE, LAST_TYPE, LAST_MOMENT, MOST_CONF_OCTETS}
+use Rattle.file_spec.specs.declared.limits.TheConstants.{FEWEST_LEGS, MOST_LEGS, LEAST_TICK, MOST_TICK, USUAL_TICK, LEAST_SPACING, MOST_SPACING, USUAL_SPACING, MOST_TURNS, MOST_GENS, USUAL_GENS, MOST_PLAN_LINES, LONGEST_DELAY, FIRST_TYPE, LAST_TYPE, LAST_MOMENT, MOST_CONF_OCTETS}
 use Rattle.file_spec.specs.declared.kinds.ConfKind.{ConfKind}
 use Rattle.file_spec.specs.declared.kinds.ConfKind.TheVariants.{NotText, Word, Name, Number, Many, PlanMany, Twice, Clash, Few, Crowd, Large}
 use Rattle.file_spec.specs.declared.conf_lines.Form.{Form}
@@ -36,6 +36,7 @@ use Rattle.file_spec.specs.Kept.{IsLeg, Differ, AreLegs, IsMixerFor, IsShort, Is
 use Rattle.file_spec.proofs.Crowds.{crowds_seen}
 use Rattle.rtt_base.proofs.Steps.{bind_ok}
 use Rattle.file_spec.proofs.Passed.{unless_ok, ok_or_ok, then_some, number_most, number_in}
+use Rattle.rtt_base.specs.declared.limits.TheConstants.{LONGEST_WAIT, USUAL_WAIT}
 
 some_same : {A : Type 0} (x y : A) → Some x ≡ Some y → x ≡ y
 some_same x y e = cc e

@@ -18,12 +18,13 @@ use Rattle.file_spec.specs.declared.conf_lines.StayLine.{StayLine}
 use Rattle.file_spec.specs.declared.conf_lines.PlanLine.{PlanLine}
 use Rattle.file_spec.specs.declared.conf_lines.What.{What}
 use Rattle.file_spec.specs.declared.conf_lines.What.TheVariants as what
-use Rattle.file_spec.specs.declared.limits.TheConstants.{FEWEST_LEGS, MOST_LEGS, MOST_LINKS, LEAST_TICK, MOST_TICK, USUAL_TICK, LEAST_SPACING, MOST_SPACING, USUAL_SPACING, LONGEST_WAIT, USUAL_WAIT, MOST_TURNS, MOST_GENS, USUAL_GENS, MOST_PLAN_LINES, LONGEST_DELAY, LAST_MOMENT, USUAL_T140, USUAL_RED, LONGEST_NAME, LONGEST_PATH, MOST_CONF_OCTETS}
+use Rattle.file_spec.specs.declared.limits.TheConstants.{FEWEST_LEGS, MOST_LEGS, MOST_LINKS, LEAST_TICK, MOST_TICK, USUAL_TICK, LEAST_SPACING, MOST_SPACING, USUAL_SPACING, MOST_TURNS, MOST_GENS, USUAL_GENS, MOST_PLAN_LINES, LONGEST_DELAY, LAST_MOMENT, USUAL_T140, USUAL_RED, LONGEST_NAME, LONGEST_PATH, MOST_CONF_OCTETS}
 use Rattle.rtt_base.specs.Steps.{◌>>=◌}
 use Rattle.file_spec.specs.Steps.{unless}
 use Rattle.file_spec.specs.Lines.{Line, Refusal, told, is_comment, words, at_line, read_lines}
 use Rattle.file_spec.specs.Numbers.{number, number_between, most_ssrc, pts}
 use Rattle.file_spec.specs.Stays.{is_crowd}
+use Rattle.rtt_base.specs.declared.limits.TheConstants.{LONGEST_WAIT, USUAL_WAIT}
 
 pub record Conf : Type 0 where
   pub legs : List LegLine

@@ -2,7 +2,7 @@
 use Rattle.std.specs.Prelude.{◌≡◌, ◌≢◌, ◌<◌, ◌≤◌, ℕ, false, IsTrue, List, length, All, AllPairs}
 use Rattle.std.specs.Option.{ForSome}
 use Rattle.rtt_base.specs.declared.text_packets.Pts.{Pts}
-use Rattle.file_spec.specs.declared.limits.TheConstants.{FEWEST_LEGS, MOST_LEGS, LEAST_TICK, MOST_TICK, LEAST_SPACING, MOST_SPACING, LONGEST_WAIT, MOST_TURNS, MOST_GENS, MOST_PLAN_LINES, LONGEST_DELAY, FIRST_TYPE, LAST_TYPE}
+use Rattle.file_spec.specs.declared.limits.TheConstants.{FEWEST_LEGS, MOST_LEGS, LEAST_TICK, MOST_TICK, LEAST_SPACING, MOST_SPACING, MOST_TURNS, MOST_GENS, MOST_PLAN_LINES, LONGEST_DELAY, FIRST_TYPE, LAST_TYPE}
 use Rattle.file_spec.specs.declared.conf_lines.LegLine.{LegLine}
 use Rattle.file_spec.specs.declared.conf_lines.MixerLine.{MixerLine}
 use Rattle.file_spec.specs.declared.conf_lines.PlanLine.{PlanLine}
@@ -11,6 +11,7 @@ use Rattle.file_spec.specs.declared.conf_lines.What.TheVariants.{Delay}
 use Rattle.file_spec.specs.Conf.{Above, Conf, is_name, is_same_packet}
 use Rattle.file_spec.specs.Sound.{IsBetween}
 use Rattle.file_spec.specs.Stays.{IsStay, NeverCrowd}
+use Rattle.rtt_base.specs.declared.limits.TheConstants.{LONGEST_WAIT}
 
 -- two dynamic payload types (RFC 3551, section 3)
 pub record AreTwoTypes (pts : Pts) : Type 0 where

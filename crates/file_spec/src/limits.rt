@@ -1,5 +1,7 @@
 //! The limits of conferences and scripts. Moments and lengths of time are in milliseconds, sizes in octets.
 
+use rtt_base::limits::MOST_TEXT_OCTETS;
+
 /// The fewest legs of a conference.
 pub const FEWEST_LEGS: usize = 2;
 /// The most legs of a conference of files.
@@ -21,10 +23,6 @@ pub const LEAST_SPACING: u32 = 100;
 pub const MOST_SPACING: u32 = 500;
 
 pub const USUAL_SPACING: u32 = 300;
-/// How long a missing packet is waited for.
-pub const LONGEST_WAIT: u32 = 10_000;
-
-pub const USUAL_WAIT: u32 = 1000;
 /// How many turns the mixer may take: at least one.
 pub const MOST_TURNS: u32 = 5_000_000;
 /// How many redundant generations a terminal is sent.
@@ -58,4 +56,4 @@ pub const MOST_CONF_OCTETS: usize = 262_144;
 /// The greatest size of a script.
 pub const MOST_SCRIPT_OCTETS: usize = 1_048_576;
 /// The longest text of a script line, its escapes read.
-pub const LONGEST_TEXT: usize = 1023;
+pub const LONGEST_TEXT: usize = MOST_TEXT_OCTETS;

@@ -3,6 +3,7 @@ use Rattle.std.specs.Prelude.{◌≡◌, ◌+◌, ◌*◌, ◌^◌, ◌<◌, ◌
 use Rattle.gap_tracker.specs.States.{State}
 use Rattle.gap_tracker.specs.Views.{numbered_of, settled_of, held_packet, settled_packet, AreSmall}
 use Rattle.gap_tracker.specs.declared.holds.Hold.TheInside.{Inside}
+use Rattle.rtt_base.specs.declared.limits.TheConstants.{LONGEST_WAIT}
 
 abbrev pub state_of : Inside → State
 state_of h =
@@ -10,7 +11,7 @@ state_of h =
 
 pub record IsSound (h : Inside) : Type 0 where
   pub room : length h.settled + length h.held + length h.spare ≡ 65
-  pub wait : h.wait ≤ 10000
+  pub wait : h.wait ≤ LONGEST_WAIT
   pub moment : h.moment < 2 ^ 49
   pub early : h.finished ≡ Bool.false → h.moment < 2 ^ 48
   pub arrivals : h.arrivals ≤ 2 ^ 40

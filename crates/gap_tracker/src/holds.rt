@@ -8,6 +8,7 @@ ghost use Rattle.gap_tracker.specs.States.{fresh, has_ready, passed, oldest_from
 ghost use Rattle.gap_tracker.specs.Views.{numbered_of, next_number};
 ghost use Rattle.gap_tracker.specs.declared.holds.HeldPacket.{HeldPacket};
 ghost use Rattle.gap_tracker.specs.Tracks.{Follows, Tracks, SameBut};
+ghost use Rattle.rtt_base.specs.declared.limits.TheConstants.{LONGEST_WAIT};
 
 use crate::lines::Line;
 use crate::numbering::{first_number, nearest_number};
@@ -79,7 +80,7 @@ fn oldest_time(held: &[HeldPacket], time: u64) -> u64
 /// The moment at which a number below all of these was given up, if it is by `moment`: more than 64 came, or the
 /// first of them that came did so `wait` ago.
 fn given_up(held: &[HeldPacket], wait: u64, moment: u64) -> Option<u64>
-    requires wait { wait ≤ 10000 }
+    requires wait { wait ≤ LONGEST_WAIT }
     requires moment { moment < 2 ^ 49 }
     ensures { result ≡ given_up_at wait moment (map numbered_of held.now) }
 {
@@ -106,7 +107,7 @@ fn place_of(held: &[HeldPacket], number: u64) -> usize
 impl Hold {
     /// Nothing came yet. Room is made for 65 packets.
     pub fn new(alloc: Global, wait: u64) -> Result<Hold, NoMemory>
-        requires { wait ≤ 10000 }
+        requires { wait ≤ LONGEST_WAIT }
         ensures { IfOk result (λ hold. hold ≡ fresh wait) }
     {
         let mut spare = Line::new(alloc)?;

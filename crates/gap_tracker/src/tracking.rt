@@ -6,6 +6,7 @@ ghost use Rattle.stream_spec.specs.Lists.{In};
 ghost use Rattle.gap_tracker.specs.Stories.{Story, Given, begun, came, went, ended, gave, given_of, dues, ready_dues, answer, is_used, is_in_time};
 ghost use Rattle.gap_tracker.specs.States.{has_ready, packets_in, arrival_count, is_finished};
 ghost use Rattle.gap_tracker.specs.Tracks.{Tracks};
+ghost use Rattle.rtt_base.specs.declared.limits.TheConstants.{LONGEST_WAIT};
 
 use crate::holds::Hold;
 use crate::{Due, Taken};
@@ -39,7 +40,7 @@ impl Tracker {
     /// A tracker to which nothing came yet. It reserves room for the packets that it will hold: no other call takes
     /// memory.
     pub fn new(alloc: Global, wait: u64) -> Result<Tracker, NoMemory>
-        requires { wait ≤ 10000 }
+        requires { wait ≤ LONGEST_WAIT }
         ensures stands { IfOk result (λ tracker. Tracks tracker (begun wait)) }
         ensures ready { IfOk result (λ tracker. has_ready tracker ≡ false) }
         ensures packets { IfOk result (λ tracker. packets_in tracker ≡ []) }

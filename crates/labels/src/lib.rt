@@ -3,6 +3,7 @@
 
 ghost use Rattle.std.specs.Prelude.{◌≡◌, ◌+◌, ◌≤◌, ◌↔◌, ◌++◌, length, IsOk, OnOk, OnErr};
 ghost use Rattle.labels.specs.Labels.{label_on, line_start};
+ghost use Rattle.rtt_base.specs.declared.limits.TheConstants.{MOST_TEXT_OCTETS};
 
 use rtt_base::{Full, Text};
 
@@ -26,7 +27,7 @@ const FRAME: usize = 3;
 /// `Full`: the text would have more than 1023 octets; then it is as before.
 #[tactic(auto, using(crate::proofs::Sizes::length_is, crate::proofs::Sizes::joined_is))]
 pub fn label(name: &str, fresh_line: bool, out: &mut Text) -> Result<(), Full>
-    ensures room { IsOk result ↔ (length out.old + length (label_on fresh_line name.now) ≤ 1023) }
+    ensures room { IsOk result ↔ (length out.old + length (label_on fresh_line name.now) ≤ MOST_TEXT_OCTETS) }
     ensures ok { OnOk result (out.new ≡ out.old ++ label_on fresh_line name.now) }
     ensures err { OnErr result (out.new ≡ out.old) }
 {

@@ -1,6 +1,7 @@
 //! A leg over a recording.
 ghost use Rattle.ear.specs.Hears.{IsGiving};
 ghost use Rattle.leg_core.specs.Sound.{FewCame, EndsWith};
+ghost use Rattle.rtt_base.specs.declared.limits.TheConstants.{LONGEST_WAIT};
 
 use crate::LegStep;
 use crate::records::hear_item;
@@ -9,6 +10,7 @@ use rtpdump_io::{DumpFault, DumpReader};
 use rtt_base::{Chunk, Packet};
 use rtt_io::Source;
 use std::alloc::Global;
+use wire_spec::limits::MOST_RECORDING_OCTETS;
 
 /// A leg: what is heard of its source in its recording, each text with the moment from which it may be mixed.
 #[derive(Drop)]
@@ -42,14 +44,14 @@ impl<S: Source> Leg<S> {
 
     /// A leg over a recording of at most 4194304 octets. The wait is at most 10000 milliseconds.
     pub fn new(alloc: Global, source: S, conf: EarConf) -> Result<Leg<S>, LegLost<S>>
-        requires { conf.wait ≤ 10000 }
-        ensures stands { S.tells → IfOk result (λ leg. Stands S.left leg (begins conf 4194304 (S.left source))) }
+        requires { conf.wait ≤ LONGEST_WAIT }
+        ensures stands { S.tells → IfOk result (λ leg. Stands S.left leg (begins conf MOST_RECORDING_OCTETS (S.left source))) }
         ensures place { IfOk result (λ leg. place_of leg ≡ conf.place) }
         ensures open { IfOk result (λ leg. is_over leg ≡ false) }
         ensures source { IfOk result (λ leg. source_of leg ≡ source) }
         ensures lost { IfErr result (λ lost. lost.source ≡ source) }
     {
-        Leg::with_limit(alloc, source, conf, 4194304)
+        Leg::with_limit(alloc, source, conf, MOST_RECORDING_OCTETS)
     }
 
     /// A leg over a recording of at most `limit` octets.
@@ -59,8 +61,8 @@ impl<S: Source> Leg<S> {
         conf: EarConf,
         limit: u32,
     ) -> Result<Leg<S>, LegLost<S>>
-        requires wait { conf.wait ≤ 10000 }
-        requires limit { limit ≤ 4194304 }
+        requires wait { conf.wait ≤ LONGEST_WAIT }
+        requires limit { limit ≤ MOST_RECORDING_OCTETS }
         ensures stands { S.tells → IfOk result (λ leg. Stands S.left leg (begins conf limit (S.left source))) }
         ensures place { IfOk result (λ leg. place_of leg ≡ conf.place) }
         ensures open { IfOk result (λ leg. is_over leg ≡ false) }

@@ -19,6 +19,7 @@ use Rattle.mixer_turn.specs.Early.{AreEarly}
 use Rattle.mixer_turn.specs.States.{State}
 use Rattle.mixer_turn.specs.Standing.{StandsFor}
 use Rattle.mixer_turn.proofs.Sending.{good}
+use Rattle.rtt_base.specs.declared.limits.TheConstants.{MOST_PACKET_OCTETS}
 
 -- ---- how many, and when
 -- at most k, each at an early moment
@@ -59,7 +60,7 @@ record_of pts a = (a.time, packet_written pts a.packet)
 
 -- the record's moment and its packet's octets
 abbrev pub IsShortRecord : ℕ × List ℕ → Type 0
-IsShortRecord r = (r.0 < 2 ^ 32) × (length r.1 ≤ 4224)
+IsShortRecord r = (r.0 < 2 ^ 32) × (length r.1 ≤ MOST_PACKET_OCTETS)
 
 push_record : (pts : Pts) (xs : List Arrival) (x : Arrival) → AllByRecursion IsShortRecord (map (record_of pts) xs) → IsShortRecord (record_of pts x) → AllByRecursion IsShortRecord (map (record_of pts) (xs ++ x ∷ []))
 push_record pts [] x a p = (p, tt)

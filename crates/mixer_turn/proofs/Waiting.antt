@@ -20,6 +20,7 @@ use Rattle.unaware_view.specs.Standing.{least_ask}
 use Rattle.mixer_turn.specs.Allowed.{AreAllowed}
 use Rattle.mixer_turn.proofs.Allowing.{events_law, good_taken}
 use Rattle.mixer_turn.proofs.Sending.{good}
+use Rattle.rtt_base.specs.declared.limits.TheConstants.{MOST_TEXT_OCTETS}
 
 -- ---- nothing of its own waits at a terminal
 abbrev NoneOwn : Table → Type 0
@@ -43,7 +44,7 @@ rest_own waits u j cs rest f e = elim (cases_eq j u) [
 
 serve_leg_own : (s : Setup) (j now t p : ℕ) (d : Terminal) (o : Option ℕ) → d.waits j ≡ [] → (serve_leg s now t d p o).waits j ≡ []
 serve_leg_own s j now t p d None e = e
-serve_leg_own s j now t p d (Some u) e = rest_own d.waits u j (front 1023 (d.waits u)) (behind 1023 (d.waits u)) (Rattle.mixer_spec.proofs.Kept.front_behind 1023 (d.waits u)) e
+serve_leg_own s j now t p d (Some u) e = rest_own d.waits u j (front MOST_TEXT_OCTETS (d.waits u)) (behind MOST_TEXT_OCTETS (d.waits u)) (Rattle.mixer_spec.proofs.Kept.front_behind MOST_TEXT_OCTETS (d.waits u)) e
 
 serve_own : (s : Setup) (seats : Seats) (j now t : ℕ) (d : Terminal) (o : Option ℕ) → d.waits j ≡ [] → (serve s seats now t d o).waits j ≡ []
 serve_own s seats j now t d None e = e

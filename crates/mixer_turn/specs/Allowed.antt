@@ -5,12 +5,13 @@ use Rattle.stream_spec.specs.Ready.{Chunk}
 use Rattle.mixer_spec.specs.Setups.{Setup, IsSetup, gap}
 use Rattle.mixer_spec.specs.Table.{Call, Admit, Hush, Leave, Offer, Turn}
 use Rattle.mixer_spec.specs.Calls.{IsAdmit, IsHush, turns_made}
+use Rattle.rtt_base.specs.declared.limits.TheConstants.{MOST_TEXT_OCTETS}
 
 -- a chunk of text
 pub record IsOffer (c : Chunk) : Type 0 where
   pub some : has_text c.text ≡ true
   pub utf8 : IsUtf8 c.text
-  pub short : length c.text ≤ 1023
+  pub short : length c.text ≤ MOST_TEXT_OCTETS
 
 -- Each of these calls is allowed after those before it. A leg may be told to leave at any moment, and a turn may be made.
 abbrev pub AreAllowed : Setup → List Call → Type 0

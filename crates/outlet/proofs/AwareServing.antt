@@ -26,6 +26,7 @@ use Rattle.outlet.proofs.Putting.{packet_fits, put_whole, puts_one}
 use Rattle.outlet.specs.AwareStates.{AwareState}
 use Rattle.outlet.specs.AwareStanding.{StandsFor}
 use Rattle.outlet.specs.AwareTurns.{IsIn, IsTurned, kept_served, sent_of_leg}
+use Rattle.rtt_base.specs.declared.limits.TheConstants.{MOST_PACKET_OCTETS, MOST_TEXT_OCTETS}
 
 -- ---- what an output puts out
 pub text_is : (sources : List ℕ) (source media : ℕ) (text : List ℕ) (e : Sent) → slice_index sources source ≡ e.source → media ≡ e.media → text ≡ e.text → text_of sources source media text ≡ e
@@ -39,7 +40,7 @@ pub record IsSent {T E : Type 0} (conf : OutConf) (sources : List ℕ) (past : L
   pub stands : outputs.StandsFor conf sources new (e ∷ past)
 
 pub is_sent : {T E : Type 0} (conf : OutConf) (sources : List ℕ) (past : List Sent) (e : Sent) (old new : State) (before after : List ℕ) (result : Result T E) → conf.gens ≤ 3 → outputs.StandsFor conf sources old past
-    → IsNext (stream_of conf) past e → before ≡ [] → Appends (Some 4224) before after (packet_written conf.pts (packet_after (stream_of conf) past e)) result → OnOk result (outputs.StandsFor conf sources new (e ∷ past))
+    → IsNext (stream_of conf) past e → before ≡ [] → Appends (Some MOST_PACKET_OCTETS) before after (packet_written conf.pts (packet_after (stream_of conf) past e)) result → OnOk result (outputs.StandsFor conf sources new (e ∷ past))
     → IsSent conf sources past e new after result
 is_sent {T} {E} conf sources past e old new before after result g h n b a s =
     let w = put_whole before after (packet_written conf.pts (packet_after (stream_of conf) past e)) result b (packet_fits conf past e g h.sent n) a in
@@ -97,17 +98,17 @@ stands_then s pts o d output place leg media now h l out =
       rests = λ q. cc q;
     }
 
-slots_then : (s : Setup) (table : Table) (j leg place media now : ℕ) (after : List Waiting) → slots.StandsFor s after (fetched j leg 1023 table)
+slots_then : (s : Setup) (table : Table) (j leg place media now : ℕ) (after : List Waiting) → slots.StandsFor s after (fetched j leg MOST_TEXT_OCTETS table)
     → slots.StandsFor s after (with_terminal j (serve_leg s now media (table.terminals j) place (Some leg)) table)
 slots_then s table j leg place media now after h =
-    stands_same s after (fetched j leg 1023 table) (with_terminal j (serve_leg s now media (table.terminals j) place (Some leg)) table) h (λ i. refl) (λ k. refl)
-    (λ k i. same_waits (k == j) (serve_leg s now media (table.terminals j) place (Some leg)) (take_front leg 1023 (table.terminals j)) (table.terminals k) i refl)
+    stands_same s after (fetched j leg MOST_TEXT_OCTETS table) (with_terminal j (serve_leg s now media (table.terminals j) place (Some leg)) table) h (λ i. refl) (λ k. refl)
+    (λ k i. same_waits (k == j) (serve_leg s now media (table.terminals j) place (Some leg)) (take_front leg MOST_TEXT_OCTETS (table.terminals j)) (table.terminals k) i refl)
 
 pub leg_served : {T E : Type 0} (s : Setup) (pts : Pts) (table : Table) (o : AwareState) (before after : List Waiting) (output : State) (place leg media now : ℕ) (text : List ℕ) (empty octets : List ℕ) (result : Result T E) (put : Bool)
     → (h : IsIn s pts o before table) → leg < s.legs → IsNext (stream s o.own) (sents (table.terminals o.own).past) (sent_of_leg s media (table.terminals o.own) leg)
-    → text ≡ joined (front 1023 ((table.terminals o.own).waits leg)) → slots.StandsFor s after (fetched o.own leg 1023 table) → empty ≡ []
+    → text ≡ joined (front MOST_TEXT_OCTETS ((table.terminals o.own).waits leg)) → slots.StandsFor s after (fetched o.own leg MOST_TEXT_OCTETS table) → empty ≡ []
     → (let d : Terminal = table.terminals o.own in let e = text_of h.outlet.sources leg media text in
-    IsNext (stream s o.own) (sents d.past) e → Appends (Some 4224) empty octets (packet_written pts (packet_after (stream s o.own) (sents d.past) e)) result)
+    IsNext (stream s o.own) (sents d.past) e → Appends (Some MOST_PACKET_OCTETS) empty octets (packet_written pts (packet_after (stream s o.own) (sents d.past) e)) result)
     → (let d : Terminal = table.terminals o.own in let e = text_of h.outlet.sources leg media text in
     IsNext (stream s o.own) (sents d.past) e → OnOk result (outputs.StandsFor (conf_at s pts o.own) h.outlet.sources output (e ∷ sents d.past)))
     → put ≡ is_ok result
@@ -118,12 +119,12 @@ leg_served {T} {E} s pts table o before after output place leg media now text em
     let e = sent_of_leg s media d leg in
     let is : text_of h.outlet.sources leg media text ≡ e = text_is h.outlet.sources leg media text e (h.outlet.are.each leg l) refl t in
     let next = subst (λ (x : Sent). IsNext (stream s o.own) (sents d.past) x) (sym is) n in
-    let appends = subst (λ (x : Sent). Appends (Some 4224) empty octets (packet_written pts (packet_after (stream s o.own) (sents d.past) x)) result) is (a next) in
+    let appends = subst (λ (x : Sent). Appends (Some MOST_PACKET_OCTETS) empty octets (packet_written pts (packet_after (stream s o.own) (sents d.past) x)) result) is (a next) in
     let stands = subst (λ (x : Sent). OnOk result (outputs.StandsFor conf h.outlet.sources output (x ∷ sents d.past))) is (k next) in
     let sent = is_sent conf h.outlet.sources (sents d.past) e o.output output empty octets result (h.outlet.setup.gens o.own) h.outlet.output n b appends stands in
     record {
       outlet = stands_then s pts o d output place leg media now h.outlet l sent.stands;
       slots_stand = slots_then s table o.own leg place media now after f;
       puts = subst (λ (x : Bool). Puts pts (new_packet (stream s o.own) d.past (serve_leg s now media d place (Some leg)).past) x octets) (sym (p ∙ sent.put))
-          (puts_one pts (stream s o.own) (record { at = now; place = place; leg = leg; chunks = front 1023 (d.waits leg); sent = e }) d.past octets sent.octets);
+          (puts_one pts (stream s o.own) (record { at = now; place = place; leg = leg; chunks = front MOST_TEXT_OCTETS (d.waits leg); sent = e }) d.past octets sent.octets);
     }

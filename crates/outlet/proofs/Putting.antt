@@ -13,6 +13,7 @@ use Rattle.aware_output.specs.Confs.{stream_of}
 use Rattle.aware_output.specs.Speakers.{IsNext, EachIsNext}
 use Rattle.aware_output.proofs.Speaking.{sendable}
 use Rattle.outlet.specs.Turns.{Puts}
+use Rattle.rtt_base.specs.declared.limits.TheConstants.{MOST_PACKET_OCTETS}
 
 -- nothing was sent
 pub puts_none : (pts : Pts) (c : Stream) (past : List Mixed) (out : List ℕ) → Puts pts (new_packet c past past) false out
@@ -26,11 +27,11 @@ puts_one pts c e past out w = rw (eq-eqb (length past) (length past) refl) (refl
 -- ---- a packet that is put
 -- the packet of what may be sent has room
 pub packet_fits : (conf : OutConf) (past : List Sent) (e : Sent) → conf.gens ≤ 3 → EachIsNext (stream_of conf) past → IsNext (stream_of conf) past e
-    → length (packet_written conf.pts (packet_after (stream_of conf) past e)) ≤ 4224
+    → length (packet_written conf.pts (packet_after (stream_of conf) past e)) ≤ MOST_PACKET_OCTETS
 packet_fits conf past e g p n = few_octets conf.pts (stream_of conf) past e g (sendable (stream_of conf) (e ∷ past) g (n, p))
 
 -- octets that have room in a packet were put into it where it was empty
-pub put_whole : {T E : Type 0} (before after octets : List ℕ) (result : Result T E) → before ≡ [] → length octets ≤ 4224 → Appends (Some 4224) before after octets result → IsOk result × (after ≡ octets)
+pub put_whole : {T E : Type 0} (before after octets : List ℕ) (result : Result T E) → before ≡ [] → length octets ≤ MOST_PACKET_OCTETS → Appends (Some MOST_PACKET_OCTETS) before after octets result → IsOk result × (after ≡ octets)
 put_whole {T} {E} before after octets result e few a =
     let ok = a.room.1 (omega (arith, few, ap (λ (xs : List ℕ). length xs) e)) in
     (ok, go result ok a.ok)

@@ -10,6 +10,7 @@ use Rattle.slot_table.specs.Standing as slots
 use Rattle.outlet.specs.Turns.{Puts, with_terminal}
 use Rattle.outlet.specs.AwareStates.{AwareState}
 use Rattle.outlet.specs.AwareStanding.{StandsFor}
+use Rattle.rtt_base.specs.declared.limits.TheConstants.{MOST_TEXT_OCTETS}
 
 -- of each terminal for which the outlet stands
 abbrev pub AtTerminal : AwareState → (Setup → Pts → Terminal → Type 0) → Type 0
@@ -26,7 +27,7 @@ AtTable o now P = (s : Setup) (pts : Pts) (table : Table) → IsIn s pts o now t
 
 -- what a turn at this media time sends of the leg
 abbrev pub sent_of_leg : Setup → ℕ → Terminal → ℕ → Sent
-sent_of_leg s media d leg = record { source = s.ssrc leg; media = media; text = joined (front 1023 (d.waits leg)) }
+sent_of_leg s media d leg = record { source = s.ssrc leg; media = media; text = joined (front MOST_TEXT_OCTETS (d.waits leg)) }
 
 -- A turn of the terminal j is over, which came to d: these are its outlet and the slots then, and whether a packet was put
 -- out, with its octets.

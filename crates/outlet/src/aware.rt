@@ -9,6 +9,7 @@ ghost use Rattle.slot_table.specs.Standing.{Tells, Leads};
 ghost use Rattle.slot_table.specs.Words.{fetched};
 ghost use Rattle.aware_output.specs.Confs.{IsConf};
 ghost use Rattle.aware_output.specs.Speakers.{AreDistinct, IsNext};
+ghost use Rattle.rtt_base.specs.declared.limits.TheConstants.{MOST_TEXT_OCTETS};
 
 use aware_output::{OutConf, Output};
 use rtt_base::{NoMemory, Packet, Text};
@@ -53,8 +54,8 @@ impl Model for AwareOutlet {
 fn fetch(terminal: usize, leg: usize, slots: &mut Slots, text: &mut Text)
     requires { (terminal < length slots.old) × (leg < length slots.old) }
     ensures legs { length slots.new ≡ length slots.old }
-    ensures text { Tells slots.old (λ s table. text.new ≡ joined (front 1023 ((table.terminals terminal).waits leg))) }
-    ensures stands { Leads slots.old slots.new (fetched terminal leg 1023) }
+    ensures text { Tells slots.old (λ s table. text.new ≡ joined (front MOST_TEXT_OCTETS ((table.terminals terminal).waits leg))) }
+    ensures stands { Leads slots.old slots.new (fetched terminal leg MOST_TEXT_OCTETS) }
 {
     text.clear();
     slots.take(terminal, leg, Text::CAPACITY, text);

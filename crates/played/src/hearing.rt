@@ -9,6 +9,7 @@ ghost use Rattle.terminal.specs.declared.confs.TermConf.{TermConf};
 ghost use Rattle.terminal.specs.Terminals.{counts_of, Listens, IsOpen, Heard};
 ghost use Rattle.played.specs.Written.{AreRecords, HasRecords, IsWritten, IsWrittenOf};
 ghost use Rattle.played.specs.Finds.{Finds};
+ghost use Rattle.rtt_base.specs.declared.limits.TheConstants.{LONGEST_WAIT};
 
 use crate::found::{Found, find_records};
 use crate::records::{behind_opening, next_record};
@@ -160,7 +161,7 @@ pub fn played(
     plan: &[PlanLine],
     number: u8,
 ) -> Result<Terminal, NoMemory>
-    requires wait { conf.wait ≤ 10000 }
+    requires wait { conf.wait ≤ LONGEST_WAIT }
     requires some { 0 < length sources.now }
     requires few { length sources.now ≤ 64 }
     requires differ { AllPairs (λ a b. a ≢ b) sources.now }

@@ -15,6 +15,7 @@ use Rattle.rtt_base.specs.Steps.{◌>>=◌}
 use Rattle.wire_spec.specs.Steps.{Gives}
 use Rattle.wire_spec.specs.Red.{Headers, header_of, header_at, headers_at, and_others, older_size, blocks_at, all_utf8, checked, texts_at, with_header}
 use Rattle.red_blocks.specs.Reading.{headers_of, after_headers, after_blocks, after_block}
+use Rattle.rtt_base.specs.declared.limits.TheConstants.{MOST_TEXT_OCTETS}
 
 -- ---- blocks
 
@@ -41,11 +42,11 @@ pub too_short : (hs : List RedHeader) (octets : List ℕ) → length octets < ol
 unfolding texts_at
 too_short hs octets h = rw (lt-ltb _ _ h) refl
 
-pub too_long : (hs : List RedHeader) (octets : List ℕ) → older_size hs ≤ length octets → older_size hs + 1023 < length octets → texts_at hs octets ≡ Err Long
+pub too_long : (hs : List RedHeader) (octets : List ℕ) → older_size hs ≤ length octets → older_size hs + MOST_TEXT_OCTETS < length octets → texts_at hs octets ≡ Err Long
 unfolding texts_at
 too_long hs octets h k = rw (le-ltb _ _ h, lt-ltb _ _ k) refl
 
-pub texts_read : (hs : List RedHeader) (octets : List ℕ) → older_size hs ≤ length octets → length octets ≤ older_size hs + 1023 → texts_at hs octets ≡ checked (blocks_at hs octets)
+pub texts_read : (hs : List RedHeader) (octets : List ℕ) → older_size hs ≤ length octets → length octets ≤ older_size hs + MOST_TEXT_OCTETS → texts_at hs octets ≡ checked (blocks_at hs octets)
 unfolding texts_at
 texts_read hs octets h k = rw (le-ltb _ _ h, le-ltb _ _ k) refl
 
@@ -123,7 +124,7 @@ texts_end : (hs : List RedHeader) (octets : List ℕ) → IfOk (texts_at hs octe
 unfolding texts_at
 texts_end hs octets =
     either (ltb (length octets) (older_size hs)) (Err Cut) _ tt
-    (either (ltb (older_size hs + 1023) (length octets)) (Err Long) _ tt
+    (either (ltb (older_size hs + MOST_TEXT_OCTETS) (length octets)) (Err Long) _ tt
     (either (all_utf8 (blocks_at hs octets)) (Ok (blocks_at hs octets)) (Err NotText) (blocks_end hs octets) tt))
 
 -- what was read of texts

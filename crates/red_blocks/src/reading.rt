@@ -6,6 +6,7 @@ ghost use Rattle.wire_spec.specs.Packets.{HasPrimary};
 ghost use Rattle.wire_spec.specs.Red.{header_of, header_at, headers_at, older_size, blocks_at, checked, texts_at, red};
 ghost use Rattle.red_blocks.specs.Reading.{IsSmall, headers_of, headers_view, after_blocks, after_block};
 
+use rtt_base::limits::MOST_TEXT_OCTETS;
 use rtt_base::{Blocks, Pts};
 use wire_spec::{RedFault, RedHeader};
 
@@ -17,9 +18,6 @@ const MAX_OLDER: usize = 8;
 
 /// How many octets a redundant header has.
 const HEADER: usize = 4;
-
-/// How many octets a text has at most.
-const MAX_TEXT: usize = 1023;
 
 /// The header of a redundant block, whose four octets are there: F and the type in 8 bits, the offset in 14, the size
 /// in 10 (RFC 2198, section 3).
@@ -166,7 +164,7 @@ fn read_texts(
     if texts.len() < older {
         return Err(RedFault::Cut);
     }
-    if texts.len() - older > MAX_TEXT {
+    if texts.len() - older > MOST_TEXT_OCTETS {
         return Err(RedFault::Long);
     }
     append_blocks(count, headers, texts, out)

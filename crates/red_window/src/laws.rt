@@ -6,6 +6,7 @@ ghost use Rattle.stream_spec.specs.Own.{Sent, Stream, repeats, Sendable, packet_
 ghost use Rattle.red_window.specs.declared.kept.KeptBlock.{KeptBlock};
 ghost use Rattle.red_window.specs.Kept.{blocks_kept};
 ghost use Rattle.red_window.specs.Standing.{StandsFor, MayFollow};
+ghost use Rattle.rtt_base.specs.declared.limits.TheConstants.{MOST_PACKET_OCTETS};
 
 /// The blocks of a window are those that repeat what was sent of its source last.
 pub fn windows_repeat()
@@ -18,5 +19,5 @@ pub fn packets_fit()
     ensures fits { (pts : Pts) (c : Stream) (past : List Sent) (e : Sent) → pts.t140 < 2 ^ 7 → pts.red < 2 ^ 7 → pts.t140 ≢ pts.red
         → c.gens ≤ 3 → c.ssrc < 2 ^ 32 → e.source < 2 ^ 32 → Sendable c (e ∷ past) → FitsPacket pts (packet_after c past e) }
     ensures few { (pts : Pts) (c : Stream) (past : List Sent) (e : Sent) → c.gens ≤ 3 → Sendable c (e ∷ past)
-        → length (packet_written pts (packet_after c past e)) ≤ 4224 }
+        → length (packet_written pts (packet_after c past e)) ≤ MOST_PACKET_OCTETS }
 {}

@@ -16,6 +16,8 @@ use Rattle.rtpdump_io.specs.declared.readers.Stage.TheVariants.{Opening, Records
 use Rattle.rtpdump_io.specs.Found.{opened_as, found_as, came_as, kind_of, kept_of}
 use Rattle.rtpdump_io.specs.declared.items.DumpItem.{DumpItem}
 use Rattle.rtpdump_io.specs.declared.items.DumpItem.TheVariants as answer
+use Rattle.rtt_base.specs.declared.limits.TheConstants.{MOST_PACKET_OCTETS}
+use Rattle.wire_spec.specs.declared.limits.TheConstants.{LAST_RECORD_MOMENT}
 
 -- ---- the opening
 
@@ -112,11 +114,11 @@ module _ (limit byte : ℕ) (u h v : List ℕ) (cut : u ≡ h ++ v) (eight : len
   pub ends_inside : 8 ≤ size_of h → byte + size_of h ≤ limit → length v < size_of h - 8 → dump_step limit (record { byte = byte; rest = u }) ≡ Broken (record { byte = byte; kind = EndsInside })
   ends_inside a b c = faulty EndsInside (rw (le-ltb (size_of u) 8 (rw size_is a), le-ltb limit (byte + size_of u) (rw size_is b), lt-ltb (length u) (size_of u) (rw (size_is, all_is) (omega arith))) refl)
 
-  pub too_long : (w : List ℕ) → 8 ≤ size_of h → byte + size_of h ≤ limit → Passes (size_of h - 8) v w → 14400000 < time_of h → dump_step limit (record { byte = byte; rest = u }) ≡ Broken (record { byte = byte; kind = TooLong })
-  too_long w a b p d = faulty TooLong (rw (le-ltb (size_of u) 8 (rw size_is a), le-ltb limit (byte + size_of u) (rw size_is b), le-ltb (length u) (size_of u) (rw (size_is, all_is) (omega (arith, p.enough))), lt-ltb 14400000 (time_of u) (rw time_is d)) refl)
+  pub too_long : (w : List ℕ) → 8 ≤ size_of h → byte + size_of h ≤ limit → Passes (size_of h - 8) v w → LAST_RECORD_MOMENT < time_of h → dump_step limit (record { byte = byte; rest = u }) ≡ Broken (record { byte = byte; kind = TooLong })
+  too_long w a b p d = faulty TooLong (rw (le-ltb (size_of u) 8 (rw size_is a), le-ltb limit (byte + size_of u) (rw size_is b), le-ltb (length u) (size_of u) (rw (size_is, all_is) (omega (arith, p.enough))), lt-ltb LAST_RECORD_MOMENT (time_of u) (rw time_is d)) refl)
 
-  sound : (w : List ℕ) → 8 ≤ size_of h → byte + size_of h ≤ limit → Passes (size_of h - 8) v w → time_of h ≤ 14400000 → record_fault limit (record { byte = byte; rest = u }) ≡ None
-  sound w a b p d = rw (le-ltb (size_of u) 8 (rw size_is a), le-ltb limit (byte + size_of u) (rw size_is b), le-ltb (length u) (size_of u) (rw (size_is, all_is) (omega (arith, p.enough))), le-ltb 14400000 (time_of u) (rw time_is d)) refl
+  sound : (w : List ℕ) → 8 ≤ size_of h → byte + size_of h ≤ limit → Passes (size_of h - 8) v w → time_of h ≤ LAST_RECORD_MOMENT → record_fault limit (record { byte = byte; rest = u }) ≡ None
+  sound w a b p d = rw (le-ltb (size_of u) 8 (rw size_is a), le-ltb limit (byte + size_of u) (rw size_is b), le-ltb (length u) (size_of u) (rw (size_is, all_is) (omega (arith, p.enough))), le-ltb LAST_RECORD_MOMENT (time_of u) (rw time_is d)) refl
 
 take_take : (p k : ℕ) (v : List ℕ) → p ≤ k → take p (take k v) ≡ take p v
 take_take zero k v h = refl
@@ -128,7 +130,7 @@ take_take (suc p) (suc k) (x ∷ v) h = ap (λ (l : List ℕ). x ∷ l) (take_ta
 kinds : (p k at : ℕ) (v out : List ℕ) (place : Place) → out ≡ take (kept_of p k) v → k ≤ length v → found_as (Ok (kind_of p k at)) out place ≡ Next (item_at at (what_of p (take k v))) place
 kinds p k at v out place kept within =
     let size : length (take k v) ≡ k = simp length-take (omega arith) in
-    rw size (go (nat_eq p 0) (nat_lt k p) (nat_lt 4224 p) refl kept)
+    rw size (go (nat_eq p 0) (nat_lt k p) (nat_lt MOST_PACKET_OCTETS p) refl kept)
   where
     go : (b1 b2 b3 : Bool) → nat_lt k p ≡ b2 → out ≡ take (cond b2 0 (cond b3 0 p)) v →
         found_as (Ok (cond b1 (answer.Rtcp at) (cond b2 (answer.Cut at) (cond b3 (answer.Large at) (answer.Packet at))))) out place
@@ -152,7 +154,7 @@ module _ (limit byte : ℕ) (u h v : List ℕ) (cut : u ≡ h ++ v) (eight : len
   rest_is : (k : ℕ) → size_of h ≡ 8 + k → drop (size_of u) u ≡ drop k v
   rest_is k e = ap (λ (n : ℕ). drop n u) (through k e) ∙ ap (drop (length h + k)) cut ∙ drop-append-add h v k
 
-  pub a_record : (w out : List ℕ) → 8 ≤ size_of h → byte + size_of h ≤ limit → Passes (size_of h - 8) v w → time_of h ≤ 14400000 → out ≡ take (kept_of (packet_size_of h) (size_of h - 8)) v →
+  pub a_record : (w out : List ℕ) → 8 ≤ size_of h → byte + size_of h ≤ limit → Passes (size_of h - 8) v w → time_of h ≤ LAST_RECORD_MOMENT → out ≡ take (kept_of (packet_size_of h) (size_of h - 8)) v →
       dump_step limit (record { byte = byte; rest = u }) ≡ found_as (Ok (kind_of (packet_size_of h) (size_of h - 8) (time_of h))) out (record { byte = byte + size_of h; rest = w })
   a_record w out a b p d kept =
       let k : ℕ = size_of h - 8 in
@@ -192,7 +194,7 @@ shrinks limit p = outer (nat_eq (length p.rest) 0) (nat_lt (length p.rest) 8) (i
     inner : (o : Option DumpKind) → record_fault limit p ≡ o → Shrinks p (step_or p o)
     inner (Some kind) e = tt
     inner None e =
-        let two = parts (nat_lt (size_of p.rest) 8) (nat_lt limit (p.byte + size_of p.rest)) (nat_lt (length p.rest) (size_of p.rest)) (nat_lt 14400000 (time_of p.rest)) e in
+        let two = parts (nat_lt (size_of p.rest) 8) (nat_lt limit (p.byte + size_of p.rest)) (nat_lt (length p.rest) (size_of p.rest)) (nat_lt LAST_RECORD_MOMENT (time_of p.rest)) e in
         let large = ltb-false (size_of p.rest) 8 two.0 in
         let within = ltb-false (length p.rest) (size_of p.rest) two.1 in
         simp length-drop (omega (arith, large, within))
@@ -276,14 +278,14 @@ module _ (limit byte size packet time : ℕ) (u h v : List ℕ) (cut : u ≡ h +
   pub found_end : 8 ≤ size → byte + size ≤ limit → length v < size - 8 → dump_step limit (record { byte = byte; rest = u }) ≡ Broken (record { byte = byte; kind = EndsInside })
   found_end = rw size_told (ends_inside limit byte u h v cut eight)
 
-  pub found_too_long : (w : List ℕ) → 8 ≤ size → byte + size ≤ limit → Passes (size - 8) v w → 14400000 < time → dump_step limit (record { byte = byte; rest = u }) ≡ Broken (record { byte = byte; kind = TooLong })
+  pub found_too_long : (w : List ℕ) → 8 ≤ size → byte + size ≤ limit → Passes (size - 8) v w → LAST_RECORD_MOMENT < time → dump_step limit (record { byte = byte; rest = u }) ≡ Broken (record { byte = byte; kind = TooLong })
   found_too_long w = rw (size_told, time_told) (too_long limit byte u h v cut eight w)
 
-  pub found_record : (w out : List ℕ) → 8 ≤ size → byte + size ≤ limit → Passes (size - 8) v w → time ≤ 14400000 → out ≡ take (kept_of packet (size - 8)) v → (item : DumpItem) → item ≡ kind_of packet (size - 8) time →
+  pub found_record : (w out : List ℕ) → 8 ≤ size → byte + size ≤ limit → Passes (size - 8) v w → time ≤ LAST_RECORD_MOMENT → out ≡ take (kept_of packet (size - 8)) v → (item : DumpItem) → item ≡ kind_of packet (size - 8) time →
       dump_step limit (record { byte = byte; rest = u }) ≡ found_as (Ok item) out (record { byte = byte + size; rest = w })
   found_record w out a b p d kept item is = rw is (go a b p d kept)
     where
-      go : 8 ≤ size → byte + size ≤ limit → Passes (size - 8) v w → time ≤ 14400000 → out ≡ take (kept_of packet (size - 8)) v → dump_step limit (record { byte = byte; rest = u }) ≡ found_as (Ok (kind_of packet (size - 8) time)) out (record { byte = byte + size; rest = w })
+      go : 8 ≤ size → byte + size ≤ limit → Passes (size - 8) v w → time ≤ LAST_RECORD_MOMENT → out ≡ take (kept_of packet (size - 8)) v → dump_step limit (record { byte = byte; rest = u }) ≡ found_as (Ok (kind_of packet (size - 8) time)) out (record { byte = byte + size; rest = w })
       go = rw (size_told, packet_told, time_told) (a_record limit byte u h v cut eight w out)
 
 -- the octets of a record and those behind it are all

@@ -6,16 +6,17 @@ use Rattle.wire_spec.specs.Dump as dumps
 use Rattle.rtpdump_io.specs.declared.items.DumpItem.{DumpItem}
 use Rattle.rtpdump_io.specs.declared.items.DumpItem.TheVariants.{Packet, Rtcp, Cut, Large, End}
 use Rattle.rtpdump_io.specs.Reading.{item_at, nothing, broken}
+use Rattle.rtt_base.specs.declared.limits.TheConstants.{MOST_PACKET_OCTETS}
 
 -- the answer for a record, by the sizes of its packet and of what it has behind its head
 abbrev pub kind_of : ℕ → ℕ → ℕ → DumpItem
 kind_of packet_size size at =
     if packet_size == 0 then Rtcp at
-    else (if nat_lt size packet_size then Cut at else (if nat_lt 4224 packet_size then Large at else Packet at))
+    else (if nat_lt size packet_size then Cut at else (if nat_lt MOST_PACKET_OCTETS packet_size then Large at else Packet at))
 
 -- how many of its octets are handed out
 abbrev pub kept_of : ℕ → ℕ → ℕ
-kept_of packet_size size = if nat_lt size packet_size then 0 else (if nat_lt 4224 packet_size then 0 else packet_size)
+kept_of packet_size size = if nat_lt size packet_size then 0 else (if nat_lt MOST_PACKET_OCTETS packet_size then 0 else packet_size)
 
 -- what stands at the first record's byte
 abbrev pub opened_as : Result (Unit {0}) DumpKind → Place → Result Place Fault

@@ -1,5 +1,6 @@
 //! Octets that are read block by block.
 ghost use Rattle.std.specs.Prelude.{◌≡◌, ℕ, ◌<◌, ◌≤◌, ◌+◌, [], ◌++◌, length, take, drop, min, Ok, None, true, false, OnOk, OnErr, IfOk, option_to_list};
+ghost use Rattle.rtt_base.specs.declared.limits.TheConstants.{MOST_PACKET_OCTETS};
 
 use rtt_base::{Failed, Packet};
 use rtt_io::Source;
@@ -168,7 +169,7 @@ impl<S: Source> Input<S> {
     /// Copies so many octets behind those of `out`, and answers whether all of them were there. Most calls find all of
     /// them in the block.
     pub fn copy(&mut self, count: usize, out: &mut Packet) -> Result<bool, Failed>
-        requires { length out.old + count ≤ 4224 }
+        requires { length out.old + count ≤ MOST_PACKET_OCTETS }
         ensures never_falls { S.faults self.old.source ≤ S.faults self.new.source }
         ensures failed { OnErr result (Rose (S.faults self.old.source) (S.faults self.new.source)) }
         ensures same_name { S.name self.new.source ≡ S.name self.old.source }
@@ -187,7 +188,7 @@ impl<S: Source> Input<S> {
     // Copies octets part by part, from as many blocks as it takes.
     #[inline(never)]
     fn copy_parts(&mut self, count: usize, out: &mut Packet) -> Result<bool, Failed>
-        requires { length out.old + count ≤ 4224 }
+        requires { length out.old + count ≤ MOST_PACKET_OCTETS }
         ensures never_falls { S.faults self.old.source ≤ S.faults self.new.source }
         ensures failed { OnErr result (Rose (S.faults self.old.source) (S.faults self.new.source)) }
         ensures same_name { S.name self.new.source ≡ S.name self.old.source }
@@ -212,7 +213,7 @@ impl<S: Source> Input<S> {
 
 // Appends octets to a packet that has room for them.
 fn append(out: &mut Packet, octets: &[u8])
-    requires { length out.old + length octets.now ≤ 4224 }
+    requires { length out.old + length octets.now ≤ MOST_PACKET_OCTETS }
     ensures { out.new ≡ out.old ++ octets.now }
 {
     let appended = out.append(octets);

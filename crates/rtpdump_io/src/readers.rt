@@ -1,5 +1,6 @@
 //! Reading of recordings.
 ghost use Rattle.std.specs.Prelude.{◌≤◌};
+ghost use Rattle.wire_spec.specs.declared.limits.TheConstants.{MOST_RECORDING_OCTETS};
 
 use crate::inputs::Input;
 use crate::items::{DumpFault, DumpItem};
@@ -7,6 +8,7 @@ use crate::record_heads::RecordHead;
 use rtt_base::{Failed, Packet};
 use rtt_io::Source;
 use wire_spec::DumpKind;
+use wire_spec::limits::MOST_RECORDING_OCTETS;
 
 /// What a reader reads next.
 #[derive(Clone, Copy, Debug, PartialEq, Eq)]
@@ -28,8 +30,8 @@ pub struct DumpReader<S> {
     // the first octet of what is read next
     pub(crate) offset: u64,
     pub(crate) stage: Stage,
-    ghost bounded: { limit ≤ 4194304 },
-    ghost within: { offset ≤ 4194304 },
+    ghost bounded: { limit ≤ MOST_RECORDING_OCTETS },
+    ghost within: { offset ≤ MOST_RECORDING_OCTETS },
 }
 
 impl<S: Source> DumpReader<S> {
@@ -48,12 +50,12 @@ impl<S: Source> DumpReader<S> {
         ensures not_ended { is_ended result ≡ false }
         ensures source { source_of result ≡ source }
     {
-        DumpReader::with_limit(source, 4194304)
+        DumpReader::with_limit(source, MOST_RECORDING_OCTETS)
     }
 
     /// A reader of a recording of at most `limit` octets.
     pub fn with_limit(source: S, limit: u32) -> DumpReader<S>
-        requires { limit ≤ 4194304 }
+        requires { limit ≤ MOST_RECORDING_OCTETS }
         ensures to_come { to_come S.left result ≡ dump limit (S.left source) }
         ensures all { all_octets S.left result ≡ length (S.left source) }
         ensures not_ended { is_ended result ≡ false }

@@ -4,6 +4,8 @@ ghost use Rattle.wire_spec.specs.Dump.{size_of, packet_size_of, time_of};
 ghost use Rattle.rtpdump_io.specs.Found.{kind_of, kept_of};
 
 use crate::items::DumpItem;
+use rtt_base::limits::MOST_PACKET_OCTETS;
+use wire_spec::limits::LAST_RECORD_MOMENT;
 
 /// The eight octets at the front of a record.
 #[derive(Clone, Copy, Debug)]
@@ -38,9 +40,9 @@ impl RecordHead {
 
     /// Whether the record lies behind the first four hours.
     pub fn is_late(&self) -> bool
-        ensures { result ≡ nat_lt 14400000 self.now.time }
+        ensures { result ≡ nat_lt LAST_RECORD_MOMENT self.now.time }
     {
-        self.time > 14400000
+        self.time > LAST_RECORD_MOMENT
     }
 
     /// What the record is.
@@ -53,7 +55,7 @@ impl RecordHead {
             DumpItem::Rtcp { at }
         } else if self.packet_size > self.size - 8 {
             DumpItem::Cut { at }
-        } else if self.packet_size > 4224 {
+        } else if self.packet_size > MOST_PACKET_OCTETS {
             DumpItem::Large { at }
         } else {
             DumpItem::Packet { at }
@@ -65,9 +67,9 @@ impl RecordHead {
         requires { 8 ≤ self.now.size }
         ensures value { result ≡ kept_of self.now.packet_size (self.now.size - 8) }
         ensures within { result ≤ self.now.size - 8 }
-        ensures fits { result ≤ 4224 }
+        ensures fits { result ≤ MOST_PACKET_OCTETS }
     {
-        if self.packet_size > self.size - 8 || self.packet_size > 4224 {
+        if self.packet_size > self.size - 8 || self.packet_size > MOST_PACKET_OCTETS {
             0
         } else {
             usize::from(self.packet_size)

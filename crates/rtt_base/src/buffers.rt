@@ -1,6 +1,7 @@
 //! What octets are appended to.
 ghost use Rattle.std.specs.Prelude.{ℕ, List, Option, Some, None, ◌≡◌, ◌≤◌, length, take, IfSome};
 ghost use Rattle.rtt_base.specs.Buffers.{Appends};
+ghost use Rattle.rtt_base.specs.declared.limits.TheConstants.{MOST_PACKET_OCTETS};
 
 use crate::{Bytes, Full, NoMemory, Packet};
 
@@ -35,7 +36,7 @@ impl OctetBuffer for Packet {
 
     ghost written = { λ octets. octets };
 
-    ghost greatest = { Some 4224 };
+    ghost greatest = { Some MOST_PACKET_OCTETS };
 
     fn len(&self) -> usize {
         self.len()

@@ -5,6 +5,7 @@ mod blocks;
 mod buffers;
 mod bytes;
 mod errors;
+pub mod limits;
 mod names;
 mod packets;
 mod paths;

@@ -2,12 +2,13 @@
 ghost use Rattle.std.specs.Prelude.{◌≡◌, ◌+◌, ◌≤◌, ◌<◌, ◌==◌, ◌↔◌, [], ◌∷◌, ◌++◌, length, take, IsOk, OnOk, OnErr};
 
 use crate::Full;
+use crate::limits::MOST_PACKET_OCTETS;
 use std::marker::Model;
 
 /// The octets of one packet, at most 4224.
 #[derive(Debug, Drop)]
 pub struct Packet {
-    octets: [u8; 4224],
+    octets: [u8; MOST_PACKET_OCTETS],
     len: usize,
 }
 
@@ -21,24 +22,25 @@ impl Default for Packet {
 
 impl Model for Packet {
     ghost use Rattle.std.specs.Prelude.{ℕ, List, ◌≤◌, take};
+    ghost use Rattle.rtt_base.specs.declared.limits.TheConstants.{MOST_PACKET_OCTETS};
 
     ghost Value = { List ℕ };
 
     ghost view = { λ p. take p.len p.octets };
 
-    ghost invariant = { λ p. p.len ≤ 4224 };
+    ghost invariant = { λ p. p.len ≤ MOST_PACKET_OCTETS };
 }
 
 impl Packet {
     /// How many octets fit.
-    pub const CAPACITY: usize = 4224;
+    pub const CAPACITY: usize = MOST_PACKET_OCTETS;
 
     /// The packet with no octet.
     pub fn new() -> Packet
         ensures { result ≡ [] }
     {
         Packet {
-            octets: [0; 4224],
+            octets: [0; MOST_PACKET_OCTETS],
             len: 0,
         }
     }
@@ -46,7 +48,7 @@ impl Packet {
     /// The number of octets.
     pub fn len(&self) -> usize
         ensures value { result ≡ length self.now }
-        ensures fits { result ≤ 4224 }
+        ensures fits { result ≤ MOST_PACKET_OCTETS }
     {
         self.len
     }
@@ -59,14 +61,14 @@ impl Packet {
 
     pub fn as_slice(&self) -> &[u8]
         ensures value { result.now ≡ self.now }
-        ensures fits { length result.now ≤ 4224 }
+        ensures fits { length result.now ≤ MOST_PACKET_OCTETS }
     {
         &self.octets[..self.len]
     }
 
     /// Appends one octet, for which there must be room.
     pub fn push(&mut self, octet: u8)
-        requires { length self.old < 4224 }
+        requires { length self.old < MOST_PACKET_OCTETS }
         ensures { self.new ≡ self.old ++ octet ∷ [] }
     {
         self.octets[self.len] = octet;
@@ -75,7 +77,7 @@ impl Packet {
 
     /// Appends octets, or nothing where they pass the room left.
     pub fn append(&mut self, octets: &[u8]) -> Result<(), Full>
-        ensures room { IsOk result ↔ (length self.old + length octets.now ≤ 4224) }
+        ensures room { IsOk result ↔ (length self.old + length octets.now ≤ MOST_PACKET_OCTETS) }
         ensures ok { OnOk result (self.new ≡ self.old ++ octets.now) }
         ensures err { OnErr result (self.new ≡ self.old) }
     {

@@ -2,12 +2,13 @@
 ghost use Rattle.std.specs.Prelude.{◌≡◌, ◌+◌, ◌≤◌, ◌<◌, ◌==◌, ◌↔◌, [], ◌∷◌, ◌++◌, length, take, IsOk, OnOk, OnErr};
 
 use crate::Full;
+use crate::limits::MOST_TEXT_OCTETS;
 use std::marker::Model;
 
 /// The text of a block, at most 1023 octets (RFC 2198, section 3: a length has 10 bits).
 #[derive(Debug, Drop)]
 pub struct Text {
-    octets: [u8; 1023],
+    octets: [u8; MOST_TEXT_OCTETS],
     len: usize,
 }
 
@@ -21,24 +22,25 @@ impl Default for Text {
 
 impl Model for Text {
     ghost use Rattle.std.specs.Prelude.{ℕ, List, ◌≤◌, take};
+    ghost use Rattle.rtt_base.specs.declared.limits.TheConstants.{MOST_TEXT_OCTETS};
 
     ghost Value = { List ℕ };
 
     ghost view = { λ t. take t.len t.octets };
 
-    ghost invariant = { λ t. t.len ≤ 1023 };
+    ghost invariant = { λ t. t.len ≤ MOST_TEXT_OCTETS };
 }
 
 impl Text {
     /// How many octets fit.
-    pub const CAPACITY: usize = 1023;
+    pub const CAPACITY: usize = MOST_TEXT_OCTETS;
 
     /// The empty text.
     pub fn new() -> Text
         ensures { result ≡ [] }
     {
         Text {
-            octets: [0; 1023],
+            octets: [0; MOST_TEXT_OCTETS],
             len: 0,
         }
     }
@@ -46,7 +48,7 @@ impl Text {
     /// The number of octets.
     pub fn len(&self) -> usize
         ensures value { result ≡ length self.now }
-        ensures fits { result ≤ 1023 }
+        ensures fits { result ≤ MOST_TEXT_OCTETS }
     {
         self.len
     }
@@ -59,14 +61,14 @@ impl Text {
 
     pub fn as_slice(&self) -> &[u8]
         ensures value { result.now ≡ self.now }
-        ensures fits { length result.now ≤ 1023 }
+        ensures fits { length result.now ≤ MOST_TEXT_OCTETS }
     {
         &self.octets[..self.len]
     }
 
     /// Appends one octet, for which there must be room.
     pub fn push(&mut self, octet: u8)
-        requires { length self.old < 1023 }
+        requires { length self.old < MOST_TEXT_OCTETS }
         ensures { self.new ≡ self.old ++ octet ∷ [] }
     {
         self.octets[self.len] = octet;
@@ -75,7 +77,7 @@ impl Text {
 
     /// Appends octets, or nothing where they pass the room left.
     pub fn append(&mut self, octets: &[u8]) -> Result<(), Full>
-        ensures room { IsOk result ↔ (length self.old + length octets.now ≤ 1023) }
+        ensures room { IsOk result ↔ (length self.old + length octets.now ≤ MOST_TEXT_OCTETS) }
         ensures ok { OnOk result (self.new ≡ self.old ++ octets.now) }
         ensures err { OnErr result (self.new ≡ self.old) }
     {

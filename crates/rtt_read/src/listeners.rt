@@ -16,14 +16,12 @@ ghost use Rattle.rtt_read.specs.Hears.{HearsText, IsHearingText, SameStream, one
 
 use command_spec::ReadRequest;
 use ear::{Ear, EarConf};
+use rtt_base::limits::USUAL_WAIT;
 use rtt_base::{Bytes, NoMemory};
 use std::alloc::Global;
 use t140_text::views::append_text_view;
 use t140_text::{Counts, show};
 use wire_spec::TextFault;
-
-/// How long a gap in the sequence numbers is waited for, in milliseconds.
-const WAIT: u64 = 1000;
 
 /// Hears one source in the packets of one stream, and counts the packets.
 #[derive(Drop)]
@@ -43,7 +41,7 @@ impl Listener {
             place: 0,
             ssrc: conf.ssrc,
             pts: conf.pts,
-            wait: WAIT,
+            wait: USUAL_WAIT as u64,
         };
         Ok(Listener {
             ear: Ear::new(alloc, asked, &[conf.source])?,

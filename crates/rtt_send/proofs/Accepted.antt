@@ -21,6 +21,8 @@ use Rattle.file_spec.proofs.Passed.{unless_ok, ok_or_ok, number_most}
 use Rattle.file_spec.specs.Lines.{Line, told, is_comment, at_line, read_lines}
 use Rattle.file_spec.specs.Numbers.{number}
 use Rattle.command_spec.specs.Scripts.{InOrder, AreLines}
+use Rattle.file_spec.specs.declared.limits.TheConstants.{LAST_MOMENT, MOST_SCRIPT_OCTETS}
+use Rattle.rtt_base.specs.declared.limits.TheConstants.{MOST_TEXT_OCTETS}
 
 -- ---- one test after another
 not_false : (b : Bool) → not b ≡ false → b ≡ true
@@ -140,7 +142,7 @@ read_is front (c ∷ d ∷ more) text u e = go (c == byte "\\") refl e (λ rest 
 -- ---- a line
 record Said (above : ℕ) (said : ScriptLine) : Type 0 where
   later : above ≤ said.at
-  early : said.at ≤ 14400000
+  early : said.at ≤ LAST_MOMENT
   text_is : IsUtf8 said.text
 
 around_is : (octets : List ℕ) (parts : List ℕ × List ℕ) → around_space octets ≡ Some parts → IsUtf8 octets → IsUtf8 parts.1
@@ -164,14 +166,14 @@ said_is above line said e =
     let utf8 : IsUtf8 a.0 = subst IsUtf8 au.1 (IsUtf8-from_is_utf8 line.octets (not_false (is_utf8 line.octets) au.0)) in
     let b = bind_ok (ok_or (around_space a.0) Count) _ said a.2 in
     let parts = around_is a.0 b.0 (ok_or_ok (around_space a.0) Count b.0 b.1) utf8 in
-    let m = bind_ok (ok_or (number 14400000 b.0.0) Number) _ said b.2 in
-    let most = number_most 14400000 b.0.0 m.0 (ok_or_ok (number 14400000 b.0.0) Number m.0 m.1) in
+    let m = bind_ok (ok_or (number LAST_MOMENT b.0.0) Number) _ said b.2 in
+    let most = number_most LAST_MOMENT b.0.0 m.0 (ok_or_ok (number LAST_MOMENT b.0.0) Number m.0 m.1) in
     let t = bind_ok (unless (nat_lt m.0 above) Order m.0) _ said m.2 in
     let at = unless_ok (nat_lt m.0 above) Order m.0 t.0 t.1 in
     let later = ltb-false m.0 above at.0 in
     let x = bind_ok (typed b.0.1) _ said t.2 in
-    let y = bind_ok (ok_or (unescaped b.0.1) Escape) (λ text. unless (nat_lt 1023 (length text)) Long text) x.0 x.1 in
-    let z = unless_ok (nat_lt 1023 (length y.0)) Long y.0 x.0 y.2 in
+    let y = bind_ok (ok_or (unescaped b.0.1) Escape) (λ text. unless (nat_lt MOST_TEXT_OCTETS (length text)) Long text) x.0 x.1 in
+    let z = unless_ok (nat_lt MOST_TEXT_OCTETS (length y.0)) Long y.0 x.0 y.2 in
     let text : IsUtf8 x.0 = subst IsUtf8 z.1 (read_is [] b.0.1 y.0 parts (ok_or_ok (unescaped b.0.1) Escape y.0 y.1)) in
     let is : record { line = line.number; at = t.0; text = x.0 } ≡ said = cc x.2 in
     let n = ap (λ (l : ScriptLine). l.at) is in
@@ -193,7 +195,7 @@ in_order (l ∷ more) said o a = (All-push (λ m. l.at ≤ m.at) more said o.0 (
 one_more : (above : List ScriptLine) (said : ScriptLine) → AreLines above → Said (latest above) said → AreLines (above ++ said ∷ [])
 one_more above said a s = record {
   ordered = in_order above said a.ordered (All-weaker (λ l. l.at ≤ latest above) (λ l. l.at ≤ said.at) (λ l h. let k = s.later in omega arith) above (up_to_latest above));
-  early = All-push (λ l. l.at ≤ 14400000) above said a.early s.early;
+  early = All-push (λ l. l.at ≤ LAST_MOMENT) above said a.early s.early;
   texts = All-push (λ l. IsUtf8 l.text) above said a.texts s.text_is;
 }
 
@@ -210,8 +212,8 @@ all_read (line ∷ more) above read a e =
     all_read more b.0 read (subst AreLines s (one_more above c.0 a (said_is (latest above) line c.0 c.1))) b.2
 
 pub accepted_lines : (octets : List ℕ) (read : List ScriptLine) → script octets ≡ Ok read → AreLines read
-accepted_lines octets read e = go (nat_lt 1048576 (length octets)) e
+accepted_lines octets read e = go (nat_lt MOST_SCRIPT_OCTETS (length octets)) e
   where
     go : (b : Bool) → (if b then Err (record { line = 0; kind = Large }) else read_lines and_line [] (told is_comment 1 (lines octets))) ≡ Ok read → AreLines read
     go true q = absurd (cc q)
-    go false q = all_read (told is_comment 1 (lines octets)) [] read (record { ordered = tt; early = All-nil (λ (l : ScriptLine). l.at ≤ 14400000); texts = All-nil (λ (l : ScriptLine). IsUtf8 l.text) }) q
+    go false q = all_read (told is_comment 1 (lines octets)) [] read (record { ordered = tt; early = All-nil (λ (l : ScriptLine). l.at ≤ LAST_MOMENT); texts = All-nil (λ (l : ScriptLine). IsUtf8 l.text) }) q

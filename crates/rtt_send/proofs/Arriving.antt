@@ -26,6 +26,7 @@ use Rattle.command_spec.specs.Scripts.{AreLines, events_through}
 use Rattle.rtt_send.specs.Scripts.{records_of, records_sent, recording_sent}
 use Rattle.rtt_send.proofs.ReadBack.{Backs, all_back, items_back, packet_stays}
 use Rattle.rtt_send.proofs.Typed.{script_through, lawful_sent}
+use Rattle.wire_spec.specs.declared.limits.TheConstants.{LAST_RECORD_MOMENT}
 
 -- the history of entries
 abbrev pub hist : SendConf → List Turned → History
@@ -251,7 +252,7 @@ came conf lines t k a l =
       all = λ wait. subst (λ (xs : List Arrival). places wait h xs ≡ placed h) (come_is conf es) (places_are wait conf h es f);
     }
 
-pub recording_arrives : (conf : SendConf) (lines : List ScriptLine) (t : ℕ) → IsConf conf → conf.ssrc < 2 ^ 32 → AreLines lines → t < 2 ^ 31 → All (λ r. r.0 ≤ 14400000) (records_sent conf lines t)
+pub recording_arrives : (conf : SendConf) (lines : List ScriptLine) (t : ℕ) → IsConf conf → conf.ssrc < 2 ^ 32 → AreLines lines → t < 2 ^ 31 → All (λ r. r.0 ≤ LAST_RECORD_MOMENT) (records_sent conf lines t)
     → length (recording_sent conf lines t) ≤ usual_limit → Arrives conf lines t (arrivals (recording_sent conf lines t) conf.ssrc conf.pts)
 unfolding arrivals
 recording_arrives conf lines t k b a l early small =

@@ -22,6 +22,7 @@ use Rattle.command_spec.specs.Scripts.{events_before, events_until, events_throu
 use Rattle.rtt_send.specs.Scripts.{records_of}
 use Rattle.rtt_send.specs.Insides.{Records}
 use Rattle.rtt_send.proofs.Events.{before_suc, until_later}
+use Rattle.rtt_base.specs.declared.limits.TheConstants.{MOST_TEXT_OCTETS}
 
 -- the same was sent, and the same waits
 pub record Same (conf : SendConf) (new old : List Event) : Type 0 where
@@ -171,7 +172,7 @@ asked_more conf s new octets written packet past t r e stands w =
           ∙ (ap (λ (p : List ℕ). dump_written (records_of conf (sent_by conf past)) ++ record_written (t, p)) d.1
           ∙ (one_more (records_of conf (sent_by conf past)) (t, packet_of conf past t)
           ∙ ap (λ (es : List Turned). dump_written (records_of conf es)) (sym more))));
-      room = let n = ap (λ (w : List ℕ). length w) (waits_less (stream_of conf) conf.interval past t d.0) in omega (arith, r.room, length-drop (length (whole_front 1023 (waits_for conf past))) (waits_for conf past));
+      room = let n = ap (λ (w : List ℕ). length w) (waits_less (stream_of conf) conf.interval past t d.0) in omega (arith, r.room, length-drop (length (whole_front MOST_TEXT_OCTETS (waits_for conf past))) (waits_for conf past));
     }
 
 -- a packet is not empty

@@ -16,6 +16,9 @@ use Rattle.command_spec.specs.Scripts.{events_before, events_until, events_throu
 use Rattle.rtt_send.proofs.Events.{before_suc, until_later, script_on, asked_until}
 use Rattle.rtt_send.proofs.Asking.{idle, no_more}
 use Rattle.rtt_send.proofs.Fronts.{some_front}
+use Rattle.file_spec.specs.declared.limits.TheConstants.{LAST_MOMENT}
+use Rattle.rtt_base.specs.declared.limits.TheConstants.{MOST_TEXT_OCTETS}
+use Rattle.stream_spec.specs.declared.limits.TheConstants.{MOST_WAITING_OCTETS}
 
 -- ---- the packets that are left, at most
 -- so many repeats are left of what was sent
@@ -56,30 +59,30 @@ no_octets : (w : List ℕ) → has_text w ≡ false → length w ≡ 0
 no_octets [] h = refl
 no_octets (x ∷ w) h = cc h
 
-front_short : (w : List ℕ) → length (whole_front 1023 w) ≤ length w
-front_short w = go (last_end w (min 1023 (length w))) w
+front_short : (w : List ℕ) → length (whole_front MOST_TEXT_OCTETS w) ≤ length w
+front_short w = go (last_end w (min MOST_TEXT_OCTETS (length w))) w
   where
     go : (k : ℕ) (xs : List ℕ) → length (take k xs) ≤ length xs
     go zero xs = omega arith
     go (suc k) [] = omega arith
     go (suc k) (x ∷ xs) = let r = go k xs in omega arith
 
-weight_falls : (g : ℕ) (es : List Turned) (e : Turned) (w : List ℕ) → g ≤ 3 → IsUtf8 w → e.sent.text ≡ whole_front 1023 w → (has_text w || has_text_in g (sents es)) ≡ true
-    → weight g (e ∷ es) (drop (length (whole_front 1023 w)) w) + 1 ≤ weight g es w
+weight_falls : (g : ℕ) (es : List Turned) (e : Turned) (w : List ℕ) → g ≤ 3 → IsUtf8 w → e.sent.text ≡ whole_front MOST_TEXT_OCTETS w → (has_text w || has_text_in g (sents es)) ≡ true
+    → weight g (e ∷ es) (drop (length (whole_front MOST_TEXT_OCTETS w)) w) + 1 ≤ weight g es w
 weight_falls g es e w m u t h = go (has_text w) refl h
   where
-    go : (b : Bool) → has_text w ≡ b → (b || has_text_in g (sents es)) ≡ true → weight g (e ∷ es) (drop (length (whole_front 1023 w)) w) + 1 ≤ weight g es w
+    go : (b : Bool) → has_text w ≡ b → (b || has_text_in g (sents es)) ≡ true → weight g (e ∷ es) (drop (length (whole_front MOST_TEXT_OCTETS w)) w) + 1 ≤ weight g es w
     go true q d =
         let some = some_front w u q in
-        let size = length-drop (length (whole_front 1023 w)) w in
+        let size = length-drop (length (whole_front MOST_TEXT_OCTETS w)) w in
         let short = front_short w in
         let new = rank_le g (sents (e ∷ es)) in
         omega (arith, some, size, short, new)
     go false q d =
         let none = no_octets w q in
         let short = front_short w in
-        let no : has_text e.sent.text ≡ false = ap has_text t ∙ empty (whole_front 1023 w) (omega arith) in
-        let size = length-drop (length (whole_front 1023 w)) w in
+        let no : has_text e.sent.text ≡ false = ap has_text t ∙ empty (whole_front MOST_TEXT_OCTETS w) (omega arith) in
+        let size = length-drop (length (whole_front MOST_TEXT_OCTETS w)) w in
         let falls = rank_falls g e.sent (sents es) no d in
         omega (arith, size, falls)
 
@@ -117,12 +120,12 @@ ask_falls conf past t k u = go (due_at (stream_of conf) conf.interval past t) re
         let w = waits_for conf past in
         let e = entry_at c es w t in
         let falls = weight_falls conf.gens es e w k.gens u refl (and_first (has_more conf past) (has_passed conf.interval es t) d) in
-        let is : potential conf (Ask t ∷ past) (suc t) ≡ 1000 * weight conf.gens (e ∷ es) (drop (length (whole_front 1023 w)) w) + ((t + conf.interval) - suc t) =
+        let is : potential conf (Ask t ∷ past) (suc t) ≡ 1000 * weight conf.gens (e ∷ es) (drop (length (whole_front MOST_TEXT_OCTETS w)) w) + ((t + conf.interval) - suc t) =
         ap (λ (fs : List Turned). 1000 * weight conf.gens fs (waits_for conf (Ask t ∷ past)) + remaining conf.interval fs (suc t)) (entries_more c conf.interval past t d)
         ∙ ap (λ (v : List ℕ). 1000 * weight conf.gens (e ∷ es) v + ((t + conf.interval) - suc t)) (waits_less c conf.interval past t d) in
         let l = k.least in
         let m = k.most in
-        below (potential conf (Ask t ∷ past) (suc t)) (weight conf.gens (e ∷ es) (drop (length (whole_front 1023 w)) w)) (weight conf.gens es w) (remaining conf.interval es t) t conf.interval is falls l m
+        below (potential conf (Ask t ∷ past) (suc t)) (weight conf.gens (e ∷ es) (drop (length (whole_front MOST_TEXT_OCTETS w)) w)) (weight conf.gens es w) (remaining conf.interval es t) t conf.interval is falls l m
       where
         below : (p new old rest s i : ℕ) → p ≡ 1000 * new + ((s + i) - suc s) → new + 1 ≤ old → 100 ≤ i → i ≤ 1000 → p + 1 ≤ 1000 * old + rest
         below p new old rest s i q f l m = omega arith
@@ -199,7 +202,7 @@ recent conf past now (e ∷ es) q h = let a = h e (inl refl) in omega (arith, a.
 
 -- by then nothing is left
 pub ends_by : (conf : SendConf) (lines : List ScriptLine) (now n : ℕ) → IsConf conf → IsScript (events_until lines now) → All (λ l. l.at ≤ now) lines
-    → length (waits_for conf (events_until lines now)) ≤ 16384 → now ≤ 14400000 → 79999999 ≤ n → n < 2 ^ 31 → has_more conf (events_through lines n) ≡ false
+    → length (waits_for conf (events_until lines now)) ≤ MOST_WAITING_OCTETS → now ≤ LAST_MOMENT → 79999999 ≤ n → n < 2 ^ 31 → has_more conf (events_through lines n) ≡ false
 ends_by conf lines now n c s a room early late top =
     subst (λ (past : List Event). has_more conf past ≡ false) (before_suc lines n) (elim (left_at conf lines now (suc n) c s a (omega arith) (omega arith)) [
       | inl none ↦ none
@@ -211,5 +214,5 @@ ends_by conf lines now n c s a room early late top =
           absurd (too_long (potential conf (events_before lines (suc n)) (suc n)) (potential conf past now) (length (waits_for conf past)) (rank conf.gens (sents (sent_by conf past))) (remaining conf.interval (sent_by conf past) now) conf.interval n now refl (let few = rank_le conf.gens (sents (sent_by conf past)) in let most = c.gens in omega (arith, few, most)) rest c.most room early late p))
     ])
   where
-    too_long : (p q w r m i n now : ℕ) → q ≡ 1000 * (4 * w + r) + m → r ≤ 3 → m ≤ i → i ≤ 1000 → w ≤ 16384 → now ≤ 14400000 → 79999999 ≤ n → p + suc n ≤ q + now → ⊥
+    too_long : (p q w r m i n now : ℕ) → q ≡ 1000 * (4 * w + r) + m → r ≤ 3 → m ≤ i → i ≤ 1000 → w ≤ MOST_WAITING_OCTETS → now ≤ 14400000 → 79999999 ≤ n → p + suc n ≤ q + now → ⊥
     too_long p q w r m i n now e a b d f g h l = omega arith

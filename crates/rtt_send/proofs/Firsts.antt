@@ -17,6 +17,8 @@ use Rattle.rtt_send.proofs.Events.{none_before, until_one}
 use Rattle.rtt_send.proofs.Typed.{script_through}
 use Rattle.rtt_send.proofs.Ending.{ends_by}
 use Rattle.rtt_send.proofs.Lines.{ends_agree}
+use Rattle.file_spec.specs.declared.limits.TheConstants.{LAST_MOMENT}
+use Rattle.stream_spec.specs.declared.limits.TheConstants.{MOST_WAITING_OCTETS}
 
 -- ---- an end, as a test
 typed_test : (lines : List ScriptLine) (t : ℕ) → All (λ l. l.at ≤ t) lines → list_all (λ l. nat_le l.at t) lines ≡ true
@@ -83,29 +85,29 @@ not_full false line more e = (refl, e)
 -- the last line's moment, and that what waits then has room
 record Fits (conf : SendConf) (lines : List ScriptLine) : Type 0 where
   last : ℕ
-  early : last ≤ 14400000
+  early : last ≤ LAST_MOMENT
   typed : All (λ l. l.at ≤ last) lines
-  room : length (waits_for conf (events_until lines last)) ≤ 16384
+  room : length (waits_for conf (events_until lines last)) ≤ MOST_WAITING_OCTETS
 
-fits_on : (conf : SendConf) (above below : List ScriptLine) (now : ℕ) → All (λ l. l.at ≤ now) above → All (λ l. now ≤ l.at) below → InOrder below → All (λ l. l.at ≤ 14400000) below
-    → now ≤ 14400000 → length (waits_for conf (events_until above now)) ≤ 16384 → full_below conf above below ≡ None → Fits conf (above ++ below)
+fits_on : (conf : SendConf) (above below : List ScriptLine) (now : ℕ) → All (λ l. l.at ≤ now) above → All (λ l. now ≤ l.at) below → InOrder below → All (λ l. l.at ≤ LAST_MOMENT) below
+    → now ≤ LAST_MOMENT → length (waits_for conf (events_until above now)) ≤ MOST_WAITING_OCTETS → full_below conf above below ≡ None → Fits conf (above ++ below)
 fits_on conf above [] now a later order early soon room full =
     subst (Fits conf) (sym (nil above)) (let here : Fits conf above = record { last = now; early = soon; typed = a; room = room } in here)
 fits_on conf above (x ∷ more) now a later order early soon room full =
-    let n = not_full (nat_lt 16384 (length (waits_for conf (events_until above x.at)) + length x.text)) x.line (full_below conf (above ++ x ∷ []) more) full in
-    let fits : length (waits_for conf (events_until above x.at)) + length x.text ≤ 16384 = (let h = n.0 in grind (arith, nat_tests)) in
+    let n = not_full (nat_lt MOST_WAITING_OCTETS (length (waits_for conf (events_until above x.at)) + length x.text)) x.line (full_below conf (above ++ x ∷ []) more) full in
+    let fits : length (waits_for conf (events_until above x.at)) + length x.text ≤ MOST_WAITING_OCTETS = (let h = n.0 in grind (arith, nat_tests)) in
     let after = All-head (λ l. now ≤ l.at) x more later in
     let typed = All-push (λ l. l.at ≤ x.at) above x (All-weaker (λ l. l.at ≤ now) (λ l. l.at ≤ x.at) (λ y h. omega arith) above a) (omega arith) in
     let waits = ap (λ past. waits_for conf past) (until_one above x x.at refl) ∙ waits_more (stream_of conf) conf.interval (events_until above x.at) x.text in
     let many = ap (λ (w : List ℕ). length w) waits in
-    let roomy : length (waits_for conf (events_until (above ++ x ∷ []) x.at)) ≤ 16384 = omega (arith, fits, many, length-append (waits_for conf (events_until above x.at)) x.text) in
+    let roomy : length (waits_for conf (events_until (above ++ x ∷ []) x.at)) ≤ MOST_WAITING_OCTETS = omega (arith, fits, many, length-append (waits_for conf (events_until above x.at)) x.text) in
     subst (Fits conf) (append_assoc above (x ∷ []) more)
-    (fits_on conf (above ++ x ∷ []) more x.at typed order.0 order.1 (All-tail (λ l. l.at ≤ 14400000) x more early) (All-head (λ l. l.at ≤ 14400000) x more early) roomy n.1)
+    (fits_on conf (above ++ x ∷ []) more x.at typed order.0 order.1 (All-tail (λ l. l.at ≤ LAST_MOMENT) x more early) (All-head (λ l. l.at ≤ LAST_MOMENT) x more early) roomy n.1)
 
 fits_all : (conf : SendConf) (lines : List ScriptLine) → AreLines lines → full_line conf lines ≡ None → Fits conf lines
 fits_all conf lines a full =
-    let none : length (waits_for conf (events_until [] 0)) ≤ 16384 = subst (λ past. length (waits_for conf past) ≤ 16384) (sym (none_before [])) (omega arith) in
-    fits_on conf [] lines 0 (All-nil (λ (l : ScriptLine). l.at ≤ 0)) (All-weaker (λ l. l.at ≤ 14400000) (λ l. 0 ≤ l.at) (λ l h. omega arith) lines a.early) a.ordered a.early (omega arith) none full
+    let none : length (waits_for conf (events_until [] 0)) ≤ MOST_WAITING_OCTETS = subst (λ past. length (waits_for conf past) ≤ MOST_WAITING_OCTETS) (sym (none_before [])) (omega arith) in
+    fits_on conf [] lines 0 (All-nil (λ (l : ScriptLine). l.at ≤ 0)) (All-weaker (λ l. l.at ≤ LAST_MOMENT) (λ l. 0 ≤ l.at) (λ l h. omega arith) lines a.early) a.ordered a.early (omega arith) none full
 
 some_end : (conf : SendConf) (lines : List ScriptLine) → IsConf conf → AreLines lines → full_line conf lines ≡ None → IsEnd conf lines 79999999
 some_end conf lines k a full =

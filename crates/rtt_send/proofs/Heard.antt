@@ -27,6 +27,7 @@ use Rattle.rtt_send.specs.Scripts.{IsEnd}
 use Rattle.rtt_send.specs.Scripts.{records_sent, recording_sent}
 use Rattle.rtt_send.proofs.Arriving.{place_under, recording_arrives}
 use Rattle.rtt_send.proofs.Typed.{script_through, lawful_sent, texts_sent}
+use Rattle.wire_spec.specs.declared.limits.TheConstants.{LAST_RECORD_MOMENT}
 
 -- ---- no place is missing
 or_more : (a b : Bool) → b ≡ true → (a || b) ≡ true
@@ -84,7 +85,7 @@ one_source conf lines t k a l x i =
     w.source ∙ (in_sent_of conf.ssrc zs w.sent_one (subst (λ (ys : List Sent). In w.sent_one ys) (sym own) w.is_in)).1
 
 pub script_heard : (conf : SendConf) (lines : List ScriptLine) (t wait : ℕ) → IsConf conf → conf.ssrc < 2 ^ 32 → AreLines lines → t < 2 ^ 31 → IsEnd conf lines t
-    → All (λ r. r.0 ≤ 14400000) (records_sent conf lines t) → length (recording_sent conf lines t) ≤ usual_limit
+    → All (λ r. r.0 ≤ LAST_RECORD_MOMENT) (records_sent conf lines t) → length (recording_sent conf lines t) ≤ usual_limit
     → concat (heard wait (arrivals (recording_sent conf lines t) conf.ssrc conf.pts) conf.ssrc) ≡ text_of_lines lines
 script_heard conf lines t wait k b a l e early small =
     let h = history_sent conf (events_through lines t) in

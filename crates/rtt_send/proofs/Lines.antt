@@ -18,6 +18,8 @@ use Rattle.rtt_send.specs.declared.recorders.Recorder.{Recorder}
 use Rattle.rtt_send.proofs.Events.{before_suc, until_later}
 use Rattle.rtt_send.proofs.Asking.{idle_on, no_more}
 use Rattle.rtt_send.proofs.Ending.{ends_by}
+use Rattle.file_spec.specs.declared.limits.TheConstants.{LAST_MOMENT}
+use Rattle.stream_spec.specs.declared.limits.TheConstants.{MOST_WAITING_OCTETS}
 
 -- ---- two ends
 one_end : (conf : SendConf) (lines : List ScriptLine) (t k : ℕ) → IsEnd conf lines t → t ≤ k → recording_sent conf lines k ≡ recording_sent conf lines t
@@ -36,7 +38,7 @@ ends_agree conf lines t k e f = elim (cases_lt t k) [
 pub record Sends (conf : SendConf) (lines above below : List ScriptLine) (r : Recorder) : Type 0 where
   pub whole : lines ≡ above ++ below
   pub is_at : IsAt conf above r
-  pub early : r.now ≤ 14400000
+  pub early : r.now ≤ LAST_MOMENT
   pub later : All (λ l. r.now ≤ l.at) below
   pub lines_below : AreLines below
   pub full : full_line conf lines ≡ full_below conf above below
@@ -46,39 +48,39 @@ at_first conf lines r a i z = record {
   whole = refl;
   is_at = i;
   early = omega arith;
-  later = All-weaker (λ l. l.at ≤ 14400000) (λ l. r.now ≤ l.at) (λ l h. omega arith) lines a.early;
+  later = All-weaker (λ l. l.at ≤ LAST_MOMENT) (λ l. r.now ≤ l.at) (λ l h. omega arith) lines a.early;
   lines_below = a;
   full = refl;
 }
 
 more_lines : (line : ScriptLine) (more : List ScriptLine) → AreLines (line ∷ more) → AreLines more
-more_lines line more a = record { ordered = a.ordered.1; early = All-tail (λ l. l.at ≤ 14400000) line more a.early; texts = All-tail (λ l. IsUtf8 l.text) line more a.texts }
+more_lines line more a = record { ordered = a.ordered.1; early = All-tail (λ l. l.at ≤ LAST_MOMENT) line more a.early; texts = All-tail (λ l. IsUtf8 l.text) line more a.texts }
 
 -- a line that fits
 pub next_line : (conf : SendConf) (lines above more : List ScriptLine) (line : ScriptLine) (r passed typed : Recorder) → Sends conf lines above (line ∷ more) r
-    → passed.now ≡ line.at → length (waits_for conf (events_until above passed.now)) + length line.text ≤ 16384 → IsAt conf (above ++ line ∷ []) typed → typed.now ≡ passed.now → Sends conf lines (above ++ line ∷ []) more typed
+    → passed.now ≡ line.at → length (waits_for conf (events_until above passed.now)) + length line.text ≤ MOST_WAITING_OCTETS → IsAt conf (above ++ line ∷ []) typed → typed.now ≡ passed.now → Sends conf lines (above ++ line ∷ []) more typed
 next_line conf lines above more line r passed typed s p fits i n = record {
   whole = s.whole ∙ sym (append_assoc above (line ∷ []) more);
   is_at = i;
-  early = omega (arith, n, p, All-head (λ l. l.at ≤ 14400000) line more s.lines_below.early);
+  early = omega (arith, n, p, All-head (λ l. l.at ≤ LAST_MOMENT) line more s.lines_below.early);
   later = All-weaker (λ l. line.at ≤ l.at) (λ l. typed.now ≤ l.at) (λ l h. omega arith) more s.lines_below.ordered.0;
   lines_below = more_lines line more s.lines_below;
   full = s.full ∙ ap (λ b. cond b (Some line.line) (full_below conf (above ++ line ∷ []) more)) not_full;
 }
   where
-    test : (a : ℕ) → a ≤ 16384 → nat_lt 16384 a ≡ false
+    test : (a : ℕ) → a ≤ MOST_WAITING_OCTETS → nat_lt MOST_WAITING_OCTETS a ≡ false
     test a l = grind (arith, nat_tests)
 
-    not_full : nat_lt 16384 (length (waits_for conf (events_until above line.at)) + length line.text) ≡ false
-    not_full = test (length (waits_for conf (events_until above line.at)) + length line.text) (subst (λ t. length (waits_for conf (events_until above t)) + length line.text ≤ 16384) p fits)
+    not_full : nat_lt MOST_WAITING_OCTETS (length (waits_for conf (events_until above line.at)) + length line.text) ≡ false
+    not_full = test (length (waits_for conf (events_until above line.at)) + length line.text) (subst (λ t. length (waits_for conf (events_until above t)) + length line.text ≤ MOST_WAITING_OCTETS) p fits)
 
 -- a line that is full
 pub full_here : (conf : SendConf) (lines above more : List ScriptLine) (line : ScriptLine) (r passed : Recorder) → Sends conf lines above (line ∷ more) r
-    → passed.now ≡ line.at → 16384 < length (waits_for conf (events_until above passed.now)) + length line.text → full_line conf lines ≡ Some line.line
+    → passed.now ≡ line.at → MOST_WAITING_OCTETS < length (waits_for conf (events_until above passed.now)) + length line.text → full_line conf lines ≡ Some line.line
 full_here conf lines above more line r passed s p over =
-    s.full ∙ ap (λ b. cond b (Some line.line) (full_below conf (above ++ line ∷ []) more)) (test (length (waits_for conf (events_until above line.at)) + length line.text) (subst (λ t. 16384 < length (waits_for conf (events_until above t)) + length line.text) p over))
+    s.full ∙ ap (λ b. cond b (Some line.line) (full_below conf (above ++ line ∷ []) more)) (test (length (waits_for conf (events_until above line.at)) + length line.text) (subst (λ t. MOST_WAITING_OCTETS < length (waits_for conf (events_until above t)) + length line.text) p over))
   where
-    test : (a : ℕ) → 16384 < a → nat_lt 16384 a ≡ true
+    test : (a : ℕ) → MOST_WAITING_OCTETS < a → nat_lt MOST_WAITING_OCTETS a ≡ true
     test a l = grind (arith, nat_tests)
 
 -- ---- behind the last line

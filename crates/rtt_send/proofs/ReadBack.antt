@@ -26,12 +26,14 @@ use Rattle.red_window.proofs.Fitting.{packet_fits, few_octets}
 use Rattle.command_spec.specs.Scripts.{AreLines, events_through}
 use Rattle.rtt_send.specs.Scripts.{records_of, records_sent, recording_sent}
 use Rattle.rtt_send.proofs.Typed.{script_through}
+use Rattle.rtt_base.specs.declared.limits.TheConstants.{MOST_PACKET_OCTETS}
+use Rattle.wire_spec.specs.declared.limits.TheConstants.{LAST_RECORD_MOMENT}
 
 -- ---- a packet
 pub record IsBack (conf : SendConf) (p : Packet) : Type 0 where
   pub text_is : text_of (packet_written conf.pts p) (Some conf.ssrc) conf.pts ≡ Ok p
   pub some : 0 < length (packet_written conf.pts p)
-  pub few : length (packet_written conf.pts p) ≤ 4224
+  pub few : length (packet_written conf.pts p) ≤ MOST_PACKET_OCTETS
 
 packet_back : (conf : SendConf) (zs : List Sent) (e : Sent) → IsConf conf → conf.ssrc < 2 ^ 32 → e.source ≡ conf.ssrc → Sendable (stream_of conf) (e ∷ zs)
     → IsBack conf (packet_after (stream_of conf) zs e)
@@ -99,19 +101,19 @@ all_front : {X : Type 0} (P : X → Type 0) (xs : List X) (x : X) → AllByRecur
 all_front P [] x a = (tt, a.0)
 all_front P (y ∷ xs) x a = let r = all_front P xs x a.1 in ((a.0, r.0), r.1)
 
-fit : (conf : SendConf) (es : List Turned) → Backs conf es → AllByRecursion (λ r. r.0 ≤ 14400000) (records_of conf es) → AllByRecursion FitsRecord (records_of conf es)
+fit : (conf : SendConf) (es : List Turned) → Backs conf es → AllByRecursion (λ r. r.0 ≤ LAST_RECORD_MOMENT) (records_of conf es) → AllByRecursion FitsRecord (records_of conf es)
 fit conf [] b a = tt
 fit conf (e ∷ es) b a =
     let r : ℕ × List ℕ = (e.at, packet_written conf.pts (packet_after (stream_of conf) (sents es) e.sent)) in
-    let f = all_front (λ r. r.0 ≤ 14400000) (records_of conf es) r a in
+    let f = all_front (λ r. r.0 ≤ LAST_RECORD_MOMENT) (records_of conf es) r a in
     all_append FitsRecord (records_of conf es) r (fit conf es b.1 f.0) (record { time = f.1; some = b.0.some; few = b.0.few })
 
 pub packets_back : (conf : SendConf) (lines : List ScriptLine) (t : ℕ) → IsConf conf → conf.ssrc < 2 ^ 32 → AreLines lines → t < 2 ^ 31
     → map (read_of conf) (records_sent conf lines t) ≡ map (own_of (history_sent conf (events_through lines t))) (placed (history_sent conf (events_through lines t)))
 packets_back conf lines t k b a l = read_are conf (sent_by conf (events_through lines t)) (all_back conf (events_through lines t) k b (script_through lines t a l))
 
-pub items_back : (conf : SendConf) (lines : List ScriptLine) (t : ℕ) → IsConf conf → conf.ssrc < 2 ^ 32 → AreLines lines → t < 2 ^ 31 → All (λ r. r.0 ≤ 14400000) (records_sent conf lines t)
+pub items_back : (conf : SendConf) (lines : List ScriptLine) (t : ℕ) → IsConf conf → conf.ssrc < 2 ^ 32 → AreLines lines → t < 2 ^ 31 → All (λ r. r.0 ≤ LAST_RECORD_MOMENT) (records_sent conf lines t)
     → length (recording_sent conf lines t) ≤ usual_limit → dump usual_limit (recording_sent conf lines t) ≡ record { items = map sent_item (records_sent conf lines t); fault = None }
 items_back conf lines t k b a l early small =
     read_back usual_limit (records_sent conf lines t)
-    (fit conf (sent_by conf (events_through lines t)) (all_back conf (events_through lines t) k b (script_through lines t a l)) (recursion_from_All (λ r. r.0 ≤ 14400000) (records_sent conf lines t) early)) small
+    (fit conf (sent_by conf (events_through lines t)) (all_back conf (events_through lines t) k b (script_through lines t a l)) (recursion_from_All (λ r. r.0 ≤ LAST_RECORD_MOMENT) (records_sent conf lines t) early)) small

@@ -15,6 +15,7 @@ use Rattle.command_spec.specs.Scripts.{events_before, events_until, events_throu
 use Rattle.rtt_send.specs.Insides.{Records}
 use Rattle.rtt_send.proofs.Events.{none_before, until_one, until_later, script_on}
 use Rattle.rtt_send.proofs.Asking.{idle_on, before_next, no_next, next_later, records_also}
+use Rattle.stream_spec.specs.declared.limits.TheConstants.{MOST_WAITING_OCTETS}
 
 pub on_ok_with : {T E P Q : Type 0} (r : Result T E) → (IsOk r → P → Q) → OnOk r P → OnOk r Q
 on_ok_with (Ok x) f p = f (search rules) p
@@ -31,7 +32,7 @@ at_start conf s octets k r e = subst (Records conf s octets) (sym (none_before [
     opened = nil dump_opening
 
 pub typed_line : (conf : SendConf) (s new : State) (octets : List ℕ) (lines : List ScriptLine) (line : ScriptLine) (now : ℕ) → Records conf s octets (events_until lines now)
-    → StandsFor conf new (Text line.text ∷ events_until lines now) → now ≡ line.at → length (waits_for conf (events_until lines now)) + length line.text ≤ 16384
+    → StandsFor conf new (Text line.text ∷ events_until lines now) → now ≡ line.at → length (waits_for conf (events_until lines now)) + length line.text ≤ MOST_WAITING_OCTETS
     → Records conf new octets (events_until (lines ++ line ∷ []) now)
 typed_line conf s new octets lines line now r stands e fits =
     subst (Records conf new octets) (sym (until_one lines line now e)) (let after : Records conf new octets (Text line.text ∷ events_until lines now) = record {
@@ -69,10 +70,10 @@ not_ok : {T E : Type 0} (r : Result T E) → is_err r ≡ true → IsOk r → �
 not_ok (Ok x) e i = cc e
 not_ok (Err x) e i = search (rules, i)
 
-pub err_over : {T E : Type 0} (r : Result T E) (n : ℕ) → is_err r ≡ true → (IsOk r ↔ (n ≤ 16384)) → 16384 < n
-err_over r n e i = elim (cases_lt 16384 n) [ inl lt ↦ lt | inr ge ↦ absurd (not_ok r e (i.1 ge)) ]
+pub err_over : {T E : Type 0} (r : Result T E) (n : ℕ) → is_err r ≡ true → (IsOk r ↔ (n ≤ MOST_WAITING_OCTETS)) → MOST_WAITING_OCTETS < n
+err_over r n e i = elim (cases_lt MOST_WAITING_OCTETS n) [ inl lt ↦ lt | inr ge ↦ absurd (not_ok r e (i.1 ge)) ]
 
-pub ok_fits : {T E : Type 0} (r : Result T E) (n : ℕ) → is_err r ≡ false → (IsOk r ↔ (n ≤ 16384)) → n ≤ 16384
+pub ok_fits : {T E : Type 0} (r : Result T E) (n : ℕ) → is_err r ≡ false → (IsOk r ↔ (n ≤ MOST_WAITING_OCTETS)) → n ≤ MOST_WAITING_OCTETS
 ok_fits (Ok x) n e i = i.0 (search rules)
 ok_fits (Err x) n e i = cc e
 

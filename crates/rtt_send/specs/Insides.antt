@@ -10,13 +10,14 @@ use Rattle.text_sender.specs.Standing.{StandsFor, sent_by, waits_for}
 use Rattle.rtt_send.specs.declared.recorders.Recorder.{Recorder}
 use Rattle.command_spec.specs.Scripts.{events_until, events_through}
 use Rattle.rtt_send.specs.Scripts.{records_of}
+use Rattle.stream_spec.specs.declared.limits.TheConstants.{MOST_WAITING_OCTETS}
 
 -- The sender stands for these events, and the octets are the recording of what it sent.
 pub record Records (conf : SendConf) (s : State) (octets : List ℕ) (past : List Event) : Type 0 where
   pub conf_is : IsConf conf
   pub sender : StandsFor conf s past
   pub recorded : octets ≡ dump_written (records_of conf (sent_by conf past))
-  pub room : length (waits_for conf past) ≤ 16384
+  pub room : length (waits_for conf past) ≤ MOST_WAITING_OCTETS
 
 -- These lines were typed, none after the present millisecond, and it was asked at all milliseconds before.
 pub record IsAt (conf : SendConf) (lines : List ScriptLine) (r : Recorder) : Type 0 where

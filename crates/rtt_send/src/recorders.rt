@@ -1,5 +1,6 @@
 //! A sender whose packets are recorded.
 ghost use Rattle.std.specs.Prelude.{◌≡◌, ◌+◌, ◌<◌, ◌≤◌, ◌↔◌, ◌^◌, ◌∷◌, ◌++◌, [], List, length, IfOk, IsOk, OnOk, IsUtf8};
+ghost use Rattle.stream_spec.specs.declared.limits.TheConstants.{MOST_WAITING_OCTETS};
 
 use rtpdump_io::{write_opening, write_record};
 use rtt_base::{Bytes, Full, NoMemory, Packet};
@@ -50,7 +51,7 @@ impl Recorder {
         requires text { IsUtf8 line.text.now }
         requires now { self.old.now ≡ line.at }
         ensures room { (conf : SendConf) (lines : List spec.ScriptLine) → IsAt conf lines self.old
-            → (IsOk result ↔ (length (waits_for conf (events_until lines self.old.now)) + length line.entry.text.now ≤ 16384)) }
+            → (IsOk result ↔ (length (waits_for conf (events_until lines self.old.now)) + length line.entry.text.now ≤ MOST_WAITING_OCTETS)) }
         ensures ok { OnOk result ((conf : SendConf) (lines : List spec.ScriptLine) → IsAt conf lines self.old → IsAt conf (lines ++ line_of line.entry ∷ []) self.new) }
         ensures now { self.new.now ≡ self.old.now }
     {

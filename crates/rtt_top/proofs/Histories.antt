@@ -17,8 +17,9 @@ use Rattle.rtt_send.proofs.Accepted.{accepted_lines}
 use Rattle.rtt_send.proofs.Typed.{lawful_sent, closed_sent, texts_sent}
 use Rattle.rtt_send.proofs.Firsts.{scripts_end, ends_early}
 use Rattle.rtt_send.proofs.ReadBack.{packets_back}
+use Rattle.command_spec.specs.declared.limits.TheConstants.{USUAL_INTERVAL}
 
-usual_conf : (s : SendWords) → IsConf (record { ssrc = s.ssrc; seq = s.seq; stamp = s.stamp; pts = usual_pts; interval = 300; gens = 2 })
+usual_conf : (s : SendWords) → IsConf (record { ssrc = s.ssrc; seq = s.seq; stamp = s.stamp; pts = usual_pts; interval = USUAL_INTERVAL; gens = 2 })
 usual_conf s = record { least = omega arith; most = omega arith; t140 = omega arith; red = omega arith; gens = omega arith; differ = λ e. omega arith }
 
 -- the file of these steps
@@ -39,7 +40,7 @@ sent s octets file e = go (script octets) refl e
     go : (r : Result (List ScriptLine) lines.Refusal) → script octets ≡ r → sends s r ≡ Makes [] (record { name = s.out; octets = file } ∷ []) → IsSent s octets file
     go (Err refusal) read m = cc m
     go (Ok ls) read m =
-        let conf : SendConf = record { ssrc = s.ssrc; seq = s.seq; stamp = s.stamp; pts = usual_pts; interval = 300; gens = 2 } in
+        let conf : SendConf = record { ssrc = s.ssrc; seq = s.seq; stamp = s.stamp; pts = usual_pts; interval = USUAL_INTERVAL; gens = 2 } in
         let made = made_full s ls (full_line conf ls) file m in
         let are = accepted_lines octets ls read in
         let early : first_end conf ls < 80000000 = ends_early conf ls (usual_conf s) are made.0 in

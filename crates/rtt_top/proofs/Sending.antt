@@ -27,26 +27,27 @@ use Rattle.rtt_top.specs.Outside.{Outside, Output, CallFailed, ObjectFailed}
 use Rattle.rtt_top.specs.Runs.{PartlyStored, Unchanged, Ends}
 use Rattle.rtt_top.proofs.Counts.{rose_since, rose_before}
 use Rattle.rtt_top.proofs.Working.{lies, done}
+use Rattle.file_spec.specs.declared.limits.TheConstants.{MOST_SCRIPT_OCTETS}
 
 -- ---- what was read is a script
-too_large : (octets : List ℕ) → 1048576 < length octets → script octets ≡ Err (record { line = 0; kind = Large })
+too_large : (octets : List ℕ) → MOST_SCRIPT_OCTETS < length octets → script octets ≡ Err (record { line = 0; kind = Large })
 too_large octets l =
-    let over : nat_lt 1048576 (length octets) ≡ true = grind (arith, nat_tests) in
+    let over : nat_lt MOST_SCRIPT_OCTETS (length octets) ≡ true = grind (arith, nat_tests) in
     ap (λ b. cond b (Err (record { line = 0; kind = Large })) (read_lines and_line [] (told is_comment 1 (str.lines octets)))) over
 
 -- a front of more than the most says the same as the whole
-pub same_script : (octets whole : List ℕ) → IsFrontOf 1048576 octets whole → script whole ≡ script octets
+pub same_script : (octets whole : List ℕ) → IsFrontOf MOST_SCRIPT_OCTETS octets whole → script whole ≡ script octets
 same_script octets whole (inl e) = ap script e
 same_script octets whole (inr f) =
     let more = ap (λ (xs : List ℕ). length xs) f.2 in
     too_large whole (omega (arith, f.0, more, length-append octets f.1)) ∙ sym (too_large octets f.0)
 
-accepted_front : (octets whole : List ℕ) (ls : List ScriptLine) → IsFrontOf 1048576 octets whole → script octets ≡ Ok ls → whole ≡ octets
+accepted_front : (octets whole : List ℕ) (ls : List ScriptLine) → IsFrontOf MOST_SCRIPT_OCTETS octets whole → script octets ≡ Ok ls → whole ≡ octets
 accepted_front octets whole ls (inl e) s = e
 accepted_front octets whole ls (inr f) s = let large = too_large octets f.0 in absurd (cc (s, large))
 
 -- the octets that were read, which lie there as far as that is told
-pub read_octets : (Told : Type 0) (held : Option (List ℕ)) (octets : List ℕ) (ls : List ScriptLine) → (Told → (whole : List ℕ) × (held ≡ Some whole) × IsFrontOf 1048576 octets whole)
+pub read_octets : (Told : Type 0) (held : Option (List ℕ)) (octets : List ℕ) (ls : List ScriptLine) → (Told → (whole : List ℕ) × (held ≡ Some whole) × IsFrontOf MOST_SCRIPT_OCTETS octets whole)
     → script octets ≡ Ok ls → (o : List ℕ) × (Told → held ≡ Some o) × (script o ≡ Ok ls)
 read_octets Told held octets ls given s = (octets, λ t. let g = given t in g.1 ∙ ap (λ (o : List ℕ). Some o) (accepted_front octets g.0 ls g.2 s), s)
 
@@ -58,7 +59,7 @@ refused_at Told held s Call Object line kind t =
     (refl, λ told. let h = t told in lies held s.script (λ octets. sends s (script octets)) h.0 h.1 ∙ ap (outcome_from 1 held) h.2)
 
 pub script_refused : (Told : Type 0) (held : Contents) (s : SendWords) (Call Object : List ℕ → Type 0) (octets : List ℕ) (line : ℕ) (kind : ConfKind)
-    → (Told → (whole : List ℕ) × (held s.script ≡ Some whole) × IsFrontOf 1048576 octets whole) → script octets ≡ Err (record { line = line; kind = kind })
+    → (Told → (whole : List ℕ) × (held s.script ≡ Some whole) × IsFrontOf MOST_SCRIPT_OCTETS octets whole) → script octets ≡ Err (record { line = line; kind = kind })
     → Stops Told held (work (Send s)).steps Call Object s.script (Refused 0 (AtLine line kind))
 script_refused Told held s Call Object octets line kind given e =
     refused_at Told held s Call Object line kind (λ told. let g = given told in (g.0, g.1, ap (sends s) (same_script octets g.0 g.2 ∙ e)))

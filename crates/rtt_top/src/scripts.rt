@@ -11,6 +11,7 @@ ghost use Rattle.rtt_top.specs.Faults.{Stops};
 ghost use Rattle.rtt_top.specs.Outside.{RoseAt};
 
 use crate::files::read_input;
+use command_spec::limits::USUAL_INTERVAL;
 use command_spec::{Fault, Refusal};
 use file_spec::ConfKind;
 use file_spec::limits::{MOST_SCRIPT_OCTETS, USUAL_RED, USUAL_T140};
@@ -78,7 +79,7 @@ pub fn recording_of<W: World>(
             t140: USUAL_T140,
             red: USUAL_RED,
         },
-        interval: 300,
+        interval: USUAL_INTERVAL,
         gens: 2,
     };
     match send_script(alloc, &script, conf) {

@@ -7,6 +7,7 @@ use Rattle.std.proofs.lemmas.List.Quantifiers.{position-Some}
 use Rattle.std.proofs.lemmas.Bool.{ltb-false, eqb-true}
 use Rattle.file_spec.specs.declared.kinds.ConfKind.TheVariants.{Escape, Long}
 use Rattle.file_spec.specs.Script.{unescaped, followed, typed}
+use Rattle.file_spec.specs.declared.limits.TheConstants.{LONGEST_TEXT}
 
 -- the text so far, where `rest` is to come
 abbrev pub HasRead : List ℕ → List ℕ → List ℕ → Type 0
@@ -83,12 +84,12 @@ no_escape octets rest text part behind first second read =
 whole : (octets rest text : List ℕ) → unescaped rest ≡ Some rest → HasRead octets rest text → unescaped octets ≡ Some (text ++ rest)
 whole octets rest text plain read = read ∙ ap (λ m. followed (Some text) m) plain
 
-pub end_read : (octets rest text : List ℕ) → unescaped rest ≡ Some rest → length (text ++ rest) ≤ 1023 → HasRead octets rest text → typed octets ≡ Ok (text ++ rest)
+pub end_read : (octets rest text : List ℕ) → unescaped rest ≡ Some rest → length (text ++ rest) ≤ LONGEST_TEXT → HasRead octets rest text → typed octets ≡ Ok (text ++ rest)
 end_read octets rest text plain short read =
-    let over : ltb 1023 (length (text ++ rest)) ≡ false = le-ltb _ _ short in
+    let over : ltb LONGEST_TEXT (length (text ++ rest)) ≡ false = le-ltb _ _ short in
     rw (whole octets rest text plain read, over) refl
 
-pub end_long : (octets rest text : List ℕ) → unescaped rest ≡ Some rest → 1023 < length (text ++ rest) → HasRead octets rest text → typed octets ≡ Err Long
+pub end_long : (octets rest text : List ℕ) → unescaped rest ≡ Some rest → LONGEST_TEXT < length (text ++ rest) → HasRead octets rest text → typed octets ≡ Err Long
 end_long octets rest text plain long read =
-    let over : ltb 1023 (length (text ++ rest)) ≡ true = lt-ltb _ _ long in
+    let over : ltb LONGEST_TEXT (length (text ++ rest)) ≡ true = lt-ltb _ _ long in
     rw (whole octets rest text plain read, over) refl

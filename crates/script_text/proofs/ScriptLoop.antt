@@ -5,6 +5,7 @@ use Rattle.file_spec.specs.Lines.{told, is_comment, read_lines}
 use Rattle.rtt_base.specs.Steps.{◌>>=◌}
 use Rattle.std.specs.Str.Lines.{lines}
 use Rattle.file_lines.proofs.LineByLine.{one_read}
+use Rattle.file_spec.specs.declared.limits.TheConstants.{MOST_SCRIPT_OCTETS}
 
 pub latest-push : (above : List ScriptLine) (l : ScriptLine) → latest above ≤ l.at → latest (above ++ l ∷ []) ≡ l.at
 latest-push [] l h = omega arith
@@ -15,7 +16,7 @@ pub record HasReadLines (octets rest : List ℕ) (above : List ScriptLine) (mome
   pub same : read_lines and_line above (told is_comment (number + 1) (lines rest)) ≡ read_lines and_line [] (told is_comment 1 (lines octets))
   pub last : latest above ≡ moment
   pub counted : number + length rest ≤ length octets
-  pub fits : length octets ≤ 1048576
+  pub fits : length octets ≤ MOST_SCRIPT_OCTETS
 
 pub script_more : (octets rest line after : List ℕ) (above later : List ScriptLine) (said : ScriptLine) (moment number : ℕ)
     → lines rest ≡ line ∷ lines after → length after < length rest → is_comment line ≡ false

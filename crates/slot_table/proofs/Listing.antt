@@ -14,6 +14,7 @@ use Rattle.slot_table.specs.Listed.{Queue, Chosen, Listed, taken_of, all_taken, 
 use Rattle.slot_table.proofs.Lists.{get_set_same, get_set_other, get_map, get_within}
 use Rattle.slot_table.proofs.Sizes.{octets_append}
 use Rattle.slot_table.proofs.Sources.{get_push}
+use Rattle.mixer_spec.specs.declared.limits.TheConstants.{MOST_SPAN_CHUNKS, MOST_SPAN_OCTETS}
 
 -- ---- the span
 any_same : (p q : ℕ → Bool) (n : ℕ) → ((j : ℕ) → j < n → p j ≡ q j) → any_below p n ≡ any_below q n
@@ -80,20 +81,20 @@ and_swap true false = refl
 and_swap false true = refl
 and_swap false false = refl
 
-one_more : (n : ℕ) → nat_lt n 512 ≡ nat_le (n + 1) 512
-one_more n = elim (cases_lt n 512) [
-  | inl l ↦ lt-ltb n 512 l ∙ sym (le-leb (n + 1) 512 (omega (arith, l)))
-  | inr m ↦ le-ltb n 512 m ∙ sym (lt-leb (n + 1) 512 (omega (arith, m)))
+one_more : (n : ℕ) → nat_lt n MOST_SPAN_CHUNKS ≡ nat_le (n + 1) MOST_SPAN_CHUNKS
+one_more n = elim (cases_lt n MOST_SPAN_CHUNKS) [
+  | inl l ↦ lt-ltb n MOST_SPAN_CHUNKS l ∙ sym (le-leb (n + 1) MOST_SPAN_CHUNKS (omega (arith, l)))
+  | inr m ↦ le-ltb n MOST_SPAN_CHUNKS m ∙ sym (lt-leb (n + 1) MOST_SPAN_CHUNKS (omega (arith, m)))
 ]
 
 room_is : (c : Chunk) (xs : List Taken) → has_room_for (length c.text) xs ≡ is_fit (chunks_taken xs ++ c ∷ [])
 room_is c xs =
     let cs = chunks_taken xs in
-    let few : nat_lt (length xs) 512 ≡ nat_le (length (cs ++ c ∷ [])) 512 =
-    one_more (length xs) ∙ ap (λ (n : ℕ). nat_le n 512) (omega (arith, length-append cs (c ∷ []), length-map xs (λ (x : Taken). x.chunk))) in
-    let small : nat_le (octets cs + length c.text) 16384 ≡ nat_le (octets (cs ++ c ∷ [])) 16384 = ap (λ (n : ℕ). nat_le n 16384) (omega (arith, octets_append cs (c ∷ []))) in
-    and_swap (nat_lt (length xs) 512) (nat_le (octets cs + length c.text) 16384)
-    ∙ (ap (λ (b : Bool). b && nat_lt (length xs) 512) small ∙ ap (λ (b : Bool). nat_le (octets (cs ++ c ∷ [])) 16384 && b) few)
+    let few : nat_lt (length xs) MOST_SPAN_CHUNKS ≡ nat_le (length (cs ++ c ∷ [])) MOST_SPAN_CHUNKS =
+    one_more (length xs) ∙ ap (λ (n : ℕ). nat_le n MOST_SPAN_CHUNKS) (omega (arith, length-append cs (c ∷ []), length-map xs (λ (x : Taken). x.chunk))) in
+    let small : nat_le (octets cs + length c.text) MOST_SPAN_OCTETS ≡ nat_le (octets (cs ++ c ∷ [])) MOST_SPAN_OCTETS = ap (λ (n : ℕ). nat_le n MOST_SPAN_OCTETS) (omega (arith, octets_append cs (c ∷ []))) in
+    and_swap (nat_lt (length xs) MOST_SPAN_CHUNKS) (nat_le (octets cs + length c.text) MOST_SPAN_OCTETS)
+    ∙ (ap (λ (b : Bool). b && nat_lt (length xs) MOST_SPAN_CHUNKS) small ∙ ap (λ (b : Bool). nat_le (octets (cs ++ c ∷ [])) MOST_SPAN_OCTETS && b) few)
 
 pub room_told : (l : Listed) (s : Setup) (i : ℕ) (table : Table) (c : Chunk) → SourceListed s i l table → has_room_for (length c.text) (still_waiting l.queues (all_taken l.taken)) ≡ is_fit (span_with s i c table)
 room_told l s i table c h =

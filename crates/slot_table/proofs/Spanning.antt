@@ -20,6 +20,7 @@ use Rattle.slot_table.proofs.Holding.{part_end_is}
 use Rattle.slot_table.proofs.Rebasing.{oldest_cuts, early}
 use Rattle.std.proofs.Math.Seq.{drop-append_seam}
 use Rattle.std.proofs.lemmas.Option.{slice_get_within}
+use Rattle.mixer_spec.specs.declared.limits.TheConstants.{MOST_SPAN_CHUNKS, MOST_SPAN_OCTETS}
 
 any_yes : (p : ℕ → Bool) (n x : ℕ) → x < n → p x ≡ true → any_below p n ≡ true
 any_yes p zero x l e = absurd (omega arith)
@@ -132,11 +133,11 @@ with_length xs c = omega (arith, length-append (chunks_taken xs) (c ∷ []), len
 lt_is : (m n : ℕ) → nat_lt m n ≡ nat_le (suc m) n
 lt_is m n = refl
 
-same_test : (a b m n : ℕ) → a ≡ b → suc m ≡ n → (nat_le a 16384 && nat_lt m 512) ≡ (nat_le b 16384 && nat_le n 512)
-same_test a b m n e f = ap (λ (k : ℕ). nat_le k 16384 && nat_lt m 512) e ∙ (ap (λ (t : Bool). nat_le b 16384 && t) (lt_is m 512) ∙ ap (λ (k : ℕ). nat_le b 16384 && nat_le k 512) f)
+same_test : (a b m n : ℕ) → a ≡ b → suc m ≡ n → (nat_le a MOST_SPAN_OCTETS && nat_lt m MOST_SPAN_CHUNKS) ≡ (nat_le b MOST_SPAN_OCTETS && nat_le n MOST_SPAN_CHUNKS)
+same_test a b m n e f = ap (λ (k : ℕ). nat_le k MOST_SPAN_OCTETS && nat_lt m MOST_SPAN_CHUNKS) e ∙ (ap (λ (t : Bool). nat_le b MOST_SPAN_OCTETS && t) (lt_is m MOST_SPAN_CHUNKS) ∙ ap (λ (k : ℕ). nat_le b MOST_SPAN_OCTETS && nat_le k MOST_SPAN_CHUNKS) f)
 
 pub room_is : (s : Setup) (i : ℕ) (w : Waiting) (table : Table) → SourceStands s i w table → (p : Place) → IsOldest (end_of w.chunks) w.parts p → (c : Chunk) (n : ℕ) → length c.text ≡ n
-    → (nat_le (length w.chunks.octets - p.octets + n) 16384 && nat_lt (length w.chunks.lengths - p.chunks) 512) ≡ is_fit (span_with s i c table)
+    → (nat_le (length w.chunks.octets - p.octets + n) MOST_SPAN_OCTETS && nat_lt (length w.chunks.lengths - p.chunks) MOST_SPAN_CHUNKS) ≡ is_fit (span_with s i c table)
 room_is s i w table h p o c n e =
     let k = h.holds in
     let cut = oldest_cuts w (table.taken i) (is_given table.seats i) (λ j. (table.terminals j).waits i) k p o in
@@ -160,11 +161,11 @@ span_small s i table (x ∷ xs) = go (any_below (still_waits i table x xs) s.leg
     go true h = (omega arith, omega arith)
     go false h = (omega arith, omega arith)
 
-both : (a b : ℕ) → a ≤ 16384 → b ≤ 512 → (nat_le a 16384 && nat_le b 512) ≡ true
-both a b l m = ap (λ (t : Bool). t && nat_le b 512) (le-leb a 16384 l) ∙ le-leb b 512 m
+both : (a b : ℕ) → a ≤ MOST_SPAN_OCTETS → b ≤ MOST_SPAN_CHUNKS → (nat_le a MOST_SPAN_OCTETS && nat_le b MOST_SPAN_CHUNKS) ≡ true
+both a b l m = ap (λ (t : Bool). t && nat_le b MOST_SPAN_CHUNKS) (le-leb a MOST_SPAN_OCTETS l) ∙ le-leb b MOST_SPAN_CHUNKS m
 
 -- where all that is kept fits with the chunk, the span does
-pub room_enough : (s : Setup) (i : ℕ) (w : Waiting) (table : Table) → SourceStands s i w table → (c : Chunk) → length w.chunks.octets + length c.text ≤ 16384 → length w.chunks.lengths < 512 → is_fit (span_with s i c table) ≡ true
+pub room_enough : (s : Setup) (i : ℕ) (w : Waiting) (table : Table) → SourceStands s i w table → (c : Chunk) → length w.chunks.octets + length c.text ≤ MOST_SPAN_OCTETS → length w.chunks.lengths < MOST_SPAN_CHUNKS → is_fit (span_with s i c table) ≡ true
 room_enough s i w table h c l m =
     let k = h.holds in
     let span = span_of s i table (table.taken i) in

@@ -6,6 +6,7 @@ use Rattle.mixer_spec.specs.Chunks.{octets}
 use Rattle.mixer_spec.specs.Rounds.{any_below}
 use Rattle.mixer_spec.specs.Setups.{Setup}
 use Rattle.mixer_spec.specs.Table.{Taken, Table, chunks_taken, count_given, is_given, is_fit, span_with}
+use Rattle.mixer_spec.specs.declared.limits.TheConstants.{MOST_SPAN_CHUNKS, MOST_SPAN_OCTETS}
 
 -- whether a terminal listens, and what waits for it
 pub record Queue : Type 0 where
@@ -49,7 +50,7 @@ still_waiting qs (x ∷ xs) = if any_below (λ j. first_waits j (queue_at qs j) 
 
 -- with a chunk of n octets they are at most 512, with at most 16384 octets
 abbrev pub has_room_for : ℕ → List Taken → Bool
-has_room_for n xs = nat_lt (length xs) 512 && nat_le (octets (chunks_taken xs) + n) 16384
+has_room_for n xs = nat_lt (length xs) MOST_SPAN_CHUNKS && nat_le (octets (chunks_taken xs) + n) MOST_SPAN_OCTETS
 
 -- ---- what they stand for
 -- the same chunks, given to the same of the first n terminals

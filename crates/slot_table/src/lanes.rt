@@ -5,6 +5,7 @@ ghost use Rattle.mixer_spec.specs.Rounds.{set_at};
 ghost use Rattle.mixer_spec.specs.Setups.{Setup};
 ghost use Rattle.mixer_spec.specs.Chunks.{joined, octets, front, behind, has_chunk};
 ghost use Rattle.mixer_spec.specs.Table.{Taken, Table, is_fit, is_given, span_with};
+ghost use Rattle.rtt_base.specs.declared.limits.TheConstants.{MOST_TEXT_OCTETS};
 
 use crate::parts::{Part, count_from, first_parts, oldest};
 use crate::rings::{Place, Ring};
@@ -80,7 +81,7 @@ impl Lane {
     /// Appends the longest list of whole chunks with at most `room` octets that waits at the terminal, and takes it from there.
     pub fn take(&mut self, terminal: usize, room: usize, text: &mut Text)
         requires terminal { terminal < length self.old.parts }
-        requires fits { length text.old + room ≤ 1023 }
+        requires fits { length text.old + room ≤ MOST_TEXT_OCTETS }
         ensures terminals { length self.new.parts ≡ length self.old.parts }
         ensures text { LaneTells self.old (λ taken listens waits. text.new ≡ text.old ++ joined (front room (waits terminal))) }
         ensures fits { length text.new ≤ length text.old + room }
@@ -97,7 +98,7 @@ impl Lane {
 
     /// Appends a chunk. `Full`: the span with it has more than 16384 octets or 512 chunks; then all is as before.
     pub fn offer(&mut self, text: &[u8]) -> Result<(), Full>
-        requires { length text.now ≤ 1023 }
+        requires { length text.now ≤ MOST_TEXT_OCTETS }
         ensures terminals { length self.new.parts ≡ length self.old.parts }
         ensures room { TellsRoom text.now self.old (IsOk result) }
         ensures ok { OnOk result (Adds text.now self.old self.new) }
@@ -113,7 +114,7 @@ impl Lane {
     /// `offer`, where chunks must be given up first.
     #[inline(never)]
     fn offer_where_full(&mut self, text: &[u8]) -> Result<(), Full>
-        requires { length text.now ≤ 1023 }
+        requires { length text.now ≤ MOST_TEXT_OCTETS }
         ensures terminals { length self.new.parts ≡ length self.old.parts }
         ensures room { TellsRoom text.now self.old (IsOk result) }
         ensures ok { OnOk result (Adds text.now self.old self.new) }

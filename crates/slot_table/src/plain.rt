@@ -5,6 +5,7 @@ ghost use Rattle.stream_spec.specs.Ready.{chunk_of};
 ghost use Rattle.mixer_spec.specs.Setups.{Setup};
 ghost use Rattle.mixer_spec.specs.Chunks.{joined, octets, front, has_chunk};
 ghost use Rattle.mixer_spec.specs.Table.{is_fit, given, span_with};
+ghost use Rattle.rtt_base.specs.declared.limits.TheConstants.{MOST_TEXT_OCTETS};
 
 use crate::plain_lanes::PlainLane;
 use rtt_base::{Chunk, NoMemory, Text};
@@ -103,7 +104,7 @@ impl Plain {
     /// takes it from this waiting list alone.
     pub fn take(&mut self, terminal: usize, source: usize, room: usize, text: &mut Text)
         requires within { (terminal < length self.old) × (source < length self.old) }
-        requires fits { length text.old + room ≤ 1023 }
+        requires fits { length text.old + room ≤ MOST_TEXT_OCTETS }
         ensures legs { length self.new ≡ length self.old }
         ensures text { ListedTells self.old (λ s table.
             text.new ≡ text.old ++ joined (front room ((table.terminals terminal).waits source))) }

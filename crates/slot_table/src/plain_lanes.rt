@@ -6,8 +6,10 @@ ghost use Rattle.mixer_spec.specs.Chunks.{joined, octets, front, behind, has_chu
 ghost use Rattle.mixer_spec.specs.Table.{chunks_taken, count_given, is_given};
 ghost use Rattle.slot_table.specs.Words.{all_listen};
 ghost use Rattle.slot_table.specs.Listed.{AreFirst, Chosen, Listed, taken_of, all_taken, Lists, ListsTell, ListsAdd, TellsRoomLeft, with_chunk, queue_at, first_waits, still_waiting, has_room_for};
+ghost use Rattle.rtt_base.specs.declared.limits.TheConstants.{MOST_TEXT_OCTETS};
 
 use crate::plain_queues::{Queue, copy_of};
+use mixer_spec::limits::{MOST_SPAN_CHUNKS, MOST_SPAN_OCTETS};
 use rtt_base::{Chunk, NoMemory, Text};
 use std::alloc::Global;
 use std::marker::Model;
@@ -39,7 +41,7 @@ impl Kept {
     /// How many octets it has.
     fn len(&self) -> usize
         ensures value { result ≡ length self.now.chunk.text }
-        ensures most { result ≤ 1023 }
+        ensures most { result ≤ MOST_TEXT_OCTETS }
     {
         self.chunk.text.len()
     }
@@ -87,9 +89,9 @@ fn is_somewhere(taken: &[Kept], queues: &[Queue], terminals: usize) -> bool
 
 /// The octets of the chunks.
 fn octets_taken(taken: &[Kept]) -> usize
-    requires { length taken.now ≤ 512 }
+    requires { length taken.now ≤ MOST_SPAN_CHUNKS }
     ensures value { result ≡ octets (chunks_taken (all_taken taken.now)) }
-    ensures most { result ≤ 1023 * length taken.now }
+    ensures most { result ≤ MOST_TEXT_OCTETS * length taken.now }
 {
     match taken {
         [first, rest @ ..] => first.len() + octets_taken(rest),
@@ -99,13 +101,13 @@ fn octets_taken(taken: &[Kept]) -> usize
 
 /// Whether the chunks, from the oldest that still waits on, have room for one of so many octets.
 fn has_room(taken: &[Kept], queues: &[Queue], octets: usize) -> bool
-    requires { octets ≤ 1023 }
+    requires { octets ≤ MOST_TEXT_OCTETS }
     ensures { result ≡ has_room_for octets (still_waiting queues.now (all_taken taken.now)) }
 {
     match taken {
         [_, rest @ ..] => {
             if is_somewhere(taken, queues, queues.len()) {
-                taken.len() < 512 && octets_taken(taken) + octets <= 16384
+                taken.len() < MOST_SPAN_CHUNKS && octets_taken(taken) + octets <= MOST_SPAN_OCTETS
             } else {
                 has_room(rest, queues, octets)
             }
@@ -203,7 +205,7 @@ impl PlainLane {
     /// Appends the longest list of whole chunks with at most `room` octets that waits at the terminal, and takes it from there.
     pub fn take(&mut self, terminal: usize, room: usize, text: &mut Text)
         requires terminal { terminal < length self.old.queues }
-        requires fits { length text.old + room ≤ 1023 }
+        requires fits { length text.old + room ≤ MOST_TEXT_OCTETS }
         ensures terminals { length self.new.queues ≡ length self.old.queues }
         ensures text { ListsTell self.old (λ taken listens waits. text.new ≡ text.old ++ joined (front room (waits terminal))) }
         ensures fits { length text.new ≤ length text.old + room }

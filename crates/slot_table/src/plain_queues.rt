@@ -3,6 +3,7 @@ ghost use Rattle.std.specs.Prelude.{◌≡◌, ◌+◌, ◌*◌, ◌≤◌, ◌+
 ghost use Rattle.stream_spec.specs.Ready.{chunk_of};
 ghost use Rattle.mixer_spec.specs.Chunks.{joined, octets, front, behind};
 ghost use Rattle.slot_table.specs.Listed.{Queue as QueueValue, with_chunk};
+ghost use Rattle.rtt_base.specs.declared.limits.TheConstants.{MOST_TEXT_OCTETS};
 
 use rtt_base::{Chunk, NoMemory, Text};
 use std::alloc::Global;
@@ -25,7 +26,7 @@ pub fn copy_of(chunk: &Chunk) -> Chunk
 fn octets_of(chunks: &[Chunk]) -> usize
     requires { length chunks.now ≤ 65535 }
     ensures value { result ≡ octets (map chunk_of chunks.now) }
-    ensures most { result ≤ 1023 * length chunks.now }
+    ensures most { result ≤ MOST_TEXT_OCTETS * length chunks.now }
 {
     match chunks {
         [first, rest @ ..] => first.text.len() + octets_of(rest),
@@ -35,7 +36,7 @@ fn octets_of(chunks: &[Chunk]) -> usize
 
 /// Takes the longest front with at most `room` octets.
 fn take_front(chunks: &mut Vec<Chunk>, room: usize, text: &mut Text)
-    requires { length text.old + room ≤ 1023 }
+    requires { length text.old + room ≤ MOST_TEXT_OCTETS }
     ensures text { text.new ≡ text.old ++ joined (front room (map chunk_of chunks.old.items)) }
     ensures fits { length text.new ≤ length text.old + room }
     ensures rest { map chunk_of chunks.new.items ≡ behind room (map chunk_of chunks.old.items) }
@@ -126,7 +127,7 @@ impl Queue {
 
     /// Takes the longest front with at most `room` octets.
     pub fn take(&mut self, room: usize, text: &mut Text)
-        requires { length text.old + room ≤ 1023 }
+        requires { length text.old + room ≤ MOST_TEXT_OCTETS }
         ensures listens { self.new.listens ≡ self.old.listens }
         ensures text { text.new ≡ text.old ++ joined (front room self.old.waits) }
         ensures fits { length text.new ≤ length text.old + room }

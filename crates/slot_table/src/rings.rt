@@ -1,16 +1,12 @@
 //! The chunks of one source that may still wait: their octets in one ring, and their lengths in another.
 ghost use Rattle.std.specs.Prelude.{◌≡◌, ◌+◌, ◌-◌, ◌<◌, ◌≤◌, ◌∷◌, ◌++◌, [], length, take, drop, sum, slice_index, IfOk, nat_le, nat_lt, ◌&&◌};
+ghost use Rattle.rtt_base.specs.declared.limits.TheConstants.{MOST_TEXT_OCTETS};
 
 use circular_buffer::HeapCircularBuffer;
+use mixer_spec::limits::{MOST_SPAN_CHUNKS, MOST_SPAN_OCTETS};
 use rtt_base::{NoMemory, Text};
 use std::alloc::Global;
 use std::marker::Model;
-
-/// The most octets in a span (profile).
-const MOST_OCTETS: usize = 16384;
-
-/// The most chunks in a span (profile).
-const MOST_CHUNKS: usize = 512;
 
 /// A place between two chunks of a ring: how many chunks and how many octets stand before it.
 #[derive(Clone, Copy, Debug)]
@@ -65,15 +61,15 @@ impl Ring {
         ensures { IfOk result (λ r. r ≡ no_chunks) }
     {
         Ok(Ring {
-            octets: HeapCircularBuffer::with_capacity(alloc, MOST_OCTETS)?,
-            lengths: HeapCircularBuffer::with_capacity(alloc, MOST_CHUNKS)?,
+            octets: HeapCircularBuffer::with_capacity(alloc, MOST_SPAN_OCTETS)?,
+            lengths: HeapCircularBuffer::with_capacity(alloc, MOST_SPAN_CHUNKS)?,
         })
     }
 
     /// The place behind the last chunk.
     pub fn end(&self) -> Place
         ensures place { result ≡ end_of self.now }
-        ensures within { (result.chunks ≤ 512) × (result.octets ≤ 16384) }
+        ensures within { (result.chunks ≤ MOST_SPAN_CHUNKS) × (result.octets ≤ MOST_SPAN_OCTETS) }
     {
         Place {
             chunks: self.lengths.len(),
@@ -83,18 +79,18 @@ impl Ring {
 
     /// Whether there is room for one more chunk of so many octets, were the chunks before `front` given up.
     pub fn has_room(&self, front: Place, octets: usize) -> bool
-        requires { octets ≤ 1023 }
-        ensures { result ≡ (nat_le (length self.now.octets - front.octets + octets) 16384 && nat_lt (length self.now.lengths - front.chunks) 512) }
+        requires { octets ≤ MOST_TEXT_OCTETS }
+        ensures { result ≡ (nat_le (length self.now.octets - front.octets + octets) MOST_SPAN_OCTETS && nat_lt (length self.now.lengths - front.chunks) MOST_SPAN_CHUNKS) }
     {
-        self.octets.len().saturating_sub(front.octets) + octets <= MOST_OCTETS
-            && self.lengths.len().saturating_sub(front.chunks) < MOST_CHUNKS
+        self.octets.len().saturating_sub(front.octets) + octets <= MOST_SPAN_OCTETS
+            && self.lengths.len().saturating_sub(front.chunks) < MOST_SPAN_CHUNKS
     }
 
     /// Appends a chunk, for which there is room.
     pub fn push(&mut self, text: &[u8])
-        requires octets { length self.old.octets + length text.now ≤ 16384 }
-        requires chunks { length self.old.lengths < 512 }
-        requires short { length text.now ≤ 1023 }
+        requires octets { length self.old.octets + length text.now ≤ MOST_SPAN_OCTETS }
+        requires chunks { length self.old.lengths < MOST_SPAN_CHUNKS }
+        requires short { length text.now ≤ MOST_TEXT_OCTETS }
         ensures { self.new ≡ pushed text.now self.old }
     {
         self.octets.fill_from_slice(text);
@@ -149,7 +145,7 @@ impl Ring {
     pub fn append_to(&self, from: usize, end: usize, text: &mut Text)
         requires order { from ≤ end }
         requires within { end ≤ length self.now.octets }
-        requires fits { length text.old + (end - from) ≤ 1023 }
+        requires fits { length text.old + (end - from) ≤ MOST_TEXT_OCTETS }
         ensures { text.new ≡ text.old ++ take (end - from) (drop from self.now.octets) }
     {
         let (first, second) = self.octets.as_slices();

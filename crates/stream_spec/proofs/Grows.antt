@@ -9,6 +9,7 @@ use Rattle.stream_spec.specs.History.{Lawful, ReachFits, octets, texts_of, Histo
 use Rattle.stream_spec.specs.Kept.{is_entry_of}
 use Rattle.stream_spec.proofs.Lists.{in_append, filter_in}
 use Rattle.stream_spec.proofs.Places.{one_more_own}
+use Rattle.rtt_base.specs.declared.limits.TheConstants.{MOST_PACKET_OCTETS, MOST_TEXT_OCTETS}
 
 abbrev pub grown : History → Entry → History
 grown h e = record h { entries = h.entries ++ e ∷ [] }
@@ -168,8 +169,8 @@ pub record Follows (h : History) (e : Entry) : Type 0 where
   pub gens : e.gens ≤ 8
   pub reach : e.reach < 2 ^ 14
   pub reach_fits : ReachFits (grown h e) (last h e)
-  pub text : (length e.text ≤ 1023) × IsUtf8 e.text
-  pub sized : octets (grown h e) (last h e) ≤ 4224
+  pub text : (length e.text ≤ MOST_TEXT_OCTETS) × IsUtf8 e.text
+  pub sized : octets (grown h e) (last h e) ≤ MOST_PACKET_OCTETS
 
 pub lawful_grown : (h : History) (e : Entry) → Lawful h → Follows h e → Lawful (grown h e)
 lawful_grown h e law f = record {
@@ -181,8 +182,8 @@ lawful_grown h e law f = record {
   gens = λ x i. elim (split h e x i) [ inl j ↦ law.gens x j | inr q ↦ subst (λ (z : Placed). z.gens ≤ 8) (sym q) f.gens ];
   reach = λ x i. elim (split h e x i) [ inl j ↦ law.reach x j | inr q ↦ subst (λ (z : Placed). z.reach < 2 ^ 14) (sym q) f.reach ];
   reach_fits = λ x i. elim (split h e x i) [ inl j ↦ reach_grown h e x j (law.reach_fits x j) | inr q ↦ subst (ReachFits (grown h e)) (sym q) f.reach_fits ];
-  text = λ x i. elim (split h e x i) [ inl j ↦ law.text x j | inr q ↦ subst (λ (z : Placed). (length z.text ≤ 1023) × IsUtf8 z.text) (sym q) f.text ];
-  sized = λ x i. elim (split h e x i) [ inl j ↦ subst (λ (n : ℕ). n ≤ 4224) (sym (octets_grown h e x j)) (law.sized x j) | inr q ↦ subst (λ (z : Placed). octets (grown h e) z ≤ 4224) (sym q) f.sized ];
+  text = λ x i. elim (split h e x i) [ inl j ↦ law.text x j | inr q ↦ subst (λ (z : Placed). (length z.text ≤ MOST_TEXT_OCTETS) × IsUtf8 z.text) (sym q) f.text ];
+  sized = λ x i. elim (split h e x i) [ inl j ↦ subst (λ (n : ℕ). n ≤ MOST_PACKET_OCTETS) (sym (octets_grown h e x j)) (law.sized x j) | inr q ↦ subst (λ (z : Placed). octets (grown h e) z ≤ MOST_PACKET_OCTETS) (sym q) f.sized ];
 }
   where
     below : (es before : List Entry) (x : Placed) → In x (placed_after before es) → x.place < length before + length es

@@ -18,6 +18,7 @@ use Rattle.stream_spec.proofs.Lists.{in_left, in_right, in_append}
 use Rattle.stream_spec.proofs.Places.{same_place_after}
 use Rattle.stream_spec.proofs.Grows.{grown, last, own, placed_grown, window_grown, before_last, window_last, index_under, split, Follows, lawful_grown}
 use Rattle.stream_spec.proofs.Blocks.{in_window, window_in}
+use Rattle.rtt_base.specs.declared.limits.TheConstants.{MOST_PACKET_OCTETS, MOST_TEXT_OCTETS}
 
 -- ---- the placed entries of a source, oldest first, beside what was sent of it, newest first
 pub record Same (p : Placed) (z : Sent) : Type 0 where
@@ -263,7 +264,7 @@ offset_is media z l f = go (has_text z.text) f
     go true g = let n = g refl in (omega arith, omega arith)
     go false g = (omega arith, omega arith)
 
-texts_length : (n : ℕ) (ys : List Placed) → ((y : Placed) → In y ys → length y.text ≤ 1023) → length ys ≤ n → length (concat (texts_of ys)) ≤ 1023 * n
+texts_length : (n : ℕ) (ys : List Placed) → ((y : Placed) → In y ys → length y.text ≤ MOST_TEXT_OCTETS) → length ys ≤ n → length (concat (texts_of ys)) ≤ MOST_TEXT_OCTETS * n
 texts_length n [] f l = omega arith
 texts_length zero (y ∷ ys) f l = absurd (omega arith)
 texts_length (suc n) (y ∷ ys) f l =
@@ -348,7 +349,7 @@ may_follow c past e small law m = record {
         let b = one_offset k a.sent_one a.is (omega (arith, q)) in
         inr (a.placed_one, subst (λ (xs : List Placed). In a.placed_one xs) (sym w) (inl refl), omega (arith, b.1, r, a.same.media))
 
-    sized : octets (sent_history c (e ∷ past)) (the_last c past e) ≤ 4224
+    sized : octets (sent_history c (e ∷ past)) (the_last c past e) ≤ MOST_PACKET_OCTETS
     sized =
         let n : length (window (sent_history c (e ∷ past)) (the_last c past e)) ≤ c.gens =
         omega (arith, ap length repeated, length-drop (length (sent_of e.source past) - c.gens) (own (sent_history c past) e.source), length_mirror (own (sent_history c past) e.source) (sent_of e.source past) (mirrors c e.source past)) in
@@ -356,12 +357,12 @@ may_follow c past e small law m = record {
         let p = m.text.0 in
         head (e.source == c.ssrc) (omega (arith, t, length-append (concat (texts_of (window (sent_history c (e ∷ past)) (the_last c past e)))) e.text))
       where
-        short : (y : Placed) → In y (placed (sent_history c past)) ⊎ (y ≡ the_last c past e) → length y.text ≤ 1023
+        short : (y : Placed) → In y (placed (sent_history c past)) ⊎ (y ≡ the_last c past e) → length y.text ≤ MOST_TEXT_OCTETS
         short y (inl j) = (law.text y j).0
-        short y (inr q) = subst (λ (z : Placed). length z.text ≤ 1023) (sym q) m.text.0
+        short y (inr q) = subst (λ (z : Placed). length z.text ≤ MOST_TEXT_OCTETS) (sym q) m.text.0
 
-        head : (b : Bool) → length (concat (texts_of (window (sent_history c (e ∷ past)) (the_last c past e))) ++ e.text) ≤ 4224 - 16 - (4 * c.gens + 1)
-            → cond b 12 16 + (4 * c.gens + 1) + length (concat (texts_of (window (sent_history c (e ∷ past)) (the_last c past e))) ++ e.text) ≤ 4224
+        head : (b : Bool) → length (concat (texts_of (window (sent_history c (e ∷ past)) (the_last c past e))) ++ e.text) ≤ MOST_PACKET_OCTETS - 16 - (4 * c.gens + 1)
+            → cond b 12 16 + (4 * c.gens + 1) + length (concat (texts_of (window (sent_history c (e ∷ past)) (the_last c past e))) ++ e.text) ≤ MOST_PACKET_OCTETS
         head true l = omega (arith, small)
         head false l = omega (arith, small)
 

@@ -8,6 +8,7 @@ use Rattle.wire_spec.specs.Packets.{has_text}
 use Rattle.stream_spec.specs.Lists.{In}
 use Rattle.stream_spec.specs.Own.{Sent, Stream, sent_of, has_text_in, Sendable}
 use Rattle.stream_spec.specs.Typed.{Event, Text, Ask, Turned, sents, carried, typed, is_end, last_end, whole_front, has_passed, media_at, entry_at, longest_step, left, entries, waiting, due_at, last_ask, IsScript}
+use Rattle.rtt_base.specs.declared.limits.TheConstants.{MOST_TEXT_OCTETS}
 
 -- ---- fronts
 dropped : (xs ys : List ℕ) → drop (length xs) (xs ++ ys) ≡ ys
@@ -90,7 +91,7 @@ typed_is c i (Ask t ∷ past) = asked (λ es. typed past ≡ carried es ++ left 
         let es = entries c i past in
         let w = waiting c i past in
         let e = entry_at c es w t in
-        let q : w ≡ e.sent.text ++ drop (length e.sent.text) w = cut (last_end w (min 1023 (length w))) w in
+        let q : w ≡ e.sent.text ++ drop (length e.sent.text) w = cut (last_end w (min MOST_TEXT_OCTETS (length w))) w in
         r
         ∙ (ap (λ (xs : List ℕ). carried es ++ xs) q
         ∙ (sym (append_assoc (carried es) e.sent.text (drop (length e.sent.text) w))
@@ -100,12 +101,12 @@ pub waits_more : (c : Stream) (i : ℕ) (past : List Event) (text : List ℕ) �
 waits_more c i past text = text_left (entries c i past) (typed past) text (waiting c i past) (typed_is c i past)
 
 pub waits_less : (c : Stream) (i : ℕ) (past : List Event) (t : ℕ) → due_at c i past t ≡ true
-    → waiting c i (Ask t ∷ past) ≡ drop (length (whole_front 1023 (waiting c i past))) (waiting c i past)
+    → waiting c i (Ask t ∷ past) ≡ drop (length (whole_front MOST_TEXT_OCTETS (waiting c i past))) (waiting c i past)
 waits_less c i past t d =
     let es = entries c i past in
     let w = waiting c i past in
     ap (λ b. left (cond b (entry_at c es w t ∷ es) es) (typed past)) d
-    ∙ more_left es (entry_at c es w t) (typed past) w (drop (length (whole_front 1023 w)) w) (typed_is c i past) (cut (last_end w (min 1023 (length w))) w)
+    ∙ more_left es (entry_at c es w t) (typed past) w (drop (length (whole_front MOST_TEXT_OCTETS w)) w) (typed_is c i past) (cut (last_end w (min MOST_TEXT_OCTETS (length w))) w)
 
 pub waits_same : (c : Stream) (i : ℕ) (past : List Event) (t : ℕ) → due_at c i past t ≡ false → waiting c i (Ask t ∷ past) ≡ waiting c i past
 waits_same c i past t d = ap (λ b. left (cond b (entry_at c (entries c i past) (waiting c i past) t ∷ entries c i past) (entries c i past)) (typed past)) d
@@ -123,7 +124,7 @@ waits_utf8 c i (Text text ∷ past) s = subst IsUtf8 (sym (waits_more c i past t
 waits_utf8 c i (Ask t ∷ past) s = go (due_at c i past t) refl (waits_utf8 c i past s.2)
   where
     go : (b : Bool) → due_at c i past t ≡ b → IsUtf8 (waiting c i past) → IsUtf8 (waiting c i (Ask t ∷ past))
-    go true d u = let f = front_fits 1023 (waiting c i past) u in subst IsUtf8 (sym (waits_less c i past t d)) f.rest_is
+    go true d u = let f = front_fits MOST_TEXT_OCTETS (waiting c i past) u in subst IsUtf8 (sym (waits_less c i past t d)) f.rest_is
     go false d u = subst IsUtf8 (sym (waits_same c i past t d)) u
 
 -- ---- what is sent may be sent
@@ -220,7 +221,7 @@ paced_more : (c : Stream) (i t m : ℕ) (es : List Turned) (w : List ℕ) → c.
     → Paced c t (entry_at c es w t ∷ es)
 paced_more c i t m es w most o l top u d p =
     let n = later_media c i t m es o l d p in
-    let f = front_fits 1023 w u in
+    let f = front_fits MOST_TEXT_OCTETS w u in
     record {
       early = λ e j. elim j [ inl q ↦ (omega (arith, n.0, ap (λ (z : Turned). z.sent.media) q, ap (λ (z : Turned). z.at) q), omega (arith, ap (λ (z : Turned). z.at) q)) | inr k ↦ let r = p.early e k in (r.0, omega (arith, r.1)) ];
       own = own;

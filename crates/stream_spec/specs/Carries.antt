@@ -3,6 +3,7 @@ use Rattle.std.specs.Prelude.{◌≡◌, ℕ, ◌≤◌, ◌==◌, List, [], ◌
 use Rattle.std.specs.List.{concat}
 use Rattle.wire_spec.specs.Packets.{has_text}
 use Rattle.stream_spec.specs.History.{History, Entry}
+use Rattle.rtt_base.specs.declared.limits.TheConstants.{MOST_TEXT_OCTETS}
 
 -- the texts of the source's entries that have text
 abbrev pub texts_by : ℕ → List Entry → List (List ℕ)
@@ -14,7 +15,7 @@ texts_by s (e ∷ es) = (if (e.source == s) && has_text e.text then e.text ∷ [
 abbrev pub Groups : List (List ℕ) → List (List ℕ) → List (List ℕ) → Type 0
 Groups [] texts rest = texts ≡ rest
 Groups (e ∷ es) texts rest =
-    (group : List (List ℕ)) × (more : List (List ℕ)) × (texts ≡ group ++ more) × (e ≡ concat group) × (length e ≤ 1023) × Groups es more rest
+    (group : List (List ℕ)) × (more : List (List ℕ)) × (texts ≡ group ++ more) × (e ≡ concat group) × (length e ≤ MOST_TEXT_OCTETS) × Groups es more rest
 
 -- the entries of s carry the texts up to `rest`
 abbrev pub CarriesFront : History → ℕ → List (List ℕ) → List (List ℕ) → Type 0

@@ -7,6 +7,7 @@ use Rattle.stream_spec.specs.Lists.{In}
 use Rattle.wire_spec.specs.Packets.{Packet, Arrival, has_text}
 use Rattle.stream_spec.specs.Numbering.{in_time, numbered, number_it}
 use Rattle.stream_spec.specs.Hearing.{oldest_offset}
+use Rattle.rtt_base.specs.declared.limits.TheConstants.{MOST_PACKET_OCTETS, MOST_TEXT_OCTETS}
 
 -- A text that was sent: `gens` is the number of redundant blocks beside it, `reach` the offset of the oldest of them.
 pub record Entry : Type 0 where
@@ -106,8 +107,8 @@ pub record Lawful (h : History) : Type 0 where
   pub gens : (x : Placed) → In x (placed h) → x.gens ≤ 8
   pub reach : (x : Placed) → In x (placed h) → x.reach < 2 ^ 14
   pub reach_fits : (x : Placed) → In x (placed h) → ReachFits h x
-  pub text : (x : Placed) → In x (placed h) → (length x.text ≤ 1023) × IsUtf8 x.text
-  pub sized : (x : Placed) → In x (placed h) → octets h x ≤ 4224
+  pub text : (x : Placed) → In x (placed h) → (length x.text ≤ MOST_TEXT_OCTETS) × IsUtf8 x.text
+  pub sized : (x : Placed) → In x (placed h) → octets h x ≤ MOST_PACKET_OCTETS
 
 abbrev pub nowhere : Placed
 nowhere = record { place = 0; index = 0; source = 0; media = 0; text = []; gens = 0; reach = 0 }

@@ -8,6 +8,7 @@ use Rattle.wire_spec.specs.Packets.{Packet, Arrival, has_text}
 use Rattle.stream_spec.specs.Lists.{In}
 use Rattle.stream_spec.specs.Hearing.{oldest_offset}
 use Rattle.stream_spec.specs.History.{History, Entry, Placed, placed, before, slots, entry_count, IsNear}
+use Rattle.rtt_base.specs.declared.limits.TheConstants.{MOST_TEXT_OCTETS}
 
 -- how far an empty block is said to lie before the packet
 abbrev pub offset_of : ℕ → ℕ → ℕ
@@ -143,7 +144,7 @@ packet_after c past e = record {
 pub record MaySend (c : Stream) (past : List Sent) (e : Sent) : Type 0 where
   pub later : (x : Sent) → In x past → (x.media < e.media) × (e.media < x.media + 2 ^ 31)
   pub near : (x : Sent) → In x (take c.gens (sent_of e.source past)) → has_text x.text ≡ true → e.media ≤ x.media + 16383
-  pub text : (length e.text ≤ 1023) × IsUtf8 e.text
+  pub text : (length e.text ≤ MOST_TEXT_OCTETS) × IsUtf8 e.text
 
 -- each of these could be sent after those before it
 abbrev pub Sendable : Stream → List Sent → Type 0

@@ -5,6 +5,7 @@ use Rattle.std.specs.Prelude.{ℕ, zero, suc, ◌+◌, ◌^◌, ◌<◌, ◌≤�
 use Rattle.wire_spec.specs.Packets.{Packet, has_text}
 use Rattle.stream_spec.specs.History.{History}
 use Rattle.stream_spec.specs.Own.{Sent, Stream, has_text_in, packet_after, sent_history}
+use Rattle.rtt_base.specs.declared.limits.TheConstants.{MOST_TEXT_OCTETS}
 
 -- a text is typed, or the sender is asked at a moment in milliseconds
 pub data Event : Type 0 where
@@ -65,7 +66,7 @@ is_due c interval es waits t = (has_text waits || has_text_in c.gens (sents es))
 
 -- the entry at t, after these, where this text waits
 abbrev pub entry_at : Stream → List Turned → List ℕ → ℕ → Turned
-entry_at c es waits t = record { at = t; sent = record { source = c.ssrc; media = media_at c.gens es t; text = whole_front 1023 waits } }
+entry_at c es waits t = record { at = t; sent = record { source = c.ssrc; media = media_at c.gens es t; text = whole_front MOST_TEXT_OCTETS waits } }
 
 -- what waits of all that was typed
 abbrev pub left : List Turned → List ℕ → List ℕ

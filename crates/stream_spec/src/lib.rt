@@ -2,6 +2,7 @@
 #![tactic(auto)]
 
 mod laws;
+pub mod limits;
 mod one_by_one;
 
 pub use laws::{

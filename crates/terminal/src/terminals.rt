@@ -6,6 +6,7 @@ ghost use Rattle.ear.specs.Hears.{all_given, arrival_count, is_clear, is_quiet, 
 ghost use Rattle.command_spec.specs.Seen.{fate_of, is_refused, is_foreign};
 ghost use Rattle.terminal.specs.declared.confs.TermConf.{TermConf};
 ghost use Rattle.terminal.specs.Terminals.{texts_of, counts_of, is_spent, one_if, IsWhole, IsEmpty, IsUnread, HearsTexts, IsHearingTexts, SameCounts, Listens, IsListening, IsOpen, Heard, IsFinished};
+ghost use Rattle.rtt_base.specs.declared.limits.TheConstants.{LONGEST_WAIT};
 
 use crate::TermConf;
 use ear::{Ear, EarConf};
@@ -44,7 +45,7 @@ fn nothing_heard(alloc: Global, number: usize) -> Result<Vec<SourceText>, NoMemo
 impl Terminal {
     /// A terminal to which nothing came yet, for the text of these sources: 1 to 64, all different.
     pub fn new(alloc: Global, conf: TermConf, sources: &[u32]) -> Result<Terminal, NoMemory>
-        requires wait { conf.wait ≤ 10000 }
+        requires wait { conf.wait ≤ LONGEST_WAIT }
         requires some { 0 < length sources.now }
         requires few { length sources.now ≤ 64 }
         requires differ { AllPairs (λ a b. a ≢ b) sources.now }

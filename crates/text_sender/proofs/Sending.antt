@@ -19,6 +19,7 @@ use Rattle.text_sender.specs.declared.senders.Last.{Last}
 use Rattle.text_sender.specs.Confs.{IsConf, stream_of}
 use Rattle.text_sender.specs.States.{State}
 use Rattle.text_sender.specs.Standing.{StandsFor, sent_by, waits_for, last_of}
+use Rattle.rtt_base.specs.declared.limits.TheConstants.{MOST_PACKET_OCTETS, MOST_TEXT_OCTETS}
 
 pub no_text : (w : List ℕ) → (length w == 0) ≡ true → has_text w ≡ false
 no_text [] e = refl
@@ -84,19 +85,19 @@ pause_is g zs due spoke result d s r = r ∙ (both due spoke ∙ (ap (λ b. not 
     both false b = refl
 
 pub turned : (conf : SendConf) (past : List Event) (now : ℕ) (s new : State) (text : List ℕ) → StandsFor conf s past → last_ask past ≤ now → now < 2 ^ 31
-    → due_at (stream_of conf) conf.interval past now ≡ true → new.conf ≡ s.conf → text ≡ whole_front 1023 s.waits → new.waits ≡ drop (length text) s.waits
+    → due_at (stream_of conf) conf.interval past now ≡ true → new.conf ≡ s.conf → text ≡ whole_front MOST_TEXT_OCTETS s.waits → new.waits ≡ drop (length text) s.waits
     → window.StandsFor conf.gens conf.stamp new.window ((next_entry conf past now).sent ∷ sents (sent_by conf past)) → new.spoke ≡ has_text text → new.seq ≡ (s.seq + 1) % 65536
     → new.last ≡ Some (record { at = now; media = media_at conf.gens (sent_by conf past) now }) → StandsFor conf new (Ask now ∷ past)
 turned conf past now s new text r l top d cs f w win spoke seq last =
     let c = stream_of conf in
     let more = entries_more c conf.interval past now d in
-    let sent : text ≡ whole_front 1023 (waits_for conf past) = f ∙ ap (λ (v : List ℕ). whole_front 1023 v) r.waits in
+    let sent : text ≡ whole_front MOST_TEXT_OCTETS (waits_for conf past) = f ∙ ap (λ (v : List ℕ). whole_front MOST_TEXT_OCTETS v) r.waits in
     record {
       script = (l, top, r.script);
       conf_is = cs ∙ r.conf_is;
-      waits = w ∙ (ap (λ (t : List ℕ). drop (length t) s.waits) f ∙ (ap (λ (v : List ℕ). drop (length (whole_front 1023 v)) v) r.waits ∙ sym (waits_less c conf.interval past now d)));
+      waits = w ∙ (ap (λ (t : List ℕ). drop (length t) s.waits) f ∙ (ap (λ (v : List ℕ). drop (length (whole_front MOST_TEXT_OCTETS v)) v) r.waits ∙ sym (waits_less c conf.interval past now d)));
       window = subst (λ (es : List Turned). window.StandsFor conf.gens conf.stamp new.window (sents es)) (sym more) win;
-      spoke = spoke ∙ (ap has_text sent ∙ (alone (has_text (whole_front 1023 (waits_for conf past))) ∙ sym (ap (λ (es : List Turned). has_text_in 1 (sents es)) more)));
+      spoke = spoke ∙ (ap has_text sent ∙ (alone (has_text (whole_front MOST_TEXT_OCTETS (waits_for conf past))) ∙ sym (ap (λ (es : List Turned). has_text_in 1 (sents es)) more)));
       seq = let n : length (sent_by conf (Ask now ∷ past)) ≡ suc (length (sent_by conf past)) = ap (λ (es : List Turned). length es) more in counted s.seq new.seq conf.seq (length (sent_by conf past)) (length (sent_by conf (Ask now ∷ past))) r.seq seq n;
       last = last ∙ sym (ap last_of more);
     }
@@ -115,7 +116,7 @@ same_packet m m' s s' t t' c c' bs bs' x x' a b d e f g = rw (a, b, d, e, f, g) 
 -- the packet of what is written is that of the entry
 pub packet_is : (conf given : SendConf) (es : List Turned) (w : List ℕ) (now : ℕ) (mark : Bool) (seq stamp : ℕ) (older : List TextBlock) (text : List ℕ) → given ≡ conf
     → sent_of conf.ssrc (sents es) ≡ sents es → mark ≡ not (has_text_in (max 1 conf.gens) (sents es)) → seq ≡ (conf.seq + length es) % 65536
-    → stamp ≡ (conf.stamp + media_at conf.gens es now) % 2 ^ 32 → older ≡ repeats conf.gens (media_at conf.gens es now) (sents es) → text ≡ whole_front 1023 w
+    → stamp ≡ (conf.stamp + media_at conf.gens es now) % 2 ^ 32 → older ≡ repeats conf.gens (media_at conf.gens es now) (sents es) → text ≡ whole_front MOST_TEXT_OCTETS w
     → packet_written given.pts (record { mark = mark; seq = seq; stamp = stamp; ssrc = given.ssrc; source = given.ssrc; older = older; primary = text })
     ≡ packet_written conf.pts (packet_after (stream_of conf) (sents es) (entry_at (stream_of conf) es w now).sent)
 packet_is conf given es w now mark seq stamp older text q own m s t o x =
@@ -126,7 +127,7 @@ packet_is conf given es w now mark seq stamp older text q own m s t o x =
     ap (packet_written given.pts) same ∙ ap (λ (y : SendConf). packet_written y.pts p) q
 
 -- octets that are appended to an empty packet, where they are few enough
-pub written_whole : {T E : Type 0} (before after octets : List ℕ) (whole : List ℕ) (result : Result T E) → before ≡ [] → octets ≡ whole → length whole ≤ 4224 → Appends (Some 4224) before after octets result → after ≡ whole
+pub written_whole : {T E : Type 0} (before after octets : List ℕ) (whole : List ℕ) (result : Result T E) → before ≡ [] → octets ≡ whole → length whole ≤ MOST_PACKET_OCTETS → Appends (Some MOST_PACKET_OCTETS) before after octets result → after ≡ whole
 written_whole {T} {E} before after octets whole result e o few a = go result (a.room.1 (omega (arith, few, ap (λ (xs : List ℕ). length xs) e, ap (λ (xs : List ℕ). length xs) o))) a.ok
   where
     go : (r : Result T E) → IsOk r → OnOk r (after ≡ before ++ octets) → after ≡ whole

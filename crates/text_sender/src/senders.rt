@@ -1,6 +1,7 @@
 //! The sender.
 ghost use Rattle.std.specs.Prelude.{◌≡◌, ◌+◌, ◌%◌, ◌^◌, ◌<◌, ◌≤◌, ◌∷◌, ◌++◌, ◌↔◌, [], ℕ, List, true, if◌then◌else◌, not, max, Some, None, length, IfOk, IsOk, OnOk, OnErr, IsUtf8};
 ghost use Rattle.stream_spec.specs.Typed.{Event, Text as text_event, Ask, longest_step};
+ghost use Rattle.stream_spec.specs.declared.limits.TheConstants.{MOST_WAITING_OCTETS};
 
 use crate::waiting::Waiting;
 use red_blocks::{TextHead, write_text};
@@ -98,7 +99,7 @@ impl Sender {
     pub fn typed(&mut self, text: &[u8]) -> Result<(), Full>
         requires { IsUtf8 text.now }
         ensures room { (conf : SendConf) (past : List Event) → StandsFor conf self.old past
-            → (IsOk result ↔ (length (waits_for conf past) + length text.now ≤ 16384)) }
+            → (IsOk result ↔ (length (waits_for conf past) + length text.now ≤ MOST_WAITING_OCTETS)) }
         ensures ok { OnOk result ((conf : SendConf) (past : List Event) → StandsFor conf self.old past → StandsFor conf self.new (text_event text.now ∷ past)) }
         ensures err { OnErr result (self.new ≡ self.old) }
     {

@@ -1,14 +1,13 @@
 //! The text that waits to be sent.
 ghost use Rattle.std.specs.Prelude.{◌≡◌, ◌+◌, ◌≤◌, ◌<◌, ◌++◌, ◌↔◌, ◌==◌, [], length, min, take, drop, IfOk, IsOk, OnOk, OnErr};
 ghost use Rattle.stream_spec.specs.Typed.{is_end, last_end, whole_front};
+ghost use Rattle.rtt_base.specs.declared.limits.TheConstants.{MOST_TEXT_OCTETS};
 
 use circular_buffer::HeapCircularBuffer;
 use rtt_base::{Full, NoMemory, Text};
 use std::alloc::Global;
 use std::marker::Model;
-
-/// Octets of text that wait, at most so many.
-const ROOM: usize = 16384;
+use stream_spec::limits::MOST_WAITING_OCTETS;
 
 /// A ring of octets that wait.
 #[derive(Drop)]
@@ -18,19 +17,20 @@ pub struct Waiting {
 
 impl Model for Waiting {
     ghost use Rattle.std.specs.Prelude.{ℕ, List, ◌≡◌};
+    ghost use Rattle.stream_spec.specs.declared.limits.TheConstants.{MOST_WAITING_OCTETS};
 
     ghost Value = { List ℕ };
 
     ghost view = { λ w. w.ring.items };
 
-    ghost invariant = { λ w. w.ring.capacity ≡ 16384 };
+    ghost invariant = { λ w. w.ring.capacity ≡ MOST_WAITING_OCTETS };
 }
 
 impl Waiting {
     pub fn new(alloc: Global) -> Result<Waiting, NoMemory>
         ensures { IfOk result (λ w. w ≡ []) }
     {
-        let ring = HeapCircularBuffer::with_capacity(alloc, ROOM)?;
+        let ring = HeapCircularBuffer::with_capacity(alloc, MOST_WAITING_OCTETS)?;
         Ok(Waiting { ring })
     }
 
@@ -42,11 +42,11 @@ impl Waiting {
 
     /// Appends a text, or nothing where it passes the room left.
     pub fn append(&mut self, text: &[u8]) -> Result<(), Full>
-        ensures room { IsOk result ↔ (length self.old + length text.now ≤ 16384) }
+        ensures room { IsOk result ↔ (length self.old + length text.now ≤ MOST_WAITING_OCTETS) }
         ensures ok { OnOk result (self.new ≡ self.old ++ text.now) }
         ensures err { OnErr result (self.new ≡ self.old) }
     {
-        if ROOM - self.ring.len() < text.len() {
+        if MOST_WAITING_OCTETS - self.ring.len() < text.len() {
             return Err(Full);
         }
         self.ring.fill_from_slice(text);
@@ -65,8 +65,8 @@ impl Waiting {
 
     /// The length of the longest front of whole characters that fits in a block.
     fn front_len(&self) -> usize
-        ensures value { result ≡ last_end self.now (min 1023 (length self.now)) }
-        ensures fits { (result ≤ 1023) × (result ≤ length self.now) }
+        ensures value { result ≡ last_end self.now (min MOST_TEXT_OCTETS (length self.now)) }
+        ensures fits { (result ≤ MOST_TEXT_OCTETS) × (result ≤ length self.now) }
     {
         let mut len = self.ring.len().min(Text::CAPACITY);
         while len > 0 && !self.ends_at(len) {
@@ -77,7 +77,7 @@ impl Waiting {
 
     /// Takes the longest front of whole characters that fits in a block, in place of what was in `text`.
     pub fn take_front(&mut self, text: &mut Text)
-        ensures text { text.new ≡ whole_front 1023 self.old }
+        ensures text { text.new ≡ whole_front MOST_TEXT_OCTETS self.old }
         ensures rest { self.new ≡ drop (length text.new) self.old }
     {
         let len = self.front_len();

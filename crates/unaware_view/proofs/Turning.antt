@@ -26,6 +26,7 @@ use Rattle.unaware_view.specs.Choices.{is_set, since_at, is_left, begins, choice
 use Rattle.unaware_view.specs.Standing.{StandsFor, IsAsked, IsCurrent, IsSpeaker, begins_line, name_at, answered, asked_now, given_now}
 use Rattle.unaware_view.specs.Giving.{Gives, remembered, waits_of}
 use Rattle.unaware_view.proofs.Asking.{Looks, choice_is, given_of, label_is, speaker_flag}
+use Rattle.rtt_base.specs.declared.limits.TheConstants.{MOST_TEXT_OCTETS}
 
 -- ---- the speaker is never the terminal's own leg
 abbrev pub IsOther : ℕ → Choice → Type 0
@@ -84,14 +85,14 @@ pub text_is : (s : Setup) (table : Table) (c : State) (asks : List Asked) (names
 text_is s table c asks names Nobody next text after h = h.gives.text_is
 text_is s table c asks names (Begins i) next text after h =
     h.gives.goes.text_is
-    ∙ ap (λ (l : List ℕ). l ++ written [] (joined (front (1023 - length l) (waits_of table c.own i)))) (label_now s c asks names i h.looks.stands (h.names_are i h.below))
+    ∙ ap (λ (l : List ℕ). l ++ written [] (joined (front (MOST_TEXT_OCTETS - length l) (waits_of table c.own i)))) (label_now s c asks names i h.looks.stands (h.names_are i h.below))
 text_is s table c asks names (GoesOn i) next text after h = h.gives.goes.text_is
 
 pub slots_are : (s : Setup) (table : Table) (c : State) (asks : List Asked) (names : List (List ℕ)) (k : Choice) (next : Run) (text : List ℕ) (after : List Waiting)
     → Turns s table c asks names k next text after → slots.StandsFor s after (answered c.own (given_of s.name (waits_of table c.own) asks k) table)
 slots_are s table c asks names Nobody next text after h = h.gives.stands
 slots_are s table c asks names (Begins i) next text after h =
-    subst (λ (l : List ℕ). slots.StandsFor s after (fetched c.own i (1023 - length l) table)) (label_now s c asks names i h.looks.stands (h.names_are i h.below)) h.gives.stands
+    subst (λ (l : List ℕ). slots.StandsFor s after (fetched c.own i (MOST_TEXT_OCTETS - length l) table)) (label_now s c asks names i h.looks.stands (h.names_are i h.below)) h.gives.stands
 slots_are s table c asks names (GoesOn i) next text after h = h.gives.stands
 
 -- ---- what the composer stands for then
@@ -156,7 +157,7 @@ stands_then s table c asks names (Begins i) next text after media moments h n =
     let st = h.looks.stands in
     let w = waits_of table c.own in
     let label = label_now s c asks names i st (h.names_are i h.below) in
-    let chunks : List ℕ → List Chunk = λ l. front (1023 - length l) (w i) in
+    let chunks : List ℕ → List Chunk = λ l. front (MOST_TEXT_OCTETS - length l) (w i) in
     record {
       legs = n.legs ∙ st.legs;
       current = now_current s c.own asks w media _ i refl h.below h.other;
@@ -173,8 +174,8 @@ stands_then s table c asks names (GoesOn i) next text after media moments h n =
       legs = n.legs ∙ st.legs;
       current = now_current s c.own asks w media _ i refl h.below h.other;
       waits_since = since_is s c asks w (GoesOn i) media moments h.looks n;
-      run = subst (IsRun next) (sym (joined_append (run_of asks) (front 1023 (w i)))) h.gives.goes.run_is;
-      chunk = h.gives.goes.has_chunk ∙ (ap (λ (b : Bool). b || has_chunk (front 1023 (w i))) st.chunk ∙ has_chunk_append (run_of asks) (front 1023 (w i)));
+      run = subst (IsRun next) (sym (joined_append (run_of asks) (front MOST_TEXT_OCTETS (w i)))) h.gives.goes.run_is;
+      chunk = h.gives.goes.has_chunk ∙ (ap (λ (b : Bool). b || has_chunk (front MOST_TEXT_OCTETS (w i))) st.chunk ∙ has_chunk_append (run_of asks) (front MOST_TEXT_OCTETS (w i)));
       line = ap begins_line (text_is s table c asks names (GoesOn i) next text after h);
       asked = refl;
     }

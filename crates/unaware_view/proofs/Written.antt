@@ -14,6 +14,7 @@ use Rattle.labels.specs.Labels.{label_on, line_start}
 use Rattle.labels.proofs.Sizes.{length_is}
 use Rattle.unaware_view.specs.declared.runs.Run.{Run}
 use Rattle.unaware_view.specs.Runs.{IsRun, GoesOn}
+use Rattle.rtt_base.specs.declared.limits.TheConstants.{MOST_TEXT_OCTETS}
 
 pub same_run : (r q : Run) (text : List ℕ) → q.erasable ≡ r.erasable → q.tail ≡ r.tail → IsRun r text → IsRun q text
 same_run r q text e t h = record {
@@ -52,5 +53,5 @@ unfolding encode_utf8
 start_short true = omega arith
 start_short false = omega arith
 
-pub label_short : (b : Bool) (name : List ℕ) → length name ≤ 32 → length (label_on b name) ≤ 1023
+pub label_short : (b : Bool) (name : List ℕ) → length name ≤ 32 → length (label_on b name) ≤ MOST_TEXT_OCTETS
 label_short b name l = let s = start_short b in let e = length_is b name in omega (arith, l, s, e)

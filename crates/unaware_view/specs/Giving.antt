@@ -14,6 +14,7 @@ use Rattle.unaware_view.specs.declared.runs.Run.{Run}
 use Rattle.unaware_view.specs.Runs.{GoesOn as RunGoesOn}
 use Rattle.unaware_view.specs.States.{State}
 use Rattle.unaware_view.specs.Standing.{begins_line, name_at}
+use Rattle.rtt_base.specs.declared.limits.TheConstants.{MOST_TEXT_OCTETS}
 
 abbrev pub remembered : State → Option ℕ → ℕ → List ℕ → State
 remembered c None media text = c
@@ -33,13 +34,13 @@ pub record GivesNone (s : Setup) (table : Table) (r next : Run) (text : List ℕ
 pub record GivesRun (s : Setup) (table : Table) (own : ℕ) (next : Run) (speaker : ℕ) (label text : List ℕ) (after : List Waiting) : Type 0 where
   pub empty : Run
   pub no_chunk : empty.has_chunk ≡ false
-  pub goes : RunGoesOn empty next [] (front (1023 - length label) (waits_of table own speaker)) label text
-  pub stands : slots.StandsFor s after (fetched own speaker (1023 - length label) table)
+  pub goes : RunGoesOn empty next [] (front (MOST_TEXT_OCTETS - length label) (waits_of table own speaker)) label text
+  pub stands : slots.StandsFor s after (fetched own speaker (MOST_TEXT_OCTETS - length label) table)
 
 -- the run of the speaker, whose text was this, goes on
 pub record GivesMore (s : Setup) (table : Table) (own : ℕ) (r next : Run) (speaker : ℕ) (before text : List ℕ) (after : List Waiting) : Type 0 where
-  pub goes : RunGoesOn r next before (front 1023 (waits_of table own speaker)) [] text
-  pub stands : slots.StandsFor s after (fetched own speaker 1023 table)
+  pub goes : RunGoesOn r next before (front MOST_TEXT_OCTETS (waits_of table own speaker)) [] text
+  pub stands : slots.StandsFor s after (fetched own speaker MOST_TEXT_OCTETS table)
 
 -- The text of the choice was given: the run, whose text was this, is `next` then, and these are the slots.
 abbrev pub Gives : Setup → Table → ℕ → Bool → Run → Run → Choice → List (List ℕ) → List ℕ → List ℕ → List Waiting → Type 0

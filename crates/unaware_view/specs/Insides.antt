@@ -3,6 +3,7 @@ use Rattle.std.specs.Prelude.{◌≡◌, ◌*◌, ◌^◌, ◌<◌, ◌≤◌, l
 use Rattle.std.specs.Option.{ForSome}
 use Rattle.unaware_view.specs.declared.composers.Composer.TheInside.{Inside}
 use Rattle.unaware_view.specs.States.{State}
+use Rattle.rtt_base.specs.declared.limits.TheConstants.{MOST_TEXT_OCTETS}
 
 abbrev pub state_of : Inside → State
 state_of c = record {
@@ -20,5 +21,5 @@ pub record IsSound (c : Inside) : Type 0 where
   pub legs : length c.waits.items ≡ length c.since.items
   pub own : c.own < length c.since.items
   pub speaker : ForSome c.current (λ x. x.speaker < length c.since.items)
-  pub few : c.run.erasable ≤ 1023 * c.asked
+  pub few : c.run.erasable ≤ MOST_TEXT_OCTETS * c.asked
   pub asked : c.asked ≤ 2 ^ 54

@@ -14,6 +14,7 @@ ghost use Rattle.unaware_view.specs.Choices.{IsBelow, begins, choice, is_left, s
 ghost use Rattle.unaware_view.specs.Standing.{IsAsked, NoneWaits, OfAsks, StandsFor, answered, asked_now, given_now, legs_of, next_ask, own_of};
 ghost use Rattle.mixer_spec.specs.Composed.{Asked, text_given};
 ghost use Rattle.unaware_view.specs.Giving.{Gives, GivesRun, remembered, waits_of};
+ghost use Rattle.rtt_base.specs.declared.limits.TheConstants.{MOST_TEXT_OCTETS};
 
 use crate::choices::{any_long, any_other, first_round, is_paused, look, note};
 use crate::runs::Run;
@@ -220,9 +221,9 @@ fn or(a: bool, b: bool) -> bool
 
 /// Appends to `text` what was taken for the run, as it is sent. What was taken is UTF-8, since each chunk is.
 fn write(octets: &[u8], run: &mut Run, text: &mut Text)
-    requires fits { length text.old + length octets.now ≤ 1023 }
-    requires few { run.old.erasable + 1023 < 2 ^ 64 }
-    ensures few { run.new.erasable ≤ run.old.erasable + 1023 }
+    requires fits { length text.old + length octets.now ≤ MOST_TEXT_OCTETS }
+    requires few { run.old.erasable + MOST_TEXT_OCTETS < 2 ^ 64 }
+    ensures few { run.new.erasable ≤ run.old.erasable + MOST_TEXT_OCTETS }
     ensures goes_on { (before : List ℕ) (chunks : List Chunk) → IsRun run.old before → AreTexts chunks → octets.now ≡ joined chunks
         → GoesOn run.old run.new before chunks text.old text.new }
 {
@@ -244,13 +245,13 @@ fn go_on(
     text: &mut Text,
 )
     requires within { (own < length slots.old) × (speaker < length slots.old) }
-    requires few { run.old.erasable + 1023 < 2 ^ 64 }
-    ensures few { run.new.erasable ≤ run.old.erasable + 1023 }
+    requires few { run.old.erasable + MOST_TEXT_OCTETS < 2 ^ 64 }
+    ensures few { run.new.erasable ≤ run.old.erasable + MOST_TEXT_OCTETS }
     ensures legs { length slots.new ≡ length slots.old }
-    ensures slots { Leads slots.old slots.new (fetched own speaker (1023 - length text.old)) }
+    ensures slots { Leads slots.old slots.new (fetched own speaker (MOST_TEXT_OCTETS - length text.old)) }
     ensures goes_on { Tells slots.old (λ s table. (before : List ℕ)
         → AreTexts (waits_of table own speaker) → IsRun run.old before
-        → GoesOn run.old run.new before (front (1023 - length text.old) (waits_of table own speaker)) text.old text.new) }
+        → GoesOn run.old run.new before (front (MOST_TEXT_OCTETS - length text.old) (waits_of table own speaker)) text.old text.new) }
 {
     let room = Text::CAPACITY - text.len();
     taken.clear();
@@ -271,7 +272,7 @@ fn begin(
 )
     requires within { (own < length slots.old) × (speaker < length slots.old) }
     requires text { text.old ≡ [] }
-    ensures few { run.new.erasable ≤ 1023 }
+    ensures few { run.new.erasable ≤ MOST_TEXT_OCTETS }
     ensures legs { length slots.new ≡ length slots.old }
     ensures begins { Tells slots.old (λ s table. AreTexts (waits_of table own speaker)
         → GivesRun s table own run.new speaker (label_on fresh_line name.now) text.new slots.new) }
@@ -299,10 +300,10 @@ fn give(
     requires own { own < length slots.old }
     requires names { length names.now ≡ length slots.old }
     requires leg { IsBelow (length slots.old) choice }
-    requires few { run.old.erasable + 1023 < 2 ^ 64 }
+    requires few { run.old.erasable + MOST_TEXT_OCTETS < 2 ^ 64 }
     requires text { text.old ≡ [] }
     ensures speaker { result ≡ speaker_of choice }
-    ensures few { run.new.erasable ≤ run.old.erasable + 1023 }
+    ensures few { run.new.erasable ≤ run.old.erasable + MOST_TEXT_OCTETS }
     ensures legs { length slots.new ≡ length slots.old }
     ensures gives { Tells slots.old (λ s table. (before : List ℕ)
         → ((i : ℕ) → AreTexts (waits_of table own i)) → IsRun run.old before

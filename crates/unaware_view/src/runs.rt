@@ -2,6 +2,7 @@
 ghost use Rattle.std.specs.Prelude.{◌≡◌, ◌+◌, ◌-◌, ◌^◌, ◌<◌, ◌≤◌, ◌++◌, ℕ, List, [], length, IsUtf8, encode_utf8, false};
 ghost use Rattle.mixer_spec.specs.Composed.{ends_turn, written};
 ghost use Rattle.unaware_view.specs.Runs.{IsRun, Writes, erasable_after, is_return, is_turn, sent_for, tail_after};
+ghost use Rattle.rtt_base.specs.declared.limits.TheConstants.{MOST_TEXT_OCTETS};
 
 use rtt_base::Text;
 use t140_text::class;
@@ -118,12 +119,12 @@ impl Run {
     /// Writes the first character of a text, if there is one, and answers with the others.
     fn write_first<'a>(&mut self, text: &'a str, out: &mut Text) -> &'a str
         requires bound { self.old.erasable + 1 < 2 ^ 64 }
-        requires fits { length out.old + length text.now ≤ 1023 }
+        requires fits { length out.old + length text.now ≤ MOST_TEXT_OCTETS }
         ensures writes { (whole run before : List ℕ) → Writes self.old out.old text.now whole run before
             → Writes self.new out.new result.now whole run before }
         ensures shorter { length result.now ≤ length text.now - 1 }
         ensures bound { self.new.erasable + length result.now ≤ self.old.erasable + length text.now }
-        ensures fits { length out.new + length result.now ≤ 1023 }
+        ensures fits { length out.new + length result.now ≤ MOST_TEXT_OCTETS }
         ensures kept { self.new.has_chunk ≡ self.old.has_chunk }
     {
         let mut chars = text.chars();
@@ -137,8 +138,8 @@ impl Run {
 
     /// Appends a text of the run to `out`, as it is sent.
     pub(crate) fn write(&mut self, text: &str, out: &mut Text)
-        requires bound { self.old.erasable + 1023 < 2 ^ 64 }
-        requires fits { length out.old + length text.now ≤ 1023 }
+        requires bound { self.old.erasable + MOST_TEXT_OCTETS < 2 ^ 64 }
+        requires fits { length out.old + length text.now ≤ MOST_TEXT_OCTETS }
         ensures run { (run : List ℕ) → IsRun self.old run → IsRun self.new (run ++ text.now) }
         ensures out { (run : List ℕ) → IsRun self.old run → out.new ≡ out.old ++ written run text.now }
         ensures bound { self.new.erasable ≤ self.old.erasable + length text.now }
@@ -153,7 +154,7 @@ impl Run {
 
 /// Appends a character, for which there must be room.
 fn push(c: char, out: &mut Text)
-    requires { length out.old + length (encode_utf8 c) ≤ 1023 }
+    requires { length out.old + length (encode_utf8 c) ≤ MOST_TEXT_OCTETS }
     ensures { out.new ≡ out.old ++ encode_utf8 c }
 {
     let mut octets = [0; 4];

@@ -13,6 +13,7 @@ use Rattle.wire_spec.specs.declared.faults.RedFault.{RedFault}
 use Rattle.rtt_base.specs.Steps.{◌>>=◌}
 use Rattle.wire_spec.specs.Packets.{primary, redundant, primary_text}
 use Rattle.wire_spec.specs.Red.{IsText, IsRedundant, red_header, RedBlocks, PlainText, Red, Headers, with_header, header_bits, header_of, header_at, and_others, headers_at, older_size, blocks_at, all_utf8, texts_at, red, red_written, FitsRed}
+use Rattle.rtt_base.specs.declared.limits.TheConstants.{MOST_TEXT_OCTETS}
 
 -- what is read of the header of a block
 abbrev pub header_is : TextBlock → RedHeader
@@ -84,7 +85,7 @@ texts_read older text each h =
     let octets : List ℕ = flat_map (λ b. b.text) older ++ text in
     let size = length-append (flat_map (λ b. b.text) older) text in
     let there : ltb (length octets) (older_size (map header_is older)) ≡ false = le-ltb _ _ (omega (arith, size, older_read older)) in
-    let fits : ltb (older_size (map header_is older) + 1023) (length octets) ≡ false = le-ltb _ _ (omega (arith, size, older_read older, h.0)) in
+    let fits : ltb (older_size (map header_is older) + MOST_TEXT_OCTETS) (length octets) ≡ false = le-ltb _ _ (omega (arith, size, older_read older, h.0)) in
     rw (there, fits, blocks_read older text, texts_utf8 older text each h) refl
 
 -- ---- payloads

@@ -19,6 +19,7 @@ use Rattle.wire_spec.proofs.Tests.{chosen, guard, guard_else, ok_is, failed}
 use Rattle.wire_spec.specs.Packets.{primary}
 use Rattle.wire_spec.specs.Rtp.{IsOctets}
 use Rattle.wire_spec.specs.Red.{IsRedundant, red_header, RedBlocks, PlainText, Red, Headers, with_header, header_of, header_at, and_others, headers_at, older_size, blocks_at, all_utf8, checked, texts_at, red}
+use Rattle.rtt_base.specs.declared.limits.TheConstants.{MOST_TEXT_OCTETS}
 
 IsOctets-drop : (n : ℕ) (octets : List ℕ) → IsOctets octets → IsOctets (drop n octets)
 IsOctets-drop n octets h i = rw get_or-drop (h (n + i))
@@ -161,15 +162,15 @@ older_count (x ∷ hs) octets = ap suc (older_count hs (drop x.size octets))
 
 pub record Texts (hs : List RedHeader) (octets : List ℕ) (blocks : List TextBlock) : Type 0 where
   pub there : older_size hs ≤ length octets
-  pub fits : length octets ≤ older_size hs + 1023
+  pub fits : length octets ≤ older_size hs + MOST_TEXT_OCTETS
   pub utf8 : all_utf8 (blocks_at hs octets) ≡ true
   pub same : blocks_at hs octets ≡ blocks
 
 texts_parts : (hs : List RedHeader) (octets : List ℕ) (blocks : List TextBlock) → texts_at hs octets ≡ Ok blocks → Texts hs octets blocks
 unfolding texts_at
 texts_parts hs octets blocks e =
-    let a = guard (ltb (length octets) (older_size hs)) Cut (cond (ltb (older_size hs + 1023) (length octets)) (Err Long) (checked (blocks_at hs octets))) blocks e in
-    let b = guard (ltb (older_size hs + 1023) (length octets)) Long (checked (blocks_at hs octets)) blocks a.1 in
+    let a = guard (ltb (length octets) (older_size hs)) Cut (cond (ltb (older_size hs + MOST_TEXT_OCTETS) (length octets)) (Err Long) (checked (blocks_at hs octets))) blocks e in
+    let b = guard (ltb (older_size hs + MOST_TEXT_OCTETS) (length octets)) Long (checked (blocks_at hs octets)) blocks a.1 in
     let c = guard_else (all_utf8 (blocks_at hs octets)) NotText (Ok (blocks_at hs octets)) blocks b.1 in
     record { there = ltb-false _ _ a.0; fits = ltb-false _ _ b.0; utf8 = c.0; same = ok_is (blocks_at hs octets) blocks c.1 }
 

@@ -7,6 +7,8 @@ use Rattle.std.proofs.lemmas.List.{take_at, take_all, drop_at}
 use Rattle.std.proofs.lemmas.Nat.{from_be_bytes-to_be_bytes_2, from_be_bytes-to_be_bytes_4}
 use Rattle.wire_spec.specs.Dump.{Sent, Next, what_of, size_of, packet_size_of, time_of, step_or, dump_step, with_item, records_by, records, dump_from, dump, opening, dump_opening, record_written, dump_written, FitsRecord, sent_item}
 use Rattle.wire_spec.proofs.Records.{unrolled}
+use Rattle.rtt_base.specs.declared.limits.TheConstants.{MOST_PACKET_OCTETS}
+use Rattle.wire_spec.specs.declared.limits.TheConstants.{LAST_RECORD_MOMENT}
 
 -- ---- the line and the head
 
@@ -22,11 +24,11 @@ opened rest =
 
 -- ---- one record
 
-one_what : (octets : List ℕ) → 0 < length octets → length octets ≤ 4224 → what_of (length octets) octets ≡ Sent octets
+one_what : (octets : List ℕ) → 0 < length octets → length octets ≤ MOST_PACKET_OCTETS → what_of (length octets) octets ≡ Sent octets
 one_what octets some few =
     let a : eqb (length octets) 0 ≡ false = ne_eqb (length octets) 0 (λ e. omega arith) in
     let b : ltb (length octets) (length octets) ≡ false = le-ltb (length octets) (length octets) (omega arith) in
-    let c : ltb 4224 (length octets) ≡ false = le-ltb 4224 (length octets) few in
+    let c : ltb MOST_PACKET_OCTETS (length octets) ≡ false = le-ltb MOST_PACKET_OCTETS (length octets) few in
     rw (a, b, c, take_all (length octets) octets (omega arith)) refl
 
 eight_taken : (a b c d e f g h n : ℕ) (octets more : List ℕ) → length octets ≡ n → drop 8 (take (n + 8) (a ∷ b ∷ c ∷ d ∷ e ∷ f ∷ g ∷ h ∷ (octets ++ more))) ≡ octets
@@ -52,7 +54,7 @@ record_read limit byte r more fits small =
     let long : ltb (n + 8) 8 ≡ false = le-ltb (n + 8) 8 (omega arith) in
     let within : ltb limit (byte + (n + 8)) ≡ false = le-ltb limit (byte + (n + 8)) small in
     let there : ltb (length rest) (n + 8) ≡ false = le-ltb (length rest) (n + 8) (omega (arith, length-append r.1 more)) in
-    let early : ltb 14400000 r.0 ≡ false = le-ltb 14400000 r.0 fits.time in
+    let early : ltb LAST_RECORD_MOMENT r.0 ≡ false = le-ltb LAST_RECORD_MOMENT r.0 fits.time in
     let body = eight_taken ((n + 8) / 256 % 256) ((n + 8) % 256) (n / 256 % 256) (n % 256) (r.0 / 16777216 % 256) (r.0 / 65536 % 256) (r.0 / 256 % 256) (r.0 % 256) n r.1 more refl in
     let behind = eight_dropped ((n + 8) / 256 % 256) ((n + 8) % 256) (n / 256 % 256) (n % 256) (r.0 / 16777216 % 256) (r.0 / 65536 % 256) (r.0 / 256 % 256) (r.0 % 256) n r.1 more refl in
     let next : step_or (record { byte = byte; rest = rest }) None ≡ Next (sent_item r) (record { byte = byte + (n + 8); rest = more }) =

@@ -5,13 +5,14 @@ use Rattle.wire_spec.specs.declared.faults.DumpKind.{DumpKind}
 use Rattle.wire_spec.proofs.Tests.{chosen}
 use Rattle.wire_spec.specs.declared.faults.DumpKind.TheVariants.{BadLength, EndsInside, TooLong, TooLarge}
 use Rattle.wire_spec.specs.Dump.{Item, Place, Recording, Step, End, Broken, Next, size_of, time_of, record_fault, step_or, dump_step, with_item, records_by, records_within, records}
+use Rattle.wire_spec.specs.declared.limits.TheConstants.{LAST_RECORD_MOMENT}
 
 -- a record at which no test fails
 pub record Passes (limit : ℕ) (p : Place) : Type 0 where
   pub head : 8 ≤ size_of p.rest
   pub small : p.byte + size_of p.rest ≤ limit
   pub there : size_of p.rest ≤ length p.rest
-  pub early : time_of p.rest ≤ 14400000
+  pub early : time_of p.rest ≤ LAST_RECORD_MOMENT
 
 abbrev some : DumpKind → Option DumpKind
 some kind = Some kind
@@ -27,7 +28,7 @@ passes limit p e =
         | inl h ↦ absurd (never TooLarge h.1)
         | inr b ↦ elim (chosen (ltb (length p.rest) (size_of p.rest)) (some EndsInside) _ None b.1) [
           | inl h ↦ absurd (never EndsInside h.1)
-          | inr c ↦ elim (chosen (ltb 14400000 (time_of p.rest)) (some TooLong) None None c.1) [
+          | inr c ↦ elim (chosen (ltb LAST_RECORD_MOMENT (time_of p.rest)) (some TooLong) None None c.1) [
             | inl h ↦ absurd (never TooLong h.1)
             | inr d ↦ record { head = ltb-false _ _ a.0; small = ltb-false _ _ b.0; there = ltb-false _ _ c.0; early = ltb-false _ _ d.0 }
           ]

@@ -14,6 +14,7 @@ use Rattle.wire_spec.specs.Text.{is_asked, text_of_short, text_of}
 use Rattle.wire_spec.specs.SentPackets.{csrc_of, type_sent, payload_sent, head_of, packet_written, FitsPacket}
 use Rattle.wire_spec.proofs.Written.{rtp_read_back}
 use Rattle.wire_spec.proofs.BlockLaws.{red_only}
+use Rattle.rtt_base.specs.declared.limits.TheConstants.{MOST_PACKET_OCTETS}
 
 -- ---- the blocks
 redundant_front : (older : List TextBlock) (b : TextBlock) → redundant (older ++ b ∷ []) ≡ older
@@ -75,11 +76,11 @@ same_packet : (p : Packet) (source : ℕ) (older : List TextBlock) (text : List 
     → (let r : Result Packet TextFault = Ok (record { mark = p.mark; seq = p.seq; stamp = p.stamp; ssrc = p.ssrc; source = source; older = older; primary = text }) in r) ≡ Ok p
 same_packet p source older text a b c = rw (a, b, c) refl
 
-pub sent_back : (pts : Pts) (p : Packet) (asked : Option ℕ) → FitsPacket pts p → is_asked asked p.ssrc ≡ true → length (packet_written pts p) ≤ 4224
+pub sent_back : (pts : Pts) (p : Packet) (asked : Option ℕ) → FitsPacket pts p → is_asked asked p.ssrc ≡ true → length (packet_written pts p) ≤ MOST_PACKET_OCTETS
     → text_of (packet_written pts p) asked pts ≡ Ok p
 unfolding text_of text_of_short
 sent_back pts p asked f its short =
-    let long : ltb 4224 (length (packet_written pts p)) ≡ false = le-ltb 4224 (length (packet_written pts p)) short in
+    let long : ltb MOST_PACKET_OCTETS (length (packet_written pts p)) ≡ false = le-ltb MOST_PACKET_OCTETS (length (packet_written pts p)) short in
     let sources : ltb 1 (length (option_to_list (csrc_of p))) ≡ false = le-ltb 1 (length (option_to_list (csrc_of p))) (one_source (csrc_of p)) in
     let read = rtp_read_back (head_of pts p) (payload_sent pts p.older p.primary) (head_fits pts p f) in
     rw (long, read, its, sources, blocks_back pts p f)

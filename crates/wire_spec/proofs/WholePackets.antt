@@ -8,16 +8,17 @@ use Rattle.wire_spec.specs.Red.{FitsRed, red, red_written}
 use Rattle.wire_spec.specs.Text.{is_asked, text_packet, text_of_short, text_of}
 use Rattle.wire_spec.proofs.Written.{rtp_read_back}
 use Rattle.wire_spec.proofs.BlockLaws.{red_read_back}
+use Rattle.rtt_base.specs.declared.limits.TheConstants.{MOST_PACKET_OCTETS}
 
 one_source : (csrc : Option ℕ) → length (option_to_list csrc) ≤ 1
 one_source None = omega arith
 one_source (Some source) = omega arith
 
-pub text_read_back : (h : Head) (blocks : List TextBlock) (asked : Option ℕ) (pts : Pts) → FitsHeader h → h.pt ≡ pts.red → FitsRed blocks pts → is_asked asked h.ssrc ≡ true → length (rtp_written h (red_written blocks pts)) ≤ 4224
+pub text_read_back : (h : Head) (blocks : List TextBlock) (asked : Option ℕ) (pts : Pts) → FitsHeader h → h.pt ≡ pts.red → FitsRed blocks pts → is_asked asked h.ssrc ≡ true → length (rtp_written h (red_written blocks pts)) ≤ MOST_PACKET_OCTETS
     → text_of (rtp_written h (red_written blocks pts)) asked pts ≡ Ok (text_packet (reading_of h (red_written blocks pts)) blocks)
 unfolding text_of text_of_short
 text_read_back h blocks asked pts fits type blocks_fit is_its short =
-    let long : ltb 4224 (length (rtp_written h (red_written blocks pts))) ≡ false = le-ltb 4224 (length (rtp_written h (red_written blocks pts))) short in
+    let long : ltb MOST_PACKET_OCTETS (length (rtp_written h (red_written blocks pts))) ≡ false = le-ltb MOST_PACKET_OCTETS (length (rtp_written h (red_written blocks pts))) short in
     let sources : ltb 1 (length (option_to_list h.csrc)) ≡ false = le-ltb 1 (length (option_to_list h.csrc)) (one_source h.csrc) in
     let payload = ap (λ (pt : ℕ). red (red_written blocks pts) pt pts) type ∙ red_read_back blocks pts blocks_fit in
     rw (long, rtp_read_back h (red_written blocks pts) fits, is_its, sources, payload) refl

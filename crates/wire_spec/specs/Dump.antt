@@ -8,6 +8,8 @@ use Rattle.wire_spec.specs.declared.faults.DumpKind.{DumpKind}
 use Rattle.wire_spec.specs.declared.faults.DumpKind.TheVariants.{NotDump, BadLength, EndsInside, TooLong, TooLarge}
 use Rattle.wire_spec.specs.Packets.{Packet, Arrival}
 use Rattle.wire_spec.specs.Text.{text_of}
+use Rattle.rtt_base.specs.declared.limits.TheConstants.{MOST_PACKET_OCTETS}
+use Rattle.wire_spec.specs.declared.limits.TheConstants.{LAST_RECORD_MOMENT, MOST_RECORDING_OCTETS}
 
 -- what a record is: a packet with its octets, one of RTCP, one that was recorded in part, or one of more than 4224 octets
 pub data What : Type 0 where
@@ -63,7 +65,7 @@ pub data Step : Type 0 where
 abbrev pub what_of : ℕ → List ℕ → What
 what_of packet_size body =
     if packet_size == 0 then Rtcp
-    else (if nat_lt (length body) packet_size then Cut else (if nat_lt 4224 packet_size then Large else Sent (take packet_size body)))
+    else (if nat_lt (length body) packet_size then Cut else (if nat_lt MOST_PACKET_OCTETS packet_size then Large else Sent (take packet_size body)))
 
 -- a record's size, that of its packet, and its time
 abbrev pub size_of : List ℕ → ℕ
@@ -84,7 +86,7 @@ record_fault limit p =
     if nat_lt (size_of p.rest) 8 then Some BadLength
     else (if nat_lt limit (p.byte + size_of p.rest) then Some TooLarge
     else (if nat_lt (length p.rest) (size_of p.rest) then Some EndsInside
-    else (if nat_lt 14400000 (time_of p.rest) then Some TooLong else None)))
+    else (if nat_lt LAST_RECORD_MOMENT (time_of p.rest) then Some TooLong else None)))
 
 abbrev pub step_or : Place → Option DumpKind → Step
 step_or p (Some kind) = Broken (record { byte = p.byte; kind = kind })
@@ -130,7 +132,7 @@ dump limit octets = dump_from limit (opening octets)
 
 -- the greatest recording that is read
 abbrev pub usual_limit : ℕ
-usual_limit = 4194304
+usual_limit = MOST_RECORDING_OCTETS
 
 -- ---- arrivals
 
@@ -172,9 +174,9 @@ dump_written rs = dump_opening ++ flat_map record_written rs
 
 -- what can be written and is read back: a packet of 1 to 4224 octets, in the first four hours
 pub record FitsRecord (r : ℕ × List ℕ) : Type 0 where
-  pub time : r.0 ≤ 14400000
+  pub time : r.0 ≤ LAST_RECORD_MOMENT
   pub some : 0 < length r.1
-  pub few : length r.1 ≤ 4224
+  pub few : length r.1 ≤ MOST_PACKET_OCTETS
 
 -- as it is read
 abbrev pub sent_item : ℕ × List ℕ → Item

@@ -10,6 +10,7 @@ use Rattle.wire_spec.specs.declared.faults.RedFault.TheVariants.{WrongType, Cut,
 use Rattle.wire_spec.specs.declared.headers.RedHeader.{RedHeader}
 use Rattle.rtt_base.specs.Steps.{◌>>=◌}
 use Rattle.wire_spec.specs.Packets.{primary, redundant, primary_text, HasPrimary}
+use Rattle.rtt_base.specs.declared.limits.TheConstants.{MOST_TEXT_OCTETS}
 
 -- ---- the payload as the sum of its parts
 
@@ -107,7 +108,7 @@ checked blocks = if all_utf8 blocks then Ok blocks else Err NotText
 unfoldable pub texts_at : List RedHeader → List ℕ → Result (List TextBlock) RedFault
 texts_at hs octets =
     if nat_lt (length octets) (older_size hs) then Err Cut
-    else (if nat_lt (older_size hs + 1023) (length octets) then Err Long
+    else (if nat_lt (older_size hs + MOST_TEXT_OCTETS) (length octets) then Err Long
     else checked (blocks_at hs octets))
 
 unfoldable pub red : List ℕ → ℕ → Pts → Result (List TextBlock) RedFault

@@ -9,6 +9,7 @@ use Rattle.rtt_base.specs.Steps.{◌>>=◌}
 use Rattle.wire_spec.specs.Packets.{Packet, redundant, primary_text}
 use Rattle.wire_spec.specs.Rtp.{Reading, rtp}
 use Rattle.wire_spec.specs.Red.{red}
+use Rattle.rtt_base.specs.declared.limits.TheConstants.{MOST_PACKET_OCTETS}
 
 abbrev pub refused_as : {A E : Type 0} → (E → TextFault) → Result A E → Result A TextFault
 refused_as fault (Ok x) = Ok x
@@ -37,4 +38,4 @@ text_of_short octets asked pts = do
   Ok (text_packet r blocks)
 
 unfoldable pub text_of : List ℕ → Option ℕ → Pts → Result Packet TextFault
-text_of octets asked pts = if nat_lt 4224 (length octets) then Err Long else text_of_short octets asked pts
+text_of octets asked pts = if nat_lt MOST_PACKET_OCTETS (length octets) then Err Long else text_of_short octets asked pts

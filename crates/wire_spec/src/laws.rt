@@ -9,6 +9,7 @@ ghost use Rattle.wire_spec.specs.Text.{is_asked, text_packet, text_of};
 ghost use Rattle.wire_spec.specs.Packets.{Packet};
 ghost use Rattle.wire_spec.specs.SentPackets.{FitsPacket, packet_written};
 ghost use Rattle.wire_spec.specs.Dump.{Place, dump_step, records_by, records_within, records, dump, dump_written, FitsRecord, sent_item};
+ghost use Rattle.rtt_base.specs.declared.limits.TheConstants.{MOST_PACKET_OCTETS};
 
 /// A packet is read as what it is the sum of, and only such a sum is read: so a packet has one reading at most.
 pub fn packets_are_sums()
@@ -39,14 +40,14 @@ pub fn blocks_are_read_back()
 /// A packet of text that is written in red form is read back, where its stream is asked for.
 pub fn packets_are_read_back()
     ensures { (h : Head) (blocks : List TextBlock) (asked : Option ℕ) (pts : Pts) → FitsHeader h → h.pt ≡ pts.red → FitsRed blocks pts
-        → is_asked asked h.ssrc ≡ true → length (rtp_written h (red_written blocks pts)) ≤ 4224
+        → is_asked asked h.ssrc ≡ true → length (rtp_written h (red_written blocks pts)) ≤ MOST_PACKET_OCTETS
         → text_of (rtp_written h (red_written blocks pts)) asked pts ≡ Ok (text_packet (reading_of h (red_written blocks pts)) blocks) }
 {}
 
 /// A packet of text that is sent, in red form or in plain form, is read back, where its stream is asked for.
 pub fn sent_packets_are_read_back()
     ensures { (pts : Pts) (p : Packet) (asked : Option ℕ) → FitsPacket pts p → is_asked asked p.ssrc ≡ true
-        → length (packet_written pts p) ≤ 4224 → text_of (packet_written pts p) asked pts ≡ Ok p }
+        → length (packet_written pts p) ≤ MOST_PACKET_OCTETS → text_of (packet_written pts p) asked pts ≡ Ok p }
 {}
 
 /// What is still to come of a recording is one step and what comes after it. More steps than there are octets change

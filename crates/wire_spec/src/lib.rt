@@ -4,6 +4,7 @@
 mod faults;
 mod headers;
 pub mod laws;
+pub mod limits;
 
 pub use faults::{DumpKind, RedFault, RtpFault, TextFault};
 pub use headers::RedHeader;

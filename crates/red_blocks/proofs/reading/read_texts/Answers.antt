@@ -10,8 +10,8 @@ use Rattle.red_blocks.proofs.reading.read_texts.Goals as goal
 pub returns-then-texts-older-clause-exact : goal.returns-then-texts-older-clause-exact
 returns-then-texts-older-clause-exact c = too_short (headers_of c.args.count c.args.headers.now) c.args.texts.now (omega (arith, c.requires.older))
 
-pub returns-then-texts-older-gt-MAX_TEXT-clause-exact : goal.returns-then-texts-older-gt-MAX_TEXT-clause-exact
-returns-then-texts-older-gt-MAX_TEXT-clause-exact c =
+pub returns-then-texts-older-gt-MOST_TEXT_OCTETS-clause-exact : goal.returns-then-texts-older-gt-MOST_TEXT_OCTETS-clause-exact
+returns-then-texts-older-gt-MOST_TEXT_OCTETS-clause-exact c =
     too_long (headers_of c.args.count c.args.headers.now) c.args.texts.now (omega (arith, c.requires.older)) (omega (arith, c.requires.older))
 
 pub returns-clause-exact : goal.returns-clause-exact

@@ -1,6 +1,7 @@
 use Rattle.std.proofs.Common.{◌++◌, ◌<◌, ◌≤◌, length, Ok, refl, subst, sym, ap, ◌∙◌, arith}
 use Rattle.script_text.proofs.EscapeLoop.{HasRead, none_read, more_read, no_escape, end_read, end_long}
 use Rattle.script_text.proofs.escapes.read_text.Goals as goal
+use Rattle.file_spec.specs.declared.limits.TheConstants.{LONGEST_TEXT}
 
 pub loop-run-init : goal.loop-run-init
 loop-run-init c = subst (HasRead c.args.octets.now c.args.octets.now) (sym c.clear.ensures) (none_read c.args.octets.now)
@@ -18,10 +19,10 @@ loop-run-preserved c =
 
 pub returns-then-len-gt-LONGEST_TEXT-clause-err : goal.returns-then-len-gt-LONGEST_TEXT-clause-err
 returns-then-len-gt-LONGEST_TEXT-clause-err c =
-    let long : 1023 < length (c.loop-run.text ++ c.loop-run.rest.now) = omega (arith, c.if-len-gt-LONGEST_TEXT.true, c.len.ensures, ap length c.in_ok-append-3.ensures.ok) in
+    let long : LONGEST_TEXT < length (c.loop-run.text ++ c.loop-run.rest.now) = omega (arith, c.if-len-gt-LONGEST_TEXT.true, c.len.ensures, ap length c.in_ok-append-3.ensures.ok) in
     (refl, end_long c.args.octets.now c.loop-run.rest.now c.loop-run.text c.in_default.ensures.parts long c.loop-run.invariant)
 
 pub returns-clause-ok : goal.returns-clause-ok
 returns-clause-ok c =
-    let short : length (c.loop-run.text ++ c.loop-run.rest.now) ≤ 1023 = omega (arith, c.if-len-gt-LONGEST_TEXT.false, c.len.ensures, ap length c.in_ok-append-3.ensures.ok) in
+    let short : length (c.loop-run.text ++ c.loop-run.rest.now) ≤ LONGEST_TEXT = omega (arith, c.if-len-gt-LONGEST_TEXT.false, c.len.ensures, ap length c.in_ok-append-3.ensures.ok) in
     end_read c.args.octets.now c.loop-run.rest.now c.loop-run.text c.in_default.ensures.parts short c.loop-run.invariant ∙ ap Ok (sym c.in_ok-append-3.ensures.ok)

@@ -9,6 +9,7 @@ use Rattle.slot_table.specs.Standing.{Holds, SourceStands}
 use Rattle.slot_table.proofs.Adding.{added}
 use Rattle.slot_table.proofs.Spanning.{room_enough}
 use Rattle.slot_table.proofs.lanes.Lane.offer.Goals as goal
+use Rattle.mixer_spec.specs.declared.limits.TheConstants.{MOST_SPAN_CHUNKS, MOST_SPAN_OCTETS}
 
 pub invariant_of-self : goal.invariant_of-self
 invariant_of-self c =
@@ -28,9 +29,9 @@ returns-then-has_room-clause-room c = λ s i table d h e.
     let w = waiting_in c.self.inside in
     let k : SourceStands s i w table = subst (λ (x : Waiting). SourceStands s i x table) (sym c.self.view_is) h in
     let n = length c.args.text.now in
-    let b = and_parts (nat_le (length w.chunks.octets - 0 + n) 16384) (nat_lt (length w.chunks.lengths - 0) 512) (sym c.has_room.ensures ∙ c.if-has_room.true) in
-    let few = leb-true (length w.chunks.octets - 0 + n) 16384 b.0 in
-    let less = ltb-true (length w.chunks.lengths - 0) 512 b.1 in
+    let b = and_parts (nat_le (length w.chunks.octets - 0 + n) MOST_SPAN_OCTETS) (nat_lt (length w.chunks.lengths - 0) MOST_SPAN_CHUNKS) (sym c.has_room.ensures ∙ c.if-has_room.true) in
+    let few = leb-true (length w.chunks.octets - 0 + n) MOST_SPAN_OCTETS b.0 in
+    let less = ltb-true (length w.chunks.lengths - 0) MOST_SPAN_CHUNKS b.1 in
     (λ t. room_enough s i w table k d (omega (arith, few, ap (λ (t : List ℕ). length t) e)) (omega (arith, less)), λ t. refl)
 
 pub returns-then-has_room-clause-ok : goal.returns-then-has_room-clause-ok

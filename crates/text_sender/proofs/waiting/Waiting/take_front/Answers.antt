@@ -1,6 +1,7 @@
 use Rattle.std.proofs.Common.{◌≡◌, ◌≤◌, ◌-◌, ℕ, List, ap, ◌∙◌, ◌++◌, length, length-take, take, min, arith}
 use Rattle.text_sender.proofs.Fronts.{front_parts, on_ok}
 use Rattle.text_sender.proofs.waiting.Waiting.take_front.Goals as goal
+use Rattle.rtt_base.specs.declared.limits.TheConstants.{MOST_TEXT_OCTETS}
 
 pub returns-clause-text : goal.returns-clause-text
 returns-clause-text c =
@@ -9,7 +10,7 @@ returns-clause-text c =
     let len = c.front_len-len.result in
     let part = c.min-from_first.result in
     let within : part ≡ min (length first) len = c.min-from_first.ensures in
-    let few : len ≤ 1023 = c.front_len-len.ensures.fits.0 in
+    let few : len ≤ MOST_TEXT_OCTETS = c.front_len-len.ensures.fits.0 in
     let one : c.append.new.self ≡ take part first =
     on_ok c.append.result (c.append.ensures.room.1 (omega (arith, within, few, ap (λ (l : List ℕ). length l) c.clear.ensures, length-take part first))) c.append.ensures.ok ∙ ap (λ (l : List ℕ). l ++ take part first) c.clear.ensures in
     let two : c.append-2.new.self ≡ c.append.new.self ++ take (len - part) second =
