@@ -55,7 +55,7 @@ impl RecordHead {
             DumpItem::Rtcp { at }
         } else if self.packet_size > self.size - 8 {
             DumpItem::Cut { at }
-        } else if self.packet_size > MOST_PACKET_OCTETS {
+        } else if usize::from(self.packet_size) > MOST_PACKET_OCTETS {
             DumpItem::Large { at }
         } else {
             DumpItem::Packet { at }
@@ -69,7 +69,7 @@ impl RecordHead {
         ensures within { result ≤ self.now.size - 8 }
         ensures fits { result ≤ MOST_PACKET_OCTETS }
     {
-        if self.packet_size > self.size - 8 || self.packet_size > MOST_PACKET_OCTETS {
+        if self.packet_size > self.size - 8 || usize::from(self.packet_size) > MOST_PACKET_OCTETS {
             0
         } else {
             usize::from(self.packet_size)
