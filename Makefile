@@ -3,7 +3,7 @@
 # make examples    runs the commands of the documents and compares what they print, and the stored recordings
 # make trials      tries the program against the system, and with each request of memory refused
 # make recordings  makes the stored recordings of examples/ anew
-# make bench       how fast the program reads, lists and sends
+# make bench       how fast the program reads, lists, sends and mixes
 # make install     the program and its page, below PREFIX
 # PROGRAM=.. names another program than the one that `make run` built.
 PREFIX ?= /usr/local
@@ -34,6 +34,7 @@ bench: $(PROGRAM)
 	bench/read $(PROGRAM)
 	bench/list $(PROGRAM)
 	bench/send $(PROGRAM)
+	bench/mix $(PROGRAM)
 
 install: $(PROGRAM)
 	install -D -m 755 $(PROGRAM) $(DESTDIR)$(PREFIX)/bin/rtt_program
