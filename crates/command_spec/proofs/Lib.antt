@@ -11,3 +11,4 @@ pub mod Headlines
 mod MixExamples
 pub mod Outputs
 mod GeneratedExamples
+pub mod Markers

@@ -1,11 +1,15 @@
 //! What holds of the definitions. No code stands here.
-ghost use Rattle.std.specs.Prelude.{◌≡◌, ℕ, List};
-ghost use Rattle.stream_spec.specs.History.{History, Lawful, Come};
+ghost use Rattle.std.specs.Prelude.{◌≡◌, ℕ, ◌+◌, List, length};
+ghost use Rattle.wire_spec.specs.Packets.{Arrival};
+ghost use Rattle.stream_spec.specs.Hearing.{heard};
+ghost use Rattle.stream_spec.specs.History.{History, Lawful, Come, places};
+ghost use Rattle.stream_spec.specs.Kept.{kept};
 ghost use Rattle.command_spec.specs.declared.requests.ReadRequest.{ReadRequest};
 ghost use Rattle.command_spec.specs.Reading.{arrivals_of, read_view, history_view};
 ghost use Rattle.command_spec.specs.Work.{Contents, Made};
 ghost use Rattle.command_spec.specs.Outcomes.{AllStored, Done, outcome};
 ghost use Rattle.command_spec.specs.Mixing.{mixing};
+ghost use Rattle.command_spec.specs.Sums.{markers, new_texts_heard, marks_in};
 ghost use Rattle.command_spec.specs.Bridges.{IsBridged};
 
 /// Where what arrives out of a recording comes from a lawful history, what `read` prints is the view of that history: the
@@ -21,4 +25,11 @@ pub fn histories_are_shown()
 pub fn mixed_is_bridged()
     ensures { (held after : Contents) (file printed : List ℕ) (files : List Made)
         → outcome held (mixing file) ≡ Done printed files → AllStored files held after → IsBridged held after file printed }
+{}
+
+/// What is heard of a source are the markers that are counted and the new texts. Of a lawful history they are the marks which
+/// the packets that came in time leave of it. A U+FFFD that was typed stands in a block, and is none of them.
+pub fn markers_are_marks()
+    ensures heard { (wait : ℕ) (past : List Arrival) (s : ℕ) → length (heard wait past s) ≡ markers wait past s + length (new_texts_heard wait past s) }
+    ensures marks { (wait : ℕ) (h : History) → Lawful h → (past : List Arrival) → Come h past → (s : ℕ) → markers wait past s ≡ marks_in (kept h (places wait h past) s) }
 {}
