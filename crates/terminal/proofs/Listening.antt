@@ -26,6 +26,7 @@ use Rattle.ear.proofs.ReadyBy.{heard_dues, told_arrived}
 use Rattle.stream_spec.proofs.HeardTexts.{heard_utf8}
 use Rattle.text_spec.specs.declared.counts.Counts.{Counts}
 use Rattle.command_spec.specs.Seen.{Reception, Fate, NoPacket, fate_of, fate_of_what, fate_at, is_packet, is_refused, is_foreign, many, arrivals_at, counts_at}
+use Rattle.terminal.proofs.Marks.{marks_are}
 use Rattle.terminal.specs.declared.confs.TermConf.{TermConf}
 use Rattle.terminal.specs.declared.terminals.Terminal.{Terminal}
 use Rattle.terminal.specs.Terminals.{reception, ear_conf, one_if, is_spent, IsEmpty, IsUnread, HearsTexts, SameCounts, CountsAs, Counted, Listens, IsTextOf, Heard}
@@ -293,7 +294,7 @@ finished l k m b all t n w g same spent c sources came li = record {
         let o = h.hears.heard i d below in
         record {
           text = o.text ∙ ap concat (heard_is (slice_index sources i));
-          marks = o.marks ∙ ap (λ (us : List Numbered). marks_by us (slice_index sources i)) packets;
+          marks = o.marks ∙ ap (λ (us : List Numbered). marks_by us (slice_index sources i)) packets ∙ marks_are c.wait past (slice_index sources i);
         }
 
 -- all that is settled is heard

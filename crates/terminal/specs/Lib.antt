@@ -1,3 +1,2 @@
 pub mod Terminals
-pub mod Marks
 pub mod Views

@@ -1,16 +1,14 @@
 -- What a terminal stands for: what came to it so far, what was heard of each source, and the counts (profile).
 use Rattle.std.specs.Prelude.{◌≡◌, ℕ, ◌+◌, ◌<◌, ◌≤◌, ◌⊎◌, Bool, true, false, List, [], length, All, IsUtf8, slice_index, slice_index_or, if◌then◌else◌}
-use Rattle.wire_spec.specs.Packets.{Arrival}
 use Rattle.wire_spec.specs.Dump.{Item, What, Cut, Large}
-use Rattle.stream_spec.specs.ChunksBy.{used_ready}
 use Rattle.gap_tracker.specs.Stories.{Story}
 use Rattle.source_receiver.specs.declared.source_texts.SourceText.{SourceText}
-use Rattle.source_receiver.specs.Each.{marks_by}
 use Rattle.ear.specs.declared.confs.EarConf.{EarConf}
 use Rattle.ear.specs.Hears.{IsToldOf, arrival_count, is_quiet, is_finished}
 use Rattle.ear.specs.Each.{HearsEach}
 use Rattle.text_spec.specs.declared.counts.Counts.{Counts}
 use Rattle.command_spec.specs.Seen.{Reception, Fate, fate_at, is_packet, is_refused, is_foreign, many, arrivals_at, text_at, counts_at}
+use Rattle.command_spec.specs.Sums.{markers_at}
 use Rattle.terminal.specs.declared.confs.TermConf.{TermConf}
 use Rattle.terminal.specs.declared.terminals.Terminal.{Terminal}
 
@@ -79,14 +77,10 @@ IsListening t = (c : TermConf) × (sources : List ℕ) × (came : List Item) × 
 abbrev pub IsOpen : Terminal → Type 0
 IsOpen t = IsWhole t → IsListening t
 
--- how many markers are heard of the source s by these arrivals
-abbrev pub marks : ℕ → List Arrival → ℕ → ℕ
-marks wait a s = marks_by (used_ready wait a) s
-
 -- all that is heard of the source s
 pub record IsTextOf (r : Reception) (came : List Item) (s : ℕ) (t : SourceText) : Type 0 where
   pub text : t.text ≡ text_at r came s
-  pub marks : t.marks ≡ marks r.wait (arrivals_at r came) s
+  pub marks : t.marks ≡ markers_at r came s
 
 -- what came was heard to its end
 pub record Heard (t : Terminal) (c : TermConf) (sources : List ℕ) (came : List Item) : Type 0 where

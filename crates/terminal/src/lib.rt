@@ -2,7 +2,6 @@
 #![tactic(auto)]
 
 mod confs;
-pub mod laws;
 mod terminals;
 #[cfg(test)]
 mod tests;
