@@ -12,3 +12,4 @@ mod MixExamples
 pub mod Outputs
 mod GeneratedExamples
 pub mod Markers
+pub mod Counted
