@@ -167,6 +167,7 @@ pub fn played(
     requires differ { AllPairs (λ a b. a ≢ b) sources.now }
     requires written { IsWritten recording.now }
     ensures heard { IfOk result (λ terminal. (records : List (ℕ × List ℕ)) → IsWrittenOf recording.now records → Heard terminal conf sources.now (came plan.now number records)) }
+    ensures few { IfOk result (λ terminal. (counts_of terminal).packets < 2 ^ 40) }
 {
     let mut terminal = Terminal::new(alloc, conf, sources)?;
     hear(

@@ -163,6 +163,7 @@ impl Terminal {
         requires stands { IsListening self.old }
         requires few { (counts_of self.old).packets < 2 ^ 40 }
         ensures heard { OnOk result ((c : TermConf) (sources : List ℕ) (came : List Item) → Listens self.old c sources came → Heard self.new c sources came) }
+        ensures packets { (counts_of self.new).packets ≡ (counts_of self.old).packets }
     {
         self.ear.finish();
         self.gather()
@@ -176,6 +177,7 @@ impl Terminal {
         ensures finished { IsFinished self.new }
         ensures whole { OnOk result (IsWhole self.old) }
         ensures spent { OnErr result (is_spent self.new ≡ Bool.true) }
+        ensures packets { (counts_of self.new).packets ≡ (counts_of self.old).packets }
     {
         if self.spent {
             return Err(NoMemory);
