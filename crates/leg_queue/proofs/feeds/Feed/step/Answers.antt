@@ -1,0 +1,5 @@
+use Rattle.leg_queue.proofs.Feeding.{handed}
+use Rattle.leg_queue.proofs.feeds.Feed.step.Goals as goal
+
+pub returns-clause-follows : goal.returns-clause-follows
+returns-clause-follows g c = λ first s. handed g.S.Source.tells g.S.Source.left g.S.Source.faults g.S.Source.name first c.fill.new.self c.hand_over.new.self (c.fill.ensures.follows first s) c.hand_over.ensures.inlet c.hand_over.ensures.place c.hand_over.ensures.items
