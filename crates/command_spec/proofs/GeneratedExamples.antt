@@ -33,7 +33,7 @@ aware_of_1 : map (λ l. l.aware) (generated 1).conference.legs
 unfolding next draw times text script_from typist plan_line generated
 aware_of_1 = refl
 
-firsts_of_1 : map (λ t. t.first) (generated 1).typists
+firsts_of_1 : (generated 1).firsts
     ≡ 5758 ∷ 27141 ∷ 32047 ∷ 16092 ∷ 21372 ∷ 3654 ∷ 22281 ∷ 15466 ∷ 9363 ∷ 2624 ∷ []
 unfolding next draw times text script_from typist plan_line generated
 firsts_of_1 = refl
@@ -49,13 +49,13 @@ octets_of_1 = refl
 abbrev line : ℕ → List ℕ → ScriptLine
 line at text = record { line = 0; at = at; text = text }
 
-first_script_of_1 : map (λ t. take 2 t.script) (take 2 (generated 1).typists)
+first_script_of_1 : map (take 2) (take 2 (generated 1).scripts)
     ≡ (line 113 (codes "hlajoetb") ∷ line 573 (codes "tztvie" ++ 8 ∷ []) ∷ [])
     ∷ (line 702 (codes "qgpbujdtdp. ") ∷ line 1355 (codes "mwqryuxfvx. ") ∷ []) ∷ []
 unfolding next draw times text script_from typist plan_line generated
 first_script_of_1 = refl
 
-last_line_of_leg_1 : map (λ t. drop 39 t.script) (take 1 (drop 1 (generated 1).typists))
+last_line_of_leg_1 : map (drop 39) (take 1 (drop 1 (generated 1).scripts))
     ≡ (line 19651 (codes "p" ++ 226 ∷ 128 ∷ 168 ∷ []) ∷ []) ∷ []
 unfolding next draw times text script_from typist plan_line generated
 last_line_of_leg_1 = refl

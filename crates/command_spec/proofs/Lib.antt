@@ -13,3 +13,4 @@ pub mod Outputs
 mod GeneratedExamples
 pub mod Markers
 pub mod Counted
+pub mod Generating

@@ -18,10 +18,11 @@ pub record Typist : Type 0 where
   pub first : ℕ
   pub script : List ScriptLine
 
--- the conference, and for each of its legs what it types
+-- the conference, and for each of its legs, in leg order, what it types and its first sequence number
 pub record Generated : Type 0 where
   pub conference : Conf
-  pub typists : List Typist
+  pub scripts : List (List ScriptLine)
+  pub firsts : List ℕ
 
 -- ---- what is typed
 -- a letter `a` to `z`
@@ -119,13 +120,20 @@ conference_of legs plan = record {
 }
 
 -- ---- the whole
+abbrev pub generated_of : ℕ → List Typist → List PlanLine → Generated
+generated_of legs typists lines = record {
+  conference = conference_of legs (without_repeats lines);
+  scripts = map (λ t. t.script) typists;
+  firsts = map (λ t. t.first) typists;
+}
+
 -- 2 to 16 legs, what each of them types, and 200 plan lines
 abbrev pub drawn : Drawing Generated
 drawn = do
   more ← draw 15
   typists ← times (2 + more) typist
   lines ← times 200 (plan_line (2 + more))
-  give (record { conference = conference_of (2 + more) (without_repeats lines); typists = typists })
+  give (generated_of (2 + more) typists lines)
 
 unfoldable pub generated : ℕ → Generated
 generated n = (drawn n).0

@@ -1,6 +1,7 @@
 //! What holds of the definitions. No code stands here.
-ghost use Rattle.std.specs.Prelude.{◌≡◌, ℕ, ◌+◌, List, length};
+ghost use Rattle.std.specs.Prelude.{◌≡◌, ◌≤◌, ℕ, ◌+◌, List, length, All};
 ghost use Rattle.wire_spec.specs.Packets.{Arrival};
+ghost use Rattle.file_spec.specs.Kept.{IsConference};
 ghost use Rattle.stream_spec.specs.Hearing.{heard};
 ghost use Rattle.stream_spec.specs.History.{History, Lawful, Come, places};
 ghost use Rattle.stream_spec.specs.Kept.{kept};
@@ -8,6 +9,8 @@ ghost use Rattle.command_spec.specs.declared.requests.ReadRequest.{ReadRequest};
 ghost use Rattle.command_spec.specs.Reading.{arrivals_of, read_view, history_view};
 ghost use Rattle.command_spec.specs.Work.{Contents, Made};
 ghost use Rattle.command_spec.specs.Outcomes.{AllStored, Done, outcome};
+ghost use Rattle.command_spec.specs.Scripts.{AreLines};
+ghost use Rattle.command_spec.specs.Generated.{generated};
 ghost use Rattle.command_spec.specs.Mixing.{mixing};
 ghost use Rattle.command_spec.specs.Sums.{markers, new_texts_heard, marks_in};
 ghost use Rattle.command_spec.specs.Bridges.{IsBridged};
@@ -32,4 +35,14 @@ pub fn mixed_is_bridged()
 pub fn markers_are_marks()
     ensures heard { (wait : ℕ) (past : List Arrival) (s : ℕ) → length (heard wait past s) ≡ markers wait past s + length (new_texts_heard wait past s) }
     ensures marks { (wait : ℕ) (h : History) → Lawful h → (past : List Arrival) → Come h past → (s : ℕ) → markers wait past s ≡ marks_in (kept h (places wait h past) s) }
+{}
+
+/// What is generated from a number is a conference of at most 16 legs that keeps all limits, and for each leg a script that
+/// can be sent.
+pub fn generated_conferences_keep()
+    ensures conference { (n : ℕ) → IsConference (generated n).conference }
+    ensures legs { (n : ℕ) → length (generated n).conference.legs ≤ 16 }
+    ensures scripts { (n : ℕ) → All AreLines (generated n).scripts }
+    ensures each_script { (n : ℕ) → length (generated n).scripts ≡ length (generated n).conference.legs }
+    ensures each_first { (n : ℕ) → length (generated n).firsts ≡ length (generated n).conference.legs }
 {}
