@@ -212,7 +212,7 @@ two_of i low high =
     let tens : i / 10 < 10 = omega arith in
     decimal_step i low (omega arith) ∙ ap (λ ds. ds ++ (48 + i % 10) ∷ []) (decimal_digit (i / 10) tens)
 
-named : (i : ℕ) → i < 100 → IsTrue (is_name (codes "L" ++ decimal i))
+pub named : (i : ℕ) → i < 100 → IsTrue (is_name (codes "L" ++ decimal i))
 named i h = elim (cases_lt i 10) [
   | inl less ↦ subst (λ ds. is_name (codes "L" ++ ds) ≡ true) (sym (decimal_digit i less)) (one_digit i less)
   | inr more ↦ subst (λ ds. is_name (codes "L" ++ ds) ≡ true) (sym (two_of i more h)) (two_digits (i / 10) (i % 10) (omega arith) (mod-lt i (lit< tt)))

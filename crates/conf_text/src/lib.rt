@@ -18,6 +18,8 @@ pub use confs::Conf;
 pub use file_lines::ConfFault;
 pub use file_spec::{ConfKind, Form, LegLine, MixerLine, PlanLine, Stay, What};
 pub use legs::Legs;
+pub use names::name_of;
+pub use plan_lines::is_planned;
 pub use plans::Plan;
 
 #[cfg(test)]

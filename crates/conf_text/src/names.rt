@@ -33,7 +33,7 @@ pub(crate) fn names_path(text: &str) -> bool
 }
 
 /// The name that the text is.
-pub(crate) fn name_of(text: &str) -> Name
+pub fn name_of(text: &str) -> Name
     requires { IsTrue (is_name text.now) }
     ensures { result ≡ text.now }
 {

@@ -30,7 +30,8 @@ fn is_same(one: &PlanLine, other: &PlanLine) -> bool
         && is_same_event(one.what, other.what)
 }
 
-fn is_planned(plan: &[PlanLine], line: &PlanLine) -> bool
+/// Whether one of these lines says the same of a packet.
+pub fn is_planned(plan: &[PlanLine], line: &PlanLine) -> bool
     ensures { result ≡ list_any (λ p. is_same_packet p line.now) plan.now }
 {
     plan.iter().any(|above| is_same(above, line))

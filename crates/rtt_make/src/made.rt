@@ -1,0 +1,173 @@
+//! The conference, with the script and the first sequence number of each leg.
+ghost use Rattle.std.specs.Prelude.{◌≡◌, ◌==◌, ◌<◌, ◌≤◌, ◌++◌, [], ◌∷◌, length, map, slice_get, Some, IfOk, OnOk};
+ghost use Rattle.file_spec.specs.Kept.{IsConference};
+ghost use Rattle.conf_text.specs.Lines.{conf_of};
+ghost use Rattle.command_spec.specs.Draws.{times};
+ghost use Rattle.command_spec.specs.Generated.{conference_of, generated, typist};
+ghost use Rattle.rtt_make.specs.Mades.{made_of};
+
+use crate::draws::Draws;
+use crate::legs::legs_of;
+use crate::plans::draw_plan;
+use crate::scripts::draw_typist;
+use conf_text::{Conf, MixerLine, Plan};
+use file_spec::limits::{MOST_TURNS, USUAL_SPACING, USUAL_TICK};
+use rtt_base::NoMemory;
+use rtt_base::limits::USUAL_WAIT;
+use script_text::Script;
+use std::alloc::Global;
+use std::marker::Model;
+
+/// The mixer's SSRC. Its sequence numbers and its timestamps begin with 0.
+const MIXER_SSRC: u32 = 1;
+
+/// A conference has two legs and up to so many more, less one.
+const MORE_LEGS: u32 = 15;
+
+/// Scripts in leg order. Contracts see the lines of each.
+#[derive(Debug, Drop)]
+pub struct Scripts {
+    scripts: Vec<Script>,
+}
+
+impl Model for Scripts {
+    ghost use Rattle.std.specs.Prelude.{List};
+    ghost use Rattle.file_spec.specs.Script.{ScriptLine};
+
+    ghost Value = { List (List ScriptLine) };
+
+    ghost view = { λ s. s.scripts.items };
+}
+
+impl Scripts {
+    fn new(alloc: Global) -> Scripts
+        ensures { result ≡ [] }
+    {
+        Scripts {
+            scripts: Vec::new(alloc),
+        }
+    }
+
+    pub fn as_slice(&self) -> &[Script]
+        ensures { result.now ≡ self.now }
+    {
+        self.scripts.as_slice()
+    }
+
+    fn push(&mut self, script: Script) -> Result<(), NoMemory>
+        ensures { OnOk result (self.new ≡ self.old ++ script ∷ []) }
+    {
+        match self.scripts.push(script) {
+            Ok(()) => Ok(()),
+            Err(_) => Err(NoMemory),
+        }
+    }
+}
+
+/// First sequence numbers in leg order. Contracts see them as a list.
+#[derive(Debug, Drop)]
+pub struct Seqs {
+    seqs: Vec<u16>,
+}
+
+impl Model for Seqs {
+    ghost use Rattle.std.specs.Prelude.{ℕ, List};
+
+    ghost Value = { List ℕ };
+
+    ghost view = { λ s. s.seqs.items };
+}
+
+impl Seqs {
+    fn new(alloc: Global) -> Seqs
+        ensures { result ≡ [] }
+    {
+        Seqs {
+            seqs: Vec::new(alloc),
+        }
+    }
+
+    pub fn as_slice(&self) -> &[u16]
+        ensures { result.now ≡ self.now }
+    {
+        self.seqs.as_slice()
+    }
+
+    fn push(&mut self, seq: u16) -> Result<(), NoMemory>
+        ensures { OnOk result (self.new ≡ self.old ++ seq ∷ []) }
+    {
+        match self.seqs.push(seq) {
+            Ok(()) => Ok(()),
+            Err(_) => Err(NoMemory),
+        }
+    }
+}
+
+/// What all legs type, and their first sequence numbers.
+#[derive(Debug, Drop)]
+struct Typed {
+    scripts: Scripts,
+    seqs: Seqs,
+}
+
+/// A conference that was made from a number, with the script and the first sequence number of each of its legs.
+#[derive(Debug, Drop)]
+pub struct Made {
+    pub conf: Conf,
+    pub scripts: Scripts,
+    pub seqs: Seqs,
+}
+
+/// Draws what so many legs type.
+fn draw_typed(alloc: Global, draws: &mut Draws, legs: u32) -> Result<Typed, NoMemory>
+    ensures scripts { IfOk result (λ t. t.scripts ≡ map (λ x. x.script) (times legs typist draws.old).0) }
+    ensures seqs { IfOk result (λ t. t.seqs ≡ map (λ x. x.first) (times legs typist draws.old).0) }
+    ensures state { IfOk result (λ _. draws.new ≡ (times legs typist draws.old).1) }
+{
+    let mut scripts = Scripts::new(alloc);
+    let mut seqs = Seqs::new(alloc);
+    for _ in 0..legs {
+        let typist = draw_typist(alloc, draws)?;
+        seqs.push(typist.seq)?;
+        scripts.push(typist.script)?;
+    }
+    Ok(Typed { scripts, seqs })
+}
+
+/// The conference of so many legs with this plan.
+fn conf_with(alloc: Global, legs: u32, plan: Plan) -> Result<Conf, NoMemory>
+    requires few { legs ≤ 100 }
+    requires keeps { IsConference (conference_of legs plan) }
+    ensures { IfOk result (λ conf. conf_of conf ≡ conference_of legs plan) }
+{
+    let legs = legs_of(alloc, legs)?;
+    Ok(Conf {
+        legs,
+        tick: USUAL_TICK,
+        spacing: USUAL_SPACING,
+        wait: USUAL_WAIT,
+        turns: MOST_TURNS,
+        mixer: MixerLine {
+            ssrc: MIXER_SSRC,
+            seq: 0,
+            stamp: 0,
+        },
+        plan,
+    })
+}
+
+/// Makes the conference of a number, which is the same each time.
+pub fn make_conf(alloc: Global, number: u32) -> Result<Made, NoMemory>
+    ensures { IfOk result (λ made. made_of made ≡ generated number) }
+{
+    let mut draws = Draws::new(number);
+    let legs = 2 + draws.draw(MORE_LEGS);
+    let typed = draw_typed(alloc, &mut draws, legs)?;
+    let plan = draw_plan(alloc, &mut draws, legs)?;
+    let conf = conf_with(alloc, legs, plan)?;
+    Ok(Made {
+        conf,
+        scripts: typed.scripts,
+        seqs: typed.seqs,
+    })
+}
