@@ -6,9 +6,10 @@ use Rattle.stream_spec.proofs.Walks.{l1}
 use Rattle.text_spec.specs.Shown.{shown}
 use Rattle.text_spec.specs.Views.{text_view}
 use Rattle.command_spec.specs.declared.requests.ReadRequest.{ReadRequest}
-use Rattle.command_spec.specs.Reading.{usual_wait, arrivals_of, counts_read, read_view, history_view}
+use Rattle.command_spec.specs.Seen.{counts_at}
+use Rattle.command_spec.specs.Reading.{usual_wait, reception, records_of, arrivals_of, read_view, history_view}
 
 -- the view of what is heard is that of what is kept
 pub same_view : (h : History) → Lawful h → (r : ReadRequest) (octets : List ℕ) → Come h (arrivals_of r octets) → read_view r octets ≡ history_view h r octets
 unfolding read_view history_view
-same_view h law r octets come = ap (λ t. text_view (shown (concat t)) (counts_read r octets)) (l1 usual_wait h law (arrivals_of r octets) come r.source)
+same_view h law r octets come = ap (λ t. text_view (shown (concat t)) (counts_at (reception r) (records_of octets))) (l1 usual_wait h law (arrivals_of r octets) come r.source)

@@ -7,7 +7,7 @@ use Rattle.command_spec.specs.declared.requests.ReadRequest.{ReadRequest}
 use Rattle.wire_spec.specs.Rtp.{rtp, rtp_of_header}
 use Rattle.wire_spec.specs.Red.{red, headers_at, texts_at}
 use Rattle.wire_spec.specs.Text.{text_of, text_of_short}
-use Rattle.wire_spec.specs.Dump.{dump, opening, dump_step, records, records_within, arrivals}
+use Rattle.wire_spec.specs.Dump.{dump, opening, dump_step, records, records_within}
 use Rattle.text_spec.specs.Characters.{class_of}
 use Rattle.text_spec.specs.Shown.{shown}
 use Rattle.text_spec.specs.Views.{text_view, counts_line}
@@ -21,5 +21,5 @@ abbrev asked : ReadRequest
 asked = record { ssrc = 1001; source = 1001; pts = record { t140 = 98; red = 100 } }
 
 view_of_call : read_view asked call ≡ codes "| AB\n-- bells 0\n-- packets 4 used 4 refused 0 foreign 0\n"
-unfolding call read_view is_utf8 rtp rtp_of_header red headers_at texts_at text_of text_of_short dump opening dump_step records records_within arrivals shown class_of chars encode_utf8 digits text_view counts_line
+unfolding call read_view is_utf8 rtp rtp_of_header red headers_at texts_at text_of text_of_short dump opening dump_step records records_within shown class_of chars encode_utf8 digits text_view counts_line
 view_of_call = refl

@@ -1,4 +1,2 @@
 mod Examples
-pub mod Listening
-pub mod Reading
-pub mod Viewing
+pub mod Hearing

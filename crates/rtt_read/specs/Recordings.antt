@@ -1,28 +1,32 @@
--- How far a recording was heard, record by record.
-use Rattle.std.specs.Prelude.{◌≡◌, ◌+◌, Bool, List}
-use Rattle.wire_spec.specs.Packets.{Arrival}
-use Rattle.wire_spec.specs.Dump.{Recording, arrivals_after}
+-- What a terminal heard of a recording, and why it was not heard to its end.
+use Rattle.std.specs.Prelude.{◌≡◌, ℕ, Bool, None, List, [], ◌∷◌, ◌++◌}
+use Rattle.wire_spec.specs.Dump.{Item, Recording}
 use Rattle.rtpdump_io.specs.Reading.{is_of_source, IsFaultOf}
 use Rattle.command_spec.specs.declared.requests.ReadRequest.{ReadRequest}
-use Rattle.command_spec.specs.Reading.{many, fate, is_packet, is_refused, is_foreign}
-use Rattle.rtt_read.specs.Hears.{Listens}
-use Rattle.rtt_read.specs.declared.listeners.Listener.{Listener}
+use Rattle.command_spec.specs.Reading.{usual_wait}
+use Rattle.terminal.specs.declared.confs.TermConf.{TermConf}
+use Rattle.terminal.specs.declared.terminals.Terminal.{Terminal}
+use Rattle.terminal.specs.Terminals.{Listens}
 use Rattle.rtt_read.specs.declared.reads.ListenFault.{ListenFault}
 use Rattle.rtt_read.specs.declared.reads.ListenFault.TheVariants.{Recorded, NoMemory}
 
--- between two moments the listener was told of the records that came
-pub record Heard (r : ReadRequest) (before : Recording) (l : Listener) (past : List Arrival) (now : Recording) (m : Listener) : Type 0 where
-  pub arrivals : List Arrival
-  pub listens : Listens m r arrivals
-  pub same : arrivals_after r.ssrc r.pts arrivals now.items ≡ arrivals_after r.ssrc r.pts past before.items
-  pub fault : now.fault ≡ before.fault
-  pub packets : m.counts.packets + many is_packet (fate r) now.items ≡ l.counts.packets + many is_packet (fate r) before.items
-  pub refused : m.counts.refused + many is_refused (fate r) now.items ≡ l.counts.refused + many is_refused (fate r) before.items
-  pub foreign : m.counts.foreign + many is_foreign (fate r) now.items ≡ l.counts.foreign + many is_foreign (fate r) before.items
+-- what a terminal is asked for
+abbrev pub asked_of : ReadRequest → TermConf
+asked_of r = record { ssrc = r.ssrc; pts = r.pts; wait = usual_wait }
 
--- from a recording to another, whatever is asked for
-abbrev pub Hearing : Recording → Listener → Recording → Listener → Type 0
-Hearing before l now m = (r : ReadRequest) (past : List Arrival) → Listens l r past → Heard r before l past now m
+-- something came to a terminal that hears one source
+abbrev pub HearsOne : Terminal → Type 0
+HearsOne t = (c : TermConf) × (source : ℕ) × (came : List Item) × Listens t c (source ∷ []) came
+
+-- these records came behind those that came before
+abbrev pub Hears : Terminal → List Item → Terminal → Type 0
+Hears before items after = (c : TermConf) (sources : List ℕ) (came : List Item) → Listens before c sources came → Listens after c sources (came ++ items)
+
+-- some records came; those of this recording, which has no fault, where this tells it
+pub record HearsAll (tells : Type 0) (recording : Recording) (before after : Terminal) : Type 0 where
+  pub items : List Item
+  pub hears : Hears before items after
+  pub is : tells → recording ≡ record { items = items; fault = None }
 
 -- the source failed
 abbrev pub IsSourceFault : ListenFault → Type 0

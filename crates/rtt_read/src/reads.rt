@@ -1,21 +1,23 @@
 //! The work of `read`: a recording is heard to its end, and its view is made.
-ghost use Rattle.std.specs.Prelude.{◌≡◌, ℕ, ◌+◌, ◌≤◌, ◌<◌, ◌^◌, List, [], ◌∷◌, length, Bool, None, OnOk, IfOk, IfErr};
-ghost use Rattle.wire_spec.specs.Packets.{Arrival};
-ghost use Rattle.wire_spec.specs.Dump.{Recording, arrivals_with, dump, usual_limit};
+ghost use Rattle.std.specs.Prelude.{◌≡◌, ℕ, ◌+◌, ◌≤◌, ◌<◌, ◌^◌, List, [], ◌∷◌, Bool, None, OnOk, IfOk, IfErr};
+ghost use Rattle.wire_spec.specs.Dump.{Item, dump, usual_limit};
 ghost use Rattle.rtpdump_io.specs.Reading.{is_ended, to_come, source_of};
+ghost use Rattle.rtpdump_io.specs.Answers.{record_of, is_end};
 ghost use Rattle.rtt_io.specs.Counts.{Rose};
 ghost use Rattle.command_spec.specs.declared.requests.ReadRequest.{ReadRequest};
-ghost use Rattle.command_spec.specs.Reading.{fate, read_view};
-ghost use Rattle.rtt_read.specs.Hears.{CountsAs, Listens, IsListening};
-ghost use Rattle.rtpdump_io.specs.Answers.{record_of, is_end};
-ghost use Rattle.rtt_read.specs.Recordings.{Hearing, IsSourceFault, ListenFaultOf};
+ghost use Rattle.command_spec.specs.Reading.{read_view};
+ghost use Rattle.command_spec.specs.Seen.{text_seen};
+ghost use Rattle.terminal.specs.declared.confs.TermConf.{TermConf};
+ghost use Rattle.terminal.specs.Terminals.{reception, counts_of, IsOpen, Listens};
+ghost use Rattle.rtt_read.specs.Recordings.{asked_of, Hears, HearsAll, HearsOne, IsSourceFault, ListenFaultOf};
 
-use crate::listeners::Listener;
 use command_spec::ReadRequest;
 use rtpdump_io::{DumpFault, DumpItem, DumpReader};
+use rtt_base::limits::USUAL_WAIT;
 use rtt_base::{Bytes, NoMemory as OutOfMemory, Packet};
 use rtt_io::Source;
 use std::alloc::Global;
+use terminal::{TermConf, Terminal};
 
 /// Why a recording was not heard to its end.
 #[derive(Debug, Drop)]
@@ -25,36 +27,47 @@ pub enum ListenFault {
     NoMemory,
 }
 
-/// Tells the listener of a record, whose octets are these.
-fn hear_record(listener: &mut Listener, item: DumpItem, octets: &[u8]) -> Result<(), OutOfMemory>
-    requires stands { IsListening listener.old }
-    requires few { listener.old.counts.packets < 2 ^ 40 }
+/// A terminal that hears what is asked for, to which nothing came yet.
+fn terminal_for(alloc: Global, conf: ReadRequest) -> Result<Terminal, OutOfMemory>
+    ensures listens { IfOk result (λ terminal. Listens terminal (asked_of conf) (conf.source ∷ []) []) }
+    ensures packets { IfOk result (λ terminal. (counts_of terminal).packets ≡ 0) }
+{
+    let asked = TermConf {
+        ssrc: conf.ssrc,
+        pts: conf.pts,
+        wait: u64::from(USUAL_WAIT),
+    };
+    Terminal::new(alloc, asked, &[conf.source])
+}
+
+/// Tells the terminal of a record, whose octets are these.
+#[tactic(auto, using(crate::proofs::Hearing::hears_no_packet))]
+fn hear_record(terminal: &mut Terminal, item: DumpItem, octets: &[u8]) -> Result<(), OutOfMemory>
+    requires open { IsOpen terminal.old }
+    requires few { (counts_of terminal.old).packets < 2 ^ 40 }
     requires more { is_end item ≡ Bool.false }
-    ensures listens { OnOk result ((r : ReadRequest) (past : List Arrival) → Listens listener.old r past
-        → Listens listener.new r (arrivals_with r.ssrc r.pts (record_of item octets.now) past)) }
-    ensures counts { OnOk result ((r : ReadRequest) (past : List Arrival) → Listens listener.old r past
-        → CountsAs (fate r (record_of item octets.now)) listener.old.counts listener.new.counts) }
-    ensures few { OnOk result (listener.new.counts.packets ≤ listener.old.counts.packets + 1) }
+    ensures hears { OnOk result (Hears terminal.old (record_of item octets.now ∷ []) terminal.new) }
+    ensures open { IsOpen terminal.new }
+    ensures few { (counts_of terminal.new).packets ≤ (counts_of terminal.old).packets + 1 }
 {
     match item {
-        DumpItem::Packet { at } => listener.arrive(at, octets),
+        DumpItem::Packet { at } => terminal.arrive(u64::from(at), octets),
         DumpItem::Cut { .. } | DumpItem::Large { .. } => {
-            listener.refuse();
+            terminal.refuse();
             Ok(())
         }
         DumpItem::Rtcp { .. } | DumpItem::End => Ok(()),
     }
 }
 
-/// Tells the listener of all records that are still to come.
-fn listen<S: Source>(reader: &mut DumpReader<S>, listener: &mut Listener) -> Result<(), ListenFault>
-    requires open { is_ended reader.old ≡ Bool.false }
-    requires stands { IsListening listener.old }
-    requires few { listener.old.counts.packets ≡ 0 }
-    ensures hears { S.tells → OnOk result ((rest : Recording) × (rest.items ≡ []) × (rest.fault ≡ None)
-        × Hearing (to_come S.left reader.old) listener.old rest listener.new) }
-    ensures stands { OnOk result (IsListening listener.new) }
-    ensures few { OnOk result (listener.new.counts.packets < 2 ^ 40) }
+/// Tells the terminal of all records that are still to come.
+fn listen<S: Source>(reader: &mut DumpReader<S>, terminal: &mut Terminal) -> Result<(), ListenFault>
+    requires reads { is_ended reader.old ≡ Bool.false }
+    requires open { IsOpen terminal.old }
+    requires few { (counts_of terminal.old).packets ≡ 0 }
+    ensures hears { OnOk result (HearsAll S.tells (to_come S.left reader.old) terminal.old terminal.new) }
+    ensures open { OnOk result (IsOpen terminal.new) }
+    ensures few { OnOk result ((counts_of terminal.new).packets < 2 ^ 40) }
     ensures fault { S.tells → IfErr result (ListenFaultOf (to_come S.left reader.old)) }
     ensures failed { IfErr result (λ fault. IsSourceFault fault → Rose (S.faults (source_of reader.old)) (S.faults (source_of reader.new))) }
     ensures never_falls { S.faults (source_of reader.old) ≤ S.faults (source_of reader.new) }
@@ -69,10 +82,23 @@ fn listen<S: Source>(reader: &mut DumpReader<S>, listener: &mut Listener) -> Res
         if let DumpItem::End = item {
             return Ok(());
         }
-        let Ok(()) = hear_record(listener, item, packet.as_slice()) else {
+        let Ok(()) = hear_record(terminal, item, packet.as_slice()) else {
             return Err(ListenFault::NoMemory);
         };
     }
+}
+
+/// The view of all that came to a terminal that hears one source.
+fn view_of(alloc: Global, mut terminal: Terminal) -> Result<Bytes, OutOfMemory>
+    requires one { HearsOne terminal }
+    requires few { (counts_of terminal).packets < 2 ^ 40 }
+    ensures { IfOk result (λ view. (c : TermConf) (source : ℕ) (came : List Item) → Listens terminal c (source ∷ []) came
+        → view ≡ text_seen (reception c) source came) }
+{
+    terminal.finish()?;
+    let mut view = Bytes::new(alloc);
+    terminal.append_view(alloc, &mut view)?;
+    Ok(view)
 }
 
 /// The view of a recording that is heard to its end.
@@ -90,16 +116,13 @@ pub fn heard_view<S: Source>(
     ensures never_falls { S.faults (source_of reader.old) ≤ S.faults (source_of reader.new) }
     ensures same_name { S.name (source_of reader.new) ≡ S.name (source_of reader.old) }
 {
-    let Ok(mut listener) = Listener::new(alloc, conf) else {
+    let Ok(mut terminal) = terminal_for(alloc, conf) else {
         return Err(ListenFault::NoMemory);
     };
-    if let Err(fault) = listen(reader, &mut listener) {
+    if let Err(fault) = listen(reader, &mut terminal) {
         return Err(fault);
     }
-    let Ok(()) = listener.finish() else {
-        return Err(ListenFault::NoMemory);
-    };
-    match listener.view(alloc) {
+    match view_of(alloc, terminal) {
         Ok(view) => Ok(view),
         Err(_) => Err(ListenFault::NoMemory),
     }

@@ -1,0 +1,76 @@
+-- A terminal that is told of the records of a recording, one after another.
+use Rattle.std.proofs.Common.{◌≡◌, ℕ, ◌+◌, ◌≤◌, false, List, [], ◌∷◌, ◌++◌, refl, ap, sym, ◌∙◌, subst, length, ◌⊎◌, inl, inr, append-nil, append_assoc}
+use Rattle.wire_spec.specs.Dump.{Item, Recording, with_item, dump, usual_limit}
+use Rattle.wire_spec.specs.Dump as dumps
+use Rattle.rtpdump_io.specs.Reading.{is_ended, most_answers, source_of, to_come}
+use Rattle.rtpdump_io.specs.declared.items.DumpItem.{DumpItem}
+use Rattle.rtpdump_io.specs.declared.items.DumpItem.TheVariants.{Rtcp, End}
+use Rattle.rtpdump_io.specs.declared.readers.DumpReader.{DumpReader}
+use Rattle.rtpdump_io.specs.Answers.{record_of}
+use Rattle.command_spec.specs.declared.requests.ReadRequest.{ReadRequest}
+use Rattle.command_spec.specs.Seen.{text_seen}
+use Rattle.command_spec.specs.Reading.{read_view}
+use Rattle.terminal.specs.declared.confs.TermConf.{TermConf}
+use Rattle.terminal.specs.declared.terminals.Terminal.{Terminal}
+use Rattle.terminal.specs.Terminals.{reception, texts_of, counts_of, IsOpen, Listens, Heard}
+use Rattle.terminal.proofs.Listening.{rtcp_passed}
+use Rattle.rtt_read.specs.Recordings.{asked_of, Hears, HearsOne}
+
+-- nothing came
+hears_none : (t : Terminal) → Hears t [] t
+hears_none t c sources came l = subst (Listens t c sources) (sym (append-nil came)) l
+
+-- one record more
+hears_more : (before now after : Terminal) (items : List Item) (item : Item) → Hears before items now → Hears now (item ∷ []) after → Hears before (items ++ item ∷ []) after
+hears_more before now after items item h one c sources came l =
+    subst (Listens after c sources) (append_assoc came items (item ∷ [])) (one c sources (came ++ items) (h c sources came l))
+
+-- some records came, and of the recording the rest is still to come, where this tells it
+pub record HeardSome (tells : Type 0) (before : Recording) (l : Terminal) (now : Recording) (m : Terminal) : Type 0 where
+  pub items : List Item
+  pub hears : Hears l items m
+  pub is : tells → before ≡ record { items = items ++ now.items; fault = now.fault }
+
+pub some_none : (tells : Type 0) (before : Recording) (l : Terminal) → HeardSome tells before l before l
+some_none tells before l = record { items = []; hears = hears_none l; is = λ t. refl }
+
+pub some_more : (tells : Type 0) (before now next : Recording) (l m n : Terminal) (item : Item) → HeardSome tells before l now m → (tells → now ≡ with_item item next) → Hears m (item ∷ []) n → HeardSome tells before l next n
+some_more tells before now next l m n item h e one = record {
+  items = h.items ++ item ∷ [];
+  hears = hears_more l m n h.items item h.hears one;
+  is = λ t. h.is t ∙ (ap (λ (r : Recording). record { items = h.items ++ r.items; fault = r.fault }) (e t) ∙ ap (λ (items : List Item). record { items = items; fault = next.fault }) (sym (append_assoc h.items (item ∷ []) next.items)));
+}
+
+-- what holds of the reader and the terminal between two records
+pub record Going {S : Type 0} (tells : Type 0) (left : S → List ℕ) (faults : S → ℕ) (name : S → List ℕ) (before : DumpReader S) (l : Terminal) (now : DumpReader S) (m : Terminal) : Type 0 where
+  pub not_ended : is_ended now ≡ false
+  pub open_still : IsOpen m
+  pub few : (counts_of m).packets + most_answers now ≤ most_answers before
+  pub never_falls : faults (source_of before) ≤ faults (source_of now)
+  pub same_name : name (source_of now) ≡ name (source_of before)
+  pub heard : HeardSome tells (to_come left before) l (to_come left now) m
+
+-- what is no packet changes nothing
+no_packet : (item : DumpItem) (octets : List ℕ) → ((at : ℕ) × (item ≡ Rtcp at)) ⊎ (item ≡ End) → (record_of item octets).what ≡ dumps.Rtcp
+no_packet item octets (inl (at, e)) = ap (λ (i : DumpItem). (record_of i octets).what) e
+no_packet item octets (inr e) = ap (λ (i : DumpItem). (record_of i octets).what) e
+
+pub hears_no_packet : (t : Terminal) (item : DumpItem) (octets : List ℕ) → ((at : ℕ) × (item ≡ Rtcp at)) ⊎ (item ≡ End) → Hears t (record_of item octets ∷ []) t
+hears_no_packet t item octets e c sources came l = rtcp_passed t c sources came (record_of item octets) (no_packet item octets e) l
+
+-- what is seen of the records of a recording is its view
+pub view_is : (r : ReadRequest) (octets : List ℕ) (items : List Item) → (dump usual_limit octets).items ≡ items → text_seen (reception (asked_of r)) r.source items ≡ read_view r octets
+unfolding read_view
+view_is r octets items e = ap (λ (xs : List Item). text_seen (reception (asked_of r)) r.source xs) (sym e)
+
+-- what came to a terminal was heard to its end
+abbrev IsEndOf : Terminal → Terminal → Type 0
+IsEndOf before after = (c : TermConf) (sources : List ℕ) (came : List Item) → Listens before c sources came → Heard after c sources came
+
+pub one_text : (before after : Terminal) → HearsOne before → IsEndOf before after → length (texts_of after) ≡ 1
+one_text before after h f = (f h.0 (h.1 ∷ []) h.2 h.3).each
+
+pub seen_alone : (before after : Terminal) (old view : List ℕ) → old ≡ [] → IsEndOf before after
+    → ((c : TermConf) (source : ℕ) (came : List Item) → Heard after c (source ∷ []) came → view ≡ old ++ text_seen (reception c) source came)
+    → (c : TermConf) (source : ℕ) (came : List Item) → Listens before c (source ∷ []) came → view ≡ text_seen (reception c) source came
+seen_alone before after old view none f seen c source came l = seen c source came (f c (source ∷ []) came l) ∙ ap (λ v. v ++ text_seen (reception c) source came) none
