@@ -1,6 +1,6 @@
 -- An ear that gathers what is heard of each source.
-use Rattle.std.proofs.Common.{◌≡◌, ℕ, ◌+◌, ◌<◌, ◌≤◌, ◌^◌, Bool, true, false, Some, List, [], ◌∷◌, ◌++◌, refl, ap, sym, ◌∙◌, arith, length, length-append, get_or, map, subst}
-use Rattle.std.specs.Prelude.{All, ◌&&◌, slice_index, slice_index_or}
+use Rattle.std.proofs.Common.{◌≡◌, ℕ, ◌+◌, ◌<◌, ◌≤◌, ◌^◌, Bool, true, false, Some, List, [], ◌∷◌, ◌++◌, refl, ap, sym, ◌∙◌, arith, length, length-append, subst}
+use Rattle.std.specs.Prelude.{All, ◌&&◌, slice_index}
 use Rattle.std.proofs.lemmas.List.{map-append, length-map}
 use Rattle.stream_spec.specs.Numbering.{Numbered}
 use Rattle.stream_spec.specs.Hearing.{adds_marker, is_packet_of}
@@ -8,14 +8,13 @@ use Rattle.gap_tracker.specs.Stories.{Story, Given, gave, given_of, ready_dues}
 use Rattle.gap_tracker.specs.Tracks.{Tracks}
 use Rattle.gap_tracker.specs.States.{State}
 use Rattle.gap_tracker.specs.declared.answers.Due.{Due}
-use Rattle.source_receiver.specs.declared.receivers.Receiver.{Receiver}
 use Rattle.source_receiver.specs.declared.receivers.Listed.{Listed}
 use Rattle.source_receiver.specs.declared.source_texts.SourceText.{SourceText}
 use Rattle.source_receiver.specs.Stands.{Stands, latest_number, used_packet}
-use Rattle.source_receiver.specs.Each.{AreHeard, marks_by, marks_from, one_if, sources_count}
+use Rattle.source_receiver.specs.Each.{AreHeard, marks_from, one_if, sources_count}
 use Rattle.ear.specs.declared.confs.EarConf.{EarConf}
 use Rattle.ear.specs.declared.ears.Ear.{Ear}
-use Rattle.ear.specs.Hears.{Hears, arrival_count, is_finished, ready_packet, ready_packets}
+use Rattle.ear.specs.Hears.{arrival_count, is_finished, ready_packet, ready_packets}
 use Rattle.ear.specs.Each.{GatheredEach, HearsEach}
 use Rattle.ear.proofs.Given.{given_fits}
 use Rattle.ear.proofs.Giving.{heard_one}

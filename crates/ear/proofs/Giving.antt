@@ -1,14 +1,12 @@
 -- An ear that is told, and one that gives.
-use Rattle.std.proofs.Common.{◌≡◌, ℕ, ◌+◌, ◌<◌, Bool, true, false, IsUtf8, Some, None, List, [], ◌∷◌, ◌++◌, refl, ap, sym, ◌∙◌, arith, length, map, length-append, append-nil, append_assoc, subst, Result, Ok, Err, Box, Global, inl, inr}
+use Rattle.std.proofs.Common.{◌≡◌, ℕ, ◌<◌, Bool, true, false, IsUtf8, Some, None, List, [], ◌∷◌, ◌++◌, refl, ap, sym, ◌∙◌, arith, map, append-nil, append_assoc, subst, Result, Ok, Err, Box, Global, inl, inr}
 use Rattle.std.specs.Prelude.{not}
-use Rattle.std.specs.List.{concat}
 use Rattle.std.proofs.lemmas.Bool.{and_parts, cases_lt, true≢false}
 use Rattle.std.proofs.lemmas.Grind.{not_there}
 use Rattle.std.proofs.lemmas.Str.{IsUtf8-had}
 use Rattle.std.proofs.Math.Logic.{∥∥₁_map}
 use Rattle.std.specs.Option.{ForSome}
 use Rattle.std.proofs.lemmas.List.{map-append, append_cancel_left}
-use Rattle.std.proofs.lemmas.List.Folds.{concat-append}
 use Rattle.rtt_base.specs.declared.text_packets.TextPacket.{TextPacket}
 use Rattle.wire_spec.specs.declared.faults.TextFault.{TextFault}
 use Rattle.wire_spec.specs.Packets.{Packet, has_text}
@@ -25,15 +23,15 @@ use Rattle.gap_tracker.specs.Tracks.{Tracks}
 use Rattle.gap_tracker.specs.States.{State, has_ready}
 use Rattle.gap_tracker.specs.declared.answers.Due.{Due}
 use Rattle.gap_tracker.proofs.Giving.{order_is}
-use Rattle.source_receiver.specs.Stands.{Stands, AppendsHeard, latest_number, used_packet}
+use Rattle.source_receiver.specs.Stands.{Stands, latest_number, used_packet}
 use Rattle.source_receiver.specs.Pieces.{left_of, is_heard}
 use Rattle.source_receiver.proofs.Blockwise.{heard_left}
 use Rattle.ear.specs.declared.confs.EarConf.{EarConf}
 use Rattle.ear.specs.declared.ears.Ear.{Ear}
-use Rattle.ear.specs.Hears.{told, arrival_count, is_finished, is_quiet, texts_left, ready_packet, ready_packets, last_after, Hears, Gave, IsGiving, GaveSome, Becomes, Gathered, ready_chunks, story_chunks}
+use Rattle.ear.specs.Hears.{told, arrival_count, is_finished, is_quiet, texts_left, ready_packet, ready_packets, last_after, Hears, Gave, IsGiving, GaveSome, Becomes, ready_chunks, story_chunks}
 use Rattle.stream_spec.proofs.HeardTexts.{added_utf8}
 use Rattle.ear.proofs.Accepted.{accepted_text}
-use Rattle.ear.proofs.Given.{fronts, above_given, given_fits, given_text, last_snoc, next_rises}
+use Rattle.ear.proofs.Given.{fronts, above_given, given_text, last_snoc, next_rises}
 use Rattle.ear.proofs.ReadyBy.{chunks_due, chunks_ready, chunks_front}
 
 -- ---- what comes
@@ -244,66 +242,3 @@ rises_next old e s due p going is t latest l = elim (cases_lt latest due.number)
         let now = going.gave i.0 i.1 i.2 i.3 i.4 in
         let before : Story = record i.2 { given = now.0 } in
         next_rises s before (given_of due p) (t before now.1.hears.tracks) latest (sym now.1.hears.latest ∙ l)
-
--- ---- all at once
-pub record Gathering (old e : Ear) (before used : ℕ) (out more : List ℕ) : Type 0 where
-  pub hears : (conf : EarConf) (source : ℕ) (story : Story) → Hears old conf (source ∷ []) story
-      → (given : List Given) × Hears e conf (source ∷ []) (record story { given = given }) × (used + length story.given ≡ before + length given) × AppendsHeard out more (heard_by (ready_packets story.given) source) (heard_by (ready_packets given) source)
-  pub conf : e.conf ≡ old.conf
-  pub piece : e.piece ≡ old.piece
-  pub arrivals : arrival_count e ≡ arrival_count old
-  pub finished : is_finished e ≡ is_finished old
-
-pub gathers_none : (e : Ear) (used : ℕ) (out : List ℕ) → Gathering e e used used out out
-gathers_none e used out = record {
-  hears = λ conf source story h. (story.given, h, refl, record { more = []; appended = sym (append-nil out); heard = sym (append-nil _) });
-  conf = refl;
-  piece = refl;
-  arrivals = refl;
-  finished = refl;
-}
-
-pub gathers_one : (old e m : Ear) (due : Due) (first n : ℕ) (out some more : List ℕ) → Gathering old e first n out some → m.conf ≡ e.conf
-    → ((story : Story) → Tracks e.tracker story → Tracks m.tracker (gave story (given_of due m.packet.value)))
-    → ((sources : List ℕ) (us : List Numbered) (time : ℕ) → Stands e.receiver sources us → Stands m.receiver sources (us ++ used_packet time due.number m.packet.value ∷ []))
-    → latest_number m.receiver ≡ Some due.number
-    → ((source : ℕ) (us : List Numbered) (time : ℕ) → Stands e.receiver (source ∷ []) us → AppendsHeard some more (heard_by us source) (heard_by (us ++ used_packet time due.number m.packet.value ∷ []) source))
-    → (conf : EarConf) (source : ℕ) (story : Story) → Hears old conf (source ∷ []) story
-    → (given : List Given) × Hears m conf (source ∷ []) (record story { given = given }) × (n + 1 + length story.given ≡ first + length given) × AppendsHeard out more (heard_by (ready_packets story.given) source) (heard_by (ready_packets given) source)
-gathers_one old e m due first n out some more g k t s latest heard conf source story h =
-    let now = g.hears conf source story h in
-    let before : Story = record story { given = now.0 } in
-    let one : Given = given_of due m.packet.value in
-    let us : List Numbered = ready_packets now.0 in
-    let a = heard source us due.ready now.1.stands in
-    let b = now.3 in (
-      now.0 ++ one ∷ [],
-      heard_one e m conf (source ∷ []) before due m.packet.value k now.1 (t before now.1.tracks) (s (source ∷ []) us due.ready now.1.stands) latest,
-      omega (arith, length-append now.0 (one ∷ []), now.2),
-      record {
-        more = b.more ++ a.more;
-        appended = a.appended ∙ (ap (λ (o : List ℕ). o ++ concat a.more) b.appended ∙ (append_assoc out (concat b.more) (concat a.more) ∙ ap (λ (o : List ℕ). out ++ o) (sym (concat-append b.more a.more))));
-        heard = ap (λ vs. heard_by vs source) (map-append ready_packet now.0 (one ∷ [])) ∙ (a.heard ∙ (ap (λ ts. ts ++ a.more) b.heard ∙ append_assoc (heard_by (ready_packets story.given) source) b.more a.more));
-      },
-    )
-
--- nothing more is ready, and another packet may stand in the place of the one given last
-module _ (old e : Ear) (before used : ℕ) (out more : List ℕ) (g : Gathering old e before used out more) (all : (story : Story) → Tracks e.tracker story → story.given ≡ ready_dues story) where
-  pub gathered : (m : Ear) → m.conf ≡ e.conf → m.tracker ≡ e.tracker → m.receiver ≡ e.receiver → (conf : EarConf) (source : ℕ) (story : Story) → Hears old conf (source ∷ []) story → Gathered m conf source story out more
-  gathered m k t r conf source story h =
-      let now = g.hears conf source story h in
-      let whole : now.0 ≡ ready_dues story = all (record story { given = now.0 }) now.1.tracks in
-      let few = given_fits e.tracker (record story { given = now.0 }) now.1.tracks in
-      let same : length now.0 ≡ length (ready_dues story) = ap (λ (gs : List Given). length gs) whole in
-      let moved : Hears m conf (source ∷ []) (record story { given = now.0 }) =
-      record { asked = k ∙ now.1.asked; wait = now.1.wait; tracks = rw t now.1.tracks; stands = rw r now.1.stands; latest = rw r now.1.latest; texts = now.1.texts } in
-      record {
-        hears = subst (λ (gs : List Given). Hears m conf (source ∷ []) (record story { given = gs })) whole moved;
-        appends = subst (λ (gs : List Given). AppendsHeard out more (heard_by (ready_packets story.given) source) (heard_by (ready_packets gs) source)) whole now.3;
-        few = omega (arith, same, few, ap (λ (s : State). s.arrivals) t);
-      }
-
-  pub counts_used : (conf : EarConf) (source : ℕ) (story : Story) → Hears old conf (source ∷ []) story → used + length story.given ≡ before + length (ready_dues story)
-  counts_used conf source story h =
-      let now = g.hears conf source story h in
-      now.2 ∙ ap (λ (gs : List Given). before + length gs) (all (record story { given = now.0 }) now.1.tracks)

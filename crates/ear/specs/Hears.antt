@@ -1,11 +1,11 @@
 -- What an ear stands for: what it was told, and what it gave (profile).
-use Rattle.std.specs.Prelude.{◌≡◌, ℕ, ◌+◌, ◌≤◌, Bool, true, not, ◌&&◌, Option, None, Some, Result, Ok, Err, List, [], ◌∷◌, ◌++◌, length, filter, map}
+use Rattle.std.specs.Prelude.{◌≡◌, ℕ, Bool, true, not, ◌&&◌, Option, None, Some, Result, Ok, Err, List, [], ◌∷◌, ◌++◌, filter, map}
 use Rattle.wire_spec.specs.declared.faults.TextFault.{TextFault}
 use Rattle.wire_spec.specs.Packets.{Packet, Arrival, AreTextArrivals}
 use Rattle.wire_spec.specs.Text.{text_of}
 use Rattle.wire_spec.specs.Dump.{latest}
 use Rattle.stream_spec.specs.Numbering.{Numbered}
-use Rattle.stream_spec.specs.Hearing.{heard_by, AreHeardTexts}
+use Rattle.stream_spec.specs.Hearing.{AreHeardTexts}
 use Rattle.stream_spec.specs.Ready.{Chunk, chunk, chunks}
 use Rattle.stream_spec.specs.Fronts.{is_ready_by}
 use Rattle.stream_spec.specs.ChunksBy.{chunks_by}
@@ -13,7 +13,7 @@ use Rattle.gap_tracker.specs.Stories.{Story, Given, came, ended, dues, ready_due
 use Rattle.gap_tracker.specs.Tracks.{Tracks}
 use Rattle.gap_tracker.specs.States.{has_ready}
 use Rattle.gap_tracker.specs.States as tracker
-use Rattle.source_receiver.specs.Stands.{Stands, AppendsHeard, latest_number}
+use Rattle.source_receiver.specs.Stands.{Stands, latest_number}
 use Rattle.source_receiver.specs.Pieces.{left_of, is_heard}
 use Rattle.ear.specs.declared.confs.EarConf.{EarConf}
 use Rattle.ear.specs.declared.ears.Ear.{Ear}
@@ -84,10 +84,6 @@ pub record Hears (e : Ear) (conf : EarConf) (sources : List ℕ) (story : Story)
   pub latest : latest_number e.receiver ≡ last_after None (ready_packets story.given)
   pub texts : AreTextArrivals story.past
 
--- the ear listens to one source
-abbrev pub IsHearing : Ear → Type 0
-IsHearing e = (conf : EarConf) × (source : ℕ) × (story : Story) × Hears e conf (source ∷ []) story
-
 -- The ear listens to one source and gave these chunks, oldest first. With what is left of the packet given last they
 -- are the chunks of all packets given.
 pub record Gave (e : Ear) (conf : EarConf) (source : ℕ) (story : Story) (gave : List Chunk) : Type 0 where
@@ -143,16 +139,3 @@ pub record IsReadyAtEnd (conf : EarConf) (story : Story) : Type 0 where
 
 abbrev pub AllReady : Ear → Type 0
 AllReady e = (conf : EarConf) (sources : List ℕ) (story : Story) → Hears e conf sources story → IsReadyAtEnd conf story
-
--- All that is ready was given, and the octets of what is heard of it now were appended.
-pub record Gathered (e : Ear) (conf : EarConf) (source : ℕ) (story : Story) (old new : List ℕ) : Type 0 where
-  pub hears : Hears e conf (source ∷ []) (all_given story)
-  pub appends : AppendsHeard old new (heard_by (ready_packets story.given) source) (heard_by (ready_packets (ready_dues story)) source)
-  pub few : length (ready_dues story) ≤ arrival_count e
-
-abbrev pub Gathers : Ear → Ear → List ℕ → List ℕ → Type 0
-Gathers old new out more = (conf : EarConf) (source : ℕ) (story : Story) → Hears old conf (source ∷ []) story → Gathered new conf source story out more
-
--- the packets that are ready and were not given are counted
-abbrev pub CountsUsed : Ear → ℕ → ℕ → Type 0
-CountsUsed e old new = (conf : EarConf) (source : ℕ) (story : Story) → Hears e conf (source ∷ []) story → new + length story.given ≡ old + length (ready_dues story)

@@ -4,14 +4,14 @@ ghost use Rattle.wire_spec.specs.Packets.{Packet, has_text};
 ghost use Rattle.stream_spec.specs.Ready.{chunk_of};
 ghost use Rattle.gap_tracker.specs.Stories.{Story, begun, went, ended};
 ghost use Rattle.ear.specs.declared.confs.EarConf.{EarConf};
-ghost use Rattle.ear.specs.Hears.{conf_of, arrival_count, is_finished, is_clear, is_quiet, text_for, told, Hears, IsHearing, Gave, IsGiving, Becomes, GivesChunk, GivesNone, GaveReady, GaveFront, AllReady, Gathers, CountsUsed};
+ghost use Rattle.ear.specs.Hears.{conf_of, arrival_count, is_finished, is_clear, is_quiet, text_for, told, Hears, Gave, IsGiving, Becomes, GivesChunk, GivesNone, GaveReady, GaveFront, AllReady};
 ghost use Rattle.ear.specs.Each.{GathersEach, IsHearingEach};
 ghost use Rattle.rtt_base.specs.declared.limits.TheConstants.{LONGEST_WAIT};
 
 use crate::EarConf;
 use gap_tracker::Tracker;
 use red_blocks::read_text;
-use rtt_base::{Bytes, Chunk, NoMemory, TextPacket};
+use rtt_base::{Chunk, NoMemory, TextPacket};
 use source_receiver::{Piece, Receiver, SourceText};
 use std::alloc::Global;
 use wire_spec::TextFault;
@@ -35,7 +35,7 @@ pub struct Ear {
 
 impl Ear {
     /// An ear to which nothing came yet, for the text of these sources: 1 to 64, all different. It takes all memory
-    /// that it needs; only `gather` and `gather_each` take more, for what it appends.
+    /// that it needs; only `gather_each` takes more, for what it appends.
     pub fn new(alloc: Global, conf: EarConf, sources: &[u32]) -> Result<Ear, NoMemory>
         requires wait { conf.wait ≤ LONGEST_WAIT }
         requires some { 0 < length sources.now }
@@ -140,29 +140,8 @@ impl Ear {
         }
     }
 
-    /// Appends all that is heard of the source by now, and adds to `used` how many packets were used for it. It is for
-    /// an ear of one source. After `NoMemory` a part may stand in `out`.
-    pub fn gather(&mut self, out: &mut Bytes, used: &mut u64) -> Result<(), NoMemory>
-        requires hears { IsHearing self.old }
-        requires clear { is_clear self.old ≡ Bool.true }
-        requires few { arrival_count self.old ≤ 2 ^ 40 }
-        requires fits { used.old ≤ 2 ^ 40 }
-        ensures gathers { OnOk result (Gathers self.old self.new out.old out.new) }
-        ensures used { OnOk result (CountsUsed self.old used.old used.new) }
-        ensures quiet { OnOk result (is_quiet self.new ≡ Bool.true) }
-        ensures conf { OnOk result (conf_of self.new ≡ conf_of self.old) }
-        ensures arrivals { OnOk result (arrival_count self.new ≡ arrival_count self.old) }
-        ensures finished { OnOk result (is_finished self.new ≡ is_finished self.old) }
-    {
-        while let Some(due) = self.tracker.next(&mut self.packet) {
-            self.receiver.take_into(due.number, &self.packet, out)?;
-            *used += 1;
-        }
-        Ok(())
-    }
-
     /// Adds all that is heard of each source by now to what was heard of it, and tells how many packets were used. There
-    /// is one text for each source.
+    /// is one text for each source. After `NoMemory` a part may stand there.
     pub fn gather_each(&mut self, heard: &mut [SourceText]) -> Result<u64, NoMemory>
         requires hears { IsHearingEach self.old heard.old }
         requires clear { is_clear self.old ≡ Bool.true }

@@ -1,12 +1,12 @@
 -- What the loops and the look-up of a receiver give.
-use Rattle.std.proofs.Common.{◌≡◌, ℕ, zero, suc, ◌+◌, ◌-◌, ◌%◌, ◌^◌, ◌<◌, ◌≤◌, Bool, true, false, cond, Option, None, Result, Ok, Err, List, [], ◌∷◌, ◌++◌, length, get_or, take, refl, ap, sym, ◌∙◌, arith, append_assoc, add-one, length-append, inl, inr, subst}
-use Rattle.std.specs.Prelude.{if◌then◌else◌, map, ◌≢◌, AllPairs}
+use Rattle.std.proofs.Common.{◌≡◌, ℕ, zero, suc, ◌+◌, ◌<◌, ◌≤◌, Option, None, Result, Ok, Err, List, [], ◌∷◌, ◌++◌, length, get_or, take, refl, ap, sym, ◌∙◌, arith, append_assoc, add-one, inl, inr, subst}
+use Rattle.std.specs.Prelude.{map, ◌≢◌, AllPairs}
 use Rattle.std.specs.Prelude.{OnOk}
 use Rattle.std.specs.List.{concat}
 use Rattle.std.proofs.lemmas.List.Folds.{concat-append}
 use Rattle.std.proofs.Math.Seq.{take-suc}
 use Rattle.rtt_base.specs.declared.blocks.TextBlock.{TextBlock}
-use Rattle.wire_spec.specs.Packets.{back, redundant, primary_text}
+use Rattle.wire_spec.specs.Packets.{redundant, primary_text}
 use Rattle.rtt_base.specs.declared.text_packets.TextPacket.{TextPacket}
 use Rattle.stream_spec.specs.Hearing.{text_list}
 use Rattle.stream_spec.specs.Lists.{In}
@@ -15,7 +15,7 @@ use Rattle.source_receiver.specs.declared.receivers.Seen.{Seen}
 use Rattle.source_receiver.specs.declared.receivers.Listed.{Listed}
 use Rattle.source_receiver.specs.declared.receivers.Receiver.{Receiver}
 use Rattle.source_receiver.specs.Stands.{Stands, IsSeen}
-use Rattle.source_receiver.specs.Steps.{is_new_since, new_since, older_since, texts_since}
+use Rattle.source_receiver.specs.Steps.{new_since, older_since, texts_since}
 
 older_append : (seen : Option Seen) (stamp : ℕ) (xs ys : List TextBlock) → older_since seen stamp (xs ++ ys) ≡ older_since seen stamp xs ++ older_since seen stamp ys
 older_append seen stamp [] ys = refl
@@ -30,30 +30,6 @@ pub older_more : (seen : Option Seen) (stamp : ℕ) (xs : List TextBlock) (i : �
     → older_since seen stamp (take (i + 1) xs) ≡ older_since seen stamp (take i xs) ++ new_since seen stamp (get_or xs i d)
 older_more seen stamp xs i d l =
     rw (add-one) (ap (older_since seen stamp) (take-suc xs i d l) ∙ (older_append seen stamp (take i xs) (get_or xs i d ∷ []) ∙ ap (λ ts. older_since seen stamp (take i xs) ++ ts) (nil (new_since seen stamp (get_or xs i d)))))
-
-text_list_length : (t : List ℕ) → length (text_list t) ≤ 1
-text_list_length [] = omega arith
-text_list_length (x ∷ xs) = omega arith
-
-module _ (seen : Option Seen) (stamp : ℕ) (xs : List TextBlock) (i : ℕ) (b : TextBlock) (initial texts more : List (List ℕ)) (is : b ≡ get_or xs i b) (within : i < length xs)
-    (before : (texts ≡ initial ++ older_since seen stamp (take i xs)) × (length texts ≤ length initial + i)) where
-  grows : {c : Bool} → is_new_since seen (back stamp b.offset) ≡ c → more ≡ texts ++ (if c then text_list b.text else []) → more ≡ initial ++ older_since seen stamp (take (i + 1) xs)
-  grows {c} e m =
-      m ∙ (ap (λ n. texts ++ cond n (text_list b.text) []) (sym e) ∙ (ap (λ ts. ts ++ new_since seen stamp b) before.0
-      ∙ (append_assoc initial (older_since seen stamp (take i xs)) (new_since seen stamp b)
-      ∙ ap (λ ts. initial ++ ts) (ap (λ x. older_since seen stamp (take i xs) ++ new_since seen stamp x) is ∙ sym (older_more seen stamp xs i b within)))))
-
-  -- the block is new
-  pub one_new : is_new_since seen (back stamp b.offset) ≡ true → more ≡ texts ++ text_list b.text → (more ≡ initial ++ older_since seen stamp (take (i + 1) xs)) × (length more ≤ length initial + (i + 1))
-  one_new e m = (grows e m, omega (arith, before.1, ap length m, length-append texts (text_list b.text), text_list_length b.text))
-
-  -- the block is not new
-  pub one_old : is_new_since seen (back stamp b.offset) ≡ false → (texts ≡ initial ++ older_since seen stamp (take (i + 1) xs)) × (length texts ≤ length initial + (i + 1))
-  one_old e = (grows', omega (arith, before.1))
-    where
-      grows' : texts ≡ initial ++ older_since seen stamp (take (i + 1) xs)
-      grows' = before.0 ∙ ap (λ ts. initial ++ ts) (sym (nil (older_since seen stamp (take i xs))) ∙ (ap (λ n. older_since seen stamp (take i xs) ++ cond n (text_list b.text) []) (sym e)
-          ∙ (ap (λ x. older_since seen stamp (take i xs) ++ new_since seen stamp x) is ∙ sym (older_more seen stamp xs i b within))))
 
 -- a seat more
 pub seat_more : (items more : List Listed) (sources : List ℕ) (i : ℕ) (x : Listed) → more ≡ items ++ x ∷ [] → x.source ≡ get_or sources i 0 → x.seen ≡ None → i < length sources
@@ -86,12 +62,6 @@ stands_for_none r sources s n few differ l m = record {
   count = (l, m);
   seen = λ x i. subst (IsSeen [] x.source) (sym (n x i)) (λ u j e. j);
 }
-
--- the test as the code makes it
-pub new_at : (seen : Option Seen) (stamp n offset : ℕ) (b c : Bool) → n ≡ offset → n < 4294967296 → b ≡ is_new_since seen ((stamp + (4294967296 - n)) % 4294967296) → b ≡ c → is_new_since seen (back stamp offset) ≡ c
-new_at seen stamp n offset b c e l i t =
-    let same : (stamp + 2 ^ 32 - offset) % 2 ^ 32 ≡ (stamp + (4294967296 - n)) % 4294967296 = omega arith in
-    ap (is_new_since seen) same ∙ (sym i ∙ t)
 
 take_all : {X : Type 0} (n : ℕ) (xs : List X) → length xs ≤ n → take n xs ≡ xs
 take_all zero [] l = refl

@@ -2,8 +2,6 @@
 use Rattle.std.proofs.Common.{◌≡◌, ◌≢◌, ℕ, zero, suc, ◌+◌, ◌-◌, ◌<◌, ◌≤◌, Bool, true, false, cond, not, ◌⊎◌, inl, inr, Option, Some, None, List, [], ◌∷◌, ◌++◌, length, length-append, get_or, set, refl, ap, subst, sym, ◌∙◌, arith, append-nil, append_assoc, get_or-set_other, get_or-set_same}
 use Rattle.std.specs.Prelude.{if◌then◌else◌, map, ◌==◌, nat_lt, AllPairs, position}
 use Rattle.std.specs.List.{position_or_len, prefix_len}
-use Rattle.std.specs.Prelude.{OnSome, Result, Ok, Err}
-use Rattle.std.specs.Result.{OkIff, result_ok}
 use Rattle.std.specs.Option.{ForSome}
 use Rattle.std.proofs.lemmas.Bool.{cases_lt, cases_eq, true≢false, eq-eqb, eqb-true, ne_eqb, lt-ltb, ltb-true, ltb-false}
 use Rattle.std.proofs.lemmas.List.Sums.{position_or_len_is, fails_before_first, passes_at_first}
@@ -20,7 +18,7 @@ use Rattle.stream_spec.proofs.Taking.{heard_by_more, missing_after, last_is, non
 use Rattle.source_receiver.specs.declared.receivers.Seen.{Seen}
 use Rattle.source_receiver.specs.declared.receivers.Listed.{Listed}
 use Rattle.source_receiver.specs.declared.receivers.Receiver.{Receiver}
-use Rattle.source_receiver.specs.Stands.{Stands, IsCount, IsSeen, first_from, used_packet, when_at}
+use Rattle.source_receiver.specs.Stands.{Stands, IsCount, IsSeen, first_from, used_packet}
 use Rattle.std.specs.Prelude.{◌&&◌}
 use Rattle.std.specs.List.{concat}
 use Rattle.std.proofs.lemmas.List.Elements.{at_read}
@@ -206,14 +204,11 @@ sources_set [] k x l e s = refl
 sources_set (y ∷ items) zero x l e s = ap (λ n. n ∷ map (λ (z : Listed). z.source) items) (s ∙ ap (λ (z : Listed). z.source) e)
 sources_set (y ∷ items) (suc k) x l e s = ap (λ ns. y.source ∷ ns) (sources_set items k x l e s)
 
--- ---- the place as an octet
-pub octet : {E : Type 0} (r : Result ℕ E) (place : ℕ) → OkIff r (place < 256) place → place < 64 → result_ok r ≡ Some place
-octet (Ok x) place o l = ap Some o.1
-octet (Err e) place o l = absurd (o (omega arith))
-
-pub on_some : (o : Option ℕ) (P : Type 0) → P → OnSome o P
-on_some None P h = tt
-on_some (Some x) P h = h
+-- ---- texts of one place
+-- these texts, where they are those of the source at the place k
+abbrev pub when_at : ℕ → Option ℕ → List (List ℕ) → List (List ℕ)
+when_at k None texts = []
+when_at k (Some place) texts = if place == k then texts else []
 
 -- ---- markers
 abbrev pub mark_at : ℕ → Option ℕ → Bool → ℕ

@@ -1,15 +1,13 @@
 -- What a receiver stands for: the sources that it lists, and the used packets that it took, in rising number (profile).
-use Rattle.std.specs.Prelude.{◌≡◌, ◌≢◌, ℕ, suc, ◌+◌, ◌≤◌, ◌==◌, Option, None, Some, List, [], ◌∷◌, ◌++◌, length, map, AllPairs, if◌then◌else◌}
-use Rattle.std.specs.List.{concat}
+use Rattle.std.specs.Prelude.{◌≡◌, ◌≢◌, ℕ, suc, ◌+◌, ◌≤◌, Option, None, Some, List, [], ◌∷◌, length, map, AllPairs}
 use Rattle.rtt_base.specs.declared.text_packets.TextPacket.{TextPacket}
 use Rattle.wire_spec.specs.Packets.{packet_of}
 use Rattle.stream_spec.specs.Lists.{In}
 use Rattle.stream_spec.specs.Numbering.{Numbered, RisingNumbers}
-use Rattle.stream_spec.specs.Hearing.{IsLastOf, marker}
+use Rattle.stream_spec.specs.Hearing.{IsLastOf}
 use Rattle.source_receiver.specs.declared.receivers.Receiver.{Receiver}
 use Rattle.source_receiver.specs.declared.receivers.Listed.{Listed}
 use Rattle.source_receiver.specs.declared.receivers.Seen.{Seen}
-use Rattle.source_receiver.specs.declared.hearing.Heard.{Heard}
 
 -- a packet that was used under this number; when it came makes no difference to what is heard
 abbrev pub used_packet : ℕ → ℕ → TextPacket → Numbered
@@ -18,14 +16,6 @@ used_packet time number p = record { time = time; number = number; packet = pack
 -- the number of the last packet taken
 abbrev pub latest_number : Receiver → Option ℕ
 latest_number r = r.latest
-
-abbrev pub when_at : ℕ → Option ℕ → List (List ℕ) → List (List ℕ)
-when_at k None texts = []
-when_at k (Some place) texts = if place == k then texts else []
-
--- what was given of the source at the place k
-abbrev pub given_at : ℕ → Heard → List (List ℕ)
-given_at k heard = when_at k heard.place ((if heard.marker then marker ∷ [] else []) ++ heard.texts)
 
 -- one of these has the number n
 pub record HasNumber (us : List Numbered) (n : ℕ) : Type 0 where
@@ -54,9 +44,3 @@ pub record Stands (r : Receiver) (sources : List ℕ) (us : List Numbered) : Typ
   pub rising : RisingNumbers us
   pub count : IsCount us r.latest r.missing
   pub seen : (l : Listed) → In l r.listed.items → IsSeen us l.source l.seen
-
--- what was appended is what is heard more
-pub record AppendsHeard (old new : List ℕ) (before after : List (List ℕ)) : Type 0 where
-  pub more : List (List ℕ)
-  pub appended : new ≡ old ++ concat more
-  pub heard : after ≡ before ++ more

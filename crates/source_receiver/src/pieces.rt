@@ -7,7 +7,6 @@ ghost use Rattle.source_receiver.specs.Steps.{is_new_since, blocks_since};
 ghost use Rattle.source_receiver.specs.Pieces.{left_of, is_heard};
 
 use crate::receivers::{MARKER, Seen, is_new};
-use crate::text_lists::write_over;
 use rtt_base::{Text, TextBlock, TextPacket};
 
 /// What is still to be heard of a packet that a receiver took. The texts stay in the packet.
@@ -19,6 +18,15 @@ pub struct Piece {
     pub(crate) marker: bool,
     /// How many blocks, the last ones, are still to be looked at.
     pub(crate) rest: usize,
+}
+
+/// Puts a copy of this text, of at most 1023 octets, in place of what was there.
+fn write_over(place: &mut Text, text: &[u8])
+    requires { length text.now < 1024 }
+    ensures { place.new ≡ text.now }
+{
+    place.clear();
+    let _ = place.append(text);
 }
 
 /// Whether a block gives a text: it has one, and is the primary one or new.

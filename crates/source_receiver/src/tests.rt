@@ -1,7 +1,11 @@
-ghost use Rattle.std.specs.Prelude.{◌<◌, length};
+ghost use Rattle.std.specs.Prelude.{◌≡◌, ◌<◌, Some, length, OnOk};
+ghost use Rattle.std.specs.Option.{ForSome};
+ghost use Rattle.source_receiver.specs.Stands.{latest_number};
+ghost use Rattle.source_receiver.specs.Each.{sources_count};
 
-use crate::{Heard, Receiver};
-use rtt_base::{Blocks, Text, TextBlock, TextPacket};
+use crate::{Receiver, SourceText};
+use rtt_base::{Blocks, NoMemory, Text, TextBlock, TextPacket};
+use std::alloc::Global;
 use std::test::Fail;
 
 const ANN: u32 = 1001;
@@ -44,110 +48,92 @@ fn packet(source: u32, stamp: u32, older: &[(u16, &[u8])], primary: &[u8]) -> Te
     }
 }
 
-/// What is heard, in one line: the place, `(m)` for a marker, and the texts.
-fn line(rt: &HostRuntime, heard: &Heard) -> Result<String, Fail> {
-    let mut line = match heard.place {
-        Some(place) => format!(in rt.alloc(); "{place}:")?,
-        None => format!(in rt.alloc(); "-")?,
-    };
-    if heard.marker {
-        line.push_str("(m)")?;
-    }
-    for text in heard.texts.as_slice() {
-        for octet in text.as_slice() {
-            line.push(char::from(*octet))?;
-        }
-        line.push(' ')?;
-    }
-    Ok(line)
+/// Whether this packet gives this text of the only source, with so many markers.
+fn gives(
+    alloc: Global,
+    receiver: &mut Receiver,
+    number: u64,
+    packet: &TextPacket,
+    text: &[u8],
+    marks: u64,
+) -> Result<bool, NoMemory>
+    requires rises { ForSome (latest_number receiver.old) (λ latest. latest < number) }
+    requires one { sources_count receiver.old ≡ 1 }
+    ensures latest { OnOk result (latest_number receiver.new ≡ Some number) }
+    ensures count { sources_count receiver.new ≡ sources_count receiver.old }
+{
+    let mut heard = [SourceText::new(alloc)];
+    receiver.take_each(number, packet, &mut heard)?;
+    Ok(heard[0].text.as_slice() == text && heard[0].marks == marks)
 }
 
-#[test]
-fn nothing_is_heard_at_first(rt: HostRuntime) {
-    let heard = Heard::new();
-    assert!(rt; heard.place.is_none());
-    assert!(rt; !heard.marker);
-    assert!(rt; heard.texts.is_empty());
-    assert_eq!(rt; heard.texts.len(), 0);
+/// Whether this packet gives these texts of two sources, with no marker.
+fn gives_both(
+    alloc: Global,
+    receiver: &mut Receiver,
+    number: u64,
+    packet: &TextPacket,
+    first: &[u8],
+    second: &[u8],
+) -> Result<bool, NoMemory>
+    requires rises { ForSome (latest_number receiver.old) (λ latest. latest < number) }
+    requires two { sources_count receiver.old ≡ 2 }
+    ensures latest { OnOk result (latest_number receiver.new ≡ Some number) }
+    ensures count { sources_count receiver.new ≡ sources_count receiver.old }
+{
+    let mut heard = [SourceText::new(alloc), SourceText::new(alloc)];
+    receiver.take_each(number, packet, &mut heard)?;
+    let texts = heard[0].text.as_slice() == first && heard[1].text.as_slice() == second;
+    Ok(texts && heard[0].marks == 0 && heard[1].marks == 0)
 }
 
 #[test]
 fn two_lost_packets_leave_no_marker(rt: HostRuntime) -> Result<(), Fail> {
-    let mut receiver = Receiver::new(rt.alloc(), &[ANN])?;
-    let mut heard = Heard::new();
-    receiver.take(
-        65536,
-        &packet(ANN, 0, &[(16383, b""), (16383, b"")], b"A"),
-        &mut heard,
-    );
-    assert_eq!(rt; line(&rt, &heard)?.as_str(), "0:A ");
-    receiver.take(
-        65539,
-        &packet(ANN, 900, &[(600, b"B"), (300, b"C")], b"D"),
-        &mut heard,
-    );
-    assert_eq!(rt; line(&rt, &heard)?.as_str(), "0:B C D ");
-    receiver.take(
-        65540,
-        &packet(ANN, 1200, &[(600, b"C"), (300, b"D")], b""),
-        &mut heard,
-    );
-    assert_eq!(rt; line(&rt, &heard)?.as_str(), "0:");
+    let mut ann = Receiver::new(rt.alloc(), &[ANN])?;
+    let first = packet(ANN, 0, &[(16383, b""), (16383, b"")], b"A");
+    assert!(rt; gives(rt.alloc(), &mut ann, 65536, &first, b"A", 0)?);
+    let fourth = packet(ANN, 900, &[(600, b"B"), (300, b"C")], b"D");
+    assert!(rt; gives(rt.alloc(), &mut ann, 65539, &fourth, b"BCD", 0)?);
+    let fifth = packet(ANN, 1200, &[(600, b"C"), (300, b"D")], b"");
+    assert!(rt; gives(rt.alloc(), &mut ann, 65540, &fifth, b"", 0)?);
     Ok(())
 }
 
 #[test]
 fn three_lost_packets_leave_a_marker(rt: HostRuntime) -> Result<(), Fail> {
-    let mut receiver = Receiver::new(rt.alloc(), &[ANN])?;
-    let mut heard = Heard::new();
-    receiver.take(
-        65536,
-        &packet(ANN, 0, &[(16383, b""), (16383, b"")], b"A"),
-        &mut heard,
-    );
-    receiver.take(
-        65540,
-        &packet(ANN, 1200, &[(600, b"C"), (300, b"D")], b""),
-        &mut heard,
-    );
-    assert_eq!(rt; line(&rt, &heard)?.as_str(), "0:(m)C D ");
+    let mut ann = Receiver::new(rt.alloc(), &[ANN])?;
+    let first = packet(ANN, 0, &[(16383, b""), (16383, b"")], b"A");
+    assert!(rt; gives(rt.alloc(), &mut ann, 65536, &first, b"A", 0)?);
+    let fifth = packet(ANN, 1200, &[(600, b"C"), (300, b"D")], b"");
+    assert!(rt; gives(rt.alloc(), &mut ann, 65540, &fifth, b"\xEF\xBF\xBDCD", 1)?);
     Ok(())
 }
 
 #[test]
 fn a_gap_of_two_sources_marks_neither_that_repeats_all(rt: HostRuntime) -> Result<(), Fail> {
-    let mut receiver = Receiver::new(rt.alloc(), &[BOB, ANN])?;
-    let mut heard = Heard::new();
-    receiver.take(100, &packet(ANN, 0, &[], b"a"), &mut heard);
-    assert_eq!(rt; line(&rt, &heard)?.as_str(), "1:a ");
-    receiver.take(101, &packet(BOB, 100, &[], b"x"), &mut heard);
-    assert_eq!(rt; line(&rt, &heard)?.as_str(), "0:x ");
+    let mut both = Receiver::new(rt.alloc(), &[BOB, ANN])?;
+    let ann = packet(ANN, 0, &[], b"a");
+    assert!(rt; gives_both(rt.alloc(), &mut both, 100, &ann, b"", b"a")?);
+    let bob = packet(BOB, 100, &[], b"x");
+    assert!(rt; gives_both(rt.alloc(), &mut both, 101, &bob, b"x", b"")?);
     // Ann's second packet and Bob's are lost: each of the next ones repeats what was lost.
-    receiver.take(
-        104,
-        &packet(ANN, 600, &[(600, b"a"), (300, b"b")], b"c"),
-        &mut heard,
-    );
-    assert_eq!(rt; line(&rt, &heard)?.as_str(), "1:b c ");
-    receiver.take(
-        105,
-        &packet(BOB, 700, &[(600, b"x"), (300, b"y")], b"z"),
-        &mut heard,
-    );
-    assert_eq!(rt; line(&rt, &heard)?.as_str(), "0:y z ");
+    let ann = packet(ANN, 600, &[(600, b"a"), (300, b"b")], b"c");
+    assert!(rt; gives_both(rt.alloc(), &mut both, 104, &ann, b"", b"bc")?);
+    let bob = packet(BOB, 700, &[(600, b"x"), (300, b"y")], b"z");
+    assert!(rt; gives_both(rt.alloc(), &mut both, 105, &bob, b"yz", b"")?);
     Ok(())
 }
 
 #[test]
 fn a_source_that_is_not_listed_counts_and_is_not_heard(rt: HostRuntime) -> Result<(), Fail> {
-    let mut receiver = Receiver::new(rt.alloc(), &[ANN])?;
-    let mut heard = Heard::new();
-    receiver.take(100, &packet(ANN, 0, &[], b"a"), &mut heard);
-    receiver.take(101, &packet(BOB, 100, &[], b"x"), &mut heard);
-    assert_eq!(rt; line(&rt, &heard)?.as_str(), "-");
-    receiver.take(102, &packet(ANN, 200, &[], b"b"), &mut heard);
-    assert_eq!(rt; line(&rt, &heard)?.as_str(), "0:b ");
-    receiver.take(104, &packet(ANN, 400, &[], b"d"), &mut heard);
-    assert_eq!(rt; line(&rt, &heard)?.as_str(), "0:(m)d ");
+    let mut ann = Receiver::new(rt.alloc(), &[ANN])?;
+    let first = packet(ANN, 0, &[], b"a");
+    assert!(rt; gives(rt.alloc(), &mut ann, 100, &first, b"a", 0)?);
+    let other = packet(BOB, 100, &[], b"x");
+    assert!(rt; gives(rt.alloc(), &mut ann, 101, &other, b"", 0)?);
+    let second = packet(ANN, 200, &[], b"b");
+    assert!(rt; gives(rt.alloc(), &mut ann, 102, &second, b"b", 0)?);
+    let fourth = packet(ANN, 400, &[], b"d");
+    assert!(rt; gives(rt.alloc(), &mut ann, 104, &fourth, b"\xEF\xBF\xBDd", 1)?);
     Ok(())
 }

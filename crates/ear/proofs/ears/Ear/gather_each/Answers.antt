@@ -1,4 +1,4 @@
-use Rattle.std.proofs.Common.{◌≡◌, length, List, ◌∷◌, [], ◌++◌, ◌^◌, ◌≤◌, refl, sym, ◌∙◌, arith, subst}
+use Rattle.std.proofs.Common.{◌≡◌, length, ◌∷◌, [], ◌++◌, ◌^◌, ◌≤◌, refl, sym, ◌∙◌, arith, subst}
 use Rattle.rtt_base.specs.declared.text_packets.TextPacket.{TextPacket}
 use Rattle.gap_tracker.specs.Stories.{Story, given_of}
 use Rattle.source_receiver.specs.Stands.{Stands, used_packet}

@@ -5,10 +5,10 @@ use Rattle.wire_spec.specs.Packets.{redundant}
 use Rattle.stream_spec.specs.Hearing.{marker}
 use Rattle.source_receiver.specs.Steps.{is_marked_since, older_since, texts_since}
 use Rattle.source_receiver.proofs.Parts.{on_ok_then, octets_told, redundant_is, texts_are}
-use Rattle.source_receiver.proofs.receivers.append_told.Goals as goal
+use Rattle.source_receiver.proofs.receivers.tell_more.Goals as goal
 
-pub returns-in_ok-append_older-in-Some : goal.returns-in_ok-append_older-in-Some
-returns-in_ok-append_older-in-Some c =
+pub returns-in_ok-append_older-in-Some-clause-text : goal.returns-in_ok-append_older-in-Some-clause-text
+returns-in_ok-append_older-in-Some-clause-text c =
     let p = c.args.packet.now in
     let older = c.in-Some.older.now in
     let text = c.in-Some.primary.now.text in
@@ -16,9 +16,9 @@ returns-in_ok-append_older-in-Some c =
     let before : redundant p.blocks ≡ older = ap redundant parts ∙ redundant_is older c.in-Some.primary.now in
     let marked : c.is_marked.result ≡ is_marked_since c.args.seen c.args.missing p.stamp (redundant p.blocks) = c.is_marked.ensures ∙ ap (is_marked_since c.args.seen c.args.missing p.stamp) (sym before) in
     on_ok_then c.append.result
-    (λ e. octets_told c.args.out.now c.append_marker.new.out c.append_older.new.out c.append.new.self text
+    (λ e. octets_told c.args.heard.now.text c.put_marker.new.heard.text c.append_older.new.out c.append.new.self text
     (if is_marked_since c.args.seen c.args.missing p.stamp (redundant p.blocks) then marker ∷ [] else []) (older_since c.args.seen p.stamp older) (texts_since c.args.seen p)
-    (c.in_ok-append_marker-in-Some.ensures ∙ ap (λ (b : Bool). c.args.out.now ++ concat (if b then marker ∷ [] else [])) marked)
+    (c.in_ok-put_marker-in-Some.ensures.text ∙ ap (λ (b : Bool). c.args.heard.now.text ++ concat (if b then marker ∷ [] else [])) marked)
     c.in_ok-append_older-in-Some.ensures
     (e ∙ ap (λ (t : List ℕ). c.append_older.new.out ++ t) c.as_slice-in-Some.ensures.value)
     (texts_are c.args.seen p older c.in-Some.primary.now parts))
