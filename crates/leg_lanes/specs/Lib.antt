@@ -1,0 +1,4 @@
+pub mod Pairs
+pub mod Runners
+pub mod Lanes
+pub mod Running

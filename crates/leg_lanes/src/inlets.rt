@@ -1,0 +1,93 @@
+//! A leg that runs as where its texts come from.
+ghost use Rattle.std.specs.Prelude.{◌≡◌};
+ghost use Rattle.stream_spec.specs.Ready.{chunk_of};
+ghost use Rattle.mix_loop.specs.declared.items.Item.{Item};
+ghost use Rattle.mix_loop.specs.Items.{Gave, Gives, IsOf};
+ghost use Rattle.leg_queue.specs.Ends.{IsPushOf, popped};
+ghost use Rattle.leg_queue.specs.Feeds.{Follows};
+ghost use Rattle.leg_lanes.specs.declared.lanes.Lane.{Lane};
+ghost use Rattle.leg_lanes.specs.Lanes.{LaneStands};
+ghost use Rattle.leg_lanes.specs.Runners.{IsRunnerOf, RunnerFollows};
+
+use crate::lanes::{Lane, Runner};
+use leg_queue::{Feed, LegQueue};
+use mix_loop::{Inlet, Item};
+use rtt_base::Chunk;
+use rtt_io::{Gate, Source};
+use std::sync::Wait;
+use std::thread;
+
+/// Steps a leg that is at the mixer, unless its last item was pushed.
+fn step_feed<S: Source, R: Wait, G: Gate>(feed: &mut Feed<S>, rt: &R, queue: &LegQueue, gate: &G)
+    requires { IsPushOf queue.now feed.old.pass }
+    ensures queue { IsPushOf queue.now feed.new.pass }
+    ensures follows { Follows S.tells S.left S.faults S.name feed.old feed.new }
+{
+    if feed.done() {
+        return;
+    }
+    feed.step(rt, queue, gate);
+}
+
+/// Makes one step of a leg that is at the mixer; else its thread may go on.
+fn step_runner<S: Source, R: Wait, G: Gate>(
+    runner: &mut Runner<S>,
+    rt: &R,
+    queue: &LegQueue,
+    gate: &G,
+)
+    requires { IsRunnerOf queue.now runner.old }
+    ensures of { IsRunnerOf queue.now runner.new }
+    ensures stands { RunnerFollows S.tells S.left S.faults S.name runner.old runner.new }
+{
+    match runner {
+        Runner::Here(feed) => step_feed(feed, rt, queue, gate),
+        Runner::There(_) => thread::yield_now(),
+    }
+}
+
+/// Tells the gate of what was popped, if it is something.
+fn tell_popped<G: Gate>(gate: &G, place: u8, item: Item) {
+    if item != Item::Later {
+        gate.popped(u32::from(place));
+    }
+}
+
+impl<S: Source> Lane<S> {
+    /// Pops the next text or the end, if it is there.
+    fn pull<R: Wait, G: Gate>(&mut self, rt: &R, gate: &G, chunk: &mut Chunk) -> Item
+        ensures text { result ≡ Item.Chunk → IsOf self.old.place (chunk_of chunk.new) }
+        ensures place { self.new.place ≡ self.old.place }
+        ensures stands { Gives (LaneStands S.tells S.left S.faults S.name) self.old self.new result (chunk_of chunk.new) }
+    {
+        let item = self.line.queue.pop(rt, &mut self.pop, self.place, chunk);
+        tell_popped(gate, self.place, item);
+        item
+    }
+
+    /// Makes one step of the leg where it is at the mixer; else its thread may go on.
+    fn nudge<R: Wait, G: Gate>(&mut self, rt: &R, gate: &G)
+        ensures place { self.new.place ≡ self.old.place }
+        ensures stands { (first : Lane _) (gave : Gave) → LaneStands S.tells S.left S.faults S.name first self.old gave → LaneStands S.tells S.left S.faults S.name first self.new gave }
+    {
+        step_runner(&mut self.runner, rt, &self.line.queue, gate);
+    }
+}
+
+impl<S: Source> Inlet for Lane<S> {
+    ghost use Rattle.leg_lanes.specs.Lanes.{LaneStands};
+
+    ghost stands = { LaneStands S.tells S.left S.faults S.name };
+
+    ghost good = { λ l. Unit {0} };
+
+    ghost place = { λ l. l.place };
+
+    fn next<R: Wait, G: Gate>(&mut self, rt: &R, gate: &G, chunk: &mut Chunk) -> Item {
+        let item = self.pull(rt, gate, chunk);
+        if item == Item::Later {
+            self.nudge(rt, gate);
+        }
+        item
+    }
+}
