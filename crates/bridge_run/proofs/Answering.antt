@@ -1,12 +1,12 @@
 -- What mixing recordings answers.
-use Rattle.std.proofs.Common.{◌≡◌, ℕ, zero, suc, ◌+◌, ◌<◌, ◌≤◌, Bool, true, false, Option, Some, None, List, [], ◌∷◌, length, map, Result, Ok, Err, refl, ap, sym, subst, ◌∙◌, arith}
+use Rattle.std.proofs.Common.{◌≡◌, ℕ, zero, suc, ◌+◌, ◌<◌, true, false, Option, Some, None, List, [], ◌∷◌, length, map, Result, Ok, Err, refl, ap, sym, subst, ◌∙◌, arith}
 use Rattle.std.specs.Prelude.{IfErr, IfOk}
 use Rattle.std.specs.List.{enumerate_from}
+use Rattle.std.specs.Option.{option_map}
 use Rattle.wire_spec.specs.Dump.{dump, dump_written}
 use Rattle.wire_spec.specs.Dump as dumps
 use Rattle.wire_spec.specs.declared.faults.DumpKind.{DumpKind}
 use Rattle.wire_spec.specs.declared.faults.DumpKind.TheVariants.{NotDump, BadLength, EndsInside, TooLarge, Read}
-use Rattle.wire_spec.specs.declared.faults.DumpKind.TheVariants as DumpKind
 use Rattle.rtpdump_io.specs.declared.items.DumpFault.{DumpFault}
 use Rattle.rtpdump_io.specs.Reading.{is_of_source}
 use Rattle.file_spec.specs.declared.conf_lines.LegLine.{LegLine}
@@ -18,10 +18,10 @@ use Rattle.mixer_spec.specs.Bridged.{input_limit, leg_chunks}
 use Rattle.command_spec.specs.declared.faults.Refusal.TheVariants.{AtByte, AfterTurns}
 use Rattle.command_spec.specs.Work.{Made, Steps, Refuses, Makes}
 use Rattle.command_spec.specs.Mixing.{input_at, makes, mixes, out_of, outs, records_to, unless_one_broken, views}
+use Rattle.command_spec.specs.Sums.{sums}
 use Rattle.mix_loop.specs.declared.turns.Mixing.{Mixing}
 use Rattle.mix_loop.specs.declared.turns.Mixing.TheVariants as mixing
 use Rattle.mix_loop.specs.Logs.{LogOf, out_at}
-use Rattle.leg_items.specs.Feds.{Asked, recording_asked}
 use Rattle.mix_loop.specs.declared.ports.Port.{Port}
 use Rattle.leg_items.specs.declared.inlets.LegInlet.{LegInlet}
 use Rattle.leg_items.specs.Answers.{AllAsked, AllWhole, AreChunks, AreOfConf, IsAnswer, PlainMixed, SourceKept, source_at}
@@ -31,7 +31,7 @@ use Rattle.bridge_run.specs.declared.mixed.MixFault.{MixFault}
 use Rattle.bridge_run.specs.declared.mixed.MixFault.TheVariants.{Dump, NoMemory}
 use Rattle.bridge_run.specs.declared.mixed.Mixed.{Mixed}
 use Rattle.bridge_run.specs.Answered.{AreKept, IsKept, MixesTo, asked_of}
-use Rattle.bridge_run.specs.Mixes.{outputs_of}
+use Rattle.bridge_run.specs.Mixes.{counted, outputs_of}
 
 -- ---- the recordings
 whole_steps : (limit n : ℕ) (inputs : List (List ℕ)) (steps : Steps) → ((k : ℕ) → k < length inputs → (dump limit (input_at inputs k)).fault ≡ None)
@@ -110,10 +110,13 @@ module _ (c : Conf) (inputs : List (List ℕ)) (legs : length inputs ≡ length 
 
   pub over_mixes : (result : Result Mixed MixFault) (table : Table) (log : List (List ℕ)) → length log ≡ length c.legs
       → IsAnswer mixing.Over (setup c) c.tick c.turns (asked_of c inputs) (leg_chunks c (input_at inputs)) table → LogOf (pts_at c) (setup c) table log
-      → IfOk result (λ mixed. mixed.views ≡ views c table) → IfOk result (λ mixed. mixed.outs.items ≡ log) → IfErr result (λ fault. fault ≡ NoMemory) → MixesTo c inputs result
-  over_mixes (Ok mixed) table log same answer logged is out fault =
-      over_makes table log mixed.views same answer logged is ∙ ap (λ os. Makes mixed.views (outputs_of c.legs os)) (sym out)
-  over_mixes (Err f) table log same answer logged is out fault = subst (λ x. MixesTo c inputs (Err x)) (sym fault) tt
+      → IfOk result (λ mixed. mixed.views ≡ views c table) → IfOk result (λ mixed. counted mixed ≡ sums c table) → IfOk result (λ mixed. mixed.outs.items ≡ log) → IfErr result (λ fault. fault ≡ NoMemory)
+      → MixesTo c inputs result
+  over_mixes (Ok mixed) table log same answer logged is sum out fault = record {
+    makes = over_makes table log mixed.views same answer logged is ∙ ap (λ os. Makes mixed.views (outputs_of c.legs os)) (sym out);
+    sums = ap (option_map (sums c)) answer.0 ∙ ap Some (sym sum);
+  }
+  over_mixes (Err f) table log same answer logged is sum out fault = subst (λ x. MixesTo c inputs (Err x)) (sym fault) tt
 
 -- what the legs of a conference are asked for
 pub are_of_conf : (c : Conf) (inputs : List (List ℕ)) → AreOfConf c (input_at inputs) (asked_of c inputs)

@@ -1,5 +1,5 @@
 -- A conference is mixed over the inputs that were opened.
-use Rattle.std.proofs.Common.{◌≡◌, ℕ, zero, suc, ◌+◌, ◌<◌, ◌≤◌, Bool, true, false, Option, Some, None, List, [], ◌∷◌, length, map, Result, Ok, Err, refl, ap, sym, subst, ◌∙◌, inl, inr, arith}
+use Rattle.std.proofs.Common.{◌≡◌, ℕ, zero, suc, ◌<◌, Bool, true, false, Option, Some, None, List, [], ◌∷◌, length, Result, Ok, Err, refl, ap, sym, subst, ◌∙◌, inl, inr, arith}
 use Rattle.std.specs.Prelude.{IfErr, IfOk, IsSome, slice_get, unwrap_or}
 use Rattle.std.proofs.lemmas.List.{length-map}
 use Rattle.rtt_io.specs.Counts.{Rose}
@@ -11,7 +11,7 @@ use Rattle.mixer_spec.specs.Setups.{leg_at, setup, ssrc_of}
 use Rattle.mixer_spec.specs.Bridged.{input_limit}
 use Rattle.command_spec.specs.Work.{Contents}
 use Rattle.command_spec.specs.Mixing.{input_at}
-use Rattle.leg_core.specs.Gives.{Stands, LegPast}
+use Rattle.leg_core.specs.Gives.{Stands, LegPast, begins}
 use Rattle.mix_loop.specs.declared.ports.Port.{Port}
 use Rattle.leg_items.specs.declared.inlets.LegInlet.{LegInlet}
 use Rattle.leg_items.specs.Answers.{AllAsked, AllStayAs, AreNew, IsStayOf, source_at}
@@ -22,9 +22,8 @@ use Rattle.bridge_run.specs.declared.mixed.MixFault.{MixFault}
 use Rattle.bridge_run.specs.declared.mixed.MixFault.TheVariants.{Open, Dump, TooLong, NoMemory}
 use Rattle.bridge_run.specs.declared.mixed.Mixed.{Mixed}
 use Rattle.bridge_run.specs.Answered.{AreKept, IsOfLegs, MixesTo, asked_of, broken_leg}
-use Rattle.bridge_run.specs.Mixes.{AllLie, IsBroken, IsMade, RoseAt, Stops, inputs_under, octets_under}
-use Rattle.bridge_run.specs.Opened.{AllOpened, IsOpened}
-use Rattle.bridge_run.proofs.Answering.{leg_within}
+use Rattle.bridge_run.specs.Mixes.{AllLie, IsMade, RoseAt, Stops, inputs_under, octets_under}
+use Rattle.bridge_run.specs.Opened.{AllOpened, AllOver, ear_of}
 
 -- ---- lists
 found : {X : Type 0} (xs : List X) (k : ℕ) → k < length xs → (x : X) × (slice_get xs k ≡ Some x)
@@ -43,26 +42,49 @@ some_of : (o : Option (List ℕ)) (octets : List ℕ) → o ≡ Some octets → 
 some_of None octets e = absurd (cc e)
 some_of (Some x) octets e = refl
 
-module _ {S : Type 0} (Told : Type 0) (left : S → List ℕ) (faults : S → ℕ) (name : S → List ℕ) (held : Contents) (c : Conf) (ports : List (Port (LegInlet S)))
-    (many : length ports ≡ length c.legs) (opened : AllOpened Told left faults name held c.wait (input_limit c) c.legs ports) where
-  pub are_new : AreNew ports
-  are_new = λ j p at. (let o = opened j p at in new_leg p.inlet.leg o.0.stay j p o.2.new o.2.place)
+-- ---- ports over inputs
+module _ {S : Type 0} (Told : Type 0) (left : S → List ℕ) (c : Conf) (inputs : List (List ℕ)) (ports : List (Port (LegInlet S)))
+    (over : AllOver Told left c.wait (input_limit c) c.legs inputs ports) where
+  pub new_over : AreNew ports
+  new_over = λ j p at. (let o = over j p at in new_leg p.inlet.leg o.0.stay j p o.2.new o.2.place)
 
-  pub all_stay : AllStayAs (setup c) ports
-  all_stay = λ j p at. (let o = opened j p at in subst (IsStayOf (setup c) j) (sym o.2.new.stays) (stays_law c j o.0 o.1))
+  pub stay_over : AllStayAs (setup c) ports
+  stay_over = λ j p at. (let o = over j p at in subst (IsStayOf (setup c) j) (sym o.2.new.stays) (stays_law c j o.0 o.1))
 
-  all_asked : Told → AllAsked left (asked_of c (inputs_under held c.legs)) ports
-  all_asked told = λ j p at.
-      let o = opened j p at in
-      let t = o.2.told told in
-      let octets = input_is held c.legs j o.0 t.0 o.1 t.1 in
-      let past : Option LegLine → List ℕ → LegPast = λ leg octets. record {
+  pub asked_over : Told → AllAsked left (asked_of c inputs) ports
+  asked_over told = λ j p at.
+      let o = over j p at in
+      let past : Option LegLine → LegPast = λ leg. record {
         conf = record { place = j; ssrc = ssrc_of leg; pts = pts_of leg; wait = c.wait };
         limit = input_limit c;
-        octets = octets;
+        octets = input_at inputs j;
         gave = [];
       } in
-      subst (λ leg. Stands left p.inlet.leg (past leg (input_at (inputs_under held c.legs) j))) (sym o.1) (subst (λ x. Stands left p.inlet.leg (past (Some o.0) x)) octets t.2)
+      subst (λ leg. Stands left p.inlet.leg (past leg)) (sym o.1) (o.2.told told)
+
+module _ {S : Type 0} (Told : Type 0) (left : S → List ℕ) (faults : S → ℕ) (name : S → List ℕ) (held : Contents) (c : Conf) (ports : List (Port (LegInlet S)))
+    (many : length ports ≡ length c.legs) (opened : AllOpened Told left faults name held c.wait (input_limit c) c.legs ports) where
+  all_over : AllOver Told left c.wait (input_limit c) c.legs (inputs_under held c.legs) ports
+  all_over = λ j p at.
+      let o = opened j p at in (
+        o.0,
+        o.1,
+        record {
+          new = o.2.new;
+          place = o.2.place;
+          told = λ told. (let t = o.2.told told in
+              subst (λ octets. Stands left p.inlet.leg (begins (ear_of c.wait j o.0) (input_limit c) octets)) (input_is held c.legs j o.0 t.0 o.1 t.1) t.2);
+        },
+      )
+
+  pub are_new : AreNew ports
+  are_new = new_over Told left c (inputs_under held c.legs) ports all_over
+
+  pub all_stay : AllStayAs (setup c) ports
+  all_stay = stay_over Told left c (inputs_under held c.legs) ports all_over
+
+  all_asked : Told → AllAsked left (asked_of c (inputs_under held c.legs)) ports
+  all_asked = asked_over Told left c (inputs_under held c.legs) ports all_over
 
   all_lie : Told → AllLie held c.legs
   all_lie told = λ k leg less at.
@@ -82,7 +104,7 @@ module _ {S : Type 0} (Told : Type 0) (left : S → List ℕ) (faults : S → �
     is_made told = go result (answered told)
       where
         go : (r : Result Mixed MixFault) → MixesTo c (inputs_under held c.legs) r → IfOk r (IsMade held c)
-        go (Ok mixed) m = record { lie = all_lie told; makes = m }
+        go (Ok mixed) m = record { lie = all_lie told; makes = m.makes; sums = m.sums }
         go (Err f) m = tt
 
     -- where no leg's recording is at fault
@@ -136,3 +158,20 @@ within_legs n (Err (Open leg)) k of some = absurd of
 within_legs n (Err (Dump leg fault)) k of some = let same : leg ≡ k = cc some in subst (λ i. i < n) same of
 within_legs n (Err TooLong) k of some = absurd (cc some)
 within_legs n (Err NoMemory) k of some = absurd (cc some)
+
+-- ---- sources that never fail
+never_rose : (old new : ℕ) → old ≡ 0 → new ≡ 0 → Rose old new → ⊥
+never_rose old new o n (inl l) = omega (arith, o, n, l)
+never_rose old new o n (inr e) = omega (arith, n, e)
+
+no_fault : (b : Bool) → (b ≡ true → ⊥) → b ≡ false
+no_fault true f = absurd (f refl)
+no_fault false f = refl
+
+pub never_read : {S : Type 0} (faults : S → ℕ) (name : S → List ℕ) (n : ℕ) (result : Result Mixed MixFault) (old new : List (Port (LegInlet S))) → ((s : S) → faults s ≡ 0) → length old ≡ n → length new ≡ length old
+    → AreKept faults name result old new → IsOfLegs n result → (leg : ℕ) (fault : DumpFault) → result ≡ Err (Dump leg fault) → is_of_source fault.kind ≡ false
+never_read faults name n result old new calm many same kept of leg fault e =
+    let within : leg < n = subst (IsOfLegs n) e of in
+    let p = found old leg (omega (arith, within, many)) in
+    let q = found new leg (omega (arith, within, many, same)) in
+    no_fault (is_of_source fault.kind) (λ source. never_rose (faults (source_at p.0)) (faults (source_at q.0)) (calm (source_at p.0)) (calm (source_at q.0)) ((kept leg p.0 q.0 p.1 q.1).read fault e source))

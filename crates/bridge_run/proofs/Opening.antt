@@ -9,8 +9,9 @@ use Rattle.leg_items.specs.declared.inlets.LegInlet.{LegInlet}
 use Rattle.bridge_run.specs.declared.mixed.MixFault.{MixFault}
 use Rattle.bridge_run.specs.declared.mixed.MixFault.TheVariants.{Open, Dump, TooLong, NoMemory}
 use Rattle.mixer_spec.specs.Setups.{leg_at}
+use Rattle.command_spec.specs.Mixing.{input_at}
 use Rattle.leg_items.specs.Answers.{source_at}
-use Rattle.bridge_run.specs.Opened.{AllOpened, AreCalm, IsNotOpened, IsOpened, IsRefused}
+use Rattle.bridge_run.specs.Opened.{AllOpened, AllOver, AreCalm, IsNotOpened, IsOpened, IsOver, IsRefused}
 
 module _ {S : Type 0} where
   pub calm_parts : (faults : S → ℕ) (xs ys : List (Port (LegInlet S))) → AreCalm faults (xs ++ ys) → AreCalm faults xs × AreCalm faults ys
@@ -62,6 +63,22 @@ module _ {S : Type 0} where
           ap (λ (i : ℕ). leg_at legs i) at ∙ g,
           subst (λ (i : ℕ). IsOpened tells left faults name_of before wait limit i leg x) (sym at)
               (subst (λ (y : Port (LegInlet S)). IsOpened tells left faults name_of before wait limit j leg y) (sym q.1) (opened_before tells left faults name_of now before wait limit j leg p same o)),
+        )
+  ]
+
+  -- one more over its input
+  pub over_more : (tells : Type 0) (left : S → List ℕ) (wait limit j : ℕ) (legs : List LegLine) (leg : LegLine) (inputs : List (List ℕ)) (octets : List ℕ) (ps : List (Port (LegInlet S))) (p : Port (LegInlet S))
+      → AllOver tells left wait limit legs inputs ps → length ps ≡ j → leg_at legs j ≡ Some leg → octets ≡ input_at inputs j → IsOver tells left wait limit j leg octets p
+      → AllOver tells left wait limit legs inputs (ps ++ p ∷ [])
+  over_more tells left wait limit j legs leg inputs octets ps p h l g is o = λ k x e. elim (pushed ps p k x e) [
+    | inl f ↦ h k x f
+    | inr q ↦
+        let at : k ≡ j = q.0 ∙ l in
+        let here : IsOver tells left wait limit j leg (input_at inputs j) p = subst (λ (os : List ℕ). IsOver tells left wait limit j leg os p) is o in (
+          leg,
+          ap (λ (i : ℕ). leg_at legs i) at ∙ g,
+          subst (λ (i : ℕ). IsOver tells left wait limit i leg (input_at inputs i) x) (sym at)
+              (subst (λ (y : Port (LegInlet S)). IsOver tells left wait limit j leg (input_at inputs j) y) (sym q.1) here),
         )
   ]
 

@@ -1,7 +1,10 @@
 -- The view of each terminal is what is seen there.
-use Rattle.std.proofs.Common.{◌≡◌, ℕ, zero, suc, ◌+◌, ◌<◌, ◌≤◌, Bool, true, false, cond, List, [], ◌∷◌, ◌++◌, length, map, take, get_or, None, refl, ap, sym, ◌∙◌, subst, arith, add-one}
+use Rattle.std.proofs.Common.{◌≡◌, ℕ, zero, suc, ◌+◌, ◌*◌, ◌^◌, ◌<◌, ◌≤◌, Bool, true, false, cond, List, [], ◌∷◌, ◌++◌, length, map, take, get_or, None, refl, ap, sym, ◌∙◌, subst, arith, add-one}
 use Rattle.std.specs.Prelude.{AllPairs, remove, flat_map, ◌≢◌}
-use Rattle.std.specs.List.{enumerate_from}
+use Rattle.std.specs.List.{enumerate_from, sum_by}
+use Rattle.std.proofs.lemmas.List.Sums.{sum_by-cons, sum_by-le, sum_by_push}
+use Rattle.source_receiver.specs.declared.source_texts.SourceText.{SourceText}
+use Rattle.text_spec.specs.declared.counts.Counts.{Counts}
 use Rattle.std.proofs.Math.Seq.{take-suc}
 use Rattle.std.proofs.lemmas.List.{take_all, append-nil, get_or-map, length-map}
 use Rattle.std.proofs.lemmas.List.Quantifiers.{all_pairs_remove}
@@ -12,12 +15,15 @@ use Rattle.file_spec.specs.declared.conf_lines.LegLine.{LegLine}
 use Rattle.file_spec.specs.Conf.{Conf}
 use Rattle.file_spec.specs.Kept.{Differ}
 use Rattle.mixer_spec.specs.Table.{Table}
-use Rattle.command_spec.specs.Seen.{Speaker, aware_seen, unaware_seen}
-use Rattle.command_spec.specs.Mixing.{came, speaker_of, view_of, views}
+use Rattle.command_spec.specs.Seen.{Reception, Speaker, aware_seen, counts_at, unaware_seen}
+use Rattle.command_spec.specs.Mixing.{came, records_to, reception_of, speaker_of, view_of, views}
+use Rattle.command_spec.specs.Sums.{counts_to, markers_at, markers_to, sources_of, sums}
+use Rattle.command_spec.proofs.Counted.{markers_came, used_came}
 use Rattle.terminal.specs.declared.confs.TermConf.{TermConf}
 use Rattle.terminal.specs.declared.terminals.Terminal.{Terminal}
-use Rattle.terminal.specs.Terminals.{reception, Heard}
-use Rattle.bridge_run.specs.Viewed.{view_from}
+use Rattle.terminal.specs.Terminals.{counts_of, reception, texts_of, IsTextOf, Heard}
+use Rattle.bridge_run.specs.declared.views.Seen.{Seen}
+use Rattle.bridge_run.specs.Viewed.{Adds, AddsCounts, HasFew, counts_from, marks_of, markers_from, summed, view_from}
 
 -- which element is meant makes no difference within
 pub same_default : {X : Type 0} (xs : List X) (i : ℕ) (d e : X) → i < length xs → get_or xs i d ≡ get_or xs i e
@@ -62,19 +68,105 @@ aware_view c own leg records t conf sources names old new e f s n h g =
     g (hears c leg) speakers items (n ∙ sym (names_are (remove c.legs own))) heard
     ∙ ap (λ (b : Bool). old ++ cond b (aware_seen (reception (hears c leg)) leg.name speakers items) (unaware_seen (reception (hears c leg)) leg.name c.mixer.ssrc items)) (sym e)
 
+pub unaware_view : (c : Conf) (own : ℕ) (leg : LegLine) (records : List (ℕ × List ℕ)) (t : Terminal) (conf : TermConf) (old new : List ℕ)
+    → leg.aware ≡ false → conf ≡ hears c leg → Heard t conf (c.mixer.ssrc ∷ []) (came c.plan own records)
+    → ((q : TermConf) (source : ℕ) (items : List Item) → Heard t q (source ∷ []) items → new ≡ old ++ unaware_seen (reception q) leg.name source items)
+    → new ≡ old ++ view_from c own leg records
+unaware_view c own leg records t conf old new e f h g =
+    let items = came c.plan own records in
+    g (hears c leg) c.mixer.ssrc items (subst (λ (q : TermConf). Heard t q (c.mixer.ssrc ∷ []) items) f h)
+    ∙ ap (λ (b : Bool). old ++ cond b (aware_seen (reception (hears c leg)) leg.name (map speaker_of (remove c.legs own)) items) (unaware_seen (reception (hears c leg)) leg.name c.mixer.ssrc items)) (sym e)
+
+-- ---- the numbers of one terminal
+module _ (t : Terminal) (q : TermConf) (sources : List ℕ) (items : List Item) (heard : Heard t q sources items) where
+  pub has_few : length sources ≤ 64 → (counts_of t).packets < 2 ^ 40 → HasFew t
+  has_few l few =
+      let counts = heard.counts in
+      let used : (counts_of t).used ≤ (counts_of t).packets = subst (λ (n : Counts). n.used ≤ n.packets) (sym counts) (used_came (reception q) items) in
+      let each : (k : ℕ) (d : SourceText) → k < length (texts_of t) → (get_or (texts_of t) k d).marks ≤ 1099511627775 = λ k d below.
+      (let text = heard.texts k d (omega (arith, below, heard.each)) in
+      omega (arith, few, text.marks, markers_came (reception q) items (get_or sources k 0), ap (λ (n : Counts). n.packets) counts)) in
+      let all : marks_of t ≤ length (texts_of t) * 1099511627775 = sum_by-le (λ (text : SourceText). text.marks) 1099511627775 (texts_of t) each in
+      record { packets = few; used = omega (arith, used, few); marks = omega (arith, all, heard.each, l) }
+
+  pub marks_heard : marks_of t ≡ sum_by (markers_at (reception q) items) sources
+  marks_heard = go sources (texts_of t) heard.each heard.texts
+    where
+      go : (ss : List ℕ) (ts : List SourceText) → length ts ≡ length ss → ((k : ℕ) (d : SourceText) → k < length ss → IsTextOf (reception q) items (get_or ss k 0) (get_or ts k d))
+          → sum_by (λ text. text.marks) ts ≡ sum_by (markers_at (reception q) items) ss
+      go [] [] n f = refl
+      go [] (t ∷ ts) n f = absurd (omega (arith, n))
+      go (s ∷ ss) [] n f = absurd (omega (arith, n))
+      go (s ∷ ss) (t ∷ ts) n f =
+          let here = (f 0 t (omega arith)).marks in
+          let rest = go ss ts (omega (arith, n)) (λ k d l. f (suc k) d (omega (arith, l))) in
+          omega (arith, here, rest, sum_by-cons (λ (text : SourceText). text.marks) t ts, sum_by-cons (markers_at (reception q) items) s ss)
+
+-- all that a terminal adds
+pub adds : (c : Conf) (own : ℕ) (leg : LegLine) (records : List (ℕ × List ℕ)) (t : Terminal) (q : TermConf) (sources : List ℕ) (old shown new : Seen)
+    → q ≡ hears c leg → sources ≡ sources_of c own leg → Heard t q sources (came c.plan own records)
+    → shown.views ≡ old.views ++ view_from c own leg records → shown.packets ≡ old.packets → shown.used ≡ old.used → shown.marks ≡ old.marks → AddsCounts t shown new
+    → Adds c own leg records old new
+adds c own leg records t q sources old shown new e s h view packets used marks a =
+    let items = came c.plan own records in
+    let is_reception : reception q ≡ reception_of c leg = ap reception e in
+    let counts : counts_of t ≡ counts_from c own leg records = h.counts ∙ ap (λ (r : Reception). counts_at r items) is_reception in
+    let markers : marks_of t ≡ markers_from c own leg records = marks_heard t q sources items h
+    ∙ (ap (λ (r : Reception). sum_by (markers_at r items) sources) is_reception ∙ ap (λ (xs : List ℕ). sum_by (markers_at (reception_of c leg) items) xs) s) in
+    record {
+      views = a.views ∙ view;
+      packets = omega (arith, a.packets, packets, ap (λ (n : Counts). n.packets) counts);
+      used = omega (arith, a.used, used, ap (λ (n : Counts). n.used) counts);
+      marks = omega (arith, a.marks, marks, markers);
+    }
+
 -- ---- all of them
-pub views_more : (c : Conf) (table : Table) (k : ℕ) (d : LegLine) → k < length c.legs
-    → flat_map (λ x. view_of c table x.0 x.1) (take (k + 1) (enumerate_from 0 c.legs)) ≡ flat_map (λ x. view_of c table x.0 x.1) (take k (enumerate_from 0 c.legs)) ++ view_of c table k (get_or c.legs k d)
-views_more c table k d l =
+abbrev pub first_legs : Conf → ℕ → List (ℕ × LegLine)
+first_legs c k = take k (enumerate_from 0 c.legs)
+
+legs_more : (c : Conf) (k : ℕ) (d : LegLine) → k < length c.legs → first_legs c (k + 1) ≡ first_legs c k ++ (k, get_or c.legs k d) ∷ []
+legs_more c k d l =
     let all = enumerate_from 0 c.legs in
     let size = length-enumerate_from 0 c.legs in
-    let f : ℕ × LegLine → List ℕ = λ x. view_of c table x.0 x.1 in
     let zeroed : 0 + k ≡ k = omega arith in
     let it : get_or all k (0, d) ≡ (k, get_or c.legs k d) = get_or-enumerate_from 0 c.legs k (0, d) l ∙ ap (λ (n : ℕ). (n, get_or c.legs k d)) zeroed in
-    ap (λ (n : ℕ). flat_map f (take n all)) (add-one k)
-    ∙ (ap (flat_map f) (take-suc all k (0, d) (omega (arith, size, l)))
-    ∙ (flat_map-append f (take k all) (get_or all k (0, d) ∷ [])
-    ∙ (ap (λ (xs : List ℕ). flat_map f (take k all) ++ xs) (append-nil (f (get_or all k (0, d)))) ∙ ap (λ (x : ℕ × LegLine). flat_map f (take k all) ++ f x) it)))
+    ap (λ (n : ℕ). take n all) (add-one k) ∙ (take-suc all k (0, d) (omega (arith, size, l)) ∙ ap (λ (x : ℕ × LegLine). take k all ++ x ∷ []) it)
 
-pub views_all : (c : Conf) (table : Table) (k : ℕ) → length c.legs ≤ k → flat_map (λ x. view_of c table x.0 x.1) (take k (enumerate_from 0 c.legs)) ≡ views c table
-views_all c table k l = ap (flat_map (λ x. view_of c table x.0 x.1)) (take_all k (enumerate_from 0 c.legs) (omega (arith, length-enumerate_from 0 c.legs, l)))
+-- what is seen at the first k terminals, and what they counted
+pub record IsSeenAt (c : Conf) (table : Table) (k : ℕ) (seen : Seen) : Type 0 where
+  pub views : seen.views ≡ flat_map (λ x. view_of c table x.0 x.1) (first_legs c k)
+  pub packets : seen.packets ≡ sum_by (λ x. (counts_to c table x.0 x.1).packets) (first_legs c k)
+  pub used : seen.used ≡ sum_by (λ x. (counts_to c table x.0 x.1).used) (first_legs c k)
+  pub marks : seen.marks ≡ sum_by (λ x. markers_to c table x.0 x.1) (first_legs c k)
+
+-- a number of one more
+sum_more : (c : Conf) (f : ℕ × LegLine → ℕ) (k : ℕ) (d : LegLine) → k < length c.legs → sum_by f (first_legs c (k + 1)) ≡ sum_by f (first_legs c k) + f (k, get_or c.legs k d)
+sum_more c f k d l = ap (sum_by f) (legs_more c k d l) ∙ sum_by_push f (first_legs c k) (k, get_or c.legs k d)
+
+pub seen_more : (c : Conf) (table : Table) (k : ℕ) (d : LegLine) (old new : Seen) → k < length c.legs → IsSeenAt c table k old
+    → Adds c k (get_or c.legs k d) (records_to c table k (get_or c.legs k d)) old new → IsSeenAt c table (k + 1) new
+seen_more c table k d old new l s a =
+    let leg = get_or c.legs k d in
+    let view : ℕ × LegLine → List ℕ = λ x. view_of c table x.0 x.1 in
+    record {
+      views = a.views ∙ (ap (λ (xs : List ℕ). xs ++ view_of c table k leg) s.views
+          ∙ sym (ap (flat_map view) (legs_more c k d l)
+          ∙ (flat_map-append view (first_legs c k) ((k, leg) ∷ []) ∙ ap (λ (xs : List ℕ). flat_map view (first_legs c k) ++ xs) (append-nil (view (k, leg))))));
+      packets = a.packets ∙ (ap (λ n. n + (counts_to c table k leg).packets) s.packets ∙ sym (sum_more c (λ x. (counts_to c table x.0 x.1).packets) k d l));
+      used = a.used ∙ (ap (λ n. n + (counts_to c table k leg).used) s.used ∙ sym (sum_more c (λ x. (counts_to c table x.0 x.1).used) k d l));
+      marks = a.marks ∙ (ap (λ n. n + markers_to c table k leg) s.marks ∙ sym (sum_more c (λ x. markers_to c table x.0 x.1) k d l));
+    }
+
+all_legs : (c : Conf) (k : ℕ) → length c.legs ≤ k → first_legs c k ≡ enumerate_from 0 c.legs
+all_legs c k l = take_all k (enumerate_from 0 c.legs) (omega (arith, length-enumerate_from 0 c.legs, l))
+
+pub views_all : (c : Conf) (table : Table) (k : ℕ) (seen : Seen) → length c.legs ≤ k → IsSeenAt c table k seen → seen.views ≡ views c table
+views_all c table k seen l s = s.views ∙ ap (flat_map (λ x. view_of c table x.0 x.1)) (all_legs c k l)
+
+pub sums_all : (c : Conf) (table : Table) (k : ℕ) (seen : Seen) → length c.legs ≤ k → IsSeenAt c table k seen → summed seen ≡ sums c table
+sums_all c table k seen l s =
+    let whole : (f : ℕ × LegLine → ℕ) → sum_by f (first_legs c k) ≡ sum_by f (enumerate_from 0 c.legs) = λ f. ap (sum_by f) (all_legs c k l) in
+    let packets = s.packets ∙ whole (λ x. (counts_to c table x.0 x.1).packets) in
+    let used = s.used ∙ whole (λ x. (counts_to c table x.0 x.1).used) in
+    let marks = s.marks ∙ whole (λ x. markers_to c table x.0 x.1) in
+    cc (packets, used, marks)

@@ -9,6 +9,7 @@ use Rattle.mixer_spec.specs.Bridged.{input_limit}
 use Rattle.command_spec.specs.declared.faults.Refusal.TheVariants.{AtByte, AfterTurns}
 use Rattle.command_spec.specs.Work.{Refuses, Makes}
 use Rattle.command_spec.specs.Mixing.{input_at, mixes}
+use Rattle.command_spec.specs.Sums.{sums_mixed}
 use Rattle.mix_loop.specs.declared.ports.Port.{Port}
 use Rattle.leg_items.specs.declared.inlets.LegInlet.{LegInlet}
 use Rattle.leg_items.specs.Feds.{Asked}
@@ -17,7 +18,7 @@ use Rattle.mixer_turn.specs.Making.{pts_at}
 use Rattle.bridge_run.specs.declared.mixed.MixFault.{MixFault}
 use Rattle.bridge_run.specs.declared.mixed.MixFault.TheVariants.{Open, Dump, TooLong, NoMemory}
 use Rattle.bridge_run.specs.declared.mixed.Mixed.{Mixed}
-use Rattle.bridge_run.specs.Mixes.{outputs_of}
+use Rattle.bridge_run.specs.Mixes.{counted, outputs_of}
 
 -- what the leg j is asked for, where the inputs have these octets
 abbrev pub asked_of : Conf → List (List ℕ) → ℕ → Asked
@@ -27,9 +28,14 @@ asked_of c inputs j = record {
   octets = input_at inputs j;
 }
 
+-- These are the views, the outputs and the numbers of a conference whose inputs have these octets.
+pub record AreMixed (c : Conf) (inputs : List (List ℕ)) (mixed : Mixed) : Type 0 where
+  pub makes : mixes c inputs ≡ Makes mixed.views (outputs_of c.legs mixed.outs.items)
+  pub sums : sums_mixed c inputs ≡ Some (counted mixed)
+
 -- it is what a conference comes to whose inputs have these octets
 abbrev pub MixesTo : Conf → List (List ℕ) → Result Mixed MixFault → Type 0
-MixesTo c inputs (Ok mixed) = mixes c inputs ≡ Makes mixed.views (outputs_of c.legs mixed.outs.items)
+MixesTo c inputs (Ok mixed) = AreMixed c inputs mixed
 MixesTo c inputs (Err (Open leg)) = ⊥
 MixesTo c inputs (Err (Dump leg fault)) =
     is_of_source fault.kind ≡ false → mixes c inputs ≡ Refuses (leg + 1) (AtByte fault.offset fault.kind)

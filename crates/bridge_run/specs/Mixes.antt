@@ -9,6 +9,7 @@ use Rattle.mixer_spec.specs.Setups.{leg_at}
 use Rattle.command_spec.specs.declared.faults.Refusal.TheVariants.{AtByte, AfterTurns}
 use Rattle.command_spec.specs.Work.{Contents, Made, Steps, Refuses, Makes}
 use Rattle.command_spec.specs.Mixing.{mixes}
+use Rattle.command_spec.specs.Sums.{Sums, sums_mixed}
 use Rattle.bridge_run.specs.declared.mixed.MixFault.{MixFault}
 use Rattle.bridge_run.specs.declared.mixed.MixFault.TheVariants.{Open, Dump, TooLong, NoMemory}
 use Rattle.bridge_run.specs.declared.mixed.Mixed.{Mixed}
@@ -40,10 +41,15 @@ outputs_of [] more = []
 outputs_of (leg ∷ legs) [] = []
 outputs_of (leg ∷ legs) (octets ∷ more) = record { name = leg.output; octets = octets } ∷ outputs_of legs more
 
--- the views and the outputs
+-- the sums over all terminals
+abbrev pub counted : Mixed → Sums
+counted mixed = record { packets = mixed.packets; used = mixed.used; marks = mixed.marks }
+
+-- the views, the outputs and the sums
 pub record IsMade (held : Contents) (c : Conf) (mixed : Mixed) : Type 0 where
   pub lie : AllLie held c.legs
   pub makes : steps_of held c ≡ Makes mixed.views (outputs_of c.legs mixed.outs.items)
+  pub sums : sums_mixed c (inputs_under held c.legs) ≡ Some (counted mixed)
 
 -- the input of a leg is refused at the byte of this fault, or its source failed
 pub record IsBroken (Told : Type 0) (Object : List ℕ → Type 0) (held : Contents) (c : Conf) (number : ℕ) (leg : LegLine) (fault : DumpFault) : Type 0 where

@@ -9,6 +9,7 @@ use Rattle.leg_items.specs.declared.inlets.LegInlet.{LegInlet}
 use Rattle.leg_items.specs.Feds.{IsNewLeg}
 use Rattle.leg_items.specs.Answers.{source_at}
 use Rattle.mixer_spec.specs.Setups.{leg_at}
+use Rattle.command_spec.specs.Mixing.{input_at}
 use Rattle.bridge_run.specs.Mixes.{LieBelow}
 use Rattle.bridge_run.specs.declared.mixed.MixFault.{MixFault}
 use Rattle.bridge_run.specs.declared.mixed.MixFault.TheVariants.{Open, Dump, TooLong, NoMemory}
@@ -22,6 +23,17 @@ module _ {S : Type 0} where
   abbrev pub AreCalm : (S → ℕ) → List (Port (LegInlet S)) → Type 0
   AreCalm faults [] = Unit {0}
   AreCalm faults (p ∷ ps) = (faults (source_at p) ≡ 0) × AreCalm faults ps
+
+  -- The port of the leg j over a source that holds these octets, where it tells what it holds.
+  pub record IsOver (tells : Type 0) (left : S → List ℕ) (wait limit j : ℕ) (leg : LegLine) (octets : List ℕ) (p : Port (LegInlet S)) : Type 0 where
+    pub new : IsNewLeg p.inlet.leg leg.stay p
+    pub place : place_of p.inlet.leg ≡ j
+    pub told : tells → Stands left p.inlet.leg (begins (ear_of wait j leg) limit octets)
+
+  -- the ports of these legs, in order, over these inputs
+  abbrev pub AllOver : Type 0 → (S → List ℕ) → ℕ → ℕ → List LegLine → List (List ℕ) → List (Port (LegInlet S)) → Type 0
+  AllOver tells left wait limit legs inputs ps = (j : ℕ) (p : Port (LegInlet S)) → slice_get ps j ≡ Some p
+      → (leg : LegLine) × (leg_at legs j ≡ Some leg) × IsOver tells left wait limit j leg (input_at inputs j) p
 
   -- The port of the leg j over its input. Where sources tell what they hold, it holds the octets under its name.
   pub record IsOpened (tells : Type 0) (left : S → List ℕ) (faults : S → ℕ) (name_of : S → List ℕ) (contents : List ℕ → Option (List ℕ)) (wait limit j : ℕ) (leg : LegLine) (p : Port (LegInlet S)) : Type 0 where

@@ -1,11 +1,17 @@
 -- What is seen at the terminals of a conference, by what was sent to each (profile).
-use Rattle.std.specs.Prelude.{ℕ, ◌<◌, List, [], length, map, remove, slice_index_or, IsTrue, All, if◌then◌else◌}
+use Rattle.std.specs.Prelude.{◌≡◌, ℕ, ◌+◌, ◌*◌, ◌^◌, ◌<◌, ◌≤◌, List, [], ◌++◌, length, map, remove, slice_index_or, IsTrue, All, if◌then◌else◌}
+use Rattle.std.specs.List.{sum_by}
+use Rattle.text_spec.specs.declared.counts.Counts.{Counts}
 use Rattle.file_spec.specs.declared.conf_lines.LegLine.{LegLine}
 use Rattle.file_spec.specs.Conf.{Conf, is_name}
 use Rattle.mixer_spec.specs.Table.{Table}
-use Rattle.command_spec.specs.Seen.{aware_seen, unaware_seen}
+use Rattle.command_spec.specs.Seen.{aware_seen, counts_at, unaware_seen}
 use Rattle.command_spec.specs.Mixing.{came, reception_of, records_to, speaker_of}
+use Rattle.command_spec.specs.Sums.{Sums, markers_at, sources_of}
 use Rattle.played.specs.Written.{IsWrittenOf}
+use Rattle.terminal.specs.declared.terminals.Terminal.{Terminal}
+use Rattle.terminal.specs.Terminals.{counts_of, texts_of}
+use Rattle.bridge_run.specs.declared.views.Seen.{Seen}
 
 -- each leg has a name
 abbrev pub AreNamed : List LegLine → Type 0
@@ -21,3 +27,45 @@ view_from c j leg records =
     if leg.aware
     then aware_seen (reception_of c leg) leg.name (map speaker_of (remove c.legs j)) (came c.plan j records)
     else unaware_seen (reception_of c leg) leg.name c.mixer.ssrc (came c.plan j records)
+
+-- what is counted there
+abbrev pub counts_from : Conf → ℕ → LegLine → List (ℕ × List ℕ) → Counts
+counts_from c j leg records = counts_at (reception_of c leg) (came c.plan j records)
+
+-- and how many markers are heard there
+abbrev pub markers_from : Conf → ℕ → LegLine → List (ℕ × List ℕ) → ℕ
+markers_from c j leg records = sum_by (markers_at (reception_of c leg) (came c.plan j records)) (sources_of c j leg)
+
+-- the view of this terminal was appended, and its numbers were added
+pub record Adds (c : Conf) (j : ℕ) (leg : LegLine) (records : List (ℕ × List ℕ)) (old new : Seen) : Type 0 where
+  pub views : new.views ≡ old.views ++ view_from c j leg records
+  pub packets : new.packets ≡ old.packets + (counts_from c j leg records).packets
+  pub used : new.used ≡ old.used + (counts_from c j leg records).used
+  pub marks : new.marks ≡ old.marks + markers_from c j leg records
+
+-- ---- the numbers
+-- all markers that were heard at a terminal
+abbrev pub marks_of : Terminal → ℕ
+marks_of t = sum_by (λ text. text.marks) (texts_of t)
+
+-- A terminal's numbers were added.
+pub record AddsCounts (t : Terminal) (old new : Seen) : Type 0 where
+  pub views : new.views ≡ old.views
+  pub packets : new.packets ≡ old.packets + (counts_of t).packets
+  pub used : new.used ≡ old.used + (counts_of t).used
+  pub marks : new.marks ≡ old.marks + marks_of t
+
+-- Few packets came to it, and it has few sources. No number of it is greater.
+pub record HasFew (t : Terminal) : Type 0 where
+  pub packets : (counts_of t).packets < 2 ^ 40
+  pub used : (counts_of t).used < 2 ^ 40
+  pub marks : marks_of t < 2 ^ 46
+
+-- These are the numbers of at most so many such terminals.
+pub record AreOf (n : ℕ) (seen : Seen) : Type 0 where
+  pub packets : seen.packets ≤ n * 2 ^ 40
+  pub used : seen.used ≤ n * 2 ^ 40
+  pub marks : seen.marks ≤ n * 2 ^ 46
+
+abbrev pub summed : Seen → Sums
+summed seen = record { packets = seen.packets; used = seen.used; marks = seen.marks }

@@ -1,30 +1,33 @@
 //! A conference is mixed.
-ghost use Rattle.std.specs.Prelude.{◌≡◌, ◌<◌, ◌≤◌, ℕ, Err, List, All, length, slice_get, IfOk, IfErr};
+ghost use Rattle.std.specs.Prelude.{◌≡◌, ◌<◌, ◌≤◌, ℕ, false, Err, List, All, length, slice_get, IfOk, IfErr};
 ghost use Rattle.wire_spec.specs.declared.faults.DumpKind.{DumpKind};
 ghost use Rattle.rtt_io.specs.Counts.{Rose};
 ghost use Rattle.rtpdump_io.specs.declared.items.DumpFault.{DumpFault};
+ghost use Rattle.rtpdump_io.specs.Reading.{is_of_source};
 ghost use Rattle.mixer_spec.specs.Setups.{setup};
 ghost use Rattle.mixer_spec.specs.Bridged.{input_limit};
 ghost use Rattle.mixer_spec.specs.Table.{Table};
 ghost use Rattle.conf_text.specs.Lines.{conf_of};
 ghost use Rattle.command_spec.specs.Outcomes.{Same};
 ghost use Rattle.command_spec.specs.Mixing.{views};
+ghost use Rattle.command_spec.specs.Sums.{sums};
 ghost use Rattle.mix_loop.specs.declared.ports.Port.{Port};
 ghost use Rattle.leg_items.specs.declared.inlets.LegInlet.{LegInlet};
 ghost use Rattle.leg_items.specs.Answers.{AllAsked, AllStayAs, AreNew, source_at};
 ghost use Rattle.played.specs.Written.{IsWritten};
 ghost use Rattle.bridge_run.specs.Answered.{AreKept, IsOfLegs, MixesTo, asked_of, broken_leg};
-ghost use Rattle.bridge_run.specs.Mixes.{IsMade, RoseAt, Stops};
+ghost use Rattle.bridge_run.specs.Mixes.{IsMade, RoseAt, Stops, counted};
 ghost use Rattle.bridge_run.specs.Viewed.{AreSent};
 
 use crate::loggers::Logged;
-use crate::ports::{close_ports, close_ports_after_fault, open_ports};
+use crate::ports::{close_ports, close_ports_after_fault, held_ports, open_ports};
 use crate::views::{Seen, views_of};
 use crate::{MixFault, Mixed};
 use conf_text::Conf;
 use leg_items::{LegInlet, mix_plain};
 use mix_loop::{Log, Mixing, Port};
 use mixer_spec::limits::MOST_INPUT_OF_MANY;
+use rtt_base::Bytes;
 use rtt_io::{Gate, Source, World};
 use std::alloc::Global;
 use std::sync::Wait;
@@ -46,6 +49,7 @@ fn made(alloc: Global, conf: &Conf, log: Log) -> Result<Mixed, MixFault>
     requires legs { length log ≡ length conf.now.legs }
     requires written { All IsWritten log }
     ensures views { IfOk result (λ mixed. (table : Table) → AreSent (conf_of conf.now) table log → mixed.views ≡ views (conf_of conf.now) table) }
+    ensures sums { IfOk result (λ mixed. (table : Table) → AreSent (conf_of conf.now) table log → counted mixed ≡ sums (conf_of conf.now) table) }
     ensures outs { IfOk result (λ mixed. mixed.outs.items ≡ log) }
     ensures fault { IfErr result (λ fault. fault ≡ MixFault.NoMemory) }
 {
@@ -110,6 +114,27 @@ fn broken_leg(mixed: &Result<Mixed, MixFault>) -> Option<u8>
         Err(MixFault::Dump { leg, fault: _ }) => Some(*leg),
         _ => None,
     }
+}
+
+/// Mixes a conference whose inputs have these octets, one for each leg, in leg order. They are held in memory, and no reading
+/// of them fails.
+pub fn mix_held<R: Wait, G: Gate>(
+    rt: &R,
+    alloc: Global,
+    conf: &Conf,
+    inputs: Vec<Bytes>,
+    gate: &G,
+) -> Result<Mixed, MixFault>
+    requires { length inputs.items ≡ length conf.now.legs }
+    ensures mixes { MixesTo (conf_of conf.now) inputs.items result }
+    ensures read { (leg : ℕ) (fault : DumpFault) → result ≡ Err (MixFault.Dump leg fault) → is_of_source fault.kind ≡ false }
+    ensures outs { IfOk result (λ mixed. length mixed.outs.items ≡ length conf.now.legs) }
+{
+    let limit = input_limit(conf);
+    let Ok(mut ports) = held_ports(alloc, conf.legs.as_slice(), conf.wait, limit, inputs) else {
+        return Err(MixFault::NoMemory);
+    };
+    mix_opened(rt, alloc, conf, &mut ports, gate)
 }
 
 /// Mixes a conference over the recordings under the names of its inputs. They are opened in leg order, and each is handed back.

@@ -4,18 +4,46 @@ ghost use Rattle.rtt_io.specs.Counts.{Rose};
 ghost use Rattle.mix_loop.specs.declared.ports.Port.{Port};
 ghost use Rattle.leg_items.specs.declared.inlets.LegInlet.{LegInlet};
 ghost use Rattle.leg_items.specs.Answers.{source_at};
-ghost use Rattle.bridge_run.specs.Opened.{AllOpened, AreCalm, IsNotOpened, IsOpened, IsRefused};
+ghost use Rattle.bridge_run.specs.Opened.{AllOpened, AllOver, AreCalm, IsNotOpened, IsOpened, IsOver, IsRefused};
 ghost use Rattle.rtt_base.specs.declared.limits.TheConstants.{LONGEST_WAIT};
 ghost use Rattle.wire_spec.specs.declared.limits.TheConstants.{MOST_RECORDING_OCTETS};
 
 use crate::MixFault;
 use ear::EarConf;
 use file_spec::LegLine;
-use leg_core::Leg;
+use leg_core::{Leg, LegLost};
 use leg_items::{LegInlet, leg_port};
 use mix_loop::Port;
-use rtt_io::World;
+use rtt_base::{Bytes, NoMemory};
+use rtt_io::{Source, SteadySource, World};
 use std::alloc::Global;
+
+/// The port of the leg with this number over this source, which is lost where memory runs out.
+fn port_over<S: Source>(
+    alloc: Global,
+    leg: &LegLine,
+    place: u8,
+    wait: u32,
+    limit: u32,
+    source: S,
+) -> Result<Port<LegInlet<S>>, LegLost<S>>
+    requires wait { wait ≤ LONGEST_WAIT }
+    requires limit { limit ≤ MOST_RECORDING_OCTETS }
+    ensures over { IfOk result (IsOver S.tells S.left wait limit place leg.now (S.left source)) }
+    ensures source { IfOk result (λ port. source_at port ≡ source) }
+    ensures lost { IfErr result (λ lost. lost.source ≡ source) }
+{
+    let conf = EarConf {
+        place,
+        ssrc: leg.ssrc,
+        pts: leg.pts,
+        wait: u64::from(wait),
+    };
+    match Leg::with_limit(alloc, source, conf, limit) {
+        Ok(opened) => Ok(leg_port(opened, leg.stay)),
+        Err(lost) => Err(lost),
+    }
+}
 
 /// Opens the input of the leg with this number. Its source is handed back where memory runs out.
 fn open_port<W: World>(
@@ -39,14 +67,8 @@ fn open_port<W: World>(
     let Ok(source) = world.open_source(leg.input.as_str()) else {
         return Err(MixFault::Open { leg: place });
     };
-    let conf = EarConf {
-        place,
-        ssrc: leg.ssrc,
-        pts: leg.pts,
-        wait: u64::from(wait),
-    };
-    match Leg::with_limit(alloc, source, conf, limit) {
-        Ok(opened) => Ok(leg_port(opened, leg.stay)),
+    match port_over(alloc, leg, place, wait, limit, source) {
+        Ok(port) => Ok(port),
         Err(lost) => {
             world.done_src(lost.source);
             Err(MixFault::NoMemory)
@@ -85,6 +107,33 @@ pub fn open_ports<W: World>(
                 close_ports(ports, world);
                 return Err(fault);
             }
+        }
+    }
+    Ok(ports)
+}
+
+/// The ports of these legs, in leg order, over inputs of these octets, of which each may have at most `limit` octets.
+pub fn held_ports(
+    alloc: Global,
+    legs: &[LegLine],
+    wait: u32,
+    limit: u32,
+    inputs: Vec<Bytes>,
+) -> Result<Vec<Port<LegInlet<SteadySource>>>, NoMemory>
+    requires each { length inputs.items ≡ length legs.now }
+    requires few { length legs.now ≤ 64 }
+    requires wait { wait ≤ LONGEST_WAIT }
+    requires limit { limit ≤ MOST_RECORDING_OCTETS }
+    ensures legs { IfOk result (λ ports. length ports.items ≡ length legs.now) }
+    ensures over { IfOk result (λ ports. AllOver ⟦<SteadySource as Source>⟧.tells ⟦<SteadySource as Source>⟧.left wait limit legs.now inputs.items ports.items) }
+{
+    let mut ports = Vec::with_capacity(alloc, legs.len())?;
+    for octets in inputs {
+        let place = ports.len();
+        let source = SteadySource::new(octets);
+        match port_over(alloc, &legs[place], place as u8, wait, limit, source) {
+            Ok(port) => ports.push_reserved(port),
+            Err(_) => return Err(NoMemory),
         }
     }
     Ok(ports)

@@ -1,12 +1,13 @@
 //! What is seen at the terminals of a conference.
-ghost use Rattle.std.specs.Prelude.{◌≡◌, ℕ, ◌<◌, List, [], ◌++◌, length, map, remove, slice_index_or, false, true, IsTrue, All, IfOk, OnOk};
+ghost use Rattle.std.specs.Prelude.{◌≡◌, ℕ, ◌+◌, ◌^◌, ◌<◌, List, [], ◌++◌, length, map, remove, slice_index_or, false, true, IsTrue, All, IfOk, OnOk};
 ghost use Rattle.file_spec.specs.declared.conf_lines.LegLine.{LegLine};
 ghost use Rattle.file_spec.specs.Conf.{is_name};
 ghost use Rattle.mixer_spec.specs.Table.{Table};
 ghost use Rattle.conf_text.specs.Lines.{conf_of};
 ghost use Rattle.command_spec.specs.Mixing.{views};
+ghost use Rattle.command_spec.specs.Sums.{sums};
 ghost use Rattle.played.specs.Written.{IsWritten, IsWrittenOf};
-ghost use Rattle.bridge_run.specs.Viewed.{AreNamed, AreSent, view_from};
+ghost use Rattle.bridge_run.specs.Viewed.{Adds, AreNamed, AreOf, AreSent, AddsCounts, HasFew, marks_of, summed};
 
 use conf_text::{Conf, LegLine};
 use played::played;
@@ -87,16 +88,29 @@ fn conf_at(conf: &Conf, leg: &LegLine) -> TermConf
     }
 }
 
+/// How many markers were heard at a terminal, over all its sources.
+fn marks_of(terminal: &Terminal) -> u64
+    requires { marks_of terminal.now < 2 ^ 46 }
+    ensures { result ≡ marks_of terminal.now }
+{
+    let mut marks = 0;
+    for text in terminal.heard() {
+        marks += text.marks;
+    }
+    marks
+}
+
 /// Adds what a terminal counted.
 fn count(terminal: &Terminal, seen: &mut Seen)
-    ensures { seen.new.views ≡ seen.old.views }
+    requires few { HasFew terminal.now }
+    requires before { (n : ℕ) × (n < 64) × AreOf n seen.old }
+    ensures adds { AddsCounts terminal.now seen.old seen.new }
+    ensures with_it { (n : ℕ) → AreOf n seen.old → AreOf (n + 1) seen.new }
 {
     let counts = terminal.counts();
-    seen.packets = seen.packets.saturating_add(counts.packets);
-    seen.used = seen.used.saturating_add(counts.used);
-    for text in terminal.heard() {
-        seen.marks = seen.marks.saturating_add(text.marks);
-    }
+    seen.packets += counts.packets;
+    seen.used += counts.used;
+    seen.marks += marks_of(terminal);
 }
 
 /// Appends what is seen at an aware terminal, to which this recording was sent.
@@ -109,7 +123,9 @@ fn append_aware(
 ) -> Result<(), NoMemory>
     requires own { own < length conf.now.legs }
     requires written { IsWritten recording.now }
-    ensures { OnOk result ((records : List (ℕ × List ℕ)) (d : LegLine) → (slice_index_or conf.now.legs own d).aware ≡ true → IsWrittenOf recording.now records → seen.new.views ≡ seen.old.views ++ view_from (conf_of conf.now) own (slice_index_or conf.now.legs own d) records) }
+    requires before { AreOf own seen.old }
+    ensures adds { OnOk result ((records : List (ℕ × List ℕ)) (d : LegLine) → (slice_index_or conf.now.legs own d).aware ≡ true → IsWrittenOf recording.now records → Adds (conf_of conf.now) own (slice_index_or conf.now.legs own d) records seen.old seen.new) }
+    ensures with_it { OnOk result (AreOf (own + 1) seen.new) }
 {
     let leg = &conf.legs.as_slice()[own];
     let speakers = others(alloc, conf.legs.as_slice(), own)?;
@@ -136,7 +152,9 @@ fn append_unaware(
 ) -> Result<(), NoMemory>
     requires own { own < length conf.now.legs }
     requires written { IsWritten recording.now }
-    ensures { OnOk result ((records : List (ℕ × List ℕ)) (d : LegLine) → (slice_index_or conf.now.legs own d).aware ≡ false → IsWrittenOf recording.now records → seen.new.views ≡ seen.old.views ++ view_from (conf_of conf.now) own (slice_index_or conf.now.legs own d) records) }
+    requires before { AreOf own seen.old }
+    ensures adds { OnOk result ((records : List (ℕ × List ℕ)) (d : LegLine) → (slice_index_or conf.now.legs own d).aware ≡ false → IsWrittenOf recording.now records → Adds (conf_of conf.now) own (slice_index_or conf.now.legs own d) records seen.old seen.new) }
+    ensures with_it { OnOk result (AreOf (own + 1) seen.new) }
 {
     let leg = &conf.legs.as_slice()[own];
     let terminal = played(
@@ -162,7 +180,9 @@ fn append_view(
 ) -> Result<(), NoMemory>
     requires own { own < length conf.now.legs }
     requires written { IsWritten recording.now }
-    ensures { OnOk result ((records : List (ℕ × List ℕ)) (d : LegLine) → IsWrittenOf recording.now records → seen.new.views ≡ seen.old.views ++ view_from (conf_of conf.now) own (slice_index_or conf.now.legs own d) records) }
+    requires before { AreOf own seen.old }
+    ensures adds { OnOk result ((records : List (ℕ × List ℕ)) (d : LegLine) → IsWrittenOf recording.now records → Adds (conf_of conf.now) own (slice_index_or conf.now.legs own d) records seen.old seen.new) }
+    ensures with_it { OnOk result (AreOf (own + 1) seen.new) }
 {
     if conf.legs.as_slice()[own].aware {
         append_aware(alloc, conf, own, recording, seen)
@@ -175,7 +195,8 @@ fn append_view(
 pub fn views_of(alloc: Global, conf: &Conf, outs: &[Bytes]) -> Result<Seen, NoMemory>
     requires each { length outs.now ≡ length conf.now.legs }
     requires written { All (λ out. IsWritten out) outs.now }
-    ensures { IfOk result (λ seen. (table : Table) → AreSent (conf_of conf.now) table outs.now → seen.views ≡ views (conf_of conf.now) table) }
+    ensures views { IfOk result (λ seen. (table : Table) → AreSent (conf_of conf.now) table outs.now → seen.views ≡ views (conf_of conf.now) table) }
+    ensures sums { IfOk result (λ seen. (table : Table) → AreSent (conf_of conf.now) table outs.now → summed seen ≡ sums (conf_of conf.now) table) }
 {
     let mut seen = Seen {
         views: Bytes::new(alloc),

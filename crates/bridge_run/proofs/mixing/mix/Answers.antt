@@ -3,7 +3,6 @@ use Rattle.std.specs.Prelude.{slice_get}
 use Rattle.std.proofs.lemmas.List.{with_items_is}
 use Rattle.rtt_io.specs.Counts.{Rose}
 use Rattle.file_spec.specs.declared.conf_lines.LegLine.{LegLine}
-use Rattle.mixer_spec.specs.Bridged.{input_limit}
 use Rattle.mixer_spec.specs.Setups.{setup}
 use Rattle.conf_text.specs.Lines.{conf_of}
 use Rattle.mix_loop.specs.declared.ports.Port.{Port}

@@ -1,17 +1,10 @@
-use Rattle.std.proofs.Common.{◌≡◌, ℕ, Result, Ok, Err, length, sym, ap, subst, ◌∙◌}
+use Rattle.std.proofs.Common.{Result, Ok, Err, length, sym, ap, ◌∙◌}
 use Rattle.std.specs.Prelude.{IfOk}
-use Rattle.rtpdump_io.specs.declared.items.DumpFault.{DumpFault}
 use Rattle.mixer_spec.specs.Setups.{setup}
 use Rattle.conf_text.specs.Lines.{conf_of}
-use Rattle.mix_loop.specs.declared.turns.Mixing.{Mixing}
 use Rattle.mix_loop.specs.declared.turns.Mixing.TheVariants as mixing
-use Rattle.mix_loop.specs.Mixers.{Of}
 use Rattle.mixer_turn.specs.Making.{pts_at}
-use Rattle.bridge_run.specs.declared.loggers.Logged.{Logged}
-use Rattle.bridge_run.specs.declared.mixed.MixFault.{MixFault}
 use Rattle.bridge_run.specs.declared.mixed.MixFault.TheVariants.{Dump, TooLong, NoMemory}
-use Rattle.bridge_run.specs.declared.mixed.Mixed.{Mixed}
-use Rattle.bridge_run.specs.Loggers.{LogsFor}
 use Rattle.bridge_run.proofs.Recorded.{all_sent, all_written}
 use Rattle.bridge_run.proofs.Answering.{all_kept, broken_refuses, is_answer, no_dump, over_mixes, too_long_refuses}
 use Rattle.bridge_run.proofs.mixing.mix_opened.Goals as goal
@@ -35,7 +28,7 @@ returns-in-Over-clause-mixes g c = λ tells inputs count asks.
     over_mixes conf inputs count c.made.result x.table c.mix_plain.new.log many
     (is_answer _ g.S.Source.tells g.S.Source.left g.S.Source.faults g.S.Source.name conf c.from-tick.result c.from-turns.result c.mix_plain.result c.args.ports.now c.mix_plain.new.ports c.mix_plain.new.mixer c.mix_plain.new.log
     x c.from-tick.ensures c.from-turns.ensures mixing.Over c.in-Over.is tells inputs asks)
-    (x.logged c.in-Over.is) (if_ok c.made.result _ _ (λ mixed f. f x.table sent) c.made.ensures.views) c.made.ensures.outs c.made.ensures.fault
+    (x.logged c.in-Over.is) (if_ok c.made.result _ _ (λ mixed f. f x.table sent) c.made.ensures.views) (if_ok c.made.result _ _ (λ mixed f. f x.table sent) c.made.ensures.sums) c.made.ensures.outs c.made.ensures.fault
 
 pub returns-in-Over-clause-outs : goal.returns-in-Over-clause-outs
 returns-in-Over-clause-outs g c =

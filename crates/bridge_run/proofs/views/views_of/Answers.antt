@@ -1,9 +1,8 @@
-use Rattle.std.proofs.Common.{◌≡◌, ◌<◌, ℕ, List, [], ◌++◌, length, get_or, sym, ◌∙◌, ap, subst, arith}
+use Rattle.std.proofs.Common.{◌≡◌, ◌<◌, ℕ, List, [], length, get_or, refl, sym, ◌∙◌, subst, arith}
 use Rattle.conf_text.specs.Lines.{conf_of}
 use Rattle.command_spec.specs.Mixing.{records_to}
 use Rattle.played.specs.Written.{IsWritten, IsWrittenOf}
-use Rattle.bridge_run.specs.Viewed.{view_from}
-use Rattle.bridge_run.proofs.Viewing.{no_leg, same_default, views_more, views_all}
+use Rattle.bridge_run.proofs.Viewing.{no_leg, same_default, seen_more, sums_all, views_all}
 use Rattle.bridge_run.proofs.views.views_of.Goals as goal
 
 pub append_view-requires-clause-written : goal.append_view-requires-clause-written
@@ -11,8 +10,14 @@ append_view-requires-clause-written c =
     let below : c.loop-own.own < length c.args.outs.now = omega arith in
     subst IsWritten (sym (c.as_slice.ensures ∙ c.index-outs-own.is)) (c.requires.written c.loop-own.own c.index-outs-own.result below)
 
+pub loop-own-init : goal.loop-own-init
+loop-own-init c = record {
+  seen = λ table a. record { views = c.new.ensures; packets = refl; used = refl; marks = refl };
+  numbers = record { packets = omega arith; used = omega arith; marks = omega arith };
+}
+
 pub loop-own-preserved : goal.loop-own-preserved
-loop-own-preserved c = λ table a.
+loop-own-preserved c =
     let q = conf_of c.args.conf.now in
     let own = c.loop-own.own in
     let below : own < length c.args.outs.now = omega arith in
@@ -20,8 +25,14 @@ loop-own-preserved c = λ table a.
     let d = no_leg in
     let leg = get_or c.args.conf.now.legs own d in
     let lies : c.as_slice.result.now ≡ get_or c.args.outs.now own [] = c.as_slice.ensures ∙ (c.index-outs-own.is ∙ same_default c.args.outs.now own c.index-outs-own.result [] below) in
-    c.in_ok-append_view.ensures (records_to q table own leg) d (subst (λ (x : List ℕ). IsWrittenOf x (records_to q table own leg)) (sym lies) (a own d within))
-    ∙ (ap (λ (xs : List ℕ). xs ++ view_from q own leg (records_to q table own leg)) (c.loop-own.invariant table a) ∙ sym (views_more q table own d within))
+    record {
+      seen = λ table a. seen_more q table own d c.loop-own.seen c.append_view.new.seen within (c.loop-own.invariant.seen table a)
+          (c.in_ok-append_view.ensures.adds (records_to q table own leg) d (subst (λ (x : List ℕ). IsWrittenOf x (records_to q table own leg)) (sym lies) (a own d within)));
+      numbers = c.in_ok-append_view.ensures.with_it;
+    }
 
-pub returns : goal.returns
-returns c = λ table a. c.loop-own.invariant table a ∙ views_all (conf_of c.args.conf.now) table c.loop-own.own (omega (arith, c.loop-own-test.false, c.requires.each))
+pub returns-clause-views : goal.returns-clause-views
+returns-clause-views c = λ table a. views_all (conf_of c.args.conf.now) table c.loop-own.own c.loop-own.seen (omega (arith, c.loop-own-test.false, c.requires.each)) (c.loop-own.invariant.seen table a)
+
+pub returns-clause-sums : goal.returns-clause-sums
+returns-clause-sums c = λ table a. sums_all (conf_of c.args.conf.now) table c.loop-own.own c.loop-own.seen (omega (arith, c.loop-own-test.false, c.requires.each)) (c.loop-own.invariant.seen table a)
