@@ -1,12 +1,11 @@
 -- What a feed takes of its leg and hands over.
-use Rattle.std.proofs.Common.{◌≡◌, ℕ, Bool, true, false, true≢false, not, ◌&&◌, List, [], ◌∷◌, ◌++◌, refl, ap, sym, ◌∙◌, subst, append_assoc}
+use Rattle.std.proofs.Common.{◌≡◌, ℕ, Bool, true, false, true≢false, not, ◌&&◌, List, [], ◌++◌, refl, ap, sym, ◌∙◌, subst, append_assoc}
 use Rattle.std.proofs.lemmas.Bool.{and_parts}
 use Rattle.std.proofs.lemmas.List.{append-nil}
 use Rattle.file_spec.specs.declared.conf_lines.Stay.{Stay}
 use Rattle.stream_spec.specs.Ready.{Chunk, chunk_of}
 use Rattle.leg_core.specs.declared.legs.Leg.{Leg}
 use Rattle.leg_core.specs.Gives.{Stands, is_over, place_of}
-use Rattle.mix_loop.specs.declared.items.Item.{Item}
 use Rattle.mix_loop.specs.declared.items.Item.TheVariants as item
 use Rattle.mix_loop.specs.declared.items.Ended.{Ended}
 use Rattle.mix_loop.specs.declared.items.Ended.TheVariants.{Open, AtEnd, AtFault}
@@ -17,7 +16,7 @@ use Rattle.leg_queue.specs.declared.items.Queued.{Queued}
 use Rattle.leg_queue.specs.declared.feeds.Feed.{Feed}
 use Rattle.leg_queue.specs.declared.ends.PopPass.{PopPass}
 use Rattle.leg_queue.specs.Ends.{popped, pushed}
-use Rattle.leg_queue.specs.Items.{AllOf, HasHand, given_of, is_later, items_of, queued_by}
+use Rattle.leg_queue.specs.Items.{HasHand, given_of, is_later, items_of, queued_by}
 use Rattle.leg_queue.specs.Feeds.{AreAll, FeedStands, IsWhole, in_hand, is_done}
 use Rattle.leg_queue.proofs.Giving.{all_given, all_more, is_hand, items_more, no_item}
 

@@ -1,5 +1,5 @@
 -- What a leg gave, and its items.
-use Rattle.std.proofs.Common.{◌≡◌, ℕ, Bool, true, false, true≢false, List, [], ◌∷◌, ◌++◌, map, refl, ap, sym, ◌∙◌, subst, append_assoc}
+use Rattle.std.proofs.Common.{◌≡◌, ℕ, true, false, true≢false, List, [], ◌∷◌, ◌++◌, map, refl, ap, sym, ◌∙◌, append_assoc}
 use Rattle.std.proofs.lemmas.List.{append-nil, map-append}
 use Rattle.std.proofs.lemmas.Str.{IsUtf8-from_is_utf8, is_utf8-from_IsUtf8}
 use Rattle.stream_spec.specs.Ready.{Chunk, chunk}
@@ -7,7 +7,7 @@ use Rattle.mix_loop.specs.declared.items.Item.{Item}
 use Rattle.mix_loop.specs.declared.items.Item.TheVariants as item
 use Rattle.mix_loop.specs.declared.items.Ended.{Ended}
 use Rattle.mix_loop.specs.declared.items.Ended.TheVariants.{Open, AtEnd, AtFault}
-use Rattle.mix_loop.specs.Items.{Gave, IsOf, gave_more, is_open, nothing}
+use Rattle.mix_loop.specs.Items.{Gave, gave_more, is_open, nothing}
 use Rattle.leg_queue.specs.declared.items.Queued.{Queued}
 use Rattle.leg_queue.specs.declared.items.Queued.TheVariants as queued
 use Rattle.leg_queue.specs.Items.{AllOf, HasHand, IsHand, given_from, given_of, is_later, items_of, last_of, queued_by, queued_text, with_item}

@@ -1,5 +1,5 @@
 -- What a clause says of a leg at its queue.
-use Rattle.std.specs.Prelude.{◌≡◌, ℕ, Bool, true, false, None, List, [], ◌∷◌, ◌++◌, ◌&&◌}
+use Rattle.std.specs.Prelude.{◌≡◌, ℕ, Bool, true, false, None, List, [], ◌++◌, ◌&&◌}
 use Rattle.stream_spec.specs.Ready.{Chunk, chunk_of}
 use Rattle.file_spec.specs.declared.conf_lines.Stay.{Stay}
 use Rattle.rtpdump_io.specs.Reading.{IsFaultOf}

@@ -1,6 +1,6 @@
-ghost use Rattle.std.specs.Prelude.{◌≡◌, Bool, IfOk, [], List};
+ghost use Rattle.std.specs.Prelude.{◌≡◌, Bool, IfOk};
 ghost use Rattle.leg_core.specs.Gives.{is_over, place_of};
-ghost use Rattle.leg_queue.specs.Ends.{IsPopOf, IsPushOf, pushed};
+ghost use Rattle.leg_queue.specs.Ends.{IsPopOf, IsPushOf};
 
 use crate::{Feed, LegQueue, PopPass, PushPass, run_feed};
 use ear::EarConf;
@@ -16,21 +16,28 @@ use std::sync::atomic::AtomicBool;
 use std::test::Fail;
 use wire_spec::DumpKind;
 
-// Pushes texts x, ready at 0, 1 and so on, until one is not taken or so many were. The answer is how many were taken.
-fn fill<R: Wait>(rt: &R, queue: &LegQueue, pass: &mut PushPass, most: u64) -> u64
+// Whether a text x of leg 5 is taken, ready at this moment.
+fn takes_text<R: Wait>(rt: &R, queue: &LegQueue, pass: &mut PushPass, ready: u64) -> bool
     requires { IsPushOf queue.now pass.old }
     ensures { IsPushOf queue.now pass.new }
 {
     let mut text = Text::new();
     text.push(b'x');
-    let mut chunk = Chunk {
+    let chunk = Chunk {
         source: 5,
-        ready: 0,
+        ready,
         text,
     };
+    queue.push(rt, pass, Item::Chunk, &chunk).is_ok()
+}
+
+// Pushes texts x, ready at 0, 1 and so on, until one is not taken or so many were. The answer is how many were taken.
+fn fill<R: Wait>(rt: &R, queue: &LegQueue, pass: &mut PushPass, most: u64) -> u64
+    requires { IsPushOf queue.now pass.old }
+    ensures { IsPushOf queue.now pass.new }
+{
     for ready in 0..most {
-        chunk.ready = ready;
-        if queue.push(rt, pass, Item::Chunk, &chunk).is_err() {
+        if !takes_text(rt, queue, pass, ready) {
             return ready;
         }
     }

@@ -9,7 +9,7 @@ returns-clause-follows g c = λ first s.
     let Has : Feed _ → Type 0 = λ f. FeedStands g.S.Source.tells g.S.Source.left g.S.Source.faults g.S.Source.name first f in
     let before : Has c.loop.feed = c.loop.invariant.1 first s in
     elim c.match-next.branch [
-      in-None w ↦ subst Has (sym w.feed-is) before
-    | in-Some+then-done w ↦ subst Has (sym w.feed-is) before
-    | in-Some+else-done+else-load+then-step w ↦ subst Has (sym w.feed-is) (w.step.ensures.follows first before)
+      | in-None w ↦ subst Has (sym w.feed-is) before
+      | in-Some+then-done w ↦ subst Has (sym w.feed-is) before
+      | in-Some+else-done+else-load+then-step w ↦ subst Has (sym w.feed-is) (w.step.ensures.follows first before)
     ]
