@@ -4,14 +4,14 @@ ghost use Rattle.std.specs.List.{concat};
 ghost use Rattle.std.specs.Option.{ForSome};
 ghost use Rattle.wire_spec.specs.Packets.{redundant};
 ghost use Rattle.stream_spec.specs.Numbering.{Numbered};
-ghost use Rattle.stream_spec.specs.Hearing.{heard_by, marker};
+ghost use Rattle.stream_spec.specs.Hearing.{heard_by, marker, oldest_offset};
 ghost use Rattle.source_receiver.specs.Stands.{Stands, used_packet, latest_number};
 ghost use Rattle.source_receiver.specs.Steps.{missing_up_to, is_new_since, is_marked_since, new_since, older_since, told_since};
 ghost use Rattle.source_receiver.specs.Pieces.{left_of};
 ghost use Rattle.source_receiver.specs.Each.{one_if, sources_count, AreHeard};
 
 use crate::{Piece, SourceText};
-use rtt_base::{Bytes, NoMemory, TextBlock, TextPacket, after};
+use rtt_base::{Bytes, NoMemory, Text, TextBlock, TextPacket, after};
 use std::alloc::Global;
 
 /// U+FFFD, which stands where text may be missing (T.140, Addendum 1).
@@ -53,14 +53,20 @@ pub(crate) fn is_new(seen: Option<Seen>, stamp: u32) -> bool
     }
 }
 
+/// The offset of the oldest of these redundant blocks, where there is one.
+fn offset_of(older: &[TextBlock]) -> u16
+    ensures { result ≡ oldest_offset older.now }
+{
+    older.first().map_or(0, |block| block.offset)
+}
+
 /// Whether more numbers are missing than the packet repeats, and its oldest block is new.
 fn is_marked(seen: Option<Seen>, missing: u64, stamp: u32, older: &[TextBlock]) -> bool
     ensures { result ≡ is_marked_since seen missing stamp older.now }
 {
     let before = seen.map_or(0, |seen| seen.missing);
-    let offset = older.first().map_or(0, |block| block.offset);
     missing.saturating_sub(before) > older.len() as u64
-        && is_new(seen, stamp.wrapping_sub(u32::from(offset)))
+        && is_new(seen, stamp.wrapping_sub(u32::from(offset_of(older))))
 }
 
 /// The place of the source among these.
@@ -80,6 +86,14 @@ fn marks(seen: Option<Seen>, missing: u64, packet: &TextPacket) -> bool
     }
 }
 
+/// Appends a text that a packet repeats. Few packets give one, so it is kept out of the way of the others.
+#[inline(never)]
+fn append_repeated(text: &Text, out: &mut Bytes) -> Result<(), NoMemory>
+    ensures { OnOk result (out.new ≡ out.old ++ text.now) }
+{
+    out.append(text.as_slice())
+}
+
 /// Appends the text of a redundant block, where it is new.
 fn append_new(
     seen: Option<Seen>,
@@ -90,7 +104,7 @@ fn append_new(
     ensures { OnOk result (out.new ≡ out.old ++ concat (new_since seen stamp block.now)) }
 {
     if is_new(seen, stamp.wrapping_sub(u32::from(block.offset))) {
-        out.append(block.text.as_slice())?;
+        append_repeated(&block.text, out)?;
     }
     Ok(())
 }
@@ -110,15 +124,25 @@ fn append_older(
     Ok(())
 }
 
-/// Puts a marker, where one stands before the texts, and counts it.
+/// Appends a marker, and counts it.
+#[inline(never)]
+fn append_marker(heard: &mut SourceText) -> Result<(), NoMemory>
+    requires { heard.old.marks + 1 < 2 ^ 64 }
+    ensures text { OnOk result (heard.new.text ≡ heard.old.text ++ marker) }
+    ensures marks { OnOk result (heard.new.marks ≡ heard.old.marks + 1) }
+{
+    heard.marks += 1;
+    heard.text.append(&MARKER)
+}
+
+/// Puts a marker, where one stands before the texts.
 fn put_marker(marked: bool, heard: &mut SourceText) -> Result<(), NoMemory>
     requires { heard.old.marks + 1 < 2 ^ 64 }
     ensures text { OnOk result (heard.new.text ≡ heard.old.text ++ concat (if marked then marker ∷ [] else [])) }
     ensures marks { OnOk result (heard.new.marks ≡ heard.old.marks + one_if marked) }
 {
     if marked {
-        heard.marks += 1;
-        heard.text.append(&MARKER)?;
+        append_marker(heard)?;
     }
     Ok(())
 }
@@ -176,7 +200,7 @@ impl Receiver {
         ensures missing { missing_up_to self.old number ≤ 18446744073709551615 → self.new.missing ≡ missing_up_to self.old number }
     {
         if let Some(latest) = self.latest {
-            self.missing = self.missing.saturating_add(number - latest - 1);
+            self.missing = self.missing.wrapping_add(number - latest - 1);
         }
         self.latest = Some(number);
     }
