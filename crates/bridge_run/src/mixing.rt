@@ -24,13 +24,15 @@ use crate::ports::{close_ports, close_ports_after_fault, held_ports, open_ports}
 use crate::views::{Seen, views_of};
 use crate::{MixFault, Mixed};
 use conf_text::Conf;
-use leg_items::{LegInlet, mix_plain};
+use leg_items::LegInlet;
+use leg_lanes::{Ran, mix_running};
 use mix_loop::{Log, Mixing, Port};
 use mixer_spec::limits::MOST_INPUT_OF_MANY;
 use rtt_base::Bytes;
 use rtt_io::{Gate, Source, World};
 use std::alloc::Global;
 use std::sync::Wait;
+use std::thread::Threads;
 use wire_spec::limits::MOST_RECORDING_OCTETS;
 
 /// The most octets that an input may have.
@@ -72,37 +74,67 @@ fn made(alloc: Global, conf: &Conf, log: Log) -> Result<Mixed, MixFault>
     })
 }
 
-/// Mixes a conference whose inputs are opened.
-fn mix_opened<S: Source, R: Wait, G: Gate>(
+/// How a mixing of opened inputs ended, with their ports.
+struct Answered<S> {
+    mixed: Result<Mixed, MixFault>,
+    ports: Vec<Port<LegInlet<S>>>,
+}
+
+/// Mixes a conference whose inputs are opened, each leg on a thread of its own. All ports come back.
+fn mix_opened<S: Source + Send, R: Threads + Wait + Sync, G: Gate + Sync>(
     rt: &R,
     alloc: Global,
     conf: &Conf,
-    ports: &mut [Port<LegInlet<S>>],
+    ports: Vec<Port<LegInlet<S>>>,
     gate: &G,
-) -> Result<Mixed, MixFault>
-    requires legs { length ports.old ≡ length conf.now.legs }
-    requires new { AreNew ports.old }
-    requires stays { AllStayAs (setup (conf_of conf.now)) ports.old }
+) -> Answered<S>
+    requires legs { length ports.items ≡ length conf.now.legs }
+    requires new { AreNew ports.items }
+    requires stays { AllStayAs (setup (conf_of conf.now)) ports.items }
     ensures mixes { S.tells → (inputs : List (List ℕ)) → length inputs ≡ length conf.now.legs
-        → AllAsked S.left (asked_of (conf_of conf.now) inputs) ports.old → MixesTo (conf_of conf.now) inputs result }
-    ensures outs { IfOk result (λ mixed. length mixed.outs.items ≡ length conf.now.legs) }
-    ensures sources { AreKept S.faults S.name result ports.old ports.new }
-    ensures leg { IsOfLegs (length conf.now.legs) result }
-    ensures legs { length ports.new ≡ length ports.old }
+        → AllAsked S.left (asked_of (conf_of conf.now) inputs) ports.items → MixesTo (conf_of conf.now) inputs result.mixed }
+    ensures outs { IfOk result.mixed (λ mixed. length mixed.outs.items ≡ length conf.now.legs) }
+    ensures sources { AreKept S.faults S.name result.mixed ports.items result.ports.items }
+    ensures leg { IsOfLegs (length conf.now.legs) result.mixed }
+    ensures legs { length result.ports.items ≡ length ports.items }
 {
-    let Ok(mut mixer) = Logged::new(alloc, conf) else {
-        return Err(MixFault::NoMemory);
+    let Ok(mixer) = Logged::new(alloc, conf) else {
+        return Answered {
+            mixed: Err(MixFault::NoMemory),
+            ports,
+        };
     };
-    let Ok(mut log) = Log::new(alloc, ports.len()) else {
-        return Err(MixFault::NoMemory);
+    let Ok(log) = Log::new(alloc, ports.len()) else {
+        return Answered {
+            mixed: Err(MixFault::NoMemory),
+            ports,
+        };
     };
     let tick = u64::from(conf.tick);
     let turns = u64::from(conf.turns);
-    match mix_plain(rt, gate, ports, &mut mixer, tick, turns, &mut log) {
-        Mixing::Over => made(alloc, conf, log),
-        Mixing::TooLong => Err(MixFault::TooLong),
-        Mixing::Faulted { leg, fault } => Err(MixFault::Dump { leg, fault }),
-        Mixing::NoMemory => Err(MixFault::NoMemory),
+    let Ran {
+        mixing,
+        ports,
+        mixer: _,
+        log,
+    } = mix_running(rt, alloc, gate, ports, mixer, tick, turns, log);
+    match mixing {
+        Mixing::Over => Answered {
+            mixed: made(alloc, conf, log),
+            ports,
+        },
+        Mixing::TooLong => Answered {
+            mixed: Err(MixFault::TooLong),
+            ports,
+        },
+        Mixing::Faulted { leg, fault } => Answered {
+            mixed: Err(MixFault::Dump { leg, fault }),
+            ports,
+        },
+        Mixing::NoMemory => Answered {
+            mixed: Err(MixFault::NoMemory),
+            ports,
+        },
     }
 }
 
@@ -118,7 +150,7 @@ fn broken_leg(mixed: &Result<Mixed, MixFault>) -> Option<u8>
 
 /// Mixes a conference whose inputs have these octets, one for each leg, in leg order. They are held in memory, and no reading
 /// of them fails.
-pub fn mix_held<R: Wait, G: Gate>(
+pub fn mix_held<R: Threads + Wait + Sync, G: Gate + Sync>(
     rt: &R,
     alloc: Global,
     conf: &Conf,
@@ -131,14 +163,16 @@ pub fn mix_held<R: Wait, G: Gate>(
     ensures outs { IfOk result (λ mixed. length mixed.outs.items ≡ length conf.now.legs) }
 {
     let limit = input_limit(conf);
-    let Ok(mut ports) = held_ports(alloc, conf.legs.as_slice(), conf.wait, limit, inputs) else {
+    let Ok(ports) = held_ports(alloc, conf.legs.as_slice(), conf.wait, limit, inputs) else {
         return Err(MixFault::NoMemory);
     };
-    mix_opened(rt, alloc, conf, &mut ports, gate)
+    let Answered { mixed, ports: _ } = mix_opened(rt, alloc, conf, ports, gate);
+    mixed
 }
 
-/// Mixes a conference over the recordings under the names of its inputs. They are opened in leg order, and each is handed back.
-pub fn mix<R: Wait, W: World, G: Gate>(
+/// Mixes a conference over the recordings under the names of its inputs, each of which is read on a thread of its own, or by the
+/// caller where a thread can't be started. They are opened in leg order, and each is handed back.
+pub fn mix<R: Threads + Wait + Sync, W: World, G: Gate + Sync>(
     rt: &R,
     alloc: Global,
     conf: &Conf,
@@ -155,11 +189,11 @@ pub fn mix<R: Wait, W: World, G: Gate>(
 {
     let legs = conf.legs.as_slice();
     let limit = input_limit(conf);
-    let mut ports = match open_ports(alloc, legs, conf.wait, limit, world) {
+    let ports = match open_ports(alloc, legs, conf.wait, limit, world) {
         Ok(ports) => ports,
         Err(fault) => return Err(fault),
     };
-    let mixed = mix_opened(rt, alloc, conf, &mut ports, gate);
+    let Answered { mixed, ports } = mix_opened(rt, alloc, conf, ports, gate);
     match broken_leg(&mixed) {
         Some(leg) => {
             close_ports_after_fault(ports, leg as usize, world);

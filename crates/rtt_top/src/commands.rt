@@ -20,6 +20,7 @@ use rtt_io::{Gate, Sink, World};
 use rtt_words::{Command, ListWords, ReadWords, SendWords};
 use std::alloc::Global;
 use std::sync::Wait;
+use std::thread::Threads;
 
 /// Prints what a command made.
 pub(crate) fn print<K: Sink>(octets: &[u8], out: &mut K) -> Result<(), Fault>
@@ -210,7 +211,7 @@ pub fn carry_out_plain<W: World, K: Sink, E: Sink>(
 }
 
 /// Does what is asked for, and answers the status.
-pub fn carry_out<R: Wait, W: World, K: Sink, E: Sink, G: Gate>(
+pub fn carry_out<R: Threads + Wait + Sync, W: World, K: Sink, E: Sink, G: Gate + Sync>(
     rt: &R,
     alloc: Global,
     command: &Command<'_>,

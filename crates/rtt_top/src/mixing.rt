@@ -22,6 +22,7 @@ use rtt_io::{Gate, Sink, World};
 use rtt_words::MixWords;
 use std::alloc::Global;
 use std::sync::Wait;
+use std::thread::Threads;
 use wire_spec::DumpKind;
 
 /// The fault of a command for that of the recording of a leg.
@@ -109,7 +110,7 @@ fn name_at_end<'a>(ending: Result<(), Fault>, file: &'a str, legs: &'a [LegLine]
 }
 
 /// Mixes a conference, writes its outputs, and prints what is seen.
-fn mix_conf<R: Wait, W: World, K: Sink, G: Gate>(
+fn mix_conf<R: Threads + Wait + Sync, W: World, K: Sink, G: Gate + Sync>(
     rt: &R,
     alloc: Global,
     conf: &Conf,
@@ -135,7 +136,7 @@ fn mix_conf<R: Wait, W: World, K: Sink, G: Gate>(
 }
 
 /// `mix`: mixes the conference of a file, and answers the status.
-pub fn mix_file<R: Wait, W: World, K: Sink, E: Sink, G: Gate>(
+pub fn mix_file<R: Threads + Wait + Sync, W: World, K: Sink, E: Sink, G: Gate + Sync>(
     rt: &R,
     alloc: Global,
     words: &MixWords<'_>,

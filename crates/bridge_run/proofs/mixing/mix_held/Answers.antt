@@ -1,37 +1,32 @@
-use Rattle.std.proofs.Common.{List, [], length, refl, ap, sym, subst, ◌∙◌}
+use Rattle.std.proofs.Common.{List, [], length, refl, ap, subst, ◌∙◌}
 use Rattle.rtt_io.specs.declared.mem_sources.SteadySource.{SteadySource}
 use Rattle.rtt_io.specs.contracts.mem_sources.SteadySourceSource.TheImpl.{left-value}
 use Rattle.file_spec.specs.declared.conf_lines.LegLine.{LegLine}
 use Rattle.mixer_spec.specs.Bridged.{input_limit}
-use Rattle.mixer_spec.specs.Setups.{setup}
 use Rattle.conf_text.specs.Lines.{conf_of}
-use Rattle.mix_loop.specs.declared.ports.Port.{Port}
-use Rattle.leg_items.specs.declared.inlets.LegInlet.{LegInlet}
-use Rattle.leg_items.specs.Answers.{AllAsked, AllStayAs, AreNew}
-use Rattle.bridge_run.specs.Answered.{asked_of}
 use Rattle.bridge_run.specs.Opened.{AllOver}
 use Rattle.bridge_run.proofs.Handing.{asked_over, never_read, new_over, stay_over}
 use Rattle.bridge_run.proofs.mixing.mix_held.Goals as goal
 
-pub mix_opened-requires-clause-new : goal.mix_opened-requires-clause-new
-mix_opened-requires-clause-new g c =
+pub mix_opened-mixed-requires-clause-new : goal.mix_opened-mixed-requires-clause-new
+mix_opened-mixed-requires-clause-new g c = λ κs lives.
     let conf = conf_of c.args.conf.now in
     let inputs = c.args.inputs.items in
     let ports = c.in-Ok.ports.items in
     let over : AllOver (Unit {0}) left-value.it conf.wait (input_limit conf) conf.legs inputs ports =
     subst (λ l. AllOver (Unit {0}) left-value.it conf.wait l conf.legs inputs ports) c.input_limit-limit.ensures
     (subst (λ (xs : List LegLine). AllOver (Unit {0}) left-value.it conf.wait c.input_limit-limit.result xs inputs ports) c.as_slice.ensures c.in-Ok.ensures.over) in
-    subst (λ (ps : List (Port (LegInlet SteadySource))). AreNew ps) (sym c.deref_mut.ensures.value) (new_over (Unit {0}) left-value.it conf inputs ports over)
+    new_over (Unit {0}) left-value.it conf inputs ports over
 
-pub mix_opened-requires-clause-stays : goal.mix_opened-requires-clause-stays
-mix_opened-requires-clause-stays g c =
+pub mix_opened-mixed-requires-clause-stays : goal.mix_opened-mixed-requires-clause-stays
+mix_opened-mixed-requires-clause-stays g c = λ κs lives.
     let conf = conf_of c.args.conf.now in
     let inputs = c.args.inputs.items in
     let ports = c.in-Ok.ports.items in
     let over : AllOver (Unit {0}) left-value.it conf.wait (input_limit conf) conf.legs inputs ports =
     subst (λ l. AllOver (Unit {0}) left-value.it conf.wait l conf.legs inputs ports) c.input_limit-limit.ensures
     (subst (λ (xs : List LegLine). AllOver (Unit {0}) left-value.it conf.wait c.input_limit-limit.result xs inputs ports) c.as_slice.ensures c.in-Ok.ensures.over) in
-    subst (λ (ps : List (Port (LegInlet SteadySource))). AllStayAs (setup conf) ps) (sym c.deref_mut.ensures.value) (stay_over (Unit {0}) left-value.it conf inputs ports over)
+    stay_over (Unit {0}) left-value.it conf inputs ports over
 
 pub returns-clause-mixes : goal.returns-clause-mixes
 returns-clause-mixes g c =
@@ -41,10 +36,10 @@ returns-clause-mixes g c =
     let over : AllOver (Unit {0}) left-value.it conf.wait (input_limit conf) conf.legs inputs ports =
     subst (λ l. AllOver (Unit {0}) left-value.it conf.wait l conf.legs inputs ports) c.input_limit-limit.ensures
     (subst (λ (xs : List LegLine). AllOver (Unit {0}) left-value.it conf.wait c.input_limit-limit.result xs inputs ports) c.as_slice.ensures c.in-Ok.ensures.over) in
-    c.mix_opened.ensures.mixes tt inputs c.requires
-    (subst (λ (ps : List (Port (LegInlet SteadySource))). AllAsked left-value.it (asked_of conf inputs) ps) (sym c.deref_mut.ensures.value) (asked_over (Unit {0}) left-value.it conf inputs ports over tt))
+    c.mix_opened-mixed.ensures.mixes tt inputs c.requires
+    (asked_over (Unit {0}) left-value.it conf inputs ports over tt)
 
 pub returns-clause-read : goal.returns-clause-read
 returns-clause-read g c =
-    never_read (λ (s : SteadySource). 0) (λ (s : SteadySource). []) (length c.args.conf.now.legs) c.mix_opened.result c.deref_mut.result.now c.mix_opened.new.ports (λ s. refl) (ap (λ (ps : List (Port (LegInlet SteadySource))). length ps) c.deref_mut.ensures.value ∙ (c.in-Ok.ensures.legs ∙ ap (λ (ls : List LegLine). length ls) c.as_slice.ensures)) c.mix_opened.ensures.legs
-    c.mix_opened.ensures.sources c.mix_opened.ensures.leg
+    never_read (λ (s : SteadySource). 0) (λ (s : SteadySource). []) (length c.args.conf.now.legs) c.mix_opened-mixed.result.mixed c.in-Ok.ports.items c.mix_opened-mixed.result.ports.items (λ s. refl) (c.in-Ok.ensures.legs ∙ ap (λ (ls : List LegLine). length ls) c.as_slice.ensures) c.mix_opened-mixed.ensures.legs
+    c.mix_opened-mixed.ensures.sources c.mix_opened-mixed.ensures.leg
