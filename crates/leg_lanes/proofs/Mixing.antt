@@ -1,15 +1,13 @@
 -- Legs that ran gave what they give where who mixes reads them.
-use Rattle.std.proofs.Common.{◌≡◌, ◌<◌, ℕ, zero, suc, false, Some, List, [], ◌∷◌, length, map, refl, ap, sym, ◌∙◌, subst, arith}
+use Rattle.std.proofs.Common.{◌≡◌, ℕ, zero, suc, Some, List, [], ◌∷◌, length, map, refl, ap, sym, ◌∙◌, subst, arith}
 use Rattle.std.specs.Prelude.{slice_get}
 use Rattle.file_spec.specs.declared.conf_lines.Stay.{Stay}
 use Rattle.rtt_base.specs.declared.text_packets.Pts.{Pts}
 use Rattle.mixer_spec.specs.Setups.{Setup}
 use Rattle.mixer_spec.specs.Table.{Call, after_calls}
-use Rattle.leg_core.specs.Gives.{place_of}
 use Rattle.mix_loop.specs.declared.ports.Port.{Port}
 use Rattle.mix_loop.specs.declared.turns.Mixing.{Mixing}
 use Rattle.mix_loop.specs.declared.turns.Mixing.TheVariants as mixing
-use Rattle.mix_loop.specs.Items.{Gave}
 use Rattle.mix_loop.specs.Mixers.{Of}
 use Rattle.mix_loop.specs.Turns.{AreAt, AllFresh, Mixed, MixedAs}
 use Rattle.mix_loop.proofs.Lists.{get_within}
@@ -17,7 +15,6 @@ use Rattle.leg_items.specs.declared.inlets.LegInlet.{LegInlet}
 use Rattle.leg_items.specs.Feds.{Fed}
 use Rattle.leg_items.specs.Answers.{AreNew, AllStayAs, PlainMixed, PlainMixes, SourceKept, source_at}
 use Rattle.leg_items.proofs.Telling.{inlets_of, inlet_get, plain_mixed}
-use Rattle.leg_queue.specs.Ends.{popped}
 use Rattle.leg_queue.specs.Items.{given_of}
 use Rattle.leg_lanes.specs.declared.lanes.Lane.{Lane}
 use Rattle.leg_lanes.specs.Runners.{RunnerStands}

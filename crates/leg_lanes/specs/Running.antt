@@ -4,8 +4,6 @@ use Rattle.std.specs.Vec.{vec_capacity}
 use Rattle.rtt_base.specs.declared.text_packets.Pts.{Pts}
 use Rattle.mixer_spec.specs.Setups.{Setup}
 use Rattle.mixer_spec.specs.Table.{Call}
-use Rattle.mix_loop.specs.declared.ports.Port.{Port}
-use Rattle.leg_items.specs.declared.inlets.LegInlet.{LegInlet}
 use Rattle.leg_items.specs.Answers.{AreNew, PlainMixes}
 use Rattle.leg_lanes.specs.declared.running.Job.{Job}
 use Rattle.leg_lanes.specs.declared.running.Ran.{Ran}

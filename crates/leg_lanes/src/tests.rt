@@ -1,6 +1,6 @@
-ghost use Rattle.std.specs.Prelude.{◌≡◌, Bool, IfOk, false};
+ghost use Rattle.std.specs.Prelude.{◌≡◌, Bool, IfOk, length};
 ghost use Rattle.leg_core.specs.Gives.{is_over, place_of};
-ghost use Rattle.leg_items.specs.Answers.{AreNew};
+ghost use Rattle.leg_items.specs.Answers.{AreNew, IsNewAt};
 
 use crate::ends::Ends;
 use crate::lanes::Runner;
@@ -18,7 +18,7 @@ use std::alloc::Global;
 use std::sync::Wait;
 use std::test::Fail;
 use std::thread;
-use std::thread::Threads;
+use std::thread::{Scope, Threads};
 
 // The line and the head of a recording.
 const OPENING: [u8; 44] = *b"#!rtpplay1.0 127.0.0.1/5004\n\0\0\0\0\0\0\0\0\x7F\0\0\x01\x13\x8C\0\0";
@@ -155,9 +155,11 @@ fn two_ports(alloc: Global) -> Result<Vec<Port<LegInlet<SteadySource>>>, NoMemor
     };
     let talks = ann(alloc, 0, &SIXTH)?;
     let visits = ann(alloc, 1, b"")?;
-    let mut ports = Vec::with_capacity(alloc, 2)?;
-    ports.push_reserved(leg_port(talks, stays));
-    ports.push_reserved(leg_port(visits, goes));
+    let first = leg_port(talks, stays);
+    let second = leg_port(visits, goes);
+    let Ok(ports) = Vec::from_array(alloc, [first, second]) else {
+        return Err(NoMemory);
+    };
     Ok(ports)
 }
 
@@ -174,7 +176,7 @@ fn two_run<R: Threads + Wait + Sync>(
         turns: 0,
     };
     let log = Log::new(alloc, 2)?;
-    let room = make_room(alloc, 2)?;
+    let room = make_room(alloc, ports.len())?;
     let job = Job {
         ports,
         room,
@@ -184,22 +186,56 @@ fn two_run<R: Threads + Wait + Sync>(
     Ok(run_job(rt, &StillGate, stack, job, 300, 20))
 }
 
+fn runs_there<'s, 'e, R: Threads + Wait + Sync>(
+    scope: &'s Scope<'s, &'e ()>,
+    rt: &'s R,
+    gate: &'s StillGate,
+    stack: usize,
+    port: Port<LegInlet<SteadySource>>,
+    ends: Ends,
+) -> bool
+    requires { IsNewAt 0 port }
+{
+    let size = Stack::new().stack_size(stack);
+    let port = start_port(scope, rt, gate, size, port, 0, ends);
+    let lane = port.into_inlet();
+    let there = matches!(&lane.runner, Runner::There(_));
+    let _leg = lane.close(rt);
+    there
+}
+
+fn starts<R: Threads + Wait + Sync>(
+    rt: &R,
+    gate: &StillGate,
+    stack: usize,
+    port: Port<LegInlet<SteadySource>>,
+    ends: Ends,
+) -> bool
+    requires new { IsNewAt 0 port }
+{
+    thread::scope(
+        thread::scope_env(),
+        rt,
+        |scope| -> bool
+            requires { IsNewAt 0 port }
+        { runs_there(scope, rt, gate, stack, port, ends) },
+    )
+}
+
 // Whether a leg that is started on a thread of so many octets of stack runs there.
 fn is_there<R: Threads + Wait + Sync>(
     rt: &R,
     alloc: Global,
     stack: usize,
 ) -> Result<bool, NoMemory> {
-    let mut ports = two_ports(alloc)?;
+    let stay = Stay {
+        from: 0,
+        until: None,
+    };
+    let talks = ann(alloc, 0, b"")?;
     let ends = Ends::new(alloc)?;
-    let port = ports.swap_remove(0);
-    Ok(thread::scope(thread::scope_env(), rt, |scope| {
-        let size = Stack::new().stack_size(stack);
-        let lane = start_port(scope, rt, &StillGate, size, port, 0, ends).into_inlet();
-        let there = matches!(&lane.runner, Runner::There(_));
-        let _leg = lane.close(rt);
-        there
-    }))
+    let port = leg_port(talks, stay);
+    Ok(starts(rt, &StillGate, stack, port, ends))
 }
 
 #[test]

@@ -1,4 +1,4 @@
-use Rattle.std.proofs.Common.{ap, length, List, arith, rules, sym, ◌∙◌, ◌≡◌}
+use Rattle.std.proofs.Common.{ap, length, List, arith, rules, ◌≡◌}
 use Rattle.std.specs.Vec.Iter.{into_iter_items, into_iter_len}
 use Rattle.mix_loop.specs.declared.ports.Port.{Port}
 use Rattle.leg_lanes.specs.declared.lanes.Lane.{Lane}

@@ -1,4 +1,4 @@
-use Rattle.std.proofs.Common.{ap, length, List, ℕ, arith, sym, subst, ◌∙◌, ◌≡◌, ◌≤◌}
+use Rattle.std.proofs.Common.{ap, length, List, arith, sym, subst, ◌∙◌}
 use Rattle.std.proofs.lemmas.List.{with_items_is}
 use Rattle.mix_loop.specs.declared.ports.Port.{Port}
 use Rattle.mix_loop.specs.Turns.{AreAt}

@@ -1,5 +1,4 @@
-use Rattle.std.proofs.Common.{ap, length, List, ℕ, arith, rules, sym, subst, ◌∙◌, ◌≡◌}
-use Rattle.std.specs.Vec.{vec_len}
+use Rattle.std.proofs.Common.{ap, length, List, ℕ, arith, rules, subst, ◌≡◌}
 use Rattle.std.specs.Vec.Iter.{into_iter_items, into_iter_len}
 use Rattle.mix_loop.specs.declared.ports.Port.{Port}
 use Rattle.leg_items.specs.declared.inlets.LegInlet.{LegInlet}
