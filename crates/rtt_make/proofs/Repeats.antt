@@ -1,6 +1,6 @@
 -- A list without its repeats, line by line.
 use Rattle.std.proofs.Common.{◌≡◌, Bool, true, false, cond, ◌&&◌, List, [], ◌∷◌, ◌++◌, inl, inr, refl, ap, sym, subst, ◌∙◌, true≢false, filter}
-use Rattle.std.specs.Prelude.{not, ◌==◌, ◌||◌}
+use Rattle.std.specs.Prelude.{not, ◌==◌, ◌||◌, if◌then◌else◌}
 use Rattle.std.specs.List.{list_any}
 use Rattle.std.proofs.lemmas.Bool.{and_parts, cases_Bool, eqb-true, eq-eqb, or_parts, or_cases}
 use Rattle.std.proofs.lemmas.List.{append-nil}
@@ -133,3 +133,11 @@ pub kept_same : (line : PlanLine) (front plan : List PlanLine) → plan ≡ with
 kept_same line front plan e some =
     let P : List PlanLine → Type 0 = λ l. list_any (says line) l ≡ true in
     e ∙ sym ((more line front).planned (subst P e some))
+
+pub added : (line : PlanLine) (front plan : List PlanLine) → plan ≡ without_repeats front
+    → (if list_any (says line) plan then plan else plan ++ line ∷ []) ≡ without_repeats (front ++ line ∷ [])
+added line front plan e = go (list_any (says line) plan) refl
+  where
+    go : (b : Bool) → list_any (says line) plan ≡ b → (if b then plan else plan ++ line ∷ []) ≡ without_repeats (front ++ line ∷ [])
+    go true some = kept_same line front plan e some
+    go false none = kept_more line front plan e none

@@ -2,10 +2,9 @@
 use Rattle.std.proofs.lemmas.List.{append-nil}
 use Rattle.std.proofs.Common.{◌≡◌, ℕ, zero, suc, ◌+◌, List, [], ◌∷◌, ◌++◌, append_assoc, map, refl, ap, sym, subst, ◌∙◌}
 use Rattle.std.specs.List.{range_with_len}
-use Rattle.file_spec.specs.declared.conf_lines.LegLine.{LegLine}
 use Rattle.file_spec.specs.Script.{ScriptLine}
 use Rattle.command_spec.specs.Draws.{Drawing, draw, times}
-use Rattle.command_spec.specs.Generated.{leg, script_from, text}
+use Rattle.command_spec.specs.Generated.{script_from, text}
 
 -- what was drawn, with so many more
 abbrev pub and_more : {A : Type 0} → List A → Drawing A → ℕ → ℕ → List A × ℕ
@@ -70,10 +69,15 @@ script_over whole front left at state e none =
     let P : ℕ → Type 0 = λ n. whole ≡ and_script front n at state in
     subst P none e ∙ script_ends front at state
 
--- ---- legs in a row
-pub leg_step : (whole front : List LegLine) (left fewer n : ℕ) (line : LegLine) → whole ≡ front ++ map leg (range_with_len n left) → left ≡ suc fewer → line ≡ leg n
-    → whole ≡ (front ++ line ∷ []) ++ map leg (range_with_len (n + 1) fewer)
-leg_step whole front left fewer n line e same is =
-    let P : ℕ → Type 0 = λ k. whole ≡ front ++ map leg (range_with_len n k) in
-    let Q : LegLine → Type 0 = λ l. whole ≡ (front ++ l ∷ []) ++ map leg (range_with_len (n + 1) fewer) in
-    subst Q (sym is) (subst P same e ∙ sym (append_assoc front (leg n ∷ []) (map leg (range_with_len (n + 1) fewer))))
+-- ---- numbers in a row
+pub range_step : {X : Type 0} (f : ℕ → X) (whole front : List X) (left fewer n : ℕ) (x : X) → whole ≡ front ++ map f (range_with_len n left) → left ≡ suc fewer → x ≡ f n
+    → whole ≡ (front ++ x ∷ []) ++ map f (range_with_len (n + 1) fewer)
+range_step {X} f whole front left fewer n x e same is =
+    let P : ℕ → Type 0 = λ k. whole ≡ front ++ map f (range_with_len n k) in
+    let Q : X → Type 0 = λ l. whole ≡ (front ++ l ∷ []) ++ map f (range_with_len (n + 1) fewer) in
+    subst Q (sym is) (subst P same e ∙ sym (append_assoc front (f n ∷ []) (map f (range_with_len (n + 1) fewer))))
+
+pub range_over : {X : Type 0} (f : ℕ → X) (whole front : List X) (left n : ℕ) → whole ≡ front ++ map f (range_with_len n left) → left ≡ 0 → whole ≡ front
+range_over {X} f whole front left n e none =
+    let P : ℕ → Type 0 = λ k. whole ≡ front ++ map f (range_with_len n k) in
+    subst P none e ∙ append-nil front

@@ -42,6 +42,14 @@ fn output_path(alloc: Global, number: u32) -> Result<Path, NoMemory>
     }
 }
 
+/// The SSRC of the leg of this number.
+pub(crate) fn leg_ssrc(number: u32) -> u32
+    requires { number < 100 }
+    ensures { result ≡ (leg number).ssrc }
+{
+    FIRST_SSRC + number
+}
+
 /// The leg of this number.
 fn leg_of(alloc: Global, number: u32) -> Result<LegLine, NoMemory>
     requires { number < 100 }
@@ -54,7 +62,7 @@ fn leg_of(alloc: Global, number: u32) -> Result<LegLine, NoMemory>
         line: 0,
         name,
         aware: number % 4 != 3,
-        ssrc: FIRST_SSRC + number,
+        ssrc: leg_ssrc(number),
         input,
         output,
         pts: Pts {

@@ -1,5 +1,7 @@
 //! What becomes of packets.
-ghost use Rattle.std.specs.Prelude.{◌≡◌, ◌<◌, ◌≤◌, IfOk};
+ghost use Rattle.std.specs.Prelude.{◌≡◌, ◌<◌, ◌≤◌, ◌++◌, ◌∷◌, [], IfOk, OnOk, if◌then◌else◌};
+ghost use Rattle.std.specs.List.{list_any};
+ghost use Rattle.file_spec.specs.Conf.{is_same_packet};
 ghost use Rattle.command_spec.specs.Draws.{times};
 ghost use Rattle.command_spec.specs.Generated.{plan_line, what, without_repeats};
 
@@ -43,6 +45,16 @@ fn draw_line(draws: &mut Draws, legs: u32) -> PlanLine
     }
 }
 
+/// Appends a line, unless one before it says the same of a packet.
+fn add(plan: &mut Plan, line: PlanLine) -> Result<(), NoMemory>
+    ensures { OnOk result (plan.new ≡ (if list_any (λ p. is_same_packet p line) plan.old then plan.old else plan.old ++ line ∷ [])) }
+{
+    if is_planned(plan.as_slice(), &line) {
+        return Ok(());
+    }
+    plan.push(line)
+}
+
 /// Draws the lines of a plan for so many legs. A line that says the same of a packet as one before it is left out.
 pub(crate) fn draw_plan(alloc: Global, draws: &mut Draws, legs: u32) -> Result<Plan, NoMemory>
     requires some { 0 < legs }
@@ -53,9 +65,7 @@ pub(crate) fn draw_plan(alloc: Global, draws: &mut Draws, legs: u32) -> Result<P
     let mut plan = Plan::new(alloc);
     for _ in 0..LINES {
         let line = draw_line(draws, legs);
-        if !is_planned(plan.as_slice(), &line) {
-            plan.push(line)?;
-        }
+        add(&mut plan, line)?;
     }
     Ok(plan)
 }

@@ -26,15 +26,16 @@ pub(crate) struct Typist {
     pub script: Script,
 }
 
-/// Draws the script of a leg, whose first line is typed at this moment.
-fn draw_script(alloc: Global, draws: &mut Draws, from: u32) -> Result<Script, NoMemory>
-    requires { from < SOON }
-    ensures { IfOk result (λ script. script_from LINES from draws.old ≡ (script, draws.new)) }
+/// Draws so many lines of a script, the first of them typed at this moment.
+fn draw_script(alloc: Global, draws: &mut Draws, lines: u32, from: u32) -> Result<Script, NoMemory>
+    requires few { lines ≤ LINES }
+    requires soon { from < SOON }
+    ensures { IfOk result (λ script. script_from lines from draws.old ≡ (script, draws.new)) }
 {
     let mut script = Script::new(alloc);
     let mut text = Bytes::new(alloc);
     let mut at = from;
-    for _ in 0..LINES {
+    for _ in 0..lines {
         draw_text(draws, &mut text)?;
         script.push(ScriptLine {
             line: 0,
@@ -53,6 +54,6 @@ pub(crate) fn draw_typist(alloc: Global, draws: &mut Draws) -> Result<Typist, No
 {
     let seq = draws.draw(FIRSTS) as u16;
     let from = draws.draw(SOON);
-    let script = draw_script(alloc, draws, from)?;
+    let script = draw_script(alloc, draws, LINES, from)?;
     Ok(Typist { seq, script })
 }

@@ -1,4 +1,4 @@
-use Rattle.std.proofs.Common.{◌≡◌, ap, sym, ◌∙◌}
+use Rattle.std.proofs.Common.{ap, sym, ◌∙◌}
 use Rattle.conf_text.specs.Lines.{conf_of}
 use Rattle.command_spec.specs.Draws.{draw}
 use Rattle.rtt_make.proofs.Wholes.{keeps, made_is}

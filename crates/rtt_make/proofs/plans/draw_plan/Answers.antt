@@ -1,13 +1,9 @@
-use Rattle.std.proofs.Common.{◌≡◌, ◌+◌, ◌-◌, List, [], ◌∷◌, ◌++◌, ℕ, ap, sym, subst, ◌∙◌, arith, true, false}
-use Rattle.std.specs.List.{list_any}
-use Rattle.file_spec.specs.declared.conf_lines.PlanLine.{PlanLine}
-use Rattle.file_spec.specs.Conf.{is_same_packet}
+use Rattle.std.proofs.Common.{◌+◌, ◌-◌, [], ◌∷◌, ◌++◌, ap, sym, ◌∙◌, arith}
 use Rattle.command_spec.specs.Draws.{times}
 use Rattle.command_spec.specs.Generated.{plan_line, without_repeats}
 use Rattle.rtt_make.proofs.Times.{over, step}
-use Rattle.rtt_make.proofs.Repeats.{kept_more, kept_same}
+use Rattle.rtt_make.proofs.Repeats.{added}
 use Rattle.rtt_make.proofs.plans.draw_plan.Goals as goal
-use Rattle.rtt_make.proofs.plans.draw_plan.Goals.{then-not-is_planned+in_ok-push, else-not-is_planned}
 
 pub loop-preserved : goal.loop-preserved
 loop-preserved c =
@@ -15,10 +11,7 @@ loop-preserved c =
     let known = c.loop.invariant in
     record {
       front = known.front ++ line ∷ [];
-      kept = elim c.if-not-is_planned.branch [
-        | then-not-is_planned+in_ok-push w ↦ w.plan-is ∙ (w.in_ok-push.ensures.ok ∙ kept_more line known.front c.loop.plan known.kept (subst (λ (l : List PlanLine). list_any (λ p. is_same_packet p line) l ≡ false) c.as_slice.ensures (sym w.if-not-is_planned.ensures)))
-        | else-not-is_planned w ↦ w.plan-is ∙ kept_same line known.front c.loop.plan known.kept (subst (λ (l : List PlanLine). list_any (λ p. is_same_packet p line) l ≡ true) c.as_slice.ensures (sym w.if-not-is_planned.ensures))
-      ];
+      kept = c.in_ok-add.ensures ∙ added line known.front c.loop.plan known.kept;
       drawn = step (plan_line c.args.legs) (times 200 (plan_line c.args.legs) c.args.draws.now) known.front (200 - c.loop.counter) (200 - (c.loop.counter + 1)) c.loop.draws c.draw_line-line.new.draws line
           known.drawn (omega (arith, c.loop-test.true)) c.draw_line-line.ensures;
     }

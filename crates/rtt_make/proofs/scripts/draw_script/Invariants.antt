@@ -6,5 +6,5 @@ use Rattle.rtt_make.proofs.scripts.draw_script.Given as goal
 abbrev pub invariant-loop : goal.invariant-loop
 invariant-loop l = record {
   early : l.at < 1000 + l.counter * 1000;
-  lines : script_from 40 l.from l.fn.draws ≡ and_script l.script (40 - l.counter) l.at l.draws;
+  lines : script_from l.lines l.from l.fn.draws ≡ and_script l.script (l.lines - l.counter) l.at l.draws;
 }
