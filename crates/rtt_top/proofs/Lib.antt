@@ -9,3 +9,4 @@ pub mod Conferring
 pub mod Chain
 pub mod Bridging
 pub mod Since
+pub mod MadeLines

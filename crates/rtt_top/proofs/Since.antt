@@ -1,15 +1,14 @@
 -- A command whose first part changed nothing outside ends as its second part does.
-use Rattle.std.proofs.Common.{◌≡◌, ℕ, zero, suc, ◌+◌, ◌≤◌, Option, Some, None, List, [], ◌∷◌, ◌++◌, take, Result, Ok, Err, refl, ap, sym, subst, ◌∙◌, inl, inr}
+use Rattle.std.proofs.Common.{◌≡◌, ℕ, zero, suc, ◌+◌, Option, Some, None, List, ◌++◌, take, Ok, Err, refl, ap, sym, subst, ◌∙◌, inl, inr}
 use Rattle.std.specs.Prelude.{◌⊎◌}
-use Rattle.command_spec.specs.declared.faults.Fault.{Fault}
 use Rattle.command_spec.specs.declared.faults.Fault.TheVariants.{WrongWords, CannotOpen, CannotRead, Refused, CannotPrint, CannotWrite, NoMemory}
 use Rattle.command_spec.specs.Work.{Contents, Made, Steps, Reads, Refuses, Makes, Work, IsInput, IsOutput}
 use Rattle.command_spec.specs.Outcomes.{Outcome, Missing, Done, outcome, outcome_from, IsDone, Same, AllStored}
 use Rattle.command_spec.specs.Outcomes as outcomes
 use Rattle.command_spec.specs.Messages.{Ending}
-use Rattle.rtt_top.specs.Faults.{Stops, name_in}
+use Rattle.rtt_top.specs.Faults.{WhereRead, name_in}
 use Rattle.rtt_top.specs.Outside.{Outside, Output, Failed, CallFailed, ObjectFailed}
-use Rattle.rtt_top.specs.Runs.{FailedAt, Prints, PrintsFront, Unchanged, PartlyStored, Ends}
+use Rattle.rtt_top.specs.Runs.{Prints, PrintsFront, Unchanged, PartlyStored, Ends}
 use Rattle.rtt_top.proofs.Counts.{rose_since}
 use Rattle.rtt_top.proofs.Bridging.{IsBetween, all_stored_since, partly_since}
 
@@ -68,6 +67,11 @@ unchanged_since Told Shown old mid new b out u = (
   λ told name. u.1 told name ∙ b.same told name,
 )
 
+where_read : (steps : Steps) (P Q : Type 0) → (P → Q) → WhereRead steps P → WhereRead steps Q
+where_read (Reads name next) P Q f p = f p
+where_read (Refuses input refusal) P Q f p = tt
+where_read (Makes printed files) P Q f p = tt
+
 pub ends_since : (w : Work) (Told Shown : Type 0) (old mid new : Outside) (name : List ℕ) (ending : Ending) → IsBetween Told old mid mid.contents mid.calls mid.objects → mid.out ≡ old.out
     → Ends w Told Shown mid new name ending → Ends w Told Shown old new name ending
 ends_since w Told Shown old mid new name (Ok u) b out e = λ told.
@@ -103,7 +107,7 @@ ends_since w Told Shown old mid new name (Err (CannotRead n)) b out e =
     ((input_since Told old.contents mid.contents b.same w.steps n name e.0.0, object_since Told old mid new b name e.0.1), unchanged_since Told Shown old mid new b out e.1)
 ends_since w Told Shown old mid new name (Err (Refused n refusal)) b out e = (
   (
-    input_since Told old.contents mid.contents b.same w.steps n name e.0.0,
+    where_read w.steps (IsInput Told mid.contents w.steps n name) (IsInput Told old.contents w.steps n name) (input_since Told old.contents mid.contents b.same w.steps n name) e.0.0,
     λ told. sym (outcome_since old.contents mid.contents (b.same told) 0 w.steps) ∙ e.0.1 told,
   ),
   unchanged_since Told Shown old mid new b out e.1,

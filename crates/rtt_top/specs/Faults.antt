@@ -1,14 +1,20 @@
 -- Why a command stops before it makes anything.
-use Rattle.std.specs.Prelude.{◌≡◌, ℕ, Option, Some, List, Ok, Err}
+use Rattle.std.specs.Prelude.{◌≡◌, ℕ, Option, Some, List, Err}
 use Rattle.wire_spec.specs.Dump as dumps
 use Rattle.command_spec.specs.declared.faults.Refusal.{Refusal}
 use Rattle.command_spec.specs.declared.faults.Refusal.TheVariants.{AtByte, AtLine, AfterTurns}
 use Rattle.command_spec.specs.declared.faults.Fault.{Fault}
 use Rattle.command_spec.specs.declared.faults.Fault.TheVariants.{WrongWords, CannotOpen, CannotRead, Refused, CannotPrint, CannotWrite, NoMemory}
-use Rattle.command_spec.specs.Work.{Contents, Steps, IsInput}
+use Rattle.command_spec.specs.Work.{Contents, Steps, Reads, Refuses, Makes, IsInput}
 use Rattle.command_spec.specs.Outcomes.{outcome}
 use Rattle.command_spec.specs.Outcomes as outcomes
 use Rattle.command_spec.specs.Messages.{Ending}
+
+-- this holds where a file is read
+abbrev pub WhereRead : Steps → Type 0 → Type 0
+WhereRead (Reads name next) P = P
+WhereRead (Refuses input refusal) P = Unit {0}
+WhereRead (Makes printed files) P = Unit {0}
 
 -- An input of this name could not be opened or read, or it is refused; `Call` and `Object` tell of which names a call or an
 -- object failed. Want of memory is free.
@@ -17,7 +23,7 @@ Stops Told held steps Call Object name WrongWords = ⊥
 Stops Told held steps Call Object name (CannotOpen input) = IsInput Told held steps input name × Call name
 Stops Told held steps Call Object name (CannotRead input) = IsInput Told held steps input name × Object name
 Stops Told held steps Call Object name (Refused input refusal) =
-    IsInput Told held steps input name × (Told → outcome held steps ≡ outcomes.Refused input refusal)
+    WhereRead steps (IsInput Told held steps input name) × (Told → outcome held steps ≡ outcomes.Refused input refusal)
 Stops Told held steps Call Object name CannotPrint = ⊥
 Stops Told held steps Call Object name (CannotWrite output) = ⊥
 Stops Told held steps Call Object name NoMemory = Unit {0}

@@ -4,3 +4,4 @@ pub mod Outside
 pub mod Runs
 pub mod Outputs
 pub mod Conferences
+pub mod Makings

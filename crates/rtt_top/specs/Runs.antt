@@ -2,11 +2,10 @@
 -- the world, the output and the output of errors tell what they hold.
 use Rattle.std.specs.Prelude.{◌≡◌, ◌⊎◌, ℕ, Bool, true, false, Option, None, Some, List, [], ◌∷◌, ◌++◌, take, Ok, Err, suc, zero, map, String, string_bytes}
 use Rattle.std.specs.Global.{Global}
-use Rattle.command_spec.specs.Words.{ReadWords, MixWords, Command, Read, ListRecords, Send, Mix, command}
+use Rattle.command_spec.specs.Words.{ReadWords, MixWords, Command, Read, ListRecords, Send, Mix, Make, command}
 use Rattle.stream_spec.specs.History.{History, Lawful, Come}
-use Rattle.command_spec.specs.declared.faults.Fault.{Fault}
-use Rattle.command_spec.specs.declared.faults.Fault.TheVariants.{WrongWords, CannotOpen, CannotRead, Refused, CannotPrint, CannotWrite, NoMemory}
-use Rattle.command_spec.specs.Work.{Contents, Made, Work, Steps, IsInput, IsOutput}
+use Rattle.command_spec.specs.declared.faults.Fault.TheVariants.{WrongWords, CannotPrint, CannotWrite, NoMemory}
+use Rattle.command_spec.specs.Work.{Contents, Made, Work, IsInput, IsOutput}
 use Rattle.command_spec.specs.Outcomes.{outcome, IsDone, Same, Stores, AllStored}
 use Rattle.command_spec.specs.Bridges.{IsBridged}
 use Rattle.command_spec.specs.Reading.{arrivals_of, history_view}
@@ -27,6 +26,7 @@ is_plain (Some (Read r)) = true
 is_plain (Some (ListRecords l)) = true
 is_plain (Some (Send s)) = true
 is_plain (Some (Mix m)) = false
+is_plain (Some (Make m)) = false
 
 -- this was printed
 abbrev pub Prints : List ℕ → Outside → Outside → Type 0

@@ -10,6 +10,7 @@ ghost use Rattle.rtt_top.specs.Outside.{outside, output};
 ghost use Rattle.rtt_top.specs.Runs.{is_plain, Ends, Runs};
 
 use crate::files::save_output;
+use crate::making::run_make;
 use crate::messages::{status, tell};
 use crate::mixing::mix_file;
 use crate::recordings::{lines_of, view_of};
@@ -206,7 +207,7 @@ pub fn carry_out_plain<W: World, K: Sink, E: Sink>(
         Command::Read(words) => Some(run_read(alloc, words, world, out, err)),
         Command::ListRecords(words) => Some(run_list(alloc, words, world, out, err)),
         Command::Send(words) => Some(run_send(alloc, words, world, out, err)),
-        Command::Mix(_) => None,
+        Command::Mix(_) | Command::Make(_) => None,
     }
 }
 
@@ -230,5 +231,6 @@ pub fn carry_out<R: Threads + Wait + Sync, W: World, K: Sink, E: Sink, G: Gate +
         Command::ListRecords(words) => run_list(alloc, words, world, out, err),
         Command::Send(words) => run_send(alloc, words, world, out, err),
         Command::Mix(words) => mix_file(rt, alloc, words, world, out, err, gate),
+        Command::Make(words) => run_make(rt, alloc, words.number, world, out, err, gate),
     }
 }

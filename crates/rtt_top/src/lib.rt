@@ -5,6 +5,7 @@ mod commands;
 mod confs;
 mod files;
 pub mod laws;
+mod making;
 mod messages;
 mod mixing;
 mod outputs;

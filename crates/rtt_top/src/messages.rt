@@ -142,6 +142,7 @@ usage: rtt_program read FILE SSRC [SOURCE [T140 RED]]
        rtt_program list FILE [T140 RED]
        rtt_program send SCRIPT OUT SSRC SEQ STAMP
        rtt_program mix CONF
+       rtt_program make N
 ";
 
 /// Writes why what lies in a file of this name is refused.

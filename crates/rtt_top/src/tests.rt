@@ -99,7 +99,7 @@ const TWO_SOURCES: [Piece<'static>; 2] = [
     Packet(100, b"\x81\x62\0\x02\0\0\0\x64\0\0\x03\xE9\0\0\0\x07yours"),
 ];
 
-const VIEWS: [View<'static>; 21] = [
+const VIEWS: [View<'static>; 23] = [
     // two lost packets leave no marker, and three leave one
     View(
         &TWO_LETTERS,
@@ -218,6 +218,17 @@ const VIEWS: [View<'static>; 21] = [
         "list a.rtp",
         "0 0 mark 1 stamp 0 ssrc 1001 source 1001 texts 0 0 1\n300 1 mark 0 stamp 300 ssrc 1001 source 1001 texts 0 1 1\n600 2 mark 0 stamp 600 ssrc 1001 source 1001 texts 1 1 0\n900 3 mark 0 stamp 900 ssrc 1001 source 1001 texts 1 0 0\n-- records 4\n",
     ),
+    // a conference is made from a number: the lines are another program's
+    View(
+        &NO_TEXT,
+        "make 1",
+        "make 1 legs 10 lines 400 typed 2974 packets 2192 used 2160 marks 1\n",
+    ),
+    View(
+        &NO_TEXT,
+        "make 13",
+        "make 13 legs 2 lines 80 typed 607 packets 134 used 122 marks 0\n",
+    ),
 ];
 
 #[test]
@@ -232,9 +243,10 @@ usage: rtt_program read FILE SSRC [SOURCE [T140 RED]]
 \x20      rtt_program list FILE [T140 RED]
 \x20      rtt_program send SCRIPT OUT SSRC SEQ STAMP
 \x20      rtt_program mix CONF
+\x20      rtt_program make N
 ";
 
-const WRONG_WORDS: [Failure<'static>; 10] = [
+const WRONG_WORDS: [Failure<'static>; 13] = [
     Failure("read a.rtp", 2, USAGE),
     Failure("read a.rtp -1", 2, USAGE),
     Failure("read --help 1", 2, USAGE),
@@ -243,6 +255,9 @@ const WRONG_WORDS: [Failure<'static>; 10] = [
     Failure("", 2, USAGE),
     Failure("mix", 2, USAGE),
     Failure("mix a b", 2, USAGE),
+    Failure("make", 2, USAGE),
+    Failure("make 0", 2, USAGE),
+    Failure("make 1001", 2, USAGE),
     Failure("list a.rtp 98", 2, USAGE),
     Failure("send s o 1 65536 0", 2, USAGE),
 ];

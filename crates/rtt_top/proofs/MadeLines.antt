@@ -1,0 +1,98 @@
+-- The line of a conference that is made from a number, and how the command ends.
+use Rattle.std.proofs.Common.{◌≡◌, ℕ, suc, true, Option, Some, None, List, [], ◌∷◌, length, Ok, Err, refl, ap, sym, subst, ◌∙◌}
+use Rattle.std.specs.Prelude.{IfErr, OnOk, OnErr}
+use Rattle.std.proofs.lemmas.List.FromFn.{length-map-range_with_len}
+use Rattle.wire_spec.specs.Dump.{dump}
+use Rattle.wire_spec.specs.Dump as dumps
+use Rattle.file_spec.specs.Conf.{Conf}
+use Rattle.mixer_spec.specs.Bridged.{input_limit, leg_chunks}
+use Rattle.mixer_spec.specs.Plain.{plain}
+use Rattle.mixer_spec.specs.Setups.{setup}
+use Rattle.mixer_spec.specs.Table.{Table}
+use Rattle.command_spec.specs.declared.faults.Refusal.TheVariants.{AtByte, AfterTurns}
+use Rattle.command_spec.specs.declared.faults.Fault.{Fault}
+use Rattle.command_spec.specs.declared.faults.Fault.TheVariants.{WrongWords, CannotOpen, CannotRead, Refused, CannotPrint, CannotWrite, NoMemory}
+use Rattle.command_spec.specs.Generated.{Generated, generated}
+use Rattle.command_spec.specs.Making.{making, makes_summary, recording_at, recordings, summary}
+use Rattle.command_spec.specs.Messages.{Ending}
+use Rattle.command_spec.specs.Mixing.{input_at, makes, mixes, unless_one_broken}
+use Rattle.command_spec.specs.Sums.{Sums, sums_mixed}
+use Rattle.command_spec.specs.Work.{Steps, Refuses, Makes, Work}
+use Rattle.bridge_run.specs.declared.mixed.MixFault.{MixFault}
+use Rattle.bridge_run.specs.declared.mixed.MixFault.TheVariants.{Open, Dump, TooLong}
+use Rattle.bridge_run.specs.declared.mixed.MixFault.TheVariants as mix
+use Rattle.bridge_run.specs.Answered.{MixesTo}
+use Rattle.rtt_top.specs.Makings.{IsWhy, fault_in_memory}
+use Rattle.rtt_top.specs.Outside.{Outside, Failed}
+use Rattle.rtt_top.specs.Runs.{Ends, Prints, PrintsFront}
+
+-- ---- mixing is not over
+not_over : (c : Conf) (limit : ℕ) (inputs : List (List ℕ)) (n turns : ℕ) (table : Option Table)
+    → unless_one_broken limit n inputs (makes c table) ≡ Refuses 0 (AfterTurns turns) → table ≡ None
+not_over c limit [] n turns None e = refl
+not_over c limit [] n turns (Some table) e = absurd (cc e)
+not_over c limit (octets ∷ more) n turns table e = go (not_over c limit more (suc n) turns table) (dump limit octets).fault e
+  where
+    go : (unless_one_broken limit (suc n) more (makes c table) ≡ Refuses 0 (AfterTurns turns) → table ≡ None) → (fault : Option dumps.Fault)
+        → elim fault [ None ↦ unless_one_broken limit (suc n) more (makes c table) | Some f ↦ Refuses n (AtByte f.byte f.kind) ] ≡ Refuses 0 (AfterTurns turns) → table ≡ None
+    go next None e = next e
+    go next (Some f) e = absurd (cc e)
+
+no_sums : (c : Conf) (inputs : List (List ℕ)) (turns : ℕ) → mixes c inputs ≡ Refuses 0 (AfterTurns turns) → sums_mixed c inputs ≡ None
+no_sums c inputs turns e =
+    let none = not_over c (input_limit c) inputs 1 turns (plain (setup c) c.tick c.turns (leg_chunks c (input_at inputs))) e in
+    rw none refl
+
+-- ---- the line
+pub line_made : (n : ℕ) (made : Generated) (inputs : List (List ℕ)) (found : Sums) (line : List ℕ)
+    → made ≡ generated n → inputs ≡ recordings made → sums_mixed made.conference inputs ≡ Some found → line ≡ summary n made found → making n ≡ Makes line []
+line_made n made inputs found line is sent mixed told =
+    let P : Generated → Type 0 = λ g. makes_summary n g (sums_mixed g.conference (recordings g)) ≡ Makes line [] in
+    subst P is (ap (λ (i : List (List ℕ)). makes_summary n made (sums_mixed made.conference i)) (sym sent)
+    ∙ (ap (makes_summary n made) mixed ∙ ap (λ (l : List ℕ). Makes l []) (sym told)))
+
+pub too_long : (n : ℕ) (made : Generated) (inputs : List (List ℕ)) → made ≡ generated n → inputs ≡ recordings made
+    → mixes made.conference inputs ≡ Refuses 0 (AfterTurns made.conference.turns) → making n ≡ Refuses 0 (AfterTurns made.conference.turns)
+too_long n made inputs is sent e =
+    let P : Generated → Type 0 = λ g. makes_summary n g (sums_mixed g.conference (recordings g)) ≡ Refuses 0 (AfterTurns made.conference.turns) in
+    subst P is (ap (λ (i : List (List ℕ)). makes_summary n made (sums_mixed made.conference i)) (sym sent)
+    ∙ ap (makes_summary n made) (no_sums made.conference inputs made.conference.turns e))
+
+pub as_many : (made : Generated) (inputs : List (List ℕ)) → length made.scripts ≡ length made.conference.legs → inputs ≡ recordings made → length inputs ≡ length made.conference.legs
+as_many made inputs each sent =
+    ap (λ (l : List (List ℕ)). length l) sent ∙ (length-map-range_with_len (recording_at made) 0 (length made.scripts) ∙ each)
+
+-- ---- how the command ends
+abbrev printing : Steps → Work
+printing steps = record { prints = true; steps = steps }
+
+pub ends_why : (steps : Steps) (Told Shown : Type 0) (outside : Outside) (name : List ℕ) (fault : Fault) → IsWhy steps fault → Ends (printing steps) Told Shown outside outside name (Err fault)
+ends_why steps Told Shown outside name WrongWords w = absurd w
+ends_why steps Told Shown outside name (CannotOpen n) w = absurd w
+ends_why steps Told Shown outside name (CannotRead n) w = absurd w
+ends_why steps Told Shown outside name (Refused n refusal) w =
+    let P : Steps → Type 0 = λ s. Ends (printing s) Told Shown outside outside name (Err (Refused n refusal)) in
+    subst P (sym w) ((tt, λ told. refl), ((λ shown. refl), λ told file. refl))
+ends_why steps Told Shown outside name CannotPrint w = absurd w
+ends_why steps Told Shown outside name (CannotWrite n) w = absurd w
+ends_why steps Told Shown outside name NoMemory w = (tt, ((λ shown. refl), λ told file. refl))
+
+-- what was printed of it
+pub ends_printed : (steps : Steps) (Told Shown : Type 0) (old new : Outside) (name line : List ℕ) (result : Ending) → steps ≡ Makes line [] → new.contents ≡ old.contents
+    → IfErr result (λ fault. fault ≡ CannotPrint) → OnErr result (Failed old.out new.out)
+    → (Shown → OnOk result (Prints line old new)) → (Shown → OnErr result (PrintsFront line old new)) → Ends (printing steps) Told Shown old new name result
+ends_printed steps Told Shown old new name line (Ok u) is same fault cause printed partly =
+    let P : Steps → Type 0 = λ s. Ends (printing s) Told Shown old new name (Ok u) in
+    subst P (sym is) (λ told. ((λ file i. same i file), printed))
+ends_printed steps Told Shown old new name line (Err f) is same fault cause printed partly =
+    let P : Steps → Type 0 = λ s. Ends (printing s) Told Shown old new name (Err CannotPrint) in
+    let Q : Fault → Type 0 = λ g. Ends (printing steps) Told Shown old new name (Err g) in
+    subst Q (sym fault) (subst P (sym is) (refl, cause, λ told. ((λ file i. same i file), partly)))
+
+-- ---- why it is not printed
+pub why : (n : ℕ) (made : Generated) (inputs : List (List ℕ)) → made ≡ generated n → inputs ≡ recordings made
+    → (fault : MixFault) → MixesTo made.conference inputs (Err fault) → IsWhy (making n) (fault_in_memory made.conference.turns fault)
+why n made inputs is sent (Open leg) m = tt
+why n made inputs is sent (Dump leg fault) m = tt
+why n made inputs is sent TooLong m = too_long n made inputs is sent m
+why n made inputs is sent mix.NoMemory m = tt
