@@ -12,3 +12,6 @@ pub use mixed::{MixFault, Mixed};
 pub use mixing::{mix, mix_held};
 pub use ports::{close_ports, close_ports_after_fault, open_ports};
 pub use views::{Seen, views_of};
+
+#[cfg(test)]
+mod tests;
