@@ -10,6 +10,13 @@ use std::sync::Wait;
 use std::sync::atomic::{AtomicBool, Ordering};
 use std::thread;
 
+/// Lets others run, where an item waits for room.
+fn wait_for_room<S: Source>(feed: &Feed<S>) {
+    if !feed.is_empty() {
+        thread::yield_now();
+    }
+}
+
 /// Steps a feed until its last item was pushed, or `alone` says that the caller wants it back.
 pub fn run_feed<S: Source, R: Wait, G: Gate>(
     rt: &R,
@@ -29,7 +36,7 @@ pub fn run_feed<S: Source, R: Wait, G: Gate>(
         if feed.step(rt, queue, gate) {
             break;
         }
-        thread::yield_now();
+        wait_for_room(&feed);
     }
     feed
 }

@@ -44,7 +44,7 @@ impl<S: Source> Feed<S> {
     }
 
     /// Whether nothing is in hand.
-    fn is_empty(&self) -> bool
+    pub(crate) fn is_empty(&self) -> bool
         ensures { result ≡ is_later self.now.hand }
     {
         matches!(self.hand, Item::Later)
