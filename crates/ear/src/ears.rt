@@ -58,6 +58,7 @@ impl Ear {
     }
 
     /// Takes a packet that came at `now`. What is no packet of text of the stream is refused, and hands in no time.
+    #[inline(always)]
     pub fn hear(&mut self, now: u64, octets: &[u8]) -> Result<(), TextFault>
         requires now { now < 2 ^ 48 }
         requires quiet { is_quiet self.old ≡ Bool.true }

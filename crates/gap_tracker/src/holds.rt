@@ -307,6 +307,7 @@ impl Hold {
     }
 
     /// Takes a packet. A spare box comes in exchange for one that is used.
+    #[inline(always)]
     pub fn arrive(&mut self, now: u64, packet: &mut Box<TextPacket>) -> Taken
         requires now { now < 2 ^ 48 }
         requires quiet { has_ready self.old ≡ false }
@@ -360,6 +361,7 @@ impl Hold {
     }
 
     /// Gives the first settled packet in exchange for another box.
+    #[inline(always)]
     pub fn next(&mut self, packet: &mut Box<TextPacket>) -> Option<Due>
         ensures none { IfNone result ((self.old.settled ≡ []) × (self.new ≡ self.old)) }
         ensures some { IfSome result (λ due. (self.old.settled ≡ given_of due packet.new.value ∷ self.new.settled) × (self.new ≡ record self.old { settled = self.new.settled; packets = self.new.packets })) }

@@ -56,6 +56,7 @@ impl Tracker {
     ///
     /// A packet that is held or settled stays inside: in its place the caller gets a spare box, whose content is of no
     /// use. With `Before`, `Old` and `Repeat` the packet is as before.
+    #[inline(always)]
     pub fn arrive(&mut self, now: u64, packet: &mut Box<TextPacket>) -> Taken
         requires now { now < 2 ^ 48 }
         requires quiet { has_ready self.old ≡ false }
@@ -109,6 +110,7 @@ impl Tracker {
 
     /// The settled packet with the lowest number. It comes into `packet`, in exchange for the caller's box, whose content
     /// is lost. Where none is settled, the box is as before.
+    #[inline(always)]
     pub fn next(&mut self, packet: &mut Box<TextPacket>) -> Option<Due>
         ensures variant { is_some result ≡ has_ready self.old }
         ensures some { IfSome result (λ due. (story : Story) → Tracks self.old story → Tracks self.new (gave story (given_of due packet.new.value))) }

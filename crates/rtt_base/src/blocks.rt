@@ -51,6 +51,15 @@ impl Default for Blocks {
     }
 }
 
+/// Adds a place. Few packets need a new one, so this stands out of the way of the others.
+#[inline(never)]
+fn add_place(places: &mut ArrayVec<TextBlock, 9>)
+    requires { length places.old.items < 9 }
+    ensures { places.new.items ≡ places.old.items ++ record { offset = 0; text = [] } ∷ [] }
+{
+    places.push(TextBlock::default());
+}
+
 impl Blocks {
     /// How many blocks fit.
     pub const CAPACITY: usize = 9;
@@ -100,13 +109,14 @@ impl Blocks {
     }
 
     /// Appends a block with a copy of this text, for which there must be room.
+    #[inline(always)]
     pub fn push_copy(&mut self, offset: u16, text: &[u8])
         requires room { length self.old < 9 }
         requires fits { length text.now < 1024 }
         ensures { self.new ≡ self.old ++ record { offset = offset; text = text.now } ∷ [] }
     {
         if self.len == self.places.len() {
-            self.places.push(TextBlock::default());
+            add_place(&mut self.places);
         }
         self.places.as_mut_slice()[self.len].set(offset, text);
         self.len += 1;
