@@ -1,0 +1,194 @@
+-- What the laws say of the headline: at the end of plain mixing, after every list of events, where all legs stay, and of a
+-- conference in files.
+use Rattle.std.specs.Prelude.{◌≡◌, ℕ, ◌<◌, ◌≤◌, false, Ok, List, [], length}
+use Rattle.wire_spec.specs.Packets.{Arrival}
+use Rattle.file_spec.specs.declared.conf_lines.Form.{Form}
+use Rattle.file_spec.specs.Conf.{Conf, conf}
+use Rattle.file_spec.specs.Kept.{IsConference}
+use Rattle.stream_spec.specs.History.{History, Come}
+use Rattle.stream_spec.specs.Ready.{Chunk}
+use Rattle.stream_spec.specs.Kept.{Item, texts}
+use Rattle.stream_spec.specs.Carries.{Carries, CarriesFront}
+use Rattle.mixer_spec.specs.Setups.{AllStay, IsAnother, IsSetup, Setup, setup}
+use Rattle.mixer_spec.specs.Table.{Table, chunks_taken, shared}
+use Rattle.mixer_spec.specs.Core.{Event, after}
+use Rattle.mixer_spec.specs.Plain.{IsOverWith}
+use Rattle.mixer_spec.specs.Headline.{Headline, Hop, IsHop, OneHop, hears}
+use Rattle.mixer_spec.specs.Bridged.{AreCounted, Bridged, BridgedAsOne, IsConferenceMixed, IsHeardOf, IsMixed, IsOut, IsPair, IsPart, IsRunning, before, hop_from, hop_to, leg_chunks, leg_heard, shared_texts, told_at, waiting_texts}
+
+-- ---- at the end of plain mixing
+-- What an aware terminal hears of a leg is bridged, whatever comes to it.
+abbrev pub PlainIsBridged : Type 0
+PlainIsBridged =
+    (s : Setup) (chunks : ℕ → List Chunk) (tick turns : ℕ) (table : Table)
+    → IsMixed s chunks tick turns table
+    → (j i : ℕ) → IsPair s j i
+    → (p : Hop) (cs : List Chunk) → IsHeardOf p i cs
+    → AreCounted s chunks i cs
+    → Bridged s table j i (told_at s table j) p cs
+
+-- A terminal that is not aware hears the mixer as the one source.
+abbrev pub PlainIsBridgedAsOne : Type 0
+PlainIsBridgedAsOne =
+    (s : Setup) (chunks : ℕ → List Chunk) (tick turns : ℕ) (table : Table)
+    → IsMixed s chunks tick turns table
+    → (j : ℕ)
+    → s.aware j ≡ false
+    → j < s.legs
+    → BridgedAsOne s table j (told_at s table j)
+
+-- ---- after every list of events
+-- the hop to the terminal j, where these of its packets came, and the leg i is listened to
+abbrev pub hop_behind : Setup → Table → ℕ → ℕ → ℕ → List Arrival → Hop
+hop_behind s w j i wait came = hop_to (told_at s w j) (s.ssrc i) wait came
+
+-- What is shared of the leg i stands in what is heard of it, and the headline holds behind the terminal j, but for what still
+-- waits there.
+abbrev pub HasHeadline : Setup → Table → ℕ → ℕ → Hop → List Chunk → ℕ → List Arrival → Type 0
+HasHeadline s w j i p cs wait came =
+    (still : List Item) × (after : List Item)
+    × (part : IsPart (before s w j i cs) (hears p) (shared_texts w j i))
+    × (texts still ≡ waiting_texts w j i)
+    × (texts after ≡ part.after)
+    × Headline p (hop_behind s w j i wait came) (before s w j i cs) still after
+
+-- At an aware terminal that is so of each other leg.
+abbrev pub AnyHasHeadline : Type 0
+AnyHasHeadline =
+    (s : Setup) (chunks : ℕ → List Chunk) (past : List Event)
+    → IsRunning s chunks past
+    → (j i : ℕ) → IsPair s j i
+    → (p : Hop) (cs : List Chunk) → IsHop p → IsHeardOf p i cs
+    → AreCounted s chunks i cs
+    → (wait : ℕ) (came : List Arrival) → Come (told_at s (after s chunks past).table j) came
+    → HasHeadline s (after s chunks past).table j i p cs wait came
+
+-- At each terminal, aware or not, what it shares of a leg stands in what is heard of the leg.
+abbrev pub AnyIsPart : Type 0
+AnyIsPart =
+    (s : Setup) (chunks : ℕ → List Chunk) (past : List Event) (j i : ℕ)
+    → IsAnother i j
+    → (p : Hop) (cs : List Chunk) → IsHeardOf p i cs
+    → AreCounted s chunks i cs
+    → let w = (after s chunks past).table in
+    IsPart (before s w j i cs) (hears p) (shared_texts w j i)
+
+-- The packets to an aware terminal carry a front of the texts that it shares, and the rest waits there.
+abbrev pub AnyIsCarried : Type 0
+AnyIsCarried =
+    (s : Setup) (chunks : ℕ → List Chunk) (past : List Event)
+    → IsRunning s chunks past
+    → (j i : ℕ) → IsPair s j i
+    → let w = (after s chunks past).table in
+    CarriesFront (told_at s w j) (s.ssrc i) (shared_texts w j i) (waiting_texts w j i)
+
+-- What was sent to a terminal, aware or not, are the packets of a lawful history.
+abbrev pub AnyIsOut : Type 0
+AnyIsOut =
+    (s : Setup) (chunks : ℕ → List Chunk) (past : List Event)
+    → IsRunning s chunks past
+    → (j : ℕ)
+    → j < s.legs
+    → let w = (after s chunks past).table in
+    IsOut s j (w.terminals j) (told_at s w j)
+
+-- It is one hop for any source that is listened to: at a terminal that is not aware that is the mixer.
+abbrev pub AnyIsOneHop : Type 0
+AnyIsOneHop =
+    (s : Setup) (chunks : ℕ → List Chunk) (past : List Event)
+    → IsRunning s chunks past
+    → (j x : ℕ)
+    → j < s.legs
+    → let h = told_at s (after s chunks past).table j in
+    (wait : ℕ) (came : List Arrival) → Come h came
+    → OneHop (hop_to h x wait came)
+
+-- The headline of any two hops, the second of which carries a part of what the first one tells.
+abbrev pub HopsHaveHeadline : Type 0
+HopsHaveHeadline =
+    (p q : Hop) → IsHop p → IsHop q
+    → (n : ℕ) (shared rest : List (List ℕ)) (part : IsPart n (hears p) shared)
+    → CarriesFront q.sent q.source shared rest
+    → (still : List Item) × (after : List Item)
+    × (texts still ≡ rest)
+    × (texts after ≡ part.after)
+    × Headline p q n still after
+
+-- ---- where all legs stay
+-- All that a terminal was given of another leg is all that was taken of it.
+abbrev pub AllIsShared : Type 0
+AllIsShared =
+    (s : Setup) (chunks : ℕ → List Chunk) (tick turns j i : ℕ) (table : Table)
+    → AllStay s
+    → j < s.legs → IsAnother i j
+    → IsOverWith s tick turns chunks table
+    → shared j (table.taken i) ≡ chunks_taken (table.taken i)
+
+-- Nothing stands before it.
+abbrev pub NoneIsBefore : Type 0
+NoneIsBefore =
+    (s : Setup) (chunks : ℕ → List Chunk) (tick turns j i : ℕ) (table : Table) (cs : List Chunk)
+    → AllStay s
+    → j < s.legs → IsAnother i j
+    → IsOverWith s tick turns chunks table
+    → before s table j i cs ≡ 0
+
+-- The packets to an aware terminal carry all that is heard of a leg, and the headline leaves nothing out.
+abbrev pub AllHasHeadline : Type 0
+AllHasHeadline =
+    (s : Setup) (chunks : ℕ → List Chunk) (tick turns : ℕ) (table : Table)
+    → AllStay s
+    → IsMixed s chunks tick turns table
+    → (j i : ℕ) → IsPair s j i
+    → (p : Hop) → IsHop p → IsHeardOf p i (chunks i)
+    → (wait : ℕ) (came : List Arrival) → Come (told_at s table j) came
+    → Carries (told_at s table j) (s.ssrc i) (hears p)
+    × Headline p (hop_behind s table j i wait came) 0 [] []
+
+-- ---- of a conference in files
+-- What a conference file is accepted as is a conference, and a setup.
+abbrev pub AcceptedIsSetup : Type 0
+AcceptedIsSetup =
+    (form : Form) (octets : List ℕ) (c : Conf)
+    → conf form octets ≡ Ok c
+    → IsConference c × IsSetup (setup c)
+
+-- At an aware terminal it is bridged, for every lawful history of which a leg's arrivals come.
+abbrev pub ConferenceIsBridged : Type 0
+ConferenceIsBridged =
+    (c : Conf) (inputs : ℕ → List ℕ) (table : Table)
+    → IsConference c
+    → IsConferenceMixed c inputs table
+    → (j i : ℕ) → IsPair (setup c) j i
+    → (h : History)
+    → Bridged (setup c) table j i (told_at (setup c) table j) (hop_from c inputs i h) (leg_heard c inputs i)
+
+-- At a terminal that is not aware it is so as one source.
+abbrev pub ConferenceIsBridgedAsOne : Type 0
+ConferenceIsBridgedAsOne =
+    (c : Conf) (inputs : ℕ → List ℕ) (table : Table)
+    → IsConference c
+    → IsConferenceMixed c inputs table
+    → (j : ℕ)
+    → (setup c).aware j ≡ false
+    → j < (setup c).legs
+    → BridgedAsOne (setup c) table j (told_at (setup c) table j)
+
+-- Where there are no more legs than places, some number of turns is enough.
+abbrev pub ConferenceEnds : Type 0
+ConferenceEnds =
+    (c : Conf) (inputs : ℕ → List ℕ)
+    → IsConference c
+    → length c.legs ≤ 16
+    → (n : ℕ) × (table : Table) × IsOverWith (setup c) c.tick n (leg_chunks c inputs) table
+
+-- At each terminal, aware or not, what it shares of a leg stands in what is heard of the leg.
+abbrev pub ConferenceIsPart : Type 0
+ConferenceIsPart =
+    (c : Conf) (inputs : ℕ → List ℕ) (table : Table)
+    → IsConference c
+    → IsConferenceMixed c inputs table
+    → (j i : ℕ)
+    → i < (setup c).legs → IsAnother i j
+    → (h : History)
+    → IsPart (before (setup c) table j i (leg_heard c inputs i)) (hears (hop_from c inputs i h)) (shared_texts table j i)

@@ -1,0 +1,52 @@
+-- What the laws say of the packets to a terminal: their history, and what comes of them.
+use Rattle.std.specs.Prelude.{◌≡◌, ℕ, ◌<◌, ◌≤◌, List, map}
+use Rattle.stream_spec.specs.Ready.{Chunk}
+use Rattle.stream_spec.specs.History.{History, Placed, Lawful, Come, placed}
+use Rattle.stream_spec.specs.Own.{NearEach, Own, come_from, own_packet}
+use Rattle.mixer_spec.specs.Setups.{Setup, IsSetup, FitsHalfCircle}
+use Rattle.mixer_spec.specs.Table.{Mixed, Table, history}
+use Rattle.mixer_spec.specs.Core.{Event, after, turns_in}
+use Rattle.mixer_spec.specs.Plain.{IsOverWith}
+use Rattle.mixer_spec.specs.Laws.{AllTexts, history_at}
+use Rattle.mixer_spec.specs.Bridged.{ComesByPlan, packets_to}
+
+-- Each terminal's history is lawful.
+abbrev pub HistoriesAreLawful : Type 0
+HistoriesAreLawful =
+    (s : Setup) (chunks : ℕ → List Chunk) (past : List Event) (j : ℕ)
+    → IsSetup s → AllTexts chunks → FitsHalfCircle s (turns_in past)
+    → j < s.legs
+    → Lawful (history_at s (after s chunks past).table j)
+
+-- Each terminal's history is of the mixer's own making.
+abbrev pub HistoriesAreOwn : Type 0
+HistoriesAreOwn =
+    (s : Setup) (chunks : ℕ → List Chunk) (past : List Event) (j : ℕ)
+    → Own (s.gens j) (history_at s (after s chunks past).table j)
+
+-- The packets that were sent are those of the history.
+abbrev pub PacketsAreOwn : Type 0
+PacketsAreOwn =
+    (s : Setup) (j : ℕ) (past : List Mixed)
+    → packets_to s j past ≡ map (own_packet (history s j past)) (placed (history s j past))
+
+-- whatever comes of the own packets of the history h, in whatever order, comes from h
+abbrev pub AnyComes : History → Type 0
+AnyComes h = (xs : List (ℕ × Placed)) → NearEach h xs → Come h (come_from h xs)
+
+abbrev pub AnyPacketsCome : Type 0
+AnyPacketsCome =
+    (s : Setup) (chunks : ℕ → List Chunk) (past : List Event) (j : ℕ)
+    → IsSetup s → AllTexts chunks → FitsHalfCircle s (turns_in past)
+    → j < s.legs
+    → AnyComes (history_at s (after s chunks past).table j)
+
+-- Whatever a plan loses, delays or sends twice of the packets of plain mixing, what comes is of their history.
+abbrev pub PlannedPacketsCome : Type 0
+PlannedPacketsCome =
+    (s : Setup) (chunks : ℕ → List Chunk) (tick turns j : ℕ) (table : Table)
+    → IsSetup s → AllTexts chunks → FitsHalfCircle s turns
+    → 20 ≤ tick
+    → j < s.legs
+    → IsOverWith s tick turns chunks table
+    → ComesByPlan s table j (history_at s table j)
