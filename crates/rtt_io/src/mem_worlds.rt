@@ -1,7 +1,9 @@
 //! A world in memory.
-ghost use Rattle.std.specs.Prelude.{◌≡◌, ◌≢◌, ℕ, ◌≤◌, List, [], Option, IsSome, OnOk, OnErr, IfOk, IfSome, map, option_map, option_copied};
-ghost use Rattle.rtt_io.specs.Counts.{Rose, counted};
+ghost use Rattle.std.specs.Prelude.{◌≡◌, ℕ, List, [], Option, OnOk, OnErr, IfOk, IfSome, map, option_map, option_copied};
+ghost use Rattle.rtt_io.specs.Counts.{Rose};
 ghost use Rattle.rtt_io.specs.Files.{octets_of, own_of, objects_of};
+ghost use Rattle.rtt_io.specs.Names.{Same, SameBut, NoneFalls, CountsMore, Replaces};
+ghost use Rattle.rtt_io.specs.Worlds.{octets_held, own_counted, objects_counted};
 
 use crate::mem_files::{MemFile, place};
 use crate::{FailingWrite, MemSink, MemSource, Source, World};
@@ -96,10 +98,10 @@ impl MemWorld {
     /// Puts a file into the world, in place of what was under its name.
     pub fn add_file(&mut self, name: &str, octets: &[u8]) -> Result<(), NoMemory>
         ensures ok { OnOk result (⟦<MemWorld as World>⟧.contents self.new name.now ≡ Some octets.now) }
-        ensures others { (n : List ℕ) → n ≢ name.now → ⟦<MemWorld as World>⟧.contents self.new n ≡ ⟦<MemWorld as World>⟧.contents self.old n }
-        ensures err { OnErr result ((n : List ℕ) → ⟦<MemWorld as World>⟧.contents self.new n ≡ ⟦<MemWorld as World>⟧.contents self.old n) }
-        ensures same_own { (n : List ℕ) → ⟦<MemWorld as World>⟧.own_faults self.new n ≡ ⟦<MemWorld as World>⟧.own_faults self.old n }
-        ensures same_objects { (n : List ℕ) → ⟦<MemWorld as World>⟧.object_faults self.new n ≡ ⟦<MemWorld as World>⟧.object_faults self.old n }
+        ensures others { SameBut name.now ⟦<MemWorld as World>⟧.contents self.old self.new }
+        ensures err { OnErr result (Same ⟦<MemWorld as World>⟧.contents self.old self.new) }
+        ensures same_own { Same ⟦<MemWorld as World>⟧.own_faults self.old self.new }
+        ensures same_objects { Same ⟦<MemWorld as World>⟧.object_faults self.old self.new }
     {
         let mut copy = Bytes::new(self.alloc);
         copy.append(octets)?;
@@ -110,9 +112,9 @@ impl MemWorld {
 
     /// This call is to fail.
     pub fn fail(&mut self, call: FailingCall) -> Result<(), NoMemory>
-        ensures same_contents { (n : List ℕ) → ⟦<MemWorld as World>⟧.contents self.new n ≡ ⟦<MemWorld as World>⟧.contents self.old n }
-        ensures same_own { (n : List ℕ) → ⟦<MemWorld as World>⟧.own_faults self.new n ≡ ⟦<MemWorld as World>⟧.own_faults self.old n }
-        ensures same_objects { (n : List ℕ) → ⟦<MemWorld as World>⟧.object_faults self.new n ≡ ⟦<MemWorld as World>⟧.object_faults self.old n }
+        ensures same_contents { Same ⟦<MemWorld as World>⟧.contents self.old self.new }
+        ensures same_own { Same ⟦<MemWorld as World>⟧.own_faults self.old self.new }
+        ensures same_objects { Same ⟦<MemWorld as World>⟧.object_faults self.old self.new }
     {
         self.failing.push(call)?;
         Ok(())
@@ -130,7 +132,7 @@ impl MemWorld {
     fn source(&self, name: &str) -> Option<MemSource>
         ensures named { IfSome result (λ source. source.name ≡ name.now) }
         ensures fresh { IfSome result (λ source. source.faults ≡ 0) }
-        ensures holds { IfSome result (λ source. octets_of self.now.files.items name.now ≡ Some (⟦<MemSource as Source>⟧.left source)) }
+        ensures holds { IfSome result (λ source. octets_held self.now name.now ≡ Some (⟦<MemSource as Source>⟧.left source)) }
     {
         if self.fails_to_open(name) {
             return None;
@@ -215,11 +217,11 @@ impl MemWorld {
 
     // Makes what is under a name empty.
     fn make_empty(&mut self, name: &str) -> Result<(), NoMemory>
-        ensures ok { OnOk result (octets_of self.new.files.items name.now ≡ Some []) }
-        ensures others { (n : List ℕ) → n ≢ name.now → octets_of self.new.files.items n ≡ octets_of self.old.files.items n }
-        ensures err { OnErr result ((n : List ℕ) → octets_of self.new.files.items n ≡ octets_of self.old.files.items n) }
-        ensures same_own { (n : List ℕ) → own_of self.new.own_faults self.new.files.items n ≡ own_of self.old.own_faults self.old.files.items n }
-        ensures same_objects { (n : List ℕ) → objects_of self.new.object_faults self.new.files.items n ≡ objects_of self.old.object_faults self.old.files.items n }
+        ensures ok { OnOk result (octets_held self.new name.now ≡ Some []) }
+        ensures others { SameBut name.now octets_held self.old self.new }
+        ensures err { OnErr result (Same octets_held self.old self.new) }
+        ensures same_own { Same own_counted self.old self.new }
+        ensures same_objects { Same objects_counted self.old self.new }
     {
         if let Some(at) = place(self.files.as_slice(), name) {
             let file = &mut self.files[at];
@@ -238,10 +240,10 @@ impl MemWorld {
 
     // Puts octets in place of what is under a name, where something is.
     fn store(&mut self, name: &str, octets: Bytes)
-        ensures stored { IsSome (octets_of self.old.files.items name.now) → octets_of self.new.files.items name.now ≡ Some octets }
-        ensures others { (n : List ℕ) → n ≢ name.now → octets_of self.new.files.items n ≡ octets_of self.old.files.items n }
-        ensures same_own { (n : List ℕ) → own_of self.new.own_faults self.new.files.items n ≡ own_of self.old.own_faults self.old.files.items n }
-        ensures same_objects { (n : List ℕ) → objects_of self.new.object_faults self.new.files.items n ≡ objects_of self.old.object_faults self.old.files.items n }
+        ensures stored { Replaces octets_held name.now octets self.old self.new }
+        ensures others { SameBut name.now octets_held self.old self.new }
+        ensures same_own { Same own_counted self.old self.new }
+        ensures same_objects { Same objects_counted self.old self.new }
     {
         if let Some(at) = place(self.files.as_slice(), name) {
             let file = &mut self.files[at];
@@ -251,10 +253,10 @@ impl MemWorld {
 
     // Counts a fault of a call that opens or creates a name.
     fn count_own(&mut self, name: &str)
-        ensures rose { Rose (own_of self.old.own_faults self.old.files.items name.now) (own_of self.new.own_faults self.new.files.items name.now) }
-        ensures never_falls { (n : List ℕ) → own_of self.old.own_faults self.old.files.items n ≤ own_of self.new.own_faults self.new.files.items n }
-        ensures same_contents { (n : List ℕ) → octets_of self.new.files.items n ≡ octets_of self.old.files.items n }
-        ensures same_objects { (n : List ℕ) → objects_of self.new.object_faults self.new.files.items n ≡ objects_of self.old.object_faults self.old.files.items n }
+        ensures rose { Rose (own_counted self.old name.now) (own_counted self.new name.now) }
+        ensures never_falls { NoneFalls own_counted self.old self.new }
+        ensures same_contents { Same octets_held self.old self.new }
+        ensures same_objects { Same objects_counted self.old self.new }
     {
         match place(self.files.as_slice(), name) {
             Some(at) => {
@@ -267,11 +269,11 @@ impl MemWorld {
 
     // Adds the faults of an object to those of its name.
     fn count_object(&mut self, name: &str, faults: u64)
-        ensures added { objects_of self.new.object_faults self.new.files.items name.now ≡ counted (objects_of self.old.object_faults self.old.files.items name.now) faults }
-        ensures calm { faults ≡ 0 → (n : List ℕ) → objects_of self.new.object_faults self.new.files.items n ≡ objects_of self.old.object_faults self.old.files.items n }
-        ensures never_fall { (n : List ℕ) → objects_of self.old.object_faults self.old.files.items n ≤ objects_of self.new.object_faults self.new.files.items n }
-        ensures same_contents { (n : List ℕ) → octets_of self.new.files.items n ≡ octets_of self.old.files.items n }
-        ensures same_own { (n : List ℕ) → own_of self.new.own_faults self.new.files.items n ≡ own_of self.old.own_faults self.old.files.items n }
+        ensures added { CountsMore objects_counted name.now faults self.old self.new }
+        ensures calm { faults ≡ 0 → Same objects_counted self.old self.new }
+        ensures never_fall { NoneFalls objects_counted self.old self.new }
+        ensures same_contents { Same octets_held self.old self.new }
+        ensures same_own { Same own_counted self.old self.new }
     {
         match place(self.files.as_slice(), name) {
             Some(at) => {

@@ -1,6 +1,7 @@
 //! What is written to.
-ghost use Rattle.std.specs.Prelude.{◌≡◌, ℕ, ◌≤◌, List, ◌++◌, length, take, OnOk, OnErr};
+ghost use Rattle.std.specs.Prelude.{◌≡◌, ℕ, ◌≤◌, List, ◌++◌, OnOk, OnErr};
 ghost use Rattle.rtt_io.specs.Counts.{Rose};
+ghost use Rattle.rtt_io.specs.Fronts.{TakesFront};
 
 use rtt_base::Failed;
 
@@ -26,5 +27,5 @@ pub trait Sink {
         ensures calm { OnOk result (faults self.new ≡ faults self.old) }
 
         ensures appended { tells → OnOk result (took self.new ≡ took self.old ++ bytes.now) }
-        ensures prefix { tells → OnErr result ((n : ℕ) × (took self.new ≡ took self.old ++ take n bytes.now)) };
+        ensures prefix { tells → OnErr result (TakesFront (took self.old) (took self.new) bytes.now) };
 }

@@ -1,6 +1,7 @@
 //! Reading and writing of real streams.
-ghost use Rattle.std.specs.Prelude.{◌≡◌, ◌≤◌, ◌<◌, ℕ, length, take, IfOk, OnOk, OnErr, Ok};
+ghost use Rattle.std.specs.Prelude.{◌≡◌, ◌≤◌, ◌<◌, length, take, IfOk, OnOk, OnErr, Ok};
 ghost use Rattle.std.specs.Io.KnownBytes.{Appends, Consumes, Keeps, IsAtEnd};
+ghost use Rattle.rtt_io.specs.Fronts.{AppendsFront};
 
 use rtt_base::Failed;
 use std::fs::File;
@@ -26,7 +27,7 @@ pub(crate) fn read_once<R: Read>(from: &mut R, buf: &mut [u8]) -> Result<usize, 
 /// Writes all octets, piece by piece. A write that takes nothing of a piece that is not empty is a fault.
 pub(crate) fn write_whole<W: Write>(to: &mut W, octets: &[u8]) -> Result<(), Failed>
     ensures whole { OnOk result (Appends (W.contents to.old) (W.contents to.new) octets.now) }
-    ensures partly { OnErr result ((n : ℕ) × Appends (W.contents to.old) (W.contents to.new) (take n octets.now)) }
+    ensures partly { OnErr result (AppendsFront (W.contents to.old) (W.contents to.new) octets.now) }
 {
     let mut done = 0;
     while done < octets.len() {
@@ -65,7 +66,7 @@ impl Stored for Vec<u8> {
 /// Writes all octets, and waits until they are stored.
 pub(crate) fn write_stored<W: Stored>(to: &mut W, octets: &[u8]) -> Result<(), Failed>
     ensures whole { OnOk result (Appends (W.contents to.old) (W.contents to.new) octets.now) }
-    ensures partly { OnErr result ((n : ℕ) × Appends (W.contents to.old) (W.contents to.new) (take n octets.now)) }
+    ensures partly { OnErr result (AppendsFront (W.contents to.old) (W.contents to.new) octets.now) }
 {
     match write_whole(to, octets) {
         Ok(()) => to.store(),

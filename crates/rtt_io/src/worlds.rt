@@ -1,6 +1,7 @@
 //! What sources and sinks are opened in.
-ghost use Rattle.std.specs.Prelude.{◌≡◌, ◌≢◌, ℕ, ◌≤◌, List, [], Option, IsSome, OnOk, OnErr, IfOk};
-ghost use Rattle.rtt_io.specs.Counts.{Rose, counted};
+ghost use Rattle.std.specs.Prelude.{◌≡◌, ℕ, List, [], Option, OnOk, OnErr, IfOk};
+ghost use Rattle.rtt_io.specs.Counts.{Rose};
+ghost use Rattle.rtt_io.specs.Names.{Same, SameBut, NoneFalls, CountsMore, Replaces};
 
 use crate::{Sink, Source};
 use rtt_base::Failed;
@@ -25,46 +26,46 @@ pub trait World {
 
     /// Opens what is under a name for reading.
     fn open_source(&mut self, name: &str) -> Result<Self::Src, Failed>
-        ensures own_never_falls { (n : List ℕ) → own_faults self.old n ≤ own_faults self.new n }
+        ensures own_never_falls { NoneFalls own_faults self.old self.new }
         ensures failed { OnErr result (Rose (own_faults self.old name.now) (own_faults self.new name.now)) }
-        ensures same_objects { (n : List ℕ) → object_faults self.new n ≡ object_faults self.old n }
+        ensures same_objects { Same object_faults self.old self.new }
 
-        ensures calm { OnOk result ((n : List ℕ) → own_faults self.new n ≡ own_faults self.old n) }
+        ensures calm { OnOk result (Same own_faults self.old self.new) }
         ensures named { IfOk result (λ source. Self.Src.name source ≡ name.now) }
         ensures fresh { IfOk result (λ source. Self.Src.faults source ≡ 0) }
         ensures told { tells → OnOk result Self.Src.tells }
         ensures holds { tells → IfOk result (λ source. contents self.old name.now ≡ Some (Self.Src.left source)) }
-        ensures same_contents { tells → (n : List ℕ) → contents self.new n ≡ contents self.old n };
+        ensures same_contents { tells → Same contents self.old self.new };
 
     /// Creates what is under a name anew, empty, for writing. After `Failed` it is as before.
     fn create_sink(&mut self, name: &str) -> Result<Self::Dst, Failed>
-        ensures own_never_falls { (n : List ℕ) → own_faults self.old n ≤ own_faults self.new n }
+        ensures own_never_falls { NoneFalls own_faults self.old self.new }
         ensures failed { OnErr result (Rose (own_faults self.old name.now) (own_faults self.new name.now)) }
-        ensures same_objects { (n : List ℕ) → object_faults self.new n ≡ object_faults self.old n }
+        ensures same_objects { Same object_faults self.old self.new }
 
-        ensures calm { OnOk result ((n : List ℕ) → own_faults self.new n ≡ own_faults self.old n) }
+        ensures calm { OnOk result (Same own_faults self.old self.new) }
         ensures named { IfOk result (λ sink. Self.Dst.name sink ≡ name.now) }
         ensures fresh { IfOk result (λ sink. Self.Dst.faults sink ≡ 0) }
         ensures told { tells → OnOk result Self.Dst.tells }
         ensures nothing_taken { tells → IfOk result (λ sink. Self.Dst.took sink ≡ []) }
         ensures emptied { tells → OnOk result (contents self.new name.now ≡ Some []) }
-        ensures other_contents { tells → (n : List ℕ) → n ≢ name.now → contents self.new n ≡ contents self.old n }
-        ensures unchanged { tells → OnErr result ((n : List ℕ) → contents self.new n ≡ contents self.old n) };
+        ensures other_contents { tells → SameBut name.now contents self.old self.new }
+        ensures unchanged { tells → OnErr result (Same contents self.old self.new) };
 
     /// Takes back a source, and adds its faults to those of its name.
     fn done_src(&mut self, source: Self::Src)
-        ensures same_own { (n : List ℕ) → own_faults self.new n ≡ own_faults self.old n }
-        ensures objects_never_fall { (n : List ℕ) → object_faults self.old n ≤ object_faults self.new n }
-        ensures calm { Self.Src.faults source ≡ 0 → (n : List ℕ) → object_faults self.new n ≡ object_faults self.old n }
-        ensures added { object_faults self.new (Self.Src.name source) ≡ counted (object_faults self.old (Self.Src.name source)) (Self.Src.faults source) }
-        ensures same_contents { tells → (n : List ℕ) → contents self.new n ≡ contents self.old n };
+        ensures same_own { Same own_faults self.old self.new }
+        ensures objects_never_fall { NoneFalls object_faults self.old self.new }
+        ensures calm { Self.Src.faults source ≡ 0 → Same object_faults self.old self.new }
+        ensures added { CountsMore object_faults (Self.Src.name source) (Self.Src.faults source) self.old self.new }
+        ensures same_contents { tells → Same contents self.old self.new };
 
     /// Takes back a sink, stores what it took under its name, and adds its faults to those of its name.
     fn done_dst(&mut self, sink: Self::Dst)
-        ensures same_own { (n : List ℕ) → own_faults self.new n ≡ own_faults self.old n }
-        ensures objects_never_fall { (n : List ℕ) → object_faults self.old n ≤ object_faults self.new n }
-        ensures calm { Self.Dst.faults sink ≡ 0 → (n : List ℕ) → object_faults self.new n ≡ object_faults self.old n }
-        ensures added { object_faults self.new (Self.Dst.name sink) ≡ counted (object_faults self.old (Self.Dst.name sink)) (Self.Dst.faults sink) }
-        ensures stored { tells → IsSome (contents self.old (Self.Dst.name sink)) → contents self.new (Self.Dst.name sink) ≡ Some (Self.Dst.took sink) }
-        ensures other_contents { tells → (n : List ℕ) → n ≢ Self.Dst.name sink → contents self.new n ≡ contents self.old n };
+        ensures same_own { Same own_faults self.old self.new }
+        ensures objects_never_fall { NoneFalls object_faults self.old self.new }
+        ensures calm { Self.Dst.faults sink ≡ 0 → Same object_faults self.old self.new }
+        ensures added { CountsMore object_faults (Self.Dst.name sink) (Self.Dst.faults sink) self.old self.new }
+        ensures stored { tells → Replaces contents (Self.Dst.name sink) (Self.Dst.took sink) self.old self.new }
+        ensures other_contents { tells → SameBut (Self.Dst.name sink) contents self.old self.new };
 }
