@@ -1,5 +1,5 @@
 -- What a reading that goes by blocks has before it (profile): first the rest of its block, then what its source has left.
-use Rattle.std.specs.Prelude.{ℕ, ◌≡◌, ◌≤◌, List, ◌++◌, length, take, drop}
+use Rattle.std.specs.Prelude.{ℕ, ◌≡◌, ◌≤◌, List, [], ◌++◌, length, take, drop}
 use Rattle.rtpdump_io.specs.declared.inputs.Input.{Input}
 
 -- so many octets are there, and the others follow
@@ -15,3 +15,15 @@ module _ {S : Type 0} where
   -- all octets that are still to be read
   abbrev pub unread : (S → List ℕ) → Input S → List ℕ
   unread left input = held input ++ left input.source
+
+  -- nothing is still to be read
+  abbrev pub IsAtEnd : (S → List ℕ) → Input S → Type 0
+  IsAtEnd left input = unread left input ≡ []
+
+  -- these octets came first, and the others are still to be read
+  abbrev pub HandsOut : (S → List ℕ) → Input S → Input S → List ℕ → Type 0
+  HandsOut left old new octets = unread left old ≡ octets ++ unread left new
+
+  -- so many octets came first, and the others are still to be read
+  abbrev pub PassesOver : (S → List ℕ) → Input S → Input S → ℕ → Type 0
+  PassesOver left old new count = Passes count (unread left old) (unread left new)

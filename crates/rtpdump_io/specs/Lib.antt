@@ -1,6 +1,9 @@
 pub mod Input
+pub mod Line
 pub mod Reading
 pub mod Found
+pub mod Heads
+pub mod Steps
 pub mod Writing
 pub mod Answers
 pub mod Structures

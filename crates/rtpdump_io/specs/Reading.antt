@@ -1,5 +1,5 @@
 -- What is still to come of a reading of a recording, and what one call gives of it (profile).
-use Rattle.std.specs.Prelude.{◌≡◌, ℕ, ◌-◌, List, [], Bool, true, false, None, Some, Result, Ok, Err}
+use Rattle.std.specs.Prelude.{◌≡◌, ℕ, ◌-◌, List, [], Bool, true, false, None, Some, Result, Ok, Err, IfErr}
 use Rattle.wire_spec.specs.declared.faults.DumpKind.{DumpKind}
 use Rattle.wire_spec.specs.declared.faults.DumpKind.TheVariants as kind
 use Rattle.wire_spec.specs.Dump.{Item, Sent, Place, Recording, with_item, records, dump}
@@ -10,6 +10,7 @@ use Rattle.rtpdump_io.specs.declared.items.DumpFault.{DumpFault}
 use Rattle.rtpdump_io.specs.declared.readers.Stage.{Stage}
 use Rattle.rtpdump_io.specs.declared.readers.Stage.TheVariants.{Opening, Records, Ended}
 use Rattle.rtpdump_io.specs.declared.readers.DumpReader.{DumpReader}
+use Rattle.rtt_io.specs.Counts.{Rose}
 use Rattle.rtpdump_io.specs.Input.{unread}
 
 -- no records, and no fault
@@ -46,6 +47,10 @@ Gives (Err fault) out old new = Breaks fault.kind fault.offset old
 abbrev pub is_of_source : DumpKind → Bool
 is_of_source kind.Read = true
 is_of_source _ = false
+
+-- where the fault is one of the source, this holds of its byte
+abbrev pub IfOfSource : Result DumpItem DumpFault → (ℕ → Type 0) → Type 0
+IfOfSource result P = IfErr result (λ fault. fault.kind ≡ kind.Read → P fault.offset)
 
 -- the recording has this fault, where it is none of the source
 abbrev pub IsFaultOf : Recording → DumpFault → Type 0
@@ -88,6 +93,14 @@ module _ {S : Type 0} where
   -- what it reads from
   abbrev pub source_of : DumpReader S → S
   source_of reader = reader.input.source
+
+  -- the octets that it has not read yet
+  abbrev pub unread_by : (S → List ℕ) → DumpReader S → List ℕ
+  unread_by left reader = unread left reader.input
+
+  -- its source failed
+  abbrev pub SourceFailed : (S → ℕ) → DumpReader S → DumpReader S → Type 0
+  SourceFailed faults old new = Rose (faults (source_of old)) (faults (source_of new))
 
   -- the place in the recording at which it stands
   abbrev pub place_of : (S → List ℕ) → DumpReader S → Place

@@ -12,6 +12,10 @@ pub record IsHead (octets : List ℕ) (byte : ℕ) : Type 0 where
   pub line : past_line 128 octets ≡ Some behind
   pub all : byte + length behind ≡ length octets
 
+-- the line or the head begins at this byte
+abbrev pub IsLineOrHead : List ℕ → ℕ → Type 0
+IsLineOrHead octets byte = byte ≡ 0 ⊎ IsHead octets byte
+
 -- the first record begins at this byte: behind the head
 pub record IsFirst (octets : List ℕ) (byte : ℕ) : Type 0 where
   pub place : Place
@@ -38,3 +42,7 @@ module _ {S : Type 0} where
   -- all octets: those before what the reader reads next, and those from there on
   abbrev pub all_octets : (S → List ℕ) → DumpReader S → ℕ
   all_octets left reader = before reader.stage reader.offset + length (unread left reader.input)
+
+  -- the octets up to the place at which the reader stands, and those from there on
+  abbrev pub octets_around : (S → List ℕ) → DumpReader S → ℕ
+  octets_around left reader = reader.offset + length (unread left reader.input)

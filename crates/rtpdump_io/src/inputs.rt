@@ -19,7 +19,7 @@ pub(crate) struct Input<S> {
 
 impl<S: Source> Input<S> {
     ghost use Rattle.rtt_io.specs.Counts.{Rose};
-    ghost use Rattle.rtpdump_io.specs.Input.{held, unread, Passes};
+    ghost use Rattle.rtpdump_io.specs.Input.{held, unread, IsAtEnd, HandsOut, PassesOver};
 
     pub fn new(source: S) -> Input<S>
         ensures source { result.source ≡ source }
@@ -67,7 +67,7 @@ impl<S: Source> Input<S> {
         ensures failed { OnErr result (Rose (S.faults self.old.source) (S.faults self.new.source)) }
         ensures same_name { S.name self.new.source ≡ S.name self.old.source }
         ensures unread { S.tells → unread S.left self.new ≡ unread S.left self.old }
-        ensures ended { S.tells → result ≡ Ok tt → held self.new ≡ [] → unread S.left self.old ≡ [] }
+        ensures ended { S.tells → result ≡ Ok tt → held self.new ≡ [] → IsAtEnd S.left self.old }
     {
         if self.start == self.end {
             self.start = 0;
@@ -96,8 +96,8 @@ impl<S: Source> Input<S> {
         ensures never_falls { S.faults self.old.source ≤ S.faults self.new.source }
         ensures failed { OnErr result (Rose (S.faults self.old.source) (S.faults self.new.source)) }
         ensures same_name { S.name self.new.source ≡ S.name self.old.source }
-        ensures given { S.tells → IfOk result (λ octet. unread S.left self.old ≡ option_to_list octet ++ unread S.left self.new) }
-        ensures ended { S.tells → result ≡ Ok None → unread S.left self.new ≡ [] }
+        ensures given { S.tells → IfOk result (λ octet. HandsOut S.left self.old self.new (option_to_list octet)) }
+        ensures ended { S.tells → result ≡ Ok None → IsAtEnd S.left self.new }
     {
         self.fill()?;
         let Some(octet) = self.held().first().copied() else {
@@ -114,8 +114,8 @@ impl<S: Source> Input<S> {
         ensures never_falls { S.faults self.old.source ≤ S.faults self.new.source }
         ensures failed { OnErr result (Rose (S.faults self.old.source) (S.faults self.new.source)) }
         ensures same_name { S.name self.new.source ≡ S.name self.old.source }
-        ensures given { S.tells → IfOk result (λ number. unread S.left self.old ≡ take number buf.new ++ unread S.left self.new) }
-        ensures ended { S.tells → IfOk result (λ number. number < length buf.new → unread S.left self.new ≡ []) }
+        ensures given { S.tells → IfOk result (λ number. HandsOut S.left self.old self.new (take number buf.new)) }
+        ensures ended { S.tells → IfOk result (λ number. number < length buf.new → IsAtEnd S.left self.new) }
     {
         if self.held().len() < buf.len() {
             return self.read_parts(buf);
@@ -130,8 +130,8 @@ impl<S: Source> Input<S> {
         ensures never_falls { S.faults self.old.source ≤ S.faults self.new.source }
         ensures failed { OnErr result (Rose (S.faults self.old.source) (S.faults self.new.source)) }
         ensures same_name { S.name self.new.source ≡ S.name self.old.source }
-        ensures given { S.tells → IfOk result (λ number. unread S.left self.old ≡ take number buf.new ++ unread S.left self.new) }
-        ensures ended { S.tells → IfOk result (λ number. number < length buf.new → unread S.left self.new ≡ []) }
+        ensures given { S.tells → IfOk result (λ number. HandsOut S.left self.old self.new (take number buf.new)) }
+        ensures ended { S.tells → IfOk result (λ number. number < length buf.new → IsAtEnd S.left self.new) }
     {
         let mut done = 0;
         while done < buf.len() {
@@ -150,7 +150,7 @@ impl<S: Source> Input<S> {
         ensures never_falls { S.faults self.old.source ≤ S.faults self.new.source }
         ensures failed { OnErr result (Rose (S.faults self.old.source) (S.faults self.new.source)) }
         ensures same_name { S.name self.new.source ≡ S.name self.old.source }
-        ensures there { S.tells → result ≡ Ok true → Passes count (unread S.left self.old) (unread S.left self.new) }
+        ensures there { S.tells → result ≡ Ok true → PassesOver S.left self.old self.new count }
         ensures missing { S.tells → result ≡ Ok false → length (unread S.left self.old) < count }
     {
         let mut done = 0;
@@ -173,7 +173,7 @@ impl<S: Source> Input<S> {
         ensures never_falls { S.faults self.old.source ≤ S.faults self.new.source }
         ensures failed { OnErr result (Rose (S.faults self.old.source) (S.faults self.new.source)) }
         ensures same_name { S.name self.new.source ≡ S.name self.old.source }
-        ensures there { S.tells → result ≡ Ok true → Passes count (unread S.left self.old) (unread S.left self.new) }
+        ensures there { S.tells → result ≡ Ok true → PassesOver S.left self.old self.new count }
         ensures copied { S.tells → result ≡ Ok true → out.new ≡ out.old ++ take count (unread S.left self.old) }
         ensures missing { S.tells → result ≡ Ok false → length (unread S.left self.old) < count }
     {
@@ -192,7 +192,7 @@ impl<S: Source> Input<S> {
         ensures never_falls { S.faults self.old.source ≤ S.faults self.new.source }
         ensures failed { OnErr result (Rose (S.faults self.old.source) (S.faults self.new.source)) }
         ensures same_name { S.name self.new.source ≡ S.name self.old.source }
-        ensures there { S.tells → result ≡ Ok true → Passes count (unread S.left self.old) (unread S.left self.new) }
+        ensures there { S.tells → result ≡ Ok true → PassesOver S.left self.old self.new count }
         ensures copied { S.tells → result ≡ Ok true → out.new ≡ out.old ++ take count (unread S.left self.old) }
         ensures missing { S.tells → result ≡ Ok false → length (unread S.left self.old) < count }
     {

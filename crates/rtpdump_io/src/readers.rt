@@ -35,13 +35,13 @@ pub struct DumpReader<S> {
 }
 
 impl<S: Source> DumpReader<S> {
-    ghost use Rattle.std.specs.Prelude.{◌≡◌, ◌≢◌, ◌⊎◌, ◌<◌, ◌≤◌, ◌+◌, ◌-◌, true, false, Ok, OnOk, OnErr, IfErr, IfOk, length, take, drop};
-    ghost use Rattle.rtt_io.specs.Counts.{Rose};
-    ghost use Rattle.wire_spec.specs.Dump.{dump, dump_step, opening, usual_limit};
-    ghost use Rattle.rtpdump_io.specs.Reading.{Gives, is_last, nothing, to_come, most_answers, is_ended, source_of, place_of};
-    ghost use Rattle.rtpdump_io.specs.Structures.{Starts, IsHead, all_octets};
-    ghost use Rattle.rtpdump_io.specs.Found.{opened_as, found_as, came_as, ready_as, kept_of};
-    ghost use Rattle.rtpdump_io.specs.Input.{unread, Passes};
+    ghost use Rattle.std.specs.Prelude.{◌≡◌, ◌<◌, ◌≤◌, true, false, Ok, OnOk, OnErr, IfOk, length, take};
+    ghost use Rattle.wire_spec.specs.Dump.{dump, usual_limit};
+    ghost use Rattle.rtpdump_io.specs.Reading.{Gives, is_last, nothing, to_come, most_answers, is_ended, source_of, unread_by, SourceFailed, IfOfSource};
+    ghost use Rattle.rtpdump_io.specs.Structures.{Starts, IsLineOrHead, all_octets, octets_around};
+    ghost use Rattle.rtpdump_io.specs.Steps.{OnFound, OnRecord, IsOfRecording, Opens, IsReady, Finds, Comes};
+    ghost use Rattle.rtpdump_io.specs.Heads.{body_size, kept_size};
+    ghost use Rattle.rtpdump_io.specs.Input.{PassesOver};
 
     /// A reader of a recording of at most 4194304 octets, from its first octet on. It takes no memory.
     pub fn new(source: S) -> DumpReader<S>
@@ -94,8 +94,8 @@ impl<S: Source> DumpReader<S> {
     pub fn next(&mut self, out: &mut Packet) -> Result<DumpItem, DumpFault>
         requires { is_ended self.old ≡ false }
         ensures gives { S.tells → Gives result out.new (to_come S.left self.old) (to_come S.left self.new) }
-        ensures read { IfErr result (λ fault. fault.kind ≡ DumpKind.Read → Rose (S.faults (source_of self.old)) (S.faults (source_of self.new))) }
-        ensures read_at { S.tells → IfErr result (λ fault. fault.kind ≡ DumpKind.Read → Starts S.left self.old fault.offset) }
+        ensures read { IfOfSource result (λ _. SourceFailed S.faults self.old self.new) }
+        ensures read_at { S.tells → IfOfSource result (λ byte. Starts S.left self.old byte) }
         ensures all { S.tells → OnOk result (all_octets S.left self.new ≡ all_octets S.left self.old) }
         ensures ended { is_ended self.new ≡ is_last result }
         ensures over { is_last result ≡ true → to_come S.left self.new ≡ nothing }
@@ -130,14 +130,14 @@ impl<S: Source> DumpReader<S> {
     // Reads the opening first, where that was not done yet, and then a record.
     fn step(&mut self, out: &mut Packet) -> Result<Result<DumpItem, DumpKind>, Failed>
         requires { is_ended self.old ≡ false }
-        ensures came { S.tells → IfOk result (λ found. to_come S.left self.old ≡ came_as found out.new self.new.offset (to_come S.left self.new)) }
-        ensures not_read { IfOk result (λ found. IfErr found (λ kind. kind ≢ DumpKind.Read)) }
+        ensures came { S.tells → IfOk result (λ found. Comes S.left self.old self.new out.new found) }
+        ensures not_read { IsOfRecording result }
         ensures read_at { S.tells → OnErr result (Starts S.left self.old self.new.offset) }
-        ensures all { S.tells → IfOk result (λ found. OnOk found (self.new.offset + length (unread S.left self.new.input) ≡ all_octets S.left self.old)) }
-        ensures ready { IfOk result (λ found. OnOk found (self.new.stage ≡ Stage.Records)) }
+        ensures all { S.tells → OnFound result (octets_around S.left self.new ≡ all_octets S.left self.old) }
+        ensures ready { OnFound result (self.new.stage ≡ Stage.Records) }
         ensures not_ended { is_ended self.new ≡ false }
-        ensures nearer { IfOk result (λ found. IfOk found (λ item. item ≢ DumpItem.End → most_answers self.new < most_answers self.old)) }
-        ensures failed { OnErr result (Rose (S.faults (source_of self.old)) (S.faults (source_of self.new))) }
+        ensures nearer { OnRecord result (most_answers self.new < most_answers self.old) }
+        ensures failed { OnErr result (SourceFailed S.faults self.old self.new) }
         ensures never_falls { S.faults (source_of self.old) ≤ S.faults (source_of self.new) }
         ensures same_name { S.name (source_of self.new) ≡ S.name (source_of self.old) }
     {
@@ -150,15 +150,15 @@ impl<S: Source> DumpReader<S> {
     // Reads the opening, where that was not done yet.
     fn make_ready(&mut self) -> Result<Result<(), DumpKind>, Failed>
         requires { is_ended self.old ≡ false }
-        ensures came { S.tells → IfOk result (λ found. to_come S.left self.old ≡ ready_as found self.new.offset (to_come S.left self.new)) }
-        ensures ready { IfOk result (λ found. OnOk found (self.new.stage ≡ Stage.Records)) }
+        ensures came { S.tells → IfOk result (λ found. IsReady S.left self.old self.new found) }
+        ensures ready { OnFound result (self.new.stage ≡ Stage.Records) }
         ensures read_at { S.tells → OnErr result (Starts S.left self.old self.new.offset) }
-        ensures starts { S.tells → IfOk result (λ found. OnOk found (Starts S.left self.old self.new.offset)) }
-        ensures all { S.tells → IfOk result (λ found. OnOk found (self.new.offset + length (unread S.left self.new.input) ≡ all_octets S.left self.old)) }
-        ensures not_farther { IfOk result (λ found. OnOk found (most_answers self.new ≤ most_answers self.old)) }
-        ensures not_read { IfOk result (λ found. IfErr found (λ kind. kind ≢ DumpKind.Read)) }
+        ensures starts { S.tells → OnFound result (Starts S.left self.old self.new.offset) }
+        ensures all { S.tells → OnFound result (octets_around S.left self.new ≡ all_octets S.left self.old) }
+        ensures not_farther { OnFound result (most_answers self.new ≤ most_answers self.old) }
+        ensures not_read { IsOfRecording result }
         ensures not_ended { is_ended self.new ≡ false }
-        ensures failed { OnErr result (Rose (S.faults (source_of self.old)) (S.faults (source_of self.new))) }
+        ensures failed { OnErr result (SourceFailed S.faults self.old self.new) }
         ensures never_falls { S.faults (source_of self.old) ≤ S.faults (source_of self.new) }
         ensures same_name { S.name (source_of self.new) ≡ S.name (source_of self.old) }
     {
@@ -177,13 +177,13 @@ impl<S: Source> DumpReader<S> {
 
     // Reads the line and the head.
     fn open(&mut self) -> Result<Result<(), DumpKind>, Failed>
-        ensures read_at { S.tells → OnErr result (self.new.offset ≡ 0 ⊎ IsHead (unread S.left self.old.input) self.new.offset) }
-        ensures all { S.tells → IfOk result (λ found. OnOk found (self.new.offset + length (unread S.left self.new.input) ≡ length (unread S.left self.old.input))) }
-        ensures opened { S.tells → IfOk result (λ found. opening (unread S.left self.old.input) ≡ opened_as found (place_of S.left self.new)) }
-        ensures not_read { IfOk result (λ found. IfErr found (λ kind. kind ≢ DumpKind.Read)) }
+        ensures read_at { S.tells → OnErr result (IsLineOrHead (unread_by S.left self.old) self.new.offset) }
+        ensures all { S.tells → OnFound result (octets_around S.left self.new ≡ length (unread_by S.left self.old)) }
+        ensures opened { S.tells → IfOk result (λ found. Opens S.left self.old self.new found) }
+        ensures not_read { IsOfRecording result }
         ensures same_limit { self.new.limit ≡ self.old.limit }
         ensures same_stage { self.new.stage ≡ self.old.stage }
-        ensures failed { OnErr result (Rose (S.faults (source_of self.old)) (S.faults (source_of self.new))) }
+        ensures failed { OnErr result (SourceFailed S.faults self.old self.new) }
         ensures never_falls { S.faults (source_of self.old) ≤ S.faults (source_of self.new) }
         ensures same_name { S.name (source_of self.new) ≡ S.name (source_of self.old) }
     {
@@ -205,13 +205,13 @@ impl<S: Source> DumpReader<S> {
     // Reads a record, or finds the end.
     fn record(&mut self, out: &mut Packet) -> Result<Result<DumpItem, DumpKind>, Failed>
         ensures same_offset { OnErr result (self.new.offset ≡ self.old.offset) }
-        ensures all { S.tells → IfOk result (λ found. OnOk found (self.new.offset + length (unread S.left self.new.input) ≡ self.old.offset + length (unread S.left self.old.input))) }
-        ensures farther { IfOk result (λ found. IfOk found (λ item. item ≢ DumpItem.End → self.old.offset < self.new.offset)) }
-        ensures found { S.tells → IfOk result (λ found. dump_step self.old.limit (place_of S.left self.old) ≡ found_as found out.new (place_of S.left self.new)) }
-        ensures not_read { IfOk result (λ found. IfErr found (λ kind. kind ≢ DumpKind.Read)) }
+        ensures all { S.tells → OnFound result (octets_around S.left self.new ≡ octets_around S.left self.old) }
+        ensures farther { OnRecord result (self.old.offset < self.new.offset) }
+        ensures found { S.tells → IfOk result (λ found. Finds S.left self.old self.new out.new found) }
+        ensures not_read { IsOfRecording result }
         ensures same_limit { self.new.limit ≡ self.old.limit }
         ensures same_stage { self.new.stage ≡ self.old.stage }
-        ensures failed { OnErr result (Rose (S.faults (source_of self.old)) (S.faults (source_of self.new))) }
+        ensures failed { OnErr result (SourceFailed S.faults self.old self.new) }
         ensures never_falls { S.faults (source_of self.old) ≤ S.faults (source_of self.new) }
         ensures same_name { S.name (source_of self.new) ≡ S.name (source_of self.old) }
     {
@@ -244,13 +244,13 @@ impl<S: Source> DumpReader<S> {
     // Reads what a record has behind its head, and keeps the octets of a packet. Answers whether all was there.
     fn body(&mut self, head: &RecordHead, out: &mut Packet) -> Result<bool, Failed>
         requires { 8 ≤ head.now.size }
-        ensures there { S.tells → result ≡ Ok true → Passes (head.now.size - 8) (unread S.left self.old.input) (unread S.left self.new.input) }
-        ensures kept { S.tells → result ≡ Ok true → out.new ≡ take (kept_of head.now.packet_size (head.now.size - 8)) (unread S.left self.old.input) }
-        ensures missing { S.tells → result ≡ Ok false → length (unread S.left self.old.input) < head.now.size - 8 }
+        ensures there { S.tells → result ≡ Ok true → PassesOver S.left self.old.input self.new.input (body_size head.now) }
+        ensures kept { S.tells → result ≡ Ok true → out.new ≡ take (kept_size head.now) (unread_by S.left self.old) }
+        ensures missing { S.tells → result ≡ Ok false → length (unread_by S.left self.old) < body_size head.now }
         ensures same_offset { self.new.offset ≡ self.old.offset }
         ensures same_limit { self.new.limit ≡ self.old.limit }
         ensures same_stage { self.new.stage ≡ self.old.stage }
-        ensures failed { OnErr result (Rose (S.faults (source_of self.old)) (S.faults (source_of self.new))) }
+        ensures failed { OnErr result (SourceFailed S.faults self.old self.new) }
         ensures never_falls { S.faults (source_of self.old) ≤ S.faults (source_of self.new) }
         ensures same_name { S.name (source_of self.new) ≡ S.name (source_of self.old) }
     {
