@@ -1,7 +1,6 @@
 //! The sender.
-ghost use Rattle.std.specs.Prelude.{◌≡◌, ◌+◌, ◌%◌, ◌^◌, ◌<◌, ◌≤◌, ◌∷◌, ◌++◌, ◌↔◌, [], ℕ, List, true, if◌then◌else◌, not, max, Some, None, length, IfOk, IsOk, OnOk, OnErr, IsUtf8};
-ghost use Rattle.stream_spec.specs.Typed.{Event, Text as text_event, Ask, longest_step};
-ghost use Rattle.stream_spec.specs.declared.limits.TheConstants.{MOST_WAITING_OCTETS};
+ghost use Rattle.std.specs.Prelude.{◌≡◌, ◌^◌, ◌<◌, ◌≤◌, ◌∷◌, ◌↔◌, [], IfOk, IsOk, OnOk, OnErr, IsUtf8};
+ghost use Rattle.stream_spec.specs.Typed.{Text as text_event, Ask, longest_step};
 
 use crate::waiting::Waiting;
 use red_blocks::{TextHead, write_text};
@@ -70,12 +69,10 @@ impl Model for Sender {
 }
 
 impl Sender {
-    ghost use Rattle.stream_spec.specs.Own.{packet_after, has_text_in};
-    ghost use Rattle.stream_spec.specs.Typed.{last_ask, sents, has_passed, media_at, entry_at, due_at, packet_at};
-    ghost use Rattle.wire_spec.specs.SentPackets.{packet_written};
+    ghost use Rattle.stream_spec.specs.Typed.{has_passed, media_at, due_at};
     ghost use Rattle.text_sender.specs.Confs.{IsConf, stream_of};
-    ghost use Rattle.text_sender.specs.Standing.{StandsFor, sent_by, waits_for, has_more, next_due_of};
-    ghost use Rattle.std.specs.Option.{option_map};
+    ghost use Rattle.text_sender.specs.Standing.{StandsFor, sent_by, has_more, next_due_of};
+    ghost use Rattle.text_sender.specs.Scripts.{OfScripts, GoesOn, AskedUntil, DueAt, HasRoom, octets_at, octets_due, written, is_after_pause};
 
     /// A sender that was given no text. It reserves the room for all text that may wait.
     pub fn new(alloc: Global, conf: SendConf) -> Result<Sender, NoMemory>
@@ -98,9 +95,8 @@ impl Sender {
     /// takes no memory.
     pub fn typed(&mut self, text: &[u8]) -> Result<(), Full>
         requires { IsUtf8 text.now }
-        ensures room { (conf : SendConf) (past : List Event) → StandsFor conf self.old past
-            → (IsOk result ↔ (length (waits_for conf past) + length text.now ≤ MOST_WAITING_OCTETS)) }
-        ensures ok { OnOk result ((conf : SendConf) (past : List Event) → StandsFor conf self.old past → StandsFor conf self.new (text_event text.now ∷ past)) }
+        ensures room { OfScripts self.old (λ conf past. IsOk result ↔ HasRoom conf past text.now) }
+        ensures ok { OnOk result (GoesOn self.old self.new (text_event text.now)) }
         ensures err { OnErr result (self.new ≡ self.old) }
     {
         self.waiting.append(text)
@@ -109,14 +105,14 @@ impl Sender {
     /// Whether a packet is sent at this moment, in ms: text waits or is to be repeated, and nothing was sent yet or the
     /// interval has passed.
     pub fn due(&self, now: u64) -> bool
-        ensures { (conf : SendConf) (past : List Event) → StandsFor conf self.now past → result ≡ due_at (stream_of conf) conf.interval past now }
+        ensures { OfScripts self.now (λ conf past. result ≡ due_at (stream_of conf) conf.interval past now) }
     {
         self.has_more() && self.has_passed(now)
     }
 
     /// The moment, in ms, from which the next packet is due, where one was sent and text waits or is to be repeated.
     pub fn next_due(&self) -> Option<u64>
-        ensures { (conf : SendConf) (past : List Event) → StandsFor conf self.now past → result ≡ next_due_of conf past }
+        ensures { OfScripts self.now (λ conf past. result ≡ next_due_of conf past) }
     {
         match self.last {
             Some(last) if self.has_more() => Some(last.at + self.conf.interval),
@@ -127,9 +123,8 @@ impl Sender {
     /// Sends the packet that is due at this moment, in ms, if there is one. It takes no memory.
     pub fn turn(&mut self, now: u64) -> Option<Packet>
         requires { now < 2 ^ 31 }
-        ensures packet { (conf : SendConf) (past : List Event) → StandsFor conf self.old past → last_ask past ≤ now
-            → result ≡ option_map (packet_written conf.pts) (packet_at (stream_of conf) conf.interval past now) }
-        ensures stands { (conf : SendConf) (past : List Event) → StandsFor conf self.old past → last_ask past ≤ now → StandsFor conf self.new (Ask now ∷ past) }
+        ensures packet { AskedUntil now self.old (λ conf past. result ≡ octets_at conf past now) }
+        ensures stands { AskedUntil now self.old (λ conf past. StandsFor conf self.new (Ask now ∷ past)) }
     {
         let mut packet = Packet::new();
         if self.turn_into(now, &mut packet) {
@@ -143,9 +138,8 @@ impl Sender {
     /// It takes no memory.
     pub fn turn_into(&mut self, now: u64, out: &mut Packet) -> bool
         requires { now < 2 ^ 31 }
-        ensures packet { (conf : SendConf) (past : List Event) → StandsFor conf self.old past → last_ask past ≤ now
-            → (if result then Some out.new else None) ≡ option_map (packet_written conf.pts) (packet_at (stream_of conf) conf.interval past now) }
-        ensures stands { (conf : SendConf) (past : List Event) → StandsFor conf self.old past → last_ask past ≤ now → StandsFor conf self.new (Ask now ∷ past) }
+        ensures packet { AskedUntil now self.old (λ conf past. written result out.new ≡ octets_at conf past now) }
+        ensures stands { AskedUntil now self.old (λ conf past. StandsFor conf self.new (Ask now ∷ past)) }
     {
         if self.due(now) {
             self.write(now, out);
@@ -157,14 +151,14 @@ impl Sender {
 
     /// Whether text waits or is still to be repeated.
     fn has_more(&self) -> bool
-        ensures { (conf : SendConf) (past : List Event) → StandsFor conf self.now past → result ≡ has_more conf past }
+        ensures { OfScripts self.now (λ conf past. result ≡ has_more conf past) }
     {
         !self.waiting.is_empty() || self.window.due()
     }
 
     /// Whether nothing was sent yet, or the interval has passed.
     fn has_passed(&self, now: u64) -> bool
-        ensures { (conf : SendConf) (past : List Event) → StandsFor conf self.now past → result ≡ has_passed conf.interval (sent_by conf past) now }
+        ensures { OfScripts self.now (λ conf past. result ≡ has_passed conf.interval (sent_by conf past) now) }
     {
         match self.last {
             None => true,
@@ -175,7 +169,7 @@ impl Sender {
     /// Whether the next packet comes after a pause: no text before it is still to be repeated, and the last packet had
     /// none.
     fn is_after_pause(&self) -> bool
-        ensures { (conf : SendConf) (past : List Event) → StandsFor conf self.now past → result ≡ not (has_text_in (max 1 conf.gens) (sents (sent_by conf past))) }
+        ensures { OfScripts self.now (λ conf past. result ≡ is_after_pause conf past) }
     {
         !self.window.due() && !self.spoke
     }
@@ -183,7 +177,7 @@ impl Sender {
     /// The media time of a packet at this moment.
     fn media_at(&self, now: u64) -> u64
         requires { now < 2 ^ 31 }
-        ensures value { (conf : SendConf) (past : List Event) → StandsFor conf self.now past → result ≡ media_at conf.gens (sent_by conf past) now }
+        ensures value { OfScripts self.now (λ conf past. result ≡ media_at conf.gens (sent_by conf past) now) }
         ensures fits { result ≤ now }
     {
         match self.last {
@@ -195,10 +189,8 @@ impl Sender {
     /// Writes the packet at this moment, which is due.
     fn write(&mut self, now: u64, out: &mut Packet)
         requires { now < 2 ^ 31 }
-        ensures octets { (conf : SendConf) (past : List Event) → StandsFor conf self.old past → last_ask past ≤ now → due_at (stream_of conf) conf.interval past now ≡ true
-            → out.new ≡ packet_written conf.pts (packet_after (stream_of conf) (sents (sent_by conf past)) (entry_at (stream_of conf) (sent_by conf past) (waits_for conf past) now).sent) }
-        ensures stands { (conf : SendConf) (past : List Event) → StandsFor conf self.old past → last_ask past ≤ now → due_at (stream_of conf) conf.interval past now ≡ true
-            → StandsFor conf self.new (Ask now ∷ past) }
+        ensures octets { DueAt now self.old (λ conf past. out.new ≡ octets_due conf past now) }
+        ensures stands { DueAt now self.old (λ conf past. StandsFor conf self.new (Ask now ∷ past)) }
     {
         let media = self.media_at(now);
         let head = TextHead {
