@@ -1,9 +1,10 @@
 //! Reads scripts.
 ghost use Rattle.std.specs.Prelude.{◌≡◌, ◌≤◌, Ok, IfOk, IfErr};
-ghost use Rattle.file_spec.specs.Script.{around_space, script, script_line};
+ghost use Rattle.file_spec.specs.Script.{around_space, script};
 ghost use Rattle.file_lines.specs.Causes.{IsCause, IsCauseAt};
 ghost use Rattle.file_lines.specs.Texts.{parts_of};
 ghost use Rattle.file_lines.specs.declared.faults.ConfFault.TheVariants.{Refused};
+ghost use Rattle.script_text.specs.ScriptLines.{line_said};
 
 use crate::escapes::read_text;
 use crate::{ConfFault, ConfKind, Script, ScriptLine};
@@ -29,8 +30,9 @@ fn refused(line: u32, kind: ConfKind) -> ConfFault
 /// `latest`.
 #[tactic(auto, unfolding(file_spec::specs::Script::script_line))]
 fn read_line(line: u32, latest: u32, octets: &[u8], text: &mut Bytes) -> Result<u32, ConfFault>
-    ensures ok { IfOk result (λ at. script_line latest (record { number = line; octets = octets.now }) ≡ Ok (record { line = line; at = at; text = text.new })) }
-    ensures err { IfErr result (λ fault. IsCauseAt line fault (script_line latest (record { number = line; octets = octets.now }))) }
+    ensures ok { IfOk result (λ at. line_said latest line octets.now
+        ≡ Ok (record { line = line; at = at; text = text.new })) }
+    ensures err { IfErr result (λ fault. IsCauseAt line fault (line_said latest line octets.now)) }
     ensures in_order { IfOk result (λ at. latest ≤ at) }
 {
     let Some(said) = text_of(octets) else {
