@@ -17,15 +17,24 @@ is_set flags i = slice_index_or flags i false
 abbrev pub since_at : List (Option ℕ) → ℕ → Option ℕ
 since_at since i = slice_index_or since i None
 
+-- a flag is set besides the one at `own`
+abbrev pub any_other : List Bool → ℕ → Bool
+any_other flags own = any_below (λ s. not (s == own) && is_set flags s) (length flags)
+
+-- and its moment was so long ago
+abbrev pub any_long : List Bool → List (Option ℕ) → ℕ → ℕ → ℕ → Bool
+any_long flags since ms now own =
+    any_below (λ s. not (s == own) && (is_set flags s && is_ago ms now (since_at since s))) (length flags)
+
 -- Whether the speaker is left: the run has a chunk, another one waits, and the run's text ends a line or a sentence, or
 -- nothing of the speaker waits and it was given 2000 ms ago, or another one has waited for 7000 ms.
 abbrev pub is_left : State → Current → ℕ → Bool
 is_left c x media =
     c.run.has_chunk
-    && (any_below (λ s. not (s == x.speaker) && is_set c.waits s) (length c.waits)
+    && (any_other c.waits x.speaker
     && (is_turn c.run.tail
     || ((not (is_set c.waits x.speaker) && is_ago 2000 media (Some x.given_at))
-    || any_below (λ s. not (s == x.speaker) && (is_set c.waits s && is_ago 7000 media (since_at c.since s))) (length c.waits))))
+    || any_long c.waits c.since 7000 media x.speaker)))
 
 abbrev pub begins : Option ℕ → Choice
 begins None = Nobody

@@ -1,9 +1,9 @@
 //! Who is given text at an ask.
-ghost use Rattle.std.specs.Prelude.{◌≡◌, ℕ, ◌+◌, ◌-◌, ◌<◌, ◌≤◌, ◌==◌, ◌&&◌, not, length, IfSome, Some};
-ghost use Rattle.mixer_spec.specs.Rounds.{any_below, first_from, first_round};
+ghost use Rattle.std.specs.Prelude.{◌≡◌, ℕ, ◌+◌, ◌-◌, ◌<◌, ◌≤◌, ◌&&◌, not, length, IfSome, Some};
+ghost use Rattle.mixer_spec.specs.Rounds.{first_from, first_round};
 ghost use Rattle.mixer_spec.specs.Composed.{is_ago, waits_here};
 ghost use Rattle.slot_table.specs.Standing.{Tells};
-ghost use Rattle.unaware_view.specs.Choices.{is_leg, is_set, noted, since_at};
+ghost use Rattle.unaware_view.specs.Choices.{any_long, any_other, is_leg, is_set, noted, since_at};
 
 use slot_table::Slots;
 
@@ -37,7 +37,7 @@ pub(crate) fn first_round(flags: &[bool], start: usize) -> Option<usize>
 
 /// Whether a flag is set besides the one at `own`.
 pub(crate) fn any_other(flags: &[bool], own: usize) -> bool
-    ensures { result ≡ any_below (λ s. not (s == own) && is_set flags.now s) (length flags.now) }
+    ensures { result ≡ any_other flags.now own }
 {
     let mut found = false;
     for i in 0..flags.len() {
@@ -60,7 +60,7 @@ pub(crate) fn is_ago(ms: u64, now: u64, moment: Option<u64>) -> bool
 /// Whether a flag is set besides the one at `own` whose moment was so long ago.
 pub(crate) fn any_long(flags: &[bool], since: &[Option<u64>], ms: u64, now: u64, own: usize) -> bool
     requires { length flags.now ≡ length since.now }
-    ensures { result ≡ any_below (λ s. not (s == own) && (is_set flags.now s && is_ago ms now (since_at since.now s))) (length flags.now) }
+    ensures { result ≡ any_long flags.now since.now ms now own }
 {
     let mut found = false;
     for i in 0..flags.len() {
