@@ -1,9 +1,14 @@
 -- What the lines of a conference in the code mean (profile).
-use Rattle.std.specs.Prelude.{◌<◌, Result, Ok, Err, length}
+use Rattle.std.specs.Prelude.{ℕ, ◌<◌, Result, Ok, Err, Option, List, length, map}
+use denote.Ref.{Bor}
 use Rattle.file_spec.specs.declared.limits.TheConstants.{MOST_LEGS, USUAL_GENS}
 use Rattle.file_spec.specs.declared.conf_lines.LegLine.{LegLine}
+use Rattle.file_spec.specs.declared.conf_lines.Form.{Form}
+use Rattle.file_spec.specs.declared.kinds.ConfKind.{ConfKind}
 use Rattle.file_spec.specs.Conf as conf
 use Rattle.conf_text.specs.declared.confs.Conf.{Conf}
+use Rattle.rtt_base.specs.declared.text_packets.Pts.{Pts}
+use Rattle.conf_text.specs.declared.leg_lines.LegWords.{LegWords}
 use Rattle.conf_text.specs.declared.drafts.NewLeg.{NewLeg}
 use Rattle.conf_text.specs.declared.drafts.Draft.{Draft}
 use Rattle.conf_text.specs.declared.drafts.Entry.{Entry}
@@ -25,6 +30,19 @@ meaning (Wait n) = conf.Wait n
 meaning (Turns n) = conf.Turns n
 meaning (Mixer m) = conf.Mixer m
 meaning (Plan p) = conf.Plan p
+
+-- the lines so far with a line of this number that has these octets
+abbrev pub with_line : Form → Draft → ℕ → List ℕ → Result conf.Above ConfKind
+with_line form draft number octets = conf.and_line form (above_of draft) (record { number = number; octets = octets })
+
+-- the leg that these words say on a line, below these lines
+abbrev pub leg_said : Form → Draft → ℕ → LegWords → Option Pts → Result LegLine ConfKind
+leg_said form above line words pts =
+    conf.leg_of form (above_of above) line words.name.now words.mode.now words.ssrc.now words.input.now words.output.now pts
+
+-- the words themselves
+abbrev pub texts_of : List (Bor (List ℕ)) → List (List ℕ)
+texts_of words = map (λ w. w.now) words
 
 -- a result, its value seen so
 abbrev pub seen : {A B E : Type 0} → (A → B) → Result A E → Result B E

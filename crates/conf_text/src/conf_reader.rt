@@ -1,11 +1,11 @@
 //! Reads conferences.
-ghost use Rattle.std.specs.Prelude.{◌≡◌, ◌==◌, ◌||◌, IfOk, IfErr, OnOk, map};
+ghost use Rattle.std.specs.Prelude.{◌≡◌, ◌==◌, ◌||◌, IfOk, IfErr, OnOk};
 ghost use Rattle.std.specs.List.{list_all};
 ghost use Rattle.file_spec.specs.Lines.{words};
-ghost use Rattle.file_spec.specs.Conf.{and_line, complete, conf, is_blank};
+ghost use Rattle.file_spec.specs.Conf.{complete, conf, is_blank};
 ghost use Rattle.file_spec.specs.Kept.{Keeps};
 ghost use Rattle.file_lines.specs.Causes.{IsCause, IsCauseAt};
-ghost use Rattle.conf_text.specs.Lines.{above_of, conf_of};
+ghost use Rattle.conf_text.specs.Lines.{above_of, conf_of, texts_of, with_line};
 
 use crate::crowds::has_crowd;
 use crate::drafts::Draft;
@@ -32,7 +32,7 @@ fn is_passed_over(line: &[u8]) -> bool
 
 /// The words of a line: what stands between its spaces.
 fn words_of(alloc: Global, line: &str) -> Result<Vec<&str>, NoMemory>
-    ensures { IfOk result (λ v. map (λ w. w.now) v.items ≡ words line.now) }
+    ensures { IfOk result (λ v. texts_of v.items ≡ words line.now) }
 {
     match line
         .split(' ')
@@ -51,8 +51,8 @@ fn read_line(
     line: u32,
     octets: &[u8],
 ) -> Result<(), ConfFault>
-    ensures ok { OnOk result (and_line form (above_of draft.old) (record { number = line; octets = octets.now }) ≡ Ok (above_of draft.new)) }
-    ensures err { IfErr result (λ fault. IsCauseAt line fault (and_line form (above_of draft.old) (record { number = line; octets = octets.now }))) }
+    ensures ok { OnOk result (with_line form draft.old line octets.now ≡ Ok (above_of draft.new)) }
+    ensures err { IfErr result (λ fault. IsCauseAt line fault (with_line form draft.old line octets.now)) }
 {
     let Some(text) = text_of(octets) else {
         return Err(ConfFault::Refused {

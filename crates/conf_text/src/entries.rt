@@ -1,7 +1,7 @@
 //! The lines of a conference.
-ghost use Rattle.std.specs.Prelude.{◌≡◌, ◌∷◌, map, IfOk};
+ghost use Rattle.std.specs.Prelude.{◌≡◌, ◌∷◌, IfOk};
 ghost use Rattle.file_spec.specs.Conf.{entry, mixer, mixer_of, setting, stay_or_plan, time_or_other};
-ghost use Rattle.conf_text.specs.Lines.{above_of, meaning, seen, MayFollow};
+ghost use Rattle.conf_text.specs.Lines.{above_of, meaning, seen, texts_of, MayFollow};
 
 use crate::ConfKind;
 use crate::drafts::{Draft, Entry};
@@ -14,7 +14,7 @@ use numerals::{number_from, number_of};
 use rtt_base::limits::LONGEST_WAIT;
 
 fn read_setting(least: u32, most: u32, above: Option<u32>, words: &[&str]) -> Result<u32, ConfKind>
-    ensures { result ≡ setting least most above (map (λ w. w.now) words.now) }
+    ensures { result ≡ setting least most above (texts_of words.now) }
 {
     let [text] = words else {
         return Err(ConfKind::Count);
@@ -55,7 +55,7 @@ fn read_stream(above: &Draft, ssrc: &str, seq: &str, stamp: &str) -> Result<Mixe
 }
 
 fn read_mixer(above: &Draft, words: &[&str]) -> Result<MixerLine, ConfKind>
-    ensures { result ≡ mixer (above_of above.now) (map (λ w. w.now) words.now) }
+    ensures { result ≡ mixer (above_of above.now) (texts_of words.now) }
 {
     match words {
         [ssrc, seq, stamp] => read_stream(above, ssrc, seq, stamp),
@@ -70,7 +70,7 @@ fn read_stay_or_plan<'a>(
     word: &str,
     words: &[&str],
 ) -> Result<Entry<'a>, ConfKind>
-    ensures exact { seen meaning result ≡ stay_or_plan form (above_of above.now) word.now (map (λ w. w.now) words.now) }
+    ensures exact { seen meaning result ≡ stay_or_plan form (above_of above.now) word.now (texts_of words.now) }
     ensures follows { IfOk result (λ said. MayFollow (above_of above.now) (meaning said)) }
 {
     if form == Form::Links {
@@ -89,7 +89,7 @@ fn read_time_or_other<'a>(
     word: &str,
     words: &[&str],
 ) -> Result<Entry<'a>, ConfKind>
-    ensures exact { seen meaning result ≡ time_or_other form (above_of above.now) word.now (map (λ w. w.now) words.now) }
+    ensures exact { seen meaning result ≡ time_or_other form (above_of above.now) word.now (texts_of words.now) }
     ensures follows { IfOk result (λ said. MayFollow (above_of above.now) (meaning said)) }
 {
     match word {
@@ -114,7 +114,7 @@ fn read_worded<'a>(
     word: &str,
     words: &[&'a str],
 ) -> Result<Entry<'a>, ConfKind>
-    ensures exact { seen meaning result ≡ entry form (above_of above.now) line (word.now ∷ map (λ w. w.now) words.now) }
+    ensures exact { seen meaning result ≡ entry form (above_of above.now) line (word.now ∷ texts_of words.now) }
     ensures follows { IfOk result (λ said. MayFollow (above_of above.now) (meaning said)) }
 {
     match word {
@@ -133,7 +133,7 @@ pub(crate) fn read_entry<'a>(
     line: u32,
     words: &[&'a str],
 ) -> Result<Entry<'a>, ConfKind>
-    ensures exact { seen meaning result ≡ entry form (above_of above.now) line (map (λ w. w.now) words.now) }
+    ensures exact { seen meaning result ≡ entry form (above_of above.now) line (texts_of words.now) }
     ensures follows { IfOk result (λ said. MayFollow (above_of above.now) (meaning said)) }
 {
     let [word, more @ ..] = words else {

@@ -1,8 +1,8 @@
 //! The lines of legs.
-ghost use Rattle.std.specs.Prelude.{◌≡◌, ◌==◌, ◌<◌, bytes_eq, map, length, OnOk};
+ghost use Rattle.std.specs.Prelude.{◌≡◌, ◌==◌, ◌<◌, bytes_eq, length, OnOk};
 ghost use Rattle.std.specs.List.{list_any};
-ghost use Rattle.file_spec.specs.Conf.{clashes, has_names, has_port, is_mixers, leg, leg_of, most_legs, new_leg, port, is_same_port, shares_own, shares_path};
-ghost use Rattle.conf_text.specs.Lines.{above_of, leg_line, seen};
+ghost use Rattle.file_spec.specs.Conf.{clashes, has_names, has_port, is_mixers, leg, most_legs, new_leg, port, is_same_port, shares_own, shares_path};
+ghost use Rattle.conf_text.specs.Lines.{above_of, leg_line, leg_said, seen, texts_of};
 
 use crate::ConfKind;
 use crate::drafts::{Draft, NewLeg};
@@ -145,7 +145,7 @@ fn read_words<'a>(
     words: &LegWords<'a>,
     pts: Option<Pts>,
 ) -> Result<NewLeg<'a>, ConfKind>
-    ensures exact { seen leg_line result ≡ leg_of form (above_of above.now) line words.now.name.now words.now.mode.now words.now.ssrc.now words.now.input.now words.now.output.now pts }
+    ensures exact { seen leg_line result ≡ leg_said form above.now line words.now pts }
     ensures seat { OnOk result (length above.now.legs < MOST_LEGS) }
 {
     let Some(aware) = awareness(words.mode) else {
@@ -182,7 +182,7 @@ pub(crate) fn read_leg<'a>(
     line: u32,
     words: &[&'a str],
 ) -> Result<NewLeg<'a>, ConfKind>
-    ensures exact { seen leg_line result ≡ leg form (above_of above.now) line (map (λ w. w.now) words.now) }
+    ensures exact { seen leg_line result ≡ leg form (above_of above.now) line (texts_of words.now) }
     ensures seat { OnOk result (length above.now.legs < MOST_LEGS) }
 {
     match words {

@@ -1,8 +1,8 @@
 //! The lines of a plan.
-ghost use Rattle.std.specs.Prelude.{◌≡◌, map};
+ghost use Rattle.std.specs.Prelude.{◌≡◌};
 ghost use Rattle.std.specs.List.{list_any};
 ghost use Rattle.file_spec.specs.Conf.{delay, delay_of, plan, plan_of, plan_word, is_same_packet, is_same_word};
-ghost use Rattle.conf_text.specs.Lines.{above_of};
+ghost use Rattle.conf_text.specs.Lines.{above_of, texts_of};
 
 use crate::ConfKind;
 use crate::drafts::Draft;
@@ -77,7 +77,7 @@ fn delay_from(text: &str) -> Option<What>
 }
 
 fn read_plain(above: &Draft, what: What, words: &[&str]) -> Result<PlanLine, ConfKind>
-    ensures { result ≡ plan (above_of above.now) what (map (λ w. w.now) words.now) }
+    ensures { result ≡ plan (above_of above.now) what (texts_of words.now) }
 {
     match words {
         [name, packet] => read_event(above, name, packet, Some(what)),
@@ -86,7 +86,7 @@ fn read_plain(above: &Draft, what: What, words: &[&str]) -> Result<PlanLine, Con
 }
 
 fn read_delay(above: &Draft, words: &[&str]) -> Result<PlanLine, ConfKind>
-    ensures { result ≡ delay (above_of above.now) (map (λ w. w.now) words.now) }
+    ensures { result ≡ delay (above_of above.now) (texts_of words.now) }
 {
     match words {
         [name, packet, late] => read_event(above, name, packet, delay_from(late)),
@@ -96,7 +96,7 @@ fn read_delay(above: &Draft, words: &[&str]) -> Result<PlanLine, ConfKind>
 
 /// The plan line of a line, from its first word and those after it.
 pub(crate) fn read_plan(above: &Draft, word: &str, words: &[&str]) -> Result<PlanLine, ConfKind>
-    ensures { result ≡ plan_word (above_of above.now) word.now (map (λ w. w.now) words.now) }
+    ensures { result ≡ plan_word (above_of above.now) word.now (texts_of words.now) }
 {
     match word {
         "lose" => read_plain(above, What::Lose, words),

@@ -1,8 +1,8 @@
 //! The lines of generations and of stays.
-ghost use Rattle.std.specs.Prelude.{◌≡◌, ◌<◌, ◌==◌, bytes_eq, map, length, IfOk, IfSome};
+ghost use Rattle.std.specs.Prelude.{◌≡◌, ◌<◌, ◌==◌, bytes_eq, length, IfOk, IfSome};
 ghost use Rattle.std.specs.List.{list_any, position};
 ghost use Rattle.file_spec.specs.Conf.{gens, gens_of, stay, stay_of};
-ghost use Rattle.conf_text.specs.Lines.{above_of};
+ghost use Rattle.conf_text.specs.Lines.{above_of, texts_of};
 
 use crate::ConfKind;
 use crate::drafts::Draft;
@@ -56,7 +56,7 @@ fn read_count(above: &Draft, name: &str, count: &str) -> Result<GensLine, ConfKi
 
 /// The generations of a line, from the words after the first.
 pub(crate) fn read_gens(above: &Draft, words: &[&str]) -> Result<GensLine, ConfKind>
-    ensures exact { result ≡ gens (above_of above.now) (map (λ w. w.now) words.now) }
+    ensures exact { result ≡ gens (above_of above.now) (texts_of words.now) }
     ensures place { IfOk result (λ line. line.leg < length above.now.legs) }
 {
     match words {
@@ -94,7 +94,7 @@ fn read_moments(above: &Draft, name: &str, from: &str, until: &str) -> Result<St
 
 /// The stay of a line, from the words after the first.
 pub(crate) fn read_stay(above: &Draft, words: &[&str]) -> Result<StayLine, ConfKind>
-    ensures exact { result ≡ stay (above_of above.now) (map (λ w. w.now) words.now) }
+    ensures exact { result ≡ stay (above_of above.now) (texts_of words.now) }
     ensures place { IfOk result (λ line. line.leg < length above.now.legs) }
 {
     match words {
