@@ -1,5 +1,5 @@
 -- What was sent to each terminal, as the octets of a recording.
-use Rattle.std.specs.Prelude.{◌≡◌, ℕ, ◌<◌, ◌==◌, zero, suc, List, [], ◌∷◌, ◌++◌, length, map, filter, flat_map}
+use Rattle.std.specs.Prelude.{◌≡◌, ℕ, ◌<◌, ◌==◌, zero, suc, List, [], ◌∷◌, ◌++◌, length, map, filter, flat_map, slice_set}
 use Rattle.rtt_base.specs.declared.text_packets.Pts.{Pts}
 use Rattle.wire_spec.specs.Packets.{Arrival}
 use Rattle.wire_spec.specs.Dump.{record_written, dump_written}
@@ -12,6 +12,10 @@ abbrev pub out_at : List (List ℕ) → ℕ → List ℕ
 out_at [] j = []
 out_at (o ∷ os) zero = o
 out_at (o ∷ os) (suc j) = out_at os j
+
+-- where a packet that is sent at this moment was appended for the terminal j
+abbrev pub with_record : List (List ℕ) → ℕ → ℕ → List ℕ → List (List ℕ)
+with_record outs j at packet = slice_set outs j (out_at outs j ++ record_written (at, packet))
 
 -- packets that are sent with these payload types, as records
 abbrev pub records : Pts → List Arrival → List (ℕ × List ℕ)

@@ -1,10 +1,8 @@
 //! Legs come and go.
-ghost use Rattle.std.specs.Prelude.{◌≡◌, ℕ, ◌<◌, false, if◌then◌else◌};
-ghost use Rattle.rtt_base.specs.declared.text_packets.Pts.{Pts};
-ghost use Rattle.mixer_spec.specs.Setups.{Setup};
-ghost use Rattle.mixer_spec.specs.Table.{Table, stopped, departed, entered};
-ghost use Rattle.mix_loop.specs.Mixers.{Keeps, Of, At};
-ghost use Rattle.mix_loop.specs.Ports.{OnlySeat, StaysAs, SeatAt, is_away, is_to_leave};
+ghost use Rattle.std.specs.Prelude.{◌≡◌, ◌<◌, false};
+ghost use Rattle.mix_loop.specs.Mixers.{Keeps};
+ghost use Rattle.mix_loop.specs.Ports.{OnlySeat, is_away};
+ghost use Rattle.mix_loop.specs.Steps.{Departed, Entered, Stopped};
 
 use crate::Mixes;
 use crate::ports::{Port, Seat, has_begun, is_before_end, seat_with};
@@ -16,8 +14,7 @@ impl<I> Port<I> {
         ensures keeps { Keeps M.legs M.turns mixer.old mixer.new }
         ensures only { OnlySeat self.old self.new }
         ensures away { is_away self.new.seat ≡ is_away self.old.seat }
-        ensures stops { (s : Setup) (pts : ℕ → Pts) (table : Table) → StaysAs s leg self.old → SeatAt table.seats leg self.old.seat → At (Of M.stands pts) mixer.old s table
-            → At (Of M.stands pts) mixer.new s (stopped s leg now table) × SeatAt (stopped s leg now table).seats leg self.new.seat }
+        ensures stops { Stopped M.stands leg now self.old self.new mixer.old mixer.new }
     {
         if !self.is_to_stop(now) {
             return;
@@ -32,9 +29,7 @@ impl<I> Port<I> {
         ensures keeps { Keeps M.legs M.turns mixer.old mixer.new }
         ensures only { OnlySeat self.old self.new }
         ensures away { is_away self.new.seat ≡ is_away self.old.seat }
-        ensures leaves { (s : Setup) (pts : ℕ → Pts) (table : Table) → SeatAt table.seats leg self.old.seat → At (Of M.stands pts) mixer.old s table
-            → let after = if is_to_leave self.old then departed s leg table else table in
-            At (Of M.stands pts) mixer.new s after × SeatAt after.seats leg self.new.seat }
+        ensures leaves { Departed M.stands leg self.old self.new mixer.old mixer.new }
     {
         if !self.is_to_leave() {
             return;
@@ -50,8 +45,7 @@ impl<I> Port<I> {
         requires { leg < M.legs mixer.old }
         ensures keeps { Keeps M.legs M.turns mixer.old mixer.new }
         ensures only { OnlySeat self.old self.new }
-        ensures comes { (s : Setup) (pts : ℕ → Pts) (table : Table) → leg < s.legs → StaysAs s leg self.old → SeatAt table.seats leg self.old.seat → At (Of M.stands pts) mixer.old s table
-            → At (Of M.stands pts) mixer.new s (entered s leg now table) × SeatAt (entered s leg now table).seats leg self.new.seat }
+        ensures comes { Entered M.stands leg now self.old self.new mixer.old mixer.new }
     {
         if !self.seat.is_away() {
             return;

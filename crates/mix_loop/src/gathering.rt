@@ -1,13 +1,10 @@
 //! What a leg offers, and what is let go of it.
-ghost use Rattle.std.specs.Prelude.{◌≡◌, not, nat_le, ℕ, ◌<◌, true, false, if◌then◌else◌};
+ghost use Rattle.std.specs.Prelude.{◌≡◌, not, nat_le, ◌<◌, true, false};
 ghost use Rattle.stream_spec.specs.Ready.{chunk_of};
-ghost use Rattle.rtt_base.specs.declared.text_packets.Pts.{Pts};
-ghost use Rattle.mixer_spec.specs.Setups.{Setup};
-ghost use Rattle.mixer_spec.specs.Table.{Table, given};
-ghost use Rattle.mixer_spec.specs.Core.{is_taken};
-ghost use Rattle.mix_loop.specs.Items.{Gave, IsOf, is_open};
-ghost use Rattle.mix_loop.specs.Mixers.{Keeps, Of, At};
-ghost use Rattle.mix_loop.specs.Ports.{OnlyHand, SameSeat, IsSound, Holds, PulledTo, GatheredTo, DrainedTo, hand_of};
+ghost use Rattle.mix_loop.specs.Items.{IsOf, is_open};
+ghost use Rattle.mix_loop.specs.Mixers.{Keeps};
+ghost use Rattle.mix_loop.specs.Ports.{OnlyHand, SameSeat, IsSound};
+ghost use Rattle.mix_loop.specs.Steps.{Drained, Offered, Pulled, Took};
 
 use crate::ports::Port;
 use crate::{Inlet, Mixes};
@@ -27,9 +24,7 @@ fn take<M: Mixes>(mixer: &mut M, chunk: &Chunk, now: u64) -> bool
     requires source { chunk.now.source < M.legs mixer.old }
     requires text { IsOf chunk.now.source (chunk_of chunk.now) }
     ensures keeps { Keeps M.legs M.turns mixer.old mixer.new }
-    ensures taken { (s : Setup) (pts : ℕ → Pts) (table : Table) → At (Of M.stands pts) mixer.old s table
-        → (result ≡ is_taken s chunk.now.source now table (chunk_of chunk.now))
-        × At (Of M.stands pts) mixer.new s (if result then given chunk.now.source (chunk_of chunk.now) table else table) }
+    ensures taken { Took M.stands (chunk_of chunk.now) now result mixer.old mixer.new }
 {
     if !is_ready(chunk, now) {
         return false;
@@ -46,7 +41,7 @@ impl<I: Inlet> Port<I> {
         ensures sound { IsSound I.good I.place self.new }
         ensures place { I.place self.new.inlet ≡ I.place self.old.inlet }
         ensures same { SameSeat self.old self.new }
-        ensures pulled { (first : I) (gave : Gave) → Holds I.stands first self.old gave → PulledTo I.stands first (hand_of self.old) gave self.new }
+        ensures pulled { Pulled I.stands self.old self.new }
     {
         let item = self.inlet.next(rt, gate, &mut self.hand);
         self.full = item.is_chunk();
@@ -60,9 +55,7 @@ impl<I: Inlet> Port<I> {
         ensures only { OnlyHand self.old self.new }
         ensures full { self.new.full ≡ not result }
         ensures keeps { Keeps M.legs M.turns mixer.old mixer.new }
-        ensures taken { (s : Setup) (pts : ℕ → Pts) (table : Table) → At (Of M.stands pts) mixer.old s table
-            → (result ≡ is_taken s self.old.hand.source now table (chunk_of self.old.hand))
-            × At (Of M.stands pts) mixer.new s (if result then given self.old.hand.source (chunk_of self.old.hand) table else table) }
+        ensures taken { Took M.stands (chunk_of self.old.hand) now result mixer.old mixer.new }
     {
         let taken = take(mixer, &self.hand, now);
         self.full = !taken;
@@ -83,8 +76,7 @@ impl<I: Inlet> Port<I> {
         ensures place { I.place self.new.inlet ≡ I.place self.old.inlet }
         ensures same { SameSeat self.old self.new }
         ensures keeps { Keeps M.legs M.turns mixer.old mixer.new }
-        ensures gathered { (s : Setup) (pts : ℕ → Pts) (table : Table) (first : I) (gave : Gave) → Holds I.stands first self.old gave → At (Of M.stands pts) mixer.old s table
-            → GatheredTo I.stands (Of M.stands pts) s (I.place self.old.inlet) now first gave (hand_of self.old) table self.new mixer.new }
+        ensures gathered { Offered I.stands M.stands (I.place self.old.inlet) now self.old self.new mixer.old mixer.new }
     {
         for _ in rt.forever() {
             if !self.full {
@@ -108,7 +100,7 @@ impl<I: Inlet> Port<I> {
         ensures place { I.place self.new.inlet ≡ I.place self.old.inlet }
         ensures same { SameSeat self.old self.new }
         ensures closed { is_open self.new.ended ≡ false }
-        ensures drained { (first : I) (gave : Gave) → Holds I.stands first self.old gave → DrainedTo I.stands first gave self.new }
+        ensures drained { Drained I.stands self.old self.new }
     {
         for _ in rt.forever() {
             if !self.ended.is_open() {

@@ -1,7 +1,6 @@
 //! What was sent, as it will be written.
-ghost use Rattle.std.specs.Prelude.{◌≡◌, ◌<◌, ◌≤◌, ◌++◌, length, IfOk, OnOk, OnErr, slice_set};
-ghost use Rattle.wire_spec.specs.Dump.{record_written};
-ghost use Rattle.mix_loop.specs.Logs.{out_at, AllOpen};
+ghost use Rattle.std.specs.Prelude.{◌≡◌, ◌<◌, ◌≤◌, length, IfOk, OnOk, OnErr};
+ghost use Rattle.mix_loop.specs.Logs.{AllOpen, out_at, with_record};
 
 use rtpdump_io::{write_opening, write_record};
 use rtt_base::{Bytes, NoMemory};
@@ -49,7 +48,7 @@ impl Log {
         requires terminal { terminal < length self.old }
         requires some { 0 < length packet.now }
         requires fits { length packet.now ≤ 65527 }
-        ensures ok { OnOk result (self.new ≡ slice_set self.old terminal (out_at self.old terminal ++ record_written (at, packet.now))) }
+        ensures ok { OnOk result (self.new ≡ with_record self.old terminal at packet.now) }
         ensures err { OnErr result (self.new ≡ self.old) }
     {
         let out = &mut self.outs[terminal];

@@ -1,14 +1,10 @@
 //! The turns of a mixing.
-ghost use Rattle.std.specs.Prelude.{◌≡◌, ℕ, ◌*◌, ◌<◌, ◌≤◌, ◌&&◌, List, length, not, MatchOption, map};
-ghost use Rattle.std.specs.List.{list_all, list_any};
-ghost use Rattle.rtt_base.specs.declared.text_packets.Pts.{Pts};
-ghost use Rattle.mixer_spec.specs.Setups.{Setup};
-ghost use Rattle.mixer_spec.specs.Table.{Table, empty, is_idle};
-ghost use Rattle.mixer_spec.specs.Plain.{goes_below, comes_below, offers_below, before_turn};
+ghost use Rattle.std.specs.Prelude.{◌≡◌, ◌*◌, ◌<◌, ◌≤◌, length, MatchOption};
+ghost use Rattle.std.specs.List.{list_any};
 ghost use Rattle.mix_loop.specs.Items.{is_fault, fault_in};
-ghost use Rattle.mix_loop.specs.Logs.{LogOf, AllOpen};
-ghost use Rattle.mix_loop.specs.Mixers.{Keeps, Of, At};
-ghost use Rattle.mix_loop.specs.Turns.{Known, AreAt, IsNow, BecomesBy, OffersBy, SettlesBy, Settled, TurnsTo, DrainsTo, AllKnown, Mixed, NoFaultBelow, IsLowestAt, IsBefore, ended_at, mixing_of};
+ghost use Rattle.mix_loop.specs.Mixers.{Keeps};
+ghost use Rattle.mix_loop.specs.Steps.{AllCame, AllDrained, AllOffered, AllSettled, AllTurned, AllWent, TellsOver, are_empty};
+ghost use Rattle.mix_loop.specs.Turns.{AreAt, IsLowestAt, Mixed, NoFaultBelow, ended_at, mixing_of};
 
 use crate::ports::Port;
 use crate::{Inlet, Log, Mixes};
@@ -55,8 +51,7 @@ fn go_all<I: Inlet, M: Mixes>(ports: &mut [Port<I>], mixer: &mut M, now: u64)
     requires legs { M.legs mixer.old ≡ length ports.old }
     ensures places { AreAt I.good I.place ports.new }
     ensures keeps { Keeps M.legs M.turns mixer.old mixer.new }
-    ensures goes { (s : Setup) (pts : ℕ → Pts) (firsts : List I) (kn : ℕ → Known) (table : Table) → IsNow I.stands (Of M.stands pts) s firsts kn table ports.old mixer.old → Settled kn
-        → BecomesBy I.stands (Of M.stands pts) s firsts (goes_below s now s.legs) kn table ports.new mixer.new }
+    ensures goes { AllWent I.stands M.stands now ports.old ports.new mixer.old mixer.new }
 {
     for leg in 0..ports.len() {
         let port = &mut ports[leg];
@@ -71,8 +66,7 @@ fn come_all<I: Inlet, M: Mixes>(ports: &mut [Port<I>], mixer: &mut M, now: u64)
     requires legs { M.legs mixer.old ≡ length ports.old }
     ensures places { AreAt I.good I.place ports.new }
     ensures keeps { Keeps M.legs M.turns mixer.old mixer.new }
-    ensures comes { (s : Setup) (pts : ℕ → Pts) (firsts : List I) (kn : ℕ → Known) (table : Table) → IsNow I.stands (Of M.stands pts) s firsts kn table ports.old mixer.old
-        → BecomesBy I.stands (Of M.stands pts) s firsts (comes_below s now s.legs) kn table ports.new mixer.new }
+    ensures comes { AllCame I.stands M.stands now ports.old ports.new mixer.old mixer.new }
 {
     for leg in 0..ports.len() {
         let port = &mut ports[leg];
@@ -92,8 +86,7 @@ fn gather_all<I: Inlet, M: Mixes, R: Wait, G: Gate>(
     requires legs { M.legs mixer.old ≡ length ports.old }
     ensures places { AreAt I.good I.place ports.new }
     ensures keeps { Keeps M.legs M.turns mixer.old mixer.new }
-    ensures offers { (s : Setup) (pts : ℕ → Pts) (firsts : List I) (kn : ℕ → Known) (table : Table) → IsNow I.stands (Of M.stands pts) s firsts kn table ports.old mixer.old
-        → OffersBy I.stands (Of M.stands pts) s firsts s.legs (offers_below s now s.legs) kn table ports.new mixer.new }
+    ensures offers { AllOffered I.stands M.stands now ports.old ports.new mixer.old mixer.new }
 {
     for leg in 0..ports.len() {
         let port = &mut ports[leg];
@@ -103,7 +96,7 @@ fn gather_all<I: Inlet, M: Mixes, R: Wait, G: Gate>(
 
 /// Whether each hand is empty and nothing waits at the mixer.
 fn is_over<I, M: Mixes>(ports: &[Port<I>], mixer: &M) -> bool
-    ensures { (s : Setup) (pts : ℕ → Pts) (table : Table) → At (Of M.stands pts) mixer.now s table → result ≡ (list_all (λ p. not p.full) ports.now && is_idle s table) }
+    ensures { TellsOver M.stands ports.now mixer.now result }
 {
     let spent = all_empty(ports);
     spent && mixer.idle()
@@ -111,7 +104,7 @@ fn is_over<I, M: Mixes>(ports: &[Port<I>], mixer: &M) -> bool
 
 /// Whether each hand is empty.
 fn all_empty<I>(ports: &[Port<I>]) -> bool
-    ensures { result ≡ list_all (λ p. not p.full) ports.now }
+    ensures { result ≡ are_empty ports.now }
 {
     ports.iter().all(|port| !port.full)
 }
@@ -135,8 +128,7 @@ fn settle<I: Inlet, M: Mixes, R: Wait, G: Gate>(
     requires legs { M.legs mixer.old ≡ length ports.old }
     ensures places { AreAt I.good I.place ports.new }
     ensures keeps { Keeps M.legs M.turns mixer.old mixer.new }
-    ensures settles { (s : Setup) (pts : ℕ → Pts) (firsts : List I) (kn : ℕ → Known) (table : Table) → IsNow I.stands (Of M.stands pts) s firsts kn table ports.old mixer.old → Settled kn
-        → SettlesBy I.stands (Of M.stands pts) s firsts result (before_turn s now) kn table ports.new mixer.new }
+    ensures settles { AllSettled I.stands M.stands now result ports.old ports.new mixer.old mixer.new }
 {
     go_all(ports, mixer, now);
     come_all(ports, mixer, now);
@@ -177,8 +169,7 @@ fn take_turns<I: Inlet, M: Mixes, R: Wait, G: Gate>(
     requires tick { tick ≤ 400 }
     ensures places { AreAt I.good I.place ports.new }
     ensures terminals { length log.new ≡ length log.old }
-    ensures turned { (s : Setup) (pts : ℕ → Pts) (firsts : List I) (kn : ℕ → Known) (table : Table) → IsNow I.stands (Of M.stands pts) s firsts kn table ports.old mixer.old → IsBefore s tick turns 0 kn table → LogOf pts s table log.old
-        → TurnsTo I.stands (Of M.stands pts) pts s firsts tick turns result ports.new mixer.new log.new }
+    ensures turned { AllTurned I.stands M.stands tick turns result ports.old ports.new mixer.old mixer.new log.old log.new }
 {
     for k in 0..turns {
         let now = moment_of(k, tick);
@@ -202,7 +193,7 @@ fn take_turns<I: Inlet, M: Mixes, R: Wait, G: Gate>(
 fn drain_all<I: Inlet, R: Wait, G: Gate>(rt: &R, gate: &G, ports: &mut [Port<I>])
     requires places { AreAt I.good I.place ports.old }
     ensures places { AreAt I.good I.place ports.new }
-    ensures drains { (s : Setup) (firsts : List I) (kn : ℕ → Known) → AllKnown I.stands s firsts ports.old kn → DrainsTo I.stands s firsts (length ports.new) kn ports.new }
+    ensures drains { AllDrained I.stands ports.old ports.new }
 {
     for leg in 0..ports.len() {
         let port = &mut ports[leg];
