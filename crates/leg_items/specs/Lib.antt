@@ -1,2 +1,3 @@
 pub mod Feds
 pub mod Answers
+pub mod Laws
