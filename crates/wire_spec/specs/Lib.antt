@@ -6,3 +6,4 @@ pub mod Red
 pub mod Text
 pub mod Dump
 pub mod SentPackets
+pub mod ReadBack
