@@ -10,3 +10,6 @@ pub mod Carries
 pub mod Own
 pub mod Typed
 pub mod InTime
+pub mod HeardLaws
+pub mod NumberLaws
+pub mod SentLaws
