@@ -14,7 +14,7 @@ use Rattle.mixer_spec.specs.Table.{Table, chunks_taken, shared}
 use Rattle.mixer_spec.specs.Core.{Event, after}
 use Rattle.mixer_spec.specs.Plain.{IsOverWith}
 use Rattle.mixer_spec.specs.Headline.{Headline, Hop, IsHop, OneHop, hears}
-use Rattle.mixer_spec.specs.Bridged.{AreCounted, Bridged, BridgedAsOne, IsConferenceMixed, IsHeardOf, IsMixed, IsOut, IsPair, IsPart, IsRunning, before, hop_from, hop_to, leg_chunks, leg_heard, shared_texts, told_at, waiting_texts}
+use Rattle.mixer_spec.specs.Bridged.{AreCounted, Bridged, BridgedAsOne, IsConferenceMixed, IsHeardOf, IsMixed, IsOut, IsPair, IsPart, IsRunning, SharedIsPart, before, hop_from, hop_to, leg_chunks, leg_heard, shared_texts, told_at, waiting_texts}
 
 -- ---- at the end of plain mixing
 -- What an aware terminal hears of a leg is bridged, whatever comes to it.
@@ -47,7 +47,7 @@ hop_behind s w j i wait came = hop_to (told_at s w j) (s.ssrc i) wait came
 abbrev pub HasHeadline : Setup → Table → ℕ → ℕ → Hop → List Chunk → ℕ → List Arrival → Type 0
 HasHeadline s w j i p cs wait came =
     (still : List Item) × (after : List Item)
-    × (part : IsPart (before s w j i cs) (hears p) (shared_texts w j i))
+    × (part : SharedIsPart s w j i p cs)
     × (texts still ≡ waiting_texts w j i)
     × (texts after ≡ part.after)
     × Headline p (hop_behind s w j i wait came) (before s w j i cs) still after
@@ -70,8 +70,7 @@ AnyIsPart =
     → IsAnother i j
     → (p : Hop) (cs : List Chunk) → IsHeardOf p i cs
     → AreCounted s chunks i cs
-    → let w = (after s chunks past).table in
-    IsPart (before s w j i cs) (hears p) (shared_texts w j i)
+    → SharedIsPart s (after s chunks past).table j i p cs
 
 -- The packets to an aware terminal carry a front of the texts that it shares, and the rest waits there.
 abbrev pub AnyIsCarried : Type 0
@@ -191,4 +190,4 @@ ConferenceIsPart =
     → (j i : ℕ)
     → i < (setup c).legs → IsAnother i j
     → (h : History)
-    → IsPart (before (setup c) table j i (leg_heard c inputs i)) (hears (hop_from c inputs i h)) (shared_texts table j i)
+    → SharedIsPart (setup c) table j i (hop_from c inputs i h) (leg_heard c inputs i)

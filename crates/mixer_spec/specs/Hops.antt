@@ -27,7 +27,7 @@ HopsTellCarried =
     → In (Block k) (through (told_from n h1 i1 s1) h2 i2 s2)
     ↔ ((y : Placed) × In (Block y) (kept h2 i2 s2) × In (Block k) (carried_by (told_from n h1 i1 s1) h2 s2 y))
 
--- What an entry carries is told by the first hop.
+-- A block that an entry carries is told by the first hop.
 abbrev pub CarriedIsTold : Type 0
 CarriedIsTold =
     (h1 : History) (i1 : List Placed) (s1 n : ℕ) (es : List Placed) (y k : Placed)

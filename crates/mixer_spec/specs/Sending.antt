@@ -1,8 +1,9 @@
 -- What the laws say of the packets to a terminal: their history, and what comes of them.
 use Rattle.std.specs.Prelude.{◌≡◌, ℕ, ◌<◌, ◌≤◌, List, map}
 use Rattle.stream_spec.specs.Ready.{Chunk}
-use Rattle.stream_spec.specs.History.{History, Placed, Lawful, Come, placed}
-use Rattle.stream_spec.specs.Own.{NearEach, Own, come_from, own_packet}
+use Rattle.stream_spec.specs.History.{Lawful, placed}
+use Rattle.stream_spec.specs.Own.{Own, own_packet}
+use Rattle.stream_spec.specs.SentLaws.{AnyComes}
 use Rattle.mixer_spec.specs.Setups.{Setup, IsSetup, FitsHalfCircle}
 use Rattle.mixer_spec.specs.Table.{Mixed, Table, history}
 use Rattle.mixer_spec.specs.Core.{Event, after, turns_in}
@@ -30,10 +31,7 @@ PacketsAreOwn =
     (s : Setup) (j : ℕ) (past : List Mixed)
     → packets_to s j past ≡ map (own_packet (history s j past)) (placed (history s j past))
 
--- whatever comes of the own packets of the history h, in whatever order, comes from h
-abbrev pub AnyComes : History → Type 0
-AnyComes h = (xs : List (ℕ × Placed)) → NearEach h xs → Come h (come_from h xs)
-
+-- Whatever comes of these packets, in whatever order, comes from the history.
 abbrev pub AnyPacketsCome : Type 0
 AnyPacketsCome =
     (s : Setup) (chunks : ℕ → List Chunk) (past : List Event) (j : ℕ)
