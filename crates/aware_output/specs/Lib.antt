@@ -2,3 +2,5 @@ pub mod Confs
 pub mod Speakers
 pub mod States
 pub mod Standing
+pub mod Sending
+pub mod Laws

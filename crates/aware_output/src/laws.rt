@@ -1,21 +1,18 @@
 //! What an output sends over its life. No code stands here.
-ghost use Rattle.std.specs.Prelude.{◌≡◌, ◌∷◌, ℕ, List, Bool, length};
-ghost use Rattle.stream_spec.specs.Lists.{In};
-ghost use Rattle.stream_spec.specs.History.{Placed, Lawful, placed};
-ghost use Rattle.stream_spec.specs.Own.{Sent, Own, Closed, sent_of, has_text_in, sent_history, own_packet, packet_after};
+ghost use Rattle.std.specs.Prelude.{List};
+ghost use Rattle.stream_spec.specs.History.{Placed, Lawful};
+ghost use Rattle.stream_spec.specs.Own.{Sent, Own};
 ghost use Rattle.aware_output.specs.declared.outputs.OutConf.{OutConf};
-ghost use Rattle.aware_output.specs.Confs.{IsConf, stream_of};
-ghost use Rattle.aware_output.specs.Speakers.{EachIsNext};
+ghost use Rattle.aware_output.specs.Laws.{OfEach, IsClosedAtEnd, IsOfLastEntry, history_sent};
 
 /// What is sent is a lawful history of own packets, and a closed one where nothing is left to be repeated.
 pub fn output_is_lawful()
-    ensures lawful { (conf : OutConf) (past : List Sent) → IsConf conf → EachIsNext (stream_of conf) past → Lawful (sent_history (stream_of conf) past) }
-    ensures own { (conf : OutConf) (past : List Sent) → Own conf.gens (sent_history (stream_of conf) past) }
-    ensures closed { (conf : OutConf) (past : List Sent) → ((s : ℕ) → has_text_in conf.gens (sent_of s past) ≡ Bool.false) → Closed conf.gens (sent_history (stream_of conf) past) }
+    ensures lawful { OfEach (λ conf past. Lawful (history_sent conf past)) }
+    ensures own { (conf : OutConf) (past : List Sent) → Own conf.gens (history_sent conf past) }
+    ensures closed { (conf : OutConf) (past : List Sent) → IsClosedAtEnd conf past }
 {}
 
 /// The packet that is sent is the one of the last entry of the history with it.
 pub fn packets_are_own()
-    ensures { (conf : OutConf) (past : List Sent) (e : Sent) (x : Placed) → In x (placed (sent_history (stream_of conf) (e ∷ past))) → x.place ≡ length past
-        → own_packet (sent_history (stream_of conf) (e ∷ past)) x ≡ packet_after (stream_of conf) past e }
+    ensures { (conf : OutConf) (past : List Sent) (e : Sent) (x : Placed) → IsOfLastEntry conf past e x }
 {}

@@ -1,5 +1,5 @@
 //! The output of a terminal.
-ghost use Rattle.std.specs.Prelude.{◌≡◌, ◌+◌, ◌%◌, ◌^◌, ◌<◌, ◌≤◌, ◌∷◌, [], ℕ, List, length, IfOk, OnOk, OnErr};
+ghost use Rattle.std.specs.Prelude.{◌≡◌, ◌+◌, ◌%◌, ◌^◌, ◌<◌, ◌∷◌, [], length, IfOk, OnOk, OnErr};
 ghost use Rattle.rtt_base.specs.Buffers.{Appends};
 
 use crate::speakers::Speaker;
@@ -43,11 +43,10 @@ impl Model for Output {
 }
 
 impl Output {
-    ghost use Rattle.wire_spec.specs.SentPackets.{packet_written};
-    ghost use Rattle.stream_spec.specs.Own.{Sent, sent_of, has_text_in, packet_after};
-    ghost use Rattle.aware_output.specs.Confs.{IsConf, stream_of};
-    ghost use Rattle.aware_output.specs.Speakers.{AreDistinct, IsNext, text_of};
-    ghost use Rattle.aware_output.specs.Standing.{StandsFor, source_at};
+    ghost use Rattle.aware_output.specs.Confs.{IsConf};
+    ghost use Rattle.aware_output.specs.Speakers.{AreDistinct};
+    ghost use Rattle.aware_output.specs.Standing.{StandsFor};
+    ghost use Rattle.aware_output.specs.Sending.{OfSent, OfNext, OfStamped, has_repeats, octets_of};
 
     /// An output that has sent nothing, to these sources, all different: each is written as the CSRC of its packets, or
     /// without CSRC where it is the SSRC itself. It takes all memory that it ever needs.
@@ -78,8 +77,7 @@ impl Output {
     /// Whether text of the source, counted from 0, is still to be repeated.
     pub fn due(&self, source: usize) -> bool
         requires { source < length self.now.speakers }
-        ensures { (conf : OutConf) (sources : List ℕ) (past : List Sent) → StandsFor conf sources self.now past
-            → result ≡ has_text_in conf.gens (sent_of (source_at sources source) past) }
+        ensures { OfSent self.now (λ conf sources past. result ≡ has_repeats conf sources past source) }
     {
         self.speakers[source].window.due()
     }
@@ -97,10 +95,10 @@ impl Output {
     ) -> Result<(), O::Refusal>
         requires source { source < length self.old.speakers }
         requires text { length text.now < 1024 }
-        ensures packet { (conf : OutConf) (sources : List ℕ) (past : List Sent) → StandsFor conf sources self.old past → IsNext (stream_of conf) past (text_of sources source media text.now)
-            → Appends O.greatest (O.written out.old) (O.written out.new) (packet_written conf.pts (packet_after (stream_of conf) past (text_of sources source media text.now))) result }
-        ensures stands { (conf : OutConf) (sources : List ℕ) (past : List Sent) → StandsFor conf sources self.old past → IsNext (stream_of conf) past (text_of sources source media text.now)
-            → OnOk result (StandsFor conf sources self.new (text_of sources source media text.now ∷ past)) }
+        ensures packet { OfNext self.old source media text.now (λ conf sources past e.
+            Appends O.greatest (O.written out.old) (O.written out.new) (octets_of conf past e) result) }
+        ensures stands { OfNext self.old source media text.now (λ conf sources past e.
+            OnOk result (StandsFor conf sources self.new (e ∷ past))) }
         ensures sources { length self.new.speakers ≡ length self.old.speakers }
         ensures err { OnErr result (self.new ≡ self.old) }
     {
@@ -128,9 +126,8 @@ impl Output {
         out: &mut O,
     ) -> Result<(), O::Refusal>
         requires { source < length self.now.speakers }
-        ensures { (conf : OutConf) (sources : List ℕ) (past : List Sent) (media : ℕ) → StandsFor conf sources self.now past → stamp ≡ (conf.stamp + media) % 2 ^ 32
-            → IsNext (stream_of conf) past (text_of sources source media text.now)
-            → Appends O.greatest (O.written out.old) (O.written out.new) (packet_written conf.pts (packet_after (stream_of conf) past (text_of sources source media text.now))) result }
+        ensures { OfStamped self.now source stamp text.now (λ conf sources past e.
+            Appends O.greatest (O.written out.old) (O.written out.new) (octets_of conf past e) result) }
     {
         let speaker = &self.speakers[source];
         let head = TextHead {
@@ -148,8 +145,8 @@ impl Output {
         requires source { source < length self.old.speakers }
         requires text { length text.now < 1024 }
         ensures sources { length self.new.speakers ≡ length self.old.speakers }
-        ensures stands { (conf : OutConf) (sources : List ℕ) (past : List Sent) (media : ℕ) → StandsFor conf sources self.old past → stamp ≡ (conf.stamp + media) % 2 ^ 32
-            → IsNext (stream_of conf) past (text_of sources source media text.now) → StandsFor conf sources self.new (text_of sources source media text.now ∷ past) }
+        ensures stands { OfStamped self.old source stamp text.now (λ conf sources past e.
+            StandsFor conf sources self.new (e ∷ past)) }
     {
         self.speakers[source].keep(stamp, text);
         self.seq = self.seq.wrapping_add(1);

@@ -1,7 +1,8 @@
 //! A source at an output.
-ghost use Rattle.std.specs.Prelude.{◌≡◌, ◌+◌, ◌%◌, ◌^◌, ◌<◌, ◌≤◌, ◌∷◌, [], ℕ, List, length, max, not};
-ghost use Rattle.stream_spec.specs.Own.{Sent, has_text_in};
+ghost use Rattle.std.specs.Prelude.{◌≡◌, ◌<◌, ◌≤◌, [], ℕ, length, max, not};
+ghost use Rattle.stream_spec.specs.Own.{has_text_in};
 ghost use Rattle.aware_output.specs.Speakers.{speaker_at};
+ghost use Rattle.aware_output.specs.Sending.{OfSpeaker, KeepsText};
 
 use red_window::Window;
 
@@ -31,7 +32,7 @@ impl Speaker {
     /// Whether the next packet of the source comes after a pause (RFC 4103, section 3.5): none of the last packets that it
     /// repeats had text, nor had the last one.
     pub fn is_after_pause(&self) -> bool
-        ensures { (g base source : ℕ) (sent : List Sent) → self.now ≡ speaker_at g base source sent → result ≡ not (has_text_in (max 1 g) sent) }
+        ensures { OfSpeaker self.now (λ g base source sent. result ≡ not (has_text_in (max 1 g) sent)) }
     {
         !self.window.due() && !self.spoke
     }
@@ -39,8 +40,7 @@ impl Speaker {
     /// Keeps what was sent in a packet with this timestamp.
     pub fn keep(&mut self, stamp: u32, text: &[u8])
         requires { length text.now < 1024 }
-        ensures { (g base source : ℕ) (sent : List Sent) (e : Sent) → self.old ≡ speaker_at g base source sent → stamp ≡ (base + e.media) % 2 ^ 32 → text.now ≡ e.text
-            → self.new ≡ speaker_at g base source (e ∷ sent) }
+        ensures { KeepsText self.old self.new stamp text.now }
     {
         self.window.keep(stamp, text);
         self.spoke = !text.is_empty();
