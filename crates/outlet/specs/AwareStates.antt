@@ -1,5 +1,5 @@
 -- What is kept of an aware terminal.
-use Rattle.std.specs.Prelude.{ℕ, Bool, List}
+use Rattle.std.specs.Prelude.{◌≡◌, ℕ, Bool, List, length}
 use Rattle.aware_output.specs.States.{State}
 
 -- its leg, the spacing, its output, from when each leg may be served again, the place after the one served last, and
@@ -11,3 +11,7 @@ pub record AwareState : Type 0 where
   pub free_at : List ℕ
   pub next : ℕ
   pub quiet : Bool
+
+-- it is of the same leg, and of as many
+abbrev pub SameLeg : AwareState → AwareState → Type 0
+SameLeg old new = (new.own ≡ old.own) × (length new.free_at ≡ length old.free_at)

@@ -1,10 +1,12 @@
 -- What a turn of an aware terminal finds, and what it comes to.
-use Rattle.std.specs.Prelude.{ℕ, ◌+◌, Bool, false, List, slice_set}
+use Rattle.std.specs.Prelude.{ℕ, ◌+◌, ◌<◌, Bool, false, Some, List, slice_set}
 use Rattle.rtt_base.specs.declared.text_packets.Pts.{Pts}
 use Rattle.stream_spec.specs.Own.{Sent}
+use Rattle.stream_spec.specs.Ready.{Chunk}
 use Rattle.mixer_spec.specs.Chunks.{joined, front}
 use Rattle.mixer_spec.specs.Setups.{Setup, stream}
-use Rattle.mixer_spec.specs.Table.{Terminal, Table, new_packet}
+use Rattle.mixer_spec.specs.Table.{Terminal, Table, is_spaced, last_media, new_packet, sent_from, sents, serve_leg}
+use Rattle.aware_output.specs.Speakers.{IsNext}
 use Rattle.slot_table.specs.Lanes.{Waiting}
 use Rattle.slot_table.specs.Standing as slots
 use Rattle.outlet.specs.Turns.{Puts, with_terminal}
@@ -25,9 +27,17 @@ pub record IsIn (s : Setup) (pts : Pts) (o : AwareState) (now : List Waiting) (t
 abbrev pub AtTable : AwareState → List Waiting → (Setup → Pts → Table → Terminal → Type 0) → Type 0
 AtTable o now P = (s : Setup) (pts : Pts) (table : Table) → IsIn s pts o now table → P s pts table (table.terminals o.own)
 
+-- whether a packet of the leg may be sent at this media time, as far as its last packet goes
+abbrev pub is_free : Setup → ℕ → Terminal → ℕ → Bool
+is_free s media d leg = is_spaced s.spacing media (last_media (sent_from (s.ssrc leg) d))
+
+-- what fits into one packet of the text of the leg that waits
+abbrev pub text_of_leg : Terminal → ℕ → List ℕ
+text_of_leg d leg = joined (front MOST_TEXT_OCTETS (d.waits leg))
+
 -- what a turn at this media time sends of the leg
 abbrev pub sent_of_leg : Setup → ℕ → Terminal → ℕ → Sent
-sent_of_leg s media d leg = record { source = s.ssrc leg; media = media; text = joined (front MOST_TEXT_OCTETS (d.waits leg)) }
+sent_of_leg s media d leg = record { source = s.ssrc leg; media = media; text = text_of_leg d leg }
 
 -- A turn of the terminal j is over, which came to d: these are its outlet and the slots then, and whether a packet was put
 -- out, with its octets.
@@ -35,6 +45,17 @@ pub record IsTurned (s : Setup) (pts : Pts) (table : Table) (j : ℕ) (d : Termi
   pub outlet : StandsFor s pts j o d
   pub slots_stand : slots.StandsFor s now (with_terminal j d table)
   pub puts : Puts pts (new_packet (stream s j) (table.terminals j).past d.past) put out
+
+-- a packet of the leg that holds the place was put out at this media time, or none
+abbrev pub ServesLeg : AwareState → List Waiting → (place leg media : ℕ) → AwareState → List Waiting → Bool → List ℕ → Type 0
+ServesLeg o waiting place leg media o' waiting' put out = AtTable o waiting (λ s pts table d. (now : ℕ) → leg < s.legs
+    → IsNext (stream s o.own) (sents d.past) (sent_of_leg s media d leg)
+    → IsTurned s pts table o.own (serve_leg s now media d place (Some leg)) o' waiting' put out)
+
+-- it stands for the same terminal, whatever waits there
+abbrev pub StandsWoken : AwareState → AwareState → Type 0
+StandsWoken old new = AtTerminal old (λ s pts d. (waits : ℕ → List Chunk)
+    → StandsFor s pts old.own new (record { past = d.past; asks = d.asks; waits = waits }))
 
 -- the outlet behind a packet of the leg that holds the place
 abbrev pub kept_served : ℕ → ℕ → ℕ → AwareState → AwareState

@@ -1,9 +1,11 @@
 -- What the outlet of a terminal stands for, be the terminal aware or not (profile).
 use Rattle.std.specs.Prelude.{◌≡◌, ◌<◌, ℕ, Bool, true, false, List, length}
 use Rattle.rtt_base.specs.declared.text_packets.Pts.{Pts}
+use Rattle.stream_spec.specs.Ready.{Chunk}
 use Rattle.mixer_spec.specs.Setups.{Setup, stream}
 use Rattle.mixer_spec.specs.Laws.{AreTexts}
-use Rattle.mixer_spec.specs.Table.{Terminal, Table, is_seated, new_packet, turn_at}
+use Rattle.mixer_spec.specs.Table.{Terminal, Table, empty, is_seated, new_packet, turn_at}
+use Rattle.aware_output.specs.declared.outputs.OutConf.{OutConf}
 use Rattle.slot_table.specs.Lanes.{Waiting}
 use Rattle.slot_table.specs.Standing as slots
 use Rattle.seating.specs.States.{State}
@@ -13,6 +15,7 @@ use Rattle.outlet.specs.declared.outlets.Outlet.{Outlet}
 use Rattle.outlet.specs.declared.outlets.Outlet.TheVariants.{Aware, Unaware}
 use Rattle.outlet.specs.Turns.{Puts, SendsNext, with_terminal}
 use Rattle.outlet.specs.AwareStanding as aware
+use Rattle.outlet.specs.AwareStanding.{IsMadeFor}
 use Rattle.outlet.specs.UnawareStates as unaware_state
 use Rattle.outlet.specs.UnawareStanding as unaware
 
@@ -26,6 +29,10 @@ abbrev pub legs_of : Outlet → ℕ
 legs_of (Aware o) = length o.free_at
 legs_of (Unaware o) = unaware_state.legs_of o
 
+-- it is of the same leg, and of as many
+abbrev pub SameLeg : Outlet → Outlet → Type 0
+SameLeg old new = (own_of new ≡ own_of old) × (legs_of new ≡ legs_of old)
+
 -- the least media time of the next turn
 abbrev pub next_turn : Outlet → ℕ
 next_turn (Aware o) = 0
@@ -35,6 +42,18 @@ next_turn (Unaware o) = unaware_state.next_turn o
 abbrev pub StandsFor : Setup → Pts → ℕ → Outlet → Terminal → Type 0
 StandsFor s pts j (Aware o) d = (s.aware j ≡ true) × aware.StandsFor s pts j o d
 StandsFor s pts j (Unaware o) d = (s.aware j ≡ false) × unaware.StandsFor s pts j o d
+
+-- Made so, aware or not, it stands for a terminal of this leg to which nothing was sent.
+abbrev pub StandsNew : Bool → OutConf → List ℕ → (own spacing : ℕ) → Outlet → Type 0
+StandsNew aware conf sources own spacing o =
+    (s : Setup) → IsMadeFor s conf sources own spacing → aware ≡ s.aware own
+    → StandsFor s conf.pts own o (empty.terminals own)
+
+-- it stands for the same terminal, whatever waits there
+abbrev pub StandsWoken : Outlet → Outlet → Type 0
+StandsWoken old new =
+    (s : Setup) (pts : Pts) (j : ℕ) (d : Terminal) (waits : ℕ → List Chunk)
+    → StandsFor s pts j old d → StandsFor s pts j new (record d { waits = waits })
 
 -- of each terminal for which it stands, where the slots have what waits
 abbrev pub OfTerminals : Outlet → List Waiting → (Setup → ℕ → Terminal → Type 0) → Type 0

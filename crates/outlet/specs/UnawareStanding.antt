@@ -1,15 +1,18 @@
 -- What the outlet of a terminal that is not aware stands for (profile).
-use Rattle.std.specs.Prelude.{◌≡◌, ◌+◌, ◌<◌, ◌==◌, ◌||◌, not, ℕ, Bool, true, false, is_some, List, [], ◌∷◌}
+use Rattle.std.specs.Prelude.{◌≡◌, ◌+◌, ◌<◌, ◌≤◌, ◌==◌, ◌||◌, not, ℕ, Bool, true, false, is_some, List, [], ◌∷◌}
 use Rattle.rtt_base.specs.declared.text_packets.Pts.{Pts}
+use Rattle.wire_spec.specs.Packets.{Packet}
 use Rattle.wire_spec.specs.SentPackets.{packet_written}
 use Rattle.stream_spec.specs.Own.{Sent, packet_after}
+use Rattle.stream_spec.specs.Ready.{Chunk}
 use Rattle.mixer_spec.specs.Chunks.{has_chunk}
 use Rattle.mixer_spec.specs.Composed.{Asked, text_given, waits_here}
 use Rattle.mixer_spec.specs.Setups.{Setup, IsSetup, stream}
 use Rattle.mixer_spec.specs.Laws.{AreTexts}
-use Rattle.mixer_spec.specs.Table.{Terminal, Table, sents, sent_from, last_media, turn_unaware}
+use Rattle.mixer_spec.specs.Table.{Terminal, Table, empty, sents, sent_from, last_media, new_packet, turn_unaware}
 use Rattle.aware_output.specs.declared.outputs.OutConf.{OutConf}
 use Rattle.aware_output.specs.Confs.{stream_of}
+use Rattle.aware_output.specs.Speakers.{IsNext}
 use Rattle.aware_output.specs.Standing as outputs
 use Rattle.slot_table.specs.Lanes.{Waiting}
 use Rattle.slot_table.specs.Standing as slots
@@ -37,10 +40,26 @@ pub record StandsFor (s : Setup) (pts : Pts) (j : ℕ) (o : UnawareState) (d : T
   pub by_mixer : AreBy s.mixer (sents d.past)
   pub rests : o.none_waits ≡ true → (i : ℕ) → i < s.legs → waits_here j d.waits i ≡ false
 
+-- Made so, it stands for a terminal of this leg to which nothing was sent.
+abbrev pub StandsNew : OutConf → (legs own spacing : ℕ) → UnawareState → Type 0
+StandsNew conf legs own spacing o =
+    (s : Setup) (pts : Pts) → IsSetup s → s.legs ≡ legs → s.spacing ≡ spacing → conf ≡ conf_at s pts own
+    → StandsFor s pts own o (empty.terminals own)
+
+-- it stands for the same terminal, whatever waits there
+abbrev pub StandsWoken : UnawareState → UnawareState → Type 0
+StandsWoken old new =
+    (s : Setup) (pts : Pts) (j : ℕ) (d : Terminal) (waits : ℕ → List Chunk)
+    → StandsFor s pts j old d → StandsFor s pts j new (record d { waits = waits })
+
 -- ---- a turn
 -- the terminal j after a turn at the moment `now`, with the media time t
 abbrev pub turned_here : Setup → ℕ → ℕ → ℕ → Table → Terminal
 turned_here s j now t table = turn_unaware s j now t (table.terminals j)
+
+-- the packet of this turn, if it sends one
+abbrev pub packet_here : Setup → ℕ → ℕ → ℕ → Table → List Packet
+packet_here s j now t table = new_packet (stream s j) (table.terminals j).past (turned_here s j now t table).past
 
 -- Such a turn at the terminal j, for which the outlet stands: the slots have what waits there, which are texts, these
 -- are the names, and what is sent may be sent.
@@ -89,3 +108,10 @@ pub record Sends (conf : OutConf) (source spacing : ℕ) (new : UnawareState) (p
   pub out_is : out ≡ packet_written conf.pts (packet_after (stream_of conf) past e)
   pub output : outputs.StandsFor conf (source ∷ []) new.output (e ∷ past)
   pub free : new.free_at ≡ e.media + spacing
+
+-- the text was sent so at this media time, whatever was sent before
+abbrev pub SendsNow : UnawareState → ℕ → List ℕ → UnawareState → Bool → List ℕ → Type 0
+SendsNow old media text new put out =
+    (conf : OutConf) (source : ℕ) (past : List Sent) → conf.gens ≤ 3
+    → outputs.StandsFor conf (source ∷ []) old.output past → IsNext (stream_of conf) past (sent_now source media text)
+    → Sends conf source old.spacing new past (sent_now source media text) put out

@@ -1,5 +1,5 @@
 -- What is kept of a terminal that is not aware.
-use Rattle.std.specs.Prelude.{ℕ, Bool}
+use Rattle.std.specs.Prelude.{◌≡◌, ℕ, Bool}
 use Rattle.unaware_view.specs.States.{State as ComposerState}
 use Rattle.unaware_view.specs.Standing as composers
 use Rattle.aware_output.specs.States.{State as OutputState}
@@ -18,6 +18,10 @@ own_of o = o.composer.own
 
 abbrev pub legs_of : UnawareState → ℕ
 legs_of o = composers.legs_of o.composer
+
+-- it is of the same leg, and of as many
+abbrev pub SameLeg : UnawareState → UnawareState → Type 0
+SameLeg old new = (own_of new ≡ own_of old) × (legs_of new ≡ legs_of old)
 
 -- the least media time of the next turn
 abbrev pub next_turn : UnawareState → ℕ

@@ -1,14 +1,13 @@
 //! The outlet of a terminal that tells sources apart.
-ghost use Rattle.std.specs.Prelude.{◌≡◌, ◌+◌, ◌-◌, ◌^◌, ◌<◌, ◌≤◌, ◌||◌, ◌==◌, not, ℕ, List, [], length, IfOk, IfSome, Some};
-ghost use Rattle.stream_spec.specs.Ready.{Chunk};
-ghost use Rattle.mixer_spec.specs.Chunks.{joined, front};
+ghost use Rattle.std.specs.Prelude.{◌≡◌, ◌-◌, ◌^◌, ◌<◌, ◌≤◌, ◌||◌, ◌==◌, not, [], length, IfOk, IfSome};
 ghost use Rattle.mixer_spec.specs.Rounds.{first_from};
-ghost use Rattle.mixer_spec.specs.Setups.{Setup, stream};
-ghost use Rattle.mixer_spec.specs.Table.{empty, has_work, is_due, is_due_at, is_quiet, is_spaced, last_media, sent_from, sents, serve, serve_leg, served, turn_aware};
+ghost use Rattle.mixer_spec.specs.Setups.{Setup};
+ghost use Rattle.mixer_spec.specs.Table.{empty, has_work, is_due, is_due_at, is_quiet, served};
 ghost use Rattle.slot_table.specs.Standing.{Tells, Leads};
 ghost use Rattle.slot_table.specs.Words.{fetched};
 ghost use Rattle.aware_output.specs.Confs.{IsConf};
-ghost use Rattle.aware_output.specs.Speakers.{AreDistinct, IsNext};
+ghost use Rattle.aware_output.specs.Speakers.{AreDistinct};
+ghost use Rattle.outlet.specs.AwareTurns.{text_of_leg};
 ghost use Rattle.rtt_base.specs.declared.limits.TheConstants.{MOST_TEXT_OCTETS};
 
 use aware_output::{OutConf, Output};
@@ -54,7 +53,7 @@ impl Model for AwareOutlet {
 fn fetch(terminal: usize, leg: usize, slots: &mut Slots, text: &mut Text)
     requires { (terminal < length slots.old) × (leg < length slots.old) }
     ensures legs { length slots.new ≡ length slots.old }
-    ensures text { Tells slots.old (λ s table. text.new ≡ joined (front MOST_TEXT_OCTETS ((table.terminals terminal).waits leg))) }
+    ensures text { Tells slots.old (λ s table. text.new ≡ text_of_leg (table.terminals terminal) leg) }
     ensures stands { Leads slots.old slots.new (fetched terminal leg MOST_TEXT_OCTETS) }
 {
     text.clear();
@@ -63,9 +62,9 @@ fn fetch(terminal: usize, leg: usize, slots: &mut Slots, text: &mut Text)
 
 impl AwareOutlet {
     ghost use Rattle.outlet.specs.AwareStanding.{StandsFor, IsMadeFor};
-    ghost use Rattle.outlet.specs.AwareTurns.{AtTerminal, AtTable, IsTurned, kept_served, sent_of_leg};
-    ghost use Rattle.outlet.specs.Turns.{SendsNext};
-    ghost use Rattle.outlet.specs.AwareRounds.{AtSeats, SendsNextAt, turned};
+    ghost use Rattle.outlet.specs.AwareStates.{SameLeg};
+    ghost use Rattle.outlet.specs.AwareTurns.{AtTerminal, AtTable, ServesLeg, StandsWoken, is_free, kept_served};
+    ghost use Rattle.outlet.specs.AwareRounds.{AtSeats, Serves, Turns};
 
     /// The outlet of the terminal of this leg, to which nothing was sent. Of all legs, in leg order, these are the SSRCs. It
     /// takes all memory that it ever needs.
@@ -99,7 +98,7 @@ impl AwareOutlet {
     /// Whether a packet of the leg may be sent at this media time, as far as its last packet goes.
     fn is_spaced(&self, leg: usize, media: u64) -> bool
         requires { leg < length self.now.free_at }
-        ensures { AtTerminal self.now (λ s pts d. result ≡ is_spaced s.spacing media (last_media (sent_from (s.ssrc leg) d))) }
+        ensures { AtTerminal self.now (λ s pts d. result ≡ is_free s media d leg) }
     {
         self.free_at[leg] <= media
     }
@@ -139,7 +138,7 @@ impl AwareOutlet {
     /// Finds out whether the terminal is quiet.
     fn rest(&mut self, slots: &Slots)
         requires { length slots.now ≡ length self.old.free_at }
-        ensures same { (self.new.own ≡ self.old.own) × (length self.new.free_at ≡ length self.old.free_at) }
+        ensures same { SameLeg self.old self.new }
         ensures stands { AtTable self.old slots.now (λ s pts table d. StandsFor s pts self.old.own self.new d) }
     {
         let quiet = self.is_quiet(slots);
@@ -224,10 +223,8 @@ impl AwareOutlet {
         requires media { media < 2 ^ 48 }
         requires out { out.old ≡ [] }
         ensures slots { length slots.new ≡ length slots.old }
-        ensures same { (self.new.own ≡ self.old.own) × (length self.new.free_at ≡ length self.old.free_at) }
-        ensures turned { AtTable self.old slots.old (λ s pts table d. (now : ℕ) → leg < s.legs
-            → IsNext (stream s self.old.own) (sents d.past) (sent_of_leg s media d leg)
-            → IsTurned s pts table self.old.own (serve_leg s now media d place (Some leg)) self.new slots.new result out.new) }
+        ensures same { SameLeg self.old self.new }
+        ensures turned { ServesLeg self.old slots.old place leg media self.new slots.new result out.new }
     {
         fetch(self.own, leg, slots, text);
         let put = self.output.packet(media, leg, text.as_slice(), out);
@@ -263,10 +260,8 @@ impl AwareOutlet {
         requires media { media < 2 ^ 48 }
         requires out { out.old ≡ [] }
         ensures slots { length slots.new ≡ length slots.old }
-        ensures same { (self.new.own ≡ self.old.own) × (length self.new.free_at ≡ length self.old.free_at) }
-        ensures turned { AtSeats self.old seating.now slots.old (λ s pts table d. (now : ℕ)
-            → SendsNext (stream s self.old.own) d.past (serve s table.seats now media d (Some place)).past
-            → IsTurned s pts table self.old.own (serve s table.seats now media d (Some place)) self.new slots.new result out.new) }
+        ensures same { SameLeg self.old self.new }
+        ensures turned { Serves self.old seating.now slots.old place media self.new slots.new result out.new }
     {
         match seating.leg_at(place) {
             Some(leg) => self.serve_leg(place, leg, media, slots, text, out),
@@ -288,10 +283,8 @@ impl AwareOutlet {
         requires seating { length seating.now.legs ≡ length self.old.free_at }
         requires media { media < 2 ^ 48 }
         ensures slots { length slots.new ≡ length slots.old }
-        ensures same { (self.new.own ≡ self.old.own) × (length self.new.free_at ≡ length self.old.free_at) }
-        ensures turned { AtSeats self.old seating.now slots.old (λ s pts table d. (now : ℕ)
-            → SendsNextAt s table self.old.own now media
-            → IsTurned s pts table self.old.own (turned s table self.old.own now media) self.new slots.new result out.new) }
+        ensures same { SameLeg self.old self.new }
+        ensures turned { Turns self.old seating.now slots.old media self.new slots.new result out.new }
     {
         if self.quiet {
             return false;
@@ -308,9 +301,8 @@ impl AwareOutlet {
 
     /// Is told that text may wait here that did not before.
     pub fn wake(&mut self)
-        ensures same { (self.new.own ≡ self.old.own) × (length self.new.free_at ≡ length self.old.free_at) }
-        ensures stands { AtTerminal self.old (λ s pts d. (waits : ℕ → List Chunk)
-            → StandsFor s pts self.old.own self.new (record { past = d.past; asks = d.asks; waits = waits })) }
+        ensures same { SameLeg self.old self.new }
+        ensures stands { StandsWoken self.old self.new }
     {
         self.quiet = false;
     }

@@ -1,13 +1,9 @@
 //! The outlet of a terminal, be it aware or not.
-ghost use Rattle.std.specs.Prelude.{◌≡◌, ℕ, ◌+◌, ◌^◌, ◌<◌, ◌≤◌, List, length, IfOk};
-ghost use Rattle.rtt_base.specs.declared.text_packets.Pts.{Pts};
-ghost use Rattle.stream_spec.specs.Ready.{Chunk};
-ghost use Rattle.mixer_spec.specs.Setups.{Setup};
-ghost use Rattle.mixer_spec.specs.Table.{Terminal, empty, has_work, is_quiet};
+ghost use Rattle.std.specs.Prelude.{◌≡◌, ◌+◌, ◌^◌, ◌<◌, ◌≤◌, length, IfOk};
+ghost use Rattle.mixer_spec.specs.Table.{has_work, is_quiet};
 ghost use Rattle.aware_output.specs.Confs.{IsConf};
 ghost use Rattle.aware_output.specs.Speakers.{AreDistinct};
-ghost use Rattle.outlet.specs.AwareStanding.{IsMadeFor};
-ghost use Rattle.outlet.specs.Outlets.{IsTurned, OfTerminals, OfTurns, StandsFor, legs_of, next_turn, own_of};
+ghost use Rattle.outlet.specs.Outlets.{IsTurned, OfTerminals, OfTurns, SameLeg, StandsNew, StandsWoken, legs_of, next_turn, own_of};
 
 use crate::aware::AwareOutlet;
 use crate::unaware::UnawareOutlet;
@@ -38,8 +34,7 @@ impl Outlet {
         requires conf { IsConf conf }
         requires distinct { AreDistinct sources.now }
         requires own { own < length sources.now }
-        ensures stands { IfOk result (λ outlet. (s : Setup) → IsMadeFor s conf sources.now own spacing → aware ≡ s.aware own
-            → StandsFor s conf.pts own outlet (empty.terminals own)) }
+        ensures stands { IfOk result (λ outlet. StandsNew aware conf sources.now own spacing outlet) }
         ensures own { IfOk result (λ outlet. own_of outlet ≡ own) }
         ensures legs { IfOk result (λ outlet. legs_of outlet ≡ length sources.now) }
         ensures next { IfOk result (λ outlet. next_turn outlet ≡ 0) }
@@ -95,7 +90,7 @@ impl Outlet {
         ensures turned { OfTurns self.old seating.now slots.old names.now media (λ s pts j table now.
             IsTurned s pts j table now media self.new slots.new result out.new) }
         ensures slots { length slots.new ≡ length slots.old }
-        ensures same { (own_of self.new ≡ own_of self.old) × (legs_of self.new ≡ legs_of self.old) }
+        ensures same { SameLeg self.old self.new }
         ensures next { next_turn self.new ≤ media + 1 }
     {
         match self {
@@ -106,9 +101,8 @@ impl Outlet {
 
     /// Is called where a chunk is given to the terminal, which then waits there.
     pub fn wake(&mut self)
-        ensures stands { (s : Setup) (pts : Pts) (j : ℕ) (d : Terminal) (waits : ℕ → List Chunk) → StandsFor s pts j self.old d
-            → StandsFor s pts j self.new (record d { waits = waits }) }
-        ensures same { (own_of self.new ≡ own_of self.old) × (legs_of self.new ≡ legs_of self.old) }
+        ensures stands { StandsWoken self.old self.new }
+        ensures same { SameLeg self.old self.new }
         ensures next { next_turn self.new ≡ next_turn self.old }
     {
         match self {

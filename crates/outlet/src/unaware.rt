@@ -1,18 +1,12 @@
 //! A terminal that shows one text of many speakers.
-ghost use Rattle.std.specs.Prelude.{◌≡◌, ℕ, ◌+◌, ◌^◌, ◌<◌, ◌≤◌, ◌&&◌, ◌||◌, List, [], ◌∷◌, length, IfOk, nat_le, not};
-ghost use Rattle.rtt_base.specs.declared.text_packets.Pts.{Pts};
-ghost use Rattle.stream_spec.specs.Own.{Sent};
-ghost use Rattle.stream_spec.specs.Ready.{Chunk};
-ghost use Rattle.mixer_spec.specs.Setups.{Setup, IsSetup, stream};
+ghost use Rattle.std.specs.Prelude.{◌≡◌, ◌+◌, ◌^◌, ◌<◌, ◌≤◌, ◌&&◌, ◌||◌, [], length, IfOk, nat_le};
 ghost use Rattle.mixer_spec.specs.Rounds.{all_below};
-ghost use Rattle.mixer_spec.specs.Table.{Terminal, empty, has_work, is_quiet, new_packet};
-ghost use Rattle.aware_output.specs.Confs.{IsConf, stream_of};
-ghost use Rattle.aware_output.specs.Speakers.{IsNext};
-ghost use Rattle.aware_output.specs.Standing as outputs;
+ghost use Rattle.mixer_spec.specs.Table.{has_work, is_quiet};
+ghost use Rattle.aware_output.specs.Confs.{IsConf};
 ghost use Rattle.slot_table.specs.Standing.{StandsFor as SlotsStandFor, Tells};
-ghost use Rattle.outlet.specs.Turns.{Puts, conf_at, with_terminal};
-ghost use Rattle.outlet.specs.UnawareStates.{legs_of, next_turn, own_of};
-ghost use Rattle.outlet.specs.UnawareStanding.{Composes, OfAsks, OfTerminals, OfTurns, Sends, StandsFor, none_here, sent_now, turned_here};
+ghost use Rattle.outlet.specs.Turns.{Puts, with_terminal};
+ghost use Rattle.outlet.specs.UnawareStates.{SameLeg, legs_of, next_turn, own_of};
+ghost use Rattle.outlet.specs.UnawareStanding.{Composes, OfAsks, OfTerminals, OfTurns, SendsNow, StandsFor, StandsNew, StandsWoken, none_here, packet_here, turned_here};
 
 use aware_output::{OutConf, Output};
 use rtt_base::{Name, NoMemory, Packet, Text};
@@ -61,8 +55,7 @@ impl UnawareOutlet {
     ) -> Result<UnawareOutlet, NoMemory>
         requires conf { IsConf conf }
         requires own { own < legs }
-        ensures stands { IfOk result (λ outlet. (s : Setup) (pts : Pts) → IsSetup s → s.legs ≡ legs → s.spacing ≡ spacing
-            → conf ≡ conf_at s pts own → StandsFor s pts own outlet (empty.terminals own)) }
+        ensures stands { IfOk result (λ outlet. StandsNew conf legs own spacing outlet) }
         ensures own { IfOk result (λ outlet. own_of outlet ≡ own) }
         ensures legs { IfOk result (λ outlet. legs_of outlet ≡ legs) }
         ensures next { IfOk result (λ outlet. next_turn outlet ≡ 0) }
@@ -119,9 +112,9 @@ impl UnawareOutlet {
         ensures waits { OfTurns self.old slots.old names.now media (λ s pts j table now.
             SlotsStandFor s slots.new (with_terminal j (turned_here s j now media table) table)) }
         ensures puts { OfTurns self.old slots.old names.now media (λ s pts j table now.
-            Puts pts (new_packet (stream s j) (table.terminals j).past (turned_here s j now media table).past) result out.new) }
+            Puts pts (packet_here s j now media table) result out.new) }
         ensures slots { length slots.new ≡ length slots.old }
-        ensures same { (own_of self.new ≡ own_of self.old) × (legs_of self.new ≡ legs_of self.old) }
+        ensures same { SameLeg self.old self.new }
         ensures next { next_turn self.new ≡ media + 1 }
     {
         out.clear();
@@ -150,7 +143,7 @@ impl UnawareOutlet {
         ensures composes { OfAsks self.old slots.old names.now (λ s table asks.
             Composes s table self.old.composer media is_asked asks result text.new self.new slots.new) }
         ensures slots { length slots.new ≡ length slots.old }
-        ensures same { (own_of self.new ≡ own_of self.old) × (legs_of self.new ≡ legs_of self.old) }
+        ensures same { SameLeg self.old self.new }
         ensures next { next_turn self.new ≡ media + 1 }
         ensures output { self.new.output ≡ self.old.output }
         ensures times { (self.new.spacing ≡ self.old.spacing) × (self.new.free_at ≡ self.old.free_at) }
@@ -168,9 +161,8 @@ impl UnawareOutlet {
 
     /// Is called where a chunk is given to the terminal, which then waits there.
     pub fn wake(&mut self)
-        ensures stands { (s : Setup) (pts : Pts) (j : ℕ) (d : Terminal) (waits : ℕ → List Chunk) → StandsFor s pts j self.old d
-            → StandsFor s pts j self.new (record d { waits = waits }) }
-        ensures same { (own_of self.new ≡ own_of self.old) × (legs_of self.new ≡ legs_of self.old) }
+        ensures stands { StandsWoken self.old self.new }
+        ensures same { SameLeg self.old self.new }
         ensures next { next_turn self.new ≡ next_turn self.old }
     {
         self.none_waits = false;
@@ -180,9 +172,7 @@ impl UnawareOutlet {
     fn send(&mut self, media: u64, text: &Text, out: &mut Packet) -> bool
         requires media { media < 2 ^ 48 }
         requires out { out.old ≡ [] }
-        ensures sends { (conf : OutConf) (source : ℕ) (past : List Sent) → conf.gens ≤ 3
-            → outputs.StandsFor conf (source ∷ []) self.old.output past → IsNext (stream_of conf) past (sent_now source media text.now)
-            → Sends conf source self.old.spacing self.new past (sent_now source media text.now) result out.new }
+        ensures sends { SendsNow self.old media text.now self.new result out.new }
         ensures composer { self.new.composer ≡ self.old.composer }
         ensures spacing { self.new.spacing ≡ self.old.spacing }
         ensures waits { self.new.none_waits ≡ self.old.none_waits }
