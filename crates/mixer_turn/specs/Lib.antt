@@ -1,5 +1,6 @@
 pub mod Allowed
 pub mod Words
+pub mod Laws
 pub mod States
 pub mod Standing
 pub mod BatchInsides

@@ -1,8 +1,8 @@
 -- What outlets and slots tell of the tables for which they stand.
-use Rattle.std.specs.Prelude.{◌≡◌, ℕ, Some, List, slice_get}
+use Rattle.std.specs.Prelude.{◌≡◌, ◌==◌, ◌||◌, not, ℕ, Bool, Some, List, slice_get}
 use Rattle.rtt_base.specs.declared.text_packets.Pts.{Pts}
 use Rattle.mixer_spec.specs.Setups.{Setup}
-use Rattle.mixer_spec.specs.Table.{Table}
+use Rattle.mixer_spec.specs.Table.{Table, Terminal, has_work}
 use Rattle.slot_table.specs.Lanes.{Waiting}
 use Rattle.slot_table.specs.Standing as slots
 use Rattle.outlet.specs.declared.outlets.Outlet.{Outlet}
@@ -16,3 +16,7 @@ AreAll legs all = (j : ℕ) (o : Outlet) → slice_get all j ≡ Some o → legs
 -- of each such table
 abbrev pub OfTables : List Outlet → List Waiting → (Setup → Table → Type 0) → Type 0
 OfTables all waiting P = (s : Setup) (pts : ℕ → Pts) (table : Table) → AreOutlets s pts all table.terminals → slots.StandsFor s waiting table → P s table
+
+-- the terminal j is the leg's own, or nothing of the leg waits or is to be repeated there
+abbrev pub is_free_of : Setup → ℕ → ℕ → Terminal → Bool
+is_free_of s leg j d = (j == leg) || not (has_work s j d leg)

@@ -1,15 +1,11 @@
 -- What outlets stand for where text may have come to their terminals.
 use Rattle.std.specs.Prelude.{◌≡◌, ℕ, ◌<◌, ◌≤◌, Some, List, length, slice_get}
-use Rattle.rtt_base.specs.declared.text_packets.Pts.{Pts}
-use Rattle.stream_spec.specs.Ready.{Chunk}
-use Rattle.mixer_spec.specs.Setups.{Setup}
-use Rattle.mixer_spec.specs.Table.{Terminal}
 use Rattle.outlet.specs.declared.outlets.Outlet.{Outlet}
-use Rattle.outlet.specs.Outlets.{StandsFor, own_of, legs_of, next_turn}
+use Rattle.outlet.specs.Outlets.{StandsWoken, own_of, legs_of, next_turn}
 
 -- it stands for the same terminal, whatever waits there
 pub record IsWoken (old new : Outlet) : Type 0 where
-  pub stands : (s : Setup) (pts : Pts) (j : ℕ) (d : Terminal) (waits : ℕ → List Chunk) → StandsFor s pts j old d → StandsFor s pts j new (record d { waits = waits })
+  pub stands : StandsWoken old new
   pub own : own_of new ≡ own_of old
   pub legs : legs_of new ≡ legs_of old
   pub next : next_turn new ≡ next_turn old

@@ -1,9 +1,9 @@
 //! What a mixer finds at all terminals.
-ghost use Rattle.std.specs.Prelude.{◌≡◌, ◌<◌, ◌==◌, ◌||◌, not, length};
+ghost use Rattle.std.specs.Prelude.{◌≡◌, ◌<◌, length};
 ghost use Rattle.mixer_spec.specs.Rounds.{all_below};
-ghost use Rattle.mixer_spec.specs.Table.{has_work, is_done, is_quiet};
+ghost use Rattle.mixer_spec.specs.Table.{is_done, is_quiet};
 ghost use Rattle.outlet.specs.Outlets.{OfTerminals, legs_of};
-ghost use Rattle.mixer_turn.specs.Looks.{AreAll, OfTables};
+ghost use Rattle.mixer_turn.specs.Looks.{AreAll, OfTables, is_free_of};
 
 use outlet::Outlet;
 use slot_table::Slots;
@@ -27,7 +27,7 @@ pub fn are_quiet(outlets: &[Outlet], slots: &Slots) -> bool
 fn is_free_of(leg: usize, terminal: usize, outlet: &Outlet, slots: &Slots) -> bool
     requires slots { length slots.now ≡ legs_of outlet.now }
     requires leg { leg < legs_of outlet.now }
-    ensures { OfTerminals outlet.now slots.now (λ s j d. j ≡ terminal → result ≡ ((j == leg) || not (has_work s j d leg))) }
+    ensures { OfTerminals outlet.now slots.now (λ s j d. j ≡ terminal → result ≡ is_free_of s leg j d) }
 {
     terminal == leg || !outlet.has_work(leg, slots)
 }
@@ -37,7 +37,7 @@ fn are_free_of(leg: usize, outlets: &[Outlet], slots: &Slots) -> bool
     requires all { AreAll (length slots.now) outlets.now }
     requires leg { leg < length slots.now }
     ensures { OfTables outlets.now slots.now (λ s table.
-        result ≡ all_below (λ j. (j == leg) || not (has_work s j (table.terminals j) leg)) (length outlets.now)) }
+        result ≡ all_below (λ j. is_free_of s leg j (table.terminals j)) (length outlets.now)) }
 {
     for terminal in 0..outlets.len() {
         let outlet = &outlets[terminal];

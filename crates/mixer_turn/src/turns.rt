@@ -3,7 +3,7 @@ ghost use Rattle.std.specs.Prelude.{◌≡◌, ℕ, ◌+◌, ◌^◌, ◌<◌, �
 ghost use Rattle.rtt_base.specs.declared.text_packets.Pts.{Pts};
 ghost use Rattle.mixer_spec.specs.Setups.{Setup};
 ghost use Rattle.mixer_spec.specs.Table.{Table, next_media};
-ghost use Rattle.outlet.specs.Outlets.{IsTurned, OfTurns, legs_of, next_turn, own_of};
+ghost use Rattle.outlet.specs.Outlets.{IsTurned, OfTurns, SameLeg, legs_of, next_turn};
 ghost use Rattle.mixer_turn.specs.Turns.{AreOutletsOf, IsPut, LegMayTurn, LegTurned, OfMixers, Reaches, AllTurned};
 
 use crate::batches::{Batch, PLACES, Post};
@@ -35,7 +35,7 @@ fn turn_into(
     ensures turned { OfTurns outlet.old seating.now slots.old names.now media (λ s pts j table now.
         IsTurned s pts j table now media outlet.new slots.new result post.new.packet) }
     ensures slots { length slots.new ≡ length slots.old }
-    ensures same { (own_of outlet.new ≡ own_of outlet.old) × (legs_of outlet.new ≡ legs_of outlet.old) }
+    ensures same { SameLeg outlet.old outlet.new }
     ensures next { next_turn outlet.new ≤ media + 1 }
 {
     post.terminal = leg;
@@ -63,7 +63,7 @@ impl Batch {
         ensures put { OfTurns outlet.old seating.now slots.old names.now media (λ s pts j table now.
             IsPut s pts j leg table now media outlet.new slots.new self.old self.new) }
         ensures slots { length slots.new ≡ length slots.old }
-        ensures same { (own_of outlet.new ≡ own_of outlet.old) × (legs_of outlet.new ≡ legs_of outlet.old) }
+        ensures same { SameLeg outlet.old outlet.new }
         ensures next { next_turn outlet.new ≤ media + 1 }
     {
         let len = self.len;
@@ -104,7 +104,7 @@ impl Batch {
             → Reaches s pts table now media leg slots.old self.old
             → LegTurned s pts table now media leg outlet.new slots.new self.new }
         ensures slots { length slots.new ≡ length slots.old }
-        ensures same { (own_of outlet.new ≡ own_of outlet.old) × (legs_of outlet.new ≡ legs_of outlet.old) }
+        ensures same { SameLeg outlet.old outlet.new }
         ensures next { next_turn outlet.new ≤ media + 1 }
     {
         if seating.is_seated(leg) && self.len < PLACES {
