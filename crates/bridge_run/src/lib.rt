@@ -6,6 +6,7 @@ mod logging;
 mod mixed;
 mod mixing;
 mod ports;
+mod reading;
 mod views;
 
 pub use mixed::{MixFault, Mixed};

@@ -21,11 +21,12 @@ ghost use Rattle.bridge_run.specs.Viewed.{AreSent};
 
 use crate::loggers::Logged;
 use crate::ports::{close_ports, close_ports_after_fault, held_ports, open_ports};
+use crate::reading::{Readers, mix_read};
 use crate::views::{Seen, views_of};
 use crate::{MixFault, Mixed};
 use conf_text::Conf;
 use leg_items::LegInlet;
-use leg_lanes::{Ran, mix_running};
+use leg_lanes::Ran;
 use mix_loop::{Log, Mixing, Port};
 use mixer_spec::limits::MOST_INPUT_OF_MANY;
 use rtt_base::Bytes;
@@ -80,12 +81,13 @@ struct Answered<S> {
     ports: Vec<Port<LegInlet<S>>>,
 }
 
-/// Mixes a conference whose inputs are opened, each leg on a thread of its own. All ports come back.
+/// Mixes a conference whose inputs are opened, and are read so. All ports come back.
 fn mix_opened<S: Source + Send, R: Threads + Wait + Sync, G: Gate + Sync>(
     rt: &R,
     alloc: Global,
     conf: &Conf,
     ports: Vec<Port<LegInlet<S>>>,
+    readers: Readers,
     gate: &G,
 ) -> Answered<S>
     requires legs { length ports.items ≡ length conf.now.legs }
@@ -117,7 +119,7 @@ fn mix_opened<S: Source + Send, R: Threads + Wait + Sync, G: Gate + Sync>(
         ports,
         mixer: _,
         log,
-    } = mix_running(rt, alloc, gate, ports, mixer, tick, turns, log);
+    } = mix_read(rt, alloc, readers, gate, ports, mixer, tick, turns, log);
     match mixing {
         Mixing::Over => Answered {
             mixed: made(alloc, conf, log),
@@ -148,8 +150,8 @@ fn broken_leg(mixed: &Result<Mixed, MixFault>) -> Option<u8>
     }
 }
 
-/// Mixes a conference whose inputs have these octets, one for each leg, in leg order. They are held in memory, and no reading
-/// of them fails.
+/// Mixes a conference whose inputs have these octets, one for each leg, in leg order. They are held in memory, no reading of
+/// them fails, and the caller reads them all.
 pub fn mix_held<R: Threads + Wait + Sync, G: Gate + Sync>(
     rt: &R,
     alloc: Global,
@@ -166,7 +168,7 @@ pub fn mix_held<R: Threads + Wait + Sync, G: Gate + Sync>(
     let Ok(ports) = held_ports(alloc, conf.legs.as_slice(), conf.wait, limit, inputs) else {
         return Err(MixFault::NoMemory);
     };
-    let Answered { mixed, ports: _ } = mix_opened(rt, alloc, conf, ports, gate);
+    let Answered { mixed, ports: _ } = mix_opened(rt, alloc, conf, ports, Readers::Caller, gate);
     mixed
 }
 
@@ -193,7 +195,7 @@ pub fn mix<R: Threads + Wait + Sync, W: World, G: Gate + Sync>(
         Ok(ports) => ports,
         Err(fault) => return Err(fault),
     };
-    let Answered { mixed, ports } = mix_opened(rt, alloc, conf, ports, gate);
+    let Answered { mixed, ports } = mix_opened(rt, alloc, conf, ports, Readers::Threads, gate);
     match broken_leg(&mixed) {
         Some(leg) => {
             close_ports_after_fault(ports, leg as usize, world);
