@@ -35,6 +35,7 @@ bench: $(PROGRAM)
 	bench/list $(PROGRAM)
 	bench/send $(PROGRAM)
 	bench/mix $(PROGRAM)
+	bench/threads $(PROGRAM)
 
 install: $(PROGRAM)
 	install -D -m 755 $(PROGRAM) $(DESTDIR)$(PREFIX)/bin/rtt_program

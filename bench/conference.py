@@ -17,7 +17,7 @@ os.makedirs(folder, exist_ok=True)
 with open(os.path.join(folder, "conference.txt"), "w", encoding="utf-8") as conference:
     conference.write("mixer 9000 0 0\n")
     for leg in range(1, LEGS + 1):
-        conference.write(f"leg L{leg} aware {1000 + leg} leg-{leg}.rtp to-{leg}.rtp\n")
+        conference.write(f"leg Speaker{leg} aware {1000 + leg} leg-{leg}.rtp to-{leg}.rtp\n")
 for leg in range(1, LEGS + 1):
     with open(os.path.join(folder, f"leg-{leg}.txt"), "w", encoding="utf-8") as script:
         for second in range(SECONDS):
