@@ -53,21 +53,21 @@ pub gathers_each_none : (e : Ear) (texts : List SourceText) → GatheringEach e 
 gathers_each_none e texts = record { hears = λ conf sources story h. (story.given, h, omega arith); conf = refl; piece = refl; arrivals = refl; finished = refl }
 
 pub gathers_each_one : (old e m : Ear) (due : Due) (n : ℕ) (texts some more : List SourceText) → GatheringEach old e n texts some → length more ≡ length some → m.conf ≡ e.conf
-    → ((story : Story) → Tracks e.tracker story → Tracks m.tracker (gave story (given_of due m.packet.value)))
-    → ((sources : List ℕ) (us : List Numbered) (time : ℕ) → Stands e.receiver sources us → Stands m.receiver sources (us ++ used_packet time due.number m.packet.value ∷ []))
+    → ((story : Story) → Tracks e.tracker story → Tracks m.tracker (gave story (given_of due m.tracker.current)))
+    → ((sources : List ℕ) (us : List Numbered) (time : ℕ) → Stands e.receiver sources us → Stands m.receiver sources (us ++ used_packet time due.number m.tracker.current ∷ []))
     → latest_number m.receiver ≡ Some due.number
-    → ((sources : List ℕ) (us : List Numbered) (time : ℕ) → Stands e.receiver sources us → AreHeard sources us some → AreHeard sources (us ++ used_packet time due.number m.packet.value ∷ []) more)
+    → ((sources : List ℕ) (us : List Numbered) (time : ℕ) → Stands e.receiver sources us → AreHeard sources us some → AreHeard sources (us ++ used_packet time due.number m.tracker.current ∷ []) more)
     → (conf : EarConf) (sources : List ℕ) (story : Story) → HearsEach old conf sources story texts
     → (given : List Given) × HearsEach m conf sources (record story { given = given }) more × (length given ≡ length story.given + (n + 1))
 gathers_each_one old e m due n texts some more g size k t s latest heard conf sources story h =
     let now = g.hears conf sources story h in
     let before : Story = record story { given = now.0 } in
-    let one : Given = given_of due m.packet.value in
+    let one : Given = given_of due m.tracker.current in
     let us : List Numbered = ready_packets now.0 in
     let stands = now.1.hears.stands in (
       now.0 ++ one ∷ [],
       record {
-        hears = heard_one e m conf sources before due m.packet.value k now.1.hears (t before now.1.hears.tracks) (s sources us due.ready stands) latest;
+        hears = heard_one e m conf sources before due m.tracker.current k now.1.hears (t before now.1.hears.tracks) (s sources us due.ready stands) latest;
         each = size ∙ now.1.each;
         heard = subst (λ (vs : List Numbered). AreHeard sources vs more) (sym (map-append ready_packet now.0 (one ∷ []))) (heard sources us due.ready stands now.1.heard);
       },

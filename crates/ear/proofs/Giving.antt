@@ -1,5 +1,5 @@
 -- An ear that is told, and one that gives.
-use Rattle.std.proofs.Common.{◌≡◌, ℕ, ◌<◌, Bool, true, false, IsUtf8, Some, None, List, [], ◌∷◌, ◌++◌, refl, ap, sym, ◌∙◌, arith, map, append-nil, append_assoc, subst, Result, Ok, Err, Box, Global, inl, inr}
+use Rattle.std.proofs.Common.{◌≡◌, ℕ, ◌<◌, Bool, true, false, IsUtf8, Some, None, List, [], ◌∷◌, ◌++◌, refl, ap, sym, ◌∙◌, arith, map, append-nil, append_assoc, subst, Result, Ok, Err, inl, inr}
 use Rattle.std.specs.Prelude.{not}
 use Rattle.std.proofs.lemmas.Bool.{and_parts, cases_lt, true≢false}
 use Rattle.std.proofs.lemmas.Grind.{not_there}
@@ -20,7 +20,8 @@ use Rattle.stream_spec.proofs.ByNumber.{by_more}
 use Rattle.stream_spec.proofs.Taking.{heard_by_more}
 use Rattle.gap_tracker.specs.Stories.{Story, Given, came, ended, gave, given_of, dues, ready_dues}
 use Rattle.gap_tracker.specs.Tracks.{Tracks}
-use Rattle.gap_tracker.specs.States.{State, has_ready}
+use Rattle.gap_tracker.specs.States.{State, has_ready, with_packet}
+use Rattle.gap_tracker.proofs.Steps.{tracks_with}
 use Rattle.gap_tracker.specs.declared.answers.Due.{Due}
 use Rattle.gap_tracker.proofs.Giving.{order_is}
 use Rattle.source_receiver.specs.Stands.{Stands, latest_number, used_packet}
@@ -39,22 +40,36 @@ quiet_left : (e : Ear) (p : TextPacket) → is_quiet e ≡ true → left_of e.pi
 quiet_left e p q = heard_left e.piece p (and_parts (not (has_ready e.tracker)) (is_heard e.piece) q).1
 
 -- nothing is left of the packet given last, and another may stand in its place
-module _ (e : Ear) (t : State) (b : Box TextPacket Global) (quiet : is_quiet e ≡ true) where
-  none_left : (conf : EarConf) (source : ℕ) (story : Story) (given : List Chunk) → Gave e conf source story given → given ++ map (chunk conf.place e.ready) (left_of e.piece b.value) ≡ chunks_by conf.place (ready_packets story.given) source
+module _ (e : Ear) (t : State) (quiet : is_quiet e ≡ true) where
+  none_left : (conf : EarConf) (source : ℕ) (story : Story) (given : List Chunk) → Gave e conf source story given → given ++ map (chunk conf.place e.ready) (left_of e.piece t.current) ≡ chunks_by conf.place (ready_packets story.given) source
   none_left conf source story given g =
-      ap (λ ts. given ++ map (chunk conf.place e.ready) ts) (quiet_left e b.value quiet ∙ sym (quiet_left e e.packet.value quiet)) ∙ g.chunks
+      ap (λ ts. given ++ map (chunk conf.place e.ready) ts) (quiet_left e t.current quiet ∙ sym (quiet_left e e.tracker.current quiet)) ∙ g.chunks
 
-  pub becomes : (f : EarConf → Story → Story) → ((conf : EarConf) (sources : List ℕ) (story : Story) → Hears e conf sources story → Hears (record e { tracker = t; packet = b }) conf sources (f conf story))
-      → ((conf : EarConf) (story : Story) → (f conf story).given ≡ story.given) → Becomes e (record e { tracker = t; packet = b }) f
+  pub becomes : (f : EarConf → Story → Story) → ((conf : EarConf) (sources : List ℕ) (story : Story) → Hears e conf sources story → Hears (record e { tracker = t }) conf sources (f conf story))
+      → ((conf : EarConf) (story : Story) → (f conf story).given ≡ story.given) → Becomes e (record e { tracker = t }) f
   becomes f h same = record {
     hears = h;
     gave = λ conf source story given g. record {
       hears = h conf (source ∷ []) story g.hears;
       chunks = none_left conf source story given g ∙ ap (λ gs. chunks_by conf.place (ready_packets gs) source) (sym (same conf story));
-      texts = subst AreHeardTexts (sym (quiet_left e b.value quiet)) tt;
+      texts = subst AreHeardTexts (sym (quiet_left e t.current quiet)) tt;
     };
     clear = (and_parts (not (has_ready e.tracker)) (is_heard e.piece) quiet).1;
   }
+
+-- time goes on, or ends
+pub moves : (e : Ear) (t : State) (f : Story → Story) → is_quiet e ≡ true → ((story : Story) → Tracks e.tracker story → Tracks t (f story))
+    → ((story : Story) → ((f story).wait ≡ story.wait) × ((f story).past ≡ story.past) × ((f story).given ≡ story.given)) → Becomes e (record e { tracker = t }) (λ conf story. f story)
+moves e t f quiet tracks same = becomes e t quiet (λ conf story. f story)
+    (λ conf sources story h. record {
+      asked = h.asked;
+      wait = (same story).0 ∙ h.wait;
+      tracks = tracks story h.tracks;
+      stands = rw ((same story).2) h.stands;
+      latest = rw ((same story).2) h.latest;
+      texts = rw ((same story).1) h.texts;
+    })
+    (λ conf story. (same story).2)
 
 pub told_given : (story : Story) (now : ℕ) (x : Result Packet TextFault) → (told story now x).given ≡ story.given
 told_given story now (Ok p) = refl
@@ -64,13 +79,13 @@ told_given story now (Err f) = refl
 asked_same : (a b : EarConf) (octets : List ℕ) → a ≡ b → text_of octets (Some a.ssrc) a.pts ≡ text_of octets (Some b.ssrc) b.pts
 asked_same a b octets e = ap (λ (c : EarConf). text_of octets (Some c.ssrc) c.pts) e
 
-pub takes : (e : Ear) (t : State) (b : Box TextPacket Global) (now : ℕ) (octets : List ℕ) (p : Packet) → is_quiet e ≡ true → text_of octets (Some e.conf.ssrc) e.conf.pts ≡ Ok p
+pub takes : (e : Ear) (t : State) (now : ℕ) (octets : List ℕ) (p : Packet) → is_quiet e ≡ true → text_of octets (Some e.conf.ssrc) e.conf.pts ≡ Ok p
     → ((story : Story) → Tracks e.tracker story → Tracks t (came story now p))
-    → Becomes e (record e { tracker = t; packet = b }) (λ conf story. told story now (text_of octets (Some conf.ssrc) conf.pts))
-takes e t b now octets p quiet x k = becomes e t b quiet (λ conf story. told story now (text_of octets (Some conf.ssrc) conf.pts))
+    → Becomes e (record e { tracker = t }) (λ conf story. told story now (text_of octets (Some conf.ssrc) conf.pts))
+takes e t now octets p quiet x k = becomes e t quiet (λ conf story. told story now (text_of octets (Some conf.ssrc) conf.pts))
     (λ conf sources story h.
     let same : text_of octets (Some conf.ssrc) conf.pts ≡ Ok p = sym (asked_same e.conf conf octets h.asked) ∙ x in
-    subst (λ r. Hears (record e { tracker = t; packet = b }) conf sources (told story now r)) (sym same) (record {
+    subst (λ r. Hears (record e { tracker = t }) conf sources (told story now r)) (sym same) (record {
       asked = h.asked;
       wait = h.wait;
       tracks = k story h.tracks;
@@ -81,15 +96,15 @@ takes e t b now octets p quiet x k = becomes e t b quiet (λ conf story. told st
     (λ conf story. told_given story now (text_of octets (Some conf.ssrc) conf.pts))
 
 -- what is refused changes nothing but the packet's place
-pub refuses : (e : Ear) (b : Box TextPacket Global) (now : ℕ) (octets : List ℕ) (f : TextFault) → is_quiet e ≡ true → text_of octets (Some e.conf.ssrc) e.conf.pts ≡ Err f
-    → Becomes e (record e { packet = b }) (λ conf story. told story now (text_of octets (Some conf.ssrc) conf.pts))
-refuses e b now octets f quiet x = becomes e e.tracker b quiet (λ conf story. told story now (text_of octets (Some conf.ssrc) conf.pts))
+pub refuses : (e : Ear) (q : TextPacket) (now : ℕ) (octets : List ℕ) (f : TextFault) → is_quiet e ≡ true → text_of octets (Some e.conf.ssrc) e.conf.pts ≡ Err f
+    → Becomes e (record e { tracker = with_packet e.tracker q }) (λ conf story. told story now (text_of octets (Some conf.ssrc) conf.pts))
+refuses e q now octets f quiet x = becomes e (with_packet e.tracker q) quiet (λ conf story. told story now (text_of octets (Some conf.ssrc) conf.pts))
     (λ conf sources story h.
     let same : text_of octets (Some conf.ssrc) conf.pts ≡ Err f = sym (asked_same e.conf conf octets h.asked) ∙ x in
-    subst (λ r. Hears (record e { packet = b }) conf sources (told story now r)) (sym same) (record {
+    subst (λ r. Hears (record e { tracker = with_packet e.tracker q }) conf sources (told story now r)) (sym same) (record {
       asked = h.asked;
       wait = h.wait;
-      tracks = h.tracks;
+      tracks = tracks_with e.tracker q story h.tracks;
       stands = h.stands;
       latest = h.latest;
       texts = h.texts;
@@ -160,25 +175,25 @@ added_is us b s ts above e = append_cancel_left (heard_by us s) ts (texts_added 
 -- a packet is taken, and nothing was left of the one before
 pub opens : (old e m : Ear) (due : Due) → Going old e → m.conf ≡ e.conf → texts_left e ≡ []
     → m.ready ≡ due.ready
-    → ((story : Story) → Tracks e.tracker story → Tracks m.tracker (gave story (given_of due m.packet.value)))
-    → ((sources : List ℕ) (us : List Numbered) (time : ℕ) → Stands e.receiver sources us → Stands m.receiver sources (us ++ used_packet time due.number m.packet.value ∷ []))
+    → ((story : Story) → Tracks e.tracker story → Tracks m.tracker (gave story (given_of due m.tracker.current)))
+    → ((sources : List ℕ) (us : List Numbered) (time : ℕ) → Stands e.receiver sources us → Stands m.receiver sources (us ++ used_packet time due.number m.tracker.current ∷ []))
     → latest_number m.receiver ≡ Some due.number
-    → ((source : ℕ) (us : List Numbered) (time : ℕ) → Stands e.receiver (source ∷ []) us → heard_by (us ++ used_packet time due.number m.packet.value ∷ []) source ≡ heard_by us source ++ texts_left m)
+    → ((source : ℕ) (us : List Numbered) (time : ℕ) → Stands e.receiver (source ∷ []) us → heard_by (us ++ used_packet time due.number m.tracker.current ∷ []) source ≡ heard_by us source ++ texts_left m)
     → (conf : EarConf) (source : ℕ) (story : Story) (given : List Chunk) → Gave old conf source story given → GaveSome m conf source story given
 opens old e m due going k none y t s n heard conf source story given g =
     let now = going.gave conf source story given g in
     let h = now.1.hears in
     let before : Story = record story { given = now.0 } in
     let us : List Numbered = ready_packets now.0 in
-    let one : Given = given_of due m.packet.value in
-    let u : Numbered = used_packet due.ready due.number m.packet.value in
+    let one : Given = given_of due m.tracker.current in
+    let u : Numbered = used_packet due.ready due.number m.tracker.current in
     let told : Tracks m.tracker (gave before one) = t before h.tracks in
     let above = above_given m.tracker before one told in
     let added : texts_left m ≡ texts_added us u source = added_is us u source (texts_left m) above (heard source us due.ready h.stands) in
     let whole : given ≡ chunks_by conf.place us source = sym (append-nil given) ∙ (ap (λ ts. given ++ map (chunk conf.place e.ready) ts) (sym none) ∙ now.1.chunks) in (
       now.0 ++ one ∷ [],
       record {
-        hears = heard_one e m conf (source ∷ []) before due m.packet.value k h told (s (source ∷ []) us due.ready h.stands) n;
+        hears = heard_one e m conf (source ∷ []) before due m.tracker.current k h told (s (source ∷ []) us due.ready h.stands) n;
         chunks = ap (λ cs. cs ++ map (chunk conf.place m.ready) (texts_left m)) whole
             ∙ (ap (λ r. chunks_by conf.place us source ++ map (chunk conf.place r) (texts_left m)) y
             ∙ (ap (λ ts. chunks_by conf.place us source ++ map (chunk conf.place due.ready) ts) added

@@ -40,7 +40,7 @@ is_quiet e = not (has_ready e.tracker) && is_clear e
 
 -- the texts of the packet given last that are still to be heard
 abbrev pub texts_left : Ear → List (List ℕ)
-texts_left e = left_of e.piece e.packet.value
+texts_left e = left_of e.piece (tracker.current_of e.tracker)
 
 -- ---- what it was told
 

@@ -11,7 +11,7 @@ ghost use Rattle.rtt_base.specs.declared.limits.TheConstants.{LONGEST_WAIT};
 use crate::EarConf;
 use gap_tracker::Tracker;
 use red_blocks::read_text;
-use rtt_base::{Chunk, NoMemory, TextPacket};
+use rtt_base::{Chunk, NoMemory};
 use source_receiver::{Piece, Receiver, SourceText};
 use std::alloc::Global;
 use wire_spec::TextFault;
@@ -23,11 +23,10 @@ use wire_spec::TextFault;
 #[derive(Drop)]
 pub struct Ear {
     conf: EarConf,
+    /// Its current packet is the one that is read, or heard.
     tracker: Tracker,
     receiver: Receiver,
-    /// The packet that is read, or heard.
-    packet: Box<TextPacket>,
-    /// What is still to be heard of it.
+    /// What is still to be heard of that packet.
     piece: Piece,
     /// When it was ready.
     ready: u64,
@@ -51,7 +50,6 @@ impl Ear {
             conf,
             tracker: Tracker::new(alloc, conf.wait)?,
             receiver: Receiver::new(alloc, sources)?,
-            packet: Box::new(alloc, TextPacket::default())?,
             piece: Piece::none(),
             ready: 0,
         })
@@ -75,10 +73,10 @@ impl Ear {
             octets,
             Some(self.conf.ssrc),
             self.conf.pts,
-            &mut self.packet,
+            self.tracker.packet_mut(),
         ) {
             Ok(()) => {
-                let _taken = self.tracker.arrive(now, &mut self.packet);
+                let _taken = self.tracker.arrive(now);
                 Ok(())
             }
             Err(fault) => Err(fault),
@@ -128,15 +126,15 @@ impl Ear {
         ensures finished { is_finished self.new ≡ is_finished self.old }
     {
         loop {
-            if self.piece.next(&self.packet, &mut chunk.text) {
+            if self.piece.next(self.tracker.packet(), &mut chunk.text) {
                 chunk.source = self.conf.place;
                 chunk.ready = self.ready;
                 return true;
             }
-            let Some(due) = self.tracker.next(&mut self.packet) else {
+            let Some(due) = self.tracker.next() else {
                 return false;
             };
-            self.piece = self.receiver.take_piece(due.number, &self.packet);
+            self.piece = self.receiver.take_piece(due.number, self.tracker.packet());
             self.ready = due.ready;
         }
     }
@@ -154,8 +152,9 @@ impl Ear {
         ensures finished { OnOk result (is_finished self.new ≡ is_finished self.old) }
     {
         let mut used = 0;
-        while let Some(due) = self.tracker.next(&mut self.packet) {
-            self.receiver.take_each(due.number, &self.packet, heard)?;
+        while let Some(due) = self.tracker.next() {
+            self.receiver
+                .take_each(due.number, self.tracker.packet(), heard)?;
             used += 1;
         }
         Ok(used)

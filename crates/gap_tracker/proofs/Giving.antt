@@ -4,14 +4,13 @@ use Rattle.std.specs.Prelude.{IfSome, IfNone, map, filter, nat_lt, nat_le}
 use Rattle.std.specs.List.{list_any}
 use Rattle.std.proofs.lemmas.Bool.{true≢false, le-leb, leb-true, lt-ltb, le-ltb, or_left, false_from_ne_true}
 use Rattle.std.proofs.lemmas.List.{append-nil}
-use Rattle.rtt_base.specs.declared.text_packets.TextPacket.{TextPacket}
 use Rattle.stream_spec.specs.Lists.{In}
 use Rattle.stream_spec.specs.Numbering.{Numbered, numbered, has_number, distinct_from, is_given_up}
 use Rattle.stream_spec.specs.Ready.{ready_of}
 use Rattle.stream_spec.proofs.Lists.{in_left, in_right, in_any}
 use Rattle.gap_tracker.specs.declared.answers.Due.{Due}
 use Rattle.gap_tracker.specs.Stories.{Story, Given, due_at, dues, dues_of, is_due, ready_dues, begun, gave, given_of, ended}
-use Rattle.gap_tracker.specs.States.{State, next_latest, has_ready, has_some, fresh}
+use Rattle.gap_tracker.specs.States.{State, next_latest, has_ready, has_some, fresh, GivesFirst}
 use Rattle.gap_tracker.specs.Tracks.{Holding, Phase, Before, Within, Follows, Tracks}
 use Rattle.gap_tracker.proofs.Settling.{still_front}
 use Rattle.gap_tracker.proofs.Steps.{map_more, later_holding}
@@ -88,13 +87,13 @@ pub all_given : (s : State) (story : Story) → s.settled ≡ [] → Tracks s st
 all_given s story e k = sym ((order_is s story k).ready_is ∙ (ap (λ gs. story.given ++ gs) e ∙ append-nil story.given))
 
 -- ---- one is given
-pub give_step : (s t : State) (story : Story) (g : Given) → s.settled ≡ g ∷ t.settled → t ≡ record s { settled = t.settled; packets = t.packets } → Tracks s story → Tracks t (gave story g)
+pub give_step : (s t : State) (story : Story) (g : Given) → s.settled ≡ g ∷ t.settled → t ≡ record s { settled = t.settled; packets = t.packets; current = t.current } → Tracks s story → Tracks t (gave story g)
 give_step s t story g first same k = subst (λ (u : State). Tracks u (gave story g)) (sym same) (record {
   follows = record { wait = k.follows.wait; moment = k.follows.moment; arrivals = k.follows.arrivals; top = k.follows.top; phase = go k.follows.phase };
   still = k.still;
 })
   where
-    go : Phase s story → Phase (record s { settled = t.settled; packets = t.packets }) (gave story g)
+    go : Phase s story → Phase (record s { settled = t.settled; packets = t.packets; current = t.current }) (gave story g)
     go (Before w) = absurd (clash (sym first ∙ w.settled))
       where
         clash : g ∷ t.settled ≡ [] → ⊥
@@ -163,9 +162,9 @@ end_all s t story k after =
         (let a = after.follows.moment in let b = after.follows.wait in let c = k.follows.moment in omega arith)
 
 -- ---- what one call gives
-pub give_some : (r : Option Due) (p : TextPacket) (s t : State) → IfSome r (λ due. (s.settled ≡ given_of due p ∷ t.settled) × (t ≡ record s { settled = t.settled; packets = t.packets })) → IfSome r (λ due. (story : Story) → Tracks s story → Tracks t (gave story (given_of due p)))
-give_some None p s t h = tt
-give_some (Some due) p s t h = λ story k. give_step s t story (given_of due p) h.0 h.1 k
+pub give_some : (r : Option Due) (s t : State) → IfSome r (GivesFirst s t) → IfSome r (λ due. (story : Story) → Tracks s story → Tracks t (gave story (given_of due t.current)))
+give_some None s t h = tt
+give_some (Some due) s t h = λ story k. give_step s t story (given_of due t.current) h.0 h.1 k
 
 pub give_none : (r : Option Due) (s t : State) → IfNone r ((s.settled ≡ []) × (t ≡ s)) → IfNone r ((story : Story) → Tracks s story → story.given ≡ ready_dues story)
 give_none None s t h = λ story k. all_given s story h.0 k

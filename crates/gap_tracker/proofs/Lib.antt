@@ -8,3 +8,4 @@ pub mod Answering
 pub mod Counting
 pub mod Steps
 pub mod Giving
+pub mod Apart

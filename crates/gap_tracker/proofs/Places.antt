@@ -6,26 +6,25 @@ use Rattle.stream_spec.specs.Numbering.{Numbered, has_number, by_number, RisingN
 use Rattle.stream_spec.specs.Lists.{In}
 use Rattle.rtt_base.specs.declared.text_packets.TextPacket.{TextPacket}
 use Rattle.gap_tracker.specs.States.{State, AllAbove, IsPlace, next_latest, latest_from, put_at}
-use Rattle.gap_tracker.specs.Views.{numbered_of, settled_of, held_packet, settled_packet, AreSmall}
+use Rattle.gap_tracker.specs.Views.{numbered_in, AreSmall}
 use Rattle.gap_tracker.specs.declared.holds.HeldPacket.{HeldPacket}
-use Rattle.gap_tracker.specs.declared.holds.SettledPacket.{SettledPacket}
 
 -- one more that is above
-pub above_more : (n : ℕ) (xs : List HeldPacket) (place : ℕ) (d : HeldPacket) → 0 < place → place ≤ length xs → n < (get_or xs (place - 1) d).number → AllAbove n (drop place (map numbered_of xs)) → AllAbove n (drop (place - 1) (map numbered_of xs))
-above_more n xs zero d p l a h = absurd (omega arith)
-above_more n xs (suc k) d p l a h =
+pub above_more : (ps : List TextPacket) (n : ℕ) (xs : List HeldPacket) (place : ℕ) (d : HeldPacket) → 0 < place → place ≤ length xs → n < (get_or xs (place - 1) d).number → AllAbove n (drop place (map (numbered_in ps) xs)) → AllAbove n (drop (place - 1) (map (numbered_in ps) xs))
+above_more ps n xs zero d p l a h = absurd (omega arith)
+above_more ps n xs (suc k) d p l a h =
     let e : suc k - 1 ≡ k = omega arith in
     rw e (go n xs k (omega arith) (subst (λ (j : ℕ). n < (get_or xs j d).number) e a) h)
   where
-    go : (n : ℕ) (xs : List HeldPacket) (k : ℕ) → k < length xs → n < (get_or xs k d).number → AllAbove n (drop (suc k) (map numbered_of xs)) → AllAbove n (drop k (map numbered_of xs))
+    go : (n : ℕ) (xs : List HeldPacket) (k : ℕ) → k < length xs → n < (get_or xs k d).number → AllAbove n (drop (suc k) (map (numbered_in ps) xs)) → AllAbove n (drop k (map (numbered_in ps) xs))
     go n [] k l a h = absurd (omega arith)
     go n (x ∷ xs) zero l a h = (a, h)
     go n (x ∷ xs) (suc k) l a h = go n xs k (omega arith) a h
 
-pub number_at : (xs : List HeldPacket) (k : ℕ) (d : HeldPacket) (e : Numbered) → k < length xs → (get_or (map numbered_of xs) k e).number ≡ (get_or xs k d).number
-number_at [] k d e l = absurd (omega arith)
-number_at (x ∷ xs) zero d e l = refl
-number_at (x ∷ xs) (suc k) d e l = number_at xs k d e (omega arith)
+pub number_at : (ps : List TextPacket) (xs : List HeldPacket) (k : ℕ) (d : HeldPacket) (e : Numbered) → k < length xs → (get_or (map (numbered_in ps) xs) k e).number ≡ (get_or xs k d).number
+number_at ps [] k d e l = absurd (omega arith)
+number_at ps (x ∷ xs) zero d e l = refl
+number_at ps (x ∷ xs) (suc k) d e l = number_at ps xs k d e (omega arith)
 
 -- the first is below the number, and the place of the number among the rest is one less
 first_below : (n : ℕ) (x : Numbered) (xs : List Numbered) (k : ℕ) → RisingNumbers (x ∷ xs) → IsPlace n (x ∷ xs) (suc k) → (x.number < n) × IsPlace n xs k
@@ -78,29 +77,29 @@ not_held n [] (suc k) r p = refl
 not_held n (x ∷ xs) (suc k) r p = let f = first_below n x xs k r p in rw (ne_eqb x.number n (omega (arith, f.0))) (not_held n xs k r.1 f.1)
 
 -- the code's place is the number's
-pub is_place : (n place : ℕ) (xs : List HeldPacket) → place ≤ length xs → AllAbove n (drop place (map numbered_of xs)) → ((0 < place) → (d : HeldPacket) × ((get_or xs (place - 1) d).number < n)) → IsPlace n (map numbered_of xs) place
-is_place n place xs l a b = record {
+pub is_place : (ps : List TextPacket) (n place : ℕ) (xs : List HeldPacket) → place ≤ length xs → AllAbove n (drop place (map (numbered_in ps) xs)) → ((0 < place) → (d : HeldPacket) × ((get_or xs (place - 1) d).number < n)) → IsPlace n (map (numbered_in ps) xs) place
+is_place ps n place xs l a b = record {
   within = omega (arith, length_all xs);
   above = a;
-  behind = λ d p. let r = b p in let e = number_at xs (place - 1) r.0 d (omega arith) in omega (arith, r.1);
+  behind = λ d p. let r = b p in let e = number_at ps xs (place - 1) r.0 d (omega arith) in omega (arith, r.1);
 }
   where
-    length_all : (xs : List HeldPacket) → length (map numbered_of xs) ≡ length xs
+    length_all : (xs : List HeldPacket) → length (map (numbered_in ps) xs) ≡ length xs
     length_all [] = refl
     length_all (x ∷ xs) = ap suc (length_all xs)
 
-pub there_held : (n place : ℕ) (xs : List HeldPacket) (d : HeldPacket) → 0 < place → place ≤ length xs → (get_or xs (place - 1) d).number ≡ n → has_number (map numbered_of xs) n ≡ true
-there_held n place xs d p l e = held_there n (map numbered_of xs) (place - 1) (numbered_of d) (omega (arith, length_all xs)) (number_at xs (place - 1) d (numbered_of d) (omega arith) ∙ e)
+pub there_held : (ps : List TextPacket) (n place : ℕ) (xs : List HeldPacket) (d : HeldPacket) → 0 < place → place ≤ length xs → (get_or xs (place - 1) d).number ≡ n → has_number (map (numbered_in ps) xs) n ≡ true
+there_held ps n place xs d p l e = held_there n (map (numbered_in ps) xs) (place - 1) (numbered_in ps d) (omega (arith, length_all xs)) (number_at ps xs (place - 1) d (numbered_in ps d) (omega arith) ∙ e)
   where
-    length_all : (xs : List HeldPacket) → length (map numbered_of xs) ≡ length xs
+    length_all : (xs : List HeldPacket) → length (map (numbered_in ps) xs) ≡ length xs
     length_all [] = refl
     length_all (x ∷ xs) = ap suc (length_all xs)
 
 -- ---- one more in the list
-pub map_put : (xs : List HeldPacket) (place : ℕ) (x : HeldPacket) → map numbered_of (insert xs place x) ≡ insert (map numbered_of xs) place (numbered_of x)
-map_put xs zero x = refl
-map_put [] (suc k) x = refl
-map_put (y ∷ xs) (suc k) x = ap (λ us. numbered_of y ∷ us) (map_put xs k x)
+pub map_put : {X Y : Type 0} (f : X → Y) (xs : List X) (place : ℕ) (x : X) → map f (insert xs place x) ≡ insert (map f xs) place (f x)
+map_put f xs zero x = refl
+map_put f [] (suc k) x = refl
+map_put f (y ∷ xs) (suc k) x = ap (λ us. f y ∷ us) (map_put f xs k x)
 
 pub length_put : (xs : List HeldPacket) (place : ℕ) (x : HeldPacket) → length (insert xs place x) ≡ suc (length xs)
 length_put xs zero x = refl
@@ -113,7 +112,7 @@ small_put [] (suc k) x s l = (l, tt)
 small_put (y ∷ xs) (suc k) x s l = (s.0, small_put xs k x s.1 l)
 
 -- ---- the packets inside
-append_put : {X : Type 0} (xs ys : List X) (place : ℕ) (y : X) → xs ++ insert ys place y ≡ insert (xs ++ ys) (length xs + place) y
+pub append_put : {X : Type 0} (xs ys : List X) (place : ℕ) (y : X) → xs ++ insert ys place y ≡ insert (xs ++ ys) (length xs + place) y
 append_put [] ys place y = let e : place ≡ 0 + place = omega arith in ap (λ n. insert ys n y) e
 append_put (x ∷ xs) ys place y = let e : suc (length xs + place) ≡ suc (length xs) + place = omega arith in ap (λ zs. x ∷ zs) (append_put xs ys place y) ∙ ap (λ n. insert (x ∷ (xs ++ ys)) n y) e
 
@@ -124,24 +123,6 @@ in_put [] (suc k) x y (inl e) = inl e
 in_put [] (suc k) x y (inr i) = absurd i
 in_put (z ∷ xs) (suc k) x y (inl e) = inr (inl e)
 in_put (z ∷ xs) (suc k) x y (inr i) = elim (in_put xs k x y i) [ inl e ↦ inl e | inr j ↦ inr (inr j) ]
-
-packets_put : (xs : List HeldPacket) (place : ℕ) (x : HeldPacket) → map held_packet (insert xs place x) ≡ insert (map held_packet xs) place (held_packet x)
-packets_put xs zero x = refl
-packets_put [] (suc k) x = refl
-packets_put (y ∷ xs) (suc k) x = ap (λ us. held_packet y ∷ us) (packets_put xs k x)
-
-pub inside_put : (settled : List SettledPacket) (xs : List HeldPacket) (place : ℕ) (x : HeldPacket)
-    → map settled_packet settled ++ map held_packet (insert xs place x) ≡ insert (map settled_packet settled ++ map held_packet xs) (length (map settled_of settled) + place) (held_packet x)
-inside_put settled xs place x =
-    ap (λ us. map settled_packet settled ++ us) (packets_put xs place x) ∙ (append_put (map settled_packet settled) (map held_packet xs) place (held_packet x) ∙ ap (λ n. insert (map settled_packet settled ++ map held_packet xs) (n + place) (held_packet x)) (same settled))
-  where
-    same : (ys : List SettledPacket) → length (map settled_packet ys) ≡ length (map settled_of ys)
-    same [] = refl
-    same (y ∷ ys) = ap suc (same ys)
-
-pub inside_settle : (settled : List SettledPacket) (x : HeldPacket) (xs : List HeldPacket) (y : SettledPacket) → settled_packet y ≡ held_packet x → map settled_packet (settled ++ y ∷ []) ++ map held_packet xs ≡ map settled_packet settled ++ (held_packet x ∷ map held_packet xs)
-inside_settle [] x xs y e = ap (λ q. q ∷ map held_packet xs) e
-inside_settle (z ∷ settled) x xs y e = ap (λ us. settled_packet z ∷ us) (inside_settle settled x xs y e)
 
 -- the next number, where none is held, is settled at once
 pub at_once : (s : State) (e : Numbered) (q : TextPacket) → s.held ≡ [] → e.number ≡ s.front → next_latest (put_at s 0 e q) ≡ Some (max s.latest e.time)

@@ -3,7 +3,8 @@ use Rattle.std.proofs.Common.{◌≡◌, ℕ, suc, ◌+◌, ◌<◌, ◌≤◌, 
 use Rattle.std.specs.Prelude.{map, max}
 use Rattle.stream_spec.specs.Numbering.{Numbered, numbered}
 use Rattle.gap_tracker.specs.Stories.{Story, Given, due_at, went}
-use Rattle.gap_tracker.specs.States.{State, latest_from, next_latest, settled_over, settled_first, passed}
+use Rattle.rtt_base.specs.declared.text_packets.TextPacket.{TextPacket}
+use Rattle.gap_tracker.specs.States.{State, latest_from, next_latest, settled_over, settled_first, passed, with_packet}
 use Rattle.gap_tracker.specs.Tracks.{SameBut, Holding, Phase, Before, Within, Follows, Tracks}
 use Rattle.gap_tracker.proofs.Settling.{settle_step, none_some}
 use Rattle.gap_tracker.proofs.Arriving.{few}
@@ -74,10 +75,22 @@ settle_same first s to same = go s.held refl
       first = same.first;
       top = same.top;
       packets = same.packets;
+      current = same.current;
       total = let n : length s.held ≡ suc (length xs) = ap length e in let t = same.total in
           let it : Given = record { number = x.number; ready = to; packet = x.packet } in
           let a = length-append s.settled (it ∷ []) in omega arith;
     }
+
+-- ---- another packet is current
+pub follows_with : (s : State) (q : TextPacket) (story : Story) → Follows s story → Follows (with_packet s q) story
+follows_with s q story f = record { wait = f.wait; moment = f.moment; arrivals = f.arrivals; top = f.top; phase = go f.phase }
+  where
+    go : Phase s story → Phase (with_packet s q) story
+    go (Before w) = Before (record { past = w.past; given = w.given; settled = w.settled; held = w.held; latest = w.latest })
+    go (Within h) = Within (record { out = h.out; holds = h.holds; falling = h.falling; timed = h.timed; settled_is = h.settled_is; room = h.room; crowd = h.crowd })
+
+pub tracks_with : (s : State) (q : TextPacket) (story : Story) → Tracks s story → Tracks (with_packet s q) story
+tracks_with s q story k = record { follows = follows_with s q story k.follows; still = k.still }
 
 -- ---- time goes on
 pub later_holding : (s : State) (t : ℕ) (past : List Numbered) (given : List Given) → s.moment ≤ t → next_latest s ≡ None → Holding s past given → Holding (record s { moment = t }) past given

@@ -1,6 +1,9 @@
 pub mod Stories
+pub mod Pools
+pub mod Lends
 pub mod States
 pub mod Views
 pub mod Insides
 pub mod Holding
 pub mod Tracks
+pub mod Told

@@ -1,12 +1,16 @@
 -- What a tracker holds, and how it changes (profile).
 use Rattle.std.specs.Prelude.{◌≡◌, ℕ, ◌+◌, ◌-◌, ◌<◌, ◌≤◌, ◌==◌, Bool, true, false, List, [], ◌∷◌, ◌++◌, length, Option, None, Some, nat_lt, nat_le, if◌then◌else◌, min, max, insert, drop, get_or}
 use Rattle.rtt_base.specs.declared.text_packets.TextPacket.{TextPacket}
+use Rattle.wire_spec.specs.Packets.{packet_of}
 use Rattle.stream_spec.specs.Numbering.{Numbered, has_number}
-use Rattle.gap_tracker.specs.Stories.{Given}
+use Rattle.gap_tracker.specs.Pools.{no_packet}
+use Rattle.gap_tracker.specs.Stories.{Given, given_of}
+use Rattle.gap_tracker.specs.declared.answers.Due.{Due}
 use Rattle.gap_tracker.specs.declared.answers.Taken.{Taken}
 use Rattle.gap_tracker.specs.declared.answers.Taken.TheVariants.{Before, Old, Repeat, Ready, Held}
 
--- `first`: the first arrival's number; `top`: the greatest number; below `front` each number has come or is given up, the last of them at `latest`
+-- `first`: the first arrival's number; `top`: the greatest number; below `front` each number has come or is given up, the last of them at `latest`;
+-- `current`: the packet that is read, or was given last
 pub record State : Type 0 where
   pub wait : ℕ
   pub moment : ℕ
@@ -19,9 +23,10 @@ pub record State : Type 0 where
   pub settled : List Given
   pub held : List Numbered
   pub packets : List TextPacket
+  pub current : TextPacket
 
 abbrev pub fresh : ℕ → State
-fresh wait = record { wait = wait; moment = 0; arrivals = 0; finished = false; first = 0; top = 0; front = 0; latest = 0; settled = []; held = []; packets = [] }
+fresh wait = record { wait = wait; moment = 0; arrivals = 0; finished = false; first = 0; top = 0; front = 0; latest = 0; settled = []; held = []; packets = []; current = no_packet }
 
 abbrev pub has_some : {X : Type 0} → List X → Bool
 has_some [] = false
@@ -40,6 +45,13 @@ is_finished s = s.finished
 -- the packets inside, as they came: those that are settled, and those that are held
 abbrev pub packets_in : State → List TextPacket
 packets_in s = s.packets
+
+abbrev pub current_of : State → TextPacket
+current_of s = s.current
+
+-- another packet is current
+abbrev pub with_packet : State → TextPacket → State
+with_packet s q = record s { current = q }
 
 abbrev pub passed : State → ℕ → State
 passed s now = record s { moment = max s.moment now }
@@ -80,9 +92,25 @@ settled_first s latest = settled_over s latest s.held
 abbrev pub counted : State → ℕ → State
 counted s n = record s { arrivals = s.arrivals + 1; first = if s.arrivals == 0 then n else s.first; front = if s.arrivals == 0 then n else s.front; top = max s.top n }
 
+-- a packet that comes now, with this number
+abbrev pub coming : State → ℕ → Numbered
+coming s n = record { time = s.moment; number = n; packet = packet_of s.current }
+
 -- e is held, which the program has as q
 abbrev pub put_at : State → ℕ → Numbered → TextPacket → State
 put_at s place e q = record s { held = insert s.held place e; packets = insert s.packets (length s.settled + place) q }
+
+-- the current packet is held, with this number
+abbrev pub put_current : State → ℕ → ℕ → State
+put_current s place n = put_at s place (coming s n) s.current
+
+-- the current packet, which is the next one where none is held, is settled
+abbrev pub settled_at_once : State → ℕ → State
+settled_at_once s n = settled_first (put_current s 0 n) (max s.latest s.moment)
+
+-- what is given: the first that is settled, which is current then
+abbrev pub GivesFirst : State → State → Due → Type 0
+GivesFirst old new due = (old.settled ≡ given_of due new.current ∷ new.settled) × (new ≡ record old { settled = new.settled; packets = new.packets; current = new.current })
 
 -- why a packet with this number is not held
 abbrev pub IsRefused : State → ℕ → Taken → Type 0

@@ -49,4 +49,5 @@ pub record SameBut (s t : State) : Type 0 where
   pub first : t.first ≡ s.first
   pub top : t.top ≡ s.top
   pub packets : t.packets ≡ s.packets
+  pub current : t.current ≡ s.current
   pub total : length t.settled + length t.held ≡ length s.settled + length s.held

@@ -1,43 +1,42 @@
 //! What a tracker holds.
-ghost use Rattle.std.specs.Prelude.{max, ◌≡◌, ◌+◌, ◌-◌, ◌*◌, ◌^◌, ◌<◌, ◌≤◌, ◌==◌, ◌⊎◌, ℕ, [], ◌∷◌, length, map, drop, slice_index_or, nat_lt, Bool, true, false, IfOk, OnOk, IfErr, IsSome, IfSome, IfNone, Some, None, if◌then◌else◌};
-ghost use Rattle.rtt_base.specs.declared.text_packets.TextPacket.{TextPacket};
-ghost use Rattle.wire_spec.specs.Packets.{packet_of};
-ghost use Rattle.stream_spec.specs.Lists.{In};
-ghost use Rattle.gap_tracker.specs.Stories.{Story, came, went, ended, answer, gave, given_of, dues, ready_dues, is_used, is_in_time};
-ghost use Rattle.gap_tracker.specs.States.{fresh, has_ready, passed, oldest_from, given_up_at, next_latest, settled_first, counted, put_at, IsRefused, AllAbove, IsPlace};
-ghost use Rattle.gap_tracker.specs.Views.{numbered_of, next_number};
-ghost use Rattle.gap_tracker.specs.declared.holds.HeldPacket.{HeldPacket};
-ghost use Rattle.gap_tracker.specs.Tracks.{Follows, Tracks, SameBut};
+ghost use Rattle.std.specs.Prelude.{◌≡◌, ◌+◌, ◌*◌, ◌^◌, ◌<◌, ◌≤◌, ◌==◌, ℕ, [], ◌∷◌, length, drop, nat_lt, Bool, true, false, IfOk, OnOk, IfErr, IsSome, IfSome, IfNone, if◌then◌else◌};
+ghost use Rattle.std.specs.Borrow.{sem};
 ghost use Rattle.rtt_base.specs.declared.limits.TheConstants.{LONGEST_WAIT};
+ghost use Rattle.gap_tracker.specs.Lends.{LendsHeld};
+ghost use Rattle.gap_tracker.specs.Stories.{went, ended, is_used};
+ghost use Rattle.gap_tracker.specs.States.{fresh, has_ready, passed, oldest_from, given_up_at, next_latest, settled_first, settled_at_once, counted, put_current, GivesFirst, IsRefused, AllAbove, IsPlace};
+ghost use Rattle.gap_tracker.specs.Views.{next_number, AnyPackets, IsBehind};
+ghost use Rattle.gap_tracker.specs.Tracks.{SameBut};
+ghost use Rattle.gap_tracker.specs.Told.{Leads, Tells, came_current, answer_current, is_current_in_time, ComeAlone, GivesAsItCame, AllReady, FollowsAll, IsButCurrent, SameButCurrent};
 
 use crate::lines::Line;
 use crate::numbering::{first_number, nearest_number};
+use crate::pool::PacketPool;
 use crate::{Due, Taken};
 use rtt_base::{NoMemory, TextPacket};
 use std::alloc::Global;
 use std::marker::Model;
-use std::mem;
 
-/// A packet that waits for lower numbers, and the moment at which it came.
+/// A packet that waits for lower numbers, the moment at which it came, and its place.
 #[derive(Debug, Drop)]
 pub struct HeldPacket {
     number: u64,
     time: u64,
-    packet: Box<TextPacket>,
+    place: usize,
 }
 
-/// A packet that may be given out, and the moment at which it was ready.
+/// A packet that may be given out, the moment at which it was ready, and its place.
 #[derive(Debug, Drop)]
 pub struct SettledPacket {
     number: u64,
     ready: u64,
-    packet: Box<TextPacket>,
+    place: usize,
 }
 
 /// The packets that wait, those that are settled, and what the next ones are measured by.
 ///
-/// There are 65 boxes, each in one of the three lists. A packet comes and goes with its box, for which another one goes
-/// the other way: no packet is copied.
+/// Each place of the pool is named once: it is the current one, it is spare, or its packet waits or is settled. A packet
+/// stays at its place from when it is read until it is given: none is copied.
 #[derive(Debug, Drop)]
 pub struct Hold {
     wait: u64,
@@ -50,7 +49,7 @@ pub struct Hold {
     latest: u64,
     settled: Line<SettledPacket>,
     held: Line<HeldPacket>,
-    spare: Line<Box<TextPacket>>,
+    pool: PacketPool,
 }
 
 impl Model for Hold {
@@ -67,7 +66,7 @@ impl Model for Hold {
 
 /// The least of `time` and the times of these.
 fn oldest_time(held: &[HeldPacket], time: u64) -> u64
-    ensures value { result ≡ oldest_from time (map numbered_of held.now) }
+    ensures value { AnyPackets held.now (λ numbered. result ≡ oldest_from time numbered) }
     ensures within { result ≤ time }
 {
     let mut least = time;
@@ -82,7 +81,7 @@ fn oldest_time(held: &[HeldPacket], time: u64) -> u64
 fn given_up(held: &[HeldPacket], wait: u64, moment: u64) -> Option<u64>
     requires wait { wait ≤ LONGEST_WAIT }
     requires moment { moment < 2 ^ 49 }
-    ensures { result ≡ given_up_at wait moment (map numbered_of held.now) }
+    ensures { AnyPackets held.now (λ numbered. result ≡ given_up_at wait moment numbered) }
 {
     if held.len() > 64 {
         return Some(moment);
@@ -94,8 +93,8 @@ fn given_up(held: &[HeldPacket], wait: u64, moment: u64) -> Option<u64>
 /// Where the number belongs among these, from the back: a packet that comes in order is compared with the last alone.
 fn place_of(held: &[HeldPacket], number: u64) -> usize
     ensures within { result ≤ length held.now }
-    ensures above { AllAbove number (drop result (map numbered_of held.now)) }
-    ensures behind { (d : HeldPacket) → 0 < result → (slice_index_or held.now (result - 1) d).number ≤ number }
+    ensures above { AnyPackets held.now (λ numbered. AllAbove number (drop result numbered)) }
+    ensures behind { IsBehind held.now result number }
 {
     let mut place = held.len();
     while place > 0 && held[place - 1].number > number {
@@ -105,15 +104,11 @@ fn place_of(held: &[HeldPacket], number: u64) -> usize
 }
 
 impl Hold {
-    /// Nothing came yet. Room is made for 65 packets.
+    /// Nothing came yet. Room is made for 66 packets: the current one, and 65 that wait or are settled.
     pub fn new(alloc: Global, wait: u64) -> Result<Hold, NoMemory>
         requires { wait ≤ LONGEST_WAIT }
         ensures { IfOk result (λ hold. hold ≡ fresh wait) }
     {
-        let mut spare = Line::new(alloc)?;
-        for _place in 0..65usize {
-            spare.push(Box::new(alloc, TextPacket::default())?);
-        }
         Ok(Hold {
             wait,
             moment: 0,
@@ -125,7 +120,7 @@ impl Hold {
             latest: 0,
             settled: Line::new(alloc)?,
             held: Line::new(alloc)?,
-            spare,
+            pool: PacketPool::new(alloc)?,
         })
     }
 
@@ -177,13 +172,13 @@ impl Hold {
         self.settled.push(SettledPacket {
             number: first.number,
             ready: latest,
-            packet: first.packet,
+            place: first.place,
         });
     }
 
     /// Settles what can be settled.
     fn advance(&mut self)
-        ensures stands { (story : Story) → Follows self.old story → Follows self.new story }
+        ensures stands { FollowsAll self.old self.new }
         ensures still { next_latest self.new ≡ None }
         ensures same { SameBut self.old self.new }
     {
@@ -247,97 +242,111 @@ impl Hold {
         Ok(place)
     }
 
-    /// Holds a packet that comes now, in exchange for a spare box.
-    fn put(&mut self, place: usize, number: u64, packet: &mut Box<TextPacket>)
+    /// Holds the current packet.
+    fn put(&mut self, at: usize, number: u64)
         requires counted { 0 < self.old.arrivals }
         requires room { length self.old.settled + length self.old.held ≤ 64 }
-        requires within { place ≤ length self.old.held }
+        requires within { at ≤ length self.old.held }
         requires number { number < 2 ^ 60 }
-        ensures { self.new ≡ put_at self.old place (record { time = self.old.moment; number = number; packet = packet_of packet.old.value }) packet.old.value }
+        ensures { IsButCurrent self.new (put_current self.old at number) }
     {
-        let spare = self.spare.take_last();
-        let packet = mem::replace(packet, spare);
+        let place = self.pool.give_away();
+        let time = self.moment;
         self.held.insert(
-            place,
+            at,
             HeldPacket {
                 number,
-                time: self.moment,
-                packet,
+                time,
+                place,
             },
         );
     }
 
-    /// Settles a packet that comes now, in exchange for a spare box, where it is the next one and none is held.
-    fn settle_at_once(&mut self, number: u64, packet: &mut Box<TextPacket>)
+    /// Settles the current packet, where it is the next one and none is held.
+    fn settle_at_once(&mut self, number: u64)
         requires counted { 0 < self.old.arrivals }
         requires room { length self.old.settled ≤ 64 }
         requires none { self.old.held ≡ [] }
         requires number { number < 2 ^ 60 }
-        ensures { self.new ≡ settled_first (put_at self.old 0 (record { time = self.old.moment; number = number; packet = packet_of packet.old.value }) packet.old.value) (max self.old.latest self.old.moment) }
+        ensures { IsButCurrent self.new (settled_at_once self.old number) }
     {
-        let spare = self.spare.take_last();
-        let packet = mem::replace(packet, spare);
+        let place = self.pool.give_away();
         let ready = self.latest.max(self.moment);
         self.front = number + 1;
         self.latest = ready;
         self.settled.push(SettledPacket {
             number,
             ready,
-            packet,
+            place,
         });
     }
 
-    /// Holds a packet that comes now, in exchange for a spare box, and settles what can be settled. The next one, where
-    /// none is held, is settled at once, as most are.
-    fn take_in(&mut self, place: usize, number: u64, packet: &mut Box<TextPacket>)
+    /// Holds the current packet, and settles what can be settled. The next one, where none is held, is settled at once,
+    /// as most are.
+    fn take_in(&mut self, at: usize, number: u64)
         requires counted { 0 < self.old.arrivals }
         requires room { length self.old.settled + length self.old.held ≤ 64 }
-        requires within { place ≤ length self.old.held }
+        requires within { at ≤ length self.old.held }
         requires number { number < 2 ^ 60 }
-        ensures stands { (story : Story) → Follows (put_at self.old place (record { time = self.old.moment; number = number; packet = packet_of packet.old.value }) packet.old.value) story → Follows self.new story }
+        ensures stands { FollowsAll (put_current self.old at number) self.new }
         ensures still { next_latest self.new ≡ None }
-        ensures same { SameBut (put_at self.old place (record { time = self.old.moment; number = number; packet = packet_of packet.old.value }) packet.old.value) self.new }
+        ensures same { SameButCurrent (put_current self.old at number) self.new }
     {
         if self.held.is_empty() && number == self.front {
-            self.settle_at_once(number, packet);
+            self.settle_at_once(number);
         } else {
-            self.put(place, number, packet);
+            self.put(at, number);
             self.advance();
         }
     }
 
-    /// Takes a packet. A spare box comes in exchange for one that is used.
+    /// The current packet.
+    pub fn packet(&self) -> &TextPacket
+        ensures { result.now ≡ self.now.current }
+    {
+        self.pool.packet()
+    }
+
+    /// The current packet, for writing.
+    pub fn packet_mut(&mut self) -> &mut TextPacket
+        ensures* writes_back { sem 𝓛 (LendsHeld self.entry result) }
+        ensures value { result.now ≡ self.entry.now.current }
+    {
+        self.pool.packet_mut()
+    }
+
+    /// Takes the current packet. One that is used stays inside, and another one is current.
     #[inline(always)]
-    pub fn arrive(&mut self, now: u64, packet: &mut Box<TextPacket>) -> Taken
+    pub fn arrive(&mut self, now: u64) -> Taken
         requires now { now < 2 ^ 48 }
         requires quiet { has_ready self.old ≡ false }
         requires still { next_latest self.old ≡ None }
         requires few { self.old.arrivals < 2 ^ 40 }
-        ensures stands { (story : Story) → Tracks self.old story → Tracks self.new (came story now (packet_of packet.old.value)) }
-        ensures answer { (story : Story) → Tracks self.old story → result ≡ answer story now (packet_of packet.old.value) }
-        ensures used { (story : Story) → Tracks self.old story → is_used result ≡ is_in_time story now (packet_of packet.old.value) }
-        ensures packets { (q : TextPacket) → In q self.new.packets → (q ≡ packet.old.value) ⊎ In q self.old.packets }
-        ensures same { is_used result ≡ false → packet.new ≡ packet.old }
+        ensures stands { Leads self.old self.new (came_current self.old now) }
+        ensures answer { Tells self.old result (answer_current self.old now) }
+        ensures used { Tells self.old (is_used result) (is_current_in_time self.old now) }
+        ensures packets { ComeAlone self.old self.new }
+        ensures same { is_used result ≡ false → self.new.current ≡ self.old.current }
         ensures arrivals { self.new.arrivals ≡ self.old.arrivals + 1 }
         ensures finished { self.new.finished ≡ self.old.finished }
         ensures still { next_latest self.new ≡ None }
     {
         self.pass(now);
         self.advance();
-        let number = self.next_number(packet.seq);
+        let number = self.next_number(self.packet().seq);
         self.count(number);
         let place = match self.find(number) {
             Ok(place) => place,
             Err(taken) => return taken,
         };
-        self.take_in(place, number, packet);
+        self.take_in(place, number);
         self.taken(number)
     }
 
     /// Lets time go on, and settles what it settles.
     pub fn expire(&mut self, now: u64)
         requires { now < 2 ^ 48 }
-        ensures stands { (story : Story) → Tracks self.old story → Tracks self.new (went story now) }
+        ensures stands { Leads self.old self.new (λ story. went story now) }
         ensures same { SameBut (passed self.old now) self.new }
         ensures still { next_latest self.new ≡ None }
     {
@@ -348,8 +357,8 @@ impl Hold {
     /// Lets `wait` go by.
     pub fn finish(&mut self)
         requires { self.old.finished ≡ false }
-        ensures stands { (story : Story) → Tracks self.old story → Tracks self.new (ended story) }
-        ensures all { (story : Story) → Tracks self.old story → ready_dues (ended story) ≡ dues story }
+        ensures stands { Leads self.old self.new ended }
+        ensures all { AllReady self.old }
         ensures packets { self.new.packets ≡ self.old.packets }
         ensures arrivals { self.new.arrivals ≡ self.old.arrivals }
         ensures finished { self.new.finished ≡ true }
@@ -360,19 +369,18 @@ impl Hold {
         self.advance();
     }
 
-    /// Gives the first settled packet in exchange for another box.
+    /// Gives the first settled packet: it is the current one then.
     #[inline(always)]
-    pub fn next(&mut self, packet: &mut Box<TextPacket>) -> Option<Due>
+    pub fn next(&mut self) -> Option<Due>
         ensures none { IfNone result ((self.old.settled ≡ []) × (self.new ≡ self.old)) }
-        ensures some { IfSome result (λ due. (self.old.settled ≡ given_of due packet.new.value ∷ self.new.settled) × (self.new ≡ record self.old { settled = self.new.settled; packets = self.new.packets })) }
-        ensures packet { IsSome result → self.old.packets ≡ packet.new.value ∷ self.new.packets }
-        ensures same { IfNone result (packet.new ≡ packet.old) }
+        ensures some { IfSome result (GivesFirst self.old self.new) }
+        ensures packet { IsSome result → GivesAsItCame self.old self.new }
     {
         if self.settled.is_empty() {
             return None;
         }
         let first = self.settled.take_first();
-        self.spare.push(mem::replace(packet, first.packet));
+        self.pool.turn_to(first.place);
         Some(Due {
             number: first.number,
             ready: first.ready,

@@ -6,6 +6,7 @@ mod answers;
 mod holds;
 mod lines;
 mod numbering;
+mod pool;
 mod tracking;
 
 pub use answers::{Due, Taken};

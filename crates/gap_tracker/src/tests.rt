@@ -4,7 +4,6 @@ ghost use Rattle.gap_tracker.specs.States.{is_finished};
 
 use crate::plain::{Came, number_after, ready_of, taken, used_under};
 use crate::{Taken, Tracker};
-use rtt_base::TextPacket;
 use std::alloc::Global;
 use std::test::Fail;
 
@@ -16,16 +15,12 @@ struct Played {
 }
 
 /// Takes what is ready.
-fn drain(
-    tracker: &mut Tracker,
-    packet: &mut Box<TextPacket>,
-    given: &mut Vec<(u16, u64)>,
-) -> Result<(), Fail>
+fn drain(tracker: &mut Tracker, given: &mut Vec<(u16, u64)>) -> Result<(), Fail>
     ensures { is_finished tracker.new ≡ is_finished tracker.old }
 {
     for _ in 0..65 {
-        match tracker.next(packet) {
-            Some(due) => given.push((packet.seq, due.ready))?,
+        match tracker.next() {
+            Some(due) => given.push((tracker.packet().seq, due.ready))?,
             None => return Ok(()),
         }
     }
@@ -33,32 +28,31 @@ fn drain(
 }
 
 /// Hands in a packet.
-fn hand_in(tracker: &mut Tracker, packet: &mut Box<TextPacket>, at: u64, seq: u16) -> Option<Taken>
+fn hand_in(tracker: &mut Tracker, at: u64, seq: u16) -> Option<Taken>
     ensures { is_finished tracker.new ≡ is_finished tracker.old }
 {
     if tracker.ready() || tracker.arrivals() >= 1 << 40 || at >= 1 << 48 {
         return None;
     }
-    packet.seq = seq;
-    Some(tracker.arrive(at, packet))
+    tracker.packet_mut().seq = seq;
+    Some(tracker.arrive(at))
 }
 
 /// Hands in packets, each a time and a sequence number, then the end, and takes what is ready after each.
 fn play(alloc: Global, wait: u64, arrivals: &[(u64, u16)]) -> Result<Played, Fail> {
     let mut tracker = Tracker::new(alloc, wait.min(10000))?;
-    let mut packet = Box::new(alloc, TextPacket::default())?;
     let mut answers = Vec::new(alloc);
     let mut given = Vec::new(alloc);
     for (at, seq) in arrivals {
-        if let Some(taken) = hand_in(&mut tracker, &mut packet, *at, *seq) {
+        if let Some(taken) = hand_in(&mut tracker, *at, *seq) {
             answers.push(taken)?;
         }
-        drain(&mut tracker, &mut packet, &mut given)?;
+        drain(&mut tracker, &mut given)?;
     }
     if !tracker.ready() {
         tracker.finish();
     }
-    drain(&mut tracker, &mut packet, &mut given)?;
+    drain(&mut tracker, &mut given)?;
     Ok(Played { answers, given })
 }
 
@@ -81,11 +75,10 @@ fn one_millisecond_late_is_late(rt: HostRuntime) -> Result<(), Fail> {
 #[test]
 fn a_number_is_given_up_when_time_goes_on(rt: HostRuntime) -> Result<(), Fail> {
     let mut tracker = Tracker::new(rt.alloc(), 1000)?;
-    let mut packet = Box::new(rt.alloc(), TextPacket::default())?;
     let mut given = Vec::new(rt.alloc());
-    hand_in(&mut tracker, &mut packet, 0, 10);
-    drain(&mut tracker, &mut packet, &mut given)?;
-    hand_in(&mut tracker, &mut packet, 300, 12);
+    hand_in(&mut tracker, 0, 10);
+    drain(&mut tracker, &mut given)?;
+    hand_in(&mut tracker, 300, 12);
     if !tracker.ready() {
         tracker.expire(1299);
     }
@@ -94,7 +87,7 @@ fn a_number_is_given_up_when_time_goes_on(rt: HostRuntime) -> Result<(), Fail> {
         tracker.expire(1300);
     }
     assert!(rt; tracker.ready());
-    drain(&mut tracker, &mut packet, &mut given)?;
+    drain(&mut tracker, &mut given)?;
     assert_eq!(rt; given.as_slice(), [(10, 0), (12, 1300)].as_slice());
     assert_eq!(rt; tracker.arrivals(), 2);
     Ok(())

@@ -1,12 +1,12 @@
 //! The tracker of one stream.
-ghost use Rattle.std.specs.Prelude.{◌≡◌, ◌+◌, ◌^◌, ◌<◌, ◌≤◌, ◌++◌, ◌⊎◌, [], ◌∷◌, List, Bool, true, false, is_some, length, nat_lt, IfOk, IsSome, IfSome, IfNone};
-ghost use Rattle.rtt_base.specs.declared.text_packets.TextPacket.{TextPacket};
-ghost use Rattle.wire_spec.specs.Packets.{packet_of};
-ghost use Rattle.stream_spec.specs.Lists.{In};
-ghost use Rattle.gap_tracker.specs.Stories.{Story, Given, begun, came, went, ended, gave, given_of, dues, ready_dues, answer, is_used, is_in_time};
-ghost use Rattle.gap_tracker.specs.States.{has_ready, packets_in, arrival_count, is_finished};
-ghost use Rattle.gap_tracker.specs.Tracks.{Tracks};
+ghost use Rattle.std.specs.Prelude.{◌≡◌, ◌+◌, ◌^◌, ◌<◌, ◌≤◌, [], Bool, true, false, is_some, length, IfOk, IsSome, IfSome, IfNone};
+ghost use Rattle.std.specs.Borrow.{sem};
 ghost use Rattle.rtt_base.specs.declared.limits.TheConstants.{LONGEST_WAIT};
+ghost use Rattle.gap_tracker.specs.Lends.{LendsPacket};
+ghost use Rattle.gap_tracker.specs.Stories.{begun, went, ended, is_used};
+ghost use Rattle.gap_tracker.specs.States.{has_ready, packets_in, current_of, arrival_count, is_finished};
+ghost use Rattle.gap_tracker.specs.Tracks.{Tracks};
+ghost use Rattle.gap_tracker.specs.Told.{Leads, Tells, came_current, answer_current, is_current_in_time, ComeAlone, Gives, GivesAsItCame, GaveFront, ReadyIsFront, GaveReady, AllReady, is_owing};
 
 use crate::holds::Hold;
 use crate::{Due, Taken};
@@ -20,6 +20,9 @@ use std::marker::Model;
 /// greater ones have come. A packet whose number has not come before and is not given up is used, and is ready as soon
 /// as each number from the stream's first one up to it has come or is given up. Used packets are given out in rising
 /// number. Times are in milliseconds.
+///
+/// One packet is current: the one that is read next, and after `next` the one that was given. It is read and written
+/// where it is kept, so that no packet is copied.
 #[derive(Debug, Drop)]
 pub struct Tracker {
     hold: Hold,
@@ -37,8 +40,8 @@ impl Model for Tracker {
 }
 
 impl Tracker {
-    /// A tracker to which nothing came yet. It reserves room for the packets that it will hold: no other call takes
-    /// memory.
+    /// A tracker to which nothing came yet. It reserves room for 66 packets, the current one and those that it will hold:
+    /// no other call takes memory.
     pub fn new(alloc: Global, wait: u64) -> Result<Tracker, NoMemory>
         requires { wait ≤ LONGEST_WAIT }
         ensures stands { IfOk result (λ tracker. Tracks tracker (begun wait)) }
@@ -52,32 +55,46 @@ impl Tracker {
         })
     }
 
-    /// Takes a packet that comes at `now`, or at the greatest moment handed in before, where that is later.
+    /// The current packet.
+    pub fn packet(&self) -> &TextPacket
+        ensures { result.now ≡ current_of self.now }
+    {
+        self.hold.packet()
+    }
+
+    /// The current packet, for writing. Nothing else is changed by it.
+    pub fn packet_mut(&mut self) -> &mut TextPacket
+        ensures* writes_back { sem 𝓛 (LendsPacket self.entry result) }
+        ensures value { result.now ≡ current_of self.entry.now }
+    {
+        self.hold.packet_mut()
+    }
+
+    /// Takes the current packet, which comes at `now`, or at the greatest moment handed in before, where that is later.
     ///
-    /// A packet that is held or settled stays inside: in its place the caller gets a spare box, whose content is of no
-    /// use. With `Before`, `Old` and `Repeat` the packet is as before.
+    /// A packet that is held or settled stays inside: another one is current then, whose content is of no use. With
+    /// `Before`, `Old` and `Repeat` it is current still.
     #[inline(always)]
-    pub fn arrive(&mut self, now: u64, packet: &mut Box<TextPacket>) -> Taken
+    pub fn arrive(&mut self, now: u64) -> Taken
         requires now { now < 2 ^ 48 }
         requires quiet { has_ready self.old ≡ false }
         requires few { arrival_count self.old < 2 ^ 40 }
-        ensures stands { (story : Story) → Tracks self.old story → Tracks self.new (came story now (packet_of packet.old.value)) }
-        ensures answer { (story : Story) → Tracks self.old story → result ≡ answer story now (packet_of packet.old.value) }
-        ensures used { (story : Story) → Tracks self.old story → is_used result ≡ is_in_time story now (packet_of packet.old.value) }
-        ensures unused { is_used result ≡ false → packet.new ≡ packet.old }
-        // What is inside came.
-        ensures packets { (q : TextPacket) → In q (packets_in self.new) → (q ≡ packet.old.value) ⊎ In q (packets_in self.old) }
+        ensures stands { Leads self.old self.new (came_current self.old now) }
+        ensures answer { Tells self.old result (answer_current self.old now) }
+        ensures used { Tells self.old (is_used result) (is_current_in_time self.old now) }
+        ensures unused { is_used result ≡ false → current_of self.new ≡ current_of self.old }
+        ensures packets { ComeAlone self.old self.new }
         ensures arrivals { arrival_count self.new ≡ arrival_count self.old + 1 }
         ensures finished { is_finished self.new ≡ is_finished self.old }
     {
-        self.hold.arrive(now, packet)
+        self.hold.arrive(now)
     }
 
     /// Lets time go on to `now`.
     pub fn expire(&mut self, now: u64)
         requires now { now < 2 ^ 48 }
         requires quiet { has_ready self.old ≡ false }
-        ensures stands { (story : Story) → Tracks self.old story → Tracks self.new (went story now) }
+        ensures stands { Leads self.old self.new (λ story. went story now) }
         ensures packets { packets_in self.new ≡ packets_in self.old }
         ensures arrivals { arrival_count self.new ≡ arrival_count self.old }
         ensures finished { is_finished self.new ≡ is_finished self.old }
@@ -89,9 +106,8 @@ impl Tracker {
     pub fn finish(&mut self)
         requires quiet { has_ready self.old ≡ false }
         requires once { is_finished self.old ≡ false }
-        ensures stands { (story : Story) → Tracks self.old story → Tracks self.new (ended story) }
-        // Each used packet is ready by then.
-        ensures all { (story : Story) → Tracks self.old story → ready_dues (ended story) ≡ dues story }
+        ensures stands { Leads self.old self.new ended }
+        ensures all { AllReady self.old }
         ensures packets { packets_in self.new ≡ packets_in self.old }
         ensures arrivals { arrival_count self.new ≡ arrival_count self.old }
         ensures finished { is_finished self.new ≡ true }
@@ -102,37 +118,32 @@ impl Tracker {
     /// Whether a packet is settled and not yet given out.
     pub fn ready(&self) -> bool
         ensures value { result ≡ has_ready self.now }
-        // Some packet is ready by the greatest moment and not given.
-        ensures exact { (story : Story) → Tracks self.now story → result ≡ nat_lt (length story.given) (length (ready_dues story)) }
+        ensures exact { Tells self.now result is_owing }
     {
         self.hold.has_ready()
     }
 
-    /// The settled packet with the lowest number. It comes into `packet`, in exchange for the caller's box, whose content
-    /// is lost. Where none is settled, the box is as before.
+    /// Gives the settled packet with the lowest number: it is the current one then. Where none is settled, the current
+    /// packet is as before.
     #[inline(always)]
-    pub fn next(&mut self, packet: &mut Box<TextPacket>) -> Option<Due>
+    pub fn next(&mut self) -> Option<Due>
         ensures variant { is_some result ≡ has_ready self.old }
-        ensures some { IfSome result (λ due. (story : Story) → Tracks self.old story → Tracks self.new (gave story (given_of due packet.new.value))) }
-        // What was given is a front of what is ready, and that is a front of all that is used.
-        ensures front { (story : Story) → Tracks self.new story → (rest : List Given) × (ready_dues story ≡ story.given ++ rest) }
-        ensures order { (story : Story) → Tracks self.new story → (rest : List Given) × (dues story ≡ ready_dues story ++ rest) }
-        // All that is ready by the greatest moment was given.
-        ensures none { IfNone result ((story : Story) → Tracks self.old story → story.given ≡ ready_dues story) }
-        // It is given as it came.
-        ensures packet { IsSome result → packets_in self.old ≡ packet.new.value ∷ packets_in self.new }
+        ensures some { IfSome result (Gives self.old self.new) }
+        ensures front { GaveFront self.new }
+        ensures order { ReadyIsFront self.new }
+        ensures none { IfNone result (GaveReady self.old) }
+        ensures packet { IsSome result → GivesAsItCame self.old self.new }
         ensures unchanged { IfNone result (self.new ≡ self.old) }
-        ensures same { IfNone result (packet.new ≡ packet.old) }
         ensures arrivals { arrival_count self.new ≡ arrival_count self.old }
         ensures finished { is_finished self.new ≡ is_finished self.old }
     {
-        self.hold.next(packet)
+        self.hold.next()
     }
 
     /// How many packets came.
     pub fn arrivals(&self) -> u64
         ensures value { result ≡ arrival_count self.now }
-        ensures exact { (story : Story) → Tracks self.now story → result ≡ length story.past }
+        ensures exact { Tells self.now result (λ story. length story.past) }
     {
         self.hold.arrivals()
     }

@@ -5,5 +5,5 @@ use Rattle.gap_tracker.proofs.holds.place_of.Goals as goal
 pub loop-place-preserved : goal.loop-place-preserved
 loop-place-preserved c = record {
   within = omega (arith, c.loop-place.invariant.within);
-  above = above_more c.args.number c.args.held.now c.loop-place.place c.index-held-place.result c.loop-place-test.true c.loop-place.invariant.within c.if-held-place.true c.loop-place.invariant.above;
+  above = λ packets. above_more packets c.args.number c.args.held.now c.loop-place.place _ c.loop-place-test.true c.loop-place.invariant.within c.if-held-place.true (c.loop-place.invariant.above packets);
 }

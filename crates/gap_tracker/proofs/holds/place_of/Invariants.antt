@@ -1,10 +1,11 @@
-use Rattle.std.proofs.Common.{◌≤◌, drop, length, map}
+use Rattle.std.proofs.Common.{◌≤◌, List, drop, length, map}
+use Rattle.rtt_base.specs.declared.text_packets.TextPacket.{TextPacket}
 use Rattle.gap_tracker.specs.States.{AllAbove}
-use Rattle.gap_tracker.specs.Views.{numbered_of}
+use Rattle.gap_tracker.specs.Views.{numbered_in}
 use Rattle.gap_tracker.proofs.holds.place_of.Given as goal
 
 abbrev pub invariant-loop-place : goal.invariant-loop-place
-invariant-loop-place l = record { within : l.place ≤ length l.held; above : AllAbove l.number (drop l.place (map numbered_of l.held)) }
+invariant-loop-place l = record { within : l.place ≤ length l.held; above : (packets : List TextPacket) → AllAbove l.number (drop l.place (map (numbered_in packets) l.held)) }
 
 abbrev pub decreases-loop-place : goal.decreases-loop-place
 decreases-loop-place l = l.place

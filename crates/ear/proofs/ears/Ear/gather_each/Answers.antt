@@ -13,7 +13,7 @@ take_each-requires-clause-rises c = λ latest e.
     let r = c.requires.hears in
     let now = c.loop-due.invariant.hears r.0 r.1 r.2 r.3 in
     let before : Story = record r.2 { given = now.0 } in
-    next_rises c.next.new.self before (given_of c.in-Some.due c.next.new.packet.value) (c.in-Some.ensures.some before now.1.hears.tracks) latest (sym now.1.hears.latest ∙ e)
+    next_rises c.next.new.self before (given_of c.in-Some.due c.next.new.self.current) (c.in-Some.ensures.some before now.1.hears.tracks) latest (sym now.1.hears.latest ∙ e)
 
 pub take_each-requires-clause-each : goal.take_each-requires-clause-each
 take_each-requires-clause-each c =
@@ -39,9 +39,9 @@ pub loop-due-preserved : goal.loop-due-preserved
 loop-due-preserved c = let size : length c.take_each.new.heard ≡ length c.loop-due.heard = omega (arith, c.take_each.auto.heard) in record {
   hears = gathers_each_one c.args.self.now c.loop-due.self _ c.in-Some.due c.loop-due.used c.args.heard.now c.loop-due.heard c.take_each.new.heard c.loop-due.invariant size refl
       c.in-Some.ensures.some
-      (λ sources us time s. subst (λ (p : TextPacket). Stands c.take_each.new.self sources (us ++ used_packet time c.in-Some.due.number p ∷ [])) c.deref.ensures (c.in_ok-take_each.ensures.stands sources us time s))
+      (λ sources us time s. subst (λ (p : TextPacket). Stands c.take_each.new.self sources (us ++ used_packet time c.in-Some.due.number p ∷ [])) c.packet.ensures (c.in_ok-take_each.ensures.stands sources us time s))
       c.in_ok-take_each.ensures.latest
-      (λ sources us time s are. subst (λ (p : TextPacket). AreHeard sources (us ++ used_packet time c.in-Some.due.number p ∷ []) c.take_each.new.heard) c.deref.ensures (c.in_ok-take_each.ensures.heard sources us time s are));
+      (λ sources us time s are. subst (λ (p : TextPacket). AreHeard sources (us ++ used_packet time c.in-Some.due.number p ∷ []) c.take_each.new.heard) c.packet.ensures (c.in_ok-take_each.ensures.heard sources us time s are));
   conf = c.loop-due.invariant.conf;
   piece = c.loop-due.invariant.piece;
   arrivals = c.in-Some.ensures.arrivals ∙ c.loop-due.invariant.arrivals;

@@ -2,7 +2,7 @@ use Rattle.gap_tracker.proofs.Giving.{order_is, give_some, give_none}
 use Rattle.gap_tracker.proofs.tracking.Tracker.next.Goals as goal
 
 pub returns-clause-some : goal.returns-clause-some
-returns-clause-some c = rw (← c.self.view_is) (give_some c.next.result c.next.new.packet.value c.self.inside.hold c.next.new.self c.next.ensures.some)
+returns-clause-some c = rw (← c.self.view_is) (give_some c.next.result c.self.inside.hold c.next.new.self c.next.ensures.some)
 
 pub returns-clause-front : goal.returns-clause-front
 returns-clause-front c story k = (c.next.new.self.settled, (order_is c.next.new.self story k).ready_is)

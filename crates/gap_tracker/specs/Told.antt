@@ -1,0 +1,77 @@
+-- What a call tells of all that the tracker may have been told and have given before it (profile).
+use Rattle.std.specs.Prelude.{◌≡◌, ℕ, ◌⊎◌, ◌∷◌, ◌++◌, Bool, List, length, nat_lt}
+use Rattle.rtt_base.specs.declared.text_packets.TextPacket.{TextPacket}
+use Rattle.wire_spec.specs.Packets.{packet_of}
+use Rattle.stream_spec.specs.Lists.{In}
+use Rattle.gap_tracker.specs.Stories.{Story, Given, came, ended, gave, given_of, answer, is_in_time, dues, ready_dues}
+use Rattle.gap_tracker.specs.States.{State, with_packet}
+use Rattle.gap_tracker.specs.Tracks.{Follows, Tracks, SameBut}
+use Rattle.gap_tracker.specs.declared.answers.Due.{Due}
+use Rattle.gap_tracker.specs.declared.answers.Taken.{Taken}
+
+-- what was so is that now
+abbrev pub Leads : State → State → (Story → Story) → Type 0
+Leads old new f = (story : Story) → Tracks old story → Tracks new (f story)
+
+-- the answer is that of what was told and given
+abbrev pub Tells : {X : Type 0} → State → X → (Story → X) → Type 0
+Tells s x f = (story : Story) → Tracks s story → x ≡ f story
+
+-- ---- a packet comes
+
+-- the current packet comes at `now`
+abbrev pub came_current : State → ℕ → Story → Story
+came_current s now story = came story now (packet_of s.current)
+
+abbrev pub answer_current : State → ℕ → Story → Taken
+answer_current s now story = answer story now (packet_of s.current)
+
+abbrev pub is_current_in_time : State → ℕ → Story → Bool
+is_current_in_time s now story = is_in_time story now (packet_of s.current)
+
+-- what is inside came now or was inside before
+abbrev pub ComeAlone : State → State → Type 0
+ComeAlone old new = (q : TextPacket) → In q new.packets → (q ≡ old.current) ⊎ In q old.packets
+
+-- ---- packets are given
+
+-- the packet that is current now is given
+abbrev pub Gives : State → State → Due → Type 0
+Gives old new due = Leads old new (λ story. gave story (given_of due new.current))
+
+-- a packet is given as it came
+abbrev pub GivesAsItCame : State → State → Type 0
+GivesAsItCame old new = old.packets ≡ new.current ∷ new.packets
+
+-- what was given is a front of what is ready
+abbrev pub GaveFront : State → Type 0
+GaveFront s = (story : Story) → Tracks s story → (rest : List Given) × (ready_dues story ≡ story.given ++ rest)
+
+-- what is ready is a front of all that is used
+abbrev pub ReadyIsFront : State → Type 0
+ReadyIsFront s = (story : Story) → Tracks s story → (rest : List Given) × (dues story ≡ ready_dues story ++ rest)
+
+-- all that is ready by the greatest moment was given
+abbrev pub GaveReady : State → Type 0
+GaveReady s = (story : Story) → Tracks s story → story.given ≡ ready_dues story
+
+-- each used packet is ready by the end
+abbrev pub AllReady : State → Type 0
+AllReady s = (story : Story) → Tracks s story → ready_dues (ended story) ≡ dues story
+
+-- whether some packet is ready by the greatest moment and not given
+abbrev pub is_owing : Story → Bool
+is_owing story = nat_lt (length story.given) (length (ready_dues story))
+
+-- ---- inside
+
+-- what s follows, t follows
+abbrev pub FollowsAll : State → State → Type 0
+FollowsAll s t = (story : Story) → Follows s story → Follows t story
+
+-- they are the same, but that another packet may be current
+abbrev pub IsButCurrent : State → State → Type 0
+IsButCurrent t s = t ≡ with_packet s t.current
+
+abbrev pub SameButCurrent : State → State → Type 0
+SameButCurrent s t = SameBut (with_packet s t.current) t
