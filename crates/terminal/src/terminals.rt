@@ -68,6 +68,7 @@ impl Terminal {
     }
 
     /// Hears the packets that are settled.
+    #[inline(always)]
     fn gather(&mut self) -> Result<(), NoMemory>
         requires stands { IsHearingTexts self.old }
         requires clear { is_clear self.old.ear ≡ Bool.true }
@@ -103,6 +104,7 @@ impl Terminal {
     }
 
     /// Takes a packet that came at this moment.
+    #[inline(always)]
     fn take(&mut self, at: u64, octets: &[u8]) -> Result<(), NoMemory>
         requires at { at < 2 ^ 48 }
         requires stands { IsListening self.old }
@@ -121,6 +123,7 @@ impl Terminal {
     }
 
     /// Takes a packet that came at this moment, in milliseconds. One that is refused is counted, and hands in no time.
+    #[inline(always)]
     pub fn arrive(&mut self, at: u64, octets: &[u8]) -> Result<(), NoMemory>
         requires at { at < 2 ^ 48 }
         requires open { IsOpen self.old }
