@@ -8,12 +8,13 @@ use crate::feeds::Feed;
 use rtt_io::{Gate, Source};
 use std::sync::Wait;
 use std::sync::atomic::{AtomicBool, Ordering};
-use std::thread;
+use std::thread::Parker;
+use std::time::Duration;
 
-/// Lets others run, where an item waits for room.
-fn wait_for_room<S: Source>(feed: &Feed<S>) {
+/// Sleeps for a millisecond, where an item waits for room. What is in a full queue keeps the mixer busy for longer.
+fn wait_for_room<S: Source, R: Wait>(rt: &R, feed: &Feed<S>) {
     if !feed.is_empty() {
-        thread::yield_now();
+        Parker::new().park_timeout(rt, Duration::from_millis(1));
     }
 }
 
@@ -36,7 +37,7 @@ pub fn run_feed<S: Source, R: Wait, G: Gate>(
         if feed.step(rt, queue, gate) {
             break;
         }
-        wait_for_room(&feed);
+        wait_for_room(rt, &feed);
     }
     feed
 }
