@@ -18,6 +18,7 @@ use Rattle.terminal.specs.declared.terminals.Terminal.{Terminal}
 abbrev pub texts_of : Terminal → List SourceText
 texts_of t = t.heard.items
 
+-- how many packets came, and what became of them
 abbrev pub counts_of : Terminal → Counts
 counts_of t = t.counts
 
@@ -25,11 +26,13 @@ counts_of t = t.counts
 abbrev pub is_spent : Terminal → Bool
 is_spent t = t.spent
 
+-- it is not spent
 abbrev pub IsWhole : Terminal → Type 0
 IsWhole t = is_spent t ≡ false
 
 -- ---- what it heard
 
+-- who hears there
 abbrev pub reception : TermConf → Reception
 reception c = record { ssrc = c.ssrc; pts = c.pts; wait = c.wait }
 
@@ -37,6 +40,7 @@ reception c = record { ssrc = c.ssrc; pts = c.pts; wait = c.wait }
 abbrev pub ear_conf : TermConf → EarConf
 ear_conf c = record { place = 0; ssrc = c.ssrc; pts = c.pts; wait = c.wait }
 
+-- nothing was heard of the source
 pub record IsEmpty (t : SourceText) : Type 0 where
   pub text : t.text ≡ []
   pub marks : t.marks ≡ 0
@@ -46,6 +50,7 @@ pub record HearsTexts (t : Terminal) (c : TermConf) (sources : List ℕ) (story 
   pub hears : HearsEach t.ear (ear_conf c) sources story t.heard.items
   pub used : t.counts.used ≡ length story.given
 
+-- it heard something so
 abbrev pub IsHearingTexts : Terminal → Type 0
 IsHearingTexts t = (c : TermConf) × (sources : List ℕ) × (story : Story) × HearsTexts t c sources story
 
@@ -77,6 +82,10 @@ IsListening t = (c : TermConf) × (sources : List ℕ) × (came : List Item) × 
 abbrev pub IsOpen : Terminal → Type 0
 IsOpen t = IsWhole t → IsListening t
 
+-- each text is UTF-8
+abbrev pub AreUtf8 : List SourceText → Type 0
+AreUtf8 texts = All (λ t. IsUtf8 t.text) texts
+
 -- all that is heard of the source s
 pub record IsTextOf (r : Reception) (came : List Item) (s : ℕ) (t : SourceText) : Type 0 where
   pub text : t.text ≡ text_at r came s
@@ -87,10 +96,11 @@ pub record Heard (t : Terminal) (c : TermConf) (sources : List ℕ) (came : List
   pub some : 0 < length sources
   pub each : length (texts_of t) ≡ length sources
   pub texts : (k : ℕ) (d : SourceText) → k < length sources → IsTextOf (reception c) came (slice_index sources k) (slice_index_or (texts_of t) k d)
-  pub utf8 : All (λ x. IsUtf8 x.text) (texts_of t)
+  pub utf8 : AreUtf8 (texts_of t)
   pub counts : counts_of t ≡ counts_at (reception c) came
   pub whole : IsWhole t
 
+-- something came and was heard to its end
 abbrev pub IsHeard : Terminal → Type 0
 IsHeard t = (c : TermConf) × (sources : List ℕ) × (came : List Item) × Heard t c sources came
 
@@ -104,6 +114,7 @@ IsFinished t = IsWhole t → IsHeard t
 abbrev pub IsUnread : What → Type 0
 IsUnread what = (what ≡ Cut) ⊎ (what ≡ Large)
 
+-- 1 where it is so, and else 0
 abbrev pub one_if : Bool → ℕ
 one_if b = if b then 1 else 0
 

@@ -1,26 +1,38 @@
 -- What is printed of a terminal (profile).
 use Rattle.std.specs.Prelude.{ℕ, List, [], ◌∷◌}
 use Rattle.source_receiver.specs.declared.source_texts.SourceText.{SourceText}
-use Rattle.text_spec.specs.Shown.{shown}
+use Rattle.text_spec.specs.Shown.{Display, shown}
 use Rattle.text_spec.specs.Views.{Source, text_view, unaware_view, aware_view}
 use Rattle.terminal.specs.declared.terminals.Terminal.{Terminal}
 use Rattle.terminal.specs.Terminals.{texts_of, counts_of}
 
+-- the text of the first of these
 abbrev pub first_text : List SourceText → List ℕ
 first_text [] = []
 first_text (t ∷ ts) = t.text
+
+-- and what it shows
+abbrev pub first_shown : List SourceText → Display
+first_shown ts = shown (first_text ts)
+
+-- the source of this name, and what it shows
+abbrev pub source_shown : List ℕ → SourceText → Source
+source_shown name t = record { name = name; display = shown t.text }
 
 -- the sources of these names, and what they show
 abbrev pub named : List (List ℕ) → List SourceText → List Source
 named [] ts = []
 named (name ∷ names) [] = []
-named (name ∷ names) (t ∷ ts) = record { name = name; display = shown t.text } ∷ named names ts
+named (name ∷ names) (t ∷ ts) = source_shown name t ∷ named names ts
 
+-- the view of the one source
 abbrev pub view_of : Terminal → List ℕ
-view_of t = text_view (shown (first_text (texts_of t))) (counts_of t)
+view_of t = text_view (first_shown (texts_of t)) (counts_of t)
 
+-- that of an unaware terminal of this name
 abbrev pub unaware_view_of : List ℕ → Terminal → List ℕ
-unaware_view_of name t = unaware_view name (shown (first_text (texts_of t))) (counts_of t)
+unaware_view_of name t = unaware_view name (first_shown (texts_of t)) (counts_of t)
 
+-- that of an aware one, whose sources have these names
 abbrev pub aware_view_of : List ℕ → List (List ℕ) → Terminal → List ℕ
 aware_view_of name names t = aware_view name (named names (texts_of t)) (counts_of t)

@@ -1,11 +1,8 @@
 //! Hearing one to 64 sources in the packets of one stream, and counting the packets.
-ghost use Rattle.std.specs.Prelude.{◌≡◌, ◌≢◌, ℕ, ◌+◌, ◌≤◌, ◌<◌, ◌^◌, List, [], ◌∷◌, ◌++◌, length, Bool, Err, OnOk, OnErr, IfOk, All, AllPairs, vec_len};
-ghost use Rattle.wire_spec.specs.Dump.{Item, sent_item};
-ghost use Rattle.gap_tracker.specs.Stories.{Story};
-ghost use Rattle.ear.specs.Hears.{all_given, arrival_count, is_clear, is_quiet, is_finished};
-ghost use Rattle.command_spec.specs.Seen.{fate_of, is_refused, is_foreign};
-ghost use Rattle.terminal.specs.declared.confs.TermConf.{TermConf};
-ghost use Rattle.terminal.specs.Terminals.{texts_of, counts_of, is_spent, one_if, IsWhole, IsEmpty, IsUnread, HearsTexts, IsHearingTexts, SameCounts, Listens, IsListening, IsOpen, Heard, IsFinished};
+ghost use Rattle.std.specs.Prelude.{◌≡◌, ◌≢◌, ◌+◌, ◌≤◌, ◌<◌, ◌^◌, [], length, Bool, OnOk, OnErr, IfOk, All, AllPairs, vec_len};
+ghost use Rattle.ear.specs.Hears.{arrival_count, is_clear, is_quiet, is_finished};
+ghost use Rattle.terminal.specs.Terminals.{texts_of, counts_of, is_spent, IsWhole, IsEmpty, IsHearingTexts, SameCounts, Listens, IsListening, IsOpen, IsFinished};
+ghost use Rattle.terminal.specs.Told.{TakesPacket, TakesUnread, one_if_refused, one_if_foreign, GathersTexts, HearsToEnd};
 ghost use Rattle.rtt_base.specs.declared.limits.TheConstants.{LONGEST_WAIT};
 
 use crate::TermConf;
@@ -73,7 +70,7 @@ impl Terminal {
         requires stands { IsHearingTexts self.old }
         requires clear { is_clear self.old.ear ≡ Bool.true }
         requires few { arrival_count self.old.ear ≤ 2 ^ 40 }
-        ensures gathers { OnOk result ((c : TermConf) (sources : List ℕ) (story : Story) → HearsTexts self.old c sources story → HearsTexts self.new c sources (all_given story)) }
+        ensures gathers { OnOk result (GathersTexts self.old self.new) }
         ensures same { OnOk result (SameCounts self.old.counts self.new.counts) }
         ensures quiet { OnOk result (is_quiet self.new.ear ≡ Bool.true) }
         ensures arrivals { OnOk result (arrival_count self.new.ear ≡ arrival_count self.old.ear) }
@@ -93,8 +90,8 @@ impl Terminal {
         ensures heard { self.new.heard ≡ self.old.heard }
         ensures packets { self.new.counts.packets ≡ self.old.counts.packets }
         ensures used { self.new.counts.used ≡ self.old.counts.used }
-        ensures refused { self.new.counts.refused ≡ self.old.counts.refused + one_if (is_refused (fate_of (Err fault))) }
-        ensures foreign { self.new.counts.foreign ≡ self.old.counts.foreign + one_if (is_foreign (fate_of (Err fault))) }
+        ensures refused { self.new.counts.refused ≡ self.old.counts.refused + one_if_refused fault }
+        ensures foreign { self.new.counts.foreign ≡ self.old.counts.foreign + one_if_foreign fault }
         ensures spent { is_spent self.new ≡ is_spent self.old }
     {
         match fault {
@@ -109,7 +106,7 @@ impl Terminal {
         requires at { at < 2 ^ 48 }
         requires stands { IsListening self.old }
         requires few { (counts_of self.old).packets < 2 ^ 40 }
-        ensures listens { OnOk result ((c : TermConf) (sources : List ℕ) (came : List Item) → Listens self.old c sources came → Listens self.new c sources (came ++ sent_item (at, octets.now) ∷ [])) }
+        ensures listens { OnOk result (TakesPacket self.old at octets.now self.new) }
         ensures packets { (counts_of self.new).packets ≡ (counts_of self.old).packets + 1 }
     {
         self.counts.packets += 1;
@@ -128,7 +125,7 @@ impl Terminal {
         requires at { at < 2 ^ 48 }
         requires open { IsOpen self.old }
         requires few { (counts_of self.old).packets < 2 ^ 40 }
-        ensures listens { OnOk result ((c : TermConf) (sources : List ℕ) (came : List Item) → Listens self.old c sources came → Listens self.new c sources (came ++ sent_item (at, octets.now) ∷ [])) }
+        ensures listens { OnOk result (TakesPacket self.old at octets.now self.new) }
         ensures open { IsOpen self.new }
         ensures whole { OnOk result (IsWhole self.old) }
         ensures spent { OnErr result (is_spent self.new ≡ Bool.true) }
@@ -150,7 +147,7 @@ impl Terminal {
     pub fn refuse(&mut self)
         requires open { IsOpen self.old }
         requires few { (counts_of self.old).packets < 2 ^ 40 }
-        ensures listens { (c : TermConf) (sources : List ℕ) (came : List Item) (item : Item) → IsUnread item.what → Listens self.old c sources came → Listens self.new c sources (came ++ item ∷ []) }
+        ensures listens { TakesUnread self.old self.new }
         ensures open { IsOpen self.new }
         ensures spent { is_spent self.new ≡ is_spent self.old }
         ensures packets { (counts_of self.new).packets ≤ (counts_of self.old).packets + 1 }
@@ -165,7 +162,7 @@ impl Terminal {
     fn end(&mut self) -> Result<(), NoMemory>
         requires stands { IsListening self.old }
         requires few { (counts_of self.old).packets < 2 ^ 40 }
-        ensures heard { OnOk result ((c : TermConf) (sources : List ℕ) (came : List Item) → Listens self.old c sources came → Heard self.new c sources came) }
+        ensures heard { OnOk result (HearsToEnd self.old self.new) }
         ensures packets { (counts_of self.new).packets ≡ (counts_of self.old).packets }
     {
         self.ear.finish();
@@ -176,7 +173,7 @@ impl Terminal {
     pub fn finish(&mut self) -> Result<(), NoMemory>
         requires open { IsOpen self.old }
         requires few { (counts_of self.old).packets < 2 ^ 40 }
-        ensures heard { OnOk result ((c : TermConf) (sources : List ℕ) (came : List Item) → Listens self.old c sources came → Heard self.new c sources came) }
+        ensures heard { OnOk result (HearsToEnd self.old self.new) }
         ensures finished { IsFinished self.new }
         ensures whole { OnOk result (IsWhole self.old) }
         ensures spent { OnErr result (is_spent self.new ≡ Bool.true) }

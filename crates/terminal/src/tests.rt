@@ -1,8 +1,7 @@
 //! What aware terminals show, worked out by hand: of three writers in turn, and of the other in a call of two.
-ghost use Rattle.std.specs.Prelude.{◌≡◌, ◌<◌, ◌≤◌, ◌+◌, ◌^◌, ℕ, List, length, OnOk};
-ghost use Rattle.wire_spec.specs.Dump.{Item};
-ghost use Rattle.terminal.specs.Terminals.{counts_of, IsOpen, Listens};
-ghost use Rattle.terminal.specs.declared.confs.TermConf.{TermConf};
+ghost use Rattle.std.specs.Prelude.{◌<◌, ◌≤◌, ◌+◌, ◌^◌, length, OnOk};
+ghost use Rattle.terminal.specs.Terminals.{counts_of, IsOpen};
+ghost use Rattle.terminal.specs.Told.{ListensStill};
 
 use crate::{TermConf, Terminal};
 use rtt_base::{Bytes, Name, NoMemory, Packet, Pts};
@@ -59,7 +58,7 @@ fn hand_in(terminal: &mut Terminal, at: u64, octets: &[u8]) -> Result<(), NoMemo
     requires open { IsOpen terminal.old }
     requires few { (counts_of terminal.old).packets < 100 }
     ensures open { IsOpen terminal.new }
-    ensures stands { OnOk result ((c : TermConf) (sources : List ℕ) (came : List Item) → Listens terminal.old c sources came → (more : List Item) × Listens terminal.new c sources more) }
+    ensures stands { OnOk result (ListensStill terminal.old terminal.new) }
     ensures few { (counts_of terminal.new).packets ≤ (counts_of terminal.old).packets + 1 }
 {
     terminal.arrive(at, octets)
@@ -70,7 +69,7 @@ fn hand_in_unless_lost(terminal: &mut Terminal, number: u16, lost: &[u16]) -> Re
     requires open { IsOpen terminal.old }
     requires few { (counts_of terminal.old).packets < 100 }
     ensures open { IsOpen terminal.new }
-    ensures stands { OnOk result ((c : TermConf) (sources : List ℕ) (came : List Item) → Listens terminal.old c sources came → (more : List Item) × Listens terminal.new c sources more) }
+    ensures stands { OnOk result (ListensStill terminal.old terminal.new) }
     ensures few { (counts_of terminal.new).packets ≤ (counts_of terminal.old).packets + 1 }
 {
     if lost.contains(&number) {

@@ -1,13 +1,10 @@
 //! The views of a terminal. After `NoMemory` what was printed before is as it was.
-ghost use Rattle.std.specs.Prelude.{◌≡◌, ℕ, ◌+◌, ◌<◌, List, [], ◌∷◌, ◌++◌, length, map, All, IsUtf8, IfOk, OnOk, OnErr, IsOk, take, flat_map};
-ghost use Rattle.wire_spec.specs.Dump.{Item};
-ghost use Rattle.text_spec.specs.Shown.{shown};
+ghost use Rattle.std.specs.Prelude.{◌≡◌, ◌<◌, ◌++◌, length, IsUtf8, IfOk, OnOk, OnErr, take, flat_map};
 ghost use Rattle.text_spec.specs.Views.{text_view, unaware_view, aware_view, source_view};
 ghost use Rattle.t140_text.specs.Displays.{Extends, display_of};
-ghost use Rattle.command_spec.specs.Seen.{Speaker, text_seen, aware_seen, unaware_seen};
-ghost use Rattle.terminal.specs.declared.confs.TermConf.{TermConf};
-ghost use Rattle.terminal.specs.Terminals.{texts_of, counts_of, reception, IsWhole, Heard, IsFinished};
-ghost use Rattle.terminal.specs.Views.{first_text, named, view_of, unaware_view_of, aware_view_of};
+ghost use Rattle.terminal.specs.Terminals.{texts_of, AreUtf8, IsWhole, IsFinished};
+ghost use Rattle.terminal.specs.Told.{AppendsTextSeen, AppendsUnawareSeen, AppendsAwareSeen};
+ghost use Rattle.terminal.specs.Views.{first_shown, source_shown, named, view_of, unaware_view_of, aware_view_of};
 
 use crate::Terminal;
 use rtt_base::{Bytes, Name, NoMemory};
@@ -21,8 +18,8 @@ use t140_text::{Counts, Shown, show};
 /// What the first of these shows.
 fn shown_first(alloc: Global, texts: &[SourceText]) -> Result<Shown, NoMemory>
     requires some { 0 < length texts.now }
-    requires utf8 { All (λ t. IsUtf8 t.text) texts.now }
-    ensures { IfOk result (λ s. display_of s ≡ shown (first_text texts.now)) }
+    requires utf8 { AreUtf8 texts.now }
+    ensures { IfOk result (λ s. display_of s ≡ first_shown texts.now) }
 {
     show(alloc, texts[0].text.as_slice())
 }
@@ -35,7 +32,7 @@ fn append_named(
     out: &mut Bytes,
 ) -> Result<(), NoMemory>
     requires { IsUtf8 source.now.text }
-    ensures ok { OnOk result (out.new ≡ out.old ++ source_view (record { name = name.now; display = shown source.now.text })) }
+    ensures ok { OnOk result (out.new ≡ out.old ++ source_view (source_shown name.now source.now)) }
     ensures kept { Extends out.old out.new }
 {
     let shown = show(alloc, source.text.as_slice())?;
@@ -50,7 +47,7 @@ fn append_all_named(
     out: &mut Bytes,
 ) -> Result<(), NoMemory>
     requires each { length names.now ≡ length texts.now }
-    requires utf8 { All (λ t. IsUtf8 t.text) texts.now }
+    requires utf8 { AreUtf8 texts.now }
     ensures ok { OnOk result (out.new ≡ out.old ++ flat_map source_view (named names.now texts.now)) }
     ensures kept { Extends out.old out.new }
 {
@@ -68,8 +65,8 @@ fn append_one(
     out: &mut Bytes,
 ) -> Result<(), NoMemory>
     requires some { 0 < length texts.now }
-    requires utf8 { All (λ t. IsUtf8 t.text) texts.now }
-    ensures ok { OnOk result (out.new ≡ out.old ++ text_view (shown (first_text texts.now)) counts) }
+    requires utf8 { AreUtf8 texts.now }
+    ensures ok { OnOk result (out.new ≡ out.old ++ text_view (first_shown texts.now) counts) }
     ensures kept { Extends out.old out.new }
 {
     let shown = shown_first(alloc, texts)?;
@@ -86,8 +83,8 @@ fn append_unaware(
     out: &mut Bytes,
 ) -> Result<(), NoMemory>
     requires some { 0 < length texts.now }
-    requires utf8 { All (λ t. IsUtf8 t.text) texts.now }
-    ensures ok { OnOk result (out.new ≡ out.old ++ unaware_view name.now (shown (first_text texts.now)) counts) }
+    requires utf8 { AreUtf8 texts.now }
+    ensures ok { OnOk result (out.new ≡ out.old ++ unaware_view name.now (first_shown texts.now) counts) }
     ensures kept { Extends out.old out.new }
 {
     append_unaware_title(name.as_slice(), out)?;
@@ -105,7 +102,7 @@ fn append_aware(
     out: &mut Bytes,
 ) -> Result<(), NoMemory>
     requires each { length names.now ≡ length texts.now }
-    requires utf8 { All (λ t. IsUtf8 t.text) texts.now }
+    requires utf8 { AreUtf8 texts.now }
     ensures ok { OnOk result (out.new ≡ out.old ++ aware_view name.now (named names.now texts.now) counts) }
     ensures kept { Extends out.old out.new }
 {
@@ -134,7 +131,7 @@ impl Terminal {
     /// Appends the view of a terminal that is not spent.
     fn append_whole_view(&self, alloc: Global, out: &mut Bytes) -> Result<(), NoMemory>
         requires some { 0 < length (texts_of self.now) }
-        requires utf8 { All (λ t. IsUtf8 t.text) (texts_of self.now) }
+        requires utf8 { AreUtf8 (texts_of self.now) }
         ensures ok { OnOk result (out.new ≡ out.old ++ view_of self.now) }
         ensures err { OnErr result (out.new ≡ out.old) }
     {
@@ -151,7 +148,7 @@ impl Terminal {
         out: &mut Bytes,
     ) -> Result<(), NoMemory>
         requires some { 0 < length (texts_of self.now) }
-        requires utf8 { All (λ t. IsUtf8 t.text) (texts_of self.now) }
+        requires utf8 { AreUtf8 (texts_of self.now) }
         ensures ok { OnOk result (out.new ≡ out.old ++ unaware_view_of name.now self.now) }
         ensures err { OnErr result (out.new ≡ out.old) }
     {
@@ -169,7 +166,7 @@ impl Terminal {
         out: &mut Bytes,
     ) -> Result<(), NoMemory>
         requires each { length names.now ≡ length (texts_of self.now) }
-        requires utf8 { All (λ t. IsUtf8 t.text) (texts_of self.now) }
+        requires utf8 { AreUtf8 (texts_of self.now) }
         ensures ok { OnOk result (out.new ≡ out.old ++ aware_view_of name.now names.now self.now) }
         ensures err { OnErr result (out.new ≡ out.old) }
     {
@@ -182,7 +179,7 @@ impl Terminal {
     pub fn append_view(&self, alloc: Global, out: &mut Bytes) -> Result<(), NoMemory>
         requires finished { IsFinished self.now }
         requires one { IsWhole self.now → length (texts_of self.now) ≡ 1 }
-        ensures seen { OnOk result ((c : TermConf) (source : ℕ) (came : List Item) → Heard self.now c (source ∷ []) came → out.new ≡ out.old ++ text_seen (reception c) source came) }
+        ensures seen { OnOk result (AppendsTextSeen self.now out.old out.new) }
         ensures whole { OnOk result (IsWhole self.now) }
         ensures err { OnErr result (out.new ≡ out.old) }
     {
@@ -201,7 +198,7 @@ impl Terminal {
     ) -> Result<(), NoMemory>
         requires finished { IsFinished self.now }
         requires one { IsWhole self.now → length (texts_of self.now) ≡ 1 }
-        ensures seen { OnOk result ((c : TermConf) (source : ℕ) (came : List Item) → Heard self.now c (source ∷ []) came → out.new ≡ out.old ++ unaware_seen (reception c) name.now source came) }
+        ensures seen { OnOk result (AppendsUnawareSeen self.now name.now out.old out.new) }
         ensures whole { OnOk result (IsWhole self.now) }
         ensures err { OnErr result (out.new ≡ out.old) }
     {
@@ -221,7 +218,7 @@ impl Terminal {
     ) -> Result<(), NoMemory>
         requires finished { IsFinished self.now }
         requires each { IsWhole self.now → length names.now ≡ length (texts_of self.now) }
-        ensures seen { OnOk result ((c : TermConf) (speakers : List Speaker) (came : List Item) → names.now ≡ map (λ s. s.name) speakers → Heard self.now c (map (λ s. s.ssrc) speakers) came → out.new ≡ out.old ++ aware_seen (reception c) name.now speakers came) }
+        ensures seen { OnOk result (AppendsAwareSeen self.now name.now names.now out.old out.new) }
         ensures whole { OnOk result (IsWhole self.now) }
         ensures err { OnErr result (out.new ≡ out.old) }
     {

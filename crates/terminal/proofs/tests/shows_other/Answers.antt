@@ -1,6 +1,15 @@
-use Rattle.std.proofs.Common.{[], ◌∷◌, sym}
+use Rattle.std.proofs.Common.{arith, [], ◌∷◌, sym}
 use Rattle.terminal.proofs.tests.shows_other.Invariants.{asked}
 use Rattle.terminal.proofs.tests.shows_other.Goals as goal
+
+pub loop-number-preserved : goal.loop-number-preserved
+loop-number-preserved c =
+    let i = c.loop-number.invariant in
+    record {
+      stands = c.in_ok-hand_in.ensures.stands asked (c.args.source ∷ []) i.stands.0 i.stands.1;
+      hears_on = c.hand_in.ensures.open;
+      few = omega (arith, i.few, c.hand_in.ensures.few);
+    }
 
 pub append_aware_view-requires-clause-each : goal.append_aware_view-requires-clause-each
 append_aware_view-requires-clause-each c = λ w. let i = c.loop-number.invariant in sym (c.in_ok-finish.ensures.heard asked (c.args.source ∷ []) i.stands.0 i.stands.1).each

@@ -1,4 +1,4 @@
-use Rattle.std.proofs.Common.{ℕ, ◌≤◌, List, [], ◌∷◌}
+use Rattle.std.proofs.Common.{◌≤◌, List, [], ◌∷◌}
 use Rattle.wire_spec.specs.Dump.{Item}
 use Rattle.terminal.specs.Terminals.{counts_of, IsOpen, Listens}
 use Rattle.terminal.specs.declared.confs.TermConf.{TermConf}

@@ -1,0 +1,63 @@
+-- What a call tells of all that may have come to the terminal before it (profile).
+use Rattle.std.specs.Prelude.{◌≡◌, ℕ, List, [], ◌∷◌, ◌++◌, map, Err}
+use Rattle.wire_spec.specs.declared.faults.TextFault.{TextFault}
+use Rattle.wire_spec.specs.Dump.{Item, sent_item}
+use Rattle.gap_tracker.specs.Stories.{Story}
+use Rattle.ear.specs.Hears.{all_given}
+use Rattle.command_spec.specs.Seen.{Speaker, fate_of, is_refused, is_foreign, text_seen, unaware_seen, aware_seen}
+use Rattle.terminal.specs.declared.confs.TermConf.{TermConf}
+use Rattle.terminal.specs.declared.terminals.Terminal.{Terminal}
+use Rattle.terminal.specs.Terminals.{reception, one_if, IsUnread, HearsTexts, Listens, Heard}
+
+-- ---- something comes
+
+-- behind whatever came, these came
+abbrev pub Takes : Terminal → List Item → Terminal → Type 0
+Takes old items new = (c : TermConf) (sources : List ℕ) (came : List Item) → Listens old c sources came → Listens new c sources (came ++ items)
+
+-- behind whatever came, these octets came at this moment
+abbrev pub TakesPacket : Terminal → ℕ → List ℕ → Terminal → Type 0
+TakesPacket old at octets new = Takes old (sent_item (at, octets) ∷ []) new
+
+-- behind whatever came, a packet came whose octets are not all there, or too many
+abbrev pub TakesUnread : Terminal → Terminal → Type 0
+TakesUnread old new = (c : TermConf) (sources : List ℕ) (came : List Item) (item : Item) → IsUnread item.what → Listens old c sources came → Listens new c sources (came ++ item ∷ [])
+
+-- it listens to the same sources still
+abbrev pub ListensStill : Terminal → Terminal → Type 0
+ListensStill old new = (c : TermConf) (sources : List ℕ) (came : List Item) → Listens old c sources came → (more : List Item) × Listens new c sources more
+
+-- whether a packet with this fault is one of those that count as refused
+abbrev pub one_if_refused : TextFault → ℕ
+one_if_refused fault = one_if (is_refused (fate_of (Err fault)))
+
+-- or as foreign
+abbrev pub one_if_foreign : TextFault → ℕ
+one_if_foreign fault = one_if (is_foreign (fate_of (Err fault)))
+
+-- ---- it is heard
+
+-- all that is ready was given, and is in the texts
+abbrev pub GathersTexts : Terminal → Terminal → Type 0
+GathersTexts old new = (c : TermConf) (sources : List ℕ) (story : Story) → HearsTexts old c sources story → HearsTexts new c sources (all_given story)
+
+-- whatever came was heard to its end
+abbrev pub HearsToEnd : Terminal → Terminal → Type 0
+HearsToEnd old new = (c : TermConf) (sources : List ℕ) (came : List Item) → Listens old c sources came → Heard new c sources came
+
+-- ---- it is seen
+
+-- what is seen of the one source was appended
+abbrev pub AppendsTextSeen : Terminal → List ℕ → List ℕ → Type 0
+AppendsTextSeen t old new = (c : TermConf) (source : ℕ) (came : List Item) → Heard t c (source ∷ []) came → new ≡ old ++ text_seen (reception c) source came
+
+-- what is seen at an unaware terminal of this name was appended
+abbrev pub AppendsUnawareSeen : Terminal → List ℕ → List ℕ → List ℕ → Type 0
+AppendsUnawareSeen t name old new = (c : TermConf) (source : ℕ) (came : List Item) → Heard t c (source ∷ []) came → new ≡ old ++ unaware_seen (reception c) name source came
+
+-- what is seen at an aware terminal of this name, of the speakers with these names, was appended
+abbrev pub AppendsAwareSeen : Terminal → List ℕ → List (List ℕ) → List ℕ → List ℕ → Type 0
+AppendsAwareSeen t name names old new =
+    (c : TermConf) (speakers : List Speaker) (came : List Item)
+    → names ≡ map (λ s. s.name) speakers → Heard t c (map (λ s. s.ssrc) speakers) came
+    → new ≡ old ++ aware_seen (reception c) name speakers came
