@@ -1,6 +1,7 @@
 -- Where the records of a recording stand in its octets.
-use Rattle.std.specs.Prelude.{◌≡◌, ℕ, ◌<◌, List, length, map, drop, slice_index, flat_map}
+use Rattle.std.specs.Prelude.{◌≡◌, ℕ, ◌<◌, ◌≤◌, All, List, length, drop, slice_index, flat_map}
 use Rattle.wire_spec.specs.Dump.{record_written}
+use Rattle.played.specs.Written.{AreRecords, moments_of}
 use Rattle.played.specs.declared.found.Found.{Found}
 
 -- where the records of these octets stand
@@ -10,5 +11,13 @@ pub record Stand (places : List ℕ) (octets : List ℕ) (front records : List (
 
 -- all are found: their moments, and where each begins
 pub record Finds (found : Found) (octets : List ℕ) (records : List (ℕ × List ℕ)) : Type 0 where
-  pub moments : found.moments.items ≡ map (λ r. r.0) records
+  pub moments : found.moments.items ≡ moments_of records
   pub places : Stand found.places.items octets records records
+
+-- whatever records these octets are, all are found
+abbrev pub FindsAll : Found → List ℕ → Type 0
+FindsAll found octets = (all : List (ℕ × List ℕ)) → AreRecords octets all → Finds found octets all
+
+-- none is found behind the end of the octets
+abbrev pub LieWithin : Found → List ℕ → Type 0
+LieWithin found octets = All (λ place. place ≤ length octets) found.places.items

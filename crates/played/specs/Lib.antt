@@ -1,2 +1,4 @@
 pub mod Written
 pub mod Finds
+pub mod Told
+pub mod Laws

@@ -1,7 +1,7 @@
 //! Where the records of a recording stand.
-ghost use Rattle.std.specs.Prelude.{◌≡◌, ◌≤◌, ◌<◌, ◌^◌, ℕ, List, length, All, IfOk};
-ghost use Rattle.played.specs.Written.{AreRecords, HasRecords};
-ghost use Rattle.played.specs.Finds.{Finds};
+ghost use Rattle.std.specs.Prelude.{◌≡◌, ◌<◌, ◌^◌, length, IfOk};
+ghost use Rattle.played.specs.Written.{HasRecords};
+ghost use Rattle.played.specs.Finds.{FindsAll, LieWithin};
 
 use crate::records::next_record;
 use rtt_base::NoMemory;
@@ -17,10 +17,10 @@ pub(crate) struct Found {
 /// Finds each of these records.
 pub(crate) fn find_records(alloc: Global, records: &[u8]) -> Result<Found, NoMemory>
     requires { HasRecords records.now }
-    ensures finds { IfOk result (λ found. (all : List (ℕ × List ℕ)) → AreRecords records.now all → Finds found records.now all) }
+    ensures finds { IfOk result (λ found. FindsAll found records.now) }
     ensures few { IfOk result (λ found. length found.moments.items < 2 ^ 32) }
     ensures each { IfOk result (λ found. length found.places.items ≡ length found.moments.items) }
-    ensures within { IfOk result (λ found. All (λ place. place ≤ length records.now) found.places.items) }
+    ensures within { IfOk result (λ found. LieWithin found records.now) }
 {
     let mut moments = Vec::new(alloc);
     let mut places = Vec::new(alloc);

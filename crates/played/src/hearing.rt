@@ -1,14 +1,11 @@
 //! A terminal that hears what comes to it.
-ghost use Rattle.std.specs.Prelude.{◌≡◌, ◌≢◌, ◌+◌, ◌≤◌, ◌<◌, ◌^◌, ◌==◌, ℕ, Bool, List, [], ◌++◌, length, map, flat_map, All, AllPairs, IfOk, OnOk};
+ghost use Rattle.std.specs.Prelude.{◌≡◌, ◌≢◌, ◌+◌, ◌≤◌, ◌<◌, ◌^◌, ◌==◌, Bool, length, All, AllPairs, IfOk, OnOk};
 ghost use Rattle.std.specs.List.{list_any};
-ghost use Rattle.std.specs.List.Sorted.{IsNonDecreasing};
-ghost use Rattle.wire_spec.specs.Dump.{Item, sent_item};
-ghost use Rattle.command_spec.specs.Mixing.{came, item_of};
-ghost use Rattle.fault_plan.specs.Arriving.{copy_of, copies_of, IsOfFirst};
-ghost use Rattle.terminal.specs.declared.confs.TermConf.{TermConf};
-ghost use Rattle.terminal.specs.Terminals.{counts_of, Listens, IsOpen, Heard};
-ghost use Rattle.played.specs.Written.{AreRecords, HasRecords, IsWritten, IsWrittenOf};
-ghost use Rattle.played.specs.Finds.{Finds};
+ghost use Rattle.fault_plan.specs.Arriving.{IsOfFirst};
+ghost use Rattle.terminal.specs.Terminals.{counts_of, IsOpen};
+ghost use Rattle.played.specs.Written.{HasRecords, MomentsNeverFall, IsWritten};
+ghost use Rattle.played.specs.Finds.{LieWithin};
+ghost use Rattle.played.specs.Told.{HearsAsWritten, HearsByPlan, HearsCopies, HearsCopy, HeardByPlan};
 ghost use Rattle.rtt_base.specs.declared.limits.TheConstants.{LONGEST_WAIT};
 
 use crate::found::{Found, find_records};
@@ -28,7 +25,7 @@ fn speaks_of(plan: &[PlanLine], terminal: u8) -> bool
 
 /// Whether the moments of these records never fall.
 fn never_fall(records: &[u8]) -> bool
-    ensures { result ≡ Bool.true → (all : List (ℕ × List ℕ)) → AreRecords records.now all → IsNonDecreasing (map (λ r. r.0) all) }
+    ensures { result ≡ Bool.true → MomentsNeverFall records.now }
 {
     let mut latest = 0;
     let mut rest = records;
@@ -47,7 +44,7 @@ fn hear_in_order(terminal: &mut Terminal, records: &[u8]) -> Result<(), NoMemory
     requires open { IsOpen terminal.old }
     requires none { (counts_of terminal.old).packets ≡ 0 }
     requires records { HasRecords records.now }
-    ensures listens { OnOk result ((c : TermConf) (sources : List ℕ) (all : List (ℕ × List ℕ)) → AreRecords records.now all → Listens terminal.old c sources [] → Listens terminal.new c sources (map sent_item all)) }
+    ensures listens { OnOk result (HearsAsWritten terminal.old records.now terminal.new) }
     ensures open { IsOpen terminal.new }
     ensures few { (counts_of terminal.new).packets < 2 ^ 40 }
 {
@@ -69,9 +66,8 @@ fn hear_copy(
     requires open { IsOpen terminal.old }
     requires few { (counts_of terminal.old).packets < 2 ^ 40 }
     requires sent { IsOfFirst (length found.now.places.items) copy }
-    requires within { All (λ place. place ≤ length records.now) found.now.places.items }
-    ensures listens { OnOk result ((c : TermConf) (sources : List ℕ) (heard : List Item) (all : List (ℕ × List ℕ)) → AreRecords records.now all → Finds found.now records.now all → Listens terminal.old c sources heard
-        → Listens terminal.new c sources (heard ++ item_of all (copy_of copy))) }
+    requires within { LieWithin found.now records.now }
+    ensures listens { OnOk result (HearsCopy terminal.old records.now found.now copy terminal.new) }
     ensures open { IsOpen terminal.new }
     ensures packets { (counts_of terminal.new).packets ≤ (counts_of terminal.old).packets + 1 }
 {
@@ -93,9 +89,8 @@ fn hear_copies(
     requires none { (counts_of terminal.old).packets ≡ 0 }
     requires few { length copies.now < 2 ^ 40 }
     requires sent { All (IsOfFirst (length found.now.places.items)) copies.now }
-    requires within { All (λ place. place ≤ length records.now) found.now.places.items }
-    ensures listens { OnOk result ((c : TermConf) (sources : List ℕ) (all : List (ℕ × List ℕ)) → AreRecords records.now all → Finds found.now records.now all → Listens terminal.old c sources []
-        → Listens terminal.new c sources (flat_map (item_of all) (copies_of copies.now))) }
+    requires within { LieWithin found.now records.now }
+    ensures listens { OnOk result (HearsCopies terminal.old records.now found.now copies.now terminal.new) }
     ensures open { IsOpen terminal.new }
     ensures few { (counts_of terminal.new).packets < 2 ^ 40 }
 {
@@ -116,7 +111,7 @@ fn hear_by_plan(
     requires open { IsOpen terminal.old }
     requires none { (counts_of terminal.old).packets ≡ 0 }
     requires records { HasRecords records.now }
-    ensures listens { OnOk result ((c : TermConf) (sources : List ℕ) (all : List (ℕ × List ℕ)) → AreRecords records.now all → Listens terminal.old c sources [] → Listens terminal.new c sources (came plan.now number all)) }
+    ensures listens { OnOk result (HearsByPlan terminal.old records.now plan.now number terminal.new) }
     ensures open { IsOpen terminal.new }
     ensures few { (counts_of terminal.new).packets < 2 ^ 40 }
 {
@@ -136,7 +131,7 @@ fn hear(
     requires open { IsOpen terminal.old }
     requires none { (counts_of terminal.old).packets ≡ 0 }
     requires records { HasRecords records.now }
-    ensures listens { OnOk result ((c : TermConf) (sources : List ℕ) (all : List (ℕ × List ℕ)) → AreRecords records.now all → Listens terminal.old c sources [] → Listens terminal.new c sources (came plan.now number all)) }
+    ensures listens { OnOk result (HearsByPlan terminal.old records.now plan.now number terminal.new) }
     ensures open { IsOpen terminal.new }
     ensures few { (counts_of terminal.new).packets < 2 ^ 40 }
 {
@@ -166,7 +161,7 @@ pub fn played(
     requires few { length sources.now ≤ 64 }
     requires differ { AllPairs (λ a b. a ≢ b) sources.now }
     requires written { IsWritten recording.now }
-    ensures heard { IfOk result (λ terminal. (records : List (ℕ × List ℕ)) → IsWrittenOf recording.now records → Heard terminal conf sources.now (came plan.now number records)) }
+    ensures heard { IfOk result (HeardByPlan conf sources.now recording.now plan.now number) }
     ensures few { IfOk result (λ terminal. (counts_of terminal).packets < 2 ^ 40) }
 {
     let mut terminal = Terminal::new(alloc, conf, sources)?;

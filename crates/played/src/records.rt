@@ -1,7 +1,7 @@
 //! The records of a recording as it is written.
-ghost use Rattle.std.specs.Prelude.{◌≡◌, ℕ, ◌+◌, ◌≤◌, List, ◌++◌, length, IfSome, MatchOption, flat_map};
-ghost use Rattle.wire_spec.specs.Dump.{record_written, size_of, time_of};
-ghost use Rattle.played.specs.Written.{IsRecord, IsWritten, IsWrittenOf, IsSplit};
+ghost use Rattle.std.specs.Prelude.{◌≡◌, ◌+◌, ◌≤◌, length, IfSome};
+ghost use Rattle.wire_spec.specs.Dump.{size_of, time_of};
+ghost use Rattle.played.specs.Written.{IsWritten, IsBehindOpening, IsSplit, TellsFirst};
 
 /// The octets of the line and the head of a recording.
 const OPENING: usize = 44;
@@ -24,7 +24,7 @@ fn moment_at(octets: &[u8]) -> u32
 
 /// The moment and the packet of the first record, and what follows it; none where there are no octets.
 pub(crate) fn next_record(octets: &[u8]) -> Option<(u32, &[u8], &[u8])>
-    ensures record { (r : ℕ × List ℕ) (more : List ℕ) → IsRecord r → octets.now ≡ record_written r ++ more → MatchOption result ⊥ (λ x. IsSplit x.0 x.1.now x.2.now r more) }
+    ensures record { TellsFirst octets.now result (λ x. IsSplit x.0 x.1.now x.2.now) }
     ensures shorter { IfSome result (λ x. length x.2.now + 8 ≤ length octets.now) }
 {
     if octets.len() < 8 {
@@ -40,7 +40,7 @@ pub(crate) fn next_record(octets: &[u8]) -> Option<(u32, &[u8], &[u8])>
 /// The records of a recording.
 pub(crate) fn behind_opening(recording: &[u8]) -> &[u8]
     requires { IsWritten recording.now }
-    ensures { (records : List (ℕ × List ℕ)) → IsWrittenOf recording.now records → result.now ≡ flat_map record_written records }
+    ensures { IsBehindOpening result.now recording.now }
 {
     &recording[OPENING..]
 }

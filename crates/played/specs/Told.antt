@@ -1,0 +1,41 @@
+-- What a call tells of the records that came to a terminal (profile).
+use Rattle.std.specs.Prelude.{ℕ, List, [], ◌++◌, map, flat_map}
+use Rattle.file_spec.specs.declared.conf_lines.PlanLine.{PlanLine}
+use Rattle.wire_spec.specs.Dump.{Item, sent_item}
+use Rattle.command_spec.specs.Mixing.{came, item_of}
+use Rattle.fault_plan.specs.declared.arriving.Arrival.{Arrival}
+use Rattle.fault_plan.specs.Arriving.{copy_of, copies_of}
+use Rattle.terminal.specs.declared.confs.TermConf.{TermConf}
+use Rattle.terminal.specs.declared.terminals.Terminal.{Terminal}
+use Rattle.terminal.specs.Terminals.{Listens, Heard}
+use Rattle.played.specs.declared.found.Found.{Found}
+use Rattle.played.specs.Written.{AreRecords, IsWrittenOf}
+use Rattle.played.specs.Finds.{Finds}
+
+-- where nothing came before, what these items are of the records came
+abbrev pub HearsOf : Terminal → List ℕ → (List (ℕ × List ℕ) → List Item) → Terminal → Type 0
+HearsOf old octets items new = (c : TermConf) (sources : List ℕ) (all : List (ℕ × List ℕ)) → AreRecords octets all → Listens old c sources [] → Listens new c sources (items all)
+
+-- the records came as they stand
+abbrev pub HearsAsWritten : Terminal → List ℕ → Terminal → Type 0
+HearsAsWritten old octets new = HearsOf old octets (map sent_item) new
+
+-- what comes of them by the plan came
+abbrev pub HearsByPlan : Terminal → List ℕ → List PlanLine → ℕ → Terminal → Type 0
+HearsByPlan old octets plan number new = HearsOf old octets (came plan number) new
+
+-- these copies came, of records that were found
+abbrev pub HearsCopies : Terminal → List ℕ → Found → List Arrival → Terminal → Type 0
+HearsCopies old octets found copies new =
+    (c : TermConf) (sources : List ℕ) (all : List (ℕ × List ℕ)) → AreRecords octets all → Finds found octets all → Listens old c sources []
+    → Listens new c sources (flat_map (item_of all) (copies_of copies))
+
+-- behind whatever came, this copy came
+abbrev pub HearsCopy : Terminal → List ℕ → Found → Arrival → Terminal → Type 0
+HearsCopy old octets found copy new =
+    (c : TermConf) (sources : List ℕ) (heard : List Item) (all : List (ℕ × List ℕ)) → AreRecords octets all → Finds found octets all → Listens old c sources heard
+    → Listens new c sources (heard ++ item_of all (copy_of copy))
+
+-- what comes by the plan of the records of this recording was heard to its end
+abbrev pub HeardByPlan : TermConf → List ℕ → List ℕ → List PlanLine → ℕ → Terminal → Type 0
+HeardByPlan conf sources recording plan number terminal = (records : List (ℕ × List ℕ)) → IsWrittenOf recording records → Heard terminal conf sources (came plan number records)
