@@ -50,7 +50,7 @@ pub record HearsTexts (t : Terminal) (c : TermConf) (sources : List ℕ) (story 
   pub hears : HearsEach t.ear (ear_conf c) sources story t.heard.items
   pub used : t.counts.used ≡ length story.given
 
--- it heard something so
+-- what it heard is that of some story
 abbrev pub IsHearingTexts : Terminal → Type 0
 IsHearingTexts t = (c : TermConf) × (sources : List ℕ) × (story : Story) × HearsTexts t c sources story
 
