@@ -14,27 +14,28 @@ use Rattle.terminal.specs.declared.confs.TermConf.{TermConf}
 use Rattle.terminal.specs.declared.terminals.Terminal.{Terminal}
 use Rattle.terminal.specs.Terminals.{reception, texts_of, counts_of, IsOpen, Listens, Heard}
 use Rattle.terminal.proofs.Listening.{rtcp_passed}
-use Rattle.rtt_read.specs.Recordings.{asked_of, Hears, HearsOne}
+use Rattle.terminal.specs.Told.{Takes}
+use Rattle.rtt_read.specs.Recordings.{asked_of, HearsOne}
 
 -- nothing came
-hears_none : (t : Terminal) → Hears t [] t
+hears_none : (t : Terminal) → Takes t [] t
 hears_none t c sources came l = subst (Listens t c sources) (sym (append-nil came)) l
 
 -- one record more
-hears_more : (before now after : Terminal) (items : List Item) (item : Item) → Hears before items now → Hears now (item ∷ []) after → Hears before (items ++ item ∷ []) after
+hears_more : (before now after : Terminal) (items : List Item) (item : Item) → Takes before items now → Takes now (item ∷ []) after → Takes before (items ++ item ∷ []) after
 hears_more before now after items item h one c sources came l =
     subst (Listens after c sources) (append_assoc came items (item ∷ [])) (one c sources (came ++ items) (h c sources came l))
 
 -- some records came, and of the recording the rest is still to come, where this tells it
 pub record HeardSome (tells : Type 0) (before : Recording) (l : Terminal) (now : Recording) (m : Terminal) : Type 0 where
   pub items : List Item
-  pub hears : Hears l items m
+  pub hears : Takes l items m
   pub is : tells → before ≡ record { items = items ++ now.items; fault = now.fault }
 
 pub some_none : (tells : Type 0) (before : Recording) (l : Terminal) → HeardSome tells before l before l
 some_none tells before l = record { items = []; hears = hears_none l; is = λ t. refl }
 
-pub some_more : (tells : Type 0) (before now next : Recording) (l m n : Terminal) (item : Item) → HeardSome tells before l now m → (tells → now ≡ with_item item next) → Hears m (item ∷ []) n → HeardSome tells before l next n
+pub some_more : (tells : Type 0) (before now next : Recording) (l m n : Terminal) (item : Item) → HeardSome tells before l now m → (tells → now ≡ with_item item next) → Takes m (item ∷ []) n → HeardSome tells before l next n
 some_more tells before now next l m n item h e one = record {
   items = h.items ++ item ∷ [];
   hears = hears_more l m n h.items item h.hears one;
@@ -55,7 +56,7 @@ no_packet : (item : DumpItem) (octets : List ℕ) → ((at : ℕ) × (item ≡ R
 no_packet item octets (inl (at, e)) = ap (λ (i : DumpItem). (record_of i octets).what) e
 no_packet item octets (inr e) = ap (λ (i : DumpItem). (record_of i octets).what) e
 
-pub hears_no_packet : (t : Terminal) (item : DumpItem) (octets : List ℕ) → ((at : ℕ) × (item ≡ Rtcp at)) ⊎ (item ≡ End) → Hears t (record_of item octets ∷ []) t
+pub hears_no_packet : (t : Terminal) (item : DumpItem) (octets : List ℕ) → ((at : ℕ) × (item ≡ Rtcp at)) ⊎ (item ≡ End) → Takes t (record_of item octets ∷ []) t
 hears_no_packet t item octets e c sources came l = rtcp_passed t c sources came (record_of item octets) (no_packet item octets e) l
 
 -- what is seen of the records of a recording is its view

@@ -1,5 +1,5 @@
 -- What a terminal heard of a recording, and why it was not heard to its end.
-use Rattle.std.specs.Prelude.{◌≡◌, ℕ, Bool, None, List, [], ◌∷◌, ◌++◌}
+use Rattle.std.specs.Prelude.{◌≡◌, ℕ, Bool, None, List, [], ◌∷◌}
 use Rattle.wire_spec.specs.Dump.{Item, Recording}
 use Rattle.rtpdump_io.specs.Reading.{is_of_source, IsFaultOf}
 use Rattle.command_spec.specs.declared.requests.ReadRequest.{ReadRequest}
@@ -7,6 +7,7 @@ use Rattle.command_spec.specs.Reading.{usual_wait}
 use Rattle.terminal.specs.declared.confs.TermConf.{TermConf}
 use Rattle.terminal.specs.declared.terminals.Terminal.{Terminal}
 use Rattle.terminal.specs.Terminals.{Listens}
+use Rattle.terminal.specs.Told.{Takes}
 use Rattle.rtt_read.specs.declared.reads.ListenFault.{ListenFault}
 use Rattle.rtt_read.specs.declared.reads.ListenFault.TheVariants.{Recorded, NoMemory}
 
@@ -18,14 +19,10 @@ asked_of r = record { ssrc = r.ssrc; pts = r.pts; wait = usual_wait }
 abbrev pub HearsOne : Terminal → Type 0
 HearsOne t = (c : TermConf) × (source : ℕ) × (came : List Item) × Listens t c (source ∷ []) came
 
--- these records came behind those that came before
-abbrev pub Hears : Terminal → List Item → Terminal → Type 0
-Hears before items after = (c : TermConf) (sources : List ℕ) (came : List Item) → Listens before c sources came → Listens after c sources (came ++ items)
-
 -- some records came; those of this recording, which has no fault, where this tells it
 pub record HearsAll (tells : Type 0) (recording : Recording) (before after : Terminal) : Type 0 where
   pub items : List Item
-  pub hears : Hears before items after
+  pub hears : Takes before items after
   pub is : tells → recording ≡ record { items = items; fault = None }
 
 -- the source failed

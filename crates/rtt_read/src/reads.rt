@@ -9,7 +9,8 @@ ghost use Rattle.command_spec.specs.Reading.{read_view};
 ghost use Rattle.command_spec.specs.Seen.{text_seen};
 ghost use Rattle.terminal.specs.declared.confs.TermConf.{TermConf};
 ghost use Rattle.terminal.specs.Terminals.{reception, counts_of, IsOpen, Listens};
-ghost use Rattle.rtt_read.specs.Recordings.{asked_of, Hears, HearsAll, HearsOne, IsSourceFault, ListenFaultOf};
+ghost use Rattle.terminal.specs.Told.{Takes};
+ghost use Rattle.rtt_read.specs.Recordings.{asked_of, HearsAll, HearsOne, IsSourceFault, ListenFaultOf};
 
 use command_spec::ReadRequest;
 use rtpdump_io::{DumpFault, DumpItem, DumpReader};
@@ -46,7 +47,7 @@ fn hear_record(terminal: &mut Terminal, item: DumpItem, octets: &[u8]) -> Result
     requires open { IsOpen terminal.old }
     requires few { (counts_of terminal.old).packets < 2 ^ 40 }
     requires more { is_end item ≡ Bool.false }
-    ensures hears { OnOk result (Hears terminal.old (record_of item octets.now ∷ []) terminal.new) }
+    ensures hears { OnOk result (Takes terminal.old (record_of item octets.now ∷ []) terminal.new) }
     ensures open { IsOpen terminal.new }
     ensures few { (counts_of terminal.new).packets ≤ (counts_of terminal.old).packets + 1 }
 {
