@@ -17,7 +17,7 @@ use Rattle.leg_queue.specs.Items.{given_of, IsHand, queued_by}
 use Rattle.leg_queue.proofs.Giving.{given_more}
 use Rattle.leg_lanes.specs.declared.lanes.Lane.{Lane}
 use Rattle.leg_lanes.specs.declared.lanes.Runner.{Runner}
-use Rattle.leg_lanes.specs.Runners.{RunnerStands, RunnerFollows}
+use Rattle.leg_lanes.specs.Runners.{FeedReturns, RunnerStands, RunnerFollows}
 use Rattle.leg_lanes.specs.Lanes.{LaneStands, ComesBack, IsStarted}
 
 module _ {S : Type 0} (tells : Type 0) (left : S → List ℕ) (faults : S → ℕ) (name : S → List ℕ) where
@@ -38,7 +38,7 @@ module _ {S : Type 0} (tells : Type 0) (left : S → List ℕ) (faults : S → �
   }
 
   pub came_back : (lane : Lane S) (feed : Feed S) (back : LegInlet S)
-      → ((leg : LegInlet S) → RunnerStands tells left faults name leg lane.runner → FeedStands tells left faults name leg feed)
+      → FeedReturns tells left faults name lane.runner feed
       → ((leg : LegInlet S) → FeedStands tells left faults name leg feed → is_open (given_of (place_of leg.leg) (popped lane.pop)).ended ≡ false → Fed tells left faults name leg back (given_of (place_of leg.leg) (popped lane.pop)))
       → ComesBack tells left faults name lane back
   came_back lane feed back stands all first gave leg s closed place r =

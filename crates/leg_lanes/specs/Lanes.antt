@@ -1,10 +1,13 @@
 -- What a clause says of a leg that runs and of the mixer's end of its queue.
 use Rattle.std.specs.Prelude.{◌≡◌, ℕ, false, List, []}
+use Rattle.rtt_base.specs.declared.records.Chunk.{Chunk as ChunkValue}
+use Rattle.stream_spec.specs.Ready.{chunk_of}
 use Rattle.leg_core.specs.Gives.{place_of}
 use Rattle.mix_loop.specs.declared.items.Ended.TheVariants.{Open}
 use Rattle.mix_loop.specs.declared.ports.Port.{Port}
 use Rattle.mix_loop.specs.declared.ports.Seat.TheVariants.{Away}
-use Rattle.mix_loop.specs.Items.{Gave, is_open}
+use Rattle.mix_loop.specs.declared.items.Item.{Item}
+use Rattle.mix_loop.specs.Items.{Gave, Gives, is_open}
 use Rattle.leg_items.specs.declared.inlets.LegInlet.{LegInlet}
 use Rattle.leg_items.specs.Feds.{Fed}
 use Rattle.leg_queue.specs.Ends.{popped}
@@ -19,6 +22,14 @@ module _ {S : Type 0} (tells : Type 0) (left : S → List ℕ) (faults : S → �
     pub place_is : now.place ≡ first.place
     pub gives : given_of first.place (popped now.pop) ≡ gave
     pub runs : (leg : LegInlet S) → RunnerStands tells left faults name leg first.runner → RunnerStands tells left faults name leg now.runner
+
+  -- whatever was popped from the first lane on, this is one more item, beside which this chunk was handed out
+  abbrev pub LaneGives : Lane S → Lane S → Item → ChunkValue → Type 0
+  LaneGives old new item chunk = Gives LaneStands old new item (chunk_of chunk)
+
+  -- whatever was popped from the first lane on, nothing more was
+  abbrev pub LaneFollows : Lane S → Lane S → Type 0
+  LaneFollows old new = (first : Lane S) (gave : Gave) → LaneStands first old gave → LaneStands first new gave
 
   -- the leg of a lane, which is back: where its end was popped, it gave what was popped
   abbrev pub ComesBack : Lane S → LegInlet S → Type 0

@@ -1,4 +1,5 @@
 pub mod Pairs
+pub mod Lent
 pub mod Runners
 pub mod Lanes
 pub mod Running

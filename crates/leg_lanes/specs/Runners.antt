@@ -3,6 +3,7 @@ use Rattle.std.specs.Prelude.{ℕ, List}
 use Rattle.leg_items.specs.declared.inlets.LegInlet.{LegInlet}
 use Rattle.leg_queue.specs.declared.ends.LegQueue.{LegQueue}
 use Rattle.leg_queue.specs.declared.ends.PushPass.{PushPass}
+use Rattle.leg_queue.specs.declared.feeds.Feed.{Feed}
 use Rattle.leg_queue.specs.Ends.{IsPushOf}
 use Rattle.leg_queue.specs.Feeds.{FeedStands}
 use Rattle.leg_lanes.specs.declared.lanes.Runner.{Runner}
@@ -17,6 +18,14 @@ module _ {S : Type 0} where
   -- whatever leg the one began with, the other did
   abbrev pub RunnerFollows : Type 0 → (S → List ℕ) → (S → ℕ) → (S → List ℕ) → Runner S → Runner S → Type 0
   RunnerFollows tells left faults name old new = (first : LegInlet S) → RunnerStands tells left faults name first old → RunnerStands tells left faults name first new
+
+  -- whatever leg the feed began with, what runs did
+  abbrev pub FeedRuns : Type 0 → (S → List ℕ) → (S → ℕ) → (S → List ℕ) → Feed S → Runner S → Type 0
+  FeedRuns tells left faults name feed runner = (first : LegInlet S) → FeedStands tells left faults name first feed → RunnerStands tells left faults name first runner
+
+  -- whatever leg the runner began with, the feed that comes back did
+  abbrev pub FeedReturns : Type 0 → (S → List ℕ) → (S → ℕ) → (S → List ℕ) → Runner S → Feed S → Type 0
+  FeedReturns tells left faults name runner feed = (first : LegInlet S) → RunnerStands tells left faults name first runner → FeedStands tells left faults name first feed
 
   -- its end is one of this queue
   abbrev pub IsRunnerOf : LegQueue → Runner S → Type 0

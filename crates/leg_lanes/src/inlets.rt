@@ -2,11 +2,10 @@
 ghost use Rattle.std.specs.Prelude.{◌≡◌};
 ghost use Rattle.stream_spec.specs.Ready.{chunk_of};
 ghost use Rattle.mix_loop.specs.declared.items.Item.{Item};
-ghost use Rattle.mix_loop.specs.Items.{Gave, Gives, IsOf};
-ghost use Rattle.leg_queue.specs.Ends.{IsPushOf, popped};
+ghost use Rattle.mix_loop.specs.Items.{IsOf};
+ghost use Rattle.leg_queue.specs.Ends.{IsPushOf};
 ghost use Rattle.leg_queue.specs.Feeds.{Follows};
-ghost use Rattle.leg_lanes.specs.declared.lanes.Lane.{Lane};
-ghost use Rattle.leg_lanes.specs.Lanes.{LaneStands};
+ghost use Rattle.leg_lanes.specs.Lanes.{LaneFollows, LaneGives};
 ghost use Rattle.leg_lanes.specs.Runners.{IsRunnerOf, RunnerFollows};
 
 use crate::lanes::{Lane, Runner};
@@ -58,7 +57,7 @@ impl<S: Source> Lane<S> {
     fn pull<R: Wait, G: Gate>(&mut self, rt: &R, gate: &G, chunk: &mut Chunk) -> Item
         ensures text { result ≡ Item.Chunk → IsOf self.old.place (chunk_of chunk.new) }
         ensures place { self.new.place ≡ self.old.place }
-        ensures stands { Gives (LaneStands S.tells S.left S.faults S.name) self.old self.new result (chunk_of chunk.new) }
+        ensures stands { LaneGives S.tells S.left S.faults S.name self.old self.new result chunk.new }
     {
         let item = self.line.queue.pop(rt, &mut self.pop, self.place, chunk);
         tell_popped(gate, self.place, item);
@@ -68,7 +67,7 @@ impl<S: Source> Lane<S> {
     /// Makes one step of the leg where it is at the mixer; else its thread may go on.
     fn nudge<R: Wait, G: Gate>(&mut self, rt: &R, gate: &G)
         ensures place { self.new.place ≡ self.old.place }
-        ensures stands { (first : Lane _) (gave : Gave) → LaneStands S.tells S.left S.faults S.name first self.old gave → LaneStands S.tells S.left S.faults S.name first self.new gave }
+        ensures stands { LaneFollows S.tells S.left S.faults S.name self.old self.new }
     {
         step_runner(&mut self.runner, rt, &self.line.queue, gate);
     }

@@ -35,10 +35,9 @@ impl<S> Drop for KeepsAll<S> {
 
 impl<S: Source> Promise<ManuallyDrop<Feed<S>>> for KeepsAll<S> {
     ghost use Rattle.std.specs.Mem.{manually_drop_value};
-    ghost use Rattle.leg_queue.specs.Ends.{IsPushOf};
-    ghost use Rattle.leg_queue.specs.Feeds.{Follows};
+    ghost use Rattle.leg_lanes.specs.Lent.{FeedKept};
 
-    ghost kept_by = { λ p r. IsPushOf p.of.value (manually_drop_value r).pass × Follows S.tells S.left S.faults S.name p.was.value (manually_drop_value r) };
+    ghost kept_by = { λ p r. FeedKept S.tells S.left S.faults S.name p.of.value p.was.value (manually_drop_value r) };
 }
 
 /// A leg that runs: on a thread, or, where none could be started, step by step at the mixer.

@@ -1,10 +1,9 @@
 //! Plain mixing of recordings, with each leg on a thread of its own.
 ghost use Rattle.std.specs.Prelude.{◌≡◌, ◌≤◌, [], length, vec_len, IfOk};
-ghost use Rattle.std.specs.Mem.{manually_drop_value};
 ghost use Rattle.std.specs.Vec.{vec_capacity};
-ghost use Rattle.leg_items.specs.Answers.{AreNew, PlainMixes};
+ghost use Rattle.leg_items.specs.Answers.{AreNew};
 ghost use Rattle.leg_lanes.specs.Lanes.{AreBack, AreStarted};
-ghost use Rattle.leg_lanes.specs.Running.{CanRun, HasRoom, RanAs};
+ghost use Rattle.leg_lanes.specs.Running.{CanMix, CanRun, HasRoom, LentCanRun, LentRanAs, RanAs, RanPlain};
 
 use crate::ends::{Ends, open_ends};
 use crate::lanes::Lane;
@@ -154,8 +153,8 @@ fn run_lent_in<'s, 'e, S: Source + Send + 's, M: Mixes, R: Threads + Wait + Sync
     tick: u64,
     turns: u64,
 ) -> Ran<S, M>
-    requires { CanRun M.legs M.turns tick turns (manually_drop_value lent) }
-    ensures { RanAs M.stands S.tells S.left S.faults S.name tick turns (manually_drop_value lent) result }
+    requires { LentCanRun M.legs M.turns tick turns lent }
+    ensures { LentRanAs M.stands S.tells S.left S.faults S.name tick turns lent result }
 {
     let job = ManuallyDrop::into_inner(lent);
     run_in(scope, rt, gate, stack, job, tick, turns)
@@ -170,15 +169,15 @@ fn run_scope<S: Source + Send, M: Mixes, R: Threads + Wait + Sync, G: Gate + Syn
     tick: u64,
     turns: u64,
 ) -> Ran<S, M>
-    requires { CanRun M.legs M.turns tick turns (manually_drop_value lent) }
-    ensures { RanAs M.stands S.tells S.left S.faults S.name tick turns (manually_drop_value lent) result }
+    requires { LentCanRun M.legs M.turns tick turns lent }
+    ensures { LentRanAs M.stands S.tells S.left S.faults S.name tick turns lent result }
 {
     thread::scope(
         thread::scope_env(),
         rt,
         |scope| -> Ran<S, M>
-            requires { CanRun M.legs M.turns tick turns (manually_drop_value lent) }
-            ensures { RanAs M.stands S.tells S.left S.faults S.name tick turns (manually_drop_value lent) result }
+            requires { LentCanRun M.legs M.turns tick turns lent }
+            ensures { LentRanAs M.stands S.tells S.left S.faults S.name tick turns lent result }
         { run_lent_in(scope, rt, gate, stack, lent, tick, turns) },
     )
 }
@@ -216,17 +215,10 @@ pub fn mix_running<S: Source + Send, M: Mixes, R: Threads + Wait + Sync, G: Gate
     turns: u64,
     log: Log,
 ) -> Ran<S, M>
-    requires few { vec_len ports ≤ 64 }
-    requires new { AreNew ports.items }
-    requires legs { M.legs mixer ≡ vec_len ports }
-    requires terminals { length log ≡ vec_len ports }
-    requires none { M.turns mixer ≡ 0 }
-    requires turns { turns ≤ 5000000 }
-    requires tick { tick ≤ 400 }
+    requires { CanMix M.legs M.turns ports mixer tick turns log }
     ensures legs { vec_len result.ports ≡ vec_len ports }
     ensures terminals { length result.log ≡ length log }
-    ensures mixed { PlainMixes M.stands S.tells S.left S.faults S.name tick turns result.mixing
-        ports.items result.ports.items mixer result.mixer log result.log }
+    ensures mixed { RanPlain M.stands S.tells S.left S.faults S.name tick turns ports mixer log result }
 {
     let Ok(room) = make_room(alloc, ports.len()) else {
         return Ran {

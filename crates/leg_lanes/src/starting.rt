@@ -2,15 +2,10 @@
 ghost use Rattle.std.specs.Prelude.{◌≡◌};
 ghost use Rattle.std.specs.Arc.{arc_value};
 ghost use Rattle.std.specs.Mem.{manually_drop_value};
-ghost use Rattle.mix_loop.specs.Items.{Gave, is_open};
-ghost use Rattle.leg_core.specs.Gives.{place_of};
-ghost use Rattle.leg_items.specs.declared.inlets.LegInlet.{LegInlet};
-ghost use Rattle.leg_items.specs.Feds.{Fed};
 ghost use Rattle.leg_items.specs.Answers.{IsNewAt};
 ghost use Rattle.leg_queue.specs.Ends.{IsPushOf};
-ghost use Rattle.leg_queue.specs.Feeds.{FeedStands, Follows};
-ghost use Rattle.leg_lanes.specs.declared.lanes.Lane.{Lane};
-ghost use Rattle.leg_lanes.specs.Runners.{IsRunnerOf, RunnerStands};
+ghost use Rattle.leg_lanes.specs.Lent.{LentFollows, LentKept};
+ghost use Rattle.leg_lanes.specs.Runners.{FeedReturns, FeedRuns, IsRunnerOf};
 ghost use Rattle.leg_lanes.specs.Lanes.{ComesBack, IsStarted};
 
 use crate::ends::Ends;
@@ -37,7 +32,7 @@ fn run_lent<S: Source, R: Wait, G: Gate>(
 ) -> ManuallyDrop<Feed<S>>
     requires { IsPushOf line.now.queue (manually_drop_value lent).pass }
     ensures queue { IsPushOf line.now.queue (manually_drop_value result).pass }
-    ensures follows { Follows S.tells S.left S.faults S.name (manually_drop_value lent) (manually_drop_value result) }
+    ensures follows { LentFollows S.tells S.left S.faults S.name lent result }
 {
     let feed = ManuallyDrop::into_inner(lent);
     lend(run_feed(rt, feed, &line.queue, &line.alone, gate))
@@ -56,7 +51,7 @@ fn start_feed<'s, 'e, S: Source + Send + 's, R: Wait + Sync, G: Gate + Sync>(
     requires same { arc_value theirs ≡ ours.now }
     requires push { IsPushOf ours.now.queue feed.pass }
     ensures runs { IsRunnerOf ours.now.queue result }
-    ensures stands { (first : LegInlet _) → FeedStands S.tells S.left S.faults S.name first feed → RunnerStands S.tells S.left S.faults S.name first result }
+    ensures stands { FeedRuns S.tells S.left S.faults S.name feed result }
 {
     let promise = KeepsAll {
         was: Snapshot::of(&feed),
@@ -68,7 +63,7 @@ fn start_feed<'s, 'e, S: Source + Send + 's, R: Wait + Sync, G: Gate + Sync>(
         promise,
         move || -> ManuallyDrop<Feed<S>>
             requires { IsPushOf (arc_value theirs).queue (manually_drop_value lent).pass }
-            ensures { IsPushOf (arc_value theirs).queue (manually_drop_value result).pass × Follows S.tells S.left S.faults S.name (manually_drop_value lent) (manually_drop_value result) }
+            ensures { LentKept S.tells S.left S.faults S.name (arc_value theirs).queue lent result }
         { run_lent(rt, lent, &theirs, gate) },
     ) {
         Ok(handle) => Runner::There(handle),
@@ -116,7 +111,7 @@ pub(crate) fn start_port<'s, 'e, S: Source + Send + 's, R: Wait + Sync, G: Gate 
 fn join_runner<S: Source, R: Threads>(runner: Runner<S>, rt: &R, _queue: &LegQueue) -> Feed<S>
     requires { IsRunnerOf _queue.now runner }
     ensures push { IsPushOf _queue.now result.pass }
-    ensures stands { (first : LegInlet _) → RunnerStands S.tells S.left S.faults S.name first runner → FeedStands S.tells S.left S.faults S.name first result }
+    ensures stands { FeedReturns S.tells S.left S.faults S.name runner result }
 {
     match runner {
         Runner::There(handle) => ManuallyDrop::into_inner(handle.join(rt)),

@@ -8,7 +8,7 @@ use Rattle.leg_lanes.proofs.running.run_in.Goals as goal
 
 pub mix_ports-mixing-requires-clause-few : goal.mix_ports-mixing-requires-clause-few
 mix_ports-mixing-requires-clause-few g c =
-    let is = ap (λ (l : List (Port (Lane g.row.S.Denot))). length l) c.deref_mut.ensures.value in omega (arith, is, c.requires.few, c.start_all-lanes.ensures.many)
+    let is = ap (λ (l : List (Port (Lane g.row.S.Denot))). length l) c.deref_mut.ensures.value in omega (arith, is, c.requires.may.few, c.args.job.ports.ok.0, c.start_all-lanes.ensures.many)
 
 pub mix_ports-mixing-requires-clause-places : goal.mix_ports-mixing-requires-clause-places
 mix_ports-mixing-requires-clause-places g c =
@@ -17,11 +17,11 @@ mix_ports-mixing-requires-clause-places g c =
 
 pub mix_ports-mixing-requires-clause-legs : goal.mix_ports-mixing-requires-clause-legs
 mix_ports-mixing-requires-clause-legs g c =
-    let is = ap (λ (l : List (Port (Lane g.row.S.Denot))). length l) c.deref_mut.ensures.value in c.requires.legs ∙ sym (is ∙ c.start_all-lanes.ensures.many)
+    let is = ap (λ (l : List (Port (Lane g.row.S.Denot))). length l) c.deref_mut.ensures.value in omega (arith, is, c.requires.may.legs, c.args.job.ports.ok.0, c.start_all-lanes.ensures.many)
 
 pub mix_ports-mixing-requires-clause-terminals : goal.mix_ports-mixing-requires-clause-terminals
 mix_ports-mixing-requires-clause-terminals g c =
-    let is = ap (λ (l : List (Port (Lane g.row.S.Denot))). length l) c.deref_mut.ensures.value in c.requires.terminals ∙ sym (is ∙ c.start_all-lanes.ensures.many)
+    let is = ap (λ (l : List (Port (Lane g.row.S.Denot))). length l) c.deref_mut.ensures.value in omega (arith, is, c.requires.may.terminals, c.args.job.ports.ok.0, c.start_all-lanes.ensures.many)
 
 pub returns : goal.returns
 returns g c =
@@ -33,5 +33,5 @@ returns g c =
       legs = c.join_all-ports.ensures.many ∙ (sames ∙ (many ∙ (is ∙ c.start_all-lanes.ensures.many)));
       terminals = c.mix_ports-mixing.ensures.terminals;
       mixed = run_answer g.S.Source.tells g.S.Source.left g.S.Source.faults g.S.Source.name g.M.Mixes.stands c.args.tick c.args.turns c.mix_ports-mixing.result c.args.job.ports.items c.start_all-lanes.result.items c.deref_mut.result.now c.mix_ports-mixing.new.ports _ c.join_all-ports.result.items
-          _ _ _ _ c.requires.new c.start_all-lanes.ensures c.deref_mut.ensures.value many same c.join_all-ports.ensures c.mix_ports-mixing.ensures.mixed;
+          _ _ _ _ c.requires.may.new c.start_all-lanes.ensures c.deref_mut.ensures.value many same c.join_all-ports.ensures c.mix_ports-mixing.ensures.mixed;
     }
