@@ -3,7 +3,6 @@ use Rattle.std.proofs.Common.{◌≡◌, ℕ, zero, suc, ◌<◌, Bool, true, fa
 use Rattle.std.specs.Prelude.{IfErr, IfOk, IsSome, slice_get, unwrap_or}
 use Rattle.std.proofs.lemmas.List.{length-map}
 use Rattle.rtt_io.specs.Counts.{Rose}
-use Rattle.rtpdump_io.specs.declared.items.DumpFault.{DumpFault}
 use Rattle.rtpdump_io.specs.Reading.{is_of_source}
 use Rattle.file_spec.specs.declared.conf_lines.LegLine.{LegLine}
 use Rattle.file_spec.specs.Conf.{Conf}
@@ -21,7 +20,7 @@ use Rattle.mixer_turn.specs.Making.{pts_of}
 use Rattle.bridge_run.specs.declared.mixed.MixFault.{MixFault}
 use Rattle.bridge_run.specs.declared.mixed.MixFault.TheVariants.{Open, Dump, TooLong, NoMemory}
 use Rattle.bridge_run.specs.declared.mixed.Mixed.{Mixed}
-use Rattle.bridge_run.specs.Answered.{AreKept, IsOfLegs, MixesTo, asked_of, broken_leg}
+use Rattle.bridge_run.specs.Answered.{AreKept, IsOfLegs, MixesAsked, MixesTo, NoReadFailed, asked_of, broken_leg}
 use Rattle.bridge_run.specs.Mixes.{AllLie, IsMade, RoseAt, Stops, inputs_under, octets_under}
 use Rattle.bridge_run.specs.Opened.{AllOpened, AllOver, ear_of}
 
@@ -96,7 +95,7 @@ module _ {S : Type 0} (Told : Type 0) (left : S → List ℕ) (faults : S → �
 
   -- ---- what is answered
   module _ (result : Result Mixed MixFault)
-      (mixes_to : Told → (inputs : List (List ℕ)) → length inputs ≡ length c.legs → AllAsked left (asked_of c inputs) ports → MixesTo c inputs result) where
+      (mixes_to : Told → MixesAsked left c ports result) where
     answered : Told → MixesTo c (inputs_under held c.legs) result
     answered told = mixes_to told (inputs_under held c.legs) (length-map c.legs (λ leg. octets_under held leg.input)) (all_asked told)
 
@@ -169,7 +168,7 @@ no_fault true f = absurd (f refl)
 no_fault false f = refl
 
 pub never_read : {S : Type 0} (faults : S → ℕ) (name : S → List ℕ) (n : ℕ) (result : Result Mixed MixFault) (old new : List (Port (LegInlet S))) → ((s : S) → faults s ≡ 0) → length old ≡ n → length new ≡ length old
-    → AreKept faults name result old new → IsOfLegs n result → (leg : ℕ) (fault : DumpFault) → result ≡ Err (Dump leg fault) → is_of_source fault.kind ≡ false
+    → AreKept faults name result old new → IsOfLegs n result → NoReadFailed result
 never_read faults name n result old new calm many same kept of leg fault e =
     let within : leg < n = subst (IsOfLegs n) e of in
     let p = found old leg (omega (arith, within, many)) in

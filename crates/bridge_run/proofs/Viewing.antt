@@ -23,7 +23,7 @@ use Rattle.terminal.specs.declared.confs.TermConf.{TermConf}
 use Rattle.terminal.specs.declared.terminals.Terminal.{Terminal}
 use Rattle.terminal.specs.Terminals.{counts_of, reception, texts_of, IsTextOf, Heard}
 use Rattle.bridge_run.specs.declared.views.Seen.{Seen}
-use Rattle.bridge_run.specs.Viewed.{Adds, AddsCounts, HasFew, counts_from, marks_of, markers_from, summed, view_from}
+use Rattle.bridge_run.specs.Viewed.{Adds, AddsCounts, HasFew, counts_from, marks_of, markers_from, summed, terminal_conf, view_from}
 
 -- which element is meant makes no difference within
 pub same_default : {X : Type 0} (xs : List X) (i : ℕ) (d e : X) → i < length xs → get_or xs i d ≡ get_or xs i e
@@ -53,29 +53,26 @@ ssrcs_are : (legs : List LegLine) → map (λ (s : Speaker). s.ssrc) (map speake
 ssrcs_are [] = refl
 ssrcs_are (l ∷ ls) = ap (λ (xs : List ℕ). l.ssrc ∷ xs) (ssrcs_are ls)
 
-abbrev pub hears : Conf → LegLine → TermConf
-hears c leg = record { ssrc = c.mixer.ssrc; pts = leg.pts; wait = c.wait }
-
 -- ---- one terminal
 pub aware_view : (c : Conf) (own : ℕ) (leg : LegLine) (records : List (ℕ × List ℕ)) (t : Terminal) (conf : TermConf) (sources : List ℕ) (names : List (List ℕ)) (old new : List ℕ)
-    → leg.aware ≡ true → conf ≡ hears c leg → sources ≡ map (λ l. l.ssrc) (remove c.legs own) → names ≡ map (λ l. l.name) (remove c.legs own) → Heard t conf sources (came c.plan own records)
+    → leg.aware ≡ true → conf ≡ terminal_conf c leg → sources ≡ map (λ l. l.ssrc) (remove c.legs own) → names ≡ map (λ l. l.name) (remove c.legs own) → Heard t conf sources (came c.plan own records)
     → ((q : TermConf) (speakers : List Speaker) (items : List Item) → names ≡ map (λ s. s.name) speakers → Heard t q (map (λ s. s.ssrc) speakers) items → new ≡ old ++ aware_seen (reception q) leg.name speakers items)
     → new ≡ old ++ view_from c own leg records
 aware_view c own leg records t conf sources names old new e f s n h g =
     let speakers = map speaker_of (remove c.legs own) in
     let items = came c.plan own records in
-    let heard = subst (λ (xs : List ℕ). Heard t (hears c leg) xs items) (s ∙ sym (ssrcs_are (remove c.legs own))) (subst (λ (q : TermConf). Heard t q sources items) f h) in
-    g (hears c leg) speakers items (n ∙ sym (names_are (remove c.legs own))) heard
-    ∙ ap (λ (b : Bool). old ++ cond b (aware_seen (reception (hears c leg)) leg.name speakers items) (unaware_seen (reception (hears c leg)) leg.name c.mixer.ssrc items)) (sym e)
+    let heard = subst (λ (xs : List ℕ). Heard t (terminal_conf c leg) xs items) (s ∙ sym (ssrcs_are (remove c.legs own))) (subst (λ (q : TermConf). Heard t q sources items) f h) in
+    g (terminal_conf c leg) speakers items (n ∙ sym (names_are (remove c.legs own))) heard
+    ∙ ap (λ (b : Bool). old ++ cond b (aware_seen (reception (terminal_conf c leg)) leg.name speakers items) (unaware_seen (reception (terminal_conf c leg)) leg.name c.mixer.ssrc items)) (sym e)
 
 pub unaware_view : (c : Conf) (own : ℕ) (leg : LegLine) (records : List (ℕ × List ℕ)) (t : Terminal) (conf : TermConf) (old new : List ℕ)
-    → leg.aware ≡ false → conf ≡ hears c leg → Heard t conf (c.mixer.ssrc ∷ []) (came c.plan own records)
+    → leg.aware ≡ false → conf ≡ terminal_conf c leg → Heard t conf (c.mixer.ssrc ∷ []) (came c.plan own records)
     → ((q : TermConf) (source : ℕ) (items : List Item) → Heard t q (source ∷ []) items → new ≡ old ++ unaware_seen (reception q) leg.name source items)
     → new ≡ old ++ view_from c own leg records
 unaware_view c own leg records t conf old new e f h g =
     let items = came c.plan own records in
-    g (hears c leg) c.mixer.ssrc items (subst (λ (q : TermConf). Heard t q (c.mixer.ssrc ∷ []) items) f h)
-    ∙ ap (λ (b : Bool). old ++ cond b (aware_seen (reception (hears c leg)) leg.name (map speaker_of (remove c.legs own)) items) (unaware_seen (reception (hears c leg)) leg.name c.mixer.ssrc items)) (sym e)
+    g (terminal_conf c leg) c.mixer.ssrc items (subst (λ (q : TermConf). Heard t q (c.mixer.ssrc ∷ []) items) f h)
+    ∙ ap (λ (b : Bool). old ++ cond b (aware_seen (reception (terminal_conf c leg)) leg.name (map speaker_of (remove c.legs own)) items) (unaware_seen (reception (terminal_conf c leg)) leg.name c.mixer.ssrc items)) (sym e)
 
 -- ---- the numbers of one terminal
 module _ (t : Terminal) (q : TermConf) (sources : List ℕ) (items : List Item) (heard : Heard t q sources items) where
@@ -104,7 +101,7 @@ module _ (t : Terminal) (q : TermConf) (sources : List ℕ) (items : List Item) 
 
 -- all that a terminal adds
 pub adds : (c : Conf) (own : ℕ) (leg : LegLine) (records : List (ℕ × List ℕ)) (t : Terminal) (q : TermConf) (sources : List ℕ) (old shown new : Seen)
-    → q ≡ hears c leg → sources ≡ sources_of c own leg → Heard t q sources (came c.plan own records)
+    → q ≡ terminal_conf c leg → sources ≡ sources_of c own leg → Heard t q sources (came c.plan own records)
     → shown.views ≡ old.views ++ view_from c own leg records → shown.packets ≡ old.packets → shown.used ≡ old.used → shown.marks ≡ old.marks → AddsCounts t shown new
     → Adds c own leg records old new
 adds c own leg records t q sources old shown new e s h view packets used marks a =

@@ -1,5 +1,5 @@
 -- What mixing recordings answers, by their octets (profile).
-use Rattle.std.specs.Prelude.{◌≡◌, ℕ, ◌+◌, ◌<◌, ◌≤◌, false, true, Option, None, Some, List, Result, Ok, Err, slice_get}
+use Rattle.std.specs.Prelude.{◌≡◌, ℕ, ◌+◌, ◌<◌, ◌≤◌, false, true, Option, None, Some, List, Result, Ok, Err, length, slice_get}
 use Rattle.rtt_io.specs.Counts.{Rose}
 use Rattle.rtpdump_io.specs.declared.items.DumpFault.{DumpFault}
 use Rattle.rtpdump_io.specs.Reading.{is_of_source}
@@ -13,7 +13,7 @@ use Rattle.command_spec.specs.Sums.{sums_mixed}
 use Rattle.mix_loop.specs.declared.ports.Port.{Port}
 use Rattle.leg_items.specs.declared.inlets.LegInlet.{LegInlet}
 use Rattle.leg_items.specs.Feds.{Asked}
-use Rattle.leg_items.specs.Answers.{source_at}
+use Rattle.leg_items.specs.Answers.{AllAsked, source_at}
 use Rattle.mixer_turn.specs.Making.{pts_at}
 use Rattle.bridge_run.specs.declared.mixed.MixFault.{MixFault}
 use Rattle.bridge_run.specs.declared.mixed.MixFault.TheVariants.{Open, Dump, TooLong, NoMemory}
@@ -58,7 +58,20 @@ broken_leg (Err (Dump leg fault)) = Some leg
 broken_leg (Err TooLong) = None
 broken_leg (Err NoMemory) = None
 
+-- it has so many outputs
+abbrev pub HasOutputs : ℕ → Mixed → Type 0
+HasOutputs n mixed = length mixed.outs.items ≡ n
+
+-- it is no failed reading of a recording
+abbrev pub NoReadFailed : Result Mixed MixFault → Type 0
+NoReadFailed result = (leg : ℕ) (fault : DumpFault) → result ≡ Err (Dump leg fault) → is_of_source fault.kind ≡ false
+
 module _ {S : Type 0} where
+  -- it is what the conference comes to by the octets of its inputs, whatever they are, where these ports are asked for them
+  abbrev pub MixesAsked : (S → List ℕ) → Conf → List (Port (LegInlet S)) → Result Mixed MixFault → Type 0
+  MixesAsked left c ports result =
+      (inputs : List (List ℕ)) → length inputs ≡ length c.legs → AllAsked left (asked_of c inputs) ports → MixesTo c inputs result
+
   -- The source of the leg j is still the one that it was. Where its reading failed, its count rose.
   pub record IsKept (faults : S → ℕ) (name : S → List ℕ) (result : Result Mixed MixFault) (j : ℕ) (old new : S) : Type 0 where
     pub never_falls : faults old ≤ faults new

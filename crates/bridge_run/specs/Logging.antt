@@ -19,3 +19,11 @@ ArePosts terminals posts = (k : ℕ) (p : Post) → slice_get posts k ≡ Some p
 -- they were appended to the recordings, each to that of its terminal
 abbrev pub LogsPosts : ℕ → List Post → List (List ℕ) → List (List ℕ) → Type 0
 LogsPosts at posts old new = (j : ℕ) → j < length old → out_at new j ≡ out_at old j ++ flat_map (record_for at j) posts
+
+-- a packet that goes to one of the terminals was appended to its recording
+abbrev pub AppendsPost : ℕ → Post → List (List ℕ) → List (List ℕ) → Type 0
+AppendsPost at p old new = IsPost (length old) p → (j : ℕ) → j < length old → out_at new j ≡ out_at old j ++ record_for at j p
+
+-- packets of which each goes to one of the terminals were appended, each to its recording
+abbrev pub AppendsPosts : ℕ → List Post → List (List ℕ) → List (List ℕ) → Type 0
+AppendsPosts at posts old new = ArePosts (length old) posts → LogsPosts at posts old new

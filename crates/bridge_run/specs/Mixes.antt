@@ -70,3 +70,8 @@ Stops Told Call Object held c NoMemory = Unit {0}
 -- the count of this name rose
 abbrev pub RoseAt : (List ℕ → ℕ) → (List ℕ → ℕ) → List ℕ → Type 0
 RoseAt old new name = Rose (old name) (new name)
+
+module _ {W : Type 0} where
+  -- why nothing is made, by what lay in a world before, and by the counts that rose in it
+  abbrev pub StopsIn : Type 0 → (W → Contents) → (W → List ℕ → ℕ) → (W → List ℕ → ℕ) → W → W → Conf → MixFault → Type 0
+  StopsIn Told contents own objects old new c = Stops Told (RoseAt (own old) (own new)) (RoseAt (objects old) (objects new)) (contents old) c

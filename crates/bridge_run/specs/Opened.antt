@@ -1,7 +1,10 @@
 -- The inputs of a conference's legs, opened, of which nothing was read.
 use Rattle.std.specs.Prelude.{◌≡◌, ℕ, Option, Some, List, [], ◌∷◌, slice_get}
+use Rattle.std.specs.Global.{Vec}
 use Rattle.file_spec.specs.declared.conf_lines.LegLine.{LegLine}
 use Rattle.rtt_io.specs.Counts.{Rose}
+use Rattle.rtt_io.specs.declared.mem_sources.SteadySource.{SteadySource}
+use Rattle.rtt_io.specs.contracts.mem_sources.SteadySourceSource.TheImpl.{left-value, tells-value}
 use Rattle.ear.specs.declared.confs.EarConf.{EarConf}
 use Rattle.leg_core.specs.Gives.{Stands, begins, place_of}
 use Rattle.mix_loop.specs.declared.ports.Port.{Port}
@@ -48,6 +51,14 @@ module _ {S : Type 0} where
   AllOpened tells left faults name_of contents wait limit legs ps = (j : ℕ) (p : Port (LegInlet S)) → slice_get ps j ≡ Some p
       → (leg : LegLine) × (leg_at legs j ≡ Some leg) × IsOpened tells left faults name_of contents wait limit j leg p
 
+  -- the same of a whole list of ports
+  abbrev pub AreOpened : Type 0 → (S → List ℕ) → (S → ℕ) → (S → List ℕ) → (List ℕ → Option (List ℕ)) → ℕ → ℕ → List LegLine → Vec (Port (LegInlet S)) → Type 0
+  AreOpened tells left faults name_of contents wait limit legs ports = AllOpened tells left faults name_of contents wait limit legs ports.items
+
+-- the ports of these legs, in order, over inputs that are held in memory
+abbrev pub AreHeld : ℕ → ℕ → List LegLine → List (List ℕ) → Vec (Port (LegInlet SteadySource)) → Type 0
+AreHeld wait limit legs inputs ports = AllOver tells-value.it left-value.it wait limit legs inputs ports.items
+
 -- Why the leg j was not opened: the count of its name rose, or memory ran out.
 abbrev pub IsRefused : (List ℕ → ℕ) → (List ℕ → ℕ) → ℕ → LegLine → MixFault → Type 0
 IsRefused before after j leg (Open k) = (k ≡ j) × Rose (before leg.input) (after leg.input)
@@ -63,3 +74,19 @@ IsNotOpened tells contents before after legs (Open k) = (leg : LegLine) × (leg_
 IsNotOpened tells contents before after legs (Dump k fault) = ⊥
 IsNotOpened tells contents before after legs TooLong = ⊥
 IsNotOpened tells contents before after legs NoMemory = Unit {0}
+
+-- ---- by the counts of a world, before and after
+module _ {W : Type 0} where
+  -- why the leg j was not opened in it
+  abbrev pub RefusedIn : (W → List ℕ → ℕ) → W → W → ℕ → LegLine → MixFault → Type 0
+  RefusedIn own old new j leg fault = IsRefused (own old) (own new) j leg fault
+
+  -- why not all legs were
+  abbrev pub Unopened : Type 0 → (W → List ℕ → Option (List ℕ)) → (W → List ℕ → ℕ) → W → W → List LegLine → MixFault → Type 0
+  Unopened tells contents own old new legs fault = IsNotOpened tells (contents old) (own old) (own new) legs fault
+
+  -- where the reading of the leg with this number failed, the count of its source's name rose
+  abbrev pub FaultRose : {S : Type 0} → (S → ℕ) → (S → List ℕ) → (W → List ℕ → ℕ) → List (Port (LegInlet S)) → ℕ → W → W → Type 0
+  FaultRose {S} faults name objects ports leg old new =
+      (p : Port (LegInlet S)) → slice_get ports leg ≡ Some p → Rose 0 (faults (source_at p))
+      → Rose (objects old (name (source_at p))) (objects new (name (source_at p)))

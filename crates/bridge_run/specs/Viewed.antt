@@ -1,14 +1,15 @@
 -- What is seen at the terminals of a conference, by what was sent to each (profile).
-use Rattle.std.specs.Prelude.{◌≡◌, ℕ, ◌+◌, ◌*◌, ◌^◌, ◌<◌, ◌≤◌, List, [], ◌++◌, length, map, remove, slice_index_or, IsTrue, All, if◌then◌else◌}
+use Rattle.std.specs.Prelude.{◌≡◌, ℕ, Bool, ◌+◌, ◌*◌, ◌^◌, ◌<◌, ◌≤◌, List, [], ◌++◌, length, map, remove, slice_index_or, IsTrue, All, if◌then◌else◌}
 use Rattle.std.specs.List.{sum_by}
 use Rattle.text_spec.specs.declared.counts.Counts.{Counts}
 use Rattle.file_spec.specs.declared.conf_lines.LegLine.{LegLine}
 use Rattle.file_spec.specs.Conf.{Conf, is_name}
 use Rattle.mixer_spec.specs.Table.{Table}
 use Rattle.command_spec.specs.Seen.{aware_seen, counts_at, unaware_seen}
-use Rattle.command_spec.specs.Mixing.{came, reception_of, records_to, speaker_of}
-use Rattle.command_spec.specs.Sums.{Sums, markers_at, sources_of}
+use Rattle.command_spec.specs.Mixing.{came, reception_of, records_to, speaker_of, views}
+use Rattle.command_spec.specs.Sums.{Sums, markers_at, sources_of, sums}
 use Rattle.played.specs.Written.{IsWrittenOf}
+use Rattle.terminal.specs.declared.confs.TermConf.{TermConf}
 use Rattle.terminal.specs.declared.terminals.Terminal.{Terminal}
 use Rattle.terminal.specs.Terminals.{counts_of, texts_of}
 use Rattle.bridge_run.specs.declared.views.Seen.{Seen}
@@ -20,6 +21,25 @@ AreNamed legs = All (λ leg. IsTrue (is_name leg.name)) legs
 -- these are what was sent to each terminal
 abbrev pub AreSent : Conf → Table → List (List ℕ) → Type 0
 AreSent c table outs = (j : ℕ) (d : LegLine) → j < length c.legs → IsWrittenOf (slice_index_or outs j []) (records_to c table j (slice_index_or c.legs j d))
+
+-- this is seen at the terminals to which this was sent
+abbrev pub AreViewsOf : Conf → List (List ℕ) → List ℕ → Type 0
+AreViewsOf c outs seen = (table : Table) → AreSent c table outs → seen ≡ views c table
+
+-- these are the sums over the terminals to which this was sent
+abbrev pub AreSumsOf : Conf → List (List ℕ) → Sums → Type 0
+AreSumsOf c outs total = (table : Table) → AreSent c table outs → total ≡ sums c table
+
+-- ---- one terminal
+abbrev pub ssrcs_of : List LegLine → List ℕ
+ssrcs_of legs = map (λ leg. leg.ssrc) legs
+
+abbrev pub names_of : List LegLine → List (List ℕ)
+names_of legs = map (λ leg. leg.name) legs
+
+-- what the terminal of a leg is made with
+abbrev pub terminal_conf : Conf → LegLine → TermConf
+terminal_conf c leg = record { ssrc = c.mixer.ssrc; pts = leg.pts; wait = c.wait }
 
 -- what is seen at the terminal of the leg j, where these records were sent to it
 abbrev pub view_from : Conf → ℕ → LegLine → List (ℕ × List ℕ) → List ℕ
@@ -42,6 +62,17 @@ pub record Adds (c : Conf) (j : ℕ) (leg : LegLine) (records : List (ℕ × Lis
   pub packets : new.packets ≡ old.packets + (counts_from c j leg records).packets
   pub used : new.used ≡ old.used + (counts_from c j leg records).used
   pub marks : new.marks ≡ old.marks + markers_from c j leg records
+
+-- so was that of the terminal of the leg j, to which this recording was sent
+abbrev pub AddsSent : Conf → ℕ → List ℕ → Seen → Seen → Type 0
+AddsSent c j recording old new =
+    (records : List (ℕ × List ℕ)) (d : LegLine) → IsWrittenOf recording records → Adds c j (slice_index_or c.legs j d) records old new
+
+-- the same where the terminal is aware, or where it is not
+abbrev pub AddsSentTo : Bool → Conf → ℕ → List ℕ → Seen → Seen → Type 0
+AddsSentTo aware c j recording old new =
+    (records : List (ℕ × List ℕ)) (d : LegLine) → (slice_index_or c.legs j d).aware ≡ aware
+    → IsWrittenOf recording records → Adds c j (slice_index_or c.legs j d) records old new
 
 -- ---- the numbers
 -- all markers that were heard at a terminal

@@ -1,10 +1,8 @@
 //! A mixer whose packets are appended to recordings.
-ghost use Rattle.std.specs.Prelude.{◌≡◌, [], length, IfOk};
-ghost use Rattle.mixer_spec.specs.Setups.{setup};
+ghost use Rattle.std.specs.Prelude.{◌≡◌, length, IfOk};
 ghost use Rattle.conf_text.specs.Lines.{conf_of};
 ghost use Rattle.mixer_turn.specs.States.{legs_of};
-ghost use Rattle.mixer_turn.specs.Making.{pts_at};
-ghost use Rattle.bridge_run.specs.Loggers.{LogsFor};
+ghost use Rattle.bridge_run.specs.Loggers.{IsUncalled};
 
 use crate::logging::log_posts;
 use conf_text::Conf;
@@ -25,7 +23,7 @@ impl Logged {
     pub(crate) fn new(alloc: Global, conf: &Conf) -> Result<Logged, NoMemory>
         ensures legs { IfOk result (λ logged. legs_of logged.mixer ≡ length conf.now.legs) }
         ensures turns { IfOk result (λ logged. logged.mixer.turns ≡ 0) }
-        ensures stands { IfOk result (λ logged. LogsFor logged (setup (conf_of conf.now)) (pts_at (conf_of conf.now)) []) }
+        ensures stands { IfOk result (IsUncalled (conf_of conf.now)) }
     {
         let Ok(mixer) = Mixer::new(alloc, conf) else {
             return Err(NoMemory);

@@ -1,7 +1,6 @@
 //! What a turn sends, appended to the recordings.
-ghost use Rattle.std.specs.Prelude.{◌≡◌, ◌<◌, ◌++◌, ℕ, length, OnOk};
-ghost use Rattle.mix_loop.specs.Logs.{out_at};
-ghost use Rattle.bridge_run.specs.Logging.{ArePosts, IsPost, LogsPosts, record_for};
+ghost use Rattle.std.specs.Prelude.{◌≡◌, length, OnOk};
+ghost use Rattle.bridge_run.specs.Logging.{AppendsPost, AppendsPosts};
 
 use mix_loop::Log;
 use mixer_turn::Post;
@@ -9,8 +8,7 @@ use rtt_base::NoMemory;
 
 /// Appends a packet to the recording of its terminal, at `at` in milliseconds.
 fn log_post(at: u32, post: &Post, log: &mut Log) -> Result<(), NoMemory>
-    ensures logged { OnOk result (IsPost (length log.old) post.now → (j : ℕ) → j < length log.old
-        → out_at log.new j ≡ out_at log.old j ++ record_for at j post.now) }
+    ensures logged { OnOk result (AppendsPost at post.now log.old log.new) }
     ensures terminals { length log.new ≡ length log.old }
 {
     if post.packet.is_empty() || post.terminal >= log.terminals() {
@@ -21,7 +19,7 @@ fn log_post(at: u32, post: &Post, log: &mut Log) -> Result<(), NoMemory>
 
 /// Appends the packets of a turn at `at`, in milliseconds, each to the recording of its terminal.
 pub(crate) fn log_posts(at: u32, posts: &[Post], log: &mut Log) -> Result<(), NoMemory>
-    ensures logged { OnOk result (ArePosts (length log.old) posts.now → LogsPosts at posts.now log.old log.new) }
+    ensures logged { OnOk result (AppendsPosts at posts.now log.old log.new) }
     ensures terminals { length log.new ≡ length log.old }
 {
     for post in posts {

@@ -1,23 +1,14 @@
 //! A conference is mixed.
-ghost use Rattle.std.specs.Prelude.{◌≡◌, ◌<◌, ◌≤◌, ℕ, false, Err, List, All, length, slice_get, IfOk, IfErr};
-ghost use Rattle.wire_spec.specs.declared.faults.DumpKind.{DumpKind};
-ghost use Rattle.rtt_io.specs.Counts.{Rose};
-ghost use Rattle.rtpdump_io.specs.declared.items.DumpFault.{DumpFault};
-ghost use Rattle.rtpdump_io.specs.Reading.{is_of_source};
+ghost use Rattle.std.specs.Prelude.{◌≡◌, All, length, IfOk, IfErr};
+ghost use Rattle.rtt_io.specs.Names.{NoneFalls, Same};
 ghost use Rattle.mixer_spec.specs.Setups.{setup};
 ghost use Rattle.mixer_spec.specs.Bridged.{input_limit};
-ghost use Rattle.mixer_spec.specs.Table.{Table};
 ghost use Rattle.conf_text.specs.Lines.{conf_of};
-ghost use Rattle.command_spec.specs.Outcomes.{Same};
-ghost use Rattle.command_spec.specs.Mixing.{views};
-ghost use Rattle.command_spec.specs.Sums.{sums};
-ghost use Rattle.mix_loop.specs.declared.ports.Port.{Port};
-ghost use Rattle.leg_items.specs.declared.inlets.LegInlet.{LegInlet};
-ghost use Rattle.leg_items.specs.Answers.{AllAsked, AllStayAs, AreNew, source_at};
+ghost use Rattle.leg_items.specs.Answers.{AllStayAs, AreNew};
 ghost use Rattle.played.specs.Written.{IsWritten};
-ghost use Rattle.bridge_run.specs.Answered.{AreKept, IsOfLegs, MixesTo, asked_of, broken_leg};
-ghost use Rattle.bridge_run.specs.Mixes.{IsMade, RoseAt, Stops, counted};
-ghost use Rattle.bridge_run.specs.Viewed.{AreSent};
+ghost use Rattle.bridge_run.specs.Answered.{AreKept, HasOutputs, IsOfLegs, MixesAsked, MixesTo, NoReadFailed, broken_leg};
+ghost use Rattle.bridge_run.specs.Mixes.{IsMade, StopsIn, counted};
+ghost use Rattle.bridge_run.specs.Viewed.{AreSumsOf, AreViewsOf};
 
 use crate::loggers::Logged;
 use crate::ports::{close_ports, close_ports_after_fault, held_ports, open_ports};
@@ -51,8 +42,8 @@ fn input_limit(conf: &Conf) -> u32
 fn made(alloc: Global, conf: &Conf, log: Log) -> Result<Mixed, MixFault>
     requires legs { length log ≡ length conf.now.legs }
     requires written { All IsWritten log }
-    ensures views { IfOk result (λ mixed. (table : Table) → AreSent (conf_of conf.now) table log → mixed.views ≡ views (conf_of conf.now) table) }
-    ensures sums { IfOk result (λ mixed. (table : Table) → AreSent (conf_of conf.now) table log → counted mixed ≡ sums (conf_of conf.now) table) }
+    ensures views { IfOk result (λ mixed. AreViewsOf (conf_of conf.now) log mixed.views) }
+    ensures sums { IfOk result (λ mixed. AreSumsOf (conf_of conf.now) log (counted mixed)) }
     ensures outs { IfOk result (λ mixed. mixed.outs.items ≡ log) }
     ensures fault { IfErr result (λ fault. fault ≡ MixFault.NoMemory) }
 {
@@ -93,9 +84,8 @@ fn mix_opened<S: Source + Send, R: Threads + Wait + Sync, G: Gate + Sync>(
     requires legs { length ports.items ≡ length conf.now.legs }
     requires new { AreNew ports.items }
     requires stays { AllStayAs (setup (conf_of conf.now)) ports.items }
-    ensures mixes { S.tells → (inputs : List (List ℕ)) → length inputs ≡ length conf.now.legs
-        → AllAsked S.left (asked_of (conf_of conf.now) inputs) ports.items → MixesTo (conf_of conf.now) inputs result.mixed }
-    ensures outs { IfOk result.mixed (λ mixed. length mixed.outs.items ≡ length conf.now.legs) }
+    ensures mixes { S.tells → MixesAsked S.left (conf_of conf.now) ports.items result.mixed }
+    ensures outs { IfOk result.mixed (HasOutputs (length conf.now.legs)) }
     ensures sources { AreKept S.faults S.name result.mixed ports.items result.ports.items }
     ensures leg { IsOfLegs (length conf.now.legs) result.mixed }
     ensures legs { length result.ports.items ≡ length ports.items }
@@ -161,8 +151,8 @@ pub fn mix_held<R: Threads + Wait + Sync, G: Gate + Sync>(
 ) -> Result<Mixed, MixFault>
     requires { length inputs.items ≡ length conf.now.legs }
     ensures mixes { MixesTo (conf_of conf.now) inputs.items result }
-    ensures read { (leg : ℕ) (fault : DumpFault) → result ≡ Err (MixFault.Dump leg fault) → is_of_source fault.kind ≡ false }
-    ensures outs { IfOk result (λ mixed. length mixed.outs.items ≡ length conf.now.legs) }
+    ensures read { NoReadFailed result }
+    ensures outs { IfOk result (HasOutputs (length conf.now.legs)) }
 {
     let limit = input_limit(conf);
     let Ok(ports) = held_ports(alloc, conf.legs.as_slice(), conf.wait, limit, inputs) else {
@@ -182,12 +172,12 @@ pub fn mix<R: Threads + Wait + Sync, W: World, G: Gate + Sync>(
     gate: &G,
 ) -> Result<Mixed, MixFault>
     ensures made { W.tells → IfOk result (IsMade (W.contents world.old) (conf_of conf.now)) }
-    ensures outs { IfOk result (λ mixed. length mixed.outs.items ≡ length conf.now.legs) }
-    ensures stops { IfErr result (Stops W.tells (RoseAt (W.own_faults world.old) (W.own_faults world.new))
-        (RoseAt (W.object_faults world.old) (W.object_faults world.new)) (W.contents world.old) (conf_of conf.now)) }
-    ensures same_contents { W.tells → Same (W.contents world.old) (W.contents world.new) }
-    ensures calls_never_fall { (n : List ℕ) → W.own_faults world.old n ≤ W.own_faults world.new n }
-    ensures objects_never_fall { (n : List ℕ) → W.object_faults world.old n ≤ W.object_faults world.new n }
+    ensures outs { IfOk result (HasOutputs (length conf.now.legs)) }
+    ensures stops { IfErr result (StopsIn W.tells W.contents W.own_faults W.object_faults
+        world.old world.new (conf_of conf.now)) }
+    ensures same_contents { W.tells → Same W.contents world.old world.new }
+    ensures calls_never_fall { NoneFalls W.own_faults world.old world.new }
+    ensures objects_never_fall { NoneFalls W.object_faults world.old world.new }
 {
     let legs = conf.legs.as_slice();
     let limit = input_limit(conf);

@@ -1,10 +1,8 @@
 //! The inputs of all legs.
-ghost use Rattle.std.specs.Prelude.{◌≡◌, ◌≤◌, ◌<◌, ℕ, Some, List, length, slice_get, IfOk, IfErr, OnOk};
-ghost use Rattle.rtt_io.specs.Counts.{Rose};
-ghost use Rattle.mix_loop.specs.declared.ports.Port.{Port};
-ghost use Rattle.leg_items.specs.declared.inlets.LegInlet.{LegInlet};
+ghost use Rattle.std.specs.Prelude.{◌≡◌, ◌≤◌, ◌<◌, length, IfOk, IfErr, OnOk};
+ghost use Rattle.rtt_io.specs.Names.{NoneFalls, Same};
 ghost use Rattle.leg_items.specs.Answers.{source_at};
-ghost use Rattle.bridge_run.specs.Opened.{AllOpened, AllOver, AreCalm, IsNotOpened, IsOpened, IsOver, IsRefused};
+ghost use Rattle.bridge_run.specs.Opened.{AreCalm, AreHeld, AreOpened, FaultRose, IsOpened, IsOver, Unopened, RefusedIn};
 ghost use Rattle.rtt_base.specs.declared.limits.TheConstants.{LONGEST_WAIT};
 ghost use Rattle.wire_spec.specs.declared.limits.TheConstants.{MOST_RECORDING_OCTETS};
 
@@ -56,13 +54,14 @@ fn open_port<W: World>(
 ) -> Result<Port<LegInlet<W::Src>>, MixFault>
     requires wait { wait ≤ LONGEST_WAIT }
     requires limit { limit ≤ MOST_RECORDING_OCTETS }
-    ensures opened { IfOk result (IsOpened W.tells W.Src.left W.Src.faults W.Src.name (W.contents world.old) wait limit place leg.now) }
+    ensures opened { IfOk result (IsOpened W.tells W.Src.left W.Src.faults W.Src.name
+        (W.contents world.old) wait limit place leg.now) }
     ensures shown { W.tells → OnOk result W.Src.tells }
-    ensures refused { IfErr result (IsRefused (W.own_faults world.old) (W.own_faults world.new) place leg.now) }
-    ensures own_never_falls { (n : List ℕ) → W.own_faults world.old n ≤ W.own_faults world.new n }
-    ensures calm { IfOk result (λ _. (n : List ℕ) → W.own_faults world.new n ≡ W.own_faults world.old n) }
-    ensures same_objects { (n : List ℕ) → W.object_faults world.new n ≡ W.object_faults world.old n }
-    ensures same_contents { W.tells → (n : List ℕ) → W.contents world.new n ≡ W.contents world.old n }
+    ensures refused { IfErr result (RefusedIn W.own_faults world.old world.new place leg.now) }
+    ensures own_never_falls { NoneFalls W.own_faults world.old world.new }
+    ensures calm { OnOk result (Same W.own_faults world.old world.new) }
+    ensures same_objects { Same W.object_faults world.old world.new }
+    ensures same_contents { W.tells → Same W.contents world.old world.new }
 {
     let Ok(source) = world.open_source(leg.input.as_str()) else {
         return Err(MixFault::Open { leg: place });
@@ -89,13 +88,14 @@ pub fn open_ports<W: World>(
     requires wait { wait ≤ LONGEST_WAIT }
     requires limit { limit ≤ MOST_RECORDING_OCTETS }
     ensures legs { IfOk result (λ ports. length ports.items ≡ length legs.now) }
-    ensures opened { IfOk result (λ ports. AllOpened W.tells W.Src.left W.Src.faults W.Src.name (W.contents world.old) wait limit legs.now ports.items) }
+    ensures opened { IfOk result (AreOpened W.tells W.Src.left W.Src.faults W.Src.name
+        (W.contents world.old) wait limit legs.now) }
     ensures shown { W.tells → OnOk result (0 < length legs.now → W.Src.tells) }
-    ensures refused { IfErr result (IsNotOpened W.tells (W.contents world.old) (W.own_faults world.old) (W.own_faults world.new) legs.now) }
-    ensures own_never_falls { (n : List ℕ) → W.own_faults world.old n ≤ W.own_faults world.new n }
-    ensures calm { IfOk result (λ _. (n : List ℕ) → W.own_faults world.new n ≡ W.own_faults world.old n) }
-    ensures same_objects { (n : List ℕ) → W.object_faults world.new n ≡ W.object_faults world.old n }
-    ensures same_contents { W.tells → (n : List ℕ) → W.contents world.new n ≡ W.contents world.old n }
+    ensures refused { IfErr result (Unopened W.tells W.contents W.own_faults world.old world.new legs.now) }
+    ensures own_never_falls { NoneFalls W.own_faults world.old world.new }
+    ensures calm { OnOk result (Same W.own_faults world.old world.new) }
+    ensures same_objects { Same W.object_faults world.old world.new }
+    ensures same_contents { W.tells → Same W.contents world.old world.new }
 {
     let Ok(mut ports) = Vec::with_capacity(alloc, legs.len()) else {
         return Err(MixFault::NoMemory);
@@ -125,7 +125,7 @@ pub fn held_ports(
     requires wait { wait ≤ LONGEST_WAIT }
     requires limit { limit ≤ MOST_RECORDING_OCTETS }
     ensures legs { IfOk result (λ ports. length ports.items ≡ length legs.now) }
-    ensures over { IfOk result (λ ports. AllOver ⟦<SteadySource as Source>⟧.tells ⟦<SteadySource as Source>⟧.left wait limit legs.now inputs.items ports.items) }
+    ensures over { IfOk result (AreHeld wait limit legs.now inputs.items) }
 {
     let mut ports = Vec::with_capacity(alloc, legs.len())?;
     for octets in inputs {
@@ -141,10 +141,10 @@ pub fn held_ports(
 
 /// Hands back the sources of all ports.
 pub fn close_ports<W: World>(ports: Vec<Port<LegInlet<W::Src>>>, world: &mut W)
-    ensures same_own { (n : List ℕ) → W.own_faults world.new n ≡ W.own_faults world.old n }
-    ensures objects_never_fall { (n : List ℕ) → W.object_faults world.old n ≤ W.object_faults world.new n }
-    ensures calm { AreCalm W.Src.faults ports.items → (n : List ℕ) → W.object_faults world.new n ≡ W.object_faults world.old n }
-    ensures same_contents { W.tells → (n : List ℕ) → W.contents world.new n ≡ W.contents world.old n }
+    ensures same_own { Same W.own_faults world.old world.new }
+    ensures objects_never_fall { NoneFalls W.object_faults world.old world.new }
+    ensures calm { AreCalm W.Src.faults ports.items → Same W.object_faults world.old world.new }
+    ensures same_contents { W.tells → Same W.contents world.old world.new }
 {
     let mut ports = ports;
     while let Some(port) = ports.pop() {
@@ -161,11 +161,10 @@ pub fn close_ports_after_fault<W: World>(
     world: &mut W,
 )
     requires { leg < length ports.items }
-    ensures same_own { (n : List ℕ) → W.own_faults world.new n ≡ W.own_faults world.old n }
-    ensures objects_never_fall { (n : List ℕ) → W.object_faults world.old n ≤ W.object_faults world.new n }
-    ensures failed { (p : Port (LegInlet W.Src)) → slice_get ports.items leg ≡ Some p → Rose 0 (W.Src.faults (source_at p))
-        → Rose (W.object_faults world.old (W.Src.name (source_at p))) (W.object_faults world.new (W.Src.name (source_at p))) }
-    ensures same_contents { W.tells → (n : List ℕ) → W.contents world.new n ≡ W.contents world.old n }
+    ensures same_own { Same W.own_faults world.old world.new }
+    ensures objects_never_fall { NoneFalls W.object_faults world.old world.new }
+    ensures failed { FaultRose W.Src.faults W.Src.name W.object_faults ports.items leg world.old world.new }
+    ensures same_contents { W.tells → Same W.contents world.old world.new }
 {
     let mut ports = ports;
     let port = ports.swap_remove(leg);

@@ -1,6 +1,6 @@
 //! Plain mixing of recordings that are read on threads, or by the caller.
-ghost use Rattle.std.specs.Prelude.{◌≡◌, ◌≤◌, length, vec_len};
-ghost use Rattle.leg_items.specs.Answers.{AreNew, PlainMixes};
+ghost use Rattle.std.specs.Prelude.{◌≡◌, length, vec_len};
+ghost use Rattle.leg_lanes.specs.Running.{CanMix, RanPlain};
 
 use leg_items::{LegInlet, mix_plain};
 use leg_lanes::{Ran, mix_running};
@@ -32,17 +32,10 @@ pub(crate) fn mix_read<S: Source + Send, M: Mixes, R: Threads + Wait + Sync, G: 
     turns: u64,
     log: Log,
 ) -> Ran<S, M>
-    requires few { vec_len ports ≤ 64 }
-    requires new { AreNew ports.items }
-    requires legs { M.legs mixer ≡ vec_len ports }
-    requires terminals { length log ≡ vec_len ports }
-    requires none { M.turns mixer ≡ 0 }
-    requires turns { turns ≤ 5000000 }
-    requires tick { tick ≤ 400 }
+    requires { CanMix M.legs M.turns ports mixer tick turns log }
     ensures legs { vec_len result.ports ≡ vec_len ports }
     ensures terminals { length result.log ≡ length log }
-    ensures mixed { PlainMixes M.stands S.tells S.left S.faults S.name tick turns result.mixing
-        ports.items result.ports.items mixer result.mixer log result.log }
+    ensures mixed { RanPlain M.stands S.tells S.left S.faults S.name tick turns ports mixer log result }
 {
     match readers {
         Readers::Threads => mix_running(rt, alloc, gate, ports, mixer, tick, turns, log),

@@ -1,13 +1,9 @@
 //! What is seen at the terminals of a conference.
-ghost use Rattle.std.specs.Prelude.{◌≡◌, ℕ, ◌+◌, ◌^◌, ◌<◌, List, [], ◌++◌, length, map, remove, slice_index_or, false, true, IsTrue, All, IfOk, OnOk};
-ghost use Rattle.file_spec.specs.declared.conf_lines.LegLine.{LegLine};
+ghost use Rattle.std.specs.Prelude.{◌≡◌, ℕ, ◌+◌, ◌^◌, ◌<◌, ◌++◌, length, remove, false, true, IsTrue, All, IfOk, OnOk};
 ghost use Rattle.file_spec.specs.Conf.{is_name};
-ghost use Rattle.mixer_spec.specs.Table.{Table};
 ghost use Rattle.conf_text.specs.Lines.{conf_of};
-ghost use Rattle.command_spec.specs.Mixing.{views};
-ghost use Rattle.command_spec.specs.Sums.{sums};
-ghost use Rattle.played.specs.Written.{IsWritten, IsWrittenOf};
-ghost use Rattle.bridge_run.specs.Viewed.{Adds, AreNamed, AreOf, AreSent, AddsCounts, HasFew, marks_of, summed};
+ghost use Rattle.played.specs.Written.{IsWritten};
+ghost use Rattle.bridge_run.specs.Viewed.{AddsCounts, AddsSent, AddsSentTo, AreNamed, AreOf, AreSumsOf, AreViewsOf, HasFew, marks_of, names_of, ssrcs_of, summed, terminal_conf};
 
 use conf_text::{Conf, LegLine};
 use played::played;
@@ -53,8 +49,8 @@ fn push_speakers(
     names: &mut Vec<Name>,
 ) -> Result<(), NoMemory>
     requires { AreNamed legs.now }
-    ensures sources { OnOk result (sources.new.items ≡ sources.old.items ++ map (λ leg. leg.ssrc) legs.now) }
-    ensures names { OnOk result (names.new.items ≡ names.old.items ++ map (λ leg. leg.name) legs.now) }
+    ensures sources { OnOk result (sources.new.items ≡ sources.old.items ++ ssrcs_of legs.now) }
+    ensures names { OnOk result (names.new.items ≡ names.old.items ++ names_of legs.now) }
 {
     for leg in legs {
         sources.push(leg.ssrc)?;
@@ -67,8 +63,8 @@ fn push_speakers(
 fn others(alloc: Global, legs: &[LegLine], own: usize) -> Result<Speakers, NoMemory>
     requires own { own < length legs.now }
     requires named { AreNamed legs.now }
-    ensures sources { IfOk result (λ speakers. speakers.sources.items ≡ map (λ leg. leg.ssrc) (remove legs.now own)) }
-    ensures names { IfOk result (λ speakers. speakers.names.items ≡ map (λ leg. leg.name) (remove legs.now own)) }
+    ensures sources { IfOk result (λ speakers. speakers.sources.items ≡ ssrcs_of (remove legs.now own)) }
+    ensures names { IfOk result (λ speakers. speakers.names.items ≡ names_of (remove legs.now own)) }
 {
     let mut sources = Vec::with_capacity(alloc, legs.len())?;
     let mut names = Vec::with_capacity(alloc, legs.len())?;
@@ -79,7 +75,7 @@ fn others(alloc: Global, legs: &[LegLine], own: usize) -> Result<Speakers, NoMem
 
 /// What the terminal of a leg hears.
 fn conf_at(conf: &Conf, leg: &LegLine) -> TermConf
-    ensures { result ≡ record { ssrc = conf.now.mixer.ssrc; pts = leg.now.pts; wait = conf.now.wait } }
+    ensures { result ≡ terminal_conf (conf_of conf.now) leg.now }
 {
     TermConf {
         ssrc: conf.mixer.ssrc,
@@ -124,7 +120,7 @@ fn append_aware(
     requires own { own < length conf.now.legs }
     requires written { IsWritten recording.now }
     requires before { AreOf own seen.old }
-    ensures adds { OnOk result ((records : List (ℕ × List ℕ)) (d : LegLine) → (slice_index_or conf.now.legs own d).aware ≡ true → IsWrittenOf recording.now records → Adds (conf_of conf.now) own (slice_index_or conf.now.legs own d) records seen.old seen.new) }
+    ensures adds { OnOk result (AddsSentTo true (conf_of conf.now) own recording.now seen.old seen.new) }
     ensures with_it { OnOk result (AreOf (own + 1) seen.new) }
 {
     let leg = &conf.legs.as_slice()[own];
@@ -153,7 +149,7 @@ fn append_unaware(
     requires own { own < length conf.now.legs }
     requires written { IsWritten recording.now }
     requires before { AreOf own seen.old }
-    ensures adds { OnOk result ((records : List (ℕ × List ℕ)) (d : LegLine) → (slice_index_or conf.now.legs own d).aware ≡ false → IsWrittenOf recording.now records → Adds (conf_of conf.now) own (slice_index_or conf.now.legs own d) records seen.old seen.new) }
+    ensures adds { OnOk result (AddsSentTo false (conf_of conf.now) own recording.now seen.old seen.new) }
     ensures with_it { OnOk result (AreOf (own + 1) seen.new) }
 {
     let leg = &conf.legs.as_slice()[own];
@@ -181,7 +177,7 @@ fn append_view(
     requires own { own < length conf.now.legs }
     requires written { IsWritten recording.now }
     requires before { AreOf own seen.old }
-    ensures adds { OnOk result ((records : List (ℕ × List ℕ)) (d : LegLine) → IsWrittenOf recording.now records → Adds (conf_of conf.now) own (slice_index_or conf.now.legs own d) records seen.old seen.new) }
+    ensures adds { OnOk result (AddsSent (conf_of conf.now) own recording.now seen.old seen.new) }
     ensures with_it { OnOk result (AreOf (own + 1) seen.new) }
 {
     if conf.legs.as_slice()[own].aware {
@@ -195,8 +191,8 @@ fn append_view(
 pub fn views_of(alloc: Global, conf: &Conf, outs: &[Bytes]) -> Result<Seen, NoMemory>
     requires each { length outs.now ≡ length conf.now.legs }
     requires written { All (λ out. IsWritten out) outs.now }
-    ensures views { IfOk result (λ seen. (table : Table) → AreSent (conf_of conf.now) table outs.now → seen.views ≡ views (conf_of conf.now) table) }
-    ensures sums { IfOk result (λ seen. (table : Table) → AreSent (conf_of conf.now) table outs.now → summed seen ≡ sums (conf_of conf.now) table) }
+    ensures views { IfOk result (λ seen. AreViewsOf (conf_of conf.now) outs.now seen.views) }
+    ensures sums { IfOk result (λ seen. AreSumsOf (conf_of conf.now) outs.now (summed seen)) }
 {
     let mut seen = Seen {
         views: Bytes::new(alloc),

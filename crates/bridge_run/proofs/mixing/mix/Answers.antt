@@ -1,9 +1,9 @@
-use Rattle.std.proofs.Common.{◌≡◌, ℕ, ◌<◌, Some, List, length, ap, sym, subst, ◌∙◌, arith}
+use Rattle.std.proofs.Common.{◌<◌, List, length, ap, sym, subst, ◌∙◌, arith}
 use Rattle.rtt_io.specs.Counts.{Rose}
 use Rattle.file_spec.specs.declared.conf_lines.LegLine.{LegLine}
 use Rattle.conf_text.specs.Lines.{conf_of}
-use Rattle.leg_items.specs.Answers.{AllAsked, source_at}
-use Rattle.bridge_run.specs.Answered.{MixesTo, asked_of}
+use Rattle.leg_items.specs.Answers.{source_at}
+use Rattle.bridge_run.specs.Answered.{MixesAsked}
 use Rattle.bridge_run.specs.Mixes.{RoseAt}
 use Rattle.bridge_run.specs.Opened.{AllOpened}
 use Rattle.bridge_run.proofs.Handing.{all_stay, are_new, is_made, stops_broken, stops_unbroken, within_legs}
@@ -42,9 +42,8 @@ returns-in-Some-clause-stops g c =
     let opened = subst (λ l. AllOpened g.W.World.tells g.W.Src.Source.left g.W.Src.Source.faults g.W.Src.Source.name held conf.wait l conf.legs c.in-Ok.ports.items) c.input_limit-limit.ensures
     (subst (λ (xs : List LegLine). AllOpened g.W.World.tells g.W.Src.Source.left g.W.Src.Source.faults g.W.Src.Source.name held conf.wait c.input_limit-limit.result xs c.in-Ok.ports.items) c.as_slice-legs.ensures c.in-Ok.ensures.opened) in
     let some : 0 < length c.as_slice-legs.result.now = omega (arith, c.args.conf.now.kept.two, ap (λ (xs : List LegLine). length xs) c.as_slice-legs.ensures) in
-    let mixes : g.W.World.tells → (inputs : List (List ℕ)) → length inputs ≡ length conf.legs → AllAsked g.W.Src.Source.left (asked_of conf inputs) c.in-Ok.ports.items → MixesTo conf inputs c.mix_opened-mixed.result.mixed =
-    λ told inputs count asks. c.mix_opened-mixed.ensures.mixes (c.in-Ok.ensures.shown told some) inputs count
-    asks in
+    let mixes : g.W.World.tells → MixesAsked g.W.Src.Source.left conf c.in-Ok.ports.items c.mix_opened-mixed.result.mixed =
+    λ told. c.mix_opened-mixed.ensures.mixes (c.in-Ok.ensures.shown told some) in
     let legs = c.mix_opened-mixed.ensures.legs in
     stops_broken g.W.World.tells g.W.Src.Source.left g.W.Src.Source.faults g.W.Src.Source.name held conf c.in-Ok.ports.items many opened c.mix_opened-mixed.result.mixed mixes
     (RoseAt (g.W.World.own_faults c.args.world.now) (g.W.World.own_faults c.close_ports_after_fault.new.world))
@@ -63,9 +62,8 @@ returns-in-None-clause-made g c =
     let opened = subst (λ l. AllOpened g.W.World.tells g.W.Src.Source.left g.W.Src.Source.faults g.W.Src.Source.name held conf.wait l conf.legs c.in-Ok.ports.items) c.input_limit-limit.ensures
     (subst (λ (xs : List LegLine). AllOpened g.W.World.tells g.W.Src.Source.left g.W.Src.Source.faults g.W.Src.Source.name held conf.wait c.input_limit-limit.result xs c.in-Ok.ports.items) c.as_slice-legs.ensures c.in-Ok.ensures.opened) in
     let some : 0 < length c.as_slice-legs.result.now = omega (arith, c.args.conf.now.kept.two, ap (λ (xs : List LegLine). length xs) c.as_slice-legs.ensures) in
-    let mixes : g.W.World.tells → (inputs : List (List ℕ)) → length inputs ≡ length conf.legs → AllAsked g.W.Src.Source.left (asked_of conf inputs) c.in-Ok.ports.items → MixesTo conf inputs c.mix_opened-mixed.result.mixed =
-    λ told inputs count asks. c.mix_opened-mixed.ensures.mixes (c.in-Ok.ensures.shown told some) inputs count
-    asks in
+    let mixes : g.W.World.tells → MixesAsked g.W.Src.Source.left conf c.in-Ok.ports.items c.mix_opened-mixed.result.mixed =
+    λ told. c.mix_opened-mixed.ensures.mixes (c.in-Ok.ensures.shown told some) in
     is_made g.W.World.tells g.W.Src.Source.left g.W.Src.Source.faults g.W.Src.Source.name held conf c.in-Ok.ports.items many opened c.mix_opened-mixed.result.mixed mixes
 
 pub returns-in-None-clause-stops : goal.returns-in-None-clause-stops
@@ -76,9 +74,8 @@ returns-in-None-clause-stops g c =
     let opened = subst (λ l. AllOpened g.W.World.tells g.W.Src.Source.left g.W.Src.Source.faults g.W.Src.Source.name held conf.wait l conf.legs c.in-Ok.ports.items) c.input_limit-limit.ensures
     (subst (λ (xs : List LegLine). AllOpened g.W.World.tells g.W.Src.Source.left g.W.Src.Source.faults g.W.Src.Source.name held conf.wait c.input_limit-limit.result xs c.in-Ok.ports.items) c.as_slice-legs.ensures c.in-Ok.ensures.opened) in
     let some : 0 < length c.as_slice-legs.result.now = omega (arith, c.args.conf.now.kept.two, ap (λ (xs : List LegLine). length xs) c.as_slice-legs.ensures) in
-    let mixes : g.W.World.tells → (inputs : List (List ℕ)) → length inputs ≡ length conf.legs → AllAsked g.W.Src.Source.left (asked_of conf inputs) c.in-Ok.ports.items → MixesTo conf inputs c.mix_opened-mixed.result.mixed =
-    λ told inputs count asks. c.mix_opened-mixed.ensures.mixes (c.in-Ok.ensures.shown told some) inputs count
-    asks in
+    let mixes : g.W.World.tells → MixesAsked g.W.Src.Source.left conf c.in-Ok.ports.items c.mix_opened-mixed.result.mixed =
+    λ told. c.mix_opened-mixed.ensures.mixes (c.in-Ok.ensures.shown told some) in
     stops_unbroken g.W.World.tells g.W.Src.Source.left g.W.Src.Source.faults g.W.Src.Source.name held conf c.in-Ok.ports.items many opened c.mix_opened-mixed.result.mixed mixes
     (RoseAt (g.W.World.own_faults c.args.world.now) (g.W.World.own_faults c.close_ports.new.world))
     (RoseAt (g.W.World.object_faults c.args.world.now) (g.W.World.object_faults c.close_ports.new.world)) c.mix_opened-mixed.ensures.leg (sym c.broken_leg.ensures ∙ c.in-None.is)

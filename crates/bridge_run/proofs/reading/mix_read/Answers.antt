@@ -9,6 +9,18 @@ pub mix_plain-mixing-requires-clause-new : goal.mix_plain-mixing-requires-clause
 mix_plain-mixing-requires-clause-new g c =
     subst (λ (ps : List (Port (LegInlet g.row.S.Denot))). AreNew ps) (sym c.as_mut_slice.ensures.value) c.requires.new
 
+pub mix_plain-mixing-requires-clause-few : goal.mix_plain-mixing-requires-clause-few
+mix_plain-mixing-requires-clause-few g c =
+    let is = ap (λ (l : List (Port (LegInlet g.row.S.Denot))). length l) c.as_mut_slice.ensures.value in omega (arith, is, c.requires.few, c.args.ports.ok.0)
+
+pub mix_plain-mixing-requires-clause-legs : goal.mix_plain-mixing-requires-clause-legs
+mix_plain-mixing-requires-clause-legs g c =
+    let is = ap (λ (l : List (Port (LegInlet g.row.S.Denot))). length l) c.as_mut_slice.ensures.value in omega (arith, is, c.requires.legs, c.args.ports.ok.0)
+
+pub mix_plain-mixing-requires-clause-terminals : goal.mix_plain-mixing-requires-clause-terminals
+mix_plain-mixing-requires-clause-terminals g c =
+    let is = ap (λ (l : List (Port (LegInlet g.row.S.Denot))). length l) c.as_mut_slice.ensures.value in omega (arith, is, c.requires.terminals, c.args.ports.ok.0)
+
 pub returns-in-Caller-clause-mixed : goal.returns-in-Caller-clause-mixed
 returns-in-Caller-clause-mixed g c =
     let is = ap (λ (l : List (Port (LegInlet g.row.S.Denot))). length l) c.as_mut_slice.ensures.value in
