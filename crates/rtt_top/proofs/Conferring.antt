@@ -1,6 +1,6 @@
 -- A conference that is read.
-use Rattle.std.proofs.Common.{◌≡◌, ℕ, ◌+◌, ◌<◌, ◌≤◌, true, false, cond, Option, Some, None, List, [], ◌∷◌, ◌++◌, length, length-append, Result, Ok, Err, refl, ap, sym, subst, ◌∙◌, inl, inr, arith}
-use Rattle.std.specs.Prelude.{◌⊎◌, nat_lt}
+use Rattle.std.proofs.Common.{◌≡◌, ℕ, ◌+◌, ◌<◌, true, cond, Option, Some, List, length, length-append, Ok, Err, refl, ap, sym, ◌∙◌, inl, inr, arith}
+use Rattle.std.specs.Prelude.{nat_lt}
 use Rattle.std.proofs.lemmas.Bool.Decides.{nat_tests}
 use Rattle.std.specs.Str.Lines.{lines}
 use Rattle.rtt_base.specs.Steps.{◌>>=◌}
@@ -11,7 +11,7 @@ use Rattle.file_spec.specs.Lines.{Refusal, told, at_line, read_lines}
 use Rattle.file_spec.specs.Conf.{Conf, and_line, complete, conf, is_blank, nothing}
 use Rattle.command_spec.specs.declared.faults.Refusal.TheVariants.{AtLine}
 use Rattle.command_spec.specs.declared.faults.Fault.TheVariants.{Refused}
-use Rattle.command_spec.specs.Work.{Contents, Reads, Refuses}
+use Rattle.command_spec.specs.Work.{Contents}
 use Rattle.command_spec.specs.Outcomes.{outcome_from}
 use Rattle.command_spec.specs.Mixing.{mixes_read, mixing}
 use Rattle.rtt_top.specs.Files.{IsFrontOf}

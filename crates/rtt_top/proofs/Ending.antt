@@ -1,6 +1,5 @@
 -- What a run is, from how its command ends.
-use Rattle.std.proofs.Common.{◌≡◌, ℕ, true, Option, Some, None, List, [], ◌∷◌, ◌++◌, Result, Ok, Err, refl, ap, sym, subst, ◌∙◌, inl, inr, arith}
-use Rattle.std.specs.Prelude.{◌⊎◌}
+use Rattle.std.proofs.Common.{◌≡◌, ℕ, Option, Some, None, List, [], ◌++◌, Ok, Err, refl, ap, sym, subst, ◌∙◌, inl, inr}
 use Rattle.wire_spec.specs.Dump.{dump, usual_limit}
 use Rattle.wire_spec.specs.Dump as dumps
 use Rattle.stream_spec.specs.History.{History, Lawful, Come}
@@ -14,7 +13,7 @@ use Rattle.command_spec.specs.Reading.{arrivals_of, read_view, history_view}
 use Rattle.command_spec.specs.Commands.{request_of, unless_broken, work}
 use Rattle.command_spec.specs.Messages.{Ending, ending_of, status_of, message_of}
 use Rattle.rtt_top.specs.Outside.{Outside, Output, Failed}
-use Rattle.rtt_top.specs.Runs.{Prints, Unchanged, Ends, IsCalm, IsAsWorked, IsOfWords, IsViewOf, IsHeadline, Runs}
+use Rattle.rtt_top.specs.Runs.{Prints, Ends, IsCalm, IsAsWorked, IsOfWords, IsHeadline, Runs}
 use Rattle.command_spec.specs.Mixing.{mixing}
 use Rattle.command_spec.proofs.Headlines.{bridged}
 use Rattle.command_spec.proofs.Views.{same_view}

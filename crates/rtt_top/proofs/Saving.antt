@@ -6,7 +6,7 @@ use Rattle.file_spec.specs.declared.conf_lines.LegLine.{LegLine}
 use Rattle.command_spec.specs.declared.faults.Fault.{Fault}
 use Rattle.command_spec.specs.declared.faults.Fault.TheVariants.{CannotWrite}
 use Rattle.command_spec.specs.Work.{Contents, Made, IsNth}
-use Rattle.command_spec.specs.Outcomes.{Same, Stores, AllStored}
+use Rattle.command_spec.specs.Outcomes.{Stores, AllStored}
 use Rattle.rtt_top.specs.Files.{IsPartlyStored}
 use Rattle.rtt_top.specs.Runs.{PartlyStored}
 use Rattle.bridge_run.specs.Mixes.{outputs_of}

@@ -1,31 +1,28 @@
 -- A script that is sent.
-use Rattle.std.proofs.Common.{◌≡◌, ℕ, ◌+◌, ◌<◌, ◌≤◌, true, false, cond, Option, Some, None, List, [], ◌∷◌, ◌++◌, length, length-append, take, Result, Ok, Err, refl, ap, sym, subst, ◌∙◌, inl, inr, arith}
+use Rattle.std.proofs.Common.{◌≡◌, ℕ, ◌<◌, ◌≤◌, true, cond, Option, Some, None, List, [], ◌∷◌, ◌++◌, length, length-append, take, Ok, Err, refl, ap, sym, subst, ◌∙◌, inl, inr, arith}
 use Rattle.std.specs.Prelude.{◌⊎◌, nat_lt, IfErr, OnOk, OnErr}
 use Rattle.std.proofs.lemmas.Bool.Decides.{nat_tests}
 use Rattle.file_spec.specs.declared.kinds.ConfKind.{ConfKind}
 use Rattle.file_spec.specs.declared.kinds.ConfKind.TheVariants.{Full, Large}
 use Rattle.file_spec.specs.Script.{ScriptLine}
-use Rattle.file_spec.specs.Lines as lines
 use Rattle.file_spec.specs.Lines.{read_lines, told, is_comment}
 use Rattle.std.specs.Str.Lines as str
 use Rattle.file_spec.specs.Script.{script, and_line}
 use Rattle.command_spec.specs.Words.{SendWords, Send}
 use Rattle.rtt_io.specs.Counts.{Rose}
-use Rattle.command_spec.specs.declared.faults.Refusal.{Refusal}
 use Rattle.command_spec.specs.declared.faults.Refusal.TheVariants.{AtLine}
 use Rattle.command_spec.specs.declared.faults.Fault.{Fault}
 use Rattle.command_spec.specs.declared.faults.Fault.TheVariants.{Refused, CannotWrite}
 use Rattle.command_spec.specs.Scripts as scripts
-use Rattle.command_spec.specs.Work.{Contents, Made, Steps, Reads, Refuses, Makes, IsInput, IsOutput}
-use Rattle.command_spec.specs.Outcomes.{outcome, outcome_from, Done, IsDone, Same, Stores, AllStored}
-use Rattle.command_spec.specs.Outcomes as outcomes
+use Rattle.command_spec.specs.Work.{Contents, Made, Refuses, Makes, IsOutput}
+use Rattle.command_spec.specs.Outcomes.{outcome, outcome_from, Done, Same, Stores, AllStored}
 use Rattle.command_spec.specs.Commands.{sending_of, sends, unless_full, work}
 use Rattle.command_spec.specs.Messages.{Ending}
 use Rattle.rtt_top.specs.Files.{IsFrontOf, IsPartlyStored}
 use Rattle.rtt_top.specs.Faults.{Stops, name_in}
 use Rattle.rtt_top.specs.Outside.{Outside, Output, CallFailed, ObjectFailed}
-use Rattle.rtt_top.specs.Runs.{PartlyStored, Unchanged, Ends}
-use Rattle.rtt_top.proofs.Counts.{rose_since, rose_before}
+use Rattle.rtt_top.specs.Runs.{PartlyStored, Ends}
+use Rattle.rtt_top.proofs.Counts.{rose_since}
 use Rattle.rtt_top.proofs.Working.{lies, done}
 use Rattle.file_spec.specs.declared.limits.TheConstants.{MOST_SCRIPT_OCTETS}
 

@@ -1,5 +1,5 @@
 -- A source that failed, and was handed back.
-use Rattle.std.proofs.Common.{◌≡◌, ℕ, ◌+◌, ◌<◌, ◌≤◌, List, inl, inr, ap, sym, subst, ◌∙◌, arith}
+use Rattle.std.proofs.Common.{◌≡◌, ℕ, ◌+◌, List, inl, inr, ap, subst, ◌∙◌, arith}
 use Rattle.std.proofs.lemmas.Bool.{cases_lt}
 use Rattle.rtt_io.specs.Counts.{Rose, counted, last_count}
 use Rattle.command_spec.specs.declared.faults.Fault.{Fault}

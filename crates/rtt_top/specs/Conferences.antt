@@ -1,8 +1,10 @@
 -- The faults of a mixing, and the names of the files that they are about.
-use Rattle.std.specs.Prelude.{ℕ, zero, suc, ◌+◌, true, false, Option, None, Some, List, Result, Ok, Err, if◌then◌else◌}
+use Rattle.std.specs.Prelude.{◌≡◌, ℕ, zero, suc, ◌+◌, true, Option, None, Some, List, Ok, Err, if◌then◌else◌}
 use Rattle.rtpdump_io.specs.declared.items.DumpFault.{DumpFault}
 use Rattle.rtpdump_io.specs.Reading.{is_of_source}
+use Rattle.file_spec.specs.declared.conf_lines.Form.TheVariants.{Files}
 use Rattle.file_spec.specs.declared.conf_lines.LegLine.{LegLine}
+use Rattle.file_spec.specs.Conf.{Conf, conf}
 use Rattle.mixer_spec.specs.Setups.{leg_at}
 use Rattle.command_spec.specs.declared.faults.Refusal.TheVariants.{AtByte, AfterTurns}
 use Rattle.command_spec.specs.declared.faults.Fault.{Fault}
@@ -10,6 +12,8 @@ use Rattle.command_spec.specs.declared.faults.Fault.TheVariants.{WrongWords, Can
 use Rattle.command_spec.specs.Messages.{Ending}
 use Rattle.command_spec.specs.Work.{Work}
 use Rattle.command_spec.specs.Mixing.{mixing}
+use Rattle.rtt_top.specs.Outside.{Outside}
+use Rattle.rtt_top.specs.Runs.{Ends}
 use Rattle.bridge_run.specs.declared.mixed.MixFault.{MixFault}
 use Rattle.bridge_run.specs.declared.mixed.MixFault.TheVariants.{Open, Dump, TooLong}
 use Rattle.bridge_run.specs.declared.mixed.MixFault.TheVariants as mix
@@ -57,3 +61,9 @@ ending_name file legs (Err fault) = fault_name file legs fault
 -- the conference in this file is mixed
 abbrev pub mixing_work : List ℕ → Work
 mixing_work file = record { prints = true; steps = mixing file }
+
+-- mixing ends so where the file of any name has this conference
+abbrev pub MixingEnds : (Told Shown : Type 0) → Outside → Outside → Conf → Ending → Type 0
+MixingEnds Told Shown old new c ending =
+    (file octets : List ℕ) → (Told → old.contents file ≡ Some octets) → conf Files octets ≡ Ok c
+    → Ends (mixing_work file) Told Shown old new (ending_name file c.legs ending) ending

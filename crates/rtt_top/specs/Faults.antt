@@ -1,5 +1,6 @@
 -- Why a command stops before it makes anything.
 use Rattle.std.specs.Prelude.{◌≡◌, ℕ, Option, Some, List, Err}
+use Rattle.wire_spec.specs.Dump.{Recording}
 use Rattle.wire_spec.specs.Dump as dumps
 use Rattle.command_spec.specs.declared.faults.Refusal.{Refusal}
 use Rattle.command_spec.specs.declared.faults.Refusal.TheVariants.{AtByte, AtLine, AfterTurns}
@@ -8,7 +9,7 @@ use Rattle.command_spec.specs.declared.faults.Fault.TheVariants.{WrongWords, Can
 use Rattle.command_spec.specs.Work.{Contents, Steps, Reads, Refuses, Makes, IsInput}
 use Rattle.command_spec.specs.Outcomes.{outcome}
 use Rattle.command_spec.specs.Outcomes as outcomes
-use Rattle.command_spec.specs.Messages.{Ending}
+use Rattle.command_spec.specs.Messages.{Ending, message_of}
 
 -- this holds where a file is read
 abbrev pub WhereRead : Steps → Type 0 → Type 0
@@ -59,7 +60,15 @@ abbrev pub IsTrueOf : Option dumps.Fault → Fault → Type 0
 IsTrueOf found (Refused input refusal) = IsOfByte found refusal
 IsTrueOf found _ = Unit {0}
 
+-- it is, where this is the fault of a recording
+abbrev pub IsTrueFor : {F : Type 0} → (Recording → F → Type 0) → F → Fault → Type 0
+IsTrueFor Of fault told = (recording : Recording) → Of recording fault → IsTrueOf recording.fault told
+
 -- the name of the file that is told of, where there are one input and one output
 abbrev pub name_in : List ℕ → List ℕ → Ending → List ℕ
 name_in input output (Err (CannotWrite n)) = output
 name_in input output _ = input
+
+-- what is told of such an ending
+abbrev pub message_in : List ℕ → List ℕ → Ending → List ℕ
+message_in input output ending = message_of (name_in input output ending) ending

@@ -5,3 +5,5 @@ pub mod Runs
 pub mod Outputs
 pub mod Conferences
 pub mod Makings
+pub mod Sinks
+pub mod Worlds

@@ -1,6 +1,8 @@
 -- What lies outside a run at one moment.
 use Rattle.std.specs.Prelude.{ℕ, List}
 use Rattle.rtt_io.specs.Counts.{Rose}
+use Rattle.rtt_io.specs.declared.sinks.Sink as sinks
+use Rattle.rtt_io.specs.declared.worlds.World as worlds
 use Rattle.command_spec.specs.Work.{Contents}
 
 -- What an output took, and how often it failed.
@@ -21,6 +23,14 @@ output octets faults = record { octets = octets; faults = faults }
 
 abbrev pub outside : Contents → (List ℕ → ℕ) → (List ℕ → ℕ) → Output → Outside
 outside contents calls objects out = record { contents = contents; calls = calls; objects = objects; out = out }
+
+-- this sink, as an output
+abbrev pub output_at : {K : Type 0} → sinks.Ghosts K → K → Output
+output_at k out = output (k.took out) (k.faults out)
+
+-- what lies outside, where this is the world and this the output
+abbrev pub outside_at : {W S D K : Type 0} → worlds.Ghosts W S D → sinks.Ghosts K → W → K → Outside
+outside_at w k world out = outside (w.contents world) (w.own_faults world) (w.object_faults world) (output_at k out)
 
 -- the count of this name rose
 abbrev pub RoseAt : (List ℕ → ℕ) → (List ℕ → ℕ) → List ℕ → Type 0

@@ -1,13 +1,15 @@
 //! The commands, each from its words to its work or its fault.
-ghost use Rattle.std.specs.Prelude.{◌≡◌, ℕ, ◌++◌, List, Ok, Err, Some, None, is_some, take, OnOk, OnErr, IfErr, IfSome};
+ghost use Rattle.std.specs.Prelude.{◌≡◌, Ok, Err, Some, None, is_some, OnErr, IfErr, IfSome};
 ghost use Rattle.rtt_io.specs.Counts.{Rose};
+ghost use Rattle.rtt_io.specs.Fronts.{TakesFront};
 ghost use Rattle.command_spec.specs.Words.{Read, ListRecords, Send};
 ghost use Rattle.rtt_words.specs.Commands.{asked, listed, sent, meaning};
 ghost use Rattle.command_spec.specs.Commands.{work};
 ghost use Rattle.command_spec.specs.Messages.{status_of, message_of};
-ghost use Rattle.rtt_top.specs.Faults.{name_in};
-ghost use Rattle.rtt_top.specs.Outside.{outside, output};
+ghost use Rattle.rtt_top.specs.Faults.{name_in, message_in};
+ghost use Rattle.rtt_top.specs.Outside.{outside_at, output_at};
 ghost use Rattle.rtt_top.specs.Runs.{is_plain, Ends, Runs};
+ghost use Rattle.rtt_top.specs.Sinks.{Wrote, TookIfCalm};
 
 use crate::files::save_output;
 use crate::making::run_make;
@@ -27,8 +29,8 @@ use std::thread::Threads;
 pub(crate) fn print<K: Sink>(octets: &[u8], out: &mut K) -> Result<(), Fault>
     ensures fault { IfErr result (λ fault. fault ≡ Fault.CannotPrint) }
     ensures cause { OnErr result (Rose (K.faults out.old) (K.faults out.new)) }
-    ensures printed { K.tells → OnOk result (K.took out.new ≡ K.took out.old ++ octets.now) }
-    ensures partly { K.tells → OnErr result ((n : ℕ) × (K.took out.new ≡ K.took out.old ++ take n octets.now)) }
+    ensures printed { Wrote K.Sink out.old out.new octets.now result }
+    ensures partly { K.tells → OnErr result (TakesFront (K.took out.old) (K.took out.new) octets.now) }
 {
     match out.write_all(octets) {
         Ok(()) => Ok(()),
@@ -44,8 +46,7 @@ fn read<W: World, K: Sink>(
     out: &mut K,
 ) -> Result<(), Fault>
     ensures { Ends (work (Read (asked words.now))) W.tells K.tells
-        (outside (W.contents world.old) (W.own_faults world.old) (W.object_faults world.old) (output (K.took out.old) (K.faults out.old)))
-        (outside (W.contents world.new) (W.own_faults world.new) (W.object_faults world.new) (output (K.took out.new) (K.faults out.new)))
+        (outside_at W.World K.Sink world.old out.old) (outside_at W.World K.Sink world.new out.new)
         (name_in words.now.file.now words.now.file.now result) result }
 {
     match view_of(alloc, words, world) {
@@ -62,8 +63,7 @@ fn list<W: World, K: Sink>(
     out: &mut K,
 ) -> Result<(), Fault>
     ensures { Ends (work (ListRecords (listed words.now))) W.tells K.tells
-        (outside (W.contents world.old) (W.own_faults world.old) (W.object_faults world.old) (output (K.took out.old) (K.faults out.old)))
-        (outside (W.contents world.new) (W.own_faults world.new) (W.object_faults world.new) (output (K.took out.new) (K.faults out.new)))
+        (outside_at W.World K.Sink world.old out.old) (outside_at W.World K.Sink world.new out.new)
         (name_in words.now.file.now words.now.file.now result) result }
 {
     match lines_of(alloc, words, world) {
@@ -80,8 +80,7 @@ fn send<W: World, K: Sink>(
     out: &K,
 ) -> Result<(), Fault>
     ensures { Ends (work (Send (sent words.now))) W.tells K.tells
-        (outside (W.contents world.old) (W.own_faults world.old) (W.object_faults world.old) (output (K.took out.now) (K.faults out.now)))
-        (outside (W.contents world.new) (W.own_faults world.new) (W.object_faults world.new) (output (K.took out.now) (K.faults out.now)))
+        (outside_at W.World K.Sink world.old out.now) (outside_at W.World K.Sink world.new out.now)
         (name_in words.now.script.now words.now.out.now result) result }
 {
     match recording_of(alloc, words, world) {
@@ -104,8 +103,7 @@ fn file_name<'a>(fault: Fault, input: &'a str, output: &'a str) -> &'a str
 pub(crate) fn finish_with<E: Sink>(ending: Result<(), Fault>, name: &str, err: &mut E) -> u8
     ensures status { result ≡ status_of ending }
     ensures silent { ending ≡ Ok tt → E.took err.new ≡ E.took err.old }
-    ensures told { E.tells → (Rose (E.faults err.old) (E.faults err.new) → ⊥)
-        → E.took err.new ≡ E.took err.old ++ message_of name.now ending }
+    ensures told { E.tells → TookIfCalm E.Sink err.old err.new (message_of name.now ending) }
 {
     match ending {
         Ok(()) => 0,
@@ -130,8 +128,7 @@ fn ending_name<'a>(ending: Result<(), Fault>, input: &'a str, output: &'a str) -
 pub fn finish<E: Sink>(ending: Result<(), Fault>, input: &str, output: &str, err: &mut E) -> u8
     ensures status { result ≡ status_of ending }
     ensures silent { ending ≡ Ok tt → E.took err.new ≡ E.took err.old }
-    ensures told { E.tells → (Rose (E.faults err.old) (E.faults err.new) → ⊥)
-        → E.took err.new ≡ E.took err.old ++ message_of (name_in input.now output.now ending) ending }
+    ensures told { E.tells → TookIfCalm E.Sink err.old err.new (message_in input.now output.now ending) }
 {
     let name = ending_name(ending, input, output);
     finish_with(ending, name, err)
@@ -146,9 +143,8 @@ fn run_read<W: World, K: Sink, E: Sink>(
     err: &mut E,
 ) -> u8
     ensures { Runs (Some (Read (asked words.now))) W.tells K.tells E.tells
-        (outside (W.contents world.old) (W.own_faults world.old) (W.object_faults world.old) (output (K.took out.old) (K.faults out.old)))
-        (outside (W.contents world.new) (W.own_faults world.new) (W.object_faults world.new) (output (K.took out.new) (K.faults out.new)))
-        (output (E.took err.old) (E.faults err.old)) (output (E.took err.new) (E.faults err.new)) result }
+        (outside_at W.World K.Sink world.old out.old) (outside_at W.World K.Sink world.new out.new)
+        (output_at E.Sink err.old) (output_at E.Sink err.new) result }
 {
     let ending = read(alloc, words, world, out);
     finish(ending, words.file, words.file, err)
@@ -163,9 +159,8 @@ fn run_list<W: World, K: Sink, E: Sink>(
     err: &mut E,
 ) -> u8
     ensures { Runs (Some (ListRecords (listed words.now))) W.tells K.tells E.tells
-        (outside (W.contents world.old) (W.own_faults world.old) (W.object_faults world.old) (output (K.took out.old) (K.faults out.old)))
-        (outside (W.contents world.new) (W.own_faults world.new) (W.object_faults world.new) (output (K.took out.new) (K.faults out.new)))
-        (output (E.took err.old) (E.faults err.old)) (output (E.took err.new) (E.faults err.new)) result }
+        (outside_at W.World K.Sink world.old out.old) (outside_at W.World K.Sink world.new out.new)
+        (output_at E.Sink err.old) (output_at E.Sink err.new) result }
 {
     let ending = list(alloc, words, world, out);
     finish(ending, words.file, words.file, err)
@@ -180,9 +175,8 @@ fn run_send<W: World, K: Sink, E: Sink>(
     err: &mut E,
 ) -> u8
     ensures { Runs (Some (Send (sent words.now))) W.tells K.tells E.tells
-        (outside (W.contents world.old) (W.own_faults world.old) (W.object_faults world.old) (output (K.took out.old) (K.faults out.old)))
-        (outside (W.contents world.new) (W.own_faults world.new) (W.object_faults world.new) (output (K.took out.new) (K.faults out.new)))
-        (output (E.took err.old) (E.faults err.old)) (output (E.took err.new) (E.faults err.new)) result }
+        (outside_at W.World K.Sink world.old out.old) (outside_at W.World K.Sink world.new out.new)
+        (output_at E.Sink err.old) (output_at E.Sink err.new) result }
 {
     let ending = send(alloc, words, world, out);
     finish(ending, words.script, words.out, err)
@@ -198,9 +192,8 @@ pub fn carry_out_plain<W: World, K: Sink, E: Sink>(
 ) -> Option<u8>
     ensures plain { is_some result ≡ is_plain (Some (meaning command.now)) }
     ensures runs { IfSome result (Runs (Some (meaning command.now)) W.tells K.tells E.tells
-        (outside (W.contents world.old) (W.own_faults world.old) (W.object_faults world.old) (output (K.took out.old) (K.faults out.old)))
-        (outside (W.contents world.new) (W.own_faults world.new) (W.object_faults world.new) (output (K.took out.new) (K.faults out.new)))
-        (output (E.took err.old) (E.faults err.old)) (output (E.took err.new) (E.faults err.new))) }
+        (outside_at W.World K.Sink world.old out.old) (outside_at W.World K.Sink world.new out.new)
+        (output_at E.Sink err.old) (output_at E.Sink err.new)) }
     ensures same { result ≡ None → (world.new ≡ world.old) × (out.new ≡ out.old) × (err.new ≡ err.old) }
 {
     match command {
@@ -222,9 +215,8 @@ pub fn carry_out<R: Threads + Wait + Sync, W: World, K: Sink, E: Sink, G: Gate +
     gate: &G,
 ) -> u8
     ensures { Runs (Some (meaning command.now)) W.tells K.tells E.tells
-        (outside (W.contents world.old) (W.own_faults world.old) (W.object_faults world.old) (output (K.took out.old) (K.faults out.old)))
-        (outside (W.contents world.new) (W.own_faults world.new) (W.object_faults world.new) (output (K.took out.new) (K.faults out.new)))
-        (output (E.took err.old) (E.faults err.old)) (output (E.took err.new) (E.faults err.new)) result }
+        (outside_at W.World K.Sink world.old out.old) (outside_at W.World K.Sink world.new out.new)
+        (output_at E.Sink err.old) (output_at E.Sink err.new) result }
 {
     match command {
         Command::Read(words) => run_read(alloc, words, world, out, err),

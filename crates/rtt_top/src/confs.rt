@@ -1,13 +1,9 @@
 //! Conferences: read.
-ghost use Rattle.std.specs.Prelude.{◌≡◌, ℕ, ◌≤◌, List, Ok, Some, IfOk, IfErr};
-ghost use Rattle.rtt_io.specs.Counts.{Rose};
-ghost use Rattle.conf_text.specs.Lines.{conf_of};
-ghost use Rattle.file_spec.specs.declared.conf_lines.Form.{Form};
-ghost use Rattle.file_spec.specs.Conf.{conf};
-ghost use Rattle.command_spec.specs.Mixing.{mixing};
+ghost use Rattle.std.specs.Prelude.{IfOk, IfErr};
+ghost use Rattle.rtt_io.specs.Names.{NoneFalls};
 ghost use Rattle.command_spec.specs.Outcomes.{Same};
-ghost use Rattle.rtt_top.specs.Faults.{Stops};
-ghost use Rattle.rtt_top.specs.Outside.{RoseAt};
+ghost use Rattle.command_spec.specs.Words.{Mix};
+ghost use Rattle.rtt_top.specs.Worlds.{StopsIn, ReadsConference};
 
 use crate::files::read_input;
 use crate::scripts::refused_line;
@@ -19,12 +15,11 @@ use std::alloc::Global;
 
 /// The conference that lies under this name.
 pub fn conf_under<W: World>(alloc: Global, name: &str, world: &mut W) -> Result<Conf, Fault>
-    ensures stops { IfErr result (Stops W.tells (W.contents world.old) (mixing name.now)
-        (RoseAt (W.own_faults world.old) (W.own_faults world.new)) (RoseAt (W.object_faults world.old) (W.object_faults world.new)) name.now) }
-    ensures read { IfOk result (λ c. (octets : List ℕ) × (W.tells → W.contents world.old name.now ≡ Some octets) × (conf Form.Files octets ≡ Ok (conf_of c))) }
+    ensures stops { IfErr result (StopsIn W.World world.old world.new (Mix (record { conf = name.now }))) }
+    ensures read { IfOk result (ReadsConference W.World world.old name.now) }
     ensures same_contents { W.tells → Same (W.contents world.old) (W.contents world.new) }
-    ensures calls_never_fall { (n : List ℕ) → W.own_faults world.old n ≤ W.own_faults world.new n }
-    ensures objects_never_fall { (n : List ℕ) → W.object_faults world.old n ≤ W.object_faults world.new n }
+    ensures calls_never_fall { NoneFalls W.own_faults world.old world.new }
+    ensures objects_never_fall { NoneFalls W.object_faults world.old world.new }
 {
     let octets = match read_input(alloc, name, MOST_CONF_OCTETS, world) {
         Ok(octets) => octets,

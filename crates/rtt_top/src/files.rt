@@ -1,11 +1,9 @@
 //! Whole files: read, and written.
-ghost use Rattle.std.specs.Prelude.{◌≡◌, ◌≢◌, ◌⊎◌, ℕ, ◌≤◌, ◌++◌, List, None, Some, take, length, OnOk, OnErr, IfOk, IfErr};
-ghost use Rattle.rtt_io.specs.Counts.{Rose};
-ghost use Rattle.rtt_top.specs.Outside.{RoseAt};
-ghost use Rattle.command_spec.specs.Work.{Made};
-ghost use Rattle.command_spec.specs.Outcomes.{Stores, Same};
-ghost use Rattle.rtt_top.specs.Faults.{IsUnread};
-ghost use Rattle.rtt_top.specs.Files.{IsFrontOf, IsPartlyStored};
+ghost use Rattle.std.specs.Prelude.{◌≡◌, OnOk, OnErr, IfOk, IfErr};
+ghost use Rattle.rtt_io.specs.Names.{NoneFalls};
+ghost use Rattle.command_spec.specs.Outcomes.{Same};
+ghost use Rattle.rtt_top.specs.Files.{IsReadOf};
+ghost use Rattle.rtt_top.specs.Worlds.{IsUnreadIn, FailedIn, Saves, SavesPartly};
 
 use command_spec::Fault;
 use rtt_base::{Bytes, Failed};
@@ -19,12 +17,11 @@ pub fn read_input<W: World>(
     most: usize,
     world: &mut W,
 ) -> Result<Bytes, Fault>
-    ensures unread { IfErr result (IsUnread (RoseAt (W.own_faults world.old) (W.own_faults world.new) name.now)
-        (RoseAt (W.object_faults world.old) (W.object_faults world.new) name.now)) }
-    ensures given { W.tells → IfOk result (λ octets. (whole : List ℕ) × (W.contents world.old name.now ≡ Some whole) × IsFrontOf most octets whole) }
+    ensures unread { IfErr result (IsUnreadIn W.World world.old world.new name.now) }
+    ensures given { W.tells → IfOk result (IsReadOf most (W.contents world.old name.now)) }
     ensures same_contents { W.tells → Same (W.contents world.old) (W.contents world.new) }
-    ensures calls_never_fall { (n : List ℕ) → W.own_faults world.old n ≤ W.own_faults world.new n }
-    ensures objects_never_fall { (n : List ℕ) → W.object_faults world.old n ≤ W.object_faults world.new n }
+    ensures calls_never_fall { NoneFalls W.own_faults world.old world.new }
+    ensures objects_never_fall { NoneFalls W.object_faults world.old world.new }
 {
     let Ok(mut source) = world.open_source(name) else {
         return Err(Fault::CannotOpen { input: 0 });
@@ -46,12 +43,11 @@ pub fn save_output<W: World>(
     world: &mut W,
 ) -> Result<(), Fault>
     ensures fault { IfErr result (λ fault. fault ≡ Fault.CannotWrite output) }
-    ensures saved { W.tells → OnOk result (Stores (record { name = name.now; octets = octets.now }) (W.contents world.old) (W.contents world.new)) }
-    ensures cause { OnErr result (RoseAt (W.own_faults world.old) (W.own_faults world.new) name.now ⊎ RoseAt (W.object_faults world.old) (W.object_faults world.new) name.now) }
-    ensures partly { W.tells → OnErr result (IsPartlyStored (RoseAt (W.own_faults world.old) (W.own_faults world.new) name.now)
-        (RoseAt (W.object_faults world.old) (W.object_faults world.new) name.now) (record { name = name.now; octets = octets.now }) (W.contents world.old) (W.contents world.new)) }
-    ensures calls_never_fall { (n : List ℕ) → W.own_faults world.old n ≤ W.own_faults world.new n }
-    ensures objects_never_fall { (n : List ℕ) → W.object_faults world.old n ≤ W.object_faults world.new n }
+    ensures saved { W.tells → OnOk result (Saves W.World world.old world.new name.now octets.now) }
+    ensures cause { OnErr result (FailedIn W.World world.old world.new name.now) }
+    ensures partly { W.tells → OnErr result (SavesPartly W.World world.old world.new name.now octets.now) }
+    ensures calls_never_fall { NoneFalls W.own_faults world.old world.new }
+    ensures objects_never_fall { NoneFalls W.object_faults world.old world.new }
 {
     let Ok(mut sink) = world.create_sink(name) else {
         return Err(Fault::CannotWrite { output });

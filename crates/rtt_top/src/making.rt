@@ -1,11 +1,11 @@
 //! `make`: a conference is made from a number and mixed in memory, and a line is printed of it.
-ghost use Rattle.std.specs.Prelude.{◌≡◌, ℕ, List, [], Some, Ok, IfOk, IfErr};
+ghost use Rattle.std.specs.Prelude.{◌≡◌, ℕ, List, [], Some, IfOk, IfErr};
 ghost use Rattle.command_spec.specs.Commands.{work};
 ghost use Rattle.command_spec.specs.Making.{making};
 ghost use Rattle.command_spec.specs.Words.{Make};
 ghost use Rattle.command_spec.specs.Work.{Makes};
 ghost use Rattle.rtt_top.specs.Makings.{fault_in_memory, IsWhy};
-ghost use Rattle.rtt_top.specs.Outside.{outside, output};
+ghost use Rattle.rtt_top.specs.Outside.{outside_at, output_at};
 ghost use Rattle.rtt_top.specs.Runs.{Ends, Runs};
 
 use crate::commands::{finish_with, print};
@@ -76,8 +76,7 @@ fn make<R: Threads + Wait + Sync, W: World, K: Sink, G: Gate + Sync>(
     gate: &G,
 ) -> Result<(), Fault>
     ensures { (name : List ℕ) → Ends (work (Make (record { number = number }))) W.tells K.tells
-        (outside (W.contents world.now) (W.own_faults world.now) (W.object_faults world.now) (output (K.took out.old) (K.faults out.old)))
-        (outside (W.contents world.now) (W.own_faults world.now) (W.object_faults world.now) (output (K.took out.new) (K.faults out.new)))
+        (outside_at W.World K.Sink world.now out.old) (outside_at W.World K.Sink world.now out.new)
         name result }
 {
     match line_of(rt, alloc, number, gate) {
@@ -97,9 +96,8 @@ pub fn run_make<R: Threads + Wait + Sync, W: World, K: Sink, E: Sink, G: Gate + 
     gate: &G,
 ) -> u8
     ensures { Runs (Some (Make (record { number = number }))) W.tells K.tells E.tells
-        (outside (W.contents world.now) (W.own_faults world.now) (W.object_faults world.now) (output (K.took out.old) (K.faults out.old)))
-        (outside (W.contents world.now) (W.own_faults world.now) (W.object_faults world.now) (output (K.took out.new) (K.faults out.new)))
-        (output (E.took err.old) (E.faults err.old)) (output (E.took err.new) (E.faults err.new)) result }
+        (outside_at W.World K.Sink world.now out.old) (outside_at W.World K.Sink world.now out.new)
+        (output_at E.Sink err.old) (output_at E.Sink err.new) result }
 {
     let ending = make(rt, alloc, number, world, out, gate);
     finish_with(ending, "", err)

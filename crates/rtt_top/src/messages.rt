@@ -1,7 +1,8 @@
 //! What is told of a fault, and its status.
-ghost use Rattle.std.specs.Prelude.{◌≡◌, ◌++◌, ◌≤◌, codes, decimal, OnOk, OnErr};
+ghost use Rattle.std.specs.Prelude.{◌≡◌, ◌++◌, ◌≤◌, decimal, OnErr};
 ghost use Rattle.rtt_io.specs.Counts.{Rose};
 ghost use Rattle.command_spec.specs.Messages.{refusal_status, fault_status, fault_message, refusal_message, trouble, byte_message, line_message, dump_kind_name, conf_kind_name};
+ghost use Rattle.rtt_top.specs.Sinks.{Wrote, TookIfCalm};
 
 use command_spec::{Fault, Refusal};
 use file_spec::ConfKind;
@@ -76,7 +77,7 @@ fn conf_kind_name(kind: ConfKind) -> &'static [u8]
 fn write_two<E: Sink>(err: &mut E, first: &[u8], second: &[u8]) -> Result<(), Failed>
     ensures never_falls { E.faults err.old ≤ E.faults err.new }
     ensures failed { OnErr result (Rose (E.faults err.old) (E.faults err.new)) }
-    ensures written { E.tells → OnOk result (E.took err.new ≡ E.took err.old ++ (first.now ++ second.now)) }
+    ensures written { Wrote E.Sink err.old err.new (first.now ++ second.now) result }
 {
     err.write_all(first)?;
     err.write_all(second)
@@ -87,7 +88,7 @@ fn write_two<E: Sink>(err: &mut E, first: &[u8], second: &[u8]) -> Result<(), Fa
 fn write_trouble<E: Sink>(err: &mut E, what: &[u8], name: &[u8]) -> Result<(), Failed>
     ensures never_falls { E.faults err.old ≤ E.faults err.new }
     ensures failed { OnErr result (Rose (E.faults err.old) (E.faults err.new)) }
-    ensures written { E.tells → OnOk result (E.took err.new ≡ E.took err.old ++ trouble what.now name.now) }
+    ensures written { Wrote E.Sink err.old err.new (trouble what.now name.now) result }
 {
     err.write_all(what)?;
     write_two(err, name, b"\n")
@@ -98,7 +99,7 @@ fn write_trouble<E: Sink>(err: &mut E, what: &[u8], name: &[u8]) -> Result<(), F
 fn write_byte<E: Sink>(err: &mut E, name: &[u8], byte: u64, kind: DumpKind) -> Result<(), Failed>
     ensures never_falls { E.faults err.old ≤ E.faults err.new }
     ensures failed { OnErr result (Rose (E.faults err.old) (E.faults err.new)) }
-    ensures written { E.tells → OnOk result (E.took err.new ≡ E.took err.old ++ byte_message name.now byte kind) }
+    ensures written { Wrote E.Sink err.old err.new (byte_message name.now byte kind) result }
 {
     let mut digits = Buffer::new();
     write_two(err, name, b" byte ")?;
@@ -111,7 +112,7 @@ fn write_byte<E: Sink>(err: &mut E, name: &[u8], byte: u64, kind: DumpKind) -> R
 fn write_line<E: Sink>(err: &mut E, name: &[u8], line: u32, kind: ConfKind) -> Result<(), Failed>
     ensures never_falls { E.faults err.old ≤ E.faults err.new }
     ensures failed { OnErr result (Rose (E.faults err.old) (E.faults err.new)) }
-    ensures written { E.tells → OnOk result (E.took err.new ≡ E.took err.old ++ line_message name.now line kind) }
+    ensures written { Wrote E.Sink err.old err.new (line_message name.now line kind) result }
 {
     let mut digits = Buffer::new();
     write_two(err, name, b" line ")?;
@@ -129,7 +130,7 @@ fn write_counted<E: Sink>(
 ) -> Result<(), Failed>
     ensures never_falls { E.faults err.old ≤ E.faults err.new }
     ensures failed { OnErr result (Rose (E.faults err.old) (E.faults err.new)) }
-    ensures written { E.tells → OnOk result (E.took err.new ≡ E.took err.old ++ (before.now ++ (decimal count ++ after.now))) }
+    ensures written { Wrote E.Sink err.old err.new (before.now ++ (decimal count ++ after.now)) result }
 {
     let mut digits = Buffer::new();
     err.write_all(before)?;
@@ -149,7 +150,7 @@ usage: rtt_program read FILE SSRC [SOURCE [T140 RED]]
 fn write_refusal<E: Sink>(err: &mut E, name: &[u8], refusal: Refusal) -> Result<(), Failed>
     ensures never_falls { E.faults err.old ≤ E.faults err.new }
     ensures failed { OnErr result (Rose (E.faults err.old) (E.faults err.new)) }
-    ensures written { E.tells → OnOk result (E.took err.new ≡ E.took err.old ++ refusal_message name.now refusal) }
+    ensures written { Wrote E.Sink err.old err.new (refusal_message name.now refusal) result }
 {
     match refusal {
         Refusal::AtByte { byte, kind } => write_byte(err, name, byte, kind),
@@ -164,7 +165,7 @@ fn write_refusal<E: Sink>(err: &mut E, name: &[u8], refusal: Refusal) -> Result<
 fn write_message<E: Sink>(err: &mut E, name: &[u8], fault: Fault) -> Result<(), Failed>
     ensures never_falls { E.faults err.old ≤ E.faults err.new }
     ensures failed { OnErr result (Rose (E.faults err.old) (E.faults err.new)) }
-    ensures written { E.tells → OnOk result (E.took err.new ≡ E.took err.old ++ fault_message name.now fault) }
+    ensures written { Wrote E.Sink err.old err.new (fault_message name.now fault) result }
 {
     match fault {
         Fault::WrongWords => err.write_all(USAGE),
@@ -179,8 +180,7 @@ fn write_message<E: Sink>(err: &mut E, name: &[u8], fault: Fault) -> Result<(), 
 
 /// Tells of a fault in one line, or for wrong words in the lines of the usage text. A fault in telling it changes nothing.
 pub fn tell<E: Sink>(err: &mut E, name: &str, fault: Fault)
-    ensures { E.tells → (Rose (E.faults err.old) (E.faults err.new) → ⊥)
-        → E.took err.new ≡ E.took err.old ++ fault_message name.now fault }
+    ensures { E.tells → TookIfCalm E.Sink err.old err.new (fault_message name.now fault) }
 {
     let _ = write_message(err, name.as_bytes(), fault);
 }

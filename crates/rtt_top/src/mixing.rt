@@ -1,15 +1,12 @@
 //! `mix`: a conference is mixed, its outputs are written, and what is seen is printed.
-ghost use Rattle.std.specs.Prelude.{◌≡◌, ℕ, List, Some, Ok};
-ghost use Rattle.rtpdump_io.specs.declared.items.DumpFault.{DumpFault};
+ghost use Rattle.std.specs.Prelude.{◌≡◌, Some};
 ghost use Rattle.conf_text.specs.Lines.{conf_of};
-ghost use Rattle.file_spec.specs.declared.conf_lines.Form.{Form};
-ghost use Rattle.file_spec.specs.Conf as files;
 ghost use Rattle.mixer_spec.specs.Setups.{leg_at};
-ghost use Rattle.rtt_top.specs.Conferences.{ending_name, fault_name, fault_of_mixing, fault_of_recording, input_name, input_of, mixing_work, output_of};
-ghost use Rattle.rtt_top.specs.Outside.{outside, output};
-ghost use Rattle.rtt_top.specs.Runs.{Ends, Runs};
 ghost use Rattle.command_spec.specs.Words.{Mix};
 ghost use Rattle.rtt_words.specs.Commands.{mixed};
+ghost use Rattle.rtt_top.specs.Conferences.{MixingEnds, ending_name, fault_name, fault_of_mixing, fault_of_recording, input_name, output_of};
+ghost use Rattle.rtt_top.specs.Outside.{outside_at, output_at};
+ghost use Rattle.rtt_top.specs.Runs.{Runs};
 
 use crate::commands::{finish_with, print};
 use crate::confs::conf_under;
@@ -118,11 +115,9 @@ fn mix_conf<R: Threads + Wait + Sync, W: World, K: Sink, G: Gate + Sync>(
     out: &mut K,
     gate: &G,
 ) -> Result<(), Fault>
-    ensures { (file octets : List ℕ) → (W.tells → W.contents world.old file ≡ Some octets) → files.conf Form.Files octets ≡ Ok (conf_of conf.now)
-        → Ends (mixing_work file) W.tells K.tells
-        (outside (W.contents world.old) (W.own_faults world.old) (W.object_faults world.old) (output (K.took out.old) (K.faults out.old)))
-        (outside (W.contents world.new) (W.own_faults world.new) (W.object_faults world.new) (output (K.took out.new) (K.faults out.new)))
-        (ending_name file conf.now.legs result) result }
+    ensures { MixingEnds W.tells K.tells
+        (outside_at W.World K.Sink world.old out.old) (outside_at W.World K.Sink world.new out.new)
+        (conf_of conf.now) result }
 {
     let mixed = match mix(rt, alloc, conf, world, gate) {
         Ok(mixed) => mixed,
@@ -146,9 +141,8 @@ pub fn mix_file<R: Threads + Wait + Sync, W: World, K: Sink, E: Sink, G: Gate + 
     gate: &G,
 ) -> u8
     ensures { Runs (Some (Mix (mixed words.now))) W.tells K.tells E.tells
-        (outside (W.contents world.old) (W.own_faults world.old) (W.object_faults world.old) (output (K.took out.old) (K.faults out.old)))
-        (outside (W.contents world.new) (W.own_faults world.new) (W.object_faults world.new) (output (K.took out.new) (K.faults out.new)))
-        (output (E.took err.old) (E.faults err.old)) (output (E.took err.new) (E.faults err.new)) result }
+        (outside_at W.World K.Sink world.old out.old) (outside_at W.World K.Sink world.new out.new)
+        (output_at E.Sink err.old) (output_at E.Sink err.new) result }
 {
     let conf = match conf_under(alloc, words.conf, world) {
         Ok(conf) => conf,

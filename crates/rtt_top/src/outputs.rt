@@ -1,9 +1,7 @@
 //! The outputs of a command that makes several files.
-ghost use Rattle.std.specs.Prelude.{◌≡◌, ℕ, ◌≤◌, List, length, OnOk, IfErr};
-ghost use Rattle.command_spec.specs.Outcomes.{AllStored};
-ghost use Rattle.bridge_run.specs.Mixes.{outputs_of};
-ghost use Rattle.rtt_top.specs.Outputs.{IsUnwritten};
-ghost use Rattle.rtt_top.specs.Outside.{RoseAt};
+ghost use Rattle.std.specs.Prelude.{◌≡◌, ◌≤◌, length, OnOk, IfErr};
+ghost use Rattle.rtt_io.specs.Names.{NoneFalls};
+ghost use Rattle.rtt_top.specs.Worlds.{SavesEach, IsUnwrittenIn};
 
 use crate::files::save_output;
 use command_spec::Fault;
@@ -19,11 +17,10 @@ pub fn save_outputs<W: World>(
 ) -> Result<(), Fault>
     requires as_many { length legs.now ≡ length outputs.now }
     requires few { length legs.now ≤ 64 }
-    ensures saved { W.tells → OnOk result (AllStored (outputs_of legs.now outputs.now) (W.contents world.old) (W.contents world.new)) }
-    ensures unwritten { IfErr result (IsUnwritten W.tells (RoseAt (W.own_faults world.old) (W.own_faults world.new))
-        (RoseAt (W.object_faults world.old) (W.object_faults world.new)) (outputs_of legs.now outputs.now) (W.contents world.old) (W.contents world.new)) }
-    ensures calls_never_fall { (n : List ℕ) → W.own_faults world.old n ≤ W.own_faults world.new n }
-    ensures objects_never_fall { (n : List ℕ) → W.object_faults world.old n ≤ W.object_faults world.new n }
+    ensures saved { W.tells → OnOk result (SavesEach W.World world.old world.new legs.now outputs.now) }
+    ensures unwritten { IfErr result (IsUnwrittenIn W.World world.old world.new legs.now outputs.now) }
+    ensures calls_never_fall { NoneFalls W.own_faults world.old world.new }
+    ensures objects_never_fall { NoneFalls W.object_faults world.old world.new }
 {
     for number in 0..legs.len() {
         let name = legs[number].output.as_str();

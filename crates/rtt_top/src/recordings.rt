@@ -1,15 +1,12 @@
 //! Recordings: opened, and read to their ends.
-ghost use Rattle.std.specs.Prelude.{◌≡◌, ◌⊎◌, ℕ, ◌≤◌, List, [], Some, None, OnOk, IfOk, IfErr};
-ghost use Rattle.rtt_io.specs.Counts.{Rose};
-ghost use Rattle.wire_spec.specs.Dump.{Recording};
+ghost use Rattle.std.specs.Prelude.{IfOk, IfErr};
 ghost use Rattle.command_spec.specs.Words.{Read, ListRecords};
 ghost use Rattle.rtt_words.specs.Commands.{asked, listed};
 ghost use Rattle.rtt_read.specs.Recordings.{IsSourceFault, ListenFaultOf};
 ghost use Rattle.rtt_list.specs.Listing.{IsSourceFault as IsListSourceFault, FaultOf};
-ghost use Rattle.command_spec.specs.Commands.{work};
-ghost use Rattle.command_spec.specs.Outcomes.{outcome, Done, Same};
-ghost use Rattle.rtt_top.specs.Faults.{Stops, IsOfRecording, IsTrueOf};
-ghost use Rattle.rtt_top.specs.Outside.{RoseAt};
+ghost use Rattle.command_spec.specs.Outcomes.{Same};
+ghost use Rattle.rtt_top.specs.Faults.{IsOfRecording, IsTrueFor};
+ghost use Rattle.rtt_top.specs.Worlds.{StopsIn, OnlyPrints};
 
 use command_spec::{Fault, ReadRequest, Refusal};
 use rtpdump_io::{DumpFault, DumpReader};
@@ -24,7 +21,7 @@ use wire_spec::DumpKind;
 /// The fault of a command for that of a recording that was heard.
 fn fault_of_listening(fault: ListenFault) -> Fault
     ensures of_recording { IsOfRecording (IsSourceFault fault) result }
-    ensures refused { (recording : Recording) → ListenFaultOf recording fault → IsTrueOf recording.fault result }
+    ensures refused { IsTrueFor ListenFaultOf fault result }
 {
     match fault {
         ListenFault::NoMemory => Fault::NoMemory,
@@ -44,7 +41,7 @@ fn fault_of_listening(fault: ListenFault) -> Fault
 /// The fault of a command for that of a recording that was listed.
 fn fault_of_listing(fault: ListFault) -> Fault
     ensures of_recording { IsOfRecording (IsListSourceFault fault) result }
-    ensures refused { (recording : Recording) → FaultOf recording fault → IsTrueOf recording.fault result }
+    ensures refused { IsTrueFor FaultOf fault result }
 {
     match fault {
         ListFault::NoMemory => Fault::NoMemory,
@@ -67,9 +64,8 @@ pub fn view_of<W: World>(
     words: &ReadWords<'_>,
     world: &mut W,
 ) -> Result<Bytes, Fault>
-    ensures stops { IfErr result (Stops W.tells (W.contents world.old) (work (Read (asked words.now))).steps
-        (RoseAt (W.own_faults world.old) (W.own_faults world.new)) (RoseAt (W.object_faults world.old) (W.object_faults world.new)) words.now.file.now) }
-    ensures view { W.tells → IfOk result (λ view. outcome (W.contents world.old) (work (Read (asked words.now))).steps ≡ Done view []) }
+    ensures stops { IfErr result (StopsIn W.World world.old world.new (Read (asked words.now))) }
+    ensures view { W.tells → IfOk result (OnlyPrints W.World world.old (Read (asked words.now))) }
     ensures same_contents { W.tells → Same (W.contents world.old) (W.contents world.new) }
 {
     let Ok(source) = world.open_source(words.file) else {
@@ -95,9 +91,8 @@ pub fn lines_of<W: World>(
     words: &ListWords<'_>,
     world: &mut W,
 ) -> Result<Bytes, Fault>
-    ensures stops { IfErr result (Stops W.tells (W.contents world.old) (work (ListRecords (listed words.now))).steps
-        (RoseAt (W.own_faults world.old) (W.own_faults world.new)) (RoseAt (W.object_faults world.old) (W.object_faults world.new)) words.now.file.now) }
-    ensures lines { W.tells → IfOk result (λ lines. outcome (W.contents world.old) (work (ListRecords (listed words.now))).steps ≡ Done lines []) }
+    ensures stops { IfErr result (StopsIn W.World world.old world.new (ListRecords (listed words.now))) }
+    ensures lines { W.tells → IfOk result (OnlyPrints W.World world.old (ListRecords (listed words.now))) }
     ensures same_contents { W.tells → Same (W.contents world.old) (W.contents world.new) }
 {
     let Ok(source) = world.open_source(words.file) else {

@@ -1,6 +1,6 @@
 //! One run of the program.
-ghost use Rattle.std.specs.Prelude.{◌≡◌, List, Some, None, true, false, IsSome, IfSome};
-ghost use Rattle.rtt_top.specs.Outside.{outside, output};
+ghost use Rattle.std.specs.Prelude.{◌≡◌, None, true, false, IsSome, IfSome};
+ghost use Rattle.rtt_top.specs.Outside.{outside_at, output_at};
 ghost use Rattle.rtt_top.specs.Runs.{asked_by, is_plain, Runs};
 
 use crate::commands::{carry_out, carry_out_plain, finish};
@@ -23,9 +23,8 @@ pub fn run_plain<W: World, K: Sink, E: Sink>(
     ensures plain { is_plain (asked_by words.now) ≡ true → IsSome result }
     ensures others { result ≡ None → is_plain (asked_by words.now) ≡ false }
     ensures runs { IfSome result (Runs (asked_by words.now) W.tells K.tells E.tells
-        (outside (W.contents world.old) (W.own_faults world.old) (W.object_faults world.old) (output (K.took out.old) (K.faults out.old)))
-        (outside (W.contents world.new) (W.own_faults world.new) (W.object_faults world.new) (output (K.took out.new) (K.faults out.new)))
-        (output (E.took err.old) (E.faults err.old)) (output (E.took err.new) (E.faults err.new))) }
+        (outside_at W.World K.Sink world.old out.old) (outside_at W.World K.Sink world.new out.new)
+        (output_at E.Sink err.old) (output_at E.Sink err.new)) }
     ensures same { result ≡ None → (world.new ≡ world.old) × (out.new ≡ out.old) × (err.new ≡ err.old) }
 {
     match command_of(alloc, words) {
@@ -47,9 +46,8 @@ pub fn run<R: Threads + Wait + Sync, W: World, K: Sink, E: Sink, G: Gate + Sync>
     gate: &G,
 ) -> u8
     ensures { Runs (asked_by words.now) W.tells K.tells E.tells
-        (outside (W.contents world.old) (W.own_faults world.old) (W.object_faults world.old) (output (K.took out.old) (K.faults out.old)))
-        (outside (W.contents world.new) (W.own_faults world.new) (W.object_faults world.new) (output (K.took out.new) (K.faults out.new)))
-        (output (E.took err.old) (E.faults err.old)) (output (E.took err.new) (E.faults err.new)) result }
+        (outside_at W.World K.Sink world.old out.old) (outside_at W.World K.Sink world.new out.new)
+        (output_at E.Sink err.old) (output_at E.Sink err.new) result }
 {
     match command_of(alloc, words) {
         Ok(command) => carry_out(rt, alloc, &command, world, out, err, gate),

@@ -1,14 +1,10 @@
 //! Scripts: read, and sent.
-ghost use Rattle.std.specs.Prelude.{◌≡◌, ◌⊎◌, ℕ, ◌≤◌, List, [], ◌∷◌, Ok, Some, None, OnOk, IfOk, IfErr};
-ghost use Rattle.rtt_io.specs.Counts.{Rose};
-ghost use Rattle.file_spec.specs.Script.{script};
+ghost use Rattle.std.specs.Prelude.{◌≡◌, IfOk, IfErr};
+ghost use Rattle.rtt_io.specs.Names.{NoneFalls};
 ghost use Rattle.command_spec.specs.Words.{Send};
 ghost use Rattle.rtt_words.specs.Commands.{sent};
-ghost use Rattle.command_spec.specs.Work.{Makes};
-ghost use Rattle.command_spec.specs.Commands.{work, sends};
 ghost use Rattle.command_spec.specs.Outcomes.{Same};
-ghost use Rattle.rtt_top.specs.Faults.{Stops};
-ghost use Rattle.rtt_top.specs.Outside.{RoseAt};
+ghost use Rattle.rtt_top.specs.Worlds.{StopsIn, ReadsScript, MakesRecording};
 
 use crate::files::read_input;
 use command_spec::limits::USUAL_INTERVAL;
@@ -35,12 +31,11 @@ pub(crate) fn refused_line(line: u32, kind: ConfKind) -> Fault
 
 /// The script that is sent.
 fn script_of<W: World>(alloc: Global, words: &SendWords<'_>, world: &mut W) -> Result<Script, Fault>
-    ensures stops { IfErr result (Stops W.tells (W.contents world.old) (work (Send (sent words.now))).steps
-        (RoseAt (W.own_faults world.old) (W.own_faults world.new)) (RoseAt (W.object_faults world.old) (W.object_faults world.new)) words.now.script.now) }
-    ensures read { IfOk result (λ lines. (octets : List ℕ) × (W.tells → W.contents world.old words.now.script.now ≡ Some octets) × (script octets ≡ Ok lines)) }
+    ensures stops { IfErr result (StopsIn W.World world.old world.new (Send (sent words.now))) }
+    ensures read { IfOk result (ReadsScript W.World world.old words.now.script.now) }
     ensures same_contents { W.tells → Same (W.contents world.old) (W.contents world.new) }
-    ensures calls_never_fall { (n : List ℕ) → W.own_faults world.old n ≤ W.own_faults world.new n }
-    ensures objects_never_fall { (n : List ℕ) → W.object_faults world.old n ≤ W.object_faults world.new n }
+    ensures calls_never_fall { NoneFalls W.own_faults world.old world.new }
+    ensures objects_never_fall { NoneFalls W.object_faults world.old world.new }
 {
     let octets = match read_input(alloc, words.script, MOST_SCRIPT_OCTETS, world) {
         Ok(octets) => octets,
@@ -59,13 +54,11 @@ pub fn recording_of<W: World>(
     words: &SendWords<'_>,
     world: &mut W,
 ) -> Result<Bytes, Fault>
-    ensures stops { IfErr result (Stops W.tells (W.contents world.old) (work (Send (sent words.now))).steps
-        (RoseAt (W.own_faults world.old) (W.own_faults world.new)) (RoseAt (W.object_faults world.old) (W.object_faults world.new)) words.now.script.now) }
-    ensures made { IfOk result (λ file. (octets : List ℕ) × (W.tells → W.contents world.old words.now.script.now ≡ Some octets)
-        × (sends (sent words.now) (script octets) ≡ Makes [] (record { name = words.now.out.now; octets = file } ∷ []))) }
+    ensures stops { IfErr result (StopsIn W.World world.old world.new (Send (sent words.now))) }
+    ensures made { IfOk result (MakesRecording W.World world.old (sent words.now)) }
     ensures same_contents { W.tells → Same (W.contents world.old) (W.contents world.new) }
-    ensures calls_never_fall { (n : List ℕ) → W.own_faults world.old n ≤ W.own_faults world.new n }
-    ensures objects_never_fall { (n : List ℕ) → W.object_faults world.old n ≤ W.object_faults world.new n }
+    ensures calls_never_fall { NoneFalls W.own_faults world.old world.new }
+    ensures objects_never_fall { NoneFalls W.object_faults world.old world.new }
 {
     let script = match script_of(alloc, words, world) {
         Ok(script) => script,

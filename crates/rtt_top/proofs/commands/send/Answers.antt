@@ -3,7 +3,7 @@ use Rattle.file_spec.specs.Script.{script}
 use Rattle.rtt_words.specs.Commands.{sent}
 use Rattle.command_spec.specs.Work.{Makes}
 use Rattle.command_spec.specs.Commands.{sends}
-use Rattle.rtt_top.specs.Outside.{outside, output}
+use Rattle.rtt_top.specs.Outside.{outside, output_at}
 use Rattle.rtt_top.proofs.Sending.{saves}
 use Rattle.rtt_top.proofs.commands.send.Goals as goal
 
@@ -11,7 +11,7 @@ pub returns-in-Ok : goal.returns-in-Ok
 returns-in-Ok g c =
     let held = g.W.World.contents c.args.world.now in
     let s = sent c.args.words.now in
-    let out = output (g.K.Sink.took c.args.out.now) (g.K.Sink.faults c.args.out.now) in
+    let out = output_at g.K.Sink c.args.out.now in
     let Made : List ℕ → Type 0 = λ file. (octets : List ℕ) × (g.W.World.tells → held s.script ≡ Some octets) × (sends s (script octets) ≡ Makes [] (record { name = s.out; octets = file } ∷ [])) in
     saves s g.W.World.tells g.K.Sink.tells
     (outside held (g.W.World.own_faults c.args.world.now) (g.W.World.object_faults c.args.world.now) out)

@@ -1,4 +1,4 @@
-use Rattle.std.proofs.Common.{◌≡◌, ◌++◌, take, ℕ, List, Err, refl, ap, sym, subst, ◌∙◌, arith}
+use Rattle.std.proofs.Common.{◌≡◌, ◌++◌, take, ℕ, Err, refl, ap, sym, subst, ◌∙◌}
 use Rattle.std.specs.Prelude.{IfErr, OnOk, OnErr}
 use Rattle.conf_text.specs.Lines.{conf_of}
 use Rattle.command_spec.specs.declared.faults.Fault.{Fault}
@@ -6,25 +6,23 @@ use Rattle.command_spec.specs.Outcomes.{AllStored}
 use Rattle.bridge_run.specs.Mixes.{outputs_of}
 use Rattle.rtt_top.specs.Conferences.{ending_name, mixing_work}
 use Rattle.rtt_top.specs.Outputs.{IsUnwritten}
-use Rattle.rtt_top.specs.Outside.{RoseAt, outside, output}
+use Rattle.rtt_top.specs.Outside.{RoseAt, outside_at}
 use Rattle.rtt_top.specs.Runs.{Ends}
 use Rattle.rtt_top.proofs.Bridging.{all_stored_since, printed_mixing, saved, stopped_mixing, unwritten_result}
 use Rattle.rtt_top.proofs.mixing.mix_conf.Goals as goal
 
 pub returns-in-Err : goal.returns-in-Err
 returns-in-Err g c = λ file octets there read.
-    let out = output (g.K.Sink.took c.args.out.now) (g.K.Sink.faults c.args.out.now) in
-    let old = outside (g.W.World.contents c.args.world.now) (g.W.World.own_faults c.args.world.now) (g.W.World.object_faults c.args.world.now) out in
-    let new = outside (g.W.World.contents c.mix.new.world) (g.W.World.own_faults c.mix.new.world) (g.W.World.object_faults c.mix.new.world) out in
+    let old = outside_at g.W.World g.K.Sink c.args.world.now c.args.out.now in
+    let new = outside_at g.W.World g.K.Sink c.mix.new.world c.args.out.now in
     let P : Fault → Type 0 = λ f. Ends (mixing_work file) g.W.World.tells g.K.Sink.tells old new (ending_name file c.args.conf.now.legs (Err f)) (Err f) in
     subst P (sym c.fault_of_mixing.ensures)
     (stopped_mixing g.W.World.tells g.K.Sink.tells old new file octets (conf_of c.args.conf.now) c.in-Err.fault there read c.in-Err.ensures.stops ((λ shown. refl), c.in-Err.ensures.same_contents))
 
 pub returns-then-is_err : goal.returns-then-is_err
 returns-then-is_err g c = λ file octets there read.
-    let out = output (g.K.Sink.took c.args.out.now) (g.K.Sink.faults c.args.out.now) in
-    let old = outside (g.W.World.contents c.args.world.now) (g.W.World.own_faults c.args.world.now) (g.W.World.object_faults c.args.world.now) out in
-    let new = outside (g.W.World.contents c.save_outputs-saved.new.world) (g.W.World.own_faults c.save_outputs-saved.new.world) (g.W.World.object_faults c.save_outputs-saved.new.world) out in
+    let old = outside_at g.W.World g.K.Sink c.args.world.now c.args.out.now in
+    let new = outside_at g.W.World g.K.Sink c.save_outputs-saved.new.world c.args.out.now in
     let same = ap (λ legs. outputs_of legs c.as_slice-2.result.now) c.as_slice.ensures ∙ ap (outputs_of c.args.conf.now.legs) c.as_slice-2.ensures.value in
     unwritten_result g.W.World.tells g.K.Sink.tells old new
     (g.W.World.contents c.mix.new.world) (g.W.World.own_faults c.mix.new.world) (g.W.World.object_faults c.mix.new.world)
@@ -37,10 +35,8 @@ returns-then-is_err g c = λ file octets there read.
 
 pub returns : goal.returns
 returns g c = λ file octets there read.
-    let old = outside (g.W.World.contents c.args.world.now) (g.W.World.own_faults c.args.world.now) (g.W.World.object_faults c.args.world.now)
-    (output (g.K.Sink.took c.args.out.now) (g.K.Sink.faults c.args.out.now)) in
-    let new = outside (g.W.World.contents c.save_outputs-saved.new.world) (g.W.World.own_faults c.save_outputs-saved.new.world) (g.W.World.object_faults c.save_outputs-saved.new.world)
-    (output (g.K.Sink.took c.print.new.out) (g.K.Sink.faults c.print.new.out)) in
+    let old = outside_at g.W.World g.K.Sink c.args.world.now c.args.out.now in
+    let new = outside_at g.W.World g.K.Sink c.save_outputs-saved.new.world c.print.new.out in
     let same = ap (λ legs. outputs_of legs c.as_slice-2.result.now) c.as_slice.ensures ∙ ap (outputs_of c.args.conf.now.legs) c.as_slice-2.ensures.value in
     let stored : g.W.World.tells → AllStored (outputs_of c.args.conf.now.legs c.in-Ok.mixed.outs.items) old.contents new.contents = λ told.
     all_stored_since (outputs_of c.args.conf.now.legs c.in-Ok.mixed.outs.items) old.contents (g.W.World.contents c.mix.new.world) new.contents (c.mix.ensures.same_contents told)

@@ -1,10 +1,9 @@
-use Rattle.std.proofs.Common.{◌≡◌, Err, Ok, refl, ap, sym, subst, ◌∙◌}
+use Rattle.std.proofs.Common.{Err, refl, ap, sym, subst, ◌∙◌}
 use Rattle.command_spec.specs.Words as words
 use Rattle.command_spec.specs.Messages.{Ending}
-use Rattle.conf_text.specs.Lines.{conf_of}
 use Rattle.rtt_words.specs.Commands.{mixed}
 use Rattle.rtt_top.specs.Conferences.{ending_name, mixing_work}
-use Rattle.rtt_top.specs.Outside.{outside, output}
+use Rattle.rtt_top.specs.Outside.{outside_at, output_at}
 use Rattle.rtt_top.specs.Runs.{Ends}
 use Rattle.rtt_top.proofs.Ending.{runs}
 use Rattle.rtt_top.proofs.Working.{stopped}
@@ -13,11 +12,10 @@ use Rattle.rtt_top.proofs.mixing.mix_file.Goals as goal
 
 pub returns-in-Err : goal.returns-in-Err
 returns-in-Err g c =
-    let out = output (g.K.Sink.took c.args.out.now) (g.K.Sink.faults c.args.out.now) in
-    let old = outside (g.W.World.contents c.args.world.now) (g.W.World.own_faults c.args.world.now) (g.W.World.object_faults c.args.world.now) out in
-    let new = outside (g.W.World.contents c.conf_under.new.world) (g.W.World.own_faults c.conf_under.new.world) (g.W.World.object_faults c.conf_under.new.world) out in
-    let before = output (g.E.Sink.took c.args.err.now) (g.E.Sink.faults c.args.err.now) in
-    let after = output (g.E.Sink.took c.finish_with.new.err) (g.E.Sink.faults c.finish_with.new.err) in
+    let old = outside_at g.W.World g.K.Sink c.args.world.now c.args.out.now in
+    let new = outside_at g.W.World g.K.Sink c.conf_under.new.world c.args.out.now in
+    let before = output_at g.E.Sink c.args.err.now in
+    let after = output_at g.E.Sink c.finish_with.new.err in
     let name = c.args.words.now.conf.now in
     let ending : Ending = Err c.in-Err.fault in
     runs (words.Mix (mixed c.args.words.now)) g.W.World.tells g.K.Sink.tells g.E.Sink.tells old new before after c.finish_with.result
@@ -28,13 +26,11 @@ returns-in-Err g c =
 
 pub returns : goal.returns
 returns g c =
-    let out = output (g.K.Sink.took c.args.out.now) (g.K.Sink.faults c.args.out.now) in
-    let old = outside (g.W.World.contents c.args.world.now) (g.W.World.own_faults c.args.world.now) (g.W.World.object_faults c.args.world.now) out in
-    let mid = outside (g.W.World.contents c.conf_under.new.world) (g.W.World.own_faults c.conf_under.new.world) (g.W.World.object_faults c.conf_under.new.world) out in
-    let new = outside (g.W.World.contents c.mix_conf-ending.new.world) (g.W.World.own_faults c.mix_conf-ending.new.world) (g.W.World.object_faults c.mix_conf-ending.new.world)
-    (output (g.K.Sink.took c.mix_conf-ending.new.out) (g.K.Sink.faults c.mix_conf-ending.new.out)) in
-    let before = output (g.E.Sink.took c.args.err.now) (g.E.Sink.faults c.args.err.now) in
-    let after = output (g.E.Sink.took c.finish_with-2.new.err) (g.E.Sink.faults c.finish_with-2.new.err) in
+    let old = outside_at g.W.World g.K.Sink c.args.world.now c.args.out.now in
+    let mid = outside_at g.W.World g.K.Sink c.conf_under.new.world c.args.out.now in
+    let new = outside_at g.W.World g.K.Sink c.mix_conf-ending.new.world c.mix_conf-ending.new.out in
+    let before = output_at g.E.Sink c.args.err.now in
+    let after = output_at g.E.Sink c.finish_with-2.new.err in
     let file = c.args.words.now.conf.now in
     let ending = c.mix_conf-ending.result in
     let read = c.in-Ok.ensures.read in

@@ -1,11 +1,7 @@
-use Rattle.std.proofs.Common.{◌≡◌, ℕ, ◌≤◌, List, ap, sym, subst, ◌∙◌, arith}
-use Rattle.std.specs.Prelude.{get_or, length, take, IfErr, OnErr, OnOk}
+use Rattle.std.proofs.Common.{◌≡◌, ap, sym, subst, ◌∙◌, arith}
 use Rattle.file_spec.specs.declared.conf_lines.LegLine.{LegLine}
-use Rattle.command_spec.specs.declared.faults.Fault.{Fault}
-use Rattle.command_spec.specs.declared.faults.Fault.TheVariants.{CannotWrite}
 use Rattle.command_spec.specs.Work.{Made}
-use Rattle.command_spec.specs.Outcomes.{AllStored, Stores}
-use Rattle.rtt_top.specs.Files.{IsPartlyStored}
+use Rattle.command_spec.specs.Outcomes.{AllStored}
 use Rattle.bridge_run.specs.Mixes.{outputs_of}
 use Rattle.rtt_top.proofs.Saving.{IsFileAt, file_at, take_whole, unwritten, stored_next}
 use Rattle.rtt_top.proofs.outputs.save_outputs.Goals as goal

@@ -1,4 +1,4 @@
-use Rattle.std.proofs.Common.{◌≡◌, ℕ, ◌≤◌, List, take}
+use Rattle.std.proofs.Common.{ℕ, ◌≤◌, List, take}
 use Rattle.command_spec.specs.Outcomes.{AllStored}
 use Rattle.bridge_run.specs.Mixes.{outputs_of}
 use Rattle.rtt_top.proofs.outputs.save_outputs.Given as goal

@@ -1,4 +1,4 @@
-use Rattle.std.proofs.Common.{◌≡◌, ap, subst, ◌∙◌}
+use Rattle.std.proofs.Common.{ap, subst, ◌∙◌}
 use Rattle.rtpdump_io.specs.Reading.{to_come, source_of}
 use Rattle.wire_spec.specs.Dump.{Recording, dump, usual_limit}
 use Rattle.rtt_words.specs.Commands.{listed}

@@ -1,6 +1,6 @@
-use Rattle.std.proofs.Common.{◌≡◌, ap, subst, ◌∙◌}
+use Rattle.std.proofs.Common.{ap, subst, ◌∙◌}
 use Rattle.rtpdump_io.specs.Reading.{to_come, source_of}
-use Rattle.wire_spec.specs.Dump.{Recording, dump, usual_limit}
+use Rattle.wire_spec.specs.Dump.{Recording}
 use Rattle.rtt_words.specs.Commands.{asked}
 use Rattle.rtt_read.specs.Recordings.{IsSourceFault}
 use Rattle.command_spec.specs.Reading.{read_view}

@@ -1,6 +1,6 @@
 use Rattle.std.proofs.Common.{refl, inl, []}
 use Rattle.command_spec.specs.declared.faults.Fault.TheVariants.{WrongWords}
-use Rattle.rtt_top.specs.Outside.{outside, output}
+use Rattle.rtt_top.specs.Outside.{outside_at, output_at}
 use Rattle.rtt_top.specs.Runs.{asked_by}
 use Rattle.rtt_top.proofs.Ending.{no_words, no_memory}
 use Rattle.rtt_top.proofs.runs.run.Goals as goal
@@ -8,14 +8,14 @@ use Rattle.rtt_top.proofs.runs.run.Goals as goal
 pub returns-in-Err-Wrong : goal.returns-in-Err-Wrong
 returns-in-Err-Wrong g c =
     no_words (asked_by c.args.words.now) g.W.World.tells g.K.Sink.tells g.E.Sink.tells
-    (outside (g.W.World.contents c.args.world.now) (g.W.World.own_faults c.args.world.now) (g.W.World.object_faults c.args.world.now) (output (g.K.Sink.took c.args.out.now) (g.K.Sink.faults c.args.out.now)))
-    (output (g.E.Sink.took c.args.err.now) (g.E.Sink.faults c.args.err.now)) (output (g.E.Sink.took c.finish.new.err) (g.E.Sink.faults c.finish.new.err)) c.finish.result
+    (outside_at g.W.World g.K.Sink c.args.world.now c.args.out.now)
+    (output_at g.E.Sink c.args.err.now) (output_at g.E.Sink c.finish.new.err) c.finish.result
     WrongWords [] (c.command_of.ensures.wrong (cc (c.in-Err-Wrong.is, c.in-Err-Wrong.field-0-is))) (inl refl) c.finish.ensures.status c.finish.ensures.silent c.finish.ensures.told
 
 pub returns-in-Err-NoMemory : goal.returns-in-Err-NoMemory
 returns-in-Err-NoMemory g c =
     let finish = c.finish-in-Err-NoMemory in
     no_memory (asked_by c.args.words.now) g.W.World.tells g.K.Sink.tells g.E.Sink.tells
-    (outside (g.W.World.contents c.args.world.now) (g.W.World.own_faults c.args.world.now) (g.W.World.object_faults c.args.world.now) (output (g.K.Sink.took c.args.out.now) (g.K.Sink.faults c.args.out.now)))
-    (output (g.E.Sink.took c.args.err.now) (g.E.Sink.faults c.args.err.now)) (output (g.E.Sink.took finish.new.err) (g.E.Sink.faults finish.new.err)) finish.result
+    (outside_at g.W.World g.K.Sink c.args.world.now c.args.out.now)
+    (output_at g.E.Sink c.args.err.now) (output_at g.E.Sink finish.new.err) finish.result
     [] finish.ensures.status finish.ensures.silent finish.ensures.told

@@ -1,0 +1,96 @@
+-- What one call finds in a world, and what it leaves there.
+use Rattle.std.specs.Prelude.{◌≡◌, ◌⊎◌, ℕ, Some, List, [], ◌∷◌, Ok}
+use Rattle.rtt_io.specs.declared.worlds.World as worlds
+use Rattle.conf_text.specs.declared.confs.Conf.{Conf}
+use Rattle.conf_text.specs.Lines.{conf_of}
+use Rattle.file_spec.specs.declared.conf_lines.Form.TheVariants.{Files}
+use Rattle.file_spec.specs.declared.conf_lines.LegLine.{LegLine}
+use Rattle.file_spec.specs.Conf.{conf}
+use Rattle.file_spec.specs.Script.{ScriptLine, script}
+use Rattle.command_spec.specs.declared.faults.Fault.{Fault}
+use Rattle.command_spec.specs.Words.{SendWords, Command, Read, ListRecords, Send, Mix, Make}
+use Rattle.command_spec.specs.Work.{Makes}
+use Rattle.command_spec.specs.Commands.{sends, work}
+use Rattle.command_spec.specs.Outcomes.{outcome, Done, Stores, AllStored}
+use Rattle.bridge_run.specs.Mixes.{outputs_of}
+use Rattle.rtt_top.specs.Outside.{RoseAt}
+use Rattle.rtt_top.specs.Files.{made_file, IsPartlyStored}
+use Rattle.rtt_top.specs.Faults.{Stops, IsUnread}
+use Rattle.rtt_top.specs.Outputs.{IsUnwritten}
+
+-- of a script with these octets `send` makes a file with those
+abbrev pub SendMakes : SendWords → List ℕ → List ℕ → Type 0
+SendMakes s octets file = sends s (script octets) ≡ Makes [] (made_file s.out file ∷ [])
+
+-- the name of the file that a command reads first, if it reads one
+abbrev pub first_file : Command → List ℕ
+first_file (Read r) = r.file
+first_file (ListRecords l) = l.file
+first_file (Send s) = s.script
+first_file (Mix m) = m.conf
+first_file (Make m) = []
+
+module _ {W S D : Type 0} (w : worlds.Ghosts W S D) where
+  -- ---- what failed
+  -- a call that opens or creates this name failed
+  abbrev pub CallFailedIn : W → W → List ℕ → Type 0
+  CallFailedIn old new name = RoseAt (w.own_faults old) (w.own_faults new) name
+
+  -- a source or a sink of this name failed
+  abbrev pub ObjectFailedIn : W → W → List ℕ → Type 0
+  ObjectFailedIn old new name = RoseAt (w.object_faults old) (w.object_faults new) name
+
+  -- such a call, source or sink failed
+  abbrev pub FailedIn : W → W → List ℕ → Type 0
+  FailedIn old new name = CallFailedIn old new name ⊎ ObjectFailedIn old new name
+
+  -- the first input, of this name, could not be read to its end, for such a cause
+  abbrev pub IsUnreadIn : W → W → List ℕ → Fault → Type 0
+  IsUnreadIn old new name = IsUnread (CallFailedIn old new name) (ObjectFailedIn old new name)
+
+  -- the command stops before it makes anything, over the file that it reads first
+  abbrev pub StopsIn : W → W → Command → Fault → Type 0
+  StopsIn old new c =
+      Stops w.tells (w.contents old) (work c).steps (CallFailedIn old new) (ObjectFailedIn old new) (first_file c)
+
+  -- ---- what was read
+  -- this holds of some octets, which lie under this name as far as that is told
+  abbrev pub OfOctets : W → List ℕ → (List ℕ → Type 0) → Type 0
+  OfOctets world name P = (octets : List ℕ) × (w.tells → w.contents world name ≡ Some octets) × P octets
+
+  -- this conference is read under this name
+  abbrev pub ReadsConference : W → List ℕ → Conf → Type 0
+  ReadsConference world name c = OfOctets world name (λ octets. conf Files octets ≡ Ok (conf_of c))
+
+  -- these lines of a script are read under this name
+  abbrev pub ReadsScript : W → List ℕ → List ScriptLine → Type 0
+  ReadsScript world name lines = OfOctets world name (λ octets. script octets ≡ Ok lines)
+
+  -- this is the recording of what is sent for the script that lies there
+  abbrev pub MakesRecording : W → SendWords → List ℕ → Type 0
+  MakesRecording world s file = OfOctets world s.script (λ octets. SendMakes s octets file)
+
+  -- the outcome of the command is that these octets are printed, and no file is made
+  abbrev pub OnlyPrints : W → Command → List ℕ → Type 0
+  OnlyPrints world c printed = outcome (w.contents world) (work c).steps ≡ Done printed []
+
+  -- ---- what was stored
+  -- these octets lie under this name, and under each other name what lay there before
+  abbrev pub Saves : W → W → List ℕ → List ℕ → Type 0
+  Saves old new name octets = Stores (made_file name octets) (w.contents old) (w.contents new)
+
+  -- a front of them lies there, where the sink of this name failed, or nothing was changed
+  abbrev pub SavesPartly : W → W → List ℕ → List ℕ → Type 0
+  SavesPartly old new name octets =
+      IsPartlyStored (CallFailedIn old new name) (ObjectFailedIn old new name) (made_file name octets)
+      (w.contents old) (w.contents new)
+
+  -- the output of each leg lies there with its octets, and under each other name what lay there before
+  abbrev pub SavesEach : W → W → List LegLine → List (List ℕ) → Type 0
+  SavesEach old new legs outputs = AllStored (outputs_of legs outputs) (w.contents old) (w.contents new)
+
+  -- the output of a leg could not be written
+  abbrev pub IsUnwrittenIn : W → W → List LegLine → List (List ℕ) → Fault → Type 0
+  IsUnwrittenIn old new legs outputs =
+      IsUnwritten w.tells (CallFailedIn old new) (ObjectFailedIn old new) (outputs_of legs outputs)
+      (w.contents old) (w.contents new)
