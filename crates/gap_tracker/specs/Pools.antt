@@ -20,6 +20,10 @@ current_packet p = packet_at p.packets p.current
 abbrev pub with_current : Pool → TextPacket → Pool
 with_current p w = record p { packets = slice_set p.packets p.current w }
 
+-- a new packet is current
+abbrev pub with_new : Pool → Pool
+with_new p = record p { packets = p.packets ++ no_packet ∷ []; current = length p.packets }
+
 -- another place is current: a spare one, or where there is none a new one
 abbrev pub IsRenewed : Pool → Pool → Type 0
 IsRenewed old new =

@@ -263,6 +263,7 @@ impl Hold {
     }
 
     /// Settles the current packet, where it is the next one and none is held.
+    #[inline(always)]
     fn settle_at_once(&mut self, number: u64)
         requires counted { 0 < self.old.arrivals }
         requires room { length self.old.settled ≤ 64 }
@@ -281,8 +282,25 @@ impl Hold {
         });
     }
 
+    /// Holds the current packet, and settles what can be settled. Few packets come so, and this stands out of the way of
+    /// the others.
+    #[inline(never)]
+    fn hold(&mut self, at: usize, number: u64)
+        requires counted { 0 < self.old.arrivals }
+        requires room { length self.old.settled + length self.old.held ≤ 64 }
+        requires within { at ≤ length self.old.held }
+        requires number { number < 2 ^ 60 }
+        ensures stands { FollowsAll (put_current self.old at number) self.new }
+        ensures still { next_latest self.new ≡ None }
+        ensures same { SameButCurrent (put_current self.old at number) self.new }
+    {
+        self.put(at, number);
+        self.advance();
+    }
+
     /// Holds the current packet, and settles what can be settled. The next one, where none is held, is settled at once,
     /// as most are.
+    #[inline(always)]
     fn take_in(&mut self, at: usize, number: u64)
         requires counted { 0 < self.old.arrivals }
         requires room { length self.old.settled + length self.old.held ≤ 64 }
@@ -295,8 +313,7 @@ impl Hold {
         if self.held.is_empty() && number == self.front {
             self.settle_at_once(number);
         } else {
-            self.put(at, number);
-            self.advance();
+            self.hold(at, number);
         }
     }
 

@@ -65,6 +65,7 @@ impl<T: Drop> Line<T> {
     }
 
     /// Takes the first item. Where it is the only one, nothing is moved.
+    #[inline(always)]
     pub fn take_first(&mut self) -> T
         requires { 0 < length self.old }
         ensures { self.old ≡ result ∷ self.new }

@@ -1,7 +1,7 @@
 //! The packets of a tracker, each at a place that stays its own.
 ghost use Rattle.std.specs.Prelude.{◌≡◌, ◌+◌, ◌<◌, ◌≤◌, [], ◌∷◌, length, IfOk};
 ghost use Rattle.std.specs.Borrow.{sem};
-ghost use Rattle.gap_tracker.specs.Pools.{no_packet, current_packet, IsRenewed, turned_to};
+ghost use Rattle.gap_tracker.specs.Pools.{no_packet, current_packet, with_new, IsRenewed, turned_to};
 ghost use Rattle.gap_tracker.specs.Lends.{LendsCurrent};
 
 use crate::lines::Line;
@@ -62,8 +62,19 @@ impl PacketPool {
         &mut self.packets[self.current]
     }
 
+    /// Makes a new packet, which is current. Few packets need one, so this stands out of the way of the others.
+    #[inline(never)]
+    fn add_packet(&mut self)
+        requires { length self.old.packets ≤ 65 }
+        ensures { self.new ≡ with_new self.old }
+    {
+        self.current = self.packets.len();
+        self.packets.push_reserved(TextPacket::default());
+    }
+
     /// Gives the current packet's place away. Another place is current then: a spare one, or where there is none a new
     /// one.
+    #[inline(always)]
     pub fn give_away(&mut self) -> usize
         requires room { length self.old.packets ≤ 65 + length self.old.spare }
         requires few { length self.old.packets ≤ 66 }
@@ -72,8 +83,7 @@ impl PacketPool {
     {
         let place = self.current;
         if self.spare.is_empty() {
-            self.current = self.packets.len();
-            self.packets.push_reserved(TextPacket::default());
+            self.add_packet();
         } else {
             self.current = self.spare.take_last();
         }
@@ -81,6 +91,7 @@ impl PacketPool {
     }
 
     /// Makes the packet at this place the current one. The place of the one before is spare.
+    #[inline(always)]
     pub fn turn_to(&mut self, place: usize)
         requires { length self.old.spare < 65 }
         ensures { self.new ≡ turned_to self.old place }
