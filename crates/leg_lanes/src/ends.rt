@@ -9,6 +9,7 @@ use rtt_base::NoMemory;
 use std::alloc::Global;
 use std::sync::Arc;
 use std::sync::atomic::AtomicBool;
+use std::thread::Parker;
 
 /// The queue of a leg that is about to run, for the mixer and for the leg's thread, with its two ends. Nothing was pushed.
 #[derive(Drop)]
@@ -31,6 +32,7 @@ impl Ends {
         let line = Line {
             queue,
             alone: AtomicBool::new(false),
+            room: Parker::new(),
         };
         let Ok(ours) = Arc::new(alloc, line) else {
             return Err(NoMemory);

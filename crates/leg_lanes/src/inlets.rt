@@ -15,6 +15,7 @@ use rtt_base::Chunk;
 use rtt_io::{Gate, Source};
 use std::sync::Wait;
 use std::thread;
+use std::thread::Parker;
 
 /// Steps a leg that is at the mixer, unless its last item was pushed.
 fn step_feed<S: Source, R: Wait, G: Gate>(feed: &mut Feed<S>, rt: &R, queue: &LegQueue, gate: &G)
@@ -52,6 +53,17 @@ fn tell_popped<G: Gate>(gate: &G, place: u8, item: Item) {
     }
 }
 
+/// After how many pops a leg that sleeps while its queue is full is woken: half of its places are free then, and what is in
+/// the others keeps the mixer busy until it is awake.
+const POPS: u8 = 32;
+
+/// Wakes a leg that sleeps while its queue is full, where the queue was popped so often.
+fn wake(room: &Parker, pops: u8) {
+    if pops % POPS == 0 {
+        room.unpark();
+    }
+}
+
 impl<S: Source> Lane<S> {
     /// Pops the next text or the end, if it is there.
     fn pull<R: Wait, G: Gate>(&mut self, rt: &R, gate: &G, chunk: &mut Chunk) -> Item
@@ -61,6 +73,8 @@ impl<S: Source> Lane<S> {
     {
         let item = self.line.queue.pop(rt, &mut self.pop, self.place, chunk);
         tell_popped(gate, self.place, item);
+        self.pops = self.pops.wrapping_add(1);
+        wake(&self.line.room, self.pops);
         item
     }
 

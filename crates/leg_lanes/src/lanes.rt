@@ -11,13 +11,15 @@ use std::mem::ManuallyDrop;
 use std::snapshot::Snapshot;
 use std::sync::Arc;
 use std::sync::atomic::AtomicBool;
-use std::thread::{Promise, PromisedHandle};
+use std::thread::{Parker, Promise, PromisedHandle};
 
-/// What a leg's thread and the mixer share: the leg's queue, and a word by which the thread gives the leg back.
+/// What a leg's thread and the mixer share: the leg's queue, a word by which the thread gives the leg back, and where it sleeps
+/// while its queue is full.
 #[derive(Drop)]
 pub(crate) struct Line {
     pub(crate) queue: LegQueue,
     pub(crate) alone: AtomicBool,
+    pub(crate) room: Parker,
 }
 
 /// What a leg's thread promises of the feed that it gives back: its end is still one of the queue, and whatever leg the feed
@@ -51,6 +53,8 @@ pub struct Lane<S: Source> {
     pub(crate) line: Arc<Line, Global>,
     pub(crate) place: u8,
     pub(crate) pop: PopPass,
+    /// How often an item was asked for, modulo 256.
+    pub(crate) pops: u8,
     pub(crate) runner: Runner<S>,
     ghost popped: { IsPopOf (arc_value line).queue pop },
     ghost runs: { IsRunnerOf (arc_value line).queue runner } by { IsRunnerOf-prop (arc_value line).queue runner (λ p. Prim.hlevel props) },

@@ -35,7 +35,7 @@ fn run_lent<S: Source, R: Wait, G: Gate>(
     ensures follows { LentFollows S.tells S.left S.faults S.name lent result }
 {
     let feed = ManuallyDrop::into_inner(lent);
-    lend(run_feed(rt, feed, &line.queue, &line.alone, gate))
+    lend(run_feed(rt, feed, &line.queue, &line.alone, &line.room, gate))
 }
 
 /// Starts a leg on a thread of this stack, or has it back where the start is refused.
@@ -101,6 +101,7 @@ pub(crate) fn start_port<'s, 'e, S: Source + Send + 's, R: Wait + Sync, G: Gate 
             line: ours,
             place,
             pop,
+            pops: 0,
             runner,
         },
         stay,
@@ -128,6 +129,7 @@ impl<S: Source> Lane<S> {
             line,
             place: _,
             pop,
+            pops: _,
             runner,
         } = self;
         let feed = join_runner(runner, rt, &line.queue);

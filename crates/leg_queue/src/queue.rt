@@ -7,13 +7,33 @@ ghost use Rattle.leg_queue.specs.Ends.{WasFull, IsPushOf, IsPopOf, pushed, poppe
 ghost use Rattle.leg_queue.specs.Items.{IsHand, queued_by};
 ghost use Rattle.leg_queue.specs.Line.{IsSaid};
 
+use crate::PLACES;
 use crate::ends::{LegQueue, PopPass, PushPass};
+use crate::items::{Carried, Kind};
 use crate::rule::{Ends, Got, Line, Sent, Total};
-use crate::{PLACES, Queued};
+use crossbeam_queue::ArrayQueue;
 use mix_loop::Item;
 use rtt_base::{Chunk, Full, NoMemory, Text};
 use std::alloc::Global;
 use std::sync::Wait;
+use std::thread;
+
+/// How many boxes there are: one for each place, and one for each end's hand.
+const BOXES: usize = PLACES + 2;
+
+/// So many boxes.
+fn spare_boxes(alloc: Global) -> Result<ArrayQueue<Box<Text>>, NoMemory> {
+    let Ok(mut spare) = ArrayQueue::new(alloc, BOXES) else {
+        return Err(NoMemory);
+    };
+    for _ in 0..BOXES {
+        let Ok(text) = Box::new(alloc, Text::new()) else {
+            return Err(NoMemory);
+        };
+        let _room = spare.push_mut(text);
+    }
+    Ok(spare)
+}
 
 impl LegQueue {
     /// A queue that holds nothing, and its two ends.
@@ -25,8 +45,9 @@ impl LegQueue {
             return Err(NoMemory);
         };
         let pop = line.another::<Ends>(&mut push);
+        let spare = spare_boxes(alloc)?;
         Ok((
-            LegQueue { line },
+            LegQueue { line, spare },
             PushPass { pass: push },
             PopPass { pass: pop },
         ))
@@ -51,8 +72,16 @@ impl LegQueue {
         match item {
             Item::Chunk => self.add_text(rt, pass, chunk),
             Item::Later => Ok(()),
-            Item::End => self.add(rt, pass, Queued::End),
-            Item::Fault(fault) => self.add(rt, pass, Queued::Fault(fault)),
+            Item::End => {
+                let text = self.spare_box(rt);
+                let kind = Kind::End;
+                self.add(rt, pass, Carried { kind, text })
+            }
+            Item::Fault(fault) => {
+                let text = self.spare_box(rt);
+                let kind = Kind::Fault(fault);
+                self.add(rt, pass, Carried { kind, text })
+            }
         }
     }
 
@@ -64,13 +93,13 @@ impl LegQueue {
         ensures unchanged { OnErr result (pushed pass.new ≡ pushed pass.old) }
         ensures full { OnErr result (WasFull (pushed pass.old)) }
     {
-        let mut text = Text::new();
+        let mut text = self.spare_box(rt);
         copy_text(&chunk.text, &mut text);
-        let ready = chunk.ready;
-        self.add(rt, pass, Queued::Text { ready, text })
+        let kind = Kind::Text { ready: chunk.ready };
+        self.add(rt, pass, Carried { kind, text })
     }
 
-    fn add<R: Wait>(&self, rt: &R, pass: &mut PushPass, item: Queued) -> Result<(), Full>
+    fn add<R: Wait>(&self, rt: &R, pass: &mut PushPass, item: Carried) -> Result<(), Full>
         requires pass { IsPushOf self.now pass.old }
         requires said { IsSaid item }
         ensures queue { IsPushOf self.now pass.new }
@@ -80,8 +109,28 @@ impl LegQueue {
     {
         match self.line.push_as::<Sent, R>(rt, &mut pass.pass, item) {
             Ok(()) => Ok(()),
-            Err(_) => Err(Full),
+            Err(back) => {
+                self.give_back(rt, back);
+                Err(Full)
+            }
         }
+    }
+
+    /// A box for a text. There is one, but for the moment in which the other end has it in hand.
+    fn spare_box<R: Wait>(&self, rt: &R) -> Box<Text> {
+        for _ in rt.forever() {
+            if let Some(text) = self.spare.pop(rt) {
+                return text;
+            }
+            thread::yield_now();
+        }
+        unreachable!()
+    }
+
+    /// Gives back the box of an item.
+    fn give_back<R: Wait>(&self, rt: &R, item: Carried) {
+        let Carried { kind: _, text } = item;
+        let _room = self.spare.push(rt, text);
     }
 
     /// Takes the item at the front, and puts its text in place of what is in `chunk`, as one of the leg with this number.
@@ -93,7 +142,11 @@ impl LegQueue {
         ensures text { IsHand place result (chunk_of chunk.new) }
     {
         match self.line.pop_as::<Got, R>(rt, &mut pass.pass) {
-            Some(item) => hand_out(item, place, chunk),
+            Some(item) => {
+                let answer = hand_out(&item, place, chunk);
+                self.give_back(rt, item);
+                answer
+            }
             None => Item::Later,
         }
     }
@@ -112,20 +165,20 @@ impl LegQueue {
 }
 
 // Puts a text in place of what is in `chunk`, as one of the leg with this number.
-fn hand_out(item: Queued, place: u8, chunk: &mut Chunk) -> Item
-    requires { IsSaid item }
-    ensures is { queued_by result (chunk_of chunk.new) ≡ item ∷ [] }
+fn hand_out(item: &Carried, place: u8, chunk: &mut Chunk) -> Item
+    requires { IsSaid item.now }
+    ensures is { queued_by result (chunk_of chunk.new) ≡ item.now ∷ [] }
     ensures text { IsHand place result (chunk_of chunk.new) }
 {
-    match item {
-        Queued::Text { ready, text } => {
+    match item.kind {
+        Kind::Text { ready } => {
             chunk.source = place;
             chunk.ready = ready;
-            copy_text(&text, &mut chunk.text);
+            copy_text(&item.text, &mut chunk.text);
             Item::Chunk
         }
-        Queued::End => Item::End,
-        Queued::Fault(fault) => Item::Fault(fault),
+        Kind::End => Item::End,
+        Kind::Fault(fault) => Item::Fault(fault),
     }
 }
 

@@ -4,6 +4,7 @@ ghost use Rattle.leg_queue.specs.declared.items.TheConstants.{PLACES};
 ghost use Rattle.leg_queue.specs.Line.{log, Relayed, IsSaid};
 
 use crate::Queued;
+use crate::items::Carried;
 use crossbeam_queue::RuledArrayQueue;
 use crossbeam_queue::protocol::{Join, Lesson, Outcome, Protocol, Split};
 use std::collections::LinkedList;
@@ -18,7 +19,7 @@ pub struct Log {
 
 pub struct InOrder;
 
-impl Protocol<Queued, Log> for InOrder {
+impl Protocol<Carried, Log> for InOrder {
     ghost use Rattle.std.specs.Prelude.{true, []};
     ghost use Rattle.leg_queue.specs.Line.{log, Relayed};
 
@@ -51,30 +52,30 @@ impl Join<Log> for Ends {
 // A push adds to what was pushed.
 pub struct Sent;
 
-impl Outcome<Queued, Log> for Sent {
+impl Outcome<Carried, Log> for Sent {
     ghost then = { λ v x w. w ≡ log v.pushes v.pops (v.sent ++ x ∷ []) v.got };
 }
 
-impl Lesson<Queued, Log> for Sent {
+impl Lesson<Carried, Log> for Sent {
     ghost fact = { λ v items. (got : List _) × (v.sent ≡ got ++ items) };
 }
 
 // A pop adds to what was popped.
 pub struct Got;
 
-impl Outcome<Queued, Log> for Got {
+impl Outcome<Carried, Log> for Got {
     ghost then = { λ v x w. (w ≡ log v.pushes v.pops v.sent (v.got ++ x ∷ [])) × IsSaid x };
 }
 
-impl Lesson<Queued, Log> for Got {
+impl Lesson<Carried, Log> for Got {
     ghost fact = { λ v items. (sent : List _) × (sent ≡ v.got ++ items) };
 }
 
 // Both ends together know what is left.
 pub struct Total;
 
-impl Lesson<Queued, Log> for Total {
+impl Lesson<Carried, Log> for Total {
     ghost fact = { λ v items. (v.sent ≡ v.got ++ items) × (length items ≤ PLACES) };
 }
 
-pub type Line = RuledArrayQueue<Queued, Log, InOrder>;
+pub type Line = RuledArrayQueue<Carried, Log, InOrder>;

@@ -11,19 +11,24 @@ use std::sync::atomic::{AtomicBool, Ordering};
 use std::thread::Parker;
 use std::time::Duration;
 
-/// Sleeps for a millisecond, where an item waits for room. What is in a full queue keeps the mixer busy for longer.
-fn wait_for_room<S: Source, R: Wait>(rt: &R, feed: &Feed<S>) {
+/// The longest sleep, in milliseconds, of a leg whose queue is full. Who pops ends it before.
+const LONGEST_SLEEP: u64 = 100;
+
+/// Sleeps until there is room, where an item waits for it.
+fn wait_for_room<S: Source, R: Wait>(rt: &R, feed: &Feed<S>, room: &Parker) {
     if !feed.is_empty() {
-        Parker::new().park_timeout(rt, Duration::from_millis(1));
+        room.park_timeout(rt, Duration::from_millis(LONGEST_SLEEP));
     }
 }
 
-/// Steps a feed until its last item was pushed, or `alone` says that the caller wants it back.
+/// Steps a feed until its last item was pushed, or `alone` says that the caller wants it back. Where the queue is full it parks
+/// at `room`, which the caller unparks now and then while it pops.
 pub fn run_feed<S: Source, R: Wait, G: Gate>(
     rt: &R,
     mut feed: Feed<S>,
     queue: &LegQueue,
     alone: &AtomicBool,
+    room: &Parker,
     gate: &G,
 ) -> Feed<S>
     requires pass { IsPushOf queue.now feed.pass }
@@ -37,7 +42,7 @@ pub fn run_feed<S: Source, R: Wait, G: Gate>(
         if feed.step(rt, queue, gate) {
             break;
         }
-        wait_for_room(rt, &feed);
+        wait_for_room(rt, &feed, room);
     }
     feed
 }

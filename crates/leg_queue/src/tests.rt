@@ -14,6 +14,7 @@ use std::alloc::Global;
 use std::sync::Wait;
 use std::sync::atomic::AtomicBool;
 use std::test::Fail;
+use std::thread::Parker;
 use wire_spec::DumpKind;
 
 // Whether a text x of leg 5 is taken, ready at this moment.
@@ -134,7 +135,7 @@ fn pushes_its_part<R: Wait>(
     };
     let feed = Feed::new(leg, stay, 5, push);
     let alone = AtomicBool::new(false);
-    let feed = run_feed(rt, feed, &queue, &alone, &StillGate);
+    let feed = run_feed(rt, feed, &queue, &alone, &Parker::new(), &StillGate);
     let is_done = feed.done();
     let has_text = pops_text(rt, &queue, &mut pop, 300, b"B");
     let mut chunk = Chunk::default();
