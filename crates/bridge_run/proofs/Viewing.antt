@@ -1,5 +1,5 @@
 -- The view of each terminal is what is seen there.
-use Rattle.std.proofs.Common.{◌≡◌, ℕ, zero, suc, ◌+◌, ◌*◌, ◌^◌, ◌<◌, ◌≤◌, Bool, true, false, cond, List, [], ◌∷◌, ◌++◌, length, map, take, get_or, None, refl, ap, sym, ◌∙◌, subst, arith, add-one}
+use Rattle.std.proofs.Common.{◌≡◌, ℕ, zero, suc, ◌+◌, ◌*◌, ◌^◌, ◌<◌, ◌≤◌, Bool, true, false, cond, List, [], ◌∷◌, ◌++◌, length, map, take, get_or, None, refl, ap, sym, ◌∙◌, subst, append_assoc, arith, add-one}
 use Rattle.std.specs.Prelude.{AllPairs, remove, flat_map, ◌≢◌}
 use Rattle.std.specs.List.{enumerate_from, sum_by}
 use Rattle.std.proofs.lemmas.List.Sums.{sum_by-cons, sum_by-le, sum_by_push}
@@ -23,7 +23,7 @@ use Rattle.terminal.specs.declared.confs.TermConf.{TermConf}
 use Rattle.terminal.specs.declared.terminals.Terminal.{Terminal}
 use Rattle.terminal.specs.Terminals.{counts_of, reception, texts_of, IsTextOf, Heard}
 use Rattle.bridge_run.specs.declared.views.Seen.{Seen}
-use Rattle.bridge_run.specs.Viewed.{Adds, AddsCounts, HasFew, counts_from, marks_of, markers_from, summed, terminal_conf, view_from}
+use Rattle.bridge_run.specs.Viewed.{Adds, AddsCounts, AddsSeen, HasFew, IsSeenBetween, counts_from, first_legs, marks_of, markers_from, marks_below, packets_below, summed, terminal_conf, used_below, view_from, views_below}
 
 -- which element is meant makes no difference within
 pub same_default : {X : Type 0} (xs : List X) (i : ℕ) (d e : X) → i < length xs → get_or xs i d ≡ get_or xs i e
@@ -118,9 +118,6 @@ adds c own leg records t q sources old shown new e s h view packets used marks a
     }
 
 -- ---- all of them
-abbrev pub first_legs : Conf → ℕ → List (ℕ × LegLine)
-first_legs c k = take k (enumerate_from 0 c.legs)
-
 legs_more : (c : Conf) (k : ℕ) (d : LegLine) → k < length c.legs → first_legs c (k + 1) ≡ first_legs c k ++ (k, get_or c.legs k d) ∷ []
 legs_more c k d l =
     let all = enumerate_from 0 c.legs in
@@ -129,41 +126,62 @@ legs_more c k d l =
     let it : get_or all k (0, d) ≡ (k, get_or c.legs k d) = get_or-enumerate_from 0 c.legs k (0, d) l ∙ ap (λ (n : ℕ). (n, get_or c.legs k d)) zeroed in
     ap (λ (n : ℕ). take n all) (add-one k) ∙ (take-suc all k (0, d) (omega (arith, size, l)) ∙ ap (λ (x : ℕ × LegLine). take k all ++ x ∷ []) it)
 
--- what is seen at the first k terminals, and what they counted
-pub record IsSeenAt (c : Conf) (table : Table) (k : ℕ) (seen : Seen) : Type 0 where
-  pub views : seen.views ≡ flat_map (λ x. view_of c table x.0 x.1) (first_legs c k)
-  pub packets : seen.packets ≡ sum_by (λ x. (counts_to c table x.0 x.1).packets) (first_legs c k)
-  pub used : seen.used ≡ sum_by (λ x. (counts_to c table x.0 x.1).used) (first_legs c k)
-  pub marks : seen.marks ≡ sum_by (λ x. markers_to c table x.0 x.1) (first_legs c k)
-
 -- a number of one more
 sum_more : (c : Conf) (f : ℕ × LegLine → ℕ) (k : ℕ) (d : LegLine) → k < length c.legs → sum_by f (first_legs c (k + 1)) ≡ sum_by f (first_legs c k) + f (k, get_or c.legs k d)
 sum_more c f k d l = ap (sum_by f) (legs_more c k d l) ∙ sum_by_push f (first_legs c k) (k, get_or c.legs k d)
 
-pub seen_more : (c : Conf) (table : Table) (k : ℕ) (d : LegLine) (old new : Seen) → k < length c.legs → IsSeenAt c table k old
-    → Adds c k (get_or c.legs k d) (records_to c table k (get_or c.legs k d)) old new → IsSeenAt c table (k + 1) new
-seen_more c table k d old new l s a =
+-- at no terminal
+pub seen_none : (c : Conf) (table : Table) (k : ℕ) (seen : Seen) → seen.views ≡ [] → seen.packets ≡ 0 → seen.used ≡ 0 → seen.marks ≡ 0 → IsSeenBetween c table k k seen
+seen_none c table k seen views packets used marks = record {
+  views = ap (λ (xs : List ℕ). views_below c table k ++ xs) views ∙ append-nil (views_below c table k);
+  packets = omega (arith, packets);
+  used = omega (arith, used);
+  marks = omega (arith, marks);
+}
+
+-- at one terminal more
+pub seen_more : (c : Conf) (table : Table) (from k : ℕ) (d : LegLine) (old new : Seen) → k < length c.legs → IsSeenBetween c table from k old
+    → Adds c k (get_or c.legs k d) (records_to c table k (get_or c.legs k d)) old new → IsSeenBetween c table from (k + 1) new
+seen_more c table from k d old new l s a =
     let leg = get_or c.legs k d in
     let view : ℕ × LegLine → List ℕ = λ x. view_of c table x.0 x.1 in
+    let front : List ℕ = views_below c table from in
     record {
-      views = a.views ∙ (ap (λ (xs : List ℕ). xs ++ view_of c table k leg) s.views
+      views = ap (λ (xs : List ℕ). front ++ xs) a.views ∙ (sym (append_assoc front old.views (view_of c table k leg)) ∙ (ap (λ (xs : List ℕ). xs ++ view_of c table k leg) s.views
           ∙ sym (ap (flat_map view) (legs_more c k d l)
-          ∙ (flat_map-append view (first_legs c k) ((k, leg) ∷ []) ∙ ap (λ (xs : List ℕ). flat_map view (first_legs c k) ++ xs) (append-nil (view (k, leg))))));
-      packets = a.packets ∙ (ap (λ n. n + (counts_to c table k leg).packets) s.packets ∙ sym (sum_more c (λ x. (counts_to c table x.0 x.1).packets) k d l));
-      used = a.used ∙ (ap (λ n. n + (counts_to c table k leg).used) s.used ∙ sym (sum_more c (λ x. (counts_to c table x.0 x.1).used) k d l));
-      marks = a.marks ∙ (ap (λ n. n + markers_to c table k leg) s.marks ∙ sym (sum_more c (λ x. markers_to c table x.0 x.1) k d l));
+          ∙ (flat_map-append view (first_legs c k) ((k, leg) ∷ []) ∙ ap (λ (xs : List ℕ). flat_map view (first_legs c k) ++ xs) (append-nil (view (k, leg)))))));
+      packets = omega (arith, a.packets, s.packets, sum_more c (λ x. (counts_to c table x.0 x.1).packets) k d l);
+      used = omega (arith, a.used, s.used, sum_more c (λ x. (counts_to c table x.0 x.1).used) k d l);
+      marks = omega (arith, a.marks, s.marks, sum_more c (λ x. markers_to c table x.0 x.1) k d l);
+    }
+
+-- at the terminals of one part more
+pub seen_both : (c : Conf) (table : Table) (from middle to : ℕ) (old part new : Seen) → IsSeenBetween c table from middle old → IsSeenBetween c table middle to part → AddsSeen part old new → IsSeenBetween c table from to new
+seen_both c table from middle to old part new s p a =
+    let front : List ℕ = views_below c table from in
+    record {
+      views = ap (λ (xs : List ℕ). front ++ xs) a.views ∙ (sym (append_assoc front old.views part.views) ∙ (ap (λ (xs : List ℕ). xs ++ part.views) s.views ∙ p.views));
+      packets = omega (arith, a.packets, s.packets, p.packets);
+      used = omega (arith, a.used, s.used, p.used);
+      marks = omega (arith, a.marks, s.marks, p.marks);
     }
 
 all_legs : (c : Conf) (k : ℕ) → length c.legs ≤ k → first_legs c k ≡ enumerate_from 0 c.legs
 all_legs c k l = take_all k (enumerate_from 0 c.legs) (omega (arith, length-enumerate_from 0 c.legs, l))
 
-pub views_all : (c : Conf) (table : Table) (k : ℕ) (seen : Seen) → length c.legs ≤ k → IsSeenAt c table k seen → seen.views ≡ views c table
+pub views_all : (c : Conf) (table : Table) (k : ℕ) (seen : Seen) → length c.legs ≤ k → IsSeenBetween c table 0 k seen → seen.views ≡ views c table
 views_all c table k seen l s = s.views ∙ ap (flat_map (λ x. view_of c table x.0 x.1)) (all_legs c k l)
 
-pub sums_all : (c : Conf) (table : Table) (k : ℕ) (seen : Seen) → length c.legs ≤ k → IsSeenAt c table k seen → summed seen ≡ sums c table
+without : (a b d : ℕ) → a ≡ 0 → a + b ≡ d → b ≡ d
+without a b d e f = omega arith
+
+pub sums_all : (c : Conf) (table : Table) (k : ℕ) (seen : Seen) → length c.legs ≤ k → IsSeenBetween c table 0 k seen → summed seen ≡ sums c table
 sums_all c table k seen l s =
     let whole : (f : ℕ × LegLine → ℕ) → sum_by f (first_legs c k) ≡ sum_by f (enumerate_from 0 c.legs) = λ f. ap (sum_by f) (all_legs c k l) in
-    let packets = s.packets ∙ whole (λ x. (counts_to c table x.0 x.1).packets) in
-    let used = s.used ∙ whole (λ x. (counts_to c table x.0 x.1).used) in
-    let marks = s.marks ∙ whole (λ x. markers_to c table x.0 x.1) in
+    let no_packets : packets_below c table 0 ≡ 0 = refl in
+    let none_used : used_below c table 0 ≡ 0 = refl in
+    let no_marks : marks_below c table 0 ≡ 0 = refl in
+    let packets : seen.packets ≡ sum_by (λ x. (counts_to c table x.0 x.1).packets) (enumerate_from 0 c.legs) = without (packets_below c table 0) seen.packets (packets_below c table k) no_packets s.packets ∙ whole (λ x. (counts_to c table x.0 x.1).packets) in
+    let used : seen.used ≡ sum_by (λ x. (counts_to c table x.0 x.1).used) (enumerate_from 0 c.legs) = without (used_below c table 0) seen.used (used_below c table k) none_used s.used ∙ whole (λ x. (counts_to c table x.0 x.1).used) in
+    let marks : seen.marks ≡ sum_by (λ x. markers_to c table x.0 x.1) (enumerate_from 0 c.legs) = without (marks_below c table 0) seen.marks (marks_below c table k) no_marks s.marks ∙ whole (λ x. markers_to c table x.0 x.1) in
     cc (packets, used, marks)

@@ -1,18 +1,20 @@
 -- What is seen at the terminals of a conference, by what was sent to each (profile).
-use Rattle.std.specs.Prelude.{◌≡◌, ℕ, Bool, ◌+◌, ◌*◌, ◌^◌, ◌<◌, ◌≤◌, List, [], ◌++◌, length, map, remove, slice_index_or, IsTrue, All, if◌then◌else◌}
-use Rattle.std.specs.List.{sum_by}
+use Rattle.std.specs.Prelude.{◌≡◌, ℕ, Bool, ◌+◌, ◌*◌, ◌^◌, ◌<◌, ◌≤◌, List, [], ◌++◌, length, map, min, remove, take, flat_map, slice_index_or, IsTrue, All, IfOk, Result, if◌then◌else◌}
+use Rattle.std.specs.List.{enumerate_from, sum_by}
+use Rattle.rtt_base.specs.declared.errors.NoMemory.{NoMemory}
 use Rattle.text_spec.specs.declared.counts.Counts.{Counts}
 use Rattle.file_spec.specs.declared.conf_lines.LegLine.{LegLine}
 use Rattle.file_spec.specs.Conf.{Conf, is_name}
 use Rattle.mixer_spec.specs.Table.{Table}
 use Rattle.command_spec.specs.Seen.{aware_seen, counts_at, unaware_seen}
-use Rattle.command_spec.specs.Mixing.{came, reception_of, records_to, speaker_of, views}
-use Rattle.command_spec.specs.Sums.{Sums, markers_at, sources_of, sums}
+use Rattle.command_spec.specs.Mixing.{came, reception_of, records_to, speaker_of, view_of, views}
+use Rattle.command_spec.specs.Sums.{Sums, counts_to, markers_at, markers_to, sources_of, sums}
 use Rattle.played.specs.Written.{IsWrittenOf}
 use Rattle.terminal.specs.declared.confs.TermConf.{TermConf}
 use Rattle.terminal.specs.declared.terminals.Terminal.{Terminal}
 use Rattle.terminal.specs.Terminals.{counts_of, texts_of}
 use Rattle.bridge_run.specs.declared.views.Seen.{Seen}
+use Rattle.bridge_run.specs.declared.parts.TheConstants.{MOST_PARTS}
 
 -- each leg has a name
 abbrev pub AreNamed : List LegLine → Type 0
@@ -100,3 +102,50 @@ pub record AreOf (n : ℕ) (seen : Seen) : Type 0 where
 
 abbrev pub summed : Seen → Sums
 summed seen = record { packets = seen.packets; used = seen.used; marks = seen.marks }
+
+-- ---- the terminals of some legs
+-- the first k legs, each with its number
+abbrev pub first_legs : Conf → ℕ → List (ℕ × LegLine)
+first_legs c k = take k (enumerate_from 0 c.legs)
+
+-- what is seen at the first k terminals
+abbrev pub views_below : Conf → Table → ℕ → List ℕ
+views_below c table k = flat_map (λ x. view_of c table x.0 x.1) (first_legs c k)
+
+-- and what they count
+abbrev pub packets_below : Conf → Table → ℕ → ℕ
+packets_below c table k = sum_by (λ x. (counts_to c table x.0 x.1).packets) (first_legs c k)
+
+abbrev pub used_below : Conf → Table → ℕ → ℕ
+used_below c table k = sum_by (λ x. (counts_to c table x.0 x.1).used) (first_legs c k)
+
+abbrev pub marks_below : Conf → Table → ℕ → ℕ
+marks_below c table k = sum_by (λ x. markers_to c table x.0 x.1) (first_legs c k)
+
+-- This is seen at the terminals from the first number on and below the other.
+pub record IsSeenBetween (c : Conf) (table : Table) (from to : ℕ) (seen : Seen) : Type 0 where
+  pub views : views_below c table from ++ seen.views ≡ views_below c table to
+  pub packets : packets_below c table from + seen.packets ≡ packets_below c table to
+  pub used : used_below c table from + seen.used ≡ used_below c table to
+  pub marks : marks_below c table from + seen.marks ≡ marks_below c table to
+
+-- so it is where these are the recordings of what was sent
+abbrev pub AreSeenBetween : Conf → List (List ℕ) → ℕ → ℕ → Seen → Type 0
+AreSeenBetween c outs from to seen = (table : Table) → AreSent c table outs → IsSeenBetween c table from to seen
+
+-- ---- parts
+-- this is seen at the terminals of the part with this number, of parts of so many terminals
+pub record IsPartOf (c : Conf) (outs : List (List ℕ)) (size number : ℕ) (seen : Seen) : Type 0 where
+  pub seen_there : AreSeenBetween c outs (min (number * size) (length outs)) (min ((number + 1) * size) (length outs)) seen
+  pub numbers : AreOf 64 seen
+
+-- these are what is seen at the terminals of each part, where memory was there
+abbrev pub ArePartsOf : Conf → List (List ℕ) → ℕ → List (Result Seen NoMemory) → Type 0
+ArePartsOf c outs size parts = (k : ℕ) (d : Result Seen NoMemory) → k < MOST_PARTS → IfOk (slice_index_or parts k d) (IsPartOf c outs size k)
+
+-- what is seen at more terminals was added
+pub record AddsSeen (part old new : Seen) : Type 0 where
+  pub views : new.views ≡ old.views ++ part.views
+  pub packets : new.packets ≡ old.packets + part.packets
+  pub used : new.used ≡ old.used + part.used
+  pub marks : new.marks ≡ old.marks + part.marks

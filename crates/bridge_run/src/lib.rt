@@ -5,6 +5,7 @@ mod loggers;
 mod logging;
 mod mixed;
 mod mixing;
+mod parts;
 mod ports;
 mod reading;
 mod views;

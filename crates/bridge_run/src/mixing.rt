@@ -11,9 +11,10 @@ ghost use Rattle.bridge_run.specs.Mixes.{IsMade, StopsIn, counted};
 ghost use Rattle.bridge_run.specs.Viewed.{AreSumsOf, AreViewsOf};
 
 use crate::loggers::Logged;
+use crate::parts::views_on_threads;
 use crate::ports::{close_ports, close_ports_after_fault, held_ports, open_ports};
 use crate::reading::{Readers, mix_read};
-use crate::views::{Seen, views_of};
+use crate::views::Seen;
 use crate::{MixFault, Mixed};
 use conf_text::Conf;
 use leg_items::LegInlet;
@@ -39,7 +40,7 @@ fn input_limit(conf: &Conf) -> u32
 }
 
 /// What a mixing makes whose packets were recorded so.
-fn made(alloc: Global, conf: &Conf, log: Log) -> Result<Mixed, MixFault>
+fn made<R: Threads + Sync>(rt: &R, alloc: Global, conf: &Conf, log: Log) -> Result<Mixed, MixFault>
     requires legs { length log ≡ length conf.now.legs }
     requires written { All IsWritten log }
     ensures views { IfOk result (λ mixed. AreViewsOf (conf_of conf.now) log mixed.views) }
@@ -48,7 +49,7 @@ fn made(alloc: Global, conf: &Conf, log: Log) -> Result<Mixed, MixFault>
     ensures fault { IfErr result (λ fault. fault ≡ MixFault.NoMemory) }
 {
     let outs = log.into_recordings();
-    let Ok(seen) = views_of(alloc, conf, outs.as_slice()) else {
+    let Ok(seen) = views_on_threads(rt, alloc, conf, outs.as_slice()) else {
         return Err(MixFault::NoMemory);
     };
     let Seen {
@@ -112,7 +113,7 @@ fn mix_opened<S: Source + Send, R: Threads + Wait + Sync, G: Gate + Sync>(
     } = mix_read(rt, alloc, readers, gate, ports, mixer, tick, turns, log);
     match mixing {
         Mixing::Over => Answered {
-            mixed: made(alloc, conf, log),
+            mixed: made(rt, alloc, conf, log),
             ports,
         },
         Mixing::TooLong => Answered {

@@ -1,9 +1,9 @@
 //! What is seen at the terminals of a conference.
-ghost use Rattle.std.specs.Prelude.{◌≡◌, ℕ, ◌+◌, ◌^◌, ◌<◌, ◌++◌, length, remove, false, true, IsTrue, All, IfOk, OnOk};
+ghost use Rattle.std.specs.Prelude.{◌≡◌, ℕ, ◌+◌, ◌^◌, ◌<◌, ◌≤◌, [], ◌++◌, length, remove, false, true, IsTrue, All, IfOk, OnOk};
 ghost use Rattle.file_spec.specs.Conf.{is_name};
 ghost use Rattle.conf_text.specs.Lines.{conf_of};
 ghost use Rattle.played.specs.Written.{IsWritten};
-ghost use Rattle.bridge_run.specs.Viewed.{AddsCounts, AddsSent, AddsSentTo, AreNamed, AreOf, AreSumsOf, AreViewsOf, HasFew, marks_of, names_of, ssrcs_of, summed, terminal_conf};
+ghost use Rattle.bridge_run.specs.Viewed.{AddsCounts, AddsSent, AddsSentTo, AreNamed, AreOf, AreSeenBetween, AreSumsOf, AreViewsOf, HasFew, marks_of, names_of, ssrcs_of, summed, terminal_conf};
 
 use conf_text::{Conf, LegLine};
 use played::played;
@@ -187,6 +187,43 @@ fn append_view(
     }
 }
 
+/// Of no terminal.
+pub(crate) fn nothing_seen(alloc: Global) -> Seen
+    ensures views { result.views ≡ [] }
+    ensures packets { result.packets ≡ 0 }
+    ensures used { result.used ≡ 0 }
+    ensures marks { result.marks ≡ 0 }
+{
+    Seen {
+        views: Bytes::new(alloc),
+        packets: 0,
+        used: 0,
+        marks: 0,
+    }
+}
+
+/// What is seen at the terminals from `from` on and below `to`, where these are the recordings of what was sent to each.
+pub(crate) fn views_between(
+    alloc: Global,
+    conf: &Conf,
+    outs: &[Bytes],
+    from: usize,
+    to: usize,
+) -> Result<Seen, NoMemory>
+    requires each { length outs.now ≡ length conf.now.legs }
+    requires written { All (λ out. IsWritten out) outs.now }
+    requires order { from ≤ to }
+    requires within { to ≤ length outs.now }
+    ensures views { IfOk result (AreSeenBetween (conf_of conf.now) outs.now from to) }
+    ensures numbers { IfOk result (AreOf to) }
+{
+    let mut seen = nothing_seen(alloc);
+    for own in from..to {
+        append_view(alloc, conf, own, outs[own].as_slice(), &mut seen)?;
+    }
+    Ok(seen)
+}
+
 /// What is seen at the terminals of a conference, where these are the recordings of what was sent to each, in leg order.
 pub fn views_of(alloc: Global, conf: &Conf, outs: &[Bytes]) -> Result<Seen, NoMemory>
     requires each { length outs.now ≡ length conf.now.legs }
@@ -194,14 +231,5 @@ pub fn views_of(alloc: Global, conf: &Conf, outs: &[Bytes]) -> Result<Seen, NoMe
     ensures views { IfOk result (λ seen. AreViewsOf (conf_of conf.now) outs.now seen.views) }
     ensures sums { IfOk result (λ seen. AreSumsOf (conf_of conf.now) outs.now (summed seen)) }
 {
-    let mut seen = Seen {
-        views: Bytes::new(alloc),
-        packets: 0,
-        used: 0,
-        marks: 0,
-    };
-    for own in 0..outs.len() {
-        append_view(alloc, conf, own, outs[own].as_slice(), &mut seen)?;
-    }
-    Ok(seen)
+    views_between(alloc, conf, outs, 0, outs.len())
 }

@@ -1,4 +1,4 @@
-use Rattle.std.proofs.Common.{◌≡◌, Result, Ok, Err, length, sym, ap, ◌∙◌, arith}
+use Rattle.std.proofs.Common.{◌≡◌, Result, Ok, Err, length, sym, ap, ◌∙◌, arith, rules}
 use Rattle.std.specs.Prelude.{IfOk}
 use Rattle.mixer_spec.specs.Setups.{setup}
 use Rattle.conf_text.specs.Lines.{conf_of}
@@ -17,7 +17,8 @@ pub made-requires-clause-written : goal.made-requires-clause-written
 made-requires-clause-written g c =
     let conf = conf_of c.args.conf.now in
     let x = c.mix_read-mixing.ensures.mixed (setup conf) (pts_at conf) c.in-Ok.ensures.stands (sym c.requires.legs) c.requires.stays c.in-Ok-new.ensures.open in
-    all_written conf c.mix_read-mixing.result.mixer x.table c.mix_read-mixing.result.log x.mixed (x.logged c.in-Over.is) (omega (arith, c.mix_read-mixing.ensures.terminals, c.in-Ok-new.ensures.terminals, c.len.ensures, c.args.ports.ok.0, c.requires.legs))
+    let written = all_written conf c.mix_read-mixing.result.mixer x.table c.mix_read-mixing.result.log x.mixed (x.logged c.in-Over.is) (omega (arith, c.mix_read-mixing.ensures.terminals, c.in-Ok-new.ensures.terminals, c.len.ensures, c.args.ports.ok.0, c.requires.legs)) in
+    search rules
 
 pub returns-in-Over-clause-mixes : goal.returns-in-Over-clause-mixes
 returns-in-Over-clause-mixes g c = λ tells inputs count asks.

@@ -1,4 +1,4 @@
-use Rattle.std.proofs.Common.{◌+◌, ◌*◌, ◌^◌, ◌≤◌, ◌<◌, ap, arith}
+use Rattle.std.proofs.Common.{ap, arith}
 use Rattle.text_spec.specs.declared.counts.Counts.{Counts}
 use Rattle.bridge_run.proofs.views.count.Goals as goal
 

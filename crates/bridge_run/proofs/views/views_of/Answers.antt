@@ -1,38 +1,13 @@
-use Rattle.std.proofs.Common.{◌≡◌, ◌<◌, ℕ, List, [], length, get_or, refl, sym, ◌∙◌, subst, arith}
+use Rattle.std.proofs.Common.{length, arith}
+use Rattle.std.proofs.lemmas.Result.{IfOk-weaker}
 use Rattle.conf_text.specs.Lines.{conf_of}
-use Rattle.command_spec.specs.Mixing.{records_to}
-use Rattle.played.specs.Written.{IsWritten, IsWrittenOf}
-use Rattle.bridge_run.proofs.Viewing.{no_leg, same_default, seen_more, sums_all, views_all}
+use Rattle.bridge_run.proofs.Viewing.{sums_all, views_all}
 use Rattle.bridge_run.proofs.views.views_of.Goals as goal
 
-pub append_view-requires-clause-written : goal.append_view-requires-clause-written
-append_view-requires-clause-written c =
-    let below : c.loop-own.own < length c.args.outs.now = omega arith in
-    subst IsWritten (sym (c.as_slice.ensures ∙ c.index-outs-own.is)) (c.requires.written c.loop-own.own c.index-outs-own.result below)
-
-pub loop-own-init : goal.loop-own-init
-loop-own-init c = record {
-  seen = λ table a. record { views = c.new.ensures; packets = refl; used = refl; marks = refl };
-  numbers = record { packets = omega arith; used = omega arith; marks = omega arith };
-}
-
-pub loop-own-preserved : goal.loop-own-preserved
-loop-own-preserved c =
-    let q = conf_of c.args.conf.now in
-    let own = c.loop-own.own in
-    let below : own < length c.args.outs.now = omega arith in
-    let within : own < length c.args.conf.now.legs = omega (arith, c.requires.each) in
-    let d = no_leg in
-    let leg = get_or c.args.conf.now.legs own d in
-    let lies : c.as_slice.result.now ≡ get_or c.args.outs.now own [] = c.as_slice.ensures ∙ (c.index-outs-own.is ∙ same_default c.args.outs.now own c.index-outs-own.result [] below) in
-    record {
-      seen = λ table a. seen_more q table own d c.loop-own.seen c.append_view.new.seen within (c.loop-own.invariant.seen table a)
-          (c.in_ok-append_view.ensures.adds (records_to q table own leg) d (subst (λ (x : List ℕ). IsWrittenOf x (records_to q table own leg)) (sym lies) (a own d within)));
-      numbers = c.in_ok-append_view.ensures.with_it;
-    }
-
 pub returns-clause-views : goal.returns-clause-views
-returns-clause-views c = λ table a. views_all (conf_of c.args.conf.now) table c.loop-own.own c.loop-own.seen (omega (arith, c.loop-own-test.false, c.requires.each)) (c.loop-own.invariant.seen table a)
+returns-clause-views c = IfOk-weaker c.views_between.result _ _
+    (λ seen f table sent. views_all (conf_of c.args.conf.now) table (length c.args.outs.now) seen (omega (arith, c.requires.each)) (f table sent)) c.views_between.ensures.views
 
 pub returns-clause-sums : goal.returns-clause-sums
-returns-clause-sums c = λ table a. sums_all (conf_of c.args.conf.now) table c.loop-own.own c.loop-own.seen (omega (arith, c.loop-own-test.false, c.requires.each)) (c.loop-own.invariant.seen table a)
+returns-clause-sums c = IfOk-weaker c.views_between.result _ _
+    (λ seen f table sent. sums_all (conf_of c.args.conf.now) table (length c.args.outs.now) seen (omega (arith, c.requires.each)) (f table sent)) c.views_between.ensures.views

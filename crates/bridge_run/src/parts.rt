@@ -1,0 +1,144 @@
+//! What is seen at the terminals of a conference, heard on several threads: each hears a part of the terminals.
+ghost use Rattle.std.specs.Prelude.{◌≡◌, ℕ, ◌+◌, ◌*◌, ◌/◌, ◌≤◌, ◌<◌, min, length, vec_len, All, IfOk, OnOk};
+ghost use Rattle.conf_text.specs.Lines.{conf_of};
+ghost use Rattle.played.specs.Written.{IsWritten};
+ghost use Rattle.bridge_run.specs.Viewed.{AddsSeen, ArePartsOf, AreOf, AreSumsOf, AreViewsOf, IsPartOf, summed};
+ghost use Rattle.bridge_run.specs.declared.parts.TheConstants.{MOST_PARTS};
+
+use crate::views::{Seen, nothing_seen, views_between, views_of};
+use conf_text::Conf;
+use rtt_base::{Bytes, NoMemory};
+use std::alloc::Global;
+use std::thread;
+use std::thread::Threads;
+
+/// How many parts there are, one for each thread.
+pub(crate) const MOST_PARTS: usize = 8;
+
+/// From how many octets on, sent in all, threads are worth their start.
+const WORTH_THREADS: usize = 1_048_576;
+
+/// How many octets these recordings have.
+fn octets_in(outs: &[Bytes]) -> usize {
+    let mut sum: usize = 0;
+    for out in outs {
+        sum = sum.saturating_add(out.len());
+    }
+    sum
+}
+
+/// How many terminals each part has, but the last ones.
+fn part_size(terminals: usize) -> usize
+    requires { terminals ≤ 64 }
+    ensures all { terminals ≤ MOST_PARTS * result }
+    ensures few { result ≤ 64 }
+{
+    (terminals + MOST_PARTS - 1) / MOST_PARTS
+}
+
+/// At which terminal the part with this number begins, of parts of so many terminals.
+fn begin_of(number: usize, size: usize, terminals: usize) -> usize
+    requires number { number ≤ MOST_PARTS }
+    requires size { size ≤ 64 }
+    ensures { result ≡ min (number * size) terminals }
+{
+    (number * size).min(terminals)
+}
+
+/// What is seen at the terminals of the part with this number.
+fn part_of(
+    alloc: Global,
+    conf: &Conf,
+    outs: &[Bytes],
+    size: usize,
+    number: usize,
+) -> Result<Seen, NoMemory>
+    requires each { length outs.now ≡ length conf.now.legs }
+    requires written { All (λ out. IsWritten out) outs.now }
+    requires size { size ≤ 64 }
+    requires number { number < MOST_PARTS }
+    ensures { IfOk result (IsPartOf (conf_of conf.now) outs.now size number) }
+{
+    let from = begin_of(number, size, outs.len());
+    let to = begin_of(number + 1, size, outs.len());
+    views_between(alloc, conf, outs, from, to)
+}
+
+/// What is seen at the terminals of each part.
+fn parts_of<R: Threads + Sync>(
+    rt: &R,
+    alloc: Global,
+    conf: &Conf,
+    outs: &[Bytes],
+    size: usize,
+) -> Result<Vec<Result<Seen, NoMemory>>, NoMemory>
+    requires each { length outs.now ≡ length conf.now.legs }
+    requires written { All (λ out. IsWritten out) outs.now }
+    requires size { size ≤ 64 }
+    ensures count { IfOk result (λ parts. vec_len parts ≡ MOST_PARTS) }
+    ensures parts { IfOk result (λ parts. ArePartsOf (conf_of conf.now) outs.now size parts.items) }
+{
+    match thread::map_indices(
+        rt,
+        alloc,
+        MOST_PARTS,
+        &|number| { part_of(alloc, conf, outs, size, number) },
+    ) {
+        Ok(parts) => Ok(parts),
+        Err(_) => Err(NoMemory),
+    }
+}
+
+/// Adds what is seen at more terminals.
+fn add_part(part: &Seen, all: &mut Seen) -> Result<(), NoMemory>
+    requires part { AreOf 64 part.now }
+    requires before { (n : ℕ) × (n < MOST_PARTS) × AreOf (64 * n) all.old }
+    ensures adds { OnOk result (AddsSeen part.now all.old all.new) }
+    ensures with_it { OnOk result ((n : ℕ) → AreOf (64 * n) all.old → AreOf (64 * (n + 1)) all.new) }
+{
+    all.views.append(part.views.as_slice())?;
+    all.packets += part.packets;
+    all.used += part.used;
+    all.marks += part.marks;
+    Ok(())
+}
+
+/// What is seen at all terminals, part by part.
+fn views_by_parts<R: Threads + Sync>(
+    rt: &R,
+    alloc: Global,
+    conf: &Conf,
+    outs: &[Bytes],
+) -> Result<Seen, NoMemory>
+    requires each { length outs.now ≡ length conf.now.legs }
+    requires written { All (λ out. IsWritten out) outs.now }
+    ensures views { IfOk result (λ seen. AreViewsOf (conf_of conf.now) outs.now seen.views) }
+    ensures sums { IfOk result (λ seen. AreSumsOf (conf_of conf.now) outs.now (summed seen)) }
+{
+    let size = part_size(outs.len());
+    let parts = parts_of(rt, alloc, conf, outs, size)?;
+    let mut total = nothing_seen(alloc);
+    for part in parts {
+        let seen = part?;
+        add_part(&seen, &mut total)?;
+    }
+    Ok(total)
+}
+
+/// What is seen at the terminals of a conference, as `views_of` tells it, on several threads where much was sent.
+pub(crate) fn views_on_threads<R: Threads + Sync>(
+    rt: &R,
+    alloc: Global,
+    conf: &Conf,
+    outs: &[Bytes],
+) -> Result<Seen, NoMemory>
+    requires each { length outs.now ≡ length conf.now.legs }
+    requires written { All (λ out. IsWritten out) outs.now }
+    ensures views { IfOk result (λ seen. AreViewsOf (conf_of conf.now) outs.now seen.views) }
+    ensures sums { IfOk result (λ seen. AreSumsOf (conf_of conf.now) outs.now (summed seen)) }
+{
+    if octets_in(outs) < WORTH_THREADS {
+        return views_of(alloc, conf, outs);
+    }
+    views_by_parts(rt, alloc, conf, outs)
+}
