@@ -1,11 +1,28 @@
 -- The first line of octets, and the lines after it.
-use Rattle.std.proofs.Common.{◌≡◌, ℕ, ◌+◌, ◌<◌, ◌≤◌, Bool, true, false, eqb, cond, List, [], ◌∷◌, length, take, drop, Some, None, refl, ap, ◌∙◌, arith}
+use Rattle.std.proofs.Common.{◌≡◌, ℕ, ◌+◌, ◌<◌, ◌≤◌, Bool, true, false, eqb, cond, List, [], ◌∷◌, length, get_or, take, drop, Option, Some, None, ltb, refl, ap, sym, ◌∙◌, arith}
 use Rattle.std.specs.Prelude.{not}
+use Rattle.memchr.specs.Find.{IsFirstByte, is_byte}
 use Rattle.std.specs.List.{slice_split, onto_first, position_or_len, position}
 use Rattle.std.specs.Str.Lines.{lines, lines_of_parts, strip_carriage_return}
 use Rattle.std.proofs.lemmas.List.Splits.{slice_split_first, length-slice_split}
-use Rattle.std.proofs.lemmas.List.Sums.{prefix_len-le-length}
-use Rattle.std.proofs.lemmas.Bool.{ltb-false, ne_eqb}
+use Rattle.std.proofs.lemmas.List.Sums.{position_or_len_is, prefix_len-le-length}
+use Rattle.std.proofs.lemmas.Bool.{le-ltb, lt-ltb, ltb-false, ne_eqb}
+
+not_so : (b : Bool) → (b ≡ true → ⊥) → b ≡ false
+not_so true n = absurd (n refl)
+not_so false n = refl
+
+-- the first octet of this value, as a search by many octets at a time finds it
+pub first_is : (octet : ℕ) (octets : List ℕ) (r : Option ℕ) → IsFirstByte (is_byte octet) octets r → r ≡ position (λ c. eqb c octet) octets
+first_is octet octets None none =
+    let p = λ (c : ℕ). eqb c octet in
+    let at : position_or_len p octets ≡ length octets = position_or_len_is p octets (length octets) 0 (omega arith) (λ k l. not_so (p (get_or octets k 0)) (none k (omega arith) l)) (λ l. absurd (omega arith)) in
+    sym (ap (λ (n : ℕ). cond (ltb n (length octets)) (Some n) None) at ∙ ap (λ (b : Bool). cond b (Some (length octets)) None) (le-ltb (length octets) (length octets) (omega arith)))
+first_is octet octets (Some k) h =
+    let p = λ (c : ℕ). eqb c octet in
+    let high : k < length octets = h.0.high in
+    let at : position_or_len p octets ≡ k = position_or_len_is p octets k 0 (omega arith) (λ j l. not_so (p (get_or octets j 0)) (h.0.before j (omega arith) l)) (λ l. h.1) in
+    sym (ap (λ (n : ℕ). cond (ltb n (length octets)) (Some n) None) at ∙ ap (λ (b : Bool). cond b (Some k) None) (lt-ltb k (length octets) high))
 
 lines_of_parts-cons : (x : List ℕ) (parts : List (List ℕ)) → 0 < length parts → lines_of_parts (x ∷ parts) ≡ strip_carriage_return x ∷ lines_of_parts parts
 lines_of_parts-cons x [] l = absurd (omega arith)

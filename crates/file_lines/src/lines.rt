@@ -5,6 +5,7 @@ ghost use Rattle.std.specs.Str.Lines.{lines, strip_carriage_return};
 ghost use Rattle.file_spec.specs.Lines.{is_comment};
 ghost use Rattle.file_lines.specs.Texts.{octets_of, text_in};
 
+use memchr::memchr;
 use simdutf8::basic::from_utf8;
 
 fn without_return(line: &[u8]) -> &[u8]
@@ -19,7 +20,7 @@ fn without_return(line: &[u8]) -> &[u8]
 fn line_end(octets: &[u8]) -> Option<usize>
     ensures { result ≡ position (λ c. c == 10) octets.now }
 {
-    octets.iter().position(|octet| *octet == b'\n')
+    memchr(b'\n', octets)
 }
 
 /// The first line of these octets, and what follows it; none where there are no octets.
