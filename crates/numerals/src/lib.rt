@@ -1,9 +1,10 @@
 //! Numbers as they are written in command words and files.
 #![tactic(auto)]
 
-ghost use Rattle.std.specs.Prelude.{◌≡◌, ◌≤◌, IfSome};
+ghost use Rattle.std.specs.Prelude.{◌≡◌, ◌≤◌, true, IfSome};
 ghost use Rattle.std.specs.List.{list_all};
-ghost use Rattle.std.specs.Char.{is_ascii_digit};
+ghost use Rattle.std.specs.Char.{is_ascii_digit, digit_value};
+ghost use Rattle.std.specs.Str.Parse.{digits_value};
 ghost use Rattle.file_spec.specs.Numbers.{number, is_number, number_between, pts};
 ghost use Rattle.file_spec.specs.Sound.{IsBetween};
 
@@ -22,6 +23,26 @@ fn is_numeral(text: &[u8]) -> bool
     !text.is_empty() && text.len() <= 10 && all_digits(text)
 }
 
+/// The value of a digit.
+fn value_of_digit(digit: u8) -> u64
+    requires { is_ascii_digit digit ≡ true }
+    ensures { result ≡ digit_value digit }
+{
+    u64::from(digit - b'0')
+}
+
+/// The value of a numeral.
+fn value_of(digits: &[u8]) -> u64
+    requires { is_number digits.now ≡ true }
+    ensures { result ≡ digits_value 10 digits.now }
+{
+    let mut value = 0;
+    for index in 0..digits.len() {
+        value = 10 * value + value_of_digit(digits[index]);
+    }
+    value
+}
+
 /// A number of one to ten decimal digits that is at most `most`.
 pub fn number_of(text: &str, most: u32) -> Option<u32>
     ensures exact { result ≡ number most text.now }
@@ -30,9 +51,7 @@ pub fn number_of(text: &str, most: u32) -> Option<u32>
     if !is_numeral(text.as_bytes()) {
         return None;
     }
-    let Ok(value) = text.parse::<u64>() else {
-        return None;
-    };
+    let value = value_of(text.as_bytes());
     if value > u64::from(most) {
         return None;
     }
