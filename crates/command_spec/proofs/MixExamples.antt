@@ -1,6 +1,8 @@
 -- What `mix` comes to in a call of two, worked out by hand: Ann types `H`, `e`, and `y` with a line break, Bob types
 -- `Hi Ann` a second later.
-use Rattle.std.proofs.Common.{◌≡◌, ℕ, cond, Option, Some, None, List, [], ◌∷◌, ◌++◌, refl}
+use Rattle.std.proofs.Common.{◌≡◌, ℕ, Bool, true, false, cond, Option, Some, None, List, [], ◌∷◌, ◌++◌, refl, ap, sym}
+use Rattle.std.specs.Prelude.{◌≢◌}
+use Rattle.std.proofs.lemmas.Slice.Eq.{bytes_eq-Decides}
 use Rattle.std.specs.Prelude.{codes, map, bytes_eq}
 use Rattle.std.specs.Str.{is_utf8, chars}
 use Rattle.std.specs.Char.{encode_utf8}
@@ -21,7 +23,9 @@ use Rattle.text_spec.specs.Shown.{shown}
 use Rattle.text_spec.specs.Views.{aware_view}
 use Rattle.command_spec.specs.declared.faults.Refusal.TheVariants.{AtByte, AtLine, AfterTurns}
 use Rattle.command_spec.specs.Work.{Contents, Made}
-use Rattle.command_spec.specs.Outcomes.{Refused, Done, outcome}
+use Rattle.command_spec.specs.Outcomes.{Refused, Done, outcome, Stores, AllStored}
+use Rattle.command_spec.specs.Bridges.{IsBridged}
+use Rattle.command_spec.proofs.Headlines.{bridged}
 use Rattle.command_spec.specs.Mixing.{mixing}
 
 -- ---- the files
@@ -119,3 +123,29 @@ bad_conference = refl
 broken_recording : outcome (lying legs (dump_written []) []) (mixing (codes "c.txt")) ≡ Refused 2 (AtByte 0 NotDump)
 unfolding entry time_or_other stay_or_plan leg_of mixer_of plan_of is_utf8 chars encode_utf8 dump records records_within dump_step opening
 broken_recording = refl
+
+-- ---- the headline of that call, from its three files to its two
+-- this file lies there in place of what lay there
+abbrev writes : Made → Contents → Contents
+writes f held name = cond (bytes_eq name f.name) (Some f.octets) (held name)
+
+stores : (f : Made) (held : Contents) → Stores f held (writes f held)
+stores f held = record {
+  stored = ap (λ b. cond b (Some f.octets) (held f.name)) ((bytes_eq-Decides f.name f.name).1 refl);
+  others = λ name n. go name (bytes_eq name f.name) (bytes_eq-Decides name f.name).0 n;
+}
+  where
+    go : (name : List ℕ) (b : Bool) → (b ≡ true → name ≡ f.name) → name ≢ f.name → cond b (Some f.octets) (held name) ≡ held name
+    go name true d n = absurd (n (d refl))
+    go name false d n = refl
+
+abbrev writes_all : List Made → Contents → Contents
+writes_all [] held = held
+writes_all (f ∷ fs) held = writes_all fs (writes f held)
+
+all_stored : (fs : List Made) (held : Contents) → AllStored fs held (writes_all fs held)
+all_stored [] held = λ name. refl
+all_stored (f ∷ fs) held = (writes f held, stores f held, all_stored fs (writes f held))
+
+call_bridged : let held = lying (legs ++ codes "turns 17\n") by_ann by_bob in IsBridged held (writes_all files held) (codes "c.txt") printed
+call_bridged = let held = lying (legs ++ codes "turns 17\n") by_ann by_bob in bridged held (writes_all files held) (codes "c.txt") printed files call_of_two (all_stored files held)
