@@ -146,7 +146,8 @@ module _ {S : Type 0} (Told : Type 0) (left : S → List ℕ) (faults : S → �
                     subst (λ n. Rose (objects n) (objects_then n)) named
                     (rose q.0 (subst (λ i. slice_get after i ≡ Some q.0) is_k q.1)
                     (subst (λ n. Rose n (faults (source_at q.0))) o.2.fresh (kept_here.read fault refl source)));
-                refused = λ none told. m told none;
+                lowest = λ told. (m told).0;
+                refused = λ none told. (m told).1 none;
               },
             )
 

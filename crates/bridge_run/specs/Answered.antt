@@ -18,7 +18,7 @@ use Rattle.mixer_turn.specs.Making.{pts_at}
 use Rattle.bridge_run.specs.declared.mixed.MixFault.{MixFault}
 use Rattle.bridge_run.specs.declared.mixed.MixFault.TheVariants.{Open, Dump, TooLong, NoMemory}
 use Rattle.bridge_run.specs.declared.mixed.Mixed.{Mixed}
-use Rattle.bridge_run.specs.Mixes.{counted, outputs_of}
+use Rattle.bridge_run.specs.Mixes.{WholeBelow, counted, outputs_of}
 
 -- what the leg j is asked for, where the inputs have these octets
 abbrev pub asked_of : Conf → List (List ℕ) → ℕ → Asked
@@ -38,7 +38,7 @@ abbrev pub MixesTo : Conf → List (List ℕ) → Result Mixed MixFault → Type
 MixesTo c inputs (Ok mixed) = AreMixed c inputs mixed
 MixesTo c inputs (Err (Open leg)) = ⊥
 MixesTo c inputs (Err (Dump leg fault)) =
-    is_of_source fault.kind ≡ false → mixes c inputs ≡ Refuses (leg + 1) (AtByte fault.offset fault.kind)
+    WholeBelow leg c inputs × (is_of_source fault.kind ≡ false → mixes c inputs ≡ Refuses (leg + 1) (AtByte fault.offset fault.kind))
 MixesTo c inputs (Err TooLong) = mixes c inputs ≡ Refuses 0 (AfterTurns c.turns)
 MixesTo c inputs (Err NoMemory) = Unit {0}
 

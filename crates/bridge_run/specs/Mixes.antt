@@ -1,14 +1,16 @@
 -- What mixing a conference comes to, from what lies under the names of its inputs. Legs are counted from 0.
-use Rattle.std.specs.Prelude.{◌≡◌, ℕ, ◌+◌, ◌<◌, false, true, Some, IsSome, unwrap_or, List, [], ◌∷◌, length, map}
+use Rattle.std.specs.Prelude.{◌≡◌, ℕ, ◌+◌, ◌<◌, false, true, None, Some, IsSome, unwrap_or, List, [], ◌∷◌, length, map}
+use Rattle.wire_spec.specs.Dump.{dump}
 use Rattle.rtt_io.specs.Counts.{Rose}
 use Rattle.rtpdump_io.specs.declared.items.DumpFault.{DumpFault}
 use Rattle.rtpdump_io.specs.Reading.{is_of_source}
 use Rattle.file_spec.specs.declared.conf_lines.LegLine.{LegLine}
 use Rattle.file_spec.specs.Conf.{Conf}
 use Rattle.mixer_spec.specs.Setups.{leg_at}
+use Rattle.mixer_spec.specs.Bridged.{input_limit}
 use Rattle.command_spec.specs.declared.faults.Refusal.TheVariants.{AtByte, AfterTurns}
 use Rattle.command_spec.specs.Work.{Contents, Made, Steps, Refuses, Makes}
-use Rattle.command_spec.specs.Mixing.{mixes}
+use Rattle.command_spec.specs.Mixing.{input_at, mixes}
 use Rattle.command_spec.specs.Sums.{Sums, sums_mixed}
 use Rattle.bridge_run.specs.declared.mixed.MixFault.{MixFault}
 use Rattle.bridge_run.specs.declared.mixed.MixFault.TheVariants.{Open, Dump, TooLong, NoMemory}
@@ -51,10 +53,16 @@ pub record IsMade (held : Contents) (c : Conf) (mixed : Mixed) : Type 0 where
   pub makes : steps_of held c ≡ Makes mixed.views (outputs_of c.legs mixed.outs.items)
   pub sums : sums_mixed c (inputs_under held c.legs) ≡ Some (counted mixed)
 
--- the input of a leg is refused at the byte of this fault, or its source failed
+-- the inputs of the first n legs are recordings without a fault
+abbrev pub WholeBelow : ℕ → Conf → List (List ℕ) → Type 0
+WholeBelow n c inputs = (k : ℕ) → k < n → (dump (input_limit c) (input_at inputs k)).fault ≡ None
+
+-- The input of a leg is refused at the byte of this fault, or its source failed. Those of the legs before it can be read to
+-- their ends.
 pub record IsBroken (Told : Type 0) (Object : List ℕ → Type 0) (held : Contents) (c : Conf) (number : ℕ) (leg : LegLine) (fault : DumpFault) : Type 0 where
   pub lie : Told → AllLie held c.legs
   pub read : is_of_source fault.kind ≡ true → Object leg.input
+  pub lowest : Told → WholeBelow number c (inputs_under held c.legs)
   pub refused : is_of_source fault.kind ≡ false → Told → steps_of held c ≡ Refuses (number + 1) (AtByte fault.offset fault.kind)
 
 -- Why nothing is made; `Call` and `Object` tell of which names a call or an object failed. Want of memory is free.

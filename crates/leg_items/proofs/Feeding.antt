@@ -1,5 +1,5 @@
 -- What one more answer of a leg does.
-use Rattle.std.proofs.Common.{◌≡◌, ◌≤◌, ℕ, Bool, true, false, true≢false, cond, not, None, List, [], ◌∷◌, ◌++◌, Ok, Err, refl, ap, sym, ◌∙◌, subst, arith, inl, inr}
+use Rattle.std.proofs.Common.{◌≡◌, ◌<◌, ◌≤◌, ℕ, Bool, true, false, true≢false, cond, not, None, List, [], ◌∷◌, ◌++◌, Ok, Err, refl, ap, sym, ◌∙◌, subst, arith, inl, inr}
 use Rattle.std.specs.Prelude.{Result, IfErr}
 use Rattle.std.proofs.lemmas.Bool.{not-true}
 use Rattle.std.proofs.lemmas.List.Elements.{filter-append}
@@ -12,7 +12,7 @@ use Rattle.rtpdump_io.specs.declared.items.DumpFault.{DumpFault}
 use Rattle.rtpdump_io.specs.Reading.{IsFaultOf}
 use Rattle.leg_core.specs.declared.steps.LegStep.{LegStep}
 use Rattle.leg_core.specs.declared.steps.LegStep.TheVariants as step
-use Rattle.leg_core.specs.Gives.{Stands, Follows, is_last, is_over, source_of}
+use Rattle.leg_core.specs.Gives.{Stands, Follows, is_last, is_over, source_of, unread}
 use Rattle.mix_loop.specs.declared.items.Item.{Item}
 use Rattle.mix_loop.specs.declared.items.Item.TheVariants as item
 use Rattle.mix_loop.specs.declared.items.Ended.{Ended}
@@ -20,7 +20,7 @@ use Rattle.mix_loop.specs.declared.items.Ended.TheVariants.{Open, AtEnd, AtFault
 use Rattle.mix_loop.specs.Items.{Gave, gave_more, goes_on, is_open}
 use Rattle.mixer_spec.proofs.Lists.{nil}
 use Rattle.leg_items.specs.declared.inlets.LegInlet.{LegInlet}
-use Rattle.leg_items.specs.Feds.{Asked, GivesAs, Fed, past_of, recording_asked, chunks_asked, in_part, item_for}
+use Rattle.leg_items.specs.Feds.{Asked, GivesAs, GetsOn, Fed, past_of, recording_asked, chunks_asked, in_part, item_for}
 
 open_is : (e : Ended) → is_open e ≡ true → e ≡ Open
 open_is Open o = refl
@@ -128,6 +128,18 @@ goes_on_is stay ready (Err fault) = refl
 
 pub not_over : (b : Bool) (x : Item) (r : Result LegStep DumpFault) (stay : Stay) (ready : ℕ) → x ≡ item_for stay ready r → b ≡ is_last r → goes_on x ≡ true → b ≡ false
 not_over b x r stay ready is o e = o ∙ not-true (is_last r) (sym (goes_on_is stay ready r) ∙ (ap goes_on (sym is) ∙ e))
+
+-- nothing comes of a record that was read, or of a text that does not count
+module _ {S : Type 0} (tells : Type 0) (left : S → List ℕ) (old new : LegInlet S) where
+  pub gets_on : (c : Chunk) (r : Result LegStep DumpFault) → item_for old.stay c.ready r ≡ item.Later → (r ≡ Ok step.More → unread new.leg < unread old.leg) → (tells → Follows left old.leg new.leg r c) → GetsOn tells left old new
+  gets_on c (Ok step.Chunk) e near f = inr (c, go (stays_at c.ready old.stay) refl, f)
+    where
+      go : (b : Bool) → stays_at c.ready old.stay ≡ b → stays_at c.ready old.stay ≡ false
+      go true is = absurd (cc (sym (ap (λ (b : Bool). cond b item.Chunk item.Later) is) ∙ e))
+      go false is = is
+  gets_on c (Ok step.More) e near f = inl (near refl)
+  gets_on c (Ok step.End) e near f = absurd (cc e)
+  gets_on c (Err fault) e near f = absurd (cc e)
 
 -- a chunk comes of a chunk alone
 pub chunk_from : (stay : Stay) (ready : ℕ) (r : Result LegStep DumpFault) → item_for stay ready r ≡ item.Chunk → r ≡ Ok step.Chunk

@@ -1,5 +1,5 @@
 -- What a leg that is read by who mixes gave of its recording.
-use Rattle.std.specs.Prelude.{◌≡◌, ◌≤◌, ℕ, false, not, None, Result, Ok, Err, List, [], filter, if◌then◌else◌}
+use Rattle.std.specs.Prelude.{◌≡◌, ◌⊎◌, ◌<◌, ◌≤◌, ℕ, false, not, None, Result, Ok, Err, List, [], filter, if◌then◌else◌}
 use Rattle.file_spec.specs.declared.conf_lines.Stay.{Stay}
 use Rattle.file_spec.specs.Stays.{stays_at}
 use Rattle.wire_spec.specs.declared.faults.DumpKind.TheVariants.{Read}
@@ -12,7 +12,7 @@ use Rattle.ear.specs.declared.confs.EarConf.{EarConf}
 use Rattle.leg_core.specs.declared.steps.LegStep.{LegStep}
 use Rattle.leg_core.specs.declared.steps.LegStep.TheVariants as step
 use Rattle.leg_core.specs.declared.legs.Leg.{Leg}
-use Rattle.leg_core.specs.Gives.{LegPast, Stands, chunks_of, recording_of, is_over, source_of}
+use Rattle.leg_core.specs.Gives.{Follows, LegPast, Stands, chunks_of, recording_of, is_over, source_of, unread}
 use Rattle.mix_loop.specs.declared.items.Item.{Item}
 use Rattle.mix_loop.specs.declared.items.Item.TheVariants as item
 use Rattle.mix_loop.specs.declared.items.Ended.{Ended}
@@ -66,6 +66,13 @@ module _ {S : Type 0} where
     pub never_falls : faults (source_of first.leg) ≤ faults (source_of now.leg)
     pub read : (fault : DumpFault) → gave.ended ≡ AtFault fault → fault.kind ≡ Read → Rose (faults (source_of first.leg)) (faults (source_of now.leg))
     pub same_name : name (source_of now.leg) ≡ name (source_of first.leg)
+
+  -- A step of the leg that gave nothing that counts: a record was read, or a text was passed over that is not ready within the
+  -- stay.
+  abbrev pub GetsOn : Type 0 → (S → List ℕ) → LegInlet S → LegInlet S → Type 0
+  GetsOn tells left old new =
+      (unread new.leg < unread old.leg)
+      ⊎ ((c : Chunk) × (stays_at c.ready old.stay ≡ false) × (tells → Follows left old.leg new.leg (Ok step.Chunk) c))
 
   -- a port of this leg, which gave nothing yet
   pub record IsNewLeg (leg : Leg S) (stay : Stay) (p : Port (LegInlet S)) : Type 0 where

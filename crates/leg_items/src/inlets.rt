@@ -69,13 +69,15 @@ impl<S: Source> LegInlet<S> {
 impl<S: Source> Inlet for LegInlet<S> {
     ghost use Rattle.std.specs.Prelude.{◌≡◌, false};
     ghost use Rattle.leg_core.specs.Gives.{is_over, place_of};
-    ghost use Rattle.leg_items.specs.Feds.{Fed};
+    ghost use Rattle.leg_items.specs.Feds.{Fed, GetsOn};
 
     ghost stands = { λ first now gave. Fed S.tells S.left S.faults S.name first now gave };
 
     ghost good = { λ i. is_over i.leg ≡ false };
 
     ghost place = { λ i. place_of i.leg };
+
+    ghost nearer = { λ old new. GetsOn S.tells S.left old new };
 
     fn next<R: Wait, G: Gate>(&mut self, _rt: &R, _gate: &G, chunk: &mut Chunk) -> Item {
         let step = self.leg.step(chunk);

@@ -96,6 +96,8 @@ impl<S: Source> Inlet for Lane<S> {
 
     ghost place = { λ l. l.place };
 
+    ghost nearer = { λ old new. Unit {0} };
+
     fn next<R: Wait, G: Gate>(&mut self, rt: &R, gate: &G, chunk: &mut Chunk) -> Item {
         let item = self.pull(rt, gate, chunk);
         if item == Item::Later {

@@ -1,20 +1,22 @@
 -- What a feed takes of its leg and hands over.
-use Rattle.std.proofs.Common.{◌≡◌, ℕ, Bool, true, false, true≢false, not, ◌&&◌, List, [], ◌++◌, refl, ap, sym, ◌∙◌, subst, append_assoc}
+use Rattle.std.proofs.Common.{◌≡◌, ℕ, Bool, true, false, true≢false, not, ◌&&◌, List, [], ◌++◌, length, refl, ap, sym, ◌∙◌, subst, append_assoc, arith, length-append}
 use Rattle.std.proofs.lemmas.Bool.{and_parts}
 use Rattle.std.proofs.lemmas.List.{append-nil}
 use Rattle.file_spec.specs.declared.conf_lines.Stay.{Stay}
 use Rattle.stream_spec.specs.Ready.{Chunk, chunk_of}
 use Rattle.leg_core.specs.declared.legs.Leg.{Leg}
 use Rattle.leg_core.specs.Gives.{Stands, is_over, place_of}
+use Rattle.mix_loop.specs.declared.items.Item.{Item}
 use Rattle.mix_loop.specs.declared.items.Item.TheVariants as item
 use Rattle.mix_loop.specs.declared.items.Ended.{Ended}
 use Rattle.mix_loop.specs.declared.items.Ended.TheVariants.{Open, AtEnd, AtFault}
 use Rattle.mix_loop.specs.Items.{Gave, Gives, gave_more, is_open, nothing}
 use Rattle.leg_items.specs.declared.inlets.LegInlet.{LegInlet}
-use Rattle.leg_items.specs.Feds.{Asked, Fed, GivesAs, past_of}
+use Rattle.leg_items.specs.Feds.{Asked, Fed, GetsOn, GivesAs, past_of}
 use Rattle.leg_queue.specs.declared.items.Queued.{Queued}
 use Rattle.leg_queue.specs.declared.feeds.Feed.{Feed}
 use Rattle.leg_queue.specs.declared.ends.PopPass.{PopPass}
+use Rattle.leg_queue.specs.declared.ends.PushPass.{PushPass}
 use Rattle.leg_queue.specs.Ends.{popped, pushed}
 use Rattle.leg_queue.specs.Items.{HasHand, given_of, is_later, items_of, queued_by}
 use Rattle.leg_queue.specs.Feeds.{AreAll, FeedStands, IsWhole, in_hand, is_done}
@@ -80,6 +82,21 @@ module _ {S : Type 0} (tells : Type 0) (left : S → List ℕ) (faults : S → �
             (whole_of f.inlet.leg f.inlet.stay a s.gave.chunks s.gave.ended (s.fed.open_still ∙ ap not parts.0) (s.fed.gives t a st));
         is = sym (append-nil (pushed f.pass)) ∙ (ap (λ l. pushed f.pass ++ l) (sym (no_item f.hand (chunk_of f.chunk) parts.1)) ∙ s.items);
       }
+
+-- what adds no item is nothing
+nothing_more : (x : Item) (c : Chunk) (xs : List Queued) → xs ++ queued_by x c ≡ xs → x ≡ item.Later
+nothing_more item.Chunk c xs e = absurd (let l = ap (λ (q : List Queued). length q) e in let m = length-append xs (queued_by item.Chunk c) in omega (arith, l, m))
+nothing_more item.Later c xs e = refl
+nothing_more item.End c xs e = absurd (let l = ap (λ (q : List Queued). length q) e in let m = length-append xs (queued_by item.End c) in omega (arith, l, m))
+nothing_more (item.Fault f) c xs e = absurd (let l = ap (λ (q : List Queued). length q) e in let m = length-append xs (queued_by (item.Fault f) c) in omega (arith, l, m))
+
+-- where no item comes of a step, the leg got on
+module _ {S : Type 0} (tells : Type 0) (left : S → List ℕ) where
+  pub got_on : (old mid new : Feed S) → mid.pass ≡ old.pass → new.inlet ≡ mid.inlet → pushed new.pass ++ in_hand new ≡ pushed mid.pass ++ in_hand mid
+      → (mid.hand ≡ item.Later → GetsOn tells left old.inlet mid.inlet) → pushed new.pass ++ in_hand new ≡ pushed old.pass → GetsOn tells left old.inlet new.inlet
+  got_on old mid new pass inlet items near e =
+      let none : pushed old.pass ++ in_hand mid ≡ pushed old.pass = ap (λ (p : PushPass). pushed p ++ in_hand mid) (sym pass) ∙ (sym items ∙ e) in
+      subst (λ (i : LegInlet S). GetsOn tells left old.inlet i) (sym inlet) (near (nothing_more mid.hand (chunk_of mid.chunk) (pushed old.pass) none))
 
 -- a feed of a leg that gave nothing
 module _ {S : Type 0} (tells : Type 0) (left : S → List ℕ) (faults : S → ℕ) (name : S → List ℕ) where

@@ -1,9 +1,9 @@
 //! What a step of a leg at its queue does.
-ghost use Rattle.std.specs.Prelude.{◌≡◌, ◌++◌, false, []};
+ghost use Rattle.std.specs.Prelude.{◌≡◌, ◌++◌, false, true, []};
 ghost use Rattle.stream_spec.specs.Ready.{chunk_of};
 ghost use Rattle.mix_loop.specs.Items.{Gives};
 ghost use Rattle.leg_core.specs.Gives.{is_over, place_of};
-ghost use Rattle.leg_items.specs.Feds.{Fed};
+ghost use Rattle.leg_items.specs.Feds.{Fed, GetsOn};
 ghost use Rattle.leg_queue.specs.Ends.{IsPushOf, IsPopOf, WasFull, popped, pushed};
 ghost use Rattle.leg_queue.specs.Feeds.{AllPopped, FeedStands, Follows, in_hand, is_done, new_inlet};
 ghost use Rattle.leg_queue.specs.Items.{is_later};
@@ -82,6 +82,7 @@ impl<S: Source> Feed<S> {
         requires { is_done self.old ≡ false }
         ensures pass { self.new.pass ≡ self.old.pass }
         ensures follows { Follows S.tells S.left S.faults S.name self.old self.new }
+        ensures nearer { is_later self.old.hand ≡ true → self.new.hand ≡ Item.Later → GetsOn S.tells S.left self.old.inlet self.new.inlet }
     {
         if self.is_empty() {
             self.take_in(rt, gate);
@@ -94,6 +95,7 @@ impl<S: Source> Feed<S> {
         ensures pass { self.new.pass ≡ self.old.pass }
         ensures place { self.new.place ≡ self.old.place }
         ensures fed { Gives (Fed S.tells S.left S.faults S.name) self.old.inlet self.new.inlet self.new.hand (chunk_of self.new.chunk) }
+        ensures nearer { self.new.hand ≡ Item.Later → GetsOn S.tells S.left self.old.inlet self.new.inlet }
     {
         self.hand = self.inlet.next(rt, gate, &mut self.chunk);
         if !self.is_empty() {
@@ -117,13 +119,15 @@ impl<S: Source> Feed<S> {
     }
 
     /// Where nothing is in hand, makes one step of the leg, and has in hand what counts of it: a text within its stay, the end
-    /// or a fault. Then pushes what is in hand, or keeps it where the queue is full. The answer is whether the last item was
-    /// pushed.
+    /// or a fault; where nothing of it counts the leg got on. Then pushes what is in hand, or keeps it where the queue is full.
+    /// The answer is whether the last item was pushed.
     pub fn step<R: Wait, G: Gate>(&mut self, rt: &R, queue: &LegQueue, gate: &G) -> bool
         requires pass { IsPushOf queue.now self.old.pass }
         requires going { is_done self.old ≡ false }
         ensures queue { IsPushOf queue.now self.new.pass }
         ensures follows { Follows S.tells S.left S.faults S.name self.old self.new }
+        ensures gets_on { is_later self.old.hand ≡ true → pushed self.new.pass ++ in_hand self.new ≡ pushed self.old.pass
+            → GetsOn S.tells S.left self.old.inlet self.new.inlet }
         ensures kept { is_later self.new.hand ≡ false → WasFull (pushed self.new.pass) }
         ensures done { result ≡ is_done self.new }
     {

@@ -20,11 +20,15 @@ pub trait Inlet {
     /// The number of its leg.
     ghost place: { Self → ℕ };
 
+    /// From the first of these to the second it got on, where there was no text to give.
+    ghost nearer: { Self → Self → Type 0 };
+
     /// Puts the next text of the leg in place of what is in `chunk`, or tells why there is none.
     fn next<R: Wait, G: Gate>(&mut self, rt: &R, gate: &G, chunk: &mut Chunk) -> Item
         requires { good self.old }
         ensures good { goes_on result ≡ true → good self.new }
         ensures stands { Gives stands self.old self.new result (chunk_of chunk.new) }
         ensures text { result ≡ Item.Chunk → IsOf (place self.old) (chunk_of chunk.new) }
-        ensures place { place self.new ≡ place self.old };
+        ensures place { place self.new ≡ place self.old }
+        ensures nearer { result ≡ Item.Later → nearer self.old self.new };
 }

@@ -1,7 +1,7 @@
 //! The program: its words go to `run`, over the files of the system and its standard streams.
 #![tactic(auto)]
 
-ghost use Rattle.std.specs.Prelude.{◌≡◌, ◌++◌, drop, codes};
+ghost use Rattle.std.specs.Prelude.{◌≡◌, ◌++◌, drop, codes, IfOk, OnErr};
 ghost use Rattle.std.specs.Process.{exit_status};
 ghost use Rattle.rtt_io.specs.Counts.{Rose};
 ghost use Rattle.rtt_top.specs.Outside.{outside, output};
@@ -73,20 +73,35 @@ fn exit_with(status: u8) -> ExitCode
     ExitCode::from(status)
 }
 
-fn main(rt: HostRuntime) -> ExitCode {
-    let mut err = StandardError::new(rt.stderr());
-    let Ok(words) = all_words(&rt) else {
-        return exit_with(no_memory(&mut err));
+/// The program over this world and these outputs. `words` are all words, of which the first is the program's name; where
+/// memory ran out before they were read there are none.
+fn program<R: Threads + Wait + Sync, W: World, K: Sink, E: Sink>(
+    rt: &R,
+    alloc: Global,
+    words: Result<Vec<String>, AllocError>,
+    world: &mut W,
+    out: &mut K,
+    err: &mut E,
+) -> ExitCode
+    ensures runs { IfOk words (λ all. Runs (asked_by (drop 1 all.items)) W.tells K.tells E.tells
+        (outside (W.contents world.old) (W.own_faults world.old) (W.object_faults world.old) (output (K.took out.old) (K.faults out.old)))
+        (outside (W.contents world.new) (W.own_faults world.new) (W.object_faults world.new) (output (K.took out.new) (K.faults out.new)))
+        (output (E.took err.old) (E.faults err.old)) (output (E.took err.new) (E.faults err.new)) (exit_status result)) }
+    ensures no_memory { OnErr words (exit_status result ≡ 70) }
+    ensures same { OnErr words ((world.new ≡ world.old) × (out.new ≡ out.old)) }
+    ensures told { E.tells → OnErr words ((Rose (E.faults err.old) (E.faults err.new) → ⊥) → E.took err.new ≡ E.took err.old ++ codes "out of memory\n") }
+{
+    let Ok(all) = words else {
+        return exit_with(no_memory(err));
     };
+    let status = answer(rt, alloc, all.as_slice(), world, out, err);
+    exit_with(status)
+}
+
+fn main(rt: HostRuntime) -> ExitCode {
     let mut world = RealWorld::new(&rt, rt.alloc());
     let mut out = StandardOutput::new(rt.stdout());
-    let status = answer(
-        &rt,
-        rt.alloc(),
-        words.as_slice(),
-        &mut world,
-        &mut out,
-        &mut err,
-    );
-    exit_with(status)
+    let mut err = StandardError::new(rt.stderr());
+    let words = all_words(&rt);
+    program(&rt, rt.alloc(), words, &mut world, &mut out, &mut err)
 }

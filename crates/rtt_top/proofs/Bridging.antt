@@ -22,13 +22,14 @@ use Rattle.bridge_run.specs.declared.mixed.MixFault.TheVariants as mix
 use Rattle.bridge_run.specs.Mixes.{LieBelow, AllLie, IsMade, IsBroken, outputs_of, steps_of}
 use Rattle.bridge_run.specs.Mixes as bridge
 use Rattle.rtt_top.specs.Conferences.{ending_name, fault_of_mixing, input_name, input_of, mixing_work, output_of}
+use Rattle.rtt_top.specs.Faults.{NoneBefore}
 use Rattle.rtt_top.specs.Outputs.{IsUnwritten}
 use Rattle.rtt_top.specs.Outside.{Outside, Output, Failed, CallFailed, ObjectFailed, RoseAt}
 use Rattle.rtt_top.specs.Runs.{Prints, PrintsFront, Unchanged, PartlyStored, Ends}
 use Rattle.command_spec.proofs.Outputs.{is_output}
 use Rattle.rtt_top.proofs.Working.{done}
 use Rattle.rtt_top.proofs.Counts.{rose_since}
-use Rattle.rtt_top.proofs.Chain.{is_input, outcome_done, outcome_refused}
+use Rattle.rtt_top.proofs.Chain.{is_input, none_before, outcome_done, outcome_refused}
 
 -- ---- legs
 leg_within : (legs : List LegLine) (k : ℕ) (leg : LegLine) → leg_at legs k ≡ Some leg → k < length legs
@@ -53,8 +54,11 @@ broken : (Told Shown : Type 0) (old new : Outside) (file octets : List ℕ) (c :
     → let ended : Ending = Err (if b then CannotRead (k + 1) else Refused (k + 1) (AtByte fault.offset fault.kind)) in
     Ends (mixing_work file) Told Shown old new (ending_name file c.legs ended) ended
 broken Told Shown old new file octets c k leg fault true there read is at s u = (
-  by_number (λ n name. IsInput Told old.contents (mixing file) n name × ObjectFailed old new name) file c.legs k leg at
-      (is_input Told old.contents file octets c k leg there read at (λ told. lie_below old.contents c.legs k (s.lie told)), s.read is),
+  by_number (λ n name. IsInput Told old.contents (mixing file) n name × ObjectFailed old new name × (Told → NoneBefore n (outcome old.contents (mixing file)))) file c.legs k leg at (
+    is_input Told old.contents file octets c k leg there read at (λ told. lie_below old.contents c.legs k (s.lie told)),
+    s.read is,
+    λ told. none_before old.contents file octets c k (there told) read (s.lie told) (s.lowest told),
+  ),
   u,
 )
 broken Told Shown old new file octets c k leg fault false there read is at s u = (

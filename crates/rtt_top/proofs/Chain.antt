@@ -4,15 +4,20 @@ use Rattle.std.specs.Prelude.{IsSome, unwrap_or}
 use Rattle.file_spec.specs.declared.conf_lines.Form.TheVariants.{Files}
 use Rattle.file_spec.specs.declared.conf_lines.LegLine.{LegLine}
 use Rattle.file_spec.specs.Conf.{Conf, conf}
-use Rattle.mixer_spec.specs.Setups.{leg_at}
+use Rattle.mixer_spec.specs.Setups.{leg_at, setup}
+use Rattle.mixer_spec.specs.Plain.{plain}
+use Rattle.mixer_spec.specs.Bridged.{input_limit, leg_chunks}
 use Rattle.command_spec.specs.declared.faults.Refusal.{Refusal}
 use Rattle.command_spec.specs.Work.{Contents, Made, Steps, Refuses, Makes, IsInput}
 use Rattle.command_spec.specs.Outcomes.{Done, outcome, outcome_from}
 use Rattle.command_spec.specs.Outcomes as outcomes
-use Rattle.command_spec.specs.Mixing.{mixes, mixes_read, mixing, reads_inputs}
-use Rattle.bridge_run.specs.Mixes.{octets_under, inputs_under, LieBelow, AllLie, steps_of}
+use Rattle.command_spec.specs.Mixing.{makes, mixes, mixes_read, mixing, reads_inputs}
+use Rattle.command_spec.specs.Mixing as mixed
+use Rattle.bridge_run.specs.Mixes.{octets_under, inputs_under, LieBelow, AllLie, WholeBelow, steps_of}
+use Rattle.rtt_top.specs.Faults.{NoneBefore}
 use Rattle.rtt_top.specs.Conferences.{input_name, input_of}
 use Rattle.rtt_top.proofs.Working.{lies}
+use Rattle.rtt_top.proofs.Before.{none_broken, none_makes}
 
 some_under : (o : Option (List ℕ)) → IsSome o → o ≡ Some (unwrap_or o [])
 some_under None there = absurd (cc there)
@@ -64,6 +69,17 @@ pub outcome_refused : (held : Contents) (file octets : List ℕ) (c : Conf) (inp
     → AllLie held c.legs → steps_of held c ≡ Refuses input refusal → outcome held (mixing file) ≡ outcomes.Refused input refusal
 outcome_refused held file octets c input refusal there read lie is =
     mixed_outcome held file octets c there read lie ∙ ap (outcome_from (length c.legs + 1) held) is
+
+-- where the inputs of the first k legs have no fault, none of these is refused
+pub none_before : (held : Contents) (file octets : List ℕ) (c : Conf) (k : ℕ) → held file ≡ Some octets → conf Files octets ≡ Ok c
+    → AllLie held c.legs → WholeBelow k c (inputs_under held c.legs) → NoneBefore (suc k) (outcome held (mixing file))
+none_before held file octets c k there read lie whole =
+    let inputs = inputs_under held c.legs in
+    let table = plain (setup c) c.tick c.turns (leg_chunks c (mixed.input_at inputs)) in
+    let one : k + 1 ≡ suc k = omega arith in
+    subst (λ o. NoneBefore (suc k) o) (sym (mixed_outcome held file octets c there read lie))
+    (subst (λ n. NoneBefore n (outcome_from (length c.legs + 1) held (steps_of held c))) one
+    (none_broken held (length c.legs + 1) (input_limit c) 1 inputs (makes c table) k whole (none_makes held (length c.legs + 1) c table)))
 
 -- ---- a leg by its number
 pub leg_read : (legs : List LegLine) (k : ℕ) (leg : LegLine) → k < length legs → leg ≡ get_or legs k leg → leg_at legs k ≡ Some leg

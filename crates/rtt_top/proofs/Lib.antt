@@ -10,3 +10,5 @@ pub mod Chain
 pub mod Bridging
 pub mod Since
 pub mod MadeLines
+pub mod Before
+pub mod Plain

@@ -6,7 +6,7 @@ use Rattle.command_spec.specs.Work.{Contents, Made, Steps, Reads, Refuses, Makes
 use Rattle.command_spec.specs.Outcomes.{Outcome, Missing, Done, outcome, outcome_from, IsDone, Same, AllStored}
 use Rattle.command_spec.specs.Outcomes as outcomes
 use Rattle.command_spec.specs.Messages.{Ending}
-use Rattle.rtt_top.specs.Faults.{WhereRead, name_in}
+use Rattle.rtt_top.specs.Faults.{NoneBefore, WhereRead, name_in}
 use Rattle.rtt_top.specs.Outside.{Outside, Output, Failed, CallFailed, ObjectFailed}
 use Rattle.rtt_top.specs.Runs.{Prints, PrintsFront, Unchanged, PartlyStored, Ends}
 use Rattle.rtt_top.proofs.Counts.{rose_since}
@@ -103,8 +103,14 @@ ends_since w Told Shown old mid new name (Err (CannotWrite n)) b out e = (
 ends_since w Told Shown old mid new name (Err WrongWords) b out e = absurd e.0
 ends_since w Told Shown old mid new name (Err (CannotOpen n)) b out e =
     ((input_since Told old.contents mid.contents b.same w.steps n name e.0.0, call_since Told old mid new b name e.0.1), unchanged_since Told Shown old mid new b out e.1)
-ends_since w Told Shown old mid new name (Err (CannotRead n)) b out e =
-    ((input_since Told old.contents mid.contents b.same w.steps n name e.0.0, object_since Told old mid new b name e.0.1), unchanged_since Told Shown old mid new b out e.1)
+ends_since w Told Shown old mid new name (Err (CannotRead n)) b out e = (
+  (
+    input_since Told old.contents mid.contents b.same w.steps n name e.0.0,
+    object_since Told old mid new b name e.0.1,
+    λ told. subst (λ o. NoneBefore n o) (outcome_since old.contents mid.contents (b.same told) 0 w.steps) (e.0.2 told),
+  ),
+  unchanged_since Told Shown old mid new b out e.1,
+)
 ends_since w Told Shown old mid new name (Err (Refused n refusal)) b out e = (
   (
     where_read w.steps (IsInput Told mid.contents w.steps n name) (IsInput Told old.contents w.steps n name) (input_since Told old.contents mid.contents b.same w.steps n name) e.0.0,

@@ -15,6 +15,7 @@ use Rattle.command_spec.specs.Messages.{Ending}
 use Rattle.rtt_top.specs.Faults.{Stops, IsUnread, IsOfByte, IsOfRecording, IsTrueOf, name_in}
 use Rattle.rtt_top.specs.Outside.{Outside, Failed, CallFailed, ObjectFailed}
 use Rattle.rtt_top.specs.Runs.{Prints, PrintsFront, Unchanged, Ends}
+use Rattle.rtt_top.proofs.Before.{none_before_first}
 
 -- ---- the outcome, where the first input lies there
 pub lies : (held : Contents) (name : List ℕ) (next : List ℕ → Steps) (octets : List ℕ) → held name ≡ Some octets
@@ -31,7 +32,7 @@ pub unread : (Told : Type 0) (held : Contents) (name : List ℕ) (next : List �
     → IsUnread (Call name) (Object name) fault → Stops Told held (Reads name next) Call Object name fault
 unread Told held name next Call Object WrongWords u = u
 unread Told held name next Call Object (CannotOpen n) u = (first_input Told held name next n u.0, u.1)
-unread Told held name next Call Object (CannotRead n) u = (first_input Told held name next n u.0, u.1)
+unread Told held name next Call Object (CannotRead n) u = (first_input Told held name next n u.0, u.1, λ told. none_before_first n (outcome held (Reads name next)) u.0)
 unread Told held name next Call Object (Refused n refusal) u = absurd u
 unread Told held name next Call Object CannotPrint u = u
 unread Told held name next Call Object (CannotWrite n) u = u
@@ -55,8 +56,11 @@ pub stops_recording : (Told : Type 0) (held : Contents) (file : List ℕ) (view 
     → Stops Told held (prints_recording file view).steps Call Object file fault
 stops_recording Told held file view Call Object WrongWords u t = u
 stops_recording Told held file view Call Object (CannotOpen n) u t = absurd u
-stops_recording Told held file view Call Object (CannotRead n) u t =
-    (first_input Told held file (λ octets. unless_broken (dump usual_limit octets).fault (Makes (view octets) [])) n u.0, u.1)
+stops_recording Told held file view Call Object (CannotRead n) u t = (
+  first_input Told held file (λ octets. unless_broken (dump usual_limit octets).fault (Makes (view octets) [])) n u.0,
+  u.1,
+  λ told. none_before_first n (outcome held (prints_recording file view).steps) u.0,
+)
 stops_recording Told held file view Call Object (Refused n refusal) u t = (
   first_input Told held file (λ octets. unless_broken (dump usual_limit octets).fault (Makes (view octets) [])) n u,
   λ told. let h = t told in broken_recording held file view h.0 refusal h.1 h.2 ∙ ap (λ k. outcomes.Refused k refusal) (sym u),

@@ -1,5 +1,5 @@
 -- Why a command stops before it makes anything.
-use Rattle.std.specs.Prelude.{◌≡◌, ℕ, Option, Some, List, Err}
+use Rattle.std.specs.Prelude.{◌≡◌, ◌≤◌, ℕ, Option, Some, List, Err}
 use Rattle.wire_spec.specs.Dump.{Recording}
 use Rattle.wire_spec.specs.Dump as dumps
 use Rattle.command_spec.specs.declared.faults.Refusal.{Refusal}
@@ -7,7 +7,7 @@ use Rattle.command_spec.specs.declared.faults.Refusal.TheVariants.{AtByte, AtLin
 use Rattle.command_spec.specs.declared.faults.Fault.{Fault}
 use Rattle.command_spec.specs.declared.faults.Fault.TheVariants.{WrongWords, CannotOpen, CannotRead, Refused, CannotPrint, CannotWrite, NoMemory}
 use Rattle.command_spec.specs.Work.{Contents, Steps, Reads, Refuses, Makes, IsInput}
-use Rattle.command_spec.specs.Outcomes.{outcome}
+use Rattle.command_spec.specs.Outcomes.{Outcome, Missing, Done, outcome}
 use Rattle.command_spec.specs.Outcomes as outcomes
 use Rattle.command_spec.specs.Messages.{Ending, message_of}
 
@@ -17,12 +17,21 @@ WhereRead (Reads name next) P = P
 WhereRead (Refuses input refusal) P = Unit {0}
 WhereRead (Makes printed files) P = Unit {0}
 
--- An input of this name could not be opened or read, or it is refused; `Call` and `Object` tell of which names a call or an
+-- no input before this number is refused
+abbrev pub NoneBefore : ℕ → Outcome → Type 0
+NoneBefore n (Missing input) = Unit {0}
+NoneBefore n (outcomes.Refused input (AtByte byte kind)) = n ≤ input
+NoneBefore n (outcomes.Refused input (AtLine line kind)) = n ≤ input
+NoneBefore n (outcomes.Refused input (AfterTurns turns)) = Unit {0}
+NoneBefore n (Done printed files) = Unit {0}
+
+-- An input of this name could not be opened or read, where none before it is refused, or it is refused; `Call` and `Object` tell of which names a call or an
 -- object failed. Want of memory is free.
 abbrev pub Stops : (Told : Type 0) → Contents → Steps → (Call Object : List ℕ → Type 0) → List ℕ → Fault → Type 0
 Stops Told held steps Call Object name WrongWords = ⊥
 Stops Told held steps Call Object name (CannotOpen input) = IsInput Told held steps input name × Call name
-Stops Told held steps Call Object name (CannotRead input) = IsInput Told held steps input name × Object name
+Stops Told held steps Call Object name (CannotRead input) =
+    IsInput Told held steps input name × Object name × (Told → NoneBefore input (outcome held steps))
 Stops Told held steps Call Object name (Refused input refusal) =
     WhereRead steps (IsInput Told held steps input name) × (Told → outcome held steps ≡ outcomes.Refused input refusal)
 Stops Told held steps Call Object name CannotPrint = ⊥

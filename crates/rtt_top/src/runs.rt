@@ -12,7 +12,8 @@ use std::sync::Wait;
 use std::thread::Threads;
 
 /// Runs a command that needs no thread and waits for nobody. `words` are the words after the program's name; the
-/// answer is the status, or `None` where another command is asked for; then nothing was read or written.
+/// answer is the status, or `None` where another command is asked for; then nothing was read or written. Of another command it
+/// may tell that memory ran out before the words were told apart, and nothing else.
 pub fn run_plain<W: World, K: Sink, E: Sink>(
     alloc: Global,
     words: &[String],
@@ -22,6 +23,8 @@ pub fn run_plain<W: World, K: Sink, E: Sink>(
 ) -> Option<u8>
     ensures plain { is_plain (asked_by words.now) ≡ true → IsSome result }
     ensures others { result ≡ None → is_plain (asked_by words.now) ≡ false }
+    ensures only { is_plain (asked_by words.now) ≡ false → IfSome result (λ status. status ≡ 70) }
+    ensures untouched { is_plain (asked_by words.now) ≡ false → (world.new ≡ world.old) × (out.new ≡ out.old) }
     ensures runs { IfSome result (Runs (asked_by words.now) W.tells K.tells E.tells
         (outside_at W.World K.Sink world.old out.old) (outside_at W.World K.Sink world.new out.new)
         (output_at E.Sink err.old) (output_at E.Sink err.new)) }

@@ -62,9 +62,9 @@ pub returns-in-Faulted-clause-mixes : goal.returns-in-Faulted-clause-mixes
 returns-in-Faulted-clause-mixes g c = λ tells inputs count asks.
     let conf = conf_of c.args.conf.now in
     let x = c.mix_read-mixing.ensures.mixed (setup conf) (pts_at conf) c.in-Ok.ensures.stands (sym c.requires.legs) c.requires.stays c.in-Ok-new.ensures.open in
-    broken_refuses conf inputs count x.table c.in-Faulted.leg c.in-Faulted.fault
-    (is_answer _ g.S.Source.tells g.S.Source.left g.S.Source.faults g.S.Source.name conf c.from-tick.result c.from-turns.result c.mix_read-mixing.result.mixing c.args.ports.items c.mix_read-mixing.result.ports.items c.mix_read-mixing.result.mixer c.mix_read-mixing.result.log
-    x c.from-tick.ensures c.from-turns.ensures (mixing.Faulted c.in-Faulted.leg c.in-Faulted.fault) c.in-Faulted.is tells inputs asks)
+    let answer = is_answer _ g.S.Source.tells g.S.Source.left g.S.Source.faults g.S.Source.name conf c.from-tick.result c.from-turns.result c.mix_read-mixing.result.mixing c.args.ports.items c.mix_read-mixing.result.ports.items c.mix_read-mixing.result.mixer c.mix_read-mixing.result.log
+    x c.from-tick.ensures c.from-turns.ensures (mixing.Faulted c.in-Faulted.leg c.in-Faulted.fault) c.in-Faulted.is tells inputs asks in
+    (answer.2, broken_refuses conf inputs count x.table c.in-Faulted.leg c.in-Faulted.fault answer)
 
 pub returns-in-Faulted-clause-sources : goal.returns-in-Faulted-clause-sources
 returns-in-Faulted-clause-sources g c =
