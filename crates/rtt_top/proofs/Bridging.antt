@@ -160,15 +160,15 @@ pub printed_mixing : (Told Shown : Type 0) (old new : Outside) (file octets : Li
     → IfErr result (λ fault. fault ≡ CannotPrint) → OnErr result (Failed old.out new.out) → (Shown → OnOk result (Prints printed old new)) → (Shown → OnErr result (PrintsFront printed old new))
     → Ends (mixing_work file) Told Shown old new (ending_name file c.legs result) result
 printed_mixing Told Shown old new file octets c printed outs (Ok u) there read made stored fault cause whole partly =
-    λ told. done (outcome old.contents (mixing file)) printed (outputs_of c.legs outs) (λ printed files. AllStored files old.contents new.contents × (Shown → Prints printed old new))
-    (outcome_done old.contents file octets c printed (outputs_of c.legs outs) (there told) read (made told).0 (made told).1) (stored told, whole)
+    λ told. done (outcome old.contents (mixing file)) printed (outputs_of c.legs outs) (λ printed files. (Told → AllStored files old.contents new.contents) × (Shown → Prints printed old new))
+    (outcome_done old.contents file octets c printed (outputs_of c.legs outs) (there told) read (made told).0 (made told).1) (stored, whole)
 printed_mixing Told Shown old new file octets c printed outs (Err f) there read made stored fault cause whole partly =
     let P : Fault → Type 0 = λ f. Ends (mixing_work file) Told Shown old new (ending_name file c.legs (Err f)) (Err f) in
     subst P (sym fault) (
       refl,
       cause,
-      λ told. done (outcome old.contents (mixing file)) printed (outputs_of c.legs outs) (λ printed files. AllStored files old.contents new.contents × (Shown → PrintsFront printed old new))
-          (outcome_done old.contents file octets c printed (outputs_of c.legs outs) (there told) read (made told).0 (made told).1) (stored told, partly),
+      λ told. done (outcome old.contents (mixing file)) printed (outputs_of c.legs outs) (λ printed files. (Told → AllStored files old.contents new.contents) × (Shown → PrintsFront printed old new))
+          (outcome_done old.contents file octets c printed (outputs_of c.legs outs) (there told) read (made told).0 (made told).1) (stored, partly),
     )
 
 pub unwritten_result : (Told Shown : Type 0) (old new : Outside) (contents : Contents) (calls objects : List ℕ → ℕ) (file octets : List ℕ) (c : Conf) (printed : List ℕ) (outs : List (List ℕ))

@@ -17,6 +17,7 @@ use Rattle.rtt_top.specs.Runs.{Prints, Ends, IsCalm, IsAsWorked, IsOfWords, IsHe
 use Rattle.command_spec.specs.Mixing.{mixing}
 use Rattle.command_spec.proofs.Headlines.{bridged}
 use Rattle.command_spec.proofs.Views.{same_view}
+use Rattle.rtt_top.specs.Faults.{WhereRead}
 use Rattle.rtt_top.proofs.Working.{lies}
 
 -- ---- where nothing outside failed
@@ -25,7 +26,7 @@ all_done (Missing n) P d = absurd d
 all_done (outcomes.Refused n refusal) P d = absurd d
 all_done (Done printed files) P d = refl
 
-as_worked : (w : Work) (Told Shown : Type 0) (old new : Outside) (name : List ℕ) (ending : Ending) → Told → Ends w Told Shown old new name ending → IsCalm w Told old new
+as_worked : (w : Work) (Told Shown : Type 0) (old new : Outside) (name : List ℕ) (ending : Ending) → WhereRead w.steps Told → Ends w Told Shown old new name ending → IsCalm w Told old new
     → IsAsWorked w old ending
 as_worked w Told Shown old new name (Ok u) told e calm = inl (all_done (outcome old.contents w.steps) _ (e told))
 as_worked w Told Shown old new name (Err WrongWords) told e calm = absurd e.0
@@ -44,7 +45,7 @@ from_view held (Some fault) view P d = absurd d
 viewed : (Told Shown : Type 0) (old new : Outside) (name : List ℕ) (h : History) → Lawful h → Told → Shown → (r : ReadWords) (octets view : List ℕ) → old.contents r.file ≡ Some octets
     → Come h (arrivals_of (request_of r) octets) → view ≡ history_view h (request_of r) octets → Ends (work (Read r)) Told Shown old new name (Ok tt) → Prints view old new
 viewed Told Shown old new name h law told shown r octets view held come is ends =
-    let P : List ℕ → List Made → Type 0 = λ printed files. AllStored files old.contents new.contents × (Shown → Prints printed old new) in
+    let P : List ℕ → List Made → Type 0 = λ printed files. (Told → AllStored files old.contents new.contents) × (Shown → Prints printed old new) in
     let at = subst (λ o. IsDone o P) (lies old.contents r.file (λ octets. unless_broken (dump usual_limit octets).fault (Makes (read_view (request_of r) octets) [])) octets held) (ends told) in
     let p = from_view old.contents (dump usual_limit octets).fault (read_view (request_of r) octets) P at in
     p.1 shown ∙ ap (λ (v : List ℕ). old.out.octets ++ v) (same_view h law (request_of r) octets come ∙ sym is)
@@ -57,8 +58,8 @@ is_done (Done printed files) P d = (printed, files, refl, d)
 
 headline : (Told Shown : Type 0) (old new : Outside) (name : List ℕ) (m : MixWords) → Told → Ends (work (Mix m)) Told Shown old new name (Ok tt) → IsHeadline Shown m old new
 headline Told Shown old new name m told e =
-    let d = is_done (outcome old.contents (mixing m.conf)) (λ printed files. AllStored files old.contents new.contents × (Shown → Prints printed old new)) (e told) in
-    record { printed = d.0; prints = d.3.1; bridged = bridged old.contents new.contents m.conf d.0 d.1 d.2 d.3.0 }
+    let d = is_done (outcome old.contents (mixing m.conf)) (λ printed files. (Told → AllStored files old.contents new.contents) × (Shown → Prints printed old new)) (e told) in
+    record { printed = d.0; prints = d.3.1; bridged = bridged old.contents new.contents m.conf d.0 d.1 d.2 (d.3.0 told) }
 
 the_mix : (c : Command) (m : MixWords) → Some c ≡ Some (Mix m) → c ≡ Mix m
 the_mix c m e = cc
@@ -74,7 +75,7 @@ runs c Told Shown Heard old new before after status ending name is ends silent t
   name = name;
   is_status = is;
   ends = ends;
-  calm = λ t d e calm. subst (λ k. IsCalm (work k) Told old new → IsAsWorked (work k) old ending) (some_same c d e) (λ calm. as_worked (work c) Told Shown old new name ending t ends calm) calm;
+  calm = λ d e t calm. subst (λ k. WhereRead (work k).steps Told → IsCalm (work k) Told old new → IsAsWorked (work k) old ending) (some_same c d e) (λ t calm. as_worked (work c) Told Shown old new name ending t ends calm) t calm;
   kept = λ t s ok h law view v.
       let P : Command → Type 0 = λ k. Ends (work k) Told Shown old new name ending in
       let Q : Ending → Type 0 = λ q. Ends (work (Read v.request)) Told Shown old new name q in
@@ -101,7 +102,7 @@ no_words words Told Shown Heard old before after status fault name none is s sil
       name = name;
       is_status = s;
       ends = (is, ((λ shown. refl), λ told name. refl));
-      calm = λ t c e. absurd (no_command c e);
+      calm = λ c e. absurd (no_command c e);
       kept = λ t s ok h law view v. absurd (no_command (Read v.request) v.reads);
       headline = λ t ok m e. absurd (no_command (Mix m) e);
       silent = silent;

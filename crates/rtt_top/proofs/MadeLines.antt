@@ -83,11 +83,11 @@ pub ends_printed : (steps : Steps) (Told Shown : Type 0) (old new : Outside) (na
     → (Shown → OnOk result (Prints line old new)) → (Shown → OnErr result (PrintsFront line old new)) → Ends (printing steps) Told Shown old new name result
 ends_printed steps Told Shown old new name line (Ok u) is same fault cause printed partly =
     let P : Steps → Type 0 = λ s. Ends (printing s) Told Shown old new name (Ok u) in
-    subst P (sym is) (λ told. ((λ file i. same i file), printed))
+    subst P (sym is) (λ t. ((λ told file i. same i file), printed))
 ends_printed steps Told Shown old new name line (Err f) is same fault cause printed partly =
     let P : Steps → Type 0 = λ s. Ends (printing s) Told Shown old new name (Err CannotPrint) in
     let Q : Fault → Type 0 = λ g. Ends (printing steps) Told Shown old new name (Err g) in
-    subst Q (sym fault) (subst P (sym is) (refl, cause, λ told. ((λ file i. same i file), partly)))
+    subst Q (sym fault) (subst P (sym is) (refl, cause, λ t. ((λ told file i. same i file), partly)))
 
 -- ---- why it is not printed
 pub why : (n : ℕ) (made : Generated) (inputs : List (List ℕ)) → made ≡ generated n → inputs ≡ recordings made

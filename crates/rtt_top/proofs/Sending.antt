@@ -112,9 +112,9 @@ pub saves : (s : SendWords) (Told Shown : Type 0) (old new : Outside) (between :
     → Ends (work (Send s)) Told Shown old new (name_in input s.out res) res
 saves s Told Shown old new between calls objects input file (Ok u) out made same f g fault saved cause partly =
     λ told. done (outcome old.contents (work (Send s)).steps) [] (record { name = s.out; octets = file } ∷ [])
-    (λ printed files. AllStored files old.contents new.contents × (Shown → new.out.octets ≡ old.out.octets ++ printed))
+    (λ printed files. (Told → AllStored files old.contents new.contents) × (Shown → new.out.octets ≡ old.out.octets ++ printed))
     (made_of old.contents s made.0 file (made.1 told) made.2) (
-      (new.contents, stores_after (record { name = s.out; octets = file }) old.contents between new.contents (same told) (saved told), λ name. refl),
+      (λ told. (new.contents, stores_after (record { name = s.out; octets = file }) old.contents between new.contents (same told) (saved told), λ name. refl)),
       λ shown. ap (λ (o : Output). o.octets) out ∙ append_none old.out.octets,
     )
 saves s Told Shown old new between calls objects input file (Err fault) out made same f g is saved cause partly =

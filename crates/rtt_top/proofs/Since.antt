@@ -45,6 +45,15 @@ done_map (Missing n) P Q f d = absurd d
 done_map (outcomes.Refused n refusal) P Q f d = absurd d
 done_map (Done printed files) P Q f d = f printed files d
 
+outcome_where : (Told : Type 0) (old mid : Contents) → (Told → Same old mid) → (steps : Steps) → WhereRead steps Told → outcome mid steps ≡ outcome old steps
+outcome_where Told old mid same (Reads name next) t = outcome_since old mid (same t) 0 (Reads name next)
+outcome_where Told old mid same (Refuses input refusal) t = refl
+outcome_where Told old mid same (Makes printed files) t = refl
+
+done_where : (Told : Type 0) (old mid : Contents) (steps : Steps) (P Q : List ℕ → List Made → Type 0) → (Told → Same old mid) → WhereRead steps Told → ((printed : List ℕ) (files : List Made) → P printed files → Q printed files)
+    → IsDone (outcome mid steps) P → IsDone (outcome old steps) Q
+done_where Told old mid steps P Q same t f d = subst (λ o. IsDone o Q) (outcome_where Told old mid same steps t) (done_map (outcome mid steps) P Q f d)
+
 done_since : (old mid : Contents) (steps : Steps) (P Q : List ℕ → List Made → Type 0) → Same old mid → ((printed : List ℕ) (files : List Made) → P printed files → Q printed files)
     → IsDone (outcome mid steps) P → IsDone (outcome old steps) Q
 done_since old mid steps P Q same f d = subst (λ o. IsDone o Q) (outcome_since old mid same 0 steps) (done_map (outcome mid steps) P Q f d)
@@ -74,21 +83,21 @@ where_read (Makes printed files) P Q f p = tt
 
 pub ends_since : (w : Work) (Told Shown : Type 0) (old mid new : Outside) (name : List ℕ) (ending : Ending) → IsBetween Told old mid mid.contents mid.calls mid.objects → mid.out ≡ old.out
     → Ends w Told Shown mid new name ending → Ends w Told Shown old new name ending
-ends_since w Told Shown old mid new name (Ok u) b out e = λ told.
-    done_since old.contents mid.contents w.steps
-    (λ printed files. AllStored files mid.contents new.contents × (Shown → Prints printed mid new))
-    (λ printed files. AllStored files old.contents new.contents × (Shown → Prints printed old new)) (b.same told)
-    (λ printed files d. (all_stored_since files old.contents mid.contents new.contents (b.same told) d.0, λ shown. d.1 shown ∙ ap (λ (o : Output). o.octets ++ printed) out)) (e told)
+ends_since w Told Shown old mid new name (Ok u) b out e = λ t.
+    done_where Told old.contents mid.contents w.steps
+    (λ printed files. (Told → AllStored files mid.contents new.contents) × (Shown → Prints printed mid new))
+    (λ printed files. (Told → AllStored files old.contents new.contents) × (Shown → Prints printed old new)) b.same t
+    (λ printed files d. ((λ told. all_stored_since files old.contents mid.contents new.contents (b.same told) (d.0 told)), λ shown. d.1 shown ∙ ap (λ (o : Output). o.octets ++ printed) out)) (e t)
 ends_since w Told Shown old mid new name (Err CannotPrint) b out e = (
   e.0,
   subst (λ o. Failed o new.out) out e.1,
-  λ told. done_since old.contents mid.contents w.steps
-      (λ printed files. AllStored files mid.contents new.contents × (Shown → PrintsFront printed mid new))
-      (λ printed files. AllStored files old.contents new.contents × (Shown → PrintsFront printed old new)) (b.same told)
+  λ t. done_where Told old.contents mid.contents w.steps
+      (λ printed files. (Told → AllStored files mid.contents new.contents) × (Shown → PrintsFront printed mid new))
+      (λ printed files. (Told → AllStored files old.contents new.contents) × (Shown → PrintsFront printed old new)) b.same t
       (λ printed files d. (
-        all_stored_since files old.contents mid.contents new.contents (b.same told) d.0,
+        (λ told. all_stored_since files old.contents mid.contents new.contents (b.same told) (d.0 told)),
         λ shown. (let p = d.1 shown in (p.0, p.1 ∙ ap (λ (o : Output). o.octets ++ take p.0 printed) out)),
-      )) (e.2 told),
+      )) (e.2 t),
 )
 ends_since w Told Shown old mid new name (Err (CannotWrite n)) b out e = (
   output_since Told old.contents mid.contents b.same w.steps n name e.0,
@@ -114,7 +123,7 @@ ends_since w Told Shown old mid new name (Err (CannotRead n)) b out e = (
 ends_since w Told Shown old mid new name (Err (Refused n refusal)) b out e = (
   (
     where_read w.steps (IsInput Told mid.contents w.steps n name) (IsInput Told old.contents w.steps n name) (input_since Told old.contents mid.contents b.same w.steps n name) e.0.0,
-    λ told. sym (outcome_since old.contents mid.contents (b.same told) 0 w.steps) ∙ e.0.1 told,
+    λ t. sym (outcome_where Told old.contents mid.contents b.same w.steps t) ∙ e.0.1 t,
   ),
   unchanged_since Told Shown old mid new b out e.1,
 )

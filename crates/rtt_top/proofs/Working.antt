@@ -12,7 +12,7 @@ use Rattle.command_spec.specs.Outcomes.{outcome, outcome_from, Missing, Done, Is
 use Rattle.command_spec.specs.Outcomes as outcomes
 use Rattle.command_spec.specs.Commands.{unless_broken, prints_recording}
 use Rattle.command_spec.specs.Messages.{Ending}
-use Rattle.rtt_top.specs.Faults.{Stops, IsUnread, IsOfByte, IsOfRecording, IsTrueOf, name_in}
+use Rattle.rtt_top.specs.Faults.{WhereRead, Stops, IsUnread, IsOfByte, IsOfRecording, IsTrueOf, name_in}
 use Rattle.rtt_top.specs.Outside.{Outside, Failed, CallFailed, ObjectFailed}
 use Rattle.rtt_top.specs.Runs.{Prints, PrintsFront, Unchanged, Ends}
 use Rattle.rtt_top.proofs.Before.{none_before_first}
@@ -91,12 +91,12 @@ pub done : (o : outcomes.Outcome) (printed : List ℕ) (files : List Made) (P : 
 done o printed files P e p = subst (λ q. IsDone q P) (sym e) p
 
 pub printed : (w : Work) (Told Shown : Type 0) (old new : Outside) (input output view : List ℕ) (res : Ending) → w.prints ≡ true
-    → (Told → outcome old.contents w.steps ≡ Done view []) → (Told → Same old.contents new.contents)
+    → (WhereRead w.steps Told → outcome old.contents w.steps ≡ Done view []) → (Told → Same old.contents new.contents)
     → IfErr res (λ fault. fault ≡ CannotPrint) → OnErr res (Failed old.out new.out) → (Shown → OnOk res (Prints view old new)) → (Shown → OnErr res (PrintsFront view old new))
     → Ends w Told Shown old new (name_in input output res) res
 printed w Told Shown old new input output view (Ok u) prints is_view same fault cause whole partly =
-    λ told. done (outcome old.contents w.steps) view [] (λ printed files. AllStored files old.contents new.contents × (Shown → Prints printed old new)) (is_view told) (same told, whole)
+    λ told. done (outcome old.contents w.steps) view [] (λ printed files. (Told → AllStored files old.contents new.contents) × (Shown → Prints printed old new)) (is_view told) (same, whole)
 printed w Told Shown old new input output view (Err f) prints is_view same fault cause whole partly =
     let P : Fault → Type 0 = λ f. Ends w Told Shown old new (name_in input output (Err f)) (Err f) in
     subst P (sym fault)
-    (prints, cause, λ told. done (outcome old.contents w.steps) view [] (λ printed files. AllStored files old.contents new.contents × (Shown → PrintsFront printed old new)) (is_view told) (same told, partly))
+    (prints, cause, λ told. done (outcome old.contents w.steps) view [] (λ printed files. (Told → AllStored files old.contents new.contents) × (Shown → PrintsFront printed old new)) (is_view told) (same, partly))

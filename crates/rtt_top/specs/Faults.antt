@@ -33,7 +33,7 @@ Stops Told held steps Call Object name (CannotOpen input) = IsInput Told held st
 Stops Told held steps Call Object name (CannotRead input) =
     IsInput Told held steps input name × Object name × (Told → NoneBefore input (outcome held steps))
 Stops Told held steps Call Object name (Refused input refusal) =
-    WhereRead steps (IsInput Told held steps input name) × (Told → outcome held steps ≡ outcomes.Refused input refusal)
+    WhereRead steps (IsInput Told held steps input name) × (WhereRead steps Told → outcome held steps ≡ outcomes.Refused input refusal)
 Stops Told held steps Call Object name CannotPrint = ⊥
 Stops Told held steps Call Object name (CannotWrite output) = ⊥
 Stops Told held steps Call Object name NoMemory = Unit {0}

@@ -11,7 +11,7 @@ use Rattle.command_spec.specs.Bridges.{IsBridged}
 use Rattle.command_spec.specs.Reading.{arrivals_of, history_view}
 use Rattle.command_spec.specs.Commands.{request_of, work}
 use Rattle.command_spec.specs.Messages.{Ending, ending_of, status_of, message_of}
-use Rattle.rtt_top.specs.Faults.{Stops}
+use Rattle.rtt_top.specs.Faults.{Stops, WhereRead}
 use Rattle.rtt_top.specs.Files.{IsPartlyStored}
 use Rattle.rtt_top.specs.Outside.{Outside, Output, Failed, CallFailed, ObjectFailed}
 
@@ -58,11 +58,11 @@ FailedAt old new name = CallFailed old new name ⊎ ObjectFailed old new name
 -- 5, 6, 9 and 70 nothing is changed.
 abbrev pub Ends : Work → (Told Shown : Type 0) → Outside → Outside → List ℕ → Ending → Type 0
 Ends w Told Shown old new name (Ok done) =
-    Told → IsDone (outcome old.contents w.steps) (λ printed files.
-    AllStored files old.contents new.contents × (Shown → Prints printed old new))
+    WhereRead w.steps Told → IsDone (outcome old.contents w.steps) (λ printed files.
+    (Told → AllStored files old.contents new.contents) × (Shown → Prints printed old new))
 Ends w Told Shown old new name (Err CannotPrint) = (w.prints ≡ true) × Failed old.out new.out
-    × (Told → IsDone (outcome old.contents w.steps) (λ printed files.
-    AllStored files old.contents new.contents × (Shown → PrintsFront printed old new)))
+    × (WhereRead w.steps Told → IsDone (outcome old.contents w.steps) (λ printed files.
+    (Told → AllStored files old.contents new.contents) × (Shown → PrintsFront printed old new)))
 Ends w Told Shown old new name (Err (CannotWrite output)) = IsOutput Told old.contents w.steps output name
     × FailedAt old new name
     × (Shown → new.out.octets ≡ old.out.octets)
@@ -113,7 +113,7 @@ pub record Runs (words : Option Command) (Told Shown Heard : Type 0) (old new : 
   pub name : List ℕ
   pub is_status : status ≡ status_of ending
   pub ends : RunEnds words Told Shown old new name ending
-  pub calm : Told → (c : Command) → words ≡ Some c
+  pub calm : (c : Command) → words ≡ Some c → WhereRead (work c).steps Told
       → IsCalm (work c) Told old new → IsAsWorked (work c) old ending
   pub kept : Told → Shown → ending ≡ Ok tt → (h : History) → Lawful h → (view : List ℕ)
       → IsViewOf h words old.contents view → Prints view old new
