@@ -1,15 +1,15 @@
 -- The headline of a conference that was mixed.
-use Rattle.std.proofs.Common.{◌≡◌, ℕ, suc, ◌+◌, ◌*◌, ◌<◌, ◌≤◌, Bool, true, false, cond, Option, Some, None, List, [], ◌∷◌, ◌++◌, length, refl, ap, subst, sym, ◌∙◌, arith}
+use Rattle.std.proofs.Common.{◌≡◌, ℕ, suc, ◌+◌, ◌*◌, ◌<◌, ◌≤◌, Bool, true, false, cond, Some, List, [], ◌∷◌, ◌++◌, length, refl, ap, subst, sym, ◌∙◌, arith}
 use Rattle.std.specs.Prelude.{map, flat_map, remove, if◌then◌else◌}
 use Rattle.std.specs.List.{AllByRecursion, concat, enumerate_from}
 use Rattle.std.proofs.Math.Nat.{mul-le-mul_left}
 use Rattle.wire_spec.specs.Packets.{Arrival}
-use Rattle.wire_spec.specs.Dump.{dump, dump_written}
+use Rattle.wire_spec.specs.Dump.{dump_written}
 use Rattle.file_spec.specs.declared.conf_lines.Form.TheVariants.{Files}
 use Rattle.file_spec.specs.declared.conf_lines.LegLine.{LegLine}
 use Rattle.file_spec.specs.Conf.{Conf}
 use Rattle.file_spec.specs.Kept.{IsConference}
-use Rattle.stream_spec.specs.Numbering.{numbered, used, Falling}
+use Rattle.stream_spec.specs.Numbering.{numbered, used}
 use Rattle.stream_spec.specs.Hearing.{heard}
 use Rattle.stream_spec.specs.History.{History, Come, placed, Lawful}
 use Rattle.stream_spec.specs.Own.{own_packet, Own, Closed}
@@ -17,24 +17,23 @@ use Rattle.stream_spec.specs.Carries.{Carries}
 use Rattle.text_spec.specs.declared.counts.Counts.{Counts}
 use Rattle.text_spec.specs.Shown.{shown}
 use Rattle.text_spec.specs.Views.{Source, aware_view, unaware_view}
-use Rattle.mixer_spec.specs.Setups.{AllStay, leg_at, ssrc_of, gens_of}
+use Rattle.mixer_spec.specs.Setups.{AllStay, leg_at, gens_of}
 use Rattle.mixer_spec.specs.Table.{Table}
-use Rattle.mixer_spec.specs.Headline.{hears}
+use Rattle.mixer_spec.specs.Headline.{hears, IsHop}
 use Rattle.mixer_spec.specs.Chunks.{texts_of}
-use Rattle.mixer_spec.specs.Bridged.{Bridged, IsConferenceMixed, IsHeardOf, IsMixed, IsPair, hop_from, input_limit, leg_arrivals, leg_chunks, leg_heard, packets_to, shared_texts}
+use Rattle.mixer_spec.specs.Bridged.{Bridged, IsConferenceMixed, IsHeardOf, IsMixed, IsPair, leg_chunks, packets_to, shared_texts}
 use Rattle.mixer_spec.proofs.Conferences.{accepted_law, plan_law}
-use Rattle.mixer_spec.proofs.OfFiles.{mixed_law, aware_law, other_law}
+use Rattle.mixer_spec.proofs.OfFiles.{heard_of, hops_law, mixed_law, aware_law, other_law, shared_law as part_law}
 use Rattle.mixer_spec.proofs.Final.{AtEnd, at_end, taken_law}
 use Rattle.mixer_spec.proofs.Told.{out_of as told_out}
 use Rattle.mixer_spec.proofs.Bridged.{all_stay_law}
 use Rattle.mixer_spec.proofs.Staying.{shared_law, stay_law}
-use Rattle.stream_spec.proofs.ChunkTexts.{chunk_texts, chunks_rise}
-use Rattle.stream_spec.proofs.Falls.{items_law}
+use Rattle.stream_spec.proofs.ChunkTexts.{chunk_texts}
 use Rattle.command_spec.specs.Work.{Contents, Made}
 use Rattle.command_spec.specs.Outcomes.{Done, outcome, AllStored}
 use Rattle.command_spec.specs.Seen.{Text, fate_at, arrivals_at, counts_at, source_at}
 use Rattle.command_spec.specs.Mixing.{sent_to, out_of, came_to, reception_of, speaker_of, view_of, views, outs, input_at, mixing}
-use Rattle.command_spec.specs.Bridges.{Bridge, setup_of, inward, chunks_of, told_to, comes_to, onward_from_mixer, records_of, counts_behind, view_behind, IsHeard, IsHeardAsOne, IsMixedFrom, IsBridged}
+use Rattle.command_spec.specs.Bridges.{Bridge, setup_of, IsFrom, inward, chunks_of, told_to, comes_to, onward_from_mixer, records_of, counts_behind, view_behind, IsHeard, IsHeardAsOne, IsMixedFrom, IsBridged}
 use Rattle.command_spec.proofs.Ssrcs.{ssrcs_fit}
 use Rattle.command_spec.proofs.Reached.{reached}
 use Rattle.command_spec.proofs.Stored.{stored_at}
@@ -96,16 +95,6 @@ views_from b n (l ∷ legs) same =
     λ i. first i ++ rest i
 
 -- ---- what is heard
-falls : (limit : ℕ) (o : Option LegLine) (octets : List ℕ) → Falling (numbered (leg_arrivals limit o octets))
-falls limit None octets = tt
-falls limit (Some l) octets = items_law (dump limit octets).items l.ssrc l.pts
-
-heard_of : (c : Conf) (inputs : ℕ → List ℕ) (i : ℕ) (h : History) → IsHeardOf (hop_from c inputs i h) i (leg_heard c inputs i)
-heard_of c inputs i h = record {
-  is = refl;
-  rises = chunks_rise c.wait i (leg_arrivals (input_limit c) (leg_at c.legs i) (inputs i)) (ssrc_of (leg_at c.legs i)) (falls (input_limit c) (leg_at c.legs i) (inputs i));
-}
-
 -- the legs are mixed to the end
 record IsWhole (b : Bridge) : Type 0 where
   is : IsConference b.conference
@@ -117,13 +106,16 @@ mixed_of b w = mixed_law b.conference (input_at b.inputs) b.table w.is w.over
 pair_heard : (b : Bridge) → IsWhole b → (j i : ℕ) → IsPair (setup_of b) j i → IsHeard b j i
 pair_heard b w j i p = record {
   bridged = bridged;
-  headline = λ h ip. let r = (bridged h).headline ip b.conference.wait (comes_to b j) (come h) in (r.0, r.2);
+  headline = λ h is. (bridged h).headline (hop h is) b.conference.wait (comes_to b j) (come h);
   carries_all = λ st h. subst (Carries (told_to b j) ((setup_of b).ssrc i)) (whole h st) (bridged h).carries;
-  headline_all = λ st h ip. (all_stay_law (setup_of b) (leg_chunks b.conference (input_at b.inputs)) b.conference.tick b.conference.turns b.table st (mixed_of b w) j i p (inward b i h) ip (heard_all h st) b.conference.wait (comes_to b j) (come h)).1;
+  headline_all = λ st h is. (all_stay_law (setup_of b) (leg_chunks b.conference (input_at b.inputs)) b.conference.tick b.conference.turns b.table st (mixed_of b w) j i p (inward b i h) (hop h is) (heard_all h st) b.conference.wait (comes_to b j) (come h)).1;
 }
   where
     bridged : (h : History) → Bridged (setup_of b) b.table j i (told_to b j) (inward b i h) (chunks_of b i)
     bridged h = aware_law b.conference (input_at b.inputs) b.table w.is w.over j i p h
+
+    hop : (h : History) → IsFrom b i h → IsHop (inward b i h)
+    hop h is = hops_law b.conference (input_at b.inputs) i h is
 
     come : (h : History) → Come (told_to b j) (comes_to b j)
     come h = (aware_law b.conference (input_at b.inputs) b.table w.is w.over j i p h).comes b.conference.plan (plan_law b.conference w.is)
@@ -140,7 +132,11 @@ pair_heard b w j i p = record {
 one_heard : (b : Bridge) → IsWhole b → (j : ℕ) → j < length b.conference.legs → (setup_of b).aware j ≡ false → IsHeardAsOne b j
 one_heard b w j l u =
     let o = other_law b.conference (input_at b.inputs) b.table w.is w.over j u l in
-    record { bridged = o; one_hop = o.one_hop b.conference.wait (comes_to b j) (o.comes b.conference.plan (plan_law b.conference w.is)) }
+    record {
+      bridged = o;
+      one_hop = o.one_hop b.conference.wait (comes_to b j) (o.comes b.conference.plan (plan_law b.conference w.is));
+      part = part_law b.conference (input_at b.inputs) b.table w.is w.over j;
+    }
 
 -- what was sent to a leg, aware or not, is a history, which is closed
 record IsTold (b : Bridge) (j g : ℕ) : Type 0 where

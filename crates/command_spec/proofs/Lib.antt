@@ -8,7 +8,9 @@ pub mod Stored
 pub mod SentBack
 pub mod Coming
 pub mod Headlines
+pub mod OneBridge
 mod MixExamples
+mod RealTerminals
 pub mod Outputs
 mod GeneratedExamples
 pub mod Markers

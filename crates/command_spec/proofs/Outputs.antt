@@ -3,7 +3,7 @@ use Rattle.std.proofs.Common.{◌≡◌, ℕ, zero, suc, ◌+◌, ◌*◌, ◌�
 use Rattle.std.specs.Prelude.{map, not, ◌&&◌, ◌||◌, ◌==◌, nat_lt, unwrap_or, IsSome, if◌then◌else◌}
 use Rattle.std.specs.List.{enumerate_from}
 use Rattle.wire_spec.specs.Packets.{Arrival}
-use Rattle.wire_spec.specs.Dump.{opening, dump, dump_written, arrivals_after, usual_limit, sent_item}
+use Rattle.wire_spec.specs.Dump.{opening, dump, dump_written, arrivals_after, usual_limit}
 use Rattle.wire_spec.specs.Dump as dumps
 use Rattle.wire_spec.proofs.Recordings.{read_back}
 use Rattle.file_spec.specs.declared.conf_lines.Form.TheVariants.{Files}
@@ -16,6 +16,7 @@ use Rattle.mixer_spec.specs.Rounds.{all_below, set_at}
 use Rattle.mixer_spec.specs.Setups.{Setup, setup, in_stay, leg_at, ssrc_of}
 use Rattle.mixer_spec.specs.Table.{Table, Terminal, empty, is_quiet, is_idle, has_work, stopped, turned}
 use Rattle.mixer_spec.specs.Plain.{Desk, left_over, table_after, offers, offers_below, goes_below, comes_below, before_turn, is_over, plain_from, plain}
+use Rattle.stream_spec.specs.Still.{still}
 use Rattle.mixer_spec.specs.Bridged.{input_limit, leg_arrivals, leg_chunks}
 use Rattle.mixer_spec.proofs.Kept.{entered_same, stopped_same, gone_same}
 use Rattle.command_spec.specs.declared.faults.Refusal.TheVariants.{AtByte}
@@ -105,7 +106,7 @@ none_arrive c None octets e = refl
 none_arrive c (Some l) octets e = ap (arrivals_after l.ssrc l.pts []) e
 
 none_heard : (c : Conf) (inputs : ℕ → List ℕ) (i : ℕ) → (dump (input_limit c) (inputs i)).items ≡ [] → leg_chunks c inputs i ≡ []
-none_heard c inputs i e = ap (λ (a : List Arrival). in_stay (setup c) i (chunks c.wait i a (ssrc_of (leg_at c.legs i)))) (none_arrive c (leg_at c.legs i) (inputs i) e)
+none_heard c inputs i e = ap (λ (a : List Arrival). in_stay (setup c) i (chunks c.wait i (still a) (ssrc_of (leg_at c.legs i)))) (none_arrive c (leg_at c.legs i) (inputs i) e)
 
 limit_is : (c : Conf) → 44 ≤ input_limit c
 limit_is c = go (nat_lt 16 (length c.legs))

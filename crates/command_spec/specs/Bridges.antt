@@ -12,16 +12,15 @@ use Rattle.stream_spec.specs.Numbering as numbers
 use Rattle.stream_spec.specs.History.{History, Lawful, placed}
 use Rattle.stream_spec.specs.Own.{Own, Closed, own_packet}
 use Rattle.stream_spec.specs.Carries.{Carries}
-use Rattle.stream_spec.specs.Kept.{Item}
 use Rattle.stream_spec.specs.Ready.{Chunk}
 use Rattle.text_spec.specs.declared.counts.Counts.{Counts}
 use Rattle.text_spec.specs.Shown.{Display, shown}
 use Rattle.text_spec.specs.Views.{Source, aware_view, unaware_view}
-use Rattle.mixer_spec.specs.Setups.{AllStay, Setup, leg_at, setup}
+use Rattle.mixer_spec.specs.Setups.{AllStay, IsAnother, Setup, leg_at, setup}
 use Rattle.mixer_spec.specs.Table.{Table}
 use Rattle.mixer_spec.specs.Arrives.{arrivals}
-use Rattle.mixer_spec.specs.Headline.{Hop, IsHop, hears, OneHop, Headline}
-use Rattle.mixer_spec.specs.Bridged.{Bridged, BridgedAsOne, IsConferenceMixed, IsPair, before, hop_from, hop_to, input_limit, leg_heard, told_by_packets}
+use Rattle.mixer_spec.specs.Headline.{Hop, hears, OneHop, Headline, HeadlineAt, all_sent}
+use Rattle.mixer_spec.specs.Bridged.{Bridged, BridgedAsOne, IsConferenceMixed, IsPair, IsSentBy, SharedIsPart, hop_from, hop_to, input_limit, leg_heard, told_by_packets}
 use Rattle.command_spec.specs.Work.{Contents}
 use Rattle.command_spec.specs.Mixing.{sent_to, records_to, input_at}
 use Rattle.wire_spec.specs.declared.limits.TheConstants.{LAST_RECORD_MOMENT}
@@ -35,17 +34,17 @@ pub record Bridge : Type 0 where
 abbrev pub setup_of : Bridge → Setup
 setup_of b = setup b.conference
 
--- ---- the first hop: from the leg i, to whom the history h was sent
+-- ---- the first hop: from the leg i, of whom the history h was sent, but for keep-alives
+-- what came of the leg is of the lawful history h
+abbrev pub IsFrom : Bridge → ℕ → History → Type 0
+IsFrom b i h = IsSentBy b.conference (input_at b.inputs) i h
+
 abbrev pub inward : Bridge → ℕ → History → Hop
 inward b i h = hop_from b.conference (input_at b.inputs) i h
 
 -- what is heard of the leg, with the moments from which each text may be mixed
 abbrev pub chunks_of : Bridge → ℕ → List Chunk
 chunks_of b i = leg_heard b.conference (input_at b.inputs) i
-
--- how many texts of it stand before those that the terminal j shares
-abbrev pub before_shared : Bridge → ℕ → ℕ → ℕ
-before_shared b j i = before (setup_of b) b.table j i (chunks_of b i)
 
 -- ---- the second hop: to the terminal j, where the source x is listened to
 -- the history that its packets tell
@@ -115,19 +114,23 @@ views_behind b = flat_map (λ x. view_behind b x.0 x.1) (enumerate_from 0 b.conf
 pub record IsHeard (b : Bridge) (j i : ℕ) : Type 0 where
   -- Its history is lawful, own and closed, and carries all that it shares of the leg.
   pub bridged : (h : History) → Bridged (setup_of b) b.table j i (told_to b j) (inward b i h) (chunks_of b i)
-  -- The headline, for every lawful history of which the leg's arrivals come.
-  pub headline : (h : History) → IsHop (inward b i h)
-      → (after : List Item) × Headline (inward b i h) (onward_from b j i) (before_shared b j i) [] after
+  -- The headline, for every lawful history of which the leg's arrivals come, cut at what the terminal shares of the leg: of each
+  -- block that is no keep-alive.
+  pub headline : (h : History) → IsFrom b i h
+      → HeadlineAt (inward b i h) (onward_from b j i) (bridged h).part.before [] (bridged h).part.after
   -- Where nobody comes later or goes, that is all that is heard of the leg.
   pub carries_all : AllStay (setup_of b)
       → (h : History) → Carries (told_to b j) ((setup_of b).ssrc i) (hears (inward b i h))
   pub headline_all : AllStay (setup_of b)
-      → (h : History) → IsHop (inward b i h) → Headline (inward b i h) (onward_from b j i) 0 [] []
+      → (h : History) → IsFrom b i h → Headline (inward b i h) (onward_from b j i) (all_sent (inward b i h))
 
 -- What a terminal hears that is not aware: the mixer as the one source.
 pub record IsHeardAsOne (b : Bridge) (j : ℕ) : Type 0 where
   pub bridged : BridgedAsOne (setup_of b) b.table j (told_to b j)
   pub one_hop : OneHop (onward_from_mixer b j)
+  -- What it shares of each other leg stands in what is heard of that leg.
+  pub part : (i : ℕ) → i < length b.conference.legs → IsAnother i j
+      → (h : History) → SharedIsPart (setup_of b) b.table j i (inward b i h) (chunks_of b i)
 
 -- ---- the whole
 -- The conference lies in this file, and recordings without a fault in its inputs; mixing them is over within its turns.
@@ -136,6 +139,14 @@ pub record IsMixedFrom (held : Contents) (file : List ℕ) (b : Bridge) : Type 0
   pub inputs_lie : AllZip (λ leg octets. held leg.input ≡ Some octets) b.conference.legs b.inputs
   pub whole : All (λ octets. (dump (input_limit b.conference) octets).fault ≡ None) b.inputs
   pub over : IsConferenceMixed b.conference (input_at b.inputs) b.table
+
+-- Of what lies in files there is one bridge at most.
+abbrev pub BridgesAreOne : Type 0
+BridgesAreOne =
+    (held : Contents) (file : List ℕ) (a b : Bridge)
+    → IsMixedFrom held file a
+    → IsMixedFrom held file b
+    → a ≡ b
 
 -- What `mix` makes of a file, where that lay in files, and this lies there then, and this is printed.
 pub record IsBridged (held after : Contents) (file printed : List ℕ) : Type 0 where

@@ -13,7 +13,7 @@ ghost use Rattle.command_spec.specs.Scripts.{AreLines};
 ghost use Rattle.command_spec.specs.Generated.{generated};
 ghost use Rattle.command_spec.specs.Mixing.{mixing};
 ghost use Rattle.command_spec.specs.Sums.{markers, new_texts_heard, marks_in};
-ghost use Rattle.command_spec.specs.Bridges.{IsBridged};
+ghost use Rattle.command_spec.specs.Bridges.{BridgesAreOne, IsBridged};
 
 /// Where what arrives out of a recording comes from a lawful history, what `read` prints is the view of that history: the
 /// source's blocks which came in time, each once, and marks.
@@ -23,11 +23,17 @@ pub fn histories_are_shown()
 {}
 
 /// What `mix` makes of a conference is bridged, whatever lies in its inputs and whatever its plan says: each output has the
-/// packets of a lawful history in which each text was repeated, and what is printed is the text of each leg, of which
-/// nothing is absent but what every packet carrying it lost.
+/// packets of a lawful history in which each text was repeated, and what is printed is what is heard behind both hops. Of what
+/// a terminal shares of a leg nothing is absent there but what every packet carrying it lost.
 pub fn mixed_is_bridged()
     ensures { (held after : Contents) (file printed : List ℕ) (files : List Made)
         → outcome held (mixing file) ≡ Done printed files → AllStored files held after → IsBridged held after file printed }
+{}
+
+/// What lies in the file of a conference and in its inputs decides the conference, the octets of its inputs and the table at
+/// the end. So the bridge that `mixed_is_bridged` tells of is the only one.
+pub fn bridges_are_one()
+    ensures { BridgesAreOne }
 {}
 
 /// What is heard of a source are the markers that are counted and the new texts. Of a lawful history they are the marks which

@@ -29,7 +29,7 @@ use Rattle.file_spec.specs.Conf.{Conf, conf, entry, leg_of, mixer_of, plan_of, s
 use Rattle.text_spec.specs.Characters.{class_of}
 use Rattle.text_spec.specs.Ends.{ends_line, ends_sentence}
 use Rattle.text_spec.specs.Views.{label, label_after}
-use Rattle.mixer_spec.specs.Setups.{AllStay, setup, stream, leg_at}
+use Rattle.mixer_spec.specs.Setups.{AllStay, setup, stream}
 use Rattle.mixer_spec.specs.Table.{Call, Admit, Hush, Leave, Offer, Turn, Taken, Table, after_calls, chunks_taken, is_due, last_media, packets, sent_from}
 use Rattle.mixer_spec.specs.Core.{Core, Event, Enter, Push, Take, after, turns_in}
 use Rattle.mixer_spec.specs.Core as event
@@ -38,11 +38,11 @@ use Rattle.mixer_spec.specs.Plain.{plain}
 use Rattle.mixer_spec.specs.Arrives.{arrivals}
 use Rattle.mixer_spec.specs.Laws.{AreShort}
 use Rattle.mixer_spec.specs.Headline.{IsHop}
-use Rattle.mixer_spec.specs.Bridged.{Bridged, IsPair, IsMixed, IsRunning, leg_arrivals, leg_chunks, leg_heard, hop_from, input_limit, told_by_packets, IsConferenceMixed}
+use Rattle.mixer_spec.specs.Bridged.{Bridged, IsPair, IsMixed, IsRunning, IsSentBy, came_of, leg_chunks, leg_heard, hop_from, told_by_packets, IsConferenceMixed}
 use Rattle.mixer_spec.proofs.Lists.{set_other}
 use Rattle.mixer_spec.proofs.Conferences.{accepted_law, plan_law}
 use Rattle.mixer_spec.proofs.Runs.{run_law}
-use Rattle.mixer_spec.proofs.OfFiles.{mixed_law, aware_law, short}
+use Rattle.mixer_spec.proofs.OfFiles.{mixed_law, hops_law, aware_law, short}
 use Rattle.mixer_spec.proofs.MixedExample.{table_of}
 
 -- ---- the file
@@ -145,15 +145,18 @@ came = (600, entry_at 2 600 [] 600) ∷ (300, entry_at 1 300 [] 16383) ∷ (0, e
 near_each : NearEach ann came
 near_each = (inr (inr (inl refl)), ((omega arith, omega arith), (inr (inl refl), ((omega arith, omega arith), (inl refl, (tt, tt))))))
 
-came_is : leg_arrivals (input_limit call) (leg_at call.legs 0) (inputs 0) ≡ come_from ann came
+came_is : came_of call inputs 0 ≡ come_from ann came
 unfolding text_of text_of_short rtp rtp_of_header red headers_at texts_at is_utf8 chars encode dump records records_within dump_step opening
 came_is = refl
 
-hop : IsHop (hop_from call inputs 0 ann)
-hop = record { lawful = lawful; come = subst (Come ann) (sym came_is) (own_come 2 ann lawful (sent_own of_ann sent) came near_each) }
+is_sent : IsSentBy call inputs 0 ann
+is_sent = record { lawful = lawful; come = subst (Come ann) (sym came_is) (own_come 2 ann lawful (sent_own of_ann sent) came near_each) }
 
-are : ArePlaces ann (places 1000 ann (hop_from call inputs 0 ann).came)
-are = are_places 1000 ann (hop_from call inputs 0 ann).came hop.come
+hop : IsHop (hop_from call inputs 0 ann)
+hop = hops_law call inputs 0 ann is_sent
+
+are : ArePlaces ann (places 1000 ann (came_of call inputs 0))
+are = are_places 1000 ann (came_of call inputs 0) is_sent.come
 
 -- ---- what is heard, and mixed to the end
 abbrev said : ℕ → List Chunk

@@ -1,20 +1,19 @@
 -- What the laws say of the headline: at the end of plain mixing, after every list of events, where all legs stay, and of a
 -- conference in files.
-use Rattle.std.specs.Prelude.{◌≡◌, ℕ, ◌<◌, ◌≤◌, false, Ok, List, [], length}
+use Rattle.std.specs.Prelude.{◌≡◌, ℕ, ◌<◌, ◌≤◌, false, Ok, List, length}
 use Rattle.wire_spec.specs.Packets.{Arrival}
 use Rattle.file_spec.specs.declared.conf_lines.Form.{Form}
 use Rattle.file_spec.specs.Conf.{Conf, conf}
 use Rattle.file_spec.specs.Kept.{IsConference}
 use Rattle.stream_spec.specs.History.{History, Come}
 use Rattle.stream_spec.specs.Ready.{Chunk}
-use Rattle.stream_spec.specs.Kept.{Item, texts}
 use Rattle.stream_spec.specs.Carries.{Carries, CarriesFront}
 use Rattle.mixer_spec.specs.Setups.{AllStay, IsAnother, IsSetup, Setup, setup}
 use Rattle.mixer_spec.specs.Table.{Table, chunks_taken, shared}
 use Rattle.mixer_spec.specs.Core.{Event, after}
 use Rattle.mixer_spec.specs.Plain.{IsOverWith}
-use Rattle.mixer_spec.specs.Headline.{Headline, Hop, IsHop, OneHop, hears}
-use Rattle.mixer_spec.specs.Bridged.{AreCounted, Bridged, BridgedAsOne, IsConferenceMixed, IsHeardOf, IsMixed, IsOut, IsPair, IsPart, IsRunning, SharedIsPart, before, hop_from, hop_to, leg_chunks, leg_heard, shared_texts, told_at, waiting_texts}
+use Rattle.mixer_spec.specs.Headline.{Headline, HeadlineAt, Hop, IsHop, OneHop, all_sent, hears}
+use Rattle.mixer_spec.specs.Bridged.{AreCounted, Bridged, BridgedAsOne, IsConferenceMixed, IsHeardOf, IsMixed, IsOut, IsPair, IsPart, IsRunning, IsSentBy, SharedIsPart, before_shared, hop_from, hop_to, leg_chunks, leg_heard, shared_texts, told_at, waiting_texts}
 
 -- ---- at the end of plain mixing
 -- What an aware terminal hears of a leg is bridged, whatever comes to it.
@@ -46,11 +45,8 @@ hop_behind s w j i wait came = hop_to (told_at s w j) (s.ssrc i) wait came
 -- waits there.
 abbrev pub HasHeadline : Setup → Table → ℕ → ℕ → Hop → List Chunk → ℕ → List Arrival → Type 0
 HasHeadline s w j i p cs wait came =
-    (still : List Item) × (after : List Item)
-    × (part : SharedIsPart s w j i p cs)
-    × (texts still ≡ waiting_texts w j i)
-    × (texts after ≡ part.after)
-    × Headline p (hop_behind s w j i wait came) (before s w j i cs) still after
+    (part : SharedIsPart s w j i p cs)
+    × HeadlineAt p (hop_behind s w j i wait came) part.before (waiting_texts w j i) part.after
 
 -- At an aware terminal that is so of each other leg.
 abbrev pub AnyHasHeadline : Type 0
@@ -108,10 +104,7 @@ HopsHaveHeadline =
     (p q : Hop) → IsHop p → IsHop q
     → (n : ℕ) (shared rest : List (List ℕ)) (part : IsPart n (hears p) shared)
     → CarriesFront q.sent q.source shared rest
-    → (still : List Item) × (after : List Item)
-    × (texts still ≡ rest)
-    × (texts after ≡ part.after)
-    × Headline p q n still after
+    → HeadlineAt p q part.before rest part.after
 
 -- ---- where all legs stay
 -- All that a terminal was given of another leg is all that was taken of it.
@@ -130,7 +123,7 @@ NoneIsBefore =
     → AllStay s
     → j < s.legs → IsAnother i j
     → IsOverWith s tick turns chunks table
-    → before s table j i cs ≡ 0
+    → before_shared s table j i cs ≡ 0
 
 -- The packets to an aware terminal carry all that is heard of a leg, and the headline leaves nothing out.
 abbrev pub AllHasHeadline : Type 0
@@ -142,7 +135,7 @@ AllHasHeadline =
     → (p : Hop) → IsHop p → IsHeardOf p i (chunks i)
     → (wait : ℕ) (came : List Arrival) → Come (told_at s table j) came
     → Carries (told_at s table j) (s.ssrc i) (hears p)
-    × Headline p (hop_behind s table j i wait came) 0 [] []
+    × Headline p (hop_behind s table j i wait came) (all_sent p)
 
 -- ---- of a conference in files
 -- What a conference file is accepted as is a conference, and a setup.
@@ -151,6 +144,13 @@ AcceptedIsSetup =
     (form : Form) (octets : List ℕ) (c : Conf)
     → conf form octets ≡ Ok c
     → IsConference c × IsSetup (setup c)
+
+-- Where what comes of a leg is of a lawful history, that is a hop without its keep-alives.
+abbrev pub ConferenceHops : Type 0
+ConferenceHops =
+    (c : Conf) (inputs : ℕ → List ℕ) (i : ℕ) (h : History)
+    → IsSentBy c inputs i h
+    → IsHop (hop_from c inputs i h)
 
 -- At an aware terminal it is bridged, for every lawful history of which a leg's arrivals come.
 abbrev pub ConferenceIsBridged : Type 0

@@ -1,9 +1,9 @@
 -- What the laws say of turns: who is served, how long a leg waits, and which packets a turn sends.
-use Rattle.std.specs.Prelude.{◌≡◌, ℕ, suc, ◌+◌, ◌<◌, ◌≤◌, ◌==◌, ◌⊎◌, true, Some, List, ◌∷◌, ◌++◌, filter, map}
+use Rattle.std.specs.Prelude.{◌≡◌, ℕ, suc, ◌+◌, ◌<◌, ◌≤◌, ◌==◌, ◌⊎◌, true, Some, List, [], ◌∷◌, ◌++◌, filter, map}
 use Rattle.wire_spec.specs.Packets.{Packet, Arrival}
 use Rattle.stream_spec.specs.Ready.{Chunk}
 use Rattle.stream_spec.specs.Own.{Sent, has_text_in}
-use Rattle.mixer_spec.specs.Setups.{Setup, IsSetup, IsAnother, gap, stream}
+use Rattle.mixer_spec.specs.Setups.{Setup, IsSetup, IsAnother, gap, other_places, stream}
 use Rattle.mixer_spec.specs.Table.{Mixed, Post, Table, batch, is_due, last_media, new_packet, next_media, rank, sent_from, turned}
 use Rattle.mixer_spec.specs.Core.{Event, Turn, after, turns_in}
 use Rattle.mixer_spec.specs.Laws.{AllTexts, IsNew, IsWaiting, Tight, count_of, packets_at}
@@ -47,7 +47,7 @@ IsServed w v j i = count_of i (w.terminals j).past < count_of i (v.terminals j).
 abbrev pub places_before : Setup → Table → ℕ → ℕ → ℕ → ℕ
 places_before s w j q p = rank s (w.terminals j).past q p
 
--- A leg that is due is served within as many turns as there are places but the terminal's own.
+-- A leg that is due in a turn is served within as many turns as there are places but the terminal's own, that turn counted in.
 abbrev pub IsServedSoon : Type 0
 IsServedSoon =
     (s : Setup) (chunks : ℕ → List Chunk) (before es : List Event) (j i q p now : ℕ)
@@ -59,7 +59,7 @@ IsServedSoon =
     w.seats.place j ≡ Some q
     → w.seats.place i ≡ Some p
     → IsDueAt s w j i now
-    → s.places ≤ turns_in es + 2
+    → other_places s ≤ turns_in (es ++ Turn now ∷ [])
     → IsServed w v j i
 
 -- Each turn that serves another leg brings it nearer to its own.

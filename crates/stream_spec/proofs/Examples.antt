@@ -21,7 +21,7 @@ use Rattle.stream_spec.proofs.OwnPackets.{own_come}
 use Rattle.stream_spec.proofs.Sent.{sent_lawful, sent_own}
 use Rattle.stream_spec.proofs.Closing.{sent_closed}
 
-abbrev block : ℕ → List ℕ → TextBlock
+abbrev pub block : ℕ → List ℕ → TextBlock
 block o t = record { offset = o; text = t }
 
 abbrev A : List ℕ
@@ -36,11 +36,11 @@ C = 67 ∷ []
 abbrev D : List ℕ
 D = 68 ∷ []
 
-abbrev at : ℕ → Packet → Arrival
+abbrev pub at : ℕ → Packet → Arrival
 at t p = record { time = t; packet = p }
 
 -- a packet of the stream 1001
-abbrev red : Bool → ℕ → ℕ → List TextBlock → List ℕ → Packet
+abbrev pub red : Bool → ℕ → ℕ → List TextBlock → List ℕ → Packet
 red mark seq stamp older primary = record { mark = mark; seq = seq; stamp = stamp; ssrc = 1001; source = 1001; older = older; primary = primary }
 
 -- A, B, C, D typed at 0, 300, 600, 900, the first sequence number being n

@@ -27,3 +27,6 @@ pub mod Settled
 pub mod ReadyBy
 pub mod Fronts
 pub mod FrontsExample
+pub mod Still
+pub mod StillChunks
+pub mod StillExamples

@@ -10,6 +10,8 @@ pub mod Carries
 pub mod Own
 pub mod Typed
 pub mod InTime
+pub mod Still
 pub mod HeardLaws
 pub mod NumberLaws
 pub mod SentLaws
+pub mod StillLaws

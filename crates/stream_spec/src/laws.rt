@@ -9,6 +9,7 @@ ghost use Rattle.stream_spec.specs.Kept.{ArePlaces, Mark, NoGap, kept};
 ghost use Rattle.stream_spec.specs.Own.{Own, Sent, Stream, sent_history};
 ghost use Rattle.stream_spec.specs.HeardLaws.{AllAreTold, BlocksAreThoseCarried, BlocksRise, ChunksAreHeard, HeardIsByUsed, HeardIsTold, MarkStands, NextAddsTexts, ReadyNeverFalls};
 ghost use Rattle.stream_spec.specs.NumberLaws.{EndsWhereSettled, GivenUpHasCause, LowerIsFarther, NoneIsNearer, OctetsAreReadyInOrder, OctetsNeverFall, RecordingsNeverFall, SettledChunksStay, SettledPacketsStay, UsedCameInTime};
+ghost use Rattle.stream_spec.specs.StillLaws.{StillComes, StillIsFiltered, StillIsLawful, StillIsNumbered, StillIsPlaced, StillIsText, StillIsUsed, StillNeverFalls, StillPlacesCame, TextIsStill};
 ghost use Rattle.stream_spec.specs.SentLaws.{LastIsSent, OwnIsPacket, OwnPacketsCome, PacketsTellHistory, QuietIsClosed, SentIsLawful};
 
 /// What is heard of a source is what the places that came in time tell of it.
@@ -98,4 +99,20 @@ pub fn recordings_never_fall()
 pub fn settled_stays()
     ensures packets { SettledPacketsStay }
     ensures chunks { SettledChunksStay }
+{}
+
+/// Without keep-alives a lawful history is lawful, and what comes of it comes of that. A text that is left is as it was;
+/// times, numbers and places are the same, and the same packets are used. What is heard are the chunks that are no
+/// keep-alives.
+pub fn still_keeps()
+    ensures lawful { StillIsLawful }
+    ensures come { StillComes }
+    ensures placed { StillIsPlaced }
+    ensures same { TextIsStill }
+    ensures numbers { StillIsNumbered }
+    ensures used { StillIsUsed }
+    ensures places { StillPlacesCame }
+    ensures falls { StillNeverFalls }
+    ensures texts { StillIsText }
+    ensures chunks { StillIsFiltered }
 {}

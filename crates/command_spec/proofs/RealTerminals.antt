@@ -1,0 +1,79 @@
+-- What real terminals send, from the files of a conference to what is seen, by computing.
+use Rattle.std.proofs.Common.{◌≡◌, ℕ, cond, Option, Some, None, List, [], ◌∷◌, ◌++◌, refl}
+use Rattle.std.specs.Prelude.{codes, map, bytes_eq}
+use Rattle.std.specs.Str.{is_utf8, chars}
+use Rattle.std.specs.Char.{encode_utf8}
+use Rattle.rtt_base.specs.declared.text_packets.Pts.{Pts}
+use Rattle.wire_spec.specs.SentPackets.{packet_written}
+use Rattle.wire_spec.specs.Rtp.{rtp, rtp_of_header}
+use Rattle.wire_spec.specs.Red.{headers_at, texts_at, red}
+use Rattle.wire_spec.specs.Text.{text_of_short, text_of}
+use Rattle.wire_spec.specs.Dump.{opening, dump_step, records_within, records, dump, dump_written}
+use Rattle.stream_spec.specs.History.{placed}
+use Rattle.stream_spec.specs.Own.{Stream, Sent, sent_history, own_packet}
+use Rattle.file_spec.specs.Conf.{entry, leg_of, mixer_of, plan_of, stay_or_plan, time_or_other}
+use Rattle.text_spec.specs.Characters.{class_of}
+use Rattle.text_spec.specs.Ends.{ends_line, ends_sentence}
+use Rattle.text_spec.specs.Shown.{Display, shown}
+use Rattle.text_spec.specs.Views.{aware_view, label, label_after, unaware_view}
+use Rattle.command_spec.specs.Work.{Contents}
+use Rattle.command_spec.specs.Outcomes.{Outcome, Missing, Refused, Done, outcome}
+use Rattle.command_spec.specs.Mixing.{mixing}
+
+abbrev legs : List ℕ
+legs = codes "leg Ann aware 1001 ann.in ann.out\nleg Bob aware 1002 bob.in bob.out\nleg Cy unaware 1003 cy.in cy.out\nmixer 9000 100 5000\n"
+
+-- what lies there: the conference, what Ann and Bob sent, and a recording without a packet
+abbrev lying : List ℕ → List ℕ → Contents
+lying ann bob name = if_named (codes "c.txt") legs (if_named (codes "ann.in") ann (if_named (codes "bob.in") bob (if_named (codes "cy.in") (dump_written []) None)))
+  where
+    if_named : List ℕ → List ℕ → Option (List ℕ) → Option (List ℕ)
+    if_named file octets other = cond (bytes_eq name file) (Some octets) other
+
+abbrev types : Pts
+types = record { t140 = 98; red = 100 }
+
+abbrev typist : ℕ → Stream
+typist ssrc = record { ssrc = ssrc; first = 0; base = 0; gens = 2 }
+
+abbrev text : ℕ → ℕ → List ℕ → Sent
+text ssrc media octets = record { source = ssrc; media = media; text = octets }
+
+-- newest first
+abbrev recorded : Stream → List Sent → List ℕ
+recorded s sent = dump_written (map (λ x. (x.media, packet_written types (own_packet (sent_history s sent) x))) (placed (sent_history s sent)))
+
+-- what is printed
+abbrev printed : Outcome → List ℕ
+printed (Missing input) = []
+printed (Refused input refusal) = []
+printed (Done views files) = views
+
+abbrev seen : List ℕ → List ℕ → List ℕ
+seen ann bob = printed (outcome (lying ann bob) (mixing (codes "c.txt")))
+
+-- the views of the three: Ann's of Bob and Cy, Bob's of Ann and Cy, and Cy's, each with so many packets
+abbrev display : List (List ℕ) → ℕ → Display
+display lines bells = record { lines = lines; bells = bells }
+
+abbrev silent : Display
+silent = display ([] ∷ []) 0
+
+abbrev views : Display → ℕ → Display → ℕ → Display → ℕ → List ℕ
+views of_bob to_ann of_ann to_bob of_both to_cy =
+    aware_view (codes "Ann") (record { name = codes "Bob"; display = of_bob } ∷ record { name = codes "Cy"; display = silent } ∷ []) (record { packets = to_ann; used = to_ann; refused = 0; foreign = 0 })
+    ++ (aware_view (codes "Bob") (record { name = codes "Ann"; display = of_ann } ∷ record { name = codes "Cy"; display = silent } ∷ []) (record { packets = to_bob; used = to_bob; refused = 0; foreign = 0 })
+    ++ (unaware_view (codes "Cy") of_both (record { packets = to_cy; used = to_cy; refused = 0; foreign = 0 }) ++ []))
+
+-- ---- idle-between
+-- U+FEFF
+abbrev keep_alive : List ℕ
+keep_alive = 0xEF ∷ 0xBB ∷ 0xBF ∷ []
+
+-- Ann types two sentences; Bob's terminal sends keep-alives, which nobody is sent.
+idle_between :
+    seen (recorded (typist 1001) (text 1001 2600 [] ∷ text 1001 2300 [] ∷ text 1001 2000 (codes "Bye. ") ∷ text 1001 600 [] ∷ text 1001 300 [] ∷ text 1001 0 (codes "Hi. ") ∷ []))
+    (recorded (typist 1002) (text 1002 2700 keep_alive ∷ text 1002 1800 keep_alive ∷ text 1002 900 keep_alive ∷ text 1002 0 keep_alive ∷ []))
+    ≡ views silent 0 (display (codes "Hi. Bye. " ∷ []) 0) 6 (display (codes "[Ann] Hi. Bye. " ∷ []) 0) 6
+unfolding entry time_or_other stay_or_plan leg_of mixer_of plan_of is_utf8 chars encode_utf8 text_of text_of_short rtp rtp_of_header red headers_at texts_at dump records records_within dump_step opening shown class_of ends_line ends_sentence label label_after
+idle_between = refl
