@@ -167,3 +167,6 @@ module _ {old new : List MemFile} {name : List ℕ} {before : Option MemFile} {a
 
   pub others_stay : (n : List ℕ) → n ≢ name → octets_of new n ≡ octets_of old n
   others_stay n h = rw (c.others n h) refl
+
+  pub other_objects_stay : (o : ℕ) (n : List ℕ) → n ≢ name → objects_of o new n ≡ objects_of o old n
+  other_objects_stay o n h = rw (c.others n h) refl

@@ -20,6 +20,10 @@ module _ {W : Type 0} where
   abbrev pub CountsMore : (W → List ℕ → ℕ) → List ℕ → ℕ → W → W → Type 0
   CountsMore count name more old new = count new name ≡ counted (count old name) more
 
+  -- where something is under this name, no other name's count changes
+  abbrev pub CountsNoOther : (W → List ℕ → Option (List ℕ)) → (W → List ℕ → ℕ) → List ℕ → W → W → Type 0
+  CountsNoOther contents count name old new = IsSome (contents old name) → SameBut name count old new
+
   -- where something was under this name, these octets are there in its place
   abbrev pub Replaces : (W → List ℕ → Option (List ℕ)) → List ℕ → List ℕ → W → W → Type 0
   Replaces contents name octets old new =

@@ -2,7 +2,7 @@
 ghost use Rattle.std.specs.Prelude.{◌≡◌, ℕ, List, [], Option, OnOk, OnErr, IfOk, IfSome, map, option_map, option_copied};
 ghost use Rattle.rtt_io.specs.Counts.{Rose};
 ghost use Rattle.rtt_io.specs.Files.{octets_of, own_of, objects_of};
-ghost use Rattle.rtt_io.specs.Names.{Same, SameBut, NoneFalls, CountsMore, Replaces};
+ghost use Rattle.rtt_io.specs.Names.{Same, SameBut, NoneFalls, CountsMore, CountsNoOther, Replaces};
 ghost use Rattle.rtt_io.specs.Worlds.{octets_held, own_counted, objects_counted};
 
 use crate::mem_files::{MemFile, place};
@@ -270,6 +270,7 @@ impl MemWorld {
     // Adds the faults of an object to those of its name.
     fn count_object(&mut self, name: &str, faults: u64)
         ensures added { CountsMore objects_counted name.now faults self.old self.new }
+        ensures no_other { CountsNoOther octets_held objects_counted name.now self.old self.new }
         ensures calm { faults ≡ 0 → Same objects_counted self.old self.new }
         ensures never_fall { NoneFalls objects_counted self.old self.new }
         ensures same_contents { Same octets_held self.old self.new }

@@ -1,6 +1,7 @@
 //! The real outside: files and the standard streams.
 ghost use Rattle.std.specs.Prelude.{◌≡◌, ℕ, List, [], None, IfSome, unwrap_or};
 
+use crate::new_files::{NewFile, file_to_write};
 use crate::streams::{Stored, read_once, write_stored, write_whole};
 use crate::{Sink, Source, World};
 use rtt_base::{Failed, Path};
@@ -61,7 +62,7 @@ impl<F: Read> FileSource<F> {
 pub struct FileSink<F = File> {
     file: F,
     name: Path,
-    faults: u64,
+    pub(crate) faults: u64,
 }
 
 impl<F: Stored> Sink for FileSink<F> {
@@ -155,7 +156,7 @@ pub struct RealWorld<R> {
     object_faults: u64,
 }
 
-impl<R: Files<File = File>> RealWorld<R> {
+impl<R: Files<File = File> + Copy + Send> RealWorld<R> {
     /// The files of this runtime. It takes no memory.
     pub fn new(rt: R, alloc: Global) -> RealWorld<R>
         ensures fresh { (n : List ℕ) → ⟦<RealWorld<R> as World>⟧.own_faults result n ≡ 0 }
@@ -168,7 +169,9 @@ impl<R: Files<File = File>> RealWorld<R> {
             object_faults: 0,
         }
     }
+}
 
+impl<R: Files<File = File> + Copy> RealWorld<R> {
     // The file of a name, open for reading, where the system opens it.
     fn source(&self, name: &str) -> Option<FileSource>
         ensures named { IfSome result (λ source. source.name ≡ name.now) }
@@ -179,21 +182,21 @@ impl<R: Files<File = File>> RealWorld<R> {
         Some(FileSource::new(file, path))
     }
 
-    // The file of a name, made anew, where the system makes it.
-    fn sink(&self, name: &str) -> Option<FileSink>
-        ensures named { IfSome result (λ sink. sink.name ≡ name.now) }
-        ensures fresh { IfSome result (λ sink. sink.faults ≡ 0) }
+    // What is to be the file of a name, where the system makes it.
+    fn sink(&self, name: &str) -> Option<NewFile<R>>
+        ensures named { IfSome result (λ sink. sink.sink.name ≡ name.now) }
+        ensures fresh { IfSome result (λ sink. sink.sink.faults ≡ 0) }
     {
         let path = Path::from_text(self.alloc, name).ok()?;
-        let file = fs::create(&self.rt, name).ok()?;
-        Some(FileSink::new(file, path))
+        let (file, moves) = file_to_write(&self.rt, self.alloc, name)?;
+        Some(NewFile::new(self.rt, FileSink::new(file, path), moves))
     }
 }
 
-impl<R: Files<File = File>> World for RealWorld<R> {
+impl<R: Files<File = File> + Copy + Send> World for RealWorld<R> {
     type Src = FileSource;
 
-    type Dst = FileSink;
+    type Dst = NewFile<R>;
 
     ghost tells = { ⊥ };
 
@@ -213,7 +216,7 @@ impl<R: Files<File = File>> World for RealWorld<R> {
         }
     }
 
-    fn create_sink(&mut self, name: &str) -> Result<FileSink, Failed> {
+    fn create_sink(&mut self, name: &str) -> Result<NewFile<R>, Failed> {
         match self.sink(name) {
             Some(sink) => Ok(sink),
             None => {
@@ -227,7 +230,8 @@ impl<R: Files<File = File>> World for RealWorld<R> {
         self.object_faults = self.object_faults.saturating_add(source.faults);
     }
 
-    fn done_dst(&mut self, sink: FileSink) {
-        self.object_faults = self.object_faults.saturating_add(sink.faults);
+    fn done_dst(&mut self, sink: NewFile<R>) {
+        self.object_faults = self.object_faults.saturating_add(sink.faults());
+        sink.end();
     }
 }

@@ -149,7 +149,7 @@ fn a_stream_that_takes_nothing_any_more_fails(rt: HostRuntime) -> Result<(), Fai
 
 #[test]
 fn a_real_file_is_written_and_read_back(rt: HostRuntime) -> Result<(), Fail> {
-    let mut world = RealWorld::new(rt, rt.alloc());
+    let mut world = RealWorld::new(&rt, rt.alloc());
     let mut sink = world.create_sink("rtt_io_test_file")?;
     sink.write_all(b"one ")?;
     sink.write_all(b"two")?;
@@ -162,6 +162,20 @@ fn a_real_file_is_written_and_read_back(rt: HostRuntime) -> Result<(), Fail> {
     world.done_src(source);
     assert!(rt; world.open_source("rtt_io_no_such_file").is_err());
     std::fs::remove_file(&rt, "rtt_io_test_file")?;
+    Ok(())
+}
+
+#[test]
+fn a_real_file_has_its_name_once_it_was_written(rt: HostRuntime) -> Result<(), Fail> {
+    let mut world = RealWorld::new(&rt, rt.alloc());
+    let mut sink = world.create_sink("rtt_io_new_file")?;
+    assert!(rt; !std::fs::exists(&rt, "rtt_io_new_file")?);
+    assert!(rt; std::fs::exists(&rt, "rtt_io_new_file.rtt-part")?);
+    sink.write_all(b"one")?;
+    assert!(rt; std::fs::exists(&rt, "rtt_io_new_file")?);
+    assert!(rt; !std::fs::exists(&rt, "rtt_io_new_file.rtt-part")?);
+    world.done_dst(sink);
+    std::fs::remove_file(&rt, "rtt_io_new_file")?;
     Ok(())
 }
 

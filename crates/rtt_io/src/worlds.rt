@@ -1,7 +1,7 @@
 //! What sources and sinks are opened in.
 ghost use Rattle.std.specs.Prelude.{◌≡◌, ℕ, List, [], Option, OnOk, OnErr, IfOk};
 ghost use Rattle.rtt_io.specs.Counts.{Rose};
-ghost use Rattle.rtt_io.specs.Names.{Same, SameBut, NoneFalls, CountsMore, Replaces};
+ghost use Rattle.rtt_io.specs.Names.{Same, SameBut, NoneFalls, CountsMore, CountsNoOther, Replaces};
 
 use crate::{Sink, Source};
 use rtt_base::Failed;
@@ -58,6 +58,7 @@ pub trait World {
         ensures objects_never_fall { NoneFalls object_faults self.old self.new }
         ensures calm { Self.Src.faults source ≡ 0 → Same object_faults self.old self.new }
         ensures added { CountsMore object_faults (Self.Src.name source) (Self.Src.faults source) self.old self.new }
+        ensures no_other { tells → CountsNoOther contents object_faults (Self.Src.name source) self.old self.new }
         ensures same_contents { tells → Same contents self.old self.new };
 
     /// Takes back a sink, stores what it took under its name, and adds its faults to those of its name.

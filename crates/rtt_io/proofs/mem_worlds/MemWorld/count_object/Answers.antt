@@ -1,7 +1,7 @@
-use Rattle.std.proofs.Common.{◌∙◌, ap, refl, arith}
+use Rattle.std.proofs.Common.{◌≡◌, ◌∙◌, None, ap, refl, arith}
 use Rattle.std.specs.List.{position}
-use Rattle.rtt_io.specs.Files.{is_named}
-use Rattle.rtt_io.proofs.Files.{written, octets_stay, own_stay, objects_rise, objects_added, objects_calm}
+use Rattle.rtt_io.specs.Files.{is_named, file_of}
+use Rattle.rtt_io.proofs.Files.{written, octets_stay, own_stay, objects_rise, objects_added, objects_calm, other_objects_stay, unplaced}
 use Rattle.rtt_io.proofs.mem_worlds.MemWorld.count_object.Goals as goal
 
 pub returns-in-Some-clause-added : goal.returns-in-Some-clause-added
@@ -23,3 +23,12 @@ returns-in-Some-clause-same_own c =
 pub returns-in-Some-clause-calm : goal.returns-in-Some-clause-calm
 returns-in-Some-clause-calm c z =
     objects_calm (written c.args.self.now.files.items c.args.name.now c.in-Some.at c.index_mut-file.result.now _ (c.in-Some.ensures ∙ ap (position (is_named c.args.name.now)) c.as_slice.ensures.value) c.index_mut-file.ensures.value refl) _ c.saturating_add-file.ensures z _
+
+pub returns-in-Some-clause-no_other : goal.returns-in-Some-clause-no_other
+returns-in-Some-clause-no_other c = λ there n h.
+    other_objects_stay (written c.args.self.now.files.items c.args.name.now c.in-Some.at c.index_mut-file.result.now _ (c.in-Some.ensures ∙ ap (position (is_named c.args.name.now)) c.as_slice.ensures.value) c.index_mut-file.ensures.value refl) _ n h
+
+pub returns-in-None-clause-no_other : goal.returns-in-None-clause-no_other
+returns-in-None-clause-no_other c =
+    let none : file_of c.args.self.now.files.items c.args.name.now ≡ None = unplaced c.args.self.now.files.items c.args.name.now (c.in-None.ensures ∙ ap (position (is_named c.args.name.now)) c.as_slice.ensures.value) in
+    rw none (λ h. absurd (cc))
