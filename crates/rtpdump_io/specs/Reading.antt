@@ -52,6 +52,11 @@ is_of_source _ = false
 abbrev pub IfOfSource : Result DumpItem DumpFault → (ℕ → Type 0) → Type 0
 IfOfSource result P = IfErr result (λ fault. fault.kind ≡ kind.Read → P fault.offset)
 
+-- where the answer is no fault of the source, this holds
+abbrev pub UnlessOfSource : {T : Type 0} → Result T DumpFault → Type 0 → Type 0
+UnlessOfSource (Ok item) P = P
+UnlessOfSource (Err fault) P = is_of_source fault.kind ≡ false → P
+
 -- the recording has this fault, where it is none of the source
 abbrev pub IsFaultOf : Recording → DumpFault → Type 0
 IsFaultOf recording fault = is_of_source fault.kind ≡ false → recording.fault ≡ Some (record { byte = fault.offset; kind = fault.kind })
@@ -101,6 +106,10 @@ module _ {S : Type 0} where
   -- its source failed
   abbrev pub SourceFailed : (S → ℕ) → DumpReader S → DumpReader S → Type 0
   SourceFailed faults old new = Rose (faults (source_of old)) (faults (source_of new))
+
+  -- no reading of its source failed
+  abbrev pub SourceCalm : (S → ℕ) → DumpReader S → DumpReader S → Type 0
+  SourceCalm faults old new = faults (source_of new) ≡ faults (source_of old)
 
   -- the place in the recording at which it stands
   abbrev pub place_of : (S → List ℕ) → DumpReader S → Place

@@ -65,6 +65,7 @@ impl<S: Source> Input<S> {
     fn fill(&mut self) -> Result<(), Failed>
         ensures never_falls { S.faults self.old.source ≤ S.faults self.new.source }
         ensures failed { OnErr result (Rose (S.faults self.old.source) (S.faults self.new.source)) }
+        ensures calm { OnOk result (S.faults self.new.source ≡ S.faults self.old.source) }
         ensures same_name { S.name self.new.source ≡ S.name self.old.source }
         ensures unread { S.tells → unread S.left self.new ≡ unread S.left self.old }
         ensures ended { S.tells → result ≡ Ok tt → held self.new ≡ [] → IsAtEnd S.left self.old }
@@ -95,6 +96,7 @@ impl<S: Source> Input<S> {
     pub fn octet(&mut self) -> Result<Option<u8>, Failed>
         ensures never_falls { S.faults self.old.source ≤ S.faults self.new.source }
         ensures failed { OnErr result (Rose (S.faults self.old.source) (S.faults self.new.source)) }
+        ensures calm { OnOk result (S.faults self.new.source ≡ S.faults self.old.source) }
         ensures same_name { S.name self.new.source ≡ S.name self.old.source }
         ensures given { S.tells → IfOk result (λ octet. HandsOut S.left self.old self.new (option_to_list octet)) }
         ensures ended { S.tells → result ≡ Ok None → IsAtEnd S.left self.new }
@@ -113,6 +115,7 @@ impl<S: Source> Input<S> {
         ensures fits { IfOk result (λ number. number ≤ length buf.new) }
         ensures never_falls { S.faults self.old.source ≤ S.faults self.new.source }
         ensures failed { OnErr result (Rose (S.faults self.old.source) (S.faults self.new.source)) }
+        ensures calm { OnOk result (S.faults self.new.source ≡ S.faults self.old.source) }
         ensures same_name { S.name self.new.source ≡ S.name self.old.source }
         ensures given { S.tells → IfOk result (λ number. HandsOut S.left self.old self.new (take number buf.new)) }
         ensures ended { S.tells → IfOk result (λ number. number < length buf.new → IsAtEnd S.left self.new) }
@@ -129,6 +132,7 @@ impl<S: Source> Input<S> {
         ensures fits { IfOk result (λ number. number ≤ length buf.new) }
         ensures never_falls { S.faults self.old.source ≤ S.faults self.new.source }
         ensures failed { OnErr result (Rose (S.faults self.old.source) (S.faults self.new.source)) }
+        ensures calm { OnOk result (S.faults self.new.source ≡ S.faults self.old.source) }
         ensures same_name { S.name self.new.source ≡ S.name self.old.source }
         ensures given { S.tells → IfOk result (λ number. HandsOut S.left self.old self.new (take number buf.new)) }
         ensures ended { S.tells → IfOk result (λ number. number < length buf.new → IsAtEnd S.left self.new) }
@@ -149,6 +153,7 @@ impl<S: Source> Input<S> {
     pub fn pass(&mut self, count: usize) -> Result<bool, Failed>
         ensures never_falls { S.faults self.old.source ≤ S.faults self.new.source }
         ensures failed { OnErr result (Rose (S.faults self.old.source) (S.faults self.new.source)) }
+        ensures calm { OnOk result (S.faults self.new.source ≡ S.faults self.old.source) }
         ensures same_name { S.name self.new.source ≡ S.name self.old.source }
         ensures there { S.tells → result ≡ Ok true → PassesOver S.left self.old self.new count }
         ensures missing { S.tells → result ≡ Ok false → length (unread S.left self.old) < count }
@@ -172,6 +177,7 @@ impl<S: Source> Input<S> {
         requires { length out.old + count ≤ MOST_PACKET_OCTETS }
         ensures never_falls { S.faults self.old.source ≤ S.faults self.new.source }
         ensures failed { OnErr result (Rose (S.faults self.old.source) (S.faults self.new.source)) }
+        ensures calm { OnOk result (S.faults self.new.source ≡ S.faults self.old.source) }
         ensures same_name { S.name self.new.source ≡ S.name self.old.source }
         ensures there { S.tells → result ≡ Ok true → PassesOver S.left self.old self.new count }
         ensures copied { S.tells → result ≡ Ok true → out.new ≡ out.old ++ take count (unread S.left self.old) }
@@ -191,6 +197,7 @@ impl<S: Source> Input<S> {
         requires { length out.old + count ≤ MOST_PACKET_OCTETS }
         ensures never_falls { S.faults self.old.source ≤ S.faults self.new.source }
         ensures failed { OnErr result (Rose (S.faults self.old.source) (S.faults self.new.source)) }
+        ensures calm { OnOk result (S.faults self.new.source ≡ S.faults self.old.source) }
         ensures same_name { S.name self.new.source ≡ S.name self.old.source }
         ensures there { S.tells → result ≡ Ok true → PassesOver S.left self.old self.new count }
         ensures copied { S.tells → result ≡ Ok true → out.new ≡ out.old ++ take count (unread S.left self.old) }

@@ -1,5 +1,5 @@
 //! Reading of the line with which a recording begins.
-ghost use Rattle.std.specs.Prelude.{◌≡◌, ◌≤◌, Ok, true, false, OnErr, IfOk, IfSome};
+ghost use Rattle.std.specs.Prelude.{◌≡◌, ◌≤◌, Ok, true, false, OnOk, OnErr, IfOk, IfSome};
 
 use crate::inputs::Input;
 use rtt_base::Failed;
@@ -14,6 +14,7 @@ impl<S: Source> Input<S> {
     pub fn begins_with(&mut self, expected: &[u8]) -> Result<bool, Failed>
         ensures never_falls { S.faults self.old.source ≤ S.faults self.new.source }
         ensures failed { OnErr result (Rose (S.faults self.old.source) (S.faults self.new.source)) }
+        ensures calm { OnOk result (S.faults self.new.source ≡ S.faults self.old.source) }
         ensures same_name { S.name self.new.source ≡ S.name self.old.source }
         ensures yes { S.tells → result ≡ Ok true → HandsOut S.left self.old self.new expected.now }
         ensures no { S.tells → result ≡ Ok false → BeginsOtherwise S.left self.old expected.now }
@@ -31,6 +32,7 @@ impl<S: Source> Input<S> {
     pub fn past_line(&mut self, most: u8) -> Result<Option<u8>, Failed>
         ensures never_falls { S.faults self.old.source ≤ S.faults self.new.source }
         ensures failed { OnErr result (Rose (S.faults self.old.source) (S.faults self.new.source)) }
+        ensures calm { OnOk result (S.faults self.new.source ≡ S.faults self.old.source) }
         ensures same_name { S.name self.new.source ≡ S.name self.old.source }
         ensures fits { IfOk result (λ line. IfSome line (λ number. number ≤ most)) }
         ensures line { S.tells → IfOk result (λ line. IsPastLine S.left self.old self.new most line) }

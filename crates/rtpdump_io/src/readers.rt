@@ -37,7 +37,7 @@ pub struct DumpReader<S> {
 impl<S: Source> DumpReader<S> {
     ghost use Rattle.std.specs.Prelude.{◌≡◌, ◌<◌, ◌≤◌, true, false, Ok, OnOk, OnErr, IfOk, length, take};
     ghost use Rattle.wire_spec.specs.Dump.{dump, usual_limit};
-    ghost use Rattle.rtpdump_io.specs.Reading.{Gives, is_last, nothing, to_come, most_answers, is_ended, source_of, unread_by, SourceFailed, IfOfSource};
+    ghost use Rattle.rtpdump_io.specs.Reading.{Gives, is_last, nothing, to_come, most_answers, is_ended, source_of, unread_by, SourceFailed, SourceCalm, IfOfSource, UnlessOfSource};
     ghost use Rattle.rtpdump_io.specs.Structures.{Starts, IsLineOrHead, all_octets, octets_around};
     ghost use Rattle.rtpdump_io.specs.Steps.{OnFound, OnRecord, IsOfRecording, Opens, IsReady, Finds, Comes};
     ghost use Rattle.rtpdump_io.specs.Heads.{body_size, kept_size};
@@ -90,7 +90,9 @@ impl<S: Source> DumpReader<S> {
     }
 
     /// Reads what stands next. The octets of a packet are then in `out`; after another answer what is in `out` is
-    /// of no use. A fault `Read` is one of the source, and its byte that of the structure that was being read.
+    /// of no use. A fault `Read` is one of the source, and its byte that of the structure that was being read; by every other
+    /// answer no reading of the source failed.
+    #[inline(always)]
     pub fn next(&mut self, out: &mut Packet) -> Result<DumpItem, DumpFault>
         requires { is_ended self.old ≡ false }
         ensures gives { S.tells → Gives result out.new (to_come S.left self.old) (to_come S.left self.new) }
@@ -101,6 +103,7 @@ impl<S: Source> DumpReader<S> {
         ensures over { is_last result ≡ true → to_come S.left self.new ≡ nothing }
         ensures nearer { most_answers self.new < most_answers self.old }
         ensures never_falls { S.faults (source_of self.old) ≤ S.faults (source_of self.new) }
+        ensures calm { UnlessOfSource result (SourceCalm S.faults self.old self.new) }
         ensures same_name { S.name (source_of self.new) ≡ S.name (source_of self.old) }
     {
         match self.step(out) {
@@ -139,6 +142,7 @@ impl<S: Source> DumpReader<S> {
         ensures nearer { OnRecord result (most_answers self.new < most_answers self.old) }
         ensures failed { OnErr result (SourceFailed S.faults self.old self.new) }
         ensures never_falls { S.faults (source_of self.old) ≤ S.faults (source_of self.new) }
+        ensures calm { OnOk result (SourceCalm S.faults self.old self.new) }
         ensures same_name { S.name (source_of self.new) ≡ S.name (source_of self.old) }
     {
         if let Err(kind) = self.make_ready()? {
@@ -160,6 +164,7 @@ impl<S: Source> DumpReader<S> {
         ensures not_ended { is_ended self.new ≡ false }
         ensures failed { OnErr result (SourceFailed S.faults self.old self.new) }
         ensures never_falls { S.faults (source_of self.old) ≤ S.faults (source_of self.new) }
+        ensures calm { OnOk result (SourceCalm S.faults self.old self.new) }
         ensures same_name { S.name (source_of self.new) ≡ S.name (source_of self.old) }
     {
         match self.stage {
@@ -185,6 +190,7 @@ impl<S: Source> DumpReader<S> {
         ensures same_stage { self.new.stage ≡ self.old.stage }
         ensures failed { OnErr result (SourceFailed S.faults self.old self.new) }
         ensures never_falls { S.faults (source_of self.old) ≤ S.faults (source_of self.new) }
+        ensures calm { OnOk result (SourceCalm S.faults self.old self.new) }
         ensures same_name { S.name (source_of self.new) ≡ S.name (source_of self.old) }
     {
         self.offset = 0;
@@ -213,6 +219,7 @@ impl<S: Source> DumpReader<S> {
         ensures same_stage { self.new.stage ≡ self.old.stage }
         ensures failed { OnErr result (SourceFailed S.faults self.old self.new) }
         ensures never_falls { S.faults (source_of self.old) ≤ S.faults (source_of self.new) }
+        ensures calm { OnOk result (SourceCalm S.faults self.old self.new) }
         ensures same_name { S.name (source_of self.new) ≡ S.name (source_of self.old) }
     {
         let mut octets = [0; 8];
@@ -252,6 +259,7 @@ impl<S: Source> DumpReader<S> {
         ensures same_stage { self.new.stage ≡ self.old.stage }
         ensures failed { OnErr result (SourceFailed S.faults self.old self.new) }
         ensures never_falls { S.faults (source_of self.old) ≤ S.faults (source_of self.new) }
+        ensures calm { OnOk result (SourceCalm S.faults self.old self.new) }
         ensures same_name { S.name (source_of self.new) ≡ S.name (source_of self.old) }
     {
         let size = usize::from(head.size - 8);

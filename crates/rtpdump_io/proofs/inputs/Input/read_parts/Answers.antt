@@ -13,6 +13,7 @@ loop-done-preserved g c =
       within = simp (length-append, length-take, length-drop) (omega (arith, kept.within, tail, number));
       size = simp (length-append, length-take, length-drop) (omega (arith, kept.within, kept.size, tail));
       never_falls = omega (arith, kept.never_falls, filled.never_falls, ap g.S.Source.faults moved.source);
+      calm = ap g.S.Source.faults moved.source ∙ filled.calm ∙ kept.calm;
       same_name = ap g.S.Source.name moved.source ∙ filled.same_name ∙ kept.same_name;
       given = λ t. rw moved.source (fills_more _ _ _ _ _ _ _ _ _ _ (kept.given t) (filled.unread t) moved.given kept.within number);
     }
