@@ -36,7 +36,7 @@ use Rattle.ear.proofs.Given.{fronts, above_given, given_text, last_snoc, next_ri
 use Rattle.ear.proofs.ReadyBy.{chunks_due, chunks_ready, chunks_front}
 
 -- ---- what comes
-quiet_left : (e : Ear) (p : TextPacket) → is_quiet e ≡ true → left_of e.piece p ≡ []
+pub quiet_left : (e : Ear) (p : TextPacket) → is_quiet e ≡ true → left_of e.piece p ≡ []
 quiet_left e p q = heard_left e.piece p (and_parts (not (has_ready e.tracker)) (is_heard e.piece) q).1
 
 -- nothing is left of the packet given last, and another may stand in its place
@@ -76,7 +76,7 @@ told_given story now (Ok p) = refl
 told_given story now (Err f) = refl
 
 -- what is read for the ear is what is asked for
-asked_same : (a b : EarConf) (octets : List ℕ) → a ≡ b → text_of octets (Some a.ssrc) a.pts ≡ text_of octets (Some b.ssrc) b.pts
+pub asked_same : (a b : EarConf) (octets : List ℕ) → a ≡ b → text_of octets (Some a.ssrc) a.pts ≡ text_of octets (Some b.ssrc) b.pts
 asked_same a b octets e = ap (λ (c : EarConf). text_of octets (Some c.ssrc) c.pts) e
 
 pub takes : (e : Ear) (t : State) (now : ℕ) (octets : List ℕ) (p : Packet) → is_quiet e ≡ true → text_of octets (Some e.conf.ssrc) e.conf.pts ≡ Ok p
@@ -168,7 +168,7 @@ peels old e m c going k t r y is left conf source story given g =
     )
 
 -- what b adds
-added_is : (us : List Numbered) (b : Numbered) (s : ℕ) (ts : List (List ℕ)) → ((u : Numbered) → In u us → u.number < b.number)
+pub added_is : (us : List Numbered) (b : Numbered) (s : ℕ) (ts : List (List ℕ)) → ((u : Numbered) → In u us → u.number < b.number)
     → heard_by (us ++ b ∷ []) s ≡ heard_by us s ++ ts → ts ≡ texts_added us b s
 added_is us b s ts above e = append_cancel_left (heard_by us s) ts (texts_added us b s) (sym e ∙ heard_by_more us b s above)
 

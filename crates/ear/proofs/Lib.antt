@@ -3,3 +3,4 @@ pub mod Accepted
 pub mod Given
 pub mod ReadyBy
 pub mod Giving
+pub mod Plain

@@ -1,16 +1,18 @@
 //! The ear of one stream.
-ghost use Rattle.std.specs.Prelude.{◌≡◌, ◌≢◌, ℕ, ◌+◌, ◌≤◌, ◌<◌, ◌^◌, List, [], ◌∷◌, ◌++◌, length, Bool, Some, Ok, Err, OnOk, OnErr, IfOk, IfErr, IsUtf8, AllPairs};
+ghost use Rattle.std.specs.Prelude.{◌≡◌, ◌≢◌, ℕ, ◌+◌, ◌≤◌, ◌<◌, ◌^◌, List, [], ◌∷◌, ◌++◌, length, Bool, Some, Ok, Err, OnOk, OnErr, IfOk, IfErr, IsTrue, IsUtf8, AllPairs};
 ghost use Rattle.wire_spec.specs.Packets.{Packet, has_text};
-ghost use Rattle.stream_spec.specs.Ready.{chunk_of};
+ghost use Rattle.stream_spec.specs.Ready.{chunk_of, chunk as heard_chunk};
 ghost use Rattle.gap_tracker.specs.Stories.{Story, begun, went, ended};
 ghost use Rattle.ear.specs.declared.confs.EarConf.{EarConf};
+ghost use Rattle.ear.specs.declared.answers.PlainAnswer.{PlainAnswer};
 ghost use Rattle.ear.specs.Hears.{conf_of, arrival_count, is_finished, is_clear, is_quiet, text_for, told, Hears, Gave, IsGiving, Becomes, GivesChunk, GivesNone, GaveReady, GaveFront, AllReady};
 ghost use Rattle.ear.specs.Each.{GathersEach, IsHearingEach};
+ghost use Rattle.ear.specs.Plain.{IsTextFor, HearsPlain, GivesPlain};
 ghost use Rattle.rtt_base.specs.declared.limits.TheConstants.{LONGEST_WAIT};
 
-use crate::EarConf;
+use crate::{EarConf, PlainAnswer};
 use gap_tracker::Tracker;
-use red_blocks::read_text;
+use red_blocks::{read_text, view_text};
 use rtt_base::{Chunk, NoMemory};
 use source_receiver::{Piece, Receiver, SourceText};
 use std::alloc::Global;
@@ -32,9 +34,20 @@ pub struct Ear {
     ready: u64,
 }
 
+/// Puts this text of at most 1023 octets in place of what is in `chunk`.
+fn write_chunk(chunk: &mut Chunk, place: u8, ready: u64, text: &[u8])
+    requires { length text.now < 1024 }
+    ensures { chunk_of chunk.new ≡ heard_chunk place ready text.now }
+{
+    chunk.source = place;
+    chunk.ready = ready;
+    chunk.text.clear();
+    let _ = chunk.text.append(text);
+}
+
 impl Ear {
     /// An ear to which nothing came yet, for the text of these sources: 1 to 64, all different. It takes all memory
-    /// that it needs; only `gather_each` takes more, for what it appends.
+    /// that it needs; only `gather_each` and `hear_plain` take more, for what they append.
     pub fn new(alloc: Global, conf: EarConf, sources: &[u32]) -> Result<Ear, NoMemory>
         requires wait { conf.wait ≤ LONGEST_WAIT }
         requires some { 0 < length sources.now }
@@ -158,6 +171,79 @@ impl Ear {
             used += 1;
         }
         Ok(used)
+    }
+
+    /// Hears a packet that came at `now` where it lies, and adds what is heard of it to what was heard of its source. It
+    /// does so where the packet is next in order, all of its text is ASCII, and nothing but its primary text is heard of
+    /// it. Else it answers false, and nothing is changed: `hear` and `gather_each` are the way then. There is one text for
+    /// each source. After `NoMemory` a part may stand there.
+    #[inline(always)]
+    pub fn hear_plain(
+        &mut self,
+        now: u64,
+        octets: &[u8],
+        heard: &mut [SourceText],
+    ) -> Result<bool, NoMemory>
+        requires now { now < 2 ^ 48 }
+        requires hears { IsHearingEach self.old heard.old }
+        requires quiet { is_quiet self.old ≡ Bool.true }
+        requires few { arrival_count self.old < 2 ^ 40 }
+        ensures hears { IfOk result (λ plain. IsTrue plain → HearsPlain self.old self.new now octets.now heard.old heard.new) }
+        ensures packet { IfOk result (λ plain. IsTrue plain → IsTextFor (conf_of self.old) octets.now) }
+        ensures unchanged { IfOk result (λ plain. plain ≡ Bool.false → self.new ≡ self.old) }
+        ensures untold { IfOk result (λ plain. plain ≡ Bool.false → heard.new ≡ heard.old) }
+        ensures quiet { OnOk result (is_quiet self.new ≡ Bool.true) }
+        ensures conf { OnOk result (conf_of self.new ≡ conf_of self.old) }
+        ensures arrivals { OnOk result (arrival_count self.new ≤ arrival_count self.old + 1) }
+        ensures finished { OnOk result (is_finished self.new ≡ is_finished self.old) }
+    {
+        let Some(view) = view_text(octets, Some(self.conf.ssrc), self.conf.pts) else {
+            return Ok(false);
+        };
+        let Some(number) = self.tracker.next_in_order(view.seq) else {
+            return Ok(false);
+        };
+        if !self.receiver.take_plain(number, &view, heard)? {
+            return Ok(false);
+        }
+        let _ready = self.tracker.give_at_once(now, number);
+        Ok(true)
+    }
+
+    /// Hears a packet that came at `now` where it lies, as `hear` and `next` would, and puts its text in place of what is
+    /// in `chunk`. It does so as `hear_plain` does. It is for an ear of one source.
+    #[inline(always)]
+    pub fn hear_plain_chunk(&mut self, now: u64, octets: &[u8], chunk: &mut Chunk) -> PlainAnswer
+        requires now { now < 2 ^ 48 }
+        requires gave { ∥ IsGiving self.old ∥₁ }
+        requires quiet { is_quiet self.old ≡ Bool.true }
+        requires few { arrival_count self.old < 2 ^ 40 }
+        ensures some { result ≡ PlainAnswer.Chunk → GivesPlain self.old self.new now octets.now (chunk_of chunk.new ∷ []) }
+        ensures none { result ≡ PlainAnswer.Nothing → GivesPlain self.old self.new now octets.now [] }
+        ensures unchanged { result ≡ PlainAnswer.NotPlain → self.new ≡ self.old }
+        ensures text { result ≡ PlainAnswer.Chunk → has_text chunk.new.text ≡ Bool.true }
+        ensures utf8 { result ≡ PlainAnswer.Chunk → IsUtf8 chunk.new.text }
+        ensures place { result ≡ PlainAnswer.Chunk → chunk.new.source ≡ (conf_of self.new).place }
+        ensures quiet { is_quiet self.new ≡ Bool.true }
+        ensures conf { conf_of self.new ≡ conf_of self.old }
+        ensures arrivals { arrival_count self.new ≤ arrival_count self.old + 1 }
+        ensures finished { is_finished self.new ≡ is_finished self.old }
+    {
+        let Some(view) = view_text(octets, Some(self.conf.ssrc), self.conf.pts) else {
+            return PlainAnswer::NotPlain;
+        };
+        let Some(number) = self.tracker.next_in_order(view.seq) else {
+            return PlainAnswer::NotPlain;
+        };
+        if !self.receiver.take_plain_piece(number, &view) {
+            return PlainAnswer::NotPlain;
+        }
+        let ready = self.tracker.give_at_once(now, number);
+        if view.primary.is_empty() {
+            return PlainAnswer::Nothing;
+        }
+        write_chunk(chunk, self.conf.place, ready, view.primary);
+        PlainAnswer::Chunk
     }
 
     /// How many packets came.

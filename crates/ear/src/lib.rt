@@ -1,8 +1,10 @@
 //! An ear: what is heard of the packets of one stream, whatever was lost, repeated, reordered or late.
 #![tactic(auto)]
 
+mod answers;
 mod confs;
 mod ears;
 
+pub use answers::PlainAnswer;
 pub use confs::EarConf;
 pub use ears::Ear;

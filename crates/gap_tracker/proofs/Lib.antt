@@ -9,3 +9,4 @@ pub mod Counting
 pub mod Steps
 pub mod Giving
 pub mod Apart
+pub mod AtOnce

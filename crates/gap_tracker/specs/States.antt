@@ -1,5 +1,5 @@
 -- What a tracker holds, and how it changes (profile).
-use Rattle.std.specs.Prelude.{◌≡◌, ℕ, ◌+◌, ◌-◌, ◌<◌, ◌≤◌, ◌==◌, Bool, true, false, List, [], ◌∷◌, ◌++◌, length, Option, None, Some, nat_lt, nat_le, if◌then◌else◌, min, max, insert, drop, get_or}
+use Rattle.std.specs.Prelude.{◌≡◌, ℕ, ◌+◌, ◌-◌, ◌*◌, ◌<◌, ◌≤◌, ◌==◌, Bool, true, false, List, [], ◌∷◌, ◌++◌, length, Option, None, Some, nat_lt, nat_le, if◌then◌else◌, min, max, insert, drop, get_or}
 use Rattle.rtt_base.specs.declared.text_packets.TextPacket.{TextPacket}
 use Rattle.wire_spec.specs.Packets.{packet_of}
 use Rattle.stream_spec.specs.Numbering.{Numbered, has_number}
@@ -107,6 +107,23 @@ put_current s place n = put_at s place (coming s n) s.current
 -- the current packet, which is the next one where none is held, is settled
 abbrev pub settled_at_once : State → ℕ → State
 settled_at_once s n = settled_first (put_current s 0 n) (max s.latest s.moment)
+
+-- A packet with the number n would be given as soon as it comes: nothing is settled or held, it is the next one, and
+-- the first of the stream came.
+pub record IsNext (s : State) (n : ℕ) : Type 0 where
+  pub begun : 0 < s.arrivals
+  pub none_settled : s.settled ≡ []
+  pub none_held : s.held ≡ []
+  pub front_is : n ≡ s.front
+  pub small : n ≤ 196608 + 65536 * s.arrivals
+
+-- when such a packet is ready, which comes now
+abbrev pub ready_at_once : State → ℕ → ℕ
+ready_at_once s now = max s.latest (max s.moment now)
+
+-- such a packet comes now and is given at once
+abbrev pub given_at_once : State → ℕ → ℕ → State
+given_at_once s now n = record s { moment = max s.moment now; arrivals = s.arrivals + 1; top = max s.top n; front = n + 1; latest = ready_at_once s now }
 
 -- what is given: the first that is settled, which is current then
 abbrev pub GivesFirst : State → State → Due → Type 0

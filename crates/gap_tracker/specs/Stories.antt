@@ -17,6 +17,9 @@ pub record Given : Type 0 where
 abbrev pub given_of : Due → TextPacket → Given
 given_of d p = record { number = d.number; ready = d.ready; packet = packet_of p }
 
+abbrev pub given_packet : ℕ → ℕ → Packet → Given
+given_packet number ready p = record { number = number; ready = ready; packet = p }
+
 -- `past`: the arrivals, newest first; `moment`: the greatest moment handed in; `given`: what was given out, in order
 pub record Story : Type 0 where
   pub wait : ℕ

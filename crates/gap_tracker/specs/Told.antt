@@ -1,11 +1,12 @@
 -- What a call tells of all that the tracker may have been told and have given before it (profile).
 use Rattle.std.specs.Prelude.{◌≡◌, ℕ, ◌⊎◌, ◌∷◌, ◌++◌, Bool, List, length, nat_lt}
 use Rattle.rtt_base.specs.declared.text_packets.TextPacket.{TextPacket}
-use Rattle.wire_spec.specs.Packets.{packet_of}
+use Rattle.wire_spec.specs.Packets.{Packet, packet_of}
 use Rattle.stream_spec.specs.Lists.{In}
-use Rattle.gap_tracker.specs.Stories.{Story, Given, came, ended, gave, given_of, answer, is_in_time, dues, ready_dues}
+use Rattle.gap_tracker.specs.Stories.{Story, Given, came, ended, gave, given_of, given_packet, answer, is_in_time, dues, ready_dues}
 use Rattle.gap_tracker.specs.States.{State, with_packet}
 use Rattle.gap_tracker.specs.Tracks.{Follows, Tracks, SameBut}
+use Rattle.gap_tracker.specs.Views.{next_number}
 use Rattle.gap_tracker.specs.declared.answers.Due.{Due}
 use Rattle.gap_tracker.specs.declared.answers.Taken.{Taken}
 
@@ -38,6 +39,10 @@ ComeAlone old new = (q : TextPacket) → In q new.packets → (q ≡ old.current
 -- the packet that is current now is given
 abbrev pub Gives : State → State → Due → Type 0
 Gives old new due = Leads old new (λ story. gave story (given_of due new.current))
+
+-- the packet with this number, whichever it is, comes at `now` and is given at once
+abbrev pub GivesAtOnce : State → State → ℕ → ℕ → ℕ → Type 0
+GivesAtOnce old new now number ready = (p : Packet) → number ≡ next_number old p.seq → Leads old new (λ story. gave (came story now p) (given_packet number ready p))
 
 -- a packet is given as it came
 abbrev pub GivesAsItCame : State → State → Type 0

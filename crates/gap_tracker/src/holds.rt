@@ -4,7 +4,7 @@ ghost use Rattle.std.specs.Borrow.{sem};
 ghost use Rattle.rtt_base.specs.declared.limits.TheConstants.{LONGEST_WAIT};
 ghost use Rattle.gap_tracker.specs.Lends.{LendsHeld};
 ghost use Rattle.gap_tracker.specs.Stories.{went, ended, is_used};
-ghost use Rattle.gap_tracker.specs.States.{fresh, has_ready, passed, oldest_from, given_up_at, next_latest, settled_first, settled_at_once, counted, put_current, GivesFirst, IsRefused, AllAbove, IsPlace};
+ghost use Rattle.gap_tracker.specs.States.{fresh, has_ready, passed, oldest_from, given_up_at, next_latest, settled_first, settled_at_once, counted, put_current, IsNext, ready_at_once, given_at_once, GivesFirst, IsRefused, AllAbove, IsPlace};
 ghost use Rattle.gap_tracker.specs.Views.{next_number, AnyPackets, IsBehind};
 ghost use Rattle.gap_tracker.specs.Tracks.{SameBut};
 ghost use Rattle.gap_tracker.specs.Told.{Leads, Tells, came_current, answer_current, is_current_in_time, ComeAlone, GivesAsItCame, AllReady, FollowsAll, IsButCurrent, SameButCurrent};
@@ -358,6 +358,46 @@ impl Hold {
         };
         self.take_in(place, number);
         self.taken(number)
+    }
+
+    /// The number of a packet that comes next, where it would be given as soon as it comes.
+    #[inline(always)]
+    pub fn next_in_order(&self, seq: u16) -> Option<u64>
+        ensures next { IfSome result (IsNext self.now) }
+        ensures number { IfSome result (λ number. number ≡ next_number self.now seq) }
+    {
+        if self.arrivals == 0 {
+            return None;
+        }
+        let number = self.next_number(seq);
+        if number != self.front {
+            return None;
+        }
+        if self.has_ready() {
+            return None;
+        }
+        if !self.held.is_empty() {
+            return None;
+        }
+        Some(number)
+    }
+
+    /// Takes a packet with this number, and gives it at once.
+    #[inline(always)]
+    pub fn give_at_once(&mut self, now: u64, number: u64) -> u64
+        requires now { now < 2 ^ 48 }
+        requires few { self.old.arrivals < 2 ^ 40 }
+        requires small { number ≤ 196608 + 65536 * self.old.arrivals }
+        ensures state { self.new ≡ given_at_once self.old now number }
+        ensures ready { result ≡ ready_at_once self.old now }
+    {
+        self.pass(now);
+        let ready = self.latest.max(self.moment);
+        self.arrivals += 1;
+        self.top = self.top.max(number);
+        self.front = number + 1;
+        self.latest = ready;
+        ready
     }
 
     /// Lets time go on, and settles what it settles.

@@ -38,6 +38,38 @@ fn hand_in(tracker: &mut Tracker, at: u64, seq: u16) -> Option<Taken>
     Some(tracker.arrive(at))
 }
 
+/// Hands in a packet that is next in order, which is given at once, and tells when it was ready.
+fn give_at_once(tracker: &mut Tracker, at: u64, seq: u16) -> Option<u64>
+    ensures { is_finished tracker.new ≡ is_finished tracker.old }
+{
+    if tracker.arrivals() >= 1 << 40 || at >= 1 << 48 {
+        return None;
+    }
+    let number = tracker.next_in_order(seq)?;
+    Some(tracker.give_at_once(at, number))
+}
+
+/// Hands in packets as `play` does, but what is next in order is given at once.
+fn play_at_once(alloc: Global, wait: u64, arrivals: &[(u64, u16)]) -> Result<Played, Fail> {
+    let mut tracker = Tracker::new(alloc, wait.min(10000))?;
+    let mut answers = Vec::new(alloc);
+    let mut given = Vec::new(alloc);
+    for (at, seq) in arrivals {
+        if let Some(ready) = give_at_once(&mut tracker, *at, *seq) {
+            answers.push(Taken::Ready)?;
+            given.push((*seq, ready))?;
+        } else if let Some(taken) = hand_in(&mut tracker, *at, *seq) {
+            answers.push(taken)?;
+        }
+        drain(&mut tracker, &mut given)?;
+    }
+    if !tracker.ready() {
+        tracker.finish();
+    }
+    drain(&mut tracker, &mut given)?;
+    Ok(Played { answers, given })
+}
+
 /// Hands in packets, each a time and a sequence number, then the end, and takes what is ready after each.
 fn play(alloc: Global, wait: u64, arrivals: &[(u64, u16)]) -> Result<Played, Fail> {
     let mut tracker = Tracker::new(alloc, wait.min(10000))?;
@@ -239,9 +271,12 @@ fn the_rules_told_plainly_give_the_same(rt: HostRuntime) -> Result<(), Fail> {
         for wait in [0, 4, 9] {
             let arrivals = some_arrivals(rt.alloc(), next_state(seed))?;
             let played = play(rt.alloc(), wait, arrivals.as_slice())?;
+            let once = play_at_once(rt.alloc(), wait, arrivals.as_slice())?;
             let plain = expected(rt.alloc(), wait, arrivals.as_slice())?;
             assert_eq!(rt; played.answers.as_slice(), plain.answers.as_slice());
             assert_eq!(rt; played.given.as_slice(), plain.given.as_slice());
+            assert_eq!(rt; once.answers.as_slice(), plain.answers.as_slice());
+            assert_eq!(rt; once.given.as_slice(), plain.given.as_slice());
         }
     }
     Ok(())

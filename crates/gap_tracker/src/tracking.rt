@@ -4,9 +4,10 @@ ghost use Rattle.std.specs.Borrow.{sem};
 ghost use Rattle.rtt_base.specs.declared.limits.TheConstants.{LONGEST_WAIT};
 ghost use Rattle.gap_tracker.specs.Lends.{LendsPacket};
 ghost use Rattle.gap_tracker.specs.Stories.{begun, went, ended, is_used};
-ghost use Rattle.gap_tracker.specs.States.{has_ready, packets_in, current_of, arrival_count, is_finished};
+ghost use Rattle.gap_tracker.specs.States.{has_ready, packets_in, current_of, arrival_count, is_finished, IsNext};
 ghost use Rattle.gap_tracker.specs.Tracks.{Tracks};
-ghost use Rattle.gap_tracker.specs.Told.{Leads, Tells, came_current, answer_current, is_current_in_time, ComeAlone, Gives, GivesAsItCame, GaveFront, ReadyIsFront, GaveReady, AllReady, is_owing};
+ghost use Rattle.gap_tracker.specs.Views.{next_number};
+ghost use Rattle.gap_tracker.specs.Told.{Leads, Tells, came_current, answer_current, is_current_in_time, ComeAlone, Gives, GivesAtOnce, GivesAsItCame, GaveFront, ReadyIsFront, GaveReady, AllReady, is_owing};
 
 use crate::holds::Hold;
 use crate::{Due, Taken};
@@ -138,6 +139,35 @@ impl Tracker {
         ensures finished { is_finished self.new ≡ is_finished self.old }
     {
         self.hold.next()
+    }
+
+    /// The number of a packet with this sequence number, where it would be given as soon as it comes: nothing is settled
+    /// or held, it is the next one, and it is not the first packet of the stream.
+    #[inline(always)]
+    pub fn next_in_order(&self, seq: u16) -> Option<u64>
+        ensures next { IfSome result (IsNext self.now) }
+        ensures number { IfSome result (λ number. number ≡ next_number self.now seq) }
+    {
+        self.hold.next_in_order(seq)
+    }
+
+    /// Takes a packet that is next in order, which comes at `now`, or at the greatest moment handed in before, where that
+    /// is later, and gives it at once. It tells the moment at which the packet is ready. The packet need not be the current
+    /// one: nothing of it is kept, and the current packet is as before.
+    #[inline(always)]
+    pub fn give_at_once(&mut self, now: u64, number: u64) -> u64
+        requires now { now < 2 ^ 48 }
+        requires next { IsNext self.old number }
+        requires few { arrival_count self.old < 2 ^ 40 }
+        ensures stands { GivesAtOnce self.old self.new now number result }
+        ensures all { GaveReady self.new }
+        ensures quiet { has_ready self.new ≡ false }
+        ensures unchanged { current_of self.new ≡ current_of self.old }
+        ensures packets { packets_in self.new ≡ packets_in self.old }
+        ensures arrivals { arrival_count self.new ≡ arrival_count self.old + 1 }
+        ensures finished { is_finished self.new ≡ is_finished self.old }
+    {
+        self.hold.give_at_once(now, number)
     }
 
     /// How many packets came.

@@ -1,7 +1,7 @@
 -- A leg that reads a record, and one that gives what is heard.
-use Rattle.std.proofs.Common.{◌≡◌, ℕ, ◌+◌, ◌≤◌, ◌<◌, true, false, Some, None, Ok, Err, List, [], ◌∷◌, ◌++◌, refl, ap, sym, ◌∙◌, arith, subst}
+use Rattle.std.proofs.Common.{◌≡◌, ◌≢◌, ℕ, ◌+◌, ◌≤◌, ◌<◌, true, false, Some, None, Ok, Err, List, [], ◌∷◌, ◌++◌, refl, ap, sym, ◌∙◌, arith, subst}
 use Rattle.std.proofs.lemmas.Bool.{true≢false}
-use Rattle.wire_spec.specs.declared.faults.DumpKind.TheVariants as kinds
+use Rattle.std.proofs.lemmas.List.{append-nil}
 use Rattle.wire_spec.specs.Packets.{Arrival}
 use Rattle.wire_spec.specs.Dump.{Recording, with_item, arrivals_with, arrivals_after}
 use Rattle.wire_spec.specs.Text.{text_of}
@@ -16,14 +16,29 @@ use Rattle.rtpdump_io.specs.Reading as reading
 use Rattle.rtpdump_io.specs.Answers.{record_of, is_end}
 use Rattle.rtpdump_io.proofs.Records.{gives_item, not_last}
 use Rattle.rtpdump_io.proofs.Told.{gives_fault}
+use Rattle.ear.specs.declared.answers.PlainAnswer.{PlainAnswer}
+use Rattle.ear.specs.declared.answers.PlainAnswer.TheVariants as answers
 use Rattle.ear.specs.declared.confs.EarConf.{EarConf}
 use Rattle.ear.specs.declared.ears.Ear.{Ear}
 use Rattle.ear.specs.Hears.{IsGiving, Becomes, GivesChunk, GivesNone, GaveReady, AllReady, IsToldOf, IsReadyAtEnd, arrival_count, is_finished}
 use Rattle.ear.proofs.ReadyBy.{told_arrived}
 use Rattle.leg_core.specs.declared.legs.Leg.{Leg}
 use Rattle.leg_core.specs.Sound.{FewCame, EndsWith}
-use Rattle.leg_core.specs.Items.{after_item}
+use Rattle.leg_core.specs.Items.{after_item, GivesItem}
 use Rattle.leg_core.specs.Gives.{LegPast, gave_chunk, recording_of, chunks_of, IsRead, IsWhole, Phase, Within, Behind, Stands}
+
+-- what was heard where it lies is a plain packet
+pub one_is_plain : (a : PlainAnswer) → a ≡ answers.Chunk → a ≢ answers.NotPlain
+one_is_plain a e q = clash (sym e ∙ q)
+  where
+    clash : answers.Chunk ≡ answers.NotPlain → ⊥
+    clash r = cc
+
+pub none_is_plain : (a : PlainAnswer) → a ≡ answers.Nothing → a ≢ answers.NotPlain
+none_is_plain a e q = clash (sym e ∙ q)
+  where
+    clash : answers.Nothing ≡ answers.NotPlain → ⊥
+    clash r = cc
 
 -- ---- what is always so
 pub still_giving : (old new : Ear) (c : Chunk) → GivesChunk old new c → IsGiving old → IsGiving new
@@ -31,6 +46,9 @@ still_giving old new c g i = let m = g i.0 i.1 i.2 i.3 i.4 in (i.0, i.1, record 
 
 pub rests_giving : (old new : Ear) → GivesNone old new → IsGiving old → IsGiving new
 rests_giving old new g i = let m = g i.0 i.1 i.2 i.3 i.4 in (i.0, i.1, record i.2 { given = m.0 }, i.3, m.1)
+
+pub item_giving : (old new : Ear) (item : DumpItem) (octets : List ℕ) (more : List Chunk) → GivesItem old new item octets more → IsGiving old → IsGiving new
+item_giving old new item octets more g i = let m = g i.0 i.1 i.2 i.3 i.4 in (i.0, i.1, record (after_item i.0 i.2 item octets) { given = m.0 }, i.3 ++ more, m.1)
 
 pub becomes_giving : (old new : Ear) (f : EarConf → Story → Story) → Becomes old new f → IsGiving old → IsGiving new
 becomes_giving old new f b i = (i.0, i.1, f i.0 i.2, i.3, b.gave i.0 i.1 i.2 i.3 i.4)
@@ -119,6 +137,25 @@ module _ {S : Type 0} (left : S → List ℕ) where
       go (Cut at) q h f = on (Cut at) refl h f
       go (Large at) q h f = on (Large at) refl h f
       go End q h f = Behind f (reads_end past s.story (to_come left l.reader) r h (all q past.conf (past.conf.ssrc ∷ []) s.story s.gave.hears))
+
+  -- the record was told, and these chunks were given
+  given_more : (reader : DumpReader S) (past : LegPast) (story : Story) (more : List Chunk) (given : List Given) → Phase left reader past story → Phase left reader (record past { gave = past.gave ++ more }) (record story { given = given })
+  given_more reader past story more given (Within o r) = Within o (record { came = r.came; told = record { arrivals = r.told.arrivals; moment = r.told.moment }; same = r.same; fault = r.fault })
+  given_more reader past story more given (Behind e w) = Behind e (record { came = w.came; ready = w.ready; no_fault = w.no_fault })
+
+  pub hears_item : (l m : Leg S) (item : DumpItem) (out : List ℕ) (more : List Chunk) → is_ended l.reader ≡ false → Gives (Ok item) out (to_come left l.reader) (to_come left m.reader) → is_ended m.reader ≡ reading.is_last (Ok item) → is_end item ≡ false
+      → GivesItem l.ear m.ear item out more → (past : LegPast) → Stands left l past → Stands left m (record past { gave = past.gave ++ more })
+  hears_item l m item out more o g e n gives past s =
+      let r = reading_yet l.reader past s.story o s.phase in
+      let told = after_item past.conf s.story item out in
+      let after = gives past.conf past.conf.ssrc s.story past.gave s.gave in
+      let read = reads_on past s.story item out (to_come left l.reader) (to_come left m.reader) r (gives_item item out (to_come left l.reader) (to_come left m.reader) n g) n in
+      record { story = record told { given = after.0 }; gave = after.1; phase = given_more m.reader past told more after.0 (Within (e ∙ not_last item n) read) }
+
+  pub hears_nothing : (l m : Leg S) (item : DumpItem) (out : List ℕ) → is_ended l.reader ≡ false → Gives (Ok item) out (to_come left l.reader) (to_come left m.reader) → is_ended m.reader ≡ reading.is_last (Ok item) → is_end item ≡ false
+      → GivesItem l.ear m.ear item out [] → (past : LegPast) → Stands left l past → Stands left m past
+  hears_nothing l m item out o g e n gives past s =
+      subst (λ (gave : List Chunk). Stands left m (record past { gave = gave })) (append-nil past.gave) (hears_item l m item out [] o g e n gives past s)
 
   pub reads_fault : (l : Leg S) (fault : DumpFault) (out : List ℕ) (rest : Recording) → is_ended l.reader ≡ false → Gives (Err fault) out (to_come left l.reader) rest → (past : LegPast) → Stands left l past → IsFaultOf (recording_of past) fault
   reads_fault l fault out rest o g past s not_read =

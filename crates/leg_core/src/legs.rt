@@ -4,8 +4,8 @@ ghost use Rattle.leg_core.specs.Sound.{FewCame, EndsWith};
 ghost use Rattle.rtt_base.specs.declared.limits.TheConstants.{LONGEST_WAIT};
 
 use crate::LegStep;
-use crate::records::hear_item;
-use ear::{Ear, EarConf};
+use crate::records::{hear_item, hear_plain_item};
+use ear::{Ear, EarConf, PlainAnswer};
 use rtpdump_io::{DumpFault, DumpReader};
 use rtt_base::{Chunk, Packet};
 use rtt_io::Source;
@@ -38,7 +38,7 @@ impl<S: Source> Leg<S> {
     ghost use Rattle.wire_spec.specs.Packets.{has_text};
     ghost use Rattle.stream_spec.specs.Ready.{chunk_of};
     ghost use Rattle.rtt_io.specs.Counts.{Rose};
-    ghost use Rattle.rtpdump_io.specs.Reading.{is_ended};
+    ghost use Rattle.rtpdump_io.specs.Reading.{UnlessOfSource, is_ended};
     ghost use Rattle.ear.specs.declared.confs.EarConf.{EarConf};
     ghost use Rattle.leg_core.specs.Gives.{Follows, Stands, begins, is_last, is_over, is_quiet, place_of, source_of, unread};
 
@@ -83,7 +83,8 @@ impl<S: Source> Leg<S> {
         })
     }
 
-    /// Gives the next text in place of what is in `chunk`, or reads a record. A fault `Read` is one of the source.
+    /// Gives the next text in place of what is in `chunk`, or reads a record. A fault `Read` is one of the source; by every other
+    /// answer no reading of the source failed.
     pub fn step(&mut self, chunk: &mut Chunk) -> Result<LegStep, DumpFault>
         requires { is_over self.old ≡ false }
         ensures steps { S.tells → Follows S.left self.old self.new result (chunk_of chunk.new) }
@@ -94,6 +95,7 @@ impl<S: Source> Leg<S> {
         ensures quiet { result ≡ Ok LegStep.More → is_quiet self.new ≡ true }
         ensures over { is_over self.new ≡ is_last result }
         ensures read { IfErr result (λ fault. fault.kind ≡ DumpKind.Read → Rose (S.faults (source_of self.old)) (S.faults (source_of self.new))) }
+        ensures calm { UnlessOfSource result (S.faults (source_of self.new) ≡ S.faults (source_of self.old)) }
         ensures never_falls { S.faults (source_of self.old) ≤ S.faults (source_of self.new) }
         ensures same_name { S.name (source_of self.new) ≡ S.name (source_of self.old) }
         ensures place { place_of self.new ≡ place_of self.old }
@@ -140,14 +142,22 @@ impl<S: Source> Leg<S> {
         ensures quiet { result ≡ Ok LegStep.More → is_quiet self.new ≡ true }
         ensures over { is_over self.new ≡ is_last result }
         ensures read { IfErr result (λ fault. fault.kind ≡ DumpKind.Read → Rose (S.faults (source_of self.old)) (S.faults (source_of self.new))) }
+        ensures calm { UnlessOfSource result (S.faults (source_of self.new) ≡ S.faults (source_of self.old)) }
         ensures never_falls { S.faults (source_of self.old) ≤ S.faults (source_of self.new) }
         ensures same_name { S.name (source_of self.new) ≡ S.name (source_of self.old) }
         ensures place { place_of self.new ≡ place_of self.old }
     {
         match self.reader.next(&mut self.packet) {
             Ok(item) => {
-                hear_item(&mut self.ear, item, self.packet.as_slice());
-                Ok(self.give(chunk))
+                let octets = self.packet.as_slice();
+                match hear_plain_item(&mut self.ear, item, octets, chunk) {
+                    PlainAnswer::Chunk => Ok(LegStep::Chunk),
+                    PlainAnswer::Nothing => Ok(LegStep::More),
+                    PlainAnswer::NotPlain => {
+                        hear_item(&mut self.ear, item, octets);
+                        Ok(self.give(chunk))
+                    }
+                }
             }
             Err(fault) => {
                 self.over = true;

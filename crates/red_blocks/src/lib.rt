@@ -3,10 +3,12 @@
 
 mod packets;
 mod reading;
+mod views;
 mod writing;
 
 pub use packets::read_text;
 pub use reading::read_blocks;
+pub use views::{TextView, view_text};
 pub use writing::{BlockView, OlderBlocks, TextHead, write_blocks, write_text};
 
 #[cfg(test)]

@@ -11,7 +11,7 @@ use rtt_base::{Packet, Pts, TextPacket};
 use wire_spec::TextFault;
 
 /// A packet of the stream that is asked for, with one source.
-fn accept(view: RtpView<'_>, asked: Option<u32>) -> Result<RtpView<'_>, TextFault>
+pub(crate) fn accept(view: RtpView<'_>, asked: Option<u32>) -> Result<RtpView<'_>, TextFault>
     ensures { Gives reading result (accepted asked (reading view.entry)) }
 {
     if let Some(ssrc) = asked {

@@ -21,7 +21,7 @@ const HEADER: usize = 4;
 
 /// The header of a redundant block, whose four octets are there: F and the type in 8 bits, the offset in 14, the size
 /// in 10 (RFC 2198, section 3).
-fn redundant_header(octets: &[u8]) -> RedHeader
+pub(crate) fn redundant_header(octets: &[u8]) -> RedHeader
     requires { 4 ≤ length octets.now }
     ensures value { result ≡ header_of octets.now }
     ensures small { result.size < 2 ^ 10 }
@@ -66,7 +66,8 @@ fn front_header(octets: &[u8], t140: u8, full: bool) -> Result<Option<RedHeader>
 }
 
 /// How many redundant headers stand in front, how many octets their texts have, and the octets behind the last header.
-fn scan_headers(octets: &[u8], t140: u8) -> Result<(usize, usize, &[u8]), RedFault>
+#[inline(always)]
+pub(crate) fn scan_headers(octets: &[u8], t140: u8) -> Result<(usize, usize, &[u8]), RedFault>
     ensures exact { Gives (headers_view octets.now) result (headers_at 8 t140 octets.now) }
     ensures few { IfOk result (λ read. read.0 ≤ 8) }
     ensures there { IfOk result (λ read. 4 * read.0 ≤ length octets.now) }

@@ -1,4 +1,4 @@
-use crate::{read_blocks, read_text, write_blocks};
+use crate::{read_blocks, read_text, view_text, write_blocks};
 use rtp_header::{RtpHead, write_rtp};
 use rtt_base::{Blocks, Packet, Pts, TextPacket};
 use std::process::Abort;
@@ -169,5 +169,54 @@ fn a_payload_takes_the_place_of_the_one_before(rt: HostRuntime) -> Result<(), Fa
     read_blocks(b"AB", 98, PTS, &mut blocks)?;
     assert_eq!(rt; blocks.len(), 1);
     assert_eq!(rt; blocks.as_slice()[0].text.as_slice(), b"AB".as_slice());
+    Ok(())
+}
+
+/// A packet whose redundant blocks are 600 and 300 before it: the M bit, number 7, stamp 900, SSRC 9000.
+const OF_THREE: [u8; 25] =
+    *b"\x80\xE4\0\x07\0\0\x03\x84\0\0\x23\x28\xE2\x09\x60\x02\xE2\x04\xB0\x01\x62abcD";
+
+#[test]
+fn a_packet_is_looked_at_where_it_lies(rt: HostRuntime) {
+    let seen = view_text(&OF_THREE, Some(9000), PTS);
+    assert!(rt; seen.is_some());
+    if let Some(view) = seen {
+        assert!(rt; view.marker_bit);
+        assert_eq!(rt; view.seq, 7);
+        assert_eq!(rt; view.stamp, 900);
+        assert_eq!(rt; view.ssrc, 9000);
+        assert_eq!(rt; view.source, 9000);
+        assert_eq!(rt; view.count, 2);
+        if view.count == 2 {
+            assert_eq!(rt; view.header(0).offset, 600);
+            assert_eq!(rt; view.header(0).size, 2);
+            assert_eq!(rt; view.header(1).offset, 300);
+            assert_eq!(rt; view.header(1).size, 1);
+        }
+        assert_eq!(rt; view.older, b"abc".as_slice());
+        assert_eq!(rt; view.primary, b"D".as_slice());
+    }
+}
+
+#[test]
+fn a_plain_text_is_looked_at_and_another_stream_is_not(rt: HostRuntime) {
+    let octets = *b"\x81\x62\0\0\0\0\0\0\0\0\x03\xE9\0\0\0\x07AB";
+    let seen = view_text(&octets, None, PTS);
+    assert!(rt; seen.is_some());
+    if let Some(view) = seen {
+        assert_eq!(rt; view.source, 7);
+        assert_eq!(rt; view.count, 0);
+        assert_eq!(rt; view.primary, b"AB".as_slice());
+    }
+    assert!(rt; view_text(&octets, Some(7), PTS).is_none());
+}
+
+#[test]
+fn a_text_that_is_not_ascii_is_only_read(rt: HostRuntime) -> Result<(), Fail> {
+    let octets = *b"\x80\x64\0\0\0\0\0\0\0\0\x03\xE9\xE2\x04\xB0\x02\x62\xC3\xA9A";
+    assert!(rt; view_text(&octets, None, PTS).is_none());
+    let mut packet = TextPacket::default();
+    read_text(&octets, None, PTS, &mut packet)?;
+    assert_eq!(rt; packet.blocks.len(), 2);
     Ok(())
 }

@@ -1,3 +1,4 @@
 pub mod Parts
 pub mod Takes
 pub mod Blockwise
+pub mod Plain

@@ -105,7 +105,7 @@ octets_more seen stamp xs i b initial out more is within before e =
     ∙ ap (λ (t : List ℕ). initial ++ t) (sym (concat-append (older_since seen stamp (take i xs)) (new_since seen stamp b))
     ∙ ap concat (ap (λ (x : TextBlock). older_since seen stamp (take i xs) ++ new_since seen stamp x) is ∙ sym (older_more seen stamp xs i b within)))))
 
-concat_text : (t : List ℕ) → concat (text_list t) ≡ t
+pub concat_text : (t : List ℕ) → concat (text_list t) ≡ t
 concat_text [] = refl
 concat_text (x ∷ xs) = nil (x ∷ xs)
 

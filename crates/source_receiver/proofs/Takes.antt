@@ -57,7 +57,7 @@ count_next (u ∷ us) (Some l) missing number b e k f =
     )
 
 -- no more numbers are missing than there are
-count_fits : (us : List Numbered) (latest : Option ℕ) (missing number : ℕ) → IsCount us latest missing → ForSome latest (λ l. l < number) → steps.missing_before missing latest number ≤ number
+pub count_fits : (us : List Numbered) (latest : Option ℕ) (missing number : ℕ) → IsCount us latest missing → ForSome latest (λ l. l < number) → steps.missing_before missing latest number ≤ number
 count_fits [] None missing number k f = omega (arith, k.1)
 count_fits [] (Some l) missing number k f = cc k.0
 count_fits (u ∷ us) None missing number k f = cc k.1

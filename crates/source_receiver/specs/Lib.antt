@@ -2,3 +2,4 @@ pub mod Each
 pub mod Stands
 pub mod Steps
 pub mod Pieces
+pub mod Plain

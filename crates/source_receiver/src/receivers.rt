@@ -1,18 +1,22 @@
 //! Hearing, source by source (RFC 4103, section 4).
-ghost use Rattle.std.specs.Prelude.{◌≡◌, ◌≢◌, ◌≤◌, ◌<◌, ◌+◌, ◌^◌, ◌==◌, ℕ, Bool, List, [], ◌∷◌, ◌++◌, length, position, All, AllPairs, IfOk, OnOk, if◌then◌else◌};
+ghost use Rattle.std.specs.Prelude.{◌≡◌, ◌≢◌, ◌≤◌, ◌<◌, ◌+◌, ◌^◌, ◌==◌, ℕ, Bool, List, [], ◌∷◌, ◌++◌, length, position, All, AllPairs, IfOk, IfSome, OnOk, IsTrue, if◌then◌else◌};
 ghost use Rattle.std.specs.List.{concat};
 ghost use Rattle.std.specs.Option.{ForSome};
 ghost use Rattle.wire_spec.specs.Packets.{redundant};
 ghost use Rattle.stream_spec.specs.Numbering.{Numbered};
 ghost use Rattle.stream_spec.specs.Hearing.{heard_by, marker, oldest_offset};
 ghost use Rattle.source_receiver.specs.Stands.{Stands, used_packet, latest_number};
-ghost use Rattle.source_receiver.specs.Steps.{missing_up_to, is_new_since, is_marked_since, new_since, older_since, told_since};
+ghost use Rattle.source_receiver.specs.Steps.{missing_up_to, missing_then, is_new_since, is_marked_since, new_since, older_since, told_since};
 ghost use Rattle.source_receiver.specs.Pieces.{left_of};
 ghost use Rattle.source_receiver.specs.Each.{one_if, sources_count, AreHeard};
+ghost use Rattle.source_receiver.specs.Plain.{TakesView, HearsView, HearsPrimary, gives_since, any_gives_since, IsPlain, IsPlainAt, IsKept};
+ghost use Rattle.red_blocks.specs.Views.{headers_in, IsView};
 
 use crate::{Piece, SourceText};
+use red_blocks::TextView;
 use rtt_base::{Bytes, NoMemory, Text, TextBlock, TextPacket, after};
 use std::alloc::Global;
+use wire_spec::RedHeader;
 
 /// U+FFFD, which stands where text may be missing (T.140, Addendum 1).
 pub(crate) const MARKER: [u8; 3] = [0xEF, 0xBF, 0xBD];
@@ -58,6 +62,16 @@ fn offset_of(older: &[TextBlock]) -> u16
     ensures { result ≡ oldest_offset older.now }
 {
     older.first().map_or(0, |block| block.offset)
+}
+
+/// How many numbers were missing up to the last packet of the source.
+fn missing_before(seen: Option<Seen>) -> u64
+    ensures { result ≡ missing_then seen }
+{
+    match seen {
+        Some(seen) => seen.missing,
+        None => 0,
+    }
 }
 
 /// Whether more numbers are missing than the packet repeats, and its oldest block is new.
@@ -168,6 +182,44 @@ fn tell_more(
     }
 }
 
+/// Whether the redundant block of this header gives a text: it is new, and has one.
+fn gives_text(seen: Option<Seen>, stamp: u32, header: RedHeader) -> bool
+    ensures { result ≡ gives_since seen stamp header }
+{
+    is_new(seen, stamp.wrapping_sub(u32::from(header.offset))) && header.size > 0
+}
+
+/// Whether a text that the packet repeats is new.
+#[inline(always)]
+fn repeats_new(seen: Option<Seen>, view: &TextView<'_>) -> bool
+    requires { IsView view.now }
+    ensures { result ≡ any_gives_since seen view.now.stamp (headers_in view.now) }
+{
+    let mut place = 0;
+    while place < view.count {
+        let header = view.header(place);
+        if gives_text(seen, view.stamp, header) {
+            return true;
+        }
+        place += 1;
+    }
+    false
+}
+
+/// Whether nothing but the primary text is heard of the packet: no more numbers are missing than it repeats, and no
+/// text that it repeats is new.
+#[inline(always)]
+fn is_plain(seen: Option<Seen>, missing: u64, view: &TextView<'_>) -> bool
+    requires { IsView view.now }
+    ensures { IsTrue result → IsPlain seen missing view.now }
+{
+    let before = missing_before(seen);
+    if missing.saturating_sub(before) > view.count as u64 {
+        return false;
+    }
+    !repeats_new(seen, view)
+}
+
 impl Receiver {
     /// A receiver that listens to these sources: 1 to 64 of them, all different.
     pub fn new(alloc: Global, sources: &[u32]) -> Result<Receiver, NoMemory>
@@ -192,6 +244,17 @@ impl Receiver {
         })
     }
 
+    /// How many numbers are missing up to this one.
+    fn missing_with(&self, number: u64) -> u64
+        requires { ForSome self.now.latest (λ latest. latest < number) }
+        ensures { missing_up_to self.now number ≤ 18446744073709551615 → result ≡ missing_up_to self.now number }
+    {
+        match self.latest {
+            Some(latest) => self.missing.wrapping_add(number - latest - 1),
+            None => self.missing,
+        }
+    }
+
     /// Counts a packet, and the numbers that are missing before it.
     fn count(&mut self, number: u64)
         requires { ForSome self.old.latest (λ latest. latest < number) }
@@ -199,10 +262,34 @@ impl Receiver {
         ensures latest { self.new.latest ≡ Some number }
         ensures missing { missing_up_to self.old number ≤ 18446744073709551615 → self.new.missing ≡ missing_up_to self.old number }
     {
-        if let Some(latest) = self.latest {
-            self.missing = self.missing.wrapping_add(number - latest - 1);
-        }
+        self.missing = self.missing_with(number);
         self.latest = Some(number);
+    }
+
+    /// Counts a packet, and keeps it as the last one of the source at this place.
+    fn keep(&mut self, place: usize, number: u64, stamp: u32)
+        requires rises { ForSome self.old.latest (λ latest. latest < number) }
+        requires within { place < length self.old.listed.items }
+        ensures { IsKept self.old self.new number stamp place }
+    {
+        self.count(number);
+        let missing = self.missing;
+        self.listed[place].seen = Some(Seen { stamp, missing });
+    }
+
+    /// The place of the packet's source, if it is listed and nothing but its primary text is heard of the packet.
+    fn plain_place(&self, number: u64, view: &TextView<'_>) -> Option<usize>
+        requires rises { ForSome self.now.latest (λ latest. latest < number) }
+        requires view { IsView view.now }
+        ensures { IfSome result (IsPlainAt self.now number view.now) }
+    {
+        let Some(place) = place_of(self.listed.as_slice(), view.source) else {
+            return None;
+        };
+        if !is_plain(self.listed[place].seen, self.missing_with(number), view) {
+            return None;
+        }
+        Some(place)
     }
 
     /// Takes a used packet, whose number is above that of the one before, and adds what is heard of it to what was heard
@@ -255,5 +342,52 @@ impl Receiver {
         self.listed[place].seen = kept;
         let rest = packet.blocks.len();
         Piece { seen, marker, rest }
+    }
+
+    /// Takes a used packet where it lies, as `take_each` does, if nothing but its primary text is heard of it: its
+    /// source is listed, no marker stands before it, and no text that it repeats is new. Else it answers false, and
+    /// changes nothing. After `NoMemory` a part may stand there.
+    #[inline(always)]
+    pub fn take_plain(
+        &mut self,
+        number: u64,
+        view: &TextView<'_>,
+        heard: &mut [SourceText],
+    ) -> Result<bool, NoMemory>
+        requires rises { ForSome (latest_number self.old) (λ latest. latest < number) }
+        requires each { length heard.old ≡ sources_count self.old }
+        requires view { IsView view.now }
+        ensures latest { IfOk result (λ taken. IsTrue taken → latest_number self.new ≡ Some number) }
+        ensures count { sources_count self.new ≡ sources_count self.old }
+        ensures stands { IfOk result (λ taken. IsTrue taken → TakesView self.old self.new number view.now) }
+        ensures heard { IfOk result (λ taken. IsTrue taken → HearsView self.old number view.now heard.old heard.new) }
+        ensures left { IfOk result (λ taken. taken ≡ Bool.false → self.new ≡ self.old) }
+        ensures untold { IfOk result (λ taken. taken ≡ Bool.false → heard.new ≡ heard.old) }
+    {
+        let Some(place) = self.plain_place(number, view) else {
+            return Ok(false);
+        };
+        heard[place].text.append(view.primary)?;
+        self.keep(place, number, view.stamp);
+        Ok(true)
+    }
+
+    /// Takes a used packet where it lies, as `take_piece` does, if nothing but its primary text is heard of it. Else it
+    /// answers false, and changes nothing. It is for a receiver of one source.
+    #[inline(always)]
+    pub fn take_plain_piece(&mut self, number: u64, view: &TextView<'_>) -> bool
+        requires rises { ForSome (latest_number self.old) (λ latest. latest < number) }
+        requires view { IsView view.now }
+        ensures latest { IsTrue result → latest_number self.new ≡ Some number }
+        ensures count { sources_count self.new ≡ sources_count self.old }
+        ensures stands { IsTrue result → TakesView self.old self.new number view.now }
+        ensures heard { IsTrue result → HearsPrimary self.old number view.now }
+        ensures left { result ≡ Bool.false → self.new ≡ self.old }
+    {
+        let Some(only) = self.plain_place(number, view) else {
+            return false;
+        };
+        self.keep(only, number, view.stamp);
+        true
     }
 }

@@ -1,10 +1,11 @@
-ghost use Rattle.std.specs.Prelude.{◌≡◌, ◌<◌, Some, length, OnOk};
+ghost use Rattle.std.specs.Prelude.{◌≡◌, ◌<◌, Some, length, IfOk, OnOk, IsTrue};
 ghost use Rattle.std.specs.Option.{ForSome};
 ghost use Rattle.source_receiver.specs.Stands.{latest_number};
 ghost use Rattle.source_receiver.specs.Each.{sources_count};
 
 use crate::{Receiver, SourceText};
-use rtt_base::{Blocks, NoMemory, Text, TextBlock, TextPacket};
+use red_blocks::view_text;
+use rtt_base::{Blocks, NoMemory, Pts, Text, TextBlock, TextPacket};
 use std::alloc::Global;
 use std::test::Fail;
 
@@ -135,5 +136,53 @@ fn a_source_that_is_not_listed_counts_and_is_not_heard(rt: HostRuntime) -> Resul
     assert!(rt; gives(rt.alloc(), &mut ann, 102, &second, b"b", 0)?);
     let fourth = packet(ANN, 400, &[], b"d");
     assert!(rt; gives(rt.alloc(), &mut ann, 104, &fourth, b"\xEF\xBF\xBDd", 1)?);
+    Ok(())
+}
+
+const PTS: Pts = Pts { t140: 98, red: 100 };
+
+/// Whether this packet is taken where it lies, and gives this text of the only source, with no marker.
+fn gives_plain(
+    alloc: Global,
+    receiver: &mut Receiver,
+    number: u64,
+    octets: &[u8],
+    text: &[u8],
+) -> Result<bool, NoMemory>
+    requires rises { ForSome (latest_number receiver.old) (λ latest. latest < number) }
+    requires one { sources_count receiver.old ≡ 1 }
+    ensures latest { IfOk result (λ taken. IsTrue taken → latest_number receiver.new ≡ Some number) }
+    ensures count { sources_count receiver.new ≡ sources_count receiver.old }
+{
+    let Some(view) = view_text(octets, None, PTS) else {
+        return Ok(false);
+    };
+    let mut heard = [SourceText::new(alloc)];
+    let taken = receiver.take_plain(number, &view, &mut heard)?;
+    Ok(taken && heard[0].text.as_slice() == text && heard[0].marks == 0)
+}
+
+/// Packets of SSRC 1001 with stamps 0, 300 and 900, the last of which repeats what the packet between them had.
+const FIRST: [u8; 18] = *b"\x80\x64\0\0\0\0\0\0\0\0\x03\xE9\xE2\xFF\xFC\0\x62A";
+
+const SECOND: [u8; 19] = *b"\x80\x64\0\x01\0\0\x01\x2C\0\0\x03\xE9\xE2\x04\xB0\x01\x62AB";
+
+const FOURTH: [u8; 19] = *b"\x80\x64\0\x03\0\0\x03\x84\0\0\x03\xE9\xE2\x04\xB0\x01\x62CD";
+
+#[test]
+fn a_packet_whose_repeated_text_was_heard_is_taken_where_it_lies(
+    rt: HostRuntime,
+) -> Result<(), Fail> {
+    let mut ann = Receiver::new(rt.alloc(), &[ANN])?;
+    assert!(rt; gives_plain(rt.alloc(), &mut ann, 65536, &FIRST, b"A")?);
+    assert!(rt; gives_plain(rt.alloc(), &mut ann, 65537, &SECOND, b"B")?);
+    assert!(rt; !gives_plain(rt.alloc(), &mut ann, 65539, &FOURTH, b"D")?);
+    Ok(())
+}
+
+#[test]
+fn a_packet_of_no_listed_source_is_not_taken_where_it_lies(rt: HostRuntime) -> Result<(), Fail> {
+    let mut bob = Receiver::new(rt.alloc(), &[BOB])?;
+    assert!(rt; !gives_plain(rt.alloc(), &mut bob, 65536, &FIRST, b"A")?);
     Ok(())
 }

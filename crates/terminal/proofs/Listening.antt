@@ -20,6 +20,7 @@ use Rattle.ear.specs.declared.confs.EarConf.{EarConf}
 use Rattle.ear.specs.declared.ears.Ear.{Ear}
 use Rattle.ear.specs.Hears.{told, all_given, IsToldOf, arrival_count, is_quiet, is_finished, ready_packets, Becomes, AllReady, Hears}
 use Rattle.ear.specs.Each.{HearsEach, GathersEach}
+use Rattle.ear.specs.Plain.{IsTextFor, HearsPlain}
 use Rattle.ear.proofs.Given.{ready_stamped}
 use Rattle.ear.proofs.Giving.{told_given}
 use Rattle.ear.proofs.ReadyBy.{heard_dues, told_arrived}
@@ -147,6 +148,50 @@ took l k m at octets p b e t n f a w g same quiet arrivals finished spent c sour
       open_still = finished ∙ (f ∙ li.open_still);
       whole = spent ∙ (w ∙ li.whole);
     }
+
+-- one more packet of the stream came, and was heard where it lies
+pub took_plain : (l m : Terminal) (at : ℕ) (octets : List ℕ) → HearsPlain l.ear m.ear at octets l.heard.items m.heard.items → IsTextFor l.ear.conf octets
+    → m.counts ≡ record l.counts { packets = l.counts.packets + 1; used = l.counts.used + 1 } → is_quiet m.ear ≡ true → arrival_count m.ear ≤ arrival_count l.ear + 1 → is_finished m.ear ≡ is_finished l.ear → is_spent m ≡ is_spent l
+    → (c : TermConf) (sources : List ℕ) (came : List Item) → Listens l c sources came → Listens m c sources (came ++ sent_item (at, octets) ∷ [])
+took_plain l m at octets g e n quiet arrivals finished spent c sources came li =
+    let x = text_of octets (Some c.ssrc) c.pts in
+    let now = told_more li.story c came at octets li.told in
+    let ok : x ≡ Ok e.0 = sym (ap (λ (q : EarConf). text_of octets (Some q.ssrc) q.pts) li.hears.hears.hears.asked) ∙ e.1 in
+    let counts : CountsAs (fate_of x) l.counts m.counts = subst (λ (y : Result Packet TextFault). CountsAs (fate_of y) l.counts m.counts) (sym ok) (record {
+      packets = ap (λ (q : Counts). q.packets) n;
+      refused = omega (arith, ap (λ (q : Counts). q.refused) n);
+      foreign = omega (arith, ap (λ (q : Counts). q.foreign) n);
+    }) in
+    let d = g (ear_conf c) sources li.story li.hears.hears in
+    let before : length (told li.story at x).given ≡ length li.story.given = ap (λ (gs : List Given). length gs) (told_given li.story at x) in
+    record {
+      story = all_given (told li.story at x);
+      hears = record { hears = d.hears; used = omega (arith, d.used, before, li.hears.used, ap (λ (q : Counts). q.used) n) };
+      told = record { arrivals = now.arrivals; moment = now.moment };
+      some = li.some;
+      counts = fate_counted l.counts m.counts (reception c) came (sent_item (at, octets)) li.counts counts (is_counted x);
+      few = omega (arith, arrivals, li.few, ap (λ (q : Counts). q.packets) n);
+      quiet = quiet;
+      open_still = finished ∙ li.open_still;
+      whole = spent ∙ li.whole;
+    }
+
+-- nothing came
+pub listens_alike : (l m : Terminal) → m.ear ≡ l.ear → m.heard.items ≡ l.heard.items → m.counts ≡ l.counts → is_spent m ≡ is_spent l → (c : TermConf) (sources : List ℕ) (came : List Item) → Listens l c sources came → Listens m c sources came
+listens_alike l m e t n w c sources came li = record {
+  story = li.story;
+  hears = record {
+    hears = subst (λ (texts : List SourceText). HearsEach m.ear (ear_conf c) sources li.story texts) (sym t) (subst (λ (x : Ear). HearsEach x (ear_conf c) sources li.story l.heard.items) (sym e) li.hears.hears);
+    used = ap (λ (q : Counts). q.used) n ∙ li.hears.used;
+  };
+  told = li.told;
+  some = li.some;
+  counts = subst (λ (q : Counts). Counted q (reception c) came) (sym n) li.counts;
+  few = omega (arith, ap arrival_count e, li.few, ap (λ (q : Counts). q.packets) n);
+  quiet = ap is_quiet e ∙ li.quiet;
+  open_still = ap is_finished e ∙ li.open_still;
+  whole = w ∙ li.whole;
+}
 
 -- what was refused is counted
 pub refused : (l k m : Terminal) (at : ℕ) (octets : List ℕ) (fault : TextFault) → Becomes l.ear k.ear (λ conf s. told s at (text_of octets (Some conf.ssrc) conf.pts)) → text_of octets (Some l.ear.conf.ssrc) l.ear.conf.pts ≡ Err fault

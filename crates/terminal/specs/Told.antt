@@ -23,6 +23,10 @@ TakesPacket old at octets new = Takes old (sent_item (at, octets) ∷ []) new
 abbrev pub TakesUnread : Terminal → Terminal → Type 0
 TakesUnread old new = (c : TermConf) (sources : List ℕ) (came : List Item) (item : Item) → IsUnread item.what → Listens old c sources came → Listens new c sources (came ++ item ∷ [])
 
+-- whatever came, nothing else came
+abbrev pub ListensAlike : Terminal → Terminal → Type 0
+ListensAlike old new = (c : TermConf) (sources : List ℕ) (came : List Item) → Listens old c sources came → Listens new c sources came
+
 -- it listens to the same sources still
 abbrev pub ListensStill : Terminal → Terminal → Type 0
 ListensStill old new = (c : TermConf) (sources : List ℕ) (came : List Item) → Listens old c sources came → (more : List Item) × Listens new c sources more

@@ -1,8 +1,8 @@
 //! Hearing one to 64 sources in the packets of one stream, and counting the packets.
-ghost use Rattle.std.specs.Prelude.{◌≡◌, ◌≢◌, ◌+◌, ◌≤◌, ◌<◌, ◌^◌, [], length, Bool, OnOk, OnErr, IfOk, All, AllPairs, vec_len};
+ghost use Rattle.std.specs.Prelude.{◌≡◌, ◌≢◌, ◌+◌, ◌≤◌, ◌<◌, ◌^◌, [], length, Bool, OnOk, OnErr, IfOk, IsTrue, All, AllPairs, vec_len};
 ghost use Rattle.ear.specs.Hears.{arrival_count, is_clear, is_quiet, is_finished};
 ghost use Rattle.terminal.specs.Terminals.{texts_of, counts_of, is_spent, IsWhole, IsEmpty, IsHearingTexts, SameCounts, Listens, IsListening, IsOpen, IsFinished};
-ghost use Rattle.terminal.specs.Told.{TakesPacket, TakesUnread, one_if_refused, one_if_foreign, GathersTexts, HearsToEnd};
+ghost use Rattle.terminal.specs.Told.{TakesPacket, TakesUnread, ListensAlike, one_if_refused, one_if_foreign, GathersTexts, HearsToEnd};
 ghost use Rattle.rtt_base.specs.declared.limits.TheConstants.{LONGEST_WAIT};
 
 use crate::TermConf;
@@ -100,9 +100,29 @@ impl Terminal {
         }
     }
 
-    /// Takes a packet that came at this moment.
+    /// Takes a packet that came at this moment where it lies, if it is next in order and nothing but its primary text is
+    /// heard of it, as most are. Else it answers false, and nothing came.
     #[inline(always)]
-    fn take(&mut self, at: u64, octets: &[u8]) -> Result<(), NoMemory>
+    fn take_plain(&mut self, at: u64, octets: &[u8]) -> Result<bool, NoMemory>
+        requires at { at < 2 ^ 48 }
+        requires stands { IsListening self.old }
+        requires few { (counts_of self.old).packets < 2 ^ 40 }
+        ensures listens { IfOk result (λ plain. IsTrue plain → TakesPacket self.old at octets.now self.new) }
+        ensures same { IfOk result (λ plain. plain ≡ Bool.false → ListensAlike self.old self.new) }
+        ensures uncounted { IfOk result (λ plain. plain ≡ Bool.false → self.new.counts ≡ self.old.counts) }
+        ensures packets { (counts_of self.new).packets ≤ (counts_of self.old).packets + 1 }
+    {
+        if !self.ear.hear_plain(at, octets, self.heard.as_mut_slice())? {
+            return Ok(false);
+        }
+        self.counts.packets += 1;
+        self.counts.used += 1;
+        Ok(true)
+    }
+
+    /// Takes a packet that came at this moment, whichever it is: it is read, and held where it is not next in order.
+    #[inline(never)]
+    fn take_any(&mut self, at: u64, octets: &[u8]) -> Result<(), NoMemory>
         requires at { at < 2 ^ 48 }
         requires stands { IsListening self.old }
         requires few { (counts_of self.old).packets < 2 ^ 40 }
@@ -117,6 +137,21 @@ impl Terminal {
                 Ok(())
             }
         }
+    }
+
+    /// Takes a packet that came at this moment.
+    #[inline(always)]
+    fn take(&mut self, at: u64, octets: &[u8]) -> Result<(), NoMemory>
+        requires at { at < 2 ^ 48 }
+        requires stands { IsListening self.old }
+        requires few { (counts_of self.old).packets < 2 ^ 40 }
+        ensures listens { OnOk result (TakesPacket self.old at octets.now self.new) }
+        ensures packets { (counts_of self.new).packets ≤ (counts_of self.old).packets + 1 }
+    {
+        if self.take_plain(at, octets)? {
+            return Ok(());
+        }
+        self.take_any(at, octets)
     }
 
     /// Takes a packet that came at this moment, in milliseconds. One that is refused is counted, and hands in no time.

@@ -1,6 +1,6 @@
 use Rattle.std.proofs.Common.{refl}
 use Rattle.terminal.proofs.Listening.{on_ok5, took, refused, told_text}
-use Rattle.terminal.proofs.terminals.Terminal.take.Goals as goal
+use Rattle.terminal.proofs.terminals.Terminal.take_any.Goals as goal
 
 pub gather-requires-clause-stands : goal.gather-requires-clause-stands
 gather-requires-clause-stands c =
