@@ -1,11 +1,14 @@
 //! The lines of records.
-ghost use Rattle.std.specs.Prelude.{◌≡◌, ◌+◌, ◌≤◌, ◌++◌, flat_map, length, decimal, Bool};
+ghost use Rattle.std.specs.Prelude.{◌≡◌, ◌+◌, ◌≤◌, ◌++◌, flat_map, length, decimal, Bool, None};
 ghost use Rattle.wire_spec.specs.Packets.{packet_of, blocks_of};
-ghost use Rattle.command_spec.specs.Listing.{fault_name, bit, block_length, packet_line, refused_line, record_line};
+ghost use Rattle.wire_spec.specs.Text.{text_of};
+ghost use Rattle.red_blocks.specs.Views.{IsView, blocks_in, packet_in};
+ghost use Rattle.command_spec.specs.Listing.{fault_name, bit, block_length, packet_line, refused_line, sent_line, record_line};
+ghost use Rattle.rtt_list.specs.Lines.{head_line};
 ghost use Rattle.rtpdump_io.specs.Answers.{record_of, is_end};
 
 use crate::lines::Line;
-use red_blocks::read_text;
+use red_blocks::{TextView, read_text, view_text};
 use rtpdump_io::DumpItem;
 use rtt_base::{Pts, TextBlock, TextPacket};
 use wire_spec::TextFault;
@@ -48,6 +51,56 @@ fn write_lengths(line: &mut Line, blocks: &[TextBlock])
     }
 }
 
+/// Writes the lengths of the blocks of a packet that is looked at where it lies, as `write_lengths` does.
+fn write_sizes(line: &mut Line, view: &TextView<'_>)
+    requires room { length line.old ≤ 100 }
+    requires view { IsView view.now }
+    ensures lengths { line.new ≡ flat_map block_length (blocks_in view.now) ++ line.old }
+    ensures fits { length line.new ≤ 99 + length line.old }
+{
+    line.prepend_number(view.primary.len() as u32);
+    line.prepend(b" ");
+    let mut left = view.count;
+    while left > 0 {
+        left -= 1;
+        let header = view.header(left);
+        line.prepend_number(u32::from(header.size));
+        line.prepend(b" ");
+    }
+}
+
+/// What a packet's line says before the lengths of its blocks.
+#[derive(Drop)]
+struct Head {
+    /// When it came.
+    at: u32,
+    mark: bool,
+    seq: u16,
+    stamp: u32,
+    ssrc: u32,
+    source: u32,
+}
+
+/// Writes a packet's numbers in front of the lengths of its blocks.
+#[inline(always)]
+fn write_head(line: &mut Line, head: &Head)
+    requires { length line.old ≤ 100 }
+    ensures { line.new ≡ head_line head.now ++ line.old }
+{
+    line.prepend(b" texts");
+    line.prepend_number(head.source);
+    line.prepend(b" source ");
+    line.prepend_number(head.ssrc);
+    line.prepend(b" ssrc ");
+    line.prepend_number(head.stamp);
+    line.prepend(b" stamp ");
+    line.prepend(digit_of(head.mark));
+    line.prepend(b" mark ");
+    line.prepend_number(u32::from(head.seq));
+    line.prepend(b" ");
+    line.prepend_number(head.at);
+}
+
 /// Writes the line of a packet, which came at `at`.
 fn write_packet(line: &mut Line, at: u32, packet: &TextPacket)
     requires { packet.now.blocks ≡ blocks_of (packet_of packet.now) }
@@ -56,18 +109,34 @@ fn write_packet(line: &mut Line, at: u32, packet: &TextPacket)
     line.clear();
     line.prepend(b"\n");
     write_lengths(line, packet.blocks.as_slice());
-    line.prepend(b" texts");
-    line.prepend_number(packet.source);
-    line.prepend(b" source ");
-    line.prepend_number(packet.ssrc);
-    line.prepend(b" ssrc ");
-    line.prepend_number(packet.stamp);
-    line.prepend(b" stamp ");
-    line.prepend(digit_of(packet.mark));
-    line.prepend(b" mark ");
-    line.prepend_number(u32::from(packet.seq));
-    line.prepend(b" ");
-    line.prepend_number(at);
+    let head = Head {
+        at,
+        mark: packet.mark,
+        seq: packet.seq,
+        stamp: packet.stamp,
+        ssrc: packet.ssrc,
+        source: packet.source,
+    };
+    write_head(line, &head);
+}
+
+/// Writes the line of a packet that is looked at where it lies, as `write_packet` does.
+fn write_view(line: &mut Line, at: u32, view: &TextView<'_>)
+    requires { IsView view.now }
+    ensures { line.new ≡ packet_line at (packet_in view.now) }
+{
+    line.clear();
+    line.prepend(b"\n");
+    write_sizes(line, view);
+    let head = Head {
+        at,
+        mark: view.marker_bit,
+        seq: view.seq,
+        stamp: view.stamp,
+        ssrc: view.ssrc,
+        source: view.source,
+    };
+    write_head(line, &head);
 }
 
 /// Writes the line of a packet that is refused.
@@ -117,6 +186,19 @@ impl RecordLines {
         self.line.as_slice()
     }
 
+    /// Makes the line of a packet that is refused, or whose texts are not all ASCII. Few are, so this stands out of the
+    /// way of the others.
+    #[inline(never)]
+    fn make_read(&mut self, at: u32, octets: &[u8])
+        ensures line { self.new.line ≡ sent_line at (text_of octets.now None self.old.pts) }
+        ensures same_pts { self.new.pts ≡ self.old.pts }
+    {
+        match read_text(octets, None, self.pts, &mut self.packet) {
+            Ok(()) => write_packet(&mut self.line, at, &self.packet),
+            Err(fault) => write_refused(&mut self.line, at, fault),
+        }
+    }
+
     /// Makes the line of a record, whose octets are these where it is a packet.
     pub(crate) fn make(&mut self, item: DumpItem, octets: &[u8])
         requires { is_end item ≡ Bool.false }
@@ -124,12 +206,10 @@ impl RecordLines {
         ensures same_pts { self.new.pts ≡ self.old.pts }
     {
         match item {
-            DumpItem::Packet { at } => {
-                match read_text(octets, None, self.pts, &mut self.packet) {
-                    Ok(()) => write_packet(&mut self.line, at, &self.packet),
-                    Err(fault) => write_refused(&mut self.line, at, fault),
-                }
-            }
+            DumpItem::Packet { at } => match view_text(octets, None, self.pts) {
+                Some(view) => write_view(&mut self.line, at, &view),
+                None => self.make_read(at, octets),
+            },
             DumpItem::Rtcp { at } => write_word(&mut self.line, at, b" rtcp\n"),
             DumpItem::Cut { at } => write_word(&mut self.line, at, b" cut\n"),
             DumpItem::Large { at } => write_word(&mut self.line, at, b" large\n"),
