@@ -1,3 +1,4 @@
+pub mod EachLine
 pub mod FirstLine
 pub mod LineByLine
 pub mod TextLine

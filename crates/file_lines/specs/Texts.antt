@@ -1,4 +1,4 @@
--- What optional slices and pairs of slices refer to (profile).
+-- What optional slices refer to (profile).
 use Rattle.std.specs.Prelude.{ℕ, Option, None, Some, if◌then◌else◌, List}
 use Rattle.std.specs.Option.{option_map}
 use Rattle.std.specs.Str.{is_utf8}
@@ -6,9 +6,6 @@ use denote.Ref.{Bor}
 
 abbrev pub octets_of : Option (Bor (List ℕ)) → Option (List ℕ)
 octets_of slice = option_map (λ s. s.now) slice
-
-abbrev pub parts_of : Option (Bor (List ℕ) × Bor (List ℕ)) → Option (List ℕ × List ℕ)
-parts_of parts = option_map (λ p. (p.0.now, p.1.now)) parts
 
 -- the octets, if they are UTF-8
 abbrev pub text_in : List ℕ → Option (List ℕ)

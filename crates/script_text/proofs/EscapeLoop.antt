@@ -27,7 +27,7 @@ followed-none a = refl
 pub none_read : (octets : List ℕ) → HasRead octets octets []
 none_read octets = sym (followed-empty (unescaped octets))
 
-unescaped-plain : (c : ℕ) (more : List ℕ) → eqb c 92 ≡ false → unescaped (c ∷ more) ≡ followed (Some (c ∷ [])) (unescaped more)
+pub unescaped-plain : (c : ℕ) (more : List ℕ) → eqb c 92 ≡ false → unescaped (c ∷ more) ≡ followed (Some (c ∷ [])) (unescaped more)
 unescaped-plain c [] e = rw e refl
 unescaped-plain c (d ∷ more) e = rw e refl
 

@@ -1,4 +1,4 @@
 pub mod EscapeLoop
+pub mod LineHeads
 pub mod ScriptLoop
 pub mod SpanLines
-pub mod TextLine

@@ -2,6 +2,8 @@
 #![tactic(auto)]
 
 mod escapes;
+mod heads;
+mod known;
 mod script_lines;
 mod script_reader;
 mod scripts;

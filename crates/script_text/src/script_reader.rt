@@ -1,24 +1,18 @@
 //! Reads scripts.
-ghost use Rattle.std.specs.Prelude.{◌≡◌, ◌≤◌, Ok, IfOk, IfErr};
-ghost use Rattle.file_spec.specs.Script.{around_space, script};
+ghost use Rattle.std.specs.Prelude.{◌≡◌, true, Ok, IfOk, IfErr, OnOk};
+ghost use Rattle.file_spec.specs.Script.{script, typed};
 ghost use Rattle.file_lines.specs.Causes.{IsCause, IsCauseAt};
-ghost use Rattle.file_lines.specs.Texts.{parts_of};
 ghost use Rattle.file_lines.specs.declared.faults.ConfFault.TheVariants.{Refused};
-ghost use Rattle.script_text.specs.ScriptLines.{line_said};
+ghost use Rattle.script_text.specs.ScriptLines.{with_typed, IsPlain};
 
 use crate::escapes::read_text;
+use crate::heads::{Head, read_head};
+use crate::known::{is_plain_text, known_of};
 use crate::{ConfFault, ConfKind, Script, ScriptLine};
-use file_lines::{next_line, says_nothing, text_of};
-use file_spec::limits::{LAST_MOMENT, MOST_SCRIPT_OCTETS};
-use numerals::number_of;
+use file_lines::{next_line, says_nothing};
+use file_spec::limits::{LONGEST_TEXT, MOST_SCRIPT_OCTETS};
 use rtt_base::Bytes;
 use std::alloc::Global;
-
-fn split_at_space(line: &str) -> Option<(&str, &str)>
-    ensures { parts_of result ≡ around_space line.now }
-{
-    line.split_once(' ')
-}
 
 fn refused(line: u32, kind: ConfKind) -> ConfFault
     ensures { result ≡ Refused line kind }
@@ -26,30 +20,64 @@ fn refused(line: u32, kind: ConfKind) -> ConfFault
     ConfFault::Refused { line, kind }
 }
 
-/// Reads a line into when it is typed and its text, which is written over `text`. The latest line above is typed at
-/// `latest`.
-#[tactic(auto, unfolding(file_spec::specs::Script::script_line))]
-fn read_line(line: u32, latest: u32, octets: &[u8], text: &mut Bytes) -> Result<u32, ConfFault>
-    ensures ok { IfOk result (λ at. line_said latest line octets.now
-        ≡ Ok (record { line = line; at = at; text = text.new })) }
-    ensures err { IfErr result (λ fault. IsCauseAt line fault (line_said latest line octets.now)) }
-    ensures in_order { IfOk result (λ at. latest ≤ at) }
+/// Appends a line whose text is read from octets without a backslash.
+fn push_plain(script: &mut Script, line: u32, head: Head<'_>) -> Result<(), ConfFault>
+    requires { IsPlain head.octets.now }
+    ensures ok { OnOk result (with_typed script.old line head.entry ≡ Ok script.new) }
+    ensures err { IfErr result (λ fault. IsCauseAt line fault (typed head.entry.octets.now)) }
 {
-    let Some(said) = text_of(octets) else {
-        return Err(refused(line, ConfKind::NotText));
-    };
-    let Some((moment, typed)) = split_at_space(said) else {
-        return Err(refused(line, ConfKind::Count));
-    };
-    let Some(at) = number_of(moment, LAST_MOMENT) else {
-        return Err(refused(line, ConfKind::Number));
-    };
-    if at < latest {
-        return Err(refused(line, ConfKind::Order));
+    if head.octets.len() > LONGEST_TEXT {
+        return Err(refused(line, ConfKind::Long));
     }
-    match read_text(line, typed.as_bytes(), text) {
-        Ok(()) => Ok(at),
-        Err(fault) => Err(fault),
+    let said = ScriptLine {
+        line,
+        at: head.at,
+        text: head.octets,
+    };
+    script.push(said)?;
+    Ok(())
+}
+
+/// The same of octets that may have escapes. Their text is written over `text`.
+#[inline(never)]
+fn push_escaped(
+    script: &mut Script,
+    line: u32,
+    head: Head<'_>,
+    text: &mut Bytes,
+) -> Result<(), ConfFault>
+    ensures ok { OnOk result (with_typed script.old line head.entry ≡ Ok script.new) }
+    ensures err { IfErr result (λ fault. IsCauseAt line fault (typed head.entry.octets.now)) }
+{
+    match read_text(line, head.octets, text) {
+        Ok(()) => {}
+        Err(fault) => return Err(fault),
+    }
+    let said = ScriptLine {
+        line,
+        at: head.at,
+        text: text.as_slice(),
+    };
+    script.push(said)?;
+    Ok(())
+}
+
+/// The same, where `plain` says that it is known that they have none.
+fn push_typed(
+    script: &mut Script,
+    line: u32,
+    head: Head<'_>,
+    plain: bool,
+    text: &mut Bytes,
+) -> Result<(), ConfFault>
+    requires { plain ≡ true → IsPlain head.octets.now }
+    ensures ok { OnOk result (with_typed script.old line head.entry ≡ Ok script.new) }
+    ensures err { IfErr result (λ fault. IsCauseAt line fault (typed head.entry.octets.now)) }
+{
+    if is_plain_text(head.octets, plain) {
+        push_plain(script, line, head)
+    } else {
+        push_escaped(script, line, head, text)
     }
 }
 
@@ -61,6 +89,7 @@ pub fn read_script(alloc: Global, bytes: &[u8]) -> Result<Script, ConfFault>
     if bytes.len() > MOST_SCRIPT_OCTETS {
         return Err(refused(0, ConfKind::Large));
     }
+    let known = known_of(bytes);
     let mut script = Script::new(alloc);
     let mut text = Bytes::new(alloc);
     let mut latest = 0;
@@ -72,17 +101,15 @@ pub fn read_script(alloc: Global, bytes: &[u8]) -> Result<Script, ConfFault>
         if says_nothing(line) {
             continue;
         }
-        let at = match read_line(number, latest, line, &mut text) {
-            Ok(at) => at,
+        let head = match read_head(latest, line, known) {
+            Ok(head) => head,
+            Err(kind) => return Err(refused(number, kind)),
+        };
+        latest = head.at;
+        match push_typed(&mut script, number, head, known.plain, &mut text) {
+            Ok(()) => {}
             Err(fault) => return Err(fault),
-        };
-        latest = at;
-        let said = ScriptLine {
-            line: number,
-            at,
-            text: text.as_slice(),
-        };
-        script.push(said)?;
+        }
     }
     Ok(script)
 }
