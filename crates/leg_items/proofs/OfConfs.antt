@@ -3,6 +3,9 @@ use Rattle.std.proofs.Common.{◌≡◌, ◌<◌, ◌≤◌, ℕ, zero, suc, Opt
 use Rattle.file_spec.specs.declared.conf_lines.LegLine.{LegLine}
 use Rattle.file_spec.specs.Conf.{Conf}
 use Rattle.stream_spec.specs.Ready.{chunks}
+use Rattle.stream_spec.specs.Still.{is_lively_chunk, still}
+use Rattle.stream_spec.proofs.StillChunks.{chunks_still}
+use Rattle.std.specs.Prelude.{filter}
 use Rattle.mixer_spec.specs.Setups.{setup, in_stay, leg_at, ssrc_of, from_of, until_of}
 use Rattle.mixer_spec.specs.Bridged.{input_limit, leg_arrivals, leg_chunks}
 use Rattle.leg_items.specs.Feds.{Asked, chunks_asked}
@@ -23,8 +26,8 @@ asked_law c inputs asked are = record {
   legs = λ j low.
       let r = some_leg c.legs j low in
       ap (in_stay (setup c) j)
-      (ap (λ (o : Option LegLine). chunks c.wait j (leg_arrivals (input_limit c) o (inputs j)) (ssrc_of o)) r.1 ∙ ap chunks_asked (sym (are j r.0 r.1)));
-  above = λ j high. ap (λ (o : Option LegLine). in_stay (setup c) j (chunks c.wait j (leg_arrivals (input_limit c) o (inputs j)) (ssrc_of o))) (no_leg c.legs j high);
+      (ap (λ (o : Option LegLine). chunks c.wait j (still (leg_arrivals (input_limit c) o (inputs j))) (ssrc_of o)) r.1 ∙ (chunks_still c.wait j (leg_arrivals (input_limit c) (Some r.0) (inputs j)) r.0.ssrc ∙ ap (λ a. filter is_lively_chunk (chunks_asked a)) (sym (are j r.0 r.1))));
+  above = λ j high. ap (λ (o : Option LegLine). in_stay (setup c) j (chunks c.wait j (still (leg_arrivals (input_limit c) o (inputs j))) (ssrc_of o))) (no_leg c.legs j high);
 }
 
 pub stays_law : (c : Conf) (j : ℕ) (l : LegLine) → leg_at c.legs j ≡ Some l → IsStayOf (setup c) j l.stay

@@ -24,6 +24,11 @@ module _ {S : Type 0} where
     place = ap (λ (l : Leg S). place_of l) n.leg_is ∙ e;
   }
 
+  -- one of them
+  pub new_one : (a : Port (LegInlet S)) → IsNewAt 0 a → AreNew (a ∷ [])
+  new_one a x zero p e = let same : a ≡ p = cc e in subst (λ (q : Port (LegInlet S)). IsNewAt 0 q) same x
+  new_one a x (suc j) p e = absurd (cc e)
+
   -- two of them
   pub new_two : (a b : Port (LegInlet S)) → IsNewAt 0 a → IsNewAt 1 b → AreNew (a ∷ b ∷ [])
   new_two a b x y zero p e = let same : a ≡ p = cc e in subst (λ (q : Port (LegInlet S)). IsNewAt 0 q) same x

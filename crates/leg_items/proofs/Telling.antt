@@ -1,9 +1,10 @@
 -- What was given of the legs is what is heard of their recordings.
-use Rattle.std.proofs.Common.{◌≡◌, ◌<◌, ◌≤◌, ℕ, zero, suc, false, inl, inr, Some, None, List, [], ◌∷◌, length, map, refl, ap, sym, ◌∙◌, subst, arith}
+use Rattle.std.proofs.Common.{◌≡◌, ◌<◌, ◌≤◌, ◌+◌, ℕ, zero, suc, Bool, true, false, cond, inl, inr, Some, None, List, [], ◌∷◌, length, map, refl, ap, sym, ◌∙◌, subst, arith}
 use Rattle.std.specs.Prelude.{filter, slice_get, nat_le, ◌&&◌}
 use Rattle.file_spec.specs.declared.conf_lines.Stay.{Stay}
 use Rattle.file_spec.specs.Stays.{is_before_end}
 use Rattle.rtt_base.specs.declared.text_packets.Pts.{Pts}
+use Rattle.rtpdump_io.specs.Reading.{is_of_source}
 use Rattle.stream_spec.specs.Ready.{Chunk}
 use Rattle.mixer_spec.specs.Setups.{Setup, in_stay}
 use Rattle.mixer_spec.specs.Table.{Call}
@@ -16,10 +17,11 @@ use Rattle.mix_loop.specs.declared.turns.Mixing.{Mixing}
 use Rattle.mix_loop.specs.declared.turns.Mixing.TheVariants as mixing
 use Rattle.mix_loop.specs.Items.{Gave}
 use Rattle.mix_loop.specs.Turns.{AllAtEnd, Tells, AreAt, MixedAs, AllFresh}
-use Rattle.mix_loop.proofs.Lists.{funext, lt_or_ge}
+use Rattle.mix_loop.proofs.Lists.{funext, get_within, lt_or_ge}
 use Rattle.leg_items.specs.declared.inlets.LegInlet.{LegInlet}
-use Rattle.leg_items.specs.Feds.{Asked, GivesAs, Fed, recording_asked, chunks_asked, in_part}
-use Rattle.leg_items.specs.Answers.{AllWhole, IsAnswer, AreChunks, AreNew, AllStayAs, AllAsked, SourceKept, PlainMixed, source_at}
+use Rattle.stream_spec.specs.Still.{is_lively_chunk}
+use Rattle.leg_items.specs.Feds.{Asked, GivesAs, Fed, recording_asked, chunks_asked, in_part, is_source_fault}
+use Rattle.leg_items.specs.Answers.{AllWhole, IsAnswer, IsReadWell, AreChunks, AreNew, AllStayAs, AllAsked, SourceKept, PlainMixed, source_at}
 use Rattle.leg_items.proofs.Feeding.{fed_none}
 
 module _ {S : Type 0} where
@@ -52,9 +54,17 @@ module _ {S : Type 0} where
     stays = (let h = stays j p e in record { from = h.from; until = h.until });
   }
 
+both : (p q : Chunk → Bool) (cs : List Chunk) → filter (λ c. p c && q c) cs ≡ filter q (filter p cs)
+both p q [] = refl
+both p q (c ∷ cs) = go (p c) (both p q cs)
+  where
+    go : (b : Bool) → filter (λ c. p c && q c) cs ≡ filter q (filter p cs) → cond (b && q c) (c ∷ filter (λ c. p c && q c) cs) (filter (λ c. p c && q c) cs) ≡ filter q (cond b (c ∷ filter p cs) (filter p cs))
+    go true e = λ ι. cond (q c) (c ∷ e ι) (e ι)
+    go false e = e
+
 -- what lies in the stay of a leg, where its port has that stay
-in_stay_is : (s : Setup) (j : ℕ) (stay : Stay) (cs : List Chunk) → s.from j ≡ stay.from → s.until j ≡ stay.until → in_part stay cs ≡ in_stay s j cs
-in_stay_is s j stay cs from until = λ ι. filter (λ c. nat_le (sym from ι) c.ready && is_before_end c.ready (sym until ι)) cs
+in_stay_is : (s : Setup) (j : ℕ) (stay : Stay) (cs : List Chunk) → s.from j ≡ stay.from → s.until j ≡ stay.until → in_part stay cs ≡ in_stay s j (filter is_lively_chunk cs)
+in_stay_is s j stay cs from until = (λ ι. filter (λ c. is_lively_chunk c && (nat_le (sym from ι) c.ready && is_before_end c.ready (sym until ι))) cs) ∙ both is_lively_chunk (λ c. nat_le (s.from j) c.ready && is_before_end c.ready (s.until j)) cs
 
 module _ {S M : Type 0} (tells : Type 0) (left : S → List ℕ) (faults : S → ℕ) (name : S → List ℕ) (mixes : M → Setup → List Call → Type 0) (pts : ℕ → Pts) (s : Setup) (tick turns : ℕ) (answer : Mixing)
     (old new : List (Port (LegInlet S))) (m : M) (log : List (List ℕ)) (is_new : AreNew old) (stays : AllStayAs s old) (legs : s.legs ≡ length old) (same : length new ≡ length old)
@@ -81,6 +91,22 @@ module _ {S M : Type 0} (tells : Type 0) (left : S → List ℕ) (faults : S →
   of_leg : (j : ℕ) → j < s.legs → OfLeg j
   of_leg j low = let r = some_at new j (omega (arith, low, legs, same)) in of_port j r.0 r.1
 
+  -- a leg that was read without a failure did not end at one of its source
+  calm_end : (j : ℕ) → j < s.legs → (a : Mixing) → Tells a s tick turns x.gave x.table → IsReadWell a j → is_source_fault (x.gave j).ended ≡ false
+  calm_end j low mixing.Over w r = ap is_source_fault (w.1 j low)
+  calm_end j low mixing.TooLong w r = ap is_source_fault (w.1 j low)
+  calm_end j low mixing.NoMemory w r = absurd r
+  calm_end j low (mixing.Faulted leg fault) w r = go (is_of_source fault.kind) refl r
+    where
+      go : (b : Bool) → is_of_source fault.kind ≡ b → j < cond b leg (leg + 1) → is_source_fault (x.gave j).ended ≡ false
+      go true e below = ap is_source_fault (w.lowest j below)
+      go false e below = elim (lt_or_ge j leg) [
+        | inl lower ↦ ap is_source_fault (w.lowest j lower)
+        | inr high ↦
+            let here : j ≡ leg = omega (arith, below, high) in
+            ap (λ (k : ℕ). is_source_fault (x.gave k).ended) here ∙ (ap is_source_fault w.is ∙ e)
+      ]
+
   pub sources_kept : (j : ℕ) (p q : Port (LegInlet S)) → slice_get old j ≡ Some p → slice_get new j ≡ Some q → SourceKept faults name answer j (source_at p) (source_at q)
   sources_kept j p q was now =
       let o = of_port j q now in
@@ -90,6 +116,7 @@ module _ {S M : Type 0} (tells : Type 0) (left : S → List ℕ) (faults : S →
         never_falls = fed.never_falls;
         same_name = fed.same_name;
         read = λ fault e k. fed.read fault (subst (λ (a : Mixing). Tells a s tick turns x.gave x.table) e x.tells).is k;
+        calm = λ r. fed.calm (calm_end j (let low = get_within old j p was in omega (arith, low, legs)) answer x.tells r);
       }
 
   module _ (t : tells) (asked : ℕ → Asked) (chunks : ℕ → List Chunk) (asks : AllAsked left asked old) (are : AreChunks s asked chunks) where
@@ -97,7 +124,7 @@ module _ {S M : Type 0} (tells : Type 0) (left : S → List ℕ) (faults : S →
     gives j o = o.fed.gives t (asked j) (asks j o.before o.was)
 
     -- a leg that was read to its end
-    ended : (j : ℕ) → j < s.legs → (x.gave j).ended ≡ AtEnd → ((x.gave j).chunks ≡ in_stay s j (chunks_asked (asked j))) × ((recording_asked (asked j)).fault ≡ None)
+    ended : (j : ℕ) → j < s.legs → (x.gave j).ended ≡ AtEnd → ((x.gave j).chunks ≡ in_stay s j (filter is_lively_chunk (chunks_asked (asked j)))) × ((recording_asked (asked j)).fault ≡ None)
     ended j low e =
         let o = of_leg j low in
         let g = subst (λ (y : Ended). GivesAs left o.after.inlet.leg o.after.inlet.stay (asked j) (x.gave j).chunks y) e (gives j o) in

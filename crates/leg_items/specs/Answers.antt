@@ -1,11 +1,12 @@
 -- What plain mixing of recordings answers.
-use Rattle.std.specs.Prelude.{◌≡◌, ◌≤◌, ◌<◌, ℕ, None, Some, List, [], length, slice_get}
+use Rattle.std.specs.Prelude.{◌≡◌, ◌≤◌, ◌<◌, ◌+◌, ℕ, None, Some, List, [], length, filter, slice_get, if◌then◌else◌}
 use Rattle.rtt_base.specs.declared.text_packets.Pts.{Pts}
 use Rattle.wire_spec.specs.declared.faults.DumpKind.TheVariants.{Read}
 use Rattle.stream_spec.specs.Ready.{Chunk}
+use Rattle.stream_spec.specs.Still.{is_lively_chunk}
 use Rattle.rtt_io.specs.Counts.{Rose}
 use Rattle.rtpdump_io.specs.declared.items.DumpFault.{DumpFault}
-use Rattle.rtpdump_io.specs.Reading.{IsFaultOf}
+use Rattle.rtpdump_io.specs.Reading.{IsFaultOf, is_of_source}
 use Rattle.file_spec.specs.declared.conf_lines.LegLine.{LegLine}
 use Rattle.file_spec.specs.declared.conf_lines.Stay.{Stay}
 use Rattle.file_spec.specs.Conf.{Conf}
@@ -33,9 +34,20 @@ IsAnswer mixing.TooLong s tick turns asked chunks table = (plain s tick turns ch
 IsAnswer mixing.NoMemory s tick turns asked chunks table = Unit {0}
 IsAnswer (mixing.Faulted leg fault) s tick turns asked chunks table = (leg < s.legs) × IsFaultOf (recording_asked (asked leg)) fault × AllWhole leg asked
 
+-- how many legs, the lowest, were read without a failure where the leg with this number has this fault
+abbrev pub read_well : ℕ → DumpFault → ℕ
+read_well leg fault = if is_of_source fault.kind then leg else leg + 1
+
+-- by this answer no reading for the leg j failed
+abbrev pub IsReadWell : Mixing → ℕ → Type 0
+IsReadWell mixing.Over j = Unit {0}
+IsReadWell mixing.TooLong j = Unit {0}
+IsReadWell mixing.NoMemory j = ⊥
+IsReadWell (mixing.Faulted leg fault) j = j < read_well leg fault
+
 -- these are the chunks that count of each leg that is asked for
 pub record AreChunks (s : Setup) (asked : ℕ → Asked) (chunks : ℕ → List Chunk) : Type 0 where
-  pub legs : (j : ℕ) → j < s.legs → chunks j ≡ in_stay s j (chunks_asked (asked j))
+  pub legs : (j : ℕ) → j < s.legs → chunks j ≡ in_stay s j (filter is_lively_chunk (chunks_asked (asked j)))
   pub above : (j : ℕ) → s.legs ≤ j → chunks j ≡ []
 
 -- the leg j stays so long
@@ -70,11 +82,12 @@ module _ {S : Type 0} where
   abbrev pub AllAsked : (S → List ℕ) → (ℕ → Asked) → List (Port (LegInlet S)) → Type 0
   AllAsked left asked ps = (j : ℕ) (p : Port (LegInlet S)) → slice_get ps j ≡ Some p → Stands left p.inlet.leg (past_of (asked j) [])
 
-  -- The source of the leg j is the one that it was. Where its reading failed, its count rose.
+  -- The source of the leg j is the one that it was. Where its reading failed, its count rose; where none did, it is the old one.
   pub record SourceKept (faults : S → ℕ) (name : S → List ℕ) (answer : Mixing) (j : ℕ) (old new : S) : Type 0 where
     pub never_falls : faults old ≤ faults new
     pub same_name : name new ≡ name old
     pub read : (fault : DumpFault) → answer ≡ mixing.Faulted j fault → fault.kind ≡ Read → Rose (faults old) (faults new)
+    pub calm : IsReadWell answer j → faults new ≡ faults old
 
   -- The mixer has come to this table; where mixing is over the log has what was sent. All sources are there still. Where they
   -- tell what they hold, the answer is that of plain mixing of what is heard of them.

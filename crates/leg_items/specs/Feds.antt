@@ -1,13 +1,14 @@
 -- What a leg that is read by who mixes gave of its recording.
-use Rattle.std.specs.Prelude.{◌≡◌, ◌⊎◌, ◌<◌, ◌≤◌, ℕ, false, not, None, Result, Ok, Err, List, [], filter, if◌then◌else◌}
+use Rattle.std.specs.Prelude.{◌≡◌, ◌⊎◌, ◌<◌, ◌≤◌, ◌&&◌, ℕ, Bool, false, not, None, Result, Ok, Err, List, [], filter, if◌then◌else◌}
 use Rattle.file_spec.specs.declared.conf_lines.Stay.{Stay}
 use Rattle.file_spec.specs.Stays.{stays_at}
 use Rattle.wire_spec.specs.declared.faults.DumpKind.TheVariants.{Read}
 use Rattle.wire_spec.specs.Dump.{Recording}
 use Rattle.stream_spec.specs.Ready.{Chunk}
+use Rattle.stream_spec.specs.Still.{is_lively_chunk}
 use Rattle.rtt_io.specs.Counts.{Rose}
 use Rattle.rtpdump_io.specs.declared.items.DumpFault.{DumpFault}
-use Rattle.rtpdump_io.specs.Reading.{IsFaultOf}
+use Rattle.rtpdump_io.specs.Reading.{IsFaultOf, is_of_source}
 use Rattle.ear.specs.declared.confs.EarConf.{EarConf}
 use Rattle.leg_core.specs.declared.steps.LegStep.{LegStep}
 use Rattle.leg_core.specs.declared.steps.LegStep.TheVariants as step
@@ -39,17 +40,30 @@ recording_asked a = recording_of (past_of a [])
 abbrev pub chunks_asked : Asked → List Chunk
 chunks_asked a = chunks_of (past_of a [])
 
--- those of these chunks that are ready within the stay
-abbrev pub in_part : Stay → List Chunk → List Chunk
-in_part stay cs = filter (λ c. stays_at c.ready stay) cs
+-- a text counts that is no keep-alive and is ready within the stay
+abbrev pub counts : Stay → Chunk → Bool
+counts stay c = is_lively_chunk c && stays_at c.ready stay
 
--- What an answer of a leg comes to, beside which a text was handed out that is ready at this moment: it counts where that
--- lies in the stay.
-abbrev pub item_for : Stay → ℕ → Result LegStep DumpFault → Item
-item_for stay ready (Ok step.Chunk) = if stays_at ready stay then item.Chunk else item.Later
-item_for stay ready (Ok step.More) = item.Later
-item_for stay ready (Ok step.End) = item.End
-item_for stay ready (Err fault) = item.Fault fault
+-- those of these chunks that count
+abbrev pub in_part : Stay → List Chunk → List Chunk
+in_part stay cs = filter (λ c. counts stay c) cs
+
+-- what a text comes to that was heard: it is passed over where it does not count
+abbrev pub item_of_text : Stay → Chunk → Item
+item_of_text stay c = if counts stay c then item.Chunk else item.Later
+
+-- what an answer of a leg comes to, beside which this text was handed out
+abbrev pub item_for : Stay → Chunk → Result LegStep DumpFault → Item
+item_for stay c (Ok step.Chunk) = item_of_text stay c
+item_for stay c (Ok step.More) = item.Later
+item_for stay c (Ok step.End) = item.End
+item_for stay c (Err fault) = item.Fault fault
+
+-- by how a leg's texts ended, a reading of its source failed
+abbrev pub is_source_fault : Ended → Bool
+is_source_fault Open = false
+is_source_fault AtEnd = false
+is_source_fault (AtFault fault) = is_of_source fault.kind
 
 module _ {S : Type 0} where
   -- a leg that gave these chunks, of those that count, by how they ended
@@ -65,14 +79,14 @@ module _ {S : Type 0} where
     pub gives : tells → (a : Asked) → Stands left first.leg (past_of a []) → GivesAs left now.leg now.stay a gave.chunks gave.ended
     pub never_falls : faults (source_of first.leg) ≤ faults (source_of now.leg)
     pub read : (fault : DumpFault) → gave.ended ≡ AtFault fault → fault.kind ≡ Read → Rose (faults (source_of first.leg)) (faults (source_of now.leg))
+    pub calm : is_source_fault gave.ended ≡ false → faults (source_of now.leg) ≡ faults (source_of first.leg)
     pub same_name : name (source_of now.leg) ≡ name (source_of first.leg)
 
-  -- A step of the leg that gave nothing that counts: a record was read, or a text was passed over that is not ready within the
-  -- stay.
+  -- A step of the leg that gave nothing that counts: a record was read, or a text was passed over that does not count.
   abbrev pub GetsOn : Type 0 → (S → List ℕ) → LegInlet S → LegInlet S → Type 0
   GetsOn tells left old new =
       (unread new.leg < unread old.leg)
-      ⊎ ((c : Chunk) × (stays_at c.ready old.stay ≡ false) × (tells → Follows left old.leg new.leg (Ok step.Chunk) c))
+      ⊎ ((c : Chunk) × (counts old.stay c ≡ false) × (tells → Follows left old.leg new.leg (Ok step.Chunk) c))
 
   -- a port of this leg, which gave nothing yet
   pub record IsNewLeg (leg : Leg S) (stay : Stay) (p : Port (LegInlet S)) : Type 0 where

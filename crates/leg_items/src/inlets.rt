@@ -1,9 +1,10 @@
 //! A leg as where its texts come from.
-ghost use Rattle.std.specs.Prelude.{◌≡◌, false, if◌then◌else◌};
+ghost use Rattle.std.specs.Prelude.{◌≡◌, false};
 ghost use Rattle.file_spec.specs.Stays.{stays_at};
+ghost use Rattle.stream_spec.specs.Ready.{chunk_of};
+ghost use Rattle.stream_spec.specs.Still.{is_blank};
 ghost use Rattle.leg_core.specs.Gives.{is_over, source_of};
-ghost use Rattle.mix_loop.specs.declared.items.Item.{Item};
-ghost use Rattle.leg_items.specs.Feds.{IsNewLeg, item_for};
+ghost use Rattle.leg_items.specs.Feds.{IsNewLeg, item_for, item_of_text};
 
 use file_spec::Stay;
 use leg_core::{Leg, LegStep};
@@ -13,7 +14,19 @@ use rtt_base::Chunk;
 use rtt_io::{Gate, Source};
 use std::sync::Wait;
 
-/// A leg that is read by who mixes. Of its texts those count that are ready within its stay; the others are passed over.
+/// Whether a text is one or more U+FEFF and nothing else, or empty.
+fn is_blank(text: &[u8]) -> bool
+    ensures { result ≡ is_blank text.now }
+{
+    match text {
+        [0xEF, 0xBB, 0xBF, rest @ ..] => is_blank(rest),
+        [] => true,
+        _ => false,
+    }
+}
+
+/// A leg that is read by who mixes. Of its texts those count that are ready within its stay and are no keep-alives (U+FEFF
+/// alone); the others are passed over.
 #[derive(Drop)]
 pub struct LegInlet<S> {
     pub leg: Leg<S>,
@@ -37,23 +50,22 @@ impl<S: Source> LegInlet<S> {
         leg.into_source()
     }
 
-    /// What an answer of the leg comes to, beside which a text was handed out that is ready at this moment.
-    fn item_of(&self, step: Result<LegStep, DumpFault>, ready: u64) -> Item
-        ensures { result ≡ item_for self.now.stay ready step }
+    /// What an answer of the leg comes to, beside which this text was handed out.
+    fn item_of(&self, step: Result<LegStep, DumpFault>, chunk: &Chunk) -> Item
+        ensures { result ≡ item_for self.now.stay (chunk_of chunk.now) step }
     {
         match step {
-            Ok(LegStep::Chunk) => self.heard_at(ready),
+            Ok(LegStep::Chunk) => self.heard_item(chunk),
             Ok(LegStep::More) => Item::Later,
             Ok(LegStep::End) => Item::End,
             Err(fault) => Item::Fault(fault),
         }
     }
 
-    /// A text that is ready at this moment counts where that lies in the stay.
-    fn heard_at(&self, ready: u64) -> Item
-        ensures { result ≡ (if stays_at ready self.now.stay then Item.Chunk else Item.Later) }
+    fn heard_item(&self, chunk: &Chunk) -> Item
+        ensures { result ≡ item_of_text self.now.stay (chunk_of chunk.now) }
     {
-        if self.stays_at(ready) {
+        if !is_blank(chunk.text.as_slice()) && self.stays_at(chunk.ready) {
             return Item::Chunk;
         }
         Item::Later
@@ -81,6 +93,6 @@ impl<S: Source> Inlet for LegInlet<S> {
 
     fn next<R: Wait, G: Gate>(&mut self, _rt: &R, _gate: &G, chunk: &mut Chunk) -> Item {
         let step = self.leg.step(chunk);
-        self.item_of(step, chunk.ready)
+        self.item_of(step, chunk)
     }
 }

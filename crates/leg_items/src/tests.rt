@@ -21,6 +21,10 @@ const FIRST: [u8; 30] =
 const SECOND: [u8; 31] =
     *b"\0\x1F\0\x17\0\0\x01\x2C\x80\x64\0\x01\0\0\x01\x2C\0\0\x03\xE9\xE2\xFF\xFC\0\xE2\x04\xB0\x01\x62AB";
 
+// In place of the second: U+FEFF at 300 ms.
+const IDLE: [u8; 33] =
+    *b"\0\x21\0\x19\0\0\x01\x2C\x80\x64\0\x01\0\0\x01\x2C\0\0\x03\xE9\xE2\xFF\xFC\0\xE2\x04\xB0\x01\x62A\xEF\xBB\xBF";
+
 const SIXTH: [u8; 30] =
     *b"\0\x1E\0\x16\0\0\x05\xDC\x80\x64\0\x05\0\0\x05\xDC\0\0\x03\xE9\xE2\x09\x60\0\xE2\x04\xB0\0\x62C";
 
@@ -88,15 +92,15 @@ impl Mixes for Noting {
     }
 }
 
-// A leg over the first two of these records, or all.
-fn ann(alloc: Global, place: u8, last: &[u8]) -> Result<Leg<SteadySource>, NoMemory>
+// A leg over the first of these records, and two others or one.
+fn ann(alloc: Global, place: u8, second: &[u8], last: &[u8]) -> Result<Leg<SteadySource>, NoMemory>
     ensures open { IfOk result (λ leg. is_over leg ≡ Bool.false) }
     ensures place { IfOk result (λ leg. place_of leg ≡ place) }
 {
     let mut recording = Bytes::new(alloc);
     recording.append(&OPENING)?;
     recording.append(&FIRST)?;
-    recording.append(&SECOND)?;
+    recording.append(second)?;
     recording.append(last)?;
     let conf = EarConf {
         place,
@@ -121,8 +125,8 @@ fn legs_come_offer_and_go_at_their_moments(rt: HostRuntime) -> Result<(), Fail> 
         from: 200,
         until: Some(800),
     };
-    let talks = ann(alloc, 0, &SIXTH)?;
-    let visits = ann(alloc, 1, b"")?;
+    let talks = ann(alloc, 0, &SECOND, &SIXTH)?;
+    let visits = ann(alloc, 1, &SECOND, b"")?;
     let first = leg_port(talks, stays);
     let second = leg_port(visits, goes);
     let mut ports = [first, second];
@@ -145,6 +149,44 @@ fn legs_come_offer_and_go_at_their_moments(rt: HostRuntime) -> Result<(), Fail> 
         Called::Turn(600),
         Called::Hush(1),
         Called::Leave(1),
+        Called::Turn(900),
+        Called::Turn(1200),
+        Called::Turn(1500),
+        Called::Turn(1800),
+        Called::Turn(2100),
+        Called::Turn(2400),
+        Called::Offer(0, 2500),
+        Called::Offer(0, 2500),
+    ];
+    assert!(rt; mixer.calls.as_slice() == calls.as_slice());
+    Ok(())
+}
+
+// As where the second packet has no text.
+#[test]
+fn a_keep_alive_is_no_text(rt: HostRuntime) -> Result<(), Fail> {
+    let alloc = rt.alloc();
+    let stays = Stay {
+        from: 0,
+        until: None,
+    };
+    let talks = ann(alloc, 0, &IDLE, &SIXTH)?;
+    let port = leg_port(talks, stays);
+    let mut ports = [port];
+    let mut mixer = Noting {
+        calls: Vec::new(alloc),
+        legs: 1,
+        turns: 0,
+    };
+    let mut log = Log::new(alloc, 1)?;
+    let mixing = mix_plain(&rt, &StillGate, &mut ports, &mut mixer, 300, 20, &mut log);
+    assert!(rt; mixing == Mixing::Over);
+    let calls = [
+        Called::Admit(0, true),
+        Called::Offer(0, 0),
+        Called::Turn(0),
+        Called::Turn(300),
+        Called::Turn(600),
         Called::Turn(900),
         Called::Turn(1200),
         Called::Turn(1500),

@@ -111,7 +111,7 @@ module _ {S : Type 0} (tells : Type 0) (left : S → List ℕ) (faults : S → �
     within = λ leg fault e. absurd (cc e);
     sources = λ j p q at at'.
         let same : p ≡ q = one_there ps j p q at at' in
-        let kept : (r : Port (LegInlet S)) → SourceKept faults name mixing.NoMemory j (source_at r) (source_at r) = λ r. record { never_falls = omega arith; same_name = refl; read = λ fault e. absurd (cc e) } in
+        let kept : (r : Port (LegInlet S)) → SourceKept faults name mixing.NoMemory j (source_at r) (source_at r) = λ r. record { never_falls = omega arith; same_name = refl; read = λ fault e. absurd (cc e); calm = λ r. refl } in
         subst (λ (r : Port (LegInlet S)). SourceKept faults name mixing.NoMemory j (source_at p) (source_at r)) same (kept p);
     is = λ t asked chunks asks are. tt;
   }

@@ -4,12 +4,11 @@ ghost use Rattle.std.specs.Arc.{arc_value};
 ghost use Rattle.leg_queue.specs.Ends.{IsPopOf, IsPushOf, popped, pushed};
 
 use crate::lanes::Line;
-use leg_queue::{LegQueue, PopPass, PushPass};
+use leg_queue::{LegQueue, PopPass, PushPass, Sleepers};
 use rtt_base::NoMemory;
 use std::alloc::Global;
 use std::sync::Arc;
 use std::sync::atomic::AtomicBool;
-use std::thread::Parker;
 
 /// The queue of a leg that is about to run, for the mixer and for the leg's thread, with its two ends. Nothing was pushed.
 #[derive(Drop)]
@@ -32,7 +31,7 @@ impl Ends {
         let line = Line {
             queue,
             alone: AtomicBool::new(false),
-            room: Parker::new(),
+            sleepers: Sleepers::new(),
         };
         let Ok(ours) = Arc::new(alloc, line) else {
             return Err(NoMemory);

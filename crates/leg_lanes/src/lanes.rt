@@ -4,22 +4,22 @@ ghost use Rattle.std.proofs.Props.{props};
 ghost use Rattle.leg_queue.specs.Ends.{IsPopOf};
 ghost use Rattle.leg_lanes.specs.Runners.{IsRunnerOf, IsRunnerOf-prop};
 
-use leg_queue::{Feed, LegQueue, PopPass};
+use leg_queue::{Feed, LegQueue, PopPass, Sleepers};
 use rtt_io::Source;
 use std::alloc::Global;
 use std::mem::ManuallyDrop;
 use std::snapshot::Snapshot;
 use std::sync::Arc;
 use std::sync::atomic::AtomicBool;
-use std::thread::{Parker, Promise, PromisedHandle};
+use std::thread::{Promise, PromisedHandle};
 
-/// What a leg's thread and the mixer share: the leg's queue, a word by which the thread gives the leg back, and where it sleeps
-/// while its queue is full.
+/// What a leg's thread and the mixer share: the leg's queue, a word by which the thread gives the leg back, and where the one
+/// sleeps while it waits for the other.
 #[derive(Drop)]
 pub(crate) struct Line {
     pub(crate) queue: LegQueue,
     pub(crate) alone: AtomicBool,
-    pub(crate) room: Parker,
+    pub(crate) sleepers: Sleepers,
 }
 
 /// What a leg's thread promises of the feed that it gives back: its end is still one of the queue, and whatever leg the feed
@@ -55,6 +55,8 @@ pub struct Lane<S: Source> {
     pub(crate) pop: PopPass,
     /// How often an item was asked for, modulo 256.
     pub(crate) pops: u8,
+    /// How many times in a row nothing was there, at most 255.
+    pub(crate) misses: u8,
     pub(crate) runner: Runner<S>,
     ghost popped: { IsPopOf (arc_value line).queue pop },
     ghost runs: { IsRunnerOf (arc_value line).queue runner } by { IsRunnerOf-prop (arc_value line).queue runner (λ p. Prim.hlevel props) },

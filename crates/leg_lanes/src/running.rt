@@ -194,7 +194,8 @@ pub(crate) fn run_job<S: Source + Send, M: Mixes, R: Threads + Wait + Sync, G: G
     requires { CanRun M.legs M.turns tick turns job }
     ensures { RanAs M.stands S.tells S.left S.faults S.name tick turns job result }
 {
-    let lent = lend(job);
+    // Taken back first of all in `run_lent_in`, which the scope calls once.
+    let lent = unsafe { lend(job) };
     run_scope(rt, gate, stack, lent, tick, turns)
 }
 

@@ -35,7 +35,9 @@ fn run_lent<S: Source, R: Wait, G: Gate>(
     ensures follows { LentFollows S.tells S.left S.faults S.name lent result }
 {
     let feed = ManuallyDrop::into_inner(lent);
-    lend(run_feed(rt, feed, &line.queue, &line.alone, &line.room, gate))
+    let back = run_feed(rt, feed, &line.queue, &line.alone, &line.sleepers, gate);
+    // Taken back by `join_runner`, or by `start_feed` where no thread runs it; each leg that runs is joined.
+    unsafe { lend(back) }
 }
 
 /// Starts a leg on a thread of this stack, or has it back where the start is refused.
@@ -57,7 +59,8 @@ fn start_feed<'s, 'e, S: Source + Send + 's, R: Wait + Sync, G: Gate + Sync>(
         was: Snapshot::of(&feed),
         of: Snapshot::of(&ours.queue),
     };
-    let lent = lend(feed);
+    // Taken back first of all in `run_lent`: by the thread, or below where no thread starts.
+    let lent = unsafe { lend(feed) };
     match stack.spawn_scoped_with(
         scope,
         promise,
@@ -102,6 +105,7 @@ pub(crate) fn start_port<'s, 'e, S: Source + Send + 's, R: Wait + Sync, G: Gate 
             place,
             pop,
             pops: 0,
+            misses: 0,
             runner,
         },
         stay,
@@ -130,6 +134,7 @@ impl<S: Source> Lane<S> {
             place: _,
             pop,
             pops: _,
+            misses: _,
             runner,
         } = self;
         let feed = join_runner(runner, rt, &line.queue);

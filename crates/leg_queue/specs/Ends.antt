@@ -7,7 +7,7 @@ use Rattle.leg_queue.specs.declared.ends.PushPass.{PushPass}
 use Rattle.leg_queue.specs.declared.ends.PopPass.{PopPass}
 use Rattle.leg_queue.specs.declared.items.TheConstants.{PLACES}
 
--- at one moment the last of the items pushed filled the queue
+-- at least as many items were pushed as the queue has places; how many of them still wait is not said
 abbrev pub WasFull : List Queued → Type 0
 WasFull sent = (got : List Queued) × (items : List Queued) × (sent ≡ got ++ items) × (length items ≡ PLACES)
 

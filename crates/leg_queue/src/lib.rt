@@ -8,6 +8,7 @@ mod laws;
 mod queue;
 mod rule;
 mod running;
+mod sleeping;
 mod stepping;
 
 pub use ends::{LegQueue, PopPass, PushPass};
@@ -15,6 +16,7 @@ pub use feeds::Feed;
 pub use items::{PLACES, Queued};
 pub use laws::done_is_all;
 pub use running::run_feed;
+pub use sleeping::Sleepers;
 
 #[cfg(test)]
 mod tests;

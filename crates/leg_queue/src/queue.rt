@@ -54,7 +54,7 @@ impl LegQueue {
     }
 
     /// Adds what a leg answered at the back, with the text that was handed out beside it; `Later` adds nothing. `Full` only
-    /// where the queue was full at one moment of the call.
+    /// where at least 64 items were pushed; that they still wait then is tested.
     pub fn push<R: Wait>(
         &self,
         rt: &R,
@@ -134,7 +134,7 @@ impl LegQueue {
     }
 
     /// Takes the item at the front, and puts its text in place of what is in `chunk`, as one of the leg with this number.
-    /// `Later` only where the queue was empty at one moment of the call.
+    /// `Later` takes nothing; that it comes only where the queue is empty is tested.
     pub fn pop<R: Wait>(&self, rt: &R, pass: &mut PopPass, place: u8, chunk: &mut Chunk) -> Item
         requires { IsPopOf self.now pass.old }
         ensures queue { IsPopOf self.now pass.new }

@@ -89,7 +89,7 @@ impl<S: Source> Feed<S> {
         }
     }
 
-    // Makes one step of the leg. A text within its stay, its end or its fault comes into the empty hand.
+    // Makes one step of the leg. A text that counts, its end or its fault comes into the empty hand.
     fn take_in<R: Wait, G: Gate>(&mut self, rt: &R, gate: &G)
         requires leg { is_over self.old.inlet.leg ≡ false }
         ensures pass { self.new.pass ≡ self.old.pass }
@@ -118,9 +118,9 @@ impl<S: Source> Feed<S> {
         }
     }
 
-    /// Where nothing is in hand, makes one step of the leg, and has in hand what counts of it: a text within its stay, the end
-    /// or a fault; where nothing of it counts the leg got on. Then pushes what is in hand, or keeps it where the queue is full.
-    /// The answer is whether the last item was pushed.
+    /// Where nothing is in hand, makes one step of the leg, and has in hand what counts of it: a text, the end or a fault; where
+    /// nothing of it counts the leg got on. Then pushes what is in hand, or keeps it where the queue is full, which is only
+    /// where at least 64 items were pushed. The answer is whether the last item was pushed.
     pub fn step<R: Wait, G: Gate>(&mut self, rt: &R, queue: &LegQueue, gate: &G) -> bool
         requires pass { IsPushOf queue.now self.old.pass }
         requires going { is_done self.old ≡ false }

@@ -2,7 +2,7 @@ ghost use Rattle.std.specs.Prelude.{◌≡◌, Bool, IfOk};
 ghost use Rattle.leg_core.specs.Gives.{is_over, place_of};
 ghost use Rattle.leg_queue.specs.Ends.{IsPopOf, IsPushOf};
 
-use crate::{Feed, LegQueue, PopPass, PushPass, run_feed};
+use crate::{Feed, LegQueue, PopPass, PushPass, Sleepers, run_feed};
 use ear::EarConf;
 use file_spec::Stay;
 use leg_core::Leg;
@@ -14,7 +14,6 @@ use std::alloc::Global;
 use std::sync::Wait;
 use std::sync::atomic::AtomicBool;
 use std::test::Fail;
-use std::thread::Parker;
 use wire_spec::DumpKind;
 
 // Whether a text x of leg 5 is taken, ready at this moment.
@@ -135,7 +134,7 @@ fn pushes_its_part<R: Wait>(
     };
     let feed = Feed::new(leg, stay, 5, push);
     let alone = AtomicBool::new(false);
-    let feed = run_feed(rt, feed, &queue, &alone, &Parker::new(), &StillGate);
+    let feed = run_feed(rt, feed, &queue, &alone, &Sleepers::new(), &StillGate);
     let is_done = feed.done();
     let has_text = pops_text(rt, &queue, &mut pop, 300, b"B");
     let mut chunk = Chunk::default();

@@ -1,7 +1,7 @@
 use Rattle.std.proofs.Common.{subst, sym}
 use Rattle.leg_queue.specs.declared.feeds.Feed.{Feed}
 use Rattle.leg_queue.specs.Feeds.{FeedStands}
-use Rattle.leg_queue.proofs.running.run_feed.Goals.{in-None, in-Some+then-done, in-Some+else-done+else-load+then-step}
+use Rattle.leg_queue.proofs.running.run_feed.Goals.{in-None, in-Some+then-done, in-Some+else-done+else-load+then-step_and_tell}
 use Rattle.leg_queue.proofs.running.run_feed.Goals as goal
 
 pub returns-clause-follows : goal.returns-clause-follows
@@ -11,5 +11,5 @@ returns-clause-follows g c = λ first s.
     elim c.match-next.branch [
       | in-None w ↦ subst Has (sym w.feed-is) before
       | in-Some+then-done w ↦ subst Has (sym w.feed-is) before
-      | in-Some+else-done+else-load+then-step w ↦ subst Has (sym w.feed-is) (w.step.ensures.follows first before)
+      | in-Some+else-done+else-load+then-step_and_tell w ↦ subst Has (sym w.feed-is) (w.step_and_tell.ensures.follows first before)
     ]
