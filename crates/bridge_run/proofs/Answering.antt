@@ -24,13 +24,13 @@ use Rattle.mix_loop.specs.declared.turns.Mixing.TheVariants as mixing
 use Rattle.mix_loop.specs.Logs.{LogOf, out_at}
 use Rattle.mix_loop.specs.declared.ports.Port.{Port}
 use Rattle.leg_items.specs.declared.inlets.LegInlet.{LegInlet}
-use Rattle.leg_items.specs.Answers.{AllAsked, AllWhole, AreChunks, AreOfConf, IsAnswer, PlainMixed, SourceKept, source_at}
+use Rattle.leg_items.specs.Answers.{AllAsked, AllWhole, AreChunks, AreOfConf, IsAnswer, IsReadWell, PlainMixed, SourceKept, source_at}
 use Rattle.leg_items.proofs.OfConfs.{asked_law}
 use Rattle.mixer_turn.specs.Making.{pts_at, pts_of}
 use Rattle.bridge_run.specs.declared.mixed.MixFault.{MixFault}
 use Rattle.bridge_run.specs.declared.mixed.MixFault.TheVariants.{Dump, NoMemory}
 use Rattle.bridge_run.specs.declared.mixed.Mixed.{Mixed}
-use Rattle.bridge_run.specs.Answered.{AreKept, IsKept, MixesTo, asked_of}
+use Rattle.bridge_run.specs.Answered.{AreKept, IsKept, MixesTo, WasReadWell, asked_of}
 use Rattle.bridge_run.specs.Mixes.{counted, outputs_of}
 
 -- ---- the recordings
@@ -141,11 +141,13 @@ source_read Read e = refl
 
 module _ {S : Type 0} where
   pub kept : (faults : S → ℕ) (name : S → List ℕ) (answer : Mixing) (result : Result Mixed MixFault) (j : ℕ) (old new : S)
-      → ((fault : DumpFault) → result ≡ Err (Dump j fault) → answer ≡ mixing.Faulted j fault) → SourceKept faults name answer j old new → IsKept faults name result j old new
-  kept faults name answer result j old new same k = record {
+      → ((fault : DumpFault) → result ≡ Err (Dump j fault) → answer ≡ mixing.Faulted j fault) → (WasReadWell result j → IsReadWell answer j)
+      → SourceKept faults name answer j old new → IsKept faults name result j old new
+  kept faults name answer result j old new same well k = record {
     never_falls = k.never_falls;
     same_name = k.same_name;
     read = λ fault is source. k.read fault (same fault is) (source_read fault.kind source);
+    calm = λ w. k.calm (well w);
   }
 
   -- The answer of plain mixing as that of the conference.
@@ -160,8 +162,9 @@ module _ {S : Type 0} where
         (subst (λ a. IsAnswer a (setup c) tick turns (asked_of c inputs) (leg_chunks c (input_at inputs)) x.table) is
         (x.is t (asked_of c inputs) (leg_chunks c (input_at inputs)) asks (are_chunks c inputs))))
 
-    pub all_kept : (result : Result Mixed MixFault) → ((j : ℕ) (fault : DumpFault) → result ≡ Err (Dump j fault) → answer ≡ mixing.Faulted j fault) → AreKept faults name result old new
-    all_kept result same = λ j p q a b. kept faults name answer result j (source_at p) (source_at q) (same j) (x.sources j p q a b)
+    pub all_kept : (result : Result Mixed MixFault) → ((j : ℕ) (fault : DumpFault) → result ≡ Err (Dump j fault) → answer ≡ mixing.Faulted j fault) → ((j : ℕ) → WasReadWell result j → IsReadWell answer j)
+        → AreKept faults name result old new
+    all_kept result same well = λ j p q a b. kept faults name answer result j (source_at p) (source_at q) (same j) (well j) (x.sources j p q a b)
 
 pub no_dump : (result : Result Mixed MixFault) (leg : ℕ) (fault : DumpFault) → IfErr result (λ fault. fault ≡ NoMemory) → result ≡ Err (Dump leg fault) → ⊥
 no_dump (Ok mixed) leg fault none e = cc e

@@ -12,17 +12,18 @@ use Rattle.command_spec.specs.Work.{Contents}
 use Rattle.command_spec.specs.Mixing.{input_at}
 use Rattle.leg_core.specs.Gives.{Stands, LegPast, begins}
 use Rattle.mix_loop.specs.declared.ports.Port.{Port}
+use Rattle.mix_loop.proofs.Lists.{get_within, lt_or_ge}
 use Rattle.leg_items.specs.declared.inlets.LegInlet.{LegInlet}
-use Rattle.leg_items.specs.Answers.{AllAsked, AllStayAs, AreNew, IsStayOf, source_at}
+use Rattle.leg_items.specs.Answers.{AllAsked, AllStayAs, AreNew, IsStayOf, read_well, source_at}
 use Rattle.leg_items.proofs.OfConfs.{stays_law}
 use Rattle.leg_items.proofs.Ports.{new_leg}
 use Rattle.mixer_turn.specs.Making.{pts_of}
 use Rattle.bridge_run.specs.declared.mixed.MixFault.{MixFault}
 use Rattle.bridge_run.specs.declared.mixed.MixFault.TheVariants.{Open, Dump, TooLong, NoMemory}
 use Rattle.bridge_run.specs.declared.mixed.Mixed.{Mixed}
-use Rattle.bridge_run.specs.Answered.{AreKept, IsOfLegs, MixesAsked, MixesTo, NoReadFailed, asked_of, broken_leg}
-use Rattle.bridge_run.specs.Mixes.{AllLie, IsMade, RoseAt, Stops, inputs_under, octets_under}
-use Rattle.bridge_run.specs.Opened.{AllOpened, AllOver, ear_of}
+use Rattle.bridge_run.specs.Answered.{AreKept, IsOfLegs, MixesAsked, MixesTo, NoReadFailed, WasReadWell, asked_of}
+use Rattle.bridge_run.specs.Mixes.{AllLie, IsMade, NoneFailed, RoseAt, Stops, inputs_under, octets_under}
+use Rattle.bridge_run.specs.Opened.{AllOpened, AllOver, AreCalm, EachSource, IsNotOpened, LeavesCount, ear_of}
 
 -- ---- lists
 found : {X : Type 0} (xs : List X) (k : ℕ) → k < length xs → (x : X) × (slice_get xs k ≡ Some x)
@@ -106,58 +107,73 @@ module _ {S : Type 0} (Told : Type 0) (left : S → List ℕ) (faults : S → �
         go (Ok mixed) m = record { lie = all_lie told; makes = m.makes; sums = m.sums }
         go (Err f) m = tt
 
-    -- where no leg's recording is at fault
-    pub stops_unbroken : (Call Object : List ℕ → Type 0) → IsOfLegs (length c.legs) result → broken_leg result ≡ None → IfErr result (Stops Told Call Object held c)
-    stops_unbroken Call Object = go result answered
-      where
-        go : (r : Result Mixed MixFault) → (Told → MixesTo c (inputs_under held c.legs) r) → IsOfLegs (length c.legs) r → broken_leg r ≡ None → IfErr r (Stops Told Call Object held c)
-        go (Ok mixed) m of none = tt
-        go (Err (Open leg)) m of none = absurd of
-        go (Err (Dump leg fault)) m of none = absurd (cc none)
-        go (Err TooLong) m of none = λ told. (all_lie told, m told)
-        go (Err NoMemory) m of none = tt
+    -- ---- by the ports as they came back, the counts before and those after they were handed back
+    module _ (objects objects_then : List ℕ → ℕ) (after : List (Port (LegInlet S))) (same : length after ≡ length ports) where
+      pub stops : (Call : List ℕ → Type 0) → AreKept faults name result ports after → IsOfLegs (length c.legs) result
+          → EachSource (λ s. Rose 0 (faults s) → Rose (objects (name s)) (objects_then (name s))) after
+          → IfErr result (Stops Told Call (RoseAt objects objects_then) held c)
+      stops Call kept of rose = go result answered kept of
+        where
+          go : (r : Result Mixed MixFault) → (Told → MixesTo c (inputs_under held c.legs) r) → AreKept faults name r ports after → IsOfLegs (length c.legs) r → IfErr r (Stops Told Call (RoseAt objects objects_then) held c)
+          go (Ok mixed) m kept of = tt
+          go (Err (Open leg)) m kept of = absurd of
+          go (Err TooLong) m kept of = λ told. (all_lie told, m told)
+          go (Err NoMemory) m kept of = tt
+          go (Err (Dump leg fault)) m kept of =
+              let p = found ports leg (omega (arith, of, many)) in
+              let q = found after leg (omega (arith, of, many, same)) in
+              let o = opened leg p.0 p.1 in
+              let kept_here = kept leg p.0 q.0 p.1 q.1 in
+              let named : name (source_at q.0) ≡ o.0.input = kept_here.same_name ∙ o.2.named in (
+                o.0,
+                o.1,
+                record {
+                  lie = all_lie;
+                  read = λ source.
+                      subst (λ n. Rose (objects n) (objects_then n)) named
+                      (rose leg q.0 q.1 (subst (λ n. Rose n (faults (source_at q.0))) o.2.fresh (kept_here.read fault refl source)));
+                  lowest = λ told. (m told).0;
+                  refused = λ none told. (m told).1 none;
+                },
+              )
 
-    -- where that of this leg is
-    pub stops_broken : (Call : List ℕ → Type 0) (objects objects_then : List ℕ → ℕ) (k : ℕ) (after : List (Port (LegInlet S))) → length after ≡ length ports
-        → AreKept faults name result ports after → IsOfLegs (length c.legs) result → broken_leg result ≡ Some k
-        → ((q : Port (LegInlet S)) → slice_get after k ≡ Some q → Rose 0 (faults (source_at q)) → Rose (objects (name (source_at q))) (objects_then (name (source_at q))))
-        → IfErr result (Stops Told Call (RoseAt objects objects_then) held c)
-    stops_broken Call objects objects_then k after same = go result answered
-      where
-        go : (r : Result Mixed MixFault) → (Told → MixesTo c (inputs_under held c.legs) r) → AreKept faults name r ports after → IsOfLegs (length c.legs) r → broken_leg r ≡ Some k
-            → ((q : Port (LegInlet S)) → slice_get after k ≡ Some q → Rose 0 (faults (source_at q)) → Rose (objects (name (source_at q))) (objects_then (name (source_at q))))
-            → IfErr r (Stops Told Call (RoseAt objects objects_then) held c)
-        go (Ok mixed) m kept of some rose = tt
-        go (Err (Open leg)) m kept of some rose = absurd of
-        go (Err TooLong) m kept of some rose = absurd (cc some)
-        go (Err NoMemory) m kept of some rose = absurd (cc some)
-        go (Err (Dump leg fault)) m kept of some rose =
-            let is_k : leg ≡ k = cc some in
-            let p = found ports leg (omega (arith, of, many)) in
-            let q = found after leg (omega (arith, of, many, same)) in
-            let o = opened leg p.0 p.1 in
-            let kept_here = kept leg p.0 q.0 p.1 q.1 in
-            let named : name (source_at q.0) ≡ o.0.input = kept_here.same_name ∙ o.2.named in (
-              o.0,
-              o.1,
-              record {
-                lie = all_lie;
-                read = λ source.
-                    subst (λ n. Rose (objects n) (objects_then n)) named
-                    (rose q.0 (subst (λ i. slice_get after i ≡ Some q.0) is_k q.1)
-                    (subst (λ n. Rose n (faults (source_at q.0))) o.2.fresh (kept_here.read fault refl source)));
-                lowest = λ told. (m told).0;
-                refused = λ none told. (m told).1 none;
-              },
-            )
+      pub none_failed : (contents_then : Contents) → AreKept faults name result ports after → IsOfLegs (length c.legs) result → (Told → (n : List ℕ) → contents_then n ≡ held n)
+          → (AreCalm faults after → (n : List ℕ) → objects_then n ≡ objects n) → (Told → (n : List ℕ) → EachSource (LeavesCount faults name contents_then n) after → objects_then n ≡ objects n)
+          → NoneFailed Told c.legs objects objects_then result
+      none_failed contents_then kept of lie calm left = go result kept of
+        where
+          -- the leg of a port that came back
+          leg_of : (j : ℕ) (q : Port (LegInlet S)) → slice_get after j ≡ Some q → (p : Port (LegInlet S)) × (slice_get ports j ≡ Some p)
+          leg_of j q at = let low = get_within after j q at in found ports j (omega (arith, low, same))
 
--- ---- what was lent
-pub within_legs : (n : ℕ) (result : Result Mixed MixFault) (k : ℕ) → IsOfLegs n result → broken_leg result ≡ Some k → k < n
-within_legs n (Ok mixed) k of some = absurd (cc some)
-within_legs n (Err (Open leg)) k of some = absurd of
-within_legs n (Err (Dump leg fault)) k of some = let same : leg ≡ k = cc some in subst (λ i. i < n) same of
-within_legs n (Err TooLong) k of some = absurd (cc some)
-within_legs n (Err NoMemory) k of some = absurd (cc some)
+          all_calm : (r : Result Mixed MixFault) → AreKept faults name r ports after → ((j : ℕ) → WasReadWell r j) → AreCalm faults after
+          all_calm r kept well = λ j q at. (let p = leg_of j q at in (kept j p.0 q p.1 at).calm (well j) ∙ (opened j p.0 p.1).2.fresh)
+
+          go : (r : Result Mixed MixFault) → AreKept faults name r ports after → IsOfLegs (length c.legs) r → NoneFailed Told c.legs objects objects_then r
+          go (Ok mixed) kept of = calm (all_calm (Ok mixed) kept (λ j. tt))
+          go (Err (Open leg)) kept of = absurd of
+          go (Err TooLong) kept of = calm (all_calm (Err TooLong) kept (λ j. tt))
+          go (Err NoMemory) kept of = tt
+          go (Err (Dump leg fault)) kept of = λ told n none. left told n (λ j q at.
+              let p = leg_of j q at in
+              let o = opened j p.0 p.1 in
+              let kept_here = kept j p.0 q p.1 at in
+              let named : name (source_at q) ≡ o.0.input = kept_here.same_name ∙ o.2.named in
+              elim (lt_or_ge j (read_well leg fault)) [
+                | inl low ↦ inl (kept_here.calm low ∙ o.2.fresh)
+                | inr high ↦ inr (
+                  λ e. none j o.0 high o.1 (sym (e ∙ named)),
+                  subst (λ (x : Option (List ℕ)). IsSome x) (sym (lie told (name (source_at q)) ∙ ap held named)) (let low = get_within ports j p.0 p.1 in all_lie told j o.0 (omega (arith, low, many)) o.1),
+                )
+              ])
+
+-- nothing was read, since not all inputs were opened
+pub none_failed_yet : (Told : Type 0) (contents : List ℕ → Option (List ℕ)) (before after objects objects_then : List ℕ → ℕ) (legs legs' : List LegLine) (fault : MixFault) → IsNotOpened Told contents before after legs fault
+    → ((n : List ℕ) → objects_then n ≡ objects n) → NoneFailed Told legs' objects objects_then (Err fault)
+none_failed_yet Told contents before after objects objects_then legs legs' (Open k) r same = same
+none_failed_yet Told contents before after objects objects_then legs legs' (Dump k fault) r same = absurd r
+none_failed_yet Told contents before after objects objects_then legs legs' TooLong r same = absurd r
+none_failed_yet Told contents before after objects objects_then legs legs' NoMemory r same = tt
 
 -- ---- sources that never fail
 never_rose : (old new : ℕ) → old ≡ 0 → new ≡ 0 → Rose old new → ⊥

@@ -1,5 +1,5 @@
 -- The inputs of legs, opened one by one and handed back.
-use Rattle.std.proofs.Common.{◌≡◌, ℕ, zero, suc, ◌+◌, ◌<◌, ◌≤◌, ◌⊎◌, inl, inr, Option, Some, List, [], ◌∷◌, ◌++◌, length, refl, ap, subst, sym, ◌∙◌, arith}
+use Rattle.std.proofs.Common.{◌≡◌, ◌≢◌, ℕ, zero, suc, ◌+◌, ◌<◌, ◌≤◌, ◌⊎◌, inl, inr, Option, Some, List, [], ◌∷◌, ◌++◌, length, refl, ap, subst, sym, ◌∙◌, arith}
 use Rattle.std.specs.Prelude.{IsSome, slice_get}
 use Rattle.std.proofs.lemmas.Bool.{cases_lt}
 use Rattle.file_spec.specs.declared.conf_lines.LegLine.{LegLine}
@@ -10,22 +10,17 @@ use Rattle.bridge_run.specs.declared.mixed.MixFault.{MixFault}
 use Rattle.bridge_run.specs.declared.mixed.MixFault.TheVariants.{Open, Dump, TooLong, NoMemory}
 use Rattle.mixer_spec.specs.Setups.{leg_at}
 use Rattle.command_spec.specs.Mixing.{input_at}
-use Rattle.leg_items.specs.Answers.{source_at}
-use Rattle.bridge_run.specs.Opened.{AllOpened, AllOver, AreCalm, IsNotOpened, IsOpened, IsOver, IsRefused}
-
-module _ {S : Type 0} where
-  pub calm_parts : (faults : S → ℕ) (xs ys : List (Port (LegInlet S))) → AreCalm faults (xs ++ ys) → AreCalm faults xs × AreCalm faults ys
-  calm_parts faults [] ys h = (tt, h)
-  calm_parts faults (x ∷ xs) ys h = let r = calm_parts faults xs ys h.1 in ((h.0, r.0), r.1)
-
-  pub calm_more : (faults : S → ℕ) (xs : List (Port (LegInlet S))) (p : Port (LegInlet S)) → AreCalm faults xs → faults (source_at p) ≡ 0 → AreCalm faults (xs ++ p ∷ [])
-  calm_more faults [] p h e = (e, tt)
-  calm_more faults (x ∷ xs) p h e = (h.0, calm_more faults xs p h.1 e)
+use Rattle.bridge_run.specs.Opened.{AllOpened, AllOver, IsNotOpened, IsOpened, IsOver, IsRefused, LeavesCount}
 
 -- a count of faults that rose, behind others
 pub rose_behind : (before between after faults : ℕ) → before ≤ between → after ≡ counted between faults → Rose 0 faults → Rose before after
 rose_behind before between after faults l e (inl r) = elim (cases_lt (between + faults) last_count) [ inl lt ↦ inl (omega arith) | inr ge ↦ inr (omega arith) ]
 rose_behind before between after faults l e (inr r) = inr (omega arith)
+
+-- and one that rose stays risen
+pub rose_on : (before after later : ℕ) → before ≤ after → after ≤ later → Rose before after → Rose before later
+rose_on before after later l m (inl r) = inl (omega arith)
+rose_on before after later l m (inr r) = elim (cases_lt last_count later) [ inl lt ↦ inl (omega arith) | inr ge ↦ inr (omega arith) ]
 
 -- ---- elements by number
 pub is_there : {X : Type 0} (xs : List X) (i : ℕ) → i < length xs → (x : X) × (slice_get xs i ≡ Some x)
@@ -38,6 +33,30 @@ pushed [] y zero x e = inr (refl, cc e)
 pushed [] y (suc k) x e = absurd (cc e)
 pushed (z ∷ xs) y zero x e = inl e
 pushed (z ∷ xs) y (suc k) x e = elim (pushed xs y k x e) [ inl g ↦ inl g | inr p ↦ inr (ap suc p.0, p.1) ]
+
+get_front : {X : Type 0} (xs : List X) (y : X) (j : ℕ) (x : X) → slice_get xs j ≡ Some x → slice_get (xs ++ y ∷ []) j ≡ Some x
+get_front [] y j x e = absurd (cc e)
+get_front (z ∷ xs) y zero x e = e
+get_front (z ∷ xs) y (suc j) x e = get_front xs y j x e
+
+get_last : {X : Type 0} (xs : List X) (y : X) → slice_get (xs ++ y ∷ []) (length xs) ≡ Some y
+get_last [] y = refl
+get_last (z ∷ xs) y = get_last xs y
+
+-- one was taken from the back of a front of all
+module _ {X : Type 0} (all now xs : List X) (x : X) (is : now ≡ xs ++ x ∷ []) (front : (j : ℕ) (p : X) → slice_get now j ≡ Some p → slice_get all j ≡ Some p) where
+  pub front_still : (j : ℕ) (p : X) → slice_get xs j ≡ Some p → slice_get all j ≡ Some p
+  front_still j p e = front j p (subst (λ (l : List X). slice_get l j ≡ Some p) (sym is) (get_front xs x j p e))
+
+  pub last_of_all : slice_get all (length xs) ≡ Some x
+  last_of_all = front (length xs) x (subst (λ (l : List X). slice_get l (length xs) ≡ Some x) (sym is) (get_last xs x))
+
+-- a source that leaves the count of this name was handed back
+pub left_by : {S : Type 0} (faults : S → ℕ) (name_of : S → List ℕ) (contents contents_now : List ℕ → Option (List ℕ)) (before after : List ℕ → ℕ) (s : S) (n : List ℕ)
+    → ((m : List ℕ) → contents_now m ≡ contents m) → (faults s ≡ 0 → (m : List ℕ) → after m ≡ before m) → (IsSome (contents_now (name_of s)) → (m : List ℕ) → m ≢ name_of s → after m ≡ before m)
+    → LeavesCount faults name_of contents n s → after n ≡ before n
+left_by faults name_of contents contents_now before after s n same calm other (inl z) = calm z n
+left_by faults name_of contents contents_now before after s n same calm other (inr r) = other (subst (λ (o : Option (List ℕ)). IsSome o) (sym (same (name_of s))) r.1) n r.0
 
 module _ {S : Type 0} where
   -- what lies under a name is what lay there before

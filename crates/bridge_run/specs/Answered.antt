@@ -1,5 +1,5 @@
 -- What mixing recordings answers, by their octets (profile).
-use Rattle.std.specs.Prelude.{◌≡◌, ℕ, ◌+◌, ◌<◌, ◌≤◌, false, true, Option, None, Some, List, Result, Ok, Err, length, slice_get}
+use Rattle.std.specs.Prelude.{◌≡◌, ℕ, ◌+◌, ◌<◌, ◌≤◌, false, true, Some, List, Result, Ok, Err, length, slice_get}
 use Rattle.rtt_io.specs.Counts.{Rose}
 use Rattle.rtpdump_io.specs.declared.items.DumpFault.{DumpFault}
 use Rattle.rtpdump_io.specs.Reading.{is_of_source}
@@ -13,7 +13,7 @@ use Rattle.command_spec.specs.Sums.{sums_mixed}
 use Rattle.mix_loop.specs.declared.ports.Port.{Port}
 use Rattle.leg_items.specs.declared.inlets.LegInlet.{LegInlet}
 use Rattle.leg_items.specs.Feds.{Asked}
-use Rattle.leg_items.specs.Answers.{AllAsked, source_at}
+use Rattle.leg_items.specs.Answers.{AllAsked, read_well, source_at}
 use Rattle.mixer_turn.specs.Making.{pts_at}
 use Rattle.bridge_run.specs.declared.mixed.MixFault.{MixFault}
 use Rattle.bridge_run.specs.declared.mixed.MixFault.TheVariants.{Open, Dump, TooLong, NoMemory}
@@ -50,13 +50,13 @@ IsOfLegs n (Err (Dump leg fault)) = leg < n
 IsOfLegs n (Err TooLong) = Unit {0}
 IsOfLegs n (Err NoMemory) = Unit {0}
 
--- the leg of that fault
-abbrev pub broken_leg : Result Mixed MixFault → Option ℕ
-broken_leg (Ok mixed) = None
-broken_leg (Err (Open leg)) = None
-broken_leg (Err (Dump leg fault)) = Some leg
-broken_leg (Err TooLong) = None
-broken_leg (Err NoMemory) = None
+-- by this result no reading for the leg j failed
+abbrev pub WasReadWell : Result Mixed MixFault → ℕ → Type 0
+WasReadWell (Ok mixed) j = Unit {0}
+WasReadWell (Err (Open leg)) j = ⊥
+WasReadWell (Err (Dump leg fault)) j = j < read_well leg fault
+WasReadWell (Err TooLong) j = Unit {0}
+WasReadWell (Err NoMemory) j = ⊥
 
 -- it has so many outputs
 abbrev pub HasOutputs : ℕ → Mixed → Type 0
@@ -72,11 +72,13 @@ module _ {S : Type 0} where
   MixesAsked left c ports result =
       (inputs : List (List ℕ)) → length inputs ≡ length c.legs → AllAsked left (asked_of c inputs) ports → MixesTo c inputs result
 
-  -- The source of the leg j is still the one that it was. Where its reading failed, its count rose.
+  -- The source of the leg j is still the one that it was. Where its reading failed, its count rose; where none did, it is the old
+  -- one.
   pub record IsKept (faults : S → ℕ) (name : S → List ℕ) (result : Result Mixed MixFault) (j : ℕ) (old new : S) : Type 0 where
     pub never_falls : faults old ≤ faults new
     pub same_name : name new ≡ name old
     pub read : (fault : DumpFault) → result ≡ Err (Dump j fault) → is_of_source fault.kind ≡ true → Rose (faults old) (faults new)
+    pub calm : WasReadWell result j → faults new ≡ faults old
 
   -- and so is that of each leg
   abbrev pub AreKept : (S → ℕ) → (S → List ℕ) → Result Mixed MixFault → List (Port (LegInlet S)) → List (Port (LegInlet S)) → Type 0

@@ -1,5 +1,5 @@
 -- What mixing a conference comes to, from what lies under the names of its inputs. Legs are counted from 0.
-use Rattle.std.specs.Prelude.{◌≡◌, ℕ, ◌+◌, ◌<◌, false, true, None, Some, IsSome, unwrap_or, List, [], ◌∷◌, length, map}
+use Rattle.std.specs.Prelude.{◌≡◌, ℕ, ◌+◌, ◌<◌, ◌≤◌, false, true, None, Some, IsSome, unwrap_or, Result, Ok, Err, List, [], ◌∷◌, length, map}
 use Rattle.wire_spec.specs.Dump.{dump}
 use Rattle.rtt_io.specs.Counts.{Rose}
 use Rattle.rtpdump_io.specs.declared.items.DumpFault.{DumpFault}
@@ -12,6 +12,7 @@ use Rattle.command_spec.specs.declared.faults.Refusal.TheVariants.{AtByte, After
 use Rattle.command_spec.specs.Work.{Contents, Made, Steps, Refuses, Makes}
 use Rattle.command_spec.specs.Mixing.{input_at, mixes}
 use Rattle.command_spec.specs.Sums.{Sums, sums_mixed}
+use Rattle.leg_items.specs.Answers.{read_well}
 use Rattle.bridge_run.specs.declared.mixed.MixFault.{MixFault}
 use Rattle.bridge_run.specs.declared.mixed.MixFault.TheVariants.{Open, Dump, TooLong, NoMemory}
 use Rattle.bridge_run.specs.declared.mixed.Mixed.{Mixed}
@@ -79,7 +80,33 @@ Stops Told Call Object held c NoMemory = Unit {0}
 abbrev pub RoseAt : (List ℕ → ℕ) → (List ℕ → ℕ) → List ℕ → Type 0
 RoseAt old new name = Rose (old name) (new name)
 
+-- no leg with the number n or a greater one has this input
+abbrev pub NoneReads : ℕ → List LegLine → List ℕ → Type 0
+NoneReads n legs name = (k : ℕ) (leg : LegLine) → n ≤ k → leg_at legs k ≡ Some leg → leg.input ≡ name → ⊥
+
+-- No reading for one of the first n legs failed: each name that no other leg reads has its old count.
+abbrev pub NoneFailedBelow : ℕ → List LegLine → (List ℕ → ℕ) → (List ℕ → ℕ) → Type 0
+NoneFailedBelow n legs old new = (name : List ℕ) → NoneReads n legs name → new name ≡ old name
+
+-- no reading failed: each name has its old count
+abbrev pub NoneFailedAtAll : (List ℕ → ℕ) → (List ℕ → ℕ) → Type 0
+NoneFailedAtAll old new = (name : List ℕ) → new name ≡ old name
+
+-- Which readings did not fail: none did where all is made, where an input can't be opened, and where the turns are too few. Where a
+-- leg has a fault, none for a lower leg did, nor for that leg where its recording is refused, as far as counts are told of each
+-- name. With no memory that is free.
+abbrev pub NoneFailed : Type 0 → List LegLine → (List ℕ → ℕ) → (List ℕ → ℕ) → Result Mixed MixFault → Type 0
+NoneFailed Told legs old new (Ok mixed) = NoneFailedAtAll old new
+NoneFailed Told legs old new (Err (Open number)) = NoneFailedAtAll old new
+NoneFailed Told legs old new (Err (Dump number fault)) = Told → NoneFailedBelow (read_well number fault) legs old new
+NoneFailed Told legs old new (Err TooLong) = NoneFailedAtAll old new
+NoneFailed Told legs old new (Err NoMemory) = Unit {0}
+
 module _ {W : Type 0} where
+  -- the same by the counts of a world, before and after
+  abbrev pub NoneFailedIn : Type 0 → (W → List ℕ → ℕ) → W → W → Conf → Result Mixed MixFault → Type 0
+  NoneFailedIn Told objects old new c result = NoneFailed Told c.legs (objects old) (objects new) result
+
   -- why nothing is made, by what lay in a world before, and by the counts that rose in it
   abbrev pub StopsIn : Type 0 → (W → Contents) → (W → List ℕ → ℕ) → (W → List ℕ → ℕ) → W → W → Conf → MixFault → Type 0
   StopsIn Told contents own objects old new c = Stops Told (RoseAt (own old) (own new)) (RoseAt (objects old) (objects new)) (contents old) c

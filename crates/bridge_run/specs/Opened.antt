@@ -1,5 +1,5 @@
 -- The inputs of a conference's legs, opened, of which nothing was read.
-use Rattle.std.specs.Prelude.{◌≡◌, ℕ, Option, Some, List, [], ◌∷◌, slice_get}
+use Rattle.std.specs.Prelude.{◌≡◌, ◌≢◌, ◌⊎◌, ℕ, IsSome, Option, Some, List, slice_get}
 use Rattle.std.specs.Global.{Vec}
 use Rattle.file_spec.specs.declared.conf_lines.LegLine.{LegLine}
 use Rattle.rtt_io.specs.Counts.{Rose}
@@ -22,10 +22,18 @@ abbrev pub ear_of : ℕ → ℕ → LegLine → EarConf
 ear_of wait j leg = record { place = j; ssrc = leg.ssrc; pts = leg.pts; wait = wait }
 
 module _ {S : Type 0} where
+  -- this holds of each of these sources
+  abbrev pub EachSource : (S → Type 0) → List (Port (LegInlet S)) → Type 0
+  EachSource holds ps = (j : ℕ) (p : Port (LegInlet S)) → slice_get ps j ≡ Some p → holds (source_at p)
+
   -- no reading of these failed
   abbrev pub AreCalm : (S → ℕ) → List (Port (LegInlet S)) → Type 0
-  AreCalm faults [] = Unit {0}
-  AreCalm faults (p ∷ ps) = (faults (source_at p) ≡ 0) × AreCalm faults ps
+  AreCalm faults ps = EachSource (λ s. faults s ≡ 0) ps
+
+  -- where this source is handed back, the count of this name is left: no reading of it failed, or something lies under its own name,
+  -- which is another
+  abbrev pub LeavesCount : (S → ℕ) → (S → List ℕ) → (List ℕ → Option (List ℕ)) → List ℕ → S → Type 0
+  LeavesCount faults name_of contents name s = (faults s ≡ 0) ⊎ ((name ≢ name_of s) × IsSome (contents (name_of s)))
 
   -- The port of the leg j over a source that holds these octets, where it tells what it holds.
   pub record IsOver (tells : Type 0) (left : S → List ℕ) (wait limit j : ℕ) (leg : LegLine) (octets : List ℕ) (p : Port (LegInlet S)) : Type 0 where
@@ -85,8 +93,11 @@ module _ {W : Type 0} where
   abbrev pub Unopened : Type 0 → (W → List ℕ → Option (List ℕ)) → (W → List ℕ → ℕ) → W → W → List LegLine → MixFault → Type 0
   Unopened tells contents own old new legs fault = IsNotOpened tells (contents old) (own old) (own new) legs fault
 
-  -- where the reading of the leg with this number failed, the count of its source's name rose
-  abbrev pub FaultRose : {S : Type 0} → (S → ℕ) → (S → List ℕ) → (W → List ℕ → ℕ) → List (Port (LegInlet S)) → ℕ → W → W → Type 0
-  FaultRose {S} faults name objects ports leg old new =
-      (p : Port (LegInlet S)) → slice_get ports leg ≡ Some p → Rose 0 (faults (source_at p))
-      → Rose (objects old (name (source_at p))) (objects new (name (source_at p)))
+  -- where the reading of a source failed, the count of its name rose
+  abbrev pub FaultsRose : {S : Type 0} → (S → ℕ) → (S → List ℕ) → (W → List ℕ → ℕ) → List (Port (LegInlet S)) → W → W → Type 0
+  FaultsRose {S} faults name objects ports old new = EachSource (λ s. Rose 0 (faults s) → Rose (objects old (name s)) (objects new (name s))) ports
+
+  -- a name's count is the old one, where each of the sources leaves it
+  abbrev pub CountsLeft : {S : Type 0} → (S → ℕ) → (S → List ℕ) → (W → List ℕ → Option (List ℕ)) → (W → List ℕ → ℕ) → List (Port (LegInlet S)) → W → W → Type 0
+  CountsLeft {S} faults name_of contents objects ports old new =
+      (name : List ℕ) → EachSource (LeavesCount faults name_of (contents old) name) ports → objects new name ≡ objects old name

@@ -12,7 +12,7 @@ mod views;
 
 pub use mixed::{MixFault, Mixed};
 pub use mixing::{mix, mix_held};
-pub use ports::{close_ports, close_ports_after_fault, open_ports};
+pub use ports::{close_ports, open_ports};
 pub use views::{Seen, views_of};
 
 #[cfg(test)]

@@ -6,13 +6,13 @@ ghost use Rattle.mixer_spec.specs.Bridged.{input_limit};
 ghost use Rattle.conf_text.specs.Lines.{conf_of};
 ghost use Rattle.leg_items.specs.Answers.{AllStayAs, AreNew};
 ghost use Rattle.played.specs.Written.{IsWritten};
-ghost use Rattle.bridge_run.specs.Answered.{AreKept, HasOutputs, IsOfLegs, MixesAsked, MixesTo, NoReadFailed, broken_leg};
-ghost use Rattle.bridge_run.specs.Mixes.{IsMade, StopsIn, counted};
+ghost use Rattle.bridge_run.specs.Answered.{AreKept, HasOutputs, IsOfLegs, MixesAsked, MixesTo, NoReadFailed};
+ghost use Rattle.bridge_run.specs.Mixes.{IsMade, NoneFailedIn, StopsIn, counted};
 ghost use Rattle.bridge_run.specs.Viewed.{AreSumsOf, AreViewsOf};
 
 use crate::loggers::Logged;
 use crate::parts::views_on_threads;
-use crate::ports::{close_ports, close_ports_after_fault, held_ports, open_ports};
+use crate::ports::{close_ports, held_ports, open_ports};
 use crate::reading::{Readers, mix_read};
 use crate::views::Seen;
 use crate::{MixFault, Mixed};
@@ -131,16 +131,6 @@ fn mix_opened<S: Source + Send, R: Threads + Wait + Sync, G: Gate + Sync>(
     }
 }
 
-/// The leg whose recording can't be read to its end, if that is why nothing is made.
-fn broken_leg(mixed: &Result<Mixed, MixFault>) -> Option<u8>
-    ensures { result ≡ broken_leg mixed.now }
-{
-    match mixed {
-        Err(MixFault::Dump { leg, fault: _ }) => Some(*leg),
-        _ => None,
-    }
-}
-
 /// Mixes a conference whose inputs have these octets, one for each leg, in leg order. They are held in memory, no reading of
 /// them fails, and the caller reads them all.
 pub fn mix_held<R: Threads + Wait + Sync, G: Gate + Sync>(
@@ -176,6 +166,8 @@ pub fn mix<R: Threads + Wait + Sync, W: World, G: Gate + Sync>(
     ensures outs { IfOk result (HasOutputs (length conf.now.legs)) }
     ensures stops { IfErr result (StopsIn W.tells W.contents W.own_faults W.object_faults
         world.old world.new (conf_of conf.now)) }
+    ensures none_failed { NoneFailedIn W.tells W.object_faults
+        world.old world.new (conf_of conf.now) result }
     ensures same_contents { W.tells → Same W.contents world.old world.new }
     ensures calls_never_fall { NoneFalls W.own_faults world.old world.new }
     ensures objects_never_fall { NoneFalls W.object_faults world.old world.new }
@@ -187,14 +179,6 @@ pub fn mix<R: Threads + Wait + Sync, W: World, G: Gate + Sync>(
         Err(fault) => return Err(fault),
     };
     let Answered { mixed, ports } = mix_opened(rt, alloc, conf, ports, Readers::Threads, gate);
-    match broken_leg(&mixed) {
-        Some(leg) => {
-            close_ports_after_fault(ports, leg as usize, world);
-            mixed
-        }
-        None => {
-            close_ports(ports, world);
-            mixed
-        }
-    }
+    close_ports(ports, world);
+    mixed
 }

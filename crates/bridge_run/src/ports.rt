@@ -2,7 +2,7 @@
 ghost use Rattle.std.specs.Prelude.{◌≡◌, ◌≤◌, ◌<◌, length, IfOk, IfErr, OnOk};
 ghost use Rattle.rtt_io.specs.Names.{NoneFalls, Same};
 ghost use Rattle.leg_items.specs.Answers.{source_at};
-ghost use Rattle.bridge_run.specs.Opened.{AreCalm, AreHeld, AreOpened, FaultRose, IsOpened, IsOver, Unopened, RefusedIn};
+ghost use Rattle.bridge_run.specs.Opened.{AreCalm, AreHeld, AreOpened, CountsLeft, FaultsRose, IsOpened, IsOver, Unopened, RefusedIn};
 ghost use Rattle.rtt_base.specs.declared.limits.TheConstants.{LONGEST_WAIT};
 ghost use Rattle.wire_spec.specs.declared.limits.TheConstants.{MOST_RECORDING_OCTETS};
 
@@ -139,11 +139,14 @@ pub fn held_ports(
     Ok(ports)
 }
 
-/// Hands back the sources of all ports.
+/// Hands back the sources of all ports. Where the reading of one failed, the count of its name rises.
 pub fn close_ports<W: World>(ports: Vec<Port<LegInlet<W::Src>>>, world: &mut W)
     ensures same_own { Same W.own_faults world.old world.new }
     ensures objects_never_fall { NoneFalls W.object_faults world.old world.new }
     ensures calm { AreCalm W.Src.faults ports.items → Same W.object_faults world.old world.new }
+    ensures failed { FaultsRose W.Src.faults W.Src.name W.object_faults ports.items world.old world.new }
+    ensures left { W.tells → CountsLeft W.Src.faults W.Src.name W.contents W.object_faults
+        ports.items world.old world.new }
     ensures same_contents { W.tells → Same W.contents world.old world.new }
 {
     let mut ports = ports;
@@ -151,23 +154,4 @@ pub fn close_ports<W: World>(ports: Vec<Port<LegInlet<W::Src>>>, world: &mut W)
         world.done_src(port.into_inlet().into_source());
     }
     ports.destroy_empty();
-}
-
-/// Hands back the sources of all ports, that of this leg behind the others: where its reading failed, the count of its name
-/// rises.
-pub fn close_ports_after_fault<W: World>(
-    ports: Vec<Port<LegInlet<W::Src>>>,
-    leg: usize,
-    world: &mut W,
-)
-    requires { leg < length ports.items }
-    ensures same_own { Same W.own_faults world.old world.new }
-    ensures objects_never_fall { NoneFalls W.object_faults world.old world.new }
-    ensures failed { FaultRose W.Src.faults W.Src.name W.object_faults ports.items leg world.old world.new }
-    ensures same_contents { W.tells → Same W.contents world.old world.new }
-{
-    let mut ports = ports;
-    let port = ports.swap_remove(leg);
-    close_ports(ports, world);
-    world.done_src(port.into_inlet().into_source());
 }

@@ -1,8 +1,9 @@
-use Rattle.std.proofs.Common.{◌≡◌, Result, Ok, Err, length, sym, ap, ◌∙◌, arith, rules}
+use Rattle.std.proofs.Common.{◌≡◌, Result, Ok, Err, length, sym, ap, subst, ◌∙◌, arith, rules}
 use Rattle.std.specs.Prelude.{IfOk}
 use Rattle.mixer_spec.specs.Setups.{setup}
 use Rattle.conf_text.specs.Lines.{conf_of}
 use Rattle.mix_loop.specs.declared.turns.Mixing.TheVariants as mixing
+use Rattle.leg_items.specs.Answers.{IsReadWell}
 use Rattle.mixer_turn.specs.Making.{pts_at}
 use Rattle.bridge_run.specs.declared.mixed.MixFault.TheVariants.{Dump, TooLong, NoMemory}
 use Rattle.bridge_run.proofs.Recorded.{all_sent, all_written}
@@ -41,7 +42,7 @@ returns-in-Over-clause-sources g c =
     let conf = conf_of c.args.conf.now in
     let x = c.mix_read-mixing.ensures.mixed (setup conf) (pts_at conf) c.in-Ok.ensures.stands (sym c.requires.legs) c.requires.stays c.in-Ok-new.ensures.open in
     all_kept _ g.S.Source.tells g.S.Source.left g.S.Source.faults g.S.Source.name conf c.from-tick.result c.from-turns.result c.mix_read-mixing.result.mixing c.args.ports.items c.mix_read-mixing.result.ports.items c.mix_read-mixing.result.mixer c.mix_read-mixing.result.log
-    x c.from-tick.ensures c.from-turns.ensures c.made.result (λ j fault e. absurd (no_dump c.made.result j fault c.made.ensures.fault e))
+    x c.from-tick.ensures c.from-turns.ensures c.made.result (λ j fault e. absurd (no_dump c.made.result j fault c.made.ensures.fault e)) (λ j w. subst (λ a. IsReadWell a j) (sym c.in-Over.is) tt)
 
 pub returns-in-TooLong-clause-mixes : goal.returns-in-TooLong-clause-mixes
 returns-in-TooLong-clause-mixes g c = λ tells inputs count asks.
@@ -56,7 +57,7 @@ returns-in-TooLong-clause-sources g c =
     let conf = conf_of c.args.conf.now in
     let x = c.mix_read-mixing.ensures.mixed (setup conf) (pts_at conf) c.in-Ok.ensures.stands (sym c.requires.legs) c.requires.stays c.in-Ok-new.ensures.open in
     all_kept _ g.S.Source.tells g.S.Source.left g.S.Source.faults g.S.Source.name conf c.from-tick.result c.from-turns.result c.mix_read-mixing.result.mixing c.args.ports.items c.mix_read-mixing.result.ports.items c.mix_read-mixing.result.mixer c.mix_read-mixing.result.log
-    x c.from-tick.ensures c.from-turns.ensures (Err TooLong) (λ j fault e. absurd (cc e))
+    x c.from-tick.ensures c.from-turns.ensures (Err TooLong) (λ j fault e. absurd (cc e)) (λ j w. subst (λ a. IsReadWell a j) (sym c.in-TooLong.is) tt)
 
 pub returns-in-Faulted-clause-mixes : goal.returns-in-Faulted-clause-mixes
 returns-in-Faulted-clause-mixes g c = λ tells inputs count asks.
@@ -71,7 +72,7 @@ returns-in-Faulted-clause-sources g c =
     let conf = conf_of c.args.conf.now in
     let x = c.mix_read-mixing.ensures.mixed (setup conf) (pts_at conf) c.in-Ok.ensures.stands (sym c.requires.legs) c.requires.stays c.in-Ok-new.ensures.open in
     all_kept _ g.S.Source.tells g.S.Source.left g.S.Source.faults g.S.Source.name conf c.from-tick.result c.from-turns.result c.mix_read-mixing.result.mixing c.args.ports.items c.mix_read-mixing.result.ports.items c.mix_read-mixing.result.mixer c.mix_read-mixing.result.log
-    x c.from-tick.ensures c.from-turns.ensures (Err (Dump c.in-Faulted.leg c.in-Faulted.fault)) (λ j fault e. (let is = c.in-Faulted.is in cc (e, is)))
+    x c.from-tick.ensures c.from-turns.ensures (Err (Dump c.in-Faulted.leg c.in-Faulted.fault)) (λ j fault e. (let is = c.in-Faulted.is in cc (e, is))) (λ j w. subst (λ a. IsReadWell a j) (sym c.in-Faulted.is) w)
 
 pub returns-in-Faulted-clause-leg : goal.returns-in-Faulted-clause-leg
 returns-in-Faulted-clause-leg g c =
@@ -84,4 +85,4 @@ returns-in-NoMemory-clause-sources g c =
     let conf = conf_of c.args.conf.now in
     let x = c.mix_read-mixing.ensures.mixed (setup conf) (pts_at conf) c.in-Ok.ensures.stands (sym c.requires.legs) c.requires.stays c.in-Ok-new.ensures.open in
     all_kept _ g.S.Source.tells g.S.Source.left g.S.Source.faults g.S.Source.name conf c.from-tick.result c.from-turns.result c.mix_read-mixing.result.mixing c.args.ports.items c.mix_read-mixing.result.ports.items c.mix_read-mixing.result.mixer c.mix_read-mixing.result.log
-    x c.from-tick.ensures c.from-turns.ensures (Err NoMemory) (λ j fault e. absurd (cc e))
+    x c.from-tick.ensures c.from-turns.ensures (Err NoMemory) (λ j fault e. absurd (cc e)) (λ j w. absurd w)

@@ -1,27 +1,76 @@
-use Rattle.std.proofs.Common.{◌∷◌, [], List, refl, ap, subst, ◌∙◌, arith}
+use Rattle.std.proofs.Common.{◌≡◌, ◌<◌, ℕ, Option, None, Some, inl, inr, List, length, refl, ap, subst, sym, ◌∙◌, arith}
+use Rattle.std.specs.Prelude.{IsSome, slice_get}
+use Rattle.rtt_io.specs.Counts.{counted}
 use Rattle.leg_core.specs.Gives.{source_of}
 use Rattle.mix_loop.specs.declared.ports.Port.{Port}
+use Rattle.mix_loop.proofs.Lists.{get_within}
 use Rattle.leg_items.specs.declared.inlets.LegInlet.{LegInlet}
-use Rattle.bridge_run.specs.Opened.{AreCalm}
-use Rattle.bridge_run.proofs.Opening.{calm_parts}
+use Rattle.leg_items.specs.Answers.{source_at}
+use Rattle.bridge_run.specs.Opened.{LeavesCount}
+use Rattle.bridge_run.proofs.Opening.{front_still, last_of_all, left_by, pushed, rose_behind, rose_on}
 use Rattle.bridge_run.proofs.ports.close_ports.Goals as goal
 
 pub loop-port-init : goal.loop-port-init
-loop-port-init g c = record { same_own = λ n. refl; never_fall = λ n. omega arith; contents = λ t n. refl; calm = λ a. (a, λ n. refl) }
+loop-port-init g c = record {
+  same_own = λ n. refl;
+  never_fall = λ n. omega arith;
+  contents = λ t n. refl;
+  front = λ j p e. e;
+  calm = λ a n. refl;
+  failed = λ j p e. inl e;
+  left = λ t n h. refl;
+}
 
 pub loop-port-preserved : goal.loop-port-preserved
 loop-port-preserved g c =
     let faults = g.W.Src.Source.faults in
+    let name = g.W.Src.Source.name in
+    let objects = g.W.World.object_faults in
+    let i = c.loop-port.invariant in
+    let done = c.done_src.ensures in
+    let all = c.args.ports.items in
+    let xs = c.pop.new.self.items in
+    let x = c.in-Some.port in
+    let items = c.in-Some.ensures.items in
+    let last = last_of_all all c.loop-port.ports.items xs x items i.front in
+    let source = c.into_source.ensures ∙ ap (λ (x : LegInlet g.row.W-Src.Denot). source_of x.leg) c.into_inlet.ensures in
     record {
-      same_own = λ n. c.done_src.ensures.same_own n ∙ c.loop-port.invariant.same_own n;
-      never_fall = λ n. omega (arith, c.loop-port.invariant.never_fall n, c.done_src.ensures.objects_never_fall n);
-      contents = λ t n. c.done_src.ensures.same_contents t n ∙ c.loop-port.invariant.contents t n;
-      calm = λ a.
-          let r = c.loop-port.invariant.calm a in
-          let parts = calm_parts faults c.pop.new.self.items (c.in-Some.port ∷ []) (subst (λ (xs : List (Port (LegInlet g.row.W-Src.Denot))). AreCalm faults xs) c.in-Some.ensures.items r.0) in
-          let source = c.into_source.ensures ∙ ap (λ (x : LegInlet g.row.W-Src.Denot). source_of x.leg) c.into_inlet.ensures in
-          (parts.0, λ n. c.done_src.ensures.calm (ap faults source ∙ parts.1.0) n ∙ r.1 n);
+      same_own = λ n. done.same_own n ∙ i.same_own n;
+      never_fall = λ n. omega (arith, i.never_fall n, done.objects_never_fall n);
+      contents = λ t n. done.same_contents t n ∙ i.contents t n;
+      front = front_still all c.loop-port.ports.items xs x items i.front;
+      calm = λ a n. done.calm (ap faults source ∙ a _ x last) n ∙ i.calm a n;
+      failed = λ j p e. elim (i.failed j p e) [
+        | inl at ↦ elim (pushed xs x j p (subst (λ (l : List (Port (LegInlet g.row.W-Src.Denot))). slice_get l j ≡ Some p) items at)) [
+          | inl f ↦ inl f
+          | inr q ↦ inr (λ r.
+              let is = source ∙ ap (λ (y : Port (LegInlet g.row.W-Src.Denot)). source_at y) (sym q.1) in
+              let added = subst (λ (s : g.row.W-Src.Denot). objects c.done_src.new.self (name s) ≡ counted (objects c.loop-port.world (name s)) (faults s)) is done.added in
+              rose_behind (objects c.args.world.now (name (source_at p))) (objects c.loop-port.world (name (source_at p))) (objects c.done_src.new.self (name (source_at p))) (faults (source_at p)) (i.never_fall (name (source_at p))) added r)
+        ]
+        | inr past ↦ inr (λ r. rose_on (objects c.args.world.now (name (source_at p))) (objects c.loop-port.world (name (source_at p))) (objects c.done_src.new.self (name (source_at p))) (i.never_fall (name (source_at p))) (done.objects_never_fall (name (source_at p))) (past r))
+      ];
+      left = λ t n h.
+          left_by faults name (g.W.World.contents c.args.world.now) (g.W.World.contents c.loop-port.world) (objects c.loop-port.world) (objects c.done_src.new.self) c.into_source.result n (i.contents t) done.calm (done.no_other t)
+          (subst (λ (s : g.row.W-Src.Denot). LeavesCount faults name (g.W.World.contents c.args.world.now) n s) (sym source) (h _ x last))
+          ∙ i.left t n h;
     }
 
 pub returns-clause-calm : goal.returns-clause-calm
-returns-clause-calm g c = λ a. (c.loop-port.invariant.calm a).1
+returns-clause-calm g c = c.loop-port.invariant.calm
+
+pub returns-clause-left : goal.returns-clause-left
+returns-clause-left g c = c.loop-port.invariant.left
+
+-- behind the last port nothing is left
+ended : {X : Type 0} (xs : List X) (n : ℕ) (last : Option X) → n ≡ length xs → (0 < n → IsSome last) → last ≡ None → (j : ℕ) (x : X) → slice_get xs j ≡ Some x → ⊥
+ended xs n last len some none j x at =
+    let low = get_within xs j x at in
+    let there : IsSome last = some (omega (arith, low, len)) in
+    cc (subst (λ (o : Option _). IsSome o) none there)
+
+pub returns-clause-failed : goal.returns-clause-failed
+returns-clause-failed g c = λ j p e. elim (c.loop-port.invariant.failed j p e) [
+  | inl at ↦ absurd (ended c.loop-port.ports.items _ c.pop.result c.loop-port.ports.ok.0 c.pop.ensures.variant.1 c.in_default.is j p at)
+  | inr r ↦ r
+]

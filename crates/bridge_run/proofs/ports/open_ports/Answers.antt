@@ -3,8 +3,8 @@ use Rattle.std.proofs.lemmas.Option.{slice_get_read}
 use Rattle.std.proofs.lemmas.List.{length_push}
 use Rattle.mix_loop.specs.declared.ports.Port.{Port}
 use Rattle.leg_items.specs.declared.inlets.LegInlet.{LegInlet}
-use Rattle.bridge_run.specs.Opened.{AllOpened, AreCalm}
-use Rattle.bridge_run.proofs.Opening.{calm_more, leg_got, not_opened, opened_more}
+use Rattle.bridge_run.specs.Opened.{AllOpened}
+use Rattle.bridge_run.proofs.Opening.{leg_got, not_opened, opened_more}
 use Rattle.bridge_run.proofs.ports.open_ports.Goals as goal
 
 pub returns-in-Err-clause-refused : goal.returns-in-Err-clause-refused
@@ -23,15 +23,16 @@ loop-index-preserved g c =
     let now = c.loop-index.ports.items in
     let items = c.push_reserved.ensures.items in
     let got = leg_got legs c.loop-index.index ∙ slice_get_read legs (length legs) c.loop-index.index c.index-legs-index.result refl (omega (arith, c.loop-index-test.true)) c.index-legs-index.is in
+    let opened = subst (λ (xs : List (Port (LegInlet g.row.W-Src.Denot))). AllOpened g.W.World.tells g.W.Src.Source.left g.W.Src.Source.faults g.W.Src.Source.name (g.W.World.contents c.args.world.now) c.args.wait c.args.limit legs xs) (sym items)
+    (opened_more g.W.World.tells g.W.Src.Source.left g.W.Src.Source.faults g.W.Src.Source.name (g.W.World.contents c.loop-index.world) (g.W.World.contents c.args.world.now) c.args.wait c.args.limit c.loop-index.index legs c.index-legs-index.result now port
+    i.contents i.opened i.count got c.in-Ok-open_port.ensures.opened) in
     record {
       count = ap (λ (xs : List (Port (LegInlet g.row.W-Src.Denot))). length xs) items ∙ (length_push now port ∙ ap (λ n. n + 1) i.count);
       len = omega (arith, c.push_reserved.ensures.len, i.len);
       room = omega (arith, c.push_reserved.ensures.capacity, i.room);
-      opened = subst (λ (xs : List (Port (LegInlet g.row.W-Src.Denot))). AllOpened g.W.World.tells g.W.Src.Source.left g.W.Src.Source.faults g.W.Src.Source.name (g.W.World.contents c.args.world.now) c.args.wait c.args.limit legs xs) (sym items)
-          (opened_more g.W.World.tells g.W.Src.Source.left g.W.Src.Source.faults g.W.Src.Source.name (g.W.World.contents c.loop-index.world) (g.W.World.contents c.args.world.now) c.args.wait c.args.limit c.loop-index.index legs c.index-legs-index.result now port
-          i.contents i.opened i.count got c.in-Ok-open_port.ensures.opened);
+      opened = opened;
       shown = λ t l. c.in-Ok-open_port.ensures.shown t;
-      calm = subst (λ (xs : List (Port (LegInlet g.row.W-Src.Denot))). AreCalm g.W.Src.Source.faults xs) (sym items) (calm_more g.W.Src.Source.faults now port i.calm c.in-Ok-open_port.ensures.opened.fresh);
+      calm = λ k x e. (opened k x e).2.fresh;
       same_own = λ n. c.in-Ok-open_port.ensures.calm n ∙ i.same_own n;
       same_objects = λ n. c.open_port.ensures.same_objects n ∙ i.same_objects n;
       contents = λ t n. c.open_port.ensures.same_contents t n ∙ i.contents t n;
