@@ -1,5 +1,5 @@
 -- How a conference that is mixed ends.
-use Rattle.std.proofs.Common.{◌≡◌, ℕ, zero, suc, ◌+◌, ◌<◌, ◌≤◌, Bool, true, false, Some, List, [], ◌∷◌, length, take, Ok, Err, refl, ap, sym, subst, ◌∙◌, inl, inr, arith}
+use Rattle.std.proofs.Common.{◌≡◌, ℕ, zero, suc, ◌+◌, ◌<◌, ◌≤◌, Bool, true, false, cond, Some, List, [], ◌∷◌, length, take, Ok, Err, refl, ap, sym, subst, ◌∙◌, inl, inr, arith}
 use Rattle.std.specs.Prelude.{◌⊎◌, IfErr, OnOk, OnErr, if◌then◌else◌}
 use Rattle.std.specs.Result.{is_err}
 use Rattle.rtpdump_io.specs.declared.items.DumpFault.{DumpFault}
@@ -21,11 +21,11 @@ use Rattle.bridge_run.specs.declared.mixed.MixFault.TheVariants.{Open, Dump, Too
 use Rattle.bridge_run.specs.declared.mixed.MixFault.TheVariants as mix
 use Rattle.bridge_run.specs.Mixes.{LieBelow, AllLie, IsMade, IsBroken, outputs_of, steps_of}
 use Rattle.bridge_run.specs.Mixes as bridge
-use Rattle.rtt_top.specs.Conferences.{ending_name, fault_of_mixing, input_name, input_of, mixing_work, output_of}
-use Rattle.rtt_top.specs.Faults.{NoneBefore}
+use Rattle.rtt_top.specs.Conferences.{ending_name, fault_of_mixing, input_name, input_of, mixing_of, output_of}
+use Rattle.rtt_top.specs.Faults.{NoneBefore, is_recording}
 use Rattle.rtt_top.specs.Outputs.{IsUnwritten}
 use Rattle.rtt_top.specs.Outside.{Outside, Output, Failed, CallFailed, ObjectFailed, RoseAt}
-use Rattle.rtt_top.specs.Runs.{Prints, PrintsFront, Unchanged, PartlyStored, Ends}
+use Rattle.rtt_top.specs.Runs.{Prints, PrintsFront, Unchanged, PartlyStored, Ends, NoneFailedBefore}
 use Rattle.command_spec.proofs.Outputs.{is_output}
 use Rattle.rtt_top.proofs.Working.{done}
 use Rattle.rtt_top.proofs.Counts.{rose_since}
@@ -47,43 +47,52 @@ by_number P file legs k leg at p =
     let one : suc k ≡ k + 1 = omega arith in
     subst (λ n. P n (input_name file legs n)) one (subst (P (suc k)) (sym (ap (input_of file) at)) p)
 
--- ---- nothing is made
-broken : (Told Shown : Type 0) (old new : Outside) (file octets : List ℕ) (c : Conf) (k : ℕ) (leg : LegLine) (fault : DumpFault) (b : Bool)
-    → (Told → old.contents file ≡ Some octets) → conf Files octets ≡ Ok c → is_of_source fault.kind ≡ b → leg_at c.legs k ≡ Some leg
-    → IsBroken Told (ObjectFailed old new) old.contents c k leg fault → Unchanged Told Shown old new
-    → let ended : Ending = Err (if b then CannotRead (k + 1) else Refused (k + 1) (AtByte fault.offset fault.kind)) in
-    Ends (mixing_work file) Told Shown old new (ending_name file c.legs ended) ended
-broken Told Shown old new file octets c k leg fault true there read is at s u = (
-  by_number (λ n name. IsInput Told old.contents (mixing file) n name × ObjectFailed old new name × (Told → NoneBefore n (outcome old.contents (mixing file)))) file c.legs k leg at (
-    is_input Told old.contents file octets c k leg there read at (λ told. lie_below old.contents c.legs k (s.lie told)),
-    s.read is,
-    λ told. none_before old.contents file octets c k (there told) read (s.lie told) (s.lowest told),
-  ),
-  u,
-)
-broken Told Shown old new file octets c k leg fault false there read is at s u = (
-  by_number (λ n name. IsInput Told old.contents (mixing file) n name × (Told → outcome old.contents (mixing file) ≡ outcomes.Refused n (AtByte fault.offset fault.kind))) file c.legs k leg at (
-    is_input Told old.contents file octets c k leg there read at (λ told. lie_below old.contents c.legs k (s.lie told)),
-    λ told. (let one : k + 1 ≡ suc k = omega arith in
-        outcome_refused old.contents file octets c (k + 1) (AtByte fault.offset fault.kind) (there told) read (s.lie told) (s.refused is told)
-        ∙ ap (λ n. outcomes.Refused n (AtByte fault.offset fault.kind)) one),
-  ),
-  u,
-)
+-- ---- what failed
+-- the legs that were read well before this one, or with it, are at least those before it
+from_leg : (k j : ℕ) (b : Bool) → cond b k (k + 1) ≤ j → k + 1 ≤ suc j
+from_leg k j true le = omega arith
+from_leg k j false le = omega arith
 
-pub stopped_mixing : (Told Shown : Type 0) (old new : Outside) (file octets : List ℕ) (c : Conf) (fault : MixFault) → (Told → old.contents file ≡ Some octets) → conf Files octets ≡ Ok c
-    → bridge.Stops Told (CallFailed old new) (ObjectFailed old new) old.contents c fault → Unchanged Told Shown old new
-    → Ends (mixing_work file) Told Shown old new (ending_name file c.legs (Err (fault_of_mixing c.turns fault))) (Err (fault_of_mixing c.turns fault))
-stopped_mixing Told Shown old new file octets c (Open k) there read s u = (
-  by_number (λ n name. IsInput Told old.contents (mixing file) n name × CallFailed old new name) file c.legs k s.0 s.1
-      (is_input Told old.contents file octets c k s.0 there read s.1 s.3, s.2),
-  u,
-)
-stopped_mixing Told Shown old new file octets c (Dump k fault) there read s u =
-    broken Told Shown old new file octets c k s.0 fault (is_of_source fault.kind) there read refl s.1 s.2 u
-stopped_mixing Told Shown old new file octets c TooLong there read s u =
-    ((refl, λ told. outcome_refused old.contents file octets c 0 (AfterTurns c.turns) (there told) read (s told).0 (s told).1), u)
-stopped_mixing Told Shown old new file octets c mix.NoMemory there read s u = (tt, u)
+none_failed : (WorldTells : Type 0) (old new : Outside) (file octets : List ℕ) (c : Conf) (k : ℕ) (fault : DumpFault) → WorldTells → (WorldTells → old.contents file ≡ Some octets) → conf Files octets ≡ Ok c
+    → AllLie old.contents c.legs → bridge.NoneFailed WorldTells c.legs old.objects new.objects (Err (Dump k fault)) → NoneFailedBefore (k + 1) (mixing_of file) WorldTells old new
+none_failed WorldTells old new file octets c k fault told there read lie none n name less i later = none told name (λ j leg le at is.
+    later (suc j) (from_leg k j (is_of_source fault.kind) le) (subst (λ f. IsInput WorldTells old.contents (mixing file) (suc j) f) is
+    (is_input WorldTells old.contents file octets c j leg there read at (λ t. lie_below old.contents c.legs j lie))))
+
+-- ---- nothing is made
+broken : (WorldTells OutTells : Type 0) (old new : Outside) (file octets : List ℕ) (c : Conf) (k : ℕ) (leg : LegLine) (fault : DumpFault) (b : Bool)
+    → (WorldTells → old.contents file ≡ Some octets) → conf Files octets ≡ Ok c → is_of_source fault.kind ≡ b → leg_at c.legs k ≡ Some leg
+    → IsBroken WorldTells (ObjectFailed old new) old.contents c k leg fault
+    → bridge.NoneFailed WorldTells c.legs old.objects new.objects (Err (Dump k fault)) → Unchanged WorldTells OutTells old new
+    → let ended : Ending = Err (if b then CannotRead (k + 1) else Refused (k + 1) (AtByte fault.offset fault.kind)) in
+    Ends (mixing_of file) WorldTells OutTells old new (ending_name file c.legs ended) ended
+broken WorldTells OutTells old new file octets c k leg fault true there read is at s none u =
+    let r = by_number (λ n name. IsInput WorldTells old.contents (mixing file) n name × ObjectFailed old new name × (WorldTells → NoneBefore n (outcome old.contents (mixing file)))) file c.legs k leg at (
+      is_input WorldTells old.contents file octets c k leg there read at (λ told. lie_below old.contents c.legs k (s.lie told)),
+      s.read is,
+      λ told. none_before old.contents file octets c k (there told) read (s.lie told) (s.lowest told),
+    ) in (r.0, r.1, (λ told. (r.2 told, none_failed WorldTells old new file octets c k fault told there read (s.lie told) none)), u)
+broken WorldTells OutTells old new file octets c k leg fault false there read is at s none u =
+    let r = by_number (λ n name. IsInput WorldTells old.contents (mixing file) n name × (is_recording (mixing_of file) n ≡ true) × (WorldTells → outcome old.contents (mixing file) ≡ outcomes.Refused n (AtByte fault.offset fault.kind))) file c.legs k leg at (
+      is_input WorldTells old.contents file octets c k leg there read at (λ told. lie_below old.contents c.legs k (s.lie told)),
+      refl,
+      λ told. (let one : k + 1 ≡ suc k = omega arith in
+          outcome_refused old.contents file octets c (k + 1) (AtByte fault.offset fault.kind) (there told) read (s.lie told) (s.refused is told)
+          ∙ ap (λ n. outcomes.Refused n (AtByte fault.offset fault.kind)) one),
+    ) in (r.0, r.1, (λ told. (r.2 told, none_failed WorldTells old new file octets c k fault told there read (s.lie told) none)), u)
+
+pub stopped_mixing : (WorldTells OutTells : Type 0) (old new : Outside) (file octets : List ℕ) (c : Conf) (fault : MixFault) → (WorldTells → old.contents file ≡ Some octets) → conf Files octets ≡ Ok c
+    → bridge.Stops WorldTells (CallFailed old new) (ObjectFailed old new) old.contents c fault
+    → bridge.NoneFailed WorldTells c.legs old.objects new.objects (Err fault) → Unchanged WorldTells OutTells old new
+    → Ends (mixing_of file) WorldTells OutTells old new (ending_name file c.legs (Err (fault_of_mixing c.turns fault))) (Err (fault_of_mixing c.turns fault))
+stopped_mixing WorldTells OutTells old new file octets c (Open k) there read s none u =
+    let r = by_number (λ n name. IsInput WorldTells old.contents (mixing file) n name × CallFailed old new name) file c.legs k s.0 s.1
+    (is_input WorldTells old.contents file octets c k s.0 there read s.1 s.3, s.2) in (r.0, r.1, u)
+stopped_mixing WorldTells OutTells old new file octets c (Dump k fault) there read s none u =
+    broken WorldTells OutTells old new file octets c k s.0 fault (is_of_source fault.kind) there read refl s.1 s.2 none u
+stopped_mixing WorldTells OutTells old new file octets c TooLong there read s none u =
+    (refl, refl, (λ told. outcome_refused old.contents file octets c 0 (AfterTurns c.turns) (there told) read (s told).0 (s told).1), none, u)
+stopped_mixing WorldTells OutTells old new file octets c mix.NoMemory there read s none u = u
 
 -- ---- an output can't be written
 nth_output : (legs : List LegLine) (outs : List (List ℕ)) (n : ℕ) (name : List ℕ) → IsNth (outputs_of legs outs) n name
@@ -114,37 +123,37 @@ either A B C D f g (inl a) = inl (f a)
 either A B C D f g (inr b) = inr (g b)
 
 -- a world that lies between two others: nothing was changed, and no count fell
-pub record IsBetween (Told : Type 0) (old new : Outside) (contents : Contents) (calls objects : List ℕ → ℕ) : Type 0 where
-  pub same : Told → Same old.contents contents
+pub record IsBetween (WorldTells : Type 0) (old new : Outside) (contents : Contents) (calls objects : List ℕ → ℕ) : Type 0 where
+  pub same : WorldTells → Same old.contents contents
   pub calls_rise : (name : List ℕ) → old.calls name ≤ calls name
   pub objects_rise : (name : List ℕ) → old.objects name ≤ objects name
 
-output_is : (Told : Type 0) (held : Contents) (file octets : List ℕ) (c : Conf) (printed : List ℕ) (outs : List (List ℕ)) → (Told → held file ≡ Some octets)
-    → conf Files octets ≡ Ok c → (Told → AllLie held c.legs × (steps_of held c ≡ Makes printed (outputs_of c.legs outs)))
-    → (n : ℕ) (leg : LegLine) → leg_at c.legs n ≡ Some leg → IsOutput Told held (mixing file) n leg.output
-output_is Told held file octets c printed outs there read made n leg at =
-    is_output Told held file octets c there read (λ told k l is. (made told).0 k l (leg_within c.legs k l is) is)
+output_is : (WorldTells : Type 0) (held : Contents) (file octets : List ℕ) (c : Conf) (printed : List ℕ) (outs : List (List ℕ)) → (WorldTells → held file ≡ Some octets)
+    → conf Files octets ≡ Ok c → (WorldTells → AllLie held c.legs × (steps_of held c ≡ Makes printed (outputs_of c.legs outs)))
+    → (n : ℕ) (leg : LegLine) → leg_at c.legs n ≡ Some leg → IsOutput WorldTells held (mixing file) n leg.output
+output_is WorldTells held file octets c printed outs there read made n leg at =
+    is_output WorldTells held file octets c there read (λ told k l is. (made told).0 k l (leg_within c.legs k l is) is)
     (λ told. (printed, outputs_of c.legs outs, (made told).1)) n leg at
 
-pub unwritten_mixing : (Told Shown : Type 0) (old new : Outside) (contents : Contents) (calls objects : List ℕ → ℕ) (file octets : List ℕ) (c : Conf) (printed : List ℕ) (outs : List (List ℕ))
-    (fault : Fault) → (Told → old.contents file ≡ Some octets) → conf Files octets ≡ Ok c → (Told → AllLie old.contents c.legs × (steps_of old.contents c ≡ Makes printed (outputs_of c.legs outs)))
-    → IsBetween Told old new contents calls objects → new.out ≡ old.out
-    → IsUnwritten Told (RoseAt calls new.calls) (RoseAt objects new.objects) (outputs_of c.legs outs) contents new.contents fault
-    → Ends (mixing_work file) Told Shown old new (ending_name file c.legs (Err fault)) (Err fault)
-unwritten_mixing Told Shown old new contents calls objects file octets c printed outs WrongWords there read made between out u = absurd u
-unwritten_mixing Told Shown old new contents calls objects file octets c printed outs (CannotOpen k) there read made between out u = absurd u
-unwritten_mixing Told Shown old new contents calls objects file octets c printed outs (CannotRead k) there read made between out u = absurd u
-unwritten_mixing Told Shown old new contents calls objects file octets c printed outs (Refused k refusal) there read made between out u = absurd u
-unwritten_mixing Told Shown old new contents calls objects file octets c printed outs CannotPrint there read made between out u = absurd u
-unwritten_mixing Told Shown old new contents calls objects file octets c printed outs NoMemory there read made between out u = absurd u
-unwritten_mixing Told Shown old new contents calls objects file octets c printed outs (CannotWrite n) there read made between out u =
+pub unwritten_mixing : (WorldTells OutTells : Type 0) (old new : Outside) (contents : Contents) (calls objects : List ℕ → ℕ) (file octets : List ℕ) (c : Conf) (printed : List ℕ) (outs : List (List ℕ))
+    (fault : Fault) → (WorldTells → old.contents file ≡ Some octets) → conf Files octets ≡ Ok c → (WorldTells → AllLie old.contents c.legs × (steps_of old.contents c ≡ Makes printed (outputs_of c.legs outs)))
+    → IsBetween WorldTells old new contents calls objects → new.out ≡ old.out
+    → IsUnwritten WorldTells (RoseAt calls new.calls) (RoseAt objects new.objects) (outputs_of c.legs outs) contents new.contents fault
+    → Ends (mixing_of file) WorldTells OutTells old new (ending_name file c.legs (Err fault)) (Err fault)
+unwritten_mixing WorldTells OutTells old new contents calls objects file octets c printed outs WrongWords there read made between out u = absurd u
+unwritten_mixing WorldTells OutTells old new contents calls objects file octets c printed outs (CannotOpen k) there read made between out u = absurd u
+unwritten_mixing WorldTells OutTells old new contents calls objects file octets c printed outs (CannotRead k) there read made between out u = absurd u
+unwritten_mixing WorldTells OutTells old new contents calls objects file octets c printed outs (Refused k refusal) there read made between out u = absurd u
+unwritten_mixing WorldTells OutTells old new contents calls objects file octets c printed outs CannotPrint there read made between out u = absurd u
+unwritten_mixing WorldTells OutTells old new contents calls objects file octets c printed outs NoMemory there read made between out u = absurd u
+unwritten_mixing WorldTells OutTells old new contents calls objects file octets c printed outs (CannotWrite n) there read made between out u =
     let call : (name : List ℕ) → RoseAt calls new.calls name → CallFailed old new name = λ name r. rose_since (old.calls name) (calls name) (new.calls name) (between.calls_rise name) r in
     let object : (name : List ℕ) → RoseAt objects new.objects name → ObjectFailed old new name = λ name r. rose_since (old.objects name) (objects name) (new.objects name) (between.objects_rise name) r in
     let nth = nth_output c.legs outs n u.0 u.1 in
     let named : u.0 ≡ output_of file (leg_at c.legs n) = nth.2 ∙ sym (ap (output_of file) nth.1) in
-    let output : IsOutput Told old.contents (mixing file) n u.0 =
-    subst (λ name. IsOutput Told old.contents (mixing file) n name) (sym nth.2) (output_is Told old.contents file octets c printed outs there read made n nth.0 nth.1) in (
-      subst (λ name. IsOutput Told old.contents (mixing file) n name) named output,
+    let output : IsOutput WorldTells old.contents (mixing file) n u.0 =
+    subst (λ name. IsOutput WorldTells old.contents (mixing file) n name) (sym nth.2) (output_is WorldTells old.contents file octets c printed outs there read made n nth.0 nth.1) in (
+      subst (λ name. IsOutput WorldTells old.contents (mixing file) n name) named output,
       subst (λ name. CallFailed old new name ⊎ ObjectFailed old new name) named (either (RoseAt calls new.calls u.0) (RoseAt objects new.objects u.0) (CallFailed old new u.0) (ObjectFailed old new u.0) (call u.0) (object u.0) u.2),
       (λ shown. ap (λ (o : Output). o.octets) out),
       λ told. done (outcome old.contents (mixing file)) printed (outputs_of c.legs outs)
@@ -154,31 +163,31 @@ unwritten_mixing Told Shown old new contents calls objects file octets c printed
     )
 
 -- ---- all is written, and printed or not
-pub printed_mixing : (Told Shown : Type 0) (old new : Outside) (file octets : List ℕ) (c : Conf) (printed : List ℕ) (outs : List (List ℕ)) (result : Ending)
-    → (Told → old.contents file ≡ Some octets) → conf Files octets ≡ Ok c → (Told → AllLie old.contents c.legs × (steps_of old.contents c ≡ Makes printed (outputs_of c.legs outs)))
-    → (Told → AllStored (outputs_of c.legs outs) old.contents new.contents)
-    → IfErr result (λ fault. fault ≡ CannotPrint) → OnErr result (Failed old.out new.out) → (Shown → OnOk result (Prints printed old new)) → (Shown → OnErr result (PrintsFront printed old new))
-    → Ends (mixing_work file) Told Shown old new (ending_name file c.legs result) result
-printed_mixing Told Shown old new file octets c printed outs (Ok u) there read made stored fault cause whole partly =
-    λ told. done (outcome old.contents (mixing file)) printed (outputs_of c.legs outs) (λ printed files. (Told → AllStored files old.contents new.contents) × (Shown → Prints printed old new))
+pub printed_mixing : (WorldTells OutTells : Type 0) (old new : Outside) (file octets : List ℕ) (c : Conf) (printed : List ℕ) (outs : List (List ℕ)) (result : Ending)
+    → (WorldTells → old.contents file ≡ Some octets) → conf Files octets ≡ Ok c → (WorldTells → AllLie old.contents c.legs × (steps_of old.contents c ≡ Makes printed (outputs_of c.legs outs)))
+    → (WorldTells → AllStored (outputs_of c.legs outs) old.contents new.contents)
+    → IfErr result (λ fault. fault ≡ CannotPrint) → OnErr result (Failed old.out new.out) → (OutTells → OnOk result (Prints printed old new)) → (OutTells → OnErr result (PrintsFront printed old new))
+    → Ends (mixing_of file) WorldTells OutTells old new (ending_name file c.legs result) result
+printed_mixing WorldTells OutTells old new file octets c printed outs (Ok u) there read made stored fault cause whole partly =
+    λ told. done (outcome old.contents (mixing file)) printed (outputs_of c.legs outs) (λ printed files. (WorldTells → AllStored files old.contents new.contents) × (OutTells → Prints printed old new))
     (outcome_done old.contents file octets c printed (outputs_of c.legs outs) (there told) read (made told).0 (made told).1) (stored, whole)
-printed_mixing Told Shown old new file octets c printed outs (Err f) there read made stored fault cause whole partly =
-    let P : Fault → Type 0 = λ f. Ends (mixing_work file) Told Shown old new (ending_name file c.legs (Err f)) (Err f) in
+printed_mixing WorldTells OutTells old new file octets c printed outs (Err f) there read made stored fault cause whole partly =
+    let P : Fault → Type 0 = λ f. Ends (mixing_of file) WorldTells OutTells old new (ending_name file c.legs (Err f)) (Err f) in
     subst P (sym fault) (
       refl,
       cause,
-      λ told. done (outcome old.contents (mixing file)) printed (outputs_of c.legs outs) (λ printed files. (Told → AllStored files old.contents new.contents) × (Shown → PrintsFront printed old new))
+      λ told. done (outcome old.contents (mixing file)) printed (outputs_of c.legs outs) (λ printed files. (WorldTells → AllStored files old.contents new.contents) × (OutTells → PrintsFront printed old new))
           (outcome_done old.contents file octets c printed (outputs_of c.legs outs) (there told) read (made told).0 (made told).1) (stored, partly),
     )
 
-pub unwritten_result : (Told Shown : Type 0) (old new : Outside) (contents : Contents) (calls objects : List ℕ → ℕ) (file octets : List ℕ) (c : Conf) (printed : List ℕ) (outs : List (List ℕ))
-    (result : Ending) → (Told → old.contents file ≡ Some octets) → conf Files octets ≡ Ok c → (Told → AllLie old.contents c.legs × (steps_of old.contents c ≡ Makes printed (outputs_of c.legs outs)))
-    → IsBetween Told old new contents calls objects → new.out ≡ old.out → is_err result ≡ true
-    → IfErr result (IsUnwritten Told (RoseAt calls new.calls) (RoseAt objects new.objects) (outputs_of c.legs outs) contents new.contents)
-    → Ends (mixing_work file) Told Shown old new (ending_name file c.legs result) result
-unwritten_result Told Shown old new contents calls objects file octets c printed outs (Ok u) there read made between out err u' = absurd (cc err)
-unwritten_result Told Shown old new contents calls objects file octets c printed outs (Err fault) there read made between out err u =
-    unwritten_mixing Told Shown old new contents calls objects file octets c printed outs fault there read made between out u
+pub unwritten_result : (WorldTells OutTells : Type 0) (old new : Outside) (contents : Contents) (calls objects : List ℕ → ℕ) (file octets : List ℕ) (c : Conf) (printed : List ℕ) (outs : List (List ℕ))
+    (result : Ending) → (WorldTells → old.contents file ≡ Some octets) → conf Files octets ≡ Ok c → (WorldTells → AllLie old.contents c.legs × (steps_of old.contents c ≡ Makes printed (outputs_of c.legs outs)))
+    → IsBetween WorldTells old new contents calls objects → new.out ≡ old.out → is_err result ≡ true
+    → IfErr result (IsUnwritten WorldTells (RoseAt calls new.calls) (RoseAt objects new.objects) (outputs_of c.legs outs) contents new.contents)
+    → Ends (mixing_of file) WorldTells OutTells old new (ending_name file c.legs result) result
+unwritten_result WorldTells OutTells old new contents calls objects file octets c printed outs (Ok u) there read made between out err u' = absurd (cc err)
+unwritten_result WorldTells OutTells old new contents calls objects file octets c printed outs (Err fault) there read made between out err u =
+    unwritten_mixing WorldTells OutTells old new contents calls objects file octets c printed outs fault there read made between out u
 
 pub saved : (result : Ending) (P : Type 0) → is_err result ≡ false → OnOk result P → P
 saved (Ok u) P ok p = p

@@ -24,22 +24,22 @@ some_under None there = absurd (cc there)
 some_under (Some octets) there = refl
 
 -- ---- the inputs
-leg_input : (Told : Type 0) (held : Contents) (legs : List LegLine) (next : List (List ℕ) → Steps) (k : ℕ) (leg : LegLine) → leg_at legs k ≡ Some leg
-    → (Told → LieBelow k held legs) → IsInput Told held (reads_inputs legs next) k leg.input
-leg_input Told held [] next k leg at lie = absurd (cc at)
-leg_input Told held (l ∷ legs) next zero leg at lie = let same : leg ≡ l = cc at in ap (λ (x : LegLine). x.input) same
-leg_input Told held (l ∷ legs) next (suc k) leg at lie = (
+leg_input : (WorldTells : Type 0) (held : Contents) (legs : List LegLine) (next : List (List ℕ) → Steps) (k : ℕ) (leg : LegLine) → leg_at legs k ≡ Some leg
+    → (WorldTells → LieBelow k held legs) → IsInput WorldTells held (reads_inputs legs next) k leg.input
+leg_input WorldTells held [] next k leg at lie = absurd (cc at)
+leg_input WorldTells held (l ∷ legs) next zero leg at lie = let same : leg ≡ l = cc at in ap (λ (x : LegLine). x.input) same
+leg_input WorldTells held (l ∷ legs) next (suc k) leg at lie = (
   octets_under held l.input,
   (λ told. some_under (held l.input) (lie told 0 l (omega arith) refl)),
-  leg_input Told held legs (λ more. next (octets_under held l.input ∷ more)) k leg at (λ told i x less is. lie told (suc i) x (omega arith) is),
+  leg_input WorldTells held legs (λ more. next (octets_under held l.input ∷ more)) k leg at (λ told i x less is. lie told (suc i) x (omega arith) is),
 )
 
-pub is_input : (Told : Type 0) (held : Contents) (file octets : List ℕ) (c : Conf) (k : ℕ) (leg : LegLine) → (Told → held file ≡ Some octets) → conf Files octets ≡ Ok c
-    → leg_at c.legs k ≡ Some leg → (Told → LieBelow k held c.legs) → IsInput Told held (mixing file) (suc k) leg.input
-is_input Told held file octets c k leg lies_there read at lie = (
+pub is_input : (WorldTells : Type 0) (held : Contents) (file octets : List ℕ) (c : Conf) (k : ℕ) (leg : LegLine) → (WorldTells → held file ≡ Some octets) → conf Files octets ≡ Ok c
+    → leg_at c.legs k ≡ Some leg → (WorldTells → LieBelow k held c.legs) → IsInput WorldTells held (mixing file) (suc k) leg.input
+is_input WorldTells held file octets c k leg lies_there read at lie = (
   octets,
   lies_there,
-  subst (λ r. IsInput Told held (mixes_read r) k leg.input) (sym read) (leg_input Told held c.legs (mixes c) k leg at lie),
+  subst (λ r. IsInput WorldTells held (mixes_read r) k leg.input) (sym read) (leg_input WorldTells held c.legs (mixes c) k leg at lie),
 )
 
 -- ---- the outcome

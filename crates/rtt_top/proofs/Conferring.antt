@@ -1,5 +1,5 @@
 -- A conference that is read.
-use Rattle.std.proofs.Common.{◌≡◌, ℕ, ◌+◌, ◌<◌, true, cond, Option, Some, List, length, length-append, Ok, Err, refl, ap, sym, ◌∙◌, inl, inr, arith}
+use Rattle.std.proofs.Common.{◌≡◌, ℕ, ◌+◌, ◌<◌, true, cond, Option, Some, List, length, Ok, Err, refl, ap, sym, ◌∙◌, inl, inr, arith}
 use Rattle.std.specs.Prelude.{nat_lt}
 use Rattle.std.proofs.lemmas.Bool.Decides.{nat_tests}
 use Rattle.std.specs.Str.Lines.{lines}
@@ -11,12 +11,13 @@ use Rattle.file_spec.specs.Lines.{Refusal, told, at_line, read_lines}
 use Rattle.file_spec.specs.Conf.{Conf, and_line, complete, conf, is_blank, nothing}
 use Rattle.command_spec.specs.declared.faults.Refusal.TheVariants.{AtLine}
 use Rattle.command_spec.specs.declared.faults.Fault.TheVariants.{Refused}
+use Rattle.command_spec.specs.Words.{MixWords, Mix}
 use Rattle.command_spec.specs.Work.{Contents}
-use Rattle.command_spec.specs.Outcomes.{outcome_from}
-use Rattle.command_spec.specs.Mixing.{mixes_read, mixing}
+use Rattle.command_spec.specs.Mixing.{mixes_read}
 use Rattle.rtt_top.specs.Files.{IsFrontOf}
 use Rattle.rtt_top.specs.Faults.{Stops}
-use Rattle.rtt_top.proofs.Working.{lies}
+use Rattle.rtt_top.proofs.Working.{refuses_of}
+use Rattle.rtt_top.proofs.Lying.{lying_octets}
 
 abbrev large : Refusal
 large = record { line = 0; kind = Large }
@@ -27,27 +28,20 @@ too_large octets l =
     ap (λ b. cond b (Err large) (read_lines (and_line Files) nothing (told is_blank 1 (lines octets))
     >>= λ above. at_line (length (lines octets) + 1) (complete above above.mixer))) over
 
--- a front of more than the most says the same as the whole
-same_conf : (octets whole : List ℕ) → IsFrontOf 262144 octets whole → conf Files whole ≡ conf Files octets
-same_conf octets whole (inl e) = ap (conf Files) e
-same_conf octets whole (inr f) =
-    let more = ap (λ (xs : List ℕ). length xs) f.2 in
-    too_large whole (omega (arith, f.0, more, length-append octets f.1)) ∙ sym (too_large octets f.0)
-
 accepted_front : (octets whole : List ℕ) (c : Conf) → IsFrontOf 262144 octets whole → conf Files octets ≡ Ok c → whole ≡ octets
 accepted_front octets whole c (inl e) s = e
 accepted_front octets whole c (inr f) s = let over = too_large octets f.0 in absurd (cc (s, over))
 
 -- the octets that were read, which lie there as far as that is told
-pub read_conf_octets : (Told : Type 0) (held : Option (List ℕ)) (octets : List ℕ) (c : Conf) → (Told → (whole : List ℕ) × (held ≡ Some whole) × IsFrontOf 262144 octets whole)
-    → conf Files octets ≡ Ok c → (o : List ℕ) × (Told → held ≡ Some o) × (conf Files o ≡ Ok c)
-read_conf_octets Told held octets c given s = (octets, λ t. let g = given t in g.1 ∙ ap (λ (o : List ℕ). Some o) (accepted_front octets g.0 c g.2 s), s)
+pub read_conf_octets : (WorldTells : Type 0) (held : Option (List ℕ)) (octets : List ℕ) (c : Conf) → (WorldTells → (whole : List ℕ) × (held ≡ Some whole) × IsFrontOf 262144 octets whole)
+    → conf Files octets ≡ Ok c → (o : List ℕ) × (WorldTells → held ≡ Some o) × (conf Files o ≡ Ok c)
+read_conf_octets WorldTells held octets c given s = (octets, λ t. let g = given t in g.1 ∙ ap (λ (o : List ℕ). Some o) (accepted_front octets g.0 c g.2 s), s)
 
-pub conf_refused : (Told : Type 0) (held : Contents) (file : List ℕ) (Call Object : List ℕ → Type 0) (octets : List ℕ) (line : ℕ) (kind : ConfKind)
-    → (Told → (whole : List ℕ) × (held file ≡ Some whole) × IsFrontOf 262144 octets whole) → conf Files octets ≡ Err (record { line = line; kind = kind })
-    → Stops Told held (mixing file) Call Object file (Refused 0 (AtLine line kind))
-conf_refused Told held file Call Object octets line kind given e = (
-  refl,
-  λ told. let g = given told in
-      lies held file (λ octets. mixes_read (conf Files octets)) g.0 g.1 ∙ ap (outcome_from 1 held) (ap mixes_read (same_conf octets g.0 g.2 ∙ e)),
-)
+pub conf_refused : (WorldTells : Type 0) (held : Contents) (m : MixWords) (Call Object : Type 0) (octets : List ℕ) (line : ℕ) (kind : ConfKind)
+    → (WorldTells → (whole : List ℕ) × (held m.conf ≡ Some whole) × IsFrontOf 262144 octets whole) → conf Files octets ≡ Err (record { line = line; kind = kind })
+    → Stops WorldTells held (Mix m) Call Object (Refused 0 (AtLine line kind))
+conf_refused WorldTells held m Call Object octets line kind given e =
+    let o = lying_octets WorldTells 262144 (conf Files) (held m.conf) octets (λ a b l k. too_large a l ∙ sym (too_large b k)) given in (
+      refl,
+      refuses_of WorldTells held m.conf (λ octets. mixes_read (conf Files octets)) 0 (AtLine line kind) o.0 o.1 (ap mixes_read (o.2 ∙ e)),
+    )

@@ -1,5 +1,5 @@
 -- What is sent for a script.
-use Rattle.std.proofs.Common.{◌≡◌, ℕ, ◌<◌, ◌^◌, Option, Some, None, List, [], ◌∷◌, Result, Ok, Err, refl, ap, sym, arith}
+use Rattle.std.proofs.Common.{◌≡◌, ℕ, ◌<◌, Option, Some, None, List, [], ◌∷◌, Result, Ok, Err, refl, ap, sym, arith}
 use Rattle.file_spec.specs.Script.{ScriptLine}
 use Rattle.file_spec.specs.Lines as lines
 use Rattle.file_spec.specs.Script.{script}
@@ -9,7 +9,7 @@ use Rattle.text_sender.specs.Confs.{IsConf}
 use Rattle.text_sender.proofs.Scripts.{own}
 use Rattle.command_spec.specs.Scripts as scripts
 use Rattle.command_spec.specs.Scripts.{AreLines, events_through}
-use Rattle.command_spec.specs.Work.{Made, Steps, Makes}
+use Rattle.command_spec.specs.Work.{Steps, Makes}
 use Rattle.command_spec.specs.Commands.{sending_of, sends, unless_full}
 use Rattle.command_spec.specs.Sent.{IsSent}
 use Rattle.rtt_send.specs.Scripts.{IsEnd, first_end, full_line}

@@ -12,3 +12,6 @@ pub mod Since
 pub mod MadeLines
 pub mod Before
 pub mod Plain
+pub mod Lying
+pub mod Fronts
+pub mod Statuses

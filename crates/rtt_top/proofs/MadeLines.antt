@@ -1,5 +1,5 @@
 -- The line of a conference that is made from a number, and how the command ends.
-use Rattle.std.proofs.Common.{◌≡◌, ℕ, suc, true, Option, Some, None, List, [], ◌∷◌, length, Ok, Err, refl, ap, sym, subst, ◌∙◌}
+use Rattle.std.proofs.Common.{◌≡◌, ℕ, suc, Bool, true, false, true≢false, Option, Some, None, List, [], ◌∷◌, length, Ok, Err, refl, ap, sym, subst, ◌∙◌}
 use Rattle.std.specs.Prelude.{IfErr, OnOk, OnErr}
 use Rattle.std.proofs.lemmas.List.FromFn.{length-map-range_with_len}
 use Rattle.wire_spec.specs.Dump.{dump}
@@ -9,7 +9,8 @@ use Rattle.mixer_spec.specs.Bridged.{input_limit, leg_chunks}
 use Rattle.mixer_spec.specs.Plain.{plain}
 use Rattle.mixer_spec.specs.Setups.{setup}
 use Rattle.mixer_spec.specs.Table.{Table}
-use Rattle.command_spec.specs.declared.faults.Refusal.TheVariants.{AtByte, AfterTurns}
+use Rattle.command_spec.specs.declared.faults.Refusal.{Refusal}
+use Rattle.command_spec.specs.declared.faults.Refusal.TheVariants.{AtByte, AtLine, AfterTurns}
 use Rattle.command_spec.specs.declared.faults.Fault.{Fault}
 use Rattle.command_spec.specs.declared.faults.Fault.TheVariants.{WrongWords, CannotOpen, CannotRead, Refused, CannotPrint, CannotWrite, NoMemory}
 use Rattle.command_spec.specs.Generated.{Generated, generated}
@@ -17,7 +18,9 @@ use Rattle.command_spec.specs.Making.{making, makes_summary, recording_at, recor
 use Rattle.command_spec.specs.Messages.{Ending}
 use Rattle.command_spec.specs.Mixing.{input_at, makes, mixes, unless_one_broken}
 use Rattle.command_spec.specs.Sums.{Sums, sums_mixed}
-use Rattle.command_spec.specs.Work.{Steps, Refuses, Makes, Work}
+use Rattle.command_spec.specs.Words.{Command, Make}
+use Rattle.command_spec.specs.Work.{Contents, Steps, Reads, Refuses, Makes}
+use Rattle.command_spec.specs.Outcomes.{outcome, AllStored}
 use Rattle.bridge_run.specs.declared.mixed.MixFault.{MixFault}
 use Rattle.bridge_run.specs.declared.mixed.MixFault.TheVariants.{Open, Dump, TooLong}
 use Rattle.bridge_run.specs.declared.mixed.MixFault.TheVariants as mix
@@ -25,6 +28,7 @@ use Rattle.bridge_run.specs.Answered.{MixesTo}
 use Rattle.rtt_top.specs.Makings.{IsWhy, fault_in_memory}
 use Rattle.rtt_top.specs.Outside.{Outside, Failed}
 use Rattle.rtt_top.specs.Runs.{Ends, Prints, PrintsFront}
+use Rattle.rtt_top.proofs.Working.{done}
 
 -- ---- mixing is not over
 not_over : (c : Conf) (limit : ℕ) (inputs : List (List ℕ)) (n turns : ℕ) (table : Option Table)
@@ -63,31 +67,54 @@ as_many made inputs each sent =
     ap (λ (l : List (List ℕ)). length l) sent ∙ (length-map-range_with_len (recording_at made) 0 (length made.scripts) ∙ each)
 
 -- ---- how the command ends
-abbrev printing : Steps → Work
-printing steps = record { prints = true; steps = steps }
+abbrev make_of : ℕ → Command
+make_of n = Make (record { number = n })
 
-pub ends_why : (steps : Steps) (Told Shown : Type 0) (outside : Outside) (name : List ℕ) (fault : Fault) → IsWhy steps fault → Ends (printing steps) Told Shown outside outside name (Err fault)
-ends_why steps Told Shown outside name WrongWords w = absurd w
-ends_why steps Told Shown outside name (CannotOpen n) w = absurd w
-ends_why steps Told Shown outside name (CannotRead n) w = absurd w
-ends_why steps Told Shown outside name (Refused n refusal) w =
-    let P : Steps → Type 0 = λ s. Ends (printing s) Told Shown outside outside name (Err (Refused n refusal)) in
-    subst P (sym w) ((tt, λ told. refl), ((λ shown. refl), λ told file. refl))
-ends_why steps Told Shown outside name CannotPrint w = absurd w
-ends_why steps Told Shown outside name (CannotWrite n) w = absurd w
-ends_why steps Told Shown outside name NoMemory w = (tt, ((λ shown. refl), λ told file. refl))
+abbrev is_after_turns : Refusal → Bool
+is_after_turns (AtByte byte kind) = false
+is_after_turns (AtLine line kind) = false
+is_after_turns (AfterTurns turns) = true
+
+-- it refuses nothing but its conference, after its turns
+abbrev RefusesTurns : Steps → Type 0
+RefusesTurns (Reads name next) = ⊥
+RefusesTurns (Refuses input refusal) = (input ≡ 0) × (is_after_turns refusal ≡ true)
+RefusesTurns (Makes printed files) = Unit {0}
+
+refuses_turns : (n : ℕ) (made : Generated) (found : Option Sums) → RefusesTurns (makes_summary n made found)
+refuses_turns n made None = (refl, refl)
+refuses_turns n made (Some sums) = tt
+
+refused_make : (n : ℕ) (input : ℕ) (refusal : Refusal) → making n ≡ Refuses input refusal → (input ≡ 0) × (is_after_turns refusal ≡ true)
+refused_make n input refusal e =
+    subst RefusesTurns e (refuses_turns n (generated n) (sums_mixed (generated n).conference (recordings (generated n))))
+
+pub ends_why : (n : ℕ) (WorldTells OutTells : Type 0) (outside : Outside) (name : List ℕ) (fault : Fault) → IsWhy (making n) fault → Ends (make_of n) WorldTells OutTells outside outside name (Err fault)
+ends_why n WorldTells OutTells outside name WrongWords w = absurd w
+ends_why n WorldTells OutTells outside name (CannotOpen k) w = absurd w
+ends_why n WorldTells OutTells outside name (CannotRead k) w = absurd w
+ends_why n WorldTells OutTells outside name (Refused k (AtByte byte kind)) w = absurd (true≢false (sym (refused_make n k (AtByte byte kind) w).1))
+ends_why n WorldTells OutTells outside name (Refused k (AtLine line kind)) w = absurd (true≢false (sym (refused_make n k (AtLine line kind) w).1))
+ends_why n WorldTells OutTells outside name (Refused k (AfterTurns turns)) w =
+    ((refused_make n k (AfterTurns turns) w).0, refl, (λ t. ap (outcome outside.contents) w), (λ file. refl), ((λ shown. refl), λ told file. refl))
+ends_why n WorldTells OutTells outside name CannotPrint w = absurd w
+ends_why n WorldTells OutTells outside name (CannotWrite k) w = absurd w
+ends_why n WorldTells OutTells outside name NoMemory w = ((λ shown. refl), λ told file. refl)
 
 -- what was printed of it
-pub ends_printed : (steps : Steps) (Told Shown : Type 0) (old new : Outside) (name line : List ℕ) (result : Ending) → steps ≡ Makes line [] → new.contents ≡ old.contents
+pub ends_printed : (n : ℕ) (WorldTells OutTells : Type 0) (old new : Outside) (name line : List ℕ) (result : Ending) → making n ≡ Makes line [] → new.contents ≡ old.contents
     → IfErr result (λ fault. fault ≡ CannotPrint) → OnErr result (Failed old.out new.out)
-    → (Shown → OnOk result (Prints line old new)) → (Shown → OnErr result (PrintsFront line old new)) → Ends (printing steps) Told Shown old new name result
-ends_printed steps Told Shown old new name line (Ok u) is same fault cause printed partly =
-    let P : Steps → Type 0 = λ s. Ends (printing s) Told Shown old new name (Ok u) in
-    subst P (sym is) (λ t. ((λ told file i. same i file), printed))
-ends_printed steps Told Shown old new name line (Err f) is same fault cause printed partly =
-    let P : Steps → Type 0 = λ s. Ends (printing s) Told Shown old new name (Err CannotPrint) in
-    let Q : Fault → Type 0 = λ g. Ends (printing steps) Told Shown old new name (Err g) in
-    subst Q (sym fault) (subst P (sym is) (refl, cause, λ t. ((λ told file i. same i file), partly)))
+    → (OutTells → OnOk result (Prints line old new)) → (OutTells → OnErr result (PrintsFront line old new)) → Ends (make_of n) WorldTells OutTells old new name result
+ends_printed n WorldTells OutTells old new name line (Ok u) is same fault cause printed partly = λ t.
+    done (outcome old.contents (making n)) line [] (λ printed files. (WorldTells → AllStored files old.contents new.contents) × (OutTells → Prints printed old new)) (ap (outcome old.contents) is) ((λ told file. ap (λ (h : Contents). h file) same), printed)
+ends_printed n WorldTells OutTells old new name line (Err f) is same fault cause printed partly =
+    let Q : Fault → Type 0 = λ g. Ends (make_of n) WorldTells OutTells old new name (Err g) in
+    subst Q (sym fault) (
+      refl,
+      cause,
+      λ t. done (outcome old.contents (making n)) line [] (λ printed files. (WorldTells → AllStored files old.contents new.contents) × (OutTells → PrintsFront printed old new))
+          (ap (outcome old.contents) is) ((λ told file. ap (λ (h : Contents). h file) same), partly),
+    )
 
 -- ---- why it is not printed
 pub why : (n : ℕ) (made : Generated) (inputs : List (List ℕ)) → made ≡ generated n → inputs ≡ recordings made

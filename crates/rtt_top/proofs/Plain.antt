@@ -1,5 +1,5 @@
 -- Of another command than those that need no thread nothing is answered, unless memory ran out.
-use Rattle.std.proofs.Common.{◌≡◌, ℕ, Bool, true, false, true≢false, Option, Some, None, refl, ap, sym, ◌∙◌}
+use Rattle.std.proofs.Common.{◌≡◌, ℕ, Bool, false, true≢false, Option, Some, None, refl, ap, sym, ◌∙◌}
 use Rattle.std.specs.Prelude.{IfSome, is_some}
 use Rattle.command_spec.specs.Words.{Command}
 use Rattle.rtt_top.specs.Runs.{is_plain}

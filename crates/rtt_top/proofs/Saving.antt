@@ -73,20 +73,20 @@ partly_since : (Call Object CallNow ObjectNow : Type 0) (file : Made) (old new :
 partly_since Call Object CallNow ObjectNow file old new f g (inl p) = inl (f p.0, p.1)
 partly_since Call Object CallNow ObjectNow file old new f g (inr p) = inr (g p.0, p.1)
 
-pub unwritten : (Told : Type 0) (calls objects calls_now objects_now calls_then objects_then : List ℕ → ℕ) (files : List Made) (n : ℕ) (file : Made) (old between new : Contents)
+pub unwritten : (WorldTells : Type 0) (calls objects calls_now objects_now calls_then objects_then : List ℕ → ℕ) (files : List Made) (n : ℕ) (file : Made) (old between new : Contents)
     (result : Result (Unit {0}) Fault) → IsFileAt files n file → ((name : List ℕ) → calls name ≤ calls_now name) → ((name : List ℕ) → objects name ≤ objects_now name)
-    → (Told → AllStored (take n files) old between) → IfErr result (λ fault. fault ≡ CannotWrite n)
+    → (WorldTells → AllStored (take n files) old between) → IfErr result (λ fault. fault ≡ CannotWrite n)
     → OnErr result (RoseAt calls_now calls_then file.name ⊎ RoseAt objects_now objects_then file.name)
-    → (Told → OnErr result (IsPartlyStored (RoseAt calls_now calls_then file.name) (RoseAt objects_now objects_then file.name) file between new))
-    → IfErr result (IsUnwritten Told (RoseAt calls calls_then) (RoseAt objects objects_then) files old new)
-unwritten Told calls objects calls_now objects_now calls_then objects_then files n file old between new (Ok u) at f g before fault cause partly = tt
-unwritten Told calls objects calls_now objects_now calls_then objects_then files n file old between new (Err e) at f g before fault cause partly =
+    → (WorldTells → OnErr result (IsPartlyStored (RoseAt calls_now calls_then file.name) (RoseAt objects_now objects_then file.name) file between new))
+    → IfErr result (IsUnwritten WorldTells (RoseAt calls calls_then) (RoseAt objects objects_then) files old new)
+unwritten WorldTells calls objects calls_now objects_now calls_then objects_then files n file old between new (Ok u) at f g before fault cause partly = tt
+unwritten WorldTells calls objects calls_now objects_now calls_then objects_then files n file old between new (Err e) at f g before fault cause partly =
     let call : RoseAt calls_now calls_then file.name → RoseAt calls calls_then file.name = λ r. rose_since (calls file.name) (calls_now file.name) (calls_then file.name) (f file.name) r in
     let object : RoseAt objects_now objects_then file.name → RoseAt objects objects_then file.name = λ r. rose_since (objects file.name) (objects_now file.name) (objects_then file.name) (g file.name) r in
-    let P : Fault → Type 0 = IsUnwritten Told (RoseAt calls calls_then) (RoseAt objects objects_then) files old new in
+    let P : Fault → Type 0 = IsUnwritten WorldTells (RoseAt calls calls_then) (RoseAt objects objects_then) files old new in
     let nth : IsNth files n file.name =
     subst (λ k. IsNth files k file.name) at.count (subst (λ fs. IsNth fs (length (take n files)) file.name) (sym at.whole) (is_nth (take n files) file (drop (suc n) files))) in
-    let part : Told → PartlyStored (RoseAt calls calls_then) (RoseAt objects objects_then) n files old new = λ told.
+    let part : WorldTells → PartlyStored (RoseAt calls calls_then) (RoseAt objects objects_then) n files old new = λ told.
     subst (λ k. PartlyStored (RoseAt calls calls_then) (RoseAt objects objects_then) k files old new) at.count
     (subst (λ fs. PartlyStored (RoseAt calls calls_then) (RoseAt objects objects_then) (length (take n files)) fs old new) (sym at.whole)
     (partly_more (RoseAt calls calls_then) (RoseAt objects objects_then) (take n files) file (drop (suc n) files) old between new (before told)

@@ -1,5 +1,5 @@
 -- A script that is sent.
-use Rattle.std.proofs.Common.{◌≡◌, ℕ, ◌<◌, ◌≤◌, true, cond, Option, Some, None, List, [], ◌∷◌, ◌++◌, length, length-append, take, Ok, Err, refl, ap, sym, subst, ◌∙◌, inl, inr, arith}
+use Rattle.std.proofs.Common.{◌≡◌, ℕ, ◌<◌, ◌≤◌, true, cond, Option, Some, None, List, [], ◌∷◌, ◌++◌, length, take, Ok, Err, refl, ap, sym, subst, ◌∙◌, inl, inr, arith}
 use Rattle.std.specs.Prelude.{◌⊎◌, nat_lt, IfErr, OnOk, OnErr}
 use Rattle.std.proofs.lemmas.Bool.Decides.{nat_tests}
 use Rattle.file_spec.specs.declared.kinds.ConfKind.{ConfKind}
@@ -23,7 +23,8 @@ use Rattle.rtt_top.specs.Faults.{Stops, name_in}
 use Rattle.rtt_top.specs.Outside.{Outside, Output, CallFailed, ObjectFailed}
 use Rattle.rtt_top.specs.Runs.{PartlyStored, Ends}
 use Rattle.rtt_top.proofs.Counts.{rose_since}
-use Rattle.rtt_top.proofs.Working.{lies, done}
+use Rattle.rtt_top.proofs.Working.{lies, refuses_of, done}
+use Rattle.rtt_top.proofs.Lying.{lying_octets}
 use Rattle.file_spec.specs.declared.limits.TheConstants.{MOST_SCRIPT_OCTETS}
 
 -- ---- what was read is a script
@@ -32,41 +33,35 @@ too_large octets l =
     let over : nat_lt MOST_SCRIPT_OCTETS (length octets) ≡ true = grind (arith, nat_tests) in
     ap (λ b. cond b (Err (record { line = 0; kind = Large })) (read_lines and_line [] (told is_comment 1 (str.lines octets)))) over
 
--- a front of more than the most says the same as the whole
-pub same_script : (octets whole : List ℕ) → IsFrontOf MOST_SCRIPT_OCTETS octets whole → script whole ≡ script octets
-same_script octets whole (inl e) = ap script e
-same_script octets whole (inr f) =
-    let more = ap (λ (xs : List ℕ). length xs) f.2 in
-    too_large whole (omega (arith, f.0, more, length-append octets f.1)) ∙ sym (too_large octets f.0)
-
 accepted_front : (octets whole : List ℕ) (ls : List ScriptLine) → IsFrontOf MOST_SCRIPT_OCTETS octets whole → script octets ≡ Ok ls → whole ≡ octets
 accepted_front octets whole ls (inl e) s = e
 accepted_front octets whole ls (inr f) s = let large = too_large octets f.0 in absurd (cc (s, large))
 
 -- the octets that were read, which lie there as far as that is told
-pub read_octets : (Told : Type 0) (held : Option (List ℕ)) (octets : List ℕ) (ls : List ScriptLine) → (Told → (whole : List ℕ) × (held ≡ Some whole) × IsFrontOf MOST_SCRIPT_OCTETS octets whole)
-    → script octets ≡ Ok ls → (o : List ℕ) × (Told → held ≡ Some o) × (script o ≡ Ok ls)
-read_octets Told held octets ls given s = (octets, λ t. let g = given t in g.1 ∙ ap (λ (o : List ℕ). Some o) (accepted_front octets g.0 ls g.2 s), s)
+pub read_octets : (WorldTells : Type 0) (held : Option (List ℕ)) (octets : List ℕ) (ls : List ScriptLine) → (WorldTells → (whole : List ℕ) × (held ≡ Some whole) × IsFrontOf MOST_SCRIPT_OCTETS octets whole)
+    → script octets ≡ Ok ls → (o : List ℕ) × (WorldTells → held ≡ Some o) × (script o ≡ Ok ls)
+read_octets WorldTells held octets ls given s = (octets, λ t. let g = given t in g.1 ∙ ap (λ (o : List ℕ). Some o) (accepted_front octets g.0 ls g.2 s), s)
 
 -- ---- a line that is refused
-pub refused_at : (Told : Type 0) (held : Contents) (s : SendWords) (Call Object : List ℕ → Type 0) (line : ℕ) (kind : ConfKind)
-    → (Told → (octets : List ℕ) × (held s.script ≡ Some octets) × (sends s (script octets) ≡ Refuses 0 (AtLine line kind)))
-    → Stops Told held (work (Send s)).steps Call Object s.script (Refused 0 (AtLine line kind))
-refused_at Told held s Call Object line kind t =
-    (refl, λ told. let h = t told in lies held s.script (λ octets. sends s (script octets)) h.0 h.1 ∙ ap (outcome_from 1 held) h.2)
+refused_at : (WorldTells : Type 0) (held : Contents) (s : SendWords) (Call Object : Type 0) (line : ℕ) (kind : ConfKind)
+    → (octets : List ℕ) × (WorldTells → held s.script ≡ Some octets) × (sends s (script octets) ≡ Refuses 0 (AtLine line kind))
+    → Stops WorldTells held (Send s) Call Object (Refused 0 (AtLine line kind))
+refused_at WorldTells held s Call Object line kind r =
+    (refl, refuses_of WorldTells held s.script (λ octets. sends s (script octets)) 0 (AtLine line kind) r.0 r.1 r.2)
 
-pub script_refused : (Told : Type 0) (held : Contents) (s : SendWords) (Call Object : List ℕ → Type 0) (octets : List ℕ) (line : ℕ) (kind : ConfKind)
-    → (Told → (whole : List ℕ) × (held s.script ≡ Some whole) × IsFrontOf MOST_SCRIPT_OCTETS octets whole) → script octets ≡ Err (record { line = line; kind = kind })
-    → Stops Told held (work (Send s)).steps Call Object s.script (Refused 0 (AtLine line kind))
-script_refused Told held s Call Object octets line kind given e =
-    refused_at Told held s Call Object line kind (λ told. let g = given told in (g.0, g.1, ap (sends s) (same_script octets g.0 g.2 ∙ e)))
+pub script_refused : (WorldTells : Type 0) (held : Contents) (s : SendWords) (Call Object : Type 0) (octets : List ℕ) (line : ℕ) (kind : ConfKind)
+    → (WorldTells → (whole : List ℕ) × (held s.script ≡ Some whole) × IsFrontOf MOST_SCRIPT_OCTETS octets whole) → script octets ≡ Err (record { line = line; kind = kind })
+    → Stops WorldTells held (Send s) Call Object (Refused 0 (AtLine line kind))
+script_refused WorldTells held s Call Object octets line kind given e =
+    let o = lying_octets WorldTells MOST_SCRIPT_OCTETS script (held s.script) octets (λ a b l m. too_large a l ∙ sym (too_large b m)) given in
+    refused_at WorldTells held s Call Object line kind (o.0, o.1, ap (sends s) (o.2 ∙ e))
 
-pub full_refused : (Told : Type 0) (held : Contents) (s : SendWords) (Call Object : List ℕ → Type 0) (ls : List ScriptLine) (line : ℕ)
-    → (octets : List ℕ) × (Told → held s.script ≡ Some octets) × (script octets ≡ Ok ls) → scripts.full_line (sending_of s) ls ≡ Some line
-    → Stops Told held (work (Send s)).steps Call Object s.script (Refused 0 (AtLine line Full))
-full_refused Told held s Call Object ls line r full =
+pub full_refused : (WorldTells : Type 0) (held : Contents) (s : SendWords) (Call Object : Type 0) (ls : List ScriptLine) (line : ℕ)
+    → (octets : List ℕ) × (WorldTells → held s.script ≡ Some octets) × (script octets ≡ Ok ls) → scripts.full_line (sending_of s) ls ≡ Some line
+    → Stops WorldTells held (Send s) Call Object (Refused 0 (AtLine line Full))
+full_refused WorldTells held s Call Object ls line r full =
     let made : List Made = record { name = s.out; octets = scripts.recording (sending_of s) ls } ∷ [] in
-    refused_at Told held s Call Object line Full (λ told. (r.0, r.1 told, ap (sends s) r.2 ∙ ap (λ o. unless_full o (Makes [] made)) full))
+    refused_at WorldTells held s Call Object line Full (r.0, r.1, ap (sends s) r.2 ∙ ap (λ o. unless_full o (Makes [] made)) full)
 
 -- ---- a recording that is made
 pub recorded : (s : SendWords) (octets file : List ℕ) (ls : List ScriptLine) → script octets ≡ Ok ls → scripts.full_line (sending_of s) ls ≡ None
@@ -76,9 +71,9 @@ recorded s octets file ls read room is =
     ap (sends s) read ∙ (ap (λ o. unless_full o (Makes [] (made (scripts.recording (sending_of s) ls)))) room ∙ ap (λ f. Makes [] (made f)) (sym is))
 
 -- ---- how a `send` ends
-output_is : (Told : Type 0) (held : Contents) (s : SendWords) (octets file : List ℕ) → (Told → held s.script ≡ Some octets)
-    → sends s (script octets) ≡ Makes [] (record { name = s.out; octets = file } ∷ []) → IsOutput Told held (work (Send s)).steps 0 s.out
-output_is Told held s octets file t e = (octets, t, subst (λ steps. IsOutput Told held steps 0 s.out) (sym e) refl)
+output_is : (WorldTells : Type 0) (held : Contents) (s : SendWords) (octets file : List ℕ) → (WorldTells → held s.script ≡ Some octets)
+    → sends s (script octets) ≡ Makes [] (record { name = s.out; octets = file } ∷ []) → IsOutput WorldTells held (work (Send s)).steps 0 s.out
+output_is WorldTells held s octets file t e = (octets, t, subst (λ steps. IsOutput WorldTells held steps 0 s.out) (sym e) refl)
 
 made_of : (held : Contents) (s : SendWords) (octets file : List ℕ) → held s.script ≡ Some octets
     → sends s (script octets) ≡ Makes [] (record { name = s.out; octets = file } ∷ []) → outcome held (work (Send s)).steps ≡ Done [] (record { name = s.out; octets = file } ∷ [])
@@ -102,27 +97,27 @@ append_none : (xs : List ℕ) → xs ≡ xs ++ []
 append_none [] = refl
 append_none (x ∷ xs) = ap (λ ys. x ∷ ys) (append_none xs)
 
-pub saves : (s : SendWords) (Told Shown : Type 0) (old new : Outside) (between : Contents) (calls objects : List ℕ → ℕ) (input file : List ℕ) (res : Ending)
-    → new.out ≡ old.out → (octets : List ℕ) × (Told → old.contents s.script ≡ Some octets) × (sends s (script octets) ≡ Makes [] (record { name = s.out; octets = file } ∷ []))
-    → (Told → Same old.contents between) → ((n : List ℕ) → old.calls n ≤ calls n) → ((n : List ℕ) → old.objects n ≤ objects n)
+pub saves : (s : SendWords) (WorldTells OutTells : Type 0) (old new : Outside) (between : Contents) (calls objects : List ℕ → ℕ) (input file : List ℕ) (res : Ending)
+    → new.out ≡ old.out → (octets : List ℕ) × (WorldTells → old.contents s.script ≡ Some octets) × (sends s (script octets) ≡ Makes [] (record { name = s.out; octets = file } ∷ []))
+    → (WorldTells → Same old.contents between) → ((n : List ℕ) → old.calls n ≤ calls n) → ((n : List ℕ) → old.objects n ≤ objects n)
     → IfErr res (λ fault. fault ≡ CannotWrite 0)
-    → (Told → OnOk res (Stores (record { name = s.out; octets = file }) between new.contents))
+    → (WorldTells → OnOk res (Stores (record { name = s.out; octets = file }) between new.contents))
     → OnErr res (Rose (calls s.out) (new.calls s.out) ⊎ Rose (objects s.out) (new.objects s.out))
-    → (Told → OnErr res (IsPartlyStored (Rose (calls s.out) (new.calls s.out)) (Rose (objects s.out) (new.objects s.out)) (record { name = s.out; octets = file }) between new.contents))
-    → Ends (work (Send s)) Told Shown old new (name_in input s.out res) res
-saves s Told Shown old new between calls objects input file (Ok u) out made same f g fault saved cause partly =
+    → (WorldTells → OnErr res (IsPartlyStored (Rose (calls s.out) (new.calls s.out)) (Rose (objects s.out) (new.objects s.out)) (record { name = s.out; octets = file }) between new.contents))
+    → Ends (Send s) WorldTells OutTells old new (name_in input s.out res) res
+saves s WorldTells OutTells old new between calls objects input file (Ok u) out made same f g fault saved cause partly =
     λ told. done (outcome old.contents (work (Send s)).steps) [] (record { name = s.out; octets = file } ∷ [])
-    (λ printed files. (Told → AllStored files old.contents new.contents) × (Shown → new.out.octets ≡ old.out.octets ++ printed))
+    (λ printed files. (WorldTells → AllStored files old.contents new.contents) × (OutTells → new.out.octets ≡ old.out.octets ++ printed))
     (made_of old.contents s made.0 file (made.1 told) made.2) (
       (λ told. (new.contents, stores_after (record { name = s.out; octets = file }) old.contents between new.contents (same told) (saved told), λ name. refl)),
       λ shown. ap (λ (o : Output). o.octets) out ∙ append_none old.out.octets,
     )
-saves s Told Shown old new between calls objects input file (Err fault) out made same f g is saved cause partly =
-    let P : Fault → Type 0 = λ q. Ends (work (Send s)) Told Shown old new (name_in input s.out (Err q)) (Err q) in
+saves s WorldTells OutTells old new between calls objects input file (Err fault) out made same f g is saved cause partly =
+    let P : Fault → Type 0 = λ q. Ends (Send s) WorldTells OutTells old new (name_in input s.out (Err q)) (Err q) in
     let call : Rose (calls s.out) (new.calls s.out) → CallFailed old new s.out = λ r. rose_since (old.calls s.out) (calls s.out) (new.calls s.out) (f s.out) r in
     let object : Rose (objects s.out) (new.objects s.out) → ObjectFailed old new s.out = λ r. rose_since (old.objects s.out) (objects s.out) (new.objects s.out) (g s.out) r in
     subst P (sym is) (
-      output_is Told old.contents s made.0 file made.1 made.2,
+      output_is WorldTells old.contents s made.0 file made.1 made.2,
       either (Rose (calls s.out) (new.calls s.out)) (Rose (objects s.out) (new.objects s.out)) (CallFailed old new s.out) (ObjectFailed old new s.out) call object cause,
       (λ shown. ap (λ (o : Output). o.octets) out),
       λ told. done (outcome old.contents (work (Send s)).steps) [] (record { name = s.out; octets = file } ∷ [])

@@ -1,30 +1,34 @@
 -- A command whose first part changed nothing outside ends as its second part does.
 use Rattle.std.proofs.Common.{◌≡◌, ℕ, zero, suc, ◌+◌, Option, Some, None, List, ◌++◌, take, Ok, Err, refl, ap, sym, subst, ◌∙◌, inl, inr}
 use Rattle.std.specs.Prelude.{◌⊎◌}
+use Rattle.command_spec.specs.declared.faults.Refusal.{Refusal}
+use Rattle.command_spec.specs.declared.faults.Refusal.TheVariants.{AtByte, AtLine, AfterTurns}
 use Rattle.command_spec.specs.declared.faults.Fault.TheVariants.{WrongWords, CannotOpen, CannotRead, Refused, CannotPrint, CannotWrite, NoMemory}
-use Rattle.command_spec.specs.Work.{Contents, Made, Steps, Reads, Refuses, Makes, Work, IsInput, IsOutput}
+use Rattle.command_spec.specs.Words.{Command}
+use Rattle.command_spec.specs.Commands.{work}
+use Rattle.command_spec.specs.Work.{Contents, Made, Steps, Reads, Refuses, Makes, IsInput, IsOutput}
 use Rattle.command_spec.specs.Outcomes.{Outcome, Missing, Done, outcome, outcome_from, IsDone, Same, AllStored}
 use Rattle.command_spec.specs.Outcomes as outcomes
 use Rattle.command_spec.specs.Messages.{Ending}
-use Rattle.rtt_top.specs.Faults.{NoneBefore, WhereRead, name_in}
+use Rattle.rtt_top.specs.Faults.{NoneBefore, RefusesSo, WhereRead, name_in}
 use Rattle.rtt_top.specs.Outside.{Outside, Output, Failed, CallFailed, ObjectFailed}
-use Rattle.rtt_top.specs.Runs.{Prints, PrintsFront, Unchanged, PartlyStored, Ends}
+use Rattle.rtt_top.specs.Runs.{Prints, PrintsFront, Unchanged, PartlyStored, Ends, NoneFailed, NoneFailedBefore}
 use Rattle.rtt_top.proofs.Counts.{rose_since}
 use Rattle.rtt_top.proofs.Bridging.{IsBetween, all_stored_since, partly_since}
 
 -- ---- files
-input_since : (Told : Type 0) (old mid : Contents) → (Told → Same old mid) → (steps : Steps) (n : ℕ) (file : List ℕ) → IsInput Told mid steps n file → IsInput Told old steps n file
-input_since Told old mid same (Reads name next) zero file i = i
-input_since Told old mid same (Reads name next) (suc n) file i =
-    (i.0, (λ told. sym (same told name) ∙ i.1 told), input_since Told old mid same (next i.0) n file i.2)
-input_since Told old mid same (Refuses input refusal) n file i = absurd i
-input_since Told old mid same (Makes printed files) n file i = absurd i
+input_since : (WorldTells : Type 0) (old mid : Contents) → (WorldTells → Same old mid) → (steps : Steps) (n : ℕ) (file : List ℕ) → IsInput WorldTells mid steps n file → IsInput WorldTells old steps n file
+input_since WorldTells old mid same (Reads name next) zero file i = i
+input_since WorldTells old mid same (Reads name next) (suc n) file i =
+    (i.0, (λ told. sym (same told name) ∙ i.1 told), input_since WorldTells old mid same (next i.0) n file i.2)
+input_since WorldTells old mid same (Refuses input refusal) n file i = absurd i
+input_since WorldTells old mid same (Makes printed files) n file i = absurd i
 
-output_since : (Told : Type 0) (old mid : Contents) → (Told → Same old mid) → (steps : Steps) (n : ℕ) (file : List ℕ) → IsOutput Told mid steps n file → IsOutput Told old steps n file
-output_since Told old mid same (Reads name next) n file i =
-    (i.0, (λ told. sym (same told name) ∙ i.1 told), output_since Told old mid same (next i.0) n file i.2)
-output_since Told old mid same (Refuses input refusal) n file i = absurd i
-output_since Told old mid same (Makes printed files) n file i = i
+output_since : (WorldTells : Type 0) (old mid : Contents) → (WorldTells → Same old mid) → (steps : Steps) (n : ℕ) (file : List ℕ) → IsOutput WorldTells mid steps n file → IsOutput WorldTells old steps n file
+output_since WorldTells old mid same (Reads name next) n file i =
+    (i.0, (λ told. sym (same told name) ∙ i.1 told), output_since WorldTells old mid same (next i.0) n file i.2)
+output_since WorldTells old mid same (Refuses input refusal) n file i = absurd i
+output_since WorldTells old mid same (Makes printed files) n file i = i
 
 -- ---- outcomes
 outcome_since : (old mid : Contents) → Same old mid → (n : ℕ) (steps : Steps) → outcome_from n mid steps ≡ outcome_from n old steps
@@ -45,14 +49,14 @@ done_map (Missing n) P Q f d = absurd d
 done_map (outcomes.Refused n refusal) P Q f d = absurd d
 done_map (Done printed files) P Q f d = f printed files d
 
-outcome_where : (Told : Type 0) (old mid : Contents) → (Told → Same old mid) → (steps : Steps) → WhereRead steps Told → outcome mid steps ≡ outcome old steps
-outcome_where Told old mid same (Reads name next) t = outcome_since old mid (same t) 0 (Reads name next)
-outcome_where Told old mid same (Refuses input refusal) t = refl
-outcome_where Told old mid same (Makes printed files) t = refl
+outcome_where : (WorldTells : Type 0) (old mid : Contents) → (WorldTells → Same old mid) → (steps : Steps) → WhereRead steps WorldTells → outcome mid steps ≡ outcome old steps
+outcome_where WorldTells old mid same (Reads name next) t = outcome_since old mid (same t) 0 (Reads name next)
+outcome_where WorldTells old mid same (Refuses input refusal) t = refl
+outcome_where WorldTells old mid same (Makes printed files) t = refl
 
-done_where : (Told : Type 0) (old mid : Contents) (steps : Steps) (P Q : List ℕ → List Made → Type 0) → (Told → Same old mid) → WhereRead steps Told → ((printed : List ℕ) (files : List Made) → P printed files → Q printed files)
+done_where : (WorldTells : Type 0) (old mid : Contents) (steps : Steps) (P Q : List ℕ → List Made → Type 0) → (WorldTells → Same old mid) → WhereRead steps WorldTells → ((printed : List ℕ) (files : List Made) → P printed files → Q printed files)
     → IsDone (outcome mid steps) P → IsDone (outcome old steps) Q
-done_where Told old mid steps P Q same t f d = subst (λ o. IsDone o Q) (outcome_where Told old mid same steps t) (done_map (outcome mid steps) P Q f d)
+done_where WorldTells old mid steps P Q same t f d = subst (λ o. IsDone o Q) (outcome_where WorldTells old mid same steps t) (done_map (outcome mid steps) P Q f d)
 
 done_since : (old mid : Contents) (steps : Steps) (P Q : List ℕ → List Made → Type 0) → Same old mid → ((printed : List ℕ) (files : List Made) → P printed files → Q printed files)
     → IsDone (outcome mid steps) P → IsDone (outcome old steps) Q
@@ -63,71 +67,102 @@ either : (A B C D : Type 0) → (A → C) → (B → D) → A ⊎ B → C ⊎ D
 either A B C D f g (inl a) = inl (f a)
 either A B C D f g (inr b) = inr (g b)
 
-call_since : (Told : Type 0) (old mid new : Outside) → IsBetween Told old mid mid.contents mid.calls mid.objects → (name : List ℕ) → CallFailed mid new name → CallFailed old new name
-call_since Told old mid new b name r = rose_since (old.calls name) (mid.calls name) (new.calls name) (b.calls_rise name) r
+call_since : (WorldTells : Type 0) (old mid new : Outside) → IsBetween WorldTells old mid mid.contents mid.calls mid.objects → (name : List ℕ) → CallFailed mid new name → CallFailed old new name
+call_since WorldTells old mid new b name r = rose_since (old.calls name) (mid.calls name) (new.calls name) (b.calls_rise name) r
 
-object_since : (Told : Type 0) (old mid new : Outside) → IsBetween Told old mid mid.contents mid.calls mid.objects → (name : List ℕ) → ObjectFailed mid new name → ObjectFailed old new name
-object_since Told old mid new b name r = rose_since (old.objects name) (mid.objects name) (new.objects name) (b.objects_rise name) r
+object_since : (WorldTells : Type 0) (old mid new : Outside) → IsBetween WorldTells old mid mid.contents mid.calls mid.objects → (name : List ℕ) → ObjectFailed mid new name → ObjectFailed old new name
+object_since WorldTells old mid new b name r = rose_since (old.objects name) (mid.objects name) (new.objects name) (b.objects_rise name) r
 
-unchanged_since : (Told Shown : Type 0) (old mid new : Outside) → IsBetween Told old mid mid.contents mid.calls mid.objects → mid.out ≡ old.out
-    → Unchanged Told Shown mid new → Unchanged Told Shown old new
-unchanged_since Told Shown old mid new b out u = (
+unchanged_since : (WorldTells OutTells : Type 0) (old mid new : Outside) → IsBetween WorldTells old mid mid.contents mid.calls mid.objects → mid.out ≡ old.out
+    → Unchanged WorldTells OutTells mid new → Unchanged WorldTells OutTells old new
+unchanged_since WorldTells OutTells old mid new b out u = (
   (λ shown. u.0 shown ∙ ap (λ (o : Output). o.octets) out),
   λ told name. u.1 told name ∙ b.same told name,
 )
 
-where_read : (steps : Steps) (P Q : Type 0) → (P → Q) → WhereRead steps P → WhereRead steps Q
-where_read (Reads name next) P Q f p = f p
-where_read (Refuses input refusal) P Q f p = tt
-where_read (Makes printed files) P Q f p = tt
+-- ---- what failed
+input_back : (WorldTells : Type 0) (old mid : Contents) → (WorldTells → Same old mid) → (steps : Steps) (n : ℕ) (file : List ℕ) → IsInput WorldTells old steps n file → IsInput WorldTells mid steps n file
+input_back WorldTells old mid same steps n file i = input_since WorldTells mid old (λ told name. sym (same told name)) steps n file i
 
-pub ends_since : (w : Work) (Told Shown : Type 0) (old mid new : Outside) (name : List ℕ) (ending : Ending) → IsBetween Told old mid mid.contents mid.calls mid.objects → mid.out ≡ old.out
-    → Ends w Told Shown mid new name ending → Ends w Told Shown old new name ending
-ends_since w Told Shown old mid new name (Ok u) b out e = λ t.
-    done_where Told old.contents mid.contents w.steps
-    (λ printed files. (Told → AllStored files mid.contents new.contents) × (Shown → Prints printed mid new))
-    (λ printed files. (Told → AllStored files old.contents new.contents) × (Shown → Prints printed old new)) b.same t
+none_before_since : (n : ℕ) (c : Command) (WorldTells : Type 0) (old mid new : Outside) → (WorldTells → Same old.contents mid.contents) → NoneFailed old mid
+    → NoneFailedBefore n c WorldTells mid new → NoneFailedBefore n c WorldTells old new
+none_before_since n c WorldTells old mid new same calm none k name less i later =
+    none k name less (input_back WorldTells old.contents mid.contents same (work c).steps k name i)
+    (λ m le j. later m le (input_since WorldTells old.contents mid.contents same (work c).steps m name j))
+    ∙ calm name
+
+-- the steps refuse so
+refuses_since : (WorldTells : Type 0) (old mid : Contents) → (WorldTells → Same old mid) → (steps : Steps) (n : ℕ) (refusal : Refusal) → RefusesSo WorldTells mid steps n refusal → RefusesSo WorldTells old steps n refusal
+refuses_since WorldTells old mid same (Reads name next) n refusal r =
+    (r.0, (λ told. sym (same told name) ∙ r.1 told), refuses_since WorldTells old mid same (next r.0) n refusal r.2)
+refuses_since WorldTells old mid same (Refuses input other) n refusal r = r
+refuses_since WorldTells old mid same (Makes printed files) n refusal r = absurd r
+
+pub ends_since : (c : Command) (WorldTells OutTells : Type 0) (old mid new : Outside) (name : List ℕ) (ending : Ending) → IsBetween WorldTells old mid mid.contents mid.calls mid.objects → mid.out ≡ old.out → NoneFailed old mid
+    → Ends c WorldTells OutTells mid new name ending → Ends c WorldTells OutTells old new name ending
+ends_since c WorldTells OutTells old mid new name (Ok u) b out calm e = λ t.
+    done_where WorldTells old.contents mid.contents (work c).steps
+    (λ printed files. (WorldTells → AllStored files mid.contents new.contents) × (OutTells → Prints printed mid new))
+    (λ printed files. (WorldTells → AllStored files old.contents new.contents) × (OutTells → Prints printed old new)) b.same t
     (λ printed files d. ((λ told. all_stored_since files old.contents mid.contents new.contents (b.same told) (d.0 told)), λ shown. d.1 shown ∙ ap (λ (o : Output). o.octets ++ printed) out)) (e t)
-ends_since w Told Shown old mid new name (Err CannotPrint) b out e = (
+ends_since c WorldTells OutTells old mid new name (Err CannotPrint) b out calm e = (
   e.0,
   subst (λ o. Failed o new.out) out e.1,
-  λ t. done_where Told old.contents mid.contents w.steps
-      (λ printed files. (Told → AllStored files mid.contents new.contents) × (Shown → PrintsFront printed mid new))
-      (λ printed files. (Told → AllStored files old.contents new.contents) × (Shown → PrintsFront printed old new)) b.same t
+  λ t. done_where WorldTells old.contents mid.contents (work c).steps
+      (λ printed files. (WorldTells → AllStored files mid.contents new.contents) × (OutTells → PrintsFront printed mid new))
+      (λ printed files. (WorldTells → AllStored files old.contents new.contents) × (OutTells → PrintsFront printed old new)) b.same t
       (λ printed files d. (
         (λ told. all_stored_since files old.contents mid.contents new.contents (b.same told) (d.0 told)),
         λ shown. (let p = d.1 shown in (p.0, p.1 ∙ ap (λ (o : Output). o.octets ++ take p.0 printed) out)),
       )) (e.2 t),
 )
-ends_since w Told Shown old mid new name (Err (CannotWrite n)) b out e = (
-  output_since Told old.contents mid.contents b.same w.steps n name e.0,
-  either (CallFailed mid new name) (ObjectFailed mid new name) (CallFailed old new name) (ObjectFailed old new name) (call_since Told old mid new b name) (object_since Told old mid new b name) e.1,
+ends_since c WorldTells OutTells old mid new name (Err (CannotWrite n)) b out calm e = (
+  output_since WorldTells old.contents mid.contents b.same (work c).steps n name e.0,
+  either (CallFailed mid new name) (ObjectFailed mid new name) (CallFailed old new name) (ObjectFailed old new name) (call_since WorldTells old mid new b name) (object_since WorldTells old mid new b name) e.1,
   (λ shown. e.2 shown ∙ ap (λ (o : Output). o.octets) out),
-  λ told. done_since old.contents mid.contents w.steps
+  λ told. done_since old.contents mid.contents (work c).steps
       (λ printed files. PartlyStored (CallFailed mid new) (ObjectFailed mid new) n files mid.contents new.contents)
       (λ printed files. PartlyStored (CallFailed old new) (ObjectFailed old new) n files old.contents new.contents) (b.same told)
       (λ printed files p. partly_since (CallFailed old new) (ObjectFailed old new) (CallFailed mid new) (ObjectFailed mid new) n files old.contents mid.contents new.contents
-      (call_since Told old mid new b) (object_since Told old mid new b) (b.same told) p) (e.3 told),
+      (call_since WorldTells old mid new b) (object_since WorldTells old mid new b) (b.same told) p) (e.3 told),
 )
-ends_since w Told Shown old mid new name (Err WrongWords) b out e = absurd e.0
-ends_since w Told Shown old mid new name (Err (CannotOpen n)) b out e =
-    ((input_since Told old.contents mid.contents b.same w.steps n name e.0.0, call_since Told old mid new b name e.0.1), unchanged_since Told Shown old mid new b out e.1)
-ends_since w Told Shown old mid new name (Err (CannotRead n)) b out e = (
-  (
-    input_since Told old.contents mid.contents b.same w.steps n name e.0.0,
-    object_since Told old mid new b name e.0.1,
-    λ told. subst (λ o. NoneBefore n o) (outcome_since old.contents mid.contents (b.same told) 0 w.steps) (e.0.2 told),
-  ),
-  unchanged_since Told Shown old mid new b out e.1,
+ends_since c WorldTells OutTells old mid new name (Err WrongWords) b out calm e = absurd e
+ends_since c WorldTells OutTells old mid new name (Err (CannotOpen n)) b out calm e = (
+  input_since WorldTells old.contents mid.contents b.same (work c).steps n name e.0,
+  call_since WorldTells old mid new b name e.1,
+  unchanged_since WorldTells OutTells old mid new b out e.2,
 )
-ends_since w Told Shown old mid new name (Err (Refused n refusal)) b out e = (
-  (
-    where_read w.steps (IsInput Told mid.contents w.steps n name) (IsInput Told old.contents w.steps n name) (input_since Told old.contents mid.contents b.same w.steps n name) e.0.0,
-    λ t. sym (outcome_where Told old.contents mid.contents b.same w.steps t) ∙ e.0.1 t,
-  ),
-  unchanged_since Told Shown old mid new b out e.1,
+ends_since c WorldTells OutTells old mid new name (Err (CannotRead n)) b out calm e = (
+  input_since WorldTells old.contents mid.contents b.same (work c).steps n name e.0,
+  object_since WorldTells old mid new b name e.1,
+  (λ told. (
+    subst (λ o. NoneBefore n o) (outcome_since old.contents mid.contents (b.same told) 0 (work c).steps) (e.2 told).0,
+    none_before_since n c WorldTells old mid new b.same calm (e.2 told).1,
+  )),
+  unchanged_since WorldTells OutTells old mid new b out e.3,
 )
-ends_since w Told Shown old mid new name (Err NoMemory) b out e = (tt, unchanged_since Told Shown old mid new b out e.1)
+ends_since c WorldTells OutTells old mid new name (Err (Refused n (AtLine line kind))) b out calm e = (
+  input_since WorldTells old.contents mid.contents b.same (work c).steps n name e.0,
+  refuses_since WorldTells old.contents mid.contents b.same (work c).steps n (AtLine line kind) e.1,
+  unchanged_since WorldTells OutTells old mid new b out e.2,
+)
+ends_since c WorldTells OutTells old mid new name (Err (Refused n (AtByte byte kind))) b out calm e = (
+  input_since WorldTells old.contents mid.contents b.same (work c).steps n name e.0,
+  e.1,
+  (λ told. (
+    sym (outcome_since old.contents mid.contents (b.same told) 0 (work c).steps) ∙ (e.2 told).0,
+    none_before_since n c WorldTells old mid new b.same calm (e.2 told).1,
+  )),
+  unchanged_since WorldTells OutTells old mid new b out e.3,
+)
+ends_since c WorldTells OutTells old mid new name (Err (Refused n (AfterTurns turns))) b out calm e = (
+  e.0,
+  e.1,
+  (λ t. sym (outcome_where WorldTells old.contents mid.contents b.same (work c).steps t) ∙ e.2 t),
+  (λ file. e.3 file ∙ calm file),
+  unchanged_since WorldTells OutTells old mid new b out e.4,
+)
+ends_since c WorldTells OutTells old mid new name (Err NoMemory) b out calm e = unchanged_since WorldTells OutTells old mid new b out e
 
 -- ---- names
 pub same_name : (name : List ℕ) (ending : Ending) → name_in name name ending ≡ name

@@ -1,5 +1,5 @@
 -- The faults of a mixing, and the names of the files that they are about.
-use Rattle.std.specs.Prelude.{◌≡◌, ℕ, zero, suc, ◌+◌, true, Option, None, Some, List, Ok, Err, if◌then◌else◌}
+use Rattle.std.specs.Prelude.{◌≡◌, ℕ, zero, suc, ◌+◌, Option, None, Some, List, Ok, Err, if◌then◌else◌}
 use Rattle.rtpdump_io.specs.declared.items.DumpFault.{DumpFault}
 use Rattle.rtpdump_io.specs.Reading.{is_of_source}
 use Rattle.file_spec.specs.declared.conf_lines.Form.TheVariants.{Files}
@@ -10,8 +10,7 @@ use Rattle.command_spec.specs.declared.faults.Refusal.TheVariants.{AtByte, After
 use Rattle.command_spec.specs.declared.faults.Fault.{Fault}
 use Rattle.command_spec.specs.declared.faults.Fault.TheVariants.{WrongWords, CannotOpen, CannotRead, Refused, CannotPrint, CannotWrite, NoMemory}
 use Rattle.command_spec.specs.Messages.{Ending}
-use Rattle.command_spec.specs.Work.{Work}
-use Rattle.command_spec.specs.Mixing.{mixing}
+use Rattle.command_spec.specs.Words.{Command, Mix}
 use Rattle.rtt_top.specs.Outside.{Outside}
 use Rattle.rtt_top.specs.Runs.{Ends}
 use Rattle.bridge_run.specs.declared.mixed.MixFault.{MixFault}
@@ -59,11 +58,11 @@ ending_name file legs (Ok done) = file
 ending_name file legs (Err fault) = fault_name file legs fault
 
 -- the conference in this file is mixed
-abbrev pub mixing_work : List ℕ → Work
-mixing_work file = record { prints = true; steps = mixing file }
+abbrev pub mixing_of : List ℕ → Command
+mixing_of file = Mix (record { conf = file })
 
 -- mixing ends so where the file of any name has this conference
-abbrev pub MixingEnds : (Told Shown : Type 0) → Outside → Outside → Conf → Ending → Type 0
-MixingEnds Told Shown old new c ending =
-    (file octets : List ℕ) → (Told → old.contents file ≡ Some octets) → conf Files octets ≡ Ok c
-    → Ends (mixing_work file) Told Shown old new (ending_name file c.legs ending) ending
+abbrev pub MixingEnds : (WorldTells OutTells : Type 0) → Outside → Outside → Conf → Ending → Type 0
+MixingEnds WorldTells OutTells old new c ending =
+    (file octets : List ℕ) → (WorldTells → old.contents file ≡ Some octets) → conf Files octets ≡ Ok c
+    → Ends (mixing_of file) WorldTells OutTells old new (ending_name file c.legs ending) ending

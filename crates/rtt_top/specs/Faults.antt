@@ -1,12 +1,14 @@
 -- Why a command stops before it makes anything.
-use Rattle.std.specs.Prelude.{◌≡◌, ◌≤◌, ℕ, Option, Some, List, Err}
+use Rattle.std.specs.Prelude.{◌≡◌, ◌≤◌, ℕ, zero, suc, Bool, true, false, Option, Some, List, Err}
 use Rattle.wire_spec.specs.Dump.{Recording}
 use Rattle.wire_spec.specs.Dump as dumps
 use Rattle.command_spec.specs.declared.faults.Refusal.{Refusal}
 use Rattle.command_spec.specs.declared.faults.Refusal.TheVariants.{AtByte, AtLine, AfterTurns}
 use Rattle.command_spec.specs.declared.faults.Fault.{Fault}
 use Rattle.command_spec.specs.declared.faults.Fault.TheVariants.{WrongWords, CannotOpen, CannotRead, Refused, CannotPrint, CannotWrite, NoMemory}
-use Rattle.command_spec.specs.Work.{Contents, Steps, Reads, Refuses, Makes, IsInput}
+use Rattle.command_spec.specs.Words.{Command, Read, ListRecords, Send, Mix, Make}
+use Rattle.command_spec.specs.Work.{Contents, Steps, Reads, Refuses, Makes}
+use Rattle.command_spec.specs.Commands.{work}
 use Rattle.command_spec.specs.Outcomes.{Outcome, Missing, Done, outcome}
 use Rattle.command_spec.specs.Outcomes as outcomes
 use Rattle.command_spec.specs.Messages.{Ending, message_of}
@@ -25,18 +27,44 @@ NoneBefore n (outcomes.Refused input (AtLine line kind)) = n ≤ input
 NoneBefore n (outcomes.Refused input (AfterTurns turns)) = Unit {0}
 NoneBefore n (Done printed files) = Unit {0}
 
--- An input of this name could not be opened or read, where none before it is refused, or it is refused; `Call` and `Object` tell of which names a call or an
--- object failed. Want of memory is free.
-abbrev pub Stops : (Told : Type 0) → Contents → Steps → (Call Object : List ℕ → Type 0) → List ℕ → Fault → Type 0
-Stops Told held steps Call Object name WrongWords = ⊥
-Stops Told held steps Call Object name (CannotOpen input) = IsInput Told held steps input name × Call name
-Stops Told held steps Call Object name (CannotRead input) =
-    IsInput Told held steps input name × Object name × (Told → NoneBefore input (outcome held steps))
-Stops Told held steps Call Object name (Refused input refusal) =
-    WhereRead steps (IsInput Told held steps input name) × (WhereRead steps Told → outcome held steps ≡ outcomes.Refused input refusal)
-Stops Told held steps Call Object name CannotPrint = ⊥
-Stops Told held steps Call Object name (CannotWrite output) = ⊥
-Stops Told held steps Call Object name NoMemory = Unit {0}
+-- These steps refuse this input so, where the octets of what is read lie there, as far as that is told.
+abbrev pub RefusesSo : (WorldTells : Type 0) → Contents → Steps → ℕ → Refusal → Type 0
+RefusesSo WorldTells held (Reads name next) input refusal =
+    (octets : List ℕ) × (WorldTells → held name ≡ Some octets) × RefusesSo WorldTells held (next octets) input refusal
+RefusesSo WorldTells held (Refuses n other) input refusal = (n ≡ input) × (other ≡ refusal)
+RefusesSo WorldTells held (Makes printed files) input refusal = ⊥
+
+-- The input of this number is a recording: the one that is read or listed, or that of a leg.
+abbrev pub is_recording : Command → ℕ → Bool
+is_recording (Read r) input = true
+is_recording (ListRecords l) input = true
+is_recording (Send s) input = false
+is_recording (Mix m) zero = false
+is_recording (Mix m) (suc leg) = true
+is_recording (Make m) input = false
+
+-- a conference is mixed
+abbrev pub is_mixed : Command → Bool
+is_mixed (Read r) = false
+is_mixed (ListRecords l) = false
+is_mixed (Send s) = false
+is_mixed (Mix m) = true
+is_mixed (Make m) = true
+
+-- Why a command stops over the file that it reads first; `Call` and `Object` tell that a call or an object of its name
+-- failed. Want of memory is free.
+abbrev pub Stops : (WorldTells : Type 0) → Contents → Command → (Call Object : Type 0) → Fault → Type 0
+Stops WorldTells held c Call Object WrongWords = ⊥
+Stops WorldTells held c Call Object (CannotOpen input) = (input ≡ 0) × Call
+Stops WorldTells held c Call Object (CannotRead input) = (input ≡ 0) × Object
+Stops WorldTells held c Call Object (Refused input (AtLine line kind)) =
+    (input ≡ 0) × RefusesSo WorldTells held (work c).steps 0 (AtLine line kind)
+Stops WorldTells held c Call Object (Refused input (AtByte byte kind)) =
+    (input ≡ 0) × (is_recording c 0 ≡ true) × (WorldTells → outcome held (work c).steps ≡ outcomes.Refused 0 (AtByte byte kind))
+Stops WorldTells held c Call Object (Refused input (AfterTurns turns)) = ⊥
+Stops WorldTells held c Call Object CannotPrint = ⊥
+Stops WorldTells held c Call Object (CannotWrite output) = ⊥
+Stops WorldTells held c Call Object NoMemory = Unit {0}
 
 -- the first input could not be read to its end, for such a cause
 abbrev pub IsUnread : (Call Object : Type 0) → Fault → Type 0
@@ -59,7 +87,9 @@ abbrev pub IsOfRecording : (Source : Type 0) → Fault → Type 0
 IsOfRecording Source WrongWords = ⊥
 IsOfRecording Source (CannotOpen input) = ⊥
 IsOfRecording Source (CannotRead input) = (input ≡ 0) × Source
-IsOfRecording Source (Refused input refusal) = input ≡ 0
+IsOfRecording Source (Refused input (AtByte byte kind)) = input ≡ 0
+IsOfRecording Source (Refused input (AtLine line kind)) = ⊥
+IsOfRecording Source (Refused input (AfterTurns turns)) = ⊥
 IsOfRecording Source CannotPrint = ⊥
 IsOfRecording Source (CannotWrite output) = ⊥
 IsOfRecording Source NoMemory = Unit {0}

@@ -7,3 +7,4 @@ pub mod Conferences
 pub mod Makings
 pub mod Sinks
 pub mod Worlds
+pub mod Statuses

@@ -6,12 +6,12 @@ use Rattle.command_spec.specs.Work.{Contents, Made, IsNth}
 use Rattle.rtt_top.specs.Runs.{PartlyStored}
 
 -- One of the files could not be written: those before it are whole, and those behind it as before.
-abbrev pub IsUnwritten : (Told : Type 0) → (Call Object : List ℕ → Type 0) → List Made → Contents → Contents → Fault → Type 0
-IsUnwritten Told Call Object files old new WrongWords = ⊥
-IsUnwritten Told Call Object files old new (CannotOpen input) = ⊥
-IsUnwritten Told Call Object files old new (CannotRead input) = ⊥
-IsUnwritten Told Call Object files old new (Refused input refusal) = ⊥
-IsUnwritten Told Call Object files old new CannotPrint = ⊥
-IsUnwritten Told Call Object files old new (CannotWrite output) =
-    (name : List ℕ) × IsNth files output name × (Call name ⊎ Object name) × (Told → PartlyStored Call Object output files old new)
-IsUnwritten Told Call Object files old new NoMemory = ⊥
+abbrev pub IsUnwritten : (WorldTells : Type 0) → (Call Object : List ℕ → Type 0) → List Made → Contents → Contents → Fault → Type 0
+IsUnwritten WorldTells Call Object files old new WrongWords = ⊥
+IsUnwritten WorldTells Call Object files old new (CannotOpen input) = ⊥
+IsUnwritten WorldTells Call Object files old new (CannotRead input) = ⊥
+IsUnwritten WorldTells Call Object files old new (Refused input refusal) = ⊥
+IsUnwritten WorldTells Call Object files old new CannotPrint = ⊥
+IsUnwritten WorldTells Call Object files old new (CannotWrite output) =
+    (name : List ℕ) × IsNth files output name × (Call name ⊎ Object name) × (WorldTells → PartlyStored Call Object output files old new)
+IsUnwritten WorldTells Call Object files old new NoMemory = ⊥

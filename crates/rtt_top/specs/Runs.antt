@@ -1,17 +1,20 @@
--- What a run of the program is: how it ends, and what then lies outside (profile). `Told`, `Shown` and `Heard` say that
--- the world, the output and the output of errors tell what they hold.
-use Rattle.std.specs.Prelude.{◌≡◌, ◌⊎◌, ℕ, Bool, true, false, Option, None, Some, List, [], ◌∷◌, ◌++◌, take, Ok, Err, suc, zero, map, String, string_bytes}
+-- What a run of the program is: how it ends, and what then lies outside (profile). `WorldTells`, `OutTells` and
+-- `ErrTells` say that the world, the output and the output of errors tell what they hold.
+use Rattle.std.specs.Prelude.{◌≡◌, ◌⊎◌, ◌<◌, ◌≤◌, ℕ, Bool, true, false, Option, None, Some, List, [], ◌∷◌, ◌++◌, take, Ok, Err, suc, zero, map, String, string_bytes}
 use Rattle.std.specs.Global.{Global}
+use Rattle.rtt_io.specs.Fronts.{TakesFront}
 use Rattle.command_spec.specs.Words.{ReadWords, MixWords, Command, Read, ListRecords, Send, Mix, Make, command}
 use Rattle.stream_spec.specs.History.{History, Lawful, Come}
-use Rattle.command_spec.specs.declared.faults.Fault.TheVariants.{WrongWords, CannotPrint, CannotWrite, NoMemory}
+use Rattle.command_spec.specs.declared.faults.Refusal.TheVariants.{AtByte, AtLine, AfterTurns}
+use Rattle.command_spec.specs.declared.faults.Fault.TheVariants.{WrongWords, CannotOpen, CannotRead, Refused, CannotPrint, CannotWrite, NoMemory}
 use Rattle.command_spec.specs.Work.{Contents, Made, Work, IsInput, IsOutput}
-use Rattle.command_spec.specs.Outcomes.{outcome, IsDone, Same, Stores, AllStored}
+use Rattle.command_spec.specs.Outcomes.{Outcome, outcome, IsDone, Same, Stores, AllStored}
+use Rattle.command_spec.specs.Outcomes as outcomes
 use Rattle.command_spec.specs.Bridges.{IsBridged}
 use Rattle.command_spec.specs.Reading.{arrivals_of, history_view}
 use Rattle.command_spec.specs.Commands.{request_of, work}
 use Rattle.command_spec.specs.Messages.{Ending, ending_of, status_of, message_of}
-use Rattle.rtt_top.specs.Faults.{Stops, WhereRead}
+use Rattle.rtt_top.specs.Faults.{NoneBefore, RefusesSo, WhereRead, is_mixed, is_recording}
 use Rattle.rtt_top.specs.Files.{IsPartlyStored}
 use Rattle.rtt_top.specs.Outside.{Outside, Output, Failed, CallFailed, ObjectFailed}
 
@@ -37,9 +40,9 @@ abbrev pub PrintsFront : List ℕ → Outside → Outside → Type 0
 PrintsFront octets old new = (n : ℕ) × Prints (take n octets) old new
 
 -- nothing was printed, and no file was changed
-abbrev pub Unchanged : (Told Shown : Type 0) → Outside → Outside → Type 0
-Unchanged Told Shown old new =
-    (Shown → new.out.octets ≡ old.out.octets) × (Told → Same old.contents new.contents)
+abbrev pub Unchanged : (WorldTells OutTells : Type 0) → Outside → Outside → Type 0
+Unchanged WorldTells OutTells old new =
+    (OutTells → new.out.octets ≡ old.out.octets) × (WorldTells → Same old.contents new.contents)
 
 -- Of the files that are made those before number n are whole. That one is as before where it could not be created, and
 -- a front of it is there where its sink failed. Those behind it, and all others, are as before.
@@ -54,28 +57,74 @@ PartlyStored Call Object (suc n) (file ∷ more) old new =
 abbrev pub FailedAt : Outside → Outside → List ℕ → Type 0
 FailedAt old new name = CallFailed old new name ⊎ ObjectFailed old new name
 
--- How a command may end, where the file that is told of has this name. 0: all is made. 7: a front of it is. With 3, 4,
--- 5, 6, 9 and 70 nothing is changed.
-abbrev pub Ends : Work → (Told Shown : Type 0) → Outside → Outside → List ℕ → Ending → Type 0
-Ends w Told Shown old new name (Ok done) =
-    WhereRead w.steps Told → IsDone (outcome old.contents w.steps) (λ printed files.
-    (Told → AllStored files old.contents new.contents) × (Shown → Prints printed old new))
-Ends w Told Shown old new name (Err CannotPrint) = (w.prints ≡ true) × Failed old.out new.out
-    × (WhereRead w.steps Told → IsDone (outcome old.contents w.steps) (λ printed files.
-    (Told → AllStored files old.contents new.contents) × (Shown → PrintsFront printed old new)))
-Ends w Told Shown old new name (Err (CannotWrite output)) = IsOutput Told old.contents w.steps output name
+-- what a command comes to where nothing outside fails
+abbrev pub outcome_of : Command → Outside → Outcome
+outcome_of c old = outcome old.contents (work c).steps
+
+-- the input, and the output, of this number have this name, as far as the world tells
+abbrev pub IsInputOf : Command → (WorldTells : Type 0) → Outside → ℕ → List ℕ → Type 0
+IsInputOf c WorldTells old input name = IsInput WorldTells old.contents (work c).steps input name
+
+abbrev pub IsOutputOf : Command → (WorldTells : Type 0) → Outside → ℕ → List ℕ → Type 0
+IsOutputOf c WorldTells old output name = IsOutput WorldTells old.contents (work c).steps output name
+
+-- all files are made, and this holds of what is printed
+abbrev pub IsAllMade : Command → (WorldTells : Type 0) → Outside → Outside → (List ℕ → Type 0) → Type 0
+IsAllMade c WorldTells old new Printed = WhereRead (work c).steps WorldTells
+    → IsDone (outcome_of c old) (λ printed files. (WorldTells → AllStored files old.contents new.contents) × Printed printed)
+
+-- the files before this number are made, and a front of that one
+abbrev pub IsPartlyMade : Command → Outside → Outside → ℕ → Type 0
+IsPartlyMade c old new output = IsDone (outcome_of c old) (λ printed files.
+    PartlyStored (CallFailed old new) (ObjectFailed old new) output files old.contents new.contents)
+
+-- no source and no sink failed: each name has its old count
+abbrev pub NoneFailed : Outside → Outside → Type 0
+NoneFailed old new = (name : List ℕ) → new.objects name ≡ old.objects name
+
+-- no source of an input before this number failed, but for names that this or a later input has too
+abbrev pub NoneFailedBefore : ℕ → Command → (WorldTells : Type 0) → Outside → Outside → Type 0
+NoneFailedBefore input c WorldTells old new = (n : ℕ) (name : List ℕ) → n < input → IsInputOf c WorldTells old n name
+    → ((later : ℕ) → input ≤ later → IsInputOf c WorldTells old later name → ⊥) → new.objects name ≡ old.objects name
+
+-- How a command may end, where the file that is told of has this name, in the order of the statuses: 0, 2, 3, 4, 5, 6, 7 (of
+-- the output, then of a file), 9 and 70.
+abbrev pub Ends : Command → (WorldTells OutTells : Type 0) → Outside → Outside → List ℕ → Ending → Type 0
+Ends c WorldTells OutTells old new name (Ok done) =
+    IsAllMade c WorldTells old new (λ printed. OutTells → Prints printed old new)
+Ends c WorldTells OutTells old new name (Err WrongWords) = ⊥
+Ends c WorldTells OutTells old new name (Err (CannotOpen input)) = IsInputOf c WorldTells old input name
+    × CallFailed old new name
+    × Unchanged WorldTells OutTells old new
+Ends c WorldTells OutTells old new name (Err (CannotRead input)) = IsInputOf c WorldTells old input name
+    × ObjectFailed old new name
+    × (WorldTells → NoneBefore input (outcome_of c old) × NoneFailedBefore input c WorldTells old new)
+    × Unchanged WorldTells OutTells old new
+Ends c WorldTells OutTells old new name (Err (Refused input (AtLine line kind))) = IsInputOf c WorldTells old input name
+    × RefusesSo WorldTells old.contents (work c).steps input (AtLine line kind)
+    × Unchanged WorldTells OutTells old new
+Ends c WorldTells OutTells old new name (Err (Refused input (AtByte byte kind))) = IsInputOf c WorldTells old input name
+    × (is_recording c input ≡ true)
+    × (WorldTells → (outcome_of c old ≡ outcomes.Refused input (AtByte byte kind)) × NoneFailedBefore input c WorldTells old new)
+    × Unchanged WorldTells OutTells old new
+Ends c WorldTells OutTells old new name (Err CannotPrint) = ((work c).prints ≡ true)
+    × Failed old.out new.out
+    × IsAllMade c WorldTells old new (λ printed. OutTells → PrintsFront printed old new)
+Ends c WorldTells OutTells old new name (Err (CannotWrite output)) = IsOutputOf c WorldTells old output name
     × FailedAt old new name
-    × (Shown → new.out.octets ≡ old.out.octets)
-    × (Told → IsDone (outcome old.contents w.steps) (λ printed files.
-    PartlyStored (CallFailed old new) (ObjectFailed old new) output files old.contents new.contents))
-Ends w Told Shown old new name (Err fault) =
-    Stops Told old.contents w.steps (CallFailed old new) (ObjectFailed old new) name fault
-    × Unchanged Told Shown old new
+    × (OutTells → new.out.octets ≡ old.out.octets)
+    × (WorldTells → IsPartlyMade c old new output)
+Ends c WorldTells OutTells old new name (Err (Refused input (AfterTurns turns))) = (input ≡ 0)
+    × (is_mixed c ≡ true)
+    × (WhereRead (work c).steps WorldTells → outcome_of c old ≡ outcomes.Refused input (AfterTurns turns))
+    × NoneFailed old new
+    × Unchanged WorldTells OutTells old new
+Ends c WorldTells OutTells old new name (Err NoMemory) = Unchanged WorldTells OutTells old new
 
 -- no count rose at a name that the command uses, nor, where it prints, that of the output
-pub record IsCalm (w : Work) (Told : Type 0) (old new : Outside) : Type 0 where
-  pub inputs : (n : ℕ) (name : List ℕ) → IsInput Told old.contents w.steps n name → FailedAt old new name → ⊥
-  pub outputs : (n : ℕ) (name : List ℕ) → IsOutput Told old.contents w.steps n name → FailedAt old new name → ⊥
+pub record IsCalm (w : Work) (WorldTells : Type 0) (old new : Outside) : Type 0 where
+  pub inputs : (n : ℕ) (name : List ℕ) → IsInput WorldTells old.contents w.steps n name → FailedAt old new name → ⊥
+  pub outputs : (n : ℕ) (name : List ℕ) → IsOutput WorldTells old.contents w.steps n name → FailedAt old new name → ⊥
   pub output : w.prints ≡ true → Failed old.out new.out → ⊥
 
 -- it ends as its outcome says, or memory ran out
@@ -87,9 +136,9 @@ abbrev pub IsOfWords : Ending → Type 0
 IsOfWords ending = (ending ≡ Err WrongWords) ⊎ (ending ≡ Err NoMemory)
 
 -- how a run of what the words ask for may end
-abbrev pub RunEnds : Option Command → (Told Shown : Type 0) → Outside → Outside → List ℕ → Ending → Type 0
-RunEnds None Told Shown old new name ending = IsOfWords ending × Unchanged Told Shown old new
-RunEnds (Some c) Told Shown old new name ending = Ends (work c) Told Shown old new name ending
+abbrev pub RunEnds : Option Command → (WorldTells OutTells : Type 0) → Outside → Outside → List ℕ → Ending → Type 0
+RunEnds None WorldTells OutTells old new name ending = IsOfWords ending × Unchanged WorldTells OutTells old new
+RunEnds (Some c) WorldTells OutTells old new name ending = Ends c WorldTells OutTells old new name ending
 
 -- a recording that is read, whose packets are those of a history, and the view of that history
 pub record IsViewOf (h : History) (words : Option Command) (held : Contents) (view : List ℕ) : Type 0 where
@@ -101,22 +150,23 @@ pub record IsViewOf (h : History) (words : Option Command) (held : Contents) (vi
   pub view_is : view ≡ history_view h (request_of request) octets
 
 -- What was made of a conference is bridged: the headline, from its files to what lies there then and what was printed.
-pub record IsHeadline (Shown : Type 0) (m : MixWords) (old new : Outside) : Type 0 where
+pub record IsHeadline (OutTells : Type 0) (m : MixWords) (old new : Outside) : Type 0 where
   pub printed : List ℕ
-  pub prints : Shown → Prints printed old new
+  pub prints : OutTells → Prints printed old new
   pub bridged : IsBridged old.contents new.contents m.conf printed
 
 -- What a run is that ends with this status, where the output of errors was and is such.
-pub record Runs (words : Option Command) (Told Shown Heard : Type 0) (old new : Outside) (before after : Output)
+pub record Runs (words : Option Command) (WorldTells OutTells ErrTells : Type 0) (old new : Outside) (before after : Output)
     (status : ℕ) : Type 0 where
   pub ending : Ending
   pub name : List ℕ
   pub is_status : status ≡ status_of ending
-  pub ends : RunEnds words Told Shown old new name ending
-  pub calm : (c : Command) → words ≡ Some c → WhereRead (work c).steps Told
-      → IsCalm (work c) Told old new → IsAsWorked (work c) old ending
-  pub kept : Told → Shown → ending ≡ Ok tt → (h : History) → Lawful h → (view : List ℕ)
+  pub ends : RunEnds words WorldTells OutTells old new name ending
+  pub calm : (c : Command) → words ≡ Some c → WhereRead (work c).steps WorldTells
+      → IsCalm (work c) WorldTells old new → IsAsWorked (work c) old ending
+  pub kept : WorldTells → OutTells → ending ≡ Ok tt → (h : History) → Lawful h → (view : List ℕ)
       → IsViewOf h words old.contents view → Prints view old new
-  pub headline : Told → ending ≡ Ok tt → (m : MixWords) → words ≡ Some (Mix m) → IsHeadline Shown m old new
+  pub headline : WorldTells → ending ≡ Ok tt → (m : MixWords) → words ≡ Some (Mix m) → IsHeadline OutTells m old new
   pub silent : ending ≡ Ok tt → after.octets ≡ before.octets
-  pub told : Heard → (Failed before after → ⊥) → after.octets ≡ before.octets ++ message_of name ending
+  pub front : ErrTells → TakesFront before.octets after.octets (message_of name ending)
+  pub told : ErrTells → (Failed before after → ⊥) → after.octets ≡ before.octets ++ message_of name ending

@@ -48,10 +48,10 @@ module _ {W S D : Type 0} (w : worlds.Ghosts W S D) where
   abbrev pub IsUnreadIn : W → W → List ℕ → Fault → Type 0
   IsUnreadIn old new name = IsUnread (CallFailedIn old new name) (ObjectFailedIn old new name)
 
-  -- the command stops before it makes anything, over the file that it reads first
+  -- the command stops over the file that it reads first
   abbrev pub StopsIn : W → W → Command → Fault → Type 0
   StopsIn old new c =
-      Stops w.tells (w.contents old) (work c).steps (CallFailedIn old new) (ObjectFailedIn old new) (first_file c)
+      Stops w.tells (w.contents old) c (CallFailedIn old new (first_file c)) (ObjectFailedIn old new (first_file c))
 
   -- ---- what was read
   -- this holds of some octets, which lie under this name as far as that is told

@@ -1,14 +1,18 @@
-//! Whole files: read, and written.
-ghost use Rattle.std.specs.Prelude.{◌≡◌, OnOk, OnErr, IfOk, IfErr};
-ghost use Rattle.rtt_io.specs.Names.{NoneFalls};
+//! Whole files: read, refused, and written.
+ghost use Rattle.std.specs.Prelude.{◌≡◌, if◌then◌else◌, OnOk, OnErr, IfOk, IfErr};
+ghost use Rattle.rtt_io.specs.Names.{NoneFalls, Same as KeepsCounts};
+ghost use Rattle.rtpdump_io.specs.Reading.{is_of_source};
 ghost use Rattle.command_spec.specs.Outcomes.{Same};
 ghost use Rattle.rtt_top.specs.Files.{IsReadOf};
 ghost use Rattle.rtt_top.specs.Worlds.{IsUnreadIn, FailedIn, Saves, SavesPartly};
 
-use command_spec::Fault;
+use command_spec::{Fault, Refusal};
+use file_spec::ConfKind;
+use rtpdump_io::DumpFault;
 use rtt_base::{Bytes, Failed};
 use rtt_io::{ReadFault, Sink, World, read_whole};
 use std::alloc::Global;
+use wire_spec::DumpKind;
 
 /// Reads the first input to its end, or until it has given more than `most` octets.
 pub fn read_input<W: World>(
@@ -20,6 +24,7 @@ pub fn read_input<W: World>(
     ensures unread { IfErr result (IsUnreadIn W.World world.old world.new name.now) }
     ensures given { W.tells → IfOk result (IsReadOf most (W.contents world.old name.now)) }
     ensures same_contents { W.tells → Same (W.contents world.old) (W.contents world.new) }
+    ensures calm { OnOk result (KeepsCounts W.object_faults world.old world.new) }
     ensures calls_never_fall { NoneFalls W.own_faults world.old world.new }
     ensures objects_never_fall { NoneFalls W.object_faults world.old world.new }
 {
@@ -32,6 +37,33 @@ pub fn read_input<W: World>(
         Ok(octets) => Ok(octets),
         Err(ReadFault::Failed) => Err(Fault::CannotRead { input: 0 }),
         Err(ReadFault::NoMemory) => Err(Fault::NoMemory),
+    }
+}
+
+/// The fault of a command whose first input is refused at a line.
+pub(crate) fn refused_line(line: u32, kind: ConfKind) -> Fault
+    ensures { result ≡ Fault.Refused 0 (Refusal.AtLine line kind) }
+{
+    Fault::Refused {
+        input: 0,
+        refusal: Refusal::AtLine { line, kind },
+    }
+}
+
+/// The fault of a command whose input of this number is a recording that has this fault.
+pub(crate) fn fault_of_dump(input: u32, fault: DumpFault) -> Fault
+    ensures { result ≡ (if is_of_source fault.kind then Fault.CannotRead input
+        else Fault.Refused input (Refusal.AtByte fault.offset fault.kind)) }
+{
+    match fault {
+        DumpFault {
+            offset: _,
+            kind: DumpKind::Read,
+        } => Fault::CannotRead { input },
+        DumpFault { offset, kind } => Fault::Refused {
+            input,
+            refusal: Refusal::AtByte { byte: offset, kind },
+        },
     }
 }
 

@@ -2,10 +2,19 @@
 ghost use Rattle.std.specs.Prelude.{ℕ, List};
 ghost use Rattle.command_spec.specs.Words.{SendWords};
 ghost use Rattle.command_spec.specs.Sent.{IsSent};
+ghost use Rattle.rtt_top.specs.Statuses.{EndsAsItCan};
 ghost use Rattle.rtt_top.specs.Worlds.{SendMakes};
+
+use rtt_io::{Sink, World};
 
 /// The file that `send` makes of a script has the own packets of a lawful history, in which each text is repeated twice,
 /// and whose texts together are those of the script.
 pub fn sent_files_are_histories()
     ensures { (s : SendWords) (octets file : List ℕ) → SendMakes s octets file → IsSent s octets file }
+{}
+
+/// Whatever the world and the outputs tell, a command ends with no other status than those that it has: `read` and `list`
+/// with no 5 or 9, `send` with no 6 or 9, `make` with 0, 7, 9 or 70 alone, and none with 2.
+pub fn statuses_are_those_of_the_command<W: World, K: Sink, E: Sink>()
+    ensures { EndsAsItCan W.tells K.tells E.tells }
 {}

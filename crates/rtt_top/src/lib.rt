@@ -2,16 +2,16 @@
 #![tactic(auto)]
 
 mod commands;
-mod confs;
 mod files;
 pub mod laws;
-mod making;
+mod list;
+mod make;
 mod messages;
-mod mixing;
-mod outputs;
-mod recordings;
+mod mix;
+mod names;
+mod read;
 mod runs;
-mod scripts;
+mod send;
 
 pub use runs::{run, run_plain};
 

@@ -1,9 +1,11 @@
-//! What is told of a fault, and its status.
-ghost use Rattle.std.specs.Prelude.{◌≡◌, ◌++◌, ◌≤◌, decimal, OnErr};
+//! What is printed, and what is told of a fault, and its status.
+ghost use Rattle.std.specs.Prelude.{◌≡◌, ◌++◌, ◌≤◌, decimal, Ok, OnErr, IfErr};
 ghost use Rattle.rtt_io.specs.Counts.{Rose};
-ghost use Rattle.command_spec.specs.Messages.{refusal_status, fault_status, fault_message, refusal_message, trouble, byte_message, line_message, dump_kind_name, conf_kind_name};
-ghost use Rattle.rtt_top.specs.Sinks.{Wrote, TookIfCalm};
+ghost use Rattle.command_spec.specs.Messages.{refusal_status, fault_status, status_of, fault_message, message_of, refusal_message, trouble, byte_message, line_message, dump_kind_name, conf_kind_name};
+ghost use Rattle.rtt_top.specs.Faults.{message_in};
+ghost use Rattle.rtt_top.specs.Sinks.{Wrote, WrotePartly, TookFront, TookIfCalm, place_message};
 
+use crate::names::ending_name;
 use command_spec::{Fault, Refusal};
 use file_spec::ConfKind;
 use itoa::Buffer;
@@ -78,6 +80,7 @@ fn write_two<E: Sink>(err: &mut E, first: &[u8], second: &[u8]) -> Result<(), Fa
     ensures never_falls { E.faults err.old ≤ E.faults err.new }
     ensures failed { OnErr result (Rose (E.faults err.old) (E.faults err.new)) }
     ensures written { Wrote E.Sink err.old err.new (first.now ++ second.now) result }
+    ensures partly { WrotePartly E.Sink err.old err.new (first.now ++ second.now) result }
 {
     err.write_all(first)?;
     err.write_all(second)
@@ -89,35 +92,55 @@ fn write_trouble<E: Sink>(err: &mut E, what: &[u8], name: &[u8]) -> Result<(), F
     ensures never_falls { E.faults err.old ≤ E.faults err.new }
     ensures failed { OnErr result (Rose (E.faults err.old) (E.faults err.new)) }
     ensures written { Wrote E.Sink err.old err.new (trouble what.now name.now) result }
+    ensures partly { WrotePartly E.Sink err.old err.new (trouble what.now name.now) result }
 {
     err.write_all(what)?;
     write_two(err, name, b"\n")
 }
 
-/// Writes at which byte a recording has no reading, and why.
+/// Writes where in a file of this name something is refused, and why.
 #[tactic(auto, using(crate::proofs::Counts::rose_since, crate::proofs::Counts::rose_before))]
+fn write_place<E: Sink>(
+    err: &mut E,
+    name: &[u8],
+    unit: &[u8],
+    number: &[u8],
+    why: &[u8],
+) -> Result<(), Failed>
+    ensures never_falls { E.faults err.old ≤ E.faults err.new }
+    ensures failed { OnErr result (Rose (E.faults err.old) (E.faults err.new)) }
+    ensures written { Wrote E.Sink err.old err.new (place_message name.now unit.now number.now why.now) result }
+    ensures partly { WrotePartly E.Sink err.old err.new (place_message name.now unit.now number.now why.now) result }
+{
+    write_two(err, name, unit)?;
+    write_two(err, number, b": ")?;
+    write_two(err, why, b"\n")
+}
+
+/// Writes at which byte a recording has no reading, and why.
 fn write_byte<E: Sink>(err: &mut E, name: &[u8], byte: u64, kind: DumpKind) -> Result<(), Failed>
     ensures never_falls { E.faults err.old ≤ E.faults err.new }
     ensures failed { OnErr result (Rose (E.faults err.old) (E.faults err.new)) }
     ensures written { Wrote E.Sink err.old err.new (byte_message name.now byte kind) result }
+    ensures partly { WrotePartly E.Sink err.old err.new (byte_message name.now byte kind) result }
 {
     let mut digits = Buffer::new();
-    write_two(err, name, b" byte ")?;
-    write_two(err, digits.format(byte).as_bytes(), b": ")?;
-    write_two(err, dump_kind_name(kind), b"\n")
+    let number = digits.format(byte).as_bytes();
+    let why = dump_kind_name(kind);
+    write_place(err, name, b" byte ", number, why)
 }
 
 /// Writes which line of a script is refused, and why.
-#[tactic(auto, using(crate::proofs::Counts::rose_since, crate::proofs::Counts::rose_before))]
 fn write_line<E: Sink>(err: &mut E, name: &[u8], line: u32, kind: ConfKind) -> Result<(), Failed>
     ensures never_falls { E.faults err.old ≤ E.faults err.new }
     ensures failed { OnErr result (Rose (E.faults err.old) (E.faults err.new)) }
     ensures written { Wrote E.Sink err.old err.new (line_message name.now line kind) result }
+    ensures partly { WrotePartly E.Sink err.old err.new (line_message name.now line kind) result }
 {
     let mut digits = Buffer::new();
-    write_two(err, name, b" line ")?;
-    write_two(err, digits.format(line).as_bytes(), b": ")?;
-    write_two(err, conf_kind_name(kind), b"\n")
+    let number = digits.format(line).as_bytes();
+    let why = conf_kind_name(kind);
+    write_place(err, name, b" line ", number, why)
 }
 
 /// Writes a number and what stands round it.
@@ -131,10 +154,12 @@ fn write_counted<E: Sink>(
     ensures never_falls { E.faults err.old ≤ E.faults err.new }
     ensures failed { OnErr result (Rose (E.faults err.old) (E.faults err.new)) }
     ensures written { Wrote E.Sink err.old err.new (before.now ++ (decimal count ++ after.now)) result }
+    ensures partly { WrotePartly E.Sink err.old err.new (before.now ++ (decimal count ++ after.now)) result }
 {
     let mut digits = Buffer::new();
+    let number = digits.format(count).as_bytes();
     err.write_all(before)?;
-    write_two(err, digits.format(count).as_bytes(), after)
+    write_two(err, number, after)
 }
 
 /// The lines of the commands.
@@ -151,6 +176,7 @@ fn write_refusal<E: Sink>(err: &mut E, name: &[u8], refusal: Refusal) -> Result<
     ensures never_falls { E.faults err.old ≤ E.faults err.new }
     ensures failed { OnErr result (Rose (E.faults err.old) (E.faults err.new)) }
     ensures written { Wrote E.Sink err.old err.new (refusal_message name.now refusal) result }
+    ensures partly { WrotePartly E.Sink err.old err.new (refusal_message name.now refusal) result }
 {
     match refusal {
         Refusal::AtByte { byte, kind } => write_byte(err, name, byte, kind),
@@ -166,6 +192,7 @@ fn write_message<E: Sink>(err: &mut E, name: &[u8], fault: Fault) -> Result<(), 
     ensures never_falls { E.faults err.old ≤ E.faults err.new }
     ensures failed { OnErr result (Rose (E.faults err.old) (E.faults err.new)) }
     ensures written { Wrote E.Sink err.old err.new (fault_message name.now fault) result }
+    ensures partly { WrotePartly E.Sink err.old err.new (fault_message name.now fault) result }
 {
     match fault {
         Fault::WrongWords => err.write_all(USAGE),
@@ -180,7 +207,48 @@ fn write_message<E: Sink>(err: &mut E, name: &[u8], fault: Fault) -> Result<(), 
 
 /// Tells of a fault in one line, or for wrong words in the lines of the usage text. A fault in telling it changes nothing.
 pub fn tell<E: Sink>(err: &mut E, name: &str, fault: Fault)
-    ensures { E.tells → TookIfCalm E.Sink err.old err.new (fault_message name.now fault) }
+    ensures told { E.tells → TookIfCalm E.Sink err.old err.new (fault_message name.now fault) }
+    ensures front { E.tells → TookFront E.Sink err.old err.new (fault_message name.now fault) }
 {
     let _ = write_message(err, name.as_bytes(), fault);
+}
+
+/// Tells how a command ended, where the file that is told of has this name, and answers the status.
+pub(crate) fn finish_with<E: Sink>(ending: Result<(), Fault>, name: &str, err: &mut E) -> u8
+    ensures status { result ≡ status_of ending }
+    ensures silent { ending ≡ Ok tt → E.took err.new ≡ E.took err.old }
+    ensures front { E.tells → TookFront E.Sink err.old err.new (message_of name.now ending) }
+    ensures told { E.tells → TookIfCalm E.Sink err.old err.new (message_of name.now ending) }
+{
+    match ending {
+        Ok(()) => 0,
+        Err(fault) => {
+            tell(err, name, fault);
+            status(fault)
+        }
+    }
+}
+
+/// Tells how a command ended whose one input and one output have these names, and answers the status.
+pub fn finish<E: Sink>(ending: Result<(), Fault>, input: &str, output: &str, err: &mut E) -> u8
+    ensures status { result ≡ status_of ending }
+    ensures silent { ending ≡ Ok tt → E.took err.new ≡ E.took err.old }
+    ensures front { E.tells → TookFront E.Sink err.old err.new (message_in input.now output.now ending) }
+    ensures told { E.tells → TookIfCalm E.Sink err.old err.new (message_in input.now output.now ending) }
+{
+    let name = ending_name(ending, input, output);
+    finish_with(ending, name, err)
+}
+
+/// Prints what a command made.
+pub(crate) fn print<K: Sink>(octets: &[u8], out: &mut K) -> Result<(), Fault>
+    ensures fault { IfErr result (λ fault. fault ≡ Fault.CannotPrint) }
+    ensures cause { OnErr result (Rose (K.faults out.old) (K.faults out.new)) }
+    ensures printed { Wrote K.Sink out.old out.new octets.now result }
+    ensures partly { WrotePartly K.Sink out.old out.new octets.now result }
+{
+    match out.write_all(octets) {
+        Ok(()) => Ok(()),
+        Err(Failed) => Err(Fault::CannotPrint),
+    }
 }

@@ -3,7 +3,8 @@ ghost use Rattle.std.specs.Prelude.{◌≡◌, None, true, false, IsSome, IfSome
 ghost use Rattle.rtt_top.specs.Outside.{outside_at, output_at};
 ghost use Rattle.rtt_top.specs.Runs.{asked_by, is_plain, Runs};
 
-use crate::commands::{carry_out, carry_out_plain, finish};
+use crate::commands::{carry_out, carry_out_plain};
+use crate::messages::finish;
 use command_spec::Fault;
 use rtt_io::{Gate, Sink, World};
 use rtt_words::{WordFault, command_of};

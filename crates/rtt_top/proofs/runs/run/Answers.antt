@@ -10,7 +10,7 @@ returns-in-Err-Wrong g c =
     no_words (asked_by c.args.words.now) g.W.World.tells g.K.Sink.tells g.E.Sink.tells
     (outside_at g.W.World g.K.Sink c.args.world.now c.args.out.now)
     (output_at g.E.Sink c.args.err.now) (output_at g.E.Sink c.finish.new.err) c.finish.result
-    WrongWords [] (c.command_of.ensures.wrong (cc (c.in-Err-Wrong.is, c.in-Err-Wrong.field-0-is))) (inl refl) c.finish.ensures.status c.finish.ensures.silent c.finish.ensures.told
+    WrongWords [] (c.command_of.ensures.wrong (cc (c.in-Err-Wrong.is, c.in-Err-Wrong.field-0-is))) (inl refl) c.finish.ensures.status c.finish.ensures.silent c.finish.ensures.front c.finish.ensures.told
 
 pub returns-in-Err-NoMemory : goal.returns-in-Err-NoMemory
 returns-in-Err-NoMemory g c =
@@ -18,4 +18,4 @@ returns-in-Err-NoMemory g c =
     no_memory (asked_by c.args.words.now) g.W.World.tells g.K.Sink.tells g.E.Sink.tells
     (outside_at g.W.World g.K.Sink c.args.world.now c.args.out.now)
     (output_at g.E.Sink c.args.err.now) (output_at g.E.Sink finish.new.err) finish.result
-    [] finish.ensures.status finish.ensures.silent finish.ensures.told
+    [] finish.ensures.status finish.ensures.silent finish.ensures.front finish.ensures.told

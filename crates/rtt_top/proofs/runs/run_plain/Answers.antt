@@ -11,7 +11,7 @@ returns-in-Err-Wrong-clause-runs g c =
     no_words (asked_by c.args.words.now) g.W.World.tells g.K.Sink.tells g.E.Sink.tells
     (outside_at g.W.World g.K.Sink c.args.world.now c.args.out.now)
     (output_at g.E.Sink c.args.err.now) (output_at g.E.Sink c.finish.new.err) c.finish.result
-    WrongWords [] (c.command_of.ensures.wrong (cc (c.in-Err-Wrong.is, c.in-Err-Wrong.field-0-is))) (inl refl) c.finish.ensures.status c.finish.ensures.silent c.finish.ensures.told
+    WrongWords [] (c.command_of.ensures.wrong (cc (c.in-Err-Wrong.is, c.in-Err-Wrong.field-0-is))) (inl refl) c.finish.ensures.status c.finish.ensures.silent c.finish.ensures.front c.finish.ensures.told
 
 pub returns-in-Err-NoMemory-clause-runs : goal.returns-in-Err-NoMemory-clause-runs
 returns-in-Err-NoMemory-clause-runs g c =
@@ -19,7 +19,7 @@ returns-in-Err-NoMemory-clause-runs g c =
     no_memory (asked_by c.args.words.now) g.W.World.tells g.K.Sink.tells g.E.Sink.tells
     (outside_at g.W.World g.K.Sink c.args.world.now c.args.out.now)
     (output_at g.E.Sink c.args.err.now) (output_at g.E.Sink finish.new.err) finish.result
-    [] finish.ensures.status finish.ensures.silent finish.ensures.told
+    [] finish.ensures.status finish.ensures.silent finish.ensures.front finish.ensures.told
 
 pub returns-in-Ok-clause-only : goal.returns-in-Ok-clause-only
 returns-in-Ok-clause-only g c = λ other.

@@ -1,0 +1,52 @@
+-- A front of what is written piece by piece.
+use Rattle.std.proofs.Common.{◌≡◌, ℕ, zero, suc, List, [], ◌∷◌, ◌++◌, take, append_assoc, Result, Ok, Err, refl, ap, ◌∙◌}
+use Rattle.std.specs.Prelude.{OnOk, OnErr}
+use Rattle.rtt_io.specs.Fronts.{TakesFront}
+
+take_front : (n : ℕ) (xs ys : List ℕ) → (m : ℕ) × (take n xs ≡ take m (xs ++ ys))
+take_front zero xs ys = (0, refl)
+take_front (suc n) [] ys = (0, refl)
+take_front (suc n) (x ∷ xs) ys = let r = take_front n xs ys in (suc r.0, ap (λ zs. x ∷ zs) r.1)
+
+take_behind : (n : ℕ) (xs ys : List ℕ) → (m : ℕ) × (xs ++ take n ys ≡ take m (xs ++ ys))
+take_behind n [] ys = (n, refl)
+take_behind n (x ∷ xs) ys = let r = take_behind n xs ys in (suc r.0, ap (λ zs. x ∷ zs) r.1)
+
+-- a front of the first piece is one of both
+pub front_before : (old new first second : List ℕ) → TakesFront old new first → TakesFront old new (first ++ second)
+front_before old new first second f = let r = take_front f.0 first second in (r.0, f.1 ∙ ap (λ xs. old ++ xs) r.1)
+
+-- the first piece, and behind it a front of the second
+pub front_behind : (old mid new first second : List ℕ) → mid ≡ old ++ first → TakesFront mid new second → TakesFront old new (first ++ second)
+front_behind old mid new first second whole f =
+    let r = take_behind f.0 first second in
+    (r.0, f.1 ∙ (ap (λ xs. xs ++ take f.0 second) whole ∙ (append_assoc old first (take f.0 second) ∙ ap (λ xs. old ++ xs) r.1)))
+
+take_all : (xs : List ℕ) → (m : ℕ) × (xs ≡ take m xs)
+take_all [] = (0, refl)
+take_all (x ∷ xs) = let r = take_all xs in (suc r.0, ap (λ zs. x ∷ zs) r.1)
+
+-- the whole, or a front of it
+pub front_of : {A B : Type 0} (old new octets : List ℕ) (result : Result A B) → OnOk result (new ≡ old ++ octets) → OnErr result (TakesFront old new octets) → TakesFront old new octets
+front_of old new octets (Ok a) whole partly = let r = take_all octets in (r.0, whole ∙ ap (λ xs. old ++ xs) r.1)
+front_of old new octets (Err b) whole partly = partly
+
+append_none : (xs : List ℕ) → xs ≡ xs ++ []
+append_none [] = refl
+append_none (x ∷ xs) = ap (λ ys. x ∷ ys) (append_none xs)
+
+pub front_of_nothing : (old : List ℕ) → TakesFront old old []
+front_of_nothing old = (0, append_none old)
+
+-- ---- where a call failed
+pub on_err : {A B : Type 0} (P : Type 0) (result : Result A B) → P → OnErr result P
+on_err P (Ok a) p = tt
+on_err P (Err b) p = p
+
+pub behind_err : {A B : Type 0} (old mid new first second : List ℕ) (result : Result A B) → mid ≡ old ++ first → OnErr result (TakesFront mid new second) → OnErr result (TakesFront old new (first ++ second))
+behind_err old mid new first second (Ok a) whole f = tt
+behind_err old mid new first second (Err b) whole f = front_behind old mid new first second whole f
+
+-- two pieces, one after the other
+pub both : (old mid new first second : List ℕ) → mid ≡ old ++ first → new ≡ mid ++ second → new ≡ old ++ (first ++ second)
+both old mid new first second e f = f ∙ (ap (λ xs. xs ++ second) e ∙ append_assoc old first second)
