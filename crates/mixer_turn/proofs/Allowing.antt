@@ -24,7 +24,7 @@ abbrev pub events_of : (s : Setup) (calls : List Call) → AreAllowed s calls �
 events_of s [] a = []
 events_of s (Admit i l ∷ past) a = Enter i a.0.at ∷ events_of s past a.1
 events_of s (Hush i ∷ past) a = Stop i a.0.at ∷ events_of s past a.1
-events_of s (Leave i ∷ past) a = cond ((after_calls s past).seats.came i && may_leave s i (after_calls s past)) (core.Leave i ∷ events_of s past a) (events_of s past a)
+events_of s (Leave i ∷ past) a = cond ((after_calls s past).seats.came i && may_leave s i (after_calls s past)) (core.Depart i ∷ events_of s past a) (events_of s past a)
 events_of s (Offer c ∷ past) a = cond (has_room s c.source c (after_calls s past)) (Take c.source c.ready ∷ Push c.source ∷ events_of s past a.1) (events_of s past a.1)
 events_of s (Turn now ∷ past) a = core.Turn now ∷ events_of s past a
 
@@ -77,7 +77,7 @@ leaves : (s : Setup) (chunks more : ℕ → List Chunk) (i : ℕ) (past : List C
     → Rests s chunks more past (events_of s past a) → Rests s chunks more (Leave i ∷ past) (events_of s (Leave i ∷ past) a)
 leaves s chunks more i past a all e rest = go ((after_calls s past).seats.came i && may_leave s i (after_calls s past)) refl
   where
-    go : (b : Bool) → ((after_calls s past).seats.came i && may_leave s i (after_calls s past)) ≡ b → Rests s chunks more (Leave i ∷ past) (cond b (core.Leave i ∷ events_of s past a) (events_of s past a))
+    go : (b : Bool) → ((after_calls s past).seats.came i && may_leave s i (after_calls s past)) ≡ b → Rests s chunks more (Leave i ∷ past) (cond b (core.Depart i ∷ events_of s past a) (events_of s past a))
     go false q = record { table = rest.table ∙ sym (departed_idle s i (after_calls s past) (seated s past a) q); legs = rest.legs }
     go true q =
         let r = and_parts ((after_calls s past).seats.came i) (may_leave s i (after_calls s past)) q in
@@ -153,7 +153,7 @@ turns_same s (Admit i l ∷ past) a = turns_same s past a.1
 turns_same s (Hush i ∷ past) a = turns_same s past a.1
 turns_same s (Leave i ∷ past) a = go ((after_calls s past).seats.came i && may_leave s i (after_calls s past)) (turns_same s past a)
   where
-    go : (b : Bool) → turns_in (events_of s past a) ≡ turns_made past → turns_in (cond b (core.Leave i ∷ events_of s past a) (events_of s past a)) ≡ turns_made past
+    go : (b : Bool) → turns_in (events_of s past a) ≡ turns_made past → turns_in (cond b (core.Depart i ∷ events_of s past a) (events_of s past a)) ≡ turns_made past
     go true e = e
     go false e = e
 turns_same s (Offer c ∷ past) a = go (has_room s c.source c (after_calls s past)) (turns_same s past a.1)

@@ -4,15 +4,15 @@ use Rattle.std.specs.Prelude.{◌&&◌, ◌==◌}
 use Rattle.stream_spec.specs.Ready.{Chunk}
 use Rattle.stream_spec.specs.History.{Lawful, Come, Placed}
 use Rattle.stream_spec.specs.Own.{Own, NearEach, come_from, has_text_in}
-use Rattle.mixer_spec.specs.Setups.{Setup, IsSetup, gap}
-use Rattle.mixer_spec.specs.Table.{Call, Admit, Hush, Leave, Offer, Turn, Table, history, sent_from, last_media, is_due, rank, next_media, has_room, may_leave, after_calls}
+use Rattle.mixer_spec.specs.Setups.{Setup, IsSetup, gap, other_places}
+use Rattle.mixer_spec.specs.Table.{Call, Admit, Hush, Leave, Offer, Turn, Table, history_to, sent_from, last_media, is_due, rank, next_media, has_room, may_leave, after_calls}
 use Rattle.mixer_spec.specs.Core.{Event, Enter, Stop, Push, Take, after, turns_in}
 use Rattle.mixer_spec.specs.Core as core
 use Rattle.mixer_spec.specs.Calls.{took, turns_made}
 use Rattle.mixer_spec.specs.Laws.{Tight, IsWaiting, count_of}
 use Rattle.mixer_spec.proofs.Lists.{nil}
 use Rattle.mixer_spec.proofs.Final.{lawful_law, own_law, come_law, spacing_law, near_law}
-use Rattle.mixer_spec.proofs.Served.{served_law, nearer_law}
+use Rattle.mixer_spec.proofs.Served.{served_law, nearer_law, turns_more}
 use Rattle.mixer_turn.specs.Allowed.{AreAllowed}
 use Rattle.mixer_turn.specs.Words.{accepted}
 use Rattle.mixer_turn.proofs.Leaving.{AreAll, all_before}
@@ -34,23 +34,23 @@ short_waits s calls j i t m is a aw lj li n =
     subst (λ (w : Table). w.media ≡ Some t → has_text_in (s.gens j) (sent_from (s.ssrc i) (w.terminals j)) ≡ true → last_media (sent_from (s.ssrc i) (w.terminals j)) ≡ Some m → IsWaiting s w j i t m)
     e.table (spacing_law s (λ i. took s i calls) e.past j i t m is (λ i. (good_taken s calls a i).texts) aw lj li n)
 
-pub lawful_history : (s : Setup) (calls : List Call) (j : ℕ) → IsSetup s → AreAllowed s calls → s.step * turns_made calls < 2 ^ 31 → j < s.legs → Lawful (history s j ((after_calls s calls).terminals j).past)
+pub lawful_history : (s : Setup) (calls : List Call) (j : ℕ) → IsSetup s → AreAllowed s calls → s.step * turns_made calls < 2 ^ 31 → j < s.legs → Lawful (history_to s j ((after_calls s calls).terminals j).past)
 lawful_history s calls j is a b l =
     let e = events_law s calls a in
-    subst (λ (w : Table). Lawful (history s j (w.terminals j).past)) e.table
+    subst (λ (w : Table). Lawful (history_to s j (w.terminals j).past)) e.table
     (lawful_law s (λ i. took s i calls) e.past j is (λ i. (good_taken s calls a i).texts) (subst (λ (k : ℕ). s.step * k < 2 ^ 31) (sym e.turns) b) l)
 
-pub own_history : (s : Setup) (calls : List Call) (j : ℕ) → AreAllowed s calls → Own (s.gens j) (history s j ((after_calls s calls).terminals j).past)
+pub own_history : (s : Setup) (calls : List Call) (j : ℕ) → AreAllowed s calls → Own (s.gens j) (history_to s j ((after_calls s calls).terminals j).past)
 own_history s calls j a =
     let e = events_law s calls a in
-    subst (λ (w : Table). Own (s.gens j) (history s j (w.terminals j).past)) e.table (own_law s (λ i. took s i calls) e.past j)
+    subst (λ (w : Table). Own (s.gens j) (history_to s j (w.terminals j).past)) e.table (own_law s (λ i. took s i calls) e.past j)
 
 pub come_history : (s : Setup) (calls : List Call) (j : ℕ) → IsSetup s → AreAllowed s calls → s.step * turns_made calls < 2 ^ 31 → j < s.legs
-    → let h = history s j ((after_calls s calls).terminals j).past in
+    → let h = history_to s j ((after_calls s calls).terminals j).past in
     (xs : List (ℕ × Placed)) → NearEach h xs → Come h (come_from h xs)
 come_history s calls j is a b l =
     let e = events_law s calls a in
-    subst (λ (w : Table). (xs : List (ℕ × Placed)) → NearEach (history s j (w.terminals j).past) xs → Come (history s j (w.terminals j).past) (come_from (history s j (w.terminals j).past) xs)) e.table
+    subst (λ (w : Table). (xs : List (ℕ × Placed)) → NearEach (history_to s j (w.terminals j).past) xs → Come (history_to s j (w.terminals j).past) (come_from (history_to s j (w.terminals j).past) xs)) e.table
     (come_law s (λ i. took s i calls) e.past j is (λ i. (good_taken s calls a i).texts) (subst (λ (k : ℕ). s.step * k < 2 ^ 31) (sym e.turns) b) l)
 
 -- ---- two moments
@@ -76,11 +76,11 @@ later s (Leave i ∷ es) before a = go ((after_calls s (es ++ before)).seats.cam
   where
     go : (b : Bool) → ((after_calls s (es ++ before)).seats.came i && may_leave s i (after_calls s (es ++ before))) ≡ b → Later s es before a → Later s (Leave i ∷ es) before a
     go true q r = record {
-      events = core.Leave i ∷ r.events;
+      events = core.Depart i ∷ r.events;
       turns = r.turns;
-      is = ap (λ b. cond b (core.Leave i ∷ events_of s (es ++ before) a) (events_of s (es ++ before) a)) q ∙ ap (λ xs. core.Leave i ∷ xs) r.is;
+      is = ap (λ b. cond b (core.Depart i ∷ events_of s (es ++ before) a) (events_of s (es ++ before) a)) q ∙ ap (λ xs. core.Depart i ∷ xs) r.is;
     }
-    go false q r = record { events = r.events; turns = r.turns; is = ap (λ b. cond b (core.Leave i ∷ events_of s (es ++ before) a) (events_of s (es ++ before) a)) q ∙ r.is }
+    go false q r = record { events = r.events; turns = r.turns; is = ap (λ b. cond b (core.Depart i ∷ events_of s (es ++ before) a) (events_of s (es ++ before) a)) q ∙ r.is }
 later s (Offer c ∷ es) before a = go (has_room s c.source c (after_calls s (es ++ before))) refl (later s es before a.1)
   where
     go : (b : Bool) → has_room s c.source c (after_calls s (es ++ before)) ≡ b → Later s es before a.1 → Later s (Offer c ∷ es) before a
@@ -151,15 +151,25 @@ with_moments s es before now a P f =
     (subst (λ (v : Table). P (after s (λ i. took s i (es ++ Turn now ∷ before)) m.0).table v (turns_made es)) m.2.whole
     (subst (P (after s (λ i. took s i (es ++ Turn now ∷ before)) m.0).table (after s (λ i. took s i (es ++ Turn now ∷ before)) (m.1 ++ core.Turn now ∷ m.0)).table) m.2.turns (f m.0 m.1)))
 
+calls_more : (es : List Call) (now : ℕ) → turns_made (es ++ Turn now ∷ []) ≡ suc (turns_made es)
+calls_more [] now = refl
+calls_more (Admit i l ∷ es) now = calls_more es now
+calls_more (Hush i ∷ es) now = calls_more es now
+calls_more (Leave i ∷ es) now = calls_more es now
+calls_more (Offer c ∷ es) now = calls_more es now
+calls_more (Turn at ∷ es) now = ap suc (calls_more es now)
+
 pub served_soon : (s : Setup) (before es : List Call) (j i q p now : ℕ) → IsSetup s → AreAllowed s (es ++ Turn now ∷ before) → s.aware j ≡ true → j < s.legs → i < s.legs
     → let w = after_calls s before in
     let v = after_calls s (es ++ Turn now ∷ before) in
     w.seats.place j ≡ Some q → w.seats.place i ≡ Some p → is_due s j (next_media s.step w.media now) (w.terminals j) i ≡ true
-    → s.places ≤ turns_made es + 2 → count_of i (w.terminals j).past < count_of i (v.terminals j).past
-served_soon s before es j i q p now is a aw lj li =
+    → other_places s ≤ turns_made (es ++ Turn now ∷ []) → count_of i (w.terminals j).past < count_of i (v.terminals j).past
+served_soon s before es j i q p now is a aw lj li jq ip e enough =
     with_moments s es before now a
-    (λ w v k. w.seats.place j ≡ Some q → w.seats.place i ≡ Some p → is_due s j (next_media s.step w.media now) (w.terminals j) i ≡ true → s.places ≤ k + 2 → count_of i (w.terminals j).past < count_of i (v.terminals j).past)
-    (λ early events. served_law s (λ i. took s i (es ++ Turn now ∷ before)) early events j i q p now is (λ i. (good_taken s (es ++ Turn now ∷ before) a i).texts) aw lj li)
+    (λ w v k. w.seats.place j ≡ Some q → w.seats.place i ≡ Some p → is_due s j (next_media s.step w.media now) (w.terminals j) i ≡ true → other_places s ≤ suc k → count_of i (w.terminals j).past < count_of i (v.terminals j).past)
+    (λ early events jq ip e many.
+    served_law s (λ i. took s i (es ++ Turn now ∷ before)) early events j i q p now is (λ i. (good_taken s (es ++ Turn now ∷ before) a i).texts) aw lj li jq ip e
+    (subst (λ (n : ℕ). other_places s ≤ n) (sym (turns_more events now)) many)) jq ip e (subst (λ (n : ℕ). other_places s ≤ n) (calls_more es now) enough)
 
 pub nearer_soon : (s : Setup) (before es : List Call) (j i q p now : ℕ) → IsSetup s → AreAllowed s (es ++ Turn now ∷ before) → s.aware j ≡ true → j < s.legs → i < s.legs
     → let w = after_calls s before in

@@ -6,7 +6,7 @@ use Rattle.stream_spec.specs.Ready.{Chunk}
 use Rattle.stream_spec.specs.Carries.{CarriesFront}
 use Rattle.mixer_spec.specs.Chunks.{texts_of}
 use Rattle.mixer_spec.specs.Setups.{Setup, IsSetup}
-use Rattle.mixer_spec.specs.Table.{Call, Table, shared, history, after_calls}
+use Rattle.mixer_spec.specs.Table.{Call, Table, shared, history_to, after_calls}
 use Rattle.mixer_spec.specs.Calls.{took}
 use Rattle.mixer_spec.specs.Laws.{IsComposed, chunks_given, texts_given, texts_sent, carried}
 use Rattle.mixer_spec.proofs.Final.{front_law}
@@ -18,12 +18,12 @@ use Rattle.mixer_turn.proofs.Going.{shared_to}
 
 pub front_sent : (s : Setup) (calls : List Call) (j i : ℕ) → IsSetup s → AreAllowed s calls → s.aware j ≡ true → j < s.legs → i < s.legs → (i ≡ j → ⊥)
     → let d = (after_calls s calls).terminals j in
-    CarriesFront (history s j d.past) (s.ssrc i) (texts_of (given_to s j i calls)) (texts_of (d.waits i))
+    CarriesFront (history_to s j d.past) (s.ssrc i) (texts_of (given_to s j i calls)) (texts_of (d.waits i))
 front_sent s calls j i is a aw lj li n =
     let e = events_law s calls a in
-    let f = subst (λ (w : Table). CarriesFront (history s j (w.terminals j).past) (s.ssrc i) (texts_of (shared j (w.taken i))) (texts_of ((w.terminals j).waits i))) e.table
+    let f = subst (λ (w : Table). CarriesFront (history_to s j (w.terminals j).past) (s.ssrc i) (texts_of (shared j (w.taken i))) (texts_of ((w.terminals j).waits i))) e.table
     (front_law s (λ i. took s i calls) e.past j i is (λ i. (good_taken s calls a i).texts) aw lj li n) in
-    subst (λ (cs : List Chunk). CarriesFront (history s j ((after_calls s calls).terminals j).past) (s.ssrc i) (texts_of cs) (texts_of (((after_calls s calls).terminals j).waits i))) (shared_to s calls j i) f
+    subst (λ (cs : List Chunk). CarriesFront (history_to s j ((after_calls s calls).terminals j).past) (s.ssrc i) (texts_of cs) (texts_of (((after_calls s calls).terminals j).waits i))) (shared_to s calls j i) f
 
 -- ---- at a terminal that is not aware
 pub composed_sent : (s : Setup) (calls : List Call) (j : ℕ) → AreAllowed s calls → s.aware j ≡ false

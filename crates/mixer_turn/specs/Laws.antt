@@ -5,8 +5,8 @@ use Rattle.stream_spec.specs.Carries.{CarriesFront}
 use Rattle.stream_spec.specs.History.{Come, History, Lawful, Placed}
 use Rattle.stream_spec.specs.Own.{NearEach, Own, come_from, has_text_in}
 use Rattle.mixer_spec.specs.Chunks.{texts_of}
-use Rattle.mixer_spec.specs.Setups.{IsSetup, Setup, gap, stream}
-use Rattle.mixer_spec.specs.Table.{Call, Table, Terminal, Turn, after_calls, history, is_due, is_idle, is_seated, last_media, next_media, packets, rank, sent_from, shared, turn_at, turn_aware, turn_unaware}
+use Rattle.mixer_spec.specs.Setups.{IsSetup, Setup, gap, other_places, stream}
+use Rattle.mixer_spec.specs.Table.{Call, Table, Terminal, Turn, after_calls, history_to, is_due, is_idle, is_seated, last_media, next_media, packets, rank, sent_from, shared, turn_at, turn_aware, turn_unaware}
 use Rattle.mixer_spec.specs.Calls.{AreEvents, took, turns_made}
 use Rattle.mixer_spec.specs.Laws.{AreShort, AreTexts, IsComposed, IsWaiting, Part, Tight, carried, chunks_given, count_of, texts_given, texts_sent}
 use Rattle.slot_table.specs.Words.{NoneWaits}
@@ -106,7 +106,7 @@ abbrev pub AwareCarryFront : Type 0
 AwareCarryFront = (s : Setup) (calls : List Call) (j i : ℕ) → IsSetup s → AreAllowed s calls
     → s.aware j ≡ true → j < s.legs → i < s.legs → (i ≡ j → ⊥)
     → let d = (after_calls s calls).terminals j in
-    CarriesFront (history s j d.past) (s.ssrc i) (texts_of (given_to s j i calls)) (texts_of (d.waits i))
+    CarriesFront (history_to s j d.past) (s.ssrc i) (texts_of (given_to s j i calls)) (texts_of (d.waits i))
 
 -- what a terminal was given is a consecutive part of what was taken
 abbrev pub GivenArePart : Type 0
@@ -144,12 +144,12 @@ WhereDue P = (s : Setup) (before es : List Call) (j i q p now : ℕ) → IsSetup
     → is_due s j (next_media s.step w.media now) (w.terminals j) i ≡ true
     → P s before es j i q p now
 
--- the leg was served again within as many turns as there are places but the terminal's own
+-- the leg was served again within as many turns as there are places but the terminal's own, that turn counted in
 abbrev pub DueAreServed : Type 0
 DueAreServed = WhereDue (λ s before es j i q p now.
     let w = after_calls s before in
     let v = after_calls s (es ++ Turn now ∷ before) in
-    s.places ≤ turns_made es + 2 → count_of i (w.terminals j).past < count_of i (v.terminals j).past)
+    other_places s ≤ turns_made (es ++ Turn now ∷ []) → count_of i (w.terminals j).past < count_of i (v.terminals j).past)
 
 -- it was served again, or each turn brought it nearer
 abbrev pub DueComeNearer : Type 0
@@ -162,7 +162,7 @@ DueComeNearer = WhereDue (λ s before es j i q p now.
 -- ---- what was sent
 -- all that was sent to the terminal j
 abbrev pub sent_to : Setup → ℕ → List Call → History
-sent_to s j calls = history s j ((after_calls s calls).terminals j).past
+sent_to s j calls = history_to s j ((after_calls s calls).terminals j).past
 
 -- it is a lawful history, where media time did not pass half the circle of timestamps
 abbrev pub SentIsLawful : Type 0
