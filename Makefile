@@ -1,15 +1,21 @@
-# make run         builds the proved program and prints the view of the stored recording
-# make test        the gate: proves everything from nothing
-# make examples    runs the commands of the documents and compares what they print, and the stored recordings
-# make trials      tries the program against the system, and with each request of memory refused
+# make try         builds the program unproved, and prints the view of the stored recording
+# make run         builds the proved program, and prints the same
+# make test        the gate: proves from nothing what did not pass on this machine as it stands, and runs everything
+# make examples    runs the commands of the documents and compares what they print, and what is stored in examples
+# make trials      tries the program against the system, with each request of memory refused, and as a package
 # make recordings  makes the stored recordings of examples/ anew
 # make bench       how fast the program reads, lists, sends and mixes
 # make install     the program and its page, below PREFIX
+# make deb         the package cinderwool_VERSION_ARCHITECTURE.deb, of the program, its page, the documents and the examples
 # PROGRAM=.. names another program than the one that `make run` built.
 PREFIX ?= /usr/local
-PROGRAM = crates/rtt_program/out/rtt_program
+BUILT = crates/rtt_program/out/rtt_program
+PROGRAM = $(BUILT)
 
-.PHONY: run test examples trials recordings bench install
+.PHONY: try run test examples trials recordings bench install deb
+
+try:
+	cd crates/rtt_program && rt try -- read data/call.rtp 1001
 
 run:
 	cd crates/rtt_program && rt run -- read data/call.rtp 1001
@@ -17,15 +23,24 @@ run:
 test:
 	rt ci
 
-$(PROGRAM):
+$(BUILT):
 	$(MAKE) run
+
+ifneq ($(PROGRAM),$(BUILT))
+$(PROGRAM):
+	@echo "no program at $(PROGRAM)" >&2; exit 1
+endif
 
 examples: $(PROGRAM)
 	examples/check $(PROGRAM)
+	examples/pcap/try $(PROGRAM)
+	examples/pictures/try $(PROGRAM)
+	examples/words
 
 trials: $(PROGRAM)
 	examples/system $(PROGRAM)
 	examples/memory $(PROGRAM)
+	package/try $(PROGRAM)
 
 recordings: $(PROGRAM)
 	examples/make $(PROGRAM)
@@ -40,3 +55,6 @@ bench: $(PROGRAM)
 install: $(PROGRAM)
 	install -D -m 755 $(PROGRAM) $(DESTDIR)$(PREFIX)/bin/rtt_program
 	install -D -m 644 rtt_program.1 $(DESTDIR)$(PREFIX)/share/man/man1/rtt_program.1
+
+deb: $(PROGRAM)
+	package/deb $(PROGRAM)
