@@ -1,5 +1,5 @@
 //! The ear of one stream.
-ghost use Rattle.std.specs.Prelude.{◌≡◌, ◌≢◌, ℕ, ◌+◌, ◌≤◌, ◌<◌, ◌^◌, List, [], ◌∷◌, ◌++◌, length, Bool, Some, Ok, Err, OnOk, OnErr, IfOk, IfErr, IsTrue, IsUtf8, AllPairs};
+ghost use Rattle.std.specs.Prelude.{◌≡◌, ◌≢◌, ℕ, ◌+◌, ◌≤◌, ◌<◌, List, [], ◌∷◌, ◌++◌, length, Bool, Some, Ok, Err, OnOk, OnErr, IfOk, IfErr, IsTrue, IsUtf8, AllPairs};
 ghost use Rattle.wire_spec.specs.Packets.{Packet, has_text};
 ghost use Rattle.stream_spec.specs.Ready.{chunk_of, chunk as heard_chunk};
 ghost use Rattle.gap_tracker.specs.Stories.{Story, begun, went, ended};
@@ -8,7 +8,7 @@ ghost use Rattle.ear.specs.declared.answers.PlainAnswer.{PlainAnswer};
 ghost use Rattle.ear.specs.Hears.{conf_of, arrival_count, is_finished, is_clear, is_quiet, text_for, told, Hears, Gave, IsGiving, Becomes, GivesChunk, GivesNone, GaveReady, GaveFront, AllReady};
 ghost use Rattle.ear.specs.Each.{GathersEach, IsHearingEach};
 ghost use Rattle.ear.specs.Plain.{IsTextFor, HearsPlain, GivesPlain};
-ghost use Rattle.rtt_base.specs.declared.limits.TheConstants.{LONGEST_WAIT};
+ghost use Rattle.rtt_base.specs.declared.limits.TheConstants.{END_OF_MOMENTS, LONGEST_WAIT, MOST_ARRIVALS, MOST_SOURCES};
 
 use crate::{EarConf, PlainAnswer};
 use gap_tracker::Tracker;
@@ -51,7 +51,7 @@ impl Ear {
     pub fn new(alloc: Global, conf: EarConf, sources: &[u32]) -> Result<Ear, NoMemory>
         requires wait { conf.wait ≤ LONGEST_WAIT }
         requires some { 0 < length sources.now }
-        requires few { length sources.now ≤ 64 }
+        requires few { length sources.now ≤ MOST_SOURCES }
         requires differ { AllPairs (λ a b. a ≢ b) sources.now }
         ensures hears { IfOk result (λ ear. Hears ear conf sources.now (begun conf.wait)) }
         ensures gave { IfOk result (λ ear. (source : ℕ) → sources.now ≡ source ∷ [] → Gave ear conf source (begun conf.wait) []) }
@@ -71,9 +71,9 @@ impl Ear {
     /// Takes a packet that came at `now`. What is no packet of text of the stream is refused, and hands in no time.
     #[inline(always)]
     pub fn hear(&mut self, now: u64, octets: &[u8]) -> Result<(), TextFault>
-        requires now { now < 2 ^ 48 }
+        requires now { now < END_OF_MOMENTS }
         requires quiet { is_quiet self.old ≡ Bool.true }
-        requires few { arrival_count self.old < 2 ^ 40 }
+        requires few { arrival_count self.old < MOST_ARRIVALS }
         ensures ok { OnOk result ((p : Packet) × (text_for (conf_of self.old) octets.now ≡ Ok p)) }
         ensures err { IfErr result (λ fault. text_for (conf_of self.old) octets.now ≡ Err fault) }
         ensures becomes { Becomes self.old self.new (λ conf story. told story now (text_for conf octets.now)) }
@@ -98,7 +98,7 @@ impl Ear {
 
     /// Lets time go on to `now`.
     pub fn expire(&mut self, now: u64)
-        requires now { now < 2 ^ 48 }
+        requires now { now < END_OF_MOMENTS }
         requires quiet { is_quiet self.old ≡ Bool.true }
         ensures becomes { Becomes self.old self.new (λ conf story. went story now) }
         ensures conf { conf_of self.new ≡ conf_of self.old }
@@ -157,7 +157,7 @@ impl Ear {
     pub fn gather_each(&mut self, heard: &mut [SourceText]) -> Result<u64, NoMemory>
         requires hears { IsHearingEach self.old heard.old }
         requires clear { is_clear self.old ≡ Bool.true }
-        requires few { arrival_count self.old ≤ 2 ^ 40 }
+        requires few { arrival_count self.old ≤ MOST_ARRIVALS }
         ensures gathers { IfOk result (λ used. GathersEach self.old self.new used heard.old heard.new) }
         ensures quiet { OnOk result (is_quiet self.new ≡ Bool.true) }
         ensures conf { OnOk result (conf_of self.new ≡ conf_of self.old) }
@@ -184,10 +184,10 @@ impl Ear {
         octets: &[u8],
         heard: &mut [SourceText],
     ) -> Result<bool, NoMemory>
-        requires now { now < 2 ^ 48 }
+        requires now { now < END_OF_MOMENTS }
         requires hears { IsHearingEach self.old heard.old }
         requires quiet { is_quiet self.old ≡ Bool.true }
-        requires few { arrival_count self.old < 2 ^ 40 }
+        requires few { arrival_count self.old < MOST_ARRIVALS }
         ensures hears { IfOk result (λ plain. IsTrue plain → HearsPlain self.old self.new now octets.now heard.old heard.new) }
         ensures packet { IfOk result (λ plain. IsTrue plain → IsTextFor (conf_of self.old) octets.now) }
         ensures unchanged { IfOk result (λ plain. plain ≡ Bool.false → self.new ≡ self.old) }
@@ -214,10 +214,10 @@ impl Ear {
     /// in `chunk`. It does so as `hear_plain` does. It is for an ear of one source.
     #[inline(always)]
     pub fn hear_plain_chunk(&mut self, now: u64, octets: &[u8], chunk: &mut Chunk) -> PlainAnswer
-        requires now { now < 2 ^ 48 }
+        requires now { now < END_OF_MOMENTS }
         requires gave { ∥ IsGiving self.old ∥₁ }
         requires quiet { is_quiet self.old ≡ Bool.true }
-        requires few { arrival_count self.old < 2 ^ 40 }
+        requires few { arrival_count self.old < MOST_ARRIVALS }
         ensures some { result ≡ PlainAnswer.Chunk → GivesPlain self.old self.new now octets.now (chunk_of chunk.new ∷ []) }
         ensures none { result ≡ PlainAnswer.Nothing → GivesPlain self.old self.new now octets.now [] }
         ensures unchanged { result ≡ PlainAnswer.NotPlain → self.new ≡ self.old }

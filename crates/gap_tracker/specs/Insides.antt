@@ -4,7 +4,7 @@ use Rattle.gap_tracker.specs.Pools.{packet_at, current_packet, times, one_if}
 use Rattle.gap_tracker.specs.States.{State}
 use Rattle.gap_tracker.specs.Views.{numbered_in, settled_in, places_of, AreSmall}
 use Rattle.gap_tracker.specs.declared.holds.Hold.TheInside.{Inside}
-use Rattle.rtt_base.specs.declared.limits.TheConstants.{LONGEST_WAIT}
+use Rattle.rtt_base.specs.declared.limits.TheConstants.{END_OF_MOMENTS, LONGEST_WAIT, MOST_ARRIVALS}
 
 abbrev pub state_of : Inside → State
 state_of h =
@@ -25,8 +25,8 @@ pub record IsSound (h : Inside) : Type 0 where
   pub few : length h.pool.packets ≤ 66
   pub wait : h.wait ≤ LONGEST_WAIT
   pub moment : h.moment < 2 ^ 49
-  pub early : h.finished ≡ Bool.false → h.moment < 2 ^ 48
-  pub arrivals : h.arrivals ≤ 2 ^ 40
+  pub early : h.finished ≡ Bool.false → h.moment < END_OF_MOMENTS
+  pub arrivals : h.arrivals ≤ MOST_ARRIVALS
   pub top : h.top ≤ 131072 + 65536 * h.arrivals
   pub small : AreSmall h.held
   pub begun : h.arrivals ≡ 0 → length h.held ≡ 0

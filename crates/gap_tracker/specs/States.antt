@@ -8,6 +8,7 @@ use Rattle.gap_tracker.specs.Stories.{Given, given_of}
 use Rattle.gap_tracker.specs.declared.answers.Due.{Due}
 use Rattle.gap_tracker.specs.declared.answers.Taken.{Taken}
 use Rattle.gap_tracker.specs.declared.answers.Taken.TheVariants.{Before, Old, Repeat, Ready, Held}
+use Rattle.rtt_base.specs.declared.limits.TheConstants.{MOST_HELD}
 
 -- `first`: the first arrival's number; `top`: the greatest number; below `front` each number has come or is given up, the last of them at `latest`;
 -- `current`: the packet that is read, or was given last
@@ -66,7 +67,7 @@ when_by t m = if nat_le m t then Some m else None
 
 -- when a number below all of these was given up, if it is by now
 abbrev pub given_up_at : ℕ → ℕ → List Numbered → Option ℕ
-given_up_at wait t held = if nat_lt 64 (length held) then Some t else when_by t (oldest_from t held + wait)
+given_up_at wait t held = if nat_lt MOST_HELD (length held) then Some t else when_by t (oldest_from t held + wait)
 
 abbrev pub latest_after : ℕ → ℕ → Option ℕ → Option ℕ
 latest_after latest time None = None

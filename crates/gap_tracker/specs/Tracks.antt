@@ -5,6 +5,7 @@ use Rattle.stream_spec.specs.Ready.{end_of}
 use Rattle.gap_tracker.specs.Stories.{Story, Given, due_at}
 use Rattle.gap_tracker.specs.States.{State, next_latest}
 use Rattle.gap_tracker.specs.Holding.{Holds, Timed}
+use Rattle.rtt_base.specs.declared.limits.TheConstants.{MOST_HELD}
 
 -- A first packet came, and `given` was given. `out` is what is settled, given or not.
 pub record Holding (s : State) (past : List Numbered) (given : List Given) : Type 0 where
@@ -14,7 +15,7 @@ pub record Holding (s : State) (past : List Numbered) (given : List Given) : Typ
   pub timed : Timed s.wait past s.moment s.first s.front s.latest
   pub settled_is : given ++ s.settled ≡ map (due_at s.wait past) out
   pub room : length s.held ≤ 65
-  pub crowd : 64 < length s.held → has_number past s.front ≡ Bool.false → end_of s.wait past s.front ≡ s.moment
+  pub crowd : MOST_HELD < length s.held → has_number past s.front ≡ Bool.false → end_of s.wait past s.front ≡ s.moment
 
 -- before the first packet
 pub record Waiting (s : State) (story : Story) : Type 0 where

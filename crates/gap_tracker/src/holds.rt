@@ -1,7 +1,7 @@
 //! What a tracker holds.
 ghost use Rattle.std.specs.Prelude.{◌≡◌, ◌+◌, ◌*◌, ◌^◌, ◌<◌, ◌≤◌, ◌==◌, ℕ, [], ◌∷◌, length, drop, nat_lt, Bool, true, false, IfOk, OnOk, IfErr, IsSome, IfSome, IfNone, if◌then◌else◌};
 ghost use Rattle.std.specs.Borrow.{sem};
-ghost use Rattle.rtt_base.specs.declared.limits.TheConstants.{LONGEST_WAIT};
+ghost use Rattle.rtt_base.specs.declared.limits.TheConstants.{END_OF_MOMENTS, LONGEST_WAIT, MOST_ARRIVALS};
 ghost use Rattle.gap_tracker.specs.Lends.{LendsHeld};
 ghost use Rattle.gap_tracker.specs.Stories.{went, ended, is_used};
 ghost use Rattle.gap_tracker.specs.States.{fresh, has_ready, passed, oldest_from, given_up_at, next_latest, settled_first, settled_at_once, counted, put_current, IsNext, ready_at_once, given_at_once, GivesFirst, IsRefused, AllAbove, IsPlace};
@@ -13,6 +13,7 @@ use crate::lines::Line;
 use crate::numbering::{first_number, nearest_number};
 use crate::pool::PacketPool;
 use crate::{Due, Taken};
+use rtt_base::limits::MOST_HELD;
 use rtt_base::{NoMemory, TextPacket};
 use std::alloc::Global;
 use std::marker::Model;
@@ -83,7 +84,7 @@ fn given_up(held: &[HeldPacket], wait: u64, moment: u64) -> Option<u64>
     requires moment { moment < 2 ^ 49 }
     ensures { AnyPackets held.now (λ numbered. result ≡ given_up_at wait moment numbered) }
 {
-    if held.len() > 64 {
+    if held.len() > MOST_HELD {
         return Some(moment);
     }
     let end = oldest_time(held, moment) + wait;
@@ -189,7 +190,7 @@ impl Hold {
 
     /// Lets time go on.
     fn pass(&mut self, now: u64)
-        requires { now < 2 ^ 48 }
+        requires { now < END_OF_MOMENTS }
         ensures { self.new ≡ passed self.old now }
     {
         self.moment = self.moment.max(now);
@@ -209,7 +210,7 @@ impl Hold {
 
     /// Counts an arrival with this number.
     fn count(&mut self, number: u64)
-        requires few { self.old.arrivals < 2 ^ 40 }
+        requires few { self.old.arrivals < MOST_ARRIVALS }
         requires small { number ≤ 196608 + 65536 * self.old.arrivals }
         ensures value { self.new ≡ counted self.old number }
         ensures begun { self.old.arrivals ≡ 0 → length self.old.held ≡ 0 }
@@ -245,7 +246,7 @@ impl Hold {
     /// Holds the current packet.
     fn put(&mut self, at: usize, number: u64)
         requires counted { 0 < self.old.arrivals }
-        requires room { length self.old.settled + length self.old.held ≤ 64 }
+        requires room { length self.old.settled + length self.old.held ≤ MOST_HELD }
         requires within { at ≤ length self.old.held }
         requires number { number < 2 ^ 60 }
         ensures { IsButCurrent self.new (put_current self.old at number) }
@@ -266,7 +267,7 @@ impl Hold {
     #[inline(always)]
     fn settle_at_once(&mut self, number: u64)
         requires counted { 0 < self.old.arrivals }
-        requires room { length self.old.settled ≤ 64 }
+        requires room { length self.old.settled ≤ MOST_HELD }
         requires none { self.old.held ≡ [] }
         requires number { number < 2 ^ 60 }
         ensures { IsButCurrent self.new (settled_at_once self.old number) }
@@ -287,7 +288,7 @@ impl Hold {
     #[inline(never)]
     fn hold(&mut self, at: usize, number: u64)
         requires counted { 0 < self.old.arrivals }
-        requires room { length self.old.settled + length self.old.held ≤ 64 }
+        requires room { length self.old.settled + length self.old.held ≤ MOST_HELD }
         requires within { at ≤ length self.old.held }
         requires number { number < 2 ^ 60 }
         ensures stands { FollowsAll (put_current self.old at number) self.new }
@@ -303,7 +304,7 @@ impl Hold {
     #[inline(always)]
     fn take_in(&mut self, at: usize, number: u64)
         requires counted { 0 < self.old.arrivals }
-        requires room { length self.old.settled + length self.old.held ≤ 64 }
+        requires room { length self.old.settled + length self.old.held ≤ MOST_HELD }
         requires within { at ≤ length self.old.held }
         requires number { number < 2 ^ 60 }
         ensures stands { FollowsAll (put_current self.old at number) self.new }
@@ -335,10 +336,10 @@ impl Hold {
     /// Takes the current packet. One that is used stays inside, and another one is current.
     #[inline(always)]
     pub fn arrive(&mut self, now: u64) -> Taken
-        requires now { now < 2 ^ 48 }
+        requires now { now < END_OF_MOMENTS }
         requires quiet { has_ready self.old ≡ false }
         requires still { next_latest self.old ≡ None }
-        requires few { self.old.arrivals < 2 ^ 40 }
+        requires few { self.old.arrivals < MOST_ARRIVALS }
         ensures stands { Leads self.old self.new (came_current self.old now) }
         ensures answer { Tells self.old result (answer_current self.old now) }
         ensures used { Tells self.old (is_used result) (is_current_in_time self.old now) }
@@ -385,8 +386,8 @@ impl Hold {
     /// Takes a packet with this number, and gives it at once.
     #[inline(always)]
     pub fn give_at_once(&mut self, now: u64, number: u64) -> u64
-        requires now { now < 2 ^ 48 }
-        requires few { self.old.arrivals < 2 ^ 40 }
+        requires now { now < END_OF_MOMENTS }
+        requires few { self.old.arrivals < MOST_ARRIVALS }
         requires small { number ≤ 196608 + 65536 * self.old.arrivals }
         ensures state { self.new ≡ given_at_once self.old now number }
         ensures ready { result ≡ ready_at_once self.old now }
@@ -402,7 +403,7 @@ impl Hold {
 
     /// Lets time go on, and settles what it settles.
     pub fn expire(&mut self, now: u64)
-        requires { now < 2 ^ 48 }
+        requires { now < END_OF_MOMENTS }
         ensures stands { Leads self.old self.new (λ story. went story now) }
         ensures same { SameBut (passed self.old now) self.new }
         ensures still { next_latest self.new ≡ None }

@@ -1,6 +1,7 @@
 //! The rules of a tracker as they are told: the whole list of arrivals is kept, and each question looks through all
 //! of it. Slow, and only for tests to compare with.
 use crate::Taken;
+use rtt_base::limits::MOST_HELD;
 
 /// A packet that came.
 #[derive(Clone, Copy, Debug)]
@@ -34,8 +35,8 @@ fn has_number(past: &[Came], number: u64) -> bool {
 }
 
 /// How many different numbers above this one came.
-fn different_above(past: &[Came], number: u64) -> u64 {
-    let mut count = 0u64;
+fn different_above(past: &[Came], number: u64) -> usize {
+    let mut count = 0usize;
     for (i, x) in past.iter().enumerate() {
         if x.number > number && !has_number(&past[..i], x.number) {
             count = count.saturating_add(1);
@@ -45,7 +46,7 @@ fn different_above(past: &[Came], number: u64) -> u64 {
 }
 
 fn is_given_up(past: &[Came], wait: u64, moment: u64, number: u64) -> bool {
-    different_above(past, number) > 64
+    different_above(past, number) > MOST_HELD
         || past.iter().any(|x| x.number > number && x.time.saturating_add(wait) <= moment)
 }
 
@@ -112,7 +113,7 @@ fn end_of(past: &[Came], wait: u64, number: u64) -> u64 {
         if x.number > number {
             end = end.min(x.time.saturating_add(wait));
             let fresh = !has_number(before, x.number);
-            if different_above(before, number) >= 64 && fresh {
+            if different_above(before, number) >= MOST_HELD && fresh {
                 end = end.min(x.time);
             }
         }

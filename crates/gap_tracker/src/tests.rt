@@ -4,6 +4,7 @@ ghost use Rattle.gap_tracker.specs.States.{is_finished};
 
 use crate::plain::{Came, number_after, ready_of, taken, used_under};
 use crate::{Taken, Tracker};
+use rtt_base::limits::{END_OF_MOMENTS, MOST_ARRIVALS};
 use std::alloc::Global;
 use std::test::Fail;
 
@@ -31,7 +32,7 @@ fn drain(tracker: &mut Tracker, given: &mut Vec<(u16, u64)>) -> Result<(), Fail>
 fn hand_in(tracker: &mut Tracker, at: u64, seq: u16) -> Option<Taken>
     ensures { is_finished tracker.new ≡ is_finished tracker.old }
 {
-    if tracker.ready() || tracker.arrivals() >= 1 << 40 || at >= 1 << 48 {
+    if tracker.ready() || tracker.arrivals() >= MOST_ARRIVALS || at >= END_OF_MOMENTS {
         return None;
     }
     tracker.packet_mut().seq = seq;
@@ -42,7 +43,7 @@ fn hand_in(tracker: &mut Tracker, at: u64, seq: u16) -> Option<Taken>
 fn give_at_once(tracker: &mut Tracker, at: u64, seq: u16) -> Option<u64>
     ensures { is_finished tracker.new ≡ is_finished tracker.old }
 {
-    if tracker.arrivals() >= 1 << 40 || at >= 1 << 48 {
+    if tracker.arrivals() >= MOST_ARRIVALS || at >= END_OF_MOMENTS {
         return None;
     }
     let number = tracker.next_in_order(seq)?;

@@ -1,7 +1,7 @@
 //! The tracker of one stream.
-ghost use Rattle.std.specs.Prelude.{◌≡◌, ◌+◌, ◌^◌, ◌<◌, ◌≤◌, [], Bool, true, false, is_some, length, IfOk, IsSome, IfSome, IfNone};
+ghost use Rattle.std.specs.Prelude.{◌≡◌, ◌+◌, ◌<◌, ◌≤◌, [], Bool, true, false, is_some, length, IfOk, IsSome, IfSome, IfNone};
 ghost use Rattle.std.specs.Borrow.{sem};
-ghost use Rattle.rtt_base.specs.declared.limits.TheConstants.{LONGEST_WAIT};
+ghost use Rattle.rtt_base.specs.declared.limits.TheConstants.{END_OF_MOMENTS, LONGEST_WAIT, MOST_ARRIVALS};
 ghost use Rattle.gap_tracker.specs.Lends.{LendsPacket};
 ghost use Rattle.gap_tracker.specs.Stories.{begun, went, ended, is_used};
 ghost use Rattle.gap_tracker.specs.States.{has_ready, packets_in, current_of, arrival_count, is_finished, IsNext};
@@ -77,9 +77,9 @@ impl Tracker {
     /// `Before`, `Old` and `Repeat` it is current still.
     #[inline(always)]
     pub fn arrive(&mut self, now: u64) -> Taken
-        requires now { now < 2 ^ 48 }
+        requires now { now < END_OF_MOMENTS }
         requires quiet { has_ready self.old ≡ false }
-        requires few { arrival_count self.old < 2 ^ 40 }
+        requires few { arrival_count self.old < MOST_ARRIVALS }
         ensures stands { Leads self.old self.new (came_current self.old now) }
         ensures answer { Tells self.old result (answer_current self.old now) }
         ensures used { Tells self.old (is_used result) (is_current_in_time self.old now) }
@@ -93,7 +93,7 @@ impl Tracker {
 
     /// Lets time go on to `now`.
     pub fn expire(&mut self, now: u64)
-        requires now { now < 2 ^ 48 }
+        requires now { now < END_OF_MOMENTS }
         requires quiet { has_ready self.old ≡ false }
         ensures stands { Leads self.old self.new (λ story. went story now) }
         ensures packets { packets_in self.new ≡ packets_in self.old }
@@ -156,9 +156,9 @@ impl Tracker {
     /// one: nothing of it is kept, and the current packet is as before.
     #[inline(always)]
     pub fn give_at_once(&mut self, now: u64, number: u64) -> u64
-        requires now { now < 2 ^ 48 }
+        requires now { now < END_OF_MOMENTS }
         requires next { IsNext self.old number }
-        requires few { arrival_count self.old < 2 ^ 40 }
+        requires few { arrival_count self.old < MOST_ARRIVALS }
         ensures stands { GivesAtOnce self.old self.new now number result }
         ensures all { GaveReady self.new }
         ensures quiet { has_ready self.new ≡ false }

@@ -28,8 +28,8 @@ arrived_later t time (Ok p) came all l = let n = l.now in record {
 with_later : (t ssrc : ℕ) (pts : Pts) (item : Item) (came all : List Arrival) → Later t came all → Later t came (arrivals_with ssrc pts item all)
 with_later t ssrc pts item came all l = go item.what
   where
-    go : (w : What) → Later t came (elim w [ recording.Sent octets ↦ arrived item.time (text_of octets (Some ssrc) pts) all | recording.Rtcp ↦ all | recording.Cut ↦ all | recording.Large ↦ all ])
-    go (recording.Sent octets) = arrived_later t item.time (text_of octets (Some ssrc) pts) came all l
+    go : (w : What) → Later t came (elim w [ recording.Whole octets ↦ arrived item.time (text_of octets (Some ssrc) pts) all | recording.Rtcp ↦ all | recording.Cut ↦ all | recording.Large ↦ all ])
+    go (recording.Whole octets) = arrived_later t item.time (text_of octets (Some ssrc) pts) came all l
     go recording.Rtcp = l
     go recording.Cut = l
     go recording.Large = l

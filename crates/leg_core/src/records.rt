@@ -1,5 +1,5 @@
 //! What an ear is told of a recording.
-ghost use Rattle.std.specs.Prelude.{◌≡◌, ◌≢◌, ◌≤◌, ◌<◌, ◌+◌, ◌^◌, [], ◌∷◌, true, false, IsUtf8};
+ghost use Rattle.std.specs.Prelude.{◌≡◌, ◌≢◌, ◌≤◌, ◌<◌, ◌+◌, [], ◌∷◌, true, false, IsUtf8};
 ghost use Rattle.rtpdump_io.specs.Answers.{is_end};
 ghost use Rattle.rtpdump_io.specs.declared.items.DumpItem.{DumpItem};
 ghost use Rattle.ear.specs.Hears.{Becomes, AllReady, arrival_count, conf_of, is_clear, is_finished, is_quiet};
@@ -8,6 +8,7 @@ ghost use Rattle.ear.specs.declared.answers.PlainAnswer.{PlainAnswer};
 ghost use Rattle.wire_spec.specs.Packets.{has_text};
 ghost use Rattle.stream_spec.specs.Ready.{chunk_of};
 ghost use Rattle.leg_core.specs.Items.{after_item, GivesItem};
+ghost use Rattle.rtt_base.specs.declared.limits.TheConstants.{MOST_ARRIVALS};
 
 use ear::{Ear, PlainAnswer};
 use rtpdump_io::DumpItem;
@@ -22,7 +23,7 @@ pub fn hear_plain_item(
     chunk: &mut Chunk,
 ) -> PlainAnswer
     requires quiet { is_quiet ear.old ≡ true }
-    requires few { arrival_count ear.old < 2 ^ 40 }
+    requires few { arrival_count ear.old < MOST_ARRIVALS }
     requires giving { ∥ IsGiving ear.old ∥₁ }
     ensures some { result ≡ PlainAnswer.Chunk → GivesItem ear.old ear.new item octets.now (chunk_of chunk.new ∷ []) }
     ensures none { result ≡ PlainAnswer.Nothing → GivesItem ear.old ear.new item octets.now [] }
@@ -46,7 +47,7 @@ pub fn hear_plain_item(
 /// Tells the ear of a record, whose octets are these, or of the end.
 pub fn hear_item(ear: &mut Ear, item: DumpItem, octets: &[u8])
     requires quiet { is_quiet ear.old ≡ true }
-    requires few { arrival_count ear.old < 2 ^ 40 }
+    requires few { arrival_count ear.old < MOST_ARRIVALS }
     requires once { is_finished ear.old ≡ false }
     ensures becomes { Becomes ear.old ear.new (λ conf story. after_item conf story item octets.now) }
     ensures all { item ≡ DumpItem.End → AllReady ear.old }

@@ -5,6 +5,7 @@ use Rattle.rtt_base.specs.declared.blocks.TextBlock.{TextBlock}
 use Rattle.wire_spec.specs.Packets.{Packet}
 use Rattle.red_blocks.specs.declared.writing.BlockView.{BlockView}
 use Rattle.red_blocks.specs.declared.writing.TextHead.{TextHead}
+use Rattle.rtt_base.specs.declared.limits.TheConstants.{MOST_OFFSET}
 
 -- the offset has fourteen bits
 pub record HasOffset (b : TextBlock) : Type 0 where
@@ -12,7 +13,7 @@ pub record HasOffset (b : TextBlock) : Type 0 where
 
 -- the same block with an offset of at most fourteen bits
 abbrev pub clamped : TextBlock → TextBlock
-clamped b = record { offset = min b.offset 16383; text = b.text }
+clamped b = record { offset = min b.offset MOST_OFFSET; text = b.text }
 
 -- the texts one behind the other
 abbrev pub text_octets : List TextBlock → List ℕ

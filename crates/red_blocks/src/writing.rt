@@ -11,13 +11,11 @@ ghost use Rattle.red_blocks.specs.Writing.{HasOffset, clamped, seen, text_octets
 
 use byteorder::{BigEndian, ByteOrder};
 use rtp_header::{RtpHead, write_header};
+use rtt_base::limits::MOST_OFFSET;
 use rtt_base::{Blocks, OctetBuffer, Pts};
 
 /// F, the bit of a header's first octet that tells a redundant header from the last.
 const F: u8 = 128;
-
-/// The greatest offset that fits in 14 bits.
-const LONGEST: u16 = 16383;
 
 /// A redundant block where it is kept: how far it lies before its packet, below 2^14 ticks of 1 ms, and its text, of at
 /// most 1023 octets.
@@ -55,7 +53,7 @@ impl OlderBlocks for Blocks {
     fn block(&self, place: usize, _stamp: u32) -> BlockView<'_> {
         let block = &self.as_slice()[place];
         BlockView {
-            offset: block.offset.min(LONGEST),
+            offset: block.offset.min(MOST_OFFSET),
             text: block.text.as_slice(),
         }
     }

@@ -4,14 +4,15 @@ use Rattle.std.specs.Prelude.{ℕ, List, ◌++◌, map, min, take, drop, if◌th
 use Rattle.rtt_base.specs.declared.blocks.TextBlock.{TextBlock}
 use Rattle.rtt_base.specs.Stamps.{ahead}
 use Rattle.red_window.specs.declared.kept.KeptBlock.{KeptBlock}
+use Rattle.rtt_base.specs.declared.limits.TheConstants.{MOST_OFFSET}
 
 -- places that are written over in turn, from the oldest block on
 abbrev pub in_turn : ℕ → List KeptBlock → List KeptBlock
 in_turn oldest places = drop oldest places ++ take oldest places
 
--- how far a kept block lies before a packet with this stamp: at most 16383, and 16383 where nothing was sent
+-- how far a kept block lies before a packet with this stamp: at most MOST_OFFSET, and MOST_OFFSET where nothing was sent
 abbrev pub offset_kept : ℕ → KeptBlock → ℕ
-offset_kept stamp b = if b.sent then min 16383 (ahead stamp b.stamp) else 16383
+offset_kept stamp b = if b.sent then min MOST_OFFSET (ahead stamp b.stamp) else MOST_OFFSET
 
 -- the block, in a packet with this stamp, that repeats a kept one
 abbrev pub block_kept : ℕ → KeptBlock → TextBlock

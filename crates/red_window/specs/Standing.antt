@@ -4,6 +4,7 @@ use Rattle.wire_spec.specs.Packets.{has_text}
 use Rattle.stream_spec.specs.Lists.{In}
 use Rattle.stream_spec.specs.Own.{Sent, nth}
 use Rattle.red_window.specs.declared.kept.KeptBlock.{KeptBlock}
+use Rattle.rtt_base.specs.declared.limits.TheConstants.{MOST_OFFSET}
 
 -- what is kept of an entry, if there is one; `base` is the stamp of the media time 0
 abbrev pub kept_of : ℕ → Option Sent → KeptBlock
@@ -22,4 +23,4 @@ pub record StandsFor (g base : ℕ) (kept : List KeptBlock) (past : List Sent) :
 -- A block at this media time may be sent after these: it is later than each, and near to each text that it repeats.
 pub record MayFollow (g media : ℕ) (past : List Sent) : Type 0 where
   pub later : (x : Sent) → In x (take g past) → (x.media < media) × (media < x.media + 2 ^ 31)
-  pub near : (x : Sent) → In x (take g past) → has_text x.text ≡ true → media ≤ x.media + 16383
+  pub near : (x : Sent) → In x (take g past) → has_text x.text ≡ true → media ≤ x.media + MOST_OFFSET

@@ -4,9 +4,7 @@ ghost use Rattle.std.specs.List.{list_any};
 ghost use Rattle.red_window.specs.Kept.{offset_kept};
 
 use rtt_base::Text;
-
-/// How far a block is said to lie before a packet at most: the greatest offset that fits in 14 bits.
-const LONGEST: u32 = 16383;
+use rtt_base::limits::MOST_OFFSET;
 
 /// A place of a window: a block that was sent, with its timestamp, or nothing yet.
 #[derive(Debug, Default, Drop)]
@@ -34,9 +32,9 @@ impl KeptBlock {
         ensures fits { result < 2 ^ 14 }
     {
         if !self.sent {
-            return LONGEST as u16;
+            return MOST_OFFSET;
         }
-        stamp.wrapping_sub(self.stamp).min(LONGEST) as u16
+        stamp.wrapping_sub(self.stamp).min(u32::from(MOST_OFFSET)) as u16
     }
 }
 

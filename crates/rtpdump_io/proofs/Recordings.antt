@@ -134,13 +134,13 @@ kinds p k at v out place kept within =
   where
     go : (b1 b2 b3 : Bool) → nat_lt k p ≡ b2 → out ≡ take (cond b2 0 (cond b3 0 p)) v →
         found_as (Ok (cond b1 (answer.Rtcp at) (cond b2 (answer.Cut at) (cond b3 (answer.Large at) (answer.Packet at))))) out place
-        ≡ Next (item_at at (cond b1 dumps.Rtcp (cond b2 dumps.Cut (cond b3 dumps.Large (dumps.Sent (take p (take k v))))))) place
+        ≡ Next (item_at at (cond b1 dumps.Rtcp (cond b2 dumps.Cut (cond b3 dumps.Large (dumps.Whole (take p (take k v))))))) place
     go true b2 b3 e o = refl
     go false true b3 e o = refl
     go false false true e o = refl
     go false false false e o =
         let same : out ≡ take p (take k v) = o ∙ sym (take_take p k v (ltb-false k p e)) in
-        ap (λ (octets : List ℕ). Next (item_at at (dumps.Sent octets)) place) same
+        ap (λ (octets : List ℕ). Next (item_at at (dumps.Whole octets)) place) same
 
 module _ (limit byte : ℕ) (u h v : List ℕ) (cut : u ≡ h ++ v) (eight : length h ≡ 8) where
   through : (k : ℕ) → size_of h ≡ 8 + k → size_of u ≡ length h + k

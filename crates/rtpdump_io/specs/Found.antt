@@ -1,7 +1,7 @@
 -- What the parts of a reading find, as the definition of recordings has it.
 use Rattle.std.specs.Prelude.{ℕ, ◌==◌, nat_lt, List, Result, Ok, Err, if◌then◌else◌}
 use Rattle.wire_spec.specs.declared.faults.DumpKind.{DumpKind}
-use Rattle.wire_spec.specs.Dump.{Sent, Place, Fault, Step, Next, Broken, Recording, with_item}
+use Rattle.wire_spec.specs.Dump.{Whole, Place, Fault, Step, Next, Broken, Recording, with_item}
 use Rattle.wire_spec.specs.Dump as dumps
 use Rattle.rtpdump_io.specs.declared.items.DumpItem.{DumpItem}
 use Rattle.rtpdump_io.specs.declared.items.DumpItem.TheVariants.{Packet, Rtcp, Cut, Large, End}
@@ -25,7 +25,7 @@ opened_as (Err kind) p = Err (record { byte = p.byte; kind = kind })
 
 -- one step, with the place behind it
 abbrev pub found_as : Result DumpItem DumpKind → List ℕ → Place → Step
-found_as (Ok (Packet at)) out p = Next (item_at at (Sent out)) p
+found_as (Ok (Packet at)) out p = Next (item_at at (Whole out)) p
 found_as (Ok (Rtcp at)) out p = Next (item_at at dumps.Rtcp) p
 found_as (Ok (Cut at)) out p = Next (item_at at dumps.Cut) p
 found_as (Ok (Large at)) out p = Next (item_at at dumps.Large) p
@@ -34,7 +34,7 @@ found_as (Err kind) out p = Broken (record { byte = p.byte; kind = kind })
 
 -- all that comes, with what comes behind the first
 abbrev pub came_as : Result DumpItem DumpKind → List ℕ → ℕ → Recording → Recording
-came_as (Ok (Packet at)) out byte rest = with_item (item_at at (Sent out)) rest
+came_as (Ok (Packet at)) out byte rest = with_item (item_at at (Whole out)) rest
 came_as (Ok (Rtcp at)) out byte rest = with_item (item_at at dumps.Rtcp) rest
 came_as (Ok (Cut at)) out byte rest = with_item (item_at at dumps.Cut) rest
 came_as (Ok (Large at)) out byte rest = with_item (item_at at dumps.Large) rest

@@ -7,3 +7,5 @@ pub mod Steps
 pub mod Writing
 pub mod Answers
 pub mod Structures
+pub mod InMemory
+pub mod Faults

@@ -2,7 +2,7 @@
 use Rattle.std.specs.Prelude.{◌≡◌, ℕ, ◌-◌, List, [], Bool, true, false, None, Some, Result, Ok, Err, IfErr}
 use Rattle.wire_spec.specs.declared.faults.DumpKind.{DumpKind}
 use Rattle.wire_spec.specs.declared.faults.DumpKind.TheVariants as kind
-use Rattle.wire_spec.specs.Dump.{Item, Sent, Place, Recording, with_item, records, dump}
+use Rattle.wire_spec.specs.Dump.{Item, Whole, Place, Recording, with_item, records, dump}
 use Rattle.wire_spec.specs.Dump as dumps
 use Rattle.rtpdump_io.specs.declared.items.DumpItem.{DumpItem}
 use Rattle.rtpdump_io.specs.declared.items.DumpItem.TheVariants.{Packet, Rtcp, Cut, Large, End}
@@ -36,7 +36,7 @@ Breaks kind.TooLarge byte old = old ≡ broken byte kind.TooLarge
 
 -- what was to come began with what this answer says, and what is to come now is the rest
 abbrev pub Gives : Result DumpItem DumpFault → List ℕ → Recording → Recording → Type 0
-Gives (Ok (Packet at)) out old new = old ≡ with_item (item_at at (Sent out)) new
+Gives (Ok (Packet at)) out old new = old ≡ with_item (item_at at (Whole out)) new
 Gives (Ok (Rtcp at)) out old new = old ≡ with_item (item_at at dumps.Rtcp) new
 Gives (Ok (Cut at)) out old new = old ≡ with_item (item_at at dumps.Cut) new
 Gives (Ok (Large at)) out old new = old ≡ with_item (item_at at dumps.Large) new

@@ -25,3 +25,11 @@ pub struct DumpFault {
     pub offset: u64,
     pub kind: DumpKind,
 }
+
+/// Why a recording was not read to its end.
+#[derive(Clone, Copy, Debug, PartialEq, Eq)]
+pub enum RecordingFault {
+    /// It can't be read further.
+    Dump(DumpFault),
+    NoMemory,
+}

@@ -1,6 +1,7 @@
 //! Recordings of packets, in the file form of rtpdump.
 #![tactic(auto)]
 
+mod in_memory;
 mod inputs;
 mod items;
 mod openings;
@@ -8,7 +9,8 @@ mod readers;
 mod record_heads;
 mod writing;
 
-pub use items::{DumpFault, DumpItem};
+pub use in_memory::{next_record, records_of};
+pub use items::{DumpFault, DumpItem, RecordingFault};
 pub use readers::DumpReader;
 pub use writing::{write_dump, write_opening, write_record};
 

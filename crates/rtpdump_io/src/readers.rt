@@ -131,6 +131,7 @@ impl<S: Source> DumpReader<S> {
     }
 
     // Reads the opening first, where that was not done yet, and then a record.
+    #[inline(always)]
     fn step(&mut self, out: &mut Packet) -> Result<Result<DumpItem, DumpKind>, Failed>
         requires { is_ended self.old ≡ false }
         ensures came { S.tells → IfOk result (λ found. Comes S.left self.old self.new out.new found) }

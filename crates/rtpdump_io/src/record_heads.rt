@@ -2,6 +2,7 @@
 ghost use Rattle.std.specs.Prelude.{◌≡◌, ◌≤◌, ◌-◌, nat_lt};
 ghost use Rattle.wire_spec.specs.Dump.{size_of, packet_size_of, time_of};
 ghost use Rattle.rtpdump_io.specs.Found.{kind_of, kept_of};
+ghost use Rattle.rtpdump_io.specs.Heads.{body_size};
 
 use crate::items::DumpItem;
 use rtt_base::limits::MOST_PACKET_OCTETS;
@@ -43,6 +44,14 @@ impl RecordHead {
         ensures { result ≡ nat_lt LAST_RECORD_MOMENT self.now.time }
     {
         self.time > LAST_RECORD_MOMENT
+    }
+
+    /// How many octets the record has behind its head.
+    pub fn body_size(&self) -> usize
+        requires { 8 ≤ self.now.size }
+        ensures { result ≡ body_size self.now }
+    {
+        usize::from(self.size - 8)
     }
 
     /// What the record is.

@@ -8,7 +8,8 @@ use byteorder::{BigEndian, ByteOrder};
 use rtt_base::{Bytes, NoMemory, Record};
 
 /// The line and the head: from 127.0.0.1, port 5004, at no time.
-const OPENING: [u8; 44] = *b"#!rtpplay1.0 127.0.0.1/5004\n\0\0\0\0\0\0\0\0\x7F\0\0\x01\x13\x8C\0\0";
+pub(crate) const OPENING: [u8; 44] =
+    *b"#!rtpplay1.0 127.0.0.1/5004\n\0\0\0\0\0\0\0\0\x7F\0\0\x01\x13\x8C\0\0";
 
 /// Appends the line and the head with which a recording begins. After `NoMemory` `out` is as before.
 pub fn write_opening(out: &mut Bytes) -> Result<(), NoMemory>

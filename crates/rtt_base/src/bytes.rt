@@ -60,6 +60,7 @@ impl Bytes {
     }
 
     /// Appends octets. After `NoMemory` the list is as before.
+    #[inline(always)]
     pub fn append(&mut self, octets: &[u8]) -> Result<(), NoMemory>
         ensures ok { OnOk result (self.new ≡ self.old ++ octets.now) }
         ensures err { OnErr result (self.new ≡ self.old) }

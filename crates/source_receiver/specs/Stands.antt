@@ -8,6 +8,7 @@ use Rattle.stream_spec.specs.Hearing.{IsLastOf}
 use Rattle.source_receiver.specs.declared.receivers.Receiver.{Receiver}
 use Rattle.source_receiver.specs.declared.receivers.Listed.{Listed}
 use Rattle.source_receiver.specs.declared.receivers.Seen.{Seen}
+use Rattle.rtt_base.specs.declared.limits.TheConstants.{MOST_SOURCES}
 
 -- a packet that was used under this number; when it came makes no difference to what is heard
 abbrev pub used_packet : ℕ → ℕ → TextPacket → Numbered
@@ -39,7 +40,7 @@ IsSeen us s (Some seen) = (a : Numbered) × (l : IsLastOf s us a) × (seen.stamp
 
 pub record Stands (r : Receiver) (sources : List ℕ) (us : List Numbered) : Type 0 where
   pub listed : map (λ l. l.source) r.listed.items ≡ sources
-  pub few : length sources ≤ 64
+  pub few : length sources ≤ MOST_SOURCES
   pub differ : AllPairs (λ a b. a ≢ b) sources
   pub rising : RisingNumbers us
   pub count : IsCount us r.latest r.missing

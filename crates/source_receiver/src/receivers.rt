@@ -11,6 +11,7 @@ ghost use Rattle.source_receiver.specs.Pieces.{left_of};
 ghost use Rattle.source_receiver.specs.Each.{one_if, sources_count, AreHeard};
 ghost use Rattle.source_receiver.specs.Plain.{TakesView, HearsView, HearsPrimary, gives_since, any_gives_since, IsPlain, IsPlainAt, IsKept};
 ghost use Rattle.red_blocks.specs.Views.{headers_in, IsView};
+ghost use Rattle.rtt_base.specs.declared.limits.TheConstants.{MOST_SOURCES};
 
 use crate::{Piece, SourceText};
 use red_blocks::TextView;
@@ -224,7 +225,7 @@ impl Receiver {
     /// A receiver that listens to these sources: 1 to 64 of them, all different.
     pub fn new(alloc: Global, sources: &[u32]) -> Result<Receiver, NoMemory>
         requires some { 0 < length sources.now }
-        requires few { length sources.now ≤ 64 }
+        requires few { length sources.now ≤ MOST_SOURCES }
         requires differ { AllPairs (λ a b. a ≢ b) sources.now }
         ensures stands { IfOk result (λ receiver. Stands receiver sources.now []) }
         ensures latest { IfOk result (λ receiver. latest_number receiver ≡ None) }
@@ -278,6 +279,7 @@ impl Receiver {
     }
 
     /// The place of the packet's source, if it is listed and nothing but its primary text is heard of the packet.
+    #[inline(always)]
     fn plain_place(&self, number: u64, view: &TextView<'_>) -> Option<usize>
         requires rises { ForSome self.now.latest (λ latest. latest < number) }
         requires view { IsView view.now }

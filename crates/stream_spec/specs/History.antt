@@ -7,7 +7,7 @@ use Rattle.stream_spec.specs.Lists.{In}
 use Rattle.wire_spec.specs.Packets.{Packet, Arrival, has_text}
 use Rattle.stream_spec.specs.Numbering.{in_time, numbered, number_it}
 use Rattle.stream_spec.specs.Hearing.{oldest_offset}
-use Rattle.rtt_base.specs.declared.limits.TheConstants.{MOST_PACKET_OCTETS, MOST_TEXT_OCTETS}
+use Rattle.rtt_base.specs.declared.limits.TheConstants.{MOST_OFFSET, MOST_PACKET_OCTETS, MOST_TEXT_OCTETS}
 
 -- A text that was sent: `gens` is the number of redundant blocks beside it, `reach` the offset of the oldest of them.
 pub record Entry : Type 0 where
@@ -103,7 +103,7 @@ pub record Lawful (h : History) : Type 0 where
   pub rises : (x y : Placed) → In x (placed h) → In y (placed h) → x.source ≡ y.source → x.place < y.place → x.media < y.media
   pub low_rises : (x y : Placed) → In x (placed h) → In y (placed h) → x.source ≡ y.source → x.place < y.place → low x ≤ low y
   pub near : (x y : Placed) → In x (placed h) → In y (placed h) → x.source ≡ y.source → x.index < y.index → low y ≤ x.index
-      → has_text x.text ≡ true → y.media ≤ x.media + 16383
+      → has_text x.text ≡ true → y.media ≤ x.media + MOST_OFFSET
   pub gens : (x : Placed) → In x (placed h) → x.gens ≤ 8
   pub reach : (x : Placed) → In x (placed h) → x.reach < 2 ^ 14
   pub reach_fits : (x : Placed) → In x (placed h) → ReachFits h x

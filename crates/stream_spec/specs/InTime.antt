@@ -2,6 +2,7 @@
 use Rattle.std.specs.Prelude.{◌≡◌, ℕ, ◌+◌, ◌<◌, ◌≤◌, true, List, [], ◌∷◌, ◌++◌, length}
 use Rattle.stream_spec.specs.Lists.{In}
 use Rattle.stream_spec.specs.Numbering.{Numbered, in_time}
+use Rattle.rtt_base.specs.declared.limits.TheConstants.{MOST_HELD}
 
 -- x stands among these, and was in time after those that came before it
 pub record CameInTime (wait : ℕ) (past : List Numbered) (x : Numbered) : Type 0 where
@@ -26,10 +27,10 @@ abbrev pub Different : List ℕ → Type 0
 Different [] = Unit {0}
 Different (m ∷ ms) = (In m ms → ⊥) × Different ms
 
--- more than 64 different numbers came that are greater than n
+-- more than MOST_HELD different numbers came that are greater than n
 pub record IsOvertaken (past : List Numbered) (n : ℕ) : Type 0 where
   pub numbers : List ℕ
-  pub many : 64 < length numbers
+  pub many : MOST_HELD < length numbers
   pub different : Different numbers
   pub above : (m : ℕ) → In m numbers → n < m
   pub came : (m : ℕ) → In m numbers → HasCome past m

@@ -5,6 +5,7 @@ use Rattle.std.specs.Prelude.{ℕ, ◌<◌, ◌≤◌, suc, ◌+◌, ◌-◌, �
 use Rattle.std.specs.List.{list_any}
 use Rattle.wire_spec.specs.Packets.{Packet, Arrival}
 use Rattle.stream_spec.specs.Lists.{In}
+use Rattle.rtt_base.specs.declared.limits.TheConstants.{MOST_HELD}
 
 -- an arrival with its number
 pub record Numbered : Type 0 where
@@ -51,10 +52,10 @@ abbrev pub distinct_from : ℕ → List Numbered → ℕ
 distinct_from n [] = 0
 distinct_from n (e ∷ past) = (if nat_le n e.number && not (has_number past e.number) then 1 else 0) + distinct_from n past
 
--- By the moment t the number n is given up: a greater number came `wait` ago or earlier, or more than 64 different
+-- By the moment t the number n is given up: a greater number came `wait` ago or earlier, or more than MOST_HELD different
 -- greater numbers came.
 abbrev pub is_given_up : ℕ → List Numbered → ℕ → ℕ → Bool
-is_given_up wait past t n = list_any (λ x. nat_lt n x.number && nat_le (x.time + wait) t) past || nat_lt 64 (distinct_from (suc n) past)
+is_given_up wait past t n = list_any (λ x. nat_lt n x.number && nat_le (x.time + wait) t) past || nat_lt MOST_HELD (distinct_from (suc n) past)
 
 -- e, after these, is in time: it is not below the first number, did not come before, and is not given up
 abbrev pub in_time : ℕ → Numbered → List Numbered → Bool

@@ -8,16 +8,16 @@ use Rattle.wire_spec.specs.Packets.{Packet, Arrival, has_text}
 use Rattle.stream_spec.specs.Lists.{In}
 use Rattle.stream_spec.specs.Hearing.{oldest_offset}
 use Rattle.stream_spec.specs.History.{History, Entry, Placed, placed, before, slots, entry_count, IsNear}
-use Rattle.rtt_base.specs.declared.limits.TheConstants.{MOST_TEXT_OCTETS}
+use Rattle.rtt_base.specs.declared.limits.TheConstants.{MOST_OFFSET, MOST_TEXT_OCTETS}
 
 -- how far an empty block is said to lie before the packet
 abbrev pub offset_of : ℕ → ℕ → ℕ
-offset_of media earlier = min 16383 (media - earlier)
+offset_of media earlier = min MOST_OFFSET (media - earlier)
 
--- The block of x that repeats this entry: at the exact distance where it has text, else at most 16383, and 16383
--- where there is no entry.
+-- The block of x that repeats this entry: at the exact distance where it has text, else at most MOST_OFFSET, and
+-- MOST_OFFSET where there is no entry.
 abbrev pub block_of : Placed → Option Placed → TextBlock
-block_of x None = record { offset = 16383; text = [] }
+block_of x None = record { offset = MOST_OFFSET; text = [] }
 block_of x (Some y) = record { offset = if has_text y.text then x.media - y.media else offset_of x.media y.media; text = y.text }
 
 -- The M bit: none of the entries that x repeats has text; where x repeats none, the one before it has none.
@@ -104,7 +104,7 @@ nth (suc k) (e ∷ past) = nth k past
 
 -- the block at this media time that repeats what was sent, if there was anything
 abbrev pub repeat_of : ℕ → Option Sent → TextBlock
-repeat_of media None = record { offset = 16383; text = [] }
+repeat_of media None = record { offset = MOST_OFFSET; text = [] }
 repeat_of media (Some e) = record { offset = if has_text e.text then media - e.media else offset_of media e.media; text = e.text }
 
 -- the blocks at this media time that repeat the last g of these, oldest first
@@ -143,7 +143,7 @@ packet_after c past e = record {
 -- e may be sent after these: it is later than each, and near to each text that it repeats
 pub record MaySend (c : Stream) (past : List Sent) (e : Sent) : Type 0 where
   pub later : (x : Sent) → In x past → (x.media < e.media) × (e.media < x.media + 2 ^ 31)
-  pub near : (x : Sent) → In x (take c.gens (sent_of e.source past)) → has_text x.text ≡ true → e.media ≤ x.media + 16383
+  pub near : (x : Sent) → In x (take c.gens (sent_of e.source past)) → has_text x.text ≡ true → e.media ≤ x.media + MOST_OFFSET
   pub text : (length e.text ≤ MOST_TEXT_OCTETS) × IsUtf8 e.text
 
 -- each of these could be sent after those before it

@@ -5,18 +5,19 @@ use Rattle.wire_spec.specs.Packets.{Arrival}
 use Rattle.stream_spec.specs.Lists.{In}
 use Rattle.stream_spec.specs.Numbering.{Numbered, numbered, used, in_time, distinct_from, has_number, first_number}
 use Rattle.stream_spec.specs.Hearing.{piece, is_packet_of}
+use Rattle.rtt_base.specs.declared.limits.TheConstants.{MOST_HELD}
 
 abbrev pub when : Bool → ℕ → List ℕ
 when b m = if b then m ∷ [] else []
 
 -- The moments that end n: its arrival in time, `wait` after each arrival of a greater number, and each arrival by
--- which more than 64 different greater ones have come.
+-- which more than MOST_HELD different greater ones have come.
 abbrev pub moments : ℕ → List Numbered → ℕ → List ℕ
 moments wait [] n = []
 moments wait (e ∷ past) n =
     when (in_time wait e past && e.number == n) e.time
     ++ (when (nat_lt n e.number) (e.time + wait)
-    ++ (when (nat_lt 64 (distinct_from (suc n) (e ∷ past))) e.time ++ moments wait past n))
+    ++ (when (nat_lt MOST_HELD (distinct_from (suc n) (e ∷ past))) e.time ++ moments wait past n))
 
 abbrev pub least : List ℕ → ℕ
 least [] = 0

@@ -5,7 +5,7 @@ use Rattle.std.specs.Prelude.{ℕ, zero, suc, ◌+◌, ◌^◌, ◌<◌, ◌≤�
 use Rattle.wire_spec.specs.Packets.{Packet, has_text}
 use Rattle.stream_spec.specs.History.{History}
 use Rattle.stream_spec.specs.Own.{Sent, Stream, has_text_in, packet_after, sent_history}
-use Rattle.rtt_base.specs.declared.limits.TheConstants.{MOST_TEXT_OCTETS}
+use Rattle.rtt_base.specs.declared.limits.TheConstants.{LONGEST_STEP, LONGEST_STEP_OF_TWO, MOST_TEXT_OCTETS}
 
 -- a text is typed, or the sender is asked at a moment in milliseconds
 pub data Event : Type 0 where
@@ -53,7 +53,7 @@ has_passed interval (e ∷ es) t = nat_le (e.at + interval) t
 -- How far the media time goes on at most where text is still to be repeated, with so many generations: so that the
 -- offset of the oldest block fits in 14 bits.
 abbrev pub longest_step : ℕ → ℕ
-longest_step g = if nat_le g 2 then 8000 else 5000
+longest_step g = if nat_le g 2 then LONGEST_STEP_OF_TWO else LONGEST_STEP
 
 -- the media time at t: where text is still to be repeated, at most the longest step after the last one
 abbrev pub media_at : ℕ → List Turned → ℕ → ℕ

@@ -15,7 +15,7 @@ use Rattle.wire_spec.specs.Rtp.{Head, rtp, rtp_of_header, rtp_written}
 use Rattle.wire_spec.specs.Red.{headers_at, texts_at, red, red_written}
 use Rattle.wire_spec.specs.Text.{text_of_short, text_of}
 use Rattle.wire_spec.specs.SentPackets.{packet_written}
-use Rattle.wire_spec.specs.Dump.{Item, Sent, Fault, arrivals, opening, dump_step, records_within, records, dump, usual_limit, dump_written}
+use Rattle.wire_spec.specs.Dump.{Item, Whole, Fault, arrivals, opening, dump_step, records_within, records, dump, usual_limit, dump_written}
 
 -- ---- octets in hexadecimal digits
 
@@ -137,7 +137,7 @@ abbrev recording : List ℕ
 recording = recording_to 0
 
 abbrev sent : ℕ → List ℕ → Item
-sent time octets = record { time = time; what = Sent octets }
+sent time octets = record { time = time; what = Whole octets }
 
 recording-size : length recording ≡ 166
 recording-size = refl

@@ -5,7 +5,7 @@ use Rattle.std.specs.Int.{w16, w32, to_be_bytes}
 use Rattle.std.proofs.lemmas.Bool.{le-ltb, ne_eqb}
 use Rattle.std.proofs.lemmas.List.{take_at, take_all, drop_at}
 use Rattle.std.proofs.lemmas.Nat.{from_be_bytes-to_be_bytes_2, from_be_bytes-to_be_bytes_4}
-use Rattle.wire_spec.specs.Dump.{Sent, Next, what_of, size_of, packet_size_of, time_of, step_or, dump_step, with_item, records_by, records, dump_from, dump, opening, dump_opening, record_written, dump_written, FitsRecord, sent_item}
+use Rattle.wire_spec.specs.Dump.{Whole, Next, what_of, size_of, packet_size_of, time_of, step_or, dump_step, with_item, records_by, records, dump_from, dump, opening, dump_opening, record_written, dump_written, FitsRecord, sent_item}
 use Rattle.wire_spec.proofs.Records.{unrolled}
 use Rattle.rtt_base.specs.declared.limits.TheConstants.{MOST_PACKET_OCTETS}
 use Rattle.wire_spec.specs.declared.limits.TheConstants.{LAST_RECORD_MOMENT}
@@ -24,7 +24,7 @@ opened rest =
 
 -- ---- one record
 
-one_what : (octets : List ℕ) → 0 < length octets → length octets ≤ MOST_PACKET_OCTETS → what_of (length octets) octets ≡ Sent octets
+one_what : (octets : List ℕ) → 0 < length octets → length octets ≤ MOST_PACKET_OCTETS → what_of (length octets) octets ≡ Whole octets
 one_what octets some few =
     let a : eqb (length octets) 0 ≡ false = ne_eqb (length octets) 0 (λ e. omega arith) in
     let b : ltb (length octets) (length octets) ≡ false = le-ltb (length octets) (length octets) (omega arith) in

@@ -13,7 +13,7 @@ use Rattle.wire_spec.specs.declared.limits.TheConstants.{LAST_RECORD_MOMENT, MOS
 
 -- what a record is: a packet with its octets, one of RTCP, one that was recorded in part, or one of more than 4224 octets
 pub data What : Type 0 where
-  Sent : (octets : List ℕ) → What
+  Whole : (octets : List ℕ) → What
   Rtcp : What
   Cut : What
   Large : What
@@ -65,7 +65,7 @@ pub data Step : Type 0 where
 abbrev pub what_of : ℕ → List ℕ → What
 what_of packet_size body =
     if packet_size == 0 then Rtcp
-    else (if nat_lt (length body) packet_size then Cut else (if nat_lt MOST_PACKET_OCTETS packet_size then Large else Sent (take packet_size body)))
+    else (if nat_lt (length body) packet_size then Cut else (if nat_lt MOST_PACKET_OCTETS packet_size then Large else Whole (take packet_size body)))
 
 -- a record's size, that of its packet, and its time
 abbrev pub size_of : List ℕ → ℕ
@@ -148,7 +148,7 @@ arrived time (Ok packet) past = record { time = max time (latest past); packet =
 
 abbrev pub arrivals_with : ℕ → Pts → Item → List Arrival → List Arrival
 arrivals_with ssrc pts item past =
-    elim item.what [ Sent octets ↦ arrived item.time (text_of octets (Some ssrc) pts) past | Rtcp ↦ past | Cut ↦ past | Large ↦ past ]
+    elim item.what [ Whole octets ↦ arrived item.time (text_of octets (Some ssrc) pts) past | Rtcp ↦ past | Cut ↦ past | Large ↦ past ]
 
 abbrev pub arrivals_after : ℕ → Pts → List Arrival → List Item → List Arrival
 arrivals_after ssrc pts past [] = past
@@ -180,4 +180,4 @@ pub record FitsRecord (r : ℕ × List ℕ) : Type 0 where
 
 -- as it is read
 abbrev pub sent_item : ℕ × List ℕ → Item
-sent_item r = record { time = r.0; what = Sent r.1 }
+sent_item r = record { time = r.0; what = Whole r.1 }
