@@ -1,3 +1,2 @@
-pub mod Changed
 pub mod ConfLoop
 pub mod EntryWords

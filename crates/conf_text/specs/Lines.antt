@@ -6,7 +6,6 @@ use Rattle.file_spec.specs.declared.conf_lines.LegLine.{LegLine}
 use Rattle.file_spec.specs.declared.conf_lines.Form.{Form}
 use Rattle.file_spec.specs.declared.kinds.ConfKind.{ConfKind}
 use Rattle.file_spec.specs.Conf as conf
-use Rattle.conf_text.specs.declared.confs.Conf.{Conf}
 use Rattle.rtt_base.specs.declared.text_packets.Pts.{Pts}
 use Rattle.conf_text.specs.declared.leg_lines.LegWords.{LegWords}
 use Rattle.conf_text.specs.declared.drafts.NewLeg.{NewLeg}
@@ -60,6 +59,3 @@ MayFollow above (conf.Wait n) = Unit {0}
 MayFollow above (conf.Turns n) = Unit {0}
 MayFollow above (conf.Mixer m) = Unit {0}
 MayFollow above (conf.Plan p) = Unit {0}
-
-abbrev pub conf_of : Conf → conf.Conf
-conf_of c = record { legs = c.legs; tick = c.tick; spacing = c.spacing; wait = c.wait; turns = c.turns; mixer = c.mixer; plan = c.plan }

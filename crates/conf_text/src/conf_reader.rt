@@ -5,12 +5,14 @@ ghost use Rattle.file_spec.specs.Lines.{words};
 ghost use Rattle.file_spec.specs.Conf.{complete, conf, is_blank};
 ghost use Rattle.file_spec.specs.Kept.{Keeps};
 ghost use Rattle.file_lines.specs.Causes.{IsCause, IsCauseAt};
-ghost use Rattle.conf_text.specs.Lines.{above_of, conf_of, texts_of, with_line};
+ghost use Rattle.conference.specs.Conferences.{conf_of};
+ghost use Rattle.conf_text.specs.Lines.{above_of, texts_of, with_line};
 
 use crate::crowds::has_crowd;
 use crate::drafts::Draft;
 use crate::entries::read_entry;
-use crate::{Conf, ConfFault, ConfKind};
+use crate::{ConfFault, ConfKind};
+use conference::Conf;
 use file_lines::{next_line, says_nothing, text_of};
 use file_spec::Form;
 use file_spec::limits::{FEWEST_LEGS, MOST_CONF_OCTETS, MOST_TURNS, USUAL_SPACING, USUAL_TICK};

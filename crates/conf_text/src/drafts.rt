@@ -2,7 +2,7 @@
 ghost use Rattle.std.specs.Prelude.{◌≡◌, ◌<◌, ◌≤◌, ◌∷◌, [], ◌++◌, length, OnOk};
 ghost use Rattle.file_spec.specs.Conf.{Gens, Leg, Stays, nothing, with_entry};
 
-use crate::{Legs, Plan};
+use conference::{Legs, Plan};
 use file_spec::limits::{MOST_LEGS, USUAL_GENS};
 use file_spec::{GensLine, LegLine, MixerLine, PlanLine, Stay, StayLine};
 use rtt_base::{Name, NoMemory, Path, Pts};

@@ -8,9 +8,9 @@ use crate::drafts::{Draft, Entry};
 use crate::leg_lines::{has_ssrc, read_leg};
 use crate::plan_lines::read_plan;
 use crate::stay_lines::{read_gens, read_stay};
+use file_lines::{number_from, number_of};
 use file_spec::limits::{LEAST_SPACING, LEAST_TICK, MOST_SPACING, MOST_TICK, MOST_TURNS};
 use file_spec::{Form, MixerLine};
-use numerals::{number_from, number_of};
 use rtt_base::limits::LONGEST_WAIT;
 
 fn read_setting(least: u32, most: u32, above: Option<u32>, words: &[&str]) -> Result<u32, ConfKind>

@@ -6,10 +6,11 @@ ghost use Rattle.conf_text.specs.Lines.{above_of, leg_line, leg_said, seen, text
 
 use crate::ConfKind;
 use crate::drafts::{Draft, NewLeg};
-use crate::names::{awareness, name_of, names_leg, names_path};
+use crate::names::{awareness, names_leg, names_path};
+use conference::name_of;
+use file_lines::{number_from, number_of, pts_of};
 use file_spec::limits::{MOST_LEGS, MOST_LINKS, USUAL_RED, USUAL_T140};
 use file_spec::{Form, LegLine, MixerLine};
-use numerals::{number_from, number_of, pts_of};
 use rtt_base::Pts;
 
 /// The payload types of a leg that names none.

@@ -1,10 +1,9 @@
 //! Names and paths as conferences write them.
-ghost use Rattle.std.specs.Prelude.{◌≡◌, IsTrue};
+ghost use Rattle.std.specs.Prelude.{◌≡◌};
 ghost use Rattle.std.specs.List.{list_all};
 ghost use Rattle.file_spec.specs.Conf.{is_name, is_name_octet, is_path, aware_of};
 
 use file_spec::limits::{LONGEST_NAME, LONGEST_PATH};
-use rtt_base::Name;
 
 fn is_name_letter(octet: u8) -> bool
     ensures { result ≡ is_name_octet octet }
@@ -30,18 +29,6 @@ pub(crate) fn names_path(text: &str) -> bool
     ensures { result ≡ is_path text.now }
 {
     !text.is_empty() && text.len() <= LONGEST_PATH
-}
-
-/// The name that the text is.
-pub fn name_of(text: &str) -> Name
-    requires { IsTrue (is_name text.now) }
-    ensures { result ≡ text.now }
-{
-    let mut name = Name::new();
-    for octet in text.as_bytes() {
-        name.push(char::from(*octet));
-    }
-    name
 }
 
 /// Whether the terminal is aware.

@@ -1,41 +1,15 @@
 //! The lines of a plan.
 ghost use Rattle.std.specs.Prelude.{◌≡◌};
-ghost use Rattle.std.specs.List.{list_any};
-ghost use Rattle.file_spec.specs.Conf.{delay, delay_of, plan, plan_of, plan_word, is_same_packet, is_same_word};
+ghost use Rattle.file_spec.specs.Conf.{delay, delay_of, plan, plan_of, plan_word};
 ghost use Rattle.conf_text.specs.Lines.{above_of, texts_of};
 
 use crate::ConfKind;
 use crate::drafts::Draft;
 use crate::stay_lines::leg_place;
+use conference::is_planned;
+use file_lines::number_of;
 use file_spec::limits::{LONGEST_DELAY, MOST_PLAN_LINES};
 use file_spec::{PlanLine, What};
-use numerals::number_of;
-
-fn is_same_event(one: What, other: What) -> bool
-    ensures { result ≡ is_same_word one other }
-{
-    match (one, other) {
-        (What::Lose, What::Lose) => true,
-        (What::Delay(_), What::Delay(_)) => true,
-        (What::Twice, What::Twice) => true,
-        _ => false,
-    }
-}
-
-fn is_same(one: &PlanLine, other: &PlanLine) -> bool
-    ensures { result ≡ is_same_packet one.now other.now }
-{
-    one.packet == other.packet
-        && one.terminal == other.terminal
-        && is_same_event(one.what, other.what)
-}
-
-/// Whether one of these lines says the same of a packet.
-pub fn is_planned(plan: &[PlanLine], line: &PlanLine) -> bool
-    ensures { result ≡ list_any (λ p. is_same_packet p line.now) plan.now }
-{
-    plan.iter().any(|above| is_same(above, line))
-}
 
 #[tactic(auto, unfolding(file_spec::specs::Conf::plan_of))]
 fn read_event(

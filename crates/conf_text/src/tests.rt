@@ -1,5 +1,6 @@
 //! Conferences: what their lines say, their defaults, and each refusal.
-use crate::{ConfFault, ConfKind, Form, PlanLine, Stay, What, read_conf};
+use crate::{ConfFault, ConfKind, Form, read_conf};
+use conference::{PlanLine, Stay, What};
 use rtt_base::Pts;
 use std::alloc::{AllocError, Global};
 use std::process::Abort;

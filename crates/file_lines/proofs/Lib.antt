@@ -1,3 +1,4 @@
+pub mod Digits
 pub mod EachLine
 pub mod FirstLine
 pub mod LineByLine

@@ -29,6 +29,27 @@ pub struct Stay {
     pub until: Option<u32>,
 }
 
+impl Stay {
+    ghost use Rattle.std.specs.Prelude.{◌≡◌};
+    ghost use Rattle.file_spec.specs.Stays.{is_before_end, stays_at};
+
+    fn is_before_end(self, moment: u64) -> bool
+        ensures { result ≡ is_before_end moment self.until }
+    {
+        match self.until {
+            Some(end) => moment < u64::from(end),
+            None => true,
+        }
+    }
+
+    /// Whether this moment, in milliseconds, lies in it.
+    pub fn contains(self, moment: u64) -> bool
+        ensures { result ≡ stays_at moment self }
+    {
+        u64::from(self.from) <= moment && self.is_before_end(moment)
+    }
+}
+
 /// A leg: one participant, what it sends and where it is sent to.
 #[derive(Debug, Drop)]
 pub struct LegLine {

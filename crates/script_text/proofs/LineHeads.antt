@@ -15,7 +15,7 @@ use Rattle.file_spec.specs.declared.kinds.ConfKind.TheVariants.{NotText, Count, 
 use Rattle.file_lines.specs.declared.faults.ConfFault.{ConfFault}
 use Rattle.file_lines.specs.declared.faults.ConfFault.TheVariants.{Refused}
 use Rattle.file_lines.specs.Causes.{IsCauseAt}
-use Rattle.numerals.specs.Fronts.{number_and_rest}
+use Rattle.file_lines.specs.Fronts.{number_and_rest}
 use Rattle.script_text.specs.declared.known.Known.{Known}
 use Rattle.script_text.specs.ScriptLines.{moment_said, head_said, IsPlain, IsKnown, AreKnown}
 use Rattle.script_text.proofs.EscapeLoop.{none_read, unescaped-plain, end_read, end_long}

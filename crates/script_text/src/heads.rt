@@ -2,13 +2,13 @@
 ghost use Rattle.std.specs.Prelude.{◌≡◌, ◌≤◌, ◌==◌, None, Err, IfOk};
 ghost use Rattle.std.specs.List.{position};
 ghost use Rattle.std.specs.Str.{is_utf8};
-ghost use Rattle.numerals.specs.Fronts.{number_and_rest};
+ghost use Rattle.file_lines.specs.Fronts.{number_and_rest};
 ghost use Rattle.script_text.specs.ScriptLines.{head_octets, head_said, moment_said, IsKnown};
 
 use crate::ConfKind;
 use crate::known::{Known, is_text};
+use file_lines::number_before_space;
 use file_spec::limits::LAST_MOMENT;
-use numerals::number_before_space;
 
 /// When a line is typed, in milliseconds, and the octets that its text is read from.
 #[derive(Clone, Copy)]

@@ -1,0 +1,10 @@
+use Rattle.std.proofs.Common.{length, ap, ◌∙◌, arith}
+use Rattle.file_spec.specs.Conf.{change_leg, with_stay}
+use Rattle.conference.proofs.Changed.{change_at}
+use Rattle.conference.proofs.legs.Legs.set_stay.Goals as goal
+
+pub returns : goal.returns
+returns c =
+    let n = ap length c.self.view_is in
+    change_at (with_stay c.args.stay) c.self.inside.lines.items c.args.leg c.index_mut.result.now (omega (arith, c.requires)) c.index_mut.ensures.value
+    ∙ ap (λ ls. change_leg (with_stay c.args.stay) c.args.leg ls) c.self.view_is

@@ -1,0 +1,13 @@
+//! A conference: who takes part in a call over a mixer, and when.
+#![tactic(auto)]
+
+mod confs;
+mod legs;
+mod names;
+mod plans;
+
+pub use confs::Conf;
+pub use file_spec::{LegLine, MixerLine, PlanLine, Stay, What};
+pub use legs::Legs;
+pub use names::name_of;
+pub use plans::{Plan, is_planned};
