@@ -9,13 +9,13 @@ use Rattle.wire_spec.specs.declared.faults.TextFault.{TextFault}
 use Rattle.wire_spec.specs.Packets.{Packet, Arrival}
 use Rattle.wire_spec.specs.Text.{text_of}
 use Rattle.wire_spec.specs.SentPackets.{packet_written}
-use Rattle.wire_spec.specs.Dump.{Item, Sent, latest, arrived, arrivals_after}
+use Rattle.wire_spec.specs.Dump.{Item, Whole, latest, arrived, arrivals_after}
 use Rattle.file_spec.specs.declared.conf_lines.PlanLine.{PlanLine}
 use Rattle.stream_spec.specs.Lists.{In}
 use Rattle.mixer_spec.specs.Arrives.{Copy, is_sooner, InOrder, arrives, one_at, arrival, arrivals_of_copies, arrivals}
 use Rattle.mixer_spec.proofs.PlanOrder.{order_law}
-use Rattle.command_spec.specs.Seen.{Reception, Text, fate_of, fate_at, is_packet, is_refused, is_foreign, many}
-use Rattle.command_spec.specs.Mixing.{item_of, came}
+use Rattle.view_spec.specs.Seen.{Reception, Text, fate_of, fate_at, is_packet, is_refused, is_foreign, many}
+use Rattle.mixer_spec.specs.Arrives.{item_of, came}
 use Rattle.command_spec.proofs.SentBack.{IsBack}
 
 abbrev record_of : Pts → Arrival → ℕ × List ℕ
@@ -34,7 +34,7 @@ read_at time past (Ok q) p e l =
 read_at time past (Err fault) p e l = absurd (cc e)
 
 copy_comes : (r : Reception) (c : Copy) (k : ℕ) (sent past : List Arrival) (rest : List Item) → AllByRecursion (IsBack r.ssrc r.pts) sent → latest past ≤ c.at
-    → arrivals_after r.ssrc r.pts past (map (λ x. record { time = c.at; what = Sent x.1 }) (one_at k (map (record_of r.pts) sent)) ++ rest)
+    → arrivals_after r.ssrc r.pts past (map (λ x. record { time = c.at; what = Whole x.1 }) (one_at k (map (record_of r.pts) sent)) ++ rest)
     ≡ arrivals_after r.ssrc r.pts (map (λ a. record { time = c.at; packet = a.packet }) (one_at k sent) ++ past) rest
 copy_comes r c zero [] past rest b l = refl
 copy_comes r c (suc k) [] past rest b l = refl
@@ -76,7 +76,7 @@ comes r plan j sent b =
 -- ---- counts
 -- each that comes is a packet of text
 copy_texts : (r : Reception) (c : Copy) (k : ℕ) (sent : List Arrival) → AllByRecursion (IsBack r.ssrc r.pts) sent
-    → AllByRecursion (λ i. fate_at r i ≡ Text) (map (λ x. record { time = c.at; what = Sent x.1 }) (one_at k (map (record_of r.pts) sent)))
+    → AllByRecursion (λ i. fate_at r i ≡ Text) (map (λ x. record { time = c.at; what = Whole x.1 }) (one_at k (map (record_of r.pts) sent)))
 copy_texts r c zero [] b = tt
 copy_texts r c (suc k) [] b = tt
 copy_texts r c zero (a ∷ sent) b = (ap fate_of b.0.text_is, tt)
@@ -122,7 +122,7 @@ as_many pts sent [] = refl
 as_many pts sent (c ∷ cs) =
     let a = length-append (item_of (map (record_of pts) sent) c) (flat_map (item_of (map (record_of pts) sent)) cs) in
     let b = length-append (arrivals_of_copies sent cs) (arrival sent c) in
-    let m = length_map (λ (x : ℕ × List ℕ). let i : Item = record { time = c.at; what = Sent x.1 } in i) (one_at c.index (map (record_of pts) sent)) in
+    let m = length_map (λ (x : ℕ × List ℕ). let i : Item = record { time = c.at; what = Whole x.1 } in i) (one_at c.index (map (record_of pts) sent)) in
     let n = length_map (λ (y : Arrival). let i : Arrival = record { time = c.at; packet = y.packet } in i) (one_at c.index sent) in
     let r = as_many pts sent cs in
     omega (arith, a, b, m, n, r, one_each c.index sent pts)

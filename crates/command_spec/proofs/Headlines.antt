@@ -14,9 +14,9 @@ use Rattle.stream_spec.specs.Hearing.{heard}
 use Rattle.stream_spec.specs.History.{History, Come, placed, Lawful}
 use Rattle.stream_spec.specs.Own.{own_packet, Own, Closed}
 use Rattle.stream_spec.specs.Carries.{Carries}
-use Rattle.text_spec.specs.declared.counts.Counts.{Counts}
+use Rattle.view_spec.specs.declared.counts.Counts.{Counts}
 use Rattle.text_spec.specs.Shown.{shown}
-use Rattle.text_spec.specs.Views.{Source, aware_view, unaware_view}
+use Rattle.view_spec.specs.Views.{Source, aware_view, unaware_view}
 use Rattle.mixer_spec.specs.Setups.{AllStay, leg_at, gens_of}
 use Rattle.mixer_spec.specs.Table.{Table}
 use Rattle.mixer_spec.specs.Headline.{hears, IsHop}
@@ -31,7 +31,7 @@ use Rattle.mixer_spec.proofs.Staying.{shared_law, stay_law}
 use Rattle.stream_spec.proofs.ChunkTexts.{chunk_texts}
 use Rattle.command_spec.specs.Work.{Contents, Made}
 use Rattle.command_spec.specs.Outcomes.{Done, outcome, AllStored}
-use Rattle.command_spec.specs.Seen.{Text, fate_at, arrivals_at, counts_at, source_at}
+use Rattle.view_spec.specs.Seen.{Text, fate_at, arrivals_at, counts_at, source_at}
 use Rattle.command_spec.specs.Mixing.{sent_to, out_of, came_to, reception_of, speaker_of, view_of, views, outs, input_at, mixing}
 use Rattle.command_spec.specs.Bridges.{Bridge, setup_of, IsFrom, inward, chunks_of, told_to, comes_to, onward_from_mixer, records_of, counts_behind, view_behind, IsHeard, IsHeardAsOne, IsMixedFrom, IsBridged}
 use Rattle.command_spec.proofs.Ssrcs.{ssrcs_fit}

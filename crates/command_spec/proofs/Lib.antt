@@ -13,6 +13,4 @@ mod MixExamples
 mod RealTerminals
 pub mod Outputs
 mod GeneratedExamples
-pub mod Markers
-pub mod Counted
 pub mod Generating

@@ -20,7 +20,7 @@ use Rattle.file_spec.specs.Conf as line
 use Rattle.file_spec.specs.Conf.{entry, leg_of, mixer_of, plan_of, stay_or_plan, time_or_other}
 use Rattle.text_spec.specs.Characters.{class_of}
 use Rattle.text_spec.specs.Shown.{shown}
-use Rattle.text_spec.specs.Views.{aware_view}
+use Rattle.view_spec.specs.Views.{aware_view}
 use Rattle.command_spec.specs.declared.faults.Refusal.TheVariants.{AtByte, AtLine, AfterTurns}
 use Rattle.command_spec.specs.Work.{Contents, Made}
 use Rattle.command_spec.specs.Outcomes.{Refused, Done, outcome, Stores, AllStored}

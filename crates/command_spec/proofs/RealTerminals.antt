@@ -1,5 +1,5 @@
 -- What real terminals send, from the files of a conference to what is seen, by computing.
-use Rattle.std.proofs.Common.{◌≡◌, ℕ, cond, Option, Some, None, List, [], ◌∷◌, ◌++◌, refl}
+use Rattle.std.proofs.Common.{◌≡◌, ℕ, ◌+◌, cond, Option, Some, None, List, [], ◌∷◌, ◌++◌, refl}
 use Rattle.std.specs.Prelude.{codes, map, bytes_eq}
 use Rattle.std.specs.Str.{is_utf8, chars}
 use Rattle.std.specs.Char.{encode_utf8}
@@ -15,7 +15,8 @@ use Rattle.file_spec.specs.Conf.{entry, leg_of, mixer_of, plan_of, stay_or_plan,
 use Rattle.text_spec.specs.Characters.{class_of}
 use Rattle.text_spec.specs.Ends.{ends_line, ends_sentence}
 use Rattle.text_spec.specs.Shown.{Display, shown}
-use Rattle.text_spec.specs.Views.{aware_view, label, label_after, unaware_view}
+use Rattle.view_spec.specs.Views.{aware_view, unaware_view}
+use Rattle.text_spec.specs.Views.{label, label_after}
 use Rattle.command_spec.specs.Work.{Contents}
 use Rattle.command_spec.specs.Outcomes.{Outcome, Missing, Refused, Done, outcome}
 use Rattle.command_spec.specs.Mixing.{mixing}
@@ -77,3 +78,35 @@ idle_between :
     ≡ views silent 0 (display (codes "Hi. Bye. " ∷ []) 0) 6 (display (codes "[Ann] Hi. Bye. " ∷ []) 0) 6
 unfolding entry time_or_other stay_or_plan leg_of mixer_of plan_of is_utf8 chars encode_utf8 text_of text_of_short rtp rtp_of_header red headers_at texts_at dump records records_within dump_step opening shown class_of ends_line ends_sentence label label_after
 idle_between = refl
+
+-- ---- enter-first
+-- U+2028, as a script's `\n`
+abbrev break : List ℕ
+break = 0xE2 ∷ 0x80 ∷ 0xA8 ∷ []
+
+-- one text at this moment, and twice again
+abbrev once : ℕ → ℕ → List ℕ → List ℕ
+once ssrc media octets = recorded (typist ssrc) (text ssrc (media + 600) [] ∷ text ssrc (media + 300) [] ∷ text ssrc media octets ∷ [])
+
+-- Bob begins with a new line: it goes ahead of his label, which stands before his first letter.
+enter_first :
+    seen (once 1001 0 (codes "Hello. ")) (once 1002 0 (break ++ codes "Hi"))
+    ≡ views (display ([] ∷ codes "Hi" ∷ []) 0) 3 (display (codes "Hello. " ∷ []) 0) 3 (display (codes "[Ann] Hello. " ∷ codes "[Bob] Hi" ∷ []) 0) 4
+unfolding entry time_or_other stay_or_plan leg_of mixer_of plan_of is_utf8 chars encode_utf8 text_of text_of_short rtp rtp_of_header red headers_at texts_at dump records records_within dump_step opening shown class_of ends_line ends_sentence label label_after
+enter_first = refl
+
+-- ---- forged
+-- Ann types what looks like Bob's label.
+forged :
+    seen (once 1001 0 (codes "Hello." ++ break ++ codes "[Bob] I owe you. ")) (dump_written [])
+    ≡ views silent 0 (display (codes "Hello." ∷ codes "[Bob] I owe you. " ∷ []) 0) 3 (display (codes "[Ann] Hello." ∷ codes "(Bob] I owe you. " ∷ []) 0) 3
+unfolding entry time_or_other stay_or_plan leg_of mixer_of plan_of is_utf8 chars encode_utf8 text_of text_of_short rtp rtp_of_header red headers_at texts_at dump records records_within dump_step opening shown class_of ends_line ends_sentence label label_after
+forged = refl
+
+-- ---- bell-alone
+-- Ann rings and types nothing: there is no label of hers, and Bob is sent when she has paused for 2000 ms.
+bell_alone :
+    seen (once 1001 0 (7 ∷ [])) (once 1002 300 (codes "Hi"))
+    ≡ views (display (codes "Hi" ∷ []) 0) 3 (display ([] ∷ []) 1) 3 (display (codes "[Bob] Hi" ∷ []) 1) 6
+unfolding entry time_or_other stay_or_plan leg_of mixer_of plan_of is_utf8 chars encode_utf8 text_of text_of_short rtp rtp_of_header red headers_at texts_at dump records records_within dump_step opening shown class_of ends_line ends_sentence label label_after
+bell_alone = refl

@@ -20,7 +20,7 @@ use Rattle.stream_spec.specs.Lists.{In}
 use Rattle.stream_spec.specs.History.{Lawful, placed}
 use Rattle.stream_spec.specs.Own.{Sendable, own_packet, packet_after, Own, Closed}
 use Rattle.mixer_spec.specs.Setups.{Setup, setup, stream, leg_at, ssrc_of}
-use Rattle.mixer_spec.specs.Table.{Mixed, Table, packets, sents}
+use Rattle.mixer_spec.specs.Table.{TurnEntry, Table, packets, sents}
 use Rattle.mixer_spec.specs.Bridged.{IsConferenceMixed, IsMixed, leg_chunks, packets_to}
 use Rattle.mixer_spec.proofs.Paced.{Timed, can_send}
 use Rattle.mixer_spec.proofs.Final.{AtEnd, at_end}
@@ -54,7 +54,7 @@ pub record IsBack (ssrc : ℕ) (pts : Pts) (a : Arrival) : Type 0 where
   pub some : 0 < length (packet_written pts a.packet)
   pub few : length (packet_written pts a.packet) ≤ MOST_PACKET_OCTETS
 
-packet_back : (s : Setup) (j : ℕ) (pts : Pts) (past : List Mixed) (e : Mixed) → s.gens j ≤ 3 → s.mixer < 2 ^ 32 → AreTwoTypes pts → e.sent.source < 2 ^ 32 → Sendable (stream s j) (sents (e ∷ past))
+packet_back : (s : Setup) (j : ℕ) (pts : Pts) (past : List TurnEntry) (e : TurnEntry) → s.gens j ≤ 3 → s.mixer < 2 ^ 32 → AreTwoTypes pts → e.sent.source < 2 ^ 32 → Sendable (stream s j) (sents (e ∷ past))
     → IsBack s.mixer pts (record { time = e.at; packet = packet_after (stream s j) (sents past) e.sent })
 packet_back s j pts past e g m t b k =
     let p : Packet = packet_after (stream s j) (sents past) e.sent in
@@ -69,7 +69,7 @@ all_push : {X : Type 0} (P : X → Type 0) (xs : List X) (x : X) → AllByRecurs
 all_push P [] x a p = (p, tt)
 all_push P (y ∷ xs) x a p = (a.0, all_push P xs x a.1 p)
 
-backs : (s : Setup) (j : ℕ) (pts : Pts) (past : List Mixed) → s.gens j ≤ 3 → s.mixer < 2 ^ 32 → AreTwoTypes pts → ((e : Mixed) → In e past → e.sent.source < 2 ^ 32) → Sendable (stream s j) (sents past)
+backs : (s : Setup) (j : ℕ) (pts : Pts) (past : List TurnEntry) → s.gens j ≤ 3 → s.mixer < 2 ^ 32 → AreTwoTypes pts → ((e : TurnEntry) → In e past → e.sent.source < 2 ^ 32) → Sendable (stream s j) (sents past)
     → AllByRecursion (IsBack s.mixer pts) (packets (stream s j) past)
 backs s j pts [] g m t b k = tt
 backs s j pts (e ∷ past) g m t b k =
@@ -77,7 +77,7 @@ backs s j pts (e ∷ past) g m t b k =
     (backs s j pts past g m t (λ x i. b x (inr i)) k.1) (packet_back s j pts past e g m t (b e (inl refl)) k)
 
 -- ---- all packets to a terminal
-sources : (c : Conf) → HasSsrcs c → (j k : ℕ) (table : Table) → Timed (setup c) table.seats j k table.media (table.terminals j).past → (e : Mixed) → In e (table.terminals j).past → e.sent.source < 2 ^ 32
+sources : (c : Conf) → HasSsrcs c → (j k : ℕ) (table : Table) → Timed (setup c) table.seats j k table.media (table.terminals j).past → (e : TurnEntry) → In e (table.terminals j).past → e.sent.source < 2 ^ 32
 sources c h j k table t e i = go ((setup c).aware j) refl
   where
     go : (b : Bool) → (setup c).aware j ≡ b → e.sent.source < 2 ^ 32

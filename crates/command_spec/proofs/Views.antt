@@ -4,9 +4,9 @@ use Rattle.std.specs.List.{concat}
 use Rattle.stream_spec.specs.History.{History, Lawful, Come}
 use Rattle.stream_spec.proofs.Walks.{l1}
 use Rattle.text_spec.specs.Shown.{shown}
-use Rattle.text_spec.specs.Views.{text_view}
+use Rattle.view_spec.specs.Views.{text_view}
 use Rattle.command_spec.specs.declared.requests.ReadRequest.{ReadRequest}
-use Rattle.command_spec.specs.Seen.{counts_at}
+use Rattle.view_spec.specs.Seen.{counts_at}
 use Rattle.command_spec.specs.Reading.{usual_wait, reception, records_of, arrivals_of, read_view, history_view}
 
 -- the view of what is heard is that of what is kept

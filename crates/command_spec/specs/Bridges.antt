@@ -13,9 +13,9 @@ use Rattle.stream_spec.specs.History.{History, Lawful, placed}
 use Rattle.stream_spec.specs.Own.{Own, Closed, own_packet}
 use Rattle.stream_spec.specs.Carries.{Carries}
 use Rattle.stream_spec.specs.Ready.{Chunk}
-use Rattle.text_spec.specs.declared.counts.Counts.{Counts}
+use Rattle.view_spec.specs.declared.counts.Counts.{Counts}
 use Rattle.text_spec.specs.Shown.{Display, shown}
-use Rattle.text_spec.specs.Views.{Source, aware_view, unaware_view}
+use Rattle.view_spec.specs.Views.{Source, aware_view, unaware_view}
 use Rattle.mixer_spec.specs.Setups.{AllStay, IsAnother, Setup, leg_at, setup}
 use Rattle.mixer_spec.specs.Table.{Table}
 use Rattle.mixer_spec.specs.Arrives.{arrivals}

@@ -1,4 +1,3 @@
-pub mod Seen
 pub mod Listing
 pub mod Reading
 pub mod Scripts

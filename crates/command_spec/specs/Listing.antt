@@ -6,7 +6,7 @@ use Rattle.wire_spec.specs.declared.faults.TextFault.{TextFault}
 use Rattle.wire_spec.specs.declared.faults.TextFault.TheVariants.{Short, Version, Padding, Sources, WrongType, Cut, Many, Long, NotText, Foreign}
 use Rattle.wire_spec.specs.Packets.{Packet, blocks_of}
 use Rattle.wire_spec.specs.Text.{text_of}
-use Rattle.wire_spec.specs.Dump.{Item, Sent, Rtcp}
+use Rattle.wire_spec.specs.Dump.{Item, Whole, Rtcp}
 use Rattle.wire_spec.specs.Dump as dumps
 
 abbrev pub fault_name : TextFault → List ℕ
@@ -48,7 +48,7 @@ sent_line at (Err fault) = refused_line at fault
 abbrev pub record_line : Pts → Item → List ℕ
 record_line pts item =
     elim item.what [
-      | Sent octets ↦ sent_line item.time (text_of octets None pts)
+      | Whole octets ↦ sent_line item.time (text_of octets None pts)
       | Rtcp ↦ decimal item.time ++ codes " rtcp\n"
       | dumps.Cut ↦ decimal item.time ++ codes " cut\n"
       | dumps.Large ↦ decimal item.time ++ codes " large\n"

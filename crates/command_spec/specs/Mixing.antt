@@ -4,20 +4,19 @@ use Rattle.std.specs.Prelude.{ℕ, suc, Option, None, Some, List, [], ◌∷◌,
 use Rattle.std.specs.List.{enumerate_from}
 use Rattle.wire_spec.specs.Packets.{Arrival}
 use Rattle.wire_spec.specs.SentPackets.{packet_written}
-use Rattle.wire_spec.specs.Dump.{Item, Sent, dump, dump_written}
+use Rattle.wire_spec.specs.Dump.{Item, dump, dump_written}
 use Rattle.file_spec.specs.declared.conf_lines.Form.TheVariants.{Files}
 use Rattle.file_spec.specs.declared.conf_lines.LegLine.{LegLine}
-use Rattle.file_spec.specs.declared.conf_lines.PlanLine.{PlanLine}
 use Rattle.file_spec.specs.Conf.{Conf, conf}
 use Rattle.file_spec.specs.Lines as lines
 use Rattle.mixer_spec.specs.Setups.{setup, stream}
 use Rattle.mixer_spec.specs.Table.{Table, packets}
 use Rattle.mixer_spec.specs.Plain.{plain}
-use Rattle.mixer_spec.specs.Arrives.{Copy, arrives, one_at}
+use Rattle.mixer_spec.specs.Arrives.{came}
 use Rattle.mixer_spec.specs.Bridged.{input_limit, leg_chunks}
 use Rattle.command_spec.specs.declared.faults.Refusal.TheVariants.{AtByte, AtLine, AfterTurns}
 use Rattle.command_spec.specs.Work.{Made, Steps, Reads, Refuses, Makes}
-use Rattle.command_spec.specs.Seen.{Reception, Speaker, aware_seen, unaware_seen}
+use Rattle.view_spec.specs.Seen.{Reception, Speaker, aware_seen, unaware_seen}
 
 -- ---- what is sent to a terminal
 -- the packets to terminal j, each at the moment of its turn
@@ -33,14 +32,6 @@ abbrev pub out_of : Conf → Table → ℕ → LegLine → Made
 out_of c table j leg = record { name = leg.output; octets = dump_written (records_to c table j leg) }
 
 -- ---- what comes to it
--- the record of a copy, at the moment at which it comes
-abbrev pub item_of : List (ℕ × List ℕ) → Copy → List Item
-item_of records copy = map (λ r. record { time = copy.at; what = Sent r.1 }) (one_at copy.index records)
-
--- what comes to terminal j of these records by a plan, oldest first
-abbrev pub came : List PlanLine → ℕ → List (ℕ × List ℕ) → List Item
-came plan j records = flat_map (item_of records) (arrives plan j (map (λ r. r.0) records))
-
 abbrev pub came_to : Conf → Table → ℕ → LegLine → List Item
 came_to c table j leg = came c.plan j (records_to c table j leg)
 

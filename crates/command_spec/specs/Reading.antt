@@ -6,9 +6,9 @@ use Rattle.wire_spec.specs.Dump.{Item, dump, usual_limit}
 use Rattle.stream_spec.specs.History.{History, places}
 use Rattle.stream_spec.specs.Kept.{kept, texts}
 use Rattle.text_spec.specs.Shown.{shown}
-use Rattle.text_spec.specs.Views.{text_view}
+use Rattle.view_spec.specs.Views.{text_view}
 use Rattle.command_spec.specs.declared.requests.ReadRequest.{ReadRequest}
-use Rattle.command_spec.specs.Seen.{Reception, arrivals_at, counts_at, text_seen}
+use Rattle.view_spec.specs.Seen.{Reception, arrivals_at, counts_at, text_seen}
 use Rattle.rtt_base.specs.declared.limits.TheConstants.{USUAL_WAIT}
 
 -- how long a gap in the numbers is waited for, in milliseconds

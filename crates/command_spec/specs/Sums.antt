@@ -1,55 +1,18 @@
 -- What is counted over all terminals of a conference that was mixed (profile): the packets that came, those of them that were
 -- used, and the markers that are heard.
-use Rattle.std.specs.Prelude.{ℕ, ◌+◌, Bool, Option, None, Some, List, [], ◌∷◌, ◌++◌, filter, map, remove, if◌then◌else◌}
+use Rattle.std.specs.Prelude.{ℕ, Option, List, [], ◌∷◌, map, remove, if◌then◌else◌}
 use Rattle.std.specs.List.{enumerate_from, sum_by}
 use Rattle.std.specs.Option.{option_map}
-use Rattle.wire_spec.specs.Packets.{Arrival}
-use Rattle.wire_spec.specs.Dump.{Item}
-use Rattle.stream_spec.specs.Numbering.{Numbered, numbered, used, has_number, first_number}
-use Rattle.stream_spec.specs.Hearing.{is_marked, is_packet_of, new_texts}
-use Rattle.stream_spec.specs.Kept as kept
-use Rattle.text_spec.specs.declared.counts.Counts.{Counts}
+use Rattle.view_spec.specs.declared.counts.Counts.{Counts}
 use Rattle.file_spec.specs.declared.conf_lines.LegLine.{LegLine}
 use Rattle.file_spec.specs.Conf.{Conf}
 use Rattle.mixer_spec.specs.Setups.{setup}
 use Rattle.mixer_spec.specs.Table.{Table}
 use Rattle.mixer_spec.specs.Plain.{plain}
 use Rattle.mixer_spec.specs.Bridged.{leg_chunks}
-use Rattle.command_spec.specs.Seen.{Reception, arrivals_at, counts_at}
+use Rattle.view_spec.specs.Seen.{counts_at}
+use Rattle.view_spec.specs.Markers.{markers_at}
 use Rattle.command_spec.specs.Mixing.{came_to, input_at, reception_of}
-
--- ---- the markers that are heard of a source
--- What is heard are markers and new texts: a marker is a text of its own before the new texts of a packet (`piece`). So a
--- U+FFFD that was typed is none.
--- how many of these packets of one source have a marker before their texts, where prev is the packet before them
-abbrev pub markers_over : (ℕ → Bool) → ℕ → Option Numbered → List Numbered → ℕ
-markers_over present first prev [] = 0
-markers_over present first prev (b ∷ bs) =
-    (if is_marked present first prev b then 1 else 0) + markers_over present first (Some b) bs
-
--- how many of the texts in `heard` are markers
-abbrev pub markers : ℕ → List Arrival → ℕ → ℕ
-markers wait a s =
-    markers_over (has_number (used wait (numbered a))) (first_number 0 (numbered a)) None
-    (filter (is_packet_of s) (used wait (numbered a)))
-
-abbrev pub markers_at : Reception → List Item → ℕ → ℕ
-markers_at r came source = markers r.wait (arrivals_at r came) source
-
--- the new texts of these packets of one source, without markers
-abbrev pub new_texts_over : Option Numbered → List Numbered → List (List ℕ)
-new_texts_over prev [] = []
-new_texts_over prev (b ∷ bs) = new_texts prev b ++ new_texts_over (Some b) bs
-
--- all that is heard of the source s but the markers
-abbrev pub new_texts_heard : ℕ → List Arrival → ℕ → List (List ℕ)
-new_texts_heard wait a s = new_texts_over None (filter (is_packet_of s) (used wait (numbered a)))
-
--- the marks among what places tell of a history
-abbrev pub marks_in : List kept.Item → ℕ
-marks_in [] = 0
-marks_in (kept.Mark ∷ items) = 1 + marks_in items
-marks_in (kept.Block x ∷ items) = marks_in items
 
 -- ---- at one terminal
 -- whom the terminal of the leg j listens to: an aware one each other leg, another one the mixer

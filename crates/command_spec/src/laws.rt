@@ -12,8 +12,8 @@ ghost use Rattle.command_spec.specs.Outcomes.{AllStored, Done, outcome};
 ghost use Rattle.command_spec.specs.Scripts.{AreLines};
 ghost use Rattle.command_spec.specs.Generated.{generated};
 ghost use Rattle.command_spec.specs.Mixing.{mixing};
-ghost use Rattle.command_spec.specs.Sums.{markers, new_texts_heard, marks_in};
 ghost use Rattle.command_spec.specs.Bridges.{BridgesAreOne, IsBridged};
+ghost use Rattle.mixer_spec.specs.declared.limits.TheConstants.{PLACES};
 
 /// Where what arrives out of a recording comes from a lawful history, what `read` prints is the view of that history: the
 /// source's blocks which came in time, each once, and marks.
@@ -36,18 +36,11 @@ pub fn bridges_are_one()
     ensures { BridgesAreOne }
 {}
 
-/// What is heard of a source are the markers that are counted and the new texts. Of a lawful history they are the marks which
-/// the packets that came in time leave of it. A U+FFFD that was typed stands in a block, and is none of them.
-pub fn markers_are_marks()
-    ensures heard { (wait : ℕ) (past : List Arrival) (s : ℕ) → length (heard wait past s) ≡ markers wait past s + length (new_texts_heard wait past s) }
-    ensures marks { (wait : ℕ) (h : History) → Lawful h → (past : List Arrival) → Come h past → (s : ℕ) → markers wait past s ≡ marks_in (kept h (places wait h past) s) }
-{}
-
 /// What is generated from a number is a conference of at most 16 legs that keeps all limits, and for each leg a script that
 /// can be sent.
 pub fn generated_conferences_keep()
     ensures conference { (n : ℕ) → IsConference (generated n).conference }
-    ensures legs { (n : ℕ) → length (generated n).conference.legs ≤ 16 }
+    ensures legs { (n : ℕ) → length (generated n).conference.legs ≤ PLACES }
     ensures scripts { (n : ℕ) → All AreLines (generated n).scripts }
     ensures each_script { (n : ℕ) → length (generated n).scripts ≡ length (generated n).conference.legs }
     ensures each_first { (n : ℕ) → length (generated n).firsts ≡ length (generated n).conference.legs }

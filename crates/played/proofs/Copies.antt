@@ -9,9 +9,9 @@ use Rattle.std.proofs.lemmas.Grind.{flat_map-append}
 use Rattle.std.proofs.lemmas.Bool.{eq-eqb, true≢false}
 use Rattle.file_spec.specs.declared.conf_lines.PlanLine.{PlanLine}
 use Rattle.file_spec.specs.declared.conf_lines.What.{What}
-use Rattle.wire_spec.specs.Dump.{Item, Sent, record_written, sent_item}
+use Rattle.wire_spec.specs.Dump.{Item, Whole, record_written, sent_item}
 use Rattle.mixer_spec.specs.Arrives.{Copy, all_copies, among, arrives, copies, doubles, in_order, is_sooner, lines_of, loses, delay, one_at}
-use Rattle.command_spec.specs.Mixing.{came, item_of}
+use Rattle.mixer_spec.specs.Arrives.{came, item_of}
 use Rattle.fault_plan.specs.declared.arriving.Arrival.{Arrival}
 use Rattle.fault_plan.specs.Arriving.{copy_of, copies_of}
 use Rattle.fault_plan.specs.Unplanned.{IsUnplanned}
@@ -19,7 +19,8 @@ use Rattle.terminal.specs.declared.confs.TermConf.{TermConf}
 use Rattle.terminal.specs.declared.terminals.Terminal.{Terminal}
 use Rattle.terminal.specs.Terminals.{Listens}
 use Rattle.played.specs.declared.found.Found.{Found}
-use Rattle.played.specs.Written.{IsRecord, AreRecords}
+use Rattle.rtpdump_io.specs.InMemory.{IsRecord}
+use Rattle.played.specs.Written.{AreRecords}
 use Rattle.played.specs.Finds.{Finds}
 use Rattle.played.proofs.Going.{Splits}
 use Rattle.played.proofs.Unplanned.{as_written}
@@ -54,7 +55,7 @@ standing found octets all copy a f l =
       more = flat_map record_written h.later;
       fits = h.fits;
       stands = f.places.there copy.index below ∙ ap (flat_map record_written) h.stands;
-      item = ap (map (λ r. record { time = copy.at; what = Sent r.1 })) h.one;
+      item = ap (map (λ r. record { time = copy.at; what = Whole r.1 })) h.one;
     }
 
 -- one copy is heard

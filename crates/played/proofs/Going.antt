@@ -10,7 +10,8 @@ use Rattle.wire_spec.specs.Dump.{Item, record_written, sent_item}
 use Rattle.terminal.specs.declared.confs.TermConf.{TermConf}
 use Rattle.terminal.specs.declared.terminals.Terminal.{Terminal}
 use Rattle.terminal.specs.Terminals.{Listens}
-use Rattle.played.specs.Written.{IsRecord, AreRecords, IsSplit}
+use Rattle.rtpdump_io.specs.InMemory.{IsRecord, IsSplit}
+use Rattle.played.specs.Written.{AreRecords}
 use Rattle.played.specs.declared.found.Found.{Found}
 use Rattle.played.specs.Finds.{Stand, Finds}
 

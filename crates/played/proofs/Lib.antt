@@ -1,4 +1,3 @@
 pub mod Unplanned
-pub mod Splitting
 pub mod Going
 pub mod Copies

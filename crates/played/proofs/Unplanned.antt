@@ -5,9 +5,9 @@ use Rattle.std.specs.List.Sorted.{IsNonDecreasing}
 use Rattle.std.proofs.lemmas.List.{reverse-append, reverse-reverse, map-append}
 use Rattle.file_spec.specs.declared.conf_lines.PlanLine.{PlanLine}
 use Rattle.wire_spec.specs.Packets.{Arrival}
-use Rattle.wire_spec.specs.Dump.{Item, Sent, sent_item}
+use Rattle.wire_spec.specs.Dump.{Item, Whole, sent_item}
 use Rattle.mixer_spec.specs.Arrives.{Copy, arrival, arrivals_of_copies, arrives, one_at}
-use Rattle.command_spec.specs.Mixing.{came, item_of}
+use Rattle.mixer_spec.specs.Arrives.{came, item_of}
 use Rattle.fault_plan.specs.Unplanned.{IsUnplanned}
 use Rattle.fault_plan.proofs.Unplanned.{as_sent}
 
@@ -17,7 +17,7 @@ enclosed r = record { time = r.0; packet = record { mark = false; seq = 0; stamp
 
 -- what came, taken out again
 abbrev opened : Arrival → Item
-opened a = record { time = a.time; what = Sent a.packet.primary }
+opened a = record { time = a.time; what = Whole a.packet.primary }
 
 one_enclosed : (k : ℕ) (records : List (ℕ × List ℕ)) → one_at k (map enclosed records) ≡ map enclosed (one_at k records)
 one_enclosed k [] = refl
@@ -28,7 +28,7 @@ one_enclosed (suc k) (r ∷ rs) = one_enclosed k rs
 copy_opened : (records : List (ℕ × List ℕ)) (c : Copy) → reverse (map opened (arrival (map enclosed records) c)) ≡ item_of records c
 copy_opened records c = ap (λ (xs : List Arrival). reverse (map opened (map (λ (a : Arrival). record { time = c.at; packet = a.packet }) xs))) (one_enclosed c.index records) ∙ few c.index records
   where
-    few : (k : ℕ) (rs : List (ℕ × List ℕ)) → reverse (map opened (map (λ (a : Arrival). record { time = c.at; packet = a.packet }) (map enclosed (one_at k rs)))) ≡ map (λ r. record { time = c.at; what = Sent r.1 }) (one_at k rs)
+    few : (k : ℕ) (rs : List (ℕ × List ℕ)) → reverse (map opened (map (λ (a : Arrival). record { time = c.at; packet = a.packet }) (map enclosed (one_at k rs)))) ≡ map (λ r. record { time = c.at; what = Whole r.1 }) (one_at k rs)
     few k [] = refl
     few zero (r ∷ rs) = refl
     few (suc k) (r ∷ rs) = few k rs

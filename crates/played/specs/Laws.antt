@@ -4,7 +4,7 @@ use Rattle.std.specs.List.Sorted.{IsNonDecreasing}
 use Rattle.file_spec.specs.declared.conf_lines.PlanLine.{PlanLine}
 use Rattle.wire_spec.specs.Dump.{sent_item}
 use Rattle.fault_plan.specs.Unplanned.{IsUnplanned}
-use Rattle.command_spec.specs.Mixing.{came}
+use Rattle.mixer_spec.specs.Arrives.{came}
 use Rattle.played.specs.Written.{moments_of}
 
 -- where no line of a plan is of a terminal, and moments never fall, records come to it as they were written

@@ -2,7 +2,7 @@
 use Rattle.std.specs.Prelude.{ℕ, List, [], ◌++◌, map, flat_map}
 use Rattle.file_spec.specs.declared.conf_lines.PlanLine.{PlanLine}
 use Rattle.wire_spec.specs.Dump.{Item, sent_item}
-use Rattle.command_spec.specs.Mixing.{came, item_of}
+use Rattle.mixer_spec.specs.Arrives.{came, item_of}
 use Rattle.fault_plan.specs.declared.arriving.Arrival.{Arrival}
 use Rattle.fault_plan.specs.Arriving.{copy_of, copies_of}
 use Rattle.terminal.specs.declared.confs.TermConf.{TermConf}

@@ -3,7 +3,7 @@ ghost use Rattle.std.specs.Prelude.{◌≡◌, ◌<◌, ◌^◌, length, IfOk};
 ghost use Rattle.played.specs.Written.{HasRecords};
 ghost use Rattle.played.specs.Finds.{FindsAll, LieWithin};
 
-use crate::records::next_record;
+use rtpdump_io::next_record;
 use rtt_base::NoMemory;
 use std::alloc::Global;
 

@@ -1,17 +1,17 @@
 //! A terminal that hears what comes to it.
-ghost use Rattle.std.specs.Prelude.{◌≡◌, ◌≢◌, ◌+◌, ◌≤◌, ◌<◌, ◌^◌, ◌==◌, Bool, length, All, AllPairs, IfOk, OnOk};
+ghost use Rattle.std.specs.Prelude.{◌≡◌, ◌≢◌, ◌+◌, ◌≤◌, ◌<◌, ◌==◌, Bool, length, All, AllPairs, IfOk, OnOk};
 ghost use Rattle.std.specs.List.{list_any};
 ghost use Rattle.fault_plan.specs.Arriving.{IsOfFirst};
 ghost use Rattle.terminal.specs.Terminals.{counts_of, IsOpen};
 ghost use Rattle.played.specs.Written.{HasRecords, MomentsNeverFall, IsWritten};
 ghost use Rattle.played.specs.Finds.{LieWithin};
 ghost use Rattle.played.specs.Told.{HearsAsWritten, HearsByPlan, HearsCopies, HearsCopy, HeardByPlan};
-ghost use Rattle.rtt_base.specs.declared.limits.TheConstants.{LONGEST_WAIT};
+ghost use Rattle.rtt_base.specs.declared.limits.TheConstants.{LONGEST_WAIT, MOST_ARRIVALS, MOST_SOURCES};
 
 use crate::found::{Found, find_records};
-use crate::records::{behind_opening, next_record};
 use fault_plan::{Arrival, arrivals};
 use file_spec::PlanLine;
+use rtpdump_io::{next_record, records_of};
 use rtt_base::NoMemory;
 use std::alloc::Global;
 use terminal::{TermConf, Terminal};
@@ -46,7 +46,7 @@ fn hear_in_order(terminal: &mut Terminal, records: &[u8]) -> Result<(), NoMemory
     requires records { HasRecords records.now }
     ensures listens { OnOk result (HearsAsWritten terminal.old records.now terminal.new) }
     ensures open { IsOpen terminal.new }
-    ensures few { (counts_of terminal.new).packets < 2 ^ 40 }
+    ensures few { (counts_of terminal.new).packets < MOST_ARRIVALS }
 {
     let mut rest = records;
     while let Some((moment, packet, more)) = next_record(rest) {
@@ -64,7 +64,7 @@ fn hear_copy(
     copy: Arrival,
 ) -> Result<(), NoMemory>
     requires open { IsOpen terminal.old }
-    requires few { (counts_of terminal.old).packets < 2 ^ 40 }
+    requires few { (counts_of terminal.old).packets < MOST_ARRIVALS }
     requires sent { IsOfFirst (length found.now.places.items) copy }
     requires within { LieWithin found.now records.now }
     ensures listens { OnOk result (HearsCopy terminal.old records.now found.now copy terminal.new) }
@@ -87,12 +87,12 @@ fn hear_copies(
 ) -> Result<(), NoMemory>
     requires open { IsOpen terminal.old }
     requires none { (counts_of terminal.old).packets ≡ 0 }
-    requires few { length copies.now < 2 ^ 40 }
+    requires few { length copies.now < MOST_ARRIVALS }
     requires sent { All (IsOfFirst (length found.now.places.items)) copies.now }
     requires within { LieWithin found.now records.now }
     ensures listens { OnOk result (HearsCopies terminal.old records.now found.now copies.now terminal.new) }
     ensures open { IsOpen terminal.new }
-    ensures few { (counts_of terminal.new).packets < 2 ^ 40 }
+    ensures few { (counts_of terminal.new).packets < MOST_ARRIVALS }
 {
     for copy in copies {
         hear_copy(terminal, records, found, *copy)?;
@@ -113,7 +113,7 @@ fn hear_by_plan(
     requires records { HasRecords records.now }
     ensures listens { OnOk result (HearsByPlan terminal.old records.now plan.now number terminal.new) }
     ensures open { IsOpen terminal.new }
-    ensures few { (counts_of terminal.new).packets < 2 ^ 40 }
+    ensures few { (counts_of terminal.new).packets < MOST_ARRIVALS }
 {
     let found = find_records(alloc, records)?;
     let copies = arrivals(alloc, plan, number, found.moments.as_slice())?;
@@ -133,7 +133,7 @@ fn hear(
     requires records { HasRecords records.now }
     ensures listens { OnOk result (HearsByPlan terminal.old records.now plan.now number terminal.new) }
     ensures open { IsOpen terminal.new }
-    ensures few { (counts_of terminal.new).packets < 2 ^ 40 }
+    ensures few { (counts_of terminal.new).packets < MOST_ARRIVALS }
 {
     if !speaks_of(plan, number) && never_fall(records) {
         hear_in_order(terminal, records)
@@ -158,20 +158,15 @@ pub fn played(
 ) -> Result<Terminal, NoMemory>
     requires wait { conf.wait ≤ LONGEST_WAIT }
     requires some { 0 < length sources.now }
-    requires few { length sources.now ≤ 64 }
+    requires few { length sources.now ≤ MOST_SOURCES }
     requires differ { AllPairs (λ a b. a ≢ b) sources.now }
     requires written { IsWritten recording.now }
     ensures heard { IfOk result (HeardByPlan conf sources.now recording.now plan.now number) }
-    ensures few { IfOk result (λ terminal. (counts_of terminal).packets < 2 ^ 40) }
+    ensures few { IfOk result (λ terminal. (counts_of terminal).packets < MOST_ARRIVALS) }
 {
     let mut terminal = Terminal::new(alloc, conf, sources)?;
-    hear(
-        alloc,
-        &mut terminal,
-        behind_opening(recording),
-        plan,
-        number,
-    )?;
+    let records = records_of(recording);
+    hear(alloc, &mut terminal, records, plan, number)?;
     terminal.finish()?;
     Ok(terminal)
 }

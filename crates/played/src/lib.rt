@@ -4,6 +4,5 @@
 mod found;
 mod hearing;
 pub mod laws;
-mod records;
 
 pub use hearing::played;

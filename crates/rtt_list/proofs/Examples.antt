@@ -7,7 +7,7 @@ use Rattle.rtt_base.specs.declared.text_packets.Pts.{Pts}
 use Rattle.wire_spec.specs.Rtp.{rtp, rtp_of_header}
 use Rattle.wire_spec.specs.Red.{red, headers_at, texts_at}
 use Rattle.wire_spec.specs.Text.{text_of, text_of_short}
-use Rattle.wire_spec.specs.Dump.{Item, Sent, Rtcp, Cut, Large}
+use Rattle.wire_spec.specs.Dump.{Item, Whole, Rtcp, Cut, Large}
 use Rattle.command_spec.specs.Listing.{packet_line, list_view}
 
 abbrev usual : Pts
@@ -15,11 +15,11 @@ usual = record { t140 = 98; red = 100 }
 
 -- a packet of text/red with the letter A behind two blocks that have no text
 abbrev typed : Item
-typed = record { time = 300; what = Sent (128 ∷ 228 ∷ 0 ∷ 7 ∷ 0 ∷ 0 ∷ 1 ∷ 44 ∷ 0 ∷ 0 ∷ 3 ∷ 233 ∷ 226 ∷ 255 ∷ 252 ∷ 0 ∷ 226 ∷ 255 ∷ 252 ∷ 0 ∷ 98 ∷ 65 ∷ []) }
+typed = record { time = 300; what = Whole (128 ∷ 228 ∷ 0 ∷ 7 ∷ 0 ∷ 0 ∷ 1 ∷ 44 ∷ 0 ∷ 0 ∷ 3 ∷ 233 ∷ 226 ∷ 255 ∷ 252 ∷ 0 ∷ 226 ∷ 255 ∷ 252 ∷ 0 ∷ 98 ∷ 65 ∷ []) }
 
 -- one octet alone
 abbrev short : Item
-short = record { time = 0; what = Sent (128 ∷ []) }
+short = record { time = 0; what = Whole (128 ∷ []) }
 
 packets_are_listed : list_view usual (short ∷ typed ∷ []) ≡ codes "0 refused Short\n300 7 mark 1 stamp 300 ssrc 1001 source 1001 texts 0 0 1\n-- records 2\n"
 unfolding list_view packet_line is_utf8 rtp rtp_of_header red headers_at texts_at text_of text_of_short chars encode_utf8 digits

@@ -5,7 +5,7 @@ mod lines;
 mod lists;
 mod records;
 
-pub use lists::{ListFault, list_records};
+pub use lists::list_records;
 
 #[cfg(test)]
 mod tests;

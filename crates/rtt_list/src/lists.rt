@@ -1,24 +1,15 @@
 //! The work of `list`: all records of a recording, one line for each.
 ghost use Rattle.std.specs.Prelude.{◌≡◌, ◌++◌, ◌≤◌, None, OnOk, IfOk, IfErr, Bool, flat_map, length};
-ghost use Rattle.rtt_io.specs.Counts.{Rose};
 ghost use Rattle.rtpdump_io.specs.Reading.{is_ended, to_come, source_of};
 ghost use Rattle.command_spec.specs.Listing.{record_line, last_line, list_view};
-ghost use Rattle.rtt_list.specs.Listing.{IsSourceFault, FaultOf};
+ghost use Rattle.rtpdump_io.specs.Faults.{FaultOf, HasCause};
 
 use crate::records::RecordLines;
 use itoa::Buffer;
-use rtpdump_io::{DumpFault, DumpItem, DumpReader};
+use rtpdump_io::{DumpItem, DumpReader, RecordingFault};
 use rtt_base::{Bytes, NoMemory as OutOfMemory, Packet, Pts};
 use rtt_io::Source;
 use std::alloc::Global;
-
-/// Why the records of a recording were not listed.
-#[derive(Debug, Drop)]
-pub enum ListFault {
-    /// The recording can't be read further.
-    Dump(DumpFault),
-    NoMemory,
-}
 
 /// Appends the last line.
 fn append_last(records: u32, out: &mut Bytes) -> Result<(), OutOfMemory>
@@ -35,13 +26,13 @@ fn append_records<S: Source>(
     reader: &mut DumpReader<S>,
     pts: Pts,
     out: &mut Bytes,
-) -> Result<u32, ListFault>
+) -> Result<u32, RecordingFault>
     requires open { is_ended reader.old ≡ Bool.false }
     ensures lines { S.tells → OnOk result (out.new ≡ out.old ++ flat_map (record_line pts) (to_come S.left reader.old).items) }
     ensures records { S.tells → IfOk result (λ records. records ≡ length (to_come S.left reader.old).items) }
     ensures whole { S.tells → OnOk result ((to_come S.left reader.old).fault ≡ None) }
     ensures refused { S.tells → IfErr result (FaultOf (to_come S.left reader.old)) }
-    ensures read { IfErr result (λ fault. IsSourceFault fault → Rose (S.faults (source_of reader.old)) (S.faults (source_of reader.new))) }
+    ensures read { IfErr result (HasCause S.faults reader.old reader.new) }
     ensures never_falls { S.faults (source_of reader.old) ≤ S.faults (source_of reader.new) }
     ensures same_name { S.name (source_of reader.new) ≡ S.name (source_of reader.old) }
 {
@@ -51,14 +42,14 @@ fn append_records<S: Source>(
     loop {
         let item = match reader.next(&mut octets) {
             Ok(item) => item,
-            Err(fault) => return Err(ListFault::Dump(fault)),
+            Err(fault) => return Err(RecordingFault::Dump(fault)),
         };
         if let DumpItem::End = item {
             return Ok(records);
         }
         lines.make(item, octets.as_slice());
         let Ok(()) = out.append(lines.line()) else {
-            return Err(ListFault::NoMemory);
+            return Err(RecordingFault::NoMemory);
         };
         records += 1;
     }
@@ -72,12 +63,12 @@ pub fn list_records<S: Source>(
     alloc: Global,
     reader: &mut DumpReader<S>,
     pts: Pts,
-) -> Result<Bytes, ListFault>
+) -> Result<Bytes, RecordingFault>
     requires open { is_ended reader.old ≡ Bool.false }
     ensures listed { S.tells → IfOk result (λ lines. lines ≡ list_view pts (to_come S.left reader.old).items) }
     ensures whole { S.tells → OnOk result ((to_come S.left reader.old).fault ≡ None) }
     ensures refused { S.tells → IfErr result (FaultOf (to_come S.left reader.old)) }
-    ensures read { IfErr result (λ fault. IsSourceFault fault → Rose (S.faults (source_of reader.old)) (S.faults (source_of reader.new))) }
+    ensures read { IfErr result (HasCause S.faults reader.old reader.new) }
     ensures never_falls { S.faults (source_of reader.old) ≤ S.faults (source_of reader.new) }
     ensures same_name { S.name (source_of reader.new) ≡ S.name (source_of reader.old) }
 {
@@ -88,6 +79,6 @@ pub fn list_records<S: Source>(
     };
     match append_last(records, &mut out) {
         Ok(()) => Ok(out),
-        Err(_) => Err(ListFault::NoMemory),
+        Err(_) => Err(RecordingFault::NoMemory),
     }
 }

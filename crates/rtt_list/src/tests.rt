@@ -1,5 +1,5 @@
-use crate::{ListFault, list_records};
-use rtpdump_io::{DumpFault, DumpReader};
+use crate::list_records;
+use rtpdump_io::{DumpFault, DumpReader, RecordingFault};
 use rtt_base::{Bytes, NoMemory, Path, Pts};
 use rtt_io::{MemSource, Source, SteadySource};
 use std::alloc::Global;
@@ -60,7 +60,7 @@ fn ends_at<S: Source + Drop>(
 ) -> Result<bool, Fail> {
     let mut reader = DumpReader::new(source);
     match list_records(alloc, &mut reader, USUAL) {
-        Err(ListFault::Dump(fault)) => Ok(fault == DumpFault { offset, kind }),
+        Err(RecordingFault::Dump(fault)) => Ok(fault == DumpFault { offset, kind }),
         _ => Ok(false),
     }
 }

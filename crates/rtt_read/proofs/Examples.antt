@@ -10,7 +10,7 @@ use Rattle.wire_spec.specs.Text.{text_of, text_of_short}
 use Rattle.wire_spec.specs.Dump.{dump, opening, dump_step, records, records_within}
 use Rattle.text_spec.specs.Characters.{class_of}
 use Rattle.text_spec.specs.Shown.{shown}
-use Rattle.text_spec.specs.Views.{text_view, counts_line}
+use Rattle.view_spec.specs.Views.{text_view, counts_line}
 use Rattle.command_spec.specs.Reading.{read_view}
 
 -- a sender types A and, 300 ms later, B: four packets

@@ -1,5 +1,5 @@
 -- A terminal that is told of the records of a recording, one after another.
-use Rattle.std.proofs.Common.{◌≡◌, ℕ, ◌+◌, ◌≤◌, false, List, [], ◌∷◌, ◌++◌, refl, ap, sym, ◌∙◌, subst, length, ◌⊎◌, inl, inr, append-nil, append_assoc}
+use Rattle.std.proofs.Common.{◌≡◌, ℕ, ◌+◌, ◌≤◌, false, List, [], ◌∷◌, ◌++◌, refl, ap, sym, ◌∙◌, subst, ◌⊎◌, inl, inr, append-nil, append_assoc}
 use Rattle.wire_spec.specs.Dump.{Item, Recording, with_item, dump, usual_limit}
 use Rattle.wire_spec.specs.Dump as dumps
 use Rattle.rtpdump_io.specs.Reading.{is_ended, most_answers, source_of, to_come}
@@ -8,14 +8,13 @@ use Rattle.rtpdump_io.specs.declared.items.DumpItem.TheVariants.{Rtcp, End}
 use Rattle.rtpdump_io.specs.declared.readers.DumpReader.{DumpReader}
 use Rattle.rtpdump_io.specs.Answers.{record_of}
 use Rattle.command_spec.specs.declared.requests.ReadRequest.{ReadRequest}
-use Rattle.command_spec.specs.Seen.{text_seen}
+use Rattle.view_spec.specs.Seen.{text_seen}
 use Rattle.command_spec.specs.Reading.{read_view}
-use Rattle.terminal.specs.declared.confs.TermConf.{TermConf}
 use Rattle.terminal.specs.declared.terminals.Terminal.{Terminal}
-use Rattle.terminal.specs.Terminals.{reception, texts_of, counts_of, IsOpen, Listens, Heard}
+use Rattle.terminal.specs.Terminals.{reception, counts_of, IsOpen, Listens}
 use Rattle.terminal.proofs.Listening.{rtcp_passed}
-use Rattle.terminal.specs.Told.{Takes}
-use Rattle.rtt_read.specs.Recordings.{asked_of, HearsOne}
+use Rattle.terminal.specs.Told.{AppendsTextSeen, Takes}
+use Rattle.rtt_read.specs.Recordings.{asked_of, HasHeard}
 
 -- nothing came
 hears_none : (t : Terminal) → Takes t [] t
@@ -59,19 +58,14 @@ no_packet item octets (inr e) = ap (λ (i : DumpItem). (record_of i octets).what
 pub hears_no_packet : (t : Terminal) (item : DumpItem) (octets : List ℕ) → ((at : ℕ) × (item ≡ Rtcp at)) ⊎ (item ≡ End) → Takes t (record_of item octets ∷ []) t
 hears_no_packet t item octets e c sources came l = rtcp_passed t c sources came (record_of item octets) (no_packet item octets e) l
 
--- what is seen of the records of a recording is its view
-pub view_is : (r : ReadRequest) (octets : List ℕ) (items : List Item) → (dump usual_limit octets).items ≡ items → text_seen (reception (asked_of r)) r.source items ≡ read_view r octets
+-- what was heard of a recording is seen as its view
+pub view_is : (r : ReadRequest) (octets : List ℕ) → text_seen (reception (asked_of r)) r.source (dump usual_limit octets).items ≡ read_view r octets
 unfolding read_view
-view_is r octets items e = ap (λ (xs : List Item). text_seen (reception (asked_of r)) r.source xs) (sym e)
+view_is r octets = refl
 
--- what came to a terminal was heard to its end
-abbrev IsEndOf : Terminal → Terminal → Type 0
-IsEndOf before after = (c : TermConf) (sources : List ℕ) (came : List Item) → Listens before c sources came → Heard after c sources came
-
-pub one_text : (before after : Terminal) → HearsOne before → IsEndOf before after → length (texts_of after) ≡ 1
-one_text before after h f = (f h.0 (h.1 ∷ []) h.2 h.3).each
-
-pub seen_alone : (before after : Terminal) (old view : List ℕ) → old ≡ [] → IsEndOf before after
-    → ((c : TermConf) (source : ℕ) (came : List Item) → Heard after c (source ∷ []) came → view ≡ old ++ text_seen (reception c) source came)
-    → (c : TermConf) (source : ℕ) (came : List Item) → Listens before c (source ∷ []) came → view ≡ text_seen (reception c) source came
-seen_alone before after old view none f seen c source came l = seen c source came (f c (source ∷ []) came l) ∙ ap (λ v. v ++ text_seen (reception c) source came) none
+-- and what is printed of it is that view
+pub text_is : (r : ReadRequest) (octets : List ℕ) (t : Terminal) (old new : List ℕ) → old ≡ [] → AppendsTextSeen t old new → HasHeard r octets t → new ≡ read_view r octets
+text_is r octets t old new none seen h =
+    let items = (dump usual_limit octets).items in
+    seen (asked_of r) r.source items h
+    ∙ (ap (λ v. v ++ text_seen (reception (asked_of r)) r.source items) none ∙ view_is r octets)

@@ -1,9 +1,9 @@
-//! What one source of a recording typed: the recording is heard to its end, and its view is made.
+//! What one source of a recording typed: the recording is heard to its end.
 #![tactic(auto)]
 
 mod reads;
 
-pub use reads::{ListenFault, heard_view};
+pub use reads::hear_recording;
 
 #[cfg(test)]
 mod tests;

@@ -1,10 +1,11 @@
-use crate::{ListenFault, heard_view};
+use crate::hear_recording;
 use command_spec::ReadRequest;
-use rtpdump_io::{DumpFault, DumpReader};
+use rtpdump_io::{DumpFault, DumpReader, RecordingFault};
 use rtt_base::{Bytes, NoMemory, Pts};
 use rtt_io::{Source, SteadySource};
 use std::alloc::Global;
 use std::test::Fail;
+use terminal::Counts;
 use wire_spec::DumpKind;
 
 const ANN: ReadRequest = ReadRequest {
@@ -38,12 +39,31 @@ fn recording(alloc: Global, first: &[u8], second: &[u8], third: &[u8]) -> Result
     Ok(recording)
 }
 
-// Whether this is heard of Ann.
-fn shows<S: Source + Drop>(alloc: Global, source: S, view: &str) -> Result<bool, Fail> {
+// Whether this is heard of Ann, and these packets are counted.
+fn hears<S: Source + Drop>(
+    alloc: Global,
+    source: S,
+    text: &str,
+    counts: Counts,
+) -> Result<bool, Fail> {
     let mut reader = DumpReader::new(source);
-    match heard_view(alloc, &mut reader, ANN) {
-        Ok(heard) => Ok(heard.as_slice() == view.as_bytes()),
-        Err(_) => Ok(false),
+    let Ok(terminal) = hear_recording(alloc, &mut reader, ANN) else {
+        return Ok(false);
+    };
+    let heard = match terminal.heard() {
+        [heard] => heard.text.as_slice() == text.as_bytes(),
+        _ => false,
+    };
+    Ok(heard && terminal.counts() == counts)
+}
+
+// So many packets came, of which some were used and the others refused.
+fn counts(packets: u64, used: u64, refused: u64) -> Counts {
+    Counts {
+        packets,
+        used,
+        refused,
+        foreign: 0,
     }
 }
 
@@ -55,8 +75,8 @@ fn ends_at<S: Source + Drop>(
     kind: DumpKind,
 ) -> Result<bool, Fail> {
     let mut reader = DumpReader::new(source);
-    match heard_view(alloc, &mut reader, ANN) {
-        Err(ListenFault::Recorded(fault)) => Ok(fault == DumpFault { offset, kind }),
+    match hear_recording(alloc, &mut reader, ANN) {
+        Err(RecordingFault::Dump(fault)) => Ok(fault == DumpFault { offset, kind }),
         _ => Ok(false),
     }
 }
@@ -64,24 +84,24 @@ fn ends_at<S: Source + Drop>(
 #[test]
 fn two_letters_are_heard(rt: HostRuntime) -> Result<(), Fail> {
     let recording = recording(rt.alloc(), &FIRST, &SECOND, &THIRD)?;
-    let view = "| AB\n-- bells 0\n-- packets 3 used 3 refused 0 foreign 0\n";
-    assert!(rt; shows(rt.alloc(), SteadySource::new(recording), view)?);
+    let source = SteadySource::new(recording);
+    assert!(rt; hears(rt.alloc(), source, "AB", counts(3, 3, 0))?);
     Ok(())
 }
 
 #[test]
 fn packets_out_of_order_are_heard_in_order(rt: HostRuntime) -> Result<(), Fail> {
     let recording = recording(rt.alloc(), &FIRST, &THIRD, &SECOND)?;
-    let view = "| AB\n-- bells 0\n-- packets 3 used 3 refused 0 foreign 0\n";
-    assert!(rt; shows(rt.alloc(), SteadySource::new(recording), view)?);
+    let source = SteadySource::new(recording);
+    assert!(rt; hears(rt.alloc(), source, "AB", counts(3, 3, 0))?);
     Ok(())
 }
 
 #[test]
 fn nothing_is_heard_of_a_refused_packet(rt: HostRuntime) -> Result<(), Fail> {
     let recording = recording(rt.alloc(), &FIRST, &BROKEN, &THIRD)?;
-    let view = "| AB\n-- bells 0\n-- packets 3 used 2 refused 1 foreign 0\n";
-    assert!(rt; shows(rt.alloc(), SteadySource::new(recording), view)?);
+    let source = SteadySource::new(recording);
+    assert!(rt; hears(rt.alloc(), source, "AB", counts(3, 2, 1))?);
     Ok(())
 }
 

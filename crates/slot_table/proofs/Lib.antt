@@ -8,5 +8,3 @@ pub mod Rebasing
 pub mod Spanning
 pub mod Starting
 pub mod Sources
-pub mod Listing
-pub mod ListedSources

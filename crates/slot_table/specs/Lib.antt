@@ -5,4 +5,3 @@ pub mod LaneInsides
 pub mod Words
 pub mod Standing
 pub mod SlotInsides
-pub mod Listed

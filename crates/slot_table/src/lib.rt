@@ -9,10 +9,4 @@ mod slots;
 pub use slots::Slots;
 
 #[cfg(test)]
-mod plain;
-#[cfg(test)]
-mod plain_lanes;
-#[cfg(test)]
-mod plain_queues;
-#[cfg(test)]
 mod tests;

@@ -1,8 +1,10 @@
 //! Examples of what waits, and the table beside one of plain lists.
 ghost use Rattle.std.specs.Prelude.{◌≡◌, ◌<◌, ◌≤◌, length};
 
+mod plain;
+
 use crate::Slots;
-use crate::plain::Plain;
+use plain::{LEGS, Plain};
 use rtt_base::{Chunk, Text};
 use std::alloc::Global;
 use std::process::Abort;
@@ -127,20 +129,19 @@ impl Chance {
 struct Both {
     slots: Slots,
     plain: Plain,
-    listens: [bool; 4],
+    listens: [bool; LEGS],
     chunk: Chunk,
     text: Text,
     plain_text: Text,
     ghost legs: { length slots ≡ 4 },
-    ghost plain_legs: { length plain ≡ 4 },
 }
 
 impl Both {
     fn new(alloc: Global) -> Result<Both, Fail> {
         Ok(Both {
-            slots: Slots::new(alloc, 4)?,
-            plain: Plain::new(alloc, 4)?,
-            listens: [true; 4],
+            slots: Slots::new(alloc, LEGS)?,
+            plain: Plain::new(alloc),
+            listens: [true; LEGS],
             chunk: chunk_of_length(0, 0),
             text: Text::new(),
             plain_text: Text::new(),
@@ -148,24 +149,18 @@ impl Both {
     }
 
     /// Whether both take the chunk.
-    fn offer(
-        &mut self,
-        rt: &impl Abort,
-        alloc: Global,
-        source: u8,
-        octets: usize,
-    ) -> Result<bool, Fail>
-        requires { source < 4 }
+    fn offer(&mut self, rt: &impl Abort, source: u8, octets: usize) -> Result<bool, Fail>
+        requires { source < LEGS }
     {
         fill(&mut self.chunk.text, octets, source);
         self.chunk.source = source;
-        let is_taken = self.plain.offer(alloc, &self.chunk)?;
+        let is_taken = self.plain.offer(&self.chunk)?;
         assert_eq!(rt; self.slots.offer(&self.chunk).is_ok(), is_taken);
         Ok(is_taken)
     }
 
     fn take(&mut self, rt: &impl Abort, terminal: usize, source: usize, room: usize)
-        requires { (terminal < 4) × (source < 4) × (room ≤ 1023) }
+        requires { (terminal < LEGS) × (source < LEGS) × (room ≤ 1023) }
     {
         self.text.clear();
         self.plain_text.clear();
@@ -181,11 +176,11 @@ impl Both {
 
     /// The terminal listens no more, or again where nothing waits for it.
     fn turn(&mut self, terminal: usize)
-        requires { terminal < 4 }
+        requires { terminal < LEGS }
     {
         let on = !self.listens[terminal];
         let mut is_free = true;
-        for source in 0..4usize {
+        for source in 0..LEGS {
             is_free = is_free && !self.plain.has_waiting(terminal, source);
         }
         if !on || is_free {
@@ -196,7 +191,7 @@ impl Both {
     }
 
     /// Makes a call by chance, and looks at what waits. Whether a chunk was given back.
-    fn step(&mut self, rt: &impl Abort, alloc: Global, chance: &mut Chance) -> Result<bool, Fail> {
+    fn step(&mut self, rt: &impl Abort, chance: &mut Chance) -> Result<bool, Fail> {
         let source = chance.below(4) as u8;
         let terminal = chance.below(4) as usize;
         let kind = chance.below(64);
@@ -205,7 +200,7 @@ impl Both {
         if kind == 0 {
             self.turn(terminal);
         } else if kind < 40 {
-            is_full = !self.offer(rt, alloc, source, octets)?;
+            is_full = !self.offer(rt, source, octets)?;
         } else {
             self.take(rt, terminal, source as usize, octets);
         }
@@ -221,7 +216,7 @@ fn rings_and_plain_lists_give_the_same(rt: HostRuntime) -> Result<(), Fail> {
     let mut chance = Chance(1);
     let mut given_back = 0u32;
     for _ in 0..2000 {
-        if both.step(&rt, rt.alloc(), &mut chance)? {
+        if both.step(&rt, &mut chance)? {
             given_back = given_back.saturating_add(1);
         }
     }

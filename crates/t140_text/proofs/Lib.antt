@@ -1,2 +1,3 @@
 pub mod Erased
 pub mod Runs
+pub mod Endings

@@ -1,2 +1,3 @@
 pub mod Screens
 pub mod Displays
+pub mod Endings

@@ -10,10 +10,11 @@ mod showing;
 pub mod views;
 
 pub use classes::class;
-pub use ends::{ends_line, ends_sentence};
+pub use ends::Ending;
 pub use lines::Lines;
 pub use showing::{Shown, show};
-pub use text_spec::{CharClass, Counts};
+pub use text_spec::CharClass;
+pub use view_spec::Counts;
 
 #[cfg(test)]
 mod tests;

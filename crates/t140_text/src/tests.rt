@@ -1,7 +1,7 @@
 use crate::views::{
     append_aware_title, append_source_view, append_text_view, append_unaware_title,
 };
-use crate::{CharClass, Counts, class, ends_line, ends_sentence, show};
+use crate::{CharClass, Counts, Ending, class, show};
 use rtt_base::Bytes;
 use std::test::Fail;
 
@@ -88,10 +88,30 @@ fn texts_end_lines_and_sentences(rt: HostRuntime) {
         ("Hi\u{2028}", true, false),
         ("Hi\u{2029}", false, false),
         ("\nHi", false, false),
+        ("Hi.  ", false, false),
+        ("\"Hi.\" ", false, true),
+        ("\"Hi.\"", false, false),
+        ("(Hi.)' ", false, false),
+        ("\u{201c}Hi\u{2026}\u{201d} ", false, true),
+        ("\u{643}\u{61f} ", false, true),
+        ("\u{642}\u{6d4} ", false, true),
+        ("\u{939}\u{964} ", false, true),
+        ("\u{939}\u{964}", false, false),
+        ("\u{597d}\u{3002}", false, true),
+        ("\u{597d}\u{ff01} ", false, true),
+        ("\u{597d}\u{ff1f}\u{300d}", false, true),
+        ("\u{597d}\u{ff0e}\u{300f} ", false, true),
+        ("\u{597d}\u{3002}\u{201d}", false, true),
+        ("\u{597d}\u{3002}\u{300d}\u{300f}", false, false),
+        ("Hi.\u{300d} ", false, false),
     ];
     for (text, line, sentence) in cases {
-        assert_eq!(rt; ends_line(text.as_bytes()), line, "of {text:?}");
-        assert_eq!(rt; ends_sentence(text.as_bytes()), sentence, "of {text:?}");
+        let mut ending = Ending::new();
+        for c in text.chars() {
+            ending.push(c);
+        }
+        assert_eq!(rt; ending.ends_line(), line, "of {text:?}");
+        assert_eq!(rt; ending.ends_sentence(), sentence, "of {text:?}");
     }
 }
 

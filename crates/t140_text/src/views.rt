@@ -1,6 +1,6 @@
 //! What is printed of a text, appended to what was printed before. Where memory runs out a part of it may be appended.
 ghost use Rattle.std.specs.Prelude.{◌≡◌, ◌++◌, OnOk, flat_map};
-ghost use Rattle.text_spec.specs.Views.{aware_title, counts_line, printed_lines, source_view, text_view, unaware_title};
+ghost use Rattle.view_spec.specs.Views.{aware_title, counts_line, printed_lines, source_view, text_view, unaware_title};
 ghost use Rattle.t140_text.specs.Displays.{Extends, display_of};
 
 use crate::{Counts, Lines, Shown};
@@ -8,7 +8,7 @@ use itoa::Buffer;
 use rtt_base::{Bytes, NoMemory};
 
 /// Appends the first line of the view of a terminal that keeps its sources apart.
-#[tactic(auto, unfolding(text_spec::specs::Views::aware_title))]
+#[tactic(auto, unfolding(view_spec::specs::Views::aware_title))]
 pub fn append_aware_title(name: &[u8], out: &mut Bytes) -> Result<(), NoMemory>
     ensures ok { OnOk result (out.new ≡ out.old ++ aware_title name.now) }
     ensures kept { Extends out.old out.new }
@@ -17,7 +17,7 @@ pub fn append_aware_title(name: &[u8], out: &mut Bytes) -> Result<(), NoMemory>
 }
 
 /// Appends the first line of the view of a terminal that gets one text.
-#[tactic(auto, unfolding(text_spec::specs::Views::unaware_title))]
+#[tactic(auto, unfolding(view_spec::specs::Views::unaware_title))]
 pub fn append_unaware_title(name: &[u8], out: &mut Bytes) -> Result<(), NoMemory>
     ensures ok { OnOk result (out.new ≡ out.old ++ unaware_title name.now) }
     ensures kept { Extends out.old out.new }
@@ -26,7 +26,7 @@ pub fn append_unaware_title(name: &[u8], out: &mut Bytes) -> Result<(), NoMemory
 }
 
 /// Appends one text with its counts, as `read` prints it.
-#[tactic(auto, unfolding(text_spec::specs::Views::text_view))]
+#[tactic(auto, unfolding(view_spec::specs::Views::text_view))]
 pub fn append_text_view(shown: &Shown, counts: Counts, out: &mut Bytes) -> Result<(), NoMemory>
     ensures ok { OnOk result (out.new ≡ out.old ++ text_view (display_of shown.now) counts) }
     ensures kept { Extends out.old out.new }
@@ -41,7 +41,7 @@ pub fn append_text_view(shown: &Shown, counts: Counts, out: &mut Bytes) -> Resul
 }
 
 /// Appends what a source of an aware terminal shows.
-#[tactic(auto, unfolding(text_spec::specs::Views::source_view))]
+#[tactic(auto, unfolding(view_spec::specs::Views::source_view))]
 pub fn append_source_view(name: &[u8], shown: &Shown, out: &mut Bytes) -> Result<(), NoMemory>
     ensures ok { OnOk result (out.new ≡ out.old
         ++ source_view (record { name = name.now; display = display_of shown.now })) }
@@ -62,7 +62,7 @@ pub fn append_source_view(name: &[u8], shown: &Shown, out: &mut Bytes) -> Result
 }
 
 /// Appends the line of counts.
-#[tactic(auto, unfolding(text_spec::specs::Views::counts_line))]
+#[tactic(auto, unfolding(view_spec::specs::Views::counts_line))]
 pub fn append_counts(counts: Counts, out: &mut Bytes) -> Result<(), NoMemory>
     ensures ok { OnOk result (out.new ≡ out.old ++ counts_line counts) }
     ensures kept { Extends out.old out.new }

@@ -25,8 +25,8 @@ use Rattle.ear.proofs.Given.{ready_stamped}
 use Rattle.ear.proofs.Giving.{told_given}
 use Rattle.ear.proofs.ReadyBy.{heard_dues, told_arrived}
 use Rattle.stream_spec.proofs.HeardTexts.{heard_utf8}
-use Rattle.text_spec.specs.declared.counts.Counts.{Counts}
-use Rattle.command_spec.specs.Seen.{Reception, Fate, NoPacket, fate_of, fate_of_what, fate_at, is_packet, is_refused, is_foreign, many, arrivals_at, counts_at}
+use Rattle.view_spec.specs.declared.counts.Counts.{Counts}
+use Rattle.view_spec.specs.Seen.{Reception, Fate, NoPacket, fate_of, fate_of_what, fate_at, is_packet, is_refused, is_foreign, many, arrivals_at, counts_at}
 use Rattle.terminal.proofs.Marks.{marks_are}
 use Rattle.terminal.specs.declared.confs.TermConf.{TermConf}
 use Rattle.terminal.specs.declared.terminals.Terminal.{Terminal}

@@ -12,8 +12,8 @@ use Rattle.stream_spec.proofs.Rising.{used_rises}
 use Rattle.stream_spec.proofs.ReadyBy.{rising_stamped}
 use Rattle.stream_spec.proofs.Taking.{Headed, piece_same, used_headed}
 use Rattle.source_receiver.specs.Each.{one_if, marks_from, marks_by}
-use Rattle.command_spec.specs.Sums.{markers_over, markers}
-use Rattle.command_spec.proofs.Markers.{piece_length}
+use Rattle.view_spec.specs.Markers.{markers_over, markers}
+use Rattle.view_spec.proofs.Markers.{piece_length}
 
 -- ---- packet by packet
 abbrev first_from : ℕ → List Numbered → ℕ

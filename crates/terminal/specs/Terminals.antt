@@ -6,9 +6,9 @@ use Rattle.source_receiver.specs.declared.source_texts.SourceText.{SourceText}
 use Rattle.ear.specs.declared.confs.EarConf.{EarConf}
 use Rattle.ear.specs.Hears.{IsToldOf, arrival_count, is_quiet, is_finished}
 use Rattle.ear.specs.Each.{HearsEach}
-use Rattle.text_spec.specs.declared.counts.Counts.{Counts}
-use Rattle.command_spec.specs.Seen.{Reception, Fate, fate_at, is_packet, is_refused, is_foreign, many, arrivals_at, text_at, counts_at}
-use Rattle.command_spec.specs.Sums.{markers_at}
+use Rattle.view_spec.specs.declared.counts.Counts.{Counts}
+use Rattle.view_spec.specs.Seen.{Reception, Fate, fate_at, is_packet, is_refused, is_foreign, many, arrivals_at, text_at, counts_at}
+use Rattle.view_spec.specs.Markers.{markers_at}
 use Rattle.terminal.specs.declared.confs.TermConf.{TermConf}
 use Rattle.terminal.specs.declared.terminals.Terminal.{Terminal}
 

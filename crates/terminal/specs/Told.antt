@@ -4,9 +4,11 @@ use Rattle.wire_spec.specs.declared.faults.TextFault.{TextFault}
 use Rattle.wire_spec.specs.Dump.{Item, sent_item}
 use Rattle.gap_tracker.specs.Stories.{Story}
 use Rattle.ear.specs.Hears.{all_given}
-use Rattle.command_spec.specs.Seen.{Speaker, fate_of, is_refused, is_foreign, text_seen, unaware_seen, aware_seen}
+use Rattle.view_spec.specs.Seen.{Speaker, fate_of, is_refused, is_foreign, text_seen, unaware_seen, aware_seen}
 use Rattle.terminal.specs.declared.confs.TermConf.{TermConf}
 use Rattle.terminal.specs.declared.terminals.Terminal.{Terminal}
+use Rattle.terminal.specs.declared.views.View.{View}
+use Rattle.terminal.specs.declared.views.View.TheVariants.{Text, Unaware, Aware}
 use Rattle.terminal.specs.Terminals.{reception, one_if, IsUnread, HearsTexts, Listens, Heard}
 
 -- ---- something comes
@@ -65,3 +67,9 @@ AppendsAwareSeen t name names old new =
     (c : TermConf) (speakers : List Speaker) (came : List Item)
     → names ≡ map (λ s. s.name) speakers → Heard t c (map (λ s. s.ssrc) speakers) came
     → new ≡ old ++ aware_seen (reception c) name speakers came
+
+-- what this view shows was appended
+abbrev pub AppendsSeen : Terminal → View → List ℕ → List ℕ → Type 0
+AppendsSeen t Text old new = AppendsTextSeen t old new
+AppendsSeen t (Unaware name) old new = AppendsUnawareSeen t name.now old new
+AppendsSeen t (Aware name names) old new = AppendsAwareSeen t name.now names.now old new

@@ -1,9 +1,11 @@
 -- What is printed of a terminal (profile).
-use Rattle.std.specs.Prelude.{ℕ, List, [], ◌∷◌}
+use Rattle.std.specs.Prelude.{◌≡◌, ℕ, List, [], ◌∷◌, length}
 use Rattle.source_receiver.specs.declared.source_texts.SourceText.{SourceText}
 use Rattle.text_spec.specs.Shown.{Display, shown}
-use Rattle.text_spec.specs.Views.{Source, text_view, unaware_view, aware_view}
+use Rattle.view_spec.specs.Views.{Source, text_view, unaware_view, aware_view}
 use Rattle.terminal.specs.declared.terminals.Terminal.{Terminal}
+use Rattle.terminal.specs.declared.views.View.{View}
+use Rattle.terminal.specs.declared.views.View.TheVariants.{Text, Unaware, Aware}
 use Rattle.terminal.specs.Terminals.{texts_of, counts_of}
 
 -- the text of the first of these
@@ -25,14 +27,25 @@ named [] ts = []
 named (name ∷ names) [] = []
 named (name ∷ names) (t ∷ ts) = source_shown name t ∷ named names ts
 
--- the view of the one source
-abbrev pub view_of : Terminal → List ℕ
-view_of t = text_view (first_shown (texts_of t)) (counts_of t)
+-- the text of the one source
+abbrev pub text_view_of : Terminal → List ℕ
+text_view_of t = text_view (first_shown (texts_of t)) (counts_of t)
 
--- that of an unaware terminal of this name
+-- the view of an unaware terminal of this name
 abbrev pub unaware_view_of : List ℕ → Terminal → List ℕ
 unaware_view_of name t = unaware_view name (first_shown (texts_of t)) (counts_of t)
 
 -- that of an aware one, whose sources have these names
 abbrev pub aware_view_of : List ℕ → List (List ℕ) → Terminal → List ℕ
 aware_view_of name names t = aware_view name (named names (texts_of t)) (counts_of t)
+
+abbrev pub view_of : View → Terminal → List ℕ
+view_of Text t = text_view_of t
+view_of (Unaware name) t = unaware_view_of name.now t
+view_of (Aware name names) t = aware_view_of name.now names.now t
+
+-- it is a view of so many sources
+abbrev pub Fits : View → ℕ → Type 0
+Fits Text sources = sources ≡ 1
+Fits (Unaware name) sources = sources ≡ 1
+Fits (Aware name names) sources = length names.now ≡ sources

@@ -11,3 +11,4 @@ pub use confs::TermConf;
 pub use source_receiver::SourceText;
 pub use t140_text::Counts;
 pub use terminals::Terminal;
+pub use views::View;

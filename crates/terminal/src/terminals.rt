@@ -3,7 +3,7 @@ ghost use Rattle.std.specs.Prelude.{◌≡◌, ◌≢◌, ◌+◌, ◌≤◌, �
 ghost use Rattle.ear.specs.Hears.{arrival_count, is_clear, is_quiet, is_finished};
 ghost use Rattle.terminal.specs.Terminals.{texts_of, counts_of, is_spent, IsWhole, IsEmpty, IsHearingTexts, SameCounts, Listens, IsListening, IsOpen, IsFinished};
 ghost use Rattle.terminal.specs.Told.{TakesPacket, TakesUnread, ListensAlike, one_if_refused, one_if_foreign, GathersTexts, HearsToEnd};
-ghost use Rattle.rtt_base.specs.declared.limits.TheConstants.{LONGEST_WAIT};
+ghost use Rattle.rtt_base.specs.declared.limits.TheConstants.{END_OF_MOMENTS, LONGEST_WAIT, MOST_ARRIVALS, MOST_SOURCES};
 
 use crate::TermConf;
 use ear::{Ear, EarConf};
@@ -44,7 +44,7 @@ impl Terminal {
     pub fn new(alloc: Global, conf: TermConf, sources: &[u32]) -> Result<Terminal, NoMemory>
         requires wait { conf.wait ≤ LONGEST_WAIT }
         requires some { 0 < length sources.now }
-        requires few { length sources.now ≤ 64 }
+        requires few { length sources.now ≤ MOST_SOURCES }
         requires differ { AllPairs (λ a b. a ≢ b) sources.now }
         ensures listens { IfOk result (λ terminal. Listens terminal conf sources.now []) }
         ensures packets { IfOk result (λ terminal. (counts_of terminal).packets ≡ 0) }
@@ -69,7 +69,7 @@ impl Terminal {
     fn gather(&mut self) -> Result<(), NoMemory>
         requires stands { IsHearingTexts self.old }
         requires clear { is_clear self.old.ear ≡ Bool.true }
-        requires few { arrival_count self.old.ear ≤ 2 ^ 40 }
+        requires few { arrival_count self.old.ear ≤ MOST_ARRIVALS }
         ensures gathers { OnOk result (GathersTexts self.old self.new) }
         ensures same { OnOk result (SameCounts self.old.counts self.new.counts) }
         ensures quiet { OnOk result (is_quiet self.new.ear ≡ Bool.true) }
@@ -104,9 +104,9 @@ impl Terminal {
     /// heard of it, as most are. Else it answers false, and nothing came.
     #[inline(always)]
     fn take_plain(&mut self, at: u64, octets: &[u8]) -> Result<bool, NoMemory>
-        requires at { at < 2 ^ 48 }
+        requires at { at < END_OF_MOMENTS }
         requires stands { IsListening self.old }
-        requires few { (counts_of self.old).packets < 2 ^ 40 }
+        requires few { (counts_of self.old).packets < MOST_ARRIVALS }
         ensures listens { IfOk result (λ plain. IsTrue plain → TakesPacket self.old at octets.now self.new) }
         ensures same { IfOk result (λ plain. plain ≡ Bool.false → ListensAlike self.old self.new) }
         ensures uncounted { IfOk result (λ plain. plain ≡ Bool.false → self.new.counts ≡ self.old.counts) }
@@ -123,9 +123,9 @@ impl Terminal {
     /// Takes a packet that came at this moment, whichever it is: it is read, and held where it is not next in order.
     #[inline(never)]
     fn take_any(&mut self, at: u64, octets: &[u8]) -> Result<(), NoMemory>
-        requires at { at < 2 ^ 48 }
+        requires at { at < END_OF_MOMENTS }
         requires stands { IsListening self.old }
-        requires few { (counts_of self.old).packets < 2 ^ 40 }
+        requires few { (counts_of self.old).packets < MOST_ARRIVALS }
         ensures listens { OnOk result (TakesPacket self.old at octets.now self.new) }
         ensures packets { (counts_of self.new).packets ≡ (counts_of self.old).packets + 1 }
     {
@@ -142,9 +142,9 @@ impl Terminal {
     /// Takes a packet that came at this moment.
     #[inline(always)]
     fn take(&mut self, at: u64, octets: &[u8]) -> Result<(), NoMemory>
-        requires at { at < 2 ^ 48 }
+        requires at { at < END_OF_MOMENTS }
         requires stands { IsListening self.old }
-        requires few { (counts_of self.old).packets < 2 ^ 40 }
+        requires few { (counts_of self.old).packets < MOST_ARRIVALS }
         ensures listens { OnOk result (TakesPacket self.old at octets.now self.new) }
         ensures packets { (counts_of self.new).packets ≤ (counts_of self.old).packets + 1 }
     {
@@ -157,9 +157,9 @@ impl Terminal {
     /// Takes a packet that came at this moment, in milliseconds. One that is refused is counted, and hands in no time.
     #[inline(always)]
     pub fn arrive(&mut self, at: u64, octets: &[u8]) -> Result<(), NoMemory>
-        requires at { at < 2 ^ 48 }
+        requires at { at < END_OF_MOMENTS }
         requires open { IsOpen self.old }
-        requires few { (counts_of self.old).packets < 2 ^ 40 }
+        requires few { (counts_of self.old).packets < MOST_ARRIVALS }
         ensures listens { OnOk result (TakesPacket self.old at octets.now self.new) }
         ensures open { IsOpen self.new }
         ensures whole { OnOk result (IsWhole self.old) }
@@ -181,7 +181,7 @@ impl Terminal {
     /// Counts a packet whose octets are not there as refused.
     pub fn refuse(&mut self)
         requires open { IsOpen self.old }
-        requires few { (counts_of self.old).packets < 2 ^ 40 }
+        requires few { (counts_of self.old).packets < MOST_ARRIVALS }
         ensures listens { TakesUnread self.old self.new }
         ensures open { IsOpen self.new }
         ensures spent { is_spent self.new ≡ is_spent self.old }
@@ -196,7 +196,7 @@ impl Terminal {
     /// Hears what is left.
     fn end(&mut self) -> Result<(), NoMemory>
         requires stands { IsListening self.old }
-        requires few { (counts_of self.old).packets < 2 ^ 40 }
+        requires few { (counts_of self.old).packets < MOST_ARRIVALS }
         ensures heard { OnOk result (HearsToEnd self.old self.new) }
         ensures packets { (counts_of self.new).packets ≡ (counts_of self.old).packets }
     {
@@ -207,7 +207,7 @@ impl Terminal {
     /// Hears what is left: nothing comes any more.
     pub fn finish(&mut self) -> Result<(), NoMemory>
         requires open { IsOpen self.old }
-        requires few { (counts_of self.old).packets < 2 ^ 40 }
+        requires few { (counts_of self.old).packets < MOST_ARRIVALS }
         ensures heard { OnOk result (HearsToEnd self.old self.new) }
         ensures finished { IsFinished self.new }
         ensures whole { OnOk result (IsWhole self.old) }

@@ -1,9 +1,10 @@
 //! What aware terminals show, worked out by hand: of three writers in turn, and of the other in a call of two.
-ghost use Rattle.std.specs.Prelude.{◌<◌, ◌≤◌, ◌+◌, ◌^◌, length, OnOk};
+ghost use Rattle.std.specs.Prelude.{◌<◌, ◌≤◌, ◌+◌, length, OnOk};
 ghost use Rattle.terminal.specs.Terminals.{counts_of, IsOpen};
 ghost use Rattle.terminal.specs.Told.{ListensStill};
+ghost use Rattle.rtt_base.specs.declared.limits.TheConstants.{END_OF_MOMENTS};
 
-use crate::{TermConf, Terminal};
+use crate::{TermConf, Terminal, View};
 use rtt_base::{Bytes, Name, NoMemory, Packet, Pts};
 use std::test::Fail;
 
@@ -54,7 +55,7 @@ fn packet(number: u16) -> Packet {
 
 /// Hands in a packet.
 fn hand_in(terminal: &mut Terminal, at: u64, octets: &[u8]) -> Result<(), NoMemory>
-    requires at { at < 2 ^ 48 }
+    requires at { at < END_OF_MOMENTS }
     requires open { IsOpen terminal.old }
     requires few { (counts_of terminal.old).packets < 100 }
     ensures open { IsOpen terminal.new }
@@ -103,12 +104,12 @@ fn shows(rt: &HostRuntime, lost: &[u16], wanted: &str) -> Result<bool, Fail> {
     }
     terminal.finish()?;
     let mut view = Bytes::new(rt.alloc());
-    terminal.append_aware_view(
-        rt.alloc(),
-        &name("D"),
-        &[name("A"), name("B"), name("C")],
-        &mut view,
-    )?;
+    let (own, names) = (name("D"), [name("A"), name("B"), name("C")]);
+    let aware = View::Aware {
+        name: &own,
+        names: &names,
+    };
+    terminal.append_view(rt.alloc(), aware, &mut view)?;
     Ok(view.as_slice() == wanted.as_bytes())
 }
 
@@ -130,7 +131,12 @@ fn shows_other(
     }
     terminal.finish()?;
     let mut view = Bytes::new(rt.alloc());
-    terminal.append_aware_view(rt.alloc(), &name(names.0), &[name(names.1)], &mut view)?;
+    let (own, names) = (name(names.0), [name(names.1)]);
+    let aware = View::Aware {
+        name: &own,
+        names: &names,
+    };
+    terminal.append_view(rt.alloc(), aware, &mut view)?;
     let counted = match terminal.heard() {
         [heard] => heard.marks == marks,
         _ => false,
@@ -148,7 +154,8 @@ fn shows_as_one(rt: &HostRuntime, packets: &[&[u8]], wanted: &str) -> Result<boo
     }
     terminal.finish()?;
     let mut view = Bytes::new(rt.alloc());
-    terminal.append_unaware_view(rt.alloc(), &name("Ann"), &mut view)?;
+    let own = name("Ann");
+    terminal.append_view(rt.alloc(), View::Unaware { name: &own }, &mut view)?;
     Ok(view.as_slice() == wanted.as_bytes())
 }
 

@@ -1,10 +1,10 @@
 //! The views of a terminal. After `NoMemory` what was printed before is as it was.
 ghost use Rattle.std.specs.Prelude.{◌≡◌, ◌<◌, ◌++◌, length, IsUtf8, IfOk, OnOk, OnErr, take, flat_map};
-ghost use Rattle.text_spec.specs.Views.{text_view, unaware_view, aware_view, source_view};
+ghost use Rattle.view_spec.specs.Views.{text_view, unaware_view, aware_view, source_view};
 ghost use Rattle.t140_text.specs.Displays.{Extends, display_of};
 ghost use Rattle.terminal.specs.Terminals.{texts_of, AreUtf8, IsWhole, IsFinished};
-ghost use Rattle.terminal.specs.Told.{AppendsTextSeen, AppendsUnawareSeen, AppendsAwareSeen};
-ghost use Rattle.terminal.specs.Views.{first_shown, source_shown, named, view_of, unaware_view_of, aware_view_of};
+ghost use Rattle.terminal.specs.Told.{AppendsSeen};
+ghost use Rattle.terminal.specs.Views.{first_shown, source_shown, named, view_of, Fits};
 
 use crate::Terminal;
 use rtt_base::{Bytes, Name, NoMemory};
@@ -14,6 +14,17 @@ use t140_text::views::{
     append_aware_title, append_counts, append_source_view, append_text_view, append_unaware_title,
 };
 use t140_text::{Counts, Shown, show};
+
+/// What is printed of a terminal, and how.
+#[derive(Clone, Copy)]
+pub enum View<'a> {
+    /// The text of its one source, as `read` prints it.
+    Text,
+    /// What an unaware terminal of this name shows, to which all comes as one source.
+    Unaware { name: &'a Name },
+    /// What an aware terminal of this name shows, whose sources have these names, in their order.
+    Aware { name: &'a Name, names: &'a [Name] },
+}
 
 /// What the first of these shows.
 fn shown_first(alloc: Global, texts: &[SourceText]) -> Result<Shown, NoMemory>
@@ -74,7 +85,7 @@ fn append_one(
 }
 
 /// Appends the title of an unaware terminal and its view.
-#[tactic(auto, unfolding(text_spec::specs::Views::unaware_view))]
+#[tactic(auto, unfolding(view_spec::specs::Views::unaware_view))]
 fn append_unaware(
     alloc: Global,
     name: &Name,
@@ -92,7 +103,7 @@ fn append_unaware(
 }
 
 /// Appends the title of an aware terminal and its view.
-#[tactic(auto, unfolding(text_spec::specs::Views::aware_view))]
+#[tactic(auto, unfolding(view_spec::specs::Views::aware_view))]
 fn append_aware(
     alloc: Global,
     name: &Name,
@@ -128,103 +139,52 @@ fn whole_or_none(
 }
 
 impl Terminal {
-    /// Appends the view of a terminal that is not spent.
-    fn append_whole_view(&self, alloc: Global, out: &mut Bytes) -> Result<(), NoMemory>
+    /// Appends a view of a terminal that is not spent, or a part of it.
+    fn append_part(&self, alloc: Global, view: View<'_>, out: &mut Bytes) -> Result<(), NoMemory>
+        requires fits { Fits view (length (texts_of self.now)) }
         requires some { 0 < length (texts_of self.now) }
         requires utf8 { AreUtf8 (texts_of self.now) }
-        ensures ok { OnOk result (out.new ≡ out.old ++ view_of self.now) }
-        ensures err { OnErr result (out.new ≡ out.old) }
+        ensures ok { OnOk result (out.new ≡ out.old ++ view_of view.entry self.now) }
+        ensures kept { Extends out.old out.new }
     {
-        let size = out.len();
-        let appended = append_one(alloc, self.heard(), self.counts(), out);
-        whole_or_none(appended, size, out)
+        let texts = self.heard();
+        let counts = self.counts();
+        match view {
+            View::Text => append_one(alloc, texts, counts, out),
+            View::Unaware { name } => append_unaware(alloc, name, texts, counts, out),
+            View::Aware { name, names } => append_aware(alloc, name, names, texts, counts, out),
+        }
     }
 
-    /// Appends the view of an unaware terminal that is not spent.
-    fn append_whole_unaware_view(
-        &self,
-        alloc: Global,
-        name: &Name,
-        out: &mut Bytes,
-    ) -> Result<(), NoMemory>
+    /// Appends a view of a terminal that is not spent.
+    fn append_whole(&self, alloc: Global, view: View<'_>, out: &mut Bytes) -> Result<(), NoMemory>
+        requires fits { Fits view (length (texts_of self.now)) }
         requires some { 0 < length (texts_of self.now) }
         requires utf8 { AreUtf8 (texts_of self.now) }
-        ensures ok { OnOk result (out.new ≡ out.old ++ unaware_view_of name.now self.now) }
+        ensures ok { OnOk result (out.new ≡ out.old ++ view_of view.entry self.now) }
         ensures err { OnErr result (out.new ≡ out.old) }
     {
         let size = out.len();
-        let appended = append_unaware(alloc, name, self.heard(), self.counts(), out);
+        let appended = self.append_part(alloc, view, out);
         whole_or_none(appended, size, out)
     }
 
-    /// Appends the view of an aware terminal that is not spent.
-    fn append_whole_aware_view(
+    /// Appends a view of a finished terminal.
+    pub fn append_view(
         &self,
         alloc: Global,
-        name: &Name,
-        names: &[Name],
+        view: View<'_>,
         out: &mut Bytes,
     ) -> Result<(), NoMemory>
-        requires each { length names.now ≡ length (texts_of self.now) }
-        requires utf8 { AreUtf8 (texts_of self.now) }
-        ensures ok { OnOk result (out.new ≡ out.old ++ aware_view_of name.now names.now self.now) }
-        ensures err { OnErr result (out.new ≡ out.old) }
-    {
-        let size = out.len();
-        let appended = append_aware(alloc, name, names, self.heard(), self.counts(), out);
-        whole_or_none(appended, size, out)
-    }
-
-    /// Appends the view of a finished terminal of one source, as `read` prints it.
-    pub fn append_view(&self, alloc: Global, out: &mut Bytes) -> Result<(), NoMemory>
         requires finished { IsFinished self.now }
-        requires one { IsWhole self.now → length (texts_of self.now) ≡ 1 }
-        ensures seen { OnOk result (AppendsTextSeen self.now out.old out.new) }
+        requires fits { IsWhole self.now → Fits view (length (texts_of self.now)) }
+        ensures seen { OnOk result (AppendsSeen self.now view.entry out.old out.new) }
         ensures whole { OnOk result (IsWhole self.now) }
         ensures err { OnErr result (out.new ≡ out.old) }
     {
         if self.is_spent() {
             return Err(NoMemory);
         }
-        self.append_whole_view(alloc, out)
-    }
-
-    /// Appends the view of a finished unaware terminal of this name, to which all comes as one source.
-    pub fn append_unaware_view(
-        &self,
-        alloc: Global,
-        name: &Name,
-        out: &mut Bytes,
-    ) -> Result<(), NoMemory>
-        requires finished { IsFinished self.now }
-        requires one { IsWhole self.now → length (texts_of self.now) ≡ 1 }
-        ensures seen { OnOk result (AppendsUnawareSeen self.now name.now out.old out.new) }
-        ensures whole { OnOk result (IsWhole self.now) }
-        ensures err { OnErr result (out.new ≡ out.old) }
-    {
-        if self.is_spent() {
-            return Err(NoMemory);
-        }
-        self.append_whole_unaware_view(alloc, name, out)
-    }
-
-    /// Appends the view of a finished aware terminal of this name, whose sources have these names, in their order.
-    pub fn append_aware_view(
-        &self,
-        alloc: Global,
-        name: &Name,
-        names: &[Name],
-        out: &mut Bytes,
-    ) -> Result<(), NoMemory>
-        requires finished { IsFinished self.now }
-        requires each { IsWhole self.now → length names.now ≡ length (texts_of self.now) }
-        ensures seen { OnOk result (AppendsAwareSeen self.now name.now names.now out.old out.new) }
-        ensures whole { OnOk result (IsWhole self.now) }
-        ensures err { OnErr result (out.new ≡ out.old) }
-    {
-        if self.is_spent() {
-            return Err(NoMemory);
-        }
-        self.append_whole_aware_view(alloc, name, names, out)
+        self.append_whole(alloc, view, out)
     }
 }

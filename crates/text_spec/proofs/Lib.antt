@@ -5,4 +5,3 @@ pub mod Steps
 pub mod Octets
 pub mod Separators
 pub mod Kept
-pub mod Ending

@@ -1,6 +1,6 @@
 -- The classes of characters (T.140; which characters are silent is this profile's choice).
 -- A character is its code. The characters of a text in UTF-8 are std's `chars`.
-use Rattle.std.specs.Prelude.{ℕ, Bool, true, false, ◌||◌, ◌&&◌, nat_lt, nat_le, ◌==◌, if◌then◌else◌}
+use Rattle.std.specs.Prelude.{ℕ, Bool, true, false, ◌||◌, ◌&&◌, nat_lt, nat_le, ◌==◌, if◌then◌else◌, List, [], ◌∷◌}
 use Rattle.text_spec.specs.declared.classes.CharClass.{CharClass}
 use Rattle.text_spec.specs.declared.classes.CharClass.TheVariants.{Erase, Bell, NewLine, Silent, Print}
 
@@ -36,3 +36,16 @@ is_erasable _ = false
 abbrev pub is_print : CharClass → Bool
 is_print Print = true
 is_print _ = false
+
+-- ---- an open line
+-- A line is open where, bells and silent characters passed over, there is a last character and it is no new line; `was` says
+-- whether one was open before this character.
+abbrev pub opens : CharClass → Bool → Bool
+opens NewLine was = false
+opens Bell was = was
+opens Silent was = was
+opens _ was = true
+
+abbrev pub is_open_after : Bool → List ℕ → Bool
+is_open_after was [] = was
+is_open_after was (c ∷ cs) = is_open_after (opens (class_of c) was) cs

@@ -1,12 +1,11 @@
 -- The definitions at small texts, each by computing.
-use Rattle.std.specs.Prelude.{◌≡◌, true, false, [], ◌∷◌, codes, refl}
+use Rattle.std.specs.Prelude.{◌≡◌, ℕ, Bool, true, false, List, [], ◌∷◌, codes, map, encode_utf8_all, refl}
 use Rattle.std.specs.Str.{chars}
 use Rattle.std.specs.Char.{encode_utf8}
-use Rattle.std.specs.Fmt.{digits}
-use Rattle.text_spec.specs.Characters.{class_of}
+use Rattle.text_spec.specs.Characters.{class_of, is_open_after}
 use Rattle.text_spec.specs.Shown.{shown}
 use Rattle.text_spec.specs.Ends.{ends_line, ends_sentence}
-use Rattle.text_spec.specs.Views.{text_view, counts_line, aware_view, aware_title, source_view, label}
+use Rattle.text_spec.specs.Views.{label, label_after}
 
 -- `ab`, three erasures, `c`
 three_erasures : shown (97 ∷ 98 ∷ 8 ∷ 8 ∷ 8 ∷ 99 ∷ []) ≡ record { lines = (99 ∷ []) ∷ []; bells = 0 }
@@ -56,38 +55,81 @@ line_separator : shown (97 ∷ 0xE2 ∷ 0x80 ∷ 0xA8 ∷ 98 ∷ []) ≡ record 
 unfolding shown class_of chars encode_utf8
 line_separator = refl
 
-view_of_two_letters : text_view (shown (65 ∷ 66 ∷ [])) (record { packets = 4; used = 4; refused = 0; foreign = 0 })
-    ≡ codes "| AB\n-- bells 0\n-- packets 4 used 4 refused 0 foreign 0\n"
-unfolding shown class_of chars encode_utf8 digits text_view counts_line
-view_of_two_letters = refl
+-- ---- ends
+-- whether these characters end a sentence
+abbrev of_sentence : List ℕ → Bool
+of_sentence cs = ends_sentence (encode_utf8_all cs)
 
-view_of_nothing : text_view (shown []) (record { packets = 0; used = 0; refused = 0; foreign = 0 })
-    ≡ codes "| \n-- bells 0\n-- packets 0 used 0 refused 0 foreign 0\n"
-unfolding shown class_of chars encode_utf8 digits text_view counts_line
-view_of_nothing = refl
-
-sentence_end : ends_sentence (codes "Hi. ") ≡ true
-unfolding ends_sentence
+-- `Hi. ` does, and without the space it does not; nor does `Hi, `
+sentence_end : of_sentence (codes "Hi. ") ≡ true
+unfolding ends_sentence chars encode_utf8
 sentence_end = refl
 
-no_sentence_end : ends_sentence (codes "Hi.") ≡ false
-unfolding ends_sentence
+no_sentence_end : of_sentence (codes "Hi.") ≡ false
+unfolding ends_sentence chars encode_utf8
 no_sentence_end = refl
 
+no_comma_end : of_sentence (codes "Hi, ") ≡ false
+unfolding ends_sentence chars encode_utf8
+no_comma_end = refl
+
+-- a closing mark may stand between, one alone
+quoted_end : map of_sentence (codes "Hi!\" " ∷ codes "(no?) " ∷ (0x2026 ∷ 0x201D ∷ 0x20 ∷ []) ∷ []) ≡ true ∷ true ∷ true ∷ []
+unfolding ends_sentence chars encode_utf8
+quoted_end = refl
+
+no_quoted_end : map of_sentence (codes "Hi!\"" ∷ codes "Hi!') " ∷ codes "Hi! \" " ∷ []) ≡ false ∷ false ∷ false ∷ []
+unfolding ends_sentence chars encode_utf8
+no_quoted_end = refl
+
+-- the Arabic question mark and full stop, the danda, and the ellipsis want a space
+stops_with_space : map (λ c. of_sentence (c ∷ 0x20 ∷ [])) (0x061F ∷ 0x06D4 ∷ 0x0964 ∷ 0x2026 ∷ []) ≡ true ∷ true ∷ true ∷ true ∷ []
+unfolding ends_sentence chars encode_utf8
+stops_with_space = refl
+
+stops_alone : map (λ c. of_sentence (c ∷ [])) (0x061F ∷ 0x06D4 ∷ 0x0964 ∷ 0x2026 ∷ []) ≡ false ∷ false ∷ false ∷ false ∷ []
+unfolding ends_sentence chars encode_utf8
+stops_alone = refl
+
+-- wide stops want none, and may have a closing mark and a space
+wide_alone : map (λ c. of_sentence (c ∷ [])) (0x3002 ∷ 0xFF01 ∷ 0xFF0E ∷ 0xFF1F ∷ []) ≡ true ∷ true ∷ true ∷ true ∷ []
+unfolding ends_sentence chars encode_utf8
+wide_alone = refl
+
+wide_quoted : map (λ c. of_sentence (0x3002 ∷ c ∷ [])) (0x300D ∷ 0x300F ∷ 0xFF09 ∷ 0x201D ∷ 0x29 ∷ 0x20 ∷ []) ≡ true ∷ true ∷ true ∷ true ∷ true ∷ true ∷ []
+unfolding ends_sentence chars encode_utf8
+wide_quoted = refl
+
+wide_spaced : of_sentence (0x3002 ∷ 0x300D ∷ 0x20 ∷ []) ≡ true
+unfolding ends_sentence chars encode_utf8
+wide_spaced = refl
+
+-- one closing mark and one space at most, in this order
+no_wide_end : map of_sentence ((0x3002 ∷ 0x300D ∷ 0x300F ∷ []) ∷ (0x3002 ∷ 0x20 ∷ 0x20 ∷ []) ∷ (0x3002 ∷ 0x20 ∷ 0x300D ∷ []) ∷ (0x2E ∷ 0x300D ∷ 0x20 ∷ []) ∷ []) ≡ false ∷ false ∷ false ∷ false ∷ []
+unfolding ends_sentence chars encode_utf8
+no_wide_end = refl
+
 line_end : ends_line (97 ∷ 0xE2 ∷ 0x80 ∷ 0xA8 ∷ []) ≡ true
-unfolding ends_line encode_utf8
+unfolding ends_line chars encode_utf8
 line_end = refl
 
 no_line_end : ends_line [] ≡ false
-unfolding ends_line encode_utf8
+unfolding ends_line chars encode_utf8
 no_line_end = refl
 
--- an aware terminal with one source
-view_of_one_source : aware_view (codes "Bob") (record { name = codes "Cy"; display = shown (codes "yes") } ∷ []) (record { packets = 3; used = 3; refused = 0; foreign = 0 })
-    ≡ codes "== Bob aware\nCy: yes\n-- Cy bells 0\n-- packets 3 used 3 refused 0 foreign 0\n"
-unfolding shown class_of chars encode_utf8 digits aware_view aware_title source_view counts_line
-view_of_one_source = refl
+-- a bell behind a letter leaves the line open, and one behind a new line does not open it
+open_line : is_open_after false (97 ∷ 7 ∷ []) ≡ true
+unfolding class_of
+open_line = refl
+
+closed_line : is_open_after true (10 ∷ 7 ∷ 0xFEFF ∷ []) ≡ false
+unfolding class_of
+closed_line = refl
 
 label_of_bob : label (codes "Bob") ≡ codes "[Bob] "
 unfolding label
 label_of_bob = refl
+
+label_of_cy : label_after true (codes "Cy") ≡ 0xE2 ∷ 0x80 ∷ 0xA8 ∷ codes "[Cy] "
+unfolding label label_after encode_utf8
+label_of_cy = refl

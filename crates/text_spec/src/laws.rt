@@ -1,10 +1,10 @@
 //! Laws of the definitions, each the contract of a function that does nothing.
-ghost use Rattle.std.specs.Prelude.{◌≡◌, ◌==◌, ◌↔◌, ℕ, ◌+◌, ◌<◌, ◌≤◌, true, false, ◌&&◌, List, [], ◌∷◌, ◌++◌, length, All, chars, encode_utf8_all, IsUtf8};
+ghost use Rattle.std.specs.Prelude.{◌≡◌, ◌==◌, ℕ, ◌+◌, ◌<◌, ◌≤◌, true, false, ◌&&◌, List, [], ◌∷◌, ◌++◌, length, reverse, All, chars, encode_utf8_all, IsUtf8};
 ghost use Rattle.std.specs.List.{concat, list_all};
 ghost use Rattle.std.specs.Str.{all_scalars};
 ghost use Rattle.text_spec.specs.declared.classes.CharClass.TheVariants.{Bell, Erase, NewLine, Print, Silent};
 ghost use Rattle.text_spec.specs.Characters.{class_of, is_bell, is_erasable, is_erasure, is_print};
-ghost use Rattle.text_spec.specs.Ends.{ends_in};
+ghost use Rattle.text_spec.specs.Ends.{from_end};
 ghost use Rattle.text_spec.specs.Shown.{begins_with_lf, bells, ends_with_cr, shown, signs, survivors, without_last};
 
 /// One more sign at the end of a text: what survives is what a stack holds.
@@ -68,9 +68,7 @@ pub fn lines()
     ensures short { (text : List ℕ) → IsUtf8 text → length (concat (shown text).lines) ≤ length text }
 {}
 
-/// In UTF-8 a text ends with the octets of some characters exactly where its characters end with them.
+/// Read from its end a text in UTF-8 is its characters, the last one first.
 pub fn ends()
-    ensures { (cs ds : List ℕ) → all_scalars cs ≡ true → all_scalars ds ≡ true
-        → (ends_in (encode_utf8_all cs) (encode_utf8_all ds) ≡ true)
-        ↔ ((front : List ℕ) × (cs ≡ front ++ ds)) }
+    ensures { (cs : List ℕ) → all_scalars cs ≡ true → from_end (encode_utf8_all cs) ≡ reverse cs }
 {}

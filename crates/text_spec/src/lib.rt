@@ -2,8 +2,6 @@
 #![tactic(auto)]
 
 mod classes;
-mod counts;
 pub mod laws;
 
 pub use classes::CharClass;
-pub use counts::Counts;

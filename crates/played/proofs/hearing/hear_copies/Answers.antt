@@ -1,7 +1,7 @@
 use Rattle.std.proofs.Common.{◌<◌, List, length, sym, subst, arith}
 use Rattle.std.specs.Prelude.{flat_map}
 use Rattle.std.proofs.lemmas.List.{take_all}
-use Rattle.command_spec.specs.Mixing.{item_of}
+use Rattle.mixer_spec.specs.Arrives.{item_of}
 use Rattle.fault_plan.specs.declared.arriving.Arrival.{Arrival}
 use Rattle.fault_plan.specs.Arriving.{copies_of}
 use Rattle.terminal.specs.Terminals.{Listens}

@@ -1,6 +1,6 @@
 use Rattle.std.proofs.Common.{ℕ, ◌≤◌, List, [], take}
 use Rattle.std.specs.Prelude.{flat_map}
-use Rattle.command_spec.specs.Mixing.{item_of}
+use Rattle.mixer_spec.specs.Arrives.{item_of}
 use Rattle.fault_plan.specs.Arriving.{copies_of}
 use Rattle.terminal.specs.declared.confs.TermConf.{TermConf}
 use Rattle.terminal.specs.Terminals.{counts_of, IsOpen, Listens}

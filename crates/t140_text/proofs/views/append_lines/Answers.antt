@@ -1,7 +1,7 @@
 use Rattle.std.proofs.Common.{◌++◌, ap, ◌∙◌, lit<}
 use Rattle.std.proofs.lemmas.Iterator.Consumers.{YieldsList-end}
 use Rattle.std.proofs.lemmas.Iterator.Splits.{YieldsList-from_str_split}
-use Rattle.text_spec.specs.Views.{printed_lines}
+use Rattle.view_spec.specs.Views.{printed_lines}
 use Rattle.t140_text.proofs.views.append_lines.Goals as goal
 
 pub returns-clause-ok : goal.returns-clause-ok

@@ -1,5 +1,5 @@
 use Rattle.std.proofs.Common.{◌≡◌, ◌++◌, map}
-use Rattle.text_spec.specs.Views.{printed_lines}
+use Rattle.view_spec.specs.Views.{printed_lines}
 use Rattle.t140_text.proofs.views.append_lines.Given as goal
 
 abbrev pub invariant-loop-line : goal.invariant-loop-line

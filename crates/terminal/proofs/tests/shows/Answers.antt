@@ -11,5 +11,5 @@ loop-number-preserved c =
       few = omega (arith, i.few, c.hand_in_unless_lost.ensures.few);
     }
 
-pub append_aware_view-requires-clause-each : goal.append_aware_view-requires-clause-each
-append_aware_view-requires-clause-each c = λ w. let i = c.loop-number.invariant in sym (c.in_ok-finish.ensures.heard asked writers i.stands.0 i.stands.1).each
+pub append_view-requires-clause-fits : goal.append_view-requires-clause-fits
+append_view-requires-clause-fits c = λ w. let i = c.loop-number.invariant in sym (c.in_ok-finish.ensures.heard asked writers i.stands.0 i.stands.1).each

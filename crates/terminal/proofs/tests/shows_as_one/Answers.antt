@@ -11,5 +11,5 @@ loop-number-preserved c =
       few = omega (arith, i.few, c.hand_in.ensures.few);
     }
 
-pub append_unaware_view-requires-clause-one : goal.append_unaware_view-requires-clause-one
-append_unaware_view-requires-clause-one c = λ w. let i = c.loop-number.invariant in (c.in_ok-finish.ensures.heard asked (9000 ∷ []) i.stands.0 i.stands.1).each
+pub append_view-requires-clause-fits : goal.append_view-requires-clause-fits
+append_view-requires-clause-fits c = λ w. let i = c.loop-number.invariant in (c.in_ok-finish.ensures.heard asked (9000 ∷ []) i.stands.0 i.stands.1).each

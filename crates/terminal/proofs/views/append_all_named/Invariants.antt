@@ -1,6 +1,6 @@
 use Rattle.std.proofs.Common.{◌≡◌, ◌++◌, drop}
 use Rattle.std.specs.Prelude.{flat_map}
-use Rattle.text_spec.specs.Views.{source_view}
+use Rattle.view_spec.specs.Views.{source_view}
 use Rattle.t140_text.specs.Displays.{Extends}
 use Rattle.terminal.specs.Views.{named}
 use Rattle.terminal.proofs.views.append_all_named.Given as goal

@@ -1,0 +1,4 @@
+pub mod Views
+pub mod Seen
+pub mod Markers
+pub mod Examples

@@ -1,0 +1,40 @@
+-- The markers that are heard of a source, and the texts that are none (profile).
+use Rattle.std.specs.Prelude.{ℕ, ◌+◌, Bool, Option, None, Some, List, [], ◌∷◌, ◌++◌, filter, if◌then◌else◌}
+use Rattle.wire_spec.specs.Packets.{Arrival}
+use Rattle.wire_spec.specs.Dump.{Item}
+use Rattle.stream_spec.specs.Numbering.{Numbered, numbered, used, has_number, first_number}
+use Rattle.stream_spec.specs.Hearing.{is_marked, is_packet_of, new_texts}
+use Rattle.stream_spec.specs.Kept as kept
+use Rattle.view_spec.specs.Seen.{Reception, arrivals_at}
+
+-- What is heard are markers and new texts: a marker is a text of its own before the new texts of a packet (`piece`). So a
+-- U+FFFD that was typed is none.
+-- how many of these packets of one source have a marker before their texts, where prev is the packet before them
+abbrev pub markers_over : (ℕ → Bool) → ℕ → Option Numbered → List Numbered → ℕ
+markers_over present first prev [] = 0
+markers_over present first prev (b ∷ bs) =
+    (if is_marked present first prev b then 1 else 0) + markers_over present first (Some b) bs
+
+-- how many of the texts in `heard` are markers
+abbrev pub markers : ℕ → List Arrival → ℕ → ℕ
+markers wait a s =
+    markers_over (has_number (used wait (numbered a))) (first_number 0 (numbered a)) None
+    (filter (is_packet_of s) (used wait (numbered a)))
+
+abbrev pub markers_at : Reception → List Item → ℕ → ℕ
+markers_at r came source = markers r.wait (arrivals_at r came) source
+
+-- the new texts of these packets of one source, without markers
+abbrev pub new_texts_over : Option Numbered → List Numbered → List (List ℕ)
+new_texts_over prev [] = []
+new_texts_over prev (b ∷ bs) = new_texts prev b ++ new_texts_over (Some b) bs
+
+-- all that is heard of the source s but the markers
+abbrev pub new_texts_heard : ℕ → List Arrival → ℕ → List (List ℕ)
+new_texts_heard wait a s = new_texts_over None (filter (is_packet_of s) (used wait (numbered a)))
+
+-- the marks among what places tell of a history
+abbrev pub marks_in : List kept.Item → ℕ
+marks_in [] = 0
+marks_in (kept.Mark ∷ items) = 1 + marks_in items
+marks_in (kept.Block x ∷ items) = marks_in items

@@ -1,0 +1,7 @@
+//! What is seen at a terminal, what is counted there, and what is printed of it: definitions, and hardly any code.
+#![tactic(auto)]
+
+mod counts;
+pub mod laws;
+
+pub use counts::Counts;
