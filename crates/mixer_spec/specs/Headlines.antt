@@ -13,6 +13,7 @@ use Rattle.mixer_spec.specs.Table.{Table, chunks_taken, shared}
 use Rattle.mixer_spec.specs.Core.{Event, after}
 use Rattle.mixer_spec.specs.Plain.{IsOverWith}
 use Rattle.mixer_spec.specs.Headline.{Headline, HeadlineAt, Hop, IsHop, OneHop, all_sent, hears}
+use Rattle.mixer_spec.specs.declared.limits.TheConstants.{PLACES}
 use Rattle.mixer_spec.specs.Bridged.{AreCounted, Bridged, BridgedAsOne, IsConferenceMixed, IsHeardOf, IsMixed, IsOut, IsPair, IsPart, IsRunning, IsSentBy, SharedIsPart, before_shared, hop_from, hop_to, leg_chunks, leg_heard, shared_texts, told_at, waiting_texts}
 
 -- ---- at the end of plain mixing
@@ -178,7 +179,7 @@ abbrev pub ConferenceEnds : Type 0
 ConferenceEnds =
     (c : Conf) (inputs : ℕ → List ℕ)
     → IsConference c
-    → length c.legs ≤ 16
+    → length c.legs ≤ PLACES
     → (n : ℕ) × (table : Table) × IsOverWith (setup c) c.tick n (leg_chunks c inputs) table
 
 -- At each terminal, aware or not, what it shares of a leg stands in what is heard of the leg.

@@ -5,7 +5,7 @@ use Rattle.stream_spec.specs.History.{Lawful, placed}
 use Rattle.stream_spec.specs.Own.{Own, own_packet}
 use Rattle.stream_spec.specs.SentLaws.{AnyComes}
 use Rattle.mixer_spec.specs.Setups.{Setup, IsSetup, FitsHalfCircle}
-use Rattle.mixer_spec.specs.Table.{Mixed, Table, history_to}
+use Rattle.mixer_spec.specs.Table.{TurnEntry, Table, history_to}
 use Rattle.mixer_spec.specs.Core.{Event, after, turns_in}
 use Rattle.mixer_spec.specs.Plain.{IsOverWith}
 use Rattle.mixer_spec.specs.Laws.{AllTexts, history_at}
@@ -28,7 +28,7 @@ HistoriesAreOwn =
 -- The packets that were sent are those of the history.
 abbrev pub PacketsAreOwn : Type 0
 PacketsAreOwn =
-    (s : Setup) (j : ℕ) (past : List Mixed)
+    (s : Setup) (j : ℕ) (past : List TurnEntry)
     → packets_to s j past ≡ map (own_packet (history_to s j past)) (placed (history_to s j past))
 
 -- Whatever comes of these packets, in whatever order, comes from the history.

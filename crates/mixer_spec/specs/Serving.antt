@@ -4,7 +4,7 @@ use Rattle.wire_spec.specs.Packets.{Packet, Arrival}
 use Rattle.stream_spec.specs.Ready.{Chunk}
 use Rattle.stream_spec.specs.Own.{Sent, has_text_in}
 use Rattle.mixer_spec.specs.Setups.{Setup, IsSetup, IsAnother, gap, other_places, stream}
-use Rattle.mixer_spec.specs.Table.{Mixed, Post, Table, batch, is_due, last_media, new_packet, next_media, rank, sent_from, turned}
+use Rattle.mixer_spec.specs.Table.{TurnEntry, Post, Table, batch, is_due, last_media, new_packet, next_media, rank, sent_from, turned}
 use Rattle.mixer_spec.specs.Core.{Event, Turn, after, turns_in}
 use Rattle.mixer_spec.specs.Laws.{AllTexts, IsNew, IsWaiting, Tight, count_of, packets_at}
 
@@ -83,7 +83,7 @@ TurnSendsOne =
     (s : Setup) (now j : ℕ) (table : Table)
     → let before = (table.terminals j).past in
     let after = ((turned s now table).terminals j).past in
-    (after ≡ before) ⊎ ((e : Mixed) × (after ≡ e ∷ before) × IsNew now (next_media s.step table.media now) e)
+    (after ≡ before) ⊎ ((e : TurnEntry) × (after ≡ e ∷ before) × IsNew now (next_media s.step table.media now) e)
 
 -- the packet that a turn adds at the terminal j, if there is one
 abbrev pub packet_of_turn : Setup → ℕ → ℕ → Table → List Packet

@@ -7,7 +7,7 @@ use Rattle.wire_spec.specs.Packets.{Packet}
 use Rattle.stream_spec.specs.Own.{Stream}
 use Rattle.mixer_spec.specs.Rounds.{count_below}
 use Rattle.mixer_spec.specs.Setups.{Setup, stream}
-use Rattle.mixer_spec.specs.Table.{Mixed, Terminal, Post, Seats, Table, is_at, is_seated, leg_in, new_packet, turn_at, turned_to, turn_aware, turn_unaware, posts_below}
+use Rattle.mixer_spec.specs.Table.{TurnEntry, Terminal, Post, Seats, Table, is_at, is_seated, leg_in, new_packet, turn_at, turned_to, turn_aware, turn_unaware, posts_below}
 use Rattle.mixer_spec.proofs.Rounds.{count_all}
 use Rattle.mixer_spec.proofs.Seats.{leg_in_some}
 use Rattle.mixer_turn.specs.Turns.{AreHeld}
@@ -73,7 +73,7 @@ some_left s seats n h e =
     omega (arith, all, same, one)
 
 -- ---- how many packets there are
-pub one_or_none : (c : Stream) (before after : List Mixed) → length (new_packet c before after) ≤ 1
+pub one_or_none : (c : Stream) (before after : List TurnEntry) → length (new_packet c before after) ≤ 1
 one_or_none c before [] = omega arith
 one_or_none c before (e ∷ past) = go (length past == length before)
   where
@@ -81,7 +81,7 @@ one_or_none c before (e ∷ past) = go (length past == length before)
     go true = omega arith
     go false = omega arith
 
-none_new : (c : Stream) (past : List Mixed) → new_packet c past past ≡ []
+none_new : (c : Stream) (past : List TurnEntry) → new_packet c past past ≡ []
 none_new c [] = refl
 none_new c (e ∷ past) = rw (ne_eqb (length past) (suc (length past)) (λ q. omega (arith, q))) refl
 

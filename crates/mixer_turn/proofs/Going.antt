@@ -5,7 +5,7 @@ use Rattle.std.proofs.lemmas.Bool.{cases_eq, eq-eqb, ne_eqb}
 use Rattle.stream_spec.specs.Ready.{Chunk}
 use Rattle.wire_spec.specs.Packets.{Packet, Arrival}
 use Rattle.mixer_spec.specs.Setups.{Setup, stream}
-use Rattle.mixer_spec.specs.Table.{Call, Admit, Hush, Leave, Offer, Turn, Mixed, Post, Taken, Table, chunks_taken, shared, is_given, has_room, give, given, free_place, come_to, packets, batch, new_packet, turned, is_idle, after_calls}
+use Rattle.mixer_spec.specs.Table.{Call, Admit, Hush, Leave, Offer, Turn, TurnEntry, Post, Taken, Table, chunks_taken, shared, is_given, has_room, give, given, free_place, come_to, packets, batch, new_packet, turned, is_idle, after_calls}
 use Rattle.mixer_spec.specs.Calls.{took}
 use Rattle.mixer_spec.specs.Laws.{carried}
 use Rattle.mixer_spec.proofs.Lists.{nil, set_same, set_other}

@@ -9,7 +9,7 @@ use Rattle.stream_spec.specs.Lists.{In}
 use Rattle.stream_spec.specs.Own.{Stream, Sendable, packet_after}
 use Rattle.red_window.proofs.Fitting.{few_octets}
 use Rattle.mixer_spec.specs.Setups.{Setup, IsSetup, stream}
-use Rattle.mixer_spec.specs.Table.{Call, Admit, Hush, Leave, Offer, Turn, Mixed, Table, is_given, has_room, give, given, free_place, come_to, sents, packets, after_calls}
+use Rattle.mixer_spec.specs.Table.{Call, Admit, Hush, Leave, Offer, Turn, TurnEntry, Table, is_given, has_room, give, given, free_place, come_to, sents, packets, after_calls}
 use Rattle.mixer_spec.specs.Calls.{turns_made}
 use Rattle.mixer_spec.proofs.Seats.{leave_with}
 use Rattle.mixer_spec.proofs.OnePacket.{one_law}
@@ -23,9 +23,9 @@ use Rattle.rtt_base.specs.declared.limits.TheConstants.{MOST_PACKET_OCTETS}
 
 -- ---- how many, and when
 -- at most k, each at an early moment
-record IsFewOf (k : ℕ) (past : List Mixed) : Type 0 where
+record IsFewOf (k : ℕ) (past : List TurnEntry) : Type 0 where
   few : length past ≤ k
-  early : (e : Mixed) → In e past → e.at < 2 ^ 32
+  early : (e : TurnEntry) → In e past → e.at < 2 ^ 32
 
 sent_few : (s : Setup) (calls : List Call) (j : ℕ) → AreEarly calls → IsFewOf (turns_made calls) ((after_calls s calls).terminals j).past
 sent_few s [] j a = record { few = omega arith; early = λ e i. absurd i }
@@ -50,7 +50,7 @@ sent_few s (Turn now ∷ past) j a = elim (one_law s now j (after_calls s past))
   | inl e ↦ let h = sent_few s past j a.1 in subst (IsFewOf (suc (turns_made past))) (sym e) (record { few = omega (arith, h.few); early = h.early })
   | inr x ↦ let h = sent_few s past j a.1 in subst (IsFewOf (suc (turns_made past))) (sym x.1) (record {
     few = omega (arith, h.few);
-    early = λ e i. elim i [ inl q ↦ let m = ap (λ (y : Mixed). y.at) q in omega (arith, m, x.2.at, a.0) | inr k ↦ h.early e k ];
+    early = λ e i. elim i [ inl q ↦ let m = ap (λ (y : TurnEntry). y.at) q in omega (arith, m, x.2.at, a.0) | inr k ↦ h.early e k ];
   })
 ]
 
@@ -66,12 +66,12 @@ push_record : (pts : Pts) (xs : List Arrival) (x : Arrival) → AllByRecursion I
 push_record pts [] x a p = (p, tt)
 push_record pts (y ∷ xs) x a p = (a.0, push_record pts xs x a.1 p)
 
-short_records : (pts : Pts) (c : Stream) (past : List Mixed) → c.gens ≤ 3 → Sendable c (sents past) → ((e : Mixed) → In e past → e.at < 2 ^ 32) → AllByRecursion IsShortRecord (map (record_of pts) (packets c past))
+short_records : (pts : Pts) (c : Stream) (past : List TurnEntry) → c.gens ≤ 3 → Sendable c (sents past) → ((e : TurnEntry) → In e past → e.at < 2 ^ 32) → AllByRecursion IsShortRecord (map (record_of pts) (packets c past))
 short_records pts c [] g d f = tt
 short_records pts c (e ∷ past) g d f =
     push_record pts (packets c past) (record { time = e.at; packet = packet_after c (sents past) e.sent }) (short_records pts c past g d.1 (λ x i. f x (inr i))) (f e (inl refl), few_octets pts c (sents past) e.sent g d)
 
-count_packets : (c : Stream) (past : List Mixed) → length (packets c past) ≡ length past
+count_packets : (c : Stream) (past : List TurnEntry) → length (packets c past) ≡ length past
 count_packets c [] = refl
 count_packets c (e ∷ past) = omega (arith, count_packets c past, length-append (packets c past) (record { time = e.at; packet = packet_after c (sents past) e.sent } ∷ []))
 

@@ -1,11 +1,12 @@
 -- Whatever a turn sends may be sent.
 use Rattle.std.proofs.Common.{◌≡◌, ℕ, suc, ◌+◌, ◌*◌, ◌^◌, ◌<◌, ◌≤◌, Bool, true, false, cond, inl, inr, Option, Some, None, List, [], ◌∷◌, length, refl, ap, subst, sym, ◌∙◌, arith}
-use Rattle.std.specs.Prelude.{is_some, IfSome}
+use Rattle.std.specs.Prelude.{is_some, nat_le, IfSome}
 use Rattle.std.proofs.lemmas.Bool.{cases_lt, eq-eqb}
 use Rattle.stream_spec.specs.Own.{Sent, sent_of, has_text_in, nth}
+use Rattle.stream_spec.specs.Typed.{longest_step}
 use Rattle.aware_output.specs.Speakers.{IsNext}
 use Rattle.mixer_spec.specs.Setups.{Setup, IsSetup, gap, stream}
-use Rattle.mixer_spec.specs.Table.{Call, Mixed, Terminal, Seats, Table, sents, last_media, is_seated, next_media, turn_aware, turn_unaware, turn_at, turned, after_calls}
+use Rattle.mixer_spec.specs.Table.{Call, TurnEntry, Terminal, Seats, Table, sents, last_media, is_seated, next_media, turn_aware, turn_unaware, turn_at, turned, after_calls}
 use Rattle.mixer_spec.specs.Core.{turns_in}
 use Rattle.mixer_spec.specs.Calls.{took, turns_made}
 use Rattle.mixer_spec.specs.Laws.{Tight}
@@ -29,8 +30,16 @@ near_last : (g n most media : ℕ) (zs : List Sent) → n ≤ most → ((m : ℕ
 near_last g n most media [] l f h = tt
 near_last g n most media (z ∷ zs) l f h = let r = f z.media h refl in omega (arith, r, l)
 
+-- a step of 5000 is never too long
+within_step : (g n : ℕ) → n ≤ 5000 → n ≤ longest_step g
+within_step g n l = go (nat_le g 2)
+  where
+    go : (b : Bool) → n ≤ cond b 8000 5000
+    go true = omega (arith, l)
+    go false = l
+
 -- the last of what was sent could be sent
-last_is_next : (s : Setup) → gap s ≤ 5000 → (j k t : ℕ) (e : Mixed) (past : List Mixed) → s.step * k < 2 ^ 31 → Paced s j k (Some t) (e ∷ past) → IsNext (stream s j) (sents past) e.sent
+last_is_next : (s : Setup) → gap s ≤ 5000 → (j k t : ℕ) (e : TurnEntry) (past : List TurnEntry) → s.step * k < 2 ^ 31 → Paced s j k (Some t) (e ∷ past) → IsNext (stream s j) (sents past) e.sent
 last_is_next s near j k t e past span p = record {
   later = λ x i. let r = sent_in past x i in
       let l = p.falling.0 r.0 r.1 in
@@ -38,7 +47,7 @@ last_is_next s near j k t e past span p = record {
       let b = p.within e (inl refl) in
       let m : x.media ≡ r.0.sent.media = ap (λ (y : Sent). y.media) r.2 in
       (omega (arith, l, m), omega (arith, a, b, m, span));
-  near = near_last (s.gens j) (gap s) 5000 e.sent.media (sent_of e.sent.source (sents past)) near own.0;
+  near = near_last (s.gens j) (gap s) (longest_step (s.gens j)) e.sent.media (sent_of e.sent.source (sents past)) (within_step (s.gens j) (gap s) near) own.0;
   text = p.texts e (inl refl);
 }
   where
@@ -53,7 +62,7 @@ none_there s seats j now t d h l = go (seats.place j) refl
     go None e = refl
     go (Some p) e = let b = (h.below j p e).1 in absurd (omega (arith, b, l))
 
-longer : (e : Mixed) (past : List Mixed) → past ≡ e ∷ past → ⊥
+longer : (e : TurnEntry) (past : List TurnEntry) → past ≡ e ∷ past → ⊥
 longer e past q = let n : length past ≡ suc (length past) = ap length q in omega (arith, n)
 
 pub any_law : (s : Setup) (calls : List Call) (now j : ℕ) → MayTurn s calls

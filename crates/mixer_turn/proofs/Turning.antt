@@ -6,7 +6,7 @@ use Rattle.rtt_base.specs.declared.text_packets.Pts.{Pts}
 use Rattle.wire_spec.specs.Packets.{Packet}
 use Rattle.wire_spec.specs.SentPackets.{packet_written}
 use Rattle.mixer_spec.specs.Setups.{Setup, stream}
-use Rattle.mixer_spec.specs.Table.{Mixed, Terminal, Seats, Taken, Table, is_seated, new_packet, turn_aware, turn_unaware, turn_at, turned_to, posts_below}
+use Rattle.mixer_spec.specs.Table.{TurnEntry, Terminal, Seats, Taken, Table, is_seated, new_packet, turn_aware, turn_unaware, turn_at, turned_to, posts_below}
 use Rattle.mixer_spec.specs.Table as mixed
 use Rattle.mixer_spec.proofs.Lists.{nil, set_same, set_other}
 use Rattle.slot_table.specs.Lanes.{Waiting}

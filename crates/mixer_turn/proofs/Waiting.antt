@@ -6,7 +6,7 @@ use Rattle.stream_spec.specs.Ready.{Chunk}
 use Rattle.mixer_spec.specs.Chunks.{front, behind}
 use Rattle.mixer_spec.specs.Rounds.{set_at}
 use Rattle.mixer_spec.specs.Setups.{Setup, IsSetup}
-use Rattle.mixer_spec.specs.Composed.{Given, Asked}
+use Rattle.mixer_spec.specs.Composed.{Answer, Asked}
 use Rattle.mixer_spec.specs.Table.{Call, Admit, Hush, Leave, Offer, Turn, Terminal, Seats, Taken, Table, chunks_taken, shared, leg_in, is_seated, is_given, has_room, give, given, free_place, come_to, served, serve_leg, serve, turn_aware, is_asked, answer_at, compose, turn_unaware, turn_at, next_media, after_calls}
 use Rattle.mixer_spec.specs.Calls.{took}
 use Rattle.mixer_spec.specs.Laws.{AreTexts, AreShort, AllGiven, Part, carried}
@@ -50,7 +50,7 @@ serve_own : (s : Setup) (seats : Seats) (j now t : ℕ) (d : Terminal) (o : Opti
 serve_own s seats j now t d None e = e
 serve_own s seats j now t d (Some p) e = serve_leg_own s j now t p d (leg_in seats s.legs p) e
 
-compose_own : (s : Setup) (j now t : ℕ) (d : Terminal) (o : Option Given) → ((g : Given) → o ≡ Some g → g.chunks ++ g.rest ≡ d.waits g.source) → d.waits j ≡ [] → (compose s j now t d o).waits j ≡ []
+compose_own : (s : Setup) (j now t : ℕ) (d : Terminal) (o : Option Answer) → ((g : Answer) → o ≡ Some g → g.chunks ++ g.rest ≡ d.waits g.source) → d.waits j ≡ [] → (compose s j now t d o).waits j ≡ []
 compose_own s j now t d None f e = e
 compose_own s j now t d (Some g) f e = rest_own d.waits g.source j g.chunks g.rest (f g refl) e
 
@@ -154,7 +154,7 @@ turn_asked s seats j now t d e = go (is_seated seats j) (s.aware j)
     serve_is None = omega (arith, e)
     serve_is (Some p) = serve_leg_is p (leg_in seats s.legs p)
 
-    compose_is : (o : Option Given) → least_ask (compose s j now t d o).asks ≤ t + 1
+    compose_is : (o : Option Answer) → least_ask (compose s j now t d o).asks ≤ t + 1
     compose_is None = omega arith
     compose_is (Some g) = omega arith
 

@@ -10,6 +10,7 @@ use Rattle.outlet.specs.declared.outlets.Outlet.{Outlet}
 use Rattle.outlet.specs.Outlets as outlets
 use Rattle.mixer_turn.specs.Allowed.{AreAllowed}
 use Rattle.mixer_turn.specs.States.{State}
+use Rattle.rtt_base.specs.declared.limits.TheConstants.{LONGEST_STEP}
 
 -- each stands for the terminal of its leg, with its payload types
 abbrev pub AreOutlets : Setup → (ℕ → Pts) → List Outlet → (ℕ → Terminal) → Type 0
@@ -26,7 +27,7 @@ pub record Keeps (s : Setup) (pts : ℕ → Pts) (m : State) (table : Table) : T
 -- These calls were made of the mixer, each where it is allowed.
 pub record StandsFor (s : Setup) (pts : ℕ → Pts) (m : State) (calls : List Call) : Type 0 where
   pub setup : IsSetup s
-  pub near : gap s ≤ 5000
+  pub near : gap s ≤ LONGEST_STEP
   pub step : s.step ≡ 200
   pub allowed : AreAllowed s calls
   pub keeps : Keeps s pts m (after_calls s calls)

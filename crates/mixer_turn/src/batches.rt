@@ -1,12 +1,10 @@
 //! The packets of a turn.
 ghost use Rattle.std.specs.Prelude.{◌≡◌, [], length, IfOk};
 
+use mixer_spec::limits::PLACES;
 use rtt_base::{NoMemory, Packet};
 use std::alloc::Global;
 use std::marker::Model;
-
-/// How many packets a turn sends at most: one to the terminal of each leg that holds a place.
-pub(crate) const PLACES: usize = 16;
 
 /// A packet to a terminal.
 #[derive(Drop)]

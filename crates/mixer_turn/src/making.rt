@@ -4,11 +4,11 @@ ghost use Rattle.file_spec.specs.Conf.{is_name};
 ghost use Rattle.mixer_spec.specs.Setups.{Setup, setup};
 ghost use Rattle.mixer_spec.specs.Table.{empty};
 ghost use Rattle.slot_table.specs.Standing as slots;
-ghost use Rattle.conf_text.specs.Lines.{conf_of};
+ghost use Rattle.conference.specs.Conferences.{conf_of};
 ghost use Rattle.mixer_turn.specs.Making.{AreMade, AreNamed, IsMade};
 
 use aware_output::OutConf;
-use conf_text::{Conf, LegLine};
+use conference::{Conf, LegLine};
 use outlet::Outlet;
 use rtt_base::{Name, NoMemory};
 use slot_table::Slots;

@@ -3,7 +3,7 @@ ghost use Rattle.std.specs.Prelude.{◌≡◌, ◌+◌, ◌^◌, ◌<◌, ◌↔
 ghost use Rattle.stream_spec.specs.Ready.{chunk_of};
 ghost use Rattle.mixer_spec.specs.Setups.{setup};
 ghost use Rattle.mixer_spec.specs.Table.{Admit, Hush, Leave, Offer, Turn, free_place, has_room, is_idle, may_leave};
-ghost use Rattle.conf_text.specs.Lines.{conf_of};
+ghost use Rattle.conference.specs.Conferences.{conf_of};
 ghost use Rattle.mixer_turn.specs.Making.{pts_at};
 
 use crate::batches::Batch;
@@ -11,7 +11,7 @@ use crate::looks::{are_quiet, is_done};
 use crate::making::{names_of, outlets_of, silent_slots, sources_of};
 use crate::turns::{next_media, turn_legs};
 use crate::waking::wake;
-use conf_text::Conf;
+use conference::Conf;
 use outlet::Outlet;
 use rtt_base::{Chunk, Full, Name, NoMemory, Text};
 use seating::Seating;

@@ -6,7 +6,8 @@ ghost use Rattle.mixer_spec.specs.Table.{Table, next_media};
 ghost use Rattle.outlet.specs.Outlets.{IsTurned, OfTurns, SameLeg, legs_of, next_turn};
 ghost use Rattle.mixer_turn.specs.Turns.{AreOutletsOf, IsPut, LegMayTurn, LegTurned, OfMixers, Reaches, AllTurned};
 
-use crate::batches::{Batch, PLACES, Post};
+use crate::batches::{Batch, Post};
+use mixer_spec::limits::PLACES;
 use outlet::Outlet;
 use rtt_base::{Name, Text};
 use seating::Seating;
@@ -54,7 +55,7 @@ impl Batch {
         slots: &mut Slots,
         text: &mut Text,
     )
-        requires room { length self.old < 16 }
+        requires room { length self.old < PLACES }
         requires slots { length slots.old ≡ legs_of outlet.old }
         requires names { length names.now ≡ legs_of outlet.old }
         requires seating { length seating.now.legs ≡ legs_of outlet.old }

@@ -6,7 +6,7 @@ use Rattle.rtt_base.specs.declared.text_packets.Pts.{Pts}
 use Rattle.rtt_base.specs.Buffers.{Appends}
 use Rattle.wire_spec.specs.SentPackets.{packet_written}
 use Rattle.stream_spec.specs.Own.{Sent, Stream, packet_after}
-use Rattle.mixer_spec.specs.Table.{Mixed, sents, new_packet}
+use Rattle.mixer_spec.specs.Table.{TurnEntry, sents, new_packet}
 use Rattle.red_window.proofs.Fitting.{few_octets}
 use Rattle.aware_output.specs.declared.outputs.OutConf.{OutConf}
 use Rattle.aware_output.specs.Confs.{stream_of}
@@ -16,12 +16,12 @@ use Rattle.outlet.specs.Turns.{Puts}
 use Rattle.rtt_base.specs.declared.limits.TheConstants.{MOST_PACKET_OCTETS}
 
 -- nothing was sent
-pub puts_none : (pts : Pts) (c : Stream) (past : List Mixed) (out : List ℕ) → Puts pts (new_packet c past past) false out
+pub puts_none : (pts : Pts) (c : Stream) (past : List TurnEntry) (out : List ℕ) → Puts pts (new_packet c past past) false out
 puts_none pts c [] out = refl
 puts_none pts c (e ∷ past) out = rw (ne_eqb (length past) (suc (length past)) (λ q. omega (arith, q))) refl
 
 -- one packet was
-pub puts_one : (pts : Pts) (c : Stream) (e : Mixed) (past : List Mixed) (out : List ℕ) → out ≡ packet_written pts (packet_after c (sents past) e.sent) → Puts pts (new_packet c past (e ∷ past)) true out
+pub puts_one : (pts : Pts) (c : Stream) (e : TurnEntry) (past : List TurnEntry) (out : List ℕ) → out ≡ packet_written pts (packet_after c (sents past) e.sent) → Puts pts (new_packet c past (e ∷ past)) true out
 puts_one pts c e past out w = rw (eq-eqb (length past) (length past) refl) (refl, w)
 
 -- ---- a packet that is put

@@ -2,7 +2,7 @@
 use Rattle.std.proofs.Common.{◌≡◌, ℕ, Bool, true, false, Option, List, [], ap, subst, sym, ◌∙◌, arith}
 use Rattle.std.specs.Prelude.{is_some}
 use Rattle.mixer_spec.specs.Rounds.{all_below}
-use Rattle.mixer_spec.specs.Composed.{Given, Asked, text_given, waits_here}
+use Rattle.mixer_spec.specs.Composed.{Answer, Asked, text_given, waits_here}
 use Rattle.mixer_spec.specs.Setups.{Setup}
 use Rattle.mixer_spec.specs.Table.{Table}
 use Rattle.mixer_spec.proofs.Done.{below_all}
@@ -25,8 +25,8 @@ passes s table c t due asks text new after h w n e p =
       given = sym (ap is_some none);
       text_is = e ∙ sym (ap text_given none);
       composer = p;
-      slots_stand = subst (λ (o : Option Given). slots.StandsFor s after (answered c.own o table)) (sym none) w;
-      rests = λ q. subst (λ (o : Option Given). NoneWaits s (answered c.own o table) c) (sym none) n;
+      slots_stand = subst (λ (o : Option Answer). slots.StandsFor s after (answered c.own o table)) (sym none) w;
+      rests = λ q. subst (λ (o : Option Answer). NoneWaits s (answered c.own o table) c) (sym none) n;
     }
 
 -- it is known that nothing waits, where that was found so

@@ -10,8 +10,8 @@ use Rattle.mixer_spec.specs.Chunks.{has_chunk}
 use Rattle.mixer_spec.proofs.Lists.{set_same, set_other}
 use Rattle.mixer_spec.specs.Laws.{AreTexts}
 use Rattle.mixer_spec.specs.Setups.{Setup, stream}
-use Rattle.mixer_spec.specs.Composed.{waits_here, Given, Asked, text_given, answer}
-use Rattle.mixer_spec.specs.Table.{Mixed, Terminal, Table, sents, sent_from, last_media, is_spaced, is_asked, answer_at, asked_at, repeated, compose, new_packet}
+use Rattle.mixer_spec.specs.Composed.{waits_here, Answer, Asked, text_given, answer}
+use Rattle.mixer_spec.specs.Table.{TurnEntry, Terminal, Table, sents, sent_from, last_media, is_spaced, is_asked, answer_at, asked_at, repeated, compose, new_packet}
 use Rattle.aware_output.specs.Speakers.{IsNext}
 use Rattle.aware_output.specs.Standing as outputs
 use Rattle.aware_output.specs.States.{State as OutputState}
@@ -28,11 +28,11 @@ use Rattle.outlet.proofs.Putting.{puts_none, puts_one}
 
 -- ---- what a turn adds
 -- to these a packet with this text was added, or nothing
-abbrev pub Added : Setup → ℕ → List Mixed → List Mixed → List ℕ → Bool → Type 0
-Added s t before after text true = (e : Mixed) × (after ≡ e ∷ before) × (e.sent ≡ sent_now s.mixer t text)
+abbrev pub Added : Setup → ℕ → List TurnEntry → List TurnEntry → List ℕ → Bool → Type 0
+Added s t before after text true = (e : TurnEntry) × (after ≡ e ∷ before) × (e.sent ≡ sent_now s.mixer t text)
 Added s t before after text false = after ≡ before
 
-added : (s : Setup) (j now t : ℕ) (d : Terminal) (o : Option Given)
+added : (s : Setup) (j now t : ℕ) (d : Terminal) (o : Option Answer)
     → Added s t d.past (compose s j now t d o).past (text_given o) (is_some o || (is_asked s t d && has_text_in (s.gens j) (sent_from s.mixer d)))
 added s j now t d None = go (is_asked s t d && has_text_in (s.gens j) (sent_from s.mixer d))
   where
@@ -41,11 +41,11 @@ added s j now t d None = go (is_asked s t d && has_text_in (s.gens j) (sent_from
     go false = refl
 added s j now t d (Some g) = (record { at = now; place = 0; leg = g.source; chunks = g.chunks; sent = sent_now s.mixer t g.text }, refl, refl)
 
-asks_are : (s : Setup) (j now t : ℕ) (d : Terminal) (o : Option Given) → (compose s j now t d o).asks ≡ asked_at t d o
+asks_are : (s : Setup) (j now t : ℕ) (d : Terminal) (o : Option Answer) → (compose s j now t d o).asks ≡ asked_at t d o
 asks_are s j now t d None = refl
 asks_are s j now t d (Some g) = refl
 
-waits_are : (s : Setup) (j now t : ℕ) (table : Table) (o : Option Given) (k i : ℕ)
+waits_are : (s : Setup) (j now t : ℕ) (table : Table) (o : Option Answer) (k i : ℕ)
     → ((with_terminal j (compose s j now t (table.terminals j) o) table).terminals k).waits i ≡ ((answered j o table).terminals k).waits i
 waits_are s j now t table None k i =
     let d = compose s j now t (table.terminals j) None in
@@ -61,7 +61,7 @@ waits_are s j now t table (Some g) k i =
       | inr n ↦ ap (λ (x : Terminal). x.waits i) (set_other table.terminals j d k n) ∙ sym (ap (λ (x : Terminal). x.waits i) (set_other table.terminals j l k n))
     ]
 
-waits_left : (s : Setup) (j now t : ℕ) (table : Table) (o : Option Given) (i : ℕ) → ((answered j o table).terminals j).waits i ≡ (compose s j now t (table.terminals j) o).waits i
+waits_left : (s : Setup) (j now t : ℕ) (table : Table) (o : Option Answer) (i : ℕ) → ((answered j o table).terminals j).waits i ≡ (compose s j now t (table.terminals j) o).waits i
 waits_left s j now t table None i = refl
 waits_left s j now t table (Some g) i = ap (λ (x : Terminal). x.waits i) (set_same table.terminals j (left_after g (table.terminals j)) j refl)
 
@@ -118,11 +118,11 @@ told s pts j table t o new asked gave due sends text after h a p d b =
       given = p.given ∙ ap is_some same;
       text_is = p.text_is ∙ ap text_given same;
       composer = subst (λ (k : ℕ). composers.StandsFor s new.composer (record { media = t; waiting = λ i. has_chunk ((table.terminals k).waits i); given = answer } ∷ (table.terminals j).asks)) h.own
-          (subst (λ (y : Option Given). composers.StandsFor s new.composer (record { media = t; waiting = λ i. has_chunk ((table.terminals o.composer.own).waits i); given = y } ∷ (table.terminals j).asks)) same p.composer);
+          (subst (λ (y : Option Answer). composers.StandsFor s new.composer (record { media = t; waiting = λ i. has_chunk ((table.terminals o.composer.own).waits i); given = y } ∷ (table.terminals j).asks)) same p.composer);
       slots_stand = subst (λ (k : ℕ). slots.StandsFor s after (answered k answer table)) h.own
-          (subst (λ (y : Option Given). slots.StandsFor s after (answered o.composer.own y table)) same p.slots_stand);
+          (subst (λ (y : Option Answer). slots.StandsFor s after (answered o.composer.own y table)) same p.slots_stand);
       rests = λ e i l. subst (λ (k : ℕ). waits_here k ((answered k answer table).terminals k).waits i ≡ false) h.own
-          (subst (λ (y : Option Given). waits_here o.composer.own ((answered o.composer.own y table).terminals o.composer.own).waits i ≡ false) same (p.rests e i l));
+          (subst (λ (y : Option Answer). waits_here o.composer.own ((answered o.composer.own y table).terminals o.composer.own).waits i ≡ false) same (p.rests e i l));
       due_is = d;
       sends_is = b;
     }
@@ -143,11 +143,11 @@ waits_stand s j now t table asked gave due sends text new after h =
     let o = answer_at s j t (table.terminals j) in
     stands_same s after (answered j o table) (with_terminal j (turned_here s j now t table) table) h.slots_stand (taken_same o) (seats_same o) (waits_are s j now t table o)
   where
-    taken_same : (o : Option Given) (i : ℕ) → table.taken i ≡ (answered j o table).taken i
+    taken_same : (o : Option Answer) (i : ℕ) → table.taken i ≡ (answered j o table).taken i
     taken_same None i = refl
     taken_same (Some g) i = refl
 
-    seats_same : (o : Option Given) (k : ℕ) → table.seats.listens k ≡ (answered j o table).seats.listens k
+    seats_same : (o : Option Answer) (k : ℕ) → table.seats.listens k ≡ (answered j o table).seats.listens k
     seats_same None k = refl
     seats_same (Some g) k = refl
 
@@ -174,7 +174,7 @@ pub stands_sent : (s : Setup) (pts : Pts) (j now t : ℕ) (table : Table) (o mid
 stands_sent s pts j now t table o mid new asked gave due sends put text after out h p a w own spacing ce se ne =
     let d = table.terminals j in
     let es : sent_now s.mixer t text ∷ sents d.past ≡ sents (turned_here s j now t table).past =
-    ap (λ (e : Sent). e ∷ sents d.past) (sym a.2) ∙ sym (ap (λ (xs : List Mixed). sents xs) a.1) in
+    ap (λ (e : Sent). e ∷ sents d.past) (sym a.2) ∙ sym (ap (λ (xs : List TurnEntry). sents xs) a.1) in
     record {
       setup = h.setup;
       own = ap (λ (x : ComposerState). x.own) ce ∙ (own ∙ h.own);
@@ -196,7 +196,7 @@ pub stands_silent : (s : Setup) (pts : Pts) (j now t : ℕ) (table : Table) (o n
     → own_of new ≡ own_of o → new.output ≡ o.output → new.spacing ≡ o.spacing → new.free_at ≡ o.free_at → StandsFor s pts j new (turned_here s j now t table)
 stands_silent s pts j now t table o new asked gave due sends text after h p a own oe se fe =
     let d = table.terminals j in
-    let es : sents d.past ≡ sents (turned_here s j now t table).past = sym (ap (λ (xs : List Mixed). sents xs) a) in
+    let es : sents d.past ≡ sents (turned_here s j now t table).past = sym (ap (λ (xs : List TurnEntry). sents xs) a) in
     record {
       setup = h.setup;
       own = own ∙ h.own;
@@ -218,9 +218,9 @@ puts_sent s pts j now t table spacing new text put out a w =
     let before = (table.terminals j).past in
     let written : out ≡ packet_written pts (packet_after (stream s j) (sents before) a.0.sent) = w.out_is ∙ ap (λ (e : Sent). packet_written pts (packet_after (stream s j) (sents before) e)) (sym a.2) in
     subst (λ (b : Bool). Puts pts (new_packet (stream s j) before (turned_here s j now t table).past) b out) (sym w.put_is)
-    (subst (λ (xs : List Mixed). Puts pts (new_packet (stream s j) before xs) true out) (sym a.1) (puts_one pts (stream s j) a.0 before out written))
+    (subst (λ (xs : List TurnEntry). Puts pts (new_packet (stream s j) before xs) true out) (sym a.1) (puts_one pts (stream s j) a.0 before out written))
 
 pub puts_silent : (s : Setup) (pts : Pts) (j now t : ℕ) (table : Table) (text out : List ℕ) → Added s t (table.terminals j).past (turned_here s j now t table).past text false
     → Puts pts (new_packet (stream s j) (table.terminals j).past (turned_here s j now t table).past) false out
 puts_silent s pts j now t table text out a =
-    subst (λ (xs : List Mixed). Puts pts (new_packet (stream s j) (table.terminals j).past xs) false out) (sym a) (puts_none pts (stream s j) (table.terminals j).past out)
+    subst (λ (xs : List TurnEntry). Puts pts (new_packet (stream s j) (table.terminals j).past xs) false out) (sym a) (puts_none pts (stream s j) (table.terminals j).past out)

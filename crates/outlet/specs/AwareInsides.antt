@@ -2,6 +2,7 @@
 use Rattle.std.specs.Prelude.{◌≡◌, ◌≤◌, ◌<◌, length}
 use Rattle.outlet.specs.declared.aware.AwareOutlet.TheInside.{Inside}
 use Rattle.outlet.specs.AwareStates.{AwareState}
+use Rattle.mixer_spec.specs.declared.limits.TheConstants.{PLACES}
 
 abbrev pub state_of : Inside → AwareState
 state_of o = record { own = o.own; spacing = o.spacing; output = o.output; free_at = o.free_at.items; next = o.next; quiet = o.quiet }
@@ -10,4 +11,4 @@ state_of o = record { own = o.own; spacing = o.spacing; output = o.output; free_
 pub record IsSound (o : Inside) : Type 0 where
   pub legs : length o.output.speakers ≡ length o.free_at.items
   pub own : o.own < length o.free_at.items
-  pub next : o.next ≤ 16
+  pub next : o.next ≤ PLACES

@@ -8,6 +8,7 @@ use Rattle.aware_output.specs.Standing.{source_at}
 use Rattle.aware_output.specs.Standing as outputs
 use Rattle.outlet.specs.Turns.{conf_at, free_after}
 use Rattle.outlet.specs.AwareStates.{AwareState}
+use Rattle.mixer_spec.specs.declared.limits.TheConstants.{PLACES}
 
 -- these are the SSRCs of all legs, in leg order
 pub record AreSources (s : Setup) (sources : List ℕ) : Type 0 where
@@ -17,7 +18,7 @@ pub record AreSources (s : Setup) (sources : List ℕ) : Type 0 where
 -- This was sent to the aware terminal j, with these payload types.
 pub record StandsFor (s : Setup) (pts : Pts) (j : ℕ) (o : AwareState) (d : Terminal) : Type 0 where
   pub setup : IsSetup s
-  pub places : s.places ≡ 16
+  pub places : s.places ≡ PLACES
   pub own : o.own ≡ j
   pub leg : j < s.legs
   pub spacing : o.spacing ≡ s.spacing
@@ -33,7 +34,7 @@ pub record StandsFor (s : Setup) (pts : Pts) (j : ℕ) (o : AwareState) (d : Ter
 -- An outlet of the terminal j with this stream, to these sources, with this spacing, is one of this setup.
 pub record IsMadeFor (s : Setup) (conf : OutConf) (sources : List ℕ) (j spacing : ℕ) : Type 0 where
   pub setup : IsSetup s
-  pub places : s.places ≡ 16
+  pub places : s.places ≡ PLACES
   pub conf_is : conf ≡ conf_at s conf.pts j
   pub are : AreSources s sources
   pub spacing_is : spacing ≡ s.spacing

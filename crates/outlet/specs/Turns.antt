@@ -6,7 +6,7 @@ use Rattle.wire_spec.specs.SentPackets.{packet_written}
 use Rattle.stream_spec.specs.Own.{Stream}
 use Rattle.mixer_spec.specs.Rounds.{set_at}
 use Rattle.mixer_spec.specs.Setups.{Setup}
-use Rattle.mixer_spec.specs.Table.{Mixed, Terminal, Table, sents}
+use Rattle.mixer_spec.specs.Table.{TurnEntry, Terminal, Table, sents}
 use Rattle.aware_output.specs.declared.outputs.OutConf.{OutConf}
 use Rattle.aware_output.specs.Speakers.{IsNext}
 
@@ -15,8 +15,8 @@ abbrev pub conf_at : Setup → Pts → ℕ → OutConf
 conf_at s pts j = record { ssrc = s.mixer; seq = s.first; stamp = s.base; pts = pts; gens = s.gens j }
 
 -- what was sent between these two, if anything was, may be sent
-abbrev pub SendsNext : Stream → List Mixed → List Mixed → Type 0
-SendsNext c before after = (e : Mixed) → after ≡ e ∷ before → IsNext c (sents before) e.sent
+abbrev pub SendsNext : Stream → List TurnEntry → List TurnEntry → Type 0
+SendsNext c before after = (e : TurnEntry) → after ≡ e ∷ before → IsNext c (sents before) e.sent
 
 -- the packet was put out, if there is one
 abbrev pub Puts : Pts → List Packet → Bool → List ℕ → Type 0

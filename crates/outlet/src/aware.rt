@@ -11,14 +11,12 @@ ghost use Rattle.outlet.specs.AwareTurns.{text_of_leg};
 ghost use Rattle.rtt_base.specs.declared.limits.TheConstants.{MOST_TEXT_OCTETS};
 
 use aware_output::{OutConf, Output};
+use mixer_spec::limits::PLACES;
 use rtt_base::{NoMemory, Packet, Text};
 use seating::Seating;
 use slot_table::Slots;
 use std::alloc::Global;
 use std::marker::Model;
-
-/// How many places a mixer has.
-const PLACES: usize = 16;
 
 /// What a mixer keeps of a terminal that tells sources apart (RFC 9071): its packets, of one source each.
 #[derive(Drop)]
@@ -156,7 +154,7 @@ impl AwareOutlet {
 
     /// Whether the leg at the place is due.
     fn is_due_at(&self, place: usize, media: u64, seating: &Seating, slots: &Slots) -> bool
-        requires place { place < 16 }
+        requires place { place < PLACES }
         requires slots { length slots.now ≡ length self.now.free_at }
         requires seating { length seating.now.legs ≡ length self.now.free_at }
         ensures { AtSeats self.now seating.now slots.now (λ s pts table d.
@@ -178,7 +176,7 @@ impl AwareOutlet {
         slots: &Slots,
     ) -> Option<usize>
         requires order { low ≤ high }
-        requires high { high ≤ 16 }
+        requires high { high ≤ PLACES }
         requires slots { length slots.now ≡ length self.now.free_at }
         requires seating { length seating.now.legs ≡ length self.now.free_at }
         ensures first { AtSeats self.now seating.now slots.now (λ s pts table d.
@@ -199,7 +197,7 @@ impl AwareOutlet {
         requires seating { length seating.now.legs ≡ length self.now.free_at }
         ensures served { AtSeats self.now seating.now slots.now (λ s pts table d.
             result ≡ served s table.seats self.now.own media d) }
-        ensures within { IfSome result (λ place. place < 16) }
+        ensures within { IfSome result (λ place. place < PLACES) }
     {
         match self.first_from(self.next, PLACES, media, seating, slots) {
             Some(place) => Some(place),
@@ -217,7 +215,7 @@ impl AwareOutlet {
         text: &mut Text,
         out: &mut Packet,
     ) -> bool
-        requires place { place < 16 }
+        requires place { place < PLACES }
         requires leg { leg < length self.old.free_at }
         requires slots { length slots.old ≡ length self.old.free_at }
         requires media { media < 2 ^ 48 }
@@ -234,7 +232,7 @@ impl AwareOutlet {
 
     /// Keeps that the leg at the place was served at this media time.
     fn keep(&mut self, place: usize, leg: usize, media: u64)
-        requires place { place < 16 }
+        requires place { place < PLACES }
         requires leg { leg < length self.old.free_at }
         requires media { media < 2 ^ 48 }
         ensures { self.new ≡ kept_served place leg media self.old }
@@ -254,7 +252,7 @@ impl AwareOutlet {
         text: &mut Text,
         out: &mut Packet,
     ) -> bool
-        requires place { place < 16 }
+        requires place { place < PLACES }
         requires slots { length slots.old ≡ length self.old.free_at }
         requires seating { length seating.now.legs ≡ length self.old.free_at }
         requires media { media < 2 ^ 48 }

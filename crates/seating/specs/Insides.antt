@@ -1,13 +1,14 @@
--- What holds of all places: each is one of 16, and is held by one of the legs.
+-- What holds of all places: each is one of the mixer's, and is held by one of the legs.
 use Rattle.std.specs.Prelude.{◌≡◌, ℕ, ◌<◌, Some, length, slice_get}
 use Rattle.seating.specs.declared.seats.Seat.{Seat}
 use Rattle.seating.specs.declared.seats.Seating.TheInside.{Inside}
 use Rattle.seating.specs.States.{State}
+use Rattle.mixer_spec.specs.declared.limits.TheConstants.{PLACES}
 
 abbrev pub state_of : Inside → State
 state_of i = record { legs = i.seats.items; places = i.holders }
 
 pub record IsSeating (i : Inside) : Type 0 where
-  pub sixteen : length i.holders ≡ 16
-  pub places : (k : ℕ) (x : Seat) (p : ℕ) → slice_get i.seats.items k ≡ Some x → x.place ≡ Some p → p < 16
+  pub sixteen : length i.holders ≡ PLACES
+  pub places : (k : ℕ) (x : Seat) (p : ℕ) → slice_get i.seats.items k ≡ Some x → x.place ≡ Some p → p < PLACES
   pub legs : (p k : ℕ) → slice_get i.holders p ≡ Some (Some k) → k < length i.seats.items

@@ -4,16 +4,17 @@ use Rattle.mixer_spec.specs.Setups.{Setup}
 use Rattle.mixer_spec.specs.Table.{Seats, Table, leg_in}
 use Rattle.seating.specs.declared.seats.Seat.{Seat}
 use Rattle.seating.specs.States.{State}
+use Rattle.mixer_spec.specs.declared.limits.TheConstants.{PLACES}
 
 -- the seat of the leg i
 abbrev pub seat_of : Seats → ℕ → Seat
 seat_of seats i = record { place = seats.place i; came = seats.came i; listens = seats.listens i }
 
 pub record StandsFor (s : Setup) (m : State) (seats : Seats) : Type 0 where
-  pub sixteen : s.places ≡ 16
+  pub sixteen : s.places ≡ PLACES
   pub all : length m.legs ≡ s.legs
   pub seat : (i : ℕ) (x : Seat) → slice_get m.legs i ≡ Some x → x ≡ seat_of seats i
-  pub holder : (p : ℕ) → p < 16 → slice_get m.places p ≡ Some (leg_in seats s.legs p)
+  pub holder : (p : ℕ) → p < PLACES → slice_get m.places p ≡ Some (leg_in seats s.legs p)
   pub one : (a b p : ℕ) → a < s.legs → b < s.legs → seats.place a ≡ Some p → seats.place b ≡ Some p → a ≡ b
 
 -- of each table for whose seats they stand

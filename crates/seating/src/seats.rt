@@ -5,12 +5,10 @@ ghost use Rattle.mixer_spec.specs.Setups.{Setup};
 ghost use Rattle.mixer_spec.specs.Table.{Table, admitted, free_place, freed, hushed, is_seated, leg_in, no_seats};
 ghost use Rattle.seating.specs.Places.{is_vacant};
 
+use mixer_spec::limits::PLACES;
 use rtt_base::NoMemory;
 use std::alloc::Global;
 use std::marker::Model;
-
-/// How many places there are (profile).
-const PLACES: usize = 16;
 
 /// What is kept of a leg: the place that it holds, whether it came, and whether it listens.
 #[derive(Clone, Copy, Debug)]
@@ -57,7 +55,7 @@ impl Seating {
     /// No leg came.
     pub fn new(alloc: Global, legs: usize) -> Result<Seating, NoMemory>
         ensures legs { IfOk result (λ seating. length seating.legs ≡ legs) }
-        ensures stands { IfOk result (λ seating. (s : Setup) → s.legs ≡ legs → s.places ≡ 16
+        ensures stands { IfOk result (λ seating. (s : Setup) → s.legs ≡ legs → s.places ≡ PLACES
             → StandsFor s seating no_seats) }
     {
         let seat = Seat {
@@ -125,14 +123,14 @@ impl Seating {
     pub fn place_of(&self, leg: usize) -> Option<usize>
         requires { leg < length self.now.legs }
         ensures place { Tells self.now (λ s table. result ≡ table.seats.place leg) }
-        ensures within { IfSome result (λ place. place < 16) }
+        ensures within { IfSome result (λ place. place < PLACES) }
     {
         self.seats[leg].place
     }
 
     /// The leg that holds the place.
     pub fn leg_at(&self, place: usize) -> Option<usize>
-        requires { place < 16 }
+        requires { place < PLACES }
         ensures leg { Tells self.now (λ s table. result ≡ leg_in table.seats s.legs place) }
         ensures within { IfSome result (λ leg. leg < length self.now.legs) }
     {

@@ -1,46 +1,37 @@
 -- The choice of a composer is the answer of the definition.
-use Rattle.std.proofs.Common.{◌≡◌, ℕ, suc, ◌<◌, ◌≤◌, Bool, true, false, cond, not, ◌&&◌, ◌||◌, inl, inr, Option, Some, None, List, ◌++◌, length, refl, sym, ap, ◌∙◌, arith}
-use Rattle.std.specs.Prelude.{◌==◌}
+use Rattle.std.proofs.Common.{◌≡◌, ℕ, suc, ◌<◌, ◌≤◌, Bool, true, false, cond, not, ◌&&◌, ◌||◌, inl, inr, Option, Some, None, List, [], length, refl, sym, ap, ◌∙◌, arith}
+use Rattle.std.specs.Prelude.{◌==◌, chars}
 use Rattle.std.proofs.lemmas.Bool.{cases_eq, eq-eqb, ne_eqb}
-use Rattle.std.specs.Char.{encode_utf8}
-use Rattle.text_spec.specs.Ends.{ends_line}
-use Rattle.text_spec.specs.Views.{label, label_after}
+use Rattle.text_spec.specs.Shown.{ends_with_cr}
+use Rattle.t140_text.specs.Endings.{IsEnding}
+use Rattle.t140_text.proofs.Endings.{line_of, sentence_of}
 use Rattle.stream_spec.specs.Ready.{Chunk}
-use Rattle.labels.specs.Labels.{label_on}
 use Rattle.mixer_spec.specs.Chunks.{joined, has_chunk}
 use Rattle.mixer_spec.specs.Rounds.{any_below, first_round}
 use Rattle.mixer_spec.specs.Setups.{Setup}
-use Rattle.mixer_spec.specs.Composed.{Given, Asked, answer, answer_after, begin_with, begun, gone_on, latest, text_given, run_of, since, is_ago, is_switch, ends_turn, waits_here}
+use Rattle.mixer_spec.specs.Composed.{Answer, Asked, answer, answer_after, begin_with, chars_of, go_on, headed, is_open, latest, run_of, since, is_ago, is_switch, ends_turn, waits_here}
 use Rattle.unaware_view.specs.declared.composers.Current.{Current}
 use Rattle.unaware_view.specs.declared.composers.Choice.{Choice}
 use Rattle.unaware_view.specs.declared.composers.Choice.TheVariants.{Nobody, Begins, GoesOn}
 use Rattle.unaware_view.specs.declared.runs.Run.{Run}
-use Rattle.unaware_view.specs.Runs.{IsRun, is_turn}
+use Rattle.unaware_view.specs.Runs.{is_turn}
 use Rattle.unaware_view.specs.States.{State}
 use Rattle.unaware_view.specs.Choices.{is_set, since_at, is_left, begins, choice_after, choice}
-use Rattle.unaware_view.specs.Standing.{StandsFor, IsCurrent, IsSpeaker, begins_line}
+use Rattle.unaware_view.specs.Standing.{StandsFor, IsCurrent, IsSpeaker}
 use Rattle.unaware_view.proofs.Firsts.{any_same, round_same}
 
 -- what is given of a choice
-abbrev pub given_of : (ℕ → List ℕ) → (ℕ → List Chunk) → List Asked → Choice → Option Given
+abbrev pub given_of : (ℕ → List ℕ) → (ℕ → List Chunk) → List Asked → Choice → Option Answer
 given_of name w asks Nobody = None
-given_of name w asks (Begins i) = Some (begun w (label_after (text_given (latest asks)) (name i)) i)
-given_of name w asks (GoesOn i) = Some (gone_on w (joined (run_of asks)) i)
-
-pub label_is : (before name : List ℕ) → label_on (begins_line before) name ≡ label_after before name
-unfolding label_after encode_utf8
-label_is before name = go ((length before == 0) || ends_line before)
-  where
-    go : (b : Bool) → label_on (not b) name ≡ cond b (label name) (encode_utf8 0x2028 ++ label name)
-    go true = refl
-    go false = refl
+given_of name w asks (Begins i) = Some (headed w (name i) (ends_with_cr (chars_of (run_of asks))) (is_open asks) [] i)
+given_of name w asks (GoesOn i) = Some (go_on name w asks i)
 
 begins_given : (name : ℕ → List ℕ) (w : ℕ → List Chunk) (asks : List Asked) (o : Option ℕ) → given_of name w asks (begins o) ≡ begin_with name w asks o
 begins_given name w asks None = refl
 begins_given name w asks (Some i) = refl
 
-turn_is : (r : Run) (text : List ℕ) → IsRun r text → is_turn r.tail ≡ ends_turn text
-turn_is r text h = (λ k. sym h.tail.line k || sym h.tail.sentence k) ∙ ap ends_turn h.is
+turn_is : (r : Run) (text : List ℕ) → IsEnding r.ending (chars text) → is_turn r.ending ≡ ends_turn text
+turn_is r text h = λ k. line_of r.ending text h k || sentence_of r.ending text h k
 
 -- a composer that has looked, with what waits at its terminal
 pub record Looks (s : Setup) (c : State) (asks : List Asked) (w : ℕ → List Chunk) : Type 0 where
@@ -73,11 +64,11 @@ longs_same s c asks w x now h =
 pub speaker_flag : (s : Setup) (c : State) (asks : List Asked) (w : ℕ → List Chunk) (x : ℕ) → Looks s c asks w → x < s.legs → (x ≡ c.own → ⊥) → is_set c.waits x ≡ has_chunk (w x)
 speaker_flag s c asks w x h l n = h.flags x (let k = h.legs in omega (arith, l, k)) ∙ ap (λ (b : Bool). not b && has_chunk (w x)) (ne_eqb x c.own n)
 
-switch_same : (s : Setup) (c : State) (asks : List Asked) (w : ℕ → List Chunk) (g : Given) (x : Current) (now : ℕ) → Looks s c asks w → IsSpeaker s c.own asks g x → is_left c x now ≡ is_switch s.legs c.own now w asks x.speaker
+switch_same : (s : Setup) (c : State) (asks : List Asked) (w : ℕ → List Chunk) (g : Answer) (x : Current) (now : ℕ) → Looks s c asks w → IsSpeaker s c.own asks g x → is_left c x now ≡ is_switch s.legs c.own now w asks x.speaker
 switch_same s c asks w g x now h k = λ r.
     h.stands.chunk r
     && (others_same s c asks w x.speaker h r
-    && (turn_is c.run (joined (run_of asks)) h.stands.run r
+    && (turn_is c.run (joined (run_of asks)) h.stands.run.ending r
     || ((not (speaker_flag s c asks w x.speaker h k.leg k.other r) && is_ago 2000 now (sym k.given r))
     || longs_same s c asks w x.speaker now h r)))
 
@@ -91,16 +82,16 @@ choice_is s c asks w true now h = go (latest asks) c.current h.stands.current
         begins_given s.name w asks (first_round (is_set c.waits) start (length c.waits))
         ∙ ap (begin_with s.name w asks) (round_same (is_set c.waits) (waits_here c.own w) start (length c.waits) (let k = h.legs in omega (arith, l, k)) h.flags ∙ ap (first_round (waits_here c.own w) start) h.legs)
 
-    by : (b d : Bool) (k k' : Choice) (i : ℕ) (o : Option Given) → given_of s.name w asks k ≡ o → given_of s.name w asks (cond b k (cond d (GoesOn i) Nobody)) ≡ cond b o (cond d (Some (gone_on w (joined (run_of asks)) i)) None)
+    by : (b d : Bool) (k k' : Choice) (i : ℕ) (o : Option Answer) → given_of s.name w asks k ≡ o → given_of s.name w asks (cond b k (cond d (GoesOn i) Nobody)) ≡ cond b o (cond d (Some (go_on s.name w asks i)) None)
     by true d k k' i o e = e
     by false true k k' i o e = refl
     by false false k k' i o e = refl
 
-    go : (o : Option Given) (k : Option Current) → IsCurrent s c.own asks o k → given_of s.name w asks (choice_after c now k) ≡ answer_after s.legs s.name c.own now w asks o
+    go : (o : Option Answer) (k : Option Current) → IsCurrent s c.own asks o k → given_of s.name w asks (choice_after c now k) ≡ answer_after s.legs s.name c.own now w asks o
     go None None u = rounds 0 (omega arith)
     go None (Some x) u = absurd u
     go (Some g) None u = absurd u
     go (Some g) (Some x) u =
         by (is_left c x now) (is_set c.waits x.speaker) (begins (first_round (is_set c.waits) (suc x.speaker) (length c.waits))) Nobody x.speaker (begin_with s.name w asks (first_round (waits_here c.own w) (suc x.speaker) s.legs)) (rounds (suc x.speaker) (let l = u.leg in omega (arith, l)))
-        ∙ ((λ r. cond (switch_same s c asks w g x now h u r) (begin_with s.name w asks (first_round (waits_here c.own w) (suc x.speaker) s.legs)) (cond (speaker_flag s c asks w x.speaker h u.leg u.other r) (Some (gone_on w (joined (run_of asks)) x.speaker)) None))
-        ∙ ap (λ (i : ℕ). cond (is_switch s.legs c.own now w asks i) (begin_with s.name w asks (first_round (waits_here c.own w) (suc i) s.legs)) (cond (has_chunk (w i)) (Some (gone_on w (joined (run_of asks)) i)) None)) (sym u.source))
+        ∙ ((λ r. cond (switch_same s c asks w g x now h u r) (begin_with s.name w asks (first_round (waits_here c.own w) (suc x.speaker) s.legs)) (cond (speaker_flag s c asks w x.speaker h u.leg u.other r) (Some (go_on s.name w asks x.speaker)) None))
+        ∙ ap (λ (i : ℕ). cond (is_switch s.legs c.own now w asks i) (begin_with s.name w asks (first_round (waits_here c.own w) (suc i) s.legs)) (cond (has_chunk (w i)) (Some (go_on s.name w asks i)) None)) (sym u.source))

@@ -1,4 +1,4 @@
-pub mod Tails
+pub mod Sizes
 pub mod RunSteps
 pub mod Firsts
 pub mod Flags

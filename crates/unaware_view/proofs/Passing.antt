@@ -1,18 +1,17 @@
 -- An ask at which no other leg waits.
-use Rattle.std.proofs.Common.{◌≡◌, ℕ, zero, suc, ◌+◌, ◌-◌, ◌<◌, ◌≤◌, Bool, true, false, cond, not, ◌&&◌, ◌||◌, Option, Some, None, List, [], ◌∷◌, length, refl, ap, subst, sym, ◌∙◌, arith}
+use Rattle.std.proofs.Common.{◌≡◌, ℕ, zero, suc, ◌+◌, ◌-◌, ◌<◌, ◌≤◌, Bool, true, false, cond, not, ◌&&◌, Option, Some, None, List, ◌∷◌, refl, ap, subst, sym, ◌∙◌, arith}
 use Rattle.std.specs.Prelude.{◌==◌}
 use Rattle.std.specs.Option.{option_or}
 use Rattle.std.proofs.lemmas.Bool.{ne_eqb, and_left, and_right}
 use Rattle.stream_spec.specs.Ready.{Chunk}
-use Rattle.mixer_spec.specs.Chunks.{joined, has_chunk}
+use Rattle.mixer_spec.specs.Chunks.{has_chunk}
 use Rattle.mixer_spec.specs.Rounds.{first_from, first_round, any_below}
 use Rattle.mixer_spec.specs.Setups.{Setup}
 use Rattle.mixer_spec.specs.Table.{Table}
-use Rattle.mixer_spec.specs.Composed.{Given, Asked, latest, run_of, since, is_switch, begin_with, answer_after, answer, waits_here, ends_turn, is_ago, given_at}
+use Rattle.mixer_spec.specs.Composed.{Answer, Asked, latest, run_of, since, is_switch, begin_with, answer_after, waits_here}
 use Rattle.unaware_view.specs.declared.composers.Current.{Current}
 use Rattle.unaware_view.specs.States.{State}
-use Rattle.unaware_view.specs.Choices.{since_at}
-use Rattle.unaware_view.specs.Standing.{IsCurrent, IsSpeaker, NoneWaits, StandsFor, asked_now, given_now, waiting}
+use Rattle.unaware_view.specs.Standing.{IsCurrent, NoneWaits, StandsFor, asked_now, given_now, waiting}
 
 -- ---- nobody is found
 none_from : (p : ℕ → Bool) (n low count : ℕ) → low + count ≤ n → ((i : ℕ) → i < n → p i ≡ false) → first_from p low count ≡ None
@@ -29,7 +28,7 @@ none_below p zero f = refl
 none_below p (suc n) f = rw (f n (omega arith)) (none_below p n (λ i l. f i (omega arith)))
 
 -- ---- nothing is given
-none_after : (legs : ℕ) (name : ℕ → List ℕ) (own now : ℕ) (waits : ℕ → List Chunk) (asks : List Asked) (s : Setup) (o : Option Given) (c : Option Current) → s.legs ≡ legs
+none_after : (legs : ℕ) (name : ℕ → List ℕ) (own now : ℕ) (waits : ℕ → List Chunk) (asks : List Asked) (s : Setup) (o : Option Answer) (c : Option Current) → s.legs ≡ legs
     → ((i : ℕ) → i < legs → waits_here own waits i ≡ false) → IsCurrent s own asks o c → answer_after legs name own now waits asks o ≡ None
 none_after legs name own now waits asks s None c e f u = ap (λ (o : Option ℕ). begin_with name waits asks o) (none_round (waits_here own waits) 0 legs (omega arith) f)
 none_after legs name own now waits asks s (Some g) None e f u = absurd u
@@ -50,7 +49,7 @@ or_none : (o : Option ℕ) → option_or o None ≡ o
 or_none None = refl
 or_none (Some n) = refl
 
-current_then : (s : Setup) (own : ℕ) (a : Asked) (asks : List Asked) (o : Option Given) (x : Option Current) → a.given ≡ None → IsCurrent s own asks o x → IsCurrent s own (a ∷ asks) o x
+current_then : (s : Setup) (own : ℕ) (a : Asked) (asks : List Asked) (o : Option Answer) (x : Option Current) → a.given ≡ None → IsCurrent s own asks o x → IsCurrent s own (a ∷ asks) o x
 current_then s own a asks None None e u = tt
 current_then s own a asks None (Some x) e u = absurd u
 current_then s own a asks (Some g) None e u = absurd u
@@ -61,14 +60,16 @@ pub passed : (s : Setup) (table : Table) (c : State) (media : ℕ) (due : Bool) 
 passed s table c media due asks h f =
     let none = none_given s table c media due asks h f in
     let then : Asked = record { media = media; waiting = λ i. has_chunk (waiting table c i); given = None } in
-    subst (λ (o : Option Given). StandsFor s (record c { asked = media + 1 }) (record { media = media; waiting = λ i. has_chunk (waiting table c i); given = o } ∷ asks)) (sym none) (record {
+    subst (λ (o : Option Answer). StandsFor s (record c { asked = media + 1 }) (record { media = media; waiting = λ i. has_chunk (waiting table c i); given = o } ∷ asks)) (sym none) (record {
       legs = h.legs;
       current = current_then s c.own then asks (latest asks) c.current refl h.current;
       waits_since = λ i l o.
           let silent : has_chunk (waiting table c i) ≡ false = sym (ap (λ (b : Bool). not b && has_chunk (waiting table c i)) (ne_eqb i c.own o)) ∙ f i l in
           h.waits_since i l o ∙ sym (ap (λ (b : Bool). option_or (since i asks) (cond b (Some media) None)) silent ∙ or_none (since i asks));
       run = h.run;
+      utf8 = h.utf8;
       chunk = h.chunk;
+      begun = h.begun;
       line = h.line;
       asked = refl;
     })

@@ -1,73 +1,22 @@
 -- One character more of a run.
-use Rattle.std.proofs.Common.{◌≡◌, ℕ, ◌+◌, ◌-◌, ◌/◌, ◌%◌, ◌≤◌, Bool, true, false, cond, ◌&&◌, List, [], ◌∷◌, ◌++◌, length, refl, sym, ap, subst, ◌∙◌, append_assoc, append-nil, length-append, arith, encode_utf8_all, chars}
+use Rattle.std.proofs.Common.{◌≡◌, ℕ, ◌+◌, ◌-◌, ◌≤◌, Bool, true, false, cond, not, ◌&&◌, ◌||◌, inl, inr, List, [], ◌∷◌, ◌++◌, length, refl, sym, ap, subst, ◌∙◌, append_assoc, append-nil, length-append, arith, encode_utf8_all, chars, IsUtf8}
 use Rattle.std.specs.Prelude.{◌==◌}
-use Rattle.std.specs.Str.{all_scalars}
-use Rattle.std.specs.Char.{encode_utf8, IsScalar}
-use lib.Utf8.{scalar}
-use lib.Dec.{ltb}
-use Rattle.std.proofs.lemmas.Bool.{eqb-true, ne_eqb}
-use Rattle.std.proofs.lemmas.Str.{encodes-append, chars-encodes}
+use Rattle.std.specs.Char.{encode_utf8}
+use Rattle.std.proofs.lemmas.Bool.{eqb-true, ne_eqb, true≢false, and_parts, not-true, or_parts}
+use Rattle.std.proofs.lemmas.Str.{IsUtf8-past_char, chars-encodes, chars_past_char, encode_ascii}
 use Rattle.text_spec.specs.declared.classes.CharClass.{CharClass}
 use Rattle.text_spec.specs.declared.classes.CharClass.TheVariants.{Erase, Bell, NewLine, Silent, Print}
-use Rattle.text_spec.specs.Characters.{class_of}
-use Rattle.text_spec.specs.Ends.{ends_line, ends_sentence}
+use Rattle.text_spec.specs.Characters.{class_of, is_open_after, is_print, opens}
 use Rattle.text_spec.specs.Shown.{signs, survivors, ends_with_cr, without_last}
-use Rattle.text_spec.proofs.Steps.{stands-erase, stands-print, stands-new_line, stands-cr_lf, stands-bell, stands-silent}
-use Rattle.mixer_spec.specs.Composed.{is_erased, written_octet, written}
-use Rattle.unaware_view.specs.declared.runs.Tail.{Tail}
-use Rattle.unaware_view.specs.declared.runs.Tail.TheVariants.{Other}
+use Rattle.text_spec.specs.Views.{is_bracket, label_after, without_bracket}
+use Rattle.text_spec.proofs.Steps.{ends_with_cr-last, stands-erase, stands-print, stands-new_line, stands-cr_lf, stands-bell, stands-silent}
+use Rattle.t140_text.specs.Endings.{IsEnding}
+use Rattle.t140_text.proofs.Endings.{push_step}
+use Rattle.mixer_spec.specs.Composed.{from_seen, is_erased, is_seen, labelled, own_part, written}
+use Rattle.mixer_spec.proofs.Labels.{unseen_one}
+use Rattle.mixer_spec.proofs.Texts.{encode_some, one_short}
 use Rattle.unaware_view.specs.declared.runs.Run.{Run}
-use Rattle.unaware_view.specs.Runs.{IsRun, Writes, EndsWith, tail_after, is_return, erasable_by, erasable_after, sent_for}
-use Rattle.unaware_view.proofs.Tails.{both, and_true, tail_step}
-
--- ---- what is written
--- none of these octets is U+0008
-abbrev NoErasure : List ℕ → Type 0
-NoErasure [] = Unit {0}
-NoErasure (o ∷ os) = ((o == 0x08) ≡ false) × NoErasure os
-
-written_plain : (run os : List ℕ) → NoErasure os → written run os ≡ os
-written_plain run [] h = refl
-written_plain run (o ∷ os) h = ap (λ (b : Bool). written_octet b run o ∷ written (run ++ o ∷ []) os) h.0 ∙ ap (λ l. o ∷ l) (written_plain (run ++ o ∷ []) os h.1)
-
-pub written_append : (run xs ys : List ℕ) → written run (xs ++ ys) ≡ written run xs ++ written (run ++ xs) ys
-written_append run [] ys = ap (λ r. written r ys) (sym (append-nil run))
-written_append run (o ∷ xs) ys =
-    ap (λ l. written_octet (o == 0x08) run o ∷ l) (written_append (run ++ o ∷ []) xs ys ∙ ap (λ r. written (run ++ o ∷ []) xs ++ written r ys) (append_assoc run (o ∷ []) xs))
-
-big : (n : ℕ) → 9 ≤ n → (n == 0x08) ≡ false
-big n l = ne_eqb n 0x08 (λ q. omega (arith, q, l))
-
-encoded_plain : (c : ℕ) → (c == 0x08) ≡ false → NoErasure (encode_utf8 c)
-unfolding encode_utf8
-encoded_plain c e = go (ltb c 128) (ltb c 2048) (ltb c 65536)
-  where
-    go : (x y z : Bool)
-        → NoErasure (cond x (c ∷ []) (cond y ((192 + c / 64) ∷ (128 + c % 64) ∷ []) (cond z ((224 + c / 4096) ∷ (128 + (c / 64) % 64) ∷ (128 + c % 64) ∷ []) ((240 + c / 262144) ∷ (128 + (c / 4096) % 64) ∷ (128 + (c / 64) % 64) ∷ (128 + c % 64) ∷ []))))
-    go true y z = (e, tt)
-    go false true z = (big _ (omega arith), (big _ (omega arith), tt))
-    go false false true = (big _ (omega arith), (big _ (omega arith), (big _ (omega arith), tt)))
-    go false false false = (big _ (omega arith), (big _ (omega arith), (big _ (omega arith), (big _ (omega arith), tt))))
-
-erased_is : (r : Run) (run : List ℕ) → IsRun r run → is_erased run ≡ (r.erasable == 0)
-erased_is r run h =
-    ap (λ (t : List ℕ). length (survivors (signs (chars t))) == 0) (sym h.is)
-    ∙ (ap (λ (cs : List ℕ). length (survivors (signs cs)) == 0) (chars-encodes h.characters h.scalars) ∙ ap (λ (n : ℕ). n == 0) h.erasable)
-
-erasure_sent : (run : List ℕ) (n : ℕ) → is_erased run ≡ (n == 0) → encode_utf8 (sent_for n 0x08) ≡ written run (encode_utf8 0x08)
-unfolding encode_utf8
-erasure_sent run n e = go (n == 0) e
-  where
-    go : (b : Bool) → is_erased run ≡ b → encode_utf8 (cond b 0x58 0x08) ≡ written run (0x08 ∷ [])
-    go true q = sym (ap (λ (b : Bool). cond b 0x58 0x08 ∷ []) q)
-    go false q = sym (ap (λ (b : Bool). cond b 0x58 0x08 ∷ []) q)
-
-pub sent_step : (r : Run) (run : List ℕ) (c : ℕ) → IsRun r run → encode_utf8 (sent_for r.erasable c) ≡ written run (encode_utf8 c)
-sent_step r run c h = go (c == 0x08) refl
-  where
-    go : (b : Bool) → (c == 0x08) ≡ b → encode_utf8 (cond (b && r.erasable == 0) 0x58 c) ≡ written run (encode_utf8 c)
-    go true q = subst (λ (k : ℕ). encode_utf8 (cond (r.erasable == 0) 0x58 k) ≡ written run (encode_utf8 k)) (sym (eqb-true c 0x08 q)) (erasure_sent run r.erasable (erased_is r run h))
-    go false q = sym (written_plain run (encode_utf8 c) (encoded_plain c q))
+use Rattle.unaware_view.specs.Runs.{IsAhead, IsBehind, IsRun, Sends, Writes, before_by, behind, cr_last, erasable_after, erasable_by, is_headed, is_seen_at, sent_for, sent_of, step_by, stepped, text_by, text_of_one}
 
 -- ---- what can be taken back
 length_without_last : (cs : List ℕ) → length (without_last cs) ≡ length cs - 1
@@ -93,63 +42,300 @@ erasable_step cs c n after e cr = go (class_of c) refl
     go Silent k = ap length (stands-silent cs c k) ∙ e
     go Print k = ap length (stands-print cs c k) ∙ one_longer (survivors (signs cs)) c n e
 
--- ---- the run
-scalars_push : (cs : List ℕ) (c : ℕ) → all_scalars cs ≡ true → IsScalar c → all_scalars (cs ++ c ∷ []) ≡ true
-scalars_push [] c s q = ap (λ (t : Bool). t && true) q
-scalars_push (d ∷ cs) c s q = let p = both (scalar d) (all_scalars cs) s in and_true (scalar d) (all_scalars (cs ++ c ∷ [])) p.0 (scalars_push cs c p.1 q)
+lf_is_no_print : class_of 0x0A ≡ Print → ⊥
+unfolding class_of
+lf_is_no_print q = cc q
 
-pub run_step : (r : Run) (run : List ℕ) (c n : ℕ) (tail : Tail) (b : Bool) → IsScalar c → n ≡ erasable_after (is_return r.tail) r.erasable c → tail ≡ tail_after r.tail c → IsRun r run
-    → IsRun (record { erasable = n; tail = tail; has_chunk = b }) (run ++ encode_utf8 c)
-run_step r run c n tail b s en et h = record {
-  characters = h.characters ++ c ∷ [];
-  scalars = scalars_push h.characters c h.scalars s;
-  is = encodes-append h.characters (c ∷ []) ∙ (ap (λ l. encode_utf8_all h.characters ++ l) (append-nil (encode_utf8 c)) ∙ ap (λ l. l ++ encode_utf8 c) h.is);
-  erasable = erasable_step h.characters c r.erasable (is_return r.tail) h.erasable h.tail.is_return ∙ sym en;
-  tail = subst (λ (t : Tail). EndsWith (h.characters ++ c ∷ []) t) (sym et) (tail_step h.characters c r.tail h.scalars (scalars_push h.characters c h.scalars s) h.tail);
-}
+-- the first character, behind a CR of another run or not
+first_step : (behind_cr : Bool) (c : ℕ) → length (survivors (signs (own_part behind_cr (c ∷ [])))) ≡ erasable_after behind_cr 0 c
+first_step true c = go (c == 0x0A) refl
+  where
+    same : (k : CharClass) → (c == 0x0A) ≡ false → erasable_by k false 0 c ≡ erasable_by k true 0 c
+    same Erase e = refl
+    same Bell e = refl
+    same NewLine e = ap (λ (b : Bool). cond (b && false) 0 1) e ∙ sym (ap (λ (b : Bool). cond (b && true) 0 1) e)
+    same Silent e = refl
+    same Print e = refl
 
-pub no_run : IsRun (record { erasable = 0; tail = Other; has_chunk = false }) []
-unfolding ends_line ends_sentence encode_utf8
-no_run = record { characters = []; scalars = refl; is = refl; erasable = refl; tail = record { is_return = refl; line = refl; stop = refl; sentence = refl } }
+    line_feed : (k : CharClass) → class_of 0x0A ≡ k → 0 ≡ erasable_by k true 0 0x0A
+    line_feed Erase e = refl
+    line_feed Bell e = refl
+    line_feed NewLine e = refl
+    line_feed Silent e = refl
+    line_feed Print e = absurd (lf_is_no_print e)
+
+    go : (b : Bool) → (c == 0x0A) ≡ b → length (survivors (signs (cond b [] (c ∷ [])))) ≡ erasable_after true 0 c
+    go true e = subst (λ (x : ℕ). 0 ≡ erasable_after true 0 x) (sym (eqb-true c 0x0A e)) (line_feed (class_of 0x0A) refl)
+    go false e = erasable_step [] c 0 false refl refl ∙ same (class_of c) e
+first_step false c = erasable_step [] c 0 false refl refl
+
+-- what can be taken back ahead of the label
+own_step : (behind_cr : Bool) (cs : List ℕ) (c n : ℕ) (after : Bool) → length (survivors (signs (own_part behind_cr cs))) ≡ n → cr_last behind_cr cs ≡ after
+    → length (survivors (signs (own_part behind_cr (cs ++ c ∷ [])))) ≡ erasable_after after n c
+own_step behind_cr [] c n after e cr =
+    let none : n ≡ 0 = sym e ∙ empty behind_cr in
+    first_step behind_cr c ∙ (λ i. erasable_after (cr i) (sym none i) c)
+  where
+    empty : (b : Bool) → length (survivors (signs (own_part b []))) ≡ 0
+    empty true = refl
+    empty false = refl
+own_step behind_cr (x ∷ xs) c n after e cr = go (behind_cr && x == 0x0A) refl e
+  where
+    behind_lf : (ys : List ℕ) → x ≡ 0x0A → ends_with_cr (x ∷ ys) ≡ ends_with_cr ys
+    behind_lf [] q = ap (λ y. y == 0x0D) q
+    behind_lf (y ∷ ys) q = refl
+
+    go : (b : Bool) → (behind_cr && x == 0x0A) ≡ b → length (survivors (signs (cond b xs (x ∷ xs)))) ≡ n → length (survivors (signs (cond b (xs ++ c ∷ []) (x ∷ (xs ++ c ∷ []))))) ≡ erasable_after after n c
+    go true q f = erasable_step xs c n after f (sym (behind_lf xs (eqb-true x 0x0A (and_parts behind_cr (x == 0x0A) q).1)) ∙ cr)
+    go false q f = erasable_step (x ∷ xs) c n after f cr
+
+-- ---- what is seen
+longer : (xs : List ℕ) (c : ℕ) → (length (xs ++ c ∷ []) == 0) ≡ false
+longer xs c = let l = length-append xs (c ∷ []) in ne_eqb (length (xs ++ c ∷ [])) 0 (λ q. omega (arith, l, q))
+
+push_unseen : (behind_cr : Bool) (run cs : List ℕ) (c : ℕ) → from_seen behind_cr run cs ≡ [] → from_seen behind_cr run (cs ++ c ∷ []) ≡ cond (is_seen behind_cr (run ++ cs) c) (c ∷ []) []
+push_unseen behind_cr run [] c e = sym (ap (λ r. cond (is_seen behind_cr r c) (c ∷ []) []) (append-nil run))
+push_unseen behind_cr run (x ∷ cs) c e = go (is_seen behind_cr run x) e (push_unseen behind_cr (run ++ x ∷ []) cs c)
+  where
+    go : (b : Bool) → cond b (x ∷ cs) (from_seen behind_cr (run ++ x ∷ []) cs) ≡ []
+        → (from_seen behind_cr (run ++ x ∷ []) cs ≡ [] → from_seen behind_cr (run ++ x ∷ []) (cs ++ c ∷ []) ≡ cond (is_seen behind_cr ((run ++ x ∷ []) ++ cs) c) (c ∷ []) [])
+        → cond b (x ∷ (cs ++ c ∷ [])) (from_seen behind_cr (run ++ x ∷ []) (cs ++ c ∷ [])) ≡ cond (is_seen behind_cr (run ++ x ∷ cs) c) (c ∷ []) []
+    go true q h = absurd (cc q)
+    go false q h = h q ∙ ap (λ r. cond (is_seen behind_cr r c) (c ∷ []) []) (append_assoc run (x ∷ []) cs)
+
+push_seen : (behind_cr : Bool) (run cs : List ℕ) (c : ℕ) → (length (from_seen behind_cr run cs) == 0) ≡ false → from_seen behind_cr run (cs ++ c ∷ []) ≡ from_seen behind_cr run cs ++ c ∷ []
+push_seen behind_cr run [] c e = absurd (true≢false e)
+push_seen behind_cr run (x ∷ cs) c e = go (is_seen behind_cr run x) e (push_seen behind_cr (run ++ x ∷ []) cs c)
+  where
+    go : (b : Bool) → (length (cond b (x ∷ cs) (from_seen behind_cr (run ++ x ∷ []) cs)) == 0) ≡ false
+        → ((length (from_seen behind_cr (run ++ x ∷ []) cs) == 0) ≡ false → from_seen behind_cr (run ++ x ∷ []) (cs ++ c ∷ []) ≡ from_seen behind_cr (run ++ x ∷ []) cs ++ c ∷ [])
+        → cond b (x ∷ (cs ++ c ∷ [])) (from_seen behind_cr (run ++ x ∷ []) (cs ++ c ∷ [])) ≡ cond b (x ∷ cs) (from_seen behind_cr (run ++ x ∷ []) cs) ++ c ∷ []
+    go true q h = refl
+    go false q h = h q
+
+-- the characters behind the label are one more
+behind_push : (alone behind_cr : Bool) (cs : List ℕ) (c : ℕ) → (not alone && length (from_seen behind_cr [] cs) == 0) ≡ false → behind alone behind_cr (cs ++ c ∷ []) ≡ behind alone behind_cr cs ++ c ∷ []
+behind_push true behind_cr cs c e = refl
+behind_push false behind_cr cs c e = push_seen behind_cr [] cs c e
+
+still_seen : (alone behind_cr : Bool) (cs : List ℕ) (c : ℕ) → (not alone && length (from_seen behind_cr [] cs) == 0) ≡ false → (not alone && length (from_seen behind_cr [] (cs ++ c ∷ [])) == 0) ≡ false
+still_seen true behind_cr cs c e = refl
+still_seen false behind_cr cs c e = ap (λ xs. length xs == 0) (push_seen behind_cr [] cs c e) ∙ longer (from_seen behind_cr [] cs) c
+
+seen_same : (r : Run) (alone behind_cr : Bool) (run : List ℕ) (c : ℕ) → IsAhead r alone behind_cr run → is_seen behind_cr run c ≡ is_seen_at r.erasable c
+seen_same r alone behind_cr run c h = ap (λ n. is_print (class_of c) || (c == 0x08 && n == 0)) h.erasable
+
+-- the label goes before a character only where it is to come
+pub headed_parts : (r : Run) (c : ℕ) → is_headed r c ≡ true → (r.labelled ≡ false) × (is_seen_at r.erasable c ≡ true)
+headed_parts r c e = let p = and_parts (not r.labelled) (is_seen_at r.erasable c) e in (not-true r.labelled p.0, p.1)
+
+ahead_unseen : (r : Run) (c : ℕ) → r.labelled ≡ false → is_headed r c ≡ false → is_seen_at r.erasable c ≡ false
+ahead_unseen r c l e = sym (ap (λ b. not b && is_seen_at r.erasable c) l) ∙ e
+
+-- ---- the run with one character more
+unseen_cr : (behind_cr : Bool) (cs : List ℕ) (c : ℕ) → cr_last behind_cr (cs ++ c ∷ []) ≡ (c == 0x0D)
+unseen_cr behind_cr [] c = refl
+unseen_cr behind_cr (x ∷ cs) c = ends_with_cr-last (x ∷ cs) c
+
+run_by : (r : Run) (alone behind_cr : Bool) (run : List ℕ) (c : ℕ) (heads : Bool) → is_headed r c ≡ heads → IsRun r alone behind_cr run → IsRun (step_by heads r c) alone behind_cr (run ++ c ∷ [])
+run_by r alone behind_cr run c true q h = record { ending = push_step r.ending c run h.ending; part = elim h.part [ inl a ↦ inr (first a) | inr b ↦ absurd (true≢false (sym b.labelled ∙ (headed_parts r c q).0)) ] }
+  where
+    first : IsAhead r alone behind_cr run → IsBehind (step_by true r c) alone behind_cr (run ++ c ∷ [])
+    first a =
+        let s : is_seen behind_cr run c ≡ true = seen_same r alone behind_cr run c a ∙ (headed_parts r c q).1 in
+        let one : from_seen behind_cr [] (run ++ c ∷ []) ≡ c ∷ [] = push_unseen behind_cr [] run c a.unseen ∙ ap (λ b. cond b (c ∷ []) []) s in
+        let own : behind alone behind_cr (run ++ c ∷ []) ≡ c ∷ [] = ap (λ b. cond b (run ++ c ∷ []) (from_seen behind_cr [] (run ++ c ∷ []))) a.not_alone ∙ one in
+        record {
+          labelled = refl;
+          seen = (λ i. not (a.not_alone i) && length (one i) == 0);
+          erasable = ap (λ xs. length (survivors (signs xs))) own ∙ erasable_step [] c 0 false refl refl;
+          after_cr = ap ends_with_cr own;
+        }
+run_by r alone behind_cr run c false q h = record { ending = push_step r.ending c run h.ending; part = elim h.part [ inl a ↦ inl (unseen a) | inr b ↦ inr (more b) ] }
+  where
+    unseen : IsAhead r alone behind_cr run → IsAhead (step_by false r c) alone behind_cr (run ++ c ∷ [])
+    unseen a = record {
+      labelled = a.labelled;
+      not_alone = a.not_alone;
+      unseen = push_unseen behind_cr [] run c a.unseen ∙ ap (λ b. cond b (c ∷ []) []) (seen_same r alone behind_cr run c a ∙ ahead_unseen r c a.labelled q);
+      erasable = own_step behind_cr run c r.erasable r.after_cr a.erasable a.after_cr;
+      after_cr = unseen_cr behind_cr run c;
+    }
+
+    more : IsBehind r alone behind_cr run → IsBehind (step_by false r c) alone behind_cr (run ++ c ∷ [])
+    more b =
+        let own = behind_push alone behind_cr run c b.seen in
+        record {
+          labelled = b.labelled;
+          seen = still_seen alone behind_cr run c b.seen;
+          erasable = ap (λ xs. length (survivors (signs xs))) own ∙ erasable_step (behind alone behind_cr run) c r.erasable r.after_cr b.erasable b.after_cr;
+          after_cr = ap ends_with_cr own ∙ ends_with_cr-last (behind alone behind_cr run) c;
+        }
+
+pub one_run : (r : Run) (alone behind_cr : Bool) (run : List ℕ) (c : ℕ) → IsRun r alone behind_cr run → IsRun (stepped r c) alone behind_cr (run ++ c ∷ [])
+one_run r alone behind_cr run c h = run_by r alone behind_cr run c (is_headed r c) refl h
+
+-- ---- what is sent of it
+plain_sent : (n c : ℕ) → is_seen_at n c ≡ false → is_bracket c ≡ false → sent_for n c ≡ c
+plain_sent n c s b =
+    let seen = or_parts (is_print (class_of c)) (c == 0x08 && n == 0) s in
+    let bracket = or_parts (c == 0x5B) (c == 0xFF3B) b in
+    go (c == 0x08 && n == 0) (c == 0x5B) (c == 0xFF3B) seen.1 bracket.0 bracket.1
+  where
+    go : (x y z : Bool) → x ≡ false → y ≡ false → z ≡ false → cond x 0x58 (cond y 0x28 (cond z 0xFF08 c)) ≡ c
+    go true y z p q r = absurd (true≢false p)
+    go false true z p q r = absurd (true≢false q)
+    go false false true p q r = absurd (true≢false r)
+    go false false false p q r = refl
+
+labelled_at : (name : List ℕ) (behind_cr on : Bool) (run : List ℕ) (c : ℕ) (more : List ℕ) (b : Bool) → is_seen behind_cr run c ≡ b
+    → labelled name behind_cr on run (c ∷ more) ≡ cond b (label_after on name ++ encode_utf8_all (written [] (c ∷ more))) (encode_utf8 c ++ labelled name behind_cr (opens (class_of c) on) (run ++ c ∷ []) more)
+labelled_at name behind_cr on run c more b e = ap (λ x. cond x (label_after on name ++ encode_utf8_all (written [] (c ∷ more))) (encode_utf8 c ++ labelled name behind_cr (opens (class_of c) on) (run ++ c ∷ []) more)) e
+
+text_is_by : (name : List ℕ) (r : Run) (alone behind_cr : Bool) (run : List ℕ) (c : ℕ) (more : List ℕ) (heads : Bool) → is_headed r c ≡ heads → IsRun r alone behind_cr run
+    → sent_of name r alone behind_cr run (c ∷ more) ≡ text_by heads name r c ++ sent_of name (step_by heads r c) alone behind_cr (run ++ c ∷ []) more
+text_is_by name r alone behind_cr run c more true q h = elim h.part [ inl a ↦ first a | inr b ↦ absurd (true≢false (sym b.labelled ∙ (headed_parts r c q).0)) ]
+  where
+    either : (l : Bool) → List ℕ
+    either l = cond l (encode_utf8_all (written (behind alone behind_cr run) (c ∷ more))) (labelled name behind_cr r.is_open run (c ∷ more))
+
+    first : IsAhead r alone behind_cr run → sent_of name r alone behind_cr run (c ∷ more) ≡ text_by true name r c ++ sent_of name (step_by true r c) alone behind_cr (run ++ c ∷ []) more
+    first a =
+        let s : is_seen behind_cr run c ≡ true = seen_same r alone behind_cr run c a ∙ (headed_parts r c q).1 in
+        let one : from_seen behind_cr [] (run ++ c ∷ []) ≡ c ∷ [] = push_unseen behind_cr [] run c a.unseen ∙ ap (λ b. cond b (c ∷ []) []) s in
+        let own : behind alone behind_cr (run ++ c ∷ []) ≡ c ∷ [] = ap (λ b. cond b (run ++ c ∷ []) (from_seen behind_cr [] (run ++ c ∷ []))) a.not_alone ∙ one in
+        ap either a.labelled
+        ∙ (labelled_at name behind_cr r.is_open run c more true s
+        ∙ (sym (append_assoc (label_after r.is_open name) (encode_utf8 (sent_for 0 c)) (encode_utf8_all (written (c ∷ []) more)))
+        ∙ ap (λ xs. (label_after r.is_open name ++ encode_utf8 (sent_for 0 c)) ++ encode_utf8_all (written xs more)) (sym own)))
+text_is_by name r alone behind_cr run c more false q h = elim h.part [ inl a ↦ unseen a | inr b ↦ later b ]
+  where
+    either : (l : Bool) → List ℕ
+    either l = cond l (encode_utf8_all (written (behind alone behind_cr run) (c ∷ more))) (labelled name behind_cr r.is_open run (c ∷ more))
+
+    then : (l : Bool) → List ℕ
+    then l = encode_utf8 (sent_for r.erasable c) ++ cond l (encode_utf8_all (written (behind alone behind_cr (run ++ c ∷ [])) more)) (labelled name behind_cr (opens (class_of c) r.is_open) (run ++ c ∷ []) more)
+
+    unseen : IsAhead r alone behind_cr run → sent_of name r alone behind_cr run (c ∷ more) ≡ text_by false name r c ++ sent_of name (step_by false r c) alone behind_cr (run ++ c ∷ []) more
+    unseen a =
+        let u = ahead_unseen r c a.labelled q in
+        let s : is_seen behind_cr run c ≡ false = seen_same r alone behind_cr run c a ∙ u in
+        ap either a.labelled
+        ∙ (labelled_at name behind_cr r.is_open run c more false s
+        ∙ (ap (λ x. encode_utf8 x ++ labelled name behind_cr (opens (class_of c) r.is_open) (run ++ c ∷ []) more) (sym (plain_sent r.erasable c u (unseen_one behind_cr run c s)))
+        ∙ ap then (sym a.labelled)))
+
+    later : IsBehind r alone behind_cr run → sent_of name r alone behind_cr run (c ∷ more) ≡ text_by false name r c ++ sent_of name (step_by false r c) alone behind_cr (run ++ c ∷ []) more
+    later b =
+        ap either b.labelled
+        ∙ (ap (λ n. encode_utf8 (cond (c == 0x08 && n == 0) 0x58 (without_bracket c)) ++ encode_utf8_all (written (behind alone behind_cr run ++ c ∷ []) more)) b.erasable
+        ∙ (ap (λ xs. encode_utf8 (sent_for r.erasable c) ++ encode_utf8_all (written xs more)) (sym (behind_push alone behind_cr run c b.seen))
+        ∙ ap then (sym b.labelled)))
+
+pub one_text : (name : List ℕ) (r : Run) (alone behind_cr : Bool) (run : List ℕ) (c : ℕ) (more : List ℕ) → IsRun r alone behind_cr run
+    → sent_of name r alone behind_cr run (c ∷ more) ≡ text_of_one name r c ++ sent_of name (stepped r c) alone behind_cr (run ++ c ∷ []) more
+one_text name r alone behind_cr run c more h = text_is_by name r alone behind_cr run c more (is_headed r c) refl h
+
+-- ---- what else changes
+open_by : (heads : Bool) (r : Run) (c : ℕ) → (step_by heads r c).is_open ≡ opens (class_of c) r.is_open
+open_by true r c = refl
+open_by false r c = refl
+
+pub chunk_kept : (heads : Bool) (r : Run) (c : ℕ) → (step_by heads r c).has_chunk ≡ r.has_chunk
+chunk_kept true r c = refl
+chunk_kept false r c = refl
+
+erasable_bound : (after : Bool) (n c : ℕ) → erasable_after after n c ≤ n + 1
+erasable_bound after n c = go (class_of c)
+  where
+    line : (b : Bool) → cond b n (n + 1) ≤ n + 1
+    line true = omega arith
+    line false = omega arith
+
+    go : (k : CharClass) → erasable_by k after n c ≤ n + 1
+    go Erase = omega arith
+    go Bell = omega arith
+    go NewLine = line (c == 0x0A && after)
+    go Silent = omega arith
+    go Print = omega arith
+
+pub bound_by : (heads : Bool) (r : Run) (c : ℕ) → (step_by heads r c).erasable ≤ r.erasable + 1
+bound_by true r c = let e = erasable_bound false 0 c in omega (arith, e)
+bound_by false r c = erasable_bound r.after_cr r.erasable c
+
+pub before_bound : (heads : Bool) (r : Run) → (before_by heads r).erasable ≤ r.erasable
+before_bound true r = omega arith
+before_bound false r = omega arith
+
+-- ---- room
+pub sent_size : (n c : ℕ) → length (encode_utf8 (sent_for n c)) ≤ length (encode_utf8 c)
+sent_size n c = go (c == 0x08 && n == 0)
+  where
+    plain : (b : Bool) → (c == 0x08) ≡ b → length (encode_utf8 (without_bracket c)) ≤ length (encode_utf8 c)
+    plain true e = subst (λ (x : ℕ). length (encode_utf8 (without_bracket x)) ≤ length (encode_utf8 x)) (sym (eqb-true c 0x08 e)) (omega arith)
+    plain false e = subst (λ (b : Bool). length (encode_utf8 (cond (b && is_erased []) 0x58 (without_bracket c))) ≤ length (encode_utf8 c)) e (one_short [] c)
+
+    go : (b : Bool) → length (encode_utf8 (cond b 0x58 (without_bracket c))) ≤ length (encode_utf8 c)
+    go true = let e : length (encode_utf8 0x58) ≡ 1 = ap length (encode_ascii 0x58 (omega arith)) in omega (arith, e, encode_some c)
+    go false = plain (c == 0x08) refl
 
 -- ---- a text
-filled : (c : ℕ) → 1 ≤ length (encode_utf8 c)
-unfolding encode_utf8
-filled c = go (ltb c 128) (ltb c 2048) (ltb c 65536)
-  where
-    go : (x y z : Bool)
-        → 1 ≤ length (cond x (c ∷ []) (cond y ((192 + c / 64) ∷ (128 + c % 64) ∷ []) (cond z ((224 + c / 4096) ∷ (128 + (c / 64) % 64) ∷ (128 + c % 64) ∷ []) ((240 + c / 262144) ∷ (128 + (c / 4096) % 64) ∷ (128 + (c / 64) % 64) ∷ (128 + c % 64) ∷ []))))
-    go true y z = omega arith
-    go false true z = omega arith
-    go false false true = omega arith
-    go false false false = omega arith
-
-pub sent_size : (n c : ℕ) → length (encode_utf8 (sent_for n c)) ≤ length (encode_utf8 c)
-unfolding encode_utf8
-sent_size n c = go ((c == 0x08) && n == 0)
-  where
-    go : (b : Bool) → length (encode_utf8 (cond b 0x58 c)) ≤ length (encode_utf8 c)
-    go true = filled c
-    go false = omega arith
-
 -- the first character of the rest was written
-pub write_step : (r next : Run) (out after rest others whole run before : List ℕ) (c sent : ℕ) → rest ≡ encode_utf8 c ++ others → after ≡ out ++ encode_utf8 sent
-    → ((text : List ℕ) → IsRun r text → IsRun next (text ++ encode_utf8 c)) → ((text : List ℕ) → IsRun r text → encode_utf8 sent ≡ written text (encode_utf8 c))
-    → Writes r out rest whole run before → Writes next after others whole run before
-write_step r next out after rest others whole run before c sent e f goes says w = record {
-  past = w.past ++ encode_utf8 c;
-  is = append_assoc w.past (encode_utf8 c) others ∙ (ap (λ l. w.past ++ l) (sym e) ∙ w.is);
-  run_is = subst (λ (l : List ℕ). IsRun next l) (append_assoc run w.past (encode_utf8 c)) (goes (run ++ w.past) w.run_is);
-  out_is = f
-      ∙ (ap (λ l. l ++ encode_utf8 sent) w.out_is
-      ∙ (append_assoc before (written run w.past) (encode_utf8 sent)
-      ∙ ap (λ l. before ++ l) (ap (λ l. written run w.past ++ l) (says (run ++ w.past) w.run_is) ∙ sym (written_append run w.past (encode_utf8 c)))));
+pub write_step : (name : List ℕ) (first r next : Run) (alone behind_cr : Bool) (run cs before out after rest others : List ℕ) (c : ℕ) → rest ≡ encode_utf8 c ++ others → next ≡ stepped r c → after ≡ out ++ text_of_one name r c
+    → Writes name first r alone behind_cr run cs before out rest → Writes name first next alone behind_cr run cs before after others
+write_step name first r next alone behind_cr run cs before out after rest others c e n a w =
+    let here = chars_past_char rest others c w.utf8 e in
+    let more : run ++ (w.past ++ c ∷ []) ≡ (run ++ w.past) ++ c ∷ [] = sym (append_assoc run w.past (c ∷ [])) in
+    subst (λ (x : Run). Writes name first x alone behind_cr run cs before after others) (sym n) (record {
+      past = w.past ++ c ∷ [];
+      parts = append_assoc w.past (c ∷ []) (chars others) ∙ (ap (λ xs. w.past ++ xs) (sym here) ∙ w.parts);
+      utf8 = IsUtf8-past_char rest others c w.utf8 e;
+      run_is = subst (λ (xs : List ℕ). IsRun (stepped r c) alone behind_cr xs) (sym more) (one_run r alone behind_cr (run ++ w.past) c w.run_is);
+      open_is = open_by (is_headed r c) r c ∙ (ap (opens (class_of c)) w.open_is ∙ sym (opens_push first.is_open w.past c));
+      out_is = (λ i. a i ++ sent_of name (stepped r c) alone behind_cr (more i) (chars others))
+          ∙ (append_assoc out (text_of_one name r c) (sent_of name (stepped r c) alone behind_cr ((run ++ w.past) ++ c ∷ []) (chars others))
+          ∙ (ap (λ xs. out ++ xs) (sym (one_text name r alone behind_cr (run ++ w.past) c (chars others) w.run_is) ∙ ap (sent_of name r alone behind_cr (run ++ w.past)) (sym here)) ∙ w.out_is));
+    })
+  where
+    opens_push : (was : Bool) (xs : List ℕ) (c : ℕ) → is_open_after was (xs ++ c ∷ []) ≡ opens (class_of c) (is_open_after was xs)
+    opens_push was [] c = refl
+    opens_push was (x ∷ xs) c = opens_push (opens (class_of x) was) xs c
+
+pub write_begin : (name : List ℕ) (r : Run) (alone behind_cr : Bool) (run out text : List ℕ) → IsUtf8 text → IsRun r alone behind_cr run → Writes name r r alone behind_cr run (chars text) out out text
+write_begin name r alone behind_cr run out text u h = record {
+  past = [];
+  parts = refl;
+  utf8 = u;
+  run_is = subst (λ (xs : List ℕ). IsRun r alone behind_cr xs) (sym (append-nil run)) h;
+  open_is = refl;
+  out_is = ap (λ xs. out ++ sent_of name r alone behind_cr xs (chars text)) (append-nil run);
 }
 
-pub write_begin : (r : Run) (out text run : List ℕ) → IsRun r run → Writes r out text text run out
-write_begin r out text run h = record { past = []; is = refl; run_is = subst (λ (l : List ℕ). IsRun r l) (sym (append-nil run)) h; out_is = sym (append-nil out) }
+pub write_end : (name : List ℕ) (r next : Run) (alone behind_cr : Bool) (run cs before out rest : List ℕ) → rest ≡ [] → Writes name r next alone behind_cr run cs before out rest → Sends name r next alone behind_cr run cs before out
+write_end name r next alone behind_cr run cs before out rest e w =
+    let none : chars rest ≡ [] = ap chars e ∙ chars-encodes [] refl in
+    let same : w.past ≡ cs = sym (append-nil w.past) ∙ (ap (λ xs. w.past ++ xs) (sym none) ∙ w.parts) in
+    record {
+      run_is = subst (λ (xs : List ℕ). IsRun next alone behind_cr (run ++ xs)) same w.run_is;
+      open_is = w.open_is ∙ ap (is_open_after r.is_open) same;
+      text_is = sym (append-nil out) ∙ (ap (λ xs. out ++ xs) (sym (ap (sent_of name next alone behind_cr (run ++ w.past)) none ∙ nothing next.labelled)) ∙ w.out_is);
+    }
+  where
+    nothing : (l : Bool) → cond l (encode_utf8_all (written (behind alone behind_cr (run ++ w.past)) [])) (labelled name behind_cr next.is_open (run ++ w.past) []) ≡ []
+    nothing true = refl
+    nothing false = refl
 
-pub write_end : (r : Run) (out rest text run before : List ℕ) → rest ≡ [] → Writes r out rest text run before → IsRun r (run ++ text) × (out ≡ before ++ written run text)
-write_end r out rest text run before e w =
-    let same : w.past ≡ text = sym (append-nil w.past) ∙ (ap (λ l. w.past ++ l) (sym e) ∙ w.is) in
-    (subst (λ (l : List ℕ). IsRun r (run ++ l)) same w.run_is, w.out_is ∙ ap (λ l. before ++ written run l) same)
+-- ---- where there is no run
+pub no_run : (r : Run) → r.erasable ≡ 0 → r.after_cr ≡ false → IsEnding r.ending [] → r.labelled ≡ true → (behind_cr : Bool) → IsRun r true behind_cr []
+no_run r e a n l behind_cr = record { ending = n; part = inr (record { labelled = l; seen = refl; erasable = sym e; after_cr = sym a }) }
+
+-- only whether a line is open changed
+pub opened : (r : Run) (alone behind_cr : Bool) (cs : List ℕ) (on : Bool) → IsRun r alone behind_cr cs
+    → IsRun (record { erasable = r.erasable; after_cr = r.after_cr; ending = r.ending; has_chunk = r.has_chunk; labelled = r.labelled; is_open = on }) alone behind_cr cs
+opened r alone behind_cr cs on h = record {
+  ending = h.ending;
+  part = elim h.part [
+    | inl a ↦ inl (record { labelled = a.labelled; not_alone = a.not_alone; unseen = a.unseen; erasable = a.erasable; after_cr = a.after_cr })
+    | inr b ↦ inr (record { labelled = b.labelled; seen = b.seen; erasable = b.erasable; after_cr = b.after_cr })
+  ];
+}

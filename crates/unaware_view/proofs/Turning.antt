@@ -1,16 +1,20 @@
 -- One ask of a composer that has looked: what is given, and what it stands for then.
-use Rattle.std.proofs.Common.{◌≡◌, ℕ, suc, ◌+◌, ◌-◌, ◌<◌, ◌≤◌, Bool, true, false, cond, not, ◌&&◌, ◌||◌, Option, Some, None, List, [], ◌∷◌, ◌++◌, length, refl, sym, ap, subst, ◌∙◌, arith}
-use Rattle.std.specs.Prelude.{is_some}
+use Rattle.std.proofs.Common.{◌≡◌, ℕ, suc, ◌+◌, ◌<◌, ◌≤◌, Bool, true, false, cond, not, ◌&&◌, ◌||◌, Option, Some, None, List, [], ◌∷◌, ◌++◌, length, refl, sym, ap, subst, ◌∙◌, arith, encode_utf8_all, inl, inr}
+use Rattle.std.specs.Prelude.{◌==◌, is_some}
 use Rattle.std.specs.Option.{option_or}
-use Rattle.std.proofs.lemmas.Bool.{true≢false, eq-eqb}
+use Rattle.std.proofs.lemmas.Bool.{true≢false, eq-eqb, and_parts, not-true}
+use Rattle.std.specs.Prelude.{IsUtf8, chars}
+use Rattle.std.proofs.lemmas.Str.{IsUtf8-append, chars-append, chars-encodes}
+use Rattle.std.proofs.lemmas.Bool.{and_right}
+use Rattle.text_spec.specs.Characters.{is_open_after}
+use Rattle.text_spec.specs.Shown.{ends_with_cr}
 use Rattle.text_spec.specs.Views.{label_after}
 use Rattle.stream_spec.specs.Ready.{Chunk}
-use Rattle.labels.specs.Labels.{label_on}
 use Rattle.mixer_spec.specs.Chunks.{joined, has_chunk, front}
 use Rattle.mixer_spec.specs.Rounds.{first_round}
 use Rattle.mixer_spec.specs.Setups.{Setup}
 use Rattle.mixer_spec.specs.Table.{Table}
-use Rattle.mixer_spec.specs.Composed.{Given, Asked, written, latest, text_given, run_of, given_at, since, is_of, waits_here}
+use Rattle.mixer_spec.specs.Composed.{Answer, Asked, began_alone, began_behind_cr, behind_label, chars_of, go_on, gone_on, headed, is_open, is_unlabelled, labelled, latest, room_beside, seen_part, text_given, run_of, given_at, since, is_of, waits_here, with_label, written}
 use Rattle.mixer_spec.proofs.Rounds.{round_some}
 use Rattle.slot_table.specs.Lanes.{Waiting}
 use Rattle.slot_table.specs.Standing as slots
@@ -20,12 +24,14 @@ use Rattle.unaware_view.specs.declared.composers.Current.{Current}
 use Rattle.unaware_view.specs.declared.composers.Choice.{Choice}
 use Rattle.unaware_view.specs.declared.composers.Choice.TheVariants.{Nobody, Begins, GoesOn}
 use Rattle.unaware_view.specs.declared.runs.Run.{Run}
-use Rattle.unaware_view.specs.Runs.{IsRun}
+use Rattle.mixer_spec.specs.Laws.{AreTexts}
+use Rattle.mixer_spec.proofs.Texts.{front_texts, joined_utf8}
+use Rattle.unaware_view.specs.Runs.{GoesAlone, GoesOn as RunGoesOn, Heads, IsAhead, IsRun, behind}
 use Rattle.unaware_view.specs.States.{State}
 use Rattle.unaware_view.specs.Choices.{is_set, since_at, is_left, begins, choice_after, choice, speaker_of, IsBelow, is_leg, noted}
-use Rattle.unaware_view.specs.Standing.{StandsFor, IsAsked, IsCurrent, IsSpeaker, begins_line, name_at, answered, asked_now, given_now}
-use Rattle.unaware_view.specs.Giving.{Gives, remembered, waits_of}
-use Rattle.unaware_view.proofs.Asking.{Looks, choice_is, given_of, label_is, speaker_flag}
+use Rattle.unaware_view.specs.Standing.{StandsFor, IsAsked, IsCurrent, IsSpeaker, name_at, answered, asked_now, given_now}
+use Rattle.unaware_view.specs.Giving.{Gives, GivesLabel, GivesOn, remembered, waits_of}
+use Rattle.unaware_view.proofs.Asking.{Looks, choice_is, given_of, speaker_flag}
 use Rattle.rtt_base.specs.declared.limits.TheConstants.{MOST_TEXT_OCTETS}
 
 -- ---- the speaker is never the terminal's own leg
@@ -54,7 +60,7 @@ choice_other s c asks w true now h = go (latest asks) c.current h.stands.current
     by false true k i o n = n
     by false false k i o n = tt
 
-    go : (o : Option Given) (k : Option Current) → IsCurrent s c.own asks o k → IsOther c.own (choice_after c now k)
+    go : (o : Option Answer) (k : Option Current) → IsCurrent s c.own asks o k → IsOther c.own (choice_after c now k)
     go None None u = begins_other s c asks w 0 h (omega arith)
     go None (Some x) u = absurd u
     go (Some g) None u = absurd u
@@ -69,44 +75,187 @@ pub record Turns (s : Setup) (table : Table) (c : State) (asks : List Asked) (na
   pub names_are : (i : ℕ) → i < s.legs → name_at names i ≡ s.name i
   pub below : IsBelow s.legs k
   pub other : IsOther c.own k
-  pub gives : Gives s table c.own c.fresh_line c.run next k names (joined (run_of asks)) text after
-
-label_now : (s : Setup) (c : State) (asks : List Asked) (names : List (List ℕ)) (i : ℕ) → StandsFor s c asks → name_at names i ≡ s.name i
-    → label_on c.fresh_line (name_at names i) ≡ label_after (text_given (latest asks)) (s.name i)
-label_now s c asks names i h e = (λ r. label_on (h.line r) (e r)) ∙ label_is (text_given (latest asks)) (s.name i)
+  pub texts : (i : ℕ) → AreTexts (waits_of table c.own i)
+  pub gives : Gives s table c.own names c.run next (began_alone asks) (began_behind_cr asks) (chars_of (run_of asks)) k text after
 
 pub some_is : (name : ℕ → List ℕ) (w : ℕ → List Chunk) (asks : List Asked) (k : Choice) → is_some (speaker_of k) ≡ is_some (given_of name w asks k)
 some_is name w asks Nobody = refl
 some_is name w asks (Begins i) = refl
 some_is name w asks (GoesOn i) = refl
 
+-- the label of a run is to come as the definition says it
+unlabelled_is : (s : Setup) (c : State) (asks : List Asked) → StandsFor s c asks → is_unlabelled asks ≡ not c.run.labelled
+unlabelled_is s c asks h = elim h.run.part [ inl a ↦ ahead a | inr b ↦ and_right (has_chunk (run_of asks)) _ b.seen ∙ sym (ap not b.labelled) ]
+  where
+    has : began_alone asks ≡ false → has_chunk (run_of asks) ≡ true
+    has e = go (has_chunk (run_of asks)) (sym (ap (λ b. has_chunk (run_of asks) || b) e) ∙ h.begun)
+      where
+        go : (b : Bool) → (b || false) ≡ true → b ≡ true
+        go true q = refl
+        go false q = q
+
+    ahead : IsAhead c.run (began_alone asks) (began_behind_cr asks) (chars_of (run_of asks)) → is_unlabelled asks ≡ not c.run.labelled
+    ahead a = (λ i. has a.not_alone i && (not (a.not_alone i) && length (a.unseen i) == 0)) ∙ sym (ap not a.labelled)
+
+no_chars : chars_of [] ≡ []
+no_chars = chars-encodes [] refl
+
+-- before the first ask
+pub at_first : (r : Run) → ((behind_cr : Bool) → IsRun r true behind_cr []) → IsRun r (began_alone []) (began_behind_cr []) (chars_of (run_of []))
+at_first r h = subst (λ (xs : List ℕ). IsRun r true false xs) (sym no_chars) (h false)
+
+pub no_text : IsUtf8 (joined (run_of []))
+no_text = joined_utf8 [] tt
+
+-- ---- a run with more chunks
+-- With these chunks, with which a run begins or not, this is the run.
+record Then (next : Run) (begins : Bool) (run cs : List Chunk) (alone other behind_cr on : Bool) : Type 0 where
+  run_is : IsRun next (cond begins (not (has_chunk cs)) alone) (cond begins other behind_cr) (chars_of (cond begins cs (run ++ cs)))
+  utf8 : IsUtf8 (joined (cond begins cs (run ++ cs)))
+  chunk : next.has_chunk ≡ has_chunk (cond begins cs (run ++ cs))
+  begun : (has_chunk (cond begins cs (run ++ cs)) || cond begins (not (has_chunk cs)) alone) ≡ true
+  line : next.is_open ≡ ((begins && not (has_chunk cs)) || is_open_after on (chars_of cs))
+
+has_chunk_append : (cs ds : List Chunk) → (has_chunk cs || has_chunk ds) ≡ has_chunk (cs ++ ds)
+has_chunk_append [] ds = refl
+has_chunk_append (c ∷ cs) ds = refl
+
+chars_append : (cs ds : List Chunk) → IsUtf8 (joined cs) → chars_of (cs ++ ds) ≡ chars_of cs ++ chars_of ds
+chars_append cs ds u = ap chars (joined_append cs ds) ∙ chars-append (joined cs) (joined ds) u
+
+some_chunk : (b : Bool) → (b || true) ≡ true
+some_chunk true = refl
+some_chunk false = refl
+
+goes_then : (name : List ℕ) (r next : Run) (alone other behind_cr on : Bool) (run cs : List Chunk) (text : List ℕ) → IsUtf8 (joined run) → AreTexts cs → r.is_open ≡ on → r.has_chunk ≡ has_chunk run → (has_chunk run || alone) ≡ true
+    → RunGoesOn name r next alone behind_cr (chars_of run) cs [] text → Then next false run cs alone other behind_cr on
+goes_then name r next alone other behind_cr on run cs text u a o k b h = record {
+  run_is = subst (λ (xs : List ℕ). IsRun next alone behind_cr xs) (sym (chars_append run cs u)) h.sends.run_is;
+  utf8 = subst IsUtf8 (sym (joined_append run cs)) (IsUtf8-append (joined run) (joined cs) u (joined_utf8 cs a));
+  chunk = h.has_chunk ∙ (ap (λ (x : Bool). x || has_chunk cs) k ∙ has_chunk_append run cs);
+  begun = still run b;
+  line = h.sends.open_is ∙ ap (λ (x : Bool). is_open_after x (chars_of cs)) o;
+}
+  where
+    still : (xs : List Chunk) → (has_chunk xs || alone) ≡ true → (has_chunk (xs ++ cs) || alone) ≡ true
+    still [] e = ap (λ (x : Bool). has_chunk cs || x) e ∙ some_chunk (has_chunk cs)
+    still (x ∷ xs) e = refl
+
+alone_then : (name : List ℕ) (r next : Run) (alone other behind_cr on : Bool) (run : List Chunk) (text : List ℕ) → GoesAlone name r next text → Then next true run [] alone other behind_cr on
+alone_then name r next alone other behind_cr on run text h = record {
+  run_is = subst (λ (xs : List ℕ). IsRun next true other xs) (sym no_chars) (h.run_is other);
+  utf8 = joined_utf8 [] tt;
+  chunk = h.has_chunk;
+  begun = refl;
+  line = h.open_is;
+}
+
+-- the label of a new run was to come
+new_then : (name : List ℕ) (r next : Run) (alone other behind_cr on : Bool) (run cs : List Chunk) (text : List ℕ) → AreTexts cs → r.is_open ≡ on → r.has_chunk ≡ false
+    → Heads name r next other [] cs text → Then next true run cs alone other behind_cr on
+new_then name r next alone other behind_cr on run [] text a o k h = alone_then name r next alone other behind_cr on run text h
+new_then name r next alone other behind_cr on run (c ∷ cs) text a o k h = record {
+  run_is = h.sends.run_is;
+  utf8 = joined_utf8 (c ∷ cs) a;
+  chunk = h.has_chunk ∙ ap (λ (x : Bool). x || true) k;
+  begun = refl;
+  line = h.sends.open_is ∙ ap (λ (x : Bool). is_open_after x (chars_of (c ∷ cs))) o;
+}
+
+-- the label of this run was to come
+more_then : (name : List ℕ) (r next : Run) (alone other behind_cr on : Bool) (run cs : List Chunk) (text : List ℕ) → IsUtf8 (joined run) → AreTexts cs → r.is_open ≡ on → r.has_chunk ≡ has_chunk run → alone ≡ false → has_chunk run ≡ true
+    → Heads name r next behind_cr (chars_of run) cs text → Then next (not (has_chunk run && has_chunk cs)) run cs alone other behind_cr on
+more_then name r next alone other behind_cr on run [] text u a o k n e h =
+    subst (λ (b : Bool). Then next (not (b && false)) run [] alone other behind_cr on) (sym e) (alone_then name r next alone other behind_cr on run text h)
+more_then name r next alone other behind_cr on run (c ∷ cs) text u a o k n e h =
+    subst (λ (b : Bool). Then next (not (b && true)) run (c ∷ cs) alone other behind_cr on) (sym e)
+    (goes_then name r next alone other behind_cr on run (c ∷ cs) text u a o k (ap (λ (b : Bool). b || alone) e)
+    (subst (λ (b : Bool). RunGoesOn name r next b behind_cr (chars_of run) (c ∷ cs) [] text) (sym n) h))
+
+-- what is sent of them
+heads_text : (name : List ℕ) (r next : Run) (behind_cr on : Bool) (run cs : List Chunk) (text : List ℕ) → r.is_open ≡ on → r.labelled ≡ false → Heads name r next behind_cr (chars_of run) cs text → text ≡ with_label name behind_cr on run cs
+heads_text name r next behind_cr on run [] text o l h = h.text_is ∙ ap (λ (b : Bool). label_after b name) o
+heads_text name r next behind_cr on run (c ∷ cs) text o l h =
+    h.sends.text_is
+    ∙ ((λ i. cond (l i) (encode_utf8_all (written (behind false behind_cr (chars_of run)) (chars_of (c ∷ cs)))) (labelled name behind_cr (o i) (chars_of run) (chars_of (c ∷ cs)))))
+
+-- ---- what is given
+new_heads : (name : List ℕ) (r next : Run) (other : Bool) (cs : List Chunk) (text : List ℕ) → Heads name r next other [] cs text → Heads name r next other (chars_of []) cs text
+new_heads name r next other cs text h = subst (λ (xs : List ℕ). Heads name r next other xs cs text) (sym no_chars) h
+
+begins_text : (s : Setup) (table : Table) (c : State) (asks : List Asked) (names : List (List ℕ)) (i : ℕ) (next : Run) (text : List ℕ) (after : List Waiting)
+    → Turns s table c asks names (Begins i) next text after → text ≡ (headed (waits_of table c.own) (s.name i) (ends_with_cr (chars_of (run_of asks))) (is_open asks) [] i).text
+begins_text s table c asks names i next text after h =
+    let g = h.gives in
+    let name : List ℕ = name_at names i in
+    let cs : List ℕ → List Chunk = λ n. front (room_beside n) (waits_of table c.own i) in
+    let b = g.begun in
+    heads_text name g.start next (ends_with_cr (chars_of (run_of asks))) (is_open asks) [] (cs name) text (b.is_open ∙ h.looks.stands.line) b.labelled
+    (new_heads name g.start next (ends_with_cr (chars_of (run_of asks))) (cs name) text g.headed.heads)
+    ∙ ap (λ n. with_label n (ends_with_cr (chars_of (run_of asks))) (is_open asks) [] (cs n)) (h.names_are i h.below)
+
+on_text : (s : Setup) (table : Table) (c : State) (asks : List Asked) (names : List (List ℕ)) (i : ℕ) (next : Run) (text : List ℕ) (after : List Waiting)
+    → Turns s table c asks names (GoesOn i) next text after → text ≡ (go_on s.name (waits_of table c.own) asks i).text
+on_text s table c asks names i next text after h = elim h.gives [ inl g ↦ on g | inr g ↦ label g ]
+  where
+    by : Bool → List ℕ
+    by b = (cond b (headed (waits_of table c.own) (s.name i) (began_behind_cr asks) (is_open asks) (run_of asks) i) (gone_on (waits_of table c.own) (behind_label asks) i)).text
+
+    on : GivesOn s table c.own (name_at names i) c.run next (began_alone asks) (began_behind_cr asks) (chars_of (run_of asks)) i text after → text ≡ (go_on s.name (waits_of table c.own) asks i).text
+    on g =
+        g.goes.sends.text_is
+        ∙ (ap (λ (l : Bool). cond l (encode_utf8_all (written (behind_label asks) (chars_of (front MOST_TEXT_OCTETS (waits_of table c.own i))))) (labelled (name_at names i) (began_behind_cr asks) c.run.is_open (chars_of (run_of asks)) (chars_of (front MOST_TEXT_OCTETS (waits_of table c.own i))))) g.labelled
+        ∙ ap by (sym (unlabelled_is s c asks h.looks.stands ∙ ap not g.labelled)))
+
+    label : GivesLabel s table c.own (name_at names i) c.run next (began_alone asks) (began_behind_cr asks) (chars_of (run_of asks)) i text after → text ≡ (go_on s.name (waits_of table c.own) asks i).text
+    label g =
+        heads_text (name_at names i) c.run next (began_behind_cr asks) (is_open asks) (run_of asks) (front (room_beside (name_at names i)) (waits_of table c.own i)) text h.looks.stands.line g.labelled g.headed.heads
+        ∙ (ap (λ n. with_label n (began_behind_cr asks) (is_open asks) (run_of asks) (front (room_beside n) (waits_of table c.own i))) (h.names_are i h.below)
+        ∙ ap by (sym (unlabelled_is s c asks h.looks.stands ∙ ap not g.labelled)))
+
 pub text_is : (s : Setup) (table : Table) (c : State) (asks : List Asked) (names : List (List ℕ)) (k : Choice) (next : Run) (text : List ℕ) (after : List Waiting)
     → Turns s table c asks names k next text after → text ≡ text_given (given_of s.name (waits_of table c.own) asks k)
 text_is s table c asks names Nobody next text after h = h.gives.text_is
-text_is s table c asks names (Begins i) next text after h =
-    h.gives.goes.text_is
-    ∙ ap (λ (l : List ℕ). l ++ written [] (joined (front (MOST_TEXT_OCTETS - length l) (waits_of table c.own i)))) (label_now s c asks names i h.looks.stands (h.names_are i h.below))
-text_is s table c asks names (GoesOn i) next text after h = h.gives.goes.text_is
+text_is s table c asks names (Begins i) next text after h = begins_text s table c asks names i next text after h
+text_is s table c asks names (GoesOn i) next text after h = on_text s table c asks names i next text after h
 
 pub slots_are : (s : Setup) (table : Table) (c : State) (asks : List Asked) (names : List (List ℕ)) (k : Choice) (next : Run) (text : List ℕ) (after : List Waiting)
     → Turns s table c asks names k next text after → slots.StandsFor s after (answered c.own (given_of s.name (waits_of table c.own) asks k) table)
 slots_are s table c asks names Nobody next text after h = h.gives.stands
 slots_are s table c asks names (Begins i) next text after h =
-    subst (λ (l : List ℕ). slots.StandsFor s after (fetched c.own i (MOST_TEXT_OCTETS - length l) table)) (label_now s c asks names i h.looks.stands (h.names_are i h.below)) h.gives.stands
-slots_are s table c asks names (GoesOn i) next text after h = h.gives.stands
+    subst (λ (n : List ℕ). slots.StandsFor s after (fetched c.own i (room_beside n) table)) (h.names_are i h.below) h.gives.headed.stands
+slots_are s table c asks names (GoesOn i) next text after h = elim h.gives [ inl g ↦ on g | inr g ↦ label g ]
+  where
+    at : Bool → Type 0
+    at b = slots.StandsFor s after (answered c.own (Some (cond b (headed (waits_of table c.own) (s.name i) (began_behind_cr asks) (is_open asks) (run_of asks) i) (gone_on (waits_of table c.own) (behind_label asks) i))) table)
+
+    on : GivesOn s table c.own (name_at names i) c.run next (began_alone asks) (began_behind_cr asks) (chars_of (run_of asks)) i text after → slots.StandsFor s after (answered c.own (Some (go_on s.name (waits_of table c.own) asks i)) table)
+    on g = subst at (sym (unlabelled_is s c asks h.looks.stands ∙ ap not g.labelled)) g.stands
+
+    label : GivesLabel s table c.own (name_at names i) c.run next (began_alone asks) (began_behind_cr asks) (chars_of (run_of asks)) i text after → slots.StandsFor s after (answered c.own (Some (go_on s.name (waits_of table c.own) asks i)) table)
+    label g =
+        subst at (sym (unlabelled_is s c asks h.looks.stands ∙ ap not g.labelled))
+        (subst (λ (n : List ℕ). slots.StandsFor s after (fetched c.own i (room_beside n) table)) (h.names_are i h.below) g.headed.stands)
 
 -- ---- what the composer stands for then
 -- with an ask at which this was given
-abbrev pub asked_more : (ℕ → List Chunk) → ℕ → List Asked → Option Given → List Asked
+abbrev pub asked_more : (ℕ → List Chunk) → ℕ → List Asked → Option Answer → List Asked
 asked_more w media asks g = record { media = media; waiting = λ i. has_chunk (w i); given = g } ∷ asks
 
-abbrev pub state_then : State → Choice → Run → List (Option ℕ) → ℕ → List ℕ → State
-state_then c k next moments media text = remembered (record c { run = next; since = moments; asked = media + 1 }) (speaker_of k) media text
+abbrev pub state_then : State → Choice → Run → List (Option ℕ) → ℕ → State
+state_then c k next moments media = remembered (record c { run = next; since = moments; asked = media + 1 }) (speaker_of k) media
+
+source_is : (name : ℕ → List ℕ) (w : ℕ → List Chunk) (asks : List Asked) (i : ℕ) → (go_on name w asks i).source ≡ i
+source_is name w asks i = go (is_unlabelled asks)
+  where
+    go : (b : Bool) → (cond b (headed w (name i) (began_behind_cr asks) (is_open asks) (run_of asks) i) (gone_on w (behind_label asks) i)).source ≡ i
+    go true = refl
+    go false = refl
 
 leg_is : (name : ℕ → List ℕ) (w : ℕ → List Chunk) (asks : List Asked) (k : Choice) (i : ℕ) → is_leg i (speaker_of k) ≡ is_of i (given_of name w asks k)
 leg_is name w asks Nobody i = refl
 leg_is name w asks (Begins s) i = refl
-leg_is name w asks (GoesOn s) i = refl
+leg_is name w asks (GoesOn s) i = ap (λ u. u == i) (sym (source_is name w asks s))
 
 -- since when each leg waits was noted
 pub record Notes (c : State) (k : Choice) (media : ℕ) (moments : List (Option ℕ)) : Type 0 where
@@ -119,13 +268,13 @@ since_is s c asks w k media moments h n i l o =
     n.noted_at i (let e = h.stands.legs in omega (arith, l, e))
     ∙ (λ r. cond (leg_is s.name w asks k i r) None (option_or (h.stands.waits_since i l o r) (cond (speaker_flag s c asks w i h l o r) (Some media) None)))
 
-still_current : (s : Setup) (own : ℕ) (asks : List Asked) (w : ℕ → List Chunk) (media : ℕ) (o : Option Given) (x : Option Current) → IsCurrent s own asks o x → IsCurrent s own (asked_more w media asks None) o x
+still_current : (s : Setup) (own : ℕ) (asks : List Asked) (w : ℕ → List Chunk) (media : ℕ) (o : Option Answer) (x : Option Current) → IsCurrent s own asks o x → IsCurrent s own (asked_more w media asks None) o x
 still_current s own asks w media None None u = tt
 still_current s own asks w media None (Some x) u = absurd u
 still_current s own asks w media (Some g) None u = absurd u
 still_current s own asks w media (Some g) (Some x) u = record { source = u.source; given = u.given; leg = u.leg; other = u.other }
 
-now_current : (s : Setup) (own : ℕ) (asks : List Asked) (w : ℕ → List Chunk) (media : ℕ) (g : Given) (i : ℕ) → g.source ≡ i → i < s.legs → (i ≡ own → ⊥)
+now_current : (s : Setup) (own : ℕ) (asks : List Asked) (w : ℕ → List Chunk) (media : ℕ) (g : Answer) (i : ℕ) → g.source ≡ i → i < s.legs → (i ≡ own → ⊥)
     → IsSpeaker s own (asked_more w media asks (Some g)) g (record { speaker = i; given_at = media })
 now_current s own asks w media g i e l o = record {
   source = e;
@@ -134,13 +283,51 @@ now_current s own asks w media g i e l o = record {
   other = o;
 }
 
-has_chunk_append : (cs ds : List Chunk) → (has_chunk cs || has_chunk ds) ≡ has_chunk (cs ++ ds)
-has_chunk_append [] ds = refl
-has_chunk_append (c ∷ cs) ds = refl
+-- what stands of the run then, where something was given
+on_then : (s : Setup) (table : Table) (c : State) (asks : List Asked) (names : List (List ℕ)) (i : ℕ) (next : Run) (text : List ℕ) (after : List Waiting) → Turns s table c asks names (GoesOn i) next text after
+    → let g = go_on s.name (waits_of table c.own) asks i in Then next g.begins (run_of asks) g.chunks (began_alone asks) (ends_with_cr (chars_of (run_of asks))) (began_behind_cr asks) (is_open asks)
+on_then s table c asks names i next text after h = elim h.gives [ inl g ↦ on g | inr g ↦ label g ]
+  where
+    after_by : Answer → Type 0
+    after_by g = Then next g.begins (run_of asks) g.chunks (began_alone asks) (ends_with_cr (chars_of (run_of asks))) (began_behind_cr asks) (is_open asks)
+
+    at : Bool → Type 0
+    at b = after_by (cond b (headed (waits_of table c.own) (s.name i) (began_behind_cr asks) (is_open asks) (run_of asks) i) (gone_on (waits_of table c.own) (behind_label asks) i))
+
+    on : GivesOn s table c.own (name_at names i) c.run next (began_alone asks) (began_behind_cr asks) (chars_of (run_of asks)) i text after → after_by (go_on s.name (waits_of table c.own) asks i)
+    on g =
+        let st = h.looks.stands in
+        subst at (sym (unlabelled_is s c asks st ∙ ap not g.labelled))
+        (goes_then (name_at names i) c.run next (began_alone asks) (ends_with_cr (chars_of (run_of asks))) (began_behind_cr asks) (is_open asks) (run_of asks) (front MOST_TEXT_OCTETS (waits_of table c.own i)) text
+        st.utf8 (front_texts MOST_TEXT_OCTETS (waits_of table c.own i) (h.texts i)) st.line st.chunk st.begun g.goes)
+
+    parts : is_unlabelled asks ≡ true → (has_chunk (run_of asks) ≡ true) × (began_alone asks ≡ false)
+    parts e =
+        let p = and_parts (has_chunk (run_of asks)) (not (began_alone asks) && length (seen_part asks) == 0) e in
+        (p.0, not-true (began_alone asks) (and_parts (not (began_alone asks)) (length (seen_part asks) == 0) p.1).0)
+
+    label : GivesLabel s table c.own (name_at names i) c.run next (began_alone asks) (began_behind_cr asks) (chars_of (run_of asks)) i text after → after_by (go_on s.name (waits_of table c.own) asks i)
+    label g =
+        let st = h.looks.stands in
+        let q : is_unlabelled asks ≡ true = unlabelled_is s c asks st ∙ ap not g.labelled in
+        let p = parts q in
+        subst at (sym q)
+        (subst (λ (n : List ℕ). after_by (headed (waits_of table c.own) n (began_behind_cr asks) (is_open asks) (run_of asks) i)) (h.names_are i h.below)
+        (more_then (name_at names i) c.run next (began_alone asks) (ends_with_cr (chars_of (run_of asks))) (began_behind_cr asks) (is_open asks) (run_of asks) (front (room_beside (name_at names i)) (waits_of table c.own i)) text
+        st.utf8 (front_texts (room_beside (name_at names i)) (waits_of table c.own i) (h.texts i)) st.line st.chunk p.1 p.0 g.headed.heads))
+
+begins_then : (s : Setup) (table : Table) (c : State) (asks : List Asked) (names : List (List ℕ)) (i : ℕ) (next : Run) (text : List ℕ) (after : List Waiting) → Turns s table c asks names (Begins i) next text after
+    → Then next true (run_of asks) (front (room_beside (s.name i)) (waits_of table c.own i)) (began_alone asks) (ends_with_cr (chars_of (run_of asks))) (began_behind_cr asks) (is_open asks)
+begins_then s table c asks names i next text after h =
+    let g = h.gives in
+    let b = g.begun in
+    subst (λ (n : List ℕ). Then next true (run_of asks) (front (room_beside n) (waits_of table c.own i)) (began_alone asks) (ends_with_cr (chars_of (run_of asks))) (began_behind_cr asks) (is_open asks)) (h.names_are i h.below)
+    (new_then (name_at names i) g.start next (began_alone asks) (ends_with_cr (chars_of (run_of asks))) (began_behind_cr asks) (is_open asks) (run_of asks) (front (room_beside (name_at names i)) (waits_of table c.own i)) text
+    (front_texts (room_beside (name_at names i)) (waits_of table c.own i) (h.texts i)) (b.is_open ∙ h.looks.stands.line) b.has_chunk g.headed.heads)
 
 pub stands_then : (s : Setup) (table : Table) (c : State) (asks : List Asked) (names : List (List ℕ)) (k : Choice) (next : Run) (text : List ℕ) (after : List Waiting) (media : ℕ) (moments : List (Option ℕ))
     → Turns s table c asks names k next text after → Notes c k media moments
-    → StandsFor s (state_then c k next moments media text) (asked_more (waits_of table c.own) media asks (given_of s.name (waits_of table c.own) asks k))
+    → StandsFor s (state_then c k next moments media) (asked_more (waits_of table c.own) media asks (given_of s.name (waits_of table c.own) asks k))
 stands_then s table c asks names Nobody next text after media moments h n =
     let st = h.looks.stands in
     let w = waits_of table c.own in
@@ -148,35 +335,41 @@ stands_then s table c asks names Nobody next text after media moments h n =
       legs = n.legs ∙ st.legs;
       current = still_current s c.own asks w media (latest asks) c.current st.current;
       waits_since = since_is s c asks w Nobody media moments h.looks n;
-      run = subst (λ (q : Run). IsRun q (joined (run_of asks))) (sym h.gives.run) st.run;
+      run = subst (λ (q : Run). IsRun q (began_alone asks) (began_behind_cr asks) (chars_of (run_of asks))) (sym h.gives.run) st.run;
+      utf8 = st.utf8;
       chunk = ap (λ (q : Run). q.has_chunk) h.gives.run ∙ st.chunk;
-      line = st.line;
+      begun = st.begun;
+      line = ap (λ (q : Run). q.is_open) h.gives.run ∙ st.line;
       asked = refl;
     }
 stands_then s table c asks names (Begins i) next text after media moments h n =
     let st = h.looks.stands in
     let w = waits_of table c.own in
-    let label = label_now s c asks names i st (h.names_are i h.below) in
-    let chunks : List ℕ → List Chunk = λ l. front (MOST_TEXT_OCTETS - length l) (w i) in
+    let t = begins_then s table c asks names i next text after h in
     record {
       legs = n.legs ∙ st.legs;
       current = now_current s c.own asks w media _ i refl h.below h.other;
       waits_since = since_is s c asks w (Begins i) media moments h.looks n;
-      run = subst (λ (l : List ℕ). IsRun next (joined (chunks l))) label h.gives.goes.run_is;
-      chunk = h.gives.goes.has_chunk ∙ (λ r. h.gives.no_chunk r || has_chunk (chunks (label r)));
-      line = ap begins_line (text_is s table c asks names (Begins i) next text after h);
+      run = t.run_is;
+      utf8 = t.utf8;
+      chunk = t.chunk;
+      begun = t.begun;
+      line = t.line;
       asked = refl;
     }
 stands_then s table c asks names (GoesOn i) next text after media moments h n =
     let st = h.looks.stands in
     let w = waits_of table c.own in
+    let t = on_then s table c asks names i next text after h in
     record {
       legs = n.legs ∙ st.legs;
-      current = now_current s c.own asks w media _ i refl h.below h.other;
+      current = now_current s c.own asks w media _ i (source_is s.name w asks i) h.below h.other;
       waits_since = since_is s c asks w (GoesOn i) media moments h.looks n;
-      run = subst (IsRun next) (sym (joined_append (run_of asks) (front MOST_TEXT_OCTETS (w i)))) h.gives.goes.run_is;
-      chunk = h.gives.goes.has_chunk ∙ (ap (λ (b : Bool). b || has_chunk (front MOST_TEXT_OCTETS (w i))) st.chunk ∙ has_chunk_append (run_of asks) (front MOST_TEXT_OCTETS (w i)));
-      line = ap begins_line (text_is s table c asks names (GoesOn i) next text after h);
+      run = t.run_is;
+      utf8 = t.utf8;
+      chunk = t.chunk;
+      begun = t.begun;
+      line = t.line;
       asked = refl;
     }
 
@@ -194,7 +387,7 @@ notes_of c k media speaker flags old moments e f o l n =
 pub record Told (s : Setup) (table : Table) (c : State) (asks : List Asked) (flags : List Bool) (due : Bool) (media : ℕ) (k : Choice) (next : Run) (text : List ℕ) (after : List Waiting) (moments : List (Option ℕ)) : Type 0 where
   pub given : is_some (speaker_of k) ≡ is_some (given_now s table c media due asks)
   pub text_is : text ≡ text_given (given_now s table c media due asks)
-  pub stands : StandsFor s (state_then (record c { waits = flags }) k next moments media text) (asked_now s table c media due asks)
+  pub stands : StandsFor s (state_then (record c { waits = flags }) k next moments media) (asked_now s table c media due asks)
   pub slots_stand : slots.StandsFor s after (answered c.own (given_now s table c media due asks) table)
 
 looks_of : (s : Setup) (table : Table) (c : State) (now : List Waiting) (names : List (List ℕ)) (asks : List Asked) (flags : List Bool) → IsAsked s table c now names asks → length flags ≡ length c.since
@@ -202,14 +395,14 @@ looks_of : (s : Setup) (table : Table) (c : State) (now : List Waiting) (names :
 looks_of s table c now names asks flags h l f =
     let st = h.stands in
     record {
-      stands = record { legs = st.legs; current = st.current; waits_since = st.waits_since; run = st.run; chunk = st.chunk; line = st.line; asked = st.asked };
+      stands = record { legs = st.legs; current = st.current; waits_since = st.waits_since; run = st.run; utf8 = st.utf8; chunk = st.chunk; begun = st.begun; line = st.line; asked = st.asked };
       legs = l ∙ st.legs;
       flags = λ i b. f i (omega (arith, b, l));
     }
 
 pub told : (s : Setup) (table : Table) (c : State) (asks : List Asked) (flags : List Bool) (due : Bool) (media : ℕ) (k : Choice) (next : Run) (text : List ℕ) (after : List Waiting) (moments : List (Option ℕ)) (now : List Waiting) (names : List (List ℕ))
     → IsAsked s table c now names asks → length flags ≡ length c.since → ((i : ℕ) → i < length c.since → is_set flags i ≡ waits_here c.own (waits_of table c.own) i)
-    → k ≡ choice (record c { waits = flags }) due media → IsBelow (length c.since) k → Gives s table c.own c.fresh_line c.run next k names (joined (run_of asks)) text after → Notes (record c { waits = flags }) k media moments
+    → k ≡ choice (record c { waits = flags }) due media → IsBelow (length c.since) k → Gives s table c.own names c.run next (began_alone asks) (began_behind_cr asks) (chars_of (run_of asks)) k text after → Notes (record c { waits = flags }) k media moments
     → Told s table c asks flags due media k next text after moments
 told s table c asks flags due media k next text after moments now names h l f chosen below gives n =
     let d : State = record c { waits = flags } in
@@ -221,11 +414,12 @@ told s table c asks flags due media k next text after moments now names h l f ch
       names_are = h.names;
       below = subst (λ (n : ℕ). IsBelow n k) h.stands.legs below;
       other = subst (IsOther c.own) (sym chosen) (choice_other s d asks w due media looks);
+      texts = h.texts;
       gives = gives;
     } in
     record {
       given = some_is s.name w asks k ∙ ap is_some is;
       text_is = text_is s table d asks names k next text after turns ∙ ap text_given is;
-      stands = subst (λ (g : Option Given). StandsFor s (state_then d k next moments media text) (asked_more w media asks g)) is (stands_then s table d asks names k next text after media moments turns n);
-      slots_stand = subst (λ (g : Option Given). slots.StandsFor s after (answered c.own g table)) is (slots_are s table d asks names k next text after turns);
+      stands = subst (λ (g : Option Answer). StandsFor s (state_then d k next moments media) (asked_more w media asks g)) is (stands_then s table d asks names k next text after media moments turns n);
+      slots_stand = subst (λ (g : Option Answer). slots.StandsFor s after (answered c.own g table)) is (slots_are s table d asks names k next text after turns);
     }

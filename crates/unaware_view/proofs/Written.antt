@@ -1,29 +1,19 @@
 -- What was taken is written.
-use Rattle.std.proofs.Common.{◌≡◌, ℕ, ◌≤◌, Bool, true, false, List, [], ◌∷◌, ◌++◌, length, refl, sym, ap, subst, ◌∙◌, arith, IsUtf8}
+use Rattle.std.proofs.Common.{◌≡◌, ℕ, Bool, true, false, inl, inr, List, [], ◌∷◌, ◌++◌, length, refl, sym, ap, subst, ◌∙◌, arith, IsUtf8}
 use Rattle.std.specs.Prelude.{◌==◌, ◌||◌, not}
-use Rattle.std.specs.Char.{encode_utf8}
+use Rattle.std.specs.Str.{chars}
 use Rattle.std.proofs.lemmas.Bool.{true≢false, ne_eqb}
 use Rattle.wire_spec.specs.Packets.{has_text}
 use Rattle.stream_spec.specs.Ready.{Chunk}
-use Rattle.mixer_spec.specs.Chunks.{joined, has_chunk, front, behind}
+use Rattle.text_spec.specs.Characters.{is_open_after}
+use Rattle.text_spec.specs.Shown.{ends_with_cr, signs, survivors}
+use Rattle.t140_text.proofs.Endings.{cr_of}
+use Rattle.mixer_spec.specs.Chunks.{joined, has_chunk}
 use Rattle.mixer_spec.specs.Laws.{AreTexts}
-use Rattle.mixer_spec.specs.Composed.{written}
-use Rattle.mixer_spec.proofs.Texts.{joined_utf8, texts_left}
-use Rattle.mixer_spec.proofs.Kept.{front_behind}
-use Rattle.labels.specs.Labels.{label_on, line_start}
-use Rattle.labels.proofs.Sizes.{length_is}
+use Rattle.mixer_spec.specs.Composed.{own_part}
+use Rattle.mixer_spec.proofs.Texts.{joined_utf8}
 use Rattle.unaware_view.specs.declared.runs.Run.{Run}
-use Rattle.unaware_view.specs.Runs.{IsRun, GoesOn}
-use Rattle.rtt_base.specs.declared.limits.TheConstants.{MOST_TEXT_OCTETS}
-
-pub same_run : (r q : Run) (text : List ℕ) → q.erasable ≡ r.erasable → q.tail ≡ r.tail → IsRun r text → IsRun q text
-same_run r q text e t h = record {
-  characters = h.characters;
-  scalars = h.scalars;
-  is = h.is;
-  erasable = h.erasable ∙ sym e;
-  tail = subst (λ x. Rattle.unaware_view.specs.Runs.EndsWith h.characters x) (sym t) h.tail;
-}
+use Rattle.unaware_view.specs.Runs.{GoesAlone, GoesOn, Heads, IsBegun, IsRun, Sends, sent_of}
 
 some_text : (cs : List Chunk) → AreTexts cs → not (length (joined cs) == 0) ≡ has_chunk cs
 some_text [] a = refl
@@ -33,25 +23,73 @@ some_text (c ∷ cs) a = go c.text a.0
     go [] h = absurd (true≢false (sym h))
     go (b ∷ bs) h = ap not (ne_eqb (length ((b ∷ bs) ++ joined cs)) 0 (λ q. omega (arith, q)))
 
+-- it has the same run where only whether a chunk stands in it changed
+same_run : (r q : Run) (alone behind_cr : Bool) (cs : List ℕ) → q ≡ record { erasable = r.erasable; after_cr = r.after_cr; ending = r.ending; has_chunk = q.has_chunk; labelled = r.labelled; is_open = r.is_open } → IsRun r alone behind_cr cs → IsRun q alone behind_cr cs
+same_run r q alone behind_cr cs e h = subst (λ (x : Run). IsRun x alone behind_cr cs) (sym e) (record {
+  ending = h.ending;
+  part = elim h.part [
+    | inl a ↦ inl (record { labelled = a.labelled; not_alone = a.not_alone; unseen = a.unseen; erasable = a.erasable; after_cr = a.after_cr })
+    | inr b ↦ inr (record { labelled = b.labelled; seen = b.seen; erasable = b.erasable; after_cr = b.after_cr })
+  ];
+})
+
 -- the text was written, and then it was noted whether the run has a chunk
-pub written_step : (r q next : Run) (before octets after text : List ℕ) (chunks : List Chunk) (b any : Bool) → AreTexts chunks → octets ≡ joined chunks → any ≡ not (length octets == 0) → b ≡ (r.has_chunk || any)
-    → IsRun q (before ++ octets) → after ≡ text ++ written before octets → next ≡ record { erasable = q.erasable; tail = q.tail; has_chunk = b } → GoesOn r next before chunks text after
-written_step r q next before octets after text chunks b any a e n k h w x = record {
-  run_is = subst (λ (l : List ℕ). IsRun next (before ++ l)) e (same_run q next (before ++ octets) (ap (λ (y : Run). y.erasable) x) (ap (λ (y : Run). y.tail) x) h);
-  text_is = w ∙ ap (λ l. text ++ written before l) e;
-  has_chunk = ap (λ (y : Run). y.has_chunk) x ∙ (k ∙ ap (λ (y : Bool). r.has_chunk || y) (n ∙ (ap (λ (l : List ℕ). not (length l == 0)) e ∙ some_text chunks a)));
-}
+pub written_step : (name : List ℕ) (r q next : Run) (alone behind_cr : Bool) (before octets after text : List ℕ) (chunks : List Chunk) (b any : Bool) → AreTexts chunks → octets ≡ joined chunks → any ≡ not (length octets == 0) → b ≡ (r.has_chunk || any)
+    → Sends name r q alone behind_cr before (chars octets) text after → next ≡ record { erasable = q.erasable; after_cr = q.after_cr; ending = q.ending; has_chunk = b; labelled = q.labelled; is_open = q.is_open }
+    → GoesOn name r next alone behind_cr before chunks text after
+written_step name r q next alone behind_cr before octets after text chunks b any a e n k h x =
+    let chunk : next.has_chunk ≡ b = ap (λ (y : Run). y.has_chunk) x in
+    let same : next ≡ record { erasable = q.erasable; after_cr = q.after_cr; ending = q.ending; has_chunk = next.has_chunk; labelled = q.labelled; is_open = q.is_open } =
+    x ∙ ap (λ (y : Bool). record { erasable = q.erasable; after_cr = q.after_cr; ending = q.ending; has_chunk = y; labelled = q.labelled; is_open = q.is_open }) (sym chunk) in
+    record {
+      sends = record {
+        run_is = subst (λ (l : List ℕ). IsRun next alone behind_cr (before ++ chars l)) e (same_run q next alone behind_cr (before ++ chars octets) same h.run_is);
+        open_is = ap (λ (y : Run). y.is_open) x ∙ (h.open_is ∙ ap (λ l. is_open_after r.is_open (chars l)) e);
+        text_is = h.text_is ∙ ap (λ l. text ++ sent_of name r alone behind_cr before (chars l)) e;
+      };
+      has_chunk = chunk ∙ (k ∙ ap (λ (y : Bool). r.has_chunk || y) (n ∙ (ap (λ (l : List ℕ). not (length l == 0)) e ∙ some_text chunks a)));
+    }
 
 pub is_text : (octets : List ℕ) (chunks : List Chunk) → AreTexts chunks → octets ≡ joined chunks → IsUtf8 octets
 is_text octets chunks a e = subst IsUtf8 (sym e) (joined_utf8 chunks a)
 
-pub front_texts : (room : ℕ) (cs : List Chunk) → AreTexts cs → AreTexts (front room cs)
-front_texts room cs a = texts_left (front room cs) (behind room cs) (subst AreTexts (sym (front_behind room cs)) a)
+-- Nothing was taken exactly where there is no chunk.
+pub no_chunks : (octets : List ℕ) (chunks : List Chunk) → AreTexts chunks → octets ≡ joined chunks → (length octets == 0) ≡ not (has_chunk chunks)
+no_chunks octets chunks a e = twice (length octets == 0) ∙ ap not (ap (λ (l : List ℕ). not (length l == 0)) e ∙ some_text chunks a)
+  where
+    twice : (b : Bool) → b ≡ not (not b)
+    twice true = refl
+    twice false = refl
 
-start_short : (b : Bool) → length (line_start b) ≤ 3
-unfolding encode_utf8
-start_short true = omega arith
-start_short false = omega arith
+-- the label went alone, or these were given
+pub heads_none : (name : List ℕ) (r next : Run) (behind_cr : Bool) (before : List ℕ) (chunks : List Chunk) (text : List ℕ) → has_chunk chunks ≡ false → GoesAlone name r next text → Heads name r next behind_cr before chunks text
+heads_none name r next behind_cr before [] text e h = h
+heads_none name r next behind_cr before (c ∷ cs) text e h = absurd (true≢false e)
 
-pub label_short : (b : Bool) (name : List ℕ) → length name ≤ 32 → length (label_on b name) ≤ MOST_TEXT_OCTETS
-label_short b name l = let s = start_short b in let e = length_is b name in omega (arith, l, s, e)
+pub heads_some : (name : List ℕ) (r next : Run) (behind_cr : Bool) (before : List ℕ) (chunks : List Chunk) (text : List ℕ) → has_chunk chunks ≡ true → GoesOn name r next false behind_cr before chunks [] text → Heads name r next behind_cr before chunks text
+heads_some name r next behind_cr before [] text e h = absurd (true≢false (sym e))
+heads_some name r next behind_cr before (c ∷ cs) text e h = h
+
+-- a run that begins behind one with these characters
+pub begun_is : (r next : Run) (alone behind_cr : Bool) (cs : List ℕ) → IsRun r alone behind_cr cs → IsBegun r next → IsRun next false (ends_with_cr cs) []
+begun_is r next alone behind_cr cs h b = record {
+  ending = b.ending;
+  part = inl (record {
+    labelled = b.labelled;
+    not_alone = refl;
+    unseen = refl;
+    erasable = none (ends_with_cr cs) ∙ sym b.erasable;
+    after_cr = sym (b.after_cr ∙ cr_of r.ending cs h.ending);
+  });
+}
+  where
+    none : (x : Bool) → length (survivors (signs (own_part x []))) ≡ 0
+    none true = refl
+    none false = refl
+
+-- a run whose label is to come did not begin with it alone
+pub to_come : (r : Run) (alone behind_cr : Bool) (cs : List ℕ) → r.labelled ≡ false → IsRun r alone behind_cr cs → IsRun r false behind_cr cs
+to_come r alone behind_cr cs e h = elim h.part [
+  | inl a ↦ subst (λ (b : Bool). IsRun r b behind_cr cs) a.not_alone h
+  | inr b ↦ absurd (true≢false (sym b.labelled ∙ e))
+]

@@ -32,7 +32,7 @@ abbrev pub is_left : State → Current → ℕ → Bool
 is_left c x media =
     c.run.has_chunk
     && (any_other c.waits x.speaker
-    && (is_turn c.run.tail
+    && (is_turn c.run.ending
     || ((not (is_set c.waits x.speaker) && is_ago 2000 media (Some x.given_at))
     || any_long c.waits c.since 7000 media x.speaker)))
 

@@ -1,8 +1,9 @@
 -- What one ask changes in a composer.
-use Rattle.std.specs.Prelude.{◌≡◌, ℕ, ◌-◌, Bool, false, Option, None, Some, List, [], length}
+use Rattle.std.specs.Prelude.{◌≡◌, ℕ, Bool, true, false, ◌⊎◌, Option, None, Some, List, []}
+use Rattle.text_spec.specs.Shown.{ends_with_cr}
 use Rattle.stream_spec.specs.Ready.{Chunk}
-use Rattle.labels.specs.Labels.{label_on}
 use Rattle.mixer_spec.specs.Chunks.{front}
+use Rattle.mixer_spec.specs.Composed.{room_beside}
 use Rattle.mixer_spec.specs.Setups.{Setup}
 use Rattle.mixer_spec.specs.Table.{Table}
 use Rattle.slot_table.specs.Lanes.{Waiting}
@@ -11,14 +12,15 @@ use Rattle.slot_table.specs.Words.{fetched}
 use Rattle.unaware_view.specs.declared.composers.Choice.{Choice}
 use Rattle.unaware_view.specs.declared.composers.Choice.TheVariants.{Nobody, Begins, GoesOn}
 use Rattle.unaware_view.specs.declared.runs.Run.{Run}
+use Rattle.unaware_view.specs.Runs.{Heads, IsBegun}
 use Rattle.unaware_view.specs.Runs.{GoesOn as RunGoesOn}
 use Rattle.unaware_view.specs.States.{State}
-use Rattle.unaware_view.specs.Standing.{begins_line, name_at}
+use Rattle.unaware_view.specs.Standing.{name_at}
 use Rattle.rtt_base.specs.declared.limits.TheConstants.{MOST_TEXT_OCTETS}
 
-abbrev pub remembered : State → Option ℕ → ℕ → List ℕ → State
-remembered c None media text = c
-remembered c (Some s) media text = record c { current = Some (record { speaker = s; given_at = media }); fresh_line = begins_line text }
+abbrev pub remembered : State → Option ℕ → ℕ → State
+remembered c None media = c
+remembered c (Some s) media = record c { current = Some (record { speaker = s; given_at = media }) }
 
 -- what waits at the terminal of the leg
 abbrev pub waits_of : Table → ℕ → ℕ → List Chunk
@@ -30,20 +32,35 @@ pub record GivesNone (s : Setup) (table : Table) (r next : Run) (text : List ℕ
   pub text_is : text ≡ []
   pub stands : slots.StandsFor s after table
 
--- a run of the speaker begins, with this label
-pub record GivesRun (s : Setup) (table : Table) (own : ℕ) (next : Run) (speaker : ℕ) (label text : List ℕ) (after : List Waiting) : Type 0 where
-  pub empty : Run
-  pub no_chunk : empty.has_chunk ≡ false
-  pub goes : RunGoesOn empty next [] (front (MOST_TEXT_OCTETS - length label) (waits_of table own speaker)) label text
-  pub stands : slots.StandsFor s after (fetched own speaker (MOST_TEXT_OCTETS - length label) table)
+-- what fits beside the label of the run, which is to come
+pub record GivesHeaded (s : Setup) (table : Table) (own : ℕ) (name : List ℕ) (r next : Run) (behind_cr : Bool) (run : List ℕ) (speaker : ℕ) (text : List ℕ) (after : List Waiting) : Type 0 where
+  pub heads : Heads name r next behind_cr run (front (room_beside name) (waits_of table own speaker)) text
+  pub stands : slots.StandsFor s after (fetched own speaker (room_beside name) table)
 
--- the run of the speaker, whose text was this, goes on
-pub record GivesMore (s : Setup) (table : Table) (own : ℕ) (r next : Run) (speaker : ℕ) (before text : List ℕ) (after : List Waiting) : Type 0 where
-  pub goes : RunGoesOn r next before (front MOST_TEXT_OCTETS (waits_of table own speaker)) [] text
+-- a run of the speaker begins, behind one that had these characters
+pub record GivesRun (s : Setup) (table : Table) (own : ℕ) (name : List ℕ) (r next : Run) (before : List ℕ) (speaker : ℕ) (text : List ℕ) (after : List Waiting) : Type 0 where
+  pub start : Run
+  pub begun : IsBegun r start
+  pub headed : GivesHeaded s table own name start next (ends_with_cr before) [] speaker text after
+
+-- the run of the speaker goes on behind its label
+pub record GivesOn (s : Setup) (table : Table) (own : ℕ) (name : List ℕ) (r next : Run) (alone behind_cr : Bool) (run : List ℕ) (speaker : ℕ) (text : List ℕ) (after : List Waiting) : Type 0 where
+  pub labelled : r.labelled ≡ true
+  pub goes : RunGoesOn name r next alone behind_cr run (front MOST_TEXT_OCTETS (waits_of table own speaker)) [] text
   pub stands : slots.StandsFor s after (fetched own speaker MOST_TEXT_OCTETS table)
 
--- The text of the choice was given: the run, whose text was this, is `next` then, and these are the slots.
-abbrev pub Gives : Setup → Table → ℕ → Bool → Run → Run → Choice → List (List ℕ) → List ℕ → List ℕ → List Waiting → Type 0
-Gives s table own fresh r next Nobody names before text after = GivesNone s table r next text after
-Gives s table own fresh r next (Begins i) names before text after = GivesRun s table own next i (label_on fresh (name_at names i)) text after
-Gives s table own fresh r next (GoesOn i) names before text after = GivesMore s table own r next i before text after
+-- the label of the run is to come
+pub record GivesLabel (s : Setup) (table : Table) (own : ℕ) (name : List ℕ) (r next : Run) (alone behind_cr : Bool) (run : List ℕ) (speaker : ℕ) (text : List ℕ) (after : List Waiting) : Type 0 where
+  pub labelled : r.labelled ≡ false
+  pub headed : GivesHeaded s table own name r next behind_cr run speaker text after
+
+-- the run of the speaker, which has these characters, goes on
+abbrev pub GivesMore : Setup → Table → ℕ → List ℕ → Run → Run → Bool → Bool → List ℕ → ℕ → List ℕ → List Waiting → Type 0
+GivesMore s table own name r next alone behind_cr run speaker text after =
+    GivesOn s table own name r next alone behind_cr run speaker text after ⊎ GivesLabel s table own name r next alone behind_cr run speaker text after
+
+-- The text of the choice was given: the run, which had these characters, is `next` then, and these are the slots.
+abbrev pub Gives : Setup → Table → ℕ → List (List ℕ) → Run → Run → Bool → Bool → List ℕ → Choice → List ℕ → List Waiting → Type 0
+Gives s table own names r next alone behind_cr run Nobody text after = GivesNone s table r next text after
+Gives s table own names r next alone behind_cr run (Begins i) text after = GivesRun s table own (name_at names i) r next run i text after
+Gives s table own names r next alone behind_cr run (GoesOn i) text after = GivesMore s table own (name_at names i) r next alone behind_cr run i text after

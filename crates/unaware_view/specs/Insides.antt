@@ -10,7 +10,6 @@ state_of c = record {
   own = c.own;
   current = c.current;
   run = c.run;
-  fresh_line = c.fresh_line;
   waits = c.waits.items;
   since = c.since.items;
   asked = c.asked;

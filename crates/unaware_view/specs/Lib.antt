@@ -1,3 +1,4 @@
+pub mod Labels
 pub mod Runs
 pub mod States
 pub mod Choices

@@ -1,51 +1,22 @@
--- What is kept of a run: how many of its characters an erasure can take back, and what its text ends with.
-use Rattle.std.specs.Prelude.{◌≡◌, ℕ, ◌+◌, ◌-◌, ◌==◌, Bool, true, false, ◌&&◌, ◌||◌, if◌then◌else◌, List, [], ◌∷◌, ◌++◌, length, encode_utf8_all}
-use Rattle.std.specs.Str.{all_scalars}
+-- What is kept of a run: what an erasure can take back, what its text ends with, and whether its label was given.
+use Rattle.std.specs.Prelude.{◌≡◌, ℕ, ◌+◌, ◌-◌, ◌==◌, Bool, true, false, not, ◌&&◌, ◌||◌, ◌⊎◌, if◌then◌else◌, List, [], ◌∷◌, ◌++◌, length, chars, encode_utf8, encode_utf8_all, IsUtf8}
 use Rattle.text_spec.specs.declared.classes.CharClass.{CharClass}
 use Rattle.text_spec.specs.declared.classes.CharClass.TheVariants.{Erase, Bell, NewLine, Silent, Print}
-use Rattle.text_spec.specs.Characters.{class_of}
-use Rattle.text_spec.specs.Ends.{ends_in, ends_line, ends_sentence}
+use Rattle.text_spec.specs.Characters.{class_of, is_open_after, is_print, opens}
 use Rattle.text_spec.specs.Shown.{signs, survivors, ends_with_cr}
+use Rattle.text_spec.specs.Views.{label_after, without_bracket}
+use Rattle.t140_text.specs.declared.ends.Ending.{Ending}
+use Rattle.t140_text.specs.Endings.{IsEnding, is_line_end, is_sentence_end, pushed}
 use Rattle.stream_spec.specs.Ready.{Chunk}
-use Rattle.mixer_spec.specs.Chunks.{joined, has_chunk}
-use Rattle.mixer_spec.specs.Composed.{written}
-use Rattle.unaware_view.specs.declared.runs.Tail.{Tail}
-use Rattle.unaware_view.specs.declared.runs.Tail.TheVariants.{CarriageReturn, Line, Stop, Sentence, Other}
+use Rattle.mixer_spec.specs.Chunks.{has_chunk}
+use Rattle.mixer_spec.specs.Composed.{chars_of, from_seen, labelled, own_part, written}
 use Rattle.unaware_view.specs.declared.runs.Run.{Run}
 
-abbrev pub is_return : Tail → Bool
-is_return CarriageReturn = true
-is_return _ = false
-
-abbrev pub is_line : Tail → Bool
-is_line CarriageReturn = true
-is_line Line = true
-is_line _ = false
-
-abbrev pub is_stop : Tail → Bool
-is_stop Stop = true
-is_stop _ = false
-
-abbrev pub is_sentence : Tail → Bool
-is_sentence Sentence = true
-is_sentence _ = false
-
 -- another speaker may follow
-abbrev pub is_turn : Tail → Bool
-is_turn tail = is_line tail || is_sentence tail
+abbrev pub is_turn : Ending → Bool
+is_turn e = is_line_end e || is_sentence_end e
 
--- the text's last character is a full stop, a question mark or an exclamation mark
-abbrev pub ends_in_stop : List ℕ → Bool
-ends_in_stop text = ends_in text (0x2E ∷ []) || ends_in text (0x3F ∷ []) || ends_in text (0x21 ∷ [])
-
--- with one character more
-abbrev pub tail_after : Tail → ℕ → Tail
-tail_after tail c =
-    if c == 0x0D then CarriageReturn
-    else (if c == 0x0A || c == 0x2028 then Line
-    else (if c == 0x2E || c == 0x3F || c == 0x21 then Stop
-    else (if c == 0x20 then (if is_stop tail then Sentence else Other) else Other)))
-
+-- ---- one character
 abbrev pub erasable_by : CharClass → Bool → ℕ → ℕ → ℕ
 erasable_by Erase after_cr n c = n - 1
 erasable_by Bell after_cr n c = n
@@ -57,34 +28,130 @@ erasable_by Print after_cr n c = n + 1
 abbrev pub erasable_after : Bool → ℕ → ℕ → ℕ
 erasable_after after_cr n c = erasable_by (class_of c) after_cr n c
 
--- what is sent for a character where so many can be taken back: `X` for an erasure that finds none
+-- what is sent for a character where so many can be taken back: `X` for an erasure that finds none, and no bracket
 abbrev pub sent_for : ℕ → ℕ → ℕ
-sent_for n c = if c == 0x08 && n == 0 then 0x58 else c
+sent_for n c = if c == 0x08 && n == 0 then 0x58 else without_bracket c
 
--- these characters end so
-pub record EndsWith (cs : List ℕ) (tail : Tail) : Type 0 where
-  pub is_return : ends_with_cr cs ≡ is_return tail
-  pub line : ends_line (encode_utf8_all cs) ≡ is_line tail
-  pub stop : ends_in_stop (encode_utf8_all cs) ≡ is_stop tail
-  pub sentence : ends_sentence (encode_utf8_all cs) ≡ is_sentence tail
+-- it prints, or is sent as `X`
+abbrev pub is_seen_at : ℕ → ℕ → Bool
+is_seen_at n c = is_print (class_of c) || (c == 0x08 && n == 0)
 
--- the run has this text
-pub record IsRun (r : Run) (text : List ℕ) : Type 0 where
-  pub characters : List ℕ
-  pub scalars : all_scalars characters ≡ true
-  pub is : encode_utf8_all characters ≡ text
-  pub erasable : length (survivors (signs characters)) ≡ r.erasable
-  pub tail : EndsWith characters r.tail
+-- the label goes before this character
+abbrev pub is_headed : Run → ℕ → Bool
+is_headed r c = not r.labelled && is_seen_at r.erasable c
 
--- Of the whole text, which goes on this run, `rest` is still to be written behind `before`.
-pub record Writes (r : Run) (out rest whole run before : List ℕ) : Type 0 where
+-- behind its label a run is counted afresh
+abbrev pub headed : Run → Run
+headed r = record { erasable = 0; after_cr = false; ending = r.ending; has_chunk = r.has_chunk; labelled = true; is_open = r.is_open }
+
+abbrev pub with_one : Run → ℕ → Run
+with_one r c = record {
+  erasable = erasable_after r.after_cr r.erasable c;
+  after_cr = c == 0x0D;
+  ending = pushed r.ending c;
+  has_chunk = r.has_chunk;
+  labelled = r.labelled;
+  is_open = opens (class_of c) r.is_open;
+}
+
+-- where the label goes before a character, or not
+abbrev pub before_by : Bool → Run → Run
+before_by heads r = if heads then headed r else r
+
+abbrev pub label_by : Bool → List ℕ → Run → List ℕ
+label_by heads name r = if heads then label_after r.is_open name else []
+
+-- with this character, and what is sent then
+abbrev pub step_by : Bool → Run → ℕ → Run
+step_by heads r c = with_one (before_by heads r) c
+
+abbrev pub text_by : Bool → List ℕ → Run → ℕ → List ℕ
+text_by heads name r c = label_by heads name r ++ encode_utf8 (sent_for (before_by heads r).erasable c)
+
+abbrev pub stepped : Run → ℕ → Run
+stepped r c = step_by (is_headed r c) r c
+
+abbrev pub text_of_one : List ℕ → Run → ℕ → List ℕ
+text_of_one name r c = text_by (is_headed r c) name r c
+
+-- the room that is kept for the label
+abbrev pub label_room : Bool → List ℕ → ℕ
+label_room labelled name = if labelled then 0 else length (label_after true name)
+
+-- a new run behind this one, whose label is to come
+pub record IsBegun (r next : Run) : Type 0 where
+  pub erasable : next.erasable ≡ 0
+  pub after_cr : next.after_cr ≡ (r.ending.last == 0x0D)
+  pub ending : IsEnding next.ending []
+  pub has_chunk : next.has_chunk ≡ false
+  pub labelled : next.labelled ≡ false
+  pub is_open : next.is_open ≡ r.is_open
+
+-- ---- a run
+-- CR comes last of the run, or of the one before where it has no character
+abbrev pub cr_last : Bool → List ℕ → Bool
+cr_last behind_cr [] = behind_cr
+cr_last behind_cr (c ∷ cs) = ends_with_cr (c ∷ cs)
+
+-- the characters behind the label, which went alone or not
+abbrev pub behind : Bool → Bool → List ℕ → List ℕ
+behind alone behind_cr cs = if alone then cs else from_seen behind_cr [] cs
+
+-- The run has these characters, and its label is to come.
+pub record IsAhead (r : Run) (alone behind_cr : Bool) (cs : List ℕ) : Type 0 where
+  pub labelled : r.labelled ≡ false
+  pub not_alone : alone ≡ false
+  pub unseen : from_seen behind_cr [] cs ≡ []
+  pub erasable : length (survivors (signs (own_part behind_cr cs))) ≡ r.erasable
+  pub after_cr : cr_last behind_cr cs ≡ r.after_cr
+
+-- It has these characters, and its label was given.
+pub record IsBehind (r : Run) (alone behind_cr : Bool) (cs : List ℕ) : Type 0 where
+  pub labelled : r.labelled ≡ true
+  pub seen : (not alone && length (from_seen behind_cr [] cs) == 0) ≡ false
+  pub erasable : length (survivors (signs (behind alone behind_cr cs))) ≡ r.erasable
+  pub after_cr : ends_with_cr (behind alone behind_cr cs) ≡ r.after_cr
+
+-- The run, which began with its label alone or not, and behind a CR or not, has these characters.
+pub record IsRun (r : Run) (alone behind_cr : Bool) (cs : List ℕ) : Type 0 where
+  pub ending : IsEnding r.ending cs
+  pub part : IsAhead r alone behind_cr cs ⊎ IsBehind r alone behind_cr cs
+
+-- what is sent of these characters behind those of the run
+abbrev pub sent_of : List ℕ → Run → Bool → Bool → List ℕ → List ℕ → List ℕ
+sent_of name r alone behind_cr run cs =
+    if r.labelled
+    then encode_utf8_all (written (behind alone behind_cr run) cs)
+    else labelled name behind_cr r.is_open run cs
+
+-- With these characters the run is `next`, and they are sent behind `before`.
+pub record Sends (name : List ℕ) (r next : Run) (alone behind_cr : Bool) (run cs before after : List ℕ) : Type 0 where
+  pub run_is : IsRun next alone behind_cr (run ++ cs)
+  pub open_is : next.is_open ≡ is_open_after r.is_open cs
+  pub text_is : after ≡ before ++ sent_of name r alone behind_cr run cs
+
+-- Of the whole, which goes on this run, `rest` is still to be written.
+pub record Writes (name : List ℕ) (r next : Run) (alone behind_cr : Bool) (run cs before out rest : List ℕ) : Type 0 where
   pub past : List ℕ
-  pub is : past ++ rest ≡ whole
-  pub run_is : IsRun r (run ++ past)
-  pub out_is : out ≡ before ++ written run past
+  pub parts : past ++ chars rest ≡ cs
+  pub utf8 : IsUtf8 rest
+  pub run_is : IsRun next alone behind_cr (run ++ past)
+  pub open_is : next.is_open ≡ is_open_after r.is_open past
+  pub out_is : out ++ sent_of name next alone behind_cr (run ++ past) (chars rest) ≡ before ++ sent_of name r alone behind_cr run cs
 
--- With these chunks the run, whose text was this, goes on; `after` has them behind `before`, as they are sent.
-pub record GoesOn (r next : Run) (run : List ℕ) (chunks : List Chunk) (before after : List ℕ) : Type 0 where
-  pub run_is : IsRun next (run ++ joined chunks)
-  pub text_is : after ≡ before ++ written run (joined chunks)
+-- With these chunks the run goes on; `after` has them behind `before`, as they are sent.
+pub record GoesOn (name : List ℕ) (r next : Run) (alone behind_cr : Bool) (run : List ℕ) (chunks : List Chunk) (before after : List ℕ) : Type 0 where
+  pub sends : Sends name r next alone behind_cr run (chars_of chunks) before after
   pub has_chunk : next.has_chunk ≡ (r.has_chunk || has_chunk chunks)
+
+-- The label was given alone: a run begins with it.
+pub record GoesAlone (name : List ℕ) (r next : Run) (text : List ℕ) : Type 0 where
+  pub run_is : (behind_cr : Bool) → IsRun next true behind_cr []
+  pub open_is : next.is_open ≡ true
+  pub text_is : text ≡ label_after r.is_open name
+  pub has_chunk : next.has_chunk ≡ false
+
+-- The label of the run is to come, and these chunks were given.
+abbrev pub Heads : List ℕ → Run → Run → Bool → List ℕ → List Chunk → List ℕ → Type 0
+Heads name r next behind_cr run [] text = GoesAlone name r next text
+Heads name r next behind_cr run (c ∷ cs) text = GoesOn name r next false behind_cr run (c ∷ cs) [] text

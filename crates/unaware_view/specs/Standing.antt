@@ -1,13 +1,12 @@
 -- What a composer stands for: the asks so far (profile).
-use Rattle.std.specs.Prelude.{◌≡◌, ℕ, ◌+◌, ◌<◌, ◌==◌, Bool, false, not, ◌||◌, Option, None, Some, List, [], ◌∷◌, length, slice_index_or}
-use Rattle.text_spec.specs.Ends.{ends_line}
+use Rattle.std.specs.Prelude.{◌≡◌, ℕ, ◌+◌, ◌<◌, Bool, true, false, ◌||◌, Option, None, Some, List, [], ◌∷◌, length, slice_index_or, IsUtf8}
 use Rattle.stream_spec.specs.Ready.{Chunk}
 use Rattle.mixer_spec.specs.Chunks.{joined, has_chunk}
 use Rattle.mixer_spec.specs.Rounds.{set_at}
 use Rattle.mixer_spec.specs.Setups.{Setup}
 use Rattle.mixer_spec.specs.Table.{Terminal, Table}
 use Rattle.mixer_spec.specs.Laws.{AreTexts}
-use Rattle.mixer_spec.specs.Composed.{Given, Asked, answer, latest, text_given, run_of, given_at, since, waits_here}
+use Rattle.mixer_spec.specs.Composed.{Answer, Asked, answer, began_alone, began_behind_cr, chars_of, is_open, latest, run_of, given_at, since, waits_here}
 use Rattle.slot_table.specs.Lanes.{Waiting}
 use Rattle.slot_table.specs.Standing as slots
 use Rattle.unaware_view.specs.declared.composers.Current.{Current}
@@ -15,23 +14,19 @@ use Rattle.unaware_view.specs.Runs.{IsRun}
 use Rattle.unaware_view.specs.States.{State}
 use Rattle.unaware_view.specs.Choices.{since_at}
 
--- behind this text a label begins a new line: there is one, and it ends no line
-abbrev pub begins_line : List ℕ → Bool
-begins_line text = not ((length text == 0) || ends_line text)
-
 -- the least media time of the next ask
 abbrev pub least_ask : List Asked → ℕ
 least_ask [] = 0
 least_ask (a ∷ asks) = a.media + 1
 
 -- the speaker of the last answer, another leg than the terminal's own
-pub record IsSpeaker (s : Setup) (own : ℕ) (asks : List Asked) (g : Given) (x : Current) : Type 0 where
+pub record IsSpeaker (s : Setup) (own : ℕ) (asks : List Asked) (g : Answer) (x : Current) : Type 0 where
   pub source : g.source ≡ x.speaker
   pub given : given_at x.speaker asks ≡ Some x.given_at
   pub leg : x.speaker < s.legs
   pub other : x.speaker ≡ own → ⊥
 
-abbrev pub IsCurrent : Setup → ℕ → List Asked → Option Given → Option Current → Type 0
+abbrev pub IsCurrent : Setup → ℕ → List Asked → Option Answer → Option Current → Type 0
 IsCurrent s own asks None None = Unit {0}
 IsCurrent s own asks None (Some x) = ⊥
 IsCurrent s own asks (Some g) None = ⊥
@@ -42,9 +37,11 @@ pub record StandsFor (s : Setup) (c : State) (asks : List Asked) : Type 0 where
   pub legs : length c.since ≡ s.legs
   pub current : IsCurrent s c.own asks (latest asks) c.current
   pub waits_since : (i : ℕ) → i < s.legs → (i ≡ c.own → ⊥) → since_at c.since i ≡ since i asks
-  pub run : IsRun c.run (joined (run_of asks))
+  pub run : IsRun c.run (began_alone asks) (began_behind_cr asks) (chars_of (run_of asks))
+  pub utf8 : IsUtf8 (joined (run_of asks))
   pub chunk : c.run.has_chunk ≡ has_chunk (run_of asks)
-  pub line : c.fresh_line ≡ begins_line (text_given (latest asks))
+  pub begun : (has_chunk (run_of asks) || began_alone asks) ≡ true
+  pub line : c.run.is_open ≡ is_open asks
   pub asked : c.asked ≡ least_ask asks
 
 -- ---- one ask
@@ -77,18 +74,18 @@ abbrev pub waiting : Table → State → ℕ → List Chunk
 waiting table c = (table.terminals c.own).waits
 
 -- what is given at this media time, where text may be given or not
-abbrev pub given_now : Setup → Table → State → ℕ → Bool → List Asked → Option Given
+abbrev pub given_now : Setup → Table → State → ℕ → Bool → List Asked → Option Answer
 given_now s table c media due asks = answer s.legs s.name c.own media due (waiting table c) asks
 
 -- with this ask
 abbrev pub asked_now : Setup → Table → State → ℕ → Bool → List Asked → List Asked
 asked_now s table c media due asks = record { media = media; waiting = λ i. has_chunk (waiting table c i); given = given_now s table c media due asks } ∷ asks
 
-abbrev pub left_after : Given → Terminal → Terminal
+abbrev pub left_after : Answer → Terminal → Terminal
 left_after g d = record { past = d.past; asks = d.asks; waits = set_at d.waits g.source g.rest }
 
 -- what the answer took waits at the terminal no more
-abbrev pub answered : ℕ → Option Given → Table → Table
+abbrev pub answered : ℕ → Option Answer → Table → Table
 answered own None table = table
 answered own (Some g) table = record table { terminals = set_at table.terminals own (left_after g (table.terminals own)) }
 

@@ -7,7 +7,6 @@ pub record State : Type 0 where
   pub own : ℕ
   pub current : Option Current
   pub run : Run
-  pub fresh_line : Bool
   pub waits : List Bool
   pub since : List (Option ℕ)
   pub asked : ℕ

@@ -1,6 +1,5 @@
 //! The composer of one terminal.
-ghost use Rattle.std.specs.Prelude.{◌≡◌, ℕ, ◌+◌, ◌-◌, ◌*◌, ◌<◌, ◌≤◌, ◌==◌, ◌&&◌, ◌||◌, ◌^◌, Bool, false, List, [], length, IfOk, IfSome, Some, None, is_some};
-ghost use Rattle.labels.specs.Labels.{label_on};
+ghost use Rattle.std.specs.Prelude.{◌≡◌, ℕ, ◌+◌, ◌-◌, ◌*◌, ◌<◌, ◌≤◌, ◌==◌, ◌&&◌, ◌||◌, ◌^◌, Bool, false, true, List, [], length, IfOk, IfSome, Some, None, is_some};
 ghost use Rattle.stream_spec.specs.Ready.{Chunk};
 ghost use Rattle.mixer_spec.specs.Chunks.{front, joined};
 ghost use Rattle.mixer_spec.specs.Laws.{AreTexts};
@@ -8,22 +7,21 @@ ghost use Rattle.mixer_spec.specs.Setups.{Setup};
 ghost use Rattle.mixer_spec.specs.Table.{Table};
 ghost use Rattle.slot_table.specs.Standing.{StandsFor as SlotsStandFor, Leads, Tells};
 ghost use Rattle.slot_table.specs.Words.{fetched};
-ghost use Rattle.unaware_view.specs.Runs.{GoesOn, IsRun};
+ghost use Rattle.unaware_view.specs.Runs.{GoesOn, Heads, IsRun, label_room};
 ghost use Rattle.unaware_view.specs.declared.runs.Run.{Run};
 ghost use Rattle.unaware_view.specs.Choices.{IsBelow, begins, choice, is_left, speaker_of};
 ghost use Rattle.unaware_view.specs.Standing.{IsAsked, NoneWaits, OfAsks, StandsFor, answered, asked_now, given_now, legs_of, next_ask, own_of};
 ghost use Rattle.mixer_spec.specs.Composed.{Asked, text_given};
-ghost use Rattle.unaware_view.specs.Giving.{Gives, GivesRun, remembered, waits_of};
+ghost use Rattle.unaware_view.specs.Giving.{Gives, GivesHeaded, GivesMore, remembered, waits_of};
 ghost use Rattle.rtt_base.specs.declared.limits.TheConstants.{MOST_TEXT_OCTETS};
 
 use crate::choices::{any_long, any_other, first_round, is_paused, look, note};
+use crate::labels::room_beside;
 use crate::runs::Run;
-use labels::label;
 use rtt_base::{Name, NoMemory, Text};
 use slot_table::Slots;
 use std::alloc::Global;
 use std::marker::Model;
-use t140_text::ends_line;
 
 /// How long, in milliseconds, a speaker of whom nothing waits is left in peace.
 const PAUSE: u64 = 2000;
@@ -52,15 +50,13 @@ enum Choice {
 
 /// Puts the text of all legs into one for a terminal that shows one text: in runs, each behind its speaker's label.
 ///
-/// Of what was given it keeps who speaks, what an erasure can take back of the run, what the run ends with, and since
-/// when each other leg waits.
+/// Of what was given it keeps who speaks, what an erasure can take back of the run, what the run ends with, whether its
+/// label was given, whether a line is open, and since when each other leg waits.
 #[derive(Debug, Drop)]
 pub struct Composer {
     own: usize,
     current: Option<Current>,
     run: Run,
-    /// Whether the next label begins a new line.
-    fresh_line: bool,
     /// Which legs waited at the last ask, but for the terminal's own.
     waits: Vec<bool>,
     /// For each leg the first ask at which it waited since it was last given.
@@ -129,7 +125,6 @@ impl Composer {
             own,
             current: None,
             run: Run::new(),
-            fresh_line: false,
             waits: vec![in alloc; false; legs]?,
             since: vec![in alloc; None; legs]?,
             asked: 0,
@@ -172,7 +167,6 @@ impl Composer {
         let given = give(
             choice,
             self.own,
-            self.fresh_line,
             names,
             &mut self.run,
             &mut self.taken,
@@ -180,7 +174,7 @@ impl Composer {
             text,
         );
         note(&mut self.since, &self.waits, given, media);
-        self.remember(given, media, text);
+        self.remember(given, media);
         given.is_some()
     }
 
@@ -197,17 +191,16 @@ impl Composer {
         self.asked = media + 1;
     }
 
-    /// Remembers what was given at this media time, if anything was.
-    fn remember(&mut self, given: Option<usize>, media: u64, text: &Text)
+    /// Remembers who was given text at this media time, if anybody was.
+    fn remember(&mut self, given: Option<usize>, media: u64)
         requires { IfSome given (λ s. s < length self.old.since) }
-        ensures { self.new ≡ remembered self.old given media text.now }
+        ensures { self.new ≡ remembered self.old given media }
     {
         if let Some(speaker) = given {
             self.current = Some(Current {
                 speaker,
                 given_at: media,
             });
-            self.fresh_line = !(text.is_empty() || ends_line(text.as_slice()));
         }
     }
 }
@@ -220,25 +213,27 @@ fn or(a: bool, b: bool) -> bool
 }
 
 /// Appends to `text` what was taken for the run, as it is sent. What was taken is UTF-8, since each chunk is.
-fn write(octets: &[u8], run: &mut Run, text: &mut Text)
-    requires fits { length text.old + length octets.now ≤ MOST_TEXT_OCTETS }
+fn write(octets: &[u8], name: &str, run: &mut Run, text: &mut Text)
+    requires fits { length text.old + label_room run.old.labelled name.now + length octets.now ≤ MOST_TEXT_OCTETS }
     requires few { run.old.erasable + MOST_TEXT_OCTETS < 2 ^ 64 }
     ensures few { run.new.erasable ≤ run.old.erasable + MOST_TEXT_OCTETS }
-    ensures goes_on { (before : List ℕ) (chunks : List Chunk) → IsRun run.old before → AreTexts chunks → octets.now ≡ joined chunks
-        → GoesOn run.old run.new before chunks text.old text.new }
+    ensures goes_on { (alone behind_cr : Bool) (before : List ℕ) (chunks : List Chunk)
+        → IsRun run.old alone behind_cr before → AreTexts chunks → octets.now ≡ joined chunks
+        → GoesOn name.now run.old run.new alone behind_cr before chunks text.old text.new }
 {
     let Ok(taken) = str::from_utf8(octets) else {
         return;
     };
     let has_chunk = or(run.has_chunk, !taken.is_empty());
-    run.write(taken, text);
+    run.write(name, taken, text);
     run.has_chunk = has_chunk;
 }
 
-/// Appends what fits of the chunks of the leg that wait.
+/// Gives what fits of the chunks of the leg that wait. The label of its run was given.
 fn go_on(
     own: usize,
     speaker: usize,
+    name: &str,
     run: &mut Run,
     taken: &mut Text,
     slots: &mut Slots,
@@ -246,51 +241,94 @@ fn go_on(
 )
     requires within { (own < length slots.old) × (speaker < length slots.old) }
     requires few { run.old.erasable + MOST_TEXT_OCTETS < 2 ^ 64 }
+    requires text { text.old ≡ [] }
+    requires labelled { run.old.labelled ≡ true }
     ensures few { run.new.erasable ≤ run.old.erasable + MOST_TEXT_OCTETS }
     ensures legs { length slots.new ≡ length slots.old }
-    ensures slots { Leads slots.old slots.new (fetched own speaker (MOST_TEXT_OCTETS - length text.old)) }
-    ensures goes_on { Tells slots.old (λ s table. (before : List ℕ)
-        → AreTexts (waits_of table own speaker) → IsRun run.old before
-        → GoesOn run.old run.new before (front (MOST_TEXT_OCTETS - length text.old) (waits_of table own speaker)) text.old text.new) }
+    ensures slots { Leads slots.old slots.new (fetched own speaker MOST_TEXT_OCTETS) }
+    ensures goes_on { Tells slots.old (λ s table. (alone behind_cr : Bool) (before : List ℕ)
+        → AreTexts (waits_of table own speaker) → IsRun run.old alone behind_cr before
+        → GoesOn name.now run.old run.new alone behind_cr before (front MOST_TEXT_OCTETS (waits_of table own speaker)) [] text.new) }
 {
-    let room = Text::CAPACITY - text.len();
     taken.clear();
-    slots.take(own, speaker, room, taken);
-    write(taken.as_slice(), run, text);
+    slots.take(own, speaker, Text::CAPACITY, taken);
+    write(taken.as_slice(), name, run, text);
 }
 
-/// Begins a run of the leg with its label.
-fn begin(
+/// Gives what was taken for the run, whose label is to come, or the label alone where nothing was.
+fn head(octets: &[u8], name: &str, run: &mut Run, text: &mut Text)
+    requires fits { label_room false name.now + length octets.now ≤ MOST_TEXT_OCTETS }
+    requires few { run.old.erasable + MOST_TEXT_OCTETS < 2 ^ 64 }
+    requires text { text.old ≡ [] }
+    requires labelled { run.old.labelled ≡ false }
+    ensures few { run.new.erasable ≤ run.old.erasable + MOST_TEXT_OCTETS }
+    ensures heads { (behind_cr : Bool) (before : List ℕ) (chunks : List Chunk)
+        → IsRun run.old false behind_cr before → AreTexts chunks → octets.now ≡ joined chunks
+        → Heads name.now run.old run.new behind_cr before chunks text.new }
+{
+    if octets.is_empty() {
+        run.begin_alone(name, text);
+        return;
+    }
+    write(octets, name, run, text);
+}
+
+/// Gives what fits beside the label of the run, which is to come, of the chunks of the leg that wait.
+fn give_headed(
     own: usize,
     speaker: usize,
     name: &Name,
-    fresh_line: bool,
     run: &mut Run,
     taken: &mut Text,
     slots: &mut Slots,
     text: &mut Text,
 )
     requires within { (own < length slots.old) × (speaker < length slots.old) }
+    requires few { run.old.erasable + MOST_TEXT_OCTETS < 2 ^ 64 }
     requires text { text.old ≡ [] }
-    ensures few { run.new.erasable ≤ MOST_TEXT_OCTETS }
+    requires labelled { run.old.labelled ≡ false }
+    ensures few { run.new.erasable ≤ run.old.erasable + MOST_TEXT_OCTETS }
     ensures legs { length slots.new ≡ length slots.old }
-    ensures begins { Tells slots.old (λ s table. AreTexts (waits_of table own speaker)
-        → GivesRun s table own run.new speaker (label_on fresh_line name.now) text.new slots.new) }
+    ensures gives { Tells slots.old (λ s table. (behind_cr : Bool) (before : List ℕ)
+        → AreTexts (waits_of table own speaker) → IsRun run.old false behind_cr before
+        → GivesHeaded s table own name.now run.old run.new behind_cr before speaker text.new slots.new) }
 {
-    let short = name.len() <= Name::CAPACITY;
-    prove!(short);
-    let Ok(()) = label(name.as_str(), fresh_line, text) else {
-        unreachable!()
-    };
-    *run = Run::new();
-    go_on(own, speaker, run, taken, slots, text);
+    let room = room_beside(name);
+    taken.clear();
+    slots.take(own, speaker, room, taken);
+    head(taken.as_slice(), name.as_str(), run, text);
+}
+
+/// Gives text of the run's speaker.
+fn give_more(
+    own: usize,
+    speaker: usize,
+    name: &Name,
+    run: &mut Run,
+    taken: &mut Text,
+    slots: &mut Slots,
+    text: &mut Text,
+)
+    requires within { (own < length slots.old) × (speaker < length slots.old) }
+    requires few { run.old.erasable + MOST_TEXT_OCTETS < 2 ^ 64 }
+    requires text { text.old ≡ [] }
+    ensures few { run.new.erasable ≤ run.old.erasable + MOST_TEXT_OCTETS }
+    ensures legs { length slots.new ≡ length slots.old }
+    ensures gives { Tells slots.old (λ s table. (alone behind_cr : Bool) (before : List ℕ)
+        → AreTexts (waits_of table own speaker) → IsRun run.old alone behind_cr before
+        → GivesMore s table own name.now run.old run.new alone behind_cr before speaker text.new slots.new) }
+{
+    if run.labelled {
+        go_on(own, speaker, name.as_str(), run, taken, slots, text);
+    } else {
+        give_headed(own, speaker, name, run, taken, slots, text);
+    }
 }
 
 /// Gives the text of the choice, and answers whose it is.
 fn give(
     choice: Choice,
     own: usize,
-    fresh_line: bool,
     names: &[Name],
     run: &mut Run,
     taken: &mut Text,
@@ -305,27 +343,19 @@ fn give(
     ensures speaker { result ≡ speaker_of choice }
     ensures few { run.new.erasable ≤ run.old.erasable + MOST_TEXT_OCTETS }
     ensures legs { length slots.new ≡ length slots.old }
-    ensures gives { Tells slots.old (λ s table. (before : List ℕ)
-        → ((i : ℕ) → AreTexts (waits_of table own i)) → IsRun run.old before
-        → Gives s table own fresh_line run.old run.new choice names.now before text.new slots.new) }
+    ensures gives { Tells slots.old (λ s table. (alone behind_cr : Bool) (before : List ℕ)
+        → ((i : ℕ) → AreTexts (waits_of table own i)) → IsRun run.old alone behind_cr before
+        → Gives s table own names.now run.old run.new alone behind_cr before choice text.new slots.new) }
 {
     match choice {
         Choice::Nobody => None,
         Choice::Begins(speaker) => {
-            begin(
-                own,
-                speaker,
-                &names[speaker],
-                fresh_line,
-                run,
-                taken,
-                slots,
-                text,
-            );
+            run.begin();
+            give_headed(own, speaker, &names[speaker], run, taken, slots, text);
             Some(speaker)
         }
         Choice::GoesOn(speaker) => {
-            go_on(own, speaker, run, taken, slots, text);
+            give_more(own, speaker, &names[speaker], run, taken, slots, text);
             Some(speaker)
         }
     }

@@ -3,6 +3,7 @@
 
 mod choices;
 mod composers;
+mod labels;
 mod runs;
 
 pub use composers::Composer;

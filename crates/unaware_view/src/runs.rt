@@ -1,63 +1,41 @@
-//! A run: what one speaker was given since its label.
-ghost use Rattle.std.specs.Prelude.{◌≡◌, ◌+◌, ◌-◌, ◌^◌, ◌<◌, ◌≤◌, ◌++◌, ℕ, List, [], length, IsUtf8, encode_utf8, false};
-ghost use Rattle.mixer_spec.specs.Composed.{ends_turn, written};
-ghost use Rattle.unaware_view.specs.Runs.{IsRun, Writes, erasable_after, is_return, is_turn, sent_for, tail_after};
+//! A run: what one speaker was given since another one was, or since its label went alone.
+ghost use Rattle.std.specs.Prelude.{◌≡◌, ◌+◌, ◌-◌, ◌^◌, ◌<◌, ◌≤◌, ◌++◌, ℕ, Bool, List, [], length, chars, IsUtf8, encode_utf8, true, false};
+ghost use Rattle.text_spec.specs.Characters.{opens};
+ghost use Rattle.text_spec.specs.Views.{label_after};
+ghost use Rattle.unaware_view.specs.Runs.{GoesAlone, IsBegun, IsRun, Sends, Writes, before_by, erasable_by, is_headed, is_seen_at, is_turn, label_by, label_room, sent_for, stepped, text_of_one, with_one};
 ghost use Rattle.rtt_base.specs.declared.limits.TheConstants.{MOST_TEXT_OCTETS};
 
+use crate::labels::label;
 use rtt_base::Text;
-use t140_text::class;
+use t140_text::{Ending, class};
 use text_spec::CharClass;
-
-/// What the text of a run ends with.
-#[derive(Clone, Copy, Debug, PartialEq, Eq)]
-pub(crate) enum Tail {
-    /// CR, which ends a line, and of which an LF behind it is a part.
-    CarriageReturn,
-    /// LF or U+2028.
-    Line,
-    /// A full stop, a question mark or an exclamation mark.
-    Stop,
-    /// One of these and a space.
-    Sentence,
-    Other,
-}
 
 /// What is kept of a run: as much of a long one as of a short one.
 #[derive(Debug, Drop)]
 pub(crate) struct Run {
-    /// How many of its characters an erasure can take back, one after the other.
+    /// How many of its characters an erasure can take back, one after the other: of those behind its label, or of all
+    /// where that is to come.
     pub(crate) erasable: u64,
-    pub(crate) tail: Tail,
+    /// Whether an LF is a part of the new line before it, which is counted or another run's.
+    pub(crate) after_cr: bool,
+    /// What its text ends with.
+    pub(crate) ending: Ending,
     /// Whether a chunk stands in it.
     pub(crate) has_chunk: bool,
+    /// Whether its label was given.
+    pub(crate) labelled: bool,
+    /// Whether a line is open behind all that was given: bells and silent characters passed over, the last character is
+    /// there and is no new line.
+    pub(crate) is_open: bool,
 }
 
-/// Whether an LF behind the text is a part of its last new line.
-fn is_return(tail: Tail) -> bool
-    ensures { result ≡ is_return tail }
-{
-    matches!(tail, Tail::CarriageReturn)
-}
-
-/// What a text ends with that has one character more.
-fn tail_after(tail: Tail, c: char) -> Tail
-    ensures { result ≡ tail_after tail c }
-{
-    match c {
-        '\r' => Tail::CarriageReturn,
-        '\n' | '\u{2028}' => Tail::Line,
-        '.' | '?' | '!' => Tail::Stop,
-        ' ' if tail == Tail::Stop => Tail::Sentence,
-        _ => Tail::Other,
-    }
-}
-
-/// How many characters an erasure can take back with one character more, where there were `n`, after CR or not.
-fn erasable_after(after_cr: bool, n: u64, c: char) -> u64
+/// How many characters an erasure can take back with one character more, which is of this class, where there were `n`, after
+/// CR or not.
+fn erasable_by(class: CharClass, after_cr: bool, n: u64, c: char) -> u64
     requires { n + 1 < 2 ^ 64 }
-    ensures { result ≡ erasable_after after_cr n c }
+    ensures { result ≡ erasable_by class after_cr n c }
 {
-    match class(c) {
+    match class {
         CharClass::Erase => n.saturating_sub(1),
         CharClass::NewLine if c == '\n' && after_cr => n,
         CharClass::NewLine | CharClass::Print => n + 1,
@@ -65,89 +43,178 @@ fn erasable_after(after_cr: bool, n: u64, c: char) -> u64
     }
 }
 
-/// What is sent for a character where `n` can be taken back: `X` for an erasure that finds none.
+/// Whether a line is open behind a character of this class.
+fn opens(class: CharClass, was: bool) -> bool
+    ensures { result ≡ opens class was }
+{
+    match class {
+        CharClass::NewLine => false,
+        CharClass::Bell | CharClass::Silent => was,
+        CharClass::Print | CharClass::Erase => true,
+    }
+}
+
+/// What is sent for a character where `n` can be taken back: `X` for an erasure that finds none, and a parenthesis for a
+/// bracket, which only a label has.
 fn sent_for(n: u64, c: char) -> char
     ensures { result ≡ sent_for n c }
 {
-    if c == '\u{8}' && n == 0 { 'X' } else { c }
+    match c {
+        '\u{8}' if n == 0 => 'X',
+        '[' => '(',
+        '\u{ff3b}' => '\u{ff08}',
+        _ => c,
+    }
+}
+
+/// Whether a character prints, or is sent as `X`, where `n` can be taken back.
+fn is_seen(n: u64, c: char) -> bool
+    ensures { result ≡ is_seen_at n c }
+{
+    match class(c) {
+        CharClass::Print => true,
+        _ => c == '\u{8}' && n == 0,
+    }
 }
 
 impl Run {
-    /// The empty run.
-    #[tactic(auto, using(crate::proofs::RunSteps::no_run))]
-    pub(crate) fn new() -> Run
-        ensures run { IsRun result [] }
+    /// What is kept where there is no run.
+    pub(crate) const fn new() -> Run
+        ensures run { (behind_cr : Bool) → IsRun result true behind_cr [] }
         ensures empty { result.has_chunk ≡ false }
         ensures none { result.erasable ≡ 0 }
+        ensures closed { result.is_open ≡ false }
     {
         Run {
             erasable: 0,
-            tail: Tail::Other,
+            after_cr: false,
+            ending: Ending::new(),
             has_chunk: false,
+            labelled: true,
+            is_open: false,
         }
+    }
+
+    /// Begins another run, whose label is to come.
+    pub(crate) fn begin(&mut self)
+        ensures { IsBegun self.old self.new }
+    {
+        self.after_cr = self.ending.ends_with_cr();
+        self.erasable = 0;
+        self.ending = Ending::new();
+        self.has_chunk = false;
+        self.labelled = false;
+    }
+
+    /// Begins another run with its label alone.
+    pub(crate) fn begin_alone(&mut self, name: &str, out: &mut Text)
+        requires fits { length out.old + length (label_after self.old.is_open name.now) ≤ MOST_TEXT_OCTETS }
+        requires empty { out.old ≡ [] }
+        ensures alone { GoesAlone name.now self.old self.new out.new }
+        ensures none { self.new.erasable ≡ 0 }
+    {
+        label(name, self.is_open, out);
+        *self = Run::new();
+        self.is_open = true;
     }
 
     /// Whether another speaker may follow: the text ends a line or a sentence.
     pub(crate) fn ends_turn(&self) -> bool
-        ensures value { result ≡ is_turn self.now.tail }
-        ensures ends { (run : List ℕ) → IsRun self.now run → result ≡ ends_turn run }
+        ensures { result ≡ is_turn self.now.ending }
     {
-        matches!(
-            self.tail,
-            Tail::CarriageReturn | Tail::Line | Tail::Sentence
-        )
+        let line = self.ending.ends_line();
+        line || self.ending.ends_sentence()
     }
 
-    /// Reads the next character, and answers with the one that is sent for it: `X` for an erasure that finds nothing to
-    /// take back.
-    pub(crate) fn read(&mut self, c: char) -> char
+    /// Whether the label goes before this character.
+    fn is_headed(&self, c: char) -> bool
+        ensures { result ≡ is_headed self.now c }
+    {
+        !self.labelled && is_seen(self.erasable, c)
+    }
+
+    /// Reads the next character, and answers with the one that is sent for it.
+    fn read(&mut self, c: char) -> char
         requires { self.old.erasable + 1 < 2 ^ 64 }
-        ensures run { (run : List ℕ) → IsRun self.old run → IsRun self.new (run ++ encode_utf8 c) }
-        ensures sent { (run : List ℕ) → IsRun self.old run → encode_utf8 result ≡ written run (encode_utf8 c) }
-        ensures size { length (encode_utf8 result) ≤ length (encode_utf8 c) }
-        ensures bound { self.new.erasable ≤ self.old.erasable + 1 }
-        ensures kept { self.new.has_chunk ≡ self.old.has_chunk }
+        ensures run { self.new ≡ with_one self.old c }
+        ensures sent { result ≡ sent_for self.old.erasable c }
     {
         let sent = sent_for(self.erasable, c);
-        let erasable = erasable_after(is_return(self.tail), self.erasable, c);
-        let tail = tail_after(self.tail, c);
+        let kind = class(c);
+        let erasable = erasable_by(kind, self.after_cr, self.erasable, c);
+        let is_open = opens(kind, self.is_open);
         self.erasable = erasable;
-        self.tail = tail;
+        self.after_cr = c == '\r';
+        self.ending.push(c);
+        self.is_open = is_open;
         sent
     }
 
-    /// Writes the first character of a text, if there is one, and answers with the others.
-    fn write_first<'a>(&mut self, text: &'a str, out: &mut Text) -> &'a str
+    /// Writes the label before this character where it goes there. Behind it the run is counted afresh.
+    fn head_before(&mut self, name: &str, c: char, out: &mut Text)
+        requires { length out.old + label_room self.old.labelled name.now ≤ MOST_TEXT_OCTETS }
+        ensures run { self.new ≡ before_by (is_headed self.old c) self.old }
+        ensures out { out.new ≡ out.old ++ label_by (is_headed self.old c) name.now self.old }
+        ensures fits { length out.new + label_room self.new.labelled name.now
+            ≤ length out.old + label_room self.old.labelled name.now }
+    {
+        if !self.is_headed(c) {
+            return;
+        }
+        label(name, self.is_open, out);
+        self.labelled = true;
+        self.erasable = 0;
+        self.after_cr = false;
+    }
+
+    /// Writes the next character, and the label before it where it is the first that is seen.
+    fn write_one(&mut self, name: &str, c: char, out: &mut Text)
         requires bound { self.old.erasable + 1 < 2 ^ 64 }
-        requires fits { length out.old + length text.now ≤ MOST_TEXT_OCTETS }
-        ensures writes { (whole run before : List ℕ) → Writes self.old out.old text.now whole run before
-            → Writes self.new out.new result.now whole run before }
+        requires fits { length out.old + label_room self.old.labelled name.now + length (encode_utf8 c) ≤ MOST_TEXT_OCTETS }
+        ensures run { self.new ≡ stepped self.old c }
+        ensures out { out.new ≡ out.old ++ text_of_one name.now self.old c }
+        ensures fits { length out.new + label_room self.new.labelled name.now
+            ≤ length out.old + label_room self.old.labelled name.now + length (encode_utf8 c) }
+        ensures bound { self.new.erasable ≤ self.old.erasable + 1 }
+        ensures kept { self.new.has_chunk ≡ self.old.has_chunk }
+    {
+        self.head_before(name, c, out);
+        let sent = self.read(c);
+        push(sent, out);
+    }
+
+    /// Writes the first character of a text, if there is one, and answers with the others.
+    fn write_first<'a>(&mut self, name: &str, text: &'a str, out: &mut Text) -> &'a str
+        requires bound { self.old.erasable + 1 < 2 ^ 64 }
+        requires fits { length out.old + label_room self.old.labelled name.now + length text.now ≤ MOST_TEXT_OCTETS }
+        ensures writes { (first : Run) (alone behind_cr : Bool) (run cs before : List ℕ)
+            → Writes name.now first self.old alone behind_cr run cs before out.old text.now
+            → Writes name.now first self.new alone behind_cr run cs before out.new result.now }
         ensures shorter { length result.now ≤ length text.now - 1 }
         ensures bound { self.new.erasable + length result.now ≤ self.old.erasable + length text.now }
-        ensures fits { length out.new + length result.now ≤ MOST_TEXT_OCTETS }
+        ensures fits { length out.new + label_room self.new.labelled name.now + length result.now ≤ MOST_TEXT_OCTETS }
         ensures kept { self.new.has_chunk ≡ self.old.has_chunk }
     {
         let mut chars = text.chars();
         let Some(c) = chars.next() else {
             return text;
         };
-        let sent = self.read(c);
-        push(sent, out);
+        self.write_one(name, c, out);
         chars.as_str()
     }
 
     /// Appends a text of the run to `out`, as it is sent.
-    pub(crate) fn write(&mut self, text: &str, out: &mut Text)
+    pub(crate) fn write(&mut self, name: &str, text: &str, out: &mut Text)
         requires bound { self.old.erasable + MOST_TEXT_OCTETS < 2 ^ 64 }
-        requires fits { length out.old + length text.now ≤ MOST_TEXT_OCTETS }
-        ensures run { (run : List ℕ) → IsRun self.old run → IsRun self.new (run ++ text.now) }
-        ensures out { (run : List ℕ) → IsRun self.old run → out.new ≡ out.old ++ written run text.now }
+        requires fits { length out.old + label_room self.old.labelled name.now + length text.now ≤ MOST_TEXT_OCTETS }
+        ensures sends { (alone behind_cr : Bool) (run : List ℕ) → IsUtf8 text.now → IsRun self.old alone behind_cr run
+            → Sends name.now self.old self.new alone behind_cr run (chars text.now) out.old out.new }
         ensures bound { self.new.erasable ≤ self.old.erasable + length text.now }
         ensures kept { self.new.has_chunk ≡ self.old.has_chunk }
     {
         let mut rest = text;
         while !rest.is_empty() {
-            rest = self.write_first(rest, out);
+            rest = self.write_first(name, rest, out);
         }
     }
 }

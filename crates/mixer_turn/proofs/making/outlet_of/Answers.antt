@@ -3,7 +3,7 @@ use Rattle.std.specs.Prelude.{slice_get}
 use Rattle.file_spec.specs.declared.conf_lines.LegLine.{LegLine}
 use Rattle.slot_table.proofs.Lists.{get_read}
 use Rattle.aware_output.specs.Speakers.{AreDistinct}
-use Rattle.conf_text.specs.Lines.{conf_of}
+use Rattle.conference.specs.Conferences.{conf_of}
 use Rattle.mixer_turn.proofs.Made.{distinct_in, made_of}
 use Rattle.mixer_turn.proofs.making.outlet_of.Goals as goal
 

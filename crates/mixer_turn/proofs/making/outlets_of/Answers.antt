@@ -1,7 +1,7 @@
 use Rattle.std.proofs.Common.{◌≡◌, ℕ, Some, List, [], ◌∷◌, ◌++◌, length, length-append, ap, subst, sym, arith}
 use Rattle.std.specs.Prelude.{slice_get}
 use Rattle.outlet.specs.declared.outlets.Outlet.{Outlet}
-use Rattle.conf_text.specs.Lines.{conf_of}
+use Rattle.conference.specs.Conferences.{conf_of}
 use Rattle.mixer_turn.specs.Making.{IsMade}
 use Rattle.mixer_turn.proofs.Made.{made_more}
 use Rattle.mixer_turn.proofs.making.outlets_of.Goals as goal

@@ -1,7 +1,7 @@
 use Rattle.std.proofs.Common.{◌≡◌, ℕ, Some, length}
 use Rattle.std.specs.Prelude.{slice_get}
 use Rattle.outlet.specs.declared.outlets.Outlet.{Outlet}
-use Rattle.conf_text.specs.Lines.{conf_of}
+use Rattle.conference.specs.Conferences.{conf_of}
 use Rattle.mixer_turn.specs.Making.{IsMade}
 use Rattle.mixer_turn.proofs.making.outlets_of.Given as goal
 

@@ -4,7 +4,7 @@ use Rattle.std.proofs.lemmas.List.{length-map}
 use Rattle.file_spec.specs.declared.conf_lines.LegLine.{LegLine}
 use Rattle.mixer_spec.specs.Setups.{setup}
 use Rattle.mixer_spec.proofs.Conferences.{setup_law}
-use Rattle.conf_text.specs.Lines.{conf_of}
+use Rattle.conference.specs.Conferences.{conf_of}
 use Rattle.mixer_turn.proofs.Made.{name_there}
 use Rattle.mixer_turn.proofs.mixers.Mixer.new.Goals as goal
 

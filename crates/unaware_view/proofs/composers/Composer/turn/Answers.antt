@@ -3,8 +3,7 @@ use Rattle.std.proofs.Common.{ℕ, ◌≡◌, ◌+◌, Bool, Option, List, lengt
 use Rattle.std.specs.Prelude.{is_some}
 use Rattle.std.specs.Vec.{with_items}
 use Rattle.std.proofs.lemmas.List.{with_items_is}
-use Rattle.mixer_spec.specs.Chunks.{joined}
-use Rattle.mixer_spec.specs.Composed.{text_given, run_of}
+use Rattle.mixer_spec.specs.Composed.{began_alone, began_behind_cr, chars_of, run_of, text_given}
 use Rattle.slot_table.specs.Standing.{StandsFor as SlotsStandFor}
 use Rattle.unaware_view.specs.States.{State}
 use Rattle.unaware_view.specs.Insides.{state_of}
@@ -32,7 +31,7 @@ returns-clause-given c = λ s table asks.
     (ap (λ (xs : List Bool). length xs) flags_are ∙ (c.look.ensures.legs ∙ (of_waits ∙ c.self.invariant.legs)))
     (λ i b. ap (λ (xs : List Bool). is_set xs i) flags_are ∙ c.look.ensures.waits s table h.slots_stand i (omega (arith, b, of_waits, c.self.invariant.legs)))
     c.choose-choice.ensures.choice c.choose-choice.ensures.leg
-    (c.give-given.ensures.gives s table h.slots_stand (joined (run_of asks)) h.texts h.stands.run) notes
+    (c.give-given.ensures.gives s table h.slots_stand (began_alone asks) (began_behind_cr asks) (chars_of (run_of asks)) h.texts h.stands.run) notes
     in c.is_some.ensures ∙ (ap is_some c.give-given.ensures.speaker ∙ t.given))
 
 pub returns-clause-text : goal.returns-clause-text
@@ -54,7 +53,7 @@ returns-clause-text c = λ s table asks.
     (ap (λ (xs : List Bool). length xs) flags_are ∙ (c.look.ensures.legs ∙ (of_waits ∙ c.self.invariant.legs)))
     (λ i b. ap (λ (xs : List Bool). is_set xs i) flags_are ∙ c.look.ensures.waits s table h.slots_stand i (omega (arith, b, of_waits, c.self.invariant.legs)))
     c.choose-choice.ensures.choice c.choose-choice.ensures.leg
-    (c.give-given.ensures.gives s table h.slots_stand (joined (run_of asks)) h.texts h.stands.run) notes
+    (c.give-given.ensures.gives s table h.slots_stand (began_alone asks) (began_behind_cr asks) (chars_of (run_of asks)) h.texts h.stands.run) notes
     in t.text_is)
 
 pub returns-clause-stands : goal.returns-clause-stands
@@ -76,10 +75,10 @@ returns-clause-stands c = λ s table asks.
     (ap (λ (xs : List Bool). length xs) flags_are ∙ (c.look.ensures.legs ∙ (of_waits ∙ c.self.invariant.legs)))
     (λ i b. ap (λ (xs : List Bool). is_set xs i) flags_are ∙ c.look.ensures.waits s table h.slots_stand i (omega (arith, b, of_waits, c.self.invariant.legs)))
     c.choose-choice.ensures.choice c.choose-choice.ensures.leg
-    (c.give-given.ensures.gives s table h.slots_stand (joined (run_of asks)) h.texts h.stands.run) notes
+    (c.give-given.ensures.gives s table h.slots_stand (began_alone asks) (began_behind_cr asks) (chars_of (run_of asks)) h.texts h.stands.run) notes
     in
     let then : State = record me { waits = flags; run = c.give-given.new.run; since = moments; asked = c.args.media + 1 } in
-    let is : c.remember.new.self ≡ remembered then (speaker_of k) c.args.media c.give-given.new.text = c.remember.ensures ∙ ap (λ (o : Option ℕ). remembered then o c.args.media c.give-given.new.text) c.give-given.ensures.speaker in
+    let is : c.remember.new.self ≡ remembered then (speaker_of k) c.args.media = c.remember.ensures ∙ ap (λ (o : Option ℕ). remembered then o c.args.media) c.give-given.ensures.speaker in
     subst (λ (x : State). StandsFor s x (asked_now s table me c.args.media c.args.due asks)) (sym is) t.stands)
 
 pub returns-clause-waits : goal.returns-clause-waits
@@ -101,5 +100,5 @@ returns-clause-waits c = λ s table asks.
     (ap (λ (xs : List Bool). length xs) flags_are ∙ (c.look.ensures.legs ∙ (of_waits ∙ c.self.invariant.legs)))
     (λ i b. ap (λ (xs : List Bool). is_set xs i) flags_are ∙ c.look.ensures.waits s table h.slots_stand i (omega (arith, b, of_waits, c.self.invariant.legs)))
     c.choose-choice.ensures.choice c.choose-choice.ensures.leg
-    (c.give-given.ensures.gives s table h.slots_stand (joined (run_of asks)) h.texts h.stands.run) notes
+    (c.give-given.ensures.gives s table h.slots_stand (began_alone asks) (began_behind_cr asks) (chars_of (run_of asks)) h.texts h.stands.run) notes
     in t.slots_stand)
