@@ -7,6 +7,7 @@ use Rattle.wire_spec.specs.Packets.{Packet, has_text}
 use Rattle.wire_spec.specs.SentPackets.{packet_written}
 use Rattle.stream_spec.specs.Lists.{In}
 use Rattle.stream_spec.specs.Own.{Sent, Stream, sent_of, nth, has_text_in, packet_after, MaySend, Sendable}
+use Rattle.stream_spec.specs.Typed.{longest_step}
 use Rattle.stream_spec.proofs.Sent.{in_sent_of, take_in}
 use Rattle.red_window.specs.Kept.{blocks_kept}
 use Rattle.red_window.specs.Standing.{MayFollow}
@@ -20,16 +21,16 @@ use Rattle.aware_output.specs.States.{State}
 use Rattle.aware_output.specs.Standing.{StandsFor, speaker_of, source_at}
 
 -- ---- what is sent may be sent
--- where text of these is still to be repeated, the media time is at most 5000 after the last one
+-- where text of these is still to be repeated, the media time is at most the longest step after the last one
 abbrev Link : ℕ → ℕ → List Sent → Type 0
 Link g media [] = Unit {0}
-Link g media (z ∷ zs) = has_text_in g (z ∷ zs) ≡ true → media ≤ z.media + 5000
+Link g media (z ∷ zs) = has_text_in g (z ∷ zs) ≡ true → media ≤ z.media + longest_step g
 
 abbrev Chain : ℕ → List Sent → Type 0
 Chain g [] = Unit {0}
 Chain g (z ∷ zs) = Link g z.media zs × Chain g zs
 
-link_of : (g media : ℕ) (zs : List Sent) → (has_text_in g zs ≡ true → IfSome (nth 0 zs) (λ last. media ≤ last.media + 5000)) → Link g media zs
+link_of : (g media : ℕ) (zs : List Sent) → (has_text_in g zs ≡ true → IfSome (nth 0 zs) (λ last. media ≤ last.media + longest_step g)) → Link g media zs
 link_of g media [] f = tt
 link_of g media (z ∷ zs) f = f
 
@@ -60,12 +61,13 @@ text_in (suc g) [] z i h = absurd i
 text_in (suc g) (y ∷ zs) z (inl q) h = let t : has_text y.text ≡ true = ap (λ (x : Sent). has_text x.text) (sym q) ∙ h in rw t refl
 text_in (suc g) (y ∷ zs) z (inr i) h = rw (text_in g zs z i h) (or_right (has_text y.text))
 
-abbrev steps : ℕ → ℕ
-steps zero = 0
-steps (suc k) = 5000 + steps k
+-- how far so many steps go
+abbrev steps : ℕ → ℕ → ℕ
+steps zero step = 0
+steps (suc k) step = step + steps k step
 
 -- each of the last k with text lies at most k steps before
-within_steps : (g k media : ℕ) (zs : List Sent) → k ≤ g → Link g media zs → Chain g zs → (x : Sent) → In x (take k zs) → has_text x.text ≡ true → media ≤ x.media + steps k
+within_steps : (g k media : ℕ) (zs : List Sent) → k ≤ g → Link g media zs → Chain g zs → (x : Sent) → In x (take k zs) → has_text x.text ≡ true → media ≤ x.media + steps k (longest_step g)
 within_steps g zero media zs l n p x i h = absurd i
 within_steps g (suc k) media [] l n p x i h = absurd i
 within_steps g (suc k) media (z ∷ zs) l n p x i h =
@@ -75,7 +77,7 @@ within_steps g (suc k) media (z ∷ zs) l n p x i h =
       | inr j ↦ let r = within_steps g k z.media zs (omega arith) p.0 p.1 x j h in omega (arith, near, r)
     ]
 
-fits_offset : (g : ℕ) → g ≤ 3 → steps g ≤ 16383
+fits_offset : (g : ℕ) → g ≤ 3 → steps g (longest_step g) ≤ 16383
 fits_offset zero l = omega arith
 fits_offset (suc zero) l = omega arith
 fits_offset (suc (suc zero)) l = omega arith

@@ -1,7 +1,8 @@
--- The sources of an output, and what may be sent of them (profile: 5000 ms).
+-- The sources of an output, and what may be sent of them (profile).
 use Rattle.std.specs.Prelude.{◌≡◌, ℕ, ◌+◌, ◌<◌, ◌≤◌, ◌^◌, true, IfSome, List, [], ◌∷◌, length, slice_index, IsUtf8}
 use Rattle.stream_spec.specs.Lists.{In}
 use Rattle.stream_spec.specs.Own.{Sent, Stream, sent_of, nth, has_text_in}
+use Rattle.stream_spec.specs.Typed.{longest_step}
 use Rattle.red_window.specs.Standing.{kept_last}
 use Rattle.aware_output.specs.declared.speakers.Speaker.{Speaker}
 use Rattle.rtt_base.specs.declared.limits.TheConstants.{MOST_TEXT_OCTETS}
@@ -20,10 +21,10 @@ abbrev pub text_of : List ℕ → ℕ → ℕ → List ℕ → Sent
 text_of sources source media text = record { source = slice_index sources source; media = media; text = text }
 
 -- Text that may be sent after these: at a later media time and, where text of its source is still to be repeated, at
--- most 5000 after the last packet of the source.
+-- most the longest step after the last packet of the source.
 pub record IsNext (c : Stream) (past : List Sent) (e : Sent) : Type 0 where
   pub later : (x : Sent) → In x past → (x.media < e.media) × (e.media < x.media + 2 ^ 31)
-  pub near : has_text_in c.gens (sent_of e.source past) ≡ true → IfSome (nth 0 (sent_of e.source past)) (λ last. e.media ≤ last.media + 5000)
+  pub near : has_text_in c.gens (sent_of e.source past) ≡ true → IfSome (nth 0 (sent_of e.source past)) (λ last. e.media ≤ last.media + longest_step c.gens)
   pub text : (length e.text ≤ MOST_TEXT_OCTETS) × IsUtf8 e.text
 
 -- each of these could be sent after those before it

@@ -83,9 +83,9 @@ impl Output {
     }
 
     /// Appends the packet of the source, counted from 0, with this text of at most 1023 octets of UTF-8, at this media time in
-    /// ms: it is later than that of the call before, less than 2^31 after that of the first, and at most 5000 after that of
-    /// the source's last packet where text of the source is still to be repeated. Where the buffer refuses the packet, the
-    /// output is as before.
+    /// ms: it is later than that of the call before, less than 2^31 after that of the first, and, where text of the source is
+    /// still to be repeated, at most 8000 after that of its last packet, or 5000 with three generations. Where the buffer
+    /// refuses the packet, the output is as before.
     pub fn packet<O: OctetBuffer>(
         &mut self,
         media: u64,

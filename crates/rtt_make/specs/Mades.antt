@@ -1,6 +1,6 @@
 -- What the code makes of a number, in the words of the definitions.
 use Rattle.std.specs.Prelude.{◌≡◌, ℕ}
-use Rattle.conf_text.specs.Lines.{conf_of}
+use Rattle.conference.specs.Conferences.{conf_of}
 use Rattle.command_spec.specs.Generated.{Generated, generated}
 use Rattle.rtt_make.specs.declared.made.Made.{Made}
 

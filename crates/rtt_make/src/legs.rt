@@ -3,7 +3,7 @@ ghost use Rattle.std.specs.Prelude.{◌≡◌, ◌≤◌, ◌<◌, ◌++◌, cod
 ghost use Rattle.std.specs.List.{range_with_len};
 ghost use Rattle.command_spec.specs.Generated.{leg};
 
-use conf_text::{LegLine, Legs, Stay, name_of};
+use conference::{LegLine, Legs, Stay, name_of};
 use file_spec::limits::{USUAL_GENS, USUAL_RED, USUAL_T140};
 use rtt_base::{Name, NoMemory, Path, Pts};
 use std::alloc::Global;

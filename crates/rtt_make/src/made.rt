@@ -1,7 +1,7 @@
 //! The conference, with the script and the first sequence number of each leg.
 ghost use Rattle.std.specs.Prelude.{◌≡◌, ◌==◌, ◌<◌, ◌≤◌, ◌++◌, [], ◌∷◌, length, map, slice_get, Some, IfOk, OnOk};
 ghost use Rattle.file_spec.specs.Kept.{IsConference};
-ghost use Rattle.conf_text.specs.Lines.{conf_of};
+ghost use Rattle.conference.specs.Conferences.{conf_of};
 ghost use Rattle.command_spec.specs.Draws.{times};
 ghost use Rattle.command_spec.specs.Generated.{conference_of, generated, typist};
 ghost use Rattle.rtt_make.specs.Mades.{made_of};
@@ -10,7 +10,7 @@ use crate::draws::Draws;
 use crate::legs::legs_of;
 use crate::plans::draw_plan;
 use crate::scripts::draw_typist;
-use conf_text::{Conf, MixerLine, Plan};
+use conference::{Conf, MixerLine, Plan};
 use file_spec::limits::{MOST_TURNS, USUAL_SPACING, USUAL_TICK};
 use rtt_base::NoMemory;
 use rtt_base::limits::USUAL_WAIT;

@@ -1,7 +1,7 @@
 //! Conferences that another program made from the same numbers.
 use crate::draws::Draws;
 use crate::{Heard, Made, make_conf, recordings_of, summary_of};
-use conf_text::{PlanLine, What};
+use conference::{PlanLine, What};
 use std::test::Fail;
 
 #[test]

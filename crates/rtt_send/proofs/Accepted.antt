@@ -1,6 +1,6 @@
 -- The lines of a script that is accepted.
 use Rattle.std.proofs.Common.{◌≡◌, ℕ, suc, ◌+◌, ◌<◌, ◌≤◌, Bool, true, false, Option, Some, None, List, [], ◌∷◌, ◌++◌, append_assoc, length, length-append, get_or, drop, refl, ap, subst, sym, ◌∙◌, arith}
-use Rattle.std.specs.Prelude.{◌==◌, ◌&&◌, not, max, nat_lt, if◌then◌else◌, Result, Ok, Err, All, IsUtf8}
+use Rattle.std.specs.Prelude.{◌==◌, not, max, nat_lt, if◌then◌else◌, Result, Ok, Err, All, IsUtf8}
 use Rattle.std.specs.List.{position_or_len, before_first, after_first}
 use Rattle.std.specs.Option.{ok_or}
 use Rattle.std.specs.Char.{encode_utf8}

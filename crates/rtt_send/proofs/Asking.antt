@@ -1,5 +1,5 @@
 -- What an ask changes.
-use Rattle.std.proofs.Common.{◌≡◌, ℕ, zero, suc, ◌+◌, ◌<◌, ◌≤◌, ◌%◌, Bool, true, false, cond, inl, inr, Option, None, Some, List, [], ◌∷◌, ◌++◌, append_assoc, length, length-drop, refl, ap, subst, sym, ◌∙◌, arith}
+use Rattle.std.proofs.Common.{◌≡◌, ℕ, zero, suc, ◌+◌, ◌<◌, ◌≤◌, Bool, true, false, cond, inl, inr, Option, None, Some, List, [], ◌∷◌, ◌++◌, append_assoc, length, length-drop, refl, ap, subst, sym, ◌∙◌, arith}
 use Rattle.std.specs.Prelude.{◌&&◌, nat_le, All}
 use Rattle.std.specs.List.{flat_map}
 use Rattle.std.specs.Option.{option_map}
@@ -8,10 +8,9 @@ use Rattle.std.proofs.lemmas.Bool.Decides.{nat_tests}
 use Rattle.std.proofs.lemmas.Grind.{flat_map-append}
 use Rattle.wire_spec.specs.Dump.{dump_opening, dump_written, record_written}
 use Rattle.file_spec.specs.Script.{ScriptLine}
-use Rattle.stream_spec.specs.Own.{packet_after, has_text_in}
+use Rattle.stream_spec.specs.Own.{packet_after}
 use Rattle.stream_spec.specs.Typed.{Event, Ask, Turned, sents, whole_front, is_due, due_at, packet_at, entry_at, IsScript, has_passed, next_at}
 use Rattle.stream_spec.proofs.Typing.{entries_more, entries_same, waits_same, waits_less}
-use Rattle.red_window.specs.Standing as window
 use Rattle.text_sender.specs.declared.senders.SendConf.{SendConf}
 use Rattle.text_sender.specs.Confs.{stream_of}
 use Rattle.text_sender.specs.States.{State}
@@ -102,9 +101,7 @@ also_for conf s new old r i same = record {
   script = i;
   conf_is = r.conf_is;
   waits = r.waits ∙ sym same.waits;
-  window = subst (λ (es : List Turned). window.StandsFor conf.gens conf.stamp s.window (sents es)) (sym same.sent) r.window;
-  spoke = r.spoke ∙ ap (λ (es : List Turned). has_text_in 1 (sents es)) (sym same.sent);
-  seq = r.seq ∙ ap (λ (es : List Turned). (conf.seq + length es) % 65536) (sym same.sent);
+  output = rw same.sent r.output;
   last = r.last ∙ ap (λ (es : List Turned). last_of es) (sym same.sent);
 }
 

@@ -1,10 +1,11 @@
 -- What holds of each sender.
-use Rattle.std.specs.Prelude.{◌≡◌, ◌<◌, ◌^◌, Some}
+use Rattle.std.specs.Prelude.{◌≡◌, ◌<◌, ◌^◌, Some, length}
 use Rattle.text_sender.specs.declared.senders.Last.{Last}
 use Rattle.text_sender.specs.declared.senders.Sender.TheInside.{Inside}
 use Rattle.text_sender.specs.Confs.{IsConf}
 
--- moments and media times lie below 2^31
+-- its output has one source, and moments and media times lie below 2^31
 pub record IsSound (s : Inside) : Type 0 where
   pub conf : IsConf s.conf
+  pub one : length s.output.speakers ≡ 1
   pub last : (l : Last) → s.last ≡ Some l → (l.at < 2 ^ 31) × (l.media < 2 ^ 31)

@@ -1,8 +1,8 @@
 -- What is told of each script that a sender stands for.
-use Rattle.std.specs.Prelude.{◌≡◌, ℕ, ◌+◌, ◌≤◌, Bool, true, not, max, if◌then◌else◌, Option, None, Some, List, ◌∷◌, length}
+use Rattle.std.specs.Prelude.{◌≡◌, ℕ, ◌+◌, ◌≤◌, Bool, true, if◌then◌else◌, Option, None, Some, List, ◌∷◌, length}
 use Rattle.std.specs.Option.{option_map}
 use Rattle.stream_spec.specs.declared.limits.TheConstants.{MOST_WAITING_OCTETS}
-use Rattle.stream_spec.specs.Own.{packet_after, has_text_in}
+use Rattle.stream_spec.specs.Own.{packet_after}
 use Rattle.stream_spec.specs.Typed.{Event, last_ask, sents, entry_at, due_at, packet_at}
 use Rattle.wire_spec.specs.SentPackets.{packet_written}
 use Rattle.text_sender.specs.declared.senders.SendConf.{SendConf}
@@ -45,7 +45,3 @@ octets_due conf past now =
 -- these octets, where they were written
 abbrev pub written : Bool → List ℕ → Option (List ℕ)
 written was_written octets = if was_written then Some octets else None
-
--- the next packet comes after a pause
-abbrev pub is_after_pause : SendConf → List Event → Bool
-is_after_pause conf past = not (has_text_in (max 1 conf.gens) (sents (sent_by conf past)))

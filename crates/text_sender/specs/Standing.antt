@@ -1,13 +1,12 @@
 -- What a sender stands for: a script, and the packets that it tells.
-use Rattle.std.specs.Prelude.{◌≡◌, ℕ, ◌+◌, ◌%◌, Bool, Option, None, Some, List, [], ◌∷◌, length}
+use Rattle.std.specs.Prelude.{◌≡◌, ℕ, Bool, Option, None, Some, List, [], ◌∷◌}
 use Rattle.stream_spec.specs.History.{History}
-use Rattle.stream_spec.specs.Own.{has_text_in}
 use Rattle.stream_spec.specs.Typed as script
 use Rattle.stream_spec.specs.Typed.{Event, Turned, IsScript, sents, entries, waiting, next_due, history_typed}
-use Rattle.red_window.specs.Standing as window
+use Rattle.aware_output.specs.Standing as outputs
 use Rattle.text_sender.specs.declared.senders.SendConf.{SendConf}
 use Rattle.text_sender.specs.declared.senders.Last.{Last}
-use Rattle.text_sender.specs.Confs.{stream_of}
+use Rattle.text_sender.specs.Confs.{stream_of, output_of}
 use Rattle.text_sender.specs.States.{State}
 
 -- what a sender of this configuration sent and what waits, after this script
@@ -39,7 +38,5 @@ pub record StandsFor (conf : SendConf) (s : State) (past : List Event) : Type 0 
   pub script : IsScript past
   pub conf_is : s.conf ≡ conf
   pub waits : s.waits ≡ waits_for conf past
-  pub window : window.StandsFor conf.gens conf.stamp s.window (sents (sent_by conf past))
-  pub spoke : s.spoke ≡ has_text_in 1 (sents (sent_by conf past))
-  pub seq : s.seq ≡ (conf.seq + length (sent_by conf past)) % 65536
+  pub output : outputs.StandsFor (output_of conf) (conf.ssrc ∷ []) s.output (sents (sent_by conf past))
   pub last : s.last ≡ last_of (sent_by conf past)

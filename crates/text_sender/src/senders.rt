@@ -3,8 +3,8 @@ ghost use Rattle.std.specs.Prelude.{◌≡◌, ◌^◌, ◌<◌, ◌≤◌, ◌�
 ghost use Rattle.stream_spec.specs.Typed.{Text as text_event, Ask, longest_step};
 
 use crate::waiting::Waiting;
-use red_blocks::{TextHead, write_text};
-use red_window::Window;
+use aware_output::{OutConf, Output};
+use rtt_base::limits::{LONGEST_STEP, LONGEST_STEP_OF_TWO};
 use rtt_base::{Full, NoMemory, Packet, Pts, Text};
 use std::alloc::Global;
 use std::marker::Model;
@@ -39,18 +39,20 @@ struct Last {
 fn longest_step(generations: u8) -> u64
     ensures { result ≡ longest_step generations }
 {
-    if generations <= 2 { 8000 } else { 5000 }
+    let longest = if generations <= 2 {
+        LONGEST_STEP_OF_TWO
+    } else {
+        LONGEST_STEP
+    };
+    u64::from(longest)
 }
 
-/// A sender of one stream of typed text.
+/// A sender of one stream of typed text: an output of one source, the text that waits for it, and a clock.
 #[derive(Drop)]
 pub struct Sender {
     conf: SendConf,
     waiting: Waiting,
-    window: Window,
-    /// Whether the last packet had text.
-    spoke: bool,
-    seq: u16,
+    output: Output,
     last: Option<Last>,
     /// The text of the last packet, which is written over for the next one.
     text: Text,
@@ -61,7 +63,7 @@ impl Model for Sender {
 
     ghost Value = { State };
 
-    ghost view = { λ s. record { conf = s.conf; waits = s.waiting; window = s.window; spoke = s.spoke; seq = s.seq; last = s.last } };
+    ghost view = { λ s. record { conf = s.conf; waits = s.waiting; output = s.output; last = s.last } };
 
     ghost use Rattle.text_sender.specs.Insides.{IsSound};
 
@@ -69,23 +71,28 @@ impl Model for Sender {
 }
 
 impl Sender {
-    ghost use Rattle.stream_spec.specs.Typed.{has_passed, media_at, due_at};
+    ghost use Rattle.stream_spec.specs.Own.{has_text_in};
+    ghost use Rattle.stream_spec.specs.Typed.{has_passed, media_at, due_at, sents};
     ghost use Rattle.text_sender.specs.Confs.{IsConf, stream_of};
     ghost use Rattle.text_sender.specs.Standing.{StandsFor, sent_by, has_more, next_due_of};
-    ghost use Rattle.text_sender.specs.Scripts.{OfScripts, GoesOn, AskedUntil, DueAt, HasRoom, octets_at, octets_due, written, is_after_pause};
+    ghost use Rattle.text_sender.specs.Scripts.{OfScripts, GoesOn, AskedUntil, DueAt, HasRoom, octets_at, octets_due, written};
 
     /// A sender that was given no text. It reserves the room for all text that may wait.
     pub fn new(alloc: Global, conf: SendConf) -> Result<Sender, NoMemory>
         requires { IsConf conf }
         ensures { IfOk result (λ s. StandsFor conf s []) }
     {
-        let (seq, gens) = (conf.seq, conf.gens);
+        let stream = OutConf {
+            ssrc: conf.ssrc,
+            seq: conf.seq,
+            stamp: conf.stamp,
+            pts: conf.pts,
+            gens: conf.gens,
+        };
         Ok(Sender {
             conf,
             waiting: Waiting::new(alloc)?,
-            window: Window::with(gens),
-            spoke: false,
-            seq,
+            output: Output::new(alloc, stream, &[conf.ssrc])?,
             last: None,
             text: Text::new(),
         })
@@ -153,7 +160,14 @@ impl Sender {
     fn has_more(&self) -> bool
         ensures { OfScripts self.now (λ conf past. result ≡ has_more conf past) }
     {
-        !self.waiting.is_empty() || self.window.due()
+        !self.waiting.is_empty() || self.repeats()
+    }
+
+    /// Whether text is still to be repeated.
+    fn repeats(&self) -> bool
+        ensures { OfScripts self.now (λ conf past. result ≡ has_text_in conf.gens (sents (sent_by conf past))) }
+    {
+        self.output.due(0)
     }
 
     /// Whether nothing was sent yet, or the interval has passed.
@@ -166,14 +180,6 @@ impl Sender {
         }
     }
 
-    /// Whether the next packet comes after a pause: no text before it is still to be repeated, and the last packet had
-    /// none.
-    fn is_after_pause(&self) -> bool
-        ensures { OfScripts self.now (λ conf past. result ≡ is_after_pause conf past) }
-    {
-        !self.window.due() && !self.spoke
-    }
-
     /// The media time of a packet at this moment.
     fn media_at(&self, now: u64) -> u64
         requires { now < 2 ^ 31 }
@@ -181,7 +187,7 @@ impl Sender {
         ensures fits { result ≤ now }
     {
         match self.last {
-            Some(last) if self.window.due() => now.min(last.media + longest_step(self.conf.gens)),
+            Some(last) if self.repeats() => now.min(last.media + longest_step(self.conf.gens)),
             _ => now,
         }
     }
@@ -193,20 +199,9 @@ impl Sender {
         ensures stands { DueAt now self.old (λ conf past. StandsFor conf self.new (Ask now ∷ past)) }
     {
         let media = self.media_at(now);
-        let head = TextHead {
-            mark: self.is_after_pause(),
-            seq: self.seq,
-            stamp: self.conf.stamp.wrapping_add(media as u32),
-            ssrc: self.conf.ssrc,
-            source: self.conf.ssrc,
-        };
         self.waiting.take_front(&mut self.text);
-        let text = self.text.as_slice();
         out.clear();
-        let _ = write_text(&head, &self.window, text, self.conf.pts, out);
-        self.window.keep(head.stamp, text);
-        self.spoke = !text.is_empty();
-        self.seq = self.seq.wrapping_add(1);
+        let _ = self.output.packet(media, 0, self.text.as_slice(), out);
         self.last = Some(Last { at: now, media });
     }
 }

@@ -1,5 +1,5 @@
 use Rattle.std.proofs.Common.{ap, sym, ◌∙◌}
-use Rattle.conf_text.specs.Lines.{conf_of}
+use Rattle.conference.specs.Conferences.{conf_of}
 use Rattle.command_spec.specs.Draws.{draw}
 use Rattle.rtt_make.proofs.Wholes.{keeps, made_is}
 use Rattle.rtt_make.proofs.made.make_conf.Goals as goal

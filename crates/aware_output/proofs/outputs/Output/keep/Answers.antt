@@ -1,4 +1,4 @@
-use Rattle.std.proofs.Common.{◌≡◌, ◌<◌, List, length, refl, subst, sym}
+use Rattle.std.proofs.Common.{◌<◌, length, refl, subst, sym}
 use Rattle.aware_output.specs.States.{State}
 use Rattle.stream_spec.specs.Own.{sent_of}
 use Rattle.aware_output.specs.Speakers.{text_of}

@@ -1,4 +1,4 @@
-use Rattle.std.proofs.Common.{◌≡◌, ◌++◌, ◌∷◌, [], List, refl, ap, ◌∙◌, arith}
+use Rattle.std.proofs.Common.{◌++◌, ◌∷◌, [], List, refl, ap, ◌∙◌, arith}
 use Rattle.aware_output.specs.declared.speakers.Speaker.{Speaker}
 use Rattle.aware_output.proofs.Speaking.{new_speakers, all_taken}
 use Rattle.aware_output.proofs.outputs.Output.new.Goals as goal

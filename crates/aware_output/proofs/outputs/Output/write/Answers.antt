@@ -1,4 +1,4 @@
-use Rattle.std.proofs.Common.{◌≡◌, ◌<◌, ℕ, List, length, subst, sym}
+use Rattle.std.proofs.Common.{◌<◌, ℕ, List, length, subst, sym}
 use Rattle.rtt_base.specs.Buffers.{Appends}
 use Rattle.stream_spec.specs.Own.{sent_of}
 use Rattle.aware_output.specs.declared.outputs.OutConf.{OutConf}

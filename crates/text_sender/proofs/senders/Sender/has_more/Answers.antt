@@ -11,5 +11,5 @@ use Rattle.text_sender.proofs.senders.Sender.has_more.Goals as goal
 pub returns-else-not-is_empty : goal.returns-else-not-is_empty
 returns-else-not-is_empty c = λ conf past s.
     let r = subst (λ (st : State). StandsFor conf st past) (sym c.self.view_is) s in
-    c.due.ensures conf.gens conf.stamp (sents (sent_by conf past)) r.window
+    c.repeats.ensures conf past s
     ∙ sym (ap (λ (b : Bool). b || has_text_in conf.gens (sents (sent_by conf past))) (sym (ap has_text r.waits) ∙ no_text c.self.inside.waiting (sym c.is_empty.ensures ∙ c.if-not-is_empty.false)))

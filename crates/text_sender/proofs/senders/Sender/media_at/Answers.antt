@@ -1,6 +1,6 @@
 use Rattle.std.proofs.Common.{◌≡◌, ℕ, ◌+◌, ap, sym, subst, ◌∙◌}
 use Rattle.std.specs.Prelude.{min}
-use Rattle.stream_spec.specs.Typed.{sents, longest_step}
+use Rattle.stream_spec.specs.Typed.{longest_step}
 use Rattle.text_sender.specs.declared.senders.SendConf.{SendConf}
 use Rattle.text_sender.specs.States.{State}
 use Rattle.text_sender.specs.Standing.{StandsFor, sent_by}
@@ -12,9 +12,8 @@ returns-in-Some-clause-value c = λ conf past s.
     let r = subst (λ (st : State). StandsFor conf st past) (sym c.self.view_is) s in
     let step : c.longest_step.result ≡ longest_step conf.gens = c.longest_step.ensures ∙ ap (λ (x : SendConf). longest_step x.gens) r.conf_is in
     c.min.ensures ∙ (ap (λ (n : ℕ). min c.args.now (c.in-Some.last.media + n)) step
-    ∙ media_more conf.gens (sent_by conf past) c.in-Some.last c.args.now (sym c.in-Some.is ∙ r.last) (sym (c.due.ensures conf.gens conf.stamp (sents (sent_by conf past)) r.window) ∙ c.if-due.true))
+    ∙ media_more conf.gens (sent_by conf past) c.in-Some.last c.args.now (sym c.in-Some.is ∙ r.last) (sym (c.repeats.ensures conf past s) ∙ c.if-repeats.true))
 
 pub returns-in_default-clause-value : goal.returns-in_default-clause-value
 returns-in_default-clause-value c = λ conf past s.
-    let r = subst (λ (st : State). StandsFor conf st past) (sym c.self.view_is) s in
-    media_now conf.gens (sent_by conf past) c.args.now (sym (c.due.ensures conf.gens conf.stamp (sents (sent_by conf past)) r.window) ∙ c.if-due.false)
+    media_now conf.gens (sent_by conf past) c.args.now (sym (c.repeats.ensures conf past s) ∙ c.if-repeats.false)

@@ -1,4 +1,4 @@
-use Rattle.std.proofs.Common.{refl, arith}
+use Rattle.std.proofs.Common.{refl}
 use Rattle.text_sender.proofs.senders.Sender.new.Goals as goal
 
 pub returns : goal.returns
@@ -6,8 +6,6 @@ returns c = record {
   script = tt;
   conf_is = refl;
   waits = c.in_ok-new.ensures;
-  window = c.with.ensures c.args.conf.stamp;
-  spoke = refl;
-  seq = omega arith;
+  output = c.in_ok-new-2.ensures;
   last = refl;
 }

@@ -9,5 +9,5 @@ pub returns-clause-ok : goal.returns-clause-ok
 returns-clause-ok c =
     on_ok_weaker c.append.result
     (λ (e : c.append.new.self ≡ c.self.inside.waiting ++ c.args.text.now). λ conf past s.
-    more_typed conf past _ _ c.args.text.now c.requires (subst (λ (st : State). StandsFor conf st past) (sym c.self.view_is) s) (ap (λ (w : List ℕ). let x : State = record { conf = c.self.inside.conf; waits = w; window = c.self.inside.window; spoke = c.self.inside.spoke; seq = c.self.inside.seq; last = c.self.inside.last } in x) e))
+    more_typed conf past _ _ c.args.text.now c.requires (subst (λ (st : State). StandsFor conf st past) (sym c.self.view_is) s) (ap (λ (w : List ℕ). let x : State = record { conf = c.self.inside.conf; waits = w; output = c.self.inside.output; last = c.self.inside.last } in x) e))
     c.append.ensures.ok
