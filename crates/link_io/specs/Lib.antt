@@ -1,0 +1,7 @@
+pub mod Taking
+pub mod Told
+pub mod Ports
+pub mod MemPorts
+pub mod Held
+pub mod Peers
+pub mod Receiving

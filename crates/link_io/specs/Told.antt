@@ -1,0 +1,12 @@
+-- What an inbound end in memory keeps of its takes.
+use Rattle.std.specs.Prelude.{List, map, reverse}
+use Rattle.link_spec.specs.Links.{Taken, Takes}
+use Rattle.link_io.specs.declared.mem_ins.Told.{Told}
+use Rattle.link_io.specs.Taking.{taken_of}
+
+abbrev pub take_told : Told → Taken
+take_told t = taken_of t.taken t.octets
+
+-- newest first
+abbrev pub takes_told : List Told → Takes
+takes_told told = map take_told (reverse told)

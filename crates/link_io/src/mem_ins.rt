@@ -1,0 +1,227 @@
+//! Inbound ends in memory.
+ghost use Rattle.std.specs.Prelude.{◌≡◌, ◌<◌, ◌≤◌, ◌^◌, true, false, [], ◌∷◌, OnOk, OnErr};
+ghost use Rattle.link_io.specs.Taking.{taken_of, closes};
+ghost use Rattle.link_io.specs.Told.{takes_told};
+
+use crate::{Came, LinkIn, Taken};
+use rtt_base::{Bytes, Failed, NoMemory, Packet};
+use std::alloc::Global;
+
+/// What a link is to give at a moment (milliseconds), or at that of the take before, where that is later.
+#[derive(Debug, Drop)]
+pub struct Planned {
+    pub at: u32,
+    pub came: Came,
+    /// The octets of a datagram.
+    pub octets: Bytes,
+}
+
+impl Planned {
+    /// The same once more.
+    pub fn copy(&self, alloc: Global) -> Result<Planned, NoMemory> {
+        let mut octets = Bytes::new(alloc);
+        octets.append(self.octets.as_slice())?;
+        Ok(Planned {
+            at: self.at,
+            came: self.came,
+            octets,
+        })
+    }
+}
+
+/// What a link gave.
+#[derive(Debug, Drop)]
+pub struct Told {
+    pub taken: Taken,
+    /// The octets of a datagram.
+    pub octets: Bytes,
+}
+
+/// An inbound end in memory, which gives what is planned and is quiet behind that. It waits for nothing. Some of its takes
+/// are to fail; they use up nothing of the plan. One for which there is no memory fails too.
+#[derive(Debug, Drop)]
+pub struct MemIn {
+    alloc: Global,
+    pub(crate) port: u16,
+    plan: Vec<Planned>,
+    // how much of the plan it gave
+    used: usize,
+    // how many takes were made
+    takes: u64,
+    failing: Vec<u64>,
+    pub(crate) told: Vec<Told>,
+    pub(crate) closed: bool,
+    moment: u64,
+    pub(crate) faults: u64,
+    ghost early: { moment < 2 ^ 48 },
+}
+
+impl LinkIn for MemIn {
+    ghost use Rattle.link_io.specs.Told.{takes_told};
+
+    ghost tells = { Unit {0} };
+
+    ghost taken = { λ link. takes_told link.told.items };
+
+    ghost closed = { λ link. link.closed };
+
+    ghost moment = { λ link. link.moment };
+
+    ghost faults = { λ link. link.faults };
+
+    ghost port = { λ link. link.port };
+
+    fn take(&mut self, out: &mut Packet, _may_wait: bool) -> Result<Taken, Failed> {
+        self.takes = self.takes.saturating_add(1);
+        if self.failing.as_slice().contains(&self.takes) {
+            self.faults = self.faults.saturating_add(1);
+            return Err(Failed);
+        }
+        let taken = self.next(out);
+        if self.keep(taken, out).is_err() {
+            self.faults = self.faults.saturating_add(1);
+            return Err(Failed);
+        }
+        self.moment = taken.at;
+        self.closed = self.closed || taken.came == Came::Closed;
+        self.used = self.used.saturating_add(1).min(self.plan.len());
+        Ok(taken)
+    }
+}
+
+impl MemIn {
+    /// An end that is quiet for good, none of whose takes is to fail. It takes no memory.
+    pub fn new(alloc: Global, port: u16) -> MemIn
+        ensures none { ⟦<MemIn as LinkIn>⟧.taken result ≡ [] }
+        ensures at { ⟦<MemIn as LinkIn>⟧.port result ≡ port }
+        ensures fresh { ⟦<MemIn as LinkIn>⟧.faults result ≡ 0 }
+        ensures not_closed { ⟦<MemIn as LinkIn>⟧.closed result ≡ false }
+    {
+        MemIn {
+            alloc,
+            port,
+            plan: Vec::new(alloc),
+            used: 0,
+            takes: 0,
+            failing: Vec::new(alloc),
+            told: Vec::new(alloc),
+            closed: false,
+            moment: 0,
+            faults: 0,
+        }
+    }
+
+    /// Plans one take more, behind those that are planned.
+    pub fn plan(&mut self, next: Planned) -> Result<(), NoMemory>
+        ensures same_taken { ⟦<MemIn as LinkIn>⟧.taken self.new ≡ ⟦<MemIn as LinkIn>⟧.taken self.old }
+        ensures same_port { ⟦<MemIn as LinkIn>⟧.port self.new ≡ ⟦<MemIn as LinkIn>⟧.port self.old }
+        ensures same_faults { ⟦<MemIn as LinkIn>⟧.faults self.new ≡ ⟦<MemIn as LinkIn>⟧.faults self.old }
+        ensures same_closed { ⟦<MemIn as LinkIn>⟧.closed self.new ≡ ⟦<MemIn as LinkIn>⟧.closed self.old }
+    {
+        match self.plan.push(next) {
+            Ok(()) => Ok(()),
+            Err(_) => Err(NoMemory),
+        }
+    }
+
+    /// The take of this number is to fail. The first one has number 1.
+    pub fn fail_at(&mut self, take: u64) -> Result<(), NoMemory>
+        ensures same_taken { ⟦<MemIn as LinkIn>⟧.taken self.new ≡ ⟦<MemIn as LinkIn>⟧.taken self.old }
+        ensures same_port { ⟦<MemIn as LinkIn>⟧.port self.new ≡ ⟦<MemIn as LinkIn>⟧.port self.old }
+        ensures same_faults { ⟦<MemIn as LinkIn>⟧.faults self.new ≡ ⟦<MemIn as LinkIn>⟧.faults self.old }
+        ensures same_closed { ⟦<MemIn as LinkIn>⟧.closed self.new ≡ ⟦<MemIn as LinkIn>⟧.closed self.old }
+    {
+        match self.failing.push(take) {
+            Ok(()) => Ok(()),
+            Err(_) => Err(NoMemory),
+        }
+    }
+
+    /// What its takes gave, oldest first.
+    pub fn told(&self) -> &[Told]
+        ensures { takes_told result.now ≡ ⟦<MemIn as LinkIn>⟧.taken self.now }
+    {
+        self.told.as_slice()
+    }
+
+    // What the next take gives, and its octets.
+    fn next(&self, out: &mut Packet) -> Taken
+        ensures rises { self.now.moment ≤ result.at }
+        ensures early { result.at < 2 ^ 48 }
+        ensures for_good { self.now.closed ≡ true → closes result.came ≡ true }
+    {
+        out.clear();
+        if self.closed {
+            return self.at_once(Came::Closed);
+        }
+        match self.plan.get(self.used) {
+            Some(planned) => Taken {
+                at: later(self.moment, planned.at),
+                came: hand_out(planned, out),
+            },
+            None => self.at_once(Came::Quiet),
+        }
+    }
+
+    // This comes at the moment of the take before.
+    fn at_once(&self, came: Came) -> Taken
+        ensures { result ≡ record { at = self.now.moment; came = came } }
+    {
+        Taken {
+            at: self.moment,
+            came,
+        }
+    }
+
+    // Keeps what a take gives.
+    #[tactic(auto, using(crate::proofs::Keeping::told_more))]
+    fn keep(&mut self, taken: Taken, out: &Packet) -> Result<(), NoMemory>
+        ensures ok { OnOk result (takes_told self.new.told.items ≡ taken_of taken out.now ∷ takes_told self.old.told.items) }
+        ensures err { OnErr result (self.new.told.items ≡ self.old.told.items) }
+        ensures closed { self.new.closed ≡ self.old.closed }
+        ensures moment { self.new.moment ≡ self.old.moment }
+        ensures faults { self.new.faults ≡ self.old.faults }
+        ensures port { self.new.port ≡ self.old.port }
+    {
+        let mut octets = Bytes::new(self.alloc);
+        octets.append(out.as_slice())?;
+        self.told.push(Told { taken, octets })?;
+        Ok(())
+    }
+
+    // Its port, what its takes gave and how often it failed.
+    pub(crate) fn into_parts(self) -> (u16, Vec<Told>, u64)
+        ensures { result ≡ (self.port, self.told, self.faults) }
+    {
+        let MemIn {
+            alloc: _,
+            port,
+            plan: _plan,
+            used: _,
+            takes: _,
+            failing: _failing,
+            told,
+            closed: _,
+            moment: _,
+            faults,
+        } = self;
+        (port, told, faults)
+    }
+}
+
+// The later of two moments.
+fn later(moment: u64, at: u32) -> u64
+    requires { moment < 2 ^ 48 }
+    ensures rises { moment ≤ result }
+    ensures early { result < 2 ^ 48 }
+{
+    moment.max(u64::from(at))
+}
+
+// What is planned, and its octets, which stand in an empty packet. A datagram that does not fit is a large one.
+fn hand_out(planned: &Planned, out: &mut Packet) -> Came {
+    if planned.came == Came::Datagram && out.append(planned.octets.as_slice()).is_err() {
+        return Came::Large;
+    }
+    planned.came
+}

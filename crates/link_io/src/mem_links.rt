@@ -1,0 +1,340 @@
+//! Links in memory.
+ghost use Rattle.std.specs.Prelude.{◌≡◌, ◌<◌, ◌^◌, ℕ, true, false, [], OnOk, OnErr, IfOk, IfSome};
+ghost use Rattle.rtt_io.specs.Counts.{Rose};
+ghost use Rattle.link_io.specs.Ports.{Same, SameBut, Replaces, StayOpened, NoneFalls, CountsMore, CountsNoOther};
+ghost use Rattle.link_io.specs.Told.{takes_told};
+ghost use Rattle.link_io.specs.Held.{opened_in, taken_in, given_in, own_in, objects_in};
+
+use crate::clocks::StillClock;
+use crate::mem_ports::{MemPort, place};
+use crate::{Links, MemIn, MemOut, Planned, Told};
+use rtt_base::{Bytes, Failed, NoMemory};
+use std::alloc::Global;
+
+/// A call that is to fail.
+#[derive(Clone, Copy, Debug, PartialEq, Eq)]
+pub enum FailingLink {
+    /// Each `link` at this port.
+    Link(u16),
+    /// A take at this port, by its number. The first take has number 1.
+    Take(u16, u64),
+    /// A give at this port, by its number. The first give has number 1.
+    Give(u16, u64),
+}
+
+/// What comes at a port.
+#[derive(Debug, Drop)]
+struct Coming {
+    port: u16,
+    planned: Planned,
+}
+
+/// Links in memory: what is planned to come at each port, what is stored under it, a list of the calls that are to fail, and
+/// a clock that stands still but for pauses. Where that list is empty, a call fails only where memory runs out. Each link
+/// that is opened at a port gives its whole plan, to whichever peer. A fault that no port can count, since no link was opened
+/// at it, counts for every port.
+#[derive(Debug, Drop)]
+pub struct MemLinks {
+    alloc: Global,
+    ports: Vec<MemPort>,
+    coming: Vec<Coming>,
+    failing: Vec<FailingLink>,
+    clock: StillClock,
+    pauses: u64,
+    own_faults: u64,
+    object_faults: u64,
+}
+
+impl Links for MemLinks {
+    type In = MemIn;
+
+    type Out = MemOut;
+
+    ghost use Rattle.link_io.specs.MemPorts.{opened_of, takes_of, given_of, own_of, objects_of};
+
+    ghost tells = { Unit {0} };
+
+    ghost opened = { λ links. opened_of links.ports.items };
+
+    ghost taken_at = { λ links. takes_of links.ports.items };
+
+    ghost given_at = { λ links. given_of links.ports.items };
+
+    ghost own_faults = { λ links. own_of links.own_faults links.ports.items };
+
+    ghost object_faults = { λ links. objects_of links.object_faults links.ports.items };
+
+    ghost moment = { λ links. links.clock.moment };
+
+    ghost pauses = { λ links. links.pauses };
+
+    fn link(&mut self, port: u16, _to: &str) -> Result<(MemIn, MemOut), Failed> {
+        if let Some(ends) = self.ends(port) {
+            if self.open(port).is_ok() {
+                return Ok(ends);
+            }
+        }
+        self.count_own(port);
+        Err(Failed)
+    }
+
+    fn done_in(&mut self, link: MemIn) {
+        let (port, taken, faults) = link.into_parts();
+        self.count_object(port, faults);
+        self.store_taken(port, taken);
+    }
+
+    fn done_out(&mut self, link: MemOut) {
+        let (port, given, faults) = link.into_parts();
+        self.count_object(port, faults);
+        self.store_given(port, given);
+    }
+
+    fn now(&mut self) -> u64 {
+        self.clock.moment()
+    }
+
+    fn pause_until(&mut self, until: u64) {
+        self.clock.put_on(until);
+        self.pauses = self.pauses.saturating_add(1);
+    }
+}
+
+impl MemLinks {
+    /// Links that are quiet for good, where no call is to fail, at moment 0. It takes no memory.
+    pub fn new(alloc: Global) -> MemLinks
+        ensures none { (p : ℕ) → ⟦<MemLinks as Links>⟧.taken_at result p ≡ [] }
+        ensures none_given { (p : ℕ) → ⟦<MemLinks as Links>⟧.given_at result p ≡ [] }
+        ensures fresh { (p : ℕ) → ⟦<MemLinks as Links>⟧.own_faults result p ≡ 0 }
+        ensures fresh_objects { (p : ℕ) → ⟦<MemLinks as Links>⟧.object_faults result p ≡ 0 }
+        ensures no_pause { ⟦<MemLinks as Links>⟧.pauses result ≡ 0 }
+    {
+        MemLinks {
+            alloc,
+            ports: Vec::new(alloc),
+            coming: Vec::new(alloc),
+            failing: Vec::new(alloc),
+            clock: StillClock::new(),
+            pauses: 0,
+            own_faults: 0,
+            object_faults: 0,
+        }
+    }
+
+    /// Plans what comes next at a port, behind what is planned there.
+    pub fn plan(&mut self, port: u16, planned: Planned) -> Result<(), NoMemory>
+        ensures same_opened { Same ⟦<MemLinks as Links>⟧.opened self.old self.new }
+        ensures same_taken { Same ⟦<MemLinks as Links>⟧.taken_at self.old self.new }
+        ensures same_given { Same ⟦<MemLinks as Links>⟧.given_at self.old self.new }
+        ensures same_own { Same ⟦<MemLinks as Links>⟧.own_faults self.old self.new }
+        ensures same_objects { Same ⟦<MemLinks as Links>⟧.object_faults self.old self.new }
+        ensures same_pauses { ⟦<MemLinks as Links>⟧.pauses self.new ≡ ⟦<MemLinks as Links>⟧.pauses self.old }
+    {
+        self.coming.push(Coming { port, planned })?;
+        Ok(())
+    }
+
+    /// This call is to fail.
+    pub fn fail(&mut self, call: FailingLink) -> Result<(), NoMemory>
+        ensures same_opened { Same ⟦<MemLinks as Links>⟧.opened self.old self.new }
+        ensures same_taken { Same ⟦<MemLinks as Links>⟧.taken_at self.old self.new }
+        ensures same_given { Same ⟦<MemLinks as Links>⟧.given_at self.old self.new }
+        ensures same_own { Same ⟦<MemLinks as Links>⟧.own_faults self.old self.new }
+        ensures same_objects { Same ⟦<MemLinks as Links>⟧.object_faults self.old self.new }
+        ensures same_pauses { ⟦<MemLinks as Links>⟧.pauses self.new ≡ ⟦<MemLinks as Links>⟧.pauses self.old }
+    {
+        self.failing.push(call)?;
+        Ok(())
+    }
+
+    /// What the takes of the end gave that was handed back last of a port, oldest first.
+    pub fn taken(&self, port: u16) -> &[Told]
+        ensures { takes_told result.now ≡ ⟦<MemLinks as Links>⟧.taken_at self.now port }
+    {
+        match place(self.ports.as_slice(), port) {
+            Some(at) => self.ports[at].taken.as_slice(),
+            None => &[],
+        }
+    }
+
+    /// The packets that the end was given that was handed back last of a port, oldest first.
+    pub fn given(&self, port: u16) -> &[Bytes]
+        ensures { result.now ≡ ⟦<MemLinks as Links>⟧.given_at self.now port }
+    {
+        match place(self.ports.as_slice(), port) {
+            Some(at) => self.ports[at].given.as_slice(),
+            None => &[],
+        }
+    }
+
+    // The ends of a port, where its opening is not to fail and there is memory.
+    fn ends(&self, port: u16) -> Option<(MemIn, MemOut)>
+        ensures ports { IfSome result (λ ends. (ends.0.port ≡ port) × (ends.1.port ≡ port)) }
+        ensures fresh { IfSome result (λ ends. (ends.0.faults ≡ 0) × (ends.1.faults ≡ 0)) }
+        ensures none { IfSome result (λ ends. (takes_told ends.0.told.items ≡ []) × (ends.1.given.items ≡ [])) }
+        ensures not_closed { IfSome result (λ ends. ends.0.closed ≡ false) }
+    {
+        if self.fails_to_link(port) {
+            return None;
+        }
+        let mut inbound = MemIn::new(self.alloc, port);
+        self.plan_comings(&mut inbound).ok()?;
+        self.plan_takes(&mut inbound).ok()?;
+        let mut outbound = MemOut::new(self.alloc, port);
+        self.plan_gives(&mut outbound).ok()?;
+        Some((inbound, outbound))
+    }
+
+    fn fails_to_link(&self, port: u16) -> bool {
+        self.failing.as_slice().contains(&FailingLink::Link(port))
+    }
+
+    // Tells an inbound end what is to come at its port.
+    fn plan_comings(&self, link: &mut MemIn) -> Result<(), NoMemory>
+        ensures same_taken { takes_told link.new.told.items ≡ takes_told link.old.told.items }
+        ensures same_port { link.new.port ≡ link.old.port }
+        ensures same_faults { link.new.faults ≡ link.old.faults }
+        ensures same_closed { link.new.closed ≡ link.old.closed }
+    {
+        for coming in &self.coming {
+            if coming.port == link.port {
+                link.plan(coming.planned.copy(self.alloc)?)?;
+            }
+        }
+        Ok(())
+    }
+
+    // Tells an inbound end which of its takes are to fail.
+    fn plan_takes(&self, link: &mut MemIn) -> Result<(), NoMemory>
+        ensures same_taken { takes_told link.new.told.items ≡ takes_told link.old.told.items }
+        ensures same_port { link.new.port ≡ link.old.port }
+        ensures same_faults { link.new.faults ≡ link.old.faults }
+        ensures same_closed { link.new.closed ≡ link.old.closed }
+    {
+        for call in &self.failing {
+            if let FailingLink::Take(port, take) = call
+                && *port == link.port
+            {
+                link.fail_at(*take)?;
+            }
+        }
+        Ok(())
+    }
+
+    // Tells an outbound end which of its gives are to fail.
+    fn plan_gives(&self, link: &mut MemOut) -> Result<(), NoMemory>
+        ensures same_given { link.new.given.items ≡ link.old.given.items }
+        ensures same_port { link.new.port ≡ link.old.port }
+        ensures same_faults { link.new.faults ≡ link.old.faults }
+    {
+        for call in &self.failing {
+            if let FailingLink::Give(port, give) = call
+                && *port == link.port
+            {
+                link.fail_at(*give)?;
+            }
+        }
+        Ok(())
+    }
+
+    // Makes the entry of a port, where there is none.
+    fn open(&mut self, port: u16) -> Result<(), NoMemory>
+        ensures ok { OnOk result (opened_in self.new port ≡ true) }
+        ensures stay_opened { StayOpened opened_in self.old self.new }
+        ensures same_taken { Same taken_in self.old self.new }
+        ensures same_given { Same given_in self.old self.new }
+        ensures same_own { Same own_in self.old self.new }
+        ensures same_objects { Same objects_in self.old self.new }
+        ensures same_clock { self.new.clock ≡ self.old.clock }
+        ensures same_pauses { self.new.pauses ≡ self.old.pauses }
+    {
+        if let Some(_at) = place(self.ports.as_slice(), port) {
+            return Ok(());
+        }
+        let entry = MemPort {
+            number: port,
+            taken: Vec::new(self.alloc),
+            given: Vec::new(self.alloc),
+            own_faults: 0,
+            object_faults: 0,
+        };
+        self.ports.push(entry)?;
+        Ok(())
+    }
+
+    // Puts this in place of what came at a port, where a link was opened there.
+    fn store_taken(&mut self, port: u16, taken: Vec<Told>)
+        ensures stored { Replaces opened_in taken_in port (takes_told taken.items) self.old self.new }
+        ensures others { SameBut port taken_in self.old self.new }
+        ensures same_opened { Same opened_in self.old self.new }
+        ensures same_given { Same given_in self.old self.new }
+        ensures same_own { Same own_in self.old self.new }
+        ensures same_objects { Same objects_in self.old self.new }
+        ensures same_clock { self.new.clock ≡ self.old.clock }
+        ensures same_pauses { self.new.pauses ≡ self.old.pauses }
+    {
+        if let Some(at) = place(self.ports.as_slice(), port) {
+            let entry = &mut self.ports[at];
+            entry.taken = taken;
+        }
+    }
+
+    // Puts this in place of what was given at a port, where a link was opened there.
+    fn store_given(&mut self, port: u16, given: Vec<Bytes>)
+        ensures stored { Replaces opened_in given_in port given.items self.old self.new }
+        ensures others { SameBut port given_in self.old self.new }
+        ensures same_opened { Same opened_in self.old self.new }
+        ensures same_taken { Same taken_in self.old self.new }
+        ensures same_own { Same own_in self.old self.new }
+        ensures same_objects { Same objects_in self.old self.new }
+        ensures same_clock { self.new.clock ≡ self.old.clock }
+        ensures same_pauses { self.new.pauses ≡ self.old.pauses }
+    {
+        if let Some(at) = place(self.ports.as_slice(), port) {
+            let entry = &mut self.ports[at];
+            entry.given = given;
+        }
+    }
+
+    // Counts a fault of a call that opens a port.
+    fn count_own(&mut self, port: u16)
+        ensures rose { Rose (own_in self.old port) (own_in self.new port) }
+        ensures never_falls { NoneFalls own_in self.old self.new }
+        ensures same_opened { Same opened_in self.old self.new }
+        ensures same_taken { Same taken_in self.old self.new }
+        ensures same_given { Same given_in self.old self.new }
+        ensures same_objects { Same objects_in self.old self.new }
+        ensures same_clock { self.new.clock ≡ self.old.clock }
+        ensures same_pauses { self.new.pauses ≡ self.old.pauses }
+    {
+        match place(self.ports.as_slice(), port) {
+            Some(at) => {
+                let entry = &mut self.ports[at];
+                entry.own_faults = entry.own_faults.saturating_add(1);
+            }
+            None => self.own_faults = self.own_faults.saturating_add(1),
+        }
+    }
+
+    // Adds the faults of an end to those of its port.
+    fn count_object(&mut self, port: u16, faults: u64)
+        ensures added { CountsMore objects_in port faults self.old self.new }
+        ensures no_other { CountsNoOther opened_in objects_in port self.old self.new }
+        ensures calm { faults ≡ 0 → Same objects_in self.old self.new }
+        ensures never_fall { NoneFalls objects_in self.old self.new }
+        ensures same_opened { Same opened_in self.old self.new }
+        ensures same_taken { Same taken_in self.old self.new }
+        ensures same_given { Same given_in self.old self.new }
+        ensures same_own { Same own_in self.old self.new }
+        ensures same_clock { self.new.clock ≡ self.old.clock }
+        ensures same_pauses { self.new.pauses ≡ self.old.pauses }
+    {
+        match place(self.ports.as_slice(), port) {
+            Some(at) => {
+                let entry = &mut self.ports[at];
+                entry.object_faults = entry.object_faults.saturating_add(faults);
+            }
+            None => self.object_faults = self.object_faults.saturating_add(faults),
+        }
+    }
+}

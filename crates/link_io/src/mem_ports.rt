@@ -1,0 +1,24 @@
+//! The ports of links in memory.
+ghost use Rattle.std.specs.Prelude.{◌≡◌, position};
+ghost use Rattle.link_io.specs.MemPorts.{is_of};
+
+use crate::Told;
+use rtt_base::Bytes;
+
+/// A port at which a link was opened: what is stored under it, with the faults of that port.
+#[derive(Debug, Drop)]
+pub struct MemPort {
+    pub number: u16,
+    /// What the takes gave, oldest first.
+    pub taken: Vec<Told>,
+    pub given: Vec<Bytes>,
+    pub own_faults: u64,
+    pub object_faults: u64,
+}
+
+/// The place of the first entry of this port.
+pub fn place(entries: &[MemPort], port: u16) -> Option<usize>
+    ensures { result ≡ position (is_of port) entries.now }
+{
+    entries.iter().position(|entry| entry.number == port)
+}

@@ -1,0 +1,245 @@
+//! The two ends of a link over UDP.
+ghost use Rattle.std.specs.Prelude.{◌≡◌, ◌<◌, ◌≤◌, ◌^◌, false, IfSome};
+ghost use Rattle.link_io.specs.Taking.{closes};
+ghost use Rattle.link_io.specs.Receiving.{IsOpenStill};
+
+use crate::clocks::millis_since;
+use crate::peers::is_from;
+use crate::{Came, LinkIn, LinkOut, Taken};
+use rtt_base::{Failed, Packet};
+use std::io;
+use std::io::ErrorKind;
+use std::net::{SocketAddr, UdpSocket};
+use std::time::{Clock, Duration};
+
+/// How long a `take` that may wait does so, in milliseconds.
+pub(crate) const PATIENCE: u64 = 5;
+
+/// How many datagrams of strangers one `take` passes over.
+const MOST_STRANGERS: u32 = 64;
+
+/// One octet more than a packet may have, so that a longer datagram is told from one that fits.
+const ROOM: usize = 4225;
+
+/// What a call of a socket may say while a peer, or the way to it, is away, a send buffer is full or the call is broken off.
+fn is_absence(kind: ErrorKind) -> bool {
+    matches!(
+        kind,
+        ErrorKind::WouldBlock
+            | ErrorKind::TimedOut
+            | ErrorKind::Interrupted
+            | ErrorKind::ConnectionRefused
+            | ErrorKind::ConnectionReset
+            | ErrorKind::HostUnreachable
+            | ErrorKind::NetworkUnreachable
+            | ErrorKind::NetworkDown
+    )
+}
+
+/// What one call of a socket received.
+enum Received {
+    /// This of the peer.
+    OfPeer(Came),
+    /// A datagram of somebody else.
+    OfStranger,
+    /// Nothing, by now.
+    Nothing,
+    /// The socket failed.
+    Broken,
+}
+
+/// The inbound end of a link over UDP. It hears the peer alone, whose address and port its outbound end sends to; what others
+/// send is passed over as if it had not come. It is never closed.
+#[derive(Drop)]
+pub struct RealIn<C> {
+    clock: C,
+    start: u64,
+    socket: UdpSocket,
+    // how long the socket waits now, in milliseconds; 0 where it does not wait
+    patience: u64,
+    peer: SocketAddr,
+    pub(crate) port: u16,
+    moment: u64,
+    pub(crate) faults: u64,
+    ghost early: { moment < 2 ^ 47 },
+}
+
+impl<C: Clock> LinkIn for RealIn<C> {
+    ghost use Rattle.std.specs.Prelude.{false, []};
+
+    ghost tells = { ⊥ };
+
+    ghost taken = { λ _. [] };
+
+    ghost closed = { λ _. false };
+
+    ghost moment = { λ link. link.moment };
+
+    ghost faults = { λ link. link.faults };
+
+    ghost port = { λ link. link.port };
+
+    fn take(&mut self, out: &mut Packet, may_wait: bool) -> Result<Taken, Failed> {
+        let received = self.receive(out, may_wait);
+        self.moment = self.moment.max(millis_since(&self.clock, self.start));
+        match received {
+            Some(came) => Ok(Taken {
+                at: self.moment,
+                came,
+            }),
+            None => {
+                self.faults = self.faults.saturating_add(1);
+                Err(Failed)
+            }
+        }
+    }
+}
+
+impl<C: Clock> RealIn<C> {
+    /// The inbound end of a socket that waits as long as a `take` may. Moments are counted from this one of the clock.
+    pub(crate) fn new(
+        clock: C,
+        start: u64,
+        socket: UdpSocket,
+        peer: SocketAddr,
+        port: u16,
+    ) -> RealIn<C>
+        ensures at { result.port ≡ port }
+        ensures fresh { result.faults ≡ 0 }
+    {
+        RealIn {
+            clock,
+            start,
+            socket,
+            patience: PATIENCE,
+            peer,
+            port,
+            moment: 0,
+            faults: 0,
+        }
+    }
+
+    // What comes of the peer, and its octets; `Quiet` where it sent nothing by now, or too much came of others. None where
+    // the socket fails.
+    fn receive(&mut self, out: &mut Packet, may_wait: bool) -> Option<Came>
+        ensures open { IfSome result (λ came. closes came ≡ false) }
+        ensures same_moment { self.new.moment ≡ self.old.moment }
+        ensures same_faults { self.new.faults ≡ self.old.faults }
+        ensures same_port { self.new.port ≡ self.old.port }
+    {
+        let begin = millis_since(&self.clock, self.start);
+        for _ in 0..MOST_STRANGERS {
+            let waited = millis_since(&self.clock, self.start).saturating_sub(begin);
+            self.set_patience(patience_left(may_wait, waited)).ok()?;
+            match self.receive_one(out) {
+                Received::OfPeer(came) => return Some(came),
+                Received::OfStranger => {}
+                Received::Nothing => return Some(Came::Quiet),
+                Received::Broken => return None,
+            }
+        }
+        Some(Came::Quiet)
+    }
+
+    // From now on the socket waits so many milliseconds, or not at all.
+    fn set_patience(&mut self, patience: u64) -> io::Result<()>
+        ensures same_moment { self.new.moment ≡ self.old.moment }
+        ensures same_faults { self.new.faults ≡ self.old.faults }
+        ensures same_port { self.new.port ≡ self.old.port }
+    {
+        if patience == self.patience {
+            return Ok(());
+        }
+        if patience > 0 {
+            self.socket
+                .set_read_timeout(Some(Duration::from_millis(patience)))?;
+        }
+        self.socket.set_nonblocking(patience == 0)?;
+        self.patience = patience;
+        Ok(())
+    }
+
+    // What one call of the socket receives, and its octets, where it is the peer's.
+    fn receive_one(&self, out: &mut Packet) -> Received
+        ensures { IsOpenStill result }
+    {
+        let mut room = [0u8; ROOM];
+        match self.socket.recv_from(&mut room) {
+            Ok((count, from)) if is_from(self.peer, from) => {
+                Received::OfPeer(hand_out(&room[..count], out))
+            }
+            Ok(_) => Received::OfStranger,
+            Err(error) if is_absence(error.kind()) => Received::Nothing,
+            Err(_) => Received::Broken,
+        }
+    }
+}
+
+/// How long a `take` may still wait that has waited so many milliseconds.
+fn patience_left(may_wait: bool, waited: u64) -> u64
+    ensures { result ≤ PATIENCE }
+{
+    if !may_wait {
+        return 0;
+    }
+    PATIENCE.saturating_sub(waited)
+}
+
+/// Puts the octets of a datagram in place of what is in a packet. One that does not fit is a large one.
+fn hand_out(octets: &[u8], out: &mut Packet) -> Came
+    ensures { closes result ≡ false }
+{
+    out.clear();
+    match out.append(octets) {
+        Ok(()) => Came::Datagram,
+        Err(_) => Came::Large,
+    }
+}
+
+/// The outbound end of a link over UDP, whose packets come from the port of the inbound one. A datagram that finds no way to
+/// its peer is lost, and no fault.
+#[derive(Drop)]
+pub struct RealOut {
+    socket: UdpSocket,
+    peer: SocketAddr,
+    pub(crate) port: u16,
+    pub(crate) faults: u64,
+}
+
+impl LinkOut for RealOut {
+    ghost use Rattle.std.specs.Prelude.{[]};
+
+    ghost tells = { ⊥ };
+
+    ghost given = { λ _. [] };
+
+    ghost faults = { λ link. link.faults };
+
+    ghost port = { λ link. link.port };
+
+    fn give(&mut self, packet: &[u8]) -> Result<(), Failed> {
+        match self.socket.send_to(packet, self.peer) {
+            Ok(_) => Ok(()),
+            Err(error) if is_absence(error.kind()) => Ok(()),
+            Err(_) => {
+                self.faults = self.faults.saturating_add(1);
+                Err(Failed)
+            }
+        }
+    }
+}
+
+impl RealOut {
+    /// The outbound end of a socket that does not wait long.
+    pub(crate) fn new(socket: UdpSocket, peer: SocketAddr, port: u16) -> RealOut
+        ensures at { result.port ≡ port }
+        ensures fresh { result.faults ≡ 0 }
+    {
+        RealOut {
+            socket,
+            peer,
+            port,
+            faults: 0,
+        }
+    }
+}

@@ -1,0 +1,130 @@
+//! Links over UDP.
+ghost use Rattle.std.specs.Prelude.{◌≡◌, ◌<◌, ◌≤◌, ◌^◌, ℕ, IfSome};
+
+use crate::Links;
+use crate::clocks::millis_since;
+use crate::peers::{own_address, peer_of};
+use crate::real_ends::{PATIENCE, RealIn, RealOut};
+use rtt_base::Failed;
+use std::net::{Net, SocketAddr, UdpSocket};
+use std::thread;
+use std::time::{Clock, Duration};
+
+/// Links over UDP, from ports of this machine's own addresses to peers on it, and its clock. There is no encryption, so no
+/// peer elsewhere is taken. One number of each kind counts the faults of all ports.
+#[derive(Drop)]
+pub struct RealLinks<R> {
+    rt: R,
+    start: u64,
+    moment: u64,
+    pauses: u64,
+    own_faults: u64,
+    object_faults: u64,
+    ghost early: { moment < 2 ^ 47 },
+}
+
+impl<R: Net + Clock + Copy + Send> RealLinks<R> {
+    /// The network of this runtime. Moments are counted from now on.
+    pub fn new(rt: R) -> RealLinks<R>
+        ensures fresh { (p : ℕ) → ⟦<RealLinks<R> as Links>⟧.own_faults result p ≡ 0 }
+        ensures fresh_objects { (p : ℕ) → ⟦<RealLinks<R> as Links>⟧.object_faults result p ≡ 0 }
+        ensures no_pause { ⟦<RealLinks<R> as Links>⟧.pauses result ≡ 0 }
+    {
+        let start = millis_since(&rt, 0);
+        RealLinks {
+            rt,
+            start,
+            moment: 0,
+            pauses: 0,
+            own_faults: 0,
+            object_faults: 0,
+        }
+    }
+}
+
+impl<R: Net + Clock + Copy> RealLinks<R> {
+    // The two ends of a link from this port to an address, where it is a peer's and the system opens them.
+    fn open(&self, port: u16, to: &str) -> Option<(RealIn<R>, RealOut)>
+        ensures ports { IfSome result (λ ends. (ends.0.port ≡ port) × (ends.1.port ≡ port)) }
+        ensures fresh { IfSome result (λ ends. (ends.0.faults ≡ 0) × (ends.1.faults ≡ 0)) }
+    {
+        let peer = peer_of(to)?;
+        let here = SocketAddr::new(own_address(peer), port);
+        let socket = UdpSocket::bind(&self.rt, here).ok()?;
+        let patience = Duration::from_millis(PATIENCE);
+        socket.set_read_timeout(Some(patience)).ok()?;
+        socket
+            .set_write_timeout(Some(Duration::from_millis(1)))
+            .ok()?;
+        let other = socket.try_clone().ok()?;
+        let inbound = RealIn::new(self.rt, self.start, socket, peer, port);
+        Some((inbound, RealOut::new(other, peer, port)))
+    }
+
+    // What the clock says, and no earlier moment than before.
+    fn look(&mut self) -> u64
+        ensures is { result ≡ self.new.moment }
+        ensures rises { self.old.moment ≤ self.new.moment }
+        ensures early { result < 2 ^ 47 }
+        ensures same_pauses { self.new.pauses ≡ self.old.pauses }
+        ensures same_own { self.new.own_faults ≡ self.old.own_faults }
+        ensures same_objects { self.new.object_faults ≡ self.old.object_faults }
+    {
+        self.moment = self.moment.max(millis_since(&self.rt, self.start));
+        self.moment
+    }
+}
+
+impl<R: Net + Clock + Copy + Send> Links for RealLinks<R> {
+    type In = RealIn<R>;
+
+    type Out = RealOut;
+
+    ghost use Rattle.std.specs.Prelude.{false, []};
+
+    ghost tells = { ⊥ };
+
+    ghost opened = { λ _ _. false };
+
+    ghost taken_at = { λ _ _. [] };
+
+    ghost given_at = { λ _ _. [] };
+
+    ghost own_faults = { λ links _. links.own_faults };
+
+    ghost object_faults = { λ links _. links.object_faults };
+
+    ghost moment = { λ links. links.moment };
+
+    ghost pauses = { λ links. links.pauses };
+
+    fn link(&mut self, port: u16, to: &str) -> Result<(RealIn<R>, RealOut), Failed> {
+        match self.open(port, to) {
+            Some(ends) => Ok(ends),
+            None => {
+                self.own_faults = self.own_faults.saturating_add(1);
+                Err(Failed)
+            }
+        }
+    }
+
+    fn done_in(&mut self, link: RealIn<R>) {
+        self.object_faults = self.object_faults.saturating_add(link.faults);
+    }
+
+    fn done_out(&mut self, link: RealOut) {
+        self.object_faults = self.object_faults.saturating_add(link.faults);
+    }
+
+    fn now(&mut self) -> u64 {
+        self.look()
+    }
+
+    fn pause_until(&mut self, until: u64) {
+        let left = until.saturating_sub(self.look());
+        if left > 0 {
+            thread::sleep(&self.rt, Duration::from_millis(left));
+        }
+        self.pauses = self.pauses.saturating_add(1);
+    }
+}

@@ -1,0 +1,279 @@
+use crate::{
+    Came, FailingLink, LinkIn, LinkOut, Links, MemIn, MemLinks, MemOut, Planned, RealLinks, peer_of,
+};
+use rtt_base::{Bytes, NoMemory, Packet};
+use std::alloc::Global;
+use std::net::UdpSocket;
+use std::test::Fail;
+use std::time::Duration;
+
+fn planned(alloc: Global, at: u32, came: Came, octets: &[u8]) -> Result<Planned, NoMemory> {
+    let mut copy = Bytes::new(alloc);
+    copy.append(octets)?;
+    Ok(Planned {
+        at,
+        came,
+        octets: copy,
+    })
+}
+
+// The next take gives this at this moment, and fails nowhere.
+fn takes<L: LinkIn>(link: &mut L, at: u64, came: Came) -> bool {
+    let mut out = Packet::new();
+    match link.take(&mut out, true) {
+        Ok(taken) => taken.at == at && taken.came == came,
+        Err(_) => false,
+    }
+}
+
+// The next take gives this, whenever it is.
+fn comes<L: LinkIn>(link: &mut L, may_wait: bool, came: Came) -> bool {
+    let mut out = Packet::new();
+    match link.take(&mut out, may_wait) {
+        Ok(taken) => taken.came == came,
+        Err(_) => false,
+    }
+}
+
+// The next take gives these octets.
+fn hears<L: LinkIn>(link: &mut L, octets: &[u8]) -> bool {
+    let mut out = Packet::new();
+    match link.take(&mut out, true) {
+        Ok(taken) => taken.came == Came::Datagram && out.as_slice() == octets,
+        Err(_) => false,
+    }
+}
+
+#[test]
+fn an_end_in_memory_gives_its_plan_and_is_quiet_behind_it(rt: HostRuntime) -> Result<(), Fail> {
+    let mut link = MemIn::new(rt.alloc(), 5001);
+    link.plan(planned(rt.alloc(), 100, Came::Datagram, b"A")?)?;
+    link.plan(planned(rt.alloc(), 50, Came::Datagram, &[0; 4225])?)?;
+    link.plan(planned(rt.alloc(), 200, Came::Large, b"")?)?;
+    assert!(rt; hears(&mut link, b"A"));
+    assert!(rt; takes(&mut link, 100, Came::Large));
+    assert!(rt; takes(&mut link, 200, Came::Large));
+    assert!(rt; takes(&mut link, 200, Came::Quiet));
+    assert_eq!(rt; link.told().len(), 4);
+    Ok(())
+}
+
+#[test]
+fn a_take_that_fails_uses_up_nothing(rt: HostRuntime) -> Result<(), Fail> {
+    let mut link = MemIn::new(rt.alloc(), 5001);
+    link.plan(planned(rt.alloc(), 7, Came::Closed, b"")?)?;
+    link.plan(planned(rt.alloc(), 8, Came::Datagram, b"A")?)?;
+    link.fail_at(1)?;
+    link.fail_at(3)?;
+    assert!(rt; !takes(&mut link, 7, Came::Closed));
+    assert!(rt; takes(&mut link, 7, Came::Closed));
+    assert!(rt; !takes(&mut link, 7, Came::Closed));
+    assert!(rt; takes(&mut link, 7, Came::Closed));
+    assert_eq!(rt; link.told().len(), 2);
+    Ok(())
+}
+
+#[test]
+fn an_outbound_end_in_memory_keeps_what_it_was_given(rt: HostRuntime) -> Result<(), Fail> {
+    let mut link = MemOut::new(rt.alloc(), 5001);
+    link.fail_at(2)?;
+    assert!(rt; link.give(b"one").is_ok());
+    assert!(rt; link.give(b"two").is_err());
+    assert!(rt; link.give(b"").is_ok());
+    assert_eq!(rt; link.given().len(), 2);
+    Ok(())
+}
+
+#[test]
+fn links_in_memory_keep_what_is_handed_back(rt: HostRuntime) -> Result<(), Fail> {
+    let mut links = MemLinks::new(rt.alloc());
+    links.plan(5001, planned(rt.alloc(), 3, Came::Datagram, b"A")?)?;
+    links.plan(5002, planned(rt.alloc(), 4, Came::Closed, b"")?)?;
+    let (mut inbound, mut outbound) = links.link(5001, "127.0.0.1:6001")?;
+    assert!(rt; hears(&mut inbound, b"A"));
+    assert!(rt; takes(&mut inbound, 3, Came::Quiet));
+    assert!(rt; outbound.give(b"B").is_ok());
+    assert_eq!(rt; links.taken(5001).len(), 0);
+    links.done_in(inbound);
+    links.done_out(outbound);
+    assert_eq!(rt; links.taken(5001).len(), 2);
+    assert_eq!(rt; links.given(5001).len(), 1);
+    assert_eq!(rt; links.taken(5002).len(), 0);
+    Ok(())
+}
+
+#[test]
+fn each_kind_of_call_fails_in_links_that_say_so(rt: HostRuntime) -> Result<(), Fail> {
+    let mut links = MemLinks::new(rt.alloc());
+    links.fail(FailingLink::Link(5001))?;
+    links.fail(FailingLink::Take(5002, 1))?;
+    links.fail(FailingLink::Give(5002, 2))?;
+    assert!(rt; links.link(5001, "127.0.0.1:6001").is_err());
+    let (mut inbound, mut outbound) = links.link(5002, "127.0.0.1:6002")?;
+    assert!(rt; !takes(&mut inbound, 0, Came::Quiet));
+    assert!(rt; takes(&mut inbound, 0, Came::Quiet));
+    assert!(rt; outbound.give(b"one").is_ok());
+    assert!(rt; outbound.give(b"two").is_err());
+    links.done_in(inbound);
+    links.done_out(outbound);
+    Ok(())
+}
+
+#[test]
+fn a_clock_in_memory_stands_still_but_for_pauses(rt: HostRuntime) -> Result<(), Fail> {
+    let mut links = MemLinks::new(rt.alloc());
+    assert_eq!(rt; links.now(), 0);
+    links.pause_until(100);
+    assert_eq!(rt; links.now(), 100);
+    links.pause_until(50);
+    assert_eq!(rt; links.now(), 100);
+    links.pause_until(u64::MAX);
+    assert_eq!(rt; links.now(), (1 << 47) - 1);
+    Ok(())
+}
+
+#[test]
+fn only_an_address_of_this_machine_is_a_peer(rt: HostRuntime) -> Result<(), Fail> {
+    assert!(rt; peer_of("127.0.0.1:5004").is_some());
+    assert!(rt; peer_of("127.255.0.9:65535").is_some());
+    assert!(rt; peer_of("[::1]:5004").is_some());
+    assert!(rt; peer_of("[::1%1]:5004").is_none());
+    assert!(rt; peer_of("[::ffff:127.0.0.1]:5004").is_none());
+    assert!(rt; peer_of("[::2]:5004").is_none());
+    assert!(rt; peer_of("192.0.2.1:5004").is_none());
+    assert!(rt; peer_of("0.0.0.0:5004").is_none());
+    assert!(rt; peer_of("127.0.0.1:0").is_none());
+    assert!(rt; peer_of("127.0.0.1").is_none());
+    assert!(rt; peer_of("localhost:5004").is_none());
+    assert!(rt; peer_of("").is_none());
+    Ok(())
+}
+
+// A socket at a port that the system picks, whose calls end.
+fn socket<R: std::net::Net>(rt: &R) -> std::io::Result<UdpSocket> {
+    let socket = UdpSocket::bind(rt, "127.0.0.1:0")?;
+    socket.set_read_timeout(Some(Duration::from_secs(5)))?;
+    Ok(socket)
+}
+
+// A port that nobody has.
+fn free_port<R: std::net::Net>(rt: &R) -> std::io::Result<u16> {
+    Ok(socket(rt)?.local_addr()?.port())
+}
+
+#[test]
+fn a_peer_is_heard_whatever_the_length(rt: HostRuntime) -> Result<(), Fail> {
+    let peer = socket(&rt)?;
+    let port = free_port(&rt)?;
+    let to = format!(in rt.alloc(); "{}", peer.local_addr()?)?;
+    let (mut inbound, _outbound) = RealLinks::new(&rt).link(port, to.as_str())?;
+    assert_eq!(rt; peer.send_to(b"one", ("127.0.0.1", port))?, 3);
+    assert!(rt; hears(&mut inbound, b"one"));
+    assert_eq!(rt; peer.send_to(b"", ("127.0.0.1", port))?, 0);
+    assert!(rt; hears(&mut inbound, b""));
+    assert_eq!(rt; peer.send_to(&[7; 4224], ("127.0.0.1", port))?, 4224);
+    assert!(rt; hears(&mut inbound, &[7; 4224]));
+    assert_eq!(rt; peer.send_to(&[7; 4225], ("127.0.0.1", port))?, 4225);
+    assert!(rt; comes(&mut inbound, false, Came::Large));
+    assert_eq!(rt; peer.send_to(&[7; 9000], ("127.0.0.1", port))?, 9000);
+    assert!(rt; comes(&mut inbound, true, Came::Large));
+    assert!(rt; comes(&mut inbound, false, Came::Quiet));
+    assert!(rt; comes(&mut inbound, true, Came::Quiet));
+    Ok(())
+}
+
+#[test]
+fn a_peer_is_sent_to_from_the_port_that_it_sends_to(rt: HostRuntime) -> Result<(), Fail> {
+    let peer = socket(&rt)?;
+    let port = free_port(&rt)?;
+    let to = format!(in rt.alloc(); "{}", peer.local_addr()?)?;
+    let (_inbound, mut outbound) = RealLinks::new(&rt).link(port, to.as_str())?;
+    assert!(rt; outbound.give(b"two").is_ok());
+    let mut buf = [0; 8];
+    let (count, from) = peer.recv_from(&mut buf)?;
+    assert_eq!(rt; count, 3);
+    assert_eq!(rt; buf[..3], b"two"[..]);
+    assert_eq!(rt; from.port(), port);
+    Ok(())
+}
+
+// Sends so many datagrams to a port.
+fn send_many(socket: &UdpSocket, port: u16, count: u32) -> std::io::Result<()> {
+    for _ in 0..count {
+        socket.send_to(b"strange", ("127.0.0.1", port))?;
+    }
+    Ok(())
+}
+
+#[test]
+fn a_stranger_is_not_heard_and_holds_nobody_up(rt: HostRuntime) -> Result<(), Fail> {
+    let peer = socket(&rt)?;
+    let stranger = socket(&rt)?;
+    let port = free_port(&rt)?;
+    let to = format!(in rt.alloc(); "{}", peer.local_addr()?)?;
+    let (mut inbound, _outbound) = RealLinks::new(&rt).link(port, to.as_str())?;
+    send_many(&stranger, port, 63)?;
+    assert_eq!(rt; peer.send_to(b"one", ("127.0.0.1", port))?, 3);
+    assert!(rt; hears(&mut inbound, b"one"));
+    send_many(&stranger, port, 65)?;
+    assert_eq!(rt; peer.send_to(b"two", ("127.0.0.1", port))?, 3);
+    assert!(rt; comes(&mut inbound, true, Came::Quiet));
+    assert!(rt; hears(&mut inbound, b"two"));
+    send_many(&stranger, port, 1)?;
+    assert!(rt; comes(&mut inbound, true, Came::Quiet));
+    assert!(rt; comes(&mut inbound, false, Came::Quiet));
+    Ok(())
+}
+
+#[test]
+fn a_peer_that_goes_and_comes_back_is_heard_again(rt: HostRuntime) -> Result<(), Fail> {
+    let peer = socket(&rt)?;
+    let address = peer.local_addr()?;
+    let port = free_port(&rt)?;
+    let to = format!(in rt.alloc(); "{address}")?;
+    let (mut inbound, mut outbound) = RealLinks::new(&rt).link(port, to.as_str())?;
+    drop(peer);
+    assert!(rt; outbound.give(b"one").is_ok());
+    assert!(rt; comes(&mut inbound, true, Came::Quiet));
+    assert!(rt; outbound.give(b"two").is_ok());
+    let again = UdpSocket::bind(&rt, address)?;
+    assert_eq!(rt; again.send_to(b"three", ("127.0.0.1", port))?, 5);
+    assert!(rt; hears(&mut inbound, b"three"));
+    Ok(())
+}
+
+#[test]
+fn a_port_that_is_taken_is_refused(rt: HostRuntime) -> Result<(), Fail> {
+    let port = free_port(&rt)?;
+    let mut links = RealLinks::new(&rt);
+    let (inbound, outbound) = links.link(port, "127.0.0.1:5004")?;
+    assert!(rt; links.link(port, "127.0.0.1:5004").is_err());
+    links.done_in(inbound);
+    assert!(rt; links.link(port, "127.0.0.1:5004").is_err());
+    links.done_out(outbound);
+    assert!(rt; links.link(port, "127.0.0.1:5004").is_ok());
+    assert!(rt; links.link(port, "192.0.2.1:5004").is_err());
+    Ok(())
+}
+
+#[test]
+fn a_packet_that_no_datagram_carries_is_a_fault(rt: HostRuntime) -> Result<(), Fail> {
+    let port = free_port(&rt)?;
+    let (_inbound, mut outbound) = RealLinks::new(&rt).link(port, "127.0.0.1:5004")?;
+    let large = vec![in rt.alloc(); 0u8; 70_000]?;
+    assert!(rt; outbound.give(large.as_slice()).is_err());
+    assert!(rt; outbound.give(b"one").is_ok());
+    Ok(())
+}
+
+#[test]
+fn a_pause_ends_where_the_clock_is_there(rt: HostRuntime) -> Result<(), Fail> {
+    let mut links = RealLinks::new(&rt);
+    let begin = links.now();
+    links.pause_until(begin.saturating_add(20));
+    let end = links.now();
+    assert!(rt; end >= begin.saturating_add(20));
+    links.pause_until(begin);
+    assert!(rt; links.now() >= end);
+    Ok(())
+}
