@@ -1,0 +1,2 @@
+pub mod Rtcp
+pub mod Laws
