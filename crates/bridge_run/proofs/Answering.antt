@@ -8,6 +8,7 @@ use Rattle.wire_spec.specs.Dump as dumps
 use Rattle.wire_spec.specs.declared.faults.DumpKind.{DumpKind}
 use Rattle.wire_spec.specs.declared.faults.DumpKind.TheVariants.{NotDump, BadLength, EndsInside, TooLarge, Read}
 use Rattle.rtpdump_io.specs.declared.items.DumpFault.{DumpFault}
+use Rattle.rtt_base.specs.declared.errors.NoMemory as memory
 use Rattle.rtpdump_io.specs.Reading.{is_of_source}
 use Rattle.file_spec.specs.declared.conf_lines.LegLine.{LegLine}
 use Rattle.file_spec.specs.Conf.{Conf}
@@ -21,16 +22,15 @@ use Rattle.command_spec.specs.Mixing.{input_at, makes, mixes, out_of, outs, reco
 use Rattle.command_spec.specs.Sums.{sums}
 use Rattle.mix_loop.specs.declared.turns.Mixing.{Mixing}
 use Rattle.mix_loop.specs.declared.turns.Mixing.TheVariants as mixing
-use Rattle.mix_loop.specs.Logs.{LogOf, out_at}
-use Rattle.mix_loop.specs.declared.ports.Port.{Port}
+use Rattle.bridge_run.specs.Logs.{LogOf, out_at}
 use Rattle.leg_items.specs.declared.inlets.LegInlet.{LegInlet}
-use Rattle.leg_items.specs.Answers.{AllAsked, AllWhole, AreChunks, AreOfConf, IsAnswer, IsReadWell, PlainMixed, SourceKept, source_at}
+use Rattle.leg_items.specs.Answers.{AllAsked, AllWhole, AreChunks, AreOfConf, IsAnswer, IsReadWell, PlainMixed, SourceKept, source_in}
 use Rattle.leg_items.proofs.OfConfs.{asked_law}
 use Rattle.mixer_turn.specs.Making.{pts_at, pts_of}
 use Rattle.bridge_run.specs.declared.mixed.MixFault.{MixFault}
 use Rattle.bridge_run.specs.declared.mixed.MixFault.TheVariants.{Dump, NoMemory}
 use Rattle.bridge_run.specs.declared.mixed.Mixed.{Mixed}
-use Rattle.bridge_run.specs.Answered.{AreKept, IsKept, MixesTo, WasReadWell, asked_of}
+use Rattle.bridge_run.specs.Answered.{AreKept, IsKept, IsOfLegs, MixesTo, WasReadWell, asked_of}
 use Rattle.bridge_run.specs.Mixes.{counted, outputs_of}
 
 -- ---- the recordings
@@ -93,23 +93,23 @@ module _ (c : Conf) (inputs : List (List ℕ)) (legs : length inputs ≡ length 
   whole w = whole_steps (input_limit c) 1 inputs (makes c (plain (setup c) c.tick c.turns (leg_chunks c (input_at inputs)))) (λ k l. w k (omega (arith, l, legs)))
 
   pub over_makes : (table : Table) (logs : List (List ℕ)) (seen : List ℕ) → length logs ≡ length c.legs
-      → IsAnswer mixing.Over (setup c) c.tick c.turns (asked_of c inputs) (leg_chunks c (input_at inputs)) table → LogOf (pts_at c) (setup c) table logs → seen ≡ views c table
+      → IsAnswer {T = memory.NoMemory} mixing.Over (setup c) c.tick c.turns (asked_of c inputs) (leg_chunks c (input_at inputs)) table → LogOf (pts_at c) (setup c) table logs → seen ≡ views c table
       → mixes c inputs ≡ Makes seen (outputs_of c.legs logs)
   over_makes table logs seen same answer log is =
       whole answer.1 ∙ (ap (makes c) answer.0 ∙ (ap (λ v. Makes v (outs c table)) (sym is) ∙ ap (Makes seen) (sym (outs_are c table logs same log))))
 
-  pub too_long_refuses : (table : Table) → IsAnswer mixing.TooLong (setup c) c.tick c.turns (asked_of c inputs) (leg_chunks c (input_at inputs)) table
+  pub too_long_refuses : (table : Table) → IsAnswer {T = memory.NoMemory} mixing.TooLong (setup c) c.tick c.turns (asked_of c inputs) (leg_chunks c (input_at inputs)) table
       → mixes c inputs ≡ Refuses 0 (AfterTurns c.turns)
   too_long_refuses table answer = whole answer.1 ∙ ap (makes c) answer.0
 
-  pub broken_refuses : (table : Table) (leg : ℕ) (fault : DumpFault) → IsAnswer (mixing.Faulted leg fault) (setup c) c.tick c.turns (asked_of c inputs) (leg_chunks c (input_at inputs)) table
+  pub broken_refuses : (table : Table) (leg : ℕ) (fault : DumpFault) → IsAnswer {T = memory.NoMemory} (mixing.Faulted leg fault) (setup c) c.tick c.turns (asked_of c inputs) (leg_chunks c (input_at inputs)) table
       → is_of_source fault.kind ≡ false → mixes c inputs ≡ Refuses (leg + 1) (AtByte fault.offset fault.kind)
   broken_refuses table leg fault answer none =
       broken_steps (input_limit c) 1 inputs (makes c (plain (setup c) c.tick c.turns (leg_chunks c (input_at inputs)))) leg (record { byte = fault.offset; kind = fault.kind })
       (omega (arith, answer.0, legs)) answer.2 (answer.1 none)
 
   pub over_mixes : (result : Result Mixed MixFault) (table : Table) (log : List (List ℕ)) → length log ≡ length c.legs
-      → IsAnswer mixing.Over (setup c) c.tick c.turns (asked_of c inputs) (leg_chunks c (input_at inputs)) table → LogOf (pts_at c) (setup c) table log
+      → IsAnswer {T = memory.NoMemory} mixing.Over (setup c) c.tick c.turns (asked_of c inputs) (leg_chunks c (input_at inputs)) table → LogOf (pts_at c) (setup c) table log
       → IfOk result (λ mixed. mixed.views ≡ views c table) → IfOk result (λ mixed. counted mixed ≡ sums c table) → IfOk result (λ mixed. mixed.outs.items ≡ log) → IfErr result (λ fault. fault ≡ NoMemory)
       → MixesTo c inputs result
   over_mixes (Ok mixed) table log same answer logged is sum out fault = record {
@@ -140,7 +140,7 @@ source_read TooLarge e = absurd (cc e)
 source_read Read e = refl
 
 module _ {S : Type 0} where
-  pub kept : (faults : S → ℕ) (name : S → List ℕ) (answer : Mixing) (result : Result Mixed MixFault) (j : ℕ) (old new : S)
+  pub kept : {T : Type 0} (faults : S → ℕ) (name : S → List ℕ) (answer : Mixing DumpFault T) (result : Result Mixed MixFault) (j : ℕ) (old new : S)
       → ((fault : DumpFault) → result ≡ Err (Dump j fault) → answer ≡ mixing.Faulted j fault) → (WasReadWell result j → IsReadWell answer j)
       → SourceKept faults name answer j old new → IsKept faults name result j old new
   kept faults name answer result j old new same well k = record {
@@ -151,21 +151,25 @@ module _ {S : Type 0} where
   }
 
   -- The answer of plain mixing as that of the conference.
-  module _ {M : Type 0} (mixes_by : M → Setup → List Call → Type 0) (tells : Type 0) (left : S → List ℕ) (faults : S → ℕ) (name : S → List ℕ)
-      (c : Conf) (tick turns : ℕ) (answer : Mixing) (old new : List (Port (LegInlet S))) (m : M) (log : List (List ℕ))
-      (x : PlainMixed mixes_by (pts_at c) tells left faults name (setup c) tick turns answer old new m log) (is_tick : tick ≡ c.tick) (is_turns : turns ≡ c.turns) where
-    pub is_answer : (said : Mixing) → answer ≡ said → tells → (inputs : List (List ℕ)) → AllAsked left (asked_of c inputs) old
+  module _ {M T : Type 0} (mixes_by : M → Setup → List Call → Type 0) (tells : Type 0) (left : S → List ℕ) (faults : S → ℕ) (name : S → List ℕ)
+      (c : Conf) (tick turns : ℕ) (answer : Mixing DumpFault T) (old new : List (LegInlet S)) (m : M)
+      (x : PlainMixed mixes_by tells left faults name (setup c) tick turns answer old new m) (is_tick : tick ≡ c.tick) (is_turns : turns ≡ c.turns) where
+    pub is_answer : (said : Mixing DumpFault T) → answer ≡ said → tells → (inputs : List (List ℕ)) → AllAsked left (asked_of c inputs) old
         → IsAnswer said (setup c) c.tick c.turns (asked_of c inputs) (leg_chunks c (input_at inputs)) x.table
     is_answer said is t inputs asks =
         subst (λ k. IsAnswer said (setup c) c.tick k (asked_of c inputs) (leg_chunks c (input_at inputs)) x.table) is_turns
         (subst (λ k. IsAnswer said (setup c) k turns (asked_of c inputs) (leg_chunks c (input_at inputs)) x.table) is_tick
-        (subst (λ a. IsAnswer a (setup c) tick turns (asked_of c inputs) (leg_chunks c (input_at inputs)) x.table) is
+        (subst (λ (a : Mixing DumpFault T). IsAnswer a (setup c) tick turns (asked_of c inputs) (leg_chunks c (input_at inputs)) x.table) is
         (x.is t (asked_of c inputs) (leg_chunks c (input_at inputs)) asks (are_chunks c inputs))))
 
     pub all_kept : (result : Result Mixed MixFault) → ((j : ℕ) (fault : DumpFault) → result ≡ Err (Dump j fault) → answer ≡ mixing.Faulted j fault) → ((j : ℕ) → WasReadWell result j → IsReadWell answer j)
         → AreKept faults name result old new
-    all_kept result same well = λ j p q a b. kept faults name answer result j (source_at p) (source_at q) (same j) (well j) (x.sources j p q a b)
+    all_kept result same well = λ j i k a b. kept faults name answer result j (source_in i) (source_in k) (same j) (well j) (x.sources j i k a b)
 
 pub no_dump : (result : Result Mixed MixFault) (leg : ℕ) (fault : DumpFault) → IfErr result (λ fault. fault ≡ NoMemory) → result ≡ Err (Dump leg fault) → ⊥
 no_dump (Ok mixed) leg fault none e = cc e
 no_dump (Err f) leg fault none e = cc (e, none)
+
+pub of_legs : (result : Result Mixed MixFault) (n : ℕ) → IfErr result (λ fault. fault ≡ NoMemory) → IsOfLegs n result
+of_legs (Ok mixed) n none = tt
+of_legs (Err f) n none = subst (λ (x : MixFault). IsOfLegs n (Err x)) (sym none) tt

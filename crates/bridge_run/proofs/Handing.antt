@@ -6,17 +6,14 @@ use Rattle.rtt_io.specs.Counts.{Rose}
 use Rattle.rtpdump_io.specs.Reading.{is_of_source}
 use Rattle.file_spec.specs.declared.conf_lines.LegLine.{LegLine}
 use Rattle.file_spec.specs.Conf.{Conf}
-use Rattle.mixer_spec.specs.Setups.{leg_at, setup, ssrc_of}
+use Rattle.mixer_spec.specs.Setups.{leg_at, ssrc_of}
 use Rattle.mixer_spec.specs.Bridged.{input_limit}
 use Rattle.command_spec.specs.Work.{Contents}
 use Rattle.command_spec.specs.Mixing.{input_at}
 use Rattle.leg_core.specs.Gives.{Stands, LegPast, begins}
-use Rattle.mix_loop.specs.declared.ports.Port.{Port}
 use Rattle.mix_loop.proofs.Lists.{get_within, lt_or_ge}
 use Rattle.leg_items.specs.declared.inlets.LegInlet.{LegInlet}
-use Rattle.leg_items.specs.Answers.{AllAsked, AllStayAs, AreNew, IsStayOf, read_well, source_at}
-use Rattle.leg_items.proofs.OfConfs.{stays_law}
-use Rattle.leg_items.proofs.Ports.{new_leg}
+use Rattle.leg_items.specs.Answers.{AllAsked, AllNew, read_well, source_in}
 use Rattle.mixer_turn.specs.Making.{pts_of}
 use Rattle.bridge_run.specs.declared.mixed.MixFault.{MixFault}
 use Rattle.bridge_run.specs.declared.mixed.MixFault.TheVariants.{Open, Dump, TooLong, NoMemory}
@@ -42,16 +39,13 @@ some_of : (o : Option (List ℕ)) (octets : List ℕ) → o ≡ Some octets → 
 some_of None octets e = absurd (cc e)
 some_of (Some x) octets e = refl
 
--- ---- ports over inputs
-module _ {S : Type 0} (Told : Type 0) (left : S → List ℕ) (c : Conf) (inputs : List (List ℕ)) (ports : List (Port (LegInlet S)))
-    (over : AllOver Told left c.wait (input_limit c) c.legs inputs ports) where
-  pub new_over : AreNew ports
-  new_over = λ j p at. (let o = over j p at in new_leg p.inlet.leg o.0.stay j p o.2.new o.2.place)
+-- ---- legs over inputs
+module _ {S : Type 0} (Told : Type 0) (left : S → List ℕ) (c : Conf) (inputs : List (List ℕ)) (inlets : List (LegInlet S))
+    (over : AllOver Told left c.wait (input_limit c) c.legs inputs inlets) where
+  pub new_over : AllNew inlets
+  new_over = λ j i at. (over j i at).2.not_over
 
-  pub stay_over : AllStayAs (setup c) ports
-  stay_over = λ j p at. (let o = over j p at in subst (IsStayOf (setup c) j) (sym o.2.new.stays) (stays_law c j o.0 o.1))
-
-  pub asked_over : Told → AllAsked left (asked_of c inputs) ports
+  pub asked_over : Told → AllAsked left (asked_of c inputs) inlets
   asked_over told = λ j p at.
       let o = over j p at in
       let past : Option LegLine → LegPast = λ leg. record {
@@ -60,35 +54,31 @@ module _ {S : Type 0} (Told : Type 0) (left : S → List ℕ) (c : Conf) (inputs
         octets = input_at inputs j;
         gave = [];
       } in
-      subst (λ leg. Stands left p.inlet.leg (past leg)) (sym o.1) (o.2.told told)
+      subst (λ leg. Stands left p.leg (past leg)) (sym o.1) (o.2.told told)
 
-module _ {S : Type 0} (Told : Type 0) (left : S → List ℕ) (faults : S → ℕ) (name : S → List ℕ) (held : Contents) (c : Conf) (ports : List (Port (LegInlet S)))
-    (many : length ports ≡ length c.legs) (opened : AllOpened Told left faults name held c.wait (input_limit c) c.legs ports) where
-  all_over : AllOver Told left c.wait (input_limit c) c.legs (inputs_under held c.legs) ports
+module _ {S : Type 0} (Told : Type 0) (left : S → List ℕ) (faults : S → ℕ) (name : S → List ℕ) (held : Contents) (c : Conf) (inlets : List (LegInlet S))
+    (many : length inlets ≡ length c.legs) (opened : AllOpened Told left faults name held c.wait (input_limit c) c.legs inlets) where
+  all_over : AllOver Told left c.wait (input_limit c) c.legs (inputs_under held c.legs) inlets
   all_over = λ j p at.
       let o = opened j p at in (
         o.0,
         o.1,
         record {
-          new = o.2.new;
-          place = o.2.place;
+          not_over = o.2.not_over;
           told = λ told. (let t = o.2.told told in
-              subst (λ octets. Stands left p.inlet.leg (begins (ear_of c.wait j o.0) (input_limit c) octets)) (input_is held c.legs j o.0 t.0 o.1 t.1) t.2);
+              subst (λ octets. Stands left p.leg (begins (ear_of c.wait j o.0) (input_limit c) octets)) (input_is held c.legs j o.0 t.0 o.1 t.1) t.2);
         },
       )
 
-  pub are_new : AreNew ports
-  are_new = new_over Told left c (inputs_under held c.legs) ports all_over
+  pub are_new : AllNew inlets
+  are_new = λ j i at. (opened j i at).2.not_over
 
-  pub all_stay : AllStayAs (setup c) ports
-  all_stay = stay_over Told left c (inputs_under held c.legs) ports all_over
-
-  all_asked : Told → AllAsked left (asked_of c (inputs_under held c.legs)) ports
-  all_asked = asked_over Told left c (inputs_under held c.legs) ports all_over
+  all_asked : Told → AllAsked left (asked_of c (inputs_under held c.legs)) inlets
+  all_asked = asked_over Told left c (inputs_under held c.legs) inlets all_over
 
   all_lie : Told → AllLie held c.legs
   all_lie told = λ k leg less at.
-      let p = found ports k (omega (arith, less, many)) in
+      let p = found inlets k (omega (arith, less, many)) in
       let o = opened k p.0 p.1 in
       let same : o.0 ≡ leg = let a = o.1 in cc (a, at) in
       let t = o.2.told told in
@@ -96,7 +86,7 @@ module _ {S : Type 0} (Told : Type 0) (left : S → List ℕ) (faults : S → �
 
   -- ---- what is answered
   module _ (result : Result Mixed MixFault)
-      (mixes_to : Told → MixesAsked left c ports result) where
+      (mixes_to : Told → MixesAsked left c inlets result) where
     answered : Told → MixesTo c (inputs_under held c.legs) result
     answered told = mixes_to told (inputs_under held c.legs) (length-map c.legs (λ leg. octets_under held leg.input)) (all_asked told)
 
@@ -107,49 +97,49 @@ module _ {S : Type 0} (Told : Type 0) (left : S → List ℕ) (faults : S → �
         go (Ok mixed) m = record { lie = all_lie told; makes = m.makes; sums = m.sums }
         go (Err f) m = tt
 
-    -- ---- by the ports as they came back, the counts before and those after they were handed back
-    module _ (objects objects_then : List ℕ → ℕ) (after : List (Port (LegInlet S))) (same : length after ≡ length ports) where
-      pub stops : (Call : List ℕ → Type 0) → AreKept faults name result ports after → IsOfLegs (length c.legs) result
+    -- ---- by the legs as they came back, the counts before and those after they were handed back
+    module _ (objects objects_then : List ℕ → ℕ) (after : List (LegInlet S)) (same : length after ≡ length inlets) where
+      pub stops : (Call : List ℕ → Type 0) → AreKept faults name result inlets after → IsOfLegs (length c.legs) result
           → EachSource (λ s. Rose 0 (faults s) → Rose (objects (name s)) (objects_then (name s))) after
           → IfErr result (Stops Told Call (RoseAt objects objects_then) held c)
       stops Call kept of rose = go result answered kept of
         where
-          go : (r : Result Mixed MixFault) → (Told → MixesTo c (inputs_under held c.legs) r) → AreKept faults name r ports after → IsOfLegs (length c.legs) r → IfErr r (Stops Told Call (RoseAt objects objects_then) held c)
+          go : (r : Result Mixed MixFault) → (Told → MixesTo c (inputs_under held c.legs) r) → AreKept faults name r inlets after → IsOfLegs (length c.legs) r → IfErr r (Stops Told Call (RoseAt objects objects_then) held c)
           go (Ok mixed) m kept of = tt
           go (Err (Open leg)) m kept of = absurd of
           go (Err TooLong) m kept of = λ told. (all_lie told, m told)
           go (Err NoMemory) m kept of = tt
           go (Err (Dump leg fault)) m kept of =
-              let p = found ports leg (omega (arith, of, many)) in
+              let p = found inlets leg (omega (arith, of, many)) in
               let q = found after leg (omega (arith, of, many, same)) in
               let o = opened leg p.0 p.1 in
               let kept_here = kept leg p.0 q.0 p.1 q.1 in
-              let named : name (source_at q.0) ≡ o.0.input = kept_here.same_name ∙ o.2.named in (
+              let named : name (source_in q.0) ≡ o.0.input = kept_here.same_name ∙ o.2.named in (
                 o.0,
                 o.1,
                 record {
                   lie = all_lie;
                   read = λ source.
                       subst (λ n. Rose (objects n) (objects_then n)) named
-                      (rose leg q.0 q.1 (subst (λ n. Rose n (faults (source_at q.0))) o.2.fresh (kept_here.read fault refl source)));
+                      (rose leg q.0 q.1 (subst (λ n. Rose n (faults (source_in q.0))) o.2.fresh (kept_here.read fault refl source)));
                   lowest = λ told. (m told).0;
                   refused = λ none told. (m told).1 none;
                 },
               )
 
-      pub none_failed : (contents_then : Contents) → AreKept faults name result ports after → IsOfLegs (length c.legs) result → (Told → (n : List ℕ) → contents_then n ≡ held n)
+      pub none_failed : (contents_then : Contents) → AreKept faults name result inlets after → IsOfLegs (length c.legs) result → (Told → (n : List ℕ) → contents_then n ≡ held n)
           → (AreCalm faults after → (n : List ℕ) → objects_then n ≡ objects n) → (Told → (n : List ℕ) → EachSource (LeavesCount faults name contents_then n) after → objects_then n ≡ objects n)
           → NoneFailed Told c.legs objects objects_then result
       none_failed contents_then kept of lie calm left = go result kept of
         where
-          -- the leg of a port that came back
-          leg_of : (j : ℕ) (q : Port (LegInlet S)) → slice_get after j ≡ Some q → (p : Port (LegInlet S)) × (slice_get ports j ≡ Some p)
-          leg_of j q at = let low = get_within after j q at in found ports j (omega (arith, low, same))
+          -- the leg before of one that came back
+          leg_of : (j : ℕ) (q : LegInlet S) → slice_get after j ≡ Some q → (p : LegInlet S) × (slice_get inlets j ≡ Some p)
+          leg_of j q at = let low = get_within after j q at in found inlets j (omega (arith, low, same))
 
-          all_calm : (r : Result Mixed MixFault) → AreKept faults name r ports after → ((j : ℕ) → WasReadWell r j) → AreCalm faults after
+          all_calm : (r : Result Mixed MixFault) → AreKept faults name r inlets after → ((j : ℕ) → WasReadWell r j) → AreCalm faults after
           all_calm r kept well = λ j q at. (let p = leg_of j q at in (kept j p.0 q p.1 at).calm (well j) ∙ (opened j p.0 p.1).2.fresh)
 
-          go : (r : Result Mixed MixFault) → AreKept faults name r ports after → IsOfLegs (length c.legs) r → NoneFailed Told c.legs objects objects_then r
+          go : (r : Result Mixed MixFault) → AreKept faults name r inlets after → IsOfLegs (length c.legs) r → NoneFailed Told c.legs objects objects_then r
           go (Ok mixed) kept of = calm (all_calm (Ok mixed) kept (λ j. tt))
           go (Err (Open leg)) kept of = absurd of
           go (Err TooLong) kept of = calm (all_calm (Err TooLong) kept (λ j. tt))
@@ -158,12 +148,12 @@ module _ {S : Type 0} (Told : Type 0) (left : S → List ℕ) (faults : S → �
               let p = leg_of j q at in
               let o = opened j p.0 p.1 in
               let kept_here = kept j p.0 q p.1 at in
-              let named : name (source_at q) ≡ o.0.input = kept_here.same_name ∙ o.2.named in
+              let named : name (source_in q) ≡ o.0.input = kept_here.same_name ∙ o.2.named in
               elim (lt_or_ge j (read_well leg fault)) [
                 | inl low ↦ inl (kept_here.calm low ∙ o.2.fresh)
                 | inr high ↦ inr (
                   λ e. none j o.0 high o.1 (sym (e ∙ named)),
-                  subst (λ (x : Option (List ℕ)). IsSome x) (sym (lie told (name (source_at q)) ∙ ap held named)) (let low = get_within ports j p.0 p.1 in all_lie told j o.0 (omega (arith, low, many)) o.1),
+                  subst (λ (x : Option (List ℕ)). IsSome x) (sym (lie told (name (source_in q)) ∙ ap held named)) (let low = get_within inlets j p.0 p.1 in all_lie told j o.0 (omega (arith, low, many)) o.1),
                 )
               ])
 
@@ -184,10 +174,10 @@ no_fault : (b : Bool) → (b ≡ true → ⊥) → b ≡ false
 no_fault true f = absurd (f refl)
 no_fault false f = refl
 
-pub never_read : {S : Type 0} (faults : S → ℕ) (name : S → List ℕ) (n : ℕ) (result : Result Mixed MixFault) (old new : List (Port (LegInlet S))) → ((s : S) → faults s ≡ 0) → length old ≡ n → length new ≡ length old
+pub never_read : {S : Type 0} (faults : S → ℕ) (name : S → List ℕ) (n : ℕ) (result : Result Mixed MixFault) (old new : List (LegInlet S)) → ((s : S) → faults s ≡ 0) → length old ≡ n → length new ≡ length old
     → AreKept faults name result old new → IsOfLegs n result → NoReadFailed result
 never_read faults name n result old new calm many same kept of leg fault e =
     let within : leg < n = subst (IsOfLegs n) e of in
     let p = found old leg (omega (arith, within, many)) in
     let q = found new leg (omega (arith, within, many, same)) in
-    no_fault (is_of_source fault.kind) (λ source. never_rose (faults (source_at p.0)) (faults (source_at q.0)) (calm (source_at p.0)) (calm (source_at q.0)) ((kept leg p.0 q.0 p.1 q.1).read fault e source))
+    no_fault (is_of_source fault.kind) (λ source. never_rose (faults (source_in p.0)) (faults (source_in q.0)) (calm (source_in p.0)) (calm (source_in q.0)) ((kept leg p.0 q.0 p.1 q.1).read fault e source))

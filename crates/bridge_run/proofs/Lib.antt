@@ -1,8 +1,7 @@
 pub mod Opening
-pub mod Logged
+pub mod Outs
 pub mod Viewing
 pub mod Joining
 pub mod Answering
-pub mod Called
 pub mod Recorded
 pub mod Handing

@@ -4,7 +4,6 @@ use Rattle.std.specs.Prelude.{IsSome, slice_get}
 use Rattle.std.proofs.lemmas.Bool.{cases_lt}
 use Rattle.file_spec.specs.declared.conf_lines.LegLine.{LegLine}
 use Rattle.rtt_io.specs.Counts.{Rose, counted, last_count}
-use Rattle.mix_loop.specs.declared.ports.Port.{Port}
 use Rattle.leg_items.specs.declared.inlets.LegInlet.{LegInlet}
 use Rattle.bridge_run.specs.declared.mixed.MixFault.{MixFault}
 use Rattle.bridge_run.specs.declared.mixed.MixFault.TheVariants.{Open, Dump, TooLong, NoMemory}
@@ -60,18 +59,17 @@ left_by faults name_of contents contents_now before after s n same calm other (i
 
 module _ {S : Type 0} where
   -- what lies under a name is what lay there before
-  opened_before : (tells : Type 0) (left : S → List ℕ) (faults : S → ℕ) (name_of : S → List ℕ) (now before : List ℕ → Option (List ℕ)) (wait limit j : ℕ) (leg : LegLine) (p : Port (LegInlet S))
+  opened_before : (tells : Type 0) (left : S → List ℕ) (faults : S → ℕ) (name_of : S → List ℕ) (now before : List ℕ → Option (List ℕ)) (wait limit j : ℕ) (leg : LegLine) (p : LegInlet S)
       → (tells → (n : List ℕ) → now n ≡ before n) → IsOpened tells left faults name_of now wait limit j leg p → IsOpened tells left faults name_of before wait limit j leg p
   opened_before tells left faults name_of now before wait limit j leg p same h = record {
-    new = h.new;
-    place = h.place;
+    not_over = h.not_over;
     named = h.named;
     fresh = h.fresh;
     told = λ t. let r = h.told t in (r.0, sym (same t leg.input) ∙ r.1, r.2);
   }
 
   -- one more leg
-  pub opened_more : (tells : Type 0) (left : S → List ℕ) (faults : S → ℕ) (name_of : S → List ℕ) (now before : List ℕ → Option (List ℕ)) (wait limit j : ℕ) (legs : List LegLine) (leg : LegLine) (ps : List (Port (LegInlet S))) (p : Port (LegInlet S))
+  pub opened_more : (tells : Type 0) (left : S → List ℕ) (faults : S → ℕ) (name_of : S → List ℕ) (now before : List ℕ → Option (List ℕ)) (wait limit j : ℕ) (legs : List LegLine) (leg : LegLine) (ps : List (LegInlet S)) (p : LegInlet S)
       → (tells → (n : List ℕ) → now n ≡ before n) → AllOpened tells left faults name_of before wait limit legs ps → length ps ≡ j → leg_at legs j ≡ Some leg → IsOpened tells left faults name_of now wait limit j leg p
       → AllOpened tells left faults name_of before wait limit legs (ps ++ p ∷ [])
   opened_more tells left faults name_of now before wait limit j legs leg ps p same h l g o = λ k x e. elim (pushed ps p k x e) [
@@ -81,12 +79,12 @@ module _ {S : Type 0} where
           leg,
           ap (λ (i : ℕ). leg_at legs i) at ∙ g,
           subst (λ (i : ℕ). IsOpened tells left faults name_of before wait limit i leg x) (sym at)
-              (subst (λ (y : Port (LegInlet S)). IsOpened tells left faults name_of before wait limit j leg y) (sym q.1) (opened_before tells left faults name_of now before wait limit j leg p same o)),
+              (subst (λ (y : LegInlet S). IsOpened tells left faults name_of before wait limit j leg y) (sym q.1) (opened_before tells left faults name_of now before wait limit j leg p same o)),
         )
   ]
 
   -- one more over its input
-  pub over_more : (tells : Type 0) (left : S → List ℕ) (wait limit j : ℕ) (legs : List LegLine) (leg : LegLine) (inputs : List (List ℕ)) (octets : List ℕ) (ps : List (Port (LegInlet S))) (p : Port (LegInlet S))
+  pub over_more : (tells : Type 0) (left : S → List ℕ) (wait limit j : ℕ) (legs : List LegLine) (leg : LegLine) (inputs : List (List ℕ)) (octets : List ℕ) (ps : List (LegInlet S)) (p : LegInlet S)
       → AllOver tells left wait limit legs inputs ps → length ps ≡ j → leg_at legs j ≡ Some leg → octets ≡ input_at inputs j → IsOver tells left wait limit j leg octets p
       → AllOver tells left wait limit legs inputs (ps ++ p ∷ [])
   over_more tells left wait limit j legs leg inputs octets ps p h l g is o = λ k x e. elim (pushed ps p k x e) [
@@ -97,12 +95,12 @@ module _ {S : Type 0} where
           leg,
           ap (λ (i : ℕ). leg_at legs i) at ∙ g,
           subst (λ (i : ℕ). IsOver tells left wait limit i leg (input_at inputs i) x) (sym at)
-              (subst (λ (y : Port (LegInlet S)). IsOver tells left wait limit j leg (input_at inputs j) y) (sym q.1) here),
+              (subst (λ (y : LegInlet S). IsOver tells left wait limit j leg (input_at inputs j) y) (sym q.1) here),
         )
   ]
 
   -- the leg behind these was refused
-  pub not_opened : (tells : Type 0) (left : S → List ℕ) (faults : S → ℕ) (name_of : S → List ℕ) (contents : List ℕ → Option (List ℕ)) (wait limit j : ℕ) (legs : List LegLine) (leg : LegLine) (ps : List (Port (LegInlet S)))
+  pub not_opened : (tells : Type 0) (left : S → List ℕ) (faults : S → ℕ) (name_of : S → List ℕ) (contents : List ℕ → Option (List ℕ)) (wait limit j : ℕ) (legs : List LegLine) (leg : LegLine) (ps : List (LegInlet S))
       (before now after last : List ℕ → ℕ) (fault : MixFault) → AllOpened tells left faults name_of contents wait limit legs ps → length ps ≡ j → leg_at legs j ≡ Some leg → ((n : List ℕ) → now n ≡ before n) → ((n : List ℕ) → last n ≡ after n)
       → IsRefused now after j leg fault → IsNotOpened tells contents before last legs fault
   not_opened tells left faults name_of contents wait limit j legs leg ps before now after last (Open k) h l g b a r = (

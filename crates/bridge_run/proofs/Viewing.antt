@@ -4,7 +4,7 @@ use Rattle.std.specs.Prelude.{AllPairs, remove, flat_map, ◌≢◌}
 use Rattle.std.specs.List.{enumerate_from, sum_by}
 use Rattle.std.proofs.lemmas.List.Sums.{sum_by-cons, sum_by-le, sum_by_push}
 use Rattle.source_receiver.specs.declared.source_texts.SourceText.{SourceText}
-use Rattle.text_spec.specs.declared.counts.Counts.{Counts}
+use Rattle.view_spec.specs.declared.counts.Counts.{Counts}
 use Rattle.std.proofs.Math.Seq.{take-suc}
 use Rattle.std.proofs.lemmas.List.{take_all, append-nil, get_or-map, length-map}
 use Rattle.std.proofs.lemmas.List.Quantifiers.{all_pairs_remove}
@@ -15,10 +15,12 @@ use Rattle.file_spec.specs.declared.conf_lines.LegLine.{LegLine}
 use Rattle.file_spec.specs.Conf.{Conf}
 use Rattle.file_spec.specs.Kept.{Differ}
 use Rattle.mixer_spec.specs.Table.{Table}
-use Rattle.command_spec.specs.Seen.{Reception, Speaker, aware_seen, counts_at, unaware_seen}
-use Rattle.command_spec.specs.Mixing.{came, records_to, reception_of, speaker_of, view_of, views}
-use Rattle.command_spec.specs.Sums.{counts_to, markers_at, markers_to, sources_of, sums}
-use Rattle.command_spec.proofs.Counted.{markers_came, used_came}
+use Rattle.view_spec.specs.Seen.{Reception, Speaker, aware_seen, counts_at, unaware_seen}
+use Rattle.command_spec.specs.Mixing.{records_to, reception_of, speaker_of, view_of, views}
+use Rattle.mixer_spec.specs.Arrives.{came}
+use Rattle.command_spec.specs.Sums.{counts_to, markers_to, sources_of, sums}
+use Rattle.view_spec.specs.Markers.{markers_at}
+use Rattle.view_spec.proofs.Counted.{markers_came, used_came}
 use Rattle.terminal.specs.declared.confs.TermConf.{TermConf}
 use Rattle.terminal.specs.declared.terminals.Terminal.{Terminal}
 use Rattle.terminal.specs.Terminals.{counts_of, reception, texts_of, IsTextOf, Heard}

@@ -10,10 +10,9 @@ use Rattle.command_spec.specs.declared.faults.Refusal.TheVariants.{AtByte, After
 use Rattle.command_spec.specs.Work.{Refuses, Makes}
 use Rattle.command_spec.specs.Mixing.{input_at, mixes}
 use Rattle.command_spec.specs.Sums.{sums_mixed}
-use Rattle.mix_loop.specs.declared.ports.Port.{Port}
 use Rattle.leg_items.specs.declared.inlets.LegInlet.{LegInlet}
 use Rattle.leg_items.specs.Feds.{Asked}
-use Rattle.leg_items.specs.Answers.{AllAsked, read_well, source_at}
+use Rattle.leg_items.specs.Answers.{AllAsked, read_well, source_in}
 use Rattle.mixer_turn.specs.Making.{pts_at}
 use Rattle.bridge_run.specs.declared.mixed.MixFault.{MixFault}
 use Rattle.bridge_run.specs.declared.mixed.MixFault.TheVariants.{Open, Dump, TooLong, NoMemory}
@@ -67,10 +66,10 @@ abbrev pub NoReadFailed : Result Mixed MixFault → Type 0
 NoReadFailed result = (leg : ℕ) (fault : DumpFault) → result ≡ Err (Dump leg fault) → is_of_source fault.kind ≡ false
 
 module _ {S : Type 0} where
-  -- it is what the conference comes to by the octets of its inputs, whatever they are, where these ports are asked for them
-  abbrev pub MixesAsked : (S → List ℕ) → Conf → List (Port (LegInlet S)) → Result Mixed MixFault → Type 0
-  MixesAsked left c ports result =
-      (inputs : List (List ℕ)) → length inputs ≡ length c.legs → AllAsked left (asked_of c inputs) ports → MixesTo c inputs result
+  -- it is what the conference comes to by the octets of its inputs, whatever they are, where these legs are asked for them
+  abbrev pub MixesAsked : (S → List ℕ) → Conf → List (LegInlet S) → Result Mixed MixFault → Type 0
+  MixesAsked left c legs result =
+      (inputs : List (List ℕ)) → length inputs ≡ length c.legs → AllAsked left (asked_of c inputs) legs → MixesTo c inputs result
 
   -- The source of the leg j is still the one that it was. Where its reading failed, its count rose; where none did, it is the old
   -- one.
@@ -81,6 +80,6 @@ module _ {S : Type 0} where
     pub calm : WasReadWell result j → faults new ≡ faults old
 
   -- and so is that of each leg
-  abbrev pub AreKept : (S → ℕ) → (S → List ℕ) → Result Mixed MixFault → List (Port (LegInlet S)) → List (Port (LegInlet S)) → Type 0
+  abbrev pub AreKept : (S → ℕ) → (S → List ℕ) → Result Mixed MixFault → List (LegInlet S) → List (LegInlet S) → Type 0
   AreKept faults name result old new =
-      (j : ℕ) (p q : Port (LegInlet S)) → slice_get old j ≡ Some p → slice_get new j ≡ Some q → IsKept faults name result j (source_at p) (source_at q)
+      (j : ℕ) (i k : LegInlet S) → slice_get old j ≡ Some i → slice_get new j ≡ Some k → IsKept faults name result j (source_in i) (source_in k)

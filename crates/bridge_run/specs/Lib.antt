@@ -1,6 +1,6 @@
 pub mod Mixes
 pub mod Opened
-pub mod Logging
+pub mod Logs
 pub mod Viewed
 pub mod Answered
 pub mod Loggers

@@ -1,21 +1,18 @@
--- What a mixer stands for whose packets are appended to recordings.
-use Rattle.std.specs.Prelude.{ℕ, ◌≤◌, List, []}
+-- What a mixer stands for whose packets are recorded.
+use Rattle.std.specs.Prelude.{ℕ, ◌^◌, List, [], length}
 use Rattle.rtt_base.specs.declared.text_packets.Pts.{Pts}
 use Rattle.file_spec.specs.Conf.{Conf}
 use Rattle.mixer_spec.specs.Setups.{Setup, setup}
 use Rattle.mixer_spec.specs.Table.{Call}
-use Rattle.mixer_spec.specs.Calls.{turns_made}
 use Rattle.mixer_turn.specs.Making.{pts_at}
-use Rattle.mixer_turn.specs.Standing.{StandsFor}
-use Rattle.mixer_turn.specs.Early.{AreEarly}
-use Rattle.bridge_run.specs.declared.loggers.Logged.{Logged}
+use Rattle.mixer_posts.specs.declared.mixers.Sending.{Sending}
+use Rattle.mixer_posts.specs.Standing.{SendsFor}
+use Rattle.bridge_run.specs.Logs.{HasSent}
 
--- These calls were made of it, each turn at a moment that a recording can hold, and no more turns than a conference has.
-pub record LogsFor (m : Logged) (s : Setup) (pts : ℕ → Pts) (calls : List Call) : Type 0 where
-  pub stands : StandsFor s pts m.mixer calls
-  pub early : AreEarly calls
-  pub few : turns_made calls ≤ 5000000
+-- These calls were made of it, each turn at a moment that a recording can hold, and the recordings have what they send.
+abbrev pub RecordsFor : Sending (List (List ℕ)) → Setup → (ℕ → Pts) → List Call → Type 0
+RecordsFor m s pts calls = SendsFor HasSent (λ log. length log) (2 ^ 32) m s pts calls
 
 -- it is one for this conference, of which no call was made
-abbrev pub IsUncalled : Conf → Logged → Type 0
-IsUncalled c m = LogsFor m (setup c) (pts_at c) []
+abbrev pub IsUncalled : Conf → Sending (List (List ℕ)) → Type 0
+IsUncalled c m = RecordsFor m (setup c) (pts_at c) []

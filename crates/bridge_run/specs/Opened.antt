@@ -1,16 +1,14 @@
 -- The inputs of a conference's legs, opened, of which nothing was read.
-use Rattle.std.specs.Prelude.{◌≡◌, ◌≢◌, ◌⊎◌, ℕ, IsSome, Option, Some, List, slice_get}
+use Rattle.std.specs.Prelude.{◌≡◌, ◌≢◌, ◌⊎◌, ℕ, false, IsSome, Option, Some, List, slice_get}
 use Rattle.std.specs.Global.{Vec}
 use Rattle.file_spec.specs.declared.conf_lines.LegLine.{LegLine}
 use Rattle.rtt_io.specs.Counts.{Rose}
 use Rattle.rtt_io.specs.declared.mem_sources.SteadySource.{SteadySource}
 use Rattle.rtt_io.specs.contracts.mem_sources.SteadySourceSource.TheImpl.{left-value, tells-value}
 use Rattle.ear.specs.declared.confs.EarConf.{EarConf}
-use Rattle.leg_core.specs.Gives.{Stands, begins, place_of}
-use Rattle.mix_loop.specs.declared.ports.Port.{Port}
+use Rattle.leg_core.specs.Gives.{Stands, begins, is_over}
 use Rattle.leg_items.specs.declared.inlets.LegInlet.{LegInlet}
-use Rattle.leg_items.specs.Feds.{IsNewLeg}
-use Rattle.leg_items.specs.Answers.{source_at}
+use Rattle.leg_items.specs.Answers.{source_in}
 use Rattle.mixer_spec.specs.Setups.{leg_at}
 use Rattle.command_spec.specs.Mixing.{input_at}
 use Rattle.bridge_run.specs.Mixes.{LieBelow}
@@ -23,49 +21,47 @@ ear_of wait j leg = record { place = j; ssrc = leg.ssrc; pts = leg.pts; wait = w
 
 module _ {S : Type 0} where
   -- this holds of each of these sources
-  abbrev pub EachSource : (S → Type 0) → List (Port (LegInlet S)) → Type 0
-  EachSource holds ps = (j : ℕ) (p : Port (LegInlet S)) → slice_get ps j ≡ Some p → holds (source_at p)
+  abbrev pub EachSource : (S → Type 0) → List (LegInlet S) → Type 0
+  EachSource holds legs = (j : ℕ) (i : LegInlet S) → slice_get legs j ≡ Some i → holds (source_in i)
 
   -- no reading of these failed
-  abbrev pub AreCalm : (S → ℕ) → List (Port (LegInlet S)) → Type 0
-  AreCalm faults ps = EachSource (λ s. faults s ≡ 0) ps
+  abbrev pub AreCalm : (S → ℕ) → List (LegInlet S) → Type 0
+  AreCalm faults legs = EachSource (λ s. faults s ≡ 0) legs
 
   -- where this source is handed back, the count of this name is left: no reading of it failed, or something lies under its own name,
   -- which is another
   abbrev pub LeavesCount : (S → ℕ) → (S → List ℕ) → (List ℕ → Option (List ℕ)) → List ℕ → S → Type 0
   LeavesCount faults name_of contents name s = (faults s ≡ 0) ⊎ ((name ≢ name_of s) × IsSome (contents (name_of s)))
 
-  -- The port of the leg j over a source that holds these octets, where it tells what it holds.
-  pub record IsOver (tells : Type 0) (left : S → List ℕ) (wait limit j : ℕ) (leg : LegLine) (octets : List ℕ) (p : Port (LegInlet S)) : Type 0 where
-    pub new : IsNewLeg p.inlet.leg leg.stay p
-    pub place : place_of p.inlet.leg ≡ j
-    pub told : tells → Stands left p.inlet.leg (begins (ear_of wait j leg) limit octets)
+  -- The leg j over a source that holds these octets, where it tells what it holds.
+  pub record IsOver (tells : Type 0) (left : S → List ℕ) (wait limit j : ℕ) (leg : LegLine) (octets : List ℕ) (i : LegInlet S) : Type 0 where
+    pub not_over : is_over i.leg ≡ false
+    pub told : tells → Stands left i.leg (begins (ear_of wait j leg) limit octets)
 
-  -- the ports of these legs, in order, over these inputs
-  abbrev pub AllOver : Type 0 → (S → List ℕ) → ℕ → ℕ → List LegLine → List (List ℕ) → List (Port (LegInlet S)) → Type 0
-  AllOver tells left wait limit legs inputs ps = (j : ℕ) (p : Port (LegInlet S)) → slice_get ps j ≡ Some p
-      → (leg : LegLine) × (leg_at legs j ≡ Some leg) × IsOver tells left wait limit j leg (input_at inputs j) p
+  -- these legs, in order, over these inputs
+  abbrev pub AllOver : Type 0 → (S → List ℕ) → ℕ → ℕ → List LegLine → List (List ℕ) → List (LegInlet S) → Type 0
+  AllOver tells left wait limit lines inputs legs = (j : ℕ) (i : LegInlet S) → slice_get legs j ≡ Some i
+      → (leg : LegLine) × (leg_at lines j ≡ Some leg) × IsOver tells left wait limit j leg (input_at inputs j) i
 
-  -- The port of the leg j over its input. Where sources tell what they hold, it holds the octets under its name.
-  pub record IsOpened (tells : Type 0) (left : S → List ℕ) (faults : S → ℕ) (name_of : S → List ℕ) (contents : List ℕ → Option (List ℕ)) (wait limit j : ℕ) (leg : LegLine) (p : Port (LegInlet S)) : Type 0 where
-    pub new : IsNewLeg p.inlet.leg leg.stay p
-    pub place : place_of p.inlet.leg ≡ j
-    pub named : name_of (source_at p) ≡ leg.input
-    pub fresh : faults (source_at p) ≡ 0
-    pub told : tells → (octets : List ℕ) × (contents leg.input ≡ Some octets) × Stands left p.inlet.leg (begins (ear_of wait j leg) limit octets)
+  -- The leg j over its input. Where sources tell what they hold, it holds the octets under its name.
+  pub record IsOpened (tells : Type 0) (left : S → List ℕ) (faults : S → ℕ) (name_of : S → List ℕ) (contents : List ℕ → Option (List ℕ)) (wait limit j : ℕ) (leg : LegLine) (i : LegInlet S) : Type 0 where
+    pub not_over : is_over i.leg ≡ false
+    pub named : name_of (source_in i) ≡ leg.input
+    pub fresh : faults (source_in i) ≡ 0
+    pub told : tells → (octets : List ℕ) × (contents leg.input ≡ Some octets) × Stands left i.leg (begins (ear_of wait j leg) limit octets)
 
-  -- the ports of these legs, in order
-  abbrev pub AllOpened : Type 0 → (S → List ℕ) → (S → ℕ) → (S → List ℕ) → (List ℕ → Option (List ℕ)) → ℕ → ℕ → List LegLine → List (Port (LegInlet S)) → Type 0
-  AllOpened tells left faults name_of contents wait limit legs ps = (j : ℕ) (p : Port (LegInlet S)) → slice_get ps j ≡ Some p
-      → (leg : LegLine) × (leg_at legs j ≡ Some leg) × IsOpened tells left faults name_of contents wait limit j leg p
+  -- these legs, in order
+  abbrev pub AllOpened : Type 0 → (S → List ℕ) → (S → ℕ) → (S → List ℕ) → (List ℕ → Option (List ℕ)) → ℕ → ℕ → List LegLine → List (LegInlet S) → Type 0
+  AllOpened tells left faults name_of contents wait limit lines legs = (j : ℕ) (i : LegInlet S) → slice_get legs j ≡ Some i
+      → (leg : LegLine) × (leg_at lines j ≡ Some leg) × IsOpened tells left faults name_of contents wait limit j leg i
 
-  -- the same of a whole list of ports
-  abbrev pub AreOpened : Type 0 → (S → List ℕ) → (S → ℕ) → (S → List ℕ) → (List ℕ → Option (List ℕ)) → ℕ → ℕ → List LegLine → Vec (Port (LegInlet S)) → Type 0
-  AreOpened tells left faults name_of contents wait limit legs ports = AllOpened tells left faults name_of contents wait limit legs ports.items
+  -- the same of a whole list of legs
+  abbrev pub AreOpened : Type 0 → (S → List ℕ) → (S → ℕ) → (S → List ℕ) → (List ℕ → Option (List ℕ)) → ℕ → ℕ → List LegLine → Vec (LegInlet S) → Type 0
+  AreOpened tells left faults name_of contents wait limit lines legs = AllOpened tells left faults name_of contents wait limit lines legs.items
 
--- the ports of these legs, in order, over inputs that are held in memory
-abbrev pub AreHeld : ℕ → ℕ → List LegLine → List (List ℕ) → Vec (Port (LegInlet SteadySource)) → Type 0
-AreHeld wait limit legs inputs ports = AllOver tells-value.it left-value.it wait limit legs inputs ports.items
+-- these legs, in order, over inputs that are held in memory
+abbrev pub AreHeld : ℕ → ℕ → List LegLine → List (List ℕ) → Vec (LegInlet SteadySource) → Type 0
+AreHeld wait limit lines inputs legs = AllOver tells-value.it left-value.it wait limit lines inputs legs.items
 
 -- Why the leg j was not opened: the count of its name rose, or memory ran out.
 abbrev pub IsRefused : (List ℕ → ℕ) → (List ℕ → ℕ) → ℕ → LegLine → MixFault → Type 0
@@ -94,10 +90,10 @@ module _ {W : Type 0} where
   Unopened tells contents own old new legs fault = IsNotOpened tells (contents old) (own old) (own new) legs fault
 
   -- where the reading of a source failed, the count of its name rose
-  abbrev pub FaultsRose : {S : Type 0} → (S → ℕ) → (S → List ℕ) → (W → List ℕ → ℕ) → List (Port (LegInlet S)) → W → W → Type 0
-  FaultsRose {S} faults name objects ports old new = EachSource (λ s. Rose 0 (faults s) → Rose (objects old (name s)) (objects new (name s))) ports
+  abbrev pub FaultsRose : {S : Type 0} → (S → ℕ) → (S → List ℕ) → (W → List ℕ → ℕ) → List (LegInlet S) → W → W → Type 0
+  FaultsRose {S} faults name objects legs old new = EachSource (λ s. Rose 0 (faults s) → Rose (objects old (name s)) (objects new (name s))) legs
 
   -- a name's count is the old one, where each of the sources leaves it
-  abbrev pub CountsLeft : {S : Type 0} → (S → ℕ) → (S → List ℕ) → (W → List ℕ → Option (List ℕ)) → (W → List ℕ → ℕ) → List (Port (LegInlet S)) → W → W → Type 0
-  CountsLeft {S} faults name_of contents objects ports old new =
-      (name : List ℕ) → EachSource (LeavesCount faults name_of (contents old) name) ports → objects new name ≡ objects old name
+  abbrev pub CountsLeft : {S : Type 0} → (S → ℕ) → (S → List ℕ) → (W → List ℕ → Option (List ℕ)) → (W → List ℕ → ℕ) → List (LegInlet S) → W → W → Type 0
+  CountsLeft {S} faults name_of contents objects legs old new =
+      (name : List ℕ) → EachSource (LeavesCount faults name_of (contents old) name) legs → objects new name ≡ objects old name

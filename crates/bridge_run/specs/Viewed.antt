@@ -2,13 +2,15 @@
 use Rattle.std.specs.Prelude.{◌≡◌, ℕ, Bool, ◌+◌, ◌*◌, ◌^◌, ◌<◌, ◌≤◌, List, [], ◌++◌, length, map, min, remove, take, flat_map, slice_index_or, IsTrue, All, IfOk, Result, if◌then◌else◌}
 use Rattle.std.specs.List.{enumerate_from, sum_by}
 use Rattle.rtt_base.specs.declared.errors.NoMemory.{NoMemory}
-use Rattle.text_spec.specs.declared.counts.Counts.{Counts}
+use Rattle.view_spec.specs.declared.counts.Counts.{Counts}
 use Rattle.file_spec.specs.declared.conf_lines.LegLine.{LegLine}
 use Rattle.file_spec.specs.Conf.{Conf, is_name}
 use Rattle.mixer_spec.specs.Table.{Table}
-use Rattle.command_spec.specs.Seen.{aware_seen, counts_at, unaware_seen}
-use Rattle.command_spec.specs.Mixing.{came, reception_of, records_to, speaker_of, view_of, views}
-use Rattle.command_spec.specs.Sums.{Sums, counts_to, markers_at, markers_to, sources_of, sums}
+use Rattle.view_spec.specs.Seen.{aware_seen, counts_at, unaware_seen}
+use Rattle.command_spec.specs.Mixing.{reception_of, records_to, speaker_of, view_of, views}
+use Rattle.mixer_spec.specs.Arrives.{came}
+use Rattle.command_spec.specs.Sums.{Sums, counts_to, markers_to, sources_of, sums}
+use Rattle.view_spec.specs.Markers.{markers_at}
 use Rattle.played.specs.Written.{IsWrittenOf}
 use Rattle.terminal.specs.declared.confs.TermConf.{TermConf}
 use Rattle.terminal.specs.declared.terminals.Terminal.{Terminal}

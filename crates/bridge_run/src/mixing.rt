@@ -1,25 +1,24 @@
 //! A conference is mixed.
 ghost use Rattle.std.specs.Prelude.{◌≡◌, All, length, IfOk, IfErr};
 ghost use Rattle.rtt_io.specs.Names.{NoneFalls, Same};
-ghost use Rattle.mixer_spec.specs.Setups.{setup};
 ghost use Rattle.mixer_spec.specs.Bridged.{input_limit};
-ghost use Rattle.conf_text.specs.Lines.{conf_of};
-ghost use Rattle.leg_items.specs.Answers.{AllStayAs, AreNew};
+ghost use Rattle.conference.specs.Conferences.{conf_of};
+ghost use Rattle.leg_items.specs.Answers.{AllNew};
 ghost use Rattle.played.specs.Written.{IsWritten};
 ghost use Rattle.bridge_run.specs.Answered.{AreKept, HasOutputs, IsOfLegs, MixesAsked, MixesTo, NoReadFailed};
 ghost use Rattle.bridge_run.specs.Mixes.{IsMade, NoneFailedIn, StopsIn, counted};
 ghost use Rattle.bridge_run.specs.Viewed.{AreSumsOf, AreViewsOf};
 
-use crate::loggers::Logged;
+use crate::legs::{close_legs, held_legs, open_legs};
+use crate::loggers::recording_mixer;
+use crate::logs::Log;
 use crate::parts::views_on_threads;
-use crate::ports::{close_ports, held_ports, open_ports};
-use crate::reading::{Readers, mix_read};
 use crate::views::Seen;
 use crate::{MixFault, Mixed};
-use conf_text::Conf;
+use conference::Conf;
 use leg_items::LegInlet;
-use leg_lanes::Ran;
-use mix_loop::{Log, Mixing, Port};
+use leg_lanes::{Ran, Readers, mix_legs};
+use mix_loop::Mixing;
 use mixer_spec::limits::MOST_INPUT_OF_MANY;
 use rtt_base::Bytes;
 use rtt_io::{Gate, Source, World};
@@ -67,66 +66,60 @@ fn made<R: Threads + Sync>(rt: &R, alloc: Global, conf: &Conf, log: Log) -> Resu
     })
 }
 
-/// How a mixing of opened inputs ended, with their ports.
+/// How a mixing of opened inputs ended, with their legs.
 struct Answered<S> {
     mixed: Result<Mixed, MixFault>,
-    ports: Vec<Port<LegInlet<S>>>,
+    legs: Vec<LegInlet<S>>,
 }
 
-/// Mixes a conference whose inputs are opened, and are read so. All ports come back.
+/// Mixes a conference whose inputs are opened, and are read so. All legs come back.
 fn mix_opened<S: Source + Send, R: Threads + Wait + Sync, G: Gate + Sync>(
     rt: &R,
     alloc: Global,
     conf: &Conf,
-    ports: Vec<Port<LegInlet<S>>>,
+    legs: Vec<LegInlet<S>>,
     readers: Readers,
     gate: &G,
 ) -> Answered<S>
-    requires legs { length ports.items ≡ length conf.now.legs }
-    requires new { AreNew ports.items }
-    requires stays { AllStayAs (setup (conf_of conf.now)) ports.items }
-    ensures mixes { S.tells → MixesAsked S.left (conf_of conf.now) ports.items result.mixed }
+    requires legs { length legs.items ≡ length conf.now.legs }
+    requires new { AllNew legs.items }
+    ensures mixes { S.tells → MixesAsked S.left (conf_of conf.now) legs.items result.mixed }
     ensures outs { IfOk result.mixed (HasOutputs (length conf.now.legs)) }
-    ensures sources { AreKept S.faults S.name result.mixed ports.items result.ports.items }
+    ensures sources { AreKept S.faults S.name result.mixed legs.items result.legs.items }
     ensures leg { IsOfLegs (length conf.now.legs) result.mixed }
-    ensures legs { length result.ports.items ≡ length ports.items }
+    ensures legs { length result.legs.items ≡ length legs.items }
 {
-    let Ok(mixer) = Logged::new(alloc, conf) else {
+    let Ok(mixer) = recording_mixer(alloc, conf) else {
         return Answered {
             mixed: Err(MixFault::NoMemory),
-            ports,
+            legs,
         };
     };
-    let Ok(log) = Log::new(alloc, ports.len()) else {
-        return Answered {
-            mixed: Err(MixFault::NoMemory),
-            ports,
-        };
-    };
+    let lines = conf.legs.as_slice();
     let tick = u64::from(conf.tick);
     let turns = u64::from(conf.turns);
     let Ran {
         mixing,
-        ports,
-        mixer: _,
-        log,
-    } = mix_read(rt, alloc, readers, gate, ports, mixer, tick, turns, log);
+        legs,
+        mixer,
+    } = mix_legs(rt, alloc, readers, gate, legs, lines, mixer, tick, turns);
+    let log = mixer.into_outbound();
     match mixing {
         Mixing::Over => Answered {
             mixed: made(rt, alloc, conf, log),
-            ports,
+            legs,
         },
         Mixing::TooLong => Answered {
             mixed: Err(MixFault::TooLong),
-            ports,
+            legs,
         },
         Mixing::Faulted { leg, fault } => Answered {
             mixed: Err(MixFault::Dump { leg, fault }),
-            ports,
+            legs,
         },
-        Mixing::NoMemory => Answered {
+        Mixing::Stopped(_) => Answered {
             mixed: Err(MixFault::NoMemory),
-            ports,
+            legs,
         },
     }
 }
@@ -146,10 +139,10 @@ pub fn mix_held<R: Threads + Wait + Sync, G: Gate + Sync>(
     ensures outs { IfOk result (HasOutputs (length conf.now.legs)) }
 {
     let limit = input_limit(conf);
-    let Ok(ports) = held_ports(alloc, conf.legs.as_slice(), conf.wait, limit, inputs) else {
+    let Ok(legs) = held_legs(alloc, conf.legs.as_slice(), conf.wait, limit, inputs) else {
         return Err(MixFault::NoMemory);
     };
-    let Answered { mixed, ports: _ } = mix_opened(rt, alloc, conf, ports, Readers::Caller, gate);
+    let Answered { mixed, legs: _ } = mix_opened(rt, alloc, conf, legs, Readers::Caller, gate);
     mixed
 }
 
@@ -172,13 +165,13 @@ pub fn mix<R: Threads + Wait + Sync, W: World, G: Gate + Sync>(
     ensures calls_never_fall { NoneFalls W.own_faults world.old world.new }
     ensures objects_never_fall { NoneFalls W.object_faults world.old world.new }
 {
-    let legs = conf.legs.as_slice();
+    let lines = conf.legs.as_slice();
     let limit = input_limit(conf);
-    let ports = match open_ports(alloc, legs, conf.wait, limit, world) {
-        Ok(ports) => ports,
+    let legs = match open_legs(alloc, lines, conf.wait, limit, world) {
+        Ok(legs) => legs,
         Err(fault) => return Err(fault),
     };
-    let Answered { mixed, ports } = mix_opened(rt, alloc, conf, ports, Readers::Threads, gate);
-    close_ports(ports, world);
+    let Answered { mixed, legs } = mix_opened(rt, alloc, conf, legs, Readers::Threads, gate);
+    close_legs(legs, world);
     mixed
 }

@@ -1,12 +1,12 @@
 //! What is seen at the terminals of a conference, heard on several threads: each hears a part of the terminals.
 ghost use Rattle.std.specs.Prelude.{◌≡◌, ℕ, ◌+◌, ◌*◌, ◌/◌, ◌≤◌, ◌<◌, min, length, vec_len, All, IfOk, OnOk};
-ghost use Rattle.conf_text.specs.Lines.{conf_of};
+ghost use Rattle.conference.specs.Conferences.{conf_of};
 ghost use Rattle.played.specs.Written.{IsWritten};
 ghost use Rattle.bridge_run.specs.Viewed.{AddsSeen, ArePartsOf, AreOf, AreSumsOf, AreViewsOf, IsPartOf, summed};
 ghost use Rattle.bridge_run.specs.declared.parts.TheConstants.{MOST_PARTS};
 
 use crate::views::{Seen, nothing_seen, views_between, views_of};
-use conf_text::Conf;
+use conference::Conf;
 use rtt_base::{Bytes, NoMemory};
 use std::alloc::Global;
 use std::thread;

@@ -1,5 +1,6 @@
 use crate::{Mixed, mix};
-use conf_text::{Conf, read_conf};
+use conf_text::read_conf;
+use conference::Conf;
 use file_spec::Form;
 use rtpdump_io::{write_opening, write_record};
 use rtt_base::{Bytes, NoMemory};

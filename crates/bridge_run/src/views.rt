@@ -1,15 +1,15 @@
 //! What is seen at the terminals of a conference.
 ghost use Rattle.std.specs.Prelude.{◌≡◌, ℕ, ◌+◌, ◌^◌, ◌<◌, ◌≤◌, [], ◌++◌, length, remove, false, true, IsTrue, All, IfOk, OnOk};
 ghost use Rattle.file_spec.specs.Conf.{is_name};
-ghost use Rattle.conf_text.specs.Lines.{conf_of};
+ghost use Rattle.conference.specs.Conferences.{conf_of};
 ghost use Rattle.played.specs.Written.{IsWritten};
 ghost use Rattle.bridge_run.specs.Viewed.{AddsCounts, AddsSent, AddsSentTo, AreNamed, AreOf, AreSeenBetween, AreSumsOf, AreViewsOf, HasFew, marks_of, names_of, ssrcs_of, summed, terminal_conf};
 
-use conf_text::{Conf, LegLine};
+use conference::{Conf, LegLine};
 use played::played;
 use rtt_base::{Bytes, Name, NoMemory};
 use std::alloc::Global;
-use terminal::{TermConf, Terminal};
+use terminal::{TermConf, Terminal, View};
 
 /// What is seen at terminals, in leg order. The numbers are sums over them.
 #[derive(Drop)]
@@ -133,7 +133,11 @@ fn append_aware(
         conf.plan.as_slice(),
         own as u8,
     )?;
-    terminal.append_aware_view(alloc, &leg.name, speakers.names.as_slice(), &mut seen.views)?;
+    let view = View::Aware {
+        name: &leg.name,
+        names: speakers.names.as_slice(),
+    };
+    terminal.append_view(alloc, view, &mut seen.views)?;
     count(&terminal, seen);
     Ok(())
 }
@@ -161,7 +165,7 @@ fn append_unaware(
         conf.plan.as_slice(),
         own as u8,
     )?;
-    terminal.append_unaware_view(alloc, &leg.name, &mut seen.views)?;
+    terminal.append_view(alloc, View::Unaware { name: &leg.name }, &mut seen.views)?;
     count(&terminal, seen);
     Ok(())
 }

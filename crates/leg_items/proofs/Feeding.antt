@@ -3,9 +3,9 @@ use Rattle.std.proofs.Common.{◌≡◌, ◌<◌, ◌≤◌, ℕ, Bool, true, fa
 use Rattle.std.specs.Prelude.{Result, IfErr}
 use Rattle.std.proofs.lemmas.Bool.{not-true}
 use Rattle.std.proofs.lemmas.List.Elements.{filter-append}
-use Rattle.file_spec.specs.declared.conf_lines.Stay.{Stay}
 use Rattle.wire_spec.specs.declared.faults.DumpKind.TheVariants.{Read}
 use Rattle.stream_spec.specs.Ready.{Chunk}
+use Rattle.stream_spec.specs.Still.{is_lively_chunk}
 use Rattle.rtt_io.specs.Counts.{Rose}
 use Rattle.rtpdump_io.specs.declared.items.DumpFault.{DumpFault}
 use Rattle.rtpdump_io.specs.Reading.{IsFaultOf, UnlessOfSource, is_of_source}
@@ -16,39 +16,39 @@ use Rattle.mix_loop.specs.declared.items.Item.{Item}
 use Rattle.mix_loop.specs.declared.items.Item.TheVariants as item
 use Rattle.mix_loop.specs.declared.items.Ended.{Ended}
 use Rattle.mix_loop.specs.declared.items.Ended.TheVariants.{Open, AtEnd, AtFault}
-use Rattle.mix_loop.specs.Items.{Gave, gave_more, goes_on, is_open}
+use Rattle.mix_loop.specs.Items.{Gave, gave_more, goes_on, is_open, nothing}
 use Rattle.mixer_spec.proofs.Lists.{nil}
 use Rattle.leg_items.specs.declared.inlets.LegInlet.{LegInlet}
-use Rattle.leg_items.specs.Feds.{Asked, GivesAs, GetsOn, Fed, past_of, recording_asked, chunks_asked, counts, in_part, is_source_fault, item_for}
+use Rattle.leg_items.specs.Feds.{Asked, GivesAs, GetsOn, Fed, past_of, recording_asked, chunks_asked, is_source_fault, item_for, lively}
 
-open_is : (e : Ended) → is_open e ≡ true → e ≡ Open
+open_is : (e : Ended DumpFault) → is_open e ≡ true → e ≡ Open
 open_is Open o = refl
 open_is AtEnd o = absurd (true≢false (sym o))
 open_is (AtFault f) o = absurd (true≢false (sym o))
 
-not_fault : (f : DumpFault) → (Open ≡ AtFault f) → ⊥
+not_fault : (f : DumpFault) → ◌≡◌ {A = Ended DumpFault} Open (AtFault f) → ⊥
 not_fault f e = cc e
 
 rose_later : (a b c : ℕ) → a ≤ b → Rose b c → Rose a c
 rose_later a b c l (inl r) = inl (omega arith)
 rose_later a b c l (inr r) = inr r
 
--- one more chunk, by whether it counts
-part_with : (stay : Stay) (heard : List Chunk) (c : Chunk) (b : Bool) → counts stay c ≡ b → in_part stay (heard ++ c ∷ []) ≡ in_part stay heard ++ cond b (c ∷ []) []
-part_with stay heard c true e = filter-append (λ c. counts stay c) heard (c ∷ []) ∙ ap (λ xs. in_part stay heard ++ xs) (ap (λ b. cond b (c ∷ []) []) e)
-part_with stay heard c false e = filter-append (λ c. counts stay c) heard (c ∷ []) ∙ ap (λ xs. in_part stay heard ++ xs) (ap (λ b. cond b (c ∷ []) []) e)
+-- one more chunk, by whether it is a keep-alive
+lively_with : (heard : List Chunk) (c : Chunk) (b : Bool) → is_lively_chunk c ≡ b → lively (heard ++ c ∷ []) ≡ lively heard ++ cond b (c ∷ []) []
+lively_with heard c true e = filter-append is_lively_chunk heard (c ∷ []) ∙ ap (λ xs. lively heard ++ xs) (ap (λ b. cond b (c ∷ []) []) e)
+lively_with heard c false e = filter-append is_lively_chunk heard (c ∷ []) ∙ ap (λ xs. lively heard ++ xs) (ap (λ b. cond b (c ∷ []) []) e)
 
 module _ {S : Type 0} (tells : Type 0) (left : S → List ℕ) (faults : S → ℕ) (name : S → List ℕ) where
-  pub fed_none : (i : LegInlet S) → is_over i.leg ≡ false → Fed tells left faults name i i (record { chunks = []; ended = Open })
-  fed_none i o = record { stay = refl; open_still = ap not (sym o); gives = λ t a s. ([], s, refl); never_falls = omega arith; read = λ f e. absurd (not_fault f e); calm = λ e. refl; same_name = refl }
+  pub fed_none : (i : LegInlet S) → is_over i.leg ≡ false → Fed tells left faults name i i nothing
+  fed_none i o = record { open_still = ap not (sym o); gives = λ t a s. ([], s, refl); never_falls = omega arith; read = λ f e. absurd (not_fault f e); calm = λ e. refl; same_name = refl }
 
-  module _ (first old new : LegInlet S) (gave : Gave) (fed : Fed tells left faults name first old gave) (not_over : is_over old.leg ≡ false) (same_stay : new.stay ≡ old.stay)
+  module _ (first old new : LegInlet S) (gave : Gave DumpFault) (fed : Fed tells left faults name first old gave) (not_over : is_over old.leg ≡ false)
       (rises : faults (source_of old.leg) ≤ faults (source_of new.leg)) (named : name (source_of new.leg) ≡ name (source_of old.leg)) where
     still : gave.ended ≡ Open
     still = open_is gave.ended (fed.open_still ∙ ap not not_over)
 
-    before : tells → (a : Asked) → Stands left first.leg (past_of a []) → GivesAs left old.leg old.stay a gave.chunks Open
-    before t a s = subst (λ (e : Ended). GivesAs left old.leg old.stay a gave.chunks e) still (fed.gives t a s)
+    before : tells → (a : Asked) → Stands left first.leg (past_of a []) → GivesAs left old.leg a gave.chunks Open
+    before t a s = subst (λ (e : Ended DumpFault). GivesAs left old.leg a gave.chunks e) still (fed.gives t a s)
 
     more_count : faults (source_of first.leg) ≤ faults (source_of new.leg)
     more_count = let x = fed.never_falls in omega (arith, x, rises)
@@ -57,15 +57,14 @@ module _ {S : Type 0} (tells : Type 0) (left : S → List ℕ) (faults : S → �
     steady same = same ∙ fed.calm (ap is_source_fault still)
 
     open_with : (chunks : List Chunk) → is_over new.leg ≡ false → faults (source_of new.leg) ≡ faults (source_of old.leg)
-        → (tells → (a : Asked) (heard : List Chunk) → Stands left old.leg (past_of a heard) → gave.chunks ≡ in_part old.stay heard → (heard' : List Chunk) × Stands left new.leg (past_of a heard') × (chunks ≡ in_part old.stay heard'))
+        → (tells → (a : Asked) (heard : List Chunk) → Stands left old.leg (past_of a heard) → gave.chunks ≡ lively heard → (heard' : List Chunk) × Stands left new.leg (past_of a heard') × (chunks ≡ lively heard'))
         → Fed tells left faults name first new (record { chunks = chunks; ended = gave.ended })
     open_with chunks o same g = record {
-      stay = same_stay ∙ fed.stay;
       open_still = ap is_open still ∙ ap not (sym o);
       gives = λ t a s.
           let b = before t a s in
           let r = g t a b.0 b.1 b.2 in
-          subst (λ (e : Ended). GivesAs left new.leg new.stay a chunks e) (sym still) (r.0, r.1, r.2 ∙ ap (λ z. in_part z r.0) (sym same_stay));
+          subst (λ (e : Ended DumpFault). GivesAs left new.leg a chunks e) (sym still) r;
       never_falls = more_count;
       read = λ f e. absurd (not_fault f (sym still ∙ e));
       calm = λ e. steady same;
@@ -78,22 +77,21 @@ module _ {S : Type 0} (tells : Type 0) (left : S → List ℕ) (faults : S → �
 
     -- a text was heard
     fed_chunk : (c : Chunk) → is_over new.leg ≡ false → faults (source_of new.leg) ≡ faults (source_of old.leg)
-        → (tells → (a : Asked) (heard : List Chunk) → Stands left old.leg (past_of a heard) → Stands left new.leg (past_of a (heard ++ c ∷ []))) → Fed tells left faults name first new (gave_more (cond (counts old.stay c) item.Chunk item.Later) c gave)
-    fed_chunk c o same g = go (counts old.stay c) refl
+        → (tells → (a : Asked) (heard : List Chunk) → Stands left old.leg (past_of a heard) → Stands left new.leg (past_of a (heard ++ c ∷ []))) → Fed tells left faults name first new (gave_more (cond (is_lively_chunk c) item.Chunk item.Later) c gave)
+    fed_chunk c o same g = go (is_lively_chunk c) refl
       where
-        go : (b : Bool) → counts old.stay c ≡ b → Fed tells left faults name first new (gave_more (cond b item.Chunk item.Later) c gave)
-        go true e = open_with (gave.chunks ++ c ∷ []) o same (λ t a heard s q. (heard ++ c ∷ [], g t a heard s, ap (λ xs. xs ++ c ∷ []) q ∙ sym (part_with old.stay heard c true e)))
-        go false e = open_with gave.chunks o same (λ t a heard s q. (heard ++ c ∷ [], g t a heard s, q ∙ sym (part_with old.stay heard c false e ∙ nil (in_part old.stay heard))))
+        go : (b : Bool) → is_lively_chunk c ≡ b → Fed tells left faults name first new (gave_more (cond b item.Chunk item.Later) c gave)
+        go true e = open_with (gave.chunks ++ c ∷ []) o same (λ t a heard s q. (heard ++ c ∷ [], g t a heard s, ap (λ xs. xs ++ c ∷ []) q ∙ sym (lively_with heard c true e)))
+        go false e = open_with gave.chunks o same (λ t a heard s q. (heard ++ c ∷ [], g t a heard s, q ∙ sym (lively_with heard c false e ∙ nil (lively heard))))
 
     fed_end : (c : Chunk) → is_over new.leg ≡ true → faults (source_of new.leg) ≡ faults (source_of old.leg) → (tells → (a : Asked) (heard : List Chunk) → Stands left old.leg (past_of a heard) → (heard ≡ chunks_asked a) × ((recording_asked a).fault ≡ None))
         → Fed tells left faults name first new (gave_more item.End c gave)
     fed_end c o same g = record {
-      stay = same_stay ∙ fed.stay;
       open_still = ap not (sym o);
       gives = λ t a s.
           let b = before t a s in
           let r = g t a b.0 b.1 in
-          (b.2 ∙ (ap (in_part old.stay) r.0 ∙ ap (λ z. in_part z (chunks_asked a)) (sym same_stay)), r.1);
+          (b.2 ∙ ap lively r.0, r.1);
       never_falls = more_count;
       read = λ f e. absurd (cc e);
       calm = λ e. steady same;
@@ -104,7 +102,6 @@ module _ {S : Type 0} (tells : Type 0) (left : S → List ℕ) (faults : S → �
         → (f.kind ≡ Read → Rose (faults (source_of old.leg)) (faults (source_of new.leg))) → (is_of_source f.kind ≡ false → faults (source_of new.leg) ≡ faults (source_of old.leg))
         → Fed tells left faults name first new (gave_more (item.Fault f) c gave)
     fed_fault f c o g r same = record {
-      stay = same_stay ∙ fed.stay;
       open_still = ap not (sym o);
       gives = λ t a s. let b = before t a s in g t a b.0 b.1;
       never_falls = more_count;
@@ -116,41 +113,41 @@ module _ {S : Type 0} (tells : Type 0) (left : S → List ℕ) (faults : S → �
     -- one step of the leg, beside which this chunk was handed out
     pub fed_step : (c : Chunk) (r : Result LegStep DumpFault) → is_over new.leg ≡ is_last r → (tells → Follows left old.leg new.leg r c)
         → IfErr r (λ fault. fault.kind ≡ Read → Rose (faults (source_of old.leg)) (faults (source_of new.leg))) → UnlessOfSource r (faults (source_of new.leg) ≡ faults (source_of old.leg))
-        → Fed tells left faults name first new (gave_more (item_for old.stay c r) c gave)
+        → Fed tells left faults name first new (gave_more (item_for c r) c gave)
     fed_step c (Ok step.Chunk) o f r same = fed_chunk c o same (λ t a heard s. f t (past_of a heard) s)
     fed_step c (Ok step.More) o f r same = fed_more o same (λ t a heard s. f t (past_of a heard) s)
     fed_step c (Ok step.End) o f r same = fed_end c o same (λ t a heard s. f t (past_of a heard) s)
     fed_step c (Err fault) o f r same = fed_fault fault c o (λ t a heard s. f t (past_of a heard) s) r same
 
 -- more may come behind an item, where it may behind the answer
-pub goes_on_is : (stay : Stay) (c : Chunk) (r : Result LegStep DumpFault) → goes_on (item_for stay c r) ≡ not (is_last r)
-goes_on_is stay c (Ok step.Chunk) = go (counts stay c)
+pub goes_on_is : (c : Chunk) (r : Result LegStep DumpFault) → goes_on (item_for c r) ≡ not (is_last r)
+goes_on_is c (Ok step.Chunk) = go (is_lively_chunk c)
   where
-    go : (b : Bool) → goes_on (cond b item.Chunk item.Later) ≡ true
+    go : (b : Bool) → goes_on (cond {A = Item DumpFault} b item.Chunk item.Later) ≡ true
     go true = refl
     go false = refl
-goes_on_is stay c (Ok step.More) = refl
-goes_on_is stay c (Ok step.End) = refl
-goes_on_is stay c (Err fault) = refl
+goes_on_is c (Ok step.More) = refl
+goes_on_is c (Ok step.End) = refl
+goes_on_is c (Err fault) = refl
 
-pub not_over : (b : Bool) (x : Item) (r : Result LegStep DumpFault) (stay : Stay) (c : Chunk) → x ≡ item_for stay c r → b ≡ is_last r → goes_on x ≡ true → b ≡ false
-not_over b x r stay c is o e = o ∙ not-true (is_last r) (sym (goes_on_is stay c r) ∙ (ap goes_on (sym is) ∙ e))
+pub not_over : (b : Bool) (x : Item DumpFault) (r : Result LegStep DumpFault) (c : Chunk) → x ≡ item_for c r → b ≡ is_last r → goes_on x ≡ true → b ≡ false
+not_over b x r c is o e = o ∙ not-true (is_last r) (sym (goes_on_is c r) ∙ (ap goes_on (sym is) ∙ e))
 
--- nothing comes of a record that was read, or of a text that does not count
+-- nothing comes of a record that was read, or of a keep-alive
 module _ {S : Type 0} (tells : Type 0) (left : S → List ℕ) (old new : LegInlet S) where
-  pub gets_on : (c : Chunk) (r : Result LegStep DumpFault) → item_for old.stay c r ≡ item.Later → (r ≡ Ok step.More → unread new.leg < unread old.leg) → (tells → Follows left old.leg new.leg r c) → GetsOn tells left old new
-  gets_on c (Ok step.Chunk) e near f = inr (c, go (counts old.stay c) refl, f)
+  pub gets_on : (c : Chunk) (r : Result LegStep DumpFault) → item_for c r ≡ item.Later → (r ≡ Ok step.More → unread new.leg < unread old.leg) → (tells → Follows left old.leg new.leg r c) → GetsOn tells left old new
+  gets_on c (Ok step.Chunk) e near f = inr (c, go (is_lively_chunk c) refl, f)
     where
-      go : (b : Bool) → counts old.stay c ≡ b → counts old.stay c ≡ false
-      go true is = absurd (cc (sym (ap (λ (b : Bool). cond b item.Chunk item.Later) is) ∙ e))
+      go : (b : Bool) → is_lively_chunk c ≡ b → is_lively_chunk c ≡ false
+      go true is = absurd (cc (sym (ap (λ (b : Bool). cond {A = Item DumpFault} b item.Chunk item.Later) is) ∙ e))
       go false is = is
   gets_on c (Ok step.More) e near f = inl (near refl)
   gets_on c (Ok step.End) e near f = absurd (cc e)
   gets_on c (Err fault) e near f = absurd (cc e)
 
 -- a chunk comes of a chunk alone
-pub chunk_from : (stay : Stay) (c : Chunk) (r : Result LegStep DumpFault) → item_for stay c r ≡ item.Chunk → r ≡ Ok step.Chunk
-chunk_from stay c (Ok step.Chunk) e = refl
-chunk_from stay c (Ok step.More) e = absurd (cc e)
-chunk_from stay c (Ok step.End) e = absurd (cc e)
-chunk_from stay c (Err fault) e = absurd (cc e)
+pub chunk_from : (c : Chunk) (r : Result LegStep DumpFault) → item_for c r ≡ item.Chunk → r ≡ Ok step.Chunk
+chunk_from c (Ok step.Chunk) e = refl
+chunk_from c (Ok step.More) e = absurd (cc e)
+chunk_from c (Ok step.End) e = absurd (cc e)
+chunk_from c (Err fault) e = absurd (cc e)

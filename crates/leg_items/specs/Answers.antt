@@ -1,37 +1,36 @@
 -- What plain mixing of recordings answers.
-use Rattle.std.specs.Prelude.{◌≡◌, ◌≤◌, ◌<◌, ◌+◌, ℕ, None, Some, List, [], length, filter, slice_get, if◌then◌else◌}
+use Rattle.std.specs.Prelude.{◌≡◌, ◌≤◌, ◌<◌, ◌+◌, ℕ, false, None, Some, List, [], length, map, slice_get, if◌then◌else◌}
 use Rattle.rtt_base.specs.declared.text_packets.Pts.{Pts}
 use Rattle.wire_spec.specs.declared.faults.DumpKind.TheVariants.{Read}
 use Rattle.stream_spec.specs.Ready.{Chunk}
-use Rattle.stream_spec.specs.Still.{is_lively_chunk}
 use Rattle.rtt_io.specs.Counts.{Rose}
 use Rattle.rtpdump_io.specs.declared.items.DumpFault.{DumpFault}
 use Rattle.rtpdump_io.specs.Reading.{IsFaultOf, is_of_source}
 use Rattle.file_spec.specs.declared.conf_lines.LegLine.{LegLine}
-use Rattle.file_spec.specs.declared.conf_lines.Stay.{Stay}
 use Rattle.file_spec.specs.Conf.{Conf}
 use Rattle.mixer_spec.specs.Setups.{Setup, in_stay, leg_at}
 use Rattle.mixer_spec.specs.Bridged.{input_limit}
 use Rattle.mixer_spec.specs.Table.{Table, Call}
 use Rattle.mixer_spec.specs.Plain.{plain}
-use Rattle.leg_core.specs.Gives.{Stands, place_of, source_of}
-use Rattle.mix_loop.specs.declared.ports.Port.{Port}
+use Rattle.leg_core.specs.Gives.{Stands, is_over, source_of}
 use Rattle.mix_loop.specs.declared.turns.Mixing.{Mixing}
 use Rattle.mix_loop.specs.declared.turns.Mixing.TheVariants as mixing
-use Rattle.mix_loop.specs.Logs.{LogOf, AllOpen}
 use Rattle.mix_loop.specs.Mixers.{At, Of}
+use Rattle.mix_loop.specs.Mixing.{StayAs}
+use Rattle.mix_loop.specs.Ports.{of_leg}
+use Rattle.mix_loop.specs.Turns.{UnlessUnsent}
 use Rattle.leg_items.specs.declared.inlets.LegInlet.{LegInlet}
-use Rattle.leg_items.specs.Feds.{Asked, IsNewLeg, past_of, recording_asked, chunks_asked}
+use Rattle.leg_items.specs.Feds.{Asked, past_of, recording_asked, chunks_asked, lively}
 
 -- each of the first n recordings is read to its end
 abbrev pub AllWhole : ℕ → (ℕ → Asked) → Type 0
 AllWhole n asked = (j : ℕ) → j < n → (recording_asked (asked j)).fault ≡ None
 
 -- Plain mixing of these chunks, where each recording can be read; else the fault of the lowest leg whose recording can't be.
-abbrev pub IsAnswer : Mixing → Setup → ℕ → ℕ → (ℕ → Asked) → (ℕ → List Chunk) → Table → Type 0
+abbrev pub IsAnswer : {T : Type 0} → Mixing DumpFault T → Setup → ℕ → ℕ → (ℕ → Asked) → (ℕ → List Chunk) → Table → Type 0
 IsAnswer mixing.Over s tick turns asked chunks table = (plain s tick turns chunks ≡ Some table) × AllWhole s.legs asked
 IsAnswer mixing.TooLong s tick turns asked chunks table = (plain s tick turns chunks ≡ None) × AllWhole s.legs asked
-IsAnswer mixing.NoMemory s tick turns asked chunks table = Unit {0}
+IsAnswer (mixing.Stopped why) s tick turns asked chunks table = Unit {0}
 IsAnswer (mixing.Faulted leg fault) s tick turns asked chunks table = (leg < s.legs) × IsFaultOf (recording_asked (asked leg)) fault × AllWhole leg asked
 
 -- how many legs, the lowest, were read without a failure where the leg with this number has this fault
@@ -39,21 +38,16 @@ abbrev pub read_well : ℕ → DumpFault → ℕ
 read_well leg fault = if is_of_source fault.kind then leg else leg + 1
 
 -- by this answer no reading for the leg j failed
-abbrev pub IsReadWell : Mixing → ℕ → Type 0
+abbrev pub IsReadWell : {T : Type 0} → Mixing DumpFault T → ℕ → Type 0
 IsReadWell mixing.Over j = Unit {0}
 IsReadWell mixing.TooLong j = Unit {0}
-IsReadWell mixing.NoMemory j = ⊥
+IsReadWell (mixing.Stopped why) j = ⊥
 IsReadWell (mixing.Faulted leg fault) j = j < read_well leg fault
 
 -- these are the chunks that count of each leg that is asked for
 pub record AreChunks (s : Setup) (asked : ℕ → Asked) (chunks : ℕ → List Chunk) : Type 0 where
-  pub legs : (j : ℕ) → j < s.legs → chunks j ≡ in_stay s j (filter is_lively_chunk (chunks_asked (asked j)))
+  pub legs : (j : ℕ) → j < s.legs → chunks j ≡ map (of_leg j) (in_stay s j (lively (chunks_asked (asked j))))
   pub above : (j : ℕ) → s.legs ≤ j → chunks j ≡ []
-
--- the leg j stays so long
-pub record IsStayOf (s : Setup) (j : ℕ) (stay : Stay) : Type 0 where
-  pub from : s.from j ≡ stay.from
-  pub until : s.until j ≡ stay.until
 
 -- of a conference whose inputs have these octets: each leg hears its stream in its input
 abbrev pub AreOfConf : Conf → (ℕ → List ℕ) → (ℕ → Asked) → Type 0
@@ -62,46 +56,37 @@ AreOfConf c inputs asked =
     → asked j ≡ record { conf = record { place = j; ssrc = l.ssrc; pts = l.pts; wait = c.wait }; limit = input_limit c; octets = inputs j }
 
 module _ {S : Type 0} where
-  -- the source of a port's leg
-  abbrev pub source_at : Port (LegInlet S) → S
-  source_at p = source_of p.inlet.leg
+  -- the source of a leg
+  abbrev pub source_in : LegInlet S → S
+  source_in i = source_of i.leg
 
-  -- nothing came to these ports yet, and each leg has its number
-  pub record IsNewAt (j : ℕ) (p : Port (LegInlet S)) : Type 0 where
-    pub new : IsNewLeg p.inlet.leg p.stay p
-    pub place : place_of p.inlet.leg ≡ j
-
-  abbrev pub AreNew : List (Port (LegInlet S)) → Type 0
-  AreNew ps = (j : ℕ) (p : Port (LegInlet S)) → slice_get ps j ≡ Some p → IsNewAt j p
-
-  -- each leg stays as the setup says
-  abbrev pub AllStayAs : Setup → List (Port (LegInlet S)) → Type 0
-  AllStayAs s ps = (j : ℕ) (p : Port (LegInlet S)) → slice_get ps j ≡ Some p → IsStayOf s j p.stay
+  -- each leg may be asked
+  abbrev pub AllNew : List (LegInlet S) → Type 0
+  AllNew legs = (j : ℕ) (i : LegInlet S) → slice_get legs j ≡ Some i → is_over i.leg ≡ false
 
   -- each leg is asked for this, and gave nothing yet
-  abbrev pub AllAsked : (S → List ℕ) → (ℕ → Asked) → List (Port (LegInlet S)) → Type 0
-  AllAsked left asked ps = (j : ℕ) (p : Port (LegInlet S)) → slice_get ps j ≡ Some p → Stands left p.inlet.leg (past_of (asked j) [])
+  abbrev pub AllAsked : (S → List ℕ) → (ℕ → Asked) → List (LegInlet S) → Type 0
+  AllAsked left asked legs = (j : ℕ) (i : LegInlet S) → slice_get legs j ≡ Some i → Stands left i.leg (past_of (asked j) [])
 
   -- The source of the leg j is the one that it was. Where its reading failed, its count rose; where none did, it is the old one.
-  pub record SourceKept (faults : S → ℕ) (name : S → List ℕ) (answer : Mixing) (j : ℕ) (old new : S) : Type 0 where
+  pub record SourceKept {T : Type 0} (faults : S → ℕ) (name : S → List ℕ) (answer : Mixing DumpFault T) (j : ℕ) (old new : S) : Type 0 where
     pub never_falls : faults old ≤ faults new
     pub same_name : name new ≡ name old
     pub read : (fault : DumpFault) → answer ≡ mixing.Faulted j fault → fault.kind ≡ Read → Rose (faults old) (faults new)
     pub calm : IsReadWell answer j → faults new ≡ faults old
 
-  -- The mixer has come to this table; where mixing is over the log has what was sent. All sources are there still. Where they
-  -- tell what they hold, the answer is that of plain mixing of what is heard of them.
-  pub record PlainMixed {M : Type 0} (mixes : M → Setup → List Call → Type 0) (pts : ℕ → Pts) (tells : Type 0) (left : S → List ℕ) (faults : S → ℕ) (name : S → List ℕ)
-      (s : Setup) (tick turns : ℕ) (answer : Mixing) (old new : List (Port (LegInlet S))) (m : M) (log : List (List ℕ)) : Type 0 where
+  -- Unless it could not send, the mixer has come to this table. All sources are there still. Where they tell what they hold, the
+  -- answer is that of plain mixing of what is heard of them.
+  pub record PlainMixed {M T : Type 0} (mixes : M → Setup → List Call → Type 0) (tells : Type 0) (left : S → List ℕ) (faults : S → ℕ) (name : S → List ℕ)
+      (s : Setup) (tick turns : ℕ) (answer : Mixing DumpFault T) (old new : List (LegInlet S)) (m : M) : Type 0 where
     pub table : Table
-    pub mixed : At mixes m s table
-    pub logged : answer ≡ mixing.Over → LogOf pts s table log
+    pub mixed : UnlessUnsent answer (At mixes m s table)
     pub within : (leg : ℕ) (fault : DumpFault) → answer ≡ mixing.Faulted leg fault → leg < s.legs
-    pub sources : (j : ℕ) (p q : Port (LegInlet S)) → slice_get old j ≡ Some p → slice_get new j ≡ Some q → SourceKept faults name answer j (source_at p) (source_at q)
+    pub sources : (j : ℕ) (i k : LegInlet S) → slice_get old j ≡ Some i → slice_get new j ≡ Some k → SourceKept faults name answer j (source_in i) (source_in k)
     pub is : tells → (asked : ℕ → Asked) (chunks : ℕ → List Chunk) → AllAsked left asked old → AreChunks s asked chunks → IsAnswer answer s tick turns asked chunks table
 
-  -- In a mixing of such ports, by a mixer of which nothing was called, with an empty log, this was answered.
-  abbrev pub PlainMixes : {M : Type 0} → (M → Setup → (ℕ → Pts) → List Call → Type 0) → Type 0 → (S → List ℕ) → (S → ℕ) → (S → List ℕ) → ℕ → ℕ → Mixing → List (Port (LegInlet S)) → List (Port (LegInlet S)) → M → M → List (List ℕ) → List (List ℕ) → Type 0
-  PlainMixes mixes tells left faults name tick turns answer ps ps' m m' log log' =
-      (s : Setup) (pts : ℕ → Pts) → mixes m s pts [] → s.legs ≡ length ps → AllStayAs s ps → AllOpen log
-      → PlainMixed (Of mixes pts) pts tells left faults name s tick turns answer ps ps' m' log'
+  -- In a mixing of such legs, by a mixer of which nothing was called, this was answered.
+  abbrev pub PlainMixes : {M T : Type 0} → (M → Setup → (ℕ → Pts) → List Call → Type 0) → Type 0 → (S → List ℕ) → (S → ℕ) → (S → List ℕ) → ℕ → ℕ → List LegLine → Mixing DumpFault T → List (LegInlet S) → List (LegInlet S) → M → M → Type 0
+  PlainMixes mixes tells left faults name tick turns lines answer legs legs' m m' =
+      (s : Setup) (pts : ℕ → Pts) → mixes m s pts [] → s.legs ≡ length legs → StayAs s lines
+      → PlainMixed (Of mixes pts) tells left faults name s tick turns answer legs legs' m'

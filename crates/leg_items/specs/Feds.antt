@@ -1,7 +1,5 @@
 -- What a leg that is read by who mixes gave of its recording.
-use Rattle.std.specs.Prelude.{◌≡◌, ◌⊎◌, ◌<◌, ◌≤◌, ◌&&◌, ℕ, Bool, false, not, None, Result, Ok, Err, List, [], filter, if◌then◌else◌}
-use Rattle.file_spec.specs.declared.conf_lines.Stay.{Stay}
-use Rattle.file_spec.specs.Stays.{stays_at}
+use Rattle.std.specs.Prelude.{◌≡◌, ◌⊎◌, ◌<◌, ◌≤◌, ℕ, Bool, false, not, None, Result, Ok, Err, List, [], filter, if◌then◌else◌}
 use Rattle.wire_spec.specs.declared.faults.DumpKind.TheVariants.{Read}
 use Rattle.wire_spec.specs.Dump.{Recording}
 use Rattle.stream_spec.specs.Ready.{Chunk}
@@ -18,8 +16,6 @@ use Rattle.mix_loop.specs.declared.items.Item.{Item}
 use Rattle.mix_loop.specs.declared.items.Item.TheVariants as item
 use Rattle.mix_loop.specs.declared.items.Ended.{Ended}
 use Rattle.mix_loop.specs.declared.items.Ended.TheVariants.{Open, AtEnd, AtFault}
-use Rattle.mix_loop.specs.declared.ports.Seat.TheVariants.{Away}
-use Rattle.mix_loop.specs.declared.ports.Port.{Port}
 use Rattle.mix_loop.specs.Items.{Gave, is_open}
 use Rattle.leg_items.specs.declared.inlets.LegInlet.{LegInlet}
 
@@ -40,60 +36,45 @@ recording_asked a = recording_of (past_of a [])
 abbrev pub chunks_asked : Asked → List Chunk
 chunks_asked a = chunks_of (past_of a [])
 
--- a text counts that is no keep-alive and is ready within the stay
-abbrev pub counts : Stay → Chunk → Bool
-counts stay c = is_lively_chunk c && stays_at c.ready stay
+-- those of these chunks that are no keep-alives
+abbrev pub lively : List Chunk → List Chunk
+lively cs = filter is_lively_chunk cs
 
--- those of these chunks that count
-abbrev pub in_part : Stay → List Chunk → List Chunk
-in_part stay cs = filter (λ c. counts stay c) cs
-
--- what a text comes to that was heard: it is passed over where it does not count
-abbrev pub item_of_text : Stay → Chunk → Item
-item_of_text stay c = if counts stay c then item.Chunk else item.Later
+-- what a text comes to that was heard: a keep-alive is passed over
+abbrev pub item_of_text : Chunk → Item DumpFault
+item_of_text c = if is_lively_chunk c then item.Chunk else item.Later
 
 -- what an answer of a leg comes to, beside which this text was handed out
-abbrev pub item_for : Stay → Chunk → Result LegStep DumpFault → Item
-item_for stay c (Ok step.Chunk) = item_of_text stay c
-item_for stay c (Ok step.More) = item.Later
-item_for stay c (Ok step.End) = item.End
-item_for stay c (Err fault) = item.Fault fault
+abbrev pub item_for : Chunk → Result LegStep DumpFault → Item DumpFault
+item_for c (Ok step.Chunk) = item_of_text c
+item_for c (Ok step.More) = item.Later
+item_for c (Ok step.End) = item.End
+item_for c (Err fault) = item.Fault fault
 
 -- by how a leg's texts ended, a reading of its source failed
-abbrev pub is_source_fault : Ended → Bool
+abbrev pub is_source_fault : Ended DumpFault → Bool
 is_source_fault Open = false
 is_source_fault AtEnd = false
 is_source_fault (AtFault fault) = is_of_source fault.kind
 
 module _ {S : Type 0} where
-  -- a leg that gave these chunks, of those that count, by how they ended
-  abbrev pub GivesAs : (S → List ℕ) → Leg S → Stay → Asked → List Chunk → Ended → Type 0
-  GivesAs left leg stay a chunks Open = (heard : List Chunk) × Stands left leg (past_of a heard) × (chunks ≡ in_part stay heard)
-  GivesAs left leg stay a chunks AtEnd = (chunks ≡ in_part stay (chunks_asked a)) × ((recording_asked a).fault ≡ None)
-  GivesAs left leg stay a chunks (AtFault fault) = IsFaultOf (recording_asked a) fault
+  -- a leg that gave these chunks, those that are no keep-alives, by how they ended
+  abbrev pub GivesAs : (S → List ℕ) → Leg S → Asked → List Chunk → Ended DumpFault → Type 0
+  GivesAs left leg a chunks Open = (heard : List Chunk) × Stands left leg (past_of a heard) × (chunks ≡ lively heard)
+  GivesAs left leg a chunks AtEnd = (chunks ≡ lively (chunks_asked a)) × ((recording_asked a).fault ≡ None)
+  GivesAs left leg a chunks (AtFault fault) = IsFaultOf (recording_asked a) fault
 
   -- From `first` on, which gave nothing, this was given, and now it is `now`.
-  pub record Fed (tells : Type 0) (left : S → List ℕ) (faults : S → ℕ) (name : S → List ℕ) (first now : LegInlet S) (gave : Gave) : Type 0 where
-    pub stay : now.stay ≡ first.stay
+  pub record Fed (tells : Type 0) (left : S → List ℕ) (faults : S → ℕ) (name : S → List ℕ) (first now : LegInlet S) (gave : Gave DumpFault) : Type 0 where
     pub open_still : is_open gave.ended ≡ not (is_over now.leg)
-    pub gives : tells → (a : Asked) → Stands left first.leg (past_of a []) → GivesAs left now.leg now.stay a gave.chunks gave.ended
+    pub gives : tells → (a : Asked) → Stands left first.leg (past_of a []) → GivesAs left now.leg a gave.chunks gave.ended
     pub never_falls : faults (source_of first.leg) ≤ faults (source_of now.leg)
     pub read : (fault : DumpFault) → gave.ended ≡ AtFault fault → fault.kind ≡ Read → Rose (faults (source_of first.leg)) (faults (source_of now.leg))
     pub calm : is_source_fault gave.ended ≡ false → faults (source_of now.leg) ≡ faults (source_of first.leg)
     pub same_name : name (source_of now.leg) ≡ name (source_of first.leg)
 
-  -- A step of the leg that gave nothing that counts: a record was read, or a text was passed over that does not count.
+  -- A step of the leg that gave nothing: a record was read, or a keep-alive was passed over.
   abbrev pub GetsOn : Type 0 → (S → List ℕ) → LegInlet S → LegInlet S → Type 0
   GetsOn tells left old new =
       (unread new.leg < unread old.leg)
-      ⊎ ((c : Chunk) × (counts old.stay c ≡ false) × (tells → Follows left old.leg new.leg (Ok step.Chunk) c))
-
-  -- a port of this leg, which gave nothing yet
-  pub record IsNewLeg (leg : Leg S) (stay : Stay) (p : Port (LegInlet S)) : Type 0 where
-    pub leg_is : p.inlet.leg ≡ leg
-    pub stay_is : p.inlet.stay ≡ stay
-    pub stays : p.stay ≡ stay
-    pub empty : p.full ≡ false
-    pub open_still : p.ended ≡ Open
-    pub away : p.seat ≡ Away
-    pub not_over : is_over leg ≡ false
+      ⊎ ((c : Chunk) × (is_lively_chunk c ≡ false) × (tells → Follows left old.leg new.leg (Ok step.Chunk) c))

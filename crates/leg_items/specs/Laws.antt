@@ -1,11 +1,11 @@
 -- What is asked of the legs of a conference.
-use Rattle.std.specs.Prelude.{◌≡◌, ℕ, Some, List}
-use Rattle.file_spec.specs.declared.conf_lines.LegLine.{LegLine}
+use Rattle.std.specs.Prelude.{ℕ, List}
 use Rattle.file_spec.specs.Conf.{Conf}
-use Rattle.mixer_spec.specs.Setups.{leg_at, setup}
+use Rattle.mixer_spec.specs.Setups.{setup}
 use Rattle.mixer_spec.specs.Bridged.{leg_chunks}
 use Rattle.leg_items.specs.Feds.{Asked}
-use Rattle.leg_items.specs.Answers.{AreChunks, AreOfConf, IsStayOf}
+use Rattle.mix_loop.specs.Mixing.{StayAs}
+use Rattle.leg_items.specs.Answers.{AreChunks, AreOfConf}
 
 -- where each leg hears its stream in its input, the chunks that count are those that the conference mixes
 abbrev pub AskedAreMixed : Type 0
@@ -14,4 +14,4 @@ AskedAreMixed = (c : Conf) (inputs : ℕ → List ℕ) (asked : ℕ → Asked)
 
 -- each leg stays as its line says
 abbrev pub LegsStayAsTold : Type 0
-LegsStayAsTold = (c : Conf) (j : ℕ) (l : LegLine) → leg_at c.legs j ≡ Some l → IsStayOf (setup c) j l.stay
+LegsStayAsTold = (c : Conf) → StayAs (setup c) c.legs

@@ -1,3 +1,4 @@
 pub mod Feds
 pub mod Answers
 pub mod Laws
+pub mod Done

@@ -1,13 +1,12 @@
-//! Legs that are read by who mixes them, and plain mixing of recordings.
+//! Legs that are read by who mixes them, and what plain mixing of them comes to.
 #![tactic(auto)]
 
+mod giving;
 mod inlets;
 mod laws;
-mod plain;
 
-pub use inlets::{LegInlet, leg_port};
-pub use laws::conference_is_asked;
-pub use plain::mix_plain;
+pub use inlets::LegInlet;
+pub use laws::{conference_is_asked, done_is_all};
 
 #[cfg(test)]
 mod tests;

@@ -1,14 +1,17 @@
-ghost use Rattle.std.specs.Prelude.{◌≡◌, Bool, IfOk};
-ghost use Rattle.leg_core.specs.Gives.{is_over, place_of};
+ghost use Rattle.std.specs.Prelude.{◌≡◌, ◌≤◌, Bool, IfOk, length};
+ghost use Rattle.leg_core.specs.Gives.{is_over};
+ghost use Rattle.leg_items.specs.Answers.{AllNew};
 
-use crate::{leg_port, mix_plain};
+use crate::LegInlet;
 use ear::EarConf;
-use file_spec::Stay;
+use file_spec::{LegLine, Stay};
 use leg_core::Leg;
-use mix_loop::{Log, Mixes, Mixing};
-use rtt_base::{Bytes, Chunk, Full, NoMemory, Pts};
-use rtt_io::{SteadySource, StillGate};
+use mix_loop::{Mixed, Mixes, Mixing, Room, mix_inlets};
+use rtpdump_io::DumpFault;
+use rtt_base::{Bytes, Chunk, Full, Name, NoMemory, Path, Pts};
+use rtt_io::SteadySource;
 use std::alloc::Global;
+use std::sync::Wait;
 use std::test::Fail;
 
 // The line and the head of a recording.
@@ -56,11 +59,19 @@ impl Noting {
 }
 
 impl Mixes for Noting {
+    ghost use Rattle.std.specs.Prelude.{◌^◌};
+
+    type Fault = NoMemory;
+
     ghost stands = { λ m s pts calls. ⊥ };
 
     ghost legs = { λ m. m.legs };
 
     ghost turns = { λ m. m.turns };
+
+    ghost horizon = { 2 ^ 32 };
+
+    ghost unsent = { λ m why. Unit {0} };
 
     fn admit(&mut self, leg: usize, listens: bool) -> bool {
         self.note(Called::Admit(leg, listens));
@@ -81,7 +92,7 @@ impl Mixes for Noting {
         Ok(())
     }
 
-    fn turn(&mut self, now: u64, _log: &mut Log) -> Result<(), NoMemory> {
+    fn turn(&mut self, now: u64) -> Result<(), NoMemory> {
         self.note(Called::Turn(now));
         self.turns += 1;
         Ok(())
@@ -93,9 +104,8 @@ impl Mixes for Noting {
 }
 
 // A leg over the first of these records, and two others or one.
-fn ann(alloc: Global, place: u8, second: &[u8], last: &[u8]) -> Result<Leg<SteadySource>, NoMemory>
-    ensures open { IfOk result (λ leg. is_over leg ≡ Bool.false) }
-    ensures place { IfOk result (λ leg. place_of leg ≡ place) }
+fn ann(alloc: Global, second: &[u8], last: &[u8]) -> Result<LegInlet<SteadySource>, NoMemory>
+    ensures { IfOk result (λ inlet. is_over inlet.leg ≡ Bool.false) }
 {
     let mut recording = Bytes::new(alloc);
     recording.append(&OPENING)?;
@@ -103,41 +113,77 @@ fn ann(alloc: Global, place: u8, second: &[u8], last: &[u8]) -> Result<Leg<Stead
     recording.append(second)?;
     recording.append(last)?;
     let conf = EarConf {
-        place,
+        place: 0,
         ssrc: 1001,
         pts: Pts { t140: 98, red: 100 },
         wait: 1000,
     };
     match Leg::new(alloc, SteadySource::new(recording), conf) {
-        Ok(leg) => Ok(leg),
+        Ok(leg) => Ok(LegInlet { leg }),
         Err(_) => Err(NoMemory),
     }
+}
+
+// A leg that stays so long.
+fn line(alloc: Global, from: u32, until: Option<u32>) -> Result<LegLine, NoMemory> {
+    Ok(LegLine {
+        line: 0,
+        name: Name::new(),
+        aware: true,
+        ssrc: 1001,
+        input: Path::from_text(alloc, "ann.rtp")?,
+        output: Path::from_text(alloc, "to-ann.rtp")?,
+        pts: Pts { t140: 98, red: 100 },
+        gens: 2,
+        stay: Stay { from, until },
+    })
+}
+
+// How such a mixing ends, and the calls that it makes.
+#[derive(Drop)]
+struct Noted {
+    mixing: Mixing<DumpFault, NoMemory>,
+    calls: Vec<Called>,
+}
+
+// Mixes these, at 300 ms a turn.
+fn mix_noting<R: Wait>(
+    rt: &R,
+    alloc: Global,
+    inlets: Vec<LegInlet<SteadySource>>,
+    lines: &[LegLine],
+) -> Result<Noted, NoMemory>
+    requires lines { length inlets.items ≡ length lines.now }
+    requires few { length lines.now ≤ 64 }
+    requires new { AllNew inlets.items }
+{
+    let legs = inlets.len();
+    let room = Room::new(alloc, legs)?;
+    let mut mixer = Noting {
+        calls: Vec::new(alloc),
+        legs,
+        turns: 0,
+    };
+    let Mixed { mixing, inlets: _ } = mix_inlets(rt, inlets, lines, room, &mut mixer, 300, 20);
+    let Noting {
+        calls,
+        legs: _,
+        turns: _,
+    } = mixer;
+    Ok(Noted { mixing, calls })
 }
 
 #[test]
 fn legs_come_offer_and_go_at_their_moments(rt: HostRuntime) -> Result<(), Fail> {
     let alloc = rt.alloc();
-    let stays = Stay {
-        from: 0,
-        until: None,
-    };
-    let goes = Stay {
-        from: 200,
-        until: Some(800),
-    };
-    let talks = ann(alloc, 0, &SECOND, &SIXTH)?;
-    let visits = ann(alloc, 1, &SECOND, b"")?;
-    let first = leg_port(talks, stays);
-    let second = leg_port(visits, goes);
-    let mut ports = [first, second];
-    let mut mixer = Noting {
-        calls: Vec::new(alloc),
-        legs: 2,
-        turns: 0,
-    };
-    let mut log = Log::new(alloc, 2)?;
-    let mixing = mix_plain(&rt, &StillGate, &mut ports, &mut mixer, 300, 20, &mut log);
-    assert!(rt; mixing == Mixing::Over);
+    let talks = ann(alloc, &SECOND, &SIXTH)?;
+    let visits = ann(alloc, &SECOND, b"")?;
+    let lines = [line(alloc, 0, None)?, line(alloc, 200, Some(800))?];
+    let mut inlets = Vec::with_capacity(alloc, 2)?;
+    inlets.push_reserved(talks);
+    inlets.push_reserved(visits);
+    let noted = mix_noting(&rt, alloc, inlets, &lines)?;
+    assert!(rt; noted.mixing == Mixing::Over);
     let calls = [
         Called::Admit(0, true),
         Called::Offer(0, 0),
@@ -158,7 +204,7 @@ fn legs_come_offer_and_go_at_their_moments(rt: HostRuntime) -> Result<(), Fail> 
         Called::Offer(0, 2500),
         Called::Offer(0, 2500),
     ];
-    assert!(rt; mixer.calls.as_slice() == calls.as_slice());
+    assert!(rt; noted.calls.as_slice() == calls.as_slice());
     Ok(())
 }
 
@@ -166,21 +212,12 @@ fn legs_come_offer_and_go_at_their_moments(rt: HostRuntime) -> Result<(), Fail> 
 #[test]
 fn a_keep_alive_is_no_text(rt: HostRuntime) -> Result<(), Fail> {
     let alloc = rt.alloc();
-    let stays = Stay {
-        from: 0,
-        until: None,
-    };
-    let talks = ann(alloc, 0, &IDLE, &SIXTH)?;
-    let port = leg_port(talks, stays);
-    let mut ports = [port];
-    let mut mixer = Noting {
-        calls: Vec::new(alloc),
-        legs: 1,
-        turns: 0,
-    };
-    let mut log = Log::new(alloc, 1)?;
-    let mixing = mix_plain(&rt, &StillGate, &mut ports, &mut mixer, 300, 20, &mut log);
-    assert!(rt; mixing == Mixing::Over);
+    let talks = ann(alloc, &IDLE, &SIXTH)?;
+    let lines = [line(alloc, 0, None)?];
+    let mut inlets = Vec::with_capacity(alloc, 1)?;
+    inlets.push_reserved(talks);
+    let noted = mix_noting(&rt, alloc, inlets, &lines)?;
+    assert!(rt; noted.mixing == Mixing::Over);
     let calls = [
         Called::Admit(0, true),
         Called::Offer(0, 0),
@@ -196,6 +233,6 @@ fn a_keep_alive_is_no_text(rt: HostRuntime) -> Result<(), Fail> {
         Called::Offer(0, 2500),
         Called::Offer(0, 2500),
     ];
-    assert!(rt; mixer.calls.as_slice() == calls.as_slice());
+    assert!(rt; noted.calls.as_slice() == calls.as_slice());
     Ok(())
 }

@@ -1,3 +1,2 @@
-pub mod Matching
-pub mod Popping
-pub mod Mixing
+pub mod Reading
+pub mod Joining

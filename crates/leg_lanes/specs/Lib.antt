@@ -1,5 +1,2 @@
-pub mod Pairs
-pub mod Lent
-pub mod Runners
-pub mod Lanes
-pub mod Running
+pub mod Mixings
+pub mod Jobs

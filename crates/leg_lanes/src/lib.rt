@@ -1,14 +1,10 @@
-//! Legs that run on threads of their own, and plain mixing of recordings by them.
+//! Plain mixing of recordings, which are read on threads of their own, or by the caller.
 #![tactic(auto)]
 
-mod ends;
-mod inlets;
-mod lanes;
-mod lending;
+mod gates;
+mod jobs;
+mod readers;
 mod running;
-mod starting;
 
-pub use running::{Ran, mix_running};
-
-#[cfg(test)]
-mod tests;
+pub use readers::{Readers, mix_legs};
+pub use running::Ran;

@@ -11,7 +11,7 @@ use Rattle.mix_loop.specs.Mixers.{At}
 use Rattle.mix_loop.specs.Ports.{SeatAt, StaysAs, is_away, is_listening, is_hushed, is_to_stop, is_to_leave, is_spent, seat_with}
 use Rattle.mix_loop.proofs.Places.{listening_is, hushed_is, away_is, stopped_over, stopped_still, hushed_seat, departed_stays, departed_leaves, freed_seat, entered_still, entered_early, entered_comes, admitted_seat, admitted_still}
 
-module _ {I M : Type 0} (mixes : M → Setup → List Call → Type 0) (s : Setup) (i : ℕ) (table : Table) (p : Port I) (old new : M) (at_old : At mixes old s table) where
+module _ {I F M : Type 0} (mixes : M → Setup → List Call → Type 0) (s : Setup) (i : ℕ) (table : Table) (p : Port I F) (old new : M) (at_old : At mixes old s table) where
   -- ---- its stay is over
   pub stops : (t : ℕ) → StaysAs s i p → SeatAt table.seats i p.seat → is_to_stop t p ≡ true
       → ((s : Setup) (calls : List Call) → mixes old s calls → IsHush s i calls → mixes new s (Hush i ∷ calls))

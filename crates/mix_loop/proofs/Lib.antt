@@ -4,7 +4,8 @@ pub mod Leaving
 pub mod Offering
 pub mod Reaching
 pub mod Walking
-pub mod Logging
 pub mod Turning
 pub mod Finding
-pub mod Outs
+pub mod Opening
+pub mod Ending
+pub mod Answering

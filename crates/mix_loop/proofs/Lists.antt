@@ -1,5 +1,5 @@
 -- Elements of lists, and functions that are changed at one place.
-use Rattle.std.proofs.Common.{◌≡◌, ◌<◌, ◌≤◌, ℕ, zero, suc, Some, List, [], ◌∷◌, length, get_or, set, refl, ap, sym, ◌∙◌, inl, inr, ◌⊎◌, arith}
+use Rattle.std.proofs.Common.{◌≡◌, ◌<◌, ◌≤◌, ℕ, zero, suc, Some, List, [], ◌∷◌, ◌++◌, length, get_or, set, refl, ap, sym, ◌∙◌, inl, inr, ◌⊎◌, arith}
 use Rattle.std.specs.Prelude.{slice_get}
 use Rattle.std.proofs.lemmas.Bool.{cases_eq}
 use Rattle.std.proofs.lemmas.Bool.Decides.{leb_tells}
@@ -50,3 +50,15 @@ set_still f i x e = funext (set_at f i x) f (λ k. elim (cases_eq k i) [
   | inl same ↦ set_same f i x k same ∙ (sym e ∙ ap f (sym same))
   | inr other ↦ set_other f i x k other
 ])
+
+-- an element of a list, or the one behind it
+pub get_push : {X : Type 0} (xs : List X) (x y : X) (j : ℕ) → slice_get (xs ++ x ∷ []) j ≡ Some y → (slice_get xs j ≡ Some y) ⊎ ((j ≡ length xs) × (x ≡ y))
+get_push [] x y zero e = inr (refl, cc e)
+get_push [] x y (suc j) e = absurd (cc e)
+get_push (z ∷ xs) x y zero e = inl e
+get_push (z ∷ xs) x y (suc j) e = elim (get_push xs x y j e) [ inl g ↦ inl g | inr p ↦ inr (ap suc p.0, p.1) ]
+
+-- a list of no length
+pub no_element : {X : Type 0} (xs : List X) (n : ℕ) → length xs ≡ n → n ≡ 0 → xs ≡ []
+no_element [] n e z = refl
+no_element (x ∷ xs) n e z = absurd (omega arith)

@@ -1,9 +1,8 @@
 -- One port after the other: legs go, come, and offer.
-use Rattle.std.proofs.Common.{◌≡◌, ◌<◌, ◌+◌, ℕ, suc, Bool, true, false, cond, inl, inr, Some, None, Option, List, length, set, refl, ap, sym, subst, ◌∙◌, arith}
+use Rattle.std.proofs.Common.{◌≡◌, ◌<◌, ◌+◌, ℕ, suc, Bool, true, false, cond, inl, inr, Some, None, List, length, set, refl, ap, sym, subst, ◌∙◌, arith}
 use Rattle.std.specs.Prelude.{slice_get}
 use Rattle.std.proofs.lemmas.Bool.{cases_eq}
 use Rattle.file_spec.specs.declared.conf_lines.Stay.{Stay}
-use Rattle.stream_spec.specs.Ready.{Chunk}
 use Rattle.mixer_spec.specs.Setups.{Setup}
 use Rattle.mixer_spec.specs.Table.{Table, Call, departed, stopped, entered}
 use Rattle.mixer_spec.specs.Plain.{goes, goes_below, comes_below, offers, offers_below}
@@ -12,41 +11,38 @@ use Rattle.mix_loop.specs.declared.ports.Port.{Port}
 use Rattle.mix_loop.specs.Items.{Gave, is_open}
 use Rattle.mix_loop.specs.Mixers.{At}
 use Rattle.mix_loop.specs.Ports.{SeatAt, SeatsKept, StaysAs, OnlySeat, SameSeat, IsSound, Holds, Gathered, GatheredTo, hand_of, is_away, is_to_leave}
-use Rattle.mix_loop.specs.Turns.{Known, AreAt, KnownAt, IsNow, BecomesBy, GoesBy, OffersBy, Settled, comes}
+use Rattle.mix_loop.specs.Turns.{Known, AreSound, KnownAt, IsNow, BecomesBy, GoesBy, OffersBy, Settled, comes}
 use Rattle.mix_loop.proofs.Lists.{get_within, get_set_same, get_set_other}
 use Rattle.mix_loop.proofs.Places.{stopped_kept, departed_kept, entered_kept}
 use Rattle.mix_loop.proofs.Reaching.{seated, goes_one, comes_one, offers_one, settled_same, kept_more, no_others, becomes_none, becomes_more}
 
--- ---- places
-module _ {I : Type 0} (good : I → Type 0) (place : I → ℕ) where
-  pub at_set : (ps : List (Port I)) (i : ℕ) (q : Port I) → AreAt good place ps → i < length ps → place q.inlet ≡ i → IsSound good place q → AreAt good place (set ps i q)
-  at_set ps i q a low here sound j r e = elim (cases_eq j i) [
+-- ---- ports that are sound
+module _ {I F : Type 0} (good : I → Type 0) where
+  pub sound_set : (ps : List (Port I F)) (i : ℕ) (q : Port I F) → AreSound good ps → i < length ps → IsSound good i q → AreSound good (set ps i q)
+  sound_set ps i q a low sound j r e = elim (cases_eq j i) [
     | inl same ↦
         let same_port : Some q ≡ Some r = sym (get_set_same ps i q low) ∙ (ap (slice_get (set ps i q)) (sym same) ∙ e) in
         let is : q ≡ r = cc same_port in
-        subst (λ (v : ℕ × Port I). (place v.1.inlet ≡ v.0) × IsSound good place v.1) (λ ι. (sym same ι, is ι)) (here, sound)
+        subst (λ (v : ℕ × Port I F). IsSound good v.0 v.1) (λ ι. (sym same ι, is ι)) sound
     | inr other ↦ a j r (sym (get_set_other ps i q j other) ∙ e)
   ]
 
   -- a port whose seat alone is another
-  pub at_seat : (ps : List (Port I)) (i : ℕ) (p q : Port I) → AreAt good place ps → slice_get ps i ≡ Some p → OnlySeat p q → AreAt good place (set ps i q)
-  at_seat ps i p q a e only =
-      let low = get_within ps i p e in
+  pub sound_seat : (ps : List (Port I F)) (i : ℕ) (p q : Port I F) → AreSound good ps → slice_get ps i ≡ Some p → OnlySeat p q → AreSound good (set ps i q)
+  sound_seat ps i p q a e only =
       let r = a i p e in
-      let both : (place q.inlet ≡ i) × IsSound good place q =
-      subst (λ (x : Port I). (place x.inlet ≡ i) × IsSound good place x) (sym only) (r.0, record { asked = r.1.asked; hand = r.1.hand }) in
-      at_set ps i q a low both.0 both.1
+      sound_set ps i q a (get_within ps i p e) (subst (λ (x : Port I F). IsSound good i x) (sym only) (record { asked = r.asked; hand = r.hand }))
 
-pub only_more : {I : Type 0} (p q r : Port I) → OnlySeat p q → OnlySeat q r → OnlySeat p r
-only_more {I} p q r a b = b ∙ ap (λ (x : Port I). record x { seat = r.seat }) a
+pub only_more : {I F : Type 0} (p q r : Port I F) → OnlySeat p q → OnlySeat q r → OnlySeat p r
+only_more {I} {F} p q r a b = b ∙ ap (λ (x : Port I F). record x { seat = r.seat }) a
 
-module _ {I M : Type 0} (stands : I → I → Gave → Type 0) (mixes : M → Setup → List Call → Type 0) (s : Setup) (firsts : List I) (kn : ℕ → Known) (table : Table) (t : ℕ) where
+module _ {I F M : Type 0} (stands : I → I → Gave F → Type 0) (mixes : M → Setup → List Call → Type 0) (s : Setup) (firsts : List I) (kn : ℕ → Known F) (table : Table) (t : ℕ) where
   -- what is known of a port whose seat is another
-  seat_known : (i : ℕ) (p q : Port I) (k : Known) → KnownAt stands s firsts i p k → OnlySeat p q → KnownAt stands s firsts i q (seated k q.seat)
-  seat_known i p q k h only = subst (λ (x : Port I). KnownAt stands s firsts i x (seated k q.seat)) (sym only) (record {
+  seat_known : (i : ℕ) (p q : Port I F) (k : Known F) → KnownAt stands s firsts i p k → OnlySeat p q → KnownAt stands s firsts i q (seated k q.seat)
+  seat_known i p q k h only = subst (λ (x : Port I F). KnownAt stands s firsts i x (seated k q.seat)) (sym only) (record {
     first = h.first;
     of = h.of;
-    holds = record { gives = h.holds.gives; ended = h.holds.ended };
+    holds = record { whole = h.holds.whole; gives = h.holds.gives; is = h.holds.is; ended = h.holds.ended };
     hand = h.hand;
     seat = refl;
     stays = record { from = h.stays.from; until = h.stays.until };
@@ -56,10 +52,10 @@ module _ {I M : Type 0} (stands : I → I → Gave → Type 0) (mixes : M → Se
   cond_kept i u true = departed_kept s i u
   cond_kept i u false = no_others i u.seats u.seats refl
 
-  pub go_none : (ps : List (Port I)) (m : M) → IsNow stands mixes s firsts kn table ps m → Settled kn → GoesBy stands mixes s firsts (goes_below s t 0) kn table ps m
+  pub go_none : (ps : List (Port I F)) (m : M) → IsNow stands mixes s firsts kn table ps m → Settled kn → GoesBy stands mixes s firsts (goes_below s t 0) kn table ps m
   go_none ps m n settled = record { becomes = becomes_none stands s firsts mixes kn table ps m n; settled = settled }
 
-  module _ (i : ℕ) (ps : List (Port I)) (m : M) (p q r : Port I) (m1 m2 : M) (at : slice_get ps i ≡ Some p) where
+  module _ (i : ℕ) (ps : List (Port I F)) (m : M) (p q r : Port I F) (m1 m2 : M) (at : slice_get ps i ≡ Some p) where
     low : i < length ps
     low = get_within ps i p at
 
@@ -87,7 +83,7 @@ module _ {I M : Type 0} (stands : I → I → Gave → Type 0) (mixes : M → Se
               (seat_known i p r x k (only_more p q r only only'))
               (kept_more i before.seats u.seats after.seats (stopped_kept s i t before) (cond_kept i u (is_to_leave q)))
               lv.1 lv.0
-              (goes_one b.becomes.kn' i r.seat s t before q b.settled (ap hand_of only ∙ k.hand) (ap (λ (y : Port I). y.ended) only ∙ k.holds.ended) same_away st.1);
+              (goes_one b.becomes.kn' i r.seat s t before q b.settled (ap hand_of only ∙ k.hand) (ap (λ (y : Port I F). y.ended) only ∙ k.holds.ended) same_away st.1);
           settled = settled_same b.becomes.kn' i r.seat b.settled (away' ∙ same_away);
         })
 
@@ -107,19 +103,19 @@ module _ {I M : Type 0} (stands : I → I → Gave → Type 0) (mixes : M → Se
         (becomes_more stands s firsts mixes (comes_below s t i) (comes s t i) kn table ps m m2 i r b (seated x r.seat) (entered s i t b.table') low
         (seat_known i p r x k only) (entered_kept s i t b.table') c.1 c.0 (comes_one b.kn' i r.seat s t b.table'))
 
-    pub offer_more : OffersBy stands mixes s firsts i (offers_below s t i) kn table ps m → SameSeat p r → (leg : ℕ) → leg ≡ i
-        → ((s : Setup) (table : Table) (first : I) (gave : Gave) → Holds stands first p gave → At mixes m s table → GatheredTo stands mixes s leg t first gave (hand_of p) table r m2)
+    pub offer_more : OffersBy stands mixes s firsts i (offers_below s t i) kn table ps m → SameSeat p r
+        → ((s : Setup) (table : Table) (first : I) (gave : Gave F) → Holds stands i first p gave → At mixes m s table → GatheredTo stands mixes s i t first gave (hand_of p) table r m2)
         → OffersBy stands mixes s firsts (i + 1) (offers_below s t (i + 1)) kn table (set ps i r) m2
-    offer_more b same leg is gathers =
+    offer_more b same gathers =
         let n = b.becomes.now in
         let before = b.becomes.table' in
         let x = b.becomes.kn' i in
         let k = n.known i p at in
         let below : i < s.legs = (let e = n.legs in let l = low in omega (arith, e, l)) in
         let g = gathers s before k.first x.gave k.holds n.mixed in
-        let y : Known = record { gave = g.gave'; hand = hand_of r; seat = x.seat } in
+        let y : Known F = record { gave = g.gave'; hand = hand_of r; seat = x.seat } in
         let gathered : Gathered s i t x.gave x.hand before y.gave y.hand g.table' =
-        subst (λ (v : ℕ × Option Chunk). Gathered s v.0 t x.gave v.1 before y.gave y.hand g.table') (λ ι. (is ι, k.hand ι)) g.gathered in
+        subst (λ h. Gathered s i t x.gave h before y.gave y.hand g.table') k.hand g.gathered in
         let seat : SeatAt g.table'.seats i x.seat = subst (λ z. SeatAt z i x.seat) (sym gathered.seats) (n.seats i below) in
         let more : suc i ≡ i + 1 = omega arith in
         let known : KnownAt stands s firsts i r y = record {
@@ -135,7 +131,7 @@ module _ {I M : Type 0} (stands : I → I → Gave → Type 0) (mixes : M → Se
           becomes = becomes_more stands s firsts mixes (offers_below s t i) (offers s t i) kn table ps m m2 i r b.becomes y g.table' low known
               (no_others i before.seats g.table'.seats gathered.seats) seat g.mixed (offers_one s t i b.becomes.kn' y before g.table' gathered);
           settled = λ j less. elim (cases_eq j i) [
-            | inl here ↦ subst (λ (z : Known). z.hand ≡ None → is_open z.gave.ended ≡ false) (sym (set_same b.becomes.kn' i y j here)) gathered.settled
-            | inr other ↦ subst (λ (z : Known). z.hand ≡ None → is_open z.gave.ended ≡ false) (sym (set_other b.becomes.kn' i y j other)) (b.settled j (still j other less))
+            | inl here ↦ subst (λ (z : Known F). z.hand ≡ None → is_open z.gave.ended ≡ false) (sym (set_same b.becomes.kn' i y j here)) gathered.settled
+            | inr other ↦ subst (λ (z : Known F). z.hand ≡ None → is_open z.gave.ended ≡ false) (sym (set_other b.becomes.kn' i y j other)) (b.settled j (still j other less))
           ];
         })

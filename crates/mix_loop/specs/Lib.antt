@@ -1,6 +1,9 @@
 pub mod Items
-pub mod Logs
 pub mod Mixers
 pub mod Ports
 pub mod Steps
 pub mod Turns
+pub mod Mixing
+pub mod Texts
+pub mod Answers
+pub mod Lanes

@@ -1,11 +1,10 @@
 -- A mixer, by its table.
-use Rattle.std.specs.Prelude.{◌≡◌, ℕ, Bool, is_some, List, ◌∷◌}
+use Rattle.std.specs.Prelude.{◌≡◌, ◌<◌, ◌*◌, ℕ, Bool, is_some, List, ◌∷◌}
 use Rattle.rtt_base.specs.declared.text_packets.Pts.{Pts}
 use Rattle.mixer_spec.specs.Setups.{Setup}
 use Rattle.mixer_spec.specs.Table.{Table, Call, Admit, Hush, Leave, Offer, Turn, after_calls, free_place, may_leave, has_room, is_idle}
 use Rattle.mixer_spec.specs.Calls.{IsAdmit, IsHush}
 use Rattle.stream_spec.specs.Ready.{Chunk}
-use Rattle.mix_loop.specs.Logs.{LogsTurn}
 
 module _ {M : Type 0} where
   -- it has as many legs, and made no turn
@@ -49,10 +48,10 @@ module _ {M : Type 0} (stands : M → Setup → (ℕ → Pts) → List Call → 
   abbrev pub Turns : M → M → ℕ → Type 0
   Turns old new now = (s : Setup) (pts : ℕ → Pts) (calls : List Call) → stands old s pts calls → stands new s pts (Turn now ∷ calls)
 
-  -- what it sends was appended
-  abbrev pub Logs : M → ℕ → List (List ℕ) → List (List ℕ) → Type 0
-  Logs old now before after = (s : Setup) (pts : ℕ → Pts) (calls : List Call) → stands old s pts calls → LogsTurn pts s now (after_calls s calls) before after
-
   -- whether its table is idle
   abbrev pub TellsIdle : M → Bool → Type 0
   TellsIdle m idle = (s : Setup) (pts : ℕ → Pts) (calls : List Call) → stands m s pts calls → idle ≡ is_idle s (after_calls s calls)
+
+-- so many turns, one each tick, come before this moment
+abbrev pub ComeBefore : ℕ → ℕ → ℕ → Type 0
+ComeBefore moment tick turns = (k : ℕ) → k < turns → k * tick < moment

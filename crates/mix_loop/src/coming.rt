@@ -4,10 +4,10 @@ ghost use Rattle.mix_loop.specs.Mixers.{Keeps};
 ghost use Rattle.mix_loop.specs.Ports.{OnlySeat, is_away};
 ghost use Rattle.mix_loop.specs.Steps.{Departed, Entered, Stopped};
 
-use crate::Mixes;
 use crate::ports::{Port, Seat, has_begun, is_before_end, seat_with};
+use crate::{Inlet, Mixes};
 
-impl<I> Port<I> {
+impl<I: Inlet> Port<I> {
     /// Ends the listening of the leg, where its stay is over at the moment `now`.
     pub(crate) fn stop<M: Mixes>(&mut self, mixer: &mut M, leg: usize, now: u64)
         requires { leg < M.legs mixer.old }
@@ -50,10 +50,10 @@ impl<I> Port<I> {
         if !self.seat.is_away() {
             return;
         }
-        if !has_begun(now, self.stay.from) {
+        if !has_begun(self.stay, now) {
             return;
         }
-        let listens = is_before_end(now, self.stay.until);
+        let listens = is_before_end(self.stay, now);
         if !mixer.admit(leg, listens) {
             return;
         }

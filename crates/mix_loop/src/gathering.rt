@@ -6,10 +6,9 @@ ghost use Rattle.mix_loop.specs.Mixers.{Keeps};
 ghost use Rattle.mix_loop.specs.Ports.{OnlyHand, SameSeat, IsSound};
 ghost use Rattle.mix_loop.specs.Steps.{Drained, Offered, Pulled, Took};
 
-use crate::ports::Port;
+use crate::ports::{Port, counts};
 use crate::{Inlet, Mixes};
 use rtt_base::Chunk;
-use rtt_io::Gate;
 use std::sync::Wait;
 
 /// Whether a text may be mixed at the moment `now`.
@@ -33,18 +32,20 @@ fn take<M: Mixes>(mixer: &mut M, chunk: &Chunk, now: u64) -> bool
 }
 
 impl<I: Inlet> Port<I> {
-    /// Asks for the next text, with an empty hand.
-    fn pull<R: Wait, G: Gate>(&mut self, rt: &R, gate: &G)
+    /// Asks for the next text, with an empty hand. It becomes one of the leg with this number, and is passed over where it is not
+    /// ready within the leg's stay.
+    fn pull<R: Wait>(&mut self, rt: &R, leg: usize)
+        requires leg { leg < 256 }
         requires open { is_open self.old.ended ≡ true }
         requires empty { self.old.full ≡ false }
-        requires sound { IsSound I.good I.place self.old }
-        ensures sound { IsSound I.good I.place self.new }
-        ensures place { I.place self.new.inlet ≡ I.place self.old.inlet }
+        requires sound { IsSound I.good leg self.old }
+        ensures sound { IsSound I.good leg self.new }
         ensures same { SameSeat self.old self.new }
-        ensures pulled { Pulled I.stands self.old self.new }
+        ensures pulled { Pulled I.stands leg self.old self.new }
     {
-        let item = self.inlet.next(rt, gate, &mut self.hand);
-        self.full = item.is_chunk();
+        let item = self.inlet.next(rt, &mut self.hand);
+        self.hand.source = leg as u8;
+        self.full = counts(&item, &self.hand, self.stay);
         self.ended = item.ended();
     }
 
@@ -62,28 +63,22 @@ impl<I: Inlet> Port<I> {
         taken
     }
 
-    /// Offers what comes until a text is not taken, or nothing comes any more.
-    pub(crate) fn gather<R: Wait, G: Gate, M: Mixes>(
-        &mut self,
-        rt: &R,
-        gate: &G,
-        mixer: &mut M,
-        now: u64,
-    )
-        requires leg { I.place self.old.inlet < M.legs mixer.old }
-        requires sound { IsSound I.good I.place self.old }
-        ensures sound { IsSound I.good I.place self.new }
-        ensures place { I.place self.new.inlet ≡ I.place self.old.inlet }
+    /// Offers what comes of the leg with this number, until a text is not taken, or nothing comes any more.
+    pub(crate) fn gather<R: Wait, M: Mixes>(&mut self, rt: &R, mixer: &mut M, leg: usize, now: u64)
+        requires few { leg < 256 }
+        requires leg { leg < M.legs mixer.old }
+        requires sound { IsSound I.good leg self.old }
+        ensures sound { IsSound I.good leg self.new }
         ensures same { SameSeat self.old self.new }
         ensures keeps { Keeps M.legs M.turns mixer.old mixer.new }
-        ensures gathered { Offered I.stands M.stands (I.place self.old.inlet) now self.old self.new mixer.old mixer.new }
+        ensures gathered { Offered I.stands M.stands leg now self.old self.new mixer.old mixer.new }
     {
         for _ in rt.forever() {
             if !self.full {
                 if !self.ended.is_open() {
                     return;
                 }
-                self.pull(rt, gate);
+                self.pull(rt, leg);
                 continue;
             }
             if !self.offer(mixer, now) {
@@ -94,20 +89,20 @@ impl<I: Inlet> Port<I> {
     }
 
     /// Lets go what comes until nothing comes any more.
-    pub(crate) fn drain<R: Wait, G: Gate>(&mut self, rt: &R, gate: &G)
-        requires sound { IsSound I.good I.place self.old }
-        ensures sound { IsSound I.good I.place self.new }
-        ensures place { I.place self.new.inlet ≡ I.place self.old.inlet }
+    pub(crate) fn drain<R: Wait>(&mut self, rt: &R, leg: usize)
+        requires few { leg < 256 }
+        requires sound { IsSound I.good leg self.old }
+        ensures sound { IsSound I.good leg self.new }
         ensures same { SameSeat self.old self.new }
         ensures closed { is_open self.new.ended ≡ false }
-        ensures drained { Drained I.stands self.old self.new }
+        ensures drained { Drained I.stands leg self.old self.new }
     {
         for _ in rt.forever() {
             if !self.ended.is_open() {
                 return;
             }
             self.full = false;
-            self.pull(rt, gate);
+            self.pull(rt, leg);
         }
         unreachable!()
     }

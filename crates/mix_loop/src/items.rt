@@ -1,34 +1,51 @@
 //! What a leg gives.
 ghost use Rattle.std.specs.Prelude.{◌≡◌};
-ghost use Rattle.mix_loop.specs.Items.{is_open, is_fault, fault_in};
-
-use rtpdump_io::DumpFault;
+ghost use Rattle.mix_loop.specs.Items.{ended_by, fault_in, is_chunk, is_fault, is_open};
 
 /// What a leg answers where it is asked for its next text.
 #[derive(Clone, Copy, Debug, PartialEq, Eq)]
-pub enum Item {
+pub enum Item<F> {
     /// The next text, which is handed out beside it.
     Chunk,
     /// Nothing is there yet.
     Later,
-    /// The recording was read to its end.
+    /// There is no more.
     End,
-    /// The recording can't be read further.
-    Fault(DumpFault),
+    /// It can give no more.
+    Fault(F),
+}
+
+impl<F: Copy> Item<F> {
+    pub(crate) fn is_chunk(&self) -> bool
+        ensures { result ≡ is_chunk self.now }
+    {
+        matches!(self, Item::Chunk)
+    }
+
+    /// How a leg's texts ended with this answer.
+    pub(crate) fn ended(&self) -> Ended<F>
+        ensures { result ≡ ended_by self.now }
+    {
+        match self {
+            Item::Chunk | Item::Later => Ended::Open,
+            Item::End => Ended::AtEnd,
+            Item::Fault(fault) => Ended::AtFault(*fault),
+        }
+    }
 }
 
 /// How a leg's texts ended.
 #[derive(Clone, Copy, Debug, PartialEq, Eq)]
-pub enum Ended {
+pub enum Ended<F> {
     /// There may be more.
     Open,
-    /// At the end of the recording.
+    /// There is no more.
     AtEnd,
     /// At a fault.
-    AtFault(DumpFault),
+    AtFault(F),
 }
 
-impl Ended {
+impl<F: Copy> Ended<F> {
     /// Whether there may be more.
     pub fn is_open(&self) -> bool
         ensures { result ≡ is_open self.now }
@@ -44,7 +61,7 @@ impl Ended {
     }
 
     /// The fault, if it was at one.
-    pub fn fault(&self) -> Option<DumpFault>
+    pub fn fault(&self) -> Option<F>
         ensures { result ≡ fault_in self.now }
     {
         match self {

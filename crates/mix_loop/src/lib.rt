@@ -1,19 +1,23 @@
-//! Plain mixing on one thread, over ports: a port is where a leg's texts come from, with a hand for one of them. What is
-//! proved holds of each kind of inlet alike.
+//! Plain mixing on one thread, of what inlets give: an inlet is where a leg's texts come from. What is proved holds of each kind
+//! of inlet alike, and of each kind of mixer.
 #![tactic(auto)]
 
+mod answers;
+mod asking;
 mod coming;
 mod gathering;
 mod inlets;
 mod items;
-mod logs;
+mod lanes;
 mod mixers;
+mod mixing;
 mod ports;
 mod turns;
 
+pub use answers::Answer;
+pub use asking::ask;
 pub use inlets::Inlet;
 pub use items::{Ended, Item};
-pub use logs::Log;
 pub use mixers::Mixes;
-pub use ports::{Port, Seat, has_begun, is_before_end};
-pub use turns::{Mixing, mix_ports};
+pub use mixing::{Mixed, Room, mix_inlets};
+pub use turns::Mixing;

@@ -1,18 +1,21 @@
 //! The mixer, by its calls.
-ghost use Rattle.std.specs.Prelude.{◌≡◌, ℕ, ◌+◌, ◌<◌, ◌^◌, List, length, is_ok, OnOk};
+ghost use Rattle.std.specs.Prelude.{◌≡◌, ℕ, ◌+◌, ◌<◌, List, is_ok, OnOk, IfErr};
 ghost use Rattle.rtt_base.specs.declared.text_packets.Pts.{Pts};
 ghost use Rattle.stream_spec.specs.Ready.{chunk_of};
 ghost use Rattle.mixer_spec.specs.Setups.{Setup};
 ghost use Rattle.mixer_spec.specs.Table.{Call};
 ghost use Rattle.mix_loop.specs.Items.{IsOf};
-ghost use Rattle.mix_loop.specs.Mixers.{Keeps, Admits, Hushes, Leaves, Offers, Turns, Logs, TellsIdle};
+ghost use Rattle.mix_loop.specs.Mixers.{Keeps, Admits, Hushes, Leaves, Offers, Turns, TellsIdle};
 
-use crate::Log;
-use rtt_base::{Chunk, Full, NoMemory};
+use rtt_base::{Chunk, Full};
 
-/// A mixer, which stands for the calls that were made of it.
+/// A mixer, which stands for the calls that were made of it. Where it sends what a turn sends is its own matter.
 pub trait Mixes {
-    /// In a conference of this setup, with these payload types at its terminals, these calls were made, newest first.
+    /// Why what a turn sends could not be sent.
+    type Fault: Copy;
+
+    /// In a conference of this setup, with these payload types at its terminals, these calls were made, newest first, and all
+    /// that they send was sent.
     ghost stands: { Self → Setup → (ℕ → Pts) → List Call → Type 0 };
 
     /// How many legs there are.
@@ -20,6 +23,12 @@ pub trait Mixes {
 
     /// How many turns were made.
     ghost turns: { Self → ℕ };
+
+    /// Turns come before this moment, in milliseconds.
+    ghost horizon: { ℕ };
+
+    /// In this state it could not send, for this reason.
+    ghost unsent: { Self → Self.Fault → Type 0 };
 
     /// A leg that never came comes to the lowest free place, where there is one, as is answered.
     fn admit(&mut self, leg: usize, listens: bool) -> bool
@@ -46,14 +55,12 @@ pub trait Mixes {
         ensures offered { Offers stands self.old self.new (chunk_of chunk.now) (is_ok result) }
         ensures keeps { Keeps legs turns self.old self.new };
 
-    /// Makes a turn at the moment `now` (milliseconds), and appends what is sent to each terminal.
-    fn turn(&mut self, now: u64, log: &mut Log) -> Result<(), NoMemory>
+    /// Makes a turn at the moment `now` (milliseconds), and sends what it sends. Behind a fault it makes no more.
+    fn turn(&mut self, now: u64) -> Result<(), Self::Fault>
         requires few { turns self.old < 5000000 }
-        requires now { now < 2 ^ 32 }
-        requires terminals { length log.old ≡ legs self.old }
-        ensures turned { Turns stands self.old self.new now }
-        ensures logged { OnOk result (Logs stands self.old now log.old log.new) }
-        ensures terminals { length log.new ≡ length log.old }
+        requires now { now < horizon }
+        ensures turned { OnOk result (Turns stands self.old self.new now) }
+        ensures unsent { IfErr result (unsent self.new) }
         ensures legs { legs self.new ≡ legs self.old }
         ensures turns { turns self.new ≡ turns self.old + 1 };
 

@@ -1,16 +1,17 @@
 //! One leg at the mixer.
-ghost use Rattle.std.specs.Prelude.{◌≡◌, nat_le};
+ghost use Rattle.std.specs.Prelude.{◌≡◌, ◌≤◌, [], length, map, nat_le, vec_len};
+ghost use Rattle.std.specs.Vec.{vec_capacity};
+ghost use Rattle.stream_spec.specs.Ready.{chunk_of};
 ghost use Rattle.mixer_spec.specs.Setups.{is_before_end};
-ghost use Rattle.mix_loop.specs.Items.{is_open};
-ghost use Rattle.mix_loop.specs.Ports.{IsNew, is_away, is_chunk, is_spent, is_to_leave, is_to_stop, ended_by, seat_with};
+ghost use Rattle.mix_loop.specs.Ports.{AreNew, IsNew, counts, is_away, is_spent, is_to_leave, is_to_stop, seat_with};
 
-use crate::{Ended, Item};
-use file_spec::Stay;
+use crate::{Ended, Inlet, Item};
+use file_spec::{LegLine, Stay};
 use rtt_base::Chunk;
 
 /// Whether a leg holds a place at the mixer.
 #[derive(Clone, Copy, Debug, PartialEq, Eq)]
-pub enum Seat {
+pub(crate) enum Seat {
     /// It did not come yet.
     Away,
     /// It holds a place, and listens.
@@ -23,19 +24,19 @@ pub enum Seat {
 
 /// A leg on its way to the mixer: where its texts come from, with a hand for one of them, and when it stays.
 #[derive(Drop)]
-pub struct Port<I> {
+pub(crate) struct Port<I: Inlet> {
     pub(crate) inlet: I,
     pub(crate) hand: Chunk,
     /// Whether a text is in hand.
     pub(crate) full: bool,
-    pub(crate) ended: Ended,
+    pub(crate) ended: Ended<I::Fault>,
     pub(crate) stay: Stay,
     pub(crate) seat: Seat,
 }
 
-impl<I> Port<I> {
+impl<I: Inlet> Port<I> {
     /// A port to which nothing came yet, of a leg that stays so long.
-    pub fn new(inlet: I, stay: Stay) -> Port<I>
+    pub(crate) fn new(inlet: I, stay: Stay) -> Port<I>
         ensures { IsNew inlet stay result }
     {
         Port {
@@ -49,7 +50,7 @@ impl<I> Port<I> {
     }
 
     /// Where its texts come from.
-    pub fn into_inlet(self) -> I
+    pub(crate) fn into_inlet(self) -> I
         ensures { result ≡ self.inlet }
     {
         let Port {
@@ -67,7 +68,7 @@ impl<I> Port<I> {
     pub(crate) fn is_to_stop(&self, now: u64) -> bool
         ensures { result ≡ is_to_stop now self.now }
     {
-        matches!(self.seat, Seat::Listens) && !is_before_end(now, self.stay.until)
+        matches!(self.seat, Seat::Listens) && !is_before_end(self.stay, now)
     }
 
     /// Whether it listens no more, and has nothing left to offer.
@@ -84,21 +85,28 @@ impl<I> Port<I> {
     }
 }
 
-/// Whether the moment (milliseconds) is before this end, if there is one.
-pub fn is_before_end(now: u64, end: Option<u32>) -> bool
-    ensures { result ≡ is_before_end now end }
+/// Whether a text was handed out beside this answer, and is ready within the stay.
+pub(crate) fn counts<F: Copy>(item: &Item<F>, chunk: &Chunk, stay: Stay) -> bool
+    ensures { result ≡ counts item.now (chunk_of chunk.now) stay }
 {
-    match end {
-        Some(end) => now < u64::from(end),
-        None => true,
-    }
+    item.is_chunk() && stay.contains(chunk.ready)
 }
 
-/// Whether the moment (milliseconds) is not before this beginning.
-pub fn has_begun(now: u64, from: u32) -> bool
-    ensures { result ≡ nat_le from now }
+/// Whether the stay has begun at this moment, in milliseconds.
+pub(crate) fn has_begun(stay: Stay, moment: u64) -> bool
+    ensures { result ≡ nat_le stay.from moment }
 {
-    u64::from(from) <= now
+    u64::from(stay.from) <= moment
+}
+
+/// Whether this moment, in milliseconds, is before the end of the stay, if it has one.
+pub(crate) fn is_before_end(stay: Stay, moment: u64) -> bool
+    ensures { result ≡ is_before_end moment stay.until }
+{
+    match stay.until {
+        Some(until) => moment < u64::from(until),
+        None => true,
+    }
 }
 
 /// The seat of a leg that came.
@@ -116,21 +124,38 @@ impl Seat {
     }
 }
 
-impl Item {
-    pub(crate) fn is_chunk(&self) -> bool
-        ensures { result ≡ is_chunk self.now }
-    {
-        matches!(self, Item::Chunk)
+/// The ports of these legs, to which nothing came yet: what is `inlets[k]` stays as long as `legs[k]` says. There is room for
+/// them.
+pub(crate) fn ports_over<I: Inlet>(
+    inlets: Vec<I>,
+    legs: &[LegLine],
+    mut ports: Vec<Port<I>>,
+) -> Vec<Port<I>>
+    requires legs { vec_len inlets ≡ length legs.now }
+    requires none { ports.items ≡ [] }
+    requires room { vec_len inlets ≤ vec_capacity ports }
+    ensures { AreNew inlets.items legs.now result.items }
+{
+    let mut rest = inlets.into_iter();
+    while let Some(inlet) = rest.next() {
+        let count = ports.len();
+        let leg = &legs[count];
+        ports.push_reserved(Port::new(inlet, leg.stay));
     }
+    rest.destroy_empty();
+    ports
+}
 
-    /// How a leg's texts ended with this answer.
-    pub(crate) fn ended(&self) -> Ended
-        ensures { result ≡ ended_by self.now }
-    {
-        match self {
-            Item::Chunk | Item::Later => Ended::Open,
-            Item::End => Ended::AtEnd,
-            Item::Fault(fault) => Ended::AtFault(*fault),
-        }
+/// Where the texts of these legs come from. There is room for them.
+pub(crate) fn inlets_of<I: Inlet>(ports: Vec<Port<I>>, mut inlets: Vec<I>) -> Vec<I>
+    requires none { inlets.items ≡ [] }
+    requires room { vec_len ports ≤ vec_capacity inlets }
+    ensures { result.items ≡ map (λ p. p.inlet) ports.items }
+{
+    let mut rest = ports.into_iter();
+    while let Some(port) = rest.next() {
+        inlets.push_reserved(port.into_inlet());
     }
+    rest.destroy_empty();
+    inlets
 }

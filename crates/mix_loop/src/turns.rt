@@ -2,27 +2,25 @@
 ghost use Rattle.std.specs.Prelude.{◌≡◌, ◌*◌, ◌<◌, ◌≤◌, length, MatchOption};
 ghost use Rattle.std.specs.List.{list_any};
 ghost use Rattle.mix_loop.specs.Items.{is_fault, fault_in};
-ghost use Rattle.mix_loop.specs.Mixers.{Keeps};
+ghost use Rattle.mix_loop.specs.Mixers.{ComeBefore, Keeps};
 ghost use Rattle.mix_loop.specs.Steps.{AllCame, AllDrained, AllOffered, AllSettled, AllTurned, AllWent, TellsOver, are_empty};
-ghost use Rattle.mix_loop.specs.Turns.{AreAt, IsLowestAt, Mixed, NoFaultBelow, ended_at, mixing_of};
+ghost use Rattle.mix_loop.specs.Turns.{AreSound, IsLowestAt, IsMixing, IsUnsent, NoFaultBelow, WasStopped, ended_at, mixing_of};
 
 use crate::ports::Port;
-use crate::{Inlet, Log, Mixes};
-use rtpdump_io::DumpFault;
-use rtt_io::Gate;
+use crate::{Inlet, Mixes};
 use std::sync::Wait;
 
 /// How a mixing ended.
 #[derive(Clone, Copy, Debug, PartialEq, Eq)]
-pub enum Mixing {
+pub enum Mixing<F, T> {
     /// Nothing is left.
     Over,
     /// Something is left after the last turn.
     TooLong,
     /// This leg, the lowest of those that have a fault, can't be read further.
-    Faulted { leg: u8, fault: DumpFault },
-    /// Memory ran out.
-    NoMemory,
+    Faulted { leg: u8, fault: F },
+    /// What a turn sends could not be sent, for this reason.
+    Stopped(T),
 }
 
 /// What is found before a turn.
@@ -38,18 +36,18 @@ pub(crate) enum Before {
 
 /// How the turns ended.
 #[derive(Clone, Copy, Debug, PartialEq, Eq)]
-pub(crate) enum Turned {
+pub(crate) enum Turned<T> {
     Over,
     TooLong,
     Faulted,
-    NoMemory,
+    Stopped(T),
 }
 
 /// Legs go whose stay is over at the moment `now`, in leg order.
 fn go_all<I: Inlet, M: Mixes>(ports: &mut [Port<I>], mixer: &mut M, now: u64)
-    requires places { AreAt I.good I.place ports.old }
+    requires sound { AreSound I.good ports.old }
     requires legs { M.legs mixer.old ≡ length ports.old }
-    ensures places { AreAt I.good I.place ports.new }
+    ensures sound { AreSound I.good ports.new }
     ensures keeps { Keeps M.legs M.turns mixer.old mixer.new }
     ensures goes { AllWent I.stands M.stands now ports.old ports.new mixer.old mixer.new }
 {
@@ -62,9 +60,9 @@ fn go_all<I: Inlet, M: Mixes>(ports: &mut [Port<I>], mixer: &mut M, now: u64)
 
 /// Legs come whose stay has begun at the moment `now`, in leg order.
 fn come_all<I: Inlet, M: Mixes>(ports: &mut [Port<I>], mixer: &mut M, now: u64)
-    requires places { AreAt I.good I.place ports.old }
+    requires sound { AreSound I.good ports.old }
     requires legs { M.legs mixer.old ≡ length ports.old }
-    ensures places { AreAt I.good I.place ports.new }
+    ensures sound { AreSound I.good ports.new }
     ensures keeps { Keeps M.legs M.turns mixer.old mixer.new }
     ensures comes { AllCame I.stands M.stands now ports.old ports.new mixer.old mixer.new }
 {
@@ -75,27 +73,22 @@ fn come_all<I: Inlet, M: Mixes>(ports: &mut [Port<I>], mixer: &mut M, now: u64)
 }
 
 /// Each leg offers what it can at the moment `now`, in leg order.
-fn gather_all<I: Inlet, M: Mixes, R: Wait, G: Gate>(
-    rt: &R,
-    gate: &G,
-    ports: &mut [Port<I>],
-    mixer: &mut M,
-    now: u64,
-)
-    requires places { AreAt I.good I.place ports.old }
+fn gather_all<I: Inlet, M: Mixes, R: Wait>(rt: &R, ports: &mut [Port<I>], mixer: &mut M, now: u64)
+    requires few { length ports.old ≤ 64 }
+    requires sound { AreSound I.good ports.old }
     requires legs { M.legs mixer.old ≡ length ports.old }
-    ensures places { AreAt I.good I.place ports.new }
+    ensures sound { AreSound I.good ports.new }
     ensures keeps { Keeps M.legs M.turns mixer.old mixer.new }
     ensures offers { AllOffered I.stands M.stands now ports.old ports.new mixer.old mixer.new }
 {
     for leg in 0..ports.len() {
         let port = &mut ports[leg];
-        port.gather(rt, gate, mixer, now);
+        port.gather(rt, mixer, leg, now);
     }
 }
 
 /// Whether each hand is empty and nothing waits at the mixer.
-fn is_over<I, M: Mixes>(ports: &[Port<I>], mixer: &M) -> bool
+fn is_over<I: Inlet, M: Mixes>(ports: &[Port<I>], mixer: &M) -> bool
     ensures { TellsOver M.stands ports.now mixer.now result }
 {
     let spent = all_empty(ports);
@@ -103,36 +96,36 @@ fn is_over<I, M: Mixes>(ports: &[Port<I>], mixer: &M) -> bool
 }
 
 /// Whether each hand is empty.
-fn all_empty<I>(ports: &[Port<I>]) -> bool
+fn all_empty<I: Inlet>(ports: &[Port<I>]) -> bool
     ensures { result ≡ are_empty ports.now }
 {
     ports.iter().all(|port| !port.full)
 }
 
 /// Whether a leg can't be read further.
-fn has_fault<I>(ports: &[Port<I>]) -> bool
+fn has_fault<I: Inlet>(ports: &[Port<I>]) -> bool
     ensures { result ≡ list_any (λ p. is_fault p.ended) ports.now }
 {
     ports.iter().any(|port| port.ended.is_fault())
 }
 
 /// Does all that is done before a turn at the moment `now`: legs go, legs come, and each offers what it can.
-fn settle<I: Inlet, M: Mixes, R: Wait, G: Gate>(
+fn settle<I: Inlet, M: Mixes, R: Wait>(
     rt: &R,
-    gate: &G,
     ports: &mut [Port<I>],
     mixer: &mut M,
     now: u64,
 ) -> Before
-    requires places { AreAt I.good I.place ports.old }
+    requires few { length ports.old ≤ 64 }
+    requires sound { AreSound I.good ports.old }
     requires legs { M.legs mixer.old ≡ length ports.old }
-    ensures places { AreAt I.good I.place ports.new }
+    ensures sound { AreSound I.good ports.new }
     ensures keeps { Keeps M.legs M.turns mixer.old mixer.new }
     ensures settles { AllSettled I.stands M.stands now result ports.old ports.new mixer.old mixer.new }
 {
     go_all(ports, mixer, now);
     come_all(ports, mixer, now);
-    gather_all(rt, gate, ports, mixer, now);
+    gather_all(rt, ports, mixer, now);
     if has_fault(ports) {
         return Before::Faulted;
     }
@@ -152,37 +145,37 @@ fn moment_of(turn: u64, tick: u64) -> u64
 }
 
 /// Makes turns until nothing is left, or a leg has a fault, or so many turns are made. Turn `k` is at `k` ticks.
-fn take_turns<I: Inlet, M: Mixes, R: Wait, G: Gate>(
+fn take_turns<I: Inlet, M: Mixes, R: Wait>(
     rt: &R,
-    gate: &G,
     ports: &mut [Port<I>],
     mixer: &mut M,
     tick: u64,
     turns: u64,
-    log: &mut Log,
-) -> Turned
-    requires places { AreAt I.good I.place ports.old }
+) -> Turned<M::Fault>
+    requires few { length ports.old ≤ 64 }
+    requires sound { AreSound I.good ports.old }
     requires legs { M.legs mixer.old ≡ length ports.old }
-    requires terminals { length log.old ≡ length ports.old }
     requires none { M.turns mixer.old ≡ 0 }
     requires turns { turns ≤ 5000000 }
     requires tick { tick ≤ 400 }
-    ensures places { AreAt I.good I.place ports.new }
-    ensures terminals { length log.new ≡ length log.old }
-    ensures turned { AllTurned I.stands M.stands tick turns result ports.old ports.new mixer.old mixer.new log.old log.new }
+    requires moments { ComeBefore M.horizon tick turns }
+    ensures sound { AreSound I.good ports.new }
+    ensures turned { AllTurned I.stands M.stands tick turns result ports.old ports.new mixer.old mixer.new }
+    ensures unsent { WasStopped M.unsent result mixer.new }
 {
     for k in 0..turns {
         let now = moment_of(k, tick);
-        match settle(rt, gate, ports, mixer, now) {
+        match settle(rt, ports, mixer, now) {
             Before::Going => {}
             Before::Over => return Turned::Over,
             Before::Faulted => return Turned::Faulted,
         }
-        let Ok(()) = mixer.turn(now, log) else {
-            return Turned::NoMemory;
-        };
+        match mixer.turn(now) {
+            Ok(()) => {}
+            Err(fault) => return Turned::Stopped(fault),
+        }
     }
-    match settle(rt, gate, ports, mixer, moment_of(turns, tick)) {
+    match settle(rt, ports, mixer, moment_of(turns, tick)) {
         Before::Going => Turned::TooLong,
         Before::Over => Turned::Over,
         Before::Faulted => Turned::Faulted,
@@ -190,19 +183,20 @@ fn take_turns<I: Inlet, M: Mixes, R: Wait, G: Gate>(
 }
 
 /// Lets go what comes of each leg until nothing comes any more.
-fn drain_all<I: Inlet, R: Wait, G: Gate>(rt: &R, gate: &G, ports: &mut [Port<I>])
-    requires places { AreAt I.good I.place ports.old }
-    ensures places { AreAt I.good I.place ports.new }
+fn drain_all<I: Inlet, R: Wait>(rt: &R, ports: &mut [Port<I>])
+    requires few { length ports.old ≤ 64 }
+    requires sound { AreSound I.good ports.old }
+    ensures sound { AreSound I.good ports.new }
     ensures drains { AllDrained I.stands ports.old ports.new }
 {
     for leg in 0..ports.len() {
         let port = &mut ports[leg];
-        port.drain(rt, gate);
+        port.drain(rt, leg);
     }
 }
 
 /// The fault of the lowest leg that has one.
-fn lowest_fault<I>(ports: &[Port<I>]) -> Option<(u8, DumpFault)>
+fn lowest_fault<I: Inlet>(ports: &[Port<I>]) -> Option<(u8, I::Fault)>
     requires { length ports.now ≤ 64 }
     ensures { MatchOption result (NoFaultBelow (length ports.now) ports.now) (λ r. IsLowestAt ports.now r.0 r.1) }
 {
@@ -215,7 +209,7 @@ fn lowest_fault<I>(ports: &[Port<I>]) -> Option<(u8, DumpFault)>
 }
 
 /// The fault of this leg, if it has one.
-fn fault_at<I>(ports: &[Port<I>], leg: usize) -> Option<DumpFault>
+fn fault_at<I: Inlet>(ports: &[Port<I>], leg: usize) -> Option<I::Fault>
     requires { leg < length ports.now }
     ensures { result ≡ fault_in (ended_at ports.now leg) }
 {
@@ -224,44 +218,42 @@ fn fault_at<I>(ports: &[Port<I>], leg: usize) -> Option<DumpFault>
 }
 
 /// What is answered where no leg has a fault.
-fn mixing_of(turned: Turned) -> Mixing
+fn mixing_of<F, T>(turned: Turned<T>) -> Mixing<F, T>
     ensures { result ≡ mixing_of turned }
 {
     match turned {
         Turned::Over => Mixing::Over,
         Turned::TooLong | Turned::Faulted => Mixing::TooLong,
-        Turned::NoMemory => Mixing::NoMemory,
+        Turned::Stopped(fault) => Mixing::Stopped(fault),
     }
 }
 
-/// Mixes what the legs give, at most 64. Turn `k` is at `k` ticks, of at most 400 milliseconds; at most `turns` are made,
-/// which are at most 5000000. Before a turn legs go whose stay is over, legs come whose stay has begun, and each offers
-/// what is ready and has room; then mixing is over, or the turn is made. In the end each leg is read to its end, whatever
-/// is answered.
-pub fn mix_ports<I: Inlet, M: Mixes, R: Wait, G: Gate>(
+/// Mixes what comes to these ports, at most 64, and reads each leg to its end.
+pub(crate) fn mix_ports<I: Inlet, M: Mixes, R: Wait>(
     rt: &R,
-    gate: &G,
     ports: &mut [Port<I>],
     mixer: &mut M,
     tick: u64,
     turns: u64,
-    log: &mut Log,
-) -> Mixing
+) -> Mixing<I::Fault, M::Fault>
     requires few { length ports.old ≤ 64 }
-    requires places { AreAt I.good I.place ports.old }
+    requires sound { AreSound I.good ports.old }
     requires legs { M.legs mixer.old ≡ length ports.old }
-    requires terminals { length log.old ≡ length ports.old }
     requires none { M.turns mixer.old ≡ 0 }
     requires turns { turns ≤ 5000000 }
     requires tick { tick ≤ 400 }
-    ensures places { AreAt I.good I.place ports.new }
-    ensures terminals { length log.new ≡ length log.old }
-    ensures mixed { Mixed I.stands M.stands tick turns result ports.old ports.new mixer.old mixer.new log.old log.new }
+    requires moments { ComeBefore M.horizon tick turns }
+    ensures sound { AreSound I.good ports.new }
+    ensures mixed { IsMixing I.stands M.stands tick turns result ports.old ports.new mixer.old mixer.new }
+    ensures unsent { IsUnsent M.unsent result mixer.new }
 {
-    let turned = take_turns(rt, gate, ports, mixer, tick, turns, log);
-    drain_all(rt, gate, ports);
+    let turned = take_turns(rt, ports, mixer, tick, turns);
+    drain_all(rt, ports);
     match lowest_fault(ports) {
-        Some((leg, fault)) => Mixing::Faulted { leg, fault },
+        Some(lowest) => Mixing::Faulted {
+            leg: lowest.0,
+            fault: lowest.1,
+        },
         None => mixing_of(turned),
     }
 }

@@ -1,8 +1,8 @@
 -- What one call finds in a world, and what it leaves there.
 use Rattle.std.specs.Prelude.{◌≡◌, ◌⊎◌, ℕ, Some, List, [], ◌∷◌, Ok}
 use Rattle.rtt_io.specs.declared.worlds.World as worlds
-use Rattle.conf_text.specs.declared.confs.Conf.{Conf}
-use Rattle.conf_text.specs.Lines.{conf_of}
+use Rattle.conference.specs.declared.confs.Conf.{Conf}
+use Rattle.conference.specs.Conferences.{conf_of}
 use Rattle.file_spec.specs.declared.conf_lines.Form.TheVariants.{Files}
 use Rattle.file_spec.specs.declared.conf_lines.LegLine.{LegLine}
 use Rattle.file_spec.specs.Conf.{conf}

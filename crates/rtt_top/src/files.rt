@@ -2,13 +2,15 @@
 ghost use Rattle.std.specs.Prelude.{◌≡◌, if◌then◌else◌, OnOk, OnErr, IfOk, IfErr};
 ghost use Rattle.rtt_io.specs.Names.{NoneFalls, Same as KeepsCounts};
 ghost use Rattle.rtpdump_io.specs.Reading.{is_of_source};
+ghost use Rattle.rtpdump_io.specs.Faults.{IsSourceFault, FaultOf};
 ghost use Rattle.command_spec.specs.Outcomes.{Same};
+ghost use Rattle.rtt_top.specs.Faults.{IsOfRecording, IsTrueFor};
 ghost use Rattle.rtt_top.specs.Files.{IsReadOf};
 ghost use Rattle.rtt_top.specs.Worlds.{IsUnreadIn, FailedIn, Saves, SavesPartly};
 
 use command_spec::{Fault, Refusal};
 use file_spec::ConfKind;
-use rtpdump_io::DumpFault;
+use rtpdump_io::{DumpFault, RecordingFault};
 use rtt_base::{Bytes, Failed};
 use rtt_io::{ReadFault, Sink, World, read_whole};
 use std::alloc::Global;
@@ -64,6 +66,17 @@ pub(crate) fn fault_of_dump(input: u32, fault: DumpFault) -> Fault
             input,
             refusal: Refusal::AtByte { byte: offset, kind },
         },
+    }
+}
+
+/// The fault of a command whose first input is a recording that was not read to its end.
+pub(crate) fn fault_of_recording(fault: RecordingFault) -> Fault
+    ensures of_recording { IsOfRecording (IsSourceFault fault) result }
+    ensures refused { IsTrueFor FaultOf fault result }
+{
+    match fault {
+        RecordingFault::Dump(fault) => fault_of_dump(0, fault),
+        RecordingFault::NoMemory => Fault::NoMemory,
     }
 }
 

@@ -2,33 +2,21 @@
 ghost use Rattle.std.specs.Prelude.{Some, IfOk, IfErr};
 ghost use Rattle.command_spec.specs.Words.{ListRecords};
 ghost use Rattle.rtt_words.specs.Commands.{listed};
-ghost use Rattle.rtt_list.specs.Listing.{IsSourceFault, FaultOf};
 ghost use Rattle.command_spec.specs.Outcomes.{Same};
-ghost use Rattle.rtt_top.specs.Faults.{IsOfRecording, IsTrueFor, name_in};
+ghost use Rattle.rtt_top.specs.Faults.{name_in};
 ghost use Rattle.rtt_top.specs.Outside.{outside_at, output_at};
 ghost use Rattle.rtt_top.specs.Runs.{Ends, Runs};
 ghost use Rattle.rtt_top.specs.Worlds.{StopsIn, OnlyPrints};
 
-use crate::files::fault_of_dump;
+use crate::files::fault_of_recording;
 use crate::messages::{finish, print};
 use command_spec::Fault;
 use rtpdump_io::DumpReader;
 use rtt_base::Bytes;
 use rtt_io::{Sink, World};
-use rtt_list::{ListFault, list_records};
+use rtt_list::list_records;
 use rtt_words::ListWords;
 use std::alloc::Global;
-
-/// The fault of a command for that of a recording that was listed.
-fn fault_of_listing(fault: ListFault) -> Fault
-    ensures of_recording { IsOfRecording (IsSourceFault fault) result }
-    ensures refused { IsTrueFor FaultOf fault result }
-{
-    match fault {
-        ListFault::NoMemory => Fault::NoMemory,
-        ListFault::Dump(fault) => fault_of_dump(0, fault),
-    }
-}
 
 /// What `list` prints of a recording.
 fn lines_of<W: World>(alloc: Global, words: &ListWords<'_>, world: &mut W) -> Result<Bytes, Fault>
@@ -44,7 +32,7 @@ fn lines_of<W: World>(alloc: Global, words: &ListWords<'_>, world: &mut W) -> Re
     world.done_src(reader.into_source());
     match listed {
         Ok(lines) => Ok(lines),
-        Err(fault) => Err(fault_of_listing(fault)),
+        Err(fault) => Err(fault_of_recording(fault)),
     }
 }
 

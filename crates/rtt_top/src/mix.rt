@@ -1,7 +1,7 @@
 //! `mix`: the conference of a file is read and mixed, its outputs are written, and what is seen is printed.
 ghost use Rattle.std.specs.Prelude.{◌≡◌, ◌≤◌, length, Some, OnOk, IfOk, IfErr};
 ghost use Rattle.rtt_io.specs.Names.{NoneFalls, Same as KeepsCounts};
-ghost use Rattle.conf_text.specs.Lines.{conf_of};
+ghost use Rattle.conference.specs.Conferences.{conf_of};
 ghost use Rattle.mixer_spec.specs.Setups.{leg_at};
 ghost use Rattle.command_spec.specs.Outcomes.{Same};
 ghost use Rattle.command_spec.specs.Words.{Mix};
@@ -15,7 +15,8 @@ use crate::files::{fault_of_dump, read_input, refused_line, save_output};
 use crate::messages::{finish_with, print};
 use bridge_run::{MixFault, mix};
 use command_spec::{Fault, Refusal};
-use conf_text::{Conf, ConfFault, Form, LegLine, read_conf};
+use conf_text::{ConfFault, Form, read_conf};
+use conference::{Conf, LegLine};
 use file_spec::limits::MOST_CONF_OCTETS;
 use rtt_base::Bytes;
 use rtt_io::{Gate, Sink, World};

@@ -34,6 +34,16 @@ pub struct Failure<'a>(pub &'a str, pub u8, pub &'a str);
 #[derive(Clone, Copy)]
 pub struct Call<'a>(pub &'a str, pub &'a str);
 
+/// What Ann types, what Bob types, and what is printed where a third one, Cy, whose terminal is old, listens.
+#[derive(Clone, Copy)]
+pub struct Mixing<'a>(pub &'a str, pub &'a str, pub &'a str);
+
+const THREE: &[u8] = b"mixer 9000 0 0
+leg Ann aware 1001 ann.rtp to-ann.rtp
+leg Bob aware 1002 bob.rtp to-bob.rtp
+leg Cy unaware 1003 cy.rtp to-cy.rtp
+";
+
 /// What a run left: its status, and what it wrote.
 #[derive(Drop)]
 struct Ran {
@@ -214,6 +224,63 @@ pub fn calls_shown<R: Threads + Wait + Sync>(
                 return Ok(0);
             }
             let more = calls_shown(rt, alloc, rest)?;
+            Ok(more.saturating_add(1))
+        }
+        [] => Ok(0),
+    }
+}
+
+/// A world with the conference and what each types.
+fn with_scripts(alloc: Global, mixing: &Mixing<'_>) -> Result<MemWorld, Fail> {
+    let mut world = MemWorld::new(alloc);
+    world.add_file("ann.txt", mixing.0.as_bytes())?;
+    world.add_file("bob.txt", mixing.1.as_bytes())?;
+    world.add_file("cy.txt", b"")?;
+    world.add_file("c.txt", THREE)?;
+    Ok(world)
+}
+
+/// Whether each script is sent.
+fn are_sent<R: Threads + Wait + Sync>(
+    rt: &R,
+    alloc: Global,
+    world: &mut MemWorld,
+) -> Result<bool, Fail> {
+    let ann = "send ann.txt ann.rtp 1001 0 0";
+    let bob = "send bob.txt bob.rtp 1002 0 0";
+    let cy = "send cy.txt cy.rtp 1003 0 0";
+    let is_first = ends(rt, alloc, world, ann, 0, b"", b"")?;
+    let is_second = ends(rt, alloc, world, bob, 0, b"", b"")?;
+    let is_third = ends(rt, alloc, world, cy, 0, b"", b"")?;
+    Ok(is_first && is_second && is_third)
+}
+
+/// Whether this is printed where these are mixed.
+pub fn is_mixed<R: Threads + Wait + Sync>(
+    rt: &R,
+    alloc: Global,
+    mixing: &Mixing<'_>,
+) -> Result<bool, Fail> {
+    let mut world = with_scripts(alloc, mixing)?;
+    if !are_sent(rt, alloc, &mut world)? {
+        return Ok(false);
+    }
+    let printed = mixing.2.as_bytes();
+    ends(rt, alloc, &mut world, "mix c.txt", 0, printed, b"")
+}
+
+/// How many of these are mixed as they are to be, before the first that is not.
+pub fn mixings_printed<R: Threads + Wait + Sync>(
+    rt: &R,
+    alloc: Global,
+    mixings: &[Mixing<'_>],
+) -> Result<usize, Fail> {
+    match mixings {
+        [first, rest @ ..] => {
+            if !is_mixed(rt, alloc, first)? {
+                return Ok(0);
+            }
+            let more = mixings_printed(rt, alloc, rest)?;
             Ok(more.saturating_add(1))
         }
         [] => Ok(0),

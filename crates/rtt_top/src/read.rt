@@ -1,33 +1,35 @@
 //! `read`: a recording is opened and read to its end, and its view is printed.
-ghost use Rattle.std.specs.Prelude.{Some, IfOk, IfErr};
+ghost use Rattle.std.specs.Prelude.{◌≡◌, ℕ, List, Some, IfOk, IfErr};
 ghost use Rattle.command_spec.specs.Words.{Read};
 ghost use Rattle.rtt_words.specs.Commands.{asked};
-ghost use Rattle.rtt_read.specs.Recordings.{IsSourceFault, ListenFaultOf};
+ghost use Rattle.command_spec.specs.Reading.{read_view};
+ghost use Rattle.command_spec.specs.declared.requests.ReadRequest.{ReadRequest};
+ghost use Rattle.rtt_read.specs.Recordings.{HasHeard, HasHeardOne};
 ghost use Rattle.command_spec.specs.Outcomes.{Same};
-ghost use Rattle.rtt_top.specs.Faults.{IsOfRecording, IsTrueFor, name_in};
+ghost use Rattle.rtt_top.specs.Faults.{name_in};
 ghost use Rattle.rtt_top.specs.Outside.{outside_at, output_at};
 ghost use Rattle.rtt_top.specs.Runs.{Ends, Runs};
 ghost use Rattle.rtt_top.specs.Worlds.{StopsIn, OnlyPrints};
 
-use crate::files::fault_of_dump;
+use crate::files::fault_of_recording;
 use crate::messages::{finish, print};
 use command_spec::{Fault, ReadRequest};
 use rtpdump_io::DumpReader;
-use rtt_base::Bytes;
+use rtt_base::{Bytes, NoMemory as OutOfMemory};
 use rtt_io::{Sink, World};
-use rtt_read::{ListenFault, heard_view};
+use rtt_read::hear_recording;
 use rtt_words::ReadWords;
 use std::alloc::Global;
+use terminal::{Terminal, View};
 
-/// The fault of a command for that of a recording that was heard.
-fn fault_of_listening(fault: ListenFault) -> Fault
-    ensures of_recording { IsOfRecording (IsSourceFault fault) result }
-    ensures refused { IsTrueFor ListenFaultOf fault result }
+/// The text that a terminal shows, as it is printed.
+fn text_of(alloc: Global, terminal: &Terminal) -> Result<Bytes, OutOfMemory>
+    requires { HasHeardOne terminal.now }
+    ensures { IfOk result (λ text. (r : ReadRequest) (octets : List ℕ) → HasHeard r octets terminal.now → text ≡ read_view r octets) }
 {
-    match fault {
-        ListenFault::NoMemory => Fault::NoMemory,
-        ListenFault::Recorded(fault) => fault_of_dump(0, fault),
-    }
+    let mut text = Bytes::new(alloc);
+    terminal.append_view(alloc, View::Text, &mut text)?;
+    Ok(text)
 }
 
 /// What `read` prints of a recording.
@@ -45,11 +47,14 @@ fn view_of<W: World>(alloc: Global, words: &ReadWords<'_>, world: &mut W) -> Res
         source: words.source,
         pts: words.pts,
     };
-    let heard = heard_view(alloc, &mut reader, request);
+    let heard = hear_recording(alloc, &mut reader, request);
     world.done_src(reader.into_source());
     match heard {
-        Ok(view) => Ok(view),
-        Err(fault) => Err(fault_of_listening(fault)),
+        Ok(terminal) => match text_of(alloc, &terminal) {
+            Ok(text) => Ok(text),
+            Err(_) => Err(Fault::NoMemory),
+        },
+        Err(fault) => Err(fault_of_recording(fault)),
     }
 }
 

@@ -1,7 +1,7 @@
 use crate::plays::Piece::{Octets, Packet, Plain};
 use crate::plays::{
-    Call, Failure, OPENING, Piece, View, calls_shown, eight_times, ends, failures_told, holds,
-    is_sent, recording_of, twice, views_seen,
+    Call, Failure, Mixing, OPENING, Piece, View, calls_shown, eight_times, ends, failures_told,
+    holds, is_sent, mixings_printed, recording_of, twice, views_seen,
 };
 use rtt_base::{Bytes, NoMemory, Path};
 use rtt_io::{FailingCall, FailingWrite, MemWorld};
@@ -448,6 +448,39 @@ const CALLS: [Call<'static>; 3] = [
 #[test]
 fn a_script_that_was_sent_shows_its_text(rt: HostRuntime) -> Result<(), Fail> {
     assert_eq!(rt; calls_shown(&rt, rt.alloc(), &CALLS)?, CALLS.len());
+    Ok(())
+}
+
+const MIXINGS: [Mixing<'static>; 3] = [
+    // who presses Enter first: the label stands before the first letter
+    Mixing(
+        "0 Hello. ",
+        "0 \\nHi",
+        "== Ann aware\nBob: \nBob: Hi\n-- Bob bells 0\nCy: \n-- Cy bells 0\n-- packets 3 used 3 refused 0 foreign 0\n\
+        == Bob aware\nAnn: Hello. \n-- Ann bells 0\nCy: \n-- Cy bells 0\n-- packets 3 used 3 refused 0 foreign 0\n\
+        == Cy unaware\n| [Ann] Hello. \n| [Bob] Hi\n-- bells 0\n-- packets 4 used 4 refused 0 foreign 0\n",
+    ),
+    // who types another's label
+    Mixing(
+        "0 Hello.\\n[Bob] I owe you. ",
+        "",
+        "== Ann aware\nBob: \n-- Bob bells 0\nCy: \n-- Cy bells 0\n-- packets 0 used 0 refused 0 foreign 0\n\
+        == Bob aware\nAnn: Hello.\nAnn: [Bob] I owe you. \n-- Ann bells 0\nCy: \n-- Cy bells 0\n-- packets 3 used 3 refused 0 foreign 0\n\
+        == Cy unaware\n| [Ann] Hello.\n| (Bob] I owe you. \n-- bells 0\n-- packets 3 used 3 refused 0 foreign 0\n",
+    ),
+    // who rings alone has no label
+    Mixing(
+        "0 \\a",
+        "300 Hi",
+        "== Ann aware\nBob: Hi\n-- Bob bells 0\nCy: \n-- Cy bells 0\n-- packets 3 used 3 refused 0 foreign 0\n\
+        == Bob aware\nAnn: \n-- Ann bells 1\nCy: \n-- Cy bells 0\n-- packets 3 used 3 refused 0 foreign 0\n\
+        == Cy unaware\n| [Bob] Hi\n-- bells 1\n-- packets 6 used 6 refused 0 foreign 0\n",
+    ),
+];
+
+#[test]
+fn labels_stand_before_what_is_seen(rt: HostRuntime) -> Result<(), Fail> {
+    assert_eq!(rt; mixings_printed(&rt, rt.alloc(), &MIXINGS)?, MIXINGS.len());
     Ok(())
 }
 

@@ -11,8 +11,8 @@ use crate::forms::{list_matches, make_matches, mix_matches, read_matches, send_m
 use crate::{Command, ListWords, MakeWords, MixWords, ReadWords, SendWords};
 use clap::ArgMatches;
 use clap::error::ErrorKind;
+use file_lines::{number_from, number_of, pts_of};
 use file_spec::limits::{USUAL_RED, USUAL_T140};
-use numerals::{number_from, number_of, pts_of};
 use rtt_base::Pts;
 use std::alloc::{AllocError, Global};
 use thiserror::Error;

@@ -1,83 +1,74 @@
 use Rattle.std.proofs.Common.{◌<◌, List, length, ap, subst, ◌∙◌, arith}
 use Rattle.rtt_io.specs.Counts.{Rose}
 use Rattle.file_spec.specs.declared.conf_lines.LegLine.{LegLine}
-use Rattle.conf_text.specs.Lines.{conf_of}
-use Rattle.leg_items.specs.Answers.{source_at}
+use Rattle.conference.specs.Conferences.{conf_of}
+use Rattle.leg_items.specs.Answers.{source_in}
 use Rattle.bridge_run.specs.Answered.{MixesAsked}
 use Rattle.bridge_run.specs.Mixes.{RoseAt}
 use Rattle.bridge_run.specs.Opened.{AllOpened}
-use Rattle.bridge_run.proofs.Handing.{all_stay, are_new, is_made, none_failed, none_failed_yet, stops}
+use Rattle.bridge_run.proofs.Handing.{are_new, is_made, none_failed, none_failed_yet, stops}
 use Rattle.bridge_run.proofs.mixing.mix.Goals as goal
 
 pub mix_opened-mixed-requires-clause-new : goal.mix_opened-mixed-requires-clause-new
 mix_opened-mixed-requires-clause-new g c = λ κs lives.
     let conf = conf_of c.args.conf.now in
     let held = g.W.World.contents c.args.world.now in
-    let many = c.in-Ok.ensures.legs ∙ ap (λ (xs : List LegLine). length xs) c.as_slice-legs.ensures in
-    let opened = subst (λ l. AllOpened g.W.World.tells g.W.Src.Source.left g.W.Src.Source.faults g.W.Src.Source.name held conf.wait l conf.legs c.in-Ok.ports.items) c.input_limit-limit.ensures
-    (subst (λ (xs : List LegLine). AllOpened g.W.World.tells g.W.Src.Source.left g.W.Src.Source.faults g.W.Src.Source.name held conf.wait c.input_limit-limit.result xs c.in-Ok.ports.items) c.as_slice-legs.ensures c.in-Ok.ensures.opened) in
-    (are_new g.W.World.tells g.W.Src.Source.left g.W.Src.Source.faults g.W.Src.Source.name held conf c.in-Ok.ports.items many opened)
-
-pub mix_opened-mixed-requires-clause-stays : goal.mix_opened-mixed-requires-clause-stays
-mix_opened-mixed-requires-clause-stays g c = λ κs lives.
-    let conf = conf_of c.args.conf.now in
-    let held = g.W.World.contents c.args.world.now in
-    let many = c.in-Ok.ensures.legs ∙ ap (λ (xs : List LegLine). length xs) c.as_slice-legs.ensures in
-    let opened = subst (λ l. AllOpened g.W.World.tells g.W.Src.Source.left g.W.Src.Source.faults g.W.Src.Source.name held conf.wait l conf.legs c.in-Ok.ports.items) c.input_limit-limit.ensures
-    (subst (λ (xs : List LegLine). AllOpened g.W.World.tells g.W.Src.Source.left g.W.Src.Source.faults g.W.Src.Source.name held conf.wait c.input_limit-limit.result xs c.in-Ok.ports.items) c.as_slice-legs.ensures c.in-Ok.ensures.opened) in
-    (all_stay g.W.World.tells g.W.Src.Source.left g.W.Src.Source.faults g.W.Src.Source.name held conf c.in-Ok.ports.items many opened)
+    let many = c.in-Ok.ensures.legs ∙ ap (λ (xs : List LegLine). length xs) c.as_slice-lines.ensures in
+    let opened = subst (λ l. AllOpened g.W.World.tells g.W.Src.Source.left g.W.Src.Source.faults g.W.Src.Source.name held conf.wait l conf.legs c.in-Ok.legs.items) c.input_limit-limit.ensures
+    (subst (λ (xs : List LegLine). AllOpened g.W.World.tells g.W.Src.Source.left g.W.Src.Source.faults g.W.Src.Source.name held conf.wait c.input_limit-limit.result xs c.in-Ok.legs.items) c.as_slice-lines.ensures c.in-Ok.ensures.opened) in
+    (are_new g.W.World.tells g.W.Src.Source.left g.W.Src.Source.faults g.W.Src.Source.name held conf c.in-Ok.legs.items many opened)
 
 pub returns-clause-made : goal.returns-clause-made
 returns-clause-made g c =
     let conf = conf_of c.args.conf.now in
     let held = g.W.World.contents c.args.world.now in
-    let many = c.in-Ok.ensures.legs ∙ ap (λ (xs : List LegLine). length xs) c.as_slice-legs.ensures in
-    let opened = subst (λ l. AllOpened g.W.World.tells g.W.Src.Source.left g.W.Src.Source.faults g.W.Src.Source.name held conf.wait l conf.legs c.in-Ok.ports.items) c.input_limit-limit.ensures
-    (subst (λ (xs : List LegLine). AllOpened g.W.World.tells g.W.Src.Source.left g.W.Src.Source.faults g.W.Src.Source.name held conf.wait c.input_limit-limit.result xs c.in-Ok.ports.items) c.as_slice-legs.ensures c.in-Ok.ensures.opened) in
-    let some : 0 < length c.as_slice-legs.result.now = omega (arith, c.args.conf.now.kept.two, ap (λ (xs : List LegLine). length xs) c.as_slice-legs.ensures) in
-    let mixes : g.W.World.tells → MixesAsked g.W.Src.Source.left conf c.in-Ok.ports.items c.mix_opened-mixed.result.mixed =
+    let many = c.in-Ok.ensures.legs ∙ ap (λ (xs : List LegLine). length xs) c.as_slice-lines.ensures in
+    let opened = subst (λ l. AllOpened g.W.World.tells g.W.Src.Source.left g.W.Src.Source.faults g.W.Src.Source.name held conf.wait l conf.legs c.in-Ok.legs.items) c.input_limit-limit.ensures
+    (subst (λ (xs : List LegLine). AllOpened g.W.World.tells g.W.Src.Source.left g.W.Src.Source.faults g.W.Src.Source.name held conf.wait c.input_limit-limit.result xs c.in-Ok.legs.items) c.as_slice-lines.ensures c.in-Ok.ensures.opened) in
+    let some : 0 < length c.as_slice-lines.result.now = omega (arith, c.args.conf.now.kept.two, ap (λ (xs : List LegLine). length xs) c.as_slice-lines.ensures) in
+    let mixes : g.W.World.tells → MixesAsked g.W.Src.Source.left conf c.in-Ok.legs.items c.mix_opened-mixed.result.mixed =
     λ told. c.mix_opened-mixed.ensures.mixes (c.in-Ok.ensures.shown told some) in
-    is_made g.W.World.tells g.W.Src.Source.left g.W.Src.Source.faults g.W.Src.Source.name held conf c.in-Ok.ports.items many opened c.mix_opened-mixed.result.mixed mixes
+    is_made g.W.World.tells g.W.Src.Source.left g.W.Src.Source.faults g.W.Src.Source.name held conf c.in-Ok.legs.items many opened c.mix_opened-mixed.result.mixed mixes
 
 pub returns-clause-stops : goal.returns-clause-stops
 returns-clause-stops g c =
     let conf = conf_of c.args.conf.now in
     let held = g.W.World.contents c.args.world.now in
-    let many = c.in-Ok.ensures.legs ∙ ap (λ (xs : List LegLine). length xs) c.as_slice-legs.ensures in
-    let opened = subst (λ l. AllOpened g.W.World.tells g.W.Src.Source.left g.W.Src.Source.faults g.W.Src.Source.name held conf.wait l conf.legs c.in-Ok.ports.items) c.input_limit-limit.ensures
-    (subst (λ (xs : List LegLine). AllOpened g.W.World.tells g.W.Src.Source.left g.W.Src.Source.faults g.W.Src.Source.name held conf.wait c.input_limit-limit.result xs c.in-Ok.ports.items) c.as_slice-legs.ensures c.in-Ok.ensures.opened) in
-    let some : 0 < length c.as_slice-legs.result.now = omega (arith, c.args.conf.now.kept.two, ap (λ (xs : List LegLine). length xs) c.as_slice-legs.ensures) in
-    let mixes : g.W.World.tells → MixesAsked g.W.Src.Source.left conf c.in-Ok.ports.items c.mix_opened-mixed.result.mixed =
+    let many = c.in-Ok.ensures.legs ∙ ap (λ (xs : List LegLine). length xs) c.as_slice-lines.ensures in
+    let opened = subst (λ l. AllOpened g.W.World.tells g.W.Src.Source.left g.W.Src.Source.faults g.W.Src.Source.name held conf.wait l conf.legs c.in-Ok.legs.items) c.input_limit-limit.ensures
+    (subst (λ (xs : List LegLine). AllOpened g.W.World.tells g.W.Src.Source.left g.W.Src.Source.faults g.W.Src.Source.name held conf.wait c.input_limit-limit.result xs c.in-Ok.legs.items) c.as_slice-lines.ensures c.in-Ok.ensures.opened) in
+    let some : 0 < length c.as_slice-lines.result.now = omega (arith, c.args.conf.now.kept.two, ap (λ (xs : List LegLine). length xs) c.as_slice-lines.ensures) in
+    let mixes : g.W.World.tells → MixesAsked g.W.Src.Source.left conf c.in-Ok.legs.items c.mix_opened-mixed.result.mixed =
     λ told. c.mix_opened-mixed.ensures.mixes (c.in-Ok.ensures.shown told some) in
-    stops g.W.World.tells g.W.Src.Source.left g.W.Src.Source.faults g.W.Src.Source.name held conf c.in-Ok.ports.items many opened c.mix_opened-mixed.result.mixed mixes
-    (g.W.World.object_faults c.args.world.now) (g.W.World.object_faults c.close_ports.new.world) c.mix_opened-mixed.result.ports.items c.mix_opened-mixed.ensures.legs
-    (RoseAt (g.W.World.own_faults c.args.world.now) (g.W.World.own_faults c.close_ports.new.world)) c.mix_opened-mixed.ensures.sources c.mix_opened-mixed.ensures.leg
-    (λ j q at rose. subst (λ n. Rose n (g.W.World.object_faults c.close_ports.new.world (g.W.Src.Source.name (source_at q)))) (c.in-Ok.ensures.same_objects (g.W.Src.Source.name (source_at q)))
-    (c.close_ports.ensures.failed j q at rose))
+    stops g.W.World.tells g.W.Src.Source.left g.W.Src.Source.faults g.W.Src.Source.name held conf c.in-Ok.legs.items many opened c.mix_opened-mixed.result.mixed mixes
+    (g.W.World.object_faults c.args.world.now) (g.W.World.object_faults c.close_legs.new.world) c.mix_opened-mixed.result.legs.items c.mix_opened-mixed.ensures.legs
+    (RoseAt (g.W.World.own_faults c.args.world.now) (g.W.World.own_faults c.close_legs.new.world)) c.mix_opened-mixed.ensures.sources c.mix_opened-mixed.ensures.leg
+    (λ j q at rose. subst (λ n. Rose n (g.W.World.object_faults c.close_legs.new.world (g.W.Src.Source.name (source_in q)))) (c.in-Ok.ensures.same_objects (g.W.Src.Source.name (source_in q)))
+    (c.close_legs.ensures.failed j q at rose))
 
 pub returns-clause-none_failed : goal.returns-clause-none_failed
 returns-clause-none_failed g c =
     let conf = conf_of c.args.conf.now in
     let held = g.W.World.contents c.args.world.now in
-    let many = c.in-Ok.ensures.legs ∙ ap (λ (xs : List LegLine). length xs) c.as_slice-legs.ensures in
-    let opened = subst (λ l. AllOpened g.W.World.tells g.W.Src.Source.left g.W.Src.Source.faults g.W.Src.Source.name held conf.wait l conf.legs c.in-Ok.ports.items) c.input_limit-limit.ensures
-    (subst (λ (xs : List LegLine). AllOpened g.W.World.tells g.W.Src.Source.left g.W.Src.Source.faults g.W.Src.Source.name held conf.wait c.input_limit-limit.result xs c.in-Ok.ports.items) c.as_slice-legs.ensures c.in-Ok.ensures.opened) in
-    let some : 0 < length c.as_slice-legs.result.now = omega (arith, c.args.conf.now.kept.two, ap (λ (xs : List LegLine). length xs) c.as_slice-legs.ensures) in
-    let mixes : g.W.World.tells → MixesAsked g.W.Src.Source.left conf c.in-Ok.ports.items c.mix_opened-mixed.result.mixed =
+    let many = c.in-Ok.ensures.legs ∙ ap (λ (xs : List LegLine). length xs) c.as_slice-lines.ensures in
+    let opened = subst (λ l. AllOpened g.W.World.tells g.W.Src.Source.left g.W.Src.Source.faults g.W.Src.Source.name held conf.wait l conf.legs c.in-Ok.legs.items) c.input_limit-limit.ensures
+    (subst (λ (xs : List LegLine). AllOpened g.W.World.tells g.W.Src.Source.left g.W.Src.Source.faults g.W.Src.Source.name held conf.wait c.input_limit-limit.result xs c.in-Ok.legs.items) c.as_slice-lines.ensures c.in-Ok.ensures.opened) in
+    let some : 0 < length c.as_slice-lines.result.now = omega (arith, c.args.conf.now.kept.two, ap (λ (xs : List LegLine). length xs) c.as_slice-lines.ensures) in
+    let mixes : g.W.World.tells → MixesAsked g.W.Src.Source.left conf c.in-Ok.legs.items c.mix_opened-mixed.result.mixed =
     λ told. c.mix_opened-mixed.ensures.mixes (c.in-Ok.ensures.shown told some) in
-    none_failed g.W.World.tells g.W.Src.Source.left g.W.Src.Source.faults g.W.Src.Source.name held conf c.in-Ok.ports.items many opened c.mix_opened-mixed.result.mixed mixes
-    (g.W.World.object_faults c.args.world.now) (g.W.World.object_faults c.close_ports.new.world) c.mix_opened-mixed.result.ports.items c.mix_opened-mixed.ensures.legs
-    (g.W.World.contents c.open_ports.new.world) c.mix_opened-mixed.ensures.sources c.mix_opened-mixed.ensures.leg c.in-Ok.ensures.same_contents
-    (λ calm n. c.close_ports.ensures.calm calm n ∙ c.in-Ok.ensures.same_objects n)
-    (λ told n left. c.close_ports.ensures.left told n left ∙ c.in-Ok.ensures.same_objects n)
+    none_failed g.W.World.tells g.W.Src.Source.left g.W.Src.Source.faults g.W.Src.Source.name held conf c.in-Ok.legs.items many opened c.mix_opened-mixed.result.mixed mixes
+    (g.W.World.object_faults c.args.world.now) (g.W.World.object_faults c.close_legs.new.world) c.mix_opened-mixed.result.legs.items c.mix_opened-mixed.ensures.legs
+    (g.W.World.contents c.open_legs.new.world) c.mix_opened-mixed.ensures.sources c.mix_opened-mixed.ensures.leg c.in-Ok.ensures.same_contents
+    (λ calm n. c.close_legs.ensures.calm calm n ∙ c.in-Ok.ensures.same_objects n)
+    (λ told n left. c.close_legs.ensures.left told n left ∙ c.in-Ok.ensures.same_objects n)
 
 pub returns-in-Err-clause-none_failed : goal.returns-in-Err-clause-none_failed
 returns-in-Err-clause-none_failed g c =
-    none_failed_yet g.W.World.tells (g.W.World.contents c.args.world.now) (g.W.World.own_faults c.args.world.now) (g.W.World.own_faults c.open_ports.new.world)
-    (g.W.World.object_faults c.args.world.now) (g.W.World.object_faults c.open_ports.new.world) c.as_slice-legs.result.now (conf_of c.args.conf.now).legs c.in-Err.fault c.in-Err.ensures.refused c.in-Err.ensures.same_objects
+    none_failed_yet g.W.World.tells (g.W.World.contents c.args.world.now) (g.W.World.own_faults c.args.world.now) (g.W.World.own_faults c.open_legs.new.world)
+    (g.W.World.object_faults c.args.world.now) (g.W.World.object_faults c.open_legs.new.world) c.as_slice-lines.result.now (conf_of c.args.conf.now).legs c.in-Err.fault c.in-Err.ensures.refused c.in-Err.ensures.same_objects
 
 pub returns-clause-calls_never_fall : goal.returns-clause-calls_never_fall
-returns-clause-calls_never_fall g c = λ n. omega (arith, c.in-Ok.ensures.own_never_falls n, c.close_ports.ensures.same_own n)
+returns-clause-calls_never_fall g c = λ n. omega (arith, c.in-Ok.ensures.own_never_falls n, c.close_legs.ensures.same_own n)
 
 pub returns-clause-objects_never_fall : goal.returns-clause-objects_never_fall
-returns-clause-objects_never_fall g c = λ n. omega (arith, c.in-Ok.ensures.same_objects n, c.close_ports.ensures.objects_never_fall n)
+returns-clause-objects_never_fall g c = λ n. omega (arith, c.in-Ok.ensures.same_objects n, c.close_legs.ensures.objects_never_fall n)

@@ -1,88 +1,144 @@
-use Rattle.std.proofs.Common.{◌≡◌, Result, Ok, Err, length, sym, ap, subst, ◌∙◌, arith, rules}
-use Rattle.std.specs.Prelude.{IfOk}
+use Rattle.std.proofs.Common.{◌≡◌, ◌≤◌, ℕ, Result, Ok, Err, List, length, sym, ap, subst, ◌∙◌, arith, rules, ◌^◌}
+use Rattle.std.specs.Prelude.{All, IfOk}
+use Rattle.std.proofs.lemmas.Nat.{mul-le}
 use Rattle.mixer_spec.specs.Setups.{setup}
-use Rattle.conf_text.specs.Lines.{conf_of}
+use Rattle.file_spec.specs.declared.conf_lines.LegLine.{LegLine}
+use Rattle.rtpdump_io.specs.declared.items.DumpFault.{DumpFault}
+use Rattle.rtt_base.specs.declared.errors.NoMemory as memory
+use Rattle.conference.specs.Conferences.{conf_of}
+use Rattle.mix_loop.specs.declared.turns.Mixing.{Mixing}
 use Rattle.mix_loop.specs.declared.turns.Mixing.TheVariants as mixing
+use Rattle.mix_loop.specs.Mixing.{StayAs}
+use Rattle.mix_loop.specs.Turns.{UnlessUnsent}
 use Rattle.leg_items.specs.Answers.{IsReadWell}
+use Rattle.leg_items.proofs.OfConfs.{stays_law}
+use Rattle.leg_lanes.specs.Mixings.{CanMix}
+use Rattle.mixer_turn.specs.States.{legs_of}
+use Rattle.mixer_posts.specs.declared.mixers.Sending.{Sending}
 use Rattle.mixer_turn.specs.Making.{pts_at}
+use Rattle.played.specs.Written.{IsWritten}
 use Rattle.bridge_run.specs.declared.mixed.MixFault.TheVariants.{Dump, TooLong, NoMemory}
-use Rattle.bridge_run.proofs.Recorded.{all_sent, all_written}
-use Rattle.bridge_run.proofs.Answering.{all_kept, broken_refuses, is_answer, no_dump, over_mixes, too_long_refuses}
+use Rattle.bridge_run.specs.Viewed.{AreSent}
+use Rattle.bridge_run.proofs.Recorded.{HasMixed, all_sent, all_written, logged, many}
+use Rattle.bridge_run.proofs.Answering.{all_kept, broken_refuses, is_answer, no_dump, of_legs, over_mixes, too_long_refuses}
 use Rattle.bridge_run.proofs.mixing.mix_opened.Goals as goal
 
 if_ok : {A E : Type 0} (r : Result A E) (P Q : A → Type 0) → ((a : A) → P a → Q a) → IfOk r P → IfOk r Q
 if_ok (Ok a) P Q f p = f a p
 if_ok (Err e) P Q f p = p
 
+pub mix_legs-mixing-requires : goal.mix_legs-mixing-requires
+mix_legs-mixing-requires g c =
+    let conf = c.args.conf.now in
+    let lines = ap (λ (l : List LegLine). length l) c.as_slice-lines.ensures in
+    let few = conf.kept.legs.most in
+    let tick : c.from-tick.result ≤ 400 = (let k = conf.kept.tick in let e = c.from-tick.ensures in omega (arith, e, k.high)) in
+    let turns : c.from-turns.result ≤ 5000000 = (let k = conf.kept.turns in let e = c.from-turns.ensures in omega (arith, e, k.high)) in
+    let can : CanMix {M = Sending (List (List ℕ))} (λ m. legs_of m.mixer) (λ m. m.mixer.turns) (2 ^ 32) c.args.legs c.as_slice-lines.result.now c.in-Ok.mixer c.from-tick.result c.from-turns.result =
+    record {
+      few = omega (arith, c.requires.legs, few, c.args.legs.ok.0);
+      new = c.requires.new;
+      lines_fit = omega (arith, lines, c.requires.legs, c.args.legs.ok.0);
+      terminals = c.in-Ok.ensures.legs ∙ omega (arith, c.requires.legs, c.args.legs.ok.0);
+      none = c.in-Ok.ensures.turns;
+      turns_fit = turns;
+      tick_fits = tick;
+      in_time = λ k low. let most = mul-le k c.from-tick.result 5000000 400 (omega (arith, low, turns)) tick in omega (arith, most);
+    } in
+    search rules
+
 pub made-requires-clause-written : goal.made-requires-clause-written
 made-requires-clause-written g c =
     let conf = conf_of c.args.conf.now in
-    let x = c.mix_read-mixing.ensures.mixed (setup conf) (pts_at conf) c.in-Ok.ensures.stands (sym c.requires.legs) c.requires.stays c.in-Ok-new.ensures.open in
-    let written = all_written conf c.mix_read-mixing.result.mixer x.table c.mix_read-mixing.result.log x.mixed (x.logged c.in-Over.is) (omega (arith, c.mix_read-mixing.ensures.terminals, c.in-Ok-new.ensures.terminals, c.len.ensures, c.args.ports.ok.0, c.requires.legs)) in
+    let x = c.mix_legs-mixing.ensures.mixed (setup conf) (pts_at conf) c.in-Ok.ensures.stands (sym c.requires.legs) (subst (λ lines. StayAs (setup conf) lines) (sym c.as_slice-lines.ensures) (stays_law conf)) in
+    let m = c.mix_legs-mixing.result.mixer in
+    let mixed : HasMixed conf m x.table = subst (λ (a : Mixing DumpFault memory.NoMemory). UnlessUnsent a (HasMixed conf m x.table)) c.in-Over.is x.mixed in
+    let log = c.into_outbound-log.ensures in
+    let written : All IsWritten c.into_outbound-log.result = subst (λ l. All IsWritten l) (sym log) (all_written conf m x.table mixed) in
+    search rules
+
+pub made-requires-clause-legs : goal.made-requires-clause-legs
+made-requires-clause-legs g c =
+    let conf = conf_of c.args.conf.now in
+    let x = c.mix_legs-mixing.ensures.mixed (setup conf) (pts_at conf) c.in-Ok.ensures.stands (sym c.requires.legs) (subst (λ lines. StayAs (setup conf) lines) (sym c.as_slice-lines.ensures) (stays_law conf)) in
+    let m = c.mix_legs-mixing.result.mixer in
+    let mixed : HasMixed conf m x.table = subst (λ (a : Mixing DumpFault memory.NoMemory). UnlessUnsent a (HasMixed conf m x.table)) c.in-Over.is x.mixed in
+    let log = c.into_outbound-log.ensures in
+    let all : length c.into_outbound-log.result ≡ length c.args.conf.now.legs = ap (λ l. length l) log ∙ many conf m x.table mixed in
     search rules
 
 pub returns-in-Over-clause-mixes : goal.returns-in-Over-clause-mixes
 returns-in-Over-clause-mixes g c = λ tells inputs count asks.
     let conf = conf_of c.args.conf.now in
-    let x = c.mix_read-mixing.ensures.mixed (setup conf) (pts_at conf) c.in-Ok.ensures.stands (sym c.requires.legs) c.requires.stays c.in-Ok-new.ensures.open in
-    let many : length c.mix_read-mixing.result.log ≡ length c.args.conf.now.legs = omega (arith, c.mix_read-mixing.ensures.terminals, c.in-Ok-new.ensures.terminals, c.len.ensures, c.args.ports.ok.0, c.requires.legs) in
-    let sent = all_sent conf c.mix_read-mixing.result.mixer x.table c.mix_read-mixing.result.log x.mixed (x.logged c.in-Over.is) many in
-    over_mixes conf inputs count c.made.result x.table c.mix_read-mixing.result.log many
-    (is_answer _ g.S.Source.tells g.S.Source.left g.S.Source.faults g.S.Source.name conf c.from-tick.result c.from-turns.result c.mix_read-mixing.result.mixing c.args.ports.items c.mix_read-mixing.result.ports.items c.mix_read-mixing.result.mixer c.mix_read-mixing.result.log
+    let x = c.mix_legs-mixing.ensures.mixed (setup conf) (pts_at conf) c.in-Ok.ensures.stands (sym c.requires.legs) (subst (λ lines. StayAs (setup conf) lines) (sym c.as_slice-lines.ensures) (stays_law conf)) in
+    let m = c.mix_legs-mixing.result.mixer in
+    let mixed : HasMixed conf m x.table = subst (λ (a : Mixing DumpFault memory.NoMemory). UnlessUnsent a (HasMixed conf m x.table)) c.in-Over.is x.mixed in
+    let log = c.into_outbound-log.ensures in
+    let sent = all_sent conf m x.table mixed in
+    over_mixes conf inputs count c.made.result x.table m.outbound (many conf m x.table mixed)
+    (is_answer _ g.S.Source.tells g.S.Source.left g.S.Source.faults g.S.Source.name conf c.from-tick.result c.from-turns.result c.mix_legs-mixing.result.mixing c.args.legs.items c.mix_legs-mixing.result.legs.items c.mix_legs-mixing.result.mixer
     x c.from-tick.ensures c.from-turns.ensures mixing.Over c.in-Over.is tells inputs asks)
-    (x.logged c.in-Over.is) (if_ok c.made.result _ _ (λ mixed f. f x.table sent) c.made.ensures.views) (if_ok c.made.result _ _ (λ mixed f. f x.table sent) c.made.ensures.sums) c.made.ensures.outs c.made.ensures.fault
+    (logged conf m x.table mixed) (if_ok c.made.result _ _ (λ made f. f x.table (subst (λ l. AreSent conf x.table l) (sym log) sent)) c.made.ensures.views) (if_ok c.made.result _ _ (λ made f. f x.table (subst (λ l. AreSent conf x.table l) (sym log) sent)) c.made.ensures.sums)
+    (if_ok c.made.result _ _ (λ made e. e ∙ log) c.made.ensures.outs) c.made.ensures.fault
 
 pub returns-in-Over-clause-outs : goal.returns-in-Over-clause-outs
 returns-in-Over-clause-outs g c =
-    let many : length c.mix_read-mixing.result.log ≡ length c.args.conf.now.legs = omega (arith, c.mix_read-mixing.ensures.terminals, c.in-Ok-new.ensures.terminals, c.len.ensures, c.args.ports.ok.0, c.requires.legs) in
-    if_ok c.made.result _ _ (λ mixed e. ap (λ xs. length xs) e ∙ many) c.made.ensures.outs
+    let conf = conf_of c.args.conf.now in
+    let x = c.mix_legs-mixing.ensures.mixed (setup conf) (pts_at conf) c.in-Ok.ensures.stands (sym c.requires.legs) (subst (λ lines. StayAs (setup conf) lines) (sym c.as_slice-lines.ensures) (stays_law conf)) in
+    let m = c.mix_legs-mixing.result.mixer in
+    let mixed : HasMixed conf m x.table = subst (λ (a : Mixing DumpFault memory.NoMemory). UnlessUnsent a (HasMixed conf m x.table)) c.in-Over.is x.mixed in
+    let log = c.into_outbound-log.ensures in
+    if_ok c.made.result _ _ (λ made e. ap (λ xs. length xs) (e ∙ log) ∙ many conf m x.table mixed) c.made.ensures.outs
 
 pub returns-in-Over-clause-sources : goal.returns-in-Over-clause-sources
 returns-in-Over-clause-sources g c =
     let conf = conf_of c.args.conf.now in
-    let x = c.mix_read-mixing.ensures.mixed (setup conf) (pts_at conf) c.in-Ok.ensures.stands (sym c.requires.legs) c.requires.stays c.in-Ok-new.ensures.open in
-    all_kept _ g.S.Source.tells g.S.Source.left g.S.Source.faults g.S.Source.name conf c.from-tick.result c.from-turns.result c.mix_read-mixing.result.mixing c.args.ports.items c.mix_read-mixing.result.ports.items c.mix_read-mixing.result.mixer c.mix_read-mixing.result.log
-    x c.from-tick.ensures c.from-turns.ensures c.made.result (λ j fault e. absurd (no_dump c.made.result j fault c.made.ensures.fault e)) (λ j w. subst (λ a. IsReadWell a j) (sym c.in-Over.is) tt)
+    let x = c.mix_legs-mixing.ensures.mixed (setup conf) (pts_at conf) c.in-Ok.ensures.stands (sym c.requires.legs) (subst (λ lines. StayAs (setup conf) lines) (sym c.as_slice-lines.ensures) (stays_law conf)) in
+    all_kept _ g.S.Source.tells g.S.Source.left g.S.Source.faults g.S.Source.name conf c.from-tick.result c.from-turns.result c.mix_legs-mixing.result.mixing c.args.legs.items c.mix_legs-mixing.result.legs.items c.mix_legs-mixing.result.mixer
+    x c.from-tick.ensures c.from-turns.ensures c.made.result (λ j fault e. absurd (no_dump c.made.result j fault c.made.ensures.fault e)) (λ j w. subst (λ (a : Mixing DumpFault memory.NoMemory). IsReadWell a j) (sym c.in-Over.is) tt)
+
+pub returns-in-Over-clause-leg : goal.returns-in-Over-clause-leg
+returns-in-Over-clause-leg g c = of_legs c.made.result (length c.args.conf.now.legs) c.made.ensures.fault
 
 pub returns-in-TooLong-clause-mixes : goal.returns-in-TooLong-clause-mixes
 returns-in-TooLong-clause-mixes g c = λ tells inputs count asks.
     let conf = conf_of c.args.conf.now in
-    let x = c.mix_read-mixing.ensures.mixed (setup conf) (pts_at conf) c.in-Ok.ensures.stands (sym c.requires.legs) c.requires.stays c.in-Ok-new.ensures.open in
+    let x = c.mix_legs-mixing.ensures.mixed (setup conf) (pts_at conf) c.in-Ok.ensures.stands (sym c.requires.legs) (subst (λ lines. StayAs (setup conf) lines) (sym c.as_slice-lines.ensures) (stays_law conf)) in
     too_long_refuses conf inputs count x.table
-    (is_answer _ g.S.Source.tells g.S.Source.left g.S.Source.faults g.S.Source.name conf c.from-tick.result c.from-turns.result c.mix_read-mixing.result.mixing c.args.ports.items c.mix_read-mixing.result.ports.items c.mix_read-mixing.result.mixer c.mix_read-mixing.result.log
+    (is_answer _ g.S.Source.tells g.S.Source.left g.S.Source.faults g.S.Source.name conf c.from-tick.result c.from-turns.result c.mix_legs-mixing.result.mixing c.args.legs.items c.mix_legs-mixing.result.legs.items c.mix_legs-mixing.result.mixer
     x c.from-tick.ensures c.from-turns.ensures mixing.TooLong c.in-TooLong.is tells inputs asks)
 
 pub returns-in-TooLong-clause-sources : goal.returns-in-TooLong-clause-sources
 returns-in-TooLong-clause-sources g c =
     let conf = conf_of c.args.conf.now in
-    let x = c.mix_read-mixing.ensures.mixed (setup conf) (pts_at conf) c.in-Ok.ensures.stands (sym c.requires.legs) c.requires.stays c.in-Ok-new.ensures.open in
-    all_kept _ g.S.Source.tells g.S.Source.left g.S.Source.faults g.S.Source.name conf c.from-tick.result c.from-turns.result c.mix_read-mixing.result.mixing c.args.ports.items c.mix_read-mixing.result.ports.items c.mix_read-mixing.result.mixer c.mix_read-mixing.result.log
-    x c.from-tick.ensures c.from-turns.ensures (Err TooLong) (λ j fault e. absurd (cc e)) (λ j w. subst (λ a. IsReadWell a j) (sym c.in-TooLong.is) tt)
+    let x = c.mix_legs-mixing.ensures.mixed (setup conf) (pts_at conf) c.in-Ok.ensures.stands (sym c.requires.legs) (subst (λ lines. StayAs (setup conf) lines) (sym c.as_slice-lines.ensures) (stays_law conf)) in
+    all_kept _ g.S.Source.tells g.S.Source.left g.S.Source.faults g.S.Source.name conf c.from-tick.result c.from-turns.result c.mix_legs-mixing.result.mixing c.args.legs.items c.mix_legs-mixing.result.legs.items c.mix_legs-mixing.result.mixer
+    x c.from-tick.ensures c.from-turns.ensures (Err TooLong) (λ j fault e. absurd (cc e)) (λ j w. subst (λ (a : Mixing DumpFault memory.NoMemory). IsReadWell a j) (sym c.in-TooLong.is) tt)
 
 pub returns-in-Faulted-clause-mixes : goal.returns-in-Faulted-clause-mixes
 returns-in-Faulted-clause-mixes g c = λ tells inputs count asks.
     let conf = conf_of c.args.conf.now in
-    let x = c.mix_read-mixing.ensures.mixed (setup conf) (pts_at conf) c.in-Ok.ensures.stands (sym c.requires.legs) c.requires.stays c.in-Ok-new.ensures.open in
-    let answer = is_answer _ g.S.Source.tells g.S.Source.left g.S.Source.faults g.S.Source.name conf c.from-tick.result c.from-turns.result c.mix_read-mixing.result.mixing c.args.ports.items c.mix_read-mixing.result.ports.items c.mix_read-mixing.result.mixer c.mix_read-mixing.result.log
+    let x = c.mix_legs-mixing.ensures.mixed (setup conf) (pts_at conf) c.in-Ok.ensures.stands (sym c.requires.legs) (subst (λ lines. StayAs (setup conf) lines) (sym c.as_slice-lines.ensures) (stays_law conf)) in
+    let answer = is_answer _ g.S.Source.tells g.S.Source.left g.S.Source.faults g.S.Source.name conf c.from-tick.result c.from-turns.result c.mix_legs-mixing.result.mixing c.args.legs.items c.mix_legs-mixing.result.legs.items c.mix_legs-mixing.result.mixer
     x c.from-tick.ensures c.from-turns.ensures (mixing.Faulted c.in-Faulted.leg c.in-Faulted.fault) c.in-Faulted.is tells inputs asks in
     (answer.2, broken_refuses conf inputs count x.table c.in-Faulted.leg c.in-Faulted.fault answer)
 
 pub returns-in-Faulted-clause-sources : goal.returns-in-Faulted-clause-sources
 returns-in-Faulted-clause-sources g c =
     let conf = conf_of c.args.conf.now in
-    let x = c.mix_read-mixing.ensures.mixed (setup conf) (pts_at conf) c.in-Ok.ensures.stands (sym c.requires.legs) c.requires.stays c.in-Ok-new.ensures.open in
-    all_kept _ g.S.Source.tells g.S.Source.left g.S.Source.faults g.S.Source.name conf c.from-tick.result c.from-turns.result c.mix_read-mixing.result.mixing c.args.ports.items c.mix_read-mixing.result.ports.items c.mix_read-mixing.result.mixer c.mix_read-mixing.result.log
-    x c.from-tick.ensures c.from-turns.ensures (Err (Dump c.in-Faulted.leg c.in-Faulted.fault)) (λ j fault e. (let is = c.in-Faulted.is in cc (e, is))) (λ j w. subst (λ a. IsReadWell a j) (sym c.in-Faulted.is) w)
+    let x = c.mix_legs-mixing.ensures.mixed (setup conf) (pts_at conf) c.in-Ok.ensures.stands (sym c.requires.legs) (subst (λ lines. StayAs (setup conf) lines) (sym c.as_slice-lines.ensures) (stays_law conf)) in
+    all_kept _ g.S.Source.tells g.S.Source.left g.S.Source.faults g.S.Source.name conf c.from-tick.result c.from-turns.result c.mix_legs-mixing.result.mixing c.args.legs.items c.mix_legs-mixing.result.legs.items c.mix_legs-mixing.result.mixer
+    x c.from-tick.ensures c.from-turns.ensures (Err (Dump c.in-Faulted.leg c.in-Faulted.fault)) (λ j fault e. (let is = c.in-Faulted.is in cc (e, is))) (λ j w. subst (λ (a : Mixing DumpFault memory.NoMemory). IsReadWell a j) (sym c.in-Faulted.is) w)
 
 pub returns-in-Faulted-clause-leg : goal.returns-in-Faulted-clause-leg
 returns-in-Faulted-clause-leg g c =
     let conf = conf_of c.args.conf.now in
-    let x = c.mix_read-mixing.ensures.mixed (setup conf) (pts_at conf) c.in-Ok.ensures.stands (sym c.requires.legs) c.requires.stays c.in-Ok-new.ensures.open in
+    let x = c.mix_legs-mixing.ensures.mixed (setup conf) (pts_at conf) c.in-Ok.ensures.stands (sym c.requires.legs) (subst (λ lines. StayAs (setup conf) lines) (sym c.as_slice-lines.ensures) (stays_law conf)) in
     x.within c.in-Faulted.leg c.in-Faulted.fault c.in-Faulted.is
 
-pub returns-in-NoMemory-clause-sources : goal.returns-in-NoMemory-clause-sources
-returns-in-NoMemory-clause-sources g c =
+pub returns-in-Stopped-clause-sources : goal.returns-in-Stopped-clause-sources
+returns-in-Stopped-clause-sources g c =
     let conf = conf_of c.args.conf.now in
-    let x = c.mix_read-mixing.ensures.mixed (setup conf) (pts_at conf) c.in-Ok.ensures.stands (sym c.requires.legs) c.requires.stays c.in-Ok-new.ensures.open in
-    all_kept _ g.S.Source.tells g.S.Source.left g.S.Source.faults g.S.Source.name conf c.from-tick.result c.from-turns.result c.mix_read-mixing.result.mixing c.args.ports.items c.mix_read-mixing.result.ports.items c.mix_read-mixing.result.mixer c.mix_read-mixing.result.log
+    let x = c.mix_legs-mixing.ensures.mixed (setup conf) (pts_at conf) c.in-Ok.ensures.stands (sym c.requires.legs) (subst (λ lines. StayAs (setup conf) lines) (sym c.as_slice-lines.ensures) (stays_law conf)) in
+    all_kept _ g.S.Source.tells g.S.Source.left g.S.Source.faults g.S.Source.name conf c.from-tick.result c.from-turns.result c.mix_legs-mixing.result.mixing c.args.legs.items c.mix_legs-mixing.result.legs.items c.mix_legs-mixing.result.mixer
     x c.from-tick.ensures c.from-turns.ensures (Err NoMemory) (λ j fault e. absurd (cc e)) (λ j w. absurd w)

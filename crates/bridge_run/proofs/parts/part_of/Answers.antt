@@ -1,5 +1,5 @@
 use Rattle.std.proofs.Common.{arith}
-use Rattle.conf_text.specs.Lines.{conf_of}
+use Rattle.conference.specs.Conferences.{conf_of}
 use Rattle.bridge_run.proofs.Joining.{more_parts, part_is}
 use Rattle.bridge_run.proofs.parts.part_of.Goals as goal
 

@@ -2,7 +2,7 @@ use Rattle.std.proofs.Common.{◌≡◌, ◌+◌, ◌*◌, ℕ, [], ◌∷◌, �
 use Rattle.std.specs.Vec.Iter.{into_iter_items}
 use Rattle.std.proofs.lemmas.List.{length_push}
 use Rattle.rtt_base.specs.declared.errors.NoMemory.{NoMemory}
-use Rattle.conf_text.specs.Lines.{conf_of}
+use Rattle.conference.specs.Conferences.{conf_of}
 use Rattle.bridge_run.specs.declared.views.Seen.{Seen}
 use Rattle.bridge_run.specs.Viewed.{AreOf, IsSeenBetween}
 use Rattle.bridge_run.proofs.Viewing.{seen_none, sums_all, views_all}

@@ -2,7 +2,7 @@ use Rattle.std.proofs.Common.{◌≡◌, ◌++◌, ◌*◌, length}
 use Rattle.std.specs.Prelude.{min}
 use Rattle.std.specs.Vec.Iter.{into_iter_items, into_iter_len}
 use Rattle.mixer_spec.specs.Table.{Table}
-use Rattle.conf_text.specs.Lines.{conf_of}
+use Rattle.conference.specs.Conferences.{conf_of}
 use Rattle.bridge_run.specs.Viewed.{AreOf, AreSent, IsSeenBetween}
 use Rattle.bridge_run.proofs.parts.views_by_parts.Given as goal
 

@@ -4,8 +4,8 @@ use Rattle.std.proofs.lemmas.List.{length-map}
 use Rattle.std.proofs.lemmas.List.Edits.{length-remove}
 use Rattle.file_spec.specs.declared.conf_lines.LegLine.{LegLine}
 use Rattle.file_spec.specs.declared.conf_lines.PlanLine.{PlanLine}
-use Rattle.conf_text.specs.Lines.{conf_of}
-use Rattle.command_spec.specs.Mixing.{came}
+use Rattle.conference.specs.Conferences.{conf_of}
+use Rattle.mixer_spec.specs.Arrives.{came}
 use Rattle.terminal.specs.Terminals.{Heard}
 use Rattle.bridge_run.specs.Viewed.{Adds}
 use Rattle.bridge_run.proofs.Viewing.{same_default, ssrcs_differ, aware_view, adds, has_few}
@@ -41,11 +41,11 @@ returns-clause-adds c = λ records d e w.
     let sources = c.as_slice-3.ensures.value ∙ (c.in_ok-speakers.ensures.sources ∙ ap (λ (ls : List LegLine). map (λ l. l.ssrc) (remove ls own)) c.as_slice-2.ensures) in
     let names = c.as_slice-5.ensures.value ∙ (c.in_ok-speakers.ensures.names ∙ ap (λ (ls : List LegLine). map (λ l. l.name) (remove ls own)) c.as_slice-2.ensures) in
     let heard = subst (λ (ps : List PlanLine). Heard c.in_ok-terminal.terminal c.conf_at.result c.as_slice-3.result.now (came ps own records)) c.as_slice-4.ensures (c.in_ok-terminal.ensures.heard records w) in
-    let view = aware_view conf own leg records c.in_ok-terminal.terminal c.conf_at.result c.as_slice-3.result.now c.as_slice-5.result.now c.args.seen.now.views c.append_aware_view.new.out
-    aware c.conf_at.ensures sources names heard c.in_ok-append_aware_view.ensures.seen in
+    let view = aware_view conf own leg records c.in_ok-terminal.terminal c.conf_at.result c.as_slice-3.result.now c.as_slice-5.result.now c.args.seen.now.views c.append_view.new.out
+    aware c.conf_at.ensures sources names heard c.in_ok-append_view.ensures.seen in
     let listed = sources ∙ ap (λ b. cond b (map (λ (l : LegLine). l.ssrc) (remove legs own)) (conf.mixer.ssrc ∷ [])) (sym aware) in
     subst (λ (l : LegLine). Adds conf own l records c.args.seen.now c.count.new.seen) same
-    (adds conf own leg records c.in_ok-terminal.terminal c.conf_at.result c.as_slice-3.result.now c.args.seen.now (record c.args.seen.now { views = c.append_aware_view.new.out }) c.count.new.seen
+    (adds conf own leg records c.in_ok-terminal.terminal c.conf_at.result c.as_slice-3.result.now c.args.seen.now (record c.args.seen.now { views = c.append_view.new.out }) c.count.new.seen
     c.conf_at.ensures listed heard view refl refl refl c.count.ensures.adds)
 
 pub returns-clause-with_it : goal.returns-clause-with_it

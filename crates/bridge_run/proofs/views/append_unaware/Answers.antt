@@ -2,8 +2,8 @@ use Rattle.std.proofs.Common.{◌≡◌, List, [], ◌∷◌, get_or, map, cond,
 use Rattle.std.specs.Prelude.{remove}
 use Rattle.file_spec.specs.declared.conf_lines.LegLine.{LegLine}
 use Rattle.file_spec.specs.declared.conf_lines.PlanLine.{PlanLine}
-use Rattle.conf_text.specs.Lines.{conf_of}
-use Rattle.command_spec.specs.Mixing.{came}
+use Rattle.conference.specs.Conferences.{conf_of}
+use Rattle.mixer_spec.specs.Arrives.{came}
 use Rattle.terminal.specs.Terminals.{Heard}
 use Rattle.bridge_run.specs.Viewed.{Adds}
 use Rattle.bridge_run.proofs.Viewing.{same_default, adds, has_few, unaware_view}
@@ -28,11 +28,11 @@ returns-clause-adds c = λ records d e w.
     let aware = ap (λ (l : LegLine). l.aware) same ∙ e in
     let sources = conf.mixer.ssrc ∷ [] in
     let heard = subst (λ (ps : List PlanLine). Heard c.in_ok-terminal.terminal c.conf_at.result sources (came ps own records)) c.as_slice-2.ensures (c.in_ok-terminal.ensures.heard records w) in
-    let view = unaware_view conf own leg records c.in_ok-terminal.terminal c.conf_at.result c.args.seen.now.views c.append_unaware_view.new.out
-    aware c.conf_at.ensures heard c.in_ok-append_unaware_view.ensures.seen in
+    let view = unaware_view conf own leg records c.in_ok-terminal.terminal c.conf_at.result c.args.seen.now.views c.append_view.new.out
+    aware c.conf_at.ensures heard c.in_ok-append_view.ensures.seen in
     let listed = ap (λ b. cond b (map (λ (l : LegLine). l.ssrc) (remove legs own)) sources) (sym aware) in
     subst (λ (l : LegLine). Adds conf own l records c.args.seen.now c.count.new.seen) same
-    (adds conf own leg records c.in_ok-terminal.terminal c.conf_at.result sources c.args.seen.now (record c.args.seen.now { views = c.append_unaware_view.new.out }) c.count.new.seen
+    (adds conf own leg records c.in_ok-terminal.terminal c.conf_at.result sources c.args.seen.now (record c.args.seen.now { views = c.append_view.new.out }) c.count.new.seen
     c.conf_at.ensures listed heard view refl refl refl c.count.ensures.adds)
 
 pub returns-clause-with_it : goal.returns-clause-with_it

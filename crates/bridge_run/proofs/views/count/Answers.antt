@@ -1,5 +1,5 @@
 use Rattle.std.proofs.Common.{ap, arith}
-use Rattle.text_spec.specs.declared.counts.Counts.{Counts}
+use Rattle.view_spec.specs.declared.counts.Counts.{Counts}
 use Rattle.bridge_run.proofs.views.count.Goals as goal
 
 pub returns-clause-with_it : goal.returns-clause-with_it

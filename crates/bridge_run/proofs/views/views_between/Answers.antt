@@ -1,5 +1,5 @@
 use Rattle.std.proofs.Common.{◌≡◌, ◌<◌, ℕ, List, [], length, get_or, sym, ◌∙◌, subst, arith}
-use Rattle.conf_text.specs.Lines.{conf_of}
+use Rattle.conference.specs.Conferences.{conf_of}
 use Rattle.command_spec.specs.Mixing.{records_to}
 use Rattle.played.specs.Written.{IsWritten, IsWrittenOf}
 use Rattle.bridge_run.proofs.Viewing.{no_leg, same_default, seen_more, seen_none}

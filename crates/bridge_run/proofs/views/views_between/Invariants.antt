@@ -1,5 +1,5 @@
 use Rattle.mixer_spec.specs.Table.{Table}
-use Rattle.conf_text.specs.Lines.{conf_of}
+use Rattle.conference.specs.Conferences.{conf_of}
 use Rattle.bridge_run.specs.Viewed.{AreOf, AreSent, IsSeenBetween}
 use Rattle.bridge_run.proofs.views.views_between.Given as goal
 

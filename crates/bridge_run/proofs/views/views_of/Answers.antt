@@ -1,6 +1,6 @@
 use Rattle.std.proofs.Common.{length, arith}
 use Rattle.std.proofs.lemmas.Result.{IfOk-weaker}
-use Rattle.conf_text.specs.Lines.{conf_of}
+use Rattle.conference.specs.Conferences.{conf_of}
 use Rattle.bridge_run.proofs.Viewing.{sums_all, views_all}
 use Rattle.bridge_run.proofs.views.views_of.Goals as goal
 

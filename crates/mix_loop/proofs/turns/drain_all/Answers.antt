@@ -1,27 +1,29 @@
-use Rattle.std.proofs.Common.{◌≡◌, ◌<◌, ℕ, length, get_or, subst, ◌∙◌, arith}
+use Rattle.std.proofs.Common.{◌≡◌, ◌<◌, ℕ, length, get_or, subst, arith}
 use Rattle.mix_loop.specs.Turns.{DrainsTo}
-use Rattle.mix_loop.proofs.Walking.{at_set}
+use Rattle.mix_loop.proofs.Walking.{sound_set}
 use Rattle.mix_loop.proofs.Finding.{drains_none, drains_more}
 use Rattle.mix_loop.proofs.Lists.{get_there}
 use Rattle.mix_loop.proofs.turns.drain_all.Goals as goal
 
 pub loop-leg-init : goal.loop-leg-init
-loop-leg-init g c = (c.requires.places, λ s firsts kn known. drains_none g.I.Inlet.stands s firsts kn c.args.ports.now known)
+loop-leg-init g c = (c.requires.sound, λ s firsts kn known. drains_none g.I.Inlet.stands s firsts kn c.args.ports.now known)
 
-pub drain-requires : goal.drain-requires
-drain-requires g c =
+pub drain-requires-clause-few : goal.drain-requires-clause-few
+drain-requires-clause-few g c = omega (arith, c.loop-leg-test.true, c.loop-leg.auto.ports, c.requires.few)
+
+pub drain-requires-clause-sound : goal.drain-requires-clause-sound
+drain-requires-clause-sound g c =
     let low : c.loop-leg.leg < length c.loop-leg.ports = omega (arith, c.loop-leg-test.true, c.loop-leg.auto.ports) in
     let p = get_or c.loop-leg.ports c.loop-leg.leg c.index-ports-leg.result in
     let at = get_there c.loop-leg.ports c.loop-leg.leg c.index-ports-leg.result low in
-    record { sound = (c.loop-leg.invariant.0 c.loop-leg.leg p at).1 }
+    c.loop-leg.invariant.0 c.loop-leg.leg p at
 
 pub loop-leg-preserved : goal.loop-leg-preserved
 loop-leg-preserved g c =
     let low : c.loop-leg.leg < length c.loop-leg.ports = omega (arith, c.loop-leg-test.true, c.loop-leg.auto.ports) in
     let p = get_or c.loop-leg.ports c.loop-leg.leg c.index-ports-leg.result in
-    let at = get_there c.loop-leg.ports c.loop-leg.leg c.index-ports-leg.result low in
-    let here = (c.loop-leg.invariant.0 c.loop-leg.leg p at).0 in (
-      at_set g.I.Inlet.good g.I.Inlet.place c.loop-leg.ports c.loop-leg.leg c.drain.new.self c.loop-leg.invariant.0 low (c.drain.ensures.place ∙ here) c.drain.ensures.sound,
+    let at = get_there c.loop-leg.ports c.loop-leg.leg c.index-ports-leg.result low in (
+      sound_set g.I.Inlet.good c.loop-leg.ports c.loop-leg.leg c.drain.new.self c.loop-leg.invariant.0 low c.drain.ensures.sound,
       λ s firsts kn known. drains_more g.I.Inlet.stands s firsts kn c.loop-leg.leg c.loop-leg.ports p c.drain.new.self (c.loop-leg.invariant.1 s firsts kn known) at c.drain.ensures.same c.drain.ensures.closed c.drain.ensures.drained,
     )
 

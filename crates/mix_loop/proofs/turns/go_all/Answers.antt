@@ -3,13 +3,13 @@ use Rattle.mixer_spec.specs.Plain.{goes_below}
 use Rattle.mix_loop.specs.Turns.{BecomesBy}
 use Rattle.mix_loop.specs.Mixers.{Of}
 use Rattle.mix_loop.proofs.Offering.{keeps_none, keeps_more}
-use Rattle.mix_loop.proofs.Walking.{go_none, go_more, at_seat, only_more}
+use Rattle.mix_loop.proofs.Walking.{go_none, go_more, sound_seat, only_more}
 use Rattle.mix_loop.proofs.Lists.{get_there}
 use Rattle.mix_loop.proofs.turns.go_all.Goals as goal
 
 pub loop-leg-init : goal.loop-leg-init
 loop-leg-init g c = (
-  c.requires.places,
+  c.requires.sound,
   keeps_none g.M.Mixes.legs g.M.Mixes.turns c.args.mixer.now,
   λ s pts firsts kn table n h. go_none g.I.Inlet.stands (Of g.M.Mixes.stands pts) s firsts kn table c.args.now c.args.ports.now c.args.mixer.now n h,
 )
@@ -19,7 +19,7 @@ loop-leg-preserved g c =
     let low : c.loop-leg.leg < length c.loop-leg.ports = omega (arith, c.loop-leg-test.true, c.loop-leg.auto.ports) in
     let p = get_or c.loop-leg.ports c.loop-leg.leg c.index-ports-leg.result in
     let at = get_there c.loop-leg.ports c.loop-leg.leg c.index-ports-leg.result low in (
-      at_seat g.I.Inlet.good g.I.Inlet.place c.loop-leg.ports c.loop-leg.leg p c.leave.new.self c.loop-leg.invariant.0 at
+      sound_seat g.I.Inlet.good c.loop-leg.ports c.loop-leg.leg p c.leave.new.self c.loop-leg.invariant.0 at
           (only_more p c.stop.new.self c.leave.new.self c.stop.ensures.only c.leave.ensures.only),
       keeps_more g.M.Mixes.legs g.M.Mixes.turns c.args.mixer.now c.loop-leg.mixer c.leave.new.mixer c.loop-leg.invariant.1
           (keeps_more g.M.Mixes.legs g.M.Mixes.turns c.loop-leg.mixer c.stop.new.mixer c.leave.new.mixer c.stop.ensures.keeps c.leave.ensures.keeps),

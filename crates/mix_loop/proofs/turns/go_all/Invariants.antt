@@ -4,12 +4,12 @@ use Rattle.mixer_spec.specs.Setups.{Setup}
 use Rattle.mixer_spec.specs.Table.{Table}
 use Rattle.mixer_spec.specs.Plain.{goes_below}
 use Rattle.mix_loop.specs.Mixers.{Of, Keeps}
-use Rattle.mix_loop.specs.Turns.{Known, AreAt, IsNow, Settled, GoesBy}
+use Rattle.mix_loop.specs.Turns.{Known, AreSound, IsNow, Settled, GoesBy}
 use Rattle.mix_loop.proofs.turns.go_all.Given as goal
 
 abbrev pub invariant-loop-leg : goal.invariant-loop-leg
 invariant-loop-leg g l =
-    AreAt g.I.Inlet.good g.I.Inlet.place l.ports
+    AreSound g.I.Inlet.good l.ports
     × Keeps g.M.Mixes.legs g.M.Mixes.turns l.fn.mixer l.mixer
-    × ((s : Setup) (pts : ℕ → Pts) (firsts : List _) (kn : ℕ → Known) (table : Table) → IsNow g.I.Inlet.stands (Of g.M.Mixes.stands pts) s firsts kn table l.fn.ports l.fn.mixer → Settled kn
+    × ((s : Setup) (pts : ℕ → Pts) (firsts : List _) (kn : ℕ → Known _) (table : Table) → IsNow g.I.Inlet.stands (Of g.M.Mixes.stands pts) s firsts kn table l.fn.ports l.fn.mixer → Settled kn
     → GoesBy g.I.Inlet.stands (Of g.M.Mixes.stands pts) s firsts (goes_below s l.now l.leg) kn table l.ports l.mixer)

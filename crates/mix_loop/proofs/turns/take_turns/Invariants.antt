@@ -2,16 +2,14 @@ use Rattle.std.proofs.Common.{◌≡◌, ℕ, List, length}
 use Rattle.rtt_base.specs.declared.text_packets.Pts.{Pts}
 use Rattle.mixer_spec.specs.Setups.{Setup}
 use Rattle.mixer_spec.specs.Table.{Table}
-use Rattle.mix_loop.specs.Logs.{LogOf}
-use Rattle.mix_loop.specs.Turns.{Known, AreAt, IsNow, IsBefore, BeforeTo}
+use Rattle.mix_loop.specs.Turns.{Known, AreSound, IsNow, IsBefore, BeforeTo}
 use Rattle.mix_loop.specs.Mixers.{Of}
 use Rattle.mix_loop.proofs.turns.take_turns.Given as goal
 
 abbrev pub invariant-loop-k : goal.invariant-loop-k
 invariant-loop-k g l =
-    AreAt g.I.Inlet.good g.I.Inlet.place l.ports
+    AreSound g.I.Inlet.good l.ports
     × (g.M.Mixes.legs l.mixer ≡ length l.ports)
-    × (length l.log ≡ length l.fn.log)
     × (g.M.Mixes.turns l.mixer ≡ l.k)
-    × ((s : Setup) (pts : ℕ → Pts) (firsts : List _) (kn : ℕ → Known) (table : Table) → IsNow g.I.Inlet.stands (Of g.M.Mixes.stands pts) s firsts kn table l.fn.ports l.fn.mixer → IsBefore s l.tick l.turns 0 kn table → LogOf pts s table l.fn.log
-    → BeforeTo g.I.Inlet.stands (Of g.M.Mixes.stands pts) pts s firsts l.tick l.turns l.k l.ports l.mixer l.log)
+    × ((s : Setup) (pts : ℕ → Pts) (firsts : List _) (kn : ℕ → Known _) (table : Table) → IsNow g.I.Inlet.stands (Of g.M.Mixes.stands pts) s firsts kn table l.fn.ports l.fn.mixer → IsBefore s l.tick l.turns 0 kn table
+    → BeforeTo g.I.Inlet.stands (Of g.M.Mixes.stands pts) s firsts l.tick l.turns l.k l.ports l.mixer)

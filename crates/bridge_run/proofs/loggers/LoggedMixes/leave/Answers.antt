@@ -1,8 +1,0 @@
-use Rattle.bridge_run.proofs.loggers.LoggedMixes.leave.Goals as goal
-
-pub returns-clause-left : goal.returns-clause-left
-returns-clause-left c = λ s pts calls h.
-    (record { stands = c.leave.ensures.stands s pts calls h.stands h.stands.allowed; early = h.early; few = h.few }, c.leave.ensures.may s pts calls h.stands)
-
-pub returns-clause-keeps : goal.returns-clause-keeps
-returns-clause-keeps c = record { legs = c.leave.ensures.legs; turns = c.leave.ensures.turns }

@@ -1,0 +1,156 @@
+//! The inputs of all legs.
+ghost use Rattle.std.specs.Prelude.{◌≡◌, ◌≤◌, ◌<◌, length, IfOk, IfErr, OnOk};
+ghost use Rattle.rtt_io.specs.Names.{NoneFalls, Same};
+ghost use Rattle.leg_items.specs.Answers.{source_in};
+ghost use Rattle.bridge_run.specs.Opened.{AreCalm, AreHeld, AreOpened, CountsLeft, FaultsRose, IsOpened, IsOver, Unopened, RefusedIn};
+ghost use Rattle.rtt_base.specs.declared.limits.TheConstants.{LONGEST_WAIT};
+ghost use Rattle.wire_spec.specs.declared.limits.TheConstants.{MOST_RECORDING_OCTETS};
+
+use crate::MixFault;
+use ear::EarConf;
+use file_spec::LegLine;
+use leg_core::{Leg, LegLost};
+use leg_items::LegInlet;
+use rtt_base::{Bytes, NoMemory};
+use rtt_io::{Source, SteadySource, World};
+use std::alloc::Global;
+
+/// The leg with this number over this source, which is handed back where memory runs out.
+fn leg_over<S: Source>(
+    alloc: Global,
+    leg: &LegLine,
+    place: u8,
+    wait: u32,
+    limit: u32,
+    source: S,
+) -> Result<LegInlet<S>, LegLost<S>>
+    requires wait { wait ≤ LONGEST_WAIT }
+    requires limit { limit ≤ MOST_RECORDING_OCTETS }
+    ensures over { IfOk result (IsOver S.tells S.left wait limit place leg.now (S.left source)) }
+    ensures source { IfOk result (λ inlet. source_in inlet ≡ source) }
+    ensures lost { IfErr result (λ lost. lost.source ≡ source) }
+{
+    let conf = EarConf {
+        place,
+        ssrc: leg.ssrc,
+        pts: leg.pts,
+        wait: u64::from(wait),
+    };
+    match Leg::with_limit(alloc, source, conf, limit) {
+        Ok(leg) => Ok(LegInlet { leg }),
+        Err(lost) => Err(lost),
+    }
+}
+
+/// Opens the input of the leg with this number. Its source is handed back where memory runs out.
+fn open_leg<W: World>(
+    alloc: Global,
+    leg: &LegLine,
+    place: u8,
+    wait: u32,
+    limit: u32,
+    world: &mut W,
+) -> Result<LegInlet<W::Src>, MixFault>
+    requires wait { wait ≤ LONGEST_WAIT }
+    requires limit { limit ≤ MOST_RECORDING_OCTETS }
+    ensures opened { IfOk result (IsOpened W.tells W.Src.left W.Src.faults W.Src.name
+        (W.contents world.old) wait limit place leg.now) }
+    ensures shown { W.tells → OnOk result W.Src.tells }
+    ensures refused { IfErr result (RefusedIn W.own_faults world.old world.new place leg.now) }
+    ensures own_never_falls { NoneFalls W.own_faults world.old world.new }
+    ensures calm { OnOk result (Same W.own_faults world.old world.new) }
+    ensures same_objects { Same W.object_faults world.old world.new }
+    ensures same_contents { W.tells → Same W.contents world.old world.new }
+{
+    let Ok(source) = world.open_source(leg.input.as_str()) else {
+        return Err(MixFault::Open { leg: place });
+    };
+    match leg_over(alloc, leg, place, wait, limit, source) {
+        Ok(inlet) => Ok(inlet),
+        Err(lost) => {
+            world.done_src(lost.source);
+            Err(MixFault::NoMemory)
+        }
+    }
+}
+
+/// Opens the inputs of all legs, in leg order, of which each may have at most `limit` octets. Where one can't be opened, or
+/// memory runs out, the sources of those before it are handed back.
+pub(crate) fn open_legs<W: World>(
+    alloc: Global,
+    legs: &[LegLine],
+    wait: u32,
+    limit: u32,
+    world: &mut W,
+) -> Result<Vec<LegInlet<W::Src>>, MixFault>
+    requires few { length legs.now ≤ 64 }
+    requires wait { wait ≤ LONGEST_WAIT }
+    requires limit { limit ≤ MOST_RECORDING_OCTETS }
+    ensures legs { IfOk result (λ inlets. length inlets.items ≡ length legs.now) }
+    ensures opened { IfOk result (AreOpened W.tells W.Src.left W.Src.faults W.Src.name
+        (W.contents world.old) wait limit legs.now) }
+    ensures shown { W.tells → OnOk result (0 < length legs.now → W.Src.tells) }
+    ensures refused { IfErr result (Unopened W.tells W.contents W.own_faults world.old world.new legs.now) }
+    ensures own_never_falls { NoneFalls W.own_faults world.old world.new }
+    ensures calm { OnOk result (Same W.own_faults world.old world.new) }
+    ensures same_objects { Same W.object_faults world.old world.new }
+    ensures same_contents { W.tells → Same W.contents world.old world.new }
+{
+    let Ok(mut inlets) = Vec::with_capacity(alloc, legs.len()) else {
+        return Err(MixFault::NoMemory);
+    };
+    for index in 0..legs.len() {
+        match open_leg(alloc, &legs[index], index as u8, wait, limit, world) {
+            Ok(inlet) => inlets.push_reserved(inlet),
+            Err(fault) => {
+                close_legs(inlets, world);
+                return Err(fault);
+            }
+        }
+    }
+    Ok(inlets)
+}
+
+/// These legs, in leg order, over inputs of these octets, of which each may have at most `limit` octets.
+pub(crate) fn held_legs(
+    alloc: Global,
+    legs: &[LegLine],
+    wait: u32,
+    limit: u32,
+    inputs: Vec<Bytes>,
+) -> Result<Vec<LegInlet<SteadySource>>, NoMemory>
+    requires each { length inputs.items ≡ length legs.now }
+    requires few { length legs.now ≤ 64 }
+    requires wait { wait ≤ LONGEST_WAIT }
+    requires limit { limit ≤ MOST_RECORDING_OCTETS }
+    ensures legs { IfOk result (λ inlets. length inlets.items ≡ length legs.now) }
+    ensures over { IfOk result (AreHeld wait limit legs.now inputs.items) }
+{
+    let mut inlets = Vec::with_capacity(alloc, legs.len())?;
+    for octets in inputs {
+        let place = inlets.len();
+        let source = SteadySource::new(octets);
+        match leg_over(alloc, &legs[place], place as u8, wait, limit, source) {
+            Ok(inlet) => inlets.push_reserved(inlet),
+            Err(_) => return Err(NoMemory),
+        }
+    }
+    Ok(inlets)
+}
+
+/// Hands back the sources of all legs. Where the reading of one failed, the count of its name rises.
+pub(crate) fn close_legs<W: World>(inlets: Vec<LegInlet<W::Src>>, world: &mut W)
+    ensures same_own { Same W.own_faults world.old world.new }
+    ensures objects_never_fall { NoneFalls W.object_faults world.old world.new }
+    ensures calm { AreCalm W.Src.faults inlets.items → Same W.object_faults world.old world.new }
+    ensures failed { FaultsRose W.Src.faults W.Src.name W.object_faults inlets.items world.old world.new }
+    ensures left { W.tells → CountsLeft W.Src.faults W.Src.name W.contents W.object_faults
+        inlets.items world.old world.new }
+    ensures same_contents { W.tells → Same W.contents world.old world.new }
+{
+    let mut inlets = inlets;
+    while let Some(inlet) = inlets.pop() {
+        world.done_src(inlet.into_source());
+    }
+    inlets.destroy_empty();
+}

@@ -1,0 +1,111 @@
+//! Lists of what runs: all start, and all are joined.
+ghost use Rattle.std.specs.Prelude.{◌≡◌, ◌≤◌, [], vec_len};
+ghost use Rattle.std.specs.Vec.{vec_capacity};
+ghost use Rattle.item_lanes.specs.Lanes.{AreBack, AreNew, AreStarted};
+ghost use Rattle.item_lanes.specs.Rooms.{HasRoom, HasRoomBack};
+
+use crate::ends::LaneEnds;
+use crate::lanes::Lane;
+use crate::rooms::{LaneRoom, Started};
+use crate::starting::start_lane;
+use core::thread::Stack;
+use item_queue::Gives;
+use rtt_io::Gate;
+use std::sync::Wait;
+use std::thread::{Scope, Threads};
+
+/// Starts all that is in a list.
+fn start_all<
+    's,
+    'e,
+    Q: Drop + Send + 's,
+    F: Gives<Q> + Send + 's,
+    R: Wait + Sync,
+    G: Gate + Copy + Send + 's,
+>(
+    scope: &'s Scope<'s, &'e ()>,
+    rt: &'s R,
+    gate: G,
+    stack: usize,
+    gives: Vec<F>,
+    mut ends: Vec<LaneEnds<Q>>,
+    mut lanes: Vec<Lane<Q, F, G>>,
+) -> Vec<Lane<Q, F, G>>
+    requires new { AreNew F.stands gives.items }
+    requires ends { vec_len ends ≡ vec_len gives }
+    requires none { lanes.items ≡ [] }
+    requires room { vec_len gives ≤ vec_capacity lanes }
+    ensures { AreStarted F.stands gives.items result.items }
+{
+    let mut rest = gives.into_iter();
+    let mut number = 0;
+    while let Some(leg) = rest.next() {
+        let Some(end) = ends.pop() else {
+            unreachable!()
+        };
+        let size = Stack::new().stack_size(stack);
+        let lane = start_lane(scope, rt, gate, size, leg, number, end);
+        number = number.wrapping_add(1);
+        lanes.push_reserved(lane);
+    }
+    rest.destroy_empty();
+    lanes
+}
+
+/// Joins all that is in a list.
+fn join_all<Q: Drop, F: Gives<Q>, R: Threads, G: Gate + Copy>(
+    rt: &R,
+    lanes: Vec<Lane<Q, F, G>>,
+    mut back: Vec<F>,
+) -> Vec<F>
+    requires none { back.items ≡ [] }
+    requires room { vec_len lanes ≤ vec_capacity back }
+    ensures { AreBack F.stands lanes.items result.items }
+{
+    let mut rest = lanes.into_iter();
+    while let Some(lane) = rest.next() {
+        let gives = lane.close(rt);
+        back.push_reserved(gives);
+    }
+    rest.destroy_empty();
+    back
+}
+
+/// Starts all that is in a list, each on a thread of so many octets of stack. What can't be started on a thread is stepped where its
+/// items are popped. The gate knows each by its place in the list.
+pub fn start_lanes<
+    's,
+    'e,
+    Q: Drop + Send + 's,
+    F: Gives<Q> + Send + 's,
+    R: Wait + Sync,
+    G: Gate + Copy + Send + 's,
+>(
+    scope: &'s Scope<'s, &'e ()>,
+    rt: &'s R,
+    gate: G,
+    stack: usize,
+    gives: Vec<F>,
+    room: LaneRoom<Q, F, G>,
+) -> Started<Q, F, G>
+    requires new { AreNew F.stands gives.items }
+    requires room { HasRoom (vec_len gives) room }
+    ensures lanes { AreStarted F.stands gives.items result.lanes.items }
+    ensures back { HasRoomBack (vec_len gives) result.back }
+{
+    let LaneRoom { ends, lanes, back } = room;
+    let lanes = start_all(scope, rt, gate, stack, gives, ends, lanes);
+    Started { lanes, back }
+}
+
+/// Joins all lanes, and has back what gives. What was popped of each is the first of what it gave.
+pub fn join_lanes<Q: Drop, F: Gives<Q>, R: Threads, G: Gate + Copy>(
+    rt: &R,
+    lanes: Vec<Lane<Q, F, G>>,
+    back: Vec<F>,
+) -> Vec<F>
+    requires { HasRoomBack (vec_len lanes) back }
+    ensures { AreBack F.stands lanes.items result.items }
+{
+    join_all(rt, lanes, back)
+}

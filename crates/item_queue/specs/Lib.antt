@@ -1,0 +1,4 @@
+pub mod Rule
+pub mod Passes
+pub mod Giving
+pub mod Feeds

@@ -1,0 +1,32 @@
+-- What a clause says of a mixing that runs.
+use Rattle.std.specs.Prelude.{◌≡◌, ℕ, List, vec_len}
+use Rattle.std.specs.Mem.{manually_drop_value}
+use Rattle.core.specs.declared.mem.manually_drop.ManuallyDrop.{ManuallyDrop}
+use Rattle.rtt_base.specs.declared.text_packets.Pts.{Pts}
+use Rattle.mixer_spec.specs.Setups.{Setup}
+use Rattle.mixer_spec.specs.Table.{Call}
+use Rattle.item_lanes.specs.Rooms as lanes
+use Rattle.mix_loop.specs.Mixing as mixing
+use Rattle.leg_lanes.specs.declared.jobs.Job.{Job}
+use Rattle.leg_lanes.specs.declared.running.Ran.{Ran}
+use Rattle.leg_lanes.specs.Mixings.{CanMix, RanPlain}
+
+module _ {S M G : Type 0} where
+  -- what a job names may be mixed, and there is room for its legs
+  pub record CanRun (legs_of turns_of : M → ℕ) (horizon : ℕ) (job : Job S M G) : Type 0 where
+    pub may : CanMix legs_of turns_of horizon job.legs job.lines.now job.mixer job.tick job.turns
+    pub lanes : lanes.HasRoom (vec_len job.legs) job.lanes
+    pub room : mixing.HasRoom (vec_len job.legs) job.room
+
+  -- it was mixed, and all legs came back
+  pub record RanAs (mixes : M → Setup → (ℕ → Pts) → List Call → Type 0) (tells : Type 0) (left : S → List ℕ) (faults : S → ℕ) (name : S → List ℕ) (job : Job S M G) (ran : Ran S M) : Type 0 where
+    pub legs : vec_len ran.legs ≡ vec_len job.legs
+    pub mixed : RanPlain mixes tells left faults name job.tick job.turns job.legs job.lines.now job.mixer ran
+
+  -- a job that is lent may be run
+  abbrev pub LentCanRun : (M → ℕ) → (M → ℕ) → ℕ → ManuallyDrop (Job S M G) → Type 0
+  LentCanRun legs_of turns_of horizon lent = CanRun legs_of turns_of horizon (manually_drop_value lent)
+
+  -- a job that is lent was run
+  abbrev pub LentRanAs : (M → Setup → (ℕ → Pts) → List Call → Type 0) → Type 0 → (S → List ℕ) → (S → ℕ) → (S → List ℕ) → ManuallyDrop (Job S M G) → Ran S M → Type 0
+  LentRanAs mixes tells left faults name lent ran = RanAs mixes tells left faults name (manually_drop_value lent) ran

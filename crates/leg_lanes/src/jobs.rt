@@ -1,0 +1,22 @@
+//! A mixing that is to run.
+use file_spec::LegLine;
+use item_lanes::{Lane, LaneRoom};
+use leg_items::LegInlet;
+use mix_loop::{Answer, Mixing, Room};
+use rtpdump_io::DumpFault;
+use rtt_base::NoMemory;
+use rtt_io::{Gate, Source};
+
+/// A leg that runs.
+pub(crate) type LegLane<S, G> = Lane<Answer<DumpFault>, LegInlet<S>, G>;
+
+/// What is to be mixed, and by whom.
+pub(crate) struct Job<'l, S: Source, M, G: Gate> {
+    pub(crate) legs: Vec<LegInlet<S>>,
+    pub(crate) lanes: LaneRoom<Answer<DumpFault>, LegInlet<S>, G>,
+    pub(crate) room: Room<LegLane<S, G>>,
+    pub(crate) lines: &'l [LegLine],
+    pub(crate) mixer: M,
+    pub(crate) tick: u64,
+    pub(crate) turns: u64,
+}

@@ -1,0 +1,27 @@
+-- What a mixer stands for whose packets are sent.
+use Rattle.std.specs.Prelude.{◌≡◌, ◌<◌, ◌≤◌, ℕ, List, [], ◌∷◌}
+use Rattle.rtt_base.specs.declared.text_packets.Pts.{Pts}
+use Rattle.mixer_spec.specs.Setups.{Setup}
+use Rattle.mixer_spec.specs.Table.{Call, Admit, Hush, Leave, Offer, Turn}
+use Rattle.mixer_spec.specs.Calls.{turns_made}
+use Rattle.mixer_turn.specs.declared.batches.Post.{Post}
+use Rattle.mixer_turn.specs.Standing.{StandsFor}
+use Rattle.mixer_posts.specs.declared.mixers.Sending.{Sending}
+use Rattle.mixer_posts.specs.Posts.{sent_by}
+
+-- each turn came before this moment
+abbrev pub AreBefore : ℕ → List Call → Type 0
+AreBefore moment [] = Unit {0}
+AreBefore moment (Admit i l ∷ past) = AreBefore moment past
+AreBefore moment (Hush i ∷ past) = AreBefore moment past
+AreBefore moment (Leave i ∷ past) = AreBefore moment past
+AreBefore moment (Offer c ∷ past) = AreBefore moment past
+AreBefore moment (Turn now ∷ past) = (now < moment) × AreBefore moment past
+
+-- These calls were made of it, no more turns than a conference has, and what they send was taken.
+pub record SendsFor {O : Type 0} (took : O → List (ℕ × Post) → Type 0) (terminals : O → ℕ) (horizon : ℕ) (m : Sending O) (s : Setup) (pts : ℕ → Pts) (calls : List Call) : Type 0 where
+  pub stands : StandsFor s pts m.mixer calls
+  pub sent : took m.outbound (sent_by s pts calls)
+  pub all : terminals m.outbound ≡ s.legs
+  pub early : AreBefore horizon calls
+  pub few : turns_made calls ≤ 5000000

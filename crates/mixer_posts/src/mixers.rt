@@ -1,0 +1,85 @@
+//! A mixer whose packets are sent.
+ghost use Rattle.std.specs.Prelude.{◌≡◌};
+
+use crate::Outbound;
+use crate::sending::send_posts;
+use mix_loop::Mixes;
+use mixer_turn::{Batch, Mixer};
+use rtt_base::{Chunk, Full};
+
+/// The mixer of a conference, with the packets of its last turn, and where they go.
+#[derive(Drop)]
+pub struct Sending<O> {
+    pub(crate) mixer: Mixer,
+    pub(crate) batch: Batch,
+    pub(crate) outbound: O,
+}
+
+impl<O> Sending<O> {
+    /// This mixer, whose packets go there. The batch has room for those of a turn.
+    pub fn new(mixer: Mixer, batch: Batch, outbound: O) -> Sending<O>
+        ensures mixer { result.mixer ≡ mixer }
+        ensures outbound { result.outbound ≡ outbound }
+    {
+        Sending {
+            mixer,
+            batch,
+            outbound,
+        }
+    }
+
+    /// Where the packets went.
+    pub fn into_outbound(self) -> O
+        ensures { result ≡ self.outbound }
+    {
+        let Sending {
+            mixer: _,
+            batch: _,
+            outbound,
+        } = self;
+        outbound
+    }
+}
+
+impl<O: Outbound> Mixes for Sending<O> {
+    ghost use Rattle.mixer_posts.specs.Standing.{SendsFor};
+    ghost use Rattle.mixer_turn.specs.States.{legs_of};
+
+    type Fault = O::Fault;
+
+    ghost stands = { λ m s pts calls. SendsFor O.took O.terminals O.horizon m s pts calls };
+
+    ghost legs = { λ m. legs_of m.mixer };
+
+    ghost turns = { λ m. m.mixer.turns };
+
+    ghost horizon = { O.horizon };
+
+    ghost unsent = { λ m why. O.unsent m.outbound why };
+
+    fn admit(&mut self, leg: usize, listens: bool) -> bool {
+        self.mixer.admit(leg, listens)
+    }
+
+    fn hush(&mut self, leg: usize) {
+        self.mixer.hush(leg);
+    }
+
+    fn leave(&mut self, leg: usize) -> bool {
+        self.mixer.leave(leg)
+    }
+
+    fn offer(&mut self, chunk: &Chunk) -> Result<(), Full> {
+        let _octets = chunk.text.as_slice();
+        self.mixer.offer(chunk)
+    }
+
+    fn turn(&mut self, now: u64) -> Result<(), O::Fault> {
+        self.mixer.turn(now, &mut self.batch);
+        send_posts(now, self.batch.posts(), &mut self.outbound)
+    }
+
+    fn idle(&self) -> bool {
+        self.mixer.idle()
+    }
+}

@@ -1,0 +1,26 @@
+//! The packets of a turn are sent.
+ghost use Rattle.std.specs.Prelude.{◌≡◌, ◌<◌, OnOk, IfErr};
+ghost use Rattle.mixer_posts.specs.Posts.{TakesAll};
+
+use crate::Outbound;
+use mixer_turn::Post;
+
+/// Sends these packets at the moment `now` (milliseconds), one after the other.
+pub(crate) fn send_posts<O: Outbound>(
+    now: u64,
+    posts: &[Post],
+    outbound: &mut O,
+) -> Result<(), O::Fault>
+    requires { now < O.horizon }
+    ensures took { OnOk result (TakesAll O.took O.terminals outbound.old outbound.new now posts.now) }
+    ensures unsent { IfErr result (O.unsent outbound.new) }
+    ensures terminals { O.terminals outbound.new ≡ O.terminals outbound.old }
+{
+    for post in posts {
+        match outbound.send(now, post) {
+            Ok(()) => {}
+            Err(fault) => return Err(fault),
+        }
+    }
+    Ok(())
+}

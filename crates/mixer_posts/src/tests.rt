@@ -1,0 +1,91 @@
+//! What a turn sends is given to an outbound.
+ghost use Rattle.std.specs.Prelude.{◌≡◌, IfOk};
+
+use crate::{Outbound, Sending};
+use conf_text::{Form, read_conf};
+use mix_loop::Mixes;
+use mixer_turn::{Batch, Mixer, Post};
+use rtt_base::{Chunk, NoMemory, Text};
+use std::alloc::Global;
+use std::process::Abort;
+use std::test::Fail;
+
+/// Two legs.
+const TWO: &[u8] = b"leg A aware 1001 a.rtp a\nleg B aware 1002 b.rtp b\nmixer 9000 0 0\n";
+
+/// Notes to whom a packet is sent, and when. It takes so many.
+#[derive(Drop)]
+struct Notes {
+    sent: Vec<(u64, usize)>,
+    room: usize,
+}
+
+impl Outbound for Notes {
+    ghost use Rattle.std.proofs.Common.{rules};
+    ghost use Rattle.std.specs.Prelude.{◌^◌};
+
+    type Fault = NoMemory;
+
+    ghost took = { λ notes sent. Unit {0} };
+
+    ghost terminals = { λ notes. 2 };
+
+    ghost horizon = { 2 ^ 32 };
+
+    ghost unsent = { λ notes why. Unit {0} };
+
+    fn send(&mut self, now: u64, post: &Post) -> Result<(), NoMemory> {
+        if self.sent.len() >= self.room {
+            return Err(NoMemory);
+        }
+        match self.sent.push((now, post.terminal)) {
+            Ok(()) => Ok(()),
+            Err(_) => Err(NoMemory),
+        }
+    }
+
+    ghost in_time = { Prim.search rules };
+}
+
+/// The mixer of two legs, the first of which typed, and an outbound that takes so many packets.
+fn typed(rt: &impl Abort, alloc: Global, room: usize) -> Result<Sending<Notes>, NoMemory>
+    ensures turns { IfOk result (λ sending. sending.mixer.turns ≡ 0) }
+{
+    let Ok(conf) = read_conf(alloc, TWO, Form::Files) else {
+        return Err(NoMemory);
+    };
+    let mut mixer = Mixer::new(alloc, &conf)?;
+    assert!(rt; mixer.legs() == 2);
+    assert!(rt; mixer.admit(0, true));
+    assert!(rt; mixer.admit(1, true));
+    let mut text = Text::new();
+    text.push(b'x');
+    let chunk = Chunk {
+        source: 0,
+        ready: 0,
+        text,
+    };
+    assert!(rt; mixer.offer(&chunk).is_ok());
+    let sent = Vec::new(alloc);
+    Ok(Sending::new(mixer, Batch::new(alloc)?, Notes { sent, room }))
+}
+
+#[test]
+fn each_turn_is_sent_at_its_moment(rt: HostRuntime) -> Result<(), Fail> {
+    let mut sending = typed(&rt, rt.alloc(), 7)?;
+    assert!(rt; !sending.idle());
+    sending.turn(300)?;
+    sending.turn(600)?;
+    let notes = sending.into_outbound();
+    assert!(rt; notes.sent.len() == 2);
+    assert!(rt; notes.sent.get(0) == Some(&(300, 1)));
+    assert!(rt; notes.sent.get(1) == Some(&(600, 1)));
+    Ok(())
+}
+
+#[test]
+fn an_outbound_without_room_stops_the_turn(rt: HostRuntime) -> Result<(), Fail> {
+    let mut sending = typed(&rt, rt.alloc(), 0)?;
+    assert!(rt; sending.turn(300).is_err());
+    Ok(())
+}
