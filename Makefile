@@ -2,9 +2,11 @@
 # make run         builds the proved program, and prints the same
 # make test        the gate: proves from nothing what did not pass on this machine as it stands, and runs everything
 # make examples    runs the commands of the documents and compares what they print, and what is stored in examples
-# make trials      tries the program against the system, with each request of memory refused, and as a package
+# make trials      tries the program against the system, with each request of memory refused, against a second program, and
+#                  as a package
 # make recordings  makes the stored recordings of examples/ anew
 # make bench       how fast the program reads, lists, sends and mixes
+# make compare     how fast it mixes beside a second program on one thread (takes rustc)
 # make install     the program and its page, below PREFIX
 # make deb         the package cinderwool_VERSION_ARCHITECTURE.deb, of the program, its page, the documents and the examples
 # PROGRAM=.. names another program than the one that `make run` built.
@@ -12,7 +14,7 @@ PREFIX ?= /usr/local
 BUILT = crates/rtt_program/out/rtt_program
 PROGRAM = $(BUILT)
 
-.PHONY: try run test examples trials recordings bench install deb
+.PHONY: try run test examples trials recordings bench compare install deb
 
 try:
 	cd crates/rtt_program && rt try -- read data/call.rtp 1001
@@ -40,6 +42,7 @@ examples: $(PROGRAM)
 trials: $(PROGRAM)
 	examples/system $(PROGRAM)
 	examples/memory $(PROGRAM)
+	examples/second-program $(PROGRAM)
 	package/try $(PROGRAM)
 
 recordings: $(PROGRAM)
@@ -51,6 +54,9 @@ bench: $(PROGRAM)
 	bench/send $(PROGRAM)
 	bench/mix $(PROGRAM)
 	bench/threads $(PROGRAM)
+
+compare: $(PROGRAM)
+	bench/compare $(PROGRAM)
 
 install: $(PROGRAM)
 	install -D -m 755 $(PROGRAM) $(DESTDIR)$(PREFIX)/bin/rtt_program
