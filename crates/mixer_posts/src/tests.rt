@@ -71,19 +71,6 @@ fn typed(rt: &impl Abort, alloc: Global, room: usize) -> Result<Sending<Notes>, 
 }
 
 #[test]
-fn each_turn_is_sent_at_its_moment(rt: HostRuntime) -> Result<(), Fail> {
-    let mut sending = typed(&rt, rt.alloc(), 7)?;
-    assert!(rt; !sending.idle());
-    sending.turn(300)?;
-    sending.turn(600)?;
-    let notes = sending.into_outbound();
-    assert!(rt; notes.sent.len() == 2);
-    assert!(rt; notes.sent.get(0) == Some(&(300, 1)));
-    assert!(rt; notes.sent.get(1) == Some(&(600, 1)));
-    Ok(())
-}
-
-#[test]
 fn an_outbound_without_room_stops_the_turn(rt: HostRuntime) -> Result<(), Fail> {
     let mut sending = typed(&rt, rt.alloc(), 0)?;
     assert!(rt; sending.turn(300).is_err());
