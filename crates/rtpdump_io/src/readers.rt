@@ -153,6 +153,7 @@ impl<S: Source> DumpReader<S> {
     }
 
     // Reads the opening, where that was not done yet.
+    #[inline(always)]
     fn make_ready(&mut self) -> Result<Result<(), DumpKind>, Failed>
         requires { is_ended self.old ≡ false }
         ensures came { S.tells → IfOk result (λ found. IsReady S.left self.old self.new found) }
@@ -210,6 +211,7 @@ impl<S: Source> DumpReader<S> {
     }
 
     // Reads a record, or finds the end.
+    #[inline(always)]
     fn record(&mut self, out: &mut Packet) -> Result<Result<DumpItem, DumpKind>, Failed>
         ensures same_offset { OnErr result (self.new.offset ≡ self.old.offset) }
         ensures all { S.tells → OnFound result (octets_around S.left self.new ≡ octets_around S.left self.old) }
