@@ -42,7 +42,7 @@ came_of past = arrivals_after past.conf.ssrc past.conf.pts [] (recording_of past
 
 -- all chunks of the recording
 abbrev pub chunks_of : LegPast → List Chunk
-chunks_of past = chunks past.conf.wait past.conf.place (came_of past) past.conf.ssrc
+chunks_of past = chunks past.conf.wait past.conf.leg (came_of past) past.conf.ssrc
 
 -- ---- what it answers
 
@@ -81,9 +81,9 @@ module _ {S : Type 0} where
   abbrev pub unread : Leg S → ℕ
   unread leg = most_answers leg.reader
 
-  -- the source of its chunks: its place among the legs
-  abbrev pub place_of : Leg S → ℕ
-  place_of leg = (conf_of leg.ear).place
+  -- the source of its chunks: the number of its leg
+  abbrev pub leg_number : Leg S → ℕ
+  leg_number leg = (conf_of leg.ear).leg
 
   -- what it reads from
   abbrev pub source_of : Leg S → S

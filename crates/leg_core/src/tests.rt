@@ -11,7 +11,7 @@ use std::test::Fail;
 use wire_spec::DumpKind;
 
 const ANN: EarConf = EarConf {
-    place: 5,
+    leg: 5,
     ssrc: 1001,
     pts: Pts { t140: 98, red: 100 },
     wait: 1000,

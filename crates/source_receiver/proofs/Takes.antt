@@ -156,7 +156,7 @@ place_some s xs k e = go (nat_lt (position_or_len (λ n. n == s) xs) (length xs)
         subst (IsPlace s xs) same (record { within = l; is = eqb-true (get_or xs (position_or_len (λ n. n == s) xs) 0) s (passes_at_first (λ n. n == s) xs 0 l) })
     go false t q = cc q
 
-place_none : (s : ℕ) (xs : List ℕ) (k : ℕ) → position (λ n. n == s) xs ≡ None → k < length xs → get_or xs k 0 ≡ s → ⊥
+pub place_none : (s : ℕ) (xs : List ℕ) (k : ℕ) → position (λ n. n == s) xs ≡ None → k < length xs → get_or xs k 0 ≡ s → ⊥
 place_none s xs k e l q = go (nat_lt (position_or_len (λ n. n == s) xs) (length xs)) refl e
   where
     go : (b : Bool) → nat_lt (position_or_len (λ n. n == s) xs) (length xs) ≡ b → cond b (Some (position_or_len (λ n. n == s) xs)) None ≡ None → ⊥

@@ -1,10 +1,15 @@
 -- What is heard of each of many sources (profile).
 use Rattle.std.specs.Prelude.{◌≡◌, ℕ, ◌+◌, ◌<◌, Bool, ◌&&◌, List, [], ◌∷◌, ◌++◌, length, slice_index, slice_index_or, if◌then◌else◌}
 use Rattle.std.specs.List.{concat}
+use Rattle.rtt_base.specs.declared.text_packets.TextPacket.{TextPacket}
 use Rattle.stream_spec.specs.Numbering.{Numbered}
 use Rattle.stream_spec.specs.Hearing.{adds_marker, heard_by, is_packet_of}
+use Rattle.stream_spec.specs.ChunksBy.{texts_added}
+use Rattle.source_receiver.specs.declared.pieces.Piece.{Piece}
 use Rattle.source_receiver.specs.declared.receivers.Receiver.{Receiver}
 use Rattle.source_receiver.specs.declared.source_texts.SourceText.{SourceText}
+use Rattle.source_receiver.specs.Pieces.{left_of}
+use Rattle.source_receiver.specs.Stands.{Stands, used_packet}
 
 -- how many sources are listened to
 abbrev pub sources_count : Receiver → ℕ
@@ -30,3 +35,9 @@ pub record IsHeardOf (s : ℕ) (us : List Numbered) (t : SourceText) : Type 0 wh
 -- each text is what is heard of the source in its place
 abbrev pub AreHeard : List ℕ → List Numbered → List SourceText → Type 0
 AreHeard sources us texts = (k : ℕ) (d : SourceText) → k < length sources → IsHeardOf (slice_index sources k) us (slice_index_or texts k d)
+
+-- What is left of a packet is what it adds to what is heard of its source, where that is listed.
+abbrev pub LeavesAdded : Receiver → ℕ → TextPacket → Piece → Type 0
+LeavesAdded old number p piece =
+    (sources : List ℕ) (us : List Numbered) (time k : ℕ) → Stands old sources us → k < length sources → slice_index sources k ≡ p.source
+    → left_of piece p ≡ texts_added us (used_packet time number p) p.source

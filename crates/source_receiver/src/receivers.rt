@@ -8,7 +8,7 @@ ghost use Rattle.stream_spec.specs.Hearing.{heard_by, marker, oldest_offset};
 ghost use Rattle.source_receiver.specs.Stands.{Stands, used_packet, latest_number};
 ghost use Rattle.source_receiver.specs.Steps.{missing_up_to, missing_then, is_new_since, is_marked_since, new_since, older_since, told_since};
 ghost use Rattle.source_receiver.specs.Pieces.{left_of};
-ghost use Rattle.source_receiver.specs.Each.{one_if, sources_count, AreHeard};
+ghost use Rattle.source_receiver.specs.Each.{one_if, sources_count, AreHeard, LeavesAdded};
 ghost use Rattle.source_receiver.specs.Plain.{TakesView, HearsView, HearsPrimary, gives_since, any_gives_since, IsPlain, IsPlainAt, IsKept};
 ghost use Rattle.red_blocks.specs.Views.{headers_in, IsView};
 ghost use Rattle.rtt_base.specs.declared.limits.TheConstants.{MOST_SOURCES};
@@ -332,6 +332,7 @@ impl Receiver {
             → Stands self.new sources (us ++ used_packet time number packet.now ∷ []) }
         ensures heard { (source : ℕ) (us : List Numbered) (time : ℕ) → Stands self.old (source ∷ []) us
             → heard_by (us ++ used_packet time number packet.now ∷ []) source ≡ heard_by us source ++ left_of result packet.now }
+        ensures each { LeavesAdded self.old number packet.now result }
     {
         self.count(number);
         let Some(place) = place_of(self.listed.as_slice(), packet.source) else {
