@@ -49,7 +49,7 @@ module _ {S : Type 0} (Told : Type 0) (left : S → List ℕ) (c : Conf) (inputs
   asked_over told = λ j p at.
       let o = over j p at in
       let past : Option LegLine → LegPast = λ leg. record {
-        conf = record { place = j; ssrc = ssrc_of leg; pts = pts_of leg; wait = c.wait };
+        conf = record { leg = j; ssrc = ssrc_of leg; pts = pts_of leg; wait = c.wait };
         limit = input_limit c;
         octets = input_at inputs j;
         gave = [];

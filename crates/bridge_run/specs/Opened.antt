@@ -17,7 +17,7 @@ use Rattle.bridge_run.specs.declared.mixed.MixFault.TheVariants.{Open, Dump, Too
 
 -- what is heard of the leg j
 abbrev pub ear_of : ℕ → ℕ → LegLine → EarConf
-ear_of wait j leg = record { place = j; ssrc = leg.ssrc; pts = leg.pts; wait = wait }
+ear_of wait j leg = record { leg = j; ssrc = leg.ssrc; pts = leg.pts; wait = wait }
 
 module _ {S : Type 0} where
   -- this holds of each of these sources

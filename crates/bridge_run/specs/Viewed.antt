@@ -17,6 +17,8 @@ use Rattle.terminal.specs.declared.terminals.Terminal.{Terminal}
 use Rattle.terminal.specs.Terminals.{counts_of, texts_of}
 use Rattle.bridge_run.specs.declared.views.Seen.{Seen}
 use Rattle.bridge_run.specs.declared.parts.TheConstants.{MOST_PARTS}
+use Rattle.file_spec.specs.declared.limits.TheConstants.{MOST_LEGS}
+use Rattle.rtt_base.specs.declared.limits.TheConstants.{MOST_ARRIVALS}
 
 -- each leg has a name
 abbrev pub AreNamed : List LegLine → Type 0
@@ -92,14 +94,14 @@ pub record AddsCounts (t : Terminal) (old new : Seen) : Type 0 where
 
 -- Few packets came to it, and it has few sources. No number of it is greater.
 pub record HasFew (t : Terminal) : Type 0 where
-  pub packets : (counts_of t).packets < 2 ^ 40
-  pub used : (counts_of t).used < 2 ^ 40
+  pub packets : (counts_of t).packets < MOST_ARRIVALS
+  pub used : (counts_of t).used < MOST_ARRIVALS
   pub marks : marks_of t < 2 ^ 46
 
 -- These are the numbers of at most so many such terminals.
 pub record AreOf (n : ℕ) (seen : Seen) : Type 0 where
-  pub packets : seen.packets ≤ n * 2 ^ 40
-  pub used : seen.used ≤ n * 2 ^ 40
+  pub packets : seen.packets ≤ n * MOST_ARRIVALS
+  pub used : seen.used ≤ n * MOST_ARRIVALS
   pub marks : seen.marks ≤ n * 2 ^ 46
 
 abbrev pub summed : Seen → Sums
@@ -139,7 +141,7 @@ AreSeenBetween c outs from to seen = (table : Table) → AreSent c table outs �
 -- this is seen at the terminals of the part with this number, of parts of so many terminals
 pub record IsPartOf (c : Conf) (outs : List (List ℕ)) (size number : ℕ) (seen : Seen) : Type 0 where
   pub seen_there : AreSeenBetween c outs (min (number * size) (length outs)) (min ((number + 1) * size) (length outs)) seen
-  pub numbers : AreOf 64 seen
+  pub numbers : AreOf MOST_LEGS seen
 
 -- these are what is seen at the terminals of each part, where memory was there
 abbrev pub ArePartsOf : Conf → List (List ℕ) → ℕ → List (Result Seen NoMemory) → Type 0

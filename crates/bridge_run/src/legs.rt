@@ -5,6 +5,7 @@ ghost use Rattle.leg_items.specs.Answers.{source_in};
 ghost use Rattle.bridge_run.specs.Opened.{AreCalm, AreHeld, AreOpened, CountsLeft, FaultsRose, IsOpened, IsOver, Unopened, RefusedIn};
 ghost use Rattle.rtt_base.specs.declared.limits.TheConstants.{LONGEST_WAIT};
 ghost use Rattle.wire_spec.specs.declared.limits.TheConstants.{MOST_RECORDING_OCTETS};
+ghost use Rattle.file_spec.specs.declared.limits.TheConstants.{MOST_LEGS};
 
 use crate::MixFault;
 use ear::EarConf;
@@ -19,19 +20,19 @@ use std::alloc::Global;
 fn leg_over<S: Source>(
     alloc: Global,
     leg: &LegLine,
-    place: u8,
+    number: u8,
     wait: u32,
     limit: u32,
     source: S,
 ) -> Result<LegInlet<S>, LegLost<S>>
     requires wait { wait ≤ LONGEST_WAIT }
     requires limit { limit ≤ MOST_RECORDING_OCTETS }
-    ensures over { IfOk result (IsOver S.tells S.left wait limit place leg.now (S.left source)) }
+    ensures over { IfOk result (IsOver S.tells S.left wait limit number leg.now (S.left source)) }
     ensures source { IfOk result (λ inlet. source_in inlet ≡ source) }
     ensures lost { IfErr result (λ lost. lost.source ≡ source) }
 {
     let conf = EarConf {
-        place,
+        leg: number,
         ssrc: leg.ssrc,
         pts: leg.pts,
         wait: u64::from(wait),
@@ -46,7 +47,7 @@ fn leg_over<S: Source>(
 fn open_leg<W: World>(
     alloc: Global,
     leg: &LegLine,
-    place: u8,
+    number: u8,
     wait: u32,
     limit: u32,
     world: &mut W,
@@ -54,18 +55,18 @@ fn open_leg<W: World>(
     requires wait { wait ≤ LONGEST_WAIT }
     requires limit { limit ≤ MOST_RECORDING_OCTETS }
     ensures opened { IfOk result (IsOpened W.tells W.Src.left W.Src.faults W.Src.name
-        (W.contents world.old) wait limit place leg.now) }
+        (W.contents world.old) wait limit number leg.now) }
     ensures shown { W.tells → OnOk result W.Src.tells }
-    ensures refused { IfErr result (RefusedIn W.own_faults world.old world.new place leg.now) }
+    ensures refused { IfErr result (RefusedIn W.own_faults world.old world.new number leg.now) }
     ensures own_never_falls { NoneFalls W.own_faults world.old world.new }
     ensures calm { OnOk result (Same W.own_faults world.old world.new) }
     ensures same_objects { Same W.object_faults world.old world.new }
     ensures same_contents { W.tells → Same W.contents world.old world.new }
 {
     let Ok(source) = world.open_source(leg.input.as_str()) else {
-        return Err(MixFault::Open { leg: place });
+        return Err(MixFault::Open { leg: number });
     };
-    match leg_over(alloc, leg, place, wait, limit, source) {
+    match leg_over(alloc, leg, number, wait, limit, source) {
         Ok(inlet) => Ok(inlet),
         Err(lost) => {
             world.done_src(lost.source);
@@ -83,7 +84,7 @@ pub(crate) fn open_legs<W: World>(
     limit: u32,
     world: &mut W,
 ) -> Result<Vec<LegInlet<W::Src>>, MixFault>
-    requires few { length legs.now ≤ 64 }
+    requires few { length legs.now ≤ MOST_LEGS }
     requires wait { wait ≤ LONGEST_WAIT }
     requires limit { limit ≤ MOST_RECORDING_OCTETS }
     ensures legs { IfOk result (λ inlets. length inlets.items ≡ length legs.now) }
@@ -120,7 +121,7 @@ pub(crate) fn held_legs(
     inputs: Vec<Bytes>,
 ) -> Result<Vec<LegInlet<SteadySource>>, NoMemory>
     requires each { length inputs.items ≡ length legs.now }
-    requires few { length legs.now ≤ 64 }
+    requires few { length legs.now ≤ MOST_LEGS }
     requires wait { wait ≤ LONGEST_WAIT }
     requires limit { limit ≤ MOST_RECORDING_OCTETS }
     ensures legs { IfOk result (λ inlets. length inlets.items ≡ length legs.now) }
@@ -128,9 +129,9 @@ pub(crate) fn held_legs(
 {
     let mut inlets = Vec::with_capacity(alloc, legs.len())?;
     for octets in inputs {
-        let place = inlets.len();
+        let number = inlets.len();
         let source = SteadySource::new(octets);
-        match leg_over(alloc, &legs[place], place as u8, wait, limit, source) {
+        match leg_over(alloc, &legs[number], number as u8, wait, limit, source) {
             Ok(inlet) => inlets.push_reserved(inlet),
             Err(_) => return Err(NoMemory),
         }

@@ -4,6 +4,7 @@ ghost use Rattle.conference.specs.Conferences.{conf_of};
 ghost use Rattle.played.specs.Written.{IsWritten};
 ghost use Rattle.bridge_run.specs.Viewed.{AddsSeen, ArePartsOf, AreOf, AreSumsOf, AreViewsOf, IsPartOf, summed};
 ghost use Rattle.bridge_run.specs.declared.parts.TheConstants.{MOST_PARTS};
+ghost use Rattle.file_spec.specs.declared.limits.TheConstants.{MOST_LEGS};
 
 use crate::views::{Seen, nothing_seen, views_between, views_of};
 use conference::Conf;
@@ -29,9 +30,9 @@ fn octets_in(outs: &[Bytes]) -> usize {
 
 /// How many terminals each part has, but the last ones.
 fn part_size(terminals: usize) -> usize
-    requires { terminals ≤ 64 }
+    requires { terminals ≤ MOST_LEGS }
     ensures all { terminals ≤ MOST_PARTS * result }
-    ensures few { result ≤ 64 }
+    ensures few { result ≤ MOST_LEGS }
 {
     (terminals + MOST_PARTS - 1) / MOST_PARTS
 }
@@ -39,7 +40,7 @@ fn part_size(terminals: usize) -> usize
 /// At which terminal the part with this number begins, of parts of so many terminals.
 fn begin_of(number: usize, size: usize, terminals: usize) -> usize
     requires number { number ≤ MOST_PARTS }
-    requires size { size ≤ 64 }
+    requires size { size ≤ MOST_LEGS }
     ensures { result ≡ min (number * size) terminals }
 {
     (number * size).min(terminals)
@@ -55,7 +56,7 @@ fn part_of(
 ) -> Result<Seen, NoMemory>
     requires each { length outs.now ≡ length conf.now.legs }
     requires written { All (λ out. IsWritten out) outs.now }
-    requires size { size ≤ 64 }
+    requires size { size ≤ MOST_LEGS }
     requires number { number < MOST_PARTS }
     ensures { IfOk result (IsPartOf (conf_of conf.now) outs.now size number) }
 {
@@ -74,7 +75,7 @@ fn parts_of<R: Threads + Sync>(
 ) -> Result<Vec<Result<Seen, NoMemory>>, NoMemory>
     requires each { length outs.now ≡ length conf.now.legs }
     requires written { All (λ out. IsWritten out) outs.now }
-    requires size { size ≤ 64 }
+    requires size { size ≤ MOST_LEGS }
     ensures count { IfOk result (λ parts. vec_len parts ≡ MOST_PARTS) }
     ensures parts { IfOk result (λ parts. ArePartsOf (conf_of conf.now) outs.now size parts.items) }
 {
@@ -91,10 +92,10 @@ fn parts_of<R: Threads + Sync>(
 
 /// Adds what is seen at more terminals.
 fn add_part(part: &Seen, all: &mut Seen) -> Result<(), NoMemory>
-    requires part { AreOf 64 part.now }
-    requires before { (n : ℕ) × (n < MOST_PARTS) × AreOf (64 * n) all.old }
+    requires part { AreOf MOST_LEGS part.now }
+    requires before { (n : ℕ) × (n < MOST_PARTS) × AreOf (MOST_LEGS * n) all.old }
     ensures adds { OnOk result (AddsSeen part.now all.old all.new) }
-    ensures with_it { OnOk result ((n : ℕ) → AreOf (64 * n) all.old → AreOf (64 * (n + 1)) all.new) }
+    ensures with_it { OnOk result ((n : ℕ) → AreOf (MOST_LEGS * n) all.old → AreOf (MOST_LEGS * (n + 1)) all.new) }
 {
     all.views.append(part.views.as_slice())?;
     all.packets += part.packets;

@@ -4,6 +4,7 @@ ghost use Rattle.file_spec.specs.Conf.{is_name};
 ghost use Rattle.conference.specs.Conferences.{conf_of};
 ghost use Rattle.played.specs.Written.{IsWritten};
 ghost use Rattle.bridge_run.specs.Viewed.{AddsCounts, AddsSent, AddsSentTo, AreNamed, AreOf, AreSeenBetween, AreSumsOf, AreViewsOf, HasFew, marks_of, names_of, ssrcs_of, summed, terminal_conf};
+ghost use Rattle.file_spec.specs.declared.limits.TheConstants.{MOST_LEGS};
 
 use conference::{Conf, LegLine};
 use played::played;
@@ -99,7 +100,7 @@ fn marks_of(terminal: &Terminal) -> u64
 /// Adds what a terminal counted.
 fn count(terminal: &Terminal, seen: &mut Seen)
     requires few { HasFew terminal.now }
-    requires before { (n : ℕ) × (n < 64) × AreOf n seen.old }
+    requires before { (n : ℕ) × (n < MOST_LEGS) × AreOf n seen.old }
     ensures adds { AddsCounts terminal.now seen.old seen.new }
     ensures with_it { (n : ℕ) → AreOf n seen.old → AreOf (n + 1) seen.new }
 {

@@ -1,5 +1,6 @@
 //! What the lines of a conference say, one by one and so far.
 ghost use Rattle.std.specs.Prelude.{◌≡◌, ◌<◌, ◌≤◌, ◌∷◌, [], ◌++◌, length, OnOk};
+ghost use Rattle.file_spec.specs.declared.limits.TheConstants.{MOST_LEGS};
 ghost use Rattle.file_spec.specs.Conf.{Gens, Leg, Stays, nothing, with_entry};
 
 use conference::{Legs, Plan};
@@ -48,7 +49,7 @@ pub(crate) struct Draft {
     pub turns: Option<u32>,
     pub mixer: Option<MixerLine>,
     pub plan: Plan,
-    ghost seats: { length legs ≤ 64 },
+    ghost seats: { length legs ≤ MOST_LEGS },
 }
 
 fn push_place(places: &mut Vec<u8>, place: u8) -> Result<(), NoMemory>

@@ -9,11 +9,12 @@ use Rattle.mix_loop.specs.Mixers.{ComeBefore}
 use Rattle.leg_items.specs.declared.inlets.LegInlet.{LegInlet}
 use Rattle.leg_items.specs.Answers.{AllNew, PlainMixes}
 use Rattle.leg_lanes.specs.declared.running.Ran.{Ran}
+use Rattle.file_spec.specs.declared.limits.TheConstants.{MOST_LEGS}
 
 module _ {S M : Type 0} where
   -- these legs may be mixed, by this mixer
   pub record CanMix (legs_of turns_of : M → ℕ) (horizon : ℕ) (legs : Vec (LegInlet S)) (lines : List LegLine) (mixer : M) (tick turns : ℕ) : Type 0 where
-    pub few : vec_len legs ≤ 64
+    pub few : vec_len legs ≤ MOST_LEGS
     pub new : AllNew legs.items
     pub lines_fit : vec_len legs ≡ length lines
     pub terminals : legs_of mixer ≡ vec_len legs

@@ -3,6 +3,7 @@ ghost use Rattle.std.specs.Prelude.{◌≡◌, ◌≤◌, length, vec_len, IfOk}
 ghost use Rattle.mix_loop.specs.Mixers.{ComeBefore};
 ghost use Rattle.mix_loop.specs.Mixing.{AllGood, HasRoom, MixesInlets};
 ghost use Rattle.mix_loop.specs.Turns.{IsUnsent};
+ghost use Rattle.file_spec.specs.declared.limits.TheConstants.{MOST_LEGS};
 
 use crate::ports::{Port, inlets_of, ports_over};
 use crate::turns::mix_ports;
@@ -54,7 +55,7 @@ pub fn mix_inlets<I: Inlet, M: Mixes, R: Wait>(
     tick: u64,
     turns: u64,
 ) -> Mixed<I, M::Fault>
-    requires few { vec_len inlets ≤ 64 }
+    requires few { vec_len inlets ≤ MOST_LEGS }
     requires good { AllGood I.good inlets.items }
     requires lines { vec_len inlets ≡ length legs.now }
     requires room { HasRoom (vec_len inlets) room }

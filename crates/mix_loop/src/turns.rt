@@ -5,6 +5,7 @@ ghost use Rattle.mix_loop.specs.Items.{is_fault, fault_in};
 ghost use Rattle.mix_loop.specs.Mixers.{ComeBefore, Keeps};
 ghost use Rattle.mix_loop.specs.Steps.{AllCame, AllDrained, AllOffered, AllSettled, AllTurned, AllWent, TellsOver, are_empty};
 ghost use Rattle.mix_loop.specs.Turns.{AreSound, IsLowestAt, IsMixing, IsUnsent, NoFaultBelow, WasStopped, ended_at, mixing_of};
+ghost use Rattle.file_spec.specs.declared.limits.TheConstants.{MOST_LEGS};
 
 use crate::ports::Port;
 use crate::{Inlet, Mixes};
@@ -74,7 +75,7 @@ fn come_all<I: Inlet, M: Mixes>(ports: &mut [Port<I>], mixer: &mut M, now: u64)
 
 /// Each leg offers what it can at the moment `now`, in leg order.
 fn gather_all<I: Inlet, M: Mixes, R: Wait>(rt: &R, ports: &mut [Port<I>], mixer: &mut M, now: u64)
-    requires few { length ports.old ≤ 64 }
+    requires few { length ports.old ≤ MOST_LEGS }
     requires sound { AreSound I.good ports.old }
     requires legs { M.legs mixer.old ≡ length ports.old }
     ensures sound { AreSound I.good ports.new }
@@ -116,7 +117,7 @@ fn settle<I: Inlet, M: Mixes, R: Wait>(
     mixer: &mut M,
     now: u64,
 ) -> Before
-    requires few { length ports.old ≤ 64 }
+    requires few { length ports.old ≤ MOST_LEGS }
     requires sound { AreSound I.good ports.old }
     requires legs { M.legs mixer.old ≡ length ports.old }
     ensures sound { AreSound I.good ports.new }
@@ -152,7 +153,7 @@ fn take_turns<I: Inlet, M: Mixes, R: Wait>(
     tick: u64,
     turns: u64,
 ) -> Turned<M::Fault>
-    requires few { length ports.old ≤ 64 }
+    requires few { length ports.old ≤ MOST_LEGS }
     requires sound { AreSound I.good ports.old }
     requires legs { M.legs mixer.old ≡ length ports.old }
     requires none { M.turns mixer.old ≡ 0 }
@@ -184,7 +185,7 @@ fn take_turns<I: Inlet, M: Mixes, R: Wait>(
 
 /// Lets go what comes of each leg until nothing comes any more.
 fn drain_all<I: Inlet, R: Wait>(rt: &R, ports: &mut [Port<I>])
-    requires few { length ports.old ≤ 64 }
+    requires few { length ports.old ≤ MOST_LEGS }
     requires sound { AreSound I.good ports.old }
     ensures sound { AreSound I.good ports.new }
     ensures drains { AllDrained I.stands ports.old ports.new }
@@ -197,7 +198,7 @@ fn drain_all<I: Inlet, R: Wait>(rt: &R, ports: &mut [Port<I>])
 
 /// The fault of the lowest leg that has one.
 fn lowest_fault<I: Inlet>(ports: &[Port<I>]) -> Option<(u8, I::Fault)>
-    requires { length ports.now ≤ 64 }
+    requires { length ports.now ≤ MOST_LEGS }
     ensures { MatchOption result (NoFaultBelow (length ports.now) ports.now) (λ r. IsLowestAt ports.now r.0 r.1) }
 {
     for leg in 0..ports.len() {
@@ -236,7 +237,7 @@ pub(crate) fn mix_ports<I: Inlet, M: Mixes, R: Wait>(
     tick: u64,
     turns: u64,
 ) -> Mixing<I::Fault, M::Fault>
-    requires few { length ports.old ≤ 64 }
+    requires few { length ports.old ≤ MOST_LEGS }
     requires sound { AreSound I.good ports.old }
     requires legs { M.legs mixer.old ≡ length ports.old }
     requires none { M.turns mixer.old ≡ 0 }

@@ -5,6 +5,7 @@ ghost use Rattle.mixer_spec.specs.Setups.{Setup};
 ghost use Rattle.mixer_spec.specs.Table.{Table, next_media};
 ghost use Rattle.outlet.specs.Outlets.{IsTurned, OfTurns, SameLeg, legs_of, next_turn};
 ghost use Rattle.mixer_turn.specs.Turns.{AreOutletsOf, IsPut, LegMayTurn, LegTurned, OfMixers, Reaches, AllTurned};
+ghost use Rattle.rtt_base.specs.declared.limits.TheConstants.{END_OF_MOMENTS};
 
 use crate::batches::{Batch, Post};
 use mixer_spec::limits::PLACES;
@@ -31,7 +32,7 @@ fn turn_into(
     requires names { length names.now ≡ legs_of outlet.old }
     requires seating { length seating.now.legs ≡ legs_of outlet.old }
     requires rises { next_turn outlet.old ≤ media }
-    requires media { media < 2 ^ 48 }
+    requires media { media < END_OF_MOMENTS }
     ensures terminal { post.new.terminal ≡ leg }
     ensures turned { OfTurns outlet.old seating.now slots.old names.now media (λ s pts j table now.
         IsTurned s pts j table now media outlet.new slots.new result post.new.packet) }
@@ -60,7 +61,7 @@ impl Batch {
         requires names { length names.now ≡ legs_of outlet.old }
         requires seating { length seating.now.legs ≡ legs_of outlet.old }
         requires rises { next_turn outlet.old ≤ media }
-        requires media { media < 2 ^ 48 }
+        requires media { media < END_OF_MOMENTS }
         ensures put { OfTurns outlet.old seating.now slots.old names.now media (λ s pts j table now.
             IsPut s pts j leg table now media outlet.new slots.new self.old self.new) }
         ensures slots { length slots.new ≡ length slots.old }
@@ -99,7 +100,7 @@ impl Batch {
         requires names { length names.now ≡ legs_of outlet.old }
         requires seating { length seating.now.legs ≡ legs_of outlet.old }
         requires rises { next_turn outlet.old ≤ media }
-        requires media { media < 2 ^ 48 }
+        requires media { media < END_OF_MOMENTS }
         ensures turned { (s : Setup) (pts : ℕ → Pts) (table : Table) (now : ℕ)
             → LegMayTurn s pts table now media leg outlet.old seating.now names.now
             → Reaches s pts table now media leg slots.old self.old
@@ -129,7 +130,7 @@ pub(crate) fn turn_legs(
     requires slots { length slots.old ≡ length outlets.old }
     requires names { length names.now ≡ length outlets.old }
     requires seating { length seating.now.legs ≡ length outlets.old }
-    requires media { media < 2 ^ 48 }
+    requires media { media < END_OF_MOMENTS }
     ensures turned { OfMixers outlets.old seating.now slots.old names.now media (λ s pts table now.
         AllTurned s pts table now media outlets.new slots.new batch.new) }
     ensures outlets { AreOutletsOf (length outlets.old) (media + 1) outlets.new }

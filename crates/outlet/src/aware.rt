@@ -8,7 +8,7 @@ ghost use Rattle.slot_table.specs.Words.{fetched};
 ghost use Rattle.aware_output.specs.Confs.{IsConf};
 ghost use Rattle.aware_output.specs.Speakers.{AreDistinct};
 ghost use Rattle.outlet.specs.AwareTurns.{text_of_leg};
-ghost use Rattle.rtt_base.specs.declared.limits.TheConstants.{MOST_TEXT_OCTETS};
+ghost use Rattle.rtt_base.specs.declared.limits.TheConstants.{END_OF_MOMENTS, MOST_TEXT_OCTETS};
 
 use aware_output::{OutConf, Output};
 use mixer_spec::limits::PLACES;
@@ -218,7 +218,7 @@ impl AwareOutlet {
         requires place { place < PLACES }
         requires leg { leg < length self.old.free_at }
         requires slots { length slots.old ≡ length self.old.free_at }
-        requires media { media < 2 ^ 48 }
+        requires media { media < END_OF_MOMENTS }
         requires out { out.old ≡ [] }
         ensures slots { length slots.new ≡ length slots.old }
         ensures same { SameLeg self.old self.new }
@@ -234,7 +234,7 @@ impl AwareOutlet {
     fn keep(&mut self, place: usize, leg: usize, media: u64)
         requires place { place < PLACES }
         requires leg { leg < length self.old.free_at }
-        requires media { media < 2 ^ 48 }
+        requires media { media < END_OF_MOMENTS }
         ensures { self.new ≡ kept_served place leg media self.old }
     {
         self.free_at[leg] = media + u64::from(self.spacing);
@@ -255,7 +255,7 @@ impl AwareOutlet {
         requires place { place < PLACES }
         requires slots { length slots.old ≡ length self.old.free_at }
         requires seating { length seating.now.legs ≡ length self.old.free_at }
-        requires media { media < 2 ^ 48 }
+        requires media { media < END_OF_MOMENTS }
         requires out { out.old ≡ [] }
         ensures slots { length slots.new ≡ length slots.old }
         ensures same { SameLeg self.old self.new }
@@ -279,7 +279,7 @@ impl AwareOutlet {
     ) -> bool
         requires slots { length slots.old ≡ length self.old.free_at }
         requires seating { length seating.now.legs ≡ length self.old.free_at }
-        requires media { media < 2 ^ 48 }
+        requires media { media < END_OF_MOMENTS }
         ensures slots { length slots.new ≡ length slots.old }
         ensures same { SameLeg self.old self.new }
         ensures turned { Turns self.old seating.now slots.old media self.new slots.new result out.new }

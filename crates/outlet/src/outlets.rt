@@ -4,6 +4,7 @@ ghost use Rattle.mixer_spec.specs.Table.{has_work, is_quiet};
 ghost use Rattle.aware_output.specs.Confs.{IsConf};
 ghost use Rattle.aware_output.specs.Speakers.{AreDistinct};
 ghost use Rattle.outlet.specs.Outlets.{IsTurned, OfTerminals, OfTurns, SameLeg, StandsNew, StandsWoken, legs_of, next_turn, own_of};
+ghost use Rattle.rtt_base.specs.declared.limits.TheConstants.{END_OF_MOMENTS};
 
 use crate::aware::AwareOutlet;
 use crate::unaware::UnawareOutlet;
@@ -86,7 +87,7 @@ impl Outlet {
         requires names { length names.now ≡ legs_of self.old }
         requires seating { length seating.now.legs ≡ legs_of self.old }
         requires rises { next_turn self.old ≤ media }
-        requires media { media < 2 ^ 48 }
+        requires media { media < END_OF_MOMENTS }
         ensures turned { OfTurns self.old seating.now slots.old names.now media (λ s pts j table now.
             IsTurned s pts j table now media self.new slots.new result out.new) }
         ensures slots { length slots.new ≡ length slots.old }

@@ -7,6 +7,7 @@ ghost use Rattle.slot_table.specs.Standing.{StandsFor as SlotsStandFor, Tells};
 ghost use Rattle.outlet.specs.Turns.{Puts, with_terminal};
 ghost use Rattle.outlet.specs.UnawareStates.{SameLeg, legs_of, next_turn, own_of};
 ghost use Rattle.outlet.specs.UnawareStanding.{Composes, OfAsks, OfTerminals, OfTurns, SendsNow, StandsFor, StandsNew, StandsWoken, none_here, packet_here, turned_here};
+ghost use Rattle.rtt_base.specs.declared.limits.TheConstants.{END_OF_MOMENTS};
 
 use aware_output::{OutConf, Output};
 use rtt_base::{Name, NoMemory, Packet, Text};
@@ -106,7 +107,7 @@ impl UnawareOutlet {
         requires slots { length slots.old ≡ legs_of self.old }
         requires names { length names.now ≡ legs_of self.old }
         requires rises { next_turn self.old ≤ media }
-        requires media { media < 2 ^ 48 }
+        requires media { media < END_OF_MOMENTS }
         ensures stands { OfTurns self.old slots.old names.now media (λ s pts j table now.
             StandsFor s pts j self.new (turned_here s j now media table)) }
         ensures waits { OfTurns self.old slots.old names.now media (λ s pts j table now.
@@ -139,7 +140,7 @@ impl UnawareOutlet {
         requires slots { length slots.old ≡ legs_of self.old }
         requires names { length names.now ≡ legs_of self.old }
         requires rises { next_turn self.old ≤ media }
-        requires media { media < 2 ^ 48 }
+        requires media { media < END_OF_MOMENTS }
         ensures composes { OfAsks self.old slots.old names.now (λ s table asks.
             Composes s table self.old.composer media is_asked asks result text.new self.new slots.new) }
         ensures slots { length slots.new ≡ length slots.old }
@@ -170,7 +171,7 @@ impl UnawareOutlet {
 
     /// Sends the text at this media time.
     fn send(&mut self, media: u64, text: &Text, out: &mut Packet) -> bool
-        requires media { media < 2 ^ 48 }
+        requires media { media < END_OF_MOMENTS }
         requires out { out.old ≡ [] }
         ensures sends { SendsNow self.old media text.now self.new result out.new }
         ensures composer { self.new.composer ≡ self.old.composer }
@@ -187,7 +188,7 @@ impl UnawareOutlet {
 
     /// Sends nothing before the spacing has passed since this media time.
     fn wait_from(&mut self, media: u64)
-        requires { media < 2 ^ 48 }
+        requires { media < END_OF_MOMENTS }
         ensures { self.new ≡ record self.old { free_at = media + self.old.spacing } }
     {
         self.free_at = media + u64::from(self.spacing);

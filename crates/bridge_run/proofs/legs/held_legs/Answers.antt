@@ -19,26 +19,26 @@ loop-octets-preserved c =
     let octets = c.in-Some.octets in
     let inputs = into_iter_items c.into_iter-octets-iterator.result in
     let now = c.loop-octets.inlets.items in
-    let place = c.len-place.result in
+    let number = c.len-number.result in
     let items = c.push_reserved.ensures.items in
     let steps : into_iter_items c.loop-octets.octets-iterator ≡ octets ∷ into_iter_items c.next.new.self = c.in-Some.ensures.steps.0 in
     let whole : yielded ++ octets ∷ into_iter_items c.next.new.self ≡ inputs = ap (λ (xs : List (List ℕ)). yielded ++ xs) (sym steps) ∙ i.all in
     let given = c.into_iter-octets-iterator.ensures.into_iter_gives.0 in
-    let below : place < length legs = omega (
+    let below : number < length legs = omega (
       arith,
-      c.len-place.ensures,
+      c.len-number.ensures,
       i.len,
       ap (λ (xs : List (List ℕ)). length xs) whole,
       length-append yielded (octets ∷ into_iter_items c.next.new.self),
       ap (λ (xs : List (List ℕ)). length xs) given,
       c.requires.each,
     ) in
-    let at : length yielded ≡ place = omega (arith, c.len-place.ensures, i.len) in
-    let is : octets ≡ input_at inputs place =
+    let at : length yielded ≡ number = omega (arith, c.len-number.ensures, i.len) in
+    let is : octets ≡ input_at inputs number =
     sym (get_or-append_seam yielded octets (into_iter_items c.next.new.self) []) ∙ (ap (λ (xs : List (List ℕ)). input_at xs (length yielded)) whole ∙ ap (λ (n : ℕ). input_at inputs n) at) in
-    let got = leg_got legs place ∙ slice_get_read legs (length legs) place c.index-legs-place.result refl below c.index-legs-place.is in
-    let over : IsOver (Unit {0}) left-value.it c.args.wait c.args.limit place c.index-legs-place.result octets c.in-Ok.inlet
-    = subst (λ (os : List ℕ). IsOver (Unit {0}) left-value.it c.args.wait c.args.limit place c.index-legs-place.result os c.in-Ok.inlet) c.new-source.ensures c.in-Ok.ensures.over in
+    let got = leg_got legs number ∙ slice_get_read legs (length legs) number c.index-legs-number.result refl below c.index-legs-number.is in
+    let over : IsOver (Unit {0}) left-value.it c.args.wait c.args.limit number c.index-legs-number.result octets c.in-Ok.inlet
+    = subst (λ (os : List ℕ). IsOver (Unit {0}) left-value.it c.args.wait c.args.limit number c.index-legs-number.result os c.in-Ok.inlet) c.new-source.ensures c.in-Ok.ensures.over in
     record {
       all = append_assoc yielded (octets ∷ []) (into_iter_items c.next.new.self) ∙ whole;
       left = omega (arith, i.left, c.in-Some.ensures.steps.1, ap (λ (xs : List (List ℕ)). length xs) steps);
@@ -46,7 +46,7 @@ loop-octets-preserved c =
       len = omega (arith, c.push_reserved.ensures.len, i.len, length_push yielded octets);
       room = omega (arith, c.push_reserved.ensures.capacity, i.room);
       over = subst (λ (xs : List (LegInlet SteadySource)). AllOver (Unit {0}) left-value.it c.args.wait c.args.limit legs inputs xs) (sym items)
-          (over_more (Unit {0}) left-value.it c.args.wait c.args.limit place legs c.index-legs-place.result inputs octets now c.in-Ok.inlet i.over (omega (arith, i.count, at)) got is over);
+          (over_more (Unit {0}) left-value.it c.args.wait c.args.limit number legs c.index-legs-number.result inputs octets now c.in-Ok.inlet i.over (omega (arith, i.count, at)) got is over);
     }
 
 pub returns-clause-over : goal.returns-clause-over
