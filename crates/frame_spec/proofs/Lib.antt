@@ -1,0 +1,4 @@
+pub mod Readings
+pub mod Sound
+pub mod Fronts
+mod Examples
