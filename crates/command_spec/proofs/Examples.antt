@@ -3,12 +3,13 @@ use Rattle.std.proofs.Common.{◌≡◌, ℕ, Some, None, List, [], ◌∷◌, r
 use Rattle.std.specs.Prelude.{codes}
 use Rattle.wire_spec.specs.Dump.{dump, dump_opening, opening}
 use Rattle.wire_spec.specs.declared.faults.DumpKind.TheVariants.{NotDump}
-use Rattle.command_spec.specs.Words.{Read, ListRecords, Send, usual_pts}
+use Rattle.command_spec.specs.Words.{Read, ListRecords, Send, Version, usual_pts}
 use Rattle.command_spec.specs.declared.faults.Refusal.TheVariants.{AtByte}
 use Rattle.command_spec.specs.Scripts.{events_before, first_from, first_end}
 use Rattle.command_spec.specs.Work.{Contents}
 use Rattle.command_spec.specs.Outcomes.{outcome, Missing, Refused, Done}
 use Rattle.command_spec.specs.Commands.{work}
+use Rattle.command_spec.specs.Messages.{version_line}
 
 -- under each name lie these octets
 all_hold : List ℕ → Contents
@@ -28,7 +29,11 @@ unfolding all_hold dump opening
 lists_empty = refl
 
 -- a script of comments makes a recording without records
-sends_nothing : outcome (all_hold (codes "# nothing\n")) (work (Send (record { script = codes "s.txt"; out = codes "a.rtp"; ssrc = 1001; seq = 0; stamp = 0 }))).steps
+sends_nothing : outcome (all_hold (codes "# nothing\n")) (work (Send (record { file = codes "s.txt"; out = codes "a.rtp"; ssrc = 1001; seq = 0; stamp = 0 }))).steps
     ≡ Done [] (record { name = codes "a.rtp"; octets = dump_opening } ∷ [])
 unfolding all_hold events_before first_from first_end
 sends_nothing = refl
+
+-- the version is told wherever it is asked for
+tells_the_version : (held : Contents) → outcome held (work Version).steps ≡ Done version_line []
+tells_the_version held = refl

@@ -1,6 +1,7 @@
 pub mod Views
 pub mod Examples
 mod WordExamples
+mod TranscriptExamples
 pub mod Fitting
 pub mod Ssrcs
 pub mod Reached
@@ -10,7 +11,11 @@ pub mod Coming
 pub mod Headlines
 pub mod OneBridge
 mod MixExamples
+mod ShowExamples
 mod RealTerminals
 pub mod Outputs
 mod GeneratedExamples
 pub mod Generating
+mod FrameExamples
+pub mod HeaderTypes
+pub mod ShownAsRead

@@ -1,6 +1,6 @@
 -- Worked examples of command words, by computing.
 use Rattle.std.proofs.Common.{◌≡◌, refl, [], ◌∷◌, None, Some, codes}
-use Rattle.command_spec.specs.Words.{command, Read, ListRecords, Send, Mix, Make}
+use Rattle.command_spec.specs.Words.{command, Read, ListRecords, Send, Mix, Make, Relay, Channel, Show, Script, Version}
 
 read_a_source : command (codes "read" ∷ codes "a.rtp" ∷ codes "1001" ∷ []) ≡ Some (Read (record { file = codes "a.rtp"; ssrc = 1001; source = 1001; pts = record { t140 = 98; red = 100 } }))
 read_a_source = refl
@@ -43,7 +43,7 @@ list_with_one_payload_type : command (codes "list" ∷ codes "a.rtp" ∷ codes "
 list_with_one_payload_type = refl
 
 send_a_script : command (codes "send" ∷ codes "s.txt" ∷ codes "a.rtp" ∷ codes "1001" ∷ codes "65535" ∷ codes "4294967295" ∷ [])
-    ≡ Some (Send (record { script = codes "s.txt"; out = codes "a.rtp"; ssrc = 1001; seq = 65535; stamp = 4294967295 }))
+    ≡ Some (Send (record { file = codes "s.txt"; out = codes "a.rtp"; ssrc = 1001; seq = 65535; stamp = 4294967295 }))
 send_a_script = refl
 
 no_such_sequence_number : command (codes "send" ∷ codes "s" ∷ codes "o" ∷ codes "1" ∷ codes "65536" ∷ codes "0" ∷ []) ≡ None
@@ -81,3 +81,40 @@ make_one_at_a_time = refl
 
 live_is_not_built : command (codes "live" ∷ codes "c.txt" ∷ []) ≡ None
 live_is_not_built = refl
+
+relay_frames : command (codes "relay" ∷ codes "f" ∷ codes "a.rtp" ∷ codes "1001" ∷ codes "0" ∷ codes "0" ∷ [])
+    ≡ Some (Relay (record { file = codes "f"; out = codes "a.rtp"; ssrc = 1001; seq = 0; stamp = 0 }))
+relay_frames = refl
+
+relay_into_a_recording : command (codes "relay" ∷ codes "f" ∷ codes "1001" ∷ codes "0" ∷ codes "0" ∷ []) ≡ None
+relay_into_a_recording = refl
+
+channel_of_a_recording : command (codes "channel" ∷ codes "a.rtp" ∷ codes "1001" ∷ codes "f" ∷ [])
+    ≡ Some (Channel (record { file = codes "a.rtp"; ssrc = 1001; out = codes "f" }))
+channel_of_a_recording = refl
+
+channel_into_a_file : command (codes "channel" ∷ codes "a.rtp" ∷ codes "1001" ∷ []) ≡ None
+channel_into_a_file = refl
+
+no_channel_named_like_an_option : command (codes "channel" ∷ codes "a.rtp" ∷ codes "1001" ∷ codes "-f" ∷ []) ≡ None
+no_channel_named_like_an_option = refl
+
+show_a_recording : command (codes "show" ∷ codes "a.rtp" ∷ []) ≡ Some (Show (record { file = codes "a.rtp"; pts = record { t140 = 98; red = 100 } }))
+show_a_recording = refl
+
+show_under_other_payload_types : command (codes "show" ∷ codes "a.rtp" ∷ codes "96" ∷ codes "97" ∷ [])
+    ≡ Some (Show (record { file = codes "a.rtp"; pts = record { t140 = 96; red = 97 } }))
+show_under_other_payload_types = refl
+
+script_of_a_source : command (codes "script" ∷ codes "a.rtp" ∷ codes "9000" ∷ codes "1001" ∷ [])
+    ≡ Some (Script (record { file = codes "a.rtp"; ssrc = 9000; source = 1001; pts = record { t140 = 98; red = 100 } }))
+script_of_a_source = refl
+
+script_without_a_source : command (codes "script" ∷ codes "a.rtp" ∷ []) ≡ None
+script_without_a_source = refl
+
+version_alone : command (codes "version" ∷ []) ≡ Some Version
+version_alone = refl
+
+version_of_nothing_else : command (codes "version" ∷ codes "a.rtp" ∷ []) ≡ None
+version_of_nothing_else = refl

@@ -6,13 +6,18 @@ use Rattle.file_spec.specs.declared.kinds.ConfKind.TheVariants.{Full}
 use Rattle.file_spec.specs.Script.{ScriptLine}
 use Rattle.file_spec.specs.Lines as lines
 use Rattle.file_spec.specs.Script.{script}
-use Rattle.command_spec.specs.Words.{ReadWords, SendWords, Command, Read, ListRecords, Send, Mix, Make}
-use Rattle.command_spec.specs.declared.faults.Refusal.TheVariants.{AtByte, AtLine}
+use Rattle.command_spec.specs.Words.{ReadWords, SendWords, Command, Read, ListRecords, Send, Mix, Make, Relay, Channel, Show, Script, Version}
+use Rattle.command_spec.specs.declared.faults.Refusal.TheVariants.{AtByte, AtFrame, AtLine}
 use Rattle.command_spec.specs.declared.requests.ReadRequest.{ReadRequest}
 use Rattle.command_spec.specs.Listing.{list_view}
 use Rattle.command_spec.specs.Making.{making}
+use Rattle.command_spec.specs.Messages.{version_line}
 use Rattle.command_spec.specs.Mixing.{mixing}
 use Rattle.command_spec.specs.Reading.{read_view}
+use Rattle.command_spec.specs.Showing.{show_refusal, show_view}
+use Rattle.command_spec.specs.Transcripts.{transcript_view}
+use Rattle.command_spec.specs.Frames.{relay, channel}
+use Rattle.frame_spec.specs.declared.frames.FrameFault.{FrameFault}
 use Rattle.command_spec.specs.Scripts.{Sending, full_line, recording, usual_sending}
 use Rattle.command_spec.specs.Work.{Made, Steps, Reads, Refuses, Makes, Work}
 
@@ -34,12 +39,20 @@ abbrev pub unless_full : Option ℕ → Steps → Steps
 unless_full None steps = steps
 unless_full (Some line) steps = Refuses 0 (AtLine line Full)
 
--- a recording is printed
-abbrev pub prints_recording : List ℕ → (List ℕ → List ℕ) → Work
-prints_recording file view = record {
+-- a view of a recording is printed, where none of these faults is found
+abbrev pub prints_unless : (List ℕ → Option dumps.Fault) → List ℕ → (List ℕ → List ℕ) → Work
+prints_unless found file view = record {
   prints = true;
-  steps = Reads file (λ octets. unless_broken (dump usual_limit octets).fault (Makes (view octets) []));
+  steps = Reads file (λ octets. unless_broken (found octets) (Makes (view octets) []));
 }
+
+-- why a recording is not read to its end
+abbrev pub recording_fault : List ℕ → Option dumps.Fault
+recording_fault octets = (dump usual_limit octets).fault
+
+-- a recording that is read to its end is printed
+abbrev pub prints_recording : List ℕ → (List ℕ → List ℕ) → Work
+prints_recording file view = prints_unless recording_fault file view
 
 -- the file of this name with the recording
 abbrev pub recording_at : List ℕ → Sending → List ScriptLine → Made
@@ -51,9 +64,22 @@ sends s (Err refusal) = Refuses 0 (AtLine refusal.line refusal.kind)
 sends s (Ok lines) =
     unless_full (full_line (sending_of s) lines) (Makes [] (recording_at s.out (sending_of s) lines ∷ []))
 
+-- a file of this name is made of frames, or frames are refused
+abbrev pub saves_frames : List ℕ → Result (List ℕ) FrameFault → Steps
+saves_frames out (Err fault) = Refuses 0 (AtFrame fault.offset fault.kind)
+saves_frames out (Ok octets) = Makes [] (record { name = out; octets = octets } ∷ [])
+
 abbrev pub work : Command → Work
 work (Read r) = prints_recording r.file (read_view (request_of r))
 work (ListRecords l) = prints_recording l.file (λ octets. list_view l.pts (dump usual_limit octets).items)
-work (Send s) = record { prints = false; steps = Reads s.script (λ octets. sends s (script octets)) }
+work (Send s) = record { prints = false; steps = Reads s.file (λ octets. sends s (script octets)) }
 work (Mix m) = record { prints = true; steps = mixing m.conf }
 work (Make m) = record { prints = true; steps = making m.number }
+work (Relay s) = record { prints = false; steps = Reads s.file (λ octets. saves_frames s.out (relay (sending_of s) octets)) }
+work (Channel c) = record {
+  prints = false;
+  steps = Reads c.file (λ octets. unless_broken (recording_fault octets) (saves_frames c.out (channel c.ssrc octets)));
+}
+work (Show l) = prints_unless show_refusal l.file (show_view l.pts)
+work (Script r) = prints_recording r.file (transcript_view (request_of r))
+work Version = record { prints = true; steps = Makes version_line [] }

@@ -1,5 +1,6 @@
 pub mod Listing
 pub mod Reading
+pub mod Transcripts
 pub mod Scripts
 pub mod Work
 pub mod Outcomes
@@ -13,3 +14,7 @@ pub mod Words
 pub mod Draws
 pub mod Generated
 pub mod Making
+pub mod Firsts
+pub mod Streams
+pub mod Showing
+pub mod Frames

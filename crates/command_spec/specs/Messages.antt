@@ -4,8 +4,10 @@ use Rattle.wire_spec.specs.declared.faults.DumpKind.{DumpKind}
 use Rattle.wire_spec.specs.declared.faults.DumpKind.TheVariants.{NotDump, BadLength, EndsInside, TooLong, TooLarge, Read}
 use Rattle.file_spec.specs.declared.kinds.ConfKind.{ConfKind}
 use Rattle.file_spec.specs.declared.kinds.ConfKind.TheVariants as conf
+use Rattle.frame_spec.specs.declared.kinds.FrameKind.{FrameKind}
+use Rattle.frame_spec.specs.declared.kinds.FrameKind.TheVariants as frame
 use Rattle.command_spec.specs.declared.faults.Refusal.{Refusal}
-use Rattle.command_spec.specs.declared.faults.Refusal.TheVariants.{AtByte, AtLine, AfterTurns}
+use Rattle.command_spec.specs.declared.faults.Refusal.TheVariants.{AtByte, AtFrame, AtLine, AfterTurns}
 use Rattle.command_spec.specs.declared.faults.Fault.{Fault}
 use Rattle.command_spec.specs.declared.faults.Fault.TheVariants.{WrongWords, CannotOpen, CannotRead, Refused, CannotPrint, CannotWrite, NoMemory}
 use Rattle.command_spec.specs.Outcomes.{Outcome, Missing, Done}
@@ -26,6 +28,7 @@ ending_of (Done printed files) = Ok tt
 abbrev pub refusal_status : Refusal → ℕ
 refusal_status (AtLine line kind) = 5
 refusal_status (AtByte byte kind) = 6
+refusal_status (AtFrame byte kind) = 6
 refusal_status (AfterTurns turns) = 9
 
 abbrev pub fault_status : Fault → ℕ
@@ -69,9 +72,18 @@ conf_kind_name conf.Escape = codes "Escape"
 conf_kind_name conf.Long = codes "Long"
 conf_kind_name conf.Full = codes "Full"
 
--- where a recording has no reading, and why
-abbrev pub byte_message : List ℕ → ℕ → DumpKind → List ℕ
-byte_message name byte kind = name ++ codes " byte " ++ (decimal byte ++ codes ": ") ++ (dump_kind_name kind ++ codes "\n")
+abbrev pub frame_kind_name : FrameKind → List ℕ
+frame_kind_name frame.Time = codes "Time"
+frame_kind_name frame.Length = codes "Length"
+frame_kind_name frame.TooLarge = codes "TooLarge"
+frame_kind_name frame.NotText = codes "NotText"
+frame_kind_name frame.EndsInside = codes "EndsInside"
+frame_kind_name frame.Full = codes "Full"
+frame_kind_name frame.ManyFrames = codes "ManyFrames"
+
+-- at which byte a file is refused, and the name of the reason
+abbrev pub byte_message : List ℕ → ℕ → List ℕ → List ℕ
+byte_message name byte why = name ++ codes " byte " ++ (decimal byte ++ codes ": ") ++ (why ++ codes "\n")
 
 -- which line of a file is refused, and why
 abbrev pub line_message : List ℕ → ℕ → ConfKind → List ℕ
@@ -82,13 +94,18 @@ abbrev pub turns_message : ℕ → List ℕ
 turns_message turns = codes "conference too long: " ++ (decimal turns ++ codes " turns\n")
 
 abbrev pub refusal_message : List ℕ → Refusal → List ℕ
-refusal_message name (AtByte byte kind) = byte_message name byte kind
+refusal_message name (AtByte byte kind) = byte_message name byte (dump_kind_name kind)
+refusal_message name (AtFrame byte kind) = byte_message name byte (frame_kind_name kind)
 refusal_message name (AtLine line kind) = line_message name line kind
 refusal_message name (AfterTurns turns) = turns_message turns
 
 -- for words outside the word table
 abbrev pub usage : List ℕ
-usage = codes "usage: rtt_program read FILE SSRC [SOURCE [T140 RED]]\n       rtt_program list FILE [T140 RED]\n       rtt_program send SCRIPT OUT SSRC SEQ STAMP\n       rtt_program mix CONF\n       rtt_program make N\n"
+usage = codes "usage: rtt_program read FILE SSRC [SOURCE [T140 RED]]\n       rtt_program list FILE [T140 RED]\n       rtt_program send SCRIPT OUT SSRC SEQ STAMP\n       rtt_program mix CONF\n       rtt_program make N\n       rtt_program relay FRAMES OUT SSRC SEQ STAMP\n       rtt_program channel FILE SSRC OUT\n       rtt_program show FILE [T140 RED]\n       rtt_program script FILE SSRC [SOURCE [T140 RED]]\n       rtt_program version\n"
+
+-- the name of the program and its version
+abbrev pub version_line : List ℕ
+version_line = codes "rtt_program 0.1.0\n"
 
 -- what went wrong with the file of this name
 abbrev pub trouble : List ℕ → List ℕ → List ℕ

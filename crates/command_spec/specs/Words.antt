@@ -5,22 +5,22 @@ use Rattle.rtt_base.specs.declared.text_packets.Pts.{Pts}
 use Rattle.file_spec.specs.Numbers.{number, number_between, most_ssrc, pts}
 use Rattle.file_spec.specs.declared.limits.TheConstants.{USUAL_T140, USUAL_RED}
 
--- what `read` is asked for: the text of a source in the packets of an SSRC of a recording, under two payload types
+-- what `read` and `script` are asked for: the text of a source in the packets of an SSRC of a recording, under two payload types
 pub record ReadWords : Type 0 where
   pub file : List ℕ
   pub ssrc : ℕ
   pub source : ℕ
   pub pts : Pts
 
--- what `list` is asked for: the records of a recording, under two payload types
+-- what `list` and `show` are asked for: the records of a recording, under two payload types
 pub record ListWords : Type 0 where
   pub file : List ℕ
   pub pts : Pts
 
--- what `send` is asked for: a script sent into a recording, by a stream of this SSRC, first sequence number and
--- timestamp at time 0
+-- what `send` and `relay` are asked for: the text in a file is sent into a recording, by a stream of this SSRC, first sequence
+-- number and timestamp at time 0
 pub record SendWords : Type 0 where
-  pub script : List ℕ
+  pub file : List ℕ
   pub out : List ℕ
   pub ssrc : ℕ
   pub seq : ℕ
@@ -34,12 +34,23 @@ pub record MixWords : Type 0 where
 pub record MakeWords : Type 0 where
   pub number : ℕ
 
+-- what `channel` is asked for: the text of an SSRC of a recording as frames
+pub record ChannelWords : Type 0 where
+  pub file : List ℕ
+  pub ssrc : ℕ
+  pub out : List ℕ
+
 pub data Command : Type 0 where
   Read : ReadWords → Command
   ListRecords : ListWords → Command
   Send : SendWords → Command
   Mix : MixWords → Command
   Make : MakeWords → Command
+  Relay : SendWords → Command
+  Channel : ChannelWords → Command
+  Show : ListWords → Command
+  Script : ReadWords → Command
+  Version : Command
 
 -- a word that is empty or begins with `-` is none
 abbrev pub is_word : List ℕ → Bool
@@ -58,13 +69,13 @@ abbrev pub payload_types : List ℕ → List ℕ → Option Pts
 payload_types t140 red = option_and_then if_different (pts t140 red)
 
 -- the words of a `read`, where the numbers are numbers
-abbrev pub read_of : List ℕ → Option ℕ → Option ℕ → Option Pts → Option Command
+abbrev pub read_of : List ℕ → Option ℕ → Option ℕ → Option Pts → Option ReadWords
 read_of file ssrc source types =
     option_and_then (λ s. option_and_then (λ t. option_map (λ p.
-    Read (record { file = file; ssrc = s; source = t; pts = p })) types) source) ssrc
+    record { file = file; ssrc = s; source = t; pts = p }) types) source) ssrc
 
 -- `FILE SSRC`, `FILE SSRC SOURCE` and `FILE SSRC SOURCE T140 RED`: where no source is named it is the SSRC
-abbrev pub read_words : List (List ℕ) → Option Command
+abbrev pub read_words : List (List ℕ) → Option ReadWords
 read_words (file ∷ ssrc ∷ []) =
     if is_word file then read_of file (number most_ssrc ssrc) (number most_ssrc ssrc) (Some usual_pts) else None
 read_words (file ∷ ssrc ∷ source ∷ []) =
@@ -74,26 +85,26 @@ read_words (file ∷ ssrc ∷ source ∷ t140 ∷ red ∷ []) =
     else None
 read_words _ = None
 
-abbrev pub list_of : List ℕ → Option Pts → Option Command
-list_of file types = option_map (λ p. ListRecords (record { file = file; pts = p })) types
+abbrev pub list_of : List ℕ → Option Pts → Option ListWords
+list_of file types = option_map (λ p. record { file = file; pts = p }) types
 
 -- `FILE` and `FILE T140 RED`
-abbrev pub list_words : List (List ℕ) → Option Command
+abbrev pub list_words : List (List ℕ) → Option ListWords
 list_words (file ∷ []) = if is_word file then list_of file (Some usual_pts) else None
 list_words (file ∷ t140 ∷ red ∷ []) = if is_word file then list_of file (payload_types t140 red) else None
 list_words _ = None
 
 -- the words of a `send`, where the numbers are numbers
-abbrev pub send_of : List ℕ → List ℕ → Option ℕ → Option ℕ → Option ℕ → Option Command
-send_of script out ssrc seq stamp =
+abbrev pub send_of : List ℕ → List ℕ → Option ℕ → Option ℕ → Option ℕ → Option SendWords
+send_of file out ssrc seq stamp =
     option_and_then (λ s. option_and_then (λ q. option_map (λ t.
-    Send (record { script = script; out = out; ssrc = s; seq = q; stamp = t })) stamp) seq) ssrc
+    record { file = file; out = out; ssrc = s; seq = q; stamp = t }) stamp) seq) ssrc
 
--- `SCRIPT OUT SSRC SEQ STAMP`
-abbrev pub send_words : List (List ℕ) → Option Command
-send_words (script ∷ out ∷ ssrc ∷ seq ∷ stamp ∷ []) =
-    if is_word script && is_word out
-    then send_of script out (number most_ssrc ssrc) (number 65535 seq) (number 4294967295 stamp)
+-- `SCRIPT OUT SSRC SEQ STAMP` and `FRAMES OUT SSRC SEQ STAMP`
+abbrev pub send_words : List (List ℕ) → Option SendWords
+send_words (file ∷ out ∷ ssrc ∷ seq ∷ stamp ∷ []) =
+    if is_word file && is_word out
+    then send_of file out (number most_ssrc ssrc) (number 65535 seq) (number 4294967295 stamp)
     else None
 send_words _ = None
 
@@ -107,12 +118,30 @@ abbrev pub make_words : List (List ℕ) → Option Command
 make_words (n ∷ []) = option_map (λ k. Make (record { number = k })) (number_between 1 1000 n)
 make_words _ = None
 
+-- `FILE SSRC OUT`
+abbrev pub channel_words : List (List ℕ) → Option Command
+channel_words (file ∷ ssrc ∷ out ∷ []) =
+    if is_word file && is_word out
+    then option_map (λ s. Channel (record { file = file; ssrc = s; out = out })) (number most_ssrc ssrc)
+    else None
+channel_words _ = None
+
+-- no words
+abbrev pub version_words : List (List ℕ) → Option Command
+version_words [] = Some Version
+version_words _ = None
+
 -- what the words ask for, if they are in the word table
 abbrev pub command : List (List ℕ) → Option Command
 command [] = None
 command (name ∷ words) =
-    if bytes_eq name (codes "read") then read_words words
-    else (if bytes_eq name (codes "list") then list_words words
-    else (if bytes_eq name (codes "send") then send_words words
+    if bytes_eq name (codes "read") then option_map Read (read_words words)
+    else (if bytes_eq name (codes "list") then option_map ListRecords (list_words words)
+    else (if bytes_eq name (codes "send") then option_map Send (send_words words)
     else (if bytes_eq name (codes "mix") then mix_words words
-    else (if bytes_eq name (codes "make") then make_words words else None))))
+    else (if bytes_eq name (codes "make") then make_words words
+    else (if bytes_eq name (codes "relay") then option_map Relay (send_words words)
+    else (if bytes_eq name (codes "channel") then channel_words words
+    else (if bytes_eq name (codes "show") then option_map Show (list_words words)
+    else (if bytes_eq name (codes "script") then option_map Script (read_words words)
+    else (if bytes_eq name (codes "version") then version_words words else None)))))))))

@@ -1,5 +1,6 @@
 //! Why a command does not do its work.
 use file_spec::ConfKind;
+use frame_spec::FrameKind;
 use wire_spec::DumpKind;
 
 /// Why what lies in a file is refused.
@@ -9,6 +10,9 @@ pub enum Refusal {
     AtByte { byte: u64, kind: DumpKind },
     /// A file of lines is refused: at this line, for this reason.
     AtLine { line: u32, kind: ConfKind },
+    /// Frames are refused: at the one that begins at this byte, for this reason. For `ManyFrames` it is the number of octets
+    /// that they would have.
+    AtFrame { byte: u64, kind: FrameKind },
     /// Mixing a conference is not over after so many turns, which are all that it may have.
     AfterTurns { turns: u32 },
 }

@@ -6,7 +6,9 @@ ghost use Rattle.stream_spec.specs.Hearing.{heard};
 ghost use Rattle.stream_spec.specs.History.{History, Lawful, Come, places};
 ghost use Rattle.stream_spec.specs.Kept.{kept};
 ghost use Rattle.command_spec.specs.declared.requests.ReadRequest.{ReadRequest};
-ghost use Rattle.command_spec.specs.Reading.{arrivals_of, read_view, history_view};
+ghost use Rattle.view_spec.specs.Seen.{display_at, counts_at};
+ghost use Rattle.command_spec.specs.Reading.{arrivals_of, history_view, read_view, reception, records_of};
+ghost use Rattle.command_spec.specs.Streams.{AreGiven, stream};
 ghost use Rattle.command_spec.specs.Work.{Contents, Made};
 ghost use Rattle.command_spec.specs.Outcomes.{AllStored, Done, outcome};
 ghost use Rattle.command_spec.specs.Scripts.{AreLines};
@@ -20,6 +22,15 @@ ghost use Rattle.mixer_spec.specs.declared.limits.TheConstants.{PLACES};
 pub fn histories_are_shown()
     ensures { (h : History) → Lawful h → (r : ReadRequest) (octets : List ℕ) → Come h (arrivals_of r octets)
         → read_view r octets ≡ history_view h r octets }
+{}
+
+/// What `show` shows of a source of a stream is what `read` shows of it, and it uses as many packets, where the two payload
+/// types are ones that are given to text.
+pub fn shown_is_read()
+    ensures shown { (r : ReadRequest) (octets : List ℕ) → AreGiven r.pts
+        → display_at (reception r) (stream r.pts r.ssrc (records_of octets)) r.source ≡ display_at (reception r) (records_of octets) r.source }
+    ensures used { (r : ReadRequest) (octets : List ℕ) → AreGiven r.pts
+        → (counts_at (reception r) (stream r.pts r.ssrc (records_of octets))).used ≡ (counts_at (reception r) (records_of octets)).used }
 {}
 
 /// What `mix` makes of a conference is bridged, whatever lies in its inputs and whatever its plan says: each output has the

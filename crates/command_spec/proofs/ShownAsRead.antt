@@ -1,0 +1,120 @@
+-- What arrives of a stream is the same whether all records are heard or those of the stream alone.
+use Rattle.std.proofs.Common.{◌≡◌, ℕ, ◌%◌, Bool, true, false, cond, None, Some, List, [], ◌∷◌, length, refl, ap, sym, ◌∙◌, arith}
+use Rattle.std.specs.Prelude.{Result, Ok, Err, ◌==◌, ◌&&◌, ◌||◌, nat_lt, nat_le, slice_index}
+use Rattle.std.proofs.lemmas.Bool.{true≢false, leb-true}
+use Rattle.std.proofs.lemmas.Bool.Decides.{Decides-eqb}
+use Rattle.rtt_base.specs.Steps.{◌>>=◌}
+use Rattle.rtt_base.specs.declared.text_packets.Pts.{Pts}
+use Rattle.rtt_base.specs.declared.limits.TheConstants.{MOST_PACKET_OCTETS}
+use Rattle.wire_spec.specs.declared.faults.RtpFault.{RtpFault}
+use Rattle.wire_spec.specs.declared.faults.TextFault.{TextFault}
+use Rattle.wire_spec.specs.declared.faults.TextFault.TheVariants.{Sources, WrongType, Long, Foreign}
+use Rattle.wire_spec.specs.declared.faults.RedFault.TheVariants as red_faults
+use Rattle.wire_spec.specs.Faults.{header_fault, blocks_fault}
+use Rattle.wire_spec.specs.Packets.{Packet, Arrival}
+use Rattle.wire_spec.specs.Rtp.{Reading, rtp, past}
+use Rattle.wire_spec.specs.Red.{red, texts_at, headers_at}
+use Rattle.wire_spec.specs.Text.{text_of, text_of_short, refused_as, accepted, text_packet}
+use Rattle.wire_spec.specs.Dump.{Item, What, Whole, arrived, arrivals_with, arrivals_after}
+use Rattle.wire_spec.specs.Dump as dumps
+use Rattle.command_spec.proofs.HeaderTypes.{header_read, type_read}
+use Rattle.command_spec.specs.Streams as sorts
+use Rattle.command_spec.specs.Streams.{is_rtcp, headed, sort_of, sort_of_what, is_of_text, stream_of, is_name, stream, is_dynamic}
+
+-- ---- a packet of another stream
+both : (a b : Bool) → (a && b) ≡ true → (a ≡ true) × (b ≡ true)
+both true true e = (refl, refl)
+both true false e = absurd (true≢false (sym e))
+both false b e = absurd (true≢false (sym e))
+
+-- RTCP has no payload type of text
+rtcp_type : (second t : ℕ) → (nat_le 192 second && nat_le second 223) ≡ true → is_dynamic t ≡ true → (second % 128 == t) ≡ false
+rtcp_type second t r d = go (second % 128 == t) refl
+  where
+    go : (b : Bool) → (second % 128 == t) ≡ b → b ≡ false
+    go false e = refl
+    go true e =
+        let low = leb-true 192 second (both _ _ r).0 in
+        let high = leb-true second 223 (both _ _ r).1 in
+        let least = leb-true 96 t (both _ _ d).0 in
+        let same = (Decides-eqb (second % 128) t).0 e in
+        absurd (omega (arith, low, high, least, same))
+
+-- a type of neither
+abbrev IsOther : Pts → ℕ → Type 0
+IsOther pts pt = ((pt == pts.t140) ≡ false) × ((pt == pts.red) ≡ false)
+
+other_type : (payload : List ℕ) (pt : ℕ) (pts : Pts) → IsOther pts pt → red payload pt pts ≡ Err red_faults.WrongType
+unfolding red
+other_type payload pt pts o = ap (λ b. cond b (texts_at [] payload) (cond (pt == pts.red) (headers_at 8 pts.t140 payload >>= λ hs. texts_at hs.headers hs.texts) (Err red_faults.WrongType))) o.0
+    ∙ ap (λ b. cond b (headers_at 8 pts.t140 payload >>= λ hs. texts_at hs.headers hs.texts) (Err red_faults.WrongType)) o.1
+
+neither : (a b : Bool) → (a || b) ≡ false → (a ≡ false) × (b ≡ false)
+neither true b e = absurd (true≢false e)
+neither false b e = (refl, e)
+
+-- ---- a record that is none of the stream
+module _ (ssrc : ℕ) (pts : Pts) (t140 : is_dynamic pts.t140 ≡ true) (red_type : is_dynamic pts.red ≡ true) where
+  -- the type of a packet of this SSRC that is none of the stream
+  type_is_other : (octets : List ℕ) (h : Reading) → rtp octets ≡ Ok h → (h.ssrc == ssrc) ≡ true → is_name ssrc (stream_of pts (sort_of_what (Whole octets))) ≡ false → IsOther pts h.pt
+  type_is_other octets h e s n = go (is_rtcp octets) refl (ap (λ q. is_name ssrc (stream_of pts (cond (is_rtcp octets) sorts.Rtcp (headed q)))) (sym e) ∙ n)
+    where
+      same : h.pt ≡ slice_index octets 1 % 128
+      same = type_read octets h (header_read octets h e)
+
+      by_type : (b : Bool) → is_of_text pts h ≡ b → is_name ssrc (cond b (Some h.ssrc) None) ≡ false → IsOther pts h.pt
+      by_type true t m = absurd (true≢false (sym s ∙ m))
+      by_type false t m = neither (h.pt == pts.t140) (h.pt == pts.red) t
+
+      go : (b : Bool) → is_rtcp octets ≡ b → is_name ssrc (stream_of pts (cond b sorts.Rtcp (sorts.Headed h))) ≡ false → IsOther pts h.pt
+      go true r m = (ap (λ k. k == pts.t140) same ∙ rtcp_type (slice_index octets 1) pts.t140 r t140, ap (λ k. k == pts.red) same ∙ rtcp_type (slice_index octets 1) pts.red r red_type)
+      go false r m = by_type (is_of_text pts h) refl m
+
+  abbrev IsRefused : Result Packet TextFault → Type 0
+  IsRefused r = (fault : TextFault) × (r ≡ Err fault)
+
+  refused_short : (octets : List ℕ) → is_name ssrc (stream_of pts (sort_of_what (Whole octets))) ≡ false → IsRefused (text_of_short octets (Some ssrc) pts)
+  unfolding text_of_short
+  refused_short octets n = by_header (rtp octets) refl
+    where
+      blocks_of : Reading → Result Packet TextFault
+      blocks_of r = refused_as blocks_fault (red r.payload r.pt pts) >>= λ blocks. Ok (text_packet r blocks)
+
+      by_ssrc : (h : Reading) → rtp octets ≡ Ok h → (a b : Bool) → (h.ssrc == ssrc) ≡ a → IsRefused (cond a (cond b (Err Sources) (Ok h)) (Err Foreign) >>= blocks_of)
+      by_ssrc h e false b s = (Foreign, refl)
+      by_ssrc h e true true s = (Sources, refl)
+      by_ssrc h e true false s = (WrongType, ap (λ x. refused_as blocks_fault x >>= λ blocks. Ok (text_packet h blocks)) (other_type h.payload h.pt pts (type_is_other octets h e s n)))
+
+      by_header : (q : Result Reading RtpFault) → rtp octets ≡ q → IsRefused (refused_as header_fault q >>= λ reading. accepted (Some ssrc) reading >>= blocks_of)
+      by_header (Err f) e = (header_fault f, refl)
+      by_header (Ok h) e = by_ssrc h e (h.ssrc == ssrc) (nat_lt 1 h.cc) refl
+
+  refused : (octets : List ℕ) → is_name ssrc (stream_of pts (sort_of_what (Whole octets))) ≡ false → IsRefused (text_of octets (Some ssrc) pts)
+  unfolding text_of
+  refused octets n = go (nat_lt MOST_PACKET_OCTETS (length octets))
+    where
+      go : (b : Bool) → IsRefused (cond b (Err Long) (text_of_short octets (Some ssrc) pts))
+      go true = (Long, refl)
+      go false = refused_short octets n
+
+  none_arrives : (item : Item) (before : List Arrival) → is_name ssrc (stream_of pts (sort_of item)) ≡ false → arrivals_with ssrc pts item before ≡ before
+  none_arrives item before n = go item.what n
+    where
+      go : (w : What) → is_name ssrc (stream_of pts (sort_of_what w)) ≡ false → arrivals_with ssrc pts (record { time = item.time; what = w }) before ≡ before
+      go (Whole octets) m = ap (λ r. arrived item.time r before) (refused octets m).1
+      go dumps.Rtcp m = refl
+      go dumps.Cut m = refl
+      go dumps.Large m = refl
+
+  same_arrivals : (before : List Arrival) (items : List Item) → arrivals_after ssrc pts before (stream pts ssrc items) ≡ arrivals_after ssrc pts before items
+  same_arrivals before [] = refl
+  same_arrivals before (item ∷ items) = go (is_name ssrc (stream_of pts (sort_of item))) refl (λ past. same_arrivals past items)
+    where
+      go : (b : Bool) → is_name ssrc (stream_of pts (sort_of item)) ≡ b → ((past : List Arrival) → arrivals_after ssrc pts past (stream pts ssrc items) ≡ arrivals_after ssrc pts past items)
+          → arrivals_after ssrc pts before (cond b (item ∷ stream pts ssrc items) (stream pts ssrc items)) ≡ arrivals_after ssrc pts (arrivals_with ssrc pts item before) items
+      go true e more = more (arrivals_with ssrc pts item before)
+      go false e more = more before ∙ ap (λ past. arrivals_after ssrc pts past items) (sym (none_arrives item before e))
+
+-- what arrives of the stream x
+pub arrives_alike : (pts : Pts) (ssrc : ℕ) (items : List Item) → is_dynamic pts.t140 ≡ true → is_dynamic pts.red ≡ true → arrivals_after ssrc pts [] (stream pts ssrc items) ≡ arrivals_after ssrc pts [] items
+arrives_alike pts ssrc items t r = same_arrivals ssrc pts t r [] items
