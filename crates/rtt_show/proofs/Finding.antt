@@ -1,0 +1,137 @@
+-- One record more of a recording.
+use Rattle.std.proofs.Common.{◌≡◌, ℕ, suc, ◌+◌, ◌<◌, ◌≤◌, ◌^◌, Bool, true, false, cond, List, [], ◌∷◌, ◌++◌, length, refl, ap, sym, ◌∙◌, subst, arith}
+use Rattle.std.specs.Prelude.{Option, None, Some, Result, Ok, Err}
+use Rattle.rtt_base.specs.declared.text_packets.Pts.{Pts}
+use Rattle.rtt_base.specs.declared.limits.TheConstants.{MOST_PACKET_OCTETS}
+use Rattle.wire_spec.specs.declared.faults.RtpFault.{RtpFault}
+use Rattle.wire_spec.specs.Rtp.{Reading, rtp}
+use Rattle.wire_spec.specs.Dump.{Item, Whole, sent_item}
+use Rattle.rtpdump_io.specs.InMemory.{IsRecord}
+use Rattle.rtpdump_io.specs.declared.items.DumpItem.{DumpItem}
+use Rattle.rtpdump_io.specs.declared.items.DumpItem.TheVariants as items
+use Rattle.rtpdump_io.specs.Answers.{record_of}
+use Rattle.command_spec.specs.Streams.{Sort, Headed, sort_of, sort_of_what, is_rtcp, is_of_rtcp, is_cut, is_large, is_no_rtp, is_of_text, stream_of, pair_of, pair, headed}
+use Rattle.command_spec.specs.Streams as sorts
+use Rattle.command_spec.specs.Showing.{how_many}
+use Rattle.command_spec.proofs.HeaderTypes.{header_read, type_read}
+use Rattle.rtt_show.specs.declared.found.Found.{Found}
+use Rattle.rtt_show.specs.declared.found.Unread.{Unread}
+use Rattle.rtt_show.specs.declared.found.Unread.TheVariants.{Rtcp, Cut, Large, NoRtp}
+use Rattle.rtt_show.specs.declared.groups.Groups.{Groups}
+use Rattle.rtt_show.specs.Groups.{Grouped, GroupsMore}
+use Rattle.rtt_show.specs.Finds.{IsFound, IsNoPacket, FindsMore, Tallies, unread_sort, one_if}
+use Rattle.rtt_show.proofs.Grouping.{passed}
+use Rattle.rtt_show.proofs.Surveying.{filter_more}
+
+-- one more, or none
+how_many_more : (is : Sort → Bool) (items : List Item) (item : Item) → how_many is (items ++ item ∷ []) ≡ how_many is items + one_if (is (sort_of item))
+how_many_more is items item = filter_more (λ i. is (sort_of i)) items item ∙ go (is (sort_of item))
+  where
+    go : (b : Bool) → cond b (suc (how_many is items)) (how_many is items) ≡ how_many is items + one_if b
+    go true = omega arith
+    go false = omega arith
+
+counted : (is : Sort → Bool) (items : List Item) (item : Item) (sort : Sort) (old new : ℕ) → sort_of item ≡ sort → old ≡ how_many is items → new ≡ old + one_if (is sort) → new ≡ how_many is (items ++ item ∷ [])
+counted is items item sort old new s e n = n ∙ (ap (λ k. k + one_if (is sort)) e ∙ (ap (λ (x : Sort). how_many is items + one_if (is x)) (sym s) ∙ sym (how_many_more is items item)))
+
+no_stream : (pts : Pts) (unread : Unread) → stream_of pts (unread_sort unread) ≡ None
+no_stream pts Rtcp = refl
+no_stream pts Cut = refl
+no_stream pts Large = refl
+no_stream pts NoRtp = refl
+
+no_pair : (pts : Pts) (unread : Unread) → pair_of pts (unread_sort unread) ≡ None
+no_pair pts Rtcp = refl
+no_pair pts Cut = refl
+no_pair pts Large = refl
+no_pair pts NoRtp = refl
+
+groups_same : (of : Sort → Option ℕ) (limit : ℕ) (old new : Groups) (items : List Item) → new ≡ old → Grouped of limit old items → Grouped of limit new items
+groups_same of limit old new items e w = subst (λ (g : Groups). Grouped of limit g items) (sym e) w
+
+-- a record of which no packet is read
+pub tallied : (old new : Found) (item : Item) (unread : Unread) → sort_of item ≡ unread_sort unread → Tallies old unread new → FindsMore old item new
+tallied old new item unread s t items f =
+    let sort = unread_sort unread in
+    subst (λ (pts : Pts). IsFound (record { pts = pts; streams = new.streams; pairs = new.pairs; rtcp = new.rtcp; cut = new.cut; large = new.large; no_rtp = new.no_rtp }) (items ++ item ∷ [])) (sym t.pts) (record {
+      streams = passed (stream_of old.pts) (2 ^ 32) new.streams items item (ap (stream_of old.pts) s ∙ no_stream old.pts unread) (groups_same (stream_of old.pts) (2 ^ 32) old.streams new.streams items t.streams f.streams);
+      pairs = passed (pair_of old.pts) (2 ^ 39) new.pairs items item (ap (pair_of old.pts) s ∙ no_pair old.pts unread) (groups_same (pair_of old.pts) (2 ^ 39) old.pairs new.pairs items t.pairs f.pairs);
+      rtcp = counted is_of_rtcp items item sort old.rtcp new.rtcp s f.rtcp t.rtcp;
+      cut = counted is_cut items item sort old.cut new.cut s f.cut t.cut;
+      large = counted is_large items item sort old.large new.large s f.large t.large;
+      no_rtp = counted is_no_rtp items item sort old.no_rtp new.no_rtp s f.no_rtp t.no_rtp;
+    })
+
+uncounted : (is : Sort → Bool) (items : List Item) (item : Item) (header : Reading) (n : ℕ) → sort_of item ≡ Headed header → is (Headed header) ≡ false → n ≡ how_many is items → n ≡ how_many is (items ++ item ∷ [])
+uncounted is items item header n s none e = counted is items item (Headed header) n n s e (nothing_more ∙ ap (λ b. n + one_if b) (sym none))
+  where
+    nothing_more : n ≡ n + 0
+    nothing_more = omega arith
+
+-- a packet of a stream
+pub of_stream : (old new : Found) (r : ℕ × List ℕ) (header : Reading) → sort_of (sent_item r) ≡ Headed header → is_of_text old.pts header ≡ true → header.ssrc < 2 ^ 32 → IsRecord r
+    → GroupsMore old.streams header.ssrc r new.streams → new ≡ record old { streams = new.streams } → FindsMore old (sent_item r) new
+of_stream old new r header s t small is g e items f =
+    let pts = old.pts in
+    let item = sent_item r in
+    let named : stream_of pts (sort_of item) ≡ Some header.ssrc = ap (stream_of pts) s ∙ ap (λ b. cond b (Some header.ssrc) None) t in
+    let other : pair_of pts (sort_of item) ≡ None = ap (pair_of pts) s ∙ ap (λ b. cond b None (Some (pair header.ssrc header.pt))) t in
+    subst (λ (x : Found). IsFound x (items ++ item ∷ [])) (sym e) (record {
+      streams = g (stream_of pts) (2 ^ 32) items is small named f.streams;
+      pairs = passed (pair_of pts) (2 ^ 39) old.pairs items item other f.pairs;
+      rtcp = uncounted is_of_rtcp items item header old.rtcp s refl f.rtcp;
+      cut = uncounted is_cut items item header old.cut s refl f.cut;
+      large = uncounted is_large items item header old.large s refl f.large;
+      no_rtp = uncounted is_no_rtp items item header old.no_rtp s refl f.no_rtp;
+    })
+
+-- a packet of a pair
+pub of_pair : (old new : Found) (r : ℕ × List ℕ) (header : Reading) → sort_of (sent_item r) ≡ Headed header → is_of_text old.pts header ≡ false → pair header.ssrc header.pt < 2 ^ 39 → IsRecord r
+    → GroupsMore old.pairs (pair header.ssrc header.pt) r new.pairs → new ≡ record old { pairs = new.pairs } → FindsMore old (sent_item r) new
+of_pair old new r header s t small is g e items f =
+    let pts = old.pts in
+    let item = sent_item r in
+    let named : pair_of pts (sort_of item) ≡ Some (pair header.ssrc header.pt) = ap (pair_of pts) s ∙ ap (λ b. cond b None (Some (pair header.ssrc header.pt))) t in
+    let other : stream_of pts (sort_of item) ≡ None = ap (stream_of pts) s ∙ ap (λ b. cond b (Some header.ssrc) None) t in
+    subst (λ (x : Found). IsFound x (items ++ item ∷ [])) (sym e) (record {
+      streams = passed (stream_of pts) (2 ^ 32) old.streams items item other f.streams;
+      pairs = g (pair_of pts) (2 ^ 39) items is small named f.pairs;
+      rtcp = uncounted is_of_rtcp items item header old.rtcp s refl f.rtcp;
+      cut = uncounted is_cut items item header old.cut s refl f.cut;
+      large = uncounted is_large items item header old.large s refl f.large;
+      no_rtp = uncounted is_no_rtp items item header old.no_rtp s refl f.no_rtp;
+    })
+
+-- what a header tells
+is_read : (octets : List ℕ) (header : Reading) → sort_of_what (Whole octets) ≡ Headed header → rtp octets ≡ Ok header
+is_read octets header e = go (is_rtcp octets) (rtp octets) refl e
+  where
+    head_or : Sort → Reading
+    head_or (Headed h) = h
+    head_or _ = header
+
+    go : (b : Bool) (q : Result Reading RtpFault) → rtp octets ≡ q → cond b sorts.Rtcp (headed q) ≡ Headed header → rtp octets ≡ Ok header
+    go true q r m = absurd (cc)
+    go false (Ok h) r m = r ∙ ap Ok (ap head_or m)
+    go false (Err f) r m = absurd (cc)
+
+-- a payload type has seven bits
+pub small_pair : (octets : List ℕ) (header : Reading) → sort_of_what (Whole octets) ≡ Headed header → header.ssrc < 2 ^ 32 → pair header.ssrc header.pt < 2 ^ 39
+small_pair octets header e s = omega (arith, s, type_read octets header (header_read octets header (is_read octets header e)))
+
+-- a header has octets
+pub some_octets : (octets : List ℕ) (header : Reading) → sort_of_what (Whole octets) ≡ Headed header → 0 < length octets
+unfolding rtp
+some_octets [] header e = absurd (cc)
+some_octets (x ∷ octets) header e = omega arith
+
+pub is_record : (at : ℕ) (octets : List ℕ) → at < 2 ^ 32 → length octets ≤ MOST_PACKET_OCTETS → IsRecord (at, octets)
+is_record at octets a l = record { moment = a; fits = omega (arith, l) }
+
+-- what is no packet is what it is, whatever octets are there
+pub sort_without : (item : DumpItem) (octets : List ℕ) → IsNoPacket item → sort_of (record_of item octets) ≡ sort_of (record_of item [])
+sort_without (items.Packet at) octets n = absurd (n at refl)
+sort_without (items.Rtcp at) octets n = refl
+sort_without (items.Cut at) octets n = refl
+sort_without (items.Large at) octets n = refl
+sort_without items.End octets n = refl

@@ -1,0 +1,12 @@
+use Rattle.std.proofs.Common.{◌≡◌, ℕ, List, length}
+use Rattle.command_spec.specs.Streams.{are_like_text}
+use Rattle.rtt_show.specs.Records.{AreRecords}
+use Rattle.rtt_show.proofs.Fronts.{Front}
+use Rattle.rtt_show.proofs.likes.all_near_text.Given as goal
+
+abbrev pub invariant-loop-octets : goal.invariant-loop-octets
+invariant-loop-octets l =
+    (all : List (ℕ × List ℕ)) → AreRecords l.fn.records all → Front (λ came. l.near ≡ are_like_text l.fn.ssrc l.fn.pts came) l.rest all
+
+abbrev pub decreases-loop-octets : goal.decreases-loop-octets
+decreases-loop-octets l = length l.rest

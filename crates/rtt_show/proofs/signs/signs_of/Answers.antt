@@ -1,0 +1,31 @@
+use Rattle.std.proofs.Common.{arith}
+use Rattle.wire_spec.specs.Dump.{sent_item}
+use Rattle.rtt_show.specs.Signs.{AreSigns}
+use Rattle.rtt_show.proofs.Fronts.{left_less, some_left, front_more, front_all}
+use Rattle.rtt_show.proofs.Signing.{signs_more}
+use Rattle.rtt_show.proofs.signs.signs_of.Goals as goal
+
+pub take-requires : goal.take-requires
+take-requires c =
+    let e = some_left c.loop-octets.rest.now c.in-Some.field-0-0 c.in-Some.octets.now c.in-Some.more.now c.loop-octets.signs.packets c.in-Some.ensures.record c.in-Some.ensures.shorter c.loop-octets.invariant.left in
+    omega (arith, e)
+
+pub loop-octets-preserved : goal.loop-octets-preserved
+loop-octets-preserved c =
+    let rest = c.loop-octets.rest.now in
+    let at = c.in-Some.field-0-0 in
+    let octets = c.in-Some.octets.now in
+    let more = c.in-Some.more.now in
+    let old = c.loop-octets.signs in
+    let new = c.take.new.self in
+    record {
+      left = left_less rest at octets more old.packets new.packets c.in-Some.ensures.record c.in-Some.ensures.shorter (omega (arith, c.take.ensures.packets)) c.loop-octets.invariant.left;
+      signs = λ all a.
+          front_more (AreSigns old) (AreSigns new) rest at octets more all c.in-Some.ensures.record c.in-Some.ensures.shorter
+          (λ came s. signs_more old new c.payload_of.result.now came (sent_item (at, octets)) s c.take.ensures.more c.take.ensures.packets c.payload_of.ensures)
+          (c.loop-octets.invariant.signs all a);
+    }
+
+pub returns : goal.returns
+returns c = λ all a.
+    front_all (AreSigns c.loop-octets.signs) c.loop-octets.rest.now all c.in_default.ensures.record (c.loop-octets.invariant.signs all a)

@@ -1,0 +1,14 @@
+use Rattle.std.proofs.Common.{ℕ, List, length}
+use Rattle.rtt_show.specs.Records.{AreRecords}
+use Rattle.rtt_show.specs.Signs.{AreSigns}
+use Rattle.rtt_show.proofs.Fronts.{Left, Front}
+use Rattle.rtt_show.proofs.signs.signs_of.Given as goal
+
+abbrev pub invariant-loop-octets : goal.invariant-loop-octets
+invariant-loop-octets l = record {
+  left : Left l.rest l.signs.packets;
+  signs : (all : List (ℕ × List ℕ)) → AreRecords l.fn.records all → Front (AreSigns l.signs) l.rest all;
+}
+
+abbrev pub decreases-loop-octets : goal.decreases-loop-octets
+decreases-loop-octets l = length l.rest

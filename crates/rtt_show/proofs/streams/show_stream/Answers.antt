@@ -1,0 +1,31 @@
+use Rattle.std.proofs.Common.{◌++◌, map, ap, ◌∙◌, append_assoc}
+use Rattle.wire_spec.specs.Dump.{sent_item}
+use Rattle.terminal.specs.Terminals.{texts_of}
+use Rattle.rtt_show.specs.Surveys.{title_of}
+use Rattle.rtt_show.specs.Shown.{heard_text}
+use Rattle.rtt_show.proofs.Grouping.{on_ok}
+use Rattle.rtt_show.proofs.Showing.{sources_few, sources_differ, enough_texts, stream_shown}
+use Rattle.rtt_show.proofs.streams.show_stream.Goals as goal
+
+pub hear_sources-requires-clause-few : goal.hear_sources-requires-clause-few
+hear_sources-requires-clause-few c = sources_few c.args.pts c.args.ssrc c.in_ok-found.found (map sent_item c.requires.0) (c.in_ok-found.ensures c.requires.0 c.requires.1)
+
+pub hear_sources-requires-clause-differ : goal.hear_sources-requires-clause-differ
+hear_sources-requires-clause-differ c = sources_differ c.args.pts c.args.ssrc c.in_ok-found.found (map sent_item c.requires.0) (c.in_ok-found.ensures c.requires.0 c.requires.1)
+
+pub append_heard-requires-clause-each : goal.append_heard-requires-clause-each
+append_heard-requires-clause-each c = enough_texts c.args.ssrc c.in_ok-found.found.sources.kept.items (texts_of c.in_ok-terminal.terminal) (c.in_ok-terminal.ensures c.requires.0 c.requires.1).each
+
+pub append_heard-requires-clause-utf8 : goal.append_heard-requires-clause-utf8
+append_heard-requires-clause-utf8 c = (c.in_ok-terminal.ensures c.requires.0 c.requires.1).utf8
+
+pub returns : goal.returns
+returns c =
+    let s = c.in_ok-found.found in
+    let t = c.in_ok-terminal.terminal in
+    let title = title_of c.args.ssrc s.from s.to in
+    on_ok c.append_heard.result (λ e records a.
+    e ∙ (ap (λ xs. xs ++ heard_text s t) c.in_ok-append_title.ensures
+    ∙ (append_assoc c.args.out.now title (heard_text s t)
+    ∙ ap (λ xs. c.args.out.now ++ xs) (stream_shown c.args.pts c.args.ssrc s t (map sent_item records) (c.in_ok-found.ensures records a) (c.in_ok-terminal.ensures records a)))))
+    c.append_heard.ensures

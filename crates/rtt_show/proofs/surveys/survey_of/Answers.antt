@@ -1,0 +1,41 @@
+use Rattle.std.proofs.Common.{ℕ, ◌+◌, arith, subst}
+use Rattle.std.specs.Prelude.{Result}
+use Rattle.wire_spec.specs.declared.faults.TextFault.{TextFault}
+use Rattle.wire_spec.specs.Dump.{sent_item}
+use Rattle.rtt_show.specs.Surveys.{IsSurvey, SurveysMore}
+use Rattle.rtt_show.proofs.Fronts.{left_less, some_left, front_none, front_more, front_all}
+use Rattle.rtt_show.proofs.Surveying.{survey_more}
+use Rattle.rtt_show.proofs.surveys.survey_of.Goals as goal
+
+pub loop-at-init : goal.loop-at-init
+loop-at-init c = record {
+  few = (0, record { back = c.requires.0; left = c.requires.1; few = omega (arith, c.requires.1.few) }, c.new-found.ensures.few);
+  found = λ all a. front_none (IsSurvey c.args.pts c.args.ssrc c.new-found.result) c.args.records.now all (c.new-found.ensures.nothing c.args.pts c.args.ssrc) a;
+}
+
+pub take-requires : goal.take-requires
+take-requires c =
+    let i = c.loop-at.invariant.few in
+    let e = some_left c.loop-at.rest.now c.in-Some.at c.in-Some.octets.now c.in-Some.more.now i.0 c.in-Some.ensures.record c.in-Some.ensures.shorter i.1 in
+    (i.0, omega (arith, e), i.2)
+
+pub loop-at-preserved : goal.loop-at-preserved
+loop-at-preserved c =
+    let i = c.loop-at.invariant in
+    let rest = c.loop-at.rest.now in
+    let at = c.in-Some.at in
+    let octets = c.in-Some.octets.now in
+    let more = c.in-Some.more.now in
+    let old = c.loop-at.found in
+    let new = c.take.new.self in
+    record {
+      few = (i.few.0 + 1, left_less rest at octets more i.few.0 (i.few.0 + 1) c.in-Some.ensures.record c.in-Some.ensures.shorter (omega arith) i.few.1, c.in_ok-take.ensures.few i.few.0 i.few.2);
+      found = λ all a.
+          front_more (IsSurvey c.args.pts c.args.ssrc old) (IsSurvey c.args.pts c.args.ssrc new) rest at octets more all c.in-Some.ensures.record c.in-Some.ensures.shorter
+          (λ came s. survey_more c.args.pts c.args.ssrc old new came (sent_item (at, octets)) s (subst (λ (read : Result ℕ TextFault). SurveysMore old at read new) c.read_source-read.ensures c.in_ok-take.ensures.more))
+          (i.found all a);
+    }
+
+pub returns : goal.returns
+returns c = λ all a.
+    front_all (IsSurvey c.args.pts c.args.ssrc c.loop-at.found) c.loop-at.rest.now all c.in_default.ensures.record (c.loop-at.invariant.found all a)

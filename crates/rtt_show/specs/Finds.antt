@@ -1,0 +1,57 @@
+-- What was found in the records of a recording.
+use Rattle.std.specs.Prelude.{◌≡◌, ℕ, ◌+◌, ◌≤◌, ◌^◌, Bool, List, [], ◌∷◌, ◌++◌, if◌then◌else◌}
+use Rattle.wire_spec.specs.Dump.{Item}
+use Rattle.rtpdump_io.specs.declared.items.DumpItem.{DumpItem}
+use Rattle.rtpdump_io.specs.declared.items.DumpItem.TheVariants as items
+use Rattle.command_spec.specs.Streams.{Sort, sort_of, is_of_rtcp, is_cut, is_large, is_no_rtp, stream_of, pair_of}
+use Rattle.command_spec.specs.Streams as sorts
+use Rattle.command_spec.specs.Showing.{how_many}
+use Rattle.rtt_show.specs.declared.found.Found.{Found}
+use Rattle.rtt_show.specs.declared.found.Unread.{Unread}
+use Rattle.rtt_show.specs.declared.found.Unread.TheVariants.{Rtcp, Cut, Large, NoRtp}
+use Rattle.rtt_show.specs.Groups.{Grouped}
+
+-- this was found in the records: an SSRC has 32 bits, and a payload type seven
+pub record IsFound (f : Found) (items : List Item) : Type 0 where
+  pub streams : Grouped (stream_of f.pts) (2 ^ 32) f.streams items
+  pub pairs : Grouped (pair_of f.pts) (2 ^ 39) f.pairs items
+  pub rtcp : f.rtcp ≡ how_many is_of_rtcp items
+  pub cut : f.cut ≡ how_many is_cut items
+  pub large : f.large ≡ how_many is_large items
+  pub no_rtp : f.no_rtp ≡ how_many is_no_rtp items
+
+-- no count is greater
+pub record IsSmall (n : ℕ) (f : Found) : Type 0 where
+  pub streams : f.streams.others ≤ n
+  pub pairs : f.pairs.others ≤ n
+  pub rtcp : f.rtcp ≤ n
+  pub cut : f.cut ≤ n
+  pub large : f.large ≤ n
+  pub no_rtp : f.no_rtp ≤ n
+
+-- a record more
+abbrev pub FindsMore : Found → Item → Found → Type 0
+FindsMore old item new = (items : List Item) → IsFound old items → IsFound new (items ++ item ∷ [])
+
+-- a record that holds no whole packet
+abbrev pub IsNoPacket : DumpItem → Type 0
+IsNoPacket item = (at : ℕ) → item ≡ items.Packet at → ⊥
+
+abbrev pub unread_sort : Unread → Sort
+unread_sort Rtcp = sorts.Rtcp
+unread_sort Cut = sorts.Cut
+unread_sort Large = sorts.Large
+unread_sort NoRtp = sorts.NoRtp
+
+abbrev pub one_if : Bool → ℕ
+one_if b = if b then 1 else 0
+
+-- one of these is counted
+pub record Tallies (old : Found) (unread : Unread) (new : Found) : Type 0 where
+  pub pts : new.pts ≡ old.pts
+  pub streams : new.streams ≡ old.streams
+  pub pairs : new.pairs ≡ old.pairs
+  pub rtcp : new.rtcp ≡ old.rtcp + one_if (is_of_rtcp (unread_sort unread))
+  pub cut : new.cut ≡ old.cut + one_if (is_cut (unread_sort unread))
+  pub large : new.large ≡ old.large + one_if (is_large (unread_sort unread))
+  pub no_rtp : new.no_rtp ≡ old.no_rtp + one_if (is_no_rtp (unread_sort unread))

@@ -1,0 +1,9 @@
+pub mod Records
+pub mod Surveys
+pub mod Signs
+pub mod Hearing
+pub mod Groups
+pub mod Finds
+pub mod Shown
+pub mod Whole
+pub mod Gathers

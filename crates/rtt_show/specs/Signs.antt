@@ -1,0 +1,20 @@
+-- What the payloads of the packets of a pair show.
+use Rattle.std.specs.Prelude.{◌≡◌, ℕ, ◌==◌, ◌||◌, List, length, if◌then◌else◌}
+use Rattle.std.specs.List.{list_any}
+use Rattle.wire_spec.specs.Packets.{has_text}
+use Rattle.wire_spec.specs.Dump.{Item}
+use Rattle.command_spec.specs.Streams.{payload_of, first_type, has_redundant, type_inside}
+use Rattle.rtt_show.specs.declared.signs.Signs.{Signs}
+
+-- the payloads of these packets show this
+pub record AreSigns (s : Signs) (came : List Item) : Type 0 where
+  pub packets : s.packets ≡ length came
+  pub inside : s.inside ≡ type_inside came
+  pub redundant : s.redundant ≡ list_any (λ item. has_redundant (payload_of item)) came
+  pub text : s.text ≡ list_any (λ item. has_text (payload_of item)) came
+
+-- a packet with this payload came besides
+pub record SignsMore (old : Signs) (payload : List ℕ) (new : Signs) : Type 0 where
+  pub inside : new.inside ≡ (if old.packets == 0 then first_type payload else old.inside)
+  pub redundant : new.redundant ≡ (old.redundant || has_redundant payload)
+  pub text : new.text ≡ (old.text || has_text payload)

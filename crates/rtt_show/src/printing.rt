@@ -1,0 +1,76 @@
+//! Lines of print. Where memory runs out a part of one may be appended.
+ghost use Rattle.std.specs.Prelude.{◌≡◌, ◌++◌, OnOk, decimal};
+ghost use Rattle.command_spec.specs.Listing.{fault_name};
+ghost use Rattle.command_spec.specs.Messages.{dump_kind_name};
+ghost use Rattle.command_spec.specs.Showing.{number_line};
+ghost use Rattle.rtt_show.specs.Surveys.{title_of};
+
+use itoa::Buffer;
+use rtt_base::{Bytes, NoMemory};
+use wire_spec::{DumpKind, TextFault};
+
+/// Appends a number and what stands before it.
+pub(crate) fn append_number(before: &[u8], number: u64, out: &mut Bytes) -> Result<(), NoMemory>
+    ensures { OnOk result (out.new ≡ out.old ++ before.now ++ decimal number) }
+{
+    let mut digits = Buffer::new();
+    out.append(before)?;
+    out.append(digits.format(number).as_bytes())
+}
+
+/// Appends a line of a number, where it is not 0.
+pub(crate) fn append_number_line(
+    before: &[u8],
+    number: u64,
+    out: &mut Bytes,
+) -> Result<(), NoMemory>
+    ensures { OnOk result (out.new ≡ out.old ++ number_line before.now number) }
+{
+    if number == 0 {
+        return Ok(());
+    }
+    append_number(before, number, out)?;
+    out.append(b"\n")
+}
+
+/// Appends the first line of a stream, whose packets came from one moment to another, in milliseconds.
+pub(crate) fn append_title(ssrc: u32, from: u32, to: u32, out: &mut Bytes) -> Result<(), NoMemory>
+    ensures { OnOk result (out.new ≡ out.old ++ title_of ssrc from to) }
+{
+    append_number(b"== ", u64::from(ssrc), out)?;
+    append_number(b" from ", u64::from(from), out)?;
+    append_number(b" to ", u64::from(to), out)?;
+    out.append(b"\n")
+}
+
+/// The name of a refusal.
+pub(crate) fn refusal_name(fault: TextFault) -> &'static [u8]
+    ensures { result.now ≡ fault_name fault }
+{
+    match fault {
+        TextFault::Short => b"Short",
+        TextFault::Version => b"Version",
+        TextFault::Padding => b"Padding",
+        TextFault::Sources => b"Sources",
+        TextFault::WrongType => b"WrongType",
+        TextFault::Cut => b"Cut",
+        TextFault::Many => b"Many",
+        TextFault::Long => b"Long",
+        TextFault::NotText => b"NotText",
+        TextFault::Foreign => b"Foreign",
+    }
+}
+
+/// The name of a fault of a recording.
+pub(crate) fn kind_name(kind: DumpKind) -> &'static [u8]
+    ensures { result.now ≡ dump_kind_name kind }
+{
+    match kind {
+        DumpKind::NotDump => b"NotDump",
+        DumpKind::BadLength => b"BadLength",
+        DumpKind::EndsInside => b"EndsInside",
+        DumpKind::TooLong => b"TooLong",
+        DumpKind::TooLarge => b"TooLarge",
+        DumpKind::Read => b"Read",
+    }
+}

@@ -1,0 +1,115 @@
+//! What a packet is, by its header, and as one of text.
+ghost use Rattle.std.specs.Prelude.{◌≡◌, ◌<◌, Some};
+ghost use Rattle.wire_spec.specs.Dump.{Whole};
+ghost use Rattle.wire_spec.specs.Text.{text_of};
+ghost use Rattle.command_spec.specs.Streams.{is_rtcp, sort_of_what, payload_in, is_of_text, is_dynamic};
+ghost use Rattle.command_spec.specs.Showing.{place_of};
+ghost use Rattle.rtp_header.specs.Headers.{reading};
+ghost use Rattle.rtt_show.specs.Surveys.{sorted, seen, is_like};
+
+use file_spec::limits::{FIRST_TYPE, LAST_TYPE};
+use red_blocks::{read_text, view_text};
+use rtp_header::{RtpView, read_rtp};
+use rtt_base::{Pts, TextPacket};
+use wire_spec::TextFault;
+
+/// A packet whose header is read, or none.
+#[derive(Clone, Copy)]
+pub(crate) enum Sorted<'a> {
+    Headed(RtpView<'a>),
+    NoRtp,
+    Rtcp,
+}
+
+/// Whether a packet is one of RTCP (RFC 5761, section 4).
+fn is_of_rtcp(octets: &[u8]) -> bool
+    ensures { result ≡ is_rtcp octets.now }
+{
+    octets.len() > 1 && (192..=223).contains(&octets[1])
+}
+
+/// What a packet is by its header.
+#[inline(always)]
+pub(crate) fn sort_packet(octets: &[u8]) -> Sorted<'_>
+    ensures { sorted result ≡ sort_of_what (Whole octets.now) }
+{
+    if is_of_rtcp(octets) {
+        return Sorted::Rtcp;
+    }
+    match read_rtp(octets) {
+        Ok(view) => Sorted::Headed(view),
+        Err(_) => Sorted::NoRtp,
+    }
+}
+
+/// The payload of a packet; none where its header can't be read.
+pub(crate) fn payload_of(octets: &[u8]) -> &[u8]
+    ensures { result.now ≡ payload_in (sort_of_what (Whole octets.now)) }
+{
+    match sort_packet(octets) {
+        Sorted::Headed(view) => view.payload,
+        Sorted::NoRtp | Sorted::Rtcp => &[],
+    }
+}
+
+/// Whether a packet's payload type is one of the two of text.
+pub(crate) fn has_text_type(view: &RtpView<'_>, pts: Pts) -> bool
+    ensures { result ≡ is_of_text pts (reading view.now) }
+{
+    view.pt == pts.t140 || view.pt == pts.red
+}
+
+/// Whether a payload type may be given to text (RFC 3551, section 3).
+pub(crate) fn may_be_given(pt: u8) -> bool
+    ensures { result ≡ is_dynamic pt }
+{
+    FIRST_TYPE <= u32::from(pt) && u32::from(pt) <= LAST_TYPE
+}
+
+/// The source of a packet of text of this stream, or why it is none.
+#[inline(always)]
+pub(crate) fn read_source(
+    octets: &[u8],
+    ssrc: u32,
+    pts: Pts,
+    packet: &mut TextPacket,
+) -> Result<u32, TextFault>
+    ensures { result ≡ seen (text_of octets.now (Some ssrc) pts) }
+{
+    if let Some(view) = view_text(octets, Some(ssrc), pts) {
+        return Ok(view.source);
+    }
+    match read_text(octets, Some(ssrc), pts, packet) {
+        Ok(()) => Ok(packet.source),
+        Err(fault) => Err(fault),
+    }
+}
+
+/// Whether a packet was read as a text, or would be if its text were shorter or other octets.
+pub(crate) fn is_near_text(read: Result<u32, TextFault>) -> bool
+    ensures { result ≡ is_like read }
+{
+    match read {
+        Ok(_) | Err(TextFault::Long | TextFault::NotText) => true,
+        Err(_) => false,
+    }
+}
+
+/// The place of a refusal in the order of the tests.
+pub(crate) fn place_among(fault: TextFault) -> usize
+    ensures place { result ≡ place_of fault }
+    ensures few { result < 10 }
+{
+    match fault {
+        TextFault::Short => 0,
+        TextFault::Version => 1,
+        TextFault::Padding => 2,
+        TextFault::Sources => 3,
+        TextFault::WrongType => 4,
+        TextFault::Cut => 5,
+        TextFault::Many => 6,
+        TextFault::Long => 7,
+        TextFault::NotText => 8,
+        TextFault::Foreign => 9,
+    }
+}

@@ -1,0 +1,160 @@
+//! What is shown of a stream of text.
+ghost use Rattle.std.specs.Prelude.{◌≡◌, ◌≢◌, ◌++◌, ◌≤◌, length, map, flat_map, decimal, AllPairs, IsUtf8, IfOk, OnOk, slice_index};
+ghost use Rattle.command_spec.specs.Showing.{place_of, refusal_line, refusals, stream_view};
+ghost use Rattle.view_spec.specs.Views.{source_view};
+ghost use Rattle.terminal.specs.Terminals.{texts_of, AreUtf8};
+ghost use Rattle.terminal.specs.Views.{named, source_shown};
+ghost use Rattle.rtt_base.specs.declared.limits.TheConstants.{MOST_SOURCES};
+ghost use Rattle.rtt_show.specs.Hearing.{HasHeard};
+ghost use Rattle.rtt_show.specs.Records.{HasRecords, OfRecords};
+ghost use Rattle.rtt_show.specs.Shown.{asked, conf_of, heard_text};
+
+use crate::first_sources::FirstSources;
+use crate::hearing::hear_all;
+use crate::printing::{append_number_line, append_title, refusal_name};
+use crate::sorts::place_among;
+use crate::surveys::{Survey, survey_of};
+use itoa::Buffer;
+use rtt_base::limits::USUAL_WAIT;
+use rtt_base::{Bytes, NoMemory, Pts};
+use std::alloc::Global;
+use t140_text::show;
+use t140_text::views::{append_counts, append_source_view};
+use terminal::{SourceText, TermConf, Terminal};
+use wire_spec::TextFault;
+
+/// The refusals, in the order of their tests.
+const REFUSALS: [TextFault; 9] = [
+    TextFault::Short,
+    TextFault::Version,
+    TextFault::Padding,
+    TextFault::Sources,
+    TextFault::WrongType,
+    TextFault::Cut,
+    TextFault::Many,
+    TextFault::Long,
+    TextFault::NotText,
+];
+
+/// Who hears the stream.
+fn conf_for(ssrc: u32, pts: Pts) -> TermConf
+    ensures { result ≡ conf_of pts ssrc }
+{
+    TermConf {
+        ssrc,
+        pts,
+        wait: u64::from(USUAL_WAIT),
+    }
+}
+
+/// A terminal that heard the sources, or that of the SSRC where none was named.
+fn hear_sources(
+    alloc: Global,
+    ssrc: u32,
+    pts: Pts,
+    sources: &FirstSources,
+    records: &[u8],
+) -> Result<Terminal, NoMemory>
+    requires few { length sources.now.kept.items ≤ MOST_SOURCES }
+    requires differ { AllPairs (λ a b. a ≢ b) sources.now.kept.items }
+    requires records { HasRecords records.now }
+    ensures { IfOk result (HasHeard (conf_of pts ssrc) (asked ssrc sources.now.kept.items) records.now) }
+{
+    let conf = conf_for(ssrc, pts);
+    if sources.kept.is_empty() {
+        return hear_all(alloc, conf, &[ssrc], records);
+    }
+    hear_all(alloc, conf, sources.kept.as_slice(), records)
+}
+
+/// Appends what one source shows.
+fn append_source(
+    alloc: Global,
+    source: u32,
+    text: &SourceText,
+    out: &mut Bytes,
+) -> Result<(), NoMemory>
+    requires { IsUtf8 text.now.text }
+    ensures { OnOk result (out.new ≡ out.old ++ source_view (source_shown (decimal source) text.now)) }
+{
+    let mut digits = Buffer::new();
+    let shown = show(alloc, text.text.as_slice())?;
+    append_source_view(digits.format(source).as_bytes(), &shown, out)
+}
+
+/// Appends what each source shows.
+fn append_sources(
+    alloc: Global,
+    sources: &[u32],
+    texts: &[SourceText],
+    out: &mut Bytes,
+) -> Result<(), NoMemory>
+    requires each { length sources.now ≤ length texts.now }
+    requires utf8 { AreUtf8 texts.now }
+    ensures { OnOk result (out.new ≡ out.old ++ flat_map source_view (named (map decimal sources.now) texts.now)) }
+{
+    for index in 0..sources.len() {
+        append_source(alloc, sources[index], &texts[index], out)?;
+    }
+    Ok(())
+}
+
+/// Appends how many packets were refused so, where some were.
+fn append_refusal(fault: TextFault, number: u64, out: &mut Bytes) -> Result<(), NoMemory>
+    ensures { OnOk result (out.new ≡ out.old ++ refusal_line fault number) }
+{
+    if number == 0 {
+        return Ok(());
+    }
+    out.append(b"-- refused ")?;
+    out.append(refusal_name(fault))?;
+    append_number_line(b" ", number, out)
+}
+
+/// Appends how many packets were refused by each of these.
+fn append_refusals(
+    faults: &[TextFault],
+    refused: &[u64; 10],
+    out: &mut Bytes,
+) -> Result<(), NoMemory>
+    ensures { OnOk result (out.new ≡ out.old ++ flat_map (λ fault. refusal_line fault (slice_index refused.now (place_of fault))) faults.now) }
+{
+    for fault in faults {
+        append_refusal(*fault, refused[place_among(*fault)], out)?;
+    }
+    Ok(())
+}
+
+/// Appends what was heard, with its counts.
+fn append_heard(
+    alloc: Global,
+    found: &Survey,
+    terminal: &Terminal,
+    out: &mut Bytes,
+) -> Result<(), NoMemory>
+    requires each { length found.now.sources.kept.items ≤ length (texts_of terminal.now) }
+    requires utf8 { AreUtf8 (texts_of terminal.now) }
+    ensures { OnOk result (out.new ≡ out.old ++ heard_text found.now terminal.now) }
+{
+    append_sources(alloc, found.sources.kept.as_slice(), terminal.heard(), out)?;
+    append_counts(terminal.counts(), out)?;
+    append_refusals(&REFUSALS, &found.refused, out)?;
+    append_number_line(b"-- other sources ", found.sources.others, out)
+}
+
+/// Appends what is shown of a stream with these packets.
+pub(crate) fn show_stream(
+    alloc: Global,
+    ssrc: u32,
+    pts: Pts,
+    records: &[u8],
+    out: &mut Bytes,
+) -> Result<(), NoMemory>
+    requires { HasRecords records.now }
+    ensures { OnOk result (OfRecords records.now (λ came. out.new ≡ out.old ++ stream_view pts ssrc came)) }
+{
+    let found = survey_of(alloc, records, ssrc, pts)?;
+    let terminal = hear_sources(alloc, ssrc, pts, &found.sources, records)?;
+    append_title(ssrc, found.from, found.to, out)?;
+    append_heard(alloc, &found, &terminal, out)
+}

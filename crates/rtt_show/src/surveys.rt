@@ -1,0 +1,86 @@
+//! What is found out of the packets of a stream before they are heard.
+ghost use Rattle.std.specs.Prelude.{◌≡◌, ℕ, ◌+◌, ◌<◌, ◌^◌, [], suc, slice_index, slice_set, IfOk, OnOk, Result};
+ghost use Rattle.rtt_show.specs.Records.{HasRecords, OfRecords};
+ghost use Rattle.rtt_show.specs.Surveys.{IsFew, IsSurvey, SurveysMore};
+ghost use Rattle.rtt_base.specs.declared.text_packets.Pts.{Pts as PayloadTypes};
+
+use crate::first_sources::FirstSources;
+use crate::sorts::{place_among, read_source};
+use rtpdump_io::next_record;
+use rtt_base::{NoMemory, Pts, TextPacket};
+use std::alloc::Global;
+use wire_spec::TextFault;
+use wire_spec::limits::LAST_RECORD_MOMENT;
+
+/// Moments in milliseconds, how many packets were refused by each fault, and the sources.
+#[derive(Drop)]
+pub(crate) struct Survey {
+    /// The least moment of a packet, and the greatest.
+    pub from: u32,
+    pub to: u32,
+    /// By the place of the fault in the order of the tests; last, the foreign ones.
+    pub refused: [u64; 10],
+    pub sources: FirstSources,
+}
+
+/// Counts one more at this place.
+fn count_at(counts: &mut [u64; 10], place: usize)
+    requires place { place < 10 }
+    requires few { slice_index counts.old place < 2 ^ 32 }
+    ensures { counts.new ≡ slice_set counts.old place (suc (slice_index counts.old place)) }
+{
+    counts[place] += 1;
+}
+
+impl Survey {
+    /// No packet came yet.
+    fn new(alloc: Global) -> Survey
+        ensures nothing { (pts : PayloadTypes) (ssrc : ℕ) → IsSurvey pts ssrc result [] }
+        ensures few { IsFew 0 result }
+    {
+        Survey {
+            from: LAST_RECORD_MOMENT,
+            to: 0,
+            refused: [0; 10],
+            sources: FirstSources::new(alloc),
+        }
+    }
+
+    /// A packet came, with a text of this source or none.
+    fn take(&mut self, at: u32, read: Result<u32, TextFault>) -> Result<(), NoMemory>
+        requires { (n : ℕ) × (n < 2 ^ 32) × IsFew n self.old }
+        ensures more { OnOk result (SurveysMore self.old at read self.new) }
+        ensures few { OnOk result ((n : ℕ) → IsFew n self.old → IsFew (n + 1) self.new) }
+    {
+        self.from = self.from.min(at);
+        self.to = self.to.max(at);
+        match read {
+            Ok(source) => self.sources.name(source),
+            Err(fault) => {
+                count_at(&mut self.refused, place_among(fault));
+                Ok(())
+            }
+        }
+    }
+}
+
+/// Finds out what these packets of a stream are.
+pub(crate) fn survey_of(
+    alloc: Global,
+    records: &[u8],
+    ssrc: u32,
+    pts: Pts,
+) -> Result<Survey, NoMemory>
+    requires { HasRecords records.now }
+    ensures { IfOk result (λ found. OfRecords records.now (IsSurvey pts ssrc found)) }
+{
+    let mut packet = TextPacket::default();
+    let mut found = Survey::new(alloc);
+    let mut rest = records;
+    while let Some((at, octets, more)) = next_record(rest) {
+        let read = read_source(octets, ssrc, pts, &mut packet);
+        found.take(at, read)?;
+        rest = more;
+    }
+    Ok(found)
+}

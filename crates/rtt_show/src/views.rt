@@ -1,0 +1,117 @@
+//! What is shown of all that was found in a recording.
+ghost use Rattle.std.specs.Prelude.{◌≡◌, ℕ, ◌<◌, ◌^◌, ◌++◌, List, length, All, IfOk, OnOk};
+ghost use Rattle.wire_spec.specs.Dump.{Item};
+ghost use Rattle.command_spec.specs.Streams.{ssrc_of, type_of};
+ghost use Rattle.command_spec.specs.Showing.{end_line, items_view};
+ghost use Rattle.rtt_show.specs.Records.{HasRecords, OfRecords};
+ghost use Rattle.rtt_show.specs.Finds.{IsFound, IsSmall};
+ghost use Rattle.rtt_show.specs.Whole.{AreShown, IsGroupOf, ends, others_text, shape_limit, shape_view};
+
+use crate::found::Found;
+use crate::groups::{Group, Groups};
+use crate::pairs::show_pair;
+use crate::printing::{append_number, append_number_line, kind_name};
+use crate::streams::show_stream;
+use rtpdump_io::DumpFault;
+use rtt_base::{Bytes, NoMemory, Pts};
+use std::alloc::Global;
+
+/// What groups of packets are: streams of text with these payload types, or pairs.
+#[derive(Clone, Copy)]
+pub(crate) enum Shape {
+    Stream(Pts),
+    Pair,
+}
+
+/// The SSRC of a pair.
+fn ssrc_in(pair: u64) -> u32
+    requires { pair < 2 ^ 39 }
+    ensures { result ≡ ssrc_of pair }
+{
+    (pair / 128) as u32
+}
+
+/// The payload type of a pair.
+fn type_in(pair: u64) -> u8
+    ensures { result ≡ type_of pair }
+{
+    (pair % 128) as u8
+}
+
+/// Appends what is shown of one group.
+fn show_group(alloc: Global, shape: Shape, group: &Group, out: &mut Bytes) -> Result<(), NoMemory>
+    requires records { HasRecords group.now.records }
+    requires name { group.now.name < shape_limit shape }
+    ensures { OnOk result (OfRecords group.now.records (λ came. out.new ≡ out.old ++ shape_view shape group.now.name came)) }
+{
+    let records = group.records.as_slice();
+    match shape {
+        Shape::Stream(pts) => show_stream(alloc, group.name as u32, pts, records, out),
+        Shape::Pair => show_pair(ssrc_in(group.name), type_in(group.name), records, out),
+    }
+}
+
+/// Appends what is shown of each group.
+fn show_groups(
+    alloc: Global,
+    shape: Shape,
+    groups: &[Group],
+    out: &mut Bytes,
+) -> Result<(), NoMemory>
+    requires { All (IsGroupOf shape) groups.now }
+    ensures { OnOk result (AreShown shape groups.now out.old out.new) }
+{
+    for index in 0..groups.len() {
+        show_group(alloc, shape, &groups[index], out)?;
+    }
+    Ok(())
+}
+
+/// Appends how many records are no packets of a stream or a pair.
+fn append_others(found: &Found, out: &mut Bytes) -> Result<(), NoMemory>
+    requires { (n : ℕ) × (n < 2 ^ 32) × IsSmall n found.now }
+    ensures { OnOk result (out.new ≡ out.old ++ others_text found.now) }
+{
+    let more = found.streams.others + found.pairs.others;
+    append_number_line(b"-- rtcp ", found.rtcp, out)?;
+    append_number_line(b"-- cut ", found.cut, out)?;
+    append_number_line(b"-- large ", found.large, out)?;
+    append_number_line(b"-- no RTP ", found.no_rtp, out)?;
+    append_number_line(b"-- more ", more, out)
+}
+
+/// Appends the last line: that the recording is whole, or the fault behind which it can't be read.
+#[tactic(auto, unfolding(command_spec::specs::Showing::end_line))]
+fn append_end(end: Option<DumpFault>, out: &mut Bytes) -> Result<(), NoMemory>
+    ensures { OnOk result (out.new ≡ out.old ++ end_line (ends end)) }
+{
+    match end {
+        None => out.append(b"-- whole\n"),
+        Some(fault) => {
+            append_number(b"-- byte ", fault.offset, out)?;
+            out.append(b": ")?;
+            out.append(kind_name(fault.kind))?;
+            out.append(b"\n")
+        }
+    }
+}
+
+/// All that is shown, with the fault that ends the recording.
+pub(crate) fn show_found(
+    alloc: Global,
+    found: &Found,
+    end: Option<DumpFault>,
+) -> Result<Bytes, NoMemory>
+    requires found { (items : List Item) × (length items < 2 ^ 32) × IsFound found.now items }
+    requires small { (n : ℕ) × (n < 2 ^ 32) × IsSmall n found.now }
+    ensures { IfOk result (λ out. (items : List Item) → length items < 2 ^ 32 → IsFound found.now items
+        → out ≡ items_view found.now.pts items ++ end_line (ends end)) }
+{
+    let mut out = Bytes::new(alloc);
+    let shape = Shape::Stream(found.pts);
+    show_groups(alloc, shape, found.streams.groups.as_slice(), &mut out)?;
+    show_groups(alloc, Shape::Pair, found.pairs.groups.as_slice(), &mut out)?;
+    append_others(found, &mut out)?;
+    append_end(end, &mut out)?;
+    Ok(out)
+}
