@@ -1,0 +1,5 @@
+pub mod Escaping
+pub mod Printing
+pub mod Unescaping
+pub mod Reading
+mod Examples

@@ -1,0 +1,10 @@
+use Rattle.std.proofs.Common.{refl, ap, ℕ}
+use Rattle.rtt_script.proofs.Printing.{begins, begins_giving}
+use Rattle.rtt_script.proofs.recordings.ear_for.Goals as goal
+
+pub returns-clause-printed : goal.returns-clause-printed
+returns-clause-printed c =
+    begins c.new.result _ _ c.args.conf (ap (λ (n : ℕ). record { leg = 0; ssrc = c.args.conf.ssrc; pts = c.args.conf.pts; wait = n }) c.from.ensures) refl c.new.ensures.gave
+
+pub returns-clause-giving : goal.returns-clause-giving
+returns-clause-giving c = begins_giving c.new.result _ _ c.args.conf refl c.new.ensures.gave

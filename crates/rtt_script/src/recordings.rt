@@ -1,0 +1,185 @@
+//! The work of `script`: each text of a recording becomes a line as soon as it is heard.
+ghost use Rattle.std.specs.Prelude.{◌≡◌, ◌+◌, ◌≤◌, ◌<◌, [], Bool, None, OnOk, IfOk, IfErr};
+ghost use Rattle.rtpdump_io.specs.Reading.{is_ended, to_come, source_of};
+ghost use Rattle.rtpdump_io.specs.Answers.{record_of, is_end};
+ghost use Rattle.rtpdump_io.specs.Faults.{FaultOf, HasCause};
+ghost use Rattle.command_spec.specs.declared.requests.ReadRequest.{ReadRequest};
+ghost use Rattle.ear.specs.Hears.{IsGiving, arrival_count, is_finished, is_quiet};
+ghost use Rattle.rtt_script.specs.Writing.{HasPrinted, IsTranscript, PrintsAll, PrintsEnd, PrintsItem, PrintsPacket, PrintsReady};
+ghost use Rattle.rtt_base.specs.declared.limits.TheConstants.{END_OF_MOMENTS, MOST_ARRIVALS};
+
+use crate::lines::append_line;
+use command_spec::ReadRequest;
+use ear::{Ear, EarConf, PlainAnswer};
+use rtpdump_io::{DumpItem, DumpReader, RecordingFault};
+use rtt_base::limits::USUAL_WAIT;
+use rtt_base::{Bytes, Chunk, NoMemory as OutOfMemory, Packet};
+use rtt_io::Source;
+use std::alloc::Global;
+
+/// An ear that hears what is asked for, to which nothing came yet.
+fn ear_for(alloc: Global, conf: ReadRequest) -> Result<Ear, OutOfMemory>
+    ensures printed { IfOk result (λ ear. HasPrinted conf [] ear []) }
+    ensures giving { IfOk result (λ ear. ∥ IsGiving ear ∥₁) }
+    ensures quiet { IfOk result (λ ear. is_quiet ear ≡ Bool.true) }
+    ensures none { IfOk result (λ ear. arrival_count ear ≡ 0) }
+    ensures open { IfOk result (λ ear. is_finished ear ≡ Bool.false) }
+{
+    let asked = EarConf {
+        leg: 0,
+        ssrc: conf.ssrc,
+        pts: conf.pts,
+        wait: u64::from(USUAL_WAIT),
+    };
+    Ear::new(alloc, asked, &[conf.source])
+}
+
+/// Prints what is heard by now. Each text is read into `chunk`.
+fn print_heard(ear: &mut Ear, chunk: &mut Chunk, out: &mut Bytes) -> Result<(), OutOfMemory>
+    requires giving { ∥ IsGiving ear.old ∥₁ }
+    ensures prints { OnOk result (PrintsReady ear.old out.old ear.new out.new) }
+    ensures giving { OnOk result ∥ IsGiving ear.new ∥₁ }
+    ensures quiet { OnOk result (is_quiet ear.new ≡ Bool.true) }
+    ensures arrivals { OnOk result (arrival_count ear.new ≡ arrival_count ear.old) }
+    ensures finished { OnOk result (is_finished ear.new ≡ is_finished ear.old) }
+{
+    for _ in 0..u64::MAX {
+        if !ear.next(chunk) {
+            return Ok(());
+        }
+        append_line(chunk, out)?;
+    }
+    // No memory holds so many texts.
+    Err(OutOfMemory)
+}
+
+/// Takes a packet that came at this moment, and prints what is heard then.
+fn print_packet(
+    ear: &mut Ear,
+    at: u64,
+    octets: &[u8],
+    chunk: &mut Chunk,
+    out: &mut Bytes,
+) -> Result<(), OutOfMemory>
+    requires at { at < END_OF_MOMENTS }
+    requires giving { ∥ IsGiving ear.old ∥₁ }
+    requires quiet { is_quiet ear.old ≡ Bool.true }
+    requires few { arrival_count ear.old < MOST_ARRIVALS }
+    ensures prints { OnOk result (PrintsPacket at octets.now ear.old out.old ear.new out.new) }
+    ensures giving { OnOk result ∥ IsGiving ear.new ∥₁ }
+    ensures quiet { OnOk result (is_quiet ear.new ≡ Bool.true) }
+    ensures few { OnOk result (arrival_count ear.new ≤ arrival_count ear.old + 1) }
+    ensures finished { OnOk result (is_finished ear.new ≡ is_finished ear.old) }
+{
+    match ear.hear_plain_chunk(at, octets, chunk) {
+        PlainAnswer::Chunk => append_line(chunk, out),
+        PlainAnswer::Nothing => Ok(()),
+        PlainAnswer::NotPlain => {
+            let _refused = ear.hear(at, octets);
+            print_heard(ear, chunk, out)
+        }
+    }
+}
+
+/// Takes a record, whose octets are these.
+fn print_record(
+    ear: &mut Ear,
+    item: DumpItem,
+    octets: &[u8],
+    chunk: &mut Chunk,
+    out: &mut Bytes,
+) -> Result<(), OutOfMemory>
+    requires giving { ∥ IsGiving ear.old ∥₁ }
+    requires quiet { is_quiet ear.old ≡ Bool.true }
+    requires few { arrival_count ear.old < MOST_ARRIVALS }
+    requires more { is_end item ≡ Bool.false }
+    ensures prints { OnOk result (PrintsItem (record_of item octets.now) ear.old out.old ear.new out.new) }
+    ensures giving { OnOk result ∥ IsGiving ear.new ∥₁ }
+    ensures quiet { OnOk result (is_quiet ear.new ≡ Bool.true) }
+    ensures few { OnOk result (arrival_count ear.new ≤ arrival_count ear.old + 1) }
+    ensures finished { OnOk result (is_finished ear.new ≡ is_finished ear.old) }
+{
+    match item {
+        DumpItem::Packet { at } => print_packet(ear, u64::from(at), octets, chunk, out),
+        DumpItem::Rtcp { .. } | DumpItem::Cut { .. } | DumpItem::Large { .. } | DumpItem::End => Ok(
+            (),
+        ),
+    }
+}
+
+/// Takes all records that are still to come, and prints what is heard.
+fn print_records<S: Source>(
+    reader: &mut DumpReader<S>,
+    ear: &mut Ear,
+    chunk: &mut Chunk,
+    out: &mut Bytes,
+) -> Result<(), RecordingFault>
+    requires reads { is_ended reader.old ≡ Bool.false }
+    requires giving { ∥ IsGiving ear.old ∥₁ }
+    requires quiet { is_quiet ear.old ≡ Bool.true }
+    requires none { arrival_count ear.old ≡ 0 }
+    requires open { is_finished ear.old ≡ Bool.false }
+    ensures prints { OnOk result (PrintsAll S.tells (to_come S.left reader.old) ear.old out.old ear.new out.new) }
+    ensures whole { S.tells → OnOk result ((to_come S.left reader.old).fault ≡ None) }
+    ensures giving { OnOk result ∥ IsGiving ear.new ∥₁ }
+    ensures quiet { OnOk result (is_quiet ear.new ≡ Bool.true) }
+    ensures open { OnOk result (is_finished ear.new ≡ Bool.false) }
+    ensures fault { S.tells → IfErr result (FaultOf (to_come S.left reader.old)) }
+    ensures failed { IfErr result (HasCause S.faults reader.old reader.new) }
+    ensures never_falls { S.faults (source_of reader.old) ≤ S.faults (source_of reader.new) }
+    ensures same_name { S.name (source_of reader.new) ≡ S.name (source_of reader.old) }
+{
+    let mut packet = Packet::new();
+    loop {
+        let item = match reader.next(&mut packet) {
+            Ok(item) => item,
+            Err(fault) => return Err(RecordingFault::Dump(fault)),
+        };
+        if let DumpItem::End = item {
+            return Ok(());
+        }
+        let Ok(()) = print_record(ear, item, packet.as_slice(), chunk, out) else {
+            return Err(RecordingFault::NoMemory);
+        };
+    }
+}
+
+/// Prints what is heard once nothing more comes.
+fn print_rest(ear: &mut Ear, chunk: &mut Chunk, out: &mut Bytes) -> Result<(), OutOfMemory>
+    requires giving { ∥ IsGiving ear.old ∥₁ }
+    requires quiet { is_quiet ear.old ≡ Bool.true }
+    requires open { is_finished ear.old ≡ Bool.false }
+    ensures { OnOk result (PrintsEnd ear.old out.old out.new) }
+{
+    ear.finish();
+    print_heard(ear, chunk, out)
+}
+
+/// What `script` prints of a recording: a line for each text that is heard of the source, with the moment in milliseconds at
+/// which it could be read first.
+pub fn script_recording<S: Source>(
+    alloc: Global,
+    reader: &mut DumpReader<S>,
+    conf: ReadRequest,
+) -> Result<Bytes, RecordingFault>
+    requires open { is_ended reader.old ≡ Bool.false }
+    ensures printed { S.tells → IfOk result (IsTranscript conf (to_come S.left reader.old)) }
+    ensures whole { S.tells → OnOk result ((to_come S.left reader.old).fault ≡ None) }
+    ensures fault { S.tells → IfErr result (FaultOf (to_come S.left reader.old)) }
+    ensures failed { IfErr result (HasCause S.faults reader.old reader.new) }
+    ensures never_falls { S.faults (source_of reader.old) ≤ S.faults (source_of reader.new) }
+    ensures same_name { S.name (source_of reader.new) ≡ S.name (source_of reader.old) }
+{
+    let Ok(mut ear) = ear_for(alloc, conf) else {
+        return Err(RecordingFault::NoMemory);
+    };
+    let mut chunk = Chunk::default();
+    let mut out = Bytes::new(alloc);
+    if let Err(fault) = print_records(reader, &mut ear, &mut chunk, &mut out) {
+        return Err(fault);
+    }
+    match print_rest(&mut ear, &mut chunk, &mut out) {
+        Ok(()) => Ok(out),
+        Err(_) => Err(RecordingFault::NoMemory),
+    }
+}

@@ -1,0 +1,135 @@
+use crate::script_recording;
+use command_spec::ReadRequest;
+use rtpdump_io::{DumpFault, DumpReader, RecordingFault};
+use rtt_base::{Bytes, NoMemory, Pts};
+use rtt_io::{Source, SteadySource};
+use std::alloc::Global;
+use std::test::Fail;
+use wire_spec::DumpKind;
+
+const TYPES: Pts = Pts { t140: 98, red: 100 };
+
+const ANN: ReadRequest = ReadRequest {
+    ssrc: 1001,
+    source: 1001,
+    pts: TYPES,
+};
+
+// Ann behind a mixer.
+const ANN_MIXED: ReadRequest = ReadRequest {
+    ssrc: 9000,
+    source: 1001,
+    pts: TYPES,
+};
+
+// The line and the head of a recording.
+const OPENING: [u8; 44] = *b"#!rtpplay1.0 127.0.0.1/5004\n\0\0\0\0\0\0\0\0\x7F\0\0\x01\x13\x8C\0\0";
+
+fn recording(alloc: Global, records: &[&[u8]]) -> Result<Bytes, NoMemory> {
+    let mut recording = Bytes::new(alloc);
+    recording.append(&OPENING)?;
+    for record in records {
+        recording.append(record)?;
+    }
+    Ok(recording)
+}
+
+// Whether this is printed.
+fn prints<S: Source + Drop>(
+    alloc: Global,
+    source: S,
+    conf: ReadRequest,
+    text: &str,
+) -> Result<bool, Fail> {
+    let mut reader = DumpReader::new(source);
+    match script_recording(alloc, &mut reader, conf) {
+        Ok(printed) => Ok(printed.as_slice() == text.as_bytes()),
+        Err(_) => Ok(false),
+    }
+}
+
+// Whether nothing is printed for this fault.
+fn ends_at<S: Source + Drop>(
+    alloc: Global,
+    source: S,
+    offset: u64,
+    kind: DumpKind,
+) -> Result<bool, Fail> {
+    let mut reader = DumpReader::new(source);
+    match script_recording(alloc, &mut reader, ANN) {
+        Err(RecordingFault::Dump(fault)) => Ok(fault == DumpFault { offset, kind }),
+        _ => Ok(false),
+    }
+}
+
+// Ann types A, and B 300 ms later; each packet repeats the two texts before it.
+const TYPED_A: &[u8] =
+    b"\0\x1E\0\x16\0\0\0\0\x80\xE4\0\0\0\0\0\0\0\0\x03\xE9\xE2\xFF\xFC\0\xE2\xFF\xFC\0\x62A";
+
+const TYPED_B: &[u8] =
+    b"\0\x1F\0\x17\0\0\x01\x2C\x80\x64\0\x01\0\0\x01\x2C\0\0\x03\xE9\xE2\xFF\xFC\0\xE2\x04\xB0\x01\x62AB";
+
+#[test]
+fn each_text_has_its_moment(rt: HostRuntime) -> Result<(), Fail> {
+    let records: [&[u8]; 4] = [
+        TYPED_A,
+        TYPED_B,
+        b"\0\x1F\0\x17\0\0\x02\x58\x80\x64\0\x02\0\0\x02\x58\0\0\x03\xE9\xE2\x09\x60\x01\xE2\x04\xB0\x01\x62AB",
+        b"\0\x1E\0\x16\0\0\x03\x84\x80\x64\0\x03\0\0\x03\x84\0\0\x03\xE9\xE2\x09\x60\x01\xE2\x04\xB0\0\x62B",
+    ];
+    let source = SteadySource::new(recording(rt.alloc(), &records)?);
+    assert!(rt; prints(rt.alloc(), source, ANN, "0 A\n300 B\n")?);
+    Ok(())
+}
+
+#[test]
+fn a_text_behind_a_gap_is_late(rt: HostRuntime) -> Result<(), Fail> {
+    // Of what Ann typed, `H`, `e` and `y` with a line separator, the second packet is lost.
+    let records: [&[u8]; 4] = [
+        b"\0\x22\0\x1A\0\0\0\0\x81\xE4\0\x64\0\0\x13\x88\0\0\x23\x28\0\0\x03\xE9\xE2\xFF\xFC\0\xE2\xFF\xFC\0\x62H",
+        b"\0\x27\0\x1F\0\0\x02\x58\x81\x64\0\x66\0\0\x15\xE0\0\0\x23\x28\0\0\x03\xE9\xE2\x09\x60\x01\xE2\x04\xB0\x01\x62Hey\xE2\x80\xA8",
+        b"\0\x26\0\x1E\0\0\x03\x84\x81\x64\0\x67\0\0\x17\x0C\0\0\x23\x28\0\0\x03\xE9\xE2\x09\x60\x01\xE2\x04\xB0\x04\x62ey\xE2\x80\xA8",
+        b"\0\x25\0\x1D\0\0\x04\xB0\x81\x64\0\x68\0\0\x18\x38\0\0\x23\x28\0\0\x03\xE9\xE2\x09\x60\x04\xE2\x04\xB0\0\x62y\xE2\x80\xA8",
+    ];
+    let source = SteadySource::new(recording(rt.alloc(), &records)?);
+    assert!(rt; prints(rt.alloc(), source, ANN_MIXED, "0 H\n1600 e\n1600 y\\n\n")?);
+    Ok(())
+}
+
+#[test]
+fn what_a_screen_obeys_is_escaped(rt: HostRuntime) -> Result<(), Fail> {
+    // Without redundancy: new lines of each kind, an erasure, a bell, a backslash, silent characters, and a marker.
+    let records: [&[u8]; 3] = [
+        b"\0\x25\0\x1D\0\0\0\0\x80\x62\0\0\0\0\0\0\0\0\x03\xE9a\r\nb\n\r\xE2\x80\xA8\x08\x07\\\xEF\xBB\xBF\0c",
+        b"\0\x17\0\x0F\0\0\x01\x2C\x80\x62\0\x01\0\0\x01\x2C\0\0\x03\xE9\xEF\xBB\xBF",
+        b"\0\x19\0\x11\0\0\x02\x58\x80\x62\0\x02\0\0\x02\x58\0\0\x03\xE9\xC3\xA9\xEF\xBF\xBD",
+    ];
+    let source = SteadySource::new(recording(rt.alloc(), &records)?);
+    assert!(rt;
+        prints(
+            rt.alloc(),
+            source,
+            ANN,
+            "0 a\\nb\\n\\n\\n\\b\\a\\\\c\n600 \u{E9}\u{FFFD}\n"
+        )?
+    );
+    Ok(())
+}
+
+#[test]
+fn a_cr_and_the_lf_of_the_next_text_are_two_new_lines(rt: HostRuntime) -> Result<(), Fail> {
+    let records: [&[u8]; 2] = [
+        b"\0\x16\0\x0E\0\0\0\0\x80\x62\0\0\0\0\0\0\0\0\x03\xE9a\r",
+        b"\0\x16\0\x0E\0\0\x01\x2C\x80\x62\0\x01\0\0\x01\x2C\0\0\x03\xE9\nb",
+    ];
+    let source = SteadySource::new(recording(rt.alloc(), &records)?);
+    assert!(rt; prints(rt.alloc(), source, ANN, "0 a\\n\n300 \\nb\n")?);
+    Ok(())
+}
+
+#[test]
+fn a_recording_that_breaks_off_is_not_printed(rt: HostRuntime) -> Result<(), Fail> {
+    let source = SteadySource::new(recording(rt.alloc(), &[TYPED_A, TYPED_B, b"\0\x1F\0"])?);
+    assert!(rt; ends_at(rt.alloc(), source, 105, DumpKind::EndsInside)?);
+    Ok(())
+}
