@@ -16,7 +16,6 @@ use Rattle.command_spec.specs.Scripts.{events_before, events_until, events_throu
 use Rattle.rtt_send.proofs.Events.{before_suc, until_later, script_on, asked_until}
 use Rattle.rtt_send.proofs.Asking.{idle, no_more}
 use Rattle.rtt_send.proofs.Fronts.{some_front}
-use Rattle.file_spec.specs.declared.limits.TheConstants.{LAST_MOMENT}
 use Rattle.rtt_base.specs.declared.limits.TheConstants.{MOST_TEXT_OCTETS}
 use Rattle.stream_spec.specs.declared.limits.TheConstants.{MOST_WAITING_OCTETS}
 
@@ -202,8 +201,8 @@ recent conf past now (e ∷ es) q h = let a = h e (inl refl) in omega (arith, a.
 
 -- by then nothing is left
 pub ends_by : (conf : SendConf) (lines : List ScriptLine) (now n : ℕ) → IsConf conf → IsScript (events_until lines now) → All (λ l. l.at ≤ now) lines
-    → length (waits_for conf (events_until lines now)) ≤ MOST_WAITING_OCTETS → now ≤ LAST_MOMENT → 79999999 ≤ n → n < 2 ^ 31 → has_more conf (events_through lines n) ≡ false
-ends_by conf lines now n c s a room early late top =
+    → length (waits_for conf (events_until lines now)) ≤ MOST_WAITING_OCTETS → now + 65540000 ≤ n → n < 2 ^ 31 → has_more conf (events_through lines n) ≡ false
+ends_by conf lines now n c s a room late top =
     subst (λ (past : List Event). has_more conf past ≡ false) (before_suc lines n) (elim (left_at conf lines now (suc n) c s a (omega arith) (omega arith)) [
       | inl none ↦ none
       | inr p ↦ (
@@ -211,8 +210,8 @@ ends_by conf lines now n c s a room early late top =
           let pace = paced (stream_of conf) conf.interval past c.gens (let l = c.least in omega arith) s in
           let asked = asked_until lines now in
           let rest = recent conf past now (sent_by conf past) refl (λ e i. let r = pace.early e i in (r.0, omega (arith, r.1))) in
-          absurd (too_long (potential conf (events_before lines (suc n)) (suc n)) (potential conf past now) (length (waits_for conf past)) (rank conf.gens (sents (sent_by conf past))) (remaining conf.interval (sent_by conf past) now) conf.interval n now refl (let few = rank_le conf.gens (sents (sent_by conf past)) in let most = c.gens in omega (arith, few, most)) rest c.most room early late p))
+          absurd (too_long (potential conf (events_before lines (suc n)) (suc n)) (potential conf past now) (length (waits_for conf past)) (rank conf.gens (sents (sent_by conf past))) (remaining conf.interval (sent_by conf past) now) conf.interval n now refl (let few = rank_le conf.gens (sents (sent_by conf past)) in let most = c.gens in omega (arith, few, most)) rest c.most room late p))
     ])
   where
-    too_long : (p q w r m i n now : ℕ) → q ≡ 1000 * (4 * w + r) + m → r ≤ 3 → m ≤ i → i ≤ 1000 → w ≤ MOST_WAITING_OCTETS → now ≤ 14400000 → 79999999 ≤ n → p + suc n ≤ q + now → ⊥
-    too_long p q w r m i n now e a b d f g h l = omega arith
+    too_long : (p q w r m i n now : ℕ) → q ≡ 1000 * (4 * w + r) + m → r ≤ 3 → m ≤ i → i ≤ 1000 → w ≤ MOST_WAITING_OCTETS → now + 65540000 ≤ n → p + suc n ≤ q + now → ⊥
+    too_long p q w r m i n now e a b d f g l = omega arith

@@ -115,7 +115,7 @@ some_end conf lines k a full =
     let script = script_through lines f.last a (let h = f.early in omega arith) in
     record {
       all_typed = All-weaker (λ l. l.at ≤ f.last) (λ l. l.at ≤ 79999999) (λ l h. omega (arith, f.early)) lines f.typed;
-      all_sent = ends_by conf lines f.last 79999999 k script.2 f.typed f.room f.early (omega arith) (omega arith);
+      all_sent = ends_by conf lines f.last 79999999 k script.2 f.typed f.room (omega (arith, f.early)) (omega arith);
     }
 
 -- a script whose lines are accepted, and of which none is full, has a first end

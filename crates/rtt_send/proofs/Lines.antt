@@ -11,6 +11,7 @@ use Rattle.stream_spec.specs.Typed.{Event, Turned}
 use Rattle.text_sender.specs.declared.senders.SendConf.{SendConf}
 use Rattle.text_sender.specs.Standing.{sent_by, waits_for}
 use Rattle.command_spec.specs.Scripts.{AreLines, events_until, events_through}
+use Rattle.command_spec.specs.Frames.{AreTyped}
 use Rattle.rtt_send.specs.Scripts.{IsEnd, full_below, full_line}
 use Rattle.rtt_send.specs.Scripts.{records_of, recording_sent}
 use Rattle.rtt_send.specs.Insides.{Records, IsAt}
@@ -19,6 +20,7 @@ use Rattle.rtt_send.proofs.Events.{before_suc, until_later}
 use Rattle.rtt_send.proofs.Asking.{idle_on, no_more}
 use Rattle.rtt_send.proofs.Ending.{ends_by}
 use Rattle.file_spec.specs.declared.limits.TheConstants.{LAST_MOMENT}
+use Rattle.frame_spec.specs.declared.limits.TheConstants.{END_OF_FRAME_MOMENTS}
 use Rattle.stream_spec.specs.declared.limits.TheConstants.{MOST_WAITING_OCTETS}
 
 -- ---- two ends
@@ -38,23 +40,23 @@ ends_agree conf lines t k e f = elim (cases_lt t k) [
 pub record Sends (conf : SendConf) (lines above below : List ScriptLine) (r : Recorder) : Type 0 where
   pub whole : lines ≡ above ++ below
   pub is_at : IsAt conf above r
-  pub early : r.now ≤ LAST_MOMENT
+  pub early : r.now < END_OF_FRAME_MOMENTS
   pub later : All (λ l. r.now ≤ l.at) below
-  pub lines_below : AreLines below
+  pub lines_below : AreTyped below
   pub full : full_line conf lines ≡ full_below conf above below
 
-pub at_first : (conf : SendConf) (lines : List ScriptLine) (r : Recorder) → AreLines lines → IsAt conf [] r → r.now ≡ 0 → Sends conf lines [] lines r
+pub at_first : (conf : SendConf) (lines : List ScriptLine) (r : Recorder) → AreTyped lines → IsAt conf [] r → r.now ≡ 0 → Sends conf lines [] lines r
 at_first conf lines r a i z = record {
   whole = refl;
   is_at = i;
   early = omega arith;
-  later = All-weaker (λ l. l.at ≤ LAST_MOMENT) (λ l. r.now ≤ l.at) (λ l h. omega arith) lines a.early;
+  later = All-weaker (λ l. l.at < END_OF_FRAME_MOMENTS) (λ l. r.now ≤ l.at) (λ l h. omega arith) lines a.early;
   lines_below = a;
   full = refl;
 }
 
-more_lines : (line : ScriptLine) (more : List ScriptLine) → AreLines (line ∷ more) → AreLines more
-more_lines line more a = record { ordered = a.ordered.1; early = All-tail (λ l. l.at ≤ LAST_MOMENT) line more a.early; texts = All-tail (λ l. IsUtf8 l.text) line more a.texts }
+more_lines : (line : ScriptLine) (more : List ScriptLine) → AreTyped (line ∷ more) → AreTyped more
+more_lines line more a = record { ordered = a.ordered.1; early = All-tail (λ l. l.at < END_OF_FRAME_MOMENTS) line more a.early; texts = All-tail (λ l. IsUtf8 l.text) line more a.texts }
 
 -- a line that fits
 pub next_line : (conf : SendConf) (lines above more : List ScriptLine) (line : ScriptLine) (r passed typed : Recorder) → Sends conf lines above (line ∷ more) r
@@ -62,7 +64,7 @@ pub next_line : (conf : SendConf) (lines above more : List ScriptLine) (line : S
 next_line conf lines above more line r passed typed s p fits i n = record {
   whole = s.whole ∙ sym (append_assoc above (line ∷ []) more);
   is_at = i;
-  early = omega (arith, n, p, All-head (λ l. l.at ≤ LAST_MOMENT) line more s.lines_below.early);
+  early = omega (arith, n, p, All-head (λ l. l.at < END_OF_FRAME_MOMENTS) line more s.lines_below.early);
   later = All-weaker (λ l. line.at ≤ l.at) (λ l. typed.now ≤ l.at) (λ l h. omega arith) more s.lines_below.ordered.0;
   lines_below = more_lines line more s.lines_below;
   full = s.full ∙ ap (λ b. cond b (Some line.line) (full_below conf (above ++ line ∷ []) more)) not_full;
@@ -93,12 +95,12 @@ pub record Sent (conf : SendConf) (lines : List ScriptLine) (octets : List ℕ) 
   pub recording : octets ≡ recording_sent conf lines n
   pub not_full : full_line conf lines ≡ None
 
-pub at_last : (conf : SendConf) (lines above : List ScriptLine) (r last : Recorder) (n : ℕ) → Sends conf lines above [] r → IsAt conf above last → last.now ≡ suc n → 79999999 ≤ n → n < 2 ^ 31
+pub at_last : (conf : SendConf) (lines above : List ScriptLine) (r last : Recorder) (n : ℕ) → Sends conf lines above [] r → IsAt conf above last → last.now ≡ suc n → 82999999 ≤ n → n < 2 ^ 31
     → Sent conf lines last.octets n
 at_last conf lines above r last n s i e late top = subst (λ ls. Sent conf ls last.octets n) (sym (s.whole ∙ nil above)) (let done : Sent conf above last.octets n = record {
   is_end = record {
     all_typed = All-weaker (λ l. l.at ≤ r.now) (λ l. l.at ≤ n) (λ l h. omega (arith, s.early)) above s.is_at.typed;
-    all_sent = ends_by conf above r.now n s.is_at.records.conf_is s.is_at.records.sender.script s.is_at.typed s.is_at.records.room s.early late top;
+    all_sent = ends_by conf above r.now n s.is_at.records.conf_is s.is_at.records.sender.script s.is_at.typed s.is_at.records.room (omega (arith, s.early, late)) top;
   };
   recording = (subst (Records conf last.sender last.octets) same i.records).recorded;
   not_full = subst (λ ls. full_line conf ls ≡ None) (s.whole ∙ nil above) s.full;
@@ -120,3 +122,11 @@ at_line conf xs i line r l e s = subst (λ below. Sends conf xs (take i xs) belo
 
 pub all_lines : (conf : SendConf) (xs : List ScriptLine) (i : ℕ) (r : Recorder) → length xs ≤ i → Sends conf xs (take i xs) (drop i xs) r → Sends conf xs (take i xs) [] r
 all_lines conf xs i r l s = subst (λ below. Sends conf xs (take i xs) below r) (drop_all i xs l) s
+
+-- ---- lines of a script may be typed
+pub script_typed : (lines : List ScriptLine) → AreLines lines → AreTyped lines
+script_typed lines a = record {
+  ordered = a.ordered;
+  early = All-weaker (λ l. l.at ≤ LAST_MOMENT) (λ l. l.at < END_OF_FRAME_MOMENTS) (λ l h. omega arith) lines a.early;
+  texts = a.texts;
+}

@@ -1,6 +1,7 @@
-//! Sends a script.
+//! Sends the lines of a script.
 ghost use Rattle.std.specs.Prelude.{◌≡◌, ◌<◌, ◌^◌, ℕ, None, IfOk, IfErr};
 ghost use Rattle.text_sender.specs.Confs.{IsConf};
+ghost use Rattle.command_spec.specs.Frames.{AreTyped};
 ghost use Rattle.command_spec.specs.Scripts.{AreLines};
 ghost use Rattle.rtt_send.specs.Scripts.{full_line, recording};
 ghost use Rattle.rtt_send.specs.Answers.{IsCause};
@@ -12,16 +13,16 @@ use script_text::Script;
 use std::alloc::Global;
 use text_sender::SendConf;
 
-/// By this millisecond all text of a script was sent and repeated: its last line is typed in the first four hours, and
-/// each of the at most 16384 octets that wait then takes at most four packets, a second apart.
-const LAST: u64 = 80_000_000;
+/// By this millisecond all text of lines was sent and repeated: the last one is typed before 2^24 ms, and each of the at
+/// most 16384 octets that wait then takes at most four packets, a second apart.
+const LAST: u64 = 83_000_000;
 
-/// The recording of what a sender sends that is given the texts of a script and asked at each millisecond, up to the
+/// The recording of what a sender sends that is given the texts of these lines and asked at each millisecond, up to the
 /// end, where nothing waits and nothing is to be repeated. It takes time in the lines and packets, not in the
 /// milliseconds.
-pub fn send_script(alloc: Global, script: &Script, conf: SendConf) -> Result<Bytes, SendFault>
+pub fn send_lines(alloc: Global, script: &Script, conf: SendConf) -> Result<Bytes, SendFault>
     requires conf { IsConf conf }
-    requires lines { AreLines script.now }
+    requires lines { AreTyped script.now }
     ensures sent { IfOk result (λ octets. octets ≡ recording conf script.now) }
     ensures room { IfOk result (λ octets. full_line conf script.now ≡ None) }
     ensures cause { IfErr result (λ fault. IsCause fault (full_line conf script.now)) }
@@ -36,4 +37,16 @@ pub fn send_script(alloc: Global, script: &Script, conf: SendConf) -> Result<Byt
     }
     recorder.pass_to(LAST)?;
     Ok(recorder.octets)
+}
+
+/// The same of the lines of a script, which are all in the first four hours.
+#[tactic(auto, using(crate::proofs::Lines::script_typed))]
+pub fn send_script(alloc: Global, script: &Script, conf: SendConf) -> Result<Bytes, SendFault>
+    requires conf { IsConf conf }
+    requires lines { AreLines script.now }
+    ensures sent { IfOk result (λ octets. octets ≡ recording conf script.now) }
+    ensures room { IfOk result (λ octets. full_line conf script.now ≡ None) }
+    ensures cause { IfErr result (λ fault. IsCause fault (full_line conf script.now)) }
+{
+    send_lines(alloc, script, conf)
 }
