@@ -4,7 +4,7 @@ use Rattle.wire_spec.specs.Dump.{dump}
 use Rattle.wire_spec.specs.Dump as dumps
 use Rattle.file_spec.specs.Conf.{Conf}
 use Rattle.mixer_spec.specs.Table.{Table}
-use Rattle.command_spec.specs.declared.faults.Refusal.TheVariants.{AtByte, AtLine, AfterTurns}
+use Rattle.command_spec.specs.declared.faults.Refusal.TheVariants.{AtByte, AtFrame, AtLine, AfterTurns}
 use Rattle.command_spec.specs.Work.{Contents, Steps, Refuses}
 use Rattle.command_spec.specs.Outcomes.{Outcome, Missing, Done, outcome_from}
 use Rattle.command_spec.specs.Outcomes as outcomes
@@ -14,6 +14,7 @@ use Rattle.rtt_top.specs.Faults.{NoneBefore}
 pub none_before_first : (n : ℕ) (o : Outcome) → n ≡ 0 → NoneBefore n o
 none_before_first n (Missing input) e = tt
 none_before_first n (outcomes.Refused input (AtByte byte kind)) e = omega (arith, e)
+none_before_first n (outcomes.Refused input (AtFrame byte kind)) e = omega (arith, e)
 none_before_first n (outcomes.Refused input (AtLine line kind)) e = omega (arith, e)
 none_before_first n (outcomes.Refused input (AfterTurns turns)) e = tt
 none_before_first n (Done printed files) e = tt
@@ -21,6 +22,7 @@ none_before_first n (Done printed files) e = tt
 fewer : (a b : ℕ) (o : Outcome) → b ≤ a → NoneBefore a o → NoneBefore b o
 fewer a b (Missing input) l n = tt
 fewer a b (outcomes.Refused input (AtByte byte kind)) l n = omega (arith, l, n)
+fewer a b (outcomes.Refused input (AtFrame byte kind)) l n = omega (arith, l, n)
 fewer a b (outcomes.Refused input (AtLine line kind)) l n = omega (arith, l, n)
 fewer a b (outcomes.Refused input (AfterTurns turns)) l n = tt
 fewer a b (Done printed files) l n = tt

@@ -5,7 +5,7 @@ use Rattle.wire_spec.specs.Dump as dumps
 use Rattle.stream_spec.specs.History.{History, Lawful, Come}
 use Rattle.rtt_io.specs.Fronts.{TakesFront}
 use Rattle.command_spec.specs.declared.faults.Refusal.{Refusal}
-use Rattle.command_spec.specs.declared.faults.Refusal.TheVariants.{AtByte, AtLine, AfterTurns}
+use Rattle.command_spec.specs.declared.faults.Refusal.TheVariants.{AtByte, AtFrame, AtLine, AfterTurns}
 use Rattle.command_spec.specs.Words.{ReadWords, MixWords, Command, Read, Mix}
 use Rattle.command_spec.specs.declared.faults.Fault.{Fault}
 use Rattle.command_spec.specs.declared.faults.Fault.TheVariants.{WrongWords, CannotOpen, CannotRead, Refused, CannotPrint, CannotWrite, NoMemory}
@@ -49,6 +49,8 @@ as_worked c WorldTells OutTells old new name (Err (CannotRead n)) told e calm = 
 as_worked c WorldTells OutTells old new name (Err (Refused n (AtLine line kind))) told e calm =
     inl (ap ending_of (sym (refused_where WorldTells old.contents (work c).steps n (AtLine line kind) told e.1)))
 as_worked c WorldTells OutTells old new name (Err (Refused n (AtByte byte kind))) told e calm =
+    inl (ap ending_of (sym (e.2 (where_input WorldTells old.contents (work c).steps n name e.0 told)).0))
+as_worked c WorldTells OutTells old new name (Err (Refused n (AtFrame byte kind))) told e calm =
     inl (ap ending_of (sym (e.2 (where_input WorldTells old.contents (work c).steps n name e.0 told)).0))
 as_worked c WorldTells OutTells old new name (Err (Refused n (AfterTurns turns))) told e calm = inl (ap ending_of (sym (e.2 told)))
 as_worked c WorldTells OutTells old new name (Err CannotPrint) told e calm = absurd (calm.output e.0 e.1)

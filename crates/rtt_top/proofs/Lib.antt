@@ -15,3 +15,6 @@ pub mod Plain
 pub mod Lying
 pub mod Fronts
 pub mod Statuses
+pub mod FrameFronts
+pub mod Framing
+pub mod Shown

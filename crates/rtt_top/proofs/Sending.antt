@@ -8,18 +8,18 @@ use Rattle.file_spec.specs.Script.{ScriptLine}
 use Rattle.file_spec.specs.Lines.{read_lines, told, is_comment}
 use Rattle.std.specs.Str.Lines as str
 use Rattle.file_spec.specs.Script.{script, and_line}
-use Rattle.command_spec.specs.Words.{SendWords, Send}
+use Rattle.command_spec.specs.Words.{Command, SendWords, Send}
 use Rattle.rtt_io.specs.Counts.{Rose}
 use Rattle.command_spec.specs.declared.faults.Refusal.TheVariants.{AtLine}
 use Rattle.command_spec.specs.declared.faults.Fault.{Fault}
 use Rattle.command_spec.specs.declared.faults.Fault.TheVariants.{Refused, CannotWrite}
 use Rattle.command_spec.specs.Scripts as scripts
-use Rattle.command_spec.specs.Work.{Contents, Made, Refuses, Makes, IsOutput}
+use Rattle.command_spec.specs.Work.{Contents, Made, Steps, Reads, Refuses, Makes, IsOutput}
 use Rattle.command_spec.specs.Outcomes.{outcome, outcome_from, Done, Same, Stores, AllStored}
 use Rattle.command_spec.specs.Commands.{sending_of, sends, unless_full, work}
 use Rattle.command_spec.specs.Messages.{Ending}
-use Rattle.rtt_top.specs.Files.{IsFrontOf, IsPartlyStored}
-use Rattle.rtt_top.specs.Faults.{Stops, name_in}
+use Rattle.rtt_top.specs.Files.{IsFrontOf, IsPartlyStored, made_file}
+use Rattle.rtt_top.specs.Faults.{Stops, WhereRead, name_in}
 use Rattle.rtt_top.specs.Outside.{Outside, Output, CallFailed, ObjectFailed}
 use Rattle.rtt_top.specs.Runs.{PartlyStored, Ends}
 use Rattle.rtt_top.proofs.Counts.{rose_since}
@@ -44,20 +44,20 @@ read_octets WorldTells held octets ls given s = (octets, λ t. let g = given t i
 
 -- ---- a line that is refused
 refused_at : (WorldTells : Type 0) (held : Contents) (s : SendWords) (Call Object : Type 0) (line : ℕ) (kind : ConfKind)
-    → (octets : List ℕ) × (WorldTells → held s.script ≡ Some octets) × (sends s (script octets) ≡ Refuses 0 (AtLine line kind))
+    → (octets : List ℕ) × (WorldTells → held s.file ≡ Some octets) × (sends s (script octets) ≡ Refuses 0 (AtLine line kind))
     → Stops WorldTells held (Send s) Call Object (Refused 0 (AtLine line kind))
 refused_at WorldTells held s Call Object line kind r =
-    (refl, refuses_of WorldTells held s.script (λ octets. sends s (script octets)) 0 (AtLine line kind) r.0 r.1 r.2)
+    (refl, refuses_of WorldTells held s.file (λ octets. sends s (script octets)) 0 (AtLine line kind) r.0 r.1 r.2)
 
 pub script_refused : (WorldTells : Type 0) (held : Contents) (s : SendWords) (Call Object : Type 0) (octets : List ℕ) (line : ℕ) (kind : ConfKind)
-    → (WorldTells → (whole : List ℕ) × (held s.script ≡ Some whole) × IsFrontOf MOST_SCRIPT_OCTETS octets whole) → script octets ≡ Err (record { line = line; kind = kind })
+    → (WorldTells → (whole : List ℕ) × (held s.file ≡ Some whole) × IsFrontOf MOST_SCRIPT_OCTETS octets whole) → script octets ≡ Err (record { line = line; kind = kind })
     → Stops WorldTells held (Send s) Call Object (Refused 0 (AtLine line kind))
 script_refused WorldTells held s Call Object octets line kind given e =
-    let o = lying_octets WorldTells MOST_SCRIPT_OCTETS script (held s.script) octets (λ a b l m. too_large a l ∙ sym (too_large b m)) given in
+    let o = lying_octets WorldTells MOST_SCRIPT_OCTETS script (held s.file) octets (λ a b l m. too_large a l ∙ sym (too_large b m)) given in
     refused_at WorldTells held s Call Object line kind (o.0, o.1, ap (sends s) (o.2 ∙ e))
 
 pub full_refused : (WorldTells : Type 0) (held : Contents) (s : SendWords) (Call Object : Type 0) (ls : List ScriptLine) (line : ℕ)
-    → (octets : List ℕ) × (WorldTells → held s.script ≡ Some octets) × (script octets ≡ Ok ls) → scripts.full_line (sending_of s) ls ≡ Some line
+    → (octets : List ℕ) × (WorldTells → held s.file ≡ Some octets) × (script octets ≡ Ok ls) → scripts.full_line (sending_of s) ls ≡ Some line
     → Stops WorldTells held (Send s) Call Object (Refused 0 (AtLine line Full))
 full_refused WorldTells held s Call Object ls line r full =
     let made : List Made = record { name = s.out; octets = scripts.recording (sending_of s) ls } ∷ [] in
@@ -70,14 +70,17 @@ recorded s octets file ls read room is =
     let made : List ℕ → List Made = λ f. record { name = s.out; octets = f } ∷ [] in
     ap (sends s) read ∙ (ap (λ o. unless_full o (Makes [] (made (scripts.recording (sending_of s) ls)))) room ∙ ap (λ f. Makes [] (made f)) (sym is))
 
--- ---- how a `send` ends
-output_is : (WorldTells : Type 0) (held : Contents) (s : SendWords) (octets file : List ℕ) → (WorldTells → held s.script ≡ Some octets)
-    → sends s (script octets) ≡ Makes [] (record { name = s.out; octets = file } ∷ []) → IsOutput WorldTells held (work (Send s)).steps 0 s.out
-output_is WorldTells held s octets file t e = (octets, t, subst (λ steps. IsOutput WorldTells held steps 0 s.out) (sym e) refl)
+-- ---- how a command ends that makes one file of what it reads
 
-made_of : (held : Contents) (s : SendWords) (octets file : List ℕ) → held s.script ≡ Some octets
-    → sends s (script octets) ≡ Makes [] (record { name = s.out; octets = file } ∷ []) → outcome held (work (Send s)).steps ≡ Done [] (record { name = s.out; octets = file } ∷ [])
-made_of held s octets file h e = lies held s.script (λ octets. sends s (script octets)) octets h ∙ ap (outcome_from 1 held) e
+module _ (c : Command) (input out : List ℕ) (next : List ℕ → Steps) (is_work : (work c).steps ≡ Reads input next) where
+  pub output_is : (WorldTells : Type 0) (held : Contents) (octets file : List ℕ) → (WorldTells → held input ≡ Some octets)
+      → next octets ≡ Makes [] (made_file out file ∷ []) → IsOutput WorldTells held (work c).steps 0 out
+  output_is WorldTells held octets file t e =
+      subst (λ steps. IsOutput WorldTells held steps 0 out) (sym is_work) (octets, t, subst (λ steps. IsOutput WorldTells held steps 0 out) (sym e) refl)
+
+  pub made_of : (held : Contents) (octets file : List ℕ) → held input ≡ Some octets
+      → next octets ≡ Makes [] (made_file out file ∷ []) → outcome held (work c).steps ≡ Done [] (made_file out file ∷ [])
+  made_of held octets file h e = ap (outcome held) is_work ∙ (lies held input next octets h ∙ ap (outcome_from 1 held) e)
 
 stores_after : (file : Made) (old between new : Contents) → Same old between → Stores file between new → Stores file old new
 stores_after file old between new same stores = record { stored = stores.stored; others = λ name other. stores.others name other ∙ same name }
@@ -97,32 +100,33 @@ append_none : (xs : List ℕ) → xs ≡ xs ++ []
 append_none [] = refl
 append_none (x ∷ xs) = ap (λ ys. x ∷ ys) (append_none xs)
 
-pub saves : (s : SendWords) (WorldTells OutTells : Type 0) (old new : Outside) (between : Contents) (calls objects : List ℕ → ℕ) (input file : List ℕ) (res : Ending)
-    → new.out ≡ old.out → (octets : List ℕ) × (WorldTells → old.contents s.script ≡ Some octets) × (sends s (script octets) ≡ Makes [] (record { name = s.out; octets = file } ∷ []))
-    → (WorldTells → Same old.contents between) → ((n : List ℕ) → old.calls n ≤ calls n) → ((n : List ℕ) → old.objects n ≤ objects n)
+pub saves : (c : Command) (input out : List ℕ) (WorldTells OutTells : Type 0) (old new : Outside) (between : Contents) (calls objects : List ℕ → ℕ) (file : List ℕ) (res : Ending)
+    → (WhereRead (work c).steps WorldTells → WorldTells) → IsOutput WorldTells old.contents (work c).steps 0 out
+    → (WorldTells → outcome old.contents (work c).steps ≡ Done [] (made_file out file ∷ []))
+    → new.out ≡ old.out → (WorldTells → Same old.contents between) → ((n : List ℕ) → old.calls n ≤ calls n) → ((n : List ℕ) → old.objects n ≤ objects n)
     → IfErr res (λ fault. fault ≡ CannotWrite 0)
-    → (WorldTells → OnOk res (Stores (record { name = s.out; octets = file }) between new.contents))
-    → OnErr res (Rose (calls s.out) (new.calls s.out) ⊎ Rose (objects s.out) (new.objects s.out))
-    → (WorldTells → OnErr res (IsPartlyStored (Rose (calls s.out) (new.calls s.out)) (Rose (objects s.out) (new.objects s.out)) (record { name = s.out; octets = file }) between new.contents))
-    → Ends (Send s) WorldTells OutTells old new (name_in input s.out res) res
-saves s WorldTells OutTells old new between calls objects input file (Ok u) out made same f g fault saved cause partly =
-    λ told. done (outcome old.contents (work (Send s)).steps) [] (record { name = s.out; octets = file } ∷ [])
+    → (WorldTells → OnOk res (Stores (made_file out file) between new.contents))
+    → OnErr res (Rose (calls out) (new.calls out) ⊎ Rose (objects out) (new.objects out))
+    → (WorldTells → OnErr res (IsPartlyStored (Rose (calls out) (new.calls out)) (Rose (objects out) (new.objects out)) (made_file out file) between new.contents))
+    → Ends c WorldTells OutTells old new (name_in input out res) res
+saves c input out WorldTells OutTells old new between calls objects file (Ok u) reads path made same_out same f g fault saved cause partly =
+    λ read. done (outcome old.contents (work c).steps) [] (made_file out file ∷ [])
     (λ printed files. (WorldTells → AllStored files old.contents new.contents) × (OutTells → new.out.octets ≡ old.out.octets ++ printed))
-    (made_of old.contents s made.0 file (made.1 told) made.2) (
-      (λ told. (new.contents, stores_after (record { name = s.out; octets = file }) old.contents between new.contents (same told) (saved told), λ name. refl)),
-      λ shown. ap (λ (o : Output). o.octets) out ∙ append_none old.out.octets,
+    (made (reads read)) (
+      (λ told. (new.contents, stores_after (made_file out file) old.contents between new.contents (same told) (saved told), λ name. refl)),
+      λ shown. ap (λ (o : Output). o.octets) same_out ∙ append_none old.out.octets,
     )
-saves s WorldTells OutTells old new between calls objects input file (Err fault) out made same f g is saved cause partly =
-    let P : Fault → Type 0 = λ q. Ends (Send s) WorldTells OutTells old new (name_in input s.out (Err q)) (Err q) in
-    let call : Rose (calls s.out) (new.calls s.out) → CallFailed old new s.out = λ r. rose_since (old.calls s.out) (calls s.out) (new.calls s.out) (f s.out) r in
-    let object : Rose (objects s.out) (new.objects s.out) → ObjectFailed old new s.out = λ r. rose_since (old.objects s.out) (objects s.out) (new.objects s.out) (g s.out) r in
+saves c input out WorldTells OutTells old new between calls objects file (Err fault) reads path made same_out same f g is saved cause partly =
+    let P : Fault → Type 0 = λ q. Ends c WorldTells OutTells old new (name_in input out (Err q)) (Err q) in
+    let call : Rose (calls out) (new.calls out) → CallFailed old new out = λ r. rose_since (old.calls out) (calls out) (new.calls out) (f out) r in
+    let object : Rose (objects out) (new.objects out) → ObjectFailed old new out = λ r. rose_since (old.objects out) (objects out) (new.objects out) (g out) r in
     subst P (sym is) (
-      output_is WorldTells old.contents s made.0 file made.1 made.2,
-      either (Rose (calls s.out) (new.calls s.out)) (Rose (objects s.out) (new.objects s.out)) (CallFailed old new s.out) (ObjectFailed old new s.out) call object cause,
-      (λ shown. ap (λ (o : Output). o.octets) out),
-      λ told. done (outcome old.contents (work (Send s)).steps) [] (record { name = s.out; octets = file } ∷ [])
+      path,
+      either (Rose (calls out) (new.calls out)) (Rose (objects out) (new.objects out)) (CallFailed old new out) (ObjectFailed old new out) call object cause,
+      (λ shown. ap (λ (o : Output). o.octets) same_out),
+      λ told. done (outcome old.contents (work c).steps) [] (made_file out file ∷ [])
           (λ printed files. PartlyStored (CallFailed old new) (ObjectFailed old new) 0 files old.contents new.contents)
-          (made_of old.contents s made.0 file (made.1 told) made.2)
-          (partly_after (CallFailed old new s.out) (ObjectFailed old new s.out) (Rose (calls s.out) (new.calls s.out)) (Rose (objects s.out) (new.objects s.out))
-          (record { name = s.out; octets = file }) old.contents between new.contents call object (same told) (partly told)),
+          (made told)
+          (partly_after (CallFailed old new out) (ObjectFailed old new out) (Rose (calls out) (new.calls out)) (Rose (objects out) (new.objects out))
+          (made_file out file) old.contents between new.contents call object (same told) (partly told)),
     )

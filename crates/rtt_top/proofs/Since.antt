@@ -2,7 +2,7 @@
 use Rattle.std.proofs.Common.{◌≡◌, ℕ, zero, suc, ◌+◌, Option, Some, None, List, ◌++◌, take, Ok, Err, refl, ap, sym, subst, ◌∙◌, inl, inr}
 use Rattle.std.specs.Prelude.{◌⊎◌}
 use Rattle.command_spec.specs.declared.faults.Refusal.{Refusal}
-use Rattle.command_spec.specs.declared.faults.Refusal.TheVariants.{AtByte, AtLine, AfterTurns}
+use Rattle.command_spec.specs.declared.faults.Refusal.TheVariants.{AtByte, AtFrame, AtLine, AfterTurns}
 use Rattle.command_spec.specs.declared.faults.Fault.TheVariants.{WrongWords, CannotOpen, CannotRead, Refused, CannotPrint, CannotWrite, NoMemory}
 use Rattle.command_spec.specs.Words.{Command}
 use Rattle.command_spec.specs.Commands.{work}
@@ -147,6 +147,15 @@ ends_since c WorldTells OutTells old mid new name (Err (Refused n (AtLine line k
   unchanged_since WorldTells OutTells old mid new b out e.2,
 )
 ends_since c WorldTells OutTells old mid new name (Err (Refused n (AtByte byte kind))) b out calm e = (
+  input_since WorldTells old.contents mid.contents b.same (work c).steps n name e.0,
+  e.1,
+  (λ told. (
+    sym (outcome_since old.contents mid.contents (b.same told) 0 (work c).steps) ∙ (e.2 told).0,
+    none_before_since n c WorldTells old mid new b.same calm (e.2 told).1,
+  )),
+  unchanged_since WorldTells OutTells old mid new b out e.3,
+)
+ends_since c WorldTells OutTells old mid new name (Err (Refused n (AtFrame byte kind))) b out calm e = (
   input_since WorldTells old.contents mid.contents b.same (work c).steps n name e.0,
   e.1,
   (λ told. (

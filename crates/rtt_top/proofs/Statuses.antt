@@ -1,13 +1,16 @@
 -- With which statuses a command can end.
-use Rattle.std.proofs.Common.{◌≡◌, ℕ, true, true≢false, Option, Some, None, List, [], Ok, Err, refl, sym, subst}
+use Rattle.std.proofs.Common.{◌≡◌, ℕ, true, true≢false, Option, Some, None, List, [], Result, Ok, Err, refl, sym, subst}
 use Rattle.wire_spec.specs.Dump.{dump, usual_limit}
 use Rattle.wire_spec.specs.Dump as dumps
 use Rattle.file_spec.specs.declared.kinds.ConfKind.{ConfKind}
-use Rattle.command_spec.specs.Words.{Command, Read, ListRecords, Send, Mix, Make}
-use Rattle.command_spec.specs.declared.faults.Refusal.TheVariants.{AtByte, AtLine, AfterTurns}
+use Rattle.command_spec.specs.Words.{Command, Read, ListRecords, Send, Mix, Make, Relay, Channel, Show, Script, Version}
+use Rattle.command_spec.specs.declared.faults.Refusal.TheVariants.{AtByte, AtFrame, AtLine, AfterTurns}
 use Rattle.command_spec.specs.declared.faults.Fault.TheVariants.{WrongWords, CannotOpen, CannotRead, Refused, CannotPrint, CannotWrite, NoMemory}
-use Rattle.command_spec.specs.Work.{Contents, Makes, IsInput}
-use Rattle.command_spec.specs.Commands.{unless_broken}
+use Rattle.command_spec.specs.Work.{Contents, Steps, Makes, IsInput}
+use Rattle.command_spec.specs.Commands.{saves_frames, sending_of, unless_broken}
+use Rattle.command_spec.specs.Frames.{channel, relay}
+use Rattle.command_spec.specs.Showing.{show_refusal}
+use Rattle.frame_spec.specs.declared.frames.FrameFault.{FrameFault}
 use Rattle.command_spec.specs.Generated.{Generated, generated}
 use Rattle.command_spec.specs.Making.{makes_summary, making, recordings}
 use Rattle.command_spec.specs.Sums.{Sums, sums_mixed}
@@ -17,10 +20,17 @@ use Rattle.rtt_top.specs.Outside.{Outside}
 use Rattle.rtt_top.specs.Runs.{Ends}
 use Rattle.rtt_top.specs.Statuses.{EndsAsItCan, can_end}
 
--- a recording is refused at no line
-no_line : (WorldTells : Type 0) (held : Contents) (found : Option dumps.Fault) (view : List ℕ) (n line : ℕ) (kind : ConfKind) → RefusesSo WorldTells held (unless_broken found (Makes view [])) n (AtLine line kind) → ⊥
-no_line WorldTells held None view n line kind r = r
-no_line WorldTells held (Some fault) view n line kind r = cc r.1
+-- a recording is refused at no line, unless what comes of it is
+no_line : (WorldTells : Type 0) (held : Contents) (found : Option dumps.Fault) (steps : Steps) (n line : ℕ) (kind : ConfKind)
+    → (RefusesSo WorldTells held steps n (AtLine line kind) → ⊥) → RefusesSo WorldTells held (unless_broken found steps) n (AtLine line kind) → ⊥
+no_line WorldTells held None steps n line kind none r = none r
+no_line WorldTells held (Some fault) steps n line kind none r = cc r.1
+
+-- frames are refused at no line
+no_frame_line : (WorldTells : Type 0) (held : Contents) (out : List ℕ) (frames : Result (List ℕ) FrameFault) (n line : ℕ) (kind : ConfKind)
+    → RefusesSo WorldTells held (saves_frames out frames) n (AtLine line kind) → ⊥
+no_frame_line WorldTells held out (Ok octets) n line kind r = r
+no_frame_line WorldTells held out (Err fault) n line kind r = cc r.1
 
 -- `make` reads nothing
 no_input : (WorldTells : Type 0) (held : Contents) (k : ℕ) (made : Generated) (found : Option Sums) (n : ℕ) (name : List ℕ) → IsInput WorldTells held (makes_summary k made found) n name → ⊥
@@ -36,49 +46,109 @@ ends_so (ListRecords l) WorldTells OutTells old new name (Ok u) e = refl
 ends_so (Send s) WorldTells OutTells old new name (Ok u) e = refl
 ends_so (Mix m) WorldTells OutTells old new name (Ok u) e = refl
 ends_so (Make m) WorldTells OutTells old new name (Ok u) e = refl
+ends_so (Relay s) WorldTells OutTells old new name (Ok u) e = refl
+ends_so (Channel c) WorldTells OutTells old new name (Ok u) e = refl
+ends_so (Show l) WorldTells OutTells old new name (Ok u) e = refl
+ends_so (Script r) WorldTells OutTells old new name (Ok u) e = refl
+ends_so Version WorldTells OutTells old new name (Ok u) e = refl
 ends_so c WorldTells OutTells old new name (Err WrongWords) e = absurd e
 ends_so (Read r) WorldTells OutTells old new name (Err (CannotOpen n)) e = refl
 ends_so (ListRecords l) WorldTells OutTells old new name (Err (CannotOpen n)) e = refl
 ends_so (Send s) WorldTells OutTells old new name (Err (CannotOpen n)) e = refl
 ends_so (Mix m) WorldTells OutTells old new name (Err (CannotOpen n)) e = refl
 ends_so (Make m) WorldTells OutTells old new name (Err (CannotOpen n)) e = absurd (reads_none WorldTells old.contents m.number n name e.0)
+ends_so (Relay s) WorldTells OutTells old new name (Err (CannotOpen n)) e = refl
+ends_so (Channel c) WorldTells OutTells old new name (Err (CannotOpen n)) e = refl
+ends_so (Show l) WorldTells OutTells old new name (Err (CannotOpen n)) e = refl
+ends_so (Script r) WorldTells OutTells old new name (Err (CannotOpen n)) e = refl
+ends_so Version WorldTells OutTells old new name (Err (CannotOpen n)) e = absurd e.0
 ends_so (Read r) WorldTells OutTells old new name (Err (CannotRead n)) e = refl
 ends_so (ListRecords l) WorldTells OutTells old new name (Err (CannotRead n)) e = refl
 ends_so (Send s) WorldTells OutTells old new name (Err (CannotRead n)) e = refl
 ends_so (Mix m) WorldTells OutTells old new name (Err (CannotRead n)) e = refl
 ends_so (Make m) WorldTells OutTells old new name (Err (CannotRead n)) e = absurd (reads_none WorldTells old.contents m.number n name e.0)
+ends_so (Relay s) WorldTells OutTells old new name (Err (CannotRead n)) e = refl
+ends_so (Channel c) WorldTells OutTells old new name (Err (CannotRead n)) e = refl
+ends_so (Show l) WorldTells OutTells old new name (Err (CannotRead n)) e = refl
+ends_so (Script r) WorldTells OutTells old new name (Err (CannotRead n)) e = refl
+ends_so Version WorldTells OutTells old new name (Err (CannotRead n)) e = absurd e.0
 ends_so (Read r) WorldTells OutTells old new name (Err (Refused n (AtLine line kind))) e =
-    absurd (no_line WorldTells old.contents (dump usual_limit e.1.0).fault _ n line kind e.1.2)
+    absurd (no_line WorldTells old.contents (dump usual_limit e.1.0).fault (Makes _ []) n line kind (λ r. r) e.1.2)
 ends_so (ListRecords l) WorldTells OutTells old new name (Err (Refused n (AtLine line kind))) e =
-    absurd (no_line WorldTells old.contents (dump usual_limit e.1.0).fault _ n line kind e.1.2)
+    absurd (no_line WorldTells old.contents (dump usual_limit e.1.0).fault (Makes _ []) n line kind (λ r. r) e.1.2)
 ends_so (Send s) WorldTells OutTells old new name (Err (Refused n (AtLine line kind))) e = refl
 ends_so (Mix m) WorldTells OutTells old new name (Err (Refused n (AtLine line kind))) e = refl
 ends_so (Make m) WorldTells OutTells old new name (Err (Refused n (AtLine line kind))) e = absurd (reads_none WorldTells old.contents m.number n name e.0)
+ends_so (Relay s) WorldTells OutTells old new name (Err (Refused n (AtLine line kind))) e =
+    absurd (no_frame_line WorldTells old.contents s.out (relay (sending_of s) e.1.0) n line kind e.1.2)
+ends_so (Channel c) WorldTells OutTells old new name (Err (Refused n (AtLine line kind))) e =
+    absurd (no_line WorldTells old.contents (dump usual_limit e.1.0).fault (saves_frames c.out (channel c.ssrc e.1.0)) n line kind
+    (no_frame_line WorldTells old.contents c.out (channel c.ssrc e.1.0) n line kind) e.1.2)
+ends_so (Show l) WorldTells OutTells old new name (Err (Refused n (AtLine line kind))) e =
+    absurd (no_line WorldTells old.contents (show_refusal e.1.0) (Makes _ []) n line kind (λ r. r) e.1.2)
+ends_so (Script r) WorldTells OutTells old new name (Err (Refused n (AtLine line kind))) e =
+    absurd (no_line WorldTells old.contents (dump usual_limit e.1.0).fault (Makes _ []) n line kind (λ r. r) e.1.2)
+ends_so Version WorldTells OutTells old new name (Err (Refused n (AtLine line kind))) e = absurd e.0
 ends_so (Read r) WorldTells OutTells old new name (Err (Refused n (AtByte byte kind))) e = refl
 ends_so (ListRecords l) WorldTells OutTells old new name (Err (Refused n (AtByte byte kind))) e = refl
 ends_so (Send s) WorldTells OutTells old new name (Err (Refused n (AtByte byte kind))) e = absurd (true≢false (sym e.1))
 ends_so (Mix m) WorldTells OutTells old new name (Err (Refused n (AtByte byte kind))) e = refl
 ends_so (Make m) WorldTells OutTells old new name (Err (Refused n (AtByte byte kind))) e = absurd (true≢false (sym e.1))
+ends_so (Relay s) WorldTells OutTells old new name (Err (Refused n (AtByte byte kind))) e = absurd (true≢false (sym e.1))
+ends_so (Channel c) WorldTells OutTells old new name (Err (Refused n (AtByte byte kind))) e = refl
+ends_so (Show l) WorldTells OutTells old new name (Err (Refused n (AtByte byte kind))) e = refl
+ends_so (Script r) WorldTells OutTells old new name (Err (Refused n (AtByte byte kind))) e = refl
+ends_so Version WorldTells OutTells old new name (Err (Refused n (AtByte byte kind))) e = absurd (true≢false (sym e.1))
+ends_so (Read r) WorldTells OutTells old new name (Err (Refused n (AtFrame byte kind))) e = absurd (true≢false (sym e.1))
+ends_so (ListRecords l) WorldTells OutTells old new name (Err (Refused n (AtFrame byte kind))) e = absurd (true≢false (sym e.1))
+ends_so (Send s) WorldTells OutTells old new name (Err (Refused n (AtFrame byte kind))) e = absurd (true≢false (sym e.1))
+ends_so (Mix m) WorldTells OutTells old new name (Err (Refused n (AtFrame byte kind))) e = absurd (true≢false (sym e.1))
+ends_so (Make m) WorldTells OutTells old new name (Err (Refused n (AtFrame byte kind))) e = absurd (true≢false (sym e.1))
+ends_so (Relay s) WorldTells OutTells old new name (Err (Refused n (AtFrame byte kind))) e = refl
+ends_so (Channel c) WorldTells OutTells old new name (Err (Refused n (AtFrame byte kind))) e = refl
+ends_so (Show l) WorldTells OutTells old new name (Err (Refused n (AtFrame byte kind))) e = absurd (true≢false (sym e.1))
+ends_so (Script r) WorldTells OutTells old new name (Err (Refused n (AtFrame byte kind))) e = absurd (true≢false (sym e.1))
+ends_so Version WorldTells OutTells old new name (Err (Refused n (AtFrame byte kind))) e = absurd (true≢false (sym e.1))
 ends_so (Read r) WorldTells OutTells old new name (Err (Refused n (AfterTurns turns))) e = absurd (true≢false (sym e.1))
 ends_so (ListRecords l) WorldTells OutTells old new name (Err (Refused n (AfterTurns turns))) e = absurd (true≢false (sym e.1))
 ends_so (Send s) WorldTells OutTells old new name (Err (Refused n (AfterTurns turns))) e = absurd (true≢false (sym e.1))
 ends_so (Mix m) WorldTells OutTells old new name (Err (Refused n (AfterTurns turns))) e = refl
 ends_so (Make m) WorldTells OutTells old new name (Err (Refused n (AfterTurns turns))) e = refl
+ends_so (Relay s) WorldTells OutTells old new name (Err (Refused n (AfterTurns turns))) e = absurd (true≢false (sym e.1))
+ends_so (Channel c) WorldTells OutTells old new name (Err (Refused n (AfterTurns turns))) e = absurd (true≢false (sym e.1))
+ends_so (Show l) WorldTells OutTells old new name (Err (Refused n (AfterTurns turns))) e = absurd (true≢false (sym e.1))
+ends_so (Script r) WorldTells OutTells old new name (Err (Refused n (AfterTurns turns))) e = absurd (true≢false (sym e.1))
+ends_so Version WorldTells OutTells old new name (Err (Refused n (AfterTurns turns))) e = absurd (true≢false (sym e.1))
 ends_so (Read r) WorldTells OutTells old new name (Err CannotPrint) e = refl
 ends_so (ListRecords l) WorldTells OutTells old new name (Err CannotPrint) e = refl
 ends_so (Send s) WorldTells OutTells old new name (Err CannotPrint) e = refl
 ends_so (Mix m) WorldTells OutTells old new name (Err CannotPrint) e = refl
 ends_so (Make m) WorldTells OutTells old new name (Err CannotPrint) e = refl
+ends_so (Relay s) WorldTells OutTells old new name (Err CannotPrint) e = refl
+ends_so (Channel c) WorldTells OutTells old new name (Err CannotPrint) e = refl
+ends_so (Show l) WorldTells OutTells old new name (Err CannotPrint) e = refl
+ends_so (Script r) WorldTells OutTells old new name (Err CannotPrint) e = refl
+ends_so Version WorldTells OutTells old new name (Err CannotPrint) e = refl
 ends_so (Read r) WorldTells OutTells old new name (Err (CannotWrite n)) e = refl
 ends_so (ListRecords l) WorldTells OutTells old new name (Err (CannotWrite n)) e = refl
 ends_so (Send s) WorldTells OutTells old new name (Err (CannotWrite n)) e = refl
 ends_so (Mix m) WorldTells OutTells old new name (Err (CannotWrite n)) e = refl
 ends_so (Make m) WorldTells OutTells old new name (Err (CannotWrite n)) e = refl
+ends_so (Relay s) WorldTells OutTells old new name (Err (CannotWrite n)) e = refl
+ends_so (Channel c) WorldTells OutTells old new name (Err (CannotWrite n)) e = refl
+ends_so (Show l) WorldTells OutTells old new name (Err (CannotWrite n)) e = refl
+ends_so (Script r) WorldTells OutTells old new name (Err (CannotWrite n)) e = refl
+ends_so Version WorldTells OutTells old new name (Err (CannotWrite n)) e = refl
 ends_so (Read r) WorldTells OutTells old new name (Err NoMemory) e = refl
 ends_so (ListRecords l) WorldTells OutTells old new name (Err NoMemory) e = refl
 ends_so (Send s) WorldTells OutTells old new name (Err NoMemory) e = refl
 ends_so (Mix m) WorldTells OutTells old new name (Err NoMemory) e = refl
 ends_so (Make m) WorldTells OutTells old new name (Err NoMemory) e = refl
+ends_so (Relay s) WorldTells OutTells old new name (Err NoMemory) e = refl
+ends_so (Channel c) WorldTells OutTells old new name (Err NoMemory) e = refl
+ends_so (Show l) WorldTells OutTells old new name (Err NoMemory) e = refl
+ends_so (Script r) WorldTells OutTells old new name (Err NoMemory) e = refl
+ends_so Version WorldTells OutTells old new name (Err NoMemory) e = refl
 
 pub can : (WorldTells OutTells ErrTells : Type 0) → EndsAsItCan WorldTells OutTells ErrTells
 can WorldTells OutTells ErrTells c old new before after status r =

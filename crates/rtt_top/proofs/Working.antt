@@ -3,15 +3,16 @@ use Rattle.std.proofs.Common.{◌≡◌, ℕ, ◌+◌, true, Option, Some, None,
 use Rattle.std.specs.Prelude.{IfErr, OnOk, OnErr}
 use Rattle.wire_spec.specs.declared.faults.DumpKind.{DumpKind}
 use Rattle.wire_spec.specs.Dump.{dump, usual_limit}
+use Rattle.wire_spec.specs.Dump as dumps
 use Rattle.command_spec.specs.declared.faults.Refusal.{Refusal}
-use Rattle.command_spec.specs.declared.faults.Refusal.TheVariants.{AtByte, AtLine, AfterTurns}
+use Rattle.command_spec.specs.declared.faults.Refusal.TheVariants.{AtByte, AtFrame, AtLine, AfterTurns}
 use Rattle.command_spec.specs.declared.faults.Fault.{Fault}
 use Rattle.command_spec.specs.declared.faults.Fault.TheVariants.{WrongWords, CannotOpen, CannotRead, Refused, CannotPrint, CannotWrite, NoMemory}
 use Rattle.command_spec.specs.Words.{Command}
 use Rattle.command_spec.specs.Work.{Contents, Made, Steps, Reads, Refuses, Makes, IsInput}
 use Rattle.command_spec.specs.Outcomes.{outcome, outcome_from, Missing, Done, IsDone, Same, Stores, AllStored}
 use Rattle.command_spec.specs.Outcomes as outcomes
-use Rattle.command_spec.specs.Commands.{unless_broken, prints_recording, work}
+use Rattle.command_spec.specs.Commands.{unless_broken, prints_unless, prints_recording, work}
 use Rattle.command_spec.specs.Messages.{Ending}
 use Rattle.rtt_top.specs.Faults.{WhereRead, RefusesSo, Stops, IsUnread, IsOfByte, IsOfRecording, IsTrueOf, is_recording, name_in}
 use Rattle.rtt_top.specs.Outside.{Outside, Failed, CallFailed, ObjectFailed}
@@ -59,35 +60,48 @@ unread WorldTells held c Call Object (CannotWrite n) u = u
 unread WorldTells held c Call Object NoMemory u = tt
 
 -- ---- a recording
-broken_recording : (held : Contents) (file : List ℕ) (view : List ℕ → List ℕ) (octets : List ℕ) (byte : ℕ) (kind : DumpKind) → held file ≡ Some octets
-    → IsOfByte (dump usual_limit octets).fault (AtByte byte kind) → outcome held (prints_recording file view).steps ≡ outcomes.Refused 0 (AtByte byte kind)
-broken_recording held file view octets byte kind e found =
-    lies held file (λ octets. unless_broken (dump usual_limit octets).fault (Makes (view octets) [])) octets e
-    ∙ ap (λ o. outcome_from 1 held (unless_broken o (Makes (view octets) []))) found
+broken_recording : (held : Contents) (file : List ℕ) (fault_of : List ℕ → Option dumps.Fault) (then : List ℕ → Steps) (octets : List ℕ) (byte : ℕ) (kind : DumpKind) → held file ≡ Some octets
+    → IsOfByte (fault_of octets) (AtByte byte kind) → outcome held (Reads file (λ octets. unless_broken (fault_of octets) (then octets))) ≡ outcomes.Refused 0 (AtByte byte kind)
+broken_recording held file fault_of then octets byte kind e found =
+    lies held file (λ octets. unless_broken (fault_of octets) (then octets)) octets e
+    ∙ ap (λ o. outcome_from 1 held (unless_broken o (then octets))) found
+
+-- where its octets have such a fault, or else come to these steps
+pub stops_unless : (WorldTells : Type 0) (held : Contents) (c : Command) (file : List ℕ) (fault_of : List ℕ → Option dumps.Fault) (then : List ℕ → Steps) (Call Object : Type 0) (fault : Fault)
+    → (work c).steps ≡ Reads file (λ octets. unless_broken (fault_of octets) (then octets)) → is_recording c 0 ≡ true
+    → IsOfRecording Object fault → (WorldTells → (octets : List ℕ) × (held file ≡ Some octets) × IsTrueOf (fault_of octets) fault)
+    → Stops WorldTells held c Call Object fault
+stops_unless WorldTells held c file fault_of then Call Object WrongWords is rec u t = u
+stops_unless WorldTells held c file fault_of then Call Object (CannotOpen n) is rec u t = absurd u
+stops_unless WorldTells held c file fault_of then Call Object (CannotRead n) is rec u t = u
+stops_unless WorldTells held c file fault_of then Call Object (Refused n (AtByte byte kind)) is rec u t = (
+  u,
+  rec,
+  λ told. let h = t told in ap (outcome held) is ∙ broken_recording held file fault_of then h.0 byte kind h.1 h.2,
+)
+stops_unless WorldTells held c file fault_of then Call Object (Refused n (AtFrame byte kind)) is rec u t = absurd u
+stops_unless WorldTells held c file fault_of then Call Object (Refused n (AtLine line kind)) is rec u t = absurd u
+stops_unless WorldTells held c file fault_of then Call Object (Refused n (AfterTurns turns)) is rec u t = u
+stops_unless WorldTells held c file fault_of then Call Object CannotPrint is rec u t = u
+stops_unless WorldTells held c file fault_of then Call Object (CannotWrite n) is rec u t = u
+stops_unless WorldTells held c file fault_of then Call Object NoMemory is rec u t = tt
 
 pub stops_recording : (WorldTells : Type 0) (held : Contents) (c : Command) (file : List ℕ) (view : List ℕ → List ℕ) (Call Object : Type 0) (fault : Fault)
     → (work c).steps ≡ (prints_recording file view).steps → is_recording c 0 ≡ true
     → IsOfRecording Object fault → (WorldTells → (octets : List ℕ) × (held file ≡ Some octets) × IsTrueOf (dump usual_limit octets).fault fault)
     → Stops WorldTells held c Call Object fault
-stops_recording WorldTells held c file view Call Object WrongWords is rec u t = u
-stops_recording WorldTells held c file view Call Object (CannotOpen n) is rec u t = absurd u
-stops_recording WorldTells held c file view Call Object (CannotRead n) is rec u t = u
-stops_recording WorldTells held c file view Call Object (Refused n (AtByte byte kind)) is rec u t = (
-  u,
-  rec,
-  λ told. let h = t told in ap (outcome held) is ∙ broken_recording held file view h.0 byte kind h.1 h.2,
-)
-stops_recording WorldTells held c file view Call Object (Refused n (AtLine line kind)) is rec u t = absurd u
-stops_recording WorldTells held c file view Call Object (Refused n (AfterTurns turns)) is rec u t = u
-stops_recording WorldTells held c file view Call Object CannotPrint is rec u t = u
-stops_recording WorldTells held c file view Call Object (CannotWrite n) is rec u t = u
-stops_recording WorldTells held c file view Call Object NoMemory is rec u t = tt
+stops_recording WorldTells held c file view Call Object fault is rec u t =
+    stops_unless WorldTells held c file (λ octets. (dump usual_limit octets).fault) (λ octets. Makes (view octets) []) Call Object fault is rec u t
+
+pub views_unless : (held : Contents) (file : List ℕ) (fault_of : List ℕ → Option dumps.Fault) (view : List ℕ → List ℕ) (octets : List ℕ) → held file ≡ Some octets → fault_of octets ≡ None
+    → outcome held (prints_unless fault_of file view).steps ≡ Done (view octets) []
+views_unless held file fault_of view octets e none =
+    lies held file (λ octets. unless_broken (fault_of octets) (Makes (view octets) [])) octets e
+    ∙ ap (λ o. outcome_from 1 held (unless_broken o (Makes (view octets) []))) none
 
 pub views : (held : Contents) (file : List ℕ) (view : List ℕ → List ℕ) (octets : List ℕ) → held file ≡ Some octets → (dump usual_limit octets).fault ≡ None
     → outcome held (prints_recording file view).steps ≡ Done (view octets) []
-views held file view octets e none =
-    lies held file (λ octets. unless_broken (dump usual_limit octets).fault (Makes (view octets) [])) octets e
-    ∙ ap (λ o. outcome_from 1 held (unless_broken o (Makes (view octets) []))) none
+views held file view octets e none = views_unless held file (λ octets. (dump usual_limit octets).fault) view octets e none
 
 -- ---- a command that stops over its first input, of this name
 first_input : (WorldTells : Type 0) (held : Contents) (steps : Steps) (n : ℕ) (name : List ℕ) → n ≡ 0 → IsInput WorldTells held steps 0 name → IsInput WorldTells held steps n name
@@ -113,6 +127,12 @@ stopped c WorldTells OutTells old new input output (Refused n (AtByte byte kind)
   first_input WorldTells old.contents (work c).steps n input s.0 i,
   subst (λ k. is_recording c k ≡ true) (sym s.0) s.1,
   (λ told. (s.2 told ∙ ap (λ k. outcomes.Refused k (AtByte byte kind)) (sym s.0), none_failed_first c WorldTells old new n s.0)),
+  u,
+)
+stopped c WorldTells OutTells old new input output (Refused n (AtFrame byte kind)) i s u = (
+  first_input WorldTells old.contents (work c).steps n input s.0 i,
+  s.1,
+  (λ told. (s.2 told ∙ ap (λ k. outcomes.Refused k (AtFrame byte kind)) (sym s.0), none_failed_first c WorldTells old new n s.0)),
   u,
 )
 stopped c WorldTells OutTells old new input output (Refused n (AfterTurns turns)) i s u = absurd s

@@ -3,10 +3,10 @@ use Rattle.std.specs.Prelude.{◌≡◌, ◌≤◌, ℕ, zero, suc, Bool, true, 
 use Rattle.wire_spec.specs.Dump.{Recording}
 use Rattle.wire_spec.specs.Dump as dumps
 use Rattle.command_spec.specs.declared.faults.Refusal.{Refusal}
-use Rattle.command_spec.specs.declared.faults.Refusal.TheVariants.{AtByte, AtLine, AfterTurns}
+use Rattle.command_spec.specs.declared.faults.Refusal.TheVariants.{AtByte, AtFrame, AtLine, AfterTurns}
 use Rattle.command_spec.specs.declared.faults.Fault.{Fault}
 use Rattle.command_spec.specs.declared.faults.Fault.TheVariants.{WrongWords, CannotOpen, CannotRead, Refused, CannotPrint, CannotWrite, NoMemory}
-use Rattle.command_spec.specs.Words.{Command, Read, ListRecords, Send, Mix, Make}
+use Rattle.command_spec.specs.Words.{Command, Read, ListRecords, Send, Mix, Make, Relay, Channel, Show, Script, Version}
 use Rattle.command_spec.specs.Work.{Contents, Steps, Reads, Refuses, Makes}
 use Rattle.command_spec.specs.Commands.{work}
 use Rattle.command_spec.specs.Outcomes.{Outcome, Missing, Done, outcome}
@@ -23,6 +23,7 @@ WhereRead (Makes printed files) P = Unit {0}
 abbrev pub NoneBefore : ℕ → Outcome → Type 0
 NoneBefore n (Missing input) = Unit {0}
 NoneBefore n (outcomes.Refused input (AtByte byte kind)) = n ≤ input
+NoneBefore n (outcomes.Refused input (AtFrame byte kind)) = n ≤ input
 NoneBefore n (outcomes.Refused input (AtLine line kind)) = n ≤ input
 NoneBefore n (outcomes.Refused input (AfterTurns turns)) = Unit {0}
 NoneBefore n (Done printed files) = Unit {0}
@@ -34,7 +35,7 @@ RefusesSo WorldTells held (Reads name next) input refusal =
 RefusesSo WorldTells held (Refuses n other) input refusal = (n ≡ input) × (other ≡ refusal)
 RefusesSo WorldTells held (Makes printed files) input refusal = ⊥
 
--- The input of this number is a recording: the one that is read or listed, or that of a leg.
+-- The input of this number is a recording: the only one, or that of a leg.
 abbrev pub is_recording : Command → ℕ → Bool
 is_recording (Read r) input = true
 is_recording (ListRecords l) input = true
@@ -42,14 +43,23 @@ is_recording (Send s) input = false
 is_recording (Mix m) zero = false
 is_recording (Mix m) (suc leg) = true
 is_recording (Make m) input = false
+is_recording (Relay s) input = false
+is_recording (Channel c) input = true
+is_recording (Show l) input = true
+is_recording (Script r) input = true
+is_recording Version input = false
+
+-- frames are read or made
+abbrev pub has_frames : Command → Bool
+has_frames (Relay s) = true
+has_frames (Channel c) = true
+has_frames _ = false
 
 -- a conference is mixed
 abbrev pub is_mixed : Command → Bool
-is_mixed (Read r) = false
-is_mixed (ListRecords l) = false
-is_mixed (Send s) = false
 is_mixed (Mix m) = true
 is_mixed (Make m) = true
+is_mixed _ = false
 
 -- Why a command stops over the file that it reads first; `Call` and `Object` tell that a call or an object of its name
 -- failed. Want of memory is free.
@@ -61,6 +71,8 @@ Stops WorldTells held c Call Object (Refused input (AtLine line kind)) =
     (input ≡ 0) × RefusesSo WorldTells held (work c).steps 0 (AtLine line kind)
 Stops WorldTells held c Call Object (Refused input (AtByte byte kind)) =
     (input ≡ 0) × (is_recording c 0 ≡ true) × (WorldTells → outcome held (work c).steps ≡ outcomes.Refused 0 (AtByte byte kind))
+Stops WorldTells held c Call Object (Refused input (AtFrame byte kind)) =
+    (input ≡ 0) × (has_frames c ≡ true) × (WorldTells → outcome held (work c).steps ≡ outcomes.Refused 0 (AtFrame byte kind))
 Stops WorldTells held c Call Object (Refused input (AfterTurns turns)) = ⊥
 Stops WorldTells held c Call Object CannotPrint = ⊥
 Stops WorldTells held c Call Object (CannotWrite output) = ⊥
@@ -79,6 +91,7 @@ IsUnread Call Object NoMemory = Unit {0}
 -- a refusal at the byte of this fault
 abbrev pub IsOfByte : Option dumps.Fault → Refusal → Type 0
 IsOfByte found (AtByte byte kind) = found ≡ Some (record { byte = byte; kind = kind })
+IsOfByte found (AtFrame byte kind) = ⊥
 IsOfByte found (AtLine line kind) = ⊥
 IsOfByte found (AfterTurns turns) = ⊥
 
@@ -88,6 +101,7 @@ IsOfRecording Source WrongWords = ⊥
 IsOfRecording Source (CannotOpen input) = ⊥
 IsOfRecording Source (CannotRead input) = (input ≡ 0) × Source
 IsOfRecording Source (Refused input (AtByte byte kind)) = input ≡ 0
+IsOfRecording Source (Refused input (AtFrame byte kind)) = ⊥
 IsOfRecording Source (Refused input (AtLine line kind)) = ⊥
 IsOfRecording Source (Refused input (AfterTurns turns)) = ⊥
 IsOfRecording Source CannotPrint = ⊥

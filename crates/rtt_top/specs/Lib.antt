@@ -8,3 +8,4 @@ pub mod Makings
 pub mod Sinks
 pub mod Worlds
 pub mod Statuses
+pub mod Frames

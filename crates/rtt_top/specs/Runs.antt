@@ -3,9 +3,9 @@
 use Rattle.std.specs.Prelude.{◌≡◌, ◌⊎◌, ◌<◌, ◌≤◌, ℕ, Bool, true, false, Option, None, Some, List, [], ◌∷◌, ◌++◌, take, Ok, Err, suc, zero, map, String, string_bytes}
 use Rattle.std.specs.Global.{Global}
 use Rattle.rtt_io.specs.Fronts.{TakesFront}
-use Rattle.command_spec.specs.Words.{ReadWords, MixWords, Command, Read, ListRecords, Send, Mix, Make, command}
+use Rattle.command_spec.specs.Words.{ReadWords, MixWords, Command, Read, ListRecords, Send, Mix, Make, Relay, Channel, Show, Script, Version, command}
 use Rattle.stream_spec.specs.History.{History, Lawful, Come}
-use Rattle.command_spec.specs.declared.faults.Refusal.TheVariants.{AtByte, AtLine, AfterTurns}
+use Rattle.command_spec.specs.declared.faults.Refusal.TheVariants.{AtByte, AtFrame, AtLine, AfterTurns}
 use Rattle.command_spec.specs.declared.faults.Fault.TheVariants.{WrongWords, CannotOpen, CannotRead, Refused, CannotPrint, CannotWrite, NoMemory}
 use Rattle.command_spec.specs.Work.{Contents, Made, Work, IsInput, IsOutput}
 use Rattle.command_spec.specs.Outcomes.{Outcome, outcome, IsDone, Same, Stores, AllStored}
@@ -14,7 +14,7 @@ use Rattle.command_spec.specs.Bridges.{IsBridged}
 use Rattle.command_spec.specs.Reading.{arrivals_of, history_view}
 use Rattle.command_spec.specs.Commands.{request_of, work}
 use Rattle.command_spec.specs.Messages.{Ending, ending_of, status_of, message_of}
-use Rattle.rtt_top.specs.Faults.{NoneBefore, RefusesSo, WhereRead, is_mixed, is_recording}
+use Rattle.rtt_top.specs.Faults.{NoneBefore, RefusesSo, WhereRead, has_frames, is_mixed, is_recording}
 use Rattle.rtt_top.specs.Files.{IsPartlyStored}
 use Rattle.rtt_top.specs.Outside.{Outside, Output, Failed, CallFailed, ObjectFailed}
 
@@ -30,6 +30,11 @@ is_plain (Some (ListRecords l)) = true
 is_plain (Some (Send s)) = true
 is_plain (Some (Mix m)) = false
 is_plain (Some (Make m)) = false
+is_plain (Some (Relay s)) = true
+is_plain (Some (Channel c)) = true
+is_plain (Some (Show l)) = true
+is_plain (Some (Script r)) = true
+is_plain (Some Version) = true
 
 -- this was printed
 abbrev pub Prints : List ℕ → Outside → Outside → Type 0
@@ -106,6 +111,10 @@ Ends c WorldTells OutTells old new name (Err (Refused input (AtLine line kind)))
 Ends c WorldTells OutTells old new name (Err (Refused input (AtByte byte kind))) = IsInputOf c WorldTells old input name
     × (is_recording c input ≡ true)
     × (WorldTells → (outcome_of c old ≡ outcomes.Refused input (AtByte byte kind)) × NoneFailedBefore input c WorldTells old new)
+    × Unchanged WorldTells OutTells old new
+Ends c WorldTells OutTells old new name (Err (Refused input (AtFrame byte kind))) = IsInputOf c WorldTells old input name
+    × (has_frames c ≡ true)
+    × (WorldTells → (outcome_of c old ≡ outcomes.Refused input (AtFrame byte kind)) × NoneFailedBefore input c WorldTells old new)
     × Unchanged WorldTells OutTells old new
 Ends c WorldTells OutTells old new name (Err CannotPrint) = ((work c).prints ≡ true)
     × Failed old.out new.out

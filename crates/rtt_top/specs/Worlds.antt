@@ -1,5 +1,5 @@
 -- What one call finds in a world, and what it leaves there.
-use Rattle.std.specs.Prelude.{◌≡◌, ◌⊎◌, ℕ, Some, List, [], ◌∷◌, Ok}
+use Rattle.std.specs.Prelude.{◌≡◌, ◌⊎◌, ℕ, None, Some, List, [], ◌∷◌, Ok}
 use Rattle.rtt_io.specs.declared.worlds.World as worlds
 use Rattle.conference.specs.declared.confs.Conf.{Conf}
 use Rattle.conference.specs.Conferences.{conf_of}
@@ -8,9 +8,11 @@ use Rattle.file_spec.specs.declared.conf_lines.LegLine.{LegLine}
 use Rattle.file_spec.specs.Conf.{conf}
 use Rattle.file_spec.specs.Script.{ScriptLine, script}
 use Rattle.command_spec.specs.declared.faults.Fault.{Fault}
-use Rattle.command_spec.specs.Words.{SendWords, Command, Read, ListRecords, Send, Mix, Make}
+use Rattle.command_spec.specs.Words.{SendWords, ChannelWords, Command, Read, ListRecords, Send, Mix, Make, Relay, Channel, Show, Script, Version}
 use Rattle.command_spec.specs.Work.{Makes}
-use Rattle.command_spec.specs.Commands.{sends, work}
+use Rattle.command_spec.specs.Commands.{sending_of, sends, work}
+use Rattle.command_spec.specs.Frames.{channel, relay}
+use Rattle.wire_spec.specs.Dump.{dump, usual_limit}
 use Rattle.command_spec.specs.Outcomes.{outcome, Done, Stores, AllStored}
 use Rattle.bridge_run.specs.Mixes.{outputs_of}
 use Rattle.rtt_top.specs.Outside.{RoseAt}
@@ -26,9 +28,14 @@ SendMakes s octets file = sends s (script octets) ≡ Makes [] (made_file s.out 
 abbrev pub first_file : Command → List ℕ
 first_file (Read r) = r.file
 first_file (ListRecords l) = l.file
-first_file (Send s) = s.script
+first_file (Send s) = s.file
 first_file (Mix m) = m.conf
 first_file (Make m) = []
+first_file (Relay s) = s.file
+first_file (Channel c) = c.file
+first_file (Show l) = l.file
+first_file (Script r) = r.file
+first_file Version = []
 
 module _ {W S D : Type 0} (w : worlds.Ghosts W S D) where
   -- ---- what failed
@@ -68,7 +75,16 @@ module _ {W S D : Type 0} (w : worlds.Ghosts W S D) where
 
   -- this is the recording of what is sent for the script that lies there
   abbrev pub MakesRecording : W → SendWords → List ℕ → Type 0
-  MakesRecording world s file = OfOctets world s.script (λ octets. SendMakes s octets file)
+  MakesRecording world s file = OfOctets world s.file (λ octets. SendMakes s octets file)
+
+  -- this is the recording of what is sent of the frames that lie there
+  abbrev pub RelaysFrames : W → SendWords → List ℕ → Type 0
+  RelaysFrames world s file = OfOctets world s.file (λ octets. relay (sending_of s) octets ≡ Ok file)
+
+  -- these are the frames of the recording that lies there, which is read to its end, as far as that is told
+  abbrev pub WritesFrames : W → ChannelWords → List ℕ → Type 0
+  WritesFrames world c file =
+      w.tells → (octets : List ℕ) × (w.contents world c.file ≡ Some octets) × ((dump usual_limit octets).fault ≡ None) × (channel c.ssrc octets ≡ Ok file)
 
   -- the outcome of the command is that these octets are printed, and no file is made
   abbrev pub OnlyPrints : W → Command → List ℕ → Type 0

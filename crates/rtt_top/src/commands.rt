@@ -4,11 +4,16 @@ ghost use Rattle.rtt_words.specs.Commands.{meaning};
 ghost use Rattle.rtt_top.specs.Outside.{outside_at, output_at};
 ghost use Rattle.rtt_top.specs.Runs.{is_plain, Runs};
 
+use crate::channel::run_channel;
 use crate::list::run_list;
 use crate::make::run_make;
 use crate::mix::run_mix;
 use crate::read::run_read;
+use crate::relay::run_relay;
+use crate::script::run_script;
 use crate::send::run_send;
+use crate::show::run_show;
+use crate::version::run_version;
 use rtt_io::{Gate, Sink, World};
 use rtt_words::Command;
 use std::alloc::Global;
@@ -33,6 +38,11 @@ pub fn carry_out_plain<W: World, K: Sink, E: Sink>(
         Command::Read(words) => Some(run_read(alloc, words, world, out, err)),
         Command::ListRecords(words) => Some(run_list(alloc, words, world, out, err)),
         Command::Send(words) => Some(run_send(alloc, words, world, out, err)),
+        Command::Relay(words) => Some(run_relay(alloc, words, world, out, err)),
+        Command::Channel(words) => Some(run_channel(alloc, words, world, out, err)),
+        Command::Show(words) => Some(run_show(alloc, words, world, out, err)),
+        Command::Script(words) => Some(run_script(alloc, words, world, out, err)),
+        Command::Version => Some(run_version(world, out, err)),
         Command::Mix(_) | Command::Make(_) => None,
     }
 }
@@ -57,6 +67,13 @@ pub fn carry_out<R: Threads + Wait + Sync, W: World, K: Sink, E: Sink, G: Gate +
     match command {
         Command::Mix(words) => run_mix(rt, alloc, words, world, out, err, gate),
         Command::Make(words) => run_make(rt, alloc, words.number, world, out, err, gate),
-        Command::Read(_) | Command::ListRecords(_) | Command::Send(_) => unreachable!(),
+        Command::Read(_)
+        | Command::ListRecords(_)
+        | Command::Send(_)
+        | Command::Relay(_)
+        | Command::Channel(_)
+        | Command::Show(_)
+        | Command::Script(_)
+        | Command::Version => unreachable!(),
     }
 }

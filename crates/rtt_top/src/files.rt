@@ -6,10 +6,12 @@ ghost use Rattle.rtpdump_io.specs.Faults.{IsSourceFault, FaultOf};
 ghost use Rattle.command_spec.specs.Outcomes.{Same};
 ghost use Rattle.rtt_top.specs.Faults.{IsOfRecording, IsTrueFor};
 ghost use Rattle.rtt_top.specs.Files.{IsReadOf};
+ghost use Rattle.rtt_top.specs.Frames.{refused_frames};
 ghost use Rattle.rtt_top.specs.Worlds.{IsUnreadIn, FailedIn, Saves, SavesPartly};
 
 use command_spec::{Fault, Refusal};
 use file_spec::ConfKind;
+use frame_spec::FrameFault;
 use rtpdump_io::{DumpFault, RecordingFault};
 use rtt_base::{Bytes, Failed};
 use rtt_io::{ReadFault, Sink, World, read_whole};
@@ -49,6 +51,19 @@ pub(crate) fn refused_line(line: u32, kind: ConfKind) -> Fault
     Fault::Refused {
         input: 0,
         refusal: Refusal::AtLine { line, kind },
+    }
+}
+
+/// The fault of a command whose first input has frames that are refused.
+pub(crate) fn refused_frames(fault: FrameFault) -> Fault
+    ensures { result ≡ refused_frames fault }
+{
+    Fault::Refused {
+        input: 0,
+        refusal: Refusal::AtFrame {
+            byte: fault.offset,
+            kind: fault.kind,
+        },
     }
 }
 

@@ -1,6 +1,7 @@
 //! One command of the program: words in, a status out.
 #![tactic(auto)]
 
+mod channel;
 mod commands;
 mod files;
 pub mod laws;
@@ -10,8 +11,12 @@ mod messages;
 mod mix;
 mod names;
 mod read;
+mod relay;
 mod runs;
+mod script;
 mod send;
+mod show;
+mod version;
 
 pub use runs::{run, run_plain};
 

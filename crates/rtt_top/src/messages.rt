@@ -1,13 +1,14 @@
 //! What is printed, and what is told of a fault, and its status.
 ghost use Rattle.std.specs.Prelude.{◌≡◌, ◌++◌, ◌≤◌, decimal, Ok, OnErr, IfErr};
 ghost use Rattle.rtt_io.specs.Counts.{Rose};
-ghost use Rattle.command_spec.specs.Messages.{refusal_status, fault_status, status_of, fault_message, message_of, refusal_message, trouble, byte_message, line_message, dump_kind_name, conf_kind_name};
+ghost use Rattle.command_spec.specs.Messages.{refusal_status, fault_status, status_of, fault_message, message_of, refusal_message, trouble, byte_message, line_message, dump_kind_name, conf_kind_name, frame_kind_name};
 ghost use Rattle.rtt_top.specs.Faults.{message_in};
 ghost use Rattle.rtt_top.specs.Sinks.{Wrote, WrotePartly, TookFront, TookIfCalm, place_message};
 
 use crate::names::ending_name;
 use command_spec::{Fault, Refusal};
 use file_spec::ConfKind;
+use frame_spec::FrameKind;
 use itoa::Buffer;
 use rtt_base::Failed;
 use rtt_io::Sink;
@@ -19,7 +20,7 @@ fn refusal_status(refusal: Refusal) -> u8
 {
     match refusal {
         Refusal::AtLine { .. } => 5,
-        Refusal::AtByte { .. } => 6,
+        Refusal::AtByte { .. } | Refusal::AtFrame { .. } => 6,
         Refusal::AfterTurns { .. } => 9,
     }
 }
@@ -74,6 +75,20 @@ fn conf_kind_name(kind: ConfKind) -> &'static [u8]
     }
 }
 
+fn frame_kind_name(kind: FrameKind) -> &'static [u8]
+    ensures { result.now ≡ frame_kind_name kind }
+{
+    match kind {
+        FrameKind::Time => b"Time",
+        FrameKind::Length => b"Length",
+        FrameKind::TooLarge => b"TooLarge",
+        FrameKind::NotText => b"NotText",
+        FrameKind::EndsInside => b"EndsInside",
+        FrameKind::Full => b"Full",
+        FrameKind::ManyFrames => b"ManyFrames",
+    }
+}
+
 /// Writes two pieces, one after the other.
 #[tactic(auto, using(crate::proofs::Counts::rose_since, crate::proofs::Counts::rose_before))]
 fn write_two<E: Sink>(err: &mut E, first: &[u8], second: &[u8]) -> Result<(), Failed>
@@ -117,16 +132,15 @@ fn write_place<E: Sink>(
     write_two(err, why, b"\n")
 }
 
-/// Writes at which byte a recording has no reading, and why.
-fn write_byte<E: Sink>(err: &mut E, name: &[u8], byte: u64, kind: DumpKind) -> Result<(), Failed>
+/// Writes at which byte a file is refused, and why.
+fn write_byte<E: Sink>(err: &mut E, name: &[u8], byte: u64, why: &[u8]) -> Result<(), Failed>
     ensures never_falls { E.faults err.old ≤ E.faults err.new }
     ensures failed { OnErr result (Rose (E.faults err.old) (E.faults err.new)) }
-    ensures written { Wrote E.Sink err.old err.new (byte_message name.now byte kind) result }
-    ensures partly { WrotePartly E.Sink err.old err.new (byte_message name.now byte kind) result }
+    ensures written { Wrote E.Sink err.old err.new (byte_message name.now byte why.now) result }
+    ensures partly { WrotePartly E.Sink err.old err.new (byte_message name.now byte why.now) result }
 {
     let mut digits = Buffer::new();
     let number = digits.format(byte).as_bytes();
-    let why = dump_kind_name(kind);
     write_place(err, name, b" byte ", number, why)
 }
 
@@ -169,6 +183,11 @@ usage: rtt_program read FILE SSRC [SOURCE [T140 RED]]
        rtt_program send SCRIPT OUT SSRC SEQ STAMP
        rtt_program mix CONF
        rtt_program make N
+       rtt_program relay FRAMES OUT SSRC SEQ STAMP
+       rtt_program channel FILE SSRC OUT
+       rtt_program show FILE [T140 RED]
+       rtt_program script FILE SSRC [SOURCE [T140 RED]]
+       rtt_program version
 ";
 
 /// Writes why what lies in a file of this name is refused.
@@ -179,7 +198,8 @@ fn write_refusal<E: Sink>(err: &mut E, name: &[u8], refusal: Refusal) -> Result<
     ensures partly { WrotePartly E.Sink err.old err.new (refusal_message name.now refusal) result }
 {
     match refusal {
-        Refusal::AtByte { byte, kind } => write_byte(err, name, byte, kind),
+        Refusal::AtByte { byte, kind } => write_byte(err, name, byte, dump_kind_name(kind)),
+        Refusal::AtFrame { byte, kind } => write_byte(err, name, byte, frame_kind_name(kind)),
         Refusal::AtLine { line, kind } => write_line(err, name, line, kind),
         Refusal::AfterTurns { turns } => {
             write_counted(err, b"conference too long: ", turns, b" turns\n")

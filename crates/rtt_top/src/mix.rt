@@ -10,6 +10,7 @@ ghost use Rattle.rtt_top.specs.Conferences.{MixingEnds, ending_name, fault_name,
 ghost use Rattle.rtt_top.specs.Outside.{outside_at, output_at};
 ghost use Rattle.rtt_top.specs.Runs.{Runs};
 ghost use Rattle.rtt_top.specs.Worlds.{StopsIn, ReadsConference, SavesEach, IsUnwrittenIn};
+ghost use Rattle.file_spec.specs.declared.limits.TheConstants.{MOST_LEGS};
 
 use crate::files::{fault_of_dump, read_input, refused_line, save_output};
 use crate::messages::{finish_with, print};
@@ -115,7 +116,7 @@ fn name_at_end<'a>(ending: Result<(), Fault>, file: &'a str, legs: &'a [LegLine]
 /// Creates the outputs of the legs anew, in leg order, each with its octets. The first that fails is the last.
 fn save_outputs<W: World>(legs: &[LegLine], outputs: &[Bytes], world: &mut W) -> Result<(), Fault>
     requires as_many { length legs.now ≡ length outputs.now }
-    requires few { length legs.now ≤ 64 }
+    requires few { length legs.now ≤ MOST_LEGS }
     ensures saved { W.tells → OnOk result (SavesEach W.World world.old world.new legs.now outputs.now) }
     ensures unwritten { IfErr result (IsUnwrittenIn W.World world.old world.new legs.now outputs.now) }
     ensures calls_never_fall { NoneFalls W.own_faults world.old world.new }

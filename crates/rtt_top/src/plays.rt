@@ -230,6 +230,22 @@ pub fn calls_shown<R: Threads + Wait + Sync>(
     }
 }
 
+/// Whether these frames of 1001 are relayed into this recording, and come back of it.
+pub fn is_relayed<R: Threads + Wait + Sync>(
+    rt: &R,
+    alloc: Global,
+    frames: &[u8],
+    recording: &[u8],
+) -> Result<bool, Fail> {
+    let mut world = MemWorld::new(alloc);
+    world.add_file("f", frames)?;
+    if !ends(rt, alloc, &mut world, "relay f a.rtp 1001 0 0", 0, b"", b"")? {
+        return Ok(false);
+    }
+    let is_back = ends(rt, alloc, &mut world, "channel a.rtp 1001 g", 0, b"", b"")?;
+    Ok(is_back && holds(&world, "a.rtp", recording) && holds(&world, "g", frames))
+}
+
 /// A world with the conference and what each types.
 fn with_scripts(alloc: Global, mixing: &Mixing<'_>) -> Result<MemWorld, Fail> {
     let mut world = MemWorld::new(alloc);

@@ -1,7 +1,10 @@
 //! `send`: a script is read and sent, and a recording is made of what is sent.
 ghost use Rattle.std.specs.Prelude.{◌≡◌, Some, IfOk, IfErr};
 ghost use Rattle.rtt_io.specs.Names.{NoneFalls};
+ghost use Rattle.text_sender.specs.Confs.{IsConf};
+ghost use Rattle.command_spec.specs.Commands.{sending_of};
 ghost use Rattle.command_spec.specs.Words.{Send};
+ghost use Rattle.rtt_send.specs.Scripts as sender;
 ghost use Rattle.rtt_words.specs.Commands.{sent};
 ghost use Rattle.command_spec.specs.Outcomes.{Same};
 ghost use Rattle.rtt_top.specs.Faults.{name_in};
@@ -26,12 +29,12 @@ use text_sender::SendConf;
 /// The script that is sent.
 fn script_of<W: World>(alloc: Global, words: &SendWords<'_>, world: &mut W) -> Result<Script, Fault>
     ensures stops { IfErr result (StopsIn W.World world.old world.new (Send (sent words.now))) }
-    ensures read { IfOk result (ReadsScript W.World world.old words.now.script.now) }
+    ensures read { IfOk result (ReadsScript W.World world.old words.now.file.now) }
     ensures same_contents { W.tells → Same (W.contents world.old) (W.contents world.new) }
     ensures calls_never_fall { NoneFalls W.own_faults world.old world.new }
     ensures objects_never_fall { NoneFalls W.object_faults world.old world.new }
 {
-    let octets = match read_input(alloc, words.script, MOST_SCRIPT_OCTETS, world) {
+    let octets = match read_input(alloc, words.file, MOST_SCRIPT_OCTETS, world) {
         Ok(octets) => octets,
         Err(fault) => return Err(fault),
     };
@@ -39,6 +42,24 @@ fn script_of<W: World>(alloc: Global, words: &SendWords<'_>, world: &mut W) -> R
         Ok(script) => Ok(script),
         Err(ConfFault::Refused { line, kind }) => Err(refused_line(line, kind)),
         Err(ConfFault::NoMemory) => Err(Fault::NoMemory),
+    }
+}
+
+/// What is sent with: two repeats, and a packet at most each 300 ms.
+pub(crate) fn send_conf(words: &SendWords<'_>) -> SendConf
+    ensures conf { IsConf result }
+    ensures sending { sender.sending_of result ≡ sending_of (sent words.now) }
+{
+    SendConf {
+        ssrc: words.ssrc,
+        seq: words.seq,
+        stamp: words.stamp,
+        pts: Pts {
+            t140: USUAL_T140,
+            red: USUAL_RED,
+        },
+        interval: USUAL_INTERVAL,
+        gens: 2,
     }
 }
 
@@ -58,18 +79,7 @@ fn recording_of<W: World>(
         Ok(script) => script,
         Err(fault) => return Err(fault),
     };
-    let conf = SendConf {
-        ssrc: words.ssrc,
-        seq: words.seq,
-        stamp: words.stamp,
-        pts: Pts {
-            t140: USUAL_T140,
-            red: USUAL_RED,
-        },
-        interval: USUAL_INTERVAL,
-        gens: 2,
-    };
-    match send_script(alloc, &script, conf) {
+    match send_script(alloc, &script, send_conf(words)) {
         Ok(octets) => Ok(octets),
         Err(SendFault::Full { line }) => Err(refused_line(line, ConfKind::Full)),
         Err(SendFault::NoMemory) => Err(Fault::NoMemory),
@@ -85,7 +95,7 @@ fn send<W: World, K: Sink>(
 ) -> Result<(), Fault>
     ensures { Ends (Send (sent words.now)) W.tells K.tells
         (outside_at W.World K.Sink world.old out.now) (outside_at W.World K.Sink world.new out.now)
-        (name_in words.now.script.now words.now.out.now result) result }
+        (name_in words.now.file.now words.now.out.now result) result }
 {
     match recording_of(alloc, words, world) {
         Ok(octets) => save_output(0, words.out, octets.as_slice(), world),
@@ -106,5 +116,5 @@ pub fn run_send<W: World, K: Sink, E: Sink>(
         (output_at E.Sink err.old) (output_at E.Sink err.new) result }
 {
     let ending = send(alloc, words, world, out);
-    finish(ending, words.script, words.out, err)
+    finish(ending, words.file, words.out, err)
 }

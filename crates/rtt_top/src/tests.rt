@@ -1,7 +1,7 @@
 use crate::plays::Piece::{Octets, Packet, Plain};
 use crate::plays::{
     Call, Failure, Mixing, OPENING, Piece, View, calls_shown, eight_times, ends, failures_told,
-    holds, is_sent, mixings_printed, recording_of, twice, views_seen,
+    holds, is_relayed, is_sent, mixings_printed, recording_of, twice, views_seen,
 };
 use rtt_base::{Bytes, NoMemory, Path};
 use rtt_io::{FailingCall, FailingWrite, MemWorld};
@@ -94,12 +94,62 @@ const NO_TEXT: [Piece<'static>; 5] = [
     Octets(b"\0\x0C\0\0\0\0\0\0\0\0\0\0"),
 ];
 
+// Two letters, an RTCP record at 50 ms, and a packet of another SSRC and payload type at 60 ms.
+const TWO_AND_OTHERS: [Piece<'static>; 6] = [
+    Packet(0, A),
+    Octets(b"\0\x0C\0\0\0\0\0\x32\0\0\0\0"),
+    Packet(60, b"\x80\0\0\0\0\0\0\0\0\0\0\x07"),
+    Packet(300, B),
+    Packet(600, B_AGAIN),
+    Packet(900, B_LAST),
+];
+
+// Two letters without the last 13 octets.
+const TWO_CUT: [Piece<'static>; 4] = [
+    Packet(0, A),
+    Packet(300, B),
+    Packet(600, B_AGAIN),
+    Octets(b"\0\x1E\0\x16\0\0\x03\x84\x80\x64\0\x03\0\0\x03\x84\0"),
+];
+
 const TWO_SOURCES: [Piece<'static>; 2] = [
     Plain(0, 1, 0, b"mine"),
     Packet(100, b"\x81\x62\0\x02\0\0\0\x64\0\0\x03\xE9\0\0\0\x07yours"),
 ];
 
-const VIEWS: [View<'static>; 23] = [
+// What a mixer sends of a source that types "Hey" and a new line, record by record, 300 ms apart.
+const SENT_H: &[u8] =
+    b"\0\x22\0\x1A\0\0\0\0\x81\xE4\0\x64\0\0\x13\x88\0\0\x23\x28\0\0\x03\xE9\xE2\xFF\xFC\0\xE2\xFF\xFC\0\x62H";
+
+const SENT_E: &[u8] =
+    b"\0\x23\0\x1B\0\0\x01\x2C\x81\x64\0\x65\0\0\x14\xB4\0\0\x23\x28\0\0\x03\xE9\xE2\xFF\xFC\0\xE2\x04\xB0\x01\x62He";
+
+const SENT_Y: &[u8] =
+    b"\0\x27\0\x1F\0\0\x02\x58\x81\x64\0\x66\0\0\x15\xE0\0\0\x23\x28\0\0\x03\xE9\xE2\x09\x60\x01\xE2\x04\xB0\x01\x62Hey\xE2\x80\xA8";
+
+const SENT_AGAIN: &[u8] =
+    b"\0\x26\0\x1E\0\0\x03\x84\x81\x64\0\x67\0\0\x17\x0C\0\0\x23\x28\0\0\x03\xE9\xE2\x09\x60\x01\xE2\x04\xB0\x04\x62ey\xE2\x80\xA8";
+
+const SENT_LAST: &[u8] =
+    b"\0\x25\0\x1D\0\0\x04\xB0\x81\x64\0\x68\0\0\x18\x38\0\0\x23\x28\0\0\x03\xE9\xE2\x09\x60\x04\xE2\x04\xB0\0\x62y\xE2\x80\xA8";
+
+const MIXED: [Piece<'static>; 5] = [
+    Octets(SENT_H),
+    Octets(SENT_E),
+    Octets(SENT_Y),
+    Octets(SENT_AGAIN),
+    Octets(SENT_LAST),
+];
+
+// The second packet of it is lost.
+const MIXED_LOST: [Piece<'static>; 4] = [
+    Octets(SENT_H),
+    Octets(SENT_Y),
+    Octets(SENT_AGAIN),
+    Octets(SENT_LAST),
+];
+
+const VIEWS: [View<'static>; 30] = [
     // two lost packets leave no marker, and three leave one
     View(
         &TWO_LETTERS,
@@ -229,6 +279,37 @@ const VIEWS: [View<'static>; 23] = [
         "make 13",
         "make 13 legs 2 lines 80 typed 607 packets 134 used 122 marks 0\n",
     ),
+    // all streams are shown, and what else is there; a good front too; and which types the packets may have
+    View(
+        &TWO_AND_OTHERS,
+        "show a.rtp",
+        "== 1001 from 0 to 900\n1001: AB\n-- 1001 bells 0\n-- packets 4 used 4 refused 0 foreign 0\n-- ssrc 7 type 0 packets 1\n-- rtcp 1\n-- whole\n",
+    ),
+    View(
+        &TWO_CUT,
+        "show a.rtp",
+        "== 1001 from 0 to 600\n1001: AB\n-- 1001 bells 0\n-- packets 3 used 3 refused 0 foreign 0\n-- byte 136: EndsInside\n",
+    ),
+    View(
+        &TWO_LETTERS,
+        "show a.rtp 96 97",
+        "-- ssrc 1001 type 100 packets 4 red of 98\n-- whole\n",
+    ),
+    // a stream of a mixer has the text of its source
+    View(
+        &MIXED,
+        "show a.rtp",
+        "== 9000 from 0 to 1200\n1001: Hey\n1001: \n-- 1001 bells 0\n-- packets 5 used 5 refused 0 foreign 0\n-- whole\n",
+    ),
+    // what is heard is printed as a script, also behind a gap that was waited for
+    View(&TWO_LETTERS, "script a.rtp 1001", "0 A\n300 B\n"),
+    View(
+        &MIXED_LOST,
+        "script a.rtp 9000 1001",
+        "0 H\n1600 e\n1600 y\\n\n",
+    ),
+    // the program tells its version
+    View(&[], "version", "rtt_program 0.1.0\n"),
 ];
 
 #[test]
@@ -244,6 +325,11 @@ usage: rtt_program read FILE SSRC [SOURCE [T140 RED]]
 \x20      rtt_program send SCRIPT OUT SSRC SEQ STAMP
 \x20      rtt_program mix CONF
 \x20      rtt_program make N
+\x20      rtt_program relay FRAMES OUT SSRC SEQ STAMP
+\x20      rtt_program channel FILE SSRC OUT
+\x20      rtt_program show FILE [T140 RED]
+\x20      rtt_program script FILE SSRC [SOURCE [T140 RED]]
+\x20      rtt_program version
 ";
 
 const WRONG_WORDS: [Failure<'static>; 13] = [
@@ -320,12 +406,29 @@ fn add_beyond(world: &mut MemWorld, alloc: Global) -> Result<(), Fail> {
     Ok(())
 }
 
+// A at 0 and B at 300.
+const FRAMES: &[u8] = b"\0\0\0\0\0\x01A\0\0\x01\x2C\0\x01B";
+
+// Frames of which the last is cut, and one without text.
+fn add_frames(world: &mut MemWorld) -> Result<(), Fail> {
+    world.add_file("cut.frames", front(FRAMES, 13))?;
+    world.add_file("none.frames", &[0; 6])?;
+    Ok(())
+}
+
 fn add_scripts(world: &mut MemWorld, alloc: Global) -> Result<(), Fail> {
     world.add_file("number.txt", b"0 A\n# B\nx C\n")?;
     world.add_file("two.txt", b"0 A\n300 B\n")?;
     let full = full(alloc, b"0 12345678901234567")?;
     world.add_file("full.txt", full.as_slice())?;
     Ok(())
+}
+
+fn add_refused(world: &mut MemWorld, alloc: Global) -> Result<(), Fail> {
+    add_broken(world, alloc)?;
+    add_beyond(world, alloc)?;
+    add_scripts(world, alloc)?;
+    add_frames(world)
 }
 
 // `whole.rtp` can't be read to its end, `a.rtp` not created, and `b.rtp` not written to its end.
@@ -344,7 +447,7 @@ fn add_failing(world: &mut MemWorld, alloc: Global) -> Result<(), Fail> {
     Ok(())
 }
 
-const FAILURES: [Failure<'static>; 13] = [
+const FAILURES: [Failure<'static>; 18] = [
     // broken recordings are refused at their byte
     Failure("read few.rtp 1001", 6, "few.rtp byte 136: EndsInside\n"),
     Failure("read head.rtp 1001", 6, "head.rtp byte 28: EndsInside\n"),
@@ -353,6 +456,24 @@ const FAILURES: [Failure<'static>; 13] = [
     Failure("read empty.rtp 1001", 6, "empty.rtp byte 0: NotDump\n"),
     Failure("read long.rtp 1001", 6, "long.rtp byte 44: TooLong\n"),
     Failure("read short.rtp 1001", 6, "short.rtp byte 44: BadLength\n"),
+    Failure("script cut.rtp 1001", 6, "cut.rtp byte 136: EndsInside\n"),
+    Failure("show empty.rtp", 6, "empty.rtp byte 0: NotDump\n"),
+    Failure(
+        "channel cut.rtp 1001 c.rtp",
+        6,
+        "cut.rtp byte 136: EndsInside\n",
+    ),
+    // frames are refused at the first octet of one
+    Failure(
+        "relay cut.frames c.rtp 1001 0 0",
+        6,
+        "cut.frames byte 7: EndsInside\n",
+    ),
+    Failure(
+        "relay none.frames c.rtp 1001 0 0",
+        6,
+        "none.frames byte 0: Length\n",
+    ),
     // scripts are refused at their line, also where too much text would wait
     Failure(
         "send number.txt c.rtp 1001 0 0",
@@ -374,9 +495,7 @@ const FAILURES: [Failure<'static>; 13] = [
 #[test]
 fn failures_are_told(rt: HostRuntime) -> Result<(), Fail> {
     let mut world = MemWorld::new(rt.alloc());
-    add_broken(&mut world, rt.alloc())?;
-    add_beyond(&mut world, rt.alloc())?;
-    add_scripts(&mut world, rt.alloc())?;
+    add_refused(&mut world, rt.alloc())?;
     add_failing(&mut world, rt.alloc())?;
     assert_eq!(rt;
         failures_told(&rt, rt.alloc(), &mut world, &FAILURES)?,
@@ -424,6 +543,13 @@ fn a_script_of_two_letters_is_sent(rt: HostRuntime) -> Result<(), Fail> {
     assert_eq!(rt; whole.len(), 166);
     assert!(rt; holds(&world, "a.rtp", whole.as_slice()));
     assert!(rt; holds(&world, "two.txt", b"0 A\n300 B\n"));
+    Ok(())
+}
+
+#[test]
+fn frames_of_two_letters_are_relayed_and_come_back(rt: HostRuntime) -> Result<(), Fail> {
+    let whole = recording_of(rt.alloc(), &TWO_LETTERS)?;
+    assert!(rt; is_relayed(&rt, rt.alloc(), FRAMES, whole.as_slice())?);
     Ok(())
 }
 

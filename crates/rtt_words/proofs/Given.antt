@@ -2,12 +2,13 @@
 use Rattle.std.proofs.Common.{◌≡◌, ◌≢◌, ◌∙◌, ◌&&◌, Bool, true, false, List, [], ◌∷◌, Option, Some, None, refl, sym, ap, subst, drop, true≢false}
 use Rattle.std.specs.Prelude.{if◌then◌else◌}
 use Rattle.std.specs.List.{list_all}
+use Rattle.std.specs.Option.{option_map}
 use Rattle.file_spec.specs.Numbers.{number, most_ssrc}
-use Rattle.command_spec.specs.Words.{Command, Mix, is_word, list_of, list_words, make_words, mix_words, payload_types, read_of, read_words, send_of, send_words, usual_pts}
+use Rattle.command_spec.specs.Words.{Mix, Channel, channel_words, is_word, list_of, list_words, make_words, mix_words, payload_types, read_of, read_words, send_of, send_words, usual_pts, version_words}
 use Rattle.clap.specs.Walk.{Text, first_of}
 use Rattle.clap.specs.Simple.{App, Shape, built, matches_of}
 use Rattle.clap.specs.Faults.{defaults_fault, fault_of}
-use Rattle.rtt_words.specs.Apps.{Texts, list_app, list_given, make_app, make_given, mix_app, mix_given, read_app, read_given, send_app, send_given}
+use Rattle.rtt_words.specs.Apps.{Texts, channel_app, channel_given, list_app, list_given, make_app, make_given, mix_app, mix_given, read_app, read_given, send_app, send_given, version_app, version_given}
 use Rattle.rtt_words.proofs.Plain.{no_types}
 use Rattle.rtt_words.proofs.Places.{both, fault_given, fault_is, rows_are, rows_given, placed, place_fault}
 
@@ -30,8 +31,14 @@ mix_shape = (built mix_app).top
 abbrev pub make_shape : Shape
 make_shape = (built make_app).top
 
+abbrev pub channel_shape : Shape
+channel_shape = (built channel_app).top
+
+abbrev pub version_shape : Shape
+version_shape = (built version_app).top
+
 -- where the test holds, the first choice is taken
-kept : (b : Bool) (answer : Option Command) → b ≡ true → answer ≡ (if b then answer else None)
+kept : {A : Type 0} (b : Bool) (answer : Option A) → b ≡ true → answer ≡ (if b then answer else None)
 kept true answer e = refl
 kept false answer e = absurd (true≢false (sym e))
 
@@ -121,6 +128,39 @@ make_refused [] h = refl
 make_refused (a ∷ []) h = absurd (h refl)
 make_refused (a ∷ b ∷ rest) h = refl
 
+ends : (a b c : Bool) → (a && (b && (c && true))) ≡ true → (a && c) ≡ true
+ends true true true e = refl
+ends true true false e = e
+ends true false c e = absurd (true≢false (sym e))
+ends false b c e = e
+
+pub channel_asked : (words : List Text) → list_all is_word words ≡ true → fault_given channel_shape words ≡ [] → channel_given (texts_given channel_shape words) ≡ channel_words words
+unfolding placed place_fault defaults_fault
+channel_asked [] e h = cc
+channel_asked (a ∷ []) e h = cc
+channel_asked (a ∷ b ∷ []) e h = cc
+channel_asked (a ∷ b ∷ c ∷ []) e h =
+    kept (is_word a && is_word c) (option_map (λ s. Channel (record { file = a; ssrc = s; out = c })) (number most_ssrc b)) (ends (is_word a) (is_word b) (is_word c) e)
+channel_asked (a ∷ b ∷ c ∷ d ∷ rest) e h = cc
+
+pub channel_refused : (words : List Text) → fault_given channel_shape words ≢ [] → channel_words words ≡ None
+unfolding placed place_fault defaults_fault
+channel_refused [] h = refl
+channel_refused (a ∷ []) h = refl
+channel_refused (a ∷ b ∷ []) h = refl
+channel_refused (a ∷ b ∷ c ∷ []) h = absurd (h refl)
+channel_refused (a ∷ b ∷ c ∷ d ∷ rest) h = refl
+
+pub version_asked : (words : List Text) → list_all is_word words ≡ true → fault_given version_shape words ≡ [] → version_given (texts_given version_shape words) ≡ version_words words
+unfolding placed place_fault defaults_fault
+version_asked [] e h = refl
+version_asked (a ∷ rest) e h = cc
+
+pub version_refused : (words : List Text) → fault_given version_shape words ≢ [] → version_words words ≡ None
+unfolding placed place_fault defaults_fault
+version_refused [] h = absurd (h refl)
+version_refused (a ∷ rest) h = refl
+
 -- ---- the same of the words as they come, with the name first
 
 module _ (app : App) (words : List Text) (plain : list_all is_word (drop 1 words) ≡ true) where
@@ -193,3 +233,31 @@ module _ (app : App) (words : List Text) (plain : list_all is_word (drop 1 words
       let rest = drop 1 words in
       let some_here : fault_of make_app words ≢ [] = subst (λ (a : App). fault_of a words ≢ []) same some in
       make_refused rest (λ none. some_here (fault_is make_shape refl rest plain ∙ none))
+
+  pub channel_taken : app ≡ channel_app → (text : Texts) → fault_of app words ≡ [] → ((id : Text) → text id ≡ first_of id (matches_of app words)) → channel_given text ≡ channel_words (drop 1 words)
+  channel_taken same text none reads =
+      let rest = drop 1 words in
+      let none_here : fault_of channel_app words ≡ [] = subst (λ (a : App). fault_of a words ≡ []) same none in
+      let reads_here : (id : Text) → text id ≡ first_of id (matches_of channel_app words) = subst (λ (a : App). (id : Text) → text id ≡ first_of id (matches_of a words)) same reads in
+      let given : (id : Text) → text id ≡ texts_given channel_shape rest id = λ id. reads_here id ∙ ap (first_of id) (rows_are channel_shape refl rest plain) in
+      ap channel_given (λ i id. given id i) ∙ channel_asked rest plain (sym (fault_is channel_shape refl rest plain) ∙ none_here)
+
+  pub channel_untaken : app ≡ channel_app → fault_of app words ≢ [] → channel_words (drop 1 words) ≡ None
+  channel_untaken same some =
+      let rest = drop 1 words in
+      let some_here : fault_of channel_app words ≢ [] = subst (λ (a : App). fault_of a words ≢ []) same some in
+      channel_refused rest (λ none. some_here (fault_is channel_shape refl rest plain ∙ none))
+
+  pub version_taken : app ≡ version_app → (text : Texts) → fault_of app words ≡ [] → ((id : Text) → text id ≡ first_of id (matches_of app words)) → version_given text ≡ version_words (drop 1 words)
+  version_taken same text none reads =
+      let rest = drop 1 words in
+      let none_here : fault_of version_app words ≡ [] = subst (λ (a : App). fault_of a words ≡ []) same none in
+      let reads_here : (id : Text) → text id ≡ first_of id (matches_of version_app words) = subst (λ (a : App). (id : Text) → text id ≡ first_of id (matches_of a words)) same reads in
+      let given : (id : Text) → text id ≡ texts_given version_shape rest id = λ id. reads_here id ∙ ap (first_of id) (rows_are version_shape refl rest plain) in
+      ap version_given (λ i id. given id i) ∙ version_asked rest plain (sym (fault_is version_shape refl rest plain) ∙ none_here)
+
+  pub version_untaken : app ≡ version_app → fault_of app words ≢ [] → version_words (drop 1 words) ≡ None
+  version_untaken same some =
+      let rest = drop 1 words in
+      let some_here : fault_of version_app words ≢ [] = subst (λ (a : App). fault_of a words ≢ []) same some in
+      version_refused rest (λ none. some_here (fault_is version_shape refl rest plain ∙ none))

@@ -9,7 +9,7 @@ use Rattle.std.specs.Str.{bytes_eq}
 use Rattle.std.proofs.lemmas.List.{take_rest}
 use Rattle.rtt_base.specs.declared.text_packets.Pts.{Pts}
 use Rattle.file_spec.specs.Numbers.{is_number, number, most_ssrc, payload_type}
-use Rattle.command_spec.specs.Words.{Command, command, if_different, is_word, list_of, list_words, make_words, Make, mix_words, Mix, payload_types, read_of, read_words, send_of, send_words, usual_pts}
+use Rattle.command_spec.specs.Words.{Read, ListRecords, Send, Relay, Channel, Show, Script, Command, channel_words, command, if_different, is_word, list_of, list_words, make_words, Make, mix_words, Mix, payload_types, read_of, read_words, send_of, send_words, usual_pts, version_words}
 
 abbrev Text : Type 0
 Text = List ℕ
@@ -93,7 +93,7 @@ send_of_off script out ssrc seq stamp (inr (inr e)) =
 -- ---- where one of the words is empty or begins with `-`, the words stand in no row
 
 -- the answer under a test that fails, or with no answer under it
-under : (b : Bool) (answer : Option Command) → (b ≡ false) ⊎ (answer ≡ None) → (if b then answer else None) ≡ None
+under : {A : Type 0} (b : Bool) (answer : Option A) → (b ≡ false) ⊎ (answer ≡ None) → (if b then answer else None) ≡ None
 under true answer (inl e) = absurd (true≢false e)
 under true answer (inr e) = e
 under false answer h = refl
@@ -173,17 +173,44 @@ make_off (a ∷ []) e =
     (number_off 1000 a (off_last a e))
 make_off (a ∷ b ∷ rest) e = refl
 
+channel_off : (words : List Text) → list_all is_word words ≡ false → channel_words words ≡ None
+channel_off [] e = refl
+channel_off (a ∷ []) e = refl
+channel_off (a ∷ b ∷ []) e = refl
+channel_off (a ∷ b ∷ c ∷ []) e =
+    under (is_word a && is_word c) (option_map channelled (number most_ssrc b))
+    (elim (off_first a (b ∷ c ∷ []) e) [
+      | inl h ↦ inl (ap (λ t. t && is_word c) h)
+      | inr h ↦ elim (off_two b c h) [
+        | inl i ↦ inr (ap (option_map channelled) (number_off most_ssrc b i))
+        | inr i ↦ inl (ap (λ t. is_word a && t) i ∙ and_false (is_word a))
+      ]
+    ])
+  where
+    channelled : ℕ → Command
+    channelled s = Channel (record { file = a; ssrc = s; out = c })
+channel_off (a ∷ b ∷ c ∷ d ∷ rest) e = refl
+
+version_off : (words : List Text) → list_all is_word words ≡ false → version_words words ≡ None
+version_off [] e = absurd (true≢false e)
+version_off (a ∷ rest) e = refl
+
 choice : (b : Bool) (x y : Option Command) → x ≡ None → y ≡ None → (if b then x else y) ≡ None
 choice true x y p q = p
 choice false x y p q = q
 
 pub command_off : (name : Text) (words : List Text) → list_all is_word words ≡ false → command (name ∷ words) ≡ None
 command_off name words e =
-    choice (bytes_eq name (codes "read")) (read_words words) _ (read_off words e)
-    (choice (bytes_eq name (codes "list")) (list_words words) _ (list_off words e)
-    (choice (bytes_eq name (codes "send")) (send_words words) _ (send_off words e)
+    choice (bytes_eq name (codes "read")) (option_map Read (read_words words)) _ (ap (option_map Read) (read_off words e))
+    (choice (bytes_eq name (codes "list")) (option_map ListRecords (list_words words)) _ (ap (option_map ListRecords) (list_off words e))
+    (choice (bytes_eq name (codes "send")) (option_map Send (send_words words)) _ (ap (option_map Send) (send_off words e))
     (choice (bytes_eq name (codes "mix")) (mix_words words) _ (mix_off words e)
-    (choice (bytes_eq name (codes "make")) (make_words words) None (make_off words e) refl))))
+    (choice (bytes_eq name (codes "make")) (make_words words) _ (make_off words e)
+    (choice (bytes_eq name (codes "relay")) (option_map Relay (send_words words)) _ (ap (option_map Relay) (send_off words e))
+    (choice (bytes_eq name (codes "channel")) (channel_words words) _ (channel_off words e)
+    (choice (bytes_eq name (codes "show")) (option_map Show (list_words words)) _ (ap (option_map Show) (list_off words e))
+    (choice (bytes_eq name (codes "script")) (option_map Script (read_words words)) _ (ap (option_map Script) (read_off words e))
+    (choice (bytes_eq name (codes "version")) (version_words words) None (version_off words e) refl)))))))))
 
 -- the same of a list of words, of which the first is the name
 pub command_off_rest : (words : List (String Global)) → 1 ≤ length words

@@ -9,7 +9,7 @@ use Rattle.rtt_words.specs.declared.words.WordFault.TheVariants.{Wrong, NoMemory
 use Rattle.clap.specs.Simple.{on_top}
 use Rattle.rtt_base.specs.declared.text_packets.Pts.{Pts}
 use Rattle.file_spec.specs.Numbers.{number, number_between, most_ssrc}
-use Rattle.command_spec.specs.Words.{Command, Mix, Make, payload_types, usual_pts, read_of, list_of, send_of}
+use Rattle.command_spec.specs.Words.{ReadWords, ListWords, SendWords, Command, Mix, Make, Channel, Version, payload_types, usual_pts, read_of, list_of, send_of}
 
 -- a refusal of `clap`, by its kind
 abbrev pub fault_by : ErrorKind → WordFault
@@ -24,17 +24,17 @@ bare_app name = on_top (λ s. record s { disable_help_flag = true }) (new_app na
 abbrev pub required_rule : List ℕ → Rule
 required_rule id = record (new_rule id) { required = true }
 
--- `read FILE SSRC`, and then SOURCE, T140 and RED
+-- `read FILE SSRC`, and then SOURCE, T140 and RED; `script` has the same
 abbrev pub read_app : App
 read_app =
     with_rule (with_rule (with_rule (with_rule (with_rule (bare_app (codes "read")) (required_rule (codes "FILE"))) (required_rule (codes "SSRC")))
     (new_rule (codes "SOURCE"))) (new_rule (codes "T140"))) (new_rule (codes "RED"))
 
--- `list FILE`, and then T140 and RED
+-- `list FILE`, and then T140 and RED; `show` has the same
 abbrev pub list_app : App
 list_app = with_rule (with_rule (with_rule (bare_app (codes "list")) (required_rule (codes "FILE"))) (new_rule (codes "T140"))) (new_rule (codes "RED"))
 
--- `send SCRIPT OUT SSRC SEQ STAMP`
+-- `send SCRIPT OUT SSRC SEQ STAMP`; `relay` has as many
 abbrev pub send_app : App
 send_app =
     with_rule (with_rule (with_rule (with_rule (with_rule (bare_app (codes "send")) (required_rule (codes "SCRIPT"))) (required_rule (codes "OUT")))
@@ -48,6 +48,15 @@ mix_app = with_rule (bare_app (codes "mix")) (required_rule (codes "CONF"))
 abbrev pub make_app : App
 make_app = with_rule (bare_app (codes "make")) (required_rule (codes "N"))
 
+-- `channel FILE SSRC OUT`
+abbrev pub channel_app : App
+channel_app =
+    with_rule (with_rule (with_rule (bare_app (codes "channel")) (required_rule (codes "FILE"))) (required_rule (codes "SSRC"))) (required_rule (codes "OUT"))
+
+-- `version`
+abbrev pub version_app : App
+version_app = bare_app (codes "version")
+
 -- ---- what is asked for where each argument has this text
 
 -- the payload types are named both or not at all
@@ -60,15 +69,15 @@ pts_given _ _ = None
 abbrev pub Texts : Type 0
 Texts = List ℕ → Option (List ℕ)
 
-abbrev pub read_given : Texts → Option Command
+abbrev pub read_given : Texts → Option ReadWords
 read_given text =
     option_and_then (λ file. option_and_then (λ ssrc. read_of file (number most_ssrc ssrc) (number most_ssrc (unwrap_or (text (codes "SOURCE")) ssrc))
     (pts_given (text (codes "T140")) (text (codes "RED")))) (text (codes "SSRC"))) (text (codes "FILE"))
 
-abbrev pub list_given : Texts → Option Command
+abbrev pub list_given : Texts → Option ListWords
 list_given text = option_and_then (λ file. list_of file (pts_given (text (codes "T140")) (text (codes "RED")))) (text (codes "FILE"))
 
-abbrev pub send_given : Texts → Option Command
+abbrev pub send_given : Texts → Option SendWords
 send_given text =
     option_and_then (λ script. option_and_then (λ out. option_and_then (λ ssrc. option_and_then (λ seq. option_and_then (λ stamp.
     send_of script out (number most_ssrc ssrc) (number 65535 seq) (number 4294967295 stamp))
@@ -79,3 +88,12 @@ mix_given text = option_and_then (λ conf. Some (Mix (record { conf = conf }))) 
 
 abbrev pub make_given : Texts → Option Command
 make_given text = option_and_then (λ n. option_map (λ k. Make (record { number = k })) (number_between 1 1000 n)) (text (codes "N"))
+
+abbrev pub channel_given : Texts → Option Command
+channel_given text =
+    option_and_then (λ file. option_and_then (λ ssrc. option_and_then (λ out.
+    option_map (λ s. Channel (record { file = file; ssrc = s; out = out })) (number most_ssrc ssrc))
+    (text (codes "OUT"))) (text (codes "SSRC"))) (text (codes "FILE"))
+
+abbrev pub version_given : Texts → Option Command
+version_given text = Some Version

@@ -5,8 +5,9 @@ use Rattle.rtt_words.specs.declared.commands.ListWords.{ListWords}
 use Rattle.rtt_words.specs.declared.commands.SendWords.{SendWords}
 use Rattle.rtt_words.specs.declared.commands.MixWords.{MixWords}
 use Rattle.rtt_words.specs.declared.commands.MakeWords.{MakeWords}
+use Rattle.rtt_words.specs.declared.commands.ChannelWords.{ChannelWords}
 use Rattle.rtt_words.specs.declared.commands.Command.{Command}
-use Rattle.rtt_words.specs.declared.commands.Command.TheVariants.{Read, ListRecords, Send, Mix, Make}
+use Rattle.rtt_words.specs.declared.commands.Command.TheVariants.{Read, ListRecords, Send, Mix, Make, Relay, Channel, Show, Script, Version}
 
 abbrev pub asked : ReadWords → words.ReadWords
 asked r = record { file = r.file.now; ssrc = r.ssrc; source = r.source; pts = r.pts }
@@ -15,7 +16,7 @@ abbrev pub listed : ListWords → words.ListWords
 listed l = record { file = l.file.now; pts = l.pts }
 
 abbrev pub sent : SendWords → words.SendWords
-sent s = record { script = s.script.now; out = s.out.now; ssrc = s.ssrc; seq = s.seq; stamp = s.stamp }
+sent s = record { file = s.file.now; out = s.out.now; ssrc = s.ssrc; seq = s.seq; stamp = s.stamp }
 
 abbrev pub mixed : MixWords → words.MixWords
 mixed m = record { conf = m.conf.now }
@@ -23,9 +24,17 @@ mixed m = record { conf = m.conf.now }
 abbrev pub made : MakeWords → words.MakeWords
 made m = record { number = m.number }
 
+abbrev pub channelled : ChannelWords → words.ChannelWords
+channelled c = record { file = c.file.now; ssrc = c.ssrc; out = c.out.now }
+
 abbrev pub meaning : Command → words.Command
 meaning (Read r) = words.Read (asked r)
 meaning (ListRecords l) = words.ListRecords (listed l)
 meaning (Send s) = words.Send (sent s)
 meaning (Mix m) = words.Mix (mixed m)
 meaning (Make m) = words.Make (made m)
+meaning (Relay s) = words.Relay (sent s)
+meaning (Channel c) = words.Channel (channelled c)
+meaning (Show l) = words.Show (listed l)
+meaning (Script r) = words.Script (asked r)
+meaning Version = words.Version

@@ -1,7 +1,7 @@
 //! What the program is asked for.
 use rtt_base::Pts;
 
-/// What `read` is asked for.
+/// What `read` and `script` are asked for.
 #[derive(Clone, Copy, Debug, PartialEq, Eq)]
 pub struct ReadWords<'a> {
     /// The name of the recording.
@@ -13,7 +13,7 @@ pub struct ReadWords<'a> {
     pub pts: Pts,
 }
 
-/// What `list` is asked for.
+/// What `list` and `show` are asked for.
 #[derive(Clone, Copy, Debug, PartialEq, Eq)]
 pub struct ListWords<'a> {
     /// The name of the recording.
@@ -21,11 +21,11 @@ pub struct ListWords<'a> {
     pub pts: Pts,
 }
 
-/// What `send` is asked for.
+/// What `send` and `relay` are asked for.
 #[derive(Clone, Copy, Debug, PartialEq, Eq)]
 pub struct SendWords<'a> {
-    /// The name of the script.
-    pub script: &'a str,
+    /// The name of the file with the text, a script or frames.
+    pub file: &'a str,
     /// The name of the recording that is made.
     pub out: &'a str,
     pub ssrc: u32,
@@ -49,6 +49,17 @@ pub struct MakeWords {
     pub number: u32,
 }
 
+/// What `channel` is asked for.
+#[derive(Clone, Copy, Debug, PartialEq, Eq)]
+pub struct ChannelWords<'a> {
+    /// The name of the recording.
+    pub file: &'a str,
+    /// Whose packets, and whose text in them.
+    pub ssrc: u32,
+    /// The name of the file of frames that is made.
+    pub out: &'a str,
+}
+
 /// A command, with the words after its name.
 #[derive(Clone, Copy, Debug, PartialEq, Eq)]
 pub enum Command<'a> {
@@ -62,4 +73,14 @@ pub enum Command<'a> {
     Mix(MixWords<'a>),
     /// Mixes a conference that is made from a number.
     Make(MakeWords),
+    /// Sends frames of text into a recording.
+    Relay(SendWords<'a>),
+    /// Writes the text of a recording as frames.
+    Channel(ChannelWords<'a>),
+    /// Prints what was typed in each stream of a recording, and what else is there.
+    Show(ListWords<'a>),
+    /// Prints the text of a source of a recording as a script.
+    Script(ReadWords<'a>),
+    /// Prints the version of the program.
+    Version,
 }

@@ -1,4 +1,7 @@
-use crate::{Command, ListWords, MakeWords, MixWords, ReadWords, SendWords, WordFault, command_of};
+use crate::{
+    ChannelWords, Command, ListWords, MakeWords, MixWords, ReadWords, SendWords, WordFault,
+    command_of,
+};
 use rtt_base::Pts;
 use std::alloc::Global;
 use std::test::Fail;
@@ -66,7 +69,7 @@ fn a_list_may_name_payload_types(rt: HostRuntime) -> Result<(), Fail> {
 #[test]
 fn a_send_takes_the_greatest_numbers(rt: HostRuntime) -> Result<(), Fail> {
     let send = Command::Send(SendWords {
-        script: "s.txt",
+        file: "s.txt",
         out: "a.rtp",
         ssrc: 1001,
         seq: 65_535,
@@ -88,6 +91,62 @@ fn a_make_names_a_number(rt: HostRuntime) -> Result<(), Fail> {
     let make = |number: u32| Command::Make(MakeWords { number });
     assert!(rt; asks(rt.alloc(), "make 1", make(1))?);
     assert!(rt; asks(rt.alloc(), "make 0001000", make(1000))?);
+    Ok(())
+}
+
+#[test]
+fn a_relay_has_the_words_of_a_send(rt: HostRuntime) -> Result<(), Fail> {
+    let relay = Command::Relay(SendWords {
+        file: "f",
+        out: "a.rtp",
+        ssrc: 1001,
+        seq: 0,
+        stamp: 7,
+    });
+    assert!(rt; asks(rt.alloc(), "relay f a.rtp 1001 0 7", relay)?);
+    assert!(rt; is_wrong(rt.alloc(), "relay f a.rtp 1001 0")?);
+    Ok(())
+}
+
+#[test]
+fn a_channel_names_a_recording_and_a_file(rt: HostRuntime) -> Result<(), Fail> {
+    let channel = Command::Channel(ChannelWords {
+        file: "a.rtp",
+        ssrc: 1001,
+        out: "f",
+    });
+    assert!(rt; asks(rt.alloc(), "channel a.rtp 1001 f", channel)?);
+    assert!(rt; is_wrong(rt.alloc(), "channel a.rtp 1001")?);
+    assert!(rt; is_wrong(rt.alloc(), "channel a.rtp x f")?);
+    Ok(())
+}
+
+#[test]
+fn a_show_has_the_words_of_a_list(rt: HostRuntime) -> Result<(), Fail> {
+    let show = |pts: Pts| Command::Show(ListWords { file: "a.rtp", pts });
+    assert!(rt; asks(rt.alloc(), "show a.rtp", show(USUAL))?);
+    assert!(rt; asks(rt.alloc(), "show a.rtp 96 127", show(NAMED))?);
+    assert!(rt; is_wrong(rt.alloc(), "show a.rtp 96")?);
+    Ok(())
+}
+
+#[test]
+fn a_script_has_the_words_of_a_read(rt: HostRuntime) -> Result<(), Fail> {
+    let script = Command::Script(ReadWords {
+        file: "a.rtp",
+        ssrc: 9000,
+        source: 1001,
+        pts: USUAL,
+    });
+    assert!(rt; asks(rt.alloc(), "script a.rtp 9000 1001", script)?);
+    assert!(rt; is_wrong(rt.alloc(), "script a.rtp")?);
+    Ok(())
+}
+
+#[test]
+fn a_version_is_asked_for_alone(rt: HostRuntime) -> Result<(), Fail> {
+    assert!(rt; asks(rt.alloc(), "version", Command::Version)?);
+    assert!(rt; is_wrong(rt.alloc(), "version a.rtp")?);
     Ok(())
 }
 

@@ -3,12 +3,15 @@ ghost use Rattle.std.specs.Prelude.{◌≡◌, [], ◌∷◌, map, string_bytes,
 ghost use Rattle.std.specs.List.{list_all};
 ghost use Rattle.std.specs.Option.{option_map};
 ghost use Rattle.clap.specs.Words.{first_value, found_of};
-ghost use Rattle.command_spec.specs.Words.{Read, ListRecords, Send, Mix, Make, command, is_word, payload_types, read_words, list_words, send_words, mix_words, make_words};
-ghost use Rattle.rtt_words.specs.Apps.{pts_given, read_given, list_given, send_given, mix_given, make_given};
-ghost use Rattle.rtt_words.specs.Commands.{asked, listed, sent, mixed, made, meaning};
+ghost use Rattle.command_spec.specs.Words.{Mix, Make, Channel, Version, command, is_word, payload_types, read_words, list_words, send_words, mix_words, make_words, channel_words, version_words};
+ghost use Rattle.rtt_words.specs.Apps.{pts_given, read_given, list_given, send_given, mix_given, make_given, channel_given};
+ghost use Rattle.rtt_words.specs.Commands.{asked, listed, sent, mixed, made, channelled, meaning};
 
-use crate::forms::{list_matches, make_matches, mix_matches, read_matches, send_matches};
-use crate::{Command, ListWords, MakeWords, MixWords, ReadWords, SendWords};
+use crate::forms::{
+    channel_matches, list_matches, make_matches, mix_matches, read_matches, send_matches,
+    version_matches,
+};
+use crate::{ChannelWords, Command, ListWords, MakeWords, MixWords, ReadWords, SendWords};
 use clap::ArgMatches;
 use clap::error::ErrorKind;
 use file_lines::{number_from, number_of, pts_of};
@@ -97,7 +100,7 @@ fn pts_matched(matches: &ArgMatches<'_>) -> Option<Pts>
 
 /// A `read` with these arguments, if their numbers are in range.
 fn read_matched<'a>(matches: &ArgMatches<'a>) -> Option<ReadWords<'a>>
-    ensures { option_map (λ r. Read (asked r)) result ≡ read_given (first_value (found_of matches.now)) }
+    ensures { option_map asked result ≡ read_given (first_value (found_of matches.now)) }
 {
     let file = matches.get_str("FILE")?;
     let ssrc = matches.get_str("SSRC")?;
@@ -115,7 +118,7 @@ fn read_matched<'a>(matches: &ArgMatches<'a>) -> Option<ReadWords<'a>>
 
 /// A `list` with these arguments, if their numbers are in range.
 fn list_matched<'a>(matches: &ArgMatches<'a>) -> Option<ListWords<'a>>
-    ensures { option_map (λ l. ListRecords (listed l)) result ≡ list_given (first_value (found_of matches.now)) }
+    ensures { option_map listed result ≡ list_given (first_value (found_of matches.now)) }
 {
     let file = matches.get_str("FILE")?;
     let pts = pts_matched(matches)?;
@@ -124,15 +127,15 @@ fn list_matched<'a>(matches: &ArgMatches<'a>) -> Option<ListWords<'a>>
 
 /// A `send` with these arguments, if their numbers are in range.
 fn send_matched<'a>(matches: &ArgMatches<'a>) -> Option<SendWords<'a>>
-    ensures { option_map (λ s. Send (sent s)) result ≡ send_given (first_value (found_of matches.now)) }
+    ensures { option_map sent result ≡ send_given (first_value (found_of matches.now)) }
 {
-    let script = matches.get_str("SCRIPT")?;
+    let file = matches.get_str("SCRIPT")?;
     let out = matches.get_str("OUT")?;
     let ssrc = number_of(matches.get_str("SSRC")?, u32::MAX)?;
     let seq = number_of(matches.get_str("SEQ")?, 65_535)?;
     let stamp = number_of(matches.get_str("STAMP")?, u32::MAX)?;
     Some(SendWords {
-        script,
+        file,
         out,
         ssrc,
         seq: seq as u16,
@@ -156,30 +159,40 @@ fn make_matched(matches: &ArgMatches<'_>) -> Option<MakeWords>
     Some(MakeWords { number })
 }
 
-/// A `read`, where the words after its name are in its rows.
+/// A `channel` with these arguments, if its number is in range.
+fn channel_matched<'a>(matches: &ArgMatches<'a>) -> Option<ChannelWords<'a>>
+    ensures { option_map (λ c. Channel (channelled c)) result ≡ channel_given (first_value (found_of matches.now)) }
+{
+    let file = matches.get_str("FILE")?;
+    let ssrc = number_of(matches.get_str("SSRC")?, u32::MAX)?;
+    let out = matches.get_str("OUT")?;
+    Some(ChannelWords { file, ssrc, out })
+}
+
+/// A `read` or a `script`, where the words after its name are in its rows.
 fn read_command(alloc: Global, words: &[String]) -> Result<ReadWords<'_>, WordFault>
     requires { list_all is_word (drop 1 (map string_bytes words.now)) ≡ true }
-    ensures asked { IfOk result (λ r. read_words (drop 1 (map string_bytes words.now)) ≡ Some (Read (asked r))) }
+    ensures asked { IfOk result (λ r. read_words (drop 1 (map string_bytes words.now)) ≡ Some (asked r)) }
     ensures wrong { result ≡ Err WordFault.Wrong → read_words (drop 1 (map string_bytes words.now)) ≡ None }
 {
     let matches = read_matches(alloc, words)?;
     read_matched(&matches).ok_or(WordFault::Wrong)
 }
 
-/// A `list`, where the words after its name are in its rows.
+/// A `list` or a `show`, where the words after its name are in its rows.
 fn list_command(alloc: Global, words: &[String]) -> Result<ListWords<'_>, WordFault>
     requires { list_all is_word (drop 1 (map string_bytes words.now)) ≡ true }
-    ensures asked { IfOk result (λ l. list_words (drop 1 (map string_bytes words.now)) ≡ Some (ListRecords (listed l))) }
+    ensures asked { IfOk result (λ l. list_words (drop 1 (map string_bytes words.now)) ≡ Some (listed l)) }
     ensures wrong { result ≡ Err WordFault.Wrong → list_words (drop 1 (map string_bytes words.now)) ≡ None }
 {
     let matches = list_matches(alloc, words)?;
     list_matched(&matches).ok_or(WordFault::Wrong)
 }
 
-/// A `send`, where the words after its name are in its row.
+/// A `send` or a `relay`, where the words after its name are in its row.
 fn send_command(alloc: Global, words: &[String]) -> Result<SendWords<'_>, WordFault>
     requires { list_all is_word (drop 1 (map string_bytes words.now)) ≡ true }
-    ensures asked { IfOk result (λ s. send_words (drop 1 (map string_bytes words.now)) ≡ Some (Send (sent s))) }
+    ensures asked { IfOk result (λ s. send_words (drop 1 (map string_bytes words.now)) ≡ Some (sent s)) }
     ensures wrong { result ≡ Err WordFault.Wrong → send_words (drop 1 (map string_bytes words.now)) ≡ None }
 {
     let matches = send_matches(alloc, words)?;
@@ -206,6 +219,26 @@ fn make_command(alloc: Global, words: &[String]) -> Result<MakeWords, WordFault>
     make_matched(&matches).ok_or(WordFault::Wrong)
 }
 
+/// A `channel`, where the words after its name are in its row.
+fn channel_command(alloc: Global, words: &[String]) -> Result<ChannelWords<'_>, WordFault>
+    requires { list_all is_word (drop 1 (map string_bytes words.now)) ≡ true }
+    ensures asked { IfOk result (λ c. channel_words (drop 1 (map string_bytes words.now)) ≡ Some (Channel (channelled c))) }
+    ensures wrong { result ≡ Err WordFault.Wrong → channel_words (drop 1 (map string_bytes words.now)) ≡ None }
+{
+    let matches = channel_matches(alloc, words)?;
+    channel_matched(&matches).ok_or(WordFault::Wrong)
+}
+
+/// A `version`, where no word follows its name.
+fn version_command(alloc: Global, words: &[String]) -> Result<(), WordFault>
+    requires { list_all is_word (drop 1 (map string_bytes words.now)) ≡ true }
+    ensures asked { IfOk result (λ _. version_words (drop 1 (map string_bytes words.now)) ≡ Some Version) }
+    ensures wrong { result ≡ Err WordFault.Wrong → version_words (drop 1 (map string_bytes words.now)) ≡ None }
+{
+    version_matches(alloc, words)?;
+    Ok(())
+}
+
 /// The command of this name, where the words after the first are in its rows.
 fn named<'a>(alloc: Global, name: &str, words: &'a [String]) -> Result<Command<'a>, WordFault>
     requires { list_all is_word (drop 1 (map string_bytes words.now)) ≡ true }
@@ -218,6 +251,14 @@ fn named<'a>(alloc: Global, name: &str, words: &'a [String]) -> Result<Command<'
         "send" => Ok(Command::Send(send_command(alloc, words)?)),
         "mix" => Ok(Command::Mix(mix_command(alloc, words)?)),
         "make" => Ok(Command::Make(make_command(alloc, words)?)),
+        "relay" => Ok(Command::Relay(send_command(alloc, words)?)),
+        "channel" => Ok(Command::Channel(channel_command(alloc, words)?)),
+        "show" => Ok(Command::Show(list_command(alloc, words)?)),
+        "script" => Ok(Command::Script(read_command(alloc, words)?)),
+        "version" => {
+            version_command(alloc, words)?;
+            Ok(Command::Version)
+        }
         _ => Err(WordFault::Wrong),
     }
 }

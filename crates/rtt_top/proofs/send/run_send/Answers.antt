@@ -12,4 +12,4 @@ returns g c =
     let before = output_at g.E.Sink c.args.err.now in
     let after = output_at g.E.Sink c.finish.new.err in
     runs (words.Send (sent c.args.words.now)) g.W.World.tells g.K.Sink.tells g.E.Sink.tells old new before after c.finish.result
-    c.send-ending.result (name_in c.args.words.now.script.now c.args.words.now.out.now c.send-ending.result) c.finish.ensures.status c.send-ending.ensures c.finish.ensures.silent c.finish.ensures.front c.finish.ensures.told
+    c.send-ending.result (name_in c.args.words.now.file.now c.args.words.now.out.now c.send-ending.result) c.finish.ensures.status c.send-ending.ensures c.finish.ensures.silent c.finish.ensures.front c.finish.ensures.told
