@@ -1,0 +1,2 @@
+//! What a live call comes to, by what its links gave: definitions, and no code.
+#![tactic(auto)]

@@ -1,0 +1,300 @@
+-- A live call of two, worked out by hand. Ann's link gives one packet with an `A`, and is closed, as Bob's is at once; or the call
+-- has one turn, and the links stay quiet.
+use Rattle.std.proofs.Common.{◌≡◌, ℕ, zero, suc, ◌<◌, true, cond, inl, inr, ◌⊎◌, Some, None, Ok, List, [], ◌∷◌, ◌++◌, length, drop, refl, ap, sym, ◌∙◌, arith}
+use Rattle.std.specs.Prelude.{codes, ◌==◌}
+use Rattle.std.specs.Str.{is_utf8, chars}
+use Rattle.std.specs.Char.{encode_utf8}
+use Rattle.rtt_base.specs.declared.text_packets.Pts.{Pts}
+use Rattle.wire_spec.specs.Rtp.{rtp, rtp_of_header}
+use Rattle.wire_spec.specs.Red.{headers_at, texts_at, red}
+use Rattle.wire_spec.specs.Text.{text_of_short, text_of}
+use Rattle.file_spec.specs.declared.conf_lines.Form.TheVariants.{Links}
+use Rattle.file_spec.specs.declared.conf_lines.LegLine.{LegLine}
+use Rattle.file_spec.specs.declared.conf_lines.Stay.{Stay}
+use Rattle.file_spec.specs.Conf.{Conf, conf, entry, leg_of, mixer_of, stay_or_plan, time_or_other}
+use Rattle.stream_spec.specs.Ready.{Chunk}
+use Rattle.text_spec.specs.Characters.{class_of}
+use Rattle.text_spec.specs.Shown.{shown}
+use Rattle.view_spec.specs.Views.{aware_view}
+use Rattle.mixer_spec.specs.Setups.{leg_at, setup}
+use Rattle.mixer_spec.specs.Table.{Table, chunks_taken, is_idle, is_seated}
+use Rattle.mixer_spec.specs.Core.{Enter, Event, Push, Take, Turn, after}
+use Rattle.link_spec.specs.Links.{Takes, is_closed}
+use Rattle.link_spec.specs.Links as link
+use Rattle.live_spec.specs.Told.{ready_by}
+use Rattle.live_spec.specs.Live.{AreLive, IsUpToDate, MayTurn, turns_free}
+use Rattle.serve_spec.specs.Served.{Closed, Done, End, IsDrained, IsServed, chunks_live, end_line, given_to, hearing_at, live_printed}
+use Rattle.serve_spec.specs.HeadLive.{HeadLive}
+use Rattle.serve_spec.proofs.Promised.{head_law}
+
+-- ---- the conference
+abbrev legs : List ℕ
+legs = codes "leg Ann aware 1001 5004 127.0.0.1:6004\nleg Bob aware 1002 5006 127.0.0.1:6006\nmixer 9000 100 5000\n"
+
+abbrev types : Pts
+types = record { t140 = 98; red = 100 }
+
+abbrev for_good : Stay
+for_good = record { from = 0; until = None }
+
+abbrev ann : LegLine
+ann = record { line = 1; name = codes "Ann"; aware = true; ssrc = 1001; input = codes "5004"; output = codes "127.0.0.1:6004"; pts = types; gens = 2; stay = for_good }
+
+abbrev bob : LegLine
+bob = record { line = 2; name = codes "Bob"; aware = true; ssrc = 1002; input = codes "5006"; output = codes "127.0.0.1:6006"; pts = types; gens = 2; stay = for_good }
+
+abbrev call : ℕ → Conf
+call turns = record { legs = ann ∷ bob ∷ []; tick = 100; spacing = 300; wait = 1000; turns = turns; mixer = record { ssrc = 9000; seq = 100; stamp = 5000 }; plan = [] }
+
+many_turns : conf Links legs ≡ Ok (call 5000000)
+unfolding entry time_or_other stay_or_plan leg_of mixer_of is_utf8 chars encode_utf8
+many_turns = refl
+
+one_turn : conf Links (legs ++ codes "turns 1\n") ≡ Ok (call 1)
+unfolding entry time_or_other stay_or_plan leg_of mixer_of is_utf8 chars encode_utf8
+one_turn = refl
+
+-- ---- what the links give
+abbrev letter : List ℕ
+letter =
+    0x80 ∷ 0xE4 ∷ 0x00 ∷ 0x00 ∷ 0x00 ∷ 0x00 ∷ 0x00 ∷ 0x00 ∷ 0x00 ∷ 0x00 ∷ 0x03 ∷ 0xE9 ∷ 0xE2 ∷ 0xFF ∷ 0xFC ∷ 0x00 ∷ 0xE2 ∷ 0xFF ∷ 0xFC ∷ 0x00 ∷ 0x62 ∷ 0x41 ∷ []
+
+abbrev took : ℕ → link.Came → Takes
+took at came = record { at = at; came = came } ∷ []
+
+abbrev to_the_end : ℕ → Takes
+to_the_end j = cond (j == 0) (took 20 link.Closed ++ took 10 (link.Datagram letter)) (cond (j == 1) (took 15 link.Closed) [])
+
+abbrev quiet : ℕ → Takes
+quiet j = cond (j == 0) (took 17 link.Quiet ++ took 5 link.Quiet) (cond (j == 1) (took 6 link.Quiet) [])
+
+abbrev one_letter : ℕ → Takes
+one_letter j = cond (j == 0) (took 17 link.Quiet ++ took 5 (link.Datagram letter)) (cond (j == 1) (took 6 link.Quiet) [])
+
+-- ---- what is given
+abbrev first : List ℕ
+first =
+    0x81 ∷ 0xE4 ∷ 0x00 ∷ 0x64 ∷ 0x00 ∷ 0x00 ∷ 0x13 ∷ 0x88 ∷ 0x00 ∷ 0x00 ∷ 0x23 ∷ 0x28 ∷ 0x00 ∷ 0x00 ∷ 0x03 ∷ 0xE9 ∷ 0xE2 ∷ 0xFF ∷ 0xFC ∷ 0x00 ∷ 0xE2 ∷ 0xFF ∷ 0xFC ∷ 0x00 ∷ 0x62 ∷ 0x41 ∷ []
+
+-- the text is repeated twice
+abbrev second : List ℕ
+second =
+    0x81 ∷ 0x64 ∷ 0x00 ∷ 0x65 ∷ 0x00 ∷ 0x00 ∷ 0x14 ∷ 0xB4 ∷ 0x00 ∷ 0x00 ∷ 0x23 ∷ 0x28 ∷ 0x00 ∷ 0x00 ∷ 0x03 ∷ 0xE9 ∷ 0xE2 ∷ 0xFF ∷ 0xFC ∷ 0x00 ∷ 0xE2 ∷ 0x04 ∷ 0xB0 ∷ 0x01 ∷ 0x62 ∷ 0x41 ∷ []
+
+abbrev third : List ℕ
+third =
+    0x81 ∷ 0x64 ∷ 0x00 ∷ 0x66 ∷ 0x00 ∷ 0x00 ∷ 0x15 ∷ 0xE0 ∷ 0x00 ∷ 0x00 ∷ 0x23 ∷ 0x28 ∷ 0x00 ∷ 0x00 ∷ 0x03 ∷ 0xE9 ∷ 0xE2 ∷ 0x09 ∷ 0x60 ∷ 0x01 ∷ 0xE2 ∷ 0x04 ∷ 0xB0 ∷ 0x00 ∷ 0x62 ∷ 0x41 ∷ []
+
+abbrev to_bob : List (List ℕ) → ℕ → List (List ℕ)
+to_bob packets j = cond (j == 1) packets []
+
+-- ---- what is printed
+abbrev view : List ℕ → List ℕ → List ℕ → ℕ → List ℕ
+view name other line came = aware_view name (record { name = other; display = record { lines = line ∷ []; bells = 0 } } ∷ []) (record { packets = came; used = came; refused = 0; foreign = 0 })
+
+abbrev shows : List ℕ → ℕ → End → List ℕ
+shows line came end = (view (codes "Ann") (codes "Bob") [] 0 ++ (view (codes "Bob") (codes "Ann") line came ++ [])) ++ end_line end
+
+closed_is_printed : shows (codes "A") 3 Closed ≡ live_printed (call 5000000) (to_bob (first ∷ second ∷ third ∷ [])) Closed
+unfolding is_utf8 chars encode_utf8 text_of text_of_short rtp rtp_of_header red headers_at texts_at shown class_of
+closed_is_printed = refl
+
+nothing_is_printed : shows [] 0 Done ≡ live_printed (call 1) (to_bob []) Done
+unfolding is_utf8 chars encode_utf8 text_of text_of_short rtp rtp_of_header red headers_at texts_at shown class_of
+nothing_is_printed = refl
+
+letter_is_printed : shows (codes "A") 1 Done ≡ live_printed (call 1) (to_bob (first ∷ [])) Done
+unfolding is_utf8 chars encode_utf8 text_of text_of_short rtp rtp_of_header red headers_at texts_at shown class_of
+letter_is_printed = refl
+
+-- ---- the runs
+abbrev entered : List Event
+entered = Enter 1 0 ∷ Enter 0 0 ∷ []
+
+abbrev offered : List Event
+offered = Take 0 10 ∷ Push 0 ∷ entered
+
+abbrev turned : List Event → List Event
+turned past = Turn 600 ∷ Turn 500 ∷ Turn 400 ∷ Turn 300 ∷ Turn 200 ∷ Turn 100 ∷ Turn 0 ∷ past
+
+module _ (turns : ℕ) (takes : ℕ → Takes) where
+  abbrev table_after : List Event → Table
+  table_after past = (after (setup (call turns)) (chunks_live (call turns) takes) past).table
+
+  abbrev taken_of : List Event → ℕ → List Chunk
+  taken_of past i = chunks_taken ((table_after past).taken i)
+
+  abbrev IsFreshFor : List Event → ℕ → ℕ → Type 0
+  IsFreshFor past now i = IsUpToDate (hearing_at (call turns) i) (takes i) (turns_free (setup (call turns)) (chunks_live (call turns) takes) i (Turn now ∷ past)) (taken_of past i)
+
+  -- both hold places and are up to date
+  both : (past : List Event) (now : ℕ) → is_seated (table_after past).seats 0 ≡ true → is_seated (table_after past).seats 1 ≡ true → IsFreshFor past now 0 → IsFreshFor past now 1
+      → (i : ℕ) → i < 2 → MayTurn (setup (call turns)) (hearing_at (call turns)) takes (chunks_live (call turns) takes) past now i
+  both past now a b f g zero low = record { seated = a; fresh = f }
+  both past now a b f g (suc zero) low = record { seated = b; fresh = g }
+  both past now a b f g (suc (suc i)) low = absurd (omega (arith, low))
+
+pub nil : (xs : List Chunk) → xs ≡ xs ++ []
+nil [] = refl
+nil (x ∷ xs) = ap (λ ys. x ∷ ys) (nil xs)
+
+-- ---- the links are closed: what they gave counts
+abbrev long : Conf
+long = call 5000000
+
+abbrev closed_after : List Event → Table
+closed_after past = table_after 5000000 to_the_end past
+
+abbrev AreTaken : List Event → Type 0
+AreTaken past = (taken_of 5000000 to_the_end past 0 ≡ ready_by (hearing_at long 0) (to_the_end 0)) × (taken_of 5000000 to_the_end past 1 ≡ ready_by (hearing_at long 1) (to_the_end 1))
+
+closed_turn : (past : List Event) (now : ℕ) → is_seated (closed_after past).seats 0 ≡ true → is_seated (closed_after past).seats 1 ≡ true → AreTaken past
+    → (i : ℕ) → i < 2 → MayTurn (setup long) (hearing_at long) to_the_end (chunks_live long to_the_end) past now i
+closed_turn past now a b r = both 5000000 to_the_end past now a b (up 0 refl r.0) (up 1 refl r.1)
+  where
+    up : (i : ℕ) → is_closed (to_the_end i) ≡ true → taken_of 5000000 to_the_end past i ≡ ready_by (hearing_at long i) (to_the_end i) → IsFreshFor 5000000 to_the_end past now i
+    up i c e = record { later = []; counting = to_the_end i; are = refl; enough = inr (refl, c); took = ([], e ∙ nil (ready_by (hearing_at long i) (to_the_end i))) }
+
+closed_seated : (i : ℕ) → i < 2 → is_seated (closed_after (Push 0 ∷ entered)).seats i ≡ true
+closed_seated zero low = refl
+closed_seated (suc zero) low = refl
+closed_seated (suc (suc i)) low = absurd (omega (arith, low))
+
+all_taken : AreTaken offered
+unfolding is_utf8 chars encode_utf8 text_of text_of_short rtp rtp_of_header red headers_at texts_at
+all_taken = (refl, refl)
+
+closed_live : AreLive (setup long) (hearing_at long) to_the_end (chunks_live long to_the_end) (turned offered)
+unfolding is_utf8 chars encode_utf8 text_of text_of_short rtp rtp_of_header red headers_at texts_at
+closed_live = (
+  closed_turn (drop 1 (turned offered)) 600 refl refl all_taken,
+  (
+    closed_turn (drop 2 (turned offered)) 500 refl refl all_taken,
+    (
+      closed_turn (drop 3 (turned offered)) 400 refl refl all_taken,
+      (
+        closed_turn (drop 4 (turned offered)) 300 refl refl all_taken,
+        (
+          closed_turn (drop 5 (turned offered)) 200 refl refl all_taken,
+          (
+            closed_turn (drop 6 (turned offered)) 100 refl refl all_taken,
+            (
+              closed_turn (drop 7 (turned offered)) 0 refl refl all_taken,
+              (closed_seated, tt),
+            ),
+          ),
+        ),
+      ),
+    ),
+  ),
+)
+
+packets_to_bob : first ∷ second ∷ third ∷ [] ≡ given_to long (closed_after (turned offered)) 1 bob
+unfolding is_utf8 chars encode_utf8 text_of text_of_short rtp rtp_of_header red headers_at texts_at
+packets_to_bob = refl
+
+closed_gives : (j : ℕ) (leg : LegLine) → leg_at long.legs j ≡ Some leg → to_bob (first ∷ second ∷ third ∷ []) j ≡ given_to long (closed_after (turned offered)) j leg
+unfolding is_utf8 chars encode_utf8 text_of text_of_short rtp rtp_of_header red headers_at texts_at
+closed_gives zero leg e = let is : ann ≡ leg = cc e in ap (λ l. given_to long (closed_after (turned offered)) 0 l) is
+closed_gives (suc zero) leg e = let is : bob ≡ leg = cc e in packets_to_bob ∙ ap (λ l. given_to long (closed_after (turned offered)) 1 l) is
+closed_gives (suc (suc j)) leg e = absurd (cc e)
+
+closed_idle : is_idle (setup long) (closed_after (turned offered)) ≡ true
+unfolding is_utf8 chars encode_utf8 text_of text_of_short rtp rtp_of_header red headers_at texts_at
+closed_idle = refl
+
+closed_drained : (j : ℕ) → j < 2 → IsDrained long to_the_end (closed_after (turned offered)) j
+closed_drained zero low = record { closed = refl; taken = all_taken.0 }
+closed_drained (suc zero) low = record { closed = refl; taken = all_taken.1 }
+closed_drained (suc (suc j)) low = absurd (omega (arith, low))
+
+live_closed : IsServed long to_the_end (to_bob (first ∷ second ∷ third ∷ [])) Closed (shows (codes "A") 3 Closed)
+live_closed = record {
+  table = closed_after (turned offered);
+  turns = 7;
+  live = record { past = turned offered; live = closed_live; turned = refl; leads = refl };
+  few = omega arith;
+  gives = closed_gives;
+  prints = closed_is_printed;
+  done = λ e. absurd (cc e);
+  drained = λ e. closed_drained;
+  idle = λ e. closed_idle;
+}
+
+-- so it keeps what is promised
+live_closed_keeps : HeadLive long to_the_end (to_bob (first ∷ second ∷ third ∷ [])) Closed (shows (codes "A") 3 Closed)
+live_closed_keeps = head_law legs long to_the_end (to_bob (first ∷ second ∷ third ∷ [])) Closed (shows (codes "A") 3 Closed) many_turns live_closed
+
+-- ---- one turn, before which each link has told nothing new but once
+abbrev short : Conf
+short = call 1
+
+quiet_turn : (i : ℕ) → i < 2 → MayTurn (setup short) (hearing_at short) quiet (chunks_live short quiet) entered 0 i
+quiet_turn = both 1 quiet entered 0 refl refl
+    (record { later = record { at = 17; came = link.Quiet } ∷ []; counting = record { at = 5; came = link.Quiet } ∷ []; are = refl; enough = inl refl; took = ([], refl) })
+    (record { later = []; counting = record { at = 6; came = link.Quiet } ∷ []; are = refl; enough = inl refl; took = ([], refl) })
+
+quiet_gives : (j : ℕ) (leg : LegLine) → leg_at short.legs j ≡ Some leg → to_bob [] j ≡ given_to short (table_after 1 quiet (Turn 0 ∷ entered)) j leg
+quiet_gives zero leg e = refl
+quiet_gives (suc zero) leg e = refl
+quiet_gives (suc (suc j)) leg e = absurd (cc e)
+
+live_done : IsServed short quiet (to_bob []) Done (shows [] 0 Done)
+live_done = record {
+  table = table_after 1 quiet (Turn 0 ∷ entered);
+  turns = 1;
+  live = record { past = Turn 0 ∷ entered; live = (quiet_turn, tt); turned = refl; leads = refl };
+  few = omega arith;
+  gives = quiet_gives;
+  prints = nothing_is_printed;
+  done = λ e. refl;
+  drained = λ e. absurd (cc e);
+  idle = λ e. absurd (cc e);
+}
+
+-- ---- one turn, and a letter before it
+letter_ready : taken_of 1 one_letter offered 0 ≡ ready_by (hearing_at short 0) (took 5 (link.Datagram letter))
+unfolding is_utf8 chars encode_utf8 text_of text_of_short rtp rtp_of_header red headers_at texts_at
+letter_ready = refl
+
+none_ready : taken_of 1 one_letter offered 1 ≡ ready_by (hearing_at short 1) (took 6 link.Quiet)
+unfolding is_utf8 chars encode_utf8 text_of text_of_short rtp rtp_of_header red headers_at texts_at
+none_ready = refl
+
+none_blocked : (turns_free (setup short) (chunks_live short one_letter) 0 (Turn 0 ∷ offered) ≡ 1) × (turns_free (setup short) (chunks_live short one_letter) 1 (Turn 0 ∷ offered) ≡ 1)
+unfolding is_utf8 chars encode_utf8 text_of text_of_short rtp rtp_of_header red headers_at texts_at
+none_blocked = (refl, refl)
+
+letter_turn : (i : ℕ) → i < 2 → MayTurn (setup short) (hearing_at short) one_letter (chunks_live short one_letter) offered 0 i
+unfolding is_utf8 chars encode_utf8 text_of text_of_short rtp rtp_of_header red headers_at texts_at
+letter_turn = both 1 one_letter offered 0 refl refl
+    (record { later = record { at = 17; came = link.Quiet } ∷ []; counting = took 5 (link.Datagram letter); are = refl; enough = inl (sym none_blocked.0); took = ([], letter_ready ∙ nil (ready_by (hearing_at short 0) (took 5 (link.Datagram letter)))) })
+    (record { later = []; counting = took 6 link.Quiet; are = refl; enough = inl (sym none_blocked.1); took = ([], none_ready ∙ nil (ready_by (hearing_at short 1) (took 6 link.Quiet))) })
+
+letter_seated : (i : ℕ) → i < 2 → is_seated (table_after 1 one_letter (Push 0 ∷ entered)).seats i ≡ true
+letter_seated zero low = refl
+letter_seated (suc zero) low = refl
+letter_seated (suc (suc i)) low = absurd (omega (arith, low))
+
+letter_to_bob : first ∷ [] ≡ given_to short (table_after 1 one_letter (Turn 0 ∷ offered)) 1 bob
+unfolding is_utf8 chars encode_utf8 text_of text_of_short rtp rtp_of_header red headers_at texts_at
+letter_to_bob = refl
+
+letter_gives : (j : ℕ) (leg : LegLine) → leg_at short.legs j ≡ Some leg → to_bob (first ∷ []) j ≡ given_to short (table_after 1 one_letter (Turn 0 ∷ offered)) j leg
+unfolding is_utf8 chars encode_utf8 text_of text_of_short rtp rtp_of_header red headers_at texts_at
+letter_gives zero leg e = let is : ann ≡ leg = cc e in ap (λ l. given_to short (table_after 1 one_letter (Turn 0 ∷ offered)) 0 l) is
+letter_gives (suc zero) leg e = let is : bob ≡ leg = cc e in letter_to_bob ∙ ap (λ l. given_to short (table_after 1 one_letter (Turn 0 ∷ offered)) 1 l) is
+letter_gives (suc (suc j)) leg e = absurd (cc e)
+
+live_one_letter : IsServed short one_letter (to_bob (first ∷ [])) Done (shows (codes "A") 1 Done)
+live_one_letter = record {
+  table = table_after 1 one_letter (Turn 0 ∷ offered);
+  turns = 1;
+  live = record { past = Turn 0 ∷ offered; live = (letter_turn, (letter_seated, tt)); turned = refl; leads = refl };
+  few = omega arith;
+  gives = letter_gives;
+  prints = letter_is_printed;
+  done = λ e. refl;
+  drained = λ e. absurd (cc e);
+  idle = λ e. absurd (cc e);
+}

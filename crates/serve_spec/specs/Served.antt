@@ -1,0 +1,93 @@
+-- What a live call gives and prints (profile). Legs and their terminals are numbered from 0. Takes stand newest first, what is
+-- given to a terminal oldest first.
+use Rattle.std.specs.Prelude.{◌≡◌, ◌<◌, ◌≤◌, ℕ, true, Option, None, Some, List, ◌++◌, codes, length, map, flat_map, remove, if◌then◌else◌}
+use Rattle.std.specs.List.{enumerate_from}
+use Rattle.rtt_base.specs.declared.text_packets.Pts.{Pts}
+use Rattle.wire_spec.specs.Packets.{Arrival}
+use Rattle.wire_spec.specs.SentPackets.{packet_written}
+use Rattle.wire_spec.specs.Dump.{Item, sent_item}
+use Rattle.stream_spec.specs.Hearing.{heard}
+use Rattle.stream_spec.specs.Ready.{Chunk}
+use Rattle.stream_spec.specs.Still.{still}
+use Rattle.file_spec.specs.declared.conf_lines.LegLine.{LegLine}
+use Rattle.file_spec.specs.Conf.{Conf}
+use Rattle.mixer_spec.specs.Setups.{leg_at, setup, ssrc_of}
+use Rattle.mixer_spec.specs.Table.{Table, chunks_taken, is_idle}
+use Rattle.view_spec.specs.Seen.{aware_seen, unaware_seen}
+use Rattle.command_spec.specs.Mixing.{reception_of, sent_to, speaker_of}
+use Rattle.link_spec.specs.Links.{Takes, is_closed}
+use Rattle.live_spec.specs.Told.{Hearing, told_by}
+use Rattle.live_spec.specs.Live.{Live, live_chunks}
+
+-- how a live call ended: all turns were made, or all links are closed and nothing is left
+pub data End : Type 0 where
+  Done : End
+  Closed : End
+
+-- ---- what is heard of a leg, where its link gave this
+abbrev pub pts_of : Option LegLine → Pts
+pts_of None = record { t140 = 0; red = 0 }
+pts_of (Some leg) = leg.pts
+
+-- how the leg i is heard
+abbrev pub hearing_at : Conf → ℕ → Hearing
+hearing_at c i = record { leg = i; ssrc = ssrc_of (leg_at c.legs i); pts = pts_of (leg_at c.legs i); wait = c.wait }
+
+-- the packets of text that came of it, newest first
+abbrev pub came_live : Conf → (ℕ → Takes) → ℕ → List Arrival
+came_live c takes i = (told_by (hearing_at c i) (takes i)).past
+
+-- its texts, but for keep-alives
+abbrev pub heard_live : Conf → (ℕ → Takes) → ℕ → List (List ℕ)
+heard_live c takes i = heard c.wait (still (came_live c takes i)) (ssrc_of (leg_at c.legs i))
+
+-- and each with the moment from which it may be mixed
+abbrev pub chunks_live : Conf → (ℕ → Takes) → ℕ → List Chunk
+chunks_live c takes = live_chunks (hearing_at c) takes
+
+-- ---- what is given to a terminal
+-- the packets to the terminal j, where this is the leg j
+abbrev pub given_to : Conf → Table → ℕ → LegLine → List (List ℕ)
+given_to c table j leg = map (λ a. packet_written leg.pts a.packet) (sent_to c table j)
+
+-- ---- what is seen there, where they come in order and at once
+abbrev pub came_at_once : List (List ℕ) → List Item
+came_at_once given = map (λ octets. sent_item (0, octets)) given
+
+abbrev pub live_view : Conf → ℕ → LegLine → List (List ℕ) → List ℕ
+live_view c j leg given =
+    if leg.aware
+    then aware_seen (reception_of c leg) leg.name (map speaker_of (remove c.legs j)) (came_at_once given)
+    else unaware_seen (reception_of c leg) leg.name c.mixer.ssrc (came_at_once given)
+
+-- all terminals, in leg order
+abbrev pub live_views : Conf → (ℕ → List (List ℕ)) → List ℕ
+live_views c given = flat_map (λ x. live_view c x.0 x.1 (given x.0)) (enumerate_from 0 c.legs)
+
+abbrev pub end_line : End → List ℕ
+end_line Done = codes "-- live done\n"
+end_line Closed = codes "-- live closed\n"
+
+-- what is printed
+abbrev pub live_printed : Conf → (ℕ → List (List ℕ)) → End → List ℕ
+live_printed c given end = live_views c given ++ end_line end
+
+-- ---- the call
+-- The link of the leg j was closed, and all that is heard of it was taken by the mixer.
+pub record IsDrained (c : Conf) (takes : ℕ → Takes) (table : Table) (j : ℕ) : Type 0 where
+  pub closed : is_closed (takes j) ≡ true
+  pub taken : chunks_taken (table.taken j) ≡ chunks_live c takes j
+
+-- A live call of this conference, whose legs' links gave this and were given that, ended so and printed this.
+pub record IsServed (c : Conf) (takes : ℕ → Takes) (given : ℕ → List (List ℕ)) (end : End) (printed : List ℕ) : Type 0 where
+  pub table : Table
+  pub turns : ℕ
+  pub live : Live (setup c) (hearing_at c) takes turns table
+  pub few : turns ≤ c.turns
+  pub gives : (j : ℕ) (leg : LegLine) → leg_at c.legs j ≡ Some leg → given j ≡ given_to c table j leg
+  pub prints : printed ≡ live_printed c given end
+  -- At `Done` all turns were made.
+  pub done : end ≡ Done → turns ≡ c.turns
+  -- At `Closed` each link was closed, all that is heard was taken, and nothing waits or is still to be repeated.
+  pub drained : end ≡ Closed → (j : ℕ) → j < length c.legs → IsDrained c takes table j
+  pub idle : end ≡ Closed → is_idle (setup c) table ≡ true

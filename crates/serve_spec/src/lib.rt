@@ -1,0 +1,6 @@
+//! What a live call gives and prints, and what it promises: definitions, and laws.
+#![tactic(auto)]
+
+mod laws;
+
+pub use laws::{links_stay, live_calls_keep};
