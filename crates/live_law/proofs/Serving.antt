@@ -1,0 +1,109 @@
+-- From what was popped of each leg to a live run.
+use Rattle.std.proofs.Common.{◌≡◌, ◌<◌, ◌≤◌, ℕ, zero, suc, inl, inr, Some, None, List, [], ◌∷◌, ◌++◌, length, refl, ap, sym, ◌∙◌, subst, arith}
+use Rattle.std.specs.Prelude.{slice_get}
+use Rattle.std.proofs.lemmas.List.{append-nil}
+use Rattle.rtt_base.specs.declared.text_packets.Pts.{Pts}
+use Rattle.mixer_spec.specs.Setups.{Setup}
+use Rattle.mixer_spec.specs.Table.{Admit, Call, Hush, Leave, Offer, Taken, Turn, after_calls, chunks_taken, free_place}
+use Rattle.mixer_spec.specs.Calls.{took}
+use Rattle.mixer_spec.specs.Legs.{held}
+use Rattle.mixer_spec.proofs.Legs.{come_taken}
+use Rattle.mix_loop.proofs.Lists.{lt_or_ge}
+use Rattle.link_io.specs.declared.ends.LinkIn as links
+use Rattle.link_spec.specs.Links.{Takes}
+use Rattle.live_spec.specs.Told.{Hearing, all_by}
+use Rattle.live_spec.specs.Live.{Live}
+use Rattle.live_leg.specs.declared.items.LegItem.{LegItem}
+use Rattle.live_leg.specs.declared.legs.LinkLeg.{LinkLeg}
+use Rattle.live_leg.specs.Items.{Item, items_of, texts_in}
+use Rattle.live_leg.proofs.Texts.{items_append, texts_append}
+use Rattle.item_lanes.specs.declared.lanes.Lane.{Lane}
+use Rattle.item_lanes.specs.Lanes.{popped_of}
+use Rattle.live_loop.specs.declared.ports.LivePort.{LivePort}
+use Rattle.live_loop.specs.Handed.{AreLiveCalls, hand_after}
+use Rattle.live_loop.specs.Walks.{IsServing}
+use Rattle.live_loop.proofs.Others.{other_hand, other_took}
+use Rattle.live_law.specs.Covers.{Covers}
+use Rattle.live_law.specs.Laws.{IsAnswered, IsJoined}
+use Rattle.live_law.proofs.Covering.{covers}
+use Rattle.live_law.proofs.Following.{calls_law}
+
+pub answered : {L G : Type 0} (g : links.Ghosts L) (first back : LinkLeg L) (started now : Lane LegItem (LinkLeg L) G) → IsJoined g first back started now → IsAnswered g first back now
+answered g first back started now w =
+    let c = w.comes first (w.runs first w.starts.runs) in
+    record { takes = c.1.so.takes; covers = covers g first back (items_of (popped_of now ++ c.0)) (items_of (popped_of now)) (items_of c.0) c.1 (items_append (popped_of now) c.0); taken = c.1.so.taken }
+
+-- nothing was offered of what is no leg
+none_took : (s : Setup) (items : ℕ → List Item) (calls : List Call) (i : ℕ) → AreLiveCalls s items calls → s.legs ≤ i → (took s i calls ≡ []) × (hand_after s i calls ≡ None)
+none_took s items [] i l high = (refl, refl)
+none_took s items (Admit k a ∷ past) i l high =
+    let t = after_calls s past in
+    let r = none_took s items past i l.1 high in
+    (ap (λ (y : ℕ → List Taken). chunks_taken (y i)) (come_taken k a t (free_place s t.seats)) ∙ r.0, r.1)
+none_took s items (Hush k ∷ past) i l high = absurd l
+none_took s items (Leave k ∷ past) i l high = absurd l
+none_took s items (Offer c ∷ past) i l high =
+    let away : i ≡ c.source → ⊥ = λ e. let low = l.0 in absurd (omega (arith, e, low, high)) in
+    let r = none_took s items past i l.3 high in
+    (other_took s i past c away ∙ r.0, other_hand s i past c away ∙ r.1)
+none_took s items (Turn now ∷ past) i l high = none_took s items past i l.1 high
+
+pub some_there : {X : Type 0} (xs : List X) (i : ℕ) → i < length xs → (x : X) × (slice_get xs i ≡ Some x)
+some_there [] i low = absurd (omega arith)
+some_there (y ∷ xs) zero low = (y, refl)
+some_there (y ∷ xs) (suc i) low = some_there xs i (omega (arith, low))
+
+module _ {I M : Type 0} (popped : I → List Item) (stands : M → Setup → (ℕ → Pts) → List Call → Type 0) where
+  abbrev items_at : List (LivePort I) → ℕ → List Item
+  items_at [] i = []
+  items_at (p ∷ ps) zero = popped p.inlet
+  items_at (p ∷ ps) (suc i) = items_at ps i
+
+  items_there : (ps : List (LivePort I)) (i : ℕ) (p : LivePort I) → slice_get ps i ≡ Some p → items_at ps i ≡ popped p.inlet
+  items_there [] i p e = absurd (cc e)
+  items_there (q ∷ ps) zero p e = let is : q ≡ p = cc e in ap (λ (x : LivePort I). popped x.inlet) is
+  items_there (q ∷ ps) (suc i) p e = items_there ps i p e
+
+  items_above : (ps : List (LivePort I)) (i : ℕ) → length ps ≤ i → items_at ps i ≡ []
+  items_above [] i high = refl
+  items_above (q ∷ ps) zero high = absurd (omega arith)
+  items_above (q ∷ ps) (suc i) high = items_above ps i (omega (arith, high))
+
+  none_covers : (h : Hearing) (takes : Takes) (items : List Item) → takes ≡ [] → items ≡ [] → Covers h takes items
+  none_covers h takes items e i = subst (λ (l : List Item). Covers h takes l) (sym i) (subst (λ (as' : Takes). Covers h as' []) (sym e) (record {
+    later = [];
+    counting = [];
+    given = [];
+    tail = [];
+    left = [];
+    takes_are = refl;
+    are = refl;
+    no_marks = tt;
+    items_are = refl;
+    last = tt;
+    front = (all_by h [], refl);
+  }))
+
+  pub serving : (s : Setup) (pts : ℕ → Pts) (turns : ℕ) (ps : List (LivePort I)) (m : M) (v : IsServing popped stands s pts turns ps m) (hears : ℕ → Hearing) (takes : ℕ → Takes)
+      → s.legs ≡ length ps → ((i : ℕ) → (hears i).leg ≡ i) → ((i : ℕ) → s.legs ≤ i → takes i ≡ []) → ((j : ℕ) (p : LivePort I) → slice_get ps j ≡ Some p → Covers (hears j) (takes j) (popped p.inlet))
+      → Live s hears takes turns (after_calls s v.calls)
+  serving s pts turns ps m v hears takes legs own none all =
+      let items : ℕ → List Item = items_at ps in
+      let live = v.live items (λ j p e. ([], items_there ps j p e ∙ sym (append-nil (popped p.inlet)))) in
+      let texts : (i : ℕ) → texts_in i (items i) ≡ took s i v.calls ++ held (hand_after s i v.calls) = λ i. elim (lt_or_ge i (length ps)) [
+        | inl low ↦
+            let there = some_there ps i low in
+            let a = v.at i there.0 there.1 in
+            ap (texts_in i) (items_there ps i there.0 there.1 ∙ a.popped_are)
+            ∙ (texts_append i a.before a.tail ∙ (ap (λ cs. cs ++ texts_in i a.tail) a.taken ∙ ap (λ cs. took s i v.calls ++ cs) (a.in_hand ∙ ap held a.hand_is)))
+        | inr high ↦
+            let r = none_took s items v.calls i live (omega (arith, legs, high)) in
+            ap (texts_in i) (items_above ps i high) ∙ sym (ap (λ cs. cs ++ held (hand_after s i v.calls)) r.0 ∙ ap held r.1)
+      ] in
+      let covered : (i : ℕ) → Covers (hears i) (takes i) (items i) = λ i. elim (lt_or_ge i (length ps)) [
+        | inl low ↦
+            let there = some_there ps i low in
+            subst (λ (l : List Item). Covers (hears i) (takes i) l) (sym (items_there ps i there.0 there.1)) (all i there.0 there.1)
+        | inr high ↦ none_covers (hears i) (takes i) (items i) (none i (omega (arith, legs, high))) (items_above ps i high)
+      ] in
+      subst (λ (n : ℕ). Live s hears takes n (after_calls s v.calls)) v.turned (calls_law s hears takes items v.calls own live texts covered)

@@ -1,0 +1,82 @@
+-- What a live call comes to.
+use Rattle.std.specs.Prelude.{◌≡◌, ◌≤◌, ℕ, true, Some, List, [], ◌++◌, length, slice_get}
+use Rattle.rtt_base.specs.declared.text_packets.Pts.{Pts}
+use Rattle.mixer_spec.specs.Setups.{Setup}
+use Rattle.mixer_spec.specs.Table.{Call, after_calls}
+use Rattle.mixer_spec.specs.Calls.{took, turns_made}
+use Rattle.mixer_spec.specs.Legs.{held}
+use Rattle.link_io.specs.declared.ends.LinkIn as links
+use Rattle.link_spec.specs.Links.{Takes, is_closed}
+use Rattle.live_spec.specs.Told.{Hearing, all_by}
+use Rattle.live_spec.specs.Live.{Live}
+use Rattle.ear.specs.Hears.{conf_of}
+use Rattle.live_leg.specs.declared.items.LegItem.{LegItem}
+use Rattle.live_leg.specs.declared.legs.LinkLeg.{LinkLeg}
+use Rattle.live_leg.specs.Items.{Item, items_of, texts_in}
+use Rattle.live_leg.specs.Stands.{LegGave, LegStands}
+use Rattle.live_leg.specs.Stories.{hearing_of}
+use Rattle.item_lanes.specs.declared.lanes.Lane.{Lane}
+use Rattle.item_lanes.specs.Lanes.{ComesBack, IsStarted, LaneFollows, popped_of}
+use Rattle.live_loop.specs.declared.ports.LivePort.{LivePort}
+use Rattle.live_loop.specs.Handed.{AreLiveCalls, hand_after, has_end}
+use Rattle.live_loop.specs.Walks.{IsServing}
+use Rattle.live_law.specs.Covers.{Covers}
+
+-- Where calls were made in a live run of these items, which the legs gave by these takes, they are a live run of the core.
+abbrev pub CallsAreLive : Type 0
+CallsAreLive =
+    (s : Setup) (hears : ℕ → Hearing) (takes : ℕ → Takes) (items : ℕ → List Item) (calls : List Call)
+    → ((i : ℕ) → (hears i).leg ≡ i)
+    → AreLiveCalls s items calls
+    → ((i : ℕ) → texts_in i (items i) ≡ took s i calls ++ held (hand_after s i calls))
+    → ((i : ℕ) → Covers (hears i) (takes i) (items i))
+    → Live s hears takes (turns_made calls) (after_calls s calls)
+
+-- What was popped of a leg over a link is the first of what it gives by what the link gave.
+abbrev pub LegsCover : {L : Type 0} → links.Ghosts L → Type 0
+LegsCover {L} g =
+    (first now : LinkLeg L) (gave popped left : List Item) (w : LegStands g first now gave)
+    → gave ≡ popped ++ left
+    → Covers (hearing_of (conf_of first.ear)) w.so.takes popped
+
+-- A leg that was started as `first`, ran, and came back.
+pub record IsJoined {L G : Type 0} (g : links.Ghosts L) (first back : LinkLeg L) (started now : Lane LegItem (LinkLeg L) G) : Type 0 where
+  pub starts : IsStarted (LegGave g) first started
+  pub runs : LaneFollows (LegGave g) started now
+  pub comes : ComesBack (LegGave g) now back
+
+-- What its link gave covers what was popped of it; where links tell it, that is what the inbound end has taken since.
+pub record IsAnswered {L G : Type 0} (g : links.Ghosts L) (first back : LinkLeg L) (now : Lane LegItem (LinkLeg L) G) : Type 0 where
+  pub takes : Takes
+  pub covers : Covers (hearing_of (conf_of first.ear)) takes (items_of (popped_of now))
+  pub taken : g.tells → g.taken back.link ≡ takes ++ g.taken first.link
+
+abbrev pub ServedAreAnswered : {L : Type 0} (G : Type 0) → links.Ghosts L → Type 0
+ServedAreAnswered {L} G g =
+    (first back : LinkLeg L) (started now : Lane LegItem (LinkLeg L) G) → IsJoined g first back started now → IsAnswered g first back now
+
+-- Whatever turns were made of ports whose legs' links gave this, they are a live run.
+abbrev pub ServingIsLive : {I M : Type 0} → (I → List Item) → (M → Setup → (ℕ → Pts) → List Call → Type 0) → Type 0
+ServingIsLive {I} {M} popped stands =
+    (s : Setup) (pts : ℕ → Pts) (turns : ℕ) (ps : List (LivePort I)) (m : M) (v : IsServing popped stands s pts turns ps m) (hears : ℕ → Hearing) (takes : ℕ → Takes)
+    → s.legs ≡ length ps
+    → ((i : ℕ) → (hears i).leg ≡ i)
+    → ((i : ℕ) → s.legs ≤ i → takes i ≡ [])
+    → ((j : ℕ) (p : LivePort I) → slice_get ps j ≡ Some p → Covers (hears j) (takes j) (popped p.inlet))
+    → Live s hears takes turns (after_calls s v.calls)
+
+-- Where the end of a leg was popped, its link is closed, and all that is heard of it was popped.
+abbrev pub EndIsAll : {L : Type 0} → links.Ghosts L → Type 0
+EndIsAll {L} g =
+    (first now : LinkLeg L) (gave popped left : List Item) (w : LegStands g first now gave)
+    → gave ≡ popped ++ left
+    → has_end popped ≡ true
+    → (is_closed w.so.takes ≡ true) × (g.closed now.link ≡ true) × (texts_in (conf_of first.ear).leg popped ≡ all_by (hearing_of (conf_of first.ear)) w.so.takes)
+
+-- Of items that are covered and have the end the link is closed, and their texts are all that is heard.
+abbrev pub EndIsCovered : Type 0
+EndIsCovered =
+    (h : Hearing) (takes : Takes) (items : List Item)
+    → Covers h takes items
+    → has_end items ≡ true
+    → (is_closed takes ≡ true) × (texts_in h.leg items ≡ all_by h takes)

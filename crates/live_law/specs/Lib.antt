@@ -1,0 +1,4 @@
+pub mod Marks
+pub mod Covers
+pub mod Laws
+pub mod Served

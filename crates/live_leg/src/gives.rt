@@ -1,0 +1,28 @@
+//! A leg over a link as what gives items.
+use crate::items::LegItem;
+use crate::kinds::ItemKind;
+use crate::legs::LinkLeg;
+use item_queue::Gives;
+use link_io::LinkIn;
+use std::sync::Wait;
+
+impl<L: LinkIn> Gives<LegItem> for LinkLeg<L> {
+    ghost use Rattle.live_leg.specs.Stands.{GetsOn, LegGave};
+    ghost use Rattle.live_leg.specs.States.{is_over};
+
+    ghost stands = { LegGave L.LinkIn };
+
+    ghost over = { λ leg. is_over leg.state };
+
+    ghost nearer = { GetsOn };
+
+    fn is_over(&self) -> bool {
+        self.state.is_over()
+    }
+
+    fn next<R: Wait>(&mut self, _rt: &R, may_wait: bool, item: &mut LegItem) -> bool {
+        let given = self.step(may_wait, &mut item.chunk);
+        item.kind = given.unwrap_or(ItemKind::Seen);
+        given.is_some()
+    }
+}

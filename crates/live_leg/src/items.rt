@@ -1,0 +1,29 @@
+//! What a leg over a link gives.
+ghost use Rattle.stream_spec.specs.Ready.{chunk_of};
+ghost use Rattle.live_leg.specs.Texts.{HasText};
+
+use crate::kinds::ItemKind;
+use item_queue::Reuse;
+use rtt_base::{Chunk, NoMemory};
+use std::alloc::Global;
+
+/// What a leg gave, and beside it the text, where it is one. A text lies in a box, which is used again: so it is written once and
+/// read once, and what is moved from place to place is small.
+#[derive(Drop)]
+pub struct LegItem {
+    pub kind: ItemKind,
+    pub chunk: Box<Chunk>,
+    ghost text: { HasText kind (chunk_of chunk.value) },
+}
+
+impl Reuse for LegItem {
+    fn blank(alloc: Global) -> Result<LegItem, NoMemory> {
+        let Ok(chunk) = Box::new(alloc, Chunk::default()) else {
+            return Err(NoMemory);
+        };
+        Ok(LegItem {
+            kind: ItemKind::Seen,
+            chunk,
+        })
+    }
+}

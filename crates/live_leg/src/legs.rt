@@ -1,0 +1,26 @@
+//! A leg over a link.
+ghost use Rattle.std.specs.Prelude.{◌≡◌, true, false};
+ghost use Rattle.ear.specs.Hears.{IsGiving, is_finished, is_quiet};
+ghost use Rattle.live_leg.specs.States.{is_idle, is_going};
+
+use crate::states::State;
+use ear::Ear;
+use rtt_base::Packet;
+use std::alloc::Global;
+use std::sync::Arc;
+use std::sync::atomic::AtomicBool;
+
+/// A leg over the inbound end of a link, which stops where a word says so.
+#[derive(Drop)]
+pub struct LinkLeg<L> {
+    pub(crate) ear: Ear,
+    pub(crate) link: L,
+    /// The datagram that came last.
+    pub(crate) packet: Box<Packet>,
+    /// Says that the leg is to stop.
+    pub(crate) stop: Arc<AtomicBool, Global>,
+    pub(crate) state: State,
+    ghost giving: { ∥ IsGiving ear ∥₁ },
+    ghost quiet: { is_idle state ≡ true → is_quiet ear ≡ true },
+    ghost open_still: { is_going state ≡ true → is_finished ear ≡ false },
+}

@@ -1,0 +1,17 @@
+//! A leg over a link: what is heard of the datagrams that come, item by item.
+#![tactic(auto)]
+
+mod gives;
+mod hearing;
+mod items;
+mod kinds;
+mod legs;
+mod states;
+mod stepping;
+
+pub use items::LegItem;
+pub use kinds::ItemKind;
+pub use legs::LinkLeg;
+
+#[cfg(test)]
+mod tests;

@@ -1,0 +1,43 @@
+//! How far a leg is.
+ghost use Rattle.std.specs.Prelude.{◌≡◌};
+ghost use Rattle.live_leg.specs.States.{is_ending, is_over};
+ghost use Rattle.live_leg.specs.Stepping.{state_after};
+
+use link_io::Came;
+
+/// How far a leg is.
+#[derive(Clone, Copy, Debug, PartialEq, Eq)]
+pub(crate) enum State {
+    /// All that is ready was given, and that was said.
+    Idle,
+    /// The link gave something, and what is ready by then is being given.
+    Giving,
+    /// The link is closed, and what is left is being given.
+    Ending,
+    /// The last item was given.
+    Over,
+}
+
+impl State {
+    pub(crate) fn is_over(self) -> bool
+        ensures { result ≡ is_over self }
+    {
+        matches!(self, State::Over)
+    }
+
+    pub(crate) fn is_ending(self) -> bool
+        ensures { result ≡ is_ending self }
+    {
+        matches!(self, State::Ending)
+    }
+}
+
+/// How far a leg is of whose link this came.
+pub(crate) fn state_after(came: Came) -> State
+    ensures { result ≡ state_after came }
+{
+    match came {
+        Came::Closed => State::Ending,
+        _ => State::Giving,
+    }
+}

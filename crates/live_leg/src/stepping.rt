@@ -1,0 +1,183 @@
+//! What a leg over a link gives next.
+ghost use Rattle.std.specs.Prelude.{◌≡◌, ◌≤◌, ◌<◌, true, false, None, [], ◌∷◌, IfOk, IfErr, IfSome, OnOk, OnErr};
+ghost use Rattle.rtt_base.specs.declared.limits.TheConstants.{LONGEST_WAIT, MOST_ARRIVALS};
+ghost use Rattle.stream_spec.specs.Ready.{chunk_of};
+ghost use Rattle.stream_spec.specs.Still.{is_blank};
+ghost use Rattle.live_leg.specs.Stepping.{unless_blank};
+ghost use Rattle.ear.specs.Hears.{arrival_count, conf_of};
+ghost use Rattle.live_leg.specs.Items.{Item, items_with};
+ghost use Rattle.live_leg.specs.Stands.{GetsOn, GivesOf, GivesThen, LegStands, Listens};
+ghost use Rattle.live_leg.specs.States.{is_giving, is_idle, is_over};
+ghost use Rattle.live_leg.specs.Texts.{HasText};
+
+use crate::hearing::hear_taken;
+use crate::kinds::ItemKind;
+use crate::legs::LinkLeg;
+use crate::states::{State, state_after};
+use ear::{Ear, EarConf};
+use link_io::LinkIn;
+use rtt_base::limits::MOST_ARRIVALS;
+use rtt_base::{Chunk, Failed, Packet};
+use std::alloc::Global;
+use std::sync::Arc;
+use std::sync::atomic::{AtomicBool, Ordering};
+
+/// Whether a text is one or more U+FEFF and nothing else, or empty.
+fn is_blank(text: &[u8]) -> bool
+    ensures { result ≡ is_blank text.now }
+{
+    match text {
+        [0xEF, 0xBB, 0xBF, rest @ ..] => is_blank(rest),
+        [] => true,
+        _ => false,
+    }
+}
+
+/// What a text that is heard comes to: a keep-alive (U+FEFF alone) is none, and is passed over.
+fn unless_blank(chunk: &Chunk) -> Option<ItemKind>
+    ensures { result ≡ unless_blank (chunk_of chunk.now) }
+{
+    if is_blank(chunk.text.as_slice()) {
+        return None;
+    }
+    Some(ItemKind::Text)
+}
+
+impl<L: LinkIn> LinkLeg<L> {
+    /// A leg over a link, of which nothing was heard. It stops where the word is set. It takes all memory that it needs; where
+    /// there is not enough, the link comes back.
+    pub fn new(
+        alloc: Global,
+        link: L,
+        conf: EarConf,
+        stop: Arc<AtomicBool, Global>,
+    ) -> Result<LinkLeg<L>, L>
+        requires wait { conf.wait ≤ LONGEST_WAIT }
+        ensures conf { IfOk result (λ leg. conf_of leg.ear ≡ conf) }
+        ensures link { IfOk result (λ leg. leg.link ≡ link) }
+        ensures open { IfOk result (λ leg. is_over leg.state ≡ false) }
+        ensures stands { IfOk result (λ leg. LegStands L.LinkIn leg leg []) }
+        ensures lost { IfErr result (λ back. back ≡ link) }
+    {
+        let Ok(ear) = Ear::new(alloc, conf, &[conf.ssrc]) else {
+            return Err(link);
+        };
+        let Ok(packet) = Box::new(alloc, Packet::new()) else {
+            return Err(link);
+        };
+        Ok(LinkLeg {
+            ear,
+            link,
+            packet,
+            stop,
+            state: State::Idle,
+        })
+    }
+
+    /// The link, as far as it was taken from.
+    pub fn into_link(self) -> L
+        ensures { result ≡ self.link }
+    {
+        let LinkLeg {
+            ear: _,
+            link,
+            packet: _,
+            stop: _,
+            state: _,
+        } = self;
+        link
+    }
+
+    /// Takes from the link, and tells the ear what came. Where the link failed the leg is over.
+    fn listen(&mut self, may_wait: bool) -> Result<(), Failed>
+        requires idle { is_idle self.old.state ≡ true }
+        requires few { arrival_count self.old.ear < MOST_ARRIVALS }
+        ensures ok { OnOk result (Listens L.LinkIn self.old self.new) }
+        ensures giving { OnOk result (is_giving self.new.state ≡ true) }
+        ensures err { OnErr result (GivesThen L.LinkIn self.old self.new (Item.Fault ∷ [])) }
+    {
+        match self.link.take(&mut self.packet, may_wait) {
+            Ok(taken) => {
+                hear_taken(&mut self.ear, taken, self.packet.as_slice());
+                self.state = state_after(taken.came);
+                Ok(())
+            }
+            Err(failed) => {
+                self.state = State::Over;
+                Err(failed)
+            }
+        }
+    }
+
+    /// Puts the next text that is ready in place of what is in `chunk`, or says that this was all. Where a keep-alive is heard, it
+    /// is passed over, and nothing is given.
+    fn give(&mut self, chunk: &mut Chunk) -> Option<ItemKind>
+        requires { is_giving self.old.state ≡ true }
+        ensures gives { GivesOf L.LinkIn self.old self.new (items_with result (chunk_of chunk.new)) }
+        ensures text { IfSome result (λ kind. HasText kind (chunk_of chunk.new)) }
+        ensures later { result ≡ None → is_giving self.new.state ≡ true }
+    {
+        if self.ear.next(chunk) {
+            return unless_blank(chunk);
+        }
+        if self.state.is_ending() {
+            self.state = State::Over;
+            return Some(ItemKind::End);
+        }
+        self.state = State::Idle;
+        Some(ItemKind::Seen)
+    }
+
+    /// Stops.
+    fn quit(&mut self)
+        requires { is_idle self.old.state ≡ true }
+        ensures { GivesThen L.LinkIn self.old self.new (Item.Quit ∷ []) }
+    {
+        self.state = State::Over;
+    }
+
+    /// Takes from the link, and gives the first item of what came.
+    fn ask(&mut self, may_wait: bool, chunk: &mut Chunk) -> Option<ItemKind>
+        requires idle { is_idle self.old.state ≡ true }
+        requires few { arrival_count self.old.ear < MOST_ARRIVALS }
+        ensures gives { GivesThen L.LinkIn self.old self.new (items_with result (chunk_of chunk.new)) }
+        ensures text { IfSome result (λ kind. HasText kind (chunk_of chunk.new)) }
+        ensures later { result ≡ None → is_giving self.new.state ≡ true }
+    {
+        match self.listen(may_wait) {
+            Ok(()) => self.give(chunk),
+            Err(_) => Some(ItemKind::Fault),
+        }
+    }
+
+    /// Takes from the link, unless the leg is to stop, or heard all that an ear hears.
+    fn ask_unless_stopped(&mut self, may_wait: bool, chunk: &mut Chunk) -> Option<ItemKind>
+        requires { is_idle self.old.state ≡ true }
+        ensures gives { GivesThen L.LinkIn self.old self.new (items_with result (chunk_of chunk.new)) }
+        ensures text { IfSome result (λ kind. HasText kind (chunk_of chunk.new)) }
+        ensures later { result ≡ None → GetsOn self.old self.new }
+    {
+        if self.stop.load(Ordering::SeqCst) {
+            self.quit();
+            return Some(ItemKind::Quit);
+        }
+        if self.ear.arrivals() >= MOST_ARRIVALS {
+            return None;
+        }
+        self.ask(may_wait, chunk)
+    }
+
+    /// Gives the next item, if there is one, and puts its text in place of what is in `chunk`.
+    pub(crate) fn step(&mut self, may_wait: bool, chunk: &mut Chunk) -> Option<ItemKind>
+        requires { is_over self.old.state ≡ false }
+        ensures gives { GivesThen L.LinkIn self.old self.new (items_with result (chunk_of chunk.new)) }
+        ensures text { IfSome result (λ kind. HasText kind (chunk_of chunk.new)) }
+        ensures later { result ≡ None → GetsOn self.old self.new }
+    {
+        match self.state {
+            State::Giving | State::Ending => self.give(chunk),
+            State::Idle => self.ask_unless_stopped(may_wait, chunk),
+            State::Over => None,
+        }
+    }
+}

@@ -1,0 +1,115 @@
+use crate::{ItemKind, LegItem, LinkLeg};
+use ear::EarConf;
+use item_queue::{Gives, Reuse};
+use link_io::{Came, MemIn, Planned};
+use rtt_base::{Bytes, NoMemory, Pts};
+use std::alloc::Global;
+use std::sync::atomic::AtomicBool;
+use std::sync::{Arc, Wait};
+use std::test::Fail;
+
+const ANN: EarConf = EarConf {
+    leg: 5,
+    ssrc: 1001,
+    pts: Pts { t140: 98, red: 100 },
+    wait: 1000,
+};
+
+// Ann types A, and then nothing but U+FEFF.
+const TYPED: &[u8] = b"\x80\xE2\0\0\0\0\0\0\0\0\x03\xE9A";
+
+const IDLE: &[u8] = b"\x80\x62\0\x01\0\0\x01\x2C\0\0\x03\xE9\xEF\xBB\xBF";
+
+fn planned(alloc: Global, at: u32, came: Came, octets: &[u8]) -> Result<Planned, NoMemory> {
+    let mut copy = Bytes::new(alloc);
+    copy.append(octets)?;
+    Ok(Planned {
+        at,
+        came,
+        octets: copy,
+    })
+}
+
+fn ann(alloc: Global, link: MemIn, is_stopped: bool) -> Result<LinkLeg<MemIn>, NoMemory> {
+    let Ok(stop) = Arc::new(alloc, AtomicBool::new(is_stopped)) else {
+        return Err(NoMemory);
+    };
+    match LinkLeg::new(alloc, link, ANN, stop) {
+        Ok(leg) => Ok(leg),
+        Err(_) => Err(NoMemory),
+    }
+}
+
+// What a leg gives next, if it gives something.
+fn next<Q, F: Gives<Q>, R: Wait>(rt: &R, leg: &mut F, item: &mut Q) -> bool {
+    if leg.is_over() {
+        return false;
+    }
+    leg.next(rt, false, item)
+}
+
+// What it gives next is of this kind.
+fn gives<F: Gives<LegItem>, R: Wait>(
+    rt: &R,
+    leg: &mut F,
+    item: &mut LegItem,
+    kind: ItemKind,
+) -> bool {
+    next(rt, leg, item) && item.kind == kind
+}
+
+// Whether this is a text of Ann, from this moment on.
+fn is_said(item: &LegItem, text: &[u8], ready: u64) -> bool {
+    item.chunk.source == 5 && item.chunk.ready == ready && item.chunk.text.as_slice() == text
+}
+
+#[test]
+fn what_is_heard_is_given_and_then_the_end(rt: HostRuntime) -> Result<(), Fail> {
+    let mut link = MemIn::new(rt.alloc(), 5001);
+    link.plan(planned(rt.alloc(), 100, Came::Datagram, TYPED)?)?;
+    link.plan(planned(rt.alloc(), 200, Came::Closed, b"")?)?;
+    let mut leg = ann(rt.alloc(), link, false)?;
+    let mut item = LegItem::blank(rt.alloc())?;
+    assert!(rt; gives(&rt, &mut leg, &mut item, ItemKind::Text));
+    assert!(rt; is_said(&item, b"A", 100));
+    assert!(rt; gives(&rt, &mut leg, &mut item, ItemKind::Seen));
+    assert!(rt; gives(&rt, &mut leg, &mut item, ItemKind::End));
+    assert!(rt; leg.is_over());
+    Ok(())
+}
+
+#[test]
+fn a_keep_alive_is_passed_over(rt: HostRuntime) -> Result<(), Fail> {
+    let mut link = MemIn::new(rt.alloc(), 5001);
+    link.plan(planned(rt.alloc(), 100, Came::Datagram, IDLE)?)?;
+    let mut leg = ann(rt.alloc(), link, false)?;
+    let mut item = LegItem::blank(rt.alloc())?;
+    assert!(rt; !next(&rt, &mut leg, &mut item));
+    assert!(rt; gives(&rt, &mut leg, &mut item, ItemKind::Seen));
+    Ok(())
+}
+
+#[test]
+fn a_leg_that_is_told_to_stop_asks_no_more(rt: HostRuntime) -> Result<(), Fail> {
+    let mut link = MemIn::new(rt.alloc(), 5001);
+    link.plan(planned(rt.alloc(), 100, Came::Datagram, TYPED)?)?;
+    let mut leg = ann(rt.alloc(), link, true)?;
+    let mut item = LegItem::blank(rt.alloc())?;
+    assert!(rt; gives(&rt, &mut leg, &mut item, ItemKind::Quit));
+    assert!(rt; leg.is_over());
+    let link = leg.into_link();
+    assert_eq!(rt; link.told().len(), 0);
+    Ok(())
+}
+
+#[test]
+fn a_fault_is_the_last(rt: HostRuntime) -> Result<(), Fail> {
+    let mut link = MemIn::new(rt.alloc(), 5001);
+    link.fail_at(2)?;
+    let mut leg = ann(rt.alloc(), link, false)?;
+    let mut item = LegItem::blank(rt.alloc())?;
+    assert!(rt; gives(&rt, &mut leg, &mut item, ItemKind::Seen));
+    assert!(rt; gives(&rt, &mut leg, &mut item, ItemKind::Fault));
+    assert!(rt; leg.is_over());
+    Ok(())
+}

@@ -1,0 +1,9 @@
+pub mod Enough
+pub mod Offering
+pub mod Others
+pub mod Pulling
+pub mod Advancing
+pub mod Walking
+pub mod Pausing
+pub mod Opening
+pub mod Begun

@@ -1,0 +1,88 @@
+-- What is known of a leg stays where a chunk of another one is offered.
+use Rattle.std.proofs.Common.{◌≡◌, ℕ, suc, true, false, cond, Some, None, List, [], ◌∷◌, ◌++◌, refl, ap, sym, ◌∙◌, not}
+use Rattle.std.specs.Prelude.{Bool, Option, length, zero, nat_le, ◌&&◌, ◌||◌, if◌then◌else◌}
+use Rattle.std.proofs.lemmas.Bool.{ne_eqb}
+use Rattle.stream_spec.specs.Ready.{Chunk}
+use Rattle.mixer_spec.specs.Rounds.{any_below}
+use Rattle.mixer_spec.specs.Setups.{Setup}
+use Rattle.mixer_spec.specs.Table.{Call, Offer, Table, Taken, after_calls, chunks_taken, count_given, give, given, has_room, is_fit, is_given, is_seated, offered, span_of, still_waits}
+use Rattle.mixer_spec.specs.Calls.{took}
+use Rattle.mixer_spec.proofs.Lists.{set_other}
+use Rattle.live_leg.specs.Items.{Item}
+use Rattle.live_spec.specs.Live.{is_held_back}
+use Rattle.live_loop.specs.declared.ports.LivePort.{LivePort}
+use Rattle.live_loop.specs.Handed.{hand_after, is_blocked_after}
+use Rattle.live_loop.specs.Ports.{AreNext, PortAt, with_offers}
+
+-- ---- spans
+any_same : (p q : ℕ → Bool) (n : ℕ) → ((x : ℕ) → p x ≡ q x) → any_below p n ≡ any_below q n
+any_same p q zero f = refl
+any_same p q (suc n) f = ap (λ b. b || any_below p n) (f n) ∙ ap (λ b. q n || b) (any_same p q n f)
+
+span_same : (s : Setup) (x : ℕ) (v w : Table) → ((j : ℕ) → (v.terminals j).waits x ≡ (w.terminals j).waits x) → (xs : List Taken) → span_of s x v xs ≡ span_of s x w xs
+span_same s x v w f [] = refl
+span_same s x v w f (y ∷ xs) =
+    ap (λ b. cond b (y ∷ xs) (span_of s x v xs)) (any_same (still_waits x v y xs) (still_waits x w y xs) s.legs (λ j. ap (λ ws. y.given j && nat_le (count_given j (y ∷ xs)) (length ws)) (f j)))
+    ∙ ap (λ ys. cond (any_below (still_waits x w y xs) s.legs) (y ∷ xs) ys) (span_same s x v w f xs)
+
+given_room : (s : Setup) (i x : ℕ) (c d : Chunk) (table : Table) → (x ≡ i → ⊥) → has_room s x c (given i d table) ≡ has_room s x c table
+given_room s i x c d table ne =
+    ap (λ ys. is_seated table.seats x && is_fit (chunks_taken ys ++ c ∷ []))
+    (ap (span_of s x (given i d table)) (set_other table.taken i (table.taken i ++ record { chunk = d; given = is_given table.seats i } ∷ []) x ne) ∙ span_same s x (given i d table) table (λ j. waits j (is_given table.seats i j)) (table.taken x))
+  where
+    waits : (j : ℕ) (b : Bool) → (cond b (give i d (table.terminals j)) (table.terminals j)).waits x ≡ (table.terminals j).waits x
+    waits j false = refl
+    waits j true = set_other (table.terminals j).waits i ((table.terminals j).waits i ++ d ∷ []) x ne
+
+module _ (s : Setup) (k : ℕ) where
+  offered_room : (i : ℕ) (c d : Chunk) (table : Table) → (k ≡ i → ⊥) → has_room s k d (offered s i c table) ≡ has_room s k d table
+  offered_room i c d table ne = go (has_room s i c table)
+    where
+      go : (b : Bool) → has_room s k d (cond {A = Table} b (given i c table) table) ≡ has_room s k d table
+      go true = given_room s i k d c table ne
+      go false = refl
+
+  pub other_took : (calls : List Call) (c : Chunk) → (k ≡ c.source → ⊥) → took s k (Offer c ∷ calls) ≡ took s k calls
+  other_took calls c ne = go (has_room s c.source c t)
+    where
+      t : Table
+      t = after_calls s calls
+
+      go : (b : Bool) → chunks_taken ((cond {A = Table} b (given c.source c t) t).taken k) ≡ chunks_taken (t.taken k)
+      go true = ap chunks_taken (set_other t.taken c.source (t.taken c.source ++ record { chunk = c; given = is_given t.seats c.source } ∷ []) k ne)
+      go false = refl
+
+  pub other_hand : (calls : List Call) (c : Chunk) → (k ≡ c.source → ⊥) → hand_after s k (Offer c ∷ calls) ≡ hand_after s k calls
+  other_hand calls c ne = ap (λ t. cond {A = Option Chunk} t (if has_room s k c (after_calls s calls) then None else Some c) (hand_after s k calls)) (ne_eqb c.source k (λ e. ne (sym e)))
+
+  other_blocked : (calls : List Call) (c : Chunk) → (k ≡ c.source → ⊥) → is_blocked_after s k (Offer c ∷ calls) ≡ is_blocked_after s k calls
+  other_blocked calls c ne = ap (λ (h : Option Chunk). is_held_back s (after_calls s (Offer c ∷ calls)) k h) (other_hand calls c ne) ∙ go (hand_after s k calls)
+    where
+      go : (h : Option Chunk) → is_held_back s (offered s c.source c (after_calls s calls)) k h ≡ is_held_back s (after_calls s calls) k h
+      go None = refl
+      go (Some d) = ap not (offered_room c.source c d (after_calls s calls) ne)
+
+  -- ---- offers of another leg
+  apart : (i : ℕ) (c : Chunk) → c.source ≡ i → (k ≡ i → ⊥) → k ≡ c.source → ⊥
+  apart i c own ne e = ne (e ∙ own)
+
+  pub others_blocked : (i : ℕ) (more : List Chunk) (calls : List Call) → (k ≡ i → ⊥) → AreNext s i more calls → is_blocked_after s k (with_offers more calls) ≡ is_blocked_after s k calls
+  others_blocked i [] calls ne a = refl
+  others_blocked i (c ∷ more) calls ne a = other_blocked (with_offers more calls) c (apart i c a.0 ne) ∙ others_blocked i more calls ne a.2
+
+  pub others_at : {I : Type 0} (popped : I → List Item) (i n : ℕ) (p : LivePort I) (more : List Chunk) (calls : List Call) → (k ≡ i → ⊥) → AreNext s i more calls
+      → PortAt popped s calls k n p → PortAt popped s (with_offers more calls) k n p
+  others_at popped i n p [] calls ne a q = q
+  others_at popped i n p (c ∷ more) calls ne a q =
+      let b = others_at popped i n p more calls ne a.2 q in
+      let away = apart i c a.0 ne in
+      record {
+        before = b.before;
+        tail = b.tail;
+        popped_are = b.popped_are;
+        taken = b.taken ∙ sym (other_took (with_offers more calls) c away);
+        in_hand = b.in_hand;
+        hand_is = b.hand_is ∙ sym (other_hand (with_offers more calls) c away);
+        ended = b.ended;
+        enough = b.enough;
+      }

@@ -1,0 +1,5 @@
+pub mod Handed
+pub mod Ports
+pub mod Walks
+pub mod Begun
+pub mod Opening

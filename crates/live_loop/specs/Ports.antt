@@ -1,0 +1,165 @@
+-- What is known of one leg at the mixer of a live call.
+use Rattle.std.specs.Prelude.{◌≡◌, ◌⊎◌, ℕ, suc, ◌+◌, Bool, true, false, Option, None, Some, List, [], ◌∷◌, ◌++◌, if◌then◌else◌}
+use Rattle.stream_spec.specs.Ready.{Chunk, chunk_of}
+use Rattle.mixer_spec.specs.Setups.{Setup}
+use Rattle.mixer_spec.specs.Table.{Call, Offer}
+use Rattle.mixer_spec.specs.Calls.{took}
+use Rattle.mixer_spec.specs.Legs.{held}
+use Rattle.live_leg.specs.Items as item
+use Rattle.live_leg.specs.Items.{Item, has_fault, text_in, texts_in}
+use Rattle.mix_loop.specs.Mixers.{Keeps}
+use Rattle.live_loop.specs.declared.gathering.Advanced.{Advanced}
+use Rattle.live_loop.specs.declared.gathering.Advanced.TheVariants as advanced
+use Rattle.live_loop.specs.declared.gathering.Looked.{Looked}
+use Rattle.live_loop.specs.declared.gathering.Looked.TheVariants.{Text, Seen, End, Fault, Quit, Nothing}
+use Rattle.live_loop.specs.declared.ports.LivePort.{LivePort}
+use Rattle.live_loop.specs.Handed.{IsEnough, IsNext, hand_after, has_end, is_blocked_after, one_free}
+use Rattle.rtt_base.specs.declared.text_packets.Pts.{Pts}
+
+-- the mixer's calls with these offers behind them, newest first
+abbrev pub with_offers : List Chunk → List Call → List Call
+with_offers [] calls = calls
+with_offers (c ∷ more) calls = Offer c ∷ with_offers more calls
+
+-- each is an offer of the leg i, of the chunk in its hand or of the next one
+abbrev pub AreNext : Setup → ℕ → List Chunk → List Call → Type 0
+AreNext s i [] calls = Unit {0}
+AreNext s i (c ∷ more) calls = (c.source ≡ i) × IsNext s c (with_offers more calls) × AreNext s i more calls
+
+abbrev pub so_far : Bool → ℕ → ℕ
+so_far seen n = if seen then suc n else n
+
+module _ {I : Type 0} where
+  -- What was popped of the port, and maybe more; a fault of which it knows is among that.
+  pub record Grew (popped : I → List Item) (began : I → I → Type 0) (old new : LivePort I) : Type 0 where
+    pub more : List Item
+    pub popped_are : popped new.inlet ≡ popped old.inlet ++ more
+    pub goes_on : (first : I) → began first old.inlet → began first new.inlet
+    pub fails : new.failed ≡ true → (old.failed ≡ true) ⊎ (has_fault more ≡ true)
+
+  abbrev pub hand_of : LivePort I → Option Chunk
+  hand_of p = if p.full then Some (chunk_of p.hand) else None
+
+  -- After these calls: of what was popped of the leg i the first items have all its texts that were taken, and are enough for n turns;
+  -- behind them there is at most one text, which is in hand.
+  pub record PortAt (popped : I → List Item) (s : Setup) (calls : List Call) (i n : ℕ) (p : LivePort I) : Type 0 where
+    pub before : List Item
+    pub tail : List Item
+    pub popped_are : popped p.inlet ≡ before ++ tail
+    pub taken : texts_in i before ≡ took s i calls
+    pub in_hand : texts_in i tail ≡ held (hand_of p)
+    pub hand_is : hand_of p ≡ hand_after s i calls
+    pub ended : p.ended ≡ true → has_end before ≡ true
+    pub enough : IsEnough n before
+
+  -- what was popped of the port, and one more item
+  abbrev pub IsMore : (I → List Item) → LivePort I → LivePort I → Item → Type 0
+  IsMore popped old new x = popped new.inlet ≡ popped old.inlet ++ x ∷ []
+
+  -- a port of this, at which nothing was popped
+  pub record IsBegun (inlet : I) (leg : ℕ) (p : LivePort I) : Type 0 where
+    pub is : p.inlet ≡ inlet
+    pub leg_is : p.leg ≡ leg
+    pub empty : p.full ≡ false
+    pub going : p.ended ≡ false
+    pub well : p.failed ≡ false
+
+  -- it is as it was, but that its hand may be empty now
+  abbrev pub OnlyHand : LivePort I → LivePort I → Type 0
+  OnlyHand old new =
+      (new.inlet ≡ old.inlet) × (new.leg ≡ old.leg) × (new.ended ≡ old.ended) × (new.failed ≡ old.failed) × (chunk_of new.hand ≡ chunk_of old.hand)
+
+  -- an item was popped that is no text
+  pub record PullsMark (popped : I → List Item) (old new : LivePort I) (x : Item) (ended failed : Bool) : Type 0 where
+    pub more : IsMore popped old new x
+    pub empty : new.full ≡ false
+    pub ends : new.ended ≡ ended
+    pub fails : new.failed ≡ failed
+
+  -- a text was popped, which is in hand
+  pub record PullsText (popped : I → List Item) (old new : LivePort I) : Type 0 where
+    pub item : Item
+    pub more : IsMore popped old new item
+    pub text : (i : ℕ) → i ≡ old.leg → text_in i item ≡ chunk_of new.hand ∷ []
+    pub own : new.hand.source ≡ old.leg
+    pub full : new.full ≡ true
+    pub ends : new.ended ≡ old.ended
+    pub fails : new.failed ≡ old.failed
+
+  -- nothing was popped
+  pub record PullsNothing (popped : I → List Item) (old new : LivePort I) : Type 0 where
+    pub same : popped new.inlet ≡ popped old.inlet
+    pub empty : new.full ≡ false
+    pub ends : new.ended ≡ old.ended
+    pub fails : new.failed ≡ old.failed
+
+  -- this was popped of a port with an empty hand
+  abbrev pub Pulls : (I → List Item) → LivePort I → LivePort I → Looked → Type 0
+  Pulls popped old new Text = PullsText popped old new
+  Pulls popped old new Seen = PullsMark popped old new item.Seen old.ended old.failed
+  Pulls popped old new End = PullsMark popped old new item.End true old.failed
+  Pulls popped old new Fault = PullsMark popped old new item.Fault old.ended true
+  Pulls popped old new Quit = PullsMark popped old new item.Quit old.ended old.failed
+  Pulls popped old new Nothing = PullsNothing popped old new
+
+  -- From these calls on: offers of the leg i were made, and what was popped is enough for n turns.
+  pub record OffersTo {M : Type 0} (popped : I → List Item) (stands : M → Setup → (ℕ → Pts) → List Call → Type 0) (s : Setup) (pts : ℕ → Pts) (calls : List Call) (i n : ℕ) (p : LivePort I) (m : M) : Type 0 where
+    pub offers : List Chunk
+    pub next : AreNext s i offers calls
+    pub made : stands m s pts (with_offers offers calls)
+    pub port : PortAt popped s (with_offers offers calls) i n p
+
+  -- The same before a turn: it is enough for one turn more, unless that is blocked.
+  pub record GatheredTo {M : Type 0} (popped : I → List Item) (stands : M → Setup → (ℕ → Pts) → List Call → Type 0) (s : Setup) (pts : ℕ → Pts) (calls : List Call) (i n : ℕ) (p : LivePort I) (m : M) : Type 0 where
+    pub offers : List Chunk
+    pub next : AreNext s i offers calls
+    pub made : stands m s pts (with_offers offers calls)
+    pub port : PortAt popped s (with_offers offers calls) i n p
+    pub fresh : p.failed ≡ false → PortAt popped s (with_offers offers calls) i (one_free (is_blocked_after s i (with_offers offers calls)) + n) p
+
+  -- whatever calls were made before
+  abbrev pub Gathered : {M : Type 0} → (I → List Item) → (M → Setup → (ℕ → Pts) → List Call → Type 0) → LivePort I → LivePort I → M → M → Type 0
+  Gathered popped stands p p' m m' =
+      (s : Setup) (pts : ℕ → Pts) (calls : List Call) (n : ℕ) → stands m s pts calls → PortAt popped s calls p.leg n p
+      → GatheredTo popped stands s pts calls p.leg n p' m'
+
+  -- whatever calls were made before, and for however many turns that was enough
+  abbrev pub Goes : {M : Type 0} → (ℕ → ℕ) → (I → List Item) → (M → Setup → (ℕ → Pts) → List Call → Type 0) → LivePort I → LivePort I → M → M → Type 0
+  Goes f popped stands p p' m m' =
+      (s : Setup) (pts : ℕ → Pts) (calls : List Call) (n : ℕ) → stands m s pts calls → PortAt popped s calls p.leg n p
+      → OffersTo popped stands s pts calls p.leg (f n) p' m'
+
+  -- the last text that was offered was not taken
+  pub record BlockedTo {M : Type 0} (popped : I → List Item) (stands : M → Setup → (ℕ → Pts) → List Call → Type 0) (s : Setup) (pts : ℕ → Pts) (calls : List Call) (i n : ℕ) (p : LivePort I) (m : M) : Type 0 where
+    pub goes : OffersTo popped stands s pts calls i n p m
+    pub blocked : is_blocked_after s i (with_offers goes.offers calls) ≡ true
+
+  abbrev pub Blocks : {M : Type 0} → (I → List Item) → (M → Setup → (ℕ → Pts) → List Call → Type 0) → LivePort I → LivePort I → M → M → Type 0
+  Blocks popped stands p p' m m' =
+      (s : Setup) (pts : ℕ → Pts) (calls : List Call) (n : ℕ) → stands m s pts calls → PortAt popped s calls p.leg n p
+      → BlockedTo popped stands s pts calls p.leg n p' m'
+
+  abbrev pub GoesOn : {M : Type 0} → (ℕ → ℕ) → (I → List Item) → (M → Setup → (ℕ → Pts) → List Call → Type 0) → LivePort I → LivePort I → M → M → Type 0
+  GoesOn f popped stands p p' m m' = (p'.full ≡ false) × Goes f popped stands p p' m m'
+
+  abbrev pub Retries : {M : Type 0} → (I → List Item) → (M → Setup → (ℕ → Pts) → List Call → Type 0) → LivePort I → LivePort I → M → M → Bool → Type 0
+  Retries popped stands p p' m m' true = GoesOn (λ n. n) popped stands p p' m m'
+  Retries popped stands p p' m m' false = Blocks popped stands p p' m m'
+
+  abbrev pub Advances : {M : Type 0} → (I → List Item) → (M → Setup → (ℕ → Pts) → List Call → Type 0) → LivePort I → LivePort I → M → M → Advanced → Type 0
+  Advances popped stands p p' m m' advanced.Going = GoesOn (λ n. n) popped stands p p' m m'
+  Advances popped stands p p' m m' advanced.Seen = GoesOn suc popped stands p p' m m'
+  Advances popped stands p p' m m' advanced.Nothing = GoesOn (λ n. n) popped stands p p' m m'
+  Advances popped stands p p' m m' advanced.Blocked = Blocks popped stands p p' m m'
+
+  -- where a leg was asked since the last turn, and has said that all was given, or not yet
+  pub record IsGathering {M : Type 0} (popped : I → List Item) (began : I → I → Type 0) (stands : M → Setup → (ℕ → Pts) → List Call → Type 0) (legs turns : M → ℕ) (seen : Bool) (p p' : LivePort I) (m m' : M) : Type 0 where
+    pub empty : p'.full ≡ false
+    pub same : p'.leg ≡ p.leg
+    pub grew : Grew popped began p p'
+    pub keeps : Keeps legs turns m m'
+    pub goes : Goes (so_far seen) popped stands p p' m m'
+
+-- what becomes of a text that was offered
+abbrev pub after_offer : Bool → Advanced
+after_offer taken = if taken then advanced.Going else advanced.Blocked

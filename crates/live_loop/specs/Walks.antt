@@ -1,0 +1,119 @@
+-- What is known of all legs of a live call.
+use Rattle.std.specs.Prelude.{◌≡◌, ◌⊎◌, ◌≤◌, ◌<◌, ℕ, ◌+◌, Bool, true, false, not, ◌&&◌, Some, List, [], ◌∷◌, ◌++◌, length, slice_get}
+use Rattle.rtt_base.specs.declared.text_packets.Pts.{Pts}
+use Rattle.rtt_io.specs.Counts.{last_count}
+use Rattle.stream_spec.specs.Ready.{Chunk}
+use Rattle.mixer_spec.specs.Setups.{Setup}
+use Rattle.mixer_spec.specs.Table.{Call, after_calls, is_idle}
+use Rattle.mixer_spec.specs.Calls.{turns_made}
+use Rattle.live_spec.specs.Live.{AllSeated}
+use Rattle.live_leg.specs.Items.{Item}
+use Rattle.live_loop.specs.declared.ports.LivePort.{LivePort}
+use Rattle.live_loop.specs.declared.turns.Turned.{Turned}
+use Rattle.live_loop.specs.declared.turns.Turned.TheVariants.{Done, Closed, Faulted, Stopped}
+use Rattle.live_loop.specs.Handed.{AreLiveCalls, IsNext, free_after, is_blocked_after, one_free}
+use Rattle.live_loop.specs.Ports.{Grew, PortAt, with_offers}
+
+-- each of these offers may be made
+abbrev pub AllNext : Setup → List Chunk → List Call → Type 0
+AllNext s [] calls = Unit {0}
+AllNext s (c ∷ more) calls = (c.source < s.legs) × IsNext s c (with_offers more calls) × AllNext s more calls
+
+-- a count of pauses rose by so many, or stands at its last value
+abbrev pub IsPaused : ℕ → ℕ → ℕ → Type 0
+IsPaused k old new = (new ≡ old + k) ⊎ (new ≡ last_count)
+
+module _ {I : Type 0} where
+  -- each leg has its number
+  abbrev pub AreAt : List (LivePort I) → Type 0
+  AreAt ps = (j : ℕ) (p : LivePort I) → slice_get ps j ≡ Some p → p.leg ≡ j
+
+  -- no fault was popped
+  abbrev pub NoneFailed : List (LivePort I) → Type 0
+  NoneFailed ps = (j : ℕ) (p : LivePort I) → slice_get ps j ≡ Some p → p.failed ≡ false
+
+  -- a fault was popped of the leg
+  abbrev pub HasFailed : ℕ → List (LivePort I) → Type 0
+  HasFailed leg ps = (p : LivePort I) × (slice_get ps leg ≡ Some p) × (p.failed ≡ true)
+
+  -- where turns ended at the fault of a leg, it was popped
+  abbrev pub WasFaulted : {T : Type 0} → Turned T → List (LivePort I) → Type 0
+  WasFaulted Done ps = Unit {0}
+  WasFaulted Closed ps = Unit {0}
+  WasFaulted (Faulted leg) ps = HasFailed leg ps
+  WasFaulted (Stopped why) ps = Unit {0}
+
+  -- each leg's end was popped, and nothing is in its hand
+  abbrev pub is_spent : LivePort I → Bool
+  is_spent p = p.ended && not p.full
+
+  abbrev pub AllClosed : List (LivePort I) → Type 0
+  AllClosed ps = (j : ℕ) (p : LivePort I) → slice_get ps j ≡ Some p → is_spent p ≡ true
+
+-- where turns were stopped, the mixer could not send, for this reason
+abbrev pub WasStopped : {M T : Type 0} → (M → T → Type 0) → Turned T → M → Type 0
+WasStopped unsent Done m = Unit {0}
+WasStopped unsent Closed m = Unit {0}
+WasStopped unsent (Faulted leg) m = Unit {0}
+WasStopped unsent (Stopped why) m = unsent m why
+
+module _ {I : Type 0} (popped : I → List Item) where
+  -- these items begin with those that were popped of each leg
+  abbrev pub AreOf : List (LivePort I) → (ℕ → List Item) → Type 0
+  AreOf ps items = (j : ℕ) (p : LivePort I) → slice_get ps j ≡ Some p → (more : List Item) × (items j ≡ popped p.inlet ++ more)
+
+  -- of the first `done` legs what was popped is enough for the turn that comes, of the others for those that were made
+  pub record WalkedTo {M : Type 0} (stands : M → Setup → (ℕ → Pts) → List Call → Type 0) (s : Setup) (pts : ℕ → Pts) (calls : List Call) (done : ℕ) (ps : List (LivePort I)) (m : M) : Type 0 where
+    pub offers : List Chunk
+    pub next : AllNext s offers calls
+    pub made : stands m s pts (with_offers offers calls)
+    pub at : (j : ℕ) (p : LivePort I) → slice_get ps j ≡ Some p → PortAt popped s (with_offers offers calls) j (free_after s j calls) p
+    pub fresh : (j : ℕ) (p : LivePort I) → j < done → slice_get ps j ≡ Some p → p.failed ≡ false
+        → PortAt popped s (with_offers offers calls) j (one_free (is_blocked_after s j (with_offers offers calls)) + free_after s j calls) p
+
+  -- what was popped of each leg, and maybe more
+  abbrev pub AllGrew : (I → I → Type 0) → List (LivePort I) → List (LivePort I) → Type 0
+  AllGrew began old new = (j : ℕ) (p : LivePort I) → slice_get old j ≡ Some p → (q : LivePort I) × (slice_get new j ≡ Some q) × Grew popped began p q
+
+  -- In this conference these calls were made, in a live run of what was popped.
+  pub record IsServing {M : Type 0} (stands : M → Setup → (ℕ → Pts) → List Call → Type 0) (s : Setup) (pts : ℕ → Pts) (turns : ℕ) (ps : List (LivePort I)) (m : M) : Type 0 where
+    pub calls : List Call
+    pub made : stands m s pts calls
+    pub live : (items : ℕ → List Item) → AreOf ps items → AreLiveCalls s items calls
+    pub turned : turns_made calls ≡ turns
+    pub seated : AllSeated s (after_calls s calls)
+    pub at : (j : ℕ) (p : LivePort I) → slice_get ps j ≡ Some p → PortAt popped s calls j (free_after s j calls) p
+
+  -- and it is enough for the turn that comes
+  pub record MayBeTurned {M : Type 0} (stands : M → Setup → (ℕ → Pts) → List Call → Type 0) (s : Setup) (pts : ℕ → Pts) (turns : ℕ) (ps : List (LivePort I)) (m : M) : Type 0 where
+    pub serving : IsServing stands s pts turns ps m
+    pub fresh : (j : ℕ) (p : LivePort I) → slice_get ps j ≡ Some p → p.failed ≡ false
+        → PortAt popped s serving.calls j (one_free (is_blocked_after s j serving.calls) + free_after s j serving.calls) p
+
+  -- each leg offered what it could
+  abbrev pub AllGathered : {M : Type 0} → (M → Setup → (ℕ → Pts) → List Call → Type 0) → List (LivePort I) → List (LivePort I) → M → M → Type 0
+  AllGathered stands ps ps' m m' =
+      (s : Setup) (pts : ℕ → Pts) (turns : ℕ) → s.legs ≡ length ps → IsServing stands s pts turns ps m → MayBeTurned stands s pts turns ps' m'
+
+  -- the mixer is idle, and each leg's end was popped
+  pub record IsClosed {M : Type 0} (stands : M → Setup → (ℕ → Pts) → List Call → Type 0) (s : Setup) (pts : ℕ → Pts) (ps : List (LivePort I)) (m : M) (calls : List Call) : Type 0 where
+    pub ends : AllClosed ps
+    pub idle : is_idle s (after_calls s calls) ≡ true
+
+  -- so many turns were made and nothing is left
+  pub record ClosedTo {M : Type 0} (stands : M → Setup → (ℕ → Pts) → List Call → Type 0) (s : Setup) (pts : ℕ → Pts) (most : ℕ) (ps : List (LivePort I)) (m : M) : Type 0 where
+    pub turns : ℕ
+    pub few : turns ≤ most
+    pub serving : IsServing stands s pts turns ps m
+    pub closed : IsClosed stands s pts ps m serving.calls
+
+  abbrev pub RanTo : {M T : Type 0} → Turned T → (M → Setup → (ℕ → Pts) → List Call → Type 0) → Setup → (ℕ → Pts) → ℕ → List (LivePort I) → M → Type 0
+  RanTo Done stands s pts turns ps m = IsServing stands s pts turns ps m
+  RanTo Closed stands s pts turns ps m = ClosedTo stands s pts turns ps m
+  RanTo (Faulted leg) stands s pts turns ps m = Unit {0}
+  RanTo (Stopped why) stands s pts turns ps m = Unit {0}
+
+  -- the turns were made, and ended so
+  abbrev pub Ran : {M T : Type 0} → Turned T → (M → Setup → (ℕ → Pts) → List Call → Type 0) → ℕ → List (LivePort I) → List (LivePort I) → M → M → Type 0
+  Ran ended stands turns ps ps' m m' =
+      (s : Setup) (pts : ℕ → Pts) → s.legs ≡ length ps → IsServing stands s pts 0 ps m → RanTo ended stands s pts turns ps' m'

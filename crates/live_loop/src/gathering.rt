@@ -1,0 +1,218 @@
+//! What a leg of a live call offers.
+ghost use Rattle.std.specs.Prelude.{◌≡◌, ◌<◌, true, false, not};
+ghost use Rattle.stream_spec.specs.Ready.{chunk_of};
+ghost use Rattle.mix_loop.specs.Mixers.{Keeps, Offers};
+ghost use Rattle.live_loop.specs.Ports.{Advances, Gathered, Grew, IsBegun, OnlyHand, Pulls, Retries, after_offer};
+
+use crate::pops::Pops;
+use crate::ports::LivePort;
+use live_leg::ItemKind;
+use mix_loop::Mixes;
+use rtt_base::Chunk;
+use std::sync::Wait;
+
+/// How many items are popped at most before a turn, once the leg has said that all was given.
+const MOST_POPPED: u64 = 64;
+
+/// What was popped of a leg.
+#[derive(Clone, Copy, Debug, PartialEq, Eq)]
+pub(crate) enum Looked {
+    /// A text, which is in hand.
+    Text,
+    /// All was given.
+    Seen,
+    /// The end.
+    End,
+    /// A fault.
+    Fault,
+    /// What says nothing.
+    Quit,
+    /// Nothing is there.
+    Nothing,
+}
+
+/// What became of it.
+#[derive(Clone, Copy, Debug, PartialEq, Eq)]
+pub(crate) enum Advanced {
+    /// More may be popped.
+    Going,
+    /// The leg has said that all was given.
+    Seen,
+    /// Nothing was there.
+    Nothing,
+    /// A text was not taken.
+    Blocked,
+}
+
+/// What becomes of a text that was offered.
+fn after_offer(taken: bool) -> Advanced
+    ensures { result ≡ after_offer taken }
+{
+    if taken {
+        Advanced::Going
+    } else {
+        Advanced::Blocked
+    }
+}
+
+/// Whether a leg that has said that all was given was asked often enough.
+fn is_enough(seen: bool, popped: u64) -> bool
+    ensures { result ≡ true → seen ≡ true }
+{
+    seen && popped >= MOST_POPPED
+}
+
+impl<I> LivePort<I> {
+    /// A port at which nothing was popped, of the leg with this number.
+    pub fn new(inlet: I, leg: u8) -> LivePort<I>
+        ensures { IsBegun inlet leg result }
+    {
+        LivePort {
+            inlet,
+            leg,
+            hand: Chunk::default(),
+            full: false,
+            ended: false,
+            failed: false,
+        }
+    }
+
+    /// Where its items come from.
+    pub fn into_inlet(self) -> I
+        ensures { result ≡ self.inlet }
+    {
+        let LivePort {
+            inlet,
+            leg: _,
+            hand: _,
+            full: _,
+            ended: _,
+            failed: _,
+        } = self;
+        inlet
+    }
+
+    /// Offers the text in hand, and lets it go where it is taken, as is answered.
+    fn offer<M: Mixes>(&mut self, mixer: &mut M) -> bool
+        requires full { self.old.full ≡ true }
+        requires source { self.old.leg < M.legs mixer.old }
+        ensures only { OnlyHand self.old self.new }
+        ensures full { self.new.full ≡ not result }
+        ensures keeps { Keeps M.legs M.turns mixer.old mixer.new }
+        ensures offered { Offers M.stands mixer.old mixer.new (chunk_of self.old.hand) result }
+    {
+        let taken = mixer.offer(&self.hand).is_ok();
+        self.full = !taken;
+        taken
+    }
+}
+
+impl<I: Pops> LivePort<I> {
+    /// Pops the next item. A text comes into the empty hand. Where nothing is there and the leg has not said in this turn that all
+    /// was given, waits for an item.
+    pub(crate) fn pull<R: Wait>(&mut self, rt: &R, seen: bool) -> Looked
+        requires { self.old.full ≡ false }
+        ensures pulls { Pulls I.popped self.old self.new result }
+        ensures leg { self.new.leg ≡ self.old.leg }
+        ensures grew { Grew I.popped I.began self.old self.new }
+    {
+        match self.inlet.pop(rt, &mut self.hand) {
+            None => {
+                if !seen {
+                    self.inlet.wait(rt);
+                }
+                Looked::Nothing
+            }
+            Some(ItemKind::Text) => {
+                self.hand.source = self.leg;
+                self.full = true;
+                Looked::Text
+            }
+            Some(ItemKind::Seen) => Looked::Seen,
+            Some(ItemKind::End) => {
+                self.ended = true;
+                Looked::End
+            }
+            Some(ItemKind::Quit) => Looked::Quit,
+            Some(ItemKind::Fault) => {
+                self.failed = true;
+                Looked::Fault
+            }
+        }
+    }
+
+    /// Offers what is in hand, if a text is, and answers whether the hand is empty then.
+    fn retry<M: Mixes>(&mut self, mixer: &mut M) -> bool
+        requires leg { self.old.leg < M.legs mixer.old }
+        ensures keeps { Keeps M.legs M.turns mixer.old mixer.new }
+        ensures leg { self.new.leg ≡ self.old.leg }
+        ensures grew { Grew I.popped I.began self.old self.new }
+        ensures retries { Retries I.popped M.stands self.old self.new mixer.old mixer.new result }
+    {
+        if self.full {
+            return self.offer(mixer);
+        }
+        true
+    }
+
+    /// Pops the next item, and offers it where it is a text.
+    fn advance<R: Wait, M: Mixes>(&mut self, rt: &R, mixer: &mut M, seen: bool) -> Advanced
+        requires empty { self.old.full ≡ false }
+        requires leg { self.old.leg < M.legs mixer.old }
+        ensures keeps { Keeps M.legs M.turns mixer.old mixer.new }
+        ensures leg { self.new.leg ≡ self.old.leg }
+        ensures grew { Grew I.popped I.began self.old self.new }
+        ensures advances { Advances I.popped M.stands self.old self.new mixer.old mixer.new result }
+    {
+        match self.pull(rt, seen) {
+            Looked::Text => {
+                let taken = self.offer(mixer);
+                after_offer(taken)
+            }
+            Looked::Seen => Advanced::Seen,
+            Looked::Nothing => Advanced::Nothing,
+            Looked::End => Advanced::Going,
+            Looked::Fault => Advanced::Going,
+            Looked::Quit => Advanced::Going,
+        }
+    }
+
+    /// Offers what is in hand and what is popped, until a text is not taken; or the end or a fault is popped; or the leg has said
+    /// that all was given, and nothing more is there or enough was popped.
+    pub fn gather<R: Wait, M: Mixes>(&mut self, rt: &R, mixer: &mut M)
+        requires leg { self.old.leg < M.legs mixer.old }
+        ensures keeps { Keeps M.legs M.turns mixer.old mixer.new }
+        ensures leg { self.new.leg ≡ self.old.leg }
+        ensures grew { Grew I.popped I.began self.old self.new }
+        ensures gathered { Gathered I.popped M.stands self.old self.new mixer.old mixer.new }
+    {
+        if !self.retry(mixer) {
+            return;
+        }
+        let mut seen = false;
+        let mut popped = 0u64;
+        for _ in rt.forever() {
+            if self.ended {
+                return;
+            }
+            if self.failed {
+                return;
+            }
+            if is_enough(seen, popped) {
+                return;
+            }
+            popped = popped.saturating_add(1);
+            match self.advance(rt, mixer, seen) {
+                Advanced::Going => {}
+                Advanced::Seen => seen = true,
+                Advanced::Nothing => {
+                    if seen {
+                        return;
+                    }
+                }
+                Advanced::Blocked => return,
+            }
+        }
+        unreachable!()
+    }
+}

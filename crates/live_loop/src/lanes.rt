@@ -1,0 +1,63 @@
+//! A leg over a link that runs, as where its items are popped.
+ghost use Rattle.std.specs.Prelude.{◌≡◌};
+ghost use Rattle.stream_spec.specs.Ready.{chunk_of};
+
+use crate::pops::Pops;
+use item_lanes::Lane;
+use link_io::LinkIn;
+use live_leg::{ItemKind, LegItem, LinkLeg};
+use rtt_base::{Chunk, Text};
+use rtt_io::Gate;
+use std::sync::Wait;
+
+/// Puts a text in place of another.
+fn copy_text(from: &Text, to: &mut Text)
+    ensures { to.new ≡ from.now }
+{
+    to.clear();
+    let _room = to.append(from.as_slice());
+}
+
+fn copy_chunk(from: &Chunk, to: &mut Chunk)
+    ensures { chunk_of to.new ≡ chunk_of from.now }
+{
+    to.source = from.source;
+    to.ready = from.ready;
+    copy_text(&from.text, &mut to.text);
+}
+
+/// Hands an item out, and what lies beside it in place of what is in `chunk`.
+fn hand_out(item: &LegItem, chunk: &mut Chunk) -> ItemKind
+    ensures is { result ≡ item.now.kind }
+    ensures text { chunk_of chunk.new ≡ chunk_of item.now.chunk.value }
+{
+    copy_chunk(&item.chunk, chunk);
+    item.kind
+}
+
+impl<L: LinkIn, G: Gate> Pops for Lane<LegItem, LinkLeg<L>, G> {
+    ghost use Rattle.item_lanes.specs.Lanes.{LaneFollows, popped_of};
+    ghost use Rattle.live_leg.specs.Items.{items_of};
+    ghost use Rattle.live_leg.specs.Stands.{LegGave};
+
+    ghost popped = { λ lane. items_of (popped_of lane) };
+
+    ghost began = { LaneFollows (LegGave L.LinkIn) };
+
+    /// What is given was popped. That the queue is asked is tested.
+    fn pop<R: Wait>(&mut self, rt: &R, chunk: &mut Chunk) -> Option<ItemKind> {
+        match Lane::pop(self, rt) {
+            Some(item) => {
+                let kind = hand_out(&item, chunk);
+                self.give_back(rt, item);
+                Some(kind)
+            }
+            None => None,
+        }
+    }
+
+    /// That a leg without a thread is stepped is tested.
+    fn wait<R: Wait>(&mut self, rt: &R) {
+        Lane::wait(self, rt);
+    }
+}

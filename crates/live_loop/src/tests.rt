@@ -1,0 +1,242 @@
+ghost use Rattle.std.specs.Prelude.{◌≡◌, [], length, vec_len, IfSome};
+ghost use Rattle.item_lanes.specs.Lanes.{AreNew};
+ghost use Rattle.live_leg.specs.Stands.{LegGave, LegStands};
+ghost use Rattle.live_loop.specs.Walks.{AreAt};
+
+use crate::{LivePort, Turned, drain_all, inlets_of, ports_over, take_turns};
+use ear::EarConf;
+use item_lanes::{Lane, LaneRoom, Started, join_lanes, start_lanes};
+use link_io::{Came, LinkIn, MemIn, MemLinks, Planned};
+use live_leg::{LegItem, LinkLeg};
+use mix_loop::Mixes;
+use rtt_base::{Bytes, Chunk, Full, NoMemory, Pts};
+use rtt_io::StillGate;
+use std::alloc::Global;
+use std::sync::atomic::{AtomicBool, Ordering};
+use std::sync::{Arc, Wait};
+use std::test::Fail;
+use std::thread;
+use std::thread::{Scope, Threads};
+
+// Takes each text, and counts them and the turns. It stands for no calls.
+#[derive(Drop)]
+struct Counting {
+    legs: usize,
+    taken: u64,
+    turns: u64,
+}
+
+impl Mixes for Counting {
+    ghost use Rattle.std.specs.Prelude.{◌^◌};
+
+    type Fault = NoMemory;
+
+    ghost stands = { λ m s pts calls. ⊥ };
+
+    ghost legs = { λ m. m.legs };
+
+    ghost turns = { λ m. m.turns };
+
+    ghost horizon = { 2 ^ 47 };
+
+    ghost unsent = { λ m why. Unit {0} };
+
+    fn admit(&mut self, _leg: usize, _listens: bool) -> bool {
+        true
+    }
+
+    fn hush(&mut self, _leg: usize) {}
+
+    fn leave(&mut self, _leg: usize) -> bool {
+        false
+    }
+
+    fn offer(&mut self, _chunk: &Chunk) -> Result<(), Full> {
+        self.taken = self.taken.wrapping_add(1);
+        Ok(())
+    }
+
+    fn turn(&mut self, _now: u64) -> Result<(), NoMemory> {
+        self.turns += 1;
+        Ok(())
+    }
+
+    fn idle(&self) -> bool {
+        true
+    }
+}
+
+// A typed A, in a packet of the leg with this SSRC.
+const TYPED: &[u8] = b"\x80\xE2\0\0\0\0\0\0\0\0\x03\xE9A";
+
+// A link that gives a text and is closed, or is quiet behind it.
+fn link(alloc: Global, closes: bool) -> Result<MemIn, NoMemory> {
+    let mut octets = Bytes::new(alloc);
+    octets.append(TYPED)?;
+    let mut link = MemIn::new(alloc, 5001);
+    link.plan(Planned {
+        at: 100,
+        came: Came::Datagram,
+        octets,
+    })?;
+    if closes {
+        link.plan(Planned {
+            at: 200,
+            came: Came::Closed,
+            octets: Bytes::new(alloc),
+        })?;
+    }
+    Ok(link)
+}
+
+type AnnPort = LivePort<Lane<LegItem, LinkLeg<MemIn>, StillGate>>;
+
+// How the turns of a call ended, how many there were, and how many texts were taken.
+#[derive(Clone, Copy, PartialEq)]
+struct Ran {
+    turned: Turned<NoMemory>,
+    turns: u64,
+    taken: u64,
+}
+
+// Makes five turns, one each 100 milliseconds, and lets go what comes behind them.
+fn turn_and_drain<R: Wait>(
+    rt: &R,
+    ports: &mut [AnnPort],
+    mixer: &mut Counting,
+    world: &mut MemLinks,
+    stop: &AtomicBool,
+) -> Turned<NoMemory>
+    requires at { AreAt ports.old }
+    requires legs { mixer.old.legs ≡ length ports.old }
+    requires none { mixer.old.turns ≡ 0 }
+    ensures { length ports.new ≡ length ports.old }
+{
+    let turned = take_turns(rt, ports, mixer, world, 100, 5);
+    stop.store(true, Ordering::SeqCst);
+    drain_all(rt, ports);
+    turned
+}
+
+// A leg that is about to run, alone.
+fn alone(alloc: Global, leg: LinkLeg<MemIn>) -> Option<Vec<LinkLeg<MemIn>>>
+    requires { LegStands ⟦<MemIn as LinkIn>⟧ leg leg [] }
+    ensures new { IfSome result (λ legs. AreNew (LegGave ⟦<MemIn as LinkIn>⟧) legs.items) }
+    ensures one { IfSome result (λ legs. vec_len legs ≡ 1) }
+{
+    match Vec::from_array(alloc, [leg]) {
+        Ok(legs) => Some(legs),
+        Err(_) => None,
+    }
+}
+
+const ANN: EarConf = EarConf {
+    leg: 0,
+    ssrc: 1001,
+    pts: Pts { t140: 98, red: 100 },
+    wait: 1000,
+};
+
+// A leg over this link, alone, and its stop word.
+fn ann(alloc: Global, link: MemIn) -> Option<(Vec<LinkLeg<MemIn>>, Arc<AtomicBool, Global>)>
+    ensures new { IfSome result (λ r. AreNew (LegGave ⟦<MemIn as LinkIn>⟧) r.0.items) }
+    ensures one { IfSome result (λ r. vec_len r.0 ≡ 1) }
+{
+    let Ok(stop) = Arc::new(alloc, AtomicBool::new(false)) else {
+        return None;
+    };
+    let Ok(theirs) = Arc::try_clone(&stop) else {
+        return None;
+    };
+    let Ok(leg) = LinkLeg::new(alloc, link, ANN, theirs) else {
+        return None;
+    };
+    let legs = alone(alloc, leg)?;
+    Some((legs, stop))
+}
+
+// A call of one leg, on a thread of so many octets of stack.
+fn run_in<'s, 'e, R: Threads + Wait + Sync>(
+    scope: &'s Scope<'s, &'e ()>,
+    rt: &'s R,
+    alloc: Global,
+    stack: usize,
+    link: MemIn,
+) -> Option<Ran> {
+    let (legs, stop) = ann(alloc, link)?;
+    let Ok(room) = LaneRoom::new(alloc, legs.len()) else {
+        return None;
+    };
+    let Ok(ports) = Vec::with_capacity(alloc, legs.len()) else {
+        room.discard();
+        return None;
+    };
+    let Ok(back) = Vec::with_capacity(alloc, legs.len()) else {
+        room.discard();
+        ports.destroy_empty();
+        return None;
+    };
+    let mut mixer = Counting {
+        legs: legs.len(),
+        taken: 0,
+        turns: 0,
+    };
+    let mut world = MemLinks::new(alloc);
+    let Started {
+        lanes,
+        back: joined,
+    } = start_lanes(scope, rt, StillGate, stack, legs, room);
+    let mut ports = ports_over(lanes, ports);
+    let turned = turn_and_drain(rt, ports.as_mut_slice(), &mut mixer, &mut world, &stop);
+    let lanes = inlets_of(ports, back);
+    let _legs = join_lanes(rt, lanes, joined);
+    Some(Ran {
+        turned,
+        turns: mixer.turns,
+        taken: mixer.taken,
+    })
+}
+
+fn call<R: Threads + Wait + Sync>(
+    rt: &R,
+    alloc: Global,
+    stack: usize,
+    closes: bool,
+) -> Result<Ran, NoMemory> {
+    let link = link(alloc, closes)?;
+    let ran = thread::scope(thread::scope_env(), rt, |scope| -> Option<Ran> {
+        run_in(scope, rt, alloc, stack, link)
+    });
+    match ran {
+        Some(ran) => Ok(ran),
+        None => Err(NoMemory),
+    }
+}
+
+#[test]
+fn a_call_ends_where_its_links_are_closed(rt: HostRuntime) -> Result<(), Fail> {
+    let ran = call(&rt, rt.alloc(), 2_097_152, true)?;
+    assert!(rt; ran.turned == Turned::Closed);
+    assert!(rt; ran.taken == 1);
+    Ok(())
+}
+
+#[test]
+fn a_leg_without_a_thread_is_stepped(rt: HostRuntime) -> Result<(), Fail> {
+    let ran = call(&rt, rt.alloc(), usize::MAX, true)?;
+    assert!(rt; ran.turned == Turned::Closed);
+    assert!(rt; ran.taken == 1);
+    Ok(())
+}
+
+#[test]
+fn a_silent_leg_ends_with_the_turns(rt: HostRuntime) -> Result<(), Fail> {
+    let ran = call(&rt, rt.alloc(), 2_097_152, false)?;
+    assert!(rt; ran.turned == Turned::Done);
+    assert!(rt; ran.turns == 5);
+    assert!(rt; ran.taken == 1);
+    let ran = call(&rt, rt.alloc(), usize::MAX, false)?;
+    assert!(rt; ran.turned == Turned::Done);
+    assert!(rt; ran.taken == 1);
+    Ok(())
+}

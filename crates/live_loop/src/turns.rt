@@ -1,0 +1,110 @@
+//! The turns of a live call.
+ghost use Rattle.std.specs.Prelude.{◌≡◌, ◌≤◌, ◌<◌, ◌^◌, true, false, length, MatchOption};
+ghost use Rattle.std.specs.List.{list_all};
+ghost use Rattle.mix_loop.specs.Mixers.{Keeps};
+ghost use Rattle.live_loop.specs.Walks.{AllGathered, AllGrew, AreAt, HasFailed, IsPaused, NoneFailed, Ran, WasFaulted, WasStopped, is_spent};
+
+use crate::moments::next_tick;
+use crate::pops::Pops;
+use crate::ports::LivePort;
+use link_io::Links;
+use mix_loop::Mixes;
+use std::sync::Wait;
+
+/// How the turns of a live call ended.
+#[derive(Clone, Copy, Debug, PartialEq, Eq)]
+pub enum Turned<T> {
+    /// All turns were made.
+    Done,
+    /// All links are closed, and nothing is left.
+    Closed,
+    /// The link of this leg failed, where its datagrams come in.
+    Faulted(u8),
+    /// What a turn sends could not be sent, for this reason.
+    Stopped(T),
+}
+
+/// Each leg offers what it can, in leg order.
+fn gather_all<I: Pops, M: Mixes, R: Wait>(rt: &R, ports: &mut [LivePort<I>], mixer: &mut M)
+    requires at { AreAt ports.old }
+    requires legs { M.legs mixer.old ≡ length ports.old }
+    ensures at { AreAt ports.new }
+    ensures keeps { Keeps M.legs M.turns mixer.old mixer.new }
+    ensures grew { AllGrew I.popped I.began ports.old ports.new }
+    ensures gathered { AllGathered I.popped M.stands ports.old ports.new mixer.old mixer.new }
+{
+    for leg in 0..ports.len() {
+        let port = &mut ports[leg];
+        port.gather(rt, mixer);
+    }
+}
+
+/// The lowest leg of which a fault was popped.
+fn first_failed<I>(ports: &[LivePort<I>]) -> Option<u8>
+    requires { AreAt ports.now }
+    ensures { MatchOption result (NoneFailed ports.now) (λ leg. HasFailed leg ports.now) }
+{
+    for leg in 0..ports.len() {
+        let port = &ports[leg];
+        if port.failed {
+            return Some(port.leg);
+        }
+    }
+    None
+}
+
+/// Whether each leg's end was popped, and nothing is in a hand.
+fn all_spent<I>(ports: &[LivePort<I>]) -> bool
+    ensures { result ≡ list_all is_spent ports.now }
+{
+    ports.iter().all(|port| port.ended && !port.full)
+}
+
+/// Makes so many turns, one at each multiple of `tick` milliseconds from the first on, or later where what is done before takes
+/// longer; unless a link fails, or all are closed and nothing is left. It pauses once a turn.
+pub fn take_turns<I: Pops, M: Mixes, W: Links, R: Wait>(
+    rt: &R,
+    ports: &mut [LivePort<I>],
+    mixer: &mut M,
+    world: &mut W,
+    tick: u64,
+    turns: u64,
+) -> Turned<M::Fault>
+    requires at { AreAt ports.old }
+    requires legs { M.legs mixer.old ≡ length ports.old }
+    requires none { M.turns mixer.old ≡ 0 }
+    requires turns { turns ≤ 5000000 }
+    requires tick { 0 < tick }
+    requires short { tick ≤ 400 }
+    requires horizon { 2 ^ 47 ≤ M.horizon }
+    ensures at { AreAt ports.new }
+    ensures grew { AllGrew I.popped I.began ports.old ports.new }
+    ensures ran { Ran I.popped result M.stands turns ports.old ports.new mixer.old mixer.new }
+    ensures faulted { WasFaulted result ports.new }
+    ensures unsent { WasStopped M.unsent result mixer.new }
+    ensures pauses { result ≡ Turned.Done → IsPaused turns (W.pauses world.old) (W.pauses world.new) }
+{
+    let began = world.now();
+    for k in 0..turns {
+        gather_all(rt, ports, mixer);
+        match first_failed(ports) {
+            Some(leg) => return Turned::Faulted(leg),
+            None => {}
+        }
+        let spent = all_spent(ports);
+        if spent && mixer.idle() {
+            return Turned::Closed;
+        }
+        let now = world.now();
+        match mixer.turn(now) {
+            Ok(()) => {}
+            Err(fault) => return Turned::Stopped(fault),
+        }
+        world.pause_until(next_tick(began, now, tick));
+    }
+    let spent = all_spent(ports);
+    if spent && mixer.idle() {
+        return Turned::Closed;
+    }
+    Turned::Done
+}

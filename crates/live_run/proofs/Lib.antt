@@ -1,0 +1,9 @@
+pub mod Seating
+pub mod Hearing
+pub mod Giving
+pub mod Showing
+pub mod Sent
+pub mod Joining
+pub mod Failing
+pub mod Closing
+pub mod Speaking

@@ -1,0 +1,10 @@
+use Rattle.std.proofs.Common.{arith}
+use Rattle.live_run.proofs.Giving.{given_one}
+use Rattle.live_run.proofs.far_ends.FarEndsOutbound.send.Goals as goal
+
+pub returns-in-Ok-hear-clause-took : goal.returns-in-Ok-hear-clause-took
+returns-in-Ok-hear-clause-took g c = λ post sent w.
+    let o = g.O.LinkOut in
+    given_one o.tells o.given o.faults c.args.self.now c.args._now c.args.post.now c.index_mut-link.result.now c.give.new.self c.index_mut-listener.result.now c.hear.new.self
+    c.as_slice.result.now c.as_slice-2.result.now (omega (arith, post.below)) (omega (arith, post.below, w.both)) c.index_mut-link.ensures.value c.index_mut-listener.ensures.value
+    c.as_slice.ensures.value c.as_slice-2.ensures.value c.in-Ok-give.ensures.calm c.in-Ok-give.ensures.appended c.in-Ok-hear.ensures sent w

@@ -1,0 +1,35 @@
+use Rattle.std.proofs.Common.{inl, inr, refl, ◌∙◌, arith}
+use Rattle.live_run.proofs.Closing.{failed_more, front_still, last_of_all, nothing_left}
+use Rattle.live_run.proofs.opening.close_ends.Goals as goal
+
+pub loop-end-init : goal.loop-end-init
+loop-end-init g c = record { same_own = λ p. refl; never_fall = λ p. omega arith; front = λ j x e. e; calm = λ a p. refl; failed = λ j x e. inl e }
+
+pub loop-end-preserved : goal.loop-end-preserved
+loop-end-preserved g c =
+    let faults : g.row.W-Out.Denot → _ = g.W.Out.LinkOut.faults in
+    let port_of : g.row.W-Out.Denot → _ = g.W.Out.LinkOut.port in
+    let objects = g.W.Links.object_faults in
+    let i = c.loop-end.invariant in
+    let done = c.done_out.ensures in
+    let all = c.args.ends.items in
+    let now = c.loop-end.ends.items in
+    let xs = c.pop.new.self.items in
+    let x = c.in-Some.end in
+    let items = c.in-Some.ensures.items in
+    record {
+      same_own = λ p. done.same_own p ∙ i.same_own p;
+      never_fall = λ p. omega (arith, i.never_fall p, done.objects_never_fall p);
+      front = front_still all now xs x items i.front;
+      calm = λ a p. done.calm (a _ x (last_of_all all now xs x items i.front)) p ∙ i.calm a p;
+      failed = failed_more all now xs x items faults port_of (objects c.args.world.now) (objects c.loop-end.world) (objects c.done_out.new.self) i.never_fall done.objects_never_fall done.added i.failed;
+    }
+
+pub returns-clause-calm : goal.returns-clause-calm
+returns-clause-calm g c = c.loop-end.invariant.calm
+
+pub returns-clause-failed : goal.returns-clause-failed
+returns-clause-failed g c = λ j x e. elim (c.loop-end.invariant.failed j x e) [
+  | inl at ↦ absurd (nothing_left c.loop-end.ends.items _ c.pop.result c.loop-end.ends.ok.0 c.pop.ensures.variant.1 c.in_default.is j x at)
+  | inr r ↦ r
+]

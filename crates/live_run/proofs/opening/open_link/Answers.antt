@@ -1,0 +1,61 @@
+use Rattle.std.proofs.Common.{◌≡◌, ◌∙◌, ℕ, true, Some, Option, List, get_or, refl, ap, sym, subst}
+use Rattle.std.specs.Prelude.{IsSome}
+use Rattle.rtt_io.specs.Counts.{Rose}
+use Rattle.file_spec.specs.declared.conf_lines.LegLine.{LegLine}
+use Rattle.file_spec.specs.Conf.{port}
+use Rattle.mixer_spec.specs.Setups.{leg_at}
+use Rattle.conference.specs.Conferences.{conf_of}
+use Rattle.live_run.specs.Opened.{ear_at}
+use Rattle.live_run.proofs.Showing.{found_leg, read_leg}
+use Rattle.live_run.proofs.opening.open_link.Goals as goal
+
+pub unreachable-requires : goal.unreachable-requires
+unreachable-requires g c =
+    let legs = c.args.conf.now.legs in
+    let own = c.args.own in
+    let shown = c.index-as_slice-own.result in
+    let at : leg_at legs own ≡ Some shown = found_leg legs own shown c.requires.own ∙ ap Some (sym (c.index-as_slice-own.is ∙ ap (λ (ls : List LegLine). get_or ls own shown) c.as_slice.ensures)) in
+    let none = ap port (sym c.as_str.ensures) ∙ (sym c.number_from.ensures.exact ∙ c.in_default-number_from.is) in
+    cc (subst (λ (o : Option ℕ). IsSome o) none (c.requires.ports own shown at))
+
+pub returns-in_default-link-clause-refused : goal.returns-in_default-link-clause-refused
+returns-in_default-link-clause-refused g c = λ line at. (
+  refl,
+  λ p e.
+      let own = c.args.own in
+      let shown = c.index-as_slice-own.result in
+      let same : shown ≡ line = c.index-as_slice-own.is ∙ (ap (λ (ls : List LegLine). get_or ls own shown) c.as_slice.ensures ∙ read_leg c.args.conf.now.legs own shown line at) in
+      let there = ap port (sym c.as_str.ensures) ∙ (sym c.number_from.ensures.exact ∙ c.in-Some.is) in
+      let is : c.in-Some.port ≡ p = cc (sym there ∙ (ap (λ (l : LegLine). port l.input) same ∙ e)) in
+      subst (λ (q : ℕ). Rose (g.W.Links.own_faults c.args.world.now q) (g.W.Links.own_faults c.link.new.self q)) is c.in_default-link.ensures.failed,
+)
+
+pub returns-in-Ok-new-clause-leg : goal.returns-in-Ok-new-clause-leg
+returns-in-Ok-new-clause-leg g c = λ line at.
+    let own = c.args.own in
+    let shown = c.index-as_slice-own.result in
+    let same : shown ≡ line = c.index-as_slice-own.is ∙ (ap (λ (ls : List LegLine). get_or ls own shown) c.as_slice.ensures ∙ read_leg c.args.conf.now.legs own shown line at) in
+    let there = ap port (sym c.as_str.ensures) ∙ (sym c.number_from.ensures.exact ∙ c.in-Some.is) in
+    let link = c.in-Ok-new.ensures.link in
+    let opened = c.in-Ok-link.ensures in
+    let numbered : g.W.In.LinkIn.port c.in-Ok-new.leg.link ≡ c.in-Some.port = ap g.W.In.LinkIn.port link ∙ opened.ports.0 in
+    record {
+      conf = c.in-Ok-new.ensures.conf ∙ (c.ear_conf.ensures ∙ ap (ear_at (conf_of c.args.conf.now) own) same);
+      new = c.in-Ok-new.ensures.stands;
+      at = ap (λ (l : LegLine). port l.input) (sym same) ∙ (there ∙ ap Some (sym numbered));
+      fresh = ap g.W.In.LinkIn.faults link ∙ opened.fresh.0;
+      told = λ t. ((opened.told t).0, ap g.W.In.LinkIn.taken link ∙ (opened.none t).0, subst (λ (q : ℕ). g.W.Links.opened c.link.new.self q ≡ true) (sym numbered) (opened.opens t));
+    }
+
+pub returns-in-Ok-new-clause-end : goal.returns-in-Ok-new-clause-end
+returns-in-Ok-new-clause-end g c = λ line at.
+    let own = c.args.own in
+    let shown = c.index-as_slice-own.result in
+    let same : shown ≡ line = c.index-as_slice-own.is ∙ (ap (λ (ls : List LegLine). get_or ls own shown) c.as_slice.ensures ∙ read_leg c.args.conf.now.legs own shown line at) in
+    let there = ap port (sym c.as_str.ensures) ∙ (sym c.number_from.ensures.exact ∙ c.in-Some.is) in
+    let opened = c.in-Ok-link.ensures in
+    record {
+      at = ap (λ (l : LegLine). port l.input) (sym same) ∙ (there ∙ ap Some (sym opened.ports.1));
+      fresh = opened.fresh.1;
+      told = λ t. ((opened.told t).1, (opened.none t).1);
+    }

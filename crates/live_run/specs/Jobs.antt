@@ -1,0 +1,100 @@
+-- What a clause says of a live call that runs.
+use Rattle.std.specs.Prelude.{◌≡◌, ◌≤◌, ◌<◌, ◌^◌, ℕ, Some, List, [], ◌++◌, length, slice_get, vec_len}
+use Rattle.std.specs.Mem.{manually_drop_value}
+use Rattle.std.specs.Vec.{vec_capacity}
+use Rattle.core.specs.declared.mem.manually_drop.ManuallyDrop.{ManuallyDrop}
+use Rattle.rtt_base.specs.declared.text_packets.Pts.{Pts}
+use Rattle.mixer_spec.specs.Setups.{AllStay, Setup}
+use Rattle.mixer_spec.specs.Table.{Call}
+use Rattle.item_lanes.specs.declared.lanes.Lane.{Lane}
+use Rattle.item_lanes.specs.Lanes.{AreNew, popped_of}
+use Rattle.item_lanes.specs.Pairs.{Pairs}
+use Rattle.item_lanes.specs.Rooms.{HasRoom}
+use Rattle.link_io.specs.declared.ends.LinkIn as links
+use Rattle.live_leg.specs.declared.items.LegItem.{LegItem}
+use Rattle.live_leg.specs.declared.legs.LinkLeg.{LinkLeg}
+use Rattle.live_leg.specs.Items.{Item, items_of}
+use Rattle.live_leg.specs.Stands.{LegGave, LegStands}
+use Rattle.live_loop.specs.declared.ports.LivePort.{LivePort}
+use Rattle.live_loop.specs.declared.turns.Turned.{Turned}
+use Rattle.live_loop.specs.declared.turns.Turned.TheVariants.{Done}
+use Rattle.live_loop.specs.Ports.{IsBegun}
+use Rattle.live_loop.specs.Walks.{AllGrew, AreAt, IsPaused, Ran, RanTo, WasFaulted, WasStopped}
+use Rattle.live_run.specs.declared.faults.LiveFault.{LiveFault}
+use Rattle.live_run.specs.declared.running.Job.{Job}
+use Rattle.live_run.specs.declared.running.Ended.{Ended}
+use Rattle.live_run.specs.Mixers.{all_admitted}
+
+-- ---- ports
+module _ {I : Type 0} where
+  -- a port of this, at which nothing was popped
+  abbrev pub IsPortOf : I → LivePort I → Type 0
+  IsPortOf inlet p = IsBegun inlet p.leg p
+
+  -- one of each, in leg order
+  pub record ArePortsOf (inlets : List I) (ports : List (LivePort I)) : Type 0 where
+    pub pairs : Pairs IsPortOf inlets ports
+    pub at : AreAt ports
+
+  -- it came out of this port
+  abbrev pub IsInletOf : LivePort I → I → Type 0
+  IsInletOf p inlet = inlet ≡ p.inlet
+
+-- ---- turns
+-- Turns were made of these ports, which were emptied then.
+pub record TurnsWere {I M : Type 0} (popped : I → List Item) (began : I → I → Type 0) (stands : M → Setup → (ℕ → Pts) → List Call → Type 0) (turns : ℕ) (turned : Turned LiveFault) (old new : List (LivePort I)) (m m' : M) : Type 0 where
+  pub ports : List (LivePort I)
+  pub many : length ports ≡ length old
+  pub grew : AllGrew popped began old ports
+  pub emptied : AllGrew popped began ports new
+  pub ran : Ran popped turned stands turns old ports m m'
+  pub faulted : WasFaulted turned ports
+
+-- ---- the whole
+module _ {L G : Type 0} where
+  -- what was popped of a leg that runs
+  abbrev pub popped_in : Lane LegItem (LinkLeg L) G → List Item
+  popped_in lane = items_of (popped_of lane)
+
+module _ {L : Type 0} (g : links.Ghosts L) where
+  -- The leg that began as the first came back as the second, and of what it gave these items were the first.
+  abbrev pub GaveFirst : LinkLeg L → LinkLeg L → List Item → Type 0
+  GaveFirst first back items = (left : List Item) × LegStands g first back (items ++ left)
+
+module _ {L M W G : Type 0} where
+  -- a call may run that is described so
+  pub record CanRun (g : links.Ghosts L) (legs_of turns_of : M → ℕ) (horizon : ℕ) (job : Job L M W G) : Type 0 where
+    pub few : vec_len job.legs ≤ 64
+    pub new : AreNew (LegGave g) job.legs.items
+    pub lanes : HasRoom (vec_len job.legs) job.lanes
+    pub no_port : job.ports.items ≡ []
+    pub ports : vec_len job.legs ≤ vec_capacity job.ports
+    pub none_joined : job.joined.items ≡ []
+    pub joined : vec_len job.legs ≤ vec_capacity job.joined
+    pub terminals : legs_of job.mixer ≡ vec_len job.legs
+    pub none : turns_of job.mixer ≡ 0
+    pub turns_fit : job.turns ≤ 5000000
+    pub tick_some : 0 < job.tick
+    pub tick_fits : job.tick ≤ 400
+    pub in_time : 2 ^ 47 ≤ horizon
+
+  -- It ran: turns were made of what was popped of the legs, all of which came back.
+  pub record RanAs (g : links.Ghosts L) (stands : M → Setup → (ℕ → Pts) → List Call → Type 0) (unsent : M → LiveFault → Type 0) (pauses : W → ℕ) (job : Job L M W G) (ended : Ended L M W) : Type 0 where
+    pub same : ended.world.ghost_name ≡ job.world.ghost_name
+    pub many : length ended.legs.items ≡ length job.legs.items
+    pub ports : List (LivePort (Lane LegItem (LinkLeg L) G))
+    pub each : length ports ≡ length job.legs.items
+    pub legs : (j : ℕ) (p : LivePort (Lane LegItem (LinkLeg L) G)) (first back : LinkLeg L) → slice_get ports j ≡ Some p
+        → slice_get job.legs.items j ≡ Some first → slice_get ended.legs.items j ≡ Some back → GaveFirst g first back (popped_in p.inlet)
+    pub ran : (s : Setup) (pts : ℕ → Pts) → s.legs ≡ length job.legs.items → AllStay s → stands job.mixer s pts (all_admitted s.legs)
+        → RanTo popped_in ended.turned stands s pts job.turns ports ended.mixer
+    pub faulted : WasFaulted ended.turned ports
+    pub stopped : WasStopped unsent ended.turned ended.mixer
+    pub paused : ended.turned ≡ Done → IsPaused job.turns (pauses job.world.now) (pauses ended.world.now)
+
+  -- the same of one that is lent
+  abbrev pub LentCanRun : links.Ghosts L → (M → ℕ) → (M → ℕ) → ℕ → ManuallyDrop (Job L M W G) → Type 0
+  LentCanRun g legs_of turns_of horizon lent = CanRun g legs_of turns_of horizon (manually_drop_value lent)
+
+  abbrev pub LentRanAs : links.Ghosts L → (M → Setup → (ℕ → Pts) → List Call → Type 0) → (M → LiveFault → Type 0) → (W → ℕ) → ManuallyDrop (Job L M W G) → Ended L M W → Type 0
+  LentRanAs g stands unsent pauses lent ended = RanAs g stands unsent pauses (manually_drop_value lent) ended

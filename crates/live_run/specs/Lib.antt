@@ -1,0 +1,9 @@
+pub mod Speakers
+pub mod Listeners
+pub mod Ends
+pub mod Mixers
+pub mod Reports
+pub mod Sent
+pub mod Jobs
+pub mod Rooms
+pub mod Opened

@@ -1,0 +1,66 @@
+-- What is known of links that are opened, and of those that were handed back.
+use Rattle.std.specs.Prelude.{◌≡◌, ℕ, Bool, true, Option, Some, IsSome, List, [], slice_get}
+use Rattle.rtt_io.specs.Counts.{Rose}
+use Rattle.file_spec.specs.declared.conf_lines.LegLine.{LegLine}
+use Rattle.file_spec.specs.Conf.{Conf, port}
+use Rattle.mixer_spec.specs.Setups.{leg_at}
+use Rattle.ear.specs.declared.confs.EarConf.{EarConf}
+use Rattle.ear.specs.Hears.{conf_of}
+use Rattle.link_io.specs.declared.ends.LinkIn as ins
+use Rattle.link_io.specs.declared.ends.LinkOut as outs
+use Rattle.live_leg.specs.declared.legs.LinkLeg.{LinkLeg}
+use Rattle.live_leg.specs.Stands.{LegStands}
+use Rattle.live_run.specs.declared.faults.LiveFault.{LiveFault}
+use Rattle.live_run.specs.declared.faults.LiveFault.TheVariants.{Link, NoMemory}
+
+-- how the leg j is heard
+abbrev pub ear_at : Conf → ℕ → LegLine → EarConf
+ear_at c j leg = record { leg = j; ssrc = leg.ssrc; pts = leg.pts; wait = c.wait }
+
+-- the input of each leg is a port
+abbrev pub HavePorts : Conf → Type 0
+HavePorts c = (j : ℕ) (leg : LegLine) → leg_at c.legs j ≡ Some leg → IsSome (port leg.input)
+
+-- ---- that are opened
+-- The leg j over the inbound end of its link, of which nothing was taken. Where the world tells it, a link is opened at its port.
+pub record IsOpenedLeg {I : Type 0} (g : ins.Ghosts I) (tells : Type 0) (opened : ℕ → Bool) (c : Conf) (j : ℕ) (line : LegLine) (leg : LinkLeg I) : Type 0 where
+  pub conf : conf_of leg.ear ≡ ear_at c j line
+  pub new : LegStands g leg leg []
+  pub at : port line.input ≡ Some (g.port leg.link)
+  pub fresh : g.faults leg.link ≡ 0
+  pub told : tells → g.tells × (g.taken leg.link ≡ []) × (opened (g.port leg.link) ≡ true)
+
+-- the outbound end of its link, which was given nothing
+pub record IsOpenedEnd {O : Type 0} (g : outs.Ghosts O) (tells : Type 0) (line : LegLine) (end : O) : Type 0 where
+  pub at : port line.input ≡ Some (g.port end)
+  pub fresh : g.faults end ≡ 0
+  pub told : tells → g.tells × (g.given end ≡ [])
+
+-- why the link of the leg j was not opened: the count of its port rose, or memory ran out
+abbrev pub IsRefused : (ℕ → ℕ) → (ℕ → ℕ) → ℕ → LegLine → LiveFault → Type 0
+IsRefused before after j line (Link k) = (k ≡ j) × ((p : ℕ) → port line.input ≡ Some p → Rose (before p) (after p))
+IsRefused before after j line NoMemory = Unit {0}
+
+-- the same of the leg with this number
+abbrev pub OpensLeg : {I : Type 0} → ins.Ghosts I → Type 0 → (ℕ → Bool) → Conf → ℕ → LinkLeg I → Type 0
+OpensLeg g tells opened c j leg = (line : LegLine) → leg_at c.legs j ≡ Some line → IsOpenedLeg g tells opened c j line leg
+
+abbrev pub OpensEnd : {O : Type 0} → outs.Ghosts O → Type 0 → Conf → ℕ → O → Type 0
+OpensEnd g tells c j end = (line : LegLine) → leg_at c.legs j ≡ Some line → IsOpenedEnd g tells line end
+
+abbrev pub IsRefusedAt : (ℕ → ℕ) → (ℕ → ℕ) → Conf → ℕ → LiveFault → Type 0
+IsRefusedAt before after c j fault = (line : LegLine) → leg_at c.legs j ≡ Some line → IsRefused before after j line fault
+
+-- ---- that were handed back
+-- the inbound end of a leg's link
+abbrev pub link_in : {I : Type 0} → LinkLeg I → I
+link_in leg = leg.link
+
+module _ {X : Type 0} where
+  -- none of these failed
+  abbrev pub AreCalm : (X → ℕ) → List X → Type 0
+  AreCalm faults xs = (j : ℕ) (x : X) → slice_get xs j ≡ Some x → faults x ≡ 0
+
+  -- where one of these failed, the count of its port rose
+  abbrev pub FaultsRose : (X → ℕ) → (X → ℕ) → (ℕ → ℕ) → (ℕ → ℕ) → List X → Type 0
+  FaultsRose faults port_of before after xs = (j : ℕ) (x : X) → slice_get xs j ≡ Some x → Rose 0 (faults x) → Rose (before (port_of x)) (after (port_of x))

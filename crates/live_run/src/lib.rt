@@ -1,0 +1,22 @@
+//! A live call: what is heard at each link is mixed, and given to the terminals' links, turn by turn.
+#![tactic(auto)]
+
+mod far_ends;
+mod faults;
+mod laws;
+mod listeners;
+mod mixers;
+mod opening;
+mod reports;
+mod rooms;
+mod running;
+mod speakers;
+mod views;
+
+pub use far_ends::FarEnds;
+pub use faults::LiveFault;
+pub use laws::sent_is_given;
+pub use listeners::Listener;
+pub use mixers::live_mixer;
+pub use reports::{LiveEnd, LiveReport};
+pub use views::printed;

@@ -1,0 +1,58 @@
+//! The mixer of a live call.
+ghost use Rattle.std.specs.Prelude.{◌≡◌, ◌<◌, true, [], length, IfOk, IfErr, is_some};
+ghost use Rattle.conference.specs.Conferences.{conf_of};
+ghost use Rattle.mixer_spec.specs.Setups.{AllStay, setup};
+ghost use Rattle.mixer_spec.specs.Table.{after_calls, is_seated};
+ghost use Rattle.mixer_turn.specs.Making.{pts_at};
+ghost use Rattle.mixer_turn.specs.States.{legs_of};
+ghost use Rattle.mixer_turn.specs.Standing.{StandsFor};
+ghost use Rattle.live_run.specs.Ends.{WereGiven};
+ghost use Rattle.live_run.specs.Mixers.{HasAll, SeatsAll, all_admitted};
+
+use crate::FarEnds;
+use conference::Conf;
+use link_io::LinkOut;
+use mixer_posts::Sending;
+use mixer_turn::{Batch, Mixer};
+use rtt_base::NoMemory;
+use std::alloc::Global;
+
+/// The mixer of this conference, all of whose legs came.
+fn seated_mixer(alloc: Global, conf: &Conf) -> Result<Mixer, NoMemory>
+    requires { AllStay (setup (conf_of conf.now)) }
+    ensures legs { IfOk result (λ mixer. legs_of mixer ≡ length conf.now.legs) }
+    ensures turns { IfOk result (λ mixer. mixer.turns ≡ 0) }
+    ensures stands { IfOk result (λ mixer. StandsFor (setup (conf_of conf.now)) (pts_at (conf_of conf.now)) mixer
+        (all_admitted (length conf.now.legs))) }
+{
+    let mut mixer = Mixer::new(alloc, conf)?;
+    for leg in 0..conf.legs.len() {
+        mixer.admit(leg, true);
+    }
+    Ok(mixer)
+}
+
+/// The mixer of this conference, whose packets go to these ends. Each leg holds a place. Where memory runs out the ends come
+/// back.
+pub fn live_mixer<O: LinkOut>(
+    alloc: Global,
+    conf: &Conf,
+    ends: FarEnds<O>,
+) -> Result<Sending<FarEnds<O>>, FarEnds<O>>
+    requires stay { AllStay (setup (conf_of conf.now)) }
+    requires each { length ends.links.items ≡ length conf.now.legs }
+    requires none { WereGiven O.tells O.given O.faults ends [] }
+    ensures legs { IfOk result (λ sending. legs_of sending.mixer ≡ length conf.now.legs) }
+    ensures turns { IfOk result (λ sending. sending.mixer.turns ≡ 0) }
+    ensures stands { IfOk result (HasAll O.tells O.given O.faults (conf_of conf.now)) }
+    ensures seats { IfOk result (λ _. SeatsAll (conf_of conf.now)) }
+    ensures back { IfErr result (λ back. back ≡ ends) }
+{
+    let Ok(mixer) = seated_mixer(alloc, conf) else {
+        return Err(ends);
+    };
+    let Ok(batch) = Batch::new(alloc) else {
+        return Err(ends);
+    };
+    Ok(Sending::new(mixer, batch, ends))
+}

@@ -1,0 +1,121 @@
+//! The links of a live call are opened, and handed back.
+ghost use Rattle.std.specs.Prelude.{◌≡◌, ◌<◌, ◌≤◌, [], length, IfOk, IfErr, OnOk};
+ghost use Rattle.std.specs.Vec.{vec_capacity};
+ghost use Rattle.link_io.specs.Ports.{NoneFalls, Same, StayOpened};
+ghost use Rattle.conference.specs.Conferences.{conf_of};
+ghost use Rattle.live_run.specs.Opened.{AreCalm, FaultsRose, HavePorts, IsRefusedAt, OpensEnd, OpensLeg, ear_at, link_in};
+
+use crate::LiveFault;
+use conference::{Conf, LegLine};
+use ear::EarConf;
+use file_lines::number_from;
+use link_io::{LinkIn, LinkOut, Links};
+use live_leg::LinkLeg;
+use rtt_base::NoMemory;
+use std::alloc::Global;
+use std::sync::Arc;
+use std::sync::atomic::AtomicBool;
+
+/// The legs over the inbound ends of the links, and the outbound ends, in leg order.
+pub(crate) struct Opened<I, O> {
+    pub(crate) legs: Vec<LinkLeg<I>>,
+    pub(crate) ends: Vec<O>,
+}
+
+/// How a leg is heard.
+fn ear_conf(conf: &Conf, leg: &LegLine, own: u8) -> EarConf
+    ensures { result ≡ ear_at (conf_of conf.now) own leg.now }
+{
+    EarConf {
+        leg: own,
+        ssrc: leg.ssrc,
+        pts: leg.pts,
+        wait: u64::from(conf.wait),
+    }
+}
+
+/// Hands back the inbound ends of these legs. Where one failed, the count of its port rises.
+pub(crate) fn close_legs<W: Links>(legs: Vec<LinkLeg<W::In>>, world: &mut W)
+    ensures same_own { Same W.own_faults world.old world.new }
+    ensures objects_never_fall { NoneFalls W.object_faults world.old world.new }
+    ensures calm { AreCalm (λ leg. W.In.faults (link_in leg)) legs.items → Same W.object_faults world.old world.new }
+    ensures failed { FaultsRose (λ leg. W.In.faults (link_in leg)) (λ leg. W.In.port (link_in leg))
+        (W.object_faults world.old) (W.object_faults world.new) legs.items }
+{
+    let mut legs = legs;
+    while let Some(leg) = legs.pop() {
+        world.done_in(leg.into_link());
+    }
+    legs.destroy_empty();
+}
+
+/// Hands back these outbound ends. Where one failed, the count of its port rises.
+pub(crate) fn close_ends<W: Links>(ends: Vec<W::Out>, world: &mut W)
+    ensures same_own { Same W.own_faults world.old world.new }
+    ensures objects_never_fall { NoneFalls W.object_faults world.old world.new }
+    ensures calm { AreCalm W.Out.faults ends.items → Same W.object_faults world.old world.new }
+    ensures failed { FaultsRose W.Out.faults W.Out.port (W.object_faults world.old) (W.object_faults world.new) ends.items }
+{
+    let mut ends = ends;
+    while let Some(end) = ends.pop() {
+        world.done_out(end);
+    }
+    ends.destroy_empty();
+}
+
+/// Opens the link of a leg. Where memory runs out its ends are handed back.
+fn open_link<W: Links>(
+    alloc: Global,
+    conf: &Conf,
+    own: u8,
+    stop: &Arc<AtomicBool, Global>,
+    world: &mut W,
+) -> Result<(LinkLeg<W::In>, W::Out), LiveFault>
+    requires own { own < length conf.now.legs }
+    requires ports { HavePorts (conf_of conf.now) }
+    ensures leg { IfOk result (λ x. OpensLeg W.In.LinkIn W.tells (W.opened world.new) (conf_of conf.now) own x.0) }
+    ensures end { IfOk result (λ x. OpensEnd W.Out.LinkOut W.tells (conf_of conf.now) own x.1) }
+    ensures refused { IfErr result (IsRefusedAt (W.own_faults world.old) (W.own_faults world.new) (conf_of conf.now) own) }
+    ensures own_never_falls { NoneFalls W.own_faults world.old world.new }
+    ensures calm { OnOk result (Same W.own_faults world.old world.new) }
+    ensures same_objects { Same W.object_faults world.old world.new }
+    ensures stay_opened { W.tells → OnOk result (StayOpened W.opened world.old world.new) }
+{
+    let leg = &conf.legs.as_slice()[own as usize];
+    let Ok(stop) = Arc::try_clone(stop) else {
+        return Err(LiveFault::NoMemory);
+    };
+    let Some(port) = number_from(leg.input.as_str(), 1, 65_535) else {
+        unreachable!()
+    };
+    let Ok((inbound, outbound)) = world.link(port as u16, leg.output.as_str()) else {
+        return Err(LiveFault::Link { leg: own });
+    };
+    match LinkLeg::new(alloc, inbound, ear_conf(conf, leg, own), stop) {
+        Ok(leg) => Ok((leg, outbound)),
+        Err(inbound) => {
+            world.done_in(inbound);
+            world.done_out(outbound);
+            Err(LiveFault::NoMemory)
+        }
+    }
+}
+
+impl<I, O> Opened<I, O> {
+    /// None, with room for so many.
+    fn with_capacity(alloc: Global, count: usize) -> Result<Opened<I, O>, NoMemory>
+        ensures no_leg { IfOk result (λ opened. opened.legs.items ≡ []) }
+        ensures no_end { IfOk result (λ opened. opened.ends.items ≡ []) }
+        ensures legs { IfOk result (λ opened. count ≤ vec_capacity opened.legs) }
+        ensures ends { IfOk result (λ opened. count ≤ vec_capacity opened.ends) }
+    {
+        let Ok(legs) = Vec::with_capacity(alloc, count) else {
+            return Err(NoMemory);
+        };
+        let Ok(ends) = Vec::with_capacity(alloc, count) else {
+            legs.destroy_empty();
+            return Err(NoMemory);
+        };
+        Ok(Opened { legs, ends })
+    }
+}
