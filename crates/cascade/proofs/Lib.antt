@@ -1,0 +1,5 @@
+mod Adding
+mod Gathering
+mod Hearing
+mod Refusing
+mod Splitting

@@ -1,0 +1,22 @@
+use Rattle.std.proofs.Common.{[], ap, sym, ◌∙◌}
+use Rattle.std.specs.Prelude.{map}
+use Rattle.wire_spec.specs.Dump.{Recording, arrivals_after}
+use Rattle.cascade_spec.specs.Splitting.{split}
+use Rattle.cascade.specs.Splits.{trunk_of}
+use Rattle.cascade.proofs.splits.split_from.Goals as goal
+
+pub listen-requires-clause-listens : goal.listen-requires-clause-listens
+listen-requires-clause-listens g c = (trunk_of c.args.ssrc c.args.conf, c.args.sources.now, [], c.in-Ok.ensures.listens c.args.conf.limit)
+
+pub finish-requires : goal.finish-requires
+finish-requires g c =
+    let t = trunk_of c.args.ssrc c.args.conf in
+    let all = c.in_default-listen.ensures.hears in
+    record { listens = (t, c.args.sources.now, arrivals_after t.ssrc t.pts [] all.items, all.hears t c.args.sources.now [] (c.in-Ok.ensures.listens c.args.conf.limit)) }
+
+pub returns-in-Ok-finish-clause-splits : goal.returns-in-Ok-finish-clause-splits
+returns-in-Ok-finish-clause-splits g c = λ told.
+    let t = trunk_of c.args.ssrc c.args.conf in
+    let all = c.in_default-listen.ensures.hears in
+    c.in-Ok-finish.ensures.splits t c.args.sources.now (arrivals_after t.ssrc t.pts [] all.items) (all.hears t c.args.sources.now [] (c.in-Ok.ensures.listens c.args.conf.limit))
+    ∙ ap (λ (q : Recording). map (split t.pts t.wait (arrivals_after t.ssrc t.pts [] q.items)) c.args.sources.now) (sym (all.is told))

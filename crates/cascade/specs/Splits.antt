@@ -1,0 +1,37 @@
+-- What a recording was split into.
+use Rattle.std.specs.Prelude.{◌≡◌, ℕ, None, List, [], map}
+use Rattle.wire_spec.specs.Packets.{Arrival}
+use Rattle.wire_spec.specs.Dump.{Item, Recording, arrivals_after, arrivals_with}
+use Rattle.cascade_spec.specs.Splitting.{Trunk, split}
+use Rattle.cascade.specs.declared.dividers.Divider.{Divider}
+use Rattle.cascade.specs.declared.splits.Splits.{Splits}
+use Rattle.cascade.specs.declared.splits.TrunkConf.{TrunkConf}
+use Rattle.cascade.specs.Dividers.{Listens}
+
+-- the octets of each recording
+abbrev pub recordings_of : Splits → List (List ℕ)
+recordings_of s = map (λ x. x.octets) s.splitters.items
+
+-- how the recording is read that is split
+abbrev pub trunk_of : ℕ → TrunkConf → Trunk
+trunk_of ssrc c = record { ssrc = ssrc; pts = c.pts; wait = c.wait; limit = c.limit }
+
+-- this record came
+abbrev pub TakesItem : Divider → Divider → Item → Type 0
+TakesItem old new item =
+    (t : Trunk) (sources : List ℕ) (past : List Arrival) → Listens old t sources past → Listens new t sources (arrivals_with t.ssrc t.pts item past)
+
+-- these records came, oldest first
+abbrev pub TakesItems : Divider → Divider → List Item → Type 0
+TakesItems old new items =
+    (t : Trunk) (sources : List ℕ) (past : List Arrival) → Listens old t sources past → Listens new t sources (arrivals_after t.ssrc t.pts past items)
+
+-- some records came; those of this recording, which has no fault, where this tells it
+pub record HearsAll (tells : Type 0) (recording : Recording) (before after : Divider) : Type 0 where
+  pub items : List Item
+  pub hears : TakesItems before after items
+  pub is : tells → recording ≡ record { items = items; fault = None }
+
+-- the recordings of these sources out of these records
+abbrev pub SplitsAs : Trunk → List ℕ → Recording → Splits → Type 0
+SplitsAs t sources recording s = recordings_of s ≡ map (split t.pts t.wait (arrivals_after t.ssrc t.pts [] recording.items)) sources

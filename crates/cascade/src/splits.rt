@@ -1,0 +1,161 @@
+//! A recording of what a mixer sent, split into recordings of its sources.
+ghost use Rattle.std.specs.Prelude.{◌≡◌, ◌≢◌, ℕ, ◌+◌, ◌≤◌, ◌<◌, ◌^◌, List, [], ◌∷◌, length, Bool, None, Some, OnOk, IfOk, IfErr, AllPairs, slice_get};
+ghost use Rattle.wire_spec.specs.Dump.{dump};
+ghost use Rattle.gap_tracker.specs.States.{arrival_count};
+ghost use Rattle.rtpdump_io.specs.Reading.{is_ended, to_come, source_of};
+ghost use Rattle.rtpdump_io.specs.Answers.{record_of, is_end};
+ghost use Rattle.rtpdump_io.specs.Faults.{FaultOf, HasCause, IsSourceFault};
+ghost use Rattle.rtt_io.specs.Counts.{Rose};
+ghost use Rattle.cascade_spec.specs.Splitting as splitting;
+ghost use Rattle.cascade.specs.declared.splits.TrunkConf.{TrunkConf};
+ghost use Rattle.cascade.specs.Dividers.{IsListening};
+ghost use Rattle.cascade.specs.Splits.{recordings_of, trunk_of, HearsAll, SplitsAs, TakesItem};
+ghost use Rattle.rtt_base.specs.declared.limits.TheConstants.{LONGEST_WAIT, MOST_ARRIVALS, MOST_SOURCES};
+ghost use Rattle.wire_spec.specs.declared.limits.TheConstants.{MOST_RECORDING_OCTETS};
+
+use crate::dividers::Divider;
+use crate::splitters::Splitter;
+use rtpdump_io::{DumpItem, DumpReader, RecordingFault};
+use rtt_base::{NoMemory as OutOfMemory, Packet, Pts};
+use rtt_io::Source;
+use std::alloc::Global;
+
+/// How a recording is split.
+#[derive(Clone, Copy, Debug, PartialEq, Eq)]
+pub struct TrunkConf {
+    /// The payload types of the recording, and of what it is split into.
+    pub pts: Pts,
+    /// How long a gap in the numbers is waited for, in milliseconds: at most 10000.
+    pub wait: u64,
+    /// The most octets of the recording: at most 4194304.
+    pub limit: u32,
+}
+
+/// The recordings of sources, in the order in which these were asked for.
+#[derive(Drop)]
+pub struct Splits {
+    splitters: Vec<Splitter>,
+}
+
+impl Splits {
+    /// How many there are.
+    pub fn len(&self) -> usize
+        ensures { result ≡ length (recordings_of self.now) }
+    {
+        self.splitters.len()
+    }
+
+    /// The octets of the recording at this place.
+    pub fn recording(&self, place: usize) -> &[u8]
+        requires { place < length (recordings_of self.now) }
+        ensures { slice_get (recordings_of self.now) place ≡ Some result.now }
+    {
+        self.splitters[place].octets()
+    }
+}
+
+/// Tells the divider of a record, whose octets are these.
+fn hear_record(divider: &mut Divider, item: DumpItem, octets: &[u8]) -> Result<(), OutOfMemory>
+    requires listens { IsListening divider.old }
+    requires few { arrival_count divider.old.tracker < MOST_ARRIVALS }
+    requires more { is_end item ≡ Bool.false }
+    ensures takes { OnOk result (TakesItem divider.old divider.new (record_of item octets.now)) }
+    ensures arrivals { OnOk result (arrival_count divider.new.tracker ≤ arrival_count divider.old.tracker + 1) }
+{
+    match item {
+        DumpItem::Packet { at } => divider.hear(u64::from(at), octets),
+        DumpItem::Rtcp { .. } | DumpItem::Cut { .. } | DumpItem::Large { .. } | DumpItem::End => Ok(
+            (),
+        ),
+    }
+}
+
+/// Tells the divider of all records that are still to come.
+fn listen<S: Source>(
+    reader: &mut DumpReader<S>,
+    divider: &mut Divider,
+) -> Result<(), RecordingFault>
+    requires reads { is_ended reader.old ≡ Bool.false }
+    requires listens { IsListening divider.old }
+    requires few { arrival_count divider.old.tracker ≡ 0 }
+    ensures hears { OnOk result (HearsAll S.tells (to_come S.left reader.old) divider.old divider.new) }
+    ensures fault { S.tells → IfErr result (FaultOf (to_come S.left reader.old)) }
+    ensures failed { IfErr result (HasCause S.faults reader.old reader.new) }
+    ensures never_falls { S.faults (source_of reader.old) ≤ S.faults (source_of reader.new) }
+    ensures same_name { S.name (source_of reader.new) ≡ S.name (source_of reader.old) }
+{
+    let mut packet = Packet::new();
+    loop {
+        let item = match reader.next(&mut packet) {
+            Ok(item) => item,
+            Err(fault) => return Err(RecordingFault::Dump(fault)),
+        };
+        if let DumpItem::End = item {
+            return Ok(());
+        }
+        let Ok(()) = hear_record(divider, item, packet.as_slice()) else {
+            return Err(RecordingFault::NoMemory);
+        };
+    }
+}
+
+/// Splits what is still to come of a recording.
+fn split_from<S: Source>(
+    alloc: Global,
+    reader: &mut DumpReader<S>,
+    ssrc: u32,
+    sources: &[u32],
+    conf: TrunkConf,
+) -> Result<Splits, RecordingFault>
+    requires open { is_ended reader.old ≡ Bool.false }
+    requires t140 { conf.pts.t140 < 2 ^ 7 }
+    requires wait { conf.wait ≤ LONGEST_WAIT }
+    requires some { 0 < length sources.now }
+    requires few { length sources.now ≤ MOST_SOURCES }
+    requires differ { AllPairs (λ a b. a ≢ b) sources.now }
+    ensures splits { S.tells → IfOk result (SplitsAs (trunk_of ssrc conf) sources.now (to_come S.left reader.old)) }
+    ensures whole { S.tells → OnOk result ((to_come S.left reader.old).fault ≡ None) }
+    ensures fault { S.tells → IfErr result (FaultOf (to_come S.left reader.old)) }
+    ensures failed { IfErr result (HasCause S.faults reader.old reader.new) }
+    ensures never_falls { S.faults (source_of reader.old) ≤ S.faults (source_of reader.new) }
+    ensures same_name { S.name (source_of reader.new) ≡ S.name (source_of reader.old) }
+{
+    let Ok(mut divider) = Divider::new(alloc, ssrc, sources, conf.pts, conf.wait) else {
+        return Err(RecordingFault::NoMemory);
+    };
+    if let Err(fault) = listen(reader, &mut divider) {
+        return Err(fault);
+    }
+    match divider.finish() {
+        Ok(splitters) => Ok(Splits { splitters }),
+        Err(_) => Err(RecordingFault::NoMemory),
+    }
+}
+
+/// Splits a recording of what a mixer sent under this SSRC: for each of these sources, 1 to 64 and all different, the
+/// recording of what is heard of it, which another mixer can hear as the recording of a leg. The source that is read
+/// comes back with every answer.
+pub fn split<S: Source>(
+    alloc: Global,
+    src: S,
+    ssrc: u32,
+    sources: &[u32],
+    conf: TrunkConf,
+) -> (S, Result<Splits, RecordingFault>)
+    requires t140 { conf.pts.t140 < 2 ^ 7 }
+    requires wait { conf.wait ≤ LONGEST_WAIT }
+    requires limit { conf.limit ≤ MOST_RECORDING_OCTETS }
+    requires some { 0 < length sources.now }
+    requires few { length sources.now ≤ MOST_SOURCES }
+    requires differ { AllPairs (λ a b. a ≢ b) sources.now }
+    ensures splits { S.tells → IfOk result.1 (λ s. recordings_of s ≡ splitting.splits (trunk_of ssrc conf) sources.now (S.left src)) }
+    ensures whole { S.tells → OnOk result.1 ((dump conf.limit (S.left src)).fault ≡ None) }
+    ensures fault { S.tells → IfErr result.1 (FaultOf (dump conf.limit (S.left src))) }
+    ensures failed { IfErr result.1 (λ fault. IsSourceFault fault → Rose (S.faults src) (S.faults result.0)) }
+    ensures never_falls { S.faults src ≤ S.faults result.0 }
+    ensures same_name { S.name result.0 ≡ S.name src }
+{
+    let mut reader = DumpReader::with_limit(src, conf.limit);
+    let splits = split_from(alloc, &mut reader, ssrc, sources, conf);
+    (reader.into_source(), splits)
+}

@@ -1,0 +1,4 @@
+pub mod Carrying
+pub mod Examples
+pub mod Rows
+pub mod Splits

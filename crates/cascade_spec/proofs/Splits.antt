@@ -1,0 +1,29 @@
+-- What is read and heard of a split.
+use Rattle.std.proofs.Common.{◌≡◌, ℕ, List, [], ap, sym, ◌∙◌, subst, arith, map}
+use Rattle.rtt_base.specs.declared.text_packets.Pts.{Pts}
+use Rattle.wire_spec.specs.Packets.{Arrival}
+use Rattle.wire_spec.specs.Dump.{Recording, arrivals_after}
+use Rattle.stream_spec.specs.Carries.{Groups}
+use Rattle.stream_spec.specs.Hearing.{heard}
+use Rattle.stream_spec.specs.Ready.{Chunk}
+use Rattle.std.specs.List.{AllByRecursion}
+use Rattle.cascade_spec.specs.Splitting.{groups, packets_in}
+use Rattle.cascade_spec.specs.Laws.{AreSendable, IsStream, SplitsAreHeard, SplitsAreRead, heard_in, recording_of}
+use Rattle.cascade_spec.proofs.Carrying.{IsBack, all_back, arrives, groups_carry, groups_sendable, reads}
+use Rattle.cascade_spec.proofs.Rows.{all_heard}
+
+backs : (pts : Pts) (s : ℕ) (cs : List Chunk) → IsStream pts s → AreSendable cs → AllByRecursion (IsBack pts s) (packets_in s (groups cs))
+backs pts s cs is a = all_back pts s 0 0 (groups cs) is (omega arith) (omega arith) (groups_sendable cs a)
+
+pub splits_read : SplitsAreRead
+splits_read pts s cs is a limit n = ap (λ (r : Recording). r.fault) (reads pts s limit (packets_in s (groups cs)) (backs pts s cs is a) n)
+
+pub splits_heard : SplitsAreHeard
+splits_heard pts s cs is a limit wait n =
+    subst (λ ts. Groups ts (map (λ (c : Chunk). c.text) cs) []) (sym heard_is) (groups_carry cs a)
+  where
+    heard_is : heard_in pts s limit wait (recording_of pts s cs) ≡ map (λ g. g.text) (groups cs)
+    heard_is =
+        ap (λ (r : Recording). heard wait (arrivals_after s pts [] r.items) s) (reads pts s limit (packets_in s (groups cs)) (backs pts s cs is a) n)
+        ∙ (ap (λ (past : List Arrival). heard wait past s) (arrives pts s [] (packets_in s (groups cs)) (backs pts s cs is a))
+        ∙ all_heard wait s (groups cs) (groups_sendable cs a))

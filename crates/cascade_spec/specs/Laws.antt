@@ -1,0 +1,49 @@
+-- What the laws say of splits: a mixer hears of one what is heard of its source.
+use Rattle.std.specs.Prelude.{◌≡◌, ◌≢◌, ◌<◌, ◌≤◌, ◌^◌, ℕ, None, List, [], ◌∷◌, length, map, true, IsUtf8}
+use Rattle.rtt_base.specs.declared.text_packets.Pts.{Pts}
+use Rattle.wire_spec.specs.Packets.{has_text}
+use Rattle.wire_spec.specs.Dump.{arrivals_after, dump}
+use Rattle.stream_spec.specs.Carries.{Groups}
+use Rattle.stream_spec.specs.Hearing.{heard}
+use Rattle.stream_spec.specs.Ready.{Chunk}
+use Rattle.cascade_spec.specs.Splitting.{groups, packets_in, recorded}
+use Rattle.rtt_base.specs.declared.limits.TheConstants.{MOST_TEXT_OCTETS}
+
+-- a text that fits into a packet
+pub record IsSendable (text : List ℕ) : Type 0 where
+  pub some : has_text text ≡ true
+  pub utf8 : IsUtf8 text
+  pub few : length text ≤ MOST_TEXT_OCTETS
+
+abbrev pub AreSendable : List Chunk → Type 0
+AreSendable [] = Unit {0}
+AreSendable (c ∷ cs) = IsSendable c.text × AreSendable cs
+
+-- a stream can have these payload types and this SSRC
+pub record IsStream (pts : Pts) (s : ℕ) : Type 0 where
+  pub t140 : pts.t140 < 2 ^ 7
+  pub red : pts.red < 2 ^ 7
+  pub differ : pts.t140 ≢ pts.red
+  pub ssrc : s < 2 ^ 32
+
+-- what is heard of the source s in these octets, however long a gap is waited for
+abbrev pub heard_in : Pts → ℕ → ℕ → ℕ → List ℕ → List (List ℕ)
+heard_in pts s limit wait octets = heard wait (arrivals_after s pts [] (dump limit octets).items) s
+
+-- The recording of these chunks as packets of the source s.
+abbrev pub recording_of : Pts → ℕ → List Chunk → List ℕ
+recording_of pts s cs = recorded pts (packets_in s (groups cs))
+
+-- Wherever it has at most as many octets as may be, it is read to its end.
+abbrev pub SplitsAreRead : Type 0
+SplitsAreRead =
+    (pts : Pts) (s : ℕ) (cs : List Chunk) → IsStream pts s → AreSendable cs
+    → (limit : ℕ) → length (recording_of pts s cs) ≤ limit
+    → (dump limit (recording_of pts s cs)).fault ≡ None
+
+-- What is heard of it are the texts of the chunks put together: none is lost, and no marker is added.
+abbrev pub SplitsAreHeard : Type 0
+SplitsAreHeard =
+    (pts : Pts) (s : ℕ) (cs : List Chunk) → IsStream pts s → AreSendable cs
+    → (limit wait : ℕ) → length (recording_of pts s cs) ≤ limit
+    → Groups (heard_in pts s limit wait (recording_of pts s cs)) (map (λ c. c.text) cs) []
