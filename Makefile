@@ -5,7 +5,7 @@
 # make trials      tries the program against the system, with each request of memory refused, against a second program, and
 #                  as a package
 # make recordings  makes the stored recordings of examples/ anew
-# make bench       how fast the program reads, lists, sends and mixes
+# make bench       how fast the program reads, lists, shows, sends and mixes
 # make compare     how fast it mixes beside a second program on one thread (takes rustc)
 # make install     the program and its page, below PREFIX
 # make deb         the package cinderwool_VERSION_ARCHITECTURE.deb, of the program, its page, the documents and the examples
@@ -37,6 +37,7 @@ examples: $(PROGRAM)
 	examples/check $(PROGRAM)
 	examples/pcap/try $(PROGRAM)
 	examples/pictures/try $(PROGRAM)
+	examples/captures/try $(PROGRAM)
 	examples/words
 
 trials: $(PROGRAM)
@@ -52,6 +53,7 @@ bench: $(PROGRAM)
 	bench/read $(PROGRAM)
 	bench/list $(PROGRAM)
 	bench/send $(PROGRAM)
+	for it in show show-64 script channel relay; do bench/run $$it $(PROGRAM) || exit 1; done
 	bench/mix $(PROGRAM)
 	bench/threads $(PROGRAM)
 
