@@ -1,2 +1,3 @@
 pub mod Rtcp
+pub mod Recorded
 pub mod Laws

@@ -30,7 +30,8 @@ impl SdesName {
     }
 
     pub fn as_str(&self) -> &str
-        ensures { result.now ≡ self.now }
+        ensures text { result.now ≡ self.now }
+        ensures fits { length result.now ≤ 255 }
     {
         self.text.as_str()
     }

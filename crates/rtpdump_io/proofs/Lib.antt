@@ -3,3 +3,4 @@ pub mod Lines
 pub mod Recordings
 pub mod Records
 pub mod Told
+mod Entries

@@ -1,5 +1,5 @@
 -- the opening and the records of a recording, part by part
-use Rattle.std.proofs.Common.{◌≡◌, ◌∙◌, ℕ, zero, suc, ◌+◌, ◌-◌, ◌<◌, ◌≤◌, Bool, true, false, cond, nat_eq, nat_lt, List, [], ◌∷◌, ◌++◌, length, take, drop, refl, sym, ap, arith, Option, Some, None, Result, Ok, Err, IfOk, length-append, length-drop, length-take}
+use Rattle.std.proofs.Common.{◌≡◌, ◌∙◌, ℕ, zero, suc, ◌+◌, ◌-◌, ◌<◌, ◌≤◌, ◌&&◌, Bool, true, false, cond, nat_eq, nat_lt, List, [], ◌∷◌, ◌++◌, length, take, drop, refl, sym, ap, arith, Option, Some, None, Result, Ok, Err, IfOk, length-append, length-drop, length-take}
 use Rattle.std.specs.Prelude.{codes}
 use Rattle.std.specs.List.{starts_with}
 use Rattle.std.proofs.lemmas.Bool.{le-ltb, lt-ltb, ne_eqb, ltb-false}
@@ -13,7 +13,7 @@ use Rattle.rtpdump_io.specs.Structures.{IsHead}
 use Rattle.rtpdump_io.specs.Reading.{broken, item_at, Gives, is_last, coming}
 use Rattle.rtpdump_io.specs.declared.readers.Stage.{Stage}
 use Rattle.rtpdump_io.specs.declared.readers.Stage.TheVariants.{Opening, Records}
-use Rattle.rtpdump_io.specs.Found.{opened_as, found_as, came_as, kind_of, kept_of}
+use Rattle.rtpdump_io.specs.Found.{opened_as, found_as, came_as, kind_of, kept_of, wanted_of}
 use Rattle.rtpdump_io.specs.declared.items.DumpItem.{DumpItem}
 use Rattle.rtpdump_io.specs.declared.items.DumpItem.TheVariants as answer
 use Rattle.rtt_base.specs.declared.limits.TheConstants.{MOST_PACKET_OCTETS}
@@ -127,26 +127,31 @@ take_take (suc p) (suc k) [] h = refl
 take_take (suc p) (suc k) (x ∷ v) h = ap (λ (l : List ℕ). x ∷ l) (take_take p k v (omega arith))
 
 -- what an answer says of a record is what the definition says of it
-kinds : (p k at : ℕ) (v out : List ℕ) (place : Place) → out ≡ take (kept_of p k) v → k ≤ length v → found_as (Ok (kind_of p k at)) out place ≡ Next (item_at at (what_of p (take k v))) place
-kinds p k at v out place kept within =
+kinds : (with_rtcp : Bool) (p k at : ℕ) (v out : List ℕ) (place : Place) → out ≡ take (kept_of (wanted_of with_rtcp p k) k) v → k ≤ length v → found_as (Ok (kind_of p k at)) out place ≡ Next (item_at at (what_of p (take k v))) place
+kinds with_rtcp p k at v out place kept within =
     let size : length (take k v) ≡ k = simp length-take (omega arith) in
-    rw size (go (nat_eq p 0) (nat_lt k p) (nat_lt MOST_PACKET_OCTETS p) refl kept)
+    rw size (by_size (nat_eq p 0) kept)
   where
-    go : (b1 b2 b3 : Bool) → nat_lt k p ≡ b2 → out ≡ take (cond b2 0 (cond b3 0 p)) v →
-        found_as (Ok (cond b1 (answer.Rtcp at) (cond b2 (answer.Cut at) (cond b3 (answer.Large at) (answer.Packet at))))) out place
-        ≡ Next (item_at at (cond b1 dumps.Rtcp (cond b2 dumps.Cut (cond b3 dumps.Large (dumps.Whole (take p (take k v))))))) place
-    go true b2 b3 e o = refl
-    go false true b3 e o = refl
-    go false false true e o = refl
-    go false false false e o =
+    go : (b2 b3 : Bool) → nat_lt k p ≡ b2 → out ≡ take (cond b2 0 (cond b3 0 p)) v →
+        found_as (Ok (cond b2 (answer.Cut at) (cond b3 (answer.Large at) (answer.Packet at)))) out place
+        ≡ Next (item_at at (cond b2 dumps.Cut (cond b3 dumps.Large (dumps.Whole (take p (take k v)))))) place
+    go true b3 e o = refl
+    go false true e o = refl
+    go false false e o =
         let same : out ≡ take p (take k v) = o ∙ sym (take_take p k v (ltb-false k p e)) in
         ap (λ (octets : List ℕ). Next (item_at at (dumps.Whole octets)) place) same
+
+    by_size : (b1 : Bool) → out ≡ take (kept_of (cond (b1 && with_rtcp) k p) k) v →
+        found_as (Ok (cond b1 (answer.Rtcp at) (cond (nat_lt k p) (answer.Cut at) (cond (nat_lt MOST_PACKET_OCTETS p) (answer.Large at) (answer.Packet at))))) out place
+        ≡ Next (item_at at (cond b1 dumps.Rtcp (cond (nat_lt k p) dumps.Cut (cond (nat_lt MOST_PACKET_OCTETS p) dumps.Large (dumps.Whole (take p (take k v))))))) place
+    by_size true o = refl
+    by_size false o = go (nat_lt k p) (nat_lt MOST_PACKET_OCTETS p) refl o
 
 module _ (limit byte : ℕ) (u h v : List ℕ) (cut : u ≡ h ++ v) (eight : length h ≡ 8) where
   through : (k : ℕ) → size_of h ≡ 8 + k → size_of u ≡ length h + k
   through k e = size_is limit byte u h v cut eight ∙ e ∙ ap (λ (n : ℕ). n + k) (sym eight)
 
-  body_is : (k : ℕ) → size_of h ≡ 8 + k → drop 8 (take (size_of u) u) ≡ take k v
+  pub body_is : (k : ℕ) → size_of h ≡ 8 + k → drop 8 (take (size_of u) u) ≡ take k v
   body_is k e =
       ap (drop 8) (ap (λ (n : ℕ). take n u) (through k e) ∙ ap (take (length h + k)) cut ∙ take-append-add h v k)
       ∙ ap (λ (n : ℕ). drop n (h ++ take k v)) (sym eight) ∙ drop-append_seam h (take k v)
@@ -154,9 +159,9 @@ module _ (limit byte : ℕ) (u h v : List ℕ) (cut : u ≡ h ++ v) (eight : len
   rest_is : (k : ℕ) → size_of h ≡ 8 + k → drop (size_of u) u ≡ drop k v
   rest_is k e = ap (λ (n : ℕ). drop n u) (through k e) ∙ ap (drop (length h + k)) cut ∙ drop-append-add h v k
 
-  pub a_record : (w out : List ℕ) → 8 ≤ size_of h → byte + size_of h ≤ limit → Passes (size_of h - 8) v w → time_of h ≤ LAST_RECORD_MOMENT → out ≡ take (kept_of (packet_size_of h) (size_of h - 8)) v →
+  pub a_record : (with_rtcp : Bool) (w out : List ℕ) → 8 ≤ size_of h → byte + size_of h ≤ limit → Passes (size_of h - 8) v w → time_of h ≤ LAST_RECORD_MOMENT → out ≡ take (kept_of (wanted_of with_rtcp (packet_size_of h) (size_of h - 8)) (size_of h - 8)) v →
       dump_step limit (record { byte = byte; rest = u }) ≡ found_as (Ok (kind_of (packet_size_of h) (size_of h - 8) (time_of h))) out (record { byte = byte + size_of h; rest = w })
-  a_record w out a b p d kept =
+  a_record with_rtcp w out a b p d kept =
       let k : ℕ = size_of h - 8 in
       let e : size_of h ≡ 8 + k = omega arith in
       let of_parts : ℕ → ℕ → List ℕ → ℕ → List ℕ → Step = λ time packet body size rest. Next (item_at time (what_of packet body)) (record { byte = byte + size; rest = rest }) in
@@ -167,11 +172,11 @@ module _ (limit byte : ℕ) (u h v : List ℕ) (cut : u ≡ h ++ v) (eight : len
       ∙ ap (λ (l : List ℕ). of_parts (time_of h) (packet_size_of h) l (size_of u) (drop (size_of u) u)) (body_is k e)
       ∙ ap (λ (n : ℕ). of_parts (time_of h) (packet_size_of h) (take k v) n (drop (size_of u) u)) (size_is limit byte u h v cut eight)
       ∙ ap (λ (l : List ℕ). of_parts (time_of h) (packet_size_of h) (take k v) (size_of h) l) (rest_is k e ∙ sym p.rest)
-      ∙ sym (kinds (packet_size_of h) k (time_of h) v out (record { byte = byte + size_of h; rest = w }) kept p.enough)
+      ∙ sym (kinds with_rtcp (packet_size_of h) k (time_of h) v out (record { byte = byte + size_of h; rest = w }) kept p.enough)
 
 -- ---- all records
 
-Shrinks : Place → Step → Type 0
+unfoldable pub Shrinks : Place → Step → Type 0
 Shrinks p End = Unit {0}
 Shrinks p (Broken fault) = Unit {0}
 Shrinks p (Next item q) = suc (length q.rest) ≤ length p.rest
@@ -182,7 +187,7 @@ parts false true b3 b4 e = absurd (cc)
 parts false false true b4 e = absurd (cc)
 parts false false false b4 e = (refl, refl)
 
-shrinks : (limit : ℕ) (p : Place) → Shrinks p (dump_step limit p)
+pub shrinks : (limit : ℕ) (p : Place) → Shrinks p (dump_step limit p)
 unfolding dump_step Shrinks
 shrinks limit p = outer (nat_eq (length p.rest) 0) (nat_lt (length p.rest) 8) (inner (record_fault limit p) refl)
   where
@@ -281,12 +286,12 @@ module _ (limit byte size packet time : ℕ) (u h v : List ℕ) (cut : u ≡ h +
   pub found_too_long : (w : List ℕ) → 8 ≤ size → byte + size ≤ limit → Passes (size - 8) v w → LAST_RECORD_MOMENT < time → dump_step limit (record { byte = byte; rest = u }) ≡ Broken (record { byte = byte; kind = TooLong })
   found_too_long w = rw (size_told, time_told) (too_long limit byte u h v cut eight w)
 
-  pub found_record : (w out : List ℕ) → 8 ≤ size → byte + size ≤ limit → Passes (size - 8) v w → time ≤ LAST_RECORD_MOMENT → out ≡ take (kept_of packet (size - 8)) v → (item : DumpItem) → item ≡ kind_of packet (size - 8) time →
+  pub found_record : (with_rtcp : Bool) (w out : List ℕ) → 8 ≤ size → byte + size ≤ limit → Passes (size - 8) v w → time ≤ LAST_RECORD_MOMENT → out ≡ take (kept_of (wanted_of with_rtcp packet (size - 8)) (size - 8)) v → (item : DumpItem) → item ≡ kind_of packet (size - 8) time →
       dump_step limit (record { byte = byte; rest = u }) ≡ found_as (Ok item) out (record { byte = byte + size; rest = w })
-  found_record w out a b p d kept item is = rw is (go a b p d kept)
+  found_record with_rtcp w out a b p d kept item is = rw is (go a b p d kept)
     where
-      go : 8 ≤ size → byte + size ≤ limit → Passes (size - 8) v w → time ≤ LAST_RECORD_MOMENT → out ≡ take (kept_of packet (size - 8)) v → dump_step limit (record { byte = byte; rest = u }) ≡ found_as (Ok (kind_of packet (size - 8) time)) out (record { byte = byte + size; rest = w })
-      go = rw (size_told, packet_told, time_told) (a_record limit byte u h v cut eight w out)
+      go : 8 ≤ size → byte + size ≤ limit → Passes (size - 8) v w → time ≤ LAST_RECORD_MOMENT → out ≡ take (kept_of (wanted_of with_rtcp packet (size - 8)) (size - 8)) v → dump_step limit (record { byte = byte; rest = u }) ≡ found_as (Ok (kind_of packet (size - 8) time)) out (record { byte = byte + size; rest = w })
+      go = rw (size_told, packet_told, time_told) (a_record limit byte u h v cut eight with_rtcp w out)
 
 -- the octets of a record and those behind it are all
 pub record_all : (byte size : ℕ) (u h v w : List ℕ) → u ≡ h ++ v → length h ≡ 8 → 8 ≤ size → Passes (size - 8) v w → byte + size + length w ≡ byte + length u

@@ -1,5 +1,5 @@
 -- A fault that is none of the source is the recording's.
-use Rattle.std.proofs.Common.{◌≡◌, ℕ, List, ap}
+use Rattle.std.proofs.Common.{ℕ, List, ap}
 use Rattle.std.specs.Prelude.{Err}
 use Rattle.std.proofs.lemmas.Bool.{true≢false}
 use Rattle.wire_spec.specs.declared.faults.DumpKind.{DumpKind}

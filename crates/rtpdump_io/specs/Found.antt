@@ -1,5 +1,5 @@
 -- What the parts of a reading find, as the definition of recordings has it.
-use Rattle.std.specs.Prelude.{ℕ, ◌==◌, nat_lt, List, Result, Ok, Err, if◌then◌else◌}
+use Rattle.std.specs.Prelude.{ℕ, ◌==◌, ◌&&◌, Bool, nat_lt, List, Result, Ok, Err, if◌then◌else◌}
 use Rattle.wire_spec.specs.declared.faults.DumpKind.{DumpKind}
 use Rattle.wire_spec.specs.Dump.{Whole, Place, Fault, Step, Next, Broken, Recording, with_item}
 use Rattle.wire_spec.specs.Dump as dumps
@@ -14,7 +14,11 @@ kind_of packet_size size at =
     if packet_size == 0 then Rtcp at
     else (if nat_lt size packet_size then Cut at else (if nat_lt MOST_PACKET_OCTETS packet_size then Large at else Packet at))
 
--- how many of its octets are handed out
+-- how many of its octets are a packet's, or RTCP where this is wanted too
+abbrev pub wanted_of : Bool → ℕ → ℕ → ℕ
+wanted_of with_rtcp packet_size size = if packet_size == 0 && with_rtcp then size else packet_size
+
+-- how many of so many are handed out
 abbrev pub kept_of : ℕ → ℕ → ℕ
 kept_of packet_size size = if nat_lt size packet_size then 0 else (if nat_lt MOST_PACKET_OCTETS packet_size then 0 else packet_size)
 

@@ -2,6 +2,7 @@ pub mod Input
 pub mod Line
 pub mod Reading
 pub mod Found
+pub mod Entries
 pub mod Heads
 pub mod Steps
 pub mod Writing

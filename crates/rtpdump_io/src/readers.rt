@@ -37,15 +37,18 @@ pub struct DumpReader<S> {
 impl<S: Source> DumpReader<S> {
     ghost use Rattle.std.specs.Prelude.{◌≡◌, ◌<◌, ◌≤◌, true, false, Ok, OnOk, OnErr, IfOk, length, take};
     ghost use Rattle.wire_spec.specs.Dump.{dump, usual_limit};
+    ghost use Rattle.rtcp_spec.specs.Recorded.{entries};
     ghost use Rattle.rtpdump_io.specs.Reading.{Gives, is_last, nothing, to_come, most_answers, is_ended, source_of, unread_by, SourceFailed, SourceCalm, IfOfSource, UnlessOfSource};
     ghost use Rattle.rtpdump_io.specs.Structures.{Starts, IsLineOrHead, all_octets, octets_around};
     ghost use Rattle.rtpdump_io.specs.Steps.{OnFound, OnRecord, IsOfRecording, Opens, IsReady, Finds, Comes};
     ghost use Rattle.rtpdump_io.specs.Heads.{body_size, kept_size};
+    ghost use Rattle.rtpdump_io.specs.Entries.{GivesEntry, HandsOutRtcp, entries_to_come, EntriesCome, EntriesReady};
     ghost use Rattle.rtpdump_io.specs.Input.{PassesOver};
 
     /// A reader of a recording of at most 4194304 octets, from its first octet on. It takes no memory.
     pub fn new(source: S) -> DumpReader<S>
         ensures to_come { to_come S.left result ≡ dump usual_limit (S.left source) }
+        ensures entries { entries_to_come S.left result ≡ entries usual_limit (S.left source) }
         ensures all { all_octets S.left result ≡ length (S.left source) }
         ensures not_ended { is_ended result ≡ false }
         ensures source { source_of result ≡ source }
@@ -57,6 +60,7 @@ impl<S: Source> DumpReader<S> {
     pub fn with_limit(source: S, limit: u32) -> DumpReader<S>
         requires { limit ≤ MOST_RECORDING_OCTETS }
         ensures to_come { to_come S.left result ≡ dump limit (S.left source) }
+        ensures entries { entries_to_come S.left result ≡ entries limit (S.left source) }
         ensures all { all_octets S.left result ≡ length (S.left source) }
         ensures not_ended { is_ended result ≡ false }
         ensures source { source_of result ≡ source }
@@ -106,7 +110,45 @@ impl<S: Source> DumpReader<S> {
         ensures calm { UnlessOfSource result (SourceCalm S.faults self.old self.new) }
         ensures same_name { S.name (source_of self.new) ≡ S.name (source_of self.old) }
     {
-        match self.step(out) {
+        self.read(false, out)
+    }
+
+    /// Reads what stands next as `next` does, and leaves the octets of a record of RTCP in `out` too: those behind its head,
+    /// or none where they are more than 4224.
+    pub fn next_all(&mut self, out: &mut Packet) -> Result<DumpItem, DumpFault>
+        requires { is_ended self.old ≡ false }
+        ensures gives { S.tells → Gives result out.new (to_come S.left self.old) (to_come S.left self.new) }
+        ensures entries { S.tells → GivesEntry result out.new (entries_to_come S.left self.old) (entries_to_come S.left self.new) }
+        ensures read { IfOfSource result (λ _. SourceFailed S.faults self.old self.new) }
+        ensures read_at { S.tells → IfOfSource result (λ byte. Starts S.left self.old byte) }
+        ensures all { S.tells → OnOk result (all_octets S.left self.new ≡ all_octets S.left self.old) }
+        ensures ended { is_ended self.new ≡ is_last result }
+        ensures over { is_last result ≡ true → to_come S.left self.new ≡ nothing }
+        ensures nearer { most_answers self.new < most_answers self.old }
+        ensures never_falls { S.faults (source_of self.old) ≤ S.faults (source_of self.new) }
+        ensures calm { UnlessOfSource result (SourceCalm S.faults self.old self.new) }
+        ensures same_name { S.name (source_of self.new) ≡ S.name (source_of self.old) }
+    {
+        self.read(true, out)
+    }
+
+    // Reads what stands next, with the octets of a record of RTCP where these are wanted too.
+    #[inline(always)]
+    fn read(&mut self, with_rtcp: bool, out: &mut Packet) -> Result<DumpItem, DumpFault>
+        requires { is_ended self.old ≡ false }
+        ensures gives { S.tells → Gives result out.new (to_come S.left self.old) (to_come S.left self.new) }
+        ensures entries { S.tells → with_rtcp ≡ true → GivesEntry result out.new (entries_to_come S.left self.old) (entries_to_come S.left self.new) }
+        ensures read { IfOfSource result (λ _. SourceFailed S.faults self.old self.new) }
+        ensures read_at { S.tells → IfOfSource result (λ byte. Starts S.left self.old byte) }
+        ensures all { S.tells → OnOk result (all_octets S.left self.new ≡ all_octets S.left self.old) }
+        ensures ended { is_ended self.new ≡ is_last result }
+        ensures over { is_last result ≡ true → to_come S.left self.new ≡ nothing }
+        ensures nearer { most_answers self.new < most_answers self.old }
+        ensures never_falls { S.faults (source_of self.old) ≤ S.faults (source_of self.new) }
+        ensures calm { UnlessOfSource result (SourceCalm S.faults self.old self.new) }
+        ensures same_name { S.name (source_of self.new) ≡ S.name (source_of self.old) }
+    {
+        match self.step(with_rtcp, out) {
             Ok(Ok(DumpItem::End)) => {
                 self.stage = Stage::Ended;
                 Ok(DumpItem::End)
@@ -132,9 +174,14 @@ impl<S: Source> DumpReader<S> {
 
     // Reads the opening first, where that was not done yet, and then a record.
     #[inline(always)]
-    fn step(&mut self, out: &mut Packet) -> Result<Result<DumpItem, DumpKind>, Failed>
+    fn step(
+        &mut self,
+        with_rtcp: bool,
+        out: &mut Packet,
+    ) -> Result<Result<DumpItem, DumpKind>, Failed>
         requires { is_ended self.old ≡ false }
         ensures came { S.tells → IfOk result (λ found. Comes S.left self.old self.new out.new found) }
+        ensures entries { S.tells → with_rtcp ≡ true → IfOk result (λ found. EntriesCome S.left self.old self.new out.new found) }
         ensures not_read { IsOfRecording result }
         ensures read_at { S.tells → OnErr result (Starts S.left self.old self.new.offset) }
         ensures all { S.tells → OnFound result (octets_around S.left self.new ≡ all_octets S.left self.old) }
@@ -149,7 +196,7 @@ impl<S: Source> DumpReader<S> {
         if let Err(kind) = self.make_ready()? {
             return Ok(Err(kind));
         }
-        self.record(out)
+        self.record(with_rtcp, out)
     }
 
     // Reads the opening, where that was not done yet.
@@ -157,6 +204,7 @@ impl<S: Source> DumpReader<S> {
     fn make_ready(&mut self) -> Result<Result<(), DumpKind>, Failed>
         requires { is_ended self.old ≡ false }
         ensures came { S.tells → IfOk result (λ found. IsReady S.left self.old self.new found) }
+        ensures entries { S.tells → IfOk result (λ found. EntriesReady S.left self.old self.new found) }
         ensures ready { OnFound result (self.new.stage ≡ Stage.Records) }
         ensures read_at { S.tells → OnErr result (Starts S.left self.old self.new.offset) }
         ensures starts { S.tells → OnFound result (Starts S.left self.old self.new.offset) }
@@ -212,11 +260,16 @@ impl<S: Source> DumpReader<S> {
 
     // Reads a record, or finds the end.
     #[inline(always)]
-    fn record(&mut self, out: &mut Packet) -> Result<Result<DumpItem, DumpKind>, Failed>
+    fn record(
+        &mut self,
+        with_rtcp: bool,
+        out: &mut Packet,
+    ) -> Result<Result<DumpItem, DumpKind>, Failed>
         ensures same_offset { OnErr result (self.new.offset ≡ self.old.offset) }
         ensures all { S.tells → OnFound result (octets_around S.left self.new ≡ octets_around S.left self.old) }
         ensures farther { OnRecord result (self.old.offset < self.new.offset) }
         ensures found { S.tells → IfOk result (λ found. Finds S.left self.old self.new out.new found) }
+        ensures rtcp { S.tells → IfOk result (λ found. HandsOutRtcp with_rtcp (unread_by S.left self.old) out.new found) }
         ensures not_read { IsOfRecording result }
         ensures same_limit { self.new.limit ≡ self.old.limit }
         ensures same_stage { self.new.stage ≡ self.old.stage }
@@ -241,7 +294,7 @@ impl<S: Source> DumpReader<S> {
         if end > u64::from(self.limit) {
             return Ok(Err(DumpKind::TooLarge));
         }
-        if !self.body(&head, out)? {
+        if !self.body(&head, with_rtcp, out)? {
             return Ok(Err(DumpKind::EndsInside));
         }
         if head.is_late() {
@@ -251,11 +304,12 @@ impl<S: Source> DumpReader<S> {
         Ok(Ok(head.item()))
     }
 
-    // Reads what a record has behind its head, and keeps the octets of a packet. Answers whether all was there.
-    fn body(&mut self, head: &RecordHead, out: &mut Packet) -> Result<bool, Failed>
+    // Reads what a record has behind its head, and keeps the octets that are wanted. Answers whether all was there.
+    #[inline(always)]
+    fn body(&mut self, head: &RecordHead, with_rtcp: bool, out: &mut Packet) -> Result<bool, Failed>
         requires { 8 ≤ head.now.size }
         ensures there { S.tells → result ≡ Ok true → PassesOver S.left self.old.input self.new.input (body_size head.now) }
-        ensures kept { S.tells → result ≡ Ok true → out.new ≡ take (kept_size head.now) (unread_by S.left self.old) }
+        ensures kept { S.tells → result ≡ Ok true → out.new ≡ take (kept_size with_rtcp head.now) (unread_by S.left self.old) }
         ensures missing { S.tells → result ≡ Ok false → length (unread_by S.left self.old) < body_size head.now }
         ensures same_offset { self.new.offset ≡ self.old.offset }
         ensures same_limit { self.new.limit ≡ self.old.limit }
@@ -266,7 +320,7 @@ impl<S: Source> DumpReader<S> {
         ensures same_name { S.name (source_of self.new) ≡ S.name (source_of self.old) }
     {
         let size = usize::from(head.size - 8);
-        let kept = head.kept();
+        let kept = head.kept(with_rtcp);
         out.clear();
         if !self.input.copy(kept, out)? {
             return Ok(false);

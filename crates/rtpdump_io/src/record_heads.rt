@@ -1,8 +1,8 @@
 //! The head of a record.
 ghost use Rattle.std.specs.Prelude.{◌≡◌, ◌≤◌, ◌-◌, nat_lt};
 ghost use Rattle.wire_spec.specs.Dump.{size_of, packet_size_of, time_of};
-ghost use Rattle.rtpdump_io.specs.Found.{kind_of, kept_of};
-ghost use Rattle.rtpdump_io.specs.Heads.{body_size};
+ghost use Rattle.rtpdump_io.specs.Found.{kind_of, kept_of, wanted_of};
+ghost use Rattle.rtpdump_io.specs.Heads.{body_size, kept_size};
 
 use crate::items::DumpItem;
 use rtt_base::limits::MOST_PACKET_OCTETS;
@@ -71,17 +71,31 @@ impl RecordHead {
         }
     }
 
-    /// How many octets behind the head are handed out: those of a packet, and none of another record.
-    pub fn kept(&self) -> usize
+    /// How many octets behind the head are handed out, where they are at most 4224: those of a packet, and those of a record
+    /// of RTCP where these are wanted too.
+    pub fn kept(&self, with_rtcp: bool) -> usize
         requires { 8 ≤ self.now.size }
-        ensures value { result ≡ kept_of self.now.packet_size (self.now.size - 8) }
+        ensures value { result ≡ kept_size with_rtcp self.now }
         ensures within { result ≤ self.now.size - 8 }
         ensures fits { result ≤ MOST_PACKET_OCTETS }
     {
-        if self.packet_size > self.size - 8 || usize::from(self.packet_size) > MOST_PACKET_OCTETS {
+        let wanted = self.wanted(with_rtcp);
+        if wanted > self.size - 8 || usize::from(wanted) > MOST_PACKET_OCTETS {
             0
         } else {
-            usize::from(self.packet_size)
+            usize::from(wanted)
+        }
+    }
+
+    // How many octets behind the head belong to a packet, or to a record of RTCP where these are wanted too.
+    fn wanted(&self, with_rtcp: bool) -> u16
+        requires { 8 ≤ self.now.size }
+        ensures { result ≡ wanted_of with_rtcp self.now.packet_size (body_size self.now) }
+    {
+        if self.packet_size == 0 && with_rtcp {
+            self.size - 8
+        } else {
+            self.packet_size
         }
     }
 }

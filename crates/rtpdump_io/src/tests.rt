@@ -92,6 +92,36 @@ fn four_packets_are_read_however_the_source_cuts_its_answers(rt: HostRuntime) ->
     Ok(())
 }
 
+// A description of 1001, whose name is `Ann Lee` (RFC 3550, section 6.5).
+const NAME: [u8; 20] = *b"\x81\xCA\0\x04\0\0\x03\xE9\x02\x07Ann Lee\0\0\0";
+
+#[test]
+fn the_octets_of_rtcp_are_read_where_they_are_asked_for(rt: HostRuntime) -> Result<(), Fail> {
+    let mut bytes = Bytes::new(rt.alloc());
+    bytes.append(&OPENING)?;
+    append_record(&mut bytes, [0, 28, 0, 0, 0, 0, 0, 1], &NAME)?;
+    append_record(&mut bytes, [0, 30, 0, 22, 0, 0, 0, 2], &FIRST)?;
+    append_record(&mut bytes, [0x10, 0x88, 0, 0, 0, 0, 0, 3], &[7; 4224])?;
+    append_record(&mut bytes, [0x10, 0x89, 0, 0, 0, 0, 0, 4], &[7; 4225])?;
+    let mut reader = DumpReader::new(SteadySource::new(bytes));
+    let mut out = Packet::new();
+    assert!(rt; !reader.ended());
+    assert_eq!(rt; reader.next_all(&mut out)?, DumpItem::Rtcp { at: 1 });
+    assert!(rt; out.as_slice() == NAME.as_slice());
+    assert!(rt; !reader.ended());
+    assert_eq!(rt; reader.next_all(&mut out)?, DumpItem::Packet { at: 2 });
+    assert!(rt; out.as_slice() == FIRST.as_slice());
+    assert!(rt; !reader.ended());
+    assert_eq!(rt; reader.next_all(&mut out)?, DumpItem::Rtcp { at: 3 });
+    assert_eq!(rt; out.len(), 4224);
+    assert!(rt; !reader.ended());
+    assert_eq!(rt; reader.next_all(&mut out)?, DumpItem::Rtcp { at: 4 });
+    assert_eq!(rt; out.len(), 0);
+    assert!(rt; !reader.ended());
+    assert_eq!(rt; reader.next_all(&mut out)?, DumpItem::End);
+    Ok(())
+}
+
 #[test]
 fn records_that_hold_no_whole_packet_are_told_apart(rt: HostRuntime) -> Result<(), Fail> {
     let mut bytes = Bytes::new(rt.alloc());

@@ -1,6 +1,7 @@
 use Rattle.std.proofs.Common.{◌≡◌, ◌<◌, ◌≤◌, ◌+◌, Ok, ◌∙◌, sym, ap, arith, length}
 use Rattle.std.proofs.lemmas.Bool.{ltb-true, ltb-false}
 use Rattle.rtpdump_io.proofs.Recordings.{nothing_left, few_left, all_there, found_bad_length, found_too_large, found_end, found_too_long, found_record, record_all, nothing_all}
+use Rattle.rtpdump_io.proofs.Entries.{hands_out}
 use Rattle.rtpdump_io.proofs.readers.DumpReader.record.Goals as goal
 
 pub returns-then-number-eq0-clause-found : goal.returns-then-number-eq0-clause-found
@@ -51,7 +52,7 @@ returns-clause-found g c = λ t.
     let read = c.in_ok-number.ensures in
     let size : 8 ≤ c.from_octets-head.result.size = ltb-false _ _ (sym c.is_short.ensures ∙ c.if-is_short.false) in
     let fits : c.args.self.now.offset + c.from_octets-head.result.size ≤ c.args.self.now.limit = omega (arith, c.from.ensures, c.from-2.ensures) in
-    rw c.from.ensures (found_record _ _ c.from_octets-head.result.size c.from_octets-head.result.packet_size c.from_octets-head.result.time _ c.read_full.new.buf _ (all_there _ _ _ _ (read.given t) eight c.if-number-lt8.false) eight c.from_octets-head.ensures.size c.from_octets-head.ensures.packet_size c.from_octets-head.ensures.time _ _ size fits (c.in_ok-body.ensures.there t (ap Ok c.if-not-branch.false)) (ltb-false _ _ (sym c.is_late.ensures ∙ c.if-is_late.false)) (c.in_ok-body.ensures.kept t (ap Ok c.if-not-branch.false)) _ c.item.ensures)
+    rw c.from.ensures (found_record _ _ c.from_octets-head.result.size c.from_octets-head.result.packet_size c.from_octets-head.result.time _ c.read_full.new.buf _ (all_there _ _ _ _ (read.given t) eight c.if-number-lt8.false) eight c.from_octets-head.ensures.size c.from_octets-head.ensures.packet_size c.from_octets-head.ensures.time c.args.with_rtcp _ _ size fits (c.in_ok-body.ensures.there t (ap Ok c.if-not-branch.false)) (ltb-false _ _ (sym c.is_late.ensures ∙ c.if-is_late.false)) (c.in_ok-body.ensures.kept t (ap Ok c.if-not-branch.false)) _ c.item.ensures)
 
 pub returns-then-number-eq0-clause-all : goal.returns-then-number-eq0-clause-all
 returns-then-number-eq0-clause-all g c = λ t.
@@ -64,3 +65,10 @@ returns-clause-all g c = λ t.
     let read = c.in_ok-number.ensures in
     let size : 8 ≤ c.from_octets-head.result.size = ltb-false _ _ (sym c.is_short.ensures ∙ c.if-is_short.false) in
     rw c.from.ensures (record_all _ _ _ c.read_full.new.buf _ _ (all_there _ _ _ _ (read.given t) eight c.if-number-lt8.false) eight size (c.in_ok-body.ensures.there t (ap Ok c.if-not-branch.false)))
+
+pub returns-clause-rtcp : goal.returns-clause-rtcp
+returns-clause-rtcp g c = λ t.
+    let eight : length c.read_full.new.buf ≡ 8 = omega arith in
+    let read = c.in_ok-number.ensures in
+    let size : 8 ≤ c.from_octets-head.result.size = ltb-false _ _ (sym c.is_short.ensures ∙ c.if-is_short.false) in
+    hands_out c.args.with_rtcp c.from_octets-head.result.size c.from_octets-head.result.packet_size c.from_octets-head.result.time _ c.read_full.new.buf _ _ _ (all_there _ _ _ _ (read.given t) eight c.if-number-lt8.false) eight c.from_octets-head.ensures.size size (c.in_ok-body.ensures.there t (ap Ok c.if-not-branch.false)) (c.in_ok-body.ensures.kept t (ap Ok c.if-not-branch.false)) _ c.item.ensures

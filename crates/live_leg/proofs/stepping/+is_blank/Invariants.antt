@@ -1,5 +1,0 @@
-use Rattle.std.proofs.Common.{length}
-use Rattle.live_leg.proofs.stepping.+is_blank.Given as goal
-
-abbrev pub decreases-is_blank : goal.decreases-is_blank
-decreases-is_blank l = length l.text.now
