@@ -1,1 +1,3 @@
 pub mod Conferences
+pub mod Changes
+pub mod Speakers

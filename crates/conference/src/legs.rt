@@ -1,9 +1,10 @@
 //! The legs of a conference.
 ghost use Rattle.std.specs.Prelude.{◌≡◌, ◌<◌, ◌==◌, [], ◌∷◌, ◌++◌, length, OnOk, OnErr};
 ghost use Rattle.file_spec.specs.Conf.{change_leg, with_gens, with_stay};
+ghost use Rattle.conference.specs.Changes.{with_name};
 
 use file_spec::{LegLine, Stay};
-use rtt_base::NoMemory;
+use rtt_base::{Name, NoMemory};
 use std::alloc::Global;
 use std::marker::Model;
 
@@ -60,6 +61,14 @@ impl Legs {
             Ok(()) => Ok(()),
             Err(_) => Err(NoMemory),
         }
+    }
+
+    /// Gives a leg another name.
+    pub fn set_name(&mut self, leg: usize, name: Name)
+        requires { leg < length self.old }
+        ensures { self.new ≡ change_leg (with_name name) leg self.old }
+    {
+        self.lines[leg].name = name;
     }
 
     /// Tells how many redundant generations the terminal of a leg is sent.

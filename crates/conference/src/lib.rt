@@ -5,9 +5,11 @@ mod confs;
 mod legs;
 mod names;
 mod plans;
+mod speakers;
 
 pub use confs::Conf;
 pub use file_spec::{LegLine, MixerLine, PlanLine, Stay, What};
 pub use legs::Legs;
 pub use names::name_of;
 pub use plans::{Plan, is_planned};
+pub use speakers::{Speakers, others};

@@ -4,7 +4,9 @@
 mod answers;
 mod confs;
 mod ears;
+mod keep_alives;
 
 pub use answers::PlainAnswer;
 pub use confs::EarConf;
 pub use ears::Ear;
+pub use keep_alives::is_blank;

@@ -33,7 +33,8 @@ impl Stay {
     ghost use Rattle.std.specs.Prelude.{◌≡◌};
     ghost use Rattle.file_spec.specs.Stays.{is_before_end, stays_at};
 
-    fn is_before_end(self, moment: u64) -> bool
+    /// Whether this moment, in milliseconds, is before its end, if it has one.
+    pub fn is_before_end(self, moment: u64) -> bool
         ensures { result ≡ is_before_end moment self.until }
     {
         match self.until {
