@@ -158,11 +158,11 @@ module _ {M : Type 0} (mixes : M → Setup → List Call → Type 0) (s : Setup)
       )
 
 -- ---- what stays the same
-pub keeps_none : {M : Type 0} (legs turns : M → ℕ) (m : M) → Keeps legs turns m m
-keeps_none legs turns m = record { legs = refl; turns = refl }
+pub keeps_none : {M : Type 0} (legs turns : M → ℕ) (addresses : M → List ℕ) (m : M) → Keeps legs turns addresses m m
+keeps_none legs turns addresses m = record { legs = refl; turns = refl; addresses = refl }
 
-pub keeps_more : {M : Type 0} (legs turns : M → ℕ) (a b c : M) → Keeps legs turns a b → Keeps legs turns b c → Keeps legs turns a c
-keeps_more legs turns a b c x y = record { legs = y.legs ∙ x.legs; turns = y.turns ∙ x.turns }
+pub keeps_more : {M : Type 0} (legs turns : M → ℕ) (addresses : M → List ℕ) (a b c : M) → Keeps legs turns addresses a b → Keeps legs turns addresses b c → Keeps legs turns addresses a c
+keeps_more legs turns addresses a b c x y = record { legs = y.legs ∙ x.legs; turns = y.turns ∙ x.turns; addresses = y.addresses ∙ x.addresses }
 
 pub seats_none : {I F : Type 0} (p : Port I F) → SameSeat p p
 seats_none p = record { stay = refl; seat = refl }

@@ -7,10 +7,11 @@ use Rattle.mixer_spec.specs.Calls.{IsAdmit, IsHush}
 use Rattle.stream_spec.specs.Ready.{Chunk}
 
 module _ {M : Type 0} where
-  -- it has as many legs, and made no turn
-  pub record Keeps (legs_of turns_of : M → ℕ) (old new : M) : Type 0 where
+  -- it has as many legs, made no turn, and sends where it sent
+  pub record Keeps (legs_of turns_of : M → ℕ) (addresses_of : M → List ℕ) (old new : M) : Type 0 where
     pub legs : legs_of new ≡ legs_of old
     pub turns : turns_of new ≡ turns_of old
+    pub addresses : addresses_of new ≡ addresses_of old
 
   -- where the terminals have these payload types
   abbrev pub Of : (M → Setup → (ℕ → Pts) → List Call → Type 0) → (ℕ → Pts) → M → Setup → List Call → Type 0

@@ -36,7 +36,7 @@ pub fn ask<I: Inlet, R: Wait>(inlet: &mut I, rt: &R, answer: &mut Answer<I::Faul
     !matches!(answer.item, Item::Later)
 }
 
-// Puts a text in place of another.
+/// Puts a text in place of another.
 fn copy_text(from: &Text, to: &mut Text)
     ensures { to.new ≡ from.now }
 {
@@ -44,7 +44,8 @@ fn copy_text(from: &Text, to: &mut Text)
     let _room = to.append(from.as_slice());
 }
 
-fn copy_chunk(from: &Chunk, to: &mut Chunk)
+/// Puts a chunk in place of another.
+pub fn copy_chunk(from: &Chunk, to: &mut Chunk)
     ensures { chunk_of to.new ≡ chunk_of from.now }
 {
     to.source = from.source;

@@ -4,14 +4,14 @@ ghost use Rattle.mix_loop.specs.Mixers.{Keeps};
 ghost use Rattle.mix_loop.specs.Ports.{OnlySeat, is_away};
 ghost use Rattle.mix_loop.specs.Steps.{Departed, Entered, Stopped};
 
-use crate::ports::{Port, Seat, has_begun, is_before_end, seat_with};
+use crate::ports::{Port, Seat, has_begun, seat_with};
 use crate::{Inlet, Mixes};
 
 impl<I: Inlet> Port<I> {
     /// Ends the listening of the leg, where its stay is over at the moment `now`.
     pub(crate) fn stop<M: Mixes>(&mut self, mixer: &mut M, leg: usize, now: u64)
         requires { leg < M.legs mixer.old }
-        ensures keeps { Keeps M.legs M.turns mixer.old mixer.new }
+        ensures keeps { Keeps M.legs M.turns M.addresses mixer.old mixer.new }
         ensures only { OnlySeat self.old self.new }
         ensures away { is_away self.new.seat ≡ is_away self.old.seat }
         ensures stops { Stopped M.stands leg now self.old self.new mixer.old mixer.new }
@@ -26,7 +26,7 @@ impl<I: Inlet> Port<I> {
     /// Lets the leg leave, where it listens no more and nothing of it or for it is left.
     pub(crate) fn leave<M: Mixes>(&mut self, mixer: &mut M, leg: usize)
         requires { leg < M.legs mixer.old }
-        ensures keeps { Keeps M.legs M.turns mixer.old mixer.new }
+        ensures keeps { Keeps M.legs M.turns M.addresses mixer.old mixer.new }
         ensures only { OnlySeat self.old self.new }
         ensures away { is_away self.new.seat ≡ is_away self.old.seat }
         ensures leaves { Departed M.stands leg self.old self.new mixer.old mixer.new }
@@ -43,7 +43,7 @@ impl<I: Inlet> Port<I> {
     /// Lets the leg come, where it never came and its stay has begun at the moment `now`.
     pub(crate) fn come<M: Mixes>(&mut self, mixer: &mut M, leg: usize, now: u64)
         requires { leg < M.legs mixer.old }
-        ensures keeps { Keeps M.legs M.turns mixer.old mixer.new }
+        ensures keeps { Keeps M.legs M.turns M.addresses mixer.old mixer.new }
         ensures only { OnlySeat self.old self.new }
         ensures comes { Entered M.stands leg now self.old self.new mixer.old mixer.new }
     {
@@ -53,7 +53,7 @@ impl<I: Inlet> Port<I> {
         if !has_begun(self.stay, now) {
             return;
         }
-        let listens = is_before_end(self.stay, now);
+        let listens = self.stay.is_before_end(now);
         if !mixer.admit(leg, listens) {
             return;
         }

@@ -22,7 +22,7 @@ fn is_ready(chunk: &Chunk, now: u64) -> bool
 fn take<M: Mixes>(mixer: &mut M, chunk: &Chunk, now: u64) -> bool
     requires source { chunk.now.source < M.legs mixer.old }
     requires text { IsOf chunk.now.source (chunk_of chunk.now) }
-    ensures keeps { Keeps M.legs M.turns mixer.old mixer.new }
+    ensures keeps { Keeps M.legs M.turns M.addresses mixer.old mixer.new }
     ensures taken { Took M.stands (chunk_of chunk.now) now result mixer.old mixer.new }
 {
     if !is_ready(chunk, now) {
@@ -55,7 +55,7 @@ impl<I: Inlet> Port<I> {
         requires text { IsOf self.old.hand.source (chunk_of self.old.hand) }
         ensures only { OnlyHand self.old self.new }
         ensures full { self.new.full ≡ not result }
-        ensures keeps { Keeps M.legs M.turns mixer.old mixer.new }
+        ensures keeps { Keeps M.legs M.turns M.addresses mixer.old mixer.new }
         ensures taken { Took M.stands (chunk_of self.old.hand) now result mixer.old mixer.new }
     {
         let taken = take(mixer, &self.hand, now);
@@ -70,7 +70,7 @@ impl<I: Inlet> Port<I> {
         requires sound { IsSound I.good leg self.old }
         ensures sound { IsSound I.good leg self.new }
         ensures same { SameSeat self.old self.new }
-        ensures keeps { Keeps M.legs M.turns mixer.old mixer.new }
+        ensures keeps { Keeps M.legs M.turns M.addresses mixer.old mixer.new }
         ensures gathered { Offered I.stands M.stands leg now self.old self.new mixer.old mixer.new }
     {
         for _ in rt.forever() {

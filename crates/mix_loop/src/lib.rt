@@ -15,7 +15,7 @@ mod ports;
 mod turns;
 
 pub use answers::Answer;
-pub use asking::ask;
+pub use asking::{ask, copy_chunk};
 pub use inlets::Inlet;
 pub use items::{Ended, Item};
 pub use mixers::Mixes;

@@ -24,6 +24,9 @@ pub trait Mixes {
     /// How many turns were made.
     ghost turns: { Self → ℕ };
 
+    /// Where it sends what goes to each terminal, in leg order. No call changes it.
+    ghost addresses: { Self → List ℕ };
+
     /// Turns come before this moment, in milliseconds.
     ghost horizon: { ℕ };
 
@@ -34,26 +37,26 @@ pub trait Mixes {
     fn admit(&mut self, leg: usize, listens: bool) -> bool
         requires { leg < legs self.old }
         ensures admitted { Admits stands self.old self.new leg listens result }
-        ensures keeps { Keeps legs turns self.old self.new };
+        ensures keeps { Keeps legs turns addresses self.old self.new };
 
     /// A leg whose stay is over listens no more.
     fn hush(&mut self, leg: usize)
         requires { leg < legs self.old }
         ensures hushed { Hushes stands self.old self.new leg }
-        ensures keeps { Keeps legs turns self.old self.new };
+        ensures keeps { Keeps legs turns addresses self.old self.new };
 
     /// A leg that listens no more leaves its place, where nothing of it or for it is left, as is answered.
     fn leave(&mut self, leg: usize) -> bool
         requires { leg < legs self.old }
         ensures left { Leaves stands self.old self.new leg result }
-        ensures keeps { Keeps legs turns self.old self.new };
+        ensures keeps { Keeps legs turns addresses self.old self.new };
 
     /// Takes a text where its leg holds a place and has room for it.
     fn offer(&mut self, chunk: &Chunk) -> Result<(), Full>
         requires source { chunk.now.source < legs self.old }
         requires text { IsOf chunk.now.source (chunk_of chunk.now) }
         ensures offered { Offers stands self.old self.new (chunk_of chunk.now) (is_ok result) }
-        ensures keeps { Keeps legs turns self.old self.new };
+        ensures keeps { Keeps legs turns addresses self.old self.new };
 
     /// Makes a turn at the moment `now` (milliseconds), and sends what it sends. Behind a fault it makes no more.
     fn turn(&mut self, now: u64) -> Result<(), Self::Fault>
@@ -62,7 +65,8 @@ pub trait Mixes {
         ensures turned { OnOk result (Turns stands self.old self.new now) }
         ensures unsent { IfErr result (unsent self.new) }
         ensures legs { legs self.new ≡ legs self.old }
-        ensures turns { turns self.new ≡ turns self.old + 1 };
+        ensures turns { turns self.new ≡ turns self.old + 1 }
+        ensures addresses { addresses self.new ≡ addresses self.old };
 
     /// Whether nothing waits and nothing is to be repeated.
     fn idle(&self) -> bool

@@ -2,7 +2,6 @@
 ghost use Rattle.std.specs.Prelude.{◌≡◌, ◌≤◌, [], length, map, nat_le, vec_len};
 ghost use Rattle.std.specs.Vec.{vec_capacity};
 ghost use Rattle.stream_spec.specs.Ready.{chunk_of};
-ghost use Rattle.mixer_spec.specs.Setups.{is_before_end};
 ghost use Rattle.mix_loop.specs.Ports.{AreNew, IsNew, counts, is_away, is_spent, is_to_leave, is_to_stop, seat_with};
 
 use crate::{Ended, Inlet, Item};
@@ -68,7 +67,7 @@ impl<I: Inlet> Port<I> {
     pub(crate) fn is_to_stop(&self, now: u64) -> bool
         ensures { result ≡ is_to_stop now self.now }
     {
-        matches!(self.seat, Seat::Listens) && !is_before_end(self.stay, now)
+        matches!(self.seat, Seat::Listens) && !self.stay.is_before_end(now)
     }
 
     /// Whether it listens no more, and has nothing left to offer.
@@ -97,16 +96,6 @@ pub(crate) fn has_begun(stay: Stay, moment: u64) -> bool
     ensures { result ≡ nat_le stay.from moment }
 {
     u64::from(stay.from) <= moment
-}
-
-/// Whether this moment, in milliseconds, is before the end of the stay, if it has one.
-pub(crate) fn is_before_end(stay: Stay, moment: u64) -> bool
-    ensures { result ≡ is_before_end moment stay.until }
-{
-    match stay.until {
-        Some(until) => moment < u64::from(until),
-        None => true,
-    }
 }
 
 /// The seat of a leg that came.

@@ -49,7 +49,7 @@ fn go_all<I: Inlet, M: Mixes>(ports: &mut [Port<I>], mixer: &mut M, now: u64)
     requires sound { AreSound I.good ports.old }
     requires legs { M.legs mixer.old ≡ length ports.old }
     ensures sound { AreSound I.good ports.new }
-    ensures keeps { Keeps M.legs M.turns mixer.old mixer.new }
+    ensures keeps { Keeps M.legs M.turns M.addresses mixer.old mixer.new }
     ensures goes { AllWent I.stands M.stands now ports.old ports.new mixer.old mixer.new }
 {
     for leg in 0..ports.len() {
@@ -64,7 +64,7 @@ fn come_all<I: Inlet, M: Mixes>(ports: &mut [Port<I>], mixer: &mut M, now: u64)
     requires sound { AreSound I.good ports.old }
     requires legs { M.legs mixer.old ≡ length ports.old }
     ensures sound { AreSound I.good ports.new }
-    ensures keeps { Keeps M.legs M.turns mixer.old mixer.new }
+    ensures keeps { Keeps M.legs M.turns M.addresses mixer.old mixer.new }
     ensures comes { AllCame I.stands M.stands now ports.old ports.new mixer.old mixer.new }
 {
     for leg in 0..ports.len() {
@@ -79,7 +79,7 @@ fn gather_all<I: Inlet, M: Mixes, R: Wait>(rt: &R, ports: &mut [Port<I>], mixer:
     requires sound { AreSound I.good ports.old }
     requires legs { M.legs mixer.old ≡ length ports.old }
     ensures sound { AreSound I.good ports.new }
-    ensures keeps { Keeps M.legs M.turns mixer.old mixer.new }
+    ensures keeps { Keeps M.legs M.turns M.addresses mixer.old mixer.new }
     ensures offers { AllOffered I.stands M.stands now ports.old ports.new mixer.old mixer.new }
 {
     for leg in 0..ports.len() {
@@ -121,7 +121,7 @@ fn settle<I: Inlet, M: Mixes, R: Wait>(
     requires sound { AreSound I.good ports.old }
     requires legs { M.legs mixer.old ≡ length ports.old }
     ensures sound { AreSound I.good ports.new }
-    ensures keeps { Keeps M.legs M.turns mixer.old mixer.new }
+    ensures keeps { Keeps M.legs M.turns M.addresses mixer.old mixer.new }
     ensures settles { AllSettled I.stands M.stands now result ports.old ports.new mixer.old mixer.new }
 {
     go_all(ports, mixer, now);

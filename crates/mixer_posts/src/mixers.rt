@@ -53,6 +53,8 @@ impl<O: Outbound> Mixes for Sending<O> {
 
     ghost turns = { λ m. m.mixer.turns };
 
+    ghost addresses = { λ m. O.addresses m.outbound };
+
     ghost horizon = { O.horizon };
 
     ghost unsent = { λ m why. O.unsent m.outbound why };

@@ -16,6 +16,9 @@ pub trait Outbound {
     /// How many terminals there are.
     ghost terminals: { Self → ℕ };
 
+    /// Where the packets to each terminal go, in leg order. No call changes it.
+    ghost addresses: { Self → List ℕ };
+
     /// What is sent is sent before this moment, in milliseconds.
     ghost horizon: { ℕ };
 
@@ -27,7 +30,8 @@ pub trait Outbound {
         requires { now < horizon }
         ensures took { OnOk result (Takes took terminals self.old self.new now post.now) }
         ensures unsent { IfErr result (unsent self.new) }
-        ensures terminals { terminals self.new ≡ terminals self.old };
+        ensures terminals { terminals self.new ≡ terminals self.old }
+        ensures addresses { addresses self.new ≡ addresses self.old };
 
     /// The mixer can make turns till then.
     ghost in_time: { horizon ≤ 2 ^ 47 };

@@ -15,6 +15,7 @@ pub(crate) fn send_posts<O: Outbound>(
     ensures took { OnOk result (TakesAll O.took O.terminals outbound.old outbound.new now posts.now) }
     ensures unsent { IfErr result (O.unsent outbound.new) }
     ensures terminals { O.terminals outbound.new ≡ O.terminals outbound.old }
+    ensures addresses { O.addresses outbound.new ≡ O.addresses outbound.old }
 {
     for post in posts {
         match outbound.send(now, post) {

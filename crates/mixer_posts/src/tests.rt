@@ -22,13 +22,15 @@ struct Notes {
 
 impl Outbound for Notes {
     ghost use Rattle.std.proofs.Common.{rules};
-    ghost use Rattle.std.specs.Prelude.{◌^◌};
+    ghost use Rattle.std.specs.Prelude.{◌^◌, []};
 
     type Fault = NoMemory;
 
     ghost took = { λ notes sent. Unit {0} };
 
     ghost terminals = { λ notes. 2 };
+
+    ghost addresses = { λ notes. [] };
 
     ghost horizon = { 2 ^ 32 };
 

@@ -11,7 +11,7 @@ use Rattle.mix_loop.proofs.turns.come_all.Goals as goal
 pub loop-leg-init : goal.loop-leg-init
 loop-leg-init g c = (
   c.requires.sound,
-  keeps_none g.M.Mixes.legs g.M.Mixes.turns c.args.mixer.now,
+  keeps_none g.M.Mixes.legs g.M.Mixes.turns g.M.Mixes.addresses c.args.mixer.now,
   λ s pts firsts kn table n. becomes_none g.I.Inlet.stands s firsts (Of g.M.Mixes.stands pts) kn table c.args.ports.now c.args.mixer.now n,
 )
 
@@ -24,7 +24,7 @@ loop-leg-preserved g c =
     let p = get_or c.loop-leg.ports c.loop-leg.leg c.index-ports-leg.result in
     let at = get_there c.loop-leg.ports c.loop-leg.leg c.index-ports-leg.result low in (
       sound_seat g.I.Inlet.good c.loop-leg.ports c.loop-leg.leg p c.come.new.self c.loop-leg.invariant.0 at c.come.ensures.only,
-      keeps_more g.M.Mixes.legs g.M.Mixes.turns c.args.mixer.now c.loop-leg.mixer c.come.new.mixer c.loop-leg.invariant.1 c.come.ensures.keeps,
+      keeps_more g.M.Mixes.legs g.M.Mixes.turns g.M.Mixes.addresses c.args.mixer.now c.loop-leg.mixer c.come.new.mixer c.loop-leg.invariant.1 c.come.ensures.keeps,
       λ s pts firsts kn table n. come_more g.I.Inlet.stands (Of g.M.Mixes.stands pts) s firsts kn table c.args.now c.loop-leg.leg c.loop-leg.ports c.loop-leg.mixer p p c.come.new.self c.loop-leg.mixer c.come.new.mixer at (c.loop-leg.invariant.2 s pts firsts kn table n) c.come.ensures.only (λ s table. c.come.ensures.comes s pts table),
     )
 

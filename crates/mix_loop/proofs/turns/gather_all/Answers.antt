@@ -11,7 +11,7 @@ use Rattle.mix_loop.proofs.turns.gather_all.Goals as goal
 pub loop-leg-init : goal.loop-leg-init
 loop-leg-init g c = (
   c.requires.sound,
-  keeps_none g.M.Mixes.legs g.M.Mixes.turns c.args.mixer.now,
+  keeps_none g.M.Mixes.legs g.M.Mixes.turns g.M.Mixes.addresses c.args.mixer.now,
   λ s pts firsts kn table n. record { becomes = becomes_none g.I.Inlet.stands s firsts (Of g.M.Mixes.stands pts) kn table c.args.ports.now c.args.mixer.now n; settled = λ j low. absurd (omega arith) },
 )
 
@@ -34,7 +34,7 @@ loop-leg-preserved g c =
     let p = get_or c.loop-leg.ports c.loop-leg.leg c.index-ports-leg.result in
     let at = get_there c.loop-leg.ports c.loop-leg.leg c.index-ports-leg.result low in (
       sound_set g.I.Inlet.good c.loop-leg.ports c.loop-leg.leg c.gather.new.self c.loop-leg.invariant.0 low c.gather.ensures.sound,
-      keeps_more g.M.Mixes.legs g.M.Mixes.turns c.args.mixer.now c.loop-leg.mixer c.gather.new.mixer c.loop-leg.invariant.1 c.gather.ensures.keeps,
+      keeps_more g.M.Mixes.legs g.M.Mixes.turns g.M.Mixes.addresses c.args.mixer.now c.loop-leg.mixer c.gather.new.mixer c.loop-leg.invariant.1 c.gather.ensures.keeps,
       λ s pts firsts kn table n. offer_more g.I.Inlet.stands (Of g.M.Mixes.stands pts) s firsts kn table c.args.now c.loop-leg.leg c.loop-leg.ports c.loop-leg.mixer p p c.gather.new.self c.loop-leg.mixer c.gather.new.mixer at (c.loop-leg.invariant.2 s pts firsts kn table n) c.gather.ensures.same (λ s table first gave. c.gather.ensures.gathered s pts table first gave),
     )
 

@@ -10,7 +10,7 @@ use Rattle.mix_loop.proofs.turns.go_all.Goals as goal
 pub loop-leg-init : goal.loop-leg-init
 loop-leg-init g c = (
   c.requires.sound,
-  keeps_none g.M.Mixes.legs g.M.Mixes.turns c.args.mixer.now,
+  keeps_none g.M.Mixes.legs g.M.Mixes.turns g.M.Mixes.addresses c.args.mixer.now,
   λ s pts firsts kn table n h. go_none g.I.Inlet.stands (Of g.M.Mixes.stands pts) s firsts kn table c.args.now c.args.ports.now c.args.mixer.now n h,
 )
 
@@ -21,8 +21,8 @@ loop-leg-preserved g c =
     let at = get_there c.loop-leg.ports c.loop-leg.leg c.index-ports-leg.result low in (
       sound_seat g.I.Inlet.good c.loop-leg.ports c.loop-leg.leg p c.leave.new.self c.loop-leg.invariant.0 at
           (only_more p c.stop.new.self c.leave.new.self c.stop.ensures.only c.leave.ensures.only),
-      keeps_more g.M.Mixes.legs g.M.Mixes.turns c.args.mixer.now c.loop-leg.mixer c.leave.new.mixer c.loop-leg.invariant.1
-          (keeps_more g.M.Mixes.legs g.M.Mixes.turns c.loop-leg.mixer c.stop.new.mixer c.leave.new.mixer c.stop.ensures.keeps c.leave.ensures.keeps),
+      keeps_more g.M.Mixes.legs g.M.Mixes.turns g.M.Mixes.addresses c.args.mixer.now c.loop-leg.mixer c.leave.new.mixer c.loop-leg.invariant.1
+          (keeps_more g.M.Mixes.legs g.M.Mixes.turns g.M.Mixes.addresses c.loop-leg.mixer c.stop.new.mixer c.leave.new.mixer c.stop.ensures.keeps c.leave.ensures.keeps),
       λ s pts firsts kn table n h. go_more g.I.Inlet.stands (Of g.M.Mixes.stands pts) s firsts kn table c.args.now c.loop-leg.leg c.loop-leg.ports c.loop-leg.mixer p c.stop.new.self c.leave.new.self c.stop.new.mixer c.leave.new.mixer at (c.loop-leg.invariant.2 s pts firsts kn table n h) c.stop.ensures.only c.stop.ensures.away (λ s table. c.stop.ensures.stops s pts table) c.leave.ensures.only c.leave.ensures.away (λ s table. c.leave.ensures.leaves s pts table),
     )
 

@@ -7,7 +7,7 @@ pub loop-init : goal.loop-init
 loop-init g c = (
   c.requires.sound,
   seats_none c.args.self.now,
-  keeps_none g.M.Mixes.legs g.M.Mixes.turns c.args.mixer.now,
+  keeps_none g.M.Mixes.legs g.M.Mixes.turns g.M.Mixes.addresses c.args.mixer.now,
   λ s pts table first gave h a. to_none g.I.Inlet.stands (Of g.M.Mixes.stands pts) s c.args.leg c.args.now first gave _ table c.args.self.now c.args.mixer.now h a refl,
 )
 
@@ -32,7 +32,7 @@ pub loop-preserved : goal.loop-preserved
 loop-preserved g c = (
   hand_sound g.I.Inlet.good c.args.leg c.loop.self c.offer.new.self c.if-not-self.false c.loop.invariant.0 c.offer.ensures.only,
   seats_more c.args.self.now c.loop.self c.offer.new.self c.loop.invariant.1 (hand_seat c.loop.self c.offer.new.self c.offer.ensures.only),
-  keeps_more g.M.Mixes.legs g.M.Mixes.turns c.args.mixer.now c.loop.mixer c.offer.new.mixer c.loop.invariant.2 c.offer.ensures.keeps,
+  keeps_more g.M.Mixes.legs g.M.Mixes.turns g.M.Mixes.addresses c.args.mixer.now c.loop.mixer c.offer.new.mixer c.loop.invariant.2 c.offer.ensures.keeps,
   λ s pts table first gave h a. to_take g.I.Inlet.stands (Of g.M.Mixes.stands pts) s c.args.leg c.args.now first gave _ table c.loop.self c.loop.mixer c.offer.new.mixer (c.loop.invariant.3 s pts table first gave h a) c.if-not-self.false
       (c.loop.invariant.0.hand c.if-not-self.false).source c.offer.result (λ s table. c.offer.ensures.taken s pts table) c.if-not-offer.false c.offer.new.self c.offer.ensures.only c.offer.ensures.full,
 )
@@ -53,4 +53,4 @@ pub returns-then-not-offer-clause-same : goal.returns-then-not-offer-clause-same
 returns-then-not-offer-clause-same g c = seats_more c.args.self.now c.loop.self c.offer.new.self c.loop.invariant.1 (hand_seat c.loop.self c.offer.new.self c.offer.ensures.only)
 
 pub returns-then-not-offer-clause-keeps : goal.returns-then-not-offer-clause-keeps
-returns-then-not-offer-clause-keeps g c = keeps_more g.M.Mixes.legs g.M.Mixes.turns c.args.mixer.now c.loop.mixer c.offer.new.mixer c.loop.invariant.2 c.offer.ensures.keeps
+returns-then-not-offer-clause-keeps g c = keeps_more g.M.Mixes.legs g.M.Mixes.turns g.M.Mixes.addresses c.args.mixer.now c.loop.mixer c.offer.new.mixer c.loop.invariant.2 c.offer.ensures.keeps

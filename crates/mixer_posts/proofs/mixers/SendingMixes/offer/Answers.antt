@@ -1,3 +1,4 @@
+use Rattle.std.proofs.Common.{refl}
 use Rattle.mixer_spec.specs.Table.{after_calls, has_room}
 use Rattle.stream_spec.specs.Ready.{chunk_of}
 use Rattle.mixer_posts.proofs.Calling.{ok_is, offered_text}
@@ -11,4 +12,4 @@ returns-clause-offered g c = λ s pts calls h.
     )
 
 pub returns-clause-keeps : goal.returns-clause-keeps
-returns-clause-keeps g c = record { legs = c.offer.ensures.legs; turns = c.offer.ensures.turns }
+returns-clause-keeps g c = record { legs = c.offer.ensures.legs; turns = c.offer.ensures.turns; addresses = refl }
