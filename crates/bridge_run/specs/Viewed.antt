@@ -1,10 +1,10 @@
 -- What is seen at the terminals of a conference, by what was sent to each (profile).
-use Rattle.std.specs.Prelude.{◌≡◌, ℕ, Bool, ◌+◌, ◌*◌, ◌^◌, ◌<◌, ◌≤◌, List, [], ◌++◌, length, map, min, remove, take, flat_map, slice_index_or, IsTrue, All, IfOk, Result, if◌then◌else◌}
+use Rattle.std.specs.Prelude.{◌≡◌, ℕ, Bool, ◌+◌, ◌*◌, ◌^◌, ◌<◌, ◌≤◌, List, [], ◌++◌, length, map, min, remove, take, flat_map, slice_index_or, IfOk, Result, if◌then◌else◌}
 use Rattle.std.specs.List.{enumerate_from, sum_by}
 use Rattle.rtt_base.specs.declared.errors.NoMemory.{NoMemory}
 use Rattle.view_spec.specs.declared.counts.Counts.{Counts}
 use Rattle.file_spec.specs.declared.conf_lines.LegLine.{LegLine}
-use Rattle.file_spec.specs.Conf.{Conf, is_name}
+use Rattle.file_spec.specs.Conf.{Conf}
 use Rattle.mixer_spec.specs.Table.{Table}
 use Rattle.view_spec.specs.Seen.{aware_seen, counts_at, unaware_seen}
 use Rattle.command_spec.specs.Mixing.{reception_of, records_to, speaker_of, view_of, views}
@@ -20,10 +20,6 @@ use Rattle.bridge_run.specs.declared.parts.TheConstants.{MOST_PARTS}
 use Rattle.file_spec.specs.declared.limits.TheConstants.{MOST_LEGS}
 use Rattle.rtt_base.specs.declared.limits.TheConstants.{MOST_ARRIVALS}
 
--- each leg has a name
-abbrev pub AreNamed : List LegLine → Type 0
-AreNamed legs = All (λ leg. IsTrue (is_name leg.name)) legs
-
 -- these are what was sent to each terminal
 abbrev pub AreSent : Conf → Table → List (List ℕ) → Type 0
 AreSent c table outs = (j : ℕ) (d : LegLine) → j < length c.legs → IsWrittenOf (slice_index_or outs j []) (records_to c table j (slice_index_or c.legs j d))
@@ -37,12 +33,6 @@ abbrev pub AreSumsOf : Conf → List (List ℕ) → Sums → Type 0
 AreSumsOf c outs total = (table : Table) → AreSent c table outs → total ≡ sums c table
 
 -- ---- one terminal
-abbrev pub ssrcs_of : List LegLine → List ℕ
-ssrcs_of legs = map (λ leg. leg.ssrc) legs
-
-abbrev pub names_of : List LegLine → List (List ℕ)
-names_of legs = map (λ leg. leg.name) legs
-
 -- what the terminal of a leg is made with
 abbrev pub terminal_conf : Conf → LegLine → TermConf
 terminal_conf c leg = record { ssrc = c.mixer.ssrc; pts = leg.pts; wait = c.wait }

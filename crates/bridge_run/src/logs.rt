@@ -68,7 +68,7 @@ impl Log {
 
 impl Outbound for Log {
     ghost use Rattle.std.proofs.Common.{rules};
-    ghost use Rattle.std.specs.Prelude.{◌^◌, length};
+    ghost use Rattle.std.specs.Prelude.{◌^◌, [], length};
     ghost use Rattle.bridge_run.specs.Logs.{HasSent};
 
     type Fault = NoMemory;
@@ -76,6 +76,8 @@ impl Outbound for Log {
     ghost took = { λ log sent. HasSent log sent };
 
     ghost terminals = { λ log. length log };
+
+    ghost addresses = { λ log. [] };
 
     ghost horizon = { 2 ^ 32 };
 

@@ -1,14 +1,13 @@
 //! What is seen at the terminals of a conference.
-ghost use Rattle.std.specs.Prelude.{◌≡◌, ℕ, ◌+◌, ◌^◌, ◌<◌, ◌≤◌, [], ◌++◌, length, remove, false, true, IsTrue, All, IfOk, OnOk};
-ghost use Rattle.file_spec.specs.Conf.{is_name};
+ghost use Rattle.std.specs.Prelude.{◌≡◌, ℕ, ◌+◌, ◌^◌, ◌<◌, ◌≤◌, [], length, false, true, All, IfOk, OnOk};
 ghost use Rattle.conference.specs.Conferences.{conf_of};
 ghost use Rattle.played.specs.Written.{IsWritten};
-ghost use Rattle.bridge_run.specs.Viewed.{AddsCounts, AddsSent, AddsSentTo, AreNamed, AreOf, AreSeenBetween, AreSumsOf, AreViewsOf, HasFew, marks_of, names_of, ssrcs_of, summed, terminal_conf};
+ghost use Rattle.bridge_run.specs.Viewed.{AddsCounts, AddsSent, AddsSentTo, AreOf, AreSeenBetween, AreSumsOf, AreViewsOf, HasFew, marks_of, summed, terminal_conf};
 ghost use Rattle.file_spec.specs.declared.limits.TheConstants.{MOST_LEGS};
 
-use conference::{Conf, LegLine};
+use conference::{Conf, LegLine, others};
 use played::played;
-use rtt_base::{Bytes, Name, NoMemory};
+use rtt_base::{Bytes, NoMemory};
 use std::alloc::Global;
 use terminal::{TermConf, Terminal, View};
 
@@ -22,56 +21,6 @@ pub struct Seen {
     pub used: u64,
     /// How many markers were added.
     pub marks: u64,
-}
-
-/// Those to whom an aware terminal listens.
-#[derive(Drop)]
-struct Speakers {
-    sources: Vec<u32>,
-    names: Vec<Name>,
-}
-
-/// The same name.
-fn copy_of(name: &Name) -> Name
-    requires { IsTrue (is_name name.now) }
-    ensures { result ≡ name.now }
-{
-    let mut copy = Name::new();
-    for octet in name.as_slice() {
-        copy.push(char::from(*octet));
-    }
-    copy
-}
-
-/// Appends these legs.
-fn push_speakers(
-    legs: &[LegLine],
-    sources: &mut Vec<u32>,
-    names: &mut Vec<Name>,
-) -> Result<(), NoMemory>
-    requires { AreNamed legs.now }
-    ensures sources { OnOk result (sources.new.items ≡ sources.old.items ++ ssrcs_of legs.now) }
-    ensures names { OnOk result (names.new.items ≡ names.old.items ++ names_of legs.now) }
-{
-    for leg in legs {
-        sources.push(leg.ssrc)?;
-        names.push(copy_of(&leg.name))?;
-    }
-    Ok(())
-}
-
-/// All legs but this one.
-fn others(alloc: Global, legs: &[LegLine], own: usize) -> Result<Speakers, NoMemory>
-    requires own { own < length legs.now }
-    requires named { AreNamed legs.now }
-    ensures sources { IfOk result (λ speakers. speakers.sources.items ≡ ssrcs_of (remove legs.now own)) }
-    ensures names { IfOk result (λ speakers. speakers.names.items ≡ names_of (remove legs.now own)) }
-{
-    let mut sources = Vec::with_capacity(alloc, legs.len())?;
-    let mut names = Vec::with_capacity(alloc, legs.len())?;
-    push_speakers(&legs[..own], &mut sources, &mut names)?;
-    push_speakers(&legs[own + 1..], &mut sources, &mut names)?;
-    Ok(Speakers { sources, names })
 }
 
 /// What the terminal of a leg hears.

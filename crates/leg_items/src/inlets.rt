@@ -1,27 +1,16 @@
 //! A leg as where its texts come from.
 ghost use Rattle.std.specs.Prelude.{◌≡◌};
 ghost use Rattle.stream_spec.specs.Ready.{chunk_of};
-ghost use Rattle.stream_spec.specs.Still.{is_blank};
 ghost use Rattle.leg_core.specs.Gives.{source_of};
 ghost use Rattle.leg_items.specs.Feds.{item_for, item_of_text};
 
+use ear::is_blank;
 use leg_core::{Leg, LegStep};
 use mix_loop::{Inlet, Item};
 use rtpdump_io::DumpFault;
 use rtt_base::Chunk;
 use rtt_io::Source;
 use std::sync::Wait;
-
-/// Whether a text is one or more U+FEFF and nothing else, or empty.
-fn is_blank(text: &[u8]) -> bool
-    ensures { result ≡ is_blank text.now }
-{
-    match text {
-        [0xEF, 0xBB, 0xBF, rest @ ..] => is_blank(rest),
-        [] => true,
-        _ => false,
-    }
-}
 
 /// A leg that is read by who mixes. Its keep-alives (U+FEFF alone) are no texts: they are passed over.
 #[derive(Drop)]

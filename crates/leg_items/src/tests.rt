@@ -59,7 +59,7 @@ impl Noting {
 }
 
 impl Mixes for Noting {
-    ghost use Rattle.std.specs.Prelude.{◌^◌};
+    ghost use Rattle.std.specs.Prelude.{◌^◌, []};
 
     type Fault = NoMemory;
 
@@ -68,6 +68,8 @@ impl Mixes for Noting {
     ghost legs = { λ m. m.legs };
 
     ghost turns = { λ m. m.turns };
+
+    ghost addresses = { λ m. [] };
 
     ghost horizon = { 2 ^ 32 };
 

@@ -17,7 +17,8 @@ use Rattle.outlet.specs.Outlets as outlets
 use Rattle.outlet.specs.Outlets.{own_of, legs_of, next_turn}
 use Rattle.rtt_base.specs.declared.errors.NoMemory.{NoMemory}
 use Rattle.rtt_base.specs.declared.text_packets.Pts.{Pts}
-use Rattle.mixer_turn.specs.Making.{AreNamed, IsMade, pts_of, pts_at}
+use Rattle.conference.specs.Speakers.{AreNamed}
+use Rattle.mixer_turn.specs.Making.{IsMade, pts_of, pts_at}
 use Rattle.mixer_spec.specs.Rounds.{set_at}
 use Rattle.mixer_spec.proofs.Lists.{set_same, set_other}
 use Rattle.mixer_spec.specs.Setups.{Setup, leg_at, is_aware_leg, name_of, ssrc_of, gens_of, setup}

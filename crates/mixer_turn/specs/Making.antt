@@ -1,8 +1,8 @@
 -- What a mixer of a conference is made of.
-use Rattle.std.specs.Prelude.{◌≡◌, ℕ, Option, None, Some, List, length, slice_get, IsTrue, All}
+use Rattle.std.specs.Prelude.{◌≡◌, ℕ, Option, None, Some, List, length, slice_get}
 use Rattle.rtt_base.specs.declared.text_packets.Pts.{Pts}
 use Rattle.file_spec.specs.declared.conf_lines.LegLine.{LegLine}
-use Rattle.file_spec.specs.Conf.{Conf, is_name}
+use Rattle.file_spec.specs.Conf.{Conf}
 use Rattle.mixer_spec.specs.Setups.{leg_at, setup}
 use Rattle.mixer_spec.specs.Table.{empty}
 use Rattle.outlet.specs.declared.outlets.Outlet.{Outlet}
@@ -16,9 +16,6 @@ pts_of (Some leg) = leg.pts
 -- the payload types of the terminal of the leg j
 abbrev pub pts_at : Conf → ℕ → Pts
 pts_at c j = pts_of (leg_at c.legs j)
-
-abbrev pub AreNamed : List LegLine → Type 0
-AreNamed legs = All (λ leg. IsTrue (is_name leg.name)) legs
 
 -- the outlet of the leg j, to whose terminal nothing was sent
 pub record IsMade (c : Conf) (j : ℕ) (o : Outlet) : Type 0 where

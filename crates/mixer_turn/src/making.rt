@@ -1,14 +1,14 @@
 //! What a mixer is made of.
-ghost use Rattle.std.specs.Prelude.{◌≡◌, ◌<◌, IfOk, IsTrue, length, map};
-ghost use Rattle.file_spec.specs.Conf.{is_name};
+ghost use Rattle.std.specs.Prelude.{◌≡◌, ◌<◌, IfOk, length, map};
 ghost use Rattle.mixer_spec.specs.Setups.{Setup, setup};
 ghost use Rattle.mixer_spec.specs.Table.{empty};
 ghost use Rattle.slot_table.specs.Standing as slots;
 ghost use Rattle.conference.specs.Conferences.{conf_of};
-ghost use Rattle.mixer_turn.specs.Making.{AreMade, AreNamed, IsMade};
+ghost use Rattle.conference.specs.Speakers.{AreNamed};
+ghost use Rattle.mixer_turn.specs.Making.{AreMade, IsMade};
 
 use aware_output::OutConf;
-use conference::{Conf, LegLine};
+use conference::{Conf, LegLine, name_of};
 use outlet::Outlet;
 use rtt_base::{Name, NoMemory};
 use slot_table::Slots;
@@ -25,18 +25,6 @@ pub fn sources_of(alloc: Global, legs: &[LegLine]) -> Result<Vec<u32>, NoMemory>
     Ok(sources)
 }
 
-/// The same name.
-fn copy_of(name: &Name) -> Name
-    requires { IsTrue (is_name name.now) }
-    ensures { result ≡ name.now }
-{
-    let mut copy = Name::new();
-    for octet in name.as_slice() {
-        copy.push(char::from(*octet));
-    }
-    copy
-}
-
 /// The name of each leg.
 pub fn names_of(alloc: Global, legs: &[LegLine]) -> Result<Vec<Name>, NoMemory>
     requires { AreNamed legs.now }
@@ -44,7 +32,7 @@ pub fn names_of(alloc: Global, legs: &[LegLine]) -> Result<Vec<Name>, NoMemory>
 {
     let mut names = Vec::with_capacity(alloc, legs.len())?;
     for leg in legs {
-        names.push(copy_of(&leg.name))?;
+        names.push(name_of(leg.name.as_str()))?;
     }
     Ok(names)
 }

@@ -18,6 +18,10 @@ pub record Finds (found : Found) (octets : List ℕ) (records : List (ℕ × Lis
 abbrev pub FindsAll : Found → List ℕ → Type 0
 FindsAll found octets = (all : List (ℕ × List ℕ)) → AreRecords octets all → Finds found octets all
 
+-- they are the octets of some records, all of which are found
+abbrev pub AreFound : Found → List ℕ → Type 0
+AreFound found octets = (all : List (ℕ × List ℕ)) × (AreRecords octets all) × (Finds found octets all)
+
 -- none is found behind the end of the octets
 abbrev pub LieWithin : Found → List ℕ → Type 0
 LieWithin found octets = All (λ place. place ≤ length octets) found.places.items

@@ -4,7 +4,7 @@ ghost use Rattle.std.specs.List.{list_any};
 ghost use Rattle.fault_plan.specs.Arriving.{IsOfFirst};
 ghost use Rattle.terminal.specs.Terminals.{counts_of, IsOpen};
 ghost use Rattle.played.specs.Written.{HasRecords, MomentsNeverFall, IsWritten};
-ghost use Rattle.played.specs.Finds.{LieWithin};
+ghost use Rattle.played.specs.Finds.{AreFound, LieWithin};
 ghost use Rattle.played.specs.Told.{HearsAsWritten, HearsByPlan, HearsCopies, HearsCopy, HeardByPlan};
 ghost use Rattle.rtt_base.specs.declared.limits.TheConstants.{LONGEST_WAIT, MOST_ARRIVALS, MOST_SOURCES};
 
@@ -67,6 +67,7 @@ fn hear_copy(
     requires few { (counts_of terminal.old).packets < MOST_ARRIVALS }
     requires sent { IsOfFirst (length found.now.places.items) copy }
     requires within { LieWithin found.now records.now }
+    requires found { AreFound found.now records.now }
     ensures listens { OnOk result (HearsCopy terminal.old records.now found.now copy terminal.new) }
     ensures open { IsOpen terminal.new }
     ensures packets { (counts_of terminal.new).packets ≤ (counts_of terminal.old).packets + 1 }
@@ -74,7 +75,7 @@ fn hear_copy(
     let place = found.places[copy.index as usize];
     match next_record(&records[place..]) {
         Some((_, packet, _)) => terminal.arrive(copy.at, packet),
-        None => Ok(()),
+        None => unreachable!(),
     }
 }
 
@@ -90,6 +91,7 @@ fn hear_copies(
     requires few { length copies.now < MOST_ARRIVALS }
     requires sent { All (IsOfFirst (length found.now.places.items)) copies.now }
     requires within { LieWithin found.now records.now }
+    requires found { AreFound found.now records.now }
     ensures listens { OnOk result (HearsCopies terminal.old records.now found.now copies.now terminal.new) }
     ensures open { IsOpen terminal.new }
     ensures few { (counts_of terminal.new).packets < MOST_ARRIVALS }

@@ -22,6 +22,14 @@ pub record IsWritten (ssrc : ℕ) (octets old new : List ℕ) : Type 0 where
   pub out : new ≡ old ++ channel_file ssrc octets
   pub whole : (dump usual_limit octets).fault ≡ None
 
+-- these are the frames of what is heard in it
+abbrev pub AreFramesOf : List ℕ → ℕ → List ℕ → Type 0
+AreFramesOf frames ssrc octets = channel ssrc octets ≡ Ok frames
+
+-- it is a whole recording, whoever is heard
+abbrev pub IsWhole : ℕ → List ℕ → Type 0
+IsWhole ssrc octets = (dump usual_limit octets).fault ≡ None
+
 -- the recording has this fault
 abbrev pub IsReadCause : ChannelFault → List ℕ → Type 0
 IsReadCause (Dump fault) octets = IsFaultOf (dump usual_limit octets) fault
@@ -38,6 +46,10 @@ module _ {S : Type 0} where
   -- nothing was heard yet of this stream of a recording of these octets
   abbrev pub IsAt : (S → List ℕ) → Leg S → ℕ → List ℕ → Type 0
   IsAt left leg ssrc octets = Stands left leg (begins (channel_conf ssrc) usual_limit octets)
+
+  -- so it is of the stream and the recording that the leg is over, where nothing was heard yet
+  abbrev pub ForRecording : (S → List ℕ) → Leg S → (ℕ → List ℕ → Type 0) → Type 0
+  ForRecording left leg P = (ssrc : ℕ) (octets : List ℕ) → IsAt left leg ssrc octets → P ssrc octets
 
   -- where the fault is one of reading, the source failed
   abbrev pub IsFailed : (S → ℕ) → S → S → ChannelFault → Type 0

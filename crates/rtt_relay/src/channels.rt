@@ -1,11 +1,10 @@
 //! What is heard of a recording, as frames.
-ghost use Rattle.std.specs.Prelude.{◌≡◌, ◌<◌, ◌^◌, ◌++◌, ℕ, List, Ok, None, false, length, OnOk, IfOk, IfErr};
-ghost use Rattle.wire_spec.specs.Dump.{dump, usual_limit};
+ghost use Rattle.std.specs.Prelude.{◌≡◌, ◌<◌, ◌^◌, ◌++◌, false, length, OnOk, IfOk, IfErr};
 ghost use Rattle.frame_spec.specs.Frames.{frame_written};
 ghost use Rattle.stream_spec.specs.Ready.{chunk_of};
-ghost use Rattle.command_spec.specs.Frames.{channel, chunk_frame};
+ghost use Rattle.command_spec.specs.Frames.{chunk_frame};
 ghost use Rattle.leg_core.specs.Gives.{is_over, source_of};
-ghost use Rattle.rtt_relay.specs.Channels.{IsAt, IsWritten, IsChannelCause, IsReadCause, HasSource};
+ghost use Rattle.rtt_relay.specs.Channels.{AreFramesOf, ForRecording, HasSource, IsAt, IsChannelCause, IsReadCause, IsWhole, IsWritten};
 
 use crate::ChannelFault;
 use ear::EarConf;
@@ -55,8 +54,9 @@ fn append_chunk(chunk: &Chunk, out: &mut Bytes) -> Result<(), OutOfMemory>
 /// Appends a frame for each text that is still to be heard.
 fn append_chunks<S: Source>(leg: &mut Leg<S>, out: &mut Bytes) -> Result<(), ChannelFault>
     requires { is_over leg.old ≡ false }
-    ensures written { S.tells → OnOk result ((ssrc : ℕ) (octets : List ℕ) → IsAt S.left leg.old ssrc octets → IsWritten ssrc octets out.old out.new) }
-    ensures refused { S.tells → IfErr result (λ fault. (ssrc : ℕ) (octets : List ℕ) → IsAt S.left leg.old ssrc octets → IsReadCause fault octets) }
+    ensures written { S.tells → OnOk result (ForRecording S.left leg.old (λ ssrc octets.
+        IsWritten ssrc octets out.old out.new)) }
+    ensures refused { S.tells → IfErr result (λ fault. ForRecording S.left leg.old (λ ssrc. IsReadCause fault)) }
     ensures source { HasSource S.faults S.name (source_of leg.old) (source_of leg.new) result }
 {
     let mut chunk = Chunk::default();
@@ -77,9 +77,9 @@ fn append_chunks<S: Source>(leg: &mut Leg<S>, out: &mut Bytes) -> Result<(), Cha
 /// The frames of a recording: one for each text that is heard of a leg that `channel_leg` gave, at the moment at which it is ready.
 pub fn channel_file<S: Source>(alloc: Global, leg: &mut Leg<S>) -> Result<Bytes, ChannelFault>
     requires { is_over leg.old ≡ false }
-    ensures written { S.tells → IfOk result (λ frames. (ssrc : ℕ) (octets : List ℕ) → IsAt S.left leg.old ssrc octets → channel ssrc octets ≡ Ok frames) }
-    ensures whole { S.tells → OnOk result ((ssrc : ℕ) (octets : List ℕ) → IsAt S.left leg.old ssrc octets → (dump usual_limit octets).fault ≡ None) }
-    ensures refused { S.tells → IfErr result (λ fault. (ssrc : ℕ) (octets : List ℕ) → IsAt S.left leg.old ssrc octets → IsChannelCause fault ssrc octets) }
+    ensures written { S.tells → IfOk result (λ frames. ForRecording S.left leg.old (AreFramesOf frames)) }
+    ensures whole { S.tells → OnOk result (ForRecording S.left leg.old IsWhole) }
+    ensures refused { S.tells → IfErr result (λ fault. ForRecording S.left leg.old (IsChannelCause fault)) }
     ensures source { HasSource S.faults S.name (source_of leg.old) (source_of leg.new) result }
 {
     let mut out = Bytes::new(alloc);

@@ -12,6 +12,10 @@ use Rattle.rtt_show.specs.declared.groups.Groups.{Groups}
 abbrev pub one_group : ℕ → ℕ × List ℕ → Group
 one_group name r = record { name = name; records = record_written r }
 
+-- a group of one packet more
+abbrev pub Begins : ℕ → ℕ × List ℕ → List Group → List Group → Type 0
+Begins name r old new = new ≡ old ++ one_group name r ∷ []
+
 -- a group with a packet more
 abbrev pub with_record : Group → ℕ × List ℕ → Group
 with_record group r = record { name = group.name; records = group.records ++ record_written r }

@@ -1,6 +1,7 @@
 -- What is printed of the packets of a stream or a pair, from what was found out of them.
-use Rattle.std.specs.Prelude.{ℕ, List, [], ◌∷◌, ◌++◌, length, map, flat_map, slice_index, codes, decimal}
+use Rattle.std.specs.Prelude.{ℕ, Bool, List, [], ◌∷◌, ◌++◌, length, map, flat_map, slice_index, codes, decimal, if◌then◌else◌}
 use Rattle.rtt_base.specs.declared.text_packets.Pts.{Pts}
+use Rattle.wire_spec.specs.declared.faults.TextFault.{TextFault}
 use Rattle.wire_spec.specs.Dump.{Item}
 use Rattle.view_spec.specs.Views.{printed_line, source_view, counts_line}
 use Rattle.command_spec.specs.Reading.{usual_wait}
@@ -23,6 +24,10 @@ abbrev pub asked : ℕ → List ℕ → List ℕ
 asked ssrc [] = ssrc ∷ []
 asked ssrc (source ∷ sources) = source ∷ sources
 
+-- how many packets were refused by each of these
+abbrev pub refusal_lines : List ℕ → List TextFault → List ℕ
+refusal_lines refused faults = flat_map (λ fault. refusal_line fault (slice_index refused (place_of fault))) faults
+
 -- what stands behind the first line
 abbrev pub heard_text : Survey → Terminal → List ℕ
 heard_text s t =
@@ -36,6 +41,10 @@ abbrev pub guessed : Guess → List ℕ
 guessed Nothing = []
 guessed (Red inside) = codes " red of " ++ decimal inside
 guessed Text = codes " text"
+
+-- the first of the two that packets may be
+abbrev pub first_guess : Bool → Bool → ℕ → List ℕ
+first_guess red text inside = if red then codes " red of " ++ decimal inside else (if text then codes " text" else [])
 
 abbrev pub pair_text : ℕ → ℕ → ℕ → List ℕ → List ℕ
 pair_text ssrc pt packets guess =

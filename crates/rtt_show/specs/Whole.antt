@@ -8,7 +8,7 @@ use Rattle.rtt_show.specs.declared.views.Shape.{Shape}
 use Rattle.rtt_show.specs.declared.views.Shape.TheVariants.{Stream, Pair}
 use Rattle.rtt_show.specs.declared.groups.Group.{Group}
 use Rattle.rtt_show.specs.declared.found.Found.{Found}
-use Rattle.rtt_show.specs.Records.{HasRecords}
+use Rattle.rtt_show.specs.Records.{HasRecords, OfRecords}
 use Rattle.rtt_show.specs.Groups.{Holds}
 
 -- ---- groups
@@ -25,6 +25,10 @@ shape_view Pair name came = pair_view name came
 -- a group has records, and a name that fits
 abbrev pub IsGroupOf : Shape → Group → Type 0
 IsGroupOf shape group = HasRecords group.records × group.name < shape_limit shape
+
+-- the view of this group was appended
+abbrev pub IsGroupShown : Shape → Group → List ℕ → List ℕ → Type 0
+IsGroupShown shape group old new = OfRecords group.records (λ came. new ≡ old ++ shape_view shape group.name came)
 
 -- the views of the groups were appended: of each name, those of the records that name it
 abbrev pub AreShown : Shape → List Group → List ℕ → List ℕ → Type 0

@@ -1,6 +1,6 @@
 //! The packets of streams, or of pairs, kept apart by what they name.
-ghost use Rattle.std.specs.Prelude.{◌≡◌, ◌==◌, ◌+◌, ◌<◌, ◌≤◌, ◌^◌, [], ◌∷◌, ◌++◌, length, OnOk, IfOk, position};
-ghost use Rattle.rtt_show.specs.Groups.{AddedAt, GroupsMore, one_group};
+ghost use Rattle.std.specs.Prelude.{◌≡◌, ◌==◌, ◌+◌, ◌<◌, ◌≤◌, ◌^◌, [], length, OnOk, IfOk, position};
+ghost use Rattle.rtt_show.specs.Groups.{AddedAt, Begins, GroupsMore, one_group};
 
 use rtpdump_io::write_record;
 use rtt_base::limits::MOST_SOURCES;
@@ -66,7 +66,7 @@ impl Groups {
     fn begin(&mut self, alloc: Global, name: u64, at: u32, packet: &[u8]) -> Result<(), NoMemory>
         requires some { 0 < length packet.now }
         requires fits { length packet.now ≤ 65527 }
-        ensures begun { OnOk result (self.new.groups.items ≡ self.old.groups.items ++ one_group name (at, packet.now) ∷ []) }
+        ensures begun { OnOk result (Begins name (at, packet.now) self.old.groups.items self.new.groups.items) }
         ensures others { self.new.others ≡ self.old.others }
     {
         let group = new_group(alloc, name, at, packet)?;

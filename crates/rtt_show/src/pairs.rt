@@ -1,10 +1,10 @@
 //! What is shown of the packets of another payload type.
-ghost use Rattle.std.specs.Prelude.{◌≡◌, ◌==◌, ◌&&◌, ◌++◌, not, [], OnOk, decimal, codes, if◌then◌else◌};
+ghost use Rattle.std.specs.Prelude.{◌≡◌, ◌==◌, ◌&&◌, ◌++◌, not, OnOk};
 ghost use Rattle.command_spec.specs.Streams.{are_like_text, is_dynamic};
 ghost use Rattle.command_spec.specs.Showing.{guess_line};
 ghost use Rattle.rtt_show.specs.Records.{HasRecords, OfRecords};
 ghost use Rattle.rtt_show.specs.Signs.{AreSigns};
-ghost use Rattle.rtt_show.specs.Shown.{guessed, pair_text, pair_line};
+ghost use Rattle.rtt_show.specs.Shown.{first_guess, guessed, pair_text, pair_line};
 
 use crate::likes::all_near_text;
 use crate::printing::append_number;
@@ -39,7 +39,7 @@ fn are_near_where(shown: bool, records: &[u8], ssrc: u32, pts: Pts) -> bool
 
 /// The first of the two that they may be.
 fn guess_from(red: bool, text: bool, inside: u8) -> Guess
-    ensures { guessed result ≡ (if red then codes " red of " ++ decimal inside else (if text then codes " text" else [])) }
+    ensures { guessed result ≡ first_guess red text inside }
 {
     if red {
         return Guess::Red { inside };

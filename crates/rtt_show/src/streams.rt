@@ -1,13 +1,13 @@
 //! What is shown of a stream of text.
-ghost use Rattle.std.specs.Prelude.{◌≡◌, ◌≢◌, ◌++◌, ◌≤◌, length, map, flat_map, decimal, AllPairs, IsUtf8, IfOk, OnOk, slice_index};
-ghost use Rattle.command_spec.specs.Showing.{place_of, refusal_line, refusals, stream_view};
+ghost use Rattle.std.specs.Prelude.{◌≡◌, ◌≢◌, ◌++◌, ◌≤◌, length, map, flat_map, decimal, AllPairs, IsUtf8, IfOk, OnOk};
+ghost use Rattle.command_spec.specs.Showing.{refusal_line, refusals, stream_view};
 ghost use Rattle.view_spec.specs.Views.{source_view};
 ghost use Rattle.terminal.specs.Terminals.{texts_of, AreUtf8};
 ghost use Rattle.terminal.specs.Views.{named, source_shown};
 ghost use Rattle.rtt_base.specs.declared.limits.TheConstants.{MOST_SOURCES};
 ghost use Rattle.rtt_show.specs.Hearing.{HasHeard};
 ghost use Rattle.rtt_show.specs.Records.{HasRecords, OfRecords};
-ghost use Rattle.rtt_show.specs.Shown.{asked, conf_of, heard_text};
+ghost use Rattle.rtt_show.specs.Shown.{asked, conf_of, heard_text, refusal_lines};
 
 use crate::first_sources::FirstSources;
 use crate::hearing::hear_all;
@@ -117,7 +117,7 @@ fn append_refusals(
     refused: &[u64; 10],
     out: &mut Bytes,
 ) -> Result<(), NoMemory>
-    ensures { OnOk result (out.new ≡ out.old ++ flat_map (λ fault. refusal_line fault (slice_index refused.now (place_of fault))) faults.now) }
+    ensures { OnOk result (out.new ≡ out.old ++ refusal_lines refused.now faults.now) }
 {
     for fault in faults {
         append_refusal(*fault, refused[place_among(*fault)], out)?;

@@ -5,7 +5,7 @@ ghost use Rattle.command_spec.specs.Streams.{ssrc_of, type_of};
 ghost use Rattle.command_spec.specs.Showing.{end_line, items_view};
 ghost use Rattle.rtt_show.specs.Records.{HasRecords, OfRecords};
 ghost use Rattle.rtt_show.specs.Finds.{IsFound, IsSmall};
-ghost use Rattle.rtt_show.specs.Whole.{AreShown, IsGroupOf, ends, others_text, shape_limit, shape_view};
+ghost use Rattle.rtt_show.specs.Whole.{AreShown, IsGroupOf, IsGroupShown, ends, others_text, shape_limit};
 
 use crate::found::Found;
 use crate::groups::{Group, Groups};
@@ -42,7 +42,7 @@ fn type_in(pair: u64) -> u8
 fn show_group(alloc: Global, shape: Shape, group: &Group, out: &mut Bytes) -> Result<(), NoMemory>
     requires records { HasRecords group.now.records }
     requires name { group.now.name < shape_limit shape }
-    ensures { OnOk result (OfRecords group.now.records (λ came. out.new ≡ out.old ++ shape_view shape group.now.name came)) }
+    ensures { OnOk result (IsGroupShown shape group.now out.old out.new) }
 {
     let records = group.records.as_slice();
     match shape {
