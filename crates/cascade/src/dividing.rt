@@ -6,8 +6,8 @@ ghost use Rattle.source_receiver.specs.Stands.{latest_number};
 ghost use Rattle.cascade.specs.Dividing.{AddsTexts, Divides, TakesDue};
 ghost use Rattle.rtt_base.specs.declared.limits.TheConstants.{MOST_TEXT_OCTETS};
 
-use crate::blanks::is_blank;
 use crate::splitters::Splitter;
+use ear::is_blank;
 use gap_tracker::Due;
 use rtt_base::{NoMemory, Packet, Text, TextPacket};
 use source_receiver::{Piece, Receiver};

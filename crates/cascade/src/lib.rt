@@ -2,7 +2,6 @@
 //! recording of a leg: so one mixer hears another.
 #![tactic(auto)]
 
-mod blanks;
 mod dividers;
 mod dividing;
 mod splits;

@@ -10,9 +10,8 @@ use crate::trunk_sources::{BelowSource, SplitSource, TrunkSource};
 use rtt_base::{Failed, Path};
 use rtt_io::World;
 
-/// A world over another one. Under the names that begin with `trunk ` lie the recordings of sources, and nothing else, and
-/// nothing can be created there; all other names are those of the world below. No recording of a source fails to be opened or
-/// to be read.
+/// A world over another one. Under the names that begin with `trunk ` lie the recordings of sources, and nothing else; all other
+/// names are those of the world below. No reading of a recording of a source fails.
 pub struct TrunkWorld<'w, 's, W> {
     pub world: &'w mut W,
     /// The names of the recordings, in their order.

@@ -1,5 +1,5 @@
 -- What is read and heard of a split.
-use Rattle.std.proofs.Common.{◌≡◌, ℕ, List, [], ap, sym, ◌∙◌, subst, arith, map}
+use Rattle.std.proofs.Common.{◌≡◌, ◌≤◌, ℕ, List, [], length, ap, sym, ◌∙◌, subst, arith, map}
 use Rattle.rtt_base.specs.declared.text_packets.Pts.{Pts}
 use Rattle.wire_spec.specs.Packets.{Arrival}
 use Rattle.wire_spec.specs.Dump.{Recording, arrivals_after}
@@ -18,12 +18,14 @@ backs pts s cs is a = all_back pts s 0 0 (groups cs) is (omega arith) (omega ari
 pub splits_read : SplitsAreRead
 splits_read pts s cs is a limit n = ap (λ (r : Recording). r.fault) (reads pts s limit (packets_in s (groups cs)) (backs pts s cs is a) n)
 
+-- what is heard of it are the texts of its groups
+pub split_texts : (pts : Pts) (s : ℕ) (cs : List Chunk) → IsStream pts s → AreSendable cs → (limit wait : ℕ) → length (recording_of pts s cs) ≤ limit
+    → heard_in pts s limit wait (recording_of pts s cs) ≡ map (λ g. g.text) (groups cs)
+split_texts pts s cs is a limit wait n =
+    ap (λ (r : Recording). heard wait (arrivals_after s pts [] r.items) s) (reads pts s limit (packets_in s (groups cs)) (backs pts s cs is a) n)
+    ∙ (ap (λ (past : List Arrival). heard wait past s) (arrives pts s [] (packets_in s (groups cs)) (backs pts s cs is a))
+    ∙ all_heard wait s (groups cs) (groups_sendable cs a))
+
 pub splits_heard : SplitsAreHeard
 splits_heard pts s cs is a limit wait n =
-    subst (λ ts. Groups ts (map (λ (c : Chunk). c.text) cs) []) (sym heard_is) (groups_carry cs a)
-  where
-    heard_is : heard_in pts s limit wait (recording_of pts s cs) ≡ map (λ g. g.text) (groups cs)
-    heard_is =
-        ap (λ (r : Recording). heard wait (arrivals_after s pts [] r.items) s) (reads pts s limit (packets_in s (groups cs)) (backs pts s cs is a) n)
-        ∙ (ap (λ (past : List Arrival). heard wait past s) (arrives pts s [] (packets_in s (groups cs)) (backs pts s cs is a))
-        ∙ all_heard wait s (groups cs) (groups_sendable cs a))
+    subst (λ ts. Groups ts (map (λ (c : Chunk). c.text) cs) []) (sym (split_texts pts s cs is a limit wait n)) (groups_carry cs a)

@@ -6,7 +6,8 @@ use Rattle.wire_spec.specs.Dump.{arrivals_after, dump}
 use Rattle.stream_spec.specs.Carries.{Groups}
 use Rattle.stream_spec.specs.Hearing.{heard}
 use Rattle.stream_spec.specs.Ready.{Chunk}
-use Rattle.cascade_spec.specs.Splitting.{groups, packets_in, recorded}
+use Rattle.stream_spec.specs.Still.{still}
+use Rattle.cascade_spec.specs.Splitting.{Trunk, came_of, chunks_of, groups, packets_in, recorded, split}
 use Rattle.rtt_base.specs.declared.limits.TheConstants.{MOST_TEXT_OCTETS}
 
 -- a text that fits into a packet
@@ -47,3 +48,37 @@ SplitsAreHeard =
     (pts : Pts) (s : ℕ) (cs : List Chunk) → IsStream pts s → AreSendable cs
     → (limit wait : ℕ) → length (recording_of pts s cs) ≤ limit
     → Groups (heard_in pts s limit wait (recording_of pts s cs)) (map (λ c. c.text) cs) []
+
+-- ---- of a recording
+-- Whatever a recording has, what is heard of each source of it are texts that fit into a packet.
+abbrev pub HeardAreSendable : Type 0
+HeardAreSendable = (t : Trunk) (octets : List ℕ) (s : ℕ) → AreSendable (chunks_of t.wait (came_of t octets) s)
+
+-- the split of this source out of the recording with these octets
+abbrev pub split_of : Trunk → List ℕ → ℕ → List ℕ
+split_of t octets s = split t.pts t.wait (came_of t octets) s
+
+-- Whatever a recording has, each split of it is read to its end wherever it has at most as many octets as may be,
+abbrev pub RecordingsAreRead : Type 0
+RecordingsAreRead =
+    (t : Trunk) (octets : List ℕ) (s : ℕ) → IsStream t.pts s
+    → (limit : ℕ) → length (split_of t octets s) ≤ limit
+    → (dump limit (split_of t octets s)).fault ≡ None
+
+-- and what is heard of it is what is heard of its source.
+abbrev pub RecordingsAreHeard : Type 0
+RecordingsAreHeard =
+    (t : Trunk) (octets : List ℕ) (s : ℕ) → IsStream t.pts s
+    → (limit wait : ℕ) → length (split_of t octets s) ≤ limit
+    → Groups (heard_in t.pts s limit wait (split_of t octets s)) (map (λ c. c.text) (chunks_of t.wait (came_of t octets) s)) []
+
+-- what a mixer hears of it, to which keep-alives are no text
+abbrev pub mixed_in : Pts → ℕ → ℕ → ℕ → List ℕ → List (List ℕ)
+mixed_in pts s limit wait octets = heard wait (still (arrivals_after s pts [] (dump limit octets).items)) s
+
+-- A mixer hears the same of it.
+abbrev pub RecordingsAreMixed : Type 0
+RecordingsAreMixed =
+    (t : Trunk) (octets : List ℕ) (s : ℕ) → IsStream t.pts s
+    → (limit wait : ℕ) → length (split_of t octets s) ≤ limit
+    → Groups (mixed_in t.pts s limit wait (split_of t octets s)) (map (λ c. c.text) (chunks_of t.wait (came_of t octets) s)) []
