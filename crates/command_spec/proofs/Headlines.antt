@@ -1,5 +1,5 @@
 -- The headline of a conference that was mixed.
-use Rattle.std.proofs.Common.{◌≡◌, ℕ, suc, ◌+◌, ◌*◌, ◌<◌, ◌≤◌, Bool, true, false, cond, Some, List, [], ◌∷◌, ◌++◌, length, refl, ap, subst, sym, ◌∙◌, arith}
+use Rattle.std.proofs.Common.{◌≡◌, ℕ, suc, ◌+◌, ◌*◌, ◌<◌, ◌≤◌, Bool, true, false, cond, Ok, Some, List, [], ◌∷◌, ◌++◌, length, refl, ap, subst, sym, ◌∙◌, arith}
 use Rattle.std.specs.Prelude.{map, flat_map, remove, if◌then◌else◌}
 use Rattle.std.specs.List.{AllByRecursion, concat, enumerate_from}
 use Rattle.std.proofs.Math.Nat.{mul-le-mul_left}
@@ -7,7 +7,7 @@ use Rattle.wire_spec.specs.Packets.{Arrival}
 use Rattle.wire_spec.specs.Dump.{dump_written}
 use Rattle.file_spec.specs.declared.conf_lines.Form.TheVariants.{Files}
 use Rattle.file_spec.specs.declared.conf_lines.LegLine.{LegLine}
-use Rattle.file_spec.specs.Conf.{Conf}
+use Rattle.file_spec.specs.Conf.{Conf, conf}
 use Rattle.file_spec.specs.Kept.{IsConference}
 use Rattle.stream_spec.specs.Numbering.{numbered, used}
 use Rattle.stream_spec.specs.Hearing.{heard}
@@ -34,6 +34,7 @@ use Rattle.command_spec.specs.Outcomes.{Done, outcome, AllStored}
 use Rattle.view_spec.specs.Seen.{Text, fate_at, arrivals_at, counts_at, source_at}
 use Rattle.command_spec.specs.Mixing.{sent_to, out_of, came_to, reception_of, speaker_of, view_of, views, outs, input_at, mixing}
 use Rattle.command_spec.specs.Bridges.{Bridge, setup_of, IsFrom, inward, chunks_of, told_to, comes_to, onward_from_mixer, records_of, counts_behind, view_behind, IsHeard, IsHeardAsOne, IsMixedFrom, IsBridged}
+use Rattle.command_spec.specs.Cascaded.{IsSeen}
 use Rattle.command_spec.proofs.Ssrcs.{ssrcs_fit}
 use Rattle.command_spec.proofs.Reached.{reached}
 use Rattle.command_spec.proofs.Stored.{stored_at}
@@ -154,11 +155,9 @@ is_told b w j l =
     record { lawful = o.lawful; own = o.own; closed = o.closed a.quiet; packets_are = o.packets_are }
 
 -- ---- the whole
-is_bridged : (held after : Contents) (file printed : List ℕ) (b : Bridge) → IsMixedFrom held file b → printed ≡ views b.conference b.table → AllStored (outs b.conference b.table) held after
-    → IsBridged held after file printed
-is_bridged held after file printed b m views_are stored = record {
-  bridge = b;
-  mixed = m;
+pub seen : (held after : Contents) (octets printed : List ℕ) (b : Bridge) → conf Files octets ≡ Ok b.conference → IsConferenceMixed b.conference (input_at b.inputs) b.table
+    → printed ≡ views b.conference b.table → AllStored (outs b.conference b.table) held after → IsSeen after printed b
+seen held after octets printed b read over views_are stored = record {
   outs = λ j leg at.
       let g : gens_of (leg_at b.conference.legs j) ≡ leg.gens = ap gens_of at in
       let t = subst (IsTold b j) g (is_told b w j (below_legs b.conference.legs j leg at)) in
@@ -169,7 +168,7 @@ is_bridged held after file printed b m views_are stored = record {
 }
   where
     w : IsWhole b
-    w = record { is = (accepted_law Files m.read.0 b.conference m.read.2).0; over = m.over }
+    w = record { is = (accepted_law Files octets b.conference read).0; over = over }
 
     there : (j : ℕ) (leg : LegLine) → leg_at b.conference.legs j ≡ Some leg → after leg.output ≡ Some (dump_written (records_of b j leg))
     there j leg at =
@@ -177,7 +176,13 @@ is_bridged held after file printed b m views_are stored = record {
         stored_at (out_of b.conference b.table) (λ n l. refl) 0 b.conference.legs held after w.is.legs.differ stored j leg at ∙ ap (λ n. Some (dump_written (records_of b n leg))) k
 
     back : (j : ℕ) (leg : LegLine) → leg_at b.conference.legs j ≡ Some leg → AllByRecursion (IsBack b.conference.mixer.ssrc leg.pts) (sent_to b.conference b.table j)
-    back j leg at = all_back b.conference (input_at b.inputs) b.table w.is (ssrcs_fit Files m.read.0 b.conference m.read.2) m.over j leg at
+    back j leg at = all_back b.conference (input_at b.inputs) b.table w.is (ssrcs_fit Files octets b.conference read) over j leg at
+
+is_bridged : (held after : Contents) (file printed : List ℕ) (b : Bridge) → IsMixedFrom held file b → printed ≡ views b.conference b.table → AllStored (outs b.conference b.table) held after
+    → IsBridged held after file printed
+is_bridged held after file printed b m views_are stored =
+    let s = seen held after m.read.0 printed b m.read.2 m.over views_are stored in
+    record { bridge = b; mixed = m; outs = s.outs; views = s.views; heard = s.heard; heard_as_one = s.heard_as_one }
 
 pub bridged : (held after : Contents) (file printed : List ℕ) (files : List Made) → outcome held (mixing file) ≡ Done printed files → AllStored files held after → IsBridged held after file printed
 bridged held after file printed files e stored =

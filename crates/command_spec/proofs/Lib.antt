@@ -19,3 +19,7 @@ pub mod Generating
 mod FrameExamples
 pub mod HeaderTypes
 pub mod ShownAsRead
+pub mod Naming
+mod AttendExamples
+pub mod CascadedHeadlines
+mod CascadeExamples

@@ -20,7 +20,7 @@ use Rattle.stream_spec.specs.Still.{still}
 use Rattle.mixer_spec.specs.Bridged.{input_limit, leg_arrivals, leg_chunks}
 use Rattle.mixer_spec.proofs.Kept.{entered_same, stopped_same, gone_same}
 use Rattle.command_spec.specs.declared.faults.Refusal.TheVariants.{AtByte}
-use Rattle.command_spec.specs.Work.{Contents, Made, Steps, Reads, Refuses, Makes, IsOutput, IsNth}
+use Rattle.command_spec.specs.Work.{Contents, Made, Steps, Reads, Refuses, Makes, Serves, IsOutput, IsNth}
 use Rattle.command_spec.specs.Mixing.{out_of, views, outs, makes, input_at, unless_one_broken, mixes, reads_inputs, mixes_read, mixing}
 use Rattle.mixer_spec.specs.declared.limits.TheConstants.{MOST_INPUT_OF_MANY}
 
@@ -161,6 +161,7 @@ abbrev AreOuts : Conf → Steps → Type 0
 AreOuts c (Makes printed files) = (t : Table) × (files ≡ outs c t)
 AreOuts c (Refuses n refusal) = Unit {0}
 AreOuts c (Reads name next) = ⊥
+AreOuts c (Serves other) = ⊥
 
 outs_made : (c : Conf) (o : Option Table) → AreOuts c (makes c o)
 outs_made c None = tt
@@ -213,3 +214,4 @@ is_output Told held file octets c lies read all makes_it n leg at =
         along Told held silent c.legs (mixes c) n leg.output (λ told k l q. let r = makes_it told in absurd (cc (sym e ∙ r.2)))
         (is_made Told held (mixes c (each silent c.legs)) (views c q.0) (outs c q.0) n leg.output q.1 (nth_out c q.0 0 c.legs n leg at))
     go (Reads name next) e a = absurd a
+    go (Serves other) e a = absurd a

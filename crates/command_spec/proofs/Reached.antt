@@ -68,7 +68,7 @@ pub record IsReached (held : Contents) (file printed : List ℕ) (files : List M
   pub views_are : printed ≡ views bridge.conference bridge.table
   pub outs_are : files ≡ outs bridge.conference bridge.table
 
-done_parts : (p q : List ℕ) (fs gs : List Made) → Done p fs ≡ Done q gs → (p ≡ q) × (fs ≡ gs)
+pub done_parts : (p q : List ℕ) (fs gs : List Made) → Done p fs ≡ Done q gs → (p ≡ q) × (fs ≡ gs)
 done_parts p q fs gs e = (cc e, cc e)
 
 pub reached : (held : Contents) (file printed : List ℕ) (files : List Made) → outcome held (mixing file) ≡ Done printed files → IsReached held file printed files

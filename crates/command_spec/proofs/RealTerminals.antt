@@ -18,7 +18,7 @@ use Rattle.text_spec.specs.Shown.{Display, shown}
 use Rattle.view_spec.specs.Views.{aware_view, unaware_view}
 use Rattle.text_spec.specs.Views.{label, label_after}
 use Rattle.command_spec.specs.Work.{Contents}
-use Rattle.command_spec.specs.Outcomes.{Outcome, Missing, Refused, Done, outcome}
+use Rattle.command_spec.specs.Outcomes.{Outcome, Missing, Refused, Done, Served, outcome}
 use Rattle.command_spec.specs.Mixing.{mixing}
 
 abbrev legs : List ℕ
@@ -49,6 +49,7 @@ abbrev printed : Outcome → List ℕ
 printed (Missing input) = []
 printed (Refused input refusal) = []
 printed (Done views files) = views
+printed (Served c) = []
 
 abbrev seen : List ℕ → List ℕ → List ℕ
 seen ann bob = printed (outcome (lying ann bob) (mixing (codes "c.txt")))

@@ -23,6 +23,7 @@ use Rattle.mixer_spec.specs.Setups.{Setup, setup, stream, leg_at, ssrc_of}
 use Rattle.mixer_spec.specs.Table.{TurnEntry, Table, packets, sents}
 use Rattle.mixer_spec.specs.Bridged.{IsConferenceMixed, IsMixed, leg_chunks, packets_to}
 use Rattle.mixer_spec.proofs.Paced.{Timed, can_send}
+use Rattle.mixer_spec.proofs.Conferences.{setup_law}
 use Rattle.mixer_spec.proofs.Final.{AtEnd, at_end}
 use Rattle.mixer_spec.proofs.OfFiles.{mixed_law}
 use Rattle.command_spec.specs.Mixing.{sent_to}
@@ -84,15 +85,19 @@ sources c h j k table t e i = go ((setup c).aware j) refl
     go true a = let q = ((t.aware a).own e i).source in let l = ssrc_fits c.legs e.leg h.legs in omega (arith, q, l)
     go false a = let q = (t.unaware a).own e i in let l = h.mixer in omega (arith, q, l)
 
+pub timed_back : (c : Conf) (table : Table) (k : ℕ) → IsConference c → HasSsrcs c → (setup c).step * k < 2 ^ 31 → (j : ℕ) (leg : LegLine) → leg_at c.legs j ≡ Some leg
+    → Timed (setup c) table.seats j k table.media (table.terminals j).past → AllByRecursion (IsBack c.mixer.ssrc leg.pts) (sent_to c table j)
+timed_back c table k is h span j leg e t =
+    let past = (table.terminals j).past in
+    backs (setup c) j leg.pts past ((setup_law c is).gens j) h.mixer (all_at IsLeg c.legs j leg is.legs.each e).types (sources c h j k table t) (can_send (setup c) (setup_law c is) j k table.media past span t.paced)
+
 pub all_back : (c : Conf) (inputs : ℕ → List ℕ) (table : Table) → IsConference c → HasSsrcs c → IsConferenceMixed c inputs table → (j : ℕ) (leg : LegLine) → leg_at c.legs j ≡ Some leg
     → AllByRecursion (IsBack c.mixer.ssrc leg.pts) (sent_to c table j)
 all_back c inputs table is h over j leg e =
     let m : IsMixed (setup c) (leg_chunks c inputs) c.tick c.turns table = mixed_law c inputs table is over in
     let a : AtEnd (setup c) c.turns j table = at_end (setup c) (leg_chunks c inputs) c.tick c.turns j table m.setup m.texts (below_legs c.legs j leg e) over in
     let up : (setup c).step * a.made ≤ (setup c).step * c.turns = mul-le-mul_left (setup c).step a.few in
-    let past = (table.terminals j).past in
-    backs (setup c) j leg.pts past (m.setup.gens j) h.mixer (all_at IsLeg c.legs j leg is.legs.each e).types (sources c h j a.made table a.timed)
-    (can_send (setup c) m.setup j a.made table.media past (omega (arith, up, m.span)) a.timed.paced)
+    timed_back c table a.made is h (omega (arith, up, m.span)) j leg e a.timed
 
 -- ---- the recording
 abbrev record_of : Pts → Arrival → ℕ × List ℕ
@@ -103,7 +108,7 @@ texts_back : (ssrc : ℕ) (pts : Pts) (sent : List Arrival) → AllByRecursion (
 texts_back ssrc pts [] b = refl
 texts_back ssrc pts (a ∷ sent) b = λ i. b.0.text_is i ∷ texts_back ssrc pts sent b.1 i
 
-map_twice : {X Y Z : Type 0} (f : Y → Z) (g : X → Y) (xs : List X) → map f (map g xs) ≡ map (λ x. f (g x)) xs
+pub map_twice : {X Y Z : Type 0} (f : Y → Z) (g : X → Y) (xs : List X) → map f (map g xs) ≡ map (λ x. f (g x)) xs
 map_twice f g [] = refl
 map_twice f g (x ∷ xs) = ap (λ zs. f (g x) ∷ zs) (map_twice f g xs)
 

@@ -12,7 +12,7 @@ use Rattle.wire_spec.specs.declared.faults.TextFault.TheVariants.{Sources, Wrong
 use Rattle.wire_spec.specs.declared.faults.RedFault.TheVariants as red_faults
 use Rattle.wire_spec.specs.Faults.{header_fault, blocks_fault}
 use Rattle.wire_spec.specs.Packets.{Packet, Arrival}
-use Rattle.wire_spec.specs.Rtp.{Reading, rtp, past}
+use Rattle.wire_spec.specs.Rtp.{Reading, rtp}
 use Rattle.wire_spec.specs.Red.{red, texts_at, headers_at}
 use Rattle.wire_spec.specs.Text.{text_of, text_of_short, refused_as, accepted, text_packet}
 use Rattle.wire_spec.specs.Dump.{Item, What, Whole, arrived, arrivals_with, arrivals_after}

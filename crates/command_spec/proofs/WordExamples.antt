@@ -1,6 +1,6 @@
 -- Worked examples of command words, by computing.
 use Rattle.std.proofs.Common.{◌≡◌, refl, [], ◌∷◌, None, Some, codes}
-use Rattle.command_spec.specs.Words.{command, Read, ListRecords, Send, Mix, Make, Relay, Channel, Show, Script, Version}
+use Rattle.command_spec.specs.Words.{command, Read, ListRecords, Send, Mix, Make, Live, Relay, Channel, Show, Script, Version}
 
 read_a_source : command (codes "read" ∷ codes "a.rtp" ∷ codes "1001" ∷ []) ≡ Some (Read (record { file = codes "a.rtp"; ssrc = 1001; source = 1001; pts = record { t140 = 98; red = 100 } }))
 read_a_source = refl
@@ -79,8 +79,14 @@ make_without_a_number = refl
 make_one_at_a_time : command (codes "make" ∷ codes "1" ∷ codes "2" ∷ []) ≡ None
 make_one_at_a_time = refl
 
-live_is_not_built : command (codes "live" ∷ codes "c.txt" ∷ []) ≡ None
-live_is_not_built = refl
+live_a_conference : command (codes "live" ∷ codes "c.txt" ∷ []) ≡ Some (Live (record { conf = codes "c.txt" }))
+live_a_conference = refl
+
+live_without_a_conference : command (codes "live" ∷ []) ≡ None
+live_without_a_conference = refl
+
+live_one_at_a_time : command (codes "live" ∷ codes "a" ∷ codes "b" ∷ []) ≡ None
+live_one_at_a_time = refl
 
 relay_frames : command (codes "relay" ∷ codes "f" ∷ codes "a.rtp" ∷ codes "1001" ∷ codes "0" ∷ codes "0" ∷ [])
     ≡ Some (Relay (record { file = codes "f"; out = codes "a.rtp"; ssrc = 1001; seq = 0; stamp = 0 }))

@@ -6,7 +6,7 @@ use Rattle.file_spec.specs.declared.kinds.ConfKind.TheVariants.{Full}
 use Rattle.file_spec.specs.Script.{ScriptLine}
 use Rattle.file_spec.specs.Lines as lines
 use Rattle.file_spec.specs.Script.{script}
-use Rattle.command_spec.specs.Words.{ReadWords, SendWords, Command, Read, ListRecords, Send, Mix, Make, Relay, Channel, Show, Script, Version}
+use Rattle.command_spec.specs.Words.{ReadWords, SendWords, Command, Read, ListRecords, Send, Mix, Make, Live, Relay, Channel, Show, Script, Version}
 use Rattle.command_spec.specs.declared.faults.Refusal.TheVariants.{AtByte, AtFrame, AtLine}
 use Rattle.command_spec.specs.declared.requests.ReadRequest.{ReadRequest}
 use Rattle.command_spec.specs.Listing.{list_view}
@@ -18,6 +18,7 @@ use Rattle.command_spec.specs.Showing.{show_refusal, show_view}
 use Rattle.command_spec.specs.Transcripts.{transcript_view}
 use Rattle.command_spec.specs.Frames.{relay, channel}
 use Rattle.frame_spec.specs.declared.frames.FrameFault.{FrameFault}
+use Rattle.command_spec.specs.Serving.{serving}
 use Rattle.command_spec.specs.Scripts.{Sending, full_line, recording, usual_sending}
 use Rattle.command_spec.specs.Work.{Made, Steps, Reads, Refuses, Makes, Work}
 
@@ -75,6 +76,7 @@ work (ListRecords l) = prints_recording l.file (λ octets. list_view l.pts (dump
 work (Send s) = record { prints = false; steps = Reads s.file (λ octets. sends s (script octets)) }
 work (Mix m) = record { prints = true; steps = mixing m.conf }
 work (Make m) = record { prints = true; steps = making m.number }
+work (Live m) = record { prints = true; steps = serving m.conf }
 work (Relay s) = record { prints = false; steps = Reads s.file (λ octets. saves_frames s.out (relay (sending_of s) octets)) }
 work (Channel c) = record {
   prints = false;

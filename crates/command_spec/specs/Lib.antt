@@ -5,6 +5,7 @@ pub mod Scripts
 pub mod Work
 pub mod Outcomes
 pub mod Mixing
+pub mod Serving
 pub mod Sums
 pub mod Bridges
 pub mod Commands
@@ -18,3 +19,7 @@ pub mod Firsts
 pub mod Streams
 pub mod Showing
 pub mod Frames
+pub mod Attending
+pub mod Inputs
+pub mod Cascading
+pub mod Cascaded

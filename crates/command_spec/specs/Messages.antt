@@ -9,8 +9,8 @@ use Rattle.frame_spec.specs.declared.kinds.FrameKind.TheVariants as frame
 use Rattle.command_spec.specs.declared.faults.Refusal.{Refusal}
 use Rattle.command_spec.specs.declared.faults.Refusal.TheVariants.{AtByte, AtFrame, AtLine, AfterTurns}
 use Rattle.command_spec.specs.declared.faults.Fault.{Fault}
-use Rattle.command_spec.specs.declared.faults.Fault.TheVariants.{WrongWords, CannotOpen, CannotRead, Refused, CannotPrint, CannotWrite, NoMemory}
-use Rattle.command_spec.specs.Outcomes.{Outcome, Missing, Done}
+use Rattle.command_spec.specs.declared.faults.Fault.TheVariants.{WrongWords, CannotOpen, CannotRead, Refused, CannotPrint, CannotWrite, LinkFailed, NoMemory}
+use Rattle.command_spec.specs.Outcomes.{Outcome, Missing, Done, Served}
 use Rattle.command_spec.specs.Outcomes as outcomes
 
 -- all was done, or a fault stands in its place
@@ -22,6 +22,7 @@ abbrev pub ending_of : Outcome → Ending
 ending_of (Missing input) = Err (CannotOpen input)
 ending_of (outcomes.Refused input refusal) = Err (Refused input refusal)
 ending_of (Done printed files) = Ok tt
+ending_of (Served c) = Ok tt
 
 -- ---- statuses
 
@@ -38,6 +39,7 @@ fault_status (CannotRead input) = 4
 fault_status (Refused input refusal) = refusal_status refusal
 fault_status CannotPrint = 7
 fault_status (CannotWrite output) = 7
+fault_status (LinkFailed leg) = 8
 fault_status NoMemory = 70
 
 abbrev pub status_of : Ending → ℕ
@@ -101,17 +103,17 @@ refusal_message name (AfterTurns turns) = turns_message turns
 
 -- for words outside the word table
 abbrev pub usage : List ℕ
-usage = codes "usage: rtt_program read FILE SSRC [SOURCE [T140 RED]]\n       rtt_program list FILE [T140 RED]\n       rtt_program send SCRIPT OUT SSRC SEQ STAMP\n       rtt_program mix CONF\n       rtt_program make N\n       rtt_program relay FRAMES OUT SSRC SEQ STAMP\n       rtt_program channel FILE SSRC OUT\n       rtt_program show FILE [T140 RED]\n       rtt_program script FILE SSRC [SOURCE [T140 RED]]\n       rtt_program version\n"
+usage = codes "usage: rtt_program read FILE SSRC [SOURCE [T140 RED]]\n       rtt_program list FILE [T140 RED]\n       rtt_program send SCRIPT OUT SSRC SEQ STAMP\n       rtt_program mix CONF\n       rtt_program make N\n       rtt_program live CONF\n       rtt_program relay FRAMES OUT SSRC SEQ STAMP\n       rtt_program channel FILE SSRC OUT\n       rtt_program show FILE [T140 RED]\n       rtt_program script FILE SSRC [SOURCE [T140 RED]]\n       rtt_program version\n"
 
 -- the name of the program and its version
 abbrev pub version_line : List ℕ
 version_line = codes "rtt_program 0.1.0\n"
 
--- what went wrong with the file of this name
+-- what went wrong with the file or the leg of this name
 abbrev pub trouble : List ℕ → List ℕ → List ℕ
 trouble what name = what ++ (name ++ codes "\n")
 
--- what is told of a fault whose file has this name
+-- what is told of a fault whose file or leg has this name
 abbrev pub fault_message : List ℕ → Fault → List ℕ
 fault_message name WrongWords = usage
 fault_message name (CannotOpen input) = trouble (codes "cannot open ") name
@@ -119,6 +121,7 @@ fault_message name (CannotRead input) = trouble (codes "cannot read ") name
 fault_message name (Refused input refusal) = refusal_message name refusal
 fault_message name CannotPrint = codes "cannot write the output\n"
 fault_message name (CannotWrite output) = trouble (codes "cannot write ") name
+fault_message name (LinkFailed leg) = trouble (codes "link fault at leg ") name
 fault_message name NoMemory = codes "out of memory\n"
 
 abbrev pub message_of : List ℕ → Ending → List ℕ

@@ -26,7 +26,7 @@ pub record SendWords : Type 0 where
   pub seq : ℕ
   pub stamp : ℕ
 
--- what `mix` is asked for: the conference in a file
+-- what `mix` and `live` are asked for: the conference in a file
 pub record MixWords : Type 0 where
   pub conf : List ℕ
 
@@ -46,6 +46,7 @@ pub data Command : Type 0 where
   Send : SendWords → Command
   Mix : MixWords → Command
   Make : MakeWords → Command
+  Live : MixWords → Command
   Relay : SendWords → Command
   Channel : ChannelWords → Command
   Show : ListWords → Command
@@ -109,8 +110,8 @@ send_words (file ∷ out ∷ ssrc ∷ seq ∷ stamp ∷ []) =
 send_words _ = None
 
 -- `CONF`
-abbrev pub mix_words : List (List ℕ) → Option Command
-mix_words (conf ∷ []) = if is_word conf then Some (Mix (record { conf = conf })) else None
+abbrev pub mix_words : List (List ℕ) → Option MixWords
+mix_words (conf ∷ []) = if is_word conf then Some (record { conf = conf }) else None
 mix_words _ = None
 
 -- `N`, from 1 to 1000
@@ -138,10 +139,11 @@ command (name ∷ words) =
     if bytes_eq name (codes "read") then option_map Read (read_words words)
     else (if bytes_eq name (codes "list") then option_map ListRecords (list_words words)
     else (if bytes_eq name (codes "send") then option_map Send (send_words words)
-    else (if bytes_eq name (codes "mix") then mix_words words
+    else (if bytes_eq name (codes "mix") then option_map Mix (mix_words words)
     else (if bytes_eq name (codes "make") then make_words words
+    else (if bytes_eq name (codes "live") then option_map Live (mix_words words)
     else (if bytes_eq name (codes "relay") then option_map Relay (send_words words)
     else (if bytes_eq name (codes "channel") then channel_words words
     else (if bytes_eq name (codes "show") then option_map Show (list_words words)
     else (if bytes_eq name (codes "script") then option_map Script (read_words words)
-    else (if bytes_eq name (codes "version") then version_words words else None)))))))))
+    else (if bytes_eq name (codes "version") then version_words words else None))))))))))

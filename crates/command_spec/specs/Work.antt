@@ -1,5 +1,6 @@
 -- What a command is: it reads files, one after another, and comes to a refusal or to what it makes (profile).
 use Rattle.std.specs.Prelude.{◌≡◌, ℕ, zero, suc, Bool, Option, Some, List, [], ◌∷◌}
+use Rattle.file_spec.specs.Conf.{Conf}
 use Rattle.command_spec.specs.declared.faults.Refusal.{Refusal}
 
 -- the octets under each name
@@ -12,11 +13,12 @@ pub record Made : Type 0 where
   pub octets : List ℕ
 
 -- the next file is read, and its octets say what comes then; or an input is refused; or this is printed, and these
--- files are made, in this order
+-- files are made, in this order; or a live call of this conference is served over its links
 pub data Steps : Type 0 where
   Reads : (name : List ℕ) → (List ℕ → Steps) → Steps
   Refuses : (input : ℕ) → (refusal : Refusal) → Steps
   Makes : (printed : List ℕ) → (files : List Made) → Steps
+  Serves : (conference : Conf) → Steps
 
 -- the steps, and whether it prints
 pub record Work : Type 0 where
@@ -30,6 +32,7 @@ IsInput Told held (Reads name next) (suc n) file =
     (octets : List ℕ) × (Told → held name ≡ Some octets) × IsInput Told held (next octets) n file
 IsInput Told held (Refuses input refusal) n file = ⊥
 IsInput Told held (Makes printed files) n file = ⊥
+IsInput Told held (Serves c) n file = ⊥
 
 -- the file of this number among those that are made
 abbrev pub IsNth : List Made → ℕ → List ℕ → Type 0
@@ -43,3 +46,12 @@ IsOutput Told held (Reads name next) n file =
     (octets : List ℕ) × (Told → held name ≡ Some octets) × IsOutput Told held (next octets) n file
 IsOutput Told held (Refuses input refusal) n file = ⊥
 IsOutput Told held (Makes printed files) n file = IsNth files n file
+IsOutput Told held (Serves c) n file = ⊥
+
+-- a live call is served of a conference of which this holds, where the octets of what is read lie there, as far as that is told
+abbrev pub ServesSome : (Told : Type 0) → Contents → Steps → (Conf → Type 0) → Type 0
+ServesSome Told held (Reads name next) P =
+    (octets : List ℕ) × (Told → held name ≡ Some octets) × ServesSome Told held (next octets) P
+ServesSome Told held (Refuses input refusal) P = ⊥
+ServesSome Told held (Makes printed files) P = ⊥
+ServesSome Told held (Serves c) P = P c

@@ -33,6 +33,8 @@ pub enum Fault {
     CannotPrint,
     /// An output could not be created or written.
     CannotWrite { output: u32 },
+    /// The link of this leg could not be opened, or failed. Legs are counted from 0.
+    LinkFailed { leg: u32 },
     /// Memory ran out.
     NoMemory,
 }

@@ -1,6 +1,7 @@
 //! What holds of the definitions. No code stands here.
 ghost use Rattle.std.specs.Prelude.{◌≡◌, ◌≤◌, ℕ, ◌+◌, List, length, All};
 ghost use Rattle.wire_spec.specs.Packets.{Arrival};
+ghost use Rattle.file_spec.specs.Conf.{Conf};
 ghost use Rattle.file_spec.specs.Kept.{IsConference};
 ghost use Rattle.stream_spec.specs.Hearing.{heard};
 ghost use Rattle.stream_spec.specs.History.{History, Lawful, Come, places};
@@ -14,7 +15,9 @@ ghost use Rattle.command_spec.specs.Outcomes.{AllStored, Done, outcome};
 ghost use Rattle.command_spec.specs.Scripts.{AreLines};
 ghost use Rattle.command_spec.specs.Generated.{generated};
 ghost use Rattle.command_spec.specs.Mixing.{mixing};
+ghost use Rattle.command_spec.specs.Attending.{named};
 ghost use Rattle.command_spec.specs.Bridges.{BridgesAreOne, IsBridged};
+ghost use Rattle.command_spec.specs.Cascaded.{CascadesAreBridged};
 ghost use Rattle.mixer_spec.specs.declared.limits.TheConstants.{PLACES};
 
 /// Where what arrives out of a recording comes from a lawful history, what `read` prints is the view of that history: the
@@ -47,6 +50,13 @@ pub fn bridges_are_one()
     ensures { BridgesAreOne }
 {}
 
+/// What comes of a conference of which some legs stand behind another mixer, whose recording is split for them: the conference is
+/// mixed as any is, and what is heard of such a leg, put together, is what is heard of its SSRC in the recording. Where that is of
+/// a lawful history, it is what is kept of the history: so behind both mixers a terminal hears what is kept of what is kept.
+pub fn cascades_are_bridged()
+    ensures { CascadesAreBridged }
+{}
+
 /// What is generated from a number is a conference of at most 16 legs that keeps all limits, and for each leg a script that
 /// can be sent.
 pub fn generated_conferences_keep()
@@ -55,4 +65,9 @@ pub fn generated_conferences_keep()
     ensures scripts { (n : ℕ) → All AreLines (generated n).scripts }
     ensures each_script { (n : ℕ) → length (generated n).scripts ≡ length (generated n).conference.legs }
     ensures each_first { (n : ℕ) → length (generated n).firsts ≡ length (generated n).conference.legs }
+{}
+
+/// A conference with the names and the leavings that its inputs tell keeps all limits, whatever they tell.
+pub fn named_conferences_keep()
+    ensures { (c : Conf) (inputs : List (List ℕ)) → IsConference c → IsConference (named c inputs) }
 {}

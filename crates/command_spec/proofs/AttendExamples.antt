@@ -1,0 +1,115 @@
+-- What `attend` comes to in a call of two, worked out by hand: Ann's recording has a record of RTCP too, which tells her name or
+-- that she leaves.
+use Rattle.std.proofs.Common.{◌≡◌, ℕ, cond, Option, Some, None, List, [], ◌∷◌, ◌++◌, refl}
+use Rattle.std.specs.Prelude.{codes, map, bytes_eq}
+use Rattle.std.specs.List.{flat_map}
+use Rattle.std.specs.Str.{is_utf8, chars}
+use Rattle.std.specs.Char.{encode_utf8}
+use Rattle.rtt_base.specs.declared.text_packets.Pts.{Pts}
+use Rattle.wire_spec.specs.SentPackets.{packet_written}
+use Rattle.wire_spec.specs.Rtp.{rtp, rtp_of_header}
+use Rattle.wire_spec.specs.Red.{headers_at, texts_at, red}
+use Rattle.wire_spec.specs.Text.{text_of_short, text_of}
+use Rattle.wire_spec.specs.Dump.{opening, dump_opening, dump_step, records_within, records, record_written, dump, dump_written}
+use Rattle.stream_spec.specs.History.{placed}
+use Rattle.stream_spec.specs.Own.{Stream, Sent, sent_history, own_packet}
+use Rattle.file_spec.specs.Conf.{entry, leg_of, mixer_of, plan_of, stay_or_plan, time_or_other}
+use Rattle.text_spec.specs.Characters.{class_of}
+use Rattle.text_spec.specs.Shown.{shown}
+use Rattle.view_spec.specs.Views.{aware_view}
+use Rattle.rtcp_spec.specs.Rtcp.{rtcp, packets_within, packet_read, body_at, chunks, chunk_at, items_within}
+use Rattle.rtcp_spec.specs.Recorded.{entries, entries_at, entries_within}
+use Rattle.command_spec.specs.Work.{Contents, Made}
+use Rattle.command_spec.specs.Outcomes.{Done, outcome}
+use Rattle.command_spec.specs.Attending.{attending, said_by}
+
+-- ---- the files
+abbrev legs : List ℕ
+legs = codes "leg Ann aware 1001 ann.in ann.out\nleg Bob aware 1002 bob.in bob.out\nmixer 9000 100 5000\n"
+
+-- what lies there: the conference, and in every other file a recording
+abbrev lying : List ℕ → List ℕ → List ℕ → Contents
+lying conf ann bob name = if_named (codes "c.txt") conf (if_named (codes "ann.in") ann (if_named (codes "bob.in") bob None))
+  where
+    if_named : List ℕ → List ℕ → Option (List ℕ) → Option (List ℕ)
+    if_named file octets other = cond (bytes_eq name file) (Some octets) other
+
+abbrev types : Pts
+types = record { t140 = 98; red = 100 }
+
+abbrev typist : ℕ → Stream
+typist ssrc = record { ssrc = ssrc; first = 0; base = 0; gens = 2 }
+
+abbrev text : ℕ → ℕ → List ℕ → Sent
+text ssrc media octets = record { source = ssrc; media = media; text = octets }
+
+-- U+2028
+abbrev break : List ℕ
+break = 226 ∷ 128 ∷ 168 ∷ []
+
+abbrev packets_of : Stream → List Sent → List (ℕ × List ℕ)
+packets_of s sent = map (λ x. (x.media, packet_written types (own_packet (sent_history s sent) x))) (placed (sent_history s sent))
+
+abbrev by_bob : List ℕ
+by_bob = dump_written (packets_of (typist 1002) (text 1002 1600 [] ∷ text 1002 1300 [] ∷ text 1002 1000 (codes "Hi Ann") ∷ []))
+
+abbrev of_ann : List Sent
+of_ann = text 1001 1200 [] ∷ text 1001 900 [] ∷ text 1001 600 (codes "y" ++ break) ∷ text 1001 300 (codes "e") ∷ text 1001 0 (codes "H") ∷ []
+
+-- her recording, with these octets of a record of RTCP before or behind the first packet
+abbrev with_first : List ℕ → List (ℕ × List ℕ) → List ℕ
+with_first rtcp packets = dump_opening ++ (rtcp ++ flat_map record_written packets)
+
+abbrev with_second : List ℕ → List (ℕ × List ℕ) → List ℕ
+with_second rtcp [] = with_first rtcp []
+with_second rtcp (p ∷ packets) = dump_opening ++ (record_written p ++ (rtcp ++ flat_map record_written packets))
+
+-- at 0: a source description of 1001, with the name `Ann Lee`
+abbrev names_ann : List ℕ
+names_ann = 0x00 ∷ 0x1C ∷ 0x00 ∷ 0x00 ∷ 0x00 ∷ 0x00 ∷ 0x00 ∷ 0x00 ∷ 0x81 ∷ 0xCA ∷ 0x00 ∷ 0x04 ∷ 0x00 ∷ 0x00 ∷ 0x03 ∷ 0xE9 ∷ 0x02 ∷ 0x07 ∷ 0x41 ∷ 0x6E ∷ 0x6E ∷ 0x20 ∷ 0x4C ∷ 0x65 ∷ 0x65 ∷ 0x00 ∷ 0x00 ∷ 0x00 ∷ []
+
+-- at 100: 1001 leaves
+abbrev ann_leaves : List ℕ
+ann_leaves = 0x00 ∷ 0x10 ∷ 0x00 ∷ 0x00 ∷ 0x00 ∷ 0x00 ∷ 0x00 ∷ 0x64 ∷ 0x81 ∷ 0xCB ∷ 0x00 ∷ 0x01 ∷ 0x00 ∷ 0x00 ∷ 0x03 ∷ 0xE9 ∷ []
+
+-- ---- what is sent: each text is repeated twice
+abbrev to_ann : List (ℕ × List ℕ)
+to_ann =
+    (1000, 0x81 ∷ 0xE4 ∷ 0x00 ∷ 0x64 ∷ 0x00 ∷ 0x00 ∷ 0x17 ∷ 0x70 ∷ 0x00 ∷ 0x00 ∷ 0x23 ∷ 0x28 ∷ 0x00 ∷ 0x00 ∷ 0x03 ∷ 0xEA ∷ 0xE2 ∷ 0xFF ∷ 0xFC ∷ 0x00 ∷ 0xE2 ∷ 0xFF ∷ 0xFC ∷ 0x00 ∷ 0x62 ∷ 0x48 ∷ 0x69 ∷ 0x20 ∷ 0x41 ∷ 0x6e ∷ 0x6e ∷ []) ∷
+    (1300, 0x81 ∷ 0x64 ∷ 0x00 ∷ 0x65 ∷ 0x00 ∷ 0x00 ∷ 0x18 ∷ 0x9C ∷ 0x00 ∷ 0x00 ∷ 0x23 ∷ 0x28 ∷ 0x00 ∷ 0x00 ∷ 0x03 ∷ 0xEA ∷ 0xE2 ∷ 0xFF ∷ 0xFC ∷ 0x00 ∷ 0xE2 ∷ 0x04 ∷ 0xB0 ∷ 0x06 ∷ 0x62 ∷ 0x48 ∷ 0x69 ∷ 0x20 ∷ 0x41 ∷ 0x6e ∷ 0x6e ∷ []) ∷
+    (1600, 0x81 ∷ 0x64 ∷ 0x00 ∷ 0x66 ∷ 0x00 ∷ 0x00 ∷ 0x19 ∷ 0xC8 ∷ 0x00 ∷ 0x00 ∷ 0x23 ∷ 0x28 ∷ 0x00 ∷ 0x00 ∷ 0x03 ∷ 0xEA ∷ 0xE2 ∷ 0x09 ∷ 0x60 ∷ 0x06 ∷ 0xE2 ∷ 0x04 ∷ 0xB0 ∷ 0x00 ∷ 0x62 ∷ 0x48 ∷ 0x69 ∷ 0x20 ∷ 0x41 ∷ 0x6e ∷ 0x6e ∷ []) ∷ []
+
+abbrev to_bob : List (ℕ × List ℕ)
+to_bob =
+    (0, 0x81 ∷ 0xE4 ∷ 0x00 ∷ 0x64 ∷ 0x00 ∷ 0x00 ∷ 0x13 ∷ 0x88 ∷ 0x00 ∷ 0x00 ∷ 0x23 ∷ 0x28 ∷ 0x00 ∷ 0x00 ∷ 0x03 ∷ 0xE9 ∷ 0xE2 ∷ 0xFF ∷ 0xFC ∷ 0x00 ∷ 0xE2 ∷ 0xFF ∷ 0xFC ∷ 0x00 ∷ 0x62 ∷ 0x48 ∷ []) ∷
+    (300, 0x81 ∷ 0x64 ∷ 0x00 ∷ 0x65 ∷ 0x00 ∷ 0x00 ∷ 0x14 ∷ 0xB4 ∷ 0x00 ∷ 0x00 ∷ 0x23 ∷ 0x28 ∷ 0x00 ∷ 0x00 ∷ 0x03 ∷ 0xE9 ∷ 0xE2 ∷ 0xFF ∷ 0xFC ∷ 0x00 ∷ 0xE2 ∷ 0x04 ∷ 0xB0 ∷ 0x01 ∷ 0x62 ∷ 0x48 ∷ 0x65 ∷ []) ∷
+    (600, 0x81 ∷ 0x64 ∷ 0x00 ∷ 0x66 ∷ 0x00 ∷ 0x00 ∷ 0x15 ∷ 0xE0 ∷ 0x00 ∷ 0x00 ∷ 0x23 ∷ 0x28 ∷ 0x00 ∷ 0x00 ∷ 0x03 ∷ 0xE9 ∷ 0xE2 ∷ 0x09 ∷ 0x60 ∷ 0x01 ∷ 0xE2 ∷ 0x04 ∷ 0xB0 ∷ 0x01 ∷ 0x62 ∷ 0x48 ∷ 0x65 ∷ 0x79 ∷ 0xE2 ∷ 0x80 ∷ 0xA8 ∷ []) ∷
+    (900, 0x81 ∷ 0x64 ∷ 0x00 ∷ 0x67 ∷ 0x00 ∷ 0x00 ∷ 0x17 ∷ 0x0C ∷ 0x00 ∷ 0x00 ∷ 0x23 ∷ 0x28 ∷ 0x00 ∷ 0x00 ∷ 0x03 ∷ 0xE9 ∷ 0xE2 ∷ 0x09 ∷ 0x60 ∷ 0x01 ∷ 0xE2 ∷ 0x04 ∷ 0xB0 ∷ 0x04 ∷ 0x62 ∷ 0x65 ∷ 0x79 ∷ 0xE2 ∷ 0x80 ∷ 0xA8 ∷ []) ∷
+    (1200, 0x81 ∷ 0x64 ∷ 0x00 ∷ 0x68 ∷ 0x00 ∷ 0x00 ∷ 0x18 ∷ 0x38 ∷ 0x00 ∷ 0x00 ∷ 0x23 ∷ 0x28 ∷ 0x00 ∷ 0x00 ∷ 0x03 ∷ 0xE9 ∷ 0xE2 ∷ 0x09 ∷ 0x60 ∷ 0x04 ∷ 0xE2 ∷ 0x04 ∷ 0xB0 ∷ 0x00 ∷ 0x62 ∷ 0x79 ∷ 0xE2 ∷ 0x80 ∷ 0xA8 ∷ []) ∷ []
+
+-- where Ann left, only her first letter is
+abbrev letter_to_bob : List (ℕ × List ℕ)
+letter_to_bob =
+    (0, 0x81 ∷ 0xE4 ∷ 0x00 ∷ 0x64 ∷ 0x00 ∷ 0x00 ∷ 0x13 ∷ 0x88 ∷ 0x00 ∷ 0x00 ∷ 0x23 ∷ 0x28 ∷ 0x00 ∷ 0x00 ∷ 0x03 ∷ 0xE9 ∷ 0xE2 ∷ 0xFF ∷ 0xFC ∷ 0x00 ∷ 0xE2 ∷ 0xFF ∷ 0xFC ∷ 0x00 ∷ 0x62 ∷ 0x48 ∷ []) ∷
+    (300, 0x81 ∷ 0x64 ∷ 0x00 ∷ 0x65 ∷ 0x00 ∷ 0x00 ∷ 0x14 ∷ 0xB4 ∷ 0x00 ∷ 0x00 ∷ 0x23 ∷ 0x28 ∷ 0x00 ∷ 0x00 ∷ 0x03 ∷ 0xE9 ∷ 0xE2 ∷ 0xFF ∷ 0xFC ∷ 0x00 ∷ 0xE2 ∷ 0x04 ∷ 0xB0 ∷ 0x01 ∷ 0x62 ∷ 0x48 ∷ []) ∷
+    (600, 0x81 ∷ 0x64 ∷ 0x00 ∷ 0x66 ∷ 0x00 ∷ 0x00 ∷ 0x15 ∷ 0xE0 ∷ 0x00 ∷ 0x00 ∷ 0x23 ∷ 0x28 ∷ 0x00 ∷ 0x00 ∷ 0x03 ∷ 0xE9 ∷ 0xE2 ∷ 0x09 ∷ 0x60 ∷ 0x01 ∷ 0xE2 ∷ 0x04 ∷ 0xB0 ∷ 0x00 ∷ 0x62 ∷ 0x48 ∷ []) ∷ []
+
+abbrev files : List (ℕ × List ℕ) → List (ℕ × List ℕ) → List Made
+files ann bob = record { name = codes "ann.out"; octets = dump_written ann } ∷ record { name = codes "bob.out"; octets = dump_written bob } ∷ []
+
+-- the view of an aware terminal of this name, where these lines are shown of the other, and all packets that came were used
+abbrev view : List ℕ → List ℕ → List (List ℕ) → ℕ → List ℕ
+view name other lines came =
+    aware_view name (record { name = other; display = record { lines = lines; bells = 0 } } ∷ []) (record { packets = came; used = came; refused = 0; foreign = 0 })
+
+-- Ann is called by the name that her description has
+sdes_name : outcome (lying legs (with_first names_ann (packets_of (typist 1001) of_ann)) by_bob) (attending (codes "c.txt"))
+    ≡ Done (view (codes "Ann_Lee") (codes "Bob") (codes "Hi Ann" ∷ []) 3 ++ (view (codes "Bob") (codes "Ann_Lee") (codes "Hey" ∷ [] ∷ []) 5 ++ [])) (files to_ann to_bob)
+unfolding said_by rtcp packets_within packet_read body_at chunks chunk_at items_within entries entries_at entries_within entry time_or_other stay_or_plan leg_of mixer_of plan_of is_utf8 chars encode_utf8 text_of text_of_short rtp rtp_of_header red headers_at texts_at dump records records_within dump_step opening shown class_of
+sdes_name = refl
+
+-- Ann left: what she sent later is not heard, and she is sent nothing
+bye : outcome (lying (legs ++ codes "wait 0\n") (with_second ann_leaves (packets_of (typist 1001) of_ann)) by_bob) (attending (codes "c.txt"))
+    ≡ Done (view (codes "Ann") (codes "Bob") ([] ∷ []) 0 ++ (view (codes "Bob") (codes "Ann") (codes "H" ∷ []) 3 ++ [])) (files [] letter_to_bob)
+unfolding said_by rtcp packets_within packet_read body_at chunks chunk_at items_within entries entries_at entries_within entry time_or_other stay_or_plan leg_of mixer_of plan_of is_utf8 chars encode_utf8 text_of text_of_short rtp rtp_of_header red headers_at texts_at dump records records_within dump_step opening shown class_of
+bye = refl

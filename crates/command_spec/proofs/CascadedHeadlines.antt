@@ -1,0 +1,193 @@
+-- What comes of a conference behind another mixer.
+use Rattle.std.proofs.Common.{◌≡◌, ℕ, zero, suc, ◌+◌, ◌<◌, ◌≤◌, ◌^◌, Bool, true, false, cond, Option, Some, None, List, [], ◌∷◌, ◌++◌, length, refl, ap, subst, sym, ◌∙◌, arith}
+use Rattle.std.specs.Prelude.{All, map, not, ◌&&◌, ◌==◌, if◌then◌else◌}
+use Rattle.std.specs.List.{AllZip, concat}
+use Rattle.std.proofs.lemmas.Bool.{true≢false, eq-eqb, eqb-true, and_parts}
+use Rattle.std.proofs.lemmas.List.Elements.{All-nil, All-cons, All-head, All-tail}
+use Rattle.std.proofs.lemmas.List.Folds.{concat-append}
+use Rattle.rtt_base.specs.declared.text_packets.Pts.{Pts}
+use Rattle.wire_spec.specs.Packets.{Arrival}
+use Rattle.wire_spec.specs.Dump.{arrivals_after, dump}
+use Rattle.wire_spec.specs.Dump as dumps
+use Rattle.stream_spec.specs.Carries.{Groups}
+use Rattle.stream_spec.specs.Hearing.{heard}
+use Rattle.stream_spec.specs.Still.{still, still_history}
+use Rattle.stream_spec.proofs.ChunkTexts.{chunk_texts}
+use Rattle.stream_spec.proofs.Still.{come_still, lawful_still}
+use Rattle.stream_spec.proofs.Walks.{l1}
+use Rattle.file_spec.specs.declared.conf_lines.Form.TheVariants.{Files}
+use Rattle.file_spec.specs.declared.conf_lines.LegLine.{LegLine}
+use Rattle.file_spec.specs.Conf.{usual_types}
+use Rattle.mixer_spec.specs.Setups.{leg_at, setup, ssrc_of}
+use Rattle.mixer_spec.specs.Table.{Table}
+use Rattle.mixer_spec.specs.Plain.{plain}
+use Rattle.mixer_spec.specs.Bridged.{input_limit, leg_arrivals, leg_chunks}
+use Rattle.cascade_spec.specs.Splitting.{came_of, chunks_of}
+use Rattle.cascade_spec.specs.Laws.{IsStream, mixed_in, split_of}
+use Rattle.cascade_spec.proofs.Lively.{recordings_mixed}
+use Rattle.command_spec.specs.Work.{Contents, Made, Steps, Reads}
+use Rattle.command_spec.specs.Outcomes.{AllStored, Done, outcome_from}
+use Rattle.command_spec.specs.Mixing.{input_at, makes, outs, views}
+use Rattle.command_spec.specs.Bridges.{Bridge}
+use Rattle.command_spec.specs.Cascading.{has_other_types, is_on_trunk, mixes_over, mixes_splits, reads_others, trunk_limit, trunk_of, unless_faulty, unless_leg_faulty}
+use Rattle.command_spec.specs.Cascaded.{CascadesAreBridged, IsCascaded, IsHeardBehind, IsTextOf, heard_of}
+use Rattle.command_spec.proofs.Headlines.{seen}
+use Rattle.command_spec.proofs.Reached.{done_parts, found}
+use Rattle.command_spec.proofs.Ssrcs.{ssrcs_fit}
+
+-- ---- what was read
+-- the texts of the legs were there
+record AreFound (held : Contents) (split : ℕ → List ℕ) (legs : List LegLine) (next : List (List ℕ) → Steps) (printed : List ℕ) (files : List Made) : Type 0 where
+  inputs : List (List ℕ)
+  lie : AllZip (IsTextOf held split) legs inputs
+  last : ℕ
+  then_ : outcome_from last held (next inputs) ≡ Done printed files
+
+found_first : (held : Contents) (split : ℕ → List ℕ) (leg : LegLine) (legs : List LegLine) (octets : List ℕ) (next : List (List ℕ) → Steps) (printed : List ℕ) (files : List Made)
+    → IsTextOf held split leg octets → AreFound held split legs (λ more. next (octets ∷ more)) printed files → AreFound held split (leg ∷ legs) next printed files
+found_first held split leg legs octets next printed files is r = record { inputs = octets ∷ r.inputs; lie = (is, r.lie); last = r.last; then_ = r.then_ }
+
+others_found : (held : Contents) (split : ℕ → List ℕ) (n : ℕ) (legs : List LegLine) (next : List (List ℕ) → Steps) (printed : List ℕ) (files : List Made)
+    → outcome_from n held (reads_others split legs next) ≡ Done printed files → AreFound held split legs next printed files
+others_found held split n [] next printed files e = record { inputs = []; lie = tt; last = n; then_ = e }
+others_found held split n (leg ∷ legs) next printed files e =
+    go (is_on_trunk leg) refl e
+    (others_found held split n legs (λ more. next (split leg.ssrc ∷ more)) printed files)
+    (λ octets. others_found held split (n + 1) legs (λ more. next (octets ∷ more)) printed files)
+  where
+    go : (b : Bool) → is_on_trunk leg ≡ b
+        → outcome_from n held (cond b (reads_others split legs (λ more. next (split leg.ssrc ∷ more))) (Reads leg.input (λ octets. reads_others split legs (λ more. next (octets ∷ more))))) ≡ Done printed files
+        → (outcome_from n held (reads_others split legs (λ more. next (split leg.ssrc ∷ more))) ≡ Done printed files → AreFound held split legs (λ more. next (split leg.ssrc ∷ more)) printed files)
+        → ((octets : List ℕ) → outcome_from (n + 1) held (reads_others split legs (λ more. next (octets ∷ more))) ≡ Done printed files → AreFound held split legs (λ more. next (octets ∷ more)) printed files)
+        → AreFound held split (leg ∷ legs) next printed files
+    go true t e rest more =
+        found_first held split leg legs (split leg.ssrc) next printed files (record { on_trunk = λ on. refl; read = λ off. absurd (true≢false (sym t ∙ off)) }) (rest e)
+    go false t e rest more =
+        let f = found n held leg.input (λ octets. reads_others split legs (λ more. next (octets ∷ more))) printed files e in
+        found_first held split leg legs f.0 next printed files (record { on_trunk = λ on. absurd (true≢false (sym on ∙ t)); read = λ off. f.1 }) (more f.0 f.2)
+
+not_faulty : (held : Contents) (m n : ℕ) (o : Option dumps.Fault) (steps : Steps) (printed : List ℕ) (files : List Made) → outcome_from m held (unless_faulty n o steps) ≡ Done printed files
+    → (o ≡ None) × (outcome_from m held steps ≡ Done printed files)
+not_faulty held m n None steps printed files e = (refl, e)
+not_faulty held m n (Some fault) steps printed files e = absurd (cc e)
+
+-- none of the recordings has a fault
+abbrev AllWhole : ℕ → List (List ℕ) → Type 0
+AllWhole limit inputs = All (λ octets. (dump limit octets).fault ≡ None) inputs
+
+legs_whole : (held : Contents) (split : ℕ → List ℕ) (m limit n : ℕ) (legs : List LegLine) (inputs : List (List ℕ)) (steps : Steps) (printed : List ℕ) (files : List Made)
+    → AllZip (IsTextOf held split) legs inputs → outcome_from m held (unless_leg_faulty limit n legs inputs steps) ≡ Done printed files
+    → AllWhole limit inputs × (outcome_from m held steps ≡ Done printed files)
+legs_whole held split m limit n [] [] steps printed files lie e = (All-nil (λ octets. (dump limit octets).fault ≡ None), e)
+legs_whole held split m limit n [] (octets ∷ more) steps printed files lie e = absurd lie
+legs_whole held split m limit n (leg ∷ legs) [] steps printed files lie e = absurd lie
+legs_whole held split m limit n (leg ∷ legs) (octets ∷ more) steps printed files lie e =
+    go (is_on_trunk leg) e (legs_whole held split m limit n legs more steps printed files lie.1) (legs_whole held split m limit (suc n) legs more steps printed files lie.1)
+  where
+    with_first : (dump limit octets).fault ≡ None → AllWhole limit more × (outcome_from m held steps ≡ Done printed files) → AllWhole limit (octets ∷ more) × (outcome_from m held steps ≡ Done printed files)
+    with_first none r = (All-cons (λ octets. (dump limit octets).fault ≡ None) octets more none r.0, r.1)
+
+    go : (b : Bool)
+        → outcome_from m held (cond b (unless_faulty 1 (dump limit octets).fault (unless_leg_faulty limit n legs more steps)) (unless_faulty n (dump limit octets).fault (unless_leg_faulty limit (suc n) legs more steps))) ≡ Done printed files
+        → (outcome_from m held (unless_leg_faulty limit n legs more steps) ≡ Done printed files → AllWhole limit more × (outcome_from m held steps ≡ Done printed files))
+        → (outcome_from m held (unless_leg_faulty limit (suc n) legs more steps) ≡ Done printed files → AllWhole limit more × (outcome_from m held steps ≡ Done printed files))
+        → AllWhole limit (octets ∷ more) × (outcome_from m held steps ≡ Done printed files)
+    go true e same next = let f = not_faulty held m 1 (dump limit octets).fault (unless_leg_faulty limit n legs more steps) printed files e in with_first f.0 (same f.1)
+    go false e same next = let f = not_faulty held m n (dump limit octets).fault (unless_leg_faulty limit (suc n) legs more steps) printed files e in with_first f.0 (next f.1)
+
+-- ---- what is heard of a leg behind the other mixer
+text_at : (held : Contents) (split : ℕ → List ℕ) (legs : List LegLine) (inputs : List (List ℕ)) (i : ℕ) (leg : LegLine) → AllZip (IsTextOf held split) legs inputs → leg_at legs i ≡ Some leg
+    → IsTextOf held split leg (input_at inputs i)
+text_at held split [] inputs i leg lie at = absurd (cc at)
+text_at held split (l ∷ legs) [] i leg lie at = absurd lie
+text_at held split (l ∷ legs) (o ∷ inputs) zero leg lie at = let same : l ≡ leg = cc at in subst (λ x. IsTextOf held split x o) same lie.0
+text_at held split (l ∷ legs) (o ∷ inputs) (suc i) leg lie at = text_at held split legs inputs i leg lie.1 at
+
+ssrc_fits : (legs : List LegLine) (i : ℕ) (leg : LegLine) → All (λ (l : LegLine). l.ssrc < 2 ^ 32) legs → leg_at legs i ≡ Some leg → leg.ssrc < 2 ^ 32
+ssrc_fits [] i leg all at = absurd (cc at)
+ssrc_fits (l ∷ legs) zero leg all at = let same : l ≡ leg = cc at in subst (λ (x : LegLine). x.ssrc < 2 ^ 32) same (All-head (λ (l : LegLine). l.ssrc < 2 ^ 32) l legs all)
+ssrc_fits (l ∷ legs) (suc i) leg all at = ssrc_fits legs i leg (All-tail (λ (l : LegLine). l.ssrc < 2 ^ 32) l legs all) at
+
+same_types : (a b : Pts) → a.t140 ≡ b.t140 → a.red ≡ b.red → a ≡ b
+same_types a b t r = λ i. record { t140 = t i; red = r i }
+
+not_other : (t b : Bool) → t ≡ true → (t && not b) ≡ false → b ≡ true
+not_other true true on e = refl
+not_other true false on e = absurd (true≢false e)
+not_other false b on e = absurd (true≢false (sym on))
+
+-- its types are the usual ones
+types_are : (leg : LegLine) → is_on_trunk leg ≡ true → has_other_types leg ≡ false → leg.pts ≡ usual_types
+types_are leg on same =
+    let both = not_other (is_on_trunk leg) (leg.pts.t140 == usual_types.t140 && leg.pts.red == usual_types.red) on same in
+    let each = and_parts (leg.pts.t140 == usual_types.t140) (leg.pts.red == usual_types.red) both in
+    same_types leg.pts usual_types (eqb-true leg.pts.t140 usual_types.t140 each.0) (eqb-true leg.pts.red usual_types.red each.1)
+
+-- groups of texts have the octets of these
+groups_say : (es ts : List (List ℕ)) → Groups es ts [] → concat es ≡ concat ts
+groups_say [] ts g = ap concat (sym g)
+groups_say (e ∷ es) ts g =
+    ap (λ (x : List ℕ). x ++ concat es) g.3
+    ∙ (ap (λ (x : List ℕ). concat g.0 ++ x) (groups_say es g.1 g.5)
+    ∙ (sym (concat-append g.0 g.1) ∙ ap concat (sym g.2)))
+
+behind_of : (held : Contents) (ssrc : ℕ) (octets : List ℕ) (b : Bridge) (i : ℕ) (leg : LegLine)
+    → AllZip (IsTextOf held (split_of (trunk_of b.conference ssrc) octets)) b.conference.legs b.inputs → All (λ (l : LegLine). l.ssrc < 2 ^ 32) b.conference.legs
+    → leg_at b.conference.legs i ≡ Some leg → is_on_trunk leg ≡ true → has_other_types leg ≡ false
+    → length (split_of (trunk_of b.conference ssrc) octets leg.ssrc) ≤ input_limit b.conference → IsHeardBehind (trunk_of b.conference ssrc) octets b i leg.ssrc
+behind_of held ssrc octets b i leg lie fit at on same few = record {
+  same = is_same;
+  kept_of = λ h law come.
+      groups_say (heard_of b i) (map (λ c. c.text) (chunks_of b.conference.wait past leg.ssrc)) is_same
+      ∙ ap concat (chunk_texts b.conference.wait 0 (still past) leg.ssrc ∙ l1 b.conference.wait (still_history h) (lawful_still h law) (still past) (come_still h past come) leg.ssrc);
+}
+  where
+    past : List Arrival
+    past = came_of (trunk_of b.conference ssrc) octets
+
+    text : List ℕ
+    text = split_of (trunk_of b.conference ssrc) octets leg.ssrc
+
+    is_stream : IsStream usual_types leg.ssrc
+    is_stream = record { t140 = omega arith; red = omega arith; differ = λ e. true≢false (sym (eq-eqb 98 100 e)); ssrc = ssrc_fits b.conference.legs i leg fit at }
+
+    heard_is : heard_of b i ≡ mixed_in usual_types leg.ssrc (input_limit b.conference) b.conference.wait text
+    heard_is =
+        ap (λ o. heard b.conference.wait (still (leg_arrivals (input_limit b.conference) o (input_at b.inputs i))) (ssrc_of o)) at
+        ∙ (ap (λ (p : Pts). heard b.conference.wait (still (arrivals_after leg.ssrc p [] (dump (input_limit b.conference) (input_at b.inputs i)).items)) leg.ssrc) (types_are leg on same)
+        ∙ ap (mixed_in usual_types leg.ssrc (input_limit b.conference) b.conference.wait)
+        ((text_at held (split_of (trunk_of b.conference ssrc) octets) b.conference.legs b.inputs i leg lie at).on_trunk on))
+
+    is_same : Groups (heard_of b i) (map (λ c. c.text) (chunks_of b.conference.wait (came_of (trunk_of b.conference ssrc) octets) leg.ssrc)) []
+    is_same = subst (λ ts. Groups ts (map (λ c. c.text) (chunks_of b.conference.wait (came_of (trunk_of b.conference ssrc) octets) leg.ssrc)) []) (sym heard_is)
+        (recordings_mixed (trunk_of b.conference ssrc) octets leg.ssrc is_stream (input_limit b.conference) b.conference.wait few)
+
+-- ---- the whole
+pub cascaded : CascadesAreBridged
+cascaded held after read_octets file ssrc c printed files read e stored =
+    let f = found 1 held file (mixes_splits c ssrc) printed files e in
+    let split = split_of (trunk_of c ssrc) f.0 in
+    let r = not_faulty held 2 1 (dump (trunk_limit c) f.0).fault (reads_others split c.legs (mixes_over c)) printed files f.2 in
+    let g = others_found held split 2 c.legs (mixes_over c) printed files r.1 in
+    let w = legs_whole held split g.last (input_limit c) 2 c.legs g.inputs (makes c (plain (setup c) c.tick c.turns (leg_chunks c (input_at g.inputs)))) printed files g.lie g.then_ in
+    over f.0 f.1 r.0 g.inputs g.lie w.0 g.last (plain (setup c) c.tick c.turns (leg_chunks c (input_at g.inputs))) refl w.1
+  where
+    over : (octets : List ℕ) → held file ≡ Some octets → (dump (trunk_limit c) octets).fault ≡ None → (inputs : List (List ℕ))
+        → AllZip (IsTextOf held (split_of (trunk_of c ssrc) octets)) c.legs inputs → AllWhole (input_limit c) inputs → (m : ℕ) (o : Option Table)
+        → plain (setup c) c.tick c.turns (leg_chunks c (input_at inputs)) ≡ o → outcome_from m held (makes c o) ≡ Done printed files → IsCascaded held after file ssrc c printed
+    over octets h none inputs lie whole m None p e = absurd (cc e)
+    over octets h none inputs lie whole m (Some table) p e =
+        let d = done_parts (views c table) printed (outs c table) files e in
+        let b : Bridge = record { conference = c; inputs = inputs; table = table } in
+        record {
+          bridge = b;
+          is_of = refl;
+          octets = octets;
+          lies = h;
+          recorded = none;
+          texts_lie = lie;
+          whole = whole;
+          over = p;
+          seen = seen held after read_octets printed b read p (sym d.0) (subst (λ (fs : List Made). AllStored fs held after) (sym d.1) stored);
+          behind = λ i leg at on same few. behind_of held ssrc octets b i leg lie (ssrcs_fit Files read_octets c read).legs at on same few;
+        }
