@@ -50,9 +50,9 @@ pub trait Links {
         ensures ports { IfOk result (λ ends. (Self.In.port ends.0 ≡ port) × (Self.Out.port ends.1 ≡ port)) }
         ensures fresh { IfOk result (λ ends. (Self.In.faults ends.0 ≡ 0) × (Self.Out.faults ends.1 ≡ 0)) }
         ensures not_closed { IfOk result (λ ends. Self.In.closed ends.0 ≡ false) }
+        ensures none { IfOk result (λ ends. (Self.In.taken ends.0 ≡ []) × (Self.Out.given ends.1 ≡ [])) }
 
         ensures told { tells → OnOk result (Self.In.tells × Self.Out.tells) }
-        ensures none { tells → IfOk result (λ ends. (Self.In.taken ends.0 ≡ []) × (Self.Out.given ends.1 ≡ [])) }
         ensures opens { tells → OnOk result (opened self.new port ≡ true) }
         ensures stay_opened { tells → StayOpened opened self.old self.new }
         ensures same_taken { tells → Same taken_at self.old self.new }

@@ -2,7 +2,6 @@
 ghost use Rattle.std.specs.Prelude.{◌≡◌, ◌≤◌, ◌<◌, true, false, None, [], ◌∷◌, IfOk, IfErr, IfSome, OnOk, OnErr};
 ghost use Rattle.rtt_base.specs.declared.limits.TheConstants.{LONGEST_WAIT, MOST_ARRIVALS};
 ghost use Rattle.stream_spec.specs.Ready.{chunk_of};
-ghost use Rattle.stream_spec.specs.Still.{is_blank};
 ghost use Rattle.live_leg.specs.Stepping.{unless_blank};
 ghost use Rattle.ear.specs.Hears.{arrival_count, conf_of};
 ghost use Rattle.live_leg.specs.Items.{Item, items_with};
@@ -14,24 +13,13 @@ use crate::hearing::hear_taken;
 use crate::kinds::ItemKind;
 use crate::legs::LinkLeg;
 use crate::states::{State, state_after};
-use ear::{Ear, EarConf};
+use ear::{Ear, EarConf, is_blank};
 use link_io::LinkIn;
 use rtt_base::limits::MOST_ARRIVALS;
 use rtt_base::{Chunk, Failed, Packet};
 use std::alloc::Global;
 use std::sync::Arc;
 use std::sync::atomic::{AtomicBool, Ordering};
-
-/// Whether a text is one or more U+FEFF and nothing else, or empty.
-fn is_blank(text: &[u8]) -> bool
-    ensures { result ≡ is_blank text.now }
-{
-    match text {
-        [0xEF, 0xBB, 0xBF, rest @ ..] => is_blank(rest),
-        [] => true,
-        _ => false,
-    }
-}
 
 /// What a text that is heard comes to: a keep-alive (U+FEFF alone) is none, and is passed over.
 fn unless_blank(chunk: &Chunk) -> Option<ItemKind>

@@ -181,15 +181,15 @@ module _ {I : Type 0} (popped : I → List Item) (began : I → I → Type 0) wh
   text_grew p q r a only = then_grew p q r a (hand_grew q r only)
 
 -- ---- the loop
-module _ {I M : Type 0} (popped : I → List Item) (began : I → I → Type 0) (stands : M → Setup → (ℕ → Pts) → List Call → Type 0) (legs turns : M → ℕ) where
-  pub begins : (p q : LivePort I) (m m' : M) → q.leg ≡ p.leg → Grew popped began p q → Keeps legs turns m m' → GoesOn (λ n. n) popped stands p q m m' → IsGathering popped began stands legs turns false p q m m'
+module _ {I M : Type 0} (popped : I → List Item) (began : I → I → Type 0) (stands : M → Setup → (ℕ → Pts) → List Call → Type 0) (legs turns : M → ℕ) (addresses : M → List ℕ) where
+  pub begins : (p q : LivePort I) (m m' : M) → q.leg ≡ p.leg → Grew popped began p q → Keeps legs turns addresses m m' → GoesOn (λ n. n) popped stands p q m m' → IsGathering popped began stands legs turns addresses false p q m m'
   begins p q m m' same grew keeps w = record { empty = w.0; same = same; grew = grew; keeps = keeps; goes = w.1 }
 
-  keeps_then : (m m' m'' : M) → Keeps legs turns m m' → Keeps legs turns m' m'' → Keeps legs turns m m''
-  keeps_then m m' m'' a b = record { legs = b.legs ∙ a.legs; turns = b.turns ∙ a.turns }
+  keeps_then : (m m' m'' : M) → Keeps legs turns addresses m m' → Keeps legs turns addresses m' m'' → Keeps legs turns addresses m m''
+  keeps_then m m' m'' a b = record { legs = b.legs ∙ a.legs; turns = b.turns ∙ a.turns; addresses = b.addresses ∙ a.addresses }
 
-  pub goes_still : (seen : Bool) (p q r : LivePort I) (m m' m'' : M) → IsGathering popped began stands legs turns seen p q m m' → r.leg ≡ q.leg → Grew popped began q r → Keeps legs turns m' m''
-      → GoesOn (λ n. n) popped stands q r m' m'' → IsGathering popped began stands legs turns seen p r m m''
+  pub goes_still : (seen : Bool) (p q r : LivePort I) (m m' m'' : M) → IsGathering popped began stands legs turns addresses seen p q m m' → r.leg ≡ q.leg → Grew popped began q r → Keeps legs turns addresses m' m''
+      → GoesOn (λ n. n) popped stands q r m' m'' → IsGathering popped began stands legs turns addresses seen p r m m''
   goes_still seen p q r m m' m'' a same grew keeps w = record {
     empty = w.0;
     same = same ∙ a.same;
@@ -199,8 +199,8 @@ module _ {I M : Type 0} (popped : I → List Item) (began : I → I → Type 0) 
   }
 
   -- the leg has said that all was given, maybe once more
-  pub goes_seen : (seen : Bool) (p q r : LivePort I) (m m' m'' : M) → IsGathering popped began stands legs turns seen p q m m' → r.leg ≡ q.leg → Grew popped began q r → Keeps legs turns m' m''
-      → GoesOn suc popped stands q r m' m'' → IsGathering popped began stands legs turns true p r m m''
+  pub goes_seen : (seen : Bool) (p q r : LivePort I) (m m' m'' : M) → IsGathering popped began stands legs turns addresses seen p q m m' → r.leg ≡ q.leg → Grew popped began q r → Keeps legs turns addresses m' m''
+      → GoesOn suc popped stands q r m' m'' → IsGathering popped began stands legs turns addresses true p r m m''
   goes_seen seen p q r m m' m'' a same grew keeps w = record {
     empty = w.0;
     same = same ∙ a.same;
@@ -211,5 +211,5 @@ module _ {I M : Type 0} (popped : I → List Item) (began : I → I → Type 0) 
         record { offers = x.offers; next = x.next; made = x.made; port = less popped s (with_offers x.offers calls) p.leg (suc n) (suc (so_far seen n)) r (let l = at_least seen n in omega (arith, l)) x.port };
   }
 
-  pub all_blocked : (seen : Bool) (p q r : LivePort I) (m m' m'' : M) → IsGathering popped began stands legs turns seen p q m m' → Blocks popped stands q r m' m'' → Gathered popped stands p r m m''
+  pub all_blocked : (seen : Bool) (p q r : LivePort I) (m m' m'' : M) → IsGathering popped began stands legs turns addresses seen p q m m' → Blocks popped stands q r m' m'' → Gathered popped stands p r m m''
   all_blocked seen p q r m m' m'' a b = gathered_blocked popped stands p r m m'' (then_blocks popped stands seen p q r m m' m'' a.same a.goes b)

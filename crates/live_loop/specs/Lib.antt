@@ -3,3 +3,4 @@ pub mod Ports
 pub mod Walks
 pub mod Begun
 pub mod Opening
+pub mod Clocks

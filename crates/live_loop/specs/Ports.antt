@@ -153,11 +153,11 @@ module _ {I : Type 0} where
   Advances popped stands p p' m m' advanced.Blocked = Blocks popped stands p p' m m'
 
   -- where a leg was asked since the last turn, and has said that all was given, or not yet
-  pub record IsGathering {M : Type 0} (popped : I → List Item) (began : I → I → Type 0) (stands : M → Setup → (ℕ → Pts) → List Call → Type 0) (legs turns : M → ℕ) (seen : Bool) (p p' : LivePort I) (m m' : M) : Type 0 where
+  pub record IsGathering {M : Type 0} (popped : I → List Item) (began : I → I → Type 0) (stands : M → Setup → (ℕ → Pts) → List Call → Type 0) (legs turns : M → ℕ) (addresses : M → List ℕ) (seen : Bool) (p p' : LivePort I) (m m' : M) : Type 0 where
     pub empty : p'.full ≡ false
     pub same : p'.leg ≡ p.leg
     pub grew : Grew popped began p p'
-    pub keeps : Keeps legs turns m m'
+    pub keeps : Keeps legs turns addresses m m'
     pub goes : Goes (so_far seen) popped stands p p' m m'
 
 -- what becomes of a text that was offered

@@ -98,7 +98,7 @@ impl<I> LivePort<I> {
         requires source { self.old.leg < M.legs mixer.old }
         ensures only { OnlyHand self.old self.new }
         ensures full { self.new.full ≡ not result }
-        ensures keeps { Keeps M.legs M.turns mixer.old mixer.new }
+        ensures keeps { Keeps M.legs M.turns M.addresses mixer.old mixer.new }
         ensures offered { Offers M.stands mixer.old mixer.new (chunk_of self.old.hand) result }
     {
         let taken = mixer.offer(&self.hand).is_ok();
@@ -144,7 +144,7 @@ impl<I: Pops> LivePort<I> {
     /// Offers what is in hand, if a text is, and answers whether the hand is empty then.
     fn retry<M: Mixes>(&mut self, mixer: &mut M) -> bool
         requires leg { self.old.leg < M.legs mixer.old }
-        ensures keeps { Keeps M.legs M.turns mixer.old mixer.new }
+        ensures keeps { Keeps M.legs M.turns M.addresses mixer.old mixer.new }
         ensures leg { self.new.leg ≡ self.old.leg }
         ensures grew { Grew I.popped I.began self.old self.new }
         ensures retries { Retries I.popped M.stands self.old self.new mixer.old mixer.new result }
@@ -159,7 +159,7 @@ impl<I: Pops> LivePort<I> {
     fn advance<R: Wait, M: Mixes>(&mut self, rt: &R, mixer: &mut M, seen: bool) -> Advanced
         requires empty { self.old.full ≡ false }
         requires leg { self.old.leg < M.legs mixer.old }
-        ensures keeps { Keeps M.legs M.turns mixer.old mixer.new }
+        ensures keeps { Keeps M.legs M.turns M.addresses mixer.old mixer.new }
         ensures leg { self.new.leg ≡ self.old.leg }
         ensures grew { Grew I.popped I.began self.old self.new }
         ensures advances { Advances I.popped M.stands self.old self.new mixer.old mixer.new result }
@@ -181,7 +181,7 @@ impl<I: Pops> LivePort<I> {
     /// that all was given, and nothing more is there or enough was popped.
     pub fn gather<R: Wait, M: Mixes>(&mut self, rt: &R, mixer: &mut M)
         requires leg { self.old.leg < M.legs mixer.old }
-        ensures keeps { Keeps M.legs M.turns mixer.old mixer.new }
+        ensures keeps { Keeps M.legs M.turns M.addresses mixer.old mixer.new }
         ensures leg { self.new.leg ≡ self.old.leg }
         ensures grew { Grew I.popped I.began self.old self.new }
         ensures gathered { Gathered I.popped M.stands self.old self.new mixer.old mixer.new }

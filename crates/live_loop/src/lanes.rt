@@ -6,25 +6,10 @@ use crate::pops::Pops;
 use item_lanes::Lane;
 use link_io::LinkIn;
 use live_leg::{ItemKind, LegItem, LinkLeg};
-use rtt_base::{Chunk, Text};
+use mix_loop::copy_chunk;
+use rtt_base::Chunk;
 use rtt_io::Gate;
 use std::sync::Wait;
-
-/// Puts a text in place of another.
-fn copy_text(from: &Text, to: &mut Text)
-    ensures { to.new ≡ from.now }
-{
-    to.clear();
-    let _room = to.append(from.as_slice());
-}
-
-fn copy_chunk(from: &Chunk, to: &mut Chunk)
-    ensures { chunk_of to.new ≡ chunk_of from.now }
-{
-    to.source = from.source;
-    to.ready = from.ready;
-    copy_text(&from.text, &mut to.text);
-}
 
 /// Hands an item out, and what lies beside it in place of what is in `chunk`.
 fn hand_out(item: &LegItem, chunk: &mut Chunk) -> ItemKind

@@ -1,6 +1,7 @@
 //! The turns of a live call: before each, what the legs gave is offered; then the turn is made.
 #![tactic(auto)]
 
+mod clocks;
 mod draining;
 mod gathering;
 mod lanes;
@@ -11,6 +12,7 @@ mod port_lists;
 mod ports;
 mod turns;
 
+pub use clocks::TurnClock;
 pub use draining::drain_all;
 pub use laws::turns_may_begin;
 pub use pops::Pops;

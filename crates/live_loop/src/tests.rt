@@ -27,7 +27,7 @@ struct Counting {
 }
 
 impl Mixes for Counting {
-    ghost use Rattle.std.specs.Prelude.{◌^◌};
+    ghost use Rattle.std.specs.Prelude.{◌^◌, []};
 
     type Fault = NoMemory;
 
@@ -36,6 +36,8 @@ impl Mixes for Counting {
     ghost legs = { λ m. m.legs };
 
     ghost turns = { λ m. m.turns };
+
+    ghost addresses = { λ m. [] };
 
     ghost horizon = { 2 ^ 47 };
 

@@ -2,12 +2,13 @@
 ghost use Rattle.std.specs.Prelude.{◌≡◌, ◌≤◌, ◌<◌, ◌^◌, true, false, length, MatchOption};
 ghost use Rattle.std.specs.List.{list_all};
 ghost use Rattle.mix_loop.specs.Mixers.{Keeps};
+ghost use Rattle.live_loop.specs.Clocks.{OnlyTimePassed};
 ghost use Rattle.live_loop.specs.Walks.{AllGathered, AllGrew, AreAt, HasFailed, IsPaused, NoneFailed, Ran, WasFaulted, WasStopped, is_spent};
 
+use crate::clocks::TurnClock;
 use crate::moments::next_tick;
 use crate::pops::Pops;
 use crate::ports::LivePort;
-use link_io::Links;
 use mix_loop::Mixes;
 use std::sync::Wait;
 
@@ -29,7 +30,7 @@ fn gather_all<I: Pops, M: Mixes, R: Wait>(rt: &R, ports: &mut [LivePort<I>], mix
     requires at { AreAt ports.old }
     requires legs { M.legs mixer.old ≡ length ports.old }
     ensures at { AreAt ports.new }
-    ensures keeps { Keeps M.legs M.turns mixer.old mixer.new }
+    ensures keeps { Keeps M.legs M.turns M.addresses mixer.old mixer.new }
     ensures grew { AllGrew I.popped I.began ports.old ports.new }
     ensures gathered { AllGathered I.popped M.stands ports.old ports.new mixer.old mixer.new }
 {
@@ -62,11 +63,11 @@ fn all_spent<I>(ports: &[LivePort<I>]) -> bool
 
 /// Makes so many turns, one at each multiple of `tick` milliseconds from the first on, or later where what is done before takes
 /// longer; unless a link fails, or all are closed and nothing is left. It pauses once a turn.
-pub fn take_turns<I: Pops, M: Mixes, W: Links, R: Wait>(
+pub fn take_turns<I: Pops, M: Mixes, C: TurnClock, R: Wait>(
     rt: &R,
     ports: &mut [LivePort<I>],
     mixer: &mut M,
-    world: &mut W,
+    clock: &mut C,
     tick: u64,
     turns: u64,
 ) -> Turned<M::Fault>
@@ -80,11 +81,13 @@ pub fn take_turns<I: Pops, M: Mixes, W: Links, R: Wait>(
     ensures at { AreAt ports.new }
     ensures grew { AllGrew I.popped I.began ports.old ports.new }
     ensures ran { Ran I.popped result M.stands turns ports.old ports.new mixer.old mixer.new }
+    ensures addresses { M.addresses mixer.new ≡ M.addresses mixer.old }
     ensures faulted { WasFaulted result ports.new }
     ensures unsent { WasStopped M.unsent result mixer.new }
-    ensures pauses { result ≡ Turned.Done → IsPaused turns (W.pauses world.old) (W.pauses world.new) }
+    ensures pauses { result ≡ Turned.Done → IsPaused turns (C.pauses clock.old) (C.pauses clock.new) }
+    ensures passed { OnlyTimePassed C.TurnClock clock.old clock.new }
 {
-    let began = world.now();
+    let began = clock.clock_now();
     for k in 0..turns {
         gather_all(rt, ports, mixer);
         match first_failed(ports) {
@@ -95,12 +98,12 @@ pub fn take_turns<I: Pops, M: Mixes, W: Links, R: Wait>(
         if spent && mixer.idle() {
             return Turned::Closed;
         }
-        let now = world.now();
+        let now = clock.clock_now();
         match mixer.turn(now) {
             Ok(()) => {}
             Err(fault) => return Turned::Stopped(fault),
         }
-        world.pause_until(next_tick(began, now, tick));
+        clock.sleep_until(next_tick(began, now, tick));
     }
     let spent = all_spent(ports);
     if spent && mixer.idle() {

@@ -8,7 +8,7 @@ use Rattle.live_loop.proofs.turns.gather_all.Goals as goal
 pub loop-leg-init : goal.loop-leg-init
 loop-leg-init g c = (
   c.requires.at,
-  keeps_none g.M.Mixes.legs g.M.Mixes.turns c.args.mixer.now,
+  keeps_none g.M.Mixes.legs g.M.Mixes.turns g.M.Mixes.addresses c.args.mixer.now,
   none_grew g.I.Pops.popped g.I.Pops.began c.args.ports.now,
   λ s pts calls legs made at. walk_none g.I.Pops.popped g.I.Pops.began g.M.Mixes.stands s pts calls c.args.ports.now c.args.mixer.now made at,
 )
@@ -29,7 +29,7 @@ loop-leg-preserved g c =
     let at = get_there c.loop-leg.ports c.loop-leg.leg c.index-ports-leg.result low in
     let here = c.loop-leg.invariant.0 c.loop-leg.leg p at in (
       at_set c.loop-leg.ports c.loop-leg.leg c.gather.new.self c.loop-leg.invariant.0 low (c.gather.ensures.leg ∙ here),
-      keeps_more g.M.Mixes.legs g.M.Mixes.turns c.args.mixer.now c.loop-leg.mixer c.gather.new.mixer c.loop-leg.invariant.1 c.gather.ensures.keeps,
+      keeps_more g.M.Mixes.legs g.M.Mixes.turns g.M.Mixes.addresses c.args.mixer.now c.loop-leg.mixer c.gather.new.mixer c.loop-leg.invariant.1 c.gather.ensures.keeps,
       one_grew g.I.Pops.popped g.I.Pops.began c.args.ports.now c.loop-leg.ports c.loop-leg.leg p c.gather.new.self at c.gather.ensures.grew c.loop-leg.invariant.2,
       λ s pts calls legs made has. walk_more g.I.Pops.popped g.I.Pops.began g.M.Mixes.stands s pts calls c.loop-leg.leg c.loop-leg.ports c.loop-leg.mixer c.gather.new.mixer p c.gather.new.self (omega (arith, legs, c.loop-leg-test.true, c.loop-leg.auto.leg-end)) at here c.gather.ensures.gathered (c.loop-leg.invariant.3 s pts calls legs made has),
     )

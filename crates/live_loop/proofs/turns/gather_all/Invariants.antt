@@ -13,7 +13,7 @@ use Rattle.live_loop.proofs.turns.gather_all.Given as goal
 abbrev pub invariant-loop-leg : goal.invariant-loop-leg
 invariant-loop-leg g l =
     AreAt l.ports
-    × Keeps g.M.Mixes.legs g.M.Mixes.turns l.fn.mixer l.mixer
+    × Keeps g.M.Mixes.legs g.M.Mixes.turns g.M.Mixes.addresses l.fn.mixer l.mixer
     × AllGrew g.I.Pops.popped g.I.Pops.began l.fn.ports l.ports
     × ((s : Setup) (pts : ℕ → Pts) (calls : List Call) → s.legs ≡ length l.fn.ports → g.M.Mixes.stands l.fn.mixer s pts calls
     → ((j : ℕ) (p : LivePort _) → slice_get l.fn.ports j ≡ Some p → PortAt g.I.Pops.popped s calls j (free_after s j calls) p)

@@ -1,6 +1,6 @@
-use Rattle.std.proofs.Common.{◌≡◌, ℕ, length, inl, sym, subst, ◌∙◌, arith}
+use Rattle.std.proofs.Common.{◌≡◌, ℕ, length, inl, refl, sym, subst, ◌∙◌, arith}
 use Rattle.live_loop.specs.Walks.{IsServing, is_spent}
-use Rattle.live_loop.proofs.Pausing.{all_at, count_same, paused_more}
+use Rattle.live_loop.proofs.Pausing.{all_at, count_same, passed_on, paused_more}
 use Rattle.live_loop.proofs.Walking.{all_then_grew, none_grew, turn_made}
 use Rattle.live_loop.proofs.turns.take_turns.Goals as goal
 
@@ -9,10 +9,12 @@ loop-k-init g c = (
   c.requires.at,
   c.requires.legs,
   c.requires.none,
-  (let same = c.now-began.ensures.same_pauses in inl (omega (arith, same))),
+  (let same = c.clock_now-began.ensures.same_pauses in inl (omega (arith, same))),
   λ s pts legs v. v,
   none_grew g.I.Pops.popped g.I.Pops.began c.args.ports.now,
-  (let is = c.now-began.ensures.is in omega (arith, is)),
+  (let is = c.clock_now-began.ensures.is in omega (arith, is)),
+  (let e = c.clock_now-began.ensures in record { same_own = e.same_own; same_objects = e.same_objects; rises = e.rises; same_opened = e.same_opened }),
+  refl,
 )
 
 pub returns-then-idle-clause-ran : goal.returns-then-idle-clause-ran
@@ -34,15 +36,20 @@ loop-k-preserved g c =
       c.gather_all.ensures.at,
       c.turn.ensures.legs ∙ (keeps.legs ∙ (c.loop-k.invariant.1 ∙ sym same)),
       (let turns = keeps.turns in omega (arith, c.turn.ensures.turns, turns, c.loop-k.invariant.2)),
-      paused_more c.loop-k.k (g.W.Links.pauses c.args.world.now) (g.W.Links.pauses c.loop-k.world) (g.W.Links.pauses c.pause_until.new.self) c.loop-k.invariant.3
-          (c.pause_until.ensures.counted ∙ count_same (g.W.Links.pauses c.now-now.new.self) (g.W.Links.pauses c.loop-k.world) c.now-now.ensures.same_pauses),
+      paused_more c.loop-k.k (g.C.TurnClock.pauses c.args.clock.now) (g.C.TurnClock.pauses c.loop-k.clock) (g.C.TurnClock.pauses c.sleep_until.new.self) c.loop-k.invariant.3
+          (c.sleep_until.ensures.counted ∙ count_same (g.C.TurnClock.pauses c.clock_now-now.new.self) (g.C.TurnClock.pauses c.loop-k.clock) c.clock_now-now.ensures.same_pauses),
       λ s pts legs v.
           let b = c.loop-k.invariant.4 s pts legs v in
           let here : s.legs ≡ length c.loop-k.ports = omega (arith, legs, c.loop-k.auto.ports) in
           let w = c.gather_all.ensures.gathered s pts c.loop-k.k here b in
-          turn_made g.I.Pops.popped g.I.Pops.began g.M.Mixes.stands s pts c.loop-k.k c.now-now.result c.gather_all.new.ports c.gather_all.new.mixer c.turn.new.self (here ∙ sym same) c.in-None.ensures c.in-Ok.ensures.turned w,
+          turn_made g.I.Pops.popped g.I.Pops.began g.M.Mixes.stands s pts c.loop-k.k c.clock_now-now.result c.gather_all.new.ports c.gather_all.new.mixer c.turn.new.self (here ∙ sym same) c.in-None.ensures c.in-Ok.ensures.turned w,
       all_then_grew g.I.Pops.popped g.I.Pops.began c.args.ports.now c.loop-k.ports c.gather_all.new.ports c.loop-k.invariant.5 c.gather_all.ensures.grew,
-      (let before = c.loop-k.invariant.6 in let asked = c.now-now.ensures.rises in let paused = c.pause_until.ensures.rises in omega (arith, before, asked, paused)),
+      (let before = c.loop-k.invariant.6 in let asked = c.clock_now-now.ensures.rises in let paused = c.sleep_until.ensures.rises in omega (arith, before, asked, paused)),
+      passed_on g.C.TurnClock c.args.clock.now c.clock_now-now.new.self c.sleep_until.new.self
+          (passed_on g.C.TurnClock c.args.clock.now c.loop-k.clock c.clock_now-now.new.self c.loop-k.invariant.7
+          (let e = c.clock_now-now.ensures in record { same_own = e.same_own; same_objects = e.same_objects; rises = e.rises; same_opened = e.same_opened }))
+          (let e = c.sleep_until.ensures in record { same_own = e.same_own; same_objects = e.same_objects; rises = e.rises; same_opened = e.same_opened }),
+      c.turn.ensures.addresses ∙ (keeps.addresses ∙ c.loop-k.invariant.8),
     )
 
 pub returns-then-idle-2-clause-ran : goal.returns-then-idle-2-clause-ran
@@ -68,3 +75,16 @@ returns-then-idle-clause-grew g c = all_then_grew g.I.Pops.popped g.I.Pops.began
 
 pub returns-in-Err-clause-grew : goal.returns-in-Err-clause-grew
 returns-in-Err-clause-grew g c = all_then_grew g.I.Pops.popped g.I.Pops.began c.args.ports.now c.loop-k.ports c.gather_all.new.ports c.loop-k.invariant.5 c.gather_all.ensures.grew
+
+pub returns-in-Err-clause-passed : goal.returns-in-Err-clause-passed
+returns-in-Err-clause-passed g c = passed_on g.C.TurnClock c.args.clock.now c.loop-k.clock c.clock_now-now.new.self c.loop-k.invariant.7
+    (let e = c.clock_now-now.ensures in record { same_own = e.same_own; same_objects = e.same_objects; rises = e.rises; same_opened = e.same_opened })
+
+pub returns-in-Some-clause-addresses : goal.returns-in-Some-clause-addresses
+returns-in-Some-clause-addresses g c = let keeps = c.gather_all.ensures.keeps in keeps.addresses ∙ c.loop-k.invariant.8
+
+pub returns-then-idle-clause-addresses : goal.returns-then-idle-clause-addresses
+returns-then-idle-clause-addresses g c = let keeps = c.gather_all.ensures.keeps in keeps.addresses ∙ c.loop-k.invariant.8
+
+pub returns-in-Err-clause-addresses : goal.returns-in-Err-clause-addresses
+returns-in-Err-clause-addresses g c = let keeps = c.gather_all.ensures.keeps in c.turn.ensures.addresses ∙ (keeps.addresses ∙ c.loop-k.invariant.8)

@@ -6,7 +6,7 @@ returns-then-not-retry-clause-gathered g c = gathered_blocked g.I.Pops.popped g.
 
 pub loop-init : goal.loop-init
 loop-init g c =
-    begins g.I.Pops.popped g.I.Pops.began g.M.Mixes.stands g.M.Mixes.legs g.M.Mixes.turns c.args.self.now c.retry.new.self c.args.mixer.now c.retry.new.mixer c.retry.ensures.leg c.retry.ensures.grew c.retry.ensures.keeps c.if-not-retry.ensures.retries
+    begins g.I.Pops.popped g.I.Pops.began g.M.Mixes.stands g.M.Mixes.legs g.M.Mixes.turns g.M.Mixes.addresses c.args.self.now c.retry.new.self c.args.mixer.now c.retry.new.mixer c.retry.ensures.leg c.retry.ensures.grew c.retry.ensures.keeps c.if-not-retry.ensures.retries
 
 pub returns-then-self-clause-gathered : goal.returns-then-self-clause-gathered
 returns-then-self-clause-gathered g c = gathered_ended g.I.Pops.popped g.M.Mixes.stands c.loop.seen c.args.self.now c.loop.self c.args.mixer.now c.loop.mixer c.if-self.true c.loop.invariant.goes
@@ -19,28 +19,28 @@ returns-then-is_enough-clause-gathered g c = gathered_seen g.I.Pops.popped g.M.M
 
 pub loop-preserved-in-Going : goal.loop-preserved-in-Going
 loop-preserved-in-Going g c =
-    goes_still g.I.Pops.popped g.I.Pops.began g.M.Mixes.stands g.M.Mixes.legs g.M.Mixes.turns c.loop.seen c.args.self.now c.loop.self c.advance.new.self c.args.mixer.now c.loop.mixer c.advance.new.mixer c.loop.invariant
+    goes_still g.I.Pops.popped g.I.Pops.began g.M.Mixes.stands g.M.Mixes.legs g.M.Mixes.turns g.M.Mixes.addresses c.loop.seen c.args.self.now c.loop.self c.advance.new.self c.args.mixer.now c.loop.mixer c.advance.new.mixer c.loop.invariant
     c.advance.ensures.leg c.advance.ensures.grew c.advance.ensures.keeps c.in-Going.ensures.advances
 
 pub loop-preserved-in-Seen : goal.loop-preserved-in-Seen
 loop-preserved-in-Seen g c =
-    goes_seen g.I.Pops.popped g.I.Pops.began g.M.Mixes.stands g.M.Mixes.legs g.M.Mixes.turns c.loop.seen c.args.self.now c.loop.self c.advance.new.self c.args.mixer.now c.loop.mixer c.advance.new.mixer c.loop.invariant
+    goes_seen g.I.Pops.popped g.I.Pops.began g.M.Mixes.stands g.M.Mixes.legs g.M.Mixes.turns g.M.Mixes.addresses c.loop.seen c.args.self.now c.loop.self c.advance.new.self c.args.mixer.now c.loop.mixer c.advance.new.mixer c.loop.invariant
     c.advance.ensures.leg c.advance.ensures.grew c.advance.ensures.keeps c.in-Seen.ensures.advances
 
 pub loop-preserved : goal.loop-preserved
 loop-preserved g c =
-    goes_still g.I.Pops.popped g.I.Pops.began g.M.Mixes.stands g.M.Mixes.legs g.M.Mixes.turns c.loop.seen c.args.self.now c.loop.self c.advance.new.self c.args.mixer.now c.loop.mixer c.advance.new.mixer c.loop.invariant
+    goes_still g.I.Pops.popped g.I.Pops.began g.M.Mixes.stands g.M.Mixes.legs g.M.Mixes.turns g.M.Mixes.addresses c.loop.seen c.args.self.now c.loop.self c.advance.new.self c.args.mixer.now c.loop.mixer c.advance.new.mixer c.loop.invariant
     c.advance.ensures.leg c.advance.ensures.grew c.advance.ensures.keeps c.in-Nothing.ensures.advances
 
 pub returns-then-seen-clause-gathered : goal.returns-then-seen-clause-gathered
 returns-then-seen-clause-gathered g c =
-    let now = goes_still g.I.Pops.popped g.I.Pops.began g.M.Mixes.stands g.M.Mixes.legs g.M.Mixes.turns c.loop.seen c.args.self.now c.loop.self c.advance.new.self c.args.mixer.now c.loop.mixer c.advance.new.mixer c.loop.invariant
+    let now = goes_still g.I.Pops.popped g.I.Pops.began g.M.Mixes.stands g.M.Mixes.legs g.M.Mixes.turns g.M.Mixes.addresses c.loop.seen c.args.self.now c.loop.self c.advance.new.self c.args.mixer.now c.loop.mixer c.advance.new.mixer c.loop.invariant
     c.advance.ensures.leg c.advance.ensures.grew c.advance.ensures.keeps c.in-Nothing.ensures.advances in
     gathered_seen g.I.Pops.popped g.M.Mixes.stands c.loop.seen c.args.self.now c.advance.new.self c.args.mixer.now c.advance.new.mixer c.if-seen.true now.goes
 
 pub returns-in-Blocked-clause-gathered : goal.returns-in-Blocked-clause-gathered
 returns-in-Blocked-clause-gathered g c =
-    all_blocked g.I.Pops.popped g.I.Pops.began g.M.Mixes.stands g.M.Mixes.legs g.M.Mixes.turns c.loop.seen c.args.self.now c.loop.self c.advance.new.self c.args.mixer.now c.loop.mixer c.advance.new.mixer c.loop.invariant
+    all_blocked g.I.Pops.popped g.I.Pops.began g.M.Mixes.stands g.M.Mixes.legs g.M.Mixes.turns g.M.Mixes.addresses c.loop.seen c.args.self.now c.loop.self c.advance.new.self c.args.mixer.now c.loop.mixer c.advance.new.mixer c.loop.invariant
     c.in-Blocked.ensures.advances
 
 pub returns-then-seen-clause-grew : goal.returns-then-seen-clause-grew
