@@ -12,7 +12,7 @@ use Rattle.mixer_spec.specs.Composed.{Asked}
 use Rattle.mixer_spec.specs.Table.{TurnEntry, packets, sents}
 use Rattle.mixer_spec.specs.Laws.{IsAnswered, IsComposed, chunks_given}
 use Rattle.mixer_spec.specs.Bridged.{packets_to}
-use Rattle.serve_spec.proofs.Back.{map_twice}
+use Rattle.command_spec.proofs.SentBack.{map_twice}
 
 again : (given waits more rest some all : List Chunk) → given ++ (waits ++ more) ≡ some → all ≡ some ++ rest → given ++ (waits ++ (more ++ rest)) ≡ all
 again given waits more rest some all e f =

@@ -2,6 +2,7 @@ mod Texts
 mod Sharing
 mod Back
 mod Composing
-mod LinksStay
-mod Promised
+pub mod LinkLegs
+pub mod LinksStay
+pub mod Promised
 mod LiveExamples

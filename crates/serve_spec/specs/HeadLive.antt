@@ -1,9 +1,9 @@
 -- What a live call promises, whatever its links gave, and at whatever moments (profile).
-use Rattle.std.specs.Prelude.{◌≡◌, ◌<◌, ℕ, false, Some, Ok, List, length, map}
+use Rattle.std.specs.Prelude.{◌≡◌, ◌<◌, ℕ, false, Some, Ok, List, length, map, IsSome}
 use Rattle.wire_spec.specs.Text.{text_of}
 use Rattle.file_spec.specs.declared.conf_lines.Form.TheVariants.{Links}
 use Rattle.file_spec.specs.declared.conf_lines.LegLine.{LegLine}
-use Rattle.file_spec.specs.Conf.{Conf, conf}
+use Rattle.file_spec.specs.Conf.{Conf, conf, port}
 use Rattle.stream_spec.specs.Lists.{In}
 use Rattle.stream_spec.specs.History.{Lawful, Placed, placed}
 use Rattle.stream_spec.specs.Own.{Own, own_packet}
@@ -55,6 +55,16 @@ ServedIsHeadLive =
     → conf Links octets ≡ Ok c
     → IsServed c takes given end printed
     → HeadLive c takes given end printed
+
+-- the input of each leg is a port, and no two legs have one
+pub record HavePorts (c : Conf) : Type 0 where
+  pub each : (j : ℕ) (leg : LegLine) → leg_at c.legs j ≡ Some leg → IsSome (port leg.input)
+  pub differ : (j k : ℕ) (a b : LegLine) (p : ℕ) → leg_at c.legs j ≡ Some a → leg_at c.legs k ≡ Some b
+      → port a.input ≡ Some p → port b.input ≡ Some p → j ≡ k
+
+-- In a conference of links each leg has a port of its own.
+abbrev pub LinksApart : Type 0
+LinksApart = (octets : List ℕ) (c : Conf) → conf Links octets ≡ Ok c → HavePorts c
 
 -- In a conference of links no leg comes later or goes, and each has a place.
 abbrev pub LinksStay : Type 0

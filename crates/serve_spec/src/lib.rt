@@ -3,4 +3,4 @@
 
 mod laws;
 
-pub use laws::{links_stay, live_calls_keep};
+pub use laws::{links_are_apart, links_stay, live_calls_keep};
