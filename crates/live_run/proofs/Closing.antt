@@ -1,9 +1,10 @@
 -- Ends of links that are handed back, from the last one on.
-use Rattle.std.proofs.Common.{◌≡◌, ℕ, zero, suc, ◌+◌, ◌<◌, ◌≤◌, ◌⊎◌, inl, inr, Option, None, Some, List, [], ◌∷◌, ◌++◌, length, refl, ap, subst, sym, ◌∙◌, arith}
-use Rattle.std.specs.Prelude.{IsSome, slice_get}
-use Rattle.std.proofs.lemmas.Bool.{cases_lt}
+use Rattle.std.proofs.Common.{◌≡◌, ◌≢◌, ℕ, true, zero, suc, ◌+◌, ◌<◌, ◌≤◌, ◌⊎◌, inl, inr, Option, None, Some, List, [], ◌∷◌, ◌++◌, length, refl, ap, subst, sym, ◌∙◌, arith}
+use Rattle.std.specs.Prelude.{Bool, IsSome, slice_get}
+use Rattle.std.proofs.lemmas.Bool.{cases_eq, cases_lt}
 use Rattle.std.proofs.lemmas.Option.{slice_get_within}
 use Rattle.rtt_io.specs.Counts.{Rose, counted, last_count}
+use Rattle.live_run.specs.Opened.{HaveOwnPorts}
 
 -- a count of faults that rose, behind others
 rose_behind : (before between after faults : ℕ) → before ≤ between → after ≡ counted between faults → Rose 0 faults → Rose before after
@@ -51,6 +52,24 @@ module _ {X : Type 0} (all now xs : List X) (x : X) (is : now ≡ xs ++ x ∷ []
     ]
     | inr past ↦ inr (λ r. rose_on (before (port_of y)) (between (port_of y)) (after (port_of y)) (never (port_of y)) (grew (port_of y)) (past r))
   ]
+
+  -- what it has was stored at its port, and nothing at another
+  pub stored_more : {K : Type 0} (has : X → K) (port_of : X → ℕ) (opened opened_then : ℕ → Bool) (between after : ℕ → K) → HaveOwnPorts port_of all → slice_get all (length xs) ≡ Some x
+      → opened_then (port_of x) ≡ opened (port_of x) → (opened_then (port_of x) ≡ true → after (port_of x) ≡ has x) → ((p : ℕ) → p ≢ port_of x → after p ≡ between p)
+      → ((j : ℕ) (y : X) → slice_get all j ≡ Some y → (slice_get now j ≡ Some y) ⊎ (opened (port_of y) ≡ true → between (port_of y) ≡ has y))
+      → (j : ℕ) (y : X) → slice_get all j ≡ Some y → (slice_get xs j ≡ Some y) ⊎ (opened (port_of y) ≡ true → after (port_of y) ≡ has y)
+  stored_more has port_of opened opened_then between after own last same here others stored j y e =
+      let of_last : (z : X) → z ≡ x → opened (port_of z) ≡ true → after (port_of z) ≡ has z =
+      λ z eq. subst (λ (w : X). opened (port_of w) ≡ true → after (port_of w) ≡ has w) (sym eq) (λ o. here (same ∙ o)) in
+      elim (stored j y e) [
+        | inl at ↦ elim (pushed xs x j y (subst (λ (l : List X). slice_get l j ≡ Some y) is at)) [ inl f ↦ inl f | inr q ↦ inr (of_last y q.1) ]
+        | inr past ↦ elim (cases_eq (port_of y) (port_of x)) [
+          | inl both ↦
+              let at : j ≡ length xs = own j (length xs) y x e last both in
+              inr (of_last y (cc (sym e ∙ (ap (λ (k : ℕ). slice_get all k) at ∙ last))))
+          | inr differs ↦ inr (λ o. others (port_of y) differs ∙ past o)
+        ]
+      ]
 
 -- behind the last one nothing is left
 pub nothing_left : {X : Type 0} (xs : List X) (n : ℕ) (last : Option X) → n ≡ length xs → (0 < n → IsSome last) → last ≡ None → (j : ℕ) (x : X) → slice_get xs j ≡ Some x → ⊥

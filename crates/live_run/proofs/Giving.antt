@@ -1,6 +1,6 @@
 -- What was given to links.
 use Rattle.std.proofs.Common.{◌≡◌, ℕ, zero, suc, ◌<◌, inl, inr, Some, List, [], ◌∷◌, ◌++◌, length, get_or, refl, ap, sym, ◌∙◌, subst, arith}
-use Rattle.std.specs.Prelude.{slice_get, slice_set}
+use Rattle.std.specs.Prelude.{map, slice_get, slice_set}
 use Rattle.std.proofs.lemmas.Bool.{cases_eq, eq-eqb, ne_eqb}
 use Rattle.std.proofs.lemmas.List.{append-nil}
 use Rattle.std.specs.Vec.{with_item}
@@ -40,6 +40,12 @@ changed P Q xs i x here others all j y e = elim (cases_eq i j) [
       subst (λ (k : ℕ). Q k y) q (subst (λ z. Q i z) (sym there) here)
   | inr n ↦ others j y n (all j y (sym (set_other xs i j x n) ∙ e))
 ]
+
+-- where one is at the port of the one that was at its place, all are at the ports of those before
+pub same_ports : {O : Type 0} (port_of : O → ℕ) (xs : List O) (i : ℕ) (old new d : O) → old ≡ get_or xs i d → port_of new ≡ port_of old → map port_of (slice_set xs i new) ≡ map port_of xs
+same_ports port_of [] i old new d is same = refl
+same_ports port_of (y ∷ xs) zero old new d is same = ap (λ (p : ℕ). p ∷ map port_of xs) (same ∙ ap port_of is)
+same_ports port_of (y ∷ xs) (suc i) old new d is same = ap (λ (ps : List ℕ). port_of y ∷ ps) (same_ports port_of xs i old new d is same)
 
 -- ---- one post more
 pub packets_here : (j now : ℕ) (p : Post) (sent : List (ℕ × Post)) → p.terminal ≡ j → packets_to j ((now, p) ∷ sent) ≡ packets_to j sent ++ p.packet ∷ []

@@ -1,6 +1,6 @@
 -- What legs gave that ran, by what was popped of them.
-use Rattle.std.proofs.Common.{◌≡◌, ℕ, zero, suc, ◌<◌, ◌≤◌, ◌⊎◌, inl, inr, Some, List, [], ◌∷◌, ◌++◌, append_assoc, length, refl, ap, sym, ◌∙◌, subst, arith}
-use Rattle.std.specs.Prelude.{slice_get}
+use Rattle.std.proofs.Common.{◌≡◌, ℕ, zero, suc, ◌<◌, ◌≤◌, ◌⊎◌, true, false, true≢false, inl, inr, Some, List, [], ◌∷◌, ◌++◌, append_assoc, length, refl, ap, sym, ◌∙◌, subst, arith}
+use Rattle.std.specs.Prelude.{map, slice_get}
 use Rattle.std.proofs.lemmas.Option.{slice_get_within}
 use Rattle.rtt_base.specs.declared.text_packets.Pts.{Pts}
 use Rattle.mixer_spec.specs.Setups.{AllStay, Setup}
@@ -12,12 +12,13 @@ use Rattle.item_lanes.proofs.Matching.{is_there}
 use Rattle.link_io.specs.declared.ends.LinkIn as links
 use Rattle.live_leg.specs.declared.items.LegItem.{LegItem}
 use Rattle.live_leg.specs.declared.legs.LinkLeg.{LinkLeg}
-use Rattle.live_leg.specs.Items.{Item, items_of}
+use Rattle.live_leg.specs.Items.{Item, has_fault, items_of}
 use Rattle.live_leg.specs.Stands.{LegGave, LegStands}
 use Rattle.live_leg.proofs.Texts.{items_append}
 use Rattle.live_loop.specs.declared.ports.LivePort.{LivePort}
 use Rattle.live_loop.specs.Begun.{AreAdmits}
 use Rattle.live_loop.proofs.Begun.{may_begin}
+use Rattle.live_loop.specs.Opening.{AreBegun}
 use Rattle.live_loop.specs.Ports.{Grew, IsBegun}
 use Rattle.live_loop.specs.Walks.{AreAt, IsServing}
 use Rattle.live_loop.specs.declared.turns.Turned.{Turned}
@@ -30,20 +31,34 @@ use Rattle.live_run.proofs.Seating.{all_seated, may_come}
 pub port_of : {I : Type 0} (inlet : I) (leg : ℕ) (p : LivePort I) → IsBegun inlet leg p → IsPortOf inlet p
 port_of inlet leg p b = record { is = b.is; leg_is = refl; empty = b.empty; going = b.going; well = b.well }
 
-get_push : {X : Type 0} (xs : List X) (x y : X) (j : ℕ) → slice_get (xs ++ x ∷ []) j ≡ Some y → (slice_get xs j ≡ Some y) ⊎ ((j ≡ length xs) × (x ≡ y))
-get_push [] x y zero e = inr (refl, cc e)
-get_push [] x y (suc j) e = absurd (cc e)
-get_push (z ∷ xs) x y zero e = inl e
-get_push (z ∷ xs) x y (suc j) e = elim (get_push xs x y j e) [ inl g ↦ inl g | inr p ↦ inr (ap suc p.0, p.1) ]
+module _ {I : Type 0} where
+  inlet_at : (ps : List (LivePort I)) (j : ℕ) (p : LivePort I) → slice_get ps j ≡ Some p → slice_get (map (λ (q : LivePort I). q.inlet) ps) j ≡ Some p.inlet
+  inlet_at [] j p e = absurd (cc e)
+  inlet_at (q ∷ ps) zero p e = let is : q ≡ p = cc e in ap (λ (x : LivePort I). Some x.inlet) is
+  inlet_at (q ∷ ps) (suc j) p e = inlet_at ps j p e
 
-pub none_at : {I : Type 0} (ps : List (LivePort I)) → ps ≡ [] → AreAt ps
-none_at ps e j p at = absurd (cc (ap (λ xs. slice_get xs j) (sym e) ∙ at))
+  inlet_count : (ps : List (LivePort I)) → length (map (λ (q : LivePort I). q.inlet) ps) ≡ length ps
+  inlet_count [] = refl
+  inlet_count (q ∷ ps) = ap suc (inlet_count ps)
 
-pub at_more : {I : Type 0} (ps : List (LivePort I)) (p : LivePort I) → AreAt ps → p.leg ≡ length ps → AreAt (ps ++ p ∷ [])
-at_more {I} ps p at is j q e = elim (get_push ps p q j e) [
-  | inl there ↦ at j q there
-  | inr last ↦ subst (λ (x : LivePort I). x.leg ≡ j) last.1 (is ∙ sym last.0)
-]
+  -- a port for each of these, as a list of pairs
+  pub ports_begun : (inlets : List I) (ps : List (LivePort I)) → AreBegun inlets ps → ArePortsOf inlets ps
+  ports_begun inlets ps b = record {
+    pairs = record {
+      many = sym (inlet_count ps) ∙ ap (λ (xs : List I). length xs) b.are;
+      are = λ j x p ex ep.
+          let is : p.inlet ≡ x = cc (sym (inlet_at ps j p ep) ∙ (ap (λ (xs : List I). slice_get xs j) b.are ∙ ex)) in
+          subst (λ (y : I). IsPortOf y p) is (port_of p.inlet j p (b.each j p ep));
+    };
+    at = λ j p e. (b.each j p e).leg_is;
+  }
+
+  -- and what stood at these ports
+  pub inlets_paired : (ps : List (LivePort I)) (inlets : List I) → inlets ≡ map (λ p. p.inlet) ps → Pairs IsInletOf ps inlets
+  inlets_paired ps inlets e = record {
+    many = ap (λ (xs : List I). length xs) e ∙ inlet_count ps;
+    are = λ j p x ep ex. cc (sym ex ∙ (ap (λ (xs : List I). slice_get xs j) e ∙ inlet_at ps j p ep));
+  }
 
 -- ---- before the first turn
 all_admits : (s : Setup) (n : ℕ) → AllStay s → n ≤ s.legs → AreAdmits s (all_admitted n)
@@ -58,6 +73,13 @@ module _ {I M : Type 0} (popped : I → List Item) (stands : M → Setup → (�
       let x = is_there inlets j (let low = slice_get_within ps j p e in let many = pairs.many in omega arith) in
       let b = pairs.are j x.0 p x.1 e in
       record { none = ap popped b.is ∙ none j x.0 x.1; empty = b.empty; going = b.going })
+
+-- a fault of which a port knows was popped, where it did not know of it before, and nothing was popped then
+fault_popped : {I : Type 0} (popped : I → List Item) (began : I → I → Type 0) (p q : LivePort I) → Grew popped began p q → p.failed ≡ false → popped p.inlet ≡ [] → q.failed ≡ true → has_fault (popped q.inlet) ≡ true
+fault_popped popped began p q grew well none failed = elim (grew.fails failed) [
+  | inl old ↦ absurd (true≢false (sym old ∙ well))
+  | inr fault ↦ ap has_fault (grew.popped_are ∙ ap (λ (xs : List Item). xs ++ grew.more) none) ∙ fault
+]
 
 -- ---- legs that come back
 module _ {L G : Type 0} (g : links.Ghosts L) where
@@ -96,3 +118,18 @@ module _ {L M G : Type 0} (g : links.Ghosts L) (stands : M → Setup → (ℕ �
       let lane2 = is_there joined j (let low = slice_get_within new j r.0 r.1 in let many = inlets.many in omega arith) in
       gave_first g first last lane.0 lane2.0 p0.0 p r.0 (started.are j first lane.0 ef lane.1) (ports.pairs.are j lane.0 p0.0 lane.1 p0.1)
       (subst (λ (x : LivePort (Lane LegItem (LinkLeg L) G)). Grew popped_in (LaneFollows (LegGave g)) p0.0 x) same q.2) r.2 (inlets.are j r.0 lane2.0 r.1 lane2.1) (comes.are j lane2.0 last lane2.1 el)
+
+  -- a fault of which a port knows was popped there
+  pub all_failed : (turns : ℕ) (turned : Turned LiveFault) (lanes : List (Lane LegItem (LinkLeg L) G)) (ps new : List (LivePort (Lane LegItem (LinkLeg L) G))) (m m' : M)
+      → ArePortsOf lanes ps → ((j : ℕ) (x : Lane LegItem (LinkLeg L) G) → slice_get lanes j ≡ Some x → popped_in x ≡ [])
+      → (w : TurnsWere popped_in (LaneFollows (LegGave g)) stands turns turned ps new m m')
+      → (j : ℕ) (p : LivePort (Lane LegItem (LinkLeg L) G)) → slice_get w.ports j ≡ Some p → p.failed ≡ true → has_fault (popped_in p.inlet) ≡ true
+  all_failed turns turned lanes ps new m m' ports none w j p ep failed =
+      let p0 = is_there ps j (let low = slice_get_within w.ports j p ep in let many = w.many in omega (arith, low, many)) in
+      let lane = is_there lanes j (let low = slice_get_within ps j p0.0 p0.1 in let many = ports.pairs.many in omega (arith, low, many)) in
+      let q = w.grew j p0.0 p0.1 in
+      let same : q.0 ≡ p = cc (q.1, ep) in
+      let grew : Grew popped_in (LaneFollows (LegGave g)) p0.0 p = subst (λ (x : LivePort (Lane LegItem (LinkLeg L) G)). Grew popped_in (LaneFollows (LegGave g)) p0.0 x) same q.2 in
+      let begun = ports.pairs.are j lane.0 p0.0 lane.1 p0.1 in
+      let first : popped_in p0.0.inlet ≡ [] = ap popped_in begun.is ∙ none j lane.0 lane.1 in
+      fault_popped popped_in (LaneFollows (LegGave g)) p0.0 p grew begun.well first failed

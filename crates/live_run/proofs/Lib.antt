@@ -7,3 +7,7 @@ pub mod Joining
 pub mod Failing
 pub mod Closing
 pub mod Speaking
+pub mod Linking
+pub mod Composing
+pub mod Returning
+pub mod Apart

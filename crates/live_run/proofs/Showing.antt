@@ -15,7 +15,8 @@ use Rattle.command_spec.specs.Mixing.{speaker_of}
 use Rattle.terminal.specs.declared.confs.TermConf.{TermConf}
 use Rattle.terminal.specs.declared.terminals.Terminal.{Terminal}
 use Rattle.terminal.specs.Terminals.{Heard, reception}
-use Rattle.live_run.specs.Speakers.{names_of, ssrcs_of, terminal_conf}
+use Rattle.conference.specs.Speakers.{names_of, ssrcs_of}
+use Rattle.live_run.specs.Speakers.{terminal_conf}
 use Rattle.serve_spec.specs.Served.{came_at_once, live_view}
 use Rattle.live_run.specs.Listeners.{AppendsView, AreViewsOf, HasHeard, Listening}
 

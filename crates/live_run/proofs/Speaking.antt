@@ -6,7 +6,7 @@ use Rattle.std.proofs.lemmas.List.Quantifiers.{all_pairs_remove}
 use Rattle.file_spec.specs.declared.conf_lines.LegLine.{LegLine}
 use Rattle.file_spec.specs.Kept.{Differ}
 use Rattle.live_run.specs.Listeners.{HasHeard, Listening, NoneHeard}
-use Rattle.live_run.specs.Speakers.{ssrcs_of}
+use Rattle.conference.specs.Speakers.{ssrcs_of}
 use Rattle.live_run.proofs.Closing.{pushed}
 
 -- the SSRCs of the other legs differ

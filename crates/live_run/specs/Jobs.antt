@@ -1,5 +1,5 @@
 -- What a clause says of a live call that runs.
-use Rattle.std.specs.Prelude.{◌≡◌, ◌≤◌, ◌<◌, ◌^◌, ℕ, Some, List, [], ◌++◌, length, slice_get, vec_len}
+use Rattle.std.specs.Prelude.{◌≡◌, ◌≤◌, ◌<◌, ◌^◌, ℕ, Some, List, [], ◌++◌, length, slice_get, vec_len, true}
 use Rattle.std.specs.Mem.{manually_drop_value}
 use Rattle.std.specs.Vec.{vec_capacity}
 use Rattle.core.specs.declared.mem.manually_drop.ManuallyDrop.{ManuallyDrop}
@@ -13,11 +13,13 @@ use Rattle.item_lanes.specs.Rooms.{HasRoom}
 use Rattle.link_io.specs.declared.ends.LinkIn as links
 use Rattle.live_leg.specs.declared.items.LegItem.{LegItem}
 use Rattle.live_leg.specs.declared.legs.LinkLeg.{LinkLeg}
-use Rattle.live_leg.specs.Items.{Item, items_of}
+use Rattle.live_leg.specs.Items.{Item, has_fault, items_of}
 use Rattle.live_leg.specs.Stands.{LegGave, LegStands}
+use Rattle.live_loop.specs.declared.clocks.TurnClock as clocks
 use Rattle.live_loop.specs.declared.ports.LivePort.{LivePort}
 use Rattle.live_loop.specs.declared.turns.Turned.{Turned}
 use Rattle.live_loop.specs.declared.turns.Turned.TheVariants.{Done}
+use Rattle.live_loop.specs.Clocks.{OnlyTimePassed}
 use Rattle.live_loop.specs.Ports.{IsBegun}
 use Rattle.live_loop.specs.Walks.{AllGrew, AreAt, IsPaused, Ran, RanTo, WasFaulted, WasStopped}
 use Rattle.live_run.specs.declared.faults.LiveFault.{LiveFault}
@@ -61,9 +63,9 @@ module _ {L : Type 0} (g : links.Ghosts L) where
   abbrev pub GaveFirst : LinkLeg L → LinkLeg L → List Item → Type 0
   GaveFirst first back items = (left : List Item) × LegStands g first back (items ++ left)
 
-module _ {L M W G : Type 0} where
+module _ {L M C G : Type 0} where
   -- a call may run that is described so
-  pub record CanRun (g : links.Ghosts L) (legs_of turns_of : M → ℕ) (horizon : ℕ) (job : Job L M W G) : Type 0 where
+  pub record CanRun (g : links.Ghosts L) (legs_of turns_of : M → ℕ) (horizon : ℕ) (job : Job L M C G) : Type 0 where
     pub few : vec_len job.legs ≤ 64
     pub new : AreNew (LegGave g) job.legs.items
     pub lanes : HasRoom (vec_len job.legs) job.lanes
@@ -79,9 +81,11 @@ module _ {L M W G : Type 0} where
     pub in_time : 2 ^ 47 ≤ horizon
 
   -- It ran: turns were made of what was popped of the legs, all of which came back.
-  pub record RanAs (g : links.Ghosts L) (stands : M → Setup → (ℕ → Pts) → List Call → Type 0) (unsent : M → LiveFault → Type 0) (pauses : W → ℕ) (job : Job L M W G) (ended : Ended L M W) : Type 0 where
-    pub same : ended.world.ghost_name ≡ job.world.ghost_name
+  pub record RanAs (g : links.Ghosts L) (k : clocks.Ghosts C) (stands : M → Setup → (ℕ → Pts) → List Call → Type 0) (addresses : M → List ℕ) (unsent : M → LiveFault → Type 0) (job : Job L M C G) (ended : Ended L M C) : Type 0 where
+    pub same : ended.clock.ghost_name ≡ job.clock.ghost_name
+    pub passed : OnlyTimePassed k job.clock.now ended.clock.now
     pub many : length ended.legs.items ≡ length job.legs.items
+    pub addresses_are : addresses ended.mixer ≡ addresses job.mixer
     pub ports : List (LivePort (Lane LegItem (LinkLeg L) G))
     pub each : length ports ≡ length job.legs.items
     pub legs : (j : ℕ) (p : LivePort (Lane LegItem (LinkLeg L) G)) (first back : LinkLeg L) → slice_get ports j ≡ Some p
@@ -89,12 +93,13 @@ module _ {L M W G : Type 0} where
     pub ran : (s : Setup) (pts : ℕ → Pts) → s.legs ≡ length job.legs.items → AllStay s → stands job.mixer s pts (all_admitted s.legs)
         → RanTo popped_in ended.turned stands s pts job.turns ports ended.mixer
     pub faulted : WasFaulted ended.turned ports
+    pub failed : (j : ℕ) (p : LivePort (Lane LegItem (LinkLeg L) G)) → slice_get ports j ≡ Some p → p.failed ≡ true → has_fault (popped_in p.inlet) ≡ true
     pub stopped : WasStopped unsent ended.turned ended.mixer
-    pub paused : ended.turned ≡ Done → IsPaused job.turns (pauses job.world.now) (pauses ended.world.now)
+    pub paused : ended.turned ≡ Done → IsPaused job.turns (k.pauses job.clock.now) (k.pauses ended.clock.now)
 
   -- the same of one that is lent
-  abbrev pub LentCanRun : links.Ghosts L → (M → ℕ) → (M → ℕ) → ℕ → ManuallyDrop (Job L M W G) → Type 0
+  abbrev pub LentCanRun : links.Ghosts L → (M → ℕ) → (M → ℕ) → ℕ → ManuallyDrop (Job L M C G) → Type 0
   LentCanRun g legs_of turns_of horizon lent = CanRun g legs_of turns_of horizon (manually_drop_value lent)
 
-  abbrev pub LentRanAs : links.Ghosts L → (M → Setup → (ℕ → Pts) → List Call → Type 0) → (M → LiveFault → Type 0) → (W → ℕ) → ManuallyDrop (Job L M W G) → Ended L M W → Type 0
-  LentRanAs g stands unsent pauses lent ended = RanAs g stands unsent pauses (manually_drop_value lent) ended
+  abbrev pub LentRanAs : links.Ghosts L → clocks.Ghosts C → (M → Setup → (ℕ → Pts) → List Call → Type 0) → (M → List ℕ) → (M → LiveFault → Type 0) → ManuallyDrop (Job L M C G) → Ended L M C → Type 0
+  LentRanAs g k stands addresses unsent lent ended = RanAs g k stands addresses unsent (manually_drop_value lent) ended

@@ -7,3 +7,4 @@ pub mod Sent
 pub mod Jobs
 pub mod Rooms
 pub mod Opened
+pub mod Calls

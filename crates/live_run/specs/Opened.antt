@@ -1,5 +1,5 @@
 -- What is known of links that are opened, and of those that were handed back.
-use Rattle.std.specs.Prelude.{◌≡◌, ℕ, Bool, true, Option, Some, IsSome, List, [], slice_get}
+use Rattle.std.specs.Prelude.{◌≡◌, ℕ, ◌<◌, Bool, true, Option, Some, IsSome, List, [], slice_get}
 use Rattle.rtt_io.specs.Counts.{Rose}
 use Rattle.file_spec.specs.declared.conf_lines.LegLine.{LegLine}
 use Rattle.file_spec.specs.Conf.{Conf, port}
@@ -34,7 +34,12 @@ pub record IsOpenedLeg {I : Type 0} (g : ins.Ghosts I) (tells : Type 0) (opened 
 pub record IsOpenedEnd {O : Type 0} (g : outs.Ghosts O) (tells : Type 0) (line : LegLine) (end : O) : Type 0 where
   pub at : port line.input ≡ Some (g.port end)
   pub fresh : g.faults end ≡ 0
-  pub told : tells → g.tells × (g.given end ≡ [])
+  pub none : g.given end ≡ []
+  pub told : tells → g.tells
+
+-- nothing was given to these, and none failed
+abbrev pub AreUnused : {O : Type 0} → (O → List (List ℕ)) → (O → ℕ) → List O → Type 0
+AreUnused {O} given faults ends = (j : ℕ) (end : O) → slice_get ends j ≡ Some end → (given end ≡ []) × (faults end ≡ 0)
 
 -- why the link of the leg j was not opened: the count of its port rose, or memory ran out
 abbrev pub IsRefused : (ℕ → ℕ) → (ℕ → ℕ) → ℕ → LegLine → LiveFault → Type 0
@@ -51,6 +56,23 @@ OpensEnd g tells c j end = (line : LegLine) → leg_at c.legs j ≡ Some line �
 abbrev pub IsRefusedAt : (ℕ → ℕ) → (ℕ → ℕ) → Conf → ℕ → LiveFault → Type 0
 IsRefusedAt before after c j fault = (line : LegLine) → leg_at c.legs j ≡ Some line → IsRefused before after j line fault
 
+-- those of all legs, in leg order
+abbrev pub OpenLegs : {I : Type 0} → ins.Ghosts I → Type 0 → (ℕ → Bool) → Conf → List (LinkLeg I) → Type 0
+OpenLegs {I} g tells opened c legs = (j : ℕ) (leg : LinkLeg I) → slice_get legs j ≡ Some leg → OpensLeg g tells opened c j leg
+
+abbrev pub OpenEnds : {O : Type 0} → outs.Ghosts O → Type 0 → Conf → List O → Type 0
+OpenEnds {O} g tells c ends = (j : ℕ) (end : O) → slice_get ends j ≡ Some end → OpensEnd g tells c j end
+
+-- a link was opened at the port of each leg below n
+abbrev pub AreOpenBelow : ℕ → (ℕ → Bool) → Conf → Type 0
+AreOpenBelow n opened c = (j : ℕ) (line : LegLine) (p : ℕ) → j < n → leg_at c.legs j ≡ Some line → port line.input ≡ Some p → opened p ≡ true
+
+-- Why not all links were opened: the count of the port of a leg rose, and those of the legs before it were opened; or memory ran out.
+abbrev pub IsNotOpened : Type 0 → (ℕ → Bool) → (ℕ → ℕ) → (ℕ → ℕ) → Conf → LiveFault → Type 0
+IsNotOpened tells opened before after c (Link k) =
+    (line : LegLine) × (leg_at c.legs k ≡ Some line) × ((p : ℕ) → port line.input ≡ Some p → Rose (before p) (after p)) × (tells → AreOpenBelow k opened c)
+IsNotOpened tells opened before after c NoMemory = Unit {0}
+
 -- ---- that were handed back
 -- the inbound end of a leg's link
 abbrev pub link_in : {I : Type 0} → LinkLeg I → I
@@ -64,3 +86,12 @@ module _ {X : Type 0} where
   -- where one of these failed, the count of its port rose
   abbrev pub FaultsRose : (X → ℕ) → (X → ℕ) → (ℕ → ℕ) → (ℕ → ℕ) → List X → Type 0
   FaultsRose faults port_of before after xs = (j : ℕ) (x : X) → slice_get xs j ≡ Some x → Rose 0 (faults x) → Rose (before (port_of x)) (after (port_of x))
+
+  -- no two of these are of one port
+  abbrev pub HaveOwnPorts : (X → ℕ) → List X → Type 0
+  HaveOwnPorts port_of xs = (j k : ℕ) (x y : X) → slice_get xs j ≡ Some x → slice_get xs k ≡ Some y → port_of x ≡ port_of y → j ≡ k
+
+  -- where a link was opened at the port of one of these, what it has is stored there
+  abbrev pub AreStored : {K : Type 0} → (X → K) → (X → ℕ) → (ℕ → Bool) → (ℕ → K) → List X → Type 0
+  AreStored has port_of opened stored xs =
+      HaveOwnPorts port_of xs → (j : ℕ) (x : X) → slice_get xs j ≡ Some x → opened (port_of x) ≡ true → stored (port_of x) ≡ has x

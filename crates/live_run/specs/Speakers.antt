@@ -1,18 +1,7 @@
 -- Whom the terminal of a leg hears (profile).
-use Rattle.std.specs.Prelude.{ℕ, List, map, IsTrue, All}
 use Rattle.file_spec.specs.declared.conf_lines.LegLine.{LegLine}
-use Rattle.file_spec.specs.Conf.{Conf, is_name}
+use Rattle.file_spec.specs.Conf.{Conf}
 use Rattle.terminal.specs.declared.confs.TermConf.{TermConf}
-
--- each leg has a name
-abbrev pub AreNamed : List LegLine → Type 0
-AreNamed legs = All (λ leg. IsTrue (is_name leg.name)) legs
-
-abbrev pub ssrcs_of : List LegLine → List ℕ
-ssrcs_of legs = map (λ leg. leg.ssrc) legs
-
-abbrev pub names_of : List LegLine → List (List ℕ)
-names_of legs = map (λ leg. leg.name) legs
 
 -- what the terminal of a leg is made with
 abbrev pub terminal_conf : Conf → LegLine → TermConf

@@ -16,7 +16,7 @@ pub struct FarEnds<O> {
 
 impl<O: LinkOut> Outbound for FarEnds<O> {
     ghost use Rattle.std.proofs.Common.{rules};
-    ghost use Rattle.std.specs.Prelude.{◌^◌, length};
+    ghost use Rattle.std.specs.Prelude.{◌^◌, length, map};
     ghost use Rattle.live_run.specs.Ends.{WereGiven, IsUnsent};
 
     type Fault = LiveFault;
@@ -24,6 +24,8 @@ impl<O: LinkOut> Outbound for FarEnds<O> {
     ghost took = { λ ends sent. WereGiven O.tells O.given O.faults ends sent };
 
     ghost terminals = { λ ends. length ends.links.items };
+
+    ghost addresses = { λ ends. map O.port ends.links.items };
 
     ghost horizon = { 2 ^ 47 };
 

@@ -1,8 +1,10 @@
 //! A live call: what is heard at each link is mixed, and given to the terminals' links, turn by turn.
 #![tactic(auto)]
 
+mod calls;
 mod far_ends;
 mod faults;
+mod gates;
 mod laws;
 mod listeners;
 mod mixers;
@@ -10,13 +12,18 @@ mod opening;
 mod reports;
 mod rooms;
 mod running;
+mod serving;
 mod speakers;
 mod views;
 
 pub use far_ends::FarEnds;
 pub use faults::LiveFault;
-pub use laws::sent_is_given;
+pub use laws::{links_are_apart, sent_is_given};
 pub use listeners::Listener;
 pub use mixers::live_mixer;
 pub use reports::{LiveEnd, LiveReport};
+pub use serving::serve;
 pub use views::printed;
+
+#[cfg(test)]
+mod tests;

@@ -4,8 +4,8 @@ ghost use Rattle.terminal.specs.Terminals.{IsFinished, texts_of};
 ghost use Rattle.live_run.specs.Listeners.{HasHeard, HearsNext, HearsOut, NoneHeard};
 ghost use Rattle.rtt_base.specs.declared.limits.TheConstants.{LONGEST_WAIT, MOST_SOURCES};
 
-use crate::speakers::{conf_at, others};
-use conference::Conf;
+use crate::speakers::conf_at;
+use conference::{Conf, others};
 use rtt_base::NoMemory;
 use rtt_base::limits::MOST_ARRIVALS;
 use std::alloc::Global;

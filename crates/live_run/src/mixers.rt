@@ -46,6 +46,7 @@ pub fn live_mixer<O: LinkOut>(
     ensures turns { IfOk result (λ sending. sending.mixer.turns ≡ 0) }
     ensures stands { IfOk result (HasAll O.tells O.given O.faults (conf_of conf.now)) }
     ensures seats { IfOk result (λ _. SeatsAll (conf_of conf.now)) }
+    ensures outbound { IfOk result (λ sending. sending.outbound ≡ ends) }
     ensures back { IfErr result (λ back. back ≡ ends) }
 {
     let Ok(mixer) = seated_mixer(alloc, conf) else {

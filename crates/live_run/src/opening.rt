@@ -3,7 +3,7 @@ ghost use Rattle.std.specs.Prelude.{◌≡◌, ◌<◌, ◌≤◌, [], length, I
 ghost use Rattle.std.specs.Vec.{vec_capacity};
 ghost use Rattle.link_io.specs.Ports.{NoneFalls, Same, StayOpened};
 ghost use Rattle.conference.specs.Conferences.{conf_of};
-ghost use Rattle.live_run.specs.Opened.{AreCalm, FaultsRose, HavePorts, IsRefusedAt, OpensEnd, OpensLeg, ear_at, link_in};
+ghost use Rattle.live_run.specs.Opened.{AreCalm, AreStored, FaultsRose, HavePorts, IsNotOpened, IsRefusedAt, OpenEnds, OpenLegs, OpensEnd, OpensLeg, ear_at, link_in};
 
 use crate::LiveFault;
 use conference::{Conf, LegLine};
@@ -34,13 +34,18 @@ fn ear_conf(conf: &Conf, leg: &LegLine, own: u8) -> EarConf
     }
 }
 
-/// Hands back the inbound ends of these legs. Where one failed, the count of its port rises.
+/// Hands back the inbound ends of these legs. Where one failed, the count of its port rises. What each has taken is stored.
 pub(crate) fn close_legs<W: Links>(legs: Vec<LinkLeg<W::In>>, world: &mut W)
     ensures same_own { Same W.own_faults world.old world.new }
     ensures objects_never_fall { NoneFalls W.object_faults world.old world.new }
     ensures calm { AreCalm (λ leg. W.In.faults (link_in leg)) legs.items → Same W.object_faults world.old world.new }
     ensures failed { FaultsRose (λ leg. W.In.faults (link_in leg)) (λ leg. W.In.port (link_in leg))
         (W.object_faults world.old) (W.object_faults world.new) legs.items }
+    ensures stored { W.tells → AreStored (λ leg. W.In.taken (link_in leg)) (λ leg. W.In.port (link_in leg))
+        (W.opened world.old) (W.taken_at world.new) legs.items }
+    ensures same_pauses { W.pauses world.new ≡ W.pauses world.old }
+    ensures same_given { W.tells → Same W.given_at world.old world.new }
+    ensures same_opened { W.tells → Same W.opened world.old world.new }
 {
     let mut legs = legs;
     while let Some(leg) = legs.pop() {
@@ -49,12 +54,16 @@ pub(crate) fn close_legs<W: Links>(legs: Vec<LinkLeg<W::In>>, world: &mut W)
     legs.destroy_empty();
 }
 
-/// Hands back these outbound ends. Where one failed, the count of its port rises.
+/// Hands back these outbound ends. Where one failed, the count of its port rises. What each was given is stored.
 pub(crate) fn close_ends<W: Links>(ends: Vec<W::Out>, world: &mut W)
     ensures same_own { Same W.own_faults world.old world.new }
     ensures objects_never_fall { NoneFalls W.object_faults world.old world.new }
     ensures calm { AreCalm W.Out.faults ends.items → Same W.object_faults world.old world.new }
     ensures failed { FaultsRose W.Out.faults W.Out.port (W.object_faults world.old) (W.object_faults world.new) ends.items }
+    ensures stored { W.tells → AreStored W.Out.given W.Out.port (W.opened world.old) (W.given_at world.new) ends.items }
+    ensures same_pauses { W.pauses world.new ≡ W.pauses world.old }
+    ensures same_taken { W.tells → Same W.taken_at world.old world.new }
+    ensures same_opened { W.tells → Same W.opened world.old world.new }
 {
     let mut ends = ends;
     while let Some(end) = ends.pop() {
@@ -79,7 +88,8 @@ fn open_link<W: Links>(
     ensures own_never_falls { NoneFalls W.own_faults world.old world.new }
     ensures calm { OnOk result (Same W.own_faults world.old world.new) }
     ensures same_objects { Same W.object_faults world.old world.new }
-    ensures stay_opened { W.tells → OnOk result (StayOpened W.opened world.old world.new) }
+    ensures same_pauses { OnOk result (W.pauses world.new ≡ W.pauses world.old) }
+    ensures stay_opened { W.tells → StayOpened W.opened world.old world.new }
 {
     let leg = &conf.legs.as_slice()[own as usize];
     let Ok(stop) = Arc::try_clone(stop) else {
@@ -118,4 +128,43 @@ impl<I, O> Opened<I, O> {
         };
         Ok(Opened { legs, ends })
     }
+}
+
+/// Opens the links of all legs, in leg order. Where one can't be opened, or memory runs out, those before it are handed back.
+pub(crate) fn open_links<W: Links>(
+    alloc: Global,
+    conf: &Conf,
+    stop: &Arc<AtomicBool, Global>,
+    world: &mut W,
+) -> Result<Opened<W::In, W::Out>, LiveFault>
+    requires ports { HavePorts (conf_of conf.now) }
+    ensures each_leg { IfOk result (λ opened. length opened.legs.items ≡ length conf.now.legs) }
+    ensures each_end { IfOk result (λ opened. length opened.ends.items ≡ length conf.now.legs) }
+    ensures legs { IfOk result (λ opened. OpenLegs W.In.LinkIn W.tells (W.opened world.new) (conf_of conf.now) opened.legs.items) }
+    ensures ends { IfOk result (λ opened. OpenEnds W.Out.LinkOut W.tells (conf_of conf.now) opened.ends.items) }
+    ensures refused { IfErr result (IsNotOpened W.tells (W.opened world.new)
+        (W.own_faults world.old) (W.own_faults world.new) (conf_of conf.now)) }
+    ensures own_never_falls { NoneFalls W.own_faults world.old world.new }
+    ensures calm { OnOk result (Same W.own_faults world.old world.new) }
+    ensures same_objects { Same W.object_faults world.old world.new }
+    ensures same_pauses { OnOk result (W.pauses world.new ≡ W.pauses world.old) }
+{
+    let Ok(opened) = Opened::with_capacity(alloc, conf.legs.len()) else {
+        return Err(LiveFault::NoMemory);
+    };
+    let Opened { mut legs, mut ends } = opened;
+    for own in 0..conf.legs.len() {
+        match open_link(alloc, conf, own as u8, stop, world) {
+            Ok((leg, end)) => {
+                legs.push_reserved(leg);
+                ends.push_reserved(end);
+            }
+            Err(fault) => {
+                close_legs(legs, world);
+                close_ends(ends, world);
+                return Err(fault);
+            }
+        }
+    }
+    Ok(Opened { legs, ends })
 }

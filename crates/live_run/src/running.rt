@@ -1,29 +1,29 @@
 //! A live call runs: each leg on a thread of its own, the turns on the caller's.
-ghost use Rattle.std.specs.Prelude.{◌≡◌, ◌≤◌, ◌<◌, ◌^◌, [], length, vec_len};
-ghost use Rattle.std.specs.Vec.{vec_capacity};
-ghost use Rattle.item_lanes.specs.Pairs.{Pairs};
+ghost use Rattle.std.specs.Prelude.{◌≡◌, ◌≤◌, ◌<◌, ◌^◌, length};
 ghost use Rattle.live_loop.specs.declared.turns.Turned.TheVariants.{Done};
+ghost use Rattle.live_loop.specs.Clocks.{OnlyTimePassed};
 ghost use Rattle.live_loop.specs.Walks.{AreAt, IsPaused, WasStopped};
-ghost use Rattle.live_run.specs.Jobs.{ArePortsOf, CanRun, IsInletOf, LentCanRun, LentRanAs, RanAs, TurnsWere};
+ghost use Rattle.live_run.specs.Jobs.{CanRun, LentCanRun, LentRanAs, RanAs, TurnsWere};
 
 use crate::LiveFault;
-use item_lanes::{Lane, LaneRoom, Started, join_lanes, start_lanes};
-use link_io::{LinkIn, Links};
+use item_lanes::{Lane, LaneRoom, Started, join_lanes, lend, start_lanes};
+use link_io::LinkIn;
 use live_leg::{LegItem, LinkLeg};
-use live_loop::{LivePort, Pops, Turned, drain_all, take_turns};
+use live_loop::{LivePort, Pops, TurnClock, Turned, drain_all, inlets_of, ports_over, take_turns};
 use mix_loop::Mixes;
 use rtt_io::Gate;
 use std::alloc::Global;
 use std::mem::ManuallyDrop;
 use std::sync::atomic::{AtomicBool, Ordering};
 use std::sync::{Arc, Wait};
+use std::thread;
 use std::thread::{Scope, Threads};
 
 /// A leg that runs.
 pub(crate) type LegLane<L, G> = Lane<LegItem, LinkLeg<L>, G>;
 
 /// A live call that is to run, with all memory that it needs.
-pub(crate) struct Job<'w, L: LinkIn, M, W, G: Gate> {
+pub(crate) struct Job<'w, L: LinkIn, M, C, G: Gate> {
     pub(crate) legs: Vec<LinkLeg<L>>,
     pub(crate) lanes: LaneRoom<LegItem, LinkLeg<L>, G>,
     pub(crate) ports: Vec<LivePort<LegLane<L, G>>>,
@@ -31,55 +31,26 @@ pub(crate) struct Job<'w, L: LinkIn, M, W, G: Gate> {
     pub(crate) mixer: M,
     /// Says that the legs are to stop.
     pub(crate) stop: Arc<AtomicBool, Global>,
-    pub(crate) world: &'w mut W,
+    /// The links, for the clock alone.
+    pub(crate) clock: &'w mut C,
     pub(crate) tick: u64,
     pub(crate) turns: u64,
 }
 
 /// How its turns ended, with all that was lent to it.
-pub(crate) struct Ended<'w, L, M, W> {
+pub(crate) struct Ended<'w, L, M, C> {
     pub(crate) turned: Turned<LiveFault>,
     pub(crate) legs: Vec<LinkLeg<L>>,
     pub(crate) mixer: M,
-    pub(crate) world: &'w mut W,
-}
-
-/// Their ports, in leg order.
-fn ports_of<I>(inlets: Vec<I>, mut ports: Vec<LivePort<I>>) -> Vec<LivePort<I>>
-    requires few { vec_len inlets ≤ 64 }
-    requires none { ports.items ≡ [] }
-    requires room { vec_len inlets ≤ vec_capacity ports }
-    ensures { ArePortsOf inlets.items result.items }
-{
-    let mut rest = inlets.into_iter();
-    while let Some(inlet) = rest.next() {
-        let leg = ports.len() as u8;
-        ports.push_reserved(LivePort::new(inlet, leg));
-    }
-    rest.destroy_empty();
-    ports
-}
-
-/// What stood at these ports.
-fn inlets_of<I>(ports: Vec<LivePort<I>>, mut inlets: Vec<I>) -> Vec<I>
-    requires none { inlets.items ≡ [] }
-    requires room { vec_len ports ≤ vec_capacity inlets }
-    ensures { Pairs IsInletOf ports.items result.items }
-{
-    let mut rest = ports.into_iter();
-    while let Some(port) = rest.next() {
-        inlets.push_reserved(port.into_inlet());
-    }
-    rest.destroy_empty();
-    inlets
+    pub(crate) clock: &'w mut C,
 }
 
 /// Makes the turns; then the legs are told to stop, and what they still give is let go.
-fn turn_and_stop<I: Pops, M: Mixes<Fault = LiveFault>, W: Links, R: Wait>(
+fn turn_and_stop<I: Pops, M: Mixes<Fault = LiveFault>, C: TurnClock, R: Wait>(
     rt: &R,
     ports: &mut [LivePort<I>],
     mixer: &mut M,
-    world: &mut W,
+    clock: &mut C,
     stop: &AtomicBool,
     tick: u64,
     turns: u64,
@@ -92,10 +63,12 @@ fn turn_and_stop<I: Pops, M: Mixes<Fault = LiveFault>, W: Links, R: Wait>(
     requires short { tick ≤ 400 }
     requires horizon { 2 ^ 47 ≤ M.horizon }
     ensures were { TurnsWere I.popped I.began M.stands turns result ports.old ports.new mixer.old mixer.new }
+    ensures addresses { M.addresses mixer.new ≡ M.addresses mixer.old }
     ensures unsent { WasStopped M.unsent result mixer.new }
-    ensures pauses { result ≡ Done → IsPaused turns (W.pauses world.old) (W.pauses world.new) }
+    ensures pauses { result ≡ Done → IsPaused turns (C.pauses clock.old) (C.pauses clock.new) }
+    ensures passed { OnlyTimePassed C.TurnClock clock.old clock.new }
 {
-    let turned = take_turns(rt, ports, mixer, world, tick, turns);
+    let turned = take_turns(rt, ports, mixer, clock, tick, turns);
     stop.store(true, Ordering::SeqCst);
     drain_all(rt, ports);
     turned
@@ -108,7 +81,7 @@ fn run_in<
     'w,
     L: LinkIn + Send + 's,
     M: Mixes<Fault = LiveFault>,
-    W: Links,
+    C: TurnClock,
     R: Threads + Wait + Sync,
     G: Gate + Copy + Send + 's,
 >(
@@ -116,10 +89,10 @@ fn run_in<
     rt: &'s R,
     gate: G,
     stack: usize,
-    job: Job<'w, L, M, W, G>,
-) -> Ended<'w, L, M, W>
+    job: Job<'w, L, M, C, G>,
+) -> Ended<'w, L, M, C>
     requires { CanRun L.LinkIn M.legs M.turns M.horizon job }
-    ensures { RanAs L.LinkIn M.stands M.unsent W.pauses job.entry result }
+    ensures { RanAs L.LinkIn C.TurnClock M.stands M.addresses M.unsent job.entry result }
 {
     let Job {
         legs,
@@ -128,17 +101,17 @@ fn run_in<
         joined,
         mut mixer,
         stop,
-        world,
+        clock,
         tick,
         turns,
     } = job;
     let Started { lanes, back } = start_lanes(scope, rt, gate, stack, legs, lanes);
-    let mut ports = ports_of(lanes, ports);
+    let mut ports = ports_over(lanes, ports);
     let turned = turn_and_stop(
         rt,
         ports.as_mut_slice(),
         &mut mixer,
-        world,
+        clock,
         &stop,
         tick,
         turns,
@@ -149,7 +122,7 @@ fn run_in<
         turned,
         legs,
         mixer,
-        world,
+        clock,
     }
 }
 
@@ -158,8 +131,9 @@ fn run_lent_in<
     's,
     'e,
     'w,
-    W: Links,
+    L: LinkIn + Send + 's,
     M: Mixes<Fault = LiveFault>,
+    C: TurnClock,
     R: Threads + Wait + Sync,
     G: Gate + Copy + Send + 's,
 >(
@@ -167,13 +141,51 @@ fn run_lent_in<
     rt: &'s R,
     gate: G,
     stack: usize,
-    lent: ManuallyDrop<Job<'w, W::In, M, W, G>>,
-) -> Ended<'w, W::In, M, W>
-where
-    W::In: 's,
-    requires { LentCanRun W.In.LinkIn M.legs M.turns M.horizon lent }
-    ensures { LentRanAs W.In.LinkIn M.stands M.unsent W.pauses lent.entry result }
+    lent: ManuallyDrop<Job<'w, L, M, C, G>>,
+) -> Ended<'w, L, M, C>
+    requires { LentCanRun L.LinkIn M.legs M.turns M.horizon lent }
+    ensures { LentRanAs L.LinkIn C.TurnClock M.stands M.addresses M.unsent lent.entry result }
 {
     let job = ManuallyDrop::into_inner(lent);
     run_in(scope, rt, gate, stack, job)
+}
+
+/// The same in a scope of its own.
+fn run_scope<
+    'w,
+    L: LinkIn + Send,
+    M: Mixes<Fault = LiveFault>,
+    C: TurnClock,
+    R: Threads + Wait + Sync,
+    G: Gate + Copy + Send,
+>(rt: &R, gate: G, stack: usize, lent: ManuallyDrop<Job<'w, L, M, C, G>>) -> Ended<'w, L, M, C>
+    requires { LentCanRun L.LinkIn M.legs M.turns M.horizon lent }
+    ensures { LentRanAs L.LinkIn C.TurnClock M.stands M.addresses M.unsent lent.entry result }
+{
+    thread::scope(
+        thread::scope_env(),
+        rt,
+        |scope| -> Ended<L, M, C>
+            requires { LentCanRun L.LinkIn M.legs M.turns M.horizon lent }
+            ensures { LentRanAs L.LinkIn C.TurnClock M.stands M.addresses M.unsent lent.entry result }
+        { run_lent_in(scope, rt, gate, stack, lent) },
+    )
+}
+
+/// Runs a call, whose legs run on threads of so many octets of stack.
+pub(crate) fn run_job<
+    'w,
+    L: LinkIn + Send,
+    M: Mixes<Fault = LiveFault>,
+    C: TurnClock,
+    R: Threads + Wait + Sync,
+    G: Gate + Copy + Send,
+>(rt: &R, gate: G, stack: usize, job: Job<'w, L, M, C, G>) -> Ended<'w, L, M, C>
+    requires { CanRun L.LinkIn M.legs M.turns M.horizon job }
+    ensures same_reference { result.clock.ghost_name ≡ job.entry.clock.ghost_name }
+    ensures ran { RanAs L.LinkIn C.TurnClock M.stands M.addresses M.unsent job.entry result }
+{
+    // Taken back first of all in `run_lent_in`, which the scope calls once.
+    let lent = unsafe { lend(job) };
+    run_scope(rt, gate, stack, lent)
 }

@@ -5,9 +5,9 @@ ghost use Rattle.live_run.specs.Listeners.{AppendsView, AppendsViewTo, ArePrinte
 ghost use Rattle.serve_spec.specs.Served.{end_line};
 ghost use Rattle.live_run.specs.Reports.{end_of};
 
-use crate::speakers::{conf_at, others};
+use crate::speakers::conf_at;
 use crate::{Listener, LiveEnd};
-use conference::Conf;
+use conference::{Conf, others};
 use rtt_base::{Bytes, NoMemory};
 use std::alloc::Global;
 use terminal::View;

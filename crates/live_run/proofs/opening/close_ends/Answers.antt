@@ -1,9 +1,9 @@
 use Rattle.std.proofs.Common.{inl, inr, refl, ◌∙◌, arith}
-use Rattle.live_run.proofs.Closing.{failed_more, front_still, last_of_all, nothing_left}
+use Rattle.live_run.proofs.Closing.{failed_more, front_still, last_of_all, nothing_left, stored_more}
 use Rattle.live_run.proofs.opening.close_ends.Goals as goal
 
 pub loop-end-init : goal.loop-end-init
-loop-end-init g c = record { same_own = λ p. refl; never_fall = λ p. omega arith; front = λ j x e. e; calm = λ a p. refl; failed = λ j x e. inl e }
+loop-end-init g c = record { same_own = λ p. refl; pauses = refl; never_fall = λ p. omega arith; front = λ j x e. e; calm = λ a p. refl; failed = λ j x e. inl e; opened = λ t p. refl; other = λ t p. refl; stored = λ t own j x e. inl e }
 
 pub loop-end-preserved : goal.loop-end-preserved
 loop-end-preserved g c =
@@ -19,10 +19,15 @@ loop-end-preserved g c =
     let items = c.in-Some.ensures.items in
     record {
       same_own = λ p. done.same_own p ∙ i.same_own p;
+      pauses = done.same_pauses ∙ i.pauses;
       never_fall = λ p. omega (arith, i.never_fall p, done.objects_never_fall p);
       front = front_still all now xs x items i.front;
       calm = λ a p. done.calm (a _ x (last_of_all all now xs x items i.front)) p ∙ i.calm a p;
       failed = failed_more all now xs x items faults port_of (objects c.args.world.now) (objects c.loop-end.world) (objects c.done_out.new.self) i.never_fall done.objects_never_fall done.added i.failed;
+      opened = λ t p. done.same_opened t p ∙ i.opened t p;
+      other = λ t p. done.same_taken t p ∙ i.other t p;
+      stored = λ t own. stored_more all now xs x items g.W.Out.LinkOut.given port_of (g.W.Links.opened c.args.world.now) (g.W.Links.opened c.loop-end.world) (g.W.Links.given_at c.loop-end.world) (g.W.Links.given_at c.done_out.new.self)
+          own (last_of_all all now xs x items i.front) (i.opened t (port_of x)) (done.stored t) (done.other_given t) (i.stored t own);
     }
 
 pub returns-clause-calm : goal.returns-clause-calm
@@ -33,3 +38,15 @@ returns-clause-failed g c = λ j x e. elim (c.loop-end.invariant.failed j x e) [
   | inl at ↦ absurd (nothing_left c.loop-end.ends.items _ c.pop.result c.loop-end.ends.ok.0 c.pop.ensures.variant.1 c.in_default.is j x at)
   | inr r ↦ r
 ]
+
+pub returns-clause-stored : goal.returns-clause-stored
+returns-clause-stored g c = λ t own j x e. elim (c.loop-end.invariant.stored t own j x e) [
+  | inl at ↦ absurd (nothing_left c.loop-end.ends.items _ c.pop.result c.loop-end.ends.ok.0 c.pop.ensures.variant.1 c.in_default.is j x at)
+  | inr r ↦ r
+]
+
+pub returns-clause-same_taken : goal.returns-clause-same_taken
+returns-clause-same_taken g c = c.loop-end.invariant.other
+
+pub returns-clause-same_opened : goal.returns-clause-same_opened
+returns-clause-same_opened g c = c.loop-end.invariant.opened

@@ -44,7 +44,7 @@ returns-in-Ok-new-clause-leg g c = λ line at.
       new = c.in-Ok-new.ensures.stands;
       at = ap (λ (l : LegLine). port l.input) (sym same) ∙ (there ∙ ap Some (sym numbered));
       fresh = ap g.W.In.LinkIn.faults link ∙ opened.fresh.0;
-      told = λ t. ((opened.told t).0, ap g.W.In.LinkIn.taken link ∙ (opened.none t).0, subst (λ (q : ℕ). g.W.Links.opened c.link.new.self q ≡ true) (sym numbered) (opened.opens t));
+      told = λ t. ((opened.told t).0, ap g.W.In.LinkIn.taken link ∙ opened.none.0, subst (λ (q : ℕ). g.W.Links.opened c.link.new.self q ≡ true) (sym numbered) (opened.opens t));
     }
 
 pub returns-in-Ok-new-clause-end : goal.returns-in-Ok-new-clause-end
@@ -57,5 +57,6 @@ returns-in-Ok-new-clause-end g c = λ line at.
     record {
       at = ap (λ (l : LegLine). port l.input) (sym same) ∙ (there ∙ ap Some (sym opened.ports.1));
       fresh = opened.fresh.1;
-      told = λ t. ((opened.told t).1, (opened.none t).1);
+      none = opened.none.1;
+      told = λ t. (opened.told t).1;
     }

@@ -3,7 +3,7 @@ use Rattle.std.specs.Prelude.{remove}
 use Rattle.file_spec.specs.declared.conf_lines.LegLine.{LegLine}
 use Rattle.conference.specs.Conferences.{conf_of}
 use Rattle.terminal.proofs.Listening.{on_ok}
-use Rattle.live_run.specs.Speakers.{names_of, ssrcs_of}
+use Rattle.conference.specs.Speakers.{names_of, ssrcs_of}
 use Rattle.serve_spec.specs.Served.{live_view}
 use Rattle.live_run.proofs.Showing.{aware_shown, read_leg}
 use Rattle.live_run.proofs.views.append_aware.Goals as goal

@@ -1,0 +1,265 @@
+-- From turns that were made to a live call of the conference.
+use Rattle.std.proofs.Common.{◌≡◌, ◌<◌, ◌≤◌, ◌⊎◌, ◌^◌, ℕ, zero, suc, Bool, true, inl, inr, Some, List, [], ◌∷◌, ◌++◌, length, map, refl, ap, sym, ◌∙◌, subst, arith}
+use Rattle.std.specs.Prelude.{Option, slice_get}
+use Rattle.std.proofs.lemmas.List.{append-nil}
+use Rattle.std.proofs.lemmas.Option.{slice_get_within}
+use Rattle.rtt_base.specs.declared.text_packets.Pts.{Pts}
+use Rattle.rtt_io.specs.Counts.{Rose}
+use Rattle.file_spec.specs.declared.conf_lines.LegLine.{LegLine}
+use Rattle.file_spec.specs.Conf.{Conf, port}
+use Rattle.mixer_spec.specs.Setups.{Setup, leg_at, setup, ssrc_of}
+use Rattle.mixer_spec.specs.Table.{Call}
+use Rattle.mixer_turn.specs.Making.{pts_at}
+use Rattle.mixer_posts.specs.declared.mixers.Sending.{Sending}
+use Rattle.mixer_posts.specs.Posts.{sent_by}
+use Rattle.ear.specs.Hears.{conf_of}
+use Rattle.link_spec.specs.Links.{Takes}
+use Rattle.link_io.specs.declared.ends.LinkIn as ins
+use Rattle.link_io.specs.declared.ends.LinkOut as outs
+use Rattle.live_spec.specs.Told.{Hearing}
+use Rattle.item_lanes.specs.declared.lanes.Lane.{Lane}
+use Rattle.item_lanes.specs.Lanes.{AreNew}
+use Rattle.live_leg.specs.declared.items.LegItem.{LegItem}
+use Rattle.live_leg.specs.declared.legs.LinkLeg.{LinkLeg}
+use Rattle.live_leg.specs.Items.{has_fault}
+use Rattle.live_leg.specs.Stands.{LegGave}
+use Rattle.live_leg.specs.Stories.{hearing_of}
+use Rattle.live_loop.specs.declared.clocks.TurnClock as clocks
+use Rattle.live_loop.specs.declared.ports.LivePort.{LivePort}
+use Rattle.live_loop.specs.declared.turns.Turned.{Turned}
+use Rattle.live_loop.specs.declared.turns.Turned.TheVariants.{Done, Closed, Faulted, Stopped}
+use Rattle.live_loop.specs.Walks.{RanTo, WasFaulted, WasStopped}
+use Rattle.mix_loop.proofs.Lists.{lt_or_ge}
+use Rattle.serve_spec.specs.Served.{End, IsServed, hearing_at, live_printed, pts_of}
+use Rattle.serve_spec.specs.Served as served
+use Rattle.live_law.specs.Covers.{Covers}
+use Rattle.live_law.specs.Served.{IsOfConf}
+use Rattle.live_law.proofs.Covering.{covers}
+use Rattle.live_law.proofs.Served.{closed_law, done_law}
+use Rattle.live_law.proofs.Serving.{some_there}
+use Rattle.live_run.specs.declared.far_ends.FarEnds.{FarEnds}
+use Rattle.live_run.specs.declared.faults.LiveFault.{LiveFault}
+use Rattle.live_run.specs.declared.faults.LiveFault.TheVariants.{Link, NoMemory}
+use Rattle.live_run.specs.declared.calls.Called.{Called}
+use Rattle.live_run.specs.Calls.{AreAtPorts, AtPorts, EndsAs, FailedAt, IsCallOf, IsCalled, IsOfLinks}
+use Rattle.live_run.specs.Ends.{IsUnsent, WereGiven, packets_to}
+use Rattle.live_run.specs.declared.running.Job.{Job}
+use Rattle.live_run.specs.declared.running.Ended.{Ended}
+use Rattle.live_run.specs.Jobs.{GaveFirst, RanAs, popped_in}
+use Rattle.live_run.specs.Mixers.{GivesFor, HasAll}
+use Rattle.live_run.specs.Listeners.{NoneHeard}
+use Rattle.live_run.specs.Opened.{AreUnused, OpenEnds, OpenLegs, ear_at, link_in}
+use Rattle.live_run.proofs.Failing.{fault_rose}
+use Rattle.live_run.proofs.Linking.{some_leg}
+use Rattle.live_run.proofs.Sent.{sent_law}
+
+-- ---- lists
+pub leg_within : (legs : List LegLine) (j : ℕ) (line : LegLine) → leg_at legs j ≡ Some line → j < length legs
+leg_within [] j line at = absurd (cc at)
+leg_within (l ∷ legs) zero line at = omega arith
+leg_within (l ∷ legs) (suc j) line at = let low = leg_within legs j line at in omega (arith, low)
+
+map_there : {X Y : Type 0} (f : X → Y) (xs : List X) (j : ℕ) (x : X) → slice_get xs j ≡ Some x → slice_get (map f xs) j ≡ Some (f x)
+map_there f [] j x e = absurd (cc e)
+map_there f (y ∷ xs) zero x e = let is : y ≡ x = cc e in ap (λ z. Some (f z)) is
+map_there f (y ∷ xs) (suc j) x e = map_there f xs j x e
+
+map_long : {X Y : Type 0} (f : X → Y) (xs : List X) → length (map f xs) ≡ length xs
+map_long f [] = refl
+map_long f (x ∷ xs) = ap suc (map_long f xs)
+
+-- one for each number below n, and else none
+module _ {T : Type 0} (none : T) (holds : ℕ → T → Type 0) (n : ℕ) (each : (j : ℕ) → j < n → (t : T) × holds j t) where
+  abbrev picked : (j : ℕ) → (j < n) ⊎ (n ≤ j) → T
+  picked j (inl low) = (each j low).0
+  picked j (inr high) = none
+
+  abbrev pick : ℕ → T
+  pick j = picked j (lt_or_ge j n)
+
+  picked_holds : (j : ℕ) (d : (j < n) ⊎ (n ≤ j)) → j < n → holds j (picked j d)
+  picked_holds j (inl low) l = (each j low).1
+  picked_holds j (inr high) l = absurd (omega (arith, l, high))
+
+  pick_holds : (j : ℕ) → j < n → holds j (pick j)
+  pick_holds j l = picked_holds j (lt_or_ge j n) l
+
+  picked_none : (j : ℕ) (d : (j < n) ⊎ (n ≤ j)) → n ≤ j → picked j d ≡ none
+  picked_none j (inl low) h = absurd (omega (arith, low, h))
+  picked_none j (inr high) h = refl
+
+  pick_none : (j : ℕ) → n ≤ j → pick j ≡ none
+  pick_none j h = picked_none j (lt_or_ge j n) h
+
+hearing_line : (c : Conf) (j : ℕ) (line : LegLine) → leg_at c.legs j ≡ Some line → hearing_at c j ≡ hearing_of (ear_at c j line)
+hearing_line c j line at =
+    let hears : Option LegLine → Hearing = λ l. record { leg = j; ssrc = ssrc_of l; pts = pts_of l; wait = c.wait } in
+    ap hears at
+
+-- ---- legs that were opened as the first, gave what was popped at these ports, and came back
+module _ {I G : Type 0} (i : ins.Ghosts I) (tells : Type 0) (opened : ℕ → Bool) (c : Conf) (firsts backs : List (LinkLeg I)) (ports : List (LivePort (Lane LegItem (LinkLeg I) G))) (are : OpenLegs i tells opened c firsts)
+    (many : length firsts ≡ length c.legs) (many_ports : length ports ≡ length firsts) (many_backs : length backs ≡ length firsts)
+    (gave : (j : ℕ) (p : LivePort (Lane LegItem (LinkLeg I) G)) (first back : LinkLeg I) → slice_get ports j ≡ Some p → slice_get firsts j ≡ Some first → slice_get backs j ≡ Some back → GaveFirst i first back (popped_in p.inlet)) where
+  -- the link of the leg j gave this, by which what was popped is the first of what the leg gives
+  record TookAt (j : ℕ) (takes : Takes) : Type 0 where
+    pub covering : (p : LivePort (Lane LegItem (LinkLeg I) G)) → slice_get ports j ≡ Some p → Covers (hearing_at c j) takes (popped_in p.inlet)
+    pub taken : tells → (back : LinkLeg I) → slice_get backs j ≡ Some back → i.taken back.link ≡ takes
+
+  took_at : (j : ℕ) → j < length c.legs → (takes : Takes) × TookAt j takes
+  took_at j low =
+      let line = some_leg c.legs j low in
+      let first = some_there firsts j (omega (arith, low, many)) in
+      let p = some_there ports j (omega (arith, low, many, many_ports)) in
+      let back = some_there backs j (omega (arith, low, many, many_backs)) in
+      let w = gave j p.0 first.0 back.0 p.1 first.1 back.1 in
+      let o = are j first.0 first.1 line.0 line.1 in
+      let takes = w.1.so.takes in
+      let hears : hearing_of (conf_of first.0.ear) ≡ hearing_at c j = ap hearing_of o.conf ∙ sym (hearing_line c j line.0 line.1) in
+      let here : Covers (hearing_at c j) takes (popped_in p.0.inlet) = subst (λ (h : Hearing). Covers h takes (popped_in p.0.inlet)) hears (covers i first.0 back.0 (popped_in p.0.inlet ++ w.0) (popped_in p.0.inlet) w.0 w.1 refl) in (
+        takes,
+        record {
+          covering = λ q e. let same : p.0 ≡ q = cc (sym p.1 ∙ e) in subst (λ (x : LivePort (Lane LegItem (LinkLeg I) G)). Covers (hearing_at c j) takes (popped_in x.inlet)) same here;
+          taken = λ t x e.
+              let same : back.0 ≡ x = cc (sym back.1 ∙ e) in
+              subst (λ (b : LinkLeg I). i.taken b.link ≡ takes) same (w.1.so.taken (o.told t).0 ∙ (ap (λ (ts : Takes). takes ++ ts) (o.told t).1 ∙ append-nil takes));
+        },
+      )
+
+  abbrev took : ℕ → Takes → Type 0
+  took j takes = TookAt j takes
+
+  -- each has its port still
+  pub backs_at : AreAtPorts (λ (leg : LinkLeg I). i.port (link_in leg)) c backs
+  backs_at j back line there at =
+      let low = slice_get_within backs j back there in
+      let first = some_there firsts j (omega (arith, low, many_backs)) in
+      let p = some_there ports j (omega (arith, low, many_ports, many_backs)) in
+      let w = gave j p.0 first.0 back p.1 first.1 there in
+      let o = are j first.0 first.1 line at in
+      o.at ∙ ap Some (sym w.1.so.port)
+
+  -- and links are open there
+  pub ports_open : tells → AtPorts c opened (λ j. true)
+  ports_open t j line p at e =
+      let first = some_there firsts j (let low = leg_within c.legs j line at in omega (arith, low, many)) in
+      let o = are j first.0 first.1 line at in
+      let same : i.port first.0.link ≡ p = cc (sym o.at ∙ e) in
+      subst (λ (q : ℕ). opened q ≡ true) same (o.told t).2
+
+  -- where a fault was popped of one, its link failed
+  pub fault_at : (j : ℕ) (p : LivePort (Lane LegItem (LinkLeg I) G)) → slice_get ports j ≡ Some p → has_fault (popped_in p.inlet) ≡ true → FailedAt (λ (leg : LinkLeg I). i.faults (link_in leg)) backs j
+  fault_at j p there fault =
+      let low = slice_get_within ports j p there in
+      let line = some_leg c.legs j (omega (arith, low, many, many_ports)) in
+      let first = some_there firsts j (omega (arith, low, many_ports)) in
+      let back = some_there backs j (omega (arith, low, many_ports, many_backs)) in
+      let o = are j first.0 first.1 line.0 line.1 in
+      (back.0, back.1, subst (λ (n : ℕ). Rose n (i.faults back.0.link)) o.fresh (fault_rose i first.0 back.0 (popped_in p.inlet) (gave j p first.0 back.0 there first.1 back.1) fault))
+
+  -- ---- the whole, by the calls of the mixer
+  module _ {O : Type 0} (o : outs.Ghosts O) (tells_out : tells → (j : ℕ) → j < length c.legs → o.tells) (m : Sending (FarEnds O)) where
+    abbrev gives : Sending (FarEnds O) → Setup → (ℕ → Pts) → List Call → Type 0
+    gives = GivesFor o.tells o.given o.faults
+
+    is_call : (end : End) (calls : List Call) → gives m (setup c) (pts_at c) calls
+        → ((takes : ℕ → Takes) (given : ℕ → List (List ℕ)) → IsOfConf popped_in c calls ports takes given → IsServed c takes given end (live_printed c given end))
+        → IsCallOf i o tells c backs m.outbound.links.items m.outbound.listeners.items end
+    is_call end calls made serves =
+        let takes : ℕ → Takes = pick [] took (length c.legs) took_at in
+        let given : ℕ → List (List ℕ) = λ j. packets_to j (sent_by (setup c) (pts_at c) calls) in
+        let sent = made.sent in
+        record {
+          takes = takes;
+          given = given;
+          served = serves takes given (record {
+            legs = omega (arith, many, many_ports);
+            none = pick_none [] took (length c.legs) took_at;
+            covers = λ j p e. (pick_holds [] took (length c.legs) took_at j (let low = slice_get_within ports j p e in omega (arith, low, many, many_ports))).covering p e;
+            gave = λ j leg at. sent_law c calls j leg at;
+          });
+          many = sent.both ∙ made.all;
+          heard = λ j l e. sent.heard j l e;
+          taken = λ t j leg e. (pick_holds [] took (length c.legs) took_at j (let low = slice_get_within backs j leg e in omega (arith, low, many, many_backs))).taken t leg e;
+          gave = λ t j link e.
+              let all : length m.outbound.links.items ≡ length c.legs = made.all in
+              (sent.gave j link e).1 (tells_out t j (let low = slice_get_within m.outbound.links.items j link e in omega (arith, low, all)));
+        }
+
+    pub ends_as : (failed : (j : ℕ) (p : LivePort (Lane LegItem (LinkLeg I) G)) → slice_get ports j ≡ Some p → p.failed ≡ true → has_fault (popped_in p.inlet) ≡ true) (t : Turned LiveFault)
+        → RanTo popped_in t gives (setup c) (pts_at c) c.turns ports m → WasFaulted t ports → WasStopped (λ (x : Sending (FarEnds O)) (why : LiveFault). IsUnsent o.faults x.outbound why) t m
+        → EndsAs i o tells c backs m.outbound.links.items m.outbound.listeners.items t
+    ends_as failed Done v f s = is_call served.Done v.calls v.made (λ takes given w. done_law popped_in gives c (pts_at c) ports m takes given v w)
+    ends_as failed Closed v f s = is_call served.Closed v.serving.calls v.serving.made (λ takes given w. closed_law popped_in gives c (pts_at c) ports m takes given v w)
+    ends_as failed (Faulted j) v f s = fault_at j f.0 f.1 (failed j f.0 f.1 f.2)
+    ends_as failed (Stopped (Link j)) v f s = s
+    ends_as failed (Stopped NoMemory) v f s = tt
+
+-- ---- before the first turn
+-- nothing was given to ends that are unused, and their terminals heard nothing
+pub were_none : {O : Type 0} (tells : Type 0) (given : O → List (List ℕ)) (faults : O → ℕ) (far : FarEnds O) → length far.links.items ≤ 64 → length far.listeners.items ≡ length far.links.items
+    → AreUnused given faults far.links.items → NoneHeard far.listeners.items → WereGiven tells given faults far []
+were_none tells given faults far few both unused none = record { few = few; both = both; gave = λ j link e. let u = unused j link e in (u.1, λ t. u.0); heard = λ j l e. none j l e }
+
+pub are_unused : {O : Type 0} (o : outs.Ghosts O) (tells : Type 0) (c : Conf) (ends : List O) → OpenEnds o tells c ends → length ends ≡ length c.legs → AreUnused o.given o.faults ends
+are_unused o tells c ends are many j end e =
+    let line = some_leg c.legs j (let low = slice_get_within ends j end e in omega (arith, low, many)) in
+    let w = are j end e line.0 line.1 in
+    (w.none, w.fresh)
+
+pub are_new : {I : Type 0} (i : ins.Ghosts I) (tells : Type 0) (opened : ℕ → Bool) (c : Conf) (legs : List (LinkLeg I)) → OpenLegs i tells opened c legs → length legs ≡ length c.legs → AreNew (LegGave i) legs
+are_new i tells opened c legs are many j leg e =
+    let line = some_leg c.legs j (let low = slice_get_within legs j leg e in omega (arith, low, many)) in
+    (are j leg e line.0 line.1).new
+
+-- ---- outbound ends that have the ports of the first
+module _ {O : Type 0} (o : outs.Ghosts O) (tells : Type 0) (c : Conf) (firsts backs : List O) (are : OpenEnds o tells c firsts) (same : map o.port backs ≡ map o.port firsts) where
+  pub far_ends_many : length backs ≡ length firsts
+  far_ends_many = sym (map_long o.port backs) ∙ (ap (λ (xs : List ℕ). length xs) same ∙ map_long o.port firsts)
+
+  pub far_ends_at : AreAtPorts o.port c backs
+  far_ends_at j back line there at =
+      let first = some_there firsts j (let low = slice_get_within backs j back there in let many = far_ends_many in omega (arith, low, many)) in
+      let one : o.port back ≡ o.port first.0 = cc (sym (map_there o.port backs j back there) ∙ (ap (λ (ps : List ℕ). slice_get ps j) same ∙ map_there o.port firsts j first.0 first.1)) in
+      (are j first.0 first.1 line at).at ∙ ap Some (sym one)
+
+-- ---- a call that did not begin
+pub not_called : {I O : Type 0} (i : ins.Ghosts I) (o : outs.Ghosts O) (tells : Type 0) (c : Conf) (opened : ℕ → Bool) (legs : List (LinkLeg I)) (links : List O) (called : Called I O) → OpenLegs i tells opened c legs → OpenEnds o tells c links
+    → length legs ≡ length c.legs → length links ≡ length c.legs → called.turned ≡ Stopped NoMemory → called.legs.items ≡ legs → called.ends.items ≡ links → IsCalled i o tells c opened called
+not_called i o tells c opened legs links called are_legs are_ends many many_ends turned is is_ends = record {
+  many_legs = ap (λ (xs : List (LinkLeg _)). length xs) is ∙ many;
+  many_ends = ap (λ (xs : List _). length xs) is_ends ∙ many_ends;
+  legs_at = λ j leg line there at. (are_legs j leg (ap (λ (xs : List (LinkLeg _)). slice_get xs j) (sym is) ∙ there) line at).at;
+  ends_at = λ j link line there at. (are_ends j link (ap (λ (xs : List _). slice_get xs j) (sym is_ends) ∙ there) line at).at;
+  are_open = λ t j line p at e.
+      let first = some_there legs j (let low = leg_within c.legs j line at in omega (arith, low, many)) in
+      let w = are_legs j first.0 first.1 line at in
+      let same : i.port first.0.link ≡ p = cc (sym w.at ∙ e) in
+      subst (λ (q : ℕ). opened q ≡ true) same (w.told t).2;
+  ended = subst (λ (t : Turned LiveFault). EndsAs i o tells c called.legs.items called.ends.items called.listeners.items t) (sym turned) tt;
+}
+
+-- ---- a call that was made
+pub call_made : {I O W G : Type 0} (i : ins.Ghosts I) (o : outs.Ghosts O) (k : clocks.Ghosts W) (tells : Type 0) (c : Conf) (job : Job I (Sending (FarEnds O)) W G) (ended : Ended I (Sending (FarEnds O)) W) (opened later : ℕ → Bool) (firsts : List O)
+    → IsOfLinks c → OpenLegs i tells opened c job.legs.items → length job.legs.items ≡ length c.legs → OpenEnds o tells c firsts → length firsts ≡ length c.legs
+    → job.mixer.outbound.links.items ≡ firsts → HasAll o.tells o.given o.faults c job.mixer → job.turns ≡ c.turns → (tells → (p : ℕ) → later p ≡ opened p)
+    → RanAs i k (GivesFor o.tells o.given o.faults) (λ (m : Sending (FarEnds O)). map o.port m.outbound.links.items) (λ (m : Sending (FarEnds O)) (why : LiveFault). IsUnsent o.faults m.outbound why) job ended
+    → IsCalled i o tells c later (record { turned = ended.turned; legs = ended.legs; ends = ended.mixer.outbound.links; listeners = ended.mixer.outbound.listeners })
+call_made {I} {O} {W} {G} i o k tells c job ended opened later firsts links are many are_ends many_ends is all turns still ran =
+    let m = ended.mixer in
+    let legs = job.legs.items in
+    let backs = ended.legs.items in
+    let gives : Sending (FarEnds O) → Setup → (ℕ → Pts) → List Call → Type 0 = GivesFor o.tells o.given o.faults in
+    let made : RanTo popped_in ended.turned gives (setup c) (pts_at c) c.turns ran.ports m = subst (λ (n : ℕ). RanTo popped_in ended.turned gives (setup c) (pts_at c) n ran.ports m) turns (ran.ran (setup c) (pts_at c) (sym many) links.stay all) in
+    let same : map o.port m.outbound.links.items ≡ map o.port firsts = ran.addresses_are ∙ ap (λ (xs : List O). map o.port xs) is in
+    let tells_out : tells → (j : ℕ) → j < length c.legs → o.tells = λ t j low.
+    let line = some_leg c.legs j low in
+    let end = some_there firsts j (omega (arith, low, many_ends)) in
+    (are_ends j end.0 end.1 line.0 line.1).told t in
+    record {
+      many_legs = ran.many ∙ many;
+      many_ends = far_ends_many o tells c firsts m.outbound.links.items are_ends same ∙ many_ends;
+      legs_at = backs_at i tells opened c legs backs ran.ports are many ran.each ran.many ran.legs;
+      ends_at = far_ends_at o tells c firsts m.outbound.links.items are_ends same;
+      are_open = λ t j line p at e. still t p ∙ ports_open i tells opened c legs backs ran.ports are many ran.each ran.many ran.legs t j line p at e;
+      ended = ends_as i tells opened c legs backs ran.ports are many ran.each ran.many ran.legs o tells_out m ran.failed ended.turned made ran.faulted ran.stopped;
+    }

@@ -1,0 +1,151 @@
+-- What a live call answers, when its links were handed back.
+use Rattle.std.proofs.Common.{◌≡◌, ◌<◌, ◌≤◌, ◌⊎◌, ℕ, zero, suc, Bool, true, inl, inr, Some, None, Ok, Err, List, length, refl, ap, sym, ◌∙◌, subst, arith}
+use Rattle.std.specs.Prelude.{IsSome, Option, Result, slice_get}
+use Rattle.std.proofs.lemmas.Option.{slice_get_within}
+use Rattle.rtt_io.specs.Counts.{Rose}
+use Rattle.file_spec.specs.declared.conf_lines.LegLine.{LegLine}
+use Rattle.file_spec.specs.Conf.{Conf, port}
+use Rattle.mixer_spec.specs.Setups.{leg_at}
+use Rattle.link_spec.specs.Links.{Takes}
+use Rattle.link_io.specs.declared.ends.LinkIn as ins
+use Rattle.link_io.specs.declared.ends.LinkOut as outs
+use Rattle.live_leg.specs.declared.legs.LinkLeg.{LinkLeg}
+use Rattle.live_loop.specs.declared.turns.Turned.{Turned}
+use Rattle.live_loop.specs.declared.turns.Turned.TheVariants.{Done, Closed, Faulted, Stopped}
+use Rattle.live_law.proofs.Serving.{some_there}
+use Rattle.serve_spec.specs.Served.{End, IsServed, live_printed}
+use Rattle.serve_spec.specs.Served as served
+use Rattle.serve_spec.proofs.Promised.{head_law}
+use Rattle.live_run.specs.declared.calls.Called.{Called}
+use Rattle.live_run.specs.declared.faults.LiveFault.{LiveFault}
+use Rattle.live_run.specs.declared.faults.LiveFault.TheVariants.{Link, NoMemory}
+use Rattle.live_run.specs.declared.reports.LiveEnd.{LiveEnd}
+use Rattle.live_run.specs.declared.reports.LiveEnd.TheVariants as ends
+use Rattle.live_run.specs.Calls.{AreAtPorts, AtPorts, EndsAs, FailedAt, IsCallOf, IsCalled, IsOfLinks, LinkFailed, WasGivenUp, WasServed, answer_of}
+use Rattle.live_run.specs.Listeners.{ArePrintedOf, Listening}
+use Rattle.live_run.specs.Opened.{AreStored, FaultsRose, HaveOwnPorts, IsNotOpened, link_in}
+use Rattle.live_run.specs.Reports.{end_of}
+use Rattle.live_run.proofs.Closing.{rose_on}
+use Rattle.live_run.proofs.Composing.{leg_within}
+use Rattle.live_run.proofs.Linking.{some_leg}
+
+-- ---- ports
+some_port : (number : Option ℕ) → IsSome number → (p : ℕ) × (number ≡ Some p)
+some_port (Some p) s = (p, refl)
+some_port None s = absurd (cc s)
+
+module _ {X : Type 0} (c : Conf) (links : IsOfLinks c) (port_of : X → ℕ) (xs : List X) (many : length xs ≡ length c.legs) (are : AreAtPorts port_of c xs) where
+  own_ports : HaveOwnPorts port_of xs
+  own_ports j k x y at_x at_y same =
+      let a = some_leg c.legs j (let low = slice_get_within xs j x at_x in omega (arith, low, many)) in
+      let b = some_leg c.legs k (let low = slice_get_within xs k y at_y in omega (arith, low, many)) in
+      links.apart j k a.0 b.0 (port_of x) a.1 b.1 (are j x a.0 at_x a.1) (are k y b.0 at_y b.1 ∙ ap Some (sym same))
+
+  -- what each has is stored under the port of its leg
+  at_ports : {K : Type 0} (has : X → K) (opened : ℕ → Bool) (stored : ℕ → K) (of : ℕ → K) → AtPorts c opened (λ j. true) → AreStored has port_of opened stored xs
+      → ((j : ℕ) (x : X) → slice_get xs j ≡ Some x → has x ≡ of j) → AtPorts c stored of
+  at_ports has opened stored of is_open keeps is j line p at e =
+      let x = some_there xs j (let low = leg_within c.legs j line at in omega (arith, low, many)) in
+      let here : p ≡ port_of x.0 = cc (sym e ∙ are j x.0 line x.1 at) in
+      ap stored here ∙ (keeps own_ports j x.0 x.1 (sym (ap opened here) ∙ is_open j line p at e) ∙ is j x.0 x.1)
+
+  -- where the link of a leg failed, a count of its port rose
+  link_failed : (faults : X → ℕ) (own own' ends ends' : ℕ → ℕ) (j : ℕ) → FailedAt faults xs j → FaultsRose faults port_of ends ends' xs → LinkFailed own own' ends ends' c j
+  link_failed faults own own' ends ends' j f rose =
+      let line = some_leg c.legs j (let low = slice_get_within xs j f.0 f.1 in omega (arith, low, many)) in
+      record { line = line.0; at = line.1; number = port_of f.0; is = are j f.0 line.0 f.1 line.1; rose = inr (rose j f.0 f.1 f.2) }
+
+-- ---- counts
+-- one that rose since a moment rose since an earlier one
+rose_since : (first before last : ℕ) → first ≤ before → Rose before last → Rose first last
+rose_since first before last l (inl r) = inl (omega (arith, l, r))
+rose_since first before last l (inr r) = inr r
+
+-- ---- what is answered
+ended_call : {I O : Type 0} (i : ins.Ghosts I) (o : outs.Ghosts O) (tells : Type 0) (c : Conf) (legs : List (LinkLeg I)) (links : List O) (listeners : List Listening) (t : Turned LiveFault) (end : LiveEnd)
+    → EndsAs i o tells c legs links listeners t → answer_of t ≡ Ok end → IsCallOf i o tells c legs links listeners (end_of end)
+ended_call i o tells c legs links listeners Done end w e =
+    let same : ends.Done ≡ end = cc e in
+    subst (λ (x : LiveEnd). IsCallOf i o tells c legs links listeners (end_of x)) same w
+ended_call i o tells c legs links listeners Closed end w e =
+    let same : ends.Closed ≡ end = cc e in
+    subst (λ (x : LiveEnd). IsCallOf i o tells c legs links listeners (end_of x)) same w
+ended_call i o tells c legs links listeners (Faulted j) end w e = absurd (cc e)
+ended_call i o tells c legs links listeners (Stopped why) end w e = absurd (cc e)
+
+pub done_turned : (t : Turned LiveFault) (end : LiveEnd) → answer_of t ≡ Ok end → end ≡ ends.Done → t ≡ Done
+done_turned Done end e d = refl
+done_turned Closed end e d = absurd (cc (e, d))
+done_turned (Faulted j) end e d = absurd (cc e)
+done_turned (Stopped why) end e d = absurd (cc e)
+
+module _ {I O : Type 0} (i : ins.Ghosts I) (o : outs.Ghosts O) (tells : Type 0) (c : Conf) (opened : ℕ → Bool) (called : Called I O) (w : IsCalled i o tells c opened called) where
+  pub each_heard : (end : LiveEnd) → answer_of called.turned ≡ Ok end → length called.listeners.items ≡ length c.legs
+  each_heard end e = (ended_call i o tells c called.legs.items called.ends.items called.listeners.items called.turned end w.ended e).many
+
+  -- all ends were handed back
+  module _ (links : IsOfLinks c) (taken_at : ℕ → Takes) (given_at : ℕ → List (List ℕ))
+      (stored_legs : tells → AreStored (λ (leg : LinkLeg I). i.taken (link_in leg)) (λ (leg : LinkLeg I). i.port (link_in leg)) opened taken_at called.legs.items)
+      (stored_ends : tells → AreStored o.given o.port opened given_at called.ends.items) where
+    pub was_served : (end : LiveEnd) (printed : List ℕ) → answer_of called.turned ≡ Ok end → ArePrintedOf c called.listeners.items (end_of end) printed → WasServed tells taken_at given_at c (end_of end) printed
+    was_served end printed e shown =
+        let v = ended_call i o tells c called.legs.items called.ends.items called.listeners.items called.turned end w.ended e in
+        let is : printed ≡ live_printed c v.given (end_of end) = shown v.given v.heard in
+        let served : IsServed c v.takes v.given (end_of end) printed = subst (λ (xs : List ℕ). IsServed c v.takes v.given (end_of end) xs) (sym is) v.served in
+        record {
+          takes = v.takes;
+          given = v.given;
+          served = served;
+          keeps = λ octets read. head_law octets c v.takes v.given (end_of end) printed read served;
+          taken = λ t. at_ports c links (λ (leg : LinkLeg I). i.port (link_in leg)) called.legs.items w.many_legs w.legs_at (λ (leg : LinkLeg I). i.taken (link_in leg)) opened taken_at v.takes (w.are_open t) (stored_legs t) (v.taken t);
+          gave = λ t. at_ports c links o.port called.ends.items w.many_ends w.ends_at o.given opened given_at v.given (w.are_open t) (stored_ends t) (v.gave t);
+        }
+
+  -- where it was given up, the counts are the cause
+  module _ (links : IsOfLinks c) (own own' ends_before ends_between ends_after : ℕ → ℕ) (never : (p : ℕ) → ends_before p ≤ ends_between p) (never_then : (p : ℕ) → ends_between p ≤ ends_after p)
+      (rose_legs : FaultsRose (λ (leg : LinkLeg I). i.faults (link_in leg)) (λ (leg : LinkLeg I). i.port (link_in leg)) ends_before ends_between called.legs.items)
+      (rose_ends : FaultsRose o.faults o.port ends_between ends_after called.ends.items) where
+    given_up_so : (t : Turned LiveFault) (fault : LiveFault) → EndsAs i o tells c called.legs.items called.ends.items called.listeners.items t → answer_of t ≡ Err fault → WasGivenUp own own' ends_before ends_after c fault
+    given_up_so Done fault e q = absurd (cc q)
+    given_up_so Closed fault e q = absurd (cc q)
+    given_up_so (Faulted j) fault e q =
+        let same : Link j ≡ fault = cc q in
+        let rose : FaultsRose (λ (leg : LinkLeg I). i.faults (link_in leg)) (λ (leg : LinkLeg I). i.port (link_in leg)) ends_before ends_after called.legs.items =
+        λ k leg at r. let p = i.port (link_in leg) in rose_on (ends_before p) (ends_between p) (ends_after p) (never p) (never_then p) (rose_legs k leg at r) in
+        subst (λ (x : LiveFault). WasGivenUp own own' ends_before ends_after c x) same
+        (link_failed c links (λ (leg : LinkLeg I). i.port (link_in leg)) called.legs.items w.many_legs w.legs_at (λ (leg : LinkLeg I). i.faults (link_in leg)) own own' ends_before ends_after j e rose)
+    given_up_so (Stopped (Link j)) fault e q =
+        let same : Link j ≡ fault = cc q in
+        let rose : FaultsRose o.faults o.port ends_before ends_after called.ends.items =
+        λ k link at r. let p = o.port link in rose_since (ends_before p) (ends_between p) (ends_after p) (never p) (rose_ends k link at r) in
+        subst (λ (x : LiveFault). WasGivenUp own own' ends_before ends_after c x) same (link_failed c links o.port called.ends.items w.many_ends w.ends_at o.faults own own' ends_before ends_after j e rose)
+    given_up_so (Stopped NoMemory) fault e q =
+        let same : NoMemory ≡ fault = cc q in
+        subst (λ (x : LiveFault). WasGivenUp own own' ends_before ends_after c x) same tt
+
+    pub was_given_up : (fault : LiveFault) → answer_of called.turned ≡ Err fault → WasGivenUp own own' ends_before ends_after c fault
+    was_given_up fault q = given_up_so called.turned fault w.ended q
+
+-- ---- where not all links were opened
+pub was_not_opened : (tells : Type 0) (opened : ℕ → Bool) (own own' ends_before ends_after : ℕ → ℕ) (c : Conf) (links : IsOfLinks c) (fault : LiveFault) → IsNotOpened tells opened own own' c fault → WasGivenUp own own' ends_before ends_after c fault
+was_not_opened tells opened own own' ends_before ends_after c links (Link k) n =
+    let number = some_port (port n.0.input) (links.ports k n.0 n.1) in
+    record { line = n.0; at = n.1; number = number.0; is = number.1; rose = inl (n.2 number.0 number.1) }
+was_not_opened tells opened own own' ends_before ends_after c links NoMemory n = tt
+
+-- ---- by the calls that opened the links, made the call, and closed them
+module _ {I O : Type 0} (i : ins.Ghosts I) (o : outs.Ghosts O) (tells : Type 0) (c : Conf) (opened : ℕ → Bool) (called : Called I O) (w : IsCalled i o tells c opened called) (links : IsOfLinks c) where
+  pub served_by : (open_then : ℕ → Bool) (taken_then taken_at : ℕ → Takes) (given_at : ℕ → List (List ℕ))
+      → (tells → AreStored (λ (leg : LinkLeg I). i.taken (link_in leg)) (λ (leg : LinkLeg I). i.port (link_in leg)) opened taken_then called.legs.items)
+      → (tells → (p : ℕ) → taken_at p ≡ taken_then p) → (tells → (p : ℕ) → open_then p ≡ opened p) → (tells → AreStored o.given o.port open_then given_at called.ends.items)
+      → (end : LiveEnd) (printed : List ℕ) → answer_of called.turned ≡ Ok end → ArePrintedOf c called.listeners.items (end_of end) printed → WasServed tells taken_at given_at c (end_of end) printed
+  served_by open_then taken_then taken_at given_at legs same_taken same_open ends end printed e shown =
+      was_served i o tells c opened called w links taken_at given_at (λ t own j leg at is. same_taken t (i.port (link_in leg)) ∙ legs t own j leg at is)
+      (λ t own j link at is. ends t own j link at (same_open t (o.port link) ∙ is)) end printed e shown
+
+  pub given_up_by : (own own' first at_call between last : ℕ → ℕ) → ((p : ℕ) → at_call p ≡ first p) → ((p : ℕ) → at_call p ≤ between p) → ((p : ℕ) → between p ≤ last p)
+      → FaultsRose (λ (leg : LinkLeg I). i.faults (link_in leg)) (λ (leg : LinkLeg I). i.port (link_in leg)) at_call between called.legs.items → FaultsRose o.faults o.port between last called.ends.items
+      → (fault : LiveFault) → answer_of called.turned ≡ Err fault → WasGivenUp own own' first last c fault
+  given_up_by own own' first at_call between last same never never_then legs ends fault q =
+      was_given_up i o tells c opened called w links own own' first between last (λ p. let s = same p in let n = never p in omega (arith, s, n)) never_then
+      (λ j leg at r. subst (λ (n : ℕ). Rose n (between (i.port (link_in leg)))) (same (i.port (link_in leg))) (legs j leg at r)) ends fault q

@@ -1,0 +1,80 @@
+use Rattle.std.proofs.Common.{◌≡◌, ◌≤◌, ◌∙◌, ℕ, length, map, ap, sym, subst, refl, arith}
+use Rattle.std.specs.Prelude.{vec_len}
+use Rattle.std.specs.Global.{Vec}
+use Rattle.conference.specs.Conferences.{conf_of}
+use Rattle.item_lanes.specs.Rooms.{HasRoom}
+use Rattle.live_leg.specs.declared.legs.LinkLeg.{LinkLeg}
+use Rattle.live_run.specs.declared.far_ends.FarEnds.{FarEnds}
+use Rattle.live_loop.specs.Walks.{IsPaused}
+use Rattle.live_run.specs.Calls.{IsCalled}
+use Rattle.live_run.proofs.Composing.{are_new, are_unused, call_made, not_called}
+use Rattle.live_run.proofs.calls.call.Goals as goal
+
+pub returns-in_default-clause-called : goal.returns-in_default-clause-called
+returns-in_default-clause-called g c =
+    let e = c.not_begun.ensures in
+    not_called g.W.In.LinkIn g.W.Out.LinkOut g.W.Links.tells (conf_of c.args.conf.now) (g.W.Links.opened c.args.world.now) c.args.opened.legs.items c.args.opened.ends.items c.not_begun.result c.requires.legs c.requires.ends c.requires.each_leg c.requires.each_end e.turned
+    (ap (λ (v : Vec (LinkLeg g.row.W-In.Denot)). v.items) e.legs) (ap (λ (v : Vec g.row.W-Out.Denot). v.items) e.ends)
+
+pub mixer_over-requires-clause-unused : goal.mixer_over-requires-clause-unused
+mixer_over-requires-clause-unused g c = are_unused g.W.Out.LinkOut g.W.Links.tells (conf_of c.args.conf.now) c.args.opened.ends.items c.requires.ends c.requires.each_end
+
+pub returns-in-Err-clause-called : goal.returns-in-Err-clause-called
+returns-in-Err-clause-called g c =
+    let e = c.not_begun-in-Err.ensures in
+    not_called g.W.In.LinkIn g.W.Out.LinkOut g.W.Links.tells (conf_of c.args.conf.now) (g.W.Links.opened c.args.world.now) c.args.opened.legs.items c.args.opened.ends.items c.not_begun-in-Err.result c.requires.legs c.requires.ends c.requires.each_leg c.requires.each_end e.turned
+    (ap (λ (v : Vec (LinkLeg g.row.W-In.Denot)). v.items) e.legs) (ap (λ (v : Vec g.row.W-Out.Denot). v.items) (e.ends ∙ c.in-Err.ensures.back))
+
+pub run_job-turned-requires-after_bounds : goal.run_job-turned-requires-after_bounds
+run_job-turned-requires-after_bounds g c κs within =
+    let seats : length c.args.conf.now.legs ≤ 16 = c.requires.links.stay.seats in
+    let conf = c.args.conf.now in
+    let len = c.args.opened.legs.ok.0 in
+    let counted : c.len.result ≡ vec_len c.args.opened.legs = omega (arith, c.len.ensures, len) in
+    let room = c.in-Ok.ensures in
+    record {
+      few = omega (arith, seats, len, c.requires.each_leg);
+      new = are_new g.W.In.LinkIn g.W.Links.tells (g.W.Links.opened c.args.world.now) (conf_of conf) c.args.opened.legs.items c.requires.legs c.requires.each_leg;
+      lanes = subst (λ (n : ℕ). HasRoom n c.in-Ok.room.lanes) counted room.lanes;
+      no_port = room.no_port;
+      ports = (let ports = room.ports in omega (arith, counted, ports));
+      none_joined = room.none_joined;
+      joined = (let joined = room.joined in omega (arith, counted, joined));
+      terminals = omega (arith, c.in-Ok-mixer_over.ensures.legs, len, c.requires.each_leg);
+      none = c.in-Ok-mixer_over.ensures.turns;
+      turns_fit = (let k = conf.kept.turns in let e = c.from-2.ensures in omega (arith, e, k.high));
+      tick_some = (let k = conf.kept.tick in let e = c.from.ensures in omega (arith, e, k.low));
+      tick_fits = (let k = conf.kept.tick in let e = c.from.ensures in omega (arith, e, k.high));
+      in_time = omega arith;
+    }
+
+pub returns-clause-same_own : goal.returns-clause-same_own
+returns-clause-same_own g c =
+    let last = c.world-1.given.1 (sym c.run_job-turned.ensures.same_reference) in
+    λ p. ap (λ (w : g.row.W.Denot). g.W.Links.own_faults w p) last ∙ c.run_job-turned.ensures.ran.passed.same_own p
+
+pub returns-clause-same_objects : goal.returns-clause-same_objects
+returns-clause-same_objects g c =
+    let last = c.world-1.given.1 (sym c.run_job-turned.ensures.same_reference) in
+    λ p. ap (λ (w : g.row.W.Denot). g.W.Links.object_faults w p) last ∙ c.run_job-turned.ensures.ran.passed.same_objects p
+
+pub returns-clause-paused : goal.returns-clause-paused
+returns-clause-paused g c = λ done.
+    let last = c.world-1.given.1 (sym c.run_job-turned.ensures.same_reference) in
+    let begun = g.W.Links.pauses c.args.world.now in
+    subst (λ (w : g.row.W.Denot). IsPaused c.args.conf.now.turns begun (g.W.Links.pauses w)) (sym last)
+    (subst (λ (n : ℕ). IsPaused n begun (g.W.Links.pauses c.run_job-turned.result.clock.now)) c.from-2.ensures (c.run_job-turned.ensures.ran.paused done))
+
+pub returns-clause-called : goal.returns-clause-called
+returns-clause-called g c =
+    let ran = c.run_job-turned.ensures.ran in
+    let made = c.in-Ok-mixer_over.ensures in
+    let last = c.world-1.given.1 (sym c.run_job-turned.ensures.same_reference) in
+    let conf = conf_of c.args.conf.now in
+    let turned = c.run_job-turned.result.turned in
+    let legs = c.run_job-turned.result.legs in
+    let far = c.into_outbound-links.result in
+    subst (λ (w : g.row.W.Denot). IsCalled g.W.In.LinkIn g.W.Out.LinkOut g.W.Links.tells conf (g.W.Links.opened w) (record { turned = turned; legs = legs; ends = far.links; listeners = far.listeners })) (sym last)
+    (subst (λ (f : FarEnds g.row.W-Out.Denot). IsCalled g.W.In.LinkIn g.W.Out.LinkOut g.W.Links.tells conf (g.W.Links.opened c.run_job-turned.result.clock.now) (record { turned = turned; legs = legs; ends = f.links; listeners = f.listeners })) (sym c.into_outbound-links.ensures)
+    (call_made g.W.In.LinkIn g.W.Out.LinkOut _ g.W.Links.tells conf _ c.run_job-turned.result (g.W.Links.opened c.args.world.now) (g.W.Links.opened c.run_job-turned.result.clock.now) c.args.opened.ends.items c.requires.links c.requires.legs c.requires.each_leg c.requires.ends c.requires.each_end
+    (ap (λ (v : Vec g.row.W-Out.Denot). v.items) made.links) made.stands c.from-2.ensures ran.passed.same_opened ran))

@@ -1,0 +1,20 @@
+use Rattle.std.proofs.Common.{◌≡◌, ◌≤◌, ℕ, length}
+use Rattle.std.specs.Vec.{vec_len, vec_capacity}
+use Rattle.conference.specs.Conferences.{conf_of}
+use Rattle.live_run.specs.Opened.{OpenEnds, OpenLegs}
+use Rattle.live_run.proofs.opening.open_links.Given as goal
+
+abbrev pub invariant-loop-own : goal.invariant-loop-own
+invariant-loop-own g l = record {
+  legs : length l.legs.items ≡ l.own;
+  ends : length l.ends.items ≡ l.own;
+  legs_len : vec_len l.legs ≡ l.own;
+  ends_len : vec_len l.ends ≡ l.own;
+  legs_room : length l.fn.conf.legs ≤ vec_capacity l.legs;
+  ends_room : length l.fn.conf.legs ≤ vec_capacity l.ends;
+  open_legs : OpenLegs g.W.In.LinkIn g.W.Links.tells (g.W.Links.opened l.world) (conf_of l.fn.conf) l.legs.items;
+  open_ends : OpenEnds g.W.Out.LinkOut g.W.Links.tells (conf_of l.fn.conf) l.ends.items;
+  same_own : (p : ℕ) → g.W.Links.own_faults l.world p ≡ g.W.Links.own_faults l.fn.world p;
+  pauses : g.W.Links.pauses l.world ≡ g.W.Links.pauses l.fn.world;
+  same_objects : (p : ℕ) → g.W.Links.object_faults l.world p ≡ g.W.Links.object_faults l.fn.world p;
+}

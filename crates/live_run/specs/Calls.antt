@@ -1,0 +1,112 @@
+-- What a live call of a conference of links comes to: behind its last turn, and when its links were handed back.
+use Rattle.std.specs.Prelude.{◌≡◌, ◌⊎◌, ℕ, Bool, true, Some, Result, Ok, Err, List, length, slice_get}
+use Rattle.rtt_io.specs.Counts.{Rose}
+use Rattle.file_spec.specs.declared.conf_lines.Form.TheVariants.{Links}
+use Rattle.file_spec.specs.declared.conf_lines.LegLine.{LegLine}
+use Rattle.file_spec.specs.Conf.{Conf, conf, port}
+use Rattle.mixer_spec.specs.Setups.{AllStay, leg_at, setup}
+use Rattle.link_spec.specs.Links.{Takes}
+use Rattle.link_io.specs.declared.ends.LinkIn as ins
+use Rattle.link_io.specs.declared.ends.LinkOut as outs
+use Rattle.live_leg.specs.declared.legs.LinkLeg.{LinkLeg}
+use Rattle.live_loop.specs.declared.turns.Turned.{Turned}
+use Rattle.live_loop.specs.declared.turns.Turned.TheVariants.{Done, Closed, Faulted, Stopped}
+use Rattle.serve_spec.specs.HeadLive.{HeadLive}
+use Rattle.serve_spec.specs.Served.{End, IsServed, live_printed}
+use Rattle.serve_spec.specs.Served as served
+use Rattle.live_run.specs.declared.calls.Called.{Called}
+use Rattle.live_run.specs.declared.faults.LiveFault.{LiveFault}
+use Rattle.live_run.specs.declared.faults.LiveFault.TheVariants.{Link, NoMemory}
+use Rattle.live_run.specs.declared.reports.LiveEnd.{LiveEnd}
+use Rattle.live_run.specs.declared.reports.LiveEnd.TheVariants as ends
+use Rattle.live_run.specs.Listeners.{HasHeard, Listening}
+use Rattle.live_run.specs.Opened.{HavePorts, link_in}
+
+-- ---- conferences
+-- no two legs have one port
+abbrev pub HaveApartPorts : Conf → Type 0
+HaveApartPorts c =
+    (j k : ℕ) (a b : LegLine) (p : ℕ) → leg_at c.legs j ≡ Some a → leg_at c.legs k ≡ Some b → port a.input ≡ Some p → port b.input ≡ Some p → j ≡ k
+
+-- A conference of links: each leg's input is a port of its own. Each has a place, and none comes later or goes.
+pub record IsOfLinks (c : Conf) : Type 0 where
+  pub ports : HavePorts c
+  pub apart : HaveApartPorts c
+  pub stay : AllStay (setup c)
+
+-- Whatever a conference file of links says, it describes such a conference.
+abbrev pub LinksAreApart : Type 0
+LinksAreApart = (octets : List ℕ) (c : Conf) → conf Links octets ≡ Ok c → IsOfLinks c
+
+-- under the port of each leg is what is that leg's
+abbrev pub AtPorts : {K : Type 0} → Conf → (ℕ → K) → (ℕ → K) → Type 0
+AtPorts c under of = (j : ℕ) (line : LegLine) (p : ℕ) → leg_at c.legs j ≡ Some line → port line.input ≡ Some p → under p ≡ of j
+
+-- ---- behind the last turn
+-- the link of this number failed
+abbrev pub FailedAt : {X : Type 0} → (X → ℕ) → List X → ℕ → Type 0
+FailedAt {X} faults xs j = (x : X) × (slice_get xs j ≡ Some x) × Rose 0 (faults x)
+
+-- each of these has the port of its leg
+abbrev pub AreAtPorts : {X : Type 0} → (X → ℕ) → Conf → List X → Type 0
+AreAtPorts {X} port_of c xs = (j : ℕ) (x : X) (line : LegLine) → slice_get xs j ≡ Some x → leg_at c.legs j ≡ Some line → port line.input ≡ Some (port_of x)
+
+module _ {I O : Type 0} (i : ins.Ghosts I) (o : outs.Ghosts O) (tells : Type 0) (c : Conf) where
+  -- It is a live call of the conference: the legs' links gave this and were given that. Where the world tells it, that is what these
+  -- ends have taken and were given.
+  pub record IsCallOf (legs : List (LinkLeg I)) (links : List O) (listeners : List Listening) (end : End) : Type 0 where
+    pub takes : ℕ → Takes
+    pub given : ℕ → List (List ℕ)
+    pub served : IsServed c takes given end (live_printed c given end)
+    pub many : length listeners ≡ length c.legs
+    pub heard : (j : ℕ) (l : Listening) → slice_get listeners j ≡ Some l → HasHeard l (given j)
+    pub taken : tells → (j : ℕ) (leg : LinkLeg I) → slice_get legs j ≡ Some leg → i.taken leg.link ≡ takes j
+    pub gave : tells → (j : ℕ) (link : O) → slice_get links j ≡ Some link → o.given link ≡ given j
+
+  -- how it ended
+  abbrev pub EndsAs : List (LinkLeg I) → List O → List Listening → Turned LiveFault → Type 0
+  EndsAs legs links listeners Done = IsCallOf legs links listeners served.Done
+  EndsAs legs links listeners Closed = IsCallOf legs links listeners served.Closed
+  EndsAs legs links listeners (Faulted j) = FailedAt (λ (leg : LinkLeg I). i.faults (link_in leg)) legs j
+  EndsAs legs links listeners (Stopped (Link j)) = FailedAt o.faults links j
+  EndsAs legs links listeners (Stopped NoMemory) = Unit {0}
+
+  -- Each end of a link is that of its leg. Where the world tells it, links are open at their ports.
+  pub record IsCalled (opened : ℕ → Bool) (called : Called I O) : Type 0 where
+    pub many_legs : length called.legs.items ≡ length c.legs
+    pub many_ends : length called.ends.items ≡ length c.legs
+    pub legs_at : AreAtPorts (λ (leg : LinkLeg I). i.port (link_in leg)) c called.legs.items
+    pub ends_at : AreAtPorts o.port c called.ends.items
+    pub are_open : tells → AtPorts c opened (λ j. true)
+    pub ended : EndsAs called.legs.items called.ends.items called.listeners.items called.turned
+
+-- what is answered then
+abbrev pub answer_of : Turned LiveFault → Result LiveEnd LiveFault
+answer_of Done = Ok ends.Done
+answer_of Closed = Ok ends.Closed
+answer_of (Faulted j) = Err (Link j)
+answer_of (Stopped why) = Err why
+
+-- ---- when its links were handed back
+-- A live call of the conference ended so, and this is printed of it: its legs' links gave this and were given that. It keeps what a
+-- live call promises. Where the world tells it, that is what is stored under the ports of the legs.
+pub record WasServed (tells : Type 0) (taken_at : ℕ → Takes) (given_at : ℕ → List (List ℕ)) (c : Conf) (end : End) (printed : List ℕ) : Type 0 where
+  pub takes : ℕ → Takes
+  pub given : ℕ → List (List ℕ)
+  pub served : IsServed c takes given end printed
+  pub keeps : (octets : List ℕ) → conf Links octets ≡ Ok c → HeadLive c takes given end printed
+  pub taken : tells → AtPorts c taken_at takes
+  pub gave : tells → AtPorts c given_at given
+
+-- The link of the leg j failed: a count of its port rose, of the calls that open it or of its ends.
+pub record LinkFailed (own own' ends ends' : ℕ → ℕ) (c : Conf) (j : ℕ) : Type 0 where
+  pub line : LegLine
+  pub at : leg_at c.legs j ≡ Some line
+  pub number : ℕ
+  pub is : port line.input ≡ Some number
+  pub rose : Rose (own number) (own' number) ⊎ Rose (ends number) (ends' number)
+
+-- why a call was given up
+abbrev pub WasGivenUp : (ℕ → ℕ) → (ℕ → ℕ) → (ℕ → ℕ) → (ℕ → ℕ) → Conf → LiveFault → Type 0
+WasGivenUp own own' ends ends' c (Link j) = LinkFailed own own' ends ends' c j
+WasGivenUp own own' ends ends' c NoMemory = Unit {0}

@@ -1,0 +1,149 @@
+//! A live call of a conference whose links are opened.
+ghost use Rattle.std.specs.Prelude.{◌≡◌, length, IfOk, IfErr};
+ghost use Rattle.link_io.specs.Ports.{Same};
+ghost use Rattle.conference.specs.Conferences.{conf_of};
+ghost use Rattle.mixer_spec.specs.Setups.{AllStay, setup};
+ghost use Rattle.mixer_turn.specs.States.{legs_of};
+ghost use Rattle.live_loop.specs.Walks.{IsPaused};
+ghost use Rattle.live_run.specs.Calls.{IsCalled, IsOfLinks};
+ghost use Rattle.live_run.specs.Mixers.{HasAll};
+ghost use Rattle.live_run.specs.Opened.{AreUnused, OpenEnds, OpenLegs};
+
+use crate::gates::LentGate;
+use crate::listeners::listeners_of;
+use crate::opening::Opened;
+use crate::rooms::CallRoom;
+use crate::running::{Ended, Job, run_job};
+use crate::{FarEnds, Listener, LiveFault, live_mixer};
+use conference::Conf;
+use link_io::{LinkOut, Links};
+use live_leg::LinkLeg;
+use live_loop::Turned;
+use mixer_posts::Sending;
+use rtt_io::Gate;
+use std::alloc::Global;
+use std::sync::atomic::AtomicBool;
+use std::sync::{Arc, Wait};
+use std::thread::Threads;
+
+/// How many octets of stack a leg's thread has.
+const STACK: usize = 2_097_152;
+
+/// A call behind its last turn: how its turns ended, both ends of its links, and the terminals that heard what was given.
+pub(crate) struct Called<I, O> {
+    pub(crate) turned: Turned<LiveFault>,
+    pub(crate) legs: Vec<LinkLeg<I>>,
+    pub(crate) ends: Vec<O>,
+    pub(crate) listeners: Vec<Listener>,
+}
+
+/// A call that did not begin, for want of memory.
+fn not_begun<I, O>(alloc: Global, legs: Vec<LinkLeg<I>>, ends: Vec<O>) -> Called<I, O>
+    ensures turned { result.turned ≡ Turned.Stopped LiveFault.NoMemory }
+    ensures legs { result.legs ≡ legs }
+    ensures ends { result.ends ≡ ends }
+{
+    Called {
+        turned: Turned::Stopped(LiveFault::NoMemory),
+        legs,
+        ends,
+        listeners: Vec::new(alloc),
+    }
+}
+
+/// The mixer of this conference, whose packets go to these ends, and to the terminals that hear them. Where memory runs out the
+/// ends come back.
+fn mixer_over<O: LinkOut>(
+    alloc: Global,
+    conf: &Conf,
+    ends: Vec<O>,
+) -> Result<Sending<FarEnds<O>>, Vec<O>>
+    requires stay { AllStay (setup (conf_of conf.now)) }
+    requires each { length ends.items ≡ length conf.now.legs }
+    requires unused { AreUnused O.given O.faults ends.items }
+    ensures legs { IfOk result (λ sending. legs_of sending.mixer ≡ length conf.now.legs) }
+    ensures turns { IfOk result (λ sending. sending.mixer.turns ≡ 0) }
+    ensures stands { IfOk result (HasAll O.tells O.given O.faults (conf_of conf.now)) }
+    ensures links { IfOk result (λ sending. sending.outbound.links ≡ ends) }
+    ensures back { IfErr result (λ back. back ≡ ends) }
+{
+    let Ok(listeners) = listeners_of(alloc, conf) else {
+        return Err(ends);
+    };
+    let far = FarEnds {
+        links: ends,
+        listeners,
+    };
+    match live_mixer(alloc, conf, far) {
+        Ok(mixer) => Ok(mixer),
+        Err(back) => {
+            let FarEnds {
+                links,
+                listeners: _,
+            } = back;
+            Err(links)
+        }
+    }
+}
+
+/// Makes the call, and gives the ends of its links back, whatever happens.
+pub(crate) fn call<W: Links, R: Threads + Wait + Sync, G: Gate + Sync>(
+    rt: &R,
+    alloc: Global,
+    conf: &Conf,
+    opened: Opened<W::In, W::Out>,
+    stop: Arc<AtomicBool, Global>,
+    world: &mut W,
+    gate: &G,
+) -> Called<W::In, W::Out>
+    requires links { IsOfLinks (conf_of conf.now) }
+    requires each_leg { length opened.legs.items ≡ length conf.now.legs }
+    requires each_end { length opened.ends.items ≡ length conf.now.legs }
+    requires legs { OpenLegs W.In.LinkIn W.tells (W.opened world.old) (conf_of conf.now) opened.legs.items }
+    requires ends { OpenEnds W.Out.LinkOut W.tells (conf_of conf.now) opened.ends.items }
+    ensures called { IsCalled W.In.LinkIn W.Out.LinkOut W.tells (conf_of conf.now) (W.opened world.new) result }
+    ensures paused { result.turned ≡ Turned.Done → IsPaused conf.now.turns (W.pauses world.old) (W.pauses world.new) }
+    ensures same_own { Same W.own_faults world.old world.new }
+    ensures same_objects { Same W.object_faults world.old world.new }
+{
+    let Opened { legs, ends } = opened;
+    let Ok(room) = CallRoom::new(alloc, legs.len()) else {
+        return not_begun(alloc, legs, ends);
+    };
+    let mixer = match mixer_over(alloc, conf, ends) {
+        Ok(mixer) => mixer,
+        Err(ends) => {
+            room.discard();
+            return not_begun(alloc, legs, ends);
+        }
+    };
+    let CallRoom {
+        lanes,
+        ports,
+        joined,
+    } = room;
+    let job = Job {
+        legs,
+        lanes,
+        ports,
+        joined,
+        mixer,
+        stop,
+        clock: world,
+        tick: u64::from(conf.tick),
+        turns: u64::from(conf.turns),
+    };
+    let Ended {
+        turned,
+        legs,
+        mixer,
+        clock: _clock,
+    } = run_job(rt, LentGate { gate }, STACK, job);
+    let FarEnds { links, listeners } = mixer.into_outbound();
+    Called {
+        turned,
+        legs,
+        ends: links,
+        listeners,
+    }
+}

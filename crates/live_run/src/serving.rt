@@ -1,0 +1,79 @@
+//! A live call is served.
+ghost use Rattle.std.specs.Prelude.{◌≡◌, length, IfOk, IfErr, OnOk};
+ghost use Rattle.link_io.specs.Ports.{NoneFalls, Same};
+ghost use Rattle.conference.specs.Conferences.{conf_of};
+ghost use Rattle.live_loop.specs.Walks.{IsPaused};
+ghost use Rattle.live_run.specs.Calls.{IsOfLinks, WasGivenUp, WasServed, answer_of};
+ghost use Rattle.live_run.specs.Reports.{end_of};
+
+use crate::calls::{Called, call};
+use crate::opening::{close_ends, close_legs, open_links};
+use crate::{LiveEnd, LiveFault, LiveReport, printed};
+use conference::Conf;
+use link_io::Links;
+use live_loop::Turned;
+use rtt_base::NoMemory;
+use rtt_io::Gate;
+use std::alloc::Global;
+use std::sync::atomic::AtomicBool;
+use std::sync::{Arc, Wait};
+use std::thread::Threads;
+
+/// What is answered where turns ended so.
+fn answer_of(turned: Turned<LiveFault>) -> Result<LiveEnd, LiveFault>
+    ensures { result ≡ answer_of turned }
+{
+    match turned {
+        Turned::Done => Ok(LiveEnd::Done),
+        Turned::Closed => Ok(LiveEnd::Closed),
+        Turned::Faulted(leg) => Err(LiveFault::Link { leg }),
+        Turned::Stopped(fault) => Err(fault),
+    }
+}
+
+/// Serves a live call of a conference of links: opens the links, hears each leg on a thread of its own, mixes what is heard turn by
+/// turn, and gives it to the terminals' links, until all turns are made, or all links are closed and nothing is left. A leg whose
+/// thread can't be started is heard by the caller. Each link is handed back, whatever is answered. The first link that fails ends
+/// the call.
+pub fn serve<R: Threads + Wait + Sync, W: Links, G: Gate + Sync>(
+    rt: &R,
+    alloc: Global,
+    conf: &Conf,
+    world: &mut W,
+    gate: &G,
+) -> Result<LiveReport, LiveFault>
+    requires { IsOfLinks (conf_of conf.now) }
+    ensures served { IfOk result (λ report. WasServed W.tells (W.taken_at world.new) (W.given_at world.new)
+        (conf_of conf.now) (end_of report.end) report.views) }
+    ensures given_up { IfErr result (WasGivenUp (W.own_faults world.old) (W.own_faults world.new)
+        (W.object_faults world.old) (W.object_faults world.new) (conf_of conf.now)) }
+    ensures paused { IfOk result (λ report. report.end ≡ LiveEnd.Done
+        → IsPaused conf.now.turns (W.pauses world.old) (W.pauses world.new)) }
+    ensures all_opened { OnOk result (Same W.own_faults world.old world.new) }
+    ensures own_never_falls { NoneFalls W.own_faults world.old world.new }
+    ensures objects_never_fall { NoneFalls W.object_faults world.old world.new }
+{
+    let Ok(stop) = Arc::new(alloc, AtomicBool::new(false)) else {
+        return Err(LiveFault::NoMemory);
+    };
+    let opened = match open_links(alloc, conf, &stop, world) {
+        Ok(opened) => opened,
+        Err(fault) => return Err(fault),
+    };
+    let Called {
+        turned,
+        legs,
+        ends,
+        listeners,
+    } = call(rt, alloc, conf, opened, stop, world, gate);
+    close_legs(legs, world);
+    close_ends(ends, world);
+    let end = match answer_of(turned) {
+        Ok(end) => end,
+        Err(fault) => return Err(fault),
+    };
+    match printed(alloc, conf, listeners, end) {
+        Ok(views) => Ok(LiveReport { end, views }),
+        Err(NoMemory) => Err(LiveFault::NoMemory),
+    }
+}
