@@ -4,7 +4,7 @@ use Rattle.std.specs.Prelude.{if◌then◌else◌}
 use Rattle.std.specs.List.{list_all}
 use Rattle.std.specs.Option.{option_map}
 use Rattle.file_spec.specs.Numbers.{number, most_ssrc}
-use Rattle.command_spec.specs.Words.{Mix, Channel, channel_words, is_word, list_of, list_words, make_words, mix_words, payload_types, read_of, read_words, send_of, send_words, usual_pts, version_words}
+use Rattle.command_spec.specs.Words.{MixWords, Channel, channel_words, is_word, list_of, list_words, make_words, mix_words, payload_types, read_of, read_words, send_of, send_words, usual_pts, version_words}
 use Rattle.clap.specs.Walk.{Text, first_of}
 use Rattle.clap.specs.Simple.{App, Shape, built, matches_of}
 use Rattle.clap.specs.Faults.{defaults_fault, fault_of}
@@ -107,7 +107,7 @@ send_refused (a ∷ b ∷ c ∷ d ∷ f ∷ g ∷ rest) h = refl
 pub mix_asked : (words : List Text) → list_all is_word words ≡ true → fault_given mix_shape words ≡ [] → mix_given (texts_given mix_shape words) ≡ mix_words words
 unfolding placed place_fault defaults_fault
 mix_asked [] e h = cc
-mix_asked (a ∷ []) e h = kept (is_word a) (Some (Mix (record { conf = a }))) (both (is_word a) _ e).0
+mix_asked (a ∷ []) e h = kept (is_word a) (Some (record { conf = a })) (both (is_word a) _ e).0
 mix_asked (a ∷ b ∷ rest) e h = cc
 
 pub mix_refused : (words : List Text) → fault_given mix_shape words ≢ [] → mix_words words ≡ None

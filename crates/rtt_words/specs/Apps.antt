@@ -9,7 +9,7 @@ use Rattle.rtt_words.specs.declared.words.WordFault.TheVariants.{Wrong, NoMemory
 use Rattle.clap.specs.Simple.{on_top}
 use Rattle.rtt_base.specs.declared.text_packets.Pts.{Pts}
 use Rattle.file_spec.specs.Numbers.{number, number_between, most_ssrc}
-use Rattle.command_spec.specs.Words.{ReadWords, ListWords, SendWords, Command, Mix, Make, Channel, Version, payload_types, usual_pts, read_of, list_of, send_of}
+use Rattle.command_spec.specs.Words.{ReadWords, ListWords, SendWords, MixWords, Command, Make, Channel, Version, payload_types, usual_pts, read_of, list_of, send_of}
 
 -- a refusal of `clap`, by its kind
 abbrev pub fault_by : ErrorKind → WordFault
@@ -40,7 +40,7 @@ send_app =
     with_rule (with_rule (with_rule (with_rule (with_rule (bare_app (codes "send")) (required_rule (codes "SCRIPT"))) (required_rule (codes "OUT")))
     (required_rule (codes "SSRC"))) (required_rule (codes "SEQ"))) (required_rule (codes "STAMP"))
 
--- `mix CONF`
+-- `mix CONF`; `live` has the same
 abbrev pub mix_app : App
 mix_app = with_rule (bare_app (codes "mix")) (required_rule (codes "CONF"))
 
@@ -83,8 +83,8 @@ send_given text =
     send_of script out (number most_ssrc ssrc) (number 65535 seq) (number 4294967295 stamp))
     (text (codes "STAMP"))) (text (codes "SEQ"))) (text (codes "SSRC"))) (text (codes "OUT"))) (text (codes "SCRIPT"))
 
-abbrev pub mix_given : Texts → Option Command
-mix_given text = option_and_then (λ conf. Some (Mix (record { conf = conf }))) (text (codes "CONF"))
+abbrev pub mix_given : Texts → Option MixWords
+mix_given text = option_and_then (λ conf. Some (record { conf = conf })) (text (codes "CONF"))
 
 abbrev pub make_given : Texts → Option Command
 make_given text = option_and_then (λ n. option_map (λ k. Make (record { number = k })) (number_between 1 1000 n)) (text (codes "N"))

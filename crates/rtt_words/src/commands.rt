@@ -35,7 +35,7 @@ pub struct SendWords<'a> {
     pub stamp: u32,
 }
 
-/// What `mix` is asked for.
+/// What `mix` and `live` are asked for.
 #[derive(Clone, Copy, Debug, PartialEq, Eq)]
 pub struct MixWords<'a> {
     /// The name of the conference's file.
@@ -73,6 +73,8 @@ pub enum Command<'a> {
     Mix(MixWords<'a>),
     /// Mixes a conference that is made from a number.
     Make(MakeWords),
+    /// Mixes a conference over UDP links.
+    Live(MixWords<'a>),
     /// Sends frames of text into a recording.
     Relay(SendWords<'a>),
     /// Writes the text of a recording as frames.

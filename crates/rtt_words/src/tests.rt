@@ -87,6 +87,15 @@ fn a_mix_names_a_conference(rt: HostRuntime) -> Result<(), Fail> {
 }
 
 #[test]
+fn a_live_has_the_words_of_a_mix(rt: HostRuntime) -> Result<(), Fail> {
+    let live = Command::Live(MixWords { conf: "c.txt" });
+    assert!(rt; asks(rt.alloc(), "live c.txt", live)?);
+    assert!(rt; is_wrong(rt.alloc(), "live")?);
+    assert!(rt; is_wrong(rt.alloc(), "live a b")?);
+    Ok(())
+}
+
+#[test]
 fn a_make_names_a_number(rt: HostRuntime) -> Result<(), Fail> {
     let make = |number: u32| Command::Make(MakeWords { number });
     assert!(rt; asks(rt.alloc(), "make 1", make(1))?);
@@ -160,7 +169,7 @@ fn no_words_ask_for_nothing(rt: HostRuntime) -> Result<(), Fail> {
 
 #[test]
 fn other_commands_are_wrong(rt: HostRuntime) -> Result<(), Fail> {
-    assert!(rt; is_wrong(rt.alloc(), "live c")?);
+    assert!(rt; is_wrong(rt.alloc(), "serve c")?);
     assert!(rt; is_wrong(rt.alloc(), "help")?);
     assert!(rt; is_wrong(rt.alloc(), "--help")?);
     Ok(())

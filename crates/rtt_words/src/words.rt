@@ -3,7 +3,7 @@ ghost use Rattle.std.specs.Prelude.{◌≡◌, [], ◌∷◌, map, string_bytes,
 ghost use Rattle.std.specs.List.{list_all};
 ghost use Rattle.std.specs.Option.{option_map};
 ghost use Rattle.clap.specs.Words.{first_value, found_of};
-ghost use Rattle.command_spec.specs.Words.{Mix, Make, Channel, Version, command, is_word, payload_types, read_words, list_words, send_words, mix_words, make_words, channel_words, version_words};
+ghost use Rattle.command_spec.specs.Words.{Make, Channel, Version, command, is_word, payload_types, read_words, list_words, send_words, mix_words, make_words, channel_words, version_words};
 ghost use Rattle.rtt_words.specs.Apps.{pts_given, read_given, list_given, send_given, mix_given, make_given, channel_given};
 ghost use Rattle.rtt_words.specs.Commands.{asked, listed, sent, mixed, made, channelled, meaning};
 
@@ -145,7 +145,7 @@ fn send_matched<'a>(matches: &ArgMatches<'a>) -> Option<SendWords<'a>>
 
 /// A `mix` with this argument.
 fn mix_matched<'a>(matches: &ArgMatches<'a>) -> Option<MixWords<'a>>
-    ensures { option_map (λ m. Mix (mixed m)) result ≡ mix_given (first_value (found_of matches.now)) }
+    ensures { option_map mixed result ≡ mix_given (first_value (found_of matches.now)) }
 {
     let conf = matches.get_str("CONF")?;
     Some(MixWords { conf })
@@ -199,10 +199,10 @@ fn send_command(alloc: Global, words: &[String]) -> Result<SendWords<'_>, WordFa
     send_matched(&matches).ok_or(WordFault::Wrong)
 }
 
-/// A `mix`, where the words after its name are in its row.
+/// A `mix` or a `live`, where the words after its name are in its row.
 fn mix_command(alloc: Global, words: &[String]) -> Result<MixWords<'_>, WordFault>
     requires { list_all is_word (drop 1 (map string_bytes words.now)) ≡ true }
-    ensures asked { IfOk result (λ m. mix_words (drop 1 (map string_bytes words.now)) ≡ Some (Mix (mixed m))) }
+    ensures asked { IfOk result (λ m. mix_words (drop 1 (map string_bytes words.now)) ≡ Some (mixed m)) }
     ensures wrong { result ≡ Err WordFault.Wrong → mix_words (drop 1 (map string_bytes words.now)) ≡ None }
 {
     let matches = mix_matches(alloc, words)?;
@@ -251,6 +251,7 @@ fn named<'a>(alloc: Global, name: &str, words: &'a [String]) -> Result<Command<'
         "send" => Ok(Command::Send(send_command(alloc, words)?)),
         "mix" => Ok(Command::Mix(mix_command(alloc, words)?)),
         "make" => Ok(Command::Make(make_command(alloc, words)?)),
+        "live" => Ok(Command::Live(mix_command(alloc, words)?)),
         "relay" => Ok(Command::Relay(send_command(alloc, words)?)),
         "channel" => Ok(Command::Channel(channel_command(alloc, words)?)),
         "show" => Ok(Command::Show(list_command(alloc, words)?)),
