@@ -1,12 +1,14 @@
-//! The program: its words go to `run`, over the files of the system and its standard streams.
+//! The program: its words go to `run`, over the files of the system, its network and its standard streams.
 #![tactic(auto)]
 
 ghost use Rattle.std.specs.Prelude.{◌≡◌, ◌++◌, drop, codes, IfOk, OnErr};
 ghost use Rattle.std.specs.Process.{exit_status};
 ghost use Rattle.rtt_io.specs.Counts.{Rose};
-ghost use Rattle.rtt_top.specs.Outside.{outside, output};
+ghost use Rattle.rtt_top.specs.Lives.{RunsLive};
+ghost use Rattle.rtt_top.specs.Outside.{outside_over, output_at};
 ghost use Rattle.rtt_top.specs.Runs.{asked_by, Runs};
 
+use link_io::{Links, RealLinks};
 use rtt_io::{RealWorld, Sink, StandardError, StandardOutput, StillGate, World};
 use rtt_top::run;
 use std::alloc::{AllocError, Global};
@@ -41,20 +43,31 @@ fn after_name(words: &[String]) -> &[String]
 }
 
 /// Runs what the words after the first ask for.
-fn answer<R: Threads + Wait + Sync, W: World, K: Sink, E: Sink>(
+fn answer<R: Threads + Wait + Sync, W: World, L: Links, K: Sink, E: Sink>(
     rt: &R,
     alloc: Global,
     words: &[String],
     world: &mut W,
+    links: &mut L,
     out: &mut K,
     err: &mut E,
 ) -> u8
-    ensures { Runs (asked_by (drop 1 words.now)) W.tells K.tells E.tells
-        (outside (W.contents world.old) (W.own_faults world.old) (W.object_faults world.old) (output (K.took out.old) (K.faults out.old)))
-        (outside (W.contents world.new) (W.own_faults world.new) (W.object_faults world.new) (output (K.took out.new) (K.faults out.new)))
-        (output (E.took err.old) (E.faults err.old)) (output (E.took err.new) (E.faults err.new)) result }
+    ensures runs { Runs (asked_by (drop 1 words.now)) W.tells K.tells E.tells
+        (outside_over W.World K.Sink L.Links world.old out.old links.old) (outside_over W.World K.Sink L.Links world.new out.new links.new)
+        (output_at E.Sink err.old) (output_at E.Sink err.new) result }
+    ensures live { RunsLive (asked_by (drop 1 words.now)) W.tells K.tells L.tells
+        (outside_over W.World K.Sink L.Links world.old out.old links.old) (outside_over W.World K.Sink L.Links world.new out.new links.new) result }
 {
-    run(rt, alloc, after_name(words), world, out, err, &StillGate)
+    run(
+        rt,
+        alloc,
+        after_name(words),
+        world,
+        links,
+        out,
+        err,
+        &StillGate,
+    )
 }
 
 /// The status where memory ran out before the words were read, which is told.
@@ -73,28 +86,31 @@ fn exit_with(status: u8) -> ExitCode
     ExitCode::from(status)
 }
 
-/// The program over this world and these outputs. `words` are all words, of which the first is the program's name; where
+/// The program over this world, these links and these outputs. `words` are all words, of which the first is the program's name; where
 /// memory ran out before they were read there are none.
-fn program<R: Threads + Wait + Sync, W: World, K: Sink, E: Sink>(
+fn program<R: Threads + Wait + Sync, W: World, L: Links, K: Sink, E: Sink>(
     rt: &R,
     alloc: Global,
     words: Result<Vec<String>, AllocError>,
     world: &mut W,
+    links: &mut L,
     out: &mut K,
     err: &mut E,
 ) -> ExitCode
     ensures runs { IfOk words (λ all. Runs (asked_by (drop 1 all.items)) W.tells K.tells E.tells
-        (outside (W.contents world.old) (W.own_faults world.old) (W.object_faults world.old) (output (K.took out.old) (K.faults out.old)))
-        (outside (W.contents world.new) (W.own_faults world.new) (W.object_faults world.new) (output (K.took out.new) (K.faults out.new)))
-        (output (E.took err.old) (E.faults err.old)) (output (E.took err.new) (E.faults err.new)) (exit_status result)) }
+        (outside_over W.World K.Sink L.Links world.old out.old links.old) (outside_over W.World K.Sink L.Links world.new out.new links.new)
+        (output_at E.Sink err.old) (output_at E.Sink err.new) (exit_status result)) }
+    ensures live { IfOk words (λ all. RunsLive (asked_by (drop 1 all.items)) W.tells K.tells L.tells
+        (outside_over W.World K.Sink L.Links world.old out.old links.old) (outside_over W.World K.Sink L.Links world.new out.new links.new)
+        (exit_status result)) }
     ensures no_memory { OnErr words (exit_status result ≡ 70) }
-    ensures same { OnErr words ((world.new ≡ world.old) × (out.new ≡ out.old)) }
+    ensures same { OnErr words ((world.new ≡ world.old) × (links.new ≡ links.old) × (out.new ≡ out.old)) }
     ensures told { E.tells → OnErr words ((Rose (E.faults err.old) (E.faults err.new) → ⊥) → E.took err.new ≡ E.took err.old ++ codes "out of memory\n") }
 {
     let Ok(all) = words else {
         return exit_with(no_memory(err));
     };
-    let status = answer(rt, alloc, all.as_slice(), world, out, err);
+    let status = answer(rt, alloc, all.as_slice(), world, links, out, err);
     exit_with(status)
 }
 
@@ -102,6 +118,15 @@ fn main(rt: HostRuntime) -> ExitCode {
     let mut world = RealWorld::new(&rt, rt.alloc());
     let mut out = StandardOutput::new(rt.stdout());
     let mut err = StandardError::new(rt.stderr());
+    let mut links = RealLinks::new(&rt);
     let words = all_words(&rt);
-    program(&rt, rt.alloc(), words, &mut world, &mut out, &mut err)
+    program(
+        &rt,
+        rt.alloc(),
+        words,
+        &mut world,
+        &mut links,
+        &mut out,
+        &mut err,
+    )
 }

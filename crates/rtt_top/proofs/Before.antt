@@ -6,7 +6,7 @@ use Rattle.file_spec.specs.Conf.{Conf}
 use Rattle.mixer_spec.specs.Table.{Table}
 use Rattle.command_spec.specs.declared.faults.Refusal.TheVariants.{AtByte, AtFrame, AtLine, AfterTurns}
 use Rattle.command_spec.specs.Work.{Contents, Steps, Refuses}
-use Rattle.command_spec.specs.Outcomes.{Outcome, Missing, Done, outcome_from}
+use Rattle.command_spec.specs.Outcomes.{Outcome, Missing, Done, Served, outcome_from}
 use Rattle.command_spec.specs.Outcomes as outcomes
 use Rattle.command_spec.specs.Mixing.{input_at, makes, unless_one_broken}
 use Rattle.rtt_top.specs.Faults.{NoneBefore}
@@ -18,6 +18,7 @@ none_before_first n (outcomes.Refused input (AtFrame byte kind)) e = omega (arit
 none_before_first n (outcomes.Refused input (AtLine line kind)) e = omega (arith, e)
 none_before_first n (outcomes.Refused input (AfterTurns turns)) e = tt
 none_before_first n (Done printed files) e = tt
+none_before_first n (Served c) e = tt
 
 fewer : (a b : ℕ) (o : Outcome) → b ≤ a → NoneBefore a o → NoneBefore b o
 fewer a b (Missing input) l n = tt
@@ -26,6 +27,7 @@ fewer a b (outcomes.Refused input (AtFrame byte kind)) l n = omega (arith, l, n)
 fewer a b (outcomes.Refused input (AtLine line kind)) l n = omega (arith, l, n)
 fewer a b (outcomes.Refused input (AfterTurns turns)) l n = tt
 fewer a b (Done printed files) l n = tt
+fewer a b (Served c) l n = tt
 
 -- the first k recordings have no fault, and no input is refused behind them
 pub none_broken : (held : Contents) (m limit n : ℕ) (inputs : List (List ℕ)) (steps : Steps) (k : ℕ) → ((i : ℕ) → i < k → (dump limit (input_at inputs i)).fault ≡ None)

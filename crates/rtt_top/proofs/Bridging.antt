@@ -10,7 +10,7 @@ use Rattle.file_spec.specs.Conf.{Conf, conf}
 use Rattle.mixer_spec.specs.Setups.{leg_at}
 use Rattle.command_spec.specs.declared.faults.Refusal.TheVariants.{AtByte, AfterTurns}
 use Rattle.command_spec.specs.declared.faults.Fault.{Fault}
-use Rattle.command_spec.specs.declared.faults.Fault.TheVariants.{WrongWords, CannotOpen, CannotRead, Refused, CannotPrint, CannotWrite, NoMemory}
+use Rattle.command_spec.specs.declared.faults.Fault.TheVariants.{WrongWords, CannotOpen, CannotRead, Refused, CannotPrint, CannotWrite, LinkFailed, NoMemory}
 use Rattle.command_spec.specs.Work.{Contents, Made, Makes, IsInput, IsOutput, IsNth}
 use Rattle.command_spec.specs.Outcomes.{outcome, Done, IsDone, Same, Stores, AllStored}
 use Rattle.command_spec.specs.Outcomes as outcomes
@@ -145,6 +145,7 @@ unwritten_mixing WorldTells OutTells old new contents calls objects file octets 
 unwritten_mixing WorldTells OutTells old new contents calls objects file octets c printed outs (CannotRead k) there read made between out u = absurd u
 unwritten_mixing WorldTells OutTells old new contents calls objects file octets c printed outs (Refused k refusal) there read made between out u = absurd u
 unwritten_mixing WorldTells OutTells old new contents calls objects file octets c printed outs CannotPrint there read made between out u = absurd u
+unwritten_mixing WorldTells OutTells old new contents calls objects file octets c printed outs (LinkFailed leg) there read made between out u = absurd u
 unwritten_mixing WorldTells OutTells old new contents calls objects file octets c printed outs NoMemory there read made between out u = absurd u
 unwritten_mixing WorldTells OutTells old new contents calls objects file octets c printed outs (CannotWrite n) there read made between out u =
     let call : (name : List ℕ) → RoseAt calls new.calls name → CallFailed old new name = λ name r. rose_since (old.calls name) (calls name) (new.calls name) (between.calls_rise name) r in

@@ -6,15 +6,18 @@ use Rattle.std.specs.Str.Lines.{lines}
 use Rattle.rtt_base.specs.Steps.{◌>>=◌}
 use Rattle.file_spec.specs.declared.kinds.ConfKind.{ConfKind}
 use Rattle.file_spec.specs.declared.kinds.ConfKind.TheVariants.{Large}
-use Rattle.file_spec.specs.declared.conf_lines.Form.TheVariants.{Files}
+use Rattle.file_spec.specs.declared.conf_lines.Form.{Form}
+use Rattle.file_spec.specs.declared.conf_lines.Form.TheVariants.{Files, Links}
 use Rattle.file_spec.specs.Lines.{Refusal, told, at_line, read_lines}
 use Rattle.file_spec.specs.Conf.{Conf, and_line, complete, conf, is_blank, nothing}
 use Rattle.command_spec.specs.declared.faults.Refusal.TheVariants.{AtLine}
 use Rattle.command_spec.specs.declared.faults.Fault.TheVariants.{Refused}
-use Rattle.command_spec.specs.Words.{MixWords, Mix}
+use Rattle.command_spec.specs.Words.{MixWords}
 use Rattle.command_spec.specs.Work.{Contents}
 use Rattle.command_spec.specs.Mixing.{mixes_read}
+use Rattle.command_spec.specs.Serving.{serves_read}
 use Rattle.rtt_top.specs.Files.{IsFrontOf}
+use Rattle.rtt_top.specs.Conferences.{command_for}
 use Rattle.rtt_top.specs.Faults.{Stops}
 use Rattle.rtt_top.proofs.Working.{refuses_of}
 use Rattle.rtt_top.proofs.Lying.{lying_octets}
@@ -22,26 +25,33 @@ use Rattle.rtt_top.proofs.Lying.{lying_octets}
 abbrev large : Refusal
 large = record { line = 0; kind = Large }
 
-too_large : (octets : List ℕ) → 262144 < length octets → conf Files octets ≡ Err large
-too_large octets l =
+too_large : (form : Form) (octets : List ℕ) → 262144 < length octets → conf form octets ≡ Err large
+too_large form octets l =
     let over : nat_lt 262144 (length octets) ≡ true = grind (arith, nat_tests) in
-    ap (λ b. cond b (Err large) (read_lines (and_line Files) nothing (told is_blank 1 (lines octets))
+    ap (λ b. cond b (Err large) (read_lines (and_line form) nothing (told is_blank 1 (lines octets))
     >>= λ above. at_line (length (lines octets) + 1) (complete above above.mixer))) over
 
-accepted_front : (octets whole : List ℕ) (c : Conf) → IsFrontOf 262144 octets whole → conf Files octets ≡ Ok c → whole ≡ octets
-accepted_front octets whole c (inl e) s = e
-accepted_front octets whole c (inr f) s = let over = too_large octets f.0 in absurd (cc (s, over))
+accepted_front : (form : Form) (octets whole : List ℕ) (c : Conf) → IsFrontOf 262144 octets whole → conf form octets ≡ Ok c → whole ≡ octets
+accepted_front form octets whole c (inl e) s = e
+accepted_front form octets whole c (inr f) s = let over = too_large form octets f.0 in absurd (cc (s, over))
 
 -- the octets that were read, which lie there as far as that is told
-pub read_conf_octets : (WorldTells : Type 0) (held : Option (List ℕ)) (octets : List ℕ) (c : Conf) → (WorldTells → (whole : List ℕ) × (held ≡ Some whole) × IsFrontOf 262144 octets whole)
-    → conf Files octets ≡ Ok c → (o : List ℕ) × (WorldTells → held ≡ Some o) × (conf Files o ≡ Ok c)
-read_conf_octets WorldTells held octets c given s = (octets, λ t. let g = given t in g.1 ∙ ap (λ (o : List ℕ). Some o) (accepted_front octets g.0 c g.2 s), s)
+pub read_conf_octets : (form : Form) (WorldTells : Type 0) (held : Option (List ℕ)) (octets : List ℕ) (c : Conf) → (WorldTells → (whole : List ℕ) × (held ≡ Some whole) × IsFrontOf 262144 octets whole)
+    → conf form octets ≡ Ok c → (o : List ℕ) × (WorldTells → held ≡ Some o) × (conf form o ≡ Ok c)
+read_conf_octets form WorldTells held octets c given s = (octets, λ t. let g = given t in g.1 ∙ ap (λ (o : List ℕ). Some o) (accepted_front form octets g.0 c g.2 s), s)
 
-pub conf_refused : (WorldTells : Type 0) (held : Contents) (m : MixWords) (Call Object : Type 0) (octets : List ℕ) (line : ℕ) (kind : ConfKind)
-    → (WorldTells → (whole : List ℕ) × (held m.conf ≡ Some whole) × IsFrontOf 262144 octets whole) → conf Files octets ≡ Err (record { line = line; kind = kind })
-    → Stops WorldTells held (Mix m) Call Object (Refused 0 (AtLine line kind))
-conf_refused WorldTells held m Call Object octets line kind given e =
-    let o = lying_octets WorldTells 262144 (conf Files) (held m.conf) octets (λ a b l k. too_large a l ∙ sym (too_large b k)) given in (
+pub conf_refused : (form : Form) (WorldTells : Type 0) (held : Contents) (m : MixWords) (Call Object : Type 0) (octets : List ℕ) (line : ℕ) (kind : ConfKind)
+    → (WorldTells → (whole : List ℕ) × (held m.conf ≡ Some whole) × IsFrontOf 262144 octets whole) → conf form octets ≡ Err (record { line = line; kind = kind })
+    → Stops WorldTells held (command_for form m) Call Object (Refused 0 (AtLine line kind))
+conf_refused form WorldTells held m Call Object octets line kind given e = at form (lying_octets WorldTells 262144 (conf form) (held m.conf) octets (λ a b l k. too_large form a l ∙ sym (too_large form b k)) given) e
+  where
+    at : (form : Form) → (o : List ℕ) × (WorldTells → held m.conf ≡ Some o) × (conf form o ≡ conf form octets) → conf form octets ≡ Err (record { line = line; kind = kind })
+        → Stops WorldTells held (command_for form m) Call Object (Refused 0 (AtLine line kind))
+    at Files o e = (
       refl,
       refuses_of WorldTells held m.conf (λ octets. mixes_read (conf Files octets)) 0 (AtLine line kind) o.0 o.1 (ap mixes_read (o.2 ∙ e)),
+    )
+    at Links o e = (
+      refl,
+      refuses_of WorldTells held m.conf (λ octets. serves_read (conf Links octets)) 0 (AtLine line kind) o.0 o.1 (ap serves_read (o.2 ∙ e)),
     )

@@ -4,13 +4,14 @@ use Rattle.wire_spec.specs.Dump.{dump, usual_limit}
 use Rattle.wire_spec.specs.Dump as dumps
 use Rattle.stream_spec.specs.History.{History, Lawful, Come}
 use Rattle.rtt_io.specs.Fronts.{TakesFront}
+use Rattle.file_spec.specs.Conf.{Conf}
 use Rattle.command_spec.specs.declared.faults.Refusal.{Refusal}
 use Rattle.command_spec.specs.declared.faults.Refusal.TheVariants.{AtByte, AtFrame, AtLine, AfterTurns}
 use Rattle.command_spec.specs.Words.{ReadWords, MixWords, Command, Read, Mix}
 use Rattle.command_spec.specs.declared.faults.Fault.{Fault}
-use Rattle.command_spec.specs.declared.faults.Fault.TheVariants.{WrongWords, CannotOpen, CannotRead, Refused, CannotPrint, CannotWrite, NoMemory}
-use Rattle.command_spec.specs.Work.{Contents, Made, Steps, Reads, Refuses, Makes, IsInput}
-use Rattle.command_spec.specs.Outcomes.{Outcome, Missing, Done, outcome, outcome_from, IsDone, AllStored, Same}
+use Rattle.command_spec.specs.declared.faults.Fault.TheVariants.{WrongWords, CannotOpen, CannotRead, Refused, CannotPrint, CannotWrite, LinkFailed, NoMemory}
+use Rattle.command_spec.specs.Work.{Contents, Made, Steps, Reads, Refuses, Makes, Serves, IsInput}
+use Rattle.command_spec.specs.Outcomes.{Outcome, Missing, Done, Served, outcome, outcome_from, IsDone, AllStored, Same}
 use Rattle.command_spec.specs.Outcomes as outcomes
 use Rattle.command_spec.specs.Reading.{arrivals_of, read_view, history_view}
 use Rattle.command_spec.specs.Commands.{request_of, unless_broken, work}
@@ -22,23 +23,27 @@ use Rattle.command_spec.proofs.Headlines.{bridged}
 use Rattle.command_spec.proofs.Views.{same_view}
 use Rattle.rtt_top.specs.Faults.{RefusesSo, WhereRead}
 use Rattle.rtt_top.proofs.Working.{lies, refused_outcome}
+use Rattle.rtt_top.proofs.Unserved.{mixing_serves_none}
 
 -- ---- where nothing outside failed
 all_done : (o : Outcome) (P : List ℕ → List Made → Type 0) → IsDone o P → Ok tt ≡ ending_of o
 all_done (Missing n) P d = absurd d
 all_done (outcomes.Refused n refusal) P d = absurd d
 all_done (Done printed files) P d = refl
+all_done (Served c) P d = refl
 
 -- where an input has this name, a file is read
 where_input : (WorldTells : Type 0) (held : Contents) (steps : Steps) (n : ℕ) (name : List ℕ) → IsInput WorldTells held steps n name → WhereRead steps WorldTells → WorldTells
 where_input WorldTells held (Reads file next) n name i t = t
 where_input WorldTells held (Refuses input refusal) n name i t = absurd i
 where_input WorldTells held (Makes printed files) n name i t = absurd i
+where_input WorldTells held (Serves c) n name i t = absurd i
 
 refused_where : (WorldTells : Type 0) (held : Contents) (steps : Steps) (n : ℕ) (refusal : Refusal) → WhereRead steps WorldTells → RefusesSo WorldTells held steps n refusal → outcome held steps ≡ outcomes.Refused n refusal
 refused_where WorldTells held (Reads file next) n refusal t r = refused_outcome WorldTells held (Reads file next) n refusal t r
 refused_where WorldTells held (Refuses input other) n refusal t r = ap (λ k. outcomes.Refused k other) r.0 ∙ ap (λ q. outcomes.Refused n q) r.1
 refused_where WorldTells held (Makes printed files) n refusal t r = absurd r
+refused_where WorldTells held (Serves c) n refusal t r = absurd r
 
 as_worked : (c : Command) (WorldTells OutTells : Type 0) (old new : Outside) (name : List ℕ) (ending : Ending) → WhereRead (work c).steps WorldTells → Ends c WorldTells OutTells old new name ending
     → IsCalm (work c) WorldTells old new → IsAsWorked (work c) old ending
@@ -55,6 +60,7 @@ as_worked c WorldTells OutTells old new name (Err (Refused n (AtFrame byte kind)
 as_worked c WorldTells OutTells old new name (Err (Refused n (AfterTurns turns))) told e calm = inl (ap ending_of (sym (e.2 told)))
 as_worked c WorldTells OutTells old new name (Err CannotPrint) told e calm = absurd (calm.output e.0 e.1)
 as_worked c WorldTells OutTells old new name (Err (CannotWrite n)) told e calm = absurd (calm.outputs n name e.0 e.1)
+as_worked c WorldTells OutTells old new name (Err (LinkFailed leg)) told e calm = absurd (calm.links leg name e.1)
 as_worked c WorldTells OutTells old new name (Err NoMemory) told e calm = inr refl
 
 -- ---- a lawful history
@@ -71,14 +77,15 @@ viewed WorldTells OutTells old new name h law told shown r octets view held come
     p.1 shown ∙ ap (λ (v : List ℕ). old.out.octets ++ v) (same_view h law (request_of r) octets come ∙ sym is)
 
 -- ---- a conference
-is_done : (o : Outcome) (P : List ℕ → List Made → Type 0) → IsDone o P → (printed : List ℕ) × (files : List Made) × (o ≡ Done printed files) × P printed files
-is_done (Missing n) P d = absurd d
-is_done (outcomes.Refused n refusal) P d = absurd d
-is_done (Done printed files) P d = (printed, files, refl, d)
+is_done : (o : Outcome) (P : List ℕ → List Made → Type 0) → ((c : Conf) → o ≡ Served c → ⊥) → IsDone o P → (printed : List ℕ) × (files : List Made) × (o ≡ Done printed files) × P printed files
+is_done (Missing n) P none d = absurd d
+is_done (outcomes.Refused n refusal) P none d = absurd d
+is_done (Done printed files) P none d = (printed, files, refl, d)
+is_done (Served c) P none d = absurd (none c refl)
 
 headline : (WorldTells OutTells : Type 0) (old new : Outside) (name : List ℕ) (m : MixWords) → WorldTells → Ends (Mix m) WorldTells OutTells old new name (Ok tt) → IsHeadline OutTells m old new
 headline WorldTells OutTells old new name m told e =
-    let d = is_done (outcome old.contents (mixing m.conf)) (λ printed files. (WorldTells → AllStored files old.contents new.contents) × (OutTells → Prints printed old new)) (e told) in
+    let d = is_done (outcome old.contents (mixing m.conf)) (λ printed files. (WorldTells → AllStored files old.contents new.contents) × (OutTells → Prints printed old new)) (mixing_serves_none old.contents m.conf) (e told) in
     record { printed = d.0; prints = d.3.1; bridged = bridged old.contents new.contents m.conf d.0 d.1 d.2 (d.3.0 told) }
 
 the_mix : (c : Command) (m : MixWords) → Some c ≡ Some (Mix m) → c ≡ Mix m

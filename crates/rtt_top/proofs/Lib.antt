@@ -1,6 +1,7 @@
 pub mod Counts
 pub mod Sources
 pub mod Working
+pub mod Unserved
 pub mod Ending
 pub mod Sending
 pub mod Histories
@@ -9,6 +10,8 @@ pub mod Conferring
 pub mod Chain
 pub mod Bridging
 pub mod Since
+pub mod Linked
+pub mod Living
 pub mod MadeLines
 pub mod Before
 pub mod Plain

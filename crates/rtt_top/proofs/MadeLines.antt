@@ -12,14 +12,14 @@ use Rattle.mixer_spec.specs.Table.{Table}
 use Rattle.command_spec.specs.declared.faults.Refusal.{Refusal}
 use Rattle.command_spec.specs.declared.faults.Refusal.TheVariants.{AtByte, AtFrame, AtLine, AfterTurns}
 use Rattle.command_spec.specs.declared.faults.Fault.{Fault}
-use Rattle.command_spec.specs.declared.faults.Fault.TheVariants.{WrongWords, CannotOpen, CannotRead, Refused, CannotPrint, CannotWrite, NoMemory}
+use Rattle.command_spec.specs.declared.faults.Fault.TheVariants.{WrongWords, CannotOpen, CannotRead, Refused, CannotPrint, CannotWrite, LinkFailed, NoMemory}
 use Rattle.command_spec.specs.Generated.{Generated, generated}
 use Rattle.command_spec.specs.Making.{making, makes_summary, recording_at, recordings, summary}
 use Rattle.command_spec.specs.Messages.{Ending}
 use Rattle.command_spec.specs.Mixing.{input_at, makes, mixes, unless_one_broken}
 use Rattle.command_spec.specs.Sums.{Sums, sums_mixed}
 use Rattle.command_spec.specs.Words.{Command, Make}
-use Rattle.command_spec.specs.Work.{Contents, Steps, Reads, Refuses, Makes}
+use Rattle.command_spec.specs.Work.{Contents, Steps, Reads, Refuses, Makes, Serves}
 use Rattle.command_spec.specs.Outcomes.{outcome, AllStored}
 use Rattle.bridge_run.specs.declared.mixed.MixFault.{MixFault}
 use Rattle.bridge_run.specs.declared.mixed.MixFault.TheVariants.{Open, Dump, TooLong}
@@ -81,6 +81,7 @@ abbrev RefusesTurns : Steps → Type 0
 RefusesTurns (Reads name next) = ⊥
 RefusesTurns (Refuses input refusal) = (input ≡ 0) × (is_after_turns refusal ≡ true)
 RefusesTurns (Makes printed files) = Unit {0}
+RefusesTurns (Serves c) = ⊥
 
 refuses_turns : (n : ℕ) (made : Generated) (found : Option Sums) → RefusesTurns (makes_summary n made found)
 refuses_turns n made None = (refl, refl)
@@ -101,6 +102,7 @@ ends_why n WorldTells OutTells outside name (Refused k (AfterTurns turns)) w =
     ((refused_make n k (AfterTurns turns) w).0, refl, (λ t. ap (outcome outside.contents) w), (λ file. refl), ((λ shown. refl), λ told file. refl))
 ends_why n WorldTells OutTells outside name CannotPrint w = absurd w
 ends_why n WorldTells OutTells outside name (CannotWrite k) w = absurd w
+ends_why n WorldTells OutTells outside name (LinkFailed leg) w = absurd w
 ends_why n WorldTells OutTells outside name NoMemory w = ((λ shown. refl), λ told file. refl)
 
 -- what was printed of it

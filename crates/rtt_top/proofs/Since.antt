@@ -1,17 +1,19 @@
 -- A command whose first part changed nothing outside ends as its second part does.
-use Rattle.std.proofs.Common.{◌≡◌, ℕ, zero, suc, ◌+◌, Option, Some, None, List, ◌++◌, take, Ok, Err, refl, ap, sym, subst, ◌∙◌, inl, inr}
+use Rattle.std.proofs.Common.{◌≡◌, ℕ, zero, suc, ◌+◌, Option, Some, None, List, [], ◌++◌, take, Ok, Err, refl, ap, sym, subst, ◌∙◌, inl, inr}
 use Rattle.std.specs.Prelude.{◌⊎◌}
+use Rattle.file_spec.specs.Conf.{Conf}
 use Rattle.command_spec.specs.declared.faults.Refusal.{Refusal}
 use Rattle.command_spec.specs.declared.faults.Refusal.TheVariants.{AtByte, AtFrame, AtLine, AfterTurns}
-use Rattle.command_spec.specs.declared.faults.Fault.TheVariants.{WrongWords, CannotOpen, CannotRead, Refused, CannotPrint, CannotWrite, NoMemory}
+use Rattle.command_spec.specs.declared.faults.Fault.TheVariants.{WrongWords, CannotOpen, CannotRead, Refused, CannotPrint, CannotWrite, LinkFailed, NoMemory}
 use Rattle.command_spec.specs.Words.{Command}
 use Rattle.command_spec.specs.Commands.{work}
-use Rattle.command_spec.specs.Work.{Contents, Made, Steps, Reads, Refuses, Makes, IsInput, IsOutput}
-use Rattle.command_spec.specs.Outcomes.{Outcome, Missing, Done, outcome, outcome_from, IsDone, Same, AllStored}
+use Rattle.command_spec.specs.Work.{Contents, Made, Steps, Reads, Refuses, Makes, Serves, IsInput, IsOutput, ServesSome}
+use Rattle.command_spec.specs.Outcomes.{Outcome, Missing, Done, Served, outcome, outcome_from, IsDone, Same, AllStored}
 use Rattle.command_spec.specs.Outcomes as outcomes
 use Rattle.command_spec.specs.Messages.{Ending}
 use Rattle.rtt_top.specs.Faults.{NoneBefore, RefusesSo, WhereRead, name_in}
 use Rattle.rtt_top.specs.Outside.{Outside, Output, Failed, CallFailed, ObjectFailed}
+use Rattle.rtt_top.specs.Ports.{LegFailed}
 use Rattle.rtt_top.specs.Runs.{Prints, PrintsFront, Unchanged, PartlyStored, Ends, NoneFailed, NoneFailedBefore}
 use Rattle.rtt_top.proofs.Counts.{rose_since}
 use Rattle.rtt_top.proofs.Bridging.{IsBetween, all_stored_since, partly_since}
@@ -23,12 +25,21 @@ input_since WorldTells old mid same (Reads name next) (suc n) file i =
     (i.0, (λ told. sym (same told name) ∙ i.1 told), input_since WorldTells old mid same (next i.0) n file i.2)
 input_since WorldTells old mid same (Refuses input refusal) n file i = absurd i
 input_since WorldTells old mid same (Makes printed files) n file i = absurd i
+input_since WorldTells old mid same (Serves c) n file i = absurd i
 
 output_since : (WorldTells : Type 0) (old mid : Contents) → (WorldTells → Same old mid) → (steps : Steps) (n : ℕ) (file : List ℕ) → IsOutput WorldTells mid steps n file → IsOutput WorldTells old steps n file
 output_since WorldTells old mid same (Reads name next) n file i =
     (i.0, (λ told. sym (same told name) ∙ i.1 told), output_since WorldTells old mid same (next i.0) n file i.2)
 output_since WorldTells old mid same (Refuses input refusal) n file i = absurd i
 output_since WorldTells old mid same (Makes printed files) n file i = i
+output_since WorldTells old mid same (Serves c) n file i = absurd i
+
+serves_since : (WorldTells : Type 0) (old mid : Contents) → (WorldTells → Same old mid) → (steps : Steps) (P : Conf → Type 0) → ServesSome WorldTells mid steps P → ServesSome WorldTells old steps P
+serves_since WorldTells old mid same (Reads name next) P s =
+    (s.0, (λ told. sym (same told name) ∙ s.1 told), serves_since WorldTells old mid same (next s.0) P s.2)
+serves_since WorldTells old mid same (Refuses input refusal) P s = absurd s
+serves_since WorldTells old mid same (Makes printed files) P s = absurd s
+serves_since WorldTells old mid same (Serves c) P s = s
 
 -- ---- outcomes
 outcome_since : (old mid : Contents) → Same old mid → (n : ℕ) (steps : Steps) → outcome_from n mid steps ≡ outcome_from n old steps
@@ -43,16 +54,19 @@ outcome_since old mid same n (Reads name next) =
     go (Some octets) more = more octets
 outcome_since old mid same n (Refuses input refusal) = refl
 outcome_since old mid same n (Makes printed files) = refl
+outcome_since old mid same n (Serves c) = refl
 
 done_map : (o : Outcome) (P Q : List ℕ → List Made → Type 0) → ((printed : List ℕ) (files : List Made) → P printed files → Q printed files) → IsDone o P → IsDone o Q
 done_map (Missing n) P Q f d = absurd d
 done_map (outcomes.Refused n refusal) P Q f d = absurd d
 done_map (Done printed files) P Q f d = f printed files d
+done_map (Served c) P Q f d = (d.0, f d.0 [] d.1)
 
 outcome_where : (WorldTells : Type 0) (old mid : Contents) → (WorldTells → Same old mid) → (steps : Steps) → WhereRead steps WorldTells → outcome mid steps ≡ outcome old steps
 outcome_where WorldTells old mid same (Reads name next) t = outcome_since old mid (same t) 0 (Reads name next)
 outcome_where WorldTells old mid same (Refuses input refusal) t = refl
 outcome_where WorldTells old mid same (Makes printed files) t = refl
+outcome_where WorldTells old mid same (Serves c) t = refl
 
 done_where : (WorldTells : Type 0) (old mid : Contents) (steps : Steps) (P Q : List ℕ → List Made → Type 0) → (WorldTells → Same old mid) → WhereRead steps WorldTells → ((printed : List ℕ) (files : List Made) → P printed files → Q printed files)
     → IsDone (outcome mid steps) P → IsDone (outcome old steps) Q
@@ -97,15 +111,16 @@ refuses_since WorldTells old mid same (Reads name next) n refusal r =
     (r.0, (λ told. sym (same told name) ∙ r.1 told), refuses_since WorldTells old mid same (next r.0) n refusal r.2)
 refuses_since WorldTells old mid same (Refuses input other) n refusal r = r
 refuses_since WorldTells old mid same (Makes printed files) n refusal r = absurd r
+refuses_since WorldTells old mid same (Serves c) n refusal r = absurd r
 
-pub ends_since : (c : Command) (WorldTells OutTells : Type 0) (old mid new : Outside) (name : List ℕ) (ending : Ending) → IsBetween WorldTells old mid mid.contents mid.calls mid.objects → mid.out ≡ old.out → NoneFailed old mid
+pub ends_since : (c : Command) (WorldTells OutTells : Type 0) (old mid new : Outside) (name : List ℕ) (ending : Ending) → IsBetween WorldTells old mid mid.contents mid.calls mid.objects → mid.out ≡ old.out → mid.links ≡ old.links → NoneFailed old mid
     → Ends c WorldTells OutTells mid new name ending → Ends c WorldTells OutTells old new name ending
-ends_since c WorldTells OutTells old mid new name (Ok u) b out calm e = λ t.
+ends_since c WorldTells OutTells old mid new name (Ok u) b out left calm e = λ t.
     done_where WorldTells old.contents mid.contents (work c).steps
     (λ printed files. (WorldTells → AllStored files mid.contents new.contents) × (OutTells → Prints printed mid new))
     (λ printed files. (WorldTells → AllStored files old.contents new.contents) × (OutTells → Prints printed old new)) b.same t
     (λ printed files d. ((λ told. all_stored_since files old.contents mid.contents new.contents (b.same told) (d.0 told)), λ shown. d.1 shown ∙ ap (λ (o : Output). o.octets ++ printed) out)) (e t)
-ends_since c WorldTells OutTells old mid new name (Err CannotPrint) b out calm e = (
+ends_since c WorldTells OutTells old mid new name (Err CannotPrint) b out left calm e = (
   e.0,
   subst (λ o. Failed o new.out) out e.1,
   λ t. done_where WorldTells old.contents mid.contents (work c).steps
@@ -116,7 +131,7 @@ ends_since c WorldTells OutTells old mid new name (Err CannotPrint) b out calm e
         λ shown. (let p = d.1 shown in (p.0, p.1 ∙ ap (λ (o : Output). o.octets ++ take p.0 printed) out)),
       )) (e.2 t),
 )
-ends_since c WorldTells OutTells old mid new name (Err (CannotWrite n)) b out calm e = (
+ends_since c WorldTells OutTells old mid new name (Err (CannotWrite n)) b out left calm e = (
   output_since WorldTells old.contents mid.contents b.same (work c).steps n name e.0,
   either (CallFailed mid new name) (ObjectFailed mid new name) (CallFailed old new name) (ObjectFailed old new name) (call_since WorldTells old mid new b name) (object_since WorldTells old mid new b name) e.1,
   (λ shown. e.2 shown ∙ ap (λ (o : Output). o.octets) out),
@@ -126,13 +141,13 @@ ends_since c WorldTells OutTells old mid new name (Err (CannotWrite n)) b out ca
       (λ printed files p. partly_since (CallFailed old new) (ObjectFailed old new) (CallFailed mid new) (ObjectFailed mid new) n files old.contents mid.contents new.contents
       (call_since WorldTells old mid new b) (object_since WorldTells old mid new b) (b.same told) p) (e.3 told),
 )
-ends_since c WorldTells OutTells old mid new name (Err WrongWords) b out calm e = absurd e
-ends_since c WorldTells OutTells old mid new name (Err (CannotOpen n)) b out calm e = (
+ends_since c WorldTells OutTells old mid new name (Err WrongWords) b out left calm e = absurd e
+ends_since c WorldTells OutTells old mid new name (Err (CannotOpen n)) b out left calm e = (
   input_since WorldTells old.contents mid.contents b.same (work c).steps n name e.0,
   call_since WorldTells old mid new b name e.1,
   unchanged_since WorldTells OutTells old mid new b out e.2,
 )
-ends_since c WorldTells OutTells old mid new name (Err (CannotRead n)) b out calm e = (
+ends_since c WorldTells OutTells old mid new name (Err (CannotRead n)) b out left calm e = (
   input_since WorldTells old.contents mid.contents b.same (work c).steps n name e.0,
   object_since WorldTells old mid new b name e.1,
   (λ told. (
@@ -141,12 +156,12 @@ ends_since c WorldTells OutTells old mid new name (Err (CannotRead n)) b out cal
   )),
   unchanged_since WorldTells OutTells old mid new b out e.3,
 )
-ends_since c WorldTells OutTells old mid new name (Err (Refused n (AtLine line kind))) b out calm e = (
+ends_since c WorldTells OutTells old mid new name (Err (Refused n (AtLine line kind))) b out left calm e = (
   input_since WorldTells old.contents mid.contents b.same (work c).steps n name e.0,
   refuses_since WorldTells old.contents mid.contents b.same (work c).steps n (AtLine line kind) e.1,
   unchanged_since WorldTells OutTells old mid new b out e.2,
 )
-ends_since c WorldTells OutTells old mid new name (Err (Refused n (AtByte byte kind))) b out calm e = (
+ends_since c WorldTells OutTells old mid new name (Err (Refused n (AtByte byte kind))) b out left calm e = (
   input_since WorldTells old.contents mid.contents b.same (work c).steps n name e.0,
   e.1,
   (λ told. (
@@ -155,7 +170,7 @@ ends_since c WorldTells OutTells old mid new name (Err (Refused n (AtByte byte k
   )),
   unchanged_since WorldTells OutTells old mid new b out e.3,
 )
-ends_since c WorldTells OutTells old mid new name (Err (Refused n (AtFrame byte kind))) b out calm e = (
+ends_since c WorldTells OutTells old mid new name (Err (Refused n (AtFrame byte kind))) b out left calm e = (
   input_since WorldTells old.contents mid.contents b.same (work c).steps n name e.0,
   e.1,
   (λ told. (
@@ -164,14 +179,20 @@ ends_since c WorldTells OutTells old mid new name (Err (Refused n (AtFrame byte 
   )),
   unchanged_since WorldTells OutTells old mid new b out e.3,
 )
-ends_since c WorldTells OutTells old mid new name (Err (Refused n (AfterTurns turns))) b out calm e = (
+ends_since c WorldTells OutTells old mid new name (Err (Refused n (AfterTurns turns))) b out left calm e = (
   e.0,
   e.1,
   (λ t. sym (outcome_where WorldTells old.contents mid.contents b.same (work c).steps t) ∙ e.2 t),
   (λ file. e.3 file ∙ calm file),
   unchanged_since WorldTells OutTells old mid new b out e.4,
 )
-ends_since c WorldTells OutTells old mid new name (Err NoMemory) b out calm e = unchanged_since WorldTells OutTells old mid new b out e
+ends_since c WorldTells OutTells old mid new name (Err (LinkFailed leg)) b out left calm e = (
+  e.0,
+  subst (λ links. ServesSome WorldTells old.contents (work c).steps (λ conference. LegFailed conference leg name links new.links)) left
+      (serves_since WorldTells old.contents mid.contents b.same (work c).steps (λ conference. LegFailed conference leg name mid.links new.links) e.1),
+  unchanged_since WorldTells OutTells old mid new b out e.2,
+)
+ends_since c WorldTells OutTells old mid new name (Err NoMemory) b out left calm e = unchanged_since WorldTells OutTells old mid new b out e
 
 -- ---- names
 pub same_name : (name : List ℕ) (ending : Ending) → name_in name name ending ≡ name
@@ -182,4 +203,5 @@ same_name name (Err (CannotRead n)) = refl
 same_name name (Err (Refused n refusal)) = refl
 same_name name (Err CannotPrint) = refl
 same_name name (Err (CannotWrite n)) = refl
+same_name name (Err (LinkFailed leg)) = refl
 same_name name (Err NoMemory) = refl

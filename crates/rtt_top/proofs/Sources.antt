@@ -4,7 +4,7 @@ use Rattle.std.proofs.lemmas.Bool.{cases_lt}
 use Rattle.rtt_io.specs.Counts.{Rose, counted, last_count}
 use Rattle.command_spec.specs.declared.faults.Refusal.TheVariants.{AtByte, AtFrame, AtLine, AfterTurns}
 use Rattle.command_spec.specs.declared.faults.Fault.{Fault}
-use Rattle.command_spec.specs.declared.faults.Fault.TheVariants.{WrongWords, CannotOpen, CannotRead, Refused, CannotPrint, CannotWrite, NoMemory}
+use Rattle.command_spec.specs.declared.faults.Fault.TheVariants.{WrongWords, CannotOpen, CannotRead, Refused, CannotPrint, CannotWrite, LinkFailed, NoMemory}
 use Rattle.rtt_top.specs.Faults.{IsOfRecording}
 
 counted_rose : (before after faults : ℕ) → after ≡ counted before faults → Rose 0 faults → Rose before after
@@ -33,4 +33,5 @@ of_recording A B f (Refused n (AtLine line kind)) u = u
 of_recording A B f (Refused n (AfterTurns turns)) u = u
 of_recording A B f CannotPrint u = u
 of_recording A B f (CannotWrite n) u = u
+of_recording A B f (LinkFailed leg) u = u
 of_recording A B f NoMemory u = tt

@@ -3,9 +3,9 @@ use Rattle.std.proofs.Common.{◌≡◌, ℕ, true, true≢false, Option, Some, 
 use Rattle.wire_spec.specs.Dump.{dump, usual_limit}
 use Rattle.wire_spec.specs.Dump as dumps
 use Rattle.file_spec.specs.declared.kinds.ConfKind.{ConfKind}
-use Rattle.command_spec.specs.Words.{Command, Read, ListRecords, Send, Mix, Make, Relay, Channel, Show, Script, Version}
+use Rattle.command_spec.specs.Words.{Command, Read, ListRecords, Send, Mix, Make, Live, Relay, Channel, Show, Script, Version}
 use Rattle.command_spec.specs.declared.faults.Refusal.TheVariants.{AtByte, AtFrame, AtLine, AfterTurns}
-use Rattle.command_spec.specs.declared.faults.Fault.TheVariants.{WrongWords, CannotOpen, CannotRead, Refused, CannotPrint, CannotWrite, NoMemory}
+use Rattle.command_spec.specs.declared.faults.Fault.TheVariants.{WrongWords, CannotOpen, CannotRead, Refused, CannotPrint, CannotWrite, LinkFailed, NoMemory}
 use Rattle.command_spec.specs.Work.{Contents, Steps, Makes, IsInput}
 use Rattle.command_spec.specs.Commands.{saves_frames, sending_of, unless_broken}
 use Rattle.command_spec.specs.Frames.{channel, relay}
@@ -46,6 +46,7 @@ ends_so (ListRecords l) WorldTells OutTells old new name (Ok u) e = refl
 ends_so (Send s) WorldTells OutTells old new name (Ok u) e = refl
 ends_so (Mix m) WorldTells OutTells old new name (Ok u) e = refl
 ends_so (Make m) WorldTells OutTells old new name (Ok u) e = refl
+ends_so (Live m) WorldTells OutTells old new name (Ok u) e = refl
 ends_so (Relay s) WorldTells OutTells old new name (Ok u) e = refl
 ends_so (Channel c) WorldTells OutTells old new name (Ok u) e = refl
 ends_so (Show l) WorldTells OutTells old new name (Ok u) e = refl
@@ -57,6 +58,7 @@ ends_so (ListRecords l) WorldTells OutTells old new name (Err (CannotOpen n)) e 
 ends_so (Send s) WorldTells OutTells old new name (Err (CannotOpen n)) e = refl
 ends_so (Mix m) WorldTells OutTells old new name (Err (CannotOpen n)) e = refl
 ends_so (Make m) WorldTells OutTells old new name (Err (CannotOpen n)) e = absurd (reads_none WorldTells old.contents m.number n name e.0)
+ends_so (Live m) WorldTells OutTells old new name (Err (CannotOpen n)) e = refl
 ends_so (Relay s) WorldTells OutTells old new name (Err (CannotOpen n)) e = refl
 ends_so (Channel c) WorldTells OutTells old new name (Err (CannotOpen n)) e = refl
 ends_so (Show l) WorldTells OutTells old new name (Err (CannotOpen n)) e = refl
@@ -67,6 +69,7 @@ ends_so (ListRecords l) WorldTells OutTells old new name (Err (CannotRead n)) e 
 ends_so (Send s) WorldTells OutTells old new name (Err (CannotRead n)) e = refl
 ends_so (Mix m) WorldTells OutTells old new name (Err (CannotRead n)) e = refl
 ends_so (Make m) WorldTells OutTells old new name (Err (CannotRead n)) e = absurd (reads_none WorldTells old.contents m.number n name e.0)
+ends_so (Live m) WorldTells OutTells old new name (Err (CannotRead n)) e = refl
 ends_so (Relay s) WorldTells OutTells old new name (Err (CannotRead n)) e = refl
 ends_so (Channel c) WorldTells OutTells old new name (Err (CannotRead n)) e = refl
 ends_so (Show l) WorldTells OutTells old new name (Err (CannotRead n)) e = refl
@@ -79,6 +82,7 @@ ends_so (ListRecords l) WorldTells OutTells old new name (Err (Refused n (AtLine
 ends_so (Send s) WorldTells OutTells old new name (Err (Refused n (AtLine line kind))) e = refl
 ends_so (Mix m) WorldTells OutTells old new name (Err (Refused n (AtLine line kind))) e = refl
 ends_so (Make m) WorldTells OutTells old new name (Err (Refused n (AtLine line kind))) e = absurd (reads_none WorldTells old.contents m.number n name e.0)
+ends_so (Live m) WorldTells OutTells old new name (Err (Refused n (AtLine line kind))) e = refl
 ends_so (Relay s) WorldTells OutTells old new name (Err (Refused n (AtLine line kind))) e =
     absurd (no_frame_line WorldTells old.contents s.out (relay (sending_of s) e.1.0) n line kind e.1.2)
 ends_so (Channel c) WorldTells OutTells old new name (Err (Refused n (AtLine line kind))) e =
@@ -94,6 +98,7 @@ ends_so (ListRecords l) WorldTells OutTells old new name (Err (Refused n (AtByte
 ends_so (Send s) WorldTells OutTells old new name (Err (Refused n (AtByte byte kind))) e = absurd (true≢false (sym e.1))
 ends_so (Mix m) WorldTells OutTells old new name (Err (Refused n (AtByte byte kind))) e = refl
 ends_so (Make m) WorldTells OutTells old new name (Err (Refused n (AtByte byte kind))) e = absurd (true≢false (sym e.1))
+ends_so (Live m) WorldTells OutTells old new name (Err (Refused n (AtByte byte kind))) e = absurd (true≢false (sym e.1))
 ends_so (Relay s) WorldTells OutTells old new name (Err (Refused n (AtByte byte kind))) e = absurd (true≢false (sym e.1))
 ends_so (Channel c) WorldTells OutTells old new name (Err (Refused n (AtByte byte kind))) e = refl
 ends_so (Show l) WorldTells OutTells old new name (Err (Refused n (AtByte byte kind))) e = refl
@@ -104,6 +109,7 @@ ends_so (ListRecords l) WorldTells OutTells old new name (Err (Refused n (AtFram
 ends_so (Send s) WorldTells OutTells old new name (Err (Refused n (AtFrame byte kind))) e = absurd (true≢false (sym e.1))
 ends_so (Mix m) WorldTells OutTells old new name (Err (Refused n (AtFrame byte kind))) e = absurd (true≢false (sym e.1))
 ends_so (Make m) WorldTells OutTells old new name (Err (Refused n (AtFrame byte kind))) e = absurd (true≢false (sym e.1))
+ends_so (Live m) WorldTells OutTells old new name (Err (Refused n (AtFrame byte kind))) e = absurd (true≢false (sym e.1))
 ends_so (Relay s) WorldTells OutTells old new name (Err (Refused n (AtFrame byte kind))) e = refl
 ends_so (Channel c) WorldTells OutTells old new name (Err (Refused n (AtFrame byte kind))) e = refl
 ends_so (Show l) WorldTells OutTells old new name (Err (Refused n (AtFrame byte kind))) e = absurd (true≢false (sym e.1))
@@ -114,6 +120,7 @@ ends_so (ListRecords l) WorldTells OutTells old new name (Err (Refused n (AfterT
 ends_so (Send s) WorldTells OutTells old new name (Err (Refused n (AfterTurns turns))) e = absurd (true≢false (sym e.1))
 ends_so (Mix m) WorldTells OutTells old new name (Err (Refused n (AfterTurns turns))) e = refl
 ends_so (Make m) WorldTells OutTells old new name (Err (Refused n (AfterTurns turns))) e = refl
+ends_so (Live m) WorldTells OutTells old new name (Err (Refused n (AfterTurns turns))) e = absurd (true≢false (sym e.1))
 ends_so (Relay s) WorldTells OutTells old new name (Err (Refused n (AfterTurns turns))) e = absurd (true≢false (sym e.1))
 ends_so (Channel c) WorldTells OutTells old new name (Err (Refused n (AfterTurns turns))) e = absurd (true≢false (sym e.1))
 ends_so (Show l) WorldTells OutTells old new name (Err (Refused n (AfterTurns turns))) e = absurd (true≢false (sym e.1))
@@ -124,6 +131,7 @@ ends_so (ListRecords l) WorldTells OutTells old new name (Err CannotPrint) e = r
 ends_so (Send s) WorldTells OutTells old new name (Err CannotPrint) e = refl
 ends_so (Mix m) WorldTells OutTells old new name (Err CannotPrint) e = refl
 ends_so (Make m) WorldTells OutTells old new name (Err CannotPrint) e = refl
+ends_so (Live m) WorldTells OutTells old new name (Err CannotPrint) e = refl
 ends_so (Relay s) WorldTells OutTells old new name (Err CannotPrint) e = refl
 ends_so (Channel c) WorldTells OutTells old new name (Err CannotPrint) e = refl
 ends_so (Show l) WorldTells OutTells old new name (Err CannotPrint) e = refl
@@ -134,16 +142,29 @@ ends_so (ListRecords l) WorldTells OutTells old new name (Err (CannotWrite n)) e
 ends_so (Send s) WorldTells OutTells old new name (Err (CannotWrite n)) e = refl
 ends_so (Mix m) WorldTells OutTells old new name (Err (CannotWrite n)) e = refl
 ends_so (Make m) WorldTells OutTells old new name (Err (CannotWrite n)) e = refl
+ends_so (Live m) WorldTells OutTells old new name (Err (CannotWrite n)) e = refl
 ends_so (Relay s) WorldTells OutTells old new name (Err (CannotWrite n)) e = refl
 ends_so (Channel c) WorldTells OutTells old new name (Err (CannotWrite n)) e = refl
 ends_so (Show l) WorldTells OutTells old new name (Err (CannotWrite n)) e = refl
 ends_so (Script r) WorldTells OutTells old new name (Err (CannotWrite n)) e = refl
 ends_so Version WorldTells OutTells old new name (Err (CannotWrite n)) e = refl
+ends_so (Read r) WorldTells OutTells old new name (Err (LinkFailed leg)) e = absurd (true≢false (sym e.0))
+ends_so (ListRecords l) WorldTells OutTells old new name (Err (LinkFailed leg)) e = absurd (true≢false (sym e.0))
+ends_so (Send s) WorldTells OutTells old new name (Err (LinkFailed leg)) e = absurd (true≢false (sym e.0))
+ends_so (Mix m) WorldTells OutTells old new name (Err (LinkFailed leg)) e = absurd (true≢false (sym e.0))
+ends_so (Make m) WorldTells OutTells old new name (Err (LinkFailed leg)) e = absurd (true≢false (sym e.0))
+ends_so (Live m) WorldTells OutTells old new name (Err (LinkFailed leg)) e = refl
+ends_so (Relay s) WorldTells OutTells old new name (Err (LinkFailed leg)) e = absurd (true≢false (sym e.0))
+ends_so (Channel c) WorldTells OutTells old new name (Err (LinkFailed leg)) e = absurd (true≢false (sym e.0))
+ends_so (Show l) WorldTells OutTells old new name (Err (LinkFailed leg)) e = absurd (true≢false (sym e.0))
+ends_so (Script r) WorldTells OutTells old new name (Err (LinkFailed leg)) e = absurd (true≢false (sym e.0))
+ends_so Version WorldTells OutTells old new name (Err (LinkFailed leg)) e = absurd (true≢false (sym e.0))
 ends_so (Read r) WorldTells OutTells old new name (Err NoMemory) e = refl
 ends_so (ListRecords l) WorldTells OutTells old new name (Err NoMemory) e = refl
 ends_so (Send s) WorldTells OutTells old new name (Err NoMemory) e = refl
 ends_so (Mix m) WorldTells OutTells old new name (Err NoMemory) e = refl
 ends_so (Make m) WorldTells OutTells old new name (Err NoMemory) e = refl
+ends_so (Live m) WorldTells OutTells old new name (Err NoMemory) e = refl
 ends_so (Relay s) WorldTells OutTells old new name (Err NoMemory) e = refl
 ends_so (Channel c) WorldTells OutTells old new name (Err NoMemory) e = refl
 ends_so (Show l) WorldTells OutTells old new name (Err NoMemory) e = refl

@@ -7,9 +7,9 @@ use Rattle.wire_spec.specs.Dump as dumps
 use Rattle.command_spec.specs.declared.faults.Refusal.{Refusal}
 use Rattle.command_spec.specs.declared.faults.Refusal.TheVariants.{AtByte, AtFrame, AtLine, AfterTurns}
 use Rattle.command_spec.specs.declared.faults.Fault.{Fault}
-use Rattle.command_spec.specs.declared.faults.Fault.TheVariants.{WrongWords, CannotOpen, CannotRead, Refused, CannotPrint, CannotWrite, NoMemory}
+use Rattle.command_spec.specs.declared.faults.Fault.TheVariants.{WrongWords, CannotOpen, CannotRead, Refused, CannotPrint, CannotWrite, LinkFailed, NoMemory}
 use Rattle.command_spec.specs.Words.{Command}
-use Rattle.command_spec.specs.Work.{Contents, Made, Steps, Reads, Refuses, Makes, IsInput}
+use Rattle.command_spec.specs.Work.{Contents, Made, Steps, Reads, Refuses, Makes, Serves, IsInput}
 use Rattle.command_spec.specs.Outcomes.{outcome, outcome_from, Missing, Done, IsDone, Same, Stores, AllStored}
 use Rattle.command_spec.specs.Outcomes as outcomes
 use Rattle.command_spec.specs.Commands.{unless_broken, prints_unless, prints_recording, work}
@@ -37,6 +37,7 @@ refused_from WorldTells held k (Reads name next) input refusal told r =
     ap P (r.1 told) ∙ refused_from WorldTells held (k + 1) (next r.0) input refusal told r.2
 refused_from WorldTells held k (Refuses n other) input refusal told r = refuses input refusal n other r.0 r.1
 refused_from WorldTells held k (Makes printed files) input refusal told r = absurd r
+refused_from WorldTells held k (Serves c) input refusal told r = absurd r
 
 pub refused_outcome : (WorldTells : Type 0) (held : Contents) (steps : Steps) (input : ℕ) (refusal : Refusal) → WorldTells
     → RefusesSo WorldTells held steps input refusal → outcome held steps ≡ outcomes.Refused input refusal
@@ -57,6 +58,7 @@ unread WorldTells held c Call Object (CannotRead n) u = u
 unread WorldTells held c Call Object (Refused n refusal) u = absurd u
 unread WorldTells held c Call Object CannotPrint u = u
 unread WorldTells held c Call Object (CannotWrite n) u = u
+unread WorldTells held c Call Object (LinkFailed leg) u = u
 unread WorldTells held c Call Object NoMemory u = tt
 
 -- ---- a recording
@@ -84,6 +86,7 @@ stops_unless WorldTells held c file fault_of then Call Object (Refused n (AtLine
 stops_unless WorldTells held c file fault_of then Call Object (Refused n (AfterTurns turns)) is rec u t = u
 stops_unless WorldTells held c file fault_of then Call Object CannotPrint is rec u t = u
 stops_unless WorldTells held c file fault_of then Call Object (CannotWrite n) is rec u t = u
+stops_unless WorldTells held c file fault_of then Call Object (LinkFailed leg) is rec u t = u
 stops_unless WorldTells held c file fault_of then Call Object NoMemory is rec u t = tt
 
 pub stops_recording : (WorldTells : Type 0) (held : Contents) (c : Command) (file : List ℕ) (view : List ℕ → List ℕ) (Call Object : Type 0) (fault : Fault)
@@ -138,6 +141,7 @@ stopped c WorldTells OutTells old new input output (Refused n (AtFrame byte kind
 stopped c WorldTells OutTells old new input output (Refused n (AfterTurns turns)) i s u = absurd s
 stopped c WorldTells OutTells old new input output CannotPrint i s u = absurd s
 stopped c WorldTells OutTells old new input output (CannotWrite n) i s u = absurd s
+stopped c WorldTells OutTells old new input output (LinkFailed leg) i s u = absurd s
 stopped c WorldTells OutTells old new input output NoMemory i s u = u
 
 -- ---- a command that prints

@@ -5,11 +5,11 @@ use Rattle.wire_spec.specs.Dump as dumps
 use Rattle.command_spec.specs.declared.faults.Refusal.{Refusal}
 use Rattle.command_spec.specs.declared.faults.Refusal.TheVariants.{AtByte, AtFrame, AtLine, AfterTurns}
 use Rattle.command_spec.specs.declared.faults.Fault.{Fault}
-use Rattle.command_spec.specs.declared.faults.Fault.TheVariants.{WrongWords, CannotOpen, CannotRead, Refused, CannotPrint, CannotWrite, NoMemory}
-use Rattle.command_spec.specs.Words.{Command, Read, ListRecords, Send, Mix, Make, Relay, Channel, Show, Script, Version}
-use Rattle.command_spec.specs.Work.{Contents, Steps, Reads, Refuses, Makes}
+use Rattle.command_spec.specs.declared.faults.Fault.TheVariants.{WrongWords, CannotOpen, CannotRead, Refused, CannotPrint, CannotWrite, LinkFailed, NoMemory}
+use Rattle.command_spec.specs.Words.{Command, Read, ListRecords, Send, Mix, Make, Live, Relay, Channel, Show, Script, Version}
+use Rattle.command_spec.specs.Work.{Contents, Steps, Reads, Refuses, Makes, Serves}
 use Rattle.command_spec.specs.Commands.{work}
-use Rattle.command_spec.specs.Outcomes.{Outcome, Missing, Done, outcome}
+use Rattle.command_spec.specs.Outcomes.{Outcome, Missing, Done, Served, outcome}
 use Rattle.command_spec.specs.Outcomes as outcomes
 use Rattle.command_spec.specs.Messages.{Ending, message_of}
 
@@ -18,6 +18,7 @@ abbrev pub WhereRead : Steps → Type 0 → Type 0
 WhereRead (Reads name next) P = P
 WhereRead (Refuses input refusal) P = Unit {0}
 WhereRead (Makes printed files) P = Unit {0}
+WhereRead (Serves c) P = Unit {0}
 
 -- no input before this number is refused
 abbrev pub NoneBefore : ℕ → Outcome → Type 0
@@ -27,6 +28,7 @@ NoneBefore n (outcomes.Refused input (AtFrame byte kind)) = n ≤ input
 NoneBefore n (outcomes.Refused input (AtLine line kind)) = n ≤ input
 NoneBefore n (outcomes.Refused input (AfterTurns turns)) = Unit {0}
 NoneBefore n (Done printed files) = Unit {0}
+NoneBefore n (Served c) = Unit {0}
 
 -- These steps refuse this input so, where the octets of what is read lie there, as far as that is told.
 abbrev pub RefusesSo : (WorldTells : Type 0) → Contents → Steps → ℕ → Refusal → Type 0
@@ -34,6 +36,7 @@ RefusesSo WorldTells held (Reads name next) input refusal =
     (octets : List ℕ) × (WorldTells → held name ≡ Some octets) × RefusesSo WorldTells held (next octets) input refusal
 RefusesSo WorldTells held (Refuses n other) input refusal = (n ≡ input) × (other ≡ refusal)
 RefusesSo WorldTells held (Makes printed files) input refusal = ⊥
+RefusesSo WorldTells held (Serves c) input refusal = ⊥
 
 -- The input of this number is a recording: the only one, or that of a leg.
 abbrev pub is_recording : Command → ℕ → Bool
@@ -43,6 +46,7 @@ is_recording (Send s) input = false
 is_recording (Mix m) zero = false
 is_recording (Mix m) (suc leg) = true
 is_recording (Make m) input = false
+is_recording (Live m) input = false
 is_recording (Relay s) input = false
 is_recording (Channel c) input = true
 is_recording (Show l) input = true
@@ -54,6 +58,11 @@ abbrev pub has_frames : Command → Bool
 has_frames (Relay s) = true
 has_frames (Channel c) = true
 has_frames _ = false
+
+-- a live call is served
+abbrev pub is_live : Command → Bool
+is_live (Live m) = true
+is_live _ = false
 
 -- a conference is mixed
 abbrev pub is_mixed : Command → Bool
@@ -76,6 +85,7 @@ Stops WorldTells held c Call Object (Refused input (AtFrame byte kind)) =
 Stops WorldTells held c Call Object (Refused input (AfterTurns turns)) = ⊥
 Stops WorldTells held c Call Object CannotPrint = ⊥
 Stops WorldTells held c Call Object (CannotWrite output) = ⊥
+Stops WorldTells held c Call Object (LinkFailed leg) = ⊥
 Stops WorldTells held c Call Object NoMemory = Unit {0}
 
 -- the first input could not be read to its end, for such a cause
@@ -86,6 +96,7 @@ IsUnread Call Object (CannotRead input) = (input ≡ 0) × Object
 IsUnread Call Object (Refused input refusal) = ⊥
 IsUnread Call Object CannotPrint = ⊥
 IsUnread Call Object (CannotWrite output) = ⊥
+IsUnread Call Object (LinkFailed leg) = ⊥
 IsUnread Call Object NoMemory = Unit {0}
 
 -- a refusal at the byte of this fault
@@ -106,6 +117,7 @@ IsOfRecording Source (Refused input (AtLine line kind)) = ⊥
 IsOfRecording Source (Refused input (AfterTurns turns)) = ⊥
 IsOfRecording Source CannotPrint = ⊥
 IsOfRecording Source (CannotWrite output) = ⊥
+IsOfRecording Source (LinkFailed leg) = ⊥
 IsOfRecording Source NoMemory = Unit {0}
 
 -- what it tells of the recording is true

@@ -1,7 +1,9 @@
 pub mod Files
 pub mod Faults
 pub mod Outside
+pub mod Ports
 pub mod Runs
+pub mod Lives
 pub mod Outputs
 pub mod Conferences
 pub mod Makings

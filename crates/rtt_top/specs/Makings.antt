@@ -2,7 +2,7 @@
 use Rattle.std.specs.Prelude.{◌≡◌, ℕ}
 use Rattle.command_spec.specs.declared.faults.Refusal.TheVariants.{AfterTurns}
 use Rattle.command_spec.specs.declared.faults.Fault.{Fault}
-use Rattle.command_spec.specs.declared.faults.Fault.TheVariants.{WrongWords, CannotOpen, CannotRead, Refused, CannotPrint, CannotWrite, NoMemory}
+use Rattle.command_spec.specs.declared.faults.Fault.TheVariants.{WrongWords, CannotOpen, CannotRead, Refused, CannotPrint, CannotWrite, LinkFailed, NoMemory}
 use Rattle.command_spec.specs.Work.{Steps, Refuses}
 use Rattle.bridge_run.specs.declared.mixed.MixFault.{MixFault}
 use Rattle.bridge_run.specs.declared.mixed.MixFault.TheVariants.{Open, Dump, TooLong}
@@ -23,4 +23,5 @@ IsWhy steps (CannotRead input) = ⊥
 IsWhy steps (Refused input refusal) = steps ≡ Refuses input refusal
 IsWhy steps CannotPrint = ⊥
 IsWhy steps (CannotWrite output) = ⊥
+IsWhy steps (LinkFailed leg) = ⊥
 IsWhy steps NoMemory = Unit {0}

@@ -1,7 +1,7 @@
 -- Files that are made for the legs of a conference, and what comes of them where one fails.
 use Rattle.std.specs.Prelude.{◌⊎◌, ℕ, List}
 use Rattle.command_spec.specs.declared.faults.Fault.{Fault}
-use Rattle.command_spec.specs.declared.faults.Fault.TheVariants.{WrongWords, CannotOpen, CannotRead, Refused, CannotPrint, CannotWrite, NoMemory}
+use Rattle.command_spec.specs.declared.faults.Fault.TheVariants.{WrongWords, CannotOpen, CannotRead, Refused, CannotPrint, CannotWrite, LinkFailed, NoMemory}
 use Rattle.command_spec.specs.Work.{Contents, Made, IsNth}
 use Rattle.rtt_top.specs.Runs.{PartlyStored}
 
@@ -14,4 +14,5 @@ IsUnwritten WorldTells Call Object files old new (Refused input refusal) = ⊥
 IsUnwritten WorldTells Call Object files old new CannotPrint = ⊥
 IsUnwritten WorldTells Call Object files old new (CannotWrite output) =
     (name : List ℕ) × IsNth files output name × (Call name ⊎ Object name) × (WorldTells → PartlyStored Call Object output files old new)
+IsUnwritten WorldTells Call Object files old new (LinkFailed leg) = ⊥
 IsUnwritten WorldTells Call Object files old new NoMemory = ⊥

@@ -1,8 +1,10 @@
 -- What lies outside a run at one moment.
-use Rattle.std.specs.Prelude.{ℕ, List}
+use Rattle.std.specs.Prelude.{ℕ, List, []}
 use Rattle.rtt_io.specs.Counts.{Rose}
 use Rattle.rtt_io.specs.declared.sinks.Sink as sinks
 use Rattle.rtt_io.specs.declared.worlds.World as worlds
+use Rattle.link_spec.specs.Links.{Takes}
+use Rattle.link_io.specs.declared.links.Links as links
 use Rattle.command_spec.specs.Work.{Contents}
 
 -- What an output took, and how often it failed.
@@ -10,19 +12,33 @@ pub record Output : Type 0 where
   pub octets : List ℕ
   pub faults : ℕ
 
+-- What links left at their ports: what the takes of an inbound end gave, newest first, and the packets that an outbound end was given,
+-- oldest first; how often a call that opens a port failed, and how often the ends of a port did; and the number of pauses.
+pub record LinksLeft : Type 0 where
+  pub taken : ℕ → Takes
+  pub given : ℕ → List (List ℕ)
+  pub calls : ℕ → ℕ
+  pub ends : ℕ → ℕ
+  pub pauses : ℕ
+
+-- where no link is used
+abbrev pub no_links : LinksLeft
+no_links = record { taken = λ port. []; given = λ port. []; calls = λ port. 0; ends = λ port. 0; pauses = 0 }
+
 -- The octets under each name; how often a call that opens or creates a name failed; how often the sources and sinks of a
--- name failed; and the output.
+-- name failed; the output; and what links left.
 pub record Outside : Type 0 where
   pub contents : Contents
   pub calls : List ℕ → ℕ
   pub objects : List ℕ → ℕ
   pub out : Output
+  pub links : LinksLeft
 
 abbrev pub output : List ℕ → ℕ → Output
 output octets faults = record { octets = octets; faults = faults }
 
 abbrev pub outside : Contents → (List ℕ → ℕ) → (List ℕ → ℕ) → Output → Outside
-outside contents calls objects out = record { contents = contents; calls = calls; objects = objects; out = out }
+outside contents calls objects out = record { contents = contents; calls = calls; objects = objects; out = out; links = no_links }
 
 -- this sink, as an output
 abbrev pub output_at : {K : Type 0} → sinks.Ghosts K → K → Output
@@ -31,6 +47,24 @@ output_at k out = output (k.took out) (k.faults out)
 -- what lies outside, where this is the world and this the output
 abbrev pub outside_at : {W S D K : Type 0} → worlds.Ghosts W S D → sinks.Ghosts K → W → K → Outside
 outside_at w k world out = outside (w.contents world) (w.own_faults world) (w.object_faults world) (output_at k out)
+
+-- what these links left
+abbrev pub left_by : {L I O : Type 0} → links.Ghosts L I O → L → LinksLeft
+left_by l left = record {
+  taken = l.taken_at left;
+  given = l.given_at left;
+  calls = l.own_faults left;
+  ends = l.object_faults left;
+  pauses = l.pauses left;
+}
+
+-- the same, where links left this
+abbrev pub with_links : Outside → LinksLeft → Outside
+with_links o left = record o { links = left }
+
+-- what lies outside, where this is the world, this the output and these the links
+abbrev pub outside_over : {W S D K L I O : Type 0} → worlds.Ghosts W S D → sinks.Ghosts K → links.Ghosts L I O → W → K → L → Outside
+outside_over w k l world out left = with_links (outside_at w k world out) (left_by l left)
 
 -- the count of this name rose
 abbrev pub RoseAt : (List ℕ → ℕ) → (List ℕ → ℕ) → List ℕ → Type 0

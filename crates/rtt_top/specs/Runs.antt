@@ -3,20 +3,21 @@
 use Rattle.std.specs.Prelude.{◌≡◌, ◌⊎◌, ◌<◌, ◌≤◌, ℕ, Bool, true, false, Option, None, Some, List, [], ◌∷◌, ◌++◌, take, Ok, Err, suc, zero, map, String, string_bytes}
 use Rattle.std.specs.Global.{Global}
 use Rattle.rtt_io.specs.Fronts.{TakesFront}
-use Rattle.command_spec.specs.Words.{ReadWords, MixWords, Command, Read, ListRecords, Send, Mix, Make, Relay, Channel, Show, Script, Version, command}
+use Rattle.command_spec.specs.Words.{ReadWords, MixWords, Command, Read, ListRecords, Send, Mix, Make, Live, Relay, Channel, Show, Script, Version, command}
 use Rattle.stream_spec.specs.History.{History, Lawful, Come}
 use Rattle.command_spec.specs.declared.faults.Refusal.TheVariants.{AtByte, AtFrame, AtLine, AfterTurns}
-use Rattle.command_spec.specs.declared.faults.Fault.TheVariants.{WrongWords, CannotOpen, CannotRead, Refused, CannotPrint, CannotWrite, NoMemory}
-use Rattle.command_spec.specs.Work.{Contents, Made, Work, IsInput, IsOutput}
+use Rattle.command_spec.specs.declared.faults.Fault.TheVariants.{WrongWords, CannotOpen, CannotRead, Refused, CannotPrint, CannotWrite, LinkFailed, NoMemory}
+use Rattle.command_spec.specs.Work.{Contents, Made, Work, IsInput, IsOutput, ServesSome}
 use Rattle.command_spec.specs.Outcomes.{Outcome, outcome, IsDone, Same, Stores, AllStored}
 use Rattle.command_spec.specs.Outcomes as outcomes
 use Rattle.command_spec.specs.Bridges.{IsBridged}
 use Rattle.command_spec.specs.Reading.{arrivals_of, history_view}
 use Rattle.command_spec.specs.Commands.{request_of, work}
 use Rattle.command_spec.specs.Messages.{Ending, ending_of, status_of, message_of}
-use Rattle.rtt_top.specs.Faults.{NoneBefore, RefusesSo, WhereRead, has_frames, is_mixed, is_recording}
+use Rattle.rtt_top.specs.Faults.{NoneBefore, RefusesSo, WhereRead, has_frames, is_live, is_mixed, is_recording}
 use Rattle.rtt_top.specs.Files.{IsPartlyStored}
 use Rattle.rtt_top.specs.Outside.{Outside, Output, Failed, CallFailed, ObjectFailed}
+use Rattle.rtt_top.specs.Ports.{LegFailed}
 
 -- what these words ask for, if they are in the word table
 abbrev pub asked_by : List (String Global) → Option Command
@@ -30,6 +31,7 @@ is_plain (Some (ListRecords l)) = true
 is_plain (Some (Send s)) = true
 is_plain (Some (Mix m)) = false
 is_plain (Some (Make m)) = false
+is_plain (Some (Live m)) = false
 is_plain (Some (Relay s)) = true
 is_plain (Some (Channel c)) = true
 is_plain (Some (Show l)) = true
@@ -92,8 +94,13 @@ abbrev pub NoneFailedBefore : ℕ → Command → (WorldTells : Type 0) → Outs
 NoneFailedBefore input c WorldTells old new = (n : ℕ) (name : List ℕ) → n < input → IsInputOf c WorldTells old n name
     → ((later : ℕ) → input ≤ later → IsInputOf c WorldTells old later name → ⊥) → new.objects name ≡ old.objects name
 
--- How a command may end, where the file that is told of has this name, in the order of the statuses: 0, 2, 3, 4, 5, 6, 7 (of
--- the output, then of a file), 9 and 70.
+-- a live call is served, and the link of its leg of this number and name failed
+abbrev pub LinkFailedAt : Work → (WorldTells : Type 0) → Outside → Outside → ℕ → List ℕ → Type 0
+LinkFailedAt w WorldTells old new leg name =
+    ServesSome WorldTells old.contents w.steps (λ conference. LegFailed conference leg name old.links new.links)
+
+-- How a command may end, where the file or the leg that is told of has this name, in the order of the statuses: 0, 2, 3, 4, 5, 6, 7
+-- (of the output, then of a file), 9, 8 and 70.
 abbrev pub Ends : Command → (WorldTells OutTells : Type 0) → Outside → Outside → List ℕ → Ending → Type 0
 Ends c WorldTells OutTells old new name (Ok done) =
     IsAllMade c WorldTells old new (λ printed. OutTells → Prints printed old new)
@@ -128,12 +135,16 @@ Ends c WorldTells OutTells old new name (Err (Refused input (AfterTurns turns)))
     × (WhereRead (work c).steps WorldTells → outcome_of c old ≡ outcomes.Refused input (AfterTurns turns))
     × NoneFailed old new
     × Unchanged WorldTells OutTells old new
+Ends c WorldTells OutTells old new name (Err (LinkFailed leg)) = (is_live c ≡ true)
+    × LinkFailedAt (work c) WorldTells old new leg name
+    × Unchanged WorldTells OutTells old new
 Ends c WorldTells OutTells old new name (Err NoMemory) = Unchanged WorldTells OutTells old new
 
--- no count rose at a name that the command uses, nor, where it prints, that of the output
+-- no count rose at a name or a link that the command uses, nor, where it prints, that of the output
 pub record IsCalm (w : Work) (WorldTells : Type 0) (old new : Outside) : Type 0 where
   pub inputs : (n : ℕ) (name : List ℕ) → IsInput WorldTells old.contents w.steps n name → FailedAt old new name → ⊥
   pub outputs : (n : ℕ) (name : List ℕ) → IsOutput WorldTells old.contents w.steps n name → FailedAt old new name → ⊥
+  pub links : (leg : ℕ) (name : List ℕ) → LinkFailedAt w WorldTells old new leg name → ⊥
   pub output : w.prints ≡ true → Failed old.out new.out → ⊥
 
 -- it ends as its outcome says, or memory ran out

@@ -1,6 +1,6 @@
 -- The statuses with which each command can end.
 use Rattle.std.specs.Prelude.{◌≡◌, ◌==◌, ◌||◌, ℕ, Bool, true, Some}
-use Rattle.command_spec.specs.Words.{Command, Read, ListRecords, Send, Mix, Make, Relay, Channel, Show, Script, Version}
+use Rattle.command_spec.specs.Words.{Command, Read, ListRecords, Send, Mix, Make, Live, Relay, Channel, Show, Script, Version}
 use Rattle.rtt_top.specs.Outside.{Outside, Output}
 use Rattle.rtt_top.specs.Runs.{Runs}
 
@@ -12,13 +12,14 @@ is_always status = status == 0 || status == 7 || status == 70
 abbrev pub is_unread : ℕ → Bool
 is_unread status = status == 3 || status == 4
 
--- 5: a line of a script or a conference is refused; 6: a recording or frames are; 9: a conference was not over
+-- 5: a line of a script or a conference is refused; 6: a recording or frames are; 8: a link failed; 9: a conference was not over
 abbrev pub can_end : Command → ℕ → Bool
 can_end (Read r) status = is_always status || is_unread status || status == 6
 can_end (ListRecords l) status = is_always status || is_unread status || status == 6
 can_end (Send s) status = is_always status || is_unread status || status == 5
 can_end (Mix m) status = is_always status || is_unread status || status == 5 || status == 6 || status == 9
 can_end (Make m) status = is_always status || status == 9
+can_end (Live m) status = is_always status || is_unread status || status == 5 || status == 8
 can_end (Relay s) status = is_always status || is_unread status || status == 6
 can_end (Channel c) status = is_always status || is_unread status || status == 6
 can_end (Show l) status = is_always status || is_unread status || status == 6

@@ -3,12 +3,12 @@ use Rattle.std.specs.Prelude.{◌≡◌, ◌⊎◌, ℕ, None, Some, List, [], �
 use Rattle.rtt_io.specs.declared.worlds.World as worlds
 use Rattle.conference.specs.declared.confs.Conf.{Conf}
 use Rattle.conference.specs.Conferences.{conf_of}
-use Rattle.file_spec.specs.declared.conf_lines.Form.TheVariants.{Files}
+use Rattle.file_spec.specs.declared.conf_lines.Form.{Form}
 use Rattle.file_spec.specs.declared.conf_lines.LegLine.{LegLine}
 use Rattle.file_spec.specs.Conf.{conf}
 use Rattle.file_spec.specs.Script.{ScriptLine, script}
 use Rattle.command_spec.specs.declared.faults.Fault.{Fault}
-use Rattle.command_spec.specs.Words.{SendWords, ChannelWords, Command, Read, ListRecords, Send, Mix, Make, Relay, Channel, Show, Script, Version}
+use Rattle.command_spec.specs.Words.{SendWords, ChannelWords, Command, Read, ListRecords, Send, Mix, Make, Live, Relay, Channel, Show, Script, Version}
 use Rattle.command_spec.specs.Work.{Makes}
 use Rattle.command_spec.specs.Commands.{sending_of, sends, work}
 use Rattle.command_spec.specs.Frames.{channel, relay}
@@ -31,6 +31,7 @@ first_file (ListRecords l) = l.file
 first_file (Send s) = s.file
 first_file (Mix m) = m.conf
 first_file (Make m) = []
+first_file (Live m) = m.conf
 first_file (Relay s) = s.file
 first_file (Channel c) = c.file
 first_file (Show l) = l.file
@@ -65,9 +66,9 @@ module _ {W S D : Type 0} (w : worlds.Ghosts W S D) where
   abbrev pub OfOctets : W → List ℕ → (List ℕ → Type 0) → Type 0
   OfOctets world name P = (octets : List ℕ) × (w.tells → w.contents world name ≡ Some octets) × P octets
 
-  -- this conference is read under this name
-  abbrev pub ReadsConference : W → List ℕ → Conf → Type 0
-  ReadsConference world name c = OfOctets world name (λ octets. conf Files octets ≡ Ok (conf_of c))
+  -- this conference, whose file has this form, is read under this name
+  abbrev pub ReadsConference : Form → W → List ℕ → Conf → Type 0
+  ReadsConference form world name c = OfOctets world name (λ octets. conf form octets ≡ Ok (conf_of c))
 
   -- these lines of a script are read under this name
   abbrev pub ReadsScript : W → List ℕ → List ScriptLine → Type 0

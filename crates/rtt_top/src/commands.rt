@@ -1,11 +1,14 @@
 //! Which command is asked for: it is carried out, and its status answered.
-ghost use Rattle.std.specs.Prelude.{◌≡◌, None, Some, is_some, IfSome};
+ghost use Rattle.std.specs.Prelude.{◌≡◌, false, None, Some, is_some, IfSome};
 ghost use Rattle.rtt_words.specs.Commands.{meaning};
-ghost use Rattle.rtt_top.specs.Outside.{outside_at, output_at};
+ghost use Rattle.rtt_top.specs.Faults.{is_live};
+ghost use Rattle.rtt_top.specs.Lives.{RunsLive};
+ghost use Rattle.rtt_top.specs.Outside.{outside_at, outside_over, output_at};
 ghost use Rattle.rtt_top.specs.Runs.{is_plain, Runs};
 
 use crate::channel::run_channel;
 use crate::list::run_list;
+use crate::live::run_live;
 use crate::make::run_make;
 use crate::mix::run_mix;
 use crate::read::run_read;
@@ -14,6 +17,7 @@ use crate::script::run_script;
 use crate::send::run_send;
 use crate::show::run_show;
 use crate::version::run_version;
+use link_io::Links;
 use rtt_io::{Gate, Sink, World};
 use rtt_words::Command;
 use std::alloc::Global;
@@ -43,12 +47,12 @@ pub fn carry_out_plain<W: World, K: Sink, E: Sink>(
         Command::Show(words) => Some(run_show(alloc, words, world, out, err)),
         Command::Script(words) => Some(run_script(alloc, words, world, out, err)),
         Command::Version => Some(run_version(world, out, err)),
-        Command::Mix(_) | Command::Make(_) => None,
+        Command::Mix(_) | Command::Make(_) | Command::Live(_) => None,
     }
 }
 
-/// Does what is asked for, and answers the status.
-pub fn carry_out<R: Threads + Wait + Sync, W: World, K: Sink, E: Sink, G: Gate + Sync>(
+/// Does what is asked for with files alone, and answers the status.
+fn carry_out_files<R: Threads + Wait + Sync, W: World, K: Sink, E: Sink, G: Gate + Sync>(
     rt: &R,
     alloc: Global,
     command: &Command<'_>,
@@ -57,6 +61,7 @@ pub fn carry_out<R: Threads + Wait + Sync, W: World, K: Sink, E: Sink, G: Gate +
     err: &mut E,
     gate: &G,
 ) -> u8
+    requires { is_live (meaning command.now) ≡ false }
     ensures { Runs (Some (meaning command.now)) W.tells K.tells E.tells
         (outside_at W.World K.Sink world.old out.old) (outside_at W.World K.Sink world.new out.new)
         (output_at E.Sink err.old) (output_at E.Sink err.new) result }
@@ -67,6 +72,7 @@ pub fn carry_out<R: Threads + Wait + Sync, W: World, K: Sink, E: Sink, G: Gate +
     match command {
         Command::Mix(words) => run_mix(rt, alloc, words, world, out, err, gate),
         Command::Make(words) => run_make(rt, alloc, words.number, world, out, err, gate),
+        Command::Live(_) => unreachable!(),
         Command::Read(_)
         | Command::ListRecords(_)
         | Command::Send(_)
@@ -75,5 +81,28 @@ pub fn carry_out<R: Threads + Wait + Sync, W: World, K: Sink, E: Sink, G: Gate +
         | Command::Show(_)
         | Command::Script(_)
         | Command::Version => unreachable!(),
+    }
+}
+
+/// Does what is asked for, and answers the status.
+pub fn carry_out<R: Threads + Wait + Sync, W: World, L: Links, K: Sink, E: Sink, G: Gate + Sync>(
+    rt: &R,
+    alloc: Global,
+    command: &Command<'_>,
+    world: &mut W,
+    links: &mut L,
+    out: &mut K,
+    err: &mut E,
+    gate: &G,
+) -> u8
+    ensures runs { Runs (Some (meaning command.now)) W.tells K.tells E.tells
+        (outside_over W.World K.Sink L.Links world.old out.old links.old) (outside_over W.World K.Sink L.Links world.new out.new links.new)
+        (output_at E.Sink err.old) (output_at E.Sink err.new) result }
+    ensures live { RunsLive (Some (meaning command.now)) W.tells K.tells L.tells
+        (outside_over W.World K.Sink L.Links world.old out.old links.old) (outside_over W.World K.Sink L.Links world.new out.new links.new) result }
+{
+    match command {
+        Command::Live(words) => run_live(rt, alloc, words, world, links, out, err, gate),
+        _ => carry_out_files(rt, alloc, command, world, out, err, gate),
     }
 }

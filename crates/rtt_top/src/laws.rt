@@ -14,8 +14,8 @@ pub fn sent_files_are_histories()
 {}
 
 /// Whatever the world and the outputs tell, a command ends with no other status than those that it has: `send` with no 6 or
-/// 9, `make` with 0, 7, 9 or 70 alone, `version` with 0, 7 or 70 alone, `mix` with any but 2, and each other one with no 5
-/// or 9. None ends with 2.
+/// 9, `make` with 0, 7, 9 or 70 alone, `version` with 0, 7 or 70 alone, `mix` with any but 2 and 8, `live` with no 6 or 9, and
+/// each other one with no 5, 8 or 9. None ends with 2.
 pub fn statuses_are_those_of_the_command<W: World, K: Sink, E: Sink>()
     ensures { EndsAsItCan W.tells K.tells E.tells }
 {}

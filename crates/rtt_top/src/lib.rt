@@ -3,9 +3,11 @@
 
 mod channel;
 mod commands;
+mod conferences;
 mod files;
 pub mod laws;
 mod list;
+mod live;
 mod make;
 mod messages;
 mod mix;
@@ -20,6 +22,10 @@ mod version;
 
 pub use runs::{run, run_plain};
 
+#[cfg(test)]
+mod failing;
+#[cfg(test)]
+mod hostile;
 #[cfg(test)]
 mod plays;
 #[cfg(test)]

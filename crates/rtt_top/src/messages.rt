@@ -35,6 +35,7 @@ pub fn status(fault: Fault) -> u8
         Fault::CannotRead { .. } => 4,
         Fault::Refused { refusal, .. } => refusal_status(refusal),
         Fault::CannotPrint | Fault::CannotWrite { .. } => 7,
+        Fault::LinkFailed { .. } => 8,
         Fault::NoMemory => 70,
     }
 }
@@ -101,7 +102,7 @@ fn write_two<E: Sink>(err: &mut E, first: &[u8], second: &[u8]) -> Result<(), Fa
     err.write_all(second)
 }
 
-/// Writes what went wrong with a file.
+/// Writes what went wrong with a file or a leg.
 #[tactic(auto, using(crate::proofs::Counts::rose_since, crate::proofs::Counts::rose_before))]
 fn write_trouble<E: Sink>(err: &mut E, what: &[u8], name: &[u8]) -> Result<(), Failed>
     ensures never_falls { E.faults err.old ≤ E.faults err.new }
@@ -183,6 +184,7 @@ usage: rtt_program read FILE SSRC [SOURCE [T140 RED]]
        rtt_program send SCRIPT OUT SSRC SEQ STAMP
        rtt_program mix CONF
        rtt_program make N
+       rtt_program live CONF
        rtt_program relay FRAMES OUT SSRC SEQ STAMP
        rtt_program channel FILE SSRC OUT
        rtt_program show FILE [T140 RED]
@@ -207,7 +209,7 @@ fn write_refusal<E: Sink>(err: &mut E, name: &[u8], refusal: Refusal) -> Result<
     }
 }
 
-/// Writes what is told of a fault whose file has this name.
+/// Writes what is told of a fault whose file or leg has this name.
 fn write_message<E: Sink>(err: &mut E, name: &[u8], fault: Fault) -> Result<(), Failed>
     ensures never_falls { E.faults err.old ≤ E.faults err.new }
     ensures failed { OnErr result (Rose (E.faults err.old) (E.faults err.new)) }
@@ -221,6 +223,7 @@ fn write_message<E: Sink>(err: &mut E, name: &[u8], fault: Fault) -> Result<(), 
         Fault::Refused { refusal, .. } => write_refusal(err, name, refusal),
         Fault::CannotPrint => err.write_all(b"cannot write the output\n"),
         Fault::CannotWrite { .. } => write_trouble(err, b"cannot write ", name),
+        Fault::LinkFailed { .. } => write_trouble(err, b"link fault at leg ", name),
         Fault::NoMemory => err.write_all(b"out of memory\n"),
     }
 }
@@ -233,7 +236,7 @@ pub fn tell<E: Sink>(err: &mut E, name: &str, fault: Fault)
     let _ = write_message(err, name.as_bytes(), fault);
 }
 
-/// Tells how a command ended, where the file that is told of has this name, and answers the status.
+/// Tells how a command ended, where the file or the leg that is told of has this name, and answers the status.
 pub(crate) fn finish_with<E: Sink>(ending: Result<(), Fault>, name: &str, err: &mut E) -> u8
     ensures status { result ≡ status_of ending }
     ensures silent { ending ≡ Ok tt → E.took err.new ≡ E.took err.old }

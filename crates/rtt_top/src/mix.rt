@@ -1,50 +1,28 @@
 //! `mix`: the conference of a file is read and mixed, its outputs are written, and what is seen is printed.
-ghost use Rattle.std.specs.Prelude.{◌≡◌, ◌≤◌, length, Some, OnOk, IfOk, IfErr};
-ghost use Rattle.rtt_io.specs.Names.{NoneFalls, Same as KeepsCounts};
+ghost use Rattle.std.specs.Prelude.{◌≡◌, ◌≤◌, length, Some, OnOk, IfErr};
+ghost use Rattle.rtt_io.specs.Names.{NoneFalls};
 ghost use Rattle.conference.specs.Conferences.{conf_of};
-ghost use Rattle.mixer_spec.specs.Setups.{leg_at};
-ghost use Rattle.command_spec.specs.Outcomes.{Same};
 ghost use Rattle.command_spec.specs.Words.{Mix};
 ghost use Rattle.rtt_words.specs.Commands.{mixed};
-ghost use Rattle.rtt_top.specs.Conferences.{MixingEnds, ending_name, fault_name, fault_of_mixing, input_name, output_of};
+ghost use Rattle.rtt_top.specs.Conferences.{MixingEnds, fault_of_mixing};
 ghost use Rattle.rtt_top.specs.Outside.{outside_at, output_at};
 ghost use Rattle.rtt_top.specs.Runs.{Runs};
-ghost use Rattle.rtt_top.specs.Worlds.{StopsIn, ReadsConference, SavesEach, IsUnwrittenIn};
+ghost use Rattle.rtt_top.specs.Worlds.{SavesEach, IsUnwrittenIn};
 ghost use Rattle.file_spec.specs.declared.limits.TheConstants.{MOST_LEGS};
 
-use crate::files::{fault_of_dump, read_input, refused_line, save_output};
+use crate::conferences::{conf_under, name_at_end};
+use crate::files::{fault_of_dump, save_output};
 use crate::messages::{finish_with, print};
 use bridge_run::{MixFault, mix};
 use command_spec::{Fault, Refusal};
-use conf_text::{ConfFault, Form, read_conf};
+use conf_text::Form;
 use conference::{Conf, LegLine};
-use file_spec::limits::MOST_CONF_OCTETS;
 use rtt_base::Bytes;
 use rtt_io::{Gate, Sink, World};
 use rtt_words::MixWords;
 use std::alloc::Global;
 use std::sync::Wait;
 use std::thread::Threads;
-
-/// The conference that lies under this name.
-fn conf_under<W: World>(alloc: Global, name: &str, world: &mut W) -> Result<Conf, Fault>
-    ensures stops { IfErr result (StopsIn W.World world.old world.new (Mix (record { conf = name.now }))) }
-    ensures read { IfOk result (ReadsConference W.World world.old name.now) }
-    ensures same_contents { W.tells → Same (W.contents world.old) (W.contents world.new) }
-    ensures calm { OnOk result (KeepsCounts W.object_faults world.old world.new) }
-    ensures calls_never_fall { NoneFalls W.own_faults world.old world.new }
-    ensures objects_never_fall { NoneFalls W.object_faults world.old world.new }
-{
-    let octets = match read_input(alloc, name, MOST_CONF_OCTETS, world) {
-        Ok(octets) => octets,
-        Err(fault) => return Err(fault),
-    };
-    match read_conf(alloc, octets.as_slice(), Form::Files) {
-        Ok(conf) => Ok(conf),
-        Err(ConfFault::Refused { line, kind }) => Err(refused_line(line, kind)),
-        Err(ConfFault::NoMemory) => Err(Fault::NoMemory),
-    }
-}
 
 /// The fault of a command for that of a mixing of at most so many turns.
 fn fault_of_mixing(turns: u32, fault: MixFault) -> Fault
@@ -60,56 +38,6 @@ fn fault_of_mixing(turns: u32, fault: MixFault) -> Fault
             refusal: Refusal::AfterTurns { turns },
         },
         MixFault::NoMemory => Fault::NoMemory,
-    }
-}
-
-/// The name of the input of this number: the conference is the first one, then each leg has one.
-fn input_name<'a>(file: &'a str, legs: &'a [LegLine], input: u32) -> &'a str
-    ensures { result.now ≡ input_name file.now legs.now input }
-{
-    let number = input as usize;
-    if number == 0 {
-        return file;
-    }
-    if legs.len() < number {
-        return file;
-    }
-    let leg = &legs[number - 1];
-    leg.input.as_str()
-}
-
-/// The name of the output of this number.
-fn output_name<'a>(file: &'a str, legs: &'a [LegLine], output: u32) -> &'a str
-    ensures { result.now ≡ output_of file.now (leg_at legs.now output) }
-{
-    let number = output as usize;
-    if legs.len() <= number {
-        return file;
-    }
-    let leg = &legs[number];
-    leg.output.as_str()
-}
-
-/// The name of the file of a fault.
-fn fault_name<'a>(fault: Fault, file: &'a str, legs: &'a [LegLine]) -> &'a str
-    ensures { result.now ≡ fault_name file.now legs.now fault }
-{
-    match fault {
-        Fault::CannotOpen { input }
-        | Fault::CannotRead { input }
-        | Fault::Refused { input, refusal: _ } => input_name(file, legs, input),
-        Fault::CannotWrite { output } => output_name(file, legs, output),
-        Fault::WrongWords | Fault::CannotPrint | Fault::NoMemory => file,
-    }
-}
-
-/// The name of the file that is told of where a mixing ends so.
-fn name_at_end<'a>(ending: Result<(), Fault>, file: &'a str, legs: &'a [LegLine]) -> &'a str
-    ensures { result.now ≡ ending_name file.now legs.now ending }
-{
-    match ending {
-        Ok(()) => file,
-        Err(fault) => fault_name(fault, file, legs),
     }
 }
 
@@ -171,7 +99,7 @@ pub fn run_mix<R: Threads + Wait + Sync, W: World, K: Sink, E: Sink, G: Gate + S
         (outside_at W.World K.Sink world.old out.old) (outside_at W.World K.Sink world.new out.new)
         (output_at E.Sink err.old) (output_at E.Sink err.new) result }
 {
-    let conf = match conf_under(alloc, words.conf, world) {
+    let conf = match conf_under(alloc, words.conf, Form::Files, world) {
         Ok(conf) => conf,
         Err(fault) => return finish_with(Err(fault), words.conf, err),
     };

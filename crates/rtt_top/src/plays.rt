@@ -1,5 +1,6 @@
 //! Runs over files in memory, and what each has to leave.
 use crate::run;
+use link_io::{Came, FailingLink, MemLinks, Planned};
 use rtt_base::{Bytes, NoMemory, Path};
 use rtt_io::{MemSink, MemWorld, StillGate};
 use std::alloc::Global;
@@ -43,6 +44,28 @@ leg Ann aware 1001 ann.rtp to-ann.rtp
 leg Bob aware 1002 bob.rtp to-bob.rtp
 leg Cy unaware 1003 cy.rtp to-cy.rtp
 ";
+
+/// What a take of a link gives: its moment, what came, and the octets of a datagram.
+#[derive(Clone, Copy)]
+pub struct Coming<'a>(pub u32, pub Came, pub &'a [u8]);
+
+/// What the links of Ann and of Bob give, which call of a link is to fail, how many turns are made, and the status, output
+/// and error of the call.
+#[derive(Clone, Copy)]
+pub struct Live<'a> {
+    pub ann: &'a [Coming<'a>],
+    pub bob: &'a [Coming<'a>],
+    pub failing: Option<FailingLink>,
+    pub turns: &'a str,
+    pub status: u8,
+    pub out: &'a str,
+    pub err: &'a str,
+}
+
+const LINKS: &[u8] = b"mixer 9000 0 0
+leg Ann aware 1001 5001 127.0.0.1:5101
+leg Bob aware 1002 5002 127.0.0.1:5102
+turns ";
 
 /// What a run left: its status, and what it wrote.
 #[derive(Drop)]
@@ -104,12 +127,13 @@ pub fn recording_of(alloc: Global, pieces: &[Piece<'_>]) -> Result<Bytes, NoMemo
     Ok(recording)
 }
 
-fn sink(alloc: Global) -> Result<MemSink, NoMemory> {
+/// An empty sink.
+pub fn sink(alloc: Global) -> Result<MemSink, NoMemory> {
     Ok(MemSink::new(alloc, Path::from_text(alloc, "")?))
 }
 
-// The words, separated by spaces.
-fn words(alloc: Global, text: &str) -> Result<Vec<String>, Fail> {
+/// The words, separated by spaces.
+pub fn words(alloc: Global, text: &str) -> Result<Vec<String>, Fail> {
     let mut words = Vec::new(alloc);
     for word in text.split(' ') {
         words.push(String::from_str(alloc, word)?)?;
@@ -121,6 +145,7 @@ fn play<R: Threads + Wait + Sync>(
     rt: &R,
     alloc: Global,
     world: &mut MemWorld,
+    links: &mut MemLinks,
     text: &str,
 ) -> Result<Ran, Fail> {
     let words = words(alloc, text)?;
@@ -131,6 +156,7 @@ fn play<R: Threads + Wait + Sync>(
         alloc,
         words.as_slice(),
         world,
+        links,
         &mut out,
         &mut err,
         &StillGate,
@@ -148,7 +174,8 @@ pub fn ends<R: Threads + Wait + Sync>(
     out: &[u8],
     err: &[u8],
 ) -> Result<bool, Fail> {
-    let ran = play(rt, alloc, world, text)?;
+    let mut links = MemLinks::new(alloc);
+    let ran = play(rt, alloc, world, &mut links, text)?;
     Ok(ran.status == status && ran.out.taken() == out && ran.err.taken() == err)
 }
 
@@ -297,6 +324,72 @@ pub fn mixings_printed<R: Threads + Wait + Sync>(
                 return Ok(0);
             }
             let more = mixings_printed(rt, alloc, rest)?;
+            Ok(more.saturating_add(1))
+        }
+        [] => Ok(0),
+    }
+}
+
+/// Plans what comes at a port.
+fn plan(
+    links: &mut MemLinks,
+    alloc: Global,
+    port: u16,
+    comings: &[Coming<'_>],
+) -> Result<(), NoMemory> {
+    match comings {
+        [first, rest @ ..] => {
+            let mut octets = Bytes::new(alloc);
+            octets.append(first.2)?;
+            let planned = Planned {
+                at: first.0,
+                came: first.1,
+                octets,
+            };
+            links.plan(port, planned)?;
+            plan(links, alloc, port, rest)
+        }
+        [] => Ok(()),
+    }
+}
+
+/// The links of a live call.
+fn links_of(alloc: Global, live: &Live<'_>) -> Result<MemLinks, NoMemory> {
+    let mut links = MemLinks::new(alloc);
+    plan(&mut links, alloc, 5001, live.ann)?;
+    plan(&mut links, alloc, 5002, live.bob)?;
+    if let Some(failing) = live.failing {
+        links.fail(failing)?;
+    }
+    Ok(links)
+}
+
+/// Whether a live call ends so.
+fn is_live<R: Threads + Wait + Sync>(rt: &R, alloc: Global, live: &Live<'_>) -> Result<bool, Fail> {
+    let mut conf = Bytes::new(alloc);
+    conf.append(LINKS)?;
+    conf.append(live.turns.as_bytes())?;
+    conf.append(b"\n")?;
+    let mut world = MemWorld::new(alloc);
+    world.add_file("c.txt", conf.as_slice())?;
+    let mut links = links_of(alloc, live)?;
+    let ran = play(rt, alloc, &mut world, &mut links, "live c.txt")?;
+    let is_told = ran.out.taken() == live.out.as_bytes() && ran.err.taken() == live.err.as_bytes();
+    Ok(ran.status == live.status && is_told)
+}
+
+/// How many of these end as they are to, before the first that does not.
+pub fn lives_ended<R: Threads + Wait + Sync>(
+    rt: &R,
+    alloc: Global,
+    lives: &[Live<'_>],
+) -> Result<usize, Fail> {
+    match lives {
+        [first, rest @ ..] => {
+            if !is_live(rt, alloc, first)? {
+                return Ok(0);
+            }
+            let more = lives_ended(rt, alloc, rest)?;
             Ok(more.saturating_add(1))
         }
         [] => Ok(0),

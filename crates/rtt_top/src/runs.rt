@@ -1,11 +1,13 @@
 //! One run of the program.
 ghost use Rattle.std.specs.Prelude.{◌≡◌, None, true, false, IsSome, IfSome};
-ghost use Rattle.rtt_top.specs.Outside.{outside_at, output_at};
+ghost use Rattle.rtt_top.specs.Lives.{RunsLive};
+ghost use Rattle.rtt_top.specs.Outside.{outside_at, outside_over, output_at};
 ghost use Rattle.rtt_top.specs.Runs.{asked_by, is_plain, Runs};
 
 use crate::commands::{carry_out, carry_out_plain};
 use crate::messages::finish;
 use command_spec::Fault;
+use link_io::Links;
 use rtt_io::{Gate, Sink, World};
 use rtt_words::{WordFault, command_of};
 use std::alloc::Global;
@@ -40,21 +42,25 @@ pub fn run_plain<W: World, K: Sink, E: Sink>(
 
 /// Runs one command and answers the program's status. `words` are the words after the program's name. `Runs` has what
 /// a run is, a clause a line: by what the words ask for, what lay outside before and lies there after, and the status.
-pub fn run<R: Threads + Wait + Sync, W: World, K: Sink, E: Sink, G: Gate + Sync>(
+/// `RunsLive` has what a live call is that was served to its end.
+pub fn run<R: Threads + Wait + Sync, W: World, L: Links, K: Sink, E: Sink, G: Gate + Sync>(
     rt: &R,
     alloc: Global,
     words: &[String],
     world: &mut W,
+    links: &mut L,
     out: &mut K,
     err: &mut E,
     gate: &G,
 ) -> u8
-    ensures { Runs (asked_by words.now) W.tells K.tells E.tells
-        (outside_at W.World K.Sink world.old out.old) (outside_at W.World K.Sink world.new out.new)
+    ensures runs { Runs (asked_by words.now) W.tells K.tells E.tells
+        (outside_over W.World K.Sink L.Links world.old out.old links.old) (outside_over W.World K.Sink L.Links world.new out.new links.new)
         (output_at E.Sink err.old) (output_at E.Sink err.new) result }
+    ensures live { RunsLive (asked_by words.now) W.tells K.tells L.tells
+        (outside_over W.World K.Sink L.Links world.old out.old links.old) (outside_over W.World K.Sink L.Links world.new out.new links.new) result }
 {
     match command_of(alloc, words) {
-        Ok(command) => carry_out(rt, alloc, &command, world, out, err, gate),
+        Ok(command) => carry_out(rt, alloc, &command, world, links, out, err, gate),
         Err(WordFault::Wrong) => finish(Err(Fault::WrongWords), "", "", err),
         Err(WordFault::NoMemory) => finish(Err(Fault::NoMemory), "", "", err),
     }

@@ -1,8 +1,10 @@
 use crate::plays::Piece::{Octets, Packet, Plain};
 use crate::plays::{
-    Call, Failure, Mixing, OPENING, Piece, View, calls_shown, eight_times, ends, failures_told,
-    holds, is_relayed, is_sent, mixings_printed, recording_of, twice, views_seen,
+    Call, Coming, Failure, Live, Mixing, OPENING, Piece, View, calls_shown, eight_times, ends,
+    failures_told, holds, is_relayed, is_sent, lives_ended, mixings_printed, recording_of, twice,
+    views_seen,
 };
+use link_io::{Came, FailingLink};
 use rtt_base::{Bytes, NoMemory, Path};
 use rtt_io::{FailingCall, FailingWrite, MemWorld};
 use std::alloc::Global;
@@ -28,7 +30,7 @@ const B_AGAIN: &[u8] =
 
 const B_LAST: &[u8] = b"\x80\x64\0\x03\0\0\x03\x84\0\0\x03\xE9\xE2\x09\x60\x01\xE2\x04\xB0\0\x62B";
 
-const TWO_LETTERS: [Piece<'static>; 4] = [
+pub const TWO_LETTERS: [Piece<'static>; 4] = [
     Packet(0, A),
     Packet(300, B),
     Packet(600, B_AGAIN),
@@ -65,18 +67,6 @@ const LATE: [Piece<'static>; 3] = [
     Plain(0, 10, 0, b"A"),
     Plain(300, 12, 600, b"C"),
     Plain(1300, 11, 300, b"B"),
-];
-
-const FAR_BEFORE: [Piece<'static>; 2] = [Plain(0, 0, 0, b"a"), Plain(10, 40000, 10, b"b")];
-
-const HALF_ROUND: [Piece<'static>; 2] = [Plain(0, 0, 0, b"a"), Plain(10, 32768, 10, b"b")];
-
-const FAR_BEHIND: [Piece<'static>; 2] = [Plain(0, 0, 0, b"a"), Plain(10, 32767, 10, b"b")];
-
-const FALLING: [Piece<'static>; 3] = [
-    Plain(5000, 10, 0, b"A"),
-    Plain(100, 12, 600, b"C"),
-    Plain(0, 11, 300, b"B"),
 ];
 
 const ERASURES: [Piece<'static>; 3] = [
@@ -133,7 +123,7 @@ const SENT_AGAIN: &[u8] =
 const SENT_LAST: &[u8] =
     b"\0\x25\0\x1D\0\0\x04\xB0\x81\x64\0\x68\0\0\x18\x38\0\0\x23\x28\0\0\x03\xE9\xE2\x09\x60\x04\xE2\x04\xB0\0\x62y\xE2\x80\xA8";
 
-const MIXED: [Piece<'static>; 5] = [
+pub const MIXED: [Piece<'static>; 5] = [
     Octets(SENT_H),
     Octets(SENT_E),
     Octets(SENT_Y),
@@ -149,7 +139,7 @@ const MIXED_LOST: [Piece<'static>; 4] = [
     Octets(SENT_LAST),
 ];
 
-const VIEWS: [View<'static>; 30] = [
+const VIEWS: [View<'static>; 26] = [
     // two lost packets leave no marker, and three leave one
     View(
         &TWO_LETTERS,
@@ -200,28 +190,6 @@ const VIEWS: [View<'static>; 30] = [
         &LATE,
         "read a.rtp 1001",
         "| A\u{fffd}C\n-- bells 0\n-- packets 3 used 2 refused 0 foreign 0\n",
-    ),
-    // numbers far away are told apart
-    View(
-        &FAR_BEFORE,
-        "read a.rtp 1001",
-        "| a\n-- bells 0\n-- packets 2 used 1 refused 0 foreign 0\n",
-    ),
-    View(
-        &HALF_ROUND,
-        "read a.rtp 1001",
-        "| a\n-- bells 0\n-- packets 2 used 1 refused 0 foreign 0\n",
-    ),
-    View(
-        &FAR_BEHIND,
-        "read a.rtp 1001",
-        "| a\u{fffd}b\n-- bells 0\n-- packets 2 used 2 refused 0 foreign 0\n",
-    ),
-    // the time of arrivals never falls
-    View(
-        &FALLING,
-        "read a.rtp 1001",
-        "| ABC\n-- bells 0\n-- packets 3 used 3 refused 0 foreign 0\n",
     ),
     // erasures and new lines reach over packets
     View(
@@ -325,6 +293,7 @@ usage: rtt_program read FILE SSRC [SOURCE [T140 RED]]
 \x20      rtt_program send SCRIPT OUT SSRC SEQ STAMP
 \x20      rtt_program mix CONF
 \x20      rtt_program make N
+\x20      rtt_program live CONF
 \x20      rtt_program relay FRAMES OUT SSRC SEQ STAMP
 \x20      rtt_program channel FILE SSRC OUT
 \x20      rtt_program show FILE [T140 RED]
@@ -407,7 +376,7 @@ fn add_beyond(world: &mut MemWorld, alloc: Global) -> Result<(), Fail> {
 }
 
 // A at 0 and B at 300.
-const FRAMES: &[u8] = b"\0\0\0\0\0\x01A\0\0\x01\x2C\0\x01B";
+pub const FRAMES: &[u8] = b"\0\0\0\0\0\x01A\0\0\x01\x2C\0\x01B";
 
 // Frames of which the last is cut, and one without text.
 fn add_frames(world: &mut MemWorld) -> Result<(), Fail> {
@@ -629,5 +598,108 @@ fn characters_of_long_lines_are_not_cut(rt: HostRuntime) -> Result<(), Fail> {
     view.append(signs.as_slice())?;
     view.append(b"\n-- bells 0\n-- packets 4 used 4 refused 0 foreign 0\n")?;
     assert!(rt; is_sent(&rt, rt.alloc(), script.as_slice(), view.as_slice())?);
+    Ok(())
+}
+
+const AN_A: Coming<'static> = Coming(0, Came::Datagram, A);
+
+const CLOSED: Coming<'static> = Coming(0, Came::Closed, b"");
+
+const LIVES: [Live<'static>; 6] = [
+    // All links are closed: Bob is sent the A and both repeats.
+    Live {
+        ann: &[AN_A, CLOSED],
+        bob: &[CLOSED],
+        failing: None,
+        turns: "100",
+        status: 0,
+        out: "\
+== Ann aware
+Bob:\x20
+-- Bob bells 0
+-- packets 0 used 0 refused 0 foreign 0
+== Bob aware
+Ann: A
+-- Ann bells 0
+-- packets 3 used 3 refused 0 foreign 0
+-- live closed
+",
+        err: "",
+    },
+    // Nothing comes, for one turn.
+    Live {
+        ann: &[],
+        bob: &[],
+        failing: None,
+        turns: "1",
+        status: 0,
+        out: "\
+== Ann aware
+Bob:\x20
+-- Bob bells 0
+-- packets 0 used 0 refused 0 foreign 0
+== Bob aware
+Ann:\x20
+-- Ann bells 0
+-- packets 0 used 0 refused 0 foreign 0
+-- live done
+",
+        err: "",
+    },
+    // An A comes before the only turn.
+    Live {
+        ann: &[AN_A],
+        bob: &[],
+        failing: None,
+        turns: "1",
+        status: 0,
+        out: "\
+== Ann aware
+Bob:\x20
+-- Bob bells 0
+-- packets 0 used 0 refused 0 foreign 0
+== Bob aware
+Ann: A
+-- Ann bells 0
+-- packets 1 used 1 refused 0 foreign 0
+-- live done
+",
+        err: "",
+    },
+    // Bob's link can't be opened.
+    Live {
+        ann: &[],
+        bob: &[],
+        failing: Some(FailingLink::Link(5002)),
+        turns: "2",
+        status: 8,
+        out: "",
+        err: "link fault at leg Bob\n",
+    },
+    // Bob's first take fails.
+    Live {
+        ann: &[],
+        bob: &[],
+        failing: Some(FailingLink::Take(5002, 1)),
+        turns: "2",
+        status: 8,
+        out: "",
+        err: "link fault at leg Bob\n",
+    },
+    // What Ann types can't be given to Bob.
+    Live {
+        ann: &[AN_A],
+        bob: &[],
+        failing: Some(FailingLink::Give(5002, 1)),
+        turns: "2",
+        status: 8,
+        out: "",
+        err: "link fault at leg Bob\n",
+    },
+];
+
+#[test]
+fn live_calls_end_as_their_links_say(rt: HostRuntime) -> Result<(), Fail> {
+    assert_eq!(rt; lives_ended(&rt, rt.alloc(), &LIVES)?, LIVES.len());
     Ok(())
 }

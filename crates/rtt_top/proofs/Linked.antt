@@ -1,0 +1,81 @@
+-- What holds of a command that uses no link holds whatever links leave.
+use Rattle.std.proofs.Common.{◌≡◌, ℕ, Bool, true, false, true≢false, Option, Some, None, List, Ok, Err, refl, sym, subst, ◌∙◌}
+use Rattle.command_spec.specs.declared.faults.Refusal.TheVariants.{AtByte, AtFrame, AtLine, AfterTurns}
+use Rattle.command_spec.specs.declared.faults.Fault.TheVariants.{WrongWords, CannotOpen, CannotRead, Refused, CannotPrint, CannotWrite, LinkFailed, NoMemory}
+use Rattle.command_spec.specs.Words.{MixWords, Command, Read, ListRecords, Send, Mix, Make, Live, Relay, Channel, Show, Script, Version}
+use Rattle.command_spec.specs.Messages.{Ending}
+use Rattle.rtt_words.specs.declared.commands.MixWords as coded
+use Rattle.rtt_words.specs.declared.commands.Command as asked
+use Rattle.rtt_words.specs.declared.commands.Command.TheVariants as word
+use Rattle.rtt_words.specs.Commands.{meaning}
+use Rattle.rtt_top.specs.Faults.{is_live}
+use Rattle.rtt_top.specs.Lives.{RunsLive}
+use Rattle.rtt_top.specs.Outside.{LinksLeft, Output, Outside, with_links}
+use Rattle.rtt_top.specs.Runs.{Ends, Runs, is_plain}
+use Rattle.rtt_top.proofs.Ending.{runs}
+
+ends_linked : (c : Command) (WorldTells OutTells : Type 0) (old new : Outside) (before after : LinksLeft) (name : List ℕ) (ending : Ending) → is_live c ≡ false
+    → Ends c WorldTells OutTells old new name ending → Ends c WorldTells OutTells (with_links old before) (with_links new after) name ending
+ends_linked c WorldTells OutTells old new before after name (Ok u) off e = e
+ends_linked c WorldTells OutTells old new before after name (Err WrongWords) off e = e
+ends_linked c WorldTells OutTells old new before after name (Err (CannotOpen n)) off e = e
+ends_linked c WorldTells OutTells old new before after name (Err (CannotRead n)) off e = e
+ends_linked c WorldTells OutTells old new before after name (Err (Refused n (AtLine line kind))) off e = e
+ends_linked c WorldTells OutTells old new before after name (Err (Refused n (AtByte byte kind))) off e = e
+ends_linked c WorldTells OutTells old new before after name (Err (Refused n (AtFrame byte kind))) off e = e
+ends_linked c WorldTells OutTells old new before after name (Err (Refused n (AfterTurns turns))) off e = e
+ends_linked c WorldTells OutTells old new before after name (Err CannotPrint) off e = e
+ends_linked c WorldTells OutTells old new before after name (Err (CannotWrite n)) off e = e
+ends_linked c WorldTells OutTells old new before after name (Err (LinkFailed leg)) off e = absurd (true≢false (sym e.0 ∙ off))
+ends_linked c WorldTells OutTells old new before after name (Err NoMemory) off e = e
+
+pub runs_linked : (c : Command) (WorldTells OutTells ErrTells : Type 0) (old new : Outside) (before after : LinksLeft) (told told_then : Output) (status : ℕ) → is_live c ≡ false
+    → Runs (Some c) WorldTells OutTells ErrTells old new told told_then status
+    → Runs (Some c) WorldTells OutTells ErrTells (with_links old before) (with_links new after) told told_then status
+runs_linked c WorldTells OutTells ErrTells old new before after told told_then status off r =
+    runs c WorldTells OutTells ErrTells (with_links old before) (with_links new after) told told_then status r.ending r.name r.is_status
+    (ends_linked c WorldTells OutTells old new before after r.name r.ending off r.ends) r.silent r.front r.told
+
+pub plain_is_not_live : (c : Command) → is_plain (Some c) ≡ true → is_live c ≡ false
+plain_is_not_live (Read r) e = refl
+plain_is_not_live (ListRecords l) e = refl
+plain_is_not_live (Send s) e = refl
+plain_is_not_live (Mix m) e = refl
+plain_is_not_live (Make m) e = refl
+plain_is_not_live (Live m) e = absurd (true≢false (sym e))
+plain_is_not_live (Relay s) e = refl
+plain_is_not_live (Channel c) e = refl
+plain_is_not_live (Show l) e = refl
+plain_is_not_live (Script r) e = refl
+plain_is_not_live Version e = refl
+
+-- what asks for no live call
+pub other_is_not_live : (command : asked.Command) → ((words : coded.MixWords) → command ≡ word.Live words → ⊥) → is_live (meaning command) ≡ false
+other_is_not_live (word.Read r) other = refl
+other_is_not_live (word.ListRecords l) other = refl
+other_is_not_live (word.Send s) other = refl
+other_is_not_live (word.Mix m) other = refl
+other_is_not_live (word.Make m) other = refl
+other_is_not_live (word.Live m) other = absurd (other m refl)
+other_is_not_live (word.Relay s) other = refl
+other_is_not_live (word.Channel c) other = refl
+other_is_not_live (word.Show l) other = refl
+other_is_not_live (word.Script r) other = refl
+other_is_not_live word.Version other = refl
+
+same : (c : Command) (m : MixWords) → Some c ≡ Some (Live m) → c ≡ Live m
+same c m e = cc e
+
+live : (c : Command) (m : MixWords) → Some c ≡ Some (Live m) → is_live c ≡ false → ⊥
+live c m e off = true≢false (subst (λ k. is_live k ≡ false) (same c m e) off)
+
+-- of another command nothing is said of a live call
+pub no_live : (c : Command) (WorldTells OutTells LinksTell : Type 0) (old new : Outside) (status : ℕ) → is_live c ≡ false → RunsLive (Some c) WorldTells OutTells LinksTell old new status
+no_live c WorldTells OutTells LinksTell old new status off = λ zero m e. absurd (live c m e off)
+
+pub no_words_live : (words : Option Command) (WorldTells OutTells LinksTell : Type 0) (old new : Outside) (status : ℕ) → words ≡ None → RunsLive words WorldTells OutTells LinksTell old new status
+no_words_live words WorldTells OutTells LinksTell old new status none = λ zero m e. absurd (cc (none, e))
+
+-- nor where it failed
+pub failed_live : (words : Option Command) (WorldTells OutTells LinksTell : Type 0) (old new : Outside) (status : ℕ) → status ≡ 70 → RunsLive words WorldTells OutTells LinksTell old new status
+failed_live words WorldTells OutTells LinksTell old new status is = λ zero m e. absurd (cc (is, zero))

@@ -1,0 +1,63 @@
+-- What is mixed is served over no link.
+use Rattle.std.proofs.Common.{◌≡◌, ℕ, suc, ◌+◌, Option, Some, None, List, [], ◌∷◌, Result, Ok, Err}
+use Rattle.wire_spec.specs.Dump.{dump}
+use Rattle.wire_spec.specs.Dump as dumps
+use Rattle.file_spec.specs.declared.conf_lines.Form.TheVariants.{Files}
+use Rattle.file_spec.specs.declared.conf_lines.LegLine.{LegLine}
+use Rattle.file_spec.specs.Conf.{Conf, conf}
+use Rattle.file_spec.specs.Lines as lines
+use Rattle.mixer_spec.specs.Setups.{setup}
+use Rattle.mixer_spec.specs.Table.{Table}
+use Rattle.mixer_spec.specs.Plain.{plain}
+use Rattle.mixer_spec.specs.Bridged.{input_limit, leg_chunks}
+use Rattle.command_spec.specs.declared.faults.Refusal.TheVariants.{AtByte}
+use Rattle.command_spec.specs.Work.{Contents, Steps, Reads, Refuses, Makes, Serves}
+use Rattle.command_spec.specs.Outcomes.{Outcome, Missing, Served, outcome, outcome_from}
+use Rattle.command_spec.specs.Mixing.{input_at, makes, mixes, mixes_read, mixing, reads_inputs, unless_one_broken}
+
+-- whatever is read, no live call is served
+abbrev ServesNone : Steps → Type 0
+ServesNone (Reads name next) = (octets : List ℕ) → ServesNone (next octets)
+ServesNone (Refuses input refusal) = Unit {0}
+ServesNone (Makes printed files) = Unit {0}
+ServesNone (Serves c) = ⊥
+
+not_served : (n : ℕ) (held : Contents) (steps : Steps) (c : Conf) → ServesNone steps → outcome_from n held steps ≡ Served c → ⊥
+not_served n held (Reads name next) c none e = go (held name) (λ octets. not_served (n + 1) held (next octets) c (none octets)) e
+  where
+    go : (o : Option (List ℕ)) → ((octets : List ℕ) → outcome_from (n + 1) held (next octets) ≡ Served c → ⊥)
+        → (elim o as (λ x. Outcome) [ None ↦ Missing n | Some octets ↦ outcome_from (n + 1) held (next octets) ]) ≡ Served c → ⊥
+    go None more e = absurd (cc e)
+    go (Some octets) more e = more octets e
+not_served n held (Refuses input refusal) c none e = absurd (cc e)
+not_served n held (Makes printed files) c none e = absurd (cc e)
+not_served n held (Serves other) c none e = none
+
+makes_none : (c : Conf) (o : Option Table) → ServesNone (makes c o)
+makes_none c None = tt
+makes_none c (Some table) = tt
+
+none_unless : (limit n : ℕ) (inputs : List (List ℕ)) (steps : Steps) → ServesNone steps → ServesNone (unless_one_broken limit n inputs steps)
+none_unless limit n [] steps none = none
+none_unless limit n (octets ∷ more) steps none = go (dump limit octets).fault (none_unless limit (suc n) more steps none)
+  where
+    go : (o : Option dumps.Fault) → ServesNone (unless_one_broken limit (suc n) more steps)
+        → ServesNone (elim o as (λ x. Steps) [ None ↦ unless_one_broken limit (suc n) more steps | Some fault ↦ Refuses n (AtByte fault.byte fault.kind) ])
+    go None r = r
+    go (Some fault) r = tt
+
+none_read : (legs : List LegLine) (next : List (List ℕ) → Steps) → ((inputs : List (List ℕ)) → ServesNone (next inputs)) → ServesNone (reads_inputs legs next)
+none_read [] next none = none []
+none_read (leg ∷ legs) next none = λ octets. none_read legs (λ more. next (octets ∷ more)) (λ more. none (octets ∷ more))
+
+mixes_none : (c : Conf) (inputs : List (List ℕ)) → ServesNone (mixes c inputs)
+mixes_none c inputs =
+    let table = plain (setup c) c.tick c.turns (leg_chunks c (input_at inputs)) in
+    none_unless (input_limit c) 1 inputs (makes c table) (makes_none c table)
+
+of_result : (r : Result Conf lines.Refusal) → ServesNone (mixes_read r)
+of_result (Err refusal) = tt
+of_result (Ok c) = none_read c.legs (mixes c) (mixes_none c)
+
+pub mixing_serves_none : (held : Contents) (file : List ℕ) (c : Conf) → outcome held (mixing file) ≡ Served c → ⊥
+mixing_serves_none held file c e = not_served 0 held (mixing file) c (λ octets. of_result (conf Files octets)) e
