@@ -2,10 +2,10 @@
 # make run         builds the proved program, and prints the same
 # make test        the gate: proves from nothing what did not pass on this machine as it stands, and runs everything
 # make examples    runs the commands of the documents and compares what they print, and what is stored in examples
-# make trials      tries the program against the system, with each request of memory refused, against a second program, and
-#                  as a package
+# make trials      tries the program against the system, with each request of memory refused, against a second program, with
+#                  terminals over UDP, and as a package
 # make recordings  makes the stored recordings of examples/ anew
-# make bench       how fast the program reads, lists, shows, sends and mixes
+# make bench       how fast the program reads, lists, shows, sends and mixes, and how late live calls are
 # make compare     how fast it mixes beside a second program on one thread (takes rustc)
 # make install     the program and its page, below PREFIX
 # make deb         the package cinderwool_VERSION_ARCHITECTURE.deb, of the program, its page, the documents and the examples
@@ -44,6 +44,8 @@ trials: $(PROGRAM)
 	examples/system $(PROGRAM)
 	examples/memory $(PROGRAM)
 	examples/second-program $(PROGRAM)
+	examples/live/try $(PROGRAM)
+	examples/live/real $(PROGRAM)
 	package/try $(PROGRAM)
 
 recordings: $(PROGRAM)
@@ -56,6 +58,7 @@ bench: $(PROGRAM)
 	for it in show show-64 script channel relay; do bench/run $$it $(PROGRAM) || exit 1; done
 	bench/mix $(PROGRAM)
 	bench/threads $(PROGRAM)
+	bench/live $(PROGRAM)
 
 compare: $(PROGRAM)
 	bench/compare $(PROGRAM)
