@@ -3,6 +3,7 @@
 
 mod ends;
 mod gated;
+mod gates;
 mod lanes;
 mod lending;
 mod lists;
@@ -10,6 +11,7 @@ mod popping;
 mod rooms;
 mod starting;
 
+pub use gates::LentGate;
 pub use lanes::Lane;
 pub use lending::lend;
 pub use lists::{join_lanes, start_lanes};

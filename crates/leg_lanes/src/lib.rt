@@ -1,7 +1,6 @@
 //! Plain mixing of recordings, which are read on threads of their own, or by the caller.
 #![tactic(auto)]
 
-mod gates;
 mod jobs;
 mod readers;
 mod running;

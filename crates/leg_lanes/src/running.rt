@@ -3,10 +3,9 @@ ghost use Rattle.std.specs.Prelude.{◌≡◌, vec_len};
 ghost use Rattle.leg_lanes.specs.Jobs.{CanRun, LentCanRun, LentRanAs, RanAs};
 ghost use Rattle.leg_lanes.specs.Mixings.{CanMix, RanPlain};
 
-use crate::gates::LentGate;
 use crate::jobs::Job;
 use file_spec::LegLine;
-use item_lanes::{LaneRoom, Started, join_lanes, lend, start_lanes};
+use item_lanes::{LaneRoom, LentGate, Started, join_lanes, lend, start_lanes};
 use leg_items::LegInlet;
 use mix_loop::{Mixed, Mixes, Mixing, Room, mix_inlets};
 use rtpdump_io::DumpFault;

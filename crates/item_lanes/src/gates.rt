@@ -2,9 +2,10 @@
 use rtt_io::Gate;
 use std::alloc::AllocError;
 
-/// A gate that is lent to each leg and to who mixes.
-pub(crate) struct LentGate<'g, G> {
-    pub(crate) gate: &'g G,
+/// A gate that is lent to each leg, and to who pops its items.
+pub struct LentGate<'g, G> {
+    /// The gate, which is told of all that each is told.
+    pub gate: &'g G,
 }
 
 impl<'g, G> Clone for LentGate<'g, G> {
