@@ -13,7 +13,7 @@ use std::net::{SocketAddr, UdpSocket};
 use std::time::{Clock, Duration};
 
 /// How long a `take` that may wait does so, in milliseconds.
-pub(crate) const PATIENCE: u64 = 5;
+pub(crate) const PATIENCE: u64 = 20;
 
 /// How many datagrams of strangers one `take` passes over.
 const MOST_STRANGERS: u32 = 64;
