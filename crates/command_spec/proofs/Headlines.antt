@@ -35,7 +35,7 @@ use Rattle.view_spec.specs.Seen.{Text, fate_at, arrivals_at, counts_at, source_a
 use Rattle.command_spec.specs.Mixing.{sent_to, out_of, came_to, reception_of, speaker_of, view_of, views, outs, input_at, mixing}
 use Rattle.command_spec.specs.Bridges.{Bridge, setup_of, IsFrom, inward, chunks_of, told_to, comes_to, onward_from_mixer, records_of, counts_behind, view_behind, IsHeard, IsHeardAsOne, IsMixedFrom, IsBridged}
 use Rattle.command_spec.specs.Cascaded.{IsSeen}
-use Rattle.command_spec.proofs.Ssrcs.{ssrcs_fit}
+use Rattle.command_spec.proofs.Ssrcs.{HasSsrcs, ssrcs_fit}
 use Rattle.command_spec.proofs.Reached.{reached}
 use Rattle.command_spec.proofs.Stored.{stored_at}
 use Rattle.command_spec.proofs.SentBack.{IsBack, below_legs, all_back, out_is}
@@ -155,9 +155,10 @@ is_told b w j l =
     record { lawful = o.lawful; own = o.own; closed = o.closed a.quiet; packets_are = o.packets_are }
 
 -- ---- the whole
-pub seen : (held after : Contents) (octets printed : List ℕ) (b : Bridge) → conf Files octets ≡ Ok b.conference → IsConferenceMixed b.conference (input_at b.inputs) b.table
+-- of any conference that keeps all limits, mixed over any octets
+pub seen_of : (held after : Contents) (printed : List ℕ) (b : Bridge) → IsConference b.conference → HasSsrcs b.conference → IsConferenceMixed b.conference (input_at b.inputs) b.table
     → printed ≡ views b.conference b.table → AllStored (outs b.conference b.table) held after → IsSeen after printed b
-seen held after octets printed b read over views_are stored = record {
+seen_of held after printed b is fits over views_are stored = record {
   outs = λ j leg at.
       let g : gens_of (leg_at b.conference.legs j) ≡ leg.gens = ap gens_of at in
       let t = subst (IsTold b j) g (is_told b w j (below_legs b.conference.legs j leg at)) in
@@ -168,7 +169,7 @@ seen held after octets printed b read over views_are stored = record {
 }
   where
     w : IsWhole b
-    w = record { is = (accepted_law Files octets b.conference read).0; over = over }
+    w = record { is = is; over = over }
 
     there : (j : ℕ) (leg : LegLine) → leg_at b.conference.legs j ≡ Some leg → after leg.output ≡ Some (dump_written (records_of b j leg))
     there j leg at =
@@ -176,7 +177,13 @@ seen held after octets printed b read over views_are stored = record {
         stored_at (out_of b.conference b.table) (λ n l. refl) 0 b.conference.legs held after w.is.legs.differ stored j leg at ∙ ap (λ n. Some (dump_written (records_of b n leg))) k
 
     back : (j : ℕ) (leg : LegLine) → leg_at b.conference.legs j ≡ Some leg → AllByRecursion (IsBack b.conference.mixer.ssrc leg.pts) (sent_to b.conference b.table j)
-    back j leg at = all_back b.conference (input_at b.inputs) b.table w.is (ssrcs_fit Files octets b.conference read) over j leg at
+    back j leg at = all_back b.conference (input_at b.inputs) b.table w.is fits over j leg at
+
+-- of one that was read
+pub seen : (held after : Contents) (octets printed : List ℕ) (b : Bridge) → conf Files octets ≡ Ok b.conference → IsConferenceMixed b.conference (input_at b.inputs) b.table
+    → printed ≡ views b.conference b.table → AllStored (outs b.conference b.table) held after → IsSeen after printed b
+seen held after octets printed b read over views_are stored =
+    seen_of held after printed b (accepted_law Files octets b.conference read).0 (ssrcs_fit Files octets b.conference read) over views_are stored
 
 is_bridged : (held after : Contents) (file printed : List ℕ) (b : Bridge) → IsMixedFrom held file b → printed ≡ views b.conference b.table → AllStored (outs b.conference b.table) held after
     → IsBridged held after file printed

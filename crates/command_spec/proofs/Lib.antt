@@ -19,7 +19,9 @@ pub mod Generating
 mod FrameExamples
 pub mod HeaderTypes
 pub mod ShownAsRead
+pub mod SameFiles
 pub mod Naming
 mod AttendExamples
 pub mod CascadedHeadlines
 mod CascadeExamples
+pub mod AttendedHeadlines

@@ -1,18 +1,19 @@
 -- A conference with the names and the leavings that its inputs tell keeps what a conference keeps.
 use Rattle.std.proofs.Common.{◌≡◌, ℕ, zero, suc, ◌+◌, ◌<◌, ◌≤◌, Bool, true, false, cond, Option, Some, None, List, [], ◌∷◌, length, get_or, inl, inr, refl, ap, subst, sym, ◌∙◌, arith}
-use Rattle.std.specs.Prelude.{◌⊎◌, ◌≢◌, ◌&&◌, min, not, nat_lt, nat_le, bytes_eq, count_by, filter, All, AllPairs, IsTrue}
+use Rattle.std.specs.Prelude.{◌⊎◌, ◌≢◌, ◌&&◌, min, not, nat_lt, nat_le, bytes_eq, filter, All, IsTrue}
 use Rattle.std.specs.List.{list_any}
 use Rattle.std.specs.Option.{ForSome}
-use Rattle.std.proofs.lemmas.Bool.{true≢false, and_parts, not-false, ltb-true, lt-ltb, leb-true}
+use Rattle.std.proofs.lemmas.Bool.{true≢false, and_parts, ltb-true, lt-ltb, leb-true}
 use Rattle.std.proofs.lemmas.List.Folds.{list_any_at}
 use Rattle.std.proofs.lemmas.List.Sums.{length-filter}
 use Rattle.std.proofs.lemmas.Slice.Eq.{bytes_eq-Decides}
-use Rattle.file_spec.specs.declared.limits.TheConstants.{LAST_MOMENT, MOST_GENS, MOST_STAYING}
+use Rattle.file_spec.specs.declared.limits.TheConstants.{LAST_MOMENT, MOST_GENS}
 use Rattle.file_spec.specs.declared.conf_lines.LegLine.{LegLine}
 use Rattle.file_spec.specs.declared.conf_lines.Stay.{Stay}
 use Rattle.file_spec.specs.Conf.{Conf, change_leg, is_name}
-use Rattle.file_spec.specs.Stays.{IsStay, NeverCrowd, is_before_end, stays_at, staying}
+use Rattle.file_spec.specs.Stays.{IsStay, NeverCrowd, is_before_end, stays_at}
 use Rattle.file_spec.specs.Kept.{AreLegs, AreTwoTypes, Differ, IsConference, IsLeg}
+use Rattle.command_spec.proofs.SameFiles.{HasFilesOf, HaveFilesOf, changed_files, same_files}
 use Rattle.command_spec.specs.Attending.{Said, as_name, is_free, left_so, named_by, named_so, sooner, told_legs, told_so, until_then}
 
 -- ---- a leg that is changed
@@ -192,12 +193,13 @@ module _ (wait : ℕ) (said : Said) (k : ℕ) (ls : List LegLine) where
     differ = λ i j d l h. differ_at i j d l (shorter_than j h) (legs.differ i j d l (shorter_than j h));
   }
 
-  ssrcs_keep : (n : ℕ) → All (λ leg. leg.ssrc ≢ n) ls → All (λ leg. leg.ssrc ≢ n) (change_leg change k ls)
+  -- what holds of the SSRC of each leg
+  ssrcs_keep : (P : ℕ → Type 0) → All (λ leg. P leg.ssrc) ls → All (λ leg. P leg.ssrc) (change_leg change k ls)
   unfolding IsChanged
-  ssrcs_keep n all i d h = elim (at_changed change k ls i d) [
-    | inl same ↦ subst (λ (x : LegLine). x.ssrc ≢ n) (sym same) (all i d (shorter_than i h))
-    | inr p ↦ subst (λ (x : LegLine). x.ssrc ≢ n) (sym p.1)
-        (λ e. all i d (shorter_than i h) (sym (same_ssrc ls (get_or ls i d) (change (get_or ls i d)) (told_keeps wait said ls (get_or ls i d))) ∙ e))
+  ssrcs_keep P all i d h = elim (at_changed change k ls i d) [
+    | inl same ↦ subst (λ (x : LegLine). P x.ssrc) (sym same) (all i d (shorter_than i h))
+    | inr p ↦ subst (λ (x : LegLine). P x.ssrc) (sym p.1)
+        (subst P (sym (same_ssrc ls (get_or ls i d) (change (get_or ls i d)) (told_keeps wait said ls (get_or ls i d)))) (all i d (shorter_than i h)))
   ]
 
 -- at no moment more legs stay than before
@@ -241,7 +243,7 @@ all_keep wait says (suc k) n mixer ls keep =
       length_is = length_changed (told_so wait (says k) legs) k legs ∙ before.length_is;
       legs = legs_keep wait (says k) k legs before.legs;
       room = room_kept wait (says k) k legs legs before.room;
-      differs = ssrcs_keep wait (says k) k legs mixer before.differs;
+      differs = ssrcs_keep wait (says k) k legs (λ ssrc. ssrc ≢ mixer) before.differs;
     }
 
 pub named_conference : (says : ℕ → Said) (c : Conf) → IsConference c → IsConference (named_by says c)
@@ -279,3 +281,18 @@ same_named a b c same = ap (λ (legs : List LegLine). record c { legs = legs }) 
 pub length_told : (wait : ℕ) (says : ℕ → Said) (k : ℕ) (ls : List LegLine) → length (told_legs wait says k ls) ≡ length ls
 length_told wait says zero ls = refl
 length_told wait says (suc k) ls = length_changed (told_so wait (says k) (told_legs wait says k ls)) k (told_legs wait says k ls) ∙ length_told wait says k ls
+
+-- what holds of the SSRC of each leg still does
+pub ssrcs_told : (P : ℕ → Type 0) (wait : ℕ) (says : ℕ → Said) (k : ℕ) (ls : List LegLine) → All (λ leg. P leg.ssrc) ls → All (λ leg. P leg.ssrc) (told_legs wait says k ls)
+ssrcs_told P wait says zero ls all = all
+ssrcs_told P wait says (suc k) ls all = ssrcs_keep wait (says k) k (told_legs wait says k ls) P (ssrcs_told P wait says k ls all)
+
+-- ---- what stays of a leg
+told_files : (wait : ℕ) (said : Said) (ls : List LegLine) (leg : LegLine) → HasFilesOf leg (told_so wait said ls leg)
+told_files wait said ls leg =
+    let k = told_keeps wait said ls leg in record { input = ap (λ (l : LegLine). l.input) k.same; output = ap (λ (l : LegLine). l.output) k.same }
+
+pub files_told : (wait : ℕ) (says : ℕ → Said) (k : ℕ) (ls : List LegLine) → HaveFilesOf ls (told_legs wait says k ls)
+files_told wait says zero ls = same_files ls
+files_told wait says (suc k) ls =
+    let now = told_legs wait says k ls in changed_files (told_so wait (says k) now) (told_files wait (says k) now) k ls now (files_told wait says k ls)

@@ -1,4 +1,4 @@
--- Which outputs `mix` has, also where nothing is known of what lies in its inputs.
+-- Which outputs `mix` and `attend` have, also where nothing is known of what lies in its inputs.
 use Rattle.std.proofs.Common.{◌≡◌, ℕ, zero, suc, ◌+◌, ◌*◌, ◌≤◌, Bool, true, false, cond, Option, Some, None, Ok, List, [], ◌∷◌, length, refl, ap, subst, sym, ◌∙◌, arith}
 use Rattle.std.specs.Prelude.{map, not, ◌&&◌, ◌||◌, ◌==◌, nat_lt, unwrap_or, IsSome, if◌then◌else◌}
 use Rattle.std.specs.List.{enumerate_from}
@@ -21,6 +21,10 @@ use Rattle.mixer_spec.specs.Bridged.{input_limit, leg_arrivals, leg_chunks}
 use Rattle.mixer_spec.proofs.Kept.{entered_same, stopped_same, gone_same}
 use Rattle.command_spec.specs.declared.faults.Refusal.TheVariants.{AtByte}
 use Rattle.command_spec.specs.Work.{Contents, Made, Steps, Reads, Refuses, Makes, Serves, IsOutput, IsNth}
+use Rattle.command_spec.specs.Attending.{attending, attends, attends_read, named, says_of}
+use Rattle.command_spec.specs.Inputs.{inputs_under, octets_under}
+use Rattle.command_spec.proofs.SameFiles.{HaveFilesOf, same_files, there}
+use Rattle.command_spec.proofs.Naming.{files_told}
 use Rattle.command_spec.specs.Mixing.{out_of, views, outs, makes, input_at, unless_one_broken, mixes, reads_inputs, mixes_read, mixing}
 use Rattle.mixer_spec.specs.declared.limits.TheConstants.{MOST_INPUT_OF_MANY}
 
@@ -143,12 +147,12 @@ silent_whole c n (l ∷ legs) steps =
     ∙ silent_whole c (suc n) legs steps
 
 -- what is made where nobody says anything
-silence : (c : Conf) → (t : Table) × (mixes c (each silent c.legs) ≡ Makes (views c t) (outs c t))
-silence c =
-    let blank : IsBlank (record { left = leg_chunks c (input_at (each silent c.legs)); table = empty }) =
-    record { left = λ i. none_heard c (input_at (each silent c.legs)) i (silent_at c c.legs i); terminals = refl } in
-    let r = at_once (setup c) c.tick c.turns 0 (record { left = leg_chunks c (input_at (each silent c.legs)); table = empty }) blank in
-    (r.0, silent_whole c 1 c.legs (makes c (plain (setup c) c.tick c.turns (leg_chunks c (input_at (each silent c.legs))))) ∙ ap (makes c) r.1)
+silence : (c : Conf) (legs : List LegLine) → (t : Table) × (mixes c (each silent legs) ≡ Makes (views c t) (outs c t))
+silence c legs =
+    let blank : IsBlank (record { left = leg_chunks c (input_at (each silent legs)); table = empty }) =
+    record { left = λ i. none_heard c (input_at (each silent legs)) i (silent_at c legs i); terminals = refl } in
+    let r = at_once (setup c) c.tick c.turns 0 (record { left = leg_chunks c (input_at (each silent legs)); table = empty }) blank in
+    (r.0, silent_whole c 1 legs (makes c (plain (setup c) c.tick c.turns (leg_chunks c (input_at (each silent legs))))) ∙ ap (makes c) r.1)
 
 -- ---- the outputs of what is made
 nth_out : (c : Conf) (t : Table) (k : ℕ) (legs : List LegLine) (n : ℕ) (leg : LegLine) → leg_at legs n ≡ Some leg → IsNth (map (λ x. out_of c t x.0 x.1) (enumerate_from k legs)) n leg.output
@@ -191,27 +195,59 @@ is_made Told held steps printed files n file e i = subst (λ (x : Steps). IsOutp
 
 -- what lies under the input of a leg
 abbrev under : Contents → LegLine → List ℕ
-under held leg = unwrap_or (held leg.input) []
+under held leg = octets_under held leg.input
 
 is_under : (o : Option (List ℕ)) → IsSome o → o ≡ Some (unwrap_or o [])
 is_under None e = cc e
 is_under (Some octets) e = refl
 
--- Whatever the world tells, the output of each leg is one of the command.
-pub is_output : (Told : Type 0) (held : Contents) (file octets : List ℕ) (c : Conf) → (Told → held file ≡ Some octets) → conf Files octets ≡ Ok c
+-- the conference that the inputs decide is mixed over them
+abbrev pub mixes_as : (List (List ℕ) → Conf) → List (List ℕ) → Steps
+mixes_as becomes inputs = mixes (becomes inputs) inputs
+
+-- Whatever the world tells, the output of each leg is one of what mixes over its inputs a conference of legs that have its files,
+-- which these inputs may decide.
+pub mixed_output : (Told : Type 0) (held : Contents) (c : Conf) (becomes : List (List ℕ) → Conf) → ((inputs : List (List ℕ)) → HaveFilesOf c.legs (becomes inputs).legs)
     → (Told → (k : ℕ) (leg : LegLine) → leg_at c.legs k ≡ Some leg → IsSome (held leg.input))
-    → (Told → (printed : List ℕ) × (files : List Made) × (mixes c (map (λ leg. unwrap_or (held leg.input) []) c.legs) ≡ Makes printed files))
-    → (n : ℕ) (leg : LegLine) → leg_at c.legs n ≡ Some leg → IsOutput Told held (mixing file) n leg.output
-is_output Told held file octets c lies read all makes_it n leg at =
-    (octets, lies, subst (λ r. IsOutput Told held (mixes_read r) n leg.output) (sym read) (go (mixes c (each (under held) c.legs)) refl (are_outs c (each (under held) c.legs))))
+    → (Told → (printed : List ℕ) × (files : List Made) × (mixes (becomes (inputs_under held c.legs)) (inputs_under held c.legs) ≡ Makes printed files))
+    → (n : ℕ) (leg : LegLine) → leg_at c.legs n ≡ Some leg → IsOutput Told held (reads_inputs c.legs (mixes_as becomes)) n leg.output
+mixed_output Told held c becomes same all makes_it n leg at =
+    go (mixes (becomes (inputs_under held c.legs)) (inputs_under held c.legs)) refl (are_outs (becomes (inputs_under held c.legs)) (inputs_under held c.legs))
   where
-    go : (steps : Steps) → mixes c (each (under held) c.legs) ≡ steps → AreOuts c steps → IsOutput Told held (reads_inputs c.legs (mixes c)) n leg.output
+    -- it is made of any inputs of which something is made
+    made : (inputs : List (List ℕ)) (t : Table) → IsNth (outs (becomes inputs) t) n leg.output
+    made inputs t =
+        let l = there c.legs (becomes inputs).legs (same inputs) n leg at in
+        subst (λ name. IsNth (outs (becomes inputs) t) n name) l.2.output (nth_out (becomes inputs) t 0 (becomes inputs).legs n l.0 l.1)
+
+    go : (steps : Steps) → mixes_as becomes (inputs_under held c.legs) ≡ steps → AreOuts (becomes (inputs_under held c.legs)) steps → IsOutput Told held (reads_inputs c.legs (mixes_as becomes)) n leg.output
     go (Makes printed files) e a =
-        along Told held (under held) c.legs (mixes c) n leg.output (λ told k l q. is_under (held l.input) (all told k l q))
-        (is_made Told held (mixes c (each (under held) c.legs)) printed files n leg.output e (subst (λ fs. IsNth fs n leg.output) (sym a.1) (nth_out c a.0 0 c.legs n leg at)))
+        along Told held (under held) c.legs (mixes_as becomes) n leg.output (λ told k l q. is_under (held l.input) (all told k l q))
+        (is_made Told held (mixes_as becomes (inputs_under held c.legs)) printed files n leg.output e (subst (λ fs. IsNth fs n leg.output) (sym a.1) (made (inputs_under held c.legs) a.0)))
     go (Refuses m refusal) e a =
-        let q = silence c in
-        along Told held silent c.legs (mixes c) n leg.output (λ told k l q. let r = makes_it told in absurd (cc (sym e ∙ r.2)))
-        (is_made Told held (mixes c (each silent c.legs)) (views c q.0) (outs c q.0) n leg.output q.1 (nth_out c q.0 0 c.legs n leg at))
+        let inputs = each silent c.legs in
+        let q = silence (becomes inputs) c.legs in
+        along Told held silent c.legs (mixes_as becomes) n leg.output (λ told k l q. let r = makes_it told in absurd (cc (sym e ∙ r.2)))
+        (is_made Told held (mixes_as becomes inputs) (views (becomes inputs) q.0) (outs (becomes inputs) q.0) n leg.output q.1 (made inputs q.0))
     go (Reads name next) e a = absurd a
     go (Serves other) e a = absurd a
+
+-- The output of each leg is one of `mix`.
+pub is_output : (Told : Type 0) (held : Contents) (file octets : List ℕ) (c : Conf) → (Told → held file ≡ Some octets) → conf Files octets ≡ Ok c
+    → (Told → (k : ℕ) (leg : LegLine) → leg_at c.legs k ≡ Some leg → IsSome (held leg.input))
+    → (Told → (printed : List ℕ) × (files : List Made) × (mixes c (inputs_under held c.legs) ≡ Makes printed files))
+    → (n : ℕ) (leg : LegLine) → leg_at c.legs n ≡ Some leg → IsOutput Told held (mixing file) n leg.output
+is_output Told held file octets c lies read all makes_it n leg at =
+    (octets, lies, subst (λ r. IsOutput Told held (mixes_read r) n leg.output) (sym read) (mixed_output Told held c (λ inputs. c) (λ inputs. same_files c.legs) all makes_it n leg at))
+
+-- The output of each leg is one of `attend`.
+pub attended_output : (Told : Type 0) (held : Contents) (file octets : List ℕ) (c : Conf) → (Told → held file ≡ Some octets) → conf Files octets ≡ Ok c
+    → (Told → (k : ℕ) (leg : LegLine) → leg_at c.legs k ≡ Some leg → IsSome (held leg.input))
+    → (Told → (printed : List ℕ) × (files : List Made) × (attends c (inputs_under held c.legs) ≡ Makes printed files))
+    → (n : ℕ) (leg : LegLine) → leg_at c.legs n ≡ Some leg → IsOutput Told held (attending file) n leg.output
+attended_output Told held file octets c lies read all makes_it n leg at = (
+  octets,
+  lies,
+  subst (λ r. IsOutput Told held (attends_read r) n leg.output) (sym read)
+      (mixed_output Told held c (named c) (λ inputs. files_told c.wait (says_of c inputs) (length c.legs) c.legs) all makes_it n leg at),
+)

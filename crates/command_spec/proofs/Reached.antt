@@ -30,13 +30,13 @@ found n held name next printed files e = go (held name) refl e
     go (Some octets) h e = (octets, h, e)
 
 -- the inputs were there
-record AreFound (held : Contents) (n : ℕ) (legs : List LegLine) (next : List (List ℕ) → Steps) (printed : List ℕ) (files : List Made) : Type 0 where
-  inputs : List (List ℕ)
-  lie : AllZip (λ leg octets. held leg.input ≡ Some octets) legs inputs
-  last : ℕ
-  then_ : outcome_from last held (next inputs) ≡ Done printed files
+pub record AreFound (held : Contents) (n : ℕ) (legs : List LegLine) (next : List (List ℕ) → Steps) (printed : List ℕ) (files : List Made) : Type 0 where
+  pub inputs : List (List ℕ)
+  pub lie : AllZip (λ leg octets. held leg.input ≡ Some octets) legs inputs
+  pub last : ℕ
+  pub then_ : outcome_from last held (next inputs) ≡ Done printed files
 
-inputs_found : (held : Contents) (n : ℕ) (legs : List LegLine) (next : List (List ℕ) → Steps) (printed : List ℕ) (files : List Made) → outcome_from n held (reads_inputs legs next) ≡ Done printed files
+pub inputs_found : (held : Contents) (n : ℕ) (legs : List LegLine) (next : List (List ℕ) → Steps) (printed : List ℕ) (files : List Made) → outcome_from n held (reads_inputs legs next) ≡ Done printed files
     → AreFound held n legs next printed files
 inputs_found held n [] next printed files e = record { inputs = []; lie = tt; last = n; then_ = e }
 inputs_found held n (leg ∷ legs) next printed files e =
@@ -45,11 +45,11 @@ inputs_found held n (leg ∷ legs) next printed files e =
     record { inputs = f.0 ∷ r.inputs; lie = (f.1, r.lie); last = r.last; then_ = r.then_ }
 
 -- none of them is broken
-record AreWhole (held : Contents) (m limit : ℕ) (inputs : List (List ℕ)) (steps : Steps) (printed : List ℕ) (files : List Made) : Type 0 where
-  whole : All (λ octets. (dump limit octets).fault ≡ None) inputs
-  then_ : outcome_from m held steps ≡ Done printed files
+pub record AreWhole (held : Contents) (m limit : ℕ) (inputs : List (List ℕ)) (steps : Steps) (printed : List ℕ) (files : List Made) : Type 0 where
+  pub whole : All (λ octets. (dump limit octets).fault ≡ None) inputs
+  pub then_ : outcome_from m held steps ≡ Done printed files
 
-none_broken : (held : Contents) (m limit n : ℕ) (inputs : List (List ℕ)) (steps : Steps) (printed : List ℕ) (files : List Made) → outcome_from m held (unless_one_broken limit n inputs steps) ≡ Done printed files
+pub none_broken : (held : Contents) (m limit n : ℕ) (inputs : List (List ℕ)) (steps : Steps) (printed : List ℕ) (files : List Made) → outcome_from m held (unless_one_broken limit n inputs steps) ≡ Done printed files
     → AreWhole held m limit inputs steps printed files
 none_broken held m limit n [] steps printed files e = record { whole = All-nil (λ octets. (dump limit octets).fault ≡ None); then_ = e }
 none_broken held m limit n (octets ∷ more) steps printed files e = go (dump limit octets).fault refl e (none_broken held m limit (suc n) more steps printed files)

@@ -1,6 +1,6 @@
 -- Worked examples of command words, by computing.
 use Rattle.std.proofs.Common.{◌≡◌, refl, [], ◌∷◌, None, Some, codes}
-use Rattle.command_spec.specs.Words.{command, Read, ListRecords, Send, Mix, Make, Live, Relay, Channel, Show, Script, Version}
+use Rattle.command_spec.specs.Words.{command, Read, ListRecords, Send, Mix, Attend, Make, Live, Relay, Channel, Show, Script, Version}
 
 read_a_source : command (codes "read" ∷ codes "a.rtp" ∷ codes "1001" ∷ []) ≡ Some (Read (record { file = codes "a.rtp"; ssrc = 1001; source = 1001; pts = record { t140 = 98; red = 100 } }))
 read_a_source = refl
@@ -60,6 +60,18 @@ mix_without_a_conference = refl
 
 mix_one_at_a_time : command (codes "mix" ∷ codes "a" ∷ codes "b" ∷ []) ≡ None
 mix_one_at_a_time = refl
+
+attend_a_conference : command (codes "attend" ∷ codes "c.txt" ∷ []) ≡ Some (Attend (record { conf = codes "c.txt" }))
+attend_a_conference = refl
+
+attend_without_a_conference : command (codes "attend" ∷ []) ≡ None
+attend_without_a_conference = refl
+
+attend_one_at_a_time : command (codes "attend" ∷ codes "a" ∷ codes "b" ∷ []) ≡ None
+attend_one_at_a_time = refl
+
+attend_nothing_named_like_an_option : command (codes "attend" ∷ codes "-c" ∷ []) ≡ None
+attend_nothing_named_like_an_option = refl
 
 make_a_conference : command (codes "make" ∷ codes "1000" ∷ []) ≡ Some (Make (record { number = 1000 }))
 make_a_conference = refl

@@ -6,9 +6,10 @@ use Rattle.file_spec.specs.declared.kinds.ConfKind.TheVariants.{Full}
 use Rattle.file_spec.specs.Script.{ScriptLine}
 use Rattle.file_spec.specs.Lines as lines
 use Rattle.file_spec.specs.Script.{script}
-use Rattle.command_spec.specs.Words.{ReadWords, SendWords, Command, Read, ListRecords, Send, Mix, Make, Live, Relay, Channel, Show, Script, Version}
+use Rattle.command_spec.specs.Words.{ReadWords, SendWords, Command, Read, ListRecords, Send, Mix, Attend, Make, Live, Relay, Channel, Show, Script, Version}
 use Rattle.command_spec.specs.declared.faults.Refusal.TheVariants.{AtByte, AtFrame, AtLine}
 use Rattle.command_spec.specs.declared.requests.ReadRequest.{ReadRequest}
+use Rattle.command_spec.specs.Attending.{attending}
 use Rattle.command_spec.specs.Listing.{list_view}
 use Rattle.command_spec.specs.Making.{making}
 use Rattle.command_spec.specs.Messages.{version_line}
@@ -75,6 +76,7 @@ work (Read r) = prints_recording r.file (read_view (request_of r))
 work (ListRecords l) = prints_recording l.file (λ octets. list_view l.pts (dump usual_limit octets).items)
 work (Send s) = record { prints = false; steps = Reads s.file (λ octets. sends s (script octets)) }
 work (Mix m) = record { prints = true; steps = mixing m.conf }
+work (Attend m) = record { prints = true; steps = attending m.conf }
 work (Make m) = record { prints = true; steps = making m.number }
 work (Live m) = record { prints = true; steps = serving m.conf }
 work (Relay s) = record { prints = false; steps = Reads s.file (λ octets. saves_frames s.out (relay (sending_of s) octets)) }

@@ -23,3 +23,4 @@ pub mod Attending
 pub mod Inputs
 pub mod Cascading
 pub mod Cascaded
+pub mod Attended

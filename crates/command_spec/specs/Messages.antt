@@ -103,7 +103,7 @@ refusal_message name (AfterTurns turns) = turns_message turns
 
 -- for words outside the word table
 abbrev pub usage : List ℕ
-usage = codes "usage: rtt_program read FILE SSRC [SOURCE [T140 RED]]\n       rtt_program list FILE [T140 RED]\n       rtt_program send SCRIPT OUT SSRC SEQ STAMP\n       rtt_program mix CONF\n       rtt_program make N\n       rtt_program live CONF\n       rtt_program relay FRAMES OUT SSRC SEQ STAMP\n       rtt_program channel FILE SSRC OUT\n       rtt_program show FILE [T140 RED]\n       rtt_program script FILE SSRC [SOURCE [T140 RED]]\n       rtt_program version\n"
+usage = codes "usage: rtt_program read FILE SSRC [SOURCE [T140 RED]]\n       rtt_program list FILE [T140 RED]\n       rtt_program send SCRIPT OUT SSRC SEQ STAMP\n       rtt_program mix CONF\n       rtt_program attend CONF\n       rtt_program make N\n       rtt_program live CONF\n       rtt_program relay FRAMES OUT SSRC SEQ STAMP\n       rtt_program channel FILE SSRC OUT\n       rtt_program show FILE [T140 RED]\n       rtt_program script FILE SSRC [SOURCE [T140 RED]]\n       rtt_program version\n"
 
 -- the name of the program and its version
 abbrev pub version_line : List ℕ

@@ -26,7 +26,7 @@ pub record SendWords : Type 0 where
   pub seq : ℕ
   pub stamp : ℕ
 
--- what `mix` and `live` are asked for: the conference in a file
+-- what `mix`, `attend` and `live` are asked for: the conference in a file
 pub record MixWords : Type 0 where
   pub conf : List ℕ
 
@@ -45,6 +45,7 @@ pub data Command : Type 0 where
   ListRecords : ListWords → Command
   Send : SendWords → Command
   Mix : MixWords → Command
+  Attend : MixWords → Command
   Make : MakeWords → Command
   Live : MixWords → Command
   Relay : SendWords → Command
@@ -140,10 +141,11 @@ command (name ∷ words) =
     else (if bytes_eq name (codes "list") then option_map ListRecords (list_words words)
     else (if bytes_eq name (codes "send") then option_map Send (send_words words)
     else (if bytes_eq name (codes "mix") then option_map Mix (mix_words words)
+    else (if bytes_eq name (codes "attend") then option_map Attend (mix_words words)
     else (if bytes_eq name (codes "make") then make_words words
     else (if bytes_eq name (codes "live") then option_map Live (mix_words words)
     else (if bytes_eq name (codes "relay") then option_map Relay (send_words words)
     else (if bytes_eq name (codes "channel") then channel_words words
     else (if bytes_eq name (codes "show") then option_map Show (list_words words)
     else (if bytes_eq name (codes "script") then option_map Script (read_words words)
-    else (if bytes_eq name (codes "version") then version_words words else None))))))))))
+    else (if bytes_eq name (codes "version") then version_words words else None)))))))))))

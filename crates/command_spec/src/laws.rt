@@ -16,6 +16,7 @@ ghost use Rattle.command_spec.specs.Scripts.{AreLines};
 ghost use Rattle.command_spec.specs.Generated.{generated};
 ghost use Rattle.command_spec.specs.Mixing.{mixing};
 ghost use Rattle.command_spec.specs.Attending.{named};
+ghost use Rattle.command_spec.specs.Attended.{AttendedAreBridged};
 ghost use Rattle.command_spec.specs.Bridges.{BridgesAreOne, IsBridged};
 ghost use Rattle.command_spec.specs.Cascaded.{CascadesAreBridged};
 ghost use Rattle.mixer_spec.specs.declared.limits.TheConstants.{PLACES};
@@ -48,6 +49,12 @@ pub fn mixed_is_bridged()
 /// the end. So the bridge that `mixed_is_bridged` tells of is the only one.
 pub fn bridges_are_one()
     ensures { BridgesAreOne }
+{}
+
+/// What `attend` makes of a conference is bridged, whatever lies in its inputs: it is what mixing makes of the conference with the
+/// names and the leavings that the RTCP records of its inputs tell.
+pub fn attended_are_bridged()
+    ensures { AttendedAreBridged }
 {}
 
 /// What comes of a conference of which some legs stand behind another mixer, whose recording is split for them: the conference is

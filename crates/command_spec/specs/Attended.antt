@@ -1,0 +1,38 @@
+-- The headline of a conference that was mixed with the names and the leavings that its inputs tell (profile).
+use Rattle.std.specs.Prelude.{◌≡◌, ℕ, None, Some, Ok, List, All}
+use Rattle.std.specs.List.{AllZip}
+use Rattle.wire_spec.specs.Dump.{dump}
+use Rattle.file_spec.specs.declared.conf_lines.Form.TheVariants.{Files}
+use Rattle.file_spec.specs.Conf.{Conf, conf}
+use Rattle.mixer_spec.specs.Bridged.{IsConferenceMixed, input_limit}
+use Rattle.command_spec.specs.Work.{Contents, Made}
+use Rattle.command_spec.specs.Outcomes.{AllStored, Done, outcome}
+use Rattle.command_spec.specs.Mixing.{input_at}
+use Rattle.command_spec.specs.Attending.{attending, named}
+use Rattle.command_spec.specs.Bridges.{Bridge}
+use Rattle.command_spec.specs.Cascaded.{IsSeen}
+
+-- This conference lies in this file, and recordings without a fault in its inputs. The bridge is that of the conference with what
+-- these tell of its legs; mixing it is over within its turns.
+pub record IsAttendedFrom (held : Contents) (file : List ℕ) (c : Conf) (b : Bridge) : Type 0 where
+  pub read : (octets : List ℕ) × (held file ≡ Some octets) × (conf Files octets ≡ Ok c)
+  pub inputs_lie : AllZip (λ leg octets. held leg.input ≡ Some octets) c.legs b.inputs
+  pub is_named : b.conference ≡ named c b.inputs
+  pub whole : All (λ octets. (dump (input_limit b.conference) octets).fault ≡ None) b.inputs
+  pub over : IsConferenceMixed b.conference (input_at b.inputs) b.table
+
+-- What `attend` makes of a file, where that lay in files, and this lies there then, and this is printed.
+pub record IsAttended (held after : Contents) (file printed : List ℕ) : Type 0 where
+  pub conference : Conf
+  pub bridge : Bridge
+  pub attended : IsAttendedFrom held file conference bridge
+  -- The conference with its names and leavings is mixed as any is.
+  pub seen : IsSeen after printed bridge
+
+-- Whatever lies in the files, that is what `attend` makes of it.
+abbrev pub AttendedAreBridged : Type 0
+AttendedAreBridged =
+    (held after : Contents) (file printed : List ℕ) (files : List Made)
+    → outcome held (attending file) ≡ Done printed files
+    → AllStored files held after
+    → IsAttended held after file printed
