@@ -41,7 +41,7 @@ whole_steps limit n (o ∷ os) steps w =
     let P : Option dumps.Fault → Steps = λ f. elim f [ None ↦ unless_one_broken limit (suc n) os steps | Some fault ↦ Refuses n (AtByte fault.byte fault.kind) ] in
     ap P (w 0 (omega arith)) ∙ whole_steps limit (suc n) os steps (λ k l. w (suc k) (omega arith))
 
-broken_steps : (limit n : ℕ) (inputs : List (List ℕ)) (steps : Steps) (k : ℕ) (fault : dumps.Fault) → k < length inputs
+pub broken_steps : (limit n : ℕ) (inputs : List (List ℕ)) (steps : Steps) (k : ℕ) (fault : dumps.Fault) → k < length inputs
     → ((i : ℕ) → i < k → (dump limit (input_at inputs i)).fault ≡ None) → (dump limit (input_at inputs k)).fault ≡ Some fault
     → unless_one_broken limit n inputs steps ≡ Refuses (k + n) (AtByte fault.byte fault.kind)
 broken_steps limit n [] steps k fault l w b = absurd (omega arith)
@@ -131,7 +131,7 @@ are_chunks : (c : Conf) (inputs : List (List ℕ)) → AreChunks (setup c) (aske
 are_chunks c inputs = asked_law c (input_at inputs) (asked_of c inputs) (are_of_conf c inputs)
 
 -- ---- sources
-source_read : (kind : DumpKind) → is_of_source kind ≡ true → kind ≡ Read
+pub source_read : (kind : DumpKind) → is_of_source kind ≡ true → kind ≡ Read
 source_read NotDump e = absurd (cc e)
 source_read BadLength e = absurd (cc e)
 source_read EndsInside e = absurd (cc e)

@@ -19,7 +19,8 @@ use Rattle.bridge_run.specs.declared.mixed.MixFault.{MixFault}
 use Rattle.bridge_run.specs.declared.mixed.MixFault.TheVariants.{Open, Dump, TooLong, NoMemory}
 use Rattle.bridge_run.specs.declared.mixed.Mixed.{Mixed}
 use Rattle.bridge_run.specs.Answered.{AreKept, IsOfLegs, MixesAsked, MixesTo, NoReadFailed, WasReadWell, asked_of}
-use Rattle.bridge_run.specs.Mixes.{AllLie, IsMade, NoneFailed, RoseAt, Stops, inputs_under, octets_under}
+use Rattle.command_spec.specs.Inputs.{AllLie, inputs_under, octets_under}
+use Rattle.bridge_run.specs.Mixes.{IsMade, NoneFailed, RoseAt, Stops}
 use Rattle.bridge_run.specs.Opened.{AllOpened, AllOver, AreCalm, EachSource, IsNotOpened, LeavesCount, ear_of}
 
 -- ---- lists
@@ -28,7 +29,7 @@ found [] k l = absurd (omega arith)
 found (x ∷ xs) zero l = (x, refl)
 found (x ∷ xs) (suc k) l = found xs k (omega arith)
 
-input_is : (held : Contents) (legs : List LegLine) (j : ℕ) (leg : LegLine) (octets : List ℕ) → leg_at legs j ≡ Some leg → held leg.input ≡ Some octets
+pub input_is : (held : Contents) (legs : List LegLine) (j : ℕ) (leg : LegLine) (octets : List ℕ) → leg_at legs j ≡ Some leg → held leg.input ≡ Some octets
     → octets ≡ input_at (inputs_under held legs) j
 input_is held [] j leg octets at is = absurd (cc at)
 input_is held (l ∷ legs) zero leg octets at is =

@@ -1,5 +1,5 @@
 -- What mixing a conference comes to, from what lies under the names of its inputs. Legs are counted from 0.
-use Rattle.std.specs.Prelude.{◌≡◌, ℕ, ◌+◌, ◌<◌, ◌≤◌, false, true, None, Some, IsSome, unwrap_or, Result, Ok, Err, List, [], ◌∷◌, length, map}
+use Rattle.std.specs.Prelude.{◌≡◌, ℕ, ◌+◌, ◌<◌, false, true, None, Some, Result, Ok, Err, List, [], ◌∷◌}
 use Rattle.wire_spec.specs.Dump.{dump}
 use Rattle.rtt_io.specs.Counts.{Rose}
 use Rattle.rtpdump_io.specs.declared.items.DumpFault.{DumpFault}
@@ -11,27 +11,12 @@ use Rattle.mixer_spec.specs.Bridged.{input_limit}
 use Rattle.command_spec.specs.declared.faults.Refusal.TheVariants.{AtByte, AfterTurns}
 use Rattle.command_spec.specs.Work.{Contents, Made, Steps, Refuses, Makes}
 use Rattle.command_spec.specs.Mixing.{input_at, mixes}
+use Rattle.command_spec.specs.Inputs.{AllLie, LieBelow, NoneFailedAtAll, NoneFailedBelow, inputs_under}
 use Rattle.command_spec.specs.Sums.{Sums, sums_mixed}
 use Rattle.leg_items.specs.Answers.{read_well}
 use Rattle.bridge_run.specs.declared.mixed.MixFault.{MixFault}
 use Rattle.bridge_run.specs.declared.mixed.MixFault.TheVariants.{Open, Dump, TooLong, NoMemory}
 use Rattle.bridge_run.specs.declared.mixed.Mixed.{Mixed}
-
--- ---- what lies there
-abbrev pub octets_under : Contents → List ℕ → List ℕ
-octets_under held name = unwrap_or (held name) []
-
--- the octets of the inputs of these legs
-abbrev pub inputs_under : Contents → List LegLine → List (List ℕ)
-inputs_under held legs = map (λ leg. octets_under held leg.input) legs
-
--- something lies under the input of each of the first n legs
-abbrev pub LieBelow : ℕ → Contents → List LegLine → Type 0
-LieBelow n held legs = (k : ℕ) (leg : LegLine) → k < n → leg_at legs k ≡ Some leg → IsSome (held leg.input)
-
--- and under that of each
-abbrev pub AllLie : Contents → List LegLine → Type 0
-AllLie held legs = LieBelow (length legs) held legs
 
 -- ---- what it comes to
 -- what is made of what lies there, or why nothing is
@@ -79,18 +64,6 @@ Stops Told Call Object held c NoMemory = Unit {0}
 -- the count of this name rose
 abbrev pub RoseAt : (List ℕ → ℕ) → (List ℕ → ℕ) → List ℕ → Type 0
 RoseAt old new name = Rose (old name) (new name)
-
--- no leg with the number n or a greater one has this input
-abbrev pub NoneReads : ℕ → List LegLine → List ℕ → Type 0
-NoneReads n legs name = (k : ℕ) (leg : LegLine) → n ≤ k → leg_at legs k ≡ Some leg → leg.input ≡ name → ⊥
-
--- No reading for one of the first n legs failed: each name that no other leg reads has its old count.
-abbrev pub NoneFailedBelow : ℕ → List LegLine → (List ℕ → ℕ) → (List ℕ → ℕ) → Type 0
-NoneFailedBelow n legs old new = (name : List ℕ) → NoneReads n legs name → new name ≡ old name
-
--- no reading failed: each name has its old count
-abbrev pub NoneFailedAtAll : (List ℕ → ℕ) → (List ℕ → ℕ) → Type 0
-NoneFailedAtAll old new = (name : List ℕ) → new name ≡ old name
 
 -- Which readings did not fail: none did where all is made, where an input can't be opened, and where the turns are too few. Where a
 -- leg has a fault, none for a lower leg did, nor for that leg where its recording is refused, as far as counts are told of each

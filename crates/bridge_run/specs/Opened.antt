@@ -11,7 +11,7 @@ use Rattle.leg_items.specs.declared.inlets.LegInlet.{LegInlet}
 use Rattle.leg_items.specs.Answers.{source_in}
 use Rattle.mixer_spec.specs.Setups.{leg_at}
 use Rattle.command_spec.specs.Mixing.{input_at}
-use Rattle.bridge_run.specs.Mixes.{LieBelow}
+use Rattle.command_spec.specs.Inputs.{LieBelow}
 use Rattle.bridge_run.specs.declared.mixed.MixFault.{MixFault}
 use Rattle.bridge_run.specs.declared.mixed.MixFault.TheVariants.{Open, Dump, TooLong, NoMemory}
 

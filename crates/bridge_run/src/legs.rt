@@ -17,7 +17,7 @@ use rtt_io::{Source, SteadySource, World};
 use std::alloc::Global;
 
 /// The leg with this number over this source, which is handed back where memory runs out.
-fn leg_over<S: Source>(
+pub fn leg_over<S: Source>(
     alloc: Global,
     leg: &LegLine,
     number: u8,

@@ -9,8 +9,9 @@ mod mixing;
 mod parts;
 mod views;
 
+pub use legs::leg_over;
 pub use mixed::{MixFault, Mixed};
-pub use mixing::{mix, mix_held};
+pub use mixing::{Answered, input_limit, mix, mix_held, mix_opened};
 pub use views::{Seen, views_of};
 
 #[cfg(test)]

@@ -28,7 +28,7 @@ use std::thread::Threads;
 use wire_spec::limits::MOST_RECORDING_OCTETS;
 
 /// The most octets that an input may have.
-fn input_limit(conf: &Conf) -> u32
+pub fn input_limit(conf: &Conf) -> u32
     ensures { result ≡ input_limit (conf_of conf.now) }
 {
     if conf.legs.len() > 16 {
@@ -67,13 +67,13 @@ fn made<R: Threads + Sync>(rt: &R, alloc: Global, conf: &Conf, log: Log) -> Resu
 }
 
 /// How a mixing of opened inputs ended, with their legs.
-struct Answered<S> {
-    mixed: Result<Mixed, MixFault>,
-    legs: Vec<LegInlet<S>>,
+pub struct Answered<S> {
+    pub mixed: Result<Mixed, MixFault>,
+    pub legs: Vec<LegInlet<S>>,
 }
 
 /// Mixes a conference whose inputs are opened, and are read so. All legs come back.
-fn mix_opened<S: Source + Send, R: Threads + Wait + Sync, G: Gate + Sync>(
+pub fn mix_opened<S: Source + Send, R: Threads + Wait + Sync, G: Gate + Sync>(
     rt: &R,
     alloc: Global,
     conf: &Conf,
