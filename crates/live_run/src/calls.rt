@@ -9,13 +9,13 @@ ghost use Rattle.live_run.specs.Calls.{IsCalled, IsOfLinks};
 ghost use Rattle.live_run.specs.Mixers.{HasAll};
 ghost use Rattle.live_run.specs.Opened.{AreUnused, OpenEnds, OpenLegs};
 
-use crate::gates::LentGate;
 use crate::listeners::listeners_of;
 use crate::opening::Opened;
 use crate::rooms::CallRoom;
 use crate::running::{Ended, Job, run_job};
 use crate::{FarEnds, Listener, LiveFault, live_mixer};
 use conference::Conf;
+use item_lanes::LentGate;
 use link_io::{LinkOut, Links};
 use live_leg::LinkLeg;
 use live_loop::Turned;

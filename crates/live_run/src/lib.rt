@@ -4,7 +4,6 @@
 mod calls;
 mod far_ends;
 mod faults;
-mod gates;
 mod laws;
 mod listeners;
 mod mixers;
