@@ -1,0 +1,4 @@
+mod Records
+mod Lists
+mod Legs
+mod Changes

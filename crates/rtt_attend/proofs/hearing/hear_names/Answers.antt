@@ -1,0 +1,25 @@
+use Rattle.std.proofs.Common.{◌≡◌, List, ap, subst, sym, ◌∙◌}
+use Rattle.file_spec.specs.declared.conf_lines.LegLine.{LegLine}
+use Rattle.file_spec.specs.Conf.{Conf}
+use Rattle.file_spec.specs.Kept.{IsConference}
+use Rattle.conference.specs.Conferences.{conf_of}
+use Rattle.command_spec.specs.Attending.{named_by}
+use Rattle.command_spec.proofs.Naming.{named_conference}
+use Rattle.rtt_attend.specs.declared.said.Said.{Said}
+use Rattle.rtt_attend.specs.Named.{says_in}
+use Rattle.rtt_attend.proofs.Legs.{is_named}
+use Rattle.rtt_attend.proofs.hearing.hear_names.Goals as goal
+
+pub invariant_of-conf : goal.invariant_of-conf
+invariant_of-conf g c =
+    let old = conf_of c.args.conf.now in
+    let says = says_in c.as_slice.result.now in
+    let is : record old { legs = c.tell_legs.new.legs } ≡ named_by says old = ap (λ (l : List LegLine). record old { legs = l }) c.tell_legs.ensures in
+    record { kept = subst (λ (x : Conf). IsConference x) (sym is) (named_conference says old c.args.conf.now.kept) }
+
+pub returns-clause-named : goal.returns-clause-named
+returns-clause-named g c = λ t.
+    let old = conf_of c.args.conf.now in
+    let is : record old { legs = c.tell_legs.new.legs } ≡ named_by (says_in c.in-Ok.said.items) old =
+    ap (λ (l : List LegLine). record old { legs = l }) c.tell_legs.ensures ∙ ap (λ (all : List Said). named_by (says_in all) old) c.as_slice.ensures.value in
+    is_named (g.W.World.contents c.args.world.now) old c.in-Ok.said.items (record old { legs = c.tell_legs.new.legs }) (c.in-Ok.ensures.told t) is

@@ -1,0 +1,54 @@
+-- What is heard of one input, by the octets of its recording.
+use Rattle.std.specs.Prelude.{◌≡◌, ℕ, Bool, true, false, None, Some, Option, List, Result, Ok, Err, IfErr, if◌then◌else◌}
+use Rattle.wire_spec.specs.Dump.{Recording, dump}
+use Rattle.rtcp_spec.specs.Recorded.{Entry}
+use Rattle.rtt_io.specs.Counts.{Rose}
+use Rattle.rtcp_spec.specs.Rtcp.{rtcp}
+use Rattle.rtpdump_io.specs.declared.items.DumpItem.{DumpItem}
+use Rattle.rtpdump_io.specs.declared.items.DumpItem.TheVariants.{Packet, Rtcp, Cut, Large, End}
+use Rattle.rtpdump_io.specs.declared.items.DumpFault.{DumpFault}
+use Rattle.rtpdump_io.specs.Reading.{IsFaultOf, UnlessOfSource, is_of_source}
+use Rattle.command_spec.specs.Attending as attending
+use Rattle.command_spec.specs.Attending.{and_read, nothing, said_after, said_by}
+use Rattle.rtt_attend.specs.declared.said.Said.{Said}
+
+-- what is told of a sender, in the definition's words
+abbrev pub said_of : Said → attending.Said
+said_of said = record { name = said.name; left = said.left }
+
+-- ---- one record
+abbrev pub moment_of : DumpItem → Option ℕ
+moment_of (Packet at) = Some at
+moment_of (Rtcp at) = Some at
+moment_of (Cut at) = Some at
+moment_of (Large at) = Some at
+moment_of End = None
+
+abbrev pub is_rtcp : DumpItem → Bool
+is_rtcp (Packet at) = false
+is_rtcp (Rtcp at) = true
+is_rtcp (Cut at) = false
+is_rtcp (Large at) = false
+is_rtcp End = false
+
+-- what is known then is what a record at this moment tells, which has these octets where it is one of RTCP
+abbrev pub TellsItem : ℕ → ℕ → DumpItem → List ℕ → Said → Said → Type 0
+TellsItem ssrc at item octets old new = said_of new ≡ (if is_rtcp item then and_read ssrc at (said_of old) (rtcp octets) else said_of old)
+
+-- ---- all of them
+-- it is what these records tell of a sender, where their recording has no fault
+abbrev pub HearsAll : ℕ → List Entry → Recording → Result Said DumpFault → Type 0
+HearsAll ssrc records recording (Ok said) = (said_of said ≡ said_after ssrc 0 nothing records) × (recording.fault ≡ None)
+HearsAll ssrc records recording (Err fault) = IsFaultOf recording fault
+
+-- it is what an input of these octets tells of its sender, where it can be read to its end
+abbrev pub Hears : ℕ → ℕ → List ℕ → Result Said DumpFault → Type 0
+Hears limit ssrc octets (Ok said) = (said_of said ≡ said_by limit ssrc octets) × ((dump limit octets).fault ≡ None)
+Hears limit ssrc octets (Err fault) = IsFaultOf (dump limit octets) fault
+
+module _ {S : Type 0} where
+  -- A source that was read is the one that it was. Where its reading failed, its count rose, and else it did not.
+  pub record IsRead (faults : S → ℕ) (name : S → List ℕ) (result : Result Said DumpFault) (old new : S) : Type 0 where
+    pub same_name : name new ≡ name old
+    pub read : IfErr result (λ fault. is_of_source fault.kind ≡ true → Rose (faults old) (faults new))
+    pub calm : UnlessOfSource result (faults new ≡ faults old)

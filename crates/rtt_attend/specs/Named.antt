@@ -1,0 +1,45 @@
+-- What a conference is told of its legs, and why it may not be.
+use Rattle.std.specs.Prelude.{◌≡◌, ℕ, ◌<◌, None, Some, Option, List, length, slice_get, Err, if◌then◌else◌}
+use Rattle.file_spec.specs.Conf.{Conf, is_name}
+use Rattle.command_spec.specs.Work.{Contents}
+use Rattle.command_spec.specs.Attending as attending
+use Rattle.command_spec.specs.Attending.{named, named_by, nothing, says_of}
+use Rattle.command_spec.specs.Inputs.{AllLie, inputs_under}
+use Rattle.bridge_run.specs.Mixes.{NoneFailed, WholeBelow}
+use Rattle.bridge_run.specs.declared.mixed.MixFault.{MixFault}
+use Rattle.rtt_attend.specs.declared.said.Said.{Said}
+use Rattle.rtt_attend.specs.Heard.{said_of}
+
+-- what has the shape of a leg's name
+abbrev pub shaped : List ℕ → Option (List ℕ)
+shaped text = if is_name text then Some text else None
+
+-- ---- what was heard, by leg
+abbrev pub or_nothing : Option Said → attending.Said
+or_nothing None = nothing
+or_nothing (Some said) = said_of said
+
+abbrev pub says_in : List Said → ℕ → attending.Said
+says_in all k = or_nothing (slice_get all k)
+
+-- This is what the inputs of all legs tell, each of which can be read to its end.
+pub record AreTold (held : Contents) (c : Conf) (all : List Said) : Type 0 where
+  pub lie : AllLie held c.legs
+  pub whole : WholeBelow (length c.legs) c (inputs_under held c.legs)
+  pub says : (k : ℕ) → k < length c.legs → says_in all k ≡ says_of c (inputs_under held c.legs) k
+
+-- ---- what that makes of the conference
+-- It is named as its inputs tell, each of which can be read to its end.
+pub record IsNamed (held : Contents) (old new : Conf) : Type 0 where
+  pub lie : AllLie held old.legs
+  pub whole : WholeBelow (length old.legs) old (inputs_under held old.legs)
+  pub is : new ≡ named old (inputs_under held old.legs)
+
+-- It is named by something. So nothing but names and stays may be another.
+abbrev pub IsNamedSome : Conf → Conf → Type 0
+IsNamedSome old new = (says : ℕ → attending.Said) × (new ≡ named_by says old)
+
+module _ {W : Type 0} where
+  -- Which readings did not fail where there is this fault: as in a mixing that ends with it.
+  abbrev pub NoneFailedWith : Type 0 → (W → List ℕ → ℕ) → W → W → Conf → MixFault → Type 0
+  NoneFailedWith Told objects old new c fault = NoneFailed Told c.legs (objects old) (objects new) (Err fault)

@@ -1,0 +1,157 @@
+//! The inputs of a conference are heard.
+ghost use Rattle.std.specs.Prelude.{◌≡◌, ◌≢◌, ◌<◌, ◌≤◌, [], true, length, IfOk, IfErr, OnOk, OnErr};
+ghost use Rattle.std.specs.Vec.{vec_capacity};
+ghost use Rattle.rtt_io.specs.Names.{CountsNoOther, NoneFalls, Same};
+ghost use Rattle.rtpdump_io.specs.Reading.{UnlessOfSource};
+ghost use Rattle.wire_spec.specs.declared.limits.TheConstants.{MOST_RECORDING_OCTETS};
+ghost use Rattle.file_spec.specs.declared.limits.TheConstants.{MOST_LEGS};
+ghost use Rattle.conference.specs.Conferences.{conf_of};
+ghost use Rattle.bridge_run.specs.Mixes.{StopsIn};
+ghost use Rattle.rtt_attend.specs.Heard.{Hears};
+ghost use Rattle.rtt_attend.specs.Opened.{AreInputs, FailedIn, HeardIn, UnheardIn};
+ghost use Rattle.rtt_attend.specs.Named.{AreTold, IsNamed, IsNamedSome, NoneFailedWith};
+
+use crate::inputs::{Heard, hear_input};
+use crate::opening::{close_inputs, open_inputs};
+use crate::said::Said;
+use crate::telling::tell_legs;
+use bridge_run::{MixFault, input_limit};
+use conference::Conf;
+use file_spec::LegLine;
+use rtcp_spec::Events;
+use rtpdump_io::DumpFault;
+use rtt_base::Packet;
+use rtt_io::World;
+use std::alloc::Global;
+
+/// What the input of a leg tells of it. Its source, of which nothing was read, is handed back.
+fn hear_leg<W: World>(
+    leg: &LegLine,
+    limit: u32,
+    source: W::Src,
+    world: &mut W,
+    octets: &mut Packet,
+    events: &mut Events,
+) -> Result<Said, DumpFault>
+    requires limit { limit ≤ MOST_RECORDING_OCTETS }
+    requires fresh { W.Src.faults source ≡ 0 }
+    ensures hears { W.Src.tells → Hears limit leg.now.ssrc (W.Src.left source) result }
+    ensures read { IfErr result (FailedIn W.object_faults (W.Src.name source) world.old world.new) }
+    ensures calm { UnlessOfSource result (Same W.object_faults world.old world.new) }
+    ensures no_other { W.tells → CountsNoOther W.contents W.object_faults (W.Src.name source)
+        world.old world.new }
+    ensures objects_never_fall { NoneFalls W.object_faults world.old world.new }
+    ensures same_own { Same W.own_faults world.old world.new }
+    ensures same_contents { W.tells → Same W.contents world.old world.new }
+{
+    let Heard { source, said } = hear_input(source, leg.ssrc, limit, octets, events);
+    world.done_src(source);
+    said
+}
+
+/// What the inputs of all legs tell of them, in leg order, up to the first that can't be read to its end. All sources are
+/// handed back. There is room for what they tell.
+fn hear_inputs<W: World>(
+    legs: &[LegLine],
+    limit: u32,
+    sources: Vec<W::Src>,
+    world: &mut W,
+    mut all: Vec<Said>,
+) -> Result<Vec<Said>, MixFault>
+    requires limit { limit ≤ MOST_RECORDING_OCTETS }
+    requires few { length legs.now ≤ MOST_LEGS }
+    requires count { length sources.items ≡ length legs.now }
+    requires opened { AreInputs W.tells W.Src.left W.Src.faults W.Src.name (W.contents world.old)
+        legs.now sources.items }
+    requires shown { W.tells → 0 < length legs.now → W.Src.tells }
+    requires none { all.items ≡ [] }
+    requires room { length legs.now ≤ vec_capacity all }
+    ensures heard { W.tells → IfOk result (HeardIn W.contents world.old limit legs.now) }
+    ensures count { IfOk result (λ all. length all.items ≡ length legs.now) }
+    ensures calm { OnOk result (Same W.object_faults world.old world.new) }
+    ensures unheard { IfErr result (UnheardIn W.tells W.contents W.object_faults
+        world.old world.new limit legs.now) }
+    ensures objects_never_fall { NoneFalls W.object_faults world.old world.new }
+    ensures same_own { Same W.own_faults world.old world.new }
+    ensures same_contents { W.tells → Same W.contents world.old world.new }
+{
+    let mut octets = Packet::new();
+    let mut events = Events::new();
+    let mut rest = sources.into_iter();
+    while let Some(source) = rest.next() {
+        let number = all.len();
+        match hear_leg(
+            &legs[number],
+            limit,
+            source,
+            world,
+            &mut octets,
+            &mut events,
+        ) {
+            Ok(said) => all.push_reserved(said),
+            Err(fault) => {
+                close_inputs(rest, world);
+                return Err(MixFault::Dump {
+                    leg: number as u8,
+                    fault,
+                });
+            }
+        }
+    }
+    rest.destroy_empty();
+    Ok(all)
+}
+
+/// What the inputs of all legs tell of them.
+fn hear_all<W: World>(alloc: Global, conf: &Conf, world: &mut W) -> Result<Vec<Said>, MixFault>
+    ensures told { W.tells → IfOk result (λ all. AreTold (W.contents world.old) (conf_of conf.now) all.items) }
+    ensures count { IfOk result (λ all. length all.items ≡ length conf.now.legs) }
+    ensures stops { IfErr result (StopsIn W.tells W.contents W.own_faults W.object_faults
+        world.old world.new (conf_of conf.now)) }
+    ensures in_time { IfErr result (λ fault. fault ≢ MixFault.TooLong) }
+    ensures none_failed { IfErr result (NoneFailedWith W.tells W.object_faults
+        world.old world.new (conf_of conf.now)) }
+    ensures calm { OnOk result (Same W.object_faults world.old world.new) }
+    ensures opened { OnOk result (Same W.own_faults world.old world.new) }
+    ensures same_contents { W.tells → Same W.contents world.old world.new }
+    ensures calls_never_fall { NoneFalls W.own_faults world.old world.new }
+    ensures objects_never_fall { NoneFalls W.object_faults world.old world.new }
+{
+    let lines = conf.legs.as_slice();
+    let Ok(all) = Vec::with_capacity(alloc, lines.len()) else {
+        return Err(MixFault::NoMemory);
+    };
+    let sources = match open_inputs(alloc, lines, world) {
+        Ok(sources) => sources,
+        Err(fault) => return Err(fault),
+    };
+    let limit = input_limit(conf);
+    hear_inputs(lines, limit, sources, world, all)
+}
+
+/// The conference with the names and the leavings that the RTCP records of its inputs tell. All inputs are opened in leg
+/// order before one is read, and each is handed back. A fault means what it means of a mixing of the same conference, and the
+/// conference is as before then.
+pub fn hear_names<W: World>(alloc: Global, conf: &mut Conf, world: &mut W) -> Result<(), MixFault>
+    ensures named { W.tells → OnOk result (IsNamed (W.contents world.old) (conf_of conf.old) (conf_of conf.new)) }
+    ensures named_some { OnOk result (IsNamedSome (conf_of conf.old) (conf_of conf.new)) }
+    ensures unchanged { OnErr result (conf_of conf.new ≡ conf_of conf.old) }
+    ensures stops { IfErr result (StopsIn W.tells W.contents W.own_faults W.object_faults
+        world.old world.new (conf_of conf.old)) }
+    ensures in_time { IfErr result (λ fault. fault ≢ MixFault.TooLong) }
+    ensures none_failed { IfErr result (NoneFailedWith W.tells W.object_faults
+        world.old world.new (conf_of conf.old)) }
+    ensures calm { OnOk result (Same W.object_faults world.old world.new) }
+    ensures opened { OnOk result (Same W.own_faults world.old world.new) }
+    ensures same_contents { W.tells → Same W.contents world.old world.new }
+    ensures calls_never_fall { NoneFalls W.own_faults world.old world.new }
+    ensures objects_never_fall { NoneFalls W.object_faults world.old world.new }
+{
+    let said = match hear_all(alloc, conf, world) {
+        Ok(said) => said,
+        Err(fault) => return Err(fault),
+    };
+    let wait = conf.wait;
+    tell_legs(&mut conf.legs, wait, said.as_slice());
+    Ok(())
+}

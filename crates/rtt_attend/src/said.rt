@@ -1,0 +1,73 @@
+//! What RTCP tells of one sender.
+ghost use Rattle.std.specs.Prelude.{◌≡◌, ◌==◌, Some, if◌then◌else◌};
+ghost use Rattle.rtcp_spec.specs.Rtcp.{rtcp};
+ghost use Rattle.command_spec.specs.Attending.{and_event, and_events, and_read, or_first};
+ghost use Rattle.rtt_attend.specs.Heard.{said_of};
+
+use rtcp_labels::read_rtcp;
+use rtcp_spec::{Event, Events, SdesName};
+
+/// What is told of a sender: of each kind what was told first.
+#[derive(Default, Drop)]
+pub(crate) struct Said {
+    /// Its name.
+    pub name: Option<SdesName>,
+    /// The moment at which it left (milliseconds).
+    pub left: Option<u32>,
+}
+
+/// The sender has this name, if none was told before.
+fn hear_name(name: &SdesName, said: &mut Said)
+    ensures name { said.new.name ≡ or_first said.old.name name.now }
+    ensures left { said.new.left ≡ said.old.left }
+{
+    if said.name.is_none() {
+        said.name = Some(SdesName::from_text(name.as_str()));
+    }
+}
+
+/// The sender leaves at this moment, if it did not before.
+fn hear_leaving(at: u32, said: &mut Said)
+    ensures name { said.new.name ≡ said.old.name }
+    ensures left { said.new.left ≡ or_first said.old.left at }
+{
+    if said.left.is_none() {
+        said.left = Some(at);
+    }
+}
+
+/// An event that is told at the moment `at`, where it is one of this sender.
+fn hear_event(ssrc: u32, at: u32, event: &Event, said: &mut Said)
+    ensures { said_of said.new ≡ and_event ssrc at (said_of said.old) event.now }
+{
+    match event {
+        Event::Name { ssrc: sender, name } => {
+            if *sender == ssrc {
+                hear_name(name, said);
+            }
+        }
+        Event::Bye { ssrc: leaver } => {
+            if *leaver == ssrc {
+                hear_leaving(at, said);
+            }
+        }
+    }
+}
+
+/// Events that are told at the moment `at`.
+fn hear_events(ssrc: u32, at: u32, events: &[Event], said: &mut Said)
+    ensures { said_of said.new ≡ and_events ssrc at (said_of said.old) events.now }
+{
+    for event in events {
+        hear_event(ssrc, at, event, said);
+    }
+}
+
+/// What the octets of a record of RTCP tell of this sender; what is refused tells nothing.
+pub(crate) fn hear_rtcp(ssrc: u32, at: u32, octets: &[u8], events: &mut Events, said: &mut Said)
+    ensures { said_of said.new ≡ and_read ssrc at (said_of said.old) (rtcp octets.now) }
+{
+    if let Ok(()) = read_rtcp(octets, events) {
+        hear_events(ssrc, at, events.as_slice(), said);
+    }
+}
