@@ -1,0 +1,90 @@
+//! Links whose peers may leave.
+ghost use Rattle.std.specs.Prelude.{◌≡◌, ℕ};
+ghost use Rattle.leaving_links.specs.Leaving.{takes_told};
+
+use crate::LeavingIn;
+use link_io::Links;
+use rtt_base::Failed;
+
+/// Links over others, each of which is closed for good once its peer has left ([`LeavingIn`]). All else is as below: the outbound ends,
+/// the clock, what is stored and the counts of faults.
+#[derive(Drop)]
+pub struct Leaving<L: Links> {
+    links: L,
+}
+
+impl<L: Links> Leaving<L> {
+    /// The links over these.
+    pub fn new(links: L) -> Leaving<L>
+        ensures taken { (p : ℕ) → ⟦<Leaving<L> as Links>⟧.taken_at result p ≡ takes_told (L.taken_at links p) }
+        ensures given { (p : ℕ) → ⟦<Leaving<L> as Links>⟧.given_at result p ≡ L.given_at links p }
+        ensures own { (p : ℕ) → ⟦<Leaving<L> as Links>⟧.own_faults result p ≡ L.own_faults links p }
+        ensures objects { (p : ℕ) → ⟦<Leaving<L> as Links>⟧.object_faults result p ≡ L.object_faults links p }
+        ensures pauses { ⟦<Leaving<L> as Links>⟧.pauses result ≡ L.pauses links }
+    {
+        Leaving { links }
+    }
+
+    /// The links below.
+    pub fn into_links(self) -> L
+        ensures taken { (p : ℕ) → ⟦<Leaving<L> as Links>⟧.taken_at self p ≡ takes_told (L.taken_at result p) }
+        ensures given { (p : ℕ) → ⟦<Leaving<L> as Links>⟧.given_at self p ≡ L.given_at result p }
+        ensures own { (p : ℕ) → ⟦<Leaving<L> as Links>⟧.own_faults self p ≡ L.own_faults result p }
+        ensures objects { (p : ℕ) → ⟦<Leaving<L> as Links>⟧.object_faults self p ≡ L.object_faults result p }
+        ensures pauses { ⟦<Leaving<L> as Links>⟧.pauses self ≡ L.pauses result }
+    {
+        let Leaving { links } = self;
+        links
+    }
+}
+
+impl<L: Links> Links for Leaving<L> {
+    ghost use Rattle.leaving_links.specs.Leaving.{takes_told};
+
+    type In = LeavingIn<L::In>;
+
+    type Out = L::Out;
+
+    ghost tells = { L.tells };
+
+    ghost opened = { λ all. L.opened all.links };
+
+    ghost taken_at = { λ all port. takes_told (L.taken_at all.links port) };
+
+    ghost given_at = { λ all. L.given_at all.links };
+
+    ghost own_faults = { λ all. L.own_faults all.links };
+
+    ghost object_faults = { λ all. L.object_faults all.links };
+
+    ghost moment = { λ all. L.moment all.links };
+
+    ghost pauses = { λ all. L.pauses all.links };
+
+    fn link(&mut self, port: u16, to: &str) -> Result<(LeavingIn<L::In>, L::Out), Failed> {
+        let Ok((inbound, outbound)) = self.links.link(port, to) else {
+            return Err(Failed);
+        };
+        Ok((LeavingIn::new(inbound), outbound))
+    }
+
+    fn done_in(&mut self, link: LeavingIn<L::In>) {
+        let LeavingIn {
+            link: below,
+            peer: _,
+        } = link;
+        self.links.done_in(below);
+    }
+
+    fn done_out(&mut self, link: L::Out) {
+        self.links.done_out(link);
+    }
+
+    fn now(&mut self) -> u64 {
+        self.links.now()
+    }
+
+    fn pause_until(&mut self, until: u64) {
+        self.links.pause_until(until);
+    }
+}
