@@ -1,0 +1,3 @@
+pub mod Sheeting
+pub mod Fitting
+pub mod Stepping
