@@ -35,6 +35,6 @@ pub record Going {S : Type 0} (tells : Type 0) (left : S → List ℕ) (faults :
   pub not_ended : is_ended now ≡ false
   pub listens : IsListening m
   pub few : arrival_count m.tracker + most_answers now ≤ most_answers before
-  pub never_falls : faults (source_of before) ≤ faults (source_of now)
+  pub calm : faults (source_of now) ≡ faults (source_of before)
   pub same_name : name (source_of now) ≡ name (source_of before)
   pub heard : HeardSome tells (to_come left before) l (to_come left now) m

@@ -1,5 +1,4 @@
 mod Adding
 mod Gathering
 mod Hearing
-mod Refusing
 mod Splitting

@@ -1,9 +1,11 @@
--- What is read of the recording of a source, or of a source of the world below.
-use Rattle.std.specs.Prelude.{◌≡◌, ℕ, List, Some}
-use Rattle.cascade.specs.TrunkNames.{recording_under}
-use Rattle.cascade.specs.declared.trunk_sources.SplitSource.{SplitSource}
+-- What is read of the recording of a source, or of a source of a world.
+use Rattle.std.specs.Prelude.{ℕ, List, [], ◌∷◌}
 use Rattle.cascade.specs.declared.trunk_sources.TrunkSource.{TrunkSource}
 use Rattle.cascade.specs.declared.trunk_sources.TrunkSource.TheVariants.{Split, Below}
+
+-- a name of the world, behind one octet: so it is not that of a recording of a source, which is empty
+abbrev pub below : List ℕ → List ℕ
+below name = 1 ∷ name
 
 module _ {S : Type 0} where
   abbrev pub left_in : (S → List ℕ) → TrunkSource S → List ℕ
@@ -15,10 +17,5 @@ module _ {S : Type 0} where
   faults_in faults (Below b) = faults b
 
   abbrev pub name_in : (S → List ℕ) → TrunkSource S → List ℕ
-  name_in name (Split own) = own.name.now
-  name_in name (Below b) = name b
-
--- it is the recording that lies under this name
-pub record IsOpened (names recordings : List (List ℕ)) (name : List ℕ) (source : SplitSource) : Type 0 where
-  pub named : source.name.now ≡ name
-  pub is : recording_under names recordings name ≡ Some source.rest.now
+  name_in name (Split own) = []
+  name_in name (Below b) = below (name b)

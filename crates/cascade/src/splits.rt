@@ -2,7 +2,7 @@
 ghost use Rattle.std.specs.Prelude.{◌≡◌, ◌≢◌, ℕ, ◌+◌, ◌≤◌, ◌<◌, ◌^◌, List, [], ◌∷◌, length, Bool, None, Some, OnOk, IfOk, IfErr, AllPairs, slice_get};
 ghost use Rattle.wire_spec.specs.Dump.{dump};
 ghost use Rattle.gap_tracker.specs.States.{arrival_count};
-ghost use Rattle.rtpdump_io.specs.Reading.{is_ended, to_come, source_of};
+ghost use Rattle.rtpdump_io.specs.Reading.{is_ended, to_come, source_of, SourceCalm};
 ghost use Rattle.rtpdump_io.specs.Answers.{record_of, is_end};
 ghost use Rattle.rtpdump_io.specs.Faults.{FaultOf, HasCause, IsSourceFault};
 ghost use Rattle.rtt_io.specs.Counts.{Rose};
@@ -81,6 +81,7 @@ fn listen<S: Source>(
     ensures hears { OnOk result (HearsAll S.tells (to_come S.left reader.old) divider.old divider.new) }
     ensures fault { S.tells → IfErr result (FaultOf (to_come S.left reader.old)) }
     ensures failed { IfErr result (HasCause S.faults reader.old reader.new) }
+    ensures calm { OnOk result (SourceCalm S.faults reader.old reader.new) }
     ensures never_falls { S.faults (source_of reader.old) ≤ S.faults (source_of reader.new) }
     ensures same_name { S.name (source_of reader.new) ≡ S.name (source_of reader.old) }
 {
@@ -114,9 +115,11 @@ fn split_from<S: Source>(
     requires few { length sources.now ≤ MOST_SOURCES }
     requires differ { AllPairs (λ a b. a ≢ b) sources.now }
     ensures splits { S.tells → IfOk result (SplitsAs (trunk_of ssrc conf) sources.now (to_come S.left reader.old)) }
+    ensures each { IfOk result (λ s. length (recordings_of s) ≡ length sources.now) }
     ensures whole { S.tells → OnOk result ((to_come S.left reader.old).fault ≡ None) }
     ensures fault { S.tells → IfErr result (FaultOf (to_come S.left reader.old)) }
     ensures failed { IfErr result (HasCause S.faults reader.old reader.new) }
+    ensures calm { OnOk result (SourceCalm S.faults reader.old reader.new) }
     ensures never_falls { S.faults (source_of reader.old) ≤ S.faults (source_of reader.new) }
     ensures same_name { S.name (source_of reader.new) ≡ S.name (source_of reader.old) }
 {
@@ -149,9 +152,11 @@ pub fn split<S: Source>(
     requires few { length sources.now ≤ MOST_SOURCES }
     requires differ { AllPairs (λ a b. a ≢ b) sources.now }
     ensures splits { S.tells → IfOk result.1 (λ s. recordings_of s ≡ splitting.splits (trunk_of ssrc conf) sources.now (S.left src)) }
+    ensures each { IfOk result.1 (λ s. length (recordings_of s) ≡ length sources.now) }
     ensures whole { S.tells → OnOk result.1 ((dump conf.limit (S.left src)).fault ≡ None) }
     ensures fault { S.tells → IfErr result.1 (FaultOf (dump conf.limit (S.left src))) }
     ensures failed { IfErr result.1 (λ fault. IsSourceFault fault → Rose (S.faults src) (S.faults result.0)) }
+    ensures calm { OnOk result.1 (S.faults result.0 ≡ S.faults src) }
     ensures never_falls { S.faults src ≤ S.faults result.0 }
     ensures same_name { S.name result.0 ≡ S.name src }
 {

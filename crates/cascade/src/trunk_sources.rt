@@ -1,30 +1,8 @@
-//! What is read in a world in which recordings of sources lie beside what another world holds.
-ghost use Rattle.std.specs.Prelude.{◌≡◌, ◌≤◌, ◌<◌, ◌++◌, [], length, take, min, Bool};
-ghost use Rattle.cascade.specs.TrunkNames.{is_trunk};
+//! What is read where recordings of sources stand beside what a world holds.
+ghost use Rattle.std.specs.Prelude.{◌≡◌, ◌≤◌, ◌<◌, ◌++◌, [], length, take, min};
 
 use rtt_base::Failed;
 use rtt_io::Source;
-
-/// A source of the world below. Its name is no name of a split.
-#[derive(Drop)]
-pub struct BelowSource<S: Source> {
-    pub(crate) source: S,
-    ghost named: { is_trunk (S.name source) ≡ Bool.false },
-}
-
-impl<S: Source> Source for BelowSource<S> {
-    ghost tells = { S.tells };
-
-    ghost left = { λ b. S.left b.source };
-
-    ghost faults = { λ b. S.faults b.source };
-
-    ghost name = { λ b. S.name b.source };
-
-    fn read(&mut self, buf: &mut [u8]) -> Result<usize, Failed> {
-        self.source.read(buf)
-    }
-}
 
 /// Copies octets of `rest` to the front of `buf`: as many as there are, and fit. Answers how many.
 fn hand_out(rest: &[u8], buf: &mut [u8]) -> usize
@@ -36,18 +14,22 @@ fn hand_out(rest: &[u8], buf: &mut [u8]) -> usize
     number
 }
 
-/// What is still to be read of the recording of a source, and the name under which it lies.
+/// What is still to be read of the recording of a source.
 #[derive(Drop)]
 pub struct SplitSource<'a> {
-    pub(crate) name: &'a str,
-    pub(crate) rest: &'a [u8],
-    ghost named: { is_trunk name.now ≡ Bool.true },
+    rest: &'a [u8],
 }
 
 impl<'a> SplitSource<'a> {
+    /// All of this recording.
+    pub fn new(recording: &'a [u8]) -> SplitSource<'a>
+        ensures { result.rest.now ≡ recording.now }
+    {
+        SplitSource { rest: recording }
+    }
+
     /// Reads the next octets. It never fails.
     fn take(&mut self, buf: &mut [u8]) -> usize
-        ensures name { self.new.name.now ≡ self.old.name.now }
         ensures fits { result ≤ length buf.new }
         ensures given { self.old.rest.now ≡ take result buf.new ++ self.new.rest.now }
         ensures ended { 0 < length buf.old → result ≡ 0 → self.old.rest.now ≡ [] }
@@ -58,7 +40,7 @@ impl<'a> SplitSource<'a> {
     }
 }
 
-/// The recording of a source, or a source of the world below.
+/// The recording of a source, or a source of a world.
 #[derive(Drop)]
 pub enum TrunkSource<'a, S> {
     /// No reading of it fails.

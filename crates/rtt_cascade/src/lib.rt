@@ -1,11 +1,19 @@
-//! What a conference of which some legs stand behind another mixer is mixed from: the names under which splits lie, and the
-//! conference whose legs read them.
+//! A conference of which some legs stand behind another mixer: a recording of what that mixer sent is split into its sources,
+//! and mixed with the other legs.
 #![tactic(auto)]
 
-mod fed;
-mod names;
+mod cascades;
+mod faults;
+mod feeding;
+mod inputs;
+mod laws;
 mod trunks;
 
-pub use fed::fed_conf;
-pub use names::split_names;
-pub use trunks::{odd_line, sources_of};
+pub use cascades::cascade;
+pub use faults::CascadeFault;
+pub use inputs::input_name;
+pub use laws::all_splits_are_whole;
+pub use trunks::odd_line;
+
+#[cfg(test)]
+mod tests;

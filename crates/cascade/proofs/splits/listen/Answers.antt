@@ -11,7 +11,7 @@ loop-item-init g c = record {
   not_ended = c.requires.reads;
   listens = c.requires.listens;
   few = omega (arith, c.requires.few);
-  never_falls = omega arith;
+  calm = refl;
   same_name = refl;
   heard = some_none g.S.Source.tells (to_come g.S.Source.left c.args.reader.now) c.args.divider.now;
 }
@@ -27,7 +27,7 @@ loop-item-preserved g c =
       not_ended = c.in-Ok.ensures.ended ∙ not_last item more;
       listens = (r.0, r.1, arrivals_with r.0.ssrc r.0.pts told r.2, c.in-Ok-hear_record.ensures.takes r.0 r.1 r.2 r.3);
       few = omega (arith, c.in-Ok-hear_record.ensures.arrivals, c.in-Ok.ensures.nearer, c.loop-item.invariant.few);
-      never_falls = omega (arith, c.in-Ok.ensures.never_falls, c.loop-item.invariant.never_falls);
+      calm = c.in-Ok.ensures.calm ∙ c.loop-item.invariant.calm;
       same_name = c.in-Ok.ensures.same_name ∙ c.loop-item.invariant.same_name;
       heard = some_more g.S.Source.tells (to_come g.S.Source.left c.args.reader.now) (to_come g.S.Source.left c.loop-item.reader) (to_come g.S.Source.left c.next.new.self) c.args.divider.now c.loop-item.divider c.hear_record.new.divider told
           c.loop-item.invariant.heard

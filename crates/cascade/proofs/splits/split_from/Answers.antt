@@ -1,5 +1,6 @@
-use Rattle.std.proofs.Common.{[], ap, sym, ◌∙◌}
+use Rattle.std.proofs.Common.{ℕ, List, [], length, ap, sym, ◌∙◌}
 use Rattle.std.specs.Prelude.{map}
+use Rattle.std.proofs.lemmas.List.{length-map}
 use Rattle.wire_spec.specs.Dump.{Recording, arrivals_after}
 use Rattle.cascade_spec.specs.Splitting.{split}
 use Rattle.cascade.specs.Splits.{trunk_of}
@@ -20,3 +21,11 @@ returns-in-Ok-finish-clause-splits g c = λ told.
     let all = c.in_default-listen.ensures.hears in
     c.in-Ok-finish.ensures.splits t c.args.sources.now (arrivals_after t.ssrc t.pts [] all.items) (all.hears t c.args.sources.now [] (c.in-Ok.ensures.listens c.args.conf.limit))
     ∙ ap (λ (q : Recording). map (split t.pts t.wait (arrivals_after t.ssrc t.pts [] q.items)) c.args.sources.now) (sym (all.is told))
+
+pub returns-in-Ok-finish-clause-each : goal.returns-in-Ok-finish-clause-each
+returns-in-Ok-finish-clause-each g c =
+    let t = trunk_of c.args.ssrc c.args.conf in
+    let all = c.in_default-listen.ensures.hears in
+    let past = arrivals_after t.ssrc t.pts [] all.items in
+    ap (λ (xs : List (List ℕ)). length xs) (c.in-Ok-finish.ensures.splits t c.args.sources.now past (all.hears t c.args.sources.now [] (c.in-Ok.ensures.listens c.args.conf.limit)))
+    ∙ length-map c.args.sources.now (split t.pts t.wait past)
