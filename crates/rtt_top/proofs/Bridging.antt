@@ -4,9 +4,8 @@ use Rattle.std.specs.Prelude.{◌⊎◌, IfErr, OnOk, OnErr, if◌then◌else◌
 use Rattle.std.specs.Result.{is_err}
 use Rattle.rtpdump_io.specs.declared.items.DumpFault.{DumpFault}
 use Rattle.rtpdump_io.specs.Reading.{is_of_source}
-use Rattle.file_spec.specs.declared.conf_lines.Form.TheVariants.{Files}
 use Rattle.file_spec.specs.declared.conf_lines.LegLine.{LegLine}
-use Rattle.file_spec.specs.Conf.{Conf, conf}
+use Rattle.file_spec.specs.Conf.{Conf}
 use Rattle.mixer_spec.specs.Setups.{leg_at}
 use Rattle.command_spec.specs.declared.faults.Refusal.TheVariants.{AtByte, AfterTurns}
 use Rattle.command_spec.specs.declared.faults.Fault.{Fault}
@@ -14,25 +13,26 @@ use Rattle.command_spec.specs.declared.faults.Fault.TheVariants.{WrongWords, Can
 use Rattle.command_spec.specs.Work.{Contents, Made, Makes, IsInput, IsOutput, IsNth}
 use Rattle.command_spec.specs.Outcomes.{outcome, Done, IsDone, Same, Stores, AllStored}
 use Rattle.command_spec.specs.Outcomes as outcomes
-use Rattle.command_spec.specs.Mixing.{mixing}
+use Rattle.command_spec.specs.Words.{Command}
+use Rattle.command_spec.specs.Commands.{work}
+use Rattle.command_spec.specs.Inputs.{LieBelow, AllLie}
 use Rattle.command_spec.specs.Messages.{Ending}
 use Rattle.bridge_run.specs.declared.mixed.MixFault.{MixFault}
 use Rattle.bridge_run.specs.declared.mixed.MixFault.TheVariants.{Open, Dump, TooLong}
 use Rattle.bridge_run.specs.declared.mixed.MixFault.TheVariants as mix
-use Rattle.bridge_run.specs.Mixes.{LieBelow, AllLie, IsMade, IsBroken, outputs_of, steps_of}
+use Rattle.bridge_run.specs.Mixes.{IsBroken, outputs_of, steps_of}
 use Rattle.bridge_run.specs.Mixes as bridge
-use Rattle.rtt_top.specs.Conferences.{ending_name, fault_of_mixing, input_name, input_of, mixing_of, output_of}
+use Rattle.rtt_top.specs.Conferences.{ComesToMixing, ending_name, fault_of_mixing, input_name, input_of, output_of}
 use Rattle.rtt_top.specs.Faults.{NoneBefore, is_recording}
 use Rattle.rtt_top.specs.Outputs.{IsUnwritten}
 use Rattle.rtt_top.specs.Outside.{Outside, Output, Failed, CallFailed, ObjectFailed, RoseAt}
 use Rattle.rtt_top.specs.Runs.{Prints, PrintsFront, Unchanged, PartlyStored, Ends, NoneFailedBefore}
-use Rattle.command_spec.proofs.Outputs.{is_output}
 use Rattle.rtt_top.proofs.Working.{done}
 use Rattle.rtt_top.proofs.Counts.{rose_since}
-use Rattle.rtt_top.proofs.Chain.{is_input, none_before, outcome_done, outcome_refused}
+use Rattle.rtt_top.proofs.Chain.{none_before, outcome_done, outcome_refused}
 
 -- ---- legs
-leg_within : (legs : List LegLine) (k : ℕ) (leg : LegLine) → leg_at legs k ≡ Some leg → k < length legs
+pub leg_within : (legs : List LegLine) (k : ℕ) (leg : LegLine) → leg_at legs k ≡ Some leg → k < length legs
 leg_within [] k leg at = absurd (cc at)
 leg_within (l ∷ legs) zero leg at = omega arith
 leg_within (l ∷ legs) (suc k) leg at = let below = leg_within legs k leg at in omega arith
@@ -53,46 +53,46 @@ from_leg : (k j : ℕ) (b : Bool) → cond b k (k + 1) ≤ j → k + 1 ≤ suc j
 from_leg k j true le = omega arith
 from_leg k j false le = omega arith
 
-none_failed : (WorldTells : Type 0) (old new : Outside) (file octets : List ℕ) (c : Conf) (k : ℕ) (fault : DumpFault) → WorldTells → (WorldTells → old.contents file ≡ Some octets) → conf Files octets ≡ Ok c
-    → AllLie old.contents c.legs → bridge.NoneFailed WorldTells c.legs old.objects new.objects (Err (Dump k fault)) → NoneFailedBefore (k + 1) (mixing_of file) WorldTells old new
-none_failed WorldTells old new file octets c k fault told there read lie none n name less i later = none told name (λ j leg le at is.
-    later (suc j) (from_leg k j (is_of_source fault.kind) le) (subst (λ f. IsInput WorldTells old.contents (mixing file) (suc j) f) is
-    (is_input WorldTells old.contents file octets c j leg there read at (λ t. lie_below old.contents c.legs j lie))))
+none_failed : (WorldTells : Type 0) (old new : Outside) (command : Command) (c : Conf) (k : ℕ) (fault : DumpFault) → ComesToMixing WorldTells old.contents command c → WorldTells
+    → AllLie old.contents c.legs → bridge.NoneFailed WorldTells c.legs old.objects new.objects (Err (Dump k fault)) → NoneFailedBefore (k + 1) command WorldTells old new
+none_failed WorldTells old new command c k fault m told there none n name less i later = none told name (λ j leg le at is.
+    later (suc j) (from_leg k j (is_of_source fault.kind) le) (subst (λ f. IsInput WorldTells old.contents (work command).steps (suc j) f) is
+    (m.input j leg at (λ t. lie_below old.contents c.legs j there))))
 
 -- ---- nothing is made
-broken : (WorldTells OutTells : Type 0) (old new : Outside) (file octets : List ℕ) (c : Conf) (k : ℕ) (leg : LegLine) (fault : DumpFault) (b : Bool)
-    → (WorldTells → old.contents file ≡ Some octets) → conf Files octets ≡ Ok c → is_of_source fault.kind ≡ b → leg_at c.legs k ≡ Some leg
+broken : (WorldTells OutTells : Type 0) (old new : Outside) (file : List ℕ) (command : Command) (c : Conf) (k : ℕ) (leg : LegLine) (fault : DumpFault) (b : Bool)
+    → ComesToMixing WorldTells old.contents command c → is_of_source fault.kind ≡ b → leg_at c.legs k ≡ Some leg
     → IsBroken WorldTells (ObjectFailed old new) old.contents c k leg fault
     → bridge.NoneFailed WorldTells c.legs old.objects new.objects (Err (Dump k fault)) → Unchanged WorldTells OutTells old new
     → let ended : Ending = Err (if b then CannotRead (k + 1) else Refused (k + 1) (AtByte fault.offset fault.kind)) in
-    Ends (mixing_of file) WorldTells OutTells old new (ending_name file c.legs ended) ended
-broken WorldTells OutTells old new file octets c k leg fault true there read is at s none u =
-    let r = by_number (λ n name. IsInput WorldTells old.contents (mixing file) n name × ObjectFailed old new name × (WorldTells → NoneBefore n (outcome old.contents (mixing file)))) file c.legs k leg at (
-      is_input WorldTells old.contents file octets c k leg there read at (λ told. lie_below old.contents c.legs k (s.lie told)),
+    Ends command WorldTells OutTells old new (ending_name file c.legs ended) ended
+broken WorldTells OutTells old new file command c k leg fault true m is at s none u =
+    let r = by_number (λ n name. IsInput WorldTells old.contents (work command).steps n name × ObjectFailed old new name × (WorldTells → NoneBefore n (outcome old.contents (work command).steps))) file c.legs k leg at (
+      m.input k leg at (λ told. lie_below old.contents c.legs k (s.lie told)),
       s.read is,
-      λ told. none_before old.contents file octets c k (there told) read (s.lie told) (s.lowest told),
-    ) in (r.0, r.1, (λ told. (r.2 told, none_failed WorldTells old new file octets c k fault told there read (s.lie told) none)), u)
-broken WorldTells OutTells old new file octets c k leg fault false there read is at s none u =
-    let r = by_number (λ n name. IsInput WorldTells old.contents (mixing file) n name × (is_recording (mixing_of file) n ≡ true) × (WorldTells → outcome old.contents (mixing file) ≡ outcomes.Refused n (AtByte fault.offset fault.kind))) file c.legs k leg at (
-      is_input WorldTells old.contents file octets c k leg there read at (λ told. lie_below old.contents c.legs k (s.lie told)),
-      refl,
+      λ told. none_before WorldTells old.contents command c k m told (s.lie told) (s.lowest told),
+    ) in (r.0, r.1, (λ told. (r.2 told, none_failed WorldTells old new command c k fault m told (s.lie told) none)), u)
+broken WorldTells OutTells old new file command c k leg fault false m is at s none u =
+    let r = by_number (λ n name. IsInput WorldTells old.contents (work command).steps n name × (is_recording command n ≡ true) × (WorldTells → outcome old.contents (work command).steps ≡ outcomes.Refused n (AtByte fault.offset fault.kind))) file c.legs k leg at (
+      m.input k leg at (λ told. lie_below old.contents c.legs k (s.lie told)),
+      m.recordings k,
       λ told. (let one : k + 1 ≡ suc k = omega arith in
-          outcome_refused old.contents file octets c (k + 1) (AtByte fault.offset fault.kind) (there told) read (s.lie told) (s.refused is told)
+          outcome_refused WorldTells old.contents command c (k + 1) (AtByte fault.offset fault.kind) m told (s.lie told) (s.refused is told)
           ∙ ap (λ n. outcomes.Refused n (AtByte fault.offset fault.kind)) one),
-    ) in (r.0, r.1, (λ told. (r.2 told, none_failed WorldTells old new file octets c k fault told there read (s.lie told) none)), u)
+    ) in (r.0, r.1, (λ told. (r.2 told, none_failed WorldTells old new command c k fault m told (s.lie told) none)), u)
 
-pub stopped_mixing : (WorldTells OutTells : Type 0) (old new : Outside) (file octets : List ℕ) (c : Conf) (fault : MixFault) → (WorldTells → old.contents file ≡ Some octets) → conf Files octets ≡ Ok c
+pub stopped_mixing : (WorldTells OutTells : Type 0) (old new : Outside) (file : List ℕ) (command : Command) (c : Conf) (fault : MixFault) → ComesToMixing WorldTells old.contents command c
     → bridge.Stops WorldTells (CallFailed old new) (ObjectFailed old new) old.contents c fault
     → bridge.NoneFailed WorldTells c.legs old.objects new.objects (Err fault) → Unchanged WorldTells OutTells old new
-    → Ends (mixing_of file) WorldTells OutTells old new (ending_name file c.legs (Err (fault_of_mixing c.turns fault))) (Err (fault_of_mixing c.turns fault))
-stopped_mixing WorldTells OutTells old new file octets c (Open k) there read s none u =
-    let r = by_number (λ n name. IsInput WorldTells old.contents (mixing file) n name × CallFailed old new name) file c.legs k s.0 s.1
-    (is_input WorldTells old.contents file octets c k s.0 there read s.1 s.3, s.2) in (r.0, r.1, u)
-stopped_mixing WorldTells OutTells old new file octets c (Dump k fault) there read s none u =
-    broken WorldTells OutTells old new file octets c k s.0 fault (is_of_source fault.kind) there read refl s.1 s.2 none u
-stopped_mixing WorldTells OutTells old new file octets c TooLong there read s none u =
-    (refl, refl, (λ told. outcome_refused old.contents file octets c 0 (AfterTurns c.turns) (there told) read (s told).0 (s told).1), none, u)
-stopped_mixing WorldTells OutTells old new file octets c mix.NoMemory there read s none u = u
+    → Ends command WorldTells OutTells old new (ending_name file c.legs (Err (fault_of_mixing c.turns fault))) (Err (fault_of_mixing c.turns fault))
+stopped_mixing WorldTells OutTells old new file command c (Open k) m s none u =
+    let r = by_number (λ n name. IsInput WorldTells old.contents (work command).steps n name × CallFailed old new name) file c.legs k s.0 s.1
+    (m.input k s.0 s.1 s.3, s.2) in (r.0, r.1, u)
+stopped_mixing WorldTells OutTells old new file command c (Dump k fault) m s none u =
+    broken WorldTells OutTells old new file command c k s.0 fault (is_of_source fault.kind) m refl s.1 s.2 none u
+stopped_mixing WorldTells OutTells old new file command c TooLong m s none u =
+    (refl, m.mixed, (λ t. let told = m.reads t in outcome_refused WorldTells old.contents command c 0 (AfterTurns c.turns) m told (s told).0 (s told).1), none, u)
+stopped_mixing WorldTells OutTells old new file command c mix.NoMemory m s none u = u
 
 -- ---- an output can't be written
 nth_output : (legs : List LegLine) (outs : List (List ℕ)) (n : ℕ) (name : List ℕ) → IsNth (outputs_of legs outs) n name
@@ -128,67 +128,67 @@ pub record IsBetween (WorldTells : Type 0) (old new : Outside) (contents : Conte
   pub calls_rise : (name : List ℕ) → old.calls name ≤ calls name
   pub objects_rise : (name : List ℕ) → old.objects name ≤ objects name
 
-output_is : (WorldTells : Type 0) (held : Contents) (file octets : List ℕ) (c : Conf) (printed : List ℕ) (outs : List (List ℕ)) → (WorldTells → held file ≡ Some octets)
-    → conf Files octets ≡ Ok c → (WorldTells → AllLie held c.legs × (steps_of held c ≡ Makes printed (outputs_of c.legs outs)))
-    → (n : ℕ) (leg : LegLine) → leg_at c.legs n ≡ Some leg → IsOutput WorldTells held (mixing file) n leg.output
-output_is WorldTells held file octets c printed outs there read made n leg at =
-    is_output WorldTells held file octets c there read (λ told k l is. (made told).0 k l (leg_within c.legs k l is) is)
-    (λ told. (printed, outputs_of c.legs outs, (made told).1)) n leg at
+output_is : (WorldTells : Type 0) (held : Contents) (command : Command) (c : Conf) (printed : List ℕ) (outs : List (List ℕ)) → ComesToMixing WorldTells held command c
+    → (WorldTells → AllLie held c.legs × (steps_of held c ≡ Makes printed (outputs_of c.legs outs)))
+    → (n : ℕ) (leg : LegLine) → leg_at c.legs n ≡ Some leg → IsOutput WorldTells held (work command).steps n leg.output
+output_is WorldTells held command c printed outs m made n leg at =
+    m.output (λ told. (made told).0) (λ told. (printed, outputs_of c.legs outs, (made told).1)) n leg at
 
-pub unwritten_mixing : (WorldTells OutTells : Type 0) (old new : Outside) (contents : Contents) (calls objects : List ℕ → ℕ) (file octets : List ℕ) (c : Conf) (printed : List ℕ) (outs : List (List ℕ))
-    (fault : Fault) → (WorldTells → old.contents file ≡ Some octets) → conf Files octets ≡ Ok c → (WorldTells → AllLie old.contents c.legs × (steps_of old.contents c ≡ Makes printed (outputs_of c.legs outs)))
+pub unwritten_mixing : (WorldTells OutTells : Type 0) (old new : Outside) (contents : Contents) (calls objects : List ℕ → ℕ) (file : List ℕ) (command : Command) (c : Conf) (printed : List ℕ) (outs : List (List ℕ))
+    (fault : Fault) → ComesToMixing WorldTells old.contents command c → (WorldTells → AllLie old.contents c.legs × (steps_of old.contents c ≡ Makes printed (outputs_of c.legs outs)))
     → IsBetween WorldTells old new contents calls objects → new.out ≡ old.out
     → IsUnwritten WorldTells (RoseAt calls new.calls) (RoseAt objects new.objects) (outputs_of c.legs outs) contents new.contents fault
-    → Ends (mixing_of file) WorldTells OutTells old new (ending_name file c.legs (Err fault)) (Err fault)
-unwritten_mixing WorldTells OutTells old new contents calls objects file octets c printed outs WrongWords there read made between out u = absurd u
-unwritten_mixing WorldTells OutTells old new contents calls objects file octets c printed outs (CannotOpen k) there read made between out u = absurd u
-unwritten_mixing WorldTells OutTells old new contents calls objects file octets c printed outs (CannotRead k) there read made between out u = absurd u
-unwritten_mixing WorldTells OutTells old new contents calls objects file octets c printed outs (Refused k refusal) there read made between out u = absurd u
-unwritten_mixing WorldTells OutTells old new contents calls objects file octets c printed outs CannotPrint there read made between out u = absurd u
-unwritten_mixing WorldTells OutTells old new contents calls objects file octets c printed outs (LinkFailed leg) there read made between out u = absurd u
-unwritten_mixing WorldTells OutTells old new contents calls objects file octets c printed outs NoMemory there read made between out u = absurd u
-unwritten_mixing WorldTells OutTells old new contents calls objects file octets c printed outs (CannotWrite n) there read made between out u =
+    → Ends command WorldTells OutTells old new (ending_name file c.legs (Err fault)) (Err fault)
+unwritten_mixing WorldTells OutTells old new contents calls objects file command c printed outs WrongWords m made between out u = absurd u
+unwritten_mixing WorldTells OutTells old new contents calls objects file command c printed outs (CannotOpen k) m made between out u = absurd u
+unwritten_mixing WorldTells OutTells old new contents calls objects file command c printed outs (CannotRead k) m made between out u = absurd u
+unwritten_mixing WorldTells OutTells old new contents calls objects file command c printed outs (Refused k refusal) m made between out u = absurd u
+unwritten_mixing WorldTells OutTells old new contents calls objects file command c printed outs CannotPrint m made between out u = absurd u
+unwritten_mixing WorldTells OutTells old new contents calls objects file command c printed outs (LinkFailed leg) m made between out u = absurd u
+unwritten_mixing WorldTells OutTells old new contents calls objects file command c printed outs NoMemory m made between out u = absurd u
+unwritten_mixing WorldTells OutTells old new contents calls objects file command c printed outs (CannotWrite n) m made between out u =
     let call : (name : List ℕ) → RoseAt calls new.calls name → CallFailed old new name = λ name r. rose_since (old.calls name) (calls name) (new.calls name) (between.calls_rise name) r in
     let object : (name : List ℕ) → RoseAt objects new.objects name → ObjectFailed old new name = λ name r. rose_since (old.objects name) (objects name) (new.objects name) (between.objects_rise name) r in
     let nth = nth_output c.legs outs n u.0 u.1 in
     let named : u.0 ≡ output_of file (leg_at c.legs n) = nth.2 ∙ sym (ap (output_of file) nth.1) in
-    let output : IsOutput WorldTells old.contents (mixing file) n u.0 =
-    subst (λ name. IsOutput WorldTells old.contents (mixing file) n name) (sym nth.2) (output_is WorldTells old.contents file octets c printed outs there read made n nth.0 nth.1) in (
-      subst (λ name. IsOutput WorldTells old.contents (mixing file) n name) named output,
+    let output : IsOutput WorldTells old.contents (work command).steps n u.0 =
+    subst (λ name. IsOutput WorldTells old.contents (work command).steps n name) (sym nth.2) (output_is WorldTells old.contents command c printed outs m made n nth.0 nth.1) in (
+      subst (λ name. IsOutput WorldTells old.contents (work command).steps n name) named output,
       subst (λ name. CallFailed old new name ⊎ ObjectFailed old new name) named (either (RoseAt calls new.calls u.0) (RoseAt objects new.objects u.0) (CallFailed old new u.0) (ObjectFailed old new u.0) (call u.0) (object u.0) u.2),
       (λ shown. ap (λ (o : Output). o.octets) out),
-      λ told. done (outcome old.contents (mixing file)) printed (outputs_of c.legs outs)
+      λ told. done (outcome old.contents (work command).steps) printed (outputs_of c.legs outs)
           (λ printed files. PartlyStored (CallFailed old new) (ObjectFailed old new) n files old.contents new.contents)
-          (outcome_done old.contents file octets c printed (outputs_of c.legs outs) (there told) read (made told).0 (made told).1)
+          (outcome_done WorldTells old.contents command c printed (outputs_of c.legs outs) m told (made told).0 (made told).1)
           (partly_since (CallFailed old new) (ObjectFailed old new) (RoseAt calls new.calls) (RoseAt objects new.objects) n (outputs_of c.legs outs) old.contents contents new.contents call object (between.same told) (u.3 told)),
     )
 
 -- ---- all is written, and printed or not
-pub printed_mixing : (WorldTells OutTells : Type 0) (old new : Outside) (file octets : List ℕ) (c : Conf) (printed : List ℕ) (outs : List (List ℕ)) (result : Ending)
-    → (WorldTells → old.contents file ≡ Some octets) → conf Files octets ≡ Ok c → (WorldTells → AllLie old.contents c.legs × (steps_of old.contents c ≡ Makes printed (outputs_of c.legs outs)))
+pub printed_mixing : (WorldTells OutTells : Type 0) (old new : Outside) (file : List ℕ) (command : Command) (c : Conf) (printed : List ℕ) (outs : List (List ℕ)) (result : Ending)
+    → ComesToMixing WorldTells old.contents command c → (WorldTells → AllLie old.contents c.legs × (steps_of old.contents c ≡ Makes printed (outputs_of c.legs outs)))
     → (WorldTells → AllStored (outputs_of c.legs outs) old.contents new.contents)
     → IfErr result (λ fault. fault ≡ CannotPrint) → OnErr result (Failed old.out new.out) → (OutTells → OnOk result (Prints printed old new)) → (OutTells → OnErr result (PrintsFront printed old new))
-    → Ends (mixing_of file) WorldTells OutTells old new (ending_name file c.legs result) result
-printed_mixing WorldTells OutTells old new file octets c printed outs (Ok u) there read made stored fault cause whole partly =
-    λ told. done (outcome old.contents (mixing file)) printed (outputs_of c.legs outs) (λ printed files. (WorldTells → AllStored files old.contents new.contents) × (OutTells → Prints printed old new))
-    (outcome_done old.contents file octets c printed (outputs_of c.legs outs) (there told) read (made told).0 (made told).1) (stored, whole)
-printed_mixing WorldTells OutTells old new file octets c printed outs (Err f) there read made stored fault cause whole partly =
-    let P : Fault → Type 0 = λ f. Ends (mixing_of file) WorldTells OutTells old new (ending_name file c.legs (Err f)) (Err f) in
+    → Ends command WorldTells OutTells old new (ending_name file c.legs result) result
+printed_mixing WorldTells OutTells old new file command c printed outs (Ok u) m made stored fault cause whole partly =
+    λ t. let told = m.reads t in
+    done (outcome old.contents (work command).steps) printed (outputs_of c.legs outs) (λ printed files. (WorldTells → AllStored files old.contents new.contents) × (OutTells → Prints printed old new))
+    (outcome_done WorldTells old.contents command c printed (outputs_of c.legs outs) m told (made told).0 (made told).1) (stored, whole)
+printed_mixing WorldTells OutTells old new file command c printed outs (Err f) m made stored fault cause whole partly =
+    let P : Fault → Type 0 = λ f. Ends command WorldTells OutTells old new (ending_name file c.legs (Err f)) (Err f) in
     subst P (sym fault) (
-      refl,
+      m.prints,
       cause,
-      λ told. done (outcome old.contents (mixing file)) printed (outputs_of c.legs outs) (λ printed files. (WorldTells → AllStored files old.contents new.contents) × (OutTells → PrintsFront printed old new))
-          (outcome_done old.contents file octets c printed (outputs_of c.legs outs) (there told) read (made told).0 (made told).1) (stored, partly),
+      λ t. let told = m.reads t in done (outcome old.contents (work command).steps) printed (outputs_of c.legs outs) (λ printed files. (WorldTells → AllStored files old.contents new.contents) × (OutTells → PrintsFront printed old new))
+          (outcome_done WorldTells old.contents command c printed (outputs_of c.legs outs) m told (made told).0 (made told).1) (stored, partly),
     )
 
-pub unwritten_result : (WorldTells OutTells : Type 0) (old new : Outside) (contents : Contents) (calls objects : List ℕ → ℕ) (file octets : List ℕ) (c : Conf) (printed : List ℕ) (outs : List (List ℕ))
-    (result : Ending) → (WorldTells → old.contents file ≡ Some octets) → conf Files octets ≡ Ok c → (WorldTells → AllLie old.contents c.legs × (steps_of old.contents c ≡ Makes printed (outputs_of c.legs outs)))
+pub unwritten_result : (WorldTells OutTells : Type 0) (old new : Outside) (contents : Contents) (calls objects : List ℕ → ℕ) (file : List ℕ) (command : Command) (c : Conf) (printed : List ℕ) (outs : List (List ℕ))
+    (result : Ending) → ComesToMixing WorldTells old.contents command c → (WorldTells → AllLie old.contents c.legs × (steps_of old.contents c ≡ Makes printed (outputs_of c.legs outs)))
     → IsBetween WorldTells old new contents calls objects → new.out ≡ old.out → is_err result ≡ true
     → IfErr result (IsUnwritten WorldTells (RoseAt calls new.calls) (RoseAt objects new.objects) (outputs_of c.legs outs) contents new.contents)
-    → Ends (mixing_of file) WorldTells OutTells old new (ending_name file c.legs result) result
-unwritten_result WorldTells OutTells old new contents calls objects file octets c printed outs (Ok u) there read made between out err u' = absurd (cc err)
-unwritten_result WorldTells OutTells old new contents calls objects file octets c printed outs (Err fault) there read made between out err u =
-    unwritten_mixing WorldTells OutTells old new contents calls objects file octets c printed outs fault there read made between out u
+    → Ends command WorldTells OutTells old new (ending_name file c.legs result) result
+unwritten_result WorldTells OutTells old new contents calls objects file command c printed outs (Ok u) m made between out err u' = absurd (cc err)
+unwritten_result WorldTells OutTells old new contents calls objects file command c printed outs (Err fault) m made between out err u =
+    unwritten_mixing WorldTells OutTells old new contents calls objects file command c printed outs fault m made between out u
 
 pub saved : (result : Ending) (P : Type 0) → is_err result ≡ false → OnOk result P → P
 saved (Ok u) P ok p = p

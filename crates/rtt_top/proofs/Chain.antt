@@ -1,9 +1,8 @@
 -- A conference whose inputs are read one after another.
 use Rattle.std.proofs.Common.{◌≡◌, ℕ, zero, suc, ◌+◌, ◌-◌, ◌<◌, ◌≤◌, Option, Some, None, List, [], ◌∷◌, length, get_or, Ok, refl, ap, sym, subst, ◌∙◌, arith}
 use Rattle.std.specs.Prelude.{IsSome, unwrap_or}
-use Rattle.file_spec.specs.declared.conf_lines.Form.TheVariants.{Files}
 use Rattle.file_spec.specs.declared.conf_lines.LegLine.{LegLine}
-use Rattle.file_spec.specs.Conf.{Conf, conf}
+use Rattle.file_spec.specs.Conf.{Conf}
 use Rattle.mixer_spec.specs.Setups.{leg_at, setup}
 use Rattle.mixer_spec.specs.Plain.{plain}
 use Rattle.mixer_spec.specs.Bridged.{input_limit, leg_chunks}
@@ -11,12 +10,14 @@ use Rattle.command_spec.specs.declared.faults.Refusal.{Refusal}
 use Rattle.command_spec.specs.Work.{Contents, Made, Steps, Refuses, Makes, IsInput}
 use Rattle.command_spec.specs.Outcomes.{Done, outcome, outcome_from}
 use Rattle.command_spec.specs.Outcomes as outcomes
-use Rattle.command_spec.specs.Mixing.{makes, mixes, mixes_read, mixing, reads_inputs}
+use Rattle.command_spec.specs.Words.{Command}
+use Rattle.command_spec.specs.Commands.{work}
+use Rattle.command_spec.specs.Mixing.{makes, reads_inputs}
 use Rattle.command_spec.specs.Mixing as mixed
-use Rattle.bridge_run.specs.Mixes.{octets_under, inputs_under, LieBelow, AllLie, WholeBelow, steps_of}
+use Rattle.command_spec.specs.Inputs.{octets_under, inputs_under, LieBelow, AllLie}
+use Rattle.bridge_run.specs.Mixes.{WholeBelow, steps_of}
 use Rattle.rtt_top.specs.Faults.{NoneBefore}
-use Rattle.rtt_top.specs.Conferences.{input_name, input_of}
-use Rattle.rtt_top.proofs.Working.{lies}
+use Rattle.rtt_top.specs.Conferences.{ComesToMixing, input_name, input_of}
 use Rattle.rtt_top.proofs.Before.{none_broken, none_makes}
 
 some_under : (o : Option (List ℕ)) → IsSome o → o ≡ Some (unwrap_or o [])
@@ -24,7 +25,7 @@ some_under None there = absurd (cc there)
 some_under (Some octets) there = refl
 
 -- ---- the inputs
-leg_input : (WorldTells : Type 0) (held : Contents) (legs : List LegLine) (next : List (List ℕ) → Steps) (k : ℕ) (leg : LegLine) → leg_at legs k ≡ Some leg
+pub leg_input : (WorldTells : Type 0) (held : Contents) (legs : List LegLine) (next : List (List ℕ) → Steps) (k : ℕ) (leg : LegLine) → leg_at legs k ≡ Some leg
     → (WorldTells → LieBelow k held legs) → IsInput WorldTells held (reads_inputs legs next) k leg.input
 leg_input WorldTells held [] next k leg at lie = absurd (cc at)
 leg_input WorldTells held (l ∷ legs) next zero leg at lie = let same : leg ≡ l = cc at in ap (λ (x : LegLine). x.input) same
@@ -34,16 +35,8 @@ leg_input WorldTells held (l ∷ legs) next (suc k) leg at lie = (
   leg_input WorldTells held legs (λ more. next (octets_under held l.input ∷ more)) k leg at (λ told i x less is. lie told (suc i) x (omega arith) is),
 )
 
-pub is_input : (WorldTells : Type 0) (held : Contents) (file octets : List ℕ) (c : Conf) (k : ℕ) (leg : LegLine) → (WorldTells → held file ≡ Some octets) → conf Files octets ≡ Ok c
-    → leg_at c.legs k ≡ Some leg → (WorldTells → LieBelow k held c.legs) → IsInput WorldTells held (mixing file) (suc k) leg.input
-is_input WorldTells held file octets c k leg lies_there read at lie = (
-  octets,
-  lies_there,
-  subst (λ r. IsInput WorldTells held (mixes_read r) k leg.input) (sym read) (leg_input WorldTells held c.legs (mixes c) k leg at lie),
-)
-
 -- ---- the outcome
-chain : (held : Contents) (n : ℕ) (legs : List LegLine) (next : List (List ℕ) → Steps) → AllLie held legs
+pub chain : (held : Contents) (n : ℕ) (legs : List LegLine) (next : List (List ℕ) → Steps) → AllLie held legs
     → outcome_from n held (reads_inputs legs next) ≡ outcome_from (length legs + n) held (next (inputs_under held legs))
 chain held n [] next lie = let none : n ≡ length {A = LegLine} [] + n = omega arith in ap (λ k. outcome_from k held (next [])) none
 chain held n (l ∷ legs) next lie =
@@ -54,30 +47,22 @@ chain held n (l ∷ legs) next lie =
     ∙ (chain held (n + 1) legs (λ more. next (octets_under held l.input ∷ more)) rest
     ∙ ap (λ k. outcome_from k held (next (inputs_under held (l ∷ legs)))) count)
 
-mixed_outcome : (held : Contents) (file octets : List ℕ) (c : Conf) → held file ≡ Some octets → conf Files octets ≡ Ok c → AllLie held c.legs
-    → outcome held (mixing file) ≡ outcome_from (length c.legs + 1) held (steps_of held c)
-mixed_outcome held file octets c there read lie =
-    lies held file (λ o. mixes_read (conf Files o)) octets there
-    ∙ (ap (λ r. outcome_from 1 held (mixes_read r)) read ∙ chain held 1 c.legs (mixes c) lie)
+pub outcome_done : (WorldTells : Type 0) (held : Contents) (command : Command) (c : Conf) (printed : List ℕ) (files : List Made) → ComesToMixing WorldTells held command c → WorldTells
+    → AllLie held c.legs → steps_of held c ≡ Makes printed files → outcome held (work command).steps ≡ Done printed files
+outcome_done WorldTells held command c printed files m told lie is = m.comes told lie ∙ ap (outcome_from (length c.legs + 1) held) is
 
-pub outcome_done : (held : Contents) (file octets : List ℕ) (c : Conf) (printed : List ℕ) (files : List Made) → held file ≡ Some octets → conf Files octets ≡ Ok c
-    → AllLie held c.legs → steps_of held c ≡ Makes printed files → outcome held (mixing file) ≡ Done printed files
-outcome_done held file octets c printed files there read lie is =
-    mixed_outcome held file octets c there read lie ∙ ap (outcome_from (length c.legs + 1) held) is
-
-pub outcome_refused : (held : Contents) (file octets : List ℕ) (c : Conf) (input : ℕ) (refusal : Refusal) → held file ≡ Some octets → conf Files octets ≡ Ok c
-    → AllLie held c.legs → steps_of held c ≡ Refuses input refusal → outcome held (mixing file) ≡ outcomes.Refused input refusal
-outcome_refused held file octets c input refusal there read lie is =
-    mixed_outcome held file octets c there read lie ∙ ap (outcome_from (length c.legs + 1) held) is
+pub outcome_refused : (WorldTells : Type 0) (held : Contents) (command : Command) (c : Conf) (input : ℕ) (refusal : Refusal) → ComesToMixing WorldTells held command c → WorldTells
+    → AllLie held c.legs → steps_of held c ≡ Refuses input refusal → outcome held (work command).steps ≡ outcomes.Refused input refusal
+outcome_refused WorldTells held command c input refusal m told lie is = m.comes told lie ∙ ap (outcome_from (length c.legs + 1) held) is
 
 -- where the inputs of the first k legs have no fault, none of these is refused
-pub none_before : (held : Contents) (file octets : List ℕ) (c : Conf) (k : ℕ) → held file ≡ Some octets → conf Files octets ≡ Ok c
-    → AllLie held c.legs → WholeBelow k c (inputs_under held c.legs) → NoneBefore (suc k) (outcome held (mixing file))
-none_before held file octets c k there read lie whole =
+pub none_before : (WorldTells : Type 0) (held : Contents) (command : Command) (c : Conf) (k : ℕ) → ComesToMixing WorldTells held command c → WorldTells
+    → AllLie held c.legs → WholeBelow k c (inputs_under held c.legs) → NoneBefore (suc k) (outcome held (work command).steps)
+none_before WorldTells held command c k m told lie whole =
     let inputs = inputs_under held c.legs in
     let table = plain (setup c) c.tick c.turns (leg_chunks c (mixed.input_at inputs)) in
     let one : k + 1 ≡ suc k = omega arith in
-    subst (λ o. NoneBefore (suc k) o) (sym (mixed_outcome held file octets c there read lie))
+    subst (λ o. NoneBefore (suc k) o) (sym (m.comes told lie))
     (subst (λ n. NoneBefore n (outcome_from (length c.legs + 1) held (steps_of held c))) one
     (none_broken held (length c.legs + 1) (input_limit c) 1 inputs (makes c table) k whole (none_makes held (length c.legs + 1) c table)))
 

@@ -1,5 +1,5 @@
 -- A conference that is read.
-use Rattle.std.proofs.Common.{◌≡◌, ℕ, ◌+◌, ◌<◌, true, cond, Option, Some, List, length, Ok, Err, refl, ap, sym, ◌∙◌, inl, inr, arith}
+use Rattle.std.proofs.Common.{◌≡◌, ℕ, ◌+◌, ◌<◌, true, cond, Option, Some, List, length, Ok, Err, refl, ap, subst, sym, ◌∙◌, inl, inr, arith}
 use Rattle.std.specs.Prelude.{nat_lt}
 use Rattle.std.proofs.lemmas.Bool.Decides.{nat_tests}
 use Rattle.std.specs.Str.Lines.{lines}
@@ -11,14 +11,16 @@ use Rattle.file_spec.specs.declared.conf_lines.Form.TheVariants.{Files, Links}
 use Rattle.file_spec.specs.Lines.{Refusal, told, at_line, read_lines}
 use Rattle.file_spec.specs.Conf.{Conf, and_line, complete, conf, is_blank, nothing}
 use Rattle.command_spec.specs.declared.faults.Refusal.TheVariants.{AtLine}
-use Rattle.command_spec.specs.declared.faults.Fault.TheVariants.{Refused}
-use Rattle.command_spec.specs.Words.{MixWords}
+use Rattle.command_spec.specs.declared.faults.Fault.{Fault}
+use Rattle.command_spec.specs.declared.faults.Fault.TheVariants.{WrongWords, CannotOpen, CannotRead, Refused, CannotPrint, CannotWrite, LinkFailed, NoMemory}
+use Rattle.command_spec.specs.Words.{Attend, Command, Live, Mix}
 use Rattle.command_spec.specs.Work.{Contents}
+use Rattle.command_spec.specs.Attending.{attends_read}
 use Rattle.command_spec.specs.Mixing.{mixes_read}
 use Rattle.command_spec.specs.Serving.{serves_read}
 use Rattle.rtt_top.specs.Files.{IsFrontOf}
-use Rattle.rtt_top.specs.Conferences.{command_for}
-use Rattle.rtt_top.specs.Faults.{Stops}
+use Rattle.rtt_top.specs.Conferences.{ReadsConf}
+use Rattle.rtt_top.specs.Faults.{IsUnread, RefusesSo, Stops}
 use Rattle.rtt_top.proofs.Working.{refuses_of}
 use Rattle.rtt_top.proofs.Lying.{lying_octets}
 
@@ -40,18 +42,33 @@ pub read_conf_octets : (form : Form) (WorldTells : Type 0) (held : Option (List 
     → conf form octets ≡ Ok c → (o : List ℕ) × (WorldTells → held ≡ Some o) × (conf form o ≡ Ok c)
 read_conf_octets form WorldTells held octets c given s = (octets, λ t. let g = given t in g.1 ∙ ap (λ (o : List ℕ). Some o) (accepted_front form octets g.0 c g.2 s), s)
 
-pub conf_refused : (form : Form) (WorldTells : Type 0) (held : Contents) (m : MixWords) (Call Object : Type 0) (octets : List ℕ) (line : ℕ) (kind : ConfKind)
-    → (WorldTells → (whole : List ℕ) × (held m.conf ≡ Some whole) × IsFrontOf 262144 octets whole) → conf form octets ≡ Err (record { line = line; kind = kind })
-    → Stops WorldTells held (command_for form m) Call Object (Refused 0 (AtLine line kind))
-conf_refused form WorldTells held m Call Object octets line kind given e = at form (lying_octets WorldTells 262144 (conf form) (held m.conf) octets (λ a b l k. too_large form a l ∙ sym (too_large form b k)) given) e
-  where
-    at : (form : Form) → (o : List ℕ) × (WorldTells → held m.conf ≡ Some o) × (conf form o ≡ conf form octets) → conf form octets ≡ Err (record { line = line; kind = kind })
-        → Stops WorldTells held (command_for form m) Call Object (Refused 0 (AtLine line kind))
-    at Files o e = (
+pub conf_refused : (form : Form) (WorldTells : Type 0) (held : Contents) (file : List ℕ) (c : Command) (Call Object : Type 0) (octets : List ℕ) (line : ℕ) (kind : ConfKind) → ReadsConf form file c
+    → (WorldTells → (whole : List ℕ) × (held file ≡ Some whole) × IsFrontOf 262144 octets whole) → conf form octets ≡ Err (record { line = line; kind = kind })
+    → Stops WorldTells held c Call Object (Refused 0 (AtLine line kind))
+conf_refused form WorldTells held file c Call Object octets line kind reads given e =
+    let o = lying_octets WorldTells 262144 (conf form) (held file) octets (λ a b l k. too_large form a l ∙ sym (too_large form b k)) given in (
       refl,
-      refuses_of WorldTells held m.conf (λ octets. mixes_read (conf Files octets)) 0 (AtLine line kind) o.0 o.1 (ap mixes_read (o.2 ∙ e)),
+      subst (λ steps. RefusesSo WorldTells held steps 0 (AtLine line kind)) (sym reads.steps)
+          (refuses_of WorldTells held file reads.next 0 (AtLine line kind) o.0 o.1 (reads.refuses o.0 (record { line = line; kind = kind }) (o.2 ∙ e))),
     )
-    at Links o e = (
-      refl,
-      refuses_of WorldTells held m.conf (λ octets. serves_read (conf Links octets)) 0 (AtLine line kind) o.0 o.1 (ap serves_read (o.2 ∙ e)),
-    )
+
+-- its file could not be read to its end
+pub unread_stops : (WorldTells : Type 0) (held : Contents) (c : Command) (Call Object : Type 0) (fault : Fault) → IsUnread Call Object fault → Stops WorldTells held c Call Object fault
+unread_stops WorldTells held c Call Object WrongWords u = u
+unread_stops WorldTells held c Call Object (CannotOpen input) u = u
+unread_stops WorldTells held c Call Object (CannotRead input) u = u
+unread_stops WorldTells held c Call Object (Refused input refusal) u = absurd u
+unread_stops WorldTells held c Call Object CannotPrint u = u
+unread_stops WorldTells held c Call Object (CannotWrite output) u = u
+unread_stops WorldTells held c Call Object (LinkFailed leg) u = u
+unread_stops WorldTells held c Call Object NoMemory u = u
+
+-- ---- what reads a conference
+pub mix_reads : (file : List ℕ) → ReadsConf Files file (Mix (record { conf = file }))
+mix_reads file = record { first = refl; next = λ octets. mixes_read (conf Files octets); steps = refl; refuses = λ octets refusal e. ap mixes_read e }
+
+pub attend_reads : (file : List ℕ) → ReadsConf Files file (Attend (record { conf = file }))
+attend_reads file = record { first = refl; next = λ octets. attends_read (conf Files octets); steps = refl; refuses = λ octets refusal e. ap attends_read e }
+
+pub live_reads : (file : List ℕ) → ReadsConf Links file (Live (record { conf = file }))
+live_reads file = record { first = refl; next = λ octets. serves_read (conf Links octets); steps = refl; refuses = λ octets refusal e. ap serves_read e }

@@ -7,7 +7,7 @@ use Rattle.rtt_io.specs.Fronts.{TakesFront}
 use Rattle.file_spec.specs.Conf.{Conf}
 use Rattle.command_spec.specs.declared.faults.Refusal.{Refusal}
 use Rattle.command_spec.specs.declared.faults.Refusal.TheVariants.{AtByte, AtFrame, AtLine, AfterTurns}
-use Rattle.command_spec.specs.Words.{ReadWords, MixWords, Command, Read, Mix}
+use Rattle.command_spec.specs.Words.{ReadWords, MixWords, Command, Read, Mix, Attend}
 use Rattle.command_spec.specs.declared.faults.Fault.{Fault}
 use Rattle.command_spec.specs.declared.faults.Fault.TheVariants.{WrongWords, CannotOpen, CannotRead, Refused, CannotPrint, CannotWrite, LinkFailed, NoMemory}
 use Rattle.command_spec.specs.Work.{Contents, Made, Steps, Reads, Refuses, Makes, Serves, IsInput}
@@ -17,13 +17,15 @@ use Rattle.command_spec.specs.Reading.{arrivals_of, read_view, history_view}
 use Rattle.command_spec.specs.Commands.{request_of, unless_broken, work}
 use Rattle.command_spec.specs.Messages.{Ending, ending_of, status_of, message_of}
 use Rattle.rtt_top.specs.Outside.{Outside, Output, Failed}
-use Rattle.rtt_top.specs.Runs.{Prints, Ends, outcome_of, IsCalm, IsAsWorked, IsOfWords, IsHeadline, Runs}
+use Rattle.rtt_top.specs.Runs.{Prints, Ends, outcome_of, IsCalm, IsAsWorked, IsOfWords, IsHeadline, IsAttendedHeadline, Runs}
+use Rattle.command_spec.specs.Attending.{attending}
 use Rattle.command_spec.specs.Mixing.{mixing}
+use Rattle.command_spec.proofs.AttendedHeadlines.{attended}
 use Rattle.command_spec.proofs.Headlines.{bridged}
 use Rattle.command_spec.proofs.Views.{same_view}
 use Rattle.rtt_top.specs.Faults.{RefusesSo, WhereRead}
 use Rattle.rtt_top.proofs.Working.{lies, refused_outcome}
-use Rattle.rtt_top.proofs.Unserved.{mixing_serves_none}
+use Rattle.rtt_top.proofs.Unserved.{attending_serves_none, mixing_serves_none}
 
 -- ---- where nothing outside failed
 all_done : (o : Outcome) (P : List ℕ → List Made → Type 0) → IsDone o P → Ok tt ≡ ending_of o
@@ -88,6 +90,14 @@ headline WorldTells OutTells old new name m told e =
     let d = is_done (outcome old.contents (mixing m.conf)) (λ printed files. (WorldTells → AllStored files old.contents new.contents) × (OutTells → Prints printed old new)) (mixing_serves_none old.contents m.conf) (e told) in
     record { printed = d.0; prints = d.3.1; bridged = bridged old.contents new.contents m.conf d.0 d.1 d.2 (d.3.0 told) }
 
+attended_headline : (WorldTells OutTells : Type 0) (old new : Outside) (name : List ℕ) (m : MixWords) → WorldTells → Ends (Attend m) WorldTells OutTells old new name (Ok tt) → IsAttendedHeadline OutTells m old new
+attended_headline WorldTells OutTells old new name m told e =
+    let d = is_done (outcome old.contents (attending m.conf)) (λ printed files. (WorldTells → AllStored files old.contents new.contents) × (OutTells → Prints printed old new)) (attending_serves_none old.contents m.conf) (e told) in
+    record { printed = d.0; prints = d.3.1; attended = attended old.contents new.contents m.conf d.0 d.1 d.2 (d.3.0 told) }
+
+the_attend : (c : Command) (m : MixWords) → Some c ≡ Some (Attend m) → c ≡ Attend m
+the_attend c m e = cc
+
 the_mix : (c : Command) (m : MixWords) → Some c ≡ Some (Mix m) → c ≡ Mix m
 the_mix c m e = cc
 
@@ -112,6 +122,10 @@ runs c WorldTells OutTells ErrTells old new before after status ending name is e
       let P : Command → Type 0 = λ k. Ends k WorldTells OutTells old new name ending in
       let Q : Ending → Type 0 = λ q. Ends (Mix m) WorldTells OutTells old new name q in
       headline WorldTells OutTells old new name m t (subst Q ok (subst P (the_mix c m e) ends));
+  attended = λ t ok m e.
+      let P : Command → Type 0 = λ k. Ends k WorldTells OutTells old new name ending in
+      let Q : Ending → Type 0 = λ q. Ends (Attend m) WorldTells OutTells old new name q in
+      attended_headline WorldTells OutTells old new name m t (subst Q ok (subst P (the_attend c m e) ends));
   silent = silent;
   front = front;
   told = told;
@@ -135,6 +149,7 @@ no_words words WorldTells OutTells ErrTells old before after status fault name n
       calm = λ c e. absurd (no_command c e);
       kept = λ t s ok h law view v. absurd (no_command (Read v.request) v.reads);
       headline = λ t ok m e. absurd (no_command (Mix m) e);
+      attended = λ t ok m e. absurd (no_command (Attend m) e);
       silent = silent;
       front = front;
       told = told;

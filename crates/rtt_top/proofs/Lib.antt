@@ -9,6 +9,8 @@ pub mod Saving
 pub mod Conferring
 pub mod Chain
 pub mod Bridging
+pub mod Mixings
+pub mod Attending
 pub mod Since
 pub mod Linked
 pub mod Living

@@ -2,7 +2,7 @@
 use Rattle.std.proofs.Common.{◌≡◌, ℕ, Bool, true, false, true≢false, Option, Some, None, List, Ok, Err, refl, sym, subst, ◌∙◌}
 use Rattle.command_spec.specs.declared.faults.Refusal.TheVariants.{AtByte, AtFrame, AtLine, AfterTurns}
 use Rattle.command_spec.specs.declared.faults.Fault.TheVariants.{WrongWords, CannotOpen, CannotRead, Refused, CannotPrint, CannotWrite, LinkFailed, NoMemory}
-use Rattle.command_spec.specs.Words.{MixWords, Command, Read, ListRecords, Send, Mix, Make, Live, Relay, Channel, Show, Script, Version}
+use Rattle.command_spec.specs.Words.{MixWords, Command, Read, ListRecords, Send, Mix, Attend, Make, Live, Relay, Channel, Show, Script, Version}
 use Rattle.command_spec.specs.Messages.{Ending}
 use Rattle.rtt_words.specs.declared.commands.MixWords as coded
 use Rattle.rtt_words.specs.declared.commands.Command as asked
@@ -41,6 +41,7 @@ plain_is_not_live (Read r) e = refl
 plain_is_not_live (ListRecords l) e = refl
 plain_is_not_live (Send s) e = refl
 plain_is_not_live (Mix m) e = refl
+plain_is_not_live (Attend m) e = refl
 plain_is_not_live (Make m) e = refl
 plain_is_not_live (Live m) e = absurd (true≢false (sym e))
 plain_is_not_live (Relay s) e = refl
@@ -55,6 +56,7 @@ other_is_not_live (word.Read r) other = refl
 other_is_not_live (word.ListRecords l) other = refl
 other_is_not_live (word.Send s) other = refl
 other_is_not_live (word.Mix m) other = refl
+other_is_not_live (word.Attend m) other = refl
 other_is_not_live (word.Make m) other = refl
 other_is_not_live (word.Live m) other = absurd (other m refl)
 other_is_not_live (word.Relay s) other = refl

@@ -3,7 +3,7 @@ use Rattle.std.proofs.Common.{◌≡◌, ℕ, true, true≢false, Option, Some, 
 use Rattle.wire_spec.specs.Dump.{dump, usual_limit}
 use Rattle.wire_spec.specs.Dump as dumps
 use Rattle.file_spec.specs.declared.kinds.ConfKind.{ConfKind}
-use Rattle.command_spec.specs.Words.{Command, Read, ListRecords, Send, Mix, Make, Live, Relay, Channel, Show, Script, Version}
+use Rattle.command_spec.specs.Words.{Command, Read, ListRecords, Send, Mix, Attend, Make, Live, Relay, Channel, Show, Script, Version}
 use Rattle.command_spec.specs.declared.faults.Refusal.TheVariants.{AtByte, AtFrame, AtLine, AfterTurns}
 use Rattle.command_spec.specs.declared.faults.Fault.TheVariants.{WrongWords, CannotOpen, CannotRead, Refused, CannotPrint, CannotWrite, LinkFailed, NoMemory}
 use Rattle.command_spec.specs.Work.{Contents, Steps, Makes, IsInput}
@@ -45,6 +45,7 @@ ends_so (Read r) WorldTells OutTells old new name (Ok u) e = refl
 ends_so (ListRecords l) WorldTells OutTells old new name (Ok u) e = refl
 ends_so (Send s) WorldTells OutTells old new name (Ok u) e = refl
 ends_so (Mix m) WorldTells OutTells old new name (Ok u) e = refl
+ends_so (Attend m) WorldTells OutTells old new name (Ok u) e = refl
 ends_so (Make m) WorldTells OutTells old new name (Ok u) e = refl
 ends_so (Live m) WorldTells OutTells old new name (Ok u) e = refl
 ends_so (Relay s) WorldTells OutTells old new name (Ok u) e = refl
@@ -57,6 +58,7 @@ ends_so (Read r) WorldTells OutTells old new name (Err (CannotOpen n)) e = refl
 ends_so (ListRecords l) WorldTells OutTells old new name (Err (CannotOpen n)) e = refl
 ends_so (Send s) WorldTells OutTells old new name (Err (CannotOpen n)) e = refl
 ends_so (Mix m) WorldTells OutTells old new name (Err (CannotOpen n)) e = refl
+ends_so (Attend m) WorldTells OutTells old new name (Err (CannotOpen n)) e = refl
 ends_so (Make m) WorldTells OutTells old new name (Err (CannotOpen n)) e = absurd (reads_none WorldTells old.contents m.number n name e.0)
 ends_so (Live m) WorldTells OutTells old new name (Err (CannotOpen n)) e = refl
 ends_so (Relay s) WorldTells OutTells old new name (Err (CannotOpen n)) e = refl
@@ -68,6 +70,7 @@ ends_so (Read r) WorldTells OutTells old new name (Err (CannotRead n)) e = refl
 ends_so (ListRecords l) WorldTells OutTells old new name (Err (CannotRead n)) e = refl
 ends_so (Send s) WorldTells OutTells old new name (Err (CannotRead n)) e = refl
 ends_so (Mix m) WorldTells OutTells old new name (Err (CannotRead n)) e = refl
+ends_so (Attend m) WorldTells OutTells old new name (Err (CannotRead n)) e = refl
 ends_so (Make m) WorldTells OutTells old new name (Err (CannotRead n)) e = absurd (reads_none WorldTells old.contents m.number n name e.0)
 ends_so (Live m) WorldTells OutTells old new name (Err (CannotRead n)) e = refl
 ends_so (Relay s) WorldTells OutTells old new name (Err (CannotRead n)) e = refl
@@ -81,6 +84,7 @@ ends_so (ListRecords l) WorldTells OutTells old new name (Err (Refused n (AtLine
     absurd (no_line WorldTells old.contents (dump usual_limit e.1.0).fault (Makes _ []) n line kind (λ r. r) e.1.2)
 ends_so (Send s) WorldTells OutTells old new name (Err (Refused n (AtLine line kind))) e = refl
 ends_so (Mix m) WorldTells OutTells old new name (Err (Refused n (AtLine line kind))) e = refl
+ends_so (Attend m) WorldTells OutTells old new name (Err (Refused n (AtLine line kind))) e = refl
 ends_so (Make m) WorldTells OutTells old new name (Err (Refused n (AtLine line kind))) e = absurd (reads_none WorldTells old.contents m.number n name e.0)
 ends_so (Live m) WorldTells OutTells old new name (Err (Refused n (AtLine line kind))) e = refl
 ends_so (Relay s) WorldTells OutTells old new name (Err (Refused n (AtLine line kind))) e =
@@ -97,6 +101,7 @@ ends_so (Read r) WorldTells OutTells old new name (Err (Refused n (AtByte byte k
 ends_so (ListRecords l) WorldTells OutTells old new name (Err (Refused n (AtByte byte kind))) e = refl
 ends_so (Send s) WorldTells OutTells old new name (Err (Refused n (AtByte byte kind))) e = absurd (true≢false (sym e.1))
 ends_so (Mix m) WorldTells OutTells old new name (Err (Refused n (AtByte byte kind))) e = refl
+ends_so (Attend m) WorldTells OutTells old new name (Err (Refused n (AtByte byte kind))) e = refl
 ends_so (Make m) WorldTells OutTells old new name (Err (Refused n (AtByte byte kind))) e = absurd (true≢false (sym e.1))
 ends_so (Live m) WorldTells OutTells old new name (Err (Refused n (AtByte byte kind))) e = absurd (true≢false (sym e.1))
 ends_so (Relay s) WorldTells OutTells old new name (Err (Refused n (AtByte byte kind))) e = absurd (true≢false (sym e.1))
@@ -108,6 +113,7 @@ ends_so (Read r) WorldTells OutTells old new name (Err (Refused n (AtFrame byte 
 ends_so (ListRecords l) WorldTells OutTells old new name (Err (Refused n (AtFrame byte kind))) e = absurd (true≢false (sym e.1))
 ends_so (Send s) WorldTells OutTells old new name (Err (Refused n (AtFrame byte kind))) e = absurd (true≢false (sym e.1))
 ends_so (Mix m) WorldTells OutTells old new name (Err (Refused n (AtFrame byte kind))) e = absurd (true≢false (sym e.1))
+ends_so (Attend m) WorldTells OutTells old new name (Err (Refused n (AtFrame byte kind))) e = absurd (true≢false (sym e.1))
 ends_so (Make m) WorldTells OutTells old new name (Err (Refused n (AtFrame byte kind))) e = absurd (true≢false (sym e.1))
 ends_so (Live m) WorldTells OutTells old new name (Err (Refused n (AtFrame byte kind))) e = absurd (true≢false (sym e.1))
 ends_so (Relay s) WorldTells OutTells old new name (Err (Refused n (AtFrame byte kind))) e = refl
@@ -119,6 +125,7 @@ ends_so (Read r) WorldTells OutTells old new name (Err (Refused n (AfterTurns tu
 ends_so (ListRecords l) WorldTells OutTells old new name (Err (Refused n (AfterTurns turns))) e = absurd (true≢false (sym e.1))
 ends_so (Send s) WorldTells OutTells old new name (Err (Refused n (AfterTurns turns))) e = absurd (true≢false (sym e.1))
 ends_so (Mix m) WorldTells OutTells old new name (Err (Refused n (AfterTurns turns))) e = refl
+ends_so (Attend m) WorldTells OutTells old new name (Err (Refused n (AfterTurns turns))) e = refl
 ends_so (Make m) WorldTells OutTells old new name (Err (Refused n (AfterTurns turns))) e = refl
 ends_so (Live m) WorldTells OutTells old new name (Err (Refused n (AfterTurns turns))) e = absurd (true≢false (sym e.1))
 ends_so (Relay s) WorldTells OutTells old new name (Err (Refused n (AfterTurns turns))) e = absurd (true≢false (sym e.1))
@@ -130,6 +137,7 @@ ends_so (Read r) WorldTells OutTells old new name (Err CannotPrint) e = refl
 ends_so (ListRecords l) WorldTells OutTells old new name (Err CannotPrint) e = refl
 ends_so (Send s) WorldTells OutTells old new name (Err CannotPrint) e = refl
 ends_so (Mix m) WorldTells OutTells old new name (Err CannotPrint) e = refl
+ends_so (Attend m) WorldTells OutTells old new name (Err CannotPrint) e = refl
 ends_so (Make m) WorldTells OutTells old new name (Err CannotPrint) e = refl
 ends_so (Live m) WorldTells OutTells old new name (Err CannotPrint) e = refl
 ends_so (Relay s) WorldTells OutTells old new name (Err CannotPrint) e = refl
@@ -141,6 +149,7 @@ ends_so (Read r) WorldTells OutTells old new name (Err (CannotWrite n)) e = refl
 ends_so (ListRecords l) WorldTells OutTells old new name (Err (CannotWrite n)) e = refl
 ends_so (Send s) WorldTells OutTells old new name (Err (CannotWrite n)) e = refl
 ends_so (Mix m) WorldTells OutTells old new name (Err (CannotWrite n)) e = refl
+ends_so (Attend m) WorldTells OutTells old new name (Err (CannotWrite n)) e = refl
 ends_so (Make m) WorldTells OutTells old new name (Err (CannotWrite n)) e = refl
 ends_so (Live m) WorldTells OutTells old new name (Err (CannotWrite n)) e = refl
 ends_so (Relay s) WorldTells OutTells old new name (Err (CannotWrite n)) e = refl
@@ -152,6 +161,7 @@ ends_so (Read r) WorldTells OutTells old new name (Err (LinkFailed leg)) e = abs
 ends_so (ListRecords l) WorldTells OutTells old new name (Err (LinkFailed leg)) e = absurd (true≢false (sym e.0))
 ends_so (Send s) WorldTells OutTells old new name (Err (LinkFailed leg)) e = absurd (true≢false (sym e.0))
 ends_so (Mix m) WorldTells OutTells old new name (Err (LinkFailed leg)) e = absurd (true≢false (sym e.0))
+ends_so (Attend m) WorldTells OutTells old new name (Err (LinkFailed leg)) e = absurd (true≢false (sym e.0))
 ends_so (Make m) WorldTells OutTells old new name (Err (LinkFailed leg)) e = absurd (true≢false (sym e.0))
 ends_so (Live m) WorldTells OutTells old new name (Err (LinkFailed leg)) e = refl
 ends_so (Relay s) WorldTells OutTells old new name (Err (LinkFailed leg)) e = absurd (true≢false (sym e.0))
@@ -163,6 +173,7 @@ ends_so (Read r) WorldTells OutTells old new name (Err NoMemory) e = refl
 ends_so (ListRecords l) WorldTells OutTells old new name (Err NoMemory) e = refl
 ends_so (Send s) WorldTells OutTells old new name (Err NoMemory) e = refl
 ends_so (Mix m) WorldTells OutTells old new name (Err NoMemory) e = refl
+ends_so (Attend m) WorldTells OutTells old new name (Err NoMemory) e = refl
 ends_so (Make m) WorldTells OutTells old new name (Err NoMemory) e = refl
 ends_so (Live m) WorldTells OutTells old new name (Err NoMemory) e = refl
 ends_so (Relay s) WorldTells OutTells old new name (Err NoMemory) e = refl

@@ -13,6 +13,7 @@ use Rattle.mixer_spec.specs.Bridged.{input_limit, leg_chunks}
 use Rattle.command_spec.specs.declared.faults.Refusal.TheVariants.{AtByte}
 use Rattle.command_spec.specs.Work.{Contents, Steps, Reads, Refuses, Makes, Serves}
 use Rattle.command_spec.specs.Outcomes.{Outcome, Missing, Served, outcome, outcome_from}
+use Rattle.command_spec.specs.Attending.{attending, attends, attends_read, named}
 use Rattle.command_spec.specs.Mixing.{input_at, makes, mixes, mixes_read, mixing, reads_inputs, unless_one_broken}
 
 -- whatever is read, no live call is served
@@ -61,3 +62,10 @@ of_result (Ok c) = none_read c.legs (mixes c) (mixes_none c)
 
 pub mixing_serves_none : (held : Contents) (file : List ℕ) (c : Conf) → outcome held (mixing file) ≡ Served c → ⊥
 mixing_serves_none held file c e = not_served 0 held (mixing file) c (λ octets. of_result (conf Files octets)) e
+
+of_attended : (r : Result Conf lines.Refusal) → ServesNone (attends_read r)
+of_attended (Err refusal) = tt
+of_attended (Ok c) = none_read c.legs (attends c) (λ inputs. mixes_none (named c inputs) inputs)
+
+pub attending_serves_none : (held : Contents) (file : List ℕ) (c : Conf) → outcome held (attending file) ≡ Served c → ⊥
+attending_serves_none held file c e = not_served 0 held (attending file) c (λ octets. of_attended (conf Files octets)) e

@@ -1,17 +1,25 @@
 -- The faults of a mixing and of a live call, and the names of the files and legs that they are about.
-use Rattle.std.specs.Prelude.{◌≡◌, ℕ, zero, suc, ◌+◌, Option, None, Some, List, Ok, Err, if◌then◌else◌}
+use Rattle.std.specs.Prelude.{◌≡◌, ℕ, zero, suc, ◌+◌, true, Option, None, Some, List, Ok, Err, length, if◌then◌else◌}
 use Rattle.rtpdump_io.specs.declared.items.DumpFault.{DumpFault}
 use Rattle.rtpdump_io.specs.Reading.{is_of_source}
 use Rattle.file_spec.specs.declared.conf_lines.Form.{Form}
-use Rattle.file_spec.specs.declared.conf_lines.Form.TheVariants.{Files, Links}
+use Rattle.file_spec.specs.declared.conf_lines.Form.TheVariants.{Files}
 use Rattle.file_spec.specs.declared.conf_lines.LegLine.{LegLine}
 use Rattle.file_spec.specs.Conf.{Conf, conf}
 use Rattle.mixer_spec.specs.Setups.{leg_at}
-use Rattle.command_spec.specs.declared.faults.Refusal.TheVariants.{AtByte, AfterTurns}
+use Rattle.file_spec.specs.Lines as lines
+use Rattle.command_spec.specs.declared.faults.Refusal.TheVariants.{AtByte, AtLine, AfterTurns}
 use Rattle.command_spec.specs.declared.faults.Fault.{Fault}
 use Rattle.command_spec.specs.declared.faults.Fault.TheVariants.{WrongWords, CannotOpen, CannotRead, Refused, CannotPrint, CannotWrite, LinkFailed, NoMemory}
 use Rattle.command_spec.specs.Messages.{Ending}
-use Rattle.command_spec.specs.Words.{MixWords, Command, Mix, Live}
+use Rattle.command_spec.specs.Words.{Attend, Command, Live}
+use Rattle.command_spec.specs.Work.{Contents, IsInput, IsOutput, Made, Makes, Reads, Refuses, Steps}
+use Rattle.command_spec.specs.Commands.{work}
+use Rattle.command_spec.specs.Outcomes.{outcome, outcome_from}
+use Rattle.command_spec.specs.Inputs.{AllLie, LieBelow}
+use Rattle.bridge_run.specs.Mixes.{steps_of}
+use Rattle.rtt_top.specs.Faults.{WhereRead, is_mixed, is_recording}
+use Rattle.rtt_top.specs.Worlds.{first_file}
 use Rattle.rtt_top.specs.Outside.{Outside}
 use Rattle.rtt_top.specs.Runs.{Ends}
 use Rattle.bridge_run.specs.declared.mixed.MixFault.{MixFault}
@@ -70,21 +78,40 @@ abbrev pub ending_name : List ℕ → List LegLine → Ending → List ℕ
 ending_name file legs (Ok done) = file
 ending_name file legs (Err fault) = fault_name file legs fault
 
--- what is done with a conference whose file has this form
-abbrev pub command_for : Form → MixWords → Command
-command_for Files m = Mix m
-command_for Links m = Live m
+-- ---- what a command does with a conference
+-- It reads the file of this name first, whose form is this, and refuses what is no conference there.
+pub record ReadsConf (form : Form) (file : List ℕ) (c : Command) : Type 0 where
+  pub first : first_file c ≡ file
+  pub next : List ℕ → Steps
+  pub steps : (work c).steps ≡ Reads file next
+  pub refuses : (octets : List ℕ) (refusal : lines.Refusal) → conf form octets ≡ Err refusal
+      → next octets ≡ Refuses 0 (AtLine refusal.line refusal.kind)
 
--- the conference in this file is mixed
-abbrev pub mixing_of : List ℕ → Command
-mixing_of file = Mix (record { conf = file })
+-- By what lies in files, it comes to the mixing of this conference: its file is the first input, and then the input of each leg is
+-- one. Nothing has to be known of these for its outputs, which are those of the legs.
+pub record ComesToMixing (WorldTells : Type 0) (held : Contents) (command : Command) (c : Conf) : Type 0 where
+  pub reads : WhereRead (work command).steps WorldTells → WorldTells
+  pub prints : (work command).prints ≡ true
+  pub mixed : is_mixed command ≡ true
+  pub recordings : (k : ℕ) → is_recording command (suc k) ≡ true
+  pub input : (k : ℕ) (leg : LegLine) → leg_at c.legs k ≡ Some leg → (WorldTells → LieBelow k held c.legs)
+      → IsInput WorldTells held (work command).steps (suc k) leg.input
+  pub output : (WorldTells → AllLie held c.legs) → (WorldTells → (printed : List ℕ) × (files : List Made) × (steps_of held c ≡ Makes printed files))
+      → (n : ℕ) (leg : LegLine) → leg_at c.legs n ≡ Some leg → IsOutput WorldTells held (work command).steps n leg.output
+  pub comes : WorldTells → AllLie held c.legs → outcome held (work command).steps ≡ outcome_from (length c.legs + 1) held (steps_of held c)
 
 -- a live call of it is served
 abbrev pub serving_of : List ℕ → Command
 serving_of file = Live (record { conf = file })
 
--- mixing ends so where the file of any name has this conference
+-- Any command that comes to the mixing of this conference ends so, where its file has any name.
 abbrev pub MixingEnds : (WorldTells OutTells : Type 0) → Outside → Outside → Conf → Ending → Type 0
 MixingEnds WorldTells OutTells old new c ending =
+    (file : List ℕ) (command : Command) → ComesToMixing WorldTells old.contents command c
+    → Ends command WorldTells OutTells old new (ending_name file c.legs ending) ending
+
+-- `attend` ends so where the file of any name has this conference; its legs are these then.
+abbrev pub AttendingEnds : (WorldTells OutTells : Type 0) → Outside → Outside → Conf → Conf → Ending → Type 0
+AttendingEnds WorldTells OutTells old new c now ending =
     (file octets : List ℕ) → (WorldTells → old.contents file ≡ Some octets) → conf Files octets ≡ Ok c
-    → Ends (mixing_of file) WorldTells OutTells old new (ending_name file c.legs ending) ending
+    → Ends (Attend (record { conf = file })) WorldTells OutTells old new (ending_name file now.legs ending) ending

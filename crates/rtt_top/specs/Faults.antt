@@ -6,7 +6,7 @@ use Rattle.command_spec.specs.declared.faults.Refusal.{Refusal}
 use Rattle.command_spec.specs.declared.faults.Refusal.TheVariants.{AtByte, AtFrame, AtLine, AfterTurns}
 use Rattle.command_spec.specs.declared.faults.Fault.{Fault}
 use Rattle.command_spec.specs.declared.faults.Fault.TheVariants.{WrongWords, CannotOpen, CannotRead, Refused, CannotPrint, CannotWrite, LinkFailed, NoMemory}
-use Rattle.command_spec.specs.Words.{Command, Read, ListRecords, Send, Mix, Make, Live, Relay, Channel, Show, Script, Version}
+use Rattle.command_spec.specs.Words.{Command, Read, ListRecords, Send, Mix, Attend, Make, Live, Relay, Channel, Show, Script, Version}
 use Rattle.command_spec.specs.Work.{Contents, Steps, Reads, Refuses, Makes, Serves}
 use Rattle.command_spec.specs.Commands.{work}
 use Rattle.command_spec.specs.Outcomes.{Outcome, Missing, Done, Served, outcome}
@@ -45,6 +45,8 @@ is_recording (ListRecords l) input = true
 is_recording (Send s) input = false
 is_recording (Mix m) zero = false
 is_recording (Mix m) (suc leg) = true
+is_recording (Attend m) zero = false
+is_recording (Attend m) (suc leg) = true
 is_recording (Make m) input = false
 is_recording (Live m) input = false
 is_recording (Relay s) input = false
@@ -67,6 +69,7 @@ is_live _ = false
 -- a conference is mixed
 abbrev pub is_mixed : Command → Bool
 is_mixed (Mix m) = true
+is_mixed (Attend m) = true
 is_mixed (Make m) = true
 is_mixed _ = false
 

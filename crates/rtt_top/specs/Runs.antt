@@ -3,7 +3,7 @@
 use Rattle.std.specs.Prelude.{◌≡◌, ◌⊎◌, ◌<◌, ◌≤◌, ℕ, Bool, true, false, Option, None, Some, List, [], ◌∷◌, ◌++◌, take, Ok, Err, suc, zero, map, String, string_bytes}
 use Rattle.std.specs.Global.{Global}
 use Rattle.rtt_io.specs.Fronts.{TakesFront}
-use Rattle.command_spec.specs.Words.{ReadWords, MixWords, Command, Read, ListRecords, Send, Mix, Make, Live, Relay, Channel, Show, Script, Version, command}
+use Rattle.command_spec.specs.Words.{ReadWords, MixWords, Command, Read, ListRecords, Send, Mix, Attend, Make, Live, Relay, Channel, Show, Script, Version, command}
 use Rattle.stream_spec.specs.History.{History, Lawful, Come}
 use Rattle.command_spec.specs.declared.faults.Refusal.TheVariants.{AtByte, AtFrame, AtLine, AfterTurns}
 use Rattle.command_spec.specs.declared.faults.Fault.TheVariants.{WrongWords, CannotOpen, CannotRead, Refused, CannotPrint, CannotWrite, LinkFailed, NoMemory}
@@ -11,6 +11,7 @@ use Rattle.command_spec.specs.Work.{Contents, Made, Work, IsInput, IsOutput, Ser
 use Rattle.command_spec.specs.Outcomes.{Outcome, outcome, IsDone, Same, Stores, AllStored}
 use Rattle.command_spec.specs.Outcomes as outcomes
 use Rattle.command_spec.specs.Bridges.{IsBridged}
+use Rattle.command_spec.specs.Attended.{IsAttended}
 use Rattle.command_spec.specs.Reading.{arrivals_of, history_view}
 use Rattle.command_spec.specs.Commands.{request_of, work}
 use Rattle.command_spec.specs.Messages.{Ending, ending_of, status_of, message_of}
@@ -30,6 +31,7 @@ is_plain (Some (Read r)) = true
 is_plain (Some (ListRecords l)) = true
 is_plain (Some (Send s)) = true
 is_plain (Some (Mix m)) = false
+is_plain (Some (Attend m)) = false
 is_plain (Some (Make m)) = false
 is_plain (Some (Live m)) = false
 is_plain (Some (Relay s)) = true
@@ -175,6 +177,12 @@ pub record IsHeadline (OutTells : Type 0) (m : MixWords) (old new : Outside) : T
   pub prints : OutTells → Prints printed old new
   pub bridged : IsBridged old.contents new.contents m.conf printed
 
+-- What was made of a conference with the names and the leavings that its inputs tell is bridged.
+pub record IsAttendedHeadline (OutTells : Type 0) (m : MixWords) (old new : Outside) : Type 0 where
+  pub printed : List ℕ
+  pub prints : OutTells → Prints printed old new
+  pub attended : IsAttended old.contents new.contents m.conf printed
+
 -- What a run is that ends with this status, where the output of errors was and is such.
 pub record Runs (words : Option Command) (WorldTells OutTells ErrTells : Type 0) (old new : Outside) (before after : Output)
     (status : ℕ) : Type 0 where
@@ -187,6 +195,7 @@ pub record Runs (words : Option Command) (WorldTells OutTells ErrTells : Type 0)
   pub kept : WorldTells → OutTells → ending ≡ Ok tt → (h : History) → Lawful h → (view : List ℕ)
       → IsViewOf h words old.contents view → Prints view old new
   pub headline : WorldTells → ending ≡ Ok tt → (m : MixWords) → words ≡ Some (Mix m) → IsHeadline OutTells m old new
+  pub attended : WorldTells → ending ≡ Ok tt → (m : MixWords) → words ≡ Some (Attend m) → IsAttendedHeadline OutTells m old new
   pub silent : ending ≡ Ok tt → after.octets ≡ before.octets
   pub front : ErrTells → TakesFront before.octets after.octets (message_of name ending)
   pub told : ErrTells → (Failed before after → ⊥) → after.octets ≡ before.octets ++ message_of name ending

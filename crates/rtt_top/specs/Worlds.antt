@@ -8,7 +8,7 @@ use Rattle.file_spec.specs.declared.conf_lines.LegLine.{LegLine}
 use Rattle.file_spec.specs.Conf.{conf}
 use Rattle.file_spec.specs.Script.{ScriptLine, script}
 use Rattle.command_spec.specs.declared.faults.Fault.{Fault}
-use Rattle.command_spec.specs.Words.{SendWords, ChannelWords, Command, Read, ListRecords, Send, Mix, Make, Live, Relay, Channel, Show, Script, Version}
+use Rattle.command_spec.specs.Words.{SendWords, ChannelWords, Command, Read, ListRecords, Send, Mix, Attend, Make, Live, Relay, Channel, Show, Script, Version}
 use Rattle.command_spec.specs.Work.{Makes}
 use Rattle.command_spec.specs.Commands.{sending_of, sends, work}
 use Rattle.command_spec.specs.Frames.{channel, relay}
@@ -30,6 +30,7 @@ first_file (Read r) = r.file
 first_file (ListRecords l) = l.file
 first_file (Send s) = s.file
 first_file (Mix m) = m.conf
+first_file (Attend m) = m.conf
 first_file (Make m) = []
 first_file (Live m) = m.conf
 first_file (Relay s) = s.file

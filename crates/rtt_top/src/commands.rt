@@ -6,6 +6,7 @@ ghost use Rattle.rtt_top.specs.Lives.{RunsLive};
 ghost use Rattle.rtt_top.specs.Outside.{outside_at, outside_over, output_at};
 ghost use Rattle.rtt_top.specs.Runs.{is_plain, Runs};
 
+use crate::attend::run_attend;
 use crate::channel::run_channel;
 use crate::list::run_list;
 use crate::live::run_live;
@@ -47,7 +48,7 @@ pub fn carry_out_plain<W: World, K: Sink, E: Sink>(
         Command::Show(words) => Some(run_show(alloc, words, world, out, err)),
         Command::Script(words) => Some(run_script(alloc, words, world, out, err)),
         Command::Version => Some(run_version(world, out, err)),
-        Command::Mix(_) | Command::Make(_) | Command::Live(_) => None,
+        Command::Mix(_) | Command::Attend(_) | Command::Make(_) | Command::Live(_) => None,
     }
 }
 
@@ -71,6 +72,7 @@ fn carry_out_files<R: Threads + Wait + Sync, W: World, K: Sink, E: Sink, G: Gate
     }
     match command {
         Command::Mix(words) => run_mix(rt, alloc, words, world, out, err, gate),
+        Command::Attend(words) => run_attend(rt, alloc, words, world, out, err, gate),
         Command::Make(words) => run_make(rt, alloc, words.number, world, out, err, gate),
         Command::Live(_) => unreachable!(),
         Command::Read(_)

@@ -3,7 +3,8 @@ ghost use Rattle.std.specs.Prelude.{◌≡◌, OnOk, IfOk, IfErr};
 ghost use Rattle.rtt_io.specs.Names.{NoneFalls, Same as KeepsCounts};
 ghost use Rattle.mixer_spec.specs.Setups.{leg_at};
 ghost use Rattle.command_spec.specs.Outcomes.{Same};
-ghost use Rattle.rtt_top.specs.Conferences.{command_for, ending_name, fault_name, input_name, name_of, output_of};
+ghost use Rattle.command_spec.specs.Words.{Command};
+ghost use Rattle.rtt_top.specs.Conferences.{ReadsConf, ending_name, fault_name, input_name, name_of, output_of};
 ghost use Rattle.rtt_top.specs.Worlds.{StopsIn, ReadsConference};
 
 use crate::files::{read_input, refused_line};
@@ -21,7 +22,7 @@ pub(crate) fn conf_under<W: World>(
     form: Form,
     world: &mut W,
 ) -> Result<Conf, Fault>
-    ensures stops { IfErr result (StopsIn W.World world.old world.new (command_for form (record { conf = name.now }))) }
+    ensures stops { (c : Command) → ReadsConf form name.now c → IfErr result (StopsIn W.World world.old world.new c) }
     ensures read { IfOk result (ReadsConference W.World form world.old name.now) }
     ensures same_contents { W.tells → Same (W.contents world.old) (W.contents world.new) }
     ensures calm { OnOk result (KeepsCounts W.object_faults world.old world.new) }

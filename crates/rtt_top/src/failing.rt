@@ -98,7 +98,7 @@ const NO_OUT: [Left<'static>; 2] = [Left("a.out", None), Left("b.out", None)];
 
 const BOTH_OUTS: [Left<'static>; 2] = [Left("a.out", WHOLE), Left("b.out", WHOLE)];
 
-const FAULTS: [Fault<'static>; 49] = [
+const FAULTS: [Fault<'static>; 58] = [
     // nothing fails
     Fault(&[], "mix c.txt", 0, "", PRINTED, &BOTH_OUTS),
     // a file can't be opened: the first in the order of the conference is named
@@ -245,6 +245,72 @@ const FAULTS: [Fault<'static>; 49] = [
     Fault(
         &[Out(10)],
         "mix c.txt",
+        7,
+        "cannot write the output\n",
+        "== Ann awa",
+        &BOTH_OUTS,
+    ),
+    // attended as mixed: all inputs are opened before one is read
+    Fault(&[], "attend c.txt", 0, "", PRINTED, &BOTH_OUTS),
+    Fault(
+        &[Open("c.txt")],
+        "attend c.txt",
+        3,
+        "cannot open c.txt\n",
+        "",
+        &NO_OUT,
+    ),
+    Fault(
+        &[Open("b.in"), Open("a.in")],
+        "attend c.txt",
+        3,
+        "cannot open a.in\n",
+        "",
+        &NO_OUT,
+    ),
+    Fault(
+        &[Open("b.in")],
+        "attend first.txt",
+        3,
+        "cannot open b.in\n",
+        "",
+        &NO_OUT,
+    ),
+    Fault(
+        &[Read("b.in"), Read("a.in")],
+        "attend c.txt",
+        4,
+        "cannot read a.in\n",
+        "",
+        &NO_OUT,
+    ),
+    Fault(
+        &[Read("b.in")],
+        "attend first.txt",
+        6,
+        "cut.in byte 44: EndsInside\n",
+        "",
+        &NO_OUT,
+    ),
+    Fault(
+        &[],
+        "attend short.txt",
+        9,
+        "conference too long: 16 turns\n",
+        "",
+        &NO_OUT,
+    ),
+    Fault(
+        &[Write("b.out", 50)],
+        "attend c.txt",
+        7,
+        "cannot write b.out\n",
+        "",
+        &[Left("a.out", WHOLE), Left("b.out", Some(50))],
+    ),
+    Fault(
+        &[Out(10)],
+        "attend c.txt",
         7,
         "cannot write the output\n",
         "== Ann awa",

@@ -1,6 +1,7 @@
 //! One command of the program: words in, a status out.
 #![tactic(auto)]
 
+mod attend;
 mod channel;
 mod commands;
 mod conferences;

@@ -183,6 +183,7 @@ usage: rtt_program read FILE SSRC [SOURCE [T140 RED]]
        rtt_program list FILE [T140 RED]
        rtt_program send SCRIPT OUT SSRC SEQ STAMP
        rtt_program mix CONF
+       rtt_program attend CONF
        rtt_program make N
        rtt_program live CONF
        rtt_program relay FRAMES OUT SSRC SEQ STAMP

@@ -25,7 +25,7 @@ use std::sync::Wait;
 use std::thread::Threads;
 
 /// The fault of a command for that of a mixing of at most so many turns.
-fn fault_of_mixing(turns: u32, fault: MixFault) -> Fault
+pub(crate) fn fault_of_mixing(turns: u32, fault: MixFault) -> Fault
     ensures { result ≡ fault_of_mixing turns fault }
 {
     match fault {
@@ -62,7 +62,7 @@ fn save_outputs<W: World>(legs: &[LegLine], outputs: &[Bytes], world: &mut W) ->
 }
 
 /// Mixes a conference, writes its outputs, and prints what is seen.
-fn mix_conf<R: Threads + Wait + Sync, W: World, K: Sink, G: Gate + Sync>(
+pub(crate) fn mix_conf<R: Threads + Wait + Sync, W: World, K: Sink, G: Gate + Sync>(
     rt: &R,
     alloc: Global,
     conf: &Conf,

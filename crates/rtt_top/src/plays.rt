@@ -19,6 +19,8 @@ pub enum Piece<'a> {
     Packet(u32, &'a [u8]),
     /// A packet of plain text: its millisecond, sequence number, timestamp and text.
     Plain(u32, u16, u32, &'a [u8]),
+    /// RTCP: its millisecond and its octets.
+    Rtcp(u32, &'a [u8]),
     /// Octets as they are.
     Octets(&'a [u8]),
 }
@@ -38,6 +40,16 @@ pub struct Call<'a>(pub &'a str, pub &'a str);
 /// What Ann types, what Bob types, and what is printed where a third one, Cy, whose terminal is old, listens.
 #[derive(Clone, Copy)]
 pub struct Mixing<'a>(pub &'a str, pub &'a str, pub &'a str);
+
+/// What Ann's recording has, and what `attend` prints of her call with Bob, who types nothing.
+#[derive(Clone, Copy)]
+pub struct Attended<'a>(pub &'a [Piece<'a>], pub &'a str);
+
+const TWO: &[u8] = b"mixer 9000 100 5000
+leg Ann aware 1001 a.in a.out
+leg Bob aware 1002 b.in b.out
+wait 0
+";
 
 const THREE: &[u8] = b"mixer 9000 0 0
 leg Ann aware 1001 ann.rtp to-ann.rtp
@@ -83,6 +95,14 @@ fn append_packet(recording: &mut Bytes, at: u32, packet: &[u8]) -> Result<(), No
     recording.append(packet)
 }
 
+fn append_rtcp(recording: &mut Bytes, at: u32, packet: &[u8]) -> Result<(), NoMemory> {
+    let size = u16::try_from(packet.len()).unwrap_or(0);
+    recording.append(&size.saturating_add(8).to_be_bytes())?;
+    recording.append(b"\0\0")?;
+    recording.append(&at.to_be_bytes())?;
+    recording.append(packet)
+}
+
 fn append_plain(
     recording: &mut Bytes,
     at: u32,
@@ -105,6 +125,7 @@ fn append_piece(recording: &mut Bytes, piece: &Piece<'_>) -> Result<(), NoMemory
     match piece {
         Piece::Packet(at, packet) => append_packet(recording, *at, packet),
         Piece::Plain(at, seq, stamp, text) => append_plain(recording, *at, *seq, *stamp, text),
+        Piece::Rtcp(at, packet) => append_rtcp(recording, *at, packet),
         Piece::Octets(octets) => recording.append(octets),
     }
 }
@@ -324,6 +345,38 @@ pub fn mixings_printed<R: Threads + Wait + Sync>(
                 return Ok(0);
             }
             let more = mixings_printed(rt, alloc, rest)?;
+            Ok(more.saturating_add(1))
+        }
+        [] => Ok(0),
+    }
+}
+
+/// Whether `attend` prints this.
+fn is_attended<R: Threads + Wait + Sync>(
+    rt: &R,
+    alloc: Global,
+    attended: &Attended<'_>,
+) -> Result<bool, Fail> {
+    let mut world = MemWorld::new(alloc);
+    world.add_file("c.txt", TWO)?;
+    world.add_file("a.in", recording_of(alloc, attended.0)?.as_slice())?;
+    world.add_file("b.in", &OPENING)?;
+    let printed = attended.1.as_bytes();
+    ends(rt, alloc, &mut world, "attend c.txt", 0, printed, b"")
+}
+
+/// How many of these are attended as they are to be, before the first that is not.
+pub fn calls_attended<R: Threads + Wait + Sync>(
+    rt: &R,
+    alloc: Global,
+    calls: &[Attended<'_>],
+) -> Result<usize, Fail> {
+    match calls {
+        [first, rest @ ..] => {
+            if !is_attended(rt, alloc, first)? {
+                return Ok(0);
+            }
+            let more = calls_attended(rt, alloc, rest)?;
             Ok(more.saturating_add(1))
         }
         [] => Ok(0),

@@ -1,8 +1,8 @@
-use crate::plays::Piece::{Octets, Packet, Plain};
+use crate::plays::Piece::{Octets, Packet, Plain, Rtcp};
 use crate::plays::{
-    Call, Coming, Failure, Live, Mixing, OPENING, Piece, View, calls_shown, eight_times, ends,
-    failures_told, holds, is_relayed, is_sent, lives_ended, mixings_printed, recording_of, twice,
-    views_seen,
+    Attended, Call, Coming, Failure, Live, Mixing, OPENING, Piece, View, calls_attended,
+    calls_shown, eight_times, ends, failures_told, holds, is_relayed, is_sent, lives_ended,
+    mixings_printed, recording_of, twice, views_seen,
 };
 use link_io::{Came, FailingLink};
 use rtt_base::{Bytes, NoMemory, Path};
@@ -292,6 +292,7 @@ usage: rtt_program read FILE SSRC [SOURCE [T140 RED]]
 \x20      rtt_program list FILE [T140 RED]
 \x20      rtt_program send SCRIPT OUT SSRC SEQ STAMP
 \x20      rtt_program mix CONF
+\x20      rtt_program attend CONF
 \x20      rtt_program make N
 \x20      rtt_program live CONF
 \x20      rtt_program relay FRAMES OUT SSRC SEQ STAMP
@@ -576,6 +577,52 @@ const MIXINGS: [Mixing<'static>; 3] = [
 #[test]
 fn labels_stand_before_what_is_seen(rt: HostRuntime) -> Result<(), Fail> {
     assert_eq!(rt; mixings_printed(&rt, rt.alloc(), &MIXINGS)?, MIXINGS.len());
+    Ok(())
+}
+
+// RFC 3550, section 6: in each a description or a leaving, of the SSRC that stands in its octets 4 to 7.
+const NAMES_ANN: Piece<'static> = Rtcp(0, b"\x81\xCA\0\x04\0\0\x03\xE9\x02\x07Ann Lee\0\0\0");
+
+const NAMES_BOB: Piece<'static> = Rtcp(0, b"\x81\xCA\0\x03\0\0\x03\xE9\x02\x03Bob\0\0\0");
+
+const NO_ZERO: Piece<'static> = Rtcp(0, b"\x81\xCA\0\x03\0\0\x03\xE9\x02\x06AnnLee");
+
+const ANN_LEAVES: Piece<'static> = Rtcp(100, b"\x81\xCB\0\x01\0\0\x03\xE9");
+
+const BOB_LEAVES: Piece<'static> = Rtcp(100, b"\x81\xCB\0\x01\0\0\x03\xEA");
+
+const H: Piece<'static> = Plain(0, 0, 0, b"H");
+
+const I: Piece<'static> = Plain(300, 1, 300, b"i");
+
+const AS_ANN: &str = "\
+== Ann aware\nBob: \n-- Bob bells 0\n-- packets 0 used 0 refused 0 foreign 0\n\
+== Bob aware\nAnn: Hi\n-- Ann bells 0\n-- packets 4 used 4 refused 0 foreign 0\n";
+
+const ATTENDED: [Attended<'static>; 5] = [
+    // she is called by the name that her description has
+    Attended(
+        &[NAMES_ANN, H, I],
+        "\
+== Ann_Lee aware\nBob: \n-- Bob bells 0\n-- packets 0 used 0 refused 0 foreign 0\n\
+== Bob aware\nAnn_Lee: Hi\n-- Ann_Lee bells 0\n-- packets 4 used 4 refused 0 foreign 0\n",
+    ),
+    // another has it, and a description that ends without its zero octet is refused
+    Attended(&[NAMES_BOB, H, I], AS_ANN),
+    Attended(&[NO_ZERO, H, I], AS_ANN),
+    // she leaves before her second letter, and another's leaving is not hers
+    Attended(
+        &[H, ANN_LEAVES, I],
+        "\
+== Ann aware\nBob: \n-- Bob bells 0\n-- packets 0 used 0 refused 0 foreign 0\n\
+== Bob aware\nAnn: H\n-- Ann bells 0\n-- packets 3 used 3 refused 0 foreign 0\n",
+    ),
+    Attended(&[H, BOB_LEAVES, I], AS_ANN),
+];
+
+#[test]
+fn names_and_leavings_are_heard(rt: HostRuntime) -> Result<(), Fail> {
+    assert_eq!(rt; calls_attended(&rt, rt.alloc(), &ATTENDED)?, ATTENDED.len());
     Ok(())
 }
 

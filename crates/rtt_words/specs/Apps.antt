@@ -40,7 +40,7 @@ send_app =
     with_rule (with_rule (with_rule (with_rule (with_rule (bare_app (codes "send")) (required_rule (codes "SCRIPT"))) (required_rule (codes "OUT")))
     (required_rule (codes "SSRC"))) (required_rule (codes "SEQ"))) (required_rule (codes "STAMP"))
 
--- `mix CONF`; `live` has the same
+-- `mix CONF`; `attend` and `live` have the same
 abbrev pub mix_app : App
 mix_app = with_rule (bare_app (codes "mix")) (required_rule (codes "CONF"))
 

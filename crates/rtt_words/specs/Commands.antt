@@ -7,7 +7,7 @@ use Rattle.rtt_words.specs.declared.commands.MixWords.{MixWords}
 use Rattle.rtt_words.specs.declared.commands.MakeWords.{MakeWords}
 use Rattle.rtt_words.specs.declared.commands.ChannelWords.{ChannelWords}
 use Rattle.rtt_words.specs.declared.commands.Command.{Command}
-use Rattle.rtt_words.specs.declared.commands.Command.TheVariants.{Read, ListRecords, Send, Mix, Make, Live, Relay, Channel, Show, Script, Version}
+use Rattle.rtt_words.specs.declared.commands.Command.TheVariants.{Read, ListRecords, Send, Mix, Attend, Make, Live, Relay, Channel, Show, Script, Version}
 
 abbrev pub asked : ReadWords → words.ReadWords
 asked r = record { file = r.file.now; ssrc = r.ssrc; source = r.source; pts = r.pts }
@@ -32,6 +32,7 @@ meaning (Read r) = words.Read (asked r)
 meaning (ListRecords l) = words.ListRecords (listed l)
 meaning (Send s) = words.Send (sent s)
 meaning (Mix m) = words.Mix (mixed m)
+meaning (Attend m) = words.Attend (mixed m)
 meaning (Make m) = words.Make (made m)
 meaning (Live m) = words.Live (mixed m)
 meaning (Relay s) = words.Relay (sent s)

@@ -71,6 +71,8 @@ pub enum Command<'a> {
     Send(SendWords<'a>),
     /// Mixes a conference over recordings.
     Mix(MixWords<'a>),
+    /// Mixes a conference over recordings, with the names and the leavings that their RTCP records tell.
+    Attend(MixWords<'a>),
     /// Mixes a conference that is made from a number.
     Make(MakeWords),
     /// Mixes a conference over UDP links.

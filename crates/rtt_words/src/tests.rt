@@ -87,6 +87,15 @@ fn a_mix_names_a_conference(rt: HostRuntime) -> Result<(), Fail> {
 }
 
 #[test]
+fn an_attend_has_the_words_of_a_mix(rt: HostRuntime) -> Result<(), Fail> {
+    let attend = Command::Attend(MixWords { conf: "c.txt" });
+    assert!(rt; asks(rt.alloc(), "attend c.txt", attend)?);
+    assert!(rt; is_wrong(rt.alloc(), "attend")?);
+    assert!(rt; is_wrong(rt.alloc(), "attend a b")?);
+    Ok(())
+}
+
+#[test]
 fn a_live_has_the_words_of_a_mix(rt: HostRuntime) -> Result<(), Fail> {
     let live = Command::Live(MixWords { conf: "c.txt" });
     assert!(rt; asks(rt.alloc(), "live c.txt", live)?);

@@ -199,7 +199,7 @@ fn send_command(alloc: Global, words: &[String]) -> Result<SendWords<'_>, WordFa
     send_matched(&matches).ok_or(WordFault::Wrong)
 }
 
-/// A `mix` or a `live`, where the words after its name are in its row.
+/// A `mix`, an `attend` or a `live`, where the words after its name are in its row.
 fn mix_command(alloc: Global, words: &[String]) -> Result<MixWords<'_>, WordFault>
     requires { list_all is_word (drop 1 (map string_bytes words.now)) ≡ true }
     ensures asked { IfOk result (λ m. mix_words (drop 1 (map string_bytes words.now)) ≡ Some (mixed m)) }
@@ -250,6 +250,7 @@ fn named<'a>(alloc: Global, name: &str, words: &'a [String]) -> Result<Command<'
         "list" => Ok(Command::ListRecords(list_command(alloc, words)?)),
         "send" => Ok(Command::Send(send_command(alloc, words)?)),
         "mix" => Ok(Command::Mix(mix_command(alloc, words)?)),
+        "attend" => Ok(Command::Attend(mix_command(alloc, words)?)),
         "make" => Ok(Command::Make(make_command(alloc, words)?)),
         "live" => Ok(Command::Live(mix_command(alloc, words)?)),
         "relay" => Ok(Command::Relay(send_command(alloc, words)?)),

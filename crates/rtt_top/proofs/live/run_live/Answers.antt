@@ -7,6 +7,7 @@ use Rattle.rtt_words.specs.Commands.{mixed}
 use Rattle.rtt_top.specs.Conferences.{ending_name, serving_of}
 use Rattle.rtt_top.specs.Outside.{outside_over, output_at}
 use Rattle.rtt_top.specs.Runs.{Ends}
+use Rattle.rtt_top.proofs.Conferring.{live_reads}
 use Rattle.rtt_top.proofs.Ending.{runs}
 use Rattle.rtt_top.proofs.Working.{stopped}
 use Rattle.rtt_top.proofs.Since.{ends_since, same_name}
@@ -33,7 +34,7 @@ returns-in-Err-clause-runs g c =
     runs (words.Live (mixed c.args.words.now)) g.W.World.tells g.K.Sink.tells g.E.Sink.tells old new before after c.finish_with.result
     ending name c.finish_with.ensures.status
     (subst (λ n. Ends (serving_of name) g.W.World.tells g.K.Sink.tells old new n ending) (same_name name ending)
-    (stopped (serving_of name) g.W.World.tells g.K.Sink.tells old new name name c.in-Err.fault refl c.in-Err.ensures.stops ((λ shown. refl), c.in-Err.ensures.same_contents)))
+    (stopped (serving_of name) g.W.World.tells g.K.Sink.tells old new name name c.in-Err.fault refl (c.in-Err.ensures.stops (serving_of name) (live_reads name)) ((λ shown. refl), c.in-Err.ensures.same_contents)))
     c.finish_with.ensures.silent c.finish_with.ensures.front c.finish_with.ensures.told
 
 pub returns-in-Err-clause-live : goal.returns-in-Err-clause-live

@@ -2,9 +2,12 @@ use Rattle.std.proofs.Common.{Err, refl, ap, sym, subst, ◌∙◌}
 use Rattle.command_spec.specs.Words as words
 use Rattle.command_spec.specs.Messages.{Ending}
 use Rattle.rtt_words.specs.Commands.{mixed}
-use Rattle.rtt_top.specs.Conferences.{ending_name, mixing_of}
+use Rattle.rtt_top.specs.Conferences.{ending_name}
 use Rattle.rtt_top.specs.Outside.{outside_at, output_at}
 use Rattle.rtt_top.specs.Runs.{Ends}
+use Rattle.conference.specs.Conferences.{conf_of}
+use Rattle.rtt_top.proofs.Conferring.{mix_reads}
+use Rattle.rtt_top.proofs.Mixings.{mix_comes}
 use Rattle.rtt_top.proofs.Ending.{runs}
 use Rattle.rtt_top.proofs.Working.{stopped}
 use Rattle.rtt_top.proofs.Since.{ends_since, same_name}
@@ -17,11 +20,12 @@ returns-in-Err g c =
     let before = output_at g.E.Sink c.args.err.now in
     let after = output_at g.E.Sink c.finish_with.new.err in
     let name = c.args.words.now.conf.now in
+    let command = words.Mix (mixed c.args.words.now) in
     let ending : Ending = Err c.in-Err.fault in
-    runs (words.Mix (mixed c.args.words.now)) g.W.World.tells g.K.Sink.tells g.E.Sink.tells old new before after c.finish_with.result
+    runs command g.W.World.tells g.K.Sink.tells g.E.Sink.tells old new before after c.finish_with.result
     ending name c.finish_with.ensures.status
-    (subst (λ n. Ends (mixing_of name) g.W.World.tells g.K.Sink.tells old new n ending) (same_name name ending)
-    (stopped (mixing_of name) g.W.World.tells g.K.Sink.tells old new name name c.in-Err.fault refl c.in-Err.ensures.stops ((λ shown. refl), c.in-Err.ensures.same_contents)))
+    (subst (λ n. Ends command g.W.World.tells g.K.Sink.tells old new n ending) (same_name name ending)
+    (stopped command g.W.World.tells g.K.Sink.tells old new name name c.in-Err.fault refl (c.in-Err.ensures.stops command (mix_reads name)) ((λ shown. refl), c.in-Err.ensures.same_contents)))
     c.finish_with.ensures.silent c.finish_with.ensures.front c.finish_with.ensures.told
 
 pub returns : goal.returns
@@ -32,13 +36,14 @@ returns g c =
     let before = output_at g.E.Sink c.args.err.now in
     let after = output_at g.E.Sink c.finish_with-2.new.err in
     let file = c.args.words.now.conf.now in
+    let command = words.Mix (mixed c.args.words.now) in
     let ending = c.mix_conf-ending.result in
     let read = c.in-Ok.ensures.read in
     let named = c.name_at_end-name.ensures ∙ ap (λ legs. ending_name file legs ending) c.as_slice.ensures in
-    runs (words.Mix (mixed c.args.words.now)) g.W.World.tells g.K.Sink.tells g.E.Sink.tells old new before after c.finish_with-2.result
+    runs command g.W.World.tells g.K.Sink.tells g.E.Sink.tells old new before after c.finish_with-2.result
     ending c.name_at_end-name.result.now c.finish_with-2.ensures.status
-    (subst (λ n. Ends (mixing_of file) g.W.World.tells g.K.Sink.tells old new n ending) (sym named)
-    (ends_since (mixing_of file) g.W.World.tells g.K.Sink.tells old mid new (ending_name file c.in-Ok.conf.legs ending) ending
+    (subst (λ n. Ends command g.W.World.tells g.K.Sink.tells old new n ending) (sym named)
+    (ends_since command g.W.World.tells g.K.Sink.tells old mid new (ending_name file c.in-Ok.conf.legs ending) ending
     (record { same = c.in-Ok.ensures.same_contents; calls_rise = c.in-Ok.ensures.calls_never_fall; objects_rise = c.in-Ok.ensures.objects_never_fall }) refl refl c.in-Ok.ensures.calm
-    (c.mix_conf-ending.ensures file read.0 (λ told. c.in-Ok.ensures.same_contents told file ∙ read.1 told) read.2)))
+    (c.mix_conf-ending.ensures file command (mix_comes g.W.World.tells mid.contents file read.0 (conf_of c.in-Ok.conf) (λ told. c.in-Ok.ensures.same_contents told file ∙ read.1 told) read.2))))
     c.finish_with-2.ensures.silent c.finish_with-2.ensures.front c.finish_with-2.ensures.told

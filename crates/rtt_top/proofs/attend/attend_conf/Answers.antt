@@ -1,0 +1,41 @@
+use Rattle.std.proofs.Common.{Err, refl, sym, subst, ◌∙◌}
+use Rattle.file_spec.specs.Conf.{Conf}
+use Rattle.command_spec.specs.Words.{Attend, Command}
+use Rattle.command_spec.specs.declared.faults.Fault.{Fault}
+use Rattle.conference.specs.Conferences.{conf_of}
+use Rattle.rtt_top.specs.Conferences.{ending_name, fault_of_mixing}
+use Rattle.rtt_top.specs.Outside.{outside_at}
+use Rattle.rtt_top.specs.Runs.{Ends}
+use Rattle.rtt_top.proofs.Attending.{unheard}
+use Rattle.rtt_top.proofs.Mixings.{IsToldOf, attend_comes, told_since}
+use Rattle.rtt_top.proofs.Since.{ends_since}
+use Rattle.rtt_top.proofs.attend.attend_conf.Goals as goal
+
+pub returns-in-Err : goal.returns-in-Err
+returns-in-Err g c = λ file octets there read.
+    let old = outside_at g.W.World g.K.Sink c.args.world.now c.args.out.now in
+    let new = outside_at g.W.World g.K.Sink c.hear_names.new.world c.args.out.now in
+    let before = conf_of c.args.conf.now in
+    let command : Command = Attend (record { conf = file }) in
+    let fault = c.in-Err.fault in
+    let ends = unheard g.W.World.tells g.K.Sink.tells old new file octets before fault there read c.in-Err.ensures.in_time c.in-Err.ensures.stops c.in-Err.ensures.none_failed
+    ((λ shown. refl), c.hear_names.ensures.same_contents) in
+    let P : Fault → Type 0 = λ f. Ends command g.W.World.tells g.K.Sink.tells old new (ending_name file c.hear_names.new.conf.legs (Err f)) (Err f) in
+    let Q : Conf → Type 0 = λ d. Ends command g.W.World.tells g.K.Sink.tells old new (ending_name file d.legs (Err (fault_of_mixing d.turns fault))) (Err (fault_of_mixing d.turns fault)) in
+    subst P (sym c.fault_of_mixing.ensures) (subst Q (sym c.in-Err.ensures.unchanged) ends)
+
+pub returns : goal.returns
+returns g c = λ file octets there read.
+    let old = outside_at g.W.World g.K.Sink c.args.world.now c.args.out.now in
+    let mid = outside_at g.W.World g.K.Sink c.hear_names.new.world c.args.out.now in
+    let new = outside_at g.W.World g.K.Sink c.mix_conf.new.world c.mix_conf.new.out in
+    let before = conf_of c.args.conf.now in
+    let now = conf_of c.hear_names.new.conf in
+    let command : Command = Attend (record { conf = file }) in
+    let some = c.in-Ok.ensures.named_some in
+    let told : IsToldOf g.W.World.tells old.contents before now = record { says = some.0; is = some.1; named = λ told. (c.in-Ok.ensures.named told).is } in
+    ends_since command g.W.World.tells g.K.Sink.tells old mid new (ending_name file now.legs c.mix_conf.result) c.mix_conf.result
+    (record { same = c.hear_names.ensures.same_contents; calls_rise = c.hear_names.ensures.calls_never_fall; objects_rise = c.hear_names.ensures.objects_never_fall }) refl refl c.in-Ok.ensures.calm
+    (c.mix_conf.ensures file command
+    (attend_comes g.W.World.tells mid.contents file octets before now (λ tells. c.hear_names.ensures.same_contents tells file ∙ there tells) read
+    (told_since g.W.World.tells old.contents mid.contents before now c.hear_names.ensures.same_contents told)))
