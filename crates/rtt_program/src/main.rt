@@ -1,4 +1,5 @@
-//! The program: its words go to `run`, over the files of the system, its network and its standard streams.
+//! The program: its words go to `run`, over the files of the system, its network, on which terminals leave by RTCP, and its standard
+//! streams.
 #![tactic(auto)]
 
 ghost use Rattle.std.specs.Prelude.{◌≡◌, ◌++◌, drop, codes, IfOk, OnErr};
@@ -8,6 +9,7 @@ ghost use Rattle.rtt_top.specs.Lives.{RunsLive};
 ghost use Rattle.rtt_top.specs.Outside.{outside_over, output_at};
 ghost use Rattle.rtt_top.specs.Runs.{asked_by, Runs};
 
+use leaving_links::Leaving;
 use link_io::{Links, RealLinks};
 use rtt_io::{RealWorld, Sink, StandardError, StandardOutput, StillGate, World};
 use rtt_top::run;
@@ -114,18 +116,32 @@ fn program<R: Threads + Wait + Sync, W: World, L: Links, K: Sink, E: Sink>(
     exit_with(status)
 }
 
+/// The program over links that terminals leave by RTCP.
+fn program_over<R: Threads + Wait + Sync, W: World, L: Links + Drop, K: Sink, E: Sink>(
+    rt: &R,
+    alloc: Global,
+    words: Result<Vec<String>, AllocError>,
+    world: &mut W,
+    links: L,
+    out: &mut K,
+    err: &mut E,
+) -> ExitCode {
+    let mut links = Leaving::new(links);
+    program(rt, alloc, words, world, &mut links, out, err)
+}
+
 fn main(rt: HostRuntime) -> ExitCode {
     let mut world = RealWorld::new(&rt, rt.alloc());
     let mut out = StandardOutput::new(rt.stdout());
     let mut err = StandardError::new(rt.stderr());
-    let mut links = RealLinks::new(&rt);
+    let links = RealLinks::new(&rt);
     let words = all_words(&rt);
-    program(
+    program_over(
         &rt,
         rt.alloc(),
         words,
         &mut world,
-        &mut links,
+        links,
         &mut out,
         &mut err,
     )
