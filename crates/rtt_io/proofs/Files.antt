@@ -170,3 +170,6 @@ module _ {old new : List MemFile} {name : List ℕ} {before : Option MemFile} {a
 
   pub other_objects_stay : (o : ℕ) (n : List ℕ) → n ≢ name → objects_of o new n ≡ objects_of o old n
   other_objects_stay o n h = rw (c.others n h) refl
+
+  pub other_own_stay : (o : ℕ) (n : List ℕ) → n ≢ name → own_of o new n ≡ own_of o old n
+  other_own_stay o n h = rw (c.others n h) refl

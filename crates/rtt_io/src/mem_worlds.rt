@@ -254,6 +254,7 @@ impl MemWorld {
     // Counts a fault of a call that opens or creates a name.
     fn count_own(&mut self, name: &str)
         ensures rose { Rose (own_counted self.old name.now) (own_counted self.new name.now) }
+        ensures no_other { CountsNoOther octets_held own_counted name.now self.old self.new }
         ensures never_falls { NoneFalls own_counted self.old self.new }
         ensures same_contents { Same octets_held self.old self.new }
         ensures same_objects { Same objects_counted self.old self.new }

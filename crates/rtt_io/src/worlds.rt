@@ -35,6 +35,7 @@ pub trait World {
         ensures fresh { IfOk result (λ source. Self.Src.faults source ≡ 0) }
         ensures told { tells → OnOk result Self.Src.tells }
         ensures holds { tells → IfOk result (λ source. contents self.old name.now ≡ Some (Self.Src.left source)) }
+        ensures no_other { tells → OnErr result (CountsNoOther contents own_faults name.now self.old self.new) }
         ensures same_contents { tells → Same contents self.old self.new };
 
     /// Creates what is under a name anew, empty, for writing. After `Failed` it is as before.

@@ -1,7 +1,7 @@
-use Rattle.std.proofs.Common.{◌∙◌, ap, refl, arith}
+use Rattle.std.proofs.Common.{◌≡◌, ◌∙◌, None, ap, refl, arith}
 use Rattle.std.specs.List.{position}
-use Rattle.rtt_io.specs.Files.{is_named}
-use Rattle.rtt_io.proofs.Files.{written, octets_stay, objects_stay, own_rises, own_rose}
+use Rattle.rtt_io.specs.Files.{is_named, file_of}
+use Rattle.rtt_io.proofs.Files.{written, octets_stay, objects_stay, own_rises, own_rose, other_own_stay, unplaced}
 use Rattle.rtt_io.proofs.mem_worlds.MemWorld.count_own.Goals as goal
 
 pub returns-in-Some-clause-rose : goal.returns-in-Some-clause-rose
@@ -19,3 +19,12 @@ returns-in-Some-clause-same_contents c =
 pub returns-in-Some-clause-same_objects : goal.returns-in-Some-clause-same_objects
 returns-in-Some-clause-same_objects c =
     objects_stay (written c.args.self.now.files.items c.args.name.now c.in-Some.at c.index_mut-file.result.now _ (c.in-Some.ensures ∙ ap (position (is_named c.args.name.now)) c.as_slice.ensures.value) c.index_mut-file.ensures.value refl) refl _
+
+pub returns-in-Some-clause-no_other : goal.returns-in-Some-clause-no_other
+returns-in-Some-clause-no_other c = λ there n h.
+    other_own_stay (written c.args.self.now.files.items c.args.name.now c.in-Some.at c.index_mut-file.result.now _ (c.in-Some.ensures ∙ ap (position (is_named c.args.name.now)) c.as_slice.ensures.value) c.index_mut-file.ensures.value refl) _ n h
+
+pub returns-in-None-clause-no_other : goal.returns-in-None-clause-no_other
+returns-in-None-clause-no_other c =
+    let none : file_of c.args.self.now.files.items c.args.name.now ≡ None = unplaced c.args.self.now.files.items c.args.name.now (c.in-None.ensures ∙ ap (position (is_named c.args.name.now)) c.as_slice.ensures.value) in
+    rw none (λ h. absurd (cc))
