@@ -14,7 +14,7 @@ mod starting;
 pub use gates::LentGate;
 pub use lanes::Lane;
 pub use lending::lend;
-pub use lists::{join_lanes, start_lanes};
+pub use lists::{join_lanes, keep_lanes, start_lanes};
 pub use rooms::{LaneRoom, Started};
 
 #[cfg(test)]

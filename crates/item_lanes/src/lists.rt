@@ -7,7 +7,7 @@ ghost use Rattle.item_lanes.specs.Rooms.{HasRoom, HasRoomBack};
 use crate::ends::LaneEnds;
 use crate::lanes::Lane;
 use crate::rooms::{LaneRoom, Started};
-use crate::starting::start_lane;
+use crate::starting::{keep_lane, start_lane};
 use core::thread::Stack;
 use item_queue::Gives;
 use rtt_io::Gate;
@@ -45,6 +45,33 @@ fn start_all<
         };
         let size = Stack::new().stack_size(stack);
         let lane = start_lane(scope, rt, gate, size, leg, number, end);
+        number = number.wrapping_add(1);
+        lanes.push_reserved(lane);
+    }
+    rest.destroy_empty();
+    lanes
+}
+
+/// Keeps all that is in a list, each to be stepped where its items are popped.
+fn keep_all<Q: Drop, F: Gives<Q>, G: Gate + Copy>(
+    gate: G,
+    gives: Vec<F>,
+    mut ends: Vec<LaneEnds<Q>>,
+    mut lanes: Vec<Lane<Q, F, G>>,
+) -> Vec<Lane<Q, F, G>>
+    requires new { AreNew F.stands gives.items }
+    requires ends { vec_len ends ≡ vec_len gives }
+    requires none { lanes.items ≡ [] }
+    requires room { vec_len gives ≤ vec_capacity lanes }
+    ensures { AreStarted F.stands gives.items result.items }
+{
+    let mut rest = gives.into_iter();
+    let mut number = 0;
+    while let Some(leg) = rest.next() {
+        let Some(end) = ends.pop() else {
+            unreachable!()
+        };
+        let lane = keep_lane(gate, leg, number, end);
         number = number.wrapping_add(1);
         lanes.push_reserved(lane);
     }
@@ -95,6 +122,23 @@ pub fn start_lanes<
 {
     let LaneRoom { ends, lanes, back } = room;
     let lanes = start_all(scope, rt, gate, stack, gives, ends, lanes);
+    Started { lanes, back }
+}
+
+/// Makes the lanes of all that is in a list without a thread: each is stepped where its items are popped, and nobody waits for it.
+/// The gate knows each by its place in the list.
+pub fn keep_lanes<Q: Drop, F: Gives<Q>, G: Gate + Copy>(
+    gate: G,
+    gives: Vec<F>,
+    room: LaneRoom<Q, F, G>,
+) -> Started<Q, F, G>
+    requires new { AreNew F.stands gives.items }
+    requires room { HasRoom (vec_len gives) room }
+    ensures lanes { AreStarted F.stands gives.items result.lanes.items }
+    ensures back { HasRoomBack (vec_len gives) result.back }
+{
+    let LaneRoom { ends, lanes, back } = room;
+    let lanes = keep_all(gate, gives, ends, lanes);
     Started { lanes, back }
 }
 

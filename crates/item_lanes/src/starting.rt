@@ -115,6 +115,37 @@ pub(crate) fn start_lane<
     }
 }
 
+/// Keeps what gives items: it is stepped where its items are popped. The gate knows it by this number.
+pub(crate) fn keep_lane<Q: Drop, F: Gives<Q>, G: Gate + Copy>(
+    gate: G,
+    gives: F,
+    number: u32,
+    ends: LaneEnds<Q>,
+) -> Lane<Q, F, G>
+    requires { F.stands gives gives [] }
+    ensures { IsStarted F.stands gives result }
+{
+    let LaneEnds {
+        ours,
+        theirs: _,
+        push,
+        pop,
+    } = ends;
+    let gated = Gated {
+        gives,
+        gate,
+        number,
+    };
+    let feed = Feed::new(gated, push);
+    Lane {
+        shared: ours,
+        pop,
+        runner: Runner::Here(feed),
+        gate,
+        number,
+    }
+}
+
 /// Joins what runs, and has its feed.
 fn join_runner<Q: Drop, F: Gives<Q>, R: Threads>(
     runner: Runner<Q, F>,

@@ -1,7 +1,7 @@
 ghost use Rattle.std.specs.Prelude.{◌≡◌, length};
 
 use crate::lanes::Runner;
-use crate::{Lane, LaneRoom, Started, join_lanes, start_lanes};
+use crate::{Lane, LaneRoom, Started, join_lanes, keep_lanes, start_lanes};
 use item_queue::{Gives, Reuse};
 use rtt_base::NoMemory;
 use rtt_io::Gate;
@@ -151,6 +151,22 @@ fn run<R: Threads + Wait + Sync, G: Gate + Copy + Send>(
     })
 }
 
+// Keeps all, pops all and has all back.
+fn run_kept<R: Threads + Wait, G: Gate + Copy>(
+    rt: &R,
+    alloc: Global,
+    gate: G,
+    gives: Vec<Counting>,
+) -> Option<Drained> {
+    let Ok(room) = LaneRoom::new(alloc, gives.len()) else {
+        return None;
+    };
+    let Started { mut lanes, back } = keep_lanes(gate, gives, room);
+    let drained = drain_all(rt, lanes.as_mut_slice());
+    let _back = join_lanes(rt, lanes, back);
+    Some(drained)
+}
+
 fn begins() -> Counting {
     Counting {
         given: 0,
@@ -159,12 +175,12 @@ fn begins() -> Counting {
     }
 }
 
-// Runs three that count, on threads of so many octets of stack. The answer is how many ran on threads, how many numbers came in
+// Runs three that count, on threads of so many octets of stack, or without threads. The answer is how many ran on threads, how many numbers came in
 // order, and how many times the gate was told of a push and of a pop.
 fn count_thrice<R: Threads + Wait + Sync>(
     rt: &R,
     alloc: Global,
-    stack: usize,
+    stack: Option<usize>,
 ) -> Result<[u64; 4], NoMemory> {
     let Ok(gives) = Vec::from_array(alloc, [begins(), begins(), begins()]) else {
         return Err(NoMemory);
@@ -175,7 +191,11 @@ fn count_thrice<R: Threads + Wait + Sync>(
         passed: &passed,
         popped: &popped,
     };
-    let Some(drained) = run(rt, alloc, gate, stack, gives) else {
+    let ran = match stack {
+        Some(stack) => run(rt, alloc, gate, stack, gives),
+        None => run_kept(rt, alloc, gate, gives),
+    };
+    let Some(drained) = ran else {
         return Err(NoMemory);
     };
     let passed = passed.load(Ordering::SeqCst);
@@ -185,14 +205,21 @@ fn count_thrice<R: Threads + Wait + Sync>(
 
 #[test]
 fn all_run_on_threads(rt: HostRuntime) -> Result<(), Fail> {
-    let counts = count_thrice(&rt, rt.alloc(), 2_097_152)?;
+    let counts = count_thrice(&rt, rt.alloc(), Some(2_097_152))?;
     assert!(rt; counts == [3, 600, 600, 600]);
     Ok(())
 }
 
 #[test]
 fn refused_starts_change_nothing(rt: HostRuntime) -> Result<(), Fail> {
-    let counts = count_thrice(&rt, rt.alloc(), usize::MAX)?;
+    let counts = count_thrice(&rt, rt.alloc(), Some(usize::MAX))?;
+    assert!(rt; counts == [0, 600, 600, 600]);
+    Ok(())
+}
+
+#[test]
+fn what_is_kept_needs_no_thread(rt: HostRuntime) -> Result<(), Fail> {
+    let counts = count_thrice(&rt, rt.alloc(), None)?;
     assert!(rt; counts == [0, 600, 600, 600]);
     Ok(())
 }
