@@ -7,6 +7,6 @@ use Rattle.link_io.specs.Taking.{closes}
 -- it does not close the link
 abbrev pub IsOpenStill : Received → Type 0
 IsOpenStill (received.OfPeer came) = closes came ≡ false
-IsOpenStill received.OfStranger = Unit {0}
+IsOpenStill received.PassedOver = Unit {0}
 IsOpenStill received.Nothing = Unit {0}
 IsOpenStill received.Broken = Unit {0}

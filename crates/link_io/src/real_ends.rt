@@ -13,10 +13,10 @@ use std::net::{SocketAddr, UdpSocket};
 use std::time::{Clock, Duration};
 
 /// How long a `take` that may wait does so, in milliseconds.
-pub(crate) const PATIENCE: u64 = 20;
+pub(crate) const PATIENCE: u64 = 5;
 
-/// How many datagrams of strangers one `take` passes over.
-const MOST_STRANGERS: u32 = 64;
+/// How often one `take` passes over what is nothing of the peer.
+const MOST_PASSED_OVER: u32 = 64;
 
 /// One octet more than a packet may have, so that a longer datagram is told from one that fits.
 const ROOM: usize = 4225;
@@ -28,11 +28,18 @@ fn is_absence(kind: ErrorKind) -> bool {
         ErrorKind::WouldBlock
             | ErrorKind::TimedOut
             | ErrorKind::Interrupted
-            | ErrorKind::ConnectionRefused
-            | ErrorKind::ConnectionReset
             | ErrorKind::HostUnreachable
             | ErrorKind::NetworkUnreachable
             | ErrorKind::NetworkDown
+    ) || is_refusal(kind)
+}
+
+/// What the next call of a socket says where nobody was at the peer's port for an earlier datagram. It is said in place of what was
+/// asked, and once.
+fn is_refusal(kind: ErrorKind) -> bool {
+    matches!(
+        kind,
+        ErrorKind::ConnectionRefused | ErrorKind::ConnectionReset
     )
 }
 
@@ -40,8 +47,8 @@ fn is_absence(kind: ErrorKind) -> bool {
 enum Received {
     /// This of the peer.
     OfPeer(Came),
-    /// A datagram of somebody else.
-    OfStranger,
+    /// Nothing of the peer, but more may be there: a datagram of somebody else, or that the peer was away.
+    PassedOver,
     /// Nothing, by now.
     Nothing,
     /// The socket failed.
@@ -49,7 +56,7 @@ enum Received {
 }
 
 /// The inbound end of a link over UDP. It hears the peer alone, whose address and port its outbound end sends to; what others
-/// send is passed over as if it had not come. It is never closed.
+/// send is passed over as if it had not come, most of it by the system, which knows the peer. It is never closed.
 #[derive(Drop)]
 pub struct RealIn<C> {
     clock: C,
@@ -128,12 +135,12 @@ impl<C: Clock> RealIn<C> {
         ensures same_port { self.new.port ≡ self.old.port }
     {
         let begin = millis_since(&self.clock, self.start);
-        for _ in 0..MOST_STRANGERS {
+        for _ in 0..MOST_PASSED_OVER {
             let waited = millis_since(&self.clock, self.start).saturating_sub(begin);
             self.set_patience(patience_left(may_wait, waited)).ok()?;
             match self.receive_one(out) {
                 Received::OfPeer(came) => return Some(came),
-                Received::OfStranger => {}
+                Received::PassedOver => {}
                 Received::Nothing => return Some(Came::Quiet),
                 Received::Broken => return None,
             }
@@ -168,7 +175,8 @@ impl<C: Clock> RealIn<C> {
             Ok((count, from)) if is_from(self.peer, from) => {
                 Received::OfPeer(hand_out(&room[..count], out))
             }
-            Ok(_) => Received::OfStranger,
+            Ok(_) => Received::PassedOver,
+            Err(error) if is_refusal(error.kind()) => Received::PassedOver,
             Err(error) if is_absence(error.kind()) => Received::Nothing,
             Err(_) => Received::Broken,
         }
@@ -201,7 +209,6 @@ fn hand_out(octets: &[u8], out: &mut Packet) -> Came
 #[derive(Drop)]
 pub struct RealOut {
     socket: UdpSocket,
-    peer: SocketAddr,
     pub(crate) port: u16,
     pub(crate) faults: u64,
 }
@@ -218,7 +225,7 @@ impl LinkOut for RealOut {
     ghost port = { λ link. link.port };
 
     fn give(&mut self, packet: &[u8]) -> Result<(), Failed> {
-        match self.socket.send_to(packet, self.peer) {
+        match self.send(packet) {
             Ok(_) => Ok(()),
             Err(error) if is_absence(error.kind()) => Ok(()),
             Err(_) => {
@@ -230,16 +237,23 @@ impl LinkOut for RealOut {
 }
 
 impl RealOut {
-    /// The outbound end of a socket that does not wait long.
-    pub(crate) fn new(socket: UdpSocket, peer: SocketAddr, port: u16) -> RealOut
+    /// The outbound end of a socket that knows its peer and does not wait long.
+    pub(crate) fn new(socket: UdpSocket, port: u16) -> RealOut
         ensures at { result.port ≡ port }
         ensures fresh { result.faults ≡ 0 }
     {
         RealOut {
             socket,
-            peer,
             port,
             faults: 0,
+        }
+    }
+
+    // Sends a packet. Where the system says in place of it that an earlier one found nobody, it is sent once more.
+    fn send(&self, packet: &[u8]) -> io::Result<usize> {
+        match self.socket.send(packet) {
+            Err(error) if is_refusal(error.kind()) => self.socket.send(packet),
+            sent => sent,
         }
     }
 }

@@ -51,6 +51,7 @@ impl<R: Net + Clock + Copy> RealLinks<R> {
         let peer = peer_of(to)?;
         let here = SocketAddr::new(own_address(peer), port);
         let socket = UdpSocket::bind(&self.rt, here).ok()?;
+        socket.connect(peer).ok()?;
         let patience = Duration::from_millis(PATIENCE);
         socket.set_read_timeout(Some(patience)).ok()?;
         socket
@@ -58,7 +59,7 @@ impl<R: Net + Clock + Copy> RealLinks<R> {
             .ok()?;
         let other = socket.try_clone().ok()?;
         let inbound = RealIn::new(self.rt, self.start, socket, peer, port);
-        Some((inbound, RealOut::new(other, peer, port)))
+        Some((inbound, RealOut::new(other, port)))
     }
 
     // What the clock says, and no earlier moment than before.

@@ -20,6 +20,7 @@ pub data Item : Type 0 where
 abbrev pub item_with : ItemKind → Chunk → Item
 item_with kind.Text c = Text c.ready c.text
 item_with kind.Seen c = Seen
+item_with kind.Silent c = Seen
 item_with kind.End c = End
 item_with kind.Quit c = Quit
 item_with kind.Fault c = Fault

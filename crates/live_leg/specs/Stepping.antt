@@ -5,7 +5,7 @@ use Rattle.stream_spec.specs.Still.{is_lively_chunk}
 use Rattle.link_io.specs.declared.ends.Came.{Came}
 use Rattle.link_io.specs.declared.ends.Came.TheVariants as came
 use Rattle.live_leg.specs.declared.kinds.ItemKind.{ItemKind}
-use Rattle.live_leg.specs.declared.kinds.ItemKind.TheVariants.{Text}
+use Rattle.live_leg.specs.declared.kinds.ItemKind.TheVariants.{Text, Seen, Silent}
 use Rattle.live_leg.specs.declared.states.State.{State}
 use Rattle.live_leg.specs.declared.states.State.TheVariants.{Giving, Ending}
 
@@ -19,3 +19,10 @@ state_after came.Closed = Ending
 -- what a text that is heard comes to: a keep-alive is none
 abbrev pub unless_blank : Chunk → Option ItemKind
 unless_blank c = if is_lively_chunk c then Some Text else None
+
+-- how it says that all was given, where this came last
+abbrev pub seen_as : Came → ItemKind
+seen_as came.Datagram = Seen
+seen_as came.Large = Seen
+seen_as came.Quiet = Silent
+seen_as came.Closed = Seen

@@ -7,6 +7,8 @@ pub enum ItemKind {
     Text,
     /// All that is ready by what the link gave so far was given.
     Seen,
+    /// The same, and the link had nothing when it was asked last.
+    Silent,
     /// The link is closed, and all that was heard was given.
     End,
     /// The leg was told to stop.

@@ -5,6 +5,7 @@ ghost use Rattle.live_leg.specs.States.{is_idle, is_going};
 
 use crate::states::State;
 use ear::Ear;
+use link_io::Came;
 use rtt_base::Packet;
 use std::alloc::Global;
 use std::sync::Arc;
@@ -20,6 +21,8 @@ pub struct LinkLeg<L> {
     /// Says that the leg is to stop.
     pub(crate) stop: Arc<AtomicBool, Global>,
     pub(crate) state: State,
+    /// What the link gave last.
+    pub(crate) last: Came,
     ghost giving: { ∥ IsGiving ear ∥₁ },
     ghost quiet: { is_idle state ≡ true → is_quiet ear ≡ true },
     ghost open_still: { is_going state ≡ true → is_finished ear ≡ false },

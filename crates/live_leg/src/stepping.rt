@@ -2,7 +2,7 @@
 ghost use Rattle.std.specs.Prelude.{◌≡◌, ◌≤◌, ◌<◌, true, false, None, [], ◌∷◌, IfOk, IfErr, IfSome, OnOk, OnErr};
 ghost use Rattle.rtt_base.specs.declared.limits.TheConstants.{LONGEST_WAIT, MOST_ARRIVALS};
 ghost use Rattle.stream_spec.specs.Ready.{chunk_of};
-ghost use Rattle.live_leg.specs.Stepping.{unless_blank};
+ghost use Rattle.live_leg.specs.Stepping.{seen_as, unless_blank};
 ghost use Rattle.ear.specs.Hears.{arrival_count, conf_of};
 ghost use Rattle.live_leg.specs.Items.{Item, items_with};
 ghost use Rattle.live_leg.specs.Stands.{GetsOn, GivesOf, GivesThen, LegStands, Listens};
@@ -14,7 +14,7 @@ use crate::kinds::ItemKind;
 use crate::legs::LinkLeg;
 use crate::states::{State, state_after};
 use ear::{Ear, EarConf, is_blank};
-use link_io::LinkIn;
+use link_io::{Came, LinkIn};
 use rtt_base::limits::MOST_ARRIVALS;
 use rtt_base::{Chunk, Failed, Packet};
 use std::alloc::Global;
@@ -29,6 +29,16 @@ fn unless_blank(chunk: &Chunk) -> Option<ItemKind>
         return None;
     }
     Some(ItemKind::Text)
+}
+
+/// How it is said that all was given which is ready by what the link gave, where this came last.
+fn seen_as(last: Came) -> ItemKind
+    ensures { result ≡ seen_as last }
+{
+    match last {
+        Came::Quiet => ItemKind::Silent,
+        _ => ItemKind::Seen,
+    }
 }
 
 impl<L: LinkIn> LinkLeg<L> {
@@ -59,6 +69,7 @@ impl<L: LinkIn> LinkLeg<L> {
             packet,
             stop,
             state: State::Idle,
+            last: Came::Quiet,
         })
     }
 
@@ -72,6 +83,7 @@ impl<L: LinkIn> LinkLeg<L> {
             packet: _,
             stop: _,
             state: _,
+            last: _,
         } = self;
         link
     }
@@ -88,6 +100,7 @@ impl<L: LinkIn> LinkLeg<L> {
             Ok(taken) => {
                 hear_taken(&mut self.ear, taken, self.packet.as_slice());
                 self.state = state_after(taken.came);
+                self.last = taken.came;
                 Ok(())
             }
             Err(failed) => {
@@ -113,7 +126,7 @@ impl<L: LinkIn> LinkLeg<L> {
             return Some(ItemKind::End);
         }
         self.state = State::Idle;
-        Some(ItemKind::Seen)
+        Some(seen_as(self.last))
     }
 
     /// Stops.

@@ -86,6 +86,7 @@ fn a_keep_alive_is_passed_over(rt: HostRuntime) -> Result<(), Fail> {
     let mut item = LegItem::blank(rt.alloc())?;
     assert!(rt; !next(&rt, &mut leg, &mut item));
     assert!(rt; gives(&rt, &mut leg, &mut item, ItemKind::Seen));
+    assert!(rt; gives(&rt, &mut leg, &mut item, ItemKind::Silent));
     Ok(())
 }
 
@@ -108,7 +109,7 @@ fn a_fault_is_the_last(rt: HostRuntime) -> Result<(), Fail> {
     link.fail_at(2)?;
     let mut leg = ann(rt.alloc(), link, false)?;
     let mut item = LegItem::blank(rt.alloc())?;
-    assert!(rt; gives(&rt, &mut leg, &mut item, ItemKind::Seen));
+    assert!(rt; gives(&rt, &mut leg, &mut item, ItemKind::Silent));
     assert!(rt; gives(&rt, &mut leg, &mut item, ItemKind::Fault));
     assert!(rt; leg.is_over());
     Ok(())

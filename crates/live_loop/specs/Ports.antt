@@ -11,7 +11,7 @@ use Rattle.mix_loop.specs.Mixers.{Keeps}
 use Rattle.live_loop.specs.declared.gathering.Advanced.{Advanced}
 use Rattle.live_loop.specs.declared.gathering.Advanced.TheVariants as advanced
 use Rattle.live_loop.specs.declared.gathering.Looked.{Looked}
-use Rattle.live_loop.specs.declared.gathering.Looked.TheVariants.{Text, Seen, End, Fault, Quit, Nothing}
+use Rattle.live_loop.specs.declared.gathering.Looked.TheVariants.{Text, Seen, Silent, End, Fault, Quit, Nothing}
 use Rattle.live_loop.specs.declared.ports.LivePort.{LivePort}
 use Rattle.live_loop.specs.Handed.{IsEnough, IsNext, hand_after, has_end, is_blocked_after, one_free}
 use Rattle.rtt_base.specs.declared.text_packets.Pts.{Pts}
@@ -97,6 +97,7 @@ module _ {I : Type 0} where
   abbrev pub Pulls : (I → List Item) → LivePort I → LivePort I → Looked → Type 0
   Pulls popped old new Text = PullsText popped old new
   Pulls popped old new Seen = PullsMark popped old new item.Seen old.ended old.failed
+  Pulls popped old new Silent = PullsMark popped old new item.Seen old.ended old.failed
   Pulls popped old new End = PullsMark popped old new item.End true old.failed
   Pulls popped old new Fault = PullsMark popped old new item.Fault old.ended true
   Pulls popped old new Quit = PullsMark popped old new item.Quit old.ended old.failed
@@ -149,6 +150,7 @@ module _ {I : Type 0} where
   abbrev pub Advances : {M : Type 0} → (I → List Item) → (M → Setup → (ℕ → Pts) → List Call → Type 0) → LivePort I → LivePort I → M → M → Advanced → Type 0
   Advances popped stands p p' m m' advanced.Going = GoesOn (λ n. n) popped stands p p' m m'
   Advances popped stands p p' m m' advanced.Seen = GoesOn suc popped stands p p' m m'
+  Advances popped stands p p' m m' advanced.Silent = GoesOn suc popped stands p p' m m'
   Advances popped stands p p' m m' advanced.Nothing = GoesOn (λ n. n) popped stands p p' m m'
   Advances popped stands p p' m m' advanced.Blocked = Blocks popped stands p p' m m'
 

@@ -21,7 +21,7 @@ impl<I: Pops> LivePort<I> {
         ensures leg { self.new.leg ≡ self.old.leg }
         ensures grew { Grew I.popped I.began self.old self.new }
     {
-        let looked = self.pull(rt, false);
+        let looked = self.pull(rt);
         self.full = false;
         is_last(looked)
     }

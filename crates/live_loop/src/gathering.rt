@@ -21,6 +21,8 @@ pub(crate) enum Looked {
     Text,
     /// All was given.
     Seen,
+    /// All was given, and the link has nothing.
+    Silent,
     /// The end.
     End,
     /// A fault.
@@ -38,6 +40,8 @@ pub(crate) enum Advanced {
     Going,
     /// The leg has said that all was given.
     Seen,
+    /// The same, and its link has nothing.
+    Silent,
     /// Nothing was there.
     Nothing,
     /// A text was not taken.
@@ -108,9 +112,8 @@ impl<I> LivePort<I> {
 }
 
 impl<I: Pops> LivePort<I> {
-    /// Pops the next item. A text comes into the empty hand. Where nothing is there and the leg has not said in this turn that all
-    /// was given, waits for an item.
-    pub(crate) fn pull<R: Wait>(&mut self, rt: &R, seen: bool) -> Looked
+    /// Pops the next item. A text comes into the empty hand. Where nothing is there, waits for an item, or has the leg step.
+    pub(crate) fn pull<R: Wait>(&mut self, rt: &R) -> Looked
         requires { self.old.full ≡ false }
         ensures pulls { Pulls I.popped self.old self.new result }
         ensures leg { self.new.leg ≡ self.old.leg }
@@ -118,9 +121,7 @@ impl<I: Pops> LivePort<I> {
     {
         match self.inlet.pop(rt, &mut self.hand) {
             None => {
-                if !seen {
-                    self.inlet.wait(rt);
-                }
+                self.inlet.wait(rt);
                 Looked::Nothing
             }
             Some(ItemKind::Text) => {
@@ -129,6 +130,7 @@ impl<I: Pops> LivePort<I> {
                 Looked::Text
             }
             Some(ItemKind::Seen) => Looked::Seen,
+            Some(ItemKind::Silent) => Looked::Silent,
             Some(ItemKind::End) => {
                 self.ended = true;
                 Looked::End
@@ -156,7 +158,7 @@ impl<I: Pops> LivePort<I> {
     }
 
     /// Pops the next item, and offers it where it is a text.
-    fn advance<R: Wait, M: Mixes>(&mut self, rt: &R, mixer: &mut M, seen: bool) -> Advanced
+    fn advance<R: Wait, M: Mixes>(&mut self, rt: &R, mixer: &mut M) -> Advanced
         requires empty { self.old.full ≡ false }
         requires leg { self.old.leg < M.legs mixer.old }
         ensures keeps { Keeps M.legs M.turns M.addresses mixer.old mixer.new }
@@ -164,12 +166,13 @@ impl<I: Pops> LivePort<I> {
         ensures grew { Grew I.popped I.began self.old self.new }
         ensures advances { Advances I.popped M.stands self.old self.new mixer.old mixer.new result }
     {
-        match self.pull(rt, seen) {
+        match self.pull(rt) {
             Looked::Text => {
                 let taken = self.offer(mixer);
                 after_offer(taken)
             }
             Looked::Seen => Advanced::Seen,
+            Looked::Silent => Advanced::Silent,
             Looked::Nothing => Advanced::Nothing,
             Looked::End => Advanced::Going,
             Looked::Fault => Advanced::Going,
@@ -178,7 +181,8 @@ impl<I: Pops> LivePort<I> {
     }
 
     /// Offers what is in hand and what is popped, until a text is not taken; or the end or a fault is popped; or the leg has said
-    /// that all was given, and nothing more is there or enough was popped.
+    /// that all was given, and its link has nothing or enough was popped. So all that came is offered, however much came at once,
+    /// and a link that never falls silent holds no turn up.
     pub fn gather<R: Wait, M: Mixes>(&mut self, rt: &R, mixer: &mut M)
         requires leg { self.old.leg < M.legs mixer.old }
         ensures keeps { Keeps M.legs M.turns M.addresses mixer.old mixer.new }
@@ -201,16 +205,14 @@ impl<I: Pops> LivePort<I> {
             if is_enough(seen, popped) {
                 return;
             }
-            popped = popped.saturating_add(1);
-            match self.advance(rt, mixer, seen) {
-                Advanced::Going => {}
-                Advanced::Seen => seen = true,
-                Advanced::Nothing => {
-                    if seen {
-                        return;
-                    }
+            match self.advance(rt, mixer) {
+                Advanced::Going => popped = popped.saturating_add(1),
+                Advanced::Seen => {
+                    seen = true;
+                    popped = popped.saturating_add(1);
                 }
-                Advanced::Blocked => return,
+                Advanced::Nothing => {}
+                Advanced::Silent | Advanced::Blocked => return,
             }
         }
         unreachable!()

@@ -5,7 +5,7 @@ ghost use Rattle.live_loop.specs.Walks.{AreAt};
 
 use crate::{LivePort, Turned, drain_all, inlets_of, ports_over, take_turns};
 use ear::EarConf;
-use item_lanes::{Lane, LaneRoom, Started, join_lanes, start_lanes};
+use item_lanes::{Lane, LaneRoom, Started, join_lanes, keep_lanes};
 use link_io::{Came, LinkIn, MemIn, MemLinks, Planned};
 use live_leg::{LegItem, LinkLeg};
 use mix_loop::Mixes;
@@ -15,8 +15,7 @@ use std::alloc::Global;
 use std::sync::atomic::{AtomicBool, Ordering};
 use std::sync::{Arc, Wait};
 use std::test::Fail;
-use std::thread;
-use std::thread::{Scope, Threads};
+use std::thread::Threads;
 
 // Takes each text, and counts them and the turns. It stands for no calls.
 #[derive(Drop)]
@@ -68,19 +67,29 @@ impl Mixes for Counting {
     }
 }
 
-// A typed A, in a packet of the leg with this SSRC.
-const TYPED: &[u8] = b"\x80\xE2\0\0\0\0\0\0\0\0\x03\xE9A";
+// The packet in which A is typed with this number, of the leg with the SSRC 1001.
+fn typed(number: u8) -> [u8; 13] {
+    [0x80, 98, 0, number, 0, 0, 0, 0, 0, 0, 3, 0xE9, b'A']
+}
 
-// A link that gives a text and is closed, or is quiet behind it.
-fn link(alloc: Global, closes: bool) -> Result<MemIn, NoMemory> {
-    let mut octets = Bytes::new(alloc);
-    octets.append(TYPED)?;
+// Plans so many packets, with a text each.
+fn plan_typed(alloc: Global, link: &mut MemIn, count: u8) -> Result<(), NoMemory> {
+    for number in 0..count {
+        let mut octets = Bytes::new(alloc);
+        octets.append(&typed(number))?;
+        link.plan(Planned {
+            at: 100,
+            came: Came::Datagram,
+            octets,
+        })?;
+    }
+    Ok(())
+}
+
+// A link that gives so many texts and is closed, or is quiet behind them.
+fn link(alloc: Global, count: u8, closes: bool) -> Result<MemIn, NoMemory> {
     let mut link = MemIn::new(alloc, 5001);
-    link.plan(Planned {
-        at: 100,
-        came: Came::Datagram,
-        octets,
-    })?;
+    plan_typed(alloc, &mut link, count)?;
     if closes {
         link.plan(Planned {
             at: 200,
@@ -157,14 +166,8 @@ fn ann(alloc: Global, link: MemIn) -> Option<(Vec<LinkLeg<MemIn>>, Arc<AtomicBoo
     Some((legs, stop))
 }
 
-// A call of one leg, on a thread of so many octets of stack.
-fn run_in<'s, 'e, R: Threads + Wait + Sync>(
-    scope: &'s Scope<'s, &'e ()>,
-    rt: &'s R,
-    alloc: Global,
-    stack: usize,
-    link: MemIn,
-) -> Option<Ran> {
+// A call of one leg.
+fn run<R: Threads + Wait>(rt: &R, alloc: Global, link: MemIn) -> Option<Ran> {
     let (legs, stop) = ann(alloc, link)?;
     let Ok(room) = LaneRoom::new(alloc, legs.len()) else {
         return None;
@@ -187,7 +190,7 @@ fn run_in<'s, 'e, R: Threads + Wait + Sync>(
     let Started {
         lanes,
         back: joined,
-    } = start_lanes(scope, rt, StillGate, stack, legs, room);
+    } = keep_lanes(StillGate, legs, room);
     let mut ports = ports_over(lanes, ports);
     let turned = turn_and_drain(rt, ports.as_mut_slice(), &mut mixer, &mut world, &stop);
     let lanes = inlets_of(ports, back);
@@ -199,17 +202,15 @@ fn run_in<'s, 'e, R: Threads + Wait + Sync>(
     })
 }
 
-fn call<R: Threads + Wait + Sync>(
+// A call of one leg, whose link gives so many texts and is closed, or is quiet behind them.
+fn call<R: Threads + Wait>(
     rt: &R,
     alloc: Global,
-    stack: usize,
+    count: u8,
     closes: bool,
 ) -> Result<Ran, NoMemory> {
-    let link = link(alloc, closes)?;
-    let ran = thread::scope(thread::scope_env(), rt, |scope| -> Option<Ran> {
-        run_in(scope, rt, alloc, stack, link)
-    });
-    match ran {
+    let link = link(alloc, count, closes)?;
+    match run(rt, alloc, link) {
         Some(ran) => Ok(ran),
         None => Err(NoMemory),
     }
@@ -217,28 +218,35 @@ fn call<R: Threads + Wait + Sync>(
 
 #[test]
 fn a_call_ends_where_its_links_are_closed(rt: HostRuntime) -> Result<(), Fail> {
-    let ran = call(&rt, rt.alloc(), 2_097_152, true)?;
+    let ran = call(&rt, rt.alloc(), 1, true)?;
     assert!(rt; ran.turned == Turned::Closed);
     assert!(rt; ran.taken == 1);
     Ok(())
 }
 
 #[test]
-fn a_leg_without_a_thread_is_stepped(rt: HostRuntime) -> Result<(), Fail> {
-    let ran = call(&rt, rt.alloc(), usize::MAX, true)?;
+fn all_that_came_is_offered_before_the_first_turn(rt: HostRuntime) -> Result<(), Fail> {
+    let ran = call(&rt, rt.alloc(), 20, true)?;
     assert!(rt; ran.turned == Turned::Closed);
-    assert!(rt; ran.taken == 1);
+    assert!(rt; ran.turns == 0);
+    assert!(rt; ran.taken == 20);
     Ok(())
 }
 
 #[test]
 fn a_silent_leg_ends_with_the_turns(rt: HostRuntime) -> Result<(), Fail> {
-    let ran = call(&rt, rt.alloc(), 2_097_152, false)?;
+    let ran = call(&rt, rt.alloc(), 1, false)?;
     assert!(rt; ran.turned == Turned::Done);
     assert!(rt; ran.turns == 5);
     assert!(rt; ran.taken == 1);
-    let ran = call(&rt, rt.alloc(), usize::MAX, false)?;
+    Ok(())
+}
+
+#[test]
+fn a_flood_holds_no_turn_up(rt: HostRuntime) -> Result<(), Fail> {
+    let ran = call(&rt, rt.alloc(), 200, false)?;
     assert!(rt; ran.turned == Turned::Done);
-    assert!(rt; ran.taken == 1);
+    assert!(rt; ran.turns == 5);
+    assert!(rt; ran.taken == 160);
     Ok(())
 }

@@ -20,6 +20,10 @@ pub returns-in-Seen-clause-advances : goal.returns-in-Seen-clause-advances
 returns-in-Seen-clause-advances g c =
     goes_mark g.I.Pops.popped g.M.Mixes.stands c.args.self.now c.pull.new.self c.args.mixer.now suc Seen _ _ (λ k. refl) (λ n. omega arith) (λ e. inl e) c.requires.empty c.in-Seen.ensures.pulls
 
+pub returns-in-Silent-clause-advances : goal.returns-in-Silent-clause-advances
+returns-in-Silent-clause-advances g c =
+    goes_mark g.I.Pops.popped g.M.Mixes.stands c.args.self.now c.pull.new.self c.args.mixer.now suc Seen _ _ (λ k. refl) (λ n. omega arith) (λ e. inl e) c.requires.empty c.in-Silent.ensures.pulls
+
 pub returns-in-Nothing-clause-advances : goal.returns-in-Nothing-clause-advances
 returns-in-Nothing-clause-advances g c = goes_nothing g.I.Pops.popped g.M.Mixes.stands c.args.self.now c.pull.new.self c.args.mixer.now c.requires.empty c.in-Nothing.ensures.pulls
 

@@ -1,3 +1,4 @@
+use Rattle.std.proofs.Common.{true, refl}
 use Rattle.live_loop.proofs.Advancing.{all_blocked, begins, gathered_blocked, gathered_ended, gathered_failed, gathered_seen, goes_seen, goes_still, then_grew}
 use Rattle.live_loop.proofs.ports.LivePort.gather.Goals as goal
 
@@ -27,24 +28,24 @@ loop-preserved-in-Seen g c =
     goes_seen g.I.Pops.popped g.I.Pops.began g.M.Mixes.stands g.M.Mixes.legs g.M.Mixes.turns g.M.Mixes.addresses c.loop.seen c.args.self.now c.loop.self c.advance.new.self c.args.mixer.now c.loop.mixer c.advance.new.mixer c.loop.invariant
     c.advance.ensures.leg c.advance.ensures.grew c.advance.ensures.keeps c.in-Seen.ensures.advances
 
-pub loop-preserved : goal.loop-preserved
-loop-preserved g c =
+pub loop-preserved-in-Nothing : goal.loop-preserved-in-Nothing
+loop-preserved-in-Nothing g c =
     goes_still g.I.Pops.popped g.I.Pops.began g.M.Mixes.stands g.M.Mixes.legs g.M.Mixes.turns g.M.Mixes.addresses c.loop.seen c.args.self.now c.loop.self c.advance.new.self c.args.mixer.now c.loop.mixer c.advance.new.mixer c.loop.invariant
     c.advance.ensures.leg c.advance.ensures.grew c.advance.ensures.keeps c.in-Nothing.ensures.advances
 
-pub returns-then-seen-clause-gathered : goal.returns-then-seen-clause-gathered
-returns-then-seen-clause-gathered g c =
-    let now = goes_still g.I.Pops.popped g.I.Pops.began g.M.Mixes.stands g.M.Mixes.legs g.M.Mixes.turns g.M.Mixes.addresses c.loop.seen c.args.self.now c.loop.self c.advance.new.self c.args.mixer.now c.loop.mixer c.advance.new.mixer c.loop.invariant
-    c.advance.ensures.leg c.advance.ensures.grew c.advance.ensures.keeps c.in-Nothing.ensures.advances in
-    gathered_seen g.I.Pops.popped g.M.Mixes.stands c.loop.seen c.args.self.now c.advance.new.self c.args.mixer.now c.advance.new.mixer c.if-seen.true now.goes
+pub returns-in-Silent-clause-gathered : goal.returns-in-Silent-clause-gathered
+returns-in-Silent-clause-gathered g c =
+    let now = goes_seen g.I.Pops.popped g.I.Pops.began g.M.Mixes.stands g.M.Mixes.legs g.M.Mixes.turns g.M.Mixes.addresses c.loop.seen c.args.self.now c.loop.self c.advance.new.self c.args.mixer.now c.loop.mixer c.advance.new.mixer c.loop.invariant
+    c.advance.ensures.leg c.advance.ensures.grew c.advance.ensures.keeps c.in-Silent.ensures.advances in
+    gathered_seen g.I.Pops.popped g.M.Mixes.stands true c.args.self.now c.advance.new.self c.args.mixer.now c.advance.new.mixer refl now.goes
 
 pub returns-in-Blocked-clause-gathered : goal.returns-in-Blocked-clause-gathered
 returns-in-Blocked-clause-gathered g c =
     all_blocked g.I.Pops.popped g.I.Pops.began g.M.Mixes.stands g.M.Mixes.legs g.M.Mixes.turns g.M.Mixes.addresses c.loop.seen c.args.self.now c.loop.self c.advance.new.self c.args.mixer.now c.loop.mixer c.advance.new.mixer c.loop.invariant
     c.in-Blocked.ensures.advances
 
-pub returns-then-seen-clause-grew : goal.returns-then-seen-clause-grew
-returns-then-seen-clause-grew g c = then_grew g.I.Pops.popped g.I.Pops.began c.args.self.now c.loop.self c.advance.new.self c.loop.invariant.grew c.advance.ensures.grew
+pub returns-in-Silent-clause-grew : goal.returns-in-Silent-clause-grew
+returns-in-Silent-clause-grew g c = then_grew g.I.Pops.popped g.I.Pops.began c.args.self.now c.loop.self c.advance.new.self c.loop.invariant.grew c.advance.ensures.grew
 
 pub returns-in-Blocked-clause-grew : goal.returns-in-Blocked-clause-grew
 returns-in-Blocked-clause-grew g c = then_grew g.I.Pops.popped g.I.Pops.began c.args.self.now c.loop.self c.advance.new.self c.loop.invariant.grew c.advance.ensures.grew
