@@ -239,12 +239,12 @@ not_called i o tells c opened legs links called are_legs are_ends many many_ends
 }
 
 -- ---- a call that was made
-pub call_made : {I O W G : Type 0} (i : ins.Ghosts I) (o : outs.Ghosts O) (k : clocks.Ghosts W) (tells : Type 0) (c : Conf) (job : Job I (Sending (FarEnds O)) W G) (ended : Ended I (Sending (FarEnds O)) W) (opened later : ℕ → Bool) (firsts : List O)
+pub call_made : {I O W G : Type 0} (i : ins.Ghosts I) (o : outs.Ghosts O) (k : clocks.Ghosts W) (tells : Type 0) (c : Conf) (job : Job I (Sending (FarEnds O)) G) (before after : W) (ended : Ended I (Sending (FarEnds O))) (opened later : ℕ → Bool) (firsts : List O)
     → IsOfLinks c → OpenLegs i tells opened c job.legs.items → length job.legs.items ≡ length c.legs → OpenEnds o tells c firsts → length firsts ≡ length c.legs
     → job.mixer.outbound.links.items ≡ firsts → HasAll o.tells o.given o.faults c job.mixer → job.turns ≡ c.turns → (tells → (p : ℕ) → later p ≡ opened p)
-    → RanAs i k (GivesFor o.tells o.given o.faults) (λ (m : Sending (FarEnds O)). map o.port m.outbound.links.items) (λ (m : Sending (FarEnds O)) (why : LiveFault). IsUnsent o.faults m.outbound why) job ended
+    → RanAs i k (GivesFor o.tells o.given o.faults) (λ (m : Sending (FarEnds O)). map o.port m.outbound.links.items) (λ (m : Sending (FarEnds O)) (why : LiveFault). IsUnsent o.faults m.outbound why) job before after ended
     → IsCalled i o tells c later (record { turned = ended.turned; legs = ended.legs; ends = ended.mixer.outbound.links; listeners = ended.mixer.outbound.listeners })
-call_made {I} {O} {W} {G} i o k tells c job ended opened later firsts links are many are_ends many_ends is all turns still ran =
+call_made {I} {O} {W} {G} i o k tells c job before after ended opened later firsts links are many are_ends many_ends is all turns still ran =
     let m = ended.mixer in
     let legs = job.legs.items in
     let backs = ended.legs.items in

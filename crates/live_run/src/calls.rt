@@ -26,9 +26,6 @@ use std::sync::atomic::AtomicBool;
 use std::sync::{Arc, Wait};
 use std::thread::Threads;
 
-/// How many octets of stack a leg's thread has.
-const STACK: usize = 2_097_152;
-
 /// A call behind its last turn: how its turns ended, both ends of its links, and the terminals that heard what was given.
 pub(crate) struct Called<I, O> {
     pub(crate) turned: Turned<LiveFault>,
@@ -87,7 +84,7 @@ fn mixer_over<O: LinkOut>(
 }
 
 /// Makes the call, and gives the ends of its links back, whatever happens.
-pub(crate) fn call<W: Links, R: Threads + Wait + Sync, G: Gate + Sync>(
+pub(crate) fn call<W: Links, R: Threads + Wait, G: Gate>(
     rt: &R,
     alloc: Global,
     conf: &Conf,
@@ -129,7 +126,6 @@ pub(crate) fn call<W: Links, R: Threads + Wait + Sync, G: Gate + Sync>(
         joined,
         mixer,
         stop,
-        clock: world,
         tick: u64::from(conf.tick),
         turns: u64::from(conf.turns),
     };
@@ -137,8 +133,7 @@ pub(crate) fn call<W: Links, R: Threads + Wait + Sync, G: Gate + Sync>(
         turned,
         legs,
         mixer,
-        clock: _clock,
-    } = run_job(rt, LentGate { gate }, STACK, job);
+    } = run_job(rt, LentGate { gate }, job, world);
     let FarEnds { links, listeners } = mixer.into_outbound();
     Called {
         turned,

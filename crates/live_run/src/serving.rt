@@ -31,10 +31,9 @@ fn answer_of(turned: Turned<LiveFault>) -> Result<LiveEnd, LiveFault>
     }
 }
 
-/// Serves a live call of a conference of links: opens the links, hears each leg on a thread of its own, mixes what is heard turn by
-/// turn, and gives it to the terminals' links, until all turns are made, or all links are closed and nothing is left. A leg whose
-/// thread can't be started is heard by the caller. Each link is handed back, whatever is answered. The first link that fails ends
-/// the call.
+/// Serves a live call of a conference of links: opens the links, hears all that came at each before each turn, mixes it, and gives it
+/// to the terminals' links, until all turns are made, or all links are closed and nothing is left. No thread is started. Each link
+/// is handed back, whatever is answered. The first link that fails ends the call.
 pub fn serve<R: Threads + Wait + Sync, W: Links, G: Gate + Sync>(
     rt: &R,
     alloc: Global,

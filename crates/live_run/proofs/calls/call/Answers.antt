@@ -25,8 +25,8 @@ returns-in-Err-clause-called g c =
     not_called g.W.In.LinkIn g.W.Out.LinkOut g.W.Links.tells (conf_of c.args.conf.now) (g.W.Links.opened c.args.world.now) c.args.opened.legs.items c.args.opened.ends.items c.not_begun-in-Err.result c.requires.legs c.requires.ends c.requires.each_leg c.requires.each_end e.turned
     (ap (λ (v : Vec (LinkLeg g.row.W-In.Denot)). v.items) e.legs) (ap (λ (v : Vec g.row.W-Out.Denot). v.items) (e.ends ∙ c.in-Err.ensures.back))
 
-pub run_job-turned-requires-after_bounds : goal.run_job-turned-requires-after_bounds
-run_job-turned-requires-after_bounds g c κs within =
+pub run_job-turned-requires : goal.run_job-turned-requires
+run_job-turned-requires g c =
     let seats : length c.args.conf.now.legs ≤ 16 = c.requires.links.stay.seats in
     let conf = c.args.conf.now in
     let len = c.args.opened.legs.ok.0 in
@@ -48,33 +48,18 @@ run_job-turned-requires-after_bounds g c κs within =
       in_time = omega arith;
     }
 
-pub returns-clause-same_own : goal.returns-clause-same_own
-returns-clause-same_own g c =
-    let last = c.world-1.given.1 (sym c.run_job-turned.ensures.same_reference) in
-    λ p. ap (λ (w : g.row.W.Denot). g.W.Links.own_faults w p) last ∙ c.run_job-turned.ensures.ran.passed.same_own p
-
-pub returns-clause-same_objects : goal.returns-clause-same_objects
-returns-clause-same_objects g c =
-    let last = c.world-1.given.1 (sym c.run_job-turned.ensures.same_reference) in
-    λ p. ap (λ (w : g.row.W.Denot). g.W.Links.object_faults w p) last ∙ c.run_job-turned.ensures.ran.passed.same_objects p
-
 pub returns-clause-paused : goal.returns-clause-paused
 returns-clause-paused g c = λ done.
-    let last = c.world-1.given.1 (sym c.run_job-turned.ensures.same_reference) in
-    let begun = g.W.Links.pauses c.args.world.now in
-    subst (λ (w : g.row.W.Denot). IsPaused c.args.conf.now.turns begun (g.W.Links.pauses w)) (sym last)
-    (subst (λ (n : ℕ). IsPaused n begun (g.W.Links.pauses c.run_job-turned.result.clock.now)) c.from-2.ensures (c.run_job-turned.ensures.ran.paused done))
+    subst (λ (n : ℕ). IsPaused n (g.W.Links.pauses c.args.world.now) (g.W.Links.pauses c.run_job-turned.new.clock)) c.from-2.ensures (c.run_job-turned.ensures.paused done)
 
 pub returns-clause-called : goal.returns-clause-called
 returns-clause-called g c =
-    let ran = c.run_job-turned.ensures.ran in
+    let ran = c.run_job-turned.ensures in
     let made = c.in-Ok-mixer_over.ensures in
-    let last = c.world-1.given.1 (sym c.run_job-turned.ensures.same_reference) in
     let conf = conf_of c.args.conf.now in
     let turned = c.run_job-turned.result.turned in
     let legs = c.run_job-turned.result.legs in
-    let far = c.into_outbound-links.result in
-    subst (λ (w : g.row.W.Denot). IsCalled g.W.In.LinkIn g.W.Out.LinkOut g.W.Links.tells conf (g.W.Links.opened w) (record { turned = turned; legs = legs; ends = far.links; listeners = far.listeners })) (sym last)
-    (subst (λ (f : FarEnds g.row.W-Out.Denot). IsCalled g.W.In.LinkIn g.W.Out.LinkOut g.W.Links.tells conf (g.W.Links.opened c.run_job-turned.result.clock.now) (record { turned = turned; legs = legs; ends = f.links; listeners = f.listeners })) (sym c.into_outbound-links.ensures)
-    (call_made g.W.In.LinkIn g.W.Out.LinkOut _ g.W.Links.tells conf _ c.run_job-turned.result (g.W.Links.opened c.args.world.now) (g.W.Links.opened c.run_job-turned.result.clock.now) c.args.opened.ends.items c.requires.links c.requires.legs c.requires.each_leg c.requires.ends c.requires.each_end
-    (ap (λ (v : Vec g.row.W-Out.Denot). v.items) made.links) made.stands c.from-2.ensures ran.passed.same_opened ran))
+    let later = g.W.Links.opened c.run_job-turned.new.clock in
+    subst (λ (f : FarEnds g.row.W-Out.Denot). IsCalled g.W.In.LinkIn g.W.Out.LinkOut g.W.Links.tells conf later (record { turned = turned; legs = legs; ends = f.links; listeners = f.listeners })) (sym c.into_outbound-links.ensures)
+    (call_made g.W.In.LinkIn g.W.Out.LinkOut _ g.W.Links.tells conf _ c.args.world.now c.run_job-turned.new.clock c.run_job-turned.result (g.W.Links.opened c.args.world.now) later c.args.opened.ends.items c.requires.links c.requires.legs c.requires.each_leg c.requires.ends c.requires.each_end
+    (ap (λ (v : Vec g.row.W-Out.Denot). v.items) made.links) made.stands c.from-2.ensures ran.passed.same_opened ran)
