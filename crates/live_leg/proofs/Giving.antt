@@ -15,6 +15,7 @@ use Rattle.ear.specs.Hears.{Gave, GaveFront, GaveReady, GaveSome, GivesChunk, Gi
 use Rattle.rtt_io.specs.Counts.{Rose}
 use Rattle.item_queue.specs.Giving.{GivesMore, items_by}
 use Rattle.link_io.specs.declared.ends.LinkIn as links
+use Rattle.link_io.specs.declared.ends.Came.{Came}
 use Rattle.link_spec.specs.Links.{Takes, is_closed}
 use Rattle.live_spec.specs.Told.{all_by, all_told, ready_by, told_by}
 use Rattle.live_leg.specs.declared.items.LegItem.{LegItem}
@@ -27,8 +28,8 @@ use Rattle.live_leg.specs.Stories.{ToldAs, hearing_of}
 use Rattle.live_leg.specs.Items.{AreItems, Item, Text, Seen, End, has_fault, is_text, item_with, items_of, items_with, text_in, texts_in}
 use Rattle.live_leg.specs.States.{is_ending, is_giving}
 use Rattle.live_leg.specs.Stands.{Counts, GivesOf, GivesThen, IsGivingSome, LegGave, LegStands, Nearly, PhaseAt}
-use Rattle.live_leg.specs.Stepping.{unless_blank}
-use Rattle.live_leg.proofs.Texts.{all_texts, counts_same, fault_append, items_append, texts_append, texts_same}
+use Rattle.live_leg.specs.Stepping.{seen_as, unless_blank}
+use Rattle.live_leg.proofs.Texts.{all_texts, counts_same, fault_append, items_append, seen_item, texts_append, texts_same}
 
 -- ---- what is ready
 filter_swap : {X : Type 0} (p q : X → Bool) (xs : List X) → filter p (filter q xs) ≡ filter q (filter p xs)
@@ -214,6 +215,12 @@ module _ {L : Type 0} (g : links.Ghosts L) where
       marked l m Seen (λ leg. refl) refl link conf_is gives front first items n
       (λ given. subst (λ (st : State). PhaseAt st F conf n.takes (items ++ Seen ∷ []) (record n.story { given = given })) (sym state)
       (record { open_still = w.closed; are = with_mark false conf n.takes items Seen refl all w }))
+
+  -- the same, as it is said where this came last
+  pub gives_said : (l m : LinkLeg L) (c : Chunk) (last : Came) (said : ItemKind) → said ≡ seen_as last → is_giving l.state ≡ true → is_ending l.state ≡ false → m.state ≡ Idle → m.link ≡ l.link → conf_of m.ear ≡ conf_of l.ear
+      → GivesNone l.ear m.ear → GaveReady l.ear → GaveFront m.ear → GivesOf g l m (items_with (Some said) c)
+  gives_said l m c last said is giving open_still state link conf_is gives ready front first items n =
+      subst (λ (x : Item). LegStands g first m (items ++ x ∷ [])) (sym (ap (λ k. item_with k c) is ∙ seen_item last c)) (gives_seen l m giving open_still state link conf_is gives ready front first items n)
 
   pub gives_end : (l m : LinkLeg L) → is_ending l.state ≡ true → m.state ≡ Over → m.link ≡ l.link → conf_of m.ear ≡ conf_of l.ear
       → GivesNone l.ear m.ear → GaveReady l.ear → GaveFront m.ear → GivesOf g l m (End ∷ [])

@@ -1,15 +1,13 @@
-use Rattle.std.proofs.Common.{[], ◌∷◌, ap, sym, subst, refl, ◌∙◌, true≢false}
+use Rattle.std.proofs.Common.{sym, subst, refl, ◌∙◌, true≢false}
 use Rattle.std.proofs.Math.Logic.{∥∥₁_map}
 use Rattle.std.proofs.lemmas.Str.{is_utf8-from_IsUtf8}
 use Rattle.stream_spec.specs.Ready.{chunk_of}
 use Rattle.live_leg.proofs.Ears.{rests_giving, still_giving}
 use Rattle.live_leg.proofs.HowFar.{giving_not_idle, still_going}
-use Rattle.live_leg.proofs.Giving.{gives_end, gives_next, gives_seen}
+use Rattle.live_leg.proofs.Giving.{gives_end, gives_next, gives_said}
 use Rattle.live_leg.specs.declared.kinds.ItemKind.{ItemKind}
-use Rattle.live_leg.specs.Items.{Item, item_with}
-use Rattle.live_leg.specs.Stands.{GivesOf}
 use Rattle.live_leg.specs.Texts.{HasText}
-use Rattle.live_leg.proofs.Texts.{seen_item, seen_text, some_text}
+use Rattle.live_leg.proofs.Texts.{seen_text, some_text}
 use Rattle.live_leg.proofs.legs.LinkLeg.give.Goals as goal
 
 pub invariant_of-self : goal.invariant_of-self
@@ -49,10 +47,8 @@ invariant_of-self-2 g c = record {
 
 pub returns-clause-gives : goal.returns-clause-gives
 returns-clause-gives g c =
-    let said = ap (λ (k : ItemKind). item_with k (chunk_of c.next.new.chunk)) c.seen_as.ensures ∙ seen_item c.args.self.now.last (chunk_of c.next.new.chunk) in
-    subst (λ (x : Item). GivesOf g.L.LinkIn c.args.self.now _ (x ∷ [])) (sym said)
-    (gives_seen g.L.LinkIn c.args.self.now _ c.requires (sym c.is_ending.ensures ∙ c.if-is_ending.false) refl refl c.next.ensures.conf
-    (c.next.ensures.none c.if-next.false) (c.next.ensures.all c.if-next.false) c.next.ensures.front)
+    gives_said g.L.LinkIn c.args.self.now _ (chunk_of c.next.new.chunk) c.args.self.now.last c.seen_as.result c.seen_as.ensures c.requires (sym c.is_ending.ensures ∙ c.if-is_ending.false) refl refl c.next.ensures.conf
+    (c.next.ensures.none c.if-next.false) (c.next.ensures.all c.if-next.false) c.next.ensures.front
 
 pub returns-clause-text : goal.returns-clause-text
 returns-clause-text g c =
