@@ -1,7 +1,8 @@
 -- The steps of an output.
 use Rattle.std.proofs.Common.{◌≡◌, ℕ, zero, suc, ◌+◌, ◌%◌, ◌<◌, ◌≤◌, ◌^◌, Bool, true, false, cond, inl, inr, List, [], ◌∷◌, ◌++◌, length, take, get_or, set, refl, ap, subst, sym, ◌∙◌, arith}
-use Rattle.std.specs.Prelude.{map, max, not, ◌&&◌, ◌||◌, ◌==◌, IfSome}
+use Rattle.std.specs.Prelude.{map, max, not, ◌&&◌, ◌||◌, ◌==◌, IfSome, Result, Ok, Err, OnOk}
 use Rattle.std.proofs.lemmas.Bool.Decides.{nat_tests}
+use Rattle.std.proofs.lemmas.List.{length-append}
 use Rattle.rtt_base.specs.declared.blocks.TextBlock.{TextBlock}
 use Rattle.wire_spec.specs.Packets.{Packet, has_text}
 use Rattle.wire_spec.specs.SentPackets.{packet_written}
@@ -96,6 +97,11 @@ sendable c [] l p = tt
 sendable c (e ∷ past) l p = (may_send c past e l p.1 p.0, sendable c past l p.1)
 
 -- ---- the packet
+-- what was appended made it longer
+pub more_written : {T E : Type 0} (r : Result T E) (before after octets : List ℕ) → 0 < length octets → OnOk r (after ≡ before ++ octets) → OnOk r (length before < length after)
+more_written (Ok x) before after octets some is = let same = ap (λ (xs : List ℕ). length xs) is ∙ length-append before octets in omega (arith, some, same)
+more_written (Err x) before after octets some is = tt
+
 may_follow : (c : Stream) (past : List Sent) (e : Sent) → MaySend c past e → MayFollow c.gens e.media (sent_of e.source past)
 may_follow c past e m = record {
   later = λ x i. m.later x (in_sent_of e.source past x (take_in c.gens (sent_of e.source past) x i)).0;

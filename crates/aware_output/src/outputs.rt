@@ -97,6 +97,7 @@ impl Output {
         requires text { length text.now < 1024 }
         ensures packet { OfNext self.old source media text.now (λ conf sources past e.
             Appends O.greatest (O.written out.old) (O.written out.new) (octets_of conf past e) result) }
+        ensures some { OnOk result (length (O.written out.old) < length (O.written out.new)) }
         ensures stands { OfNext self.old source media text.now (λ conf sources past e.
             OnOk result (StandsFor conf sources self.new (e ∷ past))) }
         ensures sources { length self.new.speakers ≡ length self.old.speakers }
@@ -126,8 +127,9 @@ impl Output {
         out: &mut O,
     ) -> Result<(), O::Refusal>
         requires { source < length self.now.speakers }
-        ensures { OfStamped self.now source stamp text.now (λ conf sources past e.
+        ensures packet { OfStamped self.now source stamp text.now (λ conf sources past e.
             Appends O.greatest (O.written out.old) (O.written out.new) (octets_of conf past e) result) }
+        ensures some { OnOk result (length (O.written out.old) < length (O.written out.new)) }
     {
         let speaker = &self.speakers[source];
         let head = TextHead {

@@ -1,6 +1,6 @@
 -- What a turn put out, by what was sent before and after it.
-use Rattle.std.proofs.Common.{◌≡◌, ℕ, suc, ◌≤◌, true, false, Some, List, [], ◌∷◌, ◌++◌, length, Result, Ok, Err, refl, ap, ◌∙◌, arith}
-use Rattle.std.specs.Prelude.{IsOk, OnOk}
+use Rattle.std.proofs.Common.{◌≡◌, ℕ, suc, ◌≤◌, true, false, true≢false, Some, List, [], ◌∷◌, ◌++◌, length, Result, Ok, Err, refl, ap, sym, ◌∙◌, arith}
+use Rattle.std.specs.Prelude.{◌<◌, Bool, IsOk, OnOk, is_ok}
 use Rattle.std.proofs.lemmas.Bool.{eq-eqb, ne_eqb}
 use Rattle.rtt_base.specs.declared.text_packets.Pts.{Pts}
 use Rattle.rtt_base.specs.Buffers.{Appends}
@@ -12,7 +12,7 @@ use Rattle.aware_output.specs.declared.outputs.OutConf.{OutConf}
 use Rattle.aware_output.specs.Confs.{stream_of}
 use Rattle.aware_output.specs.Speakers.{IsNext, EachIsNext}
 use Rattle.aware_output.proofs.Speaking.{sendable}
-use Rattle.outlet.specs.Turns.{Puts}
+use Rattle.outlet.specs.Turns.{HasOctets, Puts}
 use Rattle.rtt_base.specs.declared.limits.TheConstants.{MOST_PACKET_OCTETS}
 
 -- nothing was sent
@@ -39,3 +39,8 @@ put_whole {T} {E} before after octets result e few a =
     go : (r : Result T E) → IsOk r → OnOk r (after ≡ before ++ octets) → after ≡ octets
     go (Ok v) i p = p ∙ ap (λ (xs : List ℕ). xs ++ octets) e
     go (Err v) i p = cc i
+
+-- where something was appended, there are octets
+pub has_octets : {T E : Type 0} (result : Result T E) (put : Bool) (before after : List ℕ) → put ≡ is_ok result → OnOk result (length before < length after) → HasOctets put after
+has_octets (Ok v) put before after is more e = omega (arith, more)
+has_octets (Err v) put before after is more e = absurd (true≢false (sym e ∙ is))

@@ -1,5 +1,5 @@
 -- What a turn of a terminal puts out, and what it may put out.
-use Rattle.std.specs.Prelude.{◌≡◌, ℕ, ◌+◌, Bool, true, false, Option, None, Some, List, [], ◌∷◌}
+use Rattle.std.specs.Prelude.{◌≡◌, ℕ, ◌+◌, ◌<◌, Bool, true, false, Option, None, Some, List, [], ◌∷◌, length}
 use Rattle.rtt_base.specs.declared.text_packets.Pts.{Pts}
 use Rattle.wire_spec.specs.Packets.{Packet}
 use Rattle.wire_spec.specs.SentPackets.{packet_written}
@@ -22,6 +22,10 @@ SendsNext c before after = (e : TurnEntry) → after ≡ e ∷ before → IsNext
 abbrev pub Puts : Pts → List Packet → Bool → List ℕ → Type 0
 Puts pts [] put out = put ≡ false
 Puts pts (p ∷ ps) put out = (put ≡ true) × (out ≡ packet_written pts p)
+
+-- where a packet was put out, it has octets
+abbrev pub HasOctets : Bool → List ℕ → Type 0
+HasOctets put out = put ≡ true → 0 < length out
 
 -- the table with this terminal in place of that of the leg j
 abbrev pub with_terminal : ℕ → Terminal → Table → Table

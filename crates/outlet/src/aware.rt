@@ -8,6 +8,7 @@ ghost use Rattle.slot_table.specs.Words.{fetched};
 ghost use Rattle.aware_output.specs.Confs.{IsConf};
 ghost use Rattle.aware_output.specs.Speakers.{AreDistinct};
 ghost use Rattle.outlet.specs.AwareTurns.{text_of_leg};
+ghost use Rattle.outlet.specs.Turns.{HasOctets};
 ghost use Rattle.rtt_base.specs.declared.limits.TheConstants.{END_OF_MOMENTS, MOST_TEXT_OCTETS};
 
 use aware_output::{OutConf, Output};
@@ -223,6 +224,7 @@ impl AwareOutlet {
         ensures slots { length slots.new ≡ length slots.old }
         ensures same { SameLeg self.old self.new }
         ensures turned { ServesLeg self.old slots.old place leg media self.new slots.new result out.new }
+        ensures some { HasOctets result out.new }
     {
         fetch(self.own, leg, slots, text);
         let put = self.output.packet(media, leg, text.as_slice(), out);
@@ -260,6 +262,7 @@ impl AwareOutlet {
         ensures slots { length slots.new ≡ length slots.old }
         ensures same { SameLeg self.old self.new }
         ensures turned { Serves self.old seating.now slots.old place media self.new slots.new result out.new }
+        ensures some { HasOctets result out.new }
     {
         match seating.leg_at(place) {
             Some(leg) => self.serve_leg(place, leg, media, slots, text, out),
@@ -283,6 +286,7 @@ impl AwareOutlet {
         ensures slots { length slots.new ≡ length slots.old }
         ensures same { SameLeg self.old self.new }
         ensures turned { Turns self.old seating.now slots.old media self.new slots.new result out.new }
+        ensures some { HasOctets result out.new }
     {
         if self.quiet {
             return false;

@@ -3,6 +3,7 @@ ghost use Rattle.std.specs.Prelude.{◌≡◌, ◌+◌, ◌^◌, ◌<◌, ◌≤
 ghost use Rattle.mixer_spec.specs.Table.{has_work, is_quiet};
 ghost use Rattle.aware_output.specs.Confs.{IsConf};
 ghost use Rattle.aware_output.specs.Speakers.{AreDistinct};
+ghost use Rattle.outlet.specs.Turns.{HasOctets};
 ghost use Rattle.outlet.specs.Outlets.{IsTurned, OfTerminals, OfTurns, SameLeg, StandsNew, StandsWoken, legs_of, next_turn, own_of};
 ghost use Rattle.rtt_base.specs.declared.limits.TheConstants.{END_OF_MOMENTS};
 
@@ -90,6 +91,7 @@ impl Outlet {
         requires media { media < END_OF_MOMENTS }
         ensures turned { OfTurns self.old seating.now slots.old names.now media (λ s pts j table now.
             IsTurned s pts j table now media self.new slots.new result out.new) }
+        ensures some { HasOctets result out.new }
         ensures slots { length slots.new ≡ length slots.old }
         ensures same { SameLeg self.old self.new }
         ensures next { next_turn self.new ≤ media + 1 }

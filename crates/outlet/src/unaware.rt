@@ -4,7 +4,7 @@ ghost use Rattle.mixer_spec.specs.Rounds.{all_below};
 ghost use Rattle.mixer_spec.specs.Table.{has_work, is_quiet};
 ghost use Rattle.aware_output.specs.Confs.{IsConf};
 ghost use Rattle.slot_table.specs.Standing.{StandsFor as SlotsStandFor, Tells};
-ghost use Rattle.outlet.specs.Turns.{Puts, with_terminal};
+ghost use Rattle.outlet.specs.Turns.{HasOctets, Puts, with_terminal};
 ghost use Rattle.outlet.specs.UnawareStates.{SameLeg, legs_of, next_turn, own_of};
 ghost use Rattle.outlet.specs.UnawareStanding.{Composes, OfAsks, OfTerminals, OfTurns, SendsNow, StandsFor, StandsNew, StandsWoken, none_here, packet_here, turned_here};
 ghost use Rattle.rtt_base.specs.declared.limits.TheConstants.{END_OF_MOMENTS};
@@ -114,6 +114,7 @@ impl UnawareOutlet {
             SlotsStandFor s slots.new (with_terminal j (turned_here s j now media table) table)) }
         ensures puts { OfTurns self.old slots.old names.now media (λ s pts j table now.
             Puts pts (packet_here s j now media table) result out.new) }
+        ensures some { HasOctets result out.new }
         ensures slots { length slots.new ≡ length slots.old }
         ensures same { SameLeg self.old self.new }
         ensures next { next_turn self.new ≡ media + 1 }
@@ -174,6 +175,7 @@ impl UnawareOutlet {
         requires media { media < END_OF_MOMENTS }
         requires out { out.old ≡ [] }
         ensures sends { SendsNow self.old media text.now self.new result out.new }
+        ensures some { HasOctets result out.new }
         ensures composer { self.new.composer ≡ self.old.composer }
         ensures spacing { self.new.spacing ≡ self.old.spacing }
         ensures waits { self.new.none_waits ≡ self.old.none_waits }

@@ -1,16 +1,17 @@
-use Rattle.std.proofs.Common.{◌<◌, ℕ, List, length, subst, sym}
+use Rattle.std.proofs.Common.{◌<◌, ℕ, List, length, subst, sym, arith}
 use Rattle.rtt_base.specs.Buffers.{Appends}
+use Rattle.wire_spec.specs.SentPackets.{packet_written}
 use Rattle.stream_spec.specs.Own.{sent_of}
 use Rattle.aware_output.specs.declared.outputs.OutConf.{OutConf}
 use Rattle.aware_output.specs.Confs.{IsConf}
 use Rattle.aware_output.specs.States.{State}
 use Rattle.aware_output.specs.Speakers.{text_of}
 use Rattle.aware_output.specs.Standing.{StandsFor, source_at}
-use Rattle.aware_output.proofs.Speaking.{speaker_is, packet_is}
+use Rattle.aware_output.proofs.Speaking.{speaker_is, packet_is, more_written}
 use Rattle.aware_output.proofs.outputs.Output.write.Goals as goal
 
-pub returns : goal.returns
-returns g c = λ conf sources past media s q n.
+pub returns-clause-packet : goal.returns-clause-packet
+returns-clause-packet g c = λ conf sources past media s q n.
     let written = g.O.OctetBuffer.written in
     let r = subst (λ (st : State). StandsFor conf sources st past) (sym c.self.view_is) s in
     let k = subst (λ (x : OutConf). IsConf x) r.conf_is c.self.invariant in
@@ -21,3 +22,9 @@ returns g c = λ conf sources past media s q n.
     subst (λ (xs : List ℕ). Appends g.O.OctetBuffer.greatest (written c.args.out.now) (written c.write_text.new.out) xs c.write_text.result)
     (packet_is conf c.self.inside.conf past e c.index-speaker.result.now c.is_after_pause.result c.self.inside.seq c.args.stamp k r.conf_is r.sent n speaker mark r.seq q)
     c.write_text.ensures
+
+pub returns-clause-some : goal.returns-clause-some
+returns-clause-some g c =
+    let written = g.O.OctetBuffer.written in
+    let pts = c.self.inside.conf.pts in
+    more_written c.write_text.result (written c.args.out.now) (written c.write_text.new.out) (packet_written pts _) (omega arith) c.write_text.ensures.ok

@@ -7,6 +7,7 @@ use Rattle.outlet.specs.AwareStates.{AwareState}
 use Rattle.outlet.specs.AwareInsides.{state_of}
 use Rattle.outlet.specs.AwareTurns.{IsIn, IsTurned, sent_of_leg}
 use Rattle.outlet.proofs.AwareServing.{leg_served}
+use Rattle.outlet.proofs.Putting.{has_octets}
 use Rattle.outlet.proofs.aware.AwareOutlet.serve_leg.Goals as goal
 
 pub returns-clause-turned : goal.returns-clause-turned
@@ -22,3 +23,6 @@ returns-clause-turned c = λ s pts table.
     (λ m. c.packet-put.ensures.packet (conf_at s pts me.own) h.outlet.sources (sents d.past) h.outlet.output m)
     (λ m. c.packet-put.ensures.stands (conf_at s pts me.own) h.outlet.sources (sents d.past) h.outlet.output m)
     c.is_ok.ensures.value))
+
+pub returns-clause-some : goal.returns-clause-some
+returns-clause-some c = has_octets c.packet-put.result c.is_ok.result c.args.out.now c.packet-put.new.out c.is_ok.ensures.value c.packet-put.ensures.some
