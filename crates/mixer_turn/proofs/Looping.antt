@@ -3,6 +3,7 @@ use Rattle.std.proofs.Common.{◌≡◌, ℕ, suc, ◌+◌, ◌<◌, ◌≤◌, 
 use Rattle.std.specs.Prelude.{slice_get}
 use Rattle.std.proofs.lemmas.Bool.{cases_eq}
 use Rattle.std.proofs.lemmas.List.{length-set}
+use Rattle.std.proofs.lemmas.List.Elements.{All-nil}
 use Rattle.std.proofs.lemmas.Option.{slice_get_within}
 use Rattle.rtt_base.specs.declared.text_packets.Pts.{Pts}
 use Rattle.mixer_spec.specs.Setups.{Setup}
@@ -15,6 +16,7 @@ use Rattle.outlet.specs.declared.outlets.Outlet.{Outlet}
 use Rattle.outlet.specs.Outlets as outlets
 use Rattle.outlet.specs.Outlets.{own_of, legs_of, next_turn}
 use Rattle.mixer_turn.specs.declared.batches.Post.{Post}
+use Rattle.mixer_turn.specs.Posts.{ArePosts, IsPost, KeepsPosts}
 use Rattle.mixer_turn.specs.Turns.{IsOutletOf, AreOutletsOf, turned_below, HasPosts, Reaches, LegMayTurn, LegTurned, AllTurned, OfMixers}
 use Rattle.mixer_turn.proofs.Turning.{slots_turned}
 
@@ -29,6 +31,7 @@ pub record Turning (t n : ℕ) (first : List Outlet) (places : seating.State) (b
   pub slots : length waiting ≡ length first
   pub had : (j : ℕ) (o : Outlet) → j < n → slice_get all j ≡ Some o → IsOutletOf (length first) (t + 1) j o
   pub rest : (j : ℕ) (o : Outlet) → n ≤ j → slice_get all j ≡ Some o → slice_get first j ≡ Some o
+  pub posts : ArePosts (length first) batch
   pub turned : OfMixers first places before called t (λ s pts table now. TurnedSoFar s pts table now t n all waiting batch)
 
 pub none_yet : (t : ℕ) (first : List Outlet) (places : seating.State) (before : List Waiting) (called : List (List ℕ)) (batch : List Post) → length before ≡ length first → batch ≡ [] → Turning t 0 first places before called first before batch
@@ -37,6 +40,7 @@ none_yet t first places before called batch l e = record {
   slots = l;
   had = λ j o b g. absurd (omega arith);
   rest = λ j o b g. g;
+  posts = subst (ArePosts (length first)) (sym e) (All-nil (IsPost (length first)));
   turned = λ s pts table now may. record { outlets = λ j o b g. absurd (omega arith); reaches = record { waits = may.waits; posts = e } };
 }
 
@@ -48,8 +52,8 @@ next_of t n first places before called all waiting batch o are h g = are n o (h.
 pub one_more : (t n : ℕ) (first : List Outlet) (places : seating.State) (before : List Waiting) (called : List (List ℕ)) (all : List Outlet) (waiting after : List Waiting) (batch more : List Post) (o new : Outlet) → AreOutletsOf (length first) t first
     → Turning t n first places before called all waiting batch → slice_get all n ≡ Some o → (own_of new ≡ own_of o) × (legs_of new ≡ legs_of o) → next_turn new ≤ t + 1 → length after ≡ length waiting
     → ((s : Setup) (pts : ℕ → Pts) (table : Table) (now : ℕ) → LegMayTurn s pts table now t n o places called → Reaches s pts table now t n waiting batch → LegTurned s pts table now t n new after more)
-    → Turning t (suc n) first places before called (set all n new) after more
-one_more t n first places before called all waiting after batch more o new are h g same next l call = record {
+    → KeepsPosts n batch more → Turning t (suc n) first places before called (set all n new) after more
+one_more t n first places before called all waiting after batch more o new are h g same next l call keeps = record {
   legs = length-set all n new ∙ h.legs;
   slots = l ∙ h.slots;
   had = λ j x b k. elim (cases_eq j n) [
@@ -59,6 +63,7 @@ one_more t n first places before called all waiting after batch more o new are h
         subst (IsOutletOf (length first) (t + 1) j) is (record { own = same.0 ∙ (old.own ∙ sym e); all = same.1 ∙ old.all; next = next })
     | inr ne ↦ h.had j x (omega (arith, b, ne)) (other j x ne k)
   ];
+  posts = keeps (length first) (let b = slice_get_within all n o g in omega (arith, b, h.legs)) h.posts;
   rest = λ j x b k. h.rest j x (omega (arith, b)) (other j x (λ e. omega (arith, e, b)) k);
   turned = λ s pts table now may.
       let r = h.turned s pts table now may in

@@ -1,5 +1,6 @@
 -- The packet of one terminal comes into the batch.
 use Rattle.std.proofs.Common.{◌≡◌, ℕ, suc, ◌+◌, ◌<◌, ◌≤◌, true, false, List, [], ◌∷◌, ◌++◌, length, take, set, ap, subst, sym, ◌∙◌, arith}
+use Rattle.std.proofs.lemmas.List.Elements.{All-push}
 use Rattle.std.proofs.lemmas.List.{take_more_set, take-set, length-take}
 use Rattle.rtt_base.specs.declared.text_packets.Pts.{Pts}
 use Rattle.mixer_spec.specs.Setups.{Setup, stream}
@@ -13,6 +14,7 @@ use Rattle.outlet.specs.Turns.{SendsNext}
 use Rattle.outlet.specs.Outlets as outlets
 use Rattle.outlet.specs.Outlets.{IsTurn}
 use Rattle.mixer_turn.specs.declared.batches.Post.{Post}
+use Rattle.mixer_turn.specs.Posts.{ArePosts, IsPost}
 use Rattle.mixer_turn.specs.Turns.{turned_below, IsPut, Reaches, LegMayTurn, LegTurned}
 use Rattle.mixer_turn.proofs.Turning.{seats_below, still_there, no_turn, reach_past, reach_more, room_left}
 
@@ -27,6 +29,9 @@ filled_more items len leg post old e n l room t =
 
 pub filled_same : (items : List Post) (len : ℕ) (post : Post) (old : List Post) → old ≡ take len items → take len (set items len post) ≡ old
 filled_same items len post old e = take-set items len post ∙ sym e
+
+pub posts_more : (legs leg : ℕ) (packet : List ℕ) (old : List Post) → leg < legs → 0 < length packet → ArePosts legs old → ArePosts legs (old ++ record { terminal = leg; packet = packet } ∷ [])
+posts_more legs leg packet old low some h = All-push (IsPost legs) old (record { terminal = leg; packet = packet }) h (record { below = low; some = some })
 
 -- ---- a leg that holds a place
 pub leg_turned : (s : Setup) (pts : ℕ → Pts) (table : Table) (now t leg : ℕ) (o new : Outlet) (places : seating.State) (waiting after : List Waiting) (called : List (List ℕ)) (old batch : List Post)

@@ -4,6 +4,7 @@ pub mod Laws
 pub mod States
 pub mod Standing
 pub mod BatchInsides
+pub mod Posts
 pub mod Turns
 pub mod Insides
 pub mod Looks

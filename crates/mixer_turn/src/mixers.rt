@@ -52,6 +52,7 @@ impl Mixer {
     ghost use Rattle.mixer_turn.specs.States.{legs_of};
     ghost use Rattle.mixer_turn.specs.Standing.{StandsFor, Tells, Leads};
     ghost use Rattle.mixer_turn.specs.Turns.{HasBatch, OfCalls};
+    ghost use Rattle.mixer_turn.specs.Posts.{ArePosts};
 
     /// The mixer of this conference, of which no leg came. It takes all memory that it ever needs.
     pub fn new(alloc: Global, conf: &Conf) -> Result<Mixer, NoMemory>
@@ -175,6 +176,7 @@ impl Mixer {
         ensures legs { legs_of self.new ≡ legs_of self.old }
         ensures turns { self.new.turns ≡ self.old.turns + 1 }
         ensures batch { OfCalls self.old (λ s pts table. HasBatch s pts now table batch.new) }
+        ensures posts { ArePosts (legs_of self.old) batch.new }
         ensures stands { Leads self.old self.new (Turn now) }
     {
         let media = next_media(self.media, now);

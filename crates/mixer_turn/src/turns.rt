@@ -3,7 +3,9 @@ ghost use Rattle.std.specs.Prelude.{◌≡◌, ℕ, ◌+◌, ◌^◌, ◌<◌, �
 ghost use Rattle.rtt_base.specs.declared.text_packets.Pts.{Pts};
 ghost use Rattle.mixer_spec.specs.Setups.{Setup};
 ghost use Rattle.mixer_spec.specs.Table.{Table, next_media};
+ghost use Rattle.outlet.specs.Turns.{HasOctets};
 ghost use Rattle.outlet.specs.Outlets.{IsTurned, OfTurns, SameLeg, legs_of, next_turn};
+ghost use Rattle.mixer_turn.specs.Posts.{ArePosts, KeepsPosts};
 ghost use Rattle.mixer_turn.specs.Turns.{AreOutletsOf, IsPut, LegMayTurn, LegTurned, OfMixers, Reaches, AllTurned};
 ghost use Rattle.rtt_base.specs.declared.limits.TheConstants.{END_OF_MOMENTS};
 
@@ -36,6 +38,7 @@ fn turn_into(
     ensures terminal { post.new.terminal ≡ leg }
     ensures turned { OfTurns outlet.old seating.now slots.old names.now media (λ s pts j table now.
         IsTurned s pts j table now media outlet.new slots.new result post.new.packet) }
+    ensures some { HasOctets result post.new.packet }
     ensures slots { length slots.new ≡ length slots.old }
     ensures same { SameLeg outlet.old outlet.new }
     ensures next { next_turn outlet.new ≤ media + 1 }
@@ -64,6 +67,7 @@ impl Batch {
         requires media { media < END_OF_MOMENTS }
         ensures put { OfTurns outlet.old seating.now slots.old names.now media (λ s pts j table now.
             IsPut s pts j leg table now media outlet.new slots.new self.old self.new) }
+        ensures posts { KeepsPosts leg self.old self.new }
         ensures slots { length slots.new ≡ length slots.old }
         ensures same { SameLeg outlet.old outlet.new }
         ensures next { next_turn outlet.new ≤ media + 1 }
@@ -105,6 +109,7 @@ impl Batch {
             → LegMayTurn s pts table now media leg outlet.old seating.now names.now
             → Reaches s pts table now media leg slots.old self.old
             → LegTurned s pts table now media leg outlet.new slots.new self.new }
+        ensures posts { KeepsPosts leg self.old self.new }
         ensures slots { length slots.new ≡ length slots.old }
         ensures same { SameLeg outlet.old outlet.new }
         ensures next { next_turn outlet.new ≤ media + 1 }
@@ -133,6 +138,7 @@ pub(crate) fn turn_legs(
     requires media { media < END_OF_MOMENTS }
     ensures turned { OfMixers outlets.old seating.now slots.old names.now media (λ s pts table now.
         AllTurned s pts table now media outlets.new slots.new batch.new) }
+    ensures posts { ArePosts (length outlets.old) batch.new }
     ensures outlets { AreOutletsOf (length outlets.old) (media + 1) outlets.new }
     ensures legs { length outlets.new ≡ length outlets.old }
     ensures slots { length slots.new ≡ length slots.old }

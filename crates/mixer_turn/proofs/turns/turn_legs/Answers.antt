@@ -42,7 +42,7 @@ loop-leg-preserved c =
     let one : suc c.loop-leg.leg ≡ c.loop-leg.leg + 1 = omega arith in
     subst (λ (n : ℕ). Turning c.args.media n c.args.outlets.now c.args.seating.now c.args.slots.now c.args.names.now (Rattle.std.specs.Prelude.slice_set c.loop-leg.outlets c.loop-leg.leg c.turn_leg.new.outlet) c.turn_leg.new.slots c.turn_leg.new.self) one
     (one_more c.args.media c.loop-leg.leg c.args.outlets.now c.args.seating.now c.args.slots.now c.args.names.now c.loop-leg.outlets c.loop-leg.slots c.turn_leg.new.slots c.loop-leg.batch c.turn_leg.new.self
-    (slice_index_or c.loop-leg.outlets c.loop-leg.leg c.index-outlets-leg.result) c.turn_leg.new.outlet c.requires.outlets c.loop-leg.invariant g c.turn_leg.ensures.same c.turn_leg.ensures.next c.turn_leg.ensures.slots c.turn_leg.ensures.turned)
+    (slice_index_or c.loop-leg.outlets c.loop-leg.leg c.index-outlets-leg.result) c.turn_leg.new.outlet c.requires.outlets c.loop-leg.invariant g c.turn_leg.ensures.same c.turn_leg.ensures.next c.turn_leg.ensures.slots c.turn_leg.ensures.turned c.turn_leg.ensures.posts)
 
 pub returns-clause-turned : goal.returns-clause-turned
 returns-clause-turned c =

@@ -1,5 +1,6 @@
-use Rattle.std.proofs.Common.{ap, sym, ◌∙◌}
-use Rattle.mixer_turn.proofs.Putting.{filled_more, filled_same}
+use Rattle.std.proofs.Common.{ap, sym, subst, ◌∙◌}
+use Rattle.mixer_turn.specs.Posts.{ArePosts}
+use Rattle.mixer_turn.proofs.Putting.{filled_more, filled_same, posts_more}
 use Rattle.mixer_turn.specs.Turns.{batch_with}
 use Rattle.mixer_turn.proofs.batches.Batch.turn_seated.Goals as goal
 
@@ -20,3 +21,12 @@ returns-else-put-clause-put c = λ s pts j table now i. record {
   batch = filled_same c.self.inside.places.items c.self.inside.len c.turn_into-put.new.post c.args.self.now (sym c.self.view_is)
       ∙ ap (λ b. batch_with b c.args.leg c.turn_into-put.new.post.packet c.args.self.now) (sym c.if-put.false);
 }
+
+pub returns-then-put-clause-posts : goal.returns-then-put-clause-posts
+returns-then-put-clause-posts c = λ legs low h.
+    let is = filled_more c.self.inside.places.items c.self.inside.len c.args.leg c.turn_into-put.new.post c.args.self.now (sym c.self.view_is) c.self.invariant.places c.self.invariant.filled c.requires.room c.turn_into-put.ensures.terminal in
+    subst (ArePosts legs) (sym is) (posts_more legs c.args.leg c.turn_into-put.new.post.packet c.args.self.now low (c.turn_into-put.ensures.some c.if-put.true) h)
+
+pub returns-else-put-clause-posts : goal.returns-else-put-clause-posts
+returns-else-put-clause-posts c = λ legs low h.
+    subst (ArePosts legs) (sym (filled_same c.self.inside.places.items c.self.inside.len c.turn_into-put.new.post c.args.self.now (sym c.self.view_is))) h

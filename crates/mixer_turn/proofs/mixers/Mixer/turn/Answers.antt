@@ -5,6 +5,7 @@ use Rattle.mixer_spec.specs.Table.{Turn}
 use Rattle.outlet.specs.declared.outlets.Outlet.{Outlet}
 use Rattle.mixer_turn.specs.States.{State}
 use Rattle.mixer_turn.specs.Insides.{IsSound, state_of}
+use Rattle.mixer_turn.specs.Posts.{ArePosts}
 use Rattle.mixer_turn.specs.Standing.{StandsFor}
 use Rattle.mixer_turn.specs.Turns.{AreOutletsOf, OfMixers, AllTurned}
 use Rattle.mixer_turn.proofs.Turned.{with_turn, turn_stands, turn_batch, sound_after, next_from}
@@ -44,3 +45,7 @@ returns-clause-stands c = λ s pts calls h a.
     c.deref_mut.ensures.value
     (subst (λ (ns : List (List ℕ)). OfMixers c.deref_mut.result.now c.self.inside.seating c.self.inside.slots ns c.next_media-media.result (λ s pts table now. AllTurned s pts table now c.next_media-media.result c.turn_legs.new.outlets c.turn_legs.new.slots c.turn_legs.new.batch))
     c.deref.ensures.value c.turn_legs.ensures.turned)))
+
+pub returns-clause-posts : goal.returns-clause-posts
+returns-clause-posts c =
+    subst (λ (n : ℕ). ArePosts n c.turn_legs.new.batch) (ap (λ (xs : List Outlet). length xs) c.deref_mut.ensures.value ∙ ap (λ (m : State). length m.outlets) c.self.view_is) c.turn_legs.ensures.posts
