@@ -11,8 +11,9 @@ use mix_loop::Mixes;
 use rtt_base::Chunk;
 use std::sync::Wait;
 
-/// How many items are popped at most before a turn, once the leg has said that all was given.
-const MOST_POPPED: u64 = 64;
+/// How many items are popped at most before a turn, once the leg has said that all was given. A socket's buffer holds hardly more
+/// packets.
+const MOST_POPPED: u64 = 256;
 
 /// What was popped of a leg.
 #[derive(Clone, Copy, Debug, PartialEq, Eq)]

@@ -68,12 +68,13 @@ impl Mixes for Counting {
 }
 
 // The packet in which A is typed with this number, of the leg with the SSRC 1001.
-fn typed(number: u8) -> [u8; 13] {
-    [0x80, 98, 0, number, 0, 0, 0, 0, 0, 0, 3, 0xE9, b'A']
+fn typed(number: u16) -> [u8; 13] {
+    let [high, low] = number.to_be_bytes();
+    [0x80, 98, high, low, 0, 0, 0, 0, 0, 0, 3, 0xE9, b'A']
 }
 
 // Plans so many packets, with a text each.
-fn plan_typed(alloc: Global, link: &mut MemIn, count: u8) -> Result<(), NoMemory> {
+fn plan_typed(alloc: Global, link: &mut MemIn, count: u16) -> Result<(), NoMemory> {
     for number in 0..count {
         let mut octets = Bytes::new(alloc);
         octets.append(&typed(number))?;
@@ -87,7 +88,7 @@ fn plan_typed(alloc: Global, link: &mut MemIn, count: u8) -> Result<(), NoMemory
 }
 
 // A link that gives so many texts and is closed, or is quiet behind them.
-fn link(alloc: Global, count: u8, closes: bool) -> Result<MemIn, NoMemory> {
+fn link(alloc: Global, count: u16, closes: bool) -> Result<MemIn, NoMemory> {
     let mut link = MemIn::new(alloc, 5001);
     plan_typed(alloc, &mut link, count)?;
     if closes {
@@ -206,7 +207,7 @@ fn run<R: Threads + Wait>(rt: &R, alloc: Global, link: MemIn) -> Option<Ran> {
 fn call<R: Threads + Wait>(
     rt: &R,
     alloc: Global,
-    count: u8,
+    count: u16,
     closes: bool,
 ) -> Result<Ran, NoMemory> {
     let link = link(alloc, count, closes)?;
@@ -244,9 +245,9 @@ fn a_silent_leg_ends_with_the_turns(rt: HostRuntime) -> Result<(), Fail> {
 
 #[test]
 fn a_flood_holds_no_turn_up(rt: HostRuntime) -> Result<(), Fail> {
-    let ran = call(&rt, rt.alloc(), 200, false)?;
+    let ran = call(&rt, rt.alloc(), 700, false)?;
     assert!(rt; ran.turned == Turned::Done);
     assert!(rt; ran.turns == 5);
-    assert!(rt; ran.taken == 160);
+    assert!(rt; ran.taken == 640);
     Ok(())
 }
