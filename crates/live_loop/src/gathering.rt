@@ -213,7 +213,8 @@ impl<I: Pops> LivePort<I> {
                     popped = popped.saturating_add(1);
                 }
                 Advanced::Nothing => {}
-                Advanced::Silent | Advanced::Blocked => return,
+                Advanced::Silent => return,
+                Advanced::Blocked => return,
             }
         }
         unreachable!()

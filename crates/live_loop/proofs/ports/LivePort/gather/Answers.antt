@@ -28,8 +28,8 @@ loop-preserved-in-Seen g c =
     goes_seen g.I.Pops.popped g.I.Pops.began g.M.Mixes.stands g.M.Mixes.legs g.M.Mixes.turns g.M.Mixes.addresses c.loop.seen c.args.self.now c.loop.self c.advance.new.self c.args.mixer.now c.loop.mixer c.advance.new.mixer c.loop.invariant
     c.advance.ensures.leg c.advance.ensures.grew c.advance.ensures.keeps c.in-Seen.ensures.advances
 
-pub loop-preserved-in-Nothing : goal.loop-preserved-in-Nothing
-loop-preserved-in-Nothing g c =
+pub loop-preserved : goal.loop-preserved
+loop-preserved g c =
     goes_still g.I.Pops.popped g.I.Pops.began g.M.Mixes.stands g.M.Mixes.legs g.M.Mixes.turns g.M.Mixes.addresses c.loop.seen c.args.self.now c.loop.self c.advance.new.self c.args.mixer.now c.loop.mixer c.advance.new.mixer c.loop.invariant
     c.advance.ensures.leg c.advance.ensures.grew c.advance.ensures.keeps c.in-Nothing.ensures.advances
 
