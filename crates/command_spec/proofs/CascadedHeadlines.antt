@@ -1,5 +1,5 @@
 -- What comes of a conference behind another mixer.
-use Rattle.std.proofs.Common.{◌≡◌, ℕ, zero, suc, ◌+◌, ◌<◌, ◌≤◌, ◌^◌, Bool, true, false, cond, Option, Some, None, List, [], ◌∷◌, ◌++◌, length, refl, ap, subst, sym, ◌∙◌, arith}
+use Rattle.std.proofs.Common.{◌≡◌, ℕ, zero, suc, ◌+◌, ◌<◌, ◌≤◌, ◌^◌, Bool, true, false, cond, Option, Some, None, List, [], ◌∷◌, ◌++◌, length, Result, Ok, Err, refl, ap, subst, sym, ◌∙◌, arith}
 use Rattle.std.specs.Prelude.{All, map, not, ◌&&◌, ◌==◌}
 use Rattle.std.specs.List.{AllZip, concat}
 use Rattle.std.proofs.lemmas.Bool.{true≢false, eq-eqb, eqb-true, and_parts}
@@ -17,7 +17,8 @@ use Rattle.stream_spec.proofs.Still.{come_still, lawful_still}
 use Rattle.stream_spec.proofs.Walks.{l1}
 use Rattle.file_spec.specs.declared.conf_lines.Form.TheVariants.{Files}
 use Rattle.file_spec.specs.declared.conf_lines.LegLine.{LegLine}
-use Rattle.file_spec.specs.Conf.{usual_types}
+use Rattle.file_spec.specs.Conf.{Conf, conf, usual_types}
+use Rattle.file_spec.specs.Lines as lines
 use Rattle.mixer_spec.specs.Setups.{leg_at, setup, ssrc_of}
 use Rattle.mixer_spec.specs.Table.{Table}
 use Rattle.mixer_spec.specs.Plain.{plain}
@@ -29,11 +30,12 @@ use Rattle.command_spec.specs.Work.{Contents, Made, Steps, Reads}
 use Rattle.command_spec.specs.Outcomes.{AllStored, Done, outcome_from}
 use Rattle.command_spec.specs.Mixing.{input_at, makes, outs, views}
 use Rattle.command_spec.specs.Bridges.{Bridge}
-use Rattle.command_spec.specs.Cascading.{has_other_types, is_on_trunk, mixes_over, mixes_splits, reads_others, trunk_limit, trunk_of, unless_faulty, unless_leg_faulty}
+use Rattle.command_spec.specs.Cascading.{cascades, cascades_read, has_other_types, is_on_trunk, mixes_over, mixes_splits, odd_line, reads_others, trunk_limit, trunk_of, unless_faulty, unless_leg_faulty, unless_odd}
 use Rattle.command_spec.specs.Cascaded.{CascadesAreBridged, IsCascaded, IsHeardBehind, IsTextOf, heard_of}
 use Rattle.command_spec.proofs.Headlines.{seen}
 use Rattle.command_spec.proofs.Reached.{done_parts, found}
 use Rattle.command_spec.proofs.Ssrcs.{ssrcs_fit}
+use Rattle.command_spec.proofs.TrunkSizes.{input_fits}
 
 -- ---- what was read
 -- the texts of the legs were there
@@ -103,7 +105,7 @@ text_at held split (l ∷ legs) [] i leg lie at = absurd lie
 text_at held split (l ∷ legs) (o ∷ inputs) zero leg lie at = let same : l ≡ leg = cc at in subst (λ x. IsTextOf held split x o) same lie.0
 text_at held split (l ∷ legs) (o ∷ inputs) (suc i) leg lie at = text_at held split legs inputs i leg lie.1 at
 
-ssrc_fits : (legs : List LegLine) (i : ℕ) (leg : LegLine) → All (λ (l : LegLine). l.ssrc < 2 ^ 32) legs → leg_at legs i ≡ Some leg → leg.ssrc < 2 ^ 32
+pub ssrc_fits : (legs : List LegLine) (i : ℕ) (leg : LegLine) → All (λ (l : LegLine). l.ssrc < 2 ^ 32) legs → leg_at legs i ≡ Some leg → leg.ssrc < 2 ^ 32
 ssrc_fits [] i leg all at = absurd (cc at)
 ssrc_fits (l ∷ legs) zero leg all at = let same : l ≡ leg = cc at in subst (λ (x : LegLine). x.ssrc < 2 ^ 32) same (All-head (λ (l : LegLine). l.ssrc < 2 ^ 32) l legs all)
 ssrc_fits (l ∷ legs) (suc i) leg all at = ssrc_fits legs i leg (All-tail (λ (l : LegLine). l.ssrc < 2 ^ 32) l legs all) at
@@ -163,31 +165,57 @@ behind_of held ssrc octets b i leg lie fit at on same few = record {
         (recordings_mixed (trunk_of b.conference ssrc) octets leg.ssrc is_stream (input_limit b.conference) b.conference.wait few)
 
 -- ---- the whole
-pub cascaded : CascadesAreBridged
-cascaded held after read_octets file ssrc c printed files read e stored =
-    let f = found 1 held file (mixes_splits c ssrc) printed files e in
-    let split = split_of (trunk_of c ssrc) f.0 in
-    let r = not_faulty held 2 1 (dump (trunk_limit c) f.0).fault (reads_others split c.legs (mixes_over c)) printed files f.2 in
-    let g = others_found held split 2 c.legs (mixes_over c) printed files r.1 in
-    let w = legs_whole held split g.last (input_limit c) 2 c.legs g.inputs (makes c (plain (setup c) c.tick c.turns (leg_chunks c (input_at g.inputs)))) printed files g.lie g.then_ in
-    over f.0 f.1 r.0 g.inputs g.lie w.0 g.last (plain (setup c) c.tick c.turns (leg_chunks c (input_at g.inputs))) refl w.1
+by_bool : (P : Bool → Type 0) (b : Bool) → (b ≡ true → P true) → (b ≡ false → P false) → P b
+by_bool P true t f = t refl
+by_bool P false t f = f refl
+
+-- where no line is odd, no leg behind the other mixer has other types
+not_odd : (legs : List LegLine) (i : ℕ) (leg : LegLine) → odd_line legs ≡ None → leg_at legs i ≡ Some leg → has_other_types leg ≡ false
+not_odd [] i leg none at = absurd (cc at)
+not_odd (l ∷ legs) i leg none at =
+    by_bool (λ b. has_other_types l ≡ b → cond b (Some l.line) (odd_line legs) ≡ None → has_other_types leg ≡ false) (has_other_types l)
+    (λ t is e. absurd (cc e)) (λ f is e. go i is at (λ k. not_odd legs k leg e)) refl none
   where
-    over : (octets : List ℕ) → held file ≡ Some octets → (dump (trunk_limit c) octets).fault ≡ None → (inputs : List (List ℕ))
+    go : (i : ℕ) → has_other_types l ≡ false → leg_at (l ∷ legs) i ≡ Some leg → ((k : ℕ) → leg_at legs k ≡ Some leg → has_other_types leg ≡ false) → has_other_types leg ≡ false
+    go zero is at more = let same : l ≡ leg = cc at in subst (λ x. has_other_types x ≡ false) same is
+    go (suc k) is at more = more k at
+
+pub cascaded : CascadesAreBridged
+cascaded held after conference file ssrc printed files e stored =
+    let f = found 0 held conference (λ octets. cascades_read file ssrc (conf Files octets)) printed files e in go f.0 f.1 (conf Files f.0) refl f.2
+  where
+    over : (described : List ℕ) → held conference ≡ Some described → (c : Conf) → conf Files described ≡ Ok c → odd_line c.legs ≡ None
+        → (octets : List ℕ) → held file ≡ Some octets → (dump (trunk_limit c) octets).fault ≡ None → (inputs : List (List ℕ))
         → AllZip (IsTextOf held (split_of (trunk_of c ssrc) octets)) c.legs inputs → AllWhole (input_limit c) inputs → (m : ℕ) (o : Option Table)
-        → plain (setup c) c.tick c.turns (leg_chunks c (input_at inputs)) ≡ o → outcome_from m held (makes c o) ≡ Done printed files → IsCascaded held after file ssrc c printed
-    over octets h none inputs lie whole m None p e = absurd (cc e)
-    over octets h none inputs lie whole m (Some table) p e =
+        → plain (setup c) c.tick c.turns (leg_chunks c (input_at inputs)) ≡ o → outcome_from m held (makes c o) ≡ Done printed files → IsCascaded held after conference file ssrc printed
+    over described there c read even octets h none inputs lie whole m None p e = absurd (cc e)
+    over described there c read even octets h none inputs lie whole m (Some table) p e =
         let d = done_parts (views c table) printed (outs c table) files e in
         let b : Bridge = record { conference = c; inputs = inputs; table = table } in
         record {
           bridge = b;
-          is_of = refl;
           octets = octets;
-          lies = h;
-          recorded = none;
-          texts_lie = lie;
-          whole = whole;
-          over = p;
-          seen = seen held after read_octets printed b read p (sym d.0) (subst (λ (fs : List Made). AllStored fs held after) (sym d.1) stored);
-          behind = λ i leg at on same few. behind_of held ssrc octets b i leg lie (ssrcs_fit Files read_octets c read).legs at on same few;
+          cascaded = record { read = (described, there, read); lies = h; recorded = none; texts_lie = lie; whole = whole; over = p };
+          seen = seen held after described printed b read p (sym d.0) (subst (λ (fs : List Made). AllStored fs held after) (sym d.1) stored);
+          behind = λ i leg at on. behind_of held ssrc octets b i leg lie (ssrcs_fit Files described c read).legs at on (not_odd c.legs i leg even at) (input_fits c ssrc octets leg.ssrc);
         }
+
+    behind_mixer : (described : List ℕ) → held conference ≡ Some described → (c : Conf) → conf Files described ≡ Ok c → odd_line c.legs ≡ None
+        → outcome_from 1 held (cascades file ssrc c) ≡ Done printed files → IsCascaded held after conference file ssrc printed
+    behind_mixer described there c read even e =
+        let f = found 1 held file (mixes_splits c ssrc) printed files e in
+        let split = split_of (trunk_of c ssrc) f.0 in
+        let r = not_faulty held 2 1 (dump (trunk_limit c) f.0).fault (reads_others split c.legs (mixes_over c)) printed files f.2 in
+        let g = others_found held split 2 c.legs (mixes_over c) printed files r.1 in
+        let w = legs_whole held split g.last (input_limit c) 2 c.legs g.inputs (makes c (plain (setup c) c.tick c.turns (leg_chunks c (input_at g.inputs)))) printed files g.lie g.then_ in
+        over described there c read even f.0 f.1 r.0 g.inputs g.lie w.0 g.last (plain (setup c) c.tick c.turns (leg_chunks c (input_at g.inputs))) refl w.1
+
+    all_even : (described : List ℕ) → held conference ≡ Some described → (c : Conf) → conf Files described ≡ Ok c → (o : Option ℕ) → odd_line c.legs ≡ o
+        → outcome_from 1 held (unless_odd o (cascades file ssrc c)) ≡ Done printed files → IsCascaded held after conference file ssrc printed
+    all_even described there c read None even e = behind_mixer described there c read even e
+    all_even described there c read (Some line) even e = absurd (cc e)
+
+    go : (described : List ℕ) → held conference ≡ Some described → (r : Result Conf lines.Refusal) → conf Files described ≡ r
+        → outcome_from 1 held (cascades_read file ssrc r) ≡ Done printed files → IsCascaded held after conference file ssrc printed
+    go described there (Err refusal) r e = absurd (cc e)
+    go described there (Ok c) r e = all_even described there c r (odd_line c.legs) refl e

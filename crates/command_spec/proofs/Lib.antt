@@ -22,6 +22,10 @@ pub mod ShownAsRead
 pub mod SameFiles
 pub mod Naming
 mod AttendExamples
+pub mod GroupSizes
+pub mod SplitSizes
+pub mod TrunkSizes
 pub mod CascadedHeadlines
+pub mod CascadeOutputs
 mod CascadeExamples
 pub mod AttendedHeadlines

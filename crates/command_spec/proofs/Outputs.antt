@@ -119,7 +119,7 @@ limit_is c = go (nat_lt 16 (length c.legs))
     go true = omega arith
     go false = omega arith
 
-empty_read : (c : Conf) → dump (input_limit c) (dump_written []) ≡ record { items = []; fault = None }
+pub empty_read : (c : Conf) → dump (input_limit c) (dump_written []) ≡ record { items = []; fault = None }
 empty_read c = let l = limit_is c in read_back (input_limit c) [] tt (omega (arith, l))
 
 nothing_read : (limit : ℕ) → (dump limit []).items ≡ []
@@ -127,10 +127,10 @@ unfolding dump opening
 nothing_read limit = refl
 
 -- for each leg the octets that f says
-abbrev each : (LegLine → List ℕ) → List LegLine → List (List ℕ)
+abbrev pub each : (LegLine → List ℕ) → List LegLine → List (List ℕ)
 each f legs = map f legs
 
-silent : LegLine → List ℕ
+unfoldable pub silent : LegLine → List ℕ
 silent leg = dump_written []
 
 silent_at : (c : Conf) (legs : List LegLine) (i : ℕ) → (dump (input_limit c) (input_at (each silent legs) i)).items ≡ []
@@ -146,16 +146,21 @@ silent_whole c n (l ∷ legs) steps =
     ap (λ (o : Option dumps.Fault). elim o as (λ x. Steps) [ None ↦ unless_one_broken (input_limit c) (suc n) (each silent legs) steps | Some fault ↦ Refuses n (AtByte fault.byte fault.kind) ]) (ap (λ (r : dumps.Recording). r.fault) (empty_read c))
     ∙ silent_whole c (suc n) legs steps
 
--- what is made where nobody says anything
-silence : (c : Conf) (legs : List LegLine) → (t : Table) × (mixes c (each silent legs) ≡ Makes (views c t) (outs c t))
-silence c legs =
+-- where nobody says anything, mixing is over
+pub silent_table : (c : Conf) (legs : List LegLine) → (t : Table) × (plain (setup c) c.tick c.turns (leg_chunks c (input_at (each silent legs))) ≡ Some t)
+silent_table c legs =
     let blank : IsBlank (record { left = leg_chunks c (input_at (each silent legs)); table = empty }) =
     record { left = λ i. none_heard c (input_at (each silent legs)) i (silent_at c legs i); terminals = refl } in
-    let r = at_once (setup c) c.tick c.turns 0 (record { left = leg_chunks c (input_at (each silent legs)); table = empty }) blank in
+    at_once (setup c) c.tick c.turns 0 (record { left = leg_chunks c (input_at (each silent legs)); table = empty }) blank
+
+-- what is made then
+silence : (c : Conf) (legs : List LegLine) → (t : Table) × (mixes c (each silent legs) ≡ Makes (views c t) (outs c t))
+silence c legs =
+    let r = silent_table c legs in
     (r.0, silent_whole c 1 legs (makes c (plain (setup c) c.tick c.turns (leg_chunks c (input_at (each silent legs))))) ∙ ap (makes c) r.1)
 
 -- ---- the outputs of what is made
-nth_out : (c : Conf) (t : Table) (k : ℕ) (legs : List LegLine) (n : ℕ) (leg : LegLine) → leg_at legs n ≡ Some leg → IsNth (map (λ x. out_of c t x.0 x.1) (enumerate_from k legs)) n leg.output
+pub nth_out : (c : Conf) (t : Table) (k : ℕ) (legs : List LegLine) (n : ℕ) (leg : LegLine) → leg_at legs n ≡ Some leg → IsNth (map (λ x. out_of c t x.0 x.1) (enumerate_from k legs)) n leg.output
 nth_out c t k [] n leg e = absurd (cc e)
 nth_out c t k (l ∷ legs) zero leg e = let same : l ≡ leg = cc e in ap (λ (x : LegLine). x.output) (sym same)
 nth_out c t k (l ∷ legs) (suc n) leg e = nth_out c t (k + 1) legs n leg e

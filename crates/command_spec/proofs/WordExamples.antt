@@ -1,6 +1,6 @@
 -- Worked examples of command words, by computing.
 use Rattle.std.proofs.Common.{◌≡◌, refl, [], ◌∷◌, None, Some, codes}
-use Rattle.command_spec.specs.Words.{command, Read, ListRecords, Send, Mix, Attend, Make, Live, Relay, Channel, Show, Script, Version}
+use Rattle.command_spec.specs.Words.{command, Read, ListRecords, Send, Mix, Attend, Cascade, Make, Live, Watch, Relay, Channel, Show, Script, Version}
 
 read_a_source : command (codes "read" ∷ codes "a.rtp" ∷ codes "1001" ∷ []) ≡ Some (Read (record { file = codes "a.rtp"; ssrc = 1001; source = 1001; pts = record { t140 = 98; red = 100 } }))
 read_a_source = refl
@@ -73,6 +73,21 @@ attend_one_at_a_time = refl
 attend_nothing_named_like_an_option : command (codes "attend" ∷ codes "-c" ∷ []) ≡ None
 attend_nothing_named_like_an_option = refl
 
+cascade_a_conference : command (codes "cascade" ∷ codes "b.out" ∷ codes "9000" ∷ codes "c.txt" ∷ []) ≡ Some (Cascade (record { file = codes "b.out"; ssrc = 9000; conf = codes "c.txt" }))
+cascade_a_conference = refl
+
+cascade_without_a_conference : command (codes "cascade" ∷ codes "b.out" ∷ codes "9000" ∷ []) ≡ None
+cascade_without_a_conference = refl
+
+cascade_one_at_a_time : command (codes "cascade" ∷ codes "b.out" ∷ codes "9000" ∷ codes "c.txt" ∷ codes "d.txt" ∷ []) ≡ None
+cascade_one_at_a_time = refl
+
+cascade_behind_no_ssrc : command (codes "cascade" ∷ codes "b.out" ∷ codes "4294967296" ∷ codes "c.txt" ∷ []) ≡ None
+cascade_behind_no_ssrc = refl
+
+cascade_nothing_named_like_an_option : command (codes "cascade" ∷ codes "b.out" ∷ codes "9000" ∷ codes "-c" ∷ []) ≡ None
+cascade_nothing_named_like_an_option = refl
+
 make_a_conference : command (codes "make" ∷ codes "1000" ∷ []) ≡ Some (Make (record { number = 1000 }))
 make_a_conference = refl
 
@@ -99,6 +114,15 @@ live_without_a_conference = refl
 
 live_one_at_a_time : command (codes "live" ∷ codes "a" ∷ codes "b" ∷ []) ≡ None
 live_one_at_a_time = refl
+
+watch_a_call : command (codes "watch" ∷ codes "c.txt" ∷ []) ≡ Some (Watch (record { conf = codes "c.txt" }))
+watch_a_call = refl
+
+watch_without_a_conference : command (codes "watch" ∷ []) ≡ None
+watch_without_a_conference = refl
+
+watch_one_at_a_time : command (codes "watch" ∷ codes "a" ∷ codes "b" ∷ []) ≡ None
+watch_one_at_a_time = refl
 
 relay_frames : command (codes "relay" ∷ codes "f" ∷ codes "a.rtp" ∷ codes "1001" ∷ codes "0" ∷ codes "0" ∷ [])
     ≡ Some (Relay (record { file = codes "f"; out = codes "a.rtp"; ssrc = 1001; seq = 0; stamp = 0 }))

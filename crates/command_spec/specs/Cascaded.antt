@@ -1,5 +1,5 @@
 -- The headline of a conference behind another mixer, from what lay in files to what lies there then and is printed (profile).
-use Rattle.std.specs.Prelude.{◌≡◌, ◌<◌, ◌≤◌, ℕ, true, false, None, Some, Ok, List, [], length, map, All}
+use Rattle.std.specs.Prelude.{◌≡◌, ◌<◌, ℕ, true, false, None, Some, Ok, List, [], length, map, All}
 use Rattle.std.specs.List.{AllZip, concat}
 use Rattle.wire_spec.specs.Dump.{dump}
 use Rattle.stream_spec.specs.Carries.{Groups}
@@ -16,10 +16,10 @@ use Rattle.mixer_spec.specs.Bridged as mixer
 use Rattle.cascade_spec.specs.Splitting.{Trunk, came_of, chunks_of}
 use Rattle.cascade_spec.specs.Laws.{split_of}
 use Rattle.command_spec.specs.Work.{Contents, Made}
-use Rattle.command_spec.specs.Outcomes.{AllStored, Done, outcome_from}
+use Rattle.command_spec.specs.Outcomes.{AllStored, Done, outcome}
 use Rattle.command_spec.specs.Mixing.{input_at}
 use Rattle.command_spec.specs.Bridges.{Bridge, IsHeard, IsHeardAsOne, IsOut, setup_of, views_behind}
-use Rattle.command_spec.specs.Cascading.{cascades, has_other_types, is_on_trunk, trunk_limit, trunk_of}
+use Rattle.command_spec.specs.Cascading.{cascading, is_on_trunk, trunk_limit, trunk_of}
 
 -- the text of a leg lies in these octets: the split of its SSRC, or what lies in its input
 pub record IsTextOf (held : Contents) (split : ℕ → List ℕ) (leg : LegLine) (octets : List ℕ) : Type 0 where
@@ -46,30 +46,32 @@ pub record IsSeen (after : Contents) (printed : List ℕ) (b : Bridge) : Type 0 
   pub heard : (j i : ℕ) → IsPair (setup_of b) j i → IsHeard b j i
   pub heard_as_one : (j : ℕ) → j < length b.conference.legs → (setup_of b).aware j ≡ false → IsHeardAsOne b j
 
--- What comes of this conference behind a mixer of this SSRC, whose recording lay in this file.
-pub record IsCascaded (held after : Contents) (file : List ℕ) (ssrc : ℕ) (c : Conf) (printed : List ℕ) : Type 0 where
-  pub bridge : Bridge
-  pub is_of : bridge.conference ≡ c
-  -- The recording is read to its end, and so are those in which the texts of the legs lie.
-  pub octets : List ℕ
+-- The conference of the bridge lies in one file, and in another one a recording of these octets, which is read to its end, as are
+-- those in which the texts of the legs lie. Mixing it is over within its turns.
+pub record IsCascadedFrom (held : Contents) (conference file : List ℕ) (ssrc : ℕ) (octets : List ℕ) (b : Bridge) : Type 0 where
+  pub read : (described : List ℕ) × (held conference ≡ Some described) × (conf Files described ≡ Ok b.conference)
   pub lies : held file ≡ Some octets
-  pub recorded : (dump (trunk_limit c) octets).fault ≡ None
-  pub texts_lie : AllZip (IsTextOf held (split_of (trunk_of c ssrc) octets)) bridge.conference.legs bridge.inputs
-  pub whole : All (λ text. (dump (input_limit c) text).fault ≡ None) bridge.inputs
-  pub over : IsConferenceMixed bridge.conference (input_at bridge.inputs) bridge.table
+  pub recorded : (dump (trunk_limit b.conference) octets).fault ≡ None
+  pub texts_lie : AllZip (IsTextOf held (split_of (trunk_of b.conference ssrc) octets)) b.conference.legs b.inputs
+  pub whole : All (λ text. (dump (input_limit b.conference) text).fault ≡ None) b.inputs
+  pub over : IsConferenceMixed b.conference (input_at b.inputs) b.table
+
+-- What `cascade` makes of the conference in a file, behind a mixer of this SSRC, whose recording lay in the other one, where this lies
+-- there then, and this is printed.
+pub record IsCascaded (held after : Contents) (conference file : List ℕ) (ssrc : ℕ) (printed : List ℕ) : Type 0 where
+  pub bridge : Bridge
+  pub octets : List ℕ
+  pub cascaded : IsCascadedFrom held conference file ssrc octets bridge
   -- The conference is mixed as any is,
   pub seen : IsSeen after printed bridge
   -- and of a leg behind the other mixer is heard what that heard of its SSRC.
-  pub behind : (i : ℕ) (leg : LegLine) → leg_at bridge.conference.legs i ≡ Some leg
-      → is_on_trunk leg ≡ true → has_other_types leg ≡ false
-      → length (split_of (trunk_of c ssrc) octets leg.ssrc) ≤ input_limit c
-      → IsHeardBehind (trunk_of c ssrc) octets bridge i leg.ssrc
+  pub behind : (i : ℕ) (leg : LegLine) → leg_at bridge.conference.legs i ≡ Some leg → is_on_trunk leg ≡ true
+      → IsHeardBehind (trunk_of bridge.conference ssrc) octets bridge i leg.ssrc
 
--- Whatever lies in the files, that is what comes of a conference that was read.
+-- Whatever lies in the files, that is what `cascade` makes of them.
 abbrev pub CascadesAreBridged : Type 0
 CascadesAreBridged =
-    (held after : Contents) (read file : List ℕ) (ssrc : ℕ) (c : Conf) (printed : List ℕ) (files : List Made)
-    → conf Files read ≡ Ok c
-    → outcome_from 1 held (cascades file ssrc c) ≡ Done printed files
+    (held after : Contents) (conference file : List ℕ) (ssrc : ℕ) (printed : List ℕ) (files : List Made)
+    → outcome held (cascading conference file ssrc) ≡ Done printed files
     → AllStored files held after
-    → IsCascaded held after file ssrc c printed
+    → IsCascaded held after conference file ssrc printed

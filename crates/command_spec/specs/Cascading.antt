@@ -1,17 +1,19 @@
 -- What is made of a conference of which some legs stand behind another mixer (profile): a recording of what that mixer sent is
 -- split into its sources. In the conference the word `trunk` in the place of a leg's input says that the leg's text is that of
 -- its SSRC in the recording.
-use Rattle.std.specs.Prelude.{ℕ, suc, ◌==◌, ◌&&◌, not, nat_lt, Bool, Option, None, Some, List, [], ◌∷◌, length, bytes_eq, codes, if◌then◌else◌}
+use Rattle.std.specs.Prelude.{ℕ, suc, ◌==◌, ◌&&◌, not, nat_lt, Bool, Option, None, Some, List, [], ◌∷◌, length, bytes_eq, codes, Result, Ok, Err, if◌then◌else◌}
 use Rattle.wire_spec.specs.Dump.{dump}
 use Rattle.wire_spec.specs.Dump as dumps
 use Rattle.file_spec.specs.declared.conf_lines.LegLine.{LegLine}
-use Rattle.file_spec.specs.Conf.{Conf, usual_types}
+use Rattle.file_spec.specs.declared.conf_lines.Form.TheVariants.{Files}
+use Rattle.file_spec.specs.Conf.{Conf, conf, usual_types}
+use Rattle.file_spec.specs.Lines as lines
 use Rattle.mixer_spec.specs.Setups.{setup}
 use Rattle.mixer_spec.specs.Plain.{plain}
 use Rattle.mixer_spec.specs.Bridged.{input_limit, leg_chunks}
 use Rattle.cascade_spec.specs.Splitting.{Trunk}
 use Rattle.cascade_spec.specs.Laws.{split_of}
-use Rattle.command_spec.specs.declared.faults.Refusal.TheVariants.{AtByte}
+use Rattle.command_spec.specs.declared.faults.Refusal.TheVariants.{AtByte, AtLine, AtTrunk}
 use Rattle.command_spec.specs.Work.{Steps, Reads, Refuses}
 use Rattle.command_spec.specs.Mixing.{input_at, makes}
 use Rattle.mixer_spec.specs.declared.limits.TheConstants.{PLACES}
@@ -76,3 +78,16 @@ mixes_splits c ssrc octets =
 -- what comes of a conference behind a mixer of this SSRC, which is recorded in this file
 abbrev pub cascades : List ℕ → ℕ → Conf → Steps
 cascades file ssrc c = Reads file (mixes_splits c ssrc)
+
+-- the conference is refused at this line of a leg that has other types, or this comes then
+abbrev pub unless_odd : Option ℕ → Steps → Steps
+unless_odd None steps = steps
+unless_odd (Some line) steps = Refuses 0 (AtTrunk line)
+
+abbrev pub cascades_read : List ℕ → ℕ → Result Conf lines.Refusal → Steps
+cascades_read file ssrc (Err refusal) = Refuses 0 (AtLine refusal.line refusal.kind)
+cascades_read file ssrc (Ok c) = unless_odd (odd_line c.legs) (cascades file ssrc c)
+
+-- the conference that the first file describes, behind a mixer of this SSRC, which is recorded in the other one
+abbrev pub cascading : List ℕ → List ℕ → ℕ → Steps
+cascading conference file ssrc = Reads conference (λ octets. cascades_read file ssrc (conf Files octets))

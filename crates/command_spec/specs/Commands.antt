@@ -6,10 +6,11 @@ use Rattle.file_spec.specs.declared.kinds.ConfKind.TheVariants.{Full}
 use Rattle.file_spec.specs.Script.{ScriptLine}
 use Rattle.file_spec.specs.Lines as lines
 use Rattle.file_spec.specs.Script.{script}
-use Rattle.command_spec.specs.Words.{ReadWords, SendWords, Command, Read, ListRecords, Send, Mix, Attend, Make, Live, Relay, Channel, Show, Script, Version}
+use Rattle.command_spec.specs.Words.{ReadWords, SendWords, Command, Read, ListRecords, Send, Mix, Attend, Cascade, Make, Live, Watch, Relay, Channel, Show, Script, Version}
 use Rattle.command_spec.specs.declared.faults.Refusal.TheVariants.{AtByte, AtFrame, AtLine}
 use Rattle.command_spec.specs.declared.requests.ReadRequest.{ReadRequest}
 use Rattle.command_spec.specs.Attending.{attending}
+use Rattle.command_spec.specs.Cascading.{cascading}
 use Rattle.command_spec.specs.Listing.{list_view}
 use Rattle.command_spec.specs.Making.{making}
 use Rattle.command_spec.specs.Messages.{version_line}
@@ -77,8 +78,10 @@ work (ListRecords l) = prints_recording l.file (λ octets. list_view l.pts (dump
 work (Send s) = record { prints = false; steps = Reads s.file (λ octets. sends s (script octets)) }
 work (Mix m) = record { prints = true; steps = mixing m.conf }
 work (Attend m) = record { prints = true; steps = attending m.conf }
+work (Cascade c) = record { prints = true; steps = cascading c.conf c.file c.ssrc }
 work (Make m) = record { prints = true; steps = making m.number }
 work (Live m) = record { prints = true; steps = serving m.conf }
+work (Watch m) = record { prints = true; steps = serving m.conf }
 work (Relay s) = record { prints = false; steps = Reads s.file (λ octets. saves_frames s.out (relay (sending_of s) octets)) }
 work (Channel c) = record {
   prints = false;

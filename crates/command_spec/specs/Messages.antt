@@ -7,7 +7,7 @@ use Rattle.file_spec.specs.declared.kinds.ConfKind.TheVariants as conf
 use Rattle.frame_spec.specs.declared.kinds.FrameKind.{FrameKind}
 use Rattle.frame_spec.specs.declared.kinds.FrameKind.TheVariants as frame
 use Rattle.command_spec.specs.declared.faults.Refusal.{Refusal}
-use Rattle.command_spec.specs.declared.faults.Refusal.TheVariants.{AtByte, AtFrame, AtLine, AfterTurns}
+use Rattle.command_spec.specs.declared.faults.Refusal.TheVariants.{AtByte, AtFrame, AtLine, AtTrunk, AfterTurns}
 use Rattle.command_spec.specs.declared.faults.Fault.{Fault}
 use Rattle.command_spec.specs.declared.faults.Fault.TheVariants.{WrongWords, CannotOpen, CannotRead, Refused, CannotPrint, CannotWrite, LinkFailed, NoMemory}
 use Rattle.command_spec.specs.Outcomes.{Outcome, Missing, Done, Served}
@@ -28,6 +28,7 @@ ending_of (Served c) = Ok tt
 
 abbrev pub refusal_status : Refusal → ℕ
 refusal_status (AtLine line kind) = 5
+refusal_status (AtTrunk line) = 5
 refusal_status (AtByte byte kind) = 6
 refusal_status (AtFrame byte kind) = 6
 refusal_status (AfterTurns turns) = 9
@@ -87,9 +88,9 @@ frame_kind_name frame.ManyFrames = codes "ManyFrames"
 abbrev pub byte_message : List ℕ → ℕ → List ℕ → List ℕ
 byte_message name byte why = name ++ codes " byte " ++ (decimal byte ++ codes ": ") ++ (why ++ codes "\n")
 
--- which line of a file is refused, and why
-abbrev pub line_message : List ℕ → ℕ → ConfKind → List ℕ
-line_message name line kind = name ++ codes " line " ++ (decimal line ++ codes ": ") ++ (conf_kind_name kind ++ codes "\n")
+-- which line of a file is refused, and the name of the reason
+abbrev pub line_message : List ℕ → ℕ → List ℕ → List ℕ
+line_message name line why = name ++ codes " line " ++ (decimal line ++ codes ": ") ++ (why ++ codes "\n")
 
 -- a conference that is not over names no file
 abbrev pub turns_message : ℕ → List ℕ
@@ -98,12 +99,13 @@ turns_message turns = codes "conference too long: " ++ (decimal turns ++ codes "
 abbrev pub refusal_message : List ℕ → Refusal → List ℕ
 refusal_message name (AtByte byte kind) = byte_message name byte (dump_kind_name kind)
 refusal_message name (AtFrame byte kind) = byte_message name byte (frame_kind_name kind)
-refusal_message name (AtLine line kind) = line_message name line kind
+refusal_message name (AtLine line kind) = line_message name line (conf_kind_name kind)
+refusal_message name (AtTrunk line) = line_message name line (codes "Trunk")
 refusal_message name (AfterTurns turns) = turns_message turns
 
 -- for words outside the word table
 abbrev pub usage : List ℕ
-usage = codes "usage: rtt_program read FILE SSRC [SOURCE [T140 RED]]\n       rtt_program list FILE [T140 RED]\n       rtt_program send SCRIPT OUT SSRC SEQ STAMP\n       rtt_program mix CONF\n       rtt_program attend CONF\n       rtt_program make N\n       rtt_program live CONF\n       rtt_program relay FRAMES OUT SSRC SEQ STAMP\n       rtt_program channel FILE SSRC OUT\n       rtt_program show FILE [T140 RED]\n       rtt_program script FILE SSRC [SOURCE [T140 RED]]\n       rtt_program version\n"
+usage = codes "usage: rtt_program read FILE SSRC [SOURCE [T140 RED]]\n       rtt_program list FILE [T140 RED]\n       rtt_program send SCRIPT OUT SSRC SEQ STAMP\n       rtt_program mix CONF\n       rtt_program attend CONF\n       rtt_program cascade FILE SSRC CONF\n       rtt_program make N\n       rtt_program live CONF\n       rtt_program watch CONF\n       rtt_program relay FRAMES OUT SSRC SEQ STAMP\n       rtt_program channel FILE SSRC OUT\n       rtt_program show FILE [T140 RED]\n       rtt_program script FILE SSRC [SOURCE [T140 RED]]\n       rtt_program version\n"
 
 -- the name of the program and its version
 abbrev pub version_line : List ℕ

@@ -26,7 +26,7 @@ pub record SendWords : Type 0 where
   pub seq : ℕ
   pub stamp : ℕ
 
--- what `mix`, `attend` and `live` are asked for: the conference in a file
+-- what `mix`, `attend`, `live` and `watch` are asked for: the conference in a file
 pub record MixWords : Type 0 where
   pub conf : List ℕ
 
@@ -40,14 +40,22 @@ pub record ChannelWords : Type 0 where
   pub ssrc : ℕ
   pub out : List ℕ
 
+-- what `cascade` is asked for: the conference in a file, behind a mixer that sent the packets of an SSRC of a recording
+pub record CascadeWords : Type 0 where
+  pub file : List ℕ
+  pub ssrc : ℕ
+  pub conf : List ℕ
+
 pub data Command : Type 0 where
   Read : ReadWords → Command
   ListRecords : ListWords → Command
   Send : SendWords → Command
   Mix : MixWords → Command
   Attend : MixWords → Command
+  Cascade : CascadeWords → Command
   Make : MakeWords → Command
   Live : MixWords → Command
+  Watch : MixWords → Command
   Relay : SendWords → Command
   Channel : ChannelWords → Command
   Show : ListWords → Command
@@ -121,12 +129,20 @@ make_words (n ∷ []) = option_map (λ k. Make (record { number = k })) (number_
 make_words _ = None
 
 -- `FILE SSRC OUT`
-abbrev pub channel_words : List (List ℕ) → Option Command
+abbrev pub channel_words : List (List ℕ) → Option ChannelWords
 channel_words (file ∷ ssrc ∷ out ∷ []) =
     if is_word file && is_word out
-    then option_map (λ s. Channel (record { file = file; ssrc = s; out = out })) (number most_ssrc ssrc)
+    then option_map (λ s. record { file = file; ssrc = s; out = out }) (number most_ssrc ssrc)
     else None
 channel_words _ = None
+
+-- the last word names a conference
+abbrev pub before_conf : ChannelWords → CascadeWords
+before_conf c = record { file = c.file; ssrc = c.ssrc; conf = c.out }
+
+-- `FILE SSRC CONF`, of the same shape
+abbrev pub cascade_words : List (List ℕ) → Option CascadeWords
+cascade_words words = option_map before_conf (channel_words words)
 
 -- no words
 abbrev pub version_words : List (List ℕ) → Option Command
@@ -142,10 +158,12 @@ command (name ∷ words) =
     else (if bytes_eq name (codes "send") then option_map Send (send_words words)
     else (if bytes_eq name (codes "mix") then option_map Mix (mix_words words)
     else (if bytes_eq name (codes "attend") then option_map Attend (mix_words words)
+    else (if bytes_eq name (codes "cascade") then option_map Cascade (cascade_words words)
     else (if bytes_eq name (codes "make") then make_words words
     else (if bytes_eq name (codes "live") then option_map Live (mix_words words)
+    else (if bytes_eq name (codes "watch") then option_map Watch (mix_words words)
     else (if bytes_eq name (codes "relay") then option_map Relay (send_words words)
-    else (if bytes_eq name (codes "channel") then channel_words words
+    else (if bytes_eq name (codes "channel") then option_map Channel (channel_words words)
     else (if bytes_eq name (codes "show") then option_map Show (list_words words)
     else (if bytes_eq name (codes "script") then option_map Script (read_words words)
-    else (if bytes_eq name (codes "version") then version_words words else None)))))))))))
+    else (if bytes_eq name (codes "version") then version_words words else None)))))))))))))

@@ -13,6 +13,8 @@ pub enum Refusal {
     /// Frames are refused: at the one that begins at this byte, for this reason. For `ManyFrames` it is the number of octets
     /// that they would have.
     AtFrame { byte: u64, kind: FrameKind },
+    /// A leg behind another mixer has other payload types than the recording of what that sent: at this line of the conference.
+    AtTrunk { line: u32 },
     /// Mixing a conference is not over after so many turns, which are all that it may have.
     AfterTurns { turns: u32 },
 }

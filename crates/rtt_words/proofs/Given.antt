@@ -4,7 +4,7 @@ use Rattle.std.specs.Prelude.{if◌then◌else◌}
 use Rattle.std.specs.List.{list_all}
 use Rattle.std.specs.Option.{option_map}
 use Rattle.file_spec.specs.Numbers.{number, most_ssrc}
-use Rattle.command_spec.specs.Words.{MixWords, Channel, channel_words, is_word, list_of, list_words, make_words, mix_words, payload_types, read_of, read_words, send_of, send_words, usual_pts, version_words}
+use Rattle.command_spec.specs.Words.{MixWords, channel_words, is_word, list_of, list_words, make_words, mix_words, payload_types, read_of, read_words, send_of, send_words, usual_pts, version_words}
 use Rattle.clap.specs.Walk.{Text, first_of}
 use Rattle.clap.specs.Simple.{App, Shape, built, matches_of}
 use Rattle.clap.specs.Faults.{defaults_fault, fault_of}
@@ -140,7 +140,7 @@ channel_asked [] e h = cc
 channel_asked (a ∷ []) e h = cc
 channel_asked (a ∷ b ∷ []) e h = cc
 channel_asked (a ∷ b ∷ c ∷ []) e h =
-    kept (is_word a && is_word c) (option_map (λ s. Channel (record { file = a; ssrc = s; out = c })) (number most_ssrc b)) (ends (is_word a) (is_word b) (is_word c) e)
+    kept (is_word a && is_word c) (option_map (λ s. record { file = a; ssrc = s; out = c }) (number most_ssrc b)) (ends (is_word a) (is_word b) (is_word c) e)
 channel_asked (a ∷ b ∷ c ∷ d ∷ rest) e h = cc
 
 pub channel_refused : (words : List Text) → fault_given channel_shape words ≢ [] → channel_words words ≡ None

@@ -9,7 +9,7 @@ use Rattle.std.specs.Str.{bytes_eq}
 use Rattle.std.proofs.lemmas.List.{take_rest}
 use Rattle.rtt_base.specs.declared.text_packets.Pts.{Pts}
 use Rattle.file_spec.specs.Numbers.{is_number, number, most_ssrc, payload_type}
-use Rattle.command_spec.specs.Words.{Read, ListRecords, Send, Live, Relay, Channel, Show, Script, Command, channel_words, command, if_different, is_word, list_of, list_words, make_words, Make, mix_words, Mix, Attend, payload_types, read_of, read_words, send_of, send_words, usual_pts, version_words}
+use Rattle.command_spec.specs.Words.{Read, ListRecords, Send, Cascade, Live, Watch, Relay, Channel, ChannelWords, Show, Script, Command, before_conf, cascade_words, channel_words, command, if_different, is_word, list_of, list_words, make_words, Make, mix_words, Mix, Attend, payload_types, read_of, read_words, send_of, send_words, usual_pts, version_words}
 
 abbrev Text : Type 0
 Text = List ℕ
@@ -187,8 +187,8 @@ channel_off (a ∷ b ∷ c ∷ []) e =
       ]
     ])
   where
-    channelled : ℕ → Command
-    channelled s = Channel (record { file = a; ssrc = s; out = c })
+    channelled : ℕ → ChannelWords
+    channelled s = record { file = a; ssrc = s; out = c }
 channel_off (a ∷ b ∷ c ∷ d ∷ rest) e = refl
 
 version_off : (words : List Text) → list_all is_word words ≡ false → version_words words ≡ None
@@ -206,13 +206,15 @@ command_off name words e =
     (choice (bytes_eq name (codes "send")) (option_map Send (send_words words)) _ (ap (option_map Send) (send_off words e))
     (choice (bytes_eq name (codes "mix")) (option_map Mix (mix_words words)) _ (ap (option_map Mix) (mix_off words e))
     (choice (bytes_eq name (codes "attend")) (option_map Attend (mix_words words)) _ (ap (option_map Attend) (mix_off words e))
+    (choice (bytes_eq name (codes "cascade")) (option_map Cascade (cascade_words words)) _ (ap (λ o. option_map Cascade (option_map before_conf o)) (channel_off words e))
     (choice (bytes_eq name (codes "make")) (make_words words) _ (make_off words e)
     (choice (bytes_eq name (codes "live")) (option_map Live (mix_words words)) _ (ap (option_map Live) (mix_off words e))
+    (choice (bytes_eq name (codes "watch")) (option_map Watch (mix_words words)) _ (ap (option_map Watch) (mix_off words e))
     (choice (bytes_eq name (codes "relay")) (option_map Relay (send_words words)) _ (ap (option_map Relay) (send_off words e))
-    (choice (bytes_eq name (codes "channel")) (channel_words words) _ (channel_off words e)
+    (choice (bytes_eq name (codes "channel")) (option_map Channel (channel_words words)) _ (ap (option_map Channel) (channel_off words e))
     (choice (bytes_eq name (codes "show")) (option_map Show (list_words words)) _ (ap (option_map Show) (list_off words e))
     (choice (bytes_eq name (codes "script")) (option_map Script (read_words words)) _ (ap (option_map Script) (read_off words e))
-    (choice (bytes_eq name (codes "version")) (version_words words) None (version_off words e) refl)))))))))))
+    (choice (bytes_eq name (codes "version")) (version_words words) None (version_off words e) refl)))))))))))))
 
 -- the same of a list of words, of which the first is the name
 pub command_off_rest : (words : List (String Global)) → 1 ≤ length words

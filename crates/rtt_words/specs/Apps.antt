@@ -9,7 +9,7 @@ use Rattle.rtt_words.specs.declared.words.WordFault.TheVariants.{Wrong, NoMemory
 use Rattle.clap.specs.Simple.{on_top}
 use Rattle.rtt_base.specs.declared.text_packets.Pts.{Pts}
 use Rattle.file_spec.specs.Numbers.{number, number_between, most_ssrc}
-use Rattle.command_spec.specs.Words.{ReadWords, ListWords, SendWords, MixWords, Command, Make, Channel, Version, payload_types, usual_pts, read_of, list_of, send_of}
+use Rattle.command_spec.specs.Words.{ReadWords, ListWords, SendWords, MixWords, ChannelWords, Command, Make, Version, payload_types, usual_pts, read_of, list_of, send_of}
 
 -- a refusal of `clap`, by its kind
 abbrev pub fault_by : ErrorKind → WordFault
@@ -40,7 +40,7 @@ send_app =
     with_rule (with_rule (with_rule (with_rule (with_rule (bare_app (codes "send")) (required_rule (codes "SCRIPT"))) (required_rule (codes "OUT")))
     (required_rule (codes "SSRC"))) (required_rule (codes "SEQ"))) (required_rule (codes "STAMP"))
 
--- `mix CONF`; `attend` and `live` have the same
+-- `mix CONF`; `attend`, `live` and `watch` have the same
 abbrev pub mix_app : App
 mix_app = with_rule (bare_app (codes "mix")) (required_rule (codes "CONF"))
 
@@ -48,7 +48,7 @@ mix_app = with_rule (bare_app (codes "mix")) (required_rule (codes "CONF"))
 abbrev pub make_app : App
 make_app = with_rule (bare_app (codes "make")) (required_rule (codes "N"))
 
--- `channel FILE SSRC OUT`
+-- `channel FILE SSRC OUT`; `cascade` has as many
 abbrev pub channel_app : App
 channel_app =
     with_rule (with_rule (with_rule (bare_app (codes "channel")) (required_rule (codes "FILE"))) (required_rule (codes "SSRC"))) (required_rule (codes "OUT"))
@@ -89,10 +89,10 @@ mix_given text = option_and_then (λ conf. Some (record { conf = conf })) (text 
 abbrev pub make_given : Texts → Option Command
 make_given text = option_and_then (λ n. option_map (λ k. Make (record { number = k })) (number_between 1 1000 n)) (text (codes "N"))
 
-abbrev pub channel_given : Texts → Option Command
+abbrev pub channel_given : Texts → Option ChannelWords
 channel_given text =
     option_and_then (λ file. option_and_then (λ ssrc. option_and_then (λ out.
-    option_map (λ s. Channel (record { file = file; ssrc = s; out = out })) (number most_ssrc ssrc))
+    option_map (λ s. record { file = file; ssrc = s; out = out }) (number most_ssrc ssrc))
     (text (codes "OUT"))) (text (codes "SSRC"))) (text (codes "FILE"))
 
 abbrev pub version_given : Texts → Option Command

@@ -6,8 +6,9 @@ use Rattle.rtt_words.specs.declared.commands.SendWords.{SendWords}
 use Rattle.rtt_words.specs.declared.commands.MixWords.{MixWords}
 use Rattle.rtt_words.specs.declared.commands.MakeWords.{MakeWords}
 use Rattle.rtt_words.specs.declared.commands.ChannelWords.{ChannelWords}
+use Rattle.rtt_words.specs.declared.commands.CascadeWords.{CascadeWords}
 use Rattle.rtt_words.specs.declared.commands.Command.{Command}
-use Rattle.rtt_words.specs.declared.commands.Command.TheVariants.{Read, ListRecords, Send, Mix, Attend, Make, Live, Relay, Channel, Show, Script, Version}
+use Rattle.rtt_words.specs.declared.commands.Command.TheVariants.{Read, ListRecords, Send, Mix, Attend, Cascade, Make, Live, Watch, Relay, Channel, Show, Script, Version}
 
 abbrev pub asked : ReadWords → words.ReadWords
 asked r = record { file = r.file.now; ssrc = r.ssrc; source = r.source; pts = r.pts }
@@ -27,14 +28,19 @@ made m = record { number = m.number }
 abbrev pub channelled : ChannelWords → words.ChannelWords
 channelled c = record { file = c.file.now; ssrc = c.ssrc; out = c.out.now }
 
+abbrev pub cascaded : CascadeWords → words.CascadeWords
+cascaded c = record { file = c.file.now; ssrc = c.ssrc; conf = c.conf.now }
+
 abbrev pub meaning : Command → words.Command
 meaning (Read r) = words.Read (asked r)
 meaning (ListRecords l) = words.ListRecords (listed l)
 meaning (Send s) = words.Send (sent s)
 meaning (Mix m) = words.Mix (mixed m)
 meaning (Attend m) = words.Attend (mixed m)
+meaning (Cascade c) = words.Cascade (cascaded c)
 meaning (Make m) = words.Make (made m)
 meaning (Live m) = words.Live (mixed m)
+meaning (Watch m) = words.Watch (mixed m)
 meaning (Relay s) = words.Relay (sent s)
 meaning (Channel c) = words.Channel (channelled c)
 meaning (Show l) = words.Show (listed l)

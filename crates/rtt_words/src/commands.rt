@@ -35,7 +35,7 @@ pub struct SendWords<'a> {
     pub stamp: u32,
 }
 
-/// What `mix` and `live` are asked for.
+/// What `mix`, `attend`, `live` and `watch` are asked for.
 #[derive(Clone, Copy, Debug, PartialEq, Eq)]
 pub struct MixWords<'a> {
     /// The name of the conference's file.
@@ -60,6 +60,17 @@ pub struct ChannelWords<'a> {
     pub out: &'a str,
 }
 
+/// What `cascade` is asked for.
+#[derive(Clone, Copy, Debug, PartialEq, Eq)]
+pub struct CascadeWords<'a> {
+    /// The name of the recording of what the other mixer sent.
+    pub file: &'a str,
+    /// The SSRC under which that sent it.
+    pub ssrc: u32,
+    /// The name of the conference's file.
+    pub conf: &'a str,
+}
+
 /// A command, with the words after its name.
 #[derive(Clone, Copy, Debug, PartialEq, Eq)]
 pub enum Command<'a> {
@@ -73,10 +84,14 @@ pub enum Command<'a> {
     Mix(MixWords<'a>),
     /// Mixes a conference over recordings, with the names and the leavings that their RTCP records tell.
     Attend(MixWords<'a>),
+    /// Mixes a conference behind another mixer, with the texts of its legs there.
+    Cascade(CascadeWords<'a>),
     /// Mixes a conference that is made from a number.
     Make(MakeWords),
     /// Mixes a conference over UDP links.
     Live(MixWords<'a>),
+    /// Mixes a conference over UDP links, and shows how much of each leg's text a reader saw meanwhile.
+    Watch(MixWords<'a>),
     /// Sends frames of text into a recording.
     Relay(SendWords<'a>),
     /// Writes the text of a recording as frames.

@@ -69,7 +69,7 @@ fn send_form<'a>(alloc: Global) -> Result<Command<'a>, AllocError>
     Ok(command)
 }
 
-/// `mix CONF`. `attend` and `live` have the same.
+/// `mix CONF`. `attend`, `live` and `watch` have the same.
 fn mix_form<'a>(alloc: Global) -> Result<Command<'a>, AllocError>
     ensures { IfOk result (λ c. app_of c ≡ mix_app) }
 {
@@ -85,7 +85,7 @@ fn make_form<'a>(alloc: Global) -> Result<Command<'a>, AllocError>
     Ok(command)
 }
 
-/// `channel FILE SSRC OUT`.
+/// `channel FILE SSRC OUT`. `cascade` has as many.
 fn channel_form<'a>(alloc: Global) -> Result<Command<'a>, AllocError>
     ensures { IfOk result (λ c. app_of c ≡ channel_app) }
 {
@@ -141,7 +141,7 @@ pub(crate) fn send_matches(alloc: Global, words: &[String]) -> Result<ArgMatches
     matches_for(send_form(alloc)?, words)
 }
 
-/// The arguments of a `mix`, an `attend` or a `live`, where it takes so many words. The first word is its name.
+/// The arguments of a `mix`, an `attend`, a `live` or a `watch`, where it takes so many words. The first word is its name.
 pub(crate) fn mix_matches(alloc: Global, words: &[String]) -> Result<ArgMatches<'_>, WordFault>
     requires { list_all is_word (drop 1 (map string_bytes words.now)) ≡ true }
     ensures given { IfOk result (λ m. mix_given (first_value (found_of m)) ≡ mix_words (drop 1 (map string_bytes words.now))) }
@@ -159,7 +159,7 @@ pub(crate) fn make_matches(alloc: Global, words: &[String]) -> Result<ArgMatches
     matches_for(make_form(alloc)?, words)
 }
 
-/// The arguments of a `channel`, where it takes so many words. The first word is its name.
+/// The arguments of a `channel` or a `cascade`, where it takes so many words. The first word is its name.
 pub(crate) fn channel_matches(alloc: Global, words: &[String]) -> Result<ArgMatches<'_>, WordFault>
     requires { list_all is_word (drop 1 (map string_bytes words.now)) ≡ true }
     ensures given { IfOk result (λ m. channel_given (first_value (found_of m)) ≡ channel_words (drop 1 (map string_bytes words.now))) }

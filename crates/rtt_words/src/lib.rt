@@ -5,7 +5,9 @@ mod commands;
 mod forms;
 mod words;
 
-pub use commands::{ChannelWords, Command, ListWords, MakeWords, MixWords, ReadWords, SendWords};
+pub use commands::{
+    CascadeWords, ChannelWords, Command, ListWords, MakeWords, MixWords, ReadWords, SendWords,
+};
 pub use words::{WordFault, command_of};
 
 #[cfg(test)]

@@ -1,6 +1,6 @@
 use crate::{
-    ChannelWords, Command, ListWords, MakeWords, MixWords, ReadWords, SendWords, WordFault,
-    command_of,
+    CascadeWords, ChannelWords, Command, ListWords, MakeWords, MixWords, ReadWords, SendWords,
+    WordFault, command_of,
 };
 use rtt_base::Pts;
 use std::alloc::Global;
@@ -101,6 +101,29 @@ fn a_live_has_the_words_of_a_mix(rt: HostRuntime) -> Result<(), Fail> {
     assert!(rt; asks(rt.alloc(), "live c.txt", live)?);
     assert!(rt; is_wrong(rt.alloc(), "live")?);
     assert!(rt; is_wrong(rt.alloc(), "live a b")?);
+    Ok(())
+}
+
+#[test]
+fn a_watch_has_the_words_of_a_mix(rt: HostRuntime) -> Result<(), Fail> {
+    let watch = Command::Watch(MixWords { conf: "c.txt" });
+    assert!(rt; asks(rt.alloc(), "watch c.txt", watch)?);
+    assert!(rt; is_wrong(rt.alloc(), "watch")?);
+    assert!(rt; is_wrong(rt.alloc(), "watch a b")?);
+    Ok(())
+}
+
+#[test]
+fn a_cascade_names_a_recording_and_a_conference(rt: HostRuntime) -> Result<(), Fail> {
+    let cascade = Command::Cascade(CascadeWords {
+        file: "b.out",
+        ssrc: 9000,
+        conf: "c.txt",
+    });
+    assert!(rt; asks(rt.alloc(), "cascade b.out 9000 c.txt", cascade)?);
+    assert!(rt; is_wrong(rt.alloc(), "cascade b.out 9000")?);
+    assert!(rt; is_wrong(rt.alloc(), "cascade b.out c.txt 9000")?);
+    assert!(rt; is_wrong(rt.alloc(), "cascade b.out 9000 c.txt d.txt")?);
     Ok(())
 }
 

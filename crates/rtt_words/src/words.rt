@@ -3,15 +3,17 @@ ghost use Rattle.std.specs.Prelude.{◌≡◌, [], ◌∷◌, map, string_bytes,
 ghost use Rattle.std.specs.List.{list_all};
 ghost use Rattle.std.specs.Option.{option_map};
 ghost use Rattle.clap.specs.Words.{first_value, found_of};
-ghost use Rattle.command_spec.specs.Words.{Make, Channel, Version, command, is_word, payload_types, read_words, list_words, send_words, mix_words, make_words, channel_words, version_words};
+ghost use Rattle.command_spec.specs.Words.{Make, Version, command, is_word, payload_types, read_words, list_words, send_words, mix_words, make_words, channel_words, cascade_words, version_words};
 ghost use Rattle.rtt_words.specs.Apps.{pts_given, read_given, list_given, send_given, mix_given, make_given, channel_given};
-ghost use Rattle.rtt_words.specs.Commands.{asked, listed, sent, mixed, made, channelled, meaning};
+ghost use Rattle.rtt_words.specs.Commands.{asked, listed, sent, mixed, made, channelled, cascaded, meaning};
 
 use crate::forms::{
     channel_matches, list_matches, make_matches, mix_matches, read_matches, send_matches,
     version_matches,
 };
-use crate::{ChannelWords, Command, ListWords, MakeWords, MixWords, ReadWords, SendWords};
+use crate::{
+    CascadeWords, ChannelWords, Command, ListWords, MakeWords, MixWords, ReadWords, SendWords,
+};
 use clap::ArgMatches;
 use clap::error::ErrorKind;
 use file_lines::{number_from, number_of, pts_of};
@@ -161,7 +163,7 @@ fn make_matched(matches: &ArgMatches<'_>) -> Option<MakeWords>
 
 /// A `channel` with these arguments, if its number is in range.
 fn channel_matched<'a>(matches: &ArgMatches<'a>) -> Option<ChannelWords<'a>>
-    ensures { option_map (λ c. Channel (channelled c)) result ≡ channel_given (first_value (found_of matches.now)) }
+    ensures { option_map channelled result ≡ channel_given (first_value (found_of matches.now)) }
 {
     let file = matches.get_str("FILE")?;
     let ssrc = number_of(matches.get_str("SSRC")?, u32::MAX)?;
@@ -199,7 +201,7 @@ fn send_command(alloc: Global, words: &[String]) -> Result<SendWords<'_>, WordFa
     send_matched(&matches).ok_or(WordFault::Wrong)
 }
 
-/// A `mix`, an `attend` or a `live`, where the words after its name are in its row.
+/// A `mix`, an `attend`, a `live` or a `watch`, where the words after its name are in its row.
 fn mix_command(alloc: Global, words: &[String]) -> Result<MixWords<'_>, WordFault>
     requires { list_all is_word (drop 1 (map string_bytes words.now)) ≡ true }
     ensures asked { IfOk result (λ m. mix_words (drop 1 (map string_bytes words.now)) ≡ Some (mixed m)) }
@@ -222,11 +224,22 @@ fn make_command(alloc: Global, words: &[String]) -> Result<MakeWords, WordFault>
 /// A `channel`, where the words after its name are in its row.
 fn channel_command(alloc: Global, words: &[String]) -> Result<ChannelWords<'_>, WordFault>
     requires { list_all is_word (drop 1 (map string_bytes words.now)) ≡ true }
-    ensures asked { IfOk result (λ c. channel_words (drop 1 (map string_bytes words.now)) ≡ Some (Channel (channelled c))) }
+    ensures asked { IfOk result (λ c. channel_words (drop 1 (map string_bytes words.now)) ≡ Some (channelled c)) }
     ensures wrong { result ≡ Err WordFault.Wrong → channel_words (drop 1 (map string_bytes words.now)) ≡ None }
 {
     let matches = channel_matches(alloc, words)?;
     channel_matched(&matches).ok_or(WordFault::Wrong)
+}
+
+/// A `cascade`, where the words after its name are in its row.
+fn cascade_command(alloc: Global, words: &[String]) -> Result<CascadeWords<'_>, WordFault>
+    requires { list_all is_word (drop 1 (map string_bytes words.now)) ≡ true }
+    ensures asked { IfOk result (λ c. cascade_words (drop 1 (map string_bytes words.now)) ≡ Some (cascaded c)) }
+    ensures wrong { result ≡ Err WordFault.Wrong → cascade_words (drop 1 (map string_bytes words.now)) ≡ None }
+{
+    let ChannelWords { file, ssrc, out } = channel_command(alloc, words)?;
+    let conf = out;
+    Ok(CascadeWords { file, ssrc, conf })
 }
 
 /// A `version`, where no word follows its name.
@@ -251,8 +264,10 @@ fn named<'a>(alloc: Global, name: &str, words: &'a [String]) -> Result<Command<'
         "send" => Ok(Command::Send(send_command(alloc, words)?)),
         "mix" => Ok(Command::Mix(mix_command(alloc, words)?)),
         "attend" => Ok(Command::Attend(mix_command(alloc, words)?)),
+        "cascade" => Ok(Command::Cascade(cascade_command(alloc, words)?)),
         "make" => Ok(Command::Make(make_command(alloc, words)?)),
         "live" => Ok(Command::Live(mix_command(alloc, words)?)),
+        "watch" => Ok(Command::Watch(mix_command(alloc, words)?)),
         "relay" => Ok(Command::Relay(send_command(alloc, words)?)),
         "channel" => Ok(Command::Channel(channel_command(alloc, words)?)),
         "show" => Ok(Command::Show(list_command(alloc, words)?)),

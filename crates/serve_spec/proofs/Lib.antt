@@ -6,3 +6,4 @@ pub mod LinkLegs
 pub mod LinksStay
 pub mod Promised
 mod LiveExamples
+pub mod Watching

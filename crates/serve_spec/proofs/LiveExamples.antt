@@ -24,6 +24,7 @@ use Rattle.link_spec.specs.Links as link
 use Rattle.live_spec.specs.Told.{ready_by}
 use Rattle.live_spec.specs.Live.{AreLive, IsUpToDate, MayTurn, turns_free}
 use Rattle.serve_spec.specs.Served.{Closed, Done, End, IsDrained, IsServed, chunks_live, end_line, given_to, hearing_at, live_printed}
+use Rattle.serve_spec.specs.Watched.{board_line, board_lines}
 use Rattle.serve_spec.specs.HeadLive.{HeadLive}
 use Rattle.serve_spec.proofs.Promised.{head_law}
 
@@ -220,6 +221,11 @@ live_closed = record {
   drained = λ e. closed_drained;
   idle = λ e. closed_idle;
 }
+
+-- by `watch`, behind the same lines: of Ann one octet, of Bob none
+watch_closed : board_lines long (chunks_live long to_the_end) ≡ board_line ann 1 ++ (board_line bob 0 ++ [])
+unfolding is_utf8 chars encode_utf8 text_of text_of_short rtp rtp_of_header red headers_at texts_at
+watch_closed = refl
 
 -- so it keeps what is promised
 live_closed_keeps : HeadLive long to_the_end (to_bob (first ∷ second ∷ third ∷ [])) Closed (shows (codes "A") 3 Closed)

@@ -1,0 +1,29 @@
+-- What `watch` prints of a live call behind what the terminals show: how many octets of each leg's text the mixer took (profile).
+use Rattle.std.specs.Prelude.{◌≡◌, ℕ, List, ◌++◌, codes, decimal, flat_map}
+use Rattle.std.specs.List.{enumerate_from}
+use Rattle.stream_spec.specs.Ready.{Chunk}
+use Rattle.file_spec.specs.declared.conf_lines.LegLine.{LegLine}
+use Rattle.file_spec.specs.Conf.{Conf}
+use Rattle.mixer_spec.specs.Chunks.{octets}
+use Rattle.mixer_spec.specs.Table.{Table, chunks_taken}
+use Rattle.view_spec.specs.Views.{printed_line}
+use Rattle.link_spec.specs.Links.{Takes}
+use Rattle.serve_spec.specs.Served.{Closed, End, chunks_live, live_printed}
+
+-- the line of a leg, of which so many octets were taken
+abbrev pub board_line : LegLine → ℕ → List ℕ
+board_line leg total = printed_line (codes "-- board " ++ leg.name ++ codes " total " ++ decimal total)
+
+-- one for each leg, in leg order, where these chunks are those of each
+abbrev pub board_lines : Conf → (ℕ → List Chunk) → List ℕ
+board_lines c chunks = flat_map (λ x. board_line x.1 (octets (chunks x.0))) (enumerate_from 0 c.legs)
+
+-- what is printed
+abbrev pub watched_printed : Conf → (ℕ → List (List ℕ)) → (ℕ → List Chunk) → End → List ℕ
+watched_printed c given chunks end = live_printed c given end ++ board_lines c chunks
+
+-- The lines of a board, where the links gave this and the mixer came to this table: they count what the mixer took. At `Closed`
+-- that is all that is heard.
+pub record IsBoardOf (c : Conf) (takes : ℕ → Takes) (table : Table) (end : End) (lines : List ℕ) : Type 0 where
+  pub taken : lines ≡ board_lines c (λ j. chunks_taken (table.taken j))
+  pub whole : end ≡ Closed → lines ≡ board_lines c (chunks_live c takes)
