@@ -1,6 +1,6 @@
 -- A conference is mixed over the inputs that were opened.
 use Rattle.std.proofs.Common.{◌≡◌, ℕ, zero, suc, ◌<◌, Bool, true, false, Option, Some, None, List, [], ◌∷◌, length, Result, Ok, Err, refl, ap, sym, subst, ◌∙◌, inl, inr, arith}
-use Rattle.std.specs.Prelude.{IfErr, IfOk, IsSome, slice_get, unwrap_or}
+use Rattle.std.specs.Prelude.{IfErr, IfOk, IsSome, OnOk, slice_get, unwrap_or}
 use Rattle.std.proofs.lemmas.List.{length-map}
 use Rattle.rtt_io.specs.Counts.{Rose}
 use Rattle.rtpdump_io.specs.Reading.{is_of_source}
@@ -20,7 +20,7 @@ use Rattle.bridge_run.specs.declared.mixed.MixFault.TheVariants.{Open, Dump, Too
 use Rattle.bridge_run.specs.declared.mixed.Mixed.{Mixed}
 use Rattle.bridge_run.specs.Answered.{AreKept, IsOfLegs, MixesAsked, MixesTo, NoReadFailed, WasReadWell, asked_of}
 use Rattle.command_spec.specs.Inputs.{AllLie, inputs_under, octets_under}
-use Rattle.bridge_run.specs.Mixes.{IsMade, NoneFailed, RoseAt, Stops}
+use Rattle.bridge_run.specs.Mixes.{IsFirst, IsMade, NoneFailed, RoseAt, Stops}
 use Rattle.bridge_run.specs.Opened.{AllOpened, AllOver, AreCalm, EachSource, IsNotOpened, LeavesCount, ear_of}
 
 -- ---- lists
@@ -165,6 +165,19 @@ none_failed_yet Told contents before after objects objects_then legs legs' (Open
 none_failed_yet Told contents before after objects objects_then legs legs' (Dump k fault) r same = absurd r
 none_failed_yet Told contents before after objects objects_then legs legs' TooLong r same = absurd r
 none_failed_yet Told contents before after objects objects_then legs legs' NoMemory r same = tt
+
+-- all inputs were opened, and no call failed
+pub none_refused : (Told : Type 0) (held : Contents) (legs : List LegLine) (own own_then : List ℕ → ℕ) (n : ℕ) (result : Result Mixed MixFault) → IsOfLegs n result
+    → ((name : List ℕ) → own_then name ≡ own name) → IfErr result (IsFirst Told held legs own own_then)
+none_refused Told held legs own own_then n (Ok mixed) of same = tt
+none_refused Told held legs own own_then n (Err (Open leg)) of same = absurd of
+none_refused Told held legs own own_then n (Err (Dump leg fault)) of same = same
+none_refused Told held legs own own_then n (Err TooLong) of same = same
+none_refused Told held legs own own_then n (Err NoMemory) of same = tt
+
+pub on_ok : (result : Result Mixed MixFault) (P : Type 0) → P → OnOk result P
+on_ok (Ok mixed) P p = p
+on_ok (Err fault) P p = tt
 
 -- ---- sources that never fail
 never_rose : (old new : ℕ) → old ≡ 0 → new ≡ 0 → Rose old new → ⊥

@@ -9,6 +9,7 @@ use Rattle.bridge_run.specs.declared.mixed.MixFault.{MixFault}
 use Rattle.bridge_run.specs.declared.mixed.MixFault.TheVariants.{Open, Dump, TooLong, NoMemory}
 use Rattle.mixer_spec.specs.Setups.{leg_at}
 use Rattle.command_spec.specs.Mixing.{input_at}
+use Rattle.bridge_run.specs.Mixes.{IsFirst}
 use Rattle.bridge_run.specs.Opened.{AllOpened, AllOver, IsNotOpened, IsOpened, IsOver, IsRefused, LeavesCount}
 
 -- a count of faults that rose, behind others
@@ -116,6 +117,26 @@ module _ {S : Type 0} where
   not_opened tells left faults name_of contents wait limit j legs leg ps before now after last (Dump k fault) h l g b a r = r
   not_opened tells left faults name_of contents wait limit j legs leg ps before now after last TooLong h l g b a r = r
   not_opened tells left faults name_of contents wait limit j legs leg ps before now after last NoMemory h l g b a r = r
+
+-- the leg k can't be opened, and is the first; counts at first, before its call, behind it and last
+pub first_here : (tells : Type 0) (contents contents_now : List ℕ → Option (List ℕ)) (legs : List LegLine) (k : ℕ) (leg : LegLine) (before now after last : List ℕ → ℕ)
+    → leg_at legs k ≡ Some leg → (tells → (n : List ℕ) → contents_now n ≡ contents n)
+    → (tells → IsSome (contents_now leg.input) → (n : List ℕ) → n ≢ leg.input → after n ≡ now n)
+    → ((n : List ℕ) → now n ≡ before n) → ((n : List ℕ) → last n ≡ after n) → IsFirst tells contents legs before last (Open k)
+first_here tells contents contents_now legs k leg before now after last g same other b a = λ t line at some n differs.
+    let is : leg ≡ line = cc (g, at) in
+    let there : IsSome (contents_now leg.input) = subst (λ (o : Option (List ℕ)). IsSome o) (sym (same t leg.input)) (subst (λ (l : LegLine). IsSome (contents l.input)) (sym is) some) in
+    a n ∙ (other t there n (λ e. differs (e ∙ ap (λ (l : LegLine). l.input) is)) ∙ b n)
+
+pub is_first : (tells : Type 0) (contents contents_now : List ℕ → Option (List ℕ)) (legs : List LegLine) (j : ℕ) (leg : LegLine) (before now after last : List ℕ → ℕ) (fault : MixFault)
+    → leg_at legs j ≡ Some leg → IsRefused now after j leg fault → (tells → (n : List ℕ) → contents_now n ≡ contents n)
+    → (tells → IsSome (contents_now leg.input) → (n : List ℕ) → n ≢ leg.input → after n ≡ now n)
+    → ((n : List ℕ) → now n ≡ before n) → ((n : List ℕ) → last n ≡ after n) → IsFirst tells contents legs before last fault
+is_first tells contents contents_now legs j leg before now after last (Open k) g r same other b a =
+    first_here tells contents contents_now legs k leg before now after last (ap (λ (i : ℕ). leg_at legs i) r.0 ∙ g) same other b a
+is_first tells contents contents_now legs j leg before now after last (Dump k fault) g r same other b a = absurd r
+is_first tells contents contents_now legs j leg before now after last TooLong g r same other b a = absurd r
+is_first tells contents contents_now legs j leg before now after last NoMemory g r same other b a = tt
 
 -- the leg with this number
 pub leg_got : (legs : List LegLine) (k : ℕ) → leg_at legs k ≡ slice_get legs k

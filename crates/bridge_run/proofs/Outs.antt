@@ -6,7 +6,6 @@ use Rattle.std.proofs.lemmas.List.{append-nil}
 use Rattle.std.proofs.lemmas.List.Concat.{flat_map-append}
 use Rattle.wire_spec.specs.Dump.{dump_opening, dump_written, record_written}
 use Rattle.mixer_turn.specs.declared.batches.Post.{Post}
-use Rattle.mixer_posts.specs.Posts.{IsPost}
 use Rattle.bridge_run.specs.Logs.{AllOpen, HasSent, out_at, records_for, with_record}
 
 out_get : (xs : List (List ℕ)) (i : ℕ) (x : List ℕ) → i < length xs → x ≡ get_or xs i x → out_at xs i ≡ x
@@ -65,7 +64,7 @@ sent_one log new at p sent below has is j low =
           (set_other log p.terminal j more n ∙ (has j low_old ∙ ap dump_written (sym (append-nil (records_for j sent)))))
     ]
 
-pub sent_ok : {E : Type 0} (r : Result (Unit {0}) E) (log new : List (List ℕ)) (at : ℕ) (p : Post) → OnOk r (new ≡ with_record log p.terminal at p.packet)
-    → OnOk r (IsPost (length log) p → (sent : List (ℕ × Post)) → HasSent log sent → HasSent new ((at, p) ∷ sent))
-sent_ok (Ok x) log new at p is = λ post sent has. sent_one log new at p sent post.below has is
-sent_ok (Err x) log new at p is = tt
+pub sent_ok : {E : Type 0} (r : Result (Unit {0}) E) (log new : List (List ℕ)) (at : ℕ) (p : Post) → p.terminal < length log → OnOk r (new ≡ with_record log p.terminal at p.packet)
+    → OnOk r ((sent : List (ℕ × Post)) → HasSent log sent → HasSent new ((at, p) ∷ sent))
+sent_ok (Ok x) log new at p below is = λ sent has. sent_one log new at p sent below has is
+sent_ok (Err x) log new at p below is = tt

@@ -26,7 +26,7 @@ use Rattle.mixer_posts.specs.Standing.{AreBefore}
 use Rattle.mixer_turn.proofs.Recording.{AreRecords, IsShortRecord, mixer_records, record_of}
 use Rattle.rtpdump_io.specs.InMemory.{IsRecord}
 use Rattle.played.specs.Written.{IsWritten, IsWrittenOf}
-use Rattle.mixer_posts.specs.declared.mixers.Sending.{Sending}
+use Rattle.mixer_posts.specs.States.{SendingState}
 use Rattle.bridge_run.specs.Loggers.{RecordsFor}
 use Rattle.bridge_run.specs.Viewed.{AreSent}
 use Rattle.bridge_run.proofs.Answering.{leg_within, sent_at}
@@ -93,10 +93,10 @@ all_early (Turn now ∷ past) a = (a.0, all_early past a.1)
 
 -- ---- one terminal
 -- the mixer of a conference has come to this table, and what it sent is recorded
-abbrev pub HasMixed : Conf → Sending (List (List ℕ)) → Table → Type 0
-HasMixed c m table = At (Of (λ (m : Sending (List (List ℕ))) s pts calls. RecordsFor m s pts calls) (pts_at c)) m (setup c) table
+abbrev pub HasMixed : Conf → SendingState (List (List ℕ)) → Table → Type 0
+HasMixed c m table = At (Of (λ (m : SendingState (List (List ℕ))) s pts calls. RecordsFor m s pts calls) (pts_at c)) m (setup c) table
 
-module _ (c : Conf) (m : Sending (List (List ℕ))) (table : Table) (mixed : HasMixed c m table) where
+module _ (c : Conf) (m : SendingState (List (List ℕ))) (table : Table) (mixed : HasMixed c m table) where
   pub many : length m.outbound ≡ length c.legs
   many = mixed.made.all
 

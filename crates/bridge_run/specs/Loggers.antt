@@ -5,14 +5,14 @@ use Rattle.file_spec.specs.Conf.{Conf}
 use Rattle.mixer_spec.specs.Setups.{Setup, setup}
 use Rattle.mixer_spec.specs.Table.{Call}
 use Rattle.mixer_turn.specs.Making.{pts_at}
-use Rattle.mixer_posts.specs.declared.mixers.Sending.{Sending}
+use Rattle.mixer_posts.specs.States.{SendingState}
 use Rattle.mixer_posts.specs.Standing.{SendsFor}
 use Rattle.bridge_run.specs.Logs.{HasSent}
 
 -- These calls were made of it, each turn at a moment that a recording can hold, and the recordings have what they send.
-abbrev pub RecordsFor : Sending (List (List ℕ)) → Setup → (ℕ → Pts) → List Call → Type 0
+abbrev pub RecordsFor : SendingState (List (List ℕ)) → Setup → (ℕ → Pts) → List Call → Type 0
 RecordsFor m s pts calls = SendsFor HasSent (λ log. length log) (2 ^ 32) m s pts calls
 
 -- it is one for this conference, of which no call was made
-abbrev pub IsUncalled : Conf → Sending (List (List ℕ)) → Type 0
+abbrev pub IsUncalled : Conf → SendingState (List (List ℕ)) → Type 0
 IsUncalled c m = RecordsFor m (setup c) (pts_at c) []

@@ -1,5 +1,5 @@
 -- What mixing a conference comes to, from what lies under the names of its inputs. Legs are counted from 0.
-use Rattle.std.specs.Prelude.{◌≡◌, ℕ, ◌+◌, ◌<◌, false, true, None, Some, Result, Ok, Err, List, [], ◌∷◌}
+use Rattle.std.specs.Prelude.{◌≡◌, ◌≢◌, ℕ, ◌+◌, ◌<◌, false, true, None, Some, IsSome, Result, Ok, Err, List, [], ◌∷◌}
 use Rattle.wire_spec.specs.Dump.{dump}
 use Rattle.rtt_io.specs.Counts.{Rose}
 use Rattle.rtpdump_io.specs.declared.items.DumpFault.{DumpFault}
@@ -75,8 +75,24 @@ NoneFailed Told legs old new (Err (Dump number fault)) = Told → NoneFailedBelo
 NoneFailed Told legs old new (Err TooLong) = NoneFailedAtAll old new
 NoneFailed Told legs old new (Err NoMemory) = Unit {0}
 
+-- where something lies under this name, no call that opens another one failed: each other name has its old count
+abbrev pub NoOtherFailed : Contents → List ℕ → (List ℕ → ℕ) → (List ℕ → ℕ) → Type 0
+NoOtherFailed held input old new = IsSome (held input) → (name : List ℕ) → name ≢ input → new name ≡ old name
+
+-- The input that can't be opened is the first one: no call for another failed, as far as counts are told of each name. Where all
+-- are opened, no call failed. With no memory that is free.
+abbrev pub IsFirst : Type 0 → Contents → List LegLine → (List ℕ → ℕ) → (List ℕ → ℕ) → MixFault → Type 0
+IsFirst Told held legs old new (Open number) =
+    Told → (leg : LegLine) → leg_at legs number ≡ Some leg → NoOtherFailed held leg.input old new
+IsFirst Told held legs old new (Dump number fault) = NoneFailedAtAll old new
+IsFirst Told held legs old new TooLong = NoneFailedAtAll old new
+IsFirst Told held legs old new NoMemory = Unit {0}
+
 module _ {W : Type 0} where
   -- the same by the counts of a world, before and after
+  abbrev pub IsFirstIn : Type 0 → (W → Contents) → (W → List ℕ → ℕ) → W → W → List LegLine → MixFault → Type 0
+  IsFirstIn Told contents own old new legs fault = IsFirst Told (contents old) legs (own old) (own new) fault
+
   abbrev pub NoneFailedIn : Type 0 → (W → List ℕ → ℕ) → W → W → Conf → Result Mixed MixFault → Type 0
   NoneFailedIn Told objects old new c result = NoneFailed Told c.legs (objects old) (objects new) result
 

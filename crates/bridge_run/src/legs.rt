@@ -1,7 +1,8 @@
 //! The inputs of all legs.
-ghost use Rattle.std.specs.Prelude.{◌≡◌, ◌≤◌, ◌<◌, length, IfOk, IfErr, OnOk};
-ghost use Rattle.rtt_io.specs.Names.{NoneFalls, Same};
+ghost use Rattle.std.specs.Prelude.{◌≡◌, ◌≤◌, ◌<◌, length, IfOk, IfErr, OnOk, OnErr};
+ghost use Rattle.rtt_io.specs.Names.{CountsNoOther, NoneFalls, Same};
 ghost use Rattle.leg_items.specs.Answers.{source_in};
+ghost use Rattle.bridge_run.specs.Mixes.{IsFirstIn};
 ghost use Rattle.bridge_run.specs.Opened.{AreCalm, AreHeld, AreOpened, CountsLeft, FaultsRose, IsOpened, IsOver, Unopened, RefusedIn};
 ghost use Rattle.rtt_base.specs.declared.limits.TheConstants.{LONGEST_WAIT};
 ghost use Rattle.wire_spec.specs.declared.limits.TheConstants.{MOST_RECORDING_OCTETS};
@@ -58,6 +59,7 @@ fn open_leg<W: World>(
         (W.contents world.old) wait limit number leg.now) }
     ensures shown { W.tells → OnOk result W.Src.tells }
     ensures refused { IfErr result (RefusedIn W.own_faults world.old world.new number leg.now) }
+    ensures no_other { W.tells → OnErr result (CountsNoOther W.contents W.own_faults leg.now.input world.old world.new) }
     ensures own_never_falls { NoneFalls W.own_faults world.old world.new }
     ensures calm { OnOk result (Same W.own_faults world.old world.new) }
     ensures same_objects { Same W.object_faults world.old world.new }
@@ -92,6 +94,7 @@ pub(crate) fn open_legs<W: World>(
         (W.contents world.old) wait limit legs.now) }
     ensures shown { W.tells → OnOk result (0 < length legs.now → W.Src.tells) }
     ensures refused { IfErr result (Unopened W.tells W.contents W.own_faults world.old world.new legs.now) }
+    ensures first { IfErr result (IsFirstIn W.tells W.contents W.own_faults world.old world.new legs.now) }
     ensures own_never_falls { NoneFalls W.own_faults world.old world.new }
     ensures calm { OnOk result (Same W.own_faults world.old world.new) }
     ensures same_objects { Same W.object_faults world.old world.new }

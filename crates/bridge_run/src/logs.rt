@@ -38,13 +38,6 @@ impl Log {
         Ok(Log { outs })
     }
 
-    /// How many terminals there are.
-    fn terminals(&self) -> usize
-        ensures { result ≡ length self.now }
-    {
-        self.outs.len()
-    }
-
     /// Appends a packet of 1 to 65527 octets that is sent at `at` (milliseconds). After `NoMemory` all is as before.
     fn append(&mut self, terminal: usize, at: u32, packet: &[u8]) -> Result<(), NoMemory>
         requires terminal { terminal < length self.old }
@@ -84,9 +77,6 @@ impl Outbound for Log {
     ghost unsent = { λ log why. Unit {0} };
 
     fn send(&mut self, now: u64, post: &Post) -> Result<(), NoMemory> {
-        if post.packet.is_empty() || post.terminal >= self.terminals() {
-            return Ok(());
-        }
         self.append(post.terminal, now as u32, post.packet.as_slice())
     }
 

@@ -1,12 +1,12 @@
 //! A conference is mixed.
-ghost use Rattle.std.specs.Prelude.{◌≡◌, All, length, IfOk, IfErr};
+ghost use Rattle.std.specs.Prelude.{◌≡◌, All, length, IfOk, IfErr, OnOk};
 ghost use Rattle.rtt_io.specs.Names.{NoneFalls, Same};
 ghost use Rattle.mixer_spec.specs.Bridged.{input_limit};
 ghost use Rattle.conference.specs.Conferences.{conf_of};
 ghost use Rattle.leg_items.specs.Answers.{AllNew};
 ghost use Rattle.played.specs.Written.{IsWritten};
 ghost use Rattle.bridge_run.specs.Answered.{AreKept, HasOutputs, IsOfLegs, MixesAsked, MixesTo, NoReadFailed};
-ghost use Rattle.bridge_run.specs.Mixes.{IsMade, NoneFailedIn, StopsIn, counted};
+ghost use Rattle.bridge_run.specs.Mixes.{IsFirstIn, IsMade, NoneFailedIn, StopsIn, counted};
 ghost use Rattle.bridge_run.specs.Viewed.{AreSumsOf, AreViewsOf};
 
 use crate::legs::{close_legs, held_legs, open_legs};
@@ -161,6 +161,9 @@ pub fn mix<R: Threads + Wait + Sync, W: World, G: Gate + Sync>(
         world.old world.new (conf_of conf.now)) }
     ensures none_failed { NoneFailedIn W.tells W.object_faults
         world.old world.new (conf_of conf.now) result }
+    ensures first { IfErr result (IsFirstIn W.tells W.contents W.own_faults
+        world.old world.new conf.now.legs) }
+    ensures opened { OnOk result (Same W.own_faults world.old world.new) }
     ensures same_contents { W.tells → Same W.contents world.old world.new }
     ensures calls_never_fall { NoneFalls W.own_faults world.old world.new }
     ensures objects_never_fall { NoneFalls W.object_faults world.old world.new }

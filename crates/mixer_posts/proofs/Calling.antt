@@ -6,15 +6,15 @@ use Rattle.stream_spec.specs.Ready.{Chunk}
 use Rattle.mixer_spec.specs.Setups.{Setup}
 use Rattle.mixer_spec.specs.Table.{Call, Turn, after_calls, batch}
 use Rattle.mix_loop.specs.Items.{IsOf}
+use Rattle.mix_loop.specs.Mixers.{Keeps}
 use Rattle.mixer_turn.specs.declared.batches.Post.{Post}
 use Rattle.mixer_turn.specs.Allowed.{IsOffer}
 use Rattle.mixer_turn.specs.States.{State, legs_of}
 use Rattle.mixer_turn.specs.Standing.{Leads, StandsFor}
 use Rattle.mixer_turn.specs.Turns.{HasBatch, OfCalls, written}
-use Rattle.mixer_posts.specs.declared.mixers.Sending.{Sending}
-use Rattle.mixer_posts.specs.Posts.{ArePosts, TakesAll, sent_by, with_posts}
+use Rattle.mixer_posts.specs.States.{SendingState}
+use Rattle.mixer_posts.specs.Posts.{TakesAll, sent_by, with_posts}
 use Rattle.mixer_posts.specs.Standing.{SendsFor}
-use Rattle.mixer_posts.proofs.Posting.{are_posts}
 use Rattle.rtt_base.specs.declared.limits.TheConstants.{MOST_TEXT_OCTETS}
 
 pub ok_is : {E : Type 0} (r : Result (Unit {0}) E) (b : Bool) → (IsOk r ↔ (b ≡ true)) → is_ok r ≡ b
@@ -30,18 +30,21 @@ pub on_ok : {E : Type 0} (r : Result (Unit {0}) E) (P Q : Type 0) → (P → Q) 
 on_ok (Ok x) P Q f h = f h
 on_ok (Err x) P Q f h = tt
 
+-- as many legs and turns, and the same addresses
+abbrev pub KeepsAll : {O : Type 0} → (O → List ℕ) → SendingState O → SendingState O → Type 0
+KeepsAll {O} addresses old new = Keeps (λ (m : SendingState O). legs_of m.mixer) (λ (m : SendingState O). m.mixer.turns) (λ (m : SendingState O). addresses m.outbound) old new
+
 -- a turn was made, and what it sends was taken
-pub turn_sent : {O : Type 0} (took : O → List (ℕ × Post) → Type 0) (terminals : O → ℕ) (horizon now : ℕ) (old new : Sending O) (posts : List Post) → now < horizon
+pub turn_sent : {O : Type 0} (took : O → List (ℕ × Post) → Type 0) (terminals : O → ℕ) (horizon now : ℕ) (old new : SendingState O) (posts : List Post) → now < horizon
     → Leads old.mixer new.mixer (Turn now) → old.mixer.turns ≤ 4999999 → OfCalls old.mixer (λ s pts table. HasBatch s pts now table posts)
-    → TakesAll took terminals old.outbound new.outbound now posts → terminals new.outbound ≡ terminals old.outbound
+    → TakesAll took old.outbound new.outbound now posts → terminals new.outbound ≡ terminals old.outbound
     → (s : Setup) (pts : ℕ → Pts) (calls : List Call) → SendsFor took terminals horizon old s pts calls → SendsFor took terminals horizon new s pts (Turn now ∷ calls)
 turn_sent took terminals horizon now old new posts soon leads few has takes same s pts calls h =
     let table = after_calls s calls in
     let is : posts ≡ map (written pts) (batch s now table) = has s pts calls h.stands in
-    let all : ArePosts (terminals old.outbound) posts = subst (λ (x : ℕ × List Post). ArePosts x.0 x.1) (λ ι. (sym h.all ι, sym is ι)) (are_posts pts s now table) in
     record {
       stands = leads s pts calls h.stands h.stands.allowed;
-      sent = subst (λ (ps : List Post). took new.outbound (with_posts now ps (sent_by s pts calls))) is (takes all (sent_by s pts calls) h.sent);
+      sent = subst (λ (ps : List Post). took new.outbound (with_posts now ps (sent_by s pts calls))) is (takes (sent_by s pts calls) h.sent);
       all = same ∙ h.all;
       early = (soon, h.early);
       few = omega (arith, few, h.stands.turns);

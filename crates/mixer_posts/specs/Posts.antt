@@ -1,18 +1,10 @@
 -- The packets that a mixer sends, by the calls that were made of it (profile).
-use Rattle.std.specs.Prelude.{◌≡◌, ◌<◌, ℕ, Some, List, [], ◌∷◌, length, map, slice_get}
+use Rattle.std.specs.Prelude.{ℕ, List, [], ◌∷◌, map}
 use Rattle.rtt_base.specs.declared.text_packets.Pts.{Pts}
 use Rattle.mixer_spec.specs.Setups.{Setup}
 use Rattle.mixer_spec.specs.Table.{Call, Admit, Hush, Leave, Offer, Turn, after_calls, batch}
 use Rattle.mixer_turn.specs.declared.batches.Post.{Post}
 use Rattle.mixer_turn.specs.Turns.{written}
-
--- it goes to one of so many terminals, and has octets
-pub record IsPost (terminals : ℕ) (p : Post) : Type 0 where
-  pub below : p.terminal < terminals
-  pub some : 0 < length p.packet
-
-abbrev pub ArePosts : ℕ → List Post → Type 0
-ArePosts terminals posts = (k : ℕ) (p : Post) → slice_get posts k ≡ Some p → IsPost terminals p
 
 -- these packets, sent at this moment, behind what was sent before, newest first
 abbrev pub with_posts : ℕ → List Post → List (ℕ × Post) → List (ℕ × Post)
@@ -28,11 +20,11 @@ sent_by s pts (Leave i ∷ past) = sent_by s pts past
 sent_by s pts (Offer c ∷ past) = sent_by s pts past
 sent_by s pts (Turn now ∷ past) = with_posts now (map (written pts) (batch s now (after_calls s past))) (sent_by s pts past)
 
-module _ {O : Type 0} (took : O → List (ℕ × Post) → Type 0) (terminals : O → ℕ) where
-  -- a packet to one of its terminals was taken, behind what was sent before
+module _ {O : Type 0} (took : O → List (ℕ × Post) → Type 0) where
+  -- a packet was taken, behind what was sent before
   abbrev pub Takes : O → O → ℕ → Post → Type 0
-  Takes old new now p = IsPost (terminals old) p → (sent : List (ℕ × Post)) → took old sent → took new ((now, p) ∷ sent)
+  Takes old new now p = (sent : List (ℕ × Post)) → took old sent → took new ((now, p) ∷ sent)
 
-  -- packets of which each is to one of its terminals were taken
+  -- these packets were taken
   abbrev pub TakesAll : O → O → ℕ → List Post → Type 0
-  TakesAll old new now posts = ArePosts (terminals old) posts → (sent : List (ℕ × Post)) → took old sent → took new (with_posts now posts sent)
+  TakesAll old new now posts = (sent : List (ℕ × Post)) → took old sent → took new (with_posts now posts sent)

@@ -6,7 +6,7 @@ use Rattle.mixer_spec.specs.Table.{Call, Admit, Hush, Leave, Offer, Turn}
 use Rattle.mixer_spec.specs.Calls.{turns_made}
 use Rattle.mixer_turn.specs.declared.batches.Post.{Post}
 use Rattle.mixer_turn.specs.Standing.{StandsFor}
-use Rattle.mixer_posts.specs.declared.mixers.Sending.{Sending}
+use Rattle.mixer_posts.specs.States.{SendingState}
 use Rattle.mixer_posts.specs.Posts.{sent_by}
 
 -- each turn came before this moment
@@ -19,7 +19,7 @@ AreBefore moment (Offer c ∷ past) = AreBefore moment past
 AreBefore moment (Turn now ∷ past) = (now < moment) × AreBefore moment past
 
 -- These calls were made of it, no more turns than a conference has, and what they send was taken.
-pub record SendsFor {O : Type 0} (took : O → List (ℕ × Post) → Type 0) (terminals : O → ℕ) (horizon : ℕ) (m : Sending O) (s : Setup) (pts : ℕ → Pts) (calls : List Call) : Type 0 where
+pub record SendsFor {O : Type 0} (took : O → List (ℕ × Post) → Type 0) (terminals : O → ℕ) (horizon : ℕ) (m : SendingState O) (s : Setup) (pts : ℕ → Pts) (calls : List Call) : Type 0 where
   pub stands : StandsFor s pts m.mixer calls
   pub sent : took m.outbound (sent_by s pts calls)
   pub all : terminals m.outbound ≡ s.legs

@@ -1,23 +1,36 @@
 //! A mixer whose packets are sent.
 ghost use Rattle.std.specs.Prelude.{◌≡◌};
+ghost use Rattle.mixer_turn.specs.States.{legs_of};
 
 use crate::Outbound;
 use crate::sending::send_posts;
 use mix_loop::Mixes;
 use mixer_turn::{Batch, Mixer};
 use rtt_base::{Chunk, Full};
+use std::marker::Model;
 
 /// The mixer of a conference, with the packets of its last turn, and where they go.
 #[derive(Drop)]
-pub struct Sending<O> {
-    pub(crate) mixer: Mixer,
-    pub(crate) batch: Batch,
-    pub(crate) outbound: O,
+pub struct Sending<O: Outbound> {
+    mixer: Mixer,
+    batch: Batch,
+    outbound: O,
 }
 
-impl<O> Sending<O> {
-    /// This mixer, whose packets go there. The batch has room for those of a turn.
+impl<O: Outbound> Model for Sending<O> {
+    ghost use Rattle.mixer_posts.specs.States.{IsForEach, SendingState};
+
+    ghost Value = { SendingState O };
+
+    ghost view = { λ m. record { mixer = m.mixer; outbound = m.outbound } };
+
+    ghost invariant = { λ m. IsForEach O.terminals (record { mixer = m.mixer; outbound = m.outbound }) };
+}
+
+impl<O: Outbound> Sending<O> {
+    /// This mixer, whose packets go there, where there is a terminal for each leg. The batch has room for those of a turn.
     pub fn new(mixer: Mixer, batch: Batch, outbound: O) -> Sending<O>
+        requires { O.terminals outbound ≡ legs_of mixer }
         ensures mixer { result.mixer ≡ mixer }
         ensures outbound { result.outbound ≡ outbound }
     {

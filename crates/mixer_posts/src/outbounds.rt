@@ -1,6 +1,7 @@
 //! Where the packets of a mixer go.
 ghost use Rattle.std.specs.Prelude.{◌≡◌, ◌<◌, ◌≤◌, ◌^◌, ℕ, List, OnOk, IfErr};
 ghost use Rattle.mixer_turn.specs.declared.batches.Post.{Post};
+ghost use Rattle.mixer_turn.specs.Posts.{IsPost};
 ghost use Rattle.mixer_posts.specs.Posts.{Takes};
 
 use mixer_turn::Post;
@@ -27,8 +28,9 @@ pub trait Outbound {
 
     /// Takes a packet to one of the terminals, at the moment `now` (milliseconds).
     fn send(&mut self, now: u64, post: &Post) -> Result<(), Self::Fault>
-        requires { now < horizon }
-        ensures took { OnOk result (Takes took terminals self.old self.new now post.now) }
+        requires moment { now < horizon }
+        requires post { IsPost (terminals self.old) post.now }
+        ensures took { OnOk result (Takes took self.old self.new now post.now) }
         ensures unsent { IfErr result (unsent self.new) }
         ensures terminals { terminals self.new ≡ terminals self.old }
         ensures addresses { addresses self.new ≡ addresses self.old };

@@ -1,5 +1,6 @@
 //! The packets of a turn are sent.
 ghost use Rattle.std.specs.Prelude.{◌≡◌, ◌<◌, OnOk, IfErr};
+ghost use Rattle.mixer_turn.specs.Posts.{ArePosts};
 ghost use Rattle.mixer_posts.specs.Posts.{TakesAll};
 
 use crate::Outbound;
@@ -11,8 +12,9 @@ pub(crate) fn send_posts<O: Outbound>(
     posts: &[Post],
     outbound: &mut O,
 ) -> Result<(), O::Fault>
-    requires { now < O.horizon }
-    ensures took { OnOk result (TakesAll O.took O.terminals outbound.old outbound.new now posts.now) }
+    requires moment { now < O.horizon }
+    requires posts { ArePosts (O.terminals outbound.old) posts.now }
+    ensures took { OnOk result (TakesAll O.took outbound.old outbound.new now posts.now) }
     ensures unsent { IfErr result (O.unsent outbound.new) }
     ensures terminals { O.terminals outbound.new ≡ O.terminals outbound.old }
     ensures addresses { O.addresses outbound.new ≡ O.addresses outbound.old }

@@ -20,7 +20,7 @@ use Rattle.leg_items.specs.Answers.{read_well}
 use Rattle.bridge_run.specs.declared.mixed.MixFault.{MixFault}
 use Rattle.bridge_run.specs.declared.mixed.MixFault.TheVariants.{Open, Dump, TooLong, NoMemory}
 use Rattle.command_spec.specs.Inputs.{AllLie, LieBelow, NoneFailedBelow, inputs_under, octets_under}
-use Rattle.bridge_run.specs.Mixes.{NoneFailed, RoseAt, Stops}
+use Rattle.bridge_run.specs.Mixes.{IsFirst, NoneFailed, RoseAt, Stops}
 use Rattle.bridge_run.specs.Opened.{IsNotOpened}
 use Rattle.bridge_run.proofs.Opening.{is_there, pushed, rose_behind}
 use Rattle.bridge_run.proofs.Handing.{input_is}
@@ -204,6 +204,14 @@ module _ (held : Contents) (c : Conf) where
     none_failed (Dump k fault) r = r.others
     none_failed TooLong r = absurd r
     none_failed NoMemory r = absurd r
+
+-- all inputs were opened
+pub none_refused : (Told : Type 0) (own own_then objects objects_then : List ℕ → ℕ) (held then : Contents) (limit : ℕ) (legs lines : List LegLine) (fault : MixFault)
+    → AreUnheard Told objects objects_then then limit lines fault → ((n : List ℕ) → own_then n ≡ own n) → IsFirst Told held legs own own_then fault
+none_refused Told own own_then objects objects_then held then limit legs lines (Open k) u same = absurd u
+none_refused Told own own_then objects objects_then held then limit legs lines (Dump k fault) u same = same
+none_refused Told own own_then objects objects_then held then limit legs lines TooLong u same = absurd u
+none_refused Told own own_then objects objects_then held then limit legs lines NoMemory u same = absurd u
 
 pub not_too_long : (Told : Type 0) (held : Contents) (before after : List ℕ → ℕ) (legs : List LegLine) (fault : MixFault) → IsNotOpened Told held before after legs fault → fault ≢ TooLong
 not_too_long Told held before after legs (Open k) r e = cc e

@@ -6,7 +6,7 @@ ghost use Rattle.rtpdump_io.specs.Reading.{UnlessOfSource};
 ghost use Rattle.wire_spec.specs.declared.limits.TheConstants.{MOST_RECORDING_OCTETS};
 ghost use Rattle.file_spec.specs.declared.limits.TheConstants.{MOST_LEGS};
 ghost use Rattle.conference.specs.Conferences.{conf_of};
-ghost use Rattle.bridge_run.specs.Mixes.{StopsIn};
+ghost use Rattle.bridge_run.specs.Mixes.{IsFirstIn, StopsIn};
 ghost use Rattle.rtt_attend.specs.Heard.{Hears};
 ghost use Rattle.rtt_attend.specs.Opened.{AreInputs, FailedIn, HeardIn, UnheardIn};
 ghost use Rattle.rtt_attend.specs.Named.{AreTold, IsNamed, IsNamedSome, NoneFailedWith};
@@ -111,6 +111,8 @@ fn hear_all<W: World>(alloc: Global, conf: &Conf, world: &mut W) -> Result<Vec<S
     ensures in_time { IfErr result (λ fault. fault ≢ MixFault.TooLong) }
     ensures none_failed { IfErr result (NoneFailedWith W.tells W.object_faults
         world.old world.new (conf_of conf.now)) }
+    ensures first { IfErr result (IsFirstIn W.tells W.contents W.own_faults
+        world.old world.new conf.now.legs) }
     ensures calm { OnOk result (Same W.object_faults world.old world.new) }
     ensures opened { OnOk result (Same W.own_faults world.old world.new) }
     ensures same_contents { W.tells → Same W.contents world.old world.new }
@@ -141,6 +143,8 @@ pub fn hear_names<W: World>(alloc: Global, conf: &mut Conf, world: &mut W) -> Re
     ensures in_time { IfErr result (λ fault. fault ≢ MixFault.TooLong) }
     ensures none_failed { IfErr result (NoneFailedWith W.tells W.object_faults
         world.old world.new (conf_of conf.old)) }
+    ensures first { IfErr result (IsFirstIn W.tells W.contents W.own_faults
+        world.old world.new conf.old.legs) }
     ensures calm { OnOk result (Same W.object_faults world.old world.new) }
     ensures opened { OnOk result (Same W.own_faults world.old world.new) }
     ensures same_contents { W.tells → Same W.contents world.old world.new }

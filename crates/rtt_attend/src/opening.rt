@@ -2,6 +2,7 @@
 ghost use Rattle.std.specs.Prelude.{◌≡◌, ◌<◌, ◌≤◌, length, IfOk, IfErr, OnOk};
 ghost use Rattle.std.specs.Vec.Iter.{into_iter_items, into_iter_len};
 ghost use Rattle.rtt_io.specs.Names.{NoneFalls, Same};
+ghost use Rattle.bridge_run.specs.Mixes.{IsFirstIn};
 ghost use Rattle.bridge_run.specs.Opened.{Unopened};
 ghost use Rattle.file_spec.specs.declared.limits.TheConstants.{MOST_LEGS};
 ghost use Rattle.rtt_attend.specs.Opened.{AreFresh, AreInputs};
@@ -40,6 +41,7 @@ pub(crate) fn open_inputs<W: World>(
         (W.contents world.old) legs.now sources.items) }
     ensures shown { W.tells → OnOk result (0 < length legs.now → W.Src.tells) }
     ensures refused { IfErr result (Unopened W.tells W.contents W.own_faults world.old world.new legs.now) }
+    ensures first { IfErr result (IsFirstIn W.tells W.contents W.own_faults world.old world.new legs.now) }
     ensures own_never_falls { NoneFalls W.own_faults world.old world.new }
     ensures calm { OnOk result (Same W.own_faults world.old world.new) }
     ensures same_objects { Same W.object_faults world.old world.new }

@@ -3,7 +3,7 @@ use Rattle.std.proofs.lemmas.Option.{slice_get_read}
 use Rattle.std.proofs.lemmas.List.{length_push}
 use Rattle.leg_items.specs.declared.inlets.LegInlet.{LegInlet}
 use Rattle.bridge_run.specs.Opened.{AllOpened}
-use Rattle.bridge_run.proofs.Opening.{leg_got, not_opened, opened_more}
+use Rattle.bridge_run.proofs.Opening.{is_first, leg_got, not_opened, opened_more}
 use Rattle.bridge_run.proofs.legs.open_legs.Goals as goal
 
 pub returns-in-Err-clause-refused : goal.returns-in-Err-clause-refused
@@ -13,6 +13,14 @@ returns-in-Err-clause-refused g c =
     not_opened g.W.World.tells g.W.Src.Source.left g.W.Src.Source.faults g.W.Src.Source.name (g.W.World.contents c.args.world.now) c.args.wait c.args.limit c.loop-index.index legs c.index-legs-index.result c.loop-index.inlets.items
     (g.W.World.own_faults c.args.world.now) (g.W.World.own_faults c.loop-index.world) (g.W.World.own_faults c.open_leg.new.world) (g.W.World.own_faults c.close_legs.new.world) c.in-Err.fault
     c.loop-index.invariant.opened c.loop-index.invariant.count got c.loop-index.invariant.same_own c.close_legs.ensures.same_own c.in-Err.ensures.refused
+
+pub returns-in-Err-clause-first : goal.returns-in-Err-clause-first
+returns-in-Err-clause-first g c =
+    let legs = c.args.legs.now in
+    let got = leg_got legs c.loop-index.index ∙ slice_get_read legs (length legs) c.loop-index.index c.index-legs-index.result refl (omega (arith, c.loop-index-test.true)) c.index-legs-index.is in
+    is_first g.W.World.tells (g.W.World.contents c.args.world.now) (g.W.World.contents c.loop-index.world) legs c.loop-index.index c.index-legs-index.result
+    (g.W.World.own_faults c.args.world.now) (g.W.World.own_faults c.loop-index.world) (g.W.World.own_faults c.open_leg.new.world) (g.W.World.own_faults c.close_legs.new.world) c.in-Err.fault
+    got c.in-Err.ensures.refused c.loop-index.invariant.contents c.in-Err.ensures.no_other c.loop-index.invariant.same_own c.close_legs.ensures.same_own
 
 pub loop-index-preserved : goal.loop-index-preserved
 loop-index-preserved g c =

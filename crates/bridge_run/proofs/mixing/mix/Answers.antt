@@ -6,7 +6,7 @@ use Rattle.leg_items.specs.Answers.{source_in}
 use Rattle.bridge_run.specs.Answered.{MixesAsked}
 use Rattle.bridge_run.specs.Mixes.{RoseAt}
 use Rattle.bridge_run.specs.Opened.{AllOpened}
-use Rattle.bridge_run.proofs.Handing.{are_new, is_made, none_failed, none_failed_yet, stops}
+use Rattle.bridge_run.proofs.Handing.{are_new, is_made, none_failed, none_failed_yet, none_refused, on_ok, stops}
 use Rattle.bridge_run.proofs.mixing.mix.Goals as goal
 
 pub mix_opened-mixed-requires-clause-new : goal.mix_opened-mixed-requires-clause-new
@@ -72,3 +72,11 @@ returns-clause-calls_never_fall g c = λ n. omega (arith, c.in-Ok.ensures.own_ne
 
 pub returns-clause-objects_never_fall : goal.returns-clause-objects_never_fall
 returns-clause-objects_never_fall g c = λ n. omega (arith, c.in-Ok.ensures.same_objects n, c.close_legs.ensures.objects_never_fall n)
+
+pub returns-clause-first : goal.returns-clause-first
+returns-clause-first g c =
+    none_refused g.W.World.tells (g.W.World.contents c.args.world.now) c.args.conf.now.legs (g.W.World.own_faults c.args.world.now) (g.W.World.own_faults c.close_legs.new.world) (length c.args.conf.now.legs)
+    c.mix_opened-mixed.result.mixed c.mix_opened-mixed.ensures.leg (λ n. c.close_legs.ensures.same_own n ∙ c.in-Ok.ensures.calm n)
+
+pub returns-clause-opened : goal.returns-clause-opened
+returns-clause-opened g c = on_ok c.mix_opened-mixed.result.mixed _ (λ n. c.close_legs.ensures.same_own n ∙ c.in-Ok.ensures.calm n)

@@ -14,7 +14,7 @@ use Rattle.leg_items.specs.Answers.{IsReadWell}
 use Rattle.leg_items.proofs.OfConfs.{stays_law}
 use Rattle.leg_lanes.specs.Mixings.{CanMix}
 use Rattle.mixer_turn.specs.States.{legs_of}
-use Rattle.mixer_posts.specs.declared.mixers.Sending.{Sending}
+use Rattle.mixer_posts.specs.States.{SendingState}
 use Rattle.mixer_turn.specs.Making.{pts_at}
 use Rattle.played.specs.Written.{IsWritten}
 use Rattle.bridge_run.specs.declared.mixed.MixFault.TheVariants.{Dump, TooLong, NoMemory}
@@ -34,7 +34,7 @@ mix_legs-mixing-requires g c =
     let few = conf.kept.legs.most in
     let tick : c.from-tick.result ≤ 400 = (let k = conf.kept.tick in let e = c.from-tick.ensures in omega (arith, e, k.high)) in
     let turns : c.from-turns.result ≤ 5000000 = (let k = conf.kept.turns in let e = c.from-turns.ensures in omega (arith, e, k.high)) in
-    let can : CanMix {M = Sending (List (List ℕ))} (λ m. legs_of m.mixer) (λ m. m.mixer.turns) (2 ^ 32) c.args.legs c.as_slice-lines.result.now c.in-Ok.mixer c.from-tick.result c.from-turns.result =
+    let can : CanMix {M = SendingState (List (List ℕ))} (λ m. legs_of m.mixer) (λ m. m.mixer.turns) (2 ^ 32) c.args.legs c.as_slice-lines.result.now c.in-Ok.mixer c.from-tick.result c.from-turns.result =
     record {
       few = omega (arith, c.requires.legs, few, c.args.legs.ok.0);
       new = c.requires.new;

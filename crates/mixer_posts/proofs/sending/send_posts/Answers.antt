@@ -1,6 +1,12 @@
-use Rattle.std.proofs.Common.{◌∙◌}
-use Rattle.mixer_posts.proofs.Posting.{taken_more}
+use Rattle.std.proofs.Common.{◌∙◌, ℕ, subst, sym}
+use Rattle.mixer_turn.specs.Posts.{IsPost}
+use Rattle.mixer_posts.proofs.Posting.{is_post, taken_more}
 use Rattle.mixer_posts.proofs.sending.send_posts.Goals as goal
+
+pub send-requires-clause-post : goal.send-requires-clause-post
+send-requires-clause-post g c =
+    subst (λ (n : ℕ). IsPost n c.post-item.result) (sym c.loop-post.invariant.terminals)
+    (is_post (g.O.Outbound.terminals c.args.outbound.now) c.args.posts.now c.loop-post.post-index c.post-item.result c.loop-post-test.true c.post-item.is c.requires.posts)
 
 pub loop-post-preserved : goal.loop-post-preserved
 loop-post-preserved g c =
@@ -8,6 +14,6 @@ loop-post-preserved g c =
     record {
       terminals = c.send.ensures.terminals ∙ i.terminals;
       addresses = c.send.ensures.addresses ∙ i.addresses;
-      taken = taken_more g.O.Outbound.took g.O.Outbound.terminals c.args.now c.args.posts.now c.args.outbound.now c.loop-post.outbound c.send.new.self c.loop-post.post-index c.post-item.result c.loop-post-test.true c.post-item.is
-          i.terminals i.taken c.in-Ok.ensures.took;
+      taken = taken_more g.O.Outbound.took c.args.now c.args.posts.now c.args.outbound.now c.loop-post.outbound c.send.new.self c.loop-post.post-index c.post-item.result c.loop-post-test.true c.post-item.is
+          i.taken c.in-Ok.ensures.took;
     }

@@ -6,5 +6,5 @@ abbrev pub invariant-loop-post : goal.invariant-loop-post
 invariant-loop-post g l = record {
   terminals : g.O.Outbound.terminals l.outbound ≡ g.O.Outbound.terminals l.fn.outbound;
   addresses : g.O.Outbound.addresses l.outbound ≡ g.O.Outbound.addresses l.fn.outbound;
-  taken : Taken g.O.Outbound.took g.O.Outbound.terminals l.now l.posts l.post-index l.fn.outbound l.outbound;
+  taken : Taken g.O.Outbound.took l.now l.posts l.post-index l.fn.outbound l.outbound;
 }

@@ -6,12 +6,12 @@ use Rattle.command_spec.specs.Work.{Contents}
 use Rattle.conference.specs.Conferences.{conf_of}
 use Rattle.bridge_run.specs.declared.mixed.MixFault.{MixFault}
 use Rattle.command_spec.specs.Inputs.{AllLie}
-use Rattle.bridge_run.specs.Mixes.{NoneFailed, RoseAt, Stops}
+use Rattle.bridge_run.specs.Mixes.{IsFirst, NoneFailed, RoseAt, Stops}
 use Rattle.rtt_attend.specs.declared.said.Said.{Said}
 use Rattle.rtt_attend.specs.Opened.{AreHeard, AreUnheard}
 use Rattle.rtt_attend.specs.Named.{AreTold}
 use Rattle.rtt_attend.proofs.Lists.{both_ok, of_err, of_ok, same_function}
-use Rattle.rtt_attend.proofs.Legs.{are_told, lie_below, none_failed, stops, unheard_in}
+use Rattle.rtt_attend.proofs.Legs.{are_told, lie_below, none_failed, none_refused, stops, unheard_in}
 use Rattle.rtt_attend.proofs.hearing.hear_all.Goals as goal
 
 pub returns-clause-told : goal.returns-clause-told
@@ -70,4 +70,19 @@ returns-clause-none_failed g c =
     (subst (λ (n : ℕ). AreUnheard g.W.World.tells objects last held n conf.legs fault) c.input_limit-limit.ensures
     (subst (λ (l : List LegLine). AreUnheard g.W.World.tells objects last held limit l fault) c.as_slice-lines.ensures
     (unheard_in g.W.World.tells objects now last held then limit lines fault c.open_inputs.ensures.same_objects c.open_inputs.ensures.same_contents u))))
+    c.hear_inputs.ensures.unheard
+
+pub returns-clause-first : goal.returns-clause-first
+returns-clause-first g c =
+    let held = g.W.World.contents c.args.world.now in
+    let then = g.W.World.contents c.open_inputs.new.world in
+    let own = g.W.World.own_faults c.args.world.now in
+    let own_then = g.W.World.own_faults c.hear_inputs.new.world in
+    let now = g.W.World.object_faults c.open_inputs.new.world in
+    let last = g.W.World.object_faults c.hear_inputs.new.world in
+    let lines = c.as_slice-lines.result.now in
+    let limit = c.input_limit-limit.result in
+    of_err (λ (fault : MixFault). AreUnheard g.W.World.tells now last then limit lines fault) (λ (fault : MixFault). IsFirst g.W.World.tells held c.args.conf.now.legs own own_then fault) c.hear_inputs.result
+    (λ fault u. none_refused g.W.World.tells own own_then now last held then limit c.args.conf.now.legs lines fault u
+    (λ n. c.hear_inputs.ensures.same_own n ∙ c.in-Ok-open_inputs.ensures.calm n))
     c.hear_inputs.ensures.unheard

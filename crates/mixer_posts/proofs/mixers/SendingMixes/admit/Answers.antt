@@ -1,9 +1,22 @@
-use Rattle.std.proofs.Common.{refl}
+use Rattle.std.proofs.Common.{refl, subst, sym, ◌∙◌}
+use Rattle.mix_loop.specs.Mixers.{Admits}
+use Rattle.mixer_posts.specs.States.{SendingState}
+use Rattle.mixer_posts.specs.Standing.{SendsFor}
+use Rattle.mixer_posts.proofs.Calling.{KeepsAll}
 use Rattle.mixer_posts.proofs.mixers.SendingMixes.admit.Goals as goal
 
+pub invariant_of-self : goal.invariant_of-self
+invariant_of-self g c = c.self.invariant ∙ sym c.admit.ensures.legs
+
 pub returns-clause-admitted : goal.returns-clause-admitted
-returns-clause-admitted g c = λ s pts calls h may.
-    (record { stands = c.admit.ensures.stands s pts calls h.stands (may, h.stands.allowed); sent = h.sent; all = h.all; early = h.early; few = h.few }, c.admit.ensures.free s pts calls h.stands)
+returns-clause-admitted g c =
+    let new : SendingState g.row.O.Denot = record { mixer = c.admit.new.self; outbound = c.self.inside.outbound } in
+    subst (λ (m : SendingState g.row.O.Denot). Admits (SendsFor g.O.Outbound.took g.O.Outbound.terminals g.O.Outbound.horizon) m new c.args.leg c.args.listens c.admit.result) c.self.view_is
+    (λ s pts calls h may.
+    (record { stands = c.admit.ensures.stands s pts calls h.stands (may, h.stands.allowed); sent = h.sent; all = h.all; early = h.early; few = h.few }, c.admit.ensures.free s pts calls h.stands))
 
 pub returns-clause-keeps : goal.returns-clause-keeps
-returns-clause-keeps g c = record { legs = c.admit.ensures.legs; turns = c.admit.ensures.turns; addresses = refl }
+returns-clause-keeps g c =
+    let new : SendingState g.row.O.Denot = record { mixer = c.admit.new.self; outbound = c.self.inside.outbound } in
+    subst (λ (m : SendingState g.row.O.Denot). KeepsAll g.O.Outbound.addresses m new) c.self.view_is
+    (record { legs = c.admit.ensures.legs; turns = c.admit.ensures.turns; addresses = refl })
