@@ -38,14 +38,14 @@ module _ {I M : Type 0} (popped : I → List Item) (stands : M → Setup → (�
       let e = covered_end (hearing_at c j) (takes j) (popped p.inlet) w ends in
       record { closed = e.0; taken = sym texts ∙ e.1 }
 
-  all_drained : (c : Conf) (takes : ℕ → Takes) (pts : ℕ → Pts) (turns : ℕ) (ps : List (LivePort I)) (m : M) (given : ℕ → List (List ℕ)) (v : IsServing popped stands (setup c) pts turns ps m) → IsOfConf popped c v.calls ps takes given → AllClosed ps
+  pub all_drained : (c : Conf) (takes : ℕ → Takes) (pts : ℕ → Pts) (turns : ℕ) (ps : List (LivePort I)) (m : M) (given : ℕ → List (List ℕ)) (v : IsServing popped stands (setup c) pts turns ps m) → IsOfConf popped c v.calls ps takes given → AllClosed ps
       → (j : ℕ) → j < length c.legs → IsDrained c takes (after_calls (setup c) v.calls) j
   all_drained c takes pts turns ps m given v o closed j low =
       let legs = o.legs in
       let there = some_there ps j (omega (arith, low, legs)) in
       drained_at c takes v.calls j _ there.0 (v.at j there.0 there.1) (closed j there.0 there.1) (o.covers j there.0 there.1)
 
-  pub done_law : DoneIsServed popped stands
+  unfoldable pub done_law : DoneIsServed popped stands
   done_law c pts ps m takes given v o = record {
     table = after_calls (setup c) v.calls;
     turns = c.turns;
@@ -58,7 +58,7 @@ module _ {I M : Type 0} (popped : I → List Item) (stands : M → Setup → (�
     idle = λ e. absurd (cc e);
   }
 
-  pub closed_law : ClosedIsServed popped stands
+  unfoldable pub closed_law : ClosedIsServed popped stands
   closed_law c pts ps m takes given w o =
       let v = w.serving in
       record {

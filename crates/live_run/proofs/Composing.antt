@@ -1,16 +1,17 @@
 -- From turns that were made to a live call of the conference.
-use Rattle.std.proofs.Common.{◌≡◌, ◌<◌, ◌≤◌, ◌⊎◌, ◌^◌, ℕ, zero, suc, Bool, true, inl, inr, Some, List, [], ◌∷◌, ◌++◌, length, map, refl, ap, sym, ◌∙◌, subst, arith}
+use Rattle.std.proofs.Common.{◌≡◌, ◌<◌, ◌≤◌, ◌⊎◌, ◌^◌, ℕ, zero, suc, Bool, true, false, inl, inr, Some, List, [], ◌∷◌, ◌++◌, length, map, refl, ap, sym, ◌∙◌, subst, arith}
 use Rattle.std.specs.Prelude.{Option, slice_get}
 use Rattle.std.proofs.lemmas.List.{append-nil}
 use Rattle.std.proofs.lemmas.Option.{slice_get_within}
 use Rattle.rtt_base.specs.declared.text_packets.Pts.{Pts}
 use Rattle.rtt_io.specs.Counts.{Rose}
+use Rattle.stream_spec.specs.Ready.{Chunk}
 use Rattle.file_spec.specs.declared.conf_lines.LegLine.{LegLine}
 use Rattle.file_spec.specs.Conf.{Conf, port}
 use Rattle.mixer_spec.specs.Setups.{Setup, leg_at, setup, ssrc_of}
-use Rattle.mixer_spec.specs.Table.{Call}
+use Rattle.mixer_spec.specs.Table.{Call, Table, after_calls, chunks_taken}
 use Rattle.mixer_turn.specs.Making.{pts_at}
-use Rattle.mixer_posts.specs.declared.mixers.Sending.{Sending}
+use Rattle.mixer_posts.specs.States.{SendingState}
 use Rattle.mixer_posts.specs.Posts.{sent_by}
 use Rattle.ear.specs.Hears.{conf_of}
 use Rattle.link_spec.specs.Links.{Takes}
@@ -41,17 +42,20 @@ use Rattle.live_run.specs.declared.far_ends.FarEnds.{FarEnds}
 use Rattle.live_run.specs.declared.faults.LiveFault.{LiveFault}
 use Rattle.live_run.specs.declared.faults.LiveFault.TheVariants.{Link, NoMemory}
 use Rattle.live_run.specs.declared.calls.Called.{Called}
+use Rattle.live_run.specs.declared.tapped.Tapped.{Tapped}
 use Rattle.live_run.specs.Calls.{AreAtPorts, AtPorts, EndsAs, FailedAt, IsCallOf, IsCalled, IsOfLinks}
 use Rattle.live_run.specs.Ends.{IsUnsent, WereGiven, packets_to}
 use Rattle.live_run.specs.declared.running.Job.{Job}
 use Rattle.live_run.specs.declared.running.Ended.{Ended}
 use Rattle.live_run.specs.Jobs.{GaveFirst, RanAs, popped_in}
-use Rattle.live_run.specs.Mixers.{GivesFor, HasAll}
+use Rattle.live_run.specs.Mixers.{GivesFor, HasAll, all_admitted}
 use Rattle.live_run.specs.Listeners.{NoneHeard}
 use Rattle.live_run.specs.Opened.{AreUnused, OpenEnds, OpenLegs, ear_at, link_in}
+use Rattle.live_run.specs.Taps.{HasTaken, IsUnsentIn, ShowsAll, TellsFor, ended_with, taken_by}
 use Rattle.live_run.proofs.Failing.{fault_rose}
 use Rattle.live_run.proofs.Linking.{some_leg}
 use Rattle.live_run.proofs.Sent.{sent_law}
+use Rattle.live_run.proofs.Taking.{none_offered, of_leg}
 
 -- ---- lists
 pub leg_within : (legs : List LegLine) (j : ℕ) (line : LegLine) → leg_at legs j ≡ Some line → j < length legs
@@ -156,49 +160,68 @@ module _ {I G : Type 0} (i : ins.Ghosts I) (tells : Type 0) (opened : ℕ → Bo
       let o = are j first.0 first.1 line.0 line.1 in
       (back.0, back.1, subst (λ (n : ℕ). Rose n (i.faults back.0.link)) o.fresh (fault_rose i first.0 back.0 (popped_in p.inlet) (gave j p first.0 back.0 there first.1 back.1) fault))
 
-  -- ---- the whole, by the calls of the mixer
-  module _ {O : Type 0} (o : outs.Ghosts O) (tells_out : tells → (j : ℕ) → j < length c.legs → o.tells) (m : Sending (FarEnds O)) where
-    abbrev gives : Sending (FarEnds O) → Setup → (ℕ → Pts) → List Call → Type 0
-    gives = GivesFor o.tells o.given o.faults
+  -- ---- the whole, by the calls of the mixer, and of the tap that was told of it and then showed all
+  module _ {O T : Type 0} (o : outs.Ghosts O) (tells_out : tells → (j : ℕ) → j < length c.legs → o.tells) (stands : T → List Chunk → List Chunk → Type 0) (m : Tapped (SendingState (FarEnds O)) T) (tap : T) (shows : ShowsAll stands m.tap tap) where
+    abbrev gives : Tapped (SendingState (FarEnds O)) T → Setup → (ℕ → Pts) → List Call → Type 0
+    gives = TellsFor (GivesFor o.tells o.given o.faults) stands
 
-    is_call : (end : End) (calls : List Call) → gives m (setup c) (pts_at c) calls
-        → ((takes : ℕ → Takes) (given : ℕ → List (List ℕ)) → IsOfConf popped_in c calls ports takes given → IsServed c takes given end (live_printed c given end))
-        → IsCallOf i o tells c backs m.outbound.links.items m.outbound.listeners.items end
-    is_call end calls made serves =
+    abbrev far : FarEnds O
+    far = m.mixer.outbound
+
+    is_call : (end : End) (calls : List Call) → gives m (setup c) (pts_at c) calls → m.short ≡ false
+        → (serves : (takes : ℕ → Takes) (given : ℕ → List (List ℕ)) → IsOfConf popped_in c calls ports takes given → IsServed c takes given end (live_printed c given end))
+        → ((takes : ℕ → Takes) (given : ℕ → List (List ℕ)) (w : IsOfConf popped_in c calls ports takes given) → (serves takes given w).table ≡ after_calls (setup c) calls)
+        → IsCallOf i o (stands tap) tells c backs far.links.items far.listeners.items end
+    is_call end calls gave_all long serves leads =
+        let made = gave_all.made in
+        let has : HasTaken stands m.tap (taken_by (setup c) calls) = gave_all.told long in
         let takes : ℕ → Takes = pick [] took (length c.legs) took_at in
         let given : ℕ → List (List ℕ) = λ j. packets_to j (sent_by (setup c) (pts_at c) calls) in
         let sent = made.sent in
+        let w : IsOfConf popped_in c calls ports takes given = record {
+          legs = omega (arith, many, many_ports);
+          none = pick_none [] took (length c.legs) took_at;
+          covers = λ j p e. (pick_holds [] took (length c.legs) took_at j (let low = slice_get_within ports j p e in omega (arith, low, many, many_ports))).covering p e;
+          gave = λ j leg at. sent_law c calls j leg at;
+        } in
         record {
           takes = takes;
           given = given;
-          served = serves takes given (record {
-            legs = omega (arith, many, many_ports);
-            none = pick_none [] took (length c.legs) took_at;
-            covers = λ j p e. (pick_holds [] took (length c.legs) took_at j (let low = slice_get_within ports j p e in omega (arith, low, many, many_ports))).covering p e;
-            gave = λ j leg at. sent_law c calls j leg at;
-          });
-          many = sent.both ∙ made.all;
+          served = serves takes given w;
+          many = far.both ∙ made.all;
           heard = λ j l e. sent.heard j l e;
           taken = λ t j leg e. (pick_holds [] took (length c.legs) took_at j (let low = slice_get_within backs j leg e in omega (arith, low, many, many_backs))).taken t leg e;
           gave = λ t j link e.
-              let all : length m.outbound.links.items ≡ length c.legs = made.all in
-              (sent.gave j link e).1 (tells_out t j (let low = slice_get_within m.outbound.links.items j link e in omega (arith, low, all)));
+              let all : length far.links.items ≡ length c.legs = made.all in
+              (sent.gave j link e).1 (tells_out t j (let low = slice_get_within far.links.items j link e in omega (arith, low, all)));
+          chunks = taken_by (setup c) calls;
+          told = shows (taken_by (setup c) calls) has.0 has.1;
+          all_told = λ j. of_leg (setup c) j calls ∙ ap (λ (table : Table). chunks_taken (table.taken j)) (sym (leads takes given w));
         }
 
-    pub ends_as : (failed : (j : ℕ) (p : LivePort (Lane LegItem (LinkLeg I) G)) → slice_get ports j ≡ Some p → p.failed ≡ true → has_fault (popped_in p.inlet) ≡ true) (t : Turned LiveFault)
-        → RanTo popped_in t gives (setup c) (pts_at c) c.turns ports m → WasFaulted t ports → WasStopped (λ (x : Sending (FarEnds O)) (why : LiveFault). IsUnsent o.faults x.outbound why) t m
-        → EndsAs i o tells c backs m.outbound.links.items m.outbound.listeners.items t
-    ends_as failed Done v f s = is_call served.Done v.calls v.made (λ takes given w. done_law popped_in gives c (pts_at c) ports m takes given v w)
-    ends_as failed Closed v f s = is_call served.Closed v.serving.calls v.serving.made (λ takes given w. closed_law popped_in gives c (pts_at c) ports m takes given v w)
-    ends_as failed (Faulted j) v f s = fault_at j f.0 f.1 (failed j f.0 f.1 f.2)
-    ends_as failed (Stopped (Link j)) v f s = s
-    ends_as failed (Stopped NoMemory) v f s = tt
+    ends_as : (failed : (j : ℕ) (p : LivePort (Lane LegItem (LinkLeg I) G)) → slice_get ports j ≡ Some p → p.failed ≡ true → has_fault (popped_in p.inlet) ≡ true) (t : Turned LiveFault)
+        → RanTo popped_in t gives (setup c) (pts_at c) c.turns ports m → WasFaulted t ports → WasStopped (IsUnsentIn (λ (x : SendingState (FarEnds O)) (why : LiveFault). IsUnsent o.faults x.outbound why)) t m → m.short ≡ false
+        → EndsAs i o (stands tap) tells c backs far.links.items far.listeners.items t
+    unfolding done_law closed_law
+    ends_as failed Done v f s long = is_call served.Done v.calls v.made long (λ takes given w. done_law popped_in gives c (pts_at c) ports m takes given v w) (λ takes given w. refl)
+    ends_as failed Closed v f s long = is_call served.Closed v.serving.calls v.serving.made long (λ takes given w. closed_law popped_in gives c (pts_at c) ports m takes given v w) (λ takes given w. refl)
+    ends_as failed (Faulted j) v f s long = fault_at j f.0 f.1 (failed j f.0 f.1 f.2)
+    ends_as failed (Stopped (Link j)) v f s long = s
+    ends_as failed (Stopped NoMemory) v f s long = tt
+
+    -- or for want of memory, where the tap had none
+    pub ends_told : (failed : (j : ℕ) (p : LivePort (Lane LegItem (LinkLeg I) G)) → slice_get ports j ≡ Some p → p.failed ≡ true → has_fault (popped_in p.inlet) ≡ true) (t : Turned LiveFault) (short : Bool)
+        → m.short ≡ short
+        → RanTo popped_in t gives (setup c) (pts_at c) c.turns ports m → WasFaulted t ports → WasStopped (IsUnsentIn (λ (x : SendingState (FarEnds O)) (why : LiveFault). IsUnsent o.faults x.outbound why)) t m
+        → EndsAs i o (stands tap) tells c backs far.links.items far.listeners.items (ended_with short t)
+    ends_told failed t true is v f s = tt
+    ends_told failed t false is v f s = ends_as failed t v f s is
 
 -- ---- before the first turn
 -- nothing was given to ends that are unused, and their terminals heard nothing
-pub were_none : {O : Type 0} (tells : Type 0) (given : O → List (List ℕ)) (faults : O → ℕ) (far : FarEnds O) → length far.links.items ≤ 64 → length far.listeners.items ≡ length far.links.items
+pub were_none : {O : Type 0} (tells : Type 0) (given : O → List (List ℕ)) (faults : O → ℕ) (far : FarEnds O)
     → AreUnused given faults far.links.items → NoneHeard far.listeners.items → WereGiven tells given faults far []
-were_none tells given faults far few both unused none = record { few = few; both = both; gave = λ j link e. let u = unused j link e in (u.1, λ t. u.0); heard = λ j l e. none j l e }
+were_none tells given faults far unused none = record { gave = λ j link e. let u = unused j link e in (u.1, λ t. u.0); heard = λ j l e. none j l e }
 
 pub are_unused : {O : Type 0} (o : outs.Ghosts O) (tells : Type 0) (c : Conf) (ends : List O) → OpenEnds o tells c ends → length ends ≡ length c.legs → AreUnused o.given o.faults ends
 are_unused o tells c ends are many j end e =
@@ -223,9 +246,9 @@ module _ {O : Type 0} (o : outs.Ghosts O) (tells : Type 0) (c : Conf) (firsts ba
       (are j first.0 first.1 line at).at ∙ ap Some (sym one)
 
 -- ---- a call that did not begin
-pub not_called : {I O : Type 0} (i : ins.Ghosts I) (o : outs.Ghosts O) (tells : Type 0) (c : Conf) (opened : ℕ → Bool) (legs : List (LinkLeg I)) (links : List O) (called : Called I O) → OpenLegs i tells opened c legs → OpenEnds o tells c links
-    → length legs ≡ length c.legs → length links ≡ length c.legs → called.turned ≡ Stopped NoMemory → called.legs.items ≡ legs → called.ends.items ≡ links → IsCalled i o tells c opened called
-not_called i o tells c opened legs links called are_legs are_ends many many_ends turned is is_ends = record {
+pub not_called : {I O T : Type 0} (i : ins.Ghosts I) (o : outs.Ghosts O) (stands : List Chunk → List Chunk → Type 0) (tells : Type 0) (c : Conf) (opened : ℕ → Bool) (legs : List (LinkLeg I)) (links : List O) (called : Called I O T) → OpenLegs i tells opened c legs → OpenEnds o tells c links
+    → length legs ≡ length c.legs → length links ≡ length c.legs → called.turned ≡ Stopped NoMemory → called.legs.items ≡ legs → called.ends.items ≡ links → IsCalled i o stands tells c opened called
+not_called i o stands tells c opened legs links called are_legs are_ends many many_ends turned is is_ends = record {
   many_legs = ap (λ (xs : List (LinkLeg _)). length xs) is ∙ many;
   many_ends = ap (λ (xs : List _). length xs) is_ends ∙ many_ends;
   legs_at = λ j leg line there at. (are_legs j leg (ap (λ (xs : List (LinkLeg _)). slice_get xs j) (sym is) ∙ there) line at).at;
@@ -235,31 +258,42 @@ not_called i o tells c opened legs links called are_legs are_ends many many_ends
       let w = are_legs j first.0 first.1 line at in
       let same : i.port first.0.link ≡ p = cc (sym w.at ∙ e) in
       subst (λ (q : ℕ). opened q ≡ true) same (w.told t).2;
-  ended = subst (λ (t : Turned LiveFault). EndsAs i o tells c called.legs.items called.ends.items called.listeners.items t) (sym turned) tt;
+  ended = subst (λ (t : Turned LiveFault). EndsAs i o stands tells c called.legs.items called.ends.items called.listeners.items t) (sym turned) tt;
 }
 
 -- ---- a call that was made
-pub call_made : {I O W G : Type 0} (i : ins.Ghosts I) (o : outs.Ghosts O) (k : clocks.Ghosts W) (tells : Type 0) (c : Conf) (job : Job I (Sending (FarEnds O)) G) (before after : W) (ended : Ended I (Sending (FarEnds O))) (opened later : ℕ → Bool) (firsts : List O)
+-- the tap that took nothing, before the first turn
+pub tells_first : {M T : Type 0} (mixes : M → Setup → (ℕ → Pts) → List Call → Type 0) (stands : T → List Chunk → List Chunk → Type 0) (m : Tapped M T) (s : Setup) (pts : ℕ → Pts) (n : ℕ) → mixes m.mixer s pts (all_admitted n) → stands m.tap [] [] → TellsFor mixes stands m s pts (all_admitted n)
+tells_first mixes stands m s pts n made none = record { made = made; told = λ long. ([], subst (λ (took : List Chunk). stands m.tap took []) (sym (none_offered s n)) none) }
+
+pub call_made : {I O W G T : Type 0} (i : ins.Ghosts I) (o : outs.Ghosts O) (k : clocks.Ghosts W) (stands : T → List Chunk → List Chunk → Type 0) (tells : Type 0) (c : Conf) (job : Job I (Tapped (SendingState (FarEnds O)) T) G) (before after : W) (ended : Ended I (Tapped (SendingState (FarEnds O)) T)) (tap : T) (opened later : ℕ → Bool) (firsts : List O)
     → IsOfLinks c → OpenLegs i tells opened c job.legs.items → length job.legs.items ≡ length c.legs → OpenEnds o tells c firsts → length firsts ≡ length c.legs
-    → job.mixer.outbound.links.items ≡ firsts → HasAll o.tells o.given o.faults c job.mixer → job.turns ≡ c.turns → (tells → (p : ℕ) → later p ≡ opened p)
-    → RanAs i k (GivesFor o.tells o.given o.faults) (λ (m : Sending (FarEnds O)). map o.port m.outbound.links.items) (λ (m : Sending (FarEnds O)) (why : LiveFault). IsUnsent o.faults m.outbound why) job before after ended
-    → IsCalled i o tells c later (record { turned = ended.turned; legs = ended.legs; ends = ended.mixer.outbound.links; listeners = ended.mixer.outbound.listeners })
-call_made {I} {O} {W} {G} i o k tells c job before after ended opened later firsts links are many are_ends many_ends is all turns still ran =
+    → job.mixer.mixer.outbound.links.items ≡ firsts → HasAll o.tells o.given o.faults c job.mixer.mixer → stands job.mixer.tap [] [] → job.turns ≡ c.turns → (tells → (p : ℕ) → later p ≡ opened p)
+    → RanAs i k (TellsFor (GivesFor o.tells o.given o.faults) stands) (λ (m : Tapped (SendingState (FarEnds O)) T). map o.port m.mixer.outbound.links.items) (IsUnsentIn (λ (m : SendingState (FarEnds O)) (why : LiveFault). IsUnsent o.faults m.outbound why)) job before after ended
+    → ShowsAll stands ended.mixer.tap tap
+    → IsCalled i o (stands tap) tells c later (record { turned = ended_with ended.mixer.short ended.turned; legs = ended.legs; ends = ended.mixer.mixer.outbound.links; listeners = ended.mixer.mixer.outbound.listeners; tap = tap })
+call_made {I} {O} {W} {G} {T} i o k stands tells c job before after ended tap opened later firsts links are many are_ends many_ends is all none turns still ran shows =
     let m = ended.mixer in
     let legs = job.legs.items in
     let backs = ended.legs.items in
-    let gives : Sending (FarEnds O) → Setup → (ℕ → Pts) → List Call → Type 0 = GivesFor o.tells o.given o.faults in
-    let made : RanTo popped_in ended.turned gives (setup c) (pts_at c) c.turns ran.ports m = subst (λ (n : ℕ). RanTo popped_in ended.turned gives (setup c) (pts_at c) n ran.ports m) turns (ran.ran (setup c) (pts_at c) (sym many) links.stay all) in
-    let same : map o.port m.outbound.links.items ≡ map o.port firsts = ran.addresses_are ∙ ap (λ (xs : List O). map o.port xs) is in
+    let gives : Tapped (SendingState (FarEnds O)) T → Setup → (ℕ → Pts) → List Call → Type 0 = TellsFor (GivesFor o.tells o.given o.faults) stands in
+    let first : gives job.mixer (setup c) (pts_at c) (all_admitted (length c.legs)) = tells_first (GivesFor o.tells o.given o.faults) stands job.mixer (setup c) (pts_at c) (length c.legs) all none in
+    let made : RanTo popped_in ended.turned gives (setup c) (pts_at c) c.turns ran.ports m = subst (λ (n : ℕ). RanTo popped_in ended.turned gives (setup c) (pts_at c) n ran.ports m) turns (ran.ran (setup c) (pts_at c) (sym many) links.stay first) in
+    let same : map o.port m.mixer.outbound.links.items ≡ map o.port firsts = ran.addresses_are ∙ ap (λ (xs : List O). map o.port xs) is in
     let tells_out : tells → (j : ℕ) → j < length c.legs → o.tells = λ t j low.
     let line = some_leg c.legs j low in
     let end = some_there firsts j (omega (arith, low, many_ends)) in
     (are_ends j end.0 end.1 line.0 line.1).told t in
     record {
       many_legs = ran.many ∙ many;
-      many_ends = far_ends_many o tells c firsts m.outbound.links.items are_ends same ∙ many_ends;
+      many_ends = far_ends_many o tells c firsts m.mixer.outbound.links.items are_ends same ∙ many_ends;
       legs_at = backs_at i tells opened c legs backs ran.ports are many ran.each ran.many ran.legs;
-      ends_at = far_ends_at o tells c firsts m.outbound.links.items are_ends same;
+      ends_at = far_ends_at o tells c firsts m.mixer.outbound.links.items are_ends same;
       are_open = λ t j line p at e. still t p ∙ ports_open i tells opened c legs backs ran.ports are many ran.each ran.many ran.legs t j line p at e;
-      ended = ends_as i tells opened c legs backs ran.ports are many ran.each ran.many ran.legs o tells_out m ran.failed ended.turned made ran.faulted ran.stopped;
+      ended = ends_told i tells opened c legs backs ran.ports are many ran.each ran.many ran.legs o tells_out stands m tap shows ran.failed ended.turned m.short refl made ran.faulted ran.stopped;
     }
+
+-- all turns were made where the call ended so
+pub ended_done : (short : Bool) (t : Turned LiveFault) → ended_with short t ≡ Done → t ≡ Done
+ended_done true t e = absurd (cc e)
+ended_done false t e = e

@@ -1,5 +1,5 @@
 -- What was given to links.
-use Rattle.std.proofs.Common.{◌≡◌, ℕ, zero, suc, ◌<◌, inl, inr, Some, List, [], ◌∷◌, ◌++◌, length, get_or, refl, ap, sym, ◌∙◌, subst, arith}
+use Rattle.std.proofs.Common.{◌≡◌, ℕ, zero, suc, ◌<◌, ◌≤◌, inl, inr, Some, List, [], ◌∷◌, ◌++◌, length, get_or, refl, ap, sym, ◌∙◌, subst, arith}
 use Rattle.std.specs.Prelude.{map, slice_get, slice_set}
 use Rattle.std.proofs.lemmas.Bool.{cases_eq, eq-eqb, ne_eqb}
 use Rattle.std.proofs.lemmas.List.{append-nil}
@@ -59,10 +59,11 @@ module _ {O : Type 0} (tells : Type 0) (given : O → List (List ℕ)) (faults :
   pub given_one : (ends : FarEnds O) (now : ℕ) (p : Post) (link new_link : O) (l new_l : Listening) (a b : List ℕ)
       → p.terminal < length ends.links.items → p.terminal < length ends.listeners.items
       → link ≡ get_or ends.links.items p.terminal link → l ≡ get_or ends.listeners.items p.terminal l → a ≡ p.packet → b ≡ p.packet
+      → (few : length (with_item ends.links p.terminal new_link).items ≤ 64) → (both : length (with_item ends.listeners p.terminal new_l).items ≡ length (with_item ends.links p.terminal new_link).items)
       → faults new_link ≡ faults link → (tells → given new_link ≡ given link ++ a ∷ []) → HearsNext l b new_l
       → (sent : List (ℕ × Post)) → WereGiven tells given faults ends sent
-      → WereGiven tells given faults (record { links = with_item ends.links p.terminal new_link; listeners = with_item ends.listeners p.terminal new_l }) ((now, p) ∷ sent)
-  given_one ends now p link new_link l new_l a b low low_l is is_l ea eb calm told hears sent w =
+      → WereGiven tells given faults (record { links = with_item ends.links p.terminal new_link; listeners = with_item ends.listeners p.terminal new_l; few = few; both = both }) ((now, p) ∷ sent)
+  given_one ends now p link new_link l new_l a b low low_l is is_l ea eb few both calm told hears sent w =
       let k = p.terminal in
       let here = packets_here k now p sent refl in
       let old = w.gave k link (got ends.links.items k link link low is) in
@@ -72,8 +73,6 @@ module _ {O : Type 0} (tells : Type 0) (given : O → List (List ℕ)) (faults :
       subst (λ (xs : List (List ℕ)). HasHeard new_l xs) (ap (λ (q : List ℕ). packets_to k sent ++ q ∷ []) eb ∙ sym here)
       (hears (packets_to k sent) (w.heard k l (got ends.listeners.items k l l low_l is_l))) in
       record {
-        few = omega (arith, w.few, set_long ends.links.items k new_link);
-        both = set_long ends.listeners.items k new_l ∙ (w.both ∙ sym (set_long ends.links.items k new_link));
         gave = changed (λ j x. WasGiven tells given faults x (packets_to j sent)) (λ j x. WasGiven tells given faults x (packets_to j ((now, p) ∷ sent))) ends.links.items k new_link
             gave_one (λ j y n h. subst (λ (xs : List (List ℕ)). WasGiven tells given faults y xs) (sym (packets_else j now p sent n)) h) w.gave;
         heard = changed (λ j x. HasHeard x (packets_to j sent)) (λ j x. HasHeard x (packets_to j ((now, p) ∷ sent))) ends.listeners.items k new_l

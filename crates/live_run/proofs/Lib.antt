@@ -4,6 +4,7 @@ pub mod Giving
 pub mod Showing
 pub mod Sent
 pub mod Joining
+pub mod Taking
 pub mod Failing
 pub mod Closing
 pub mod Speaking

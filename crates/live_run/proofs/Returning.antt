@@ -1,8 +1,9 @@
 -- What a live call answers, when its links were handed back.
 use Rattle.std.proofs.Common.{◌≡◌, ◌<◌, ◌≤◌, ◌⊎◌, ℕ, zero, suc, Bool, true, inl, inr, Some, None, Ok, Err, List, length, refl, ap, sym, ◌∙◌, subst, arith}
-use Rattle.std.specs.Prelude.{IsSome, Option, Result, slice_get}
+use Rattle.std.specs.Prelude.{IfOk, IsSome, Option, Result, slice_get}
 use Rattle.std.proofs.lemmas.Option.{slice_get_within}
 use Rattle.rtt_io.specs.Counts.{Rose}
+use Rattle.stream_spec.specs.Ready.{Chunk}
 use Rattle.file_spec.specs.declared.conf_lines.LegLine.{LegLine}
 use Rattle.file_spec.specs.Conf.{Conf, port}
 use Rattle.mixer_spec.specs.Setups.{leg_at}
@@ -20,8 +21,9 @@ use Rattle.live_run.specs.declared.calls.Called.{Called}
 use Rattle.live_run.specs.declared.faults.LiveFault.{LiveFault}
 use Rattle.live_run.specs.declared.faults.LiveFault.TheVariants.{Link, NoMemory}
 use Rattle.live_run.specs.declared.reports.LiveEnd.{LiveEnd}
+use Rattle.live_run.specs.declared.reports.LiveReport.{LiveReport}
 use Rattle.live_run.specs.declared.reports.LiveEnd.TheVariants as ends
-use Rattle.live_run.specs.Calls.{AreAtPorts, AtPorts, EndsAs, FailedAt, IsCallOf, IsCalled, IsOfLinks, LinkFailed, WasGivenUp, WasServed, answer_of}
+use Rattle.live_run.specs.Calls.{AreAtPorts, AtPorts, EndsAs, FailedAt, IsCallOf, IsCalled, IsOfLinks, LinkFailed, WasGivenUp, WasServed, WasTapped, answer_of}
 use Rattle.live_run.specs.Listeners.{ArePrintedOf, Listening}
 use Rattle.live_run.specs.Opened.{AreStored, FaultsRose, HaveOwnPorts, IsNotOpened, link_in}
 use Rattle.live_run.specs.Reports.{end_of}
@@ -62,16 +64,16 @@ rose_since first before last l (inl r) = inl (omega (arith, l, r))
 rose_since first before last l (inr r) = inr r
 
 -- ---- what is answered
-ended_call : {I O : Type 0} (i : ins.Ghosts I) (o : outs.Ghosts O) (tells : Type 0) (c : Conf) (legs : List (LinkLeg I)) (links : List O) (listeners : List Listening) (t : Turned LiveFault) (end : LiveEnd)
-    → EndsAs i o tells c legs links listeners t → answer_of t ≡ Ok end → IsCallOf i o tells c legs links listeners (end_of end)
-ended_call i o tells c legs links listeners Done end w e =
+ended_call : {I O : Type 0} (i : ins.Ghosts I) (o : outs.Ghosts O) (stands : List Chunk → List Chunk → Type 0) (tells : Type 0) (c : Conf) (legs : List (LinkLeg I)) (links : List O) (listeners : List Listening) (t : Turned LiveFault) (end : LiveEnd)
+    → EndsAs i o stands tells c legs links listeners t → answer_of t ≡ Ok end → IsCallOf i o stands tells c legs links listeners (end_of end)
+ended_call i o stands tells c legs links listeners Done end w e =
     let same : ends.Done ≡ end = cc e in
-    subst (λ (x : LiveEnd). IsCallOf i o tells c legs links listeners (end_of x)) same w
-ended_call i o tells c legs links listeners Closed end w e =
+    subst (λ (x : LiveEnd). IsCallOf i o stands tells c legs links listeners (end_of x)) same w
+ended_call i o stands tells c legs links listeners Closed end w e =
     let same : ends.Closed ≡ end = cc e in
-    subst (λ (x : LiveEnd). IsCallOf i o tells c legs links listeners (end_of x)) same w
-ended_call i o tells c legs links listeners (Faulted j) end w e = absurd (cc e)
-ended_call i o tells c legs links listeners (Stopped why) end w e = absurd (cc e)
+    subst (λ (x : LiveEnd). IsCallOf i o stands tells c legs links listeners (end_of x)) same w
+ended_call i o stands tells c legs links listeners (Faulted j) end w e = absurd (cc e)
+ended_call i o stands tells c legs links listeners (Stopped why) end w e = absurd (cc e)
 
 pub done_turned : (t : Turned LiveFault) (end : LiveEnd) → answer_of t ≡ Ok end → end ≡ ends.Done → t ≡ Done
 done_turned Done end e d = refl
@@ -79,33 +81,43 @@ done_turned Closed end e d = absurd (cc (e, d))
 done_turned (Faulted j) end e d = absurd (cc e)
 done_turned (Stopped why) end e d = absurd (cc e)
 
-module _ {I O : Type 0} (i : ins.Ghosts I) (o : outs.Ghosts O) (tells : Type 0) (c : Conf) (opened : ℕ → Bool) (called : Called I O) (w : IsCalled i o tells c opened called) where
+-- what was printed of it
+prints_so : (c : Conf) (takes : ℕ → Takes) (given : ℕ → List (List ℕ)) (end : End) (printed : List ℕ) → IsServed c takes given end (live_printed c given end) → printed ≡ live_printed c given end → IsServed c takes given end printed
+prints_so c takes given end printed w is = record { table = w.table; turns = w.turns; live = w.live; few = w.few; gives = w.gives; prints = is; done = w.done; drained = w.drained; idle = w.idle }
+
+module _ {I O T : Type 0} (i : ins.Ghosts I) (o : outs.Ghosts O) (stands : List Chunk → List Chunk → Type 0) (tells : Type 0) (c : Conf) (opened : ℕ → Bool) (called : Called I O T) (w : IsCalled i o stands tells c opened called) where
   pub each_heard : (end : LiveEnd) → answer_of called.turned ≡ Ok end → length called.listeners.items ≡ length c.legs
-  each_heard end e = (ended_call i o tells c called.legs.items called.ends.items called.listeners.items called.turned end w.ended e).many
+  each_heard end e = (ended_call i o stands tells c called.legs.items called.ends.items called.listeners.items called.turned end w.ended e).many
 
   -- all ends were handed back
   module _ (links : IsOfLinks c) (taken_at : ℕ → Takes) (given_at : ℕ → List (List ℕ))
       (stored_legs : tells → AreStored (λ (leg : LinkLeg I). i.taken (link_in leg)) (λ (leg : LinkLeg I). i.port (link_in leg)) opened taken_at called.legs.items)
       (stored_ends : tells → AreStored o.given o.port opened given_at called.ends.items) where
-    pub was_served : (end : LiveEnd) (printed : List ℕ) → answer_of called.turned ≡ Ok end → ArePrintedOf c called.listeners.items (end_of end) printed → WasServed tells taken_at given_at c (end_of end) printed
+    pub was_served : (end : LiveEnd) (printed : List ℕ) → answer_of called.turned ≡ Ok end → ArePrintedOf c called.listeners.items (end_of end) printed → WasTapped stands tells taken_at given_at c (end_of end) printed
+    unfolding prints_so ended_call
     was_served end printed e shown =
-        let v = ended_call i o tells c called.legs.items called.ends.items called.listeners.items called.turned end w.ended e in
+        let v = ended_call i o stands tells c called.legs.items called.ends.items called.listeners.items called.turned end w.ended e in
         let is : printed ≡ live_printed c v.given (end_of end) = shown v.given v.heard in
-        let served : IsServed c v.takes v.given (end_of end) printed = subst (λ (xs : List ℕ). IsServed c v.takes v.given (end_of end) xs) (sym is) v.served in
+        let served : IsServed c v.takes v.given (end_of end) printed = prints_so c v.takes v.given (end_of end) printed v.served is in
         record {
-          takes = v.takes;
-          given = v.given;
-          served = served;
-          keeps = λ octets read. head_law octets c v.takes v.given (end_of end) printed read served;
-          taken = λ t. at_ports c links (λ (leg : LinkLeg I). i.port (link_in leg)) called.legs.items w.many_legs w.legs_at (λ (leg : LinkLeg I). i.taken (link_in leg)) opened taken_at v.takes (w.are_open t) (stored_legs t) (v.taken t);
-          gave = λ t. at_ports c links o.port called.ends.items w.many_ends w.ends_at o.given opened given_at v.given (w.are_open t) (stored_ends t) (v.gave t);
+          was = record {
+            takes = v.takes;
+            given = v.given;
+            served = served;
+            keeps = λ octets read. head_law octets c v.takes v.given (end_of end) printed read served;
+            taken = λ t. at_ports c links (λ (leg : LinkLeg I). i.port (link_in leg)) called.legs.items w.many_legs w.legs_at (λ (leg : LinkLeg I). i.taken (link_in leg)) opened taken_at v.takes (w.are_open t) (stored_legs t) (v.taken t);
+            gave = λ t. at_ports c links o.port called.ends.items w.many_ends w.ends_at o.given opened given_at v.given (w.are_open t) (stored_ends t) (v.gave t);
+          };
+          chunks = v.chunks;
+          told = v.told;
+          all_told = v.all_told;
         }
 
   -- where it was given up, the counts are the cause
   module _ (links : IsOfLinks c) (own own' ends_before ends_between ends_after : ℕ → ℕ) (never : (p : ℕ) → ends_before p ≤ ends_between p) (never_then : (p : ℕ) → ends_between p ≤ ends_after p)
       (rose_legs : FaultsRose (λ (leg : LinkLeg I). i.faults (link_in leg)) (λ (leg : LinkLeg I). i.port (link_in leg)) ends_before ends_between called.legs.items)
       (rose_ends : FaultsRose o.faults o.port ends_between ends_after called.ends.items) where
-    given_up_so : (t : Turned LiveFault) (fault : LiveFault) → EndsAs i o tells c called.legs.items called.ends.items called.listeners.items t → answer_of t ≡ Err fault → WasGivenUp own own' ends_before ends_after c fault
+    given_up_so : (t : Turned LiveFault) (fault : LiveFault) → EndsAs i o stands tells c called.legs.items called.ends.items called.listeners.items t → answer_of t ≡ Err fault → WasGivenUp own own' ends_before ends_after c fault
     given_up_so Done fault e q = absurd (cc q)
     given_up_so Closed fault e q = absurd (cc q)
     given_up_so (Faulted j) fault e q =
@@ -134,18 +146,24 @@ was_not_opened tells opened own own' ends_before ends_after c links (Link k) n =
 was_not_opened tells opened own own' ends_before ends_after c links NoMemory n = tt
 
 -- ---- by the calls that opened the links, made the call, and closed them
-module _ {I O : Type 0} (i : ins.Ghosts I) (o : outs.Ghosts O) (tells : Type 0) (c : Conf) (opened : ℕ → Bool) (called : Called I O) (w : IsCalled i o tells c opened called) (links : IsOfLinks c) where
+module _ {I O T : Type 0} (i : ins.Ghosts I) (o : outs.Ghosts O) (stands : List Chunk → List Chunk → Type 0) (tells : Type 0) (c : Conf) (opened : ℕ → Bool) (called : Called I O T) (w : IsCalled i o stands tells c opened called) (links : IsOfLinks c) where
   pub served_by : (open_then : ℕ → Bool) (taken_then taken_at : ℕ → Takes) (given_at : ℕ → List (List ℕ))
       → (tells → AreStored (λ (leg : LinkLeg I). i.taken (link_in leg)) (λ (leg : LinkLeg I). i.port (link_in leg)) opened taken_then called.legs.items)
       → (tells → (p : ℕ) → taken_at p ≡ taken_then p) → (tells → (p : ℕ) → open_then p ≡ opened p) → (tells → AreStored o.given o.port open_then given_at called.ends.items)
-      → (end : LiveEnd) (printed : List ℕ) → answer_of called.turned ≡ Ok end → ArePrintedOf c called.listeners.items (end_of end) printed → WasServed tells taken_at given_at c (end_of end) printed
+      → (end : LiveEnd) (printed : List ℕ) → answer_of called.turned ≡ Ok end → ArePrintedOf c called.listeners.items (end_of end) printed → WasTapped stands tells taken_at given_at c (end_of end) printed
   served_by open_then taken_then taken_at given_at legs same_taken same_open ends end printed e shown =
-      was_served i o tells c opened called w links taken_at given_at (λ t own j leg at is. same_taken t (i.port (link_in leg)) ∙ legs t own j leg at is)
+      was_served i o stands tells c opened called w links taken_at given_at (λ t own j leg at is. same_taken t (i.port (link_in leg)) ∙ legs t own j leg at is)
       (λ t own j link at is. ends t own j link at (same_open t (o.port link) ∙ is)) end printed e shown
 
   pub given_up_by : (own own' first at_call between last : ℕ → ℕ) → ((p : ℕ) → at_call p ≡ first p) → ((p : ℕ) → at_call p ≤ between p) → ((p : ℕ) → between p ≤ last p)
       → FaultsRose (λ (leg : LinkLeg I). i.faults (link_in leg)) (λ (leg : LinkLeg I). i.port (link_in leg)) at_call between called.legs.items → FaultsRose o.faults o.port between last called.ends.items
       → (fault : LiveFault) → answer_of called.turned ≡ Err fault → WasGivenUp own own' first last c fault
   given_up_by own own' first at_call between last same never never_then legs ends fault q =
-      was_given_up i o tells c opened called w links own own' first between last (λ p. let s = same p in let n = never p in omega (arith, s, n)) never_then
+      was_given_up i o stands tells c opened called w links own own' first between last (λ p. let s = same p in let n = never p in omega (arith, s, n)) never_then
       (λ j leg at r. subst (λ (n : ℕ). Rose n (between (i.port (link_in leg)))) (same (i.port (link_in leg))) (legs j leg at r)) ends fault q
+
+-- ---- of a tap that shows nothing
+pub as_served : (stands : List Chunk → List Chunk → Type 0) (tells : Type 0) (taken_at : ℕ → Takes) (given_at : ℕ → List (List ℕ)) (c : Conf) (result : Result LiveReport LiveFault)
+    → IfOk result (λ report. WasTapped stands tells taken_at given_at c (end_of report.end) report.views) → IfOk result (λ report. WasServed tells taken_at given_at c (end_of report.end) report.views)
+as_served stands tells taken_at given_at c (Ok report) w = w.was
+as_served stands tells taken_at given_at c (Err fault) w = w

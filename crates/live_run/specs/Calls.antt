@@ -1,10 +1,12 @@
 -- What a live call of a conference of links comes to: behind its last turn, and when its links were handed back.
 use Rattle.std.specs.Prelude.{◌≡◌, ◌⊎◌, ℕ, Bool, true, Some, Result, Ok, Err, List, length, slice_get}
 use Rattle.rtt_io.specs.Counts.{Rose}
+use Rattle.stream_spec.specs.Ready.{Chunk}
 use Rattle.file_spec.specs.declared.conf_lines.Form.TheVariants.{Links}
 use Rattle.file_spec.specs.declared.conf_lines.LegLine.{LegLine}
 use Rattle.file_spec.specs.Conf.{Conf, conf, port}
 use Rattle.mixer_spec.specs.Setups.{AllStay, leg_at, setup}
+use Rattle.mixer_spec.specs.Table.{Table, chunks_taken}
 use Rattle.link_spec.specs.Links.{Takes}
 use Rattle.link_io.specs.declared.ends.LinkIn as ins
 use Rattle.link_io.specs.declared.ends.LinkOut as outs
@@ -21,6 +23,7 @@ use Rattle.live_run.specs.declared.reports.LiveEnd.{LiveEnd}
 use Rattle.live_run.specs.declared.reports.LiveEnd.TheVariants as ends
 use Rattle.live_run.specs.Listeners.{HasHeard, Listening}
 use Rattle.live_run.specs.Opened.{HavePorts, link_in}
+use Rattle.live_run.specs.Taps.{chunks_of}
 
 -- ---- conferences
 -- no two legs have one port
@@ -51,9 +54,14 @@ FailedAt {X} faults xs j = (x : X) × (slice_get xs j ≡ Some x) × Rose 0 (fau
 abbrev pub AreAtPorts : {X : Type 0} → (X → ℕ) → Conf → List X → Type 0
 AreAtPorts {X} port_of c xs = (j : ℕ) (x : X) (line : LegLine) → slice_get xs j ≡ Some x → leg_at c.legs j ≡ Some line → port line.input ≡ Some (port_of x)
 
-module _ {I O : Type 0} (i : ins.Ghosts I) (o : outs.Ghosts O) (tells : Type 0) (c : Conf) where
+-- these chunks were taken, all legs' in order
+abbrev pub AreTaken : Table → List Chunk → Type 0
+AreTaken table chunks = (j : ℕ) → chunks_of j chunks ≡ chunks_taken (table.taken j)
+
+-- `stands` is what is known of the tap that took these chunks and shows those
+module _ {I O : Type 0} (i : ins.Ghosts I) (o : outs.Ghosts O) (stands : List Chunk → List Chunk → Type 0) (tells : Type 0) (c : Conf) where
   -- It is a live call of the conference: the legs' links gave this and were given that. Where the world tells it, that is what these
-  -- ends have taken and were given.
+  -- ends have taken and were given. The tap took what the mixer took, and shows it.
   pub record IsCallOf (legs : List (LinkLeg I)) (links : List O) (listeners : List Listening) (end : End) : Type 0 where
     pub takes : ℕ → Takes
     pub given : ℕ → List (List ℕ)
@@ -62,6 +70,9 @@ module _ {I O : Type 0} (i : ins.Ghosts I) (o : outs.Ghosts O) (tells : Type 0) 
     pub heard : (j : ℕ) (l : Listening) → slice_get listeners j ≡ Some l → HasHeard l (given j)
     pub taken : tells → (j : ℕ) (leg : LinkLeg I) → slice_get legs j ≡ Some leg → i.taken leg.link ≡ takes j
     pub gave : tells → (j : ℕ) (link : O) → slice_get links j ≡ Some link → o.given link ≡ given j
+    pub chunks : List Chunk
+    pub told : stands chunks chunks
+    pub all_told : AreTaken served.table chunks
 
   -- how it ended
   abbrev pub EndsAs : List (LinkLeg I) → List O → List Listening → Turned LiveFault → Type 0
@@ -72,7 +83,7 @@ module _ {I O : Type 0} (i : ins.Ghosts I) (o : outs.Ghosts O) (tells : Type 0) 
   EndsAs legs links listeners (Stopped NoMemory) = Unit {0}
 
   -- Each end of a link is that of its leg. Where the world tells it, links are open at their ports.
-  pub record IsCalled (opened : ℕ → Bool) (called : Called I O) : Type 0 where
+  pub record IsCalled {T : Type 0} (opened : ℕ → Bool) (called : Called I O T) : Type 0 where
     pub many_legs : length called.legs.items ≡ length c.legs
     pub many_ends : length called.ends.items ≡ length c.legs
     pub legs_at : AreAtPorts (λ (leg : LinkLeg I). i.port (link_in leg)) c called.legs.items
@@ -97,6 +108,13 @@ pub record WasServed (tells : Type 0) (taken_at : ℕ → Takes) (given_at : ℕ
   pub keeps : (octets : List ℕ) → conf Links octets ≡ Ok c → HeadLive c takes given end printed
   pub taken : tells → AtPorts c taken_at takes
   pub gave : tells → AtPorts c given_at given
+
+-- The same, where the tap took what the mixer took, and shows it.
+pub record WasTapped (stands : List Chunk → List Chunk → Type 0) (tells : Type 0) (taken_at : ℕ → Takes) (given_at : ℕ → List (List ℕ)) (c : Conf) (end : End) (printed : List ℕ) : Type 0 where
+  pub was : WasServed tells taken_at given_at c end printed
+  pub chunks : List Chunk
+  pub told : stands chunks chunks
+  pub all_told : AreTaken was.served.table chunks
 
 -- The link of the leg j failed: a count of its port rose, of the calls that open it or of its ends.
 pub record LinkFailed (own own' ends ends' : ℕ → ℕ) (c : Conf) (j : ℕ) : Type 0 where

@@ -19,8 +19,6 @@ module _ {O : Type 0} (tells : Type 0) (given : O → List (List ℕ)) (faults :
 
   -- Of these posts, newest first, the link of each terminal was given those to it, and the terminal heard them.
   pub record WereGiven (ends : FarEnds O) (sent : List (ℕ × Post)) : Type 0 where
-    pub few : length ends.links.items ≤ 64
-    pub both : length ends.listeners.items ≡ length ends.links.items
     pub gave : (j : ℕ) (link : O) → slice_get ends.links.items j ≡ Some link → WasGiven link (packets_to j sent)
     pub heard : (j : ℕ) (l : Listening) → slice_get ends.listeners.items j ≡ Some l → HasHeard l (packets_to j sent)
 

@@ -5,6 +5,7 @@ pub mod Mixers
 pub mod Reports
 pub mod Sent
 pub mod Jobs
+pub mod Taps
 pub mod Rooms
 pub mod Opened
 pub mod Calls

@@ -5,7 +5,7 @@ use Rattle.file_spec.specs.Conf.{Conf}
 use Rattle.mixer_spec.specs.Setups.{Setup, setup}
 use Rattle.mixer_spec.specs.Table.{Call, Admit, after_calls, is_seated}
 use Rattle.mixer_turn.specs.Making.{pts_at}
-use Rattle.mixer_posts.specs.declared.mixers.Sending.{Sending}
+use Rattle.mixer_posts.specs.States.{SendingState}
 use Rattle.mixer_posts.specs.Standing.{SendsFor}
 use Rattle.live_run.specs.declared.far_ends.FarEnds.{FarEnds}
 use Rattle.live_run.specs.Ends.{WereGiven}
@@ -17,11 +17,11 @@ all_admitted (suc n) = Admit n true ∷ all_admitted n
 
 module _ {O : Type 0} (tells : Type 0) (given : O → List (List ℕ)) (faults : O → ℕ) where
   -- These calls were made of it, and the links were given what they send.
-  abbrev pub GivesFor : Sending (FarEnds O) → Setup → (ℕ → Pts) → List Call → Type 0
+  abbrev pub GivesFor : SendingState (FarEnds O) → Setup → (ℕ → Pts) → List Call → Type 0
   GivesFor m s pts calls = SendsFor (λ ends sent. WereGiven tells given faults ends sent) (λ ends. length ends.links.items) (2 ^ 47) m s pts calls
 
   -- it is one for this conference, all of whose legs came
-  abbrev pub HasAll : Conf → Sending (FarEnds O) → Type 0
+  abbrev pub HasAll : Conf → SendingState (FarEnds O) → Type 0
   HasAll c m = GivesFor m (setup c) (pts_at c) (all_admitted (length c.legs))
 
 -- each leg holds a place then

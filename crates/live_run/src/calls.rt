@@ -1,5 +1,5 @@
 //! A live call of a conference whose links are opened.
-ghost use Rattle.std.specs.Prelude.{◌≡◌, length, IfOk, IfErr};
+ghost use Rattle.std.specs.Prelude.{◌≡◌, [], length, IfOk, IfErr};
 ghost use Rattle.link_io.specs.Ports.{Same};
 ghost use Rattle.conference.specs.Conferences.{conf_of};
 ghost use Rattle.mixer_spec.specs.Setups.{AllStay, setup};
@@ -13,7 +13,8 @@ use crate::listeners::listeners_of;
 use crate::opening::Opened;
 use crate::rooms::CallRoom;
 use crate::running::{Ended, Job, run_job};
-use crate::{FarEnds, Listener, LiveFault, live_mixer};
+use crate::tapped::{Tapped, Told};
+use crate::{FarEnds, Listener, LiveFault, Tap, live_mixer};
 use conference::Conf;
 use item_lanes::LentGate;
 use link_io::{LinkOut, Links};
@@ -26,16 +27,18 @@ use std::sync::atomic::AtomicBool;
 use std::sync::{Arc, Wait};
 use std::thread::Threads;
 
-/// A call behind its last turn: how its turns ended, both ends of its links, and the terminals that heard what was given.
-pub(crate) struct Called<I, O> {
+/// A call behind its last turn: how its turns ended, both ends of its links, the terminals that heard what was given, and the tap
+/// that was told of it.
+pub(crate) struct Called<I, O, T> {
     pub(crate) turned: Turned<LiveFault>,
     pub(crate) legs: Vec<LinkLeg<I>>,
     pub(crate) ends: Vec<O>,
     pub(crate) listeners: Vec<Listener>,
+    pub(crate) tap: T,
 }
 
 /// A call that did not begin, for want of memory.
-fn not_begun<I, O>(alloc: Global, legs: Vec<LinkLeg<I>>, ends: Vec<O>) -> Called<I, O>
+fn not_begun<I, O, T>(alloc: Global, legs: Vec<LinkLeg<I>>, ends: Vec<O>, tap: T) -> Called<I, O, T>
     ensures turned { result.turned ≡ Turned.Stopped LiveFault.NoMemory }
     ensures legs { result.legs ≡ legs }
     ensures ends { result.ends ≡ ends }
@@ -45,6 +48,7 @@ fn not_begun<I, O>(alloc: Global, legs: Vec<LinkLeg<I>>, ends: Vec<O>) -> Called
         legs,
         ends,
         listeners: Vec::new(alloc),
+        tap,
     }
 }
 
@@ -83,8 +87,8 @@ fn mixer_over<O: LinkOut>(
     }
 }
 
-/// Makes the call, and gives the ends of its links back, whatever happens.
-pub(crate) fn call<W: Links, R: Threads + Wait, G: Gate>(
+/// Makes the call, of which the tap is told, and gives the ends of its links and the tap back, whatever happens.
+pub(crate) fn call<W: Links, R: Threads + Wait, G: Gate, T: Tap>(
     rt: &R,
     alloc: Global,
     conf: &Conf,
@@ -92,26 +96,28 @@ pub(crate) fn call<W: Links, R: Threads + Wait, G: Gate>(
     stop: Arc<AtomicBool, Global>,
     world: &mut W,
     gate: &G,
-) -> Called<W::In, W::Out>
+    tap: T,
+) -> Called<W::In, W::Out, T>
     requires links { IsOfLinks (conf_of conf.now) }
     requires each_leg { length opened.legs.items ≡ length conf.now.legs }
     requires each_end { length opened.ends.items ≡ length conf.now.legs }
     requires legs { OpenLegs W.In.LinkIn W.tells (W.opened world.old) (conf_of conf.now) opened.legs.items }
     requires ends { OpenEnds W.Out.LinkOut W.tells (conf_of conf.now) opened.ends.items }
-    ensures called { IsCalled W.In.LinkIn W.Out.LinkOut W.tells (conf_of conf.now) (W.opened world.new) result }
+    requires told { T.stands tap [] [] }
+    ensures called { IsCalled W.In.LinkIn W.Out.LinkOut (T.stands result.tap) W.tells (conf_of conf.now) (W.opened world.new) result }
     ensures paused { result.turned ≡ Turned.Done → IsPaused conf.now.turns (W.pauses world.old) (W.pauses world.new) }
     ensures same_own { Same W.own_faults world.old world.new }
     ensures same_objects { Same W.object_faults world.old world.new }
 {
     let Opened { legs, ends } = opened;
     let Ok(room) = CallRoom::new(alloc, legs.len()) else {
-        return not_begun(alloc, legs, ends);
+        return not_begun(alloc, legs, ends, tap);
     };
     let mixer = match mixer_over(alloc, conf, ends) {
         Ok(mixer) => mixer,
         Err(ends) => {
             room.discard();
-            return not_begun(alloc, legs, ends);
+            return not_begun(alloc, legs, ends, tap);
         }
     };
     let CallRoom {
@@ -119,12 +125,13 @@ pub(crate) fn call<W: Links, R: Threads + Wait, G: Gate>(
         ports,
         joined,
     } = room;
+    let tapped = Tapped::new(mixer, tap);
     let job = Job {
         legs,
         lanes,
         ports,
         joined,
-        mixer,
+        mixer: tapped,
         stop,
         tick: u64::from(conf.tick),
         turns: u64::from(conf.turns),
@@ -134,11 +141,13 @@ pub(crate) fn call<W: Links, R: Threads + Wait, G: Gate>(
         legs,
         mixer,
     } = run_job(rt, LentGate { gate }, job, world);
+    let Told { turned, mixer, tap } = mixer.finish(turned);
     let FarEnds { links, listeners } = mixer.into_outbound();
     Called {
         turned,
         legs,
         ends: links,
         listeners,
+        tap,
     }
 }

@@ -1,6 +1,5 @@
 //! Where the packets to the terminals of a live call go.
-ghost use Rattle.std.specs.Prelude.{◌≡◌, [], IfOk};
-ghost use Rattle.live_run.specs.Listeners.{HasHeard};
+ghost use Rattle.std.specs.Prelude.{◌≡◌, ◌≤◌, length};
 
 use crate::{Listener, LiveFault};
 use link_io::LinkOut;
@@ -12,11 +11,13 @@ use rtt_base::NoMemory;
 pub struct FarEnds<O> {
     pub(crate) links: Vec<O>,
     pub(crate) listeners: Vec<Listener>,
+    ghost few: { length links.items ≤ 64 },
+    ghost both: { length listeners.items ≡ length links.items },
 }
 
 impl<O: LinkOut> Outbound for FarEnds<O> {
     ghost use Rattle.std.proofs.Common.{rules};
-    ghost use Rattle.std.specs.Prelude.{◌^◌, length, map};
+    ghost use Rattle.std.specs.Prelude.{◌^◌, map};
     ghost use Rattle.live_run.specs.Ends.{WereGiven, IsUnsent};
 
     type Fault = LiveFault;
@@ -32,12 +33,7 @@ impl<O: LinkOut> Outbound for FarEnds<O> {
     ghost unsent = { λ ends why. IsUnsent O.faults ends why };
 
     fn send(&mut self, _now: u64, post: &Post) -> Result<(), LiveFault> {
-        if post.terminal >= self.links.len() || post.terminal >= self.listeners.len() {
-            return Ok(());
-        }
-        let Ok(leg) = u8::try_from(post.terminal) else {
-            return Ok(());
-        };
+        let leg = post.terminal as u8;
         let link = &mut self.links[post.terminal];
         let Ok(()) = link.give(post.packet.as_slice()) else {
             return Err(LiveFault::Link { leg });

@@ -13,6 +13,8 @@ mod rooms;
 mod running;
 mod serving;
 mod speakers;
+mod tapped;
+mod taps;
 mod views;
 
 pub use far_ends::FarEnds;
@@ -21,7 +23,8 @@ pub use laws::{links_are_apart, sent_is_given};
 pub use listeners::Listener;
 pub use mixers::live_mixer;
 pub use reports::{LiveEnd, LiveReport};
-pub use serving::serve;
+pub use serving::{serve, serve_tapped};
+pub use taps::{NoTap, Tap};
 pub use views::printed;
 
 #[cfg(test)]

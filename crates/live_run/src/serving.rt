@@ -1,14 +1,14 @@
 //! A live call is served.
-ghost use Rattle.std.specs.Prelude.{◌≡◌, length, IfOk, IfErr, OnOk};
+ghost use Rattle.std.specs.Prelude.{◌≡◌, [], length, IfOk, IfErr, OnOk};
 ghost use Rattle.link_io.specs.Ports.{NoneFalls, Same};
 ghost use Rattle.conference.specs.Conferences.{conf_of};
 ghost use Rattle.live_loop.specs.Walks.{IsPaused};
-ghost use Rattle.live_run.specs.Calls.{IsOfLinks, WasGivenUp, WasServed, answer_of};
+ghost use Rattle.live_run.specs.Calls.{IsOfLinks, WasGivenUp, WasServed, WasTapped, answer_of};
 ghost use Rattle.live_run.specs.Reports.{end_of};
 
 use crate::calls::{Called, call};
 use crate::opening::{close_ends, close_legs, open_links};
-use crate::{LiveEnd, LiveFault, LiveReport, printed};
+use crate::{LiveEnd, LiveFault, LiveReport, NoTap, Tap, printed};
 use conference::Conf;
 use link_io::Links;
 use live_loop::Turned;
@@ -52,27 +52,54 @@ pub fn serve<R: Threads + Wait + Sync, W: Links, G: Gate + Sync>(
     ensures own_never_falls { NoneFalls W.own_faults world.old world.new }
     ensures objects_never_fall { NoneFalls W.object_faults world.old world.new }
 {
+    let (served, NoTap) = serve_tapped(rt, alloc, conf, world, gate, NoTap);
+    served
+}
+
+/// The same, of which a tap is told: of each chunk that the mixer took, in order, of each turn, and once more at the end. The tap,
+/// which was told nothing before, is handed back. Where it has no memory for a chunk, that ends the call.
+pub fn serve_tapped<R: Threads + Wait + Sync, W: Links, G: Gate + Sync, T: Tap>(
+    rt: &R,
+    alloc: Global,
+    conf: &Conf,
+    world: &mut W,
+    gate: &G,
+    tap: T,
+) -> (Result<LiveReport, LiveFault>, T)
+    requires links { IsOfLinks (conf_of conf.now) }
+    requires told { T.stands tap [] [] }
+    ensures tapped { IfOk result.0 (λ report. WasTapped (T.stands result.1) W.tells (W.taken_at world.new) (W.given_at world.new)
+        (conf_of conf.now) (end_of report.end) report.views) }
+    ensures given_up { IfErr result.0 (WasGivenUp (W.own_faults world.old) (W.own_faults world.new)
+        (W.object_faults world.old) (W.object_faults world.new) (conf_of conf.now)) }
+    ensures paused { IfOk result.0 (λ report. report.end ≡ LiveEnd.Done
+        → IsPaused conf.now.turns (W.pauses world.old) (W.pauses world.new)) }
+    ensures all_opened { OnOk result.0 (Same W.own_faults world.old world.new) }
+    ensures own_never_falls { NoneFalls W.own_faults world.old world.new }
+    ensures objects_never_fall { NoneFalls W.object_faults world.old world.new }
+{
     let Ok(stop) = Arc::new(alloc, AtomicBool::new(false)) else {
-        return Err(LiveFault::NoMemory);
+        return (Err(LiveFault::NoMemory), tap);
     };
     let opened = match open_links(alloc, conf, &stop, world) {
         Ok(opened) => opened,
-        Err(fault) => return Err(fault),
+        Err(fault) => return (Err(fault), tap),
     };
     let Called {
         turned,
         legs,
         ends,
         listeners,
-    } = call(rt, alloc, conf, opened, stop, world, gate);
+        tap,
+    } = call(rt, alloc, conf, opened, stop, world, gate, tap);
     close_legs(legs, world);
     close_ends(ends, world);
     let end = match answer_of(turned) {
         Ok(end) => end,
-        Err(fault) => return Err(fault),
+        Err(fault) => return (Err(fault), tap),
     };
     match printed(alloc, conf, listeners, end) {
-        Ok(views) => Ok(LiveReport { end, views }),
-        Err(NoMemory) => Err(LiveFault::NoMemory),
+        Ok(views) => (Ok(LiveReport { end, views }), tap),
+        Err(NoMemory) => (Err(LiveFault::NoMemory), tap),
     }
 }

@@ -20,6 +20,13 @@ const ONE_TURN: &[u8] = b"leg Ann aware 1001 5004 127.0.0.1:6004\n\
     mixer 9000 100 5000\n\
     turns 1\n";
 
+/// The same at tick 20, of an hour of turns.
+const HOUR: &[u8] = b"leg Ann aware 1001 5004 127.0.0.1:6004\n\
+    leg Bob aware 1002 5006 127.0.0.1:6006\n\
+    mixer 9000 100 5000\n\
+    tick 20\n\
+    turns 180000\n";
+
 /// The first packet of Ann's terminal, where she typed an A.
 const LETTER: &[u8] = b"\x80\xE4\0\0\0\0\0\0\0\0\x03\xE9\xE2\xFF\xFC\0\xE2\xFF\xFC\0\x62A";
 
@@ -146,6 +153,17 @@ fn what_came_before_the_only_turn_is_given(rt: HostRuntime) -> Result<(), Fail> 
         -- packets 1 used 1 refused 0 foreign 0\n\
         -- live done\n";
     assert!(rt; prints(&rt, rt.alloc(), ONE_TURN, &[LETTER_COMES], shown)?);
+    Ok(())
+}
+
+#[test]
+fn an_hour_of_turns_ends_as_a_short_call(rt: HostRuntime) -> Result<(), Fail> {
+    let shown = b"== Ann aware\nBob: \n-- Bob bells 0\n\
+        -- packets 0 used 0 refused 0 foreign 0\n\
+        == Bob aware\nAnn: A\n-- Ann bells 0\n\
+        -- packets 3 used 3 refused 0 foreign 0\n\
+        -- live done\n";
+    assert!(rt; prints(&rt, rt.alloc(), HOUR, &[LETTER_COMES], shown)?);
     Ok(())
 }
 

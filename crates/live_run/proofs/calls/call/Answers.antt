@@ -1,4 +1,4 @@
-use Rattle.std.proofs.Common.{◌≡◌, ◌≤◌, ◌∙◌, ℕ, length, map, ap, sym, subst, refl, arith}
+use Rattle.std.proofs.Common.{◌≡◌, ◌≤◌, ◌∙◌, ℕ, false, [], length, map, ap, sym, subst, refl, arith}
 use Rattle.std.specs.Prelude.{vec_len}
 use Rattle.std.specs.Global.{Vec}
 use Rattle.conference.specs.Conferences.{conf_of}
@@ -6,14 +6,21 @@ use Rattle.item_lanes.specs.Rooms.{HasRoom}
 use Rattle.live_leg.specs.declared.legs.LinkLeg.{LinkLeg}
 use Rattle.live_run.specs.declared.far_ends.FarEnds.{FarEnds}
 use Rattle.live_loop.specs.Walks.{IsPaused}
+use Rattle.live_loop.specs.declared.turns.Turned.{Turned}
+use Rattle.mixer_posts.specs.States.{SendingState}
+use Rattle.mixer_turn.specs.States.{legs_of}
+use Rattle.live_run.specs.declared.faults.LiveFault.{LiveFault}
+use Rattle.live_run.specs.declared.tapped.Tapped.{Tapped}
 use Rattle.live_run.specs.Calls.{IsCalled}
-use Rattle.live_run.proofs.Composing.{are_new, are_unused, call_made, not_called}
+use Rattle.live_run.specs.Mixers.{HasAll}
+use Rattle.live_run.specs.Taps.{ended_with}
+use Rattle.live_run.proofs.Composing.{are_new, are_unused, call_made, ended_done, not_called}
 use Rattle.live_run.proofs.calls.call.Goals as goal
 
 pub returns-in_default-clause-called : goal.returns-in_default-clause-called
 returns-in_default-clause-called g c =
     let e = c.not_begun.ensures in
-    not_called g.W.In.LinkIn g.W.Out.LinkOut g.W.Links.tells (conf_of c.args.conf.now) (g.W.Links.opened c.args.world.now) c.args.opened.legs.items c.args.opened.ends.items c.not_begun.result c.requires.legs c.requires.ends c.requires.each_leg c.requires.each_end e.turned
+    not_called g.W.In.LinkIn g.W.Out.LinkOut (g.T.Tap.stands c.not_begun.result.tap) g.W.Links.tells (conf_of c.args.conf.now) (g.W.Links.opened c.args.world.now) c.args.opened.legs.items c.args.opened.ends.items c.not_begun.result c.requires.legs c.requires.ends c.requires.each_leg c.requires.each_end e.turned
     (ap (λ (v : Vec (LinkLeg g.row.W-In.Denot)). v.items) e.legs) (ap (λ (v : Vec g.row.W-Out.Denot). v.items) e.ends)
 
 pub mixer_over-requires-clause-unused : goal.mixer_over-requires-clause-unused
@@ -22,7 +29,7 @@ mixer_over-requires-clause-unused g c = are_unused g.W.Out.LinkOut g.W.Links.tel
 pub returns-in-Err-clause-called : goal.returns-in-Err-clause-called
 returns-in-Err-clause-called g c =
     let e = c.not_begun-in-Err.ensures in
-    not_called g.W.In.LinkIn g.W.Out.LinkOut g.W.Links.tells (conf_of c.args.conf.now) (g.W.Links.opened c.args.world.now) c.args.opened.legs.items c.args.opened.ends.items c.not_begun-in-Err.result c.requires.legs c.requires.ends c.requires.each_leg c.requires.each_end e.turned
+    not_called g.W.In.LinkIn g.W.Out.LinkOut (g.T.Tap.stands c.not_begun-in-Err.result.tap) g.W.Links.tells (conf_of c.args.conf.now) (g.W.Links.opened c.args.world.now) c.args.opened.legs.items c.args.opened.ends.items c.not_begun-in-Err.result c.requires.legs c.requires.ends c.requires.each_leg c.requires.each_end e.turned
     (ap (λ (v : Vec (LinkLeg g.row.W-In.Denot)). v.items) e.legs) (ap (λ (v : Vec g.row.W-Out.Denot). v.items) (e.ends ∙ c.in-Err.ensures.back))
 
 pub run_job-turned-requires : goal.run_job-turned-requires
@@ -40,8 +47,8 @@ run_job-turned-requires g c =
       ports = (let ports = room.ports in omega (arith, counted, ports));
       none_joined = room.none_joined;
       joined = (let joined = room.joined in omega (arith, counted, joined));
-      terminals = omega (arith, c.in-Ok-mixer_over.ensures.legs, len, c.requires.each_leg);
-      none = c.in-Ok-mixer_over.ensures.turns;
+      terminals = omega (arith, ap (λ (m : Tapped (SendingState (FarEnds g.row.W-Out.Denot)) g.row.T.Denot). legs_of m.mixer.mixer) c.new-tapped.ensures, c.in-Ok-mixer_over.ensures.legs, len, c.requires.each_leg);
+      none = ap (λ (m : Tapped (SendingState (FarEnds g.row.W-Out.Denot)) g.row.T.Denot). m.mixer.mixer.turns) c.new-tapped.ensures ∙ c.in-Ok-mixer_over.ensures.turns;
       turns_fit = (let k = conf.kept.turns in let e = c.from-2.ensures in omega (arith, e, k.high));
       tick_some = (let k = conf.kept.tick in let e = c.from.ensures in omega (arith, e, k.low));
       tick_fits = (let k = conf.kept.tick in let e = c.from.ensures in omega (arith, e, k.high));
@@ -50,16 +57,26 @@ run_job-turned-requires g c =
 
 pub returns-clause-paused : goal.returns-clause-paused
 returns-clause-paused g c = λ done.
-    subst (λ (n : ℕ). IsPaused n (g.W.Links.pauses c.args.world.now) (g.W.Links.pauses c.run_job-turned.new.clock)) c.from-2.ensures (c.run_job-turned.ensures.paused done)
+    subst (λ (n : ℕ). IsPaused n (g.W.Links.pauses c.args.world.now) (g.W.Links.pauses c.run_job-turned.new.clock)) c.from-2.ensures
+    (c.run_job-turned.ensures.paused (ended_done c.run_job-turned.result.mixer.short c.run_job-turned.result.turned (sym c.finish-turned.ensures.turned ∙ done)))
 
 pub returns-clause-called : goal.returns-clause-called
 returns-clause-called g c =
     let ran = c.run_job-turned.ensures in
     let made = c.in-Ok-mixer_over.ensures in
     let conf = conf_of c.args.conf.now in
-    let turned = c.run_job-turned.result.turned in
+    let over = c.finish-turned.result in
     let legs = c.run_job-turned.result.legs in
+    let far = c.into_outbound-links.result in
+    let stands = g.T.Tap.stands in
+    let tapped = c.new-tapped.ensures in
+    let first : Tapped (SendingState (FarEnds g.row.W-Out.Denot)) g.row.T.Denot = record { mixer = c.in-Ok-mixer_over.mixer; tap = c.args.tap; short = false } in
+    let far_is : far ≡ c.run_job-turned.result.mixer.mixer.outbound = c.into_outbound-links.ensures ∙ ap (λ (m : SendingState (FarEnds g.row.W-Out.Denot)). m.outbound) c.finish-turned.ensures.mixer in
     let later = g.W.Links.opened c.run_job-turned.new.clock in
-    subst (λ (f : FarEnds g.row.W-Out.Denot). IsCalled g.W.In.LinkIn g.W.Out.LinkOut g.W.Links.tells conf later (record { turned = turned; legs = legs; ends = f.links; listeners = f.listeners })) (sym c.into_outbound-links.ensures)
-    (call_made g.W.In.LinkIn g.W.Out.LinkOut _ g.W.Links.tells conf _ c.args.world.now c.run_job-turned.new.clock c.run_job-turned.result (g.W.Links.opened c.args.world.now) later c.args.opened.ends.items c.requires.links c.requires.legs c.requires.each_leg c.requires.ends c.requires.each_end
-    (ap (λ (v : Vec g.row.W-Out.Denot). v.items) made.links) made.stands c.from-2.ensures ran.passed.same_opened ran)
+    subst (λ (t : Turned LiveFault). IsCalled g.W.In.LinkIn g.W.Out.LinkOut (stands over.tap) g.W.Links.tells conf later (record { turned = t; legs = legs; ends = far.links; listeners = far.listeners; tap = over.tap })) (sym c.finish-turned.ensures.turned)
+    (subst (λ (f : FarEnds g.row.W-Out.Denot). IsCalled g.W.In.LinkIn g.W.Out.LinkOut (stands over.tap) g.W.Links.tells conf later (record { turned = ended_with c.run_job-turned.result.mixer.short c.run_job-turned.result.turned; legs = legs; ends = f.links; listeners = f.listeners; tap = over.tap })) (sym far_is)
+    (call_made g.W.In.LinkIn g.W.Out.LinkOut _ stands g.W.Links.tells conf _ c.args.world.now c.run_job-turned.new.clock c.run_job-turned.result over.tap (g.W.Links.opened c.args.world.now) later c.args.opened.ends.items c.requires.links c.requires.legs c.requires.each_leg c.requires.ends c.requires.each_end
+    (ap (λ (m : Tapped (SendingState (FarEnds g.row.W-Out.Denot)) g.row.T.Denot). m.mixer.outbound.links.items) tapped ∙ ap (λ (v : Vec g.row.W-Out.Denot). v.items) made.links)
+    (subst (λ (m : Tapped (SendingState (FarEnds g.row.W-Out.Denot)) g.row.T.Denot). HasAll g.W.Out.LinkOut.tells g.W.Out.LinkOut.given g.W.Out.LinkOut.faults conf m.mixer) (sym tapped) made.stands)
+    (subst (λ (m : Tapped (SendingState (FarEnds g.row.W-Out.Denot)) g.row.T.Denot). stands m.tap [] []) (sym tapped) c.requires.told)
+    c.from-2.ensures ran.passed.same_opened ran c.finish-turned.ensures.shows))

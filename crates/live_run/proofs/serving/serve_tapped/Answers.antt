@@ -1,0 +1,42 @@
+use Rattle.std.proofs.Common.{◌≤◌, ◌∙◌, ℕ, ap, sym, refl, arith}
+use Rattle.conference.specs.Conferences.{conf_of}
+use Rattle.live_leg.specs.declared.legs.LinkLeg.{LinkLeg}
+use Rattle.live_run.proofs.Returning.{each_heard, given_up_by, served_by, was_not_opened}
+use Rattle.live_run.proofs.serving.serve_tapped.Goals as goal
+
+pub returns-in-Err-clause-given_up : goal.returns-in-Err-clause-given_up
+returns-in-Err-clause-given_up g c = was_not_opened g.W.Links.tells _ (g.W.Links.own_faults c.args.world.now) _ _ _ (conf_of c.args.conf.now) c.requires.links c.in-Err.fault c.in-Err.ensures.refused
+
+pub returns-in-Err-answer_of-clause-given_up : goal.returns-in-Err-answer_of-clause-given_up
+returns-in-Err-answer_of-clause-given_up g c =
+    given_up_by g.W.In.LinkIn g.W.Out.LinkOut (g.T.Tap.stands c.call-turned.result.tap) g.W.Links.tells (conf_of c.args.conf.now) _ c.call-turned.result c.call-turned.ensures.called c.requires.links _ _ (g.W.Links.object_faults c.args.world.now) (g.W.Links.object_faults c.call-turned.new.world) (g.W.Links.object_faults c.close_legs.new.world) (g.W.Links.object_faults c.close_ends.new.world)
+    (λ p. c.call-turned.ensures.same_objects p ∙ c.open_links.ensures.same_objects p) c.close_legs.ensures.objects_never_fall c.close_ends.ensures.objects_never_fall c.close_legs.ensures.failed c.close_ends.ensures.failed c.in-Err-answer_of.fault (sym c.in-Err-answer_of.ensures)
+
+pub returns-in-Err-answer_of-clause-objects_never_fall : goal.returns-in-Err-answer_of-clause-objects_never_fall
+returns-in-Err-answer_of-clause-objects_never_fall g c = λ p.
+    let made = c.call-turned.ensures.same_objects p in
+    let opened = c.open_links.ensures.same_objects p in
+    let legs = c.close_legs.ensures.objects_never_fall p in
+    let ends = c.close_ends.ensures.objects_never_fall p in
+    omega (arith, made, opened, legs, ends)
+
+pub returns-in-Ok-printed-clause-tapped : goal.returns-in-Ok-printed-clause-tapped
+returns-in-Ok-printed-clause-tapped g c =
+    served_by g.W.In.LinkIn g.W.Out.LinkOut (g.T.Tap.stands c.call-turned.result.tap) g.W.Links.tells (conf_of c.args.conf.now) (g.W.Links.opened c.call-turned.new.world) c.call-turned.result c.call-turned.ensures.called c.requires.links (g.W.Links.opened c.close_legs.new.world) (g.W.Links.taken_at c.close_legs.new.world) (g.W.Links.taken_at c.close_ends.new.world) (g.W.Links.given_at c.close_ends.new.world)
+    c.close_legs.ensures.stored c.close_ends.ensures.same_taken c.close_legs.ensures.same_opened c.close_ends.ensures.stored c.in-Ok-answer_of.end c.in-Ok-printed.views (sym c.in-Ok-answer_of.ensures) c.in-Ok-printed.ensures
+
+pub returns-in-Ok-printed-clause-objects_never_fall : goal.returns-in-Ok-printed-clause-objects_never_fall
+returns-in-Ok-printed-clause-objects_never_fall g c = λ p.
+    let made = c.call-turned.ensures.same_objects p in
+    let opened = c.open_links.ensures.same_objects p in
+    let legs = c.close_legs.ensures.objects_never_fall p in
+    let ends = c.close_ends.ensures.objects_never_fall p in
+    omega (arith, made, opened, legs, ends)
+
+pub returns-in-Err-printed-clause-objects_never_fall : goal.returns-in-Err-printed-clause-objects_never_fall
+returns-in-Err-printed-clause-objects_never_fall g c = λ p.
+    let made = c.call-turned.ensures.same_objects p in
+    let opened = c.open_links.ensures.same_objects p in
+    let legs = c.close_legs.ensures.objects_never_fall p in
+    let ends = c.close_ends.ensures.objects_never_fall p in
+    omega (arith, made, opened, legs, ends)
