@@ -1,0 +1,25 @@
+-- A live call with a board.
+use Rattle.std.specs.Prelude.{◌≡◌, ℕ, List, ◌++◌, map}
+use Rattle.atomic_table.specs.Seated.{TableId}
+use Rattle.stream_spec.specs.Ready.{Chunk, chunk_of}
+use Rattle.file_spec.specs.Conf.{Conf}
+use Rattle.link_spec.specs.Links.{Takes}
+use Rattle.serve_spec.specs.Served.{End}
+use Rattle.serve_spec.specs.Watched.{IsBoardOf}
+use Rattle.live_board.specs.Values.{Writing}
+use Rattle.live_run.specs.Calls.{WasServed}
+
+-- to this board all of these chunks were written, and those were published
+pub record IsWrittenBy (board : TableId) (writer : Writing) (took shown : List Chunk) : Type 0 where
+  pub same : writer.board ≡ board
+  pub took_are : map chunk_of (writer.published ++ writer.pending) ≡ took
+  pub shown_are : map chunk_of writer.published ≡ shown
+
+-- A live call of the conference ended so, and this is printed of it: what its terminals show, how it ended, and how many octets of
+-- each leg's text were read at its board, which are all that the mixer took.
+pub record WasWatched (tells : Type 0) (taken_at : ℕ → Takes) (given_at : ℕ → List (List ℕ)) (c : Conf) (end : End) (printed : List ℕ) : Type 0 where
+  pub views : List ℕ
+  pub lines : List ℕ
+  pub printed_is : printed ≡ views ++ lines
+  pub was : WasServed tells taken_at given_at c end views
+  pub board : IsBoardOf c was.takes was.served.table end lines

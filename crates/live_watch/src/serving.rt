@@ -1,0 +1,100 @@
+//! A live call with a board is served.
+ghost use Rattle.std.specs.Prelude.{◌≡◌, false, [], length, IfOk, IfErr, OnOk};
+ghost use Rattle.link_io.specs.Ports.{NoneFalls, Same};
+ghost use Rattle.conference.specs.Conferences.{conf_of};
+ghost use Rattle.live_loop.specs.Walks.{IsPaused};
+ghost use Rattle.live_run.specs.Calls.{IsOfLinks, WasGivenUp, WasTapped};
+ghost use Rattle.live_run.specs.Reports.{end_of};
+ghost use Rattle.live_watch.specs.Watched.{IsWrittenBy, WasWatched};
+
+use crate::board_taps::{BoardTap, OnBoard};
+use crate::lines::append_lines;
+use crate::watchers::Watcher;
+use conference::Conf;
+use link_io::Links;
+use live_board::{Board, BoardWriter};
+use live_run::{LiveEnd, LiveFault, LiveReport, serve_tapped};
+use rtt_base::NoMemory;
+use rtt_io::Gate;
+use std::alloc::Global;
+use std::marker::{Brand, PhantomData};
+use std::sync::atomic::AtomicBool;
+use std::sync::{Arc, Wait};
+use std::thread::Threads;
+use std::time::Clock;
+
+/// Serves a live call, to whose board this is the writer.
+fn serve_on<B: OnBoard, R: Threads + Wait + Sync, W: Links, G: Gate + Sync>(
+    rt: &R,
+    alloc: Global,
+    conf: &Conf,
+    world: &mut W,
+    gate: &G,
+    writer: BoardWriter,
+) -> (Result<LiveReport, LiveFault>, BoardWriter)
+    requires links { IsOfLinks (conf_of conf.now) }
+    requires board { writer.board ≡ B.board }
+    requires new { (writer.published ≡ []) × (writer.pending ≡ []) × (writer.ended ≡ false) }
+    ensures open { result.1.ended ≡ false }
+    ensures tapped { IfOk result.0 (λ report. WasTapped (IsWrittenBy B.board result.1) W.tells (W.taken_at world.new) (W.given_at world.new)
+        (conf_of conf.now) (end_of report.end) report.views) }
+    ensures given_up { IfErr result.0 (WasGivenUp (W.own_faults world.old) (W.own_faults world.new)
+        (W.object_faults world.old) (W.object_faults world.new) (conf_of conf.now)) }
+    ensures paused { IfOk result.0 (λ report. report.end ≡ LiveEnd.Done
+        → IsPaused conf.now.turns (W.pauses world.old) (W.pauses world.new)) }
+    ensures all_opened { OnOk result.0 (Same W.own_faults world.old world.new) }
+    ensures own_never_falls { NoneFalls W.own_faults world.old world.new }
+    ensures objects_never_fall { NoneFalls W.object_faults world.old world.new }
+{
+    let tap: BoardTap<B> = BoardTap {
+        writer,
+        of: PhantomData,
+    };
+    let (served, tap) = serve_tapped(rt, alloc, conf, world, gate, tap);
+    let BoardTap { writer, of: _ } = tap;
+    (served, writer)
+}
+
+/// Serves a live call of a conference of links with a board, from which a thread reads while it runs. Behind what the terminals
+/// show and how the call ended stand how many octets of each leg's text are read there then: all that the mixer took. Where the
+/// thread cannot be started, only this last is read. All else is as `live_run::serve` has it.
+pub fn serve_watched<
+    R: Threads + Wait + Clock + Copy + Send + Sync + 'static,
+    W: Links,
+    G: Gate + Sync,
+>(rt: &R, alloc: Global, conf: &Conf, world: &mut W, gate: &G) -> Result<LiveReport, LiveFault>
+    requires { IsOfLinks (conf_of conf.now) }
+    ensures watched { IfOk result (λ report. WasWatched W.tells (W.taken_at world.new) (W.given_at world.new)
+        (conf_of conf.now) (end_of report.end) report.views) }
+    ensures given_up { IfErr result (WasGivenUp (W.own_faults world.old) (W.own_faults world.new)
+        (W.object_faults world.old) (W.object_faults world.new) (conf_of conf.now)) }
+    ensures paused { IfOk result (λ report. report.end ≡ LiveEnd.Done
+        → IsPaused conf.now.turns (W.pauses world.old) (W.pauses world.new)) }
+    ensures all_opened { OnOk result (Same W.own_faults world.old world.new) }
+    ensures own_never_falls { NoneFalls W.own_faults world.old world.new }
+    ensures objects_never_fall { NoneFalls W.object_faults world.old world.new }
+{
+    let legs = conf.legs.len();
+    let Ok((writer, reader)) = Board::new(alloc, legs) else {
+        return Err(LiveFault::NoMemory);
+    };
+    let Ok(stop) = Arc::new(alloc, AtomicBool::new(false)) else {
+        return Err(LiveFault::NoMemory);
+    };
+    let Ok(theirs) = Arc::try_clone(&stop) else {
+        return Err(LiveFault::NoMemory);
+    };
+    let watcher = Watcher::start(rt, reader, legs, &stop, theirs);
+    let (served, mut writer) = serve_on::<Brand, R, W, G>(rt, alloc, conf, world, gate, writer);
+    let mut reader = watcher.finish(rt, &stop);
+    let mut report = match served {
+        Ok(report) => report,
+        Err(fault) => return Err(fault),
+    };
+    let note = writer.last();
+    reader.learn(note);
+    match append_lines(conf, reader, &mut report.views) {
+        Ok(()) => Ok(report),
+        Err(NoMemory) => Err(LiveFault::NoMemory),
+    }
+}
