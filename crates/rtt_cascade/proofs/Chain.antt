@@ -11,7 +11,7 @@ use Rattle.mixer_spec.specs.Table.{Table}
 use Rattle.mixer_spec.specs.Plain.{plain}
 use Rattle.mixer_spec.specs.Bridged.{input_limit, leg_chunks}
 use Rattle.cascade_spec.specs.Laws.{split_of}
-use Rattle.command_spec.specs.declared.faults.Refusal.TheVariants.{AtByte, AtFrame, AtLine, AfterTurns}
+use Rattle.command_spec.specs.declared.faults.Refusal.TheVariants.{AtByte, AtFrame, AtLine, AtTrunk, AfterTurns}
 use Rattle.command_spec.specs.Work.{Contents, Made, Steps, Reads, Refuses, Makes, Serves, IsInput}
 use Rattle.command_spec.specs.Outcomes.{Outcome, Done, Missing, Refused, outcome_from}
 use Rattle.command_spec.specs.Mixing.{input_at, makes, mixes, unless_one_broken}
@@ -262,6 +262,7 @@ by_byte (Reads name next) = false
 by_byte (Refuses i (AtByte byte kind)) = true
 by_byte (Refuses i (AtFrame byte kind)) = false
 by_byte (Refuses i (AtLine line kind)) = false
+by_byte (Refuses i (AtTrunk line)) = false
 by_byte (Refuses i (AfterTurns turns)) = false
 by_byte (Makes printed files) = false
 by_byte (Serves c) = false

@@ -1,9 +1,11 @@
 -- How a conference behind another mixer ends, from how its recording is split and its legs are mixed.
-use Rattle.std.proofs.Common.{◌≡◌, ℕ, zero, suc, ◌<◌, ◌≤◌, true, false, cond, Some, None, List, [], ◌∷◌, length, Result, Ok, Err, refl, ap, sym, subst, ◌∙◌, inl, inr, arith}
-use Rattle.std.specs.Prelude.{map, unwrap_or}
+use Rattle.std.proofs.Common.{◌≡◌, ℕ, zero, suc, ◌<◌, ◌≤◌, true, false, cond, Option, Some, None, List, [], ◌∷◌, length, Result, Ok, Err, refl, ap, sym, subst, ◌∙◌, inl, inr, arith}
+use Rattle.std.specs.Prelude.{IsSome, map, unwrap_or}
 use Rattle.rtt_io.specs.Counts.{Rose}
 use Rattle.wire_spec.specs.Dump.{dump}
 use Rattle.rtpdump_io.specs.declared.items.DumpFault.{DumpFault}
+use Rattle.rtpdump_io.specs.declared.items.RecordingFault.{RecordingFault}
+use Rattle.rtpdump_io.specs.declared.items.RecordingFault.TheVariants as recorded
 use Rattle.rtpdump_io.specs.Reading.{is_of_source}
 use Rattle.file_spec.specs.declared.conf_lines.LegLine.{LegLine}
 use Rattle.file_spec.specs.Conf.{Conf}
@@ -21,6 +23,7 @@ use Rattle.cascade.specs.Splits.{recordings_of}
 use Rattle.bridge_run.specs.declared.mixed.MixFault.{MixFault}
 use Rattle.bridge_run.specs.declared.mixed.MixFault.TheVariants as mix
 use Rattle.bridge_run.specs.declared.mixed.Mixed.{Mixed}
+use Rattle.bridge_run.specs.Mixes as bridge
 use Rattle.bridge_run.specs.Mixes.{outputs_of}
 use Rattle.bridge_run.specs.Answered.{AreMixed, MixesTo}
 use Rattle.rtt_cascade.specs.declared.faults.CascadeFault.{CascadeFault}
@@ -29,7 +32,7 @@ use Rattle.rtt_cascade.specs.Inputs.{IsInputBehind, RefusesNoneBefore, input_nam
 use Rattle.rtt_cascade.specs.Texts.{AllOwnLie, OwnLieBelow, SplitsAreWhole, texts_of}
 use Rattle.rtt_cascade.specs.Feeding.{OfOwn}
 use Rattle.rtt_cascade.specs.Mixes.{AllKept, CountsKept, IsCaused, MixesFed}
-use Rattle.rtt_cascade.specs.Cascades.{AreSplits, IsBroken, IsMadeBehind, IsRefusedAt, IsUnsplit, NoneFailed, OthersKept, Stops, fault_of, outcome_behind}
+use Rattle.rtt_cascade.specs.Cascades.{AreSplits, IsBroken, IsFirst, IsMadeBehind, IsRefusedAt, IsUnsplit, NoneFailed, OthersKept, Stops, fault_of, outcome_behind, trunk_fault}
 use Rattle.rtt_cascade.proofs.Chain.{done_is, fault_at, input_named, is_input, none_before, none_first, number_rises, number_trunk, recording_refused, refused_is, some_read, splits_by, too_long_is}
 use Rattle.rtt_cascade.proofs.Mixing.{decide, text_at}
 
@@ -62,6 +65,10 @@ unsplit_kept Told held file ssrc c old new (Open input) Call Object u k = k
 unsplit_kept Told held file ssrc c old new (Dump input fault) Call Object u k = λ told name none. k told name (λ e. none 1 (let one = u.0 in omega (arith, one)) e)
 unsplit_kept Told held file ssrc c old new TooLong Call Object u k = absurd u
 unsplit_kept Told held file ssrc c old new NoMemory Call Object u k = tt
+
+pub unsplit_first : (Told : Type 0) (held : Contents) (file : List ℕ) (legs : List LegLine) (old new : List ℕ → ℕ) (fault : RecordingFault) → AllKept old new → IsFirst Told held file legs old new (trunk_fault fault)
+unsplit_first Told held file legs old new (recorded.Dump fault) same = same
+unsplit_first Told held file legs old new recorded.NoMemory same = tt
 
 -- the recordings of the SSRCs of the legs
 map_twice : (split : ℕ → List ℕ) (legs : List LegLine) → map split (map (λ (leg : LegLine). leg.ssrc) legs) ≡ map (λ (leg : LegLine). split leg.ssrc) legs
@@ -106,6 +113,16 @@ kept_since Told old mid new legs (Err (mix.Open leg)) same k = λ n. k n ∙ sam
 kept_since Told old mid new legs (Err (mix.Dump leg fault)) same k = λ told n none. k told n none ∙ same n
 kept_since Told old mid new legs (Err mix.TooLong) same k = λ n. k n ∙ same n
 kept_since Told old mid new legs (Err mix.NoMemory) same k = tt
+
+pub first_since : (Told : Type 0) (held mid : Contents) (file : List ℕ) (legs : List LegLine) (old own_mid new : List ℕ → ℕ) (Call Object : List ℕ → Type 0) (fault : MixFault)
+    → AllKept old own_mid → (Told → (n : List ℕ) → mid n ≡ held n) → IsCaused Call Object legs (Err fault) → bridge.IsFirst Told mid legs own_mid new fault → IsFirst Told held file legs old new (fault_of legs fault)
+first_since Told held mid file legs old own_mid new Call Object (mix.Open k) same lie is f = λ told some n differs.
+    let named = input_named file legs k is.0 is.1 is.2.0 in
+    let there : IsSome (mid is.0.input) = subst (λ (o : Option (List ℕ)). IsSome o) (sym (lie told is.0.input)) (subst (λ m. IsSome (held m)) named some) in
+    f told is.0 is.1 there n (λ e. differs (e ∙ sym named)) ∙ same n
+first_since Told held mid file legs old own_mid new Call Object (mix.Dump k fault) same lie is f = λ n. f n ∙ same n
+first_since Told held mid file legs old own_mid new Call Object mix.TooLong same lie is f = λ n. f n ∙ same n
+first_since Told held mid file legs old own_mid new Call Object mix.NoMemory same lie is f = tt
 
 -- what lay there is what lies there
 pub fed_since : (held mid : Contents) (recordings : List (List ℕ)) (c : Conf) (result : Result Mixed MixFault) → ((n : List ℕ) → mid n ≡ held n) → MixesFed mid recordings c result → MixesFed held recordings c result

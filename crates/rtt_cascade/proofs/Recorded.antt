@@ -15,7 +15,7 @@ use Rattle.cascade_spec.specs.Splitting.{Trunk}
 use Rattle.command_spec.specs.Cascading.{trunk_limit, trunk_of}
 use Rattle.bridge_run.proofs.Opening.{rose_behind}
 use Rattle.rtt_cascade.specs.Cascades.{IsUnsplit, trunk_fault}
-use Rattle.rtt_cascade.proofs.GroupSizes.{by_bool}
+use Rattle.command_spec.proofs.GroupSizes.{by_bool}
 use Rattle.rtt_cascade.proofs.Ending.{refused_at}
 
 -- the SSRCs of the legs differ

@@ -17,7 +17,7 @@ use Rattle.cascade.specs.Splits.{recordings_of}
 use Rattle.bridge_run.specs.declared.mixed.MixFault.{MixFault}
 use Rattle.bridge_run.specs.declared.mixed.MixFault.TheVariants as mix
 use Rattle.bridge_run.specs.declared.mixed.Mixed.{Mixed}
-use Rattle.bridge_run.specs.Mixes.{RoseAt, outputs_of}
+use Rattle.bridge_run.specs.Mixes.{NoOtherFailed, RoseAt, outputs_of}
 use Rattle.rtt_cascade.specs.declared.faults.CascadeFault.{CascadeFault}
 use Rattle.rtt_cascade.specs.declared.faults.CascadeFault.TheVariants.{Open, Dump, TooLong, NoMemory}
 use Rattle.rtt_cascade.specs.Inputs.{IsInputBehind, NoneHasName, RefusesNoneBefore, input_name, input_number}
@@ -99,8 +99,19 @@ NoneFailed Told held file ssrc c old new (Err (Dump input fault)) =
 NoneFailed Told held file ssrc c old new (Err TooLong) = AllKept old new
 NoneFailed Told held file ssrc c old new (Err NoMemory) = Unit {0}
 
+-- The input that can't be opened is the first one: no call for another failed, as far as counts are told of each name. Where all
+-- are opened, no call failed. With no memory that is free.
+abbrev pub IsFirst : Type 0 → Contents → List ℕ → List LegLine → (List ℕ → ℕ) → (List ℕ → ℕ) → CascadeFault → Type 0
+IsFirst Told held file legs old new (Open input) = Told → NoOtherFailed held (input_name file legs input) old new
+IsFirst Told held file legs old new (Dump input fault) = AllKept old new
+IsFirst Told held file legs old new TooLong = AllKept old new
+IsFirst Told held file legs old new NoMemory = Unit {0}
+
 -- ---- by the counts of a world, before and after
 module _ {W : Type 0} where
+  abbrev pub IsFirstIn : Type 0 → (W → Contents) → (W → List ℕ → ℕ) → W → W → List ℕ → List LegLine → CascadeFault → Type 0
+  IsFirstIn Told contents own old new file legs fault = IsFirst Told (contents old) file legs (own old) (own new) fault
+
   -- why the recording was not split
   abbrev pub IsUnsplitIn : Type 0 → (W → Contents) → (W → List ℕ → ℕ) → (W → List ℕ → ℕ) → W → W → List ℕ → Conf → CascadeFault → Type 0
   IsUnsplitIn Told contents own objects old new file c =

@@ -2,7 +2,7 @@
 -- what that mixer sent, and then come those of the legs that don't stand behind it, in leg order.
 use Rattle.std.specs.Prelude.{◌≤◌, ℕ, zero, suc, List, [], ◌∷◌, if◌then◌else◌}
 use Rattle.file_spec.specs.declared.conf_lines.LegLine.{LegLine}
-use Rattle.command_spec.specs.declared.faults.Refusal.TheVariants.{AtByte, AtFrame, AtLine, AfterTurns}
+use Rattle.command_spec.specs.declared.faults.Refusal.TheVariants.{AtByte, AtFrame, AtLine, AtTrunk, AfterTurns}
 use Rattle.command_spec.specs.Work.{Contents, Steps, IsInput}
 use Rattle.command_spec.specs.Outcomes.{Outcome, Done, Missing, Refused, Served}
 use Rattle.command_spec.specs.Cascading.{is_on_trunk}
@@ -41,6 +41,7 @@ RefusesNoneBefore n (Missing input) = Unit {0}
 RefusesNoneBefore n (Refused input (AtByte byte kind)) = n ≤ input
 RefusesNoneBefore n (Refused input (AtFrame byte kind)) = ⊥
 RefusesNoneBefore n (Refused input (AtLine line kind)) = ⊥
+RefusesNoneBefore n (Refused input (AtTrunk line)) = ⊥
 RefusesNoneBefore n (Refused input (AfterTurns turns)) = Unit {0}
 RefusesNoneBefore n (Done printed files) = Unit {0}
 RefusesNoneBefore n (Served c) = Unit {0}

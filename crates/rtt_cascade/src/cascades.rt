@@ -6,7 +6,7 @@ ghost use Rattle.command_spec.specs.Cascading.{trunk_limit, trunk_of};
 ghost use Rattle.cascade.specs.Splits.{recordings_of};
 ghost use Rattle.cascade.specs.Splits as splitting;
 ghost use Rattle.bridge_run.specs.Answered.{HasOutputs};
-ghost use Rattle.rtt_cascade.specs.Cascades.{AreSplits, IsMadeBehind, IsUnsplitIn, NoneFailedIn, OthersKeptIn, StopsIn, fault_of, trunk_fault};
+ghost use Rattle.rtt_cascade.specs.Cascades.{AreSplits, IsFirstIn, IsMadeBehind, IsUnsplitIn, NoneFailedIn, OthersKeptIn, StopsIn, fault_of, trunk_fault};
 ghost use Rattle.file_spec.specs.declared.limits.TheConstants.{MOST_LEGS};
 
 use crate::CascadeFault;
@@ -87,6 +87,9 @@ fn split_recording<W: World>(
     ensures unsplit { IfErr result (IsUnsplitIn W.tells W.contents W.own_faults W.object_faults
         world.old world.new file.now (conf_of conf.now)) }
     ensures kept { OthersKeptIn W.tells W.object_faults world.old world.new file.now result }
+    ensures first { IfErr result (IsFirstIn W.tells W.contents W.own_faults
+        world.old world.new file.now conf.now.legs) }
+    ensures opened { OnOk result (Same W.own_faults world.old world.new) }
     ensures same_contents { W.tells → Same W.contents world.old world.new }
     ensures calls_never_fall { NoneFalls W.own_faults world.old world.new }
     ensures objects_never_fall { NoneFalls W.object_faults world.old world.new }
@@ -141,6 +144,9 @@ pub fn cascade<R: Threads + Wait + Sync, W: World, G: Gate + Sync>(
         world.old world.new file.now ssrc (conf_of conf.now)) }
     ensures none_failed { NoneFailedIn W.tells W.contents W.object_faults
         world.old world.new file.now ssrc (conf_of conf.now) result }
+    ensures first { IfErr result (IsFirstIn W.tells W.contents W.own_faults
+        world.old world.new file.now conf.now.legs) }
+    ensures opened { OnOk result (Same W.own_faults world.old world.new) }
     ensures same_contents { W.tells → Same W.contents world.old world.new }
     ensures calls_never_fall { NoneFalls W.own_faults world.old world.new }
     ensures objects_never_fall { NoneFalls W.object_faults world.old world.new }

@@ -1,10 +1,11 @@
 //! The legs of a conference, each over what its text lies in: the split of its SSRC, or its input.
 ghost use Rattle.std.specs.Prelude.{◌≡◌, ◌≤◌, length, IfOk, IfErr, OnOk, OnErr};
-ghost use Rattle.rtt_io.specs.Names.{NoneFalls, Same};
+ghost use Rattle.rtt_io.specs.Names.{CountsNoOther, NoneFalls, Same};
 ghost use Rattle.conference.specs.Conferences.{conf_of};
 ghost use Rattle.cascade.specs.Splits.{recordings_of};
 ghost use Rattle.cascade.specs.TrunkSources.{faults_in, left_in, name_in};
 ghost use Rattle.bridge_run.specs.Answered.{HasOutputs};
+ghost use Rattle.bridge_run.specs.Mixes.{IsFirstIn};
 ghost use Rattle.rtt_cascade.specs.Feeding.{AreCalm, AreFed, CountsLeft, FaultsRose, HandsBack, IsFed, IsFedLeg, IsOwnFailed, IsOwnOpen, IsUnopened};
 ghost use Rattle.rtt_cascade.specs.Mixes.{CountsKeptIn, IsCausedIn, MixesFed};
 ghost use Rattle.rtt_base.specs.declared.limits.TheConstants.{LONGEST_WAIT};
@@ -34,6 +35,7 @@ fn open_text<'s, W: World>(
     ensures fed { IfOk result (IsFed W.tells (left_in W.Src.left) (faults_in W.Src.faults) (name_in W.Src.name)
         (W.contents world.old) leg.now recording.now) }
     ensures failed { OnErr result (IsOwnFailed W.own_faults world.old world.new leg.now) }
+    ensures no_other { W.tells → OnErr result (CountsNoOther W.contents W.own_faults leg.now.input world.old world.new) }
     ensures own_never_falls { NoneFalls W.own_faults world.old world.new }
     ensures calm { OnOk result (Same W.own_faults world.old world.new) }
     ensures same_objects { Same W.object_faults world.old world.new }
@@ -77,6 +79,7 @@ fn open_leg<'s, W: World>(
     ensures fed { IfOk result (IsFedLeg W.tells W.Src.tells (left_in W.Src.left) (faults_in W.Src.faults) (name_in W.Src.name)
         (W.contents world.old) wait limit number leg.now recording.now) }
     ensures refused { IfErr result (IsOwnOpen W.own_faults world.old world.new number leg.now) }
+    ensures no_other { W.tells → OnErr result (CountsNoOther W.contents W.own_faults leg.now.input world.old world.new) }
     ensures own_never_falls { NoneFalls W.own_faults world.old world.new }
     ensures calm { OnOk result (Same W.own_faults world.old world.new) }
     ensures same_objects { Same W.object_faults world.old world.new }
@@ -130,6 +133,8 @@ fn open_legs<'s, W: World>(
     ensures fed { IfOk result (AreFed W.tells W.Src.tells (left_in W.Src.left) (faults_in W.Src.faults) (name_in W.Src.name)
         (W.contents world.old) wait limit legs.now (recordings_of splits.now)) }
     ensures refused { IfErr result (IsUnopened W.tells W.contents W.own_faults world.old world.new legs.now) }
+    ensures first { IfErr result (IsFirstIn W.tells W.contents W.own_faults world.old world.new legs.now) }
+    ensures calm { OnOk result (Same W.own_faults world.old world.new) }
     ensures own_never_falls { NoneFalls W.own_faults world.old world.new }
     ensures same_objects { Same W.object_faults world.old world.new }
     ensures same_contents { W.tells → Same W.contents world.old world.new }
@@ -173,6 +178,8 @@ pub(crate) fn mix_fed<R: Threads + Wait + Sync, W: World, G: Gate + Sync>(
     ensures outs { IfOk result (HasOutputs (length conf.now.legs)) }
     ensures caused { IsCausedIn W.own_faults W.object_faults world.old world.new conf.now.legs result }
     ensures kept { CountsKeptIn W.tells W.object_faults world.old world.new conf.now.legs result }
+    ensures first { IfErr result (IsFirstIn W.tells W.contents W.own_faults world.old world.new conf.now.legs) }
+    ensures opened { OnOk result (Same W.own_faults world.old world.new) }
     ensures same_contents { W.tells → Same W.contents world.old world.new }
     ensures calls_never_fall { NoneFalls W.own_faults world.old world.new }
     ensures objects_never_fall { NoneFalls W.object_faults world.old world.new }

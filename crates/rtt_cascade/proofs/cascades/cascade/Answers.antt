@@ -4,8 +4,8 @@ use Rattle.file_spec.specs.declared.conf_lines.LegLine.{LegLine}
 use Rattle.conference.specs.Conferences.{conf_of}
 use Rattle.cascade.specs.Splits.{recordings_of}
 use Rattle.rtt_cascade.specs.declared.faults.CascadeFault.{CascadeFault}
-use Rattle.rtt_cascade.specs.Cascades.{NoneFailed, Stops, fault_of}
-use Rattle.rtt_cascade.proofs.Ending.{caused_since, fed_since, kept_since, made, none_failed, stops, unsplit_kept, unsplit_stops}
+use Rattle.rtt_cascade.specs.Cascades.{IsFirst, NoneFailed, Stops, fault_of}
+use Rattle.rtt_cascade.proofs.Ending.{caused_since, fed_since, first_since, kept_since, made, none_failed, stops, unsplit_kept, unsplit_stops}
 use Rattle.rtt_cascade.proofs.cascades.cascade.Goals as goal
 
 pub returns-in-Err-clause-stops : goal.returns-in-Err-clause-stops
@@ -68,3 +68,19 @@ returns-clause-none_failed g c =
     (λ told. fed_since (held c.args.world.now) (held c.split_recording.new.world) (recordings_of c.in-Ok.splits) conf (Err fault) (c.split_recording.ensures.same_contents told)
     (c.in-Err-mix_fed.ensures.mixes told (c.in-Ok.ensures.told told)))
     (kept_since g.W.World.tells (objects c.args.world.now) (objects c.split_recording.new.world) (objects c.mix_fed.new.world) legs (Err fault) c.in-Ok.ensures.kept c.in-Err-mix_fed.ensures.kept))
+
+pub returns-in-Ok-mix_fed-clause-opened : goal.returns-in-Ok-mix_fed-clause-opened
+returns-in-Ok-mix_fed-clause-opened g c = λ n. c.in-Ok-mix_fed.ensures.opened n ∙ c.in-Ok.ensures.opened n
+
+pub returns-clause-first : goal.returns-clause-first
+returns-clause-first g c =
+    let held = g.W.World.contents in
+    let own = g.W.World.own_faults in
+    let objects = g.W.World.object_faults in
+    let legs = c.args.conf.now.legs in
+    let fault = c.in-Err-mix_fed.fault in
+    subst (λ (f : CascadeFault). IsFirst g.W.World.tells (held c.args.world.now) c.args.file.now legs (own c.args.world.now) (own c.mix_fed.new.world) f)
+    (sym (c.fault_of.ensures ∙ ap (λ (ls : List LegLine). fault_of ls fault) c.as_slice.ensures))
+    (first_since g.W.World.tells (held c.args.world.now) (held c.split_recording.new.world) c.args.file.now legs (own c.args.world.now) (own c.split_recording.new.world) (own c.mix_fed.new.world)
+    (λ n. Rose (own c.split_recording.new.world n) (own c.mix_fed.new.world n)) (λ n. Rose (objects c.split_recording.new.world n) (objects c.mix_fed.new.world n)) fault
+    c.in-Ok.ensures.opened c.split_recording.ensures.same_contents c.in-Err-mix_fed.ensures.caused c.in-Err-mix_fed.ensures.first)

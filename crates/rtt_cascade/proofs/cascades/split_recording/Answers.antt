@@ -12,8 +12,8 @@ use Rattle.cascade.specs.declared.splits.Splits.{Splits}
 use Rattle.cascade.specs.Splits.{recordings_of}
 use Rattle.cascade.specs.Splits as splitting
 use Rattle.rtt_cascade.specs.declared.faults.CascadeFault.{CascadeFault}
-use Rattle.rtt_cascade.specs.Cascades.{IsUnsplit}
-use Rattle.rtt_cascade.proofs.Ending.{are_splits}
+use Rattle.rtt_cascade.specs.Cascades.{IsFirst, IsUnsplit}
+use Rattle.rtt_cascade.proofs.Ending.{are_splits, unsplit_first}
 use Rattle.rtt_cascade.proofs.Recorded.{limit_fits, risen, ssrcs_differ, unsplit}
 use Rattle.rtt_cascade.proofs.cascades.split_recording.Goals as goal
 
@@ -69,3 +69,14 @@ returns-clause-unsplit g c =
     (λ of. risen (objects c.args.world.now) (objects c.open_source.new.self) (objects c.done_src.new.self) file (name c.split-source.result.0) (faults c.in-Ok-open_source.source) (faults c.split-source.result.0)
     c.in-Ok-open_source.ensures.same_objects (c.split-source.ensures.same_name ∙ c.in-Ok-open_source.ensures.named) c.in-Ok-open_source.ensures.fresh c.done_src.ensures.added (failed of))
     (λ told. subst (λ (r : Result Splits RecordingFault). IfErr r (FaultOf (dump c.trunk_conf.result.limit octets))) c.in-Err.is (c.split-source.ensures.fault (c.in-Ok-open_source.ensures.told told))))
+
+pub returns-in-Ok-splits-clause-opened : goal.returns-in-Ok-splits-clause-opened
+returns-in-Ok-splits-clause-opened g c = λ n. c.done_src.ensures.same_own n ∙ c.in-Ok-open_source.ensures.calm n
+
+pub returns-clause-first : goal.returns-clause-first
+returns-clause-first g c =
+    let own = g.W.World.own_faults in
+    let held = g.W.World.contents c.args.world.now in
+    subst (λ (f : CascadeFault). IsFirst g.W.World.tells held c.args.file.now c.args.conf.now.legs (own c.args.world.now) (own c.done_src.new.self) f) (sym c.trunk_fault.ensures)
+    (unsplit_first g.W.World.tells held c.args.file.now c.args.conf.now.legs (own c.args.world.now) (own c.done_src.new.self) c.in-Err.fault
+    (λ n. c.done_src.ensures.same_own n ∙ c.in-Ok-open_source.ensures.calm n))

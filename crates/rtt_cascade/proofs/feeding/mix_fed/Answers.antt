@@ -4,6 +4,8 @@ use Rattle.file_spec.specs.declared.conf_lines.LegLine.{LegLine}
 use Rattle.conference.specs.Conferences.{conf_of}
 use Rattle.cascade.specs.Splits.{recordings_of}
 use Rattle.cascade.specs.TrunkSources.{faults_in, left_in, name_in}
+use Rattle.bridge_run.specs.Mixes.{IsFirst}
+use Rattle.bridge_run.proofs.Handing.{none_refused, on_ok}
 use Rattle.rtt_cascade.specs.Feeding.{AllFed, IsNotOpened}
 use Rattle.rtt_cascade.proofs.Mixing.{are_new, caused, caused_none, counts_kept, fed_none, kept_none, mixes_fed}
 use Rattle.rtt_cascade.proofs.feeding.mix_fed.Goals as goal
@@ -89,3 +91,17 @@ returns-clause-calls_never_fall g c = λ n. omega (arith, c.open_legs.ensures.ow
 
 pub returns-clause-objects_never_fall : goal.returns-clause-objects_never_fall
 returns-clause-objects_never_fall g c = λ n. omega (arith, c.open_legs.ensures.same_objects n, c.close_legs.ensures.objects_never_fall n)
+
+pub returns-clause-first : goal.returns-clause-first
+returns-clause-first g c =
+    none_refused g.W.World.tells (g.W.World.contents c.args.world.now) c.args.conf.now.legs (g.W.World.own_faults c.args.world.now) (g.W.World.own_faults c.close_legs.new.world) (length c.args.conf.now.legs)
+    c.mix_opened-mixed.result.mixed c.mix_opened-mixed.ensures.leg (λ n. c.close_legs.ensures.same_own n ∙ c.in-Ok.ensures.calm n)
+
+pub returns-in-Err-clause-first : goal.returns-in-Err-clause-first
+returns-in-Err-clause-first g c =
+    let held = g.W.World.contents c.args.world.now in
+    let own = g.W.World.own_faults in
+    subst (λ (ls : List LegLine). IsFirst g.W.World.tells held ls (own c.args.world.now) (own c.open_legs.new.world) c.in-Err.fault) c.as_slice-lines.ensures c.in-Err.ensures.first
+
+pub returns-clause-opened : goal.returns-clause-opened
+returns-clause-opened g c = on_ok c.mix_opened-mixed.result.mixed _ (λ n. c.close_legs.ensures.same_own n ∙ c.in-Ok.ensures.calm n)

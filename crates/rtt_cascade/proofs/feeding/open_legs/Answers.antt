@@ -8,7 +8,7 @@ use Rattle.cascade.specs.Splits.{recordings_of}
 use Rattle.cascade.specs.TrunkSources.{faults_in, left_in, name_in}
 use Rattle.bridge_run.proofs.Opening.{leg_got}
 use Rattle.rtt_cascade.specs.Feeding.{AllFed}
-use Rattle.rtt_cascade.proofs.Opening.{fed_more, got_input, not_opened}
+use Rattle.rtt_cascade.proofs.Opening.{fed_more, got_input, is_first, not_opened}
 use Rattle.rtt_cascade.proofs.feeding.open_legs.Goals as goal
 
 pub returns-in-Err-clause-refused : goal.returns-in-Err-clause-refused
@@ -19,6 +19,14 @@ returns-in-Err-clause-refused g c =
     (recordings_of c.args.splits.now) c.index-legs-index.result c.loop-index.inlets.items
     (g.W.World.own_faults c.args.world.now) (g.W.World.own_faults c.loop-index.world) (g.W.World.own_faults c.open_leg.new.world) (g.W.World.own_faults c.close_legs.new.world) c.in-Err.fault
     c.loop-index.invariant.fed c.loop-index.invariant.count got c.loop-index.invariant.same_own c.close_legs.ensures.same_own c.in-Err.ensures.refused
+
+pub returns-in-Err-clause-first : goal.returns-in-Err-clause-first
+returns-in-Err-clause-first g c =
+    let legs = c.args.legs.now in
+    let got = leg_got legs c.loop-index.index ∙ slice_get_read legs (length legs) c.loop-index.index c.index-legs-index.result refl (omega (arith, c.loop-index-test.true)) c.index-legs-index.is in
+    is_first g.W.World.tells (g.W.World.contents c.args.world.now) (g.W.World.contents c.loop-index.world) legs c.loop-index.index c.index-legs-index.result
+    (g.W.World.own_faults c.args.world.now) (g.W.World.own_faults c.loop-index.world) (g.W.World.own_faults c.open_leg.new.world) (g.W.World.own_faults c.close_legs.new.world) c.in-Err.fault
+    got c.in-Err.ensures.refused c.loop-index.invariant.contents c.in-Err.ensures.no_other c.loop-index.invariant.same_own c.close_legs.ensures.same_own
 
 pub loop-index-preserved : goal.loop-index-preserved
 loop-index-preserved g c =
