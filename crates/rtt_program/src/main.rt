@@ -5,7 +5,7 @@
 ghost use Rattle.std.specs.Prelude.{◌≡◌, ◌++◌, drop, codes, IfOk, OnErr};
 ghost use Rattle.std.specs.Process.{exit_status};
 ghost use Rattle.rtt_io.specs.Counts.{Rose};
-ghost use Rattle.rtt_top.specs.Lives.{RunsLive};
+ghost use Rattle.rtt_top.specs.Lives.{RunsLive, RunsWatched};
 ghost use Rattle.rtt_top.specs.Outside.{outside_over, output_at};
 ghost use Rattle.rtt_top.specs.Runs.{asked_by, Runs};
 
@@ -19,6 +19,7 @@ use std::io::ErrorKind;
 use std::process::ExitCode;
 use std::sync::Wait;
 use std::thread::Threads;
+use std::time::Clock;
 
 /// All words, of which the first is the program's name. Words that are not UTF-8 count as no words.
 fn all_words(rt: &HostRuntime) -> Result<Vec<String>, AllocError> {
@@ -45,7 +46,13 @@ fn after_name(words: &[String]) -> &[String]
 }
 
 /// Runs what the words after the first ask for.
-fn answer<R: Threads + Wait + Sync, W: World, L: Links, K: Sink, E: Sink>(
+fn answer<
+    R: Threads + Wait + Clock + Copy + Send + Sync + 'static,
+    W: World,
+    L: Links,
+    K: Sink,
+    E: Sink,
+>(
     rt: &R,
     alloc: Global,
     words: &[String],
@@ -58,6 +65,8 @@ fn answer<R: Threads + Wait + Sync, W: World, L: Links, K: Sink, E: Sink>(
         (outside_over W.World K.Sink L.Links world.old out.old links.old) (outside_over W.World K.Sink L.Links world.new out.new links.new)
         (output_at E.Sink err.old) (output_at E.Sink err.new) result }
     ensures live { RunsLive (asked_by (drop 1 words.now)) W.tells K.tells L.tells
+        (outside_over W.World K.Sink L.Links world.old out.old links.old) (outside_over W.World K.Sink L.Links world.new out.new links.new) result }
+    ensures watched { RunsWatched (asked_by (drop 1 words.now)) W.tells K.tells L.tells
         (outside_over W.World K.Sink L.Links world.old out.old links.old) (outside_over W.World K.Sink L.Links world.new out.new links.new) result }
 {
     run(
@@ -90,7 +99,13 @@ fn exit_with(status: u8) -> ExitCode
 
 /// The program over this world, these links and these outputs. `words` are all words, of which the first is the program's name; where
 /// memory ran out before they were read there are none.
-fn program<R: Threads + Wait + Sync, W: World, L: Links, K: Sink, E: Sink>(
+fn program<
+    R: Threads + Wait + Clock + Copy + Send + Sync + 'static,
+    W: World,
+    L: Links,
+    K: Sink,
+    E: Sink,
+>(
     rt: &R,
     alloc: Global,
     words: Result<Vec<String>, AllocError>,
@@ -105,6 +120,9 @@ fn program<R: Threads + Wait + Sync, W: World, L: Links, K: Sink, E: Sink>(
     ensures live { IfOk words (λ all. RunsLive (asked_by (drop 1 all.items)) W.tells K.tells L.tells
         (outside_over W.World K.Sink L.Links world.old out.old links.old) (outside_over W.World K.Sink L.Links world.new out.new links.new)
         (exit_status result)) }
+    ensures watched { IfOk words (λ all. RunsWatched (asked_by (drop 1 all.items)) W.tells K.tells L.tells
+        (outside_over W.World K.Sink L.Links world.old out.old links.old) (outside_over W.World K.Sink L.Links world.new out.new links.new)
+        (exit_status result)) }
     ensures no_memory { OnErr words (exit_status result ≡ 70) }
     ensures same { OnErr words ((world.new ≡ world.old) × (links.new ≡ links.old) × (out.new ≡ out.old)) }
     ensures told { E.tells → OnErr words ((Rose (E.faults err.old) (E.faults err.new) → ⊥) → E.took err.new ≡ E.took err.old ++ codes "out of memory\n") }
@@ -117,7 +135,13 @@ fn program<R: Threads + Wait + Sync, W: World, L: Links, K: Sink, E: Sink>(
 }
 
 /// The program over links that terminals leave by RTCP.
-fn program_over<R: Threads + Wait + Sync, W: World, L: Links + Drop, K: Sink, E: Sink>(
+fn program_over<
+    R: Threads + Wait + Clock + Copy + Send + Sync + 'static,
+    W: World,
+    L: Links + Drop,
+    K: Sink,
+    E: Sink,
+>(
     rt: &R,
     alloc: Global,
     words: Result<Vec<String>, AllocError>,

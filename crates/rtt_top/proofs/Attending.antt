@@ -1,10 +1,9 @@
 -- How `attend` ends where its conference is not named: as a mixing of it would.
-use Rattle.std.proofs.Common.{◌≡◌, ℕ, zero, suc, ◌+◌, ◌<◌, ◌≤◌, Bool, true, false, cond, Option, Some, None, List, [], ◌∷◌, length, Ok, Err, refl, ap, sym, subst, ◌∙◌}
+use Rattle.std.proofs.Common.{◌≡◌, ℕ, zero, suc, ◌+◌, Bool, true, false, cond, Option, Some, None, List, [], ◌∷◌, length, Ok, Err, refl, ap, sym, subst, ◌∙◌}
 use Rattle.std.specs.Prelude.{◌≢◌, IsSome, nat_lt, if◌then◌else◌}
 use Rattle.wire_spec.specs.Dump.{dump, usual_limit}
 use Rattle.wire_spec.specs.Dump as dumps
 use Rattle.wire_spec.specs.declared.faults.DumpKind.{DumpKind}
-use Rattle.rtpdump_io.specs.declared.items.DumpFault.{DumpFault}
 use Rattle.rtpdump_io.specs.Reading.{is_of_source}
 use Rattle.file_spec.specs.declared.conf_lines.Form.TheVariants.{Files}
 use Rattle.file_spec.specs.declared.conf_lines.LegLine.{LegLine}
@@ -18,16 +17,15 @@ use Rattle.command_spec.specs.declared.faults.Refusal.TheVariants.{AtByte}
 use Rattle.command_spec.specs.declared.faults.Fault.TheVariants.{CannotRead, Refused}
 use Rattle.command_spec.specs.Words.{Attend}
 use Rattle.command_spec.specs.Work.{Contents, Steps, Refuses}
-use Rattle.command_spec.specs.Inputs.{AllLie, LieBelow, NoneFailedBelow, NoneReads, inputs_under}
+use Rattle.command_spec.specs.Inputs.{AllLie, LieBelow, NoneReads, inputs_under}
 use Rattle.command_spec.specs.Mixing.{input_at, makes, mixes, unless_one_broken}
 use Rattle.command_spec.specs.Attending.{named, says_of}
-use Rattle.command_spec.specs.Messages.{Ending}
 use Rattle.command_spec.proofs.SameFiles.{HaveFilesOf, back, same_inputs, same_many, there}
 use Rattle.bridge_run.specs.declared.mixed.MixFault.{MixFault}
 use Rattle.bridge_run.specs.declared.mixed.MixFault.TheVariants.{Open, Dump, TooLong}
 use Rattle.bridge_run.specs.declared.mixed.MixFault.TheVariants as mix
-use Rattle.bridge_run.specs.Mixes.{IsBroken, NoneFailed, Stops, steps_of}
-use Rattle.rtt_top.specs.Conferences.{ending_name, fault_name, fault_of_mixing, fault_of_recording, input_name, input_of}
+use Rattle.bridge_run.specs.Mixes.{IsFirst, NoneFailed, Stops, steps_of}
+use Rattle.rtt_top.specs.Conferences.{ending_name, fault_name, fault_of_mixing, input_name, input_of}
 use Rattle.rtt_top.specs.Outside.{CallFailed, ObjectFailed, Outside}
 use Rattle.rtt_top.specs.Runs.{Ends, Unchanged}
 use Rattle.rtt_top.proofs.Bridging.{stopped_mixing}
@@ -122,6 +120,16 @@ none_failed_too Told olds news same before after (Dump k fault) none = λ told n
 none_failed_too Told olds news same before after TooLong none = none
 none_failed_too Told olds news same before after mix.NoMemory none = none
 
+-- the first that can't be opened is the first of these too
+first_too : (Told : Type 0) (held : Contents) (olds news : List LegLine) → HaveFilesOf olds news → (before after : List ℕ → ℕ) (fault : MixFault)
+    → IsFirst Told held olds before after fault → IsFirst Told held news before after fault
+first_too Told held olds news same before after (Open k) first = λ told new at some name differs.
+    let old = back olds news same k new at in
+    first told old.0 old.1 (subst (λ n. IsSome (held n)) old.2.input some) name (λ e. differs (e ∙ sym old.2.input))
+first_too Told held olds news same before after (Dump k fault) first = first
+first_too Told held olds news same before after TooLong first = first
+first_too Told held olds news same before after mix.NoMemory first = first
+
 -- ---- the whole
 -- the conference as its inputs tell, whatever is told of them
 told_of : (WorldTells : Type 0) (held : Contents) (c : Conf) → IsToldOf WorldTells held c (named c (inputs_under held c.legs))
@@ -132,13 +140,13 @@ same_limit c now many = ap (λ n. if nat_lt PLACES n then MOST_INPUT_OF_MANY els
 
 pub unheard : (WorldTells OutTells : Type 0) (old new : Outside) (file octets : List ℕ) (c : Conf) (fault : MixFault) → (WorldTells → old.contents file ≡ Some octets) → conf Files octets ≡ Ok c
     → fault ≢ TooLong → Stops WorldTells (CallFailed old new) (ObjectFailed old new) old.contents c fault → NoneFailed WorldTells c.legs old.objects new.objects (Err fault)
-    → Unchanged WorldTells OutTells old new
+    → IsFirst WorldTells old.contents c.legs old.calls new.calls fault → Unchanged WorldTells OutTells old new
     → Ends (Attend (record { conf = file })) WorldTells OutTells old new (ending_name file c.legs (Err (fault_of_mixing c.turns fault))) (Err (fault_of_mixing c.turns fault))
-unheard WorldTells OutTells old new file octets c fault there_is read in_time stops none u =
+unheard WorldTells OutTells old new file octets c fault there_is read in_time stops none first u =
     let now = named c (inputs_under old.contents c.legs) in
     let is = told_of WorldTells old.contents c in
     let same = same_files_of WorldTells old.contents c now is in
     subst (λ name. Ends (Attend (record { conf = file })) WorldTells OutTells old new name (Err (fault_of_mixing c.turns fault))) (same_told file c.legs now.legs same c.turns fault)
     (stopped_mixing WorldTells OutTells old new file (Attend (record { conf = file })) now fault (attend_comes WorldTells old.contents file octets c now there_is read is)
     (stops_too old.contents c now same (same_limit c now (same_many c.legs now.legs same)) WorldTells (CallFailed old new) (ObjectFailed old new) fault in_time stops)
-    (none_failed_too WorldTells c.legs now.legs same old.objects new.objects fault none) u)
+    (none_failed_too WorldTells c.legs now.legs same old.objects new.objects fault none) (first_too WorldTells old.contents c.legs now.legs same old.calls new.calls fault first) u)

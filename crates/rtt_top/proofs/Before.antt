@@ -4,7 +4,7 @@ use Rattle.wire_spec.specs.Dump.{dump}
 use Rattle.wire_spec.specs.Dump as dumps
 use Rattle.file_spec.specs.Conf.{Conf}
 use Rattle.mixer_spec.specs.Table.{Table}
-use Rattle.command_spec.specs.declared.faults.Refusal.TheVariants.{AtByte, AtFrame, AtLine, AfterTurns}
+use Rattle.command_spec.specs.declared.faults.Refusal.TheVariants.{AtByte, AtFrame, AtLine, AtTrunk, AfterTurns}
 use Rattle.command_spec.specs.Work.{Contents, Steps, Refuses}
 use Rattle.command_spec.specs.Outcomes.{Outcome, Missing, Done, Served, outcome_from}
 use Rattle.command_spec.specs.Outcomes as outcomes
@@ -16,6 +16,7 @@ none_before_first n (Missing input) e = tt
 none_before_first n (outcomes.Refused input (AtByte byte kind)) e = omega (arith, e)
 none_before_first n (outcomes.Refused input (AtFrame byte kind)) e = omega (arith, e)
 none_before_first n (outcomes.Refused input (AtLine line kind)) e = omega (arith, e)
+none_before_first n (outcomes.Refused input (AtTrunk line)) e = omega (arith, e)
 none_before_first n (outcomes.Refused input (AfterTurns turns)) e = tt
 none_before_first n (Done printed files) e = tt
 none_before_first n (Served c) e = tt
@@ -25,6 +26,7 @@ fewer a b (Missing input) l n = tt
 fewer a b (outcomes.Refused input (AtByte byte kind)) l n = omega (arith, l, n)
 fewer a b (outcomes.Refused input (AtFrame byte kind)) l n = omega (arith, l, n)
 fewer a b (outcomes.Refused input (AtLine line kind)) l n = omega (arith, l, n)
+fewer a b (outcomes.Refused input (AtTrunk line)) l n = omega (arith, l, n)
 fewer a b (outcomes.Refused input (AfterTurns turns)) l n = tt
 fewer a b (Done printed files) l n = tt
 fewer a b (Served c) l n = tt

@@ -11,7 +11,7 @@ use Rattle.command_spec.specs.declared.faults.Refusal.TheVariants.{AtByte, After
 use Rattle.command_spec.specs.declared.faults.Fault.{Fault}
 use Rattle.command_spec.specs.declared.faults.Fault.TheVariants.{WrongWords, CannotOpen, CannotRead, Refused, CannotPrint, CannotWrite, LinkFailed, NoMemory}
 use Rattle.command_spec.specs.Work.{Contents, Made, Makes, IsInput, IsOutput, IsNth}
-use Rattle.command_spec.specs.Outcomes.{outcome, Done, IsDone, Same, Stores, AllStored}
+use Rattle.command_spec.specs.Outcomes.{outcome, Same, Stores, AllStored}
 use Rattle.command_spec.specs.Outcomes as outcomes
 use Rattle.command_spec.specs.Words.{Command}
 use Rattle.command_spec.specs.Commands.{work}
@@ -22,13 +22,12 @@ use Rattle.bridge_run.specs.declared.mixed.MixFault.TheVariants.{Open, Dump, Too
 use Rattle.bridge_run.specs.declared.mixed.MixFault.TheVariants as mix
 use Rattle.bridge_run.specs.Mixes.{IsBroken, outputs_of, steps_of}
 use Rattle.bridge_run.specs.Mixes as bridge
-use Rattle.rtt_top.specs.Conferences.{ComesToMixing, ending_name, fault_of_mixing, input_name, input_of, output_of}
+use Rattle.rtt_top.specs.Conferences.{ComesToMixing, MakesOutputs, NamesOutputs, ending_name, fault_of_mixing, input_name, input_of, output_of}
 use Rattle.rtt_top.specs.Faults.{NoneBefore, is_recording}
 use Rattle.rtt_top.specs.Outputs.{IsUnwritten}
-use Rattle.rtt_top.specs.Outside.{Outside, Output, Failed, CallFailed, ObjectFailed, RoseAt}
+use Rattle.rtt_top.specs.Outside.{Outside, Output, Failed, CallFailed, ObjectFailed, OpenFailed}
 use Rattle.rtt_top.specs.Runs.{Prints, PrintsFront, Unchanged, PartlyStored, Ends, NoneFailedBefore}
 use Rattle.rtt_top.proofs.Working.{done}
-use Rattle.rtt_top.proofs.Counts.{rose_since}
 use Rattle.rtt_top.proofs.Chain.{none_before, outcome_done, outcome_refused}
 
 -- ---- legs
@@ -83,16 +82,16 @@ broken WorldTells OutTells old new file command c k leg fault false m is at s no
 
 pub stopped_mixing : (WorldTells OutTells : Type 0) (old new : Outside) (file : List ℕ) (command : Command) (c : Conf) (fault : MixFault) → ComesToMixing WorldTells old.contents command c
     → bridge.Stops WorldTells (CallFailed old new) (ObjectFailed old new) old.contents c fault
-    → bridge.NoneFailed WorldTells c.legs old.objects new.objects (Err fault) → Unchanged WorldTells OutTells old new
+    → bridge.NoneFailed WorldTells c.legs old.objects new.objects (Err fault) → bridge.IsFirst WorldTells old.contents c.legs old.calls new.calls fault → Unchanged WorldTells OutTells old new
     → Ends command WorldTells OutTells old new (ending_name file c.legs (Err (fault_of_mixing c.turns fault))) (Err (fault_of_mixing c.turns fault))
-stopped_mixing WorldTells OutTells old new file command c (Open k) m s none u =
-    let r = by_number (λ n name. IsInput WorldTells old.contents (work command).steps n name × CallFailed old new name) file c.legs k s.0 s.1
-    (m.input k s.0 s.1 s.3, s.2) in (r.0, r.1, u)
-stopped_mixing WorldTells OutTells old new file command c (Dump k fault) m s none u =
+stopped_mixing WorldTells OutTells old new file command c (Open k) m s none first u =
+    let r = by_number (λ n name. IsInput WorldTells old.contents (work command).steps n name × OpenFailed WorldTells old new name) file c.legs k s.0 s.1
+    (m.input k s.0 s.1 s.3, (s.2, λ told. first told s.0 s.1)) in (r.0, r.1, u)
+stopped_mixing WorldTells OutTells old new file command c (Dump k fault) m s none first u =
     broken WorldTells OutTells old new file command c k s.0 fault (is_of_source fault.kind) m refl s.1 s.2 none u
-stopped_mixing WorldTells OutTells old new file command c TooLong m s none u =
+stopped_mixing WorldTells OutTells old new file command c TooLong m s none first u =
     (refl, m.mixed, (λ t. let told = m.reads t in outcome_refused WorldTells old.contents command c 0 (AfterTurns c.turns) m told (s told).0 (s told).1), none, u)
-stopped_mixing WorldTells OutTells old new file command c mix.NoMemory m s none u = u
+stopped_mixing WorldTells OutTells old new file command c mix.NoMemory m s none first u = u
 
 -- ---- an output can't be written
 nth_output : (legs : List LegLine) (outs : List (List ℕ)) (n : ℕ) (name : List ℕ) → IsNth (outputs_of legs outs) n name
@@ -134,61 +133,64 @@ output_is : (WorldTells : Type 0) (held : Contents) (command : Command) (c : Con
 output_is WorldTells held command c printed outs m made n leg at =
     m.output (λ told. (made told).0) (λ told. (printed, outputs_of c.legs outs, (made told).1)) n leg at
 
-pub unwritten_mixing : (WorldTells OutTells : Type 0) (old new : Outside) (contents : Contents) (calls objects : List ℕ → ℕ) (file : List ℕ) (command : Command) (c : Conf) (printed : List ℕ) (outs : List (List ℕ))
-    (fault : Fault) → ComesToMixing WorldTells old.contents command c → (WorldTells → AllLie old.contents c.legs × (steps_of old.contents c ≡ Makes printed (outputs_of c.legs outs)))
-    → IsBetween WorldTells old new contents calls objects → new.out ≡ old.out
-    → IsUnwritten WorldTells (RoseAt calls new.calls) (RoseAt objects new.objects) (outputs_of c.legs outs) contents new.contents fault
-    → Ends command WorldTells OutTells old new (ending_name file c.legs (Err fault)) (Err fault)
-unwritten_mixing WorldTells OutTells old new contents calls objects file command c printed outs WrongWords m made between out u = absurd u
-unwritten_mixing WorldTells OutTells old new contents calls objects file command c printed outs (CannotOpen k) m made between out u = absurd u
-unwritten_mixing WorldTells OutTells old new contents calls objects file command c printed outs (CannotRead k) m made between out u = absurd u
-unwritten_mixing WorldTells OutTells old new contents calls objects file command c printed outs (Refused k refusal) m made between out u = absurd u
-unwritten_mixing WorldTells OutTells old new contents calls objects file command c printed outs CannotPrint m made between out u = absurd u
-unwritten_mixing WorldTells OutTells old new contents calls objects file command c printed outs (LinkFailed leg) m made between out u = absurd u
-unwritten_mixing WorldTells OutTells old new contents calls objects file command c printed outs NoMemory m made between out u = absurd u
-unwritten_mixing WorldTells OutTells old new contents calls objects file command c printed outs (CannotWrite n) m made between out u =
-    let call : (name : List ℕ) → RoseAt calls new.calls name → CallFailed old new name = λ name r. rose_since (old.calls name) (calls name) (new.calls name) (between.calls_rise name) r in
-    let object : (name : List ℕ) → RoseAt objects new.objects name → ObjectFailed old new name = λ name r. rose_since (old.objects name) (objects name) (new.objects name) (between.objects_rise name) r in
-    let nth = nth_output c.legs outs n u.0 u.1 in
-    let named : u.0 ≡ output_of file (leg_at c.legs n) = nth.2 ∙ sym (ap (output_of file) nth.1) in
-    let output : IsOutput WorldTells old.contents (work command).steps n u.0 =
-    subst (λ name. IsOutput WorldTells old.contents (work command).steps n name) (sym nth.2) (output_is WorldTells old.contents command c printed outs m made n nth.0 nth.1) in (
-      subst (λ name. IsOutput WorldTells old.contents (work command).steps n name) named output,
-      subst (λ name. CallFailed old new name ⊎ ObjectFailed old new name) named (either (RoseAt calls new.calls u.0) (RoseAt objects new.objects u.0) (CallFailed old new u.0) (ObjectFailed old new u.0) (call u.0) (object u.0) u.2),
+pub mixing_makes : (WorldTells : Type 0) (held : Contents) (command : Command) (c : Conf) (printed : List ℕ) (outs : List (List ℕ)) → ComesToMixing WorldTells held command c
+    → (WorldTells → AllLie held c.legs × (steps_of held c ≡ Makes printed (outputs_of c.legs outs))) → MakesOutputs WorldTells held command c.legs printed (outputs_of c.legs outs)
+mixing_makes WorldTells held command c printed outs m made = record {
+  reads = m.reads;
+  prints = m.prints;
+  output = output_is WorldTells held command c printed outs m made;
+  comes = λ told. outcome_done WorldTells held command c printed (outputs_of c.legs outs) m told (made told).0 (made told).1;
+}
+
+-- the names of the outputs of a mixing
+pub names_outputs : (file : List ℕ) (legs : List LegLine) → NamesOutputs legs (ending_name file legs)
+names_outputs file legs n leg at = ap (output_of file) at
+
+unwritten : (WorldTells OutTells : Type 0) (old new : Outside) (command : Command) (name : Ending → List ℕ) (legs : List LegLine) (printed : List ℕ) (outs : List (List ℕ)) (fault : Fault)
+    → NamesOutputs legs name → MakesOutputs WorldTells old.contents command legs printed (outputs_of legs outs) → new.out ≡ old.out
+    → IsUnwritten WorldTells (CallFailed old new) (ObjectFailed old new) (outputs_of legs outs) old.contents new.contents fault
+    → Ends command WorldTells OutTells old new (name (Err fault)) (Err fault)
+unwritten WorldTells OutTells old new command name legs printed outs WrongWords names m out u = absurd u
+unwritten WorldTells OutTells old new command name legs printed outs (CannotOpen k) names m out u = absurd u
+unwritten WorldTells OutTells old new command name legs printed outs (CannotRead k) names m out u = absurd u
+unwritten WorldTells OutTells old new command name legs printed outs (Refused k refusal) names m out u = absurd u
+unwritten WorldTells OutTells old new command name legs printed outs CannotPrint names m out u = absurd u
+unwritten WorldTells OutTells old new command name legs printed outs (LinkFailed leg) names m out u = absurd u
+unwritten WorldTells OutTells old new command name legs printed outs NoMemory names m out u = absurd u
+unwritten WorldTells OutTells old new command name legs printed outs (CannotWrite n) names m out u =
+    let nth = nth_output legs outs n u.0 u.1 in
+    let named : u.0 ≡ name (Err (CannotWrite n)) = nth.2 ∙ sym (names n nth.0 nth.1) in (
+      subst (λ file. IsOutput WorldTells old.contents (work command).steps n file) (sym (names n nth.0 nth.1)) (m.output n nth.0 nth.1),
+      subst (λ file. CallFailed old new file ⊎ ObjectFailed old new file) named u.2,
       (λ shown. ap (λ (o : Output). o.octets) out),
-      λ told. done (outcome old.contents (work command).steps) printed (outputs_of c.legs outs)
-          (λ printed files. PartlyStored (CallFailed old new) (ObjectFailed old new) n files old.contents new.contents)
-          (outcome_done WorldTells old.contents command c printed (outputs_of c.legs outs) m told (made told).0 (made told).1)
-          (partly_since (CallFailed old new) (ObjectFailed old new) (RoseAt calls new.calls) (RoseAt objects new.objects) n (outputs_of c.legs outs) old.contents contents new.contents call object (between.same told) (u.3 told)),
+      λ told. done (outcome old.contents (work command).steps) printed (outputs_of legs outs)
+          (λ printed files. PartlyStored (CallFailed old new) (ObjectFailed old new) n files old.contents new.contents) (m.comes told) (u.3 told),
     )
 
 -- ---- all is written, and printed or not
-pub printed_mixing : (WorldTells OutTells : Type 0) (old new : Outside) (file : List ℕ) (command : Command) (c : Conf) (printed : List ℕ) (outs : List (List ℕ)) (result : Ending)
-    → ComesToMixing WorldTells old.contents command c → (WorldTells → AllLie old.contents c.legs × (steps_of old.contents c ≡ Makes printed (outputs_of c.legs outs)))
-    → (WorldTells → AllStored (outputs_of c.legs outs) old.contents new.contents)
+pub printed_outputs : (WorldTells OutTells : Type 0) (old new : Outside) (command : Command) (name : Ending → List ℕ) (legs : List LegLine) (printed : List ℕ) (outs : List (List ℕ)) (result : Ending)
+    → MakesOutputs WorldTells old.contents command legs printed (outputs_of legs outs) → (WorldTells → AllStored (outputs_of legs outs) old.contents new.contents)
     → IfErr result (λ fault. fault ≡ CannotPrint) → OnErr result (Failed old.out new.out) → (OutTells → OnOk result (Prints printed old new)) → (OutTells → OnErr result (PrintsFront printed old new))
-    → Ends command WorldTells OutTells old new (ending_name file c.legs result) result
-printed_mixing WorldTells OutTells old new file command c printed outs (Ok u) m made stored fault cause whole partly =
-    λ t. let told = m.reads t in
-    done (outcome old.contents (work command).steps) printed (outputs_of c.legs outs) (λ printed files. (WorldTells → AllStored files old.contents new.contents) × (OutTells → Prints printed old new))
-    (outcome_done WorldTells old.contents command c printed (outputs_of c.legs outs) m told (made told).0 (made told).1) (stored, whole)
-printed_mixing WorldTells OutTells old new file command c printed outs (Err f) m made stored fault cause whole partly =
-    let P : Fault → Type 0 = λ f. Ends command WorldTells OutTells old new (ending_name file c.legs (Err f)) (Err f) in
+    → Ends command WorldTells OutTells old new (name result) result
+printed_outputs WorldTells OutTells old new command name legs printed outs (Ok u) m stored fault cause whole partly =
+    λ t. done (outcome old.contents (work command).steps) printed (outputs_of legs outs) (λ printed files. (WorldTells → AllStored files old.contents new.contents) × (OutTells → Prints printed old new))
+    (m.comes (m.reads t)) (stored, whole)
+printed_outputs WorldTells OutTells old new command name legs printed outs (Err f) m stored fault cause whole partly =
+    let P : Fault → Type 0 = λ f. Ends command WorldTells OutTells old new (name (Err f)) (Err f) in
     subst P (sym fault) (
       m.prints,
       cause,
-      λ t. let told = m.reads t in done (outcome old.contents (work command).steps) printed (outputs_of c.legs outs) (λ printed files. (WorldTells → AllStored files old.contents new.contents) × (OutTells → PrintsFront printed old new))
-          (outcome_done WorldTells old.contents command c printed (outputs_of c.legs outs) m told (made told).0 (made told).1) (stored, partly),
+      λ t. done (outcome old.contents (work command).steps) printed (outputs_of legs outs) (λ printed files. (WorldTells → AllStored files old.contents new.contents) × (OutTells → PrintsFront printed old new))
+          (m.comes (m.reads t)) (stored, partly),
     )
 
-pub unwritten_result : (WorldTells OutTells : Type 0) (old new : Outside) (contents : Contents) (calls objects : List ℕ → ℕ) (file : List ℕ) (command : Command) (c : Conf) (printed : List ℕ) (outs : List (List ℕ))
-    (result : Ending) → ComesToMixing WorldTells old.contents command c → (WorldTells → AllLie old.contents c.legs × (steps_of old.contents c ≡ Makes printed (outputs_of c.legs outs)))
-    → IsBetween WorldTells old new contents calls objects → new.out ≡ old.out → is_err result ≡ true
-    → IfErr result (IsUnwritten WorldTells (RoseAt calls new.calls) (RoseAt objects new.objects) (outputs_of c.legs outs) contents new.contents)
-    → Ends command WorldTells OutTells old new (ending_name file c.legs result) result
-unwritten_result WorldTells OutTells old new contents calls objects file command c printed outs (Ok u) m made between out err u' = absurd (cc err)
-unwritten_result WorldTells OutTells old new contents calls objects file command c printed outs (Err fault) m made between out err u =
-    unwritten_mixing WorldTells OutTells old new contents calls objects file command c printed outs fault m made between out u
+pub unwritten_outputs : (WorldTells OutTells : Type 0) (old new : Outside) (command : Command) (name : Ending → List ℕ) (legs : List LegLine) (printed : List ℕ) (outs : List (List ℕ)) (result : Ending)
+    → NamesOutputs legs name → MakesOutputs WorldTells old.contents command legs printed (outputs_of legs outs) → new.out ≡ old.out → is_err result ≡ true
+    → IfErr result (IsUnwritten WorldTells (CallFailed old new) (ObjectFailed old new) (outputs_of legs outs) old.contents new.contents)
+    → Ends command WorldTells OutTells old new (name result) result
+unwritten_outputs WorldTells OutTells old new command name legs printed outs (Ok u) names m out err u' = absurd (cc err)
+unwritten_outputs WorldTells OutTells old new command name legs printed outs (Err fault) names m out err u =
+    unwritten WorldTells OutTells old new command name legs printed outs fault names m out u
 
 pub saved : (result : Ending) (P : Type 0) → is_err result ≡ false → OnOk result P → P
 saved (Ok u) P ok p = p

@@ -6,8 +6,8 @@ use Rattle.stream_spec.specs.History.{History, Lawful, Come}
 use Rattle.rtt_io.specs.Fronts.{TakesFront}
 use Rattle.file_spec.specs.Conf.{Conf}
 use Rattle.command_spec.specs.declared.faults.Refusal.{Refusal}
-use Rattle.command_spec.specs.declared.faults.Refusal.TheVariants.{AtByte, AtFrame, AtLine, AfterTurns}
-use Rattle.command_spec.specs.Words.{ReadWords, MixWords, Command, Read, Mix, Attend}
+use Rattle.command_spec.specs.declared.faults.Refusal.TheVariants.{AtByte, AtFrame, AtLine, AtTrunk, AfterTurns}
+use Rattle.command_spec.specs.Words.{ReadWords, MixWords, CascadeWords, Command, Read, Mix, Attend, Cascade}
 use Rattle.command_spec.specs.declared.faults.Fault.{Fault}
 use Rattle.command_spec.specs.declared.faults.Fault.TheVariants.{WrongWords, CannotOpen, CannotRead, Refused, CannotPrint, CannotWrite, LinkFailed, NoMemory}
 use Rattle.command_spec.specs.Work.{Contents, Made, Steps, Reads, Refuses, Makes, Serves, IsInput}
@@ -17,15 +17,17 @@ use Rattle.command_spec.specs.Reading.{arrivals_of, read_view, history_view}
 use Rattle.command_spec.specs.Commands.{request_of, unless_broken, work}
 use Rattle.command_spec.specs.Messages.{Ending, ending_of, status_of, message_of}
 use Rattle.rtt_top.specs.Outside.{Outside, Output, Failed}
-use Rattle.rtt_top.specs.Runs.{Prints, Ends, outcome_of, IsCalm, IsAsWorked, IsOfWords, IsHeadline, IsAttendedHeadline, Runs}
+use Rattle.rtt_top.specs.Runs.{Prints, Ends, outcome_of, IsCalm, IsAsWorked, IsOfWords, IsHeadline, IsAttendedHeadline, IsCascadedHeadline, Runs}
 use Rattle.command_spec.specs.Attending.{attending}
+use Rattle.command_spec.specs.Cascading.{cascading}
 use Rattle.command_spec.specs.Mixing.{mixing}
 use Rattle.command_spec.proofs.AttendedHeadlines.{attended}
+use Rattle.command_spec.proofs.CascadedHeadlines.{cascaded}
 use Rattle.command_spec.proofs.Headlines.{bridged}
 use Rattle.command_spec.proofs.Views.{same_view}
 use Rattle.rtt_top.specs.Faults.{RefusesSo, WhereRead}
 use Rattle.rtt_top.proofs.Working.{lies, refused_outcome}
-use Rattle.rtt_top.proofs.Unserved.{attending_serves_none, mixing_serves_none}
+use Rattle.rtt_top.proofs.Unserved.{attending_serves_none, cascading_serves_none, mixing_serves_none}
 
 -- ---- where nothing outside failed
 all_done : (o : Outcome) (P : List ℕ → List Made → Type 0) → IsDone o P → Ok tt ≡ ending_of o
@@ -51,10 +53,12 @@ as_worked : (c : Command) (WorldTells OutTells : Type 0) (old new : Outside) (na
     → IsCalm (work c) WorldTells old new → IsAsWorked (work c) old ending
 as_worked c WorldTells OutTells old new name (Ok u) told e calm = inl (all_done (outcome_of c old) _ (e told))
 as_worked c WorldTells OutTells old new name (Err WrongWords) told e calm = absurd e
-as_worked c WorldTells OutTells old new name (Err (CannotOpen n)) told e calm = absurd (calm.inputs n name e.0 (inl e.1))
+as_worked c WorldTells OutTells old new name (Err (CannotOpen n)) told e calm = absurd (calm.inputs n name e.0 (inl e.1.0))
 as_worked c WorldTells OutTells old new name (Err (CannotRead n)) told e calm = absurd (calm.inputs n name e.0 (inr e.1))
 as_worked c WorldTells OutTells old new name (Err (Refused n (AtLine line kind))) told e calm =
     inl (ap ending_of (sym (refused_where WorldTells old.contents (work c).steps n (AtLine line kind) told e.1)))
+as_worked c WorldTells OutTells old new name (Err (Refused n (AtTrunk line))) told e calm =
+    inl (ap ending_of (sym (refused_where WorldTells old.contents (work c).steps n (AtTrunk line) told e.1)))
 as_worked c WorldTells OutTells old new name (Err (Refused n (AtByte byte kind))) told e calm =
     inl (ap ending_of (sym (e.2 (where_input WorldTells old.contents (work c).steps n name e.0 told)).0))
 as_worked c WorldTells OutTells old new name (Err (Refused n (AtFrame byte kind))) told e calm =
@@ -95,6 +99,14 @@ attended_headline WorldTells OutTells old new name m told e =
     let d = is_done (outcome old.contents (attending m.conf)) (λ printed files. (WorldTells → AllStored files old.contents new.contents) × (OutTells → Prints printed old new)) (attending_serves_none old.contents m.conf) (e told) in
     record { printed = d.0; prints = d.3.1; attended = attended old.contents new.contents m.conf d.0 d.1 d.2 (d.3.0 told) }
 
+cascaded_headline : (WorldTells OutTells : Type 0) (old new : Outside) (name : List ℕ) (w : CascadeWords) → WorldTells → Ends (Cascade w) WorldTells OutTells old new name (Ok tt) → IsCascadedHeadline OutTells w old new
+cascaded_headline WorldTells OutTells old new name w told e =
+    let d = is_done (outcome old.contents (cascading w.conf w.file w.ssrc)) (λ printed files. (WorldTells → AllStored files old.contents new.contents) × (OutTells → Prints printed old new)) (cascading_serves_none old.contents w.conf w.file w.ssrc) (e told) in
+    record { printed = d.0; prints = d.3.1; cascaded = cascaded old.contents new.contents w.conf w.file w.ssrc d.0 d.1 d.2 (d.3.0 told) }
+
+the_cascade : (c : Command) (w : CascadeWords) → Some c ≡ Some (Cascade w) → c ≡ Cascade w
+the_cascade c w e = cc
+
 the_attend : (c : Command) (m : MixWords) → Some c ≡ Some (Attend m) → c ≡ Attend m
 the_attend c m e = cc
 
@@ -126,6 +138,10 @@ runs c WorldTells OutTells ErrTells old new before after status ending name is e
       let P : Command → Type 0 = λ k. Ends k WorldTells OutTells old new name ending in
       let Q : Ending → Type 0 = λ q. Ends (Attend m) WorldTells OutTells old new name q in
       attended_headline WorldTells OutTells old new name m t (subst Q ok (subst P (the_attend c m e) ends));
+  cascaded = λ t ok w e.
+      let P : Command → Type 0 = λ k. Ends k WorldTells OutTells old new name ending in
+      let Q : Ending → Type 0 = λ q. Ends (Cascade w) WorldTells OutTells old new name q in
+      cascaded_headline WorldTells OutTells old new name w t (subst Q ok (subst P (the_cascade c w e) ends));
   silent = silent;
   front = front;
   told = told;
@@ -150,6 +166,7 @@ no_words words WorldTells OutTells ErrTells old before after status fault name n
       kept = λ t s ok h law view v. absurd (no_command (Read v.request) v.reads);
       headline = λ t ok m e. absurd (no_command (Mix m) e);
       attended = λ t ok m e. absurd (no_command (Attend m) e);
+      cascaded = λ t ok w e. absurd (no_command (Cascade w) e);
       silent = silent;
       front = front;
       told = told;

@@ -1,17 +1,16 @@
 -- Frames that are relayed, and frames that are written of a recording.
-use Rattle.std.proofs.Common.{◌≡◌, ℕ, ◌+◌, ◌<◌, ◌≤◌, true, false, Option, Some, None, is_some, List, [], ◌∷◌, ◌++◌, length, Result, Ok, Err, refl, ap, sym, subst, ◌∙◌, inl, inr, arith}
+use Rattle.std.proofs.Common.{◌≡◌, ℕ, true, false, Option, Some, None, is_some, List, [], ◌∷◌, Result, Ok, Err, refl, ap, sym, subst, ◌∙◌, inl, inr, arith}
 use Rattle.std.specs.Prelude.{if◌then◌else◌, Bool}
 use Rattle.std.proofs.lemmas.Bool.{false≢true}
 use Rattle.wire_spec.specs.Dump.{dump, dump_opening, usual_limit, opening, dump_step, records_within, records, arrivals}
 use Rattle.wire_spec.specs.Dump as dumps
 use Rattle.frame_spec.specs.declared.frames.Frame.{Frame}
 use Rattle.frame_spec.specs.declared.frames.FrameFault.{FrameFault}
-use Rattle.frame_spec.specs.declared.limits.TheConstants.{FRAME_HEAD_OCTETS, MOST_FRAMES_OCTETS}
 use Rattle.frame_spec.specs.Frames.{read_frames}
-use Rattle.command_spec.specs.declared.faults.Refusal.TheVariants.{AtByte, AtFrame}
-use Rattle.command_spec.specs.declared.faults.Fault.TheVariants.{CannotRead, Refused, NoMemory}
+use Rattle.command_spec.specs.declared.faults.Refusal.TheVariants.{AtByte}
+use Rattle.command_spec.specs.declared.faults.Fault.TheVariants.{CannotRead, Refused}
 use Rattle.command_spec.specs.Words.{SendWords, ChannelWords, Relay, Channel}
-use Rattle.command_spec.specs.Work.{Contents, Steps, Makes, IsOutput}
+use Rattle.command_spec.specs.Work.{Contents, Steps, IsOutput}
 use Rattle.command_spec.specs.Outcomes.{outcome, outcome_from, Done}
 use Rattle.command_spec.specs.Outcomes as outcomes
 use Rattle.command_spec.specs.Commands.{recording_fault, saves_frames, sending_of, unless_broken, work}

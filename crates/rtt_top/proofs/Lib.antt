@@ -11,6 +11,7 @@ pub mod Chain
 pub mod Bridging
 pub mod Mixings
 pub mod Attending
+pub mod Cascading
 pub mod Since
 pub mod Linked
 pub mod Living

@@ -1,15 +1,15 @@
 -- What holds of a command that uses no link holds whatever links leave.
-use Rattle.std.proofs.Common.{◌≡◌, ℕ, Bool, true, false, true≢false, Option, Some, None, List, Ok, Err, refl, sym, subst, ◌∙◌}
-use Rattle.command_spec.specs.declared.faults.Refusal.TheVariants.{AtByte, AtFrame, AtLine, AfterTurns}
+use Rattle.std.proofs.Common.{◌≡◌, ℕ, true, false, true≢false, Option, Some, None, List, Ok, Err, refl, sym, subst, ◌∙◌}
+use Rattle.command_spec.specs.declared.faults.Refusal.TheVariants.{AtByte, AtFrame, AtLine, AtTrunk, AfterTurns}
 use Rattle.command_spec.specs.declared.faults.Fault.TheVariants.{WrongWords, CannotOpen, CannotRead, Refused, CannotPrint, CannotWrite, LinkFailed, NoMemory}
-use Rattle.command_spec.specs.Words.{MixWords, Command, Read, ListRecords, Send, Mix, Attend, Make, Live, Relay, Channel, Show, Script, Version}
+use Rattle.command_spec.specs.Words.{MixWords, Command, Read, ListRecords, Send, Mix, Attend, Cascade, Make, Live, Watch, Relay, Channel, Show, Script, Version}
 use Rattle.command_spec.specs.Messages.{Ending}
 use Rattle.rtt_words.specs.declared.commands.MixWords as coded
 use Rattle.rtt_words.specs.declared.commands.Command as asked
 use Rattle.rtt_words.specs.declared.commands.Command.TheVariants as word
 use Rattle.rtt_words.specs.Commands.{meaning}
 use Rattle.rtt_top.specs.Faults.{is_live}
-use Rattle.rtt_top.specs.Lives.{RunsLive}
+use Rattle.rtt_top.specs.Lives.{RunsLive, RunsWatched}
 use Rattle.rtt_top.specs.Outside.{LinksLeft, Output, Outside, with_links}
 use Rattle.rtt_top.specs.Runs.{Ends, Runs, is_plain}
 use Rattle.rtt_top.proofs.Ending.{runs}
@@ -23,6 +23,7 @@ ends_linked c WorldTells OutTells old new before after name (Err (CannotRead n))
 ends_linked c WorldTells OutTells old new before after name (Err (Refused n (AtLine line kind))) off e = e
 ends_linked c WorldTells OutTells old new before after name (Err (Refused n (AtByte byte kind))) off e = e
 ends_linked c WorldTells OutTells old new before after name (Err (Refused n (AtFrame byte kind))) off e = e
+ends_linked c WorldTells OutTells old new before after name (Err (Refused n (AtTrunk line))) off e = e
 ends_linked c WorldTells OutTells old new before after name (Err (Refused n (AfterTurns turns))) off e = e
 ends_linked c WorldTells OutTells old new before after name (Err CannotPrint) off e = e
 ends_linked c WorldTells OutTells old new before after name (Err (CannotWrite n)) off e = e
@@ -42,8 +43,10 @@ plain_is_not_live (ListRecords l) e = refl
 plain_is_not_live (Send s) e = refl
 plain_is_not_live (Mix m) e = refl
 plain_is_not_live (Attend m) e = refl
+plain_is_not_live (Cascade c) e = refl
 plain_is_not_live (Make m) e = refl
 plain_is_not_live (Live m) e = absurd (true≢false (sym e))
+plain_is_not_live (Watch m) e = absurd (true≢false (sym e))
 plain_is_not_live (Relay s) e = refl
 plain_is_not_live (Channel c) e = refl
 plain_is_not_live (Show l) e = refl
@@ -51,19 +54,21 @@ plain_is_not_live (Script r) e = refl
 plain_is_not_live Version e = refl
 
 -- what asks for no live call
-pub other_is_not_live : (command : asked.Command) → ((words : coded.MixWords) → command ≡ word.Live words → ⊥) → is_live (meaning command) ≡ false
-other_is_not_live (word.Read r) other = refl
-other_is_not_live (word.ListRecords l) other = refl
-other_is_not_live (word.Send s) other = refl
-other_is_not_live (word.Mix m) other = refl
-other_is_not_live (word.Attend m) other = refl
-other_is_not_live (word.Make m) other = refl
-other_is_not_live (word.Live m) other = absurd (other m refl)
-other_is_not_live (word.Relay s) other = refl
-other_is_not_live (word.Channel c) other = refl
-other_is_not_live (word.Show l) other = refl
-other_is_not_live (word.Script r) other = refl
-other_is_not_live word.Version other = refl
+pub other_is_not_live : (command : asked.Command) → ((words : coded.MixWords) → command ≡ word.Live words → ⊥) → ((words : coded.MixWords) → command ≡ word.Watch words → ⊥) → is_live (meaning command) ≡ false
+other_is_not_live (word.Read r) other watch = refl
+other_is_not_live (word.ListRecords l) other watch = refl
+other_is_not_live (word.Send s) other watch = refl
+other_is_not_live (word.Mix m) other watch = refl
+other_is_not_live (word.Attend m) other watch = refl
+other_is_not_live (word.Cascade c) other watch = refl
+other_is_not_live (word.Make m) other watch = refl
+other_is_not_live (word.Live m) other watch = absurd (other m refl)
+other_is_not_live (word.Watch m) other watch = absurd (watch m refl)
+other_is_not_live (word.Relay s) other watch = refl
+other_is_not_live (word.Channel c) other watch = refl
+other_is_not_live (word.Show l) other watch = refl
+other_is_not_live (word.Script r) other watch = refl
+other_is_not_live word.Version other watch = refl
 
 same : (c : Command) (m : MixWords) → Some c ≡ Some (Live m) → c ≡ Live m
 same c m e = cc e
@@ -74,6 +79,28 @@ live c m e off = true≢false (subst (λ k. is_live k ≡ false) (same c m e) of
 -- of another command nothing is said of a live call
 pub no_live : (c : Command) (WorldTells OutTells LinksTell : Type 0) (old new : Outside) (status : ℕ) → is_live c ≡ false → RunsLive (Some c) WorldTells OutTells LinksTell old new status
 no_live c WorldTells OutTells LinksTell old new status off = λ zero m e. absurd (live c m e off)
+
+watching : (c : Command) (m : MixWords) → Some c ≡ Some (Watch m) → is_live c ≡ false → ⊥
+watching c m e off = true≢false (subst (λ k. is_live k ≡ false) (same_watch c m e) off)
+  where
+    same_watch : (d : Command) (k : MixWords) → Some d ≡ Some (Watch k) → d ≡ Watch k
+    same_watch d k q = cc q
+
+pub no_watched : (c : Command) (WorldTells OutTells LinksTell : Type 0) (old new : Outside) (status : ℕ) → is_live c ≡ false → RunsWatched (Some c) WorldTells OutTells LinksTell old new status
+no_watched c WorldTells OutTells LinksTell old new status off = λ zero m e. absurd (watching c m e off)
+
+-- `live` is not `watch`
+pub live_not_watched : (c : Command) (k : MixWords) → c ≡ Live k → (WorldTells OutTells LinksTell : Type 0) (old new : Outside) (status : ℕ) → RunsWatched (Some c) WorldTells OutTells LinksTell old new status
+live_not_watched c k is WorldTells OutTells LinksTell old new status = λ zero m e. absurd (cc (is, e))
+
+pub watched_not_live : (c : Command) (k : MixWords) → c ≡ Watch k → (WorldTells OutTells LinksTell : Type 0) (old new : Outside) (status : ℕ) → RunsLive (Some c) WorldTells OutTells LinksTell old new status
+watched_not_live c k is WorldTells OutTells LinksTell old new status = λ zero m e. absurd (cc (is, e))
+
+pub no_words_watched : (words : Option Command) (WorldTells OutTells LinksTell : Type 0) (old new : Outside) (status : ℕ) → words ≡ None → RunsWatched words WorldTells OutTells LinksTell old new status
+no_words_watched words WorldTells OutTells LinksTell old new status none = λ zero m e. absurd (cc (none, e))
+
+pub failed_at_all : (words : Option Command) (WorldTells OutTells LinksTell : Type 0) (old new : Outside) (status : ℕ) → status ≡ 70 → RunsWatched words WorldTells OutTells LinksTell old new status
+failed_at_all words WorldTells OutTells LinksTell old new status is = λ zero m e. absurd (cc (is, zero))
 
 pub no_words_live : (words : Option Command) (WorldTells OutTells LinksTell : Type 0) (old new : Outside) (status : ℕ) → words ≡ None → RunsLive words WorldTells OutTells LinksTell old new status
 no_words_live words WorldTells OutTells LinksTell old new status none = λ zero m e. absurd (cc (none, e))

@@ -10,7 +10,7 @@ use Rattle.mixer_spec.specs.Plain.{plain}
 use Rattle.mixer_spec.specs.Setups.{setup}
 use Rattle.mixer_spec.specs.Table.{Table}
 use Rattle.command_spec.specs.declared.faults.Refusal.{Refusal}
-use Rattle.command_spec.specs.declared.faults.Refusal.TheVariants.{AtByte, AtFrame, AtLine, AfterTurns}
+use Rattle.command_spec.specs.declared.faults.Refusal.TheVariants.{AtByte, AtFrame, AtLine, AtTrunk, AfterTurns}
 use Rattle.command_spec.specs.declared.faults.Fault.{Fault}
 use Rattle.command_spec.specs.declared.faults.Fault.TheVariants.{WrongWords, CannotOpen, CannotRead, Refused, CannotPrint, CannotWrite, LinkFailed, NoMemory}
 use Rattle.command_spec.specs.Generated.{Generated, generated}
@@ -74,6 +74,7 @@ abbrev is_after_turns : Refusal → Bool
 is_after_turns (AtByte byte kind) = false
 is_after_turns (AtFrame byte kind) = false
 is_after_turns (AtLine line kind) = false
+is_after_turns (AtTrunk line) = false
 is_after_turns (AfterTurns turns) = true
 
 -- it refuses nothing but its conference, after its turns
@@ -98,6 +99,7 @@ ends_why n WorldTells OutTells outside name (CannotRead k) w = absurd w
 ends_why n WorldTells OutTells outside name (Refused k (AtByte byte kind)) w = absurd (true≢false (sym (refused_make n k (AtByte byte kind) w).1))
 ends_why n WorldTells OutTells outside name (Refused k (AtFrame byte kind)) w = absurd (true≢false (sym (refused_make n k (AtFrame byte kind) w).1))
 ends_why n WorldTells OutTells outside name (Refused k (AtLine line kind)) w = absurd (true≢false (sym (refused_make n k (AtLine line kind) w).1))
+ends_why n WorldTells OutTells outside name (Refused k (AtTrunk line)) w = absurd (true≢false (sym (refused_make n k (AtTrunk line) w).1))
 ends_why n WorldTells OutTells outside name (Refused k (AfterTurns turns)) w =
     ((refused_make n k (AfterTurns turns) w).0, refl, (λ t. ap (outcome outside.contents) w), (λ file. refl), ((λ shown. refl), λ told file. refl))
 ends_why n WorldTells OutTells outside name CannotPrint w = absurd w

@@ -1,15 +1,15 @@
 -- What comes to the mixing of a conference: `mix`, and `attend` with what the inputs tell of their legs.
-use Rattle.std.proofs.Common.{◌≡◌, ℕ, suc, ◌+◌, ◌<◌, Some, Ok, List, length, refl, ap, sym, subst, ◌∙◌}
+use Rattle.std.proofs.Common.{◌≡◌, ℕ, ◌+◌, Some, Ok, List, length, refl, ap, sym, subst, ◌∙◌}
 use Rattle.std.specs.Prelude.{IsSome}
 use Rattle.file_spec.specs.declared.conf_lines.Form.TheVariants.{Files}
 use Rattle.file_spec.specs.declared.conf_lines.LegLine.{LegLine}
 use Rattle.file_spec.specs.Conf.{Conf, conf}
 use Rattle.mixer_spec.specs.Setups.{leg_at}
 use Rattle.command_spec.specs.Words.{Attend, Mix}
-use Rattle.command_spec.specs.Work.{Contents, IsInput, IsOutput, Made, Makes}
-use Rattle.command_spec.specs.Outcomes.{Same, outcome, outcome_from}
+use Rattle.command_spec.specs.Work.{Contents, IsInput, IsOutput}
+use Rattle.command_spec.specs.Outcomes.{Same, outcome_from}
 use Rattle.command_spec.specs.Inputs.{AllLie, LieBelow, inputs_under}
-use Rattle.command_spec.specs.Mixing.{mixes, mixes_read, mixing}
+use Rattle.command_spec.specs.Mixing.{mixes, mixes_read}
 use Rattle.command_spec.specs.Attending.{Said, attending, attends, attends_read, named, named_by}
 use Rattle.command_spec.proofs.Naming.{files_told}
 use Rattle.command_spec.proofs.Outputs.{attended_output, is_output}

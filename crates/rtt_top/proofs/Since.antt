@@ -1,9 +1,9 @@
 -- A command whose first part changed nothing outside ends as its second part does.
 use Rattle.std.proofs.Common.{◌≡◌, ℕ, zero, suc, ◌+◌, Option, Some, None, List, [], ◌++◌, take, Ok, Err, refl, ap, sym, subst, ◌∙◌, inl, inr}
-use Rattle.std.specs.Prelude.{◌⊎◌}
+use Rattle.std.specs.Prelude.{◌⊎◌, IsSome}
 use Rattle.file_spec.specs.Conf.{Conf}
 use Rattle.command_spec.specs.declared.faults.Refusal.{Refusal}
-use Rattle.command_spec.specs.declared.faults.Refusal.TheVariants.{AtByte, AtFrame, AtLine, AfterTurns}
+use Rattle.command_spec.specs.declared.faults.Refusal.TheVariants.{AtByte, AtFrame, AtLine, AtTrunk, AfterTurns}
 use Rattle.command_spec.specs.declared.faults.Fault.TheVariants.{WrongWords, CannotOpen, CannotRead, Refused, CannotPrint, CannotWrite, LinkFailed, NoMemory}
 use Rattle.command_spec.specs.Words.{Command}
 use Rattle.command_spec.specs.Commands.{work}
@@ -11,6 +11,8 @@ use Rattle.command_spec.specs.Work.{Contents, Made, Steps, Reads, Refuses, Makes
 use Rattle.command_spec.specs.Outcomes.{Outcome, Missing, Done, Served, outcome, outcome_from, IsDone, Same, AllStored}
 use Rattle.command_spec.specs.Outcomes as outcomes
 use Rattle.command_spec.specs.Messages.{Ending}
+use Rattle.file_spec.specs.declared.conf_lines.LegLine.{LegLine}
+use Rattle.rtt_top.specs.Conferences.{MakesOutputs}
 use Rattle.rtt_top.specs.Faults.{NoneBefore, RefusesSo, WhereRead, name_in}
 use Rattle.rtt_top.specs.Outside.{Outside, Output, Failed, CallFailed, ObjectFailed}
 use Rattle.rtt_top.specs.Ports.{LegFailed}
@@ -113,14 +115,14 @@ refuses_since WorldTells old mid same (Refuses input other) n refusal r = r
 refuses_since WorldTells old mid same (Makes printed files) n refusal r = absurd r
 refuses_since WorldTells old mid same (Serves c) n refusal r = absurd r
 
-pub ends_since : (c : Command) (WorldTells OutTells : Type 0) (old mid new : Outside) (name : List ℕ) (ending : Ending) → IsBetween WorldTells old mid mid.contents mid.calls mid.objects → mid.out ≡ old.out → mid.links ≡ old.links → NoneFailed old mid
+pub ends_since : (c : Command) (WorldTells OutTells : Type 0) (old mid new : Outside) (name : List ℕ) (ending : Ending) → IsBetween WorldTells old mid mid.contents mid.calls mid.objects → mid.out ≡ old.out → mid.links ≡ old.links → NoneFailed old mid → ((name : List ℕ) → mid.calls name ≡ old.calls name)
     → Ends c WorldTells OutTells mid new name ending → Ends c WorldTells OutTells old new name ending
-ends_since c WorldTells OutTells old mid new name (Ok u) b out left calm e = λ t.
+ends_since c WorldTells OutTells old mid new name (Ok u) b out left calm opened e = λ t.
     done_where WorldTells old.contents mid.contents (work c).steps
     (λ printed files. (WorldTells → AllStored files mid.contents new.contents) × (OutTells → Prints printed mid new))
     (λ printed files. (WorldTells → AllStored files old.contents new.contents) × (OutTells → Prints printed old new)) b.same t
     (λ printed files d. ((λ told. all_stored_since files old.contents mid.contents new.contents (b.same told) (d.0 told)), λ shown. d.1 shown ∙ ap (λ (o : Output). o.octets ++ printed) out)) (e t)
-ends_since c WorldTells OutTells old mid new name (Err CannotPrint) b out left calm e = (
+ends_since c WorldTells OutTells old mid new name (Err CannotPrint) b out left calm opened e = (
   e.0,
   subst (λ o. Failed o new.out) out e.1,
   λ t. done_where WorldTells old.contents mid.contents (work c).steps
@@ -131,7 +133,7 @@ ends_since c WorldTells OutTells old mid new name (Err CannotPrint) b out left c
         λ shown. (let p = d.1 shown in (p.0, p.1 ∙ ap (λ (o : Output). o.octets ++ take p.0 printed) out)),
       )) (e.2 t),
 )
-ends_since c WorldTells OutTells old mid new name (Err (CannotWrite n)) b out left calm e = (
+ends_since c WorldTells OutTells old mid new name (Err (CannotWrite n)) b out left calm opened e = (
   output_since WorldTells old.contents mid.contents b.same (work c).steps n name e.0,
   either (CallFailed mid new name) (ObjectFailed mid new name) (CallFailed old new name) (ObjectFailed old new name) (call_since WorldTells old mid new b name) (object_since WorldTells old mid new b name) e.1,
   (λ shown. e.2 shown ∙ ap (λ (o : Output). o.octets) out),
@@ -141,13 +143,13 @@ ends_since c WorldTells OutTells old mid new name (Err (CannotWrite n)) b out le
       (λ printed files p. partly_since (CallFailed old new) (ObjectFailed old new) (CallFailed mid new) (ObjectFailed mid new) n files old.contents mid.contents new.contents
       (call_since WorldTells old mid new b) (object_since WorldTells old mid new b) (b.same told) p) (e.3 told),
 )
-ends_since c WorldTells OutTells old mid new name (Err WrongWords) b out left calm e = absurd e
-ends_since c WorldTells OutTells old mid new name (Err (CannotOpen n)) b out left calm e = (
+ends_since c WorldTells OutTells old mid new name (Err WrongWords) b out left calm opened e = absurd e
+ends_since c WorldTells OutTells old mid new name (Err (CannotOpen n)) b out left calm opened e = (
   input_since WorldTells old.contents mid.contents b.same (work c).steps n name e.0,
-  call_since WorldTells old mid new b name e.1,
+  (call_since WorldTells old mid new b name e.1.0, λ told there other differs. e.1.1 told (subst (λ o. IsSome o) (sym (b.same told name)) there) other differs ∙ opened other),
   unchanged_since WorldTells OutTells old mid new b out e.2,
 )
-ends_since c WorldTells OutTells old mid new name (Err (CannotRead n)) b out left calm e = (
+ends_since c WorldTells OutTells old mid new name (Err (CannotRead n)) b out left calm opened e = (
   input_since WorldTells old.contents mid.contents b.same (work c).steps n name e.0,
   object_since WorldTells old mid new b name e.1,
   (λ told. (
@@ -156,12 +158,17 @@ ends_since c WorldTells OutTells old mid new name (Err (CannotRead n)) b out lef
   )),
   unchanged_since WorldTells OutTells old mid new b out e.3,
 )
-ends_since c WorldTells OutTells old mid new name (Err (Refused n (AtLine line kind))) b out left calm e = (
+ends_since c WorldTells OutTells old mid new name (Err (Refused n (AtLine line kind))) b out left calm opened e = (
   input_since WorldTells old.contents mid.contents b.same (work c).steps n name e.0,
   refuses_since WorldTells old.contents mid.contents b.same (work c).steps n (AtLine line kind) e.1,
   unchanged_since WorldTells OutTells old mid new b out e.2,
 )
-ends_since c WorldTells OutTells old mid new name (Err (Refused n (AtByte byte kind))) b out left calm e = (
+ends_since c WorldTells OutTells old mid new name (Err (Refused n (AtTrunk line))) b out left calm opened e = (
+  input_since WorldTells old.contents mid.contents b.same (work c).steps n name e.0,
+  refuses_since WorldTells old.contents mid.contents b.same (work c).steps n (AtTrunk line) e.1,
+  unchanged_since WorldTells OutTells old mid new b out e.2,
+)
+ends_since c WorldTells OutTells old mid new name (Err (Refused n (AtByte byte kind))) b out left calm opened e = (
   input_since WorldTells old.contents mid.contents b.same (work c).steps n name e.0,
   e.1,
   (λ told. (
@@ -170,7 +177,7 @@ ends_since c WorldTells OutTells old mid new name (Err (Refused n (AtByte byte k
   )),
   unchanged_since WorldTells OutTells old mid new b out e.3,
 )
-ends_since c WorldTells OutTells old mid new name (Err (Refused n (AtFrame byte kind))) b out left calm e = (
+ends_since c WorldTells OutTells old mid new name (Err (Refused n (AtFrame byte kind))) b out left calm opened e = (
   input_since WorldTells old.contents mid.contents b.same (work c).steps n name e.0,
   e.1,
   (λ told. (
@@ -179,20 +186,20 @@ ends_since c WorldTells OutTells old mid new name (Err (Refused n (AtFrame byte 
   )),
   unchanged_since WorldTells OutTells old mid new b out e.3,
 )
-ends_since c WorldTells OutTells old mid new name (Err (Refused n (AfterTurns turns))) b out left calm e = (
+ends_since c WorldTells OutTells old mid new name (Err (Refused n (AfterTurns turns))) b out left calm opened e = (
   e.0,
   e.1,
   (λ t. sym (outcome_where WorldTells old.contents mid.contents b.same (work c).steps t) ∙ e.2 t),
   (λ file. e.3 file ∙ calm file),
   unchanged_since WorldTells OutTells old mid new b out e.4,
 )
-ends_since c WorldTells OutTells old mid new name (Err (LinkFailed leg)) b out left calm e = (
+ends_since c WorldTells OutTells old mid new name (Err (LinkFailed leg)) b out left calm opened e = (
   e.0,
   subst (λ links. ServesSome WorldTells old.contents (work c).steps (λ conference. LegFailed conference leg name links new.links)) left
       (serves_since WorldTells old.contents mid.contents b.same (work c).steps (λ conference. LegFailed conference leg name mid.links new.links) e.1),
   unchanged_since WorldTells OutTells old mid new b out e.2,
 )
-ends_since c WorldTells OutTells old mid new name (Err NoMemory) b out left calm e = unchanged_since WorldTells OutTells old mid new b out e
+ends_since c WorldTells OutTells old mid new name (Err NoMemory) b out left calm opened e = unchanged_since WorldTells OutTells old mid new b out e
 
 -- ---- names
 pub same_name : (name : List ℕ) (ending : Ending) → name_in name name ending ≡ name
@@ -205,3 +212,13 @@ same_name name (Err CannotPrint) = refl
 same_name name (Err (CannotWrite n)) = refl
 same_name name (Err (LinkFailed leg)) = refl
 same_name name (Err NoMemory) = refl
+
+-- what makes outputs, by what lay there before
+pub makes_since : (WorldTells : Type 0) (held then : Contents) (command : Command) (legs : List LegLine) (printed : List ℕ) (files : List Made) → (WorldTells → Same held then)
+    → MakesOutputs WorldTells held command legs printed files → MakesOutputs WorldTells then command legs printed files
+makes_since WorldTells held then command legs printed files same m = record {
+  reads = m.reads;
+  prints = m.prints;
+  output = λ n leg at. output_since WorldTells then held (λ told name. sym (same told name)) (work command).steps n leg.output (m.output n leg at);
+  comes = λ told. outcome_since held then (same told) 0 (work command).steps ∙ m.comes told;
+}

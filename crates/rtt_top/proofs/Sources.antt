@@ -2,7 +2,7 @@
 use Rattle.std.proofs.Common.{◌≡◌, ℕ, ◌+◌, List, inl, inr, ap, subst, ◌∙◌, arith}
 use Rattle.std.proofs.lemmas.Bool.{cases_lt}
 use Rattle.rtt_io.specs.Counts.{Rose, counted, last_count}
-use Rattle.command_spec.specs.declared.faults.Refusal.TheVariants.{AtByte, AtFrame, AtLine, AfterTurns}
+use Rattle.command_spec.specs.declared.faults.Refusal.TheVariants.{AtByte, AtFrame, AtLine, AtTrunk, AfterTurns}
 use Rattle.command_spec.specs.declared.faults.Fault.{Fault}
 use Rattle.command_spec.specs.declared.faults.Fault.TheVariants.{WrongWords, CannotOpen, CannotRead, Refused, CannotPrint, CannotWrite, LinkFailed, NoMemory}
 use Rattle.rtt_top.specs.Faults.{IsOfRecording}
@@ -30,6 +30,7 @@ of_recording A B f (CannotRead n) u = (u.0, f u.1)
 of_recording A B f (Refused n (AtByte byte kind)) u = u
 of_recording A B f (Refused n (AtFrame byte kind)) u = u
 of_recording A B f (Refused n (AtLine line kind)) u = u
+of_recording A B f (Refused n (AtTrunk line)) u = u
 of_recording A B f (Refused n (AfterTurns turns)) u = u
 of_recording A B f CannotPrint u = u
 of_recording A B f (CannotWrite n) u = u

@@ -14,6 +14,8 @@ use Rattle.command_spec.specs.declared.faults.Refusal.TheVariants.{AtByte}
 use Rattle.command_spec.specs.Work.{Contents, Steps, Reads, Refuses, Makes, Serves}
 use Rattle.command_spec.specs.Outcomes.{Outcome, Missing, Served, outcome, outcome_from}
 use Rattle.command_spec.specs.Attending.{attending, attends, attends_read, named}
+use Rattle.command_spec.specs.Cascading.{cascades, cascades_read, cascading, odd_line, unless_odd}
+use Rattle.command_spec.proofs.CascadeOutputs.{AllOuts, cascade_outs}
 use Rattle.command_spec.specs.Mixing.{input_at, makes, mixes, mixes_read, mixing, reads_inputs, unless_one_broken}
 
 -- whatever is read, no live call is served
@@ -69,3 +71,21 @@ of_attended (Ok c) = none_read c.legs (attends c) (λ inputs. mixes_none (named 
 
 pub attending_serves_none : (held : Contents) (file : List ℕ) (c : Conf) → outcome held (attending file) ≡ Served c → ⊥
 attending_serves_none held file c e = not_served 0 held (attending file) c (λ octets. of_attended (conf Files octets)) e
+
+-- what makes outputs of a mixing serves none
+outs_serve_none : (c : Conf) (steps : Steps) → AllOuts c steps → ServesNone steps
+outs_serve_none c (Reads name next) a = λ octets. outs_serve_none c (next octets) (a octets)
+outs_serve_none c (Refuses input refusal) a = tt
+outs_serve_none c (Makes printed files) a = tt
+outs_serve_none c (Serves other) a = absurd a
+
+of_even : (file : List ℕ) (ssrc : ℕ) (c : Conf) (o : Option ℕ) → ServesNone (unless_odd o (cascades file ssrc c))
+of_even file ssrc c None = outs_serve_none c (cascades file ssrc c) (cascade_outs file ssrc c)
+of_even file ssrc c (Some line) = tt
+
+of_cascaded : (file : List ℕ) (ssrc : ℕ) (r : Result Conf lines.Refusal) → ServesNone (cascades_read file ssrc r)
+of_cascaded file ssrc (Err refusal) = tt
+of_cascaded file ssrc (Ok c) = of_even file ssrc c (odd_line c.legs)
+
+pub cascading_serves_none : (held : Contents) (conference file : List ℕ) (ssrc : ℕ) (c : Conf) → outcome held (cascading conference file ssrc) ≡ Served c → ⊥
+cascading_serves_none held conference file ssrc c e = not_served 0 held (cascading conference file ssrc) c (λ octets. of_cascaded file ssrc (conf Files octets)) e

@@ -5,7 +5,7 @@ use Rattle.wire_spec.specs.declared.faults.DumpKind.{DumpKind}
 use Rattle.wire_spec.specs.Dump.{dump, usual_limit}
 use Rattle.wire_spec.specs.Dump as dumps
 use Rattle.command_spec.specs.declared.faults.Refusal.{Refusal}
-use Rattle.command_spec.specs.declared.faults.Refusal.TheVariants.{AtByte, AtFrame, AtLine, AfterTurns}
+use Rattle.command_spec.specs.declared.faults.Refusal.TheVariants.{AtByte, AtFrame, AtLine, AtTrunk, AfterTurns}
 use Rattle.command_spec.specs.declared.faults.Fault.{Fault}
 use Rattle.command_spec.specs.declared.faults.Fault.TheVariants.{WrongWords, CannotOpen, CannotRead, Refused, CannotPrint, CannotWrite, LinkFailed, NoMemory}
 use Rattle.command_spec.specs.Words.{Command}
@@ -15,7 +15,7 @@ use Rattle.command_spec.specs.Outcomes as outcomes
 use Rattle.command_spec.specs.Commands.{unless_broken, prints_unless, prints_recording, work}
 use Rattle.command_spec.specs.Messages.{Ending}
 use Rattle.rtt_top.specs.Faults.{WhereRead, RefusesSo, Stops, IsUnread, IsOfByte, IsOfRecording, IsTrueOf, is_recording, name_in}
-use Rattle.rtt_top.specs.Outside.{Outside, Failed, CallFailed, ObjectFailed}
+use Rattle.rtt_top.specs.Outside.{Outside, Failed, ObjectFailed, OpenFailed}
 use Rattle.rtt_top.specs.Runs.{Prints, PrintsFront, Unchanged, Ends, NoneFailedBefore, outcome_of}
 use Rattle.rtt_top.proofs.Before.{none_before_first}
 
@@ -83,6 +83,7 @@ stops_unless WorldTells held c file fault_of then Call Object (Refused n (AtByte
 )
 stops_unless WorldTells held c file fault_of then Call Object (Refused n (AtFrame byte kind)) is rec u t = absurd u
 stops_unless WorldTells held c file fault_of then Call Object (Refused n (AtLine line kind)) is rec u t = absurd u
+stops_unless WorldTells held c file fault_of then Call Object (Refused n (AtTrunk line)) is rec u t = absurd u
 stops_unless WorldTells held c file fault_of then Call Object (Refused n (AfterTurns turns)) is rec u t = u
 stops_unless WorldTells held c file fault_of then Call Object CannotPrint is rec u t = u
 stops_unless WorldTells held c file fault_of then Call Object (CannotWrite n) is rec u t = u
@@ -115,7 +116,7 @@ none_failed_first c WorldTells old new n e k name less i later = absurd (omega (
 
 pub stopped : (c : Command) (WorldTells OutTells : Type 0) (old new : Outside) (input output : List ℕ) (fault : Fault)
     → IsInput WorldTells old.contents (work c).steps 0 input
-    → Stops WorldTells old.contents c (CallFailed old new input) (ObjectFailed old new input) fault → Unchanged WorldTells OutTells old new
+    → Stops WorldTells old.contents c (OpenFailed WorldTells old new input) (ObjectFailed old new input) fault → Unchanged WorldTells OutTells old new
     → Ends c WorldTells OutTells old new (name_in input output (Err fault)) (Err fault)
 stopped c WorldTells OutTells old new input output WrongWords i s u = absurd s
 stopped c WorldTells OutTells old new input output (CannotOpen n) i s u = (first_input WorldTells old.contents (work c).steps n input s.0 i, s.1, u)
@@ -138,6 +139,7 @@ stopped c WorldTells OutTells old new input output (Refused n (AtFrame byte kind
   (λ told. (s.2 told ∙ ap (λ k. outcomes.Refused k (AtFrame byte kind)) (sym s.0), none_failed_first c WorldTells old new n s.0)),
   u,
 )
+stopped c WorldTells OutTells old new input output (Refused n (AtTrunk line)) i s u = absurd s
 stopped c WorldTells OutTells old new input output (Refused n (AfterTurns turns)) i s u = absurd s
 stopped c WorldTells OutTells old new input output CannotPrint i s u = absurd s
 stopped c WorldTells OutTells old new input output (CannotWrite n) i s u = absurd s

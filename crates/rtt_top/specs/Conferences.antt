@@ -12,12 +12,13 @@ use Rattle.command_spec.specs.declared.faults.Refusal.TheVariants.{AtByte, AtLin
 use Rattle.command_spec.specs.declared.faults.Fault.{Fault}
 use Rattle.command_spec.specs.declared.faults.Fault.TheVariants.{WrongWords, CannotOpen, CannotRead, Refused, CannotPrint, CannotWrite, LinkFailed, NoMemory}
 use Rattle.command_spec.specs.Messages.{Ending}
-use Rattle.command_spec.specs.Words.{Attend, Command, Live}
+use Rattle.command_spec.specs.Words.{Attend, Cascade, Command, Live}
 use Rattle.command_spec.specs.Work.{Contents, IsInput, IsOutput, Made, Makes, Reads, Refuses, Steps}
 use Rattle.command_spec.specs.Commands.{work}
-use Rattle.command_spec.specs.Outcomes.{outcome, outcome_from}
+use Rattle.command_spec.specs.Outcomes.{Done, outcome, outcome_from}
 use Rattle.command_spec.specs.Inputs.{AllLie, LieBelow}
-use Rattle.bridge_run.specs.Mixes.{steps_of}
+use Rattle.bridge_run.specs.declared.mixed.Mixed.{Mixed}
+use Rattle.bridge_run.specs.Mixes.{outputs_of, steps_of}
 use Rattle.rtt_top.specs.Faults.{WhereRead, is_mixed, is_recording}
 use Rattle.rtt_top.specs.Worlds.{first_file}
 use Rattle.rtt_top.specs.Outside.{Outside}
@@ -25,20 +26,31 @@ use Rattle.rtt_top.specs.Runs.{Ends}
 use Rattle.bridge_run.specs.declared.mixed.MixFault.{MixFault}
 use Rattle.bridge_run.specs.declared.mixed.MixFault.TheVariants.{Open, Dump, TooLong}
 use Rattle.bridge_run.specs.declared.mixed.MixFault.TheVariants as mix
+use Rattle.rtt_cascade.specs.declared.faults.CascadeFault.{CascadeFault}
+use Rattle.rtt_cascade.specs.declared.faults.CascadeFault.TheVariants as behind
+use Rattle.rtt_cascade.specs.Inputs as behind_inputs
 use Rattle.live_run.specs.declared.faults.LiveFault.{LiveFault}
 use Rattle.live_run.specs.declared.faults.LiveFault.TheVariants as live
 
--- the conference is the first input, and the recording of leg k is the one of number k + 1
+-- the fault of the recording that is the input of this number
 abbrev pub fault_of_recording : ℕ → DumpFault → Fault
-fault_of_recording leg fault =
-    if is_of_source fault.kind then CannotRead (leg + 1) else Refused (leg + 1) (AtByte fault.offset fault.kind)
+fault_of_recording input fault =
+    if is_of_source fault.kind then CannotRead input else Refused input (AtByte fault.offset fault.kind)
 
--- the fault of a command for that of a mixing of at most so many turns
+-- The fault of a command for that of a mixing of at most so many turns. The conference is the first input, and the recording of leg k
+-- is the one of number k + 1.
 abbrev pub fault_of_mixing : ℕ → MixFault → Fault
 fault_of_mixing turns (Open leg) = CannotOpen (leg + 1)
-fault_of_mixing turns (Dump leg fault) = fault_of_recording leg fault
+fault_of_mixing turns (Dump leg fault) = fault_of_recording (leg + 1) fault
 fault_of_mixing turns TooLong = Refused 0 (AfterTurns turns)
 fault_of_mixing turns mix.NoMemory = NoMemory
+
+-- the same for that of a conference behind another mixer, whose inputs are numbered as the command's
+abbrev pub fault_of_cascade : ℕ → CascadeFault → Fault
+fault_of_cascade turns (behind.Open input) = CannotOpen input
+fault_of_cascade turns (behind.Dump input fault) = fault_of_recording input fault
+fault_of_cascade turns behind.TooLong = Refused 0 (AfterTurns turns)
+fault_of_cascade turns behind.NoMemory = NoMemory
 
 -- the fault of a command for that of a live call
 abbrev pub fault_of_live : LiveFault → Fault
@@ -78,6 +90,18 @@ abbrev pub ending_name : List ℕ → List LegLine → Ending → List ℕ
 ending_name file legs (Ok done) = file
 ending_name file legs (Err fault) = fault_name file legs fault
 
+-- ---- names behind another mixer
+-- the name of the input of this number: the conference, the recording of what that mixer sent, or the input of a leg of its own
+abbrev pub input_behind : List ℕ → List ℕ → List LegLine → ℕ → List ℕ
+input_behind conference file legs zero = conference
+input_behind conference file legs (suc n) = behind_inputs.input_name file legs (suc n)
+
+abbrev pub ending_behind : List ℕ → List ℕ → List LegLine → Ending → List ℕ
+ending_behind conference file legs (Err (CannotOpen input)) = input_behind conference file legs input
+ending_behind conference file legs (Err (CannotRead input)) = input_behind conference file legs input
+ending_behind conference file legs (Err (Refused input refusal)) = input_behind conference file legs input
+ending_behind conference file legs ending = ending_name conference legs ending
+
 -- ---- what a command does with a conference
 -- It reads the file of this name first, whose form is this, and refuses what is no conference there.
 pub record ReadsConf (form : Form) (file : List ℕ) (c : Command) : Type 0 where
@@ -100,9 +124,27 @@ pub record ComesToMixing (WorldTells : Type 0) (held : Contents) (command : Comm
       → (n : ℕ) (leg : LegLine) → leg_at c.legs n ≡ Some leg → IsOutput WorldTells held (work command).steps n leg.output
   pub comes : WorldTells → AllLie held c.legs → outcome held (work command).steps ≡ outcome_from (length c.legs + 1) held (steps_of held c)
 
+-- By what lies in files, a command makes these outputs of legs, and prints this.
+pub record MakesOutputs (WorldTells : Type 0) (held : Contents) (command : Command) (legs : List LegLine) (printed : List ℕ) (files : List Made) : Type 0 where
+  pub reads : WhereRead (work command).steps WorldTells → WorldTells
+  pub prints : (work command).prints ≡ true
+  pub output : (n : ℕ) (leg : LegLine) → leg_at legs n ≡ Some leg → IsOutput WorldTells held (work command).steps n leg.output
+  pub comes : WorldTells → outcome held (work command).steps ≡ Done printed files
+
 -- a live call of it is served
 abbrev pub serving_of : List ℕ → Command
 serving_of file = Live (record { conf = file })
+
+-- the name that is told of an ending is that of the output of a leg, where it can't be written
+abbrev pub NamesOutputs : List LegLine → (Ending → List ℕ) → Type 0
+NamesOutputs legs name = (n : ℕ) (leg : LegLine) → leg_at legs n ≡ Some leg → name (Err (CannotWrite n)) ≡ leg.output
+
+-- Any command that makes these outputs ends so, however its files are named.
+abbrev pub OutputsEnd : (WorldTells OutTells : Type 0) → Outside → Outside → List LegLine → Mixed → Ending → Type 0
+OutputsEnd WorldTells OutTells old new legs mixed ending =
+    (command : Command) (name : Ending → List ℕ) → NamesOutputs legs name
+    → MakesOutputs WorldTells old.contents command legs mixed.views (outputs_of legs mixed.outs.items)
+    → Ends command WorldTells OutTells old new (name ending) ending
 
 -- Any command that comes to the mixing of this conference ends so, where its file has any name.
 abbrev pub MixingEnds : (WorldTells OutTells : Type 0) → Outside → Outside → Conf → Ending → Type 0
@@ -115,3 +157,10 @@ abbrev pub AttendingEnds : (WorldTells OutTells : Type 0) → Outside → Outsid
 AttendingEnds WorldTells OutTells old new c now ending =
     (file octets : List ℕ) → (WorldTells → old.contents file ≡ Some octets) → conf Files octets ≡ Ok c
     → Ends (Attend (record { conf = file })) WorldTells OutTells old new (ending_name file now.legs ending) ending
+
+-- `cascade` ends so where the file of any name has this conference, behind a mixer of this SSRC, which is recorded in this file.
+abbrev pub CascadingEnds : (WorldTells OutTells : Type 0) → Outside → Outside → List ℕ → ℕ → Conf → Ending → Type 0
+CascadingEnds WorldTells OutTells old new file ssrc c ending =
+    (conference octets : List ℕ) → (WorldTells → old.contents conference ≡ Some octets) → conf Files octets ≡ Ok c
+    → Ends (Cascade (record { file = file; ssrc = ssrc; conf = conference })) WorldTells OutTells old new
+    (ending_behind conference file c.legs ending) ending

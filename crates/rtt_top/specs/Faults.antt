@@ -3,10 +3,10 @@ use Rattle.std.specs.Prelude.{◌≡◌, ◌≤◌, ℕ, zero, suc, Bool, true, 
 use Rattle.wire_spec.specs.Dump.{Recording}
 use Rattle.wire_spec.specs.Dump as dumps
 use Rattle.command_spec.specs.declared.faults.Refusal.{Refusal}
-use Rattle.command_spec.specs.declared.faults.Refusal.TheVariants.{AtByte, AtFrame, AtLine, AfterTurns}
+use Rattle.command_spec.specs.declared.faults.Refusal.TheVariants.{AtByte, AtFrame, AtLine, AtTrunk, AfterTurns}
 use Rattle.command_spec.specs.declared.faults.Fault.{Fault}
 use Rattle.command_spec.specs.declared.faults.Fault.TheVariants.{WrongWords, CannotOpen, CannotRead, Refused, CannotPrint, CannotWrite, LinkFailed, NoMemory}
-use Rattle.command_spec.specs.Words.{Command, Read, ListRecords, Send, Mix, Attend, Make, Live, Relay, Channel, Show, Script, Version}
+use Rattle.command_spec.specs.Words.{Command, Read, ListRecords, Send, Mix, Attend, Cascade, Make, Live, Watch, Relay, Channel, Show, Script, Version}
 use Rattle.command_spec.specs.Work.{Contents, Steps, Reads, Refuses, Makes, Serves}
 use Rattle.command_spec.specs.Commands.{work}
 use Rattle.command_spec.specs.Outcomes.{Outcome, Missing, Done, Served, outcome}
@@ -26,6 +26,7 @@ NoneBefore n (Missing input) = Unit {0}
 NoneBefore n (outcomes.Refused input (AtByte byte kind)) = n ≤ input
 NoneBefore n (outcomes.Refused input (AtFrame byte kind)) = n ≤ input
 NoneBefore n (outcomes.Refused input (AtLine line kind)) = n ≤ input
+NoneBefore n (outcomes.Refused input (AtTrunk line)) = n ≤ input
 NoneBefore n (outcomes.Refused input (AfterTurns turns)) = Unit {0}
 NoneBefore n (Done printed files) = Unit {0}
 NoneBefore n (Served c) = Unit {0}
@@ -38,7 +39,7 @@ RefusesSo WorldTells held (Refuses n other) input refusal = (n ≡ input) × (ot
 RefusesSo WorldTells held (Makes printed files) input refusal = ⊥
 RefusesSo WorldTells held (Serves c) input refusal = ⊥
 
--- The input of this number is a recording: the only one, or that of a leg.
+-- The input of this number is a recording: the only one, that of a leg, or what another mixer sent.
 abbrev pub is_recording : Command → ℕ → Bool
 is_recording (Read r) input = true
 is_recording (ListRecords l) input = true
@@ -47,8 +48,11 @@ is_recording (Mix m) zero = false
 is_recording (Mix m) (suc leg) = true
 is_recording (Attend m) zero = false
 is_recording (Attend m) (suc leg) = true
+is_recording (Cascade c) zero = false
+is_recording (Cascade c) (suc recording) = true
 is_recording (Make m) input = false
 is_recording (Live m) input = false
+is_recording (Watch m) input = false
 is_recording (Relay s) input = false
 is_recording (Channel c) input = true
 is_recording (Show l) input = true
@@ -64,12 +68,14 @@ has_frames _ = false
 -- a live call is served
 abbrev pub is_live : Command → Bool
 is_live (Live m) = true
+is_live (Watch m) = true
 is_live _ = false
 
 -- a conference is mixed
 abbrev pub is_mixed : Command → Bool
 is_mixed (Mix m) = true
 is_mixed (Attend m) = true
+is_mixed (Cascade c) = true
 is_mixed (Make m) = true
 is_mixed _ = false
 
@@ -81,6 +87,7 @@ Stops WorldTells held c Call Object (CannotOpen input) = (input ≡ 0) × Call
 Stops WorldTells held c Call Object (CannotRead input) = (input ≡ 0) × Object
 Stops WorldTells held c Call Object (Refused input (AtLine line kind)) =
     (input ≡ 0) × RefusesSo WorldTells held (work c).steps 0 (AtLine line kind)
+Stops WorldTells held c Call Object (Refused input (AtTrunk line)) = ⊥
 Stops WorldTells held c Call Object (Refused input (AtByte byte kind)) =
     (input ≡ 0) × (is_recording c 0 ≡ true) × (WorldTells → outcome held (work c).steps ≡ outcomes.Refused 0 (AtByte byte kind))
 Stops WorldTells held c Call Object (Refused input (AtFrame byte kind)) =
@@ -107,6 +114,7 @@ abbrev pub IsOfByte : Option dumps.Fault → Refusal → Type 0
 IsOfByte found (AtByte byte kind) = found ≡ Some (record { byte = byte; kind = kind })
 IsOfByte found (AtFrame byte kind) = ⊥
 IsOfByte found (AtLine line kind) = ⊥
+IsOfByte found (AtTrunk line) = ⊥
 IsOfByte found (AfterTurns turns) = ⊥
 
 -- a fault of a first input that is a recording, where this says that its source failed
@@ -117,6 +125,7 @@ IsOfRecording Source (CannotRead input) = (input ≡ 0) × Source
 IsOfRecording Source (Refused input (AtByte byte kind)) = input ≡ 0
 IsOfRecording Source (Refused input (AtFrame byte kind)) = ⊥
 IsOfRecording Source (Refused input (AtLine line kind)) = ⊥
+IsOfRecording Source (Refused input (AtTrunk line)) = ⊥
 IsOfRecording Source (Refused input (AfterTurns turns)) = ⊥
 IsOfRecording Source CannotPrint = ⊥
 IsOfRecording Source (CannotWrite output) = ⊥

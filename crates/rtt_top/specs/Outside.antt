@@ -6,6 +6,7 @@ use Rattle.rtt_io.specs.declared.worlds.World as worlds
 use Rattle.link_spec.specs.Links.{Takes}
 use Rattle.link_io.specs.declared.links.Links as links
 use Rattle.command_spec.specs.Work.{Contents}
+use Rattle.bridge_run.specs.Mixes.{NoOtherFailed}
 
 -- What an output took, and how often it failed.
 pub record Output : Type 0 where
@@ -77,6 +78,10 @@ Failed old new = Rose old.faults new.faults
 -- a call that opens or creates this name failed
 abbrev pub CallFailed : Outside → Outside → List ℕ → Type 0
 CallFailed old new name = RoseAt old.calls new.calls name
+
+-- a call that opens this name failed, and, where something lies there, none that opens another one, as far as the world tells
+abbrev pub OpenFailed : (WorldTells : Type 0) → Outside → Outside → List ℕ → Type 0
+OpenFailed WorldTells old new name = CallFailed old new name × (WorldTells → NoOtherFailed old.contents name old.calls new.calls)
 
 -- a source or a sink of this name failed
 abbrev pub ObjectFailed : Outside → Outside → List ℕ → Type 0

@@ -3,21 +3,22 @@
 use Rattle.std.specs.Prelude.{◌≡◌, ◌⊎◌, ◌<◌, ◌≤◌, ℕ, Bool, true, false, Option, None, Some, List, [], ◌∷◌, ◌++◌, take, Ok, Err, suc, zero, map, String, string_bytes}
 use Rattle.std.specs.Global.{Global}
 use Rattle.rtt_io.specs.Fronts.{TakesFront}
-use Rattle.command_spec.specs.Words.{ReadWords, MixWords, Command, Read, ListRecords, Send, Mix, Attend, Make, Live, Relay, Channel, Show, Script, Version, command}
+use Rattle.command_spec.specs.Words.{ReadWords, MixWords, CascadeWords, Command, Read, ListRecords, Send, Mix, Attend, Cascade, Make, Live, Watch, Relay, Channel, Show, Script, Version, command}
 use Rattle.stream_spec.specs.History.{History, Lawful, Come}
-use Rattle.command_spec.specs.declared.faults.Refusal.TheVariants.{AtByte, AtFrame, AtLine, AfterTurns}
+use Rattle.command_spec.specs.declared.faults.Refusal.TheVariants.{AtByte, AtFrame, AtLine, AtTrunk, AfterTurns}
 use Rattle.command_spec.specs.declared.faults.Fault.TheVariants.{WrongWords, CannotOpen, CannotRead, Refused, CannotPrint, CannotWrite, LinkFailed, NoMemory}
 use Rattle.command_spec.specs.Work.{Contents, Made, Work, IsInput, IsOutput, ServesSome}
 use Rattle.command_spec.specs.Outcomes.{Outcome, outcome, IsDone, Same, Stores, AllStored}
 use Rattle.command_spec.specs.Outcomes as outcomes
 use Rattle.command_spec.specs.Bridges.{IsBridged}
 use Rattle.command_spec.specs.Attended.{IsAttended}
+use Rattle.command_spec.specs.Cascaded.{IsCascaded}
 use Rattle.command_spec.specs.Reading.{arrivals_of, history_view}
 use Rattle.command_spec.specs.Commands.{request_of, work}
 use Rattle.command_spec.specs.Messages.{Ending, ending_of, status_of, message_of}
 use Rattle.rtt_top.specs.Faults.{NoneBefore, RefusesSo, WhereRead, has_frames, is_live, is_mixed, is_recording}
 use Rattle.rtt_top.specs.Files.{IsPartlyStored}
-use Rattle.rtt_top.specs.Outside.{Outside, Output, Failed, CallFailed, ObjectFailed}
+use Rattle.rtt_top.specs.Outside.{Outside, Output, Failed, CallFailed, ObjectFailed, OpenFailed}
 use Rattle.rtt_top.specs.Ports.{LegFailed}
 
 -- what these words ask for, if they are in the word table
@@ -32,8 +33,10 @@ is_plain (Some (ListRecords l)) = true
 is_plain (Some (Send s)) = true
 is_plain (Some (Mix m)) = false
 is_plain (Some (Attend m)) = false
+is_plain (Some (Cascade c)) = false
 is_plain (Some (Make m)) = false
 is_plain (Some (Live m)) = false
+is_plain (Some (Watch m)) = false
 is_plain (Some (Relay s)) = true
 is_plain (Some (Channel c)) = true
 is_plain (Some (Show l)) = true
@@ -108,7 +111,7 @@ Ends c WorldTells OutTells old new name (Ok done) =
     IsAllMade c WorldTells old new (λ printed. OutTells → Prints printed old new)
 Ends c WorldTells OutTells old new name (Err WrongWords) = ⊥
 Ends c WorldTells OutTells old new name (Err (CannotOpen input)) = IsInputOf c WorldTells old input name
-    × CallFailed old new name
+    × OpenFailed WorldTells old new name
     × Unchanged WorldTells OutTells old new
 Ends c WorldTells OutTells old new name (Err (CannotRead input)) = IsInputOf c WorldTells old input name
     × ObjectFailed old new name
@@ -116,6 +119,9 @@ Ends c WorldTells OutTells old new name (Err (CannotRead input)) = IsInputOf c W
     × Unchanged WorldTells OutTells old new
 Ends c WorldTells OutTells old new name (Err (Refused input (AtLine line kind))) = IsInputOf c WorldTells old input name
     × RefusesSo WorldTells old.contents (work c).steps input (AtLine line kind)
+    × Unchanged WorldTells OutTells old new
+Ends c WorldTells OutTells old new name (Err (Refused input (AtTrunk line))) = IsInputOf c WorldTells old input name
+    × RefusesSo WorldTells old.contents (work c).steps input (AtTrunk line)
     × Unchanged WorldTells OutTells old new
 Ends c WorldTells OutTells old new name (Err (Refused input (AtByte byte kind))) = IsInputOf c WorldTells old input name
     × (is_recording c input ≡ true)
@@ -183,6 +189,12 @@ pub record IsAttendedHeadline (OutTells : Type 0) (m : MixWords) (old new : Outs
   pub prints : OutTells → Prints printed old new
   pub attended : IsAttended old.contents new.contents m.conf printed
 
+-- What was made of a conference behind another mixer is bridged, behind both mixers.
+pub record IsCascadedHeadline (OutTells : Type 0) (w : CascadeWords) (old new : Outside) : Type 0 where
+  pub printed : List ℕ
+  pub prints : OutTells → Prints printed old new
+  pub cascaded : IsCascaded old.contents new.contents w.conf w.file w.ssrc printed
+
 -- What a run is that ends with this status, where the output of errors was and is such.
 pub record Runs (words : Option Command) (WorldTells OutTells ErrTells : Type 0) (old new : Outside) (before after : Output)
     (status : ℕ) : Type 0 where
@@ -196,6 +208,7 @@ pub record Runs (words : Option Command) (WorldTells OutTells ErrTells : Type 0)
       → IsViewOf h words old.contents view → Prints view old new
   pub headline : WorldTells → ending ≡ Ok tt → (m : MixWords) → words ≡ Some (Mix m) → IsHeadline OutTells m old new
   pub attended : WorldTells → ending ≡ Ok tt → (m : MixWords) → words ≡ Some (Attend m) → IsAttendedHeadline OutTells m old new
+  pub cascaded : WorldTells → ending ≡ Ok tt → (w : CascadeWords) → words ≡ Some (Cascade w) → IsCascadedHeadline OutTells w old new
   pub silent : ending ≡ Ok tt → after.octets ≡ before.octets
   pub front : ErrTells → TakesFront before.octets after.octets (message_of name ending)
   pub told : ErrTells → (Failed before after → ⊥) → after.octets ≡ before.octets ++ message_of name ending

@@ -1,6 +1,6 @@
 -- The statuses with which each command can end.
 use Rattle.std.specs.Prelude.{◌≡◌, ◌==◌, ◌||◌, ℕ, Bool, true, Some}
-use Rattle.command_spec.specs.Words.{Command, Read, ListRecords, Send, Mix, Attend, Make, Live, Relay, Channel, Show, Script, Version}
+use Rattle.command_spec.specs.Words.{Command, Read, ListRecords, Send, Mix, Attend, Cascade, Make, Live, Watch, Relay, Channel, Show, Script, Version}
 use Rattle.rtt_top.specs.Outside.{Outside, Output}
 use Rattle.rtt_top.specs.Runs.{Runs}
 
@@ -19,8 +19,10 @@ can_end (ListRecords l) status = is_always status || is_unread status || status 
 can_end (Send s) status = is_always status || is_unread status || status == 5
 can_end (Mix m) status = is_always status || is_unread status || status == 5 || status == 6 || status == 9
 can_end (Attend m) status = is_always status || is_unread status || status == 5 || status == 6 || status == 9
+can_end (Cascade c) status = is_always status || is_unread status || status == 5 || status == 6 || status == 9
 can_end (Make m) status = is_always status || status == 9
 can_end (Live m) status = is_always status || is_unread status || status == 5 || status == 8
+can_end (Watch m) status = is_always status || is_unread status || status == 5 || status == 8
 can_end (Relay s) status = is_always status || is_unread status || status == 6
 can_end (Channel c) status = is_always status || is_unread status || status == 6
 can_end (Show l) status = is_always status || is_unread status || status == 6

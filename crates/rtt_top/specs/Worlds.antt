@@ -8,13 +8,13 @@ use Rattle.file_spec.specs.declared.conf_lines.LegLine.{LegLine}
 use Rattle.file_spec.specs.Conf.{conf}
 use Rattle.file_spec.specs.Script.{ScriptLine, script}
 use Rattle.command_spec.specs.declared.faults.Fault.{Fault}
-use Rattle.command_spec.specs.Words.{SendWords, ChannelWords, Command, Read, ListRecords, Send, Mix, Attend, Make, Live, Relay, Channel, Show, Script, Version}
+use Rattle.command_spec.specs.Words.{SendWords, ChannelWords, Command, Read, ListRecords, Send, Mix, Attend, Cascade, Make, Live, Watch, Relay, Channel, Show, Script, Version}
 use Rattle.command_spec.specs.Work.{Makes}
 use Rattle.command_spec.specs.Commands.{sending_of, sends, work}
 use Rattle.command_spec.specs.Frames.{channel, relay}
 use Rattle.wire_spec.specs.Dump.{dump, usual_limit}
 use Rattle.command_spec.specs.Outcomes.{outcome, Done, Stores, AllStored}
-use Rattle.bridge_run.specs.Mixes.{outputs_of}
+use Rattle.bridge_run.specs.Mixes.{NoOtherFailed, outputs_of}
 use Rattle.rtt_top.specs.Outside.{RoseAt}
 use Rattle.rtt_top.specs.Files.{made_file, IsPartlyStored}
 use Rattle.rtt_top.specs.Faults.{Stops, IsUnread}
@@ -31,8 +31,10 @@ first_file (ListRecords l) = l.file
 first_file (Send s) = s.file
 first_file (Mix m) = m.conf
 first_file (Attend m) = m.conf
+first_file (Cascade c) = c.conf
 first_file (Make m) = []
 first_file (Live m) = m.conf
+first_file (Watch m) = m.conf
 first_file (Relay s) = s.file
 first_file (Channel c) = c.file
 first_file (Show l) = l.file
@@ -45,6 +47,10 @@ module _ {W S D : Type 0} (w : worlds.Ghosts W S D) where
   abbrev pub CallFailedIn : W → W → List ℕ → Type 0
   CallFailedIn old new name = RoseAt (w.own_faults old) (w.own_faults new) name
 
+  -- and, where something lies there, none that opens another one, as far as the world tells
+  abbrev pub OpenFailedIn : W → W → List ℕ → Type 0
+  OpenFailedIn old new name = CallFailedIn old new name × (w.tells → NoOtherFailed (w.contents old) name (w.own_faults old) (w.own_faults new))
+
   -- a source or a sink of this name failed
   abbrev pub ObjectFailedIn : W → W → List ℕ → Type 0
   ObjectFailedIn old new name = RoseAt (w.object_faults old) (w.object_faults new) name
@@ -55,12 +61,12 @@ module _ {W S D : Type 0} (w : worlds.Ghosts W S D) where
 
   -- the first input, of this name, could not be read to its end, for such a cause
   abbrev pub IsUnreadIn : W → W → List ℕ → Fault → Type 0
-  IsUnreadIn old new name = IsUnread (CallFailedIn old new name) (ObjectFailedIn old new name)
+  IsUnreadIn old new name = IsUnread (OpenFailedIn old new name) (ObjectFailedIn old new name)
 
   -- the command stops over the file that it reads first
   abbrev pub StopsIn : W → W → Command → Fault → Type 0
   StopsIn old new c =
-      Stops w.tells (w.contents old) c (CallFailedIn old new (first_file c)) (ObjectFailedIn old new (first_file c))
+      Stops w.tells (w.contents old) c (OpenFailedIn old new (first_file c)) (ObjectFailedIn old new (first_file c))
 
   -- ---- what was read
   -- this holds of some octets, which lie under this name as far as that is told

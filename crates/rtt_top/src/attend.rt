@@ -21,6 +21,7 @@ use std::sync::Wait;
 use std::thread::Threads;
 
 /// Mixes a conference with the names and the leavings that its inputs tell. Each input is read to its end before one is mixed.
+#[inline(never)]
 fn attend_conf<R: Threads + Wait + Sync, W: World, K: Sink, G: Gate + Sync>(
     rt: &R,
     alloc: Global,

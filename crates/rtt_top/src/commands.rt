@@ -2,7 +2,7 @@
 ghost use Rattle.std.specs.Prelude.{◌≡◌, false, None, Some, is_some, IfSome};
 ghost use Rattle.rtt_words.specs.Commands.{meaning};
 ghost use Rattle.rtt_top.specs.Faults.{is_live};
-ghost use Rattle.rtt_top.specs.Lives.{RunsLive};
+ghost use Rattle.rtt_top.specs.Lives.{RunsLive, RunsWatched};
 ghost use Rattle.rtt_top.specs.Outside.{outside_at, outside_over, output_at};
 ghost use Rattle.rtt_top.specs.Runs.{is_plain, Runs};
 
@@ -17,13 +17,16 @@ use crate::relay::run_relay;
 use crate::script::run_script;
 use crate::send::run_send;
 use crate::show::run_show;
+use crate::trunk::run_cascade;
 use crate::version::run_version;
+use crate::watch::run_watch;
 use link_io::Links;
 use rtt_io::{Gate, Sink, World};
 use rtt_words::Command;
 use std::alloc::Global;
 use std::sync::Wait;
 use std::thread::Threads;
+use std::time::Clock;
 
 /// Does what is asked for, where that needs no thread and waits for nobody, and answers the status.
 pub fn carry_out_plain<W: World, K: Sink, E: Sink>(
@@ -48,7 +51,12 @@ pub fn carry_out_plain<W: World, K: Sink, E: Sink>(
         Command::Show(words) => Some(run_show(alloc, words, world, out, err)),
         Command::Script(words) => Some(run_script(alloc, words, world, out, err)),
         Command::Version => Some(run_version(world, out, err)),
-        Command::Mix(_) | Command::Attend(_) | Command::Make(_) | Command::Live(_) => None,
+        Command::Mix(_)
+        | Command::Attend(_)
+        | Command::Cascade(_)
+        | Command::Make(_)
+        | Command::Live(_)
+        | Command::Watch(_) => None,
     }
 }
 
@@ -73,9 +81,11 @@ fn carry_out_files<R: Threads + Wait + Sync, W: World, K: Sink, E: Sink, G: Gate
     match command {
         Command::Mix(words) => run_mix(rt, alloc, words, world, out, err, gate),
         Command::Attend(words) => run_attend(rt, alloc, words, world, out, err, gate),
+        Command::Cascade(words) => run_cascade(rt, alloc, words, world, out, err, gate),
         Command::Make(words) => run_make(rt, alloc, words.number, world, out, err, gate),
-        Command::Live(_) => unreachable!(),
-        Command::Read(_)
+        Command::Live(_)
+        | Command::Watch(_)
+        | Command::Read(_)
         | Command::ListRecords(_)
         | Command::Send(_)
         | Command::Relay(_)
@@ -87,7 +97,14 @@ fn carry_out_files<R: Threads + Wait + Sync, W: World, K: Sink, E: Sink, G: Gate
 }
 
 /// Does what is asked for, and answers the status.
-pub fn carry_out<R: Threads + Wait + Sync, W: World, L: Links, K: Sink, E: Sink, G: Gate + Sync>(
+pub fn carry_out<
+    R: Threads + Wait + Clock + Copy + Send + Sync + 'static,
+    W: World,
+    L: Links,
+    K: Sink,
+    E: Sink,
+    G: Gate + Sync,
+>(
     rt: &R,
     alloc: Global,
     command: &Command<'_>,
@@ -102,9 +119,12 @@ pub fn carry_out<R: Threads + Wait + Sync, W: World, L: Links, K: Sink, E: Sink,
         (output_at E.Sink err.old) (output_at E.Sink err.new) result }
     ensures live { RunsLive (Some (meaning command.now)) W.tells K.tells L.tells
         (outside_over W.World K.Sink L.Links world.old out.old links.old) (outside_over W.World K.Sink L.Links world.new out.new links.new) result }
+    ensures watched { RunsWatched (Some (meaning command.now)) W.tells K.tells L.tells
+        (outside_over W.World K.Sink L.Links world.old out.old links.old) (outside_over W.World K.Sink L.Links world.new out.new links.new) result }
 {
     match command {
         Command::Live(words) => run_live(rt, alloc, words, world, links, out, err, gate),
+        Command::Watch(words) => run_watch(rt, alloc, words, world, links, out, err, gate),
         _ => carry_out_files(rt, alloc, command, world, out, err, gate),
     }
 }

@@ -26,6 +26,7 @@ pub(crate) fn conf_under<W: World>(
     ensures read { IfOk result (ReadsConference W.World form world.old name.now) }
     ensures same_contents { W.tells → Same (W.contents world.old) (W.contents world.new) }
     ensures calm { OnOk result (KeepsCounts W.object_faults world.old world.new) }
+    ensures opened { OnOk result (KeepsCounts W.own_faults world.old world.new) }
     ensures calls_never_fall { NoneFalls W.own_faults world.old world.new }
     ensures objects_never_fall { NoneFalls W.object_faults world.old world.new }
 {

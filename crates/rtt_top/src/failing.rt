@@ -1,6 +1,6 @@
 //! Runs in which calls of the outside fail.
 use crate::plays::Piece::{Packet, Plain};
-use crate::plays::{Piece, holds, recording_of, sink, words};
+use crate::plays::{OPENING, Piece, holds, recording_of, sink, words};
 use crate::run;
 use crate::tests::{FRAMES, MIXED, TWO_LETTERS};
 use link_io::MemLinks;
@@ -10,6 +10,7 @@ use std::alloc::Global;
 use std::sync::Wait;
 use std::test::Fail;
 use std::thread::Threads;
+use std::time::Clock;
 
 /// A call that is to fail. A write still takes so many octets.
 #[derive(Clone, Copy)]
@@ -90,6 +91,23 @@ leg Ann aware 1001 a.in a.out
 leg Bob aware 1002 cut.in b.out
 ";
 
+// Ann is behind another mixer, and Cy is not; the same with other payload types, and with one turn.
+const BEHIND: &[u8] = b"mixer 9001 0 0
+leg Ann aware 1001 trunk x.out
+leg Cy aware 2001 cy.in y.out
+";
+
+const ODD: &[u8] = b"mixer 9001 0 0
+leg Ann aware 1001 trunk x.out 97 99
+leg Cy aware 2001 cy.in y.out
+";
+
+const BEHIND_SHORT: &[u8] = b"mixer 9001 0 0
+leg Ann aware 1001 trunk x.out
+leg Cy aware 2001 cy.in y.out
+turns 1
+";
+
 const PRINTED: &str = "\
 == Ann aware\nBob: Hi Ann\n-- Bob bells 0\n-- packets 3 used 3 refused 0 foreign 0\n\
 == Bob aware\nAnn: Hey\nAnn: \n-- Ann bells 0\n-- packets 5 used 5 refused 0 foreign 0\n";
@@ -98,7 +116,14 @@ const NO_OUT: [Left<'static>; 2] = [Left("a.out", None), Left("b.out", None)];
 
 const BOTH_OUTS: [Left<'static>; 2] = [Left("a.out", WHOLE), Left("b.out", WHOLE)];
 
-const FAULTS: [Fault<'static>; 58] = [
+const PRINTED_BEHIND: &str = "\
+== Ann aware\nCy: \n-- Cy bells 0\n-- packets 0 used 0 refused 0 foreign 0\n\
+== Cy aware\nAnn: Hey\nAnn: \n-- Ann bells 0\n-- packets 5 used 5 refused 0 foreign 0\n";
+
+const NO_OUT_BEHIND: [Left<'static>; 2] = [Left("x.out", None), Left("y.out", None)];
+
+// Of the commands that mix the conference of a file.
+const OF_CONFERENCES: [Fault<'static>; 43] = [
     // nothing fails
     Fault(&[], "mix c.txt", 0, "", PRINTED, &BOTH_OUTS),
     // a file can't be opened: the first in the order of the conference is named
@@ -316,6 +341,125 @@ const FAULTS: [Fault<'static>; 58] = [
         "== Ann awa",
         &BOTH_OUTS,
     ),
+    // behind another mixer: its recording is read to its end before an input of a leg is opened
+    Fault(
+        &[],
+        "cascade b.rtp 9000 behind.txt",
+        0,
+        "",
+        PRINTED_BEHIND,
+        &[Left("x.out", WHOLE)],
+    ),
+    Fault(
+        &[Open("behind.txt"), Open("b.rtp")],
+        "cascade b.rtp 9000 behind.txt",
+        3,
+        "cannot open behind.txt\n",
+        "",
+        &NO_OUT_BEHIND,
+    ),
+    Fault(
+        &[Open("b.rtp"), Open("cy.in")],
+        "cascade b.rtp 9000 behind.txt",
+        3,
+        "cannot open b.rtp\n",
+        "",
+        &NO_OUT_BEHIND,
+    ),
+    Fault(
+        &[Open("cy.in")],
+        "cascade b.rtp 9000 behind.txt",
+        3,
+        "cannot open cy.in\n",
+        "",
+        &NO_OUT_BEHIND,
+    ),
+    Fault(
+        &[Read("behind.txt")],
+        "cascade b.rtp 9000 behind.txt",
+        4,
+        "cannot read behind.txt\n",
+        "",
+        &NO_OUT_BEHIND,
+    ),
+    Fault(
+        &[Read("b.rtp"), Open("cy.in")],
+        "cascade b.rtp 9000 behind.txt",
+        4,
+        "cannot read b.rtp\n",
+        "",
+        &NO_OUT_BEHIND,
+    ),
+    Fault(
+        &[Read("cy.in")],
+        "cascade b.rtp 9000 behind.txt",
+        4,
+        "cannot read cy.in\n",
+        "",
+        &NO_OUT_BEHIND,
+    ),
+    Fault(
+        &[Open("b.rtp")],
+        "cascade b.rtp 9000 odd.txt",
+        5,
+        "odd.txt line 2: Trunk\n",
+        "",
+        &NO_OUT_BEHIND,
+    ),
+    Fault(
+        &[Read("cy.in")],
+        "cascade cut.in 9000 behind.txt",
+        6,
+        "cut.in byte 44: EndsInside\n",
+        "",
+        &NO_OUT_BEHIND,
+    ),
+    Fault(
+        &[],
+        "cascade b.rtp 9000 tired.txt",
+        9,
+        "conference too long: 1 turns\n",
+        "",
+        &NO_OUT_BEHIND,
+    ),
+    Fault(
+        &[Write("x.out", 20)],
+        "cascade b.rtp 9000 behind.txt",
+        7,
+        "cannot write x.out\n",
+        "",
+        &[Left("x.out", Some(20)), Left("y.out", None)],
+    ),
+    Fault(
+        &[Create("y.out")],
+        "cascade b.rtp 9000 behind.txt",
+        7,
+        "cannot write y.out\n",
+        "",
+        &[Left("x.out", WHOLE), Left("y.out", None)],
+    ),
+    Fault(
+        &[Out(10)],
+        "cascade b.rtp 9000 behind.txt",
+        7,
+        "cannot write the output\n",
+        "== Ann awa",
+        &[Left("x.out", WHOLE)],
+    ),
+    // also where no leg is behind it
+    Fault(&[], "cascade b.rtp 9000 c.txt", 0, "", PRINTED, &BOTH_OUTS),
+    Fault(
+        &[Read("b.rtp"), Open("a.in")],
+        "cascade b.rtp 9000 c.txt",
+        4,
+        "cannot read b.rtp\n",
+        "",
+        &NO_OUT,
+    ),
+];
+
+// Of all others.
+const OF_OTHERS: [Fault<'static>; 30] = [
     // a recording or a script can't be opened
     Fault(
         &[Open("a.in")],
@@ -571,6 +715,8 @@ fn surroundings(alloc: Global) -> Result<MemWorld, Fail> {
     world.add_file("a.in", ann.as_slice())?;
     world.add_file("b.in", recording_of(alloc, &BOB)?.as_slice())?;
     world.add_file("cut.in", front(ann.as_slice(), 60))?;
+    world.add_file("b.rtp", recording_of(alloc, &MIXED)?.as_slice())?;
+    world.add_file("cy.in", &OPENING)?;
     world.add_file("two.txt", b"0 A\n300 B\n")?;
     world.add_file("frames", FRAMES)?;
     Ok(world)
@@ -581,6 +727,9 @@ fn add_conferences(world: &mut MemWorld) -> Result<(), Fail> {
     world.add_file("short.txt", SHORT)?;
     world.add_file("first.txt", BROKEN_FIRST)?;
     world.add_file("last.txt", BROKEN_LAST)?;
+    world.add_file("behind.txt", BEHIND)?;
+    world.add_file("odd.txt", ODD)?;
+    world.add_file("tired.txt", BEHIND_SHORT)?;
     Ok(())
 }
 
@@ -589,6 +738,7 @@ fn wholes(alloc: Global) -> Result<MemWorld, Fail> {
     let mut world = MemWorld::new(alloc);
     world.add_file("a.out", recording_of(alloc, &TO_ANN)?.as_slice())?;
     world.add_file("b.out", recording_of(alloc, &MIXED)?.as_slice())?;
+    world.add_file("x.out", &OPENING)?;
     world.add_file("sent", recording_of(alloc, &TWO_LETTERS)?.as_slice())?;
     world.add_file("said", ANN_FRAMES)?;
     Ok(world)
@@ -641,7 +791,7 @@ fn are_left(world: &MemWorld, wholes: &MemWorld, all: &[Left<'_>]) -> bool {
 }
 
 // Whether the run ends so. What is told has so many octets: where fewer are taken, `err` fails.
-fn ends_so<R: Threads + Wait + Sync>(
+fn ends_so<R: Threads + Wait + Clock + Copy + Send + Sync + 'static>(
     rt: &R,
     alloc: Global,
     fault: &Fault<'_>,
@@ -675,7 +825,7 @@ fn ends_so<R: Threads + Wait + Sync>(
 }
 
 // How many of these end so, before the first that does not. Each is run twice: the second time writing `err` fails too.
-fn faults_told<R: Threads + Wait + Sync>(
+fn faults_told<R: Threads + Wait + Clock + Copy + Send + Sync + 'static>(
     rt: &R,
     alloc: Global,
     faults: &[Fault<'_>],
@@ -693,7 +843,16 @@ fn faults_told<R: Threads + Wait + Sync>(
 }
 
 #[test]
-fn each_failing_call_is_told(rt: HostRuntime) -> Result<(), Fail> {
-    assert_eq!(rt; faults_told(&rt, rt.alloc(), &FAULTS)?, FAULTS.len());
+fn each_failing_call_of_a_conference_is_told(rt: HostRuntime) -> Result<(), Fail> {
+    assert_eq!(rt;
+        faults_told(&rt, rt.alloc(), &OF_CONFERENCES)?,
+        OF_CONFERENCES.len()
+    );
+    Ok(())
+}
+
+#[test]
+fn each_failing_call_of_another_command_is_told(rt: HostRuntime) -> Result<(), Fail> {
+    assert_eq!(rt; faults_told(&rt, rt.alloc(), &OF_OTHERS)?, OF_OTHERS.len());
     Ok(())
 }

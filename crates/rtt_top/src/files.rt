@@ -29,6 +29,7 @@ pub fn read_input<W: World>(
     ensures given { W.tells → IfOk result (IsReadOf most (W.contents world.old name.now)) }
     ensures same_contents { W.tells → Same (W.contents world.old) (W.contents world.new) }
     ensures calm { OnOk result (KeepsCounts W.object_faults world.old world.new) }
+    ensures opened { OnOk result (KeepsCounts W.own_faults world.old world.new) }
     ensures calls_never_fall { NoneFalls W.own_faults world.old world.new }
     ensures objects_never_fall { NoneFalls W.object_faults world.old world.new }
 {

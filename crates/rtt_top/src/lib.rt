@@ -19,7 +19,9 @@ mod runs;
 mod script;
 mod send;
 mod show;
+mod trunk;
 mod version;
+mod watch;
 
 pub use runs::{run, run_plain};
 

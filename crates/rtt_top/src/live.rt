@@ -5,7 +5,7 @@ ghost use Rattle.live_run.specs.Calls.{IsOfLinks};
 ghost use Rattle.command_spec.specs.Words.{Live};
 ghost use Rattle.rtt_words.specs.Commands.{mixed};
 ghost use Rattle.rtt_top.specs.Conferences.{fault_of_live};
-ghost use Rattle.rtt_top.specs.Lives.{RunsLive, ServingEnds};
+ghost use Rattle.rtt_top.specs.Lives.{IsServedTo, RunsLive, ServingEnds};
 ghost use Rattle.rtt_top.specs.Outside.{left_by, outside_over, output_at};
 ghost use Rattle.rtt_top.specs.Runs.{Runs};
 
@@ -23,7 +23,7 @@ use std::sync::Wait;
 use std::thread::Threads;
 
 /// The fault of a command for that of a live call.
-fn fault_of_live(fault: LiveFault) -> Fault
+pub(crate) fn fault_of_live(fault: LiveFault) -> Fault
     ensures { result ≡ fault_of_live fault }
 {
     match fault {
@@ -44,8 +44,8 @@ fn live_conf<R: Threads + Wait + Sync, L: Links, K: Sink, G: Gate + Sync>(
     gate: &G,
 ) -> Result<(), Fault>
     requires { IsOfLinks (conf_of conf.now) }
-    ensures { ServingEnds L.tells K.tells (left_by L.Links links.old) (left_by L.Links links.new)
-        (output_at K.Sink out.old) (output_at K.Sink out.new) (conf_of conf.now) result }
+    ensures { ServingEnds (IsServedTo (conf_of conf.now) L.tells (left_by L.Links links.old) (left_by L.Links links.new)) K.tells
+        (left_by L.Links links.old) (left_by L.Links links.new) (output_at K.Sink out.old) (output_at K.Sink out.new) (conf_of conf.now) result }
 {
     let report = match serve(rt, alloc, conf, links, gate) {
         Ok(report) => report,

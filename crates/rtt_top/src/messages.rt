@@ -19,7 +19,7 @@ fn refusal_status(refusal: Refusal) -> u8
     ensures { result ≡ refusal_status refusal }
 {
     match refusal {
-        Refusal::AtLine { .. } => 5,
+        Refusal::AtLine { .. } | Refusal::AtTrunk { .. } => 5,
         Refusal::AtByte { .. } | Refusal::AtFrame { .. } => 6,
         Refusal::AfterTurns { .. } => 9,
     }
@@ -145,16 +145,15 @@ fn write_byte<E: Sink>(err: &mut E, name: &[u8], byte: u64, why: &[u8]) -> Resul
     write_place(err, name, b" byte ", number, why)
 }
 
-/// Writes which line of a script is refused, and why.
-fn write_line<E: Sink>(err: &mut E, name: &[u8], line: u32, kind: ConfKind) -> Result<(), Failed>
+/// Writes which line of a file is refused, and why.
+fn write_line<E: Sink>(err: &mut E, name: &[u8], line: u32, why: &[u8]) -> Result<(), Failed>
     ensures never_falls { E.faults err.old ≤ E.faults err.new }
     ensures failed { OnErr result (Rose (E.faults err.old) (E.faults err.new)) }
-    ensures written { Wrote E.Sink err.old err.new (line_message name.now line kind) result }
-    ensures partly { WrotePartly E.Sink err.old err.new (line_message name.now line kind) result }
+    ensures written { Wrote E.Sink err.old err.new (line_message name.now line why.now) result }
+    ensures partly { WrotePartly E.Sink err.old err.new (line_message name.now line why.now) result }
 {
     let mut digits = Buffer::new();
     let number = digits.format(line).as_bytes();
-    let why = conf_kind_name(kind);
     write_place(err, name, b" line ", number, why)
 }
 
@@ -184,8 +183,10 @@ usage: rtt_program read FILE SSRC [SOURCE [T140 RED]]
        rtt_program send SCRIPT OUT SSRC SEQ STAMP
        rtt_program mix CONF
        rtt_program attend CONF
+       rtt_program cascade FILE SSRC CONF
        rtt_program make N
        rtt_program live CONF
+       rtt_program watch CONF
        rtt_program relay FRAMES OUT SSRC SEQ STAMP
        rtt_program channel FILE SSRC OUT
        rtt_program show FILE [T140 RED]
@@ -203,7 +204,8 @@ fn write_refusal<E: Sink>(err: &mut E, name: &[u8], refusal: Refusal) -> Result<
     match refusal {
         Refusal::AtByte { byte, kind } => write_byte(err, name, byte, dump_kind_name(kind)),
         Refusal::AtFrame { byte, kind } => write_byte(err, name, byte, frame_kind_name(kind)),
-        Refusal::AtLine { line, kind } => write_line(err, name, line, kind),
+        Refusal::AtLine { line, kind } => write_line(err, name, line, conf_kind_name(kind)),
+        Refusal::AtTrunk { line } => write_line(err, name, line, b"Trunk"),
         Refusal::AfterTurns { turns } => {
             write_counted(err, b"conference too long: ", turns, b" turns\n")
         }

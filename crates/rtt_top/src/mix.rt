@@ -4,7 +4,7 @@ ghost use Rattle.rtt_io.specs.Names.{NoneFalls};
 ghost use Rattle.conference.specs.Conferences.{conf_of};
 ghost use Rattle.command_spec.specs.Words.{Mix};
 ghost use Rattle.rtt_words.specs.Commands.{mixed};
-ghost use Rattle.rtt_top.specs.Conferences.{MixingEnds, fault_of_mixing};
+ghost use Rattle.rtt_top.specs.Conferences.{MixingEnds, OutputsEnd, fault_of_mixing};
 ghost use Rattle.rtt_top.specs.Outside.{outside_at, output_at};
 ghost use Rattle.rtt_top.specs.Runs.{Runs};
 ghost use Rattle.rtt_top.specs.Worlds.{SavesEach, IsUnwrittenIn};
@@ -13,7 +13,7 @@ ghost use Rattle.file_spec.specs.declared.limits.TheConstants.{MOST_LEGS};
 use crate::conferences::{conf_under, name_at_end};
 use crate::files::{fault_of_dump, save_output};
 use crate::messages::{finish_with, print};
-use bridge_run::{MixFault, mix};
+use bridge_run::{MixFault, Mixed, mix};
 use command_spec::{Fault, Refusal};
 use conf_text::Form;
 use conference::{Conf, LegLine};
@@ -61,7 +61,28 @@ fn save_outputs<W: World>(legs: &[LegLine], outputs: &[Bytes], world: &mut W) ->
     Ok(())
 }
 
+/// Writes the outputs of a mixed conference with these legs, and prints what is seen.
+pub(crate) fn make_outputs<W: World, K: Sink>(
+    legs: &[LegLine],
+    mixed: &Mixed,
+    world: &mut W,
+    out: &mut K,
+) -> Result<(), Fault>
+    requires as_many { length legs.now ≡ length mixed.now.outs.items }
+    requires few { length legs.now ≤ MOST_LEGS }
+    ensures { OutputsEnd W.tells K.tells
+        (outside_at W.World K.Sink world.old out.old) (outside_at W.World K.Sink world.new out.new)
+        legs.now mixed.now result }
+{
+    let saved = save_outputs(legs, mixed.outs.as_slice(), world);
+    if saved.is_err() {
+        return saved;
+    }
+    print(mixed.views.as_slice(), out)
+}
+
 /// Mixes a conference, writes its outputs, and prints what is seen.
+#[inline(never)]
 pub(crate) fn mix_conf<R: Threads + Wait + Sync, W: World, K: Sink, G: Gate + Sync>(
     rt: &R,
     alloc: Global,
@@ -78,11 +99,7 @@ pub(crate) fn mix_conf<R: Threads + Wait + Sync, W: World, K: Sink, G: Gate + Sy
         Ok(mixed) => mixed,
         Err(fault) => return Err(fault_of_mixing(conf.turns, fault)),
     };
-    let saved = save_outputs(conf.legs.as_slice(), mixed.outs.as_slice(), world);
-    if saved.is_err() {
-        return saved;
-    }
-    print(mixed.views.as_slice(), out)
+    make_outputs(conf.legs.as_slice(), &mixed, world, out)
 }
 
 /// `mix`: mixes the conference of a file, and answers the status.

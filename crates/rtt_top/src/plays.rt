@@ -7,6 +7,7 @@ use std::alloc::Global;
 use std::sync::Wait;
 use std::test::Fail;
 use std::thread::Threads;
+use std::time::Clock;
 
 /// The line and the head of a recording.
 pub const OPENING: [u8; 44] =
@@ -44,6 +45,15 @@ pub struct Mixing<'a>(pub &'a str, pub &'a str, pub &'a str);
 /// What Ann's recording has, and what `attend` prints of her call with Bob, who types nothing.
 #[derive(Clone, Copy)]
 pub struct Attended<'a>(pub &'a [Piece<'a>], pub &'a str);
+
+/// What is recorded of a mixer that sent under 9000, and what `cascade` prints of Ann behind it and Cy, who types nothing.
+#[derive(Clone, Copy)]
+pub struct Behind<'a>(pub &'a [Piece<'a>], pub &'a str);
+
+const TRUNK: &[u8] = b"mixer 9001 0 0
+leg Ann aware 1001 trunk x.out
+leg Cy aware 2001 cy.in y.out
+";
 
 const TWO: &[u8] = b"mixer 9000 100 5000
 leg Ann aware 1001 a.in a.out
@@ -162,7 +172,7 @@ pub fn words(alloc: Global, text: &str) -> Result<Vec<String>, Fail> {
     Ok(words)
 }
 
-fn play<R: Threads + Wait + Sync>(
+fn play<R: Threads + Wait + Clock + Copy + Send + Sync + 'static>(
     rt: &R,
     alloc: Global,
     world: &mut MemWorld,
@@ -186,7 +196,7 @@ fn play<R: Threads + Wait + Sync>(
 }
 
 /// Whether a run of these words ends with this status, and writes this on `out` and on `err`.
-pub fn ends<R: Threads + Wait + Sync>(
+pub fn ends<R: Threads + Wait + Clock + Copy + Send + Sync + 'static>(
     rt: &R,
     alloc: Global,
     world: &mut MemWorld,
@@ -200,7 +210,11 @@ pub fn ends<R: Threads + Wait + Sync>(
     Ok(ran.status == status && ran.out.taken() == out && ran.err.taken() == err)
 }
 
-fn is_seen<R: Threads + Wait + Sync>(rt: &R, alloc: Global, view: &View<'_>) -> Result<bool, Fail> {
+fn is_seen<R: Threads + Wait + Clock + Copy + Send + Sync + 'static>(
+    rt: &R,
+    alloc: Global,
+    view: &View<'_>,
+) -> Result<bool, Fail> {
     let recording = recording_of(alloc, view.0)?;
     let mut world = MemWorld::new(alloc);
     world.add_file("a.rtp", recording.as_slice())?;
@@ -208,7 +222,7 @@ fn is_seen<R: Threads + Wait + Sync>(rt: &R, alloc: Global, view: &View<'_>) -> 
 }
 
 /// How many of these are seen as they are to be, before the first that is not.
-pub fn views_seen<R: Threads + Wait + Sync>(
+pub fn views_seen<R: Threads + Wait + Clock + Copy + Send + Sync + 'static>(
     rt: &R,
     alloc: Global,
     views: &[View<'_>],
@@ -226,7 +240,7 @@ pub fn views_seen<R: Threads + Wait + Sync>(
 }
 
 /// How many of these fail as they are to, in this world, before the first that does not.
-pub fn failures_told<R: Threads + Wait + Sync>(
+pub fn failures_told<R: Threads + Wait + Clock + Copy + Send + Sync + 'static>(
     rt: &R,
     alloc: Global,
     world: &mut MemWorld,
@@ -245,7 +259,7 @@ pub fn failures_told<R: Threads + Wait + Sync>(
 }
 
 /// Whether a script is sent, and `read` shows this of its recording.
-pub fn is_sent<R: Threads + Wait + Sync>(
+pub fn is_sent<R: Threads + Wait + Clock + Copy + Send + Sync + 'static>(
     rt: &R,
     alloc: Global,
     script: &[u8],
@@ -261,7 +275,7 @@ pub fn is_sent<R: Threads + Wait + Sync>(
 }
 
 /// How many of these are shown as they are to be, before the first that is not.
-pub fn calls_shown<R: Threads + Wait + Sync>(
+pub fn calls_shown<R: Threads + Wait + Clock + Copy + Send + Sync + 'static>(
     rt: &R,
     alloc: Global,
     calls: &[Call<'_>],
@@ -279,7 +293,7 @@ pub fn calls_shown<R: Threads + Wait + Sync>(
 }
 
 /// Whether these frames of 1001 are relayed into this recording, and come back of it.
-pub fn is_relayed<R: Threads + Wait + Sync>(
+pub fn is_relayed<R: Threads + Wait + Clock + Copy + Send + Sync + 'static>(
     rt: &R,
     alloc: Global,
     frames: &[u8],
@@ -305,7 +319,7 @@ fn with_scripts(alloc: Global, mixing: &Mixing<'_>) -> Result<MemWorld, Fail> {
 }
 
 /// Whether each script is sent.
-fn are_sent<R: Threads + Wait + Sync>(
+fn are_sent<R: Threads + Wait + Clock + Copy + Send + Sync + 'static>(
     rt: &R,
     alloc: Global,
     world: &mut MemWorld,
@@ -320,7 +334,7 @@ fn are_sent<R: Threads + Wait + Sync>(
 }
 
 /// Whether this is printed where these are mixed.
-pub fn is_mixed<R: Threads + Wait + Sync>(
+pub fn is_mixed<R: Threads + Wait + Clock + Copy + Send + Sync + 'static>(
     rt: &R,
     alloc: Global,
     mixing: &Mixing<'_>,
@@ -334,7 +348,7 @@ pub fn is_mixed<R: Threads + Wait + Sync>(
 }
 
 /// How many of these are mixed as they are to be, before the first that is not.
-pub fn mixings_printed<R: Threads + Wait + Sync>(
+pub fn mixings_printed<R: Threads + Wait + Clock + Copy + Send + Sync + 'static>(
     rt: &R,
     alloc: Global,
     mixings: &[Mixing<'_>],
@@ -352,7 +366,7 @@ pub fn mixings_printed<R: Threads + Wait + Sync>(
 }
 
 /// Whether `attend` prints this.
-fn is_attended<R: Threads + Wait + Sync>(
+fn is_attended<R: Threads + Wait + Clock + Copy + Send + Sync + 'static>(
     rt: &R,
     alloc: Global,
     attended: &Attended<'_>,
@@ -366,7 +380,7 @@ fn is_attended<R: Threads + Wait + Sync>(
 }
 
 /// How many of these are attended as they are to be, before the first that is not.
-pub fn calls_attended<R: Threads + Wait + Sync>(
+pub fn calls_attended<R: Threads + Wait + Clock + Copy + Send + Sync + 'static>(
     rt: &R,
     alloc: Global,
     calls: &[Attended<'_>],
@@ -377,6 +391,46 @@ pub fn calls_attended<R: Threads + Wait + Sync>(
                 return Ok(0);
             }
             let more = calls_attended(rt, alloc, rest)?;
+            Ok(more.saturating_add(1))
+        }
+        [] => Ok(0),
+    }
+}
+
+/// Whether `cascade` prints this.
+fn is_behind<R: Threads + Wait + Clock + Copy + Send + Sync + 'static>(
+    rt: &R,
+    alloc: Global,
+    behind: &Behind<'_>,
+) -> Result<bool, Fail> {
+    let mut world = MemWorld::new(alloc);
+    world.add_file("c.txt", TRUNK)?;
+    world.add_file("b.out", recording_of(alloc, behind.0)?.as_slice())?;
+    world.add_file("cy.in", &OPENING)?;
+    let printed = behind.1.as_bytes();
+    ends(
+        rt,
+        alloc,
+        &mut world,
+        "cascade b.out 9000 c.txt",
+        0,
+        printed,
+        b"",
+    )
+}
+
+/// How many of these are mixed behind another mixer as they are to be, before the first that is not.
+pub fn calls_behind<R: Threads + Wait + Clock + Copy + Send + Sync + 'static>(
+    rt: &R,
+    alloc: Global,
+    calls: &[Behind<'_>],
+) -> Result<usize, Fail> {
+    match calls {
+        [first, rest @ ..] => {
+            if !is_behind(rt, alloc, first)? {
+                return Ok(0);
+            }
+            let more = calls_behind(rt, alloc, rest)?;
             Ok(more.saturating_add(1))
         }
         [] => Ok(0),
@@ -417,8 +471,13 @@ fn links_of(alloc: Global, live: &Live<'_>) -> Result<MemLinks, NoMemory> {
     Ok(links)
 }
 
-/// Whether a live call ends so.
-fn is_live<R: Threads + Wait + Sync>(rt: &R, alloc: Global, live: &Live<'_>) -> Result<bool, Fail> {
+/// Whether a live call ends so, which these words ask for.
+fn is_live<R: Threads + Wait + Clock + Copy + Send + Sync + 'static>(
+    rt: &R,
+    alloc: Global,
+    words: &str,
+    live: &Live<'_>,
+) -> Result<bool, Fail> {
     let mut conf = Bytes::new(alloc);
     conf.append(LINKS)?;
     conf.append(live.turns.as_bytes())?;
@@ -426,23 +485,24 @@ fn is_live<R: Threads + Wait + Sync>(rt: &R, alloc: Global, live: &Live<'_>) -> 
     let mut world = MemWorld::new(alloc);
     world.add_file("c.txt", conf.as_slice())?;
     let mut links = links_of(alloc, live)?;
-    let ran = play(rt, alloc, &mut world, &mut links, "live c.txt")?;
+    let ran = play(rt, alloc, &mut world, &mut links, words)?;
     let is_told = ran.out.taken() == live.out.as_bytes() && ran.err.taken() == live.err.as_bytes();
     Ok(ran.status == live.status && is_told)
 }
 
-/// How many of these end as they are to, before the first that does not.
-pub fn lives_ended<R: Threads + Wait + Sync>(
+/// How many of these, which these words ask for, end as they are to, before the first that does not.
+pub fn lives_ended<R: Threads + Wait + Clock + Copy + Send + Sync + 'static>(
     rt: &R,
     alloc: Global,
+    words: &str,
     lives: &[Live<'_>],
 ) -> Result<usize, Fail> {
     match lives {
         [first, rest @ ..] => {
-            if !is_live(rt, alloc, first)? {
+            if !is_live(rt, alloc, words, first)? {
                 return Ok(0);
             }
-            let more = lives_ended(rt, alloc, rest)?;
+            let more = lives_ended(rt, alloc, words, rest)?;
             Ok(more.saturating_add(1))
         }
         [] => Ok(0),

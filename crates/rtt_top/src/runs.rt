@@ -1,6 +1,6 @@
 //! One run of the program.
 ghost use Rattle.std.specs.Prelude.{◌≡◌, None, true, false, IsSome, IfSome};
-ghost use Rattle.rtt_top.specs.Lives.{RunsLive};
+ghost use Rattle.rtt_top.specs.Lives.{RunsLive, RunsWatched};
 ghost use Rattle.rtt_top.specs.Outside.{outside_at, outside_over, output_at};
 ghost use Rattle.rtt_top.specs.Runs.{asked_by, is_plain, Runs};
 
@@ -13,6 +13,7 @@ use rtt_words::{WordFault, command_of};
 use std::alloc::Global;
 use std::sync::Wait;
 use std::thread::Threads;
+use std::time::Clock;
 
 /// Runs a command that needs no thread and waits for nobody. `words` are the words after the program's name; the
 /// answer is the status, or `None` where another command is asked for; then nothing was read or written. Of another command it
@@ -42,8 +43,15 @@ pub fn run_plain<W: World, K: Sink, E: Sink>(
 
 /// Runs one command and answers the program's status. `words` are the words after the program's name. `Runs` has what
 /// a run is, a clause a line: by what the words ask for, what lay outside before and lies there after, and the status.
-/// `RunsLive` has what a live call is that was served to its end.
-pub fn run<R: Threads + Wait + Sync, W: World, L: Links, K: Sink, E: Sink, G: Gate + Sync>(
+/// `RunsLive` has what a live call is that was served to its end, `RunsWatched` what one is with a board.
+pub fn run<
+    R: Threads + Wait + Clock + Copy + Send + Sync + 'static,
+    W: World,
+    L: Links,
+    K: Sink,
+    E: Sink,
+    G: Gate + Sync,
+>(
     rt: &R,
     alloc: Global,
     words: &[String],
@@ -57,6 +65,8 @@ pub fn run<R: Threads + Wait + Sync, W: World, L: Links, K: Sink, E: Sink, G: Ga
         (outside_over W.World K.Sink L.Links world.old out.old links.old) (outside_over W.World K.Sink L.Links world.new out.new links.new)
         (output_at E.Sink err.old) (output_at E.Sink err.new) result }
     ensures live { RunsLive (asked_by words.now) W.tells K.tells L.tells
+        (outside_over W.World K.Sink L.Links world.old out.old links.old) (outside_over W.World K.Sink L.Links world.new out.new links.new) result }
+    ensures watched { RunsWatched (asked_by words.now) W.tells K.tells L.tells
         (outside_over W.World K.Sink L.Links world.old out.old links.old) (outside_over W.World K.Sink L.Links world.new out.new links.new) result }
 {
     match command_of(alloc, words) {

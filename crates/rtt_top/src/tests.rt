@@ -1,8 +1,8 @@
 use crate::plays::Piece::{Octets, Packet, Plain, Rtcp};
 use crate::plays::{
-    Attended, Call, Coming, Failure, Live, Mixing, OPENING, Piece, View, calls_attended,
-    calls_shown, eight_times, ends, failures_told, holds, is_relayed, is_sent, lives_ended,
-    mixings_printed, recording_of, twice, views_seen,
+    Attended, Behind, Call, Coming, Failure, Live, Mixing, OPENING, Piece, View, calls_attended,
+    calls_behind, calls_shown, eight_times, ends, failures_told, holds, is_relayed, is_sent,
+    lives_ended, mixings_printed, recording_of, twice, views_seen,
 };
 use link_io::{Came, FailingLink};
 use rtt_base::{Bytes, NoMemory, Path};
@@ -293,8 +293,10 @@ usage: rtt_program read FILE SSRC [SOURCE [T140 RED]]
 \x20      rtt_program send SCRIPT OUT SSRC SEQ STAMP
 \x20      rtt_program mix CONF
 \x20      rtt_program attend CONF
+\x20      rtt_program cascade FILE SSRC CONF
 \x20      rtt_program make N
 \x20      rtt_program live CONF
+\x20      rtt_program watch CONF
 \x20      rtt_program relay FRAMES OUT SSRC SEQ STAMP
 \x20      rtt_program channel FILE SSRC OUT
 \x20      rtt_program show FILE [T140 RED]
@@ -626,6 +628,39 @@ fn names_and_leavings_are_heard(rt: HostRuntime) -> Result<(), Fail> {
     Ok(())
 }
 
+// Three packets are lost, which all have the `e`.
+const E_LOST: [Piece<'static>; 2] = [Octets(SENT_H), Octets(SENT_LAST)];
+
+const BEHIND: [Behind<'static>; 3] = [
+    // all came
+    Behind(
+        &MIXED,
+        "\
+== Ann aware\nCy: \n-- Cy bells 0\n-- packets 0 used 0 refused 0 foreign 0\n\
+== Cy aware\nAnn: Hey\nAnn: \n-- Ann bells 0\n-- packets 5 used 5 refused 0 foreign 0\n",
+    ),
+    // the second packet was lost: its text is heard later, with the next
+    Behind(
+        &MIXED_LOST,
+        "\
+== Ann aware\nCy: \n-- Cy bells 0\n-- packets 0 used 0 refused 0 foreign 0\n\
+== Cy aware\nAnn: Hey\nAnn: \n-- Ann bells 0\n-- packets 6 used 6 refused 0 foreign 0\n",
+    ),
+    // a marker goes on
+    Behind(
+        &E_LOST,
+        "\
+== Ann aware\nCy: \n-- Cy bells 0\n-- packets 0 used 0 refused 0 foreign 0\n\
+== Cy aware\nAnn: H\u{fffd}y\nAnn: \n-- Ann bells 0\n-- packets 6 used 6 refused 0 foreign 0\n",
+    ),
+];
+
+#[test]
+fn texts_go_over_two_mixers(rt: HostRuntime) -> Result<(), Fail> {
+    assert_eq!(rt; calls_behind(&rt, rt.alloc(), &BEHIND)?, BEHIND.len());
+    Ok(())
+}
+
 #[test]
 fn characters_of_long_lines_are_not_cut(rt: HostRuntime) -> Result<(), Fail> {
     let eight = eight_times(rt.alloc(), "\u{20AC}".as_bytes())?;
@@ -747,6 +782,95 @@ Ann: A
 
 #[test]
 fn live_calls_end_as_their_links_say(rt: HostRuntime) -> Result<(), Fail> {
-    assert_eq!(rt; lives_ended(&rt, rt.alloc(), &LIVES)?, LIVES.len());
+    assert_eq!(rt;
+        lives_ended(&rt, rt.alloc(), "live c.txt", &LIVES)?,
+        LIVES.len()
+    );
+    Ok(())
+}
+
+const WATCHED: [Live<'static>; 5] = [
+    // All links are closed: behind what `live` prints stands how much each leg typed.
+    Live {
+        ann: &[AN_A, CLOSED],
+        bob: &[CLOSED],
+        failing: None,
+        turns: "100",
+        status: 0,
+        out: "\
+== Ann aware
+Bob:\x20
+-- Bob bells 0
+-- packets 0 used 0 refused 0 foreign 0
+== Bob aware
+Ann: A
+-- Ann bells 0
+-- packets 3 used 3 refused 0 foreign 0
+-- live closed
+-- board Ann total 1
+-- board Bob total 0
+",
+        err: "",
+    },
+    // An A comes before the only turn.
+    Live {
+        ann: &[AN_A],
+        bob: &[],
+        failing: None,
+        turns: "1",
+        status: 0,
+        out: "\
+== Ann aware
+Bob:\x20
+-- Bob bells 0
+-- packets 0 used 0 refused 0 foreign 0
+== Bob aware
+Ann: A
+-- Ann bells 0
+-- packets 1 used 1 refused 0 foreign 0
+-- live done
+-- board Ann total 1
+-- board Bob total 0
+",
+        err: "",
+    },
+    // Bob's link can't be opened.
+    Live {
+        ann: &[],
+        bob: &[],
+        failing: Some(FailingLink::Link(5002)),
+        turns: "2",
+        status: 8,
+        out: "",
+        err: "link fault at leg Bob\n",
+    },
+    // Bob's first take fails.
+    Live {
+        ann: &[],
+        bob: &[],
+        failing: Some(FailingLink::Take(5002, 1)),
+        turns: "2",
+        status: 8,
+        out: "",
+        err: "link fault at leg Bob\n",
+    },
+    // What Ann types can't be given to Bob.
+    Live {
+        ann: &[AN_A],
+        bob: &[],
+        failing: Some(FailingLink::Give(5002, 1)),
+        turns: "2",
+        status: 8,
+        out: "",
+        err: "link fault at leg Bob\n",
+    },
+];
+
+#[test]
+fn watched_calls_print_what_the_board_counts(rt: HostRuntime) -> Result<(), Fail> {
+    assert_eq!(rt;
+        lives_ended(&rt, rt.alloc(), "watch c.txt", &WATCHED)?,
+        WATCHED.len()
+    );
     Ok(())
 }

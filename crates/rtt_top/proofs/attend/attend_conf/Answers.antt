@@ -18,7 +18,7 @@ returns-in-Err g c = λ file octets there read.
     let before = conf_of c.args.conf.now in
     let command : Command = Attend (record { conf = file }) in
     let fault = c.in-Err.fault in
-    let ends = unheard g.W.World.tells g.K.Sink.tells old new file octets before fault there read c.in-Err.ensures.in_time c.in-Err.ensures.stops c.in-Err.ensures.none_failed
+    let ends = unheard g.W.World.tells g.K.Sink.tells old new file octets before fault there read c.in-Err.ensures.in_time c.in-Err.ensures.stops c.in-Err.ensures.none_failed c.in-Err.ensures.first
     ((λ shown. refl), c.hear_names.ensures.same_contents) in
     let P : Fault → Type 0 = λ f. Ends command g.W.World.tells g.K.Sink.tells old new (ending_name file c.hear_names.new.conf.legs (Err f)) (Err f) in
     let Q : Conf → Type 0 = λ d. Ends command g.W.World.tells g.K.Sink.tells old new (ending_name file d.legs (Err (fault_of_mixing d.turns fault))) (Err (fault_of_mixing d.turns fault)) in
@@ -35,7 +35,7 @@ returns g c = λ file octets there read.
     let some = c.in-Ok.ensures.named_some in
     let told : IsToldOf g.W.World.tells old.contents before now = record { says = some.0; is = some.1; named = λ told. (c.in-Ok.ensures.named told).is } in
     ends_since command g.W.World.tells g.K.Sink.tells old mid new (ending_name file now.legs c.mix_conf.result) c.mix_conf.result
-    (record { same = c.hear_names.ensures.same_contents; calls_rise = c.hear_names.ensures.calls_never_fall; objects_rise = c.hear_names.ensures.objects_never_fall }) refl refl c.in-Ok.ensures.calm
+    (record { same = c.hear_names.ensures.same_contents; calls_rise = c.hear_names.ensures.calls_never_fall; objects_rise = c.hear_names.ensures.objects_never_fall }) refl refl c.in-Ok.ensures.calm c.in-Ok.ensures.opened
     (c.mix_conf.ensures file command
     (attend_comes g.W.World.tells mid.contents file octets before now (λ tells. c.hear_names.ensures.same_contents tells file ∙ there tells) read
     (told_since g.W.World.tells old.contents mid.contents before now c.hear_names.ensures.same_contents told)))

@@ -42,6 +42,6 @@ returns g c =
     ending c.name_at_end-name.result.now c.finish_with-2.ensures.status
     (subst (λ n. Ends command g.W.World.tells g.K.Sink.tells old new n ending) (sym named)
     (ends_since command g.W.World.tells g.K.Sink.tells old mid new (ending_name file c.attend_conf-ending.new.conf.legs ending) ending
-    (record { same = c.in-Ok.ensures.same_contents; calls_rise = c.in-Ok.ensures.calls_never_fall; objects_rise = c.in-Ok.ensures.objects_never_fall }) refl refl c.in-Ok.ensures.calm
+    (record { same = c.in-Ok.ensures.same_contents; calls_rise = c.in-Ok.ensures.calls_never_fall; objects_rise = c.in-Ok.ensures.objects_never_fall }) refl refl c.in-Ok.ensures.calm c.in-Ok.ensures.opened
     (c.attend_conf-ending.ensures file read.0 (λ told. c.in-Ok.ensures.same_contents told file ∙ read.1 told) read.2)))
     c.finish_with-2.ensures.silent c.finish_with-2.ensures.front c.finish_with-2.ensures.told

@@ -1,6 +1,6 @@
 use Rattle.std.proofs.Common.{◌≡◌, Err, sym, subst}
 use Rattle.file_spec.specs.Conf.{conf}
-use Rattle.rtt_top.specs.Worlds.{CallFailedIn, IsUnreadIn, ObjectFailedIn, StopsIn, first_file}
+use Rattle.rtt_top.specs.Worlds.{IsUnreadIn, ObjectFailedIn, OpenFailedIn, StopsIn, first_file}
 use Rattle.rtt_top.proofs.Conferring.{conf_refused, unread_stops}
 use Rattle.rtt_top.proofs.conferences.conf_under.Goals as goal
 
@@ -9,7 +9,7 @@ returns-in-Err-clause-stops g c = λ command reads.
     let old = c.args.world.now in
     let new = c.read_input.new.world in
     let file = first_file command in
-    unread_stops g.W.World.tells (g.W.World.contents old) command (CallFailedIn g.W.World old new file) (ObjectFailedIn g.W.World old new file) c.in-Err.fault
+    unread_stops g.W.World.tells (g.W.World.contents old) command (OpenFailedIn g.W.World old new file) (ObjectFailedIn g.W.World old new file) c.in-Err.fault
     (subst (λ name. IsUnreadIn g.W.World old new name c.in-Err.fault) (sym reads.first) c.in-Err.ensures.unread)
 
 pub returns-in-Err-Refused-clause-stops : goal.returns-in-Err-Refused-clause-stops
@@ -22,5 +22,5 @@ returns-in-Err-Refused-clause-stops g c = λ command reads.
     let cause : conf form c.as_slice.result.now ≡ Err (record { line = line; kind = kind }) =
     rw c.in-Err-Refused.field-0-is at c.in-Err-Refused.ensures.refused in
     subst (λ f. StopsIn g.W.World old new command f) (sym c.refused_line.ensures)
-    (conf_refused form g.W.World.tells (g.W.World.contents old) c.args.name.now command (CallFailedIn g.W.World old new (first_file command)) (ObjectFailedIn g.W.World old new (first_file command))
+    (conf_refused form g.W.World.tells (g.W.World.contents old) c.args.name.now command (OpenFailedIn g.W.World old new (first_file command)) (ObjectFailedIn g.W.World old new (first_file command))
     c.in-Ok.octets line kind reads c.in-Ok.ensures.given (subst (λ octets. conf form octets ≡ Err (record { line = line; kind = kind })) c.as_slice.ensures cause))

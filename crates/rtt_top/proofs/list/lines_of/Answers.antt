@@ -7,6 +7,7 @@ use Rattle.rtpdump_io.specs.Faults.{IsSourceFault}
 use Rattle.command_spec.specs.Listing.{list_view}
 use Rattle.rtt_top.specs.Faults.{IsTrueOf}
 use Rattle.rtt_top.specs.Outside.{RoseAt}
+use Rattle.rtt_top.specs.Worlds.{OpenFailedIn}
 use Rattle.rtt_top.proofs.Sources.{source_failed, of_recording}
 use Rattle.rtt_top.proofs.Working.{stops_recording}
 use Rattle.rtt_top.proofs.list.lines_of.Goals as goal
@@ -22,7 +23,7 @@ returns-in-Err-clause-stops g c =
     (ap g.W.Src.Source.name c.new-reader.ensures.source ∙ c.in-Ok.ensures.named) (ap g.W.Src.Source.faults c.new-reader.ensures.source ∙ c.in-Ok.ensures.fresh)
     c.in-Err.ensures.same_name c.into_source.ensures c.in-Ok.ensures.same_objects c.done_src.ensures.added (c.in-Err.ensures.read s) in
     stops_recording g.W.World.tells (g.W.World.contents c.args.world.now) (words.ListRecords (listed c.args.words.now)) file (λ octets. list_view (listed c.args.words.now).pts (dump usual_limit octets).items)
-    (RoseAt (g.W.World.own_faults c.args.world.now) (g.W.World.own_faults c.done_src.new.self) file) (RoseAt before after file) fault refl refl
+    (OpenFailedIn g.W.World c.args.world.now c.done_src.new.self file) (RoseAt before after file) fault refl refl
     (of_recording (IsSourceFault c.in-Err.fault) (RoseAt before after file) failed fault c.fault_of_recording.ensures.of_recording)
     (λ told.
     let P : Recording → Type 0 = λ q. IsTrueOf q.fault fault in (

@@ -5,6 +5,7 @@ use Rattle.command_spec.specs.Words as words
 use Rattle.command_spec.specs.Messages.{Ending}
 use Rattle.rtt_words.specs.Commands.{mixed}
 use Rattle.rtt_top.specs.Conferences.{ending_name, serving_of}
+use Rattle.rtt_top.specs.Lives.{IsServedTo}
 use Rattle.rtt_top.specs.Outside.{outside_over, output_at}
 use Rattle.rtt_top.specs.Runs.{Ends}
 use Rattle.rtt_top.proofs.Conferring.{live_reads}
@@ -60,8 +61,8 @@ returns-clause-runs g c =
     ending c.name_at_end-name.result.now c.finish_with-2.ensures.status
     (subst (λ n. Ends (serving_of file) g.W.World.tells g.K.Sink.tells old new n ending) (sym named)
     (ends_since (serving_of file) g.W.World.tells g.K.Sink.tells old mid new (ending_name file c.in-Ok.conf.legs ending) ending
-    (record { same = c.in-Ok.ensures.same_contents; calls_rise = c.in-Ok.ensures.calls_never_fall; objects_rise = c.in-Ok.ensures.objects_never_fall }) refl refl c.in-Ok.ensures.calm
-    (ends_live g.W.World.tells g.K.Sink.tells g.L.Links.tells mid new file read.0 conference ending (λ told. c.in-Ok.ensures.same_contents told file ∙ read.1 told) read.2 (λ name. refl) (c.live_conf-ending.ensures read.0 read.2))))
+    (record { same = c.in-Ok.ensures.same_contents; calls_rise = c.in-Ok.ensures.calls_never_fall; objects_rise = c.in-Ok.ensures.objects_never_fall }) refl refl c.in-Ok.ensures.calm c.in-Ok.ensures.opened
+    (ends_live (IsServedTo conference g.L.Links.tells mid.links new.links) g.W.World.tells g.K.Sink.tells mid new file read.0 conference ending (λ told. c.in-Ok.ensures.same_contents told file ∙ read.1 told) read.2 (λ name. refl) (c.live_conf-ending.ensures read.0 read.2))))
     c.finish_with-2.ensures.silent c.finish_with-2.ensures.front c.finish_with-2.ensures.told
 
 pub returns-clause-live : goal.returns-clause-live

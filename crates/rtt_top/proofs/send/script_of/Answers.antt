@@ -2,7 +2,7 @@ use Rattle.std.proofs.Common.{◌≡◌, Err, sym, subst}
 use Rattle.file_spec.specs.Script.{script}
 use Rattle.command_spec.specs.Words.{SendWords, Send}
 use Rattle.rtt_words.specs.Commands.{sent}
-use Rattle.rtt_top.specs.Worlds.{CallFailedIn, ObjectFailedIn, StopsIn}
+use Rattle.rtt_top.specs.Worlds.{ObjectFailedIn, OpenFailedIn, StopsIn}
 use Rattle.rtt_top.proofs.Sending.{script_refused}
 use Rattle.rtt_top.proofs.send.script_of.Goals as goal
 
@@ -16,5 +16,5 @@ returns-in-Err-Refused-clause-stops g c =
     let cause : script c.as_slice.result.now ≡ Err (record { line = line; kind = kind }) =
     rw c.in-Err-Refused.field-0-is at c.in-Err-Refused.ensures.refused in
     subst (λ f. StopsIn g.W.World old new (Send s) f) (sym c.refused_line.ensures)
-    (script_refused g.W.World.tells (g.W.World.contents old) s (CallFailedIn g.W.World old new s.file) (ObjectFailedIn g.W.World old new s.file)
+    (script_refused g.W.World.tells (g.W.World.contents old) s (OpenFailedIn g.W.World old new s.file) (ObjectFailedIn g.W.World old new s.file)
     c.in-Ok.octets line kind c.in-Ok.ensures.given (subst (λ octets. script octets ≡ Err (record { line = line; kind = kind })) c.as_slice.ensures cause))

@@ -1,14 +1,15 @@
 use Rattle.std.proofs.Common.{◌≡◌, None, [], refl, ap, sym, subst, ◌∙◌}
 use Rattle.rtpdump_io.specs.Reading.{to_come, source_of}
-use Rattle.wire_spec.specs.Dump.{Recording, dump, usual_limit}
+use Rattle.wire_spec.specs.Dump.{Recording}
 use Rattle.command_spec.specs.Words as words
 use Rattle.rtt_words.specs.Commands.{listed}
 use Rattle.rtpdump_io.specs.Faults.{IsSourceFault}
-use Rattle.command_spec.specs.Showing.{if_no_recording, recording_view, show_refusal, show_view}
+use Rattle.command_spec.specs.Showing.{if_no_recording, show_refusal, show_view}
 use Rattle.command_spec.specs.Work.{Makes}
 use Rattle.command_spec.specs.Outcomes.{Done}
 use Rattle.rtt_top.specs.Faults.{IsTrueOf}
 use Rattle.rtt_top.specs.Outside.{RoseAt}
+use Rattle.rtt_top.specs.Worlds.{OpenFailedIn}
 use Rattle.rtt_top.proofs.Sources.{source_failed, of_recording}
 use Rattle.rtt_top.proofs.Working.{stops_unless, views_unless}
 use Rattle.rtt_top.proofs.Shown.{printed_is, shown_fault}
@@ -25,7 +26,7 @@ returns-in-Err-clause-stops g c =
     (ap g.W.Src.Source.name c.new-reader.ensures.source ∙ c.in-Ok.ensures.named) (ap g.W.Src.Source.faults c.new-reader.ensures.source ∙ c.in-Ok.ensures.fresh)
     c.in-Err.ensures.same_name c.into_source.ensures c.in-Ok.ensures.same_objects c.done_src.ensures.added (c.in-Err.ensures.read s) in
     stops_unless g.W.World.tells (g.W.World.contents c.args.world.now) (words.Show (listed c.args.words.now)) file show_refusal (λ octets. Makes (show_view (listed c.args.words.now).pts octets) [])
-    (RoseAt (g.W.World.own_faults c.args.world.now) (g.W.World.own_faults c.done_src.new.self) file) (RoseAt before after file) fault refl refl
+    (OpenFailedIn g.W.World c.args.world.now c.done_src.new.self file) (RoseAt before after file) fault refl refl
     (of_recording (IsSourceFault c.in-Err.fault) (RoseAt before after file) failed fault c.fault_of_recording.ensures.of_recording)
     (λ told.
     let P : Recording → Type 0 = λ q. IsTrueOf (if_no_recording q.fault) fault in

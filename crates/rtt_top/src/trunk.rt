@@ -1,0 +1,118 @@
+//! `cascade`: the conference of a file is mixed, of which some legs stand behind another mixer, whose recording is split.
+ghost use Rattle.std.specs.Prelude.{◌≡◌, Some, IfErr, IfOk};
+ghost use Rattle.conference.specs.Conferences.{conf_of};
+ghost use Rattle.command_spec.specs.Words.{Cascade};
+ghost use Rattle.rtt_words.specs.Commands.{cascaded};
+ghost use Rattle.rtt_cascade.specs.Inputs.{input_name};
+ghost use Rattle.rtt_top.specs.Conferences.{CascadingEnds, ending_behind, fault_of_cascade, input_behind};
+ghost use Rattle.rtt_top.specs.Outside.{outside_at, output_at};
+ghost use Rattle.rtt_top.specs.Runs.{Runs};
+
+use crate::conferences::{conf_under, name_at_end};
+use crate::files::fault_of_dump;
+use crate::messages::finish_with;
+use crate::mix::make_outputs;
+use command_spec::{Fault, Refusal};
+use conf_text::Form;
+use conference::{Conf, LegLine};
+use rtt_cascade::{CascadeFault, cascade, input_name, odd_line};
+use rtt_io::{Gate, Sink, World};
+use rtt_words::CascadeWords;
+use std::alloc::Global;
+use std::sync::Wait;
+use std::thread::Threads;
+
+/// The fault of a command for that of a conference behind another mixer, which may have so many turns.
+fn fault_of_cascade(turns: u32, fault: CascadeFault) -> Fault
+    ensures { result ≡ fault_of_cascade turns fault }
+{
+    match fault {
+        CascadeFault::Open { input } => Fault::CannotOpen { input },
+        CascadeFault::Dump { input, fault } => fault_of_dump(input, fault),
+        CascadeFault::TooLong => Fault::Refused {
+            input: 0,
+            refusal: Refusal::AfterTurns { turns },
+        },
+        CascadeFault::NoMemory => Fault::NoMemory,
+    }
+}
+
+/// The name of the input of this number: the conference is the first one, then comes the recording, and then each leg that does
+/// not stand behind the other mixer has one.
+fn input_behind<'a>(conf: &'a str, file: &'a str, legs: &'a [LegLine], input: u32) -> &'a str
+    ensures { result.now ≡ input_behind conf.now file.now legs.now input }
+{
+    if input == 0 {
+        return conf;
+    }
+    input_name(file, legs, input)
+}
+
+/// The name of the file that is told of where the work on a conference behind another mixer ends so.
+fn name_behind<'a>(
+    ending: Result<(), Fault>,
+    conf: &'a str,
+    file: &'a str,
+    legs: &'a [LegLine],
+) -> &'a str
+    ensures { result.now ≡ ending_behind conf.now file.now legs.now ending }
+{
+    match ending {
+        Err(Fault::CannotOpen { input }) => input_behind(conf, file, legs, input),
+        Err(Fault::CannotRead { input }) => input_behind(conf, file, legs, input),
+        Err(Fault::Refused { input, .. }) => input_behind(conf, file, legs, input),
+        _ => name_at_end(ending, conf, legs),
+    }
+}
+
+/// Mixes a conference behind a mixer that sent under this SSRC what is recorded in `file`, writes its outputs, and prints what is
+/// seen.
+fn cascade_conf<R: Threads + Wait + Sync, W: World, K: Sink, G: Gate + Sync>(
+    rt: &R,
+    alloc: Global,
+    file: &str,
+    ssrc: u32,
+    conf: &Conf,
+    world: &mut W,
+    out: &mut K,
+    gate: &G,
+) -> Result<(), Fault>
+    ensures { CascadingEnds W.tells K.tells
+        (outside_at W.World K.Sink world.old out.old) (outside_at W.World K.Sink world.new out.new)
+        file.now ssrc (conf_of conf.now) result }
+{
+    if let Some(line) = odd_line(conf.legs.as_slice()) {
+        return Err(Fault::Refused {
+            input: 0,
+            refusal: Refusal::AtTrunk { line },
+        });
+    }
+    let mixed = match cascade(rt, alloc, file, ssrc, conf, world, gate) {
+        Ok(mixed) => mixed,
+        Err(fault) => return Err(fault_of_cascade(conf.turns, fault)),
+    };
+    make_outputs(conf.legs.as_slice(), &mixed, world, out)
+}
+
+/// `cascade`: mixes the conference of a file behind another mixer, and answers the status.
+pub fn run_cascade<R: Threads + Wait + Sync, W: World, K: Sink, E: Sink, G: Gate + Sync>(
+    rt: &R,
+    alloc: Global,
+    words: &CascadeWords<'_>,
+    world: &mut W,
+    out: &mut K,
+    err: &mut E,
+    gate: &G,
+) -> u8
+    ensures { Runs (Some (Cascade (cascaded words.now))) W.tells K.tells E.tells
+        (outside_at W.World K.Sink world.old out.old) (outside_at W.World K.Sink world.new out.new)
+        (output_at E.Sink err.old) (output_at E.Sink err.new) result }
+{
+    let conf = match conf_under(alloc, words.conf, Form::Files, world) {
+        Ok(conf) => conf,
+        Err(fault) => return finish_with(Err(fault), words.conf, err),
+    };
+    let ending = cascade_conf(rt, alloc, words.file, words.ssrc, &conf, world, out, gate);
+    let name = name_behind(ending, words.conf, words.file, conf.legs.as_slice());
+    finish_with(ending, name, err)
+}
