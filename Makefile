@@ -58,6 +58,7 @@ bench: $(PROGRAM)
 	for it in show show-64 script channel relay; do bench/run $$it $(PROGRAM) || exit 1; done
 	bench/mix $(PROGRAM)
 	bench/threads $(PROGRAM)
+	bench/cascade $(PROGRAM)
 	bench/live $(PROGRAM)
 
 compare: $(PROGRAM)
