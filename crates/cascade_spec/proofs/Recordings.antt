@@ -12,6 +12,7 @@ use Rattle.mixer_spec.proofs.Recordings.{recordings_law}
 use Rattle.cascade_spec.specs.Splitting.{came_of, chunks_of, split}
 use Rattle.cascade_spec.specs.Laws.{AreSendable, HeardAreSendable, RecordingsAreHeard, RecordingsAreRead}
 use Rattle.cascade_spec.proofs.Splits.{splits_heard, splits_read}
+use Rattle.stream_spec.proofs.Lists.{filter_keeps}
 
 all_sendable : (cs : List Chunk) → AreTexts cs → AreShort cs → AreSendable cs
 all_sendable [] texts short = tt
@@ -19,12 +20,7 @@ all_sendable (c ∷ cs) texts short = (record { some = texts.0; utf8 = texts.1; 
 
 -- so can those of them that are no keep-alives
 some_sendable : (p : Chunk → Bool) (cs : List Chunk) → AreSendable cs → AreSendable (filter p cs)
-some_sendable p [] a = tt
-some_sendable p (c ∷ cs) a = go (p c) (some_sendable p cs a.1)
-  where
-    go : (b : Bool) → AreSendable (filter p cs) → AreSendable (cond b (c ∷ filter p cs) (filter p cs))
-    go true more = (a.0, more)
-    go false more = more
+some_sendable p cs a = filter_keeps AreSendable tt (λ c rest h. h.1) (λ c rest more h m. (h.0, m)) p cs a
 
 pub heard_sendable : HeardAreSendable
 heard_sendable t octets s =

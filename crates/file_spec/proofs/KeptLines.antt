@@ -1,10 +1,8 @@
 -- What a conference keeps, line by line.
-use Rattle.std.proofs.Common.{◌≡◌, ℕ, zero, suc, ◌+◌, ◌<◌, ◌≤◌, Bool, true, false, Option, Some, None, List, [], ◌∷◌, length, get_or, refl, ap, subst, sym, ◌∙◌, arith}
-use Rattle.std.specs.Prelude.{◌≢◌, ◌==◌, not, nat_le, nat_lt, if◌then◌else◌, unwrap_or, Result, Ok, Err, is_some, codes, bytes_eq, All}
+use Rattle.std.proofs.Common.{◌≡◌, ℕ, zero, suc, ◌<◌, ◌≤◌, Bool, true, false, Option, Some, None, List, [], ◌∷◌, length, get_or, refl, ap, subst, sym, ◌∙◌, arith}
+use Rattle.std.specs.Prelude.{◌≢◌, ◌==◌, not, nat_le, if◌then◌else◌, unwrap_or, Ok, Err, is_some, codes, bytes_eq, All}
 use Rattle.std.specs.List.{list_any, position}
 use Rattle.std.specs.Option.{ForSome, ok_or}
-use Rattle.std.specs.Str.{is_utf8}
-use Rattle.std.specs.Str.Lines.{lines}
 use Rattle.std.proofs.lemmas.Bool.{true≢false, and_parts, or_parts, eq-eqb, not-false, leb-false, ltb-false}
 use Rattle.std.proofs.lemmas.List.{length_push}
 use Rattle.std.proofs.lemmas.List.Elements.{All-nil, All-push}
@@ -12,9 +10,8 @@ use Rattle.std.proofs.lemmas.List.Folds.{list_any_at}
 use Rattle.std.proofs.lemmas.List.Quantifiers.{all_pairs_push, position-Some}
 use Rattle.std.proofs.lemmas.Slice.Eq.{bytes_eq-Decides}
 use Rattle.rtt_base.specs.declared.text_packets.Pts.{Pts}
-use Rattle.file_spec.specs.declared.limits.TheConstants.{FEWEST_LEGS, MOST_LEGS, LEAST_TICK, MOST_TICK, USUAL_TICK, LEAST_SPACING, MOST_SPACING, USUAL_SPACING, MOST_TURNS, MOST_GENS, USUAL_GENS, MOST_PLAN_LINES, LONGEST_DELAY, FIRST_TYPE, LAST_TYPE, LAST_MOMENT, MOST_CONF_OCTETS}
-use Rattle.file_spec.specs.declared.kinds.ConfKind.{ConfKind}
-use Rattle.file_spec.specs.declared.kinds.ConfKind.TheVariants.{NotText, Word, Name, Number, Many, PlanMany, Twice, Clash, Few, Crowd, Large}
+use Rattle.file_spec.specs.declared.limits.TheConstants.{FEWEST_LEGS, MOST_LEGS, LEAST_TICK, MOST_TICK, USUAL_TICK, LEAST_SPACING, MOST_SPACING, USUAL_SPACING, MOST_TURNS, MOST_GENS, USUAL_GENS, MOST_PLAN_LINES, LONGEST_DELAY, FIRST_TYPE, LAST_TYPE, LAST_MOMENT}
+use Rattle.file_spec.specs.declared.kinds.ConfKind.TheVariants.{Word, Name, Number, Many, PlanMany, Twice, Clash}
 use Rattle.file_spec.specs.declared.conf_lines.Form.{Form}
 use Rattle.file_spec.specs.declared.conf_lines.Form.TheVariants.{Files, Links}
 use Rattle.file_spec.specs.declared.conf_lines.MixerLine.{MixerLine}
@@ -27,16 +24,17 @@ use Rattle.file_spec.specs.declared.conf_lines.What.{What}
 use Rattle.file_spec.specs.declared.conf_lines.What.TheVariants as what
 use Rattle.rtt_base.specs.Steps.{◌>>=◌}
 use Rattle.file_spec.specs.Steps.{unless}
-use Rattle.file_spec.specs.Lines.{Line, words, told, at_line, read_lines}
+use Rattle.file_spec.specs.Lines.{Line}
 use Rattle.file_spec.specs.Numbers.{number, most_ssrc, number_between, payload_type, pts}
 use Rattle.file_spec.specs.Stays.{IsStay, is_crowd}
-use Rattle.file_spec.specs.Conf.{Above, Conf, Entry, Leg, Gens, Stays, Tick, Spacing, Wait, Turns, Mixer, Plan, says, time_or_other, stay_or_plan, nothing, with_entry, change_leg, with_gens, with_stay, setting, mixer, mixer_of, is_mixers, is_name, has_names, has_port, shares_own, shares_path, clashes, most_legs, new_leg, aware_of, whole_stay, usual_types, leg_of, leg, place_of, gens_of, gens, stay_of, stay, is_same_packet, plan_of, plan, delay_of, delay, plan_word, entry, is_blank, and_line, whole, complete, conf}
+use Rattle.file_spec.specs.Conf.{Above, Conf, Entry, Leg, Gens, Stays, Tick, Spacing, Wait, Turns, Mixer, Plan, nothing, with_entry, change_leg, with_gens, with_stay, setting, mixer, mixer_of, is_mixers, is_name, has_names, has_port, shares_own, shares_path, clashes, most_legs, new_leg, aware_of, whole_stay, usual_types, leg_of, leg, place_of, gens_of, gens, stay_of, stay, is_same_packet, plan_of, plan, delay_of, delay, plan_word, and_line, whole, conf}
 use Rattle.file_spec.specs.Sound.{IsBetween}
 use Rattle.file_spec.specs.Kept.{IsLeg, Differ, AreLegs, IsMixerFor, IsShort, IsTick, IsSpacing, IsWait, AreTurns, Keeps, IsConference}
 use Rattle.file_spec.proofs.Crowds.{crowds_seen}
 use Rattle.rtt_base.proofs.Steps.{bind_ok}
 use Rattle.file_spec.proofs.Passed.{unless_ok, ok_or_ok, then_some, number_most, number_in}
 use Rattle.rtt_base.specs.declared.limits.TheConstants.{LONGEST_WAIT, USUAL_WAIT}
+use Rattle.file_spec.proofs.EachLine.{HoldsOf, entry_holds, line_adds, lines_of, completed, leg_read, mixer_read}
 
 some_same : {A : Type 0} (x y : A) → Some x ≡ Some y → x ≡ y
 some_same x y e = cc e
@@ -268,21 +266,16 @@ always : IsStay whole_stay
 always = record { from = omega arith; until = λ n e. absurd (cc e); some = λ n e. absurd (cc e) }
 
 leg_of_ok : (form : Form) (above : Above) (n : ℕ) (name mode ssrc input output : List ℕ) (types : Option Pts) (x : LegLine) → ((p : Pts) → types ≡ Some p → AreDynamic p) → leg_of form above n name mode ssrc input output types ≡ Ok x → IsNewLeg above x
-unfolding leg_of
 leg_of_ok form above n name mode ssrc input output types x dynamic e =
-    let a = bind_ok (ok_or (aware_of mode) Word) _ x e in
-    let b = bind_ok (unless (not (has_names form name input output)) Name name) _ x a.2 in
-    let c = bind_ok (ok_or (number most_ssrc ssrc) Number) _ x b.2 in
-    let d = bind_ok (unless (not (has_port form input)) Number input) _ x c.2 in
-    let f = bind_ok (ok_or types Number) _ x d.2 in
-    let u = unless_ok (not (has_names form name input output)) Name name b.0 b.1 in
-    new_ok form above (record { line = n; name = b.0; aware = a.0; ssrc = c.0; input = d.0; output = output; pts = f.0; gens = USUAL_GENS; stay = whole_stay }) x
+    let r = leg_read form above n name mode ssrc input output types x e in
+    let u = unless_ok (not (has_names form name input output)) Name name r.line.name r.names in
+    new_ok form above r.line x
     (record {
       name = subst (λ (text : List ℕ). is_name text ≡ true) u.1 (named form name input output (not-false (has_names form name input output) u.0));
-      types = dynamic f.0 (ok_or_ok types Number f.0 f.1);
-      gens = omega arith;
-      stay = always;
-    }) f.2
+      types = dynamic r.line.pts (ok_or_ok types Number r.line.pts r.types_are);
+      gens = omega (arith, r.repeats);
+      stay = subst IsStay (sym r.stays) always;
+    }) r.is
 
 usual : (p : Pts) → Some usual_types ≡ Some p → AreDynamic p
 usual p e = subst AreDynamic (some_same usual_types p e) (record { t140 = record { low = omega arith; high = omega arith }; red = record { low = omega arith; high = omega arith } })
@@ -347,16 +340,10 @@ stay_ok above (a ∷ b ∷ c ∷ d ∷ more) x e = absurd (cc e)
 
 -- ---- the mixer
 mixer_of_ok : (above : Above) (ssrc seq stamp : List ℕ) (x : MixerLine) → mixer_of above ssrc seq stamp ≡ Ok x → IsMixerFor above.legs x
-unfolding mixer_of
 mixer_of_ok above ssrc seq stamp x e =
-    let a = bind_ok (ok_or (number most_ssrc ssrc) Number) _ x e in
-    let b = bind_ok (ok_or (number 65535 seq) Number) _ x a.2 in
-    let c = bind_ok (ok_or (number 4294967295 stamp) Number) _ x b.2 in
-    let d = bind_ok (unless (is_some above.mixer) Twice (record { ssrc = a.0; seq = b.0; stamp = c.0 })) _ x c.2 in
-    let u = unless_ok (is_some above.mixer) Twice (record { ssrc = a.0; seq = b.0; stamp = c.0 }) d.0 d.1 in
-    let v = unless_ok (list_any (λ l. l.ssrc == a.0) above.legs) Clash d.0 x d.2 in
-    let n = number_most 65535 seq b.0 (ok_or_ok (number 65535 seq) Number b.0 b.1) in
-    subst (IsMixerFor above.legs) (u.1 ∙ v.1) (record { seq = omega arith; differs = no_ssrc above.legs a.0 v.0 })
+    let r = mixer_read above ssrc seq stamp x e in
+    let n = number_most 65535 seq x.seq (ok_or_ok (number 65535 seq) Number x.seq r.first) in
+    record { seq = omega arith; differs = no_ssrc above.legs x.ssrc r.differs }
 
 mixer_ok : (above : Above) (ws : List (List ℕ)) (x : MixerLine) → mixer above ws ≡ Ok x → IsMixerFor above.legs x
 mixer_ok above [] x e = absurd (cc e)
@@ -420,49 +407,23 @@ setting_ok least most above (text ∷ []) x e =
 setting_ok least most above (a ∷ b ∷ more) x e = absurd (cc e)
 
 -- ---- lines
-says_ok : {A : Type 0} (make : A → Entry) (r : Result A ConfKind) (e : Entry) → says make r ≡ Ok e → (x : A) × (r ≡ Ok x) × (make x ≡ e)
-says_ok make (Ok x) e q = (x, refl, cc q)
-says_ok make (Err k) e q = absurd (cc q)
-
-stay_or_plan_ok : (form : Form) (above : Above) (word : List ℕ) (more : List (List ℕ)) (e : Entry) → stay_or_plan form above word more ≡ Ok e → IsNew above e
-unfolding stay_or_plan
-stay_or_plan_ok Links above word more e q = absurd (cc q)
-stay_or_plan_ok Files above word more e q = go (bytes_eq word (codes "stay")) q
-  where
-    go : (a : Bool) → (if a then says Stays (stay above more) else says Plan (plan_word above word more)) ≡ Ok e → IsNew above e
-    go true q = let r = says_ok Stays (stay above more) e q in subst (IsNew above) r.2 (stay_ok above more r.0 r.1)
-    go false q = let r = says_ok Plan (plan_word above word more) e q in subst (IsNew above) r.2 (plan_word_ok above word more r.0 r.1)
-
-time_ok : (form : Form) (above : Above) (word : List ℕ) (more : List (List ℕ)) (e : Entry) → time_or_other form above word more ≡ Ok e → IsNew above e
-unfolding time_or_other
-time_ok form above word more e q = go (bytes_eq word (codes "tick")) (bytes_eq word (codes "spacing")) (bytes_eq word (codes "wait")) (bytes_eq word (codes "turns")) q
-  where
-    go : (a b c d : Bool)
-        → (if a then says Tick (setting LEAST_TICK MOST_TICK above.tick more) else (if b then says Spacing (setting LEAST_SPACING MOST_SPACING above.spacing more) else (if c then says Wait (setting 0 LONGEST_WAIT above.wait more) else (if d then says Turns (setting 1 MOST_TURNS above.turns more) else stay_or_plan form above word more)))) ≡ Ok e
-        → IsNew above e
-    go true b c d q = let r = says_ok Tick (setting LEAST_TICK MOST_TICK above.tick more) e q in subst (IsNew above) r.2 (setting_ok LEAST_TICK MOST_TICK above.tick more r.0 r.1)
-    go false true c d q = let r = says_ok Spacing (setting LEAST_SPACING MOST_SPACING above.spacing more) e q in subst (IsNew above) r.2 (setting_ok LEAST_SPACING MOST_SPACING above.spacing more r.0 r.1)
-    go false false true d q = let r = says_ok Wait (setting 0 LONGEST_WAIT above.wait more) e q in subst (IsNew above) r.2 (setting_ok 0 LONGEST_WAIT above.wait more r.0 r.1).high
-    go false false false true q = let r = says_ok Turns (setting 1 MOST_TURNS above.turns more) e q in subst (IsNew above) r.2 (setting_ok 1 MOST_TURNS above.turns more r.0 r.1)
-    go false false false false q = stay_or_plan_ok form above word more e q
-
-entry_ok : (form : Form) (above : Above) (n : ℕ) (ws : List (List ℕ)) (e : Entry) → entry form above n ws ≡ Ok e → IsNew above e
-unfolding entry
-entry_ok form above n [] e q = absurd (cc q)
-entry_ok form above n (word ∷ more) e q = go (bytes_eq word (codes "leg")) (bytes_eq word (codes "mixer")) (bytes_eq word (codes "gens")) q
-  where
-    go : (a b c : Bool) → (if a then says Leg (leg form above n more) else (if b then says Mixer (mixer above more) else (if c then says Gens (gens above more) else time_or_other form above word more))) ≡ Ok e → IsNew above e
-    go true b c q = let r = says_ok Leg (leg form above n more) e q in subst (IsNew above) r.2 (leg_ok form above n more r.0 r.1)
-    go false true c q = let r = says_ok Mixer (mixer above more) e q in subst (IsNew above) r.2 (mixer_ok above more r.0 r.1)
-    go false false true q = let r = says_ok Gens (gens above more) e q in subst (IsNew above) r.2 (gens_ok above more r.0 r.1)
-    go false false false q = time_ok form above word more e q
+entry_ok : (form : Form) (above : Above) (n : ℕ) → HoldsOf (IsNew above) form above n
+entry_ok form above n = record {
+  each_leg = leg_ok form above n;
+  each_mixer = mixer_ok above;
+  each_gens = gens_ok above;
+  each_stay = λ q. stay_ok above;
+  each_plan = λ q. plan_word_ok above;
+  each_tick = setting_ok LEAST_TICK MOST_TICK above.tick;
+  each_spacing = setting_ok LEAST_SPACING MOST_SPACING above.spacing;
+  each_wait = λ ws x e. (setting_ok 0 LONGEST_WAIT above.wait ws x e).high;
+  each_turns = setting_ok 1 MOST_TURNS above.turns;
+}
 
 pub line_keeps : (form : Form) (above later : Above) (line : Line) → and_line form above line ≡ Ok later → Keeps above → Keeps later
 line_keeps form above later line e k =
-    let a = bind_ok (unless (not (is_utf8 line.octets)) NotText line.octets) _ later e in
-    let b = bind_ok (entry form above line.number (words a.0)) (λ said. Ok (with_entry above said)) later a.2 in
-    let same : with_entry above b.0 ≡ later = cc b.2 in
-    subst Keeps same (more above b.0 k (entry_ok form above line.number (words a.0) b.0 b.1))
+    let a = line_adds form above later line e in
+    subst Keeps a.3 (more above a.1 k (entry_holds (IsNew above) form above line.number (entry_ok form above line.number) a.0 a.1 a.2))
 
 pub nothing_keeps : Keeps nothing
 nothing_keeps = record {
@@ -474,16 +435,6 @@ nothing_keeps = record {
   mixer = λ m e. absurd (cc e);
   plan = record { most = omega arith; terminals = All-nil (λ a. a.terminal < 0); delays = All-nil (λ a. IsShort a.what); differ = λ i j d l h. absurd (omega arith) };
 }
-
-at_ok : {A : Type 0} (n : ℕ) (r : Result A ConfKind) (x : A) → at_line n r ≡ Ok x → r ≡ Ok x
-at_ok n (Ok y) x e = let same : y ≡ x = cc e in ap (λ z. Ok z) same
-at_ok n (Err k) x e = absurd (cc e)
-
-lines_keep : (form : Form) (above last : Above) (ls : List Line) → read_lines (and_line form) above ls ≡ Ok last → Keeps above → Keeps last
-lines_keep form above last [] e k = let same : above ≡ last = cc e in subst Keeps same k
-lines_keep form above last (line ∷ more) e k =
-    let a = bind_ok (at_line line.number (and_line form above line)) (λ said. read_lines (and_line form) said more) last e in
-    lines_keep form a.0 last more a.2 (line_keeps form above a.0 line (at_ok line.number (and_line form above line) a.0 a.1) k)
 
 -- ---- the whole
 or_usual : (o : Option ℕ) (n : ℕ) (P : ℕ → Type 0) → P n → ForSome o P → P (unwrap_or o n)
@@ -503,19 +454,8 @@ whole_keeps above m k said two room = record {
   plan = k.plan;
 }
 
-complete_keeps : (above : Above) (m : Option MixerLine) (c : Conf) → Keeps above → above.mixer ≡ m → complete above m ≡ Ok c → IsConference c
-complete_keeps above None c k said e = absurd (cc e)
-complete_keeps above (Some m) c k said e =
-    let a = bind_ok (unless (nat_lt (length above.legs) FEWEST_LEGS) Few (whole above m)) (unless (is_crowd above.legs) Crowd) c e in
-    let u = unless_ok (nat_lt (length above.legs) FEWEST_LEGS) Few (whole above m) a.0 a.1 in
-    let v = unless_ok (is_crowd above.legs) Crowd a.0 c a.2 in
-    subst IsConference (u.1 ∙ v.1) (whole_keeps above m k said (ltb-false (length above.legs) FEWEST_LEGS u.0) v.0)
-
 pub accepted_keeps : (form : Form) (octets : List ℕ) (c : Conf) → conf form octets ≡ Ok c → IsConference c
-accepted_keeps form octets c e = go (nat_lt MOST_CONF_OCTETS (length octets)) e
-  where
-    go : (b : Bool) → (if b then Err (record { line = 0; kind = Large }) else (read_lines (and_line form) nothing (told is_blank 1 (lines octets)) >>= λ above. at_line (length (lines octets) + 1) (complete above above.mixer))) ≡ Ok c → IsConference c
-    go true e = absurd (cc e)
-    go false e =
-        let a = bind_ok (read_lines (and_line form) nothing (told is_blank 1 (lines octets))) (λ above. at_line (length (lines octets) + 1) (complete above above.mixer)) c e in
-        complete_keeps a.0 a.0.mixer c (lines_keep form nothing a.0 (told is_blank 1 (lines octets)) a.1 nothing_keeps) refl (at_ok (length (lines octets) + 1) (complete a.0 a.0.mixer) c a.2)
+accepted_keeps form octets c e =
+    let a = lines_of Keeps form (line_keeps form) nothing_keeps octets c e in
+    let d = completed a.0 a.0.mixer c a.2 in
+    subst IsConference d.4 (whole_keeps a.0 d.0 a.1 d.1 (ltb-false (length a.0.legs) FEWEST_LEGS d.2) d.3)

@@ -5,3 +5,4 @@ pub mod KeptLines
 pub mod NameTexts
 pub mod Passed
 mod ScriptExamples
+pub mod EachLine

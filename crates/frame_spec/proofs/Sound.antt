@@ -64,8 +64,8 @@ next_is p octets f q rest e = elim (cases_lt 0 (length octets)) [
     go (Some kind) g h = absurd (false≢true (ap is_next h))
     go None g h = record { passed = g; frame = ap (frame_or f) h; place = ap (place_or q) h }
 
--- the frame of a step may stand there
-pub frame_is : (p : Place) (octets : List ℕ) → frame_fault p octets ≡ None → (p.latest ≤ time_of octets) × IsFrame (frame_of octets)
+-- the frame of a step may stand there, and few octets are behind it
+pub frame_is : (p : Place) (octets : List ℕ) → frame_fault p octets ≡ None → (p.latest ≤ time_of octets) × IsFrame (frame_of octets) × ((place_behind p (frame_of octets)).byte ≤ MOST_FRAMES_OCTETS)
 frame_is p octets e =
     let w = whole p octets e in
     let t = passes p (time_of octets) (length_of octets) w.tests in
@@ -73,7 +73,8 @@ frame_is p octets e =
     let size = length-take (length_of octets) (drop FRAME_HEAD_OCTETS octets) in
     let there = w.there in
     let some = t.some in
-    let few = t.few in (
+    let few = t.few in
+    let small = t.small in (
       t.rises,
       record {
         early = t.early;
@@ -81,17 +82,8 @@ frame_is p octets e =
         few = omega (arith, behind, size, there, few);
         text = IsUtf8-from_is_utf8 (take (length_of octets) (drop FRAME_HEAD_OCTETS octets)) w.text;
       },
+      omega (arith, behind, size, there, small),
     )
-
-stays_small : (p : Place) (octets : List ℕ) → frame_fault p octets ≡ None → (place_behind p (frame_of octets)).byte ≤ MOST_FRAMES_OCTETS
-stays_small p octets e =
-    let w = whole p octets e in
-    let t = passes p (time_of octets) (length_of octets) w.tests in
-    let behind = length-drop FRAME_HEAD_OCTETS octets in
-    let size = length-take (length_of octets) (drop FRAME_HEAD_OCTETS octets) in
-    let there = w.there in
-    let small = t.small in
-    omega (arith, behind, size, there, small)
 
 pub sound : (n : ℕ) (p : Place) (octets : List ℕ) → p.byte ≤ MOST_FRAMES_OCTETS → FramesFrom p (reading_within n p octets).frames
 unfolding reading_within
@@ -104,7 +96,7 @@ sound (suc n) p octets w = go (frame_step p octets) refl (λ q rest v. sound n q
     go (Next f q rest) e r =
         let i = next_is p octets f q rest e in
         let is = frame_is p octets i.passed in
-        let small = subst (λ (q : Place). q.byte ≤ MOST_FRAMES_OCTETS) i.place (stays_small p octets i.passed) in
+        let small = subst (λ (q : Place). q.byte ≤ MOST_FRAMES_OCTETS) i.place is.2 in
         let behind = subst (λ (q : Place). FramesFrom q (reading_within n q rest).frames → FramesFrom (place_behind p (frame_of octets)) (reading_within n q rest).frames) i.place (λ x. x) (r q rest small) in
         subst (λ (g : Frame). FramesFrom p (g ∷ (reading_within n q rest).frames)) i.frame (more p (frame_of octets) (reading_within n q rest).frames is.0 is.1 behind)
 

@@ -47,9 +47,10 @@ IsServed w v j i = count_of i (w.terminals j).past < count_of i (v.terminals j).
 abbrev pub places_before : Setup → Table → ℕ → ℕ → ℕ → ℕ
 places_before s w j q p = rank s (w.terminals j).past q p
 
--- A leg that is due in a turn is served within as many turns as there are places but the terminal's own, that turn counted in.
-abbrev pub IsServedSoon : Type 0
-IsServedSoon =
+-- this holds wherever a leg is due at an aware terminal in a turn: the tables before the turn and behind it, what comes after the
+-- turn, the turn's moment, the terminal and the leg, and the places of both
+abbrev pub WhereDue : ((s : Setup) (w v : Table) (es : List Event) (now j i q p : ℕ) → Type 0) → Type 0
+WhereDue P =
     (s : Setup) (chunks : ℕ → List Chunk) (before es : List Event) (j i q p now : ℕ)
     → IsSetup s → AllTexts chunks
     → s.aware j ≡ true
@@ -59,22 +60,15 @@ IsServedSoon =
     w.seats.place j ≡ Some q
     → w.seats.place i ≡ Some p
     → IsDueAt s w j i now
-    → other_places s ≤ turns_in (es ++ Turn now ∷ [])
-    → IsServed w v j i
+    → P s w v es now j i q p
+
+-- A leg that is due in a turn is served within as many turns as there are places but the terminal's own, that turn counted in.
+abbrev pub IsServedSoon : Type 0
+IsServedSoon = WhereDue (λ s w v es now j i q p. other_places s ≤ turns_in (es ++ Turn now ∷ []) → IsServed w v j i)
 
 -- Each turn that serves another leg brings it nearer to its own.
 abbrev pub ComesNearer : Type 0
-ComesNearer =
-    (s : Setup) (chunks : ℕ → List Chunk) (before es : List Event) (j i q p now : ℕ)
-    → IsSetup s → AllTexts chunks
-    → s.aware j ≡ true
-    → j < s.legs → i < s.legs
-    → let w = (after s chunks before).table in
-    let v = (after s chunks (es ++ Turn now ∷ before)).table in
-    w.seats.place j ≡ Some q
-    → w.seats.place i ≡ Some p
-    → IsDueAt s w j i now
-    → IsServed w v j i ⊎ (suc (turns_in es) + places_before s v j q p ≤ places_before s w j q p)
+ComesNearer = WhereDue (λ s w v es now j i q p. IsServed w v j i ⊎ (suc (turns_in es) + places_before s v j q p ≤ places_before s w j q p))
 
 -- ---- what a turn sends
 -- A turn sends at most one packet to a terminal, at its moment and its media time.

@@ -22,6 +22,7 @@ use Rattle.file_spec.specs.Conf.{Above, Conf, Entry, Gens, Leg, Mixer, Plan, Spa
 use Rattle.rtt_base.proofs.Steps.{bind_ok}
 use Rattle.file_spec.proofs.Passed.{unless_ok}
 use Rattle.rtt_base.specs.declared.limits.TheConstants.{LONGEST_WAIT}
+use Rattle.file_spec.proofs.EachLine.{HoldsOf, leg_read, entry_holds, line_adds, lines_of, completed}
 
 -- Behind these legs: it stays for good, its input is a port, and none above it has the same port or output.
 pub record IsNewLink (above : List LegLine) (l : LegLine) : Type 0 where
@@ -53,16 +54,10 @@ new_leg_is above l x stays numbered e =
     subst (IsNewLink above.legs) same (record { stays = stays; numbered = numbered; apart = third.1 })
 
 leg_of_fits : (above : Above) (n : ℕ) (name mode ssrc input output : List ℕ) (types : Option Pts) (x : LegLine) → leg_of Links above n name mode ssrc input output types ≡ Ok x → IsNewLink above.legs x
-unfolding leg_of
 leg_of_fits above n name mode ssrc input output types x e =
-    let a = bind_ok (ok_or (aware_of mode) Word) _ x e in
-    let b = bind_ok (unless (not (has_names Links name input output)) Name name) _ x a.2 in
-    let c = bind_ok (ok_or (number most_ssrc ssrc) Number) _ x b.2 in
-    let d = bind_ok (unless (not (has_port Links input)) Number input) _ x c.2 in
-    let f = bind_ok (ok_or types Number) _ x d.2 in
-    let l : LegLine = record { line = n; name = b.0; aware = a.0; ssrc = c.0; input = d.0; output = output; pts = f.0; gens = USUAL_GENS; stay = whole_stay } in
-    let u = unless_ok (not (has_port Links input)) Number input d.0 d.1 in
-    new_leg_is above l x refl (ap (λ (i : List ℕ). is_some (port i)) (sym u.1) ∙ not-false (has_port Links input) u.0) f.2
+    let r = leg_read Links above n name mode ssrc input output types x e in
+    let u = unless_ok (not (has_port Links input)) Number input r.line.input r.comes in
+    new_leg_is above r.line x r.stays (ap (λ (i : List ℕ). is_some (port i)) (sym u.1) ∙ not-false (has_port Links input) u.0) r.is
 
 leg_fits : (above : Above) (n : ℕ) (ws : List (List ℕ)) (x : LegLine) → leg Links above n ws ≡ Ok x → IsNewLink above.legs x
 leg_fits above n [] x e = absurd (cc e)
@@ -76,45 +71,18 @@ leg_fits above n (a ∷ b ∷ c ∷ d ∷ f ∷ g ∷ h ∷ []) x e = leg_of_fit
 leg_fits above n (a ∷ b ∷ c ∷ d ∷ f ∷ g ∷ h ∷ i ∷ more) x e = absurd (cc e)
 
 -- ---- lines
-says_ok : {A : Type 0} (make : A → Entry) (r : Result A ConfKind) (e : Entry) → says make r ≡ Ok e → (x : A) × (r ≡ Ok x) × (make x ≡ e)
-says_ok make (Ok x) e q = (x, refl, cc q)
-says_ok make (Err k) e q = absurd (cc q)
-
--- of whatever makes entries that say no leg and no stay
-says_other : {A : Type 0} (make : A → Entry) (r : Result A ConfKind) (e : Entry) → (above : Above) → ((x : A) → Fits above.legs (make x)) → says make r ≡ Ok e → Fits above.legs e
-says_other make r e above f q = let s = says_ok make r e q in subst (Fits above.legs) s.2 (f s.0)
-
-no_stay : (above : Above) (word : List ℕ) (more : List (List ℕ)) (e : Entry) → stay_or_plan Links above word more ≡ Ok e → Fits above.legs e
-unfolding stay_or_plan
-no_stay above word more e q = absurd (cc q)
-
-time_fits : (above : Above) (word : List ℕ) (more : List (List ℕ)) (e : Entry) → time_or_other Links above word more ≡ Ok e → Fits above.legs e
-unfolding time_or_other
-time_fits above word more e q = go (bytes_eq word (codes "tick")) (bytes_eq word (codes "spacing")) (bytes_eq word (codes "wait")) (bytes_eq word (codes "turns")) q
-  where
-    go : (a b c d : Bool)
-        → (if a then says Tick (setting LEAST_TICK MOST_TICK above.tick more) else (if b then says Spacing (setting LEAST_SPACING MOST_SPACING above.spacing more) else (if c then says Wait (setting 0 LONGEST_WAIT above.wait more) else (if d then says Turns (setting 1 MOST_TURNS above.turns more) else stay_or_plan Links above word more)))) ≡ Ok e
-        → Fits above.legs e
-    go true b c d q = says_other Tick (setting LEAST_TICK MOST_TICK above.tick more) e above (λ x. tt) q
-    go false true c d q = says_other Spacing (setting LEAST_SPACING MOST_SPACING above.spacing more) e above (λ x. tt) q
-    go false false true d q = says_other Wait (setting 0 LONGEST_WAIT above.wait more) e above (λ x. tt) q
-    go false false false true q = says_other Turns (setting 1 MOST_TURNS above.turns more) e above (λ x. tt) q
-    go false false false false q = no_stay above word more e q
-
-entry_fits : (above : Above) (n : ℕ) (ws : List (List ℕ)) (e : Entry) → entry Links above n ws ≡ Ok e → Fits above.legs e
-unfolding entry
-entry_fits above n [] e q = absurd (cc q)
-entry_fits above n (word ∷ more) e q = go (bytes_eq word (codes "leg")) (bytes_eq word (codes "mixer")) (bytes_eq word (codes "gens")) q
-  where
-    go : (a b c : Bool) → (if a then says Leg (leg Links above n more) else (if b then says Mixer (mixer above more) else (if c then says Gens (gens above more) else time_or_other Links above word more))) ≡ Ok e → Fits above.legs e
-    go true b c q = let r = says_ok Leg (leg Links above n more) e q in subst (Fits above.legs) r.2 (leg_fits above n more r.0 r.1)
-    go false true c q = says_other Mixer (mixer above more) e above (λ x. tt) q
-    go false false true q = says_other Gens (gens above more) e above (λ x. tt) q
-    go false false false q = time_fits above word more e q
-
-at_ok : {A : Type 0} (n : ℕ) (r : Result A ConfKind) (x : A) → at_line n r ≡ Ok x → r ≡ Ok x
-at_ok n (Ok y) x e = let same : y ≡ x = cc e in ap (λ z. Ok z) same
-at_ok n (Err k) x e = absurd (cc e)
+entry_fits : (above : Above) (n : ℕ) → HoldsOf (Fits above.legs) Links above n
+entry_fits above n = record {
+  each_leg = leg_fits above n;
+  each_mixer = λ ws x e. tt;
+  each_gens = λ ws x e. tt;
+  each_stay = λ q. absurd (cc q);
+  each_plan = λ q. absurd (cc q);
+  each_tick = λ ws x e. tt;
+  each_spacing = λ ws x e. tt;
+  each_wait = λ ws x e. tt;
+  each_turns = λ ws x e. tt;
+}
 
 -- ---- the whole, where none keeps it, one more keeps it, and another count of generations does
 module _ (Fit : List LegLine → Type 0) (none : Fit []) (push : (above : List LegLine) (l : LegLine) → IsNewLink above l → Fit above → Fit (above ++ l ∷ []))
@@ -132,30 +100,11 @@ module _ (Fit : List LegLine → Type 0) (none : Fit []) (push : (above : List L
 
   line_fits : (above later : Above) (line : Line) → and_line Links above line ≡ Ok later → Fit above.legs → Fit later.legs
   line_fits above later line e f =
-      let a = bind_ok (unless (not (is_utf8 line.octets)) NotText line.octets) _ later e in
-      let b = bind_ok (entry Links above line.number (words a.0)) (λ said. Ok (with_entry above said)) later a.2 in
-      let same : with_entry above b.0 ≡ later = cc b.2 in
-      subst (λ (x : Above). Fit x.legs) same (more above b.0 f (entry_fits above line.number (words a.0) b.0 b.1))
-
-  lines_fit : (above last : Above) (ls : List Line) → read_lines (and_line Links) above ls ≡ Ok last → Fit above.legs → Fit last.legs
-  lines_fit above last [] e f = let same : above ≡ last = cc e in subst (λ (x : Above). Fit x.legs) same f
-  lines_fit above last (line ∷ more) e f =
-      let a = bind_ok (at_line line.number (and_line Links above line)) (λ said. read_lines (and_line Links) said more) last e in
-      lines_fit a.0 last more a.2 (line_fits above a.0 line (at_ok line.number (and_line Links above line) a.0 a.1) f)
-
-  complete_fits : (above : Above) (m : Option MixerLine) (c : Conf) → Fit above.legs → complete above m ≡ Ok c → Fit c.legs
-  complete_fits above None c f e = absurd (cc e)
-  complete_fits above (Some m) c f e =
-      let a = bind_ok (unless (nat_lt (length above.legs) FEWEST_LEGS) Few (whole above m)) (unless (is_crowd above.legs) Crowd) c e in
-      let u = unless_ok (nat_lt (length above.legs) FEWEST_LEGS) Few (whole above m) a.0 a.1 in
-      let v = unless_ok (is_crowd above.legs) Crowd a.0 c a.2 in
-      subst (λ (x : Conf). Fit x.legs) (u.1 ∙ v.1) f
+      let a = line_adds Links above later line e in
+      subst (λ (x : Above). Fit x.legs) a.3 (more above a.1 f (entry_holds (Fits above.legs) Links above line.number (entry_fits above line.number) a.0 a.1 a.2))
 
   pub legs_fit : (octets : List ℕ) (c : Conf) → conf Links octets ≡ Ok c → Fit c.legs
-  legs_fit octets c e = go (nat_lt MOST_CONF_OCTETS (length octets)) e
-    where
-      go : (b : Bool) → (if b then Err (record { line = 0; kind = Large }) else (read_lines (and_line Links) nothing (told is_blank 1 (lines octets)) >>= λ above. at_line (length (lines octets) + 1) (complete above above.mixer))) ≡ Ok c → Fit c.legs
-      go true e = absurd (cc e)
-      go false e =
-          let a = bind_ok (read_lines (and_line Links) nothing (told is_blank 1 (lines octets))) (λ above. at_line (length (lines octets) + 1) (complete above above.mixer)) c e in
-          complete_fits a.0 a.0.mixer c (lines_fit nothing a.0 (told is_blank 1 (lines octets)) a.1 none) (at_ok (length (lines octets) + 1) (complete a.0 a.0.mixer) c a.2)
+  legs_fit octets c e =
+      let a = lines_of (λ (x : Above). Fit x.legs) Links line_fits none octets c e in
+      let d = completed a.0 a.0.mixer c a.2 in
+      subst (λ (x : Conf). Fit x.legs) d.4 a.1

@@ -67,10 +67,10 @@ by_more place (u ∷ us) b s above =
 
 -- ---- all used packets
 module _ (wait : ℕ) (past : List Numbered) where
-  abbrev stamps : List Numbered → List Numbered
+  abbrev pub stamps : List Numbered → List Numbered
   stamps us = map (stamped wait past) us
 
-  abbrev stamp_prev : Option Numbered → Option Numbered
+  abbrev pub stamp_prev : Option Numbered → Option Numbered
   stamp_prev None = None
   stamp_prev (Some u) = Some (stamped wait past u)
 
@@ -90,7 +90,7 @@ module _ (wait : ℕ) (past : List Numbered) where
   over_stamped place f first prev [] = refl
   over_stamped place f first prev (u ∷ us) = rw (piece_stamped f first prev u) (ap (λ cs. map (chunk place (ready_of wait past u)) (piece f first prev u) ++ cs) (over_stamped place f first (Some u) us))
 
-  filter_stamped : (s : ℕ) (us : List Numbered) → filter (is_packet_of s) (stamps us) ≡ stamps (filter (is_packet_of s) us)
+  pub filter_stamped : (s : ℕ) (us : List Numbered) → filter (is_packet_of s) (stamps us) ≡ stamps (filter (is_packet_of s) us)
   filter_stamped s [] = refl
   filter_stamped s (u ∷ us) = go (is_packet_of s u) (filter_stamped s us)
     where
@@ -99,7 +99,7 @@ module _ (wait : ℕ) (past : List Numbered) where
       go true e = ap (λ l. stamped wait past u ∷ l) e
       go false e = e
 
-  has_stamped : (us : List Numbered) (k : ℕ) → has_number (stamps us) k ≡ has_number us k
+  pub has_stamped : (us : List Numbered) (k : ℕ) → has_number (stamps us) k ≡ has_number us k
   has_stamped [] k = refl
   has_stamped (u ∷ us) k = ap (λ b. (u.number == k) || b) (has_stamped us k)
 

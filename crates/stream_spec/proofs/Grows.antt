@@ -1,6 +1,6 @@
 -- A history that grows by one entry at its end.
 use Rattle.std.proofs.Common.{◌^◌, ◌⊎◌, ◌≤◌, ◌≡◌, ℕ, zero, suc, ◌+◌, ◌-◌, ◌<◌, Bool, true, false, cond, inl, inr, List, [], ◌∷◌, ◌++◌, length, drop, refl, ap, subst, sym, ◌∙◌, arith}
-use Rattle.std.specs.Prelude.{filter, ◌*◌, ◌&&◌, ◌==◌, nat_lt, nat_le, IsUtf8, if◌then◌else◌}
+use Rattle.std.specs.Prelude.{filter, ◌*◌, ◌&&◌, ◌==◌, nat_lt, nat_le, IsUtf8, if◌then◌else◌, max}
 use Rattle.std.specs.List.{concat}
 use Rattle.std.proofs.lemmas.Bool.{cases_Bool, cases_lt, eqb-true, eq-eqb, le-ltb, lt-ltb, le-leb, lt-leb, and_left, and_right}
 use Rattle.wire_spec.specs.Packets.{has_text}
@@ -10,6 +10,7 @@ use Rattle.stream_spec.specs.Kept.{is_entry_of}
 use Rattle.stream_spec.proofs.Lists.{in_append, filter_in}
 use Rattle.stream_spec.proofs.Places.{one_more_own}
 use Rattle.rtt_base.specs.declared.limits.TheConstants.{MOST_PACKET_OCTETS, MOST_TEXT_OCTETS}
+use Rattle.stream_spec.specs.Own.{own_packet}
 
 abbrev pub grown : History → Entry → History
 grown h e = record h { entries = h.entries ++ e ∷ [] }
@@ -221,3 +222,7 @@ lawful_grown h e law f = record {
         let empty : entry_count y.source [] ≡ 0 = refl in
         absurd (omega (arith, ap (λ (z : Placed). z.index) q))
     near x y (inr q) (inr w) s l r t = absurd (omega (arith, ap (λ (z : Placed). z.index) q, ap (λ (z : Placed). z.index) w))
+
+-- the packet of an entry stays when the history grows
+pub packet_stays : (h : History) (e : Entry) (x : Placed) → In x (placed h) → own_packet (grown h e) x ≡ own_packet h x
+packet_stays h e x i = rw (before_grown h e (max 1 x.gens) x i, window_grown h e x i) refl

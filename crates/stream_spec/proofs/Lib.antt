@@ -30,3 +30,4 @@ pub mod FrontsExample
 pub mod Still
 pub mod StillChunks
 pub mod StillExamples
+pub mod Fitting

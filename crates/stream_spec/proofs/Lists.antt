@@ -1,6 +1,6 @@
 -- Members of lists.
 use Rattle.std.proofs.Common.{◌≡◌, Bool, true, false, cond, ◌⊎◌, inl, inr, List, [], ◌∷◌, ◌++◌, refl, ap, sym, ◌∙◌}
-use Rattle.std.specs.Prelude.{filter}
+use Rattle.std.specs.Prelude.{filter, map}
 use Rattle.std.specs.List.{list_any}
 use Rattle.std.proofs.lemmas.Bool.{true≢false, or_cases, or_left, or_right}
 use Rattle.stream_spec.specs.Lists.{In}
@@ -55,3 +55,16 @@ pub in_any : {X : Type 0} (p : X → Bool) (xs : List X) (x : X) → In x xs →
 in_any p [] x i h = absurd i
 in_any p (y ∷ xs) x (inl e) h = or_left (p y) (list_any p xs) (sym (ap p e) ∙ h)
 in_any p (y ∷ xs) x (inr i) h = or_right (p y) (list_any p xs) (in_any p xs x i h)
+
+pub map_same : {X Y : Type 0} (f g : X → Y) (xs : List X) → ((x : X) → In x xs → f x ≡ g x) → map f xs ≡ map g xs
+map_same f g [] e = refl
+map_same f g (x ∷ xs) e = ap (λ y. y ∷ map f xs) (e x (inl refl)) ∙ ap (λ ys. g x ∷ ys) (map_same f g xs (λ y i. e y (inr i)))
+
+-- what holds of a list and goes on element by element holds of those that pass
+pub filter_keeps : {X : Type 0} (P : List X → Type 0) → P [] → ((x : X) (xs : List X) → P (x ∷ xs) → P xs) → ((x : X) (xs ys : List X) → P (x ∷ xs) → P ys → P (x ∷ ys)) → (p : X → Bool) (xs : List X) → P xs → P (filter p xs)
+filter_keeps P none tail again p [] a = none
+filter_keeps P none tail again p (x ∷ xs) a = go (p x) (filter_keeps P none tail again p xs (tail x xs a))
+  where
+    go : (b : Bool) → P (filter p xs) → P (cond b (x ∷ filter p xs) (filter p xs))
+    go true more = again x xs (filter p xs) a more
+    go false more = more

@@ -98,7 +98,7 @@ matched wait h p d (a ∷ before) f c =
     go false r q = r
 
 -- ---- the places rise, and begin with the first
-in_by_place : (x y : Placed) (xs : List Placed) → In y (by_place x xs) → (y ≡ x) ⊎ In y xs
+pub in_by_place : (x y : Placed) (xs : List Placed) → In y (by_place x xs) → (y ≡ x) ⊎ In y xs
 in_by_place x y [] (inl e) = inl e
 in_by_place x y [] (inr i) = absurd i
 in_by_place x y (z ∷ xs) i = go (nat_lt x.place z.place) (in_by_place x y xs) i

@@ -7,7 +7,7 @@ use Rattle.stream_spec.specs.Own.{Own, own_packet, media_of, entries_of, first_s
 use Rattle.stream_spec.proofs.Places.{place_from}
 use Rattle.stream_spec.proofs.OwnPackets.{own_is_packet}
 
-media_is : (base m n : ℕ) → m ≤ n → n < m + 2 ^ 32 → media_of base m ((base + n) % 2 ^ 32) ≡ n
+pub media_is : (base m n : ℕ) → m ≤ n → n < m + 2 ^ 32 → media_of base m ((base + n) % 2 ^ 32) ≡ n
 media_is base m n l u = omega arith
 
 pub entries_back : (g : ℕ) (h : History) → Lawful h → Own g h → (before es : List Entry) (m : ℕ) → ((x : Placed) → In x (placed_after before es) → In x (placed h))
@@ -26,15 +26,12 @@ entries_back g h law own before (e ∷ es) m f n =
     let s = law.spans y x k i in (omega arith, omega arith)) in
     rw (media, is.count, is.oldest, rest) refl
 
-pub history_back : (g : ℕ) (h : History) → Lawful h → Own g h → 0 < length h.entries → h.first < 65536 → ((x : Placed) → In x (placed h) → x.media < 2 ^ 32)
-    → history_of (map (own_packet h) (placed h)) h.base ≡ h
-history_back g h law own some small near = go h.entries refl
+-- a history that begins below 65536 and whose entries are read back is read back
+pub history_read : (h : History) → 0 < length h.entries → h.first < 65536 → entries_of h.base 0 (map (own_packet h) (placed h)) ≡ h.entries → history_of (map (own_packet h) (placed h)) h.base ≡ h
+history_read h some small back = go h.entries refl
   where
     of : ℕ → ℕ → List Entry → History
     of ssrc first es = record { ssrc = ssrc; first = first; base = h.base; entries = es }
-
-    back : entries_of h.base 0 (map (own_packet h) (placed h)) ≡ h.entries
-    back = entries_back g h law own [] h.entries 0 (λ x i. i) (λ x i. let n = near x i in (omega arith, omega arith))
 
     go : (es : List Entry) → h.entries ≡ es → history_of (map (own_packet h) (placed h)) h.base ≡ h
     go [] e = absurd (omega (arith, some, ap length e))
@@ -44,3 +41,8 @@ history_back g h law own some small near = go h.entries refl
         let first : first_seq (map (own_packet h) (placed h)) ≡ h.first = omega (arith, seq, small) in
         ap (λ n. of n (first_seq (map (own_packet h) (placed h))) (entries_of h.base 0 (map (own_packet h) (placed h)))) ssrc
         ∙ (ap (λ n. of h.ssrc n (entries_of h.base 0 (map (own_packet h) (placed h)))) first ∙ ap (of h.ssrc h.first) back)
+
+pub history_back : (g : ℕ) (h : History) → Lawful h → Own g h → 0 < length h.entries → h.first < 65536 → ((x : Placed) → In x (placed h) → x.media < 2 ^ 32)
+    → history_of (map (own_packet h) (placed h)) h.base ≡ h
+history_back g h law own some small near =
+    history_read h some small (entries_back g h law own [] h.entries 0 (λ x i. i) (λ x i. let n = near x i in (omega arith, omega arith)))

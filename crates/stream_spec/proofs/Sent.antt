@@ -366,8 +366,9 @@ may_follow c past e small law m = record {
         head true l = omega (arith, small)
         head false l = omega (arith, small)
 
-pub sent_lawful : (c : Stream) (past : List Sent) → c.gens ≤ 3 → Sendable c past → Lawful (sent_history c past)
-sent_lawful c [] small s = record {
+-- where nothing was sent, all is lawful
+pub none_lawful : (ssrc first base : ℕ) → Lawful (record { ssrc = ssrc; first = first; base = base; entries = [] })
+none_lawful ssrc first base = record {
   orders = λ x y i j l. absurd i;
   spans = λ x y i j. absurd i;
   rises = λ x y i j q l. absurd i;
@@ -379,6 +380,9 @@ sent_lawful c [] small s = record {
   text = λ x i. absurd i;
   sized = λ x i. absurd i;
 }
+
+pub sent_lawful : (c : Stream) (past : List Sent) → c.gens ≤ 3 → Sendable c past → Lawful (sent_history c past)
+sent_lawful c [] small s = none_lawful c.ssrc c.first c.base
 sent_lawful c (e ∷ past) small s =
     let law = sent_lawful c past small s.1 in
     lawful_grown (sent_history c past) (entry_after c.gens past e) law (may_follow c past e small law s.0)

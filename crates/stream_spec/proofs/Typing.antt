@@ -9,6 +9,7 @@ use Rattle.stream_spec.specs.Lists.{In}
 use Rattle.stream_spec.specs.Own.{Sent, Stream, sent_of, has_text_in, Sendable}
 use Rattle.stream_spec.specs.Typed.{Event, Text, Ask, Turned, sents, carried, typed, is_end, last_end, whole_front, has_passed, media_at, entry_at, longest_step, left, entries, waiting, due_at, last_ask, IsScript}
 use Rattle.rtt_base.specs.declared.limits.TheConstants.{MOST_TEXT_OCTETS}
+use Rattle.std.proofs.Math.Bool.{or-true}
 
 -- ---- fronts
 dropped : (xs ys : List ℕ) → drop (length xs) (xs ++ ys) ≡ ys
@@ -146,25 +147,21 @@ pub record Paced (c : Stream) (last : ℕ) (es : List Turned) : Type 0 where
 paced_later : (c : Stream) (m t : ℕ) (es : List Turned) → m ≤ t → Paced c m es → Paced c t es
 paced_later c m t es l p = record { early = λ e j. let r = p.early e j in (r.0, omega (arith, r.1)); own = p.own; sendable = p.sendable; pauses = p.pauses }
 
-or_right : (b : Bool) → (b || true) ≡ true
-or_right true = refl
-or_right false = refl
-
-take_more : (k g : ℕ) (zs : List Sent) (z : Sent) → k ≤ g → In z (take k zs) → In z (take g zs)
+pub take_more : (k g : ℕ) (zs : List Sent) (z : Sent) → k ≤ g → In z (take k zs) → In z (take g zs)
 take_more zero g zs z l i = absurd i
 take_more (suc k) g [] z l i = absurd i
 take_more (suc k) zero (y ∷ zs) z l i = absurd (omega arith)
 take_more (suc k) (suc g) (y ∷ zs) z l (inl q) = inl q
 take_more (suc k) (suc g) (y ∷ zs) z l (inr i) = inr (take_more k g zs z (omega arith) i)
 
-text_in : (g : ℕ) (zs : List Sent) (z : Sent) → In z (take g zs) → has_text z.text ≡ true → has_text_in g zs ≡ true
+pub text_in : (g : ℕ) (zs : List Sent) (z : Sent) → In z (take g zs) → has_text z.text ≡ true → has_text_in g zs ≡ true
 text_in zero zs z i h = absurd i
 text_in (suc g) [] z i h = absurd i
 text_in (suc g) (y ∷ zs) z (inl q) h = let t : has_text y.text ≡ true = ap (λ (x : Sent). has_text x.text) (sym q) ∙ h in rw t refl
-text_in (suc g) (y ∷ zs) z (inr i) h = rw (text_in g zs z i h) (or_right (has_text y.text))
+text_in (suc g) (y ∷ zs) z (inr i) h = rw (text_in g zs z i h) (or-true (has_text y.text))
 
 -- how far so many steps go
-abbrev steps : ℕ → ℕ → ℕ
+abbrev pub steps : ℕ → ℕ → ℕ
 steps zero step = 0
 steps (suc k) step = step + steps k step
 
@@ -179,7 +176,7 @@ within_steps g (suc k) media (f ∷ es) l n p x i h =
       | inr j ↦ let r = within_steps g k f.sent.media es (omega arith) p.0 p.1 x j h in omega (arith, near, r)
     ]
 
-fits_offset : (g : ℕ) → g ≤ 3 → steps g (longest_step g) ≤ 16383
+pub fits_offset : (g : ℕ) → g ≤ 3 → steps g (longest_step g) ≤ 16383
 fits_offset zero l = omega arith
 fits_offset (suc zero) l = omega arith
 fits_offset (suc (suc zero)) l = omega arith

@@ -1,5 +1,5 @@
 -- One more character: what it does to what stands, by its class.
-use Rattle.std.proofs.Common.{◌≡◌, ℕ, ◌+◌, Bool, true, false, ◌&&◌, cond, eqb, List, [], ◌∷◌, ◌++◌, length, refl, ap, ◌∙◌, arith, length-append, ◌≤◌, filter}
+use Rattle.std.proofs.Common.{◌≡◌, ℕ, ◌+◌, ◌<◌, Bool, true, false, ◌&&◌, cond, eqb, ltb, leb, List, [], ◌∷◌, ◌++◌, length, refl, ap, ◌∙◌, arith, length-append, ◌≤◌, filter}
 use Rattle.std.proofs.lemmas.List.Elements.{filter-append}
 use Rattle.std.proofs.lemmas.Bool.{and_right}
 use Rattle.std.proofs.lemmas.Bool.Decides.{nat_tests}
@@ -137,3 +137,17 @@ bells_le (c ∷ cs) = go (is_bell (class_of c)) (bells_le cs)
     go : (b : Bool) → bells cs ≤ length cs → length (cond b (c ∷ filter (λ x. is_bell (class_of x)) cs) (filter (λ x. is_bell (class_of x)) cs)) ≤ length (c ∷ cs)
     go true h = omega arith
     go false h = omega arith
+
+-- printable characters of ASCII print
+pub plain_class : (c : ℕ) → 0x20 ≤ c → c < 0x7F → class_of c ≡ Print
+unfolding class_of
+plain_class c lo hi =
+    let a : eqb c 0x08 ≡ false = grind (arith, nat_tests) in
+    let b : eqb c 0x07 ≡ false = grind (arith, nat_tests) in
+    let d : eqb c 0x0A ≡ false = grind (arith, nat_tests) in
+    let e : eqb c 0x0D ≡ false = grind (arith, nat_tests) in
+    let f : eqb c 0x2028 ≡ false = grind (arith, nat_tests) in
+    let g : ltb c 0x20 ≡ false = grind (arith, nat_tests) in
+    let h : leb 0x7F c ≡ false = grind (arith, nat_tests) in
+    let i : eqb c 0xFEFF ≡ false = grind (arith, nat_tests) in
+    rw (a, b, d, e, f, g, h, i) refl

@@ -159,20 +159,24 @@ word_4 a b c d h k l m = (omega arith, sym (be_bytes_4 (a ∷ b ∷ c ∷ d ∷ 
 same_parts : {x x' y y' : ℕ} {a a' b b' c c' d d' : List ℕ} → x ≡ x' → y ≡ y' → a ≡ a' → b ≡ b' → c ≡ c' → d ≡ d' → x ∷ y ∷ (a ++ (b ++ (c ++ d))) ≡ x' ∷ y' ∷ (a' ++ (b' ++ (c' ++ d')))
 same_parts p q r s t u = cc
 
+-- the header that these octets have, with this payload
+abbrev header_of : (b0 b1 b2 b3 b4 b5 b6 b7 b8 b9 b10 b11 : ℕ) → List ℕ → List ℕ → Reading
+header_of b0 b1 b2 b3 b4 b5 b6 b7 b8 b9 b10 b11 tail payload = record {
+  mark = leb 128 b1;
+  pt = b1 % 128;
+  seq = from_be_bytes w16 (b2 ∷ b3 ∷ []);
+  stamp = from_be_bytes w32 (b4 ∷ b5 ∷ b6 ∷ b7 ∷ []);
+  ssrc = from_be_bytes w32 (b8 ∷ b9 ∷ b10 ∷ b11 ∷ []);
+  cc = b0 % 16;
+  csrc = first_source (b0 % 16) tail;
+  payload = payload;
+}
+
 put_together : (b0 b1 b2 b3 b4 b5 b6 b7 b8 b9 b10 b11 : ℕ) (tail after_sources after_extension payload extension padding : List ℕ) → IsOctets (b0 ∷ b1 ∷ b2 ∷ b3 ∷ b4 ∷ b5 ∷ b6 ∷ b7 ∷ b8 ∷ b9 ∷ b10 ∷ b11 ∷ tail) → b0 / 64 ≡ 2
     → Sources (b0 % 16) (take (4 * (b0 % 16)) tail) → tail ≡ take (4 * (b0 % 16)) tail ++ after_sources
     → after_sources ≡ extension ++ after_extension → IsExtension (eqb (b0 / 16 % 2) 1) extension
     → after_extension ≡ payload ++ padding → IsPadding (eqb (b0 / 32 % 2) 1) padding
-    → Rtp (b0 ∷ b1 ∷ b2 ∷ b3 ∷ b4 ∷ b5 ∷ b6 ∷ b7 ∷ b8 ∷ b9 ∷ b10 ∷ b11 ∷ tail) (record {
-      mark = leb 128 b1;
-      pt = b1 % 128;
-      seq = from_be_bytes w16 (b2 ∷ b3 ∷ []);
-      stamp = from_be_bytes w32 (b4 ∷ b5 ∷ b6 ∷ b7 ∷ []);
-      ssrc = from_be_bytes w32 (b8 ∷ b9 ∷ b10 ∷ b11 ∷ []);
-      cc = b0 % 16;
-      csrc = first_source (b0 % 16) tail;
-      payload = payload;
-    })
+    → Rtp (b0 ∷ b1 ∷ b2 ∷ b3 ∷ b4 ∷ b5 ∷ b6 ∷ b7 ∷ b8 ∷ b9 ∷ b10 ∷ b11 ∷ tail) (header_of b0 b1 b2 b3 b4 b5 b6 b7 b8 b9 b10 b11 tail payload)
 put_together b0 b1 b2 b3 b4 b5 b6 b7 b8 b9 b10 b11 tail after_sources after_extension payload extension padding h version srcs front e_ext is_ext e_pad is_pad =
     let words : List ℕ = flat_map (to_be_bytes w32) srcs.sources in
     let seq = word_2 b2 b3 (h 2) (h 3) in
@@ -207,16 +211,7 @@ unfolding rtp_of_header
 cells_parts b0 b1 b2 b3 b4 b5 b6 b7 b8 b9 b10 b11 tail r h version e =
     let padded : Bool = eqb (b0 / 32 % 2) 1 in
     let extended : Bool = eqb (b0 / 16 % 2) 1 in
-    let made : List ℕ → Reading = λ payload. record {
-      mark = leb 128 b1;
-      pt = b1 % 128;
-      seq = from_be_bytes w16 (b2 ∷ b3 ∷ []);
-      stamp = from_be_bytes w32 (b4 ∷ b5 ∷ b6 ∷ b7 ∷ []);
-      ssrc = from_be_bytes w32 (b8 ∷ b9 ∷ b10 ∷ b11 ∷ []);
-      cc = b0 % 16;
-      csrc = first_source (b0 % 16) tail;
-      payload = payload;
-    } in
+    let made : List ℕ → Reading = header_of b0 b1 b2 b3 b4 b5 b6 b7 b8 b9 b10 b11 tail in
     let a = bind_ok (past (4 * (b0 % 16)) tail) (λ after_sources. past_extension extended after_sources >>= λ after_extension. unpadded padded after_extension >>= λ payload. Ok (made payload)) r e in
     let b = bind_ok (past_extension extended a.0) (λ after_extension. unpadded padded after_extension >>= λ payload. Ok (made payload)) r a.2 in
     let c = bind_ok (unpadded padded b.0) (λ payload. Ok (made payload)) r b.2 in

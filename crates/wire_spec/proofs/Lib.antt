@@ -9,3 +9,4 @@ pub mod BlockParts
 pub mod Recordings
 pub mod WholePackets
 pub mod SentBack
+pub mod Sizes
