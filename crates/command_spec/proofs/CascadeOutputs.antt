@@ -1,13 +1,12 @@
 -- Which outputs `cascade` has, also where nothing is known of what lies in its inputs.
-use Rattle.std.proofs.Common.{◌≡◌, ℕ, suc, ◌+◌, ◌*◌, ◌≤◌, Bool, true, false, cond, Option, Some, None, Ok, Err, List, [], ◌∷◌, length, refl, ap, subst, sym, ◌∙◌, arith}
-use Rattle.std.specs.Prelude.{Result, nat_lt}
+use Rattle.std.proofs.Common.{◌≡◌, ℕ, suc, ◌+◌, ◌≤◌, Bool, true, false, cond, Option, Some, None, Ok, List, [], ◌∷◌, length, refl, ap, subst, sym, ◌∙◌, arith}
+use Rattle.std.specs.Prelude.{nat_lt}
 use Rattle.wire_spec.specs.Dump.{arrivals_after, dump, dump_written}
 use Rattle.wire_spec.specs.Dump as dumps
 use Rattle.wire_spec.proofs.Recordings.{read_back}
 use Rattle.file_spec.specs.declared.conf_lines.Form.TheVariants.{Files}
 use Rattle.file_spec.specs.declared.conf_lines.LegLine.{LegLine}
 use Rattle.file_spec.specs.Conf.{Conf, conf}
-use Rattle.file_spec.specs.Lines as lines
 use Rattle.mixer_spec.specs.Setups.{leg_at, setup}
 use Rattle.mixer_spec.specs.Table.{Table}
 use Rattle.mixer_spec.specs.Plain.{plain}
@@ -16,8 +15,8 @@ use Rattle.cascade_spec.specs.Splitting.{split}
 use Rattle.cascade_spec.specs.Laws.{split_of}
 use Rattle.command_spec.specs.Work.{Contents, Made, Steps, Reads, Refuses, Makes, Serves, IsOutput, IsNth}
 use Rattle.command_spec.specs.Outcomes.{Outcome, Missing, Refused, Done, Served, outcome_from}
-use Rattle.command_spec.specs.Mixing.{input_at, makes, outs, views}
-use Rattle.command_spec.specs.Cascading.{cascades, cascades_read, cascading, is_on_trunk, mixes_over, mixes_splits, odd_line, reads_others, trunk_limit, trunk_of, unless_faulty, unless_leg_faulty, unless_odd}
+use Rattle.command_spec.specs.Mixing.{input_at, makes, outs}
+use Rattle.command_spec.specs.Cascading.{cascades, cascades_read, cascading, is_on_trunk, mixes_over, odd_line, reads_others, trunk_limit, trunk_of, unless_faulty, unless_leg_faulty, unless_odd}
 use Rattle.command_spec.proofs.Outputs.{each, empty_read, nth_out, silent, silent_table}
 use Rattle.command_spec.proofs.Reached.{done_parts, found}
 

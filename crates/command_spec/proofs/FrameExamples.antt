@@ -14,10 +14,10 @@ use Rattle.command_spec.specs.Scripts.{Sending, events_before, first_from, first
 use Rattle.command_spec.specs.Frames.{relay, channel}
 
 -- octets in hexadecimal digits
-digit : ℕ → ℕ
+abbrev pub digit : ℕ → ℕ
 digit c = if nat_lt c 58 then c - 48 else c - 55
 
-hex : List ℕ → List ℕ
+abbrev pub hex : List ℕ → List ℕ
 hex [] = []
 hex (x ∷ []) = []
 hex (x ∷ y ∷ more) = (16 * digit x + digit y) ∷ hex more

@@ -1,12 +1,10 @@
 -- The payload type in a header that is read.
 use Rattle.std.proofs.Common.{◌≡◌, ℕ, ◌*◌, ◌%◌, ◌/◌, Bool, true, false, cond, List, length, drop, ap, sym}
-use Rattle.std.specs.Prelude.{Ok, Err, ◌==◌, nat_lt, nat_le, slice_index}
-use Rattle.std.specs.Int.{w16, w32, from_be_bytes}
-use Rattle.rtt_base.specs.Steps.{◌>>=◌}
+use Rattle.std.specs.Prelude.{Ok, Err, ◌==◌, nat_lt, slice_index, Result}
 use Rattle.rtt_base.proofs.Steps.{bind_ok}
 use Rattle.wire_spec.specs.declared.faults.RtpFault.TheVariants as rtp_faults
-use Rattle.wire_spec.proofs.Tests.{ok_is}
-use Rattle.wire_spec.specs.Rtp.{Reading, rtp, rtp_of_header, past, past_extension, unpadded, first_source}
+use Rattle.wire_spec.specs.Rtp.{Reading, rtp, rtp_of_header, past, past_extension, unpadded}
+use Rattle.wire_spec.specs.declared.faults.RtpFault.{RtpFault}
 
 pub header_read : (octets : List ℕ) (r : Reading) → rtp octets ≡ Ok r → rtp_of_header octets ≡ Ok r
 unfolding rtp
@@ -21,17 +19,11 @@ pub type_read : (octets : List ℕ) (r : Reading) → rtp_of_header octets ≡ O
 unfolding rtp_of_header
 type_read octets r e =
     let first = slice_index octets 0 in
-    let made : List ℕ → Reading = λ payload. record {
-      mark = nat_le 128 (slice_index octets 1);
-      pt = slice_index octets 1 % 128;
-      seq = from_be_bytes w16 (drop 2 octets);
-      stamp = from_be_bytes w32 (drop 4 octets);
-      ssrc = from_be_bytes w32 (drop 8 octets);
-      cc = first % 16;
-      csrc = first_source (first % 16) (drop 12 octets);
-      payload = payload;
-    } in
-    let a = bind_ok (past (4 * (first % 16)) (drop 12 octets)) (λ after_sources. past_extension (first / 16 % 2 == 1) after_sources >>= λ after_extension. unpadded (first / 32 % 2 == 1) after_extension >>= λ payload. Ok (made payload)) r e in
-    let b = bind_ok (past_extension (first / 16 % 2 == 1) a.0) (λ after_extension. unpadded (first / 32 % 2 == 1) after_extension >>= λ payload. Ok (made payload)) r a.2 in
-    let c = bind_ok (unpadded (first / 32 % 2 == 1) b.0) (λ payload. Ok (made payload)) r b.2 in
-    sym (ap (λ (x : Reading). x.pt) (ok_is (made c.0) r c.2))
+    let a = bind_ok (past (4 * (first % 16)) (drop 12 octets)) _ r e in
+    let b = bind_ok (past_extension (first / 16 % 2 == 1) a.0) _ r a.2 in
+    let c = bind_ok (unpadded (first / 32 % 2 == 1) b.0) _ r b.2 in
+    sym (ap type_in c.2)
+  where
+    type_in : Result Reading RtpFault → ℕ
+    type_in (Ok x) = x.pt
+    type_in (Err fault) = slice_index octets 1 % 128

@@ -2,7 +2,6 @@ pub mod Views
 pub mod Examples
 mod WordExamples
 mod TranscriptExamples
-pub mod Fitting
 pub mod Ssrcs
 pub mod Reached
 pub mod Stored
@@ -16,7 +15,7 @@ mod RealTerminals
 pub mod Outputs
 mod GeneratedExamples
 pub mod Generating
-mod FrameExamples
+pub mod FrameExamples
 pub mod HeaderTypes
 pub mod ShownAsRead
 pub mod SameFiles

@@ -29,30 +29,30 @@ use Rattle.command_spec.proofs.Headlines.{bridged}
 use Rattle.command_spec.specs.Mixing.{mixing}
 
 -- ---- the files
-abbrev legs : List ℕ
+abbrev pub legs : List ℕ
 legs = codes "leg Ann aware 1001 ann.in ann.out\nleg Bob aware 1002 bob.in bob.out\nmixer 9000 100 5000\n"
 
 -- what lies there: the conference, and in every other file a recording
-abbrev lying : List ℕ → List ℕ → List ℕ → Contents
+abbrev pub lying : List ℕ → List ℕ → List ℕ → Contents
 lying conf ann bob name = if_named (codes "c.txt") conf (if_named (codes "ann.in") ann (if_named (codes "bob.in") bob None))
   where
     if_named : List ℕ → List ℕ → Option (List ℕ) → Option (List ℕ)
     if_named file octets other = cond (bytes_eq name file) (Some octets) other
 
-abbrev types : Pts
+abbrev pub types : Pts
 types = record { t140 = 98; red = 100 }
 
-abbrev typist : ℕ → Stream
+abbrev pub typist : ℕ → Stream
 typist ssrc = record { ssrc = ssrc; first = 0; base = 0; gens = 2 }
 
-abbrev text : ℕ → ℕ → List ℕ → Sent
+abbrev pub text : ℕ → ℕ → List ℕ → Sent
 text ssrc media octets = record { source = ssrc; media = media; text = octets }
 
 -- U+2028
-abbrev break : List ℕ
+abbrev pub break : List ℕ
 break = 226 ∷ 128 ∷ 168 ∷ []
 
-abbrev recorded : Stream → List Sent → List ℕ
+abbrev pub recorded : Stream → List Sent → List ℕ
 recorded s sent = dump_written (map (λ x. (x.media, packet_written types (own_packet (sent_history s sent) x))) (placed (sent_history s sent)))
 
 abbrev by_ann : List ℕ
@@ -62,7 +62,7 @@ abbrev by_bob : List ℕ
 by_bob = recorded (typist 1002) (text 1002 1600 [] ∷ text 1002 1300 [] ∷ text 1002 1000 (codes "Hi Ann") ∷ [])
 
 -- ---- what is sent: each text is repeated twice
-abbrev to_ann : List (ℕ × List ℕ)
+abbrev pub to_ann : List (ℕ × List ℕ)
 to_ann =
     (1000, 0x81 ∷ 0xE4 ∷ 0x00 ∷ 0x64 ∷ 0x00 ∷ 0x00 ∷ 0x17 ∷ 0x70 ∷ 0x00 ∷ 0x00 ∷ 0x23 ∷ 0x28 ∷ 0x00 ∷ 0x00 ∷ 0x03 ∷ 0xEA ∷ 0xE2 ∷ 0xFF ∷ 0xFC ∷ 0x00 ∷ 0xE2 ∷ 0xFF ∷ 0xFC ∷ 0x00 ∷ 0x62 ∷ 0x48 ∷ 0x69 ∷ 0x20 ∷ 0x41 ∷ 0x6e ∷ 0x6e ∷ []) ∷
     (1300, 0x81 ∷ 0x64 ∷ 0x00 ∷ 0x65 ∷ 0x00 ∷ 0x00 ∷ 0x18 ∷ 0x9C ∷ 0x00 ∷ 0x00 ∷ 0x23 ∷ 0x28 ∷ 0x00 ∷ 0x00 ∷ 0x03 ∷ 0xEA ∷ 0xE2 ∷ 0xFF ∷ 0xFC ∷ 0x00 ∷ 0xE2 ∷ 0x04 ∷ 0xB0 ∷ 0x06 ∷ 0x62 ∷ 0x48 ∷ 0x69 ∷ 0x20 ∷ 0x41 ∷ 0x6e ∷ 0x6e ∷ []) ∷

@@ -1,16 +1,12 @@
 -- What real terminals send, from the files of a conference to what is seen, by computing.
 use Rattle.std.proofs.Common.{◌≡◌, ℕ, ◌+◌, cond, Option, Some, None, List, [], ◌∷◌, ◌++◌, refl}
-use Rattle.std.specs.Prelude.{codes, map, bytes_eq}
+use Rattle.std.specs.Prelude.{codes, bytes_eq}
 use Rattle.std.specs.Str.{is_utf8, chars}
 use Rattle.std.specs.Char.{encode_utf8}
-use Rattle.rtt_base.specs.declared.text_packets.Pts.{Pts}
-use Rattle.wire_spec.specs.SentPackets.{packet_written}
 use Rattle.wire_spec.specs.Rtp.{rtp, rtp_of_header}
 use Rattle.wire_spec.specs.Red.{headers_at, texts_at, red}
 use Rattle.wire_spec.specs.Text.{text_of_short, text_of}
 use Rattle.wire_spec.specs.Dump.{opening, dump_step, records_within, records, dump, dump_written}
-use Rattle.stream_spec.specs.History.{placed}
-use Rattle.stream_spec.specs.Own.{Stream, Sent, sent_history, own_packet}
 use Rattle.file_spec.specs.Conf.{entry, leg_of, mixer_of, plan_of, stay_or_plan, time_or_other}
 use Rattle.text_spec.specs.Characters.{class_of}
 use Rattle.text_spec.specs.Ends.{ends_line, ends_sentence}
@@ -20,6 +16,7 @@ use Rattle.text_spec.specs.Views.{label, label_after}
 use Rattle.command_spec.specs.Work.{Contents}
 use Rattle.command_spec.specs.Outcomes.{Outcome, Missing, Refused, Done, Served, outcome}
 use Rattle.command_spec.specs.Mixing.{mixing}
+use Rattle.command_spec.proofs.MixExamples.{typist, text, recorded}
 
 abbrev legs : List ℕ
 legs = codes "leg Ann aware 1001 ann.in ann.out\nleg Bob aware 1002 bob.in bob.out\nleg Cy unaware 1003 cy.in cy.out\nmixer 9000 100 5000\n"
@@ -30,19 +27,6 @@ lying ann bob name = if_named (codes "c.txt") legs (if_named (codes "ann.in") an
   where
     if_named : List ℕ → List ℕ → Option (List ℕ) → Option (List ℕ)
     if_named file octets other = cond (bytes_eq name file) (Some octets) other
-
-abbrev types : Pts
-types = record { t140 = 98; red = 100 }
-
-abbrev typist : ℕ → Stream
-typist ssrc = record { ssrc = ssrc; first = 0; base = 0; gens = 2 }
-
-abbrev text : ℕ → ℕ → List ℕ → Sent
-text ssrc media octets = record { source = ssrc; media = media; text = octets }
-
--- newest first
-abbrev recorded : Stream → List Sent → List ℕ
-recorded s sent = dump_written (map (λ x. (x.media, packet_written types (own_packet (sent_history s sent) x))) (placed (sent_history s sent)))
 
 -- what is printed
 abbrev printed : Outcome → List ℕ

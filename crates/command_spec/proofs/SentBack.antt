@@ -28,7 +28,7 @@ use Rattle.mixer_spec.proofs.Final.{AtEnd, at_end}
 use Rattle.mixer_spec.proofs.OfFiles.{mixed_law}
 use Rattle.command_spec.specs.Mixing.{sent_to}
 use Rattle.command_spec.specs.Bridges.{Bridge, setup_of, told_to, records_of, IsOut}
-use Rattle.command_spec.proofs.Fitting.{packet_fits, few_octets}
+use Rattle.stream_spec.proofs.Fitting.{packet_fits, few_octets}
 use Rattle.command_spec.proofs.Ssrcs.{HasSsrcs}
 use Rattle.rtt_base.specs.declared.limits.TheConstants.{MOST_PACKET_OCTETS}
 use Rattle.wire_spec.specs.declared.limits.TheConstants.{LAST_RECORD_MOMENT}

@@ -21,6 +21,14 @@ pub record IsAttendedFrom (held : Contents) (file : List ℕ) (c : Conf) (b : Br
   pub whole : All (λ octets. (dump (input_limit b.conference) octets).fault ≡ None) b.inputs
   pub over : IsConferenceMixed b.conference (input_at b.inputs) b.table
 
+-- Of what lies in files there is one conference of the file at most, and one bridge.
+abbrev pub AttendedAreOne : Type 0
+AttendedAreOne =
+    (held : Contents) (file : List ℕ) (c d : Conf) (a b : Bridge)
+    → IsAttendedFrom held file c a
+    → IsAttendedFrom held file d b
+    → (c ≡ d) × (a ≡ b)
+
 -- What `attend` makes of a file, where that lay in files, and this lies there then, and this is printed.
 pub record IsAttended (held after : Contents) (file printed : List ℕ) : Type 0 where
   pub conference : Conf

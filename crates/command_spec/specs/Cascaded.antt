@@ -9,7 +9,7 @@ use Rattle.stream_spec.specs.Kept.{kept, texts}
 use Rattle.stream_spec.specs.Still.{still, still_history}
 use Rattle.file_spec.specs.declared.conf_lines.Form.TheVariants.{Files}
 use Rattle.file_spec.specs.declared.conf_lines.LegLine.{LegLine}
-use Rattle.file_spec.specs.Conf.{Conf, conf}
+use Rattle.file_spec.specs.Conf.{conf}
 use Rattle.mixer_spec.specs.Setups.{leg_at, ssrc_of}
 use Rattle.mixer_spec.specs.Bridged.{IsConferenceMixed, IsPair, input_limit}
 use Rattle.mixer_spec.specs.Bridged as mixer
@@ -55,6 +55,14 @@ pub record IsCascadedFrom (held : Contents) (conference file : List ℕ) (ssrc :
   pub texts_lie : AllZip (IsTextOf held (split_of (trunk_of b.conference ssrc) octets)) b.conference.legs b.inputs
   pub whole : All (λ text. (dump (input_limit b.conference) text).fault ≡ None) b.inputs
   pub over : IsConferenceMixed b.conference (input_at b.inputs) b.table
+
+-- Of what lies in files there is one recording of the other mixer at most, and one bridge.
+abbrev pub CascadesAreOne : Type 0
+CascadesAreOne =
+    (held : Contents) (conference file : List ℕ) (ssrc : ℕ) (x y : List ℕ) (a b : Bridge)
+    → IsCascadedFrom held conference file ssrc x a
+    → IsCascadedFrom held conference file ssrc y b
+    → (x ≡ y) × (a ≡ b)
 
 -- What `cascade` makes of the conference in a file, behind a mixer of this SSRC, whose recording lay in the other one, where this lies
 -- there then, and this is printed.

@@ -16,9 +16,9 @@ ghost use Rattle.command_spec.specs.Scripts.{AreLines};
 ghost use Rattle.command_spec.specs.Generated.{generated};
 ghost use Rattle.command_spec.specs.Mixing.{mixing};
 ghost use Rattle.command_spec.specs.Attending.{named};
-ghost use Rattle.command_spec.specs.Attended.{AttendedAreBridged};
+ghost use Rattle.command_spec.specs.Attended.{AttendedAreBridged, AttendedAreOne};
 ghost use Rattle.command_spec.specs.Bridges.{BridgesAreOne, IsBridged};
-ghost use Rattle.command_spec.specs.Cascaded.{CascadesAreBridged};
+ghost use Rattle.command_spec.specs.Cascaded.{CascadesAreBridged, CascadesAreOne};
 ghost use Rattle.mixer_spec.specs.declared.limits.TheConstants.{PLACES};
 
 /// Where what arrives out of a recording comes from a lawful history, what `read` prints is the view of that history: the
@@ -57,11 +57,23 @@ pub fn attended_are_bridged()
     ensures { AttendedAreBridged }
 {}
 
+/// What lies in the file of a conference and in its inputs decides what is attended: the bridge that `attended_are_bridged` tells
+/// of is the only one.
+pub fn attended_are_one()
+    ensures { AttendedAreOne }
+{}
+
 /// What comes of a conference of which some legs stand behind another mixer, whose recording is split for them: the conference is
 /// mixed as any is, and what is heard of such a leg, put together, is what is heard of its SSRC in the recording. Where that is of
 /// a lawful history, it is what is kept of the history: so behind both mixers a terminal hears what is kept of what is kept.
 pub fn cascades_are_bridged()
     ensures { CascadesAreBridged }
+{}
+
+/// What lies in the file of a conference, in the recording of the other mixer and in the inputs decides what is cascaded: the bridge
+/// that `cascades_are_bridged` tells of is the only one.
+pub fn cascades_are_one()
+    ensures { CascadesAreOne }
 {}
 
 /// What is generated from a number is a conference of at most 16 legs that keeps all limits, and for each leg a script that
