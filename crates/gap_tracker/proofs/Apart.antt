@@ -125,21 +125,20 @@ written_state h w apart =
       get_or-set_same ps h.pool.current w no_packet (current_within h apart),
     ) refl
 
+-- what a change of the packets, the places and the numbers leaves as it is
+abbrev changed_to : Inside → Pool → List HeldPacket → List SettledPacket → ℕ → ℕ → Inside
+changed_to h q held settled front latest = record h { pool = q; held = held; settled = settled; front = front; latest = latest }
+
+kept_sound : (h : Inside) (q : Pool) (held : List HeldPacket) (settled : List SettledPacket) (front latest : ℕ) → IsSound h → AreApart (changed_to h q held settled front latest)
+    → suc (length settled + length held + length q.spare) ≡ length q.packets → length settled + length held ≤ 65 → length q.packets ≤ 66 → AreSmall held → (h.arrivals ≡ 0 → length held ≡ 0) → IsSound (changed_to h q held settled front latest)
+kept_sound h q held settled front latest i apart all room few small begun =
+    record { apart = apart; all = all; room = room; few = few; wait = i.wait; moment = i.moment; early = i.early; arrivals = i.arrivals; top = i.top; small = small; begun = begun }
+
 pub written_sound : (h : Inside) (w : TextPacket) → IsSound h → IsSound (record h { pool = with_current h.pool w })
 written_sound h w i =
-    let same = length-set h.pool.packets h.pool.current w in record {
-      apart = λ p. i.apart p ∙ ap (λ n. one_if (nat_lt p n)) (sym same);
-      all = i.all ∙ sym same;
-      room = i.room;
-      few = let f = i.few in omega (arith, same, f);
-      wait = i.wait;
-      moment = i.moment;
-      early = i.early;
-      arrivals = i.arrivals;
-      top = i.top;
-      small = i.small;
-      begun = i.begun;
-    }
+    let same = length-set h.pool.packets h.pool.current w in
+    kept_sound h (with_current h.pool w) h.held h.settled h.front h.latest i
+    (λ p. i.apart p ∙ ap (λ n. one_if (nat_lt p n)) (sym same)) (i.all ∙ sym same) i.room (let f = i.few in omega (arith, same, f)) i.small i.begun
 
 -- ---- the current packet is kept, and another place is current
 renewed_agree : (h : Inside) (q : Pool) → AreApart h → IsRenewed h.pool q → Agree h.pool.packets q.packets (named_places h)
@@ -235,19 +234,9 @@ put_sound h q at n i r free came small =
     let room = kept_lengths h 64 free in
     let x : HeldPacket = record { number = n; time = h.moment; place = h.pool.current } in
     let m = length_put h.held at x in
-    let all = renewed_all h q r in record {
-      apart = put_apart h q at n i.apart r;
-      all = let a = i.all in omega (arith, a, m, all);
-      room = omega (arith, m, room);
-      few = renewed_few h q r i.few (let a = i.all in omega (arith, a, room));
-      wait = i.wait;
-      moment = i.moment;
-      early = i.early;
-      arrivals = i.arrivals;
-      top = i.top;
-      small = small_put h.held at x i.small small;
-      begun = λ z. absurd (omega (arith, came, z));
-    }
+    let all = renewed_all h q r in
+    kept_sound h q (insert h.held at x) h.settled h.front h.latest i
+    (put_apart h q at n i.apart r) (let a = i.all in omega (arith, a, m, all)) (omega (arith, m, room)) (renewed_few h q r i.few (let a = i.all in omega (arith, a, room))) (small_put h.held at x i.small small) (λ z. absurd (omega (arith, came, z)))
 
 -- ---- the first that is held is settled
 places_settle : (settled : List SettledPacket) (y : SettledPacket) (held : List HeldPacket) → places_of (settled ++ y ∷ []) held ≡ map settled_place settled ++ (y.place ∷ map held_place held)
@@ -268,19 +257,9 @@ pub settle_sound : (h : Inside) (x : HeldPacket) (rest : List HeldPacket) (lates
 settle_sound h x rest latest e i =
     let y : SettledPacket = record { number = x.number; ready = latest; place = x.place } in
     let one : length h.held ≡ suc (length rest) = ap length e in
-    let more = length-append h.settled (y ∷ []) in record {
-      apart = λ p. ap (λ ps. times p (h.pool.current ∷ (ps ++ h.pool.spare))) (settle_places h x rest latest e) ∙ i.apart p;
-      all = let a = i.all in omega (arith, a, one, more);
-      room = let r = i.room in omega (arith, r, one, more);
-      few = i.few;
-      wait = i.wait;
-      moment = i.moment;
-      early = i.early;
-      arrivals = i.arrivals;
-      top = i.top;
-      small = (subst AreSmall e i.small).1;
-      begun = λ z. let b = i.begun z in absurd (omega (arith, b, one));
-    }
+    let more = length-append h.settled (y ∷ []) in
+    kept_sound h h.pool rest (h.settled ++ y ∷ []) (x.number + 1) latest i
+    (λ p. ap (λ ps. times p (h.pool.current ∷ (ps ++ h.pool.spare))) (settle_places h x rest latest e) ∙ i.apart p) (let a = i.all in omega (arith, a, one, more)) (let r = i.room in omega (arith, r, one, more)) i.few ((subst AreSmall e i.small).1) (λ z. let b = i.begun z in absurd (omega (arith, b, one)))
 
 -- ---- the current packet is settled at once
 abbrev pub once_with : Inside → Pool → ℕ → ℕ → Inside
@@ -330,19 +309,9 @@ once_sound h q n latest i r free none =
     let empty : length (state_of h).held ≡ 0 = ap length none in
     let room = kept_lengths h 64 (omega (arith, free, empty)) in
     let m = length-append h.settled (y ∷ []) in
-    let all = renewed_all h q r in record {
-      apart = once_apart h q n latest i.apart r;
-      all = let a = i.all in omega (arith, a, m, all);
-      room = omega (arith, m, room);
-      few = renewed_few h q r i.few (let a = i.all in omega (arith, a, room));
-      wait = i.wait;
-      moment = i.moment;
-      early = i.early;
-      arrivals = i.arrivals;
-      top = i.top;
-      small = i.small;
-      begun = i.begun;
-    }
+    let all = renewed_all h q r in
+    kept_sound h q h.held (h.settled ++ y ∷ []) (n + 1) latest i
+    (once_apart h q n latest i.apart r) (let a = i.all in omega (arith, a, m, all)) (omega (arith, m, room)) (renewed_few h q r i.few (let a = i.all in omega (arith, a, room))) i.small i.begun
 
 -- ---- the first that is settled is given
 abbrev pub given_with : Inside → SettledPacket → List SettledPacket → Inside
@@ -357,19 +326,9 @@ given_packet h x rest e = ap (λ xs. map (packet_at h.pool.packets) (places_of x
 pub given_sound : (h : Inside) (x : SettledPacket) (rest : List SettledPacket) → h.settled ≡ x ∷ rest → IsSound h → IsSound (given_with h x rest)
 given_sound h x rest e i =
     let one : length h.settled ≡ suc (length rest) = ap length e in
-    let more = length-append h.pool.spare (h.pool.current ∷ []) in record {
-      apart = apart;
-      all = let a = i.all in omega (arith, a, one, more);
-      room = let r = i.room in omega (arith, r, one);
-      few = i.few;
-      wait = i.wait;
-      moment = i.moment;
-      early = i.early;
-      arrivals = i.arrivals;
-      top = i.top;
-      small = i.small;
-      begun = i.begun;
-    }
+    let more = length-append h.pool.spare (h.pool.current ∷ []) in
+    kept_sound h (turned_to h.pool x.place) h.held rest h.front h.latest i
+    apart (let a = i.all in omega (arith, a, one, more)) (let r = i.room in omega (arith, r, one)) i.few i.small i.begun
   where
     apart : AreApart (given_with h x rest)
     apart p =

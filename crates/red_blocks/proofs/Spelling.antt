@@ -41,14 +41,3 @@ primary_is (b ∷ c ∷ bs) d l = let k : length (b ∷ c ∷ bs) - 1 ≡ suc (l
 pub type_is : (pts : Pts) (bs : List TextBlock) (n : ℕ) → n ≡ length bs → cond (n == 0) pts.t140 pts.red ≡ type_sent pts bs
 type_is pts [] n e = rw e refl
 type_is pts (b ∷ bs) n e = let no : (n == 0) ≡ false = grind (arith, nat_tests) in rw no refl
-
--- ---- sizes
-pub headers_size : (t140 : ℕ) (bs : List TextBlock) → length (flat_map (red_header t140) bs) ≡ 4 * length bs
-headers_size t140 [] = refl
-headers_size t140 (b ∷ bs) = let rest = headers_size t140 bs in omega (arith, rest)
-
--- how many octets the red form has
-pub spelling_size : (t140 : ℕ) (older : List TextBlock) (text : List ℕ) → length (red_spelling t140 older text) ≡ 4 * length older + 1 + length (text_octets older) + length text
-spelling_size t140 older text =
-    let headers = headers_size t140 older in
-    omega (arith, headers, length-append (flat_map (red_header t140) older) (t140 ∷ (text_octets older ++ text)), length-append (text_octets older) text)

@@ -4,3 +4,4 @@ pub mod Recordings
 pub mod Records
 pub mod Told
 mod Entries
+pub mod Fronts

@@ -1,6 +1,7 @@
 -- The octets of a recording that lies in memory, as they are written (profile).
 use Rattle.std.specs.Prelude.{◌≡◌, ℕ, ◌<◌, ◌≤◌, ◌^◌, ◌++◌, Option, MatchOption, List, length, flat_map}
 use Rattle.wire_spec.specs.Dump.{record_written, dump_written}
+use Rattle.std.specs.List.{AllByRecursion}
 
 -- a packet's moment, in milliseconds, and its octets
 pub record IsRecord (r : ℕ × List ℕ) : Type 0 where
@@ -24,3 +25,13 @@ pub record IsSplit (at : ℕ) (octets behind : List ℕ) (r : ℕ × List ℕ) (
 -- whatever record stands first in the octets, and whatever follows it, there is an answer, and it is so of these
 abbrev pub TellsFirst : {X : Type 0} → List ℕ → Option X → (X → ℕ × List ℕ → List ℕ → Type 0) → Type 0
 TellsFirst octets answer Is = (r : ℕ × List ℕ) (more : List ℕ) → IsRecord r → octets ≡ record_written r ++ more → MatchOption answer ⊥ (λ x. Is x r more)
+
+-- these octets are those of the records, one behind the other
+pub record AreRecords (octets : List ℕ) (records : List (ℕ × List ℕ)) : Type 0 where
+  pub is : octets ≡ flat_map record_written records
+  pub each : AllByRecursion IsRecord records
+  pub few : length records < 2 ^ 32
+
+-- these octets are those of some records
+abbrev pub HasRecords : List ℕ → Type 0
+HasRecords octets = (records : List (ℕ × List ℕ)) × AreRecords octets records

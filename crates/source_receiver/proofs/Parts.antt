@@ -16,20 +16,18 @@ use Rattle.source_receiver.specs.declared.receivers.Listed.{Listed}
 use Rattle.source_receiver.specs.declared.receivers.Receiver.{Receiver}
 use Rattle.source_receiver.specs.Stands.{Stands, IsSeen}
 use Rattle.source_receiver.specs.Steps.{new_since, older_since, texts_since}
+use Rattle.red_blocks.proofs.Viewing.{redundant_is, primary_is}
+use Rattle.std.proofs.lemmas.List.{append-nil}
 
 older_append : (seen : Option Seen) (stamp : ℕ) (xs ys : List TextBlock) → older_since seen stamp (xs ++ ys) ≡ older_since seen stamp xs ++ older_since seen stamp ys
 older_append seen stamp [] ys = refl
 older_append seen stamp (x ∷ xs) ys = ap (λ ts. new_since seen stamp x ++ ts) (older_append seen stamp xs ys) ∙ sym (append_assoc (new_since seen stamp x) (older_since seen stamp xs) (older_since seen stamp ys))
 
-nil : {X : Type 0} (xs : List X) → xs ++ [] ≡ xs
-nil [] = refl
-nil (x ∷ xs) = ap (λ ys. x ∷ ys) (nil xs)
-
 -- the texts of one block more
 pub older_more : (seen : Option Seen) (stamp : ℕ) (xs : List TextBlock) (i : ℕ) (d : TextBlock) → i < length xs
     → older_since seen stamp (take (i + 1) xs) ≡ older_since seen stamp (take i xs) ++ new_since seen stamp (get_or xs i d)
 older_more seen stamp xs i d l =
-    rw (add-one) (ap (older_since seen stamp) (take-suc xs i d l) ∙ (older_append seen stamp (take i xs) (get_or xs i d ∷ []) ∙ ap (λ ts. older_since seen stamp (take i xs) ++ ts) (nil (new_since seen stamp (get_or xs i d)))))
+    rw (add-one) (ap (older_since seen stamp) (take-suc xs i d l) ∙ (older_append seen stamp (take i xs) (get_or xs i d ∷ []) ∙ ap (λ ts. older_since seen stamp (take i xs) ++ ts) (append-nil (new_since seen stamp (get_or xs i d)))))
 
 -- a seat more
 pub seat_more : (items more : List Listed) (sources : List ℕ) (i : ℕ) (x : Listed) → more ≡ items ++ x ∷ [] → x.source ≡ get_or sources i 0 → x.seen ≡ None → i < length sources
@@ -73,17 +71,6 @@ take_all (suc n) (x ∷ xs) l = ap (λ ys. x ∷ ys) (take_all n xs (omega arith
 pub all_seats : (items : List Listed) (sources : List ℕ) (n : ℕ) → map (λ y. y.source) items ≡ take n sources → length sources ≤ n → map (λ y. y.source) items ≡ sources
 all_seats items sources n e l = e ∙ take_all n sources l
 
--- the blocks of a packet: the redundant ones and the primary one
-pub redundant_is : (rest : List TextBlock) (b : TextBlock) → redundant (rest ++ b ∷ []) ≡ rest
-redundant_is [] b = refl
-redundant_is (x ∷ []) b = refl
-redundant_is (x ∷ y ∷ rest) b = ap (λ bs. x ∷ bs) (redundant_is (y ∷ rest) b)
-
-pub primary_is : (rest : List TextBlock) (b : TextBlock) → primary_text (rest ++ b ∷ []) ≡ b.text
-primary_is [] b = refl
-primary_is (x ∷ []) b = refl
-primary_is (x ∷ y ∷ rest) b = primary_is (y ∷ rest) b
-
 pub texts_are : (seen : Option Seen) (p : TextPacket) (rest : List TextBlock) (b : TextBlock) → p.blocks ≡ rest ++ b ∷ [] → older_since seen p.stamp rest ++ text_list b.text ≡ texts_since seen p
 texts_are seen p rest b e =
     ap (λ bs. older_since seen p.stamp bs ++ text_list b.text) (sym (ap redundant e ∙ redundant_is rest b))
@@ -107,7 +94,7 @@ octets_more seen stamp xs i b initial out more is within before e =
 
 pub concat_text : (t : List ℕ) → concat (text_list t) ≡ t
 concat_text [] = refl
-concat_text (x ∷ xs) = nil (x ∷ xs)
+concat_text (x ∷ xs) = append-nil (x ∷ xs)
 
 -- the marker, the older texts and the primary one
 pub octets_told : (out one two three text : List ℕ) (m o all : List (List ℕ)) → one ≡ out ++ concat m → two ≡ one ++ concat o → three ≡ two ++ text → o ++ text_list text ≡ all → three ≡ out ++ concat (m ++ all)

@@ -23,8 +23,9 @@ use Rattle.source_receiver.specs.Stands.{Stands, used_packet}
 use Rattle.source_receiver.specs.Steps.{missing_up_to, missing_then, is_new_since, is_marked_since, new_since, older_since, texts_since, told_since}
 use Rattle.source_receiver.specs.Each.{AreHeard}
 use Rattle.source_receiver.specs.Plain.{viewed_packet, gives_since, any_gives_since, IsPlain, IsPlainAt, IsKept}
-use Rattle.source_receiver.proofs.Parts.{redundant_is, primary_is, concat_text}
+use Rattle.source_receiver.proofs.Parts.{concat_text}
 use Rattle.source_receiver.proofs.Takes.{IsCounted, count_fits, seat, IsSeat, stands_listed, each_listed, heard_at, marks, texts_there}
+use Rattle.red_blocks.proofs.Viewing.{redundant_is, primary_is}
 
 -- ---- headers
 

@@ -10,22 +10,9 @@ use Rattle.std.specs.Str.{IsAscii}
 use Rattle.text_spec.specs.declared.classes.CharClass.TheVariants.{Print}
 use Rattle.text_spec.specs.Characters.{class_of}
 use Rattle.text_spec.specs.Shown.{signs, survivors, bells, ends_with_cr}
-use Rattle.text_spec.proofs.Steps.{stands-print, bells_same, bells_le, ends_with_cr-last}
+use Rattle.text_spec.proofs.Steps.{stands-print, bells_same, bells_le, ends_with_cr-last, plain_class}
 use Rattle.t140_text.specs.declared.screens.Screen.{Screen}
 use Rattle.t140_text.specs.Screens.{IsPlain, Reads}
-
-plain_class : (c : ℕ) → 0x20 ≤ c → c < 0x7F → class_of c ≡ Print
-unfolding class_of
-plain_class c lo hi =
-    let a : eqb c 0x08 ≡ false = grind (arith, nat_tests) in
-    let b : eqb c 0x07 ≡ false = grind (arith, nat_tests) in
-    let d : eqb c 0x0A ≡ false = grind (arith, nat_tests) in
-    let e : eqb c 0x0D ≡ false = grind (arith, nat_tests) in
-    let f : eqb c 0x2028 ≡ false = grind (arith, nat_tests) in
-    let g : ltb c 0x20 ≡ false = grind (arith, nat_tests) in
-    let h : leb 0x7F c ≡ false = grind (arith, nat_tests) in
-    let i : eqb c 0xFEFF ≡ false = grind (arith, nat_tests) in
-    rw (a, b, d, e, f, g, h, i) refl
 
 regrouped : (cs rest : List ℕ) (c : ℕ) → cs ++ (c ∷ rest) ≡ (cs ++ c ∷ []) ++ rest
 regrouped cs rest c = sym (append_assoc cs (c ∷ []) rest)

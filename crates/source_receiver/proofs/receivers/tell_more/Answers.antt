@@ -4,8 +4,9 @@ use Rattle.std.specs.List.{concat}
 use Rattle.wire_spec.specs.Packets.{redundant}
 use Rattle.stream_spec.specs.Hearing.{marker}
 use Rattle.source_receiver.specs.Steps.{is_marked_since, older_since, texts_since}
-use Rattle.source_receiver.proofs.Parts.{on_ok_then, octets_told, redundant_is, texts_are}
+use Rattle.source_receiver.proofs.Parts.{on_ok_then, octets_told, texts_are}
 use Rattle.source_receiver.proofs.receivers.tell_more.Goals as goal
+use Rattle.red_blocks.proofs.Viewing.{redundant_is}
 
 pub returns-in_ok-append_older-in-Some-clause-text : goal.returns-in_ok-append_older-in-Some-clause-text
 returns-in_ok-append_older-in-Some-clause-text c =

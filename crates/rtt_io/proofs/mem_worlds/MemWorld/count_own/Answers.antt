@@ -1,28 +1,32 @@
-use Rattle.std.proofs.Common.{◌≡◌, ◌∙◌, None, ap, refl, arith}
+use Rattle.std.proofs.Common.{◌≡◌, ◌∙◌, None, ap, refl, arith, Some}
 use Rattle.std.specs.List.{position}
-use Rattle.rtt_io.specs.Files.{is_named, file_of}
-use Rattle.rtt_io.proofs.Files.{written, octets_stay, objects_stay, own_rises, own_rose, other_own_stay, unplaced}
+use Rattle.rtt_io.specs.Files.{is_named, file_of, own_count, object_count, octets_in}
+use Rattle.rtt_io.proofs.Files.{written, unplaced, Changes, told}
 use Rattle.rtt_io.proofs.mem_worlds.MemWorld.count_own.Goals as goal
+use Rattle.std.proofs.Math.ListN.{set}
+use Rattle.rtt_io.specs.declared.mem_files.MemFile.{MemFile}
+use Rattle.rtt_io.proofs.Keyed.{count_rises, count_rose, count_stays, others_stay, stays}
+use Rattle.rtt_io.specs.Counts.{counted}
+
+-- the file of the name alone is another one
+change : (c : goal.After-self-1) (file : MemFile) → file.name ≡ c.index_mut-file.result.now.name → Changes c.args.self.now.files.items (set c.args.self.now.files.items c.in-Some.at file) c.args.name.now (Some c.index_mut-file.result.now) file
+change c file = written c.args.self.now.files.items c.args.name.now c.in-Some.at c.index_mut-file.result.now file (c.in-Some.ensures ∙ ap (position (is_named c.args.name.now)) c.as_slice.ensures.value) c.index_mut-file.ensures.value
 
 pub returns-in-Some-clause-rose : goal.returns-in-Some-clause-rose
-returns-in-Some-clause-rose c =
-    own_rose (written c.args.self.now.files.items c.args.name.now c.in-Some.at c.index_mut-file.result.now _ (c.in-Some.ensures ∙ ap (position (is_named c.args.name.now)) c.as_slice.ensures.value) c.index_mut-file.ensures.value refl) c.saturating_add-file.ensures _
+returns-in-Some-clause-rose c = count_rose told (change c _ refl) own_count c.saturating_add-file.ensures _
 
 pub returns-in-Some-clause-never_falls : goal.returns-in-Some-clause-never_falls
-returns-in-Some-clause-never_falls c =
-    own_rises (written c.args.self.now.files.items c.args.name.now c.in-Some.at c.index_mut-file.result.now _ (c.in-Some.ensures ∙ ap (position (is_named c.args.name.now)) c.as_slice.ensures.value) c.index_mut-file.ensures.value refl) (omega arith) _
+returns-in-Some-clause-never_falls c = count_rises told (change c _ refl) own_count (omega arith) _
 
 pub returns-in-Some-clause-same_contents : goal.returns-in-Some-clause-same_contents
-returns-in-Some-clause-same_contents c =
-    octets_stay (written c.args.self.now.files.items c.args.name.now c.in-Some.at c.index_mut-file.result.now _ (c.in-Some.ensures ∙ ap (position (is_named c.args.name.now)) c.as_slice.ensures.value) c.index_mut-file.ensures.value refl) refl
+returns-in-Some-clause-same_contents c = stays told (change c _ refl) octets_in refl
 
 pub returns-in-Some-clause-same_objects : goal.returns-in-Some-clause-same_objects
-returns-in-Some-clause-same_objects c =
-    objects_stay (written c.args.self.now.files.items c.args.name.now c.in-Some.at c.index_mut-file.result.now _ (c.in-Some.ensures ∙ ap (position (is_named c.args.name.now)) c.as_slice.ensures.value) c.index_mut-file.ensures.value refl) refl _
+returns-in-Some-clause-same_objects c = count_stays told (change c _ refl) object_count refl _
 
 pub returns-in-Some-clause-no_other : goal.returns-in-Some-clause-no_other
 returns-in-Some-clause-no_other c = λ there n h.
-    other_own_stay (written c.args.self.now.files.items c.args.name.now c.in-Some.at c.index_mut-file.result.now _ (c.in-Some.ensures ∙ ap (position (is_named c.args.name.now)) c.as_slice.ensures.value) c.index_mut-file.ensures.value refl) _ n h
+    ap (counted _) (others_stay told (change c _ refl) own_count n h)
 
 pub returns-in-None-clause-no_other : goal.returns-in-None-clause-no_other
 returns-in-None-clause-no_other c =
