@@ -1,5 +1,5 @@
 //! The lines of legs.
-ghost use Rattle.std.specs.Prelude.{◌≡◌, ◌==◌, ◌<◌, bytes_eq, length, OnOk};
+ghost use Rattle.std.specs.Prelude.{◌≡◌, ◌==◌, ◌<◌, length, OnOk};
 ghost use Rattle.std.specs.List.{list_any};
 ghost use Rattle.file_spec.specs.Conf.{clashes, has_names, has_port, is_mixers, leg, most_legs, new_leg, port, is_same_port, shares_own, shares_path};
 ghost use Rattle.conf_text.specs.Lines.{above_of, leg_line, leg_said, seen, texts_of};
@@ -7,7 +7,7 @@ ghost use Rattle.conf_text.specs.Lines.{above_of, leg_line, leg_said, seen, text
 use crate::ConfKind;
 use crate::drafts::{Draft, NewLeg};
 use crate::names::{awareness, names_leg, names_path};
-use conference::name_of;
+use conference::{has_name, name_of};
 use file_lines::{number_from, number_of, pts_of};
 use file_spec::limits::{MOST_LEGS, MOST_LINKS, USUAL_RED, USUAL_T140};
 use file_spec::{Form, LegLine, MixerLine};
@@ -89,12 +89,6 @@ pub(crate) fn has_ssrc(legs: &[LegLine], ssrc: u32) -> bool
     ensures { result ≡ list_any (λ a. a.ssrc == ssrc) legs.now }
 {
     legs.iter().any(|above| above.ssrc == ssrc)
-}
-
-fn has_name(legs: &[LegLine], name: &str) -> bool
-    ensures { result ≡ list_any (λ a. bytes_eq a.name name.now) legs.now }
-{
-    legs.iter().any(|above| above.name.as_str() == name)
 }
 
 fn share_paths(form: Form, legs: &[LegLine], leg: &NewLeg<'_>) -> bool

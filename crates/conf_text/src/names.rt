@@ -3,18 +3,13 @@ ghost use Rattle.std.specs.Prelude.{◌≡◌};
 ghost use Rattle.std.specs.List.{list_all};
 ghost use Rattle.file_spec.specs.Conf.{is_name, is_name_octet, is_path, aware_of};
 
+use conference::is_name_octet;
 use file_spec::limits::{LONGEST_NAME, LONGEST_PATH};
-
-fn is_name_letter(octet: u8) -> bool
-    ensures { result ≡ is_name_octet octet }
-{
-    octet.is_ascii_alphanumeric() || octet == b'.' || octet == b'_' || octet == b'-'
-}
 
 fn all_letters(text: &[u8]) -> bool
     ensures { result ≡ list_all is_name_octet text.now }
 {
-    text.iter().all(|octet| is_name_letter(*octet))
+    text.iter().all(|octet| is_name_octet(*octet))
 }
 
 /// Whether the text names a leg: 1 to 32 letters, digits, dots, underscores and dashes.

@@ -10,6 +10,6 @@ mod speakers;
 pub use confs::Conf;
 pub use file_spec::{LegLine, MixerLine, PlanLine, Stay, What};
 pub use legs::Legs;
-pub use names::name_of;
+pub use names::{has_name, is_name_octet, name_of};
 pub use plans::{Plan, is_planned};
 pub use speakers::{Speakers, others};
