@@ -1,9 +1,10 @@
 -- The steps of an output.
 use Rattle.std.proofs.Common.{◌≡◌, ℕ, zero, suc, ◌+◌, ◌%◌, ◌<◌, ◌≤◌, ◌^◌, Bool, true, false, cond, inl, inr, List, [], ◌∷◌, ◌++◌, length, take, get_or, set, refl, ap, subst, sym, ◌∙◌, arith}
-use Rattle.std.specs.Prelude.{map, max, not, ◌&&◌, ◌||◌, ◌==◌, IfSome, Result, Ok, Err, OnOk}
+use Rattle.std.specs.Prelude.{map, max, not, ◌&&◌, ◌||◌, ◌==◌, IfSome, Option, None, Some, Result, Ok, Err, IsOk, OnOk}
 use Rattle.std.proofs.lemmas.Bool.Decides.{nat_tests}
 use Rattle.std.proofs.lemmas.List.{length-append}
 use Rattle.rtt_base.specs.declared.blocks.TextBlock.{TextBlock}
+use Rattle.rtt_base.specs.Buffers.{Appends}
 use Rattle.wire_spec.specs.Packets.{Packet, has_text}
 use Rattle.wire_spec.specs.SentPackets.{packet_written}
 use Rattle.stream_spec.specs.Lists.{In}
@@ -20,6 +21,8 @@ use Rattle.aware_output.specs.Confs.{IsConf, stream_of}
 use Rattle.aware_output.specs.Speakers.{AreDistinct, IsNext, EachIsNext, speaker_at}
 use Rattle.aware_output.specs.States.{State}
 use Rattle.aware_output.specs.Standing.{StandsFor, speaker_of, source_at}
+use Rattle.rtt_base.specs.declared.limits.TheConstants.{MOST_PACKET_OCTETS}
+use Rattle.stream_spec.proofs.Typing.{take_more, text_in, steps, fits_offset}
 
 -- ---- what is sent may be sent
 -- where text of these is still to be repeated, the media time is at most the longest step after the last one
@@ -45,28 +48,6 @@ chain_of c (e ∷ past) s p = go (e.source == s) refl (chain_of c past s p.1)
         (subst (λ (n : ℕ). Link c.gens e.media (sent_of n past)) same (link_of c.gens e.media (sent_of e.source past) p.0.near), r)
     go false q r = r
 
-or_right : (b : Bool) → (b || true) ≡ true
-or_right true = refl
-or_right false = refl
-
-take_more : (k g : ℕ) (zs : List Sent) (z : Sent) → k ≤ g → In z (take k zs) → In z (take g zs)
-take_more zero g zs z l i = absurd i
-take_more (suc k) g [] z l i = absurd i
-take_more (suc k) zero (y ∷ zs) z l i = absurd (omega arith)
-take_more (suc k) (suc g) (y ∷ zs) z l (inl q) = inl q
-take_more (suc k) (suc g) (y ∷ zs) z l (inr i) = inr (take_more k g zs z (omega arith) i)
-
-text_in : (g : ℕ) (zs : List Sent) (z : Sent) → In z (take g zs) → has_text z.text ≡ true → has_text_in g zs ≡ true
-text_in zero zs z i h = absurd i
-text_in (suc g) [] z i h = absurd i
-text_in (suc g) (y ∷ zs) z (inl q) h = let t : has_text y.text ≡ true = ap (λ (x : Sent). has_text x.text) (sym q) ∙ h in rw t refl
-text_in (suc g) (y ∷ zs) z (inr i) h = rw (text_in g zs z i h) (or_right (has_text y.text))
-
--- how far so many steps go
-abbrev steps : ℕ → ℕ → ℕ
-steps zero step = 0
-steps (suc k) step = step + steps k step
-
 -- each of the last k with text lies at most k steps before
 within_steps : (g k media : ℕ) (zs : List Sent) → k ≤ g → Link g media zs → Chain g zs → (x : Sent) → In x (take k zs) → has_text x.text ≡ true → media ≤ x.media + steps k (longest_step g)
 within_steps g zero media zs l n p x i h = absurd i
@@ -77,13 +58,6 @@ within_steps g (suc k) media (z ∷ zs) l n p x i h =
       | inl q ↦ omega (arith, near, ap (λ (y : Sent). y.media) q)
       | inr j ↦ let r = within_steps g k z.media zs (omega arith) p.0 p.1 x j h in omega (arith, near, r)
     ]
-
-fits_offset : (g : ℕ) → g ≤ 3 → steps g (longest_step g) ≤ 16383
-fits_offset zero l = omega arith
-fits_offset (suc zero) l = omega arith
-fits_offset (suc (suc zero)) l = omega arith
-fits_offset (suc (suc (suc zero))) l = omega arith
-fits_offset (suc (suc (suc (suc g)))) l = absurd (omega arith)
 
 pub may_send : (c : Stream) (past : List Sent) (e : Sent) → c.gens ≤ 3 → EachIsNext c past → IsNext c past e → MaySend c past e
 may_send c past e l p n = record {
@@ -101,6 +75,12 @@ sendable c (e ∷ past) l p = (may_send c past e l p.1 p.0, sendable c past l p.
 pub more_written : {T E : Type 0} (r : Result T E) (before after octets : List ℕ) → 0 < length octets → OnOk r (after ≡ before ++ octets) → OnOk r (length before < length after)
 more_written (Ok x) before after octets some is = let same = ap (λ (xs : List ℕ). length xs) is ∙ length-append before octets in omega (arith, some, same)
 more_written (Err x) before after octets some is = tt
+
+-- so few octets are not refused where there is room for as many as a packet has at most
+pub has_room : {T E : Type 0} (greatest : Option ℕ) (before after octets : List ℕ) (r : Result T E) → length octets ≤ MOST_PACKET_OCTETS → Appends greatest before after octets r
+    → IfSome greatest (λ most. length before + MOST_PACKET_OCTETS ≤ most → IsOk r)
+has_room None before after octets r few a = tt
+has_room (Some most) before after octets r few a = λ l. a.room.1 (omega (arith, few, l))
 
 may_follow : (c : Stream) (past : List Sent) (e : Sent) → MaySend c past e → MayFollow c.gens e.media (sent_of e.source past)
 may_follow c past e m = record {

@@ -1,5 +1,5 @@
 //! The output of a terminal.
-ghost use Rattle.std.specs.Prelude.{◌≡◌, ◌+◌, ◌%◌, ◌^◌, ◌<◌, ◌∷◌, [], length, IfOk, OnOk, OnErr};
+ghost use Rattle.std.specs.Prelude.{◌≡◌, ◌+◌, ◌%◌, ◌^◌, ◌<◌, ◌≤◌, ◌∷◌, [], length, IfOk, IfSome, IsOk, OnOk, OnErr};
 ghost use Rattle.rtt_base.specs.Buffers.{Appends};
 
 use crate::speakers::Speaker;
@@ -43,6 +43,7 @@ impl Model for Output {
 }
 
 impl Output {
+    ghost use Rattle.rtt_base.specs.declared.limits.TheConstants.{MOST_PACKET_OCTETS};
     ghost use Rattle.aware_output.specs.Confs.{IsConf};
     ghost use Rattle.aware_output.specs.Speakers.{AreDistinct};
     ghost use Rattle.aware_output.specs.Standing.{StandsFor};
@@ -84,8 +85,8 @@ impl Output {
 
     /// Appends the packet of the source, counted from 0, with this text of at most 1023 octets of UTF-8, at this media time in
     /// ms: it is later than that of the call before, less than 2^31 after that of the first, and, where text of the source is
-    /// still to be repeated, at most 8000 after that of its last packet, or 5000 with three generations. Where the buffer
-    /// refuses the packet, the output is as before.
+    /// still to be repeated, at most 8000 after that of its last packet, or 5000 with three generations. A buffer with room
+    /// for 4224 octets more does not refuse it. Where the buffer refuses the packet, the output is as before.
     pub fn packet<O: OctetBuffer>(
         &mut self,
         media: u64,
@@ -97,6 +98,8 @@ impl Output {
         requires text { length text.now < 1024 }
         ensures packet { OfNext self.old source media text.now (λ conf sources past e.
             Appends O.greatest (O.written out.old) (O.written out.new) (octets_of conf past e) result) }
+        ensures fits { IfSome O.greatest (λ most.
+            length (O.written out.old) + MOST_PACKET_OCTETS ≤ most → IsOk result) }
         ensures some { OnOk result (length (O.written out.old) < length (O.written out.new)) }
         ensures stands { OfNext self.old source media text.now (λ conf sources past e.
             OnOk result (StandsFor conf sources self.new (e ∷ past))) }
@@ -126,12 +129,16 @@ impl Output {
         text: &[u8],
         out: &mut O,
     ) -> Result<(), O::Refusal>
-        requires { source < length self.now.speakers }
+        requires source { source < length self.now.speakers }
+        requires text { length text.now < 1024 }
         ensures packet { OfStamped self.now source stamp text.now (λ conf sources past e.
             Appends O.greatest (O.written out.old) (O.written out.new) (octets_of conf past e) result) }
+        ensures fits { IfSome O.greatest (λ most.
+            length (O.written out.old) + MOST_PACKET_OCTETS ≤ most → IsOk result) }
         ensures some { OnOk result (length (O.written out.old) < length (O.written out.new)) }
     {
         let speaker = &self.speakers[source];
+        speaker.window.packets_fit();
         let head = TextHead {
             mark: speaker.is_after_pause(),
             seq: self.seq,

@@ -1,19 +1,15 @@
 -- A turn that serves a leg.
-use Rattle.std.proofs.Common.{◌≡◌, ℕ, ◌+◌, ◌<◌, ◌≤◌, Bool, true, false, cond, inl, inr, Some, List, [], ◌∷◌, set, refl, ap, subst, sym, ◌∙◌, arith}
-use Rattle.std.specs.Prelude.{Result, Ok, Err, IsOk, OnOk, ◌==◌, slice_index}
-use Rattle.std.specs.Result.{is_ok}
+use Rattle.std.proofs.Common.{◌≡◌, ℕ, ◌+◌, ◌<◌, Bool, true, false, cond, inl, inr, Some, List, ◌∷◌, set, refl, ap, subst, sym, ◌∙◌, arith}
+use Rattle.std.specs.Prelude.{◌==◌, slice_index}
 use Rattle.std.proofs.lemmas.Bool.{cases_eq, eq-eqb, ne_eqb}
 use Rattle.std.proofs.lemmas.List.{length-set}
 use Rattle.std.proofs.Math.Seq.{get_or-set_same, get_or-set_other}
-use Rattle.rtt_base.specs.Buffers.{Appends}
 use Rattle.rtt_base.specs.declared.text_packets.Pts.{Pts}
 use Rattle.wire_spec.specs.SentPackets.{packet_written}
 use Rattle.stream_spec.specs.Own.{Sent, sent_of, packet_after}
 use Rattle.mixer_spec.specs.Chunks.{front, joined}
 use Rattle.mixer_spec.specs.Setups.{Setup, stream}
-use Rattle.mixer_spec.specs.Table.{Terminal, Table, sents, last_media, new_packet, serve_leg}
-use Rattle.aware_output.specs.Confs.{stream_of}
-use Rattle.aware_output.specs.declared.outputs.OutConf.{OutConf}
+use Rattle.mixer_spec.specs.Table.{Terminal, Table, sents, last_media, serve_leg}
 use Rattle.aware_output.specs.Speakers.{IsNext, text_of}
 use Rattle.aware_output.specs.States.{State}
 use Rattle.aware_output.specs.Standing as outputs
@@ -21,34 +17,17 @@ use Rattle.slot_table.specs.Lanes.{Waiting}
 use Rattle.slot_table.specs.Words.{take_front, fetched}
 use Rattle.slot_table.specs.Standing as slots
 use Rattle.slot_table.proofs.Sources.{stands_same}
-use Rattle.outlet.specs.Turns.{conf_at, free_after, Puts, with_terminal}
-use Rattle.outlet.proofs.Putting.{packet_fits, put_whole, puts_one}
+use Rattle.outlet.specs.Turns.{conf_at, free_after, with_terminal}
+use Rattle.outlet.proofs.Putting.{puts_one}
 use Rattle.outlet.specs.AwareStates.{AwareState}
 use Rattle.outlet.specs.AwareStanding.{StandsFor}
 use Rattle.outlet.specs.AwareTurns.{IsIn, IsTurned, kept_served, sent_of_leg}
-use Rattle.rtt_base.specs.declared.limits.TheConstants.{MOST_PACKET_OCTETS, MOST_TEXT_OCTETS}
+use Rattle.rtt_base.specs.declared.limits.TheConstants.{MOST_TEXT_OCTETS}
 
 -- ---- what an output puts out
 pub text_is : (sources : List ℕ) (source media : ℕ) (text : List ℕ) (e : Sent) → slice_index sources source ≡ e.source → media ≡ e.media → text ≡ e.text → text_of sources source media text ≡ e
 text_is sources source media text e a b c = let same : (x y z : ℕ) (t u : List ℕ) → x ≡ y → t ≡ u → (let k : Sent = record { source = x; media = z; text = t } in k) ≡ record { source = y; media = z; text = u } = λ x y z t u p q. rw (p, q) refl in
     same (slice_index sources source) e.source media text e.text a c ∙ ap (λ (m : ℕ). let k : Sent = record { source = e.source; media = m; text = e.text } in k) b
-
--- the packet of e was put into an empty buffer, and the output has sent it
-pub record IsSent {T E : Type 0} (conf : OutConf) (sources : List ℕ) (past : List Sent) (e : Sent) (new : State) (after : List ℕ) (result : Result T E) : Type 0 where
-  pub put : is_ok result ≡ true
-  pub octets : after ≡ packet_written conf.pts (packet_after (stream_of conf) past e)
-  pub stands : outputs.StandsFor conf sources new (e ∷ past)
-
-pub is_sent : {T E : Type 0} (conf : OutConf) (sources : List ℕ) (past : List Sent) (e : Sent) (old new : State) (before after : List ℕ) (result : Result T E) → conf.gens ≤ 3 → outputs.StandsFor conf sources old past
-    → IsNext (stream_of conf) past e → before ≡ [] → Appends (Some MOST_PACKET_OCTETS) before after (packet_written conf.pts (packet_after (stream_of conf) past e)) result → OnOk result (outputs.StandsFor conf sources new (e ∷ past))
-    → IsSent conf sources past e new after result
-is_sent {T} {E} conf sources past e old new before after result g h n b a s =
-    let w = put_whole before after (packet_written conf.pts (packet_after (stream_of conf) past e)) result b (packet_fits conf past e g h.sent n) a in
-    go result w.0 s w.1
-  where
-    go : (r : Result T E) → IsOk r → OnOk r (outputs.StandsFor conf sources new (e ∷ past)) → after ≡ packet_written conf.pts (packet_after (stream_of conf) past e) → IsSent conf sources past e new after r
-    go (Ok v) i q o = record { put = refl; octets = o; stands = q }
-    go (Err v) i q o = cc i
 
 -- ---- the entry
 same_waits : (b : Bool) (x y z : Terminal) (i : ℕ) → x.waits i ≡ y.waits i → (cond b x z).waits i ≡ (cond b y z).waits i
@@ -104,27 +83,22 @@ slots_then s table j leg place media now after h =
     stands_same s after (fetched j leg MOST_TEXT_OCTETS table) (with_terminal j (serve_leg s now media (table.terminals j) place (Some leg)) table) h (λ i. refl) (λ k. refl)
     (λ k i. same_waits (k == j) (serve_leg s now media (table.terminals j) place (Some leg)) (take_front leg MOST_TEXT_OCTETS (table.terminals j)) (table.terminals k) i refl)
 
-pub leg_served : {T E : Type 0} (s : Setup) (pts : Pts) (table : Table) (o : AwareState) (before after : List Waiting) (output : State) (place leg media now : ℕ) (text : List ℕ) (empty octets : List ℕ) (result : Result T E) (put : Bool)
-    → (h : IsIn s pts o before table) → leg < s.legs → IsNext (stream s o.own) (sents (table.terminals o.own).past) (sent_of_leg s media (table.terminals o.own) leg)
-    → text ≡ joined (front MOST_TEXT_OCTETS ((table.terminals o.own).waits leg)) → slots.StandsFor s after (fetched o.own leg MOST_TEXT_OCTETS table) → empty ≡ []
+pub leg_served : (s : Setup) (pts : Pts) (table : Table) (o : AwareState) (before after : List Waiting) (output : State) (place leg media now : ℕ) (text : List ℕ) (octets : List ℕ) → (h : IsIn s pts o before table)
+    → leg < s.legs → IsNext (stream s o.own) (sents (table.terminals o.own).past) (sent_of_leg s media (table.terminals o.own) leg)
+    → text ≡ joined (front MOST_TEXT_OCTETS ((table.terminals o.own).waits leg)) → slots.StandsFor s after (fetched o.own leg MOST_TEXT_OCTETS table)
     → (let d : Terminal = table.terminals o.own in let e = text_of h.outlet.sources leg media text in
-    IsNext (stream s o.own) (sents d.past) e → Appends (Some MOST_PACKET_OCTETS) empty octets (packet_written pts (packet_after (stream s o.own) (sents d.past) e)) result)
+    IsNext (stream s o.own) (sents d.past) e → octets ≡ packet_written pts (packet_after (stream s o.own) (sents d.past) e))
     → (let d : Terminal = table.terminals o.own in let e = text_of h.outlet.sources leg media text in
-    IsNext (stream s o.own) (sents d.past) e → OnOk result (outputs.StandsFor (conf_at s pts o.own) h.outlet.sources output (e ∷ sents d.past)))
-    → put ≡ is_ok result
-    → IsTurned s pts table o.own (serve_leg s now media (table.terminals o.own) place (Some leg)) (state_then o output leg media place) after put octets
-leg_served {T} {E} s pts table o before after output place leg media now text empty octets result put h l n t f b a k p =
+    IsNext (stream s o.own) (sents d.past) e → outputs.StandsFor (conf_at s pts o.own) h.outlet.sources output (e ∷ sents d.past))
+    → IsTurned s pts table o.own (serve_leg s now media (table.terminals o.own) place (Some leg)) (state_then o output leg media place) after true octets
+leg_served s pts table o before after output place leg media now text octets h l n t f w k =
     let d = table.terminals o.own in
-    let conf = conf_at s pts o.own in
     let e = sent_of_leg s media d leg in
     let is : text_of h.outlet.sources leg media text ≡ e = text_is h.outlet.sources leg media text e (h.outlet.are.each leg l) refl t in
     let next = subst (λ (x : Sent). IsNext (stream s o.own) (sents d.past) x) (sym is) n in
-    let appends = subst (λ (x : Sent). Appends (Some MOST_PACKET_OCTETS) empty octets (packet_written pts (packet_after (stream s o.own) (sents d.past) x)) result) is (a next) in
-    let stands = subst (λ (x : Sent). OnOk result (outputs.StandsFor conf h.outlet.sources output (x ∷ sents d.past))) is (k next) in
-    let sent = is_sent conf h.outlet.sources (sents d.past) e o.output output empty octets result (h.outlet.setup.gens o.own) h.outlet.output n b appends stands in
     record {
-      outlet = stands_then s pts o d output place leg media now h.outlet l sent.stands;
+      outlet = stands_then s pts o d output place leg media now h.outlet l (subst (λ (x : Sent). outputs.StandsFor (conf_at s pts o.own) h.outlet.sources output (x ∷ sents d.past)) is (k next));
       slots_stand = slots_then s table o.own leg place media now after f;
-      puts = subst (λ (x : Bool). Puts pts (new_packet (stream s o.own) d.past (serve_leg s now media d place (Some leg)).past) x octets) (sym (p ∙ sent.put))
-          (puts_one pts (stream s o.own) (record { at = now; place = place; leg = leg; chunks = front MOST_TEXT_OCTETS (d.waits leg); sent = e }) d.past octets sent.octets);
+      puts = puts_one pts (stream s o.own) (record { at = now; place = place; leg = leg; chunks = front MOST_TEXT_OCTETS (d.waits leg); sent = e }) d.past octets
+          (w next ∙ ap (λ (x : Sent). packet_written pts (packet_after (stream s o.own) (sents d.past) x)) is);
     }

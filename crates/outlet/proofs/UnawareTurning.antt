@@ -166,12 +166,12 @@ none_left s j now t table asked gave due sends text new after h e i l =
     ap (λ (cs : List Chunk). not (i == j) && has_chunk cs) (sym (waits_left s j now t table (answer_at s j t (table.terminals j)) i)) ∙ h.rests e i l
 
 -- a packet was sent: the outlet asked comes to `new`
-pub stands_sent : (s : Setup) (pts : Pts) (j now t : ℕ) (table : Table) (o mid new : UnawareState) (asked gave due sends put : Bool) (text : List ℕ) (after : List Waiting) (out : List ℕ)
+pub stands_sent : (s : Setup) (pts : Pts) (j now t : ℕ) (table : Table) (o mid new : UnawareState) (asked gave due sends : Bool) (text : List ℕ) (after : List Waiting) (out : List ℕ)
     → StandsFor s pts j o (table.terminals j) → Told s j t table asked gave due sends text mid after → Added s t (table.terminals j).past (turned_here s j now t table).past text true
-    → Sends (conf_at s pts j) s.mixer mid.spacing new (sents (table.terminals j).past) (sent_now s.mixer t text) put out
+    → Sends (conf_at s pts j) s.mixer mid.spacing new (sents (table.terminals j).past) (sent_now s.mixer t text) out
     → own_of mid ≡ own_of o → mid.spacing ≡ o.spacing → new.composer ≡ mid.composer → new.spacing ≡ mid.spacing → new.none_waits ≡ mid.none_waits
     → StandsFor s pts j new (turned_here s j now t table)
-stands_sent s pts j now t table o mid new asked gave due sends put text after out h p a w own spacing ce se ne =
+stands_sent s pts j now t table o mid new asked gave due sends text after out h p a w own spacing ce se ne =
     let d = table.terminals j in
     let es : sent_now s.mixer t text ∷ sents d.past ≡ sents (turned_here s j now t table).past =
     ap (λ (e : Sent). e ∷ sents d.past) (sym a.2) ∙ sym (ap (λ (xs : List TurnEntry). sents xs) a.1) in
@@ -210,15 +210,14 @@ stands_silent s pts j now t table o new asked gave due sends text after h p a ow
       rests = none_left s j now t table asked gave due sends text new after p;
     }
 
-pub puts_sent : (s : Setup) (pts : Pts) (j now t : ℕ) (table : Table) (spacing : ℕ) (new : UnawareState) (text : List ℕ) (put : Bool) (out : List ℕ)
+pub puts_sent : (s : Setup) (pts : Pts) (j now t : ℕ) (table : Table) (spacing : ℕ) (new : UnawareState) (text : List ℕ) (out : List ℕ)
     → Added s t (table.terminals j).past (turned_here s j now t table).past text true
-    → Sends (conf_at s pts j) s.mixer spacing new (sents (table.terminals j).past) (sent_now s.mixer t text) put out
-    → Puts pts (new_packet (stream s j) (table.terminals j).past (turned_here s j now t table).past) put out
-puts_sent s pts j now t table spacing new text put out a w =
+    → Sends (conf_at s pts j) s.mixer spacing new (sents (table.terminals j).past) (sent_now s.mixer t text) out
+    → Puts pts (new_packet (stream s j) (table.terminals j).past (turned_here s j now t table).past) true out
+puts_sent s pts j now t table spacing new text out a w =
     let before = (table.terminals j).past in
     let written : out ≡ packet_written pts (packet_after (stream s j) (sents before) a.0.sent) = w.out_is ∙ ap (λ (e : Sent). packet_written pts (packet_after (stream s j) (sents before) e)) (sym a.2) in
-    subst (λ (b : Bool). Puts pts (new_packet (stream s j) before (turned_here s j now t table).past) b out) (sym w.put_is)
-    (subst (λ (xs : List TurnEntry). Puts pts (new_packet (stream s j) before xs) true out) (sym a.1) (puts_one pts (stream s j) a.0 before out written))
+    subst (λ (xs : List TurnEntry). Puts pts (new_packet (stream s j) before xs) true out) (sym a.1) (puts_one pts (stream s j) a.0 before out written)
 
 pub puts_silent : (s : Setup) (pts : Pts) (j now t : ℕ) (table : Table) (text out : List ℕ) → Added s t (table.terminals j).past (turned_here s j now t table).past text false
     → Puts pts (new_packet (stream s j) (table.terminals j).past (turned_here s j now t table).past) false out

@@ -1,5 +1,5 @@
 -- What a turn of an aware terminal finds, and what it comes to.
-use Rattle.std.specs.Prelude.{ℕ, ◌+◌, ◌<◌, Bool, false, Some, List, slice_set}
+use Rattle.std.specs.Prelude.{ℕ, ◌+◌, ◌<◌, Bool, true, false, Some, List, slice_set}
 use Rattle.rtt_base.specs.declared.text_packets.Pts.{Pts}
 use Rattle.stream_spec.specs.Own.{Sent}
 use Rattle.stream_spec.specs.Ready.{Chunk}
@@ -46,11 +46,11 @@ pub record IsTurned (s : Setup) (pts : Pts) (table : Table) (j : ℕ) (d : Termi
   pub slots_stand : slots.StandsFor s now (with_terminal j d table)
   pub puts : Puts pts (new_packet (stream s j) (table.terminals j).past d.past) put out
 
--- a packet of the leg that holds the place was put out at this media time, or none
-abbrev pub ServesLeg : AwareState → List Waiting → (place leg media : ℕ) → AwareState → List Waiting → Bool → List ℕ → Type 0
-ServesLeg o waiting place leg media o' waiting' put out = AtTable o waiting (λ s pts table d. (now : ℕ) → leg < s.legs
+-- a packet of the leg that holds the place was put out at this media time
+abbrev pub ServesLeg : AwareState → List Waiting → (place leg media : ℕ) → AwareState → List Waiting → List ℕ → Type 0
+ServesLeg o waiting place leg media o' waiting' out = AtTable o waiting (λ s pts table d. (now : ℕ) → leg < s.legs
     → IsNext (stream s o.own) (sents d.past) (sent_of_leg s media d leg)
-    → IsTurned s pts table o.own (serve_leg s now media d place (Some leg)) o' waiting' put out)
+    → IsTurned s pts table o.own (serve_leg s now media d place (Some leg)) o' waiting' true out)
 
 -- it stands for the same terminal, whatever waits there
 abbrev pub StandsWoken : AwareState → AwareState → Type 0

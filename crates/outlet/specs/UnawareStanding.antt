@@ -1,5 +1,5 @@
 -- What the outlet of a terminal that is not aware stands for (profile).
-use Rattle.std.specs.Prelude.{◌≡◌, ◌+◌, ◌<◌, ◌≤◌, ◌==◌, ◌||◌, not, ℕ, Bool, true, false, is_some, List, [], ◌∷◌}
+use Rattle.std.specs.Prelude.{◌≡◌, ◌+◌, ◌<◌, ◌==◌, ◌||◌, not, ℕ, Bool, true, false, is_some, List, [], ◌∷◌}
 use Rattle.rtt_base.specs.declared.text_packets.Pts.{Pts}
 use Rattle.wire_spec.specs.Packets.{Packet}
 use Rattle.wire_spec.specs.SentPackets.{packet_written}
@@ -103,15 +103,14 @@ abbrev pub sent_now : ℕ → ℕ → List ℕ → Sent
 sent_now source media text = record { source = source; media = media; text = text }
 
 -- This was sent of the one source after these, and put so; the next packet comes so many milliseconds later at the earliest.
-pub record Sends (conf : OutConf) (source spacing : ℕ) (new : UnawareState) (past : List Sent) (e : Sent) (put : Bool) (out : List ℕ) : Type 0 where
-  pub put_is : put ≡ true
+pub record Sends (conf : OutConf) (source spacing : ℕ) (new : UnawareState) (past : List Sent) (e : Sent) (out : List ℕ) : Type 0 where
   pub out_is : out ≡ packet_written conf.pts (packet_after (stream_of conf) past e)
   pub output : outputs.StandsFor conf (source ∷ []) new.output (e ∷ past)
   pub free : new.free_at ≡ e.media + spacing
 
 -- the text was sent so at this media time, whatever was sent before
-abbrev pub SendsNow : UnawareState → ℕ → List ℕ → UnawareState → Bool → List ℕ → Type 0
-SendsNow old media text new put out =
-    (conf : OutConf) (source : ℕ) (past : List Sent) → conf.gens ≤ 3
+abbrev pub SendsNow : UnawareState → ℕ → List ℕ → UnawareState → List ℕ → Type 0
+SendsNow old media text new out =
+    (conf : OutConf) (source : ℕ) (past : List Sent)
     → outputs.StandsFor conf (source ∷ []) old.output past → IsNext (stream_of conf) past (sent_now source media text)
-    → Sends conf source old.spacing new past (sent_now source media text) put out
+    → Sends conf source old.spacing new past (sent_now source media text) out

@@ -215,7 +215,7 @@ impl AwareOutlet {
         slots: &mut Slots,
         text: &mut Text,
         out: &mut Packet,
-    ) -> bool
+    )
         requires place { place < PLACES }
         requires leg { leg < length self.old.free_at }
         requires slots { length slots.old ≡ length self.old.free_at }
@@ -223,13 +223,14 @@ impl AwareOutlet {
         requires out { out.old ≡ [] }
         ensures slots { length slots.new ≡ length slots.old }
         ensures same { SameLeg self.old self.new }
-        ensures turned { ServesLeg self.old slots.old place leg media self.new slots.new result out.new }
-        ensures some { HasOctets result out.new }
+        ensures turned { ServesLeg self.old slots.old place leg media self.new slots.new out.new }
+        ensures some { 0 < length out.new }
     {
         fetch(self.own, leg, slots, text);
-        let put = self.output.packet(media, leg, text.as_slice(), out);
+        let Ok(()) = self.output.packet(media, leg, text.as_slice(), out) else {
+            unreachable!()
+        };
         self.keep(place, leg, media);
-        put.is_ok()
     }
 
     /// Keeps that the leg at the place was served at this media time.
@@ -265,7 +266,10 @@ impl AwareOutlet {
         ensures some { HasOctets result out.new }
     {
         match seating.leg_at(place) {
-            Some(leg) => self.serve_leg(place, leg, media, slots, text, out),
+            Some(leg) => {
+                self.serve_leg(place, leg, media, slots, text, out);
+                true
+            }
             None => false,
         }
     }

@@ -126,7 +126,8 @@ impl UnawareOutlet {
         if !is_sent {
             return false;
         }
-        self.send(media, text, out)
+        self.send(media, text, out);
+        true
     }
 
     /// Asks the composer at this media time for text, where some may be given.
@@ -171,21 +172,20 @@ impl UnawareOutlet {
     }
 
     /// Sends the text at this media time.
-    fn send(&mut self, media: u64, text: &Text, out: &mut Packet) -> bool
+    fn send(&mut self, media: u64, text: &Text, out: &mut Packet)
         requires media { media < END_OF_MOMENTS }
         requires out { out.old ≡ [] }
-        ensures sends { SendsNow self.old media text.now self.new result out.new }
-        ensures some { HasOctets result out.new }
+        ensures sends { SendsNow self.old media text.now self.new out.new }
+        ensures some { 0 < length out.new }
         ensures composer { self.new.composer ≡ self.old.composer }
         ensures spacing { self.new.spacing ≡ self.old.spacing }
         ensures waits { self.new.none_waits ≡ self.old.none_waits }
     {
         let octets = text.as_slice();
         let Ok(()) = self.output.packet(media, 0, octets, out) else {
-            return false;
+            unreachable!()
         };
         self.wait_from(media);
-        true
     }
 
     /// Sends nothing before the spacing has passed since this media time.

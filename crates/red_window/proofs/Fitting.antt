@@ -1,83 +1,41 @@
--- The packets of a stream of at most three generations have octets, and few.
-use Rattle.std.proofs.Common.{◌≡◌, ℕ, zero, suc, ◌+◌, ◌-◌, ◌*◌, ◌%◌, ◌<◌, ◌≤◌, ◌^◌, ◌≢◌, Bool, true, false, cond, Option, None, Some, inl, inr, List, [], ◌∷◌, ◌++◌, length, take, refl, subst, sym, ◌∙◌, length-append, arith}
-use Rattle.std.specs.Prelude.{min, option_to_list, IsUtf8}
+-- What repeats the blocks of a window has few octets.
+use Rattle.std.proofs.Common.{◌≡◌, ℕ, zero, suc, ◌+◌, ◌-◌, ◌*◌, ◌<◌, ◌≤◌, ◌^◌, ◌≢◌, Bool, true, false, cond, Option, None, Some, inl, inr, List, [], ◌∷◌, ◌++◌, length, take, refl, subst, sym, length-append, arith}
+use Rattle.std.specs.Prelude.{min, max, drop, option_to_list, IsUtf8}
 use Rattle.std.specs.List.{flat_map, AllByRecursion}
 use Rattle.std.specs.Int.{w32, to_be_bytes}
 use Rattle.std.proofs.lemmas.Str.{IsUtf8-nil}
+use Rattle.std.proofs.lemmas.List.Elements.{All-append, All-take, All-drop, recursion_from_All}
 use Rattle.rtt_base.specs.declared.blocks.TextBlock.{TextBlock}
 use Rattle.rtt_base.specs.declared.text_packets.Pts.{Pts}
-use Rattle.wire_spec.specs.Packets.{has_text}
+use Rattle.wire_spec.specs.Packets.{Packet, has_text}
 use Rattle.wire_spec.specs.Rtp.{Head, rtp_written}
 use Rattle.wire_spec.specs.Red.{IsRedundant}
 use Rattle.wire_spec.specs.SentPackets.{payload_sent, head_of, packet_written, FitsPacket}
 use Rattle.stream_spec.specs.Lists.{In}
 use Rattle.stream_spec.specs.Own.{Sent, Stream, sent_of, nth, repeat_of, repeats, Sendable, packet_after}
 use Rattle.stream_spec.proofs.Sent.{in_sent_of, nth_in, take_in}
-use Rattle.red_blocks.specs.Writing.{text_octets}
-use Rattle.red_blocks.proofs.Spelling.{spelling_size}
+use Rattle.red_blocks.specs.declared.writing.TextHead.{TextHead}
+use Rattle.red_blocks.specs.Writing.{packet_with, text_octets}
+use Rattle.red_window.specs.declared.kept.KeptBlock.{KeptBlock}
+use Rattle.red_window.specs.Kept.{AreShort, in_turn, blocks_kept}
+use Rattle.red_window.proofs.Repeating.{blocks_size}
 use Rattle.rtt_base.specs.declared.limits.TheConstants.{MOST_PACKET_OCTETS, MOST_TEXT_OCTETS}
+use Rattle.wire_spec.proofs.Sizes.{AreShortTexts, packet_size}
 
-text_sent : (c : Stream) (zs : List Sent) (z : Sent) → Sendable c zs → In z zs → (length z.text ≤ MOST_TEXT_OCTETS) × IsUtf8 z.text
-text_sent c [] z s i = absurd i
-text_sent c (y ∷ zs) z s (inl q) = subst (λ (x : Sent). (length x.text ≤ MOST_TEXT_OCTETS) × IsUtf8 x.text) (sym q) s.0.text
-text_sent c (y ∷ zs) z s (inr i) = text_sent c zs z s.1 i
+abbrev HasShortText : KeptBlock → Type 0
+HasShortText b = length b.text ≤ MOST_TEXT_OCTETS
 
--- what was sent may be repeated at this media time
-abbrev IsNearText : ℕ → Sent → Type 0
-IsNearText media z = ((length z.text ≤ MOST_TEXT_OCTETS) × IsUtf8 z.text) × (has_text z.text ≡ true → media ≤ z.media + 16383)
+blocks_short : (stamp : ℕ) (kept : List KeptBlock) → AllByRecursion HasShortText kept → AreShortTexts (blocks_kept stamp kept)
+blocks_short stamp [] a = tt
+blocks_short stamp (b ∷ bs) a = (a.0, blocks_short stamp bs a.1)
 
-redundant_is : (media : ℕ) (o : Option Sent) → ((z : Sent) → o ≡ Some z → IsNearText media z) → IsRedundant (repeat_of media o)
-redundant_is media None f = (omega arith, (omega arith, IsUtf8-nil))
-redundant_is media (Some z) f = let t = f z refl in (go (has_text z.text) t.1, (omega (arith, t.0.0), t.0.1))
-  where
-    go : (b : Bool) → (b ≡ true → media ≤ z.media + 16383) → cond b (media - z.media) (min 16383 (media - z.media)) < 2 ^ 14
-    go true n = let l = n refl in omega arith
-    go false n = omega arith
+in_turn_short : (n : ℕ) (xs : List KeptBlock) → AreShort xs → AreShort (in_turn n xs)
+in_turn_short n xs a = All-append HasShortText (drop n xs) (take n xs) (All-drop HasShortText n xs a) (All-take HasShortText n xs a)
 
-older_fits : (k g media : ℕ) (zs : List Sent) → k ≤ g → ((z : Sent) → In z (take g zs) → IsNearText media z) → AllByRecursion IsRedundant (repeats k media zs)
-older_fits zero g media zs l f = tt
-older_fits (suc k) g media zs l f = (redundant_is media (nth k zs) (λ z e. f z (nth_in k g zs z e (omega arith))), older_fits k g media zs (omega arith) f)
-
-older_count : (g media : ℕ) (zs : List Sent) → length (repeats g media zs) ≡ g
-older_count zero media zs = refl
-older_count (suc g) media zs = let r = older_count g media zs in omega (arith, r)
-
-near_each : (c : Stream) (past : List Sent) (e : Sent) → Sendable c (e ∷ past) → (z : Sent) → In z (take c.gens (sent_of e.source past)) → IsNearText e.media z
-near_each c past e s z i = (text_sent c past z s.1 (in_sent_of e.source past z (take_in c.gens (sent_of e.source past) z i)).0, s.0.near z i)
-
-pub packet_fits : (pts : Pts) (c : Stream) (past : List Sent) (e : Sent) → pts.t140 < 2 ^ 7 → pts.red < 2 ^ 7 → pts.t140 ≢ pts.red → c.gens ≤ 3 → c.ssrc < 2 ^ 32 → e.source < 2 ^ 32 → Sendable c (e ∷ past)
-    → FitsPacket pts (packet_after c past e)
-packet_fits pts c past e t r d l ssrc source s = record {
-  seq = omega arith;
-  stamp = omega arith;
-  ssrc = ssrc;
-  source = source;
-  few = omega (arith, older_count c.gens e.media (sent_of e.source past));
-  older = older_fits c.gens c.gens e.media (sent_of e.source past) (omega arith) (near_each c past e s);
-  primary = (omega (arith, s.0.text.0), s.0.text.1);
-  t140 = t;
-  red = r;
-  differ = d;
-}
-
--- ---- how many octets
-texts_size : (bs : List TextBlock) → AllByRecursion IsRedundant bs → length (text_octets bs) ≤ MOST_TEXT_OCTETS * length bs
-texts_size [] a = omega arith
-texts_size (b ∷ bs) a = let r = texts_size bs a.1 in omega (arith, a.0.1.0, r, length-append b.text (text_octets bs))
-
-head_size : (h : Head) (payload : List ℕ) → length (rtp_written h payload) ≤ 16 + length payload
-head_size h payload = let r = go h.csrc in omega (arith, r)
-  where
-    go : (o : Option ℕ) → 12 + length (flat_map (to_be_bytes w32) (option_to_list o) ++ payload) ≤ 16 + length payload
-    go None = omega arith
-    go (Some s) = omega arith
-
-payload_size : (pts : Pts) (older : List TextBlock) (text : List ℕ) → AllByRecursion IsRedundant older → length older ≤ 3 → length text ≤ MOST_TEXT_OCTETS → length (payload_sent pts older text) ≤ 4105
-payload_size pts [] text a l t = omega arith
-payload_size pts (b ∷ bs) text a l t = omega (arith, spelling_size pts.t140 (b ∷ bs) text, texts_size (b ∷ bs) a)
-
-pub few_octets : (pts : Pts) (c : Stream) (past : List Sent) (e : Sent) → c.gens ≤ 3 → Sendable c (e ∷ past) → length (packet_written pts (packet_after c past e)) ≤ MOST_PACKET_OCTETS
-few_octets pts c past e l s =
-    let p = packet_after c past e in
-    let older = older_fits c.gens c.gens e.media (sent_of e.source past) (omega arith) (near_each c past e s) in
-    omega (arith, head_size (head_of pts p) (payload_sent pts p.older p.primary), payload_size pts p.older p.primary older (omega (arith, older_count c.gens e.media (sent_of e.source past))) s.0.text.0)
+-- what repeats the blocks of a window has few octets, whatever was sent
+pub kept_fits : (pts : Pts) (h : TextHead) (g n : ℕ) (places : List KeptBlock) (text : List ℕ) → length places ≡ 3 → g ≤ 3 → n < max 1 g → AreShort places → length text < 1024
+    → length (packet_written pts (packet_with h (blocks_kept h.stamp (in_turn n (take g places))) text)) ≤ MOST_PACKET_OCTETS
+kept_fits pts h g n places text e l m a t =
+    let kept = in_turn n (take g places) in
+    let short = recursion_from_All HasShortText kept (in_turn_short n (take g places) (All-take HasShortText g places a)) in
+    packet_size pts (packet_with h (blocks_kept h.stamp kept) text) (blocks_short h.stamp kept short) (omega (arith, l, blocks_size g n h.stamp places e l m)) (omega (arith, t))

@@ -1,10 +1,11 @@
 -- The blocks that a window keeps, and those of a packet that repeat them (RFC 2198, section 3; the offsets of empty
 -- blocks are a profile).
-use Rattle.std.specs.Prelude.{ℕ, List, ◌++◌, map, min, take, drop, if◌then◌else◌}
+use Rattle.std.specs.Prelude.{ℕ, ◌≤◌, List, ◌++◌, length, map, min, take, drop, if◌then◌else◌}
+use Rattle.std.specs.List.{All}
 use Rattle.rtt_base.specs.declared.blocks.TextBlock.{TextBlock}
 use Rattle.rtt_base.specs.Stamps.{ahead}
 use Rattle.red_window.specs.declared.kept.KeptBlock.{KeptBlock}
-use Rattle.rtt_base.specs.declared.limits.TheConstants.{MOST_OFFSET}
+use Rattle.rtt_base.specs.declared.limits.TheConstants.{MOST_OFFSET, MOST_TEXT_OCTETS}
 
 -- places that are written over in turn, from the oldest block on
 abbrev pub in_turn : ℕ → List KeptBlock → List KeptBlock
@@ -21,3 +22,7 @@ block_kept stamp b = record { offset = offset_kept stamp b; text = b.text }
 -- the blocks that repeat these
 abbrev pub blocks_kept : ℕ → List KeptBlock → List TextBlock
 blocks_kept stamp kept = map (block_kept stamp) kept
+
+-- each text fits into a block
+abbrev pub AreShort : List KeptBlock → Type 0
+AreShort kept = All (λ b. length b.text ≤ MOST_TEXT_OCTETS) kept

@@ -21,17 +21,23 @@ pub struct Window {
 impl Model for Window {
     ghost use Rattle.std.specs.Prelude.{List, ◌≡◌, ◌<◌, ◌≤◌, length, take, max};
     ghost use Rattle.red_window.specs.declared.kept.KeptBlock.{KeptBlock};
-    ghost use Rattle.red_window.specs.Kept.{in_turn};
+    ghost use Rattle.red_window.specs.Kept.{AreShort, in_turn};
 
     ghost Value = { List KeptBlock };
 
     ghost view = { λ w. in_turn w.oldest (take w.generations w.places) };
 
-    ghost invariant = { λ w. (w.generations ≤ 3) × (w.oldest < max 1 w.generations) × (length w.places ≡ 3) };
+    ghost invariant = { λ w. (w.generations ≤ 3) × (w.oldest < max 1 w.generations) × (length w.places ≡ 3) × AreShort w.places };
 }
 
 impl Window {
+    ghost use Rattle.rtt_base.specs.declared.limits.TheConstants.{MOST_PACKET_OCTETS};
+    ghost use Rattle.rtt_base.specs.declared.text_packets.Pts.{Pts};
+    ghost use Rattle.wire_spec.specs.SentPackets.{packet_written};
     ghost use Rattle.stream_spec.specs.Own.{Sent, has_text_in};
+    ghost use Rattle.red_blocks.specs.declared.writing.TextHead.{TextHead};
+    ghost use Rattle.red_blocks.specs.Writing.{packet_with};
+    ghost use Rattle.red_window.specs.Kept.{blocks_kept};
     ghost use Rattle.red_window.specs.Standing.{StandsFor};
 
     /// A window of two generations, of a source of which nothing was sent.
@@ -62,6 +68,16 @@ impl Window {
         ensures { (g base : ℕ) (past : List Sent) → StandsFor g base self.now past → result ≡ has_text_in g past }
     {
         any_text(&self.places[..self.generations])
+    }
+
+    /// A packet that repeats these blocks, with a text of at most 1023 octets, has at most 4224 octets. Nothing is done.
+    pub fn packets_fit(&self)
+        ensures { (pts : Pts) (head : TextHead) (text : List ℕ) → length text < 1024
+            → length (packet_written pts (packet_with head (blocks_kept head.stamp self.now) text))
+            ≤ MOST_PACKET_OCTETS }
+    {
+        // so that the proof sees what is kept
+        let _generations = self.generations;
     }
 
     /// Keeps a copy of the text of a packet with this timestamp, over the oldest block.

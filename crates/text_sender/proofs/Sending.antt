@@ -7,7 +7,7 @@ use Rattle.wire_spec.specs.Packets.{has_text}
 use Rattle.stream_spec.specs.Own.{Sent, sent_of, nth, has_text_in, Sendable}
 use Rattle.stream_spec.specs.Typed.{Event, Text, Ask, Turned, sents, longest_step, media_at, entry_at, due_at, last_ask, whole_front, IsScript}
 use Rattle.stream_spec.proofs.Typing.{waits_more, waits_less, entries_more, paced}
-use Rattle.red_window.proofs.Fitting.{few_octets}
+use Rattle.stream_spec.proofs.Fitting.{few_octets}
 use Rattle.aware_output.specs.Speakers.{IsNext, text_of}
 use Rattle.aware_output.specs.Sending.{OfNext, octets_of}
 use Rattle.aware_output.specs.Standing as standing

@@ -1,4 +1,4 @@
-use Rattle.red_window.proofs.Fitting.{packet_fits, few_octets}
+use Rattle.stream_spec.proofs.Fitting.{packet_fits, few_octets}
 use Rattle.red_window.proofs.laws.packets_fit.Goals as goal
 
 pub returns : goal.returns

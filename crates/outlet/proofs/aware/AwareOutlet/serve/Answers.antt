@@ -1,4 +1,4 @@
-use Rattle.std.proofs.Common.{◌<◌, ℕ, Option, false, refl, subst, arith}
+use Rattle.std.proofs.Common.{◌<◌, ℕ, Option, true, false, refl, subst, arith}
 use Rattle.mixer_spec.specs.Setups.{stream}
 use Rattle.mixer_spec.specs.Table.{serve_leg}
 use Rattle.outlet.specs.Turns.{SendsNext}
@@ -12,7 +12,7 @@ returns-in-Some-clause-turned c = λ s pts table h now.
     let d = table.terminals j in
     let l : c.in-Some.leg < s.legs = omega (arith, c.in-Some.ensures.within, h.seats_stand.all) in
     subst (λ (x : Option ℕ). SendsNext (stream s j) d.past (serve_leg s now c.args.media d c.args.place x).past
-    → IsTurned s pts table j (serve_leg s now c.args.media d c.args.place x) c.serve_leg.new.self c.serve_leg.new.slots c.serve_leg.result c.serve_leg.new.out)
+    → IsTurned s pts table j (serve_leg s now c.args.media d c.args.place x) c.serve_leg.new.self c.serve_leg.new.slots true c.serve_leg.new.out)
     (c.in-Some.ensures.leg s table h.seats_stand) (λ n. c.serve_leg.ensures.turned s pts table h.there now l (n _ refl))
 
 pub returns-in-None-clause-turned : goal.returns-in-None-clause-turned

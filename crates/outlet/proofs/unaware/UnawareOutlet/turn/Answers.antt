@@ -62,9 +62,9 @@ returns-clause-stands c = λ s pts j table now h.
     let a = subst (λ (b : Bool). Added s c.args.media d.past (turned_here s j now c.args.media table).past c.ask-gave.new.text b) c.if-not-is_sent.false
     (added_here s j now c.args.media table asked c.ask-gave.result c.due.result c.or_repeats-is_sent.result c.ask-gave.new.text c.ask-gave.new.self c.ask-gave.new.slots t) in
     let before = subst (λ (x : OutputState). outputs.StandsFor (conf_at s pts j) (s.mixer ∷ []) x (sents d.past)) (sym c.ask-gave.ensures.output) h.stands.output in
-    let w = c.send.ensures.sends (conf_at s pts j) s.mixer (sents d.past) (h.stands.setup.gens j) before
+    let w = c.send.ensures.sends (conf_at s pts j) s.mixer (sents d.past) before
     (may_send s pts j now c.args.media table o c.args.slots.now c.args.names.now c.ask-gave.new.text h a) in
-    stands_sent s pts j now c.args.media table o c.ask-gave.new.self c.send.new.self asked c.ask-gave.result c.due.result c.or_repeats-is_sent.result c.send.result c.ask-gave.new.text c.ask-gave.new.slots c.send.new.out h.stands t a w c.ask-gave.ensures.same.0 c.ask-gave.ensures.times.0 c.send.ensures.composer c.send.ensures.spacing c.send.ensures.waits
+    stands_sent s pts j now c.args.media table o c.ask-gave.new.self c.send.new.self asked c.ask-gave.result c.due.result c.or_repeats-is_sent.result c.ask-gave.new.text c.ask-gave.new.slots c.send.new.out h.stands t a w c.ask-gave.ensures.same.0 c.ask-gave.ensures.times.0 c.send.ensures.composer c.send.ensures.spacing c.send.ensures.waits
 
 pub returns-clause-waits : goal.returns-clause-waits
 returns-clause-waits c = λ s pts j table now h.
@@ -91,6 +91,6 @@ returns-clause-puts c = λ s pts j table now h.
     let a = subst (λ (b : Bool). Added s c.args.media d.past (turned_here s j now c.args.media table).past c.ask-gave.new.text b) c.if-not-is_sent.false
     (added_here s j now c.args.media table asked c.ask-gave.result c.due.result c.or_repeats-is_sent.result c.ask-gave.new.text c.ask-gave.new.self c.ask-gave.new.slots t) in
     let before = subst (λ (x : OutputState). outputs.StandsFor (conf_at s pts j) (s.mixer ∷ []) x (sents d.past)) (sym c.ask-gave.ensures.output) h.stands.output in
-    let w = c.send.ensures.sends (conf_at s pts j) s.mixer (sents d.past) (h.stands.setup.gens j) before
+    let w = c.send.ensures.sends (conf_at s pts j) s.mixer (sents d.past) before
     (may_send s pts j now c.args.media table o c.args.slots.now c.args.names.now c.ask-gave.new.text h a) in
-    puts_sent s pts j now c.args.media table c.ask-gave.new.self.spacing c.send.new.self c.ask-gave.new.text c.send.result c.send.new.out a w
+    puts_sent s pts j now c.args.media table c.ask-gave.new.self.spacing c.send.new.self c.ask-gave.new.text c.send.new.out a w

@@ -1,4 +1,4 @@
-use Rattle.std.proofs.Common.{◌≡◌, ℕ, List, take, set, true, ap, subst, sym, ◌∙◌}
+use Rattle.std.proofs.Common.{ℕ, List, take, set, ap, subst, sym, ◌∙◌}
 use Rattle.red_window.specs.declared.kept.KeptBlock.{KeptBlock}
 use Rattle.red_window.specs.Standing.{StandsFor}
 use Rattle.red_window.specs.Kept.{in_turn}
