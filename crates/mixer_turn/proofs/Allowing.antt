@@ -1,12 +1,12 @@
 -- Calls that are allowed are events of the core.
-use Rattle.std.proofs.Common.{◌≡◌, ℕ, suc, Bool, true, false, cond, inl, inr, Some, None, List, [], ◌∷◌, ◌++◌, length, length-append, refl, ap, subst, sym, ◌∙◌, arith, append_assoc, not}
+use Rattle.std.proofs.Common.{◌≡◌, ℕ, suc, Bool, true, false, cond, inl, inr, List, [], ◌∷◌, ◌++◌, refl, ap, subst, sym, ◌∙◌, not}
 use Rattle.std.specs.Prelude.{◌&&◌, nat_le}
 use Rattle.std.proofs.lemmas.Bool.{cases_eq, le-leb, lt-ltb, and_parts}
 use Rattle.stream_spec.specs.Ready.{Chunk}
 use Rattle.mixer_spec.specs.Rounds.{set_at}
 use Rattle.mixer_spec.specs.Setups.{Setup, is_before_end}
 use Rattle.mixer_spec.specs.Table.{Call, Admit, Hush, Leave, Offer, Turn, Taken, Table, chunks_taken, is_given, has_room, given, offered, turned, admitted, hushed, free_place, may_enter, entered, may_stop, stopped, may_leave, departed, after_calls}
-use Rattle.mixer_spec.specs.Legs.{Leg, begin, pushed, picked, take_hand, left}
+use Rattle.mixer_spec.specs.Legs.{Leg, begin, left}
 use Rattle.mixer_spec.specs.Core.{Core, Event, Push, Take, Enter, Stop, is_taken, offer_hand, gone, happens, after, turns_in}
 use Rattle.mixer_spec.specs.Core as core
 use Rattle.mixer_spec.specs.Calls.{took, turns_made, AreEvents}
@@ -14,7 +14,7 @@ use Rattle.mixer_spec.specs.Laws.{AreTexts, AreShort}
 use Rattle.mixer_spec.proofs.Lists.{nil, set_same, set_other}
 use Rattle.mixer_spec.proofs.Legs.{chunks_more, come_taken}
 use Rattle.mixer_spec.proofs.Kept.{departed_same}
-use Rattle.mixer_spec.proofs.Calls.{resting}
+use Rattle.mixer_spec.proofs.Calls.{resting, move, none_more, offer_gives, ahead_before}
 use Rattle.mixer_turn.specs.Allowed.{AreAllowed}
 use Rattle.mixer_turn.proofs.Leaving.{AreAll, all_before, left_away, departed_idle}
 pub use Rattle.mixer_turn.proofs.Leaving.{seated}
@@ -32,45 +32,6 @@ events_of s (Turn now ∷ past) a = core.Turn now ∷ events_of s past a
 pub record Rests (s : Setup) (chunks more : ℕ → List Chunk) (calls : List Call) (past : List Event) : Type 0 where
   pub table : (after s chunks past).table ≡ after_calls s calls
   pub legs : (i : ℕ) → (after s chunks past).legs i ≡ resting (more i)
-
--- one chunk goes its whole way
-record Moved (s : Setup) (w v : Core) (i : ℕ) (c : Chunk) (ahead : List Chunk) : Type 0 where
-  leg : v.legs i ≡ resting ahead
-  others : (x : ℕ) → (x ≡ i → ⊥) → v.legs x ≡ w.legs x
-  table : v.table ≡ given i c w.table
-
-move : (s : Setup) (w : Core) (i : ℕ) (c : Chunk) (rest : List Chunk) → w.legs i ≡ resting (c ∷ rest) → has_room s i c w.table ≡ true
-    → Moved s w (happens s (happens s w (Push i)) (Take i c.ready)) i c rest
-move s w i c rest e room = go (picked (u.legs i)) picked_is
-  where
-    u : Core
-    u = happens s w (Push i)
-
-    pushed_is : (set_at w.legs i (pushed (w.legs i)) i) ≡ record { ahead = rest; queue = c ∷ []; hand = None }
-    pushed_is = set_same w.legs i (pushed (w.legs i)) i refl ∙ ap pushed e
-
-    picked_is : picked (set_at w.legs i (pushed (w.legs i)) i) ≡ record { ahead = rest; queue = []; hand = Some c }
-    picked_is = ap picked pushed_is
-
-    is : is_taken s i c.ready w.table c ≡ true
-    is = ap (λ b. b && has_room s i c w.table) (le-leb c.ready c.ready (omega arith)) ∙ room
-
-    go : (l : Leg) → l ≡ record { ahead = rest; queue = []; hand = Some c } → Moved s w (offer_hand s (happens s w (Push i)) i c.ready l l.hand) i c rest
-    go l q = subst (λ (m : Leg). Moved s w (offer_hand s (happens s w (Push i)) i c.ready m m.hand) i c rest) (sym q) (taken (is_taken s i c.ready w.table c) is)
-      where
-        taken : (b : Bool) → b ≡ true
-            → Moved s w (cond {A = Core} b (record { legs = set_at (set_at w.legs i (pushed (w.legs i))) i (take_hand (record { ahead = rest; queue = []; hand = Some c })); table = given i c w.table })
-            (record { legs = set_at (set_at w.legs i (pushed (w.legs i))) i (record { ahead = rest; queue = []; hand = Some c }); table = w.table })) i c rest
-        taken false f = cc f
-        taken true f = record {
-          leg = set_same (set_at w.legs i (pushed (w.legs i))) i (resting rest) i refl;
-          others = λ x n. set_other (set_at w.legs i (pushed (w.legs i))) i (resting rest) x n ∙ set_other w.legs i (pushed (w.legs i)) x n;
-          table = refl;
-        }
-
-none_more : (xs ys : List Chunk) → xs ≡ xs ++ ys → ys ≡ []
-none_more xs [] e = refl
-none_more xs (y ∷ ys) e = absurd (omega (arith, length-append xs (y ∷ ys), ap length e))
 
 -- a leg leaves, or stays
 leaves : (s : Setup) (chunks more : ℕ → List Chunk) (i : ℕ) (past : List Call) (a : AreAllowed s past) → AreAll s chunks (Leave i ∷ past) → ((x : ℕ) → chunks x ≡ took s x past ++ more x)
@@ -119,33 +80,16 @@ rests s chunks (Offer c ∷ past) a all more e = go (has_room s c.source c (afte
         let f = ih more (λ i. e i ∙ ap (λ (t : Table). chunks_taken (t.taken i) ++ more i) is) in
         record { table = f.table ∙ sym is; legs = f.legs }
     go true q ih =
-        let f = ih (set_at more c.source (c ∷ more c.source)) before in
+        let f = ih (set_at more c.source (c ∷ more c.source)) (ahead_before s chunks more past c e q) in
         let m = move s (after s chunks (events_of s past a.1)) c.source c (more c.source) (f.legs c.source ∙ ap resting (set_same more c.source (c ∷ more c.source) c.source refl))
         (ap (has_room s c.source c) f.table ∙ q) in
         record {
-          table = m.table ∙ (ap (given c.source c) f.table ∙ sym is);
+          table = m.table ∙ (ap (given c.source c) f.table ∙ sym (offer_gives s past c q));
           legs = λ i. elim (cases_eq i c.source) [
             | inl p ↦ ap (after s chunks (Take c.source c.ready ∷ Push c.source ∷ events_of s past a.1)).legs p ∙ (m.leg ∙ ap (λ n. resting (more n)) (sym p))
             | inr n ↦ m.others i n ∙ (f.legs i ∙ ap resting (set_other more c.source (c ∷ more c.source) i n))
           ];
         }
-      where
-        is : offered s c.source c (after_calls s past) ≡ given c.source c (after_calls s past)
-        is = ap (λ b. cond {A = Table} b (given c.source c (after_calls s past)) (after_calls s past)) q
-
-        own : chunks_taken ((given c.source c (after_calls s past)).taken c.source) ≡ took s c.source past ++ c ∷ []
-        own = ap chunks_taken (set_same (after_calls s past).taken c.source ((after_calls s past).taken c.source ++ record { chunk = c; given = is_given (after_calls s past).seats c.source } ∷ []) c.source refl)
-            ∙ chunks_more ((after_calls s past).taken c.source) (record { chunk = c; given = is_given (after_calls s past).seats c.source })
-
-        before : (i : ℕ) → chunks i ≡ took s i past ++ set_at more c.source (c ∷ more c.source) i
-        before i = e i ∙ (ap (λ (t : Table). chunks_taken (t.taken i) ++ more i) is ∙ elim (cases_eq i c.source) [
-          | inl p ↦ ap (λ n. chunks_taken ((given c.source c (after_calls s past)).taken n) ++ more n) p
-              ∙ (ap (λ xs. xs ++ more c.source) own
-              ∙ (append_assoc (took s c.source past) (c ∷ []) (more c.source)
-              ∙ (ap (λ xs. took s c.source past ++ xs) (sym (set_same more c.source (c ∷ more c.source) c.source refl)) ∙ ap (λ n. took s n past ++ set_at more c.source (c ∷ more c.source) n) (sym p))))
-          | inr n ↦ ap (λ xs. chunks_taken xs ++ more i) (set_other (after_calls s past).taken c.source ((after_calls s past).taken c.source ++ record { chunk = c; given = is_given (after_calls s past).seats c.source } ∷ []) i n)
-              ∙ ap (λ xs. took s i past ++ xs) (sym (set_other more c.source (c ∷ more c.source) i n))
-        ])
 
 pub turns_same : (s : Setup) (calls : List Call) (a : AreAllowed s calls) → turns_in (events_of s calls a) ≡ turns_made calls
 turns_same s [] a = refl

@@ -17,6 +17,7 @@ use Rattle.mixer_spec.proofs.Batches.{posts_law, new_law}
 use Rattle.mixer_turn.specs.Allowed.{AreAllowed}
 use Rattle.mixer_turn.specs.Words.{accepted, given_to, put_out}
 use Rattle.mixer_turn.proofs.Waiting.{kept}
+use Rattle.mixer_spec.proofs.Finish.{given_sent}
 
 -- ---- what was taken
 pub accepted_law : (s : Setup) (calls : List Call) (i : ℕ) → took s i calls ≡ accepted s i calls
@@ -83,13 +84,6 @@ posts_at : (now j : ℕ) (ps : List Packet) → map (λ (p : Post). arrival_of n
 posts_at now j [] = refl
 posts_at now j (p ∷ ps) = ap (λ xs. arrival_of now p ∷ xs) (posts_at now j ps)
 
-give_past : (i j : ℕ) (c : Chunk) (w : Table) → ((given i c w).terminals j).past ≡ (w.terminals j).past
-give_past i j c w = go (is_given w.seats i j)
-  where
-    go : (b : Bool) → (cond b (give i c (w.terminals j)) (w.terminals j)).past ≡ (w.terminals j).past
-    go true = refl
-    go false = refl
-
 pub put_out_law : (s : Setup) (calls : List Call) (j : ℕ) → j < s.legs → packets (stream s j) ((after_calls s calls).terminals j).past ≡ put_out s j calls
 put_out_law s [] j l = refl
 put_out_law s (Admit k b ∷ past) j l = go (free_place s (after_calls s past).seats) (put_out_law s past j l)
@@ -104,7 +98,7 @@ put_out_law s (Offer c ∷ past) j l = go (has_room s c.source c (after_calls s 
   where
     go : (b : Bool) → packets (stream s j) ((after_calls s past).terminals j).past ≡ put_out s j past → packets (stream s j) ((cond {A = Table} b (given c.source c (after_calls s past)) (after_calls s past)).terminals j).past ≡ put_out s j past
     go false h = h
-    go true h = ap (packets (stream s j)) (give_past c.source j c (after_calls s past)) ∙ h
+    go true h = ap (packets (stream s j)) (given_sent c.source j c (after_calls s past)) ∙ h
 put_out_law s (Turn now ∷ past) j l =
     let w = after_calls s past in
     new_law s now j w

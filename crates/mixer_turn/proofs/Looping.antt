@@ -10,7 +10,7 @@ use Rattle.mixer_spec.specs.Setups.{Setup}
 use Rattle.mixer_spec.specs.Table.{Table, turn_at, turned_to, posts_below}
 use Rattle.slot_table.specs.Lanes.{Waiting}
 use Rattle.slot_table.specs.Standing as slots
-use Rattle.slot_table.proofs.Lists.{get_set_same, get_set_other}
+use Rattle.slot_table.proofs.Lists.{get_set_same}
 use Rattle.seating.specs.States as seating
 use Rattle.outlet.specs.declared.outlets.Outlet.{Outlet}
 use Rattle.outlet.specs.Outlets as outlets
@@ -19,6 +19,7 @@ use Rattle.mixer_turn.specs.declared.batches.Post.{Post}
 use Rattle.mixer_turn.specs.Posts.{ArePosts, IsPost, KeepsPosts}
 use Rattle.mixer_turn.specs.Turns.{IsOutletOf, AreOutletsOf, turned_below, HasPosts, Reaches, LegMayTurn, LegTurned, AllTurned, OfMixers}
 use Rattle.mixer_turn.proofs.Turning.{slots_turned}
+use Rattle.mixer_spec.proofs.Lists.{get_set_other}
 
 -- the first n terminals had their turn
 pub record TurnedSoFar (s : Setup) (pts : ℕ → Pts) (table : Table) (now t n : ℕ) (all : List Outlet) (waiting : List Waiting) (batch : List Post) : Type 0 where

@@ -16,10 +16,10 @@ use Rattle.outlet.specs.Outlets.{IsTurn}
 use Rattle.mixer_turn.specs.declared.batches.Post.{Post}
 use Rattle.mixer_turn.specs.Posts.{ArePosts, IsPost}
 use Rattle.mixer_turn.specs.Turns.{turned_below, IsPut, Reaches, LegMayTurn, LegTurned}
-use Rattle.mixer_turn.proofs.Turning.{seats_below, still_there, no_turn, reach_past, reach_more, room_left}
+use Rattle.mixer_turn.proofs.Turning.{seats_below, still_there, no_turn, reach_past, reach_more}
 
 -- ---- the batch
-len_is : (items : List Post) (len : ℕ) (old : List Post) → old ≡ take len items → length items ≡ 16 → len ≤ 16 → length old ≡ len
+pub len_is : (items : List Post) (len : ℕ) (old : List Post) → old ≡ take len items → length items ≡ 16 → len ≤ 16 → length old ≡ len
 len_is items len old e n l = omega (arith, ap length e, length-take len items, n, l)
 
 pub filled_more : (items : List Post) (len leg : ℕ) (post : Post) (old : List Post) → old ≡ take len items → length items ≡ 16 → len ≤ 16 → length old < 16 → post.terminal ≡ leg
@@ -77,10 +77,3 @@ leg_passed s pts table now t leg o places waiting called old may e r = record {
   stands = subst (outlets.StandsFor s (pts leg) leg o) (sym (no_turn s table.seats leg now t (table.terminals leg) e)) may.stands;
   reaches = reach_past s pts table now t leg waiting old e r;
 }
-
--- the batch is never full there
-pub never_full : {P : Type 0} (s : Setup) (pts : ℕ → Pts) (table : Table) (now t leg : ℕ) (o : Outlet) (places : seating.State) (waiting : List Waiting) (called : List (List ℕ)) (items : List Post) (len : ℕ) (old : List Post)
-    → LegMayTurn s pts table now t leg o places called → is_seated table.seats leg ≡ true → Reaches s pts table now t leg waiting old → old ≡ take len items → length items ≡ 16 → len ≤ 16 → 16 ≤ len → P
-never_full s pts table now t leg o places waiting called items len old may e r view n l full =
-    let left = room_left s pts table now t leg old (may.all).held e r.posts in
-    absurd (omega (arith, left, (may.seats).sixteen, len_is items len old view n l, full))

@@ -7,7 +7,7 @@ use Rattle.wire_spec.specs.Packets.{Arrival}
 use Rattle.wire_spec.specs.SentPackets.{packet_written}
 use Rattle.stream_spec.specs.Lists.{In}
 use Rattle.stream_spec.specs.Own.{Stream, Sendable, packet_after}
-use Rattle.red_window.proofs.Fitting.{few_octets}
+use Rattle.stream_spec.proofs.Fitting.{few_octets}
 use Rattle.mixer_spec.specs.Setups.{Setup, IsSetup, stream}
 use Rattle.mixer_spec.specs.Table.{Call, Admit, Hush, Leave, Offer, Turn, TurnEntry, Table, is_given, has_room, give, given, free_place, come_to, sents, packets, after_calls}
 use Rattle.mixer_spec.specs.Calls.{turns_made}

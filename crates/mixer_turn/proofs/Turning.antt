@@ -1,5 +1,5 @@
 -- One terminal more has its turn.
-use Rattle.std.proofs.Common.{◌≡◌, ℕ, zero, suc, ◌<◌, ◌≤◌, Bool, true, false, cond, inl, inr, Option, Some, None, List, [], ◌∷◌, ◌++◌, length, refl, ap, subst, sym, ◌∙◌, arith}
+use Rattle.std.proofs.Common.{◌≡◌, ℕ, zero, suc, ◌<◌, ◌≤◌, Bool, false, cond, inl, inr, Option, Some, None, List, [], ◌∷◌, ◌++◌, length, refl, ap, subst, sym, ◌∙◌, arith}
 use Rattle.std.specs.Prelude.{is_some, map}
 use Rattle.std.proofs.lemmas.Bool.{cases_eq}
 use Rattle.rtt_base.specs.declared.text_packets.Pts.{Pts}
@@ -14,8 +14,8 @@ use Rattle.slot_table.specs.Standing as slots
 use Rattle.slot_table.proofs.Sources.{stands_same}
 use Rattle.outlet.specs.Turns.{Puts, with_terminal}
 use Rattle.mixer_turn.specs.declared.batches.Post.{Post}
-use Rattle.mixer_turn.specs.Turns.{AreHeld, turned_below, written, batch_with, HasPosts, Reaches}
-use Rattle.mixer_turn.proofs.Few.{one_or_none, none_posted, few_posts, some_left}
+use Rattle.mixer_turn.specs.Turns.{AreHeld, turned_below, written, batch_with, Reaches}
+use Rattle.mixer_turn.proofs.Few.{one_or_none, none_posted}
 
 -- ---- the table while the turn goes on
 pub seats_below : (s : Setup) (now t : ℕ) (table : Table) (n : ℕ) → (turned_below s now t table n).seats ≡ table.seats
@@ -127,12 +127,3 @@ reach_more s pts table now t n waiting after batch put out r stands puts = recor
   where
     is : turn_at s (turned_below s now t table n).seats n now t ((turned_below s now t table n).terminals n) ≡ turn_at s table.seats n now t (table.terminals n)
     is = ap (λ (x : Seats). turn_at s x n now t ((turned_below s now t table n).terminals n)) (seats_below s now t table n) ∙ ap (turn_at s table.seats n now t) (still_there s now t table n n (omega arith))
-
--- a place of the batch is left for a leg that holds one of the mixer's
-pub room_left : (s : Setup) (pts : ℕ → Pts) (table : Table) (now t n : ℕ) (batch : List Post) → AreHeld s table.seats → is_seated table.seats n ≡ true
-    → HasPosts pts (posts_below s table (turned_to s now t table) n) batch → length batch < s.places
-room_left s pts table now t n batch h e p =
-    let left = some_left s table.seats n h e in
-    let few = few_posts s now t n table in
-    let same : length batch ≡ length (posts_below s table (turned_to s now t table) n) = ap length p ∙ Rattle.std.proofs.lemmas.List.length-map (posts_below s table (turned_to s now t table) n) (written pts) in
-    omega (arith, left, few, same)

@@ -2,9 +2,10 @@
 use Rattle.std.proofs.Common.{◌≡◌, ℕ, ◌+◌, inl, inr, Some, List, length-set, set, refl, ap, subst, sym, ◌∙◌, arith}
 use Rattle.std.specs.Prelude.{slice_get}
 use Rattle.std.proofs.lemmas.Bool.{cases_eq}
-use Rattle.slot_table.proofs.Lists.{get_set_same, get_set_other}
+use Rattle.slot_table.proofs.Lists.{get_set_same}
 use Rattle.outlet.specs.declared.outlets.Outlet.{Outlet}
 use Rattle.mixer_turn.specs.Waking.{IsWoken, AreWokenBelow}
+use Rattle.mixer_spec.proofs.Lists.{get_set_other}
 
 pub none_woken : (old : List Outlet) → AreWokenBelow 0 old old
 none_woken old = record { count = refl; first = λ j o l g. absurd (omega arith); rest = λ j o l g. g }

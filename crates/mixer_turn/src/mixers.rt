@@ -1,5 +1,5 @@
 //! The mixer.
-ghost use Rattle.std.specs.Prelude.{◌≡◌, ◌+◌, ◌^◌, ◌<◌, ◌↔◌, true, [], length, IsOk, IfOk, is_some};
+ghost use Rattle.std.specs.Prelude.{◌≡◌, ◌+◌, ◌^◌, ◌<◌, ◌↔◌, true, [], length, IsOk, IfOk, IsUtf8, is_some};
 ghost use Rattle.stream_spec.specs.Ready.{chunk_of};
 ghost use Rattle.mixer_spec.specs.Setups.{setup};
 ghost use Rattle.mixer_spec.specs.Table.{Admit, Hush, Leave, Offer, Turn, free_place, has_room, is_idle, may_leave};
@@ -144,7 +144,8 @@ impl Mixer {
     /// Takes a chunk of text of its leg for all other legs that listen. `Full`: the leg holds no place, or more than 16384
     /// octets or 512 chunks of it would wait; then all is as before.
     pub fn offer(&mut self, chunk: &Chunk) -> Result<(), Full>
-        requires { chunk.now.source < legs_of self.old }
+        requires source { chunk.now.source < legs_of self.old }
+        requires utf8 { IsUtf8 chunk.now.text }
         ensures legs { legs_of self.new ≡ legs_of self.old }
         ensures turns { self.new.turns ≡ self.old.turns }
         ensures room { Tells self.old (λ s table. IsOk result

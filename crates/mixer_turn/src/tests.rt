@@ -38,6 +38,9 @@ fn takes(rt: &impl Abort, mixer: &mut Mixer, source: u8, octet: u8, octets: usiz
         text,
     };
     assert!(rt; (source as usize) < mixer.legs());
+    let Ok(_) = str::from_utf8(chunk.text.as_slice()) else {
+        return false;
+    };
     mixer.offer(&chunk).is_ok()
 }
 

@@ -1,8 +1,10 @@
 //! A turn of all terminals.
 ghost use Rattle.std.specs.Prelude.{◌≡◌, ℕ, ◌+◌, ◌^◌, ◌<◌, ◌≤◌, IfSome, List, length};
 ghost use Rattle.rtt_base.specs.declared.text_packets.Pts.{Pts};
+ghost use Rattle.mixer_spec.specs.Rounds.{count_below};
 ghost use Rattle.mixer_spec.specs.Setups.{Setup};
 ghost use Rattle.mixer_spec.specs.Table.{Table, next_media};
+ghost use Rattle.seating.specs.Places.{has_place};
 ghost use Rattle.outlet.specs.Turns.{HasOctets};
 ghost use Rattle.outlet.specs.Outlets.{IsTurned, OfTurns, SameLeg, legs_of, next_turn};
 ghost use Rattle.mixer_turn.specs.Posts.{ArePosts, KeepsPosts};
@@ -68,6 +70,7 @@ impl Batch {
         ensures put { OfTurns outlet.old seating.now slots.old names.now media (λ s pts j table now.
             IsPut s pts j leg table now media outlet.new slots.new self.old self.new) }
         ensures posts { KeepsPosts leg self.old self.new }
+        ensures few { length self.new ≤ length self.old + 1 }
         ensures slots { length slots.new ≡ length slots.old }
         ensures same { SameLeg outlet.old outlet.new }
         ensures next { next_turn outlet.new ≤ media + 1 }
@@ -100,6 +103,7 @@ impl Batch {
         text: &mut Text,
     )
         requires leg { leg < length seating.now.legs }
+        requires room { length self.old ≤ count_below (has_place seating.now) leg }
         requires slots { length slots.old ≡ legs_of outlet.old }
         requires names { length names.now ≡ legs_of outlet.old }
         requires seating { length seating.now.legs ≡ legs_of outlet.old }
@@ -110,11 +114,12 @@ impl Batch {
             → Reaches s pts table now media leg slots.old self.old
             → LegTurned s pts table now media leg outlet.new slots.new self.new }
         ensures posts { KeepsPosts leg self.old self.new }
+        ensures few { length self.new ≤ count_below (has_place seating.now) (leg + 1) }
         ensures slots { length slots.new ≡ length slots.old }
         ensures same { SameLeg outlet.old outlet.new }
         ensures next { next_turn outlet.new ≤ media + 1 }
     {
-        if seating.is_seated(leg) && self.len < PLACES {
+        if seating.is_seated(leg) {
             self.turn_seated(leg, media, outlet, names, seating, slots, text);
         }
     }

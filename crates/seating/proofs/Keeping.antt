@@ -5,7 +5,7 @@ use Rattle.std.proofs.lemmas.Bool.{cases_Bool, cases_eq, true≢false, eq-eqb, n
 use Rattle.std.proofs.lemmas.Option.{slice_get_within, slice_get-get_or, unwrap_or-slice_get}
 use Rattle.mixer_spec.specs.Rounds.{first_from, set_at}
 use Rattle.mixer_spec.proofs.Rounds.{first_some}
-use Rattle.mixer_spec.proofs.Lists.{set_same, set_other}
+use Rattle.mixer_spec.proofs.Lists.{set_same, set_other, get_set_same, get_set_other}
 use Rattle.mixer_spec.proofs.Seats.{leg_in_some}
 use Rattle.mixer_spec.specs.Setups.{Setup}
 use Rattle.mixer_spec.specs.Table.{Seats, Table, no_seats, is_at, leg_in, is_free, free_place, come_to, admitted, hushed, freed}
@@ -15,18 +15,6 @@ use Rattle.seating.specs.Places.{is_vacant}
 use Rattle.seating.specs.Standing.{StandsFor, seat_of}
 
 -- ---- lists
-pub get_set_same : {X : Type 0} (xs : List X) (i : ℕ) (x : X) → i < length xs → slice_get (set xs i x) i ≡ Some x
-get_set_same [] i x l = absurd (omega arith)
-get_set_same (z ∷ xs) zero x l = refl
-get_set_same (z ∷ xs) (suc i) x l = get_set_same xs i x (omega arith)
-
-pub get_set_other : {X : Type 0} (xs : List X) (i k : ℕ) (x : X) → (k ≡ i → ⊥) → slice_get (set xs i x) k ≡ slice_get xs k
-get_set_other [] i k x n = refl
-get_set_other (z ∷ xs) zero zero x n = absurd (n refl)
-get_set_other (z ∷ xs) zero (suc k) x n = refl
-get_set_other (z ∷ xs) (suc i) zero x n = refl
-get_set_other (z ∷ xs) (suc i) (suc k) x n = get_set_other xs i k x (λ e. n (ap suc e))
-
 -- ---- what holds of all places
 pub places_set : (xs : List Seat) (i : ℕ) (y : Seat) → ((k : ℕ) (x : Seat) (p : ℕ) → slice_get xs k ≡ Some x → x.place ≡ Some p → p < 16) → ((p : ℕ) → y.place ≡ Some p → p < 16)
     → (k : ℕ) (x : Seat) (p : ℕ) → slice_get (set xs i y) k ≡ Some x → x.place ≡ Some p → p < 16

@@ -1,9 +1,9 @@
 //! Who holds which place.
-ghost use Rattle.std.specs.Prelude.{◌≡◌, ◌<◌, None, length, IfOk, IfSome, is_some};
-ghost use Rattle.mixer_spec.specs.Rounds.{first_from};
+ghost use Rattle.std.specs.Prelude.{◌≡◌, ◌<◌, ◌≤◌, None, length, IfOk, IfSome, is_some};
+ghost use Rattle.mixer_spec.specs.Rounds.{count_below, first_from};
 ghost use Rattle.mixer_spec.specs.Setups.{Setup};
 ghost use Rattle.mixer_spec.specs.Table.{Table, admitted, free_place, freed, hushed, is_seated, leg_in, no_seats};
-ghost use Rattle.seating.specs.Places.{is_vacant};
+ghost use Rattle.seating.specs.Places.{has_place, is_vacant};
 
 use mixer_spec::limits::PLACES;
 use rtt_base::NoMemory;
@@ -137,10 +137,12 @@ impl Seating {
         self.holders[place]
     }
 
-    /// Whether the leg holds a place.
+    /// Whether the leg holds a place. No more legs do than there are places.
     pub fn is_seated(&self, leg: usize) -> bool
         requires { leg < length self.now.legs }
-        ensures { Tells self.now (λ s table. result ≡ is_seated table.seats leg) }
+        ensures table { Tells self.now (λ s table. result ≡ is_seated table.seats leg) }
+        ensures place { result ≡ has_place self.now leg }
+        ensures few { count_below (has_place self.now) (length self.now.legs) ≤ PLACES }
     {
         self.seats[leg].place.is_some()
     }

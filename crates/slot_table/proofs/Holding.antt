@@ -1,10 +1,10 @@
 -- What each call changes of what a lane holds.
-use Rattle.std.proofs.Common.{◌≡◌, ℕ, ◌+◌, ◌-◌, ◌≤◌, Bool, true, false, inl, inr, Option, Some, List, [], ◌++◌, length, length-append, set, append-nil, append_assoc, refl, ap, subst, sym, ◌∙◌, arith}
+use Rattle.std.proofs.Common.{◌≡◌, ℕ, ◌+◌, ◌-◌, ◌≤◌, Bool, true, false, inl, inr, Option, Some, List, [], ◌++◌, length, length-append, set, append-nil, append_assoc, refl, ap, subst, sym, ◌∙◌, arith, ◌<◌, get_or}
 use Rattle.std.specs.Prelude.{slice_get, if◌then◌else◌, unwrap_or, nat_lt}
 use Rattle.std.proofs.lemmas.Bool.{cases_eq, true≢false}
 use Rattle.stream_spec.specs.Ready.{Chunk}
 use Rattle.mixer_spec.specs.Rounds.{set_at}
-use Rattle.mixer_spec.proofs.Lists.{set_same, set_other}
+use Rattle.mixer_spec.proofs.Lists.{set_same, set_other, get_set_other}
 use Rattle.mixer_spec.specs.Chunks.{joined, octets, has_chunk}
 use Rattle.mixer_spec.specs.Table.{Taken, chunks_taken}
 use Rattle.slot_table.specs.declared.rings.Place.{Place}
@@ -12,7 +12,7 @@ use Rattle.slot_table.specs.declared.parts.Part.{Part}
 use Rattle.slot_table.specs.Rings.{Chunks, IsPlace, end_of}
 use Rattle.slot_table.specs.Lanes.{Waiting, part_end, part_heard}
 use Rattle.slot_table.specs.Standing.{kept_of, place_of, IsPart, Holds}
-use Rattle.slot_table.proofs.Lists.{get_set_same, get_set_other}
+use Rattle.slot_table.proofs.Lists.{get_set_same, get_read}
 use Rattle.slot_table.proofs.Sizes.{joined_size, end_is, is_place, octets_taken, has_chunk_is}
 
 -- ---- parts
@@ -132,3 +132,12 @@ listened w taken listens waits h j p g on =
     other : (b : Bool) (k : ℕ) → (k ≡ j → ⊥) → (if b then set_at waits j [] else waits) k ≡ waits k
     other true k n = set_other waits j [] k n
     other false k n = refl
+
+-- ---- a part that is read
+-- the part of a terminal, which a call reads where its lane is open
+pub part_at : (inside now : Waiting) (j : ℕ) (p : Part) → inside ≡ now → j < length now.parts → p ≡ get_or inside.parts j p → slice_get inside.parts j ≡ Some p
+part_at inside now j p same l is = get_read inside.parts j p (omega (arith, l, ap (λ (x : Waiting). length x.parts) same)) is
+
+-- where it ends, by the end of all
+pub end_read : (all whole end : Place) (p : Part) → end ≡ part_end all p → all ≡ whole → end ≡ part_end whole p
+end_read all whole end p e same = e ∙ ap (λ (x : Place). part_end x p) same

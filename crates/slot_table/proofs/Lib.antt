@@ -2,6 +2,7 @@ pub mod Lists
 pub mod Fronts
 pub mod Sizes
 pub mod Holding
+pub mod Utf8
 pub mod Taking
 pub mod Adding
 pub mod Rebasing

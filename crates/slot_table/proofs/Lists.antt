@@ -52,13 +52,6 @@ get_set_same [] i x y e = absurd (cc e)
 get_set_same (z ∷ xs) zero x y e = cc e
 get_set_same (z ∷ xs) (suc i) x y e = get_set_same xs i x y e
 
-pub get_set_other : {X : Type 0} (xs : List X) (i k : ℕ) (x : X) → (k ≡ i → ⊥) → slice_get (set xs i x) k ≡ slice_get xs k
-get_set_other [] i k x n = refl
-get_set_other (z ∷ xs) zero zero x n = absurd (n refl)
-get_set_other (z ∷ xs) zero (suc k) x n = refl
-get_set_other (z ∷ xs) (suc i) zero x n = refl
-get_set_other (z ∷ xs) (suc i) (suc k) x n = get_set_other xs i k x (λ e. n (ap suc e))
-
 pub get_map : {X Y : Type 0} (f : X → Y) (xs : List X) (i : ℕ) (y : Y) → slice_get (map f xs) i ≡ Some y → (x : X) × (slice_get xs i ≡ Some x) × (y ≡ f x)
 get_map f [] i y e = absurd (cc e)
 get_map f (x ∷ xs) zero y e = (x, refl, cc e)

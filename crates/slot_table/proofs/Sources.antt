@@ -6,14 +6,14 @@ use Rattle.std.proofs.lemmas.List.{length-set}
 use Rattle.std.proofs.lemmas.Option.{slice_get_within}
 use Rattle.stream_spec.specs.Ready.{Chunk}
 use Rattle.mixer_spec.specs.Rounds.{set_at}
-use Rattle.mixer_spec.proofs.Lists.{set_same, set_other}
+use Rattle.mixer_spec.proofs.Lists.{set_same, set_other, get_set_other}
 use Rattle.mixer_spec.specs.Setups.{Setup}
 use Rattle.mixer_spec.specs.Chunks.{behind}
 use Rattle.mixer_spec.specs.Table.{Seats, Taken, Terminal, Table, is_given, give, given}
 use Rattle.slot_table.specs.Lanes.{Waiting}
 use Rattle.slot_table.specs.Words.{all_listen, listening, take_front, fetched, NoneWaits}
 use Rattle.slot_table.specs.Standing.{Holds, SourceStands, StandsFor}
-use Rattle.slot_table.proofs.Lists.{get_set_same, get_set_other}
+use Rattle.slot_table.proofs.Lists.{get_set_same}
 use Rattle.slot_table.proofs.Holding.{part_same}
 
 pub holds_same : (w : Waiting) (taken us : List Taken) (listens ms : ℕ → Bool) (waits vs : ℕ → List Chunk) → Holds w taken listens waits → us ≡ taken → ((j : ℕ) → ms j ≡ listens j) → ((j : ℕ) → vs j ≡ waits j) → Holds w us ms vs

@@ -21,6 +21,10 @@ pub record IsFront (c : Chunks) (p : Part) (room : ℕ) (place : Place) : Type 0
   pub chunks : place.chunks ≡ p.from.chunks + count_fitting room (chunks_between c p.from.chunks (part_end (end_of c) p).chunks)
   pub octets : place.octets ≡ p.from.octets + sum (chunks_between c p.from.chunks place.chunks)
 
+pub front_read : (c : Chunks) (p : Part) (room : ℕ) (end place : Place) → end ≡ part_end (end_of c) p → place.chunks ≡ p.from.chunks + count_fitting room (chunks_between c p.from.chunks end.chunks)
+    → place.octets ≡ p.from.octets + sum (chunks_between c p.from.chunks place.chunks) → IsFront c p room place
+front_read c p room end place is chunks octets = record { chunks = chunks ∙ ap (λ (e : Place). p.from.chunks + count_fitting room (chunks_between c p.from.chunks e.chunks)) is; octets = octets }
+
 -- the given of each
 pub given_parts : (b : Bool) (j : ℕ) (xs ys : List Taken) → AllGiven b j (xs ++ ys) → AllGiven b j xs × AllGiven b j ys
 given_parts b j [] ys h = (tt, h)

@@ -1,7 +1,7 @@
 -- What holds of each lane.
-use Rattle.std.specs.Prelude.{ℕ, Bool, List}
+use Rattle.std.specs.Prelude.{ℕ, Bool, List, [], ◌∷◌, IsUtf8}
 use Rattle.stream_spec.specs.Ready.{Chunk}
-use Rattle.mixer_spec.specs.Table.{Taken}
+use Rattle.mixer_spec.specs.Table.{Taken, chunks_taken}
 use Rattle.slot_table.specs.declared.lanes.Lane.TheInside.{Inside}
 use Rattle.slot_table.specs.Lanes.{Waiting}
 use Rattle.slot_table.specs.Standing.{Holds}
@@ -9,9 +9,15 @@ use Rattle.slot_table.specs.Standing.{Holds}
 abbrev pub waiting_in : Inside → Waiting
 waiting_in l = record { chunks = l.ring; parts = l.parts.items }
 
--- it holds what some calls leave
+-- each text is UTF-8
+abbrev pub AreUtf8 : List Chunk → Type 0
+AreUtf8 [] = Unit {0}
+AreUtf8 (c ∷ cs) = IsUtf8 c.text × AreUtf8 cs
+
+-- it holds what some calls leave, of texts that are UTF-8
 pub record IsLane (l : Inside) : Type 0 where
   pub taken : List Taken
   pub listens : ℕ → Bool
   pub waits : ℕ → List Chunk
   pub holds : Holds (waiting_in l) taken listens waits
+  pub utf8 : AreUtf8 (chunks_taken taken)

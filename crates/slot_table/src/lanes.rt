@@ -1,5 +1,5 @@
 //! What waits of one source, at every terminal.
-ghost use Rattle.std.specs.Prelude.{◌≡◌, ◌+◌, ◌-◌, ◌<◌, ◌≤◌, ◌==◌, ◌∷◌, ◌++◌, ◌↔◌, [], ℕ, List, Bool, true, not, length, if◌then◌else◌, IsOk, IfOk, OnOk, OnErr};
+ghost use Rattle.std.specs.Prelude.{◌≡◌, ◌+◌, ◌-◌, ◌<◌, ◌≤◌, ◌==◌, ◌∷◌, ◌++◌, ◌↔◌, [], ℕ, List, Bool, true, not, length, if◌then◌else◌, IsOk, IfOk, OnOk, OnErr, IsUtf8};
 ghost use Rattle.stream_spec.specs.Ready.{Chunk};
 ghost use Rattle.mixer_spec.specs.Rounds.{set_at};
 ghost use Rattle.mixer_spec.specs.Setups.{Setup};
@@ -85,6 +85,7 @@ impl Lane {
         ensures terminals { length self.new.parts ≡ length self.old.parts }
         ensures text { LaneTells self.old (λ taken listens waits. text.new ≡ text.old ++ joined (front room (waits terminal))) }
         ensures fits { length text.new ≤ length text.old + room }
+        ensures utf8 { IsUtf8 text.old → IsUtf8 text.new }
         ensures holds { LaneTells self.old (λ taken listens waits.
             Holds self.new taken listens (set_at waits terminal (behind room (waits terminal)))) }
     {
@@ -98,7 +99,8 @@ impl Lane {
 
     /// Appends a chunk. `Full`: the span with it has more than 16384 octets or 512 chunks; then all is as before.
     pub fn offer(&mut self, text: &[u8]) -> Result<(), Full>
-        requires { length text.now ≤ MOST_TEXT_OCTETS }
+        requires short { length text.now ≤ MOST_TEXT_OCTETS }
+        requires utf8 { IsUtf8 text.now }
         ensures terminals { length self.new.parts ≡ length self.old.parts }
         ensures room { TellsRoom text.now self.old (IsOk result) }
         ensures ok { OnOk result (Adds text.now self.old self.new) }
@@ -114,7 +116,8 @@ impl Lane {
     /// `offer`, where chunks must be given up first.
     #[inline(never)]
     fn offer_where_full(&mut self, text: &[u8]) -> Result<(), Full>
-        requires { length text.now ≤ MOST_TEXT_OCTETS }
+        requires short { length text.now ≤ MOST_TEXT_OCTETS }
+        requires utf8 { IsUtf8 text.now }
         ensures terminals { length self.new.parts ≡ length self.old.parts }
         ensures room { TellsRoom text.now self.old (IsOk result) }
         ensures ok { OnOk result (Adds text.now self.old self.new) }

@@ -1,5 +1,5 @@
 //! What waits in a mixer, of each source at each terminal.
-ghost use Rattle.std.specs.Prelude.{◌≡◌, ◌+◌, ◌<◌, ◌≤◌, ◌++◌, ◌↔◌, ◌==◌, ◌&&◌, not, true, length, IsOk, IfOk, OnOk, OnErr};
+ghost use Rattle.std.specs.Prelude.{◌≡◌, ◌+◌, ◌<◌, ◌≤◌, ◌++◌, ◌↔◌, ◌==◌, ◌&&◌, not, true, length, IsOk, IfOk, OnOk, OnErr, IsUtf8};
 ghost use Rattle.stream_spec.specs.Ready.{chunk_of};
 ghost use Rattle.mixer_spec.specs.Setups.{Setup};
 ghost use Rattle.mixer_spec.specs.Chunks.{joined, octets, front, has_chunk};
@@ -71,7 +71,8 @@ impl Slots {
     /// Lets a chunk of its source wait for each other terminal that listens. `Full`: the source's span with the chunk has
     /// more than 16384 octets or 512 chunks; then all is as before.
     pub fn offer(&mut self, chunk: &Chunk) -> Result<(), Full>
-        requires { chunk.now.source < length self.old }
+        requires source { chunk.now.source < length self.old }
+        requires utf8 { IsUtf8 chunk.now.text }
         ensures legs { length self.new ≡ length self.old }
         ensures room { Tells self.old (λ s table.
             IsOk result ↔ (is_fit (span_with s chunk.now.source (chunk_of chunk.now) table) ≡ true)) }
@@ -109,6 +110,7 @@ impl Slots {
         ensures text { Tells self.old (λ s table.
             text.new ≡ text.old ++ joined (front room ((table.terminals terminal).waits source))) }
         ensures fits { length text.new ≤ length text.old + room }
+        ensures utf8 { IsUtf8 text.old → IsUtf8 text.new }
         ensures stands { Leads self.old self.new (fetched terminal source room) }
     {
         let lane = &mut self.lanes[source];

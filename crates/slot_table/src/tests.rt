@@ -5,7 +5,7 @@ mod plain;
 
 use crate::Slots;
 use plain::{LEGS, Plain};
-use rtt_base::{Chunk, Text};
+use rtt_base::{Chunk, Full, Text};
 use std::alloc::Global;
 use std::process::Abort;
 use std::test::Fail;
@@ -15,7 +15,7 @@ fn fill(text: &mut Text, octets: usize, first: u8) {
     text.clear();
     for index in 0..octets {
         if text.len() < Text::CAPACITY {
-            text.push(first ^ (index % 256) as u8);
+            text.push((first ^ (index % 128) as u8) % 128);
         }
     }
 }
@@ -33,6 +33,17 @@ fn chunk_of_length(source: u8, octets: usize) -> Chunk
     }
 }
 
+/// Offers a chunk. One whose text is no UTF-8 counts as refused.
+fn offer(slots: &mut Slots, chunk: &Chunk) -> Result<(), Full>
+    requires { chunk.now.source < length slots.old }
+    ensures { length slots.new ≡ length slots.old }
+{
+    let Ok(_) = str::from_utf8(chunk.text.as_slice()) else {
+        return Err(Full);
+    };
+    slots.offer(chunk)
+}
+
 /// How many of so many offers of the chunk are taken.
 fn count_taken(slots: &mut Slots, chunk: &Chunk, offers: u32) -> u32
     requires { chunk.now.source < length slots.old }
@@ -40,7 +51,7 @@ fn count_taken(slots: &mut Slots, chunk: &Chunk, offers: u32) -> u32
 {
     let mut count = 0;
     for _ in 0..offers {
-        if slots.offer(chunk).is_ok() {
+        if offer(slots, chunk).is_ok() {
             count += 1;
         }
     }
@@ -52,9 +63,9 @@ fn sixteen_chunks_of_a_thousand_octets_wait_and_no_more(rt: HostRuntime) -> Resu
     let mut slots = Slots::new(rt.alloc(), 2)?;
     assert_eq!(rt; count_taken(&mut slots, &chunk_of_length(0, 1000), 17), 16);
     assert_eq!(rt; slots.waiting(1, 0), 16000);
-    assert!(rt; slots.offer(&chunk_of_length(0, 384)).is_ok());
-    assert!(rt; slots.offer(&chunk_of_length(0, 1)).is_err());
-    assert!(rt; slots.offer(&chunk_of_length(1, 1)).is_ok());
+    assert!(rt; offer(&mut slots, &chunk_of_length(0, 384)).is_ok());
+    assert!(rt; offer(&mut slots, &chunk_of_length(0, 1)).is_err());
+    assert!(rt; offer(&mut slots, &chunk_of_length(1, 1)).is_ok());
     Ok(())
 }
 
@@ -76,11 +87,11 @@ fn whole_chunks_are_taken_by_each_terminal_for_itself(rt: HostRuntime) -> Result
     slots.listen(2, false);
     let mut chunk = chunk_of_length(0, 0);
     chunk.text.append("Hello, ".as_bytes())?;
-    slots.offer(&chunk)?;
+    offer(&mut slots, &chunk)?;
     slots.listen(2, true);
     chunk.text.clear();
     chunk.text.append("world".as_bytes())?;
-    slots.offer(&chunk)?;
+    offer(&mut slots, &chunk)?;
     assert_eq!(rt; slots.waiting(1, 0), 12);
     assert!(rt; !slots.has_waiting(0, 0));
 
@@ -93,7 +104,7 @@ fn whole_chunks_are_taken_by_each_terminal_for_itself(rt: HostRuntime) -> Result
 
     text.clear();
     slots.listen(2, false);
-    slots.offer(&chunk)?;
+    offer(&mut slots, &chunk)?;
     assert_eq!(rt; slots.waiting(1, 0), 5);
     slots.take(2, 0, 1023, &mut text);
     assert!(rt; text.as_slice() == "world".as_bytes());
@@ -155,7 +166,7 @@ impl Both {
         fill(&mut self.chunk.text, octets, source);
         self.chunk.source = source;
         let is_taken = self.plain.offer(&self.chunk)?;
-        assert_eq!(rt; self.slots.offer(&self.chunk).is_ok(), is_taken);
+        assert_eq!(rt; offer(&mut self.slots, &self.chunk).is_ok(), is_taken);
         Ok(is_taken)
     }
 

@@ -1,5 +1,5 @@
 -- What was taken is written.
-use Rattle.std.proofs.Common.{◌≡◌, ℕ, Bool, true, false, inl, inr, List, [], ◌∷◌, ◌++◌, length, refl, sym, ap, subst, ◌∙◌, arith, IsUtf8}
+use Rattle.std.proofs.Common.{◌≡◌, ℕ, Bool, true, false, inl, inr, List, [], ◌∷◌, ◌++◌, length, refl, sym, ap, subst, ◌∙◌, arith}
 use Rattle.std.specs.Prelude.{◌==◌, ◌||◌, not}
 use Rattle.std.specs.Str.{chars}
 use Rattle.std.proofs.lemmas.Bool.{true≢false, ne_eqb}
@@ -11,7 +11,6 @@ use Rattle.t140_text.proofs.Endings.{cr_of}
 use Rattle.mixer_spec.specs.Chunks.{joined, has_chunk}
 use Rattle.mixer_spec.specs.Laws.{AreTexts}
 use Rattle.mixer_spec.specs.Composed.{own_part}
-use Rattle.mixer_spec.proofs.Texts.{joined_utf8}
 use Rattle.unaware_view.specs.declared.runs.Run.{Run}
 use Rattle.unaware_view.specs.Runs.{GoesAlone, GoesOn, Heads, IsBegun, IsRun, Sends, sent_of}
 
@@ -49,9 +48,6 @@ written_step name r q next alone behind_cr before octets after text chunks b any
       };
       has_chunk = chunk ∙ (k ∙ ap (λ (y : Bool). r.has_chunk || y) (n ∙ (ap (λ (l : List ℕ). not (length l == 0)) e ∙ some_text chunks a)));
     }
-
-pub is_text : (octets : List ℕ) (chunks : List Chunk) → AreTexts chunks → octets ≡ joined chunks → IsUtf8 octets
-is_text octets chunks a e = subst IsUtf8 (sym e) (joined_utf8 chunks a)
 
 -- Nothing was taken exactly where there is no chunk.
 pub no_chunks : (octets : List ℕ) (chunks : List Chunk) → AreTexts chunks → octets ≡ joined chunks → (length octets == 0) ≡ not (has_chunk chunks)

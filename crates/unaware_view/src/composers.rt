@@ -1,5 +1,5 @@
 //! The composer of one terminal.
-ghost use Rattle.std.specs.Prelude.{◌≡◌, ℕ, ◌+◌, ◌-◌, ◌*◌, ◌<◌, ◌≤◌, ◌==◌, ◌&&◌, ◌||◌, ◌^◌, Bool, false, true, List, [], length, IfOk, IfSome, Some, None, is_some};
+ghost use Rattle.std.specs.Prelude.{◌≡◌, ℕ, ◌+◌, ◌-◌, ◌*◌, ◌<◌, ◌≤◌, ◌==◌, ◌&&◌, ◌||◌, ◌^◌, Bool, false, true, List, [], length, IfOk, IfSome, Some, None, is_some, IsUtf8};
 ghost use Rattle.stream_spec.specs.Ready.{Chunk};
 ghost use Rattle.mixer_spec.specs.Chunks.{front, joined};
 ghost use Rattle.mixer_spec.specs.Laws.{AreTexts};
@@ -212,8 +212,9 @@ fn or(a: bool, b: bool) -> bool
     a || b
 }
 
-/// Appends to `text` what was taken for the run, as it is sent. What was taken is UTF-8, since each chunk is.
+/// Appends to `text` what was taken for the run, as it is sent.
 fn write(octets: &[u8], name: &str, run: &mut Run, text: &mut Text)
+    requires utf8 { IsUtf8 octets.now }
     requires fits { length text.old + label_room run.old.labelled name.now + length octets.now ≤ MOST_TEXT_OCTETS }
     requires few { run.old.erasable + MOST_TEXT_OCTETS < 2 ^ 64 }
     ensures few { run.new.erasable ≤ run.old.erasable + MOST_TEXT_OCTETS }
@@ -222,7 +223,7 @@ fn write(octets: &[u8], name: &str, run: &mut Run, text: &mut Text)
         → GoesOn name.now run.old run.new alone behind_cr before chunks text.old text.new }
 {
     let Ok(taken) = str::from_utf8(octets) else {
-        return;
+        unreachable!()
     };
     let has_chunk = or(run.has_chunk, !taken.is_empty());
     run.write(name, taken, text);
@@ -257,6 +258,7 @@ fn go_on(
 
 /// Gives what was taken for the run, whose label is to come, or the label alone where nothing was.
 fn head(octets: &[u8], name: &str, run: &mut Run, text: &mut Text)
+    requires utf8 { IsUtf8 octets.now }
     requires fits { label_room false name.now + length octets.now ≤ MOST_TEXT_OCTETS }
     requires few { run.old.erasable + MOST_TEXT_OCTETS < 2 ^ 64 }
     requires text { text.old ≡ [] }

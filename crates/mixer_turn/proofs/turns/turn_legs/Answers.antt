@@ -11,44 +11,46 @@ there xs i d l e = get_read xs i d l e ∙ ap Some e
 pub turn_leg-requires-clause-slots : goal.turn_leg-requires-clause-slots
 turn_leg-requires-clause-slots c =
     let o : Outlet = slice_index_or c.loop-leg.outlets c.loop-leg.leg c.index-outlets-leg.result in
-    let g = there c.loop-leg.outlets c.loop-leg.leg c.index-outlets-leg.result (omega (arith, c.loop-leg-test.true, c.loop-leg.invariant.legs)) c.index-outlets-leg.is in
+    let g = there c.loop-leg.outlets c.loop-leg.leg c.index-outlets-leg.result (omega (arith, c.loop-leg-test.true, c.loop-leg.invariant.0.legs)) c.index-outlets-leg.is in
     let k = next_of c.args.media c.loop-leg.leg c.args.outlets.now c.args.seating.now c.args.slots.now c.args.names.now c.loop-leg.outlets c.loop-leg.slots c.loop-leg.batch
-    (slice_index_or c.loop-leg.outlets c.loop-leg.leg c.index-outlets-leg.result) c.requires.outlets c.loop-leg.invariant g in
-    c.loop-leg.invariant.slots ∙ sym k.all
+    (slice_index_or c.loop-leg.outlets c.loop-leg.leg c.index-outlets-leg.result) c.requires.outlets c.loop-leg.invariant.0 g in
+    c.loop-leg.invariant.0.slots ∙ sym k.all
 
 pub turn_leg-requires-clause-names : goal.turn_leg-requires-clause-names
 turn_leg-requires-clause-names c =
-    let g = there c.loop-leg.outlets c.loop-leg.leg c.index-outlets-leg.result (omega (arith, c.loop-leg-test.true, c.loop-leg.invariant.legs)) c.index-outlets-leg.is in
+    let g = there c.loop-leg.outlets c.loop-leg.leg c.index-outlets-leg.result (omega (arith, c.loop-leg-test.true, c.loop-leg.invariant.0.legs)) c.index-outlets-leg.is in
     let k = next_of c.args.media c.loop-leg.leg c.args.outlets.now c.args.seating.now c.args.slots.now c.args.names.now c.loop-leg.outlets c.loop-leg.slots c.loop-leg.batch
-    (slice_index_or c.loop-leg.outlets c.loop-leg.leg c.index-outlets-leg.result) c.requires.outlets c.loop-leg.invariant g in
+    (slice_index_or c.loop-leg.outlets c.loop-leg.leg c.index-outlets-leg.result) c.requires.outlets c.loop-leg.invariant.0 g in
     c.requires.names ∙ sym k.all
 
 pub turn_leg-requires-clause-seating : goal.turn_leg-requires-clause-seating
 turn_leg-requires-clause-seating c =
-    let g = there c.loop-leg.outlets c.loop-leg.leg c.index-outlets-leg.result (omega (arith, c.loop-leg-test.true, c.loop-leg.invariant.legs)) c.index-outlets-leg.is in
+    let g = there c.loop-leg.outlets c.loop-leg.leg c.index-outlets-leg.result (omega (arith, c.loop-leg-test.true, c.loop-leg.invariant.0.legs)) c.index-outlets-leg.is in
     let k = next_of c.args.media c.loop-leg.leg c.args.outlets.now c.args.seating.now c.args.slots.now c.args.names.now c.loop-leg.outlets c.loop-leg.slots c.loop-leg.batch
-    (slice_index_or c.loop-leg.outlets c.loop-leg.leg c.index-outlets-leg.result) c.requires.outlets c.loop-leg.invariant g in
+    (slice_index_or c.loop-leg.outlets c.loop-leg.leg c.index-outlets-leg.result) c.requires.outlets c.loop-leg.invariant.0 g in
     c.requires.seating ∙ sym k.all
 
 pub turn_leg-requires-clause-rises : goal.turn_leg-requires-clause-rises
 turn_leg-requires-clause-rises c =
-    let g = there c.loop-leg.outlets c.loop-leg.leg c.index-outlets-leg.result (omega (arith, c.loop-leg-test.true, c.loop-leg.invariant.legs)) c.index-outlets-leg.is in
+    let g = there c.loop-leg.outlets c.loop-leg.leg c.index-outlets-leg.result (omega (arith, c.loop-leg-test.true, c.loop-leg.invariant.0.legs)) c.index-outlets-leg.is in
     (next_of c.args.media c.loop-leg.leg c.args.outlets.now c.args.seating.now c.args.slots.now c.args.names.now c.loop-leg.outlets c.loop-leg.slots c.loop-leg.batch
-    (slice_index_or c.loop-leg.outlets c.loop-leg.leg c.index-outlets-leg.result) c.requires.outlets c.loop-leg.invariant g).next
+    (slice_index_or c.loop-leg.outlets c.loop-leg.leg c.index-outlets-leg.result) c.requires.outlets c.loop-leg.invariant.0 g).next
 
 pub loop-leg-preserved : goal.loop-leg-preserved
 loop-leg-preserved c =
-    let g = there c.loop-leg.outlets c.loop-leg.leg c.index-outlets-leg.result (omega (arith, c.loop-leg-test.true, c.loop-leg.invariant.legs)) c.index-outlets-leg.is in
-    let one : suc c.loop-leg.leg ≡ c.loop-leg.leg + 1 = omega arith in
-    subst (λ (n : ℕ). Turning c.args.media n c.args.outlets.now c.args.seating.now c.args.slots.now c.args.names.now (Rattle.std.specs.Prelude.slice_set c.loop-leg.outlets c.loop-leg.leg c.turn_leg.new.outlet) c.turn_leg.new.slots c.turn_leg.new.self) one
-    (one_more c.args.media c.loop-leg.leg c.args.outlets.now c.args.seating.now c.args.slots.now c.args.names.now c.loop-leg.outlets c.loop-leg.slots c.turn_leg.new.slots c.loop-leg.batch c.turn_leg.new.self
-    (slice_index_or c.loop-leg.outlets c.loop-leg.leg c.index-outlets-leg.result) c.turn_leg.new.outlet c.requires.outlets c.loop-leg.invariant g c.turn_leg.ensures.same c.turn_leg.ensures.next c.turn_leg.ensures.slots c.turn_leg.ensures.turned c.turn_leg.ensures.posts)
+    let g = there c.loop-leg.outlets c.loop-leg.leg c.index-outlets-leg.result (omega (arith, c.loop-leg-test.true, c.loop-leg.invariant.0.legs)) c.index-outlets-leg.is in
+    let one : suc c.loop-leg.leg ≡ c.loop-leg.leg + 1 = omega arith in (
+      subst (λ (n : ℕ). Turning c.args.media n c.args.outlets.now c.args.seating.now c.args.slots.now c.args.names.now (Rattle.std.specs.Prelude.slice_set c.loop-leg.outlets c.loop-leg.leg c.turn_leg.new.outlet) c.turn_leg.new.slots c.turn_leg.new.self) one
+          (one_more c.args.media c.loop-leg.leg c.args.outlets.now c.args.seating.now c.args.slots.now c.args.names.now c.loop-leg.outlets c.loop-leg.slots c.turn_leg.new.slots c.loop-leg.batch c.turn_leg.new.self
+          (slice_index_or c.loop-leg.outlets c.loop-leg.leg c.index-outlets-leg.result) c.turn_leg.new.outlet c.requires.outlets c.loop-leg.invariant.0 g c.turn_leg.ensures.same c.turn_leg.ensures.next c.turn_leg.ensures.slots c.turn_leg.ensures.turned c.turn_leg.ensures.posts),
+      c.turn_leg.ensures.few,
+    )
 
 pub returns-clause-turned : goal.returns-clause-turned
 returns-clause-turned c =
-    whole_turn c.args.media c.loop-leg.leg c.args.outlets.now c.args.seating.now c.args.slots.now c.args.names.now c.loop-leg.outlets c.loop-leg.slots c.loop-leg.batch c.loop-leg.invariant
+    whole_turn c.args.media c.loop-leg.leg c.args.outlets.now c.args.seating.now c.args.slots.now c.args.names.now c.loop-leg.outlets c.loop-leg.slots c.loop-leg.batch c.loop-leg.invariant.0
     (omega (arith, c.loop-leg-test.false, c.loop-leg.auto.leg-end))
 
 pub returns-clause-outlets : goal.returns-clause-outlets
 returns-clause-outlets c =
-    all_had c.args.media c.loop-leg.leg c.args.outlets.now c.args.seating.now c.args.slots.now c.args.names.now c.loop-leg.outlets c.loop-leg.slots c.loop-leg.batch c.loop-leg.invariant c.loop-leg-test.false
+    all_had c.args.media c.loop-leg.leg c.args.outlets.now c.args.seating.now c.args.slots.now c.args.names.now c.loop-leg.outlets c.loop-leg.slots c.loop-leg.batch c.loop-leg.invariant.0 c.loop-leg-test.false

@@ -1,9 +1,6 @@
 use Rattle.unaware_view.proofs.composers.write.Goals as goal
 use Rattle.std.proofs.Common.{◌≡◌, refl, ap, subst, sym, ◌∙◌, not, IsUtf8}
-use Rattle.unaware_view.proofs.Written.{is_text, written_step}
-
-pub returns-in_default-clause-goes_on : goal.returns-in_default-clause-goes_on
-returns-in_default-clause-goes_on c alone behind_cr before chunks h a e = absurd (c.in_default.ensures.cases.0 (is_text c.args.octets.now chunks a e))
+use Rattle.unaware_view.proofs.Written.{written_step}
 
 pub returns-clause-goes_on : goal.returns-clause-goes_on
 returns-clause-goes_on c alone behind_cr before chunks h a e =

@@ -1,4 +1,4 @@
-use Rattle.std.proofs.Common.{ap, sym, subst, ◌∙◌}
+use Rattle.std.proofs.Common.{◌∷◌, [], length, length-append, ap, sym, subst, ◌∙◌, arith}
 use Rattle.mixer_turn.specs.Posts.{ArePosts}
 use Rattle.mixer_turn.proofs.Putting.{filled_more, filled_same, posts_more}
 use Rattle.mixer_turn.specs.Turns.{batch_with}
@@ -30,3 +30,13 @@ returns-then-put-clause-posts c = λ legs low h.
 pub returns-else-put-clause-posts : goal.returns-else-put-clause-posts
 returns-else-put-clause-posts c = λ legs low h.
     subst (ArePosts legs) (sym (filled_same c.self.inside.places.items c.self.inside.len c.turn_into-put.new.post c.args.self.now (sym c.self.view_is))) h
+
+pub returns-then-put-clause-few : goal.returns-then-put-clause-few
+returns-then-put-clause-few c =
+    let is = filled_more c.self.inside.places.items c.self.inside.len c.args.leg c.turn_into-put.new.post c.args.self.now (sym c.self.view_is) c.self.invariant.places c.self.invariant.filled c.requires.room c.turn_into-put.ensures.terminal in
+    omega (arith, ap length is, length-append c.args.self.now (record { terminal = c.args.leg; packet = c.turn_into-put.new.post.packet } ∷ []))
+
+pub returns-else-put-clause-few : goal.returns-else-put-clause-few
+returns-else-put-clause-few c =
+    let is = filled_same c.self.inside.places.items c.self.inside.len c.turn_into-put.new.post c.args.self.now (sym c.self.view_is) in
+    omega (arith, ap length is)

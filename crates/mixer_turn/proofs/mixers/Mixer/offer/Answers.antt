@@ -12,7 +12,7 @@ returns-then-not-is_seated-clause-room c = λ s pts calls h.
     let chunk = chunk_of c.args.chunk.now in
     let table = after_calls s calls in
     let k = subst (λ (m : State). StandsFor s pts m calls) (sym c.self.view_is) h in
-    let none : has_room s chunk.source chunk table ≡ false = no_room (is_seated table.seats chunk.source) (is_fit (span_with s chunk.source chunk table)) (sym (c.if-not-is_seated.ensures s table k.keeps.seats)) in
+    let none : has_room s chunk.source chunk table ≡ false = no_room (is_seated table.seats chunk.source) (is_fit (span_with s chunk.source chunk table)) (sym (c.if-not-is_seated.ensures.table s table k.keeps.seats)) in
     (λ e. cc e, λ e. sym none ∙ e)
 
 pub returns-then-not-is_seated-clause-stands : goal.returns-then-not-is_seated-clause-stands
@@ -20,19 +20,19 @@ returns-then-not-is_seated-clause-stands c = λ s pts calls h a.
     let chunk = chunk_of c.args.chunk.now in
     let table = after_calls s calls in
     let k = subst (λ (m : State). StandsFor s pts m calls) (sym c.self.view_is) h in
-    stands_refused s pts c.args.self.now calls chunk h a (no_room (is_seated table.seats chunk.source) (is_fit (span_with s chunk.source chunk table)) (sym (c.if-not-is_seated.ensures s table k.keeps.seats)))
+    stands_refused s pts c.args.self.now calls chunk h a (no_room (is_seated table.seats chunk.source) (is_fit (span_with s chunk.source chunk table)) (sym (c.if-not-is_seated.ensures.table s table k.keeps.seats)))
 
 pub returns-clause-room : goal.returns-clause-room
 returns-clause-room c = λ s pts calls h.
     let chunk = chunk_of c.args.chunk.now in
     let table = after_calls s calls in
     let k = subst (λ (m : State). StandsFor s pts m calls) (sym c.self.view_is) h in
-    has_room_where (is_seated table.seats chunk.source) (is_fit (span_with s chunk.source chunk table)) (true ≡ true) (sym (c.if-not-is_seated.ensures s table k.keeps.seats)) (c.in-Ok.ensures.room s table k.keeps.waits)
+    has_room_where (is_seated table.seats chunk.source) (is_fit (span_with s chunk.source chunk table)) (true ≡ true) (sym (c.if-not-is_seated.ensures.table s table k.keeps.seats)) (c.in-Ok.ensures.room s table k.keeps.waits)
 
 pub returns-clause-stands : goal.returns-clause-stands
 returns-clause-stands c = λ s pts calls h a.
     let chunk = chunk_of c.args.chunk.now in
     let table = after_calls s calls in
     let k = subst (λ (m : State). StandsFor s pts m calls) (sym c.self.view_is) h in
-    let room = has_room_where (is_seated table.seats chunk.source) (is_fit (span_with s chunk.source chunk table)) (true ≡ true) (sym (c.if-not-is_seated.ensures s table k.keeps.seats)) (c.in-Ok.ensures.room s table k.keeps.waits) in
+    let room = has_room_where (is_seated table.seats chunk.source) (is_fit (span_with s chunk.source chunk table)) (true ≡ true) (sym (c.if-not-is_seated.ensures.table s table k.keeps.seats)) (c.in-Ok.ensures.room s table k.keeps.waits) in
     stands_taken s pts (state_of c.self.inside) calls chunk c.offer.new.self c.wake.new.outlets.items k a (room.0 refl) (c.in-Ok.ensures.ok s table k.keeps.waits) c.wake.ensures

@@ -5,6 +5,7 @@ use Rattle.seating.specs.States.{State}
 use Rattle.seating.specs.Insides.{state_of}
 use Rattle.seating.specs.Standing.{StandsFor}
 use Rattle.seating.proofs.Keeping.{places_set, legs_set, first_within, stands_admitted}
+use Rattle.seating.proofs.Few.{holds_come, vacant_at}
 use Rattle.seating.proofs.seats.Seating.admit.Goals as goal
 
 pub invariant_of-self : goal.invariant_of-self
@@ -16,6 +17,7 @@ invariant_of-self c =
     record {
       sixteen = length-set i.holders c.in-Some.place (Some c.args.leg) ∙ c.self.invariant.sixteen;
       places = places_set i.seats.items c.args.leg y c.self.invariant.places (λ p e. let q : c.in-Some.place ≡ p = cc e in omega (arith, c.self.invariant.sixteen));
+      held = holds_come i.seats.items i.holders c.args.leg c.in-Some.place y c.self.invariant.held (vacant_at i.holders c.in-Some.place c.in-Some.ensures) (λ j. Some c.in-Some.place);
       legs = legs_set i.holders c.in-Some.place (length i.seats.items) (length (set i.seats.items c.args.leg y)) (Some c.args.leg) (length-set i.seats.items c.args.leg y) c.self.invariant.legs
           (λ k e. let q : c.args.leg ≡ k = cc e in omega arith);
     }

@@ -7,15 +7,20 @@ use Rattle.seating.specs.States.{State}
 use Rattle.seating.specs.Insides.{state_of}
 use Rattle.seating.specs.Standing.{StandsFor}
 use Rattle.seating.proofs.Keeping.{places_set, legs_set, stands_freed, stands_placeless}
+use Rattle.seating.proofs.Few.{holds_left}
 use Rattle.seating.proofs.seats.Seating.free.Goals as goal
 
 pub invariant_of-self : goal.invariant_of-self
 invariant_of-self c =
     let i = c.self.inside in
     let y : Seat = record { place = None; came = c.index_mut.result.now.came; listens = c.index_mut.result.now.listens } in
+    let w = c.index.result.now in
+    let l : c.args.leg < length i.seats.items = omega (arith, c.requires, ap (λ (m : State). length m.legs) c.self.view_is) in
+    let f : slice_get i.seats.items c.args.leg ≡ Some w = slice_get_read i.seats.items (length i.seats.items) c.args.leg w refl l c.index.ensures in
     record {
       sixteen = length-set i.holders c.in-Some.place None ∙ c.self.invariant.sixteen;
       places = places_set i.seats.items c.args.leg y c.self.invariant.places (λ p e. cc e);
+      held = holds_left i.seats.items i.holders c.args.leg c.in-Some.place w y c.self.invariant.held f c.in-Some.is refl;
       legs = legs_set i.holders c.in-Some.place (length i.seats.items) (length (set i.seats.items c.args.leg y)) None (length-set i.seats.items c.args.leg y) c.self.invariant.legs (λ k e. cc e);
     }
 

@@ -6,6 +6,7 @@ use Rattle.seating.specs.States.{State}
 use Rattle.seating.specs.Insides.{state_of}
 use Rattle.seating.specs.Standing.{StandsFor}
 use Rattle.seating.proofs.Keeping.{places_set, stands_hushed}
+use Rattle.seating.proofs.Few.{holds_kept}
 use Rattle.seating.proofs.seats.Seating.hush.Goals as goal
 
 pub invariant_of-self : goal.invariant_of-self
@@ -18,6 +19,7 @@ invariant_of-self c =
     record {
       sixteen = c.self.invariant.sixteen;
       places = places_set xs c.args.leg y c.self.invariant.places (λ p e. c.self.invariant.places c.args.leg x p g e);
+      held = holds_kept xs c.self.inside.holders c.args.leg x y c.self.invariant.held g refl;
       legs = λ p k e. omega (arith, c.self.invariant.legs p k e, length-set xs c.args.leg y);
     }
 

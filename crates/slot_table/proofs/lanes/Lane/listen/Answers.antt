@@ -25,6 +25,7 @@ invariant_of-self c =
       waits = if c.args.on then set_at old.waits c.args.terminal [] else old.waits;
       holds = subst (λ (x : Part). Holds (record { chunks = w.chunks; parts = set w.parts c.args.terminal x }) old.taken (set_at old.listens c.args.terminal c.args.on) (if c.args.on then set_at old.waits c.args.terminal [] else old.waits)) (sym heard)
           (listened w old.taken old.listens old.waits old.holds c.args.terminal p g c.args.on);
+      utf8 = old.utf8;
     }
 
 pub returns-clause-holds : goal.returns-clause-holds

@@ -10,6 +10,7 @@ invariant_of-result c = record {
   listens = is_given all_listen.seats c.args.own;
   waits = λ j. [];
   holds = new_holds c.args.own c.in_ok-ring.ring c.in_ok-parts.parts.items c.in_ok-ring.ensures c.in_ok-parts.ensures.parts;
+  utf8 = tt;
 }
 
 pub returns-clause-holds : goal.returns-clause-holds

@@ -8,6 +8,7 @@ use Rattle.slot_table.specs.LaneInsides.{waiting_in}
 use Rattle.slot_table.specs.Standing.{Holds, SourceStands}
 use Rattle.slot_table.proofs.Adding.{added}
 use Rattle.slot_table.proofs.Spanning.{room_enough}
+use Rattle.slot_table.proofs.Utf8.{more_utf8}
 use Rattle.slot_table.proofs.lanes.Lane.offer.Goals as goal
 use Rattle.mixer_spec.specs.declared.limits.TheConstants.{MOST_SPAN_CHUNKS, MOST_SPAN_OCTETS}
 
@@ -22,6 +23,7 @@ invariant_of-self c =
       waits = λ j. if old.listens j then old.waits j ++ new ∷ [] else old.waits j;
       holds = subst (λ (x : Chunks). Holds (record { chunks = x; parts = w.parts }) (old.taken ++ record { chunk = new; given = old.listens } ∷ []) old.listens (λ j. if old.listens j then old.waits j ++ new ∷ [] else old.waits j)) (sym c.push.ensures)
           (added w old.taken old.listens old.waits old.holds new c.args.text.now refl);
+      utf8 = more_utf8 old.taken (record { chunk = new; given = old.listens }) old.utf8 c.requires.utf8;
     }
 
 pub returns-then-has_room-clause-room : goal.returns-then-has_room-clause-room

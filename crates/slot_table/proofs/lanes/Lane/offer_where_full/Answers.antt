@@ -11,6 +11,7 @@ use Rattle.slot_table.specs.LaneInsides.{waiting_in}
 use Rattle.slot_table.specs.Standing.{Holds, SourceStands}
 use Rattle.slot_table.proofs.Rebasing.{oldest_place, added_where_full}
 use Rattle.slot_table.proofs.Spanning.{room_is}
+use Rattle.slot_table.proofs.Utf8.{more_utf8}
 use Rattle.slot_table.proofs.lanes.Lane.offer_where_full.Goals as goal
 
 pub give_up-requires : goal.give_up-requires
@@ -46,6 +47,7 @@ invariant_of-self c =
       listens = old.listens;
       waits = λ j. if old.listens j then old.waits j ++ new ∷ [] else old.waits j;
       holds = added_where_full w old.taken old.listens old.waits old.holds front o new c.args.text.now refl _ _ ring parts;
+      utf8 = more_utf8 old.taken (record { chunk = new; given = old.listens }) old.utf8 c.requires.utf8;
     }
 
 pub returns-clause-room : goal.returns-clause-room

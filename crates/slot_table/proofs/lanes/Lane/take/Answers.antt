@@ -1,5 +1,6 @@
 use Rattle.std.proofs.Common.{◌≡◌, ℕ, ◌+◌, ◌<◌, Some, List, ◌++◌, length, ap, subst, sym, ◌∙◌, arith}
-use Rattle.std.specs.Prelude.{slice_get}
+use Rattle.std.specs.Prelude.{slice_get, IsUtf8}
+use Rattle.std.proofs.lemmas.Str.{IsUtf8-append}
 use Rattle.mixer_spec.specs.Rounds.{set_at}
 use Rattle.mixer_spec.specs.Chunks.{behind}
 use Rattle.slot_table.specs.declared.rings.Place.{Place}
@@ -8,8 +9,9 @@ use Rattle.slot_table.specs.Lanes.{Waiting, part_end}
 use Rattle.slot_table.specs.LaneInsides.{waiting_in}
 use Rattle.slot_table.specs.Standing.{Holds}
 use Rattle.slot_table.proofs.Lists.{get_read}
-use Rattle.slot_table.proofs.Holding.{bounds}
-use Rattle.slot_table.proofs.Taking.{IsFront, took_front, text_front, front_within}
+use Rattle.slot_table.proofs.Holding.{bounds, part_at, end_read}
+use Rattle.slot_table.proofs.Utf8.{fetched_utf8}
+use Rattle.slot_table.proofs.Taking.{IsFront, took_front, text_front, front_within, front_read}
 use Rattle.slot_table.proofs.lanes.Lane.take.Goals as goal
 
 pub place_behind-place-requires-clause-from : goal.place_behind-place-requires-clause-from
@@ -17,8 +19,7 @@ place_behind-place-requires-clause-from c =
     let w = waiting_in c.self.inside in
     let p = c.index-part.result.now in
     let old = c.self.invariant in
-    let l : c.args.terminal < length w.parts = omega (arith, c.requires.terminal, ap (λ (x : Waiting). length x.parts) c.self.view_is) in
-    let g : slice_get w.parts c.args.terminal ≡ Some p = get_read w.parts c.args.terminal p l c.index-part.ensures in
+    let g = part_at w _ c.args.terminal p c.self.view_is c.requires.terminal c.index-part.ensures in
     let b = bounds w old.taken old.listens old.waits old.holds c.args.terminal p g in
     omega (arith, b.octets_in_order, b.within, c.end-all.ensures.within, ap (λ (e : Place). e.octets) c.end-all.ensures.place, c.requires.fits)
 
@@ -27,9 +28,8 @@ place_behind-place-requires-clause-end c =
     let w = waiting_in c.self.inside in
     let p = c.index-part.result.now in
     let old = c.self.invariant in
-    let l : c.args.terminal < length w.parts = omega (arith, c.requires.terminal, ap (λ (x : Waiting). length x.parts) c.self.view_is) in
-    let g : slice_get w.parts c.args.terminal ≡ Some p = get_read w.parts c.args.terminal p l c.index-part.ensures in
-    let end : c.end-end.result ≡ part_end (end_of w.chunks) p = c.end-end.ensures ∙ ap (λ (e : Place). part_end e p) c.end-all.ensures.place in
+    let g = part_at w _ c.args.terminal p c.self.view_is c.requires.terminal c.index-part.ensures in
+    let end = end_read c.end-all.result (end_of w.chunks) c.end-end.result p c.end-end.ensures c.end-all.ensures.place in
     let b = bounds w old.taken old.listens old.waits old.holds c.args.terminal p g in
     omega (arith, b.end.chunks, ap (λ (e : Place). e.chunks) end)
 
@@ -38,13 +38,9 @@ append_to-requires-clause-within c =
     let w = waiting_in c.self.inside in
     let p = c.index-part.result.now in
     let old = c.self.invariant in
-    let l : c.args.terminal < length w.parts = omega (arith, c.requires.terminal, ap (λ (x : Waiting). length x.parts) c.self.view_is) in
-    let g : slice_get w.parts c.args.terminal ≡ Some p = get_read w.parts c.args.terminal p l c.index-part.ensures in
-    let end : c.end-end.result ≡ part_end (end_of w.chunks) p = c.end-end.ensures ∙ ap (λ (e : Place). part_end e p) c.end-all.ensures.place in
-    let f : IsFront w.chunks p c.args.room c.place_behind-place.result = record {
-      chunks = c.place_behind-place.ensures.chunks ∙ ap (λ (e : Place). p.from.chunks + count_fitting c.args.room (chunks_between w.chunks p.from.chunks e.chunks)) end;
-      octets = c.place_behind-place.ensures.octets;
-    } in
+    let g = part_at w _ c.args.terminal p c.self.view_is c.requires.terminal c.index-part.ensures in
+    let end = end_read c.end-all.result (end_of w.chunks) c.end-end.result p c.end-end.ensures c.end-all.ensures.place in
+    let f = front_read w.chunks p c.args.room c.end-end.result c.place_behind-place.result end c.place_behind-place.ensures.chunks c.place_behind-place.ensures.octets in
     let b = bounds w old.taken old.listens old.waits old.holds c.args.terminal p g in
     omega (arith, b.within, front_within w old.taken old.listens old.waits old.holds c.args.terminal p g c.args.room c.place_behind-place.result f)
 
@@ -54,32 +50,25 @@ invariant_of-self c =
     let p = c.index-part.result.now in
     let q = c.index_mut.result.now in
     let old = c.self.invariant in
-    let l : c.args.terminal < length w.parts = omega (arith, c.requires.terminal, ap (λ (x : Waiting). length x.parts) c.self.view_is) in
-    let g : slice_get w.parts c.args.terminal ≡ Some p = get_read w.parts c.args.terminal p l c.index-part.ensures in
-    let m : slice_get w.parts c.args.terminal ≡ Some q = get_read w.parts c.args.terminal q l c.index_mut.ensures.value in
-    let end : c.end-end.result ≡ part_end (end_of w.chunks) p = c.end-end.ensures ∙ ap (λ (e : Place). part_end e p) c.end-all.ensures.place in
-    let f : IsFront w.chunks p c.args.room c.place_behind-place.result = record {
-      chunks = c.place_behind-place.ensures.chunks ∙ ap (λ (e : Place). p.from.chunks + count_fitting c.args.room (chunks_between w.chunks p.from.chunks e.chunks)) end;
-      octets = c.place_behind-place.ensures.octets;
-    } in
+    let g = part_at w _ c.args.terminal p c.self.view_is c.requires.terminal c.index-part.ensures in
+    let m = part_at w _ c.args.terminal q c.self.view_is c.requires.terminal c.index_mut.ensures.value in
+    let end = end_read c.end-all.result (end_of w.chunks) c.end-end.result p c.end-end.ensures c.end-all.ensures.place in
+    let f = front_read w.chunks p c.args.room c.end-end.result c.place_behind-place.result end c.place_behind-place.ensures.chunks c.place_behind-place.ensures.octets in
     record {
       taken = old.taken;
       listens = old.listens;
       waits = set_at old.waits c.args.terminal (behind c.args.room (old.waits c.args.terminal));
       holds = took_front w old.taken old.listens old.waits old.holds c.args.terminal p q g m c.args.room c.place_behind-place.result f;
+      utf8 = old.utf8;
     }
 
 pub returns-clause-text : goal.returns-clause-text
 returns-clause-text c = λ taken listens waits h.
     let w = waiting_in c.self.inside in
     let p = c.index-part.result.now in
-    let l : c.args.terminal < length w.parts = omega (arith, c.requires.terminal, ap (λ (x : Waiting). length x.parts) c.self.view_is) in
-    let g : slice_get w.parts c.args.terminal ≡ Some p = get_read w.parts c.args.terminal p l c.index-part.ensures in
-    let end : c.end-end.result ≡ part_end (end_of w.chunks) p = c.end-end.ensures ∙ ap (λ (e : Place). part_end e p) c.end-all.ensures.place in
-    let f : IsFront w.chunks p c.args.room c.place_behind-place.result = record {
-      chunks = c.place_behind-place.ensures.chunks ∙ ap (λ (e : Place). p.from.chunks + count_fitting c.args.room (chunks_between w.chunks p.from.chunks e.chunks)) end;
-      octets = c.place_behind-place.ensures.octets;
-    } in
+    let g = part_at w _ c.args.terminal p c.self.view_is c.requires.terminal c.index-part.ensures in
+    let end = end_read c.end-all.result (end_of w.chunks) c.end-end.result p c.end-end.ensures c.end-all.ensures.place in
+    let f = front_read w.chunks p c.args.room c.end-end.result c.place_behind-place.result end c.place_behind-place.ensures.chunks c.place_behind-place.ensures.octets in
     let k : Holds w taken listens waits = subst (λ (x : Waiting). Holds x taken listens waits) (sym c.self.view_is) h in
     c.append_to.ensures ∙ ap (λ (t : List ℕ). c.args.text.now ++ t) (text_front w taken listens waits k c.args.terminal p g c.args.room c.place_behind-place.result f)
 
@@ -88,13 +77,18 @@ returns-clause-holds c = λ taken listens waits h.
     let w = waiting_in c.self.inside in
     let p = c.index-part.result.now in
     let q = c.index_mut.result.now in
-    let l : c.args.terminal < length w.parts = omega (arith, c.requires.terminal, ap (λ (x : Waiting). length x.parts) c.self.view_is) in
-    let g : slice_get w.parts c.args.terminal ≡ Some p = get_read w.parts c.args.terminal p l c.index-part.ensures in
-    let m : slice_get w.parts c.args.terminal ≡ Some q = get_read w.parts c.args.terminal q l c.index_mut.ensures.value in
-    let end : c.end-end.result ≡ part_end (end_of w.chunks) p = c.end-end.ensures ∙ ap (λ (e : Place). part_end e p) c.end-all.ensures.place in
-    let f : IsFront w.chunks p c.args.room c.place_behind-place.result = record {
-      chunks = c.place_behind-place.ensures.chunks ∙ ap (λ (e : Place). p.from.chunks + count_fitting c.args.room (chunks_between w.chunks p.from.chunks e.chunks)) end;
-      octets = c.place_behind-place.ensures.octets;
-    } in
+    let g = part_at w _ c.args.terminal p c.self.view_is c.requires.terminal c.index-part.ensures in
+    let m = part_at w _ c.args.terminal q c.self.view_is c.requires.terminal c.index_mut.ensures.value in
+    let end = end_read c.end-all.result (end_of w.chunks) c.end-end.result p c.end-end.ensures c.end-all.ensures.place in
+    let f = front_read w.chunks p c.args.room c.end-end.result c.place_behind-place.result end c.place_behind-place.ensures.chunks c.place_behind-place.ensures.octets in
     let k : Holds w taken listens waits = subst (λ (x : Waiting). Holds x taken listens waits) (sym c.self.view_is) h in
     took_front w taken listens waits k c.args.terminal p q g m c.args.room c.place_behind-place.result f
+
+pub returns-clause-utf8 : goal.returns-clause-utf8
+returns-clause-utf8 c u =
+    let w = waiting_in c.self.inside in
+    let p = c.index-part.result.now in
+    let old = c.self.invariant in
+    let g = part_at w _ c.args.terminal p c.self.view_is c.requires.terminal c.index-part.ensures in
+    let text = returns-clause-text c old.taken old.listens old.waits (subst (λ (x : Waiting). Holds x old.taken old.listens old.waits) c.self.view_is old.holds) in
+    subst IsUtf8 (sym text) (IsUtf8-append c.args.text.now _ u (fetched_utf8 w old.taken old.listens old.waits old.holds old.utf8 c.args.terminal p g c.args.room))

@@ -6,7 +6,7 @@ use Rattle.slot_table.specs.Lanes.{Waiting, part_end}
 use Rattle.slot_table.specs.LaneInsides.{waiting_in}
 use Rattle.slot_table.specs.Standing.{Holds}
 use Rattle.slot_table.proofs.Lists.{get_read}
-use Rattle.slot_table.proofs.Holding.{bounds, waiting_is}
+use Rattle.slot_table.proofs.Holding.{bounds, waiting_is, part_at, end_read}
 use Rattle.slot_table.proofs.lanes.Lane.waiting.Goals as goal
 
 pub overflow_sub-result : goal.overflow_sub-result
@@ -14,9 +14,8 @@ overflow_sub-result c =
     let w = waiting_in c.self.inside in
     let p = c.index-part.result.now in
     let old = c.self.invariant in
-    let l : c.args.terminal < length w.parts = omega (arith, c.requires, ap (λ (x : Waiting). length x.parts) c.self.view_is) in
-    let g : slice_get w.parts c.args.terminal ≡ Some p = get_read w.parts c.args.terminal p l c.index-part.ensures in
-    let end : c.end-end.result ≡ part_end (end_of w.chunks) p = c.end-end.ensures ∙ ap (λ (e : Place). part_end e p) c.end.ensures.place in
+    let g = part_at w _ c.args.terminal p c.self.view_is c.requires c.index-part.ensures in
+    let end = end_read c.end.result (end_of w.chunks) c.end-end.result p c.end-end.ensures c.end.ensures.place in
     let b = bounds w old.taken old.listens old.waits old.holds c.args.terminal p g in
     omega (arith, b.octets_in_order, ap (λ (e : Place). e.octets) end)
 
@@ -24,8 +23,7 @@ pub returns : goal.returns
 returns c = λ taken listens waits h.
     let w = waiting_in c.self.inside in
     let p = c.index-part.result.now in
-    let l : c.args.terminal < length w.parts = omega (arith, c.requires, ap (λ (x : Waiting). length x.parts) c.self.view_is) in
-    let g : slice_get w.parts c.args.terminal ≡ Some p = get_read w.parts c.args.terminal p l c.index-part.ensures in
-    let end : c.end-end.result ≡ part_end (end_of w.chunks) p = c.end-end.ensures ∙ ap (λ (e : Place). part_end e p) c.end.ensures.place in
+    let g = part_at w _ c.args.terminal p c.self.view_is c.requires c.index-part.ensures in
+    let end = end_read c.end.result (end_of w.chunks) c.end-end.result p c.end-end.ensures c.end.ensures.place in
     let k : Holds w taken listens waits = subst (λ (x : Waiting). Holds x taken listens waits) (sym c.self.view_is) h in
     ap (λ (e : Place). e.octets - p.from.octets) end ∙ waiting_is w taken listens waits k c.args.terminal p g

@@ -17,7 +17,7 @@ pub returns-clause-ok : goal.returns-clause-ok
 returns-clause-ok c =
     let i = c.args.chunk.now.source in
     let w = c.index_mut-lane.result.now in
-    let g : slice_get c.args.self.now i ≡ Some w = get_read c.args.self.now i w c.requires (c.index_mut-lane.ensures.value ∙ ap (λ (xs : List Waiting). get_or xs i w) c.self.view_is) in
+    let g : slice_get c.args.self.now i ≡ Some w = get_read c.args.self.now i w c.requires.source (c.index_mut-lane.ensures.value ∙ ap (λ (xs : List Waiting). get_or xs i w) c.self.view_is) in
     on_ok_of c.offer.result c.offer.ensures.ok (λ f s table h.
     subst (λ (xs : List Waiting). StandsFor s (set xs i c.offer.new.self) (given i (chunk_of c.args.chunk.now) table)) (sym c.self.view_is)
     (stands_given s c.args.self.now table i w c.offer.new.self (chunk_of c.args.chunk.now) h g c.offer.ensures.terminals (λ taken listens waits k. f taken listens waits (chunk_of c.args.chunk.now) k (sym c.as_slice.ensures.value))))
