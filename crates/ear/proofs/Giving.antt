@@ -41,9 +41,9 @@ quiet_left e p q = heard_left e.piece p (and_parts (not (has_ready e.tracker)) (
 
 -- nothing is left of the packet given last, and another may stand in its place
 module _ (e : Ear) (t : State) (quiet : is_quiet e ≡ true) where
-  none_left : (conf : EarConf) (source : ℕ) (story : Story) (given : List Chunk) → Gave e conf source story given → given ++ map (chunk conf.leg e.ready) (left_of e.piece t.current) ≡ chunks_by conf.leg (ready_packets story.given) source
+  none_left : (conf : EarConf) (source : ℕ) (story : Story) (given : List Chunk) → Gave e conf source story given → given ++ map (chunk 0 e.ready) (left_of e.piece t.current) ≡ chunks_by 0 (ready_packets story.given) source
   none_left conf source story given g =
-      ap (λ ts. given ++ map (chunk conf.leg e.ready) ts) (quiet_left e t.current quiet ∙ sym (quiet_left e e.tracker.current quiet)) ∙ g.chunks
+      ap (λ ts. given ++ map (chunk 0 e.ready) ts) (quiet_left e t.current quiet ∙ sym (quiet_left e e.tracker.current quiet)) ∙ g.chunks
 
   pub becomes : (f : EarConf → Story → Story) → ((conf : EarConf) (sources : List ℕ) (story : Story) → Hears e conf sources story → Hears (record e { tracker = t }) conf sources (f conf story))
       → ((conf : EarConf) (story : Story) → (f conf story).given ≡ story.given) → Becomes e (record e { tracker = t }) f
@@ -51,7 +51,7 @@ module _ (e : Ear) (t : State) (quiet : is_quiet e ≡ true) where
     hears = h;
     gave = λ conf source story given g. record {
       hears = h conf (source ∷ []) story g.hears;
-      chunks = none_left conf source story given g ∙ ap (λ gs. chunks_by conf.leg (ready_packets gs) source) (sym (same conf story));
+      chunks = none_left conf source story given g ∙ ap (λ gs. chunks_by 0 (ready_packets gs) source) (sym (same conf story));
       texts = subst AreHeardTexts (sym (quiet_left e t.current quiet)) tt;
     };
     clear = (and_parts (not (has_ready e.tracker)) (is_heard e.piece) quiet).1;
@@ -115,7 +115,7 @@ refuses e q now octets f quiet x = becomes e (with_packet e.tracker q) quiet (λ
 pub end_chunks : (conf : EarConf) (source : ℕ) (story : Story) → story.wait ≡ conf.wait → ready_dues (ended story) ≡ dues story → ready_chunks conf source (ended story) ≡ story_chunks conf source story
 end_chunks conf source story w e =
     let all : dues (ended story) ≡ ready_dues (ended story) ++ [] = sym (append-nil (ready_dues (ended story)) ∙ e) in
-    sym (chunks_ready conf source (ended story) [] w all) ∙ (ap (λ gs. chunks_by conf.leg (ready_packets gs) source) e ∙ sym (chunks_due conf source story w))
+    sym (chunks_ready conf source (ended story) [] w all) ∙ (ap (λ gs. chunks_by 0 (ready_packets gs) source) e ∙ sym (chunks_due conf source story w))
 
 -- ---- one more packet is given
 pub heard_one : (e m : Ear) (conf : EarConf) (sources : List ℕ) (story : Story) (due : Due) (p : TextPacket) → m.conf ≡ e.conf → Hears e conf sources story → Tracks m.tracker (gave story (given_of due p))
@@ -143,7 +143,7 @@ pub starts : (e : Ear) → Going e e
 starts e = record { gave = λ conf source story given g. (story.given, g); conf = refl; arrivals = refl; finished = refl }
 
 -- a text of the packet is given
-pub peels : (old e m : Ear) (c : Chunk) → Going old e → m.conf ≡ e.conf → m.tracker ≡ e.tracker → m.receiver ≡ e.receiver → m.ready ≡ e.ready → c ≡ chunk e.conf.leg e.ready c.text → texts_left e ≡ c.text ∷ texts_left m
+pub peels : (old e m : Ear) (c : Chunk) → Going old e → m.conf ≡ e.conf → m.tracker ≡ e.tracker → m.receiver ≡ e.receiver → m.ready ≡ e.ready → c ≡ chunk 0 e.ready c.text → texts_left e ≡ c.text ∷ texts_left m
     → (conf : EarConf) (source : ℕ) (story : Story) (given : List Chunk) → Gave old conf source story given → GaveSome m conf source story (given ++ c ∷ [])
 peels old e m c going k t r y is left conf source story given g =
     let now = going.gave conf source story given g in
@@ -159,10 +159,10 @@ peels old e m c going k t r y is left conf source story given g =
           latest = rw r h.latest;
           texts = h.texts;
         };
-        chunks = append_assoc given (c ∷ []) (map (chunk conf.leg m.ready) (texts_left m))
-            ∙ (ap (λ d. given ++ d ∷ map (chunk conf.leg m.ready) (texts_left m)) (is ∙ ap (λ (q : EarConf). chunk q.leg e.ready c.text) h.asked)
-            ∙ (ap (λ n. given ++ chunk conf.leg e.ready c.text ∷ map (chunk conf.leg n) (texts_left m)) y
-            ∙ (ap (λ ts. given ++ map (chunk conf.leg e.ready) ts) (sym left) ∙ now.1.chunks)));
+        chunks = append_assoc given (c ∷ []) (map (chunk 0 m.ready) (texts_left m))
+            ∙ (ap (λ d. given ++ d ∷ map (chunk 0 m.ready) (texts_left m)) is
+            ∙ (ap (λ n. given ++ chunk 0 e.ready c.text ∷ map (chunk 0 n) (texts_left m)) y
+            ∙ (ap (λ ts. given ++ map (chunk 0 e.ready) ts) (sym left) ∙ now.1.chunks)));
         texts = texts.2;
       },
     )
@@ -190,14 +190,14 @@ opens old e m due going k none y t s n heard conf source story given g =
     let told : Tracks m.tracker (gave before one) = t before h.tracks in
     let above = above_given m.tracker before one told in
     let added : texts_left m ≡ texts_added us u source = added_is us u source (texts_left m) above (heard source us due.ready h.stands) in
-    let whole : given ≡ chunks_by conf.leg us source = sym (append-nil given) ∙ (ap (λ ts. given ++ map (chunk conf.leg e.ready) ts) (sym none) ∙ now.1.chunks) in (
+    let whole : given ≡ chunks_by 0 us source = sym (append-nil given) ∙ (ap (λ ts. given ++ map (chunk 0 e.ready) ts) (sym none) ∙ now.1.chunks) in (
       now.0 ++ one ∷ [],
       record {
         hears = heard_one e m conf (source ∷ []) before due m.tracker.current k h told (s (source ∷ []) us due.ready h.stands) n;
-        chunks = ap (λ cs. cs ++ map (chunk conf.leg m.ready) (texts_left m)) whole
-            ∙ (ap (λ r. chunks_by conf.leg us source ++ map (chunk conf.leg r) (texts_left m)) y
-            ∙ (ap (λ ts. chunks_by conf.leg us source ++ map (chunk conf.leg due.ready) ts) added
-            ∙ (sym (by_more conf.leg us u source above) ∙ ap (λ vs. chunks_by conf.leg vs source) (sym (map-append ready_packet now.0 (one ∷ []))))));
+        chunks = ap (λ cs. cs ++ map (chunk 0 m.ready) (texts_left m)) whole
+            ∙ (ap (λ r. chunks_by 0 us source ++ map (chunk 0 r) (texts_left m)) y
+            ∙ (ap (λ ts. chunks_by 0 us source ++ map (chunk 0 due.ready) ts) added
+            ∙ (sym (by_more 0 us u source above) ∙ ap (λ vs. chunks_by 0 vs source) (sym (map-append ready_packet now.0 (one ∷ []))))));
         texts = subst AreHeardTexts (sym added) (added_utf8 us u source (given_text m.tracker before one told h.texts));
       },
     )
@@ -211,7 +211,7 @@ rests old e m going k t r none left conf source story given g =
       now.0,
       record {
         hears = record { asked = k ∙ h.asked; wait = h.wait; tracks = rw t h.tracks; stands = rw r h.stands; latest = rw r h.latest; texts = h.texts };
-        chunks = ap (λ ts. given ++ map (chunk conf.leg m.ready) ts) left ∙ (ap (λ ts. given ++ map (chunk conf.leg e.ready) ts) (sym none) ∙ now.1.chunks);
+        chunks = ap (λ ts. given ++ map (chunk 0 m.ready) ts) left ∙ (ap (λ ts. given ++ map (chunk 0 e.ready) ts) (sym none) ∙ now.1.chunks);
         texts = subst AreHeardTexts (sym left) tt;
       },
     )
@@ -223,13 +223,13 @@ gave_ready old e going none all conf source story given g =
     let h = now.1.hears in
     let before : Story = record story { given = now.0 } in
     let o = order_is e.tracker before h.tracks in
-    sym (append-nil given) ∙ (ap (λ ts. given ++ map (chunk conf.leg e.ready) ts) (sym none) ∙ (now.1.chunks
-    ∙ (ap (λ gs. chunks_by conf.leg (ready_packets gs) source) (all before h.tracks) ∙ chunks_ready conf source story _ h.wait o.dues_are)))
+    sym (append-nil given) ∙ (ap (λ ts. given ++ map (chunk 0 e.ready) ts) (sym none) ∙ (now.1.chunks
+    ∙ (ap (λ gs. chunks_by 0 (ready_packets gs) source) (all before h.tracks) ∙ chunks_ready conf source story _ h.wait o.dues_are)))
 
 pub gave_front : (e : Ear) (conf : EarConf) (source : ℕ) (story : Story) (given : List Chunk) → Gave e conf source story given → (rest : List Chunk) × (story_chunks conf source story ≡ given ++ rest)
 gave_front e conf source story given g =
     let f = fronts e.tracker story g.hears.tracks in
-    let left : List Chunk = map (chunk conf.leg e.ready) (texts_left e) in
+    let left : List Chunk = map (chunk 0 e.ready) (texts_left e) in
     let c = chunks_front conf source story story.given f.rest g.hears.wait f.is in
     (left ++ c.0, c.1 ∙ (ap (λ cs. cs ++ c.0) (sym g.chunks) ∙ append_assoc given left c.0))
 

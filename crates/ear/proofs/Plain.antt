@@ -90,7 +90,7 @@ hears_plain e m view now number ready octets texts more is x c gives all takes l
 pub gives_plain : (e m : Ear) (view : TextView) (now number ready : ℕ) (octets : List ℕ) → is_quiet e ≡ true → number ≡ next_number e.tracker (packet_in view).seq
     → text_of octets (Some e.conf.ssrc) e.conf.pts ≡ Ok (packet_in view) → m.conf ≡ e.conf → m.piece ≡ e.piece → tracker.GivesAtOnce e.tracker m.tracker now number ready
     → TakesView e.receiver m.receiver number view → latest_number m.receiver ≡ Some number → HearsPrimary e.receiver number view
-    → (more : List Chunk) → more ≡ map (chunk e.conf.leg ready) (text_list view.primary.now)
+    → (more : List Chunk) → more ≡ map (chunk 0 ready) (text_list view.primary.now)
     → (conf : EarConf) (source : ℕ) (story : Story) (given : List Chunk) → Gave e conf source story given → GaveSome m conf source (told story now (text_of octets (Some conf.ssrc) conf.pts)) (given ++ more)
 gives_plain e m view now number ready octets quiet is x c q gives takes latest primary more are conf source story given gave_it =
     let p = packet_in view in
@@ -103,16 +103,16 @@ gives_plain e m view now number ready octets quiet is x c q gives takes latest p
     let above = above_given m.tracker (came story now p) g after.tracks in
     let added : text_list view.primary.now ≡ texts_added us u source = added_is us u source (text_list view.primary.now) above (primary source us ready h.stands) in
     let none : texts_left m ≡ [] = ap (λ (k : Piece). left_of k m.tracker.current) q ∙ quiet_left e m.tracker.current quiet in
-    let whole : given ≡ chunks_by conf.leg us source = sym (append-nil given) ∙ (ap (λ ts. given ++ map (chunk conf.leg e.ready) ts) (sym (quiet_left e e.tracker.current quiet)) ∙ gave_it.chunks) in
+    let whole : given ≡ chunks_by 0 us source = sym (append-nil given) ∙ (ap (λ ts. given ++ map (chunk 0 e.ready) ts) (sym (quiet_left e e.tracker.current quiet)) ∙ gave_it.chunks) in
     subst (λ (r : Result Packet TextFault). GaveSome m conf source (told story now r) (given ++ more)) (sym same) (
       story.given ++ g ∷ [],
       record {
         hears = after;
-        chunks = ap (λ ts. (given ++ more) ++ map (chunk conf.leg m.ready) ts) none
+        chunks = ap (λ ts. (given ++ more) ++ map (chunk 0 m.ready) ts) none
             ∙ (append-nil (given ++ more)
             ∙ (ap (λ cs. cs ++ more) whole
-            ∙ (ap (λ cs. chunks_by conf.leg us source ++ cs) (are ∙ (ap (λ (k : EarConf). map (chunk k.leg ready) (text_list view.primary.now)) h.asked ∙ ap (map (chunk conf.leg ready)) added))
-            ∙ (sym (by_more conf.leg us u source above) ∙ ap (λ vs. chunks_by conf.leg vs source) (sym (map-append ready_packet story.given (g ∷ [])))))));
+            ∙ (ap (λ cs. chunks_by 0 us source ++ cs) (are ∙ ap (map (chunk 0 ready)) added)
+            ∙ (sym (by_more 0 us u source above) ∙ ap (λ vs. chunks_by 0 vs source) (sym (map-append ready_packet story.given (g ∷ [])))))));
         texts = subst AreHeardTexts (sym none) tt;
       },
     )
@@ -125,10 +125,10 @@ pub primary_utf8 : (conf : EarConf) (octets : List ℕ) (view : TextView) → te
 primary_utf8 conf octets view x = (accepted_text octets (Some conf.ssrc) conf.pts (packet_in view) x).primary
 
 -- the chunks of a text: none, or one
-pub texts_none : (leg ready : ℕ) (t : List ℕ) → length t ≡ 0 → [] ≡ map (chunk leg ready) (text_list t)
-texts_none leg ready [] e = refl
-texts_none leg ready (x ∷ t) e = absurd (omega arith)
+pub texts_none : (ready : ℕ) (t : List ℕ) → length t ≡ 0 → [] ≡ map (chunk 0 ready) (text_list t)
+texts_none ready [] e = refl
+texts_none ready (x ∷ t) e = absurd (omega arith)
 
-pub texts_one : (leg ready : ℕ) (t : List ℕ) (k : Chunk) → k ≡ chunk leg ready t → 0 < length t → k ∷ [] ≡ map (chunk leg ready) (text_list t)
-texts_one leg ready [] k e l = absurd (omega arith)
-texts_one leg ready (x ∷ t) k e l = ap (λ (d : Chunk). d ∷ []) e
+pub texts_one : (ready : ℕ) (t : List ℕ) (k : Chunk) → k ≡ chunk 0 ready t → 0 < length t → k ∷ [] ≡ map (chunk 0 ready) (text_list t)
+texts_one ready [] k e l = absurd (omega arith)
+texts_one ready (x ∷ t) k e l = ap (λ (d : Chunk). d ∷ []) e

@@ -85,10 +85,10 @@ pub record Hears (e : Ear) (conf : EarConf) (sources : List ℕ) (story : Story)
   pub texts : AreTextArrivals story.past
 
 -- The ear listens to one source and gave these chunks, oldest first. With what is left of the packet given last they
--- are the chunks of all packets given.
+-- are the chunks of all packets given. Their source is 0: whose they are is set by who mixes.
 pub record Gave (e : Ear) (conf : EarConf) (source : ℕ) (story : Story) (gave : List Chunk) : Type 0 where
   pub hears : Hears e conf (source ∷ []) story
-  pub chunks : gave ++ map (chunk conf.leg e.ready) (texts_left e) ≡ chunks_by conf.leg (ready_packets story.given) source
+  pub chunks : gave ++ map (chunk 0 e.ready) (texts_left e) ≡ chunks_by 0 (ready_packets story.given) source
   pub texts : AreHeardTexts (texts_left e)
 
 abbrev pub IsGiving : Ear → Type 0
@@ -102,7 +102,7 @@ GaveSome e conf source story gave = (given : List Given) × Gave e conf source (
 
 -- all chunks of the source, by what came so far
 abbrev pub story_chunks : EarConf → ℕ → Story → List Chunk
-story_chunks conf source story = chunks conf.wait conf.leg story.past source
+story_chunks conf source story = chunks conf.wait 0 story.past source
 
 -- those of them that are ready by the greatest moment
 abbrev pub ready_chunks : EarConf → ℕ → Story → List Chunk

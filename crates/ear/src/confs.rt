@@ -4,8 +4,6 @@ use rtt_base::Pts;
 /// Which packets are heard, and how long a gap in their numbers is waited for, in milliseconds: at most 10000.
 #[derive(Clone, Copy, Debug, PartialEq, Eq)]
 pub struct EarConf {
-    /// The source of the chunks: the number of the leg that is heard.
-    pub leg: u8,
     /// The SSRC of the packets.
     pub ssrc: u32,
     pub pts: Pts,

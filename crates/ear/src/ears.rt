@@ -19,7 +19,8 @@ use std::alloc::Global;
 use wire_spec::TextFault;
 
 /// Hears the packets of one stream, and gives what is heard of them: each text once, in order, with a marker U+FFFD
-/// where text may be missing. A text is given as soon as nothing before it is waited for any longer.
+/// where text may be missing. A text is given as soon as nothing before it is waited for any longer. Whose it is is set
+/// by who mixes: the source of each chunk is 0.
 ///
 /// Times are in milliseconds. A time before the greatest one so far stands for that one.
 #[derive(Drop)]
@@ -35,11 +36,11 @@ pub struct Ear {
 }
 
 /// Puts this text of at most 1023 octets in place of what is in `chunk`.
-fn write_chunk(chunk: &mut Chunk, leg: u8, ready: u64, text: &[u8])
+fn write_chunk(chunk: &mut Chunk, ready: u64, text: &[u8])
     requires { length text.now < 1024 }
-    ensures { chunk_of chunk.new ≡ heard_chunk leg ready text.now }
+    ensures { chunk_of chunk.new ≡ heard_chunk 0 ready text.now }
 {
-    chunk.source = leg;
+    chunk.source = 0;
     chunk.ready = ready;
     chunk.text.clear();
     let _ = chunk.text.append(text);
@@ -132,7 +133,7 @@ impl Ear {
         ensures front { GaveFront self.new }
         ensures text { result ≡ Bool.true → has_text chunk.new.text ≡ Bool.true }
         ensures utf8 { result ≡ Bool.true → IsUtf8 chunk.new.text }
-        ensures leg { result ≡ Bool.true → chunk.new.source ≡ (conf_of self.new).leg }
+        ensures source { result ≡ Bool.true → chunk.new.source ≡ 0 }
         ensures quiet { result ≡ Bool.false → is_quiet self.new ≡ Bool.true }
         ensures conf { conf_of self.new ≡ conf_of self.old }
         ensures arrivals { arrival_count self.new ≡ arrival_count self.old }
@@ -140,7 +141,7 @@ impl Ear {
     {
         loop {
             if self.piece.next(self.tracker.packet(), &mut chunk.text) {
-                chunk.source = self.conf.leg;
+                chunk.source = 0;
                 chunk.ready = self.ready;
                 return true;
             }
@@ -223,7 +224,6 @@ impl Ear {
         ensures unchanged { result ≡ PlainAnswer.NotPlain → self.new ≡ self.old }
         ensures text { result ≡ PlainAnswer.Chunk → has_text chunk.new.text ≡ Bool.true }
         ensures utf8 { result ≡ PlainAnswer.Chunk → IsUtf8 chunk.new.text }
-        ensures leg { result ≡ PlainAnswer.Chunk → chunk.new.source ≡ (conf_of self.new).leg }
         ensures quiet { is_quiet self.new ≡ Bool.true }
         ensures conf { conf_of self.new ≡ conf_of self.old }
         ensures arrivals { arrival_count self.new ≤ arrival_count self.old + 1 }
@@ -242,7 +242,7 @@ impl Ear {
         if view.primary.is_empty() {
             return PlainAnswer::Nothing;
         }
-        write_chunk(chunk, self.conf.leg, ready, view.primary);
+        write_chunk(chunk, ready, view.primary);
         PlainAnswer::Chunk
     }
 

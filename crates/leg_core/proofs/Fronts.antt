@@ -37,7 +37,7 @@ tracks_fall s story (tracks.Before w) = subst (λ (a : List Arrival). Falling (n
 tracks_fall s story (tracks.Within h) = h.falling
 
 given_front : (tracker : State) (conf : EarConf) (source : ℕ) (story : Story) (more : List Arrival) → Tracks tracker story → story.wait ≡ conf.wait → AreFrom story.moment more
-    → IsFront (chunks_by conf.leg (ready_packets story.given) source) (chunks conf.wait conf.leg (more ++ story.past) source)
+    → IsFront (chunks_by 0 (ready_packets story.given) source) (chunks conf.wait 0 (more ++ story.past) source)
 given_front tracker conf source story more k w g =
     let p = front_is story.wait story.moment more story.past (tracks_fall tracker story k.follows.phase) g in
     let o = order_is tracker story k in
@@ -45,8 +45,8 @@ given_front tracker conf source story more k w g =
     let out : p.out ≡ ready_packets story.given ++ ready_packets tracker.settled
     = sym p.ready_are ∙ (ap (filter (is_packet_ready_by story.moment)) (sym (ready_stamped story.wait past (used story.wait past)))
     ∙ (ready_filter story.moment (dues_of story.wait past) ∙ (ap ready_packets o.ready_is ∙ map-append ready_packet story.given tracker.settled))) in
-    subst (λ (n : ℕ). IsFront (chunks_by conf.leg (ready_packets story.given) source) (chunks n conf.leg (more ++ story.past) source)) w
-    (chunks_front story.wait conf.leg source (more ++ story.past) (ready_packets story.given) (ready_packets tracker.settled ++ p.rest)
+    subst (λ (n : ℕ). IsFront (chunks_by 0 (ready_packets story.given) source) (chunks n 0 (more ++ story.past) source)) w
+    (chunks_front story.wait 0 source (more ++ story.past) (ready_packets story.given) (ready_packets tracker.settled ++ p.rest)
     (p.all ∙ (ap (λ us. us ++ p.rest) out ∙ append_assoc (ready_packets story.given) (ready_packets tracker.settled) p.rest)))
 
 -- ---- a leg
@@ -66,8 +66,8 @@ module _ {S : Type 0} (left : S → List ℕ) where
       let h = s.gave.hears in
       let m = came_later leg.reader past s.story s.phase in
       let f = given_front leg.ear.tracker past.conf past.conf.ssrc s.story m.0 h.tracks h.wait m.2 in
-      let still : List Chunk = map (chunk past.conf.leg leg.ear.ready) (texts_left leg.ear) in (
+      let still : List Chunk = map (chunk 0 leg.ear.ready) (texts_left leg.ear) in (
         still ++ f.0,
-        ap (λ (a : List Arrival). chunks past.conf.wait past.conf.leg a past.conf.ssrc) m.1
+        ap (λ (a : List Arrival). chunks past.conf.wait 0 a past.conf.ssrc) m.1
             ∙ (f.1 ∙ (ap (λ (cs : List Chunk). cs ++ f.0) (sym s.gave.chunks) ∙ append_assoc past.gave still f.0)),
       )

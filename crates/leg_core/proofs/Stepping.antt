@@ -92,7 +92,7 @@ module _ {S : Type 0} (left : S → List ℕ) where
     where
       go : Phase left l.reader past s.story → (past.gave ≡ chunks_of past) × ((recording_of past).fault ≡ None)
       go (Within o r) = absurd (true≢false (sym e ∙ o))
-      go (Behind f w) = (g past.conf past.conf.ssrc s.story past.gave s.gave ∙ (w.ready ∙ ap (λ (a : List Arrival). chunks past.conf.wait past.conf.leg a past.conf.ssrc) w.came), w.no_fault)
+      go (Behind f w) = (g past.conf past.conf.ssrc s.story past.gave s.gave ∙ (w.ready ∙ ap (λ (a : List Arrival). chunks past.conf.wait 0 a past.conf.ssrc) w.came), w.no_fault)
 
   -- ---- what is read
   reads_on : (past : LegPast) (story : Story) (item : DumpItem) (out : List ℕ) (before rest : Recording) → IsRead past story before → before ≡ with_item (record_of item out) rest → is_end item ≡ false → IsRead past (after_item past.conf story item out) rest

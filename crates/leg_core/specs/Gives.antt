@@ -9,7 +9,7 @@ use Rattle.rtpdump_io.specs.declared.readers.DumpReader.{DumpReader}
 use Rattle.rtpdump_io.specs.Reading.{to_come, is_ended, most_answers, IsFaultOf}
 use Rattle.rtpdump_io.specs.Reading as reading
 use Rattle.ear.specs.declared.confs.EarConf.{EarConf}
-use Rattle.ear.specs.Hears.{Gave, IsToldOf, conf_of, ready_chunks, story_chunks}
+use Rattle.ear.specs.Hears.{Gave, IsToldOf, ready_chunks, story_chunks}
 use Rattle.ear.specs.Hears as ear
 use Rattle.leg_core.specs.declared.steps.LegStep.{LegStep}
 use Rattle.leg_core.specs.declared.steps.LegStep.TheVariants as step
@@ -40,9 +40,9 @@ recording_of past = dump past.limit past.octets
 abbrev pub came_of : LegPast → List Arrival
 came_of past = arrivals_after past.conf.ssrc past.conf.pts [] (recording_of past).items
 
--- all chunks of the recording
+-- all chunks of the recording, whose source is 0: whose they are is set by who mixes
 abbrev pub chunks_of : LegPast → List Chunk
-chunks_of past = chunks past.conf.wait past.conf.leg (came_of past) past.conf.ssrc
+chunks_of past = chunks past.conf.wait 0 (came_of past) past.conf.ssrc
 
 -- ---- what it answers
 
@@ -80,10 +80,6 @@ module _ {S : Type 0} where
   -- how many records it may still read, at most
   abbrev pub unread : Leg S → ℕ
   unread leg = most_answers leg.reader
-
-  -- the source of its chunks: the number of its leg
-  abbrev pub leg_number : Leg S → ℕ
-  leg_number leg = (conf_of leg.ear).leg
 
   -- what it reads from
   abbrev pub source_of : Leg S → S

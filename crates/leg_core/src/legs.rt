@@ -40,13 +40,12 @@ impl<S: Source> Leg<S> {
     ghost use Rattle.rtt_io.specs.Counts.{Rose};
     ghost use Rattle.rtpdump_io.specs.Reading.{UnlessOfSource, is_ended};
     ghost use Rattle.ear.specs.declared.confs.EarConf.{EarConf};
-    ghost use Rattle.leg_core.specs.Gives.{Follows, Stands, begins, is_last, is_over, is_quiet, leg_number, source_of, unread};
+    ghost use Rattle.leg_core.specs.Gives.{Follows, Stands, begins, is_last, is_over, is_quiet, source_of, unread};
 
     /// A leg over a recording of at most 4194304 octets. The wait is at most 10000 milliseconds.
     pub fn new(alloc: Global, source: S, conf: EarConf) -> Result<Leg<S>, LegLost<S>>
         requires { conf.wait ≤ LONGEST_WAIT }
         ensures stands { S.tells → IfOk result (λ leg. Stands S.left leg (begins conf MOST_RECORDING_OCTETS (S.left source))) }
-        ensures leg { IfOk result (λ leg. leg_number leg ≡ conf.leg) }
         ensures open { IfOk result (λ leg. is_over leg ≡ false) }
         ensures source { IfOk result (λ leg. source_of leg ≡ source) }
         ensures lost { IfErr result (λ lost. lost.source ≡ source) }
@@ -64,7 +63,6 @@ impl<S: Source> Leg<S> {
         requires wait { conf.wait ≤ LONGEST_WAIT }
         requires limit { limit ≤ MOST_RECORDING_OCTETS }
         ensures stands { S.tells → IfOk result (λ leg. Stands S.left leg (begins conf limit (S.left source))) }
-        ensures leg { IfOk result (λ leg. leg_number leg ≡ conf.leg) }
         ensures open { IfOk result (λ leg. is_over leg ≡ false) }
         ensures source { IfOk result (λ leg. source_of leg ≡ source) }
         ensures lost { IfErr result (λ lost. lost.source ≡ source) }
@@ -90,7 +88,6 @@ impl<S: Source> Leg<S> {
         ensures steps { S.tells → Follows S.left self.old self.new result (chunk_of chunk.new) }
         ensures text { result ≡ Ok LegStep.Chunk → has_text chunk.new.text ≡ true }
         ensures utf8 { result ≡ Ok LegStep.Chunk → IsUtf8 chunk.new.text }
-        ensures source { result ≡ Ok LegStep.Chunk → chunk.new.source ≡ leg_number self.new }
         ensures nearer { result ≡ Ok LegStep.More → unread self.new < unread self.old }
         ensures quiet { result ≡ Ok LegStep.More → is_quiet self.new ≡ true }
         ensures over { is_over self.new ≡ is_last result }
@@ -98,7 +95,6 @@ impl<S: Source> Leg<S> {
         ensures calm { UnlessOfSource result (S.faults (source_of self.new) ≡ S.faults (source_of self.old)) }
         ensures never_falls { S.faults (source_of self.old) ≤ S.faults (source_of self.new) }
         ensures same_name { S.name (source_of self.new) ≡ S.name (source_of self.old) }
-        ensures leg { leg_number self.new ≡ leg_number self.old }
     {
         match self.give(chunk) {
             LegStep::More => self.read(chunk),
@@ -112,12 +108,10 @@ impl<S: Source> Leg<S> {
         ensures steps { Follows S.left self.old self.new (Ok result) (chunk_of chunk.new) }
         ensures text { result ≡ LegStep.Chunk → has_text chunk.new.text ≡ true }
         ensures utf8 { result ≡ LegStep.Chunk → IsUtf8 chunk.new.text }
-        ensures source { result ≡ LegStep.Chunk → chunk.new.source ≡ leg_number self.new }
         ensures over { is_over self.new ≡ is_last (Ok result) }
         ensures quiet { result ≡ LegStep.More → is_quiet self.new ≡ true }
         ensures more { result ≡ LegStep.More → is_ended self.new.reader ≡ false }
         ensures reader { self.new.reader ≡ self.old.reader }
-        ensures leg { leg_number self.new ≡ leg_number self.old }
     {
         if self.ear.next(chunk) {
             return LegStep::Chunk;
@@ -137,7 +131,6 @@ impl<S: Source> Leg<S> {
         ensures steps { S.tells → Follows S.left self.old self.new result (chunk_of chunk.new) }
         ensures text { result ≡ Ok LegStep.Chunk → has_text chunk.new.text ≡ true }
         ensures utf8 { result ≡ Ok LegStep.Chunk → IsUtf8 chunk.new.text }
-        ensures source { result ≡ Ok LegStep.Chunk → chunk.new.source ≡ leg_number self.new }
         ensures nearer { result ≡ Ok LegStep.More → unread self.new < unread self.old }
         ensures quiet { result ≡ Ok LegStep.More → is_quiet self.new ≡ true }
         ensures over { is_over self.new ≡ is_last result }
@@ -145,7 +138,6 @@ impl<S: Source> Leg<S> {
         ensures calm { UnlessOfSource result (S.faults (source_of self.new) ≡ S.faults (source_of self.old)) }
         ensures never_falls { S.faults (source_of self.old) ≤ S.faults (source_of self.new) }
         ensures same_name { S.name (source_of self.new) ≡ S.name (source_of self.old) }
-        ensures leg { leg_number self.new ≡ leg_number self.old }
     {
         match self.reader.next(&mut self.packet) {
             Ok(item) => {

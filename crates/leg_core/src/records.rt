@@ -30,7 +30,6 @@ pub fn hear_plain_item(
     ensures unchanged { result ≡ PlainAnswer.NotPlain → ear.new ≡ ear.old }
     ensures text { result ≡ PlainAnswer.Chunk → has_text chunk.new.text ≡ true }
     ensures utf8 { result ≡ PlainAnswer.Chunk → IsUtf8 chunk.new.text }
-    ensures leg { result ≡ PlainAnswer.Chunk → chunk.new.source ≡ (conf_of ear.new).leg }
     ensures quiet { is_quiet ear.new ≡ true }
     ensures packet { result ≢ PlainAnswer.NotPlain → is_end item ≡ false }
     ensures conf { conf_of ear.new ≡ conf_of ear.old }

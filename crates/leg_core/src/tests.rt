@@ -11,7 +11,6 @@ use std::test::Fail;
 use wire_spec::DumpKind;
 
 const ANN: EarConf = EarConf {
-    leg: 5,
     ssrc: 1001,
     pts: Pts { t140: 98, red: 100 },
     wait: 1000,
@@ -53,9 +52,9 @@ fn ann(alloc: Global, recording: Bytes, limit: u32) -> Result<Leg<SteadySource>,
     }
 }
 
-// Whether the chunk is this text of Ann, from this moment on.
+// Whether the chunk is this text, from this moment on.
 fn is_said(chunk: &Chunk, text: &[u8], ready: u64) -> bool {
-    chunk.source == 5 && chunk.ready == ready && chunk.text.as_slice() == text
+    chunk.ready == ready && chunk.text.as_slice() == text
 }
 
 #[test]

@@ -53,7 +53,7 @@ pub record AreChunks (s : Setup) (asked : ℕ → Asked) (chunks : ℕ → List 
 abbrev pub AreOfConf : Conf → (ℕ → List ℕ) → (ℕ → Asked) → Type 0
 AreOfConf c inputs asked =
     (j : ℕ) (l : LegLine) → leg_at c.legs j ≡ Some l
-    → asked j ≡ record { conf = record { leg = j; ssrc = l.ssrc; pts = l.pts; wait = c.wait }; limit = input_limit c; octets = inputs j }
+    → asked j ≡ record { conf = record { ssrc = l.ssrc; pts = l.pts; wait = c.wait }; limit = input_limit c; octets = inputs j }
 
 module _ {S : Type 0} where
   -- the source of a leg

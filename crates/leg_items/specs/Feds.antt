@@ -32,7 +32,7 @@ past_of a heard = record { conf = a.conf; limit = a.limit; octets = a.octets; ga
 abbrev pub recording_asked : Asked → Recording
 recording_asked a = recording_of (past_of a [])
 
--- all chunks of the recording
+-- all chunks of the recording, whose source is 0
 abbrev pub chunks_asked : Asked → List Chunk
 chunks_asked a = chunks_of (past_of a [])
 

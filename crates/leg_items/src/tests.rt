@@ -115,7 +115,6 @@ fn ann(alloc: Global, second: &[u8], last: &[u8]) -> Result<LegInlet<SteadySourc
     recording.append(second)?;
     recording.append(last)?;
     let conf = EarConf {
-        leg: 0,
         ssrc: 1001,
         pts: Pts { t140: 98, red: 100 },
         wait: 1000,

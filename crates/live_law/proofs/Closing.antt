@@ -18,6 +18,7 @@ use Rattle.live_leg.specs.Stories.{hearing_of}
 use Rattle.live_loop.specs.Handed.{has_end}
 use Rattle.live_loop.proofs.Enough.{end_append}
 use Rattle.live_law.specs.Laws.{EndIsAll}
+use Rattle.live_law.proofs.AsLeg.{whole_as}
 use Rattle.live_law.proofs.Opening.{closes_now, stays_closed}
 use Rattle.live_law.proofs.Draining.{whole_ready}
 use Rattle.live_law.proofs.Covering.{texts_no_marks}
@@ -65,7 +66,7 @@ module _ (conf : EarConf) (takes : Takes) (gave popped left : List Item) (all : 
     | inr text ↦ true≢false (sym text ∙ no_end w.news (texts_no_marks w.news w.texts))
   ]
 
-  ended_all : IsEnded (hearing_of conf) takes gave → (is_closed takes ≡ true) × (texts_in conf.leg popped ≡ all_by (hearing_of conf) takes)
+  ended_all : IsEnded (hearing_of conf) takes gave → (is_closed takes ≡ true) × (texts_in 0 popped ≡ all_by (hearing_of conf) takes)
   ended_all w =
       let s = w.some in
       let a = subst (λ (ps : Takes). AreItems (hearing_of conf) ps gave) s.takes_are w.are in
@@ -80,14 +81,14 @@ module _ (conf : EarConf) (takes : Takes) (gave popped left : List Item) (all : 
             ])
       ] in (
         w.closed,
-        ap (texts_in conf.leg) whole ∙ (a.5 ∙ (ap (λ (ps : Takes). ready_by (hearing_of conf) ps) (sym s.takes_are) ∙ whole_ready (hearing_of conf) takes w.closed)),
+        ap (texts_in 0) whole ∙ (a.5 ∙ (ap (λ (ps : Takes). ready_by (hearing_of conf) ps) (sym s.takes_are) ∙ whole_ready (hearing_of conf) takes w.closed)),
       )
     where
       nothing : (z y : List Item) → z ++ y ≡ [] → z ≡ []
       nothing [] y e = refl
       nothing (k ∷ z) y e = absurd (cc e)
 
-  phase_all : (st : State) (F : Type 0) (story : Story) → PhaseAt st F conf takes gave story → (is_closed takes ≡ true) × (texts_in conf.leg popped ≡ all_by (hearing_of conf) takes)
+  phase_all : (st : State) (F : Type 0) (story : Story) → PhaseAt st F conf takes gave story → (is_closed takes ≡ true) × (texts_in 0 popped ≡ all_by (hearing_of conf) takes)
   phase_all Idle F story p = absurd (open_no_end (hearing_of conf) takes gave p.are p.open_still end_in)
   phase_all Giving F story p = absurd (giving_no_end p)
   phase_all Ending F story p = absurd (giving_no_end p.0)
@@ -98,6 +99,6 @@ module _ (conf : EarConf) (takes : Takes) (gave popped left : List Item) (all : 
   ])
 
 pub end_law : {L : Type 0} (g : links.Ghosts L) → EndIsAll g
-end_law g first now gave popped left w all ends =
+end_law g leg first now gave popped left w all ends =
     let r = phase_all (conf_of first.ear) w.so.takes gave popped left all ends now.state _ w.so.story w.so.phase in
-    (r.0, w.so.closed r.0, r.1)
+    (r.0, w.so.closed r.0, whole_as leg (hearing_of (conf_of first.ear)) w.so.takes popped r.1)

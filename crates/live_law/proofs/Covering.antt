@@ -1,5 +1,5 @@
 -- What was popped of a leg is the first of what it gives.
-use Rattle.std.proofs.Common.{◌≡◌, true, false, inl, inr, List, [], ◌∷◌, ◌++◌, refl, sym, ◌∙◌, subst}
+use Rattle.std.proofs.Common.{◌≡◌, ℕ, true, false, inl, inr, List, [], ◌∷◌, ◌++◌, refl, sym, ◌∙◌, subst}
 use Rattle.std.proofs.lemmas.List.{append-nil}
 use Rattle.stream_spec.specs.Fronts.{IsFront}
 use Rattle.gap_tracker.specs.Stories.{Story}
@@ -16,7 +16,8 @@ use Rattle.live_leg.specs.declared.legs.LinkLeg.{LinkLeg}
 use Rattle.live_leg.specs.Items.{AreItems, AreTexts, is_text, texts_in}
 use Rattle.live_leg.specs.Stands.{IsGivingSome, IsStop, LegStands, PhaseAt}
 use Rattle.live_leg.specs.Stories.{hearing_of}
-use Rattle.live_law.specs.Covers.{Covers}
+use Rattle.live_law.specs.Covers.{Covers, as_leg}
+use Rattle.live_law.proofs.AsLeg.{covers_as}
 use Rattle.live_law.proofs.Opening.{open_before, open_takes}
 use Rattle.live_law.specs.Marks.{AreNoMarks, IsOpenBefore, is_mark}
 
@@ -38,7 +39,7 @@ stop_no_mark item.End F s = absurd s
 stop_no_mark item.Quit F s = refl
 stop_no_mark item.Fault F s = refl
 
-module _ (conf : EarConf) (takes : Takes) (gave popped left : List Item) (all : gave ≡ popped ++ left) (front : IsFront (texts_in conf.leg gave) (all_by (hearing_of conf) takes)) where
+module _ (conf : EarConf) (takes : Takes) (gave popped left : List Item) (all : gave ≡ popped ++ left) (front : IsFront (texts_in 0 gave) (all_by (hearing_of conf) takes)) where
   -- some takes, what was given by them, and a tail
   covers_by : (later counting : Takes) (given tail : List Item) → IsOpenBefore takes → takes ≡ later ++ counting → AreItems (hearing_of conf) counting given → AreNoMarks tail → gave ≡ given ++ tail → Covers (hearing_of conf) takes popped
   covers_by later counting given tail last e are none is = record {
@@ -52,7 +53,7 @@ module _ (conf : EarConf) (takes : Takes) (gave popped left : List Item) (all : 
     no_marks = none;
     items_are = sym all ∙ is;
     last = last;
-    front = subst (λ (l : List Item). IsFront (texts_in conf.leg l) (all_by (hearing_of conf) takes)) is front;
+    front = subst (λ (l : List Item). IsFront (texts_in 0 l) (all_by (hearing_of conf) takes)) is front;
   }
 
   some_covers : {b : _} → IsGivingSome b (hearing_of conf) takes gave → Covers (hearing_of conf) takes popped
@@ -65,5 +66,5 @@ module _ (conf : EarConf) (takes : Takes) (gave popped left : List Item) (all : 
   phase_covers Over F story (inl p) = covers_by [] takes gave [] (subst IsOpenBefore (sym p.some.takes_are) (open_takes (hearing_of conf) p.some.past p.some.open_before)) refl p.are tt (sym (append-nil gave))
   phase_covers Over F story (inr p) = covers_by [] takes p.before (p.last ∷ []) (open_before (hearing_of conf) takes p.open_still) refl p.are (stop_no_mark p.last F p.stops, tt) p.items_are
 
-pub covers : {L : Type 0} (g : links.Ghosts L) (first now : LinkLeg L) (gave popped left : List Item) (w : LegStands g first now gave) → gave ≡ popped ++ left → Covers (hearing_of (conf_of first.ear)) w.so.takes popped
-covers g first now gave popped left w all = phase_covers (conf_of first.ear) w.so.takes gave popped left all w.front now.state _ w.so.story w.so.phase
+pub covers : {L : Type 0} (g : links.Ghosts L) (leg : ℕ) (first now : LinkLeg L) (gave popped left : List Item) (w : LegStands g first now gave) → gave ≡ popped ++ left → Covers (as_leg leg (hearing_of (conf_of first.ear))) w.so.takes popped
+covers g leg first now gave popped left w all = covers_as leg (hearing_of (conf_of first.ear)) w.so.takes popped (phase_covers (conf_of first.ear) w.so.takes gave popped left all w.front now.state _ w.so.story w.so.phase)

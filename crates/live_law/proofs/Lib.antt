@@ -1,4 +1,5 @@
 pub mod Opening
+pub mod AsLeg
 pub mod Covering
 pub mod Finding
 pub mod Following

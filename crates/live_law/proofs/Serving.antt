@@ -31,7 +31,7 @@ use Rattle.live_law.proofs.Following.{calls_law}
 pub answered : {L G : Type 0} (g : links.Ghosts L) (first back : LinkLeg L) (started now : Lane LegItem (LinkLeg L) G) → IsJoined g first back started now → IsAnswered g first back now
 answered g first back started now w =
     let c = w.comes first (w.runs first w.starts.runs) in
-    record { takes = c.1.so.takes; covers = covers g first back (items_of (popped_of now ++ c.0)) (items_of (popped_of now)) (items_of c.0) c.1 (items_append (popped_of now) c.0); taken = c.1.so.taken }
+    record { takes = c.1.so.takes; covers = λ leg. covers g leg first back (items_of (popped_of now ++ c.0)) (items_of (popped_of now)) (items_of c.0) c.1 (items_append (popped_of now) c.0); taken = c.1.so.taken }
 
 -- nothing was offered of what is no leg
 none_took : (s : Setup) (items : ℕ → List Item) (calls : List Call) (i : ℕ) → AreLiveCalls s items calls → s.legs ≤ i → (took s i calls ≡ []) × (hand_after s i calls ≡ None)

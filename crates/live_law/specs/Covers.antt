@@ -1,10 +1,14 @@
 -- What was popped of a leg, and what its link gave.
-use Rattle.std.specs.Prelude.{◌≡◌, List, ◌++◌}
+use Rattle.std.specs.Prelude.{◌≡◌, ℕ, List, ◌++◌}
 use Rattle.stream_spec.specs.Fronts.{IsFront}
 use Rattle.link_spec.specs.Links.{Takes}
 use Rattle.live_spec.specs.Told.{Hearing, all_by}
 use Rattle.live_leg.specs.Items.{AreItems, Item, texts_in}
 use Rattle.live_law.specs.Marks.{AreNoMarks, IsOpenBefore}
+
+-- the same, as of the leg with this number
+abbrev pub as_leg : ℕ → Hearing → Hearing
+as_leg leg h = record h { leg = leg }
 
 -- These items are the first of those that a leg gives by these takes, of which the last may not be given to its end; behind
 -- them it may say that it stopped. Behind the take that closed the link there is none.

@@ -20,7 +20,7 @@ use Rattle.item_lanes.specs.Lanes.{ComesBack, IsStarted, LaneFollows, popped_of}
 use Rattle.live_loop.specs.declared.ports.LivePort.{LivePort}
 use Rattle.live_loop.specs.Handed.{AreLiveCalls, hand_after, has_end}
 use Rattle.live_loop.specs.Walks.{IsServing}
-use Rattle.live_law.specs.Covers.{Covers}
+use Rattle.live_law.specs.Covers.{Covers, as_leg}
 
 -- Where calls were made in a live run of these items, which the legs gave by these takes, they are a live run of the core.
 abbrev pub CallsAreLive : Type 0
@@ -32,12 +32,12 @@ CallsAreLive =
     → ((i : ℕ) → Covers (hears i) (takes i) (items i))
     → Live s hears takes (turns_made calls) (after_calls s calls)
 
--- What was popped of a leg over a link is the first of what it gives by what the link gave.
+-- What was popped of a leg over a link is the first of what it gives by what the link gave, whichever number the leg has.
 abbrev pub LegsCover : {L : Type 0} → links.Ghosts L → Type 0
 LegsCover {L} g =
-    (first now : LinkLeg L) (gave popped left : List Item) (w : LegStands g first now gave)
+    (leg : ℕ) (first now : LinkLeg L) (gave popped left : List Item) (w : LegStands g first now gave)
     → gave ≡ popped ++ left
-    → Covers (hearing_of (conf_of first.ear)) w.so.takes popped
+    → Covers (as_leg leg (hearing_of (conf_of first.ear))) w.so.takes popped
 
 -- A leg that was started as `first`, ran, and came back.
 pub record IsJoined {L G : Type 0} (g : links.Ghosts L) (first back : LinkLeg L) (started now : Lane LegItem (LinkLeg L) G) : Type 0 where
@@ -45,10 +45,10 @@ pub record IsJoined {L G : Type 0} (g : links.Ghosts L) (first back : LinkLeg L)
   pub runs : LaneFollows (LegGave g) started now
   pub comes : ComesBack (LegGave g) now back
 
--- What its link gave covers what was popped of it; where links tell it, that is what the inbound end has taken since.
+-- What its link gave covers what was popped of it, whichever number the leg has; where links tell it, that is what the inbound end has taken since.
 pub record IsAnswered {L G : Type 0} (g : links.Ghosts L) (first back : LinkLeg L) (now : Lane LegItem (LinkLeg L) G) : Type 0 where
   pub takes : Takes
-  pub covers : Covers (hearing_of (conf_of first.ear)) takes (items_of (popped_of now))
+  pub covers : (leg : ℕ) → Covers (as_leg leg (hearing_of (conf_of first.ear))) takes (items_of (popped_of now))
   pub taken : g.tells → g.taken back.link ≡ takes ++ g.taken first.link
 
 abbrev pub ServedAreAnswered : {L : Type 0} (G : Type 0) → links.Ghosts L → Type 0
@@ -68,10 +68,10 @@ ServingIsLive {I} {M} popped stands =
 -- Where the end of a leg was popped, its link is closed, and all that is heard of it was popped.
 abbrev pub EndIsAll : {L : Type 0} → links.Ghosts L → Type 0
 EndIsAll {L} g =
-    (first now : LinkLeg L) (gave popped left : List Item) (w : LegStands g first now gave)
+    (leg : ℕ) (first now : LinkLeg L) (gave popped left : List Item) (w : LegStands g first now gave)
     → gave ≡ popped ++ left
     → has_end popped ≡ true
-    → (is_closed w.so.takes ≡ true) × (g.closed now.link ≡ true) × (texts_in (conf_of first.ear).leg popped ≡ all_by (hearing_of (conf_of first.ear)) w.so.takes)
+    → (is_closed w.so.takes ≡ true) × (g.closed now.link ≡ true) × (texts_in leg popped ≡ all_by (as_leg leg (hearing_of (conf_of first.ear))) w.so.takes)
 
 -- Of items that are covered and have the end the link is closed, and their texts are all that is heard.
 abbrev pub EndIsCovered : Type 0

@@ -49,10 +49,10 @@ ready_open conf takes story o s =
     let h = hearing_of conf in
     let d = told_by h takes in
     let F : Bool → List Chunk = λ b. if b then all_told h d else filter (is_ready_by d.moment) (chunks h.wait h.leg (still d.past) h.ssrc) in
-    filter_swap is_lively_chunk (is_ready_by story.moment) (chunks conf.wait conf.leg story.past conf.ssrc)
-    ∙ (ap (λ cs. filter (is_ready_by story.moment) cs) (sym (chunks_still conf.wait conf.leg story.past conf.ssrc))
-    ∙ (ap (λ (a : List Arrival). filter (is_ready_by story.moment) (chunks conf.wait conf.leg (still a) conf.ssrc)) s.past
-    ∙ (ap (λ (n : ℕ). filter (is_ready_by n) (chunks conf.wait conf.leg (still d.past) conf.ssrc)) (s.moment o) ∙ ap F (sym o))))
+    filter_swap is_lively_chunk (is_ready_by story.moment) (chunks conf.wait 0 story.past conf.ssrc)
+    ∙ (ap (λ cs. filter (is_ready_by story.moment) cs) (sym (chunks_still conf.wait 0 story.past conf.ssrc))
+    ∙ (ap (λ (a : List Arrival). filter (is_ready_by story.moment) (chunks conf.wait 0 (still a) conf.ssrc)) s.past
+    ∙ (ap (λ (n : ℕ). filter (is_ready_by n) (chunks conf.wait 0 (still d.past) conf.ssrc)) (s.moment o) ∙ ap F (sym o))))
 
 ready_closed : (conf : EarConf) (takes : Takes) (story : Story) → (told_by (hearing_of conf) takes).closed ≡ true → ToldAs (hearing_of conf) takes story
     → filter is_lively_chunk (story_chunks conf conf.ssrc story) ≡ ready_by (hearing_of conf) takes
@@ -60,7 +60,7 @@ ready_closed conf takes story o s =
     let h = hearing_of conf in
     let d = told_by h takes in
     let F : Bool → List Chunk = λ b. if b then all_told h d else filter (is_ready_by d.moment) (chunks h.wait h.leg (still d.past) h.ssrc) in
-    sym (chunks_still conf.wait conf.leg story.past conf.ssrc) ∙ (ap (λ (a : List Arrival). chunks conf.wait conf.leg (still a) conf.ssrc) s.past ∙ ap F (sym o))
+    sym (chunks_still conf.wait 0 story.past conf.ssrc) ∙ (ap (λ (a : List Arrival). chunks conf.wait 0 (still a) conf.ssrc) s.past ∙ ap F (sym o))
 
 one_lively : (c : Chunk) → is_lively_chunk c ≡ true → filter is_lively_chunk (c ∷ []) ≡ c ∷ []
 one_lively c e = ap (λ b. cond b (c ∷ []) []) e
@@ -85,7 +85,7 @@ with_text closing conf takes items x e w = record {
 }
 
 -- the answer's mark behind its texts, which are all that is ready
-with_mark : (closing : Bool) (conf : EarConf) (takes : Takes) (items : List Item) (x : Item) → x ≡ (if closing then End else Seen) → texts_in conf.leg (items ++ x ∷ []) ≡ ready_by (hearing_of conf) takes
+with_mark : (closing : Bool) (conf : EarConf) (takes : Takes) (items : List Item) (x : Item) → x ≡ (if closing then End else Seen) → texts_in 0 (items ++ x ∷ []) ≡ ready_by (hearing_of conf) takes
     → IsGivingSome closing (hearing_of conf) takes items → AreItems (hearing_of conf) takes (items ++ x ∷ [])
 with_mark closing conf takes items x m all w =
     let h = hearing_of conf in
@@ -107,8 +107,8 @@ module _ {L : Type 0} (g : links.Ghosts L) where
   front_of e conf takes story cs f s w =
       let r = f conf conf.ssrc story cs w in (
         filter is_lively_chunk r.0,
-        ap (λ (a : List Arrival). chunks conf.wait conf.leg (still a) conf.ssrc) (sym s.past)
-            ∙ (chunks_still conf.wait conf.leg story.past conf.ssrc ∙ (ap (λ xs. filter is_lively_chunk xs) r.1 ∙ filter-append is_lively_chunk cs r.0)),
+        ap (λ (a : List Arrival). chunks conf.wait 0 (still a) conf.ssrc) (sym s.past)
+            ∙ (chunks_still conf.wait 0 story.past conf.ssrc ∙ (ap (λ xs. filter is_lively_chunk xs) r.1 ∙ filter-append is_lively_chunk cs r.0)),
       )
 
   text_phase : (st : State) (F G : Type 0) (conf : EarConf) (takes : Takes) (items : List Item) (x : Item) (story : Story) (given : List Given) → is_text x ≡ true → is_giving st ≡ true
@@ -132,15 +132,15 @@ module _ {L : Type 0} (g : links.Ghosts L) where
   gave_more : (l m : LinkLeg L) (more : List Chunk) (xs : List Item) → has_fault xs ≡ false → m.link ≡ l.link → conf_of m.ear ≡ conf_of l.ear → GaveFront m.ear
       → (first : LinkLeg L) (items : List Item) (n : Nearly g first l items)
       → GaveSome m.ear (conf_of first.ear) (conf_of first.ear).ssrc n.story (n.heard ++ more)
-      → texts_in (conf_of first.ear).leg xs ≡ filter is_lively_chunk more
+      → texts_in 0 xs ≡ filter is_lively_chunk more
       → ((given : List Given) → PhaseAt m.state (Rose (g.faults first.link) (g.faults m.link)) (conf_of first.ear) n.takes (items ++ xs) (record n.story { given = given }))
       → LegStands g first m (items ++ xs)
   gave_more l m more xs well link conf_is front first items n gives are phase =
       let conf = conf_of first.ear in
       let story = record n.story { given = gives.0 } in
       let told = told_given conf n.takes n.story gives.0 n.told in
-      let texts : texts_in conf.leg (items ++ xs) ≡ filter is_lively_chunk (n.heard ++ more) =
-      texts_append conf.leg items xs ∙ ((λ ι. n.texts ι ++ are ι) ∙ sym (filter-append is_lively_chunk n.heard more)) in
+      let texts : texts_in 0 (items ++ xs) ≡ filter is_lively_chunk (n.heard ++ more) =
+      texts_append 0 items xs ∙ ((λ ι. n.texts ι ++ are ι) ∙ sym (filter-append is_lively_chunk n.heard more)) in
       record {
         so = record {
           takes = n.takes;
@@ -163,7 +163,7 @@ module _ {L : Type 0} (g : links.Ghosts L) where
 
   -- a text was given, or a keep-alive was passed over
   pub gives_next : (l m : LinkLeg L) (c : Chunk) → is_giving l.state ≡ true → m.state ≡ l.state → m.link ≡ l.link → conf_of m.ear ≡ conf_of l.ear
-      → GivesChunk l.ear m.ear c → GaveFront m.ear → c.source ≡ (conf_of m.ear).leg → (given : Option ItemKind) → given ≡ unless_blank c → GivesOf g l m (items_with given c)
+      → GivesChunk l.ear m.ear c → GaveFront m.ear → c.source ≡ 0 → (given : Option ItemKind) → given ≡ unless_blank c → GivesOf g l m (items_with given c)
   gives_next l m c giving state link conf_is gives front own given is first items n = subst (λ (k : Option ItemKind). LegStands g first m (items ++ items_with k c)) (sym is) (go (is_lively_chunk c) refl)
     where
       conf : EarConf
@@ -171,7 +171,7 @@ module _ {L : Type 0} (g : links.Ghosts L) where
 
       go : (b : Bool) → is_lively_chunk c ≡ b → LegStands g first m (items ++ items_with (if b then Some kind.Text else None) c)
       go true e = gave_more l m (c ∷ []) (Text c.ready c.text ∷ []) refl link conf_is front first items n (gives conf conf.ssrc n.story n.heard n.gave)
-          (ap (λ k. chunk k c.ready c.text ∷ []) (sym (own ∙ ap (λ (k : EarConf). k.leg) (conf_is ∙ n.conf))) ∙ sym (one_lively c e))
+          (ap (λ k. chunk k c.ready c.text ∷ []) (sym own) ∙ sym (one_lively c e))
           (λ given. subst (λ (st : State). PhaseAt st (Rose (g.faults first.link) (g.faults m.link)) conf n.takes (items ++ Text c.ready c.text ∷ []) (record n.story { given = given })) (sym state)
           (text_phase l.state _ _ conf n.takes items (Text c.ready c.text) n.story given refl giving n.phase))
       go false e = gave_more l m (c ∷ []) [] refl link conf_is front first items n (gives conf conf.ssrc n.story n.heard n.gave)
@@ -189,7 +189,7 @@ module _ {L : Type 0} (g : links.Ghosts L) where
       let conf = conf_of first.ear in
       gave_more l m [] (x ∷ []) well link conf_is front first items n
       (subst (λ cs. GaveSome m.ear conf conf.ssrc n.story cs) (sym (append-nil n.heard)) (gives conf conf.ssrc n.story n.heard n.gave))
-      (append-nil (text_in conf.leg x) ∙ none conf.leg) phase
+      (append-nil (text_in 0 x) ∙ none 0) phase
 
   giving_is : (st : State) (F : Type 0) (conf : EarConf) (takes : Takes) (items : List Item) (story : Story) → is_giving st ≡ true → is_ending st ≡ false → PhaseAt st F conf takes items story → IsGivingSome false (hearing_of conf) takes items
   giving_is Idle F conf takes items story e d p = absurd (true≢false (sym e))
@@ -210,7 +210,7 @@ module _ {L : Type 0} (g : links.Ghosts L) where
       let conf = conf_of first.ear in
       let F = Rose (g.faults first.link) (g.faults m.link) in
       let w = giving_is l.state _ conf n.takes items n.story giving not_ending n.phase in
-      let all : texts_in conf.leg (items ++ Seen ∷ []) ≡ ready_by (hearing_of conf) n.takes = texts_same conf.leg items Seen refl
+      let all : texts_in 0 (items ++ Seen ∷ []) ≡ ready_by (hearing_of conf) n.takes = texts_same 0 items Seen refl
       ∙ (n.texts ∙ (ap (λ cs. filter is_lively_chunk cs) (ready conf conf.ssrc n.story n.heard n.gave) ∙ ready_open conf n.takes n.story w.closed n.told)) in
       marked l m Seen (λ leg. refl) refl link conf_is gives front first items n
       (λ given. subst (λ (st : State). PhaseAt st F conf n.takes (items ++ Seen ∷ []) (record n.story { given = given })) (sym state)
@@ -228,7 +228,7 @@ module _ {L : Type 0} (g : links.Ghosts L) where
       let conf = conf_of first.ear in
       let F = Rose (g.faults first.link) (g.faults m.link) in
       let w = ending_is l.state _ conf n.takes items n.story ending n.phase in
-      let all : texts_in conf.leg (items ++ End ∷ []) ≡ ready_by (hearing_of conf) n.takes = texts_same conf.leg items End refl
+      let all : texts_in 0 (items ++ End ∷ []) ≡ ready_by (hearing_of conf) n.takes = texts_same 0 items End refl
       ∙ (n.texts ∙ (ap (λ cs. filter is_lively_chunk cs) (ready conf conf.ssrc n.story n.heard n.gave ∙ w.1) ∙ ready_closed conf n.takes n.story w.0.closed n.told)) in
       marked l m End (λ leg. refl) refl link conf_is gives front first items n
       (λ given. subst (λ (st : State). PhaseAt st F conf n.takes (items ++ End ∷ []) (record n.story { given = given })) (sym state)

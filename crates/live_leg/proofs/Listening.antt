@@ -110,7 +110,7 @@ module _ {L : Type 0} (g : links.Ghosts L) where
   stops l m x none idle state ear same closed falls port stop counts first items s =
       let conf = conf_of first.ear in
       let n = s.so in
-      let texts = texts_same conf.leg items x (none conf.leg) in
+      let texts = texts_same 0 items x (none 0) in
       let i = idle_is l.state _ conf n.takes items n.story idle n.phase in
       let F = Rose (g.faults first.link) (g.faults m.link) in
       record {

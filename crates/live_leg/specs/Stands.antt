@@ -91,7 +91,7 @@ module _ {L : Type 0} (g : links.Ghosts L) where
     pub conf : conf_of now.ear ≡ conf_of first.ear
     pub heard : List Chunk
     pub gave : Gave now.ear (conf_of first.ear) (conf_of first.ear).ssrc story heard
-    pub texts : texts_in (conf_of first.ear).leg items ≡ filter is_lively_chunk heard
+    pub texts : texts_in 0 items ≡ filter is_lively_chunk heard
     pub told : ToldAs (hearing_of (conf_of first.ear)) takes story
     pub taken : g.tells → g.taken now.link ≡ takes ++ g.taken first.link
     pub closed : is_closed takes ≡ true → g.closed now.link ≡ true
@@ -103,7 +103,7 @@ module _ {L : Type 0} (g : links.Ghosts L) where
   -- and its texts are the first of all that are heard by these takes
   pub record LegStands (first now : LinkLeg L) (items : List Item) : Type 0 where
     pub so : Nearly first now items
-    pub front : IsFront (texts_in (conf_of first.ear).leg items) (all_by (hearing_of (conf_of first.ear)) so.takes)
+    pub front : IsFront (texts_in 0 items) (all_by (hearing_of (conf_of first.ear)) so.takes)
 
   abbrev pub LegGave : LinkLeg L → LinkLeg L → List LegItem → Type 0
   LegGave first now gave = LegStands first now (items_of gave)

@@ -19,8 +19,9 @@ after_came conf story t Closed octets = ended story
 abbrev pub after_taken : EarConf → Story → Taken → List ℕ → Story
 after_taken conf story taken octets = after_came conf story taken.at taken.came octets
 
+-- what an ear hears that is asked for this, its texts with the source 0: whose they are is set by who mixes
 abbrev pub hearing_of : EarConf → Hearing
-hearing_of conf = record { leg = conf.leg; ssrc = conf.ssrc; pts = conf.pts; wait = conf.wait }
+hearing_of conf = record { leg = 0; ssrc = conf.ssrc; pts = conf.pts; wait = conf.wait }
 
 -- an ear with this story was told of what these takes gave
 pub record ToldAs (h : Hearing) (takes : Takes) (story : Story) : Type 0 where

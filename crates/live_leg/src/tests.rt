@@ -9,7 +9,6 @@ use std::sync::{Arc, Wait};
 use std::test::Fail;
 
 const ANN: EarConf = EarConf {
-    leg: 5,
     ssrc: 1001,
     pts: Pts { t140: 98, red: 100 },
     wait: 1000,
@@ -60,7 +59,7 @@ fn gives<F: Gives<LegItem>, R: Wait>(
 
 // Whether this is a text of Ann, from this moment on.
 fn is_said(item: &LegItem, text: &[u8], ready: u64) -> bool {
-    item.chunk.source == 5 && item.chunk.ready == ready && item.chunk.text.as_slice() == text
+    item.chunk.ready == ready && item.chunk.text.as_slice() == text
 }
 
 #[test]

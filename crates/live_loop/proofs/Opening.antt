@@ -26,24 +26,3 @@ module _ {I : Type 0} where
   -- so each leg has its number
   pub at_begun : (ps qs : List (LivePort I)) → qs ≡ ps → EachBegun ps → AreAt qs
   at_begun ps qs is each j p e = (each j p (ap (λ (l : List (LivePort I)). slice_get l j) (sym is) ∙ e)).leg_is
-
-  -- the next of all has a port
-  pub are_more : (all rest rest' : List I) (ps qs : List (LivePort I)) (i : I) (p : LivePort I) → map inlet_in ps ++ rest ≡ all → rest ≡ i ∷ rest' → p.inlet ≡ i → qs ≡ ps ++ p ∷ [] → map inlet_in qs ++ rest' ≡ all
-  are_more all rest rest' ps qs i p are next is new =
-      ap (λ l. map inlet_in l ++ rest') new
-      ∙ (ap (λ l. l ++ rest') (map-append inlet_in ps (p ∷ []))
-      ∙ (append_assoc (map inlet_in ps) (p.inlet ∷ []) rest'
-      ∙ (ap (λ x. map inlet_in ps ++ x ∷ rest') is ∙ (ap (λ l. map inlet_in ps ++ l) (sym next) ∙ are))))
-
-  pub are_all : (all rest : List I) (ps : List (LivePort I)) → map inlet_in ps ++ rest ≡ all → rest ≡ [] → map inlet_in ps ≡ all
-  are_all all rest ps are none = sym (append-nil (map inlet_in ps)) ∙ (ap (λ l. map inlet_in ps ++ l) (sym none) ∙ are)
-
-  -- that of the next port of all is there
-  pub inlets_more : (all rest rest' : List (LivePort I)) (is js : List I) (p : LivePort I) (i : I) → is ++ map inlet_in rest ≡ map inlet_in all → rest ≡ p ∷ rest' → i ≡ p.inlet → js ≡ is ++ i ∷ [] → js ++ map inlet_in rest' ≡ map inlet_in all
-  inlets_more all rest rest' is js p i are next same new =
-      ap (λ l. l ++ map inlet_in rest') new
-      ∙ (append_assoc is (i ∷ []) (map inlet_in rest')
-      ∙ (ap (λ x. is ++ x ∷ map inlet_in rest') same ∙ (ap (λ l. is ++ map inlet_in l) (sym next) ∙ are)))
-
-  pub inlets_all : (all rest : List (LivePort I)) (is : List I) → is ++ map inlet_in rest ≡ map inlet_in all → rest ≡ [] → is ≡ map inlet_in all
-  inlets_all all rest is are none = sym (append-nil is) ∙ (ap (λ l. is ++ map inlet_in l) (sym none) ∙ are)

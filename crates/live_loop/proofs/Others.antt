@@ -13,26 +13,7 @@ use Rattle.live_spec.specs.Live.{is_held_back}
 use Rattle.live_loop.specs.declared.ports.LivePort.{LivePort}
 use Rattle.live_loop.specs.Handed.{hand_after, is_blocked_after}
 use Rattle.live_loop.specs.Ports.{AreNext, PortAt, with_offers}
-
--- ---- spans
-any_same : (p q : ℕ → Bool) (n : ℕ) → ((x : ℕ) → p x ≡ q x) → any_below p n ≡ any_below q n
-any_same p q zero f = refl
-any_same p q (suc n) f = ap (λ b. b || any_below p n) (f n) ∙ ap (λ b. q n || b) (any_same p q n f)
-
-span_same : (s : Setup) (x : ℕ) (v w : Table) → ((j : ℕ) → (v.terminals j).waits x ≡ (w.terminals j).waits x) → (xs : List Taken) → span_of s x v xs ≡ span_of s x w xs
-span_same s x v w f [] = refl
-span_same s x v w f (y ∷ xs) =
-    ap (λ b. cond b (y ∷ xs) (span_of s x v xs)) (any_same (still_waits x v y xs) (still_waits x w y xs) s.legs (λ j. ap (λ ws. y.given j && nat_le (count_given j (y ∷ xs)) (length ws)) (f j)))
-    ∙ ap (λ ys. cond (any_below (still_waits x w y xs) s.legs) (y ∷ xs) ys) (span_same s x v w f xs)
-
-given_room : (s : Setup) (i x : ℕ) (c d : Chunk) (table : Table) → (x ≡ i → ⊥) → has_room s x c (given i d table) ≡ has_room s x c table
-given_room s i x c d table ne =
-    ap (λ ys. is_seated table.seats x && is_fit (chunks_taken ys ++ c ∷ []))
-    (ap (span_of s x (given i d table)) (set_other table.taken i (table.taken i ++ record { chunk = d; given = is_given table.seats i } ∷ []) x ne) ∙ span_same s x (given i d table) table (λ j. waits j (is_given table.seats i j)) (table.taken x))
-  where
-    waits : (j : ℕ) (b : Bool) → (cond b (give i d (table.terminals j)) (table.terminals j)).waits x ≡ (table.terminals j).waits x
-    waits j false = refl
-    waits j true = set_other (table.terminals j).waits i ((table.terminals j).waits i ++ d ∷ []) x ne
+use Rattle.mixer_spec.proofs.Finish.{given_room}
 
 module _ (s : Setup) (k : ℕ) where
   offered_room : (i : ℕ) (c d : Chunk) (table : Table) → (k ≡ i → ⊥) → has_room s k d (offered s i c table) ≡ has_room s k d table

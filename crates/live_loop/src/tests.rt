@@ -143,7 +143,6 @@ fn alone(alloc: Global, leg: LinkLeg<MemIn>) -> Option<Vec<LinkLeg<MemIn>>>
 }
 
 const ANN: EarConf = EarConf {
-    leg: 0,
     ssrc: 1001,
     pts: Pts { t140: 98, red: 100 },
     wait: 1000,

@@ -19,7 +19,7 @@ use Rattle.mix_loop.specs.Mixers.{At}
 use Rattle.mix_loop.specs.Ports.{MayCome, SameSeat, StaysAs, Holds, DrainedTo, Grows, hand_of}
 use Rattle.mix_loop.specs.Turns.{Known, all_of, Answers, AnswersAs, GrowsAll, AllAtEnd, mixing_of, KnownAt, AllKnown, TurnsTo, DrainsTo, ended_at, NoFaultBelow, IsLowestAt, GaveAt, MixedAs, Tells, UnlessStopped, UnlessUnsent}
 use Rattle.mix_loop.proofs.Lists.{funext, lt_or_ge, get_within, set_length}
-use Rattle.mix_loop.proofs.Reaching.{known_set, back, back_may, back_all}
+use Rattle.mix_loop.proofs.Reaching.{known_set, back, back_may, back_all, known_on}
 
 -- ---- draining
 module _ {F : Type 0} (kn kn' : ℕ → Known F) (i : ℕ) (y : Known F) (o : GrowsAll kn kn') (g : Grows (kn' i).gave y.gave) where
@@ -50,14 +50,7 @@ module _ {I F : Type 0} (stands : I → I → Gave F → Type 0) (s : Setup) (fi
       let k = o.known i p at in
       let g = d k.first x.gave k.holds in
       let y : Known F = record { gave = g.gave'; hand = hand_of r; seat = x.seat } in
-      let known : KnownAt stands s firsts i r y = record {
-        first = k.first;
-        of = k.of;
-        holds = g.holds;
-        hand = refl;
-        seat = same.seat ∙ k.seat;
-        stays = record { from = k.stays.from ∙ ap (λ (z : Stay). z.from) (sym same.stay); until = k.stays.until ∙ ap (λ (z : Stay). z.until) (sym same.stay) };
-      } in
+      let known = known_on stands s firsts i p r x k g.gave' same g.holds in
       let shut : is_open y.gave.ended ≡ false = ap is_open (sym g.holds.ended) ∙ closed in
       let still : (j : ℕ) → (j ≡ i → ⊥) → j < i + 1 → j < i = λ j other less. omega (arith, other, less) in
       record {

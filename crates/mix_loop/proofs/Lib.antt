@@ -9,3 +9,4 @@ pub mod Finding
 pub mod Opening
 pub mod Ending
 pub mod Answering
+pub mod OfLeg

@@ -22,23 +22,25 @@ module _ {I F : Type 0} where
         (leg, ap (slice_get legs) r.0 ∙ at, subst (λ (x : Port I F). IsNew x.inlet leg.stay x) r.1 here)
   ]
 
-  -- the next inlet of all has a port
-  pub are_more : (all rest rest' : List I) (ps qs : List (Port I F)) (i : I) (p : Port I F) → map inlet_in ps ++ rest ≡ all → rest ≡ i ∷ rest' → p.inlet ≡ i → qs ≡ ps ++ p ∷ [] → map inlet_in qs ++ rest' ≡ all
+-- ---- whatever has inlets
+module _ {I P : Type 0} (inlet_of : P → I) where
+  -- the next inlet of all has one
+  pub are_more : (all rest rest' : List I) (ps qs : List P) (i : I) (p : P) → map inlet_of ps ++ rest ≡ all → rest ≡ i ∷ rest' → inlet_of p ≡ i → qs ≡ ps ++ p ∷ [] → map inlet_of qs ++ rest' ≡ all
   are_more all rest rest' ps qs i p are next is new =
-      ap (λ l. map inlet_in l ++ rest') new
-      ∙ (ap (λ l. l ++ rest') (map-append inlet_in ps (p ∷ []))
-      ∙ (append_assoc (map inlet_in ps) (p.inlet ∷ []) rest'
-      ∙ (ap (λ x. map inlet_in ps ++ x ∷ rest') is ∙ (ap (λ l. map inlet_in ps ++ l) (sym next) ∙ are))))
+      ap (λ l. map inlet_of l ++ rest') new
+      ∙ (ap (λ l. l ++ rest') (map-append inlet_of ps (p ∷ []))
+      ∙ (append_assoc (map inlet_of ps) (inlet_of p ∷ []) rest'
+      ∙ (ap (λ x. map inlet_of ps ++ x ∷ rest') is ∙ (ap (λ l. map inlet_of ps ++ l) (sym next) ∙ are))))
 
-  pub are_all : (all rest : List I) (ps : List (Port I F)) → map inlet_in ps ++ rest ≡ all → rest ≡ [] → map inlet_in ps ≡ all
-  are_all all rest ps are none = sym (append-nil (map inlet_in ps)) ∙ (ap (λ l. map inlet_in ps ++ l) (sym none) ∙ are)
+  pub are_all : (all rest : List I) (ps : List P) → map inlet_of ps ++ rest ≡ all → rest ≡ [] → map inlet_of ps ≡ all
+  are_all all rest ps are none = sym (append-nil (map inlet_of ps)) ∙ (ap (λ l. map inlet_of ps ++ l) (sym none) ∙ are)
 
-  -- the inlet of the next port of all is there
-  pub inlets_more : (all rest rest' : List (Port I F)) (is js : List I) (p : Port I F) (i : I) → is ++ map inlet_in rest ≡ map inlet_in all → rest ≡ p ∷ rest' → i ≡ p.inlet → js ≡ is ++ i ∷ [] → js ++ map inlet_in rest' ≡ map inlet_in all
+  -- the inlet of the next of all is there
+  pub inlets_more : (all rest rest' : List P) (is js : List I) (p : P) (i : I) → is ++ map inlet_of rest ≡ map inlet_of all → rest ≡ p ∷ rest' → i ≡ inlet_of p → js ≡ is ++ i ∷ [] → js ++ map inlet_of rest' ≡ map inlet_of all
   inlets_more all rest rest' is js p i are next same new =
-      ap (λ l. l ++ map inlet_in rest') new
-      ∙ (append_assoc is (i ∷ []) (map inlet_in rest')
-      ∙ (ap (λ x. is ++ x ∷ map inlet_in rest') same ∙ (ap (λ l. is ++ map inlet_in l) (sym next) ∙ are)))
+      ap (λ l. l ++ map inlet_of rest') new
+      ∙ (append_assoc is (i ∷ []) (map inlet_of rest')
+      ∙ (ap (λ x. is ++ x ∷ map inlet_of rest') same ∙ (ap (λ l. is ++ map inlet_of l) (sym next) ∙ are)))
 
-  pub inlets_all : (all rest : List (Port I F)) (is : List I) → is ++ map inlet_in rest ≡ map inlet_in all → rest ≡ [] → is ≡ map inlet_in all
-  inlets_all all rest is are none = sym (append-nil is) ∙ (ap (λ l. is ++ map inlet_in l) (sym none) ∙ are)
+  pub inlets_all : (all rest : List P) (is : List I) → is ++ map inlet_of rest ≡ map inlet_of all → rest ≡ [] → is ≡ map inlet_of all
+  inlets_all all rest is are none = sym (append-nil is) ∙ (ap (λ l. is ++ map inlet_of l) (sym none) ∙ are)

@@ -15,10 +15,11 @@ use Rattle.mix_loop.specs.declared.ports.Seat.TheVariants.{Away, Listens, Hushed
 use Rattle.mix_loop.specs.declared.ports.Port.{Port}
 use Rattle.mix_loop.specs.Items.{Gave, is_open}
 use Rattle.mix_loop.specs.Mixers.{At}
-use Rattle.mix_loop.specs.Ports.{MayCome, SeatAt, SeatsKept, Gathered, hand_of, hand_with, is_away, is_hushed, is_to_leave}
+use Rattle.mix_loop.specs.Ports.{MayCome, SeatAt, SeatsKept, Gathered, hand_of, hand_with, is_away, is_hushed, is_to_leave, SameSeat, Holds}
 use Rattle.mix_loop.specs.Turns.{Known, all_of, desk_of, MayComeAll, Reaches, Settled, KnownAt, AllKnown, IsNow, BecomesBy, comes}
 use Rattle.mix_loop.proofs.Lists.{funext, get_set_same, get_set_other, set_length}
 use Rattle.mix_loop.proofs.Places.{gone_still}
+use Rattle.file_spec.specs.declared.conf_lines.Stay.{Stay}
 
 -- ---- one step behind the other
 pub reaches_none : {F : Type 0} (kn : ℕ → Known F) (table : Table) → Reaches (λ d. d) kn table kn table
@@ -170,6 +171,17 @@ pub kept_more : (i : ℕ) (a b c : Seats) → SeatsKept i a b → SeatsKept i b 
 kept_more i a b c x y = record { place = λ j n. y.place j n ∙ x.place j n; came = λ j n. y.came j n ∙ x.came j n; listens = λ j n. y.listens j n ∙ x.listens j n }
 
 module _ {I F : Type 0} (stands : I → I → Gave F → Type 0) (s : Setup) (firsts : List I) where
+  -- a port whose leg and seat are as they were, with what it gave since
+  pub known_on : (i : ℕ) (p r : Port I F) (x : Known F) (k : KnownAt stands s firsts i p x) (gave : Gave F) → SameSeat p r → Holds stands i k.first r gave → KnownAt stands s firsts i r (record { gave = gave; hand = hand_of r; seat = x.seat })
+  known_on i p r x k gave same holds = record {
+    first = k.first;
+    of = k.of;
+    holds = holds;
+    hand = refl;
+    seat = same.seat ∙ k.seat;
+    stays = record { from = k.stays.from ∙ ap (λ (z : Stay). z.from) (sym same.stay); until = k.stays.until ∙ ap (λ (z : Stay). z.until) (sym same.stay) };
+  }
+
   pub known_set : (ps : List (Port I F)) (kn : ℕ → Known F) (i : ℕ) (q : Port I F) (y : Known F) → AllKnown stands s firsts ps kn → i < length ps → KnownAt stands s firsts i q y → AllKnown stands s firsts (set ps i q) (set_at kn i y)
   known_set ps kn i q y known low k j r e = elim (cases_eq j i) [
     | inl same ↦

@@ -15,9 +15,11 @@ use Rattle.mix_loop.specs.declared.turns.Turned.TheVariants as turn
 use Rattle.mix_loop.specs.Items.{Gave, is_fault, nothing}
 use Rattle.mix_loop.specs.Mixers.{At}
 use Rattle.mix_loop.specs.Ports.{hand_of, hand_with, is_away}
-use Rattle.mix_loop.specs.Turns.{Known, unknown, all_of, desk_of, MayComeAll, Reaches, Settled, SettledBelow, next_from, turn_from, IsBefore, Answers, IsOverAs, AllFresh, IsNow, BecomesBy, OffersBy, SettlesBy, BeforeTo, TurnsTo}
+use Rattle.mix_loop.specs.Turns.{Known, unknown, all_of, desk_of, MayComeAll, Reaches, Settled, SettledBelow, next_from, turn_from, IsBefore, Answers, IsOverAs, AllFresh, IsNow, BecomesBy, OffersBy, SettlesBy, BeforeTo, TurnsTo, UnlessStopped, AnswersAs}
 use Rattle.mix_loop.proofs.Lists.{lt_or_ge}
 use Rattle.mix_loop.proofs.Reaching.{becomes_then}
+use Rattle.mix_loop.specs.declared.turns.Before.{Before}
+use Rattle.mix_loop.specs.declared.turns.Turned.{Turned}
 
 -- ---- plain mixing, cut behind what is done before a turn
 pick : (b : Bool) (x : Option Table) → cond b x None ≡ elim b as (λ b. Option Table) [ true ↦ x | false ↦ None ]
@@ -144,30 +146,21 @@ module _ {I F M : Type 0} (stands : I → I → Gave F → Type 0) (mixes : M �
     reached : (kn' : ℕ → Known F) (table' : Table) → Reaches (before_turn s now) b.kn b.table kn' table' → Reaches (before_turn s (k * tick)) b.kn b.table kn' table'
     reached kn' table' r = subst (λ (t : ℕ). Reaches (before_turn s t) b.kn b.table kn' table') at r
 
+    -- an answer of the turns, by what settling comes to
+    ends_as : {T : Type 0} (what : Before) (answer : Turned T) (o : SettlesBy stands mixes s firsts what (before_turn s now) b.kn b.table qs m1) → UnlessStopped answer (At mixes m1 s o.becomes.table') → AnswersAs answer s tick turns o.becomes.kn' o.becomes.table'
+        → TurnsTo {T = T} stands mixes s firsts tick turns answer qs m1
+    ends_as what answer o mixed answers = let n = o.becomes.now in record { kn = o.becomes.kn'; table = o.becomes.table'; known = n.known; legs = n.legs; above = n.above; mixed = mixed; answers = answers }
+
     pub fault_ends : {T : Type 0} → SettlesBy stands mixes s firsts before.Faulted (before_turn s now) b.kn b.table qs m1 → TurnsTo {T = T} stands mixes s firsts tick turns turn.Faulted qs m1
-    fault_ends o = let n = o.becomes.now in record { kn = o.becomes.kn'; table = o.becomes.table'; known = n.known; legs = n.legs; above = n.above; mixed = n.mixed; answers = o.finds }
+    fault_ends o = ends_as before.Faulted turn.Faulted o o.becomes.now.mixed o.finds
 
     pub over_ends : {T : Type 0} → SettlesBy stands mixes s firsts before.Over (before_turn s now) b.kn b.table qs m1 → TurnsTo {T = T} stands mixes s firsts tick turns turn.Over qs m1
-    over_ends o = let n = o.becomes.now in record {
-      kn = o.becomes.kn';
-      table = o.becomes.table';
-      known = n.known;
-      legs = n.legs;
-      above = n.above;
-      mixed = n.mixed;
-      answers = over_answers s tick turns k b.kn o.becomes.kn' b.table o.becomes.table' b.before (reached o.becomes.kn' o.becomes.table' o.becomes.reaches) o.finds;
-    }
+    over_ends o = ends_as before.Over turn.Over o o.becomes.now.mixed
+        (over_answers s tick turns k b.kn o.becomes.kn' b.table o.becomes.table' b.before (reached o.becomes.kn' o.becomes.table' o.becomes.reaches) o.finds)
 
     pub long_ends : {T : Type 0} → k ≡ turns → SettlesBy stands mixes s firsts before.Going (before_turn s now) b.kn b.table qs m1 → TurnsTo {T = T} stands mixes s firsts tick turns turn.TooLong qs m1
-    long_ends e o = let n = o.becomes.now in record {
-      kn = o.becomes.kn';
-      table = o.becomes.table';
-      known = n.known;
-      legs = n.legs;
-      above = n.above;
-      mixed = n.mixed;
-      answers = going_long s tick turns k b.kn o.becomes.kn' b.table o.becomes.table' b.before (reached o.becomes.kn' o.becomes.table' o.becomes.reaches) o.finds e;
-    }
+    long_ends e o = ends_as before.Going turn.TooLong o o.becomes.now.mixed
+        (going_long s tick turns k b.kn o.becomes.kn' b.table o.becomes.table' b.before (reached o.becomes.kn' o.becomes.table' o.becomes.reaches) o.finds e)
 
     module _ (o : SettlesBy stands mixes s firsts before.Going (before_turn s now) b.kn b.table qs m1) (m2 : M) where
       pub stop_ends : {T : Type 0} (why : T) → TurnsTo stands mixes s firsts tick turns (turn.Stopped why) qs m2

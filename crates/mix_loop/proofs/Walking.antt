@@ -14,7 +14,7 @@ use Rattle.mix_loop.specs.Ports.{SeatAt, SeatsKept, StaysAs, OnlySeat, SameSeat,
 use Rattle.mix_loop.specs.Turns.{Known, AreSound, KnownAt, IsNow, BecomesBy, GoesBy, OffersBy, Settled, comes}
 use Rattle.mix_loop.proofs.Lists.{get_within, get_set_same, get_set_other}
 use Rattle.mix_loop.proofs.Places.{stopped_kept, departed_kept, entered_kept}
-use Rattle.mix_loop.proofs.Reaching.{seated, goes_one, comes_one, offers_one, settled_same, kept_more, no_others, becomes_none, becomes_more}
+use Rattle.mix_loop.proofs.Reaching.{seated, goes_one, comes_one, offers_one, settled_same, kept_more, no_others, becomes_none, becomes_more, known_on}
 
 -- ---- ports that are sound
 module _ {I F : Type 0} (good : I → Type 0) where
@@ -118,14 +118,7 @@ module _ {I F M : Type 0} (stands : I → I → Gave F → Type 0) (mixes : M �
         subst (λ h. Gathered s i t x.gave h before y.gave y.hand g.table') k.hand g.gathered in
         let seat : SeatAt g.table'.seats i x.seat = subst (λ z. SeatAt z i x.seat) (sym gathered.seats) (n.seats i below) in
         let more : suc i ≡ i + 1 = omega arith in
-        let known : KnownAt stands s firsts i r y = record {
-          first = k.first;
-          of = k.of;
-          holds = g.holds;
-          hand = refl;
-          seat = same.seat ∙ k.seat;
-          stays = record { from = k.stays.from ∙ ap (λ (z : Stay). z.from) (sym same.stay); until = k.stays.until ∙ ap (λ (z : Stay). z.until) (sym same.stay) };
-        } in
+        let known = known_on stands s firsts i p r x k g.gave' same g.holds in
         let still : (j : ℕ) → (j ≡ i → ⊥) → j < suc i → j < i = λ j other less. omega (arith, other, less) in
         subst (λ (j : ℕ). OffersBy stands mixes s firsts j (offers_below s t j) kn table (set ps i r) m2) more (record {
           becomes = becomes_more stands s firsts mixes (offers_below s t i) (offers s t i) kn table ps m m2 i r b.becomes y g.table' low known

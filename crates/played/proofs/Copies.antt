@@ -22,7 +22,7 @@ use Rattle.played.specs.declared.found.Found.{Found}
 use Rattle.rtpdump_io.specs.InMemory.{IsRecord}
 use Rattle.played.specs.Written.{AreRecords}
 use Rattle.played.specs.Finds.{Finds}
-use Rattle.played.proofs.Going.{Splits}
+use Rattle.rtpdump_io.proofs.Fronts.{Splits}
 use Rattle.played.proofs.Unplanned.{as_written}
 
 -- ---- the record of a copy

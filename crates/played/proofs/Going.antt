@@ -11,37 +11,10 @@ use Rattle.terminal.specs.declared.confs.TermConf.{TermConf}
 use Rattle.terminal.specs.declared.terminals.Terminal.{Terminal}
 use Rattle.terminal.specs.Terminals.{Listens}
 use Rattle.rtpdump_io.specs.InMemory.{IsRecord, IsSplit}
-use Rattle.played.specs.Written.{AreRecords}
+use Rattle.rtpdump_io.specs.InMemory.{AreRecords}
+use Rattle.rtpdump_io.proofs.Fronts.{IsLast, Splits, first_of, none_left}
 use Rattle.played.specs.declared.found.Found.{Found}
 use Rattle.played.specs.Finds.{Stand, Finds}
-
--- what the first record of these octets is
-abbrev pub Splits : List ℕ → ℕ → List ℕ → List ℕ → Type 0
-Splits octets at packet behind = (r : ℕ × List ℕ) (more : List ℕ) → IsRecord r → octets ≡ record_written r ++ more → IsSplit at packet behind r more
-
--- one of these records stands first
-pub record First (at : ℕ) (body behind : List ℕ) (back : List (ℕ × List ℕ)) : Type 0 where
-  pub first : ℕ × List ℕ
-  pub later : List (ℕ × List ℕ)
-  pub is : back ≡ first ∷ later
-  pub fits : IsRecord first
-  pub moment : at ≡ first.0
-  pub packet : body ≡ first.1
-  pub left : AreRecords behind later
-
-pub first_of : (octets : List ℕ) (at : ℕ) (packet behind : List ℕ) (back : List (ℕ × List ℕ)) → Splits octets at packet behind → length behind + 8 ≤ length octets → AreRecords octets back → First at packet behind back
-first_of octets at packet behind [] f l a = absurd (omega (arith, ap (λ (xs : List ℕ). length xs) a.is, l))
-first_of octets at packet behind (b ∷ back) f l a =
-    let s = f b (flat_map record_written back) a.each.0 a.is in
-    record {
-      first = b;
-      later = back;
-      is = refl;
-      fits = a.each.0;
-      moment = s.moment;
-      packet = s.packet;
-      left = record { is = s.rest; each = a.each.1; few = omega (arith, a.few) };
-    }
 
 -- so far these records stood in front, and those are left
 pub record Passed (octets rest : List ℕ) (whole front : List (ℕ × List ℕ)) : Type 0 where
@@ -68,41 +41,8 @@ passed_more octets rest at packet behind all front f l p =
       passed = record { back = d.later; all = p.all ∙ (ap (λ (xs : List (ℕ × List ℕ)). front ++ xs) d.is ∙ sym (append_assoc front (d.first ∷ []) d.later)); left = d.left };
     }
 
--- nothing is left
-pub none_left : (rest : List ℕ) (back : List (ℕ × List ℕ)) → ((r : ℕ × List ℕ) (more : List ℕ) → IsRecord r → rest ≡ record_written r ++ more → ⊥) → AreRecords rest back → back ≡ []
-none_left rest [] f a = refl
-none_left rest (b ∷ back) f a = absurd (f b (flat_map record_written back) a.each.0 a.is)
-
-pub passed_all : (octets rest : List ℕ) (all front : List (ℕ × List ℕ)) → ((r : ℕ × List ℕ) (more : List ℕ) → IsRecord r → rest ≡ record_written r ++ more → ⊥) → Passed octets rest all front → all ≡ front
+pub passed_all : (octets rest : List ℕ) (all front : List (ℕ × List ℕ)) → IsLast rest → Passed octets rest all front → all ≡ front
 passed_all octets rest all front f p = p.all ∙ (ap (λ (xs : List (ℕ × List ℕ)). front ++ xs) (none_left rest p.back f p.left) ∙ append-nil front)
-
--- as many records as octets at most
-pub record Left (rest : List ℕ) (n : ℕ) : Type 0 where
-  pub back : List (ℕ × List ℕ)
-  pub left : AreRecords rest back
-  pub few : n + length back < 2 ^ 32
-
-pub left_less : (rest : List ℕ) (at : ℕ) (packet behind : List ℕ) (m n : ℕ) → Splits rest at packet behind → length behind + 8 ≤ length rest → n ≤ m + 1 → Left rest m → Left behind n
-left_less rest at packet behind m n f l u p =
-    let d = first_of rest at packet behind p.back f l p.left in
-    record { back = d.later; left = d.left; few = omega (arith, u, p.few, ap (λ (xs : List (ℕ × List ℕ)). length xs) d.is) }
-
--- ---- heard one after another
-pub record HeardFront (t : Terminal) (c : TermConf) (sources : List ℕ) (octets rest : List ℕ) (all : List (ℕ × List ℕ)) : Type 0 where
-  pub front : List (ℕ × List ℕ)
-  pub passed : Passed octets rest all front
-  pub listens : Listens t c sources (map sent_item front)
-
-pub heard_more : (t n : Terminal) (c : TermConf) (sources : List ℕ) (octets rest : List ℕ) (all : List (ℕ × List ℕ)) (at : ℕ) (packet behind : List ℕ) → Splits rest at packet behind → length behind + 8 ≤ length rest
-    → ((came : List Item) → Listens t c sources came → Listens n c sources (came ++ sent_item (at, packet) ∷ [])) → HeardFront t c sources octets rest all → HeardFront n c sources octets behind all
-heard_more t n c sources octets rest all at packet behind f l g h =
-    let d = passed_more octets rest at packet behind all h.front f l h.passed in
-    let item : sent_item (at, packet) ≡ sent_item d.first = ap (λ (x : ℕ). sent_item (x, packet)) d.moment ∙ ap (λ (x : List ℕ). sent_item (d.first.0, x)) d.packet in
-    record {
-      front = h.front ++ d.first ∷ [];
-      passed = d.passed;
-      listens = subst (Listens n c sources) (ap (λ (i : Item). map sent_item h.front ++ i ∷ []) item ∙ sym (map-append sent_item h.front (d.first ∷ []))) (g (map sent_item h.front) h.listens);
-    }
 
 -- ---- moments that never fall
 pub record Rises (latest : ℕ) (octets rest : List ℕ) (all : List (ℕ × List ℕ)) : Type 0 where
@@ -194,7 +134,7 @@ found_more moments places octets rest all m place packet behind f l a at r =
 pub found_pushed : (ms ps octets rest : List ℕ) (all : List (ℕ × List ℕ)) (ns qs : List ℕ) → ms ≡ ns → ps ≡ qs → FoundFront ns qs octets rest all → FoundFront ms ps octets rest all
 found_pushed ms ps octets rest all ns qs e f h = subst (λ (xs : List ℕ). FoundFront xs ps octets rest all) (sym e) (subst (λ (xs : List ℕ). FoundFront ns xs octets rest all) (sym f) h)
 
-pub found_all : (octets rest : List ℕ) (all : List (ℕ × List ℕ)) (found : Found) → ((r : ℕ × List ℕ) (more : List ℕ) → IsRecord r → rest ≡ record_written r ++ more → ⊥) → FoundFront found.moments.items found.places.items octets rest all → Finds found octets all
+pub found_all : (octets rest : List ℕ) (all : List (ℕ × List ℕ)) (found : Found) → IsLast rest → FoundFront found.moments.items found.places.items octets rest all → Finds found octets all
 found_all octets rest all found f h =
     let e = passed_all octets rest all h.front f h.passed in
     record {

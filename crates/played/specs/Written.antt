@@ -3,21 +3,12 @@ use Rattle.std.specs.Prelude.{◌≡◌, ℕ, ◌<◌, ◌^◌, List, length, ma
 use Rattle.std.specs.List.{AllByRecursion}
 use Rattle.std.specs.List.Sorted.{IsNonDecreasing}
 use Rattle.wire_spec.specs.Dump.{record_written, dump_written}
+pub use Rattle.rtpdump_io.specs.InMemory.{AreRecords, HasRecords}
 use Rattle.rtpdump_io.specs.InMemory.{IsRecord}
 
 -- the moment of each
 abbrev pub moments_of : List (ℕ × List ℕ) → List ℕ
 moments_of records = map (λ r. r.0) records
-
--- these octets are those of the records, one behind the other
-pub record AreRecords (octets : List ℕ) (records : List (ℕ × List ℕ)) : Type 0 where
-  pub is : octets ≡ flat_map record_written records
-  pub each : AllByRecursion IsRecord records
-  pub few : length records < 2 ^ 32
-
--- these octets are those of some records
-abbrev pub HasRecords : List ℕ → Type 0
-HasRecords octets = (records : List (ℕ × List ℕ)) × AreRecords octets records
 
 -- the moments of these records never fall
 abbrev pub MomentsNeverFall : List ℕ → Type 0

@@ -15,7 +15,7 @@ use Rattle.rtt_relay.specs.declared.faults.ChannelFault.TheVariants.{Dump, Refus
 
 -- the stream of this SSRC, with the usual payload types and wait
 abbrev pub channel_conf : ℕ → EarConf
-channel_conf ssrc = record { leg = 0; ssrc = ssrc; pts = usual_pts; wait = usual_wait }
+channel_conf ssrc = record { ssrc = ssrc; pts = usual_pts; wait = usual_wait }
 
 -- all frames of the recording were appended, and it was read to its end
 pub record IsWritten (ssrc : ℕ) (octets old new : List ℕ) : Type 0 where

@@ -29,7 +29,6 @@ pub fn channel_leg<S: Source>(alloc: Global, source: S, ssrc: u32) -> Result<Leg
     ensures lost { IfErr result (λ lost. lost.source ≡ source) }
 {
     let conf = EarConf {
-        leg: 0,
         ssrc,
         pts: Pts {
             t140: USUAL_T140,

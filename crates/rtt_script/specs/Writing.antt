@@ -13,7 +13,7 @@ use Rattle.ear.specs.Hears.{GaveSome, IsToldOf, ready_chunks, story_chunks, text
 
 -- what an ear is asked for
 abbrev pub asked_of : ReadRequest → EarConf
-asked_of r = record { leg = 0; ssrc = r.ssrc; pts = r.pts; wait = usual_wait }
+asked_of r = record { ssrc = r.ssrc; pts = r.pts; wait = usual_wait }
 
 -- the lines of these
 abbrev pub lines_of : List Chunk → List ℕ

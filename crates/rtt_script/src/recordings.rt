@@ -26,7 +26,6 @@ fn ear_for(alloc: Global, conf: ReadRequest) -> Result<Ear, OutOfMemory>
     ensures open { IfOk result (λ ear. is_finished ear ≡ Bool.false) }
 {
     let asked = EarConf {
-        leg: 0,
         ssrc: conf.ssrc,
         pts: conf.pts,
         wait: u64::from(USUAL_WAIT),

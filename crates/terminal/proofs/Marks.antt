@@ -14,6 +14,7 @@ use Rattle.stream_spec.proofs.Taking.{Headed, piece_same, used_headed}
 use Rattle.source_receiver.specs.Each.{one_if, marks_from, marks_by}
 use Rattle.view_spec.specs.Markers.{markers_over, markers}
 use Rattle.view_spec.proofs.Markers.{piece_length}
+use Rattle.stream_spec.proofs.ByNumber.{stamps, stamp_prev, filter_stamped, has_stamped}
 
 -- ---- packet by packet
 abbrev first_from : ℕ → List Numbered → ℕ
@@ -78,40 +79,20 @@ from_over s before (u ∷ us) r =
 
 -- ---- used packets, with the moments at which they are ready
 module _ (wait : ℕ) (past : List Numbered) where
-  abbrev stamps : List Numbered → List Numbered
-  stamps us = map (stamped wait past) us
-
-  abbrev stamp_prev : Option Numbered → Option Numbered
-  stamp_prev None = None
-  stamp_prev (Some u) = Some (stamped wait past u)
-
-  marked_stamped : (f : ℕ → Bool) (first : ℕ) (prev : Option Numbered) (u : Numbered) → is_marked f first (stamp_prev prev) (stamped wait past u) ≡ is_marked f first prev u
+  marked_stamped : (f : ℕ → Bool) (first : ℕ) (prev : Option Numbered) (u : Numbered) → is_marked f first (stamp_prev wait past prev) (stamped wait past u) ≡ is_marked f first prev u
   marked_stamped f first None u = refl
   marked_stamped f first (Some a) u = refl
 
-  over_stamped : (f : ℕ → Bool) (first : ℕ) (prev : Option Numbered) (us : List Numbered) → markers_over f first (stamp_prev prev) (stamps us) ≡ markers_over f first prev us
+  over_stamped : (f : ℕ → Bool) (first : ℕ) (prev : Option Numbered) (us : List Numbered) → markers_over f first (stamp_prev wait past prev) (stamps wait past us) ≡ markers_over f first prev us
   over_stamped f first prev [] = refl
   over_stamped f first prev (u ∷ us) = let one = ap one_if (marked_stamped f first prev u) in omega (arith, one, over_stamped f first (Some u) us)
 
-  filter_stamped : (s : ℕ) (us : List Numbered) → filter (is_packet_of s) (stamps us) ≡ stamps (filter (is_packet_of s) us)
-  filter_stamped s [] = refl
-  filter_stamped s (u ∷ us) = go (is_packet_of s u) (filter_stamped s us)
-    where
-      go : (b : Bool) → filter (is_packet_of s) (stamps us) ≡ stamps (filter (is_packet_of s) us)
-          → cond b (stamped wait past u ∷ filter (is_packet_of s) (stamps us)) (filter (is_packet_of s) (stamps us)) ≡ stamps (cond b (u ∷ filter (is_packet_of s) us) (filter (is_packet_of s) us))
-      go true e = ap (λ l. stamped wait past u ∷ l) e
-      go false e = e
-
-  has_stamped : (us : List Numbered) (k : ℕ) → has_number (stamps us) k ≡ has_number us k
-  has_stamped [] k = refl
-  has_stamped (u ∷ us) k = ap (λ b. (u.number == k) || b) (has_stamped us k)
-
-  by_stamped : (first s : ℕ) (us : List Numbered) → Headed first us → RisingNumbers us → marks_by (stamps us) s ≡ markers_over (has_number us) first None (filter (is_packet_of s) us)
+  by_stamped : (first s : ℕ) (us : List Numbered) → Headed first us → RisingNumbers us → marks_by (stamps wait past us) s ≡ markers_over (has_number us) first None (filter (is_packet_of s) us)
   by_stamped first s [] h r = absurd h
   by_stamped first s (u ∷ us) h r =
-      from_over s [] (stamps (u ∷ us)) (rising_stamped wait past (u ∷ us) r)
-      ∙ (ap (markers_over (has_number (stamps (u ∷ us))) u.number None) (filter_stamped s (u ∷ us))
-      ∙ (ap (λ f. markers_over f u.number None (stamps (filter (is_packet_of s) (u ∷ us)))) (λ ι k. has_stamped (u ∷ us) k ι)
+      from_over s [] (stamps wait past (u ∷ us)) (rising_stamped wait past (u ∷ us) r)
+      ∙ (ap (markers_over (has_number (stamps wait past (u ∷ us))) u.number None) (filter_stamped wait past s (u ∷ us))
+      ∙ (ap (λ f. markers_over f u.number None (stamps wait past (filter (is_packet_of s) (u ∷ us)))) (λ ι k. has_stamped wait past (u ∷ us) k ι)
       ∙ (over_stamped (has_number (u ∷ us)) u.number None (filter (is_packet_of s) (u ∷ us)) ∙ ap (λ n. markers_over (has_number (u ∷ us)) n None (filter (is_packet_of s) (u ∷ us))) h)))
 
 pub marks_are : (wait : ℕ) (a : List Arrival) (s : ℕ) → marks_by (used_ready wait a) s ≡ markers wait a s

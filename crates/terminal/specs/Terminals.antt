@@ -38,7 +38,7 @@ reception c = record { ssrc = c.ssrc; pts = c.pts; wait = c.wait }
 
 -- what is asked of the ear
 abbrev pub ear_conf : TermConf → EarConf
-ear_conf c = record { leg = 0; ssrc = c.ssrc; pts = c.pts; wait = c.wait }
+ear_conf c = record { ssrc = c.ssrc; pts = c.pts; wait = c.wait }
 
 -- nothing was heard of the source
 pub record IsEmpty (t : SourceText) : Type 0 where

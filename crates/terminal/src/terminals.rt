@@ -50,7 +50,6 @@ impl Terminal {
         ensures packets { IfOk result (λ terminal. (counts_of terminal).packets ≡ 0) }
     {
         let asked = EarConf {
-            leg: 0,
             ssrc: conf.ssrc,
             pts: conf.pts,
             wait: conf.wait,

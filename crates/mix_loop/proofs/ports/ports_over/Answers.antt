@@ -32,7 +32,7 @@ loop-inlet-preserved g c =
     let low : c.len-count.result < length c.args.legs.now = omega (arith, c.len-count.ensures, i.left, c.in-Some.ensures.cases.1) in
     let next = subst (λ (n : ℕ). slice_get c.args.legs.now n ≡ Some c.index-legs-count.result) place (get_read c.args.legs.now c.len-count.result c.index-legs-count.result low c.index-legs-count.is) in
     record {
-      are = are_more c.args.inlets.items _ _ c.loop-inlet.ports.items _ c.in-Some.inlet c.new.result i.are c.in-Some.ensures.cases.0 c.new.ensures.is c.push_reserved.ensures.items;
+      are = are_more inlet_in c.args.inlets.items _ _ c.loop-inlet.ports.items _ c.in-Some.inlet c.new.result i.are c.in-Some.ensures.cases.0 c.new.ensures.is c.push_reserved.ensures.items;
       each = each_more c.args.legs.now c.loop-inlet.ports.items _ c.index-legs-count.result c.in-Some.inlet c.new.result i.each next c.new.ensures c.push_reserved.ensures.items;
       rest = omega (arith, many, i.rest, c.in-Some.ensures.cases.1);
       ports = omega (arith, c.push_reserved.new.self.ok.0);
@@ -45,6 +45,6 @@ returns g c =
     let i = c.loop-inlet.invariant in
     let none : into_iter_len c.loop-inlet.rest ≡ 0 = search rules in
     record {
-      are = are_all c.args.inlets.items (into_iter_items c.loop-inlet.rest) c.loop-inlet.ports.items i.are (no_element (into_iter_items c.loop-inlet.rest) (into_iter_len c.loop-inlet.rest) i.rest none);
+      are = are_all inlet_in c.args.inlets.items (into_iter_items c.loop-inlet.rest) c.loop-inlet.ports.items i.are (no_element (into_iter_items c.loop-inlet.rest) (into_iter_len c.loop-inlet.rest) i.rest none);
       each = i.each;
     }

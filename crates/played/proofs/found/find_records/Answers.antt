@@ -1,8 +1,9 @@
 use Rattle.std.proofs.Common.{◌≡◌, ◌-◌, ◌≤◌, ℕ, List, [], ◌∷◌, ◌++◌, length, refl, sym, ◌∙◌, ap, subst, arith, length-append}
 use Rattle.std.specs.Prelude.{All}
 use Rattle.std.proofs.lemmas.List.Elements.{All-push}
-use Rattle.played.proofs.Going.{left_less, found_more, found_pushed, found_all}
+use Rattle.played.proofs.Going.{found_more, found_pushed, found_all}
 use Rattle.played.proofs.found.find_records.Goals as goal
+use Rattle.rtpdump_io.proofs.Fronts.{left_less}
 
 pub loop-moment-preserved : goal.loop-moment-preserved
 loop-moment-preserved c =

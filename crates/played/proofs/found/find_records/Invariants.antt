@@ -1,8 +1,9 @@
 use Rattle.std.proofs.Common.{◌≡◌, ℕ, ◌≤◌, List, length}
 use Rattle.std.specs.Prelude.{All}
 use Rattle.played.specs.Written.{AreRecords}
-use Rattle.played.proofs.Going.{Left, FoundFront}
+use Rattle.played.proofs.Going.{FoundFront}
 use Rattle.played.proofs.found.find_records.Given as goal
+use Rattle.rtpdump_io.proofs.Fronts.{Left}
 
 abbrev pub invariant-loop-moment : goal.invariant-loop-moment
 invariant-loop-moment l = record {

@@ -2,14 +2,14 @@ use Rattle.std.proofs.Common.{ℕ, List, [], length}
 use Rattle.terminal.specs.declared.confs.TermConf.{TermConf}
 use Rattle.terminal.specs.Terminals.{counts_of, IsOpen, Listens}
 use Rattle.played.specs.Written.{AreRecords}
-use Rattle.played.proofs.Going.{Left, HeardFront}
+use Rattle.rtpdump_io.proofs.Fronts.{Left, Front}
 use Rattle.played.proofs.hearing.hear_in_order.Given as goal
 
 abbrev pub invariant-loop-moment : goal.invariant-loop-moment
 invariant-loop-moment l = record {
   left : Left l.rest (counts_of l.terminal).packets;
   hears_on : IsOpen l.terminal;
-  heard : (c : TermConf) (sources : List ℕ) (all : List (ℕ × List ℕ)) → AreRecords l.fn.records all → Listens l.fn.terminal c sources [] → HeardFront l.terminal c sources l.fn.records l.rest all;
+  heard : (c : TermConf) (sources : List ℕ) (all : List (ℕ × List ℕ)) → AreRecords l.fn.records all → Listens l.fn.terminal c sources [] → Front (Listens l.terminal c sources) l.rest all;
 }
 
 abbrev pub decreases-loop-moment : goal.decreases-loop-moment

@@ -16,7 +16,7 @@ returns-then-is_empty-clause-none c = λ ok.
     let q = c.if-is_empty.true in
     let nothing : length c.in-Some.view.primary.now ≡ 0 = grind (arith, nat_tests) in
     gives_plain c.args.self.now _ c.in-Some.view c.args.now c.in-Some-next_in_order.number c.give_at_once-ready.result c.args.octets.now c.requires.quiet c.in-Some-next_in_order.ensures.number c.in-Some.ensures.packet refl refl
-    c.give_at_once-ready.ensures.stands (r.stands t) (r.latest t) (r.heard t) [] (texts_none c.args.self.now.conf.leg c.give_at_once-ready.result c.in-Some.view.primary.now nothing)
+    c.give_at_once-ready.ensures.stands (r.stands t) (r.latest t) (r.heard t) [] (texts_none c.give_at_once-ready.result c.in-Some.view.primary.now nothing)
 
 pub returns-clause-some : goal.returns-clause-some
 returns-clause-some c = λ ok.
@@ -27,7 +27,7 @@ returns-clause-some c = λ ok.
     let some : 0 < length c.in-Some.view.primary.now = grind (arith, nat_tests) in
     gives_plain c.args.self.now _ c.in-Some.view c.args.now c.in-Some-next_in_order.number c.give_at_once-ready.result c.args.octets.now c.requires.quiet c.in-Some-next_in_order.ensures.number c.in-Some.ensures.packet refl refl
     c.give_at_once-ready.ensures.stands (r.stands t) (r.latest t) (r.heard t) (chunk_of c.write_chunk.new.chunk ∷ [])
-    (texts_one c.args.self.now.conf.leg c.give_at_once-ready.result c.in-Some.view.primary.now (chunk_of c.write_chunk.new.chunk) c.write_chunk.ensures some)
+    (texts_one c.give_at_once-ready.result c.in-Some.view.primary.now (chunk_of c.write_chunk.new.chunk) c.write_chunk.ensures some)
 
 pub returns-clause-utf8 : goal.returns-clause-utf8
 returns-clause-utf8 c = λ ok. subst IsUtf8 (sym (ap (λ (k : Chunk). k.text) c.write_chunk.ensures)) (primary_utf8 c.args.self.now.conf c.args.octets.now c.in-Some.view c.in-Some.ensures.packet)

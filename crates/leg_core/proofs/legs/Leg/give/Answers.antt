@@ -1,7 +1,7 @@
-use Rattle.std.proofs.Common.{◌∙◌, arith}
+use Rattle.std.proofs.Common.{refl, ◌∙◌, arith}
 use Rattle.std.proofs.Math.Logic.{∥∥₁_map}
 use Rattle.stream_spec.specs.Ready.{chunk_of}
-use Rattle.leg_core.proofs.Stepping.{still_giving, rests_giving}
+use Rattle.leg_core.proofs.Stepping.{still_giving, rests_giving, gives_chunk, gives_none}
 use Rattle.leg_core.proofs.legs.Leg.give.Goals as goal
 
 pub invariant_of-self : goal.invariant_of-self
@@ -24,3 +24,9 @@ invariant_of-self-else-ended g c = record {
   few = omega (arith, c.next.ensures.arrivals, c.args.self.now.few);
   open_still = λ o. c.next.ensures.finished ∙ c.args.self.now.open_still o;
 }
+
+pub returns-then-next-clause-steps : goal.returns-then-next-clause-steps
+returns-then-next-clause-steps g c = gives_chunk g.S.Source.left c.args.self.now _ (chunk_of c.next.new.chunk) refl (c.next.ensures.some c.if-next.true)
+
+pub returns-clause-steps : goal.returns-clause-steps
+returns-clause-steps g c = gives_none g.S.Source.left c.args.self.now _ refl (c.next.ensures.none c.if-next.false)

@@ -20,7 +20,7 @@ invariant_of-self g c = record {
 pub returns-then-next-clause-gives : goal.returns-then-next-clause-gives
 returns-then-next-clause-gives g c =
     gives_next g.L.LinkIn c.args.self.now _ (chunk_of c.next.new.chunk) c.requires refl refl c.next.ensures.conf
-    (c.next.ensures.some c.if-next.true) c.next.ensures.front (c.next.ensures.leg c.if-next.true) c.unless_blank.result c.unless_blank.ensures
+    (c.next.ensures.some c.if-next.true) c.next.ensures.front (c.next.ensures.source c.if-next.true) c.unless_blank.result c.unless_blank.ensures
 
 pub returns-then-next-clause-text : goal.returns-then-next-clause-text
 returns-then-next-clause-text g c =

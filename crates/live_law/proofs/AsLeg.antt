@@ -1,0 +1,98 @@
+-- What a leg gives, as that of the leg with any number.
+use Rattle.std.proofs.Common.{◌≡◌, ℕ, Bool, true, false, List, [], ◌∷◌, ◌++◌, refl, ap, sym, ◌∙◌}
+use Rattle.std.specs.Prelude.{filter, map}
+use Rattle.std.proofs.lemmas.List.{map-append}
+use Rattle.stream_spec.specs.Fronts.{IsFront, is_ready_by}
+use Rattle.stream_spec.specs.Ready.{Chunk, chunks}
+use Rattle.stream_spec.specs.Still.{still}
+use Rattle.link_spec.specs.Links.{Came, Datagram, Large, Quiet, Closed, Takes}
+use Rattle.live_spec.specs.Told.{Hearing, Told, all_by, all_told, ready_by, ready_told, told_by, told_came}
+use Rattle.mix_loop.specs.Ports.{of_leg}
+use Rattle.mix_loop.proofs.OfLeg.{chunks_of_leg, filter_of_leg}
+use Rattle.live_leg.specs.Items.{AreItems, Item, text_in, texts_in}
+use Rattle.live_leg.specs.Items as item
+use Rattle.live_law.specs.Covers.{Covers, as_leg}
+
+text_as : (p j : ℕ) (x : Item) → map (of_leg j) (text_in p x) ≡ text_in j x
+text_as p j (item.Text ready octets) = refl
+text_as p j item.Seen = refl
+text_as p j item.End = refl
+text_as p j item.Quit = refl
+text_as p j item.Fault = refl
+
+texts_as : (p j : ℕ) (xs : List Item) → map (of_leg j) (texts_in p xs) ≡ texts_in j xs
+texts_as p j [] = refl
+texts_as p j (x ∷ xs) =
+    let one = text_as p j x in
+    let more = texts_as p j xs in
+    map-append (of_leg j) (text_in p x) (texts_in p xs) ∙ (λ ι. one ι ++ more ι)
+
+module _ (leg : ℕ) (h : Hearing) where
+  came_as : (d : Told) (t : ℕ) (c : Came) → told_came (as_leg leg h) d t c ≡ told_came h d t c
+  came_as d t (Datagram octets) = refl
+  came_as d t Large = refl
+  came_as d t Quiet = refl
+  came_as d t Closed = refl
+
+  told_as : (takes : Takes) → told_by (as_leg leg h) takes ≡ told_by h takes
+  told_as [] = refl
+  told_as (a ∷ past) = came_as (told_by (as_leg leg h) past) a.at a.came ∙ ap (λ (d : Told). told_came h d a.at a.came) (told_as past)
+
+  all_told_as : (d : Told) → map (of_leg leg) (all_told h d) ≡ all_told (as_leg leg h) d
+  all_told_as d = chunks_of_leg leg h.leg h.wait (still d.past) h.ssrc
+
+  ready_told_as : (d : Told) → map (of_leg leg) (ready_told h d) ≡ ready_told (as_leg leg h) d
+  ready_told_as d = go d.closed
+    where
+      some : Bool → Told
+      some b = record { past = d.past; moment = d.moment; closed = b }
+
+      go : (b : Bool) → map (of_leg leg) (ready_told h (some b)) ≡ ready_told (as_leg leg h) (some b)
+      go true = all_told_as d
+      go false =
+          sym (filter_of_leg (is_ready_by d.moment) leg (λ c. refl) (chunks h.wait h.leg (still d.past) h.ssrc))
+          ∙ ap (λ cs. filter (is_ready_by d.moment) cs) (all_told_as d)
+
+  pub all_as : (takes : Takes) → map (of_leg leg) (all_by h takes) ≡ all_by (as_leg leg h) takes
+  all_as takes = all_told_as (told_by h takes) ∙ ap (all_told (as_leg leg h)) (sym (told_as takes))
+
+  ready_as : (takes : Takes) → map (of_leg leg) (ready_by h takes) ≡ ready_by (as_leg leg h) takes
+  ready_as takes = ready_told_as (told_by h takes) ∙ ap (ready_told (as_leg leg h)) (sym (told_as takes))
+
+  are_as : (takes : Takes) (items : List Item) → AreItems h takes items → AreItems (as_leg leg h) takes items
+  are_as [] items a = a
+  are_as (t ∷ past) items a = (
+    a.0,
+    a.1,
+    a.2,
+    are_as past a.0 a.3,
+    a.4,
+    sym (texts_as h.leg leg items) ∙ (ap (λ cs. map (of_leg leg) cs) a.5 ∙ ready_as (t ∷ past)),
+  )
+
+  front_as : (takes : Takes) (items : List Item) → IsFront (texts_in h.leg items) (all_by h takes) → IsFront (texts_in leg items) (all_by (as_leg leg h) takes)
+  front_as takes items f = (
+    map (of_leg leg) f.0,
+    sym (all_as takes)
+        ∙ (ap (λ cs. map (of_leg leg) cs) f.1
+        ∙ (map-append (of_leg leg) (texts_in h.leg items) f.0 ∙ ap (λ cs. cs ++ map (of_leg leg) f.0) (texts_as h.leg leg items))),
+  )
+
+  pub covers_as : (takes : Takes) (items : List Item) → Covers h takes items → Covers (as_leg leg h) takes items
+  covers_as takes items c = record {
+    later = c.later;
+    counting = c.counting;
+    given = c.given;
+    tail = c.tail;
+    left = c.left;
+    takes_are = c.takes_are;
+    are = are_as c.counting c.given c.are;
+    no_marks = c.no_marks;
+    items_are = c.items_are;
+    last = c.last;
+    front = front_as takes (c.given ++ c.tail) c.front;
+  }
+
+  -- the texts of these are all that is heard
+  pub whole_as : (takes : Takes) (items : List Item) → texts_in h.leg items ≡ all_by h takes → texts_in leg items ≡ all_by (as_leg leg h) takes
+  whole_as takes items e = sym (texts_as h.leg leg items) ∙ (ap (λ cs. map (of_leg leg) cs) e ∙ all_as takes)
