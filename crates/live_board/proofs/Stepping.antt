@@ -11,7 +11,7 @@ use Rattle.stream_spec.specs.Fronts.{IsFront}
 use Rattle.board_spec.specs.Folds.{Shown}
 use Rattle.live_board.specs.declared.rule.View.{View}
 use Rattle.live_board.specs.Sheets.{IsSheetOf}
-use Rattle.live_board.specs.Views.{Follows, IsWord, both_ends, informed, published, reader, settled, told_by, writer}
+use Rattle.live_board.specs.Views.{Follows, IsWord, both_ends, informed, looked, published, reader, settled, told_by, writer}
 use Rattle.live_board.specs.Ends.{IsWriting}
 use Rattle.live_board.specs.Rule.{AreApart, Fits, IsKept, IsReader, IsWriter, Standing, Stands}
 use Rattle.live_board.proofs.Fitting.{at_more, clash, each_set, either_is, front_self, front_trans}
@@ -236,8 +236,8 @@ publishes k slots id e v x three writes reads owes going is s (b, sheet, st) lon
 -- what was told of is seen, so that of it nothing is left to say
 abbrev Looked : View → List (ℕ × Sheets) → ℕ → View × List (ℕ × Sheets) → Type 0
 Looked v held found after =
-    (nat_lt found 3 ≡ true → (after ≡ (settled v v.own v.changes, held)) × Follows v v.changes)
-    × (nat_lt found 3 ≡ false → after ≡ (record v { sure = true }, held))
+    (nat_lt found 3 ≡ true → (after ≡ (settled (looked v) v.own v.changes, held)) × Follows v v.changes)
+    × (nat_lt found 3 ≡ false → after ≡ (record (looked v) { sure = true }, held))
 
 pub looks : (k slots id : ℕ) (v : View) (held : List (ℕ × Sheets)) → v.reads ≡ true → v.writes ≡ false → v.owes ≡ false
     → Allows (λ s. IsKept k s) slots id (v, held) 0 (λ n. n) (Looked v held)
@@ -256,7 +256,7 @@ looks k slots id v held reads writes owes s (b, sheet, st) long at below = go (n
         let low : slice_index s.words 0 < 3 = ltb-true _ _ t in
         let old : b.new ≡ 0 = omega (arith, was, low) in
         let all : v.changes ≡ b.changes = rd.all old in
-        let w : View = settled v v.own v.changes in
+        let w : View = settled (looked v) v.own v.changes in
         let mine : Fits k s.homes b id w = record {
           seen = f.seen;
           over = λ o. (either_is (b.ended ≡ true) v.ended v.told_end o (λ p. (f.over p).0) (λ p. (f.told_over p).0), all);
@@ -278,7 +278,7 @@ looks k slots id v held reads writes owes s (b, sheet, st) long at below = go (n
         let was : slice_index s.words 0 ≡ b.shared + 3 * b.new = word_was s (b.shared + 3 * b.new) st.word in
         let high : 3 ≤ slice_index s.words 0 = ltb-false _ _ t in
         let fresh : b.new ≡ 1 = let a = st.apart.second in let l = st.flag in omega (arith, was, high, a, l) in
-        let w : View = record v { sure = true } in
+        let w : View = record (looked v) { sure = true } in
         let mine : Fits k s.homes b id w = record {
           seen = f.seen;
           over = f.over;
@@ -530,12 +530,12 @@ publishes_at k slots id place e was me x three wide view going is me_is =
 
 -- a reader that is sure
 pub fetches_at : (k slots id place : ℕ) (was : View) (me : View × List (ℕ × Sheets)) (held : List (ℕ × Sheets)) (x : Sheets) → slots ≡ 3 → k ≡ was.legs
-    → was ≡ record (reader was.legs false place was.changes was.ended) { told = was.told; told_end = was.told_end } → length x ≡ was.legs → held ≡ (place, x) ∷ []
-    → me ≡ (record was { sure = true }, held)
+    → was ≡ record (reader was.legs false place was.changes was.ended) { told = was.told; told_end = was.told_end; looks = was.looks } → length x ≡ was.legs → held ≡ (place, x) ∷ []
+    → me ≡ (record (looked was) { sure = true }, held)
     → Allows (λ s. IsKept k s) slots id me 0 (λ _. place) (Fetching me.0)
 fetches_at k slots id place was me held x three wide view long held_is me_is =
     let own : was.own ≡ place = ap (λ (v : View). v.own) view in
-    let sure : View = record was { sure = true } in
+    let sure : View = record (looked was) { sure = true } in
     let one : Allows (λ s. IsKept k s) slots id (sure, (was.own, x) ∷ []) 0 (λ _. was.own) (Fetching sure) =
     fetches k slots id sure x three (ap (λ (v : View). v.reads) view) (ap (λ (v : View). v.writes) view) (ap (λ (v : View). v.owes) view) refl (long ∙ sym wide) in
     let two : Allows (λ s. IsKept k s) slots id (sure, (place, x) ∷ []) 0 (λ _. place) (Fetching sure) =

@@ -6,7 +6,7 @@ use Rattle.atomic_table.specs.Seated.{TableId}
 use Rattle.board_spec.specs.Folds.{Shown}
 use Rattle.live_board.specs.declared.rule.View.{View}
 use Rattle.live_board.specs.Sheets.{IsSheetOf}
-use Rattle.live_board.specs.Views.{writer, reader, settled, Follows}
+use Rattle.live_board.specs.Views.{writer, reader, looked, settled, Follows}
 
 -- the table with this identity and this key is the one of a seat, has one word and three places, and is of so many legs
 pub record IsOn (table : TableId) (key : ℕ) (seat : TableId) (legs : ℕ) : Type 0 where
@@ -31,18 +31,18 @@ pub record IsWriting (me : Me (List Shown) View) (place : ℕ) (sheet : List Sho
 
 -- the reader's seat holds its copy, which shows what it has seen; it may have been told of more
 pub record IsInformed (me : Me (List Shown) View) (place : ℕ) : Type 0 where
-  pub view : me.0 ≡ record (reader me.0.legs false place me.0.changes me.0.ended) { told = me.0.told; told_end = me.0.told_end }
+  pub view : me.0 ≡ record (reader me.0.legs false place me.0.changes me.0.ended) { told = me.0.told; told_end = me.0.told_end; looks = me.0.looks }
   pub held : HoldsSheet me.1 place me.0.legs me.0.changes
 
 -- the same, where it has seen all of which it was told
 pub record IsReading (me : Me (List Shown) View) (place : ℕ) : Type 0 where
-  pub view : me.0 ≡ reader me.0.legs false place me.0.changes me.0.ended
+  pub view : me.0 ≡ record (reader me.0.legs false place me.0.changes me.0.ended) { looks = me.0.looks }
   pub held : HoldsSheet me.1 place me.0.legs me.0.changes
 
 -- a reader has looked, and what it has seen then follows what it knew
 pub record HasLooked (me after : Me (List Shown) View) (place : ℕ) : Type 0 where
   pub changes : List Chunk
-  pub view : after.0 ≡ settled me.0 place changes
+  pub view : after.0 ≡ settled (looked me.0) place changes
   pub follows : Follows me.0 changes
   pub held : HoldsSheet after.1 place me.0.legs changes
 

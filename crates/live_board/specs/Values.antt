@@ -12,12 +12,13 @@ pub record Writing : Type 0 where
   pub pending : List Chunk
   pub ended : Bool
 
--- the changes that the reader has seen, and whether it knows that no more come
+-- the changes that the reader has seen, whether it knows that no more come, and how often it looked for more
 pub record Reading : Type 0 where
   pub board : TableId
   pub legs : ℕ
   pub seen : List Chunk
   pub ended : Bool
+  pub looks : ℕ
 
 -- what was published when the note was made, and whether the end was
 pub record Telling : Type 0 where

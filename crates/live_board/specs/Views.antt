@@ -21,6 +21,7 @@ both_ends legs = record {
   pending = [];
   told = [];
   told_end = false;
+  looks = 0;
 }
 
 -- the writer, whose copy has this place
@@ -38,6 +39,7 @@ writer legs owes spare changes pending ended = record {
   pending = pending;
   told = [];
   told_end = false;
+  looks = 0;
 }
 
 -- the reader, whose copy has this place
@@ -55,6 +57,7 @@ reader legs owes own changes ended = record {
   pending = [];
   told = [];
   told_end = false;
+  looks = 0;
 }
 
 -- what a note tells
@@ -72,6 +75,7 @@ told_by changes ended = record {
   pending = [];
   told = [];
   told_end = false;
+  looks = 0;
 }
 
 -- one of the three places, and whether what stands there is new, as one number
@@ -91,6 +95,10 @@ published ends v place = record v { changes = v.changes ++ v.pending; pending = 
 -- the reader after it has seen these changes, and all of which it was told
 abbrev pub settled : View → ℕ → List Chunk → View
 settled v place changes = record v { changes = changes; ended = v.ended || v.told_end; told = []; told_end = false; sure = false; own = place }
+
+-- the reader when it has looked once more
+abbrev pub looked : View → View
+looked v = record v { looks = v.looks + 1 }
 
 -- what these changes are to a reader: they begin with those that it saw and with those of which it was told, and are no more
 -- than those where it knew of the end

@@ -55,7 +55,7 @@ impl Board {
         requires { (FEWEST_LEGS ≤ legs) × (legs ≤ MOST_LINKS) }
         ensures board { IfOk result (λ b. b.1.board ≡ b.0.board) }
         ensures writer { IfOk result (λ b. b.0 ≡ record { board = b.0.board; legs = legs; published = []; pending = []; ended = false }) }
-        ensures reader { IfOk result (λ b. b.1 ≡ record { board = b.1.board; legs = legs; seen = []; ended = false }) }
+        ensures reader { IfOk result (λ b. b.1 ≡ record { board = b.1.board; legs = legs; seen = []; ended = false; looks = 0 }) }
     {
         let sheet = Sheet::new(alloc, legs)?;
         let (shelf, mut seat) = lay(alloc, legs)?;

@@ -1,5 +1,5 @@
 //! The end of a board at which it is read.
-ghost use Rattle.std.specs.Prelude.{◌≡◌, ◌<◌, ℕ, List, true, false, [], ◌∷◌, length, slice_get, Some};
+ghost use Rattle.std.specs.Prelude.{◌≡◌, ◌+◌, ◌<◌, ℕ, List, true, false, [], ◌∷◌, length, slice_get, Some};
 ghost use Rattle.std.specs.Arc.{arc_value};
 ghost use Rattle.stream_spec.specs.Fronts.{IsFront};
 ghost use Rattle.board_spec.specs.Folds.{Shown, fold_of};
@@ -29,7 +29,7 @@ impl Model for BoardReader {
 
     ghost Value = { Reading };
 
-    ghost view = { λ r. record { board = r.seat.table_id; legs = r.seat.me.0.legs; seen = r.seat.me.0.changes; ended = r.seat.me.0.ended } };
+    ghost view = { λ r. record { board = r.seat.table_id; legs = r.seat.me.0.legs; seen = r.seat.me.0.changes; ended = r.seat.me.0.ended; looks = r.seat.me.0.looks } };
 
     ghost invariant = { λ r. IsOn (arc_value r.shelf).shared.table_id (arc_value r.shelf).shared.key r.seat.table_id r.seat.me.0.legs × IsReading r.seat.me r.place };
 }
@@ -66,7 +66,7 @@ impl BoardReader {
     pub(crate) fn new(shelf: Arc<Shelf>, mut seat: End) -> BoardReader
         requires on { IsOn (arc_value shelf).shared.table_id (arc_value shelf).shared.key seat.table_id seat.me.0.legs }
         requires me { seat.me ≡ (reader seat.me.0.legs true 1 [] false, []) }
-        ensures { result ≡ record { board = seat.table_id; legs = seat.me.0.legs; seen = []; ended = false } }
+        ensures { result ≡ record { board = seat.table_id; legs = seat.me.0.legs; seen = []; ended = false; looks = 0 } }
     {
         let shared = &shelf.shared;
         shared.load::<TakesOwn>(&mut seat, 0);
@@ -82,7 +82,8 @@ impl BoardReader {
         requires { note.board ≡ self.old.board }
         ensures board { (self.new.board ≡ self.old.board) × (self.new.legs ≡ self.old.legs) }
         ensures seen { IsFront self.old.seen self.new.seen }
-        ensures over { self.old.ended ≡ true → self.new ≡ self.old }
+        ensures looked { self.new.looks ≡ self.old.looks + 1 }
+        ensures over { self.old.ended ≡ true → self.new ≡ record self.old { looks = self.old.looks + 1 } }
         ensures told { IsFront note.changes self.new.seen }
         ensures all { note.ended ≡ true → (self.new.seen ≡ note.changes) × (self.new.ended ≡ true) }
     {
@@ -97,7 +98,8 @@ impl BoardReader {
         requires { leg < self.old.legs }
         ensures board { (self.new.board ≡ self.old.board) × (self.new.legs ≡ self.old.legs) }
         ensures seen { IsFront self.old.seen self.new.seen }
-        ensures over { self.old.ended ≡ true → self.new ≡ self.old }
+        ensures looked { self.new.looks ≡ self.old.looks + 1 }
+        ensures over { self.old.ended ≡ true → self.new ≡ record self.old { looks = self.old.looks + 1 } }
         ensures ended { self.new.ended ≡ self.old.ended }
         ensures shows { shown_in out.new ≡ fold_of leg self.new.seen }
     {

@@ -7,7 +7,7 @@ ghost use Rattle.std.specs.Prelude.{◌≡◌, ◌+◌, ◌*◌, ◌<◌, ◌≤
 ghost use Rattle.rtt_base.specs.declared.records.Chunk.{Chunk};
 ghost use Rattle.board_spec.specs.Folds.{Shown};
 ghost use Rattle.live_board.specs.Sheets.{IsSheetOf};
-ghost use Rattle.live_board.specs.Views.{Follows, IsWord, both_ends, informed, published, reader, settled, told_by, writer};
+ghost use Rattle.live_board.specs.Views.{Follows, IsWord, both_ends, informed, looked, published, reader, settled, told_by, writer};
 ghost use Rattle.live_board.specs.Rule.{IsKept};
 
 use crate::sheets::Sheet;
@@ -41,6 +41,8 @@ pub struct View {
     // Of what the reader was told, but what it did not look at yet.
     pub told: LinkedList<Chunk>,
     pub told_end: bool,
+    // How often the reader looked for more.
+    pub looks: usize,
 }
 
 pub struct Kept;
@@ -105,7 +107,7 @@ impl Play<Sheet, View> for Ends {
 pub struct Looks;
 
 impl Play<Sheet, View> for Looks {
-    ghost then = { λ _ me found after. (nat_lt found 3 ≡ true → (after ≡ (settled me.0 me.0.own me.0.changes, me.1)) × Follows me.0 me.0.changes) × (nat_lt found 3 ≡ false → after ≡ (record me.0 { sure = true }, me.1)) };
+    ghost then = { λ _ me found after. (nat_lt found 3 ≡ true → (after ≡ (settled (looked me.0) me.0.own me.0.changes, me.1)) × Follows me.0 me.0.changes) × (nat_lt found 3 ≡ false → after ≡ (record (looked me.0) { sure = true }, me.1)) };
 }
 
 // The reader takes the shared copy, which is new, and leaves its own there.

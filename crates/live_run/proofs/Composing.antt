@@ -1,20 +1,20 @@
 -- From turns that were made to a live call of the conference.
-use Rattle.std.proofs.Common.{◌≡◌, ◌<◌, ◌≤◌, ◌⊎◌, ◌^◌, ℕ, zero, suc, Bool, true, false, inl, inr, Some, List, [], ◌∷◌, ◌++◌, length, map, refl, ap, sym, ◌∙◌, subst, arith}
+use Rattle.std.proofs.Common.{◌≡◌, ◌<◌, ◌≤◌, ◌⊎◌, ℕ, zero, suc, Bool, true, false, inl, inr, Some, List, [], ◌∷◌, ◌++◌, length, map, refl, ap, sym, ◌∙◌, subst, arith}
 use Rattle.std.specs.Prelude.{Option, slice_get}
 use Rattle.std.proofs.lemmas.List.{append-nil}
 use Rattle.std.proofs.lemmas.Option.{slice_get_within}
 use Rattle.rtt_base.specs.declared.text_packets.Pts.{Pts}
 use Rattle.rtt_io.specs.Counts.{Rose}
-use Rattle.stream_spec.specs.Ready.{Chunk}
 use Rattle.file_spec.specs.declared.conf_lines.LegLine.{LegLine}
-use Rattle.file_spec.specs.Conf.{Conf, port}
+use Rattle.file_spec.specs.Conf.{Conf}
 use Rattle.mixer_spec.specs.Setups.{Setup, leg_at, setup, ssrc_of}
-use Rattle.mixer_spec.specs.Table.{Call, Table, after_calls, chunks_taken}
+use Rattle.mixer_spec.specs.Table.{Call, after_calls}
 use Rattle.mixer_turn.specs.Making.{pts_at}
 use Rattle.mixer_posts.specs.States.{SendingState}
 use Rattle.mixer_posts.specs.Posts.{sent_by}
+use Rattle.ear.specs.declared.confs.EarConf.{EarConf}
 use Rattle.ear.specs.Hears.{conf_of}
-use Rattle.link_spec.specs.Links.{Takes}
+use Rattle.link_spec.specs.Links.{Takes, is_closed}
 use Rattle.link_io.specs.declared.ends.LinkIn as ins
 use Rattle.link_io.specs.declared.ends.LinkOut as outs
 use Rattle.live_spec.specs.Told.{Hearing}
@@ -33,7 +33,7 @@ use Rattle.live_loop.specs.Walks.{RanTo, WasFaulted, WasStopped}
 use Rattle.mix_loop.proofs.Lists.{lt_or_ge}
 use Rattle.serve_spec.specs.Served.{End, IsServed, hearing_at, live_printed, pts_of}
 use Rattle.serve_spec.specs.Served as served
-use Rattle.live_law.specs.Covers.{Covers}
+use Rattle.live_law.specs.Covers.{Covers, as_leg}
 use Rattle.live_law.specs.Served.{IsOfConf}
 use Rattle.live_law.proofs.Covering.{covers}
 use Rattle.live_law.proofs.Served.{closed_law, done_law}
@@ -51,11 +51,11 @@ use Rattle.live_run.specs.Jobs.{GaveFirst, RanAs, popped_in}
 use Rattle.live_run.specs.Mixers.{GivesFor, HasAll, all_admitted}
 use Rattle.live_run.specs.Listeners.{NoneHeard}
 use Rattle.live_run.specs.Opened.{AreUnused, OpenEnds, OpenLegs, ear_at, link_in}
-use Rattle.live_run.specs.Taps.{HasTaken, IsUnsentIn, ShowsAll, TellsFor, ended_with, taken_by}
-use Rattle.live_run.proofs.Failing.{fault_rose}
+use Rattle.live_run.specs.Taps.{IsUnsentIn, Learns, Notice, Shows, TellsFor, ended_with, notices_by}
+use Rattle.live_run.proofs.Failing.{closed_calm, fault_rose}
 use Rattle.live_run.proofs.Linking.{some_leg}
 use Rattle.live_run.proofs.Sent.{sent_law}
-use Rattle.live_run.proofs.Taking.{none_offered, of_leg}
+use Rattle.live_run.proofs.Taking.{none_offered}
 
 -- ---- lists
 pub leg_within : (legs : List LegLine) (j : ℕ) (line : LegLine) → leg_at legs j ≡ Some line → j < length legs
@@ -95,7 +95,7 @@ module _ {T : Type 0} (none : T) (holds : ℕ → T → Type 0) (n : ℕ) (each 
   pick_none : (j : ℕ) → n ≤ j → pick j ≡ none
   pick_none j h = picked_none j (lt_or_ge j n) h
 
-hearing_line : (c : Conf) (j : ℕ) (line : LegLine) → leg_at c.legs j ≡ Some line → hearing_at c j ≡ hearing_of (ear_at c j line)
+hearing_line : (c : Conf) (j : ℕ) (line : LegLine) → leg_at c.legs j ≡ Some line → hearing_at c j ≡ as_leg j (hearing_of (ear_at c line))
 hearing_line c j line at =
     let hears : Option LegLine → Hearing = λ l. record { leg = j; ssrc = ssrc_of l; pts = pts_of l; wait = c.wait } in
     ap hears at
@@ -108,6 +108,7 @@ module _ {I G : Type 0} (i : ins.Ghosts I) (tells : Type 0) (opened : ℕ → Bo
   record TookAt (j : ℕ) (takes : Takes) : Type 0 where
     pub covering : (p : LivePort (Lane LegItem (LinkLeg I) G)) → slice_get ports j ≡ Some p → Covers (hearing_at c j) takes (popped_in p.inlet)
     pub taken : tells → (back : LinkLeg I) → slice_get backs j ≡ Some back → i.taken back.link ≡ takes
+    pub calm : is_closed takes ≡ true → (back : LinkLeg I) → slice_get backs j ≡ Some back → i.faults back.link ≡ 0
 
   took_at : (j : ℕ) → j < length c.legs → (takes : Takes) × TookAt j takes
   took_at j low =
@@ -118,14 +119,17 @@ module _ {I G : Type 0} (i : ins.Ghosts I) (tells : Type 0) (opened : ℕ → Bo
       let w = gave j p.0 first.0 back.0 p.1 first.1 back.1 in
       let o = are j first.0 first.1 line.0 line.1 in
       let takes = w.1.so.takes in
-      let hears : hearing_of (conf_of first.0.ear) ≡ hearing_at c j = ap hearing_of o.conf ∙ sym (hearing_line c j line.0 line.1) in
-      let here : Covers (hearing_at c j) takes (popped_in p.0.inlet) = subst (λ (h : Hearing). Covers h takes (popped_in p.0.inlet)) hears (covers i first.0 back.0 (popped_in p.0.inlet ++ w.0) (popped_in p.0.inlet) w.0 w.1 refl) in (
+      let hears : as_leg j (hearing_of (conf_of first.0.ear)) ≡ hearing_at c j = ap (λ (k : EarConf). as_leg j (hearing_of k)) o.conf ∙ sym (hearing_line c j line.0 line.1) in
+      let here : Covers (hearing_at c j) takes (popped_in p.0.inlet) = subst (λ (h : Hearing). Covers h takes (popped_in p.0.inlet)) hears (covers i j first.0 back.0 (popped_in p.0.inlet ++ w.0) (popped_in p.0.inlet) w.0 w.1 refl) in (
         takes,
         record {
           covering = λ q e. let same : p.0 ≡ q = cc (sym p.1 ∙ e) in subst (λ (x : LivePort (Lane LegItem (LinkLeg I) G)). Covers (hearing_at c j) takes (popped_in x.inlet)) same here;
           taken = λ t x e.
               let same : back.0 ≡ x = cc (sym back.1 ∙ e) in
               subst (λ (b : LinkLeg I). i.taken b.link ≡ takes) same (w.1.so.taken (o.told t).0 ∙ (ap (λ (ts : Takes). takes ++ ts) (o.told t).1 ∙ append-nil takes));
+          calm = λ closed x e.
+              let same : back.0 ≡ x = cc (sym back.1 ∙ e) in
+              subst (λ (b : LinkLeg I). i.faults b.link ≡ 0) same (closed_calm i first.0 back.0 (popped_in p.0.inlet ++ w.0) w.1 closed ∙ o.fresh);
         },
       )
 
@@ -161,7 +165,7 @@ module _ {I G : Type 0} (i : ins.Ghosts I) (tells : Type 0) (opened : ℕ → Bo
       (back.0, back.1, subst (λ (n : ℕ). Rose n (i.faults back.0.link)) o.fresh (fault_rose i first.0 back.0 (popped_in p.inlet) (gave j p first.0 back.0 there first.1 back.1) fault))
 
   -- ---- the whole, by the calls of the mixer, and of the tap that was told of it and then showed all
-  module _ {O T : Type 0} (o : outs.Ghosts O) (tells_out : tells → (j : ℕ) → j < length c.legs → o.tells) (stands : T → List Chunk → List Chunk → Type 0) (m : Tapped (SendingState (FarEnds O)) T) (tap : T) (shows : ShowsAll stands m.tap tap) where
+  module _ {O T : Type 0} (o : outs.Ghosts O) (tells_out : tells → (j : ℕ) → j < length c.legs → o.tells) (stands : T → List Notice → Type 0) (m : Tapped (SendingState (FarEnds O)) T) (tap : T) (shows : Learns stands m.tap tap Shows) where
     abbrev gives : Tapped (SendingState (FarEnds O)) T → Setup → (ℕ → Pts) → List Call → Type 0
     gives = TellsFor (GivesFor o.tells o.given o.faults) stands
 
@@ -174,7 +178,6 @@ module _ {I G : Type 0} (i : ins.Ghosts I) (tells : Type 0) (opened : ℕ → Bo
         → IsCallOf i o (stands tap) tells c backs far.links.items far.listeners.items end
     is_call end calls gave_all long serves leads =
         let made = gave_all.made in
-        let has : HasTaken stands m.tap (taken_by (setup c) calls) = gave_all.told long in
         let takes : ℕ → Takes = pick [] took (length c.legs) took_at in
         let given : ℕ → List (List ℕ) = λ j. packets_to j (sent_by (setup c) (pts_at c) calls) in
         let sent = made.sent in
@@ -194,9 +197,12 @@ module _ {I G : Type 0} (i : ins.Ghosts I) (tells : Type 0) (opened : ℕ → Bo
           gave = λ t j link e.
               let all : length far.links.items ≡ length c.legs = made.all in
               (sent.gave j link e).1 (tells_out t j (let low = slice_get_within far.links.items j link e in omega (arith, low, all)));
-          chunks = taken_by (setup c) calls;
-          told = shows (taken_by (setup c) calls) has.0 has.1;
-          all_told = λ j. of_leg (setup c) j calls ∙ ap (λ (table : Table). chunks_taken (table.taken j)) (sym (leads takes given w));
+          calm_ends = λ j link e. (sent.gave j link e).0;
+          calm_legs = λ closed j leg e.
+              let low = slice_get_within backs j leg e in
+              let here : j < length c.legs = omega (arith, low, many, many_backs) in
+              (pick_holds [] took (length c.legs) took_at j here).calm ((serves takes given w).drained closed j here).closed leg e;
+          told = record { calls = calls; made = sym (leads takes given w); told = shows (notices_by (setup c) calls) (gave_all.told long) };
         }
 
     ends_as : (failed : (j : ℕ) (p : LivePort (Lane LegItem (LinkLeg I) G)) → slice_get ports j ≡ Some p → p.failed ≡ true → has_fault (popped_in p.inlet) ≡ true) (t : Turned LiveFault)
@@ -246,7 +252,7 @@ module _ {O : Type 0} (o : outs.Ghosts O) (tells : Type 0) (c : Conf) (firsts ba
       (are j first.0 first.1 line at).at ∙ ap Some (sym one)
 
 -- ---- a call that did not begin
-pub not_called : {I O T : Type 0} (i : ins.Ghosts I) (o : outs.Ghosts O) (stands : List Chunk → List Chunk → Type 0) (tells : Type 0) (c : Conf) (opened : ℕ → Bool) (legs : List (LinkLeg I)) (links : List O) (called : Called I O T) → OpenLegs i tells opened c legs → OpenEnds o tells c links
+pub not_called : {I O T : Type 0} (i : ins.Ghosts I) (o : outs.Ghosts O) (stands : List Notice → Type 0) (tells : Type 0) (c : Conf) (opened : ℕ → Bool) (legs : List (LinkLeg I)) (links : List O) (called : Called I O T) → OpenLegs i tells opened c legs → OpenEnds o tells c links
     → length legs ≡ length c.legs → length links ≡ length c.legs → called.turned ≡ Stopped NoMemory → called.legs.items ≡ legs → called.ends.items ≡ links → IsCalled i o stands tells c opened called
 not_called i o stands tells c opened legs links called are_legs are_ends many many_ends turned is is_ends = record {
   many_legs = ap (λ (xs : List (LinkLeg _)). length xs) is ∙ many;
@@ -263,14 +269,14 @@ not_called i o stands tells c opened legs links called are_legs are_ends many ma
 
 -- ---- a call that was made
 -- the tap that took nothing, before the first turn
-pub tells_first : {M T : Type 0} (mixes : M → Setup → (ℕ → Pts) → List Call → Type 0) (stands : T → List Chunk → List Chunk → Type 0) (m : Tapped M T) (s : Setup) (pts : ℕ → Pts) (n : ℕ) → mixes m.mixer s pts (all_admitted n) → stands m.tap [] [] → TellsFor mixes stands m s pts (all_admitted n)
-tells_first mixes stands m s pts n made none = record { made = made; told = λ long. ([], subst (λ (took : List Chunk). stands m.tap took []) (sym (none_offered s n)) none) }
+pub tells_first : {M T : Type 0} (mixes : M → Setup → (ℕ → Pts) → List Call → Type 0) (stands : T → List Notice → Type 0) (m : Tapped M T) (s : Setup) (pts : ℕ → Pts) (n : ℕ) → mixes m.mixer s pts (all_admitted n) → stands m.tap [] → TellsFor mixes stands m s pts (all_admitted n)
+tells_first mixes stands m s pts n made none = record { made = made; told = λ long. subst (λ (past : List Notice). stands m.tap past) (sym (none_offered s n)) none }
 
-pub call_made : {I O W G T : Type 0} (i : ins.Ghosts I) (o : outs.Ghosts O) (k : clocks.Ghosts W) (stands : T → List Chunk → List Chunk → Type 0) (tells : Type 0) (c : Conf) (job : Job I (Tapped (SendingState (FarEnds O)) T) G) (before after : W) (ended : Ended I (Tapped (SendingState (FarEnds O)) T)) (tap : T) (opened later : ℕ → Bool) (firsts : List O)
+pub call_made : {I O W G T : Type 0} (i : ins.Ghosts I) (o : outs.Ghosts O) (k : clocks.Ghosts W) (stands : T → List Notice → Type 0) (tells : Type 0) (c : Conf) (job : Job I (Tapped (SendingState (FarEnds O)) T) G) (before after : W) (ended : Ended I (Tapped (SendingState (FarEnds O)) T)) (tap : T) (opened later : ℕ → Bool) (firsts : List O)
     → IsOfLinks c → OpenLegs i tells opened c job.legs.items → length job.legs.items ≡ length c.legs → OpenEnds o tells c firsts → length firsts ≡ length c.legs
-    → job.mixer.mixer.outbound.links.items ≡ firsts → HasAll o.tells o.given o.faults c job.mixer.mixer → stands job.mixer.tap [] [] → job.turns ≡ c.turns → (tells → (p : ℕ) → later p ≡ opened p)
+    → job.mixer.mixer.outbound.links.items ≡ firsts → HasAll o.tells o.given o.faults c job.mixer.mixer → stands job.mixer.tap [] → job.turns ≡ c.turns → (tells → (p : ℕ) → later p ≡ opened p)
     → RanAs i k (TellsFor (GivesFor o.tells o.given o.faults) stands) (λ (m : Tapped (SendingState (FarEnds O)) T). map o.port m.mixer.outbound.links.items) (IsUnsentIn (λ (m : SendingState (FarEnds O)) (why : LiveFault). IsUnsent o.faults m.outbound why)) job before after ended
-    → ShowsAll stands ended.mixer.tap tap
+    → Learns stands ended.mixer.tap tap Shows
     → IsCalled i o (stands tap) tells c later (record { turned = ended_with ended.mixer.short ended.turned; legs = ended.legs; ends = ended.mixer.mixer.outbound.links; listeners = ended.mixer.mixer.outbound.listeners; tap = tap })
 call_made {I} {O} {W} {G} {T} i o k stands tells c job before after ended tap opened later firsts links are many are_ends many_ends is all none turns still ran shows =
     let m = ended.mixer in

@@ -1,11 +1,21 @@
--- Where a leg said that its link failed, its link did.
-use Rattle.std.proofs.Common.{◌≡◌, ℕ, Bool, true, false, true≢false, List, [], ◌∷◌, ◌++◌, refl, ap, sym, ◌∙◌, subst}
-use Rattle.std.specs.Prelude.{◌||◌}
+-- Where a leg said that its link failed, its link did; and none failed that was closed.
+use Rattle.std.proofs.Common.{◌≡◌, Bool, true, false, true≢false, inl, inr, List, [], ◌∷◌, ◌++◌, refl, ap, sym, ◌∙◌, subst}
+use Rattle.std.specs.Prelude.{◌||◌, if◌then◌else◌}
 use Rattle.rtt_io.specs.Counts.{Rose}
+use Rattle.gap_tracker.specs.Stories.{Story}
+use Rattle.ear.specs.declared.confs.EarConf.{EarConf}
+use Rattle.ear.specs.Hears.{conf_of}
+use Rattle.link_spec.specs.Links.{Came, Takes, is_closed, is_closing}
 use Rattle.link_io.specs.declared.ends.LinkIn as links
+use Rattle.live_spec.specs.Told.{Hearing}
+use Rattle.live_law.proofs.Opening.{open_takes}
+use Rattle.live_leg.specs.declared.states.State.{State}
+use Rattle.live_leg.specs.declared.states.State.TheVariants.{Idle, Giving, Ending, Over}
 use Rattle.live_leg.specs.declared.legs.LinkLeg.{LinkLeg}
-use Rattle.live_leg.specs.Items.{Item, has_fault, is_fault}
-use Rattle.live_leg.specs.Stands.{Counts}
+use Rattle.live_leg.specs.Items.{AreItems, AreTexts, Item, has_fault, is_fault, is_text, mark_of}
+use Rattle.live_leg.specs.Items as item
+use Rattle.live_leg.specs.Stands.{Counts, IsGivingSome, LegStands, PhaseAt}
+use Rattle.live_leg.specs.Stories.{hearing_of}
 use Rattle.live_run.specs.Jobs.{GaveFirst}
 
 -- where one of the first items is a fault, one of all is
@@ -19,3 +29,47 @@ front_fault (x ∷ xs) ys e = go (is_fault x) e (front_fault xs ys)
 
 pub fault_rose : {L : Type 0} (g : links.Ghosts L) (first back : LinkLeg L) (popped : List Item) → GaveFirst g first back popped → has_fault popped ≡ true → Rose (g.faults first.link) (g.faults back.link)
 fault_rose g first back popped w e = subst (λ (b : Bool). Counts b (g.faults first.link) (g.faults back.link)) (front_fault popped w.0 e) w.1.so.counts
+
+-- ---- a link that was closed
+both_calm : (xs ys : List Item) → has_fault xs ≡ false → has_fault ys ≡ false → has_fault (xs ++ ys) ≡ false
+both_calm [] ys e f = f
+both_calm (x ∷ xs) ys e f = go (is_fault x) e (λ h. both_calm xs ys h f)
+  where
+    go : (b : Bool) → (b || has_fault xs) ≡ false → (has_fault xs ≡ false → has_fault (xs ++ ys) ≡ false) → (b || has_fault (xs ++ ys)) ≡ false
+    go true e h = absurd (true≢false e)
+    go false e h = h e
+
+texts_calm : (xs : List Item) → AreTexts xs → has_fault xs ≡ false
+texts_calm [] a = refl
+texts_calm (item.Text r o ∷ xs) a = texts_calm xs a.1
+texts_calm (item.Seen ∷ xs) a = absurd (true≢false (sym a.0))
+texts_calm (item.End ∷ xs) a = absurd (true≢false (sym a.0))
+texts_calm (item.Quit ∷ xs) a = absurd (true≢false (sym a.0))
+texts_calm (item.Fault ∷ xs) a = absurd (true≢false (sym a.0))
+
+mark_calm : (came : Came) → has_fault (mark_of came ∷ []) ≡ false
+mark_calm came = go (is_closing came)
+  where
+    go : (b : Bool) → has_fault ((if b then item.End else item.Seen) ∷ []) ≡ false
+    go true = refl
+    go false = refl
+
+items_calm : (h : Hearing) (takes : Takes) (items : List Item) → AreItems h takes items → has_fault items ≡ false
+items_calm h [] items a = ap has_fault a
+items_calm h (t ∷ past) items a =
+    ap has_fault a.2 ∙ both_calm a.0 (a.1 ++ mark_of t.came ∷ []) (items_calm h past a.0 a.3) (both_calm a.1 (mark_of t.came ∷ []) (texts_calm a.1 a.4) (mark_calm t.came))
+
+some_calm : (closing : Bool) (h : Hearing) (takes : Takes) (items : List Item) → IsGivingSome closing h takes items → has_fault items ≡ false
+some_calm closing h takes items p = ap has_fault p.items_are ∙ both_calm p.before p.news (items_calm h p.past p.before p.are) (texts_calm p.news p.texts)
+
+phase_calm : (st : State) (F : Type 0) (conf : EarConf) (takes : Takes) (items : List Item) (story : Story) → PhaseAt st F conf takes items story → is_closed takes ≡ true → has_fault items ≡ false
+phase_calm Idle F conf takes items story p e = items_calm (hearing_of conf) takes items p.are
+phase_calm Giving F conf takes items story p e = some_calm false (hearing_of conf) takes items p
+phase_calm Ending F conf takes items story p e = some_calm true (hearing_of conf) takes items p.0
+phase_calm Over F conf takes items story (inl p) e = items_calm (hearing_of conf) takes items p.are
+phase_calm Over F conf takes items story (inr p) e = absurd (true≢false (sym e ∙ open_takes (hearing_of conf) takes p.open_still))
+
+-- none of its takes failed
+pub closed_calm : {L : Type 0} (g : links.Ghosts L) (first back : LinkLeg L) (items : List Item) (w : LegStands g first back items) → is_closed w.so.takes ≡ true → g.faults back.link ≡ g.faults first.link
+closed_calm g first back items w e =
+    subst (λ (b : Bool). Counts b (g.faults first.link) (g.faults back.link)) (phase_calm back.state _ (conf_of first.ear) w.so.takes items w.so.story w.so.phase e) w.so.counts

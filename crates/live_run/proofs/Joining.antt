@@ -1,5 +1,5 @@
 -- What legs gave that ran, by what was popped of them.
-use Rattle.std.proofs.Common.{◌≡◌, ℕ, zero, suc, ◌<◌, ◌≤◌, ◌⊎◌, true, false, true≢false, inl, inr, Some, List, [], ◌∷◌, ◌++◌, append_assoc, length, refl, ap, sym, ◌∙◌, subst, arith}
+use Rattle.std.proofs.Common.{◌≡◌, ℕ, zero, suc, ◌≤◌, true, false, true≢false, inl, inr, Some, List, [], ◌∷◌, ◌++◌, append_assoc, length, refl, ap, sym, ◌∙◌, subst, arith}
 use Rattle.std.specs.Prelude.{map, slice_get}
 use Rattle.std.proofs.lemmas.Option.{slice_get_within}
 use Rattle.rtt_base.specs.declared.text_packets.Pts.{Pts}
@@ -20,7 +20,7 @@ use Rattle.live_loop.specs.Begun.{AreAdmits}
 use Rattle.live_loop.proofs.Begun.{may_begin}
 use Rattle.live_loop.specs.Opening.{AreBegun}
 use Rattle.live_loop.specs.Ports.{Grew, IsBegun}
-use Rattle.live_loop.specs.Walks.{AreAt, IsServing}
+use Rattle.live_loop.specs.Walks.{IsServing}
 use Rattle.live_loop.specs.declared.turns.Turned.{Turned}
 use Rattle.live_run.specs.declared.faults.LiveFault.{LiveFault}
 use Rattle.live_run.specs.Jobs.{ArePortsOf, GaveFirst, IsInletOf, IsPortOf, TurnsWere, popped_in}

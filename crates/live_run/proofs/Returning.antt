@@ -1,12 +1,9 @@
 -- What a live call answers, when its links were handed back.
-use Rattle.std.proofs.Common.{◌≡◌, ◌<◌, ◌≤◌, ◌⊎◌, ℕ, zero, suc, Bool, true, inl, inr, Some, None, Ok, Err, List, length, refl, ap, sym, ◌∙◌, subst, arith}
+use Rattle.std.proofs.Common.{◌≡◌, ◌≤◌, ℕ, Bool, true, inl, inr, Some, None, Ok, Err, List, length, refl, ap, sym, ◌∙◌, subst, arith}
 use Rattle.std.specs.Prelude.{IfOk, IsSome, Option, Result, slice_get}
 use Rattle.std.proofs.lemmas.Option.{slice_get_within}
 use Rattle.rtt_io.specs.Counts.{Rose}
-use Rattle.stream_spec.specs.Ready.{Chunk}
-use Rattle.file_spec.specs.declared.conf_lines.LegLine.{LegLine}
 use Rattle.file_spec.specs.Conf.{Conf, port}
-use Rattle.mixer_spec.specs.Setups.{leg_at}
 use Rattle.link_spec.specs.Links.{Takes}
 use Rattle.link_io.specs.declared.ends.LinkIn as ins
 use Rattle.link_io.specs.declared.ends.LinkOut as outs
@@ -15,7 +12,6 @@ use Rattle.live_loop.specs.declared.turns.Turned.{Turned}
 use Rattle.live_loop.specs.declared.turns.Turned.TheVariants.{Done, Closed, Faulted, Stopped}
 use Rattle.live_law.proofs.Serving.{some_there}
 use Rattle.serve_spec.specs.Served.{End, IsServed, live_printed}
-use Rattle.serve_spec.specs.Served as served
 use Rattle.serve_spec.proofs.Promised.{head_law}
 use Rattle.live_run.specs.declared.calls.Called.{Called}
 use Rattle.live_run.specs.declared.faults.LiveFault.{LiveFault}
@@ -25,8 +21,9 @@ use Rattle.live_run.specs.declared.reports.LiveReport.{LiveReport}
 use Rattle.live_run.specs.declared.reports.LiveEnd.TheVariants as ends
 use Rattle.live_run.specs.Calls.{AreAtPorts, AtPorts, EndsAs, FailedAt, IsCallOf, IsCalled, IsOfLinks, LinkFailed, WasGivenUp, WasServed, WasTapped, answer_of}
 use Rattle.live_run.specs.Listeners.{ArePrintedOf, Listening}
-use Rattle.live_run.specs.Opened.{AreStored, FaultsRose, HaveOwnPorts, IsNotOpened, link_in}
+use Rattle.live_run.specs.Opened.{AreCalm, AreStored, FaultsRose, HaveOwnPorts, IsNotOpened, link_in}
 use Rattle.live_run.specs.Reports.{end_of}
+use Rattle.live_run.specs.Taps.{Notice}
 use Rattle.live_run.proofs.Closing.{rose_on}
 use Rattle.live_run.proofs.Composing.{leg_within}
 use Rattle.live_run.proofs.Linking.{some_leg}
@@ -64,7 +61,7 @@ rose_since first before last l (inl r) = inl (omega (arith, l, r))
 rose_since first before last l (inr r) = inr r
 
 -- ---- what is answered
-ended_call : {I O : Type 0} (i : ins.Ghosts I) (o : outs.Ghosts O) (stands : List Chunk → List Chunk → Type 0) (tells : Type 0) (c : Conf) (legs : List (LinkLeg I)) (links : List O) (listeners : List Listening) (t : Turned LiveFault) (end : LiveEnd)
+ended_call : {I O : Type 0} (i : ins.Ghosts I) (o : outs.Ghosts O) (stands : List Notice → Type 0) (tells : Type 0) (c : Conf) (legs : List (LinkLeg I)) (links : List O) (listeners : List Listening) (t : Turned LiveFault) (end : LiveEnd)
     → EndsAs i o stands tells c legs links listeners t → answer_of t ≡ Ok end → IsCallOf i o stands tells c legs links listeners (end_of end)
 ended_call i o stands tells c legs links listeners Done end w e =
     let same : ends.Done ≡ end = cc e in
@@ -85,9 +82,16 @@ done_turned (Stopped why) end e d = absurd (cc e)
 prints_so : (c : Conf) (takes : ℕ → Takes) (given : ℕ → List (List ℕ)) (end : End) (printed : List ℕ) → IsServed c takes given end (live_printed c given end) → printed ≡ live_printed c given end → IsServed c takes given end printed
 prints_so c takes given end printed w is = record { table = w.table; turns = w.turns; live = w.live; few = w.few; gives = w.gives; prints = is; done = w.done; drained = w.drained; idle = w.idle }
 
-module _ {I O T : Type 0} (i : ins.Ghosts I) (o : outs.Ghosts O) (stands : List Chunk → List Chunk → Type 0) (tells : Type 0) (c : Conf) (opened : ℕ → Bool) (called : Called I O T) (w : IsCalled i o stands tells c opened called) where
+module _ {I O T : Type 0} (i : ins.Ghosts I) (o : outs.Ghosts O) (stands : List Notice → Type 0) (tells : Type 0) (c : Conf) (opened : ℕ → Bool) (called : Called I O T) (w : IsCalled i o stands tells c opened called) where
   pub each_heard : (end : LiveEnd) → answer_of called.turned ≡ Ok end → length called.listeners.items ≡ length c.legs
   each_heard end e = (ended_call i o stands tells c called.legs.items called.ends.items called.listeners.items called.turned end w.ended e).many
+
+  -- no end had failed where all links were closed
+  pub calm_closed : {first at_call between last : ℕ → ℕ} → ((p : ℕ) → at_call p ≡ first p) → (AreCalm (λ (leg : LinkLeg I). i.faults (link_in leg)) called.legs.items → (p : ℕ) → between p ≡ at_call p)
+      → (AreCalm o.faults called.ends.items → (p : ℕ) → last p ≡ between p) → (end : LiveEnd) → answer_of called.turned ≡ Ok end → end ≡ ends.Closed → (p : ℕ) → last p ≡ first p
+  calm_closed same legs links end e closed p =
+      let v = ended_call i o stands tells c called.legs.items called.ends.items called.listeners.items called.turned end w.ended e in
+      links v.calm_ends p ∙ (legs (v.calm_legs (ap end_of closed)) p ∙ same p)
 
   -- all ends were handed back
   module _ (links : IsOfLinks c) (taken_at : ℕ → Takes) (given_at : ℕ → List (List ℕ))
@@ -108,9 +112,7 @@ module _ {I O T : Type 0} (i : ins.Ghosts I) (o : outs.Ghosts O) (stands : List 
             taken = λ t. at_ports c links (λ (leg : LinkLeg I). i.port (link_in leg)) called.legs.items w.many_legs w.legs_at (λ (leg : LinkLeg I). i.taken (link_in leg)) opened taken_at v.takes (w.are_open t) (stored_legs t) (v.taken t);
             gave = λ t. at_ports c links o.port called.ends.items w.many_ends w.ends_at o.given opened given_at v.given (w.are_open t) (stored_ends t) (v.gave t);
           };
-          chunks = v.chunks;
           told = v.told;
-          all_told = v.all_told;
         }
 
   -- where it was given up, the counts are the cause
@@ -146,7 +148,7 @@ was_not_opened tells opened own own' ends_before ends_after c links (Link k) n =
 was_not_opened tells opened own own' ends_before ends_after c links NoMemory n = tt
 
 -- ---- by the calls that opened the links, made the call, and closed them
-module _ {I O T : Type 0} (i : ins.Ghosts I) (o : outs.Ghosts O) (stands : List Chunk → List Chunk → Type 0) (tells : Type 0) (c : Conf) (opened : ℕ → Bool) (called : Called I O T) (w : IsCalled i o stands tells c opened called) (links : IsOfLinks c) where
+module _ {I O T : Type 0} (i : ins.Ghosts I) (o : outs.Ghosts O) (stands : List Notice → Type 0) (tells : Type 0) (c : Conf) (opened : ℕ → Bool) (called : Called I O T) (w : IsCalled i o stands tells c opened called) (links : IsOfLinks c) where
   pub served_by : (open_then : ℕ → Bool) (taken_then taken_at : ℕ → Takes) (given_at : ℕ → List (List ℕ))
       → (tells → AreStored (λ (leg : LinkLeg I). i.taken (link_in leg)) (λ (leg : LinkLeg I). i.port (link_in leg)) opened taken_then called.legs.items)
       → (tells → (p : ℕ) → taken_at p ≡ taken_then p) → (tells → (p : ℕ) → open_then p ≡ opened p) → (tells → AreStored o.given o.port open_then given_at called.ends.items)
@@ -163,7 +165,7 @@ module _ {I O T : Type 0} (i : ins.Ghosts I) (o : outs.Ghosts O) (stands : List 
       (λ j leg at r. subst (λ (n : ℕ). Rose n (between (i.port (link_in leg)))) (same (i.port (link_in leg))) (legs j leg at r)) ends fault q
 
 -- ---- of a tap that shows nothing
-pub as_served : (stands : List Chunk → List Chunk → Type 0) (tells : Type 0) (taken_at : ℕ → Takes) (given_at : ℕ → List (List ℕ)) (c : Conf) (result : Result LiveReport LiveFault)
+pub as_served : (stands : List Notice → Type 0) (tells : Type 0) (taken_at : ℕ → Takes) (given_at : ℕ → List (List ℕ)) (c : Conf) (result : Result LiveReport LiveFault)
     → IfOk result (λ report. WasTapped stands tells taken_at given_at c (end_of report.end) report.views) → IfOk result (λ report. WasServed tells taken_at given_at c (end_of report.end) report.views)
 as_served stands tells taken_at given_at c (Ok report) w = w.was
 as_served stands tells taken_at given_at c (Err fault) w = w

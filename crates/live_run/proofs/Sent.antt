@@ -1,14 +1,12 @@
 -- What the calls of the mixer send is what the definitions give to a terminal.
-use Rattle.std.proofs.Common.{◌≡◌, ℕ, inl, inr, Some, List, [], ◌∷◌, ◌++◌, append_assoc, map, refl, ap, sym, ◌∙◌}
+use Rattle.std.proofs.Common.{◌≡◌, ℕ, inl, inr, List, [], ◌∷◌, ◌++◌, append_assoc, map, refl, ap, sym, ◌∙◌}
 use Rattle.std.specs.Prelude.{◌==◌, filter}
 use Rattle.std.proofs.lemmas.Bool.{cases_eq, eq-eqb, ne_eqb}
 use Rattle.std.proofs.lemmas.List.{append-nil, map-append}
-use Rattle.file_spec.specs.declared.conf_lines.LegLine.{LegLine}
-use Rattle.file_spec.specs.Conf.{Conf}
 use Rattle.rtt_base.specs.declared.text_packets.Pts.{Pts}
 use Rattle.wire_spec.specs.Packets.{Arrival}
 use Rattle.wire_spec.specs.SentPackets.{packet_written}
-use Rattle.mixer_spec.specs.Setups.{Setup, leg_at, setup}
+use Rattle.mixer_spec.specs.Setups.{Setup, setup}
 use Rattle.mixer_spec.specs.Table.{Call, Admit, Hush, Leave, Offer, Turn, after_calls, batch}
 use Rattle.mixer_spec.specs.Table as tables
 use Rattle.mixer_turn.specs.Making.{pts_at, pts_of}

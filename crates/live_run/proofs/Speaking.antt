@@ -1,6 +1,6 @@
 -- Whom the terminals hear, before anything was given.
-use Rattle.std.proofs.Common.{◌≡◌, ℕ, zero, suc, ◌<◌, ◌⊎◌, inl, inr, Some, List, [], ◌∷◌, ◌++◌, length, map, ap, sym, ◌∙◌, subst, arith}
-use Rattle.std.specs.Prelude.{AllPairs, remove, slice_get, ◌≢◌}
+use Rattle.std.proofs.Common.{ℕ, ◌<◌, inl, inr, List, [], ◌∷◌, ◌++◌, length, map, sym, ◌∙◌, subst, arith}
+use Rattle.std.specs.Prelude.{AllPairs, remove, ◌≢◌}
 use Rattle.std.proofs.lemmas.List.{get_or-map, length-map}
 use Rattle.std.proofs.lemmas.List.Quantifiers.{all_pairs_remove}
 use Rattle.file_spec.specs.declared.conf_lines.LegLine.{LegLine}

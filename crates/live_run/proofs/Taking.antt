@@ -1,20 +1,22 @@
--- What a tap took is what the mixer took.
-use Rattle.std.proofs.Common.{◌≡◌, ℕ, zero, suc, true, false, cond, inl, inr, Some, None, List, [], ◌∷◌, ◌++◌, refl, ap, sym, ◌∙◌}
-use Rattle.std.specs.Prelude.{◌==◌, Bool, if◌then◌else◌}
+-- What a tap was told of is what the mixer took.
+use Rattle.std.proofs.Common.{◌≡◌, ℕ, zero, suc, true, false, cond, inl, inr, List, [], ◌∷◌, ◌++◌, refl, ap, sym, ◌∙◌}
+use Rattle.std.specs.Prelude.{◌==◌, Bool}
 use Rattle.std.proofs.lemmas.Bool.{cases_eq, eq-eqb, ne_eqb}
 use Rattle.std.proofs.lemmas.List.{append-nil, map-append}
 use Rattle.std.proofs.lemmas.List.Elements.{filter-append}
 use Rattle.stream_spec.specs.Ready.{Chunk}
-use Rattle.mixer_spec.specs.Setups.{Setup}
+use Rattle.mixer_spec.specs.Setups.{Setup, setup}
 use Rattle.mixer_spec.specs.Table.{Call, Admit, Hush, Leave, Offer, Turn, Table, Taken, after_calls, chunks_taken, freed, free_place, given, has_room, is_given, may_leave}
 use Rattle.mixer_spec.specs.Calls.{took}
 use Rattle.mixer_spec.proofs.Lists.{set_same, set_other}
 use Rattle.mixer_spec.proofs.Legs.{come_taken}
 use Rattle.live_run.specs.Mixers.{all_admitted}
-use Rattle.live_run.specs.Taps.{chunks_of, taken_by}
+use Rattle.live_run.specs.Taps.{Took, chunks_of, chunks_taken_in, notices_by}
+use Rattle.live_run.specs.Calls.{AreTaken}
+use Rattle.file_spec.specs.Conf.{Conf}
 
--- nothing was taken while all legs came
-pub none_offered : (s : Setup) (n : ℕ) → taken_by s (all_admitted n) ≡ []
+-- nothing was told while all legs came
+pub none_offered : (s : Setup) (n : ℕ) → notices_by s (all_admitted n) ≡ []
 none_offered s zero = refl
 none_offered s (suc n) = none_offered s n
 
@@ -33,7 +35,7 @@ given_of i c t xs e = elim (cases_eq c.source i) [
       ∙ (e ∙ ap chunks_taken (sym (set_other t.taken c.source (t.taken c.source ++ record { chunk = c; given = is_given t.seats c.source } ∷ []) i (λ q. other (sym q)))))))
 ]
 
-pub of_leg : (s : Setup) (i : ℕ) (calls : List Call) → chunks_of i (taken_by s calls) ≡ took s i calls
+pub of_leg : (s : Setup) (i : ℕ) (calls : List Call) → chunks_of i (chunks_taken_in (notices_by s calls)) ≡ took s i calls
 of_leg s i [] = refl
 of_leg s i (Admit k l ∷ past) = let t = after_calls s past in of_leg s i past ∙ sym (ap (λ (y : ℕ → List Taken). chunks_taken (y i)) (come_taken k l t (free_place s t.seats)))
 of_leg s i (Hush k ∷ past) = of_leg s i past
@@ -44,7 +46,11 @@ of_leg s i (Leave k ∷ past) = of_leg s i past ∙ go (may_leave s k (after_cal
     go false = refl
 of_leg s i (Offer c ∷ past) = go (has_room s c.source c (after_calls s past)) (of_leg s i past)
   where
-    go : (b : Bool) → chunks_of i (taken_by s past) ≡ took s i past → chunks_of i (cond b (taken_by s past ++ c ∷ []) (taken_by s past)) ≡ chunks_taken ((cond {A = Table} b (given c.source c (after_calls s past)) (after_calls s past)).taken i)
-    go true e = given_of i c (after_calls s past) (taken_by s past) e
+    go : (b : Bool) → chunks_of i (chunks_taken_in (notices_by s past)) ≡ took s i past → chunks_of i (chunks_taken_in (cond b (Took c ∷ notices_by s past) (notices_by s past))) ≡ chunks_taken ((cond {A = Table} b (given c.source c (after_calls s past)) (after_calls s past)).taken i)
+    go true e = given_of i c (after_calls s past) (chunks_taken_in (notices_by s past)) e
     go false e = e
 of_leg s i (Turn now ∷ past) = of_leg s i past
+
+-- so what a tap was told of by the calls that made a table is what was taken in it
+pub all_taken : (c : Conf) (calls : List Call) (table : Table) → after_calls (setup c) calls ≡ table → AreTaken table (chunks_taken_in (notices_by (setup c) calls))
+all_taken c calls table is j = of_leg (setup c) j calls ∙ ap (λ (t : Table). chunks_taken (t.taken j)) is

@@ -1,12 +1,12 @@
 -- What a live call of a conference of links comes to: behind its last turn, and when its links were handed back.
-use Rattle.std.specs.Prelude.{◌≡◌, ◌⊎◌, ℕ, Bool, true, Some, Result, Ok, Err, List, length, slice_get}
+use Rattle.std.specs.Prelude.{◌≡◌, ◌⊎◌, ℕ, Bool, true, Some, Result, Ok, Err, List, ◌∷◌, length, slice_get}
 use Rattle.rtt_io.specs.Counts.{Rose}
 use Rattle.stream_spec.specs.Ready.{Chunk}
 use Rattle.file_spec.specs.declared.conf_lines.Form.TheVariants.{Links}
 use Rattle.file_spec.specs.declared.conf_lines.LegLine.{LegLine}
 use Rattle.file_spec.specs.Conf.{Conf, conf, port}
 use Rattle.mixer_spec.specs.Setups.{AllStay, leg_at, setup}
-use Rattle.mixer_spec.specs.Table.{Table, chunks_taken}
+use Rattle.mixer_spec.specs.Table.{Call, Table, after_calls, chunks_taken}
 use Rattle.link_spec.specs.Links.{Takes}
 use Rattle.link_io.specs.declared.ends.LinkIn as ins
 use Rattle.link_io.specs.declared.ends.LinkOut as outs
@@ -22,8 +22,8 @@ use Rattle.live_run.specs.declared.faults.LiveFault.TheVariants.{Link, NoMemory}
 use Rattle.live_run.specs.declared.reports.LiveEnd.{LiveEnd}
 use Rattle.live_run.specs.declared.reports.LiveEnd.TheVariants as ends
 use Rattle.live_run.specs.Listeners.{HasHeard, Listening}
-use Rattle.live_run.specs.Opened.{HavePorts, link_in}
-use Rattle.live_run.specs.Taps.{chunks_of}
+use Rattle.live_run.specs.Opened.{AreCalm, HavePorts, link_in}
+use Rattle.live_run.specs.Taps.{Notice, Shows, chunks_of, notices_by}
 
 -- ---- conferences
 -- no two legs have one port
@@ -58,21 +58,28 @@ AreAtPorts {X} port_of c xs = (j : ℕ) (x : X) (line : LegLine) → slice_get x
 abbrev pub AreTaken : Table → List Chunk → Type 0
 AreTaken table chunks = (j : ℕ) → chunks_of j chunks ≡ chunks_taken (table.taken j)
 
--- `stands` is what is known of the tap that took these chunks and shows those
-module _ {I O : Type 0} (i : ins.Ghosts I) (o : outs.Ghosts O) (stands : List Chunk → List Chunk → Type 0) (tells : Type 0) (c : Conf) where
+-- The calls by which the mixer came to this table, and that a tap was told what they tell, in order, and that the call is over.
+pub record WasTold (stands : List Notice → Type 0) (c : Conf) (table : Table) : Type 0 where
+  pub calls : List Call
+  pub made : after_calls (setup c) calls ≡ table
+  pub told : stands (Shows ∷ notices_by (setup c) calls)
+
+-- `stands` is what is known of the tap that was told this
+module _ {I O : Type 0} (i : ins.Ghosts I) (o : outs.Ghosts O) (stands : List Notice → Type 0) (tells : Type 0) (c : Conf) where
   -- It is a live call of the conference: the legs' links gave this and were given that. Where the world tells it, that is what these
-  -- ends have taken and were given. The tap took what the mixer took, and shows it.
+  -- ends have taken and were given. The tap was told what the mixer took, and of its turns.
   pub record IsCallOf (legs : List (LinkLeg I)) (links : List O) (listeners : List Listening) (end : End) : Type 0 where
     pub takes : ℕ → Takes
     pub given : ℕ → List (List ℕ)
+    -- No outbound end failed, and at `Closed` no inbound end did.
+    pub calm_ends : AreCalm o.faults links
+    pub calm_legs : end ≡ served.Closed → AreCalm (λ (leg : LinkLeg I). i.faults (link_in leg)) legs
     pub served : IsServed c takes given end (live_printed c given end)
     pub many : length listeners ≡ length c.legs
     pub heard : (j : ℕ) (l : Listening) → slice_get listeners j ≡ Some l → HasHeard l (given j)
     pub taken : tells → (j : ℕ) (leg : LinkLeg I) → slice_get legs j ≡ Some leg → i.taken leg.link ≡ takes j
     pub gave : tells → (j : ℕ) (link : O) → slice_get links j ≡ Some link → o.given link ≡ given j
-    pub chunks : List Chunk
-    pub told : stands chunks chunks
-    pub all_told : AreTaken served.table chunks
+    pub told : WasTold stands c served.table
 
   -- how it ended
   abbrev pub EndsAs : List (LinkLeg I) → List O → List Listening → Turned LiveFault → Type 0
@@ -109,12 +116,10 @@ pub record WasServed (tells : Type 0) (taken_at : ℕ → Takes) (given_at : ℕ
   pub taken : tells → AtPorts c taken_at takes
   pub gave : tells → AtPorts c given_at given
 
--- The same, where the tap took what the mixer took, and shows it.
-pub record WasTapped (stands : List Chunk → List Chunk → Type 0) (tells : Type 0) (taken_at : ℕ → Takes) (given_at : ℕ → List (List ℕ)) (c : Conf) (end : End) (printed : List ℕ) : Type 0 where
+-- The same, where the tap was told what the mixer took, and of its turns.
+pub record WasTapped (stands : List Notice → Type 0) (tells : Type 0) (taken_at : ℕ → Takes) (given_at : ℕ → List (List ℕ)) (c : Conf) (end : End) (printed : List ℕ) : Type 0 where
   pub was : WasServed tells taken_at given_at c end printed
-  pub chunks : List Chunk
-  pub told : stands chunks chunks
-  pub all_told : AreTaken was.served.table chunks
+  pub told : WasTold stands c was.served.table
 
 -- The link of the leg j failed: a count of its port rose, of the calls that open it or of its ends.
 pub record LinkFailed (own own' ends ends' : ℕ → ℕ) (c : Conf) (j : ℕ) : Type 0 where

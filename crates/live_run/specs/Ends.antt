@@ -1,5 +1,5 @@
 -- What was given to the terminals of a live call.
-use Rattle.std.specs.Prelude.{◌≡◌, ℕ, ◌≤◌, ◌==◌, Some, List, [], ◌∷◌, ◌++◌, length, slice_get, if◌then◌else◌}
+use Rattle.std.specs.Prelude.{◌≡◌, ℕ, ◌==◌, Some, List, [], ◌∷◌, ◌++◌, slice_get, if◌then◌else◌}
 use Rattle.rtt_io.specs.Counts.{Rose}
 use Rattle.mixer_turn.specs.declared.batches.Post.{Post}
 use Rattle.live_run.specs.declared.faults.LiveFault.{LiveFault}

@@ -1,5 +1,5 @@
 -- What is known of links that are opened, and of those that were handed back.
-use Rattle.std.specs.Prelude.{◌≡◌, ℕ, ◌<◌, Bool, true, Option, Some, IsSome, List, [], slice_get}
+use Rattle.std.specs.Prelude.{◌≡◌, ℕ, ◌<◌, Bool, true, Some, IsSome, List, [], slice_get}
 use Rattle.rtt_io.specs.Counts.{Rose}
 use Rattle.file_spec.specs.declared.conf_lines.LegLine.{LegLine}
 use Rattle.file_spec.specs.Conf.{Conf, port}
@@ -13,9 +13,9 @@ use Rattle.live_leg.specs.Stands.{LegStands}
 use Rattle.live_run.specs.declared.faults.LiveFault.{LiveFault}
 use Rattle.live_run.specs.declared.faults.LiveFault.TheVariants.{Link, NoMemory}
 
--- how the leg j is heard
-abbrev pub ear_at : Conf → ℕ → LegLine → EarConf
-ear_at c j leg = record { leg = j; ssrc = leg.ssrc; pts = leg.pts; wait = c.wait }
+-- how a leg is heard
+abbrev pub ear_at : Conf → LegLine → EarConf
+ear_at c leg = record { ssrc = leg.ssrc; pts = leg.pts; wait = c.wait }
 
 -- the input of each leg is a port
 abbrev pub HavePorts : Conf → Type 0
@@ -24,7 +24,7 @@ HavePorts c = (j : ℕ) (leg : LegLine) → leg_at c.legs j ≡ Some leg → IsS
 -- ---- that are opened
 -- The leg j over the inbound end of its link, of which nothing was taken. Where the world tells it, a link is opened at its port.
 pub record IsOpenedLeg {I : Type 0} (g : ins.Ghosts I) (tells : Type 0) (opened : ℕ → Bool) (c : Conf) (j : ℕ) (line : LegLine) (leg : LinkLeg I) : Type 0 where
-  pub conf : conf_of leg.ear ≡ ear_at c j line
+  pub conf : conf_of leg.ear ≡ ear_at c line
   pub new : LegStands g leg leg []
   pub at : port line.input ≡ Some (g.port leg.link)
   pub fresh : g.faults leg.link ≡ 0

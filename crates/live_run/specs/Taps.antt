@@ -1,4 +1,4 @@
--- What is told of a live call while it runs: the chunks that its mixer took.
+-- What is told of a live call while it runs: the chunks that its mixer took, and its turns.
 use Rattle.std.specs.Prelude.{◌≡◌, ◌==◌, ℕ, Bool, true, false, List, [], ◌∷◌, ◌++◌, filter, if◌then◌else◌}
 use Rattle.rtt_base.specs.declared.text_packets.Pts.{Pts}
 use Rattle.stream_spec.specs.Ready.{Chunk}
@@ -10,36 +10,45 @@ use Rattle.live_run.specs.declared.faults.LiveFault.{LiveFault}
 use Rattle.live_run.specs.declared.faults.LiveFault.TheVariants.{Link, NoMemory}
 use Rattle.live_run.specs.declared.tapped.Tapped.{Tapped}
 
--- the chunks that were taken, in order
-abbrev pub taken_by : Setup → List Call → List Chunk
-taken_by s [] = []
-taken_by s (Admit i l ∷ past) = taken_by s past
-taken_by s (Hush i ∷ past) = taken_by s past
-taken_by s (Leave i ∷ past) = taken_by s past
-taken_by s (Offer c ∷ past) = if has_room s c.source c (after_calls s past) then taken_by s past ++ c ∷ [] else taken_by s past
-taken_by s (Turn now ∷ past) = taken_by s past
+-- that the mixer took a chunk; that a turn was made, or the call is over: from then on all that was taken is shown
+pub data Notice : Type 0 where
+  Took : Chunk → Notice
+  Shows : Notice
+
+-- what these calls tell, newest first
+abbrev pub notices_by : Setup → List Call → List Notice
+notices_by s [] = []
+notices_by s (Admit i l ∷ past) = notices_by s past
+notices_by s (Hush i ∷ past) = notices_by s past
+notices_by s (Leave i ∷ past) = notices_by s past
+notices_by s (Offer c ∷ past) = if has_room s c.source c (after_calls s past) then Took c ∷ notices_by s past else notices_by s past
+notices_by s (Turn now ∷ past) = Shows ∷ notices_by s past
+
+-- the chunks that were taken by what was told, oldest first
+abbrev pub chunks_taken_in : List Notice → List Chunk
+chunks_taken_in [] = []
+chunks_taken_in (Took c ∷ past) = chunks_taken_in past ++ c ∷ []
+chunks_taken_in (Shows ∷ past) = chunks_taken_in past
+
+-- and those of them that are shown
+abbrev pub chunks_shown_in : List Notice → List Chunk
+chunks_shown_in [] = []
+chunks_shown_in (Took c ∷ past) = chunks_shown_in past
+chunks_shown_in (Shows ∷ past) = chunks_taken_in past
 
 -- those of the leg i
 abbrev pub chunks_of : ℕ → List Chunk → List Chunk
 chunks_of i chunks = filter (λ c. c.source == i) chunks
 
-module _ {T : Type 0} (stands : T → List Chunk → List Chunk → Type 0) where
-  -- it took one chunk more
-  abbrev pub TakesOne : T → T → Chunk → Type 0
-  TakesOne old new c = (took shown : List Chunk) → stands old took shown → stands new (took ++ c ∷ []) shown
+module _ {T : Type 0} (stands : T → List Notice → Type 0) where
+  -- it was told this, behind what it was told before
+  abbrev pub Learns : T → T → Notice → Type 0
+  Learns old new notice = (past : List Notice) → stands old past → stands new (notice ∷ past)
 
-  -- it shows all that it took
-  abbrev pub ShowsAll : T → T → Type 0
-  ShowsAll old new = (took shown : List Chunk) → stands old took shown → stands new took took
-
-  -- it took these, whatever it shows of them
-  abbrev pub HasTaken : T → List Chunk → Type 0
-  HasTaken t took = (shown : List Chunk) × stands t took shown
-
--- These calls were made of the mixer. The tap took what that took, unless it had no memory for it.
-pub record TellsFor {M T : Type 0} (mixes : M → Setup → (ℕ → Pts) → List Call → Type 0) (stands : T → List Chunk → List Chunk → Type 0) (m : Tapped M T) (s : Setup) (pts : ℕ → Pts) (calls : List Call) : Type 0 where
+-- These calls were made of the mixer. The tap was told what they tell, unless it had no memory for a chunk.
+pub record TellsFor {M T : Type 0} (mixes : M → Setup → (ℕ → Pts) → List Call → Type 0) (stands : T → List Notice → Type 0) (m : Tapped M T) (s : Setup) (pts : ℕ → Pts) (calls : List Call) : Type 0 where
   pub made : mixes m.mixer s pts calls
-  pub told : m.short ≡ false → HasTaken stands m.tap (taken_by s calls)
+  pub told : m.short ≡ false → stands m.tap (notices_by s calls)
 
 -- why a turn was the last: the mixer could not send, or memory ran out
 abbrev pub IsUnsentIn : {M T : Type 0} → (M → LiveFault → Type 0) → Tapped M T → LiveFault → Type 0

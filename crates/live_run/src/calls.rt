@@ -103,7 +103,7 @@ pub(crate) fn call<W: Links, R: Threads + Wait, G: Gate, T: Tap>(
     requires each_end { length opened.ends.items ≡ length conf.now.legs }
     requires legs { OpenLegs W.In.LinkIn W.tells (W.opened world.old) (conf_of conf.now) opened.legs.items }
     requires ends { OpenEnds W.Out.LinkOut W.tells (conf_of conf.now) opened.ends.items }
-    requires told { T.stands tap [] [] }
+    requires told { T.stands tap [] }
     ensures called { IsCalled W.In.LinkIn W.Out.LinkOut (T.stands result.tap) W.tells (conf_of conf.now) (W.opened world.new) result }
     ensures paused { result.turned ≡ Turned.Done → IsPaused conf.now.turns (W.pauses world.old) (W.pauses world.new) }
     ensures same_own { Same W.own_faults world.old world.new }

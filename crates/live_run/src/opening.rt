@@ -23,11 +23,10 @@ pub(crate) struct Opened<I, O> {
 }
 
 /// How a leg is heard.
-fn ear_conf(conf: &Conf, leg: &LegLine, own: u8) -> EarConf
-    ensures { result ≡ ear_at (conf_of conf.now) own leg.now }
+fn ear_conf(conf: &Conf, leg: &LegLine) -> EarConf
+    ensures { result ≡ ear_at (conf_of conf.now) leg.now }
 {
     EarConf {
-        leg: own,
         ssrc: leg.ssrc,
         pts: leg.pts,
         wait: u64::from(conf.wait),
@@ -101,7 +100,7 @@ fn open_link<W: Links>(
     let Ok((inbound, outbound)) = world.link(port as u16, leg.output.as_str()) else {
         return Err(LiveFault::Link { leg: own });
     };
-    match LinkLeg::new(alloc, inbound, ear_conf(conf, leg, own), stop) {
+    match LinkLeg::new(alloc, inbound, ear_conf(conf, leg), stop) {
         Ok(leg) => Ok((leg, outbound)),
         Err(inbound) => {
             world.done_in(inbound);

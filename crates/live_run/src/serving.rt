@@ -46,6 +46,8 @@ pub fn serve<R: Threads + Wait + Sync, W: Links, G: Gate + Sync>(
         (conf_of conf.now) (end_of report.end) report.views) }
     ensures given_up { IfErr result (WasGivenUp (W.own_faults world.old) (W.own_faults world.new)
         (W.object_faults world.old) (W.object_faults world.new) (conf_of conf.now)) }
+    ensures calm { IfOk result (λ report. report.end ≡ LiveEnd.Closed
+        → Same W.object_faults world.old world.new) }
     ensures paused { IfOk result (λ report. report.end ≡ LiveEnd.Done
         → IsPaused conf.now.turns (W.pauses world.old) (W.pauses world.new)) }
     ensures all_opened { OnOk result (Same W.own_faults world.old world.new) }
@@ -67,11 +69,13 @@ pub fn serve_tapped<R: Threads + Wait + Sync, W: Links, G: Gate + Sync, T: Tap>(
     tap: T,
 ) -> (Result<LiveReport, LiveFault>, T)
     requires links { IsOfLinks (conf_of conf.now) }
-    requires told { T.stands tap [] [] }
+    requires told { T.stands tap [] }
     ensures tapped { IfOk result.0 (λ report. WasTapped (T.stands result.1) W.tells (W.taken_at world.new) (W.given_at world.new)
         (conf_of conf.now) (end_of report.end) report.views) }
     ensures given_up { IfErr result.0 (WasGivenUp (W.own_faults world.old) (W.own_faults world.new)
         (W.object_faults world.old) (W.object_faults world.new) (conf_of conf.now)) }
+    ensures calm { IfOk result.0 (λ report. report.end ≡ LiveEnd.Closed
+        → Same W.object_faults world.old world.new) }
     ensures paused { IfOk result.0 (λ report. report.end ≡ LiveEnd.Done
         → IsPaused conf.now.turns (W.pauses world.old) (W.pauses world.new)) }
     ensures all_opened { OnOk result.0 (Same W.own_faults world.old world.new) }

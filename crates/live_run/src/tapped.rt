@@ -1,6 +1,6 @@
 //! The mixer of a live call, and the tap that is told of it.
 ghost use Rattle.std.specs.Prelude.{◌≡◌, false};
-ghost use Rattle.live_run.specs.Taps.{ShowsAll, ended_with};
+ghost use Rattle.live_run.specs.Taps.{Learns, Shows, ended_with};
 
 use crate::{LiveFault, Tap};
 use live_loop::Turned;
@@ -40,7 +40,7 @@ impl<M, T: Tap> Tapped<M, T> {
     pub(crate) fn finish(self, turned: Turned<LiveFault>) -> Told<M, T>
         ensures turned { result.turned ≡ ended_with self.short turned }
         ensures mixer { result.mixer ≡ self.mixer }
-        ensures shows { ShowsAll T.stands self.tap result.tap }
+        ensures shows { Learns T.stands self.tap result.tap Shows }
     {
         let Tapped {
             mixer,

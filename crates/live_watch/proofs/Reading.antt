@@ -1,6 +1,6 @@
 -- What is read of a board at the end is what the mixer took.
-use Rattle.std.proofs.Common.{◌≡◌, ◌<◌, ◌≤◌, ◌+◌, ℕ, zero, suc, true, false, Bool, List, [], ◌∷◌, ◌++◌, length, get_or, take, map, cond, refl, ap, sym, ◌∙◌, subst, add-one, arith}
-use Rattle.std.specs.Prelude.{◌==◌, IfOk, Ok, Result, filter, flat_map}
+use Rattle.std.proofs.Common.{◌≡◌, ◌<◌, ◌≤◌, ◌+◌, ℕ, true, false, Bool, List, [], ◌∷◌, ◌++◌, length, get_or, take, map, cond, refl, ap, sym, ◌∙◌, subst, add-one, arith}
+use Rattle.std.specs.Prelude.{◌==◌, IfOk, Ok, Result, flat_map}
 use Rattle.atomic_table.specs.Seated.{TableId}
 use Rattle.std.specs.List.{enumerate_from}
 use Rattle.std.proofs.Math.Seq.{take-suc}
@@ -12,17 +12,19 @@ use Rattle.stream_spec.specs.Ready.{Chunk, chunk_of}
 use Rattle.file_spec.specs.declared.conf_lines.LegLine.{LegLine}
 use Rattle.file_spec.specs.Conf.{Conf}
 use Rattle.mixer_spec.specs.Chunks.{octets}
+use Rattle.mixer_spec.specs.Setups.{setup}
 use Rattle.mixer_spec.specs.Table.{Table, chunks_taken}
 use Rattle.link_spec.specs.Links.{Takes}
 use Rattle.serve_spec.specs.Served.{End}
 use Rattle.serve_spec.specs.Watched.{board_line, board_lines}
 use Rattle.serve_spec.proofs.Watching.{board_law}
-use Rattle.board_spec.specs.Folds.{fold_of, octets_in, text_of}
+use Rattle.board_spec.specs.Folds.{fold_of, text_of}
 use Rattle.live_board.specs.Values.{Writing}
 use Rattle.live_run.specs.Calls.{AreTaken, WasTapped}
-use Rattle.live_run.specs.Taps.{chunks_of}
+use Rattle.live_run.specs.Taps.{chunks_of, chunks_taken_in, notices_by}
+use Rattle.live_run.proofs.Taking.{all_taken}
 use Rattle.live_watch.specs.Lines.{totals_of}
-use Rattle.live_watch.specs.Watched.{IsWrittenBy, WasWatched}
+use Rattle.live_watch.specs.Watched.{IsWrittenFor, WasWatched}
 
 -- ---- totals
 more_of : (i : ℕ) (c : ChunkValue) (changes : List ChunkValue) (b : Bool) → length (text_of i changes) ≡ octets (chunks_of i (map chunk_of changes))
@@ -82,7 +84,7 @@ pub ok_has : {X E : Type 0} (P : X → Type 0) (r : Result X E) (x : X) → r �
 ok_has P r x is h = subst (λ q. IfOk q P) is h
 
 pub was_watched : (tells : Type 0) (taken_at : ℕ → Takes) (given_at : ℕ → List (List ℕ)) (c : Conf) (end : End) (views printed : List ℕ) (board : TableId) (writer : Writing) (changes : List ChunkValue)
-    → WasTapped (IsWrittenBy board writer) tells taken_at given_at c end views → writer.published ++ writer.pending ≡ changes → printed ≡ views ++ totals_of c changes
+    → WasTapped (IsWrittenFor board writer) tells taken_at given_at c end views → writer.published ++ writer.pending ≡ changes → printed ≡ views ++ totals_of c changes
     → WasWatched tells taken_at given_at c end printed
 was_watched tells taken_at given_at c end views printed board writer changes w all is =
     let served = w.was.served in
@@ -90,7 +92,7 @@ was_watched tells taken_at given_at c end views printed board writer changes w a
     record {
       views = views;
       lines = lines;
-      printed_is = is ∙ ap (λ (xs : List ℕ). views ++ xs) (totals_are c changes w.chunks served.table (ap (map chunk_of) (sym all) ∙ w.told.took_are) w.all_told);
+      printed_is = is ∙ ap (λ (xs : List ℕ). views ++ xs) (totals_are c changes (chunks_taken_in (notices_by (setup c) w.told.calls)) served.table (ap (map chunk_of) (sym all) ∙ w.told.told.took_are) (all_taken c w.told.calls served.table w.told.made));
       was = w.was;
       board = board_law c w.was.takes w.was.given end views served;
     }

@@ -8,12 +8,17 @@ use Rattle.serve_spec.specs.Served.{End}
 use Rattle.serve_spec.specs.Watched.{IsBoardOf}
 use Rattle.live_board.specs.Values.{Writing}
 use Rattle.live_run.specs.Calls.{WasServed}
+use Rattle.live_run.specs.Taps.{Notice, chunks_shown_in, chunks_taken_in}
 
 -- to this board all of these chunks were written, and those were published
 pub record IsWrittenBy (board : TableId) (writer : Writing) (took shown : List Chunk) : Type 0 where
   pub same : writer.board ≡ board
   pub took_are : map chunk_of (writer.published ++ writer.pending) ≡ took
   pub shown_are : map chunk_of writer.published ≡ shown
+
+-- the same by what its tap was told
+abbrev pub IsWrittenFor : TableId → Writing → List Notice → Type 0
+IsWrittenFor board writer past = IsWrittenBy board writer (chunks_taken_in past) (chunks_shown_in past)
 
 -- A live call of the conference ended so, and this is printed of it: what its terminals show, how it ended, and how many octets of
 -- each leg's text were read at its board, which are all that the mixer took.

@@ -24,9 +24,9 @@ pub(crate) struct BoardTap<B> {
 }
 
 impl<B: OnBoard> Tap for BoardTap<B> {
-    ghost use Rattle.live_watch.specs.Watched.{IsWrittenBy};
+    ghost use Rattle.live_watch.specs.Watched.{IsWrittenFor};
 
-    ghost stands = { λ t took shown. IsWrittenBy B.board t.writer took shown };
+    ghost stands = { λ t past. IsWrittenFor B.board t.writer past };
 
     fn took(&mut self, chunk: &Chunk) -> Result<(), NoMemory> {
         self.writer.add(chunk)

@@ -5,7 +5,7 @@ ghost use Rattle.conference.specs.Conferences.{conf_of};
 ghost use Rattle.live_loop.specs.Walks.{IsPaused};
 ghost use Rattle.live_run.specs.Calls.{IsOfLinks, WasGivenUp, WasTapped};
 ghost use Rattle.live_run.specs.Reports.{end_of};
-ghost use Rattle.live_watch.specs.Watched.{IsWrittenBy, WasWatched};
+ghost use Rattle.live_watch.specs.Watched.{IsWrittenFor, WasWatched};
 
 use crate::board_taps::{BoardTap, OnBoard};
 use crate::lines::append_lines;
@@ -36,10 +36,12 @@ fn serve_on<B: OnBoard, R: Threads + Wait + Sync, W: Links, G: Gate + Sync>(
     requires board { writer.board ≡ B.board }
     requires new { (writer.published ≡ []) × (writer.pending ≡ []) × (writer.ended ≡ false) }
     ensures open { result.1.ended ≡ false }
-    ensures tapped { IfOk result.0 (λ report. WasTapped (IsWrittenBy B.board result.1) W.tells (W.taken_at world.new) (W.given_at world.new)
+    ensures tapped { IfOk result.0 (λ report. WasTapped (IsWrittenFor B.board result.1) W.tells (W.taken_at world.new) (W.given_at world.new)
         (conf_of conf.now) (end_of report.end) report.views) }
     ensures given_up { IfErr result.0 (WasGivenUp (W.own_faults world.old) (W.own_faults world.new)
         (W.object_faults world.old) (W.object_faults world.new) (conf_of conf.now)) }
+    ensures calm { IfOk result.0 (λ report. report.end ≡ LiveEnd.Closed
+        → Same W.object_faults world.old world.new) }
     ensures paused { IfOk result.0 (λ report. report.end ≡ LiveEnd.Done
         → IsPaused conf.now.turns (W.pauses world.old) (W.pauses world.new)) }
     ensures all_opened { OnOk result.0 (Same W.own_faults world.old world.new) }
@@ -68,6 +70,8 @@ pub fn serve_watched<
         (conf_of conf.now) (end_of report.end) report.views) }
     ensures given_up { IfErr result (WasGivenUp (W.own_faults world.old) (W.own_faults world.new)
         (W.object_faults world.old) (W.object_faults world.new) (conf_of conf.now)) }
+    ensures calm { IfOk result (λ report. report.end ≡ LiveEnd.Closed
+        → Same W.object_faults world.old world.new) }
     ensures paused { IfOk result (λ report. report.end ≡ LiveEnd.Done
         → IsPaused conf.now.turns (W.pauses world.old) (W.pauses world.new)) }
     ensures all_opened { OnOk result (Same W.own_faults world.old world.new) }

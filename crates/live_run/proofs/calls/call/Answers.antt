@@ -1,4 +1,4 @@
-use Rattle.std.proofs.Common.{◌≡◌, ◌≤◌, ◌∙◌, ℕ, false, [], length, map, ap, sym, subst, refl, arith}
+use Rattle.std.proofs.Common.{◌≡◌, ◌≤◌, ◌∙◌, ℕ, false, [], length, ap, sym, subst, arith}
 use Rattle.std.specs.Prelude.{vec_len}
 use Rattle.std.specs.Global.{Vec}
 use Rattle.conference.specs.Conferences.{conf_of}
@@ -78,5 +78,5 @@ returns-clause-called g c =
     (call_made g.W.In.LinkIn g.W.Out.LinkOut _ stands g.W.Links.tells conf _ c.args.world.now c.run_job-turned.new.clock c.run_job-turned.result over.tap (g.W.Links.opened c.args.world.now) later c.args.opened.ends.items c.requires.links c.requires.legs c.requires.each_leg c.requires.ends c.requires.each_end
     (ap (λ (m : Tapped (SendingState (FarEnds g.row.W-Out.Denot)) g.row.T.Denot). m.mixer.outbound.links.items) tapped ∙ ap (λ (v : Vec g.row.W-Out.Denot). v.items) made.links)
     (subst (λ (m : Tapped (SendingState (FarEnds g.row.W-Out.Denot)) g.row.T.Denot). HasAll g.W.Out.LinkOut.tells g.W.Out.LinkOut.given g.W.Out.LinkOut.faults conf m.mixer) (sym tapped) made.stands)
-    (subst (λ (m : Tapped (SendingState (FarEnds g.row.W-Out.Denot)) g.row.T.Denot). stands m.tap [] []) (sym tapped) c.requires.told)
+    (subst (λ (m : Tapped (SendingState (FarEnds g.row.W-Out.Denot)) g.row.T.Denot). stands m.tap []) (sym tapped) c.requires.told)
     c.from-2.ensures ran.passed.same_opened ran c.finish-turned.ensures.shows))

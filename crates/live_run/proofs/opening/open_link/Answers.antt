@@ -40,7 +40,7 @@ returns-in-Ok-new-clause-leg g c = λ line at.
     let opened = c.in-Ok-link.ensures in
     let numbered : g.W.In.LinkIn.port c.in-Ok-new.leg.link ≡ c.in-Some.port = ap g.W.In.LinkIn.port link ∙ opened.ports.0 in
     record {
-      conf = c.in-Ok-new.ensures.conf ∙ (c.ear_conf.ensures ∙ ap (ear_at (conf_of c.args.conf.now) own) same);
+      conf = c.in-Ok-new.ensures.conf ∙ (c.ear_conf.ensures ∙ ap (ear_at (conf_of c.args.conf.now)) same);
       new = c.in-Ok-new.ensures.stands;
       at = ap (λ (l : LegLine). port l.input) (sym same) ∙ (there ∙ ap Some (sym numbered));
       fresh = ap g.W.In.LinkIn.faults link ∙ opened.fresh.0;

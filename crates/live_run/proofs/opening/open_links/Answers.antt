@@ -1,9 +1,9 @@
-use Rattle.std.proofs.Common.{◌≡◌, ◌≤◌, ◌+◌, ℕ, true, List, length, refl, ap, subst, sym, ◌∙◌, arith}
+use Rattle.std.proofs.Common.{◌≤◌, ◌+◌, List, length, refl, ap, subst, sym, ◌∙◌, arith}
 use Rattle.std.specs.Vec.{vec_capacity}
 use Rattle.std.proofs.lemmas.List.{length_push}
 use Rattle.live_leg.specs.declared.legs.LinkLeg.{LinkLeg}
 use Rattle.conference.specs.Conferences.{conf_of}
-use Rattle.live_run.specs.Opened.{AreOpenBelow, OpenEnds, OpenLegs}
+use Rattle.live_run.specs.Opened.{OpenEnds, OpenLegs}
 use Rattle.live_run.proofs.Linking.{ends_calm, ends_more, legs_calm, legs_more, no_ends, no_legs, not_opened, open_below}
 use Rattle.live_run.proofs.opening.open_links.Goals as goal
 

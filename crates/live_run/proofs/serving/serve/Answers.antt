@@ -1,9 +1,4 @@
-use Rattle.std.proofs.Common.{ℕ}
-use Rattle.std.specs.Prelude.{IfOk}
 use Rattle.conference.specs.Conferences.{conf_of}
-use Rattle.live_run.specs.Calls.{WasServed}
-use Rattle.live_run.specs.Reports.{end_of}
-use Rattle.live_run.specs.declared.reports.LiveReport.{LiveReport}
 use Rattle.live_run.proofs.Returning.{as_served}
 use Rattle.live_run.proofs.serving.serve.Goals as goal
 

@@ -1,7 +1,6 @@
-use Rattle.std.proofs.Common.{◌≤◌, ◌∙◌, ℕ, ap, sym, refl, arith}
+use Rattle.std.proofs.Common.{◌∙◌, sym, arith}
 use Rattle.conference.specs.Conferences.{conf_of}
-use Rattle.live_leg.specs.declared.legs.LinkLeg.{LinkLeg}
-use Rattle.live_run.proofs.Returning.{each_heard, given_up_by, served_by, was_not_opened}
+use Rattle.live_run.proofs.Returning.{given_up_by, served_by, was_not_opened}
 use Rattle.live_run.proofs.serving.serve_tapped.Goals as goal
 
 pub returns-in-Err-clause-given_up : goal.returns-in-Err-clause-given_up

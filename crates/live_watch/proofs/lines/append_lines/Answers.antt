@@ -1,4 +1,4 @@
-use Rattle.std.proofs.Common.{◌≡◌, ◌++◌, ◌<◌, ◌≤◌, ◌∙◌, ℕ, List, true, length, get_or, ap, sym, arith}
+use Rattle.std.proofs.Common.{◌≡◌, ◌++◌, ◌<◌, ◌≤◌, ◌∙◌, ℕ, List, length, get_or, ap, arith}
 use Rattle.file_spec.specs.declared.conf_lines.LegLine.{LegLine}
 use Rattle.board_spec.specs.Folds.{Shown, fold_of}
 use Rattle.conference.specs.Conferences.{conf_of}
@@ -15,7 +15,8 @@ loop-leg-preserved c =
     let legs = c.args.conf.now.legs in
     let line = c.index-as_slice-leg.result in
     let total = c.read.new.out.total in
-    let same : c.read.new.self ≡ first = c.read.ensures.over (ap (λ (r : Reading). r.ended) i.0 ∙ c.requires.ended) ∙ i.0 in
+    let unlooked : Reading → Reading = λ r. record r { looks = 0 } in
+    let same : unlooked c.read.new.self ≡ unlooked first = ap unlooked (c.read.ensures.over (ap (λ (r : Reading). r.ended) i.0 ∙ c.requires.ended)) ∙ i.0 in
     let total_is : total ≡ (fold_of leg first.seen).total = ap (λ (s : Shown). s.total) c.read.ensures.shows ∙ ap (λ (r : Reading). (fold_of leg r.seen).total) same in
     let line_is : line ≡ get_or legs leg line = c.index-as_slice-leg.is ∙ ap (λ (xs : List LegLine). get_or xs leg line) c.as_slice.ensures in
     let below : leg < length legs = omega (arith, c.loop-leg-test.true, c.len-leg-end.ensures) in (

@@ -1,10 +1,10 @@
-use Rattle.std.proofs.Common.{◌≡◌, ◌≤◌, ◌∙◌, ◌++◌, ℕ, List, true, length, ap, sym, arith}
+use Rattle.std.proofs.Common.{◌∙◌, ap, sym, arith}
 use Rattle.conference.specs.Conferences.{conf_of}
-use Rattle.live_board.specs.Values.{Reading, Telling, Writing}
+use Rattle.live_board.specs.Values.{Reading, Telling}
 use Rattle.live_run.specs.declared.reports.LiveReport.{LiveReport}
 use Rattle.live_run.specs.Calls.{WasTapped}
 use Rattle.live_run.specs.Reports.{end_of}
-use Rattle.live_watch.specs.Watched.{IsWrittenBy}
+use Rattle.live_watch.specs.Watched.{IsWrittenFor}
 use Rattle.live_watch.proofs.Reading.{ok_has, was_watched}
 use Rattle.live_watch.proofs.serving.serve_watched.Goals as goal
 
@@ -13,10 +13,10 @@ learn-requires g c =
     let writer = c.serve_on-served.result.1 in
     let first = c.in-Ok.writer in
     let world = c.serve_on-served.new.world in
-    let P : LiveReport → Type 0 = λ report. WasTapped (IsWrittenBy first.board writer) g.W.Links.tells (g.W.Links.taken_at world) (g.W.Links.given_at world) (conf_of c.args.conf.now) (end_of report.end) report.views in
+    let P : LiveReport → Type 0 = λ report. WasTapped (IsWrittenFor first.board writer) g.W.Links.tells (g.W.Links.taken_at world) (g.W.Links.given_at world) (conf_of c.args.conf.now) (end_of report.end) report.views in
     let w = ok_has P c.serve_on-served.result.0 c.in-Ok-served.report c.in-Ok-served.is c.serve_on-served.ensures.tapped in
     let back = c.finish-reader.ensures c.in-Ok.reader c.start-watcher.ensures in
-    ap (λ (t : Telling). t.board) c.last-note.ensures.told ∙ (w.told.same ∙ (sym c.in-Ok.ensures.board ∙ sym back.board))
+    ap (λ (t : Telling). t.board) c.last-note.ensures.told ∙ (w.told.told.same ∙ (sym c.in-Ok.ensures.board ∙ sym back.board))
 
 pub append_lines-requires-clause-each : goal.append_lines-requires-clause-each
 append_lines-requires-clause-each g c =
@@ -31,7 +31,7 @@ returns-in-Ok-append_lines-clause-watched g c =
     let world = c.serve_on-served.new.world in
     let report = c.in-Ok-served.report in
     let conf = conf_of c.args.conf.now in
-    let P : LiveReport → Type 0 = λ report. WasTapped (IsWrittenBy first.board writer) g.W.Links.tells (g.W.Links.taken_at world) (g.W.Links.given_at world) conf (end_of report.end) report.views in
+    let P : LiveReport → Type 0 = λ report. WasTapped (IsWrittenFor first.board writer) g.W.Links.tells (g.W.Links.taken_at world) (g.W.Links.given_at world) conf (end_of report.end) report.views in
     let w = ok_has P c.serve_on-served.result.0 report c.in-Ok-served.is c.serve_on-served.ensures.tapped in
     let told = c.last-note.ensures.told in
     let seen = (c.learn.ensures.all (ap (λ (t : Telling). t.ended) told)).0 in
