@@ -122,7 +122,7 @@ module _ (c : Conf) (inputs : List (List ℕ)) (legs : length inputs ≡ length 
 pub are_of_conf : (c : Conf) (inputs : List (List ℕ)) → AreOfConf c (input_at inputs) (asked_of c inputs)
 are_of_conf c inputs = λ j l at.
     ap (λ (o : Option LegLine). record {
-      conf = record { leg = j; ssrc = ssrc_of o; pts = pts_of o; wait = c.wait };
+      conf = record { ssrc = ssrc_of o; pts = pts_of o; wait = c.wait };
       limit = input_limit c;
       octets = input_at inputs j;
     }) at

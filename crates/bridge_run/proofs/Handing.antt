@@ -50,7 +50,7 @@ module _ {S : Type 0} (Told : Type 0) (left : S → List ℕ) (c : Conf) (inputs
   asked_over told = λ j p at.
       let o = over j p at in
       let past : Option LegLine → LegPast = λ leg. record {
-        conf = record { leg = j; ssrc = ssrc_of leg; pts = pts_of leg; wait = c.wait };
+        conf = record { ssrc = ssrc_of leg; pts = pts_of leg; wait = c.wait };
         limit = input_limit c;
         octets = input_at inputs j;
         gave = [];
@@ -67,7 +67,7 @@ module _ {S : Type 0} (Told : Type 0) (left : S → List ℕ) (faults : S → �
         record {
           not_over = o.2.not_over;
           told = λ told. (let t = o.2.told told in
-              subst (λ octets. Stands left p.leg (begins (ear_of c.wait j o.0) (input_limit c) octets)) (input_is held c.legs j o.0 t.0 o.1 t.1) t.2);
+              subst (λ octets. Stands left p.leg (begins (ear_of c.wait o.0) (input_limit c) octets)) (input_is held c.legs j o.0 t.0 o.1 t.1) t.2);
         },
       )
 

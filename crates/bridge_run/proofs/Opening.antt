@@ -60,9 +60,9 @@ left_by faults name_of contents contents_now before after s n same calm other (i
 
 module _ {S : Type 0} where
   -- what lies under a name is what lay there before
-  opened_before : (tells : Type 0) (left : S → List ℕ) (faults : S → ℕ) (name_of : S → List ℕ) (now before : List ℕ → Option (List ℕ)) (wait limit j : ℕ) (leg : LegLine) (p : LegInlet S)
-      → (tells → (n : List ℕ) → now n ≡ before n) → IsOpened tells left faults name_of now wait limit j leg p → IsOpened tells left faults name_of before wait limit j leg p
-  opened_before tells left faults name_of now before wait limit j leg p same h = record {
+  opened_before : (tells : Type 0) (left : S → List ℕ) (faults : S → ℕ) (name_of : S → List ℕ) (now before : List ℕ → Option (List ℕ)) (wait limit : ℕ) (leg : LegLine) (p : LegInlet S)
+      → (tells → (n : List ℕ) → now n ≡ before n) → IsOpened tells left faults name_of now wait limit leg p → IsOpened tells left faults name_of before wait limit leg p
+  opened_before tells left faults name_of now before wait limit leg p same h = record {
     not_over = h.not_over;
     named = h.named;
     fresh = h.fresh;
@@ -71,7 +71,7 @@ module _ {S : Type 0} where
 
   -- one more leg
   pub opened_more : (tells : Type 0) (left : S → List ℕ) (faults : S → ℕ) (name_of : S → List ℕ) (now before : List ℕ → Option (List ℕ)) (wait limit j : ℕ) (legs : List LegLine) (leg : LegLine) (ps : List (LegInlet S)) (p : LegInlet S)
-      → (tells → (n : List ℕ) → now n ≡ before n) → AllOpened tells left faults name_of before wait limit legs ps → length ps ≡ j → leg_at legs j ≡ Some leg → IsOpened tells left faults name_of now wait limit j leg p
+      → (tells → (n : List ℕ) → now n ≡ before n) → AllOpened tells left faults name_of before wait limit legs ps → length ps ≡ j → leg_at legs j ≡ Some leg → IsOpened tells left faults name_of now wait limit leg p
       → AllOpened tells left faults name_of before wait limit legs (ps ++ p ∷ [])
   opened_more tells left faults name_of now before wait limit j legs leg ps p same h l g o = λ k x e. elim (pushed ps p k x e) [
     | inl f ↦ h k x f
@@ -79,24 +79,23 @@ module _ {S : Type 0} where
         let at : k ≡ j = q.0 ∙ l in (
           leg,
           ap (λ (i : ℕ). leg_at legs i) at ∙ g,
-          subst (λ (i : ℕ). IsOpened tells left faults name_of before wait limit i leg x) (sym at)
-              (subst (λ (y : LegInlet S). IsOpened tells left faults name_of before wait limit j leg y) (sym q.1) (opened_before tells left faults name_of now before wait limit j leg p same o)),
+          subst (λ (y : LegInlet S). IsOpened tells left faults name_of before wait limit leg y) (sym q.1) (opened_before tells left faults name_of now before wait limit leg p same o),
         )
   ]
 
   -- one more over its input
   pub over_more : (tells : Type 0) (left : S → List ℕ) (wait limit j : ℕ) (legs : List LegLine) (leg : LegLine) (inputs : List (List ℕ)) (octets : List ℕ) (ps : List (LegInlet S)) (p : LegInlet S)
-      → AllOver tells left wait limit legs inputs ps → length ps ≡ j → leg_at legs j ≡ Some leg → octets ≡ input_at inputs j → IsOver tells left wait limit j leg octets p
+      → AllOver tells left wait limit legs inputs ps → length ps ≡ j → leg_at legs j ≡ Some leg → octets ≡ input_at inputs j → IsOver tells left wait limit leg octets p
       → AllOver tells left wait limit legs inputs (ps ++ p ∷ [])
   over_more tells left wait limit j legs leg inputs octets ps p h l g is o = λ k x e. elim (pushed ps p k x e) [
     | inl f ↦ h k x f
     | inr q ↦
         let at : k ≡ j = q.0 ∙ l in
-        let here : IsOver tells left wait limit j leg (input_at inputs j) p = subst (λ (os : List ℕ). IsOver tells left wait limit j leg os p) is o in (
+        let here : IsOver tells left wait limit leg (input_at inputs j) p = subst (λ (os : List ℕ). IsOver tells left wait limit leg os p) is o in (
           leg,
           ap (λ (i : ℕ). leg_at legs i) at ∙ g,
-          subst (λ (i : ℕ). IsOver tells left wait limit i leg (input_at inputs i) x) (sym at)
-              (subst (λ (y : LegInlet S). IsOver tells left wait limit j leg (input_at inputs j) y) (sym q.1) here),
+          subst (λ (i : ℕ). IsOver tells left wait limit leg (input_at inputs i) x) (sym at)
+              (subst (λ (y : LegInlet S). IsOver tells left wait limit leg (input_at inputs j) y) (sym q.1) here),
         )
   ]
 

@@ -33,6 +33,10 @@ same_default [] i d e l = absurd (omega arith)
 same_default (x ∷ xs) zero d e l = refl
 same_default (x ∷ xs) (suc i) d e l = same_default xs i d e (omega arith)
 
+-- a leg of lines that are those of the conference, whatever stands where there is none
+pub leg_read : (lines legs : List LegLine) (own : ℕ) (leg d : LegLine) → lines ≡ legs → own < length legs → get_or lines own leg ≡ get_or legs own d
+leg_read lines legs own leg d is low = ap (λ (ls : List LegLine). get_or ls own leg) is ∙ same_default legs own leg d low
+
 abbrev pub no_leg : LegLine
 no_leg = record { line = 0; name = []; aware = false; ssrc = 0; input = []; output = []; pts = record { t140 = 0; red = 0 }; gens = 0; stay = record { from = 0; until = None } }
 

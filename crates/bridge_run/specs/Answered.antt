@@ -22,7 +22,7 @@ use Rattle.bridge_run.specs.Mixes.{WholeBelow, counted, outputs_of}
 -- what the leg j is asked for, where the inputs have these octets
 abbrev pub asked_of : Conf → List (List ℕ) → ℕ → Asked
 asked_of c inputs j = record {
-  conf = record { leg = j; ssrc = ssrc_of (leg_at c.legs j); pts = pts_at c j; wait = c.wait };
+  conf = record { ssrc = ssrc_of (leg_at c.legs j); pts = pts_at c j; wait = c.wait };
   limit = input_limit c;
   octets = input_at inputs j;
 }

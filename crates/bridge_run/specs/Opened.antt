@@ -15,9 +15,9 @@ use Rattle.command_spec.specs.Inputs.{LieBelow}
 use Rattle.bridge_run.specs.declared.mixed.MixFault.{MixFault}
 use Rattle.bridge_run.specs.declared.mixed.MixFault.TheVariants.{Open, Dump, TooLong, NoMemory}
 
--- what is heard of the leg j
-abbrev pub ear_of : ℕ → ℕ → LegLine → EarConf
-ear_of wait j leg = record { leg = j; ssrc = leg.ssrc; pts = leg.pts; wait = wait }
+-- what is heard of a leg
+abbrev pub ear_of : ℕ → LegLine → EarConf
+ear_of wait leg = record { ssrc = leg.ssrc; pts = leg.pts; wait = wait }
 
 module _ {S : Type 0} where
   -- this holds of each of these sources
@@ -33,27 +33,27 @@ module _ {S : Type 0} where
   abbrev pub LeavesCount : (S → ℕ) → (S → List ℕ) → (List ℕ → Option (List ℕ)) → List ℕ → S → Type 0
   LeavesCount faults name_of contents name s = (faults s ≡ 0) ⊎ ((name ≢ name_of s) × IsSome (contents (name_of s)))
 
-  -- The leg j over a source that holds these octets, where it tells what it holds.
-  pub record IsOver (tells : Type 0) (left : S → List ℕ) (wait limit j : ℕ) (leg : LegLine) (octets : List ℕ) (i : LegInlet S) : Type 0 where
+  -- A leg over a source that holds these octets, where it tells what it holds.
+  pub record IsOver (tells : Type 0) (left : S → List ℕ) (wait limit : ℕ) (leg : LegLine) (octets : List ℕ) (i : LegInlet S) : Type 0 where
     pub not_over : is_over i.leg ≡ false
-    pub told : tells → Stands left i.leg (begins (ear_of wait j leg) limit octets)
+    pub told : tells → Stands left i.leg (begins (ear_of wait leg) limit octets)
 
   -- these legs, in order, over these inputs
   abbrev pub AllOver : Type 0 → (S → List ℕ) → ℕ → ℕ → List LegLine → List (List ℕ) → List (LegInlet S) → Type 0
   AllOver tells left wait limit lines inputs legs = (j : ℕ) (i : LegInlet S) → slice_get legs j ≡ Some i
-      → (leg : LegLine) × (leg_at lines j ≡ Some leg) × IsOver tells left wait limit j leg (input_at inputs j) i
+      → (leg : LegLine) × (leg_at lines j ≡ Some leg) × IsOver tells left wait limit leg (input_at inputs j) i
 
-  -- The leg j over its input. Where sources tell what they hold, it holds the octets under its name.
-  pub record IsOpened (tells : Type 0) (left : S → List ℕ) (faults : S → ℕ) (name_of : S → List ℕ) (contents : List ℕ → Option (List ℕ)) (wait limit j : ℕ) (leg : LegLine) (i : LegInlet S) : Type 0 where
+  -- A leg over its input. Where sources tell what they hold, it holds the octets under its name.
+  pub record IsOpened (tells : Type 0) (left : S → List ℕ) (faults : S → ℕ) (name_of : S → List ℕ) (contents : List ℕ → Option (List ℕ)) (wait limit : ℕ) (leg : LegLine) (i : LegInlet S) : Type 0 where
     pub not_over : is_over i.leg ≡ false
     pub named : name_of (source_in i) ≡ leg.input
     pub fresh : faults (source_in i) ≡ 0
-    pub told : tells → (octets : List ℕ) × (contents leg.input ≡ Some octets) × Stands left i.leg (begins (ear_of wait j leg) limit octets)
+    pub told : tells → (octets : List ℕ) × (contents leg.input ≡ Some octets) × Stands left i.leg (begins (ear_of wait leg) limit octets)
 
   -- these legs, in order
   abbrev pub AllOpened : Type 0 → (S → List ℕ) → (S → ℕ) → (S → List ℕ) → (List ℕ → Option (List ℕ)) → ℕ → ℕ → List LegLine → List (LegInlet S) → Type 0
   AllOpened tells left faults name_of contents wait limit lines legs = (j : ℕ) (i : LegInlet S) → slice_get legs j ≡ Some i
-      → (leg : LegLine) × (leg_at lines j ≡ Some leg) × IsOpened tells left faults name_of contents wait limit j leg i
+      → (leg : LegLine) × (leg_at lines j ≡ Some leg) × IsOpened tells left faults name_of contents wait limit leg i
 
   -- the same of a whole list of legs
   abbrev pub AreOpened : Type 0 → (S → List ℕ) → (S → ℕ) → (S → List ℕ) → (List ℕ → Option (List ℕ)) → ℕ → ℕ → List LegLine → Vec (LegInlet S) → Type 0

@@ -17,23 +17,21 @@ use rtt_base::{Bytes, NoMemory};
 use rtt_io::{Source, SteadySource, World};
 use std::alloc::Global;
 
-/// The leg with this number over this source, which is handed back where memory runs out.
+/// A leg over this source, which is handed back where memory runs out.
 pub fn leg_over<S: Source>(
     alloc: Global,
     leg: &LegLine,
-    number: u8,
     wait: u32,
     limit: u32,
     source: S,
 ) -> Result<LegInlet<S>, LegLost<S>>
     requires wait { wait ≤ LONGEST_WAIT }
     requires limit { limit ≤ MOST_RECORDING_OCTETS }
-    ensures over { IfOk result (IsOver S.tells S.left wait limit number leg.now (S.left source)) }
+    ensures over { IfOk result (IsOver S.tells S.left wait limit leg.now (S.left source)) }
     ensures source { IfOk result (λ inlet. source_in inlet ≡ source) }
     ensures lost { IfErr result (λ lost. lost.source ≡ source) }
 {
     let conf = EarConf {
-        leg: number,
         ssrc: leg.ssrc,
         pts: leg.pts,
         wait: u64::from(wait),
@@ -56,7 +54,7 @@ fn open_leg<W: World>(
     requires wait { wait ≤ LONGEST_WAIT }
     requires limit { limit ≤ MOST_RECORDING_OCTETS }
     ensures opened { IfOk result (IsOpened W.tells W.Src.left W.Src.faults W.Src.name
-        (W.contents world.old) wait limit number leg.now) }
+        (W.contents world.old) wait limit leg.now) }
     ensures shown { W.tells → OnOk result W.Src.tells }
     ensures refused { IfErr result (RefusedIn W.own_faults world.old world.new number leg.now) }
     ensures no_other { W.tells → OnErr result (CountsNoOther W.contents W.own_faults leg.now.input world.old world.new) }
@@ -68,7 +66,7 @@ fn open_leg<W: World>(
     let Ok(source) = world.open_source(leg.input.as_str()) else {
         return Err(MixFault::Open { leg: number });
     };
-    match leg_over(alloc, leg, number, wait, limit, source) {
+    match leg_over(alloc, leg, wait, limit, source) {
         Ok(inlet) => Ok(inlet),
         Err(lost) => {
             world.done_src(lost.source);
@@ -134,7 +132,7 @@ pub(crate) fn held_legs(
     for octets in inputs {
         let number = inlets.len();
         let source = SteadySource::new(octets);
-        match leg_over(alloc, &legs[number], number as u8, wait, limit, source) {
+        match leg_over(alloc, &legs[number], wait, limit, source) {
             Ok(inlet) => inlets.push_reserved(inlet),
             Err(_) => return Err(NoMemory),
         }

@@ -9,8 +9,8 @@ use Rattle.mix_loop.specs.Items.{IsOf}
 use Rattle.mix_loop.specs.Mixers.{Keeps}
 use Rattle.mixer_turn.specs.declared.batches.Post.{Post}
 use Rattle.mixer_turn.specs.Allowed.{IsOffer}
-use Rattle.mixer_turn.specs.States.{State, legs_of}
-use Rattle.mixer_turn.specs.Standing.{Leads, StandsFor}
+use Rattle.mixer_turn.specs.States.{legs_of}
+use Rattle.mixer_turn.specs.Standing.{Leads}
 use Rattle.mixer_turn.specs.Turns.{HasBatch, OfCalls, written}
 use Rattle.mixer_posts.specs.States.{SendingState}
 use Rattle.mixer_posts.specs.Posts.{TakesAll, sent_by, with_posts}

@@ -67,6 +67,9 @@ fn typed(rt: &impl Abort, alloc: Global, room: usize) -> Result<Sending<Notes>, 
         ready: 0,
         text,
     };
+    let Ok(_) = str::from_utf8(chunk.text.as_slice()) else {
+        return Err(NoMemory);
+    };
     assert!(rt; mixer.offer(&chunk).is_ok());
     let sent = Vec::new(alloc);
     Ok(Sending::new(mixer, Batch::new(alloc)?, Notes { sent, room }))

@@ -1,5 +1,5 @@
 //! What is told of the legs of a conference, told to it.
-ghost use Rattle.std.specs.Prelude.{◌≡◌, ◌+◌, ◌==◌, ◌<◌, Some, true, [], ◌∷◌, ◌++◌, bytes_eq, length, if◌then◌else◌};
+ghost use Rattle.std.specs.Prelude.{◌≡◌, ◌+◌, ◌==◌, ◌<◌, Some, true, [], ◌∷◌, ◌++◌, length, if◌then◌else◌};
 ghost use Rattle.std.specs.List.{list_any};
 ghost use Rattle.std.specs.Str.{byte};
 ghost use Rattle.file_spec.specs.Conf.{change_leg, is_name_octet};
@@ -8,7 +8,7 @@ ghost use Rattle.rtt_attend.specs.Heard.{said_of};
 ghost use Rattle.rtt_attend.specs.Named.{says_in, shaped};
 
 use crate::said::Said;
-use conference::Legs;
+use conference::{Legs, has_name, is_name_octet};
 use file_spec::limits::{LAST_MOMENT, LONGEST_NAME};
 use file_spec::{LegLine, Stay};
 use rtcp_spec::SdesName;
@@ -19,12 +19,6 @@ fn without_space(octet: u8) -> u8
     ensures { result ≡ (if octet == byte " " then byte "_" else octet) }
 {
     if octet == b' ' { b'_' } else { octet }
-}
-
-fn is_name_octet(octet: u8) -> bool
-    ensures { result ≡ is_name_octet octet }
-{
-    octet.is_ascii_alphanumeric() || octet == b'.' || octet == b'_' || octet == b'-'
 }
 
 /// Appends an octet, where it may stand in a name, and answers whether it may.
@@ -57,12 +51,6 @@ fn name_from(text: &str) -> Option<Name>
 }
 
 /// Whether a leg has this name.
-fn has_name(legs: &[LegLine], name: &str) -> bool
-    ensures { result ≡ list_any (λ leg. bytes_eq leg.name name.now) legs.now }
-{
-    legs.iter().any(|leg| leg.name.as_str() == name)
-}
-
 /// Whether no leg has this name.
 fn is_free(legs: &[LegLine], name: &str) -> bool
     ensures { result ≡ is_free legs.now name.now }

@@ -74,7 +74,7 @@ module _ {S : Type 0} (Told Tells : Type 0) (left : S → List ℕ) (faults : S 
   all_asked told tells = λ j p at.
       let o = fed j p at in
       let past : Option LegLine → List ℕ → LegPast = λ leg octets. record {
-        conf = record { leg = j; ssrc = ssrc_of leg; pts = pts_of leg; wait = c.wait };
+        conf = record { ssrc = ssrc_of leg; pts = pts_of leg; wait = c.wait };
         limit = input_limit c;
         octets = octets;
         gave = [];

@@ -38,9 +38,9 @@ risen_on faults name first before after s low up past = λ own named rose. rose_
 -- ---- legs
 module _ {S : Type 0} (Told Tells : Type 0) (left : S → List ℕ) (faults : S → ℕ) (name : S → List ℕ) where
   -- what lies under a name is what lay there before
-  fed_before : (now before : Contents) (wait limit j : ℕ) (leg : LegLine) (recording : List ℕ) (i : LegInlet S) → (Told → (n : List ℕ) → now n ≡ before n)
-      → IsFedLeg Told Tells left faults name now wait limit j leg recording i → IsFedLeg Told Tells left faults name before wait limit j leg recording i
-  fed_before now before wait limit j leg recording i same h =
+  fed_before : (now before : Contents) (wait limit : ℕ) (leg : LegLine) (recording : List ℕ) (i : LegInlet S) → (Told → (n : List ℕ) → now n ≡ before n)
+      → IsFedLeg Told Tells left faults name now wait limit leg recording i → IsFedLeg Told Tells left faults name before wait limit leg recording i
+  fed_before now before wait limit leg recording i same h =
       let text : Told → text_of now recording leg ≡ text_of before recording leg = λ told. ap (λ (o : Option (List ℕ)). cond (is_on_trunk leg) recording (unwrap_or o [])) (same told leg.input) in
       record {
         not_over = h.not_over;
@@ -50,23 +50,23 @@ module _ {S : Type 0} (Told Tells : Type 0) (left : S → List ℕ) (faults : S 
           holds = λ told. h.source.holds told ∙ text told;
           lies = λ told off. subst (λ (o : Option (List ℕ)). IsSome o) (same told leg.input) (h.source.lies told off);
         };
-        told = λ told tells. subst (λ octets. Stands left i.leg (begins (ear_of wait j leg) limit octets)) (text told) (h.told told tells);
+        told = λ told tells. subst (λ octets. Stands left i.leg (begins (ear_of wait leg) limit octets)) (text told) (h.told told tells);
       }
 
   -- one more leg
   pub fed_more : (now before : Contents) (wait limit j : ℕ) (legs : List LegLine) (recordings : List (List ℕ)) (leg : LegLine) (recording : List ℕ) (ps : List (LegInlet S)) (p : LegInlet S)
       → (Told → (n : List ℕ) → now n ≡ before n) → AllFed Told Tells left faults name before wait limit legs recordings ps → length ps ≡ j → leg_at legs j ≡ Some leg → recording ≡ input_at recordings j
-      → IsFedLeg Told Tells left faults name now wait limit j leg recording p → AllFed Told Tells left faults name before wait limit legs recordings (ps ++ p ∷ [])
+      → IsFedLeg Told Tells left faults name now wait limit leg recording p → AllFed Told Tells left faults name before wait limit legs recordings (ps ++ p ∷ [])
   fed_more now before wait limit j legs recordings leg recording ps p same h l g is o = λ k x e. elim (pushed ps p k x e) [
     | inl f ↦ h k x f
     | inr q ↦
         let at : k ≡ j = q.0 ∙ l in
-        let here : IsFedLeg Told Tells left faults name before wait limit j leg (input_at recordings j) p =
-        subst (λ (r : List ℕ). IsFedLeg Told Tells left faults name before wait limit j leg r p) is (fed_before now before wait limit j leg recording p same o) in (
+        let here : IsFedLeg Told Tells left faults name before wait limit leg (input_at recordings j) p =
+        subst (λ (r : List ℕ). IsFedLeg Told Tells left faults name before wait limit leg r p) is (fed_before now before wait limit leg recording p same o) in (
           leg,
           ap (λ (i : ℕ). leg_at legs i) at ∙ g,
-          subst (λ (i : ℕ). IsFedLeg Told Tells left faults name before wait limit i leg (input_at recordings i) x) (sym at)
-              (subst (λ (y : LegInlet S). IsFedLeg Told Tells left faults name before wait limit j leg (input_at recordings j) y) (sym q.1) here),
+          subst (λ (i : ℕ). IsFedLeg Told Tells left faults name before wait limit leg (input_at recordings i) x) (sym at)
+              (subst (λ (y : LegInlet S). IsFedLeg Told Tells left faults name before wait limit leg (input_at recordings j) y) (sym q.1) here),
         )
   ]
 

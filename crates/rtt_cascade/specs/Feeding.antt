@@ -33,16 +33,16 @@ module _ {S : Type 0} where
     pub holds : Told → left s ≡ text_of held recording leg
     pub lies : Told → is_on_trunk leg ≡ false → IsSome (held leg.input)
 
-  -- The leg j over that source. Where sources tell what they hold, it hears that text.
-  pub record IsFedLeg (Told Tells : Type 0) (left : S → List ℕ) (faults : S → ℕ) (name : S → List ℕ) (held : Contents) (wait limit j : ℕ) (leg : LegLine) (recording : List ℕ) (i : LegInlet S) : Type 0 where
+  -- A leg over that source. Where sources tell what they hold, it hears that text.
+  pub record IsFedLeg (Told Tells : Type 0) (left : S → List ℕ) (faults : S → ℕ) (name : S → List ℕ) (held : Contents) (wait limit : ℕ) (leg : LegLine) (recording : List ℕ) (i : LegInlet S) : Type 0 where
     pub not_over : is_over i.leg ≡ false
     pub source : IsFed Told left faults name held leg recording (source_in i)
-    pub told : Told → Tells → Stands left i.leg (begins (ear_of wait j leg) limit (text_of held recording leg))
+    pub told : Told → Tells → Stands left i.leg (begins (ear_of wait leg) limit (text_of held recording leg))
 
   -- these legs, in order, over these recordings or their inputs
   abbrev pub AllFed : (Told Tells : Type 0) → (S → List ℕ) → (S → ℕ) → (S → List ℕ) → Contents → ℕ → ℕ → List LegLine → List (List ℕ) → List (LegInlet S) → Type 0
   AllFed Told Tells left faults name held wait limit lines recordings legs = (j : ℕ) (i : LegInlet S) → slice_get legs j ≡ Some i
-      → (leg : LegLine) × (leg_at lines j ≡ Some leg) × IsFedLeg Told Tells left faults name held wait limit j leg (input_at recordings j) i
+      → (leg : LegLine) × (leg_at lines j ≡ Some leg) × IsFedLeg Told Tells left faults name held wait limit leg (input_at recordings j) i
 
   -- the same of a whole list of legs
   abbrev pub AreFed : (Told Tells : Type 0) → (S → List ℕ) → (S → ℕ) → (S → List ℕ) → Contents → ℕ → ℕ → List LegLine → List (List ℕ) → Vec (LegInlet S) → Type 0

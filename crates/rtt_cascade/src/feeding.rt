@@ -77,7 +77,7 @@ fn open_leg<'s, W: World>(
     requires wait { wait ≤ LONGEST_WAIT }
     requires limit { limit ≤ MOST_RECORDING_OCTETS }
     ensures fed { IfOk result (IsFedLeg W.tells W.Src.tells (left_in W.Src.left) (faults_in W.Src.faults) (name_in W.Src.name)
-        (W.contents world.old) wait limit number leg.now recording.now) }
+        (W.contents world.old) wait limit leg.now recording.now) }
     ensures refused { IfErr result (IsOwnOpen W.own_faults world.old world.new number leg.now) }
     ensures no_other { W.tells → OnErr result (CountsNoOther W.contents W.own_faults leg.now.input world.old world.new) }
     ensures own_never_falls { NoneFalls W.own_faults world.old world.new }
@@ -88,7 +88,7 @@ fn open_leg<'s, W: World>(
     let Ok(source) = open_text(leg, recording, world) else {
         return Err(MixFault::Open { leg: number });
     };
-    match leg_over(alloc, leg, number, wait, limit, source) {
+    match leg_over(alloc, leg, wait, limit, source) {
         Ok(inlet) => Ok(inlet),
         Err(lost) => {
             hand_back(lost.source, world);

@@ -13,7 +13,7 @@ use Rattle.stream_spec.specs.History.{History, Entry, Placed, Lawful, placed, pl
 use Rattle.stream_spec.specs.Own.{Stream, own_packet, come_from, NearEach, packet_after, entry_after, sent_history}
 use Rattle.stream_spec.specs.Typed.{Event, Text, Ask, Turned, sents, entry_at, entries, waiting, due_at, IsScript}
 use Rattle.stream_spec.proofs.Lists.{in_left, in_right}
-use Rattle.stream_spec.proofs.Grows.{grown, placed_grown}
+use Rattle.stream_spec.proofs.Grows.{grown, placed_grown, packet_stays}
 use Rattle.stream_spec.proofs.Sent.{the_last, last_packet, length_sent, sent_own}
 use Rattle.stream_spec.proofs.OwnPackets.{names_own, own_come}
 use Rattle.stream_spec.proofs.Typing.{paced}
@@ -24,7 +24,7 @@ use Rattle.wire_spec.specs.SentPackets.{packet_written}
 use Rattle.text_sender.proofs.Sending.{length_sents}
 use Rattle.command_spec.specs.Scripts.{AreLines, events_through}
 use Rattle.rtt_send.specs.Scripts.{records_of, records_sent, recording_sent}
-use Rattle.rtt_send.proofs.ReadBack.{Backs, all_back, items_back, packet_stays}
+use Rattle.rtt_send.proofs.ReadBack.{Backs, all_back, items_back}
 use Rattle.rtt_send.proofs.Typed.{script_through, lawful_sent}
 use Rattle.wire_spec.specs.declared.limits.TheConstants.{LAST_RECORD_MOMENT}
 

@@ -15,19 +15,21 @@ use Rattle.stream_spec.specs.Lists.{In}
 use Rattle.stream_spec.specs.History.{History, Entry, Placed, placed}
 use Rattle.stream_spec.specs.Own.{Sent, Sendable, own_packet, packet_after, entry_after, sent_history}
 use Rattle.stream_spec.specs.Typed.{Event, Turned, sents, IsScript}
-use Rattle.stream_spec.proofs.Grows.{grown, placed_grown, before_grown, window_grown}
+use Rattle.stream_spec.proofs.Grows.{grown, placed_grown, before_grown, window_grown, packet_stays}
 use Rattle.stream_spec.proofs.Sent.{the_last, last_packet, in_sent_of}
 use Rattle.stream_spec.proofs.Typing.{paced}
 use Rattle.text_sender.specs.declared.senders.SendConf.{SendConf}
 use Rattle.text_sender.specs.Confs.{IsConf, stream_of}
 use Rattle.text_sender.specs.Standing.{sent_by, history_sent}
 use Rattle.wire_spec.specs.SentPackets.{packet_written}
-use Rattle.red_window.proofs.Fitting.{packet_fits, few_octets}
+use Rattle.stream_spec.proofs.Fitting.{packet_fits, few_octets}
 use Rattle.command_spec.specs.Scripts.{AreLines, events_through}
 use Rattle.rtt_send.specs.Scripts.{records_of, records_sent, recording_sent}
 use Rattle.rtt_send.proofs.Typed.{script_through}
 use Rattle.rtt_base.specs.declared.limits.TheConstants.{MOST_PACKET_OCTETS}
 use Rattle.wire_spec.specs.declared.limits.TheConstants.{LAST_RECORD_MOMENT}
+use Rattle.std.proofs.lemmas.List.{map-append}
+use Rattle.stream_spec.proofs.Lists.{map_same}
 
 -- ---- a packet
 pub record IsBack (conf : SendConf) (p : Packet) : Type 0 where
@@ -60,17 +62,6 @@ all_back conf past k b s =
     backs conf (sent_by conf past) k b (λ z i. (in_sent_of conf.ssrc (sents (sent_by conf past)) z (subst (λ (zs : List Sent). In z zs) (sym p.own) i)).1) p.sendable
 
 -- ---- the own packets of the history
-map_append : {X Y : Type 0} (f : X → Y) (xs ys : List X) → map f (xs ++ ys) ≡ map f xs ++ map f ys
-map_append f [] ys = refl
-map_append f (x ∷ xs) ys = ap (λ zs. f x ∷ zs) (map_append f xs ys)
-
-map_same : {X Y : Type 0} (f g : X → Y) (xs : List X) → ((x : X) → In x xs → f x ≡ g x) → map f xs ≡ map g xs
-map_same f g [] e = refl
-map_same f g (x ∷ xs) e = ap (λ y. y ∷ map f xs) (e x (inl refl)) ∙ ap (λ ys. g x ∷ ys) (map_same f g xs (λ y i. e y (inr i)))
-
-pub packet_stays : (h : History) (e : Entry) (x : Placed) → In x (placed h) → own_packet (grown h e) x ≡ own_packet h x
-packet_stays h e x i = rw (before_grown h e (max 1 x.gens) x i, window_grown h e x i) refl
-
 -- a packet of a record, read; and the own packet of an entry, as it is read
 abbrev pub read_of : SendConf → ℕ × List ℕ → Result Packet TextFault
 read_of conf r = text_of r.1 (Some conf.ssrc) conf.pts
@@ -85,11 +76,11 @@ read_are conf (e ∷ es) b =
     let zs = sents es in
     let h : History = sent_history c zs in
     let more : History = sent_history c (sents (e ∷ es)) in
-    map_append (read_of conf) (records_of conf es) ((e.at, packet_written conf.pts (packet_after c zs e.sent)) ∷ [])
+    map-append (read_of conf) (records_of conf es) ((e.at, packet_written conf.pts (packet_after c zs e.sent)) ∷ [])
     ∙ (ap (λ (ps : List (Result Packet TextFault)). ps ++ read_of conf (e.at, packet_written conf.pts (packet_after c zs e.sent)) ∷ [])
     (read_are conf es b.1 ∙ sym (map_same (own_of more) (own_of h) (placed h) (λ x i. ap (λ (p : Packet). let q : Result Packet TextFault = Ok p in q) (packet_stays h (entry_after c.gens zs e.sent) x i))))
     ∙ (ap (λ (p : Result Packet TextFault). map (own_of more) (placed h) ++ p ∷ []) (b.0.text_is ∙ ap (λ (p : Packet). let q : Result Packet TextFault = Ok p in q) (sym (last_packet c zs e.sent)))
-    ∙ (sym (map_append (own_of more) (placed h) (the_last c zs e.sent ∷ []))
+    ∙ (sym (map-append (own_of more) (placed h) (the_last c zs e.sent ∷ []))
     ∙ ap (map (own_of more)) (sym (placed_grown h (entry_after c.gens zs e.sent))))))
 
 -- ---- the recording

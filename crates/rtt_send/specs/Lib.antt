@@ -2,3 +2,4 @@ pub mod Scripts
 pub mod Recordings
 pub mod Answers
 pub mod Insides
+pub mod Laws

@@ -37,8 +37,8 @@ loop-octets-preserved c =
     let is : octets ≡ input_at inputs number =
     sym (get_or-append_seam yielded octets (into_iter_items c.next.new.self) []) ∙ (ap (λ (xs : List (List ℕ)). input_at xs (length yielded)) whole ∙ ap (λ (n : ℕ). input_at inputs n) at) in
     let got = leg_got legs number ∙ slice_get_read legs (length legs) number c.index-legs-number.result refl below c.index-legs-number.is in
-    let over : IsOver (Unit {0}) left-value.it c.args.wait c.args.limit number c.index-legs-number.result octets c.in-Ok.inlet
-    = subst (λ (os : List ℕ). IsOver (Unit {0}) left-value.it c.args.wait c.args.limit number c.index-legs-number.result os c.in-Ok.inlet) c.new-source.ensures c.in-Ok.ensures.over in
+    let over : IsOver (Unit {0}) left-value.it c.args.wait c.args.limit c.index-legs-number.result octets c.in-Ok.inlet
+    = subst (λ (os : List ℕ). IsOver (Unit {0}) left-value.it c.args.wait c.args.limit c.index-legs-number.result os c.in-Ok.inlet) c.new-source.ensures c.in-Ok.ensures.over in
     record {
       all = append_assoc yielded (octets ∷ []) (into_iter_items c.next.new.self) ∙ whole;
       left = omega (arith, i.left, c.in-Some.ensures.steps.1, ap (λ (xs : List (List ℕ)). length xs) steps);

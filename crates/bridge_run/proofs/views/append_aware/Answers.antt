@@ -1,4 +1,4 @@
-use Rattle.std.proofs.Common.{◌≡◌, ◌≤◌, ℕ, List, [], ◌∷◌, get_or, length, map, cond, refl, sym, ◌∙◌, ap, subst, arith}
+use Rattle.std.proofs.Common.{◌≤◌, ℕ, List, [], ◌∷◌, length, map, cond, refl, sym, ◌∙◌, ap, subst, arith}
 use Rattle.std.specs.Prelude.{AllPairs, remove, ◌≢◌}
 use Rattle.std.proofs.lemmas.List.{length-map}
 use Rattle.std.proofs.lemmas.List.Edits.{length-remove}
@@ -8,7 +8,7 @@ use Rattle.conference.specs.Conferences.{conf_of}
 use Rattle.mixer_spec.specs.Arrives.{came}
 use Rattle.terminal.specs.Terminals.{Heard}
 use Rattle.bridge_run.specs.Viewed.{Adds}
-use Rattle.bridge_run.proofs.Viewing.{same_default, ssrcs_differ, aware_view, adds, has_few}
+use Rattle.bridge_run.proofs.Viewing.{leg_read, ssrcs_differ, aware_view, adds, has_few}
 use Rattle.bridge_run.proofs.views.append_aware.Goals as goal
 
 pub played-requires-clause-differ : goal.played-requires-clause-differ
@@ -27,23 +27,21 @@ count-requires-clause-few c =
 
 pub count-requires-clause-before : goal.count-requires-clause-before
 count-requires-clause-before c =
-    let before = c.requires.before in
-    (c.args.own, omega (arith, c.requires.own, c.args.conf.now.kept.legs.most), record { packets = before.packets; used = before.used; marks = before.marks })
+    (c.args.own, omega (arith, c.requires.own, c.args.conf.now.kept.legs.most), record { packets = c.requires.before.packets; used = c.requires.before.used; marks = c.requires.before.marks })
 
 pub returns-clause-adds : goal.returns-clause-adds
 returns-clause-adds c = λ records d e w.
-    let legs = c.args.conf.now.legs in
     let own = c.args.own in
     let conf = conf_of c.args.conf.now in
     let leg = c.index-as_slice-own.result in
-    let same : leg ≡ get_or legs own d = c.index-as_slice-own.is ∙ (ap (λ (ls : List LegLine). get_or ls own leg) c.as_slice.ensures ∙ same_default legs own leg d c.requires.own) in
+    let same = c.index-as_slice-own.is ∙ leg_read c.as_slice.result.now c.args.conf.now.legs own leg d c.as_slice.ensures c.requires.own in
     let aware = ap (λ (l : LegLine). l.aware) same ∙ e in
     let sources = c.as_slice-3.ensures.value ∙ (c.in_ok-speakers.ensures.sources ∙ ap (λ (ls : List LegLine). map (λ l. l.ssrc) (remove ls own)) c.as_slice-2.ensures) in
     let names = c.as_slice-5.ensures.value ∙ (c.in_ok-speakers.ensures.names ∙ ap (λ (ls : List LegLine). map (λ l. l.name) (remove ls own)) c.as_slice-2.ensures) in
     let heard = subst (λ (ps : List PlanLine). Heard c.in_ok-terminal.terminal c.conf_at.result c.as_slice-3.result.now (came ps own records)) c.as_slice-4.ensures (c.in_ok-terminal.ensures.heard records w) in
     let view = aware_view conf own leg records c.in_ok-terminal.terminal c.conf_at.result c.as_slice-3.result.now c.as_slice-5.result.now c.args.seen.now.views c.append_view.new.out
     aware c.conf_at.ensures sources names heard c.in_ok-append_view.ensures.seen in
-    let listed = sources ∙ ap (λ b. cond b (map (λ (l : LegLine). l.ssrc) (remove legs own)) (conf.mixer.ssrc ∷ [])) (sym aware) in
+    let listed = sources ∙ ap (λ b. cond b (map (λ (l : LegLine). l.ssrc) (remove c.args.conf.now.legs own)) (conf.mixer.ssrc ∷ [])) (sym aware) in
     subst (λ (l : LegLine). Adds conf own l records c.args.seen.now c.count.new.seen) same
     (adds conf own leg records c.in_ok-terminal.terminal c.conf_at.result c.as_slice-3.result.now c.args.seen.now (record c.args.seen.now { views = c.append_view.new.out }) c.count.new.seen
     c.conf_at.ensures listed heard view refl refl refl c.count.ensures.adds)

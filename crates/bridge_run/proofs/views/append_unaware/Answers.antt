@@ -1,4 +1,4 @@
-use Rattle.std.proofs.Common.{◌≡◌, List, [], ◌∷◌, get_or, map, cond, refl, sym, ◌∙◌, ap, subst, arith}
+use Rattle.std.proofs.Common.{List, [], ◌∷◌, map, cond, refl, sym, ◌∙◌, ap, subst, arith}
 use Rattle.std.specs.Prelude.{remove}
 use Rattle.file_spec.specs.declared.conf_lines.LegLine.{LegLine}
 use Rattle.file_spec.specs.declared.conf_lines.PlanLine.{PlanLine}
@@ -6,7 +6,7 @@ use Rattle.conference.specs.Conferences.{conf_of}
 use Rattle.mixer_spec.specs.Arrives.{came}
 use Rattle.terminal.specs.Terminals.{Heard}
 use Rattle.bridge_run.specs.Viewed.{Adds}
-use Rattle.bridge_run.proofs.Viewing.{same_default, adds, has_few, unaware_view}
+use Rattle.bridge_run.proofs.Viewing.{leg_read, adds, has_few, unaware_view}
 use Rattle.bridge_run.proofs.views.append_unaware.Goals as goal
 
 pub count-requires-clause-few : goal.count-requires-clause-few
@@ -15,22 +15,20 @@ count-requires-clause-few c =
 
 pub count-requires-clause-before : goal.count-requires-clause-before
 count-requires-clause-before c =
-    let before = c.requires.before in
-    (c.args.own, omega (arith, c.requires.own, c.args.conf.now.kept.legs.most), record { packets = before.packets; used = before.used; marks = before.marks })
+    (c.args.own, omega (arith, c.requires.own, c.args.conf.now.kept.legs.most), record { packets = c.requires.before.packets; used = c.requires.before.used; marks = c.requires.before.marks })
 
 pub returns-clause-adds : goal.returns-clause-adds
 returns-clause-adds c = λ records d e w.
-    let legs = c.args.conf.now.legs in
+    let sources = (conf_of c.args.conf.now).mixer.ssrc ∷ [] in
     let own = c.args.own in
     let conf = conf_of c.args.conf.now in
     let leg = c.index-as_slice-own.result in
-    let same : leg ≡ get_or legs own d = c.index-as_slice-own.is ∙ (ap (λ (ls : List LegLine). get_or ls own leg) c.as_slice.ensures ∙ same_default legs own leg d c.requires.own) in
+    let same = c.index-as_slice-own.is ∙ leg_read c.as_slice.result.now c.args.conf.now.legs own leg d c.as_slice.ensures c.requires.own in
     let aware = ap (λ (l : LegLine). l.aware) same ∙ e in
-    let sources = conf.mixer.ssrc ∷ [] in
     let heard = subst (λ (ps : List PlanLine). Heard c.in_ok-terminal.terminal c.conf_at.result sources (came ps own records)) c.as_slice-2.ensures (c.in_ok-terminal.ensures.heard records w) in
     let view = unaware_view conf own leg records c.in_ok-terminal.terminal c.conf_at.result c.args.seen.now.views c.append_view.new.out
     aware c.conf_at.ensures heard c.in_ok-append_view.ensures.seen in
-    let listed = ap (λ b. cond b (map (λ (l : LegLine). l.ssrc) (remove legs own)) sources) (sym aware) in
+    let listed = ap (λ b. cond b (map (λ (l : LegLine). l.ssrc) (remove c.args.conf.now.legs own)) sources) (sym aware) in
     subst (λ (l : LegLine). Adds conf own l records c.args.seen.now c.count.new.seen) same
     (adds conf own leg records c.in_ok-terminal.terminal c.conf_at.result sources c.args.seen.now (record c.args.seen.now { views = c.append_view.new.out }) c.count.new.seen
     c.conf_at.ensures listed heard view refl refl refl c.count.ensures.adds)
