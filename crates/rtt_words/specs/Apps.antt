@@ -1,7 +1,8 @@
 -- The arguments of each command, as `clap` sees them, and what their texts ask for.
-use Rattle.std.specs.Prelude.{ℕ, true, List, codes, Option, Some, None, option_and_then, unwrap_or}
+use Rattle.std.specs.Prelude.{◌≡◌, ◌≢◌, ℕ, true, List, [], codes, Option, Some, None, option_and_then, unwrap_or, drop}
+use Rattle.std.specs.List.{list_all}
 use Rattle.std.specs.Option.{option_map}
-use Rattle.clap.specs.Words.{App, Rule, new_app, new_rule, with_rule}
+use Rattle.clap.specs.Words.{App, Rule, fault_of, first_of, is_simple_and_free, matches_of, new_app, new_rule, with_rule}
 use Rattle.clap.specs.declared.error.kind.ErrorKind.{ErrorKind}
 use Rattle.clap.specs.declared.error.kind.ErrorKind.TheVariants.{OutOfMemory}
 use Rattle.rtt_words.specs.declared.words.WordFault.{WordFault}
@@ -9,7 +10,7 @@ use Rattle.rtt_words.specs.declared.words.WordFault.TheVariants.{Wrong, NoMemory
 use Rattle.clap.specs.Simple.{on_top}
 use Rattle.rtt_base.specs.declared.text_packets.Pts.{Pts}
 use Rattle.file_spec.specs.Numbers.{number, number_between, most_ssrc}
-use Rattle.command_spec.specs.Words.{ReadWords, ListWords, SendWords, MixWords, ChannelWords, Command, Make, Version, payload_types, usual_pts, read_of, list_of, send_of}
+use Rattle.command_spec.specs.Words.{ReadWords, ListWords, SendWords, MixWords, ChannelWords, Command, Make, Version, is_word, payload_types, usual_pts, read_of, list_of, send_of}
 
 -- a refusal of `clap`, by its kind
 abbrev pub fault_by : ErrorKind → WordFault
@@ -97,3 +98,16 @@ channel_given text =
 
 abbrev pub version_given : Texts → Option Command
 version_given text = Some Version
+
+-- ---- what the arguments have to do with the rows of the word table
+
+-- the words after the name are neither empty nor begin with `-`
+abbrev pub ArePlain : List (List ℕ) → Type 0
+ArePlain words = list_all is_word (drop 1 words) ≡ true
+
+-- the command takes the words that a row says something of, and what their texts ask for is what it says
+pub record IsForm {A : Type 0} (app : App) (given : Texts → Option A) (said : List (List ℕ) → Option A) : Type 0 where
+  pub simple : is_simple_and_free app ≡ true
+  pub taken : (words : List (List ℕ)) → ArePlain words → fault_of app words ≡ [] → (text : Texts)
+      → ((id : List ℕ) → text id ≡ first_of id (matches_of app words)) → given text ≡ said (drop 1 words)
+  pub refused : (words : List (List ℕ)) → ArePlain words → fault_of app words ≢ [] → said (drop 1 words) ≡ None

@@ -1,12 +1,15 @@
-//! The arguments of each command, and the words that they take.
-ghost use Rattle.std.specs.Prelude.{◌≡◌, ◌≢◌, List, ℕ, [], true, false, map, string_bytes, IfOk, drop};
-ghost use Rattle.std.specs.List.{list_all};
-ghost use Rattle.clap.specs.Words.{app_of, fault_of, first_of, first_value, found_of, is_simple_and_free, matches_of, new_rule, rule_of};
-ghost use Rattle.command_spec.specs.Words.{is_word, read_words, list_words, send_words, mix_words, make_words, channel_words, version_words};
-ghost use Rattle.rtt_words.specs.Apps.{bare_app, required_rule, read_app, list_app, send_app, mix_app, make_app, channel_app, version_app, read_given, list_given, send_given, mix_given, make_given, channel_given, version_given};
+//! The arguments of each command, and what they ask for.
+ghost use Rattle.std.specs.Prelude.{◌≡◌, false, codes};
+ghost use Rattle.clap.specs.Words.{app_of, first_value, found_of, new_rule, rule_of};
+ghost use Rattle.command_spec.specs.Words.{payload_types};
+ghost use Rattle.rtt_words.specs.Apps.{bare_app, pts_given, required_rule};
 
-use crate::WordFault;
+use crate::arguments::Arguments;
+use crate::{ChannelWords, ListWords, MakeWords, MixWords, ReadWords, SendWords};
 use clap::{Arg, ArgMatches, Command};
+use file_lines::{number_from, number_of, pts_of};
+use file_spec::limits::{USUAL_RED, USUAL_T140};
+use rtt_base::Pts;
 use std::alloc::{AllocError, Global};
 
 /// A command without arguments, not even `--help`.
@@ -32,147 +35,242 @@ fn optional<'a>(alloc: Global, id: &'a str) -> Arg<'a>
     Arg::new(alloc, id)
 }
 
-/// `read FILE SSRC`, and then SOURCE, T140 and RED. `script` has the same.
-fn read_form<'a>(alloc: Global) -> Result<Command<'a>, AllocError>
-    ensures { IfOk result (λ c. app_of c ≡ read_app) }
+/// The payload types where none are named.
+const USUAL: Pts = Pts {
+    t140: USUAL_T140,
+    red: USUAL_RED,
+};
+
+/// Two payload types that differ.
+fn payload_types_of(t140: &str, red: &str) -> Option<Pts>
+    ensures { result ≡ payload_types t140.now red.now }
 {
-    let command = bare(alloc, "read")
-        .arg(required(alloc, "FILE"))?
-        .arg(required(alloc, "SSRC"))?
-        .arg(optional(alloc, "SOURCE"))?
-        .arg(optional(alloc, "T140"))?
-        .arg(optional(alloc, "RED"))?;
-    Ok(command)
+    let pts = pts_of(t140, red)?;
+    if pts.t140 == pts.red { None } else { Some(pts) }
 }
 
-/// `list FILE`, and then T140 and RED. `show` has the same.
-fn list_form<'a>(alloc: Global) -> Result<Command<'a>, AllocError>
-    ensures { IfOk result (λ c. app_of c ≡ list_app) }
+/// The payload types that a command names, both or neither.
+fn pts_matched(matches: &ArgMatches<'_>) -> Option<Pts>
+    ensures { result ≡ pts_given (first_value (found_of matches.now) (codes "T140")) (first_value (found_of matches.now) (codes "RED")) }
 {
-    let command = bare(alloc, "list")
-        .arg(required(alloc, "FILE"))?
-        .arg(optional(alloc, "T140"))?
-        .arg(optional(alloc, "RED"))?;
-    Ok(command)
+    match (matches.get_str("T140"), matches.get_str("RED")) {
+        (None, None) => Some(USUAL),
+        (Some(t140), Some(red)) => payload_types_of(t140, red),
+        _ => None,
+    }
 }
 
-/// `send SCRIPT OUT SSRC SEQ STAMP`. `relay` has as many.
-fn send_form<'a>(alloc: Global) -> Result<Command<'a>, AllocError>
-    ensures { IfOk result (λ c. app_of c ≡ send_app) }
-{
-    let command = bare(alloc, "send")
-        .arg(required(alloc, "SCRIPT"))?
-        .arg(required(alloc, "OUT"))?
-        .arg(required(alloc, "SSRC"))?
-        .arg(required(alloc, "SEQ"))?
-        .arg(required(alloc, "STAMP"))?;
-    Ok(command)
+impl<'a> Arguments<'a> for ReadWords<'a> {
+    ghost use Rattle.command_spec.specs.Words as table;
+    ghost use Rattle.rtt_words.specs.Apps.{read_given};
+    ghost use Rattle.rtt_words.specs.Commands.{asked};
+
+    ghost Meant = { table.ReadWords };
+
+    ghost meant = { asked };
+
+    ghost given = { read_given };
+
+    ghost said = { table.read_words };
+
+    /// `read FILE SSRC`, and then SOURCE, T140 and RED. `script` has the same.
+    fn form(alloc: Global) -> Result<Command<'a>, AllocError> {
+        let command = bare(alloc, "read")
+            .arg(required(alloc, "FILE"))?
+            .arg(required(alloc, "SSRC"))?
+            .arg(optional(alloc, "SOURCE"))?
+            .arg(optional(alloc, "T140"))?
+            .arg(optional(alloc, "RED"))?;
+        Ok(command)
+    }
+
+    fn from_matches(matches: &ArgMatches<'a>) -> Option<ReadWords<'a>> {
+        let file = matches.get_str("FILE")?;
+        let ssrc = matches.get_str("SSRC")?;
+        let source = matches.get_str("SOURCE").unwrap_or(ssrc);
+        let ssrc = number_of(ssrc, u32::MAX)?;
+        let source = number_of(source, u32::MAX)?;
+        let pts = pts_matched(matches)?;
+        Some(ReadWords {
+            file,
+            ssrc,
+            source,
+            pts,
+        })
+    }
 }
 
-/// `mix CONF`. `attend`, `live` and `watch` have the same.
-fn mix_form<'a>(alloc: Global) -> Result<Command<'a>, AllocError>
-    ensures { IfOk result (λ c. app_of c ≡ mix_app) }
-{
-    let command = bare(alloc, "mix").arg(required(alloc, "CONF"))?;
-    Ok(command)
+impl<'a> Arguments<'a> for ListWords<'a> {
+    ghost use Rattle.command_spec.specs.Words as table;
+    ghost use Rattle.rtt_words.specs.Apps.{list_given};
+    ghost use Rattle.rtt_words.specs.Commands.{listed};
+
+    ghost Meant = { table.ListWords };
+
+    ghost meant = { listed };
+
+    ghost given = { list_given };
+
+    ghost said = { table.list_words };
+
+    /// `list FILE`, and then T140 and RED. `show` has the same.
+    fn form(alloc: Global) -> Result<Command<'a>, AllocError> {
+        let command = bare(alloc, "list")
+            .arg(required(alloc, "FILE"))?
+            .arg(optional(alloc, "T140"))?
+            .arg(optional(alloc, "RED"))?;
+        Ok(command)
+    }
+
+    fn from_matches(matches: &ArgMatches<'a>) -> Option<ListWords<'a>> {
+        let file = matches.get_str("FILE")?;
+        let pts = pts_matched(matches)?;
+        Some(ListWords { file, pts })
+    }
 }
 
-/// `make N`.
-fn make_form<'a>(alloc: Global) -> Result<Command<'a>, AllocError>
-    ensures { IfOk result (λ c. app_of c ≡ make_app) }
-{
-    let command = bare(alloc, "make").arg(required(alloc, "N"))?;
-    Ok(command)
+impl<'a> Arguments<'a> for SendWords<'a> {
+    ghost use Rattle.command_spec.specs.Words as table;
+    ghost use Rattle.rtt_words.specs.Apps.{send_given};
+    ghost use Rattle.rtt_words.specs.Commands.{sent};
+
+    ghost Meant = { table.SendWords };
+
+    ghost meant = { sent };
+
+    ghost given = { send_given };
+
+    ghost said = { table.send_words };
+
+    /// `send SCRIPT OUT SSRC SEQ STAMP`. `relay` has as many.
+    fn form(alloc: Global) -> Result<Command<'a>, AllocError> {
+        let command = bare(alloc, "send")
+            .arg(required(alloc, "SCRIPT"))?
+            .arg(required(alloc, "OUT"))?
+            .arg(required(alloc, "SSRC"))?
+            .arg(required(alloc, "SEQ"))?
+            .arg(required(alloc, "STAMP"))?;
+        Ok(command)
+    }
+
+    fn from_matches(matches: &ArgMatches<'a>) -> Option<SendWords<'a>> {
+        let file = matches.get_str("SCRIPT")?;
+        let out = matches.get_str("OUT")?;
+        let ssrc = number_of(matches.get_str("SSRC")?, u32::MAX)?;
+        let seq = number_of(matches.get_str("SEQ")?, 65_535)?;
+        let stamp = number_of(matches.get_str("STAMP")?, u32::MAX)?;
+        Some(SendWords {
+            file,
+            out,
+            ssrc,
+            seq: seq as u16,
+            stamp,
+        })
+    }
 }
 
-/// `channel FILE SSRC OUT`. `cascade` has as many.
-fn channel_form<'a>(alloc: Global) -> Result<Command<'a>, AllocError>
-    ensures { IfOk result (λ c. app_of c ≡ channel_app) }
-{
-    let command = bare(alloc, "channel")
-        .arg(required(alloc, "FILE"))?
-        .arg(required(alloc, "SSRC"))?
-        .arg(required(alloc, "OUT"))?;
-    Ok(command)
+impl<'a> Arguments<'a> for MixWords<'a> {
+    ghost use Rattle.command_spec.specs.Words as table;
+    ghost use Rattle.rtt_words.specs.Apps.{mix_given};
+    ghost use Rattle.rtt_words.specs.Commands.{mixed};
+
+    ghost Meant = { table.MixWords };
+
+    ghost meant = { mixed };
+
+    ghost given = { mix_given };
+
+    ghost said = { table.mix_words };
+
+    /// `mix CONF`. `attend`, `live` and `watch` have the same.
+    fn form(alloc: Global) -> Result<Command<'a>, AllocError> {
+        let command = bare(alloc, "mix").arg(required(alloc, "CONF"))?;
+        Ok(command)
+    }
+
+    fn from_matches(matches: &ArgMatches<'a>) -> Option<MixWords<'a>> {
+        let conf = matches.get_str("CONF")?;
+        Some(MixWords { conf })
+    }
 }
 
-/// `version`.
-fn version_form<'a>(alloc: Global) -> Command<'a>
-    ensures { app_of result ≡ version_app }
-{
-    bare(alloc, "version")
+impl<'a> Arguments<'a> for MakeWords {
+    ghost use Rattle.command_spec.specs.Words as table;
+    ghost use Rattle.rtt_words.specs.Apps.{make_given};
+    ghost use Rattle.rtt_words.specs.Commands.{made};
+
+    ghost Meant = { table.Command };
+
+    ghost meant = { λ m. table.Make (made m) };
+
+    ghost given = { make_given };
+
+    ghost said = { table.make_words };
+
+    /// `make N`.
+    fn form(alloc: Global) -> Result<Command<'a>, AllocError> {
+        let command = bare(alloc, "make").arg(required(alloc, "N"))?;
+        Ok(command)
+    }
+
+    fn from_matches(matches: &ArgMatches<'a>) -> Option<MakeWords> {
+        let number = number_from(matches.get_str("N")?, 1, 1000)?;
+        Some(MakeWords { number })
+    }
 }
 
-/// The arguments' texts among the words, of which the first is the command's name.
-fn matches_for<'a>(command: Command<'a>, words: &'a [String]) -> Result<ArgMatches<'a>, WordFault>
-    requires { is_simple_and_free (app_of command) ≡ true }
-    ensures taken { IfOk result (λ _. fault_of (app_of command.entry) (map string_bytes words.now) ≡ []) }
-    ensures texts { IfOk result (λ m. (id : List ℕ) → first_value (found_of m) id ≡ first_of id (matches_of (app_of command.entry) (map string_bytes words.now))) }
-    ensures wrong { result ≡ Err WordFault.Wrong → fault_of (app_of command.entry) (map string_bytes words.now) ≢ [] }
-{
-    let matches = command.try_get_matches_from(words)?;
-    Ok(matches)
+impl<'a> Arguments<'a> for ChannelWords<'a> {
+    ghost use Rattle.command_spec.specs.Words as table;
+    ghost use Rattle.rtt_words.specs.Apps.{channel_given};
+    ghost use Rattle.rtt_words.specs.Commands.{channelled};
+
+    ghost Meant = { table.ChannelWords };
+
+    ghost meant = { channelled };
+
+    ghost given = { channel_given };
+
+    ghost said = { table.channel_words };
+
+    /// `channel FILE SSRC OUT`. `cascade` has as many.
+    fn form(alloc: Global) -> Result<Command<'a>, AllocError> {
+        let command = bare(alloc, "channel")
+            .arg(required(alloc, "FILE"))?
+            .arg(required(alloc, "SSRC"))?
+            .arg(required(alloc, "OUT"))?;
+        Ok(command)
+    }
+
+    fn from_matches(matches: &ArgMatches<'a>) -> Option<ChannelWords<'a>> {
+        let file = matches.get_str("FILE")?;
+        let ssrc = number_of(matches.get_str("SSRC")?, u32::MAX)?;
+        let out = matches.get_str("OUT")?;
+        Some(ChannelWords { file, ssrc, out })
+    }
 }
 
-/// The arguments of a `read` or a `script`, where it takes so many words. The first word is its name.
-pub(crate) fn read_matches(alloc: Global, words: &[String]) -> Result<ArgMatches<'_>, WordFault>
-    requires { list_all is_word (drop 1 (map string_bytes words.now)) ≡ true }
-    ensures given { IfOk result (λ m. read_given (first_value (found_of m)) ≡ read_words (drop 1 (map string_bytes words.now))) }
-    ensures wrong { result ≡ Err WordFault.Wrong → read_words (drop 1 (map string_bytes words.now)) ≡ None }
-{
-    matches_for(read_form(alloc)?, words)
-}
+/// What `version` is asked for, which takes no words.
+#[derive(Drop)]
+pub(crate) struct NoWords;
 
-/// The arguments of a `list` or a `show`, where it takes so many words. The first word is its name.
-pub(crate) fn list_matches(alloc: Global, words: &[String]) -> Result<ArgMatches<'_>, WordFault>
-    requires { list_all is_word (drop 1 (map string_bytes words.now)) ≡ true }
-    ensures given { IfOk result (λ m. list_given (first_value (found_of m)) ≡ list_words (drop 1 (map string_bytes words.now))) }
-    ensures wrong { result ≡ Err WordFault.Wrong → list_words (drop 1 (map string_bytes words.now)) ≡ None }
-{
-    matches_for(list_form(alloc)?, words)
-}
+impl<'a> Arguments<'a> for NoWords {
+    ghost use Rattle.command_spec.specs.Words as table;
+    ghost use Rattle.rtt_words.specs.Apps.{version_given};
 
-/// The arguments of a `send` or a `relay`, where it takes so many words. The first word is its name.
-pub(crate) fn send_matches(alloc: Global, words: &[String]) -> Result<ArgMatches<'_>, WordFault>
-    requires { list_all is_word (drop 1 (map string_bytes words.now)) ≡ true }
-    ensures given { IfOk result (λ m. send_given (first_value (found_of m)) ≡ send_words (drop 1 (map string_bytes words.now))) }
-    ensures wrong { result ≡ Err WordFault.Wrong → send_words (drop 1 (map string_bytes words.now)) ≡ None }
-{
-    matches_for(send_form(alloc)?, words)
-}
+    ghost Meant = { table.Command };
 
-/// The arguments of a `mix`, an `attend`, a `live` or a `watch`, where it takes so many words. The first word is its name.
-pub(crate) fn mix_matches(alloc: Global, words: &[String]) -> Result<ArgMatches<'_>, WordFault>
-    requires { list_all is_word (drop 1 (map string_bytes words.now)) ≡ true }
-    ensures given { IfOk result (λ m. mix_given (first_value (found_of m)) ≡ mix_words (drop 1 (map string_bytes words.now))) }
-    ensures wrong { result ≡ Err WordFault.Wrong → mix_words (drop 1 (map string_bytes words.now)) ≡ None }
-{
-    matches_for(mix_form(alloc)?, words)
-}
+    ghost meant = { λ _. table.Version };
 
-/// The arguments of a `make`, where it takes so many words. The first word is its name.
-pub(crate) fn make_matches(alloc: Global, words: &[String]) -> Result<ArgMatches<'_>, WordFault>
-    requires { list_all is_word (drop 1 (map string_bytes words.now)) ≡ true }
-    ensures given { IfOk result (λ m. make_given (first_value (found_of m)) ≡ make_words (drop 1 (map string_bytes words.now))) }
-    ensures wrong { result ≡ Err WordFault.Wrong → make_words (drop 1 (map string_bytes words.now)) ≡ None }
-{
-    matches_for(make_form(alloc)?, words)
-}
+    ghost given = { version_given };
 
-/// The arguments of a `channel` or a `cascade`, where it takes so many words. The first word is its name.
-pub(crate) fn channel_matches(alloc: Global, words: &[String]) -> Result<ArgMatches<'_>, WordFault>
-    requires { list_all is_word (drop 1 (map string_bytes words.now)) ≡ true }
-    ensures given { IfOk result (λ m. channel_given (first_value (found_of m)) ≡ channel_words (drop 1 (map string_bytes words.now))) }
-    ensures wrong { result ≡ Err WordFault.Wrong → channel_words (drop 1 (map string_bytes words.now)) ≡ None }
-{
-    matches_for(channel_form(alloc)?, words)
-}
+    ghost said = { table.version_words };
 
-/// No arguments of a `version`, where no word follows its name.
-pub(crate) fn version_matches(alloc: Global, words: &[String]) -> Result<ArgMatches<'_>, WordFault>
-    requires { list_all is_word (drop 1 (map string_bytes words.now)) ≡ true }
-    ensures given { IfOk result (λ m. version_given (first_value (found_of m)) ≡ version_words (drop 1 (map string_bytes words.now))) }
-    ensures wrong { result ≡ Err WordFault.Wrong → version_words (drop 1 (map string_bytes words.now)) ≡ None }
-{
-    matches_for(version_form(alloc), words)
+    /// `version`.
+    fn form(alloc: Global) -> Result<Command<'a>, AllocError> {
+        Ok(bare(alloc, "version"))
+    }
+
+    fn from_matches(_matches: &ArgMatches<'a>) -> Option<NoWords> {
+        Some(NoWords)
+    }
 }

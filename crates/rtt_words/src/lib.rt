@@ -1,6 +1,7 @@
 //! Command words: what they ask for, if they are in the word table.
 #![tactic(auto)]
 
+mod arguments;
 mod commands;
 mod forms;
 mod words;

@@ -1,6 +1,7 @@
 use Rattle.std.proofs.Common.{◌∙◌, ap₂}
 use Rattle.clap.specs.Words.{with_rule}
-use Rattle.rtt_words.proofs.forms.read_form.Goals as goal
+use Rattle.rtt_words.proofs.Given.{form_by, read_form}
+use Rattle.rtt_words.proofs.forms.ReadWordsArguments.form.Goals as goal
 
 -- each argument is added to those before it
 pub returns : goal.returns
@@ -9,4 +10,4 @@ returns c =
     let two = c.in_ok-arg-2.ensures.shape c.required-2.ensures.local ∙ ap₂ with_rule one c.required-2.ensures.rule in
     let three = c.in_ok-arg-3.ensures.shape c.optional.ensures.local ∙ ap₂ with_rule two c.optional.ensures.rule in
     let four = c.in_ok-arg-4.ensures.shape c.optional-2.ensures.local ∙ ap₂ with_rule three c.optional-2.ensures.rule in
-    c.in_ok-command.ensures.shape c.optional-3.ensures.local ∙ ap₂ with_rule four c.optional-3.ensures.rule
+    form_by (c.in_ok-command.ensures.shape c.optional-3.ensures.local ∙ ap₂ with_rule four c.optional-3.ensures.rule) read_form

@@ -1,7 +1,7 @@
 use Rattle.std.proofs.Common.{◌∙◌, ap}
 use Rattle.clap.specs.Words.{first_of, found_of}
 use Rattle.clap.proofs.WalkLemmas.{both, first_value-rows}
-use Rattle.rtt_words.proofs.forms.matches_for.Goals as goal
+use Rattle.rtt_words.proofs.arguments.matches_for.Goals as goal
 
 pub returns-clause-texts : goal.returns-clause-texts
 returns-clause-texts c = λ id.
