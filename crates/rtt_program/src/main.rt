@@ -2,10 +2,10 @@
 //! streams.
 #![tactic(auto)]
 
-ghost use Rattle.std.specs.Prelude.{◌≡◌, ◌++◌, drop, codes, IfOk, OnErr};
+ghost use Rattle.std.specs.Prelude.{◌≡◌, ◌++◌, true, drop, codes, IfOk, OnErr};
 ghost use Rattle.std.specs.Process.{exit_status};
 ghost use Rattle.rtt_io.specs.Counts.{Rose};
-ghost use Rattle.rtt_top.specs.Lives.{RunsLive, RunsWatched};
+ghost use Rattle.rtt_top.specs.Lives.{RunsLive, RunsWatched, uses_no_link};
 ghost use Rattle.rtt_top.specs.Outside.{outside_over, output_at};
 ghost use Rattle.rtt_top.specs.Runs.{asked_by, Runs};
 
@@ -68,6 +68,7 @@ fn answer<
         (outside_over W.World K.Sink L.Links world.old out.old links.old) (outside_over W.World K.Sink L.Links world.new out.new links.new) result }
     ensures watched { RunsWatched (asked_by (drop 1 words.now)) W.tells K.tells L.tells
         (outside_over W.World K.Sink L.Links world.old out.old links.old) (outside_over W.World K.Sink L.Links world.new out.new links.new) result }
+    ensures offline { uses_no_link (asked_by (drop 1 words.now)) result ≡ true → links.new ≡ links.old }
 {
     run(
         rt,
@@ -123,6 +124,8 @@ fn program<
     ensures watched { IfOk words (λ all. RunsWatched (asked_by (drop 1 all.items)) W.tells K.tells L.tells
         (outside_over W.World K.Sink L.Links world.old out.old links.old) (outside_over W.World K.Sink L.Links world.new out.new links.new)
         (exit_status result)) }
+    ensures offline { IfOk words (λ all.
+        uses_no_link (asked_by (drop 1 all.items)) (exit_status result) ≡ true → links.new ≡ links.old) }
     ensures no_memory { OnErr words (exit_status result ≡ 70) }
     ensures same { OnErr words ((world.new ≡ world.old) × (links.new ≡ links.old) × (out.new ≡ out.old)) }
     ensures told { E.tells → OnErr words ((Rose (E.faults err.old) (E.faults err.new) → ⊥) → E.took err.new ≡ E.took err.old ++ codes "out of memory\n") }

@@ -9,7 +9,7 @@ use Rattle.rtt_words.specs.declared.commands.Command as asked
 use Rattle.rtt_words.specs.declared.commands.Command.TheVariants as word
 use Rattle.rtt_words.specs.Commands.{meaning}
 use Rattle.rtt_top.specs.Faults.{is_live}
-use Rattle.rtt_top.specs.Lives.{RunsLive, RunsWatched}
+use Rattle.rtt_top.specs.Lives.{Front, RunsLive, RunsWatched, Share, Whole, status_at}
 use Rattle.rtt_top.specs.Outside.{LinksLeft, Output, Outside, with_links}
 use Rattle.rtt_top.specs.Runs.{Ends, Runs, is_plain}
 use Rattle.rtt_top.proofs.Ending.{runs}
@@ -78,7 +78,7 @@ live c m e off = true≢false (subst (λ k. is_live k ≡ false) (same c m e) of
 
 -- of another command nothing is said of a live call
 pub no_live : (c : Command) (WorldTells OutTells LinksTell : Type 0) (old new : Outside) (status : ℕ) → is_live c ≡ false → RunsLive (Some c) WorldTells OutTells LinksTell old new status
-no_live c WorldTells OutTells LinksTell old new status off = λ zero m e. absurd (live c m e off)
+no_live c WorldTells OutTells LinksTell old new status off = λ share at m e. absurd (live c m e off)
 
 watching : (c : Command) (m : MixWords) → Some c ≡ Some (Watch m) → is_live c ≡ false → ⊥
 watching c m e off = true≢false (subst (λ k. is_live k ≡ false) (same_watch c m e) off)
@@ -87,24 +87,28 @@ watching c m e off = true≢false (subst (λ k. is_live k ≡ false) (same_watch
     same_watch d k q = cc q
 
 pub no_watched : (c : Command) (WorldTells OutTells LinksTell : Type 0) (old new : Outside) (status : ℕ) → is_live c ≡ false → RunsWatched (Some c) WorldTells OutTells LinksTell old new status
-no_watched c WorldTells OutTells LinksTell old new status off = λ zero m e. absurd (watching c m e off)
+no_watched c WorldTells OutTells LinksTell old new status off = λ share at m e. absurd (watching c m e off)
 
 -- `live` is not `watch`
 pub live_not_watched : (c : Command) (k : MixWords) → c ≡ Live k → (WorldTells OutTells LinksTell : Type 0) (old new : Outside) (status : ℕ) → RunsWatched (Some c) WorldTells OutTells LinksTell old new status
-live_not_watched c k is WorldTells OutTells LinksTell old new status = λ zero m e. absurd (cc (is, e))
+live_not_watched c k is WorldTells OutTells LinksTell old new status = λ share at m e. absurd (cc (is, e))
 
 pub watched_not_live : (c : Command) (k : MixWords) → c ≡ Watch k → (WorldTells OutTells LinksTell : Type 0) (old new : Outside) (status : ℕ) → RunsLive (Some c) WorldTells OutTells LinksTell old new status
-watched_not_live c k is WorldTells OutTells LinksTell old new status = λ zero m e. absurd (cc (is, e))
+watched_not_live c k is WorldTells OutTells LinksTell old new status = λ share at m e. absurd (cc (is, e))
 
 pub no_words_watched : (words : Option Command) (WorldTells OutTells LinksTell : Type 0) (old new : Outside) (status : ℕ) → words ≡ None → RunsWatched words WorldTells OutTells LinksTell old new status
-no_words_watched words WorldTells OutTells LinksTell old new status none = λ zero m e. absurd (cc (none, e))
-
-pub failed_at_all : (words : Option Command) (WorldTells OutTells LinksTell : Type 0) (old new : Outside) (status : ℕ) → status ≡ 70 → RunsWatched words WorldTells OutTells LinksTell old new status
-failed_at_all words WorldTells OutTells LinksTell old new status is = λ zero m e. absurd (cc (is, zero))
-
-pub no_words_live : (words : Option Command) (WorldTells OutTells LinksTell : Type 0) (old new : Outside) (status : ℕ) → words ≡ None → RunsLive words WorldTells OutTells LinksTell old new status
-no_words_live words WorldTells OutTells LinksTell old new status none = λ zero m e. absurd (cc (none, e))
+no_words_watched words WorldTells OutTells LinksTell old new status none = λ share at m e. absurd (cc (none, e))
 
 -- nor where it failed
+no_share : (share : Share) → 70 ≡ status_at share → ⊥
+no_share Whole e = cc e
+no_share Front e = cc e
+
+pub failed_at_all : (words : Option Command) (WorldTells OutTells LinksTell : Type 0) (old new : Outside) (status : ℕ) → status ≡ 70 → RunsWatched words WorldTells OutTells LinksTell old new status
+failed_at_all words WorldTells OutTells LinksTell old new status is = λ share at m e. absurd (no_share share (sym is ∙ at))
+
+pub no_words_live : (words : Option Command) (WorldTells OutTells LinksTell : Type 0) (old new : Outside) (status : ℕ) → words ≡ None → RunsLive words WorldTells OutTells LinksTell old new status
+no_words_live words WorldTells OutTells LinksTell old new status none = λ share at m e. absurd (cc (none, e))
+
 pub failed_live : (words : Option Command) (WorldTells OutTells LinksTell : Type 0) (old new : Outside) (status : ℕ) → status ≡ 70 → RunsLive words WorldTells OutTells LinksTell old new status
-failed_live words WorldTells OutTells LinksTell old new status is = λ zero m e. absurd (cc (is, zero))
+failed_live words WorldTells OutTells LinksTell old new status is = λ share at m e. absurd (no_share share (sym is ∙ at))

@@ -1,6 +1,6 @@
 -- A live call: how it ends for the command.
-use Rattle.std.proofs.Common.{◌≡◌, ℕ, ◌++◌, take, Option, Some, List, Result, Ok, Err, refl, ap, sym, subst, ◌∙◌}
-use Rattle.std.specs.Prelude.{IfErr, OnOk, OnErr}
+use Rattle.std.proofs.Common.{◌≡◌, ℕ, ◌++◌, true, true≢false, take, Some, List, Result, Ok, Err, refl, ap, sym, subst, ◌∙◌}
+use Rattle.std.specs.Prelude.{◌==◌, ◌||◌, IfErr, IfOk, OnOk, OnErr}
 use Rattle.file_spec.specs.declared.conf_lines.Form.TheVariants.{Links}
 use Rattle.file_spec.specs.Conf.{Conf, conf}
 use Rattle.file_spec.specs.Lines as lines
@@ -11,6 +11,7 @@ use Rattle.live_loop.specs.Walks.{IsPaused}
 use Rattle.live_run.specs.declared.faults.LiveFault.{LiveFault}
 use Rattle.live_run.specs.declared.faults.LiveFault.TheVariants as live
 use Rattle.live_run.specs.declared.reports.LiveEnd.{LiveEnd}
+use Rattle.live_run.specs.declared.reports.LiveReport.{LiveReport}
 use Rattle.live_run.specs.declared.reports.LiveEnd.TheVariants as ends
 use Rattle.live_run.specs.Calls.{IsOfLinks, WasGivenUp, WasServed}
 use Rattle.live_run.specs.Reports.{end_of}
@@ -24,11 +25,14 @@ use Rattle.command_spec.specs.Outcomes.{Outcome, Served, outcome, outcome_from, 
 use Rattle.command_spec.specs.Serving.{serves_read, serving}
 use Rattle.command_spec.specs.Messages.{Ending, status_of}
 use Rattle.rtt_top.specs.Conferences.{ending_name, fault_of_live, name_of, serving_of}
+use Rattle.rtt_top.specs.Faults.{Stops}
 use Rattle.rtt_top.specs.Outside.{Failed, LinksLeft, Output, Outside}
 use Rattle.rtt_top.specs.Ports.{LegFailed}
-use Rattle.rtt_top.specs.Runs.{Prints, PrintsFront, Ends}
-use Rattle.rtt_top.specs.Lives.{IsServedFrom, IsServedTo, IsWatchedTo, LiveEnds, RunsLive, RunsWatched}
+use Rattle.rtt_top.specs.Runs.{Prints, PrintsFront, Ends, Runs}
+use Rattle.rtt_top.specs.Lives.{EndsServing, Front, IsServedFrom, ServedAs, IsServedTo, IsWatchedTo, LiveEnds, RunsLive, RunsWatched, Share, Whole, is_unserved, status_at}
+use Rattle.rtt_top.specs.Statuses.{is_unread}
 use Rattle.rtt_top.proofs.Working.{lies}
+use Rattle.rtt_top.proofs.Ending.{runs}
 
 pub is_of_links : (octets : List ℕ) (c : Conf) → conf Links octets ≡ Ok c → IsOfLinks c
 is_of_links octets c e =
@@ -40,30 +44,61 @@ is_done : (end : LiveEnd) → end_of end ≡ served.Done → end ≡ ends.Done
 is_done ends.Done e = refl
 is_done ends.Closed e = absurd (cc e)
 
+is_closed : (end : LiveEnd) → end_of end ≡ served.Closed → end ≡ ends.Closed
+is_closed ends.Done e = absurd (cc e)
+is_closed ends.Closed e = refl
+
 pub was_served : (LinksTell : Type 0) (old new : LinksLeft) (octets : List ℕ) (c : Conf) (end : LiveEnd) (printed : List ℕ) → conf Links octets ≡ Ok c
     → WasServed LinksTell new.taken new.given c (end_of end) printed → (end ≡ ends.Done → IsPaused c.turns old.pauses new.pauses)
+    → ((port : ℕ) → new.calls port ≡ old.calls port) → (end ≡ ends.Closed → (port : ℕ) → new.ends port ≡ old.ends port)
     → IsServedTo c LinksTell old new (end_of end) printed
-was_served LinksTell old new octets c end printed read w paused = record {
+was_served LinksTell old new octets c end printed read w paused opened calm = record {
   takes = w.takes;
   given = w.given;
   keeps = w.keeps octets read;
   taken = w.taken;
   gave = w.gave;
   paused = λ e. paused (is_done end e);
+  all_opened = opened;
+  calm = λ e. calm (is_closed end e);
 }
 
 pub was_watched : (LinksTell : Type 0) (old new : LinksLeft) (octets : List ℕ) (c : Conf) (end : LiveEnd) (printed : List ℕ) → conf Links octets ≡ Ok c
     → WasWatched LinksTell new.taken new.given c (end_of end) printed → (end ≡ ends.Done → IsPaused c.turns old.pauses new.pauses)
+    → ((port : ℕ) → new.calls port ≡ old.calls port) → (end ≡ ends.Closed → (port : ℕ) → new.ends port ≡ old.ends port)
     → IsWatchedTo c LinksTell old new (end_of end) printed
 unfolding was_served
-was_watched LinksTell old new octets c end printed read w paused = record {
+was_watched LinksTell old new octets c end printed read w paused opened calm = record {
   views = w.views;
   lines = w.lines;
-  served = was_served LinksTell old new octets c end w.views read w.was paused;
+  served = was_served LinksTell old new octets c end w.views read w.was paused opened calm;
   call = w.was.served;
   board = w.board;
   printed_is = w.printed_is;
 }
+
+module _ (LinksTell : Type 0) (old new : LinksLeft) (c : Conf) where
+  -- all turns were made, where the answer says so
+  abbrev pub IsPausedAtEnd : LiveReport → Type 0
+  IsPausedAtEnd report = report.end ≡ ends.Done → IsPaused c.turns old.pauses new.pauses
+
+  -- no call that opens a link failed
+  abbrev pub AllOpened : Type 0
+  AllOpened = (port : ℕ) → new.calls port ≡ old.calls port
+
+  -- where all links were closed, none of their ends did
+  abbrev pub IsCalmAtEnd : LiveReport → Type 0
+  IsCalmAtEnd report = report.end ≡ ends.Closed → (port : ℕ) → new.ends port ≡ old.ends port
+
+  pub served_as : (answer : Result LiveReport LiveFault) → IfOk answer (λ r. WasServed LinksTell new.taken new.given c (end_of r.end) r.views) → IfOk answer IsPausedAtEnd → OnOk answer AllOpened → IfOk answer IsCalmAtEnd
+      → IfOk answer (λ r. ServedAs IsServedTo LinksTell old new c (end_of r.end) r.views)
+  served_as (Ok r) w paused opened calm = λ octets read. was_served LinksTell old new octets c r.end r.views read w paused opened calm
+  served_as (Err fault) w paused opened calm = w
+
+  pub watched_as : (answer : Result LiveReport LiveFault) → IfOk answer (λ r. WasWatched LinksTell new.taken new.given c (end_of r.end) r.views) → IfOk answer IsPausedAtEnd → OnOk answer AllOpened → IfOk answer IsCalmAtEnd
+      → IfOk answer (λ r. ServedAs IsWatchedTo LinksTell old new c (end_of r.end) r.views)
+  watched_as (Ok r) w paused opened calm = λ octets read. was_watched LinksTell old new octets c r.end r.views read w paused opened calm
+  watched_as (Err fault) w paused opened calm = w
 
 pub given_up : (S : served.End → List ℕ → Type 0) (OutTells : Type 0) (old new : LinksLeft) (out : Output) (c : Conf) (fault : LiveFault)
     → WasGivenUp old.calls new.calls old.ends new.ends c fault → LiveEnds S OutTells old new out out c (Err (fault_of_live fault))
@@ -123,49 +158,82 @@ ends_live S WorldTells OutTells old new file octets c (Err (LinkFailed leg)) the
 ends_live S WorldTells OutTells old new file octets c (Err NoMemory) there read same l = ((λ shown. ap (λ (o : Output). o.octets) l), λ told. same)
 
 -- ---- the headline
-not_zero : (fault : Fault) → (let e : Ending = Err fault in status_of e ≡ 0) → ⊥
-not_zero WrongWords e = cc e
-not_zero (CannotOpen n) e = cc e
-not_zero (CannotRead n) e = cc e
-not_zero (Refused n (AtByte byte kind)) e = cc e
-not_zero (Refused n (AtFrame byte kind)) e = cc e
-not_zero (Refused n (AtLine line kind)) e = cc e
-not_zero (Refused n (AtTrunk line)) e = cc e
-not_zero (Refused n (AfterTurns turns)) e = cc e
-not_zero CannotPrint e = cc e
-not_zero (CannotWrite n) e = cc e
-not_zero (LinkFailed leg) e = cc e
-not_zero NoMemory e = cc e
+-- what stops over the file that is read first has neither status
+no_status : (share : Share) (Told : Type 0) (held : Contents) (c : Command) (Call Object : Type 0) (fault : Fault) → Stops Told held c Call Object fault → (let e : Ending = Err fault in status_of e ≡ status_at share) → ⊥
+no_status share Told held c Call Object WrongWords s e = absurd s
+no_status Whole Told held c Call Object (CannotOpen n) s e = cc e
+no_status Front Told held c Call Object (CannotOpen n) s e = cc e
+no_status Whole Told held c Call Object (CannotRead n) s e = cc e
+no_status Front Told held c Call Object (CannotRead n) s e = cc e
+no_status Whole Told held c Call Object (Refused n (AtByte byte kind)) s e = cc e
+no_status Front Told held c Call Object (Refused n (AtByte byte kind)) s e = cc e
+no_status Whole Told held c Call Object (Refused n (AtFrame byte kind)) s e = cc e
+no_status Front Told held c Call Object (Refused n (AtFrame byte kind)) s e = cc e
+no_status Whole Told held c Call Object (Refused n (AtLine line kind)) s e = cc e
+no_status Front Told held c Call Object (Refused n (AtLine line kind)) s e = cc e
+no_status Whole Told held c Call Object (Refused n (AtTrunk line)) s e = cc e
+no_status Front Told held c Call Object (Refused n (AtTrunk line)) s e = cc e
+no_status Whole Told held c Call Object (Refused n (AfterTurns turns)) s e = cc e
+no_status Front Told held c Call Object (Refused n (AfterTurns turns)) s e = cc e
+no_status share Told held c Call Object CannotPrint s e = absurd s
+no_status share Told held c Call Object (CannotWrite n) s e = absurd s
+no_status share Told held c Call Object (LinkFailed leg) s e = absurd s
+no_status Whole Told held c Call Object NoMemory s e = cc e
+no_status Front Told held c Call Object NoMemory s e = cc e
 
--- a call that was served so has status 0
-served_from : (S : Conf → served.End → List ℕ → Type 0) (WorldTells OutTells : Type 0) (old new : Outside) (m : MixWords) (octets : List ℕ) (c : Conf) (status : ℕ) (ending : Ending) → (WorldTells → old.contents m.conf ≡ Some octets) → conf Links octets ≡ Ok c
-    → status ≡ status_of ending → LiveEnds (S c) OutTells old.links new.links old.out new.out c ending → status ≡ 0 → IsServedFrom S WorldTells OutTells m old new
-served_from S WorldTells OutTells old new m octets c status (Ok u) there read is l zero = record { octets = octets; lies = there; conference = c; is = read; end = l.0; printed = l.1; served = l.2; prints = l.3 }
-served_from S WorldTells OutTells old new m octets c status (Err fault) there read is l zero = absurd (not_zero fault (sym is ∙ zero))
+-- a call that was served so has status 0, or 7 where the output failed
+pub served_from : (share : Share) (S : Conf → served.End → List ℕ → Type 0) (WorldTells OutTells : Type 0) (old new : Outside) (m : MixWords) (octets : List ℕ) (c : Conf) (status : ℕ) (ending : Ending) → (WorldTells → old.contents m.conf ≡ Some octets) → conf Links octets ≡ Ok c
+    → status ≡ status_of ending → LiveEnds (S c) OutTells old.links new.links old.out new.out c ending → status ≡ status_at share → IsServedFrom share S WorldTells OutTells m old new
+served_from Whole S WorldTells OutTells old new m octets c status (Ok u) there read is l at = record { octets = octets; lies = there; conference = c; is = read; end = l.0; printed = l.1; served = l.2; prints = l.3 }
+served_from Front S WorldTells OutTells old new m octets c status (Ok u) there read is l at = absurd (cc (is, at))
+served_from share S WorldTells OutTells old new m octets c status (Err WrongWords) there read is l at = absurd l
+served_from share S WorldTells OutTells old new m octets c status (Err (CannotOpen n)) there read is l at = absurd l
+served_from share S WorldTells OutTells old new m octets c status (Err (CannotRead n)) there read is l at = absurd l
+served_from share S WorldTells OutTells old new m octets c status (Err (Refused n refusal)) there read is l at = absurd l
+served_from Whole S WorldTells OutTells old new m octets c status (Err CannotPrint) there read is l at = absurd (cc (is, at))
+served_from Front S WorldTells OutTells old new m octets c status (Err CannotPrint) there read is l at = record { octets = octets; lies = there; conference = c; is = read; end = l.1.0; printed = l.1.1; served = l.1.2; prints = l.1.3 }
+served_from share S WorldTells OutTells old new m octets c status (Err (CannotWrite n)) there read is l at = absurd l
+served_from Whole S WorldTells OutTells old new m octets c status (Err (LinkFailed leg)) there read is l at = absurd (cc (is, at))
+served_from Front S WorldTells OutTells old new m octets c status (Err (LinkFailed leg)) there read is l at = absurd (cc (is, at))
+served_from Whole S WorldTells OutTells old new m octets c status (Err NoMemory) there read is l at = absurd (cc (is, at))
+served_from Front S WorldTells OutTells old new m octets c status (Err NoMemory) there read is l at = absurd (cc (is, at))
 
--- a command that failed has no status 0
-pub failed : (words : Option Command) (WorldTells OutTells LinksTell : Type 0) (old new : Outside) (status : ℕ) (fault : Fault) → (let e : Ending = Err fault in status ≡ status_of e)
-    → RunsLive words WorldTells OutTells LinksTell old new status
-failed words WorldTells OutTells LinksTell old new status fault is = λ zero m e. absurd (not_zero fault (sym is ∙ zero))
+-- a command that stopped over its file has neither
+pub failed : (share : Share) (Told : Type 0) (held : Contents) (c : Command) (Call Object : Type 0) (status : ℕ) (fault : Fault) → Stops Told held c Call Object fault → (let e : Ending = Err fault in status ≡ status_of e) → status ≡ status_at share → ⊥
+failed share Told held c Call Object status fault s is at = no_status share Told held c Call Object fault s (sym is ∙ at)
 
-pub failed_watched : (words : Option Command) (WorldTells OutTells LinksTell : Type 0) (old new : Outside) (status : ℕ) (fault : Fault) → (let e : Ending = Err fault in status ≡ status_of e)
-    → RunsWatched words WorldTells OutTells LinksTell old new status
-failed_watched words WorldTells OutTells LinksTell old new status fault is = λ zero m e. absurd (not_zero fault (sym is ∙ zero))
+-- links were used where a live call was begun, whatever came of it
+pub used : (S : served.End → List ℕ → Type 0) (OutTells : Type 0) (old new : LinksLeft) (before after : Output) (c : Conf) (status : ℕ) (ending : Ending) → status ≡ status_of ending → LiveEnds S OutTells old new before after c ending
+    → is_unserved status ≡ true → ⊥
+used S OutTells old new before after c status (Ok u) is l e = true≢false (sym e ∙ ap (λ n. is_unread n || n == 5) is)
+used S OutTells old new before after c status (Err WrongWords) is l e = absurd l
+used S OutTells old new before after c status (Err (CannotOpen n)) is l e = absurd l
+used S OutTells old new before after c status (Err (CannotRead n)) is l e = absurd l
+used S OutTells old new before after c status (Err (Refused n refusal)) is l e = absurd l
+used S OutTells old new before after c status (Err CannotPrint) is l e = true≢false (sym e ∙ ap (λ n. is_unread n || n == 5) is)
+used S OutTells old new before after c status (Err (CannotWrite n)) is l e = absurd l
+used S OutTells old new before after c status (Err (LinkFailed leg)) is l e = true≢false (sym e ∙ ap (λ n. is_unread n || n == 5) is)
+used S OutTells old new before after c status (Err NoMemory) is l e = true≢false (sym e ∙ ap (λ n. is_unread n || n == 5) is)
 
 same_words : (m k : MixWords) → Some (Live m) ≡ Some (Live k) → m ≡ k
 same_words m k e = cc e
 
-pub runs_live : (WorldTells OutTells LinksTell : Type 0) (old new : Outside) (m : MixWords) (octets : List ℕ) (c : Conf) (status : ℕ) (ending : Ending) → (WorldTells → old.contents m.conf ≡ Some octets) → conf Links octets ≡ Ok c
-    → status ≡ status_of ending → LiveEnds (IsServedTo c LinksTell old.links new.links) OutTells old.links new.links old.out new.out c ending → RunsLive (Some (Live m)) WorldTells OutTells LinksTell old new status
-runs_live WorldTells OutTells LinksTell old new m octets c status ending there read is l = λ zero k e.
-    let S : Conf → served.End → List ℕ → Type 0 = λ d. IsServedTo d LinksTell old.links new.links in
-    subst (λ w. IsServedFrom S WorldTells OutTells w old new) (same_words m k e) (served_from S WorldTells OutTells old new m octets c status ending there read is l zero)
+pub runs_live : (WorldTells OutTells LinksTell : Type 0) (old new : Outside) (m : MixWords) (status : ℕ)
+    → ((share : Share) → status ≡ status_at share → IsServedFrom share (λ c. IsServedTo c LinksTell old.links new.links) WorldTells OutTells m old new) → RunsLive (Some (Live m)) WorldTells OutTells LinksTell old new status
+runs_live WorldTells OutTells LinksTell old new m status served = λ share at k e.
+    subst (λ w. IsServedFrom share (λ c. IsServedTo c LinksTell old.links new.links) WorldTells OutTells w old new) (same_words m k e) (served share at)
 
 same_watched : (m k : MixWords) → Some (Watch m) ≡ Some (Watch k) → m ≡ k
 same_watched m k e = cc e
 
-pub runs_watched : (WorldTells OutTells LinksTell : Type 0) (old new : Outside) (m : MixWords) (octets : List ℕ) (c : Conf) (status : ℕ) (ending : Ending) → (WorldTells → old.contents m.conf ≡ Some octets) → conf Links octets ≡ Ok c
-    → status ≡ status_of ending → LiveEnds (IsWatchedTo c LinksTell old.links new.links) OutTells old.links new.links old.out new.out c ending → RunsWatched (Some (Watch m)) WorldTells OutTells LinksTell old new status
-runs_watched WorldTells OutTells LinksTell old new m octets c status ending there read is l = λ zero k e.
-    let S : Conf → served.End → List ℕ → Type 0 = λ d. IsWatchedTo d LinksTell old.links new.links in
-    subst (λ w. IsServedFrom S WorldTells OutTells w old new) (same_watched m k e) (served_from S WorldTells OutTells old new m octets c status ending there read is l zero)
+pub runs_watched : (WorldTells OutTells LinksTell : Type 0) (old new : Outside) (m : MixWords) (status : ℕ)
+    → ((share : Share) → status ≡ status_at share → IsServedFrom share (λ c. IsWatchedTo c LinksTell old.links new.links) WorldTells OutTells m old new) → RunsWatched (Some (Watch m)) WorldTells OutTells LinksTell old new status
+runs_watched WorldTells OutTells LinksTell old new m status served = λ share at k e.
+    subst (λ w. IsServedFrom share (λ c. IsWatchedTo c LinksTell old.links new.links) WorldTells OutTells w old new) (same_watched m k e) (served share at)
+
+-- a live call that was served of a file ended as a command that serves the same file
+pub runs_served : (c : Command) (file : List ℕ) (WorldTells OutTells ErrTells : Type 0) (old new : Outside) (before after : Output) (status : ℕ)
+    → ((name : List ℕ) (ending : Ending) → Ends (serving_of file) WorldTells OutTells old new name ending → Ends c WorldTells OutTells old new name ending)
+    → EndsServing file WorldTells OutTells ErrTells old new before after status → Runs (Some c) WorldTells OutTells ErrTells old new before after status
+runs_served c file WorldTells OutTells ErrTells old new before after status same e =
+    runs c WorldTells OutTells ErrTells old new before after status e.ending e.name e.is_status (same e.name e.ending e.ends) e.silent e.front e.told

@@ -7,7 +7,7 @@ use Rattle.command_spec.specs.declared.faults.Refusal.{Refusal}
 use Rattle.command_spec.specs.declared.faults.Refusal.TheVariants.{AtByte, AtFrame, AtLine, AtTrunk, AfterTurns}
 use Rattle.command_spec.specs.declared.faults.Fault.TheVariants.{WrongWords, CannotOpen, CannotRead, Refused, CannotPrint, CannotWrite, LinkFailed, NoMemory}
 use Rattle.command_spec.specs.Work.{Contents, Steps, Makes, IsInput}
-use Rattle.command_spec.specs.Commands.{saves_frames, sending_of, unless_broken}
+use Rattle.command_spec.specs.Commands.{saves_frames, sending_of, unless_broken, work}
 use Rattle.command_spec.specs.Frames.{channel, relay}
 use Rattle.command_spec.specs.Showing.{show_refusal}
 use Rattle.frame_spec.specs.declared.frames.FrameFault.{FrameFault}
@@ -15,9 +15,9 @@ use Rattle.command_spec.specs.Generated.{Generated, generated}
 use Rattle.command_spec.specs.Making.{makes_summary, making, recordings}
 use Rattle.command_spec.specs.Sums.{Sums, sums_mixed}
 use Rattle.command_spec.specs.Messages.{Ending, status_of}
-use Rattle.rtt_top.specs.Faults.{RefusesSo}
+use Rattle.rtt_top.specs.Faults.{RefusesSo, has_frames, is_live, is_mixed, is_recording}
 use Rattle.rtt_top.specs.Outside.{Outside}
-use Rattle.rtt_top.specs.Runs.{Ends}
+use Rattle.rtt_top.specs.Runs.{Ends, IsInputOf}
 use Rattle.rtt_top.specs.Statuses.{EndsAsItCan, can_end}
 
 -- a line is refused
@@ -48,190 +48,96 @@ no_input WorldTells held k made (Some sums) n name i = i
 reads_none : (WorldTells : Type 0) (held : Contents) (k n : ℕ) (name : List ℕ) → IsInput WorldTells held (making k) n name → ⊥
 reads_none WorldTells held k n name i = no_input WorldTells held k (generated k) (sums_mixed (generated k).conference (recordings (generated k))) n name i
 
+-- what each command can end with: all was done, an output failed, memory ran out
+always : (c : Command) → (can_end c 0 ≡ true) × (can_end c 7 ≡ true) × (can_end c 70 ≡ true)
+always (Read r) = (refl, refl, refl)
+always (ListRecords l) = (refl, refl, refl)
+always (Send s) = (refl, refl, refl)
+always (Mix m) = (refl, refl, refl)
+always (Attend m) = (refl, refl, refl)
+always (Cascade c) = (refl, refl, refl)
+always (Make m) = (refl, refl, refl)
+always (Live m) = (refl, refl, refl)
+always (Watch m) = (refl, refl, refl)
+always (Relay s) = (refl, refl, refl)
+always (Channel c) = (refl, refl, refl)
+always (Show l) = (refl, refl, refl)
+always (Script r) = (refl, refl, refl)
+always Version = (refl, refl, refl)
+
+-- nothing holds of a command of another kind
+off : {A : Type 0} → false ≡ true → A
+off e = absurd (true≢false (sym e))
+
+-- 6 over a recording and over frames, 9 over a conference that is mixed, 8 over one of links
+by_kind : (c : Command) (n : ℕ) → (is_recording c n ≡ true → can_end c 6 ≡ true) × (has_frames c ≡ true → can_end c 6 ≡ true)
+    × (is_mixed c ≡ true → can_end c 9 ≡ true) × (is_live c ≡ true → can_end c 8 ≡ true)
+by_kind (Read r) n = (λ e. refl, off, off, off)
+by_kind (ListRecords l) n = (λ e. refl, off, off, off)
+by_kind (Send s) n = (off, off, off, off)
+by_kind (Mix m) n = (λ e. refl, off, λ e. refl, off)
+by_kind (Attend m) n = (λ e. refl, off, λ e. refl, off)
+by_kind (Cascade c) n = (λ e. refl, off, λ e. refl, off)
+by_kind (Make m) n = (off, off, λ e. refl, off)
+by_kind (Live m) n = (off, off, off, λ e. refl)
+by_kind (Watch m) n = (off, off, off, λ e. refl)
+by_kind (Relay s) n = (off, λ e. refl, off, off)
+by_kind (Channel c) n = (λ e. refl, λ e. refl, off, off)
+by_kind (Show l) n = (λ e. refl, off, off, off)
+by_kind (Script r) n = (λ e. refl, off, off, off)
+by_kind Version n = (off, off, off, off)
+
+module _ (WorldTells : Type 0) (old : Outside) (n : ℕ) (name : List ℕ) where
+  -- 3 and 4 of a command that has an input
+  unread : (c : Command) → IsInputOf c WorldTells old n name → (can_end c 3 ≡ true) × (can_end c 4 ≡ true)
+  unread (Read r) i = (refl, refl)
+  unread (ListRecords l) i = (refl, refl)
+  unread (Send s) i = (refl, refl)
+  unread (Mix m) i = (refl, refl)
+  unread (Attend m) i = (refl, refl)
+  unread (Cascade c) i = (refl, refl)
+  unread (Make m) i = absurd (reads_none WorldTells old.contents m.number n name i)
+  unread (Live m) i = (refl, refl)
+  unread (Watch m) i = (refl, refl)
+  unread (Relay s) i = (refl, refl)
+  unread (Channel c) i = (refl, refl)
+  unread (Show l) i = (refl, refl)
+  unread (Script r) i = (refl, refl)
+  unread Version i = absurd i
+
+  -- 5 of a command that reads lines
+  at_line : (c : Command) (refusal : Refusal) → is_of_line refusal ≡ true → IsInputOf c WorldTells old n name → RefusesSo WorldTells old.contents (work c).steps n refusal → can_end c 5 ≡ true
+  at_line (Read q) refusal line i r = absurd (no_line WorldTells old.contents (dump usual_limit r.0).fault (Makes _ []) n refusal line (λ none. none) r.2)
+  at_line (ListRecords l) refusal line i r = absurd (no_line WorldTells old.contents (dump usual_limit r.0).fault (Makes _ []) n refusal line (λ none. none) r.2)
+  at_line (Send s) refusal line i r = refl
+  at_line (Mix m) refusal line i r = refl
+  at_line (Attend m) refusal line i r = refl
+  at_line (Cascade c) refusal line i r = refl
+  at_line (Make m) refusal line i r = absurd (reads_none WorldTells old.contents m.number n name i)
+  at_line (Live m) refusal line i r = refl
+  at_line (Watch m) refusal line i r = refl
+  at_line (Relay s) refusal line i r = absurd (no_frame_line WorldTells old.contents s.out (relay (sending_of s) r.0) n refusal line r.2)
+  at_line (Channel c) refusal line i r =
+      absurd (no_line WorldTells old.contents (dump usual_limit r.0).fault (saves_frames c.out (channel c.ssrc r.0)) n refusal line
+      (no_frame_line WorldTells old.contents c.out (channel c.ssrc r.0) n refusal line) r.2)
+  at_line (Show l) refusal line i r = absurd (no_line WorldTells old.contents (show_refusal r.0) (Makes _ []) n refusal line (λ none. none) r.2)
+  at_line (Script q) refusal line i r = absurd (no_line WorldTells old.contents (dump usual_limit r.0).fault (Makes _ []) n refusal line (λ none. none) r.2)
+  at_line Version refusal line i r = absurd i
+
 ends_so : (c : Command) (WorldTells OutTells : Type 0) (old new : Outside) (name : List ℕ) (ending : Ending) → Ends c WorldTells OutTells old new name ending → can_end c (status_of ending) ≡ true
-ends_so (Read r) WorldTells OutTells old new name (Ok u) e = refl
-ends_so (ListRecords l) WorldTells OutTells old new name (Ok u) e = refl
-ends_so (Send s) WorldTells OutTells old new name (Ok u) e = refl
-ends_so (Mix m) WorldTells OutTells old new name (Ok u) e = refl
-ends_so (Attend m) WorldTells OutTells old new name (Ok u) e = refl
-ends_so (Cascade c) WorldTells OutTells old new name (Ok u) e = refl
-ends_so (Make m) WorldTells OutTells old new name (Ok u) e = refl
-ends_so (Live m) WorldTells OutTells old new name (Ok u) e = refl
-ends_so (Watch m) WorldTells OutTells old new name (Ok u) e = refl
-ends_so (Relay s) WorldTells OutTells old new name (Ok u) e = refl
-ends_so (Channel c) WorldTells OutTells old new name (Ok u) e = refl
-ends_so (Show l) WorldTells OutTells old new name (Ok u) e = refl
-ends_so (Script r) WorldTells OutTells old new name (Ok u) e = refl
-ends_so Version WorldTells OutTells old new name (Ok u) e = refl
+ends_so c WorldTells OutTells old new name (Ok u) e = (always c).0
 ends_so c WorldTells OutTells old new name (Err WrongWords) e = absurd e
-ends_so (Read r) WorldTells OutTells old new name (Err (CannotOpen n)) e = refl
-ends_so (ListRecords l) WorldTells OutTells old new name (Err (CannotOpen n)) e = refl
-ends_so (Send s) WorldTells OutTells old new name (Err (CannotOpen n)) e = refl
-ends_so (Mix m) WorldTells OutTells old new name (Err (CannotOpen n)) e = refl
-ends_so (Attend m) WorldTells OutTells old new name (Err (CannotOpen n)) e = refl
-ends_so (Cascade c) WorldTells OutTells old new name (Err (CannotOpen n)) e = refl
-ends_so (Make m) WorldTells OutTells old new name (Err (CannotOpen n)) e = absurd (reads_none WorldTells old.contents m.number n name e.0)
-ends_so (Live m) WorldTells OutTells old new name (Err (CannotOpen n)) e = refl
-ends_so (Watch m) WorldTells OutTells old new name (Err (CannotOpen n)) e = refl
-ends_so (Relay s) WorldTells OutTells old new name (Err (CannotOpen n)) e = refl
-ends_so (Channel c) WorldTells OutTells old new name (Err (CannotOpen n)) e = refl
-ends_so (Show l) WorldTells OutTells old new name (Err (CannotOpen n)) e = refl
-ends_so (Script r) WorldTells OutTells old new name (Err (CannotOpen n)) e = refl
-ends_so Version WorldTells OutTells old new name (Err (CannotOpen n)) e = absurd e.0
-ends_so (Read r) WorldTells OutTells old new name (Err (CannotRead n)) e = refl
-ends_so (ListRecords l) WorldTells OutTells old new name (Err (CannotRead n)) e = refl
-ends_so (Send s) WorldTells OutTells old new name (Err (CannotRead n)) e = refl
-ends_so (Mix m) WorldTells OutTells old new name (Err (CannotRead n)) e = refl
-ends_so (Attend m) WorldTells OutTells old new name (Err (CannotRead n)) e = refl
-ends_so (Cascade c) WorldTells OutTells old new name (Err (CannotRead n)) e = refl
-ends_so (Make m) WorldTells OutTells old new name (Err (CannotRead n)) e = absurd (reads_none WorldTells old.contents m.number n name e.0)
-ends_so (Live m) WorldTells OutTells old new name (Err (CannotRead n)) e = refl
-ends_so (Watch m) WorldTells OutTells old new name (Err (CannotRead n)) e = refl
-ends_so (Relay s) WorldTells OutTells old new name (Err (CannotRead n)) e = refl
-ends_so (Channel c) WorldTells OutTells old new name (Err (CannotRead n)) e = refl
-ends_so (Show l) WorldTells OutTells old new name (Err (CannotRead n)) e = refl
-ends_so (Script r) WorldTells OutTells old new name (Err (CannotRead n)) e = refl
-ends_so Version WorldTells OutTells old new name (Err (CannotRead n)) e = absurd e.0
-ends_so (Read r) WorldTells OutTells old new name (Err (Refused n (AtLine line kind))) e =
-    absurd (no_line WorldTells old.contents (dump usual_limit e.1.0).fault (Makes _ []) n (AtLine line kind) refl (λ r. r) e.1.2)
-ends_so (ListRecords l) WorldTells OutTells old new name (Err (Refused n (AtLine line kind))) e =
-    absurd (no_line WorldTells old.contents (dump usual_limit e.1.0).fault (Makes _ []) n (AtLine line kind) refl (λ r. r) e.1.2)
-ends_so (Send s) WorldTells OutTells old new name (Err (Refused n (AtLine line kind))) e = refl
-ends_so (Mix m) WorldTells OutTells old new name (Err (Refused n (AtLine line kind))) e = refl
-ends_so (Attend m) WorldTells OutTells old new name (Err (Refused n (AtLine line kind))) e = refl
-ends_so (Cascade c) WorldTells OutTells old new name (Err (Refused n (AtLine line kind))) e = refl
-ends_so (Make m) WorldTells OutTells old new name (Err (Refused n (AtLine line kind))) e = absurd (reads_none WorldTells old.contents m.number n name e.0)
-ends_so (Live m) WorldTells OutTells old new name (Err (Refused n (AtLine line kind))) e = refl
-ends_so (Watch m) WorldTells OutTells old new name (Err (Refused n (AtLine line kind))) e = refl
-ends_so (Relay s) WorldTells OutTells old new name (Err (Refused n (AtLine line kind))) e =
-    absurd (no_frame_line WorldTells old.contents s.out (relay (sending_of s) e.1.0) n (AtLine line kind) refl e.1.2)
-ends_so (Channel c) WorldTells OutTells old new name (Err (Refused n (AtLine line kind))) e =
-    absurd (no_line WorldTells old.contents (dump usual_limit e.1.0).fault (saves_frames c.out (channel c.ssrc e.1.0)) n (AtLine line kind) refl
-    (no_frame_line WorldTells old.contents c.out (channel c.ssrc e.1.0) n (AtLine line kind) refl) e.1.2)
-ends_so (Show l) WorldTells OutTells old new name (Err (Refused n (AtLine line kind))) e =
-    absurd (no_line WorldTells old.contents (show_refusal e.1.0) (Makes _ []) n (AtLine line kind) refl (λ r. r) e.1.2)
-ends_so (Script r) WorldTells OutTells old new name (Err (Refused n (AtLine line kind))) e =
-    absurd (no_line WorldTells old.contents (dump usual_limit e.1.0).fault (Makes _ []) n (AtLine line kind) refl (λ r. r) e.1.2)
-ends_so Version WorldTells OutTells old new name (Err (Refused n (AtLine line kind))) e = absurd e.0
-ends_so (Read r) WorldTells OutTells old new name (Err (Refused n (AtTrunk line))) e =
-    absurd (no_line WorldTells old.contents (dump usual_limit e.1.0).fault (Makes _ []) n (AtTrunk line) refl (λ r. r) e.1.2)
-ends_so (ListRecords l) WorldTells OutTells old new name (Err (Refused n (AtTrunk line))) e =
-    absurd (no_line WorldTells old.contents (dump usual_limit e.1.0).fault (Makes _ []) n (AtTrunk line) refl (λ r. r) e.1.2)
-ends_so (Send s) WorldTells OutTells old new name (Err (Refused n (AtTrunk line))) e = refl
-ends_so (Mix m) WorldTells OutTells old new name (Err (Refused n (AtTrunk line))) e = refl
-ends_so (Attend m) WorldTells OutTells old new name (Err (Refused n (AtTrunk line))) e = refl
-ends_so (Cascade c) WorldTells OutTells old new name (Err (Refused n (AtTrunk line))) e = refl
-ends_so (Make m) WorldTells OutTells old new name (Err (Refused n (AtTrunk line))) e = absurd (reads_none WorldTells old.contents m.number n name e.0)
-ends_so (Live m) WorldTells OutTells old new name (Err (Refused n (AtTrunk line))) e = refl
-ends_so (Watch m) WorldTells OutTells old new name (Err (Refused n (AtTrunk line))) e = refl
-ends_so (Relay s) WorldTells OutTells old new name (Err (Refused n (AtTrunk line))) e =
-    absurd (no_frame_line WorldTells old.contents s.out (relay (sending_of s) e.1.0) n (AtTrunk line) refl e.1.2)
-ends_so (Channel c) WorldTells OutTells old new name (Err (Refused n (AtTrunk line))) e =
-    absurd (no_line WorldTells old.contents (dump usual_limit e.1.0).fault (saves_frames c.out (channel c.ssrc e.1.0)) n (AtTrunk line) refl
-    (no_frame_line WorldTells old.contents c.out (channel c.ssrc e.1.0) n (AtTrunk line) refl) e.1.2)
-ends_so (Show l) WorldTells OutTells old new name (Err (Refused n (AtTrunk line))) e =
-    absurd (no_line WorldTells old.contents (show_refusal e.1.0) (Makes _ []) n (AtTrunk line) refl (λ r. r) e.1.2)
-ends_so (Script r) WorldTells OutTells old new name (Err (Refused n (AtTrunk line))) e =
-    absurd (no_line WorldTells old.contents (dump usual_limit e.1.0).fault (Makes _ []) n (AtTrunk line) refl (λ r. r) e.1.2)
-ends_so Version WorldTells OutTells old new name (Err (Refused n (AtTrunk line))) e = absurd e.0
-ends_so (Read r) WorldTells OutTells old new name (Err (Refused n (AtByte byte kind))) e = refl
-ends_so (ListRecords l) WorldTells OutTells old new name (Err (Refused n (AtByte byte kind))) e = refl
-ends_so (Send s) WorldTells OutTells old new name (Err (Refused n (AtByte byte kind))) e = absurd (true≢false (sym e.1))
-ends_so (Mix m) WorldTells OutTells old new name (Err (Refused n (AtByte byte kind))) e = refl
-ends_so (Attend m) WorldTells OutTells old new name (Err (Refused n (AtByte byte kind))) e = refl
-ends_so (Cascade c) WorldTells OutTells old new name (Err (Refused n (AtByte byte kind))) e = refl
-ends_so (Make m) WorldTells OutTells old new name (Err (Refused n (AtByte byte kind))) e = absurd (true≢false (sym e.1))
-ends_so (Live m) WorldTells OutTells old new name (Err (Refused n (AtByte byte kind))) e = absurd (true≢false (sym e.1))
-ends_so (Watch m) WorldTells OutTells old new name (Err (Refused n (AtByte byte kind))) e = absurd (true≢false (sym e.1))
-ends_so (Relay s) WorldTells OutTells old new name (Err (Refused n (AtByte byte kind))) e = absurd (true≢false (sym e.1))
-ends_so (Channel c) WorldTells OutTells old new name (Err (Refused n (AtByte byte kind))) e = refl
-ends_so (Show l) WorldTells OutTells old new name (Err (Refused n (AtByte byte kind))) e = refl
-ends_so (Script r) WorldTells OutTells old new name (Err (Refused n (AtByte byte kind))) e = refl
-ends_so Version WorldTells OutTells old new name (Err (Refused n (AtByte byte kind))) e = absurd (true≢false (sym e.1))
-ends_so (Read r) WorldTells OutTells old new name (Err (Refused n (AtFrame byte kind))) e = absurd (true≢false (sym e.1))
-ends_so (ListRecords l) WorldTells OutTells old new name (Err (Refused n (AtFrame byte kind))) e = absurd (true≢false (sym e.1))
-ends_so (Send s) WorldTells OutTells old new name (Err (Refused n (AtFrame byte kind))) e = absurd (true≢false (sym e.1))
-ends_so (Mix m) WorldTells OutTells old new name (Err (Refused n (AtFrame byte kind))) e = absurd (true≢false (sym e.1))
-ends_so (Attend m) WorldTells OutTells old new name (Err (Refused n (AtFrame byte kind))) e = absurd (true≢false (sym e.1))
-ends_so (Cascade c) WorldTells OutTells old new name (Err (Refused n (AtFrame byte kind))) e = absurd (true≢false (sym e.1))
-ends_so (Make m) WorldTells OutTells old new name (Err (Refused n (AtFrame byte kind))) e = absurd (true≢false (sym e.1))
-ends_so (Live m) WorldTells OutTells old new name (Err (Refused n (AtFrame byte kind))) e = absurd (true≢false (sym e.1))
-ends_so (Watch m) WorldTells OutTells old new name (Err (Refused n (AtFrame byte kind))) e = absurd (true≢false (sym e.1))
-ends_so (Relay s) WorldTells OutTells old new name (Err (Refused n (AtFrame byte kind))) e = refl
-ends_so (Channel c) WorldTells OutTells old new name (Err (Refused n (AtFrame byte kind))) e = refl
-ends_so (Show l) WorldTells OutTells old new name (Err (Refused n (AtFrame byte kind))) e = absurd (true≢false (sym e.1))
-ends_so (Script r) WorldTells OutTells old new name (Err (Refused n (AtFrame byte kind))) e = absurd (true≢false (sym e.1))
-ends_so Version WorldTells OutTells old new name (Err (Refused n (AtFrame byte kind))) e = absurd (true≢false (sym e.1))
-ends_so (Read r) WorldTells OutTells old new name (Err (Refused n (AfterTurns turns))) e = absurd (true≢false (sym e.1))
-ends_so (ListRecords l) WorldTells OutTells old new name (Err (Refused n (AfterTurns turns))) e = absurd (true≢false (sym e.1))
-ends_so (Send s) WorldTells OutTells old new name (Err (Refused n (AfterTurns turns))) e = absurd (true≢false (sym e.1))
-ends_so (Mix m) WorldTells OutTells old new name (Err (Refused n (AfterTurns turns))) e = refl
-ends_so (Attend m) WorldTells OutTells old new name (Err (Refused n (AfterTurns turns))) e = refl
-ends_so (Cascade c) WorldTells OutTells old new name (Err (Refused n (AfterTurns turns))) e = refl
-ends_so (Make m) WorldTells OutTells old new name (Err (Refused n (AfterTurns turns))) e = refl
-ends_so (Live m) WorldTells OutTells old new name (Err (Refused n (AfterTurns turns))) e = absurd (true≢false (sym e.1))
-ends_so (Watch m) WorldTells OutTells old new name (Err (Refused n (AfterTurns turns))) e = absurd (true≢false (sym e.1))
-ends_so (Relay s) WorldTells OutTells old new name (Err (Refused n (AfterTurns turns))) e = absurd (true≢false (sym e.1))
-ends_so (Channel c) WorldTells OutTells old new name (Err (Refused n (AfterTurns turns))) e = absurd (true≢false (sym e.1))
-ends_so (Show l) WorldTells OutTells old new name (Err (Refused n (AfterTurns turns))) e = absurd (true≢false (sym e.1))
-ends_so (Script r) WorldTells OutTells old new name (Err (Refused n (AfterTurns turns))) e = absurd (true≢false (sym e.1))
-ends_so Version WorldTells OutTells old new name (Err (Refused n (AfterTurns turns))) e = absurd (true≢false (sym e.1))
-ends_so (Read r) WorldTells OutTells old new name (Err CannotPrint) e = refl
-ends_so (ListRecords l) WorldTells OutTells old new name (Err CannotPrint) e = refl
-ends_so (Send s) WorldTells OutTells old new name (Err CannotPrint) e = refl
-ends_so (Mix m) WorldTells OutTells old new name (Err CannotPrint) e = refl
-ends_so (Attend m) WorldTells OutTells old new name (Err CannotPrint) e = refl
-ends_so (Cascade c) WorldTells OutTells old new name (Err CannotPrint) e = refl
-ends_so (Make m) WorldTells OutTells old new name (Err CannotPrint) e = refl
-ends_so (Live m) WorldTells OutTells old new name (Err CannotPrint) e = refl
-ends_so (Watch m) WorldTells OutTells old new name (Err CannotPrint) e = refl
-ends_so (Relay s) WorldTells OutTells old new name (Err CannotPrint) e = refl
-ends_so (Channel c) WorldTells OutTells old new name (Err CannotPrint) e = refl
-ends_so (Show l) WorldTells OutTells old new name (Err CannotPrint) e = refl
-ends_so (Script r) WorldTells OutTells old new name (Err CannotPrint) e = refl
-ends_so Version WorldTells OutTells old new name (Err CannotPrint) e = refl
-ends_so (Read r) WorldTells OutTells old new name (Err (CannotWrite n)) e = refl
-ends_so (ListRecords l) WorldTells OutTells old new name (Err (CannotWrite n)) e = refl
-ends_so (Send s) WorldTells OutTells old new name (Err (CannotWrite n)) e = refl
-ends_so (Mix m) WorldTells OutTells old new name (Err (CannotWrite n)) e = refl
-ends_so (Attend m) WorldTells OutTells old new name (Err (CannotWrite n)) e = refl
-ends_so (Cascade c) WorldTells OutTells old new name (Err (CannotWrite n)) e = refl
-ends_so (Make m) WorldTells OutTells old new name (Err (CannotWrite n)) e = refl
-ends_so (Live m) WorldTells OutTells old new name (Err (CannotWrite n)) e = refl
-ends_so (Watch m) WorldTells OutTells old new name (Err (CannotWrite n)) e = refl
-ends_so (Relay s) WorldTells OutTells old new name (Err (CannotWrite n)) e = refl
-ends_so (Channel c) WorldTells OutTells old new name (Err (CannotWrite n)) e = refl
-ends_so (Show l) WorldTells OutTells old new name (Err (CannotWrite n)) e = refl
-ends_so (Script r) WorldTells OutTells old new name (Err (CannotWrite n)) e = refl
-ends_so Version WorldTells OutTells old new name (Err (CannotWrite n)) e = refl
-ends_so (Read r) WorldTells OutTells old new name (Err (LinkFailed leg)) e = absurd (true≢false (sym e.0))
-ends_so (ListRecords l) WorldTells OutTells old new name (Err (LinkFailed leg)) e = absurd (true≢false (sym e.0))
-ends_so (Send s) WorldTells OutTells old new name (Err (LinkFailed leg)) e = absurd (true≢false (sym e.0))
-ends_so (Mix m) WorldTells OutTells old new name (Err (LinkFailed leg)) e = absurd (true≢false (sym e.0))
-ends_so (Attend m) WorldTells OutTells old new name (Err (LinkFailed leg)) e = absurd (true≢false (sym e.0))
-ends_so (Cascade c) WorldTells OutTells old new name (Err (LinkFailed leg)) e = absurd (true≢false (sym e.0))
-ends_so (Make m) WorldTells OutTells old new name (Err (LinkFailed leg)) e = absurd (true≢false (sym e.0))
-ends_so (Live m) WorldTells OutTells old new name (Err (LinkFailed leg)) e = refl
-ends_so (Watch m) WorldTells OutTells old new name (Err (LinkFailed leg)) e = refl
-ends_so (Relay s) WorldTells OutTells old new name (Err (LinkFailed leg)) e = absurd (true≢false (sym e.0))
-ends_so (Channel c) WorldTells OutTells old new name (Err (LinkFailed leg)) e = absurd (true≢false (sym e.0))
-ends_so (Show l) WorldTells OutTells old new name (Err (LinkFailed leg)) e = absurd (true≢false (sym e.0))
-ends_so (Script r) WorldTells OutTells old new name (Err (LinkFailed leg)) e = absurd (true≢false (sym e.0))
-ends_so Version WorldTells OutTells old new name (Err (LinkFailed leg)) e = absurd (true≢false (sym e.0))
-ends_so (Read r) WorldTells OutTells old new name (Err NoMemory) e = refl
-ends_so (ListRecords l) WorldTells OutTells old new name (Err NoMemory) e = refl
-ends_so (Send s) WorldTells OutTells old new name (Err NoMemory) e = refl
-ends_so (Mix m) WorldTells OutTells old new name (Err NoMemory) e = refl
-ends_so (Attend m) WorldTells OutTells old new name (Err NoMemory) e = refl
-ends_so (Cascade c) WorldTells OutTells old new name (Err NoMemory) e = refl
-ends_so (Make m) WorldTells OutTells old new name (Err NoMemory) e = refl
-ends_so (Live m) WorldTells OutTells old new name (Err NoMemory) e = refl
-ends_so (Watch m) WorldTells OutTells old new name (Err NoMemory) e = refl
-ends_so (Relay s) WorldTells OutTells old new name (Err NoMemory) e = refl
-ends_so (Channel c) WorldTells OutTells old new name (Err NoMemory) e = refl
-ends_so (Show l) WorldTells OutTells old new name (Err NoMemory) e = refl
-ends_so (Script r) WorldTells OutTells old new name (Err NoMemory) e = refl
-ends_so Version WorldTells OutTells old new name (Err NoMemory) e = refl
+ends_so c WorldTells OutTells old new name (Err (CannotOpen n)) e = (unread WorldTells old n name c e.0).0
+ends_so c WorldTells OutTells old new name (Err (CannotRead n)) e = (unread WorldTells old n name c e.0).1
+ends_so c WorldTells OutTells old new name (Err (Refused n (AtLine line kind))) e = at_line WorldTells old n name c (AtLine line kind) refl e.0 e.1
+ends_so c WorldTells OutTells old new name (Err (Refused n (AtTrunk line))) e = at_line WorldTells old n name c (AtTrunk line) refl e.0 e.1
+ends_so c WorldTells OutTells old new name (Err (Refused n (AtByte byte kind))) e = (by_kind c n).0 e.1
+ends_so c WorldTells OutTells old new name (Err (Refused n (AtFrame byte kind))) e = (by_kind c n).1 e.1
+ends_so c WorldTells OutTells old new name (Err (Refused n (AfterTurns turns))) e = (by_kind c n).2 e.1
+ends_so c WorldTells OutTells old new name (Err CannotPrint) e = (always c).1
+ends_so c WorldTells OutTells old new name (Err (CannotWrite n)) e = (always c).1
+ends_so c WorldTells OutTells old new name (Err (LinkFailed leg)) e = (by_kind c 0).3 e.0
+ends_so c WorldTells OutTells old new name (Err NoMemory) e = (always c).2
 
 pub can : (WorldTells OutTells ErrTells : Type 0) → EndsAsItCan WorldTells OutTells ErrTells
 can WorldTells OutTells ErrTells c old new before after status r =

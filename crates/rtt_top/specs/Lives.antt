@@ -1,22 +1,29 @@
 -- What a live call leaves (profile).
-use Rattle.std.specs.Prelude.{◌≡◌, ℕ, Option, Some, List, ◌++◌, take, Ok, Err}
+use Rattle.std.specs.Prelude.{◌≡◌, ◌==◌, ◌||◌, ℕ, Bool, true, not, Option, None, Some, List, ◌++◌, take, Ok, Err}
 use Rattle.link_spec.specs.Links.{Takes}
 use Rattle.file_spec.specs.declared.conf_lines.Form.TheVariants.{Links}
 use Rattle.file_spec.specs.Conf.{Conf, conf}
 use Rattle.command_spec.specs.declared.faults.Fault.TheVariants.{WrongWords, CannotOpen, CannotRead, Refused, CannotPrint, CannotWrite, LinkFailed, NoMemory}
-use Rattle.command_spec.specs.Messages.{Ending}
+use Rattle.rtt_io.specs.Fronts.{TakesFront}
+use Rattle.command_spec.specs.Messages.{Ending, message_of, status_of}
 use Rattle.command_spec.specs.Words.{MixWords, Command, Live, Watch}
-use Rattle.serve_spec.specs.Served.{End, Done, IsServed}
+use Rattle.serve_spec.specs.Served.{End, Done, Closed, IsServed}
 use Rattle.serve_spec.specs.Watched.{IsBoardOf}
 use Rattle.serve_spec.specs.HeadLive.{HeadLive}
 use Rattle.live_loop.specs.Walks.{IsPaused}
 use Rattle.live_run.specs.Calls.{AtPorts}
+use Rattle.rtt_top.specs.declared.serving.Serving.{Serving}
+use Rattle.rtt_top.specs.declared.serving.Serving.TheVariants.{Alone, Watched}
+use Rattle.rtt_top.specs.Conferences.{serving_of}
+use Rattle.rtt_top.specs.Faults.{is_live}
 use Rattle.rtt_top.specs.Outside.{Failed, LinksLeft, Output, Outside}
 use Rattle.rtt_top.specs.Ports.{LegFailed}
-use Rattle.rtt_top.specs.Runs.{Prints}
+use Rattle.rtt_top.specs.Runs.{Ends, Prints, PrintsFront}
+use Rattle.rtt_top.specs.Statuses.{is_unread}
 
 -- A live call of a conference was served to this end, and this was printed of it: the legs' links gave this and were given that, and it
--- keeps what a live call promises. Where the links tell it, that is what they left at the legs' ports.
+-- keeps what a live call promises. Where the links tell it, that is what they left at the legs' ports. No call that opens a link failed,
+-- and where all links were closed, none of their ends did.
 pub record IsServedTo (c : Conf) (LinksTell : Type 0) (old new : LinksLeft) (end : End) (printed : List ℕ) : Type 0 where
   pub takes : ℕ → Takes
   pub given : ℕ → List (List ℕ)
@@ -24,6 +31,8 @@ pub record IsServedTo (c : Conf) (LinksTell : Type 0) (old new : LinksLeft) (end
   pub taken : LinksTell → AtPorts c new.taken takes
   pub gave : LinksTell → AtPorts c new.given given
   pub paused : end ≡ Done → IsPaused c.turns old.pauses new.pauses
+  pub all_opened : (port : ℕ) → new.calls port ≡ old.calls port
+  pub calm : end ≡ Closed → (port : ℕ) → new.ends port ≡ old.ends port
 
 -- The same by `watch`: behind what is printed of a live call stand the lines of its board, which count what the mixer took in it.
 pub record IsWatchedTo (c : Conf) (LinksTell : Type 0) (old new : LinksLeft) (end : End) (printed : List ℕ) : Type 0 where
@@ -33,6 +42,15 @@ pub record IsWatchedTo (c : Conf) (LinksTell : Type 0) (old new : LinksLeft) (en
   pub call : IsServed c served.takes served.given end views
   pub board : IsBoardOf c served.takes call.table end lines
   pub printed_is : printed ≡ views ++ lines
+
+-- what serving a live call so means
+abbrev pub served_by : Serving → Conf → (LinksTell : Type 0) → LinksLeft → LinksLeft → End → List ℕ → Type 0
+served_by Alone c LinksTell old new = IsServedTo c LinksTell old new
+served_by Watched c LinksTell old new = IsWatchedTo c LinksTell old new
+
+-- a conference that some file of its form describes was served, as S says
+abbrev pub ServedAs : (S : Conf → Type 0 → LinksLeft → LinksLeft → End → List ℕ → Type 0) → Type 0 → LinksLeft → LinksLeft → Conf → End → List ℕ → Type 0
+ServedAs S LinksTell old new c end printed = (octets : List ℕ) → conf Links octets ≡ Ok c → S c LinksTell old new end printed
 
 -- it was served to some end, as S says, and this holds of what was printed of it
 abbrev pub IsServedWith : (S : End → List ℕ → Type 0) → (List ℕ → Type 0) → Type 0
@@ -58,8 +76,22 @@ abbrev pub ServingEnds : (S : End → List ℕ → Type 0) (OutTells : Type 0) �
 ServingEnds S OutTells old new before after c ending =
     (octets : List ℕ) → conf Links octets ≡ Ok c → LiveEnds S OutTells old new before after c ending
 
+-- what the output took: all that is printed, or a front of it, where it failed
+pub data Share : Type 0 where
+  Whole : Share
+  Front : Share
+
+-- the status that says so
+abbrev pub status_at : Share → ℕ
+status_at Whole = 0
+status_at Front = 7
+
+abbrev pub PrintsShare : Share → List ℕ → Outside → Outside → Type 0
+PrintsShare Whole printed old new = Prints printed old new
+PrintsShare Front printed old new = PrintsFront printed old new
+
 -- A live call of the conference in this file was served to its end, as S says: the headline, from the file to what was printed.
-pub record IsServedFrom (S : Conf → End → List ℕ → Type 0) (WorldTells OutTells : Type 0) (m : MixWords) (old new : Outside) : Type 0 where
+pub record IsServedFrom (share : Share) (S : Conf → End → List ℕ → Type 0) (WorldTells OutTells : Type 0) (m : MixWords) (old new : Outside) : Type 0 where
   pub octets : List ℕ
   pub lies : WorldTells → old.contents m.conf ≡ Some octets
   pub conference : Conf
@@ -67,14 +99,33 @@ pub record IsServedFrom (S : Conf → End → List ℕ → Type 0) (WorldTells O
   pub end : End
   pub printed : List ℕ
   pub served : S conference end printed
-  pub prints : OutTells → Prints printed old new
+  pub prints : OutTells → PrintsShare share printed old new
 
--- where a live call is asked for, and the status is 0, one was served so
+-- where a live call is asked for, and the status is 0 or 7, one was served so
 abbrev pub RunsLive : Option Command → (WorldTells OutTells LinksTell : Type 0) → Outside → Outside → ℕ → Type 0
 RunsLive words WorldTells OutTells LinksTell old new status =
-    status ≡ 0 → (m : MixWords) → words ≡ Some (Live m) → IsServedFrom (λ c. IsServedTo c LinksTell old.links new.links) WorldTells OutTells m old new
+    (share : Share) → status ≡ status_at share → (m : MixWords) → words ≡ Some (Live m) → IsServedFrom share (λ c. IsServedTo c LinksTell old.links new.links) WorldTells OutTells m old new
 
--- where `watch` is asked for, and the status is 0, one was served so
+-- where `watch` is asked for, and the status is 0 or 7, one was served so
 abbrev pub RunsWatched : Option Command → (WorldTells OutTells LinksTell : Type 0) → Outside → Outside → ℕ → Type 0
 RunsWatched words WorldTells OutTells LinksTell old new status =
-    status ≡ 0 → (m : MixWords) → words ≡ Some (Watch m) → IsServedFrom (λ c. IsWatchedTo c LinksTell old.links new.links) WorldTells OutTells m old new
+    (share : Share) → status ≡ status_at share → (m : MixWords) → words ≡ Some (Watch m) → IsServedFrom share (λ c. IsWatchedTo c LinksTell old.links new.links) WorldTells OutTells m old new
+
+-- the status says that the conference can't be read (3, 4) or is refused (5), so that no live call began
+abbrev pub is_unserved : ℕ → Bool
+is_unserved status = is_unread status || status == 5
+
+-- Whether no link is used: where no live call is asked for, or where none began.
+abbrev pub uses_no_link : Option Command → ℕ → Bool
+uses_no_link None status = true
+uses_no_link (Some c) status = not (is_live c) || is_unserved status
+
+-- A command that serves a live call of this file ended so, with this status, and this was told of it.
+pub record EndsServing (file : List ℕ) (WorldTells OutTells ErrTells : Type 0) (old new : Outside) (before after : Output) (status : ℕ) : Type 0 where
+  pub ending : Ending
+  pub name : List ℕ
+  pub is_status : status ≡ status_of ending
+  pub ends : Ends (serving_of file) WorldTells OutTells old new name ending
+  pub silent : ending ≡ Ok tt → after.octets ≡ before.octets
+  pub front : ErrTells → TakesFront before.octets after.octets (message_of name ending)
+  pub told : ErrTells → (Failed before after → ⊥) → after.octets ≡ before.octets ++ message_of name ending

@@ -1,8 +1,8 @@
 //! Which command is asked for: it is carried out, and its status answered.
-ghost use Rattle.std.specs.Prelude.{◌≡◌, false, None, Some, is_some, IfSome};
+ghost use Rattle.std.specs.Prelude.{◌≡◌, false, true, None, Some, is_some, IfSome};
 ghost use Rattle.rtt_words.specs.Commands.{meaning};
 ghost use Rattle.rtt_top.specs.Faults.{is_live};
-ghost use Rattle.rtt_top.specs.Lives.{RunsLive, RunsWatched};
+ghost use Rattle.rtt_top.specs.Lives.{RunsLive, RunsWatched, uses_no_link};
 ghost use Rattle.rtt_top.specs.Outside.{outside_at, outside_over, output_at};
 ghost use Rattle.rtt_top.specs.Runs.{is_plain, Runs};
 
@@ -121,6 +121,7 @@ pub fn carry_out<
         (outside_over W.World K.Sink L.Links world.old out.old links.old) (outside_over W.World K.Sink L.Links world.new out.new links.new) result }
     ensures watched { RunsWatched (Some (meaning command.now)) W.tells K.tells L.tells
         (outside_over W.World K.Sink L.Links world.old out.old links.old) (outside_over W.World K.Sink L.Links world.new out.new links.new) result }
+    ensures offline { uses_no_link (Some (meaning command.now)) result ≡ true → links.new ≡ links.old }
 {
     match command {
         Command::Live(words) => run_live(rt, alloc, words, world, links, out, err, gate),

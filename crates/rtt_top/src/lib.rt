@@ -18,6 +18,7 @@ mod relay;
 mod runs;
 mod script;
 mod send;
+mod serving;
 mod show;
 mod trunk;
 mod version;

@@ -1,6 +1,6 @@
 //! One run of the program.
 ghost use Rattle.std.specs.Prelude.{◌≡◌, None, true, false, IsSome, IfSome};
-ghost use Rattle.rtt_top.specs.Lives.{RunsLive, RunsWatched};
+ghost use Rattle.rtt_top.specs.Lives.{RunsLive, RunsWatched, uses_no_link};
 ghost use Rattle.rtt_top.specs.Outside.{outside_at, outside_over, output_at};
 ghost use Rattle.rtt_top.specs.Runs.{asked_by, is_plain, Runs};
 
@@ -68,6 +68,7 @@ pub fn run<
         (outside_over W.World K.Sink L.Links world.old out.old links.old) (outside_over W.World K.Sink L.Links world.new out.new links.new) result }
     ensures watched { RunsWatched (asked_by words.now) W.tells K.tells L.tells
         (outside_over W.World K.Sink L.Links world.old out.old links.old) (outside_over W.World K.Sink L.Links world.new out.new links.new) result }
+    ensures offline { uses_no_link (asked_by words.now) result ≡ true → links.new ≡ links.old }
 {
     match command_of(alloc, words) {
         Ok(command) => carry_out(rt, alloc, &command, world, links, out, err, gate),

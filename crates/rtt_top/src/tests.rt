@@ -687,7 +687,41 @@ const AN_A: Coming<'static> = Coming(0, Came::Datagram, A);
 
 const CLOSED: Coming<'static> = Coming(0, Came::Closed, b"");
 
-const LIVES: [Live<'static>; 6] = [
+// By `live` and by `watch`.
+const FAILING_LINKS: [Live<'static>; 3] = [
+    // Bob's link can't be opened.
+    Live {
+        ann: &[],
+        bob: &[],
+        failing: Some(FailingLink::Link(5002)),
+        turns: "2",
+        status: 8,
+        out: "",
+        err: "link fault at leg Bob\n",
+    },
+    // Bob's first take fails.
+    Live {
+        ann: &[],
+        bob: &[],
+        failing: Some(FailingLink::Take(5002, 1)),
+        turns: "2",
+        status: 8,
+        out: "",
+        err: "link fault at leg Bob\n",
+    },
+    // What Ann types can't be given to Bob.
+    Live {
+        ann: &[AN_A],
+        bob: &[],
+        failing: Some(FailingLink::Give(5002, 1)),
+        turns: "2",
+        status: 8,
+        out: "",
+        err: "link fault at leg Bob\n",
+    },
+];
+
+const LIVES: [Live<'static>; 3] = [
     // All links are closed: Bob is sent the A and both repeats.
     Live {
         ann: &[AN_A, CLOSED],
@@ -748,36 +782,6 @@ Ann: A
 ",
         err: "",
     },
-    // Bob's link can't be opened.
-    Live {
-        ann: &[],
-        bob: &[],
-        failing: Some(FailingLink::Link(5002)),
-        turns: "2",
-        status: 8,
-        out: "",
-        err: "link fault at leg Bob\n",
-    },
-    // Bob's first take fails.
-    Live {
-        ann: &[],
-        bob: &[],
-        failing: Some(FailingLink::Take(5002, 1)),
-        turns: "2",
-        status: 8,
-        out: "",
-        err: "link fault at leg Bob\n",
-    },
-    // What Ann types can't be given to Bob.
-    Live {
-        ann: &[AN_A],
-        bob: &[],
-        failing: Some(FailingLink::Give(5002, 1)),
-        turns: "2",
-        status: 8,
-        out: "",
-        err: "link fault at leg Bob\n",
-    },
 ];
 
 #[test]
@@ -786,10 +790,14 @@ fn live_calls_end_as_their_links_say(rt: HostRuntime) -> Result<(), Fail> {
         lives_ended(&rt, rt.alloc(), "live c.txt", &LIVES)?,
         LIVES.len()
     );
+    assert_eq!(rt;
+        lives_ended(&rt, rt.alloc(), "live c.txt", &FAILING_LINKS)?,
+        FAILING_LINKS.len()
+    );
     Ok(())
 }
 
-const WATCHED: [Live<'static>; 5] = [
+const WATCHED: [Live<'static>; 2] = [
     // All links are closed: behind what `live` prints stands how much each leg typed.
     Live {
         ann: &[AN_A, CLOSED],
@@ -834,36 +842,6 @@ Ann: A
 ",
         err: "",
     },
-    // Bob's link can't be opened.
-    Live {
-        ann: &[],
-        bob: &[],
-        failing: Some(FailingLink::Link(5002)),
-        turns: "2",
-        status: 8,
-        out: "",
-        err: "link fault at leg Bob\n",
-    },
-    // Bob's first take fails.
-    Live {
-        ann: &[],
-        bob: &[],
-        failing: Some(FailingLink::Take(5002, 1)),
-        turns: "2",
-        status: 8,
-        out: "",
-        err: "link fault at leg Bob\n",
-    },
-    // What Ann types can't be given to Bob.
-    Live {
-        ann: &[AN_A],
-        bob: &[],
-        failing: Some(FailingLink::Give(5002, 1)),
-        turns: "2",
-        status: 8,
-        out: "",
-        err: "link fault at leg Bob\n",
-    },
 ];
 
 #[test]
@@ -871,6 +849,10 @@ fn watched_calls_print_what_the_board_counts(rt: HostRuntime) -> Result<(), Fail
     assert_eq!(rt;
         lives_ended(&rt, rt.alloc(), "watch c.txt", &WATCHED)?,
         WATCHED.len()
+    );
+    assert_eq!(rt;
+        lives_ended(&rt, rt.alloc(), "watch c.txt", &FAILING_LINKS)?,
+        FAILING_LINKS.len()
     );
     Ok(())
 }

@@ -1,4 +1,4 @@
-use Rattle.std.proofs.Common.{ap}
+use Rattle.std.proofs.Common.{ap, refl}
 use Rattle.rtt_words.specs.Commands.{meaning, mixed}
 use Rattle.rtt_top.specs.Outside.{left_by, outside_at, outside_over, output_at}
 use Rattle.rtt_top.proofs.Linked.{live_not_watched, no_live, no_watched, other_is_not_live, runs_linked, watched_not_live}
@@ -20,6 +20,7 @@ returns-in_default g c =
       watched = no_watched command g.W.World.tells g.K.Sink.tells g.L.Links.tells
           (outside_over g.W.World g.K.Sink g.L.Links c.args.world.now c.args.out.now c.args.links.now)
           (outside_over g.W.World g.K.Sink g.L.Links c.carry_out_files.new.world c.carry_out_files.new.out c.args.links.now) c.carry_out_files.result off;
+      offline = λ e. refl;
     }
 
 pub returns-in-Live-clause-watched : goal.returns-in-Live-clause-watched

@@ -1,0 +1,127 @@
+//! A live call of the conference of a file is served, and what was seen is printed.
+ghost use Rattle.std.specs.Prelude.{◌≡◌, true, IfOk, IfErr};
+ghost use Rattle.conference.specs.Conferences.{conf_of};
+ghost use Rattle.live_run.specs.Calls.{IsOfLinks, WasGivenUp};
+ghost use Rattle.live_run.specs.Reports.{end_of};
+ghost use Rattle.rtt_words.specs.Commands.{mixed};
+ghost use Rattle.rtt_top.specs.Conferences.{fault_of_live};
+ghost use Rattle.rtt_top.specs.Lives.{EndsServing, IsServedFrom, ServedAs, ServingEnds, Share, is_unserved, served_by, status_at};
+ghost use Rattle.rtt_top.specs.Outside.{left_by, outside_over, output_at};
+
+use crate::conferences::{conf_under, name_at_end};
+use crate::messages::{finish_with, print};
+use command_spec::Fault;
+use conf_text::Form;
+use conference::Conf;
+use link_io::Links;
+use live_run::{LiveFault, LiveReport, serve};
+use live_watch::serve_watched;
+use rtt_io::{Gate, Sink, World};
+use rtt_words::MixWords;
+use std::alloc::Global;
+use std::sync::Wait;
+use std::thread::Threads;
+use std::time::Clock;
+
+/// How a live call is served.
+#[derive(Clone, Copy)]
+pub(crate) enum Serving {
+    Alone,
+    /// With a board, and what is read there is printed behind what was seen.
+    Watched,
+}
+
+/// Serves a live call of a conference of links.
+fn serve_call<R: Threads + Wait + Clock + Copy + Send + Sync + 'static, L: Links, G: Gate + Sync>(
+    serving: Serving,
+    rt: &R,
+    alloc: Global,
+    conf: &Conf,
+    links: &mut L,
+    gate: &G,
+) -> Result<LiveReport, LiveFault>
+    requires { IsOfLinks (conf_of conf.now) }
+    ensures served { IfOk result (λ report. ServedAs (served_by serving) L.tells (left_by L.Links links.old) (left_by L.Links links.new)
+        (conf_of conf.now) (end_of report.end) report.views) }
+    ensures given_up { IfErr result (WasGivenUp (L.own_faults links.old) (L.own_faults links.new)
+        (L.object_faults links.old) (L.object_faults links.new) (conf_of conf.now)) }
+{
+    match serving {
+        Serving::Alone => serve(rt, alloc, conf, links, gate),
+        Serving::Watched => serve_watched(rt, alloc, conf, links, gate),
+    }
+}
+
+/// The fault of a command for that of a live call.
+fn fault_of_live(fault: LiveFault) -> Fault
+    ensures { result ≡ fault_of_live fault }
+{
+    match fault {
+        LiveFault::Link { leg } => Fault::LinkFailed {
+            leg: u32::from(leg),
+        },
+        LiveFault::NoMemory => Fault::NoMemory,
+    }
+}
+
+/// Serves a live call of a conference of links, and prints what was seen.
+fn serve_conf<
+    R: Threads + Wait + Clock + Copy + Send + Sync + 'static,
+    L: Links,
+    K: Sink,
+    G: Gate + Sync,
+>(
+    serving: Serving,
+    rt: &R,
+    alloc: Global,
+    conf: &Conf,
+    links: &mut L,
+    out: &mut K,
+    gate: &G,
+) -> Result<(), Fault>
+    requires { IsOfLinks (conf_of conf.now) }
+    ensures { ServingEnds (served_by serving (conf_of conf.now) L.tells (left_by L.Links links.old) (left_by L.Links links.new)) K.tells
+        (left_by L.Links links.old) (left_by L.Links links.new) (output_at K.Sink out.old) (output_at K.Sink out.new) (conf_of conf.now) result }
+{
+    let report = match serve_call(serving, rt, alloc, conf, links, gate) {
+        Ok(report) => report,
+        Err(fault) => return Err(fault_of_live(fault)),
+    };
+    print(report.views.as_slice(), out)
+}
+
+/// Serves a live call of the conference of a file, and answers the status.
+pub(crate) fn serve_file<
+    R: Threads + Wait + Clock + Copy + Send + Sync + 'static,
+    W: World,
+    L: Links,
+    K: Sink,
+    E: Sink,
+    G: Gate + Sync,
+>(
+    serving: Serving,
+    rt: &R,
+    alloc: Global,
+    words: &MixWords<'_>,
+    world: &mut W,
+    links: &mut L,
+    out: &mut K,
+    err: &mut E,
+    gate: &G,
+) -> u8
+    ensures ends { EndsServing words.now.conf.now W.tells K.tells E.tells
+        (outside_over W.World K.Sink L.Links world.old out.old links.old) (outside_over W.World K.Sink L.Links world.new out.new links.new)
+        (output_at E.Sink err.old) (output_at E.Sink err.new) result }
+    ensures served { (share : Share) → result ≡ status_at share
+        → IsServedFrom share (λ c. served_by serving c L.tells (left_by L.Links links.old) (left_by L.Links links.new)) W.tells K.tells (mixed words.now)
+        (outside_over W.World K.Sink L.Links world.old out.old links.old) (outside_over W.World K.Sink L.Links world.new out.new links.new) }
+    ensures offline { is_unserved result ≡ true → links.new ≡ links.old }
+{
+    let conf = match conf_under(alloc, words.conf, Form::Links, world) {
+        Ok(conf) => conf,
+        Err(fault) => return finish_with(Err(fault), words.conf, err),
+    };
+    let ending = serve_conf(serving, rt, alloc, &conf, links, out, gate);
+    let name = name_at_end(ending, words.conf, conf.legs.as_slice());
+    finish_with(ending, name, err)
+}
