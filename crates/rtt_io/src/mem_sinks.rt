@@ -1,5 +1,7 @@
 //! Sinks in memory.
-ghost use Rattle.std.specs.Prelude.{◌≡◌, [], ◌++◌, length};
+ghost use Rattle.std.specs.Prelude.{◌≡◌, ◌≤◌, [], ◌++◌, length, OnOk, OnErr};
+ghost use Rattle.rtt_io.specs.Counts.{Rose};
+ghost use Rattle.rtt_io.specs.Fronts.{TakesFront};
 
 use crate::Sink;
 use rtt_base::{Bytes, Failed, NoMemory, Path};
@@ -14,7 +16,7 @@ pub struct FailingWrite {
     pub through: usize,
 }
 
-/// A sink in memory, of whose writes some are to fail. One for which there is no memory fails too.
+/// A sink in memory, of whose writes some are to fail. A part is a write too. One for which there is no memory fails too.
 #[derive(Debug, Drop)]
 pub struct MemSink {
     pub(crate) name: Path,
@@ -34,15 +36,12 @@ impl Sink for MemSink {
 
     ghost name = { λ sink. sink.name };
 
+    fn write_part(&mut self, bytes: &[u8]) -> Result<(), Failed> {
+        self.write(bytes)
+    }
+
     fn write_all(&mut self, bytes: &[u8]) -> Result<(), Failed> {
-        self.writes = self.writes.saturating_add(1);
-        let through = self.through();
-        let number = through.unwrap_or(bytes.len()).min(bytes.len());
-        if self.taken.append(&bytes[..number]).is_err() || through.is_some() {
-            self.faults = self.faults.saturating_add(1);
-            return Err(Failed);
-        }
-        Ok(())
+        self.write(bytes)
     }
 }
 
@@ -93,6 +92,25 @@ impl MemSink {
             faults,
         } = self;
         (name, taken, faults)
+    }
+
+    // Makes one write: it takes all octets, or fails and took some of them from the front, or none.
+    fn write(&mut self, bytes: &[u8]) -> Result<(), Failed>
+        ensures never_falls { self.old.faults ≤ self.new.faults }
+        ensures failed { OnErr result (Rose self.old.faults self.new.faults) }
+        ensures same_name { self.new.name ≡ self.old.name }
+        ensures calm { OnOk result (self.new.faults ≡ self.old.faults) }
+        ensures appended { OnOk result (self.new.taken ≡ self.old.taken ++ bytes.now) }
+        ensures prefix { OnErr result (TakesFront self.old.taken self.new.taken bytes.now) }
+    {
+        self.writes = self.writes.saturating_add(1);
+        let through = self.through();
+        let number = through.unwrap_or(bytes.len()).min(bytes.len());
+        if self.taken.append(&bytes[..number]).is_err() || through.is_some() {
+            self.faults = self.faults.saturating_add(1);
+            return Err(Failed);
+        }
+        Ok(())
     }
 
     // How many octets the write of the present number still takes, where it is to fail.

@@ -21,7 +21,7 @@ pub(crate) struct Move {
 }
 
 /// A file of the system that is written. An ordinary file is written beside its name, and takes the name when its octets are
-/// stored; so under the name lies the whole, or what lay there before. A device, a pipe, a link and a file of several names are
+/// stored, with the first `write_all`; so under the name lies the whole, or what lay there before. A device, a pipe, a link and a file of several names are
 /// written where they stand.
 #[derive(Drop)]
 pub struct NewFile<R> {
@@ -139,6 +139,10 @@ impl<R: Files<File = File> + Copy> Sink for NewFile<R> {
     ghost faults = { λ file. file.sink.faults };
 
     ghost name = { λ file. file.sink.name };
+
+    fn write_part(&mut self, bytes: &[u8]) -> Result<(), Failed> {
+        self.sink.write_part(bytes)
+    }
 
     fn write_all(&mut self, bytes: &[u8]) -> Result<(), Failed> {
         let written = self.sink.write_all(bytes);

@@ -1,5 +1,6 @@
 //! The real outside: files and the standard streams.
-ghost use Rattle.std.specs.Prelude.{◌≡◌, ℕ, List, [], None, IfSome, unwrap_or};
+ghost use Rattle.std.specs.Prelude.{◌≡◌, ℕ, ◌≤◌, List, [], None, OnOk, OnErr, IfSome, unwrap_or};
+ghost use Rattle.rtt_io.specs.Counts.{Rose};
 
 use crate::new_files::{NewFile, file_to_write};
 use crate::streams::{Stored, read_once, write_stored, write_whole};
@@ -56,8 +57,21 @@ impl<F: Read> FileSource<F> {
     }
 }
 
-/// A file that is written, or another writer. Where the writer tells what it took, the sink does. Each write waits until
-/// its octets are stored, so that a fault which the system tells only then is one of the write.
+/// Hands on how a write ended, and counts it if it failed.
+fn count_failed(written: Result<(), Failed>, faults: &mut u64) -> Result<(), Failed>
+    ensures same { result ≡ written }
+    ensures never_falls { faults.old ≤ faults.new }
+    ensures calm { OnOk result (faults.new ≡ faults.old) }
+    ensures failed { OnErr result (Rose faults.old faults.new) }
+{
+    if written.is_err() {
+        *faults = faults.saturating_add(1);
+    }
+    written
+}
+
+/// A file that is written, or another writer. Where the writer tells what it took, the sink does. Each `write_all` waits until
+/// its octets and those of the parts before are stored, so that a fault which the system tells only then is one of the write.
 #[derive(Drop)]
 pub struct FileSink<F = File> {
     file: F,
@@ -76,14 +90,14 @@ impl<F: Stored> Sink for FileSink<F> {
 
     ghost name = { λ sink. sink.name };
 
+    fn write_part(&mut self, bytes: &[u8]) -> Result<(), Failed> {
+        let written = write_whole(&mut self.file, bytes);
+        count_failed(written, &mut self.faults)
+    }
+
     fn write_all(&mut self, bytes: &[u8]) -> Result<(), Failed> {
-        match write_stored(&mut self.file, bytes) {
-            Ok(()) => Ok(()),
-            Err(failed) => {
-                self.faults = self.faults.saturating_add(1);
-                Err(failed)
-            }
-        }
+        let written = write_stored(&mut self.file, bytes);
+        count_failed(written, &mut self.faults)
     }
 }
 
@@ -136,14 +150,14 @@ impl<W: Write> Sink for StreamSink<W> {
 
     ghost name = { λ _. [] };
 
+    fn write_part(&mut self, bytes: &[u8]) -> Result<(), Failed> {
+        let written = write_whole(&mut self.stream, bytes);
+        count_failed(written, &mut self.faults)
+    }
+
     fn write_all(&mut self, bytes: &[u8]) -> Result<(), Failed> {
-        match write_whole(&mut self.stream, bytes) {
-            Ok(()) => Ok(()),
-            Err(failed) => {
-                self.faults = self.faults.saturating_add(1);
-                Err(failed)
-            }
-        }
+        let written = write_whole(&mut self.stream, bytes);
+        count_failed(written, &mut self.faults)
     }
 }
 

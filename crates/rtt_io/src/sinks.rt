@@ -19,7 +19,19 @@ pub trait Sink {
     /// The name that it was created under.
     ghost name: { Self → List ℕ };
 
-    /// Writes all octets. After `Failed` it took some of them from the front, or none.
+    /// Takes all octets, as a part of more: they are stored with what `write_all` writes next. After `Failed` it took some of
+    /// them from the front, or none.
+    fn write_part(&mut self, bytes: &[u8]) -> Result<(), Failed>
+        ensures never_falls { faults self.old ≤ faults self.new }
+        ensures failed { OnErr result (Rose (faults self.old) (faults self.new)) }
+        ensures same_name { name self.new ≡ name self.old }
+        ensures calm { OnOk result (faults self.new ≡ faults self.old) }
+
+        ensures appended { tells → OnOk result (took self.new ≡ took self.old ++ bytes.now) }
+        ensures prefix { tells → OnErr result (TakesFront (took self.old) (took self.new) bytes.now) };
+
+    /// Writes all octets, and stores them with the parts that came before. After `Failed` it took some of them from the front,
+    /// or none.
     fn write_all(&mut self, bytes: &[u8]) -> Result<(), Failed>
         ensures never_falls { faults self.old ≤ faults self.new }
         ensures failed { OnErr result (Rose (faults self.old) (faults self.new)) }

@@ -1,8 +1,8 @@
 use crate::{
-    FailingCall, FailingWrite, FileSink, FileSource, MemSink, MemSource, MemWorld, ReadFault,
-    RealWorld, Sink, Source, SteadySource, StreamSink, World, read_whole,
+    FailingCall, FailingWrite, FileSink, FileSource, MemSink, MemSource, MemWorld, Pieces,
+    ReadFault, RealWorld, Sink, Source, SteadySource, Stored, StreamSink, Whole, World, read_whole,
 };
-use rtt_base::{Bytes, Path};
+use rtt_base::{Bytes, Failed, Path};
 use std::io::{ErrorKind, Write};
 use std::test::Fail;
 
@@ -192,6 +192,57 @@ fn real_forms_over_memory_give_and_take_what_it_holds(rt: HostRuntime) -> Result
     sink.write_all(b"two")?;
     let mut stream = StreamSink::new(Vec::new(rt.alloc()));
     stream.write_all(b"three")?;
+    Ok(())
+}
+
+#[test]
+fn a_sink_takes_parts_and_a_last_piece_in_order(rt: HostRuntime) -> Result<(), Fail> {
+    let mut sink = MemSink::new(rt.alloc(), Path::from_text(rt.alloc(), "a.out")?);
+    sink.fail_at(FailingWrite {
+        write: 2,
+        through: 1,
+    })?;
+    sink.write_part(b"one ")?;
+    assert!(rt; sink.write_part(b"two ").is_err());
+    sink.write_part(b"wo ")?;
+    Whole { octets: b"three" }.write_to(&mut sink)?;
+    assert_eq!(rt; sink.taken(), b"one two three".as_slice());
+    let mut file = FileSink::new(Vec::new(rt.alloc()), Path::from_text(rt.alloc(), "a.out")?);
+    file.write_part(b"one ")?;
+    file.write_part(b"two ")?;
+    Whole { octets: b"three" }.write_to(&mut file)?;
+    let mut stream = StreamSink::new(Vec::new(rt.alloc()));
+    stream.write_part(b"one ")?;
+    Whole { octets: b"two" }.write_to(&mut stream)?;
+    Ok(())
+}
+
+// Takes all octets and can store none.
+#[derive(Drop)]
+struct NeverStored;
+
+impl Write for NeverStored {
+    fn write(&mut self, buf: &[u8]) -> std::io::Result<usize> {
+        Ok(buf.len())
+    }
+
+    fn flush(&mut self) -> std::io::Result<()> {
+        Ok(())
+    }
+}
+
+impl Stored for NeverStored {
+    fn store(&self) -> Result<(), Failed> {
+        Err(Failed)
+    }
+}
+
+#[test]
+fn parts_are_stored_with_the_last_piece(rt: HostRuntime) -> Result<(), Fail> {
+    let mut sink = FileSink::new(NeverStored, Path::from_text(rt.alloc(), "a.out")?);
+    sink.write_part(b"one ")?;
+    sink.write_part(b"two ")?;
+    assert!(rt; sink.write_all(b"three").is_err());
     Ok(())
 }
 
