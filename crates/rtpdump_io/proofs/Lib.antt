@@ -5,3 +5,4 @@ pub mod Records
 pub mod Told
 mod Entries
 pub mod Fronts
+pub mod Written
