@@ -18,7 +18,7 @@ use Rattle.red_window.proofs.Repeating.{last_or_more, repeats_are}
 use Rattle.aware_output.specs.declared.outputs.OutConf.{OutConf}
 use Rattle.aware_output.specs.declared.speakers.Speaker.{Speaker}
 use Rattle.aware_output.specs.Confs.{IsConf, stream_of}
-use Rattle.aware_output.specs.Speakers.{AreDistinct, IsNext, EachIsNext, speaker_at}
+use Rattle.aware_output.specs.Speakers.{AreDistinct, IsNext, EachIsNext, anew, speaker_at}
 use Rattle.aware_output.specs.States.{State}
 use Rattle.aware_output.specs.Standing.{StandsFor, speaker_of, source_at}
 use Rattle.rtt_base.specs.declared.limits.TheConstants.{MOST_PACKET_OCTETS}
@@ -188,3 +188,20 @@ all_taken conf [] zero l = refl
 all_taken conf [] (suc i) l = refl
 all_taken conf (s ∷ sources) zero l = absurd (omega arith)
 all_taken conf (s ∷ sources) (suc i) l = ap (λ (xs : List Speaker). speaker_of conf [] s ∷ xs) (all_taken conf sources i (omega arith))
+
+-- ---- an output that has sent nothing again
+forgotten : (conf : OutConf) (past : List Sent) (sources : List ℕ) → map (anew conf.gens conf.stamp) (map (speaker_of conf past) sources) ≡ map (speaker_of conf []) sources
+forgotten conf past [] = refl
+forgotten conf past (s ∷ sources) = ap (λ (xs : List Speaker). speaker_of conf [] s ∷ xs) (forgotten conf past sources)
+
+pub restarts : (conf : OutConf) (sources : List ℕ) (s : State) (past : List Sent) (speakers : List Speaker) → StandsFor conf sources s past → s.conf.seq < 65536
+    → ((base : ℕ) → speakers ≡ map (anew s.conf.gens base) s.speakers) → StandsFor conf sources (record { conf = s.conf; seq = s.conf.seq; speakers = speakers }) []
+restarts conf sources s past speakers r fits all = record {
+  sent = tt;
+  distinct = r.distinct;
+  conf_is = r.conf_is;
+  seq = omega (arith, fits, ap (λ (x : OutConf). x.seq) r.conf_is);
+  speakers = all conf.stamp
+      ∙ (ap (λ (x : OutConf). map (anew x.gens conf.stamp) s.speakers) r.conf_is
+      ∙ (ap (λ (xs : List Speaker). map (anew conf.gens conf.stamp) xs) r.speakers ∙ forgotten conf past sources));
+}

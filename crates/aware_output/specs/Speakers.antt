@@ -16,6 +16,10 @@ AreDistinct (s ∷ more) = ((t : ℕ) → In t more → s ≡ t → ⊥) × AreD
 abbrev pub speaker_at : ℕ → ℕ → ℕ → List Sent → Speaker
 speaker_at g base source sent = record { source = source; window = kept_last g base sent; spoke = has_text_in 1 sent }
 
+-- the same source, of which nothing was sent
+abbrev pub anew : ℕ → ℕ → Speaker → Speaker
+anew g base speaker = speaker_at g base speaker.source []
+
 -- the text of one of these sources at a media time
 abbrev pub text_of : List ℕ → ℕ → ℕ → List ℕ → Sent
 text_of sources source media text = record { source = slice_index sources source; media = media; text = text }

@@ -2,7 +2,7 @@
 ghost use Rattle.std.specs.Prelude.{◌≡◌, ◌+◌, ◌%◌, ◌^◌, ◌<◌, ◌≤◌, ◌∷◌, [], length, IfOk, IfSome, IsOk, OnOk, OnErr};
 ghost use Rattle.rtt_base.specs.Buffers.{Appends};
 
-use crate::speakers::Speaker;
+use crate::speakers::{Speaker, forget_all};
 use red_blocks::{TextHead, write_text};
 use rtt_base::{NoMemory, OctetBuffer, Pts};
 use std::alloc::Global;
@@ -66,6 +66,15 @@ impl Output {
             seq,
             speakers,
         })
+    }
+
+    /// As if nothing was sent. It takes no memory.
+    pub fn restart(&mut self)
+        ensures stands { OfSent self.old (λ conf sources past. StandsFor conf sources self.new []) }
+        ensures sources { length self.new.speakers ≡ length self.old.speakers }
+    {
+        self.seq = self.conf.seq;
+        forget_all(&mut self.speakers, self.conf.gens);
     }
 
     /// The number of sources.

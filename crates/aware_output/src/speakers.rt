@@ -1,7 +1,7 @@
 //! A source at an output.
-ghost use Rattle.std.specs.Prelude.{◌≡◌, ◌<◌, ◌≤◌, [], ℕ, length, max, not};
+ghost use Rattle.std.specs.Prelude.{◌≡◌, ◌<◌, ◌≤◌, [], ℕ, length, map, max, not};
 ghost use Rattle.stream_spec.specs.Own.{has_text_in};
-ghost use Rattle.aware_output.specs.Speakers.{speaker_at};
+ghost use Rattle.aware_output.specs.Speakers.{anew, speaker_at};
 ghost use Rattle.aware_output.specs.Sending.{OfSpeaker, KeepsText};
 
 use red_window::Window;
@@ -44,5 +44,15 @@ impl Speaker {
     {
         self.window.keep(stamp, text);
         self.spoke = !text.is_empty();
+    }
+}
+
+/// Forgets of each source what was sent of it: it has so many generations from now on.
+pub fn forget_all(speakers: &mut [Speaker], generations: u8)
+    requires { generations ≤ 3 }
+    ensures { (base : ℕ) → speakers.new ≡ map (anew generations base) speakers.old }
+{
+    for speaker in speakers.iter_mut() {
+        *speaker = Speaker::new(speaker.source, generations);
     }
 }
