@@ -1,0 +1,4 @@
+pub mod Agreeing
+pub mod Growing
+pub mod Noting
+pub mod Rendering

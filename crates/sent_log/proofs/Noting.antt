@@ -1,0 +1,142 @@
+-- One entry more is one packet more.
+use Rattle.std.proofs.Common.{◌≡◌, ℕ, zero, suc, ◌+◌, ◌<◌, ◌≤◌, List, [], ◌∷◌, ◌++◌, length, get_or, set, Some, Result, Ok, Err, refl, ap, subst, sym, ◌∙◌}
+use Rattle.std.specs.Prelude.{All, OnErr, OnOk, map, reverse, slice_get, slice_set}
+use Rattle.std.proofs.lemmas.List.{map-set, map_push, reverse-append}
+use Rattle.std.proofs.lemmas.List.Elements.{All-nil, All-push, All-same, All-set}
+use Rattle.std.proofs.lemmas.Option.{get_or_from_slice_get, slice_get-map, slice_get_within}
+use Rattle.std.proofs.Math.Seq.{map-set_same}
+use Rattle.rtt_base.specs.declared.errors.NoMemory.{NoMemory}
+use Rattle.stream_spec.specs.Own.{Sent}
+use Rattle.aware_output.specs.declared.outputs.OutConf.{OutConf}
+use Rattle.aware_output.specs.Confs.{IsConf}
+use Rattle.aware_output.specs.Speakers.{AreDistinct, text_of}
+use Rattle.sent_log.specs.declared.terminals.Entry.{Entry}
+use Rattle.sent_log.specs.declared.terminals.Terminal.{Terminal}
+use Rattle.sent_log.specs.declared.turns.Turn.{Turn}
+use Rattle.sent_log.specs.Insides.{HasNoted, IsEntry, IsSame, IsTerminal, sending_of, sent_by, turn_at}
+use Rattle.sent_log.specs.Lists.{list_at, octets_at}
+use Rattle.sent_log.specs.States.{HasSource, Sending, State, sent_to, with_sent}
+
+-- ---- a terminal
+
+-- it with these parts
+abbrev pub sending : List Turn → List (List ℕ) → OutConf → List ℕ → ℕ → List Entry → Sending
+sending turns texts conf sources first entries = record {
+  conf = conf;
+  sources = sources;
+  sent = reverse (map (sent_by turns texts first sources) entries);
+}
+
+-- the same entries
+pub sending_same : (turns : List Turn) (texts : List (List ℕ)) (t t' : Terminal) (entries : List Entry) → IsSame t t' → t'.entries.items ≡ entries → sending_of turns texts t' ≡ sending turns texts t.conf t.sources.items t.first entries
+sending_same turns texts t t' entries s e =
+    ap (λ (conf : OutConf). sending turns texts conf t'.sources.items t'.first t'.entries.items) s.conf
+    ∙ (ap (λ (sources : List ℕ). sending turns texts t.conf sources t'.first t'.entries.items) s.sources
+    ∙ (ap (λ (first : ℕ). sending turns texts t.conf t.sources.items first t'.entries.items) s.first
+    ∙ ap (λ (es : List Entry). sending turns texts t.conf t.sources.items t.first es) e))
+
+newest : {X Y : Type 0} (f : X → Y) (xs : List X) (x : X) → reverse (map f (xs ++ x ∷ [])) ≡ f x ∷ reverse (map f xs)
+newest {X} {Y} f xs x = ap (λ (ys : List Y). reverse ys) (map_push f xs x) ∙ reverse-append (map f xs) (f x ∷ [])
+
+noted_sent : (turns : List Turn) (texts : List (List ℕ)) (t t' : Terminal) (now media turn source : ℕ) (text : List ℕ) → turn_at turns turn ≡ record { now = now; media = media } → IsSame t t' → HasNoted turn source text texts t t'
+    → sending_of turns texts t' ≡ with_sent now (text_of t.sources.items source media text) (sending_of turns texts t)
+noted_sent turns texts t t' now media turn source text e s n =
+    let sources = t.sources.items in
+    let entry : Entry = record { turn = turn; place = n.place; len = length text; source = source } in
+    let one : sent_by turns texts t.first sources entry ≡ (now, text_of sources source media text) =
+    ap (λ (u : Turn). (u.now, text_of sources source u.media (octets_at (list_at texts (t.first + source)) n.place (length text)))) e
+    ∙ ap (λ (xs : List ℕ). (now, text_of sources source media xs)) n.stands.is in
+    sending_same turns texts t t' (t.entries.items ++ entry ∷ []) s n.entries
+    ∙ (ap (λ (xs : List (ℕ × Sent)). record { conf = t.conf; sources = sources; sent = xs }) (newest (sent_by turns texts t.first sources) t.entries.items entry)
+    ∙ ap (λ (x : ℕ × Sent). record { conf = t.conf; sources = sources; sent = x ∷ (sending_of turns texts t).sent }) one)
+
+-- what holds of it where its entries are these
+still : (turns : List Turn) (texts : List (List ℕ)) (t t' : Terminal) (entries : List Entry) → IsTerminal turns texts t → IsSame t t' → t'.entries.items ≡ entries → All (IsEntry turns texts t.first t.sources.items) entries → IsTerminal turns texts t'
+still turns texts t t' entries k s e a = record {
+  conf = rw s.conf k.conf;
+  distinct = rw s.sources k.distinct;
+  lists = rw (s.first, s.sources) k.lists;
+  expected = s.expected ∙ (k.expected ∙ sym (ap length s.sources));
+  entries = rw (s.first, s.sources, e) a;
+}
+
+noted_still : (turns : List Turn) (texts : List (List ℕ)) (t t' : Terminal) (turn source : ℕ) (text : List ℕ) → IsTerminal turns texts t → turn < length turns → source < length t.sources.items → length text < 1024 → IsSame t t'
+    → HasNoted turn source text texts t t' → IsTerminal turns texts t'
+noted_still turns texts t t' turn source text k l m short s n =
+    let entry : Entry = record { turn = turn; place = n.place; len = length text; source = source } in
+    let is : IsEntry turns texts t.first t.sources.items entry = record { turn = l; source = m; short = short; within = n.stands.within } in
+    still turns texts t t' (t.entries.items ++ entry ∷ []) k s n.entries (All-push (IsEntry turns texts t.first t.sources.items) t.entries.items entry k.entries is)
+
+-- ---- all of them
+
+pub get_map : {X Y : Type 0} (f : X → Y) (xs : List X) (i : ℕ) (x : X) → slice_get xs i ≡ Some x → slice_get (map f xs) i ≡ Some (f x)
+get_map f xs i x e = slice_get-map f xs i ∙ rw e refl
+
+sent_to_is : (log : State) (terminal at : ℕ) (e_of : List ℕ → Sent) (x : Sending) → slice_get log terminal ≡ Some x → sent_to terminal at e_of log ≡ slice_set log terminal (with_sent at (e_of x.sources) x)
+sent_to_is log terminal at e_of x e = rw e refl
+
+-- what holds of a terminal that notes a text, or is out of memory
+pub record Steps (turns : List Turn) (texts : List (List ℕ)) (t t' : Terminal) (now media turn source : ℕ) (text : List ℕ) (r : Result (Unit {0}) NoMemory) : Type 0 where
+  pub turn_is : turn_at turns turn ≡ record { now = now; media = media }
+  pub turn_below : turn < length turns
+  pub source_below : source < length t.sources.items
+  pub short : length text < 1024
+  pub same : IsSame t t'
+  pub ok : OnOk r (HasNoted turn source text texts t t')
+  pub err : OnErr r (t'.entries.items ≡ t.entries.items)
+
+pub steps_still : (turns : List Turn) (texts : List (List ℕ)) (ts : List Terminal) (terminal : ℕ) (t t' : Terminal) (now media turn source : ℕ) (text : List ℕ) (r : Result (Unit {0}) NoMemory) → All (IsTerminal turns texts) ts → slice_get ts terminal ≡ Some t
+    → Steps turns texts t t' now media turn source text r → All (IsTerminal turns texts) (set ts terminal t')
+steps_still turns texts ts terminal t t' now media turn source text r a g s = All-set (IsTerminal turns texts) ts terminal t' (go r s.ok s.err) a
+  where
+    k : IsTerminal turns texts t
+    k = subst (λ (u : Terminal). IsTerminal turns texts u) (get_or_from_slice_get ts terminal t t g) (a terminal t (slice_get_within ts terminal t g))
+
+    go : (r : Result (Unit {0}) NoMemory) → OnOk r (HasNoted turn source text texts t t') → OnErr r (t'.entries.items ≡ t.entries.items) → IsTerminal turns texts t'
+    go (Ok x) n e = noted_still turns texts t t' turn source text k s.turn_below s.source_below s.short s.same n
+    go (Err x) n e = still turns texts t t' t.entries.items k s.same e k.entries
+
+pub steps_sent : (turns : List Turn) (texts : List (List ℕ)) (ts : List Terminal) (terminal : ℕ) (t t' : Terminal) (now media turn source : ℕ) (text : List ℕ) (r : Result (Unit {0}) NoMemory) → slice_get ts terminal ≡ Some t
+    → Steps turns texts t t' now media turn source text r
+    → OnOk r (map (sending_of turns texts) (set ts terminal t') ≡ sent_to terminal now (λ sources. text_of sources source media text) (map (sending_of turns texts) ts))
+steps_sent turns texts ts terminal t t' now media turn source text (Ok x) g s =
+    let f = sending_of turns texts in
+    map-set f ts terminal t'
+    ∙ (ap (λ (x : Sending). set (map f ts) terminal x) (noted_sent turns texts t t' now media turn source text s.turn_is s.same s.ok)
+    ∙ sym (sent_to_is (map f ts) terminal now (λ sources. text_of sources source media text) (f t) (get_map f ts terminal t g)))
+steps_sent turns texts ts terminal t t' now media turn source text (Err x) g s = tt
+
+pub steps_refused : (turns : List Turn) (texts : List (List ℕ)) (ts : List Terminal) (terminal : ℕ) (t t' : Terminal) (now media turn source : ℕ) (text : List ℕ) (r : Result (Unit {0}) NoMemory) → slice_get ts terminal ≡ Some t
+    → Steps turns texts t t' now media turn source text r
+    → OnErr r (map (sending_of turns texts) (set ts terminal t') ≡ map (sending_of turns texts) ts)
+steps_refused turns texts ts terminal t t' now media turn source text (Ok x) g s = tt
+steps_refused turns texts ts terminal t t' now media turn source text (Err x) g s =
+    map-set_same (sending_of turns texts) ts terminal t' t (sending_same turns texts t t' t.entries.items s.same s.err ∙ ap (sending_of turns texts) (sym (get_or_from_slice_get ts terminal t t g)))
+
+-- the terminal is there, and the source is one of its
+pub source_in : (turns : List Turn) (texts : List (List ℕ)) (ts : List Terminal) (terminal source : ℕ) → HasSource (map (sending_of turns texts) ts) terminal source → (t : Terminal) × (slice_get ts terminal ≡ Some t) × (source < length t.sources.items)
+source_in turns texts [] terminal source h = absurd h
+source_in turns texts (t ∷ ts) zero source h = (t, refl, h)
+source_in turns texts (t ∷ ts) (suc terminal) source h = source_in turns texts ts terminal source h
+
+pub source_there : (turns : List Turn) (texts : List (List ℕ)) (ts : List Terminal) (terminal source : ℕ) (t : Terminal) → t ≡ get_or ts terminal t → HasSource (map (sending_of turns texts) ts) terminal source
+    → (slice_get ts terminal ≡ Some t) × (source < length t.sources.items)
+source_there turns texts ts terminal source t e h =
+    let found = source_in turns texts ts terminal source h in
+    let same : found.0 ≡ t = sym (e ∙ get_or_from_slice_get ts terminal found.0 t found.1) in
+    subst (λ (u : Terminal). (slice_get ts terminal ≡ Some u) × (source < length u.sources.items)) same (found.1, found.2)
+
+-- ---- a terminal more
+
+pub added_all : (turns : List Turn) (texts : List (List ℕ)) (ts : List Terminal) (t : Terminal) (log : State) → map (sending_of turns texts) ts ≡ log → t.entries.items ≡ []
+    → map (sending_of turns texts) (ts ++ t ∷ []) ≡ log ++ record { conf = t.conf; sources = t.sources.items; sent = [] } ∷ []
+added_all turns texts ts t log v e =
+    let f = sending_of turns texts in
+    let one : f t ≡ record { conf = t.conf; sources = t.sources.items; sent = [] } = ap (λ (es : List Entry). sending turns texts t.conf t.sources.items t.first es) e in
+    map_push f ts t ∙ (ap (λ (xs : State). xs ++ f t ∷ []) v ∙ ap (λ (x : Sending). log ++ x ∷ []) one)
+
+pub added_still : (turns : List Turn) (texts : List (List ℕ)) (ts : List Terminal) (t : Terminal) → All (IsTerminal turns texts) ts → IsConf t.conf → AreDistinct t.sources.items → t.first + length t.sources.items ≤ length texts
+    → length t.expected.items ≡ length t.sources.items → t.entries.items ≡ [] → All (IsTerminal turns texts) (ts ++ t ∷ [])
+added_still turns texts ts t a conf distinct lists expected e =
+    let none = All-same (IsEntry turns texts t.first t.sources.items) t.entries.items [] e (All-nil (IsEntry turns texts t.first t.sources.items)) in
+    All-push (IsTerminal turns texts) ts t a (record { conf = conf; distinct = distinct; lists = lists; expected = expected; entries = none })

@@ -1,0 +1,175 @@
+-- The packets of a terminal, made one by one.
+use Rattle.std.proofs.Common.{◌≡◌, ℕ, zero, suc, ◌+◌, ◌-◌, ◌<◌, ◌≤◌, List, [], ◌∷◌, ◌++◌, length, get_or, take, drop, Some, refl, ap, subst, sym, ◌∙◌, arith}
+use Rattle.std.specs.Prelude.{All, map, reverse, slice_get}
+use Rattle.std.specs.List.Sorted.{IsNonDecreasing, IsNonDecreasingBy}
+use Rattle.std.proofs.lemmas.List.{drop-map, drop_at, get_or-map, get_or-take, length-drop, length-map, length-reverse, length-take-le, map-append, reverse-append, reverse-reverse, take-append-drop, take_more}
+use Rattle.std.proofs.lemmas.List.Sorted.{IsNonDecreasingBy-push}
+use Rattle.std.proofs.lemmas.Option.{get_or_from_slice_get, slice_get_read, slice_get_within}
+use Rattle.stream_spec.specs.Own.{Sent, Stream}
+use Rattle.aware_output.specs.declared.outputs.OutConf.{OutConf}
+use Rattle.aware_output.specs.Confs.{stream_of}
+use Rattle.aware_output.specs.Sending.{OfNext, octets_of}
+use Rattle.aware_output.specs.Speakers.{EachIsNext, IsNext, text_of}
+use Rattle.aware_output.specs.Standing.{StandsFor}
+use Rattle.aware_output.specs.States as output
+use Rattle.sent_log.specs.declared.terminals.Entry.{Entry}
+use Rattle.sent_log.specs.declared.terminals.Terminal.{Terminal}
+use Rattle.sent_log.specs.declared.turns.Turn.{Turn}
+use Rattle.sent_log.specs.Insides.{IsEntry, IsTerminal, sending_of, sent_by, turn_at}
+use Rattle.sent_log.specs.Lists.{list_at, octets_at}
+use Rattle.sent_log.specs.States.{Makes, NeverFalls, OfTerminal, Sending, State, first_sent, records_of, sents}
+use Rattle.sent_log.proofs.Noting.{get_map}
+
+-- ---- what holds of a terminal
+
+pub of_terminal : (turns : List Turn) (texts : List (List ℕ)) (ts : List Terminal) (log : State) (terminal : ℕ) (t : Terminal) (P : Sending → Type 0) → map (sending_of turns texts) ts ≡ log → slice_get ts terminal ≡ Some t → P (sending_of turns texts t) → OfTerminal log terminal P
+of_terminal turns texts ts log terminal t P v g p = λ x e.
+    let same : Some (sending_of turns texts t) ≡ Some x = sym (get_map (sending_of turns texts) ts terminal t g) ∙ (ap (λ (l : State). slice_get l terminal) v ∙ e) in
+    subst P (cc) p
+
+-- the terminal that was read
+pub terminal_in : (turns : List Turn) (texts : List (List ℕ)) (ts : List Terminal) (log : State) (terminal : ℕ) (t : Terminal) → map (sending_of turns texts) ts ≡ log → t ≡ get_or ts terminal t → terminal < length log → slice_get ts terminal ≡ Some t
+terminal_in turns texts ts log terminal t v e l = slice_get_read ts (length ts) terminal t refl (omega (arith, ap length v, length-map ts (sending_of turns texts))) e
+
+-- what is told of it
+pub tells : (turns : List Turn) (texts : List (List ℕ)) (ts : List Terminal) (log : State) (terminal : ℕ) (t : Terminal) (P : Sending → Type 0) → map (sending_of turns texts) ts ≡ log → slice_get ts terminal ≡ Some t → OfTerminal log terminal P
+    → P (sending_of turns texts t)
+tells turns texts ts log terminal t P v g o =
+    let x = sending_of turns texts t in
+    o x (subst (λ (l : State). slice_get l terminal ≡ Some x) v (get_map (sending_of turns texts) ts terminal t g))
+
+pub is_terminal : (turns : List Turn) (texts : List (List ℕ)) (ts : List Terminal) (terminal : ℕ) (t : Terminal) → All (IsTerminal turns texts) ts → slice_get ts terminal ≡ Some t → IsTerminal turns texts t
+is_terminal turns texts ts terminal t a g = subst (λ (u : Terminal). IsTerminal turns texts u) (get_or_from_slice_get ts terminal t t g) (a terminal t (slice_get_within ts terminal t g))
+
+pub is_entry : (turns : List Turn) (texts : List (List ℕ)) (t : Terminal) (number : ℕ) (e : Entry) → IsTerminal turns texts t → slice_get t.entries.items number ≡ Some e → IsEntry turns texts t.first t.sources.items e
+is_entry turns texts t number e k g =
+    subst (λ (u : Entry). IsEntry turns texts t.first t.sources.items u) (get_or_from_slice_get t.entries.items number e e g) (k.entries number e (slice_get_within t.entries.items number e g))
+
+pub sent_count : (turns : List Turn) (texts : List (List ℕ)) (t : Terminal) → length t.entries.items ≡ length (sending_of turns texts t).sent
+sent_count turns texts t =
+    let ys = map (sent_by turns texts t.first t.sources.items) t.entries.items in
+    sym (length-reverse ys ∙ length-map t.entries.items (sent_by turns texts t.first t.sources.items))
+
+pub number_within : (turns : List Turn) (texts : List (List ℕ)) (ts : List Terminal) (log : State) (terminal : ℕ) (t : Terminal) (number : ℕ) → map (sending_of turns texts) ts ≡ log → t ≡ get_or ts terminal t → terminal < length log
+    → OfTerminal log terminal (λ x. number < length x.sent) → number < length t.entries.items
+number_within turns texts ts log terminal t number v e l o =
+    let there = terminal_in turns texts ts log terminal t v e l in
+    let n = tells turns texts ts log terminal t (λ x. number < length x.sent) v there o in
+    omega (arith, n, sent_count turns texts t)
+
+-- the terminal and its entry that were read
+pub record Reads (turns : List Turn) (texts : List (List ℕ)) (ts : List Terminal) (terminal : ℕ) (t : Terminal) (number : ℕ) (e : Entry) : Type 0 where
+  pub there : slice_get ts terminal ≡ Some t
+  pub stands : IsTerminal turns texts t
+  pub read : slice_get t.entries.items number ≡ Some e
+  pub entry : IsEntry turns texts t.first t.sources.items e
+
+pub reads : (turns : List Turn) (texts : List (List ℕ)) (ts : List Terminal) (log : State) (terminal : ℕ) (t : Terminal) (number : ℕ) (e : Entry) → map (sending_of turns texts) ts ≡ log → All (IsTerminal turns texts) ts → t ≡ get_or ts terminal t
+    → e ≡ get_or t.entries.items number e → terminal < length log → OfTerminal log terminal (λ x. number < length x.sent) → Reads turns texts ts terminal t number e
+reads turns texts ts log terminal t number e v a s q l o =
+    let there = terminal_in turns texts ts log terminal t v s l in
+    let read = slice_get_read t.entries.items (length t.entries.items) number e refl (number_within turns texts ts log terminal t number v s l o) q in
+    let k = is_terminal turns texts ts terminal t a there in
+    record { there = there; stands = k; read = read; entry = is_entry turns texts t number e k read }
+
+-- ---- the first of them
+
+first_reversed : (k : ℕ) (ys : List (ℕ × Sent)) → k ≤ length ys → first_sent k (reverse ys) ≡ reverse (take k ys)
+first_reversed k ys l =
+    let front = take k ys in
+    let rest = drop k ys in
+    let split : reverse ys ≡ reverse rest ++ reverse front = ap (λ (zs : List (ℕ × Sent)). reverse zs) (sym (take-append-drop k ys)) ∙ reverse-append front rest in
+    let size : length (reverse rest) ≡ length (reverse ys) - k = omega (arith, length-reverse ys, length-reverse rest, length-drop k ys) in
+    ap (λ (zs : List (ℕ × Sent)). drop (length (reverse ys) - k) zs) split ∙ drop_at (reverse rest) (reverse front) (length (reverse ys) - k) size
+
+next_reversed : (k : ℕ) (ys : List (ℕ × Sent)) (d : ℕ × Sent) → k < length ys → first_sent (k + 1) (reverse ys) ≡ get_or ys k d ∷ first_sent k (reverse ys)
+next_reversed k ys d l =
+    let x = get_or ys k d in
+    first_reversed (k + 1) ys (omega arith)
+    ∙ (ap (λ (zs : List (ℕ × Sent)). reverse zs) (take_more ys k d l)
+    ∙ (reverse-append (take k ys) (x ∷ []) ∙ ap (λ (zs : List (ℕ × Sent)). x ∷ zs) (sym (first_reversed k ys (omega arith)))))
+
+each_drop : (c : Stream) (n : ℕ) (sent : List Sent) → EachIsNext c sent → EachIsNext c (drop n sent)
+each_drop c zero sent e = e
+each_drop c (suc n) [] e = e
+each_drop c (suc n) (x ∷ sent) e = each_drop c n sent e.1
+
+each_first : (c : Stream) (k : ℕ) (sent : List (ℕ × Sent)) → EachIsNext c (sents sent) → EachIsNext c (sents (first_sent k sent))
+each_first c k sent e = subst (λ (xs : List Sent). EachIsNext c xs) (drop-map (λ (x : ℕ × Sent). x.1) (length sent - k) sent) (each_drop c (length sent - k) (sents sent) e)
+
+-- ---- one packet
+
+pub made : (turns : List Turn) (texts : List (List ℕ)) (t : Terminal) (number : ℕ) (e : Entry) (old new : output.State) (octets : List ℕ) (turn : Turn) (text : List ℕ) → slice_get t.entries.items number ≡ Some e → turn ≡ turn_at turns e.turn
+    → text ≡ octets_at (list_at texts (t.first + e.source)) e.place e.len → OfNext old e.source turn.media text (λ conf sources past s. octets ≡ octets_of conf past s)
+    → OfNext old e.source turn.media text (λ conf sources past s. StandsFor conf sources new (s ∷ past))
+    → Makes (sending_of turns texts t) number old new octets turn.now
+made turns texts t number e old new octets turn text g te xe p s = λ lawful stands.
+    let f = sent_by turns texts t.first t.sources.items in
+    let entries = t.entries.items in
+    let ys = map f entries in
+    let sent = reverse ys in
+    let l = slice_get_within entries number e g in
+    let one : get_or ys number (f e) ≡ f e = get_or-map f entries number e (f e) l ∙ ap f (get_or_from_slice_get entries number e e g) in
+    let next : first_sent (number + 1) sent ≡ f e ∷ first_sent number sent =
+    next_reversed number ys (f e) (omega (arith, l, length-map entries f)) ∙ ap (λ (x : ℕ × Sent). x ∷ first_sent number sent) one in
+    let past = sents (first_sent number sent) in
+    let all = subst (λ (xs : List (ℕ × Sent)). EachIsNext (stream_of t.conf) (sents xs)) next (each_first (stream_of t.conf) (number + 1) sent lawful) in
+    let x : ℕ × Sent = (turn.now, text_of t.sources.items e.source turn.media text) in
+    let same : f e ≡ x =
+    ap (λ (u : Turn). (u.now, text_of t.sources.items e.source u.media (octets_at (list_at texts (t.first + e.source)) e.place e.len))) (sym te)
+    ∙ ap (λ (xs : List ℕ). (turn.now, text_of t.sources.items e.source turn.media xs)) (sym xe) in
+    let following : first_sent (number + 1) sent ≡ x ∷ first_sent number sent = next ∙ ap (λ (y : ℕ × Sent). y ∷ first_sent number sent) same in
+    let may : IsNext (stream_of t.conf) past x.1 = subst (λ (y : ℕ × Sent). IsNext (stream_of t.conf) past y.1) same all.0 in (
+      x,
+      following,
+      refl,
+      p t.conf t.sources.items past stands may,
+      subst (λ (xs : List (ℕ × Sent)). StandsFor t.conf t.sources.items new (sents xs)) (sym following) (s t.conf t.sources.items past stands may),
+    )
+
+-- ---- moments
+
+moments_are : (conf : OutConf) (xs : List (ℕ × Sent)) → map (λ r. r.0) (records_of conf xs) ≡ reverse (map (λ x. x.0) xs)
+moments_are conf [] = refl
+moments_are conf (x ∷ xs) =
+    let moments = map (λ (y : ℕ × Sent). y.0) xs in
+    map-append (λ (r : ℕ × List ℕ). r.0) (records_of conf xs) ((x.0, octets_of conf (sents xs) x.1) ∷ [])
+    ∙ (ap (λ (ms : List ℕ). ms ++ x.0 ∷ []) (moments_are conf xs) ∙ sym (reverse-append (x.0 ∷ []) moments))
+
+map_reverse : {X Y : Type 0} (f : X → Y) (xs : List X) → map f (reverse xs) ≡ reverse (map f xs)
+map_reverse f [] = refl
+map_reverse {X} {Y} f (x ∷ xs) =
+    ap (map f) (reverse-append (x ∷ []) xs)
+    ∙ (map-append f (reverse xs) (x ∷ []) ∙ (ap (λ (ys : List Y). ys ++ f x ∷ []) (map_reverse f xs) ∙ sym (reverse-append (f x ∷ []) (map f xs))))
+
+moments_of : (turns : List Turn) (texts : List (List ℕ)) (first : ℕ) (sources : List ℕ) (entries : List Entry) → map (λ (x : ℕ × Sent). x.0) (map (sent_by turns texts first sources) entries) ≡ map (λ (e : Entry). (turn_at turns e.turn).now) entries
+moments_of turns texts first sources [] = refl
+moments_of turns texts first sources (e ∷ entries) = ap (λ (ms : List ℕ). (turn_at turns e.turn).now ∷ ms) (moments_of turns texts first sources entries)
+
+rises : (m : Entry → ℕ) (entries : List Entry) → IsNonDecreasingBy m entries → IsNonDecreasing (map m entries)
+rises m entries r = λ i j d p q.
+    let none : Entry = record { turn = 0; place = 0; len = 0; source = 0 } in
+    let l : j < length entries = omega (arith, q, length-map entries m) in
+    let a : get_or (map m entries) i d ≡ m (get_or entries i none) = get_or-map m entries i none d (omega arith) in
+    let b : get_or (map m entries) j d ≡ m (get_or entries j none) = get_or-map m entries j none d l in
+    omega (arith, a, b, r i j none p l)
+
+pub never_falls : (turns : List Turn) (texts : List (List ℕ)) (t : Terminal) → IsNonDecreasingBy (λ (e : Entry). (turn_at turns e.turn).now) t.entries.items → NeverFalls (sending_of turns texts t)
+never_falls turns texts t r =
+    let ys = map (sent_by turns texts t.first t.sources.items) t.entries.items in
+    let moments = map (λ (x : ℕ × Sent). x.0) ys in
+    let same : map (λ (a : ℕ × List ℕ). a.0) (records_of t.conf (reverse ys)) ≡ map (λ (e : Entry). (turn_at turns e.turn).now) t.entries.items =
+    moments_are t.conf (reverse ys)
+    ∙ (ap (λ (ms : List ℕ). reverse ms) (map_reverse (λ (x : ℕ × Sent). x.0) ys) ∙ (reverse-reverse moments ∙ moments_of turns texts t.first t.sources.items t.entries.items)) in
+    subst (λ (ms : List ℕ). IsNonDecreasing ms) (sym same) (rises (λ (e : Entry). (turn_at turns e.turn).now) t.entries.items r)
+
+-- one moment more, which is not below the last
+pub rises_more : (m : Entry → ℕ) (entries : List Entry) (i : ℕ) (x : Entry) (last : ℕ) → i < length entries → x ≡ get_or entries i x → IsNonDecreasingBy m (take i entries) → ((d : Entry) → 0 < i → m (get_or entries (i - 1) d) ≡ last) → last ≤ m x
+    → IsNonDecreasingBy m (take (i + 1) entries)
+rises_more m entries i x last l e r f b =
+    let front = take i entries in
+    let size : length front ≡ i = length-take-le i entries (omega arith) in
+    let more : take (i + 1) entries ≡ front ++ x ∷ [] = take_more entries i x l ∙ ap (λ (y : Entry). front ++ y ∷ []) (sym e) in
+    subst (λ (xs : List Entry). IsNonDecreasingBy m xs) (sym more) (IsNonDecreasingBy-push m front x r (λ d p.
+    let at : get_or front (length front - 1) d ≡ get_or entries (i - 1) d = ap (λ (n : ℕ). get_or front (n - 1) d) size ∙ get_or-take i entries (i - 1) d (omega arith) in
+    omega (arith, ap m at, f d (omega arith), b)))

@@ -1,0 +1,80 @@
+-- What was sent to the terminals of a conference, and its recordings (profile).
+use Rattle.std.specs.Prelude.{◌≡◌, ◌+◌, ◌-◌, ◌<◌, ℕ, Option, None, Some, MatchOption, All, List, [], ◌∷◌, ◌++◌, drop, length, map, slice_get, slice_set}
+use Rattle.std.specs.List.Sorted.{IsNonDecreasing}
+use Rattle.wire_spec.specs.Dump.{dump_written}
+use Rattle.stream_spec.specs.Own.{Sent}
+use Rattle.aware_output.specs.declared.outputs.OutConf.{OutConf}
+use Rattle.aware_output.specs.Confs.{stream_of}
+use Rattle.aware_output.specs.Speakers.{EachIsNext}
+use Rattle.aware_output.specs.Sending.{octets_of}
+use Rattle.aware_output.specs.Standing.{StandsFor}
+use Rattle.aware_output.specs.States as output
+
+-- What was sent to a terminal: its stream, its sources, and what was sent of them, newest first, each at its moment.
+pub record Sending : Type 0 where
+  pub conf : OutConf
+  pub sources : List ℕ
+  pub sent : List (ℕ × Sent)
+
+-- to each terminal
+abbrev pub State : Type 0
+State = List Sending
+
+-- what was sent, without the moments
+abbrev pub sents : List (ℕ × Sent) → List Sent
+sents sent = map (λ x. x.1) sent
+
+-- its packets, oldest first, each at its moment
+abbrev pub records_of : OutConf → List (ℕ × Sent) → List (ℕ × List ℕ)
+records_of conf [] = []
+records_of conf (x ∷ past) = records_of conf past ++ (x.0, octets_of conf (sents past) x.1) ∷ []
+
+-- the recording of them
+abbrev pub recording_of : Sending → List ℕ
+recording_of x = dump_written (records_of x.conf x.sent)
+
+-- their moments never fall
+abbrev pub NeverFalls : Sending → Type 0
+NeverFalls x = IsNonDecreasing (map (λ r. r.0) (records_of x.conf x.sent))
+
+-- each could be sent after those before it
+abbrev pub IsLawful : Sending → Type 0
+IsLawful x = EachIsNext (stream_of x.conf) (sents x.sent)
+
+abbrev pub AreLawful : State → Type 0
+AreLawful log = All IsLawful log
+
+-- ---- one more
+
+-- this was sent, at the moment `at`
+abbrev pub with_sent : ℕ → Sent → Sending → Sending
+with_sent at e x = record x { sent = (at, e) ∷ x.sent }
+
+-- it was sent to the terminal with this number
+abbrev pub sent_to : ℕ → ℕ → (List ℕ → Sent) → State → State
+sent_to terminal at e_of log = go (slice_get log terminal)
+  where
+    go : Option Sending → State
+    go None = log
+    go (Some x) = slice_set log terminal (with_sent at (e_of x.sources) x)
+
+-- the source with this number is one of the terminal's
+abbrev pub HasSource : State → (terminal source : ℕ) → Type 0
+HasSource log terminal source = MatchOption (slice_get log terminal) ⊥ (λ x. source < length x.sources)
+
+-- ---- packet by packet
+
+-- the first `count` that were sent, newest first
+abbrev pub first_sent : ℕ → List (ℕ × Sent) → List (ℕ × Sent)
+first_sent count sent = drop (length sent - count) sent
+
+-- this holds of what was sent to the terminal
+abbrev pub OfTerminal : State → ℕ → (Sending → Type 0) → Type 0
+OfTerminal log terminal P = (x : Sending) → slice_get log terminal ≡ Some x → P x
+
+-- The packet with this number was made so, by an output that had sent those before it: its moment and its octets.
+abbrev pub Makes : Sending → ℕ → (old new : output.State) → List ℕ → ℕ → Type 0
+Makes x number old new octets at = IsLawful x → StandsFor x.conf x.sources old (sents (first_sent number x.sent))
+    → (e : ℕ × Sent) × (first_sent (number + 1) x.sent ≡ e ∷ first_sent number x.sent) × (at ≡ e.0)
+    × (octets ≡ octets_of x.conf (sents (first_sent number x.sent)) e.1)
+    × StandsFor x.conf x.sources new (sents (first_sent (number + 1) x.sent))

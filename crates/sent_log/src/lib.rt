@@ -1,0 +1,11 @@
+//! What was sent to the terminals of a conference: of each packet a few octets, out of which its octets are made again.
+#![tactic(auto)]
+
+mod logs;
+mod terminals;
+#[cfg(test)]
+mod tests;
+mod text_lists;
+mod turns;
+
+pub use logs::SentLog;

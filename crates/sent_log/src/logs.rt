@@ -1,0 +1,170 @@
+//! A log of what was sent.
+ghost use Rattle.std.specs.Prelude.{◌≡◌, ◌<◌, ◌≤◌, ◌++◌, ◌∷◌, [], true, length, IfOk, OnOk, OnErr};
+ghost use Rattle.aware_output.specs.Confs.{IsConf};
+ghost use Rattle.aware_output.specs.Speakers.{AreDistinct, text_of};
+ghost use Rattle.aware_output.specs.Standing.{StandsFor};
+ghost use Rattle.sent_log.specs.States.{HasSource, Makes, NeverFalls, OfTerminal, sent_to};
+
+use crate::terminals::{Terminal, make_lists, never_fall};
+use crate::text_lists::TextList;
+use crate::turns::{Turn, note_turn};
+use aware_output::{OutConf, Output};
+use rtt_base::{NoMemory, Packet};
+use std::alloc::Global;
+use std::marker::Model;
+
+/// What was sent to the terminals of a conference.
+#[derive(Drop)]
+pub struct SentLog {
+    turns: Vec<Turn>,
+    /// The texts of each leg, as terminals with many sources are sent them, and those of each terminal with one source.
+    texts: Vec<TextList>,
+    terminals: Vec<Terminal>,
+}
+
+impl Model for SentLog {
+    ghost use Rattle.sent_log.specs.States.{State};
+
+    ghost Value = { State };
+
+    ghost use Rattle.sent_log.specs.Insides.{IsLog, state_of};
+
+    ghost view = { state_of };
+
+    ghost invariant = { IsLog };
+}
+
+/// The number of the list of the first source of a terminal with so many, where there are so many lists: one source has a list
+/// of its own, and many share theirs with the other terminals.
+fn first_list(sources: usize, lists: usize) -> usize
+    ensures { result ≤ lists }
+{
+    if sources == 1 { lists } else { 0 }
+}
+
+impl SentLog {
+    /// A log with room for so many terminals, of which none is added yet.
+    pub fn new(alloc: Global, terminals: usize) -> Result<SentLog, NoMemory>
+        ensures { IfOk result (λ log. log ≡ []) }
+    {
+        let mut texts = Vec::new(alloc);
+        make_lists(alloc, &mut texts, terminals)?;
+        let terminals = Vec::with_capacity(alloc, terminals)?;
+        Ok(SentLog {
+            turns: Vec::new(alloc),
+            texts,
+            terminals,
+        })
+    }
+
+    /// Adds the next terminal, to which nothing was sent: its stream, and its sources, all different. After `NoMemory` all
+    /// is as before.
+    pub fn add(&mut self, alloc: Global, conf: OutConf, sources: Vec<u32>) -> Result<(), NoMemory>
+        requires conf { IsConf conf }
+        requires distinct { AreDistinct sources.items }
+        ensures ok { OnOk result (self.new
+            ≡ self.old ++ record { conf = conf; sources = sources.items; sent = [] } ∷ []) }
+        ensures err { OnErr result (self.new ≡ self.old) }
+    {
+        let first = first_list(sources.len(), self.texts.len());
+        make_lists(alloc, &mut self.texts, first + sources.len())?;
+        let expected = vec![in alloc; 0usize; sources.len()]?;
+        self.terminals.push(Terminal {
+            conf,
+            sources,
+            first,
+            expected,
+            entries: Vec::new(alloc),
+        })?;
+        Ok(())
+    }
+
+    /// Notes what is sent to a terminal at the moment `now`, in milliseconds: a text of at most 1023 octets of the source
+    /// with this number, at this media time. After `NoMemory` all is as before.
+    pub fn send(
+        &mut self,
+        terminal: usize,
+        now: u32,
+        media: u64,
+        source: usize,
+        text: &[u8],
+    ) -> Result<(), NoMemory>
+        requires source { HasSource self.old terminal source }
+        requires text { length text.now < 1024 }
+        ensures ok { OnOk result (self.new
+            ≡ sent_to terminal now (λ sources. text_of sources source media text.now) self.old) }
+        ensures err { OnErr result (self.new ≡ self.old) }
+    {
+        let turn = note_turn(&mut self.turns, Turn { now, media })?;
+        let sent_to = &mut self.terminals[terminal];
+        sent_to.note(turn, source, text, &mut self.texts)
+    }
+
+    /// The number of terminals.
+    pub fn terminals(&self) -> usize
+        ensures { result ≡ length self.now }
+    {
+        self.terminals.len()
+    }
+
+    /// How many packets were sent to the terminal.
+    pub fn count(&self, terminal: usize) -> usize
+        requires { terminal < length self.now }
+        ensures { OfTerminal self.now terminal (λ x. result ≡ length x.sent) }
+    {
+        self.terminals[terminal].entries.len()
+    }
+
+    /// Whether the moments of what was sent to the terminal never fall.
+    pub fn never_falls(&self, terminal: usize) -> bool
+        requires { terminal < length self.now }
+        ensures { result ≡ true → OfTerminal self.now terminal NeverFalls }
+    {
+        never_fall(&self.terminals[terminal].entries, &self.turns)
+    }
+
+    /// An output to the terminal that has sent nothing.
+    pub fn output(&self, alloc: Global, terminal: usize) -> Result<Output, NoMemory>
+        requires { terminal < length self.now }
+        ensures stands { IfOk result (λ output.
+            OfTerminal self.now terminal (λ x. StandsFor x.conf x.sources output [])) }
+        ensures sources { IfOk result (λ output.
+            OfTerminal self.now terminal (λ x. length output.speakers ≡ length x.sources)) }
+    {
+        let sent_to = &self.terminals[terminal];
+        Output::new(alloc, sent_to.conf, &sent_to.sources)
+    }
+
+    /// Makes the packet with this number, counted from 0, that was sent to the terminal, by an output that has sent those
+    /// before it, in place of what `packet` had; and answers its moment, in milliseconds.
+    pub fn packet(
+        &self,
+        terminal: usize,
+        number: usize,
+        output: &mut Output,
+        packet: &mut Packet,
+    ) -> u32
+        requires terminal { terminal < length self.now }
+        requires number { OfTerminal self.now terminal (λ x. number < length x.sent) }
+        requires sources { OfTerminal self.now terminal (λ x. length output.old.speakers ≡ length x.sources) }
+        ensures made { OfTerminal self.now terminal (λ x.
+            Makes x number output.old output.new packet.new result) }
+        ensures some { 0 < length packet.new }
+        ensures fits { length packet.new ≤ 4224 }
+        ensures sources { length output.new.speakers ≡ length output.old.speakers }
+    {
+        let sent_to = &self.terminals[terminal];
+        let entry = sent_to.entries[number];
+        let turn = self.turns[entry.turn as usize];
+        let source = entry.source as usize;
+        let list = &self.texts[sent_to.first + source];
+        let text = list.text(entry.place as usize, entry.len as usize);
+        packet.clear();
+        let Ok(()) = output.packet(turn.media, source, text, packet) else {
+            unreachable!()
+        };
+        let fits = packet.len() <= Packet::CAPACITY;
+        prove!(fits);
+        turn.now
+    }
+}

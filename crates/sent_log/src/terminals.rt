@@ -1,0 +1,107 @@
+//! What was sent to one terminal.
+ghost use Rattle.std.specs.Prelude.{◌≡◌, ◌+◌, ◌<◌, ◌≤◌, true, length, All, IfOk, OnOk, OnErr};
+ghost use Rattle.std.specs.List.Sorted.{IsNonDecreasingBy};
+ghost use Rattle.sent_log.specs.Insides.{HasNoted, IsSame, turn_at};
+ghost use Rattle.sent_log.specs.Lists.{EachGrows};
+
+use crate::text_lists::TextList;
+use crate::turns::Turn;
+use aware_output::OutConf;
+use rtt_base::NoMemory;
+use std::alloc::Global;
+
+/// A packet that was sent, in 12 octets.
+#[derive(Clone, Copy, Debug)]
+pub struct Entry {
+    /// The turn's number.
+    pub turn: u32,
+    /// Where the text stands in the list of its source.
+    pub place: u32,
+    /// The number of the text's octets.
+    pub len: u16,
+    /// The source's number.
+    pub source: u16,
+}
+
+/// A terminal.
+#[derive(Drop)]
+pub struct Terminal {
+    pub conf: OutConf,
+    pub sources: Vec<u32>,
+    /// The number of the list of the first source's texts; those of the others follow.
+    pub first: usize,
+    /// Where the next text of each source is expected, in its list.
+    pub expected: Vec<usize>,
+    /// Oldest first.
+    pub entries: Vec<Entry>,
+}
+
+impl Terminal {
+    /// Notes what is sent in this turn: a text of the source.
+    pub fn note(
+        &mut self,
+        turn: u32,
+        source: usize,
+        text: &[u8],
+        texts: &mut Vec<TextList>,
+    ) -> Result<(), NoMemory>
+        requires source { source < length self.old.sources.items }
+        requires expected { length self.old.expected.items ≡ length self.old.sources.items }
+        requires lists { self.old.first + length self.old.sources.items ≤ length texts.old.items }
+        requires text { length text.now < 1024 }
+        ensures grows { EachGrows texts.old.items texts.new.items }
+        ensures same { IsSame self.old self.new }
+        ensures ok { OnOk result (HasNoted turn source text.now texts.new.items self.old self.new) }
+        ensures err { OnErr result (self.new.entries.items ≡ self.old.entries.items) }
+    {
+        let list = &mut texts[self.first + source];
+        let place = list.keep(self.expected[source], text)?;
+        let entry = entry_of(turn, source, place, text.len())?;
+        self.entries.push(entry)?;
+        self.expected[source] = place + text.len();
+        Ok(())
+    }
+}
+
+/// The entry of a text that stands at this place in the list of its source.
+fn entry_of(turn: u32, source: usize, place: usize, len: usize) -> Result<Entry, NoMemory>
+    requires { len < 1024 }
+    ensures { IfOk result (λ e. e ≡ record { turn = turn; place = place; len = len; source = source }) }
+{
+    if place > u32::MAX as usize || source > u16::MAX as usize {
+        return Err(NoMemory);
+    }
+    Ok(Entry {
+        turn,
+        place: place as u32,
+        len: len as u16,
+        source: source as u16,
+    })
+}
+
+/// Makes lists until there are so many.
+pub fn make_lists(alloc: Global, texts: &mut Vec<TextList>, count: usize) -> Result<(), NoMemory>
+    ensures grows { EachGrows texts.old.items texts.new.items }
+    ensures ok { OnOk result (count ≤ length texts.new.items) }
+{
+    while texts.len() < count {
+        texts.push(TextList::new(alloc))?;
+    }
+    Ok(())
+}
+
+/// Whether the moments of these entries never fall.
+pub fn never_fall(entries: &[Entry], turns: &[Turn]) -> bool
+    requires { All (λ e. e.turn < length turns.now) entries.now }
+    ensures { result ≡ true → IsNonDecreasingBy (λ e. (turn_at turns.now e.turn).now) entries.now }
+{
+    let mut last = 0;
+    for entry in entries {
+        let now = turns[entry.turn as usize].now;
+        if now < last {
+            return false;
+        }
+        last = now;
+    }
+    true
+}

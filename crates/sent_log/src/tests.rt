@@ -1,0 +1,128 @@
+//! What was sent comes out as an output writes it at once, and texts are kept once.
+ghost use Rattle.aware_output.specs.Confs.{IsConf};
+
+use crate::SentLog;
+use crate::text_lists::TextList;
+use aware_output::{OutConf, Output};
+use rtt_base::{Packet, Pts};
+use std::alloc::Global;
+use std::process::Abort;
+use std::test::Fail;
+
+/// The stream of a mixer to a terminal.
+fn conf() -> OutConf
+    ensures { IsConf result }
+{
+    OutConf {
+        ssrc: 9000,
+        seq: 100,
+        stamp: 5000,
+        pts: Pts { t140: 98, red: 100 },
+        gens: 1,
+    }
+}
+
+/// A text of a source, counted from 0, at its media time in milliseconds.
+#[derive(Clone, Copy)]
+struct Sent<'a> {
+    media: u16,
+    source: usize,
+    text: &'a [u8],
+}
+
+/// Sends a text to the terminal, a second after its media time.
+fn send(
+    rt: &impl Abort,
+    alloc: Global,
+    log: &mut SentLog,
+    terminal: usize,
+    sent: &Sent,
+) -> Result<(), Fail> {
+    assert!(rt; terminal < log.terminals());
+    let output = log.output(alloc, terminal)?;
+    assert!(rt; sent.source < output.sources());
+    assert!(rt; sent.text.len() < 1024);
+    let now = u32::from(sent.media) + 1000;
+    log.send(terminal, now, u64::from(sent.media), sent.source, sent.text)?;
+    Ok(())
+}
+
+/// What the log makes for the terminal are the packets of these texts, as an output writes them at once.
+fn expect(
+    rt: &impl Abort,
+    alloc: Global,
+    log: &SentLog,
+    terminal: usize,
+    all: &[Sent],
+) -> Result<(), Fail> {
+    assert!(rt; terminal < log.terminals());
+    assert!(rt; log.count(terminal) == all.len());
+    assert!(rt; log.never_falls(terminal));
+    let mut made = log.output(alloc, terminal)?;
+    let mut written = Output::new(alloc, conf(), &[1001, 1002])?;
+    for number in 0..all.len() {
+        let sent = &all[number];
+        let mut packet = Packet::new();
+        let mut again = Packet::new();
+        assert!(rt; sent.source < written.sources());
+        assert!(rt; sent.text.len() < 1024);
+        let media = u64::from(sent.media);
+        assert!(rt;
+            written
+                .packet(media, sent.source, sent.text, &mut packet)
+                .is_ok()
+        );
+        let now = log.packet(terminal, number, &mut made, &mut again);
+        assert!(rt; now == u32::from(sent.media) + 1000);
+        assert!(rt; again.as_slice() == packet.as_slice());
+    }
+    Ok(())
+}
+
+#[test]
+fn packets_are_made_again(rt: HostRuntime) -> Result<(), Fail> {
+    let mut log = SentLog::new(rt.alloc(), 2)?;
+    log.add(rt.alloc(), conf(), vec![in rt.alloc(); 1001u32, 1002]?)?;
+    log.add(rt.alloc(), conf(), vec![in rt.alloc(); 1001u32, 1002]?)?;
+    let first = Sent {
+        media: 0,
+        source: 0,
+        text: b"Hel",
+    };
+    let second = Sent {
+        media: 300,
+        source: 0,
+        text: b"lo",
+    };
+    let third = Sent {
+        media: 600,
+        source: 1,
+        text: b"x",
+    };
+    send(&rt, rt.alloc(), &mut log, 0, &first)?;
+    send(&rt, rt.alloc(), &mut log, 0, &second)?;
+    // The other terminal comes late.
+    send(&rt, rt.alloc(), &mut log, 1, &second)?;
+    send(&rt, rt.alloc(), &mut log, 0, &third)?;
+    send(&rt, rt.alloc(), &mut log, 1, &third)?;
+    expect(&rt, rt.alloc(), &log, 0, &[first, second, third])?;
+    expect(&rt, rt.alloc(), &log, 1, &[second, third])?;
+    Ok(())
+}
+
+#[test]
+fn a_text_is_kept_once_however_it_is_cut(rt: HostRuntime) -> Result<(), Fail> {
+    let mut list = TextList::new(rt.alloc());
+    assert_eq!(rt; list.keep(0, b"ab")?, 0);
+    assert_eq!(rt; list.keep(0, b"abc")?, 0);
+    assert_eq!(rt; list.keep(2, b"cd")?, 2);
+    assert_eq!(rt; list.keep(3, b"de")?, 3);
+    // One that comes late begins with the last text.
+    assert_eq!(rt; list.keep(0, b"de")?, 3);
+    assert_eq!(rt; list.keep(5, b"f")?, 5);
+    // What begins inside a text is kept again, and the next of both once.
+    assert_eq!(rt; list.keep(0, b"e")?, 6);
+    assert_eq!(rt; list.keep(6, b"g")?, 7);
+    assert_eq!(rt; list.keep(7, b"g")?, 7);
+    Ok(())
+}
