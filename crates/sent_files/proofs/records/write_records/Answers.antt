@@ -1,0 +1,73 @@
+use Rattle.std.proofs.Common.{◌≡◌, ◌+◌, ◌++◌, ℕ, List, refl, subst, sym, ◌∙◌, arith}
+use Rattle.std.proofs.lemmas.List.{append-nil}
+use Rattle.rtt_io.specs.Fronts.{TakesFront}
+use Rattle.stream_spec.specs.Own.{Sent}
+use Rattle.aware_output.specs.Standing.{StandsFor}
+use Rattle.sent_log.specs.States.{first_sent, sents}
+use Rattle.sent_files.specs.Writing.{HoldsRest}
+use Rattle.sent_files.proofs.Passing.{err_then, nothing_taken, ok_gives}
+use Rattle.sent_files.proofs.Recorded.{all_first, as_many, front_of_all, next_held, none_first, written_of}
+use Rattle.sent_files.proofs.records.write_records.Goals as goal
+
+pub loop-number-init : goal.loop-number-init
+loop-number-init g c =
+    let took = g.K.Sink.took c.args.sink.now in
+    let page = c.args.page.now in
+    record {
+      stands = λ x at. subst (λ (s : List (ℕ × Sent)). StandsFor x.conf x.sources c.args.output.now (sents s)) (sym (none_first x.sent)) (c.requires.fresh x at);
+      calm = refl;
+      named = refl;
+      held = λ told x at. subst (λ (s : List (ℕ × Sent)). HoldsRest took took page (page ++ written_of x.conf s)) (sym (none_first x.sent))
+          (subst (λ (xs : List ℕ). HoldsRest took took page xs) (sym (append-nil page)) (nothing_taken took page));
+    }
+
+pub packet-at-requires-clause-sources : goal.packet-at-requires-clause-sources
+packet-at-requires-clause-sources g c = λ x at. as_many x c.loop-number.output (sents (first_sent c.loop-number.number x.sent)) (c.loop-number.invariant.stands x at)
+
+pub returns-then-is_err-clause-output : goal.returns-then-is_err-clause-output
+returns-then-is_err-clause-output g c = λ x at. record {
+  past = sents (first_sent (c.loop-number.number + 1) x.sent);
+  stands = (c.packet-at.ensures.made x at (c.requires.lawful x at) (c.loop-number.invariant.stands x at)).4;
+}
+
+pub returns-then-is_err-clause-prefix : goal.returns-then-is_err-clause-prefix
+returns-then-is_err-clause-prefix g c = λ told x at.
+    let took = g.K.Sink.took in
+    let before = took c.args.sink.now in
+    let middle = took c.loop-number.sink in
+    let now = took c.turn_page-turned.new.sink in
+    let page = c.loop-number.page in
+    err_then (TakesFront middle now page) (TakesFront before now (c.args.page.now ++ written_of x.conf x.sent)) c.turn_page-turned.result
+    (front_of_all x.conf c.loop-number.number x.sent before middle now page c.args.page.now (c.loop-number.invariant.held told x at))
+    (c.turn_page-turned.ensures.prefix told)
+
+pub loop-number-preserved : goal.loop-number-preserved
+loop-number-preserved g c =
+    let took = g.K.Sink.took in
+    let n = c.loop-number.number in
+    let turned = c.turn_page-turned.result in
+    let went = sym c.is_err.ensures.value ∙ c.if-is_err.false in
+    let middle = took c.loop-number.sink in
+    let now = took c.turn_page-turned.new.sink in
+    record {
+      stands = λ x at. (c.packet-at.ensures.made x at (c.requires.lawful x at) (c.loop-number.invariant.stands x at)).4;
+      calm = ok_gives (g.K.Sink.faults c.turn_page-turned.new.sink ≡ g.K.Sink.faults c.loop-number.sink) turned went c.turn_page-turned.ensures.calm ∙ c.loop-number.invariant.calm;
+      named = c.turn_page-turned.ensures.same_name ∙ c.loop-number.invariant.named;
+      held = λ told x at.
+          let m = c.packet-at.ensures.made x at (c.requires.lawful x at) (c.loop-number.invariant.stands x at) in
+          next_held x.conf n x.sent m.0 c.packet-at.result c.packet-at.new.packet m.1 m.2 m.3
+          (took c.args.sink.now) middle now c.loop-number.page c.turn_page-turned.new.page c.put_record.new.page c.args.page.now
+          (c.loop-number.invariant.held told x at)
+          (ok_gives (HoldsRest middle now c.turn_page-turned.new.page c.loop-number.page) turned went (c.turn_page-turned.ensures.held told))
+          c.put_record.ensures;
+    }
+
+pub returns-clause-output : goal.returns-clause-output
+returns-clause-output g c = λ x at. record { past = sents (first_sent c.loop-number.number x.sent); stands = c.loop-number.invariant.stands x at }
+
+pub returns-clause-held : goal.returns-clause-held
+returns-clause-held g c = λ told x at.
+    let took = g.K.Sink.took in
+    let all = c.count-number-end.ensures x at in
+    subst (λ (s : List (ℕ × Sent)). HoldsRest (took c.args.sink.now) (took c.loop-number.sink) c.loop-number.page (c.args.page.now ++ written_of x.conf s))
+    (all_first c.loop-number.number x.sent (omega (arith, all, c.loop-number-test.false))) (c.loop-number.invariant.held told x at)

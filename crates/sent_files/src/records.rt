@@ -1,0 +1,130 @@
+//! The records of a recording, page by page.
+ghost use Rattle.std.specs.Prelude.{◌≡◌, ◌<◌, ◌≤◌, ◌+◌, ◌++◌, [], length, OnOk, OnErr};
+ghost use Rattle.rtt_io.specs.Counts.{Rose};
+ghost use Rattle.rtt_io.specs.Fronts.{TakesFront};
+ghost use Rattle.wire_spec.specs.Dump.{dump_opening, record_written};
+ghost use Rattle.aware_output.specs.Standing.{StandsFor};
+ghost use Rattle.sent_log.specs.States.{IsLawful, OfTerminal, recording_of};
+ghost use Rattle.sent_files.specs.Files.{IsOutputTo, records_written};
+ghost use Rattle.sent_files.specs.Writing.{HoldsRest};
+ghost use Rattle.sent_files.specs.declared.pages.TheConstants.{PAGE_OCTETS};
+
+use crate::pages::{PAGE_OCTETS, Page};
+use aware_output::Output;
+use rtpdump_io::{write_opening, write_record};
+use rtt_base::limits::MOST_PACKET_OCTETS;
+use rtt_base::{Failed, OctetBuffer, Packet};
+use rtt_io::Sink;
+use sent_log::SentLog;
+
+/// The most octets of a record: its head, and a packet.
+const MOST_RECORD_OCTETS: usize = 8 + MOST_PACKET_OCTETS;
+
+/// Begins a recording.
+fn begin(page: &mut Page)
+    ensures { page.new ≡ dump_opening }
+{
+    page.clear();
+    let Ok(()) = write_opening(page) else {
+        unreachable!();
+    };
+}
+
+/// Appends the record of a packet that was sent at `at` (milliseconds).
+fn put_record(page: &mut Page, at: u32, packet: &Packet)
+    requires some { 0 < length packet.now }
+    requires room { length page.old + MOST_RECORD_OCTETS ≤ PAGE_OCTETS }
+    ensures { page.new ≡ page.old ++ record_written (at, packet.now) }
+{
+    let packet = packet.as_slice();
+    let Ok(()) = write_record(at, packet, page) else {
+        unreachable!();
+    };
+}
+
+/// Gives the page to the sink and empties it, where it has no room for one more record. After `Failed` the sink took some of
+/// the page from the front, or nothing.
+fn turn_page<K: Sink>(page: &mut Page, sink: &mut K) -> Result<(), Failed>
+    ensures room { OnOk result (length page.new + MOST_RECORD_OCTETS ≤ PAGE_OCTETS) }
+    ensures never_falls { K.faults sink.old ≤ K.faults sink.new }
+    ensures failed { OnErr result (Rose (K.faults sink.old) (K.faults sink.new)) }
+    ensures same_name { K.name sink.new ≡ K.name sink.old }
+    ensures calm { OnOk result (K.faults sink.new ≡ K.faults sink.old) }
+    ensures held { K.tells → OnOk result (HoldsRest (K.took sink.old) (K.took sink.new) page.new page.old) }
+    ensures prefix { K.tells → OnErr result (TakesFront (K.took sink.old) (K.took sink.new) page.old) }
+{
+    if page.len() + MOST_RECORD_OCTETS <= PAGE_OCTETS {
+        return Ok(());
+    }
+    let taken = sink.write_part(page.as_slice());
+    if taken.is_err() {
+        return taken;
+    }
+    page.clear();
+    Ok(())
+}
+
+/// Writes the records of what was sent to the terminal, by an output that has sent nothing. What is left of them stays in the
+/// page. After `Failed` the sink took some of the octets from the front, or none.
+fn write_records<K: Sink>(
+    log: &SentLog,
+    terminal: usize,
+    output: &mut Output,
+    page: &mut Page,
+    sink: &mut K,
+) -> Result<(), Failed>
+    requires terminal { terminal < length log.now }
+    requires lawful { OfTerminal log.now terminal IsLawful }
+    requires fresh { OfTerminal log.now terminal (λ x. StandsFor x.conf x.sources output.old []) }
+    ensures output { OfTerminal log.now terminal (λ x. IsOutputTo x output.new) }
+    ensures never_falls { K.faults sink.old ≤ K.faults sink.new }
+    ensures failed { OnErr result (Rose (K.faults sink.old) (K.faults sink.new)) }
+    ensures same_name { K.name sink.new ≡ K.name sink.old }
+    ensures calm { OnOk result (K.faults sink.new ≡ K.faults sink.old) }
+    ensures held { K.tells → OfTerminal log.now terminal (λ x. OnOk result
+        (HoldsRest (K.took sink.old) (K.took sink.new) page.new (page.old ++ records_written x))) }
+    ensures prefix { K.tells → OfTerminal log.now terminal (λ x. OnErr result
+        (TakesFront (K.took sink.old) (K.took sink.new) (page.old ++ records_written x))) }
+{
+    let mut packet = Packet::new();
+    for number in 0..log.count(terminal) {
+        let at = log.packet(terminal, number, output, &mut packet);
+        let turned = turn_page(page, sink);
+        if turned.is_err() {
+            return turned;
+        }
+        put_record(page, at, &packet);
+    }
+    Ok(())
+}
+
+/// Writes the recording of what was sent to the terminal, by an output to it, and stores it. After `Failed` the sink took some
+/// of the octets from the front, or none.
+pub fn write_recording<K: Sink>(
+    log: &SentLog,
+    terminal: usize,
+    output: &mut Output,
+    page: &mut Page,
+    sink: &mut K,
+) -> Result<(), Failed>
+    requires terminal { terminal < length log.now }
+    requires lawful { OfTerminal log.now terminal IsLawful }
+    requires output { OfTerminal log.now terminal (λ x. IsOutputTo x output.old) }
+    ensures output { OfTerminal log.now terminal (λ x. IsOutputTo x output.new) }
+    ensures never_falls { K.faults sink.old ≤ K.faults sink.new }
+    ensures failed { OnErr result (Rose (K.faults sink.old) (K.faults sink.new)) }
+    ensures same_name { K.name sink.new ≡ K.name sink.old }
+    ensures calm { OnOk result (K.faults sink.new ≡ K.faults sink.old) }
+    ensures appended { K.tells → OfTerminal log.now terminal (λ x.
+        OnOk result (K.took sink.new ≡ K.took sink.old ++ recording_of x)) }
+    ensures prefix { K.tells → OfTerminal log.now terminal (λ x.
+        OnErr result (TakesFront (K.took sink.old) (K.took sink.new) (recording_of x))) }
+{
+    output.restart();
+    begin(page);
+    let written = write_records(log, terminal, output, page, sink);
+    if written.is_err() {
+        return written;
+    }
+    sink.write_all(page.as_slice())
+}
