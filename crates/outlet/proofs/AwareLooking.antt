@@ -1,9 +1,17 @@
 -- Whether a leg is due.
-use Rattle.std.proofs.Common.{◌≡◌, ℕ, Bool, true, false, not, ◌&&◌, ◌||◌, refl, ap, sym, ◌∙◌}
-use Rattle.std.specs.Prelude.{◌==◌}
+use Rattle.std.proofs.Common.{◌≡◌, ℕ, ◌<◌, Bool, true, false, not, ◌&&◌, ◌||◌, refl, ap, sym, ◌∙◌}
+use Rattle.std.specs.Prelude.{◌==◌, nat_lt, slice_index}
 use Rattle.std.proofs.lemmas.Bool.{eq-eqb, ne_eqb}
+use Rattle.stream_spec.specs.Own.{has_text_in}
 use Rattle.mixer_spec.specs.Setups.{Setup}
 use Rattle.mixer_spec.specs.Table.{Terminal, has_work, is_due, is_spaced, last_media, sent_from}
+use Rattle.outlet.specs.AwareStates.{AwareState}
+use Rattle.outlet.specs.AwareStanding.{StandsFor}
+use Rattle.outlet.proofs.Repeating.{still_left}
+
+-- text of the leg is still to be repeated
+pub repeats_here : (s : Setup) (j i : ℕ) (o : AwareState) (d : Terminal) → StandsFor s j o d → i < s.legs → nat_lt 0 (slice_index o.left i) ≡ has_text_in (s.gens j) (sent_from (s.ssrc i) d)
+repeats_here s j i o d h l = ap (λ (n : ℕ). nat_lt 0 n) (h.left i l) ∙ sym (still_left (s.gens j) (sent_from (s.ssrc i) d))
 
 pub or_first : (b a x : Bool) → b ≡ true → b ≡ a → b ≡ (a || x)
 or_first b a x t e = t ∙ ap (λ (y : Bool). y || x) (sym t ∙ e)

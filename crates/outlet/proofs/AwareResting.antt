@@ -2,7 +2,6 @@
 use Rattle.std.proofs.Common.{◌≡◌, ℕ, ◌≤◌, Bool, true, false, not, ◌&&◌, ◌||◌, Option, Some, None, List, refl, ap, sym, ◌∙◌, arith}
 use Rattle.std.specs.Prelude.{◌==◌}
 use Rattle.std.proofs.lemmas.Bool.{true≢false}
-use Rattle.rtt_base.specs.declared.text_packets.Pts.{Pts}
 use Rattle.stream_spec.specs.Own.{Sent, has_text_in}
 use Rattle.stream_spec.specs.Ready.{Chunk}
 use Rattle.mixer_spec.specs.Rounds.{all_below}
@@ -20,8 +19,8 @@ abbrev pub is_done_with : Setup → ℕ → Terminal → ℕ → Bool
 is_done_with s j d i = (i == j) || not (has_work s j d i)
 
 -- of the mixer's own source nothing was sent
-pub quiet_is : (s : Setup) (pts : Pts) (j : ℕ) (o : AwareState) (d : Terminal) → StandsFor s pts j o d → all_below (is_done_with s j d) s.legs ≡ is_quiet s j d
-quiet_is s pts j o d h =
+pub quiet_is : (s : Setup) (j : ℕ) (o : AwareState) (d : Terminal) → StandsFor s j o d → all_below (is_done_with s j d) s.legs ≡ is_quiet s j d
+quiet_is s j o d h =
     ap (λ (b : Bool). not b && all_below (is_done_with s j d) s.legs) (sym (ap (λ (xs : List Sent). has_text_in (s.gens j) xs) h.none_mixed ∙ no_text (s.gens j)))
 
 -- ---- nobody is due
@@ -49,23 +48,23 @@ quiet_serves s seats j t d q l = go (served s seats j t d) refl
     go None e = refl
     go (Some p) e = absurd (leg (leg_in seats s.legs p) p refl (round_some (is_due_at s seats j t d) (round_start d.past) s.places p l e).passes)
 
-pub none_due : (s : Setup) (pts : Pts) (seats : Seats) (o : AwareState) (t : ℕ) (d : Terminal) → StandsFor s pts o.own o d → o.quiet ≡ true → o.next ≤ 16 → None ≡ served s seats o.own t d
-none_due s pts seats o t d h q l = quiet_serves s seats o.own t d (h.rests q) (omega (arith, l, h.next, h.places))
+pub none_due : (s : Setup) (seats : Seats) (o : AwareState) (t : ℕ) (d : Terminal) → StandsFor s o.own o d → o.quiet ≡ true → o.next ≤ 16 → None ≡ served s seats o.own t d
+none_due s seats o t d h q l = quiet_serves s seats o.own t d (h.rests q) (omega (arith, l, h.next, h.places))
 
 -- ---- what changes only what is known of quiet
-pub stands_quiet : (s : Setup) (pts : Pts) (j : ℕ) (o : AwareState) (d : Terminal) (q : Bool) (waits : ℕ → List Chunk) → StandsFor s pts j o d
+pub stands_quiet : (s : Setup) (j : ℕ) (o : AwareState) (d : Terminal) (q : Bool) (waits : ℕ → List Chunk) → StandsFor s j o d
     → (let after : Terminal = record { past = d.past; asks = d.asks; waits = waits } in q ≡ true → is_quiet s j after ≡ true)
-    → StandsFor s pts j (record o { quiet = q }) (record { past = d.past; asks = d.asks; waits = waits })
-stands_quiet s pts j o d q waits h r = record {
+    → StandsFor s j (record o { quiet = q }) (record { past = d.past; asks = d.asks; waits = waits })
+stands_quiet s j o d q waits h r = record {
   setup = h.setup;
   places = h.places;
   own = h.own;
   leg = h.leg;
   spacing = h.spacing;
-  sources = h.sources;
-  are = h.are;
-  output = h.output;
+  gens = h.gens;
+  sent = h.sent;
   legs = h.legs;
+  left = h.left;
   free = h.free;
   next = h.next;
   none_mixed = h.none_mixed;

@@ -3,9 +3,8 @@ use Rattle.std.proofs.Common.{◌≡◌, ℕ, ◌-◌, Bool, true, false, cond, 
 use Rattle.std.specs.Prelude.{◌==◌}
 use Rattle.std.specs.Option.{option_or}
 use Rattle.std.proofs.lemmas.Bool.{cases_eq, ne_eqb}
-use Rattle.rtt_base.specs.declared.text_packets.Pts.{Pts}
 use Rattle.mixer_spec.specs.Rounds.{first_from, first_round}
-use Rattle.mixer_spec.specs.Setups.{Setup, stream}
+use Rattle.mixer_spec.specs.Setups.{Setup}
 use Rattle.mixer_spec.specs.Table.{Terminal, Table}
 use Rattle.slot_table.specs.Lanes.{Waiting}
 use Rattle.slot_table.proofs.Sources.{stands_same}
@@ -37,11 +36,11 @@ same_terminal table j k e = elim (cases_eq k j) [
   | inr n ↦ absurd (cc (e, ne_eqb k j n))
 ]
 
-pub none_served : (s : Setup) (pts : Pts) (o new : AwareState) (now : List Waiting) (table : Table) (out : List ℕ) → IsIn s pts o now table → StandsFor s pts o.own new (table.terminals o.own)
-    → IsTurned s pts table o.own (table.terminals o.own) new now false out
-none_served s pts o new now table out h stands = record {
+pub none_served : (s : Setup) (o new : AwareState) (now : List Waiting) (table : Table) (t : ℕ) (text : List ℕ) → IsIn s o now table → StandsFor s o.own new (table.terminals o.own)
+    → IsTurned s table o.own (table.terminals o.own) t new now None text
+none_served s o new now table t text h stands = record {
   outlet = stands;
   slots_stand = stands_same s now table (with_terminal o.own (table.terminals o.own) table) h.slots_stand (λ i. refl) (λ k. refl)
       (λ k i. same_there (k == o.own) (table.terminals o.own) (table.terminals k) i (same_terminal table o.own k));
-  puts = puts_none pts (stream s o.own) (table.terminals o.own).past out;
+  puts = puts_none true t (table.terminals o.own).past text;
 }

@@ -1,33 +1,25 @@
 -- A turn that serves a leg.
-use Rattle.std.proofs.Common.{◌≡◌, ℕ, ◌+◌, ◌<◌, Bool, true, false, cond, inl, inr, Some, List, ◌∷◌, set, refl, ap, subst, sym, ◌∙◌, arith}
+use Rattle.std.proofs.Common.{◌≡◌, ℕ, ◌+◌, ◌-◌, ◌<◌, Bool, true, false, cond, inl, inr, Some, List, ◌∷◌, length, set, refl, ap, subst, sym, ◌∙◌, arith}
 use Rattle.std.specs.Prelude.{◌==◌, slice_index}
 use Rattle.std.proofs.lemmas.Bool.{cases_eq, eq-eqb, ne_eqb}
 use Rattle.std.proofs.lemmas.List.{length-set}
 use Rattle.std.proofs.Math.Seq.{get_or-set_same, get_or-set_other}
-use Rattle.rtt_base.specs.declared.text_packets.Pts.{Pts}
-use Rattle.wire_spec.specs.SentPackets.{packet_written}
-use Rattle.stream_spec.specs.Own.{Sent, sent_of, packet_after}
-use Rattle.mixer_spec.specs.Chunks.{front, joined}
+use Rattle.wire_spec.specs.Packets.{has_text}
+use Rattle.stream_spec.specs.Own.{Sent, sent_of}
+use Rattle.mixer_spec.specs.Chunks.{front}
 use Rattle.mixer_spec.specs.Setups.{Setup, stream}
 use Rattle.mixer_spec.specs.Table.{Terminal, Table, sents, last_media, serve_leg}
-use Rattle.aware_output.specs.Speakers.{IsNext, text_of}
-use Rattle.aware_output.specs.States.{State}
-use Rattle.aware_output.specs.Standing as outputs
+use Rattle.aware_output.specs.Speakers.{IsNext}
 use Rattle.slot_table.specs.Lanes.{Waiting}
 use Rattle.slot_table.specs.Words.{take_front, fetched}
 use Rattle.slot_table.specs.Standing as slots
 use Rattle.slot_table.proofs.Sources.{stands_same}
-use Rattle.outlet.specs.Turns.{conf_at, free_after, with_terminal}
+use Rattle.outlet.specs.Turns.{free_after, repeats_left, with_terminal}
 use Rattle.outlet.proofs.Putting.{puts_one}
 use Rattle.outlet.specs.AwareStates.{AwareState}
 use Rattle.outlet.specs.AwareStanding.{StandsFor}
-use Rattle.outlet.specs.AwareTurns.{IsIn, IsTurned, kept_served, sent_of_leg}
+use Rattle.outlet.specs.AwareTurns.{IsIn, IsTurned, kept_served, left_behind, sent_of_leg, text_of_leg}
 use Rattle.rtt_base.specs.declared.limits.TheConstants.{MOST_TEXT_OCTETS}
-
--- ---- what an output puts out
-pub text_is : (sources : List ℕ) (source media : ℕ) (text : List ℕ) (e : Sent) → slice_index sources source ≡ e.source → media ≡ e.media → text ≡ e.text → text_of sources source media text ≡ e
-text_is sources source media text e a b c = let same : (x y z : ℕ) (t u : List ℕ) → x ≡ y → t ≡ u → (let k : Sent = record { source = x; media = z; text = t } in k) ≡ record { source = y; media = z; text = u } = λ x y z t u p q. rw (p, q) refl in
-    same (slice_index sources source) e.source media text e.text a c ∙ ap (λ (m : ℕ). let k : Sent = record { source = e.source; media = m; text = e.text } in k) b
 
 -- ---- the entry
 same_waits : (b : Bool) (x y z : Terminal) (i : ℕ) → x.waits i ≡ y.waits i → (cond b x z).waits i ≡ (cond b y z).waits i
@@ -40,38 +32,39 @@ sent_same x e past q = ap (λ (b : Bool). cond b (e ∷ sent_of x past) (sent_of
 sent_other : (x : ℕ) (e : Sent) (past : List Sent) → (e.source ≡ x → ⊥) → sent_of x (e ∷ past) ≡ sent_of x past
 sent_other x e past n = ap (λ (b : Bool). cond b (e ∷ sent_of x past) (sent_of x past)) (ne_eqb e.source x n)
 
--- the outlet behind a packet of the leg
-abbrev pub state_then : AwareState → State → ℕ → ℕ → ℕ → AwareState
-state_then o output leg media place = kept_served place leg media (record o { output = output })
+-- what is written at the number of the leg is read there, and each other number keeps what it had
+written : (xs : List ℕ) (leg x : ℕ) (P : ℕ → ℕ → Type 0) (legs : ℕ) → leg < length xs → P leg x → ((i : ℕ) → i < legs → (i ≡ leg → ⊥) → P i (slice_index xs i))
+    → (i : ℕ) → i < legs → P i (slice_index (set xs leg x) i)
+written xs leg x P legs l p f i b = elim (cases_eq i leg) [
+  | inl q ↦ subst (λ (k : ℕ). P k (slice_index (set xs leg x) k)) (sym q) (subst (λ (y : ℕ). P leg y) (sym (get_or-set_same xs leg x 0 l)) p)
+  | inr n ↦ subst (λ (y : ℕ). P i y) (sym (get_or-set_other xs leg i x 0 n)) (f i b n)
+]
 
-stands_then : (s : Setup) (pts : Pts) (o : AwareState) (d : Terminal) (output : State) (place leg media now : ℕ) → (h : StandsFor s pts o.own o d) → leg < s.legs
-    → outputs.StandsFor (conf_at s pts o.own) h.sources output (sent_of_leg s media d leg ∷ sents d.past)
-    → StandsFor s pts o.own (state_then o output leg media place) (serve_leg s now media d place (Some leg))
-stands_then s pts o d output place leg media now h l out =
-    let free = media + o.spacing in
+stands_then : (s : Setup) (o : AwareState) (d : Terminal) (place leg media now : ℕ) → StandsFor s o.own o d → length o.left ≡ length o.free_at → leg < s.legs
+    → IsNext (stream s o.own) (sents d.past) (sent_of_leg s media d leg)
+    → StandsFor s o.own (kept_served place leg media (text_of_leg d leg) o) (serve_leg s now media d place (Some leg))
+stands_then s o d place leg media now h c l n =
+    let text = text_of_leg d leg in
     let e = sent_of_leg s media d leg in
-    let behind : Terminal = serve_leg s now media d place (Some leg) in
+    let gens = s.gens o.own in
+    let own : sent_of (s.ssrc leg) (e ∷ sents d.past) ≡ e ∷ sent_of (s.ssrc leg) (sents d.past) = sent_same (s.ssrc leg) e (sents d.past) refl in
+    let other : (i : ℕ) → i < s.legs → (i ≡ leg → ⊥) → sent_of (s.ssrc i) (e ∷ sents d.past) ≡ sent_of (s.ssrc i) (sents d.past) =
+    λ i b m. sent_other (s.ssrc i) e (sents d.past) (λ q. m (sym (h.setup.differ leg i l b q))) in
     record {
       setup = h.setup;
       places = h.places;
       own = refl;
       leg = h.leg;
       spacing = h.spacing;
-      sources = h.sources;
-      are = h.are;
-      output = out;
-      legs = length-set o.free_at leg free ∙ h.legs;
-      free = λ i b. elim (cases_eq i leg) [
-        | inl q ↦
-            ap (λ (x : ℕ). slice_index (set o.free_at leg free) x) q
-            ∙ (get_or-set_same o.free_at leg free 0 (omega (arith, l, h.legs))
-            ∙ (ap (λ (x : ℕ). media + x) h.spacing
-            ∙ ap (λ (xs : List Sent). free_after s.spacing (last_media xs)) (sym (sent_same (s.ssrc i) e (sents d.past) (ap s.ssrc (sym q))))))
-        | inr n ↦
-            get_or-set_other o.free_at leg i free 0 n
-            ∙ (h.free i b
-            ∙ ap (λ (xs : List Sent). free_after s.spacing (last_media xs)) (sym (sent_other (s.ssrc i) e (sents d.past) (λ q. n (sym (h.setup.differ leg i l b q))))))
-      ];
+      gens = h.gens;
+      sent = (n, h.sent);
+      legs = length-set o.free_at leg (media + o.spacing) ∙ h.legs;
+      left = written o.left leg (left_behind leg text o) (λ i x. x ≡ repeats_left gens (sent_of (s.ssrc i) (e ∷ sents d.past))) s.legs (omega (arith, l, c, h.legs))
+          ((λ r. cond (has_text text) (h.gens r) (h.left leg l r - 1)) ∙ ap (repeats_left gens) (sym own))
+          (λ i b m. h.left i b ∙ ap (repeats_left gens) (sym (other i b m)));
+      free = written o.free_at leg (media + o.spacing) (λ i x. x ≡ free_after s.spacing (last_media (sent_of (s.ssrc i) (e ∷ sents d.past)))) s.legs (omega (arith, l, h.legs))
+          (ap (λ (x : ℕ). media + x) h.spacing ∙ ap (λ (xs : List Sent). free_after s.spacing (last_media xs)) (sym own))
+          (λ i b m. h.free i b ∙ ap (λ (xs : List Sent). free_after s.spacing (last_media xs)) (sym (other i b m)));
       next = omega arith;
       none_mixed = sent_other s.mixer e (sents d.past) (h.setup.mixer_differs leg l) ∙ h.none_mixed;
       rests = λ q. cc q;
@@ -83,22 +76,14 @@ slots_then s table j leg place media now after h =
     stands_same s after (fetched j leg MOST_TEXT_OCTETS table) (with_terminal j (serve_leg s now media (table.terminals j) place (Some leg)) table) h (λ i. refl) (λ k. refl)
     (λ k i. same_waits (k == j) (serve_leg s now media (table.terminals j) place (Some leg)) (take_front leg MOST_TEXT_OCTETS (table.terminals j)) (table.terminals k) i refl)
 
-pub leg_served : (s : Setup) (pts : Pts) (table : Table) (o : AwareState) (before after : List Waiting) (output : State) (place leg media now : ℕ) (text : List ℕ) (octets : List ℕ) → (h : IsIn s pts o before table)
+pub leg_served : (s : Setup) (table : Table) (o : AwareState) (before after : List Waiting) (place leg media now : ℕ) (text : List ℕ) → IsIn s o before table → length o.left ≡ length o.free_at
     → leg < s.legs → IsNext (stream s o.own) (sents (table.terminals o.own).past) (sent_of_leg s media (table.terminals o.own) leg)
-    → text ≡ joined (front MOST_TEXT_OCTETS ((table.terminals o.own).waits leg)) → slots.StandsFor s after (fetched o.own leg MOST_TEXT_OCTETS table)
-    → (let d : Terminal = table.terminals o.own in let e = text_of h.outlet.sources leg media text in
-    IsNext (stream s o.own) (sents d.past) e → octets ≡ packet_written pts (packet_after (stream s o.own) (sents d.past) e))
-    → (let d : Terminal = table.terminals o.own in let e = text_of h.outlet.sources leg media text in
-    IsNext (stream s o.own) (sents d.past) e → outputs.StandsFor (conf_at s pts o.own) h.outlet.sources output (e ∷ sents d.past))
-    → IsTurned s pts table o.own (serve_leg s now media (table.terminals o.own) place (Some leg)) (state_then o output leg media place) after true octets
-leg_served s pts table o before after output place leg media now text octets h l n t f w k =
+    → text ≡ text_of_leg (table.terminals o.own) leg → slots.StandsFor s after (fetched o.own leg MOST_TEXT_OCTETS table)
+    → IsTurned s table o.own (serve_leg s now media (table.terminals o.own) place (Some leg)) media (kept_served place leg media text o) after (Some leg) text
+leg_served s table o before after place leg media now text h c l n t f =
     let d = table.terminals o.own in
-    let e = sent_of_leg s media d leg in
-    let is : text_of h.outlet.sources leg media text ≡ e = text_is h.outlet.sources leg media text e (h.outlet.are.each leg l) refl t in
-    let next = subst (λ (x : Sent). IsNext (stream s o.own) (sents d.past) x) (sym is) n in
     record {
-      outlet = stands_then s pts o d output place leg media now h.outlet l (subst (λ (x : Sent). outputs.StandsFor (conf_at s pts o.own) h.outlet.sources output (x ∷ sents d.past)) is (k next));
+      outlet = subst (λ (xs : List ℕ). StandsFor s o.own (kept_served place leg media xs o) (serve_leg s now media d place (Some leg))) (sym t) (stands_then s o d place leg media now h.outlet c l n);
       slots_stand = slots_then s table o.own leg place media now after f;
-      puts = puts_one pts (stream s o.own) (record { at = now; place = place; leg = leg; chunks = front MOST_TEXT_OCTETS (d.waits leg); sent = e }) d.past octets
-          (w next ∙ ap (λ (x : Sent). packet_written pts (packet_after (stream s o.own) (sents d.past) x)) is);
+      puts = puts_one true media (record { at = now; place = place; leg = leg; chunks = front MOST_TEXT_OCTETS (d.waits leg); sent = sent_of_leg s media d leg }) d.past text t refl;
     }

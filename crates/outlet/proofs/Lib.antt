@@ -1,4 +1,5 @@
 pub mod Below
+pub mod Repeating
 pub mod Putting
 pub mod AwareLooking
 pub mod AwareServing

@@ -1,13 +1,12 @@
 -- A turn of an outlet that is aware or not.
-use Rattle.std.proofs.Common.{◌≡◌, ℕ, Bool, List, refl, subst, sym}
-use Rattle.rtt_base.specs.declared.text_packets.Pts.{Pts}
+use Rattle.std.proofs.Common.{◌≡◌, ℕ, Bool, false, Option, List, refl, subst, sym}
 use Rattle.mixer_spec.specs.Setups.{Setup, stream}
-use Rattle.mixer_spec.specs.Table.{Terminal, Table, new_packet}
+use Rattle.mixer_spec.specs.Table.{Terminal, Table}
 use Rattle.slot_table.specs.Lanes.{Waiting}
 use Rattle.slot_table.specs.Standing as slots
 use Rattle.seating.specs.States.{State}
 use Rattle.outlet.specs.declared.outlets.Outlet.TheVariants.{Aware, Unaware}
-use Rattle.outlet.specs.Turns.{Puts, SendsNext, with_terminal}
+use Rattle.outlet.specs.Turns.{Puts, SendsNext, new_entry, with_terminal}
 use Rattle.outlet.specs.AwareStates.{AwareState}
 use Rattle.outlet.specs.AwareStanding as aware
 use Rattle.outlet.specs.AwareTurns as aware_turns
@@ -18,57 +17,58 @@ use Rattle.outlet.specs.UnawareStanding as unaware
 use Rattle.outlet.specs.Outlets.{IsTurn, IsTurned, turned_here}
 
 -- ---- an aware one, whose clauses speak of its own leg
-own_stands : (s : Setup) (pts : Pts) (j : ℕ) (table : Table) (o : AwareState) → aware.StandsFor s pts j o (table.terminals j) → aware.StandsFor s pts o.own o (table.terminals o.own)
-own_stands s pts j table o h = subst (λ (k : ℕ). aware.StandsFor s pts k o (table.terminals k)) (sym h.own) h
+own_stands : (s : Setup) (j : ℕ) (table : Table) (o : AwareState) → aware.StandsFor s j o (table.terminals j) → aware.StandsFor s o.own o (table.terminals o.own)
+own_stands s j table o h = subst (λ (k : ℕ). aware.StandsFor s k o (table.terminals k)) (sym h.own) h
 
-pub of_table : (s : Setup) (pts : Pts) (j : ℕ) (table : Table) (o : AwareState) (waiting : List Waiting) (P : Setup → ℕ → Terminal → Type 0) → aware.StandsFor s pts j o (table.terminals j)
-    → slots.StandsFor s waiting table → AtTable o waiting (λ s pts table d. P s o.own d) → P s j (table.terminals j)
-of_table s pts j table o waiting P h w f =
-    subst (λ (k : ℕ). P s k (table.terminals k)) h.own (f s pts table (record { outlet = own_stands s pts j table o h; slots_stand = w }))
+pub of_table : (s : Setup) (j : ℕ) (table : Table) (o : AwareState) (waiting : List Waiting) (P : Setup → ℕ → Terminal → Type 0) → aware.StandsFor s j o (table.terminals j)
+    → slots.StandsFor s waiting table → AtTable o waiting (λ s table d. P s o.own d) → P s j (table.terminals j)
+of_table s j table o waiting P h w f =
+    subst (λ (k : ℕ). P s k (table.terminals k)) h.own (f s table (record { outlet = own_stands s j table o h; slots_stand = w }))
 
-aware_at : (s : Setup) (pts : Pts) (j : ℕ) (table : Table) (o : AwareState) (places : State) (waiting : List Waiting) (called : List (List ℕ)) (now t : ℕ) → IsTurn s pts j table (Aware o) places waiting called now t
+aware_at : (s : Setup) (j : ℕ) (table : Table) (o : AwareState) (places : State) (waiting : List Waiting) (called : List (List ℕ)) (now t : ℕ) → IsTurn s j table (Aware o) places waiting called now t
     → turned_here s j now t table ≡ turned s table j now t
-aware_at s pts j table o places waiting called now t h = rw (h.seated, h.stands.0) refl
+aware_at s j table o places waiting called now t h = rw (h.seated, h.stands.0) refl
 
-pub aware_turned : (s : Setup) (pts : Pts) (j : ℕ) (table : Table) (o new : AwareState) (places : State) (waiting after : List Waiting) (called : List (List ℕ)) (now t : ℕ) (put : Bool) (out : List ℕ)
-    → IsTurn s pts j table (Aware o) places waiting called now t
-    → AtSeats o places waiting (λ s pts table d. (now : ℕ) → SendsNextAt s table o.own now t → aware_turns.IsTurned s pts table o.own (turned s table o.own now t) new after put out)
-    → IsTurned s pts j table now t (Aware new) after put out
-aware_turned s pts j table o new places waiting after called now t put out h f =
+pub aware_turned : (s : Setup) (j : ℕ) (table : Table) (o new : AwareState) (places : State) (waiting after : List Waiting) (called : List (List ℕ)) (now t : ℕ) (source : Option ℕ) (text : List ℕ)
+    → IsTurn s j table (Aware o) places waiting called now t
+    → AtSeats o places waiting (λ s table d. (now : ℕ) → SendsNextAt s table o.own now t → aware_turns.IsTurned s table o.own (turned s table o.own now t) t new after source text)
+    → IsTurned s j table now t (Aware new) after source text
+aware_turned s j table o new places waiting after called now t source text h f =
     let own = h.stands.1.own in
-    let at = aware_at s pts j table o places waiting called now t h in
+    let at = aware_at s j table o places waiting called now t h in
     let next : SendsNextAt s table j now t = subst (λ (x : Terminal). SendsNext (stream s j) (table.terminals j).past x.past) at h.next in
-    let there : IsSeatedIn s pts o places waiting table = record { there = record { outlet = own_stands s pts j table o h.stands.1; slots_stand = h.slots_stand }; seats_stand = h.seats_stand } in
-    let r = f s pts table there now (subst (λ (k : ℕ). SendsNextAt s table k now t) (sym own) next) in
-    let q = subst (λ (x : Terminal). aware_turns.IsTurned s pts table j x new after put out) (sym at)
-    (subst (λ (k : ℕ). aware_turns.IsTurned s pts table k (turned s table k now t) new after put out) own r) in
-    record { stands = (h.stands.0, q.outlet); slots_stand = q.slots_stand; puts = q.puts }
+    let there : IsSeatedIn s o places waiting table = record { there = record { outlet = own_stands s j table o h.stands.1; slots_stand = h.slots_stand }; seats_stand = h.seats_stand } in
+    let r = f s table there now (subst (λ (k : ℕ). SendsNextAt s table k now t) (sym own) next) in
+    let q = subst (λ (x : Terminal). aware_turns.IsTurned s table j x t new after source text) (sym at)
+    (subst (λ (k : ℕ). aware_turns.IsTurned s table k (turned s table k now t) t new after source text) own r) in
+    record { stands = (h.stands.0, q.outlet); slots_stand = q.slots_stand; puts = subst (λ (b : Bool). Puts b t (new_entry (table.terminals j).past (turned_here s j now t table).past) source text) (sym h.stands.0) q.puts }
 
 -- ---- another one
-unaware_at : (s : Setup) (pts : Pts) (j : ℕ) (table : Table) (o : UnawareState) (places : State) (waiting : List Waiting) (called : List (List ℕ)) (now t : ℕ) → IsTurn s pts j table (Unaware o) places waiting called now t
+unaware_at : (s : Setup) (j : ℕ) (table : Table) (o : UnawareState) (places : State) (waiting : List Waiting) (called : List (List ℕ)) (now t : ℕ) → IsTurn s j table (Unaware o) places waiting called now t
     → turned_here s j now t table ≡ unaware.turned_here s j now t table
-unaware_at s pts j table o places waiting called now t h = rw (h.seated, h.stands.0) refl
+unaware_at s j table o places waiting called now t h = rw (h.seated, h.stands.0) refl
 
-pub unaware_turn : (s : Setup) (pts : Pts) (j : ℕ) (table : Table) (o : UnawareState) (places : State) (waiting : List Waiting) (called : List (List ℕ)) (now t : ℕ) → IsTurn s pts j table (Unaware o) places waiting called now t
-    → unaware.IsTurn s pts j table o waiting called now t
-unaware_turn s pts j table o places waiting called now t h = record {
+pub unaware_turn : (s : Setup) (j : ℕ) (table : Table) (o : UnawareState) (places : State) (waiting : List Waiting) (called : List (List ℕ)) (now t : ℕ) → IsTurn s j table (Unaware o) places waiting called now t
+    → unaware.IsTurn s j table o waiting called now t
+unaware_turn s j table o places waiting called now t h = record {
   stands = h.stands.1;
   slots_stand = h.slots_stand;
   texts = h.texts;
   names = h.names;
-  next = subst (λ (x : Terminal). SendsNext (stream s j) (table.terminals j).past x.past) (unaware_at s pts j table o places waiting called now t h) h.next;
+  next = subst (λ (x : Terminal). SendsNext (stream s j) (table.terminals j).past x.past) (unaware_at s j table o places waiting called now t h) h.next;
 }
 
-pub unaware_turned : (s : Setup) (pts : Pts) (j : ℕ) (table : Table) (o new : UnawareState) (places : State) (waiting after : List Waiting) (called : List (List ℕ)) (now t : ℕ) (put : Bool) (out : List ℕ)
-    → IsTurn s pts j table (Unaware o) places waiting called now t
-    → unaware.StandsFor s pts j new (unaware.turned_here s j now t table)
+pub unaware_turned : (s : Setup) (j : ℕ) (table : Table) (o new : UnawareState) (places : State) (waiting after : List Waiting) (called : List (List ℕ)) (now t : ℕ) (source : Option ℕ) (text : List ℕ)
+    → IsTurn s j table (Unaware o) places waiting called now t
+    → unaware.StandsFor s j new (unaware.turned_here s j now t table)
     → slots.StandsFor s after (with_terminal j (unaware.turned_here s j now t table) table)
-    → Puts pts (new_packet (stream s j) (table.terminals j).past (unaware.turned_here s j now t table).past) put out
-    → IsTurned s pts j table now t (Unaware new) after put out
-unaware_turned s pts j table o new places waiting after called now t put out h a b c =
-    let at = sym (unaware_at s pts j table o places waiting called now t h) in
+    → Puts false t (unaware.entry_here s j now t table) source text
+    → IsTurned s j table now t (Unaware new) after source text
+unaware_turned s j table o new places waiting after called now t source text h a b c =
+    let at = sym (unaware_at s j table o places waiting called now t h) in
     record {
-      stands = (h.stands.0, subst (λ (x : Terminal). unaware.StandsFor s pts j new x) at a);
+      stands = (h.stands.0, subst (λ (x : Terminal). unaware.StandsFor s j new x) at a);
       slots_stand = subst (λ (x : Terminal). slots.StandsFor s after (with_terminal j x table)) at b;
-      puts = subst (λ (x : Terminal). Puts pts (new_packet (stream s j) (table.terminals j).past x.past) put out) at c;
+      puts = subst (λ (b : Bool). Puts b t (new_entry (table.terminals j).past (turned_here s j now t table).past) source text) (sym h.stands.0)
+          (subst (λ (x : Terminal). Puts false t (new_entry (table.terminals j).past x.past) source text) at c);
     }

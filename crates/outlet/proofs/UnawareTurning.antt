@@ -1,32 +1,33 @@
 -- A turn at a terminal that is not aware: from what its calls tell to what the outlet and the slots stand for.
-use Rattle.std.proofs.Common.{◌≡◌, ◌<◌, ℕ, ◌+◌, not, inl, inr, Bool, true, false, ◌&&◌, ◌||◌, Option, Some, None, List, [], ◌∷◌, refl, ap, subst, sym, ◌∙◌, arith}
-use Rattle.std.specs.Prelude.{is_some, nat_le, ◌==◌}
+use Rattle.std.proofs.Common.{◌≡◌, ◌<◌, ℕ, ◌+◌, ◌-◌, not, cond, inl, inr, Bool, true, false, ◌&&◌, ◌||◌, Option, Some, None, List, [], ◌∷◌, refl, ap, subst, sym, ◌∙◌, arith}
+use Rattle.std.specs.Prelude.{is_some, nat_le, nat_lt, ◌==◌}
 use Rattle.std.proofs.lemmas.Bool.{cases_eq, eq-eqb, le-leb}
-use Rattle.rtt_base.specs.declared.text_packets.Pts.{Pts}
-use Rattle.wire_spec.specs.SentPackets.{packet_written}
+use Rattle.wire_spec.specs.Packets.{has_text}
 use Rattle.stream_spec.specs.Ready.{Chunk}
-use Rattle.stream_spec.specs.Own.{Sent, sent_of, has_text_in, packet_after}
+use Rattle.stream_spec.specs.Own.{Sent, sent_of, has_text_in}
 use Rattle.mixer_spec.specs.Chunks.{has_chunk}
 use Rattle.mixer_spec.proofs.Lists.{set_same, set_other}
 use Rattle.mixer_spec.specs.Laws.{AreTexts}
 use Rattle.mixer_spec.specs.Setups.{Setup, stream}
 use Rattle.mixer_spec.specs.Composed.{waits_here, Answer, Asked, text_given, answer}
-use Rattle.mixer_spec.specs.Table.{TurnEntry, Terminal, Table, sents, sent_from, last_media, is_spaced, is_asked, answer_at, asked_at, repeated, compose, new_packet}
-use Rattle.aware_output.specs.Speakers.{IsNext}
-use Rattle.aware_output.specs.Standing as outputs
-use Rattle.aware_output.specs.States.{State as OutputState}
+use Rattle.mixer_spec.specs.Table.{TurnEntry, Terminal, Table, sents, sent_from, last_media, is_spaced, is_asked, answer_at, asked_at, repeated, compose}
+use Rattle.aware_output.specs.Speakers.{EachIsNext, IsNext}
 use Rattle.slot_table.specs.Lanes.{Waiting}
 use Rattle.slot_table.specs.Standing as slots
 use Rattle.slot_table.proofs.Sources.{stands_same}
-use Rattle.unaware_view.specs.States.{State as ComposerState}
 use Rattle.unaware_view.specs.Standing as composers
 use Rattle.unaware_view.specs.Standing.{NoneWaits, IsAsked, left_after, answered, asked_now, given_now}
-use Rattle.outlet.specs.Turns.{Puts, conf_at, free_after, with_terminal}
-use Rattle.outlet.specs.UnawareStates.{UnawareState, own_of}
-use Rattle.outlet.specs.UnawareStanding.{Composes, AreBy, IsTurn, Sends, StandsFor, sent_now, turned_here}
+use Rattle.outlet.specs.Turns.{Puts, SendsNext, free_after, new_entry, repeats_left, with_terminal}
+use Rattle.outlet.specs.UnawareStates.{SameLeg, UnawareState}
+use Rattle.outlet.specs.UnawareStanding.{AreBy, Composes, IsTurn, StandsFor, entry_here, kept_sent, turned_here}
 use Rattle.outlet.proofs.Putting.{puts_none, puts_one}
+use Rattle.outlet.proofs.Repeating.{still_left}
 
 -- ---- what a turn adds
+-- the text, sent of this source at this media time
+abbrev pub sent_now : ℕ → ℕ → List ℕ → Sent
+sent_now source media text = record { source = source; media = media; text = text }
+
 -- to these a packet with this text was added, or nothing
 abbrev pub Added : Setup → ℕ → List TurnEntry → List TurnEntry → List ℕ → Bool → Type 0
 Added s t before after text true = (e : TurnEntry) × (after ≡ e ∷ before) × (e.sent ≡ sent_now s.mixer t text)
@@ -66,6 +67,17 @@ waits_left s j now t table None i = refl
 waits_left s j now t table (Some g) i = ap (λ (x : Terminal). x.waits i) (set_same table.terminals j (left_after g (table.terminals j)) j refl)
 
 -- ---- what the calls tell
+-- Of the outlet o the composer was asked or not, and gave the text or none, which left `mid` and these slots; `due` says
+-- whether a text is still to be repeated, and `sends` whether a packet is sent.
+pub record Steps (s : Setup) (j t : ℕ) (table : Table) (o mid : UnawareState) (asked gave due sends : Bool) (text : List ℕ) (after : List Waiting) : Type 0 where
+  pub asked_is : asked ≡ nat_le o.free_at t
+  pub composes : Composes s table o.composer t asked (table.terminals j).asks gave text mid after
+  pub due_is : due ≡ nat_lt 0 mid.left
+  pub sends_is : sends ≡ (gave || (asked && due))
+  pub same : SameLeg o mid
+  pub repeats : (mid.gens ≡ o.gens) × (mid.left ≡ o.left)
+  pub times : (mid.spacing ≡ o.spacing) × (mid.free_at ≡ o.free_at)
+
 -- The composer was asked, gave the text or none, and is that of the outlet o then; these are the slots then. `sends` says
 -- whether a packet is sent.
 pub record Told (s : Setup) (j t : ℕ) (table : Table) (asked gave due sends : Bool) (text : List ℕ) (o : UnawareState) (after : List Waiting) : Type 0 where
@@ -83,52 +95,56 @@ spaced_is : (spacing t : ℕ) (o : Option ℕ) → nat_le (free_after spacing o)
 spaced_is spacing t None = le-leb 0 t (omega arith)
 spaced_is spacing t (Some m) = refl
 
-pub asked_of : (s : Setup) (pts : Pts) (j t : ℕ) (o : UnawareState) (d : Terminal) → StandsFor s pts j o d → nat_le o.free_at t ≡ is_asked s t d
-asked_of s pts j t o d h = ap (λ (n : ℕ). nat_le n t) h.free ∙ spaced_is s.spacing t (last_media (sent_from s.mixer d))
+asked_of : (s : Setup) (j t : ℕ) (o : UnawareState) (d : Terminal) → StandsFor s j o d → nat_le o.free_at t ≡ is_asked s t d
+asked_of s j t o d h = ap (λ (n : ℕ). nat_le n t) h.free ∙ spaced_is s.spacing t (last_media (sent_from s.mixer d))
+
+-- a text of the mixer is still to be repeated
+pub due_here : (s : Setup) (j : ℕ) (o : UnawareState) (d : Terminal) → StandsFor s j o d → nat_lt 0 o.left ≡ has_text_in (s.gens j) (sent_from s.mixer d)
+due_here s j o d h = ap (λ (n : ℕ). nat_lt 0 n) h.left ∙ sym (still_left (s.gens j) (sent_from s.mixer d))
 
 -- the premises of an ask of the composer
-pub is_asked_so : (s : Setup) (pts : Pts) (j : ℕ) (table : Table) (now t : ℕ) (o : UnawareState) (waiting : List Waiting) (called : List (List ℕ)) → IsTurn s pts j table o waiting called now t
+pub is_asked_so : (s : Setup) (j : ℕ) (table : Table) (now t : ℕ) (o : UnawareState) (waiting : List Waiting) (called : List (List ℕ)) → IsTurn s j table o waiting called now t
     → IsAsked s table o.composer waiting called (table.terminals j).asks
-is_asked_so s pts j table now t o waiting called h = record {
+is_asked_so s j table now t o waiting called h = record {
   stands = h.stands.composer;
   slots_stand = h.slots_stand;
   texts = subst (λ (k : ℕ). (i : ℕ) → AreTexts ((table.terminals k).waits i)) (sym h.stands.own) h.texts;
   names = h.names;
 }
 
-pub rests_so : (s : Setup) (pts : Pts) (j : ℕ) (table : Table) (o : UnawareState) → StandsFor s pts j o (table.terminals j) → o.none_waits ≡ true → NoneWaits s table o.composer
-rests_so s pts j table o h e = λ i l. subst (λ (x : ℕ). waits_here x (table.terminals x).waits i ≡ false) (sym h.own) (h.rests e i l)
+pub rests_so : (s : Setup) (j : ℕ) (table : Table) (o : UnawareState) → StandsFor s j o (table.terminals j) → o.none_waits ≡ true → NoneWaits s table o.composer
+rests_so s j table o h e = λ i l. subst (λ (x : ℕ). waits_here x (table.terminals x).waits i ≡ false) (sym h.own) (h.rests e i l)
 
 -- the answer is that of the definition
-pub given_is : (s : Setup) (pts : Pts) (j : ℕ) (table : Table) (t : ℕ) (o : UnawareState) (asked : Bool) → StandsFor s pts j o (table.terminals j) → asked ≡ is_asked s t (table.terminals j)
+given_is : (s : Setup) (j : ℕ) (table : Table) (t : ℕ) (o : UnawareState) (asked : Bool) → StandsFor s j o (table.terminals j) → asked ≡ is_asked s t (table.terminals j)
     → given_now s table o.composer t asked (table.terminals j).asks ≡ answer_at s j t (table.terminals j)
-given_is s pts j table t o asked h e =
+given_is s j table t o asked h e =
     ap (λ (k : ℕ). answer s.legs s.name k t asked (table.terminals k).waits (table.terminals j).asks) h.own
     ∙ ap (λ (b : Bool). answer s.legs s.name j t b (table.terminals j).waits (table.terminals j).asks) e
 
-pub told : (s : Setup) (pts : Pts) (j : ℕ) (table : Table) (t : ℕ) (o new : UnawareState) (asked gave due sends : Bool) (text : List ℕ) (after : List Waiting)
-    → StandsFor s pts j o (table.terminals j) → asked ≡ nat_le o.free_at t → Composes s table o.composer t asked (table.terminals j).asks gave text new after
-    → due ≡ has_text_in (s.gens j) (sent_from s.mixer (table.terminals j)) → sends ≡ (gave || (asked && due)) → Told s j t table asked gave due sends text new after
-told s pts j table t o new asked gave due sends text after h a p d b =
-    let asked_is = a ∙ asked_of s pts j t o (table.terminals j) h in
-    let same = given_is s pts j table t o asked h asked_is in
+told : (s : Setup) (j t : ℕ) (table : Table) (o mid : UnawareState) (asked gave due sends : Bool) (text : List ℕ) (after : List Waiting) → StandsFor s j o (table.terminals j)
+    → Steps s j t table o mid asked gave due sends text after → Told s j t table asked gave due sends text mid after
+told s j t table o mid asked gave due sends text after h w =
+    let p = w.composes in
+    let asked_is = w.asked_is ∙ asked_of s j t o (table.terminals j) h in
+    let same = given_is s j table t o asked h asked_is in
     let answer = answer_at s j t (table.terminals j) in
     record {
       asked_is = asked_is;
       given = p.given ∙ ap is_some same;
       text_is = p.text_is ∙ ap text_given same;
-      composer = subst (λ (k : ℕ). composers.StandsFor s new.composer (record { media = t; waiting = λ i. has_chunk ((table.terminals k).waits i); given = answer } ∷ (table.terminals j).asks)) h.own
-          (subst (λ (y : Option Answer). composers.StandsFor s new.composer (record { media = t; waiting = λ i. has_chunk ((table.terminals o.composer.own).waits i); given = y } ∷ (table.terminals j).asks)) same p.composer);
+      composer = subst (λ (k : ℕ). composers.StandsFor s mid.composer (record { media = t; waiting = λ i. has_chunk ((table.terminals k).waits i); given = answer } ∷ (table.terminals j).asks)) h.own
+          (subst (λ (y : Option Answer). composers.StandsFor s mid.composer (record { media = t; waiting = λ i. has_chunk ((table.terminals o.composer.own).waits i); given = y } ∷ (table.terminals j).asks)) same p.composer);
       slots_stand = subst (λ (k : ℕ). slots.StandsFor s after (answered k answer table)) h.own
           (subst (λ (y : Option Answer). slots.StandsFor s after (answered o.composer.own y table)) same p.slots_stand);
       rests = λ e i l. subst (λ (k : ℕ). waits_here k ((answered k answer table).terminals k).waits i ≡ false) h.own
           (subst (λ (y : Option Answer). waits_here o.composer.own ((answered o.composer.own y table).terminals o.composer.own).waits i ≡ false) same (p.rests e i l));
-      due_is = d;
-      sends_is = b;
+      due_is = w.due_is ∙ (ap (λ (n : ℕ). nat_lt 0 n) w.repeats.1 ∙ due_here s j o (table.terminals j) h);
+      sends_is = w.sends_is;
     }
 
 -- ---- what follows
-pub added_here : (s : Setup) (j now t : ℕ) (table : Table) (asked gave due sends : Bool) (text : List ℕ) (new : UnawareState) (after : List Waiting) → Told s j t table asked gave due sends text new after
+added_here : (s : Setup) (j now t : ℕ) (table : Table) (asked gave due sends : Bool) (text : List ℕ) (new : UnawareState) (after : List Waiting) → Told s j t table asked gave due sends text new after
     → Added s t (table.terminals j).past (turned_here s j now t table).past text sends
 added_here s j now t table asked gave due sends text new after h =
     let d = table.terminals j in
@@ -137,7 +153,7 @@ added_here s j now t table asked gave due sends text new after h =
     subst (λ (b : Bool). Added s t d.past (turned_here s j now t table).past text b) (sym is)
     (subst (λ (x : List ℕ). Added s t d.past (turned_here s j now t table).past x (is_some o || (is_asked s t d && has_text_in (s.gens j) (sent_from s.mixer d)))) (sym h.text_is) (added s j now t d o))
 
-pub waits_stand : (s : Setup) (j now t : ℕ) (table : Table) (asked gave due sends : Bool) (text : List ℕ) (new : UnawareState) (after : List Waiting) → Told s j t table asked gave due sends text new after
+waits_stand : (s : Setup) (j now t : ℕ) (table : Table) (asked gave due sends : Bool) (text : List ℕ) (new : UnawareState) (after : List Waiting) → Told s j t table asked gave due sends text new after
     → slots.StandsFor s after (with_terminal j (turned_here s j now t table) table)
 waits_stand s j now t table asked gave due sends text new after h =
     let o = answer_at s j t (table.terminals j) in
@@ -151,75 +167,86 @@ waits_stand s j now t table asked gave due sends text new after h =
     seats_same None k = refl
     seats_same (Some g) k = refl
 
--- what was sent may be
-pub may_send : (s : Setup) (pts : Pts) (j now t : ℕ) (table : Table) (o : UnawareState) (waiting : List Waiting) (called : List (List ℕ)) (text : List ℕ) → IsTurn s pts j table o waiting called now t
-    → Added s t (table.terminals j).past (turned_here s j now t table).past text true → IsNext (stream s j) (sents (table.terminals j).past) (sent_now s.mixer t text)
-may_send s pts j now t table o waiting called text h a = subst (λ (e : Sent). IsNext (stream s j) (sents (table.terminals j).past) e) a.2 (h.next a.0 a.1)
-
-last_sent : (s : Setup) (t : ℕ) (text : List ℕ) (es : List Sent) → last_media (sent_of s.mixer (sent_now s.mixer t text ∷ es)) ≡ Some t
-last_sent s t text es = rw (eq-eqb s.mixer s.mixer refl) refl
-
 -- nothing waits where that is known
 none_left : (s : Setup) (j now t : ℕ) (table : Table) (asked gave due sends : Bool) (text : List ℕ) (new : UnawareState) (after : List Waiting) → Told s j t table asked gave due sends text new after
     → new.none_waits ≡ true → (i : ℕ) → i < s.legs → waits_here j (turned_here s j now t table).waits i ≡ false
 none_left s j now t table asked gave due sends text new after h e i l =
     ap (λ (cs : List Chunk). not (i == j) && has_chunk cs) (sym (waits_left s j now t table (answer_at s j t (table.terminals j)) i)) ∙ h.rests e i l
 
--- a packet was sent: the outlet asked comes to `new`
-pub stands_sent : (s : Setup) (pts : Pts) (j now t : ℕ) (table : Table) (o mid new : UnawareState) (asked gave due sends : Bool) (text : List ℕ) (after : List Waiting) (out : List ℕ)
-    → StandsFor s pts j o (table.terminals j) → Told s j t table asked gave due sends text mid after → Added s t (table.terminals j).past (turned_here s j now t table).past text true
-    → Sends (conf_at s pts j) s.mixer mid.spacing new (sents (table.terminals j).past) (sent_now s.mixer t text) out
-    → own_of mid ≡ own_of o → mid.spacing ≡ o.spacing → new.composer ≡ mid.composer → new.spacing ≡ mid.spacing → new.none_waits ≡ mid.none_waits
-    → StandsFor s pts j new (turned_here s j now t table)
-stands_sent s pts j now t table o mid new asked gave due sends text after out h p a w own spacing ce se ne =
+-- ---- the turn is over
+pub record IsOver (s : Setup) (j now t : ℕ) (table : Table) (o : UnawareState) (after : List Waiting) (source : Option ℕ) (text : List ℕ) : Type 0 where
+  pub stands : StandsFor s j o (turned_here s j now t table)
+  pub waits : slots.StandsFor s after (with_terminal j (turned_here s j now t table) table)
+  pub puts : Puts false t (entry_here s j now t table) source text
+
+-- a packet was sent
+stands_sent : (s : Setup) (j now t : ℕ) (table : Table) (o mid : UnawareState) (asked gave due sends : Bool) (text : List ℕ) (after : List Waiting) → StandsFor s j o (table.terminals j)
+    → Steps s j t table o mid asked gave due sends text after → Told s j t table asked gave due sends text mid after → SendsNext (stream s j) (table.terminals j).past (turned_here s j now t table).past
+    → Added s t (table.terminals j).past (turned_here s j now t table).past text true → StandsFor s j (kept_sent t text mid) (turned_here s j now t table)
+stands_sent s j now t table o mid asked gave due sends text after h w p next a =
     let d = table.terminals j in
-    let es : sent_now s.mixer t text ∷ sents d.past ≡ sents (turned_here s j now t table).past =
-    ap (λ (e : Sent). e ∷ sents d.past) (sym a.2) ∙ sym (ap (λ (xs : List TurnEntry). sents xs) a.1) in
+    let e = sent_now s.mixer t text in
+    let es : e ∷ sents d.past ≡ sents (turned_here s j now t table).past =
+    ap (λ (x : Sent). x ∷ sents d.past) (sym a.2) ∙ sym (ap (λ (xs : List TurnEntry). sents xs) a.1) in
+    let own : sent_of s.mixer (e ∷ sents d.past) ≡ e ∷ sent_of s.mixer (sents d.past) = rw (eq-eqb s.mixer s.mixer refl) refl in
+    let mixed : e ∷ sent_from s.mixer d ≡ sent_from s.mixer (turned_here s j now t table) = sym own ∙ ap (λ (xs : List Sent). sent_of s.mixer xs) es in
     record {
       setup = h.setup;
-      own = ap (λ (x : ComposerState). x.own) ce ∙ (own ∙ h.own);
+      own = w.same.0 ∙ h.own;
       leg = h.leg;
-      spacing = se ∙ (spacing ∙ h.spacing);
-      composer = subst (λ (x : ComposerState). composers.StandsFor s x (turned_here s j now t table).asks) (sym ce)
-          (subst (λ (xs : List Asked). composers.StandsFor s mid.composer xs) (sym (asks_are s j now t d (answer_at s j t d))) p.composer);
-      output = subst (λ (xs : List Sent). outputs.StandsFor (conf_at s pts j) (s.mixer ∷ []) new.output xs) es w.output;
-      free = w.free ∙ (ap (λ (n : ℕ). t + n) (spacing ∙ h.spacing)
-          ∙ (ap (λ (x : Option ℕ). free_after s.spacing x) (sym (last_sent s t text (sents d.past)))
-          ∙ ap (λ (xs : List Sent). free_after s.spacing (last_media (sent_of s.mixer xs))) es));
+      spacing = w.times.0 ∙ h.spacing;
+      composer = subst (λ (xs : List Asked). composers.StandsFor s mid.composer xs) (sym (asks_are s j now t d (answer_at s j t d))) p.composer;
+      gens = w.repeats.0 ∙ h.gens;
+      sent = subst (λ (xs : List Sent). EachIsNext (stream s j) xs) es (subst (λ (x : Sent). IsNext (stream s j) (sents d.past) x) a.2 (next a.0 a.1), h.sent);
+      left = (λ r. cond (has_text text) ((w.repeats.0 ∙ h.gens) r) ((w.repeats.1 ∙ h.left) r - 1)) ∙ ap (λ (xs : List Sent). repeats_left (s.gens j) xs) mixed;
+      free = ap (λ (n : ℕ). t + n) (w.times.0 ∙ h.spacing) ∙ ap (λ (xs : List Sent). free_after s.spacing (last_media xs)) mixed;
       by_mixer = subst (λ (xs : List Sent). AreBy s.mixer xs) es (refl, h.by_mixer);
-      rests = λ e. none_left s j now t table asked gave due sends text mid after p (sym ne ∙ e);
+      rests = none_left s j now t table asked gave due sends text mid after p;
+    }
+
+pub sent_so : (s : Setup) (j now t : ℕ) (table : Table) (o mid new : UnawareState) (waiting : List Waiting) (called : List (List ℕ)) (asked gave due sends : Bool) (text : List ℕ) (after : List Waiting)
+    → IsTurn s j table o waiting called now t → Steps s j t table o mid asked gave due sends text after → sends ≡ true → new ≡ kept_sent t text mid → IsOver s j now t table new after (Some 0) text
+sent_so s j now t table o mid new waiting called asked gave due sends text after h w b n =
+    let before = (table.terminals j).past in
+    let p = told s j t table o mid asked gave due sends text after h.stands w in
+    let a = subst (λ (y : Bool). Added s t before (turned_here s j now t table).past text y) b (added_here s j now t table asked gave due sends text mid after p) in
+    record {
+      stands = subst (λ (x : UnawareState). StandsFor s j x (turned_here s j now t table)) (sym n) (stands_sent s j now t table o mid asked gave due sends text after h.stands w p h.next a);
+      waits = waits_stand s j now t table asked gave due sends text mid after p;
+      puts = subst (λ (xs : List TurnEntry). Puts false t (new_entry before xs) (Some 0) text) (sym a.1)
+          (puts_one false t a.0 before text (ap (λ (x : Sent). x.text) (sym a.2)) (ap (λ (x : Sent). x.media) a.2));
     }
 
 -- none was
-pub stands_silent : (s : Setup) (pts : Pts) (j now t : ℕ) (table : Table) (o new : UnawareState) (asked gave due sends : Bool) (text : List ℕ) (after : List Waiting)
-    → StandsFor s pts j o (table.terminals j) → Told s j t table asked gave due sends text new after → Added s t (table.terminals j).past (turned_here s j now t table).past text false
-    → own_of new ≡ own_of o → new.output ≡ o.output → new.spacing ≡ o.spacing → new.free_at ≡ o.free_at → StandsFor s pts j new (turned_here s j now t table)
-stands_silent s pts j now t table o new asked gave due sends text after h p a own oe se fe =
+stands_silent : (s : Setup) (j now t : ℕ) (table : Table) (o mid : UnawareState) (asked gave due sends : Bool) (text : List ℕ) (after : List Waiting) → StandsFor s j o (table.terminals j)
+    → Steps s j t table o mid asked gave due sends text after → Told s j t table asked gave due sends text mid after
+    → Added s t (table.terminals j).past (turned_here s j now t table).past text false → StandsFor s j mid (turned_here s j now t table)
+stands_silent s j now t table o mid asked gave due sends text after h w p a =
     let d = table.terminals j in
     let es : sents d.past ≡ sents (turned_here s j now t table).past = sym (ap (λ (xs : List TurnEntry). sents xs) a) in
+    let mixed : sent_from s.mixer d ≡ sent_from s.mixer (turned_here s j now t table) = ap (λ (xs : List Sent). sent_of s.mixer xs) es in
     record {
       setup = h.setup;
-      own = own ∙ h.own;
+      own = w.same.0 ∙ h.own;
       leg = h.leg;
-      spacing = se ∙ h.spacing;
-      composer = subst (λ (xs : List Asked). composers.StandsFor s new.composer xs) (sym (asks_are s j now t d (answer_at s j t d))) p.composer;
-      output = subst (λ (x : OutputState). outputs.StandsFor (conf_at s pts j) (s.mixer ∷ []) x (sents (turned_here s j now t table).past)) (sym oe)
-          (subst (λ (xs : List Sent). outputs.StandsFor (conf_at s pts j) (s.mixer ∷ []) o.output xs) es h.output);
-      free = fe ∙ (h.free ∙ ap (λ (xs : List Sent). free_after s.spacing (last_media (sent_of s.mixer xs))) es);
+      spacing = w.times.0 ∙ h.spacing;
+      composer = subst (λ (xs : List Asked). composers.StandsFor s mid.composer xs) (sym (asks_are s j now t d (answer_at s j t d))) p.composer;
+      gens = w.repeats.0 ∙ h.gens;
+      sent = subst (λ (xs : List Sent). EachIsNext (stream s j) xs) es h.sent;
+      left = w.repeats.1 ∙ (h.left ∙ ap (λ (xs : List Sent). repeats_left (s.gens j) xs) mixed);
+      free = w.times.1 ∙ (h.free ∙ ap (λ (xs : List Sent). free_after s.spacing (last_media xs)) mixed);
       by_mixer = subst (λ (xs : List Sent). AreBy s.mixer xs) es h.by_mixer;
-      rests = none_left s j now t table asked gave due sends text new after p;
+      rests = none_left s j now t table asked gave due sends text mid after p;
     }
 
-pub puts_sent : (s : Setup) (pts : Pts) (j now t : ℕ) (table : Table) (spacing : ℕ) (new : UnawareState) (text : List ℕ) (out : List ℕ)
-    → Added s t (table.terminals j).past (turned_here s j now t table).past text true
-    → Sends (conf_at s pts j) s.mixer spacing new (sents (table.terminals j).past) (sent_now s.mixer t text) out
-    → Puts pts (new_packet (stream s j) (table.terminals j).past (turned_here s j now t table).past) true out
-puts_sent s pts j now t table spacing new text out a w =
+pub silent_so : (s : Setup) (j now t : ℕ) (table : Table) (o mid : UnawareState) (waiting : List Waiting) (called : List (List ℕ)) (asked gave due sends : Bool) (text : List ℕ) (after : List Waiting)
+    → IsTurn s j table o waiting called now t → Steps s j t table o mid asked gave due sends text after → sends ≡ false → IsOver s j now t table mid after None text
+silent_so s j now t table o mid waiting called asked gave due sends text after h w b =
     let before = (table.terminals j).past in
-    let written : out ≡ packet_written pts (packet_after (stream s j) (sents before) a.0.sent) = w.out_is ∙ ap (λ (e : Sent). packet_written pts (packet_after (stream s j) (sents before) e)) (sym a.2) in
-    subst (λ (xs : List TurnEntry). Puts pts (new_packet (stream s j) before xs) true out) (sym a.1) (puts_one pts (stream s j) a.0 before out written)
-
-pub puts_silent : (s : Setup) (pts : Pts) (j now t : ℕ) (table : Table) (text out : List ℕ) → Added s t (table.terminals j).past (turned_here s j now t table).past text false
-    → Puts pts (new_packet (stream s j) (table.terminals j).past (turned_here s j now t table).past) false out
-puts_silent s pts j now t table text out a =
-    subst (λ (xs : List TurnEntry). Puts pts (new_packet (stream s j) (table.terminals j).past xs) false out) (sym a) (puts_none pts (stream s j) (table.terminals j).past out)
+    let p = told s j t table o mid asked gave due sends text after h.stands w in
+    let a = subst (λ (y : Bool). Added s t before (turned_here s j now t table).past text y) b (added_here s j now t table asked gave due sends text mid after p) in
+    record {
+      stands = stands_silent s j now t table o mid asked gave due sends text after h.stands w p a;
+      waits = waits_stand s j now t table asked gave due sends text mid after p;
+      puts = subst (λ (xs : List TurnEntry). Puts false t (new_entry before xs) None text) (sym a) (puts_none false t before text);
+    }

@@ -5,10 +5,10 @@ use Rattle.outlet.specs.AwareStates.{AwareState}
 use Rattle.mixer_spec.specs.declared.limits.TheConstants.{PLACES}
 
 abbrev pub state_of : Inside → AwareState
-state_of o = record { own = o.own; spacing = o.spacing; output = o.output; free_at = o.free_at.items; next = o.next; quiet = o.quiet }
+state_of o = record { own = o.own; spacing = o.spacing; gens = o.gens; left = o.left.items; free_at = o.free_at.items; next = o.next; quiet = o.quiet }
 
--- each leg is a source of the output, and has a moment
+-- each leg has a count and a moment
 pub record IsSound (o : Inside) : Type 0 where
-  pub legs : length o.output.speakers ≡ length o.free_at.items
+  pub legs : length o.left.items ≡ length o.free_at.items
   pub own : o.own < length o.free_at.items
   pub next : o.next ≤ PLACES

@@ -1,13 +1,13 @@
 -- What is kept of an aware terminal.
 use Rattle.std.specs.Prelude.{◌≡◌, ℕ, Bool, List, length}
-use Rattle.aware_output.specs.States.{State}
 
--- its leg, the spacing, its output, from when each leg may be served again, the place after the one served last, and
--- whether it is known to be quiet
+-- its leg, the spacing, how often a text is repeated, how many packets of each leg are still to repeat its last text, from when
+-- each leg may be served again, the place after the one served last, and whether it is known to be quiet
 pub record AwareState : Type 0 where
   pub own : ℕ
   pub spacing : ℕ
-  pub output : State
+  pub gens : ℕ
+  pub left : List ℕ
   pub free_at : List ℕ
   pub next : ℕ
   pub quiet : Bool

@@ -1,31 +1,31 @@
 -- What a turn of an aware terminal finds, and what it comes to.
-use Rattle.std.specs.Prelude.{ℕ, ◌+◌, ◌<◌, Bool, true, false, Some, List, slice_set}
-use Rattle.rtt_base.specs.declared.text_packets.Pts.{Pts}
+use Rattle.std.specs.Prelude.{ℕ, ◌+◌, ◌-◌, ◌<◌, Bool, true, false, Option, Some, List, slice_index, slice_set, if◌then◌else◌}
+use Rattle.wire_spec.specs.Packets.{has_text}
 use Rattle.stream_spec.specs.Own.{Sent}
 use Rattle.stream_spec.specs.Ready.{Chunk}
 use Rattle.mixer_spec.specs.Chunks.{joined, front}
 use Rattle.mixer_spec.specs.Setups.{Setup, stream}
-use Rattle.mixer_spec.specs.Table.{Terminal, Table, is_spaced, last_media, new_packet, sent_from, sents, serve_leg}
+use Rattle.mixer_spec.specs.Table.{Terminal, Table, is_spaced, last_media, sent_from, sents, serve_leg}
 use Rattle.aware_output.specs.Speakers.{IsNext}
 use Rattle.slot_table.specs.Lanes.{Waiting}
 use Rattle.slot_table.specs.Standing as slots
-use Rattle.outlet.specs.Turns.{Puts, with_terminal}
+use Rattle.outlet.specs.Turns.{Puts, new_entry, with_terminal}
 use Rattle.outlet.specs.AwareStates.{AwareState}
 use Rattle.outlet.specs.AwareStanding.{StandsFor}
 use Rattle.rtt_base.specs.declared.limits.TheConstants.{MOST_TEXT_OCTETS}
 
 -- of each terminal for which the outlet stands
-abbrev pub AtTerminal : AwareState → (Setup → Pts → Terminal → Type 0) → Type 0
-AtTerminal o P = (s : Setup) (pts : Pts) (d : Terminal) → StandsFor s pts o.own o d → P s pts d
+abbrev pub AtTerminal : AwareState → (Setup → Terminal → Type 0) → Type 0
+AtTerminal o P = (s : Setup) (d : Terminal) → StandsFor s o.own o d → P s d
 
 -- The outlet stands for the terminal of its leg in this table, and the slots for the table.
-pub record IsIn (s : Setup) (pts : Pts) (o : AwareState) (now : List Waiting) (table : Table) : Type 0 where
-  pub outlet : StandsFor s pts o.own o (table.terminals o.own)
+pub record IsIn (s : Setup) (o : AwareState) (now : List Waiting) (table : Table) : Type 0 where
+  pub outlet : StandsFor s o.own o (table.terminals o.own)
   pub slots_stand : slots.StandsFor s now table
 
 -- of each such table, with the terminal
-abbrev pub AtTable : AwareState → List Waiting → (Setup → Pts → Table → Terminal → Type 0) → Type 0
-AtTable o now P = (s : Setup) (pts : Pts) (table : Table) → IsIn s pts o now table → P s pts table (table.terminals o.own)
+abbrev pub AtTable : AwareState → List Waiting → (Setup → Table → Terminal → Type 0) → Type 0
+AtTable o now P = (s : Setup) (table : Table) → IsIn s o now table → P s table (table.terminals o.own)
 
 -- whether a packet of the leg may be sent at this media time, as far as its last packet goes
 abbrev pub is_free : Setup → ℕ → Terminal → ℕ → Bool
@@ -39,24 +39,33 @@ text_of_leg d leg = joined (front MOST_TEXT_OCTETS (d.waits leg))
 abbrev pub sent_of_leg : Setup → ℕ → Terminal → ℕ → Sent
 sent_of_leg s media d leg = record { source = s.ssrc leg; media = media; text = text_of_leg d leg }
 
--- A turn of the terminal j is over, which came to d: these are its outlet and the slots then, and whether a packet was put
--- out, with its octets.
-pub record IsTurned (s : Setup) (pts : Pts) (table : Table) (j : ℕ) (d : Terminal) (o : AwareState) (now : List Waiting) (put : Bool) (out : List ℕ) : Type 0 where
-  pub outlet : StandsFor s pts j o d
+-- A turn of the terminal j with the media time t is over, which came to d: these are its outlet and the slots then, and of
+-- which source what text is sent, if anything is.
+pub record IsTurned (s : Setup) (table : Table) (j : ℕ) (d : Terminal) (t : ℕ) (o : AwareState) (now : List Waiting) (source : Option ℕ) (text : List ℕ) : Type 0 where
+  pub outlet : StandsFor s j o d
   pub slots_stand : slots.StandsFor s now (with_terminal j d table)
-  pub puts : Puts pts (new_packet (stream s j) (table.terminals j).past d.past) put out
+  pub puts : Puts true t (new_entry (table.terminals j).past d.past) source text
 
--- a packet of the leg that holds the place was put out at this media time
+-- text of the leg that holds the place is sent at this media time
 abbrev pub ServesLeg : AwareState → List Waiting → (place leg media : ℕ) → AwareState → List Waiting → List ℕ → Type 0
-ServesLeg o waiting place leg media o' waiting' out = AtTable o waiting (λ s pts table d. (now : ℕ) → leg < s.legs
+ServesLeg o waiting place leg media o' waiting' text = AtTable o waiting (λ s table d. (now : ℕ) → leg < s.legs
     → IsNext (stream s o.own) (sents d.past) (sent_of_leg s media d leg)
-    → IsTurned s pts table o.own (serve_leg s now media d place (Some leg)) o' waiting' true out)
+    → IsTurned s table o.own (serve_leg s now media d place (Some leg)) media o' waiting' (Some leg) text)
 
 -- it stands for the same terminal, whatever waits there
 abbrev pub StandsWoken : AwareState → AwareState → Type 0
-StandsWoken old new = AtTerminal old (λ s pts d. (waits : ℕ → List Chunk)
-    → StandsFor s pts old.own new (record { past = d.past; asks = d.asks; waits = waits }))
+StandsWoken old new = AtTerminal old (λ s d. (waits : ℕ → List Chunk)
+    → StandsFor s old.own new (record { past = d.past; asks = d.asks; waits = waits }))
 
--- the outlet behind a packet of the leg that holds the place
-abbrev pub kept_served : ℕ → ℕ → ℕ → AwareState → AwareState
-kept_served place leg media o = record o { free_at = slice_set o.free_at leg (media + o.spacing); next = place + 1; quiet = false }
+-- how many packets of the leg are still to repeat its last text, behind one with this text
+abbrev pub left_behind : ℕ → List ℕ → AwareState → ℕ
+left_behind leg text o = if has_text text then o.gens else slice_index o.left leg - 1
+
+-- the outlet behind a packet of the leg that holds the place, with this text
+abbrev pub kept_served : ℕ → ℕ → ℕ → List ℕ → AwareState → AwareState
+kept_served place leg media text o = record o {
+  left = slice_set o.left leg (left_behind leg text o);
+  free_at = slice_set o.free_at leg (media + o.spacing);
+  next = place + 1;
+  quiet = false;
+}

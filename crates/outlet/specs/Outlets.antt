@@ -1,11 +1,9 @@
 -- What the outlet of a terminal stands for, be the terminal aware or not (profile).
-use Rattle.std.specs.Prelude.{◌≡◌, ◌<◌, ℕ, Bool, true, false, List, length}
-use Rattle.rtt_base.specs.declared.text_packets.Pts.{Pts}
+use Rattle.std.specs.Prelude.{◌≡◌, ◌<◌, ℕ, Bool, true, false, Option, List, length}
 use Rattle.stream_spec.specs.Ready.{Chunk}
 use Rattle.mixer_spec.specs.Setups.{Setup, stream}
 use Rattle.mixer_spec.specs.Laws.{AreTexts}
-use Rattle.mixer_spec.specs.Table.{Terminal, Table, empty, is_seated, new_packet, turn_at}
-use Rattle.aware_output.specs.declared.outputs.OutConf.{OutConf}
+use Rattle.mixer_spec.specs.Table.{Terminal, Table, empty, is_seated, turn_at}
 use Rattle.slot_table.specs.Lanes.{Waiting}
 use Rattle.slot_table.specs.Standing as slots
 use Rattle.seating.specs.States.{State}
@@ -13,7 +11,7 @@ use Rattle.seating.specs.Standing as seatings
 use Rattle.unaware_view.specs.Standing.{name_at}
 use Rattle.outlet.specs.declared.outlets.Outlet.{Outlet}
 use Rattle.outlet.specs.declared.outlets.Outlet.TheVariants.{Aware, Unaware}
-use Rattle.outlet.specs.Turns.{Puts, SendsNext, with_terminal}
+use Rattle.outlet.specs.Turns.{Puts, SendsNext, new_entry, with_terminal}
 use Rattle.outlet.specs.AwareStanding as aware
 use Rattle.outlet.specs.AwareStanding.{IsMadeFor}
 use Rattle.outlet.specs.UnawareStates as unaware_state
@@ -29,35 +27,40 @@ abbrev pub legs_of : Outlet → ℕ
 legs_of (Aware o) = length o.free_at
 legs_of (Unaware o) = unaware_state.legs_of o
 
--- it is of the same leg, and of as many
+-- how many sources its terminal is sent: all legs, or the mixer alone
+abbrev pub sources_of : Outlet → ℕ
+sources_of (Aware o) = length o.free_at
+sources_of (Unaware o) = 1
+
+-- it is of the same leg, of as many, and of as many sources
 abbrev pub SameLeg : Outlet → Outlet → Type 0
-SameLeg old new = (own_of new ≡ own_of old) × (legs_of new ≡ legs_of old)
+SameLeg old new = (own_of new ≡ own_of old) × (legs_of new ≡ legs_of old) × (sources_of new ≡ sources_of old)
 
 -- the least media time of the next turn
 abbrev pub next_turn : Outlet → ℕ
 next_turn (Aware o) = 0
 next_turn (Unaware o) = unaware_state.next_turn o
 
--- This was sent to the terminal j, with these payload types.
-abbrev pub StandsFor : Setup → Pts → ℕ → Outlet → Terminal → Type 0
-StandsFor s pts j (Aware o) d = (s.aware j ≡ true) × aware.StandsFor s pts j o d
-StandsFor s pts j (Unaware o) d = (s.aware j ≡ false) × unaware.StandsFor s pts j o d
+-- This was sent to the terminal j.
+abbrev pub StandsFor : Setup → ℕ → Outlet → Terminal → Type 0
+StandsFor s j (Aware o) d = (s.aware j ≡ true) × aware.StandsFor s j o d
+StandsFor s j (Unaware o) d = (s.aware j ≡ false) × unaware.StandsFor s j o d
 
 -- Made so, aware or not, it stands for a terminal of this leg to which nothing was sent.
-abbrev pub StandsNew : Bool → OutConf → List ℕ → (own spacing : ℕ) → Outlet → Type 0
-StandsNew aware conf sources own spacing o =
-    (s : Setup) → IsMadeFor s conf sources own spacing → aware ≡ s.aware own
-    → StandsFor s conf.pts own o (empty.terminals own)
+abbrev pub StandsNew : Bool → (gens legs own spacing : ℕ) → Outlet → Type 0
+StandsNew aware gens legs own spacing o =
+    (s : Setup) → IsMadeFor s gens legs own spacing → aware ≡ s.aware own
+    → StandsFor s own o (empty.terminals own)
 
 -- it stands for the same terminal, whatever waits there
 abbrev pub StandsWoken : Outlet → Outlet → Type 0
 StandsWoken old new =
-    (s : Setup) (pts : Pts) (j : ℕ) (d : Terminal) (waits : ℕ → List Chunk)
-    → StandsFor s pts j old d → StandsFor s pts j new (record d { waits = waits })
+    (s : Setup) (j : ℕ) (d : Terminal) (waits : ℕ → List Chunk)
+    → StandsFor s j old d → StandsFor s j new (record d { waits = waits })
 
 -- of each terminal for which it stands, where the slots have what waits
 abbrev pub OfTerminals : Outlet → List Waiting → (Setup → ℕ → Terminal → Type 0) → Type 0
-OfTerminals o waiting P = (s : Setup) (pts : Pts) (j : ℕ) (table : Table) → StandsFor s pts j o (table.terminals j) → slots.StandsFor s waiting table → P s j (table.terminals j)
+OfTerminals o waiting P = (s : Setup) (j : ℕ) (table : Table) → StandsFor s j o (table.terminals j) → slots.StandsFor s waiting table → P s j (table.terminals j)
 
 -- ---- a turn
 -- the terminal j after a turn at the moment `now`, with the media time t
@@ -66,8 +69,8 @@ turned_here s j now t table = turn_at s table.seats j now t (table.terminals j)
 
 -- Such a turn at the terminal j, which holds a place and for which the outlet stands: the slots have what waits there, which
 -- are texts, these are the seats and the names, and what is sent may be sent.
-pub record IsTurn (s : Setup) (pts : Pts) (j : ℕ) (table : Table) (o : Outlet) (places : State) (waiting : List Waiting) (called : List (List ℕ)) (now t : ℕ) : Type 0 where
-  pub stands : StandsFor s pts j o (table.terminals j)
+pub record IsTurn (s : Setup) (j : ℕ) (table : Table) (o : Outlet) (places : State) (waiting : List Waiting) (called : List (List ℕ)) (now t : ℕ) : Type 0 where
+  pub stands : StandsFor s j o (table.terminals j)
   pub seats_stand : seatings.StandsFor s places table.seats
   pub slots_stand : slots.StandsFor s waiting table
   pub seated : is_seated table.seats j ≡ true
@@ -75,12 +78,13 @@ pub record IsTurn (s : Setup) (pts : Pts) (j : ℕ) (table : Table) (o : Outlet)
   pub names : (i : ℕ) → i < s.legs → name_at called i ≡ s.name i
   pub next : SendsNext (stream s j) (table.terminals j).past (turned_here s j now t table).past
 
--- The turn is over: the outlet and the slots stand for what the definition leaves, and its packet was put, if it sends one.
-pub record IsTurned (s : Setup) (pts : Pts) (j : ℕ) (table : Table) (now t : ℕ) (o : Outlet) (after : List Waiting) (put : Bool) (out : List ℕ) : Type 0 where
-  pub stands : StandsFor s pts j o (turned_here s j now t table)
+-- The turn is over: the outlet and the slots stand for what the definition leaves, and of this source this text is sent, if
+-- anything is.
+pub record IsTurned (s : Setup) (j : ℕ) (table : Table) (now t : ℕ) (o : Outlet) (after : List Waiting) (source : Option ℕ) (text : List ℕ) : Type 0 where
+  pub stands : StandsFor s j o (turned_here s j now t table)
   pub slots_stand : slots.StandsFor s after (with_terminal j (turned_here s j now t table) table)
-  pub puts : Puts pts (new_packet (stream s j) (table.terminals j).past (turned_here s j now t table).past) put out
+  pub puts : Puts (s.aware j) t (new_entry (table.terminals j).past (turned_here s j now t table).past) source text
 
 -- of all turns that it may be
-abbrev pub OfTurns : Outlet → State → List Waiting → List (List ℕ) → ℕ → (Setup → Pts → ℕ → Table → ℕ → Type 0) → Type 0
-OfTurns o places waiting called t P = (s : Setup) (pts : Pts) (j : ℕ) (table : Table) (now : ℕ) → IsTurn s pts j table o places waiting called now t → P s pts j table now
+abbrev pub OfTurns : Outlet → State → List Waiting → List (List ℕ) → ℕ → (Setup → ℕ → Table → ℕ → Type 0) → Type 0
+OfTurns o places waiting called t P = (s : Setup) (j : ℕ) (table : Table) (now : ℕ) → IsTurn s j table o places waiting called now t → P s j table now

@@ -1,26 +1,21 @@
 -- What the outlet of a terminal that is not aware stands for (profile).
-use Rattle.std.specs.Prelude.{◌≡◌, ◌+◌, ◌<◌, ◌==◌, ◌||◌, not, ℕ, Bool, true, false, is_some, List, [], ◌∷◌}
-use Rattle.rtt_base.specs.declared.text_packets.Pts.{Pts}
-use Rattle.wire_spec.specs.Packets.{Packet}
-use Rattle.wire_spec.specs.SentPackets.{packet_written}
-use Rattle.stream_spec.specs.Own.{Sent, packet_after}
+use Rattle.std.specs.Prelude.{◌≡◌, ◌+◌, ◌-◌, ◌<◌, ◌==◌, ◌||◌, not, ℕ, Bool, true, false, is_some, List, [], ◌∷◌, if◌then◌else◌}
+use Rattle.wire_spec.specs.Packets.{has_text}
+use Rattle.stream_spec.specs.Own.{Sent}
 use Rattle.stream_spec.specs.Ready.{Chunk}
 use Rattle.mixer_spec.specs.Chunks.{has_chunk}
 use Rattle.mixer_spec.specs.Composed.{Asked, text_given, waits_here}
 use Rattle.mixer_spec.specs.Setups.{Setup, IsSetup, stream}
 use Rattle.mixer_spec.specs.Laws.{AreTexts}
-use Rattle.mixer_spec.specs.Table.{Terminal, Table, empty, sents, sent_from, last_media, new_packet, turn_unaware}
-use Rattle.aware_output.specs.declared.outputs.OutConf.{OutConf}
-use Rattle.aware_output.specs.Confs.{stream_of}
-use Rattle.aware_output.specs.Speakers.{IsNext}
-use Rattle.aware_output.specs.Standing as outputs
+use Rattle.mixer_spec.specs.Table.{Terminal, TurnEntry, Table, empty, sents, sent_from, last_media, turn_unaware}
+use Rattle.aware_output.specs.Speakers.{EachIsNext}
 use Rattle.slot_table.specs.Lanes.{Waiting}
 use Rattle.slot_table.specs.Standing as slots
 use Rattle.unaware_view.specs.Standing as composers
 use Rattle.unaware_view.specs.Standing.{name_at, given_now, asked_now, answered, NoneWaits}
 use Rattle.unaware_view.specs.Standing.{own_of as own_of_composer}
 use Rattle.unaware_view.specs.States.{State as ComposerState}
-use Rattle.outlet.specs.Turns.{conf_at, free_after, SendsNext}
+use Rattle.outlet.specs.Turns.{SendsNext, free_after, new_entry, repeats_left}
 use Rattle.outlet.specs.UnawareStates.{UnawareState, own_of}
 
 -- the source of each is this one
@@ -28,55 +23,57 @@ abbrev pub AreBy : ℕ → List Sent → Type 0
 AreBy source [] = Unit {0}
 AreBy source (e ∷ es) = (e.source ≡ source) × AreBy source es
 
--- This was sent to the terminal j, with these payload types, and its composer was asked so.
-pub record StandsFor (s : Setup) (pts : Pts) (j : ℕ) (o : UnawareState) (d : Terminal) : Type 0 where
+-- This was sent to the terminal j, and its composer was asked so.
+pub record StandsFor (s : Setup) (j : ℕ) (o : UnawareState) (d : Terminal) : Type 0 where
   pub setup : IsSetup s
   pub own : own_of o ≡ j
   pub leg : j < s.legs
   pub spacing : o.spacing ≡ s.spacing
   pub composer : composers.StandsFor s o.composer d.asks
-  pub output : outputs.StandsFor (conf_at s pts j) (s.mixer ∷ []) o.output (sents d.past)
+  pub gens : o.gens ≡ s.gens j
+  pub sent : EachIsNext (stream s j) (sents d.past)
+  pub left : o.left ≡ repeats_left (s.gens j) (sent_from s.mixer d)
   pub free : o.free_at ≡ free_after s.spacing (last_media (sent_from s.mixer d))
   pub by_mixer : AreBy s.mixer (sents d.past)
   pub rests : o.none_waits ≡ true → (i : ℕ) → i < s.legs → waits_here j d.waits i ≡ false
 
 -- Made so, it stands for a terminal of this leg to which nothing was sent.
-abbrev pub StandsNew : OutConf → (legs own spacing : ℕ) → UnawareState → Type 0
-StandsNew conf legs own spacing o =
-    (s : Setup) (pts : Pts) → IsSetup s → s.legs ≡ legs → s.spacing ≡ spacing → conf ≡ conf_at s pts own
-    → StandsFor s pts own o (empty.terminals own)
+abbrev pub StandsNew : (gens legs own spacing : ℕ) → UnawareState → Type 0
+StandsNew gens legs own spacing o =
+    (s : Setup) → IsSetup s → s.legs ≡ legs → s.spacing ≡ spacing → s.gens own ≡ gens
+    → StandsFor s own o (empty.terminals own)
 
 -- it stands for the same terminal, whatever waits there
 abbrev pub StandsWoken : UnawareState → UnawareState → Type 0
 StandsWoken old new =
-    (s : Setup) (pts : Pts) (j : ℕ) (d : Terminal) (waits : ℕ → List Chunk)
-    → StandsFor s pts j old d → StandsFor s pts j new (record d { waits = waits })
+    (s : Setup) (j : ℕ) (d : Terminal) (waits : ℕ → List Chunk)
+    → StandsFor s j old d → StandsFor s j new (record d { waits = waits })
 
 -- ---- a turn
 -- the terminal j after a turn at the moment `now`, with the media time t
 abbrev pub turned_here : Setup → ℕ → ℕ → ℕ → Table → Terminal
 turned_here s j now t table = turn_unaware s j now t (table.terminals j)
 
--- the packet of this turn, if it sends one
-abbrev pub packet_here : Setup → ℕ → ℕ → ℕ → Table → List Packet
-packet_here s j now t table = new_packet (stream s j) (table.terminals j).past (turned_here s j now t table).past
+-- the entry of this turn, if it sends anything
+abbrev pub entry_here : Setup → ℕ → ℕ → ℕ → Table → List TurnEntry
+entry_here s j now t table = new_entry (table.terminals j).past (turned_here s j now t table).past
 
 -- Such a turn at the terminal j, for which the outlet stands: the slots have what waits there, which are texts, these
 -- are the names, and what is sent may be sent.
-pub record IsTurn (s : Setup) (pts : Pts) (j : ℕ) (table : Table) (o : UnawareState) (waiting : List Waiting) (called : List (List ℕ)) (now t : ℕ) : Type 0 where
-  pub stands : StandsFor s pts j o (table.terminals j)
+pub record IsTurn (s : Setup) (j : ℕ) (table : Table) (o : UnawareState) (waiting : List Waiting) (called : List (List ℕ)) (now t : ℕ) : Type 0 where
+  pub stands : StandsFor s j o (table.terminals j)
   pub slots_stand : slots.StandsFor s waiting table
   pub texts : (i : ℕ) → AreTexts ((table.terminals j).waits i)
   pub names : (i : ℕ) → i < s.legs → name_at called i ≡ s.name i
   pub next : SendsNext (stream s j) (table.terminals j).past (turned_here s j now t table).past
 
 -- of all turns that it may be
-abbrev pub OfTurns : UnawareState → List Waiting → List (List ℕ) → ℕ → (Setup → Pts → ℕ → Table → ℕ → Type 0) → Type 0
-OfTurns o waiting called t P = (s : Setup) (pts : Pts) (j : ℕ) (table : Table) (now : ℕ) → IsTurn s pts j table o waiting called now t → P s pts j table now
+abbrev pub OfTurns : UnawareState → List Waiting → List (List ℕ) → ℕ → (Setup → ℕ → Table → ℕ → Type 0) → Type 0
+OfTurns o waiting called t P = (s : Setup) (j : ℕ) (table : Table) (now : ℕ) → IsTurn s j table o waiting called now t → P s j table now
 
 -- of each terminal for which it stands, where the slots have what waits
 abbrev pub OfTerminals : UnawareState → List Waiting → (Setup → ℕ → Terminal → Type 0) → Type 0
-OfTerminals o waiting P = (s : Setup) (pts : Pts) (j : ℕ) (table : Table) → StandsFor s pts j o (table.terminals j) → slots.StandsFor s waiting table → P s j (table.terminals j)
+OfTerminals o waiting P = (s : Setup) (j : ℕ) (table : Table) → StandsFor s j o (table.terminals j) → slots.StandsFor s waiting table → P s j (table.terminals j)
 
 -- ---- what waits
 -- nothing of the leg waits at the terminal, or it is its own
@@ -98,19 +95,11 @@ abbrev pub OfAsks : UnawareState → List Waiting → List (List ℕ) → (Setup
 OfAsks o waiting called P = (s : Setup) (table : Table) (asks : List Asked) → composers.IsAsked s table o.composer waiting called asks
     → (o.none_waits ≡ true → NoneWaits s table o.composer) → P s table asks
 
--- ---- a packet
-abbrev pub sent_now : ℕ → ℕ → List ℕ → Sent
-sent_now source media text = record { source = source; media = media; text = text }
+-- ---- a text that is sent
+-- how many packets are still to repeat the last text, behind one with this text
+abbrev pub left_behind : UnawareState → List ℕ → ℕ
+left_behind o text = if has_text text then o.gens else o.left - 1
 
--- This was sent of the one source after these, and put so; the next packet comes so many milliseconds later at the earliest.
-pub record Sends (conf : OutConf) (source spacing : ℕ) (new : UnawareState) (past : List Sent) (e : Sent) (out : List ℕ) : Type 0 where
-  pub out_is : out ≡ packet_written conf.pts (packet_after (stream_of conf) past e)
-  pub output : outputs.StandsFor conf (source ∷ []) new.output (e ∷ past)
-  pub free : new.free_at ≡ e.media + spacing
-
--- the text was sent so at this media time, whatever was sent before
-abbrev pub SendsNow : UnawareState → ℕ → List ℕ → UnawareState → List ℕ → Type 0
-SendsNow old media text new out =
-    (conf : OutConf) (source : ℕ) (past : List Sent)
-    → outputs.StandsFor conf (source ∷ []) old.output past → IsNext (stream_of conf) past (sent_now source media text)
-    → Sends conf source old.spacing new past (sent_now source media text) out
+-- the outlet behind a packet with this text at this media time
+abbrev pub kept_sent : ℕ → List ℕ → UnawareState → UnawareState
+kept_sent media text o = record o { left = left_behind o text; free_at = media + o.spacing }

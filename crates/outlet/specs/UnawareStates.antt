@@ -2,13 +2,13 @@
 use Rattle.std.specs.Prelude.{◌≡◌, ℕ, Bool}
 use Rattle.unaware_view.specs.States.{State as ComposerState}
 use Rattle.unaware_view.specs.Standing as composers
-use Rattle.aware_output.specs.States.{State as OutputState}
 
--- its composer and its output, the spacing, from when a packet may be sent again, and whether it is known that nothing of
--- another leg waits
+-- its composer, how often a text is repeated, how many packets are still to repeat the last one, the spacing, from when a
+-- packet may be sent again, and whether it is known that nothing of another leg waits
 pub record UnawareState : Type 0 where
   pub composer : ComposerState
-  pub output : OutputState
+  pub gens : ℕ
+  pub left : ℕ
   pub spacing : ℕ
   pub free_at : ℕ
   pub none_waits : Bool

@@ -5,29 +5,27 @@ ghost use Rattle.mixer_spec.specs.Setups.{Setup};
 ghost use Rattle.mixer_spec.specs.Table.{empty, has_work, is_due, is_due_at, is_quiet, served};
 ghost use Rattle.slot_table.specs.Standing.{Tells, Leads};
 ghost use Rattle.slot_table.specs.Words.{fetched};
-ghost use Rattle.aware_output.specs.Confs.{IsConf};
-ghost use Rattle.aware_output.specs.Speakers.{AreDistinct};
 ghost use Rattle.outlet.specs.AwareTurns.{text_of_leg};
-ghost use Rattle.outlet.specs.Turns.{HasOctets};
 ghost use Rattle.rtt_base.specs.declared.limits.TheConstants.{END_OF_MOMENTS, MOST_TEXT_OCTETS};
 
-use aware_output::{OutConf, Output};
 use mixer_spec::limits::PLACES;
-use rtt_base::{NoMemory, Packet, Text};
+use rtt_base::{NoMemory, Text};
 use seating::Seating;
 use slot_table::Slots;
 use std::alloc::Global;
 use std::marker::Model;
 
-/// What a mixer keeps of a terminal that tells sources apart (RFC 9071): its packets, of one source each.
+/// What a mixer keeps of a terminal that tells sources apart (RFC 9071), to which each packet is of one source.
 #[derive(Drop)]
 pub struct AwareOutlet {
     /// The number of the terminal's own leg.
     own: usize,
     /// The least media time, in milliseconds, between two packets of a source.
     spacing: u32,
-    /// The output, in which each leg is a source.
-    output: Output,
+    /// In how many packets a text is repeated.
+    gens: u8,
+    /// For each leg how many packets are still to repeat its last text.
+    left: Vec<u8>,
     /// For each leg the media time from which it may be served again.
     free_at: Vec<u64>,
     /// The place after the one served last.
@@ -62,32 +60,31 @@ fn fetch(terminal: usize, leg: usize, slots: &mut Slots, text: &mut Text)
 impl AwareOutlet {
     ghost use Rattle.outlet.specs.AwareStanding.{StandsFor, IsMadeFor};
     ghost use Rattle.outlet.specs.AwareStates.{SameLeg};
-    ghost use Rattle.outlet.specs.AwareTurns.{AtTerminal, AtTable, ServesLeg, StandsWoken, is_free, kept_served};
+    ghost use Rattle.outlet.specs.AwareTurns.{AtTerminal, AtTable, ServesLeg, StandsWoken, is_free, kept_served, left_behind};
     ghost use Rattle.outlet.specs.AwareRounds.{AtSeats, Serves, Turns};
 
-    /// The outlet of the terminal of this leg, to which nothing was sent. Of all legs, in leg order, these are the SSRCs. It
-    /// takes all memory that it ever needs.
+    /// The outlet of the terminal of this leg, to which nothing was sent, where there are so many legs. A text is repeated in
+    /// so many packets. It takes all memory that it ever needs.
     pub fn new(
         alloc: Global,
-        conf: OutConf,
-        sources: &[u32],
+        gens: u8,
+        legs: usize,
         own: usize,
         spacing: u32,
     ) -> Result<AwareOutlet, NoMemory>
-        requires conf { IsConf conf }
-        requires distinct { AreDistinct sources.now }
-        requires own { own < length sources.now }
-        ensures stands { IfOk result (λ o. (s : Setup) → IsMadeFor s conf sources.now own spacing
-            → StandsFor s conf.pts own o (empty.terminals own)) }
+        requires own { own < legs }
+        ensures stands { IfOk result (λ o. (s : Setup) → IsMadeFor s gens legs own spacing
+            → StandsFor s own o (empty.terminals own)) }
         ensures own { IfOk result (λ o. o.own ≡ own) }
-        ensures legs { IfOk result (λ o. length o.free_at ≡ length sources.now) }
+        ensures legs { IfOk result (λ o. length o.free_at ≡ legs) }
     {
-        let output = Output::new(alloc, conf, sources)?;
-        let free_at = vec![in alloc; 0; sources.len()]?;
+        let left = vec![in alloc; 0; legs]?;
+        let free_at = vec![in alloc; 0; legs]?;
         Ok(AwareOutlet {
             own,
             spacing,
-            output,
+            gens,
+            left,
             free_at,
             next: 0,
             quiet: false,
@@ -97,7 +94,7 @@ impl AwareOutlet {
     /// Whether a packet of the leg may be sent at this media time, as far as its last packet goes.
     fn is_spaced(&self, leg: usize, media: u64) -> bool
         requires { leg < length self.now.free_at }
-        ensures { AtTerminal self.now (λ s pts d. result ≡ is_free s media d leg) }
+        ensures { AtTerminal self.now (λ s d. result ≡ is_free s media d leg) }
     {
         self.free_at[leg] <= media
     }
@@ -106,16 +103,16 @@ impl AwareOutlet {
     pub fn has_work(&self, leg: usize, slots: &Slots) -> bool
         requires leg { leg < length self.now.free_at }
         requires slots { length slots.now ≡ length self.now.free_at }
-        ensures { AtTable self.now slots.now (λ s pts table d. result ≡ has_work s self.now.own d leg) }
+        ensures { AtTable self.now slots.now (λ s table d. result ≡ has_work s self.now.own d leg) }
     {
-        slots.has_waiting(self.own, leg) || self.output.due(leg)
+        slots.has_waiting(self.own, leg) || self.left[leg] > 0
     }
 
     /// Whether no text of the leg waits here or is still to be repeated; its own leg has none here.
     fn is_done_with(&self, leg: usize, slots: &Slots) -> bool
         requires leg { leg < length self.now.free_at }
         requires slots { length slots.now ≡ length self.now.free_at }
-        ensures { AtTable self.now slots.now (λ s pts table d.
+        ensures { AtTable self.now slots.now (λ s table d.
             result ≡ ((leg == self.now.own) || not (has_work s self.now.own d leg))) }
     {
         leg == self.own || !self.has_work(leg, slots)
@@ -124,7 +121,7 @@ impl AwareOutlet {
     /// Whether nothing waits here, and no text is still to be repeated.
     pub fn is_quiet(&self, slots: &Slots) -> bool
         requires { length slots.now ≡ length self.now.free_at }
-        ensures { AtTable self.now slots.now (λ s pts table d. result ≡ is_quiet s self.now.own d) }
+        ensures { AtTable self.now slots.now (λ s table d. result ≡ is_quiet s self.now.own d) }
     {
         for leg in 0..self.free_at.len() {
             if !self.is_done_with(leg, slots) {
@@ -138,7 +135,7 @@ impl AwareOutlet {
     fn rest(&mut self, slots: &Slots)
         requires { length slots.now ≡ length self.old.free_at }
         ensures same { SameLeg self.old self.new }
-        ensures stands { AtTable self.old slots.now (λ s pts table d. StandsFor s pts self.old.own self.new d) }
+        ensures stands { AtTable self.old slots.now (λ s table d. StandsFor s self.old.own self.new d) }
     {
         let quiet = self.is_quiet(slots);
         self.quiet = quiet;
@@ -148,7 +145,7 @@ impl AwareOutlet {
     fn is_due(&self, leg: usize, media: u64, slots: &Slots) -> bool
         requires leg { leg < length self.now.free_at }
         requires slots { length slots.now ≡ length self.now.free_at }
-        ensures { AtTable self.now slots.now (λ s pts table d. result ≡ is_due s self.now.own media d leg) }
+        ensures { AtTable self.now slots.now (λ s table d. result ≡ is_due s self.now.own media d leg) }
     {
         leg != self.own && self.is_spaced(leg, media) && self.has_work(leg, slots)
     }
@@ -158,7 +155,7 @@ impl AwareOutlet {
         requires place { place < PLACES }
         requires slots { length slots.now ≡ length self.now.free_at }
         requires seating { length seating.now.legs ≡ length self.now.free_at }
-        ensures { AtSeats self.now seating.now slots.now (λ s pts table d.
+        ensures { AtSeats self.now seating.now slots.now (λ s table d.
             result ≡ is_due_at s table.seats self.now.own media d place) }
     {
         match seating.leg_at(place) {
@@ -180,7 +177,7 @@ impl AwareOutlet {
         requires high { high ≤ PLACES }
         requires slots { length slots.now ≡ length self.now.free_at }
         requires seating { length seating.now.legs ≡ length self.now.free_at }
-        ensures first { AtSeats self.now seating.now slots.now (λ s pts table d.
+        ensures first { AtSeats self.now seating.now slots.now (λ s table d.
             result ≡ first_from (is_due_at s table.seats self.now.own media d) low (high - low)) }
         ensures within { IfSome result (λ place. place < high) }
     {
@@ -196,7 +193,7 @@ impl AwareOutlet {
     fn served(&self, media: u64, seating: &Seating, slots: &Slots) -> Option<usize>
         requires slots { length slots.now ≡ length self.now.free_at }
         requires seating { length seating.now.legs ≡ length self.now.free_at }
-        ensures served { AtSeats self.now seating.now slots.now (λ s pts table d.
+        ensures served { AtSeats self.now seating.now slots.now (λ s table d.
             result ≡ served s table.seats self.now.own media d) }
         ensures within { IfSome result (λ place. place < PLACES) }
     {
@@ -206,7 +203,7 @@ impl AwareOutlet {
         }
     }
 
-    /// Sends the packet of the leg at the place: with what fits of the text that waits, or none.
+    /// Takes what is sent of the leg at the place: what fits of the text that waits, or an empty text.
     fn serve_leg(
         &mut self,
         place: usize,
@@ -214,38 +211,46 @@ impl AwareOutlet {
         media: u64,
         slots: &mut Slots,
         text: &mut Text,
-        out: &mut Packet,
     )
         requires place { place < PLACES }
         requires leg { leg < length self.old.free_at }
         requires slots { length slots.old ≡ length self.old.free_at }
         requires media { media < END_OF_MOMENTS }
-        requires out { out.old ≡ [] }
         ensures slots { length slots.new ≡ length slots.old }
         ensures same { SameLeg self.old self.new }
-        ensures turned { ServesLeg self.old slots.old place leg media self.new slots.new out.new }
-        ensures some { 0 < length out.new }
+        ensures turned { ServesLeg self.old slots.old place leg media self.new slots.new text.new }
     {
         fetch(self.own, leg, slots, text);
-        let Ok(()) = self.output.packet(media, leg, text.as_slice(), out) else {
-            unreachable!()
-        };
-        self.keep(place, leg, media);
+        self.keep(place, leg, media, text);
     }
 
-    /// Keeps that the leg at the place was served at this media time.
-    fn keep(&mut self, place: usize, leg: usize, media: u64)
+    /// How many packets of the leg are still to repeat its last text, behind one with this text.
+    fn left_behind(&self, leg: usize, text: &Text) -> u8
+        requires { leg < length self.now.free_at }
+        ensures { result ≡ left_behind leg text.now self.now }
+    {
+        if text.is_empty() {
+            self.left[leg].saturating_sub(1)
+        } else {
+            self.gens
+        }
+    }
+
+    /// Keeps that the leg at the place was served at this media time, with this text.
+    fn keep(&mut self, place: usize, leg: usize, media: u64, text: &Text)
         requires place { place < PLACES }
         requires leg { leg < length self.old.free_at }
         requires media { media < END_OF_MOMENTS }
-        ensures { self.new ≡ kept_served place leg media self.old }
+        ensures { self.new ≡ kept_served place leg media text.now self.old }
     {
+        let left = self.left_behind(leg, text);
+        self.left[leg] = left;
         self.free_at[leg] = media + u64::from(self.spacing);
         self.next = place + 1;
         self.quiet = false;
     }
 
-    /// Sends the packet of the leg that holds the place.
+    /// Takes what is sent of the leg that holds the place, and answers which leg that is.
     fn serve(
         &mut self,
         place: usize,
@@ -253,54 +258,47 @@ impl AwareOutlet {
         seating: &Seating,
         slots: &mut Slots,
         text: &mut Text,
-        out: &mut Packet,
-    ) -> bool
+    ) -> Option<usize>
         requires place { place < PLACES }
         requires slots { length slots.old ≡ length self.old.free_at }
         requires seating { length seating.now.legs ≡ length self.old.free_at }
         requires media { media < END_OF_MOMENTS }
-        requires out { out.old ≡ [] }
         ensures slots { length slots.new ≡ length slots.old }
         ensures same { SameLeg self.old self.new }
-        ensures turned { Serves self.old seating.now slots.old place media self.new slots.new result out.new }
-        ensures some { HasOctets result out.new }
+        ensures turned { Serves self.old seating.now slots.old place media self.new slots.new result text.new }
+        ensures within { IfSome result (λ leg. leg < length self.old.free_at) }
     {
-        match seating.leg_at(place) {
-            Some(leg) => {
-                self.serve_leg(place, leg, media, slots, text, out);
-                true
-            }
-            None => false,
-        }
+        let leg = seating.leg_at(place)?;
+        self.serve_leg(place, leg, media, slots, text);
+        Some(leg)
     }
 
-    /// One turn at this media time, in milliseconds: sends the packet of the first leg that is due, by places, counted round
-    /// from the one after the place served last. `out` is that packet, where the answer is true; `text` is used up.
+    /// One turn at this media time, in milliseconds: answers which leg is served, if one is: the first that is due, by places,
+    /// counted round from the one after the place served last. `text` is its text then, empty where one is only repeated, and
+    /// is used up otherwise.
     pub fn turn(
         &mut self,
         media: u64,
         seating: &Seating,
         slots: &mut Slots,
         text: &mut Text,
-        out: &mut Packet,
-    ) -> bool
+    ) -> Option<usize>
         requires slots { length slots.old ≡ length self.old.free_at }
         requires seating { length seating.now.legs ≡ length self.old.free_at }
         requires media { media < END_OF_MOMENTS }
         ensures slots { length slots.new ≡ length slots.old }
         ensures same { SameLeg self.old self.new }
-        ensures turned { Turns self.old seating.now slots.old media self.new slots.new result out.new }
-        ensures some { HasOctets result out.new }
+        ensures turned { Turns self.old seating.now slots.old media self.new slots.new result text.new }
+        ensures within { IfSome result (λ leg. leg < length self.old.free_at) }
     {
         if self.quiet {
-            return false;
+            return None;
         }
-        out.clear();
         match self.served(media, seating, slots) {
-            Some(place) => self.serve(place, media, seating, slots, text, out),
+            Some(place) => self.serve(place, media, seating, slots, text),
             None => {
                 self.rest(slots);
-                false
+                None
             }
         }
     }

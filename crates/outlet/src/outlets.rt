@@ -1,16 +1,12 @@
 //! The outlet of a terminal, be it aware or not.
-ghost use Rattle.std.specs.Prelude.{◌≡◌, ◌+◌, ◌^◌, ◌<◌, ◌≤◌, length, IfOk};
+ghost use Rattle.std.specs.Prelude.{◌≡◌, ◌+◌, ◌<◌, ◌≤◌, length, IfOk, IfSome, if◌then◌else◌};
 ghost use Rattle.mixer_spec.specs.Table.{has_work, is_quiet};
-ghost use Rattle.aware_output.specs.Confs.{IsConf};
-ghost use Rattle.aware_output.specs.Speakers.{AreDistinct};
-ghost use Rattle.outlet.specs.Turns.{HasOctets};
-ghost use Rattle.outlet.specs.Outlets.{IsTurned, OfTerminals, OfTurns, SameLeg, StandsNew, StandsWoken, legs_of, next_turn, own_of};
+ghost use Rattle.outlet.specs.Outlets.{IsTurned, OfTerminals, OfTurns, SameLeg, StandsNew, StandsWoken, legs_of, next_turn, own_of, sources_of};
 ghost use Rattle.rtt_base.specs.declared.limits.TheConstants.{END_OF_MOMENTS};
 
 use crate::aware::AwareOutlet;
 use crate::unaware::UnawareOutlet;
-use aware_output::OutConf;
-use rtt_base::{Name, NoMemory, Packet, Text};
+use rtt_base::{Name, NoMemory, Text};
 use seating::Seating;
 use slot_table::Slots;
 use std::alloc::Global;
@@ -23,29 +19,28 @@ pub enum Outlet {
 }
 
 impl Outlet {
-    /// The outlet of the terminal of this leg, aware or not, to which nothing was sent. Of all legs, in leg order, these are
-    /// the SSRCs. It takes all memory that it ever needs.
+    /// The outlet of the terminal of this leg, aware or not, to which nothing was sent, where there are so many legs. A text is
+    /// repeated in so many packets. It takes all memory that it ever needs.
     pub fn new(
         alloc: Global,
         aware: bool,
-        conf: OutConf,
-        sources: &[u32],
+        gens: u8,
+        legs: usize,
         own: usize,
         spacing: u32,
     ) -> Result<Outlet, NoMemory>
-        requires conf { IsConf conf }
-        requires distinct { AreDistinct sources.now }
-        requires own { own < length sources.now }
-        ensures stands { IfOk result (λ outlet. StandsNew aware conf sources.now own spacing outlet) }
+        requires own { own < legs }
+        ensures stands { IfOk result (λ outlet. StandsNew aware gens legs own spacing outlet) }
         ensures own { IfOk result (λ outlet. own_of outlet ≡ own) }
-        ensures legs { IfOk result (λ outlet. legs_of outlet ≡ length sources.now) }
+        ensures legs { IfOk result (λ outlet. legs_of outlet ≡ legs) }
+        ensures sources { IfOk result (λ outlet. sources_of outlet ≡ (if aware then legs else 1)) }
         ensures next { IfOk result (λ outlet. next_turn outlet ≡ 0) }
     {
         if aware {
-            let outlet = AwareOutlet::new(alloc, conf, sources, own, spacing)?;
+            let outlet = AwareOutlet::new(alloc, gens, legs, own, spacing)?;
             return Ok(Outlet::Aware(outlet));
         }
-        let outlet = UnawareOutlet::new(alloc, conf, sources.len(), own, spacing)?;
+        let outlet = UnawareOutlet::new(alloc, gens, legs, own, spacing)?;
         Ok(Outlet::Unaware(outlet))
     }
 
@@ -72,9 +67,9 @@ impl Outlet {
         }
     }
 
-    /// One turn at this media time, in milliseconds, of a terminal that holds a place: puts the packet that is sent into
-    /// `out`, which is cleared first, and answers whether there is one. `text` is used up; of the names each has its leg's
-    /// number.
+    /// One turn at this media time, in milliseconds, of a terminal that holds a place: answers of which of the terminal's
+    /// sources a packet is sent, counted from 0, if one is; `text` is its text then, and used up otherwise. Of the names each
+    /// has its leg's number.
     pub fn turn(
         &mut self,
         media: u64,
@@ -82,23 +77,22 @@ impl Outlet {
         seating: &Seating,
         slots: &mut Slots,
         text: &mut Text,
-        out: &mut Packet,
-    ) -> bool
+    ) -> Option<usize>
         requires slots { length slots.old ≡ legs_of self.old }
         requires names { length names.now ≡ legs_of self.old }
         requires seating { length seating.now.legs ≡ legs_of self.old }
         requires rises { next_turn self.old ≤ media }
         requires media { media < END_OF_MOMENTS }
-        ensures turned { OfTurns self.old seating.now slots.old names.now media (λ s pts j table now.
-            IsTurned s pts j table now media self.new slots.new result out.new) }
-        ensures some { HasOctets result out.new }
+        ensures turned { OfTurns self.old seating.now slots.old names.now media (λ s j table now.
+            IsTurned s j table now media self.new slots.new result text.new) }
+        ensures within { IfSome result (λ source. source < sources_of self.old) }
         ensures slots { length slots.new ≡ length slots.old }
         ensures same { SameLeg self.old self.new }
         ensures next { next_turn self.new ≤ media + 1 }
     {
         match self {
-            Outlet::Aware(outlet) => outlet.turn(media, seating, slots, text, out),
-            Outlet::Unaware(outlet) => outlet.turn(media, names, slots, text, out),
+            Outlet::Aware(outlet) => outlet.turn(media, seating, slots, text),
+            Outlet::Unaware(outlet) => outlet.turn(media, names, slots, text),
         }
     }
 

@@ -1,16 +1,14 @@
 //! A terminal that shows one text of many speakers.
-ghost use Rattle.std.specs.Prelude.{◌≡◌, ◌+◌, ◌^◌, ◌<◌, ◌≤◌, ◌&&◌, ◌||◌, [], length, IfOk, nat_le};
+ghost use Rattle.std.specs.Prelude.{◌≡◌, ◌+◌, ◌^◌, ◌<◌, ◌≤◌, ◌&&◌, ◌||◌, [], false, length, IfOk, IfSome, nat_le};
 ghost use Rattle.mixer_spec.specs.Rounds.{all_below};
 ghost use Rattle.mixer_spec.specs.Table.{has_work, is_quiet};
-ghost use Rattle.aware_output.specs.Confs.{IsConf};
 ghost use Rattle.slot_table.specs.Standing.{StandsFor as SlotsStandFor, Tells};
-ghost use Rattle.outlet.specs.Turns.{HasOctets, Puts, with_terminal};
+ghost use Rattle.outlet.specs.Turns.{Puts, with_terminal};
 ghost use Rattle.outlet.specs.UnawareStates.{SameLeg, legs_of, next_turn, own_of};
-ghost use Rattle.outlet.specs.UnawareStanding.{Composes, OfAsks, OfTerminals, OfTurns, SendsNow, StandsFor, StandsNew, StandsWoken, none_here, packet_here, turned_here};
+ghost use Rattle.outlet.specs.UnawareStanding.{Composes, OfAsks, OfTerminals, OfTurns, StandsFor, StandsNew, StandsWoken, entry_here, kept_sent, left_behind, none_here, turned_here};
 ghost use Rattle.rtt_base.specs.declared.limits.TheConstants.{END_OF_MOMENTS};
 
-use aware_output::{OutConf, Output};
-use rtt_base::{Name, NoMemory, Packet, Text};
+use rtt_base::{Name, NoMemory, Text};
 use slot_table::Slots;
 use std::alloc::Global;
 use std::marker::Model;
@@ -25,7 +23,10 @@ pub struct UnawareOutlet {
     /// How long after a packet the next one is sent at the earliest, in milliseconds of media time.
     spacing: u32,
     composer: Composer,
-    output: Output,
+    /// In how many packets a text is repeated.
+    gens: u8,
+    /// How many packets are still to repeat the last text.
+    left: u8,
     /// From when a packet may be sent again, in milliseconds of media time.
     free_at: u64,
     /// Whether it is known that nothing of another leg waits at the terminal.
@@ -45,30 +46,29 @@ impl Model for UnawareOutlet {
 }
 
 impl UnawareOutlet {
-    /// The outlet of the terminal of the leg `own`, where there are so many legs, to which nothing was sent yet. It takes
-    /// all memory that it ever needs.
+    /// The outlet of the terminal of the leg `own`, where there are so many legs, to which nothing was sent yet. A text is
+    /// repeated in so many packets. It takes all memory that it ever needs.
     pub fn new(
         alloc: Global,
-        conf: OutConf,
+        gens: u8,
         legs: usize,
         own: usize,
         spacing: u32,
     ) -> Result<UnawareOutlet, NoMemory>
-        requires conf { IsConf conf }
         requires own { own < legs }
-        ensures stands { IfOk result (λ outlet. StandsNew conf legs own spacing outlet) }
+        ensures stands { IfOk result (λ outlet. StandsNew gens legs own spacing outlet) }
         ensures own { IfOk result (λ outlet. own_of outlet ≡ own) }
         ensures legs { IfOk result (λ outlet. legs_of outlet ≡ legs) }
         ensures next { IfOk result (λ outlet. next_turn outlet ≡ 0) }
     {
         let composer = Composer::new(alloc, legs, own)?;
-        let output = Output::new(alloc, conf, &[conf.ssrc])?;
         Ok(UnawareOutlet {
             own,
             legs,
             spacing,
             composer,
-            output,
+            gens,
+            left: 0,
             free_at: 0,
             none_waits: true,
         })
@@ -88,46 +88,45 @@ impl UnawareOutlet {
         requires { length slots.now ≡ legs_of self.now }
         ensures { OfTerminals self.now slots.now (λ s j d. result ≡ is_quiet s j d) }
     {
-        if self.output.due(0) {
+        if self.left > 0 {
             return false;
         }
         is_empty(self.own, slots, self.legs)
     }
 
-    /// One turn at this media time, in milliseconds: puts the packet that is sent into `out`, which is cleared first, and
-    /// answers whether there is one. `text` is what this takes room in; of the names each has its leg's number.
+    /// One turn at this media time, in milliseconds: answers whether a packet is sent of the terminal's one source, 0, which is
+    /// the mixer. `text` is its text then, empty where one is only repeated, and is used up otherwise; of the names each has
+    /// its leg's number.
     pub fn turn(
         &mut self,
         media: u64,
         names: &[Name],
         slots: &mut Slots,
         text: &mut Text,
-        out: &mut Packet,
-    ) -> bool
+    ) -> Option<usize>
         requires slots { length slots.old ≡ legs_of self.old }
         requires names { length names.now ≡ legs_of self.old }
         requires rises { next_turn self.old ≤ media }
         requires media { media < END_OF_MOMENTS }
-        ensures stands { OfTurns self.old slots.old names.now media (λ s pts j table now.
-            StandsFor s pts j self.new (turned_here s j now media table)) }
-        ensures waits { OfTurns self.old slots.old names.now media (λ s pts j table now.
+        ensures stands { OfTurns self.old slots.old names.now media (λ s j table now.
+            StandsFor s j self.new (turned_here s j now media table)) }
+        ensures waits { OfTurns self.old slots.old names.now media (λ s j table now.
             SlotsStandFor s slots.new (with_terminal j (turned_here s j now media table) table)) }
-        ensures puts { OfTurns self.old slots.old names.now media (λ s pts j table now.
-            Puts pts (packet_here s j now media table) result out.new) }
-        ensures some { HasOctets result out.new }
+        ensures puts { OfTurns self.old slots.old names.now media (λ s j table now.
+            Puts false media (entry_here s j now media table) result text.new) }
+        ensures within { IfSome result (λ source. source ≡ 0) }
         ensures slots { length slots.new ≡ length slots.old }
         ensures same { SameLeg self.old self.new }
         ensures next { next_turn self.new ≡ media + 1 }
     {
-        out.clear();
         let is_asked = has_come(self.free_at, media);
         let gave = self.ask(media, is_asked, names, slots, text);
-        let is_sent = or_repeats(gave, is_asked, self.output.due(0));
+        let is_sent = or_repeats(gave, is_asked, self.left > 0);
         if !is_sent {
-            return false;
+            return None;
         }
-        self.send(media, text, out);
-        true
+        self.keep(media, text);
+        Some(0)
     }
 
     /// Asks the composer at this media time for text, where some may be given.
@@ -148,7 +147,7 @@ impl UnawareOutlet {
         ensures slots { length slots.new ≡ length slots.old }
         ensures same { SameLeg self.old self.new }
         ensures next { next_turn self.new ≡ media + 1 }
-        ensures output { self.new.output ≡ self.old.output }
+        ensures repeats { (self.new.gens ≡ self.old.gens) × (self.new.left ≡ self.old.left) }
         ensures times { (self.new.spacing ≡ self.old.spacing) × (self.new.free_at ≡ self.old.free_at) }
     {
         if self.none_waits {
@@ -171,28 +170,24 @@ impl UnawareOutlet {
         self.none_waits = false;
     }
 
-    /// Sends the text at this media time.
-    fn send(&mut self, media: u64, text: &Text, out: &mut Packet)
-        requires media { media < END_OF_MOMENTS }
-        requires out { out.old ≡ [] }
-        ensures sends { SendsNow self.old media text.now self.new out.new }
-        ensures some { 0 < length out.new }
-        ensures composer { self.new.composer ≡ self.old.composer }
-        ensures spacing { self.new.spacing ≡ self.old.spacing }
-        ensures waits { self.new.none_waits ≡ self.old.none_waits }
+    /// How many packets are still to repeat the last text, behind one with this text.
+    fn left_behind(&self, text: &Text) -> u8
+        ensures { result ≡ left_behind self.now text.now }
     {
-        let octets = text.as_slice();
-        let Ok(()) = self.output.packet(media, 0, octets, out) else {
-            unreachable!()
-        };
-        self.wait_from(media);
+        if text.is_empty() {
+            self.left.saturating_sub(1)
+        } else {
+            self.gens
+        }
     }
 
-    /// Sends nothing before the spacing has passed since this media time.
-    fn wait_from(&mut self, media: u64)
+    /// Keeps that a packet with this text is sent at this media time.
+    fn keep(&mut self, media: u64, text: &Text)
         requires { media < END_OF_MOMENTS }
-        ensures { self.new ≡ record self.old { free_at = media + self.old.spacing } }
+        ensures { self.new ≡ kept_sent media text.now self.old }
     {
+        let left = self.left_behind(text);
+        self.left = left;
         self.free_at = media + u64::from(self.spacing);
     }
 }

@@ -6,21 +6,21 @@ use Rattle.outlet.proofs.AwareResting.{is_done_with, quiet_is}
 use Rattle.outlet.proofs.aware.AwareOutlet.is_quiet.Goals as goal
 
 pub returns-then-not-is_done_with : goal.returns-then-not-is_done_with
-returns-then-not-is_done_with c = λ s pts table h.
+returns-then-not-is_done_with c = λ s table h.
     let o = c.args.self.now in
     let d = table.terminals o.own in
     let l : c.loop-leg.leg < s.legs = omega (arith, c.loop-leg-test.true, c.len-leg-end.ensures, ap (λ (x : AwareState). length x.free_at) c.self.view_is, h.outlet.legs) in
-    sym (fails_at (is_done_with s o.own d) s.legs c.loop-leg.leg l (sym (c.is_done_with.ensures s pts table h) ∙ c.if-not-is_done_with.true)) ∙ quiet_is s pts o.own o d h.outlet
+    sym (fails_at (is_done_with s o.own d) s.legs c.loop-leg.leg l (sym (c.is_done_with.ensures s table h) ∙ c.if-not-is_done_with.true)) ∙ quiet_is s o.own o d h.outlet
 
 pub loop-leg-preserved : goal.loop-leg-preserved
-loop-leg-preserved c = λ s pts table h.
+loop-leg-preserved c = λ s table h.
     let o = c.args.self.now in
     let d = table.terminals o.own in
-    all_more (is_done_with s o.own d) c.loop-leg.leg (c.loop-leg.invariant s pts table h) (sym (c.is_done_with.ensures s pts table h) ∙ c.if-not-is_done_with.false)
+    all_more (is_done_with s o.own d) c.loop-leg.leg (c.loop-leg.invariant s table h) (sym (c.is_done_with.ensures s table h) ∙ c.if-not-is_done_with.false)
 
 pub returns : goal.returns
-returns c = λ s pts table h.
+returns c = λ s table h.
     let o = c.args.self.now in
     let d = table.terminals o.own in
     let end : c.loop-leg.leg ≡ s.legs = omega (arith, c.loop-leg-test.false, c.loop-leg.auto.leg-end, c.len-leg-end.ensures, ap (λ (x : AwareState). length x.free_at) c.self.view_is, h.outlet.legs) in
-    sym (c.loop-leg.invariant s pts table h) ∙ (ap (all_below (is_done_with s o.own d)) end ∙ quiet_is s pts o.own o d h.outlet)
+    sym (c.loop-leg.invariant s table h) ∙ (ap (all_below (is_done_with s o.own d)) end ∙ quiet_is s o.own o d h.outlet)

@@ -5,4 +5,4 @@ use Rattle.outlet.proofs.AwareResting.{is_done_with}
 use Rattle.outlet.proofs.aware.AwareOutlet.is_quiet.Given as goal
 
 abbrev pub invariant-loop-leg : goal.invariant-loop-leg
-invariant-loop-leg l = AtTable l.fn.self l.fn.slots (λ s pts table d. all_below (is_done_with s l.fn.self.own d) l.leg ≡ true)
+invariant-loop-leg l = AtTable l.fn.self l.fn.slots (λ s table d. all_below (is_done_with s l.fn.self.own d) l.leg ≡ true)

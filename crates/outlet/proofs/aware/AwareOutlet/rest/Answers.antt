@@ -5,8 +5,8 @@ use Rattle.outlet.proofs.AwareResting.{stands_quiet}
 use Rattle.outlet.proofs.aware.AwareOutlet.rest.Goals as goal
 
 pub returns-clause-stands : goal.returns-clause-stands
-returns-clause-stands c = λ s pts table h.
+returns-clause-stands c = λ s table h.
     let o = c.args.self.now in
     let d = table.terminals o.own in
-    subst (λ (x : AwareState). StandsFor s pts o.own (record x { quiet = c.is_quiet-quiet.result }) d) (sym c.self.view_is)
-    (stands_quiet s pts o.own o d c.is_quiet-quiet.result d.waits h.outlet (λ e. sym (c.is_quiet-quiet.ensures s pts table h) ∙ e))
+    subst (λ (x : AwareState). StandsFor s o.own (record x { quiet = c.is_quiet-quiet.result }) d) (sym c.self.view_is)
+    (stands_quiet s o.own o d c.is_quiet-quiet.result d.waits h.outlet (λ e. sym (c.is_quiet-quiet.ensures s table h) ∙ e))

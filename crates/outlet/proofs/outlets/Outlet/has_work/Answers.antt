@@ -6,11 +6,11 @@ use Rattle.outlet.proofs.Turning.{of_table}
 use Rattle.outlet.proofs.outlets.Outlet.has_work.Goals as goal
 
 pub returns-in-Aware : goal.returns-in-Aware
-returns-in-Aware c = λ s pts j table h w.
-    let r = subst (λ (x : Outlet). StandsFor s pts j x (table.terminals j)) c.in-Aware.is h in
-    of_table s pts j table c.in-Aware.outlet c.args.slots.now (λ s k d. c.has_work.result ≡ has_work s k d c.args.source) r.1 w c.has_work.ensures
+returns-in-Aware c = λ s j table h w.
+    let r = subst (λ (x : Outlet). StandsFor s j x (table.terminals j)) c.in-Aware.is h in
+    of_table s j table c.in-Aware.outlet c.args.slots.now (λ s k d. c.has_work.result ≡ has_work s k d c.args.source) r.1 w c.has_work.ensures
 
 pub returns-in-Unaware : goal.returns-in-Unaware
-returns-in-Unaware c = λ s pts j table h w.
-    let r = subst (λ (x : Outlet). StandsFor s pts j x (table.terminals j)) c.in-Unaware.is h in
-    c.has_work-in-Unaware.ensures s pts j table r.1 w
+returns-in-Unaware c = λ s j table h w.
+    let r = subst (λ (x : Outlet). StandsFor s j x (table.terminals j)) c.in-Unaware.is h in
+    c.has_work-in-Unaware.ensures s j table r.1 w

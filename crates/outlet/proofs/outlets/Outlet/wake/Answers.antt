@@ -4,6 +4,6 @@ use Rattle.outlet.specs.Outlets.{StandsFor}
 use Rattle.outlet.proofs.outlets.Outlet.wake.Goals as goal
 
 pub returns-in-Unaware-clause-stands : goal.returns-in-Unaware-clause-stands
-returns-in-Unaware-clause-stands c = λ s pts j d waits h.
-    let r = subst (λ (x : Outlet). StandsFor s pts j x d) c.in-Unaware.is h in
-    (r.0, c.wake-in-Unaware.ensures.stands s pts j d waits r.1)
+returns-in-Unaware-clause-stands c = λ s j d waits h.
+    let r = subst (λ (x : Outlet). StandsFor s j x d) c.in-Unaware.is h in
+    (r.0, c.wake-in-Unaware.ensures.stands s j d waits r.1)

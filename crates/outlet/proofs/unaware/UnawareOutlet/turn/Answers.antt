@@ -1,96 +1,51 @@
-use Rattle.std.proofs.Common.{Bool, [], ◌∷◌, ap, sym, subst, ◌∙◌}
-use Rattle.std.specs.Prelude.{nat_le}
-use Rattle.mixer_spec.specs.Table.{sents}
-use Rattle.aware_output.specs.States.{State as OutputState}
-use Rattle.aware_output.specs.Standing as outputs
-use Rattle.outlet.specs.Turns.{conf_at}
+use Rattle.std.proofs.Common.{ℕ, Some, None, ap, ◌∙◌}
+use Rattle.std.specs.Prelude.{nat_le, nat_lt}
+use Rattle.mixer_spec.specs.Setups.{Setup}
+use Rattle.mixer_spec.specs.Table.{Table}
 use Rattle.outlet.specs.UnawareStates.{UnawareState}
-use Rattle.outlet.specs.UnawareStanding.{turned_here}
-use Rattle.outlet.proofs.UnawareTurning.{Added, added_here, is_asked_so, may_send, puts_sent, puts_silent, rests_so, stands_sent, stands_silent, told, waits_stand}
+use Rattle.outlet.specs.UnawareStanding.{IsTurn}
+use Rattle.outlet.proofs.UnawareTurning.{IsOver, Steps, is_asked_so, rests_so, sent_so, silent_so}
+use Rattle.outlet.proofs.unaware.UnawareOutlet.turn.Goals.{After-keep, After-or_repeats-is_sent, Then-not-is_sent}
 use Rattle.outlet.proofs.unaware.UnawareOutlet.turn.Goals as goal
 
-pub returns-then-not-is_sent-clause-stands : goal.returns-then-not-is_sent-clause-stands
-returns-then-not-is_sent-clause-stands c = λ s pts j table now h.
+steps : (c : After-or_repeats-is_sent) (s : Setup) (j : ℕ) (table : Table) (now : ℕ) → IsTurn s j table c.args.self.now c.args.slots.now c.args.names.now now c.args.media
+    → Steps s j c.args.media table c.args.self.now c.ask-gave.new.self c.has_come-is_asked.result c.ask-gave.result (nat_lt 0 c.self-2.inside.left) c.or_repeats-is_sent.result c.ask-gave.new.text c.ask-gave.new.slots
+steps c s j table now h =
     let o = c.args.self.now in
-    let so = is_asked_so s pts j table now c.args.media o c.args.slots.now c.args.names.now h in
-    let d = table.terminals j in
-    let asked = c.has_come-is_asked.result in
-    let output : outputs.StandsFor (conf_at s pts j) (s.mixer ∷ []) c.self-2.inside.output (sents d.past) =
-    subst (λ (x : OutputState). outputs.StandsFor (conf_at s pts j) (s.mixer ∷ []) x (sents d.past)) (sym (ap (λ (x : UnawareState). x.output) c.self-2.view_is ∙ c.ask-gave.ensures.output)) h.stands.output in
-    let t = told s pts j table c.args.media o c.ask-gave.new.self asked c.ask-gave.result c.due.result c.or_repeats-is_sent.result c.ask-gave.new.text c.ask-gave.new.slots h.stands (c.has_come-is_asked.ensures ∙ ap (λ (x : UnawareState). nat_le x.free_at c.args.media) c.self.view_is)
-    (c.ask-gave.ensures.composes s table d.asks so (rests_so s pts j table o h.stands)) (c.due.ensures (conf_at s pts j) (s.mixer ∷ []) (sents d.past) output) c.or_repeats-is_sent.ensures in
-    let a = subst (λ (b : Bool). Added s c.args.media d.past (turned_here s j now c.args.media table).past c.ask-gave.new.text b) c.if-not-is_sent.true
-    (added_here s j now c.args.media table asked c.ask-gave.result c.due.result c.or_repeats-is_sent.result c.ask-gave.new.text c.ask-gave.new.self c.ask-gave.new.slots t) in
-    stands_silent s pts j now c.args.media table o c.ask-gave.new.self asked c.ask-gave.result c.due.result c.or_repeats-is_sent.result c.ask-gave.new.text c.ask-gave.new.slots h.stands t a c.ask-gave.ensures.same.0 c.ask-gave.ensures.output c.ask-gave.ensures.times.0 c.ask-gave.ensures.times.1
+    record {
+      asked_is = c.has_come-is_asked.ensures ∙ ap (λ (x : UnawareState). nat_le x.free_at c.args.media) c.self.view_is;
+      composes = c.ask-gave.ensures.composes s table (table.terminals j).asks (is_asked_so s j table now c.args.media o c.args.slots.now c.args.names.now h) (rests_so s j table o h.stands);
+      due_is = ap (λ (x : UnawareState). nat_lt 0 x.left) c.self-2.view_is;
+      sends_is = c.or_repeats-is_sent.ensures;
+      same = c.ask-gave.ensures.same;
+      repeats = c.ask-gave.ensures.repeats;
+      times = c.ask-gave.ensures.times;
+    }
+
+silent : (c : Then-not-is_sent) (s : Setup) (j : ℕ) (table : Table) (now : ℕ) → IsTurn s j table c.args.self.now c.args.slots.now c.args.names.now now c.args.media
+    → IsOver s j now c.args.media table c.ask-gave.new.self c.ask-gave.new.slots None c.ask-gave.new.text
+silent c s j table now h =
+    silent_so s j now c.args.media table c.args.self.now c.ask-gave.new.self c.args.slots.now c.args.names.now _ _ _ c.or_repeats-is_sent.result c.ask-gave.new.text c.ask-gave.new.slots h (steps c.before s j table now h) c.if-not-is_sent.true
+
+sent : (c : After-keep) (s : Setup) (j : ℕ) (table : Table) (now : ℕ) → IsTurn s j table c.args.self.now c.args.slots.now c.args.names.now now c.args.media
+    → IsOver s j now c.args.media table c.keep.new.self c.ask-gave.new.slots (Some 0) c.ask-gave.new.text
+sent c s j table now h =
+    sent_so s j now c.args.media table c.args.self.now c.ask-gave.new.self c.keep.new.self c.args.slots.now c.args.names.now _ _ _ c.or_repeats-is_sent.result c.ask-gave.new.text c.ask-gave.new.slots h (steps c.before.before.before s j table now h) c.if-not-is_sent.false c.keep.ensures
+
+pub returns-then-not-is_sent-clause-stands : goal.returns-then-not-is_sent-clause-stands
+returns-then-not-is_sent-clause-stands c = λ s j table now h. (silent c s j table now h).stands
 
 pub returns-then-not-is_sent-clause-waits : goal.returns-then-not-is_sent-clause-waits
-returns-then-not-is_sent-clause-waits c = λ s pts j table now h.
-    let o = c.args.self.now in
-    let so = is_asked_so s pts j table now c.args.media o c.args.slots.now c.args.names.now h in
-    let d = table.terminals j in
-    let asked = c.has_come-is_asked.result in
-    let output : outputs.StandsFor (conf_at s pts j) (s.mixer ∷ []) c.self-2.inside.output (sents d.past) =
-    subst (λ (x : OutputState). outputs.StandsFor (conf_at s pts j) (s.mixer ∷ []) x (sents d.past)) (sym (ap (λ (x : UnawareState). x.output) c.self-2.view_is ∙ c.ask-gave.ensures.output)) h.stands.output in
-    let t = told s pts j table c.args.media o c.ask-gave.new.self asked c.ask-gave.result c.due.result c.or_repeats-is_sent.result c.ask-gave.new.text c.ask-gave.new.slots h.stands (c.has_come-is_asked.ensures ∙ ap (λ (x : UnawareState). nat_le x.free_at c.args.media) c.self.view_is)
-    (c.ask-gave.ensures.composes s table d.asks so (rests_so s pts j table o h.stands)) (c.due.ensures (conf_at s pts j) (s.mixer ∷ []) (sents d.past) output) c.or_repeats-is_sent.ensures in
-    waits_stand s j now c.args.media table asked c.ask-gave.result c.due.result c.or_repeats-is_sent.result c.ask-gave.new.text c.ask-gave.new.self c.ask-gave.new.slots t
+returns-then-not-is_sent-clause-waits c = λ s j table now h. (silent c s j table now h).waits
 
 pub returns-then-not-is_sent-clause-puts : goal.returns-then-not-is_sent-clause-puts
-returns-then-not-is_sent-clause-puts c = λ s pts j table now h.
-    let o = c.args.self.now in
-    let so = is_asked_so s pts j table now c.args.media o c.args.slots.now c.args.names.now h in
-    let d = table.terminals j in
-    let asked = c.has_come-is_asked.result in
-    let output : outputs.StandsFor (conf_at s pts j) (s.mixer ∷ []) c.self-2.inside.output (sents d.past) =
-    subst (λ (x : OutputState). outputs.StandsFor (conf_at s pts j) (s.mixer ∷ []) x (sents d.past)) (sym (ap (λ (x : UnawareState). x.output) c.self-2.view_is ∙ c.ask-gave.ensures.output)) h.stands.output in
-    let t = told s pts j table c.args.media o c.ask-gave.new.self asked c.ask-gave.result c.due.result c.or_repeats-is_sent.result c.ask-gave.new.text c.ask-gave.new.slots h.stands (c.has_come-is_asked.ensures ∙ ap (λ (x : UnawareState). nat_le x.free_at c.args.media) c.self.view_is)
-    (c.ask-gave.ensures.composes s table d.asks so (rests_so s pts j table o h.stands)) (c.due.ensures (conf_at s pts j) (s.mixer ∷ []) (sents d.past) output) c.or_repeats-is_sent.ensures in
-    let a = subst (λ (b : Bool). Added s c.args.media d.past (turned_here s j now c.args.media table).past c.ask-gave.new.text b) c.if-not-is_sent.true
-    (added_here s j now c.args.media table asked c.ask-gave.result c.due.result c.or_repeats-is_sent.result c.ask-gave.new.text c.ask-gave.new.self c.ask-gave.new.slots t) in
-    puts_silent s pts j now c.args.media table c.ask-gave.new.text c.clear.new.self a
+returns-then-not-is_sent-clause-puts c = λ s j table now h. (silent c s j table now h).puts
 
 pub returns-clause-stands : goal.returns-clause-stands
-returns-clause-stands c = λ s pts j table now h.
-    let o = c.args.self.now in
-    let so = is_asked_so s pts j table now c.args.media o c.args.slots.now c.args.names.now h in
-    let d = table.terminals j in
-    let asked = c.has_come-is_asked.result in
-    let output : outputs.StandsFor (conf_at s pts j) (s.mixer ∷ []) c.self-2.inside.output (sents d.past) =
-    subst (λ (x : OutputState). outputs.StandsFor (conf_at s pts j) (s.mixer ∷ []) x (sents d.past)) (sym (ap (λ (x : UnawareState). x.output) c.self-2.view_is ∙ c.ask-gave.ensures.output)) h.stands.output in
-    let t = told s pts j table c.args.media o c.ask-gave.new.self asked c.ask-gave.result c.due.result c.or_repeats-is_sent.result c.ask-gave.new.text c.ask-gave.new.slots h.stands (c.has_come-is_asked.ensures ∙ ap (λ (x : UnawareState). nat_le x.free_at c.args.media) c.self.view_is)
-    (c.ask-gave.ensures.composes s table d.asks so (rests_so s pts j table o h.stands)) (c.due.ensures (conf_at s pts j) (s.mixer ∷ []) (sents d.past) output) c.or_repeats-is_sent.ensures in
-    let a = subst (λ (b : Bool). Added s c.args.media d.past (turned_here s j now c.args.media table).past c.ask-gave.new.text b) c.if-not-is_sent.false
-    (added_here s j now c.args.media table asked c.ask-gave.result c.due.result c.or_repeats-is_sent.result c.ask-gave.new.text c.ask-gave.new.self c.ask-gave.new.slots t) in
-    let before = subst (λ (x : OutputState). outputs.StandsFor (conf_at s pts j) (s.mixer ∷ []) x (sents d.past)) (sym c.ask-gave.ensures.output) h.stands.output in
-    let w = c.send.ensures.sends (conf_at s pts j) s.mixer (sents d.past) before
-    (may_send s pts j now c.args.media table o c.args.slots.now c.args.names.now c.ask-gave.new.text h a) in
-    stands_sent s pts j now c.args.media table o c.ask-gave.new.self c.send.new.self asked c.ask-gave.result c.due.result c.or_repeats-is_sent.result c.ask-gave.new.text c.ask-gave.new.slots c.send.new.out h.stands t a w c.ask-gave.ensures.same.0 c.ask-gave.ensures.times.0 c.send.ensures.composer c.send.ensures.spacing c.send.ensures.waits
+returns-clause-stands c = λ s j table now h. (sent c s j table now h).stands
 
 pub returns-clause-waits : goal.returns-clause-waits
-returns-clause-waits c = λ s pts j table now h.
-    let o = c.args.self.now in
-    let so = is_asked_so s pts j table now c.args.media o c.args.slots.now c.args.names.now h in
-    let d = table.terminals j in
-    let asked = c.has_come-is_asked.result in
-    let output : outputs.StandsFor (conf_at s pts j) (s.mixer ∷ []) c.self-2.inside.output (sents d.past) =
-    subst (λ (x : OutputState). outputs.StandsFor (conf_at s pts j) (s.mixer ∷ []) x (sents d.past)) (sym (ap (λ (x : UnawareState). x.output) c.self-2.view_is ∙ c.ask-gave.ensures.output)) h.stands.output in
-    let t = told s pts j table c.args.media o c.ask-gave.new.self asked c.ask-gave.result c.due.result c.or_repeats-is_sent.result c.ask-gave.new.text c.ask-gave.new.slots h.stands (c.has_come-is_asked.ensures ∙ ap (λ (x : UnawareState). nat_le x.free_at c.args.media) c.self.view_is)
-    (c.ask-gave.ensures.composes s table d.asks so (rests_so s pts j table o h.stands)) (c.due.ensures (conf_at s pts j) (s.mixer ∷ []) (sents d.past) output) c.or_repeats-is_sent.ensures in
-    waits_stand s j now c.args.media table asked c.ask-gave.result c.due.result c.or_repeats-is_sent.result c.ask-gave.new.text c.ask-gave.new.self c.ask-gave.new.slots t
+returns-clause-waits c = λ s j table now h. (sent c s j table now h).waits
 
 pub returns-clause-puts : goal.returns-clause-puts
-returns-clause-puts c = λ s pts j table now h.
-    let o = c.args.self.now in
-    let so = is_asked_so s pts j table now c.args.media o c.args.slots.now c.args.names.now h in
-    let d = table.terminals j in
-    let asked = c.has_come-is_asked.result in
-    let output : outputs.StandsFor (conf_at s pts j) (s.mixer ∷ []) c.self-2.inside.output (sents d.past) =
-    subst (λ (x : OutputState). outputs.StandsFor (conf_at s pts j) (s.mixer ∷ []) x (sents d.past)) (sym (ap (λ (x : UnawareState). x.output) c.self-2.view_is ∙ c.ask-gave.ensures.output)) h.stands.output in
-    let t = told s pts j table c.args.media o c.ask-gave.new.self asked c.ask-gave.result c.due.result c.or_repeats-is_sent.result c.ask-gave.new.text c.ask-gave.new.slots h.stands (c.has_come-is_asked.ensures ∙ ap (λ (x : UnawareState). nat_le x.free_at c.args.media) c.self.view_is)
-    (c.ask-gave.ensures.composes s table d.asks so (rests_so s pts j table o h.stands)) (c.due.ensures (conf_at s pts j) (s.mixer ∷ []) (sents d.past) output) c.or_repeats-is_sent.ensures in
-    let a = subst (λ (b : Bool). Added s c.args.media d.past (turned_here s j now c.args.media table).past c.ask-gave.new.text b) c.if-not-is_sent.false
-    (added_here s j now c.args.media table asked c.ask-gave.result c.due.result c.or_repeats-is_sent.result c.ask-gave.new.text c.ask-gave.new.self c.ask-gave.new.slots t) in
-    let before = subst (λ (x : OutputState). outputs.StandsFor (conf_at s pts j) (s.mixer ∷ []) x (sents d.past)) (sym c.ask-gave.ensures.output) h.stands.output in
-    let w = c.send.ensures.sends (conf_at s pts j) s.mixer (sents d.past) before
-    (may_send s pts j now c.args.media table o c.args.slots.now c.args.names.now c.ask-gave.new.text h a) in
-    puts_sent s pts j now c.args.media table c.ask-gave.new.self.spacing c.send.new.self c.ask-gave.new.text c.send.new.out a w
+returns-clause-puts c = λ s j table now h. (sent c s j table now h).puts
