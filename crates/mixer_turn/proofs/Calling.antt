@@ -4,7 +4,6 @@ use Rattle.std.specs.Prelude.{◌↔◌, ◌&&◌, is_some, slice_index_or, OnOk
 use Rattle.std.proofs.lemmas.Option.{slice_get_within}
 use Rattle.std.proofs.lemmas.Bool.{true≢false}
 use Rattle.rtt_base.specs.declared.errors.Full.{Full}
-use Rattle.rtt_base.specs.declared.text_packets.Pts.{Pts}
 use Rattle.stream_spec.specs.Ready.{Chunk}
 use Rattle.mixer_spec.specs.Setups.{Setup}
 use Rattle.mixer_spec.specs.Rounds.{set_at}
@@ -27,9 +26,9 @@ use Rattle.mixer_turn.proofs.Allowing.{seated}
 use Rattle.mixer_turn.proofs.Waiting.{none_before}
 
 -- the parts stand for another table
-kept_by : (s : Setup) (pts : ℕ → Pts) (m : State) (new : Table) (seating : seats.State) (waiting : List Waiting) (all : List Outlet) → length m.outlets ≡ s.legs → ((i : ℕ) → i < s.legs → slice_index_or m.names i [] ≡ s.name i)
-    → seatings.StandsFor s seating new.seats → slots.StandsFor s waiting new → length all ≡ length m.outlets → AreOutlets s pts all new.terminals → Keeps s pts (record m { seating = seating; slots = waiting; outlets = all }) new
-kept_by s pts m new seating waiting all legs names a b count each = record {
+kept_by : (s : Setup) (m : State) (new : Table) (seating : seats.State) (waiting : List Waiting) (all : List Outlet) → length m.outlets ≡ s.legs → ((i : ℕ) → i < s.legs → slice_index_or m.names i [] ≡ s.name i)
+    → seatings.StandsFor s seating new.seats → slots.StandsFor s waiting new → length all ≡ length m.outlets → AreOutlets s all new.terminals → Keeps s (record m { seating = seating; slots = waiting; outlets = all }) new
+kept_by s m new seating waiting all legs names a b count each = record {
   legs = count ∙ legs;
   seats = a;
   waits = b;
@@ -38,10 +37,10 @@ kept_by s pts m new seating waiting all legs names a b count each = record {
 }
 
 -- one call more, which is no turn
-called : (s : Setup) (pts : ℕ → Pts) (m : State) (calls : List Call) (call : Call) (seating : seats.State) (waiting : List Waiting) (all : List Outlet) → StandsFor s pts m calls → AreAllowed s (call ∷ calls)
-    → Keeps s pts (record m { seating = seating; slots = waiting; outlets = all }) (after_calls s (call ∷ calls)) → (after_calls s (call ∷ calls)).media ≡ (after_calls s calls).media → turns_made (call ∷ calls) ≡ turns_made calls
-    → StandsFor s pts (record m { seating = seating; slots = waiting; outlets = all }) (call ∷ calls)
-called s pts m calls call seating waiting all h a k e f = record {
+called : (s : Setup) (m : State) (calls : List Call) (call : Call) (seating : seats.State) (waiting : List Waiting) (all : List Outlet) → StandsFor s m calls → AreAllowed s (call ∷ calls)
+    → Keeps s (record m { seating = seating; slots = waiting; outlets = all }) (after_calls s (call ∷ calls)) → (after_calls s (call ∷ calls)).media ≡ (after_calls s calls).media → turns_made (call ∷ calls) ≡ turns_made calls
+    → StandsFor s (record m { seating = seating; slots = waiting; outlets = all }) (call ∷ calls)
+called s m calls call seating waiting all h a k e f = record {
   setup = h.setup;
   near = h.near;
   step = h.step;
@@ -52,10 +51,10 @@ called s pts m calls call seating waiting all h a k e f = record {
 }
 
 -- a call that changes no part of the mixer
-unchanged : (s : Setup) (pts : ℕ → Pts) (m : State) (calls : List Call) (call : Call) → StandsFor s pts m calls → AreAllowed s (call ∷ calls) → after_calls s (call ∷ calls) ≡ after_calls s calls → turns_made (call ∷ calls) ≡ turns_made calls
-    → StandsFor s pts m (call ∷ calls)
-unchanged s pts m calls call h a e f =
-    called s pts m calls call m.seating m.slots m.outlets h a (subst (λ (t : Table). Keeps s pts m t) (sym e) h.keeps) (ap (λ (t : Table). t.media) e) f
+unchanged : (s : Setup) (m : State) (calls : List Call) (call : Call) → StandsFor s m calls → AreAllowed s (call ∷ calls) → after_calls s (call ∷ calls) ≡ after_calls s calls → turns_made (call ∷ calls) ≡ turns_made calls
+    → StandsFor s m (call ∷ calls)
+unchanged s m calls call h a e f =
+    called s m calls call m.seating m.slots m.outlets h a (subst (λ (t : Table). Keeps s m t) (sym e) h.keeps) (ap (λ (t : Table). t.media) e) f
 
 -- ---- a leg comes
 some_of : (o : Option ℕ) → true ≡ is_some o → (p : ℕ) × (o ≡ Some p)
@@ -66,55 +65,55 @@ none_is : (o : Option ℕ) → false ≡ is_some o → o ≡ None
 none_is None e = refl
 none_is (Some p) e = absurd (true≢false (sym e))
 
-pub nobody_there : (s : Setup) (pts : ℕ → Pts) (m : State) (calls : List Call) (i : ℕ) (l : Bool) → StandsFor s pts m calls → AreAllowed s (Admit i l ∷ calls) → (after_calls s calls).seats.place i ≡ None
-nobody_there s pts m calls i l h a = none_of s (after_calls s calls).seats i (seated s calls h.allowed) a.0.fresh
+pub nobody_there : (s : Setup) (m : State) (calls : List Call) (i : ℕ) (l : Bool) → StandsFor s m calls → AreAllowed s (Admit i l ∷ calls) → (after_calls s calls).seats.place i ≡ None
+nobody_there s m calls i l h a = none_of s (after_calls s calls).seats i (seated s calls h.allowed) a.0.fresh
 
-pub none_waits : (s : Setup) (pts : ℕ → Pts) (m : State) (calls : List Call) (i : ℕ) (l : Bool) → StandsFor s pts m calls → AreAllowed s (Admit i l ∷ calls) → NoneWaits s i (after_calls s calls)
-none_waits s pts m calls i l h a = none_before s calls i h.allowed a.0.fresh
+pub none_waits : (s : Setup) (m : State) (calls : List Call) (i : ℕ) (l : Bool) → StandsFor s m calls → AreAllowed s (Admit i l ∷ calls) → NoneWaits s i (after_calls s calls)
+none_waits s m calls i l h a = none_before s calls i h.allowed a.0.fresh
 
-pub stands_come : (s : Setup) (pts : ℕ → Pts) (m : State) (calls : List Call) (i : ℕ) (l : Bool) (seating : seats.State) (waiting : List Waiting) → StandsFor s pts m calls → AreAllowed s (Admit i l ∷ calls)
+pub stands_come : (s : Setup) (m : State) (calls : List Call) (i : ℕ) (l : Bool) (seating : seats.State) (waiting : List Waiting) → StandsFor s m calls → AreAllowed s (Admit i l ∷ calls)
     → true ≡ is_some (free_place s (after_calls s calls).seats) → seatings.StandsFor s seating (admitted s i l (after_calls s calls)).seats → slots.StandsFor s waiting (listening i l (after_calls s calls))
-    → StandsFor s pts (record m { seating = seating; slots = waiting }) (Admit i l ∷ calls)
-stands_come s pts m calls i l seating waiting h a free x y =
+    → StandsFor s (record m { seating = seating; slots = waiting }) (Admit i l ∷ calls)
+stands_come s m calls i l seating waiting h a free x y =
     let table = after_calls s calls in
     let p = some_of (free_place s table.seats) free in
     let is : admitted s i l table ≡ come_to i l table (Some p.0) = ap (come_to i l table) p.1 in
-    called s pts m calls (Admit i l) seating waiting m.outlets h a
-    (subst (λ (t : Table). Keeps s pts (record m { seating = seating; slots = waiting }) t) (sym is)
-    (kept_by s pts m (come_to i l table (Some p.0)) seating waiting m.outlets h.keeps.legs h.keeps.names (subst (λ (t : Table). seatings.StandsFor s seating t.seats) is x)
+    called s m calls (Admit i l) seating waiting m.outlets h a
+    (subst (λ (t : Table). Keeps s (record m { seating = seating; slots = waiting }) t) (sym is)
+    (kept_by s m (come_to i l table (Some p.0)) seating waiting m.outlets h.keeps.legs h.keeps.names (subst (λ (t : Table). seatings.StandsFor s seating t.seats) is x)
     (stands_same s waiting (listening i l table) (come_to i l table (Some p.0)) y (λ k. refl) (λ k. refl) (λ k n. refl)) refl h.keeps.outlets))
     (ap (λ (t : Table). t.media) is) refl
 
-pub stands_full : (s : Setup) (pts : ℕ → Pts) (m : State) (calls : List Call) (i : ℕ) (l : Bool) (seating : seats.State) → StandsFor s pts m calls → AreAllowed s (Admit i l ∷ calls)
-    → false ≡ is_some (free_place s (after_calls s calls).seats) → seatings.StandsFor s seating (admitted s i l (after_calls s calls)).seats → StandsFor s pts (record m { seating = seating }) (Admit i l ∷ calls)
-stands_full s pts m calls i l seating h a free x =
+pub stands_full : (s : Setup) (m : State) (calls : List Call) (i : ℕ) (l : Bool) (seating : seats.State) → StandsFor s m calls → AreAllowed s (Admit i l ∷ calls)
+    → false ≡ is_some (free_place s (after_calls s calls).seats) → seatings.StandsFor s seating (admitted s i l (after_calls s calls)).seats → StandsFor s (record m { seating = seating }) (Admit i l ∷ calls)
+stands_full s m calls i l seating h a free x =
     let table = after_calls s calls in
     let is : admitted s i l table ≡ table = ap (come_to i l table) (none_is (free_place s table.seats) free) in
-    called s pts m calls (Admit i l) seating m.slots m.outlets h a
-    (subst (λ (t : Table). Keeps s pts (record m { seating = seating }) t) (sym is)
-    (kept_by s pts m table seating m.slots m.outlets h.keeps.legs h.keeps.names (subst (λ (t : Table). seatings.StandsFor s seating t.seats) is x) h.keeps.waits refl h.keeps.outlets))
+    called s m calls (Admit i l) seating m.slots m.outlets h a
+    (subst (λ (t : Table). Keeps s (record m { seating = seating }) t) (sym is)
+    (kept_by s m table seating m.slots m.outlets h.keeps.legs h.keeps.names (subst (λ (t : Table). seatings.StandsFor s seating t.seats) is x) h.keeps.waits refl h.keeps.outlets))
     (ap (λ (t : Table). t.media) is) refl
 
 -- ---- a leg listens no more, or leaves
-pub stands_hushed : (s : Setup) (pts : ℕ → Pts) (m : State) (calls : List Call) (i : ℕ) (seating : seats.State) (waiting : List Waiting) → StandsFor s pts m calls → AreAllowed s (Hush i ∷ calls)
-    → seatings.StandsFor s seating (hushed i (after_calls s calls)).seats → slots.StandsFor s waiting (listening i false (after_calls s calls)) → StandsFor s pts (record m { seating = seating; slots = waiting }) (Hush i ∷ calls)
-stands_hushed s pts m calls i seating waiting h a x y =
-    called s pts m calls (Hush i) seating waiting m.outlets h a (kept_by s pts m (hushed i (after_calls s calls)) seating waiting m.outlets h.keeps.legs h.keeps.names x y refl h.keeps.outlets) refl refl
+pub stands_hushed : (s : Setup) (m : State) (calls : List Call) (i : ℕ) (seating : seats.State) (waiting : List Waiting) → StandsFor s m calls → AreAllowed s (Hush i ∷ calls)
+    → seatings.StandsFor s seating (hushed i (after_calls s calls)).seats → slots.StandsFor s waiting (listening i false (after_calls s calls)) → StandsFor s (record m { seating = seating; slots = waiting }) (Hush i ∷ calls)
+stands_hushed s m calls i seating waiting h a x y =
+    called s m calls (Hush i) seating waiting m.outlets h a (kept_by s m (hushed i (after_calls s calls)) seating waiting m.outlets h.keeps.legs h.keeps.names x y refl h.keeps.outlets) refl refl
 
-pub stands_left : (s : Setup) (pts : ℕ → Pts) (m : State) (calls : List Call) (i : ℕ) (seating : seats.State) → StandsFor s pts m calls → AreAllowed s (Leave i ∷ calls)
-    → true ≡ may_leave s i (after_calls s calls) → seatings.StandsFor s seating (freed i (after_calls s calls)).seats → StandsFor s pts (record m { seating = seating }) (Leave i ∷ calls)
-stands_left s pts m calls i seating h a may x =
+pub stands_left : (s : Setup) (m : State) (calls : List Call) (i : ℕ) (seating : seats.State) → StandsFor s m calls → AreAllowed s (Leave i ∷ calls)
+    → true ≡ may_leave s i (after_calls s calls) → seatings.StandsFor s seating (freed i (after_calls s calls)).seats → StandsFor s (record m { seating = seating }) (Leave i ∷ calls)
+stands_left s m calls i seating h a may x =
     let table = after_calls s calls in
     let is : after_calls s (Leave i ∷ calls) ≡ freed i table = ap (λ b. cond {A = Table} b (freed i table) table) (sym may) in
-    called s pts m calls (Leave i) seating m.slots m.outlets h a
-    (subst (λ (t : Table). Keeps s pts (record m { seating = seating }) t) (sym is)
-    (kept_by s pts m (freed i table) seating m.slots m.outlets h.keeps.legs h.keeps.names x (stands_same s m.slots table (freed i table) h.keeps.waits (λ k. refl) (λ k. refl) (λ k n. refl)) refl h.keeps.outlets))
+    called s m calls (Leave i) seating m.slots m.outlets h a
+    (subst (λ (t : Table). Keeps s (record m { seating = seating }) t) (sym is)
+    (kept_by s m (freed i table) seating m.slots m.outlets h.keeps.legs h.keeps.names x (stands_same s m.slots table (freed i table) h.keeps.waits (λ k. refl) (λ k. refl) (λ k n. refl)) refl h.keeps.outlets))
     (ap (λ (t : Table). t.media) is) refl
 
-pub stands_stays : (s : Setup) (pts : ℕ → Pts) (m : State) (calls : List Call) (i : ℕ) → StandsFor s pts m calls → AreAllowed s (Leave i ∷ calls) → false ≡ may_leave s i (after_calls s calls) → StandsFor s pts m (Leave i ∷ calls)
-stands_stays s pts m calls i h a may =
+pub stands_stays : (s : Setup) (m : State) (calls : List Call) (i : ℕ) → StandsFor s m calls → AreAllowed s (Leave i ∷ calls) → false ≡ may_leave s i (after_calls s calls) → StandsFor s m (Leave i ∷ calls)
+stands_stays s m calls i h a may =
     let table = after_calls s calls in
-    unchanged s pts m calls (Leave i) h a (ap (λ b. cond {A = Table} b (freed i table) table) (sym may)) refl
+    unchanged s m calls (Leave i) h a (ap (λ b. cond {A = Table} b (freed i table) table) (sym may)) refl
 
 -- ---- a chunk is offered
 pub has_room_where : (a b : Bool) (P : Type 0) → a ≡ true → (P ↔ (b ≡ true)) → P ↔ ((a && b) ≡ true)
@@ -125,28 +124,28 @@ pub no_room : (a b : Bool) → a ≡ false → (a && b) ≡ false
 no_room true b e = absurd (true≢false e)
 no_room false b e = refl
 
-given_stands : (s : Setup) (pts : Pts) (j : ℕ) (p o : Outlet) (b : Bool) (i : ℕ) (c : Chunk) (d : Terminal) → IsWoken p o → outlets.StandsFor s pts j p d → outlets.StandsFor s pts j o (cond b (give i c d) d)
-given_stands s pts j p o true i c d w h = w.stands s pts j d (set_at d.waits i (d.waits i ++ c ∷ [])) h
-given_stands s pts j p o false i c d w h = w.stands s pts j d d.waits h
+given_stands : (s : Setup) (j : ℕ) (p o : Outlet) (b : Bool) (i : ℕ) (c : Chunk) (d : Terminal) → IsWoken p o → outlets.StandsFor s j p d → outlets.StandsFor s j o (cond b (give i c d) d)
+given_stands s j p o true i c d w h = w.stands s j d (set_at d.waits i (d.waits i ++ c ∷ [])) h
+given_stands s j p o false i c d w h = w.stands s j d d.waits h
 
-woken_stand : (s : Setup) (pts : ℕ → Pts) (old new : List Outlet) (table : Table) (i : ℕ) (c : Chunk) → AreWoken old new → AreOutlets s pts old table.terminals → AreOutlets s pts new (given i c table).terminals
-woken_stand s pts old new table i c w h j o g =
+woken_stand : (s : Setup) (old new : List Outlet) (table : Table) (i : ℕ) (c : Chunk) → AreWoken old new → AreOutlets s old table.terminals → AreOutlets s new (given i c table).terminals
+woken_stand s old new table i c w h j o g =
     let f = w.first j o (omega (arith, slice_get_within new j o g, w.count)) g in
-    given_stands s (pts j) j f.0 o (is_given table.seats i j) i c (table.terminals j) f.2 (h j f.0 f.1)
+    given_stands s j f.0 o (is_given table.seats i j) i c (table.terminals j) f.2 (h j f.0 f.1)
 
-pub stands_refused : (s : Setup) (pts : ℕ → Pts) (m : State) (calls : List Call) (c : Chunk) → StandsFor s pts m calls → AreAllowed s (Offer c ∷ calls) → has_room s c.source c (after_calls s calls) ≡ false → StandsFor s pts m (Offer c ∷ calls)
-stands_refused s pts m calls c h a room =
+pub stands_refused : (s : Setup) (m : State) (calls : List Call) (c : Chunk) → StandsFor s m calls → AreAllowed s (Offer c ∷ calls) → has_room s c.source c (after_calls s calls) ≡ false → StandsFor s m (Offer c ∷ calls)
+stands_refused s m calls c h a room =
     let table = after_calls s calls in
-    unchanged s pts m calls (Offer c) h a (ap (λ b. cond {A = Table} b (given c.source c table) table) room) refl
+    unchanged s m calls (Offer c) h a (ap (λ b. cond {A = Table} b (given c.source c table) table) room) refl
 
-pub stands_taken : (s : Setup) (pts : ℕ → Pts) (m : State) (calls : List Call) (c : Chunk) (waiting : List Waiting) (all : List Outlet) → StandsFor s pts m calls → AreAllowed s (Offer c ∷ calls)
-    → has_room s c.source c (after_calls s calls) ≡ true → slots.StandsFor s waiting (given c.source c (after_calls s calls)) → AreWoken m.outlets all → StandsFor s pts (record m { slots = waiting; outlets = all }) (Offer c ∷ calls)
-stands_taken s pts m calls c waiting all h a room x w =
+pub stands_taken : (s : Setup) (m : State) (calls : List Call) (c : Chunk) (waiting : List Waiting) (all : List Outlet) → StandsFor s m calls → AreAllowed s (Offer c ∷ calls)
+    → has_room s c.source c (after_calls s calls) ≡ true → slots.StandsFor s waiting (given c.source c (after_calls s calls)) → AreWoken m.outlets all → StandsFor s (record m { slots = waiting; outlets = all }) (Offer c ∷ calls)
+stands_taken s m calls c waiting all h a room x w =
     let table = after_calls s calls in
     let is : after_calls s (Offer c ∷ calls) ≡ given c.source c table = ap (λ b. cond {A = Table} b (given c.source c table) table) room in
-    called s pts m calls (Offer c) m.seating waiting all h a
-    (subst (λ (t : Table). Keeps s pts (record m { slots = waiting; outlets = all }) t) (sym is)
-    (kept_by s pts m (given c.source c table) m.seating waiting all h.keeps.legs h.keeps.names h.keeps.seats x w.count (woken_stand s pts m.outlets all table c.source c w h.keeps.outlets)))
+    called s m calls (Offer c) m.seating waiting all h a
+    (subst (λ (t : Table). Keeps s (record m { slots = waiting; outlets = all }) t) (sym is)
+    (kept_by s m (given c.source c table) m.seating waiting all h.keeps.legs h.keeps.names h.keeps.seats x w.count (woken_stand s m.outlets all table c.source c w h.keeps.outlets)))
     (ap (λ (t : Table). t.media) is) refl
 
 -- no room was found

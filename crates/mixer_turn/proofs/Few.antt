@@ -1,12 +1,11 @@
--- How many packets are put out in a turn.
+-- How many entries a turn makes.
 use Rattle.std.proofs.Common.{◌≡◌, ℕ, zero, suc, ◌+◌, ◌<◌, ◌≤◌, Bool, true, false, cond, inl, inr, List, [], ◌∷◌, length, refl, ap, subst, sym, ◌∙◌, arith}
 use Rattle.std.specs.Prelude.{◌==◌, if◌then◌else◌}
 use Rattle.std.proofs.lemmas.Bool.{cases_eq, ne_eqb}
-use Rattle.wire_spec.specs.Packets.{Packet}
-use Rattle.stream_spec.specs.Own.{Stream}
 use Rattle.mixer_spec.specs.Rounds.{count_below}
-use Rattle.mixer_spec.specs.Setups.{Setup, stream}
-use Rattle.mixer_spec.specs.Table.{TurnEntry, Terminal, Post, Seats, Table, is_at, is_seated, leg_in, new_packet, turn_at, turned_to, turn_aware, turn_unaware, posts_below}
+use Rattle.mixer_spec.specs.Setups.{Setup}
+use Rattle.mixer_spec.specs.Table.{TurnEntry, Table, is_seated, turned_to, turn_aware, turn_unaware}
+use Rattle.outlet.specs.Turns.{new_entry}
 
 -- Where a leg holds a place, fewer of those before it do than there are places.
 pub few_before : (p : ℕ → Bool) (n m : ℕ) → n < m → p n ≡ true → count_below p n < count_below p m
@@ -35,21 +34,21 @@ none_more p n a l = let next : suc n ≡ n + 1 = omega arith in subst (λ (k : �
     go true = omega (arith, l)
     go false = omega (arith, l)
 
--- ---- how many packets there are
-pub one_or_none : (c : Stream) (before after : List TurnEntry) → length (new_packet c before after) ≤ 1
-one_or_none c before [] = omega arith
-one_or_none c before (e ∷ past) = go (length past == length before)
+-- ---- how many entries there are
+pub one_or_none : (before after : List TurnEntry) → length (new_entry before after) ≤ 1
+one_or_none before [] = omega arith
+one_or_none before (e ∷ past) = go (length past == length before)
   where
-    go : (b : Bool) → let none : List Packet = [] in length (cond b (Rattle.stream_spec.specs.Own.packet_after c (Rattle.mixer_spec.specs.Table.sents past) e.sent ∷ []) none) ≤ 1
+    go : (b : Bool) → let none : List TurnEntry = [] in length (cond b (e ∷ []) none) ≤ 1
     go true = omega arith
     go false = omega arith
 
-none_new : (c : Stream) (past : List TurnEntry) → new_packet c past past ≡ []
-none_new c [] = refl
-none_new c (e ∷ past) = rw (ne_eqb (length past) (suc (length past)) (λ q. omega (arith, q))) refl
+none_new : (past : List TurnEntry) → new_entry past past ≡ []
+none_new [] = refl
+none_new (e ∷ past) = rw (ne_eqb (length past) (suc (length past)) (λ q. omega (arith, q))) refl
 
 -- nothing comes of a leg that holds no place
-pub none_posted : (s : Setup) (now t n : ℕ) (table : Table) → is_seated table.seats n ≡ false → new_packet (stream s n) (table.terminals n).past ((turned_to s now t table).terminals n).past ≡ []
-none_posted s now t n table e =
-    ap (λ (b : Bool). new_packet (stream s n) (table.terminals n).past (cond b (cond (s.aware n) (turn_aware s table.seats n now t (table.terminals n)) (turn_unaware s n now t (table.terminals n))) (table.terminals n)).past) e
-    ∙ none_new (stream s n) (table.terminals n).past
+pub none_entered : (s : Setup) (now t n : ℕ) (table : Table) → is_seated table.seats n ≡ false → new_entry (table.terminals n).past ((turned_to s now t table).terminals n).past ≡ []
+none_entered s now t n table e =
+    ap (λ (b : Bool). new_entry (table.terminals n).past (cond b (cond (s.aware n) (turn_aware s table.seats n now t (table.terminals n)) (turn_unaware s n now t (table.terminals n))) (table.terminals n)).past) e
+    ∙ none_new (table.terminals n).past

@@ -5,6 +5,7 @@ pub mod Waiting
 pub mod Going
 pub mod Rounding
 pub mod Few
+pub mod Counting
 pub mod Turning
 pub mod MayTurns
 pub mod Putting
@@ -15,3 +16,5 @@ pub mod Woken
 pub mod Turned
 pub mod Sent
 pub mod Recording
+pub mod Nexts
+pub mod Entered

@@ -1,30 +1,30 @@
 -- All terminals have their turn, one after the other.
-use Rattle.std.proofs.Common.{◌≡◌, ℕ, suc, ◌+◌, ◌<◌, ◌≤◌, inl, inr, Some, List, [], length, set, refl, ap, subst, sym, ◌∙◌, arith}
+use Rattle.std.proofs.Common.{◌≡◌, ℕ, suc, ◌+◌, ◌<◌, ◌≤◌, inl, inr, Some, List, [], length, map, set, refl, ap, subst, sym, ◌∙◌, arith}
 use Rattle.std.specs.Prelude.{slice_get}
 use Rattle.std.proofs.lemmas.Bool.{cases_eq}
-use Rattle.std.proofs.lemmas.List.{length-set}
+use Rattle.std.proofs.lemmas.List.{length-map, length-set}
 use Rattle.std.proofs.lemmas.List.Elements.{All-nil}
 use Rattle.std.proofs.lemmas.Option.{slice_get_within}
-use Rattle.rtt_base.specs.declared.text_packets.Pts.{Pts}
 use Rattle.mixer_spec.specs.Setups.{Setup}
-use Rattle.mixer_spec.specs.Table.{Table, turn_at, turned_to, posts_below}
+use Rattle.mixer_spec.specs.Table.{Table, turn_at, turned_to}
 use Rattle.slot_table.specs.Lanes.{Waiting}
 use Rattle.slot_table.specs.Standing as slots
 use Rattle.slot_table.proofs.Lists.{get_set_same}
 use Rattle.seating.specs.States as seating
 use Rattle.outlet.specs.declared.outlets.Outlet.{Outlet}
 use Rattle.outlet.specs.Outlets as outlets
-use Rattle.outlet.specs.Outlets.{own_of, legs_of, next_turn}
+use Rattle.outlet.specs.Outlets.{SameLeg, next_turn, sources_of}
 use Rattle.mixer_turn.specs.declared.batches.Post.{Post}
 use Rattle.mixer_turn.specs.Posts.{ArePosts, IsPost, KeepsPosts}
-use Rattle.mixer_turn.specs.Turns.{IsOutletOf, AreOutletsOf, turned_below, HasPosts, Reaches, LegMayTurn, LegTurned, AllTurned, OfMixers}
+use Rattle.mixer_turn.specs.Turns.{IsOutletOf, AreOutletsOf, turned_below, posts_between, Reaches, LegMayTurn, LegTurned, AllTurned, OfMixers}
+use Rattle.mixer_turn.proofs.Counting.{count_there, counts_kept}
 use Rattle.mixer_turn.proofs.Turning.{slots_turned}
 use Rattle.mixer_spec.proofs.Lists.{get_set_other}
 
 -- the first n terminals had their turn
-pub record TurnedSoFar (s : Setup) (pts : ℕ → Pts) (table : Table) (now t n : ℕ) (all : List Outlet) (waiting : List Waiting) (batch : List Post) : Type 0 where
-  pub outlets : (j : ℕ) (o : Outlet) → j < n → slice_get all j ≡ Some o → outlets.StandsFor s (pts j) j o (turn_at s table.seats j now t (table.terminals j))
-  pub reaches : Reaches s pts table now t n waiting batch
+pub record TurnedSoFar (s : Setup) (table : Table) (now t n : ℕ) (all : List Outlet) (waiting : List Waiting) (batch : List Post) : Type 0 where
+  pub outlets : (j : ℕ) (o : Outlet) → j < n → slice_get all j ≡ Some o → outlets.StandsFor s j o (turn_at s table.seats j now t (table.terminals j))
+  pub reaches : Reaches s table now t n waiting batch
 
 -- of these parts, which were `first` and `slots` before
 pub record Turning (t n : ℕ) (first : List Outlet) (places : seating.State) (before : List Waiting) (called : List (List ℕ)) (all : List Outlet) (waiting : List Waiting) (batch : List Post) : Type 0 where
@@ -32,8 +32,9 @@ pub record Turning (t n : ℕ) (first : List Outlet) (places : seating.State) (b
   pub slots : length waiting ≡ length first
   pub had : (j : ℕ) (o : Outlet) → j < n → slice_get all j ≡ Some o → IsOutletOf (length first) (t + 1) j o
   pub rest : (j : ℕ) (o : Outlet) → n ≤ j → slice_get all j ≡ Some o → slice_get first j ≡ Some o
-  pub posts : ArePosts (length first) batch
-  pub turned : OfMixers first places before called t (λ s pts table now. TurnedSoFar s pts table now t n all waiting batch)
+  pub sources : map sources_of all ≡ map sources_of first
+  pub posts : ArePosts (map sources_of first) batch
+  pub turned : OfMixers first places before called t (λ s table now. TurnedSoFar s table now t n all waiting batch)
 
 pub none_yet : (t : ℕ) (first : List Outlet) (places : seating.State) (before : List Waiting) (called : List (List ℕ)) (batch : List Post) → length before ≡ length first → batch ≡ [] → Turning t 0 first places before called first before batch
 none_yet t first places before called batch l e = record {
@@ -41,8 +42,9 @@ none_yet t first places before called batch l e = record {
   slots = l;
   had = λ j o b g. absurd (omega arith);
   rest = λ j o b g. g;
-  posts = subst (ArePosts (length first)) (sym e) (All-nil (IsPost (length first)));
-  turned = λ s pts table now may. record { outlets = λ j o b g. absurd (omega arith); reaches = record { waits = may.waits; posts = e } };
+  sources = refl;
+  posts = subst (ArePosts (map sources_of first)) (sym e) (All-nil (IsPost (map sources_of first)));
+  turned = λ s table now may. record { outlets = λ j o b g. absurd (omega arith); reaches = record { waits = may.waits; posts = e } };
 }
 
 -- what is known of the next outlet
@@ -51,9 +53,9 @@ pub next_of : (t n : ℕ) (first : List Outlet) (places : seating.State) (before
 next_of t n first places before called all waiting batch o are h g = are n o (h.rest n o (omega arith) g)
 
 pub one_more : (t n : ℕ) (first : List Outlet) (places : seating.State) (before : List Waiting) (called : List (List ℕ)) (all : List Outlet) (waiting after : List Waiting) (batch more : List Post) (o new : Outlet) → AreOutletsOf (length first) t first
-    → Turning t n first places before called all waiting batch → slice_get all n ≡ Some o → (own_of new ≡ own_of o) × (legs_of new ≡ legs_of o) → next_turn new ≤ t + 1 → length after ≡ length waiting
-    → ((s : Setup) (pts : ℕ → Pts) (table : Table) (now : ℕ) → LegMayTurn s pts table now t n o places called → Reaches s pts table now t n waiting batch → LegTurned s pts table now t n new after more)
-    → KeepsPosts n batch more → Turning t (suc n) first places before called (set all n new) after more
+    → Turning t n first places before called all waiting batch → slice_get all n ≡ Some o → SameLeg o new → next_turn new ≤ t + 1 → length after ≡ length waiting
+    → ((s : Setup) (table : Table) (now : ℕ) → LegMayTurn s table now t n o places called → Reaches s table now t n waiting batch → LegTurned s table now t n new after more)
+    → KeepsPosts n (sources_of o) batch more → Turning t (suc n) first places before called (set all n new) after more
 one_more t n first places before called all waiting after batch more o new are h g same next l call keeps = record {
   legs = length-set all n new ∙ h.legs;
   slots = l ∙ h.slots;
@@ -64,15 +66,16 @@ one_more t n first places before called all waiting after batch more o new are h
         subst (IsOutletOf (length first) (t + 1) j) is (record { own = same.0 ∙ (old.own ∙ sym e); all = same.1 ∙ old.all; next = next })
     | inr ne ↦ h.had j x (omega (arith, b, ne)) (other j x ne k)
   ];
-  posts = keeps (length first) (let b = slice_get_within all n o g in omega (arith, b, h.legs)) h.posts;
+  sources = counts_kept all n o new g same.2 ∙ h.sources;
+  posts = keeps (map sources_of first) (omega (arith, slice_get_within all n o g, h.legs, length-map first sources_of)) (count_there first n o (h.rest n o (omega arith) g)) h.posts;
   rest = λ j x b k. h.rest j x (omega (arith, b)) (other j x (λ e. omega (arith, e, b)) k);
-  turned = λ s pts table now may.
-      let r = h.turned s pts table now may in
-      let leg = call s pts table now (record { all = may.may; stands = may.outlets n o (h.rest n o (omega arith) g); seats = may.seats; names = may.names }) r.reaches in
+  turned = λ s table now may.
+      let r = h.turned s table now may in
+      let leg = call s table now (record { all = may.may; stands = may.outlets n o (h.rest n o (omega arith) g); seats = may.seats; names = may.names }) r.reaches in
       record {
         outlets = λ j x b k. elim (cases_eq j n) [
-          | inl e ↦ subst (λ (i : ℕ). outlets.StandsFor s (pts i) i x (turn_at s table.seats i now t (table.terminals i))) (sym e)
-              (subst (λ (y : Outlet). outlets.StandsFor s (pts n) n y (turn_at s table.seats n now t (table.terminals n))) (new_is j x e k) leg.stands)
+          | inl e ↦ subst (λ (i : ℕ). outlets.StandsFor s i x (turn_at s table.seats i now t (table.terminals i))) (sym e)
+              (subst (λ (y : Outlet). outlets.StandsFor s n y (turn_at s table.seats n now t (table.terminals n))) (new_is j x e k) leg.stands)
           | inr ne ↦ r.outlets j x (omega (arith, b, ne)) (other j x ne k)
         ];
         reaches = leg.reaches;
@@ -90,12 +93,12 @@ pub all_had : (t n : ℕ) (first : List Outlet) (places : seating.State) (before
 all_had t n first places before called all waiting batch h l j o g = let b = slice_get_within all j o g in h.had j o (omega (arith, b, l, h.legs)) g
 
 pub whole_turn : (t n : ℕ) (first : List Outlet) (places : seating.State) (before : List Waiting) (called : List (List ℕ)) (all : List Outlet) (waiting : List Waiting) (batch : List Post)
-    → Turning t n first places before called all waiting batch → n ≡ length first → OfMixers first places before called t (λ s pts table now. AllTurned s pts table now t all waiting batch)
-whole_turn t n first places before called all waiting batch h e s pts table now may =
-    let r = h.turned s pts table now may in
+    → Turning t n first places before called all waiting batch → n ≡ length first → OfMixers first places before called t (λ s table now. AllTurned s table now t all waiting batch)
+whole_turn t n first places before called all waiting batch h e s table now may =
+    let r = h.turned s table now may in
     let end : n ≡ s.legs = e ∙ may.legs in
     record {
       outlets = λ j o g. let b = slice_get_within all j o g in r.outlets j o (omega (arith, b, e, h.legs)) g;
       waits = slots_turned s now t table waiting (may.may).held (subst (λ (k : ℕ). slots.StandsFor s waiting (turned_below s now t table k)) end (r.reaches).waits);
-      posts = subst (λ (k : ℕ). HasPosts pts (posts_below s table (turned_to s now t table) k) batch) end (r.reaches).posts;
+      posts = subst (λ (k : ℕ). batch ≡ posts_between s table (turned_to s now t table) k) end (r.reaches).posts;
     }

@@ -90,7 +90,7 @@ records_fit s pts calls j is a b early l =
     }
 
 -- of a mixer that made at most five million turns
-pub mixer_records : (s : Setup) (pts : ℕ → Pts) (m : State) (calls : List Call) (j : ℕ) → StandsFor s pts m calls → m.turns ≤ 5000000 → AreEarly calls → j < s.legs
+pub mixer_records : (s : Setup) (pts : ℕ → Pts) (m : State) (calls : List Call) (j : ℕ) → StandsFor s m calls → m.turns ≤ 5000000 → AreEarly calls → j < s.legs
     → AreRecords 5000000 (map (record_of (pts j)) (packets (stream s j) ((after_calls s calls).terminals j).past))
 mixer_records s pts m calls j h t early l =
     let span : s.step * turns_made calls < 2 ^ 31 = let e : s.step * turns_made calls ≡ 200 * turns_made calls = ap (λ k. k * turns_made calls) h.step in omega (arith, e, h.turns, t) in

@@ -1,8 +1,7 @@
 -- A turn is one call more.
 use Rattle.std.proofs.Common.{◌≡◌, ℕ, suc, ◌+◌, ◌*◌, ◌^◌, ◌<◌, ◌≤◌, Option, Some, None, List, ◌∷◌, length, ap, subst, sym, ◌∙◌, arith}
-use Rattle.rtt_base.specs.declared.text_packets.Pts.{Pts}
 use Rattle.mixer_spec.specs.Setups.{Setup}
-use Rattle.mixer_spec.specs.Table.{Call, Turn, Table, next_media, turned_to, after_calls}
+use Rattle.mixer_spec.specs.Table.{Call, Turn, next_media, turned_to, after_calls}
 use Rattle.mixer_spec.specs.Calls.{turns_made}
 use Rattle.slot_table.specs.Lanes.{Waiting}
 use Rattle.outlet.specs.declared.outlets.Outlet.{Outlet}
@@ -11,7 +10,7 @@ use Rattle.mixer_turn.specs.Allowed.{MayTurn}
 use Rattle.mixer_turn.specs.States.{State, least_media}
 use Rattle.mixer_turn.specs.Standing.{Keeps, StandsFor}
 use Rattle.mixer_turn.specs.Insides.{IsSound}
-use Rattle.mixer_turn.specs.Turns.{AreOutletsOf, MayTurnAll, AllMayTurn, AllTurned, OfMixers, HasBatch}
+use Rattle.mixer_turn.specs.Turns.{AreOutletsOf, MayTurnAll, AllMayTurn, AllTurned, OfMixers, HasBatch, posts_between}
 use Rattle.mixer_turn.proofs.MayTurns.{may_turn_all}
 
 -- the mixer behind a turn at this media time
@@ -19,21 +18,21 @@ abbrev pub with_turn : State → ℕ → List Outlet → List Waiting → State
 with_turn m t all waiting = record { seating = m.seating; slots = waiting; outlets = all; names = m.names; media = Some t; turns = m.turns + 1 }
 
 -- it may be made, and this is its media time
-may_turn : (s : Setup) (pts : ℕ → Pts) (m : State) (calls : List Call) → StandsFor s pts m calls → m.turns < 5000000 → MayTurn s calls
-may_turn s pts m calls h l = record {
+may_turn : (s : Setup) (m : State) (calls : List Call) → StandsFor s m calls → m.turns < 5000000 → MayTurn s calls
+may_turn s m calls h l = record {
   setup = h.setup;
   near = h.near;
   span = let one : s.step * (turns_made calls + 1) ≡ 200 * (turns_made calls + 1) = ap (λ k. k * (turns_made calls + 1)) h.step in omega (arith, one, h.turns, l);
   allowed = h.allowed;
 }
 
-media_is : (s : Setup) (pts : ℕ → Pts) (m : State) (calls : List Call) (now t : ℕ) → StandsFor s pts m calls → t ≡ next_media 200 m.media now → t ≡ next_media s.step (after_calls s calls).media now
-media_is s pts m calls now t h e = e ∙ (ap (λ k. next_media k m.media now) (sym h.step) ∙ ap (λ o. next_media s.step o now) h.media)
+media_is : (s : Setup) (m : State) (calls : List Call) (now t : ℕ) → StandsFor s m calls → t ≡ next_media 200 m.media now → t ≡ next_media s.step (after_calls s calls).media now
+media_is s m calls now t h e = e ∙ (ap (λ k. next_media k m.media now) (sym h.step) ∙ ap (λ o. next_media s.step o now) h.media)
 
-all_may : (s : Setup) (pts : ℕ → Pts) (m : State) (calls : List Call) (now t : ℕ) → StandsFor s pts m calls → m.turns < 5000000 → t ≡ next_media 200 m.media now
-    → AllMayTurn s pts (after_calls s calls) now t m.outlets m.seating m.slots m.names
-all_may s pts m calls now t h l e = record {
-  may = subst (MayTurnAll s (after_calls s calls) now) (sym (media_is s pts m calls now t h e)) (may_turn_all s calls now (may_turn s pts m calls h l));
+all_may : (s : Setup) (m : State) (calls : List Call) (now t : ℕ) → StandsFor s m calls → m.turns < 5000000 → t ≡ next_media 200 m.media now
+    → AllMayTurn s (after_calls s calls) now t m.outlets m.seating m.slots m.names
+all_may s m calls now t h l e = record {
+  may = subst (MayTurnAll s (after_calls s calls) now) (sym (media_is s m calls now t h e)) (may_turn_all s calls now (may_turn s m calls h l));
   legs = (h.keeps).legs;
   outlets = (h.keeps).outlets;
   seats = (h.keeps).seats;
@@ -41,28 +40,28 @@ all_may s pts m calls now t h l e = record {
   names = (h.keeps).names;
 }
 
-pub turn_stands : (s : Setup) (pts : ℕ → Pts) (m : State) (calls : List Call) (now t : ℕ) (all : List Outlet) (waiting : List Waiting) (batch : List Post) → StandsFor s pts m calls → m.turns < 5000000 → t ≡ next_media 200 m.media now
-    → length all ≡ length m.outlets → OfMixers m.outlets m.seating m.slots m.names t (λ s pts table now. AllTurned s pts table now t all waiting batch) → StandsFor s pts (with_turn m t all waiting) (Turn now ∷ calls)
-turn_stands s pts m calls now t all waiting batch h l e n f =
+pub turn_stands : (s : Setup) (m : State) (calls : List Call) (now t : ℕ) (all : List Outlet) (waiting : List Waiting) (batch : List Post) → StandsFor s m calls → m.turns < 5000000 → t ≡ next_media 200 m.media now
+    → length all ≡ length m.outlets → OfMixers m.outlets m.seating m.slots m.names t (λ s table now. AllTurned s table now t all waiting batch) → StandsFor s (with_turn m t all waiting) (Turn now ∷ calls)
+turn_stands s m calls now t all waiting batch h l e n f =
     let w = after_calls s calls in
-    let r = f s pts (after_calls s calls) now (all_may s pts m calls now t h l e) in
-    let is = media_is s pts m calls now t h e in
+    let r = f s (after_calls s calls) now (all_may s m calls now t h l e) in
+    let is = media_is s m calls now t h e in
     record {
       setup = h.setup;
       near = h.near;
       step = h.step;
       allowed = h.allowed;
-      keeps = subst (λ (k : ℕ). Keeps s pts (with_turn m t all waiting) (turned_to s now k (after_calls s calls))) is
+      keeps = subst (λ (k : ℕ). Keeps s (with_turn m t all waiting) (turned_to s now k (after_calls s calls))) is
           (record { legs = n ∙ (h.keeps).legs; seats = (h.keeps).seats; waits = r.waits; outlets = r.outlets; names = (h.keeps).names });
       media = ap Some is;
       turns = let one : m.turns + 1 ≡ suc m.turns = omega arith in one ∙ ap suc h.turns;
     }
 
-pub turn_batch : (s : Setup) (pts : ℕ → Pts) (m : State) (calls : List Call) (now t : ℕ) (all : List Outlet) (waiting : List Waiting) (batch : List Post) → StandsFor s pts m calls → m.turns < 5000000 → t ≡ next_media 200 m.media now
-    → OfMixers m.outlets m.seating m.slots m.names t (λ s pts table now. AllTurned s pts table now t all waiting batch) → HasBatch s pts now (after_calls s calls) batch
-turn_batch s pts m calls now t all waiting batch h l e f =
-    let r = f s pts (after_calls s calls) now (all_may s pts m calls now t h l e) in
-    subst (λ (k : ℕ). Rattle.mixer_turn.specs.Turns.HasPosts pts (Rattle.mixer_spec.specs.Table.posts_below s (after_calls s calls) (turned_to s now k (after_calls s calls)) s.legs) batch) (media_is s pts m calls now t h e) r.posts
+pub turn_batch : (s : Setup) (m : State) (calls : List Call) (now t : ℕ) (all : List Outlet) (waiting : List Waiting) (batch : List Post) → StandsFor s m calls → m.turns < 5000000 → t ≡ next_media 200 m.media now
+    → OfMixers m.outlets m.seating m.slots m.names t (λ s table now. AllTurned s table now t all waiting batch) → HasBatch s now (after_calls s calls) batch
+turn_batch s m calls now t all waiting batch h l e f =
+    let r = f s (after_calls s calls) now (all_may s m calls now t h l e) in
+    subst (λ (k : ℕ). batch ≡ posts_between s (after_calls s calls) (turned_to s now k (after_calls s calls)) s.legs) (media_is s m calls now t h e) r.posts
 
 -- media time stays within bounds
 pub media_rises : (last : Option ℕ) (now turns : ℕ) → now < 2 ^ 47 → Rattle.std.specs.Prelude.IfSome last (λ t. t < 2 ^ 47 + turns) → next_media 200 last now < 2 ^ 47 + (turns + 1)

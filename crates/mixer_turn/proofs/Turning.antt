@@ -1,21 +1,17 @@
 -- One terminal more has its turn.
-use Rattle.std.proofs.Common.{◌≡◌, ℕ, zero, suc, ◌<◌, ◌≤◌, Bool, false, cond, inl, inr, Option, Some, None, List, [], ◌∷◌, ◌++◌, length, refl, ap, subst, sym, ◌∙◌, arith}
+use Rattle.std.proofs.Common.{◌≡◌, ℕ, zero, suc, ◌<◌, ◌≤◌, false, cond, inl, inr, Option, Some, None, List, [], ◌∷◌, ◌++◌, length, refl, ap, subst, sym, ◌∙◌, arith}
 use Rattle.std.specs.Prelude.{is_some, map}
 use Rattle.std.proofs.lemmas.Bool.{cases_eq}
-use Rattle.rtt_base.specs.declared.text_packets.Pts.{Pts}
-use Rattle.wire_spec.specs.Packets.{Packet}
-use Rattle.wire_spec.specs.SentPackets.{packet_written}
-use Rattle.mixer_spec.specs.Setups.{Setup, stream}
-use Rattle.mixer_spec.specs.Table.{TurnEntry, Terminal, Seats, Taken, Table, is_seated, new_packet, turn_aware, turn_unaware, turn_at, turned_to, posts_below}
-use Rattle.mixer_spec.specs.Table as mixed
+use Rattle.mixer_spec.specs.Setups.{Setup}
+use Rattle.mixer_spec.specs.Table.{TurnEntry, Terminal, Seats, Taken, Table, is_seated, turn_aware, turn_unaware, turn_at, turned_to}
 use Rattle.mixer_spec.proofs.Lists.{nil, set_same, set_other}
 use Rattle.slot_table.specs.Lanes.{Waiting}
 use Rattle.slot_table.specs.Standing as slots
 use Rattle.slot_table.proofs.Sources.{stands_same}
-use Rattle.outlet.specs.Turns.{Puts, with_terminal}
+use Rattle.outlet.specs.Turns.{Puts, new_entry, number_of, with_terminal}
 use Rattle.mixer_turn.specs.declared.batches.Post.{Post}
-use Rattle.mixer_turn.specs.Turns.{AreHeld, turned_below, written, batch_with, Reaches}
-use Rattle.mixer_turn.proofs.Few.{one_or_none, none_posted}
+use Rattle.mixer_turn.specs.Turns.{AreHeld, turned_below, post_of, posts_between, batch_with, Reaches}
+use Rattle.mixer_turn.proofs.Few.{one_or_none, none_entered}
 
 -- ---- the table while the turn goes on
 pub seats_below : (s : Setup) (now t : ℕ) (table : Table) (n : ℕ) → (turned_below s now t table n).seats ≡ table.seats
@@ -65,41 +61,21 @@ slots_turned s now t table waiting h stands =
     (λ j. ap (λ (x : Seats). x.listens j) (sym (seats_below s now t table s.legs)))
     (λ j i. ap (λ (d : Terminal). d.waits i) (sym (all_turned s now t table j h)))
 
--- ---- the packets
-map_append : {A B : Type 0} (f : A → B) (xs ys : List A) → map f (xs ++ ys) ≡ map f xs ++ map f ys
-map_append f [] ys = refl
-map_append f (x ∷ xs) ys = ap (λ zs. f x ∷ zs) (map_append f xs ys)
-
-abbrev post : ℕ → Packet → mixed.Post
-post n p = record { terminal = n; packet = p }
-
-abbrev octets_of : (ℕ → Pts) → ℕ → Packet → Post
-octets_of pts n p = record { terminal = n; packet = packet_written (pts n) p }
-
-posts_more : (s : Setup) (pts : ℕ → Pts) (before after : Table) (n : ℕ)
-    → map (written pts) (posts_below s before after (suc n)) ≡ map (written pts) (posts_below s before after n) ++ map (octets_of pts n) (new_packet (stream s n) (before.terminals n).past (after.terminals n).past)
-posts_more s pts before after n =
-    map_append (written pts) (posts_below s before after n) (map (post n) (new_packet (stream s n) (before.terminals n).past (after.terminals n).past))
-    ∙ ap (λ xs. map (written pts) (posts_below s before after n) ++ xs) (each (new_packet (stream s n) (before.terminals n).past (after.terminals n).past))
-  where
-    each : (ps : List Packet) → map (written pts) (map (post n) ps) ≡ map (octets_of pts n) ps
-    each [] = refl
-    each (p ∷ ps) = ap (λ xs. octets_of pts n p ∷ xs) (each ps)
-
-put_is : (pts : ℕ → Pts) (n : ℕ) (ps : List Packet) (put : Bool) (out : List ℕ) (batch : List Post) → length ps ≤ 1 → Puts (pts n) ps put out → batch_with put n out batch ≡ batch ++ map (octets_of pts n) ps
-put_is pts n [] put out batch l h = ap (λ b. batch_with b n out batch) h ∙ sym (nil batch)
-put_is pts n (p ∷ []) put out batch l h = ap (λ b. batch_with b n out batch) h.0 ∙ ap (λ o. batch ++ record { terminal = n; packet = o } ∷ []) h.1
-put_is pts n (p ∷ q ∷ ps) put out batch l h = absurd (omega arith)
+-- ---- what is sent
+put_is : (s : Setup) (n t : ℕ) (es : List TurnEntry) (source : Option ℕ) (text : List ℕ) (batch : List Post) → length es ≤ 1 → Puts (s.aware n) t es source text → batch_with source n t text batch ≡ batch ++ map (post_of s n) es
+put_is s n t [] source text batch l h = ap (λ o. batch_with o n t text batch) h ∙ sym (nil batch)
+put_is s n t (e ∷ []) source text batch l h =
+    ap (λ o. batch_with o n t text batch) h.0
+    ∙ (ap (λ x. batch_with (Some (number_of (s.aware n) e)) n t x batch) h.1 ∙ ap (λ m. batch_with (Some (number_of (s.aware n) e)) n m e.sent.text batch) (sym h.2))
+put_is s n t (e ∷ f ∷ es) source text batch l h = absurd (omega arith)
 
 -- ---- one terminal more
--- nothing is put out of a leg that holds no place
-pub reach_past : (s : Setup) (pts : ℕ → Pts) (table : Table) (now t n : ℕ) (waiting : List Waiting) (batch : List Post) → is_seated table.seats n ≡ false → Reaches s pts table now t n waiting batch
-    → Reaches s pts table now t (suc n) waiting batch
-reach_past s pts table now t n waiting batch e r = record {
+-- nothing is sent to a leg that holds no place
+pub reach_past : (s : Setup) (table : Table) (now t n : ℕ) (waiting : List Waiting) (batch : List Post) → is_seated table.seats n ≡ false → Reaches s table now t n waiting batch → Reaches s table now t (suc n) waiting batch
+reach_past s table now t n waiting batch e r = record {
   waits = stands_same s waiting (turned_below s now t table n) (turned_below s now t table (suc n)) r.waits (λ i. refl) (λ j. refl) (λ j i. ap (λ (d : Terminal). d.waits i) (same j));
-  posts = r.posts ∙ (sym (nil (map (written pts) (posts_below s table (turned_to s now t table) n)))
-      ∙ (ap (λ ps. map (written pts) (posts_below s table (turned_to s now t table) n) ++ map (octets_of pts n) ps) (sym (none_posted s now t n table e))
-      ∙ sym (posts_more s pts table (turned_to s now t table) n)));
+  posts = r.posts ∙ (sym (nil (posts_between s table (turned_to s now t table) n))
+      ∙ ap (λ es. posts_between s table (turned_to s now t table) n ++ map (post_of s n) es) (sym (none_entered s now t n table e)));
 }
   where
     same : (j : ℕ) → (turned_below s now t table (suc n)).terminals j ≡ (turned_below s now t table n).terminals j
@@ -110,19 +86,18 @@ reach_past s pts table now t n waiting batch e r = record {
     ]
 
 -- the terminal of the leg n had its turn
-pub reach_more : (s : Setup) (pts : ℕ → Pts) (table : Table) (now t n : ℕ) (waiting after : List Waiting) (batch : List Post) (put : Bool) (out : List ℕ) → Reaches s pts table now t n waiting batch
+pub reach_more : (s : Setup) (table : Table) (now t n : ℕ) (waiting after : List Waiting) (batch : List Post) (source : Option ℕ) (text : List ℕ) → Reaches s table now t n waiting batch
     → let v = turned_below s now t table n in
     let d = turn_at s v.seats n now t (v.terminals n) in
-    slots.StandsFor s after (with_terminal n d v) → Puts (pts n) (new_packet (stream s n) (v.terminals n).past d.past) put out
-    → Reaches s pts table now t (suc n) after (batch_with put n out batch)
-reach_more s pts table now t n waiting after batch put out r stands puts = record {
+    slots.StandsFor s after (with_terminal n d v) → Puts (s.aware n) t (new_entry (v.terminals n).past d.past) source text
+    → Reaches s table now t (suc n) after (batch_with source n t text batch)
+reach_more s table now t n waiting after batch source text r stands puts = record {
   waits = subst (λ (d : Terminal). slots.StandsFor s after (with_terminal n d (turned_below s now t table n))) is stands;
-  posts = ap (batch_with put n out) r.posts
-      ∙ (put_is pts n (new_packet (stream s n) (table.terminals n).past ((turned_to s now t table).terminals n).past) put out (map (written pts) (posts_below s table (turned_to s now t table) n))
-      (one_or_none (stream s n) (table.terminals n).past ((turned_to s now t table).terminals n).past)
-      (subst (λ (d : Terminal). Puts (pts n) (new_packet (stream s n) (table.terminals n).past d.past) put out) is
-      (subst (λ (c : Terminal). Puts (pts n) (new_packet (stream s n) c.past (turn_at s (turned_below s now t table n).seats n now t ((turned_below s now t table n).terminals n)).past) put out) (still_there s now t table n n (omega arith)) puts))
-      ∙ sym (posts_more s pts table (turned_to s now t table) n));
+  posts = ap (batch_with source n t text) r.posts
+      ∙ put_is s n t (new_entry (table.terminals n).past ((turned_to s now t table).terminals n).past) source text (posts_between s table (turned_to s now t table) n)
+      (one_or_none (table.terminals n).past ((turned_to s now t table).terminals n).past)
+      (subst (λ (d : Terminal). Puts (s.aware n) t (new_entry (table.terminals n).past d.past) source text) is
+      (subst (λ (c : Terminal). Puts (s.aware n) t (new_entry c.past (turn_at s (turned_below s now t table n).seats n now t ((turned_below s now t table n).terminals n)).past) source text) (still_there s now t table n n (omega arith)) puts));
 }
   where
     is : turn_at s (turned_below s now t table n).seats n now t ((turned_below s now t table n).terminals n) ≡ turn_at s table.seats n now t (table.terminals n)

@@ -1,6 +1,5 @@
 -- What outlets and slots tell of the tables for which they stand.
 use Rattle.std.specs.Prelude.{◌≡◌, ◌==◌, ◌||◌, not, ℕ, Bool, Some, List, slice_get}
-use Rattle.rtt_base.specs.declared.text_packets.Pts.{Pts}
 use Rattle.mixer_spec.specs.Setups.{Setup}
 use Rattle.mixer_spec.specs.Table.{Table, Terminal, has_work}
 use Rattle.slot_table.specs.Lanes.{Waiting}
@@ -15,7 +14,7 @@ AreAll legs all = (j : ℕ) (o : Outlet) → slice_get all j ≡ Some o → legs
 
 -- of each such table
 abbrev pub OfTables : List Outlet → List Waiting → (Setup → Table → Type 0) → Type 0
-OfTables all waiting P = (s : Setup) (pts : ℕ → Pts) (table : Table) → AreOutlets s pts all table.terminals → slots.StandsFor s waiting table → P s table
+OfTables all waiting P = (s : Setup) (table : Table) → AreOutlets s all table.terminals → slots.StandsFor s waiting table → P s table
 
 -- the terminal j is the leg's own, or nothing of the leg waits or is to be repeated there
 abbrev pub is_free_of : Setup → ℕ → ℕ → Terminal → Bool

@@ -1,27 +1,22 @@
 -- What a mixer of a conference is made of.
-use Rattle.std.specs.Prelude.{◌≡◌, ℕ, Option, None, Some, List, length, slice_get}
-use Rattle.rtt_base.specs.declared.text_packets.Pts.{Pts}
-use Rattle.file_spec.specs.declared.conf_lines.LegLine.{LegLine}
+use Rattle.std.specs.Prelude.{◌≡◌, ℕ, Some, List, length, map, slice_get, if◌then◌else◌}
 use Rattle.file_spec.specs.Conf.{Conf}
-use Rattle.mixer_spec.specs.Setups.{leg_at, setup}
+use Rattle.mixer_spec.specs.Setups.{setup}
 use Rattle.mixer_spec.specs.Table.{empty}
 use Rattle.outlet.specs.declared.outlets.Outlet.{Outlet}
 use Rattle.outlet.specs.Outlets as outlets
-use Rattle.outlet.specs.Outlets.{own_of, legs_of, next_turn}
+use Rattle.outlet.specs.Outlets.{own_of, legs_of, next_turn, sources_of}
 
-abbrev pub pts_of : Option LegLine → Pts
-pts_of None = record { t140 = 0; red = 0 }
-pts_of (Some leg) = leg.pts
-
--- the payload types of the terminal of the leg j
-abbrev pub pts_at : Conf → ℕ → Pts
-pts_at c j = pts_of (leg_at c.legs j)
+-- how many sources the terminal of each leg is sent: all legs where it is aware, else the mixer alone
+abbrev pub source_counts : Conf → List ℕ
+source_counts c = map (λ leg. if leg.aware then length c.legs else 1) c.legs
 
 -- the outlet of the leg j, to whose terminal nothing was sent
 pub record IsMade (c : Conf) (j : ℕ) (o : Outlet) : Type 0 where
-  pub stands : outlets.StandsFor (setup c) (pts_at c j) j o (empty.terminals j)
+  pub stands : outlets.StandsFor (setup c) j o (empty.terminals j)
   pub own : own_of o ≡ j
   pub legs : legs_of o ≡ length c.legs
+  pub sources : slice_get (source_counts c) j ≡ Some (sources_of o)
   pub next : next_turn o ≡ 0
 
 -- one of each leg

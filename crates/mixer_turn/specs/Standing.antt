@@ -1,6 +1,5 @@
 -- What a mixer stands for: the calls that were made of it, newest first (profile).
 use Rattle.std.specs.Prelude.{◌≡◌, ℕ, ◌<◌, ◌≤◌, Some, List, [], ◌∷◌, length, slice_get, slice_index_or}
-use Rattle.rtt_base.specs.declared.text_packets.Pts.{Pts}
 use Rattle.mixer_spec.specs.Setups.{Setup, IsSetup, gap}
 use Rattle.mixer_spec.specs.Table.{Table, Terminal, Call, after_calls}
 use Rattle.mixer_spec.specs.Calls.{turns_made}
@@ -12,32 +11,32 @@ use Rattle.mixer_turn.specs.Allowed.{AreAllowed}
 use Rattle.mixer_turn.specs.States.{State}
 use Rattle.rtt_base.specs.declared.limits.TheConstants.{LONGEST_STEP}
 
--- each stands for the terminal of its leg, with its payload types
-abbrev pub AreOutlets : Setup → (ℕ → Pts) → List Outlet → (ℕ → Terminal) → Type 0
-AreOutlets s pts all terminals = (j : ℕ) (o : Outlet) → slice_get all j ≡ Some o → outlets.StandsFor s (pts j) j o (terminals j)
+-- each stands for the terminal of its leg
+abbrev pub AreOutlets : Setup → List Outlet → (ℕ → Terminal) → Type 0
+AreOutlets s all terminals = (j : ℕ) (o : Outlet) → slice_get all j ≡ Some o → outlets.StandsFor s j o (terminals j)
 
 -- The parts of the mixer stand for those of the table, and the names are those of the legs.
-pub record Keeps (s : Setup) (pts : ℕ → Pts) (m : State) (table : Table) : Type 0 where
+pub record Keeps (s : Setup) (m : State) (table : Table) : Type 0 where
   pub legs : length m.outlets ≡ s.legs
   pub seats : seatings.StandsFor s m.seating table.seats
   pub waits : slots.StandsFor s m.slots table
-  pub outlets : AreOutlets s pts m.outlets table.terminals
+  pub outlets : AreOutlets s m.outlets table.terminals
   pub names : (i : ℕ) → i < s.legs → slice_index_or m.names i [] ≡ s.name i
 
 -- These calls were made of the mixer, each where it is allowed.
-pub record StandsFor (s : Setup) (pts : ℕ → Pts) (m : State) (calls : List Call) : Type 0 where
+pub record StandsFor (s : Setup) (m : State) (calls : List Call) : Type 0 where
   pub setup : IsSetup s
   pub near : gap s ≤ LONGEST_STEP
   pub step : s.step ≡ 200
   pub allowed : AreAllowed s calls
-  pub keeps : Keeps s pts m (after_calls s calls)
+  pub keeps : Keeps s m (after_calls s calls)
   pub media : m.media ≡ (after_calls s calls).media
   pub turns : m.turns ≡ turns_made calls
 
 -- whatever calls it stands for
 abbrev pub Tells : State → (Setup → Table → Type 0) → Type 0
-Tells m P = (s : Setup) (pts : ℕ → Pts) (calls : List Call) → StandsFor s pts m calls → P s (after_calls s calls)
+Tells m P = (s : Setup) (calls : List Call) → StandsFor s m calls → P s (after_calls s calls)
 
 -- from all calls for which it stood to these and one call more, where that is allowed
 abbrev pub Leads : State → State → Call → Type 0
-Leads old new call = (s : Setup) (pts : ℕ → Pts) (calls : List Call) → StandsFor s pts old calls → AreAllowed s (call ∷ calls) → StandsFor s pts new (call ∷ calls)
+Leads old new call = (s : Setup) (calls : List Call) → StandsFor s old calls → AreAllowed s (call ∷ calls) → StandsFor s new (call ∷ calls)

@@ -1,8 +1,9 @@
 -- What is known of a mixer.
-use Rattle.std.specs.Prelude.{ℕ, ◌+◌, Option, None, Some, List, length}
+use Rattle.std.specs.Prelude.{ℕ, ◌+◌, Option, None, Some, List, length, map}
 use Rattle.slot_table.specs.Lanes.{Waiting}
 use Rattle.seating.specs.States as seatings
 use Rattle.outlet.specs.declared.outlets.Outlet.{Outlet}
+use Rattle.outlet.specs.Outlets as outlets
 
 -- who holds which place, what waits, the outlet and the name of each leg, the media time of the last turn, and how many
 -- turns were made
@@ -16,6 +17,10 @@ pub record State : Type 0 where
 
 abbrev pub legs_of : State → ℕ
 legs_of m = length m.outlets
+
+-- how many sources the terminal of each leg is sent
+abbrev pub sources_of : State → List ℕ
+sources_of m = map outlets.sources_of m.outlets
 
 -- the least media time of the turn after one at this media time
 abbrev pub least_media : Option ℕ → ℕ

@@ -1,17 +1,14 @@
--- A turn of all terminals, one after the other, and the packets that it puts out.
-use Rattle.std.specs.Prelude.{◌≡◌, ℕ, zero, suc, ◌<◌, ◌≤◌, Bool, Some, List, [], ◌∷◌, ◌++◌, length, map, slice_get, slice_index_or, if◌then◌else◌}
-use Rattle.rtt_base.specs.declared.text_packets.Pts.{Pts}
-use Rattle.wire_spec.specs.SentPackets.{packet_written}
+-- A turn of all terminals, one after the other, and what it sends.
+use Rattle.std.specs.Prelude.{◌≡◌, ℕ, zero, suc, ◌<◌, ◌≤◌, Option, None, Some, List, [], ◌∷◌, ◌++◌, length, map, slice_get, slice_index_or}
 use Rattle.mixer_spec.specs.Setups.{Setup, stream}
-use Rattle.mixer_spec.specs.Table.{Call, Seats, Table, turn_at, turned_to, posts_below, after_calls}
-use Rattle.mixer_spec.specs.Table as mixed
+use Rattle.mixer_spec.specs.Table.{Call, Seats, Table, TurnEntry, turn_at, turned, turned_to, after_calls}
 use Rattle.mixer_spec.specs.Laws.{AreTexts}
 use Rattle.slot_table.specs.Lanes.{Waiting}
 use Rattle.slot_table.specs.Standing as slots
 use Rattle.seating.specs.States as seating
 use Rattle.seating.specs.Standing as seatings
 use Rattle.outlet.specs.declared.outlets.Outlet.{Outlet}
-use Rattle.outlet.specs.Turns.{SendsNext, with_terminal}
+use Rattle.outlet.specs.Turns.{SendsNext, new_entry, number_of, with_terminal}
 use Rattle.outlet.specs.Outlets as outlets
 use Rattle.outlet.specs.Outlets.{own_of, legs_of, next_turn, IsTurned}
 use Rattle.mixer_turn.specs.declared.batches.Post.{Post}
@@ -46,72 +43,78 @@ abbrev pub turned_below : Setup → ℕ → ℕ → Table → ℕ → Table
 turned_below s now t table zero = table
 turned_below s now t table (suc n) = with_terminal n (turn_at s table.seats n now t (table.terminals n)) (turned_below s now t table n)
 
--- ---- packets
--- the packet's octets, with the payload types of its terminal
-abbrev pub written : (ℕ → Pts) → mixed.Post → Post
-written pts p = record { terminal = p.terminal; packet = packet_written (pts p.terminal) p.packet }
+-- ---- what is sent
+-- what the terminal j is sent by this entry
+abbrev pub post_of : Setup → ℕ → TurnEntry → Post
+post_of s j e = record { terminal = j; source = number_of (s.aware j) e; media = e.sent.media; text = e.sent.text }
 
--- the batch has these packets, in this order
-abbrev pub HasPosts : (ℕ → Pts) → List mixed.Post → List Post → Type 0
-HasPosts pts posts batch = batch ≡ map (written pts) posts
+-- what the first n terminals were sent between these tables
+abbrev pub posts_between : Setup → Table → Table → ℕ → List Post
+posts_between s before after zero = []
+posts_between s before after (suc n) =
+    posts_between s before after n ++ map (post_of s n) (new_entry (before.terminals n).past (after.terminals n).past)
 
--- it has those of a turn at the moment `now`
-abbrev pub HasBatch : Setup → (ℕ → Pts) → ℕ → Table → List Post → Type 0
-HasBatch s pts now table batch = HasPosts pts (mixed.batch s now table) batch
+-- what a turn at the moment `now` sends, in leg order
+abbrev pub posts_at : Setup → ℕ → Table → List Post
+posts_at s now table = posts_between s table (turned s now table) s.legs
 
--- the batch behind a turn of the terminal n that put these octets, or none
-abbrev pub batch_with : Bool → ℕ → List ℕ → List Post → List Post
-batch_with put n out batch = if put then batch ++ record { terminal = n; packet = out } ∷ [] else batch
+abbrev pub HasBatch : Setup → ℕ → Table → List Post → Type 0
+HasBatch s now table batch = batch ≡ posts_at s now table
+
+-- the batch behind a turn of the terminal n with the media time t that sent this text of this source, or nothing
+abbrev pub batch_with : Option ℕ → (n t : ℕ) → List ℕ → List Post → List Post
+batch_with None n t text batch = batch
+batch_with (Some source) n t text batch = batch ++ record { terminal = n; source = source; media = t; text = text } ∷ []
 
 -- ---- one terminal
--- A turn of the terminal j is over, whose packet is put into the batch as that of the leg.
-pub record IsPut (s : Setup) (pts : Pts) (j leg : ℕ) (table : Table) (now t : ℕ) (o : Outlet) (after : List Waiting) (old new : List Post) : Type 0 where
-  pub put : Bool
-  pub out : List ℕ
-  pub turned : IsTurned s pts j table now t o after put out
-  pub batch : new ≡ batch_with put leg out old
+-- A turn of the terminal j is over, and what it sends is put into the batch as the leg's.
+pub record IsPut (s : Setup) (j leg : ℕ) (table : Table) (now t : ℕ) (o : Outlet) (after : List Waiting) (old new : List Post) : Type 0 where
+  pub source : Option ℕ
+  pub text : List ℕ
+  pub turned : IsTurned s j table now t o after source text
+  pub batch : new ≡ batch_with source leg t text old
 
--- the first n terminals had their turn: the slots stand for the table then, and the batch has what was put out
-pub record Reaches (s : Setup) (pts : ℕ → Pts) (table : Table) (now t n : ℕ) (waiting : List Waiting) (batch : List Post) : Type 0 where
+-- the first n terminals had their turn: the slots stand for the table then, and the batch has what was sent
+pub record Reaches (s : Setup) (table : Table) (now t n : ℕ) (waiting : List Waiting) (batch : List Post) : Type 0 where
   pub waits : slots.StandsFor s waiting (turned_below s now t table n)
-  pub posts : HasPosts pts (posts_below s table (turned_to s now t table) n) batch
+  pub posts : batch ≡ posts_between s table (turned_to s now t table) n
 
 abbrev pub AreNames : Setup → List (List ℕ) → Type 0
 AreNames s called = (i : ℕ) → i < s.legs → slice_index_or called i [] ≡ s.name i
 
 -- the terminal of the leg may have its turn: its outlet, these seats and these names stand for those of the table
-pub record LegMayTurn (s : Setup) (pts : ℕ → Pts) (table : Table) (now t leg : ℕ) (o : Outlet) (places : seating.State) (called : List (List ℕ)) : Type 0 where
+pub record LegMayTurn (s : Setup) (table : Table) (now t leg : ℕ) (o : Outlet) (places : seating.State) (called : List (List ℕ)) : Type 0 where
   pub all : MayTurnAll s table now t
-  pub stands : outlets.StandsFor s (pts leg) leg o (table.terminals leg)
+  pub stands : outlets.StandsFor s leg o (table.terminals leg)
   pub seats : seatings.StandsFor s places table.seats
   pub names : AreNames s called
 
 -- it had its turn
-pub record LegTurned (s : Setup) (pts : ℕ → Pts) (table : Table) (now t leg : ℕ) (o : Outlet) (waiting : List Waiting) (batch : List Post) : Type 0 where
-  pub stands : outlets.StandsFor s (pts leg) leg o (turn_at s table.seats leg now t (table.terminals leg))
-  pub reaches : Reaches s pts table now t (suc leg) waiting batch
+pub record LegTurned (s : Setup) (table : Table) (now t leg : ℕ) (o : Outlet) (waiting : List Waiting) (batch : List Post) : Type 0 where
+  pub stands : outlets.StandsFor s leg o (turn_at s table.seats leg now t (table.terminals leg))
+  pub reaches : Reaches s table now t (suc leg) waiting batch
 
 -- ---- all terminals
 -- the parts of a mixer stand for those of the table, and all terminals may have a turn
-pub record AllMayTurn (s : Setup) (pts : ℕ → Pts) (table : Table) (now t : ℕ) (all : List Outlet) (places : seating.State) (waiting : List Waiting) (called : List (List ℕ)) : Type 0 where
+pub record AllMayTurn (s : Setup) (table : Table) (now t : ℕ) (all : List Outlet) (places : seating.State) (waiting : List Waiting) (called : List (List ℕ)) : Type 0 where
   pub may : MayTurnAll s table now t
   pub legs : length all ≡ s.legs
-  pub outlets : AreOutlets s pts all table.terminals
+  pub outlets : AreOutlets s all table.terminals
   pub seats : seatings.StandsFor s places table.seats
   pub waits : slots.StandsFor s waiting table
   pub names : AreNames s called
 
--- they had it, and these are the packets
-pub record AllTurned (s : Setup) (pts : ℕ → Pts) (table : Table) (now t : ℕ) (all : List Outlet) (waiting : List Waiting) (batch : List Post) : Type 0 where
-  pub outlets : AreOutlets s pts all (turned_to s now t table).terminals
+-- they had it, and this is sent
+pub record AllTurned (s : Setup) (table : Table) (now t : ℕ) (all : List Outlet) (waiting : List Waiting) (batch : List Post) : Type 0 where
+  pub outlets : AreOutlets s all (turned_to s now t table).terminals
   pub waits : slots.StandsFor s waiting (turned_to s now t table)
-  pub posts : HasPosts pts (posts_below s table (turned_to s now t table) s.legs) batch
+  pub posts : batch ≡ posts_between s table (turned_to s now t table) s.legs
 
 -- of all mixers that have these parts
-abbrev pub OfMixers : List Outlet → seating.State → List Waiting → List (List ℕ) → ℕ → (Setup → (ℕ → Pts) → Table → ℕ → Type 0) → Type 0
+abbrev pub OfMixers : List Outlet → seating.State → List Waiting → List (List ℕ) → ℕ → (Setup → Table → ℕ → Type 0) → Type 0
 OfMixers all places waiting called t P =
-    (s : Setup) (pts : ℕ → Pts) (table : Table) (now : ℕ) → AllMayTurn s pts table now t all places waiting called → P s pts table now
+    (s : Setup) (table : Table) (now : ℕ) → AllMayTurn s table now t all places waiting called → P s table now
 
--- of all calls for which the mixer stands, with its payload types
-abbrev pub OfCalls : State → (Setup → (ℕ → Pts) → Table → Type 0) → Type 0
-OfCalls m P = (s : Setup) (pts : ℕ → Pts) (calls : List Call) → mixers.StandsFor s pts m calls → P s pts (after_calls s calls)
+-- of all calls for which the mixer stands
+abbrev pub OfCalls : State → (Setup → Table → Type 0) → Type 0
+OfCalls m P = (s : Setup) (calls : List Call) → mixers.StandsFor s m calls → P s (after_calls s calls)

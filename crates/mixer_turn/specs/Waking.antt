@@ -1,13 +1,14 @@
 -- What outlets stand for where text may have come to their terminals.
 use Rattle.std.specs.Prelude.{◌≡◌, ℕ, ◌<◌, ◌≤◌, Some, List, length, slice_get}
 use Rattle.outlet.specs.declared.outlets.Outlet.{Outlet}
-use Rattle.outlet.specs.Outlets.{StandsWoken, own_of, legs_of, next_turn}
+use Rattle.outlet.specs.Outlets.{StandsWoken, own_of, legs_of, next_turn, sources_of}
 
 -- it stands for the same terminal, whatever waits there
 pub record IsWoken (old new : Outlet) : Type 0 where
   pub stands : StandsWoken old new
   pub own : own_of new ≡ own_of old
   pub legs : legs_of new ≡ legs_of old
+  pub sources : sources_of new ≡ sources_of old
   pub next : next_turn new ≡ next_turn old
 
 -- each of the first n, and the others are as they were

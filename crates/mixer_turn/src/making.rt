@@ -7,23 +7,11 @@ ghost use Rattle.conference.specs.Conferences.{conf_of};
 ghost use Rattle.conference.specs.Speakers.{AreNamed};
 ghost use Rattle.mixer_turn.specs.Making.{AreMade, IsMade};
 
-use aware_output::OutConf;
 use conference::{Conf, LegLine, name_of};
 use outlet::Outlet;
 use rtt_base::{Name, NoMemory};
 use slot_table::Slots;
 use std::alloc::Global;
-
-/// The SSRC of each leg.
-pub fn sources_of(alloc: Global, legs: &[LegLine]) -> Result<Vec<u32>, NoMemory>
-    ensures { IfOk result (λ v. v.items ≡ map (λ leg. leg.ssrc) legs.now) }
-{
-    let mut sources = Vec::with_capacity(alloc, legs.len())?;
-    for leg in legs {
-        sources.push(leg.ssrc)?;
-    }
-    Ok(sources)
-}
 
 /// The name of each leg.
 pub fn names_of(alloc: Global, legs: &[LegLine]) -> Result<Vec<Name>, NoMemory>
@@ -50,30 +38,28 @@ pub fn silent_slots(alloc: Global, legs: usize) -> Result<Slots, NoMemory>
 }
 
 /// The outlet of the terminal of the leg with this number.
-fn outlet_of(alloc: Global, conf: &Conf, sources: &[u32], own: usize) -> Result<Outlet, NoMemory>
-    requires own { own < length conf.now.legs }
-    requires sources { sources.now ≡ map (λ leg. leg.ssrc) conf.now.legs }
+fn outlet_of(alloc: Global, conf: &Conf, own: usize) -> Result<Outlet, NoMemory>
+    requires { own < length conf.now.legs }
     ensures { IfOk result (λ o. IsMade (conf_of conf.now) own o) }
 {
     let leg = &conf.legs.as_slice()[own];
-    let stream = OutConf {
-        ssrc: conf.mixer.ssrc,
-        seq: conf.mixer.seq,
-        stamp: conf.mixer.stamp,
-        pts: leg.pts,
-        gens: leg.gens,
-    };
-    Outlet::new(alloc, leg.aware, stream, sources, own, conf.spacing)
+    Outlet::new(
+        alloc,
+        leg.aware,
+        leg.gens,
+        conf.legs.len(),
+        own,
+        conf.spacing,
+    )
 }
 
 /// The outlet of each leg's terminal.
-pub fn outlets_of(alloc: Global, conf: &Conf, sources: &[u32]) -> Result<Vec<Outlet>, NoMemory>
-    requires { sources.now ≡ map (λ leg. leg.ssrc) conf.now.legs }
+pub fn outlets_of(alloc: Global, conf: &Conf) -> Result<Vec<Outlet>, NoMemory>
     ensures { IfOk result (λ v. AreMade (conf_of conf.now) v.items) }
 {
     let mut outlets = Vec::with_capacity(alloc, conf.legs.len())?;
     for own in 0..conf.legs.len() {
-        let outlet = outlet_of(alloc, conf, sources, own)?;
+        let outlet = outlet_of(alloc, conf, own)?;
         outlets.push(outlet)?;
     }
     Ok(outlets)

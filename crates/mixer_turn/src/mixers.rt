@@ -4,16 +4,16 @@ ghost use Rattle.stream_spec.specs.Ready.{chunk_of};
 ghost use Rattle.mixer_spec.specs.Setups.{setup};
 ghost use Rattle.mixer_spec.specs.Table.{Admit, Hush, Leave, Offer, Turn, free_place, has_room, is_idle, may_leave};
 ghost use Rattle.conference.specs.Conferences.{conf_of};
-ghost use Rattle.mixer_turn.specs.Making.{pts_at};
+ghost use Rattle.mixer_turn.specs.Making.{source_counts};
 
 use crate::batches::Batch;
 use crate::looks::{are_quiet, is_done};
-use crate::making::{names_of, outlets_of, silent_slots, sources_of};
+use crate::making::{names_of, outlets_of, silent_slots};
 use crate::turns::{next_media, turn_legs};
 use crate::waking::wake;
 use conference::Conf;
 use outlet::Outlet;
-use rtt_base::{Chunk, Full, Name, NoMemory, Text};
+use rtt_base::{Chunk, Full, Name, NoMemory};
 use seating::Seating;
 use slot_table::Slots;
 use std::alloc::Global;
@@ -32,8 +32,6 @@ pub struct Mixer {
     media: Option<u64>,
     /// How many turns were made.
     turns: u64,
-    /// What a turn takes room in.
-    text: Text,
 }
 
 impl Model for Mixer {
@@ -49,7 +47,7 @@ impl Model for Mixer {
 }
 
 impl Mixer {
-    ghost use Rattle.mixer_turn.specs.States.{legs_of};
+    ghost use Rattle.mixer_turn.specs.States.{legs_of, sources_of};
     ghost use Rattle.mixer_turn.specs.Standing.{StandsFor, Tells, Leads};
     ghost use Rattle.mixer_turn.specs.Turns.{HasBatch, OfCalls};
     ghost use Rattle.mixer_turn.specs.Posts.{ArePosts};
@@ -58,14 +56,14 @@ impl Mixer {
     pub fn new(alloc: Global, conf: &Conf) -> Result<Mixer, NoMemory>
         ensures legs { IfOk result (λ mixer. legs_of mixer ≡ length conf.now.legs) }
         ensures turns { IfOk result (λ mixer. mixer.turns ≡ 0) }
-        ensures stands { IfOk result (λ mixer. StandsFor (setup (conf_of conf.now)) (pts_at (conf_of conf.now)) mixer []) }
+        ensures sources { IfOk result (λ mixer. sources_of mixer ≡ source_counts (conf_of conf.now)) }
+        ensures stands { IfOk result (λ mixer. StandsFor (setup (conf_of conf.now)) mixer []) }
     {
         let legs = conf.legs.as_slice();
-        let sources = sources_of(alloc, legs)?;
         let names = names_of(alloc, legs)?;
         let seating = Seating::new(alloc, legs.len())?;
         let slots = silent_slots(alloc, legs.len())?;
-        let outlets = outlets_of(alloc, conf, &sources)?;
+        let outlets = outlets_of(alloc, conf)?;
         Ok(Mixer {
             seating,
             slots,
@@ -73,7 +71,6 @@ impl Mixer {
             names,
             media: None,
             turns: 0,
-            text: Text::new(),
         })
     }
 
@@ -96,6 +93,7 @@ impl Mixer {
     pub fn admit(&mut self, leg: usize, listens: bool) -> bool
         requires { leg < legs_of self.old }
         ensures legs { legs_of self.new ≡ legs_of self.old }
+        ensures sources { sources_of self.new ≡ sources_of self.old }
         ensures turns { self.new.turns ≡ self.old.turns }
         ensures free { Tells self.old (λ s table. result ≡ is_some (free_place s table.seats)) }
         ensures stands { Leads self.old self.new (Admit leg listens) }
@@ -111,6 +109,7 @@ impl Mixer {
     pub fn hush(&mut self, leg: usize)
         requires { leg < legs_of self.old }
         ensures legs { legs_of self.new ≡ legs_of self.old }
+        ensures sources { sources_of self.new ≡ sources_of self.old }
         ensures turns { self.new.turns ≡ self.old.turns }
         ensures stands { Leads self.old self.new (Hush leg) }
     {
@@ -123,6 +122,7 @@ impl Mixer {
     pub fn leave(&mut self, leg: usize) -> bool
         requires { leg < legs_of self.old }
         ensures legs { legs_of self.new ≡ legs_of self.old }
+        ensures sources { sources_of self.new ≡ sources_of self.old }
         ensures turns { self.new.turns ≡ self.old.turns }
         ensures may { Tells self.old (λ s table. result ≡ may_leave s leg table) }
         ensures stands { Leads self.old self.new (Leave leg) }
@@ -147,6 +147,7 @@ impl Mixer {
         requires source { chunk.now.source < legs_of self.old }
         requires utf8 { IsUtf8 chunk.now.text }
         ensures legs { legs_of self.new ≡ legs_of self.old }
+        ensures sources { sources_of self.new ≡ sources_of self.old }
         ensures turns { self.new.turns ≡ self.old.turns }
         ensures room { Tells self.old (λ s table. IsOk result
             ↔ (has_room s chunk.now.source (chunk_of chunk.now) table ≡ true)) }
@@ -169,15 +170,16 @@ impl Mixer {
         are_quiet(&self.outlets, &self.slots)
     }
 
-    /// A turn at this moment, in milliseconds: each terminal whose leg holds a place is sent at most one packet. The packets
-    /// are put into the batch, in leg order, in place of those of the turn before.
+    /// A turn at this moment, in milliseconds: each terminal whose leg holds a place is sent at most one text, new or to be
+    /// repeated. What is sent is put into the batch, in leg order, in place of that of the turn before.
     pub fn turn(&mut self, now: u64, batch: &mut Batch)
         requires moment { now < 2 ^ 47 }
         requires turns { self.old.turns < 5000000 }
         ensures legs { legs_of self.new ≡ legs_of self.old }
+        ensures sources { sources_of self.new ≡ sources_of self.old }
         ensures turns { self.new.turns ≡ self.old.turns + 1 }
-        ensures batch { OfCalls self.old (λ s pts table. HasBatch s pts now table batch.new) }
-        ensures posts { ArePosts (legs_of self.old) batch.new }
+        ensures batch { OfCalls self.old (λ s table. HasBatch s now table batch.new) }
+        ensures posts { ArePosts (sources_of self.old) batch.new }
         ensures stands { Leads self.old self.new (Turn now) }
     {
         let media = next_media(self.media, now);
@@ -187,7 +189,6 @@ impl Mixer {
             &self.names,
             &self.seating,
             &mut self.slots,
-            &mut self.text,
             batch,
         );
         self.media = Some(media);

@@ -61,12 +61,11 @@ fn turn(rt: &impl Abort, mixer: &mut Mixer, now: u32, batch: &mut Batch) {
     mixer.turn(u64::from(now), batch);
 }
 
-/// The last octet of the source that the packet to the terminal names.
-fn source_to(batch: &Batch, terminal: usize) -> Option<u8> {
+/// The source of which the terminal is sent text.
+fn source_to(batch: &Batch, terminal: usize) -> Option<usize> {
     for post in batch.posts() {
-        let octets = post.packet.as_slice();
-        if post.terminal == terminal && octets.len() > 15 {
-            return Some(octets[15]);
+        if post.terminal == terminal {
+            return Some(post.source);
         }
     }
     None
@@ -90,7 +89,7 @@ fn three_that_type_are_sent_in_turn(rt: HostRuntime) -> Result<(), Fail> {
             type_all(&rt, &mut mixer, b'1');
         }
         turn(&rt, &mut mixer, round * 100, &mut batch);
-        assert_eq!(rt; source_to(&batch, 3), Some(0xE9 + (round % 3) as u8));
+        assert_eq!(rt; source_to(&batch, 3), Some((round % 3) as usize));
     }
     assert!(rt; mixer.idle());
     turn(&rt, &mut mixer, 1800, &mut batch);

@@ -7,20 +7,20 @@ use Rattle.outlet.proofs.Below.{fails_at, all_more}
 use Rattle.mixer_turn.proofs.looks.are_quiet.Goals as goal
 
 pub returns-then-not-is_quiet : goal.returns-then-not-is_quiet
-returns-then-not-is_quiet c = λ s pts table h w.
+returns-then-not-is_quiet c = λ s table h w.
     let j = c.loop-terminal.terminal in
     let o = c.index-outlets-terminal.result in
     let g : slice_get c.args.outlets.now j ≡ Some o = get_read c.args.outlets.now j o (omega (arith, c.loop-terminal-test.true)) c.index-outlets-terminal.is in
-    sym (fails_at (λ k. is_quiet s k (table.terminals k)) (length c.args.outlets.now) j (omega (arith, c.loop-terminal-test.true)) (sym (c.if-not-is_quiet.ensures s (pts j) j table (h j o g) w)))
+    sym (fails_at (λ k. is_quiet s k (table.terminals k)) (length c.args.outlets.now) j (omega (arith, c.loop-terminal-test.true)) (sym (c.if-not-is_quiet.ensures s j table (h j o g) w)))
 
 pub loop-terminal-preserved : goal.loop-terminal-preserved
-loop-terminal-preserved c = λ s pts table h w.
+loop-terminal-preserved c = λ s table h w.
     let j = c.loop-terminal.terminal in
     let o = c.index-outlets-terminal.result in
     let g : slice_get c.args.outlets.now j ≡ Some o = get_read c.args.outlets.now j o (omega (arith, c.loop-terminal-test.true)) c.index-outlets-terminal.is in
-    all_more (λ k. is_quiet s k (table.terminals k)) j (c.loop-terminal.invariant s pts table h w) (sym (c.if-not-is_quiet.ensures s (pts j) j table (h j o g) w))
+    all_more (λ k. is_quiet s k (table.terminals k)) j (c.loop-terminal.invariant s table h w) (sym (c.if-not-is_quiet.ensures s j table (h j o g) w))
 
 pub returns : goal.returns
-returns c = λ s pts table h w.
+returns c = λ s table h w.
     let at : c.loop-terminal.terminal ≡ length c.args.outlets.now = omega (arith, c.loop-terminal-test.false, c.loop-terminal.auto.terminal-end) in
-    sym (subst (λ (n : ℕ). all_below (λ k. is_quiet s k (table.terminals k)) n ≡ true) at (c.loop-terminal.invariant s pts table h w))
+    sym (subst (λ (n : ℕ). all_below (λ k. is_quiet s k (table.terminals k)) n ≡ true) at (c.loop-terminal.invariant s table h w))

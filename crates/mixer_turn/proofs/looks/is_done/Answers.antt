@@ -6,19 +6,19 @@ use Rattle.mixer_spec.specs.Table.{is_quiet, has_work}
 use Rattle.mixer_turn.proofs.looks.is_done.Goals as goal
 
 pub returns-then-is_quiet : goal.returns-then-is_quiet
-returns-then-is_quiet c = λ s pts table h w.
+returns-then-is_quiet c = λ s table h w.
     let i = c.args.leg in
     let o = c.index-outlets-leg.result in
     let g : slice_get c.args.outlets.now i ≡ Some o = get_read c.args.outlets.now i o (omega (arith, c.requires.leg, c.requires.legs)) c.index-outlets-leg.is in
-    let quiet : true ≡ is_quiet s i (table.terminals i) = c.if-is_quiet.ensures s (pts i) i table (h i o g) w in
+    let quiet : true ≡ is_quiet s i (table.terminals i) = c.if-is_quiet.ensures s i table (h i o g) w in
     let legs : length c.args.outlets.now ≡ s.legs = c.requires.legs ∙ w.legs in
-    c.are_free_of.ensures s pts table h w
+    c.are_free_of.ensures s table h w
     ∙ (ap (λ n. all_below (λ j. (j == i) || not (has_work s j (table.terminals j) i)) n) legs ∙ ap (λ b. b && all_below (λ j. (j == i) || not (has_work s j (table.terminals j) i)) s.legs) quiet)
 
 pub returns-else-is_quiet : goal.returns-else-is_quiet
-returns-else-is_quiet c = λ s pts table h w.
+returns-else-is_quiet c = λ s table h w.
     let i = c.args.leg in
     let o = c.index-outlets-leg.result in
     let g : slice_get c.args.outlets.now i ≡ Some o = get_read c.args.outlets.now i o (omega (arith, c.requires.leg, c.requires.legs)) c.index-outlets-leg.is in
-    let quiet : false ≡ is_quiet s i (table.terminals i) = c.if-is_quiet.ensures s (pts i) i table (h i o g) w in
+    let quiet : false ≡ is_quiet s i (table.terminals i) = c.if-is_quiet.ensures s i table (h i o g) w in
     c.if-is_quiet.false ∙ ap (λ b. b && all_below (λ j. (j == i) || not (has_work s j (table.terminals j) i)) s.legs) quiet

@@ -54,3 +54,9 @@ returns-clause-turned c =
 pub returns-clause-outlets : goal.returns-clause-outlets
 returns-clause-outlets c =
     all_had c.args.media c.loop-leg.leg c.args.outlets.now c.args.seating.now c.args.slots.now c.args.names.now c.loop-leg.outlets c.loop-leg.slots c.loop-leg.batch c.loop-leg.invariant.0 c.loop-leg-test.false
+
+pub returns-clause-sources : goal.returns-clause-sources
+returns-clause-sources c = c.loop-leg.invariant.0.sources
+
+pub returns-clause-posts : goal.returns-clause-posts
+returns-clause-posts c = c.loop-leg.invariant.0.posts

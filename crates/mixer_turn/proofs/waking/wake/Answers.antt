@@ -15,7 +15,7 @@ loop-terminal-preserved c =
     let l : c.loop-terminal.terminal < length items = omega (arith, c.loop-terminal-test.true, c.len-terminal-end.ensures, c.args.outlets.now.ok.0, c.loop-terminal.invariant.count) in
     let g : slice_get items c.loop-terminal.terminal ≡ Some w = get_read items c.loop-terminal.terminal w l c.index_mut-outlet.ensures.value in
     one_woken c.loop-terminal.terminal c.args.outlets.now.items items w c.wake.new.self c.loop-terminal.invariant g
-    (record { stands = c.wake.ensures.stands; own = c.wake.ensures.same.0; legs = c.wake.ensures.same.1; next = c.wake.ensures.next })
+    (record { stands = c.wake.ensures.stands; own = c.wake.ensures.same.0; legs = c.wake.ensures.same.1; sources = c.wake.ensures.same.2; next = c.wake.ensures.next })
 
 pub returns : goal.returns
 returns c =

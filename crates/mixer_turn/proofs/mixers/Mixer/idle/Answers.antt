@@ -12,8 +12,8 @@ are_quiet-requires c =
     subst (λ (xs : List Outlet). AreAll (length c.self.inside.slots) xs) (sym c.deref.ensures.value) (λ j o g. (c.self.invariant.outlets j o g).all ∙ sym c.self.invariant.slots)
 
 pub returns : goal.returns
-returns c = λ s pts calls h.
+returns c = λ s calls h.
     let table = after_calls s calls in
-    let k = subst (λ (m : State). StandsFor s pts m calls) (sym c.self.view_is) h in
-    c.are_quiet.ensures s pts table (subst (λ (xs : List Outlet). AreOutlets s pts xs table.terminals) (sym c.deref.ensures.value) k.keeps.outlets) k.keeps.waits
+    let k = subst (λ (m : State). StandsFor s m calls) (sym c.self.view_is) h in
+    c.are_quiet.ensures s table (subst (λ (xs : List Outlet). AreOutlets s xs table.terminals) (sym c.deref.ensures.value) k.keeps.outlets) k.keeps.waits
     ∙ ap (λ n. all_below (λ j. is_quiet s j (table.terminals j)) n) (ap (λ (xs : List Outlet). length xs) c.deref.ensures.value ∙ k.keeps.legs)

@@ -7,9 +7,9 @@ use Rattle.mixer_turn.proofs.Calling.{stands_left, stands_stays}
 use Rattle.mixer_turn.proofs.mixers.Mixer.leave.Goals as goal
 
 pub returns-then-not-may_leave-clause-stands : goal.returns-then-not-may_leave-clause-stands
-returns-then-not-may_leave-clause-stands c = λ s pts calls h a. stands_stays s pts c.args.self.now calls c.args.leg h a (c.if-not-may_leave.ensures s pts calls h)
+returns-then-not-may_leave-clause-stands c = λ s calls h a. stands_stays s c.args.self.now calls c.args.leg h a (c.if-not-may_leave.ensures s calls h)
 
 pub returns-clause-stands : goal.returns-clause-stands
-returns-clause-stands c = λ s pts calls h a.
-    let k = subst (λ (m : State). StandsFor s pts m calls) (sym c.self.view_is) h in
-    stands_left s pts (state_of c.self.inside) calls c.args.leg c.free.new.self k a (c.if-not-may_leave.ensures s pts calls h) (c.free.ensures.stands s (after_calls s calls) k.keeps.seats)
+returns-clause-stands c = λ s calls h a.
+    let k = subst (λ (m : State). StandsFor s m calls) (sym c.self.view_is) h in
+    stands_left s (state_of c.self.inside) calls c.args.leg c.free.new.self k a (c.if-not-may_leave.ensures s calls h) (c.free.ensures.stands s (after_calls s calls) k.keeps.seats)

@@ -12,15 +12,15 @@ is_done-requires-clause-all c =
     subst (λ (xs : List Outlet). AreAll (length c.self.inside.slots) xs) (sym c.deref.ensures.value) (λ j o g. (c.self.invariant.outlets j o g).all ∙ sym c.self.invariant.slots)
 
 pub returns-then-not-listens : goal.returns-then-not-listens
-returns-then-not-listens c = λ s pts calls h.
+returns-then-not-listens c = λ s calls h.
     let table = after_calls s calls in
-    let k = subst (λ (m : State). StandsFor s pts m calls) (sym c.self.view_is) h in
-    c.is_done.ensures s pts table (subst (λ (xs : List Outlet). AreOutlets s pts xs table.terminals) (sym c.deref.ensures.value) k.keeps.outlets) k.keeps.waits
+    let k = subst (λ (m : State). StandsFor s m calls) (sym c.self.view_is) h in
+    c.is_done.ensures s table (subst (λ (xs : List Outlet). AreOutlets s xs table.terminals) (sym c.deref.ensures.value) k.keeps.outlets) k.keeps.waits
     ∙ ap (λ b. not b && is_done s c.args.leg table) (c.if-not-listens.ensures s table k.keeps.seats)
 
 pub returns-else-not-listens : goal.returns-else-not-listens
-returns-else-not-listens c = λ s pts calls h.
+returns-else-not-listens c = λ s calls h.
     let table = after_calls s calls in
-    let k = subst (λ (m : State). StandsFor s pts m calls) (sym c.self.view_is) h in
+    let k = subst (λ (m : State). StandsFor s m calls) (sym c.self.view_is) h in
     let listens : c.listens.result ≡ true = c.if-not-listens.false in
     ap not listens ∙ ap (λ b. not b && is_done s c.args.leg table) (c.if-not-listens.ensures s table k.keeps.seats)

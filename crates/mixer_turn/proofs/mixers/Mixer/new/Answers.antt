@@ -1,10 +1,12 @@
 use Rattle.std.proofs.Common.{◌≡◌, ℕ, List, [], length, map, refl, ap, sym, ◌∙◌, arith}
-use Rattle.std.specs.Prelude.{slice_index_or}
+use Rattle.std.specs.Prelude.{slice_index_or, if◌then◌else◌}
 use Rattle.std.proofs.lemmas.List.{length-map}
 use Rattle.file_spec.specs.declared.conf_lines.LegLine.{LegLine}
 use Rattle.mixer_spec.specs.Setups.{setup}
 use Rattle.mixer_spec.proofs.Conferences.{setup_law}
 use Rattle.conference.specs.Conferences.{conf_of}
+use Rattle.mixer_turn.specs.Making.{source_counts}
+use Rattle.mixer_turn.proofs.Counting.{counts_are}
 use Rattle.mixer_turn.proofs.Made.{name_there}
 use Rattle.mixer_turn.proofs.mixers.Mixer.new.Goals as goal
 
@@ -21,6 +23,12 @@ invariant_of-result c =
       media = tt;
       turns = omega arith;
     }
+
+pub returns-clause-sources : goal.returns-clause-sources
+returns-clause-sources c =
+    let conf = conf_of c.args.conf.now in
+    let made = c.in_ok-outlets.ensures in
+    counts_are c.in_ok-outlets.outlets.items (source_counts conf) (made.count ∙ sym (length-map conf.legs (λ l. if l.aware then length conf.legs else 1))) (λ j o g. (made.each j o g).sources)
 
 pub returns-clause-stands : goal.returns-clause-stands
 returns-clause-stands c =

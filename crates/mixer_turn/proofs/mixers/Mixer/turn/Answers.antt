@@ -1,8 +1,9 @@
-use Rattle.std.proofs.Common.{◌≡◌, ℕ, ◌+◌, List, ◌∷◌, length, ap, subst, sym, ◌∙◌, arith}
+use Rattle.std.proofs.Common.{◌≡◌, ℕ, ◌+◌, List, ◌∷◌, length, map, ap, subst, sym, ◌∙◌, arith}
 use Rattle.std.specs.Vec.{with_items}
 use Rattle.std.proofs.lemmas.List.{with_items_is}
 use Rattle.mixer_spec.specs.Table.{Turn}
 use Rattle.outlet.specs.declared.outlets.Outlet.{Outlet}
+use Rattle.outlet.specs.Outlets.{sources_of}
 use Rattle.mixer_turn.specs.States.{State}
 use Rattle.mixer_turn.specs.Insides.{IsSound, state_of}
 use Rattle.mixer_turn.specs.Posts.{ArePosts}
@@ -26,26 +27,32 @@ invariant_of-self c =
     (subst (λ (n : ℕ). AreOutletsOf n (c.next_media-media.result + 1) c.turn_legs.new.outlets) (ap (λ (xs : List Outlet). length xs) c.deref_mut.ensures.value) c.turn_legs.ensures.outlets))
 
 pub returns-clause-batch : goal.returns-clause-batch
-returns-clause-batch c = λ s pts calls h.
-    let k = subst (λ (m : State). StandsFor s pts m calls) (sym c.self.view_is) h in
-    turn_batch s pts (state_of c.self.inside) calls c.args.now c.next_media-media.result c.turn_legs.new.outlets c.turn_legs.new.slots c.turn_legs.new.batch k (omega (arith, c.requires.turns, ap (λ (m : State). m.turns) c.self.view_is)) c.next_media-media.ensures
-    (subst (λ (xs : List Outlet). OfMixers xs c.self.inside.seating c.self.inside.slots c.self.inside.names.items c.next_media-media.result (λ s pts table now. AllTurned s pts table now c.next_media-media.result c.turn_legs.new.outlets c.turn_legs.new.slots c.turn_legs.new.batch))
+returns-clause-batch c = λ s calls h.
+    let k = subst (λ (m : State). StandsFor s m calls) (sym c.self.view_is) h in
+    turn_batch s (state_of c.self.inside) calls c.args.now c.next_media-media.result c.turn_legs.new.outlets c.turn_legs.new.slots c.turn_legs.new.batch k (omega (arith, c.requires.turns, ap (λ (m : State). m.turns) c.self.view_is)) c.next_media-media.ensures
+    (subst (λ (xs : List Outlet). OfMixers xs c.self.inside.seating c.self.inside.slots c.self.inside.names.items c.next_media-media.result (λ s table now. AllTurned s table now c.next_media-media.result c.turn_legs.new.outlets c.turn_legs.new.slots c.turn_legs.new.batch))
     c.deref_mut.ensures.value
-    (subst (λ (ns : List (List ℕ)). OfMixers c.deref_mut.result.now c.self.inside.seating c.self.inside.slots ns c.next_media-media.result (λ s pts table now. AllTurned s pts table now c.next_media-media.result c.turn_legs.new.outlets c.turn_legs.new.slots c.turn_legs.new.batch))
+    (subst (λ (ns : List (List ℕ)). OfMixers c.deref_mut.result.now c.self.inside.seating c.self.inside.slots ns c.next_media-media.result (λ s table now. AllTurned s table now c.next_media-media.result c.turn_legs.new.outlets c.turn_legs.new.slots c.turn_legs.new.batch))
     c.deref.ensures.value c.turn_legs.ensures.turned))
 
 pub returns-clause-stands : goal.returns-clause-stands
-returns-clause-stands c = λ s pts calls h a.
-    let k = subst (λ (m : State). StandsFor s pts m calls) (sym c.self.view_is) h in
+returns-clause-stands c = λ s calls h a.
+    let k = subst (λ (m : State). StandsFor s m calls) (sym c.self.view_is) h in
     let count : length c.turn_legs.new.outlets ≡ length c.self.inside.outlets.items = c.turn_legs.ensures.legs ∙ ap (λ (xs : List Outlet). length xs) c.deref_mut.ensures.value in
     let is : (with_items c.self.inside.outlets c.turn_legs.new.outlets).items ≡ c.turn_legs.new.outlets = with_items_is c.self.inside.outlets c.turn_legs.new.outlets (omega (arith, count, c.self.inside.outlets.ok.0)) in
-    subst (λ (xs : List Outlet). StandsFor s pts (with_turn (state_of c.self.inside) c.next_media-media.result xs c.turn_legs.new.slots) (Turn c.args.now ∷ calls)) (sym is)
-    (turn_stands s pts (state_of c.self.inside) calls c.args.now c.next_media-media.result c.turn_legs.new.outlets c.turn_legs.new.slots c.turn_legs.new.batch k (omega (arith, c.requires.turns, ap (λ (m : State). m.turns) c.self.view_is)) c.next_media-media.ensures count
-    (subst (λ (xs : List Outlet). OfMixers xs c.self.inside.seating c.self.inside.slots c.self.inside.names.items c.next_media-media.result (λ s pts table now. AllTurned s pts table now c.next_media-media.result c.turn_legs.new.outlets c.turn_legs.new.slots c.turn_legs.new.batch))
+    subst (λ (xs : List Outlet). StandsFor s (with_turn (state_of c.self.inside) c.next_media-media.result xs c.turn_legs.new.slots) (Turn c.args.now ∷ calls)) (sym is)
+    (turn_stands s (state_of c.self.inside) calls c.args.now c.next_media-media.result c.turn_legs.new.outlets c.turn_legs.new.slots c.turn_legs.new.batch k (omega (arith, c.requires.turns, ap (λ (m : State). m.turns) c.self.view_is)) c.next_media-media.ensures count
+    (subst (λ (xs : List Outlet). OfMixers xs c.self.inside.seating c.self.inside.slots c.self.inside.names.items c.next_media-media.result (λ s table now. AllTurned s table now c.next_media-media.result c.turn_legs.new.outlets c.turn_legs.new.slots c.turn_legs.new.batch))
     c.deref_mut.ensures.value
-    (subst (λ (ns : List (List ℕ)). OfMixers c.deref_mut.result.now c.self.inside.seating c.self.inside.slots ns c.next_media-media.result (λ s pts table now. AllTurned s pts table now c.next_media-media.result c.turn_legs.new.outlets c.turn_legs.new.slots c.turn_legs.new.batch))
+    (subst (λ (ns : List (List ℕ)). OfMixers c.deref_mut.result.now c.self.inside.seating c.self.inside.slots ns c.next_media-media.result (λ s table now. AllTurned s table now c.next_media-media.result c.turn_legs.new.outlets c.turn_legs.new.slots c.turn_legs.new.batch))
     c.deref.ensures.value c.turn_legs.ensures.turned)))
+
+pub returns-clause-sources : goal.returns-clause-sources
+returns-clause-sources c =
+    let count : length c.turn_legs.new.outlets ≡ length c.self.inside.outlets.items = c.turn_legs.ensures.legs ∙ ap (λ (xs : List Outlet). length xs) c.deref_mut.ensures.value in
+    let is : (with_items c.self.inside.outlets c.turn_legs.new.outlets).items ≡ c.turn_legs.new.outlets = with_items_is c.self.inside.outlets c.turn_legs.new.outlets (omega (arith, count, c.self.inside.outlets.ok.0)) in
+    ap (λ (xs : List Outlet). map sources_of xs) is ∙ (c.turn_legs.ensures.sources ∙ (ap (λ (xs : List Outlet). map sources_of xs) c.deref_mut.ensures.value ∙ ap (λ (m : State). map sources_of m.outlets) c.self.view_is))
 
 pub returns-clause-posts : goal.returns-clause-posts
 returns-clause-posts c =
-    subst (λ (n : ℕ). ArePosts n c.turn_legs.new.batch) (ap (λ (xs : List Outlet). length xs) c.deref_mut.ensures.value ∙ ap (λ (m : State). length m.outlets) c.self.view_is) c.turn_legs.ensures.posts
+    subst (λ (ns : List ℕ). ArePosts ns c.turn_legs.new.batch) (ap (λ (xs : List Outlet). map sources_of xs) c.deref_mut.ensures.value ∙ ap (λ (m : State). map sources_of m.outlets) c.self.view_is) c.turn_legs.ensures.posts
