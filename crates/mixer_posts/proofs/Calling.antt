@@ -1,20 +1,21 @@
 -- Calls of a mixer whose packets are sent.
-use Rattle.std.proofs.Common.{◌≡◌, ◌≤◌, ◌<◌, ℕ, Bool, true, false, true≢false, Ok, Err, List, ◌∷◌, length, map, refl, ap, sym, subst, ◌∙◌, arith}
+use Rattle.std.proofs.Common.{◌≡◌, ◌≤◌, ◌<◌, ℕ, Bool, true, false, true≢false, Ok, Err, List, ◌∷◌, length, refl, ap, sym, subst, ◌∙◌, arith}
 use Rattle.std.specs.Prelude.{◌↔◌, Result, IsOk, OnOk, is_ok}
 use Rattle.rtt_base.specs.declared.text_packets.Pts.{Pts}
 use Rattle.stream_spec.specs.Ready.{Chunk}
 use Rattle.mixer_spec.specs.Setups.{Setup}
-use Rattle.mixer_spec.specs.Table.{Call, Turn, after_calls, batch}
+use Rattle.mixer_spec.specs.Table.{Call, Turn, after_calls}
 use Rattle.mix_loop.specs.Items.{IsOf}
 use Rattle.mix_loop.specs.Mixers.{Keeps}
 use Rattle.mixer_turn.specs.declared.batches.Post.{Post}
 use Rattle.mixer_turn.specs.Allowed.{IsOffer}
 use Rattle.mixer_turn.specs.States.{legs_of}
-use Rattle.mixer_turn.specs.Standing.{Leads}
-use Rattle.mixer_turn.specs.Turns.{HasBatch, OfCalls, written}
+use Rattle.mixer_turn.specs.Standing.{Leads, StandsFor}
+use Rattle.mixer_turn.specs.Turns.{HasBatch, OfCalls, posts_at}
 use Rattle.mixer_posts.specs.States.{SendingState}
-use Rattle.mixer_posts.specs.Posts.{TakesAll, sent_by, with_posts}
+use Rattle.mixer_posts.specs.Posts.{AreNext, TakesAll, sent_by, with_posts}
 use Rattle.mixer_posts.specs.Standing.{SendsFor}
+use Rattle.mixer_posts.proofs.Nexts.{are_next}
 use Rattle.rtt_base.specs.declared.limits.TheConstants.{MOST_TEXT_OCTETS}
 
 pub ok_is : {E : Type 0} (r : Result (Unit {0}) E) (b : Bool) → (IsOk r ↔ (b ≡ true)) → is_ok r ≡ b
@@ -35,17 +36,18 @@ abbrev pub KeepsAll : {O : Type 0} → (O → List ℕ) → SendingState O → S
 KeepsAll {O} addresses old new = Keeps (λ (m : SendingState O). legs_of m.mixer) (λ (m : SendingState O). m.mixer.turns) (λ (m : SendingState O). addresses m.outbound) old new
 
 -- a turn was made, and what it sends was taken
-pub turn_sent : {O : Type 0} (took : O → List (ℕ × Post) → Type 0) (terminals : O → ℕ) (horizon now : ℕ) (old new : SendingState O) (posts : List Post) → now < horizon
-    → Leads old.mixer new.mixer (Turn now) → old.mixer.turns ≤ 4999999 → OfCalls old.mixer (λ s pts table. HasBatch s pts now table posts)
-    → TakesAll took old.outbound new.outbound now posts → terminals new.outbound ≡ terminals old.outbound
-    → (s : Setup) (pts : ℕ → Pts) (calls : List Call) → SendsFor took terminals horizon old s pts calls → SendsFor took terminals horizon new s pts (Turn now ∷ calls)
-turn_sent took terminals horizon now old new posts soon leads few has takes same s pts calls h =
-    let table = after_calls s calls in
-    let is : posts ≡ map (written pts) (batch s now table) = has s pts calls h.stands in
+pub turn_sent : {O : Type 0} (took : O → Setup → (ℕ → Pts) → List (ℕ × Post) → Type 0) (sources : O → List ℕ) (horizon now : ℕ) (old new : SendingState O) (posts : List Post) → now < horizon
+    → Leads old.mixer new.mixer (Turn now) → old.mixer.turns ≤ 4999999 → OfCalls old.mixer (λ s table. HasBatch s now table posts)
+    → TakesAll took old.outbound new.outbound now posts → sources new.outbound ≡ sources old.outbound
+    → (s : Setup) (pts : ℕ → Pts) (calls : List Call) → SendsFor took sources horizon old s pts calls → SendsFor took sources horizon new s pts (Turn now ∷ calls)
+turn_sent took sources horizon now old new posts soon leads few has takes same s pts calls h =
+    let is : posts ≡ posts_at s now (after_calls s calls) = has s calls h.stands in
+    let stands : StandsFor s new.mixer (Turn now ∷ calls) = leads s calls h.stands h.stands.allowed in
+    let next : AreNext s (with_posts now posts (sent_by s calls)) = subst (λ (ps : List Post). AreNext s (with_posts now ps (sent_by s calls))) (sym is) (are_next s new.mixer (Turn now ∷ calls) stands) in
     record {
-      stands = leads s pts calls h.stands h.stands.allowed;
-      sent = subst (λ (ps : List Post). took new.outbound (with_posts now ps (sent_by s pts calls))) is (takes (sent_by s pts calls) h.sent);
-      all = same ∙ h.all;
+      stands = stands;
+      sent = subst (λ (ps : List Post). took new.outbound s pts (with_posts now ps (sent_by s calls))) is (takes s pts (sent_by s calls) next h.sent);
+      all = ap (λ (xs : List ℕ). length xs) same ∙ h.all;
       early = (soon, h.early);
       few = omega (arith, few, h.stands.turns);
     }

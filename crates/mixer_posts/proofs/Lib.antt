@@ -1,2 +1,5 @@
+pub mod Entering
+pub mod Nexts
+pub mod Streaming
 pub mod Posting
 pub mod Calling

@@ -1,3 +1,5 @@
+pub mod Streams
 pub mod Posts
 pub mod States
 pub mod Standing
+pub mod Laws

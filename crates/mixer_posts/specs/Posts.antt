@@ -1,30 +1,48 @@
--- The packets that a mixer sends, by the calls that were made of it (profile).
-use Rattle.std.specs.Prelude.{ℕ, List, [], ◌∷◌, map}
+-- What a mixer sends, by the calls that were made of it (profile).
+use Rattle.std.specs.Prelude.{ℕ, ◌<◌, ◌==◌, List, [], ◌∷◌, ◌++◌, map, if◌then◌else◌}
 use Rattle.rtt_base.specs.declared.text_packets.Pts.{Pts}
-use Rattle.mixer_spec.specs.Setups.{Setup}
-use Rattle.mixer_spec.specs.Table.{Call, Admit, Hush, Leave, Offer, Turn, after_calls, batch}
+use Rattle.stream_spec.specs.Own.{Sent}
+use Rattle.mixer_spec.specs.Setups.{Setup, stream}
+use Rattle.mixer_spec.specs.Table.{Call, Admit, Hush, Leave, Offer, Turn, after_calls}
+use Rattle.aware_output.specs.Speakers.{EachIsNext, text_of}
 use Rattle.mixer_turn.specs.declared.batches.Post.{Post}
-use Rattle.mixer_turn.specs.Turns.{written}
+use Rattle.mixer_turn.specs.Turns.{posts_at}
+use Rattle.mixer_posts.specs.Streams.{AreSourcesAt}
 
--- these packets, sent at this moment, behind what was sent before, newest first
+-- these posts, sent at this moment, behind what was sent before, newest first
 abbrev pub with_posts : ℕ → List Post → List (ℕ × Post) → List (ℕ × Post)
 with_posts now [] sent = sent
 with_posts now (p ∷ posts) sent = with_posts now posts ((now, p) ∷ sent)
 
 -- what these calls send, newest first, each at the moment of its turn
-abbrev pub sent_by : Setup → (ℕ → Pts) → List Call → List (ℕ × Post)
-sent_by s pts [] = []
-sent_by s pts (Admit i l ∷ past) = sent_by s pts past
-sent_by s pts (Hush i ∷ past) = sent_by s pts past
-sent_by s pts (Leave i ∷ past) = sent_by s pts past
-sent_by s pts (Offer c ∷ past) = sent_by s pts past
-sent_by s pts (Turn now ∷ past) = with_posts now (map (written pts) (batch s now (after_calls s past))) (sent_by s pts past)
+abbrev pub sent_by : Setup → List Call → List (ℕ × Post)
+sent_by s [] = []
+sent_by s (Admit i l ∷ past) = sent_by s past
+sent_by s (Hush i ∷ past) = sent_by s past
+sent_by s (Leave i ∷ past) = sent_by s past
+sent_by s (Offer c ∷ past) = sent_by s past
+sent_by s (Turn now ∷ past) = with_posts now (posts_at s now (after_calls s past)) (sent_by s past)
 
-module _ {O : Type 0} (took : O → List (ℕ × Post) → Type 0) where
-  -- a packet was taken, behind what was sent before
+-- what is sent of a terminal with these sources
+abbrev pub sent_of_post : List ℕ → Post → Sent
+sent_of_post sources p = text_of sources p.source p.media p.text
+
+-- of these posts, newest first, what is sent to the terminal j, which has these sources, each at its moment
+abbrev pub sents_to : List ℕ → ℕ → List (ℕ × Post) → List (ℕ × Sent)
+sents_to sources j [] = []
+sents_to sources j (x ∷ sent) = (if x.1.terminal == j then (x.0, sent_of_post sources x.1) ∷ [] else []) ++ sents_to sources j sent
+
+-- each of these posts may be sent after those before it
+abbrev pub AreNext : Setup → List (ℕ × Post) → Type 0
+AreNext s sent = (j : ℕ) (sources : List ℕ) → j < s.legs → AreSourcesAt s j sources → EachIsNext (stream s j) (map (λ x. x.1) (sents_to sources j sent))
+
+module _ {O : Type 0} (took : O → Setup → (ℕ → Pts) → List (ℕ × Post) → Type 0) where
+  -- a post that may be sent was taken, behind what was sent before
   abbrev pub Takes : O → O → ℕ → Post → Type 0
-  Takes old new now p = (sent : List (ℕ × Post)) → took old sent → took new ((now, p) ∷ sent)
+  Takes old new now p = (s : Setup) (pts : ℕ → Pts) (sent : List (ℕ × Post))
+      → AreNext s ((now, p) ∷ sent) → took old s pts sent → took new s pts ((now, p) ∷ sent)
 
-  -- these packets were taken
+  -- these posts were taken
   abbrev pub TakesAll : O → O → ℕ → List Post → Type 0
-  TakesAll old new now posts = (sent : List (ℕ × Post)) → took old sent → took new (with_posts now posts sent)
+  TakesAll old new now posts = (s : Setup) (pts : ℕ → Pts) (sent : List (ℕ × Post))
+      → AreNext s (with_posts now posts sent) → took old s pts sent → took new s pts (with_posts now posts sent)

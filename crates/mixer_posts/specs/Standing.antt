@@ -1,5 +1,5 @@
 -- What a mixer stands for whose packets are sent.
-use Rattle.std.specs.Prelude.{◌≡◌, ◌<◌, ◌≤◌, ℕ, List, [], ◌∷◌}
+use Rattle.std.specs.Prelude.{◌≡◌, ◌<◌, ◌≤◌, ℕ, List, [], ◌∷◌, length}
 use Rattle.rtt_base.specs.declared.text_packets.Pts.{Pts}
 use Rattle.mixer_spec.specs.Setups.{Setup}
 use Rattle.mixer_spec.specs.Table.{Call, Admit, Hush, Leave, Offer, Turn}
@@ -18,10 +18,11 @@ AreBefore moment (Leave i ∷ past) = AreBefore moment past
 AreBefore moment (Offer c ∷ past) = AreBefore moment past
 AreBefore moment (Turn now ∷ past) = (now < moment) × AreBefore moment past
 
--- These calls were made of it, no more turns than a conference has, and what they send was taken.
-pub record SendsFor {O : Type 0} (took : O → List (ℕ × Post) → Type 0) (terminals : O → ℕ) (horizon : ℕ) (m : SendingState O) (s : Setup) (pts : ℕ → Pts) (calls : List Call) : Type 0 where
-  pub stands : StandsFor s pts m.mixer calls
-  pub sent : took m.outbound (sent_by s pts calls)
-  pub all : terminals m.outbound ≡ s.legs
+-- These calls were made of it, no more turns than a conference has, and what they send was taken, for terminals with these
+-- payload types.
+pub record SendsFor {O : Type 0} (took : O → Setup → (ℕ → Pts) → List (ℕ × Post) → Type 0) (sources : O → List ℕ) (horizon : ℕ) (m : SendingState O) (s : Setup) (pts : ℕ → Pts) (calls : List Call) : Type 0 where
+  pub stands : StandsFor s m.mixer calls
+  pub sent : took m.outbound s pts (sent_by s calls)
+  pub all : length (sources m.outbound) ≡ s.legs
   pub early : AreBefore horizon calls
   pub few : turns_made calls ≤ 5000000

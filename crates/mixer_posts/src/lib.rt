@@ -1,12 +1,17 @@
-//! The mixer, as the loop of mixing calls it: what a turn sends is given to an outbound, post by post.
+//! The mixer, as the loop of mixing calls it: what a turn sends is given to an outbound, post by post. The stream to each
+//! terminal, and its sources.
 #![tactic(auto)]
 
+mod laws;
 mod mixers;
 mod outbounds;
 mod sending;
+mod streams;
 
+pub use laws::posts_are_entered;
 pub use mixers::Sending;
 pub use outbounds::Outbound;
+pub use streams::{sources_to, stream_to};
 
 #[cfg(test)]
 mod tests;

@@ -1,6 +1,6 @@
-//! A mixer whose packets are sent.
+//! A mixer with where its posts go.
 ghost use Rattle.std.specs.Prelude.{◌≡◌};
-ghost use Rattle.mixer_turn.specs.States.{legs_of};
+ghost use Rattle.mixer_turn.specs.States.{sources_of};
 
 use crate::Outbound;
 use crate::sending::send_posts;
@@ -9,7 +9,7 @@ use mixer_turn::{Batch, Mixer};
 use rtt_base::{Chunk, Full};
 use std::marker::Model;
 
-/// The mixer of a conference, with the packets of its last turn, and where they go.
+/// The mixer of a conference, with what its last turn sent, and where that goes.
 #[derive(Drop)]
 pub struct Sending<O: Outbound> {
     mixer: Mixer,
@@ -24,13 +24,14 @@ impl<O: Outbound> Model for Sending<O> {
 
     ghost view = { λ m. record { mixer = m.mixer; outbound = m.outbound } };
 
-    ghost invariant = { λ m. IsForEach O.terminals (record { mixer = m.mixer; outbound = m.outbound }) };
+    ghost invariant = { λ m. IsForEach O.sources (record { mixer = m.mixer; outbound = m.outbound }) };
 }
 
 impl<O: Outbound> Sending<O> {
-    /// This mixer, whose packets go there, where there is a terminal for each leg. The batch has room for those of a turn.
+    /// This mixer, whose posts go there, where each terminal has as many sources as for the mixer. The batch has room for those
+    /// of a turn.
     pub fn new(mixer: Mixer, batch: Batch, outbound: O) -> Sending<O>
-        requires { O.terminals outbound ≡ legs_of mixer }
+        requires { O.sources outbound ≡ sources_of mixer }
         ensures mixer { result.mixer ≡ mixer }
         ensures outbound { result.outbound ≡ outbound }
     {
@@ -41,7 +42,7 @@ impl<O: Outbound> Sending<O> {
         }
     }
 
-    /// Where the packets went.
+    /// Where the posts went.
     pub fn into_outbound(self) -> O
         ensures { result ≡ self.outbound }
     {
@@ -60,7 +61,7 @@ impl<O: Outbound> Mixes for Sending<O> {
 
     type Fault = O::Fault;
 
-    ghost stands = { λ m s pts calls. SendsFor O.took O.terminals O.horizon m s pts calls };
+    ghost stands = { λ m s pts calls. SendsFor O.took O.sources O.horizon m s pts calls };
 
     ghost legs = { λ m. legs_of m.mixer };
 

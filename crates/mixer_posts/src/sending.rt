@@ -1,4 +1,4 @@
-//! The packets of a turn are sent.
+//! What a turn sends is given to an outbound.
 ghost use Rattle.std.specs.Prelude.{◌≡◌, ◌<◌, OnOk, IfErr};
 ghost use Rattle.mixer_turn.specs.Posts.{ArePosts};
 ghost use Rattle.mixer_posts.specs.Posts.{TakesAll};
@@ -6,17 +6,17 @@ ghost use Rattle.mixer_posts.specs.Posts.{TakesAll};
 use crate::Outbound;
 use mixer_turn::Post;
 
-/// Sends these packets at the moment `now` (milliseconds), one after the other.
+/// Gives these posts at the moment `now` (milliseconds), one after the other.
 pub(crate) fn send_posts<O: Outbound>(
     now: u64,
     posts: &[Post],
     outbound: &mut O,
 ) -> Result<(), O::Fault>
     requires moment { now < O.horizon }
-    requires posts { ArePosts (O.terminals outbound.old) posts.now }
+    requires posts { ArePosts (O.sources outbound.old) posts.now }
     ensures took { OnOk result (TakesAll O.took outbound.old outbound.new now posts.now) }
     ensures unsent { IfErr result (O.unsent outbound.new) }
-    ensures terminals { O.terminals outbound.new ≡ O.terminals outbound.old }
+    ensures sources { O.sources outbound.new ≡ O.sources outbound.old }
     ensures addresses { O.addresses outbound.new ≡ O.addresses outbound.old }
 {
     for post in posts {

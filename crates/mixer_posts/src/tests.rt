@@ -3,6 +3,7 @@ ghost use Rattle.std.specs.Prelude.{◌≡◌, IfOk};
 
 use crate::{Outbound, Sending};
 use conf_text::{Form, read_conf};
+use conference::Conf;
 use mix_loop::Mixes;
 use mixer_turn::{Batch, Mixer, Post};
 use rtt_base::{Chunk, NoMemory, Text};
@@ -13,9 +14,10 @@ use std::test::Fail;
 /// Two legs.
 const TWO: &[u8] = b"leg A aware 1001 a.rtp a\nleg B aware 1002 b.rtp b\nmixer 9000 0 0\n";
 
-/// Notes to whom a packet is sent, and when. It takes so many.
+/// Notes to which terminal of the conference something is sent, and when. It takes so many.
 #[derive(Drop)]
 struct Notes {
+    conf: Conf,
     sent: Vec<(u64, usize)>,
     room: usize,
 }
@@ -23,12 +25,14 @@ struct Notes {
 impl Outbound for Notes {
     ghost use Rattle.std.proofs.Common.{rules};
     ghost use Rattle.std.specs.Prelude.{◌^◌, []};
+    ghost use Rattle.conference.specs.Conferences.{conf_of};
+    ghost use Rattle.mixer_turn.specs.Making.{source_counts};
 
     type Fault = NoMemory;
 
-    ghost took = { λ notes sent. Unit {0} };
+    ghost took = { λ notes s pts sent. Unit {0} };
 
-    ghost terminals = { λ notes. 2 };
+    ghost sources = { λ notes. source_counts (conf_of notes.conf) };
 
     ghost addresses = { λ notes. [] };
 
@@ -49,7 +53,7 @@ impl Outbound for Notes {
     ghost in_time = { Prim.search rules };
 }
 
-/// The mixer of two legs, the first of which typed, and an outbound that takes so many packets.
+/// The mixer of two legs, the first of which typed, and an outbound that takes so many posts.
 fn typed(rt: &impl Abort, alloc: Global, room: usize) -> Result<Sending<Notes>, NoMemory>
     ensures turns { IfOk result (λ sending. sending.mixer.turns ≡ 0) }
 {
@@ -72,7 +76,8 @@ fn typed(rt: &impl Abort, alloc: Global, room: usize) -> Result<Sending<Notes>, 
     };
     assert!(rt; mixer.offer(&chunk).is_ok());
     let sent = Vec::new(alloc);
-    Ok(Sending::new(mixer, Batch::new(alloc)?, Notes { sent, room }))
+    let notes = Notes { conf, sent, room };
+    Ok(Sending::new(mixer, Batch::new(alloc)?, notes))
 }
 
 #[test]

@@ -1,18 +1,18 @@
-use Rattle.std.proofs.Common.{◌∙◌, ℕ, subst, sym}
+use Rattle.std.proofs.Common.{◌∙◌, ℕ, List, subst, sym}
 use Rattle.mixer_turn.specs.Posts.{IsPost}
 use Rattle.mixer_posts.proofs.Posting.{is_post, taken_more}
 use Rattle.mixer_posts.proofs.sending.send_posts.Goals as goal
 
 pub send-requires-clause-post : goal.send-requires-clause-post
 send-requires-clause-post g c =
-    subst (λ (n : ℕ). IsPost n c.post-item.result) (sym c.loop-post.invariant.terminals)
-    (is_post (g.O.Outbound.terminals c.args.outbound.now) c.args.posts.now c.loop-post.post-index c.post-item.result c.loop-post-test.true c.post-item.is c.requires.posts)
+    subst (λ (sources : List ℕ). IsPost sources c.post-item.result) (sym c.loop-post.invariant.sources)
+    (is_post (g.O.Outbound.sources c.args.outbound.now) c.args.posts.now c.loop-post.post-index c.post-item.result c.loop-post-test.true c.post-item.is c.requires.posts)
 
 pub loop-post-preserved : goal.loop-post-preserved
 loop-post-preserved g c =
     let i = c.loop-post.invariant in
     record {
-      terminals = c.send.ensures.terminals ∙ i.terminals;
+      sources = c.send.ensures.sources ∙ i.sources;
       addresses = c.send.ensures.addresses ∙ i.addresses;
       taken = taken_more g.O.Outbound.took c.args.now c.args.posts.now c.args.outbound.now c.loop-post.outbound c.send.new.self c.loop-post.post-index c.post-item.result c.loop-post-test.true c.post-item.is
           i.taken c.in-Ok.ensures.took;

@@ -6,14 +6,14 @@ use Rattle.mixer_posts.proofs.Calling.{KeepsAll}
 use Rattle.mixer_posts.proofs.mixers.SendingMixes.admit.Goals as goal
 
 pub invariant_of-self : goal.invariant_of-self
-invariant_of-self g c = c.self.invariant ∙ sym c.admit.ensures.legs
+invariant_of-self g c = c.self.invariant ∙ sym c.admit.ensures.sources
 
 pub returns-clause-admitted : goal.returns-clause-admitted
 returns-clause-admitted g c =
     let new : SendingState g.row.O.Denot = record { mixer = c.admit.new.self; outbound = c.self.inside.outbound } in
-    subst (λ (m : SendingState g.row.O.Denot). Admits (SendsFor g.O.Outbound.took g.O.Outbound.terminals g.O.Outbound.horizon) m new c.args.leg c.args.listens c.admit.result) c.self.view_is
+    subst (λ (m : SendingState g.row.O.Denot). Admits (SendsFor g.O.Outbound.took g.O.Outbound.sources g.O.Outbound.horizon) m new c.args.leg c.args.listens c.admit.result) c.self.view_is
     (λ s pts calls h may.
-    (record { stands = c.admit.ensures.stands s pts calls h.stands (may, h.stands.allowed); sent = h.sent; all = h.all; early = h.early; few = h.few }, c.admit.ensures.free s pts calls h.stands))
+    (record { stands = c.admit.ensures.stands s calls h.stands (may, h.stands.allowed); sent = h.sent; all = h.all; early = h.early; few = h.few }, c.admit.ensures.free s calls h.stands))
 
 pub returns-clause-keeps : goal.returns-clause-keeps
 returns-clause-keeps g c =

@@ -6,13 +6,13 @@ use Rattle.mixer_posts.proofs.Calling.{KeepsAll}
 use Rattle.mixer_posts.proofs.mixers.SendingMixes.hush.Goals as goal
 
 pub invariant_of-self : goal.invariant_of-self
-invariant_of-self g c = c.self.invariant ∙ sym c.hush.ensures.legs
+invariant_of-self g c = c.self.invariant ∙ sym c.hush.ensures.sources
 
 pub returns-clause-hushed : goal.returns-clause-hushed
 returns-clause-hushed g c =
     let new : SendingState g.row.O.Denot = record { mixer = c.hush.new.self; outbound = c.self.inside.outbound } in
-    subst (λ (m : SendingState g.row.O.Denot). Hushes (SendsFor g.O.Outbound.took g.O.Outbound.terminals g.O.Outbound.horizon) m new c.args.leg) c.self.view_is
-    (λ s pts calls h may. record { stands = c.hush.ensures.stands s pts calls h.stands (may, h.stands.allowed); sent = h.sent; all = h.all; early = h.early; few = h.few })
+    subst (λ (m : SendingState g.row.O.Denot). Hushes (SendsFor g.O.Outbound.took g.O.Outbound.sources g.O.Outbound.horizon) m new c.args.leg) c.self.view_is
+    (λ s pts calls h may. record { stands = c.hush.ensures.stands s calls h.stands (may, h.stands.allowed); sent = h.sent; all = h.all; early = h.early; few = h.few })
 
 pub returns-clause-keeps : goal.returns-clause-keeps
 returns-clause-keeps g c =

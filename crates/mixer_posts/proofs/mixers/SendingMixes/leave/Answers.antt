@@ -6,14 +6,14 @@ use Rattle.mixer_posts.proofs.Calling.{KeepsAll}
 use Rattle.mixer_posts.proofs.mixers.SendingMixes.leave.Goals as goal
 
 pub invariant_of-self : goal.invariant_of-self
-invariant_of-self g c = c.self.invariant ∙ sym c.leave.ensures.legs
+invariant_of-self g c = c.self.invariant ∙ sym c.leave.ensures.sources
 
 pub returns-clause-left : goal.returns-clause-left
 returns-clause-left g c =
     let new : SendingState g.row.O.Denot = record { mixer = c.leave.new.self; outbound = c.self.inside.outbound } in
-    subst (λ (m : SendingState g.row.O.Denot). Leaves (SendsFor g.O.Outbound.took g.O.Outbound.terminals g.O.Outbound.horizon) m new c.args.leg c.leave.result) c.self.view_is
+    subst (λ (m : SendingState g.row.O.Denot). Leaves (SendsFor g.O.Outbound.took g.O.Outbound.sources g.O.Outbound.horizon) m new c.args.leg c.leave.result) c.self.view_is
     (λ s pts calls h.
-    (record { stands = c.leave.ensures.stands s pts calls h.stands h.stands.allowed; sent = h.sent; all = h.all; early = h.early; few = h.few }, c.leave.ensures.may s pts calls h.stands))
+    (record { stands = c.leave.ensures.stands s calls h.stands h.stands.allowed; sent = h.sent; all = h.all; early = h.early; few = h.few }, c.leave.ensures.may s calls h.stands))
 
 pub returns-clause-keeps : goal.returns-clause-keeps
 returns-clause-keeps g c =

@@ -4,7 +4,7 @@ use Rattle.mixer_spec.specs.Table.{after_calls}
 use Rattle.mix_loop.specs.Mixers.{Turns}
 use Rattle.mixer_turn.specs.declared.batches.Post.{Post}
 use Rattle.mixer_turn.specs.Posts.{ArePosts}
-use Rattle.mixer_turn.specs.States.{legs_of}
+use Rattle.mixer_turn.specs.States.{sources_of}
 use Rattle.mixer_turn.specs.Turns.{HasBatch}
 use Rattle.mixer_posts.specs.States.{SendingState}
 use Rattle.mixer_posts.specs.Standing.{SendsFor}
@@ -19,18 +19,18 @@ turn-requires-clause-turns g c = let same = ap (λ (m : SendingState g.row.O.Den
 
 pub send_posts-requires-clause-posts : goal.send_posts-requires-clause-posts
 send_posts-requires-clause-posts g c =
-    subst (λ (n : ℕ). ArePosts n c.posts.result.now) (sym c.self.invariant) (subst (λ (posts : List Post). ArePosts (legs_of c.self.inside.mixer) posts) (sym c.posts.ensures) c.turn.ensures.posts)
+    subst (λ (sources : List ℕ). ArePosts sources c.posts.result.now) (sym c.self.invariant) (subst (λ (posts : List Post). ArePosts (sources_of c.self.inside.mixer) posts) (sym c.posts.ensures) c.turn.ensures.posts)
 
 pub invariant_of-self : goal.invariant_of-self
-invariant_of-self g c = c.send_posts.ensures.terminals ∙ (c.self.invariant ∙ sym c.turn.ensures.legs)
+invariant_of-self g c = c.send_posts.ensures.sources ∙ (c.self.invariant ∙ sym c.turn.ensures.sources)
 
 pub returns-clause-turned : goal.returns-clause-turned
 returns-clause-turned g c =
     let old : SendingState g.row.O.Denot = record { mixer = c.self.inside.mixer; outbound = c.self.inside.outbound } in
     let new : SendingState g.row.O.Denot = record { mixer = c.turn.new.self; outbound = c.send_posts.new.outbound } in
     let few : c.self.inside.mixer.turns ≡ c.args.self.now.mixer.turns = ap (λ (m : SendingState g.row.O.Denot). m.mixer.turns) c.self.view_is in
-    subst (λ (m : SendingState g.row.O.Denot). OnOk c.send_posts.result (Turns (SendsFor g.O.Outbound.took g.O.Outbound.terminals g.O.Outbound.horizon) m new c.args.now)) c.self.view_is
+    subst (λ (m : SendingState g.row.O.Denot). OnOk c.send_posts.result (Turns (SendsFor g.O.Outbound.took g.O.Outbound.sources g.O.Outbound.horizon) m new c.args.now)) c.self.view_is
     (on_ok c.send_posts.result _ _
-    (λ takes. turn_sent g.O.Outbound.took g.O.Outbound.terminals g.O.Outbound.horizon c.args.now old new c.posts.result.now c.requires.now c.turn.ensures.stands (omega (arith, few, c.requires.few))
-    (λ s pts calls h. subst (λ (posts : List Post). HasBatch s pts c.args.now (after_calls s calls) posts) (sym c.posts.ensures) (c.turn.ensures.batch s pts calls h)) takes c.send_posts.ensures.terminals)
+    (λ takes. turn_sent g.O.Outbound.took g.O.Outbound.sources g.O.Outbound.horizon c.args.now old new c.posts.result.now c.requires.now c.turn.ensures.stands (omega (arith, few, c.requires.few))
+    (λ s calls h. subst (λ (posts : List Post). HasBatch s c.args.now (after_calls s calls) posts) (sym c.posts.ensures) (c.turn.ensures.batch s calls h)) takes c.send_posts.ensures.sources)
     c.send_posts.ensures.took)
