@@ -9,9 +9,10 @@ use Rattle.file_spec.specs.declared.conf_lines.LegLine.{LegLine}
 use Rattle.file_spec.specs.Conf.{Conf}
 use Rattle.mixer_spec.specs.Setups.{Setup, leg_at, setup, ssrc_of}
 use Rattle.mixer_spec.specs.Table.{Call, after_calls}
-use Rattle.mixer_turn.specs.Making.{pts_at}
+use Rattle.mixer_posts.specs.Streams.{conf_at, pts_at}
 use Rattle.mixer_posts.specs.States.{SendingState}
-use Rattle.mixer_posts.specs.Posts.{sent_by}
+use Rattle.mixer_posts.specs.Posts.{sent_by, sents_to}
+use Rattle.mixer_posts.proofs.Entering.{entered_law}
 use Rattle.ear.specs.declared.confs.EarConf.{EarConf}
 use Rattle.ear.specs.Hears.{conf_of}
 use Rattle.link_spec.specs.Links.{Takes, is_closed}
@@ -44,17 +45,17 @@ use Rattle.live_run.specs.declared.faults.LiveFault.TheVariants.{Link, NoMemory}
 use Rattle.live_run.specs.declared.calls.Called.{Called}
 use Rattle.live_run.specs.declared.tapped.Tapped.{Tapped}
 use Rattle.live_run.specs.Calls.{AreAtPorts, AtPorts, EndsAs, FailedAt, IsCallOf, IsCalled, IsOfLinks}
-use Rattle.live_run.specs.Ends.{IsUnsent, WereGiven, packets_to}
+use Rattle.live_run.specs.Ends.{IsUnsent, packets_of}
 use Rattle.live_run.specs.declared.running.Job.{Job}
 use Rattle.live_run.specs.declared.running.Ended.{Ended}
 use Rattle.live_run.specs.Jobs.{GaveFirst, RanAs, popped_in}
 use Rattle.live_run.specs.Mixers.{GivesFor, HasAll, all_admitted}
-use Rattle.live_run.specs.Listeners.{NoneHeard}
+use Rattle.live_run.specs.Listeners.{HasHeard}
 use Rattle.live_run.specs.Opened.{AreUnused, OpenEnds, OpenLegs, ear_at, link_in}
 use Rattle.live_run.specs.Taps.{IsUnsentIn, Learns, Notice, Shows, TellsFor, ended_with, notices_by}
 use Rattle.live_run.proofs.Failing.{closed_calm, fault_rose}
 use Rattle.live_run.proofs.Linking.{some_leg}
-use Rattle.live_run.proofs.Sent.{sent_law}
+use Rattle.live_run.proofs.Sent.{given_by, given_law}
 use Rattle.live_run.proofs.Taking.{none_offered}
 
 -- ---- lists
@@ -63,7 +64,7 @@ leg_within [] j line at = absurd (cc at)
 leg_within (l ∷ legs) zero line at = omega arith
 leg_within (l ∷ legs) (suc j) line at = let low = leg_within legs j line at in omega (arith, low)
 
-map_there : {X Y : Type 0} (f : X → Y) (xs : List X) (j : ℕ) (x : X) → slice_get xs j ≡ Some x → slice_get (map f xs) j ≡ Some (f x)
+pub map_there : {X Y : Type 0} (f : X → Y) (xs : List X) (j : ℕ) (x : X) → slice_get xs j ≡ Some x → slice_get (map f xs) j ≡ Some (f x)
 map_there f [] j x e = absurd (cc e)
 map_there f (y ∷ xs) zero x e = let is : y ≡ x = cc e in ap (λ z. Some (f z)) is
 map_there f (y ∷ xs) (suc j) x e = map_there f xs j x e
@@ -179,25 +180,37 @@ module _ {I G : Type 0} (i : ins.Ghosts I) (tells : Type 0) (opened : ℕ → Bo
     is_call end calls gave_all long serves leads =
         let made = gave_all.made in
         let takes : ℕ → Takes = pick [] took (length c.legs) took_at in
-        let given : ℕ → List (List ℕ) = λ j. packets_to j (sent_by (setup c) (pts_at c) calls) in
+        let table = after_calls (setup c) calls in
+        let given : ℕ → List (List ℕ) = λ j. given_by c table j in
         let sent = made.sent in
+        let same : (j : ℕ) (low : j < length c.legs) → packets_of (conf_at (setup c) (pts_at c j) j) (sents_to (sent.each j low).sources j (sent_by (setup c) calls)) ≡ given j =
+        λ j low. ap (packets_of (conf_at (setup c) (pts_at c j) j)) (entered_law (setup c) calls j (sent.each j low).sources low (sent.each j low).are) in
+        let all : length far.links.items ≡ length c.legs = sent.many in
         let w : IsOfConf popped_in c calls ports takes given = record {
           legs = omega (arith, many, many_ports);
           none = pick_none [] took (length c.legs) took_at;
           covers = λ j p e. (pick_holds [] took (length c.legs) took_at j (let low = slice_get_within ports j p e in omega (arith, low, many, many_ports))).covering p e;
-          gave = λ j leg at. sent_law c calls j leg at;
+          gave = λ j leg at. given_law c table j leg at;
         } in
         record {
           takes = takes;
           given = given;
           served = serves takes given w;
-          many = far.both ∙ made.all;
-          heard = λ j l e. sent.heard j l e;
+          many = far.both ∙ all;
+          heard = λ j l e.
+              let low = slice_get_within far.listeners.items j l e in
+              let both = far.both in
+              let here : j < length c.legs = omega (arith, low, both, all) in
+              subst (λ (ps : List (List ℕ)). HasHeard l ps) (same j here) ((sent.each j here).heard l e);
           taken = λ t j leg e. (pick_holds [] took (length c.legs) took_at j (let low = slice_get_within backs j leg e in omega (arith, low, many, many_backs))).taken t leg e;
           gave = λ t j link e.
-              let all : length far.links.items ≡ length c.legs = made.all in
-              (sent.gave j link e).1 (tells_out t j (let low = slice_get_within far.links.items j link e in omega (arith, low, all)));
-          calm_ends = λ j link e. (sent.gave j link e).0;
+              let low = slice_get_within far.links.items j link e in
+              let here : j < length c.legs = omega (arith, low, all) in
+              ((sent.each j here).gave link e).1 (tells_out t j here) ∙ same j here;
+          calm_ends = λ j link e.
+              let low = slice_get_within far.links.items j link e in
+              let here : j < length c.legs = omega (arith, low, all) in
+              ((sent.each j here).gave link e).0;
           calm_legs = λ closed j leg e.
               let low = slice_get_within backs j leg e in
               let here : j < length c.legs = omega (arith, low, many, many_backs) in
@@ -224,11 +237,6 @@ module _ {I G : Type 0} (i : ins.Ghosts I) (tells : Type 0) (opened : ℕ → Bo
     ends_told failed t false is v f s = ends_as failed t v f s is
 
 -- ---- before the first turn
--- nothing was given to ends that are unused, and their terminals heard nothing
-pub were_none : {O : Type 0} (tells : Type 0) (given : O → List (List ℕ)) (faults : O → ℕ) (far : FarEnds O)
-    → AreUnused given faults far.links.items → NoneHeard far.listeners.items → WereGiven tells given faults far []
-were_none tells given faults far unused none = record { gave = λ j link e. let u = unused j link e in (u.1, λ t. u.0); heard = λ j l e. none j l e }
-
 pub are_unused : {O : Type 0} (o : outs.Ghosts O) (tells : Type 0) (c : Conf) (ends : List O) → OpenEnds o tells c ends → length ends ≡ length c.legs → AreUnused o.given o.faults ends
 are_unused o tells c ends are many j end e =
     let line = some_leg c.legs j (let low = slice_get_within ends j end e in omega (arith, low, many)) in

@@ -1,13 +1,19 @@
 -- What was given to links.
-use Rattle.std.proofs.Common.{◌≡◌, ℕ, zero, suc, ◌<◌, ◌≤◌, inl, inr, Some, List, [], ◌∷◌, ◌++◌, length, get_or, refl, ap, sym, ◌∙◌, subst, arith}
+use Rattle.std.proofs.Common.{◌≡◌, ℕ, zero, suc, ◌<◌, inl, inr, Some, List, [], ◌∷◌, ◌++◌, length, get_or, refl, ap, sym, ◌∙◌, subst, arith}
 use Rattle.std.specs.Prelude.{map, slice_get, slice_set}
 use Rattle.std.proofs.lemmas.Bool.{cases_eq, eq-eqb, ne_eqb}
-use Rattle.std.proofs.lemmas.List.{append-nil}
-use Rattle.std.specs.Vec.{with_item}
+use Rattle.rtt_base.specs.declared.text_packets.Pts.{Pts}
+use Rattle.stream_spec.specs.Own.{Sent}
+use Rattle.mixer_spec.specs.Setups.{Setup, stream}
+use Rattle.aware_output.specs.Sending.{OfNext, octets_of}
+use Rattle.aware_output.specs.Speakers.{EachIsNext, IsNext, text_of}
+use Rattle.aware_output.specs.Standing.{StandsFor}
+use Rattle.aware_output.specs.States.{State}
 use Rattle.mixer_turn.specs.declared.batches.Post.{Post}
-use Rattle.live_run.specs.declared.far_ends.FarEnds.{FarEnds}
+use Rattle.mixer_posts.specs.Streams.{conf_at}
+use Rattle.mixer_posts.specs.Posts.{AreNext, sent_of_post, sents_to}
 use Rattle.live_run.specs.Listeners.{HasHeard, HearsNext, Listening}
-use Rattle.live_run.specs.Ends.{WasGiven, WereGiven, packets_to}
+use Rattle.live_run.specs.Ends.{WasGiven, WasSent, packets_of, texts_in}
 
 -- ---- lists
 pub got : {X : Type 0} (xs : List X) (i : ℕ) (x d : X) → i < length xs → x ≡ get_or xs i d → slice_get xs i ≡ Some x
@@ -32,49 +38,76 @@ set_other (y ∷ xs) zero (suc j) x n = refl
 set_other (y ∷ xs) (suc i) zero x n = refl
 set_other (y ∷ xs) (suc i) (suc j) x n = set_other xs i j x (λ e. n (ap suc e))
 
--- where what holds of one changes, and of each other is as it was
-pub changed : {X : Type 0} (P Q : ℕ → X → Type 0) (xs : List X) (i : ℕ) (x : X) → Q i x → ((j : ℕ) (y : X) → (i ≡ j → ⊥) → P j y → Q j y)
-    → ((j : ℕ) (y : X) → slice_get xs j ≡ Some y → P j y) → (j : ℕ) (y : X) → slice_get (slice_set xs i x) j ≡ Some y → Q j y
-changed P Q xs i x here others all j y e = elim (cases_eq i j) [
-  | inl q ↦ let there : y ≡ x = set_there xs i x y (subst (λ (k : ℕ). slice_get (slice_set xs i x) k ≡ Some y) (sym q) e) in
-      subst (λ (k : ℕ). Q k y) q (subst (λ z. Q i z) (sym there) here)
-  | inr n ↦ others j y n (all j y (sym (set_other xs i j x n) ∙ e))
-]
-
--- where one is at the port of the one that was at its place, all are at the ports of those before
-pub same_ports : {O : Type 0} (port_of : O → ℕ) (xs : List O) (i : ℕ) (old new d : O) → old ≡ get_or xs i d → port_of new ≡ port_of old → map port_of (slice_set xs i new) ≡ map port_of xs
-same_ports port_of [] i old new d is same = refl
-same_ports port_of (y ∷ xs) zero old new d is same = ap (λ (p : ℕ). p ∷ map port_of xs) (same ∙ ap port_of is)
-same_ports port_of (y ∷ xs) (suc i) old new d is same = ap (λ (ps : List ℕ). port_of y ∷ ps) (same_ports port_of xs i old new d is same)
+-- where one has the number of the one that was at its place, all have the numbers of those before
+pub same_numbers : {O : Type 0} (number_of : O → ℕ) (xs : List O) (i : ℕ) (old new d : O) → old ≡ get_or xs i d → number_of new ≡ number_of old → map number_of (slice_set xs i new) ≡ map number_of xs
+same_numbers number_of [] i old new d is same = refl
+same_numbers number_of (y ∷ xs) zero old new d is same = ap (λ (p : ℕ). p ∷ map number_of xs) (same ∙ ap number_of is)
+same_numbers number_of (y ∷ xs) (suc i) old new d is same = ap (λ (ps : List ℕ). number_of y ∷ ps) (same_numbers number_of xs i old new d is same)
 
 -- ---- one post more
-pub packets_here : (j now : ℕ) (p : Post) (sent : List (ℕ × Post)) → p.terminal ≡ j → packets_to j ((now, p) ∷ sent) ≡ packets_to j sent ++ p.packet ∷ []
-packets_here j now p sent e = rw (eq-eqb p.terminal j e) refl
+sents_here : (sources : List ℕ) (j now : ℕ) (p : Post) (sent : List (ℕ × Post)) → p.terminal ≡ j → sents_to sources j ((now, p) ∷ sent) ≡ (now, sent_of_post sources p) ∷ sents_to sources j sent
+sents_here sources j now p sent e = rw (eq-eqb p.terminal j e) refl
 
-pub packets_else : (j now : ℕ) (p : Post) (sent : List (ℕ × Post)) → (p.terminal ≡ j → ⊥) → packets_to j ((now, p) ∷ sent) ≡ packets_to j sent
-packets_else j now p sent n = rw (ne_eqb p.terminal j n) (append-nil (packets_to j sent))
+sents_else : (sources : List ℕ) (j now : ℕ) (p : Post) (sent : List (ℕ × Post)) → (p.terminal ≡ j → ⊥) → sents_to sources j ((now, p) ∷ sent) ≡ sents_to sources j sent
+sents_else sources j now p sent n = rw (ne_eqb p.terminal j n) refl
 
-module _ {O : Type 0} (tells : Type 0) (given : O → List (List ℕ)) (faults : O → ℕ) where
-  -- it was given to the link of its terminal, which heard it
-  pub given_one : (ends : FarEnds O) (now : ℕ) (p : Post) (link new_link : O) (l new_l : Listening) (a b : List ℕ)
-      → p.terminal < length ends.links.items → p.terminal < length ends.listeners.items
-      → link ≡ get_or ends.links.items p.terminal link → l ≡ get_or ends.listeners.items p.terminal l → a ≡ p.packet → b ≡ p.packet
-      → (few : length (with_item ends.links p.terminal new_link).items ≤ 64) → (both : length (with_item ends.listeners p.terminal new_l).items ≡ length (with_item ends.links p.terminal new_link).items)
-      → faults new_link ≡ faults link → (tells → given new_link ≡ given link ++ a ∷ []) → HearsNext l b new_l
-      → (sent : List (ℕ × Post)) → WereGiven tells given faults ends sent
-      → WereGiven tells given faults (record { links = with_item ends.links p.terminal new_link; listeners = with_item ends.listeners p.terminal new_l; few = few; both = both }) ((now, p) ∷ sent)
-  given_one ends now p link new_link l new_l a b low low_l is is_l ea eb few both calm told hears sent w =
-      let k = p.terminal in
-      let here = packets_here k now p sent refl in
-      let old = w.gave k link (got ends.links.items k link link low is) in
-      let gave_one : WasGiven tells given faults new_link (packets_to k ((now, p) ∷ sent)) =
-      (calm ∙ old.0, λ t. told t ∙ (ap (λ xs. xs ++ a ∷ []) (old.1 t) ∙ (ap (λ (q : List ℕ). packets_to k sent ++ q ∷ []) ea ∙ sym here))) in
-      let heard_one : HasHeard new_l (packets_to k ((now, p) ∷ sent)) =
-      subst (λ (xs : List (List ℕ)). HasHeard new_l xs) (ap (λ (q : List ℕ). packets_to k sent ++ q ∷ []) eb ∙ sym here)
-      (hears (packets_to k sent) (w.heard k l (got ends.listeners.items k l l low_l is_l))) in
+-- the packet of the text was written, and the output knows of it
+abbrev pub Writes : State → State → Post → List ℕ → Type 0
+Writes old new p octets = OfNext old p.source p.media p.text (λ conf sources past e. (octets ≡ octets_of conf past e) × StandsFor conf sources new (e ∷ past))
+
+-- written where nothing stood, of a text that is read so
+pub writes_into : (old new : State) (p : Post) (text before octets : List ℕ) → text ≡ p.text → before ≡ []
+    → OfNext old p.source p.media text (λ conf sources past e. octets ≡ before ++ octets_of conf past e) → OfNext old p.source p.media text (λ conf sources past e. StandsFor conf sources new (e ∷ past)) → Writes old new p octets
+writes_into old new p text before octets is none wrote stands =
+    subst (λ (xs : List ℕ). OfNext old p.source p.media xs (λ conf sources past e. (octets ≡ octets_of conf past e) × StandsFor conf sources new (e ∷ past))) is
+    (λ conf sources past h n. (wrote conf sources past h n ∙ ap (λ (xs : List ℕ). xs ++ octets_of conf past (text_of sources p.source p.media text)) none, stands conf sources past h n))
+
+module _ {O : Type 0} (tells : Type 0) (given : O → List (List ℕ)) (faults : O → ℕ) (outputs : List State) (links : List O) (listeners : List Listening) (s : Setup) (now : ℕ) (p : Post) (new_o : State) (new_link : O) (new_l : Listening) (sent : List (ℕ × Post)) where
+  -- with these in place of those of the terminal
+  abbrev WasSentThen : Pts → ℕ → Type 0
+  WasSentThen pts j = WasSent tells given faults (slice_set outputs p.terminal new_o) (slice_set links p.terminal new_link) (slice_set listeners p.terminal new_l) s pts j ((now, p) ∷ sent)
+
+  -- another terminal is as it was
+  sent_else : (pts : Pts) (j : ℕ) → (p.terminal ≡ j → ⊥) → WasSent tells given faults outputs links listeners s pts j sent → WasSentThen pts j
+  sent_else pts j n w =
+      let conf = conf_at s pts j in
+      let same : sents_to w.sources j sent ≡ sents_to w.sources j ((now, p) ∷ sent) = sym (sents_else w.sources j now p sent n) in
       record {
-        gave = changed (λ j x. WasGiven tells given faults x (packets_to j sent)) (λ j x. WasGiven tells given faults x (packets_to j ((now, p) ∷ sent))) ends.links.items k new_link
-            gave_one (λ j y n h. subst (λ (xs : List (List ℕ)). WasGiven tells given faults y xs) (sym (packets_else j now p sent n)) h) w.gave;
-        heard = changed (λ j x. HasHeard x (packets_to j sent)) (λ j x. HasHeard x (packets_to j ((now, p) ∷ sent))) ends.listeners.items k new_l
-            heard_one (λ j y n h. subst (λ (xs : List (List ℕ)). HasHeard y xs) (sym (packets_else j now p sent n)) h) w.heard;
+        sources = w.sources;
+        are = w.are;
+        wrote = λ o e. subst (λ (xs : List (ℕ × Sent)). StandsFor conf w.sources o (texts_in xs)) same (w.wrote o (sym (set_other outputs p.terminal j new_o n) ∙ e));
+        gave = λ link e. subst (λ (xs : List (ℕ × Sent)). WasGiven tells given faults link (packets_of conf xs)) same (w.gave link (sym (set_other links p.terminal j new_link n) ∙ e));
+        heard = λ l e. subst (λ (xs : List (ℕ × Sent)). HasHeard l (packets_of conf xs)) same (w.heard l (sym (set_other listeners p.terminal j new_l n) ∙ e));
       }
+
+  module _ (o : State) (link : O) (l : Listening) (octets : List ℕ) (o_at : slice_get outputs p.terminal ≡ Some o) (link_at : slice_get links p.terminal ≡ Some link) (l_at : slice_get listeners p.terminal ≡ Some l)
+      (writes : Writes o new_o p octets) (calm : faults new_link ≡ faults link) (told : tells → given new_link ≡ given link ++ octets ∷ []) (hears : HearsNext l octets new_l) where
+    -- it was given to the link of its terminal, which heard it
+    sent_here : (pts : Pts) → p.terminal < s.legs → AreNext s ((now, p) ∷ sent) → WasSent tells given faults outputs links listeners s pts p.terminal sent → WasSentThen pts p.terminal
+    sent_here pts low next w =
+        let k = p.terminal in
+        let conf = conf_at s pts k in
+        let before = sents_to w.sources k sent in
+        let e = sent_of_post w.sources p in
+        let here : sents_to w.sources k ((now, p) ∷ sent) ≡ (now, e) ∷ before = sents_here w.sources k now p sent refl in
+        let may : IsNext (stream s k) (texts_in before) e = (subst (λ (xs : List (ℕ × Sent)). EachIsNext (stream s k) (texts_in xs)) here (next k w.sources low w.are)).0 in
+        let step = writes conf w.sources (texts_in before) (w.wrote o o_at) may in
+        let all : packets_of conf before ++ octets ∷ [] ≡ packets_of conf (sents_to w.sources k ((now, p) ∷ sent)) = ap (λ (q : List ℕ). packets_of conf before ++ q ∷ []) step.0 ∙ sym (ap (packets_of conf) here) in
+        let old = w.gave link link_at in
+        record {
+          sources = w.sources;
+          are = w.are;
+          wrote = λ x q. subst (λ (y : State). StandsFor conf w.sources y (texts_in (sents_to w.sources k ((now, p) ∷ sent)))) (sym (set_there outputs k new_o x q))
+              (subst (λ (xs : List (ℕ × Sent)). StandsFor conf w.sources new_o (texts_in xs)) (sym here) step.1);
+          gave = λ x q. subst (λ (y : O). WasGiven tells given faults y (packets_of conf (sents_to w.sources k ((now, p) ∷ sent)))) (sym (set_there links k new_link x q))
+              (calm ∙ old.0, λ t. told t ∙ (ap (λ (ps : List (List ℕ)). ps ++ octets ∷ []) (old.1 t) ∙ all));
+          heard = λ x q. subst (λ (y : Listening). HasHeard y (packets_of conf (sents_to w.sources k ((now, p) ∷ sent)))) (sym (set_there listeners k new_l x q))
+              (subst (λ (ps : List (List ℕ)). HasHeard new_l ps) all (hears (packets_of conf before) (w.heard l l_at)));
+        }
+
+    pub sent_one : (pts : ℕ → Pts) → p.terminal < s.legs → AreNext s ((now, p) ∷ sent) → ((j : ℕ) → j < s.legs → WasSent tells given faults outputs links listeners s (pts j) j sent)
+        → (j : ℕ) → j < s.legs → WasSentThen (pts j) j
+    sent_one pts low next w j low_j = elim (cases_eq p.terminal j) [
+      | inl q ↦ subst (λ (k : ℕ). WasSentThen (pts k) k) q (sent_here (pts p.terminal) low next (w p.terminal low))
+      | inr n ↦ sent_else (pts j) j n (w j low_j)
+    ]

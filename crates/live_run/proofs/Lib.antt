@@ -10,5 +10,6 @@ pub mod Closing
 pub mod Speaking
 pub mod Linking
 pub mod Composing
+pub mod Writing
 pub mod Returning
 pub mod Apart

@@ -2,7 +2,6 @@
 use Rattle.std.proofs.Common.{◌≡◌, ℕ, zero, suc, ◌+◌, ◌<◌, ◌≤◌, Bool, true, false, cond, inl, inr, Option, Some, None, [], refl, ap, subst, sym, ◌∙◌, arith, not}
 use Rattle.std.specs.Prelude.{is_some}
 use Rattle.std.proofs.lemmas.Bool.{cases_eq, cases_lt}
-use Rattle.rtt_base.specs.declared.text_packets.Pts.{Pts}
 use Rattle.mixer_spec.specs.Rounds.{first_from}
 use Rattle.mixer_spec.specs.Setups.{AllStay, Setup, is_before_end}
 use Rattle.mixer_spec.specs.Table.{Seats, Table, after_calls, admitted, come_to, free_place, is_free, is_seated, leg_in}
@@ -73,9 +72,9 @@ may_come s n st l = record {
 }
 
 -- nothing is sent by then, and no turn was made
-pub none_sent : (s : Setup) (pts : ℕ → Pts) (n : ℕ) → sent_by s pts (all_admitted n) ≡ []
-none_sent s pts zero = refl
-none_sent s pts (suc n) = none_sent s pts n
+pub none_sent : (s : Setup) (n : ℕ) → sent_by s (all_admitted n) ≡ []
+none_sent s zero = refl
+none_sent s (suc n) = none_sent s n
 
 pub no_turn : (n : ℕ) → turns_made (all_admitted n) ≡ 0
 no_turn zero = refl

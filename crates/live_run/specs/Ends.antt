@@ -1,26 +1,56 @@
 -- What was given to the terminals of a live call.
-use Rattle.std.specs.Prelude.{◌≡◌, ℕ, ◌==◌, Some, List, [], ◌∷◌, ◌++◌, slice_get, if◌then◌else◌}
+use Rattle.std.specs.Prelude.{◌≡◌, ◌<◌, ℕ, Some, List, [], ◌∷◌, ◌++◌, length, map, slice_get}
+use Rattle.rtt_base.specs.declared.text_packets.Pts.{Pts}
 use Rattle.rtt_io.specs.Counts.{Rose}
+use Rattle.stream_spec.specs.Own.{Sent}
+use Rattle.mixer_spec.specs.Setups.{Setup}
+use Rattle.aware_output.specs.declared.outputs.OutConf.{OutConf}
+use Rattle.aware_output.specs.Sending.{octets_of}
+use Rattle.aware_output.specs.Standing.{StandsFor}
+use Rattle.aware_output.specs.States.{State}
 use Rattle.mixer_turn.specs.declared.batches.Post.{Post}
+use Rattle.mixer_posts.specs.Streams.{AreSourcesAt, conf_at}
+use Rattle.mixer_posts.specs.Posts.{sents_to}
 use Rattle.live_run.specs.declared.faults.LiveFault.{LiveFault}
 use Rattle.live_run.specs.declared.faults.LiveFault.TheVariants.{Link, NoMemory}
 use Rattle.live_run.specs.declared.far_ends.FarEnds.{FarEnds}
 use Rattle.live_run.specs.Listeners.{Listening, HasHeard}
 
--- of these posts, newest first, the packets to the terminal j, oldest first
-abbrev pub packets_to : ℕ → List (ℕ × Post) → List (List ℕ)
-packets_to j [] = []
-packets_to j (x ∷ sent) = packets_to j sent ++ (if x.1.terminal == j then x.1.packet ∷ [] else [])
+-- how many sources an output has
+abbrev pub count_sources : State → ℕ
+count_sources o = length o.speakers
+
+-- those of each, in leg order
+abbrev pub counts_of : {O : Type 0} → FarEnds O → List ℕ
+counts_of ends = map count_sources ends.outputs.items
+
+-- what was sent, without its moments
+abbrev pub texts_in : List (ℕ × Sent) → List Sent
+texts_in sent = map (λ x. x.1) sent
+
+-- of a stream on which this was sent, newest first, the packets, oldest first
+abbrev pub packets_of : OutConf → List (ℕ × Sent) → List (List ℕ)
+packets_of conf [] = []
+packets_of conf (x ∷ sent) = packets_of conf sent ++ octets_of conf (texts_in sent) x.1 ∷ []
 
 module _ {O : Type 0} (tells : Type 0) (given : O → List (List ℕ)) (faults : O → ℕ) where
   -- no give of the link failed, and where it tells, it was given these packets
   abbrev pub WasGiven : O → List (List ℕ) → Type 0
   WasGiven link packets = (faults link ≡ 0) × (tells → given link ≡ packets)
 
-  -- Of these posts, newest first, the link of each terminal was given those to it, and the terminal heard them.
-  pub record WereGiven (ends : FarEnds O) (sent : List (ℕ × Post)) : Type 0 where
-    pub gave : (j : ℕ) (link : O) → slice_get ends.links.items j ≡ Some link → WasGiven link (packets_to j sent)
-    pub heard : (j : ℕ) (l : Listening) → slice_get ends.listeners.items j ≡ Some l → HasHeard l (packets_to j sent)
+  -- Of these posts, newest first, the output of the terminal j wrote those to it, which has these payload types: its link was
+  -- given the packets, and it heard them.
+  pub record WasSent (outputs : List State) (links : List O) (listeners : List Listening) (s : Setup) (pts : Pts) (j : ℕ) (sent : List (ℕ × Post)) : Type 0 where
+    pub sources : List ℕ
+    pub are : AreSourcesAt s j sources
+    pub wrote : (o : State) → slice_get outputs j ≡ Some o → StandsFor (conf_at s pts j) sources o (texts_in (sents_to sources j sent))
+    pub gave : (link : O) → slice_get links j ≡ Some link → WasGiven link (packets_of (conf_at s pts j) (sents_to sources j sent))
+    pub heard : (l : Listening) → slice_get listeners j ≡ Some l → HasHeard l (packets_of (conf_at s pts j) (sents_to sources j sent))
+
+  -- so of each terminal of the setup
+  pub record WereGiven (ends : FarEnds O) (s : Setup) (pts : ℕ → Pts) (sent : List (ℕ × Post)) : Type 0 where
+    pub many : length ends.links.items ≡ s.legs
+    pub each : (j : ℕ) → j < s.legs → WasSent ends.outputs.items ends.links.items ends.listeners.items s (pts j) j sent
 
 -- why a packet was not given: the link of its leg failed, or memory ran out
 abbrev pub IsUnsent : {O : Type 0} → (O → ℕ) → FarEnds O → LiveFault → Type 0

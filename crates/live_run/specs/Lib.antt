@@ -1,6 +1,7 @@
 pub mod Speakers
 pub mod Listeners
 pub mod Ends
+pub mod Outputs
 pub mod Mixers
 pub mod Reports
 pub mod Sent

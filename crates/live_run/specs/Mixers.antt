@@ -4,11 +4,11 @@ use Rattle.rtt_base.specs.declared.text_packets.Pts.{Pts}
 use Rattle.file_spec.specs.Conf.{Conf}
 use Rattle.mixer_spec.specs.Setups.{Setup, setup}
 use Rattle.mixer_spec.specs.Table.{Call, Admit, after_calls, is_seated}
-use Rattle.mixer_turn.specs.Making.{pts_at}
+use Rattle.mixer_posts.specs.Streams.{pts_at}
 use Rattle.mixer_posts.specs.States.{SendingState}
 use Rattle.mixer_posts.specs.Standing.{SendsFor}
 use Rattle.live_run.specs.declared.far_ends.FarEnds.{FarEnds}
-use Rattle.live_run.specs.Ends.{WereGiven}
+use Rattle.live_run.specs.Ends.{WereGiven, counts_of}
 
 -- the legs below n came, in leg order, and listen
 abbrev pub all_admitted : ℕ → List Call
@@ -18,7 +18,7 @@ all_admitted (suc n) = Admit n true ∷ all_admitted n
 module _ {O : Type 0} (tells : Type 0) (given : O → List (List ℕ)) (faults : O → ℕ) where
   -- These calls were made of it, and the links were given what they send.
   abbrev pub GivesFor : SendingState (FarEnds O) → Setup → (ℕ → Pts) → List Call → Type 0
-  GivesFor m s pts calls = SendsFor (λ ends sent. WereGiven tells given faults ends sent) (λ ends. length ends.links.items) (2 ^ 47) m s pts calls
+  GivesFor m s pts calls = SendsFor (λ ends s pts sent. WereGiven tells given faults ends s pts sent) (λ ends. counts_of ends) (2 ^ 47) m s pts calls
 
   -- it is one for this conference, all of whose legs came
   abbrev pub HasAll : Conf → SendingState (FarEnds O) → Type 0

@@ -4,14 +4,15 @@ use Rattle.file_spec.specs.declared.conf_lines.LegLine.{LegLine}
 use Rattle.file_spec.specs.Conf.{Conf}
 use Rattle.mixer_spec.specs.Setups.{leg_at, setup}
 use Rattle.mixer_spec.specs.Table.{Call, after_calls}
-use Rattle.mixer_turn.specs.Making.{pts_at}
-use Rattle.mixer_posts.specs.Posts.{sent_by}
+use Rattle.mixer_posts.specs.Streams.{AreSourcesAt, conf_at, pts_at}
+use Rattle.mixer_posts.specs.Posts.{sent_by, sents_to}
 use Rattle.serve_spec.specs.Served.{given_to}
-use Rattle.live_run.specs.Ends.{packets_to}
+use Rattle.live_run.specs.Ends.{packets_of}
 
--- Of what the calls of a conference's mixer send the packets to a terminal are those that are given to it.
+-- Of what the calls of a conference's mixer send the packets to a terminal, which has these sources, are those that are given to
+-- it.
 abbrev pub SentIsGiven : Type 0
 SentIsGiven =
-    (c : Conf) (calls : List Call) (j : ℕ) (leg : LegLine)
-    → leg_at c.legs j ≡ Some leg
-    → packets_to j (sent_by (setup c) (pts_at c) calls) ≡ given_to c (after_calls (setup c) calls) j leg
+    (c : Conf) (calls : List Call) (j : ℕ) (leg : LegLine) (sources : List ℕ)
+    → leg_at c.legs j ≡ Some leg → AreSourcesAt (setup c) j sources
+    → packets_of (conf_at (setup c) (pts_at c j) j) (sents_to sources j (sent_by (setup c) calls)) ≡ given_to c (after_calls (setup c) calls) j leg

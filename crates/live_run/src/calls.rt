@@ -11,6 +11,7 @@ ghost use Rattle.live_run.specs.Opened.{AreUnused, OpenEnds, OpenLegs};
 
 use crate::listeners::listeners_of;
 use crate::opening::Opened;
+use crate::outputs::outputs_of;
 use crate::rooms::CallRoom;
 use crate::running::{Ended, Job, run_job};
 use crate::tapped::{Tapped, Told};
@@ -21,6 +22,7 @@ use link_io::{LinkOut, Links};
 use live_leg::LinkLeg;
 use live_loop::Turned;
 use mixer_posts::Sending;
+use rtt_base::Packet;
 use rtt_io::Gate;
 use std::alloc::Global;
 use std::sync::atomic::AtomicBool;
@@ -52,8 +54,8 @@ fn not_begun<I, O, T>(alloc: Global, legs: Vec<LinkLeg<I>>, ends: Vec<O>, tap: T
     }
 }
 
-/// The mixer of this conference, whose packets go to these ends, and to the terminals that hear them. Where memory runs out the
-/// ends come back.
+/// The mixer of this conference, whose posts go to these ends, and to the terminals that hear the packets. Where memory runs out
+/// the ends come back.
 fn mixer_over<O: LinkOut>(
     alloc: Global,
     conf: &Conf,
@@ -71,16 +73,23 @@ fn mixer_over<O: LinkOut>(
     let Ok(listeners) = listeners_of(alloc, conf) else {
         return Err(ends);
     };
+    let Ok(outputs) = outputs_of(alloc, conf) else {
+        return Err(ends);
+    };
     let far = FarEnds {
         links: ends,
+        outputs,
         listeners,
+        packet: Packet::new(),
     };
     match live_mixer(alloc, conf, far) {
         Ok(mixer) => Ok(mixer),
         Err(back) => {
             let FarEnds {
                 links,
+                outputs: _,
                 listeners: _,
+                packet: _,
             } = back;
             Err(links)
         }
@@ -142,7 +151,12 @@ pub(crate) fn call<W: Links, R: Threads + Wait, G: Gate, T: Tap>(
         mixer,
     } = run_job(rt, LentGate { gate }, job, world);
     let Told { turned, mixer, tap } = mixer.finish(turned);
-    let FarEnds { links, listeners } = mixer.into_outbound();
+    let FarEnds {
+        links,
+        outputs: _,
+        listeners,
+        packet: _,
+    } = mixer.into_outbound();
     Called {
         turned,
         legs,

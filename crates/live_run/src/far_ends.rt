@@ -1,30 +1,36 @@
-//! Where the packets to the terminals of a live call go.
+//! Where what is sent to the terminals of a live call goes.
 ghost use Rattle.std.specs.Prelude.{◌≡◌, ◌≤◌, length};
 
 use crate::{Listener, LiveFault};
+use aware_output::Output;
 use link_io::LinkOut;
 use mixer_posts::Outbound;
 use mixer_turn::Post;
-use rtt_base::NoMemory;
+use rtt_base::{NoMemory, Packet};
 
-/// The outbound ends of the legs' links, and the terminals that hear what these are given, in leg order.
+/// The outbound ends of the legs' links, the outputs that write the packets to these, and the terminals that hear what the links are
+/// given, in leg order.
 pub struct FarEnds<O> {
     pub(crate) links: Vec<O>,
+    pub(crate) outputs: Vec<Output>,
     pub(crate) listeners: Vec<Listener>,
+    /// Where a packet is written.
+    pub(crate) packet: Packet,
     ghost few: { length links.items ≤ 64 },
+    ghost wrote: { length outputs.items ≡ length links.items },
     ghost both: { length listeners.items ≡ length links.items },
 }
 
 impl<O: LinkOut> Outbound for FarEnds<O> {
     ghost use Rattle.std.proofs.Common.{rules};
     ghost use Rattle.std.specs.Prelude.{◌^◌, map};
-    ghost use Rattle.live_run.specs.Ends.{WereGiven, IsUnsent};
+    ghost use Rattle.live_run.specs.Ends.{WereGiven, IsUnsent, counts_of};
 
     type Fault = LiveFault;
 
-    ghost took = { λ ends sent. WereGiven O.tells O.given O.faults ends sent };
+    ghost took = { λ ends s pts sent. WereGiven O.tells O.given O.faults ends s pts sent };
 
-    ghost terminals = { λ ends. length ends.links.items };
+    ghost sources = { λ ends. counts_of ends };
 
     ghost addresses = { λ ends. map O.port ends.links.items };
 
@@ -34,12 +40,18 @@ impl<O: LinkOut> Outbound for FarEnds<O> {
 
     fn send(&mut self, _now: u64, post: &Post) -> Result<(), LiveFault> {
         let leg = post.terminal as u8;
+        let text = post.text.as_slice();
+        self.packet.clear();
+        let output = &mut self.outputs[post.terminal];
+        let Ok(()) = output.packet(post.media, post.source, text, &mut self.packet) else {
+            unreachable!()
+        };
         let link = &mut self.links[post.terminal];
-        let Ok(()) = link.give(post.packet.as_slice()) else {
+        let Ok(()) = link.give(self.packet.as_slice()) else {
             return Err(LiveFault::Link { leg });
         };
         let listener = &mut self.listeners[post.terminal];
-        match listener.hear(post.packet.as_slice()) {
+        match listener.hear(self.packet.as_slice()) {
             Ok(()) => Ok(()),
             Err(NoMemory) => Err(LiveFault::NoMemory),
         }

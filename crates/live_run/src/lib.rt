@@ -8,6 +8,7 @@ mod laws;
 mod listeners;
 mod mixers;
 mod opening;
+mod outputs;
 mod reports;
 mod rooms;
 mod running;

@@ -3,9 +3,10 @@ ghost use Rattle.std.specs.Prelude.{◌≡◌, ◌<◌, true, [], length, IfOk, 
 ghost use Rattle.conference.specs.Conferences.{conf_of};
 ghost use Rattle.mixer_spec.specs.Setups.{AllStay, setup};
 ghost use Rattle.mixer_spec.specs.Table.{after_calls, is_seated};
-ghost use Rattle.mixer_turn.specs.Making.{pts_at};
-ghost use Rattle.mixer_turn.specs.States.{legs_of};
+ghost use Rattle.mixer_turn.specs.Making.{source_counts};
+ghost use Rattle.mixer_turn.specs.States.{legs_of, sources_of};
 ghost use Rattle.mixer_turn.specs.Standing.{StandsFor};
+ghost use Rattle.mixer_posts.specs.Streams.{pts_at};
 ghost use Rattle.live_run.specs.Ends.{WereGiven};
 ghost use Rattle.live_run.specs.Mixers.{HasAll, SeatsAll, all_admitted};
 
@@ -22,8 +23,8 @@ fn seated_mixer(alloc: Global, conf: &Conf) -> Result<Mixer, NoMemory>
     requires { AllStay (setup (conf_of conf.now)) }
     ensures legs { IfOk result (λ mixer. legs_of mixer ≡ length conf.now.legs) }
     ensures turns { IfOk result (λ mixer. mixer.turns ≡ 0) }
-    ensures stands { IfOk result (λ mixer. StandsFor (setup (conf_of conf.now)) (pts_at (conf_of conf.now)) mixer
-        (all_admitted (length conf.now.legs))) }
+    ensures sources { IfOk result (λ mixer. sources_of mixer ≡ source_counts (conf_of conf.now)) }
+    ensures stands { IfOk result (λ mixer. StandsFor (setup (conf_of conf.now)) mixer (all_admitted (length conf.now.legs))) }
 {
     let mut mixer = Mixer::new(alloc, conf)?;
     for leg in 0..conf.legs.len() {
@@ -32,7 +33,7 @@ fn seated_mixer(alloc: Global, conf: &Conf) -> Result<Mixer, NoMemory>
     Ok(mixer)
 }
 
-/// The mixer of this conference, whose packets go to these ends. Each leg holds a place. Where memory runs out the ends come
+/// The mixer of this conference, whose posts go to these ends. Each leg holds a place. Where memory runs out the ends come
 /// back.
 pub fn live_mixer<O: LinkOut>(
     alloc: Global,
@@ -41,7 +42,7 @@ pub fn live_mixer<O: LinkOut>(
 ) -> Result<Sending<FarEnds<O>>, FarEnds<O>>
     requires stay { AllStay (setup (conf_of conf.now)) }
     requires each { length ends.links.items ≡ length conf.now.legs }
-    requires none { WereGiven O.tells O.given O.faults ends [] }
+    requires none { WereGiven O.tells O.given O.faults ends (setup (conf_of conf.now)) (pts_at (conf_of conf.now)) [] }
     ensures legs { IfOk result (λ sending. legs_of sending.mixer ≡ length conf.now.legs) }
     ensures turns { IfOk result (λ sending. sending.mixer.turns ≡ 0) }
     ensures stands { IfOk result (HasAll O.tells O.given O.faults (conf_of conf.now)) }

@@ -1,5 +1,7 @@
-use Rattle.live_run.proofs.Composing.{were_none}
+use Rattle.conference.specs.Conferences.{conf_of}
+use Rattle.live_run.proofs.Writing.{were_none}
 use Rattle.live_run.proofs.calls.mixer_over.Goals as goal
 
 pub live_mixer-requires-clause-none : goal.live_mixer-requires-clause-none
-live_mixer-requires-clause-none g c = were_none g.O.LinkOut.tells g.O.LinkOut.given g.O.LinkOut.faults _ c.requires.unused c.in-Ok.ensures.none
+live_mixer-requires-clause-none g c =
+    were_none g.O.LinkOut.tells g.O.LinkOut.given g.O.LinkOut.faults (conf_of c.args.conf.now) _ c.requires.each c.requires.unused c.in-Ok-outputs_of.ensures.none c.in-Ok.ensures.none

@@ -1,11 +1,16 @@
 use Rattle.std.proofs.Common.{◌≡◌, length}
 use Rattle.mixer_spec.specs.Setups.{setup}
 use Rattle.conference.specs.Conferences.{conf_of}
-use Rattle.mixer_turn.specs.Making.{pts_at}
-use Rattle.mixer_turn.specs.States.{legs_of}
+use Rattle.mixer_turn.specs.Making.{source_counts}
+use Rattle.mixer_turn.specs.States.{legs_of, sources_of}
 use Rattle.mixer_turn.specs.Standing.{StandsFor}
 use Rattle.live_run.specs.Mixers.{all_admitted}
 use Rattle.live_run.proofs.mixers.seated_mixer.Given as goal
 
 abbrev pub invariant-loop-leg : goal.invariant-loop-leg
-invariant-loop-leg l = (legs_of l.mixer ≡ length l.conf.legs) × (l.mixer.turns ≡ 0) × StandsFor (setup (conf_of l.conf)) (pts_at (conf_of l.conf)) l.mixer (all_admitted l.leg)
+invariant-loop-leg l = record {
+  legs : legs_of l.mixer ≡ length l.conf.legs;
+  turns : l.mixer.turns ≡ 0;
+  sources : sources_of l.mixer ≡ source_counts (conf_of l.conf);
+  stands : StandsFor (setup (conf_of l.conf)) l.mixer (all_admitted l.leg);
+}

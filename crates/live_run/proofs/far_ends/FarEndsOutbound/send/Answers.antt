@@ -1,24 +1,60 @@
-use Rattle.std.proofs.Common.{arith}
-use Rattle.live_run.proofs.Giving.{given_one, same_ports}
+use Rattle.std.proofs.Common.{◌∙◌, ◌∷◌, ◌++◌, ℕ, List, [], ap, subst, arith}
+use Rattle.std.proofs.lemmas.List.{length-map}
+use Rattle.live_run.specs.Ends.{count_sources}
+use Rattle.live_run.specs.Listeners.{HearsNext}
+use Rattle.live_run.proofs.Giving.{got, same_numbers, sent_one, set_long, writes_into}
 use Rattle.live_run.proofs.far_ends.FarEndsOutbound.send.Goals as goal
 
 pub returns-in-Ok-hear-clause-took : goal.returns-in-Ok-hear-clause-took
-returns-in-Ok-hear-clause-took g c = λ sent w.
-    let o = g.O.LinkOut in
-    let post = c.requires.post in
-    let both = c.args.self.now.both in
-    given_one o.tells o.given o.faults c.args.self.now c.args._now c.args.post.now c.index_mut-link.result.now c.give.new.self c.index_mut-listener.result.now c.hear.new.self
-    c.as_slice.result.now c.as_slice-2.result.now post.below (omega (arith, post.below, both)) c.index_mut-link.ensures.value c.index_mut-listener.ensures.value
-    c.as_slice.ensures.value c.as_slice-2.ensures.value _ _ c.in-Ok.ensures.calm c.in-Ok.ensures.appended c.in-Ok-hear.ensures sent w
+returns-in-Ok-hear-clause-took g c = λ s pts sent next w.
+    let ends = c.args.self.now in
+    let p = c.args.post.now in
+    let k = p.terminal in
+    let gl = g.O.LinkOut in
+    let many = length-map ends.outputs.items count_sources in
+    let low = c.requires.post.below in
+    let wrote = ends.wrote in
+    let both = ends.both in
+    let links = w.many in
+    let o = c.index_mut-output.result.now in
+    let link = c.index_mut-link.result.now in
+    let l = c.index_mut-listener.result.now in
+    let octets = c.packet.new.out in
+    record {
+      many = set_long ends.links.items k c.give.new.self ∙ links;
+      each = sent_one gl.tells gl.given gl.faults ends.outputs.items ends.links.items ends.listeners.items s c.args._now p c.packet.new.self c.give.new.self c.hear.new.self sent
+          o link l octets
+          (got ends.outputs.items k o o (omega (arith, low, many)) c.index_mut-output.ensures.value)
+          (got ends.links.items k link link (omega (arith, low, many, wrote)) c.index_mut-link.ensures.value)
+          (got ends.listeners.items k l l (omega (arith, low, many, wrote, both)) c.index_mut-listener.ensures.value)
+          (writes_into o c.packet.new.self p c.as_slice-text.result.now c.clear.new.self octets c.as_slice-text.ensures.value c.clear.ensures
+          (λ conf sources past h n. (c.in-Ok.ensures.packet conf sources past h n).ok) c.in-Ok.ensures.stands)
+          c.in-Ok-give.ensures.calm
+          (λ t. c.in-Ok-give.ensures.appended t ∙ ap (λ (q : List ℕ). gl.given link ++ q ∷ []) c.as_slice.ensures.value)
+          (subst (λ (q : List ℕ). HearsNext l q c.hear.new.self) c.as_slice-2.ensures.value c.in-Ok-hear.ensures)
+          pts (omega (arith, low, many, wrote, links)) next w.each;
+    }
 
-pub returns-in_default-clause-addresses : goal.returns-in_default-clause-addresses
-returns-in_default-clause-addresses g c =
-    same_ports g.O.LinkOut.port c.args.self.now.links.items c.args.post.now.terminal c.index_mut-link.result.now c.give.new.self c.index_mut-link.result.now c.index_mut-link.ensures.value c.give.ensures.same_port
+pub returns-in_default-give-clause-sources : goal.returns-in_default-give-clause-sources
+returns-in_default-give-clause-sources g c =
+    same_numbers count_sources c.args.self.now.outputs.items c.args.post.now.terminal c.index_mut-output.result.now c.packet.new.self c.index_mut-output.result.now c.index_mut-output.ensures.value c.packet.ensures.sources
+
+pub returns-in_default-give-clause-addresses : goal.returns-in_default-give-clause-addresses
+returns-in_default-give-clause-addresses g c =
+    same_numbers g.O.LinkOut.port c.args.self.now.links.items c.args.post.now.terminal c.index_mut-link.result.now c.give.new.self c.index_mut-link.result.now c.index_mut-link.ensures.value c.give.ensures.same_port
+
+pub returns-in-Ok-hear-clause-sources : goal.returns-in-Ok-hear-clause-sources
+returns-in-Ok-hear-clause-sources g c =
+    same_numbers count_sources c.args.self.now.outputs.items c.args.post.now.terminal c.index_mut-output.result.now c.packet.new.self c.index_mut-output.result.now c.index_mut-output.ensures.value c.packet.ensures.sources
 
 pub returns-in-Ok-hear-clause-addresses : goal.returns-in-Ok-hear-clause-addresses
 returns-in-Ok-hear-clause-addresses g c =
-    same_ports g.O.LinkOut.port c.args.self.now.links.items c.args.post.now.terminal c.index_mut-link.result.now c.give.new.self c.index_mut-link.result.now c.index_mut-link.ensures.value c.give.ensures.same_port
+    same_numbers g.O.LinkOut.port c.args.self.now.links.items c.args.post.now.terminal c.index_mut-link.result.now c.give.new.self c.index_mut-link.result.now c.index_mut-link.ensures.value c.give.ensures.same_port
+
+pub returns-in-Err-clause-sources : goal.returns-in-Err-clause-sources
+returns-in-Err-clause-sources g c =
+    same_numbers count_sources c.args.self.now.outputs.items c.args.post.now.terminal c.index_mut-output.result.now c.packet.new.self c.index_mut-output.result.now c.index_mut-output.ensures.value c.packet.ensures.sources
 
 pub returns-in-Err-clause-addresses : goal.returns-in-Err-clause-addresses
 returns-in-Err-clause-addresses g c =
-    same_ports g.O.LinkOut.port c.args.self.now.links.items c.args.post.now.terminal c.index_mut-link.result.now c.give.new.self c.index_mut-link.result.now c.index_mut-link.ensures.value c.give.ensures.same_port
+    same_numbers g.O.LinkOut.port c.args.self.now.links.items c.args.post.now.terminal c.index_mut-link.result.now c.give.new.self c.index_mut-link.result.now c.index_mut-link.ensures.value c.give.ensures.same_port
