@@ -1,16 +1,11 @@
 -- Going through records, one after another.
-use Rattle.std.proofs.Common.{◌≡◌, ℕ, ◌+◌, ◌-◌, ◌<◌, ◌≤◌, ◌^◌, List, [], ◌∷◌, ◌++◌, length, map, drop, get_or, inl, inr, refl, ap, sym, ◌∙◌, subst, arith, append_assoc, append-nil, length-append}
+use Rattle.std.proofs.Common.{◌≡◌, ℕ, ◌+◌, ◌-◌, ◌<◌, ◌≤◌, List, [], ◌∷◌, ◌++◌, length, map, drop, get_or, inl, inr, refl, ap, sym, ◌∙◌, subst, arith, append_assoc, append-nil, length-append}
 use Rattle.std.specs.Prelude.{flat_map, slice_index}
-use Rattle.std.specs.List.Sorted.{IsNonDecreasing}
 use Rattle.std.proofs.Math.Seq.{drop-append_seam, get_or-append_seam}
 use Rattle.std.proofs.lemmas.Bool.{cases_lt}
 use Rattle.std.proofs.lemmas.Grind.{flat_map-append}
 use Rattle.std.proofs.lemmas.List.{map-append, get_or_append_left}
-use Rattle.wire_spec.specs.Dump.{Item, record_written, sent_item}
-use Rattle.terminal.specs.declared.confs.TermConf.{TermConf}
-use Rattle.terminal.specs.declared.terminals.Terminal.{Terminal}
-use Rattle.terminal.specs.Terminals.{Listens}
-use Rattle.rtpdump_io.specs.InMemory.{IsRecord, IsSplit}
+use Rattle.wire_spec.specs.Dump.{record_written}
 use Rattle.rtpdump_io.specs.InMemory.{AreRecords}
 use Rattle.rtpdump_io.proofs.Fronts.{IsLast, Splits, first_of, none_left}
 use Rattle.played.specs.declared.found.Found.{Found}
@@ -43,47 +38,6 @@ passed_more octets rest at packet behind all front f l p =
 
 pub passed_all : (octets rest : List ℕ) (all front : List (ℕ × List ℕ)) → IsLast rest → Passed octets rest all front → all ≡ front
 passed_all octets rest all front f p = p.all ∙ (ap (λ (xs : List (ℕ × List ℕ)). front ++ xs) (none_left rest p.back f p.left) ∙ append-nil front)
-
--- ---- moments that never fall
-pub record Rises (latest : ℕ) (octets rest : List ℕ) (all : List (ℕ × List ℕ)) : Type 0 where
-  pub front : List (ℕ × List ℕ)
-  pub passed : Passed octets rest all front
-  pub rises : IsNonDecreasing (map (λ r. r.0) front)
-  pub below : (i d : ℕ) → i < length (map (λ r. r.0) front) → get_or (map (λ r. r.0) front) i d ≤ latest
-
-rises_put : (xs : List ℕ) (latest m : ℕ) → IsNonDecreasing xs → ((i d : ℕ) → i < length xs → get_or xs i d ≤ latest) → latest ≤ m → IsNonDecreasing (xs ++ m ∷ [])
-rises_put xs latest m h b l i j d low high = elim (cases_lt j (length xs)) [
-  | inl below ↦ rw (get_or_append_left xs (m ∷ []) d i (omega arith), get_or_append_left xs (m ∷ []) d j below) (h i j d low below)
-  | inr over ↦
-      let last : j ≡ length xs = omega (arith, length-append xs (m ∷ [])) in
-      let there : get_or (xs ++ m ∷ []) j d ≡ m = ap (λ k. get_or (xs ++ m ∷ []) k d) last ∙ get_or-append_seam xs m [] d in
-      elim (cases_lt i (length xs)) [
-        | inl first ↦ let v = b i d first in rw (get_or_append_left xs (m ∷ []) d i first, there) (omega arith)
-        | inr same ↦ let e : i ≡ j = omega arith in rw e (omega arith)
-      ]
-]
-
-below_put : (xs : List ℕ) (latest m : ℕ) → ((i d : ℕ) → i < length xs → get_or xs i d ≤ latest) → latest ≤ m → (i d : ℕ) → i < length (xs ++ m ∷ []) → get_or (xs ++ m ∷ []) i d ≤ m
-below_put xs latest m b l i d high = elim (cases_lt i (length xs)) [
-  | inl first ↦ let v = b i d first in rw (get_or_append_left xs (m ∷ []) d i first) (omega arith)
-  | inr over ↦
-      let last : i ≡ length xs = omega (arith, length-append xs (m ∷ [])) in
-      rw (last, get_or-append_seam xs m [] d) (omega arith)
-]
-
-pub rises_none : (octets : List ℕ) (all : List (ℕ × List ℕ)) → AreRecords octets all → Rises 0 octets octets all
-rises_none octets all a = record { front = []; passed = passed_none octets all a; rises = λ i j d l h. absurd (omega arith); below = λ i d h. absurd (omega arith) }
-
-pub rises_more : (latest : ℕ) (octets rest : List ℕ) (all : List (ℕ × List ℕ)) (m : ℕ) (packet behind : List ℕ) → Splits rest m packet behind → length behind + 8 ≤ length rest → latest ≤ m → Rises latest octets rest all → Rises m octets behind all
-rises_more latest octets rest all m packet behind f l u r =
-    let d = passed_more octets rest m packet behind all r.front f l r.passed in
-    let times : map (λ x. x.0) (r.front ++ d.first ∷ []) ≡ map (λ x. x.0) r.front ++ m ∷ [] = map-append (λ x. x.0) r.front (d.first ∷ []) ∙ ap (λ (k : ℕ). map (λ x. x.0) r.front ++ k ∷ []) (sym d.moment) in
-    record {
-      front = r.front ++ d.first ∷ [];
-      passed = d.passed;
-      rises = subst IsNonDecreasing (sym times) (rises_put (map (λ x. x.0) r.front) latest m r.rises r.below u);
-      below = subst (λ (xs : List ℕ). (i d : ℕ) → i < length xs → get_or xs i d ≤ m) (sym times) (below_put (map (λ x. x.0) r.front) latest m r.below u);
-    }
 
 -- ---- where records stand
 pub record FoundFront (ms ps : List ℕ) (octets rest : List ℕ) (all : List (ℕ × List ℕ)) : Type 0 where

@@ -1,3 +1,5 @@
 pub mod Unplanned
 pub mod Going
 pub mod Copies
+pub mod FirstSent
+pub mod SameRecords

@@ -8,21 +8,26 @@ use Rattle.fault_plan.specs.Arriving.{copy_of, copies_of}
 use Rattle.terminal.specs.declared.confs.TermConf.{TermConf}
 use Rattle.terminal.specs.declared.terminals.Terminal.{Terminal}
 use Rattle.terminal.specs.Terminals.{Listens, Heard}
+use Rattle.sent_log.specs.States.{Sending, records_of}
 use Rattle.played.specs.declared.found.Found.{Found}
 use Rattle.played.specs.Written.{AreRecords, IsWrittenOf}
 use Rattle.played.specs.Finds.{Finds}
 
--- where nothing came before, what these items are of the records came
-abbrev pub HearsOf : Terminal → List ℕ → (List (ℕ × List ℕ) → List Item) → Terminal → Type 0
-HearsOf old octets items new = (c : TermConf) (sources : List ℕ) (all : List (ℕ × List ℕ)) → AreRecords octets all → Listens old c sources [] → Listens new c sources (items all)
+-- where nothing came before, this came
+abbrev pub Hears : Terminal → List Item → Terminal → Type 0
+Hears old items new = (c : TermConf) (sources : List ℕ) → Listens old c sources [] → Listens new c sources items
 
--- the records came as they stand
-abbrev pub HearsAsWritten : Terminal → List ℕ → Terminal → Type 0
-HearsAsWritten old octets new = HearsOf old octets (map sent_item) new
+-- all that was sent came, as it was sent
+abbrev pub HearsAsSent : Terminal → Terminal → Sending → Type 0
+HearsAsSent old new x = Hears old (map sent_item (records_of x.conf x.sent)) new
 
--- what comes of them by the plan came
+-- what comes of it by the plan came
+abbrev pub HearsSent : Terminal → List PlanLine → ℕ → Terminal → Sending → Type 0
+HearsSent old plan number new x = Hears old (came plan number (records_of x.conf x.sent)) new
+
+-- what comes of these records by the plan came
 abbrev pub HearsByPlan : Terminal → List ℕ → List PlanLine → ℕ → Terminal → Type 0
-HearsByPlan old octets plan number new = HearsOf old octets (came plan number) new
+HearsByPlan old octets plan number new = (c : TermConf) (sources : List ℕ) (all : List (ℕ × List ℕ)) → AreRecords octets all → Listens old c sources [] → Listens new c sources (came plan number all)
 
 -- these copies came, of records that were found
 abbrev pub HearsCopies : Terminal → List ℕ → Found → List Arrival → Terminal → Type 0

@@ -1,18 +1,14 @@
 -- The octets of what was sent to a terminal, as they are written (profile).
-use Rattle.std.specs.Prelude.{◌≡◌, ℕ, ◌<◌, ◌^◌, List, length, map, flat_map}
+use Rattle.std.specs.Prelude.{◌≡◌, ℕ, ◌<◌, ◌^◌, List, length, map}
 use Rattle.std.specs.List.{AllByRecursion}
-use Rattle.std.specs.List.Sorted.{IsNonDecreasing}
-use Rattle.wire_spec.specs.Dump.{record_written, dump_written}
+use Rattle.wire_spec.specs.Dump.{dump_written}
 pub use Rattle.rtpdump_io.specs.InMemory.{AreRecords, HasRecords}
 use Rattle.rtpdump_io.specs.InMemory.{IsRecord}
+use Rattle.sent_log.specs.States.{Sending, IsLawful, records_of, recording_of}
 
 -- the moment of each
 abbrev pub moments_of : List (ℕ × List ℕ) → List ℕ
 moments_of records = map (λ r. r.0) records
-
--- the moments of these records never fall
-abbrev pub MomentsNeverFall : List ℕ → Type 0
-MomentsNeverFall octets = (all : List (ℕ × List ℕ)) → AreRecords octets all → IsNonDecreasing (moments_of all)
 
 -- these octets are a whole recording of them
 pub record IsWrittenOf (octets : List ℕ) (records : List (ℕ × List ℕ)) : Type 0 where
@@ -23,3 +19,8 @@ pub record IsWrittenOf (octets : List ℕ) (records : List (ℕ × List ℕ)) : 
 -- these octets are the recording of some records
 abbrev pub IsWritten : List ℕ → Type 0
 IsWritten octets = (records : List (ℕ × List ℕ)) × IsWrittenOf octets records
+
+-- What was sent to a terminal can be heard: each text could be sent after those before it, and its packets can be written.
+pub record IsPlayable (x : Sending) : Type 0 where
+  pub lawful : IsLawful x
+  pub written : IsWrittenOf (recording_of x) (records_of x.conf x.sent)

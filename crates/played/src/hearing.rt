@@ -1,18 +1,22 @@
 //! A terminal that hears what comes to it.
-ghost use Rattle.std.specs.Prelude.{◌≡◌, ◌≢◌, ◌+◌, ◌≤◌, ◌<◌, ◌==◌, Bool, length, All, AllPairs, IfOk, OnOk};
+ghost use Rattle.std.specs.Prelude.{◌≡◌, ◌≢◌, ◌+◌, ◌≤◌, ◌<◌, ◌==◌, length, All, AllPairs, IfOk, OnOk};
 ghost use Rattle.std.specs.List.{list_any};
 ghost use Rattle.fault_plan.specs.Arriving.{IsOfFirst};
 ghost use Rattle.terminal.specs.Terminals.{counts_of, IsOpen};
-ghost use Rattle.played.specs.Written.{HasRecords, MomentsNeverFall, IsWritten};
+ghost use Rattle.sent_log.specs.States.{OfTerminal, recording_of};
+ghost use Rattle.played.specs.Written.{HasRecords, IsPlayable};
 ghost use Rattle.played.specs.Finds.{AreFound, LieWithin};
-ghost use Rattle.played.specs.Told.{HearsAsWritten, HearsByPlan, HearsCopies, HearsCopy, HeardByPlan};
+ghost use Rattle.played.specs.Told.{HearsAsSent, HearsByPlan, HearsCopies, HearsCopy, HearsSent, HeardByPlan};
+ghost use Rattle.file_spec.specs.declared.limits.TheConstants.{MOST_LEGS};
 ghost use Rattle.rtt_base.specs.declared.limits.TheConstants.{LONGEST_WAIT, MOST_ARRIVALS, MOST_SOURCES};
 
 use crate::found::{Found, find_records};
 use fault_plan::{Arrival, arrivals};
 use file_spec::PlanLine;
 use rtpdump_io::{next_record, records_of};
-use rtt_base::NoMemory;
+use rtt_base::{NoMemory, Packet};
+use sent_files::in_memory;
+use sent_log::SentLog;
 use std::alloc::Global;
 use terminal::{TermConf, Terminal};
 
@@ -23,35 +27,26 @@ fn speaks_of(plan: &[PlanLine], terminal: u8) -> bool
     plan.iter().any(|line| line.terminal == terminal)
 }
 
-/// Whether the moments of these records never fall.
-fn never_fall(records: &[u8]) -> bool
-    ensures { result ≡ Bool.true → MomentsNeverFall records.now }
+/// Hears what was sent to the terminal, as it was sent: each packet is made again where it is heard.
+fn hear_as_sent(
+    alloc: Global,
+    heard: &mut Terminal,
+    log: &SentLog,
+    terminal: usize,
+) -> Result<(), NoMemory>
+    requires open { IsOpen heard.old }
+    requires none { (counts_of heard.old).packets ≡ 0 }
+    requires terminal { terminal < length log.now }
+    requires sent { OfTerminal log.now terminal IsPlayable }
+    ensures listens { OnOk result (OfTerminal log.now terminal (HearsAsSent heard.old heard.new)) }
+    ensures open { IsOpen heard.new }
+    ensures few { (counts_of heard.new).packets < MOST_ARRIVALS }
 {
-    let mut latest = 0;
-    let mut rest = records;
-    while let Some((moment, _, more)) = next_record(rest) {
-        if moment < latest {
-            return false;
-        }
-        latest = moment;
-        rest = more;
-    }
-    true
-}
-
-/// Hears these records as they stand.
-fn hear_in_order(terminal: &mut Terminal, records: &[u8]) -> Result<(), NoMemory>
-    requires open { IsOpen terminal.old }
-    requires none { (counts_of terminal.old).packets ≡ 0 }
-    requires records { HasRecords records.now }
-    ensures listens { OnOk result (HearsAsWritten terminal.old records.now terminal.new) }
-    ensures open { IsOpen terminal.new }
-    ensures few { (counts_of terminal.new).packets < MOST_ARRIVALS }
-{
-    let mut rest = records;
-    while let Some((moment, packet, more)) = next_record(rest) {
-        terminal.arrive(u64::from(moment), packet)?;
-        rest = more;
+    let mut output = log.output(alloc, terminal)?;
+    let mut packet = Packet::new();
+    for number in 0..log.count(terminal) {
+        let moment = log.packet(terminal, number, &mut output, &mut packet);
+        heard.arrive(u64::from(moment), packet.as_slice())?;
     }
     Ok(())
 }
@@ -122,53 +117,81 @@ fn hear_by_plan(
     hear_copies(terminal, records, &found, copies.as_slice())
 }
 
-/// Hears what comes of these records: as they stand, where no line of the plan is of the terminal.
+/// Hears what comes by the plan of what was sent to the terminal: its whole recording is made in memory.
+fn hear_recording(
+    alloc: Global,
+    heard: &mut Terminal,
+    log: &SentLog,
+    terminal: usize,
+    plan: &[PlanLine],
+) -> Result<(), NoMemory>
+    requires open { IsOpen heard.old }
+    requires none { (counts_of heard.old).packets ≡ 0 }
+    requires terminal { terminal < length log.now }
+    requires leg { terminal < MOST_LEGS }
+    requires sent { OfTerminal log.now terminal IsPlayable }
+    ensures listens { OnOk result (OfTerminal log.now terminal (HearsSent heard.old plan.now terminal heard.new)) }
+    ensures open { IsOpen heard.new }
+    ensures few { (counts_of heard.new).packets < MOST_ARRIVALS }
+{
+    let recording = in_memory(alloc, log, terminal)?;
+    let records = records_of(recording.as_slice());
+    hear_by_plan(alloc, heard, records, plan, terminal as u8)
+}
+
+/// Hears what comes by the plan of what was sent to the terminal: as it was sent, where no line of the plan is of the
+/// terminal and the moments of the packets never fall.
 fn hear(
     alloc: Global,
-    terminal: &mut Terminal,
-    records: &[u8],
+    heard: &mut Terminal,
+    log: &SentLog,
+    terminal: usize,
     plan: &[PlanLine],
-    number: u8,
 ) -> Result<(), NoMemory>
-    requires open { IsOpen terminal.old }
-    requires none { (counts_of terminal.old).packets ≡ 0 }
-    requires records { HasRecords records.now }
-    ensures listens { OnOk result (HearsByPlan terminal.old records.now plan.now number terminal.new) }
-    ensures open { IsOpen terminal.new }
-    ensures few { (counts_of terminal.new).packets < MOST_ARRIVALS }
+    requires open { IsOpen heard.old }
+    requires none { (counts_of heard.old).packets ≡ 0 }
+    requires terminal { terminal < length log.now }
+    requires leg { terminal < MOST_LEGS }
+    requires sent { OfTerminal log.now terminal IsPlayable }
+    ensures listens { OnOk result (OfTerminal log.now terminal (HearsSent heard.old plan.now terminal heard.new)) }
+    ensures open { IsOpen heard.new }
+    ensures few { (counts_of heard.new).packets < MOST_ARRIVALS }
 {
-    if !speaks_of(plan, number) && never_fall(records) {
-        hear_in_order(terminal, records)
+    if !speaks_of(plan, terminal as u8) && log.never_falls(terminal) {
+        hear_as_sent(alloc, heard, log, terminal)
     } else {
-        hear_by_plan(alloc, terminal, records, plan, number)
+        hear_recording(alloc, heard, log, terminal, plan)
     }
 }
 
-/// The terminal with this number, counted from 0, that heard to its end what comes to it by the plan of a conference.
-/// `recording` is what was sent to it, written: a recording of packets of at most 65527 octets. The terminal is made as
-/// `Terminal::new` makes it.
+/// The terminal with this number, counted from 0 and below 64, that heard to its end what comes to it, by the plan of a
+/// conference, of what was sent to it: texts each of which could be sent after those before it, in packets of at most
+/// 65527 octets. The terminal is made as `Terminal::new` makes it.
 ///
-/// What was sent stays in its octets: 12 octets a packet are taken to find it there, and 16 for each packet that comes;
-/// none where no line of the plan is of the terminal, and the moments of the packets never fall.
+/// Where no line of the plan is of the terminal, and the moments of the packets never fall, each packet is made again where
+/// it is heard. Else the whole recording is made in memory, with 12 octets a packet to find it there, and 16 for each packet
+/// that comes.
 pub fn played(
     alloc: Global,
     conf: TermConf,
     sources: &[u32],
-    recording: &[u8],
+    log: &SentLog,
+    terminal: usize,
     plan: &[PlanLine],
-    number: u8,
 ) -> Result<Terminal, NoMemory>
     requires wait { conf.wait ≤ LONGEST_WAIT }
     requires some { 0 < length sources.now }
     requires few { length sources.now ≤ MOST_SOURCES }
     requires differ { AllPairs (λ a b. a ≢ b) sources.now }
-    requires written { IsWritten recording.now }
-    ensures heard { IfOk result (HeardByPlan conf sources.now recording.now plan.now number) }
+    requires terminal { terminal < length log.now }
+    requires leg { terminal < MOST_LEGS }
+    requires sent { OfTerminal log.now terminal IsPlayable }
+    ensures heard { IfOk result (λ heard. OfTerminal log.now terminal (λ x.
+        HeardByPlan conf sources.now (recording_of x) plan.now terminal heard)) }
     ensures few { IfOk result (λ terminal. (counts_of terminal).packets < MOST_ARRIVALS) }
 {
-    let mut terminal = Terminal::new(alloc, conf, sources)?;
-    let records = records_of(recording);
-    hear(alloc, &mut terminal, records, plan, number)?;
-    terminal.finish()?;
-    Ok(terminal)
+    let mut heard = Terminal::new(alloc, conf, sources)?;
+    hear(alloc, &mut heard, log, terminal, plan)?;
+    heard.finish()?;
+    Ok(heard)
 }

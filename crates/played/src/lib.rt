@@ -1,4 +1,4 @@
-//! What comes to a terminal, by the plan of a conference, of the recording of what was sent to it: heard and counted.
+//! What comes to a terminal, by the plan of a conference, of what was sent to it: heard and counted.
 #![tactic(auto)]
 
 mod found;

@@ -1,8 +1,12 @@
+use Rattle.std.proofs.Common.{List, ℕ, subst}
+use Rattle.mixer_spec.specs.Arrives.{came}
+use Rattle.sent_log.specs.States.{records_of, recording_of}
+use Rattle.terminal.specs.Terminals.{Heard}
+use Rattle.played.proofs.SameRecords.{one_recording}
 use Rattle.played.proofs.hearing.played.Goals as goal
 
 pub returns-clause-heard : goal.returns-clause-heard
-returns-clause-heard c = λ records w. c.in_ok-finish.ensures.heard c.args.conf c.args.sources.now _
-    (c.in_ok-hear.ensures.listens c.args.conf c.args.sources.now records (record { is = c.records_of-records.ensures records w.is; each = w.each; few = w.few }) c.in_ok-terminal.ensures.listens)
-
-pub records_of-records-requires : goal.records_of-records-requires
-records_of-records-requires c = (c.requires.written.0, c.requires.written.1.is)
+returns-clause-heard c = λ x at records w.
+    subst (λ (rs : List (ℕ × List ℕ)). Heard c.finish.new.self c.args.conf c.args.sources.now (came c.args.plan.now c.args.terminal rs))
+    (one_recording (recording_of x) (records_of x.conf x.sent) records (c.requires.sent x at).written w)
+    (c.in_ok-finish.ensures.heard c.args.conf c.args.sources.now _ (c.in_ok-hear.ensures.listens x at c.args.conf c.args.sources.now c.in_ok-heard.ensures.listens))
