@@ -1,7 +1,8 @@
 -- What mixing recordings answers.
 use Rattle.std.proofs.Common.{◌≡◌, ℕ, zero, suc, ◌+◌, ◌<◌, true, false, Option, Some, None, List, [], ◌∷◌, length, map, Result, Ok, Err, refl, ap, sym, subst, ◌∙◌, arith}
 use Rattle.std.specs.Prelude.{IfErr, IfOk}
-use Rattle.std.specs.List.{enumerate_from}
+use Rattle.std.specs.List.{concat, enumerate_from}
+use Rattle.std.proofs.lemmas.List.{length-map}
 use Rattle.std.specs.Option.{option_map}
 use Rattle.wire_spec.specs.Dump.{dump, dump_written}
 use Rattle.wire_spec.specs.Dump as dumps
@@ -22,11 +23,13 @@ use Rattle.command_spec.specs.Mixing.{input_at, makes, mixes, out_of, outs, reco
 use Rattle.command_spec.specs.Sums.{sums}
 use Rattle.mix_loop.specs.declared.turns.Mixing.{Mixing}
 use Rattle.mix_loop.specs.declared.turns.Mixing.TheVariants as mixing
+use Rattle.sent_files.specs.Files.{recordings_of}
 use Rattle.bridge_run.specs.Logs.{LogOf, out_at}
 use Rattle.leg_items.specs.declared.inlets.LegInlet.{LegInlet}
 use Rattle.leg_items.specs.Answers.{AllAsked, AllWhole, AreChunks, AreOfConf, IsAnswer, IsReadWell, PlainMixed, SourceKept, source_in}
 use Rattle.leg_items.proofs.OfConfs.{asked_law}
-use Rattle.mixer_turn.specs.Making.{pts_at, pts_of}
+use Rattle.mixer_posts.specs.Streams.{pts_at, pts_of}
+use Rattle.sent_log.specs.States.{State, recording_of}
 use Rattle.bridge_run.specs.declared.mixed.MixFault.{MixFault}
 use Rattle.bridge_run.specs.declared.mixed.MixFault.TheVariants.{Dump, NoMemory}
 use Rattle.bridge_run.specs.declared.mixed.Mixed.{Mixed}
@@ -108,12 +111,14 @@ module _ (c : Conf) (inputs : List (List ℕ)) (legs : length inputs ≡ length 
       broken_steps (input_limit c) 1 inputs (makes c (plain (setup c) c.tick c.turns (leg_chunks c (input_at inputs)))) leg (record { byte = fault.offset; kind = fault.kind })
       (omega (arith, answer.0, legs)) answer.2 (answer.1 none)
 
-  pub over_mixes : (result : Result Mixed MixFault) (table : Table) (log : List (List ℕ)) → length log ≡ length c.legs
-      → IsAnswer {T = memory.NoMemory} mixing.Over (setup c) c.tick c.turns (asked_of c inputs) (leg_chunks c (input_at inputs)) table → LogOf (pts_at c) (setup c) table log
-      → IfOk result (λ mixed. mixed.views ≡ views c table) → IfOk result (λ mixed. counted mixed ≡ sums c table) → IfOk result (λ mixed. mixed.outs.items ≡ log) → IfErr result (λ fault. fault ≡ NoMemory)
+  pub over_mixes : (result : Result Mixed MixFault) (table : Table) (log : State) → length log ≡ length c.legs
+      → IsAnswer {T = memory.NoMemory} mixing.Over (setup c) c.tick c.turns (asked_of c inputs) (leg_chunks c (input_at inputs)) table → LogOf (pts_at c) (setup c) table (recordings_of log)
+      → IfOk result (λ mixed. concat mixed.views.items ≡ views c table) → IfOk result (λ mixed. counted mixed ≡ sums c table) → IfOk result (λ mixed. mixed.outs ≡ log) → IfErr result (λ fault. fault ≡ NoMemory)
       → MixesTo c inputs result
   over_mixes (Ok mixed) table log same answer logged is sum out fault = record {
-    makes = over_makes table log mixed.views same answer logged is ∙ ap (λ os. Makes mixed.views (outputs_of c.legs os)) (sym out);
+    makes =
+        (let seen = concat mixed.views.items in
+        over_makes table (recordings_of log) seen (length-map log recording_of ∙ same) answer logged is ∙ ap (λ (outs : State). Makes seen (outputs_of c.legs (recordings_of outs))) (sym out));
     sums = ap (option_map (sums c)) answer.0 ∙ ap Some (sym sum);
   }
   over_mixes (Err f) table log same answer logged is sum out fault = subst (λ x. MixesTo c inputs (Err x)) (sym fault) tt

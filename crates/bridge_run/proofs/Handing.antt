@@ -14,7 +14,7 @@ use Rattle.leg_core.specs.Gives.{Stands, LegPast, begins}
 use Rattle.mix_loop.proofs.Lists.{get_within, lt_or_ge}
 use Rattle.leg_items.specs.declared.inlets.LegInlet.{LegInlet}
 use Rattle.leg_items.specs.Answers.{AllAsked, AllNew, read_well, source_in}
-use Rattle.mixer_turn.specs.Making.{pts_of}
+use Rattle.mixer_posts.specs.Streams.{pts_of}
 use Rattle.bridge_run.specs.declared.mixed.MixFault.{MixFault}
 use Rattle.bridge_run.specs.declared.mixed.MixFault.TheVariants.{Open, Dump, TooLong, NoMemory}
 use Rattle.bridge_run.specs.declared.mixed.Mixed.{Mixed}

@@ -1,5 +1,5 @@
 pub mod Opening
-pub mod Outs
+pub mod Noting
 pub mod Viewing
 pub mod Joining
 pub mod Answering

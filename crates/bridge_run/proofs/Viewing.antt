@@ -1,7 +1,8 @@
 -- The view of each terminal is what is seen there.
 use Rattle.std.proofs.Common.{◌≡◌, ℕ, zero, suc, ◌+◌, ◌*◌, ◌^◌, ◌<◌, ◌≤◌, Bool, true, false, cond, List, [], ◌∷◌, ◌++◌, length, map, take, get_or, None, refl, ap, sym, ◌∙◌, subst, append_assoc, arith, add-one}
 use Rattle.std.specs.Prelude.{AllPairs, remove, flat_map, ◌≢◌}
-use Rattle.std.specs.List.{enumerate_from, sum_by}
+use Rattle.std.specs.Global.{Vec}
+use Rattle.std.specs.List.{concat, enumerate_from, sum_by}
 use Rattle.std.proofs.lemmas.List.Sums.{sum_by-cons, sum_by-le, sum_by_push}
 use Rattle.source_receiver.specs.declared.source_texts.SourceText.{SourceText}
 use Rattle.view_spec.specs.declared.counts.Counts.{Counts}
@@ -10,6 +11,7 @@ use Rattle.std.proofs.lemmas.List.{take_all, append-nil, get_or-map, length-map}
 use Rattle.std.proofs.lemmas.List.Quantifiers.{all_pairs_remove}
 use Rattle.std.proofs.lemmas.List.FromFn.{length-enumerate_from, get_or-enumerate_from}
 use Rattle.std.proofs.lemmas.Grind.{flat_map-append}
+use Rattle.std.proofs.lemmas.List.Folds.{concat-append}
 use Rattle.wire_spec.specs.Dump.{Item}
 use Rattle.file_spec.specs.declared.conf_lines.LegLine.{LegLine}
 use Rattle.file_spec.specs.Conf.{Conf}
@@ -25,7 +27,7 @@ use Rattle.terminal.specs.declared.confs.TermConf.{TermConf}
 use Rattle.terminal.specs.declared.terminals.Terminal.{Terminal}
 use Rattle.terminal.specs.Terminals.{counts_of, reception, texts_of, IsTextOf, Heard}
 use Rattle.bridge_run.specs.declared.views.Seen.{Seen}
-use Rattle.bridge_run.specs.Viewed.{Adds, AddsCounts, AddsSeen, HasFew, IsSeenBetween, counts_from, first_legs, marks_of, markers_from, marks_below, packets_below, summed, terminal_conf, used_below, view_from, views_below}
+use Rattle.bridge_run.specs.Viewed.{Adds, AddsCounts, AddsSeen, HasFew, IsSeenBetween, counts_from, first_legs, joined, marks_of, markers_from, marks_below, packets_below, summed, terminal_conf, used_below, view_from, views_below}
 
 -- which element is meant makes no difference within
 pub same_default : {X : Type 0} (xs : List X) (i : ℕ) (d e : X) → i < length xs → get_or xs i d ≡ get_or xs i e
@@ -58,6 +60,11 @@ names_are (l ∷ ls) = ap (λ (xs : List (List ℕ)). l.name ∷ xs) (names_are 
 ssrcs_are : (legs : List LegLine) → map (λ (s : Speaker). s.ssrc) (map speaker_of legs) ≡ map (λ leg. leg.ssrc) legs
 ssrcs_are [] = refl
 ssrcs_are (l ∷ ls) = ap (λ (xs : List ℕ). l.ssrc ∷ xs) (ssrcs_are ls)
+
+-- pieces, and one behind them
+pub piece_more : (old new : List (List ℕ)) (before piece view : List ℕ) → new ≡ old ++ piece ∷ [] → before ≡ [] → piece ≡ before ++ view → concat new ≡ concat old ++ view
+piece_more old new before piece view e none is =
+    ap concat e ∙ (concat-append old (piece ∷ []) ∙ ap (λ (xs : List ℕ). concat old ++ xs) (append-nil piece ∙ (is ∙ ap (λ (xs : List ℕ). xs ++ view) none)))
 
 -- ---- one terminal
 pub aware_view : (c : Conf) (own : ℕ) (leg : LegLine) (records : List (ℕ × List ℕ)) (t : Terminal) (conf : TermConf) (sources : List ℕ) (names : List (List ℕ)) (old new : List ℕ)
@@ -108,7 +115,7 @@ module _ (t : Terminal) (q : TermConf) (sources : List ℕ) (items : List Item) 
 -- all that a terminal adds
 pub adds : (c : Conf) (own : ℕ) (leg : LegLine) (records : List (ℕ × List ℕ)) (t : Terminal) (q : TermConf) (sources : List ℕ) (old shown new : Seen)
     → q ≡ terminal_conf c leg → sources ≡ sources_of c own leg → Heard t q sources (came c.plan own records)
-    → shown.views ≡ old.views ++ view_from c own leg records → shown.packets ≡ old.packets → shown.used ≡ old.used → shown.marks ≡ old.marks → AddsCounts t shown new
+    → joined shown ≡ joined old ++ view_from c own leg records → shown.packets ≡ old.packets → shown.used ≡ old.used → shown.marks ≡ old.marks → AddsCounts t shown new
     → Adds c own leg records old new
 adds c own leg records t q sources old shown new e s h view packets used marks a =
     let items = came c.plan own records in
@@ -117,7 +124,7 @@ adds c own leg records t q sources old shown new e s h view packets used marks a
     let markers : marks_of t ≡ markers_from c own leg records = marks_heard t q sources items h
     ∙ (ap (λ (r : Reception). sum_by (markers_at r items) sources) is_reception ∙ ap (λ (xs : List ℕ). sum_by (markers_at (reception_of c leg) items) xs) s) in
     record {
-      views = a.views ∙ view;
+      views = ap (λ (views : List (List ℕ)). concat views) (ap (λ (v : Vec (List ℕ)). v.items) a.views) ∙ view;
       packets = omega (arith, a.packets, packets, ap (λ (n : Counts). n.packets) counts);
       used = omega (arith, a.used, used, ap (λ (n : Counts). n.used) counts);
       marks = omega (arith, a.marks, marks, markers);
@@ -137,9 +144,9 @@ sum_more : (c : Conf) (f : ℕ × LegLine → ℕ) (k : ℕ) (d : LegLine) → k
 sum_more c f k d l = ap (sum_by f) (legs_more c k d l) ∙ sum_by_push f (first_legs c k) (k, get_or c.legs k d)
 
 -- at no terminal
-pub seen_none : (c : Conf) (table : Table) (k : ℕ) (seen : Seen) → seen.views ≡ [] → seen.packets ≡ 0 → seen.used ≡ 0 → seen.marks ≡ 0 → IsSeenBetween c table k k seen
+pub seen_none : (c : Conf) (table : Table) (k : ℕ) (seen : Seen) → seen.views.items ≡ [] → seen.packets ≡ 0 → seen.used ≡ 0 → seen.marks ≡ 0 → IsSeenBetween c table k k seen
 seen_none c table k seen views packets used marks = record {
-  views = ap (λ (xs : List ℕ). views_below c table k ++ xs) views ∙ append-nil (views_below c table k);
+  views = ap (λ (xs : List (List ℕ)). views_below c table k ++ concat xs) views ∙ append-nil (views_below c table k);
   packets = omega (arith, packets);
   used = omega (arith, used);
   marks = omega (arith, marks);
@@ -153,7 +160,7 @@ seen_more c table from k d old new l s a =
     let view : ℕ × LegLine → List ℕ = λ x. view_of c table x.0 x.1 in
     let front : List ℕ = views_below c table from in
     record {
-      views = ap (λ (xs : List ℕ). front ++ xs) a.views ∙ (sym (append_assoc front old.views (view_of c table k leg)) ∙ (ap (λ (xs : List ℕ). xs ++ view_of c table k leg) s.views
+      views = ap (λ (xs : List ℕ). front ++ xs) a.views ∙ (sym (append_assoc front (joined old) (view_of c table k leg)) ∙ (ap (λ (xs : List ℕ). xs ++ view_of c table k leg) s.views
           ∙ sym (ap (flat_map view) (legs_more c k d l)
           ∙ (flat_map-append view (first_legs c k) ((k, leg) ∷ []) ∙ ap (λ (xs : List ℕ). flat_map view (first_legs c k) ++ xs) (append-nil (view (k, leg)))))));
       packets = omega (arith, a.packets, s.packets, sum_more c (λ x. (counts_to c table x.0 x.1).packets) k d l);
@@ -166,7 +173,7 @@ pub seen_both : (c : Conf) (table : Table) (from middle to : ℕ) (old part new 
 seen_both c table from middle to old part new s p a =
     let front : List ℕ = views_below c table from in
     record {
-      views = ap (λ (xs : List ℕ). front ++ xs) a.views ∙ (sym (append_assoc front old.views part.views) ∙ (ap (λ (xs : List ℕ). xs ++ part.views) s.views ∙ p.views));
+      views = ap (λ (xs : List ℕ). front ++ xs) a.views ∙ (sym (append_assoc front (joined old) (joined part)) ∙ (ap (λ (xs : List ℕ). xs ++ joined part) s.views ∙ p.views));
       packets = omega (arith, a.packets, s.packets, p.packets);
       used = omega (arith, a.used, s.used, p.used);
       marks = omega (arith, a.marks, s.marks, p.marks);
@@ -175,7 +182,7 @@ seen_both c table from middle to old part new s p a =
 all_legs : (c : Conf) (k : ℕ) → length c.legs ≤ k → first_legs c k ≡ enumerate_from 0 c.legs
 all_legs c k l = take_all k (enumerate_from 0 c.legs) (omega (arith, length-enumerate_from 0 c.legs, l))
 
-pub views_all : (c : Conf) (table : Table) (k : ℕ) (seen : Seen) → length c.legs ≤ k → IsSeenBetween c table 0 k seen → seen.views ≡ views c table
+pub views_all : (c : Conf) (table : Table) (k : ℕ) (seen : Seen) → length c.legs ≤ k → IsSeenBetween c table 0 k seen → joined seen ≡ views c table
 views_all c table k seen l s = s.views ∙ ap (flat_map (λ x. view_of c table x.0 x.1)) (all_legs c k l)
 
 without : (a b d : ℕ) → a ≡ 0 → a + b ≡ d → b ≡ d

@@ -1,5 +1,6 @@
 -- What mixing recordings answers, by their octets (profile).
 use Rattle.std.specs.Prelude.{◌≡◌, ℕ, ◌+◌, ◌<◌, ◌≤◌, false, true, Some, List, Result, Ok, Err, length, slice_get}
+use Rattle.std.specs.List.{concat}
 use Rattle.rtt_io.specs.Counts.{Rose}
 use Rattle.rtpdump_io.specs.declared.items.DumpFault.{DumpFault}
 use Rattle.rtpdump_io.specs.Reading.{is_of_source}
@@ -13,10 +14,11 @@ use Rattle.command_spec.specs.Sums.{sums_mixed}
 use Rattle.leg_items.specs.declared.inlets.LegInlet.{LegInlet}
 use Rattle.leg_items.specs.Feds.{Asked}
 use Rattle.leg_items.specs.Answers.{AllAsked, read_well, source_in}
-use Rattle.mixer_turn.specs.Making.{pts_at}
+use Rattle.mixer_posts.specs.Streams.{pts_at}
 use Rattle.bridge_run.specs.declared.mixed.MixFault.{MixFault}
 use Rattle.bridge_run.specs.declared.mixed.MixFault.TheVariants.{Open, Dump, TooLong, NoMemory}
 use Rattle.bridge_run.specs.declared.mixed.Mixed.{Mixed}
+use Rattle.sent_files.specs.Files.{recordings_of}
 use Rattle.bridge_run.specs.Mixes.{WholeBelow, counted, outputs_of}
 
 -- what the leg j is asked for, where the inputs have these octets
@@ -29,7 +31,7 @@ asked_of c inputs j = record {
 
 -- These are the views, the outputs and the numbers of a conference whose inputs have these octets.
 pub record AreMixed (c : Conf) (inputs : List (List ℕ)) (mixed : Mixed) : Type 0 where
-  pub makes : mixes c inputs ≡ Makes mixed.views (outputs_of c.legs mixed.outs.items)
+  pub makes : mixes c inputs ≡ Makes (concat mixed.views.items) (outputs_of c.legs (recordings_of mixed.outs))
   pub sums : sums_mixed c inputs ≡ Some (counted mixed)
 
 -- it is what a conference comes to whose inputs have these octets
@@ -59,7 +61,7 @@ WasReadWell (Err NoMemory) j = ⊥
 
 -- it has so many outputs
 abbrev pub HasOutputs : ℕ → Mixed → Type 0
-HasOutputs n mixed = length mixed.outs.items ≡ n
+HasOutputs n mixed = length mixed.outs ≡ n
 
 -- it is no failed reading of a recording
 abbrev pub NoReadFailed : Result Mixed MixFault → Type 0

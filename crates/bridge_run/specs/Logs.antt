@@ -1,22 +1,24 @@
--- What was sent to each terminal, as the octets of a recording.
-use Rattle.std.specs.Prelude.{◌≡◌, ℕ, ◌<◌, ◌==◌, zero, suc, List, [], ◌∷◌, ◌++◌, length, map, slice_set, if◌then◌else◌}
+-- What was sent to each terminal, by the posts that a log took, and its recordings.
+use Rattle.std.specs.Prelude.{◌≡◌, ◌<◌, ℕ, zero, suc, List, [], ◌∷◌, length, map}
 use Rattle.rtt_base.specs.declared.text_packets.Pts.{Pts}
 use Rattle.wire_spec.specs.Packets.{Arrival}
-use Rattle.wire_spec.specs.Dump.{record_written, dump_written}
+use Rattle.wire_spec.specs.Dump.{dump_written}
 use Rattle.wire_spec.specs.SentPackets.{packet_written}
-use Rattle.mixer_spec.specs.Setups.{Setup, stream}
+use Rattle.file_spec.specs.Conf.{Conf}
+use Rattle.mixer_spec.specs.Setups.{Setup, setup, stream}
 use Rattle.mixer_spec.specs.Table.{Table, packets}
 use Rattle.mixer_turn.specs.declared.batches.Post.{Post}
+use Rattle.mixer_turn.specs.Making.{source_counts}
+use Rattle.mixer_posts.specs.Posts.{sents_to}
+use Rattle.mixer_posts.specs.Streams.{AreSourcesAt, conf_at, pts_at}
+use Rattle.sent_log.specs.States.{OfTerminal, Sending, State}
 
+-- ---- what is written
 -- the octets to the terminal j
 abbrev pub out_at : List (List ℕ) → ℕ → List ℕ
 out_at [] j = []
 out_at (o ∷ os) zero = o
 out_at (o ∷ os) (suc j) = out_at os j
-
--- where a packet that is sent at this moment was appended for the terminal j
-abbrev pub with_record : List (List ℕ) → ℕ → ℕ → List ℕ → List (List ℕ)
-with_record outs j at packet = slice_set outs j (out_at outs j ++ record_written (at, packet))
 
 -- packets that are sent with these payload types, as records
 abbrev pub records : Pts → List Arrival → List (ℕ × List ℕ)
@@ -30,16 +32,23 @@ records_to pts s table j = records (pts j) (packets (stream s j) (table.terminal
 abbrev pub LogOf : (ℕ → Pts) → Setup → Table → List (List ℕ) → Type 0
 LogOf pts s table log = (j : ℕ) → j < s.legs → out_at log j ≡ dump_written (records_to pts s table j)
 
--- no packet is there yet
-abbrev pub AllOpen : List (List ℕ) → Type 0
-AllOpen log = (j : ℕ) → j < length log → out_at log j ≡ dump_written []
-
 -- ---- as it is sent
--- these posts, newest first, as records to the terminal j
-abbrev pub records_for : ℕ → List (ℕ × Post) → List (ℕ × List ℕ)
-records_for j [] = []
-records_for j (x ∷ sent) = records_for j sent ++ (if x.1.terminal == j then (x.0, x.1.packet) ∷ [] else [])
+-- how many sources each terminal has
+abbrev pub sources_in : State → List ℕ
+sources_in log = map (λ x. length x.sources) log
 
--- the recording to each terminal has what was sent to it, of these posts
-abbrev pub HasSent : List (List ℕ) → List (ℕ × Post) → Type 0
-HasSent log sent = (j : ℕ) → j < length log → out_at log j ≡ dump_written (records_for j sent)
+-- This is the stream to the terminal j, with these payload types, and what was sent in it is what goes there of these posts.
+pub record IsSentTo (s : Setup) (pts : Pts) (j : ℕ) (posts : List (ℕ × Post)) (x : Sending) : Type 0 where
+  pub conf : x.conf ≡ conf_at s pts j
+  pub sources : AreSourcesAt s j x.sources
+  pub sent : x.sent ≡ sents_to x.sources j posts
+
+-- so it is at each terminal
+abbrev pub HasSent : Setup → (ℕ → Pts) → State → List (ℕ × Post) → Type 0
+HasSent s pts log posts = (j : ℕ) → j < s.legs → OfTerminal log j (IsSentTo s (pts j) j posts)
+
+-- A log of the terminals of this conference, to which nothing was sent.
+pub record IsNew (c : Conf) (log : State) : Type 0 where
+  pub terminals : length log ≡ length c.legs
+  pub sources : sources_in log ≡ source_counts c
+  pub silent : HasSent (setup c) (pts_at c) log []

@@ -1,5 +1,6 @@
 -- What mixing a conference comes to, from what lies under the names of its inputs. Legs are counted from 0.
 use Rattle.std.specs.Prelude.{◌≡◌, ◌≢◌, ℕ, ◌+◌, ◌<◌, false, true, None, Some, IsSome, Result, Ok, Err, List, [], ◌∷◌}
+use Rattle.std.specs.List.{concat}
 use Rattle.wire_spec.specs.Dump.{dump}
 use Rattle.rtt_io.specs.Counts.{Rose}
 use Rattle.rtpdump_io.specs.declared.items.DumpFault.{DumpFault}
@@ -17,6 +18,7 @@ use Rattle.leg_items.specs.Answers.{read_well}
 use Rattle.bridge_run.specs.declared.mixed.MixFault.{MixFault}
 use Rattle.bridge_run.specs.declared.mixed.MixFault.TheVariants.{Open, Dump, TooLong, NoMemory}
 use Rattle.bridge_run.specs.declared.mixed.Mixed.{Mixed}
+use Rattle.sent_files.specs.Files.{recordings_of}
 
 -- ---- what it comes to
 -- what is made of what lies there, or why nothing is
@@ -36,7 +38,7 @@ counted mixed = record { packets = mixed.packets; used = mixed.used; marks = mix
 -- the views, the outputs and the sums
 pub record IsMade (held : Contents) (c : Conf) (mixed : Mixed) : Type 0 where
   pub lie : AllLie held c.legs
-  pub makes : steps_of held c ≡ Makes mixed.views (outputs_of c.legs mixed.outs.items)
+  pub makes : steps_of held c ≡ Makes (concat mixed.views.items) (outputs_of c.legs (recordings_of mixed.outs))
   pub sums : sums_mixed c (inputs_under held c.legs) ≡ Some (counted mixed)
 
 -- the inputs of the first n legs are recordings without a fault

@@ -1,6 +1,6 @@
 -- What is seen at the terminals of a conference, by what was sent to each (profile).
 use Rattle.std.specs.Prelude.{◌≡◌, ℕ, Bool, ◌+◌, ◌*◌, ◌^◌, ◌<◌, ◌≤◌, List, [], ◌++◌, length, map, min, remove, take, flat_map, slice_index_or, IfOk, Result, if◌then◌else◌}
-use Rattle.std.specs.List.{enumerate_from, sum_by}
+use Rattle.std.specs.List.{concat, enumerate_from, sum_by}
 use Rattle.rtt_base.specs.declared.errors.NoMemory.{NoMemory}
 use Rattle.view_spec.specs.declared.counts.Counts.{Counts}
 use Rattle.file_spec.specs.declared.conf_lines.LegLine.{LegLine}
@@ -52,9 +52,13 @@ counts_from c j leg records = counts_at (reception_of c leg) (came c.plan j reco
 abbrev pub markers_from : Conf → ℕ → LegLine → List (ℕ × List ℕ) → ℕ
 markers_from c j leg records = sum_by (markers_at (reception_of c leg) (came c.plan j records)) (sources_of c j leg)
 
--- the view of this terminal was appended, and its numbers were added
+-- all views, one behind the other
+abbrev pub joined : Seen → List ℕ
+joined seen = concat seen.views.items
+
+-- the view of this terminal was added, and its numbers
 pub record Adds (c : Conf) (j : ℕ) (leg : LegLine) (records : List (ℕ × List ℕ)) (old new : Seen) : Type 0 where
-  pub views : new.views ≡ old.views ++ view_from c j leg records
+  pub views : joined new ≡ joined old ++ view_from c j leg records
   pub packets : new.packets ≡ old.packets + (counts_from c j leg records).packets
   pub used : new.used ≡ old.used + (counts_from c j leg records).used
   pub marks : new.marks ≡ old.marks + markers_from c j leg records
@@ -118,7 +122,7 @@ marks_below c table k = sum_by (λ x. markers_to c table x.0 x.1) (first_legs c 
 
 -- This is seen at the terminals from the first number on and below the other.
 pub record IsSeenBetween (c : Conf) (table : Table) (from to : ℕ) (seen : Seen) : Type 0 where
-  pub views : views_below c table from ++ seen.views ≡ views_below c table to
+  pub views : views_below c table from ++ joined seen ≡ views_below c table to
   pub packets : packets_below c table from + seen.packets ≡ packets_below c table to
   pub used : used_below c table from + seen.used ≡ used_below c table to
   pub marks : marks_below c table from + seen.marks ≡ marks_below c table to
@@ -139,7 +143,7 @@ ArePartsOf c outs size parts = (k : ℕ) (d : Result Seen NoMemory) → k < MOST
 
 -- what is seen at more terminals was added
 pub record AddsSeen (part old new : Seen) : Type 0 where
-  pub views : new.views ≡ old.views ++ part.views
+  pub views : joined new ≡ joined old ++ joined part
   pub packets : new.packets ≡ old.packets + part.packets
   pub used : new.used ≡ old.used + part.used
   pub marks : new.marks ≡ old.marks + part.marks

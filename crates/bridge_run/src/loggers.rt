@@ -1,4 +1,4 @@
-//! The mixer of a conference whose packets are recorded.
+//! The mixer of a conference whose packets are noted in a log.
 ghost use Rattle.std.specs.Prelude.{◌≡◌, length, IfOk};
 ghost use Rattle.conference.specs.Conferences.{conf_of};
 ghost use Rattle.mixer_turn.specs.States.{legs_of};
@@ -11,8 +11,8 @@ use mixer_turn::{Batch, Mixer};
 use rtt_base::NoMemory;
 use std::alloc::Global;
 
-/// The mixer of this conference, of which no leg came, with empty recordings. It takes all memory that it ever needs but that of
-/// the recordings.
+/// The mixer of this conference, of which no leg came, with a log in which nothing is noted. It takes all memory that it ever
+/// needs but that of the log.
 pub(crate) fn recording_mixer(alloc: Global, conf: &Conf) -> Result<Sending<Log>, NoMemory>
     ensures legs { IfOk result (λ sending. legs_of sending.mixer ≡ length conf.now.legs) }
     ensures turns { IfOk result (λ sending. sending.mixer.turns ≡ 0) }
@@ -24,7 +24,7 @@ pub(crate) fn recording_mixer(alloc: Global, conf: &Conf) -> Result<Sending<Log>
     let Ok(batch) = Batch::new(alloc) else {
         return Err(NoMemory);
     };
-    let Ok(log) = Log::new(alloc, conf.legs.len()) else {
+    let Ok(log) = Log::new(alloc, conf) else {
         return Err(NoMemory);
     };
     Ok(Sending::new(mixer, batch, log))

@@ -1,74 +1,63 @@
-//! What was sent, as it will be written.
-ghost use Rattle.std.specs.Prelude.{◌≡◌, ◌<◌, ◌≤◌, length, IfOk, OnOk, OnErr};
-ghost use Rattle.bridge_run.specs.Logs.{AllOpen, with_record};
+//! What was sent, as it will be heard and written.
+ghost use Rattle.std.specs.Prelude.{◌≡◌, IfOk};
+ghost use Rattle.conference.specs.Conferences.{conf_of};
+ghost use Rattle.bridge_run.specs.Logs.{IsNew};
 
-use mixer_posts::Outbound;
+use conference::Conf;
+use mixer_posts::{Outbound, sources_to, stream_to};
 use mixer_turn::Post;
-use rtpdump_io::{write_opening, write_record};
-use rtt_base::{Bytes, NoMemory};
+use rtt_base::NoMemory;
+use sent_log::SentLog;
 use std::alloc::Global;
 use std::marker::Model;
 
-/// What was sent to each terminal: the octets of a recording.
+/// What was sent to each terminal of a conference.
 #[derive(Drop)]
 pub(crate) struct Log {
-    outs: Vec<Bytes>,
+    sent: SentLog,
 }
 
 impl Model for Log {
-    ghost use Rattle.std.specs.Prelude.{ℕ, List};
+    ghost use Rattle.sent_log.specs.States.{State};
 
-    ghost Value = { List (List ℕ) };
+    ghost Value = { State };
 
-    ghost view = { λ l. l.outs.items };
+    ghost view = { λ l. l.sent };
 }
 
 impl Log {
-    /// Recordings to so many terminals, without a packet.
-    pub(crate) fn new(alloc: Global, terminals: usize) -> Result<Log, NoMemory>
-        ensures terminals { IfOk result (λ log. length log ≡ terminals) }
-        ensures open { IfOk result AllOpen }
+    /// A log of this conference's terminals, to which nothing was sent.
+    pub(crate) fn new(alloc: Global, conf: &Conf) -> Result<Log, NoMemory>
+        ensures { IfOk result (IsNew (conf_of conf.now)) }
     {
-        let mut outs = Vec::with_capacity(alloc, terminals)?;
-        for _ in 0..terminals {
-            let mut out = Bytes::new(alloc);
-            write_opening(&mut out)?;
-            outs.push(out)?;
+        let mut sent = SentLog::new(alloc, conf.legs.len())?;
+        for own in 0..conf.legs.len() {
+            let stream = stream_to(conf, own);
+            let sources = sources_to(alloc, conf, own)?;
+            sent.add(alloc, stream, sources)?;
         }
-        Ok(Log { outs })
+        Ok(Log { sent })
     }
 
-    /// Appends a packet of 1 to 65527 octets that is sent at `at` (milliseconds). After `NoMemory` all is as before.
-    fn append(&mut self, terminal: usize, at: u32, packet: &[u8]) -> Result<(), NoMemory>
-        requires terminal { terminal < length self.old }
-        requires some { 0 < length packet.now }
-        requires fits { length packet.now ≤ 65527 }
-        ensures ok { OnOk result (self.new ≡ with_record self.old terminal at packet.now) }
-        ensures err { OnErr result (self.new ≡ self.old) }
+    /// What was sent.
+    pub(crate) fn into_sent(self) -> SentLog
+        ensures { result ≡ self }
     {
-        let out = &mut self.outs[terminal];
-        write_record(at, packet, out)
-    }
-
-    /// All recordings, by terminal.
-    pub(crate) fn into_recordings(self) -> Vec<Bytes>
-        ensures { result.items ≡ self }
-    {
-        let Log { outs } = self;
-        outs
+        let Log { sent } = self;
+        sent
     }
 }
 
 impl Outbound for Log {
     ghost use Rattle.std.proofs.Common.{rules};
-    ghost use Rattle.std.specs.Prelude.{◌^◌, [], length};
-    ghost use Rattle.bridge_run.specs.Logs.{HasSent};
+    ghost use Rattle.std.specs.Prelude.{◌^◌, []};
+    ghost use Rattle.bridge_run.specs.Logs.{HasSent, sources_in};
 
     type Fault = NoMemory;
 
-    ghost took = { λ log sent. HasSent log sent };
+    ghost took = { λ log s pts posts. HasSent s pts log posts };
 
-    ghost terminals = { λ log. length log };
+    ghost sources = { λ log. sources_in log };
 
     ghost addresses = { λ log. [] };
 
@@ -77,7 +66,9 @@ impl Outbound for Log {
     ghost unsent = { λ log why. Unit {0} };
 
     fn send(&mut self, now: u64, post: &Post) -> Result<(), NoMemory> {
-        self.append(post.terminal, now as u32, post.packet.as_slice())
+        let text = post.text.as_slice();
+        self.sent
+            .send(post.terminal, now as u32, post.media, post.source, text)
     }
 
     ghost in_time = { Prim.search rules };

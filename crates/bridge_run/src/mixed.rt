@@ -1,14 +1,15 @@
 //! What a mixing makes, and why it may make nothing.
 use rtpdump_io::DumpFault;
 use rtt_base::Bytes;
+use sent_files::SentFiles;
 
 /// What a mixing makes. The numbers are sums over all terminals.
 #[derive(Drop)]
 pub struct Mixed {
-    /// What is seen at the terminals, in leg order.
-    pub views: Bytes,
-    /// The recording to each terminal, in leg order.
-    pub outs: Vec<Bytes>,
+    /// What is seen at the terminals, in leg order, one view behind the other.
+    pub views: Vec<Bytes>,
+    /// What was sent to each terminal, in leg order, ready to be written.
+    pub outs: SentFiles,
     /// How many packets came.
     pub packets: u64,
     /// How many of them were used.

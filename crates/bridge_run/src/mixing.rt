@@ -1,11 +1,13 @@
 //! A conference is mixed.
 ghost use Rattle.std.specs.Prelude.{◌≡◌, All, length, IfOk, IfErr, OnOk};
+ghost use Rattle.std.specs.List.{concat};
 ghost use Rattle.rtt_io.specs.Names.{NoneFalls, Same};
 ghost use Rattle.mixer_spec.specs.Bridged.{input_limit};
 ghost use Rattle.conference.specs.Conferences.{conf_of};
 ghost use Rattle.leg_items.specs.Answers.{AllNew};
-ghost use Rattle.played.specs.Written.{IsWritten};
+ghost use Rattle.played.specs.Written.{IsPlayable};
 ghost use Rattle.bridge_run.specs.Answered.{AreKept, HasOutputs, IsOfLegs, MixesAsked, MixesTo, NoReadFailed};
+ghost use Rattle.sent_files.specs.Files.{recordings_of};
 ghost use Rattle.bridge_run.specs.Mixes.{IsFirstIn, IsMade, NoneFailedIn, StopsIn, counted};
 ghost use Rattle.bridge_run.specs.Viewed.{AreSumsOf, AreViewsOf};
 
@@ -22,6 +24,7 @@ use mix_loop::Mixing;
 use mixer_spec::limits::MOST_INPUT_OF_MANY;
 use rtt_base::Bytes;
 use rtt_io::{Gate, Source, World};
+use sent_files::SentFiles;
 use std::alloc::Global;
 use std::sync::Wait;
 use std::thread::Threads;
@@ -38,17 +41,19 @@ pub fn input_limit(conf: &Conf) -> u32
     }
 }
 
-/// What a mixing makes whose packets were recorded so.
+/// What a mixing makes whose log has what was sent.
 fn made<R: Threads + Sync>(rt: &R, alloc: Global, conf: &Conf, log: Log) -> Result<Mixed, MixFault>
     requires legs { length log ≡ length conf.now.legs }
-    requires written { All IsWritten log }
-    ensures views { IfOk result (λ mixed. AreViewsOf (conf_of conf.now) log mixed.views) }
-    ensures sums { IfOk result (λ mixed. AreSumsOf (conf_of conf.now) log (counted mixed)) }
-    ensures outs { IfOk result (λ mixed. mixed.outs.items ≡ log) }
+    requires sent { All IsPlayable log }
+    ensures views { IfOk result (λ mixed. AreViewsOf (conf_of conf.now) (recordings_of log) (concat mixed.views.items)) }
+    ensures sums { IfOk result (λ mixed. AreSumsOf (conf_of conf.now) (recordings_of log) (counted mixed)) }
+    ensures outs { IfOk result (λ mixed. mixed.outs ≡ log) }
     ensures fault { IfErr result (λ fault. fault ≡ MixFault.NoMemory) }
 {
-    let outs = log.into_recordings();
-    let Ok(seen) = views_on_threads(rt, alloc, conf, outs.as_slice()) else {
+    let Ok(outs) = SentFiles::new(alloc, log.into_sent()) else {
+        return Err(MixFault::NoMemory);
+    };
+    let Ok(seen) = views_on_threads(rt, alloc, conf, outs.log()) else {
         return Err(MixFault::NoMemory);
     };
     let Seen {

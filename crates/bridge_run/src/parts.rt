@@ -1,29 +1,32 @@
 //! What is seen at the terminals of a conference, heard on several threads: each hears a part of the terminals.
-ghost use Rattle.std.specs.Prelude.{◌≡◌, ℕ, ◌+◌, ◌*◌, ◌/◌, ◌≤◌, ◌<◌, min, length, vec_len, All, IfOk, OnOk};
+ghost use Rattle.std.specs.Prelude.{◌≡◌, ℕ, ◌+◌, ◌*◌, ◌/◌, ◌≤◌, ◌<◌, ◌++◌, min, length, vec_len, All, IfOk, OnOk};
 ghost use Rattle.conference.specs.Conferences.{conf_of};
-ghost use Rattle.played.specs.Written.{IsWritten};
-ghost use Rattle.bridge_run.specs.Viewed.{AddsSeen, ArePartsOf, AreOf, AreSumsOf, AreViewsOf, IsPartOf, summed};
+ghost use Rattle.played.specs.Written.{IsPlayable};
+ghost use Rattle.sent_files.specs.Files.{recordings_of};
+ghost use Rattle.bridge_run.specs.Viewed.{AddsSeen, ArePartsOf, AreOf, AreSumsOf, AreViewsOf, IsPartOf, joined, summed};
 ghost use Rattle.bridge_run.specs.declared.parts.TheConstants.{MOST_PARTS};
 ghost use Rattle.file_spec.specs.declared.limits.TheConstants.{MOST_LEGS};
 
 use crate::views::{Seen, nothing_seen, views_between, views_of};
 use conference::Conf;
 use rtt_base::{Bytes, NoMemory};
+use sent_log::SentLog;
 use std::alloc::Global;
 use std::thread;
 use std::thread::Threads;
 
-/// How many parts there are, one for each thread.
-pub(crate) const MOST_PARTS: usize = 8;
+/// How many parts there are, one for each thread. A thread holds the text of one terminal beside its view, so few of them at
+/// once take little memory.
+pub(crate) const MOST_PARTS: usize = 4;
 
-/// From how many octets on, sent in all, threads are worth their start.
-const WORTH_THREADS: usize = 1_048_576;
+/// From how many packets on, sent to all terminals together, threads are worth their start.
+const WORTH_THREADS: usize = 4_000;
 
-/// How many octets these recordings have.
-fn octets_in(outs: &[Bytes]) -> usize {
+/// How many packets were sent, to all terminals together.
+fn packets_in(log: &SentLog) -> usize {
     let mut sum: usize = 0;
-    for out in outs {
-        sum = sum.saturating_add(out.len());
+    for terminal in 0..log.terminals() {
+        sum = sum.saturating_add(log.count(terminal));
     }
     sum
 }
@@ -50,19 +53,19 @@ fn begin_of(number: usize, size: usize, terminals: usize) -> usize
 fn part_of(
     alloc: Global,
     conf: &Conf,
-    outs: &[Bytes],
+    log: &SentLog,
     size: usize,
     number: usize,
 ) -> Result<Seen, NoMemory>
-    requires each { length outs.now ≡ length conf.now.legs }
-    requires written { All (λ out. IsWritten out) outs.now }
+    requires each { length log.now ≡ length conf.now.legs }
+    requires sent { All IsPlayable log.now }
     requires size { size ≤ MOST_LEGS }
     requires number { number < MOST_PARTS }
-    ensures { IfOk result (IsPartOf (conf_of conf.now) outs.now size number) }
+    ensures { IfOk result (IsPartOf (conf_of conf.now) (recordings_of log.now) size number) }
 {
-    let from = begin_of(number, size, outs.len());
-    let to = begin_of(number + 1, size, outs.len());
-    views_between(alloc, conf, outs, from, to)
+    let from = begin_of(number, size, log.terminals());
+    let to = begin_of(number + 1, size, log.terminals());
+    views_between(alloc, conf, log, from, to)
 }
 
 /// What is seen at the terminals of each part.
@@ -70,37 +73,53 @@ fn parts_of<R: Threads + Sync>(
     rt: &R,
     alloc: Global,
     conf: &Conf,
-    outs: &[Bytes],
+    log: &SentLog,
     size: usize,
 ) -> Result<Vec<Result<Seen, NoMemory>>, NoMemory>
-    requires each { length outs.now ≡ length conf.now.legs }
-    requires written { All (λ out. IsWritten out) outs.now }
+    requires each { length log.now ≡ length conf.now.legs }
+    requires sent { All IsPlayable log.now }
     requires size { size ≤ MOST_LEGS }
     ensures count { IfOk result (λ parts. vec_len parts ≡ MOST_PARTS) }
-    ensures parts { IfOk result (λ parts. ArePartsOf (conf_of conf.now) outs.now size parts.items) }
+    ensures parts { IfOk result (λ parts. ArePartsOf (conf_of conf.now) (recordings_of log.now) size parts.items) }
 {
     match thread::map_indices(
         rt,
         alloc,
         MOST_PARTS,
-        &|number| { part_of(alloc, conf, outs, size, number) },
+        &|number| { part_of(alloc, conf, log, size, number) },
     ) {
         Ok(parts) => Ok(parts),
         Err(_) => Err(NoMemory),
     }
 }
 
+/// Puts these pieces behind others.
+fn add_pieces(pieces: Vec<Bytes>, all: &mut Vec<Bytes>) -> Result<(), NoMemory>
+    ensures { OnOk result (all.new.items ≡ all.old.items ++ pieces.items) }
+{
+    for piece in pieces {
+        all.push(piece)?;
+    }
+    Ok(())
+}
+
 /// Adds what is seen at more terminals.
-fn add_part(part: &Seen, all: &mut Seen) -> Result<(), NoMemory>
-    requires part { AreOf MOST_LEGS part.now }
+fn add_part(part: Seen, all: &mut Seen) -> Result<(), NoMemory>
+    requires part { AreOf MOST_LEGS part }
     requires before { (n : ℕ) × (n < MOST_PARTS) × AreOf (MOST_LEGS * n) all.old }
-    ensures adds { OnOk result (AddsSeen part.now all.old all.new) }
+    ensures adds { OnOk result (AddsSeen part all.old all.new) }
     ensures with_it { OnOk result ((n : ℕ) → AreOf (MOST_LEGS * n) all.old → AreOf (MOST_LEGS * (n + 1)) all.new) }
 {
-    all.views.append(part.views.as_slice())?;
-    all.packets += part.packets;
-    all.used += part.used;
-    all.marks += part.marks;
+    let Seen {
+        views,
+        packets,
+        used,
+        marks,
+    } = part;
+    add_pieces(views, &mut all.views)?;
+    all.packets += packets;
+    all.used += used;
+    all.marks += marks;
     Ok(())
 }
 
@@ -109,19 +128,19 @@ fn views_by_parts<R: Threads + Sync>(
     rt: &R,
     alloc: Global,
     conf: &Conf,
-    outs: &[Bytes],
+    log: &SentLog,
 ) -> Result<Seen, NoMemory>
-    requires each { length outs.now ≡ length conf.now.legs }
-    requires written { All (λ out. IsWritten out) outs.now }
-    ensures views { IfOk result (λ seen. AreViewsOf (conf_of conf.now) outs.now seen.views) }
-    ensures sums { IfOk result (λ seen. AreSumsOf (conf_of conf.now) outs.now (summed seen)) }
+    requires each { length log.now ≡ length conf.now.legs }
+    requires sent { All IsPlayable log.now }
+    ensures views { IfOk result (λ seen. AreViewsOf (conf_of conf.now) (recordings_of log.now) (joined seen)) }
+    ensures sums { IfOk result (λ seen. AreSumsOf (conf_of conf.now) (recordings_of log.now) (summed seen)) }
 {
-    let size = part_size(outs.len());
-    let parts = parts_of(rt, alloc, conf, outs, size)?;
+    let size = part_size(log.terminals());
+    let parts = parts_of(rt, alloc, conf, log, size)?;
     let mut total = nothing_seen(alloc);
     for part in parts {
         let seen = part?;
-        add_part(&seen, &mut total)?;
+        add_part(seen, &mut total)?;
     }
     Ok(total)
 }
@@ -131,15 +150,15 @@ pub(crate) fn views_on_threads<R: Threads + Sync>(
     rt: &R,
     alloc: Global,
     conf: &Conf,
-    outs: &[Bytes],
+    log: &SentLog,
 ) -> Result<Seen, NoMemory>
-    requires each { length outs.now ≡ length conf.now.legs }
-    requires written { All (λ out. IsWritten out) outs.now }
-    ensures views { IfOk result (λ seen. AreViewsOf (conf_of conf.now) outs.now seen.views) }
-    ensures sums { IfOk result (λ seen. AreSumsOf (conf_of conf.now) outs.now (summed seen)) }
+    requires each { length log.now ≡ length conf.now.legs }
+    requires sent { All IsPlayable log.now }
+    ensures views { IfOk result (λ seen. AreViewsOf (conf_of conf.now) (recordings_of log.now) (joined seen)) }
+    ensures sums { IfOk result (λ seen. AreSumsOf (conf_of conf.now) (recordings_of log.now) (summed seen)) }
 {
-    if octets_in(outs) < WORTH_THREADS {
-        return views_of(alloc, conf, outs);
+    if packets_in(log) < WORTH_THREADS {
+        return views_of(alloc, conf, log);
     }
-    views_by_parts(rt, alloc, conf, outs)
+    views_by_parts(rt, alloc, conf, log)
 }

@@ -5,6 +5,7 @@ use file_spec::Form;
 use rtpdump_io::{write_opening, write_record};
 use rtt_base::{Bytes, NoMemory};
 use rtt_io::{Gate, MemWorld, StillGate};
+use sent_files::{SentFiles, in_memory};
 use std::alloc::Global;
 use std::sync::Wait;
 use std::sync::atomic::{AtomicBool, AtomicU64, Ordering};
@@ -190,19 +191,38 @@ fn mixed<R: Threads + Wait + Sync, G: Gate + Sync>(
     }
 }
 
-fn are_same(outs: &[Bytes], others: &[Bytes]) -> bool {
-    match (outs, others) {
-        ([a, outs @ ..], [b, others @ ..]) => {
-            a.as_slice() == b.as_slice() && are_same(outs, others)
+fn are_same(views: &[Bytes], others: &[Bytes]) -> bool {
+    match (views, others) {
+        ([a, views @ ..], [b, others @ ..]) => {
+            a.as_slice() == b.as_slice() && are_same(views, others)
         }
         ([], []) => true,
         _ => false,
     }
 }
 
-fn is_same(one: &Mixed, other: &Mixed) -> bool {
-    one.views.as_slice() == other.views.as_slice()
-        && are_same(one.outs.as_slice(), other.outs.as_slice())
+// Whether what was sent to each terminal is written alike.
+fn are_written_alike(
+    alloc: Global,
+    outs: &SentFiles,
+    others: &SentFiles,
+) -> Result<bool, NoMemory> {
+    if outs.terminals() != others.terminals() {
+        return Ok(false);
+    }
+    for terminal in 0..outs.terminals() {
+        let octets = in_memory(alloc, outs.log(), terminal)?;
+        let other = in_memory(alloc, others.log(), terminal)?;
+        if octets.as_slice() != other.as_slice() {
+            return Ok(false);
+        }
+    }
+    Ok(true)
+}
+
+fn is_same(alloc: Global, one: &Mixed, other: &Mixed) -> Result<bool, NoMemory> {
+    let alike = are_written_alike(alloc, &one.outs, &other.outs)?;
+    Ok(alike && are_same(one.views.as_slice(), other.views.as_slice()))
 }
 
 // Whether this gate missed nothing and the bytes are those without it.
@@ -216,7 +236,8 @@ fn meets<R: Threads + Wait + Sync>(rt: &R, alloc: Global) -> Result<bool, NoMemo
     };
     let plain = mixed(rt, alloc, &conf, &mut world, &StillGate)?;
     let held = mixed(rt, alloc, &conf, &mut world, &gate)?;
-    Ok(is_same(&plain, &held) && !gate.missed.load(Ordering::SeqCst))
+    let same = is_same(alloc, &plain, &held)?;
+    Ok(same && !gate.missed.load(Ordering::SeqCst))
 }
 
 fn goes_through<R: Threads + Wait + Sync>(rt: &R, alloc: Global) -> Result<bool, NoMemory> {
@@ -230,7 +251,8 @@ fn goes_through<R: Threads + Wait + Sync>(rt: &R, alloc: Global) -> Result<bool,
     let plain = mixed(rt, alloc, &conf, &mut world, &StillGate)?;
     let held = mixed(rt, alloc, &conf, &mut world, &gate)?;
     let all = gate.passed.load(Ordering::SeqCst) == 81;
-    Ok(is_same(&plain, &held) && all && !gate.missed.load(Ordering::SeqCst))
+    let same = is_same(alloc, &plain, &held)?;
+    Ok(same && all && !gate.missed.load(Ordering::SeqCst))
 }
 
 fn types_the_same<R: Threads + Wait + Sync>(rt: &R, alloc: Global) -> Result<bool, NoMemory> {
@@ -239,7 +261,7 @@ fn types_the_same<R: Threads + Wait + Sync>(rt: &R, alloc: Global) -> Result<boo
     add_typing(&mut world, alloc, &NAMES, 1001)?;
     let quick = mixed(rt, alloc, &conf, &mut world, &StillGate)?;
     let slow = mixed(rt, alloc, &conf, &mut world, &Slow)?;
-    Ok(is_same(&quick, &slow) && quick.packets > 1000)
+    Ok(is_same(alloc, &quick, &slow)? && quick.packets > 4000)
 }
 
 #[test]

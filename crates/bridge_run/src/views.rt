@@ -1,20 +1,23 @@
 //! What is seen at the terminals of a conference.
 ghost use Rattle.std.specs.Prelude.{◌≡◌, ℕ, ◌+◌, ◌^◌, ◌<◌, ◌≤◌, [], length, false, true, All, IfOk, OnOk};
 ghost use Rattle.conference.specs.Conferences.{conf_of};
-ghost use Rattle.played.specs.Written.{IsWritten};
-ghost use Rattle.bridge_run.specs.Viewed.{AddsCounts, AddsSent, AddsSentTo, AreOf, AreSeenBetween, AreSumsOf, AreViewsOf, HasFew, marks_of, summed, terminal_conf};
+ghost use Rattle.sent_log.specs.States.{OfTerminal};
+ghost use Rattle.played.specs.Written.{IsPlayable};
+ghost use Rattle.sent_files.specs.Files.{recording_at, recordings_of};
+ghost use Rattle.bridge_run.specs.Viewed.{AddsCounts, AddsSent, AddsSentTo, AreOf, AreSeenBetween, AreSumsOf, AreViewsOf, HasFew, joined, marks_of, summed, terminal_conf};
 ghost use Rattle.file_spec.specs.declared.limits.TheConstants.{MOST_LEGS};
 
 use conference::{Conf, LegLine, others};
 use played::played;
 use rtt_base::{Bytes, NoMemory};
+use sent_log::SentLog;
 use std::alloc::Global;
 use terminal::{TermConf, Terminal, View};
 
-/// What is seen at terminals, in leg order. The numbers are sums over them.
+/// What is seen at terminals, in leg order, one view behind the other. The numbers are sums over them.
 #[derive(Drop)]
 pub struct Seen {
-    pub views: Bytes,
+    pub views: Vec<Bytes>,
     /// How many packets came.
     pub packets: u64,
     /// How many of them were used.
@@ -59,18 +62,19 @@ fn count(terminal: &Terminal, seen: &mut Seen)
     seen.marks += marks_of(terminal);
 }
 
-/// Appends what is seen at an aware terminal, to which this recording was sent.
-fn append_aware(
+/// Adds what is seen at an aware terminal, of what the log has for it.
+fn add_aware(
     alloc: Global,
     conf: &Conf,
     own: usize,
-    recording: &[u8],
+    log: &SentLog,
     seen: &mut Seen,
 ) -> Result<(), NoMemory>
     requires own { own < length conf.now.legs }
-    requires written { IsWritten recording.now }
+    requires each { length log.now ≡ length conf.now.legs }
+    requires sent { OfTerminal log.now own IsPlayable }
     requires before { AreOf own seen.old }
-    ensures adds { OnOk result (AddsSentTo true (conf_of conf.now) own recording.now seen.old seen.new) }
+    ensures adds { OnOk result (AddsSentTo true (conf_of conf.now) own (recording_at log.now own) seen.old seen.new) }
     ensures with_it { OnOk result (AreOf (own + 1) seen.new) }
 {
     let leg = &conf.legs.as_slice()[own];
@@ -79,31 +83,34 @@ fn append_aware(
         alloc,
         conf_at(conf, leg),
         speakers.sources.as_slice(),
-        recording,
+        log,
+        own,
         conf.plan.as_slice(),
-        own as u8,
     )?;
     let view = View::Aware {
         name: &leg.name,
         names: speakers.names.as_slice(),
     };
-    terminal.append_view(alloc, view, &mut seen.views)?;
+    let mut octets = Bytes::new(alloc);
+    terminal.append_view(alloc, view, &mut octets)?;
+    seen.views.push(octets)?;
     count(&terminal, seen);
     Ok(())
 }
 
-/// Appends what is seen at another terminal, to which this recording was sent.
-fn append_unaware(
+/// Adds what is seen at another terminal, of what the log has for it.
+fn add_unaware(
     alloc: Global,
     conf: &Conf,
     own: usize,
-    recording: &[u8],
+    log: &SentLog,
     seen: &mut Seen,
 ) -> Result<(), NoMemory>
     requires own { own < length conf.now.legs }
-    requires written { IsWritten recording.now }
+    requires each { length log.now ≡ length conf.now.legs }
+    requires sent { OfTerminal log.now own IsPlayable }
     requires before { AreOf own seen.old }
-    ensures adds { OnOk result (AddsSentTo false (conf_of conf.now) own recording.now seen.old seen.new) }
+    ensures adds { OnOk result (AddsSentTo false (conf_of conf.now) own (recording_at log.now own) seen.old seen.new) }
     ensures with_it { OnOk result (AreOf (own + 1) seen.new) }
 {
     let leg = &conf.legs.as_slice()[own];
@@ -111,79 +118,83 @@ fn append_unaware(
         alloc,
         conf_at(conf, leg),
         &[conf.mixer.ssrc],
-        recording,
+        log,
+        own,
         conf.plan.as_slice(),
-        own as u8,
     )?;
-    terminal.append_view(alloc, View::Unaware { name: &leg.name }, &mut seen.views)?;
+    let view = View::Unaware { name: &leg.name };
+    let mut octets = Bytes::new(alloc);
+    terminal.append_view(alloc, view, &mut octets)?;
+    seen.views.push(octets)?;
     count(&terminal, seen);
     Ok(())
 }
 
-/// Appends what is seen at the terminal of a leg, to which this recording was sent.
-fn append_view(
+/// Adds what is seen at the terminal of a leg, of what the log has for it.
+fn add_view(
     alloc: Global,
     conf: &Conf,
     own: usize,
-    recording: &[u8],
+    log: &SentLog,
     seen: &mut Seen,
 ) -> Result<(), NoMemory>
     requires own { own < length conf.now.legs }
-    requires written { IsWritten recording.now }
+    requires each { length log.now ≡ length conf.now.legs }
+    requires sent { OfTerminal log.now own IsPlayable }
     requires before { AreOf own seen.old }
-    ensures adds { OnOk result (AddsSent (conf_of conf.now) own recording.now seen.old seen.new) }
+    ensures adds { OnOk result (AddsSent (conf_of conf.now) own (recording_at log.now own) seen.old seen.new) }
     ensures with_it { OnOk result (AreOf (own + 1) seen.new) }
 {
     if conf.legs.as_slice()[own].aware {
-        append_aware(alloc, conf, own, recording, seen)
+        add_aware(alloc, conf, own, log, seen)
     } else {
-        append_unaware(alloc, conf, own, recording, seen)
+        add_unaware(alloc, conf, own, log, seen)
     }
 }
 
 /// Of no terminal.
 pub(crate) fn nothing_seen(alloc: Global) -> Seen
-    ensures views { result.views ≡ [] }
+    ensures views { result.views.items ≡ [] }
     ensures packets { result.packets ≡ 0 }
     ensures used { result.used ≡ 0 }
     ensures marks { result.marks ≡ 0 }
 {
     Seen {
-        views: Bytes::new(alloc),
+        views: Vec::new(alloc),
         packets: 0,
         used: 0,
         marks: 0,
     }
 }
 
-/// What is seen at the terminals from `from` on and below `to`, where these are the recordings of what was sent to each.
+/// What is seen at the terminals from `from` on and below `to`, of what the log has for each.
 pub(crate) fn views_between(
     alloc: Global,
     conf: &Conf,
-    outs: &[Bytes],
+    log: &SentLog,
     from: usize,
     to: usize,
 ) -> Result<Seen, NoMemory>
-    requires each { length outs.now ≡ length conf.now.legs }
-    requires written { All (λ out. IsWritten out) outs.now }
+    requires each { length log.now ≡ length conf.now.legs }
+    requires sent { All IsPlayable log.now }
     requires order { from ≤ to }
-    requires within { to ≤ length outs.now }
-    ensures views { IfOk result (AreSeenBetween (conf_of conf.now) outs.now from to) }
+    requires within { to ≤ length log.now }
+    ensures views { IfOk result (AreSeenBetween (conf_of conf.now) (recordings_of log.now) from to) }
     ensures numbers { IfOk result (AreOf to) }
 {
     let mut seen = nothing_seen(alloc);
     for own in from..to {
-        append_view(alloc, conf, own, outs[own].as_slice(), &mut seen)?;
+        add_view(alloc, conf, own, log, &mut seen)?;
     }
     Ok(seen)
 }
 
-/// What is seen at the terminals of a conference, where these are the recordings of what was sent to each, in leg order.
-pub fn views_of(alloc: Global, conf: &Conf, outs: &[Bytes]) -> Result<Seen, NoMemory>
-    requires each { length outs.now ≡ length conf.now.legs }
-    requires written { All (λ out. IsWritten out) outs.now }
-    ensures views { IfOk result (λ seen. AreViewsOf (conf_of conf.now) outs.now seen.views) }
-    ensures sums { IfOk result (λ seen. AreSumsOf (conf_of conf.now) outs.now (summed seen)) }
+/// What is seen at the terminals of a conference, in leg order, of what the log has for each.
+pub fn views_of(alloc: Global, conf: &Conf, log: &SentLog) -> Result<Seen, NoMemory>
+    requires each { length log.now ≡ length conf.now.legs }
+    requires sent { All IsPlayable log.now }
+    ensures views { IfOk result (λ seen. AreViewsOf (conf_of conf.now) (recordings_of log.now) (joined seen)) }
+    ensures sums { IfOk result (λ seen. AreSumsOf (conf_of conf.now) (recordings_of log.now) (summed seen)) }
 {
-    views_between(alloc, conf, outs, 0, outs.len())
+    views_between(alloc, conf, log, 0, log.terminals())
 }

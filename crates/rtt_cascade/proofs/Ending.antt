@@ -1,6 +1,7 @@
 -- How a conference behind another mixer ends, from how its recording is split and its legs are mixed.
 use Rattle.std.proofs.Common.{◌≡◌, ℕ, zero, suc, ◌<◌, ◌≤◌, true, false, cond, Option, Some, None, List, [], ◌∷◌, length, Result, Ok, Err, refl, ap, sym, subst, ◌∙◌, inl, inr, arith}
 use Rattle.std.specs.Prelude.{IsSome, map, unwrap_or}
+use Rattle.std.specs.List.{concat}
 use Rattle.rtt_io.specs.Counts.{Rose}
 use Rattle.wire_spec.specs.Dump.{dump}
 use Rattle.rtpdump_io.specs.declared.items.DumpFault.{DumpFault}
@@ -23,6 +24,7 @@ use Rattle.cascade.specs.Splits.{recordings_of}
 use Rattle.bridge_run.specs.declared.mixed.MixFault.{MixFault}
 use Rattle.bridge_run.specs.declared.mixed.MixFault.TheVariants as mix
 use Rattle.bridge_run.specs.declared.mixed.Mixed.{Mixed}
+use Rattle.sent_files.specs.Files as sent
 use Rattle.bridge_run.specs.Mixes as bridge
 use Rattle.bridge_run.specs.Mixes.{outputs_of}
 use Rattle.bridge_run.specs.Answered.{AreMixed, MixesTo}
@@ -147,7 +149,7 @@ module _ (Told : Type 0) (held : Contents) (file : List ℕ) (ssrc : ℕ) (c : C
   made mixed told m =
       let a = are told in
       let texts : AreMixed c (texts_of held c.legs (splits_by (split_of (trunk_of c ssrc) a.octets) c.legs)) mixed = subst (λ (rs : List (List ℕ)). AreMixed c (texts_of held c.legs rs) mixed) a.are m.1 in
-      done_is held file ssrc c a.octets a.lies a.whole m.0 mixed.views (outputs_of c.legs mixed.outs.items) texts.makes
+      done_is held file ssrc c a.octets a.lies a.whole m.0 (concat mixed.views.items) (outputs_of c.legs (sent.recordings_of mixed.outs)) texts.makes
 
   -- an input of a leg that does not stand behind the other mixer
   own_input : (k : ℕ) (leg : LegLine) → leg_at c.legs k ≡ Some leg → is_on_trunk leg ≡ false → (Told → OwnLieBelow k held c.legs)

@@ -15,7 +15,7 @@ use Rattle.leg_core.specs.Gives.{Stands, LegPast}
 use Rattle.mix_loop.proofs.Lists.{get_within, lt_or_ge}
 use Rattle.leg_items.specs.declared.inlets.LegInlet.{LegInlet}
 use Rattle.leg_items.specs.Answers.{AllAsked, AllNew, read_well, source_in}
-use Rattle.mixer_turn.specs.Making.{pts_of}
+use Rattle.mixer_posts.specs.Streams.{pts_of}
 use Rattle.cascade.specs.declared.trunk_sources.TrunkSource.{TrunkSource}
 use Rattle.cascade.specs.declared.trunk_sources.TrunkSource.TheVariants.{Split, Below}
 use Rattle.cascade.specs.TrunkSources.{below, faults_in, left_in, name_in}

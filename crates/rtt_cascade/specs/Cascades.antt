@@ -1,5 +1,6 @@
 -- What a conference behind another mixer comes to, from what lies under the name of the recording and those of its own inputs.
 use Rattle.std.specs.Prelude.{◌≡◌, ◌≢◌, ℕ, false, true, None, Some, Result, Ok, Err, List, map}
+use Rattle.std.specs.List.{concat}
 use Rattle.wire_spec.specs.Dump.{dump}
 use Rattle.rtpdump_io.specs.declared.items.DumpFault.{DumpFault}
 use Rattle.rtpdump_io.specs.declared.items.RecordingFault.{RecordingFault}
@@ -17,6 +18,7 @@ use Rattle.cascade.specs.Splits.{recordings_of}
 use Rattle.bridge_run.specs.declared.mixed.MixFault.{MixFault}
 use Rattle.bridge_run.specs.declared.mixed.MixFault.TheVariants as mix
 use Rattle.bridge_run.specs.declared.mixed.Mixed.{Mixed}
+use Rattle.sent_files.specs.Files as sent
 use Rattle.bridge_run.specs.Mixes.{NoOtherFailed, RoseAt, outputs_of}
 use Rattle.rtt_cascade.specs.declared.faults.CascadeFault.{CascadeFault}
 use Rattle.rtt_cascade.specs.declared.faults.CascadeFault.TheVariants.{Open, Dump, TooLong, NoMemory}
@@ -72,7 +74,8 @@ outcome_behind held file ssrc c = outcome_from 1 held (cascades file ssrc c)
 
 -- These are the views and the outputs that it comes to.
 abbrev pub IsMadeBehind : Contents → List ℕ → ℕ → Conf → Mixed → Type 0
-IsMadeBehind held file ssrc c mixed = outcome_behind held file ssrc c ≡ Done mixed.views (outputs_of c.legs mixed.outs.items)
+IsMadeBehind held file ssrc c mixed =
+    outcome_behind held file ssrc c ≡ Done (concat mixed.views.items) (outputs_of c.legs (sent.recordings_of mixed.outs))
 
 -- The input of this number and name is refused at the byte of this fault, or its source failed. None before it is refused.
 pub record IsBroken (Told : Type 0) (Object : List ℕ → Type 0) (held : Contents) (file : List ℕ) (ssrc : ℕ) (c : Conf) (input : ℕ) (name : List ℕ) (fault : DumpFault) : Type 0 where

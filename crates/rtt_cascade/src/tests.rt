@@ -90,6 +90,15 @@ fn conf_of(alloc: Global) -> Result<Conf, NoMemory> {
     }
 }
 
+// All views, one behind the other.
+fn joined(alloc: Global, views: &[Bytes]) -> Result<Bytes, NoMemory> {
+    let mut all = Bytes::new(alloc);
+    for view in views {
+        all.append(view.as_slice())?;
+    }
+    Ok(all)
+}
+
 // What is seen of what lies there, or the fault.
 fn seen<R: Threads + Wait + Sync>(
     rt: &R,
@@ -101,7 +110,7 @@ fn seen<R: Threads + Wait + Sync>(
     add(alloc, &mut world, "b.out", lying.recording)?;
     add(alloc, &mut world, "cy.in", lying.cy)?;
     match cascade(rt, alloc, "b.out", 9000, &conf, &mut world, &StillGate) {
-        Ok(mixed) => Ok(Ok(mixed.views)),
+        Ok(mixed) => Ok(Ok(joined(alloc, mixed.views.as_slice())?)),
         Err(fault) => Ok(Err(fault)),
     }
 }

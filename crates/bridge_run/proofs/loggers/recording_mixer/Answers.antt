@@ -1,10 +1,13 @@
-use Rattle.std.proofs.Common.{[], List, ℕ, length, ap, subst, sym, ◌∙◌, arith}
+use Rattle.std.proofs.Common.{[], ap, subst, sym, ◌∙◌, length, arith}
+use Rattle.std.proofs.lemmas.List.{length-map}
 use Rattle.mixer_spec.specs.Setups.{setup}
 use Rattle.conference.specs.Conferences.{conf_of}
-use Rattle.mixer_turn.specs.Making.{pts_at}
 use Rattle.mixer_turn.specs.States.{State}
 use Rattle.mixer_turn.specs.Standing.{StandsFor}
-use Rattle.bridge_run.specs.Logs.{HasSent}
+use Rattle.mixer_posts.specs.Streams.{pts_at}
+use Rattle.sent_log.specs.States as logs
+use Rattle.sent_log.specs.States.{Sending}
+use Rattle.bridge_run.specs.Logs.{HasSent, sources_in}
 use Rattle.bridge_run.proofs.loggers.recording_mixer.Goals as goal
 
 pub returns-clause-stands : goal.returns-clause-stands
@@ -13,9 +16,9 @@ returns-clause-stands c =
     let made = c.new-4.ensures in
     let log = c.in-Ok-new-2.ensures in
     record {
-      stands = subst (λ (m : State). StandsFor (setup conf) (pts_at conf) m []) (sym made.mixer) c.in-Ok.ensures.stands;
-      sent = subst (λ (l : List (List ℕ)). HasSent l []) (sym made.outbound) (λ j low. log.«open» j low);
-      all = ap (λ (l : List (List ℕ)). length l) made.outbound ∙ (log.terminals ∙ c.len.ensures);
+      stands = subst (λ (m : State). StandsFor (setup conf) m []) (sym made.mixer) c.in-Ok.ensures.stands;
+      sent = subst (λ (l : logs.State). HasSent (setup conf) (pts_at conf) l []) (sym made.outbound) log.silent;
+      all = ap (λ (l : logs.State). length (sources_in l)) made.outbound ∙ (length-map c.in-Ok-new-2.log (λ (x : Sending). length x.sources) ∙ log.terminals);
       early = tt;
       few = omega arith;
     }

@@ -1,12 +1,17 @@
-use Rattle.std.proofs.Common.{sym, subst, ◌∙◌}
+use Rattle.std.proofs.Common.{subst, ◌∙◌}
+use Rattle.std.specs.List.{concat}
 use Rattle.conference.specs.Conferences.{conf_of}
-use Rattle.bridge_run.specs.Viewed.{AreSent}
+use Rattle.sent_log.specs.States.{State}
+use Rattle.sent_files.specs.Files.{recordings_of}
+use Rattle.bridge_run.specs.Viewed.{AreSumsOf, AreViewsOf, summed}
 use Rattle.bridge_run.proofs.mixing.made.Goals as goal
 
 pub returns-clause-views : goal.returns-clause-views
-returns-clause-views g c = λ table sent.
-    c.in-Ok.ensures.views table (subst (AreSent (conf_of c.args.conf.now) table) (sym (c.as_slice.ensures.value ∙ c.into_recordings-outs.ensures)) sent)
+returns-clause-views g c =
+    subst (λ (log : State). AreViewsOf (conf_of c.args.conf.now) (recordings_of log) (concat c.in-Ok-views_on_threads.seen.views.items))
+    (c.log.ensures ∙ (c.in-Ok.ensures ∙ c.into_sent.ensures)) c.in-Ok-views_on_threads.ensures.views
 
 pub returns-clause-sums : goal.returns-clause-sums
-returns-clause-sums g c = λ table sent.
-    c.in-Ok.ensures.sums table (subst (AreSent (conf_of c.args.conf.now) table) (sym (c.as_slice.ensures.value ∙ c.into_recordings-outs.ensures)) sent)
+returns-clause-sums g c =
+    subst (λ (log : State). AreSumsOf (conf_of c.args.conf.now) (recordings_of log) (summed c.in-Ok-views_on_threads.seen))
+    (c.log.ensures ∙ (c.in-Ok.ensures ∙ c.into_sent.ensures)) c.in-Ok-views_on_threads.ensures.sums

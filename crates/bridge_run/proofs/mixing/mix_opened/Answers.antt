@@ -1,4 +1,4 @@
-use Rattle.std.proofs.Common.{◌≡◌, ◌≤◌, ℕ, Result, Ok, Err, List, length, sym, ap, subst, ◌∙◌, arith, rules, ◌^◌}
+use Rattle.std.proofs.Common.{◌≡◌, ◌≤◌, Result, Ok, Err, List, length, sym, ap, subst, ◌∙◌, arith, rules, ◌^◌}
 use Rattle.std.specs.Prelude.{All, IfOk}
 use Rattle.std.proofs.lemmas.Nat.{mul-le}
 use Rattle.mixer_spec.specs.Setups.{setup}
@@ -15,11 +15,13 @@ use Rattle.leg_items.proofs.OfConfs.{stays_law}
 use Rattle.leg_lanes.specs.Mixings.{CanMix}
 use Rattle.mixer_turn.specs.States.{legs_of}
 use Rattle.mixer_posts.specs.States.{SendingState}
-use Rattle.mixer_turn.specs.Making.{pts_at}
-use Rattle.played.specs.Written.{IsWritten}
+use Rattle.mixer_posts.specs.Streams.{pts_at}
+use Rattle.sent_log.specs.States.{State}
+use Rattle.played.specs.Written.{IsPlayable}
+use Rattle.sent_files.specs.Files.{recordings_of}
 use Rattle.bridge_run.specs.declared.mixed.MixFault.TheVariants.{Dump, TooLong, NoMemory}
 use Rattle.bridge_run.specs.Viewed.{AreSent}
-use Rattle.bridge_run.proofs.Recorded.{HasMixed, all_sent, all_written, logged, many}
+use Rattle.bridge_run.proofs.Recorded.{HasMixed, all_playable, all_sent, logged, many}
 use Rattle.bridge_run.proofs.Answering.{all_kept, broken_refuses, is_answer, no_dump, of_legs, over_mixes, too_long_refuses}
 use Rattle.bridge_run.proofs.mixing.mix_opened.Goals as goal
 
@@ -34,7 +36,7 @@ mix_legs-mixing-requires g c =
     let few = conf.kept.legs.most in
     let tick : c.from-tick.result ≤ 400 = (let k = conf.kept.tick in let e = c.from-tick.ensures in omega (arith, e, k.high)) in
     let turns : c.from-turns.result ≤ 5000000 = (let k = conf.kept.turns in let e = c.from-turns.ensures in omega (arith, e, k.high)) in
-    let can : CanMix {M = SendingState (List (List ℕ))} (λ m. legs_of m.mixer) (λ m. m.mixer.turns) (2 ^ 32) c.args.legs c.as_slice-lines.result.now c.in-Ok.mixer c.from-tick.result c.from-turns.result =
+    let can : CanMix {M = SendingState State} (λ m. legs_of m.mixer) (λ m. m.mixer.turns) (2 ^ 32) c.args.legs c.as_slice-lines.result.now c.in-Ok.mixer c.from-tick.result c.from-turns.result =
     record {
       few = omega (arith, c.requires.legs, few, c.args.legs.ok.0);
       new = c.requires.new;
@@ -47,14 +49,14 @@ mix_legs-mixing-requires g c =
     } in
     search rules
 
-pub made-requires-clause-written : goal.made-requires-clause-written
-made-requires-clause-written g c =
+pub made-requires-clause-sent : goal.made-requires-clause-sent
+made-requires-clause-sent g c =
     let conf = conf_of c.args.conf.now in
     let x = c.mix_legs-mixing.ensures.mixed (setup conf) (pts_at conf) c.in-Ok.ensures.stands (sym c.requires.legs) (subst (λ lines. StayAs (setup conf) lines) (sym c.as_slice-lines.ensures) (stays_law conf)) in
     let m = c.mix_legs-mixing.result.mixer in
     let mixed : HasMixed conf m x.table = subst (λ (a : Mixing DumpFault memory.NoMemory). UnlessUnsent a (HasMixed conf m x.table)) c.in-Over.is x.mixed in
     let log = c.into_outbound-log.ensures in
-    let written : All IsWritten c.into_outbound-log.result = subst (λ l. All IsWritten l) (sym log) (all_written conf m x.table mixed) in
+    let playable : All IsPlayable c.into_outbound-log.result = subst (λ (l : State). All IsPlayable l) (sym log) (all_playable conf m x.table mixed) in
     search rules
 
 pub made-requires-clause-legs : goal.made-requires-clause-legs
@@ -64,7 +66,7 @@ made-requires-clause-legs g c =
     let m = c.mix_legs-mixing.result.mixer in
     let mixed : HasMixed conf m x.table = subst (λ (a : Mixing DumpFault memory.NoMemory). UnlessUnsent a (HasMixed conf m x.table)) c.in-Over.is x.mixed in
     let log = c.into_outbound-log.ensures in
-    let all : length c.into_outbound-log.result ≡ length c.args.conf.now.legs = ap (λ l. length l) log ∙ many conf m x.table mixed in
+    let all : length c.into_outbound-log.result ≡ length c.args.conf.now.legs = ap (λ (l : State). length l) log ∙ many conf m x.table mixed in
     search rules
 
 pub returns-in-Over-clause-mixes : goal.returns-in-Over-clause-mixes
@@ -78,7 +80,7 @@ returns-in-Over-clause-mixes g c = λ tells inputs count asks.
     over_mixes conf inputs count c.made.result x.table m.outbound (many conf m x.table mixed)
     (is_answer _ g.S.Source.tells g.S.Source.left g.S.Source.faults g.S.Source.name conf c.from-tick.result c.from-turns.result c.mix_legs-mixing.result.mixing c.args.legs.items c.mix_legs-mixing.result.legs.items c.mix_legs-mixing.result.mixer
     x c.from-tick.ensures c.from-turns.ensures mixing.Over c.in-Over.is tells inputs asks)
-    (logged conf m x.table mixed) (if_ok c.made.result _ _ (λ made f. f x.table (subst (λ l. AreSent conf x.table l) (sym log) sent)) c.made.ensures.views) (if_ok c.made.result _ _ (λ made f. f x.table (subst (λ l. AreSent conf x.table l) (sym log) sent)) c.made.ensures.sums)
+    (logged conf m x.table mixed) (if_ok c.made.result _ _ (λ made f. f x.table (subst (λ (l : State). AreSent conf x.table (recordings_of l)) (sym log) sent)) c.made.ensures.views) (if_ok c.made.result _ _ (λ made f. f x.table (subst (λ (l : State). AreSent conf x.table (recordings_of l)) (sym log) sent)) c.made.ensures.sums)
     (if_ok c.made.result _ _ (λ made e. e ∙ log) c.made.ensures.outs) c.made.ensures.fault
 
 pub returns-in-Over-clause-outs : goal.returns-in-Over-clause-outs
@@ -88,7 +90,7 @@ returns-in-Over-clause-outs g c =
     let m = c.mix_legs-mixing.result.mixer in
     let mixed : HasMixed conf m x.table = subst (λ (a : Mixing DumpFault memory.NoMemory). UnlessUnsent a (HasMixed conf m x.table)) c.in-Over.is x.mixed in
     let log = c.into_outbound-log.ensures in
-    if_ok c.made.result _ _ (λ made e. ap (λ xs. length xs) (e ∙ log) ∙ many conf m x.table mixed) c.made.ensures.outs
+    if_ok c.made.result _ _ (λ made e. ap (λ (l : State). length l) (e ∙ log) ∙ many conf m x.table mixed) c.made.ensures.outs
 
 pub returns-in-Over-clause-sources : goal.returns-in-Over-clause-sources
 returns-in-Over-clause-sources g c =

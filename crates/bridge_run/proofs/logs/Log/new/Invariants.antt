@@ -1,6 +1,10 @@
 use Rattle.std.proofs.Common.{◌≡◌, length}
-use Rattle.bridge_run.specs.Logs.{AllOpen}
+use Rattle.conference.specs.Conferences.{conf_of}
+use Rattle.bridge_run.proofs.Noting.{AreNew}
 use Rattle.bridge_run.proofs.logs.Log.new.Given as goal
 
-abbrev pub invariant-loop : goal.invariant-loop
-invariant-loop l = (length l.outs.items ≡ l.counter) × AllOpen l.outs.items
+abbrev pub invariant-loop-own : goal.invariant-loop-own
+invariant-loop-own l = record {
+  many : length l.sent ≡ l.own;
+  all : AreNew (conf_of l.conf) l.sent;
+}
