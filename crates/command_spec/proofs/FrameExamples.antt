@@ -9,7 +9,7 @@ use Rattle.wire_spec.specs.Rtp.{rtp, rtp_of_header}
 use Rattle.wire_spec.specs.Red.{red, headers_at, texts_at}
 use Rattle.frame_spec.specs.declared.kinds.FrameKind.TheVariants.{EndsInside, Length}
 use Rattle.frame_spec.specs.Frames.{frame_step, reading_from, reading_within}
-use Rattle.command_spec.specs.Words.{usual_pts}
+use Rattle.command_spec.specs.Usual.{usual_pts}
 use Rattle.command_spec.specs.Scripts.{Sending, events_before, first_from, first_end}
 use Rattle.command_spec.specs.Frames.{relay, channel}
 

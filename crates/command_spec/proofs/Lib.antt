@@ -1,6 +1,4 @@
 pub mod Views
-pub mod Examples
-mod WordExamples
 mod TranscriptExamples
 pub mod Ssrcs
 pub mod Reached

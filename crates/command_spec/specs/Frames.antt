@@ -10,7 +10,7 @@ use Rattle.frame_spec.specs.declared.limits.TheConstants.{FRAME_HEAD_OCTETS, END
 use Rattle.frame_spec.specs.Frames.{frames_written, read_frames}
 use Rattle.command_spec.specs.Reading.{usual_wait}
 use Rattle.command_spec.specs.Scripts.{Sending, InOrder, full_line, recording}
-use Rattle.command_spec.specs.Words.{usual_pts}
+use Rattle.command_spec.specs.Usual.{usual_pts}
 
 -- ---- `relay`
 

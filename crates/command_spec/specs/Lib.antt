@@ -1,3 +1,4 @@
+pub mod Usual
 pub mod Listing
 pub mod Reading
 pub mod Transcripts
@@ -8,10 +9,7 @@ pub mod Mixing
 pub mod Serving
 pub mod Sums
 pub mod Bridges
-pub mod Commands
 pub mod Messages
-pub mod Sent
-pub mod Words
 pub mod Draws
 pub mod Generated
 pub mod Making

@@ -1,4 +1,4 @@
--- How a command ends, the program's statuses, and what is told of a fault (profile). Each line ends with LF.
+-- How a command ends, the program's statuses, and how what is told is spelled (profile). Each line ends with LF.
 use Rattle.std.specs.Prelude.{ℕ, List, [], ◌++◌, Result, Ok, Err, codes, decimal}
 use Rattle.wire_spec.specs.declared.faults.DumpKind.{DumpKind}
 use Rattle.wire_spec.specs.declared.faults.DumpKind.TheVariants.{NotDump, BadLength, EndsInside, TooLong, TooLarge, Read}
@@ -103,10 +103,6 @@ refusal_message name (AtLine line kind) = line_message name line (conf_kind_name
 refusal_message name (AtTrunk line) = line_message name line (codes "Trunk")
 refusal_message name (AfterTurns turns) = turns_message turns
 
--- for words outside the word table
-abbrev pub usage : List ℕ
-usage = codes "usage: rtt_program read FILE SSRC [SOURCE [T140 RED]]\n       rtt_program list FILE [T140 RED]\n       rtt_program send SCRIPT OUT SSRC SEQ STAMP\n       rtt_program mix CONF\n       rtt_program attend CONF\n       rtt_program cascade FILE SSRC CONF\n       rtt_program make N\n       rtt_program live CONF\n       rtt_program watch CONF\n       rtt_program relay FRAMES OUT SSRC SEQ STAMP\n       rtt_program channel FILE SSRC OUT\n       rtt_program show FILE [T140 RED]\n       rtt_program script FILE SSRC [SOURCE [T140 RED]]\n       rtt_program version\n"
-
 -- the name of the program and its version
 abbrev pub version_line : List ℕ
 version_line = codes "rtt_program 0.1.0\n"
@@ -114,18 +110,3 @@ version_line = codes "rtt_program 0.1.0\n"
 -- what went wrong with the file or the leg of this name
 abbrev pub trouble : List ℕ → List ℕ → List ℕ
 trouble what name = what ++ (name ++ codes "\n")
-
--- what is told of a fault whose file or leg has this name
-abbrev pub fault_message : List ℕ → Fault → List ℕ
-fault_message name WrongWords = usage
-fault_message name (CannotOpen input) = trouble (codes "cannot open ") name
-fault_message name (CannotRead input) = trouble (codes "cannot read ") name
-fault_message name (Refused input refusal) = refusal_message name refusal
-fault_message name CannotPrint = codes "cannot write the output\n"
-fault_message name (CannotWrite output) = trouble (codes "cannot write ") name
-fault_message name (LinkFailed leg) = trouble (codes "link fault at leg ") name
-fault_message name NoMemory = codes "out of memory\n"
-
-abbrev pub message_of : List ℕ → Ending → List ℕ
-message_of name (Ok done) = []
-message_of name (Err fault) = fault_message name fault

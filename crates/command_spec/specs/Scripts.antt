@@ -11,7 +11,7 @@ use Rattle.stream_spec.specs.Own.{Stream, packet_after}
 use Rattle.stream_spec.specs.Typed.{Event, Text, Ask, Turned, sents, entries, waiting, has_more, history_typed}
 use Rattle.wire_spec.specs.SentPackets.{packet_written}
 use Rattle.stream_spec.specs.declared.limits.TheConstants.{MOST_WAITING_OCTETS}
-use Rattle.command_spec.specs.Words.{usual_pts}
+use Rattle.command_spec.specs.Usual.{usual_pts}
 use Rattle.command_spec.specs.declared.limits.TheConstants.{USUAL_INTERVAL}
 
 -- what sends a script: a stream, the least time between two packets in milliseconds, and the payload types

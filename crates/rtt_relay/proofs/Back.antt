@@ -12,7 +12,7 @@ use Rattle.text_sender.specs.declared.senders.SendConf.{SendConf}
 use Rattle.command_spec.specs.Scripts.{text_of_lines}
 use Rattle.command_spec.specs.Frames.{chunk_frame, channel_chunks, channel_frames, lines_from, lines_of}
 use Rattle.command_spec.specs.Reading.{usual_wait}
-use Rattle.command_spec.specs.Words.{usual_pts}
+use Rattle.command_spec.specs.Usual.{usual_pts}
 use Rattle.rtt_send.specs.Scripts.{IsEnd, recording_sent}
 use Rattle.rtt_send.specs.Recordings.{IsReadable}
 use Rattle.rtt_send.proofs.Heard.{script_heard}

@@ -8,7 +8,7 @@ use Rattle.leg_core.specs.declared.legs.Leg.{Leg}
 use Rattle.leg_core.specs.Gives.{Stands, begins}
 use Rattle.command_spec.specs.Frames.{channel, channel_file}
 use Rattle.command_spec.specs.Reading.{usual_wait}
-use Rattle.command_spec.specs.Words.{usual_pts}
+use Rattle.command_spec.specs.Usual.{usual_pts}
 use Rattle.wire_spec.specs.declared.faults.DumpKind.TheVariants.{Read}
 use Rattle.rtt_relay.specs.declared.faults.ChannelFault.{ChannelFault}
 use Rattle.rtt_relay.specs.declared.faults.ChannelFault.TheVariants.{Dump, Refused, NoMemory}

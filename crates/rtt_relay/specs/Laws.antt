@@ -6,7 +6,7 @@ use Rattle.text_sender.specs.declared.senders.SendConf.{SendConf}
 use Rattle.rtt_send.specs.Scripts.{IsEnd, recording_sent}
 use Rattle.rtt_send.specs.Recordings.{IsReadable}
 use Rattle.command_spec.specs.Frames.{channel_frames, lines_of}
-use Rattle.command_spec.specs.Words.{usual_pts}
+use Rattle.command_spec.specs.Usual.{usual_pts}
 
 abbrev pub text_of_frames : List Frame → List ℕ
 text_of_frames fs = flat_map (λ f. f.text) fs

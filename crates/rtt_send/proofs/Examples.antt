@@ -3,7 +3,7 @@ use Rattle.std.proofs.Common.{◌≡◌, ℕ, List, [], ◌∷◌, ◌++◌, Non
 use Rattle.std.specs.Prelude.{codes, ◌+◌, ◌-◌, ◌*◌, nat_lt, if◌then◌else◌}
 use Rattle.wire_spec.specs.Dump.{dump_opening}
 use Rattle.file_spec.specs.Script.{ScriptLine}
-use Rattle.command_spec.specs.Words.{usual_pts}
+use Rattle.command_spec.specs.Usual.{usual_pts}
 use Rattle.command_spec.specs.Scripts.{Sending, events_before, full_line, first_from, first_end, recording}
 
 -- octets in hexadecimal digits

@@ -4,7 +4,8 @@ use Rattle.std.specs.Prelude.{if◌then◌else◌}
 use Rattle.std.specs.List.{list_all}
 use Rattle.std.specs.Option.{option_map}
 use Rattle.file_spec.specs.Numbers.{number, most_ssrc}
-use Rattle.command_spec.specs.Words.{channel_words, is_word, list_of, list_words, make_words, mix_words, payload_types, read_of, read_words, send_of, send_words, usual_pts, version_words}
+use Rattle.command_spec.specs.Usual.{usual_pts}
+use Rattle.rtt_words.specs.Words.{channel_words, is_word, list_of, list_words, make_words, mix_words, payload_types, read_of, read_words, send_of, send_words, version_words}
 use Rattle.clap.specs.Walk.{Text, first_of, nothing_held, rows_after}
 use Rattle.clap.specs.Simple.{App, Shape, built, matches_of}
 use Rattle.clap.specs.Kinds.{Kinds}

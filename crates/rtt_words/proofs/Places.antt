@@ -4,7 +4,7 @@ use Rattle.std.specs.Prelude.{fold, find, ◌==◌, is_some, if◌then◌else◌
 use Rattle.std.specs.Str.{bytes_eq}
 use Rattle.std.specs.List.{list_all}
 use Rattle.std.specs.Option.{option_map_or}
-use Rattle.command_spec.specs.Words.{is_word}
+use Rattle.rtt_words.specs.Words.{is_word}
 use Rattle.clap.specs.Lexer.{long_of, short_of}
 use Rattle.clap.specs.Walk.{Held, Rule, Row, Text, Walk, idle, value, arg_by_index, is_multiple, next_position, nothing_held, positional_held, rows_after, settled, finished, to_positional, walked}
 use Rattle.clap.specs.Simple.{App, Shape, entered}

@@ -9,7 +9,8 @@ use Rattle.std.specs.Str.{bytes_eq}
 use Rattle.std.proofs.lemmas.List.{take_rest}
 use Rattle.rtt_base.specs.declared.text_packets.Pts.{Pts}
 use Rattle.file_spec.specs.Numbers.{is_number, number, most_ssrc, payload_type}
-use Rattle.command_spec.specs.Words.{Read, ListRecords, Send, Cascade, Live, Watch, Relay, Channel, ChannelWords, Show, Script, Command, before_conf, cascade_words, channel_words, command, if_different, is_word, list_of, list_words, make_words, Make, mix_words, Mix, Attend, payload_types, read_of, read_words, send_of, send_words, usual_pts, version_words}
+use Rattle.command_spec.specs.Usual.{usual_pts}
+use Rattle.rtt_words.specs.Words.{Read, ListRecords, Send, Cascade, Live, Watch, Relay, Channel, ChannelWords, Show, Script, Command, before_conf, cascade_words, channel_words, command, if_different, is_word, list_of, list_words, make_words, Make, mix_words, Mix, Attend, payload_types, read_of, read_words, send_of, send_words, version_words}
 
 abbrev Text : Type 0
 Text = List ℕ

@@ -10,7 +10,8 @@ use Rattle.rtt_words.specs.declared.words.WordFault.TheVariants.{Wrong, NoMemory
 use Rattle.clap.specs.Simple.{on_top}
 use Rattle.rtt_base.specs.declared.text_packets.Pts.{Pts}
 use Rattle.file_spec.specs.Numbers.{number, number_between, most_ssrc}
-use Rattle.command_spec.specs.Words.{ReadWords, ListWords, SendWords, MixWords, ChannelWords, Command, Make, Version, is_word, payload_types, usual_pts, read_of, list_of, send_of}
+use Rattle.command_spec.specs.Usual.{usual_pts}
+use Rattle.rtt_words.specs.Words.{ReadWords, ListWords, SendWords, MixWords, ChannelWords, Command, Make, Version, is_word, payload_types, read_of, list_of, send_of}
 
 -- a refusal of `clap`, by its kind
 abbrev pub fault_by : ErrorKind → WordFault

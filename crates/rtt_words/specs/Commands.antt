@@ -1,5 +1,5 @@
 -- What the words of the code mean.
-use Rattle.command_spec.specs.Words as words
+use Rattle.rtt_words.specs.Words as words
 use Rattle.rtt_words.specs.declared.commands.ReadWords.{ReadWords}
 use Rattle.rtt_words.specs.declared.commands.ListWords.{ListWords}
 use Rattle.rtt_words.specs.declared.commands.SendWords.{SendWords}

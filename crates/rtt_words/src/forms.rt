@@ -1,7 +1,7 @@
 //! The arguments of each command, and what they ask for.
 ghost use Rattle.std.specs.Prelude.{◌≡◌, false, codes};
 ghost use Rattle.clap.specs.Words.{app_of, first_value, found_of, new_rule, rule_of};
-ghost use Rattle.command_spec.specs.Words.{payload_types};
+ghost use Rattle.rtt_words.specs.Words.{payload_types};
 ghost use Rattle.rtt_words.specs.Apps.{bare_app, pts_given, required_rule};
 
 use crate::arguments::Arguments;
@@ -61,7 +61,7 @@ fn pts_matched(matches: &ArgMatches<'_>) -> Option<Pts>
 }
 
 impl<'a> Arguments<'a> for ReadWords<'a> {
-    ghost use Rattle.command_spec.specs.Words as table;
+    ghost use Rattle.rtt_words.specs.Words as table;
     ghost use Rattle.rtt_words.specs.Apps.{read_given};
     ghost use Rattle.rtt_words.specs.Commands.{asked};
 
@@ -101,7 +101,7 @@ impl<'a> Arguments<'a> for ReadWords<'a> {
 }
 
 impl<'a> Arguments<'a> for ListWords<'a> {
-    ghost use Rattle.command_spec.specs.Words as table;
+    ghost use Rattle.rtt_words.specs.Words as table;
     ghost use Rattle.rtt_words.specs.Apps.{list_given};
     ghost use Rattle.rtt_words.specs.Commands.{listed};
 
@@ -130,7 +130,7 @@ impl<'a> Arguments<'a> for ListWords<'a> {
 }
 
 impl<'a> Arguments<'a> for SendWords<'a> {
-    ghost use Rattle.command_spec.specs.Words as table;
+    ghost use Rattle.rtt_words.specs.Words as table;
     ghost use Rattle.rtt_words.specs.Apps.{send_given};
     ghost use Rattle.rtt_words.specs.Commands.{sent};
 
@@ -170,7 +170,7 @@ impl<'a> Arguments<'a> for SendWords<'a> {
 }
 
 impl<'a> Arguments<'a> for MixWords<'a> {
-    ghost use Rattle.command_spec.specs.Words as table;
+    ghost use Rattle.rtt_words.specs.Words as table;
     ghost use Rattle.rtt_words.specs.Apps.{mix_given};
     ghost use Rattle.rtt_words.specs.Commands.{mixed};
 
@@ -195,7 +195,7 @@ impl<'a> Arguments<'a> for MixWords<'a> {
 }
 
 impl<'a> Arguments<'a> for MakeWords {
-    ghost use Rattle.command_spec.specs.Words as table;
+    ghost use Rattle.rtt_words.specs.Words as table;
     ghost use Rattle.rtt_words.specs.Apps.{make_given};
     ghost use Rattle.rtt_words.specs.Commands.{made};
 
@@ -220,7 +220,7 @@ impl<'a> Arguments<'a> for MakeWords {
 }
 
 impl<'a> Arguments<'a> for ChannelWords<'a> {
-    ghost use Rattle.command_spec.specs.Words as table;
+    ghost use Rattle.rtt_words.specs.Words as table;
     ghost use Rattle.rtt_words.specs.Apps.{channel_given};
     ghost use Rattle.rtt_words.specs.Commands.{channelled};
 
@@ -254,7 +254,7 @@ impl<'a> Arguments<'a> for ChannelWords<'a> {
 pub(crate) struct NoWords;
 
 impl<'a> Arguments<'a> for NoWords {
-    ghost use Rattle.command_spec.specs.Words as table;
+    ghost use Rattle.rtt_words.specs.Words as table;
     ghost use Rattle.rtt_words.specs.Apps.{version_given};
 
     ghost Meant = { table.Command };

@@ -1,7 +1,7 @@
 //! Reads command words.
 ghost use Rattle.std.specs.Prelude.{◌≡◌, ◌∷◌, Some, None, map, string_bytes, IfOk, drop};
 ghost use Rattle.std.specs.List.{list_all};
-ghost use Rattle.command_spec.specs.Words.{command, is_word, cascade_words};
+ghost use Rattle.rtt_words.specs.Words.{command, is_word, cascade_words};
 ghost use Rattle.rtt_words.specs.Apps.{ArePlain};
 ghost use Rattle.rtt_words.specs.Commands.{cascaded, meaning};
 

@@ -3,7 +3,7 @@ use Rattle.std.specs.Prelude.{ℕ, Bool, false, not, Option, None, Some, List, [
 use Rattle.std.specs.Option.{option_map}
 use Rattle.rtt_base.specs.declared.text_packets.Pts.{Pts}
 use Rattle.file_spec.specs.Numbers.{number, number_between, most_ssrc, pts}
-use Rattle.file_spec.specs.declared.limits.TheConstants.{USUAL_T140, USUAL_RED}
+use Rattle.command_spec.specs.Usual.{usual_pts}
 
 -- what `read` and `script` are asked for: the text of a source in the packets of an SSRC of a recording, under two payload types
 pub record ReadWords : Type 0 where
@@ -66,10 +66,6 @@ pub data Command : Type 0 where
 abbrev pub is_word : List ℕ → Bool
 is_word [] = false
 is_word (c ∷ cs) = not (c == 45)
-
--- where no payload types are named
-abbrev pub usual_pts : Pts
-usual_pts = record { t140 = USUAL_T140; red = USUAL_RED }
 
 abbrev pub if_different : Pts → Option Pts
 if_different p = if p.t140 == p.red then None else Some p

@@ -1,6 +1,6 @@
 -- Worked examples of command words, by computing.
 use Rattle.std.proofs.Common.{◌≡◌, refl, [], ◌∷◌, None, Some, codes}
-use Rattle.command_spec.specs.Words.{command, Read, ListRecords, Send, Mix, Attend, Cascade, Make, Live, Watch, Relay, Channel, Show, Script, Version}
+use Rattle.rtt_words.specs.Words.{command, Read, ListRecords, Send, Mix, Attend, Cascade, Make, Live, Watch, Relay, Channel, Show, Script, Version}
 
 read_a_source : command (codes "read" ∷ codes "a.rtp" ∷ codes "1001" ∷ []) ≡ Some (Read (record { file = codes "a.rtp"; ssrc = 1001; source = 1001; pts = record { t140 = 98; red = 100 } }))
 read_a_source = refl

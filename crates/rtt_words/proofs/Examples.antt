@@ -3,12 +3,13 @@ use Rattle.std.proofs.Common.{◌≡◌, ℕ, Some, None, List, [], ◌∷◌, r
 use Rattle.std.specs.Prelude.{codes}
 use Rattle.wire_spec.specs.Dump.{dump, dump_opening, opening}
 use Rattle.wire_spec.specs.declared.faults.DumpKind.TheVariants.{NotDump}
-use Rattle.command_spec.specs.Words.{Read, ListRecords, Send, Version, usual_pts}
+use Rattle.command_spec.specs.Usual.{usual_pts}
+use Rattle.rtt_words.specs.Words.{Read, ListRecords, Send, Version}
 use Rattle.command_spec.specs.declared.faults.Refusal.TheVariants.{AtByte}
 use Rattle.command_spec.specs.Scripts.{events_before, first_from, first_end}
 use Rattle.command_spec.specs.Work.{Contents}
 use Rattle.command_spec.specs.Outcomes.{outcome, Missing, Refused, Done}
-use Rattle.command_spec.specs.Commands.{work}
+use Rattle.rtt_words.specs.Tasks.{work}
 use Rattle.command_spec.specs.Messages.{version_line}
 
 -- under each name lie these octets

@@ -3,12 +3,12 @@ use Rattle.std.specs.Prelude.{◌≡◌, ◌<◌, ◌^◌, ℕ, Some, List, map,
 use Rattle.wire_spec.specs.Text.{text_of}
 use Rattle.file_spec.specs.Script.{ScriptLine}
 use Rattle.file_spec.specs.Script.{script}
-use Rattle.command_spec.specs.Words.{SendWords}
+use Rattle.rtt_words.specs.Words.{SendWords}
 use Rattle.stream_spec.specs.History.{History, Lawful, placed}
 use Rattle.stream_spec.specs.Own.{Own, Closed, own_packet}
 use Rattle.stream_spec.specs.Typed.{primaries}
 use Rattle.command_spec.specs.Scripts.{history, recording, records_sent, first_end, text_of_lines}
-use Rattle.command_spec.specs.Commands.{sending_of}
+use Rattle.rtt_words.specs.Tasks.{sending_of}
 
 -- the history of what is sent of these lines
 abbrev pub script_history : SendWords → List ScriptLine → History

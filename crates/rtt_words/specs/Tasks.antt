@@ -6,7 +6,7 @@ use Rattle.file_spec.specs.declared.kinds.ConfKind.TheVariants.{Full}
 use Rattle.file_spec.specs.Script.{ScriptLine}
 use Rattle.file_spec.specs.Lines as lines
 use Rattle.file_spec.specs.Script.{script}
-use Rattle.command_spec.specs.Words.{ReadWords, SendWords, Command, Read, ListRecords, Send, Mix, Attend, Cascade, Make, Live, Watch, Relay, Channel, Show, Script, Version}
+use Rattle.rtt_words.specs.Words.{ReadWords, SendWords, Command, Read, ListRecords, Send, Mix, Attend, Cascade, Make, Live, Watch, Relay, Channel, Show, Script, Version}
 use Rattle.command_spec.specs.declared.faults.Refusal.TheVariants.{AtByte, AtFrame, AtLine}
 use Rattle.command_spec.specs.declared.requests.ReadRequest.{ReadRequest}
 use Rattle.command_spec.specs.Attending.{attending}
