@@ -15,7 +15,7 @@ use Rattle.mixer_spec.specs.Plain.{plain}
 use Rattle.mixer_spec.specs.Bridged.{input_limit, leg_chunks}
 use Rattle.command_spec.specs.declared.faults.Refusal.TheVariants.{AtByte}
 use Rattle.command_spec.specs.declared.faults.Fault.TheVariants.{CannotRead, Refused}
-use Rattle.command_spec.specs.Words.{Attend}
+use Rattle.rtt_words.specs.Words.{Attend}
 use Rattle.command_spec.specs.Work.{Contents, Steps, Refuses}
 use Rattle.command_spec.specs.Inputs.{AllLie, LieBelow, NoneReads, inputs_under}
 use Rattle.command_spec.specs.Mixing.{input_at, makes, mixes, unless_one_broken}

@@ -13,8 +13,8 @@ use Rattle.command_spec.specs.declared.faults.Fault.TheVariants.{WrongWords, Can
 use Rattle.command_spec.specs.Work.{Contents, Made, Makes, IsInput, IsOutput, IsNth}
 use Rattle.command_spec.specs.Outcomes.{outcome, Same, Stores, AllStored}
 use Rattle.command_spec.specs.Outcomes as outcomes
-use Rattle.command_spec.specs.Words.{Command}
-use Rattle.command_spec.specs.Commands.{work}
+use Rattle.rtt_words.specs.Words.{Command}
+use Rattle.rtt_words.specs.Tasks.{work}
 use Rattle.command_spec.specs.Inputs.{LieBelow, AllLie}
 use Rattle.command_spec.specs.Messages.{Ending}
 use Rattle.bridge_run.specs.declared.mixed.MixFault.{MixFault}

@@ -8,7 +8,7 @@ use Rattle.file_spec.specs.declared.conf_lines.LegLine.{LegLine}
 use Rattle.file_spec.specs.Conf.{Conf, conf}
 use Rattle.command_spec.specs.declared.faults.Refusal.TheVariants.{AtByte, AtFrame, AtLine, AtTrunk, AfterTurns}
 use Rattle.command_spec.specs.declared.faults.Fault.TheVariants.{CannotRead, Refused}
-use Rattle.command_spec.specs.Words.{Cascade, Command}
+use Rattle.rtt_words.specs.Words.{Cascade, Command}
 use Rattle.command_spec.specs.Work.{Contents, Made, IsInput}
 use Rattle.command_spec.specs.Outcomes.{Outcome, Missing, Done, Served, outcome, outcome_from}
 use Rattle.command_spec.specs.Outcomes as outcomes

@@ -10,8 +10,8 @@ use Rattle.command_spec.specs.declared.faults.Refusal.{Refusal}
 use Rattle.command_spec.specs.Work.{Contents, Made, Steps, Refuses, Makes, IsInput}
 use Rattle.command_spec.specs.Outcomes.{Done, outcome, outcome_from}
 use Rattle.command_spec.specs.Outcomes as outcomes
-use Rattle.command_spec.specs.Words.{Command}
-use Rattle.command_spec.specs.Commands.{work}
+use Rattle.rtt_words.specs.Words.{Command}
+use Rattle.rtt_words.specs.Tasks.{work}
 use Rattle.command_spec.specs.Mixing.{makes, reads_inputs}
 use Rattle.command_spec.specs.Mixing as mixed
 use Rattle.command_spec.specs.Inputs.{octets_under, inputs_under, LieBelow, AllLie}

@@ -13,7 +13,7 @@ use Rattle.file_spec.specs.Conf.{Conf, and_line, complete, conf, is_blank, nothi
 use Rattle.command_spec.specs.declared.faults.Refusal.TheVariants.{AtLine}
 use Rattle.command_spec.specs.declared.faults.Fault.{Fault}
 use Rattle.command_spec.specs.declared.faults.Fault.TheVariants.{WrongWords, CannotOpen, CannotRead, Refused, CannotPrint, CannotWrite, LinkFailed, NoMemory}
-use Rattle.command_spec.specs.Words.{Attend, Command, Live, Mix}
+use Rattle.rtt_words.specs.Words.{Attend, Command, Live, Mix}
 use Rattle.command_spec.specs.Work.{Contents}
 use Rattle.command_spec.specs.Attending.{attends_read}
 use Rattle.command_spec.specs.Mixing.{mixes_read}

@@ -7,15 +7,16 @@ use Rattle.rtt_io.specs.Fronts.{TakesFront}
 use Rattle.file_spec.specs.Conf.{Conf}
 use Rattle.command_spec.specs.declared.faults.Refusal.{Refusal}
 use Rattle.command_spec.specs.declared.faults.Refusal.TheVariants.{AtByte, AtFrame, AtLine, AtTrunk, AfterTurns}
-use Rattle.command_spec.specs.Words.{ReadWords, MixWords, CascadeWords, Command, Read, Mix, Attend, Cascade}
+use Rattle.rtt_words.specs.Words.{ReadWords, MixWords, CascadeWords, Command, Read, Mix, Attend, Cascade}
 use Rattle.command_spec.specs.declared.faults.Fault.{Fault}
 use Rattle.command_spec.specs.declared.faults.Fault.TheVariants.{WrongWords, CannotOpen, CannotRead, Refused, CannotPrint, CannotWrite, LinkFailed, NoMemory}
 use Rattle.command_spec.specs.Work.{Contents, Made, Steps, Reads, Refuses, Makes, Serves, IsInput}
 use Rattle.command_spec.specs.Outcomes.{Outcome, Missing, Done, Served, outcome, outcome_from, IsDone, AllStored, Same}
 use Rattle.command_spec.specs.Outcomes as outcomes
 use Rattle.command_spec.specs.Reading.{arrivals_of, read_view, history_view}
-use Rattle.command_spec.specs.Commands.{request_of, unless_broken, work}
-use Rattle.command_spec.specs.Messages.{Ending, ending_of, status_of, message_of}
+use Rattle.rtt_words.specs.Tasks.{request_of, unless_broken, work}
+use Rattle.command_spec.specs.Messages.{Ending, ending_of, status_of}
+use Rattle.rtt_words.specs.Told.{message_of}
 use Rattle.rtt_top.specs.Outside.{Outside, Output, Failed}
 use Rattle.rtt_top.specs.Runs.{Prints, Ends, outcome_of, IsCalm, IsAsWorked, IsOfWords, IsHeadline, IsAttendedHeadline, IsCascadedHeadline, Runs}
 use Rattle.command_spec.specs.Attending.{attending}

@@ -9,11 +9,11 @@ use Rattle.frame_spec.specs.declared.frames.FrameFault.{FrameFault}
 use Rattle.frame_spec.specs.Frames.{read_frames}
 use Rattle.command_spec.specs.declared.faults.Refusal.TheVariants.{AtByte}
 use Rattle.command_spec.specs.declared.faults.Fault.TheVariants.{CannotRead, Refused}
-use Rattle.command_spec.specs.Words.{SendWords, ChannelWords, Relay, Channel}
+use Rattle.rtt_words.specs.Words.{SendWords, ChannelWords, Relay, Channel}
 use Rattle.command_spec.specs.Work.{Contents, Steps, IsOutput}
 use Rattle.command_spec.specs.Outcomes.{outcome, outcome_from, Done}
 use Rattle.command_spec.specs.Outcomes as outcomes
-use Rattle.command_spec.specs.Commands.{recording_fault, saves_frames, sending_of, unless_broken, work}
+use Rattle.rtt_words.specs.Tasks.{recording_fault, saves_frames, sending_of, unless_broken, work}
 use Rattle.command_spec.specs.Frames.{channel, relay, relay_read}
 use Rattle.command_spec.specs.Scripts.{Sending}
 use Rattle.wire_spec.specs.declared.faults.DumpKind.{DumpKind}

@@ -1,6 +1,8 @@
 -- A front of what is written piece by piece.
-use Rattle.std.proofs.Common.{◌≡◌, ℕ, zero, suc, List, [], ◌∷◌, ◌++◌, take, append_assoc, Result, Ok, Err, refl, ap, ◌∙◌}
+use Rattle.std.proofs.Common.{◌≡◌, ℕ, zero, suc, ◌+◌, ◌<◌, List, [], ◌∷◌, ◌++◌, length, take, drop, get_or, append_assoc, Result, Ok, Err, refl, ap, sym, subst, ◌∙◌, arith}
 use Rattle.std.specs.Prelude.{OnOk, OnErr}
+use Rattle.std.specs.List.{concat}
+use Rattle.std.proofs.lemmas.List.{take_more}
 use Rattle.rtt_io.specs.Fronts.{TakesFront}
 
 take_front : (n : ℕ) (xs ys : List ℕ) → (m : ℕ) × (take n xs ≡ take m (xs ++ ys))
@@ -50,3 +52,29 @@ behind_err old mid new first second (Err b) whole f = front_behind old mid new f
 -- two pieces, one after the other
 pub both : (old mid new first second : List ℕ) → mid ≡ old ++ first → new ≡ mid ++ second → new ≡ old ++ (first ++ second)
 both old mid new first second e f = f ∙ (ap (λ xs. xs ++ second) e ∙ append_assoc old first second)
+
+-- ---- pieces, one behind the other
+concat_push : (pieces : List (List ℕ)) (piece : List ℕ) → concat (pieces ++ piece ∷ []) ≡ concat pieces ++ piece
+concat_push [] piece = sym (append_none piece)
+concat_push (first ∷ more) piece = ap (λ octets. first ++ octets) (concat_push more piece) ∙ sym (append_assoc first (concat more) piece)
+
+-- all pieces: those before one, this one and those behind it
+concat_at : (pieces : List (List ℕ)) (n : ℕ) (piece : List ℕ) → n < length pieces → piece ≡ get_or pieces n piece → concat pieces ≡ concat (take n pieces) ++ (piece ++ concat (drop (suc n) pieces))
+concat_at [] n piece less is = absurd (omega arith)
+concat_at (first ∷ more) zero piece less is = ap (λ octets. octets ++ concat more) (sym is)
+concat_at (first ∷ more) (suc n) piece less is =
+    ap (λ octets. first ++ octets) (concat_at more n piece (omega arith) is) ∙ sym (append_assoc first (concat (take n more)) (piece ++ concat (drop (suc n) more)))
+
+-- the pieces before one, and this one, are those up to it
+pub more_at : (old mid new : List ℕ) (pieces : List (List ℕ)) (n : ℕ) (piece : List ℕ) → n < length pieces → piece ≡ get_or pieces n piece → mid ≡ old ++ concat (take n pieces)
+    → new ≡ mid ++ piece → new ≡ old ++ concat (take (n + 1) pieces)
+more_at old mid new pieces n piece less is before more =
+    both old mid new (concat (take n pieces)) piece before more
+    ∙ ap (λ octets. old ++ octets) (ap (λ last. concat (take n pieces) ++ last) is ∙ (sym (concat_push (take n pieces) (get_or pieces n piece)) ∙ ap concat (sym (take_more pieces n piece less))))
+
+-- the pieces before one, and a front of this one, are a front of all
+pub front_at : (old mid new : List ℕ) (pieces : List (List ℕ)) (n : ℕ) (piece : List ℕ) → n < length pieces → piece ≡ get_or pieces n piece → mid ≡ old ++ concat (take n pieces)
+    → TakesFront mid new piece → TakesFront old new (concat pieces)
+front_at old mid new pieces n piece less is whole f =
+    subst (λ octets. TakesFront old new octets) (sym (concat_at pieces n piece less is))
+    (front_behind old mid new (concat (take n pieces)) (piece ++ concat (drop (suc n) pieces)) whole (front_before mid new piece (concat (drop (suc n) pieces)) f))

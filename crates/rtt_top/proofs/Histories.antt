@@ -3,15 +3,16 @@ use Rattle.std.proofs.Common.{◌≡◌, ℕ, ◌<◌, Option, Some, None, List,
 use Rattle.file_spec.specs.Script.{ScriptLine}
 use Rattle.file_spec.specs.Lines as lines
 use Rattle.file_spec.specs.Script.{script}
-use Rattle.command_spec.specs.Words.{SendWords, usual_pts}
+use Rattle.command_spec.specs.Usual.{usual_pts}
+use Rattle.rtt_words.specs.Words.{SendWords}
 use Rattle.text_sender.specs.declared.senders.SendConf.{SendConf}
 use Rattle.text_sender.specs.Confs.{IsConf}
 use Rattle.text_sender.proofs.Scripts.{own}
 use Rattle.command_spec.specs.Scripts as scripts
 use Rattle.command_spec.specs.Scripts.{AreLines, events_through}
 use Rattle.command_spec.specs.Work.{Steps, Makes}
-use Rattle.command_spec.specs.Commands.{sending_of, sends, unless_full}
-use Rattle.command_spec.specs.Sent.{IsSent}
+use Rattle.rtt_words.specs.Tasks.{sending_of, sends, unless_full}
+use Rattle.rtt_words.specs.Sent.{IsSent}
 use Rattle.rtt_send.specs.Scripts.{IsEnd, first_end, full_line}
 use Rattle.rtt_send.proofs.Accepted.{accepted_lines}
 use Rattle.rtt_send.proofs.Typed.{lawful_sent, closed_sent, texts_sent}

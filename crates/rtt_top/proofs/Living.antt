@@ -19,7 +19,7 @@ use Rattle.live_watch.specs.Watched.{WasWatched}
 use Rattle.command_spec.specs.declared.faults.Fault.{Fault}
 use Rattle.command_spec.specs.declared.faults.Fault.TheVariants.{WrongWords, CannotOpen, CannotRead, Refused, CannotPrint, CannotWrite, LinkFailed, NoMemory}
 use Rattle.command_spec.specs.declared.faults.Refusal.TheVariants.{AtByte, AtFrame, AtLine, AtTrunk, AfterTurns}
-use Rattle.command_spec.specs.Words.{MixWords, Command, Live, Watch}
+use Rattle.rtt_words.specs.Words.{MixWords, Command, Live, Watch}
 use Rattle.command_spec.specs.Work.{Contents, Made, ServesSome}
 use Rattle.command_spec.specs.Outcomes.{Outcome, Served, outcome, outcome_from, IsDone, AllStored, Same}
 use Rattle.command_spec.specs.Serving.{serves_read, serving}

@@ -18,7 +18,7 @@ use Rattle.command_spec.specs.Making.{making, makes_summary, recording_at, recor
 use Rattle.command_spec.specs.Messages.{Ending}
 use Rattle.command_spec.specs.Mixing.{input_at, makes, mixes, unless_one_broken}
 use Rattle.command_spec.specs.Sums.{Sums, sums_mixed}
-use Rattle.command_spec.specs.Words.{Command, Make}
+use Rattle.rtt_words.specs.Words.{Command, Make}
 use Rattle.command_spec.specs.Work.{Contents, Steps, Reads, Refuses, Makes, Serves}
 use Rattle.command_spec.specs.Outcomes.{outcome, AllStored}
 use Rattle.bridge_run.specs.declared.mixed.MixFault.{MixFault}

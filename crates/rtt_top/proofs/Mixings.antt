@@ -5,7 +5,7 @@ use Rattle.file_spec.specs.declared.conf_lines.Form.TheVariants.{Files}
 use Rattle.file_spec.specs.declared.conf_lines.LegLine.{LegLine}
 use Rattle.file_spec.specs.Conf.{Conf, conf}
 use Rattle.mixer_spec.specs.Setups.{leg_at}
-use Rattle.command_spec.specs.Words.{Attend, Mix}
+use Rattle.rtt_words.specs.Words.{Attend, Mix}
 use Rattle.command_spec.specs.Work.{Contents, IsInput, IsOutput}
 use Rattle.command_spec.specs.Outcomes.{Same, outcome_from}
 use Rattle.command_spec.specs.Inputs.{AllLie, LieBelow, inputs_under}

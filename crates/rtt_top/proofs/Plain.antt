@@ -1,7 +1,7 @@
 -- Of another command than those that need no thread nothing is answered, unless memory ran out.
 use Rattle.std.proofs.Common.{◌≡◌, ℕ, Bool, false, true≢false, Option, Some, None, refl, ap, sym, ◌∙◌}
 use Rattle.std.specs.Prelude.{IfSome, is_some}
-use Rattle.command_spec.specs.Words.{Command}
+use Rattle.rtt_words.specs.Words.{Command}
 use Rattle.rtt_top.specs.Runs.{is_plain}
 
 pub is_other : (words : Option Command) (c : Command) (some : Bool) → some ≡ is_plain (Some c) → words ≡ Some c → is_plain words ≡ false → some ≡ false

@@ -1,8 +1,11 @@
 -- Files that are made one after another.
 use Rattle.std.proofs.Common.{◌≡◌, ℕ, zero, suc, ◌+◌, ◌<◌, ◌≤◌, false, List, [], ◌∷◌, ◌++◌, length, take, drop, get_or, Result, Ok, Err, refl, ap, sym, subst, ◌∙◌, inl, inr, arith}
+use Rattle.std.proofs.lemmas.List.{get_or_default, length-map}
 use Rattle.std.specs.Prelude.{◌⊎◌, IfErr, OnOk, OnErr}
 use Rattle.std.specs.Result.{is_err}
 use Rattle.file_spec.specs.declared.conf_lines.LegLine.{LegLine}
+use Rattle.sent_log.specs.States.{State, recording_of}
+use Rattle.sent_files.specs.Files.{recording_at, recordings_of}
 use Rattle.command_spec.specs.declared.faults.Fault.{Fault}
 use Rattle.command_spec.specs.declared.faults.Fault.TheVariants.{CannotWrite}
 use Rattle.command_spec.specs.Work.{Contents, Made, IsNth}
@@ -54,6 +57,17 @@ file_at (l ∷ legs) (o ∷ more) zero leg octets less same is_leg is_octets =
 file_at (l ∷ legs) (o ∷ more) (suc n) leg octets less same is_leg is_octets =
     let r = file_at legs more n leg octets (omega arith) (omega arith) is_leg is_octets in
     record { whole = ap (λ xs. file_of l o ∷ xs) r.whole; next = ap (λ xs. file_of l o ∷ xs) r.next; count = ap suc r.count }
+
+-- the recording of what was sent to the terminal of number n, under the name of its output
+pub recording_file : (legs : List LegLine) (log now : State) (n : ℕ) (leg : LegLine) (name : List ℕ) → n < length legs → length legs ≡ length log → leg ≡ get_or legs n leg → name ≡ leg.output → now ≡ log
+    → IsFileAt (outputs_of legs (recordings_of log)) n (record { name = name; octets = recording_at now n })
+recording_file legs log now n leg name less many is_leg named same =
+    let as_many : length legs ≡ length (recordings_of log) = many ∙ sym (length-map log recording_of) in
+    let saved : Made = record { name = name; octets = recording_at now n } in
+    let file : saved ≡ file_of leg (recording_at log n) =
+    ap (λ (x : List ℕ). record { name = x; octets = recording_at now n }) named ∙ ap (λ (s : State). record { name = leg.output; octets = recording_at s n }) same in
+    subst (IsFileAt (outputs_of legs (recordings_of log)) n) (sym file)
+    (file_at legs (recordings_of log) n leg (recording_at log n) less as_many is_leg (get_or_default (recordings_of log) n [] (recording_at log n) (omega (arith, less, as_many))))
 
 pub take_whole : (legs : List LegLine) (more : List (List ℕ)) (n : ℕ) → length legs ≤ n → take n (outputs_of legs more) ≡ outputs_of legs more
 take_whole [] more zero l = refl

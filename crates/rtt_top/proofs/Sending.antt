@@ -8,7 +8,7 @@ use Rattle.file_spec.specs.Script.{ScriptLine}
 use Rattle.file_spec.specs.Lines.{read_lines, told, is_comment}
 use Rattle.std.specs.Str.Lines as str
 use Rattle.file_spec.specs.Script.{script, and_line}
-use Rattle.command_spec.specs.Words.{Command, SendWords, Send}
+use Rattle.rtt_words.specs.Words.{Command, SendWords, Send}
 use Rattle.rtt_io.specs.Counts.{Rose}
 use Rattle.command_spec.specs.declared.faults.Refusal.TheVariants.{AtLine}
 use Rattle.command_spec.specs.declared.faults.Fault.{Fault}
@@ -16,7 +16,7 @@ use Rattle.command_spec.specs.declared.faults.Fault.TheVariants.{Refused, Cannot
 use Rattle.command_spec.specs.Scripts as scripts
 use Rattle.command_spec.specs.Work.{Contents, Made, Steps, Reads, Refuses, Makes, IsOutput}
 use Rattle.command_spec.specs.Outcomes.{outcome, outcome_from, Done, Same, Stores, AllStored}
-use Rattle.command_spec.specs.Commands.{sending_of, sends, unless_full, work}
+use Rattle.rtt_words.specs.Tasks.{sending_of, sends, unless_full, work}
 use Rattle.command_spec.specs.Messages.{Ending}
 use Rattle.rtt_top.specs.Files.{IsFrontOf, IsPartlyStored, made_file}
 use Rattle.rtt_top.specs.Faults.{Stops, WhereRead, name_in}

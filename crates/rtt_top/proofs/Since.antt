@@ -5,8 +5,8 @@ use Rattle.file_spec.specs.Conf.{Conf}
 use Rattle.command_spec.specs.declared.faults.Refusal.{Refusal}
 use Rattle.command_spec.specs.declared.faults.Refusal.TheVariants.{AtByte, AtFrame, AtLine, AtTrunk, AfterTurns}
 use Rattle.command_spec.specs.declared.faults.Fault.TheVariants.{WrongWords, CannotOpen, CannotRead, Refused, CannotPrint, CannotWrite, LinkFailed, NoMemory}
-use Rattle.command_spec.specs.Words.{Command}
-use Rattle.command_spec.specs.Commands.{work}
+use Rattle.rtt_words.specs.Words.{Command}
+use Rattle.rtt_words.specs.Tasks.{work}
 use Rattle.command_spec.specs.Work.{Contents, Made, Steps, Reads, Refuses, Makes, Serves, IsInput, IsOutput, ServesSome}
 use Rattle.command_spec.specs.Outcomes.{Outcome, Missing, Done, Served, outcome, outcome_from, IsDone, Same, AllStored}
 use Rattle.command_spec.specs.Outcomes as outcomes

@@ -2,12 +2,12 @@
 use Rattle.std.proofs.Common.{◌≡◌, ◌∙◌, ℕ, Bool, true, false, true≢false, Option, Some, None, List, [], Result, Ok, Err, refl, ap, sym, subst}
 use Rattle.wire_spec.specs.Dump.{dump, usual_limit}
 use Rattle.wire_spec.specs.Dump as dumps
-use Rattle.command_spec.specs.Words.{Command, Read, ListRecords, Send, Mix, Attend, Cascade, Make, Live, Watch, Relay, Channel, Show, Script, Version}
+use Rattle.rtt_words.specs.Words.{Command, Read, ListRecords, Send, Mix, Attend, Cascade, Make, Live, Watch, Relay, Channel, Show, Script, Version}
 use Rattle.command_spec.specs.declared.faults.Refusal.{Refusal}
 use Rattle.command_spec.specs.declared.faults.Refusal.TheVariants.{AtByte, AtFrame, AtLine, AtTrunk, AfterTurns}
 use Rattle.command_spec.specs.declared.faults.Fault.TheVariants.{WrongWords, CannotOpen, CannotRead, Refused, CannotPrint, CannotWrite, LinkFailed, NoMemory}
 use Rattle.command_spec.specs.Work.{Contents, Steps, Makes, IsInput}
-use Rattle.command_spec.specs.Commands.{saves_frames, sending_of, unless_broken, work}
+use Rattle.rtt_words.specs.Tasks.{saves_frames, sending_of, unless_broken, work}
 use Rattle.command_spec.specs.Frames.{channel, relay}
 use Rattle.command_spec.specs.Showing.{show_refusal}
 use Rattle.frame_spec.specs.declared.frames.FrameFault.{FrameFault}

@@ -8,11 +8,11 @@ use Rattle.command_spec.specs.declared.faults.Refusal.{Refusal}
 use Rattle.command_spec.specs.declared.faults.Refusal.TheVariants.{AtByte, AtFrame, AtLine, AtTrunk, AfterTurns}
 use Rattle.command_spec.specs.declared.faults.Fault.{Fault}
 use Rattle.command_spec.specs.declared.faults.Fault.TheVariants.{WrongWords, CannotOpen, CannotRead, Refused, CannotPrint, CannotWrite, LinkFailed, NoMemory}
-use Rattle.command_spec.specs.Words.{Command}
+use Rattle.rtt_words.specs.Words.{Command}
 use Rattle.command_spec.specs.Work.{Contents, Made, Steps, Reads, Refuses, Makes, Serves, IsInput}
 use Rattle.command_spec.specs.Outcomes.{outcome, outcome_from, Missing, Done, IsDone, Same, Stores, AllStored}
 use Rattle.command_spec.specs.Outcomes as outcomes
-use Rattle.command_spec.specs.Commands.{unless_broken, prints_unless, prints_recording, work}
+use Rattle.rtt_words.specs.Tasks.{unless_broken, prints_unless, prints_recording, work}
 use Rattle.command_spec.specs.Messages.{Ending}
 use Rattle.rtt_top.specs.Faults.{WhereRead, RefusesSo, Stops, IsUnread, IsOfByte, IsOfRecording, IsTrueOf, is_recording, name_in}
 use Rattle.rtt_top.specs.Outside.{Outside, Failed, ObjectFailed, OpenFailed}

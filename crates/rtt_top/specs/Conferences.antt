@@ -1,5 +1,6 @@
 -- The faults of a mixing and of a live call, and the names of the files and legs that they are about.
 use Rattle.std.specs.Prelude.{◌≡◌, ℕ, zero, suc, ◌+◌, true, Option, None, Some, List, Ok, Err, length, if◌then◌else◌}
+use Rattle.std.specs.List.{concat}
 use Rattle.rtpdump_io.specs.declared.items.DumpFault.{DumpFault}
 use Rattle.rtpdump_io.specs.Reading.{is_of_source}
 use Rattle.file_spec.specs.declared.conf_lines.Form.{Form}
@@ -12,12 +13,13 @@ use Rattle.command_spec.specs.declared.faults.Refusal.TheVariants.{AtByte, AtLin
 use Rattle.command_spec.specs.declared.faults.Fault.{Fault}
 use Rattle.command_spec.specs.declared.faults.Fault.TheVariants.{WrongWords, CannotOpen, CannotRead, Refused, CannotPrint, CannotWrite, LinkFailed, NoMemory}
 use Rattle.command_spec.specs.Messages.{Ending}
-use Rattle.command_spec.specs.Words.{Attend, Cascade, Command, Live}
+use Rattle.rtt_words.specs.Words.{Attend, Cascade, Command, Live}
 use Rattle.command_spec.specs.Work.{Contents, IsInput, IsOutput, Made, Makes, Reads, Refuses, Steps}
-use Rattle.command_spec.specs.Commands.{work}
+use Rattle.rtt_words.specs.Tasks.{work}
 use Rattle.command_spec.specs.Outcomes.{Done, outcome, outcome_from}
 use Rattle.command_spec.specs.Inputs.{AllLie, LieBelow}
 use Rattle.bridge_run.specs.declared.mixed.Mixed.{Mixed}
+use Rattle.sent_files.specs.Files.{recordings_of}
 use Rattle.bridge_run.specs.Mixes.{outputs_of, steps_of}
 use Rattle.rtt_top.specs.Faults.{WhereRead, is_mixed, is_recording}
 use Rattle.rtt_top.specs.Worlds.{first_file}
@@ -143,7 +145,7 @@ NamesOutputs legs name = (n : ℕ) (leg : LegLine) → leg_at legs n ≡ Some le
 abbrev pub OutputsEnd : (WorldTells OutTells : Type 0) → Outside → Outside → List LegLine → Mixed → Ending → Type 0
 OutputsEnd WorldTells OutTells old new legs mixed ending =
     (command : Command) (name : Ending → List ℕ) → NamesOutputs legs name
-    → MakesOutputs WorldTells old.contents command legs mixed.views (outputs_of legs mixed.outs.items)
+    → MakesOutputs WorldTells old.contents command legs (concat mixed.views.items) (outputs_of legs (recordings_of mixed.outs))
     → Ends command WorldTells OutTells old new (name ending) ending
 
 -- Any command that comes to the mixing of this conference ends so, where its file has any name.

@@ -6,12 +6,13 @@ use Rattle.command_spec.specs.declared.faults.Refusal.{Refusal}
 use Rattle.command_spec.specs.declared.faults.Refusal.TheVariants.{AtByte, AtFrame, AtLine, AtTrunk, AfterTurns}
 use Rattle.command_spec.specs.declared.faults.Fault.{Fault}
 use Rattle.command_spec.specs.declared.faults.Fault.TheVariants.{WrongWords, CannotOpen, CannotRead, Refused, CannotPrint, CannotWrite, LinkFailed, NoMemory}
-use Rattle.command_spec.specs.Words.{Command, Read, ListRecords, Send, Mix, Attend, Cascade, Make, Live, Watch, Relay, Channel, Show, Script, Version}
+use Rattle.rtt_words.specs.Words.{Command, Read, ListRecords, Send, Mix, Attend, Cascade, Make, Live, Watch, Relay, Channel, Show, Script, Version}
 use Rattle.command_spec.specs.Work.{Contents, Steps, Reads, Refuses, Makes, Serves}
-use Rattle.command_spec.specs.Commands.{work}
+use Rattle.rtt_words.specs.Tasks.{work}
 use Rattle.command_spec.specs.Outcomes.{Outcome, Missing, Done, Served, outcome}
 use Rattle.command_spec.specs.Outcomes as outcomes
-use Rattle.command_spec.specs.Messages.{Ending, message_of}
+use Rattle.command_spec.specs.Messages.{Ending}
+use Rattle.rtt_words.specs.Told.{message_of}
 
 -- this holds where a file is read
 abbrev pub WhereRead : Steps → Type 0 → Type 0

@@ -5,8 +5,9 @@ use Rattle.file_spec.specs.declared.conf_lines.Form.TheVariants.{Links}
 use Rattle.file_spec.specs.Conf.{Conf, conf}
 use Rattle.command_spec.specs.declared.faults.Fault.TheVariants.{WrongWords, CannotOpen, CannotRead, Refused, CannotPrint, CannotWrite, LinkFailed, NoMemory}
 use Rattle.rtt_io.specs.Fronts.{TakesFront}
-use Rattle.command_spec.specs.Messages.{Ending, message_of, status_of}
-use Rattle.command_spec.specs.Words.{MixWords, Command, Live, Watch}
+use Rattle.command_spec.specs.Messages.{Ending, status_of}
+use Rattle.rtt_words.specs.Told.{message_of}
+use Rattle.rtt_words.specs.Words.{MixWords, Command, Live, Watch}
 use Rattle.serve_spec.specs.Served.{End, Done, Closed, IsServed}
 use Rattle.serve_spec.specs.Watched.{IsBoardOf}
 use Rattle.serve_spec.specs.HeadLive.{HeadLive}

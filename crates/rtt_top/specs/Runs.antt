@@ -3,7 +3,7 @@
 use Rattle.std.specs.Prelude.{◌≡◌, ◌⊎◌, ◌<◌, ◌≤◌, ℕ, Bool, true, false, Option, None, Some, List, [], ◌∷◌, ◌++◌, take, Ok, Err, suc, zero, map, String, string_bytes}
 use Rattle.std.specs.Global.{Global}
 use Rattle.rtt_io.specs.Fronts.{TakesFront}
-use Rattle.command_spec.specs.Words.{ReadWords, MixWords, CascadeWords, Command, Read, ListRecords, Send, Mix, Attend, Cascade, Make, Live, Watch, Relay, Channel, Show, Script, Version, command}
+use Rattle.rtt_words.specs.Words.{ReadWords, MixWords, CascadeWords, Command, Read, ListRecords, Send, Mix, Attend, Cascade, Make, Live, Watch, Relay, Channel, Show, Script, Version, command}
 use Rattle.stream_spec.specs.History.{History, Lawful, Come}
 use Rattle.command_spec.specs.declared.faults.Refusal.TheVariants.{AtByte, AtFrame, AtLine, AtTrunk, AfterTurns}
 use Rattle.command_spec.specs.declared.faults.Fault.TheVariants.{WrongWords, CannotOpen, CannotRead, Refused, CannotPrint, CannotWrite, LinkFailed, NoMemory}
@@ -14,8 +14,9 @@ use Rattle.command_spec.specs.Bridges.{IsBridged}
 use Rattle.command_spec.specs.Attended.{IsAttended}
 use Rattle.command_spec.specs.Cascaded.{IsCascaded}
 use Rattle.command_spec.specs.Reading.{arrivals_of, history_view}
-use Rattle.command_spec.specs.Commands.{request_of, work}
-use Rattle.command_spec.specs.Messages.{Ending, ending_of, status_of, message_of}
+use Rattle.rtt_words.specs.Tasks.{request_of, work}
+use Rattle.command_spec.specs.Messages.{Ending, ending_of, status_of}
+use Rattle.rtt_words.specs.Told.{message_of}
 use Rattle.rtt_top.specs.Faults.{NoneBefore, RefusesSo, WhereRead, has_frames, is_live, is_mixed, is_recording}
 use Rattle.rtt_top.specs.Files.{IsPartlyStored}
 use Rattle.rtt_top.specs.Outside.{Outside, Output, Failed, CallFailed, ObjectFailed, OpenFailed}

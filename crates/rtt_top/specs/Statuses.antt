@@ -1,6 +1,6 @@
 -- The statuses with which each command can end.
 use Rattle.std.specs.Prelude.{◌≡◌, ◌==◌, ◌||◌, ℕ, Bool, true, Some}
-use Rattle.command_spec.specs.Words.{Command, Read, ListRecords, Send, Mix, Attend, Cascade, Make, Live, Watch, Relay, Channel, Show, Script, Version}
+use Rattle.rtt_words.specs.Words.{Command, Read, ListRecords, Send, Mix, Attend, Cascade, Make, Live, Watch, Relay, Channel, Show, Script, Version}
 use Rattle.rtt_top.specs.Outside.{Outside, Output}
 use Rattle.rtt_top.specs.Runs.{Runs}
 

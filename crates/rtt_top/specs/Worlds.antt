@@ -8,9 +8,9 @@ use Rattle.file_spec.specs.declared.conf_lines.LegLine.{LegLine}
 use Rattle.file_spec.specs.Conf.{conf}
 use Rattle.file_spec.specs.Script.{ScriptLine, script}
 use Rattle.command_spec.specs.declared.faults.Fault.{Fault}
-use Rattle.command_spec.specs.Words.{SendWords, ChannelWords, Command, Read, ListRecords, Send, Mix, Attend, Cascade, Make, Live, Watch, Relay, Channel, Show, Script, Version}
+use Rattle.rtt_words.specs.Words.{SendWords, ChannelWords, Command, Read, ListRecords, Send, Mix, Attend, Cascade, Make, Live, Watch, Relay, Channel, Show, Script, Version}
 use Rattle.command_spec.specs.Work.{Makes}
-use Rattle.command_spec.specs.Commands.{sending_of, sends, work}
+use Rattle.rtt_words.specs.Tasks.{sending_of, sends, work}
 use Rattle.command_spec.specs.Frames.{channel, relay}
 use Rattle.wire_spec.specs.Dump.{dump, usual_limit}
 use Rattle.command_spec.specs.Outcomes.{outcome, Done, Stores, AllStored}

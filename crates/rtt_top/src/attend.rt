@@ -1,7 +1,7 @@
 //! `attend`: the conference of a file is named as the RTCP records of its inputs tell, and mixed.
 ghost use Rattle.std.specs.Prelude.{◌≡◌, Some, OnOk, IfOk};
 ghost use Rattle.conference.specs.Conferences.{conf_of};
-ghost use Rattle.command_spec.specs.Words.{Attend};
+ghost use Rattle.rtt_words.specs.Words.{Attend};
 ghost use Rattle.rtt_words.specs.Commands.{mixed};
 ghost use Rattle.rtt_top.specs.Conferences.{AttendingEnds};
 ghost use Rattle.rtt_top.specs.Outside.{outside_at, output_at};

@@ -1,7 +1,7 @@
 //! `channel`: a recording is opened and heard to its end, and its text is written as frames.
 ghost use Rattle.std.specs.Prelude.{◌≡◌, Some, IfOk, IfErr};
 ghost use Rattle.rtt_io.specs.Names.{NoneFalls};
-ghost use Rattle.command_spec.specs.Words.{Channel};
+ghost use Rattle.rtt_words.specs.Words.{Channel};
 ghost use Rattle.rtt_words.specs.Commands.{channelled};
 ghost use Rattle.command_spec.specs.Outcomes.{Same};
 ghost use Rattle.rtt_top.specs.Faults.{name_in};

@@ -3,7 +3,7 @@ ghost use Rattle.std.specs.Prelude.{◌≡◌, OnOk, IfOk, IfErr};
 ghost use Rattle.rtt_io.specs.Names.{NoneFalls, Same as KeepsCounts};
 ghost use Rattle.mixer_spec.specs.Setups.{leg_at};
 ghost use Rattle.command_spec.specs.Outcomes.{Same};
-ghost use Rattle.command_spec.specs.Words.{Command};
+ghost use Rattle.rtt_words.specs.Words.{Command};
 ghost use Rattle.rtt_top.specs.Conferences.{ReadsConf, ending_name, fault_name, input_name, name_of, output_of};
 ghost use Rattle.rtt_top.specs.Worlds.{StopsIn, ReadsConference};
 

@@ -1,8 +1,9 @@
 //! Whole files: read, refused, and written.
-ghost use Rattle.std.specs.Prelude.{◌≡◌, if◌then◌else◌, OnOk, OnErr, IfOk, IfErr};
+ghost use Rattle.std.specs.Prelude.{◌≡◌, ◌<◌, length, if◌then◌else◌, OnOk, OnErr, IfOk, IfErr};
 ghost use Rattle.rtt_io.specs.Names.{NoneFalls, Same as KeepsCounts};
 ghost use Rattle.rtpdump_io.specs.Reading.{is_of_source};
 ghost use Rattle.rtpdump_io.specs.Faults.{IsSourceFault, FaultOf};
+ghost use Rattle.sent_files.specs.Files.{recording_at};
 ghost use Rattle.command_spec.specs.Outcomes.{Same};
 ghost use Rattle.rtt_top.specs.Faults.{IsOfRecording, IsTrueFor};
 ghost use Rattle.rtt_top.specs.Files.{IsReadOf};
@@ -15,6 +16,7 @@ use frame_spec::FrameFault;
 use rtpdump_io::{DumpFault, RecordingFault};
 use rtt_base::{Bytes, Failed};
 use rtt_io::{ReadFault, Sink, World, read_whole};
+use sent_files::SentFiles;
 use std::alloc::Global;
 use wire_spec::DumpKind;
 
@@ -114,6 +116,33 @@ pub fn save_output<W: World>(
         return Err(Fault::CannotWrite { output });
     };
     let written = sink.write_all(octets);
+    world.done_dst(sink);
+    match written {
+        Ok(()) => Ok(()),
+        Err(Failed) => Err(Fault::CannotWrite { output }),
+    }
+}
+
+/// Creates the output of this number anew, with the recording of what was sent to the terminal of that number.
+pub(crate) fn save_recording<W: World>(
+    output: u32,
+    name: &str,
+    files: &mut SentFiles,
+    world: &mut W,
+) -> Result<(), Fault>
+    requires output { output < length files.old }
+    ensures same { files.new ≡ files.old }
+    ensures fault { IfErr result (λ fault. fault ≡ Fault.CannotWrite output) }
+    ensures saved { W.tells → OnOk result (Saves W.World world.old world.new name.now (recording_at files.old output)) }
+    ensures cause { OnErr result (FailedIn W.World world.old world.new name.now) }
+    ensures partly { W.tells → OnErr result (SavesPartly W.World world.old world.new name.now (recording_at files.old output)) }
+    ensures calls_never_fall { NoneFalls W.own_faults world.old world.new }
+    ensures objects_never_fall { NoneFalls W.object_faults world.old world.new }
+{
+    let Ok(mut sink) = world.create_sink(name) else {
+        return Err(Fault::CannotWrite { output });
+    };
+    let written = files.write_to(output as usize, &mut sink);
     world.done_dst(sink);
     match written {
         Ok(()) => Ok(()),

@@ -1,7 +1,7 @@
 //! What holds of what a run makes. No code stands here.
 ghost use Rattle.std.specs.Prelude.{ℕ, List};
-ghost use Rattle.command_spec.specs.Words.{SendWords};
-ghost use Rattle.command_spec.specs.Sent.{IsSent};
+ghost use Rattle.rtt_words.specs.Words.{SendWords};
+ghost use Rattle.rtt_words.specs.Sent.{IsSent};
 ghost use Rattle.rtt_top.specs.Statuses.{EndsAsItCan};
 ghost use Rattle.rtt_top.specs.Worlds.{SendMakes};
 

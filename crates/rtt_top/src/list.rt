@@ -1,6 +1,6 @@
 //! `list`: a recording is opened and read to its end, and a line is printed for each record.
 ghost use Rattle.std.specs.Prelude.{Some, IfOk, IfErr};
-ghost use Rattle.command_spec.specs.Words.{ListRecords};
+ghost use Rattle.rtt_words.specs.Words.{ListRecords};
 ghost use Rattle.rtt_words.specs.Commands.{listed};
 ghost use Rattle.command_spec.specs.Outcomes.{Same};
 ghost use Rattle.rtt_top.specs.Faults.{name_in};

@@ -1,6 +1,6 @@
 //! `live`: the conference of a file is served over links, and what was seen is printed.
 ghost use Rattle.std.specs.Prelude.{◌≡◌, Some, true};
-ghost use Rattle.command_spec.specs.Words.{Live};
+ghost use Rattle.rtt_words.specs.Words.{Live};
 ghost use Rattle.rtt_words.specs.Commands.{mixed};
 ghost use Rattle.rtt_top.specs.Lives.{RunsLive, uses_no_link};
 ghost use Rattle.rtt_top.specs.Outside.{outside_over, output_at};

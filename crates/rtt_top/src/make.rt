@@ -1,7 +1,7 @@
 //! `make`: a conference is made from a number and mixed in memory, and a line is printed of it.
 ghost use Rattle.std.specs.Prelude.{◌≡◌, ℕ, List, [], Some, IfOk, IfErr};
 ghost use Rattle.command_spec.specs.Making.{making};
-ghost use Rattle.command_spec.specs.Words.{Make};
+ghost use Rattle.rtt_words.specs.Words.{Make};
 ghost use Rattle.command_spec.specs.Work.{Makes};
 ghost use Rattle.rtt_top.specs.Makings.{fault_in_memory, IsWhy};
 ghost use Rattle.rtt_top.specs.Outside.{outside_at, output_at};

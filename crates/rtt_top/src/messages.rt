@@ -1,7 +1,9 @@
 //! What is printed, and what is told of a fault, and its status.
 ghost use Rattle.std.specs.Prelude.{◌≡◌, ◌++◌, ◌≤◌, decimal, Ok, OnErr, IfErr};
+ghost use Rattle.std.specs.List.{concat};
 ghost use Rattle.rtt_io.specs.Counts.{Rose};
-ghost use Rattle.command_spec.specs.Messages.{refusal_status, fault_status, status_of, fault_message, message_of, refusal_message, trouble, byte_message, line_message, dump_kind_name, conf_kind_name, frame_kind_name};
+ghost use Rattle.command_spec.specs.Messages.{refusal_status, fault_status, status_of, refusal_message, trouble, byte_message, line_message, dump_kind_name, conf_kind_name, frame_kind_name};
+ghost use Rattle.rtt_words.specs.Told.{fault_message, message_of};
 ghost use Rattle.rtt_top.specs.Faults.{message_in};
 ghost use Rattle.rtt_top.specs.Sinks.{Wrote, WrotePartly, TookFront, TookIfCalm, place_message};
 
@@ -10,7 +12,7 @@ use command_spec::{Fault, Refusal};
 use file_spec::ConfKind;
 use frame_spec::FrameKind;
 use itoa::Buffer;
-use rtt_base::Failed;
+use rtt_base::{Bytes, Failed};
 use rtt_io::Sink;
 use wire_spec::DumpKind;
 
@@ -274,6 +276,32 @@ pub(crate) fn print<K: Sink>(octets: &[u8], out: &mut K) -> Result<(), Fault>
     ensures partly { WrotePartly K.Sink out.old out.new octets.now result }
 {
     match out.write_all(octets) {
+        Ok(()) => Ok(()),
+        Err(Failed) => Err(Fault::CannotPrint),
+    }
+}
+
+/// Writes pieces, one behind the other.
+fn write_pieces<K: Sink>(out: &mut K, pieces: &[Bytes]) -> Result<(), Failed>
+    ensures never_falls { K.faults out.old ≤ K.faults out.new }
+    ensures failed { OnErr result (Rose (K.faults out.old) (K.faults out.new)) }
+    ensures written { Wrote K.Sink out.old out.new (concat pieces.now) result }
+    ensures partly { WrotePartly K.Sink out.old out.new (concat pieces.now) result }
+{
+    for piece in pieces {
+        out.write_all(piece.as_slice())?;
+    }
+    Ok(())
+}
+
+/// Prints what a command made in pieces, one behind the other.
+pub(crate) fn print_all<K: Sink>(pieces: &[Bytes], out: &mut K) -> Result<(), Fault>
+    ensures fault { IfErr result (λ fault. fault ≡ Fault.CannotPrint) }
+    ensures cause { OnErr result (Rose (K.faults out.old) (K.faults out.new)) }
+    ensures printed { Wrote K.Sink out.old out.new (concat pieces.now) result }
+    ensures partly { WrotePartly K.Sink out.old out.new (concat pieces.now) result }
+{
+    match write_pieces(out, pieces) {
         Ok(()) => Ok(()),
         Err(Failed) => Err(Fault::CannotPrint),
     }

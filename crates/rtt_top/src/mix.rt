@@ -2,7 +2,8 @@
 ghost use Rattle.std.specs.Prelude.{◌≡◌, ◌≤◌, length, Some, OnOk, IfErr};
 ghost use Rattle.rtt_io.specs.Names.{NoneFalls};
 ghost use Rattle.conference.specs.Conferences.{conf_of};
-ghost use Rattle.command_spec.specs.Words.{Mix};
+ghost use Rattle.sent_files.specs.Files.{recordings_of};
+ghost use Rattle.rtt_words.specs.Words.{Mix};
 ghost use Rattle.rtt_words.specs.Commands.{mixed};
 ghost use Rattle.rtt_top.specs.Conferences.{MixingEnds, OutputsEnd, fault_of_mixing};
 ghost use Rattle.rtt_top.specs.Outside.{outside_at, output_at};
@@ -11,15 +12,15 @@ ghost use Rattle.rtt_top.specs.Worlds.{SavesEach, IsUnwrittenIn};
 ghost use Rattle.file_spec.specs.declared.limits.TheConstants.{MOST_LEGS};
 
 use crate::conferences::{conf_under, name_at_end};
-use crate::files::{fault_of_dump, save_output};
-use crate::messages::{finish_with, print};
+use crate::files::{fault_of_dump, save_recording};
+use crate::messages::{finish_with, print_all};
 use bridge_run::{MixFault, Mixed, mix};
 use command_spec::{Fault, Refusal};
 use conf_text::Form;
 use conference::{Conf, LegLine};
-use rtt_base::Bytes;
 use rtt_io::{Gate, Sink, World};
 use rtt_words::MixWords;
+use sent_files::SentFiles;
 use std::alloc::Global;
 use std::sync::Wait;
 use std::thread::Threads;
@@ -41,19 +42,23 @@ pub(crate) fn fault_of_mixing(turns: u32, fault: MixFault) -> Fault
     }
 }
 
-/// Creates the outputs of the legs anew, in leg order, each with its octets. The first that fails is the last.
-fn save_outputs<W: World>(legs: &[LegLine], outputs: &[Bytes], world: &mut W) -> Result<(), Fault>
-    requires as_many { length legs.now ≡ length outputs.now }
+/// Creates the outputs of the legs anew, in leg order, each with the recording of what was sent to its terminal. The first that
+/// fails is the last.
+fn save_outputs<W: World>(
+    legs: &[LegLine],
+    files: &mut SentFiles,
+    world: &mut W,
+) -> Result<(), Fault>
+    requires as_many { length legs.now ≡ length files.old }
     requires few { length legs.now ≤ MOST_LEGS }
-    ensures saved { W.tells → OnOk result (SavesEach W.World world.old world.new legs.now outputs.now) }
-    ensures unwritten { IfErr result (IsUnwrittenIn W.World world.old world.new legs.now outputs.now) }
+    ensures saved { W.tells → OnOk result (SavesEach W.World world.old world.new legs.now (recordings_of files.old)) }
+    ensures unwritten { IfErr result (IsUnwrittenIn W.World world.old world.new legs.now (recordings_of files.old)) }
     ensures calls_never_fall { NoneFalls W.own_faults world.old world.new }
     ensures objects_never_fall { NoneFalls W.object_faults world.old world.new }
 {
     for number in 0..legs.len() {
         let name = legs[number].output.as_str();
-        let octets = outputs[number].as_slice();
-        let saved = save_output(number as u32, name, octets, world);
+        let saved = save_recording(number as u32, name, files, world);
         if saved.is_err() {
             return saved;
         }
@@ -64,21 +69,22 @@ fn save_outputs<W: World>(legs: &[LegLine], outputs: &[Bytes], world: &mut W) ->
 /// Writes the outputs of a mixed conference with these legs, and prints what is seen.
 pub(crate) fn make_outputs<W: World, K: Sink>(
     legs: &[LegLine],
-    mixed: &Mixed,
+    mixed: Mixed,
     world: &mut W,
     out: &mut K,
 ) -> Result<(), Fault>
-    requires as_many { length legs.now ≡ length mixed.now.outs.items }
+    requires as_many { length legs.now ≡ length mixed.outs }
     requires few { length legs.now ≤ MOST_LEGS }
     ensures { OutputsEnd W.tells K.tells
         (outside_at W.World K.Sink world.old out.old) (outside_at W.World K.Sink world.new out.new)
-        legs.now mixed.now result }
+        legs.now mixed result }
 {
-    let saved = save_outputs(legs, mixed.outs.as_slice(), world);
+    let mut files = mixed.outs;
+    let saved = save_outputs(legs, &mut files, world);
     if saved.is_err() {
         return saved;
     }
-    print(mixed.views.as_slice(), out)
+    print_all(mixed.views.as_slice(), out)
 }
 
 /// Mixes a conference, writes its outputs, and prints what is seen.
@@ -99,7 +105,7 @@ pub(crate) fn mix_conf<R: Threads + Wait + Sync, W: World, K: Sink, G: Gate + Sy
         Ok(mixed) => mixed,
         Err(fault) => return Err(fault_of_mixing(conf.turns, fault)),
     };
-    make_outputs(conf.legs.as_slice(), &mixed, world, out)
+    make_outputs(conf.legs.as_slice(), mixed, world, out)
 }
 
 /// `mix`: mixes the conference of a file, and answers the status.

@@ -1,6 +1,6 @@
 //! `read`: a recording is opened and read to its end, and its view is printed.
 ghost use Rattle.std.specs.Prelude.{◌≡◌, ℕ, List, Some, IfOk, IfErr};
-ghost use Rattle.command_spec.specs.Words.{Read};
+ghost use Rattle.rtt_words.specs.Words.{Read};
 ghost use Rattle.rtt_words.specs.Commands.{asked};
 ghost use Rattle.command_spec.specs.Reading.{read_view};
 ghost use Rattle.command_spec.specs.declared.requests.ReadRequest.{ReadRequest};

@@ -1,7 +1,7 @@
 //! `relay`: frames are read and sent, and a recording is made of what is sent.
 ghost use Rattle.std.specs.Prelude.{◌≡◌, Some, IfOk, IfErr};
 ghost use Rattle.rtt_io.specs.Names.{NoneFalls};
-ghost use Rattle.command_spec.specs.Words.{Relay};
+ghost use Rattle.rtt_words.specs.Words.{Relay};
 ghost use Rattle.rtt_words.specs.Commands.{sent};
 ghost use Rattle.command_spec.specs.Outcomes.{Same};
 ghost use Rattle.rtt_top.specs.Faults.{name_in};

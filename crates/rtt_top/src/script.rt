@@ -1,6 +1,6 @@
 //! `script`: a recording is opened and read to its end, and what is heard of a source is printed as a script.
 ghost use Rattle.std.specs.Prelude.{Some, IfOk, IfErr};
-ghost use Rattle.command_spec.specs.Words.{Script};
+ghost use Rattle.rtt_words.specs.Words.{Script};
 ghost use Rattle.rtt_words.specs.Commands.{asked};
 ghost use Rattle.command_spec.specs.Outcomes.{Same};
 ghost use Rattle.rtt_top.specs.Faults.{name_in};

@@ -2,8 +2,8 @@
 ghost use Rattle.std.specs.Prelude.{◌≡◌, Some, IfOk, IfErr};
 ghost use Rattle.rtt_io.specs.Names.{NoneFalls};
 ghost use Rattle.text_sender.specs.Confs.{IsConf};
-ghost use Rattle.command_spec.specs.Commands.{sending_of};
-ghost use Rattle.command_spec.specs.Words.{Send};
+ghost use Rattle.rtt_words.specs.Tasks.{sending_of};
+ghost use Rattle.rtt_words.specs.Words.{Send};
 ghost use Rattle.rtt_send.specs.Scripts as sender;
 ghost use Rattle.rtt_words.specs.Commands.{sent};
 ghost use Rattle.command_spec.specs.Outcomes.{Same};

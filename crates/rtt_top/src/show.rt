@@ -1,6 +1,6 @@
 //! `show`: a recording is opened and read as far as it can be, and all that it has is printed.
 ghost use Rattle.std.specs.Prelude.{Some, IfOk, IfErr};
-ghost use Rattle.command_spec.specs.Words.{Show};
+ghost use Rattle.rtt_words.specs.Words.{Show};
 ghost use Rattle.rtt_words.specs.Commands.{listed};
 ghost use Rattle.command_spec.specs.Outcomes.{Same};
 ghost use Rattle.rtt_top.specs.Faults.{name_in};

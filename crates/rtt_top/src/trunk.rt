@@ -1,7 +1,7 @@
 //! `cascade`: the conference of a file is mixed, of which some legs stand behind another mixer, whose recording is split.
 ghost use Rattle.std.specs.Prelude.{◌≡◌, Some, IfErr, IfOk};
 ghost use Rattle.conference.specs.Conferences.{conf_of};
-ghost use Rattle.command_spec.specs.Words.{Cascade};
+ghost use Rattle.rtt_words.specs.Words.{Cascade};
 ghost use Rattle.rtt_words.specs.Commands.{cascaded};
 ghost use Rattle.rtt_cascade.specs.Inputs.{input_name};
 ghost use Rattle.rtt_top.specs.Conferences.{CascadingEnds, ending_behind, fault_of_cascade, input_behind};
@@ -91,7 +91,7 @@ fn cascade_conf<R: Threads + Wait + Sync, W: World, K: Sink, G: Gate + Sync>(
         Ok(mixed) => mixed,
         Err(fault) => return Err(fault_of_cascade(conf.turns, fault)),
     };
-    make_outputs(conf.legs.as_slice(), &mixed, world, out)
+    make_outputs(conf.legs.as_slice(), mixed, world, out)
 }
 
 /// `cascade`: mixes the conference of a file behind another mixer, and answers the status.

@@ -1,6 +1,6 @@
 //! `version`: the name and the version of the program.
 ghost use Rattle.std.specs.Prelude.{Some, []};
-ghost use Rattle.command_spec.specs.Words.{Version};
+ghost use Rattle.rtt_words.specs.Words.{Version};
 ghost use Rattle.rtt_top.specs.Faults.{name_in};
 ghost use Rattle.rtt_top.specs.Outside.{outside_at, output_at};
 ghost use Rattle.rtt_top.specs.Runs.{Ends, Runs};

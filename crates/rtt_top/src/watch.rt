@@ -1,6 +1,6 @@
 //! `watch`: the conference of a file is served over links with a board, and what was seen and read is printed.
 ghost use Rattle.std.specs.Prelude.{◌≡◌, Some, true};
-ghost use Rattle.command_spec.specs.Words.{Watch};
+ghost use Rattle.rtt_words.specs.Words.{Watch};
 ghost use Rattle.rtt_words.specs.Commands.{mixed};
 ghost use Rattle.rtt_top.specs.Lives.{RunsWatched, uses_no_link};
 ghost use Rattle.rtt_top.specs.Outside.{outside_over, output_at};

@@ -1,6 +1,6 @@
 use Rattle.std.proofs.Common.{Err, refl, sym, subst, ◌∙◌}
 use Rattle.file_spec.specs.Conf.{Conf}
-use Rattle.command_spec.specs.Words.{Attend, Command}
+use Rattle.rtt_words.specs.Words.{Attend, Command}
 use Rattle.command_spec.specs.declared.faults.Fault.{Fault}
 use Rattle.conference.specs.Conferences.{conf_of}
 use Rattle.rtt_top.specs.Conferences.{ending_name, fault_of_mixing}

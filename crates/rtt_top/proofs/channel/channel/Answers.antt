@@ -1,5 +1,5 @@
 use Rattle.std.proofs.Common.{List, ℕ, refl, sym, subst}
-use Rattle.command_spec.specs.Words.{Channel}
+use Rattle.rtt_words.specs.Words.{Channel}
 use Rattle.rtt_words.specs.Commands.{channelled}
 use Rattle.rtt_top.specs.Outside.{outside, output_at}
 use Rattle.rtt_top.proofs.Framing.{AreWritten, channel_path, written_outcome}

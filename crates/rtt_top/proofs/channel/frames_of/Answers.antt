@@ -3,7 +3,7 @@ use Rattle.leg_core.specs.Gives.{source_of}
 use Rattle.rtpdump_io.specs.declared.items.DumpFault.{DumpFault}
 use Rattle.rtpdump_io.specs.Reading.{is_of_source}
 use Rattle.rtt_relay.specs.declared.faults.ChannelFault.TheVariants as channel_fault
-use Rattle.command_spec.specs.Words.{ChannelWords, Channel}
+use Rattle.rtt_words.specs.Words.{ChannelWords, Channel}
 use Rattle.rtt_words.specs.Commands.{channelled}
 use Rattle.rtt_top.specs.Outside.{RoseAt}
 use Rattle.rtt_top.specs.Worlds.{OpenFailedIn, StopsIn}

@@ -1,4 +1,4 @@
-use Rattle.command_spec.specs.Words as words
+use Rattle.rtt_words.specs.Words as words
 use Rattle.rtt_words.specs.Commands.{channelled}
 use Rattle.rtt_top.specs.Faults.{name_in}
 use Rattle.rtt_top.specs.Outside.{outside_at, output_at}

@@ -1,7 +1,7 @@
 use Rattle.std.proofs.Common.{refl, ap, subst, ◌∙◌}
 use Rattle.rtpdump_io.specs.Reading.{to_come, source_of}
 use Rattle.wire_spec.specs.Dump.{Recording, dump, usual_limit}
-use Rattle.command_spec.specs.Words as words
+use Rattle.rtt_words.specs.Words as words
 use Rattle.rtt_words.specs.Commands.{listed}
 use Rattle.rtpdump_io.specs.Faults.{IsSourceFault}
 use Rattle.command_spec.specs.Listing.{list_view}

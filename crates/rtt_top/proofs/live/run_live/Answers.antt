@@ -1,4 +1,4 @@
-use Rattle.command_spec.specs.Words as words
+use Rattle.rtt_words.specs.Words as words
 use Rattle.rtt_words.specs.Commands.{mixed}
 use Rattle.rtt_top.specs.Outside.{outside_over, output_at}
 use Rattle.rtt_top.proofs.Living.{runs_live, runs_served}

@@ -1,5 +1,5 @@
 use Rattle.std.proofs.Common.{[]}
-use Rattle.command_spec.specs.Words as words
+use Rattle.rtt_words.specs.Words as words
 use Rattle.rtt_top.specs.Outside.{outside_at, output_at}
 use Rattle.rtt_top.proofs.Ending.{runs}
 use Rattle.rtt_top.proofs.make.run_make.Goals as goal

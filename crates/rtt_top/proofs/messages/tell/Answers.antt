@@ -1,5 +1,5 @@
 use Rattle.std.proofs.Common.{subst}
-use Rattle.command_spec.specs.Messages.{fault_message}
+use Rattle.rtt_words.specs.Told.{fault_message}
 use Rattle.rtt_io.specs.Fronts.{TakesFront}
 use Rattle.rtt_top.proofs.Fronts.{front_of}
 use Rattle.rtt_top.proofs.messages.tell.Goals as goal

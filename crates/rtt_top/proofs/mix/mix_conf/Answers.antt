@@ -1,6 +1,8 @@
 use Rattle.std.proofs.Common.{Err, refl, sym, subst}
+use Rattle.std.specs.List.{concat}
 use Rattle.conference.specs.Conferences.{conf_of}
 use Rattle.command_spec.specs.declared.faults.Fault.{Fault}
+use Rattle.sent_files.specs.Files.{recordings_of}
 use Rattle.bridge_run.specs.Mixes.{outputs_of}
 use Rattle.rtt_top.specs.Conferences.{OutputsEnd, ending_name}
 use Rattle.rtt_top.specs.Outside.{outside_at}
@@ -24,9 +26,11 @@ returns g c = λ file command m.
     let new = outside_at g.W.World g.K.Sink c.make_outputs.new.world c.make_outputs.new.out in
     let legs = c.args.conf.now.legs in
     let mixed = c.in-Ok.mixed in
+    let printed = concat mixed.views.items in
+    let recordings = recordings_of mixed.outs in
     let ends = subst (λ lines. OutputsEnd g.W.World.tells g.K.Sink.tells mid new lines mixed c.make_outputs.result) c.as_slice.ensures c.make_outputs.ensures in
     ends_since command g.W.World.tells g.K.Sink.tells old mid new (ending_name file legs c.make_outputs.result) c.make_outputs.result
     (record { same = c.mix.ensures.same_contents; calls_rise = c.mix.ensures.calls_never_fall; objects_rise = c.mix.ensures.objects_never_fall }) refl refl c.in-Ok.ensures.none_failed c.in-Ok.ensures.opened
     (ends command (ending_name file legs) (names_outputs file legs)
-    (makes_since g.W.World.tells old.contents mid.contents command legs mixed.views (outputs_of legs mixed.outs.items) c.mix.ensures.same_contents
-    (mixing_makes g.W.World.tells old.contents command (conf_of c.args.conf.now) mixed.views mixed.outs.items m (λ told. let made = c.in-Ok.ensures.made told in (made.lie, made.makes)))))
+    (makes_since g.W.World.tells old.contents mid.contents command legs printed (outputs_of legs recordings) c.mix.ensures.same_contents
+    (mixing_makes g.W.World.tells old.contents command (conf_of c.args.conf.now) printed recordings m (λ told. let made = c.in-Ok.ensures.made told in (made.lie, made.makes)))))

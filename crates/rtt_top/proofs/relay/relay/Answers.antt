@@ -1,9 +1,9 @@
 use Rattle.std.proofs.Common.{◌≡◌, List, ℕ, Ok, Some, refl, ap, sym, subst}
 use Rattle.command_spec.specs.Frames.{relay}
-use Rattle.command_spec.specs.Words.{Relay}
+use Rattle.rtt_words.specs.Words.{Relay}
 use Rattle.rtt_words.specs.Commands.{sent}
 use Rattle.command_spec.specs.Work.{Steps}
-use Rattle.command_spec.specs.Commands.{saves_frames, sending_of}
+use Rattle.rtt_words.specs.Tasks.{saves_frames, sending_of}
 use Rattle.rtt_top.specs.Outside.{outside, output_at}
 use Rattle.rtt_top.proofs.Sending.{made_of, output_is, saves}
 use Rattle.rtt_top.proofs.relay.relay.Goals as goal

@@ -1,8 +1,8 @@
 use Rattle.std.proofs.Common.{◌≡◌, List, ℕ, Ok, sym, subst}
 use Rattle.command_spec.specs.Frames.{relay}
 use Rattle.command_spec.specs.Scripts.{Sending}
-use Rattle.command_spec.specs.Commands.{sending_of}
-use Rattle.command_spec.specs.Words.{SendWords, Relay}
+use Rattle.rtt_words.specs.Tasks.{sending_of}
+use Rattle.rtt_words.specs.Words.{SendWords, Relay}
 use Rattle.rtt_words.specs.Commands.{sent}
 use Rattle.rtt_relay.specs.Answers.{IsRelayCause}
 use Rattle.rtt_top.specs.Worlds.{ObjectFailedIn, OpenFailedIn, StopsIn}

@@ -1,11 +1,11 @@
 use Rattle.std.proofs.Common.{refl, ap, subst, ◌∙◌}
 use Rattle.rtpdump_io.specs.Reading.{to_come, source_of}
 use Rattle.wire_spec.specs.Dump.{Recording}
-use Rattle.command_spec.specs.Words as words
+use Rattle.rtt_words.specs.Words as words
 use Rattle.rtt_words.specs.Commands.{asked}
 use Rattle.rtpdump_io.specs.Faults.{IsSourceFault}
 use Rattle.command_spec.specs.Transcripts.{transcript_view}
-use Rattle.command_spec.specs.Commands.{request_of}
+use Rattle.rtt_words.specs.Tasks.{request_of}
 use Rattle.rtt_top.specs.Faults.{IsTrueOf}
 use Rattle.rtt_top.specs.Outside.{RoseAt}
 use Rattle.rtt_top.specs.Worlds.{OpenFailedIn}

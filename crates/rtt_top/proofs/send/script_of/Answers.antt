@@ -1,6 +1,6 @@
 use Rattle.std.proofs.Common.{◌≡◌, Err, sym, subst}
 use Rattle.file_spec.specs.Script.{script}
-use Rattle.command_spec.specs.Words.{SendWords, Send}
+use Rattle.rtt_words.specs.Words.{SendWords, Send}
 use Rattle.rtt_words.specs.Commands.{sent}
 use Rattle.rtt_top.specs.Worlds.{ObjectFailedIn, OpenFailedIn, StopsIn}
 use Rattle.rtt_top.proofs.Sending.{script_refused}

@@ -1,9 +1,9 @@
 use Rattle.std.proofs.Common.{◌≡◌, List, ℕ, Some, [], ◌∷◌, refl, sym, subst}
 use Rattle.file_spec.specs.Script.{script}
-use Rattle.command_spec.specs.Words.{Send}
+use Rattle.rtt_words.specs.Words.{Send}
 use Rattle.rtt_words.specs.Commands.{sent}
 use Rattle.command_spec.specs.Work.{Steps, Makes}
-use Rattle.command_spec.specs.Commands.{sends}
+use Rattle.rtt_words.specs.Tasks.{sends}
 use Rattle.rtt_top.specs.Outside.{outside, output_at}
 use Rattle.rtt_top.proofs.Sending.{made_of, output_is, saves}
 use Rattle.rtt_top.proofs.send.send.Goals as goal

@@ -1,7 +1,7 @@
 use Rattle.std.proofs.Common.{◌≡◌, None, [], refl, ap, sym, subst, ◌∙◌}
 use Rattle.rtpdump_io.specs.Reading.{to_come, source_of}
 use Rattle.wire_spec.specs.Dump.{Recording}
-use Rattle.command_spec.specs.Words as words
+use Rattle.rtt_words.specs.Words as words
 use Rattle.rtt_words.specs.Commands.{listed}
 use Rattle.rtpdump_io.specs.Faults.{IsSourceFault}
 use Rattle.command_spec.specs.Showing.{if_no_recording, show_refusal, show_view}

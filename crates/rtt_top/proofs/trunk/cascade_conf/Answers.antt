@@ -1,7 +1,9 @@
 use Rattle.std.proofs.Common.{◌≡◌, None, Some, Err, refl, ap, sym, subst, ◌∙◌}
+use Rattle.std.specs.List.{concat}
 use Rattle.conference.specs.Conferences.{conf_of}
 use Rattle.command_spec.specs.declared.faults.Fault.{Fault}
 use Rattle.command_spec.specs.Cascading.{odd_line}
+use Rattle.sent_files.specs.Files.{recordings_of}
 use Rattle.bridge_run.specs.Mixes.{outputs_of}
 use Rattle.rtt_top.specs.Conferences.{OutputsEnd, ending_behind}
 use Rattle.rtt_top.specs.Outside.{outside_at}
@@ -38,12 +40,13 @@ returns g c = λ conference octets there read.
     let ssrc = c.args.ssrc in
     let conf = conf_of c.args.conf.now in
     let mixed = c.in-Ok.mixed in
-    let files = outputs_of conf.legs mixed.outs.items in
+    let files = outputs_of conf.legs (recordings_of mixed.outs) in
+    let printed = concat mixed.views.items in
     let command = command_of conference file ssrc in
     let even : odd_line conf.legs ≡ None = sym (c.odd_line.ensures ∙ ap odd_line c.as_slice.ensures) ∙ none_odd c.odd_line.result c.in_default.not-Some in
     let ends = subst (λ lines. OutputsEnd g.W.World.tells g.K.Sink.tells mid new lines mixed c.make_outputs.result) c.as_slice-2.ensures c.make_outputs.ensures in
     ends_since command g.W.World.tells g.K.Sink.tells old mid new (ending_behind conference file conf.legs c.make_outputs.result) c.make_outputs.result
     (record { same = c.cascade.ensures.same_contents; calls_rise = c.cascade.ensures.calls_never_fall; objects_rise = c.cascade.ensures.objects_never_fall }) refl refl c.in-Ok.ensures.none_failed c.in-Ok.ensures.opened
     (ends command (ending_behind conference file conf.legs) (names_behind conference file conf.legs)
-    (makes_since g.W.World.tells old.contents mid.contents command conf.legs mixed.views files c.cascade.ensures.same_contents
-    (cascade_makes g.W.World.tells old.contents conference octets file ssrc conf there read even mixed.views files c.in-Ok.ensures.made)))
+    (makes_since g.W.World.tells old.contents mid.contents command conf.legs printed files c.cascade.ensures.same_contents
+    (cascade_makes g.W.World.tells old.contents conference octets file ssrc conf there read even printed files c.in-Ok.ensures.made)))

@@ -1,5 +1,5 @@
 use Rattle.std.proofs.Common.{Err, refl, ap, sym, subst, ◌∙◌}
-use Rattle.command_spec.specs.Words as words
+use Rattle.rtt_words.specs.Words as words
 use Rattle.command_spec.specs.Messages.{Ending}
 use Rattle.rtt_words.specs.Commands.{cascaded}
 use Rattle.rtt_top.specs.Conferences.{ending_behind}

@@ -1,5 +1,5 @@
 use Rattle.std.proofs.Common.{[], refl}
-use Rattle.command_spec.specs.Words.{Version}
+use Rattle.rtt_words.specs.Words.{Version}
 use Rattle.command_spec.specs.Messages.{version_line}
 use Rattle.rtt_top.specs.Outside.{outside_at}
 use Rattle.rtt_top.proofs.Working.{printed}
