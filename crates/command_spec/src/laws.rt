@@ -1,11 +1,8 @@
 //! What holds of the definitions. No code stands here.
 ghost use Rattle.std.specs.Prelude.{◌≡◌, ◌≤◌, ℕ, ◌+◌, List, length, All};
-ghost use Rattle.wire_spec.specs.Packets.{Arrival};
 ghost use Rattle.file_spec.specs.Conf.{Conf};
 ghost use Rattle.file_spec.specs.Kept.{IsConference};
-ghost use Rattle.stream_spec.specs.Hearing.{heard};
-ghost use Rattle.stream_spec.specs.History.{History, Lawful, Come, places};
-ghost use Rattle.stream_spec.specs.Kept.{kept};
+ghost use Rattle.stream_spec.specs.History.{History, Lawful, Come};
 ghost use Rattle.command_spec.specs.declared.requests.ReadRequest.{ReadRequest};
 ghost use Rattle.view_spec.specs.Seen.{display_at, counts_at};
 ghost use Rattle.command_spec.specs.Reading.{arrivals_of, history_view, read_view, reception, records_of};

@@ -1,127 +1,92 @@
 -- Worked examples of conferences, by computing.
-use Rattle.std.proofs.Common.{◌≡◌, ℕ, refl, [], ◌∷◌, ◌++◌, Ok, Err, None, Some, codes, true, false}
-use Rattle.std.specs.Prelude.{replicate}
+use Rattle.std.proofs.Common.{◌≡◌, ℕ, refl, List, [], ◌∷◌, ◌++◌, Ok, Err, None, Some, codes, true, false}
+use Rattle.std.specs.Prelude.{map, replicate}
 use Rattle.std.specs.Str.{is_utf8, chars}
 use Rattle.std.specs.Char.{encode_utf8}
 use Rattle.file_spec.specs.declared.kinds.ConfKind.TheVariants.{NotText, Word, Count, Name, Number, Many, PlanMany, Twice, Clash, Few, Crowd}
+use Rattle.file_spec.specs.declared.conf_lines.Form.{Form}
 use Rattle.file_spec.specs.declared.conf_lines.Form.TheVariants.{Files, Links}
 use Rattle.file_spec.specs.declared.conf_lines.LegLine.{LegLine}
 use Rattle.file_spec.specs.declared.conf_lines.MixerLine.{MixerLine}
 use Rattle.file_spec.specs.declared.conf_lines.Stay.{Stay}
 use Rattle.file_spec.specs.declared.conf_lines.What.TheVariants as what
+use Rattle.file_spec.specs.Lines.{Refusal}
 use Rattle.file_spec.specs.Stays.{is_crowd}
-use Rattle.file_spec.specs.Conf.{Above, complete, conf, entry, gens_of, leg_of, mixer_of, new_leg, nothing, plan_of, stay_of, stay_or_plan, time_or_other, usual_types, whole, whole_stay}
+use Rattle.file_spec.specs.Conf.{Above, Conf, complete, conf, entry, gens_of, leg_of, mixer_of, new_leg, nothing, plan_of, stay_of, stay_or_plan, time_or_other, usual_types, whole, whole_stay}
+
+-- a conference of these legs that says no more than it must
+abbrev usual : List LegLine → MixerLine → Conf
+usual legs mixer = record { legs = legs; tick = 100; spacing = 300; wait = 1000; turns = 5000000; mixer = mixer; plan = [] }
 
 two_legs_and_a_loss : conf Files (codes "mixer 9000 100 5000\n\n# who\n leg Ann aware 1001 ann.in ann.out\r\nleg Bob  unaware 1002 bob.in bob.out 96 97\ntick 20\nlose Bob 1")
-    ≡ Ok (record {
-      legs = record { line = 4; name = codes "Ann"; aware = true; ssrc = 1001; input = codes "ann.in"; output = codes "ann.out"; pts = record { t140 = 98; red = 100 }; gens = 2; stay = record { from = 0; until = None } }
-          ∷ record { line = 5; name = codes "Bob"; aware = false; ssrc = 1002; input = codes "bob.in"; output = codes "bob.out"; pts = record { t140 = 96; red = 97 }; gens = 2; stay = record { from = 0; until = None } } ∷ [];
-      tick = 20;
-      spacing = 300;
-      wait = 1000;
-      turns = 5000000;
-      mixer = record { ssrc = 9000; seq = 100; stamp = 5000 };
-      plan = record { terminal = 1; packet = 1; what = what.Lose } ∷ [];
-    })
+    ≡ Ok (record (
+    usual
+    (record { line = 4; name = codes "Ann"; aware = true; ssrc = 1001; input = codes "ann.in"; output = codes "ann.out"; pts = record { t140 = 98; red = 100 }; gens = 2; stay = record { from = 0; until = None } }
+    ∷ record { line = 5; name = codes "Bob"; aware = false; ssrc = 1002; input = codes "bob.in"; output = codes "bob.out"; pts = record { t140 = 96; red = 97 }; gens = 2; stay = record { from = 0; until = None } } ∷ [])
+    (record { ssrc = 9000; seq = 100; stamp = 5000 })
+    ) { tick = 20; plan = record { terminal = 1; packet = 1; what = what.Lose } ∷ [] })
 unfolding entry gens_of leg_of mixer_of plan_of stay_of stay_or_plan time_or_other is_utf8 chars encode_utf8
 two_legs_and_a_loss = refl
 
 generations_and_stays : conf Files (codes "leg A aware 1 a.in a.out\nleg B aware 2 b.in b.out\ngens B 0\nstay A 300 900\nmixer 3 0 0")
-    ≡ Ok (record {
-      legs = record { line = 1; name = codes "A"; aware = true; ssrc = 1; input = codes "a.in"; output = codes "a.out"; pts = record { t140 = 98; red = 100 }; gens = 2; stay = record { from = 300; until = Some 900 } }
-          ∷ record { line = 2; name = codes "B"; aware = true; ssrc = 2; input = codes "b.in"; output = codes "b.out"; pts = record { t140 = 98; red = 100 }; gens = 0; stay = record { from = 0; until = None } } ∷ [];
-      tick = 100;
-      spacing = 300;
-      wait = 1000;
-      turns = 5000000;
-      mixer = record { ssrc = 3; seq = 0; stamp = 0 };
-      plan = [];
-    })
+    ≡ Ok (usual
+    (record { line = 1; name = codes "A"; aware = true; ssrc = 1; input = codes "a.in"; output = codes "a.out"; pts = record { t140 = 98; red = 100 }; gens = 2; stay = record { from = 300; until = Some 900 } }
+    ∷ record { line = 2; name = codes "B"; aware = true; ssrc = 2; input = codes "b.in"; output = codes "b.out"; pts = record { t140 = 98; red = 100 }; gens = 0; stay = record { from = 0; until = None } } ∷ [])
+    (record { ssrc = 3; seq = 0; stamp = 0 }))
 unfolding entry gens_of leg_of mixer_of plan_of stay_of stay_or_plan time_or_other is_utf8 chars encode_utf8
 generations_and_stays = refl
 
 nothing_is_too_little : conf Files [] ≡ Err (record { line = 1; kind = Few })
 nothing_is_too_little = refl
 
-half_a_character : conf Files (codes "wait 1\n" ++ 195 ∷ []) ≡ Err (record { line = 2; kind = NotText })
-unfolding entry gens_of leg_of mixer_of plan_of stay_of stay_or_plan time_or_other is_utf8 chars encode_utf8
-half_a_character = refl
+-- conferences with a fault, and what is told of it
+abbrev faulty : List (Form × List ℕ × Refusal)
+faulty =
+    -- half a character
+    (Files, codes "wait 1\n" ++ 195 ∷ [], record { line = 2; kind = NotText })
+    -- no such word
+    ∷ (Files, codes "wait 1\nwaits 1", record { line = 2; kind = Word })
+    -- neither aware nor unaware
+    ∷ (Files, codes "leg A deaf 1 a b", record { line = 1; kind = Word })
+    -- a word too many
+    ∷ (Files, codes "tick 20 20", record { line = 1; kind = Count })
+    -- no stay without an end
+    ∷ (Files, codes "leg A aware 1 a b\nstay A 5", record { line = 2; kind = Count })
+    -- no such leg
+    ∷ (Files, codes "leg A aware 1 a b\ngens B 1", record { line = 2; kind = Name })
+    -- a name of 33 letters
+    ∷ (Files, codes "leg AAAAAAAAAAAAAAAAAAAAAAAAAAAAAAAAA aware 1 a b", record { line = 1; kind = Name })
+    -- a long tick
+    ∷ (Files, codes "tick 201", record { line = 1; kind = Number })
+    -- short spacing
+    ∷ (Files, codes "spacing 99", record { line = 1; kind = Number })
+    -- four generations
+    ∷ (Files, codes "leg A aware 1 a b\ngens A 4", record { line = 2; kind = Number })
+    -- an empty stay
+    ∷ (Files, codes "leg A aware 1 a b\nstay A 5 5", record { line = 2; kind = Number })
+    -- two stays
+    ∷ (Files, codes "leg A aware 1 a b\nstay A 0 5\nstay A 7 8", record { line = 3; kind = Twice })
+    -- generations said again
+    ∷ (Files, codes "leg A aware 1 a b\ngens A 2\ngens A 2", record { line = 3; kind = Twice })
+    -- one name for two legs
+    ∷ (Files, codes "leg A aware 1 a b\nleg A aware 1 a b", record { line = 2; kind = Twice })
+    -- one sender for two legs
+    ∷ (Files, codes "mixer 1 0 0\nleg A aware 2 a b\nleg B aware 02 a c", record { line = 3; kind = Clash })
+    -- one output for two links
+    ∷ (Links, codes "leg A aware 1 5004 h:1\nleg B aware 2 5006 h:1", record { line = 2; kind = Clash })
+    -- one port for two links
+    ∷ (Links, codes "leg A aware 1 5004 h:1\nleg B aware 2 05004 h:2", record { line = 2; kind = Clash })
+    -- no mixer
+    ∷ (Files, codes "leg A aware 1 a b\nleg B aware 2 a c\n", record { line = 3; kind = Few })
+    -- no plan among links
+    ∷ (Links, codes "mixer 1 0 0\nleg A aware 2 5004 h:1\nlose A 0", record { line = 3; kind = Word })
+    -- no stay among links
+    ∷ (Links, codes "leg A aware 2 5004 h:1\nstay A 0 1", record { line = 2; kind = Word })
+    ∷ []
 
-no_such_word : conf Files (codes "wait 1\nwaits 1") ≡ Err (record { line = 2; kind = Word })
+faults_are_told : map (λ f. conf f.0 f.1) faulty ≡ map (λ f. Err f.2) faulty
 unfolding entry gens_of leg_of mixer_of plan_of stay_of stay_or_plan time_or_other is_utf8 chars encode_utf8
-no_such_word = refl
-
-neither_aware_nor_unaware : conf Files (codes "leg A deaf 1 a b") ≡ Err (record { line = 1; kind = Word })
-unfolding entry gens_of leg_of mixer_of plan_of stay_of stay_or_plan time_or_other is_utf8 chars encode_utf8
-neither_aware_nor_unaware = refl
-
-a_word_too_many : conf Files (codes "tick 20 20") ≡ Err (record { line = 1; kind = Count })
-unfolding entry gens_of leg_of mixer_of plan_of stay_of stay_or_plan time_or_other is_utf8 chars encode_utf8
-a_word_too_many = refl
-
-no_stay_without_an_end : conf Files (codes "leg A aware 1 a b\nstay A 5") ≡ Err (record { line = 2; kind = Count })
-unfolding entry gens_of leg_of mixer_of plan_of stay_of stay_or_plan time_or_other is_utf8 chars encode_utf8
-no_stay_without_an_end = refl
-
-no_such_leg : conf Files (codes "leg A aware 1 a b\ngens B 1") ≡ Err (record { line = 2; kind = Name })
-unfolding entry gens_of leg_of mixer_of plan_of stay_of stay_or_plan time_or_other is_utf8 chars encode_utf8
-no_such_leg = refl
-
-a_name_of_33_letters : conf Files (codes "leg AAAAAAAAAAAAAAAAAAAAAAAAAAAAAAAAA aware 1 a b") ≡ Err (record { line = 1; kind = Name })
-unfolding entry gens_of leg_of mixer_of plan_of stay_of stay_or_plan time_or_other is_utf8 chars encode_utf8
-a_name_of_33_letters = refl
-
-a_long_tick : conf Files (codes "tick 201") ≡ Err (record { line = 1; kind = Number })
-unfolding entry gens_of leg_of mixer_of plan_of stay_of stay_or_plan time_or_other is_utf8 chars encode_utf8
-a_long_tick = refl
-
-short_spacing : conf Files (codes "spacing 99") ≡ Err (record { line = 1; kind = Number })
-unfolding entry gens_of leg_of mixer_of plan_of stay_of stay_or_plan time_or_other is_utf8 chars encode_utf8
-short_spacing = refl
-
-four_generations : conf Files (codes "leg A aware 1 a b\ngens A 4") ≡ Err (record { line = 2; kind = Number })
-unfolding entry gens_of leg_of mixer_of plan_of stay_of stay_or_plan time_or_other is_utf8 chars encode_utf8
-four_generations = refl
-
-an_empty_stay : conf Files (codes "leg A aware 1 a b\nstay A 5 5") ≡ Err (record { line = 2; kind = Number })
-unfolding entry gens_of leg_of mixer_of plan_of stay_of stay_or_plan time_or_other is_utf8 chars encode_utf8
-an_empty_stay = refl
-
-two_stays : conf Files (codes "leg A aware 1 a b\nstay A 0 5\nstay A 7 8") ≡ Err (record { line = 3; kind = Twice })
-unfolding entry gens_of leg_of mixer_of plan_of stay_of stay_or_plan time_or_other is_utf8 chars encode_utf8
-two_stays = refl
-
-generations_said_again : conf Files (codes "leg A aware 1 a b\ngens A 2\ngens A 2") ≡ Err (record { line = 3; kind = Twice })
-unfolding entry gens_of leg_of mixer_of plan_of stay_of stay_or_plan time_or_other is_utf8 chars encode_utf8
-generations_said_again = refl
-
-one_name_for_two_legs : conf Files (codes "leg A aware 1 a b\nleg A aware 1 a b") ≡ Err (record { line = 2; kind = Twice })
-unfolding entry gens_of leg_of mixer_of plan_of stay_of stay_or_plan time_or_other is_utf8 chars encode_utf8
-one_name_for_two_legs = refl
-
-one_sender_for_two_legs : conf Files (codes "mixer 1 0 0\nleg A aware 2 a b\nleg B aware 02 a c") ≡ Err (record { line = 3; kind = Clash })
-unfolding entry gens_of leg_of mixer_of plan_of stay_of stay_or_plan time_or_other is_utf8 chars encode_utf8
-one_sender_for_two_legs = refl
-
-one_output_for_two_links : conf Links (codes "leg A aware 1 5004 h:1\nleg B aware 2 5006 h:1") ≡ Err (record { line = 2; kind = Clash })
-unfolding entry gens_of leg_of mixer_of plan_of stay_of stay_or_plan time_or_other is_utf8 chars encode_utf8
-one_output_for_two_links = refl
-
-one_port_for_two_links : conf Links (codes "leg A aware 1 5004 h:1\nleg B aware 2 05004 h:2") ≡ Err (record { line = 2; kind = Clash })
-unfolding entry gens_of leg_of mixer_of plan_of stay_of stay_or_plan time_or_other is_utf8 chars encode_utf8
-one_port_for_two_links = refl
-
-no_mixer : conf Files (codes "leg A aware 1 a b\nleg B aware 2 a c\n") ≡ Err (record { line = 3; kind = Few })
-unfolding entry gens_of leg_of mixer_of plan_of stay_of stay_or_plan time_or_other is_utf8 chars encode_utf8
-no_mixer = refl
-
-no_plan_among_links : conf Links (codes "mixer 1 0 0\nleg A aware 2 5004 h:1\nlose A 0") ≡ Err (record { line = 3; kind = Word })
-unfolding entry gens_of leg_of mixer_of plan_of stay_of stay_or_plan time_or_other is_utf8 chars encode_utf8
-no_plan_among_links = refl
-
-no_stay_among_links : conf Links (codes "leg A aware 2 5004 h:1\nstay A 0 1") ≡ Err (record { line = 2; kind = Word })
-unfolding entry gens_of leg_of mixer_of plan_of stay_of stay_or_plan time_or_other is_utf8 chars encode_utf8
-no_stay_among_links = refl
+faults_are_told = refl
 
 -- ---- many legs, by themselves
 someone : Stay → LegLine

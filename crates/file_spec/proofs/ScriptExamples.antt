@@ -1,9 +1,10 @@
 -- Worked examples of scripts, by computing.
-use Rattle.std.proofs.Common.{◌≡◌, refl, [], ◌∷◌, ◌++◌, None, Some, Ok, Err, codes}
+use Rattle.std.proofs.Common.{◌≡◌, ℕ, refl, List, [], ◌∷◌, ◌++◌, None, Some, Ok, Err, codes}
+use Rattle.std.specs.Prelude.{map}
 use Rattle.std.specs.Str.{is_utf8, chars}
 use Rattle.std.specs.Char.{encode_utf8}
 use Rattle.file_spec.specs.declared.kinds.ConfKind.TheVariants.{NotText, Count, Number, Order, Escape}
-use Rattle.file_spec.specs.Lines.{words}
+use Rattle.file_spec.specs.Lines.{Refusal, words}
 use Rattle.file_spec.specs.Script.{script, script_line, unescaped}
 
 spaces_count_for_nothing : words (codes "  leg Ann   aware ") ≡ codes "leg" ∷ codes "Ann" ∷ codes "aware" ∷ []
@@ -23,30 +24,25 @@ a_carriage_return_stays_at_the_end : script (codes "7 H\r") ≡ Ok (record { lin
 unfolding script_line is_utf8 chars encode_utf8
 a_carriage_return_stays_at_the_end = refl
 
-typed_too_late : script (codes "300 e\n299 H") ≡ Err (record { line = 2; kind = Order })
-unfolding script_line is_utf8 chars encode_utf8
-typed_too_late = refl
+-- scripts with a fault, and what is told of it
+abbrev faulty : List (List ℕ × Refusal)
+faulty =
+    -- typed before the line above
+    (codes "300 e\n299 H", record { line = 2; kind = Order })
+    -- no space behind the moment
+    ∷ (codes "\n300", record { line = 2; kind = Count })
+    -- a millisecond past four hours
+    ∷ (codes "14400001 A", record { line = 1; kind = Number })
+    -- a sign
+    ∷ (codes "+1 A", record { line = 1; kind = Number })
+    -- no such escape
+    ∷ (codes "0 a\\q", record { line = 1; kind = Escape })
+    -- a backslash ends the line
+    ∷ (codes "0 A\n1 a\\", record { line = 2; kind = Escape })
+    -- half a character
+    ∷ (codes "0 caf" ++ 195 ∷ [], record { line = 1; kind = NotText })
+    ∷ []
 
-no_space : script (codes "\n300") ≡ Err (record { line = 2; kind = Count })
+faults_are_told : map (λ f. script f.0) faulty ≡ map (λ f. Err f.1) faulty
 unfolding script_line is_utf8 chars encode_utf8
-no_space = refl
-
-four_hours_and_one : script (codes "14400001 A") ≡ Err (record { line = 1; kind = Number })
-unfolding script_line is_utf8 chars encode_utf8
-four_hours_and_one = refl
-
-a_sign : script (codes "+1 A") ≡ Err (record { line = 1; kind = Number })
-unfolding script_line is_utf8 chars encode_utf8
-a_sign = refl
-
-no_such_escape : script (codes "0 a\\q") ≡ Err (record { line = 1; kind = Escape })
-unfolding script_line is_utf8 chars encode_utf8
-no_such_escape = refl
-
-a_backslash_ends_the_line : script (codes "0 A\n1 a\\") ≡ Err (record { line = 2; kind = Escape })
-unfolding script_line is_utf8 chars encode_utf8
-a_backslash_ends_the_line = refl
-
-half_a_character : script (codes "0 caf" ++ 195 ∷ []) ≡ Err (record { line = 1; kind = NotText })
-unfolding script_line is_utf8 chars encode_utf8
-half_a_character = refl
+faults_are_told = refl

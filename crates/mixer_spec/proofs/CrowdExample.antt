@@ -1,22 +1,17 @@
 -- Seventeen legs at sixteen places, by computing: the last one comes when the first has gone.
-use Rattle.std.proofs.Common.{◌≡◌, ℕ, ◌+◌, cond, Some, None, List, [], ◌∷◌, refl}
-use Rattle.std.specs.Prelude.{codes, ◌==◌}
-use Rattle.stream_spec.specs.Ready.{Chunk, chunk}
+use Rattle.std.proofs.Common.{◌≡◌, ℕ, List, [], ◌∷◌, refl}
+use Rattle.std.specs.Prelude.{codes}
+use Rattle.stream_spec.specs.Ready.{Chunk}
 use Rattle.mixer_spec.specs.Setups.{Setup}
 use Rattle.mixer_spec.specs.Plain.{plain}
-use Rattle.mixer_spec.proofs.CallExample.{two, sent_to, moments, hears}
+use Rattle.mixer_spec.proofs.CallExample.{relieved, typed_last, sent_to, moments, hears}
 
 -- the first stays until 4000, and the last from 5000 until 9000
 abbrev seventeen : Setup
-seventeen = record two {
-  legs = 17;
-  ssrc = λ j. 1001 + j;
-  from = λ i. cond (i == 16) 5000 0;
-  until = λ i. cond (i == 0) (Some 4000) (cond (i == 16) (Some 9000) None);
-}
+seventeen = relieved 16 16 4000 5000 9000
 
 abbrev typed : ℕ → List Chunk
-typed i = cond (i == 16) (chunk 16 6000 (codes "x") ∷ []) []
+typed = typed_last 16 6000
 
 to_second : moments (sent_to 1 (plain seventeen 200 40 typed)) ≡ 6000 ∷ 6400 ∷ 6800 ∷ []
 to_second = refl

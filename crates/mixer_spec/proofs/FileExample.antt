@@ -49,10 +49,10 @@ use Rattle.mixer_spec.proofs.MixedExample.{table_of}
 abbrev file : List ℕ
 file = codes "leg Ann aware 1001 ann.in ann.out\nleg Bob aware 1002 bob.in bob.out\nleg Cy unaware 1003 cy.in cy.out\nmixer 9000 100 5000\nturns 30\nlose Bob 1\n"
 
-abbrev types : Pts
+abbrev pub types : Pts
 types = record { t140 = 98; red = 100 }
 
-abbrev for_good : Stay
+abbrev pub for_good : Stay
 for_good = record { from = 0; until = None }
 
 abbrev ann_leg : LegLine

@@ -1,7 +1,7 @@
 -- What the laws say of the packets to a terminal: their history, and what comes of them.
 use Rattle.std.specs.Prelude.{◌≡◌, ℕ, ◌<◌, ◌≤◌, List, map}
 use Rattle.stream_spec.specs.Ready.{Chunk}
-use Rattle.stream_spec.specs.History.{Lawful, placed}
+use Rattle.stream_spec.specs.History.{History, Lawful, placed}
 use Rattle.stream_spec.specs.Own.{Own, own_packet}
 use Rattle.stream_spec.specs.SentLaws.{AnyComes}
 use Rattle.mixer_spec.specs.Setups.{Setup, IsSetup, FitsHalfCircle}
@@ -11,13 +11,17 @@ use Rattle.mixer_spec.specs.Plain.{IsOverWith}
 use Rattle.mixer_spec.specs.Laws.{AllTexts, history_at}
 use Rattle.mixer_spec.specs.Bridged.{ComesByPlan, packets_to}
 
--- Each terminal's history is lawful.
-abbrev pub HistoriesAreLawful : Type 0
-HistoriesAreLawful =
+-- Of each terminal's history this holds.
+abbrev pub HoldsOfHistories : (History → Type 0) → Type 0
+HoldsOfHistories P =
     (s : Setup) (chunks : ℕ → List Chunk) (past : List Event) (j : ℕ)
     → IsSetup s → AllTexts chunks → FitsHalfCircle s (turns_in past)
     → j < s.legs
-    → Lawful (history_at s (after s chunks past).table j)
+    → P (history_at s (after s chunks past).table j)
+
+-- Each terminal's history is lawful.
+abbrev pub HistoriesAreLawful : Type 0
+HistoriesAreLawful = HoldsOfHistories Lawful
 
 -- Each terminal's history is of the mixer's own making.
 abbrev pub HistoriesAreOwn : Type 0
@@ -33,11 +37,7 @@ PacketsAreOwn =
 
 -- Whatever comes of these packets, in whatever order, comes from the history.
 abbrev pub AnyPacketsCome : Type 0
-AnyPacketsCome =
-    (s : Setup) (chunks : ℕ → List Chunk) (past : List Event) (j : ℕ)
-    → IsSetup s → AllTexts chunks → FitsHalfCircle s (turns_in past)
-    → j < s.legs
-    → AnyComes (history_at s (after s chunks past).table j)
+AnyPacketsCome = HoldsOfHistories AnyComes
 
 -- Whatever a plan loses, delays or sends twice of the packets of plain mixing, what comes is of their history.
 abbrev pub PlannedPacketsCome : Type 0

@@ -4,13 +4,11 @@ use Rattle.std.proofs.Common.{◌≡◌, ℕ, zero, suc, ◌<◌, true, cond, in
 use Rattle.std.specs.Prelude.{codes, ◌==◌}
 use Rattle.std.specs.Str.{is_utf8, chars}
 use Rattle.std.specs.Char.{encode_utf8}
-use Rattle.rtt_base.specs.declared.text_packets.Pts.{Pts}
 use Rattle.wire_spec.specs.Rtp.{rtp, rtp_of_header}
 use Rattle.wire_spec.specs.Red.{headers_at, texts_at, red}
 use Rattle.wire_spec.specs.Text.{text_of_short, text_of}
 use Rattle.file_spec.specs.declared.conf_lines.Form.TheVariants.{Links}
 use Rattle.file_spec.specs.declared.conf_lines.LegLine.{LegLine}
-use Rattle.file_spec.specs.declared.conf_lines.Stay.{Stay}
 use Rattle.file_spec.specs.Conf.{Conf, conf, entry, leg_of, mixer_of, stay_or_plan, time_or_other}
 use Rattle.stream_spec.specs.Ready.{Chunk}
 use Rattle.text_spec.specs.Characters.{class_of}
@@ -19,6 +17,7 @@ use Rattle.view_spec.specs.Views.{aware_view}
 use Rattle.mixer_spec.specs.Setups.{leg_at, setup}
 use Rattle.mixer_spec.specs.Table.{Table, chunks_taken, is_idle, is_seated}
 use Rattle.mixer_spec.specs.Core.{Enter, Event, Push, Take, Turn, after}
+use Rattle.mixer_spec.proofs.FileExample.{for_good, types}
 use Rattle.link_spec.specs.Links.{Takes, is_closed}
 use Rattle.link_spec.specs.Links as link
 use Rattle.live_spec.specs.Told.{ready_by}
@@ -31,12 +30,6 @@ use Rattle.serve_spec.proofs.Promised.{head_law}
 -- ---- the conference
 abbrev legs : List ℕ
 legs = codes "leg Ann aware 1001 5004 127.0.0.1:6004\nleg Bob aware 1002 5006 127.0.0.1:6006\nmixer 9000 100 5000\n"
-
-abbrev types : Pts
-types = record { t140 = 98; red = 100 }
-
-abbrev for_good : Stay
-for_good = record { from = 0; until = None }
 
 abbrev ann : LegLine
 ann = record { line = 1; name = codes "Ann"; aware = true; ssrc = 1001; input = codes "5004"; output = codes "127.0.0.1:6004"; pts = types; gens = 2; stay = for_good }

@@ -192,30 +192,18 @@ read_back = refl
 kept_three_lost : texts (kept (sent_history c six) (places 1000 (sent_history c six) (at 1500 (p5 5) ∷ at 1200 (p4 4) ∷ at 0 (p0 0) ∷ [])) 1001) ≡ A ∷ marker ∷ C ∷ D ∷ []
 kept_three_lost = refl
 
--- ---- three sources in turn, each with 1, 2, 3, 4 typed at 0, 300, 600, 900, in 18 packets 100 apart
+-- ---- three sources in turn, each with A, B, C, D typed at 0, 300, 600, 900, in 18 packets 100 apart
 abbrev mixer : Stream
 mixer = record { ssrc = 9000; first = 100; base = 5000; gens = 2 }
 
 abbrev by : ℕ → ℕ → List ℕ → Sent
 by s m t = record { source = s; media = m; text = t }
 
-abbrev one : List ℕ
-one = 49 ∷ []
-
-abbrev two : List ℕ
-two = 50 ∷ []
-
-abbrev three : List ℕ
-three = 51 ∷ []
-
-abbrev four : List ℕ
-four = 52 ∷ []
-
 abbrev round : ℕ → List ℕ → List Sent → List Sent
 round m t past = by 1003 (m + 200) t ∷ by 1002 (m + 100) t ∷ by 1001 m t ∷ past
 
 abbrev eighteen : History
-eighteen = sent_history mixer (round 1500 [] (round 1200 [] (round 900 four (round 600 three (round 300 two (round 0 one []))))))
+eighteen = sent_history mixer (round 1500 [] (round 1200 [] (round 900 D (round 600 C (round 300 B (round 0 A []))))))
 
 -- the packets come as they were sent, but for those at the lost places; newest first
 abbrev arrive : List ℕ → List Placed → List Arrival → List Arrival
@@ -226,7 +214,7 @@ abbrev without : List ℕ → ℕ → List (List ℕ)
 without lost s = heard 1000 (arrive lost (placed eighteen) []) s
 
 abbrev all_four : List (List ℕ)
-all_four = one ∷ two ∷ three ∷ four ∷ []
+all_four = A ∷ B ∷ C ∷ D ∷ []
 
 round_of_three_a : without (3 ∷ 4 ∷ 5 ∷ []) 1001 ≡ all_four
 round_of_three_a = refl
@@ -238,13 +226,13 @@ round_of_three_c : without (3 ∷ 4 ∷ 5 ∷ []) 1003 ≡ all_four
 round_of_three_c = refl
 
 -- these marks are needless: no text is missing
-six_lost_a : without (3 ∷ 4 ∷ 5 ∷ 6 ∷ 7 ∷ 8 ∷ []) 1001 ≡ one ∷ marker ∷ two ∷ three ∷ four ∷ []
+six_lost_a : without (3 ∷ 4 ∷ 5 ∷ 6 ∷ 7 ∷ 8 ∷ []) 1001 ≡ A ∷ marker ∷ B ∷ C ∷ D ∷ []
 six_lost_a = refl
 
-six_lost_b : without (3 ∷ 4 ∷ 5 ∷ 6 ∷ 7 ∷ 8 ∷ []) 1002 ≡ one ∷ marker ∷ two ∷ three ∷ four ∷ []
+six_lost_b : without (3 ∷ 4 ∷ 5 ∷ 6 ∷ 7 ∷ 8 ∷ []) 1002 ≡ A ∷ marker ∷ B ∷ C ∷ D ∷ []
 six_lost_b = refl
 
-six_lost_c : without (3 ∷ 4 ∷ 5 ∷ 6 ∷ 7 ∷ 8 ∷ []) 1003 ≡ one ∷ marker ∷ two ∷ three ∷ four ∷ []
+six_lost_c : without (3 ∷ 4 ∷ 5 ∷ 6 ∷ 7 ∷ 8 ∷ []) 1003 ≡ A ∷ marker ∷ B ∷ C ∷ D ∷ []
 six_lost_c = refl
 
 scattered_lost_a : without (1 ∷ 2 ∷ 4 ∷ []) 1001 ≡ all_four

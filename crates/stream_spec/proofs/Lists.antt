@@ -1,9 +1,9 @@
 -- Members of lists.
-use Rattle.std.proofs.Common.{◌≡◌, Bool, true, false, cond, ◌⊎◌, inl, inr, List, [], ◌∷◌, ◌++◌, refl, ap, sym, ◌∙◌}
-use Rattle.std.specs.Prelude.{filter, map}
+use Rattle.std.proofs.Common.{◌≡◌, ℕ, ◌≤◌, Bool, true, false, cond, ◌⊎◌, inl, inr, List, [], ◌∷◌, ◌++◌, refl, ap, sym, ◌∙◌, arith}
+use Rattle.std.specs.Prelude.{filter, map, nat_lt}
 use Rattle.std.specs.List.{list_any}
-use Rattle.std.proofs.lemmas.Bool.{true≢false, or_cases, or_left, or_right}
-use Rattle.stream_spec.specs.Lists.{In}
+use Rattle.std.proofs.lemmas.Bool.{true≢false, or_cases, or_left, or_right, ltb-true, ltb-false, le-ltb}
+use Rattle.stream_spec.specs.Lists.{In, RisingBy, put_by}
 
 pub in_left : {X : Type 0} (x : X) (xs ys : List X) → In x xs → In x (xs ++ ys)
 in_left x [] ys i = absurd i
@@ -68,3 +68,42 @@ filter_keeps P none tail again p (x ∷ xs) a = go (p x) (filter_keeps P none ta
     go : (b : Bool) → P (filter p xs) → P (cond b (x ∷ filter p xs) (filter p xs))
     go true more = again x xs (filter p xs) a more
     go false more = more
+
+-- ---- one more among those that rise in what f gives
+pub in_put : {X : Type 0} (f : X → ℕ) (x y : X) (xs : List X) → In y (put_by f x xs) → (y ≡ x) ⊎ In y xs
+in_put f x y [] (inl e) = inl e
+in_put f x y [] (inr i) = absurd i
+in_put f x y (z ∷ xs) i = go (nat_lt (f x) (f z)) (in_put f x y xs) i
+  where
+    go : (t : Bool) → (In y (put_by f x xs) → (y ≡ x) ⊎ In y xs) → In y (cond t (x ∷ z ∷ xs) (z ∷ put_by f x xs)) → (y ≡ x) ⊎ In y (z ∷ xs)
+    go true h (inl e) = inl e
+    go true h (inr j) = inr j
+    go false h (inl e) = inr (inl e)
+    go false h (inr j) = elim (h j) [ inl e ↦ inl e | inr k ↦ inr (inr k) ]
+
+pub rising_with : {X : Type 0} (f : X → ℕ) (x : X) (xs : List X) → RisingBy f xs → ((y : X) → In y xs → f y ≡ f x → ⊥) → RisingBy f (put_by f x xs)
+rising_with f x [] r n = ((λ y i. absurd i), tt)
+rising_with f x (z ∷ xs) r n = go (nat_lt (f x) (f z)) refl (rising_with f x xs r.1 (λ y i. n y (inr i)))
+  where
+    go : (t : Bool) → nat_lt (f x) (f z) ≡ t → RisingBy f (put_by f x xs) → RisingBy f (cond t (x ∷ z ∷ xs) (z ∷ put_by f x xs))
+    go true e q = let l = ltb-true (f x) (f z) e in ((λ y i. elim i [ inl s ↦ omega (arith, ap f s) | inr j ↦ let u = r.0 y j in omega arith ]), (r.0, r.1))
+    go false e q = let g = ltb-false (f x) (f z) e in
+        ((λ y i. elim (in_put f x y xs i) [ inl s ↦ let d = n z (inl refl) in omega (arith, ap f s) | inr j ↦ r.0 y j ]), q)
+
+-- it may be changed before or after, where that leaves what f gives
+pub put_map : {X : Type 0} (f : X → ℕ) (g : X → X) → ((x : X) → f (g x) ≡ f x) → (x : X) (xs : List X) → put_by f (g x) (map g xs) ≡ map g (put_by f x xs)
+put_map f g same x [] = refl
+put_map f g same x (z ∷ xs) = (λ i. cond (nat_lt (same x i) (same z i)) (g x ∷ g z ∷ map g xs) (g z ∷ put_by f (g x) (map g xs))) ∙ go (nat_lt (f x) (f z)) (put_map f g same x xs)
+  where
+    go : (b : Bool) → put_by f (g x) (map g xs) ≡ map g (put_by f x xs) → cond b (g x ∷ g z ∷ map g xs) (g z ∷ put_by f (g x) (map g xs)) ≡ map g (cond b (x ∷ z ∷ xs) (z ∷ put_by f x xs))
+    go true e = refl
+    go false e = ap (λ ys. g z ∷ ys) e
+
+-- they begin with n
+abbrev pub HeadedBy : {X : Type 0} → (X → ℕ) → ℕ → List X → Type 0
+HeadedBy f n [] = ⊥
+HeadedBy f n (x ∷ xs) = f x ≡ n
+
+pub headed_with : {X : Type 0} (f : X → ℕ) (n : ℕ) (x : X) (xs : List X) → HeadedBy f n xs → n ≤ f x → HeadedBy f n (put_by f x xs)
+headed_with f n x [] h l = absurd h
+headed_with f n x (z ∷ xs) h l = rw (le-ltb (f x) (f z) (omega (arith, h, l))) h

@@ -1,7 +1,7 @@
 -- What was used stands beside the places that it came from.
 use Rattle.std.proofs.Common.{◌≡◌, ℕ, ◌+◌, ◌%◌, ◌≤◌, Bool, true, false, cond, not, ◌⊎◌, inl, inr, List, [], ◌∷◌, refl, ap, subst, sym, ◌∙◌, arith}
 use Rattle.std.specs.Prelude.{◌&&◌, nat_lt, nat_le, max}
-use Rattle.std.proofs.lemmas.Bool.{true≢false, ltb-true, ltb-false, and_parts, not-true}
+use Rattle.std.proofs.lemmas.Bool.{true≢false, and_parts, not-true}
 use Rattle.std.proofs.lemmas.Bool.Decides.{nat_tests}
 use Rattle.wire_spec.specs.Packets.{Arrival}
 use Rattle.stream_spec.specs.Numbering.{number_it, Numbered, greatest, number_after, numbered, first_number, has_number, in_time, by_number, used, is_given_up}
@@ -9,6 +9,7 @@ use Rattle.std.specs.List.{AllZip}
 use Rattle.stream_spec.specs.Lists.{In}
 use Rattle.stream_spec.specs.History.{History, Placed, placed, IsPacket, Come, entry_of, top_place, by_place, places}
 use Rattle.stream_spec.specs.Kept.{Rising}
+use Rattle.stream_spec.proofs.Lists.{in_put, rising_with}
 use Rattle.stream_spec.proofs.GivingUp.{in_has}
 use Rattle.stream_spec.proofs.Stamps.{nearest_place}
 
@@ -99,35 +100,13 @@ matched wait h p d (a ∷ before) f c =
 
 -- ---- the places rise, and begin with the first
 pub in_by_place : (x y : Placed) (xs : List Placed) → In y (by_place x xs) → (y ≡ x) ⊎ In y xs
-in_by_place x y [] (inl e) = inl e
-in_by_place x y [] (inr i) = absurd i
-in_by_place x y (z ∷ xs) i = go (nat_lt x.place z.place) (in_by_place x y xs) i
-  where
-    go : (t : Bool) → (In y (by_place x xs) → (y ≡ x) ⊎ In y xs) → In y (cond t (x ∷ z ∷ xs) (z ∷ by_place x xs)) → (y ≡ x) ⊎ In y (z ∷ xs)
-    go true f (inl e) = inl e
-    go true f (inr j) = inr j
-    go false f (inl e) = inr (inl e)
-    go false f (inr j) = elim (f j) [ inl e ↦ inl e | inr k ↦ inr (inr k) ]
+in_by_place x y xs i = in_put (λ z. z.place) x y xs i
 
 pub rising_put : (x : Placed) (xs : List Placed) → Rising xs → ((y : Placed) → In y xs → y.place ≡ x.place → ⊥) → Rising (by_place x xs)
-rising_put x [] r f = ((λ y i. absurd i), tt)
-rising_put x (z ∷ xs) r f = go (nat_lt x.place z.place) refl (rising_put x xs r.1 (λ y i. f y (inr i)))
-  where
-    go : (t : Bool) → nat_lt x.place z.place ≡ t → Rising (by_place x xs) → Rising (cond t (x ∷ z ∷ xs) (z ∷ by_place x xs))
-    go true e q = let l = ltb-true x.place z.place e in ((λ y i. elim i [ inl s ↦ omega (arith, ap (λ (w : Placed). w.place) s) | inr j ↦ let u = r.0 y j in omega arith ]), (r.0, r.1))
-    go false e q = let g = ltb-false x.place z.place e in
-        ((λ y i. elim (in_by_place x y xs i) [ inl s ↦ let n = f z (inl refl) in omega (arith, ap (λ (w : Placed). w.place) s) | inr j ↦ r.0 y j ]), q)
+rising_put x xs r f = rising_with (λ z. z.place) x xs r f
 
 pub in_by_number : (x y : Numbered) (xs : List Numbered) → In y (by_number x xs) → (y ≡ x) ⊎ In y xs
-in_by_number x y [] (inl e) = inl e
-in_by_number x y [] (inr i) = absurd i
-in_by_number x y (z ∷ xs) i = go (nat_lt x.number z.number) (in_by_number x y xs) i
-  where
-    go : (t : Bool) → (In y (by_number x xs) → (y ≡ x) ⊎ In y xs) → In y (cond t (x ∷ z ∷ xs) (z ∷ by_number x xs)) → (y ≡ x) ⊎ In y (z ∷ xs)
-    go true f (inl e) = inl e
-    go true f (inr j) = inr j
-    go false f (inl e) = inr (inl e)
-    go false f (inr j) = elim (f j) [ inl e ↦ inl e | inr k ↦ inr (inr k) ]
+in_by_number x y xs i = in_put (λ z. z.number) x y xs i
 
 pub used_in : (wait : ℕ) (past : List Numbered) (u : Numbered) → In u (used wait past) → In u past
 used_in wait [] u i = absurd i

@@ -1,10 +1,10 @@
 -- Used packets rise in number, from the first number on.
 use Rattle.std.proofs.Common.{◌≡◌, ℕ, suc, ◌<◌, ◌≤◌, Bool, true, false, cond, not, ◌⊎◌, inl, inr, List, [], ◌∷◌, ◌++◌, length, refl, ap, sym, ◌∙◌, arith}
 use Rattle.std.specs.Prelude.{filter, ◌&&◌, nat_le, nat_lt}
-use Rattle.std.proofs.lemmas.Bool.{true≢false, leb-true, ltb-true, ltb-false, and_parts, not-true}
+use Rattle.std.proofs.lemmas.Bool.{true≢false, leb-true, and_parts, not-true}
 use Rattle.stream_spec.specs.Lists.{In}
 use Rattle.stream_spec.specs.Numbering.{Numbered, RisingNumbers, used, in_time, by_number, has_number, first_number, is_given_up}
-use Rattle.stream_spec.proofs.Lists.{in_filter, in_right}
+use Rattle.stream_spec.proofs.Lists.{in_filter, in_right, rising_with}
 use Rattle.stream_spec.proofs.GivingUp.{in_has}
 use Rattle.stream_spec.proofs.Matched.{in_by_number, used_in}
 
@@ -30,13 +30,7 @@ by_number_in e y (x ∷ xs) i = go (nat_lt e.number x.number) (by_number_in e y 
     go false f (inr (inr j)) = inr (f (inr j))
 
 pub rising_put : (x : Numbered) (xs : List Numbered) → RisingNumbers xs → ((y : Numbered) → In y xs → y.number ≡ x.number → ⊥) → RisingNumbers (by_number x xs)
-rising_put x [] r f = ((λ y i. absurd i), tt)
-rising_put x (z ∷ xs) r f = go (nat_lt x.number z.number) refl (rising_put x xs r.1 (λ y i. f y (inr i)))
-  where
-    go : (t : Bool) → nat_lt x.number z.number ≡ t → RisingNumbers (by_number x xs) → RisingNumbers (cond t (x ∷ z ∷ xs) (z ∷ by_number x xs))
-    go true e q = let l = ltb-true x.number z.number e in ((λ y i. elim i [ inl s ↦ omega (arith, ap (λ (w : Numbered). w.number) s) | inr j ↦ let u = r.0 y j in omega arith ]), (r.0, r.1))
-    go false e q = let g = ltb-false x.number z.number e in
-        ((λ y i. elim (in_by_number x y xs i) [ inl s ↦ let n = f z (inl refl) in omega (arith, ap (λ (w : Numbered). w.number) s) | inr j ↦ r.0 y j ]), q)
+rising_put x xs r f = rising_with (λ z. z.number) x xs r f
 
 pub new_number : (wait : ℕ) (e : Numbered) (past : List Numbered) → in_time wait e past ≡ true → (y : Numbered) → In y past → y.number ≡ e.number → ⊥
 new_number wait e past t y i same =

@@ -9,6 +9,7 @@ use Rattle.rtt_base.specs.declared.blocks.TextBlock.{TextBlock}
 use Rattle.rtt_base.specs.declared.limits.TheConstants.{MOST_PACKET_OCTETS, MOST_TEXT_OCTETS}
 use Rattle.wire_spec.specs.Packets.{Packet, Arrival, has_text, AreTextBlocks, AreTextArrivals}
 use Rattle.stream_spec.specs.Lists.{In}
+use Rattle.stream_spec.proofs.Lists.{put_map}
 use Rattle.stream_spec.specs.Hearing.{oldest_offset}
 use Rattle.stream_spec.specs.Numbering.{Numbered, Falling, number_it, number_after, nearest, numbered, greatest, first_number, distinct_from, in_time, by_number, used}
 use Rattle.stream_spec.specs.History.{History, Entry, Placed, entry_count, placed_at, placed_after, placed, before, low, window, nones, slots, Repeats, IsPacket, ReachFits, texts_of, octets, Lawful, named, entry_of, top_place, IsNear, Come, by_place, places}
@@ -254,13 +255,7 @@ in_time_still wait e us =
     λ i. nat_le (f i) e.number && (not (a i) && not (Rattle.std.specs.Prelude.◌||◌ (g i) (nat_lt 64 (d i))))
 
 by_number_still : (e : Numbered) (us : List Numbered) → by_number (still_numbered e) (map still_numbered us) ≡ map still_numbered (by_number e us)
-by_number_still e [] = refl
-by_number_still e (u ∷ us) = go (nat_lt e.number u.number) (by_number_still e us)
-  where
-    go : (b : Bool) → by_number (still_numbered e) (map still_numbered us) ≡ map still_numbered (by_number e us)
-        → cond b (still_numbered e ∷ still_numbered u ∷ map still_numbered us) (still_numbered u ∷ by_number (still_numbered e) (map still_numbered us)) ≡ map still_numbered (cond b (e ∷ u ∷ us) (u ∷ by_number e us))
-    go true q = refl
-    go false q = ap (λ xs. still_numbered u ∷ xs) q
+by_number_still e us = put_map (λ x. x.number) still_numbered (λ x. refl) e us
 
 pub used_map : (wait : ℕ) (us : List Numbered) → used wait (map still_numbered us) ≡ map still_numbered (used wait us)
 used_map wait [] = refl
@@ -277,13 +272,7 @@ used_still wait past = ap (used wait) (numbered_still past) ∙ used_map wait (n
 
 -- ---- places
 by_place_still : (e : Placed) (xs : List Placed) → by_place (still_placed e) (map still_placed xs) ≡ map still_placed (by_place e xs)
-by_place_still e [] = refl
-by_place_still e (x ∷ xs) = go (nat_lt e.place x.place) (by_place_still e xs)
-  where
-    go : (b : Bool) → by_place (still_placed e) (map still_placed xs) ≡ map still_placed (by_place e xs)
-        → cond b (still_placed e ∷ still_placed x ∷ map still_placed xs) (still_placed x ∷ by_place (still_placed e) (map still_placed xs)) ≡ map still_placed (cond b (e ∷ x ∷ xs) (x ∷ by_place e xs))
-    go true q = refl
-    go false q = ap (λ ys. still_placed x ∷ ys) q
+by_place_still e xs = put_map (λ x. x.place) still_placed (λ x. refl) e xs
 
 pub places_still : (wait : ℕ) (h : History) (past : List Arrival) → places wait (still_history h) (still past) ≡ map still_placed (places wait h past)
 places_still wait h [] = refl

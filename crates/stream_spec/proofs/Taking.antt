@@ -9,7 +9,7 @@ use Rattle.stream_spec.specs.Numbering.{Numbered, RisingNumbers, numbered, numbe
 use Rattle.stream_spec.specs.Lists.{In}
 use Rattle.stream_spec.specs.Hearing.{IsLastOf, heard, heard_of, last_of, adds_marker, adds_texts, heard_by, marker, missing, missing_between, piece, heard_over, is_packet_of}
 use Rattle.stream_spec.proofs.GivingUp.{has_in, one}
-use Rattle.stream_spec.proofs.Lists.{in_right, in_append, in_filter}
+use Rattle.stream_spec.proofs.Lists.{HeadedBy, headed_with, in_right, in_append, in_filter}
 
 -- ---- a count in place of the missing numbers
 abbrev pub inside : ℕ → ℕ → List Numbered → ℕ
@@ -117,12 +117,7 @@ heard_by_more (u ∷ us) b s above =
 
 -- ---- the used packets of arrivals begin with the first
 abbrev pub Headed : ℕ → List Numbered → Type 0
-Headed n [] = ⊥
-Headed n (u ∷ us) = u.number ≡ n
-
-headed_put : (n : ℕ) (e : Numbered) (us : List Numbered) → Headed n us → n ≤ e.number → Headed n (by_number e us)
-headed_put n e [] h l = absurd h
-headed_put n e (u ∷ us) h l = rw (le-ltb e.number u.number (omega arith)) h
+Headed n us = HeadedBy (λ u. u.number) n us
 
 pub used_headed : (wait : ℕ) (e : Numbered) (past : List Numbered) → Headed (first_number 0 (e ∷ past)) (used wait (e ∷ past))
 used_headed wait e [] = rw (le-leb e.number e.number (omega arith)) refl
@@ -133,7 +128,7 @@ used_headed wait e (f ∷ past) = go (in_time wait e (f ∷ past)) refl (used_he
 
     go : (t : Bool) → in_time wait e (f ∷ past) ≡ t → Headed (first_number 0 (f ∷ past)) (used wait (f ∷ past))
         → Headed (first_number 0 (f ∷ past)) (cond t (by_number e (used wait (f ∷ past))) (used wait (f ∷ past)))
-    go true q h = headed_put (first_number 0 (f ∷ past)) e (used wait (f ∷ past)) h (ahead q)
+    go true q h = headed_with (λ u. u.number) (first_number 0 (f ∷ past)) e (used wait (f ∷ past)) h (ahead q)
     go false q h = h
 
 by_first : (n s : ℕ) (us : List Numbered) → Headed n us → heard_of n s us ≡ heard_by us s

@@ -10,6 +10,7 @@ use Rattle.stream_spec.specs.Numbering.{number_it, Numbered, numbered, first_num
 use Rattle.stream_spec.specs.Hearing.{missing, missing_between, missing_before, is_new, is_marked, oldest_offset, text_list, older_texts, piece, marker, heard_over, heard, is_packet_of}
 use Rattle.std.specs.List.{AllZip}
 use Rattle.stream_spec.specs.Lists.{In}
+use Rattle.stream_spec.proofs.Lists.{HeadedBy, headed_with}
 use Rattle.stream_spec.specs.History.{History, Placed, placed, window, nones, slots, Repeats, IsPacket, Lawful, Come, entry_of, by_place, places}
 use Rattle.stream_spec.specs.Kept as k
 use Rattle.stream_spec.specs.Kept.{Item, Mark, has_place, least_place, is_above, is_linked_after, lost_before, blocks_of, has_mark, items_of, kept_over, kept, is_entry_of, text_of, texts, Rising, ArePlaces}
@@ -231,12 +232,7 @@ pairs_filter h p d s (u ∷ us) (x ∷ xs) q = rw (ap (λ n. n == s) q.0.is.sour
 
 -- ---- the least place
 abbrev pub Headed : ℕ → List Placed → Type 0
-Headed p [] = ⊥
-Headed p (x ∷ xs) = x.place ≡ p
-
-headed_put : (p : ℕ) (x : Placed) (xs : List Placed) → Headed p xs → p ≤ x.place → Headed p (by_place x xs)
-headed_put p x [] q l = absurd q
-headed_put p x (y ∷ ys) q l = rw (le-ltb x.place y.place (omega arith)) q
+Headed p xs = HeadedBy (λ x. x.place) p xs
 
 headed_least : (p : ℕ) (xs : List Placed) → Headed p xs → least_place xs ≡ p
 headed_least p [] q = absurd q
@@ -257,7 +253,7 @@ places_headed wait h p d a (b ∷ before) f c = go (in_time wait (number_it (num
         omega (arith, l, first, (counted h p d a (b ∷ before) f c).here)
 
     go : (t : Bool) → in_time wait (number_it (numbered (b ∷ before)) a) (numbered (b ∷ before)) ≡ t → Headed p (places wait h (b ∷ before)) → Headed p (cond t (by_place (entry_of h a.packet) (places wait h (b ∷ before))) (places wait h (b ∷ before)))
-    go true q r = headed_put p (entry_of h a.packet) (places wait h (b ∷ before)) r (ahead q)
+    go true q r = headed_with (λ x. x.place) p (entry_of h a.packet) (places wait h (b ∷ before)) r (ahead q)
     go false q r = r
 
 -- ---- what is heard is what is kept
@@ -284,26 +280,30 @@ is_first h [] = tt
 is_first h (a ∷ []) = (refl, refl)
 is_first h (a ∷ b ∷ before) = is_first h (b ∷ before)
 
+-- what was used of these arrivals stands beside their places
+pub beside : (wait : ℕ) (h : History) (a : List Arrival) → Come h a → AllZip (Matches h (first_place h a) (first_seq a)) (used wait (numbered a)) (places wait h a)
+beside wait h a c = matched wait h (first_place h a) (first_seq a) a (is_first h a) c
+
+-- and the first number beside the least place
+pub first_beside : (wait : ℕ) (h : History) (a : Arrival) (before : List Arrival) → Come h (a ∷ before)
+    → first_number 0 (numbered (a ∷ before)) + first_place h (a ∷ before) ≡ least_place (places wait h (a ∷ before)) + first_seq (a ∷ before)
+first_beside wait h a before c =
+    let p = first_place h (a ∷ before) in
+    let d = first_seq (a ∷ before) in
+    let f = is_first h (a ∷ before) in
+    omega (arith, headed_least p (places wait h (a ∷ before)) (places_headed wait h p d a before f c), first_is h p d 0 a before f)
+
 pub are_places : (wait : ℕ) (h : History) (a : List Arrival) → Come h a → ArePlaces h (places wait h a)
-are_places wait h a c =
-    let p = first_place h a in
-    let d = first_seq a in
-    record {
-      within = within_of h p d (used wait (numbered a)) (places wait h a) (matched wait h p d a (is_first h a) c);
-      rising = places_rise wait h p d a (is_first h a) c;
-    }
+are_places wait h a c = record {
+  within = within_of h (first_place h a) (first_seq a) (used wait (numbered a)) (places wait h a) (beside wait h a c);
+  rising = places_rise wait h (first_place h a) (first_seq a) a (is_first h a) c;
+}
 
 pub l1 : (wait : ℕ) (h : History) → Lawful h → (a : List Arrival) → Come h a → (s : ℕ) → heard wait a s ≡ texts (kept h (places wait h a) s)
 l1 wait h law [] c s = refl
 l1 wait h law (a ∷ before) c s =
     let all = a ∷ before in
-    let p = first_place h all in
-    let d = first_seq all in
-    let f = is_first h all in
-    let pairs = matched wait h p d all f c in
-    let same = same_tests h p d (used wait (numbered all)) (places wait h all) pairs in
-    let least = headed_least p (places wait h all) (places_headed wait h p d a before f c) in
-    let first = first_is h p d 0 a before f in
-    walk_is h law p d s (has_number (used wait (numbered all))) (has_place (places wait h all)) (first_number 0 (numbered all)) (least_place (places wait h all)) None None
-    (filter (is_packet_of s) (used wait (numbered all))) (filter (is_entry_of s) (places wait h all)) same (omega arith) tt
-    (walk_of h (places wait h all) s (are_places wait h all c)) (pairs_filter h p d s (used wait (numbered all)) (places wait h all) pairs)
+    let pairs = beside wait h all c in
+    walk_is h law (first_place h all) (first_seq all) s (has_number (used wait (numbered all))) (has_place (places wait h all)) (first_number 0 (numbered all)) (least_place (places wait h all)) None None
+    (filter (is_packet_of s) (used wait (numbered all))) (filter (is_entry_of s) (places wait h all)) (same_tests h (first_place h all) (first_seq all) (used wait (numbered all)) (places wait h all) pairs) (first_beside wait h a before c) tt
+    (walk_of h (places wait h all) s (are_places wait h all c)) (pairs_filter h (first_place h all) (first_seq all) s (used wait (numbered all)) (places wait h all) pairs)

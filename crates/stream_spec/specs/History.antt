@@ -3,7 +3,7 @@
 use Rattle.std.specs.Prelude.{◌≡◌, ℕ, ◌+◌, ◌-◌, ◌*◌, ◌%◌, ◌^◌, ◌<◌, ◌≤◌, ◌==◌, ◌⊎◌, Bool, true, Option, None, Some, List, [], ◌∷◌, ◌++◌, length, map, filter, replicate, ◌&&◌, nat_lt, nat_le, if◌then◌else◌, max, IsUtf8}
 use Rattle.std.specs.List.{AllZip, concat}
 use Rattle.rtt_base.specs.declared.blocks.TextBlock.{TextBlock}
-use Rattle.stream_spec.specs.Lists.{In}
+use Rattle.stream_spec.specs.Lists.{In, put_by}
 use Rattle.wire_spec.specs.Packets.{Packet, Arrival, has_text}
 use Rattle.stream_spec.specs.Numbering.{in_time, numbered, number_it}
 use Rattle.stream_spec.specs.Hearing.{oldest_offset}
@@ -138,8 +138,7 @@ Come h (a ∷ past) = In (entry_of h a.packet) (placed h) × IsPacket h (entry_o
 
 -- e among these, which rise in place
 abbrev pub by_place : Placed → List Placed → List Placed
-by_place e [] = e ∷ []
-by_place e (x ∷ xs) = if nat_lt e.place x.place then e ∷ x ∷ xs else x ∷ by_place e xs
+by_place e xs = put_by (λ x. x.place) e xs
 
 -- the places of what came in time, rising
 abbrev pub places : ℕ → History → List Arrival → List Placed

@@ -4,7 +4,7 @@ use Rattle.std.specs.Prelude.{◌≡◌, ℕ, ◌+◌, ◌<◌, ◌≤◌, ◌==
 use Rattle.std.specs.List.{list_any}
 use Rattle.wire_spec.specs.Packets.{has_text}
 use Rattle.stream_spec.specs.Hearing.{missing_between, marker}
-use Rattle.stream_spec.specs.Lists.{In}
+use Rattle.stream_spec.specs.Lists.{In, RisingBy}
 use Rattle.stream_spec.specs.History.{History, Placed, placed, low, window}
 
 -- the block of an entry, or a mark that blocks may be missing
@@ -69,8 +69,7 @@ texts items = map text_of items
 
 -- rising strictly in place
 abbrev pub Rising : List Placed → Type 0
-Rising [] = Unit {0}
-Rising (x ∷ xs) = ((y : Placed) → In y xs → x.place < y.place) × Rising xs
+Rising xs = RisingBy (λ x. x.place) xs
 
 -- a set of places of h
 pub record ArePlaces (h : History) (i : List Placed) : Type 0 where

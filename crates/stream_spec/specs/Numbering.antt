@@ -1,10 +1,10 @@
 -- Which number each arrival of a stream has, and which arrivals are used (RFC 3550, section 5.1, for sequence
 -- numbers; how long a gap is waited for is a profile). Lists of arrivals are newest first, so what stands behind an
 -- arrival is what came before it.
-use Rattle.std.specs.Prelude.{ℕ, ◌<◌, ◌≤◌, suc, ◌+◌, ◌-◌, ◌%◌, ◌==◌, Bool, not, List, [], ◌∷◌, ◌&&◌, ◌||◌, nat_lt, nat_le, if◌then◌else◌, max}
+use Rattle.std.specs.Prelude.{ℕ, ◌≤◌, suc, ◌+◌, ◌-◌, ◌%◌, ◌==◌, Bool, not, List, [], ◌∷◌, ◌&&◌, ◌||◌, nat_lt, nat_le, if◌then◌else◌, max}
 use Rattle.std.specs.List.{list_any}
 use Rattle.wire_spec.specs.Packets.{Packet, Arrival}
-use Rattle.stream_spec.specs.Lists.{In}
+use Rattle.stream_spec.specs.Lists.{In, put_by, RisingBy}
 use Rattle.rtt_base.specs.declared.limits.TheConstants.{MOST_HELD}
 
 -- an arrival with its number
@@ -64,8 +64,7 @@ in_time wait e past =
 
 -- e among these, which rise in number
 abbrev pub by_number : Numbered → List Numbered → List Numbered
-by_number e [] = e ∷ []
-by_number e (x ∷ xs) = if nat_lt e.number x.number then e ∷ x ∷ xs else x ∷ by_number e xs
+by_number e xs = put_by (λ x. x.number) e xs
 
 -- what came in time, in rising number
 abbrev pub used : ℕ → List Numbered → List Numbered
@@ -74,8 +73,7 @@ used wait (e ∷ past) = if in_time wait e past then by_number e (used wait past
 
 -- strictly rising in number
 abbrev pub RisingNumbers : List Numbered → Type 0
-RisingNumbers [] = Unit {0}
-RisingNumbers (x ∷ xs) = ((y : Numbered) → In y xs → x.number < y.number) × RisingNumbers xs
+RisingNumbers xs = RisingBy (λ x. x.number) xs
 
 -- times never fall
 abbrev pub Falling : List Numbered → Type 0

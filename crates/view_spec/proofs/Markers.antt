@@ -11,8 +11,8 @@ use Rattle.stream_spec.specs.History.{History, Placed, Lawful, Come, places}
 use Rattle.stream_spec.specs.Kept.{Item, Mark, Block, has_place, is_above, has_mark, blocks_of, items_of, kept_over, kept, least_place, is_entry_of, texts, text_of}
 use Rattle.stream_spec.proofs.Gaps.{none_missing}
 use Rattle.stream_spec.proofs.Blocks.{Walk, walk_of, carried}
-use Rattle.stream_spec.proofs.Matched.{Matches, first_is, matched}
-use Rattle.stream_spec.proofs.Walks.{same_tests, pairs_filter, walk_is, first_place, first_seq, is_first, Headed, places_headed, are_places}
+use Rattle.stream_spec.proofs.Matched.{Matches}
+use Rattle.stream_spec.proofs.Walks.{same_tests, pairs_filter, walk_is, first_place, first_seq, beside, first_beside, are_places}
 use Rattle.view_spec.specs.Markers.{markers_over, markers, new_texts_over, new_texts_heard, marks_in}
 
 abbrev pub one_if : Bool → ℕ
@@ -115,20 +115,11 @@ over_is h law p d s f g first least us xs e z w q =
       length-map (kept_over h all_there least None xs) text_of,
     )
 
-least_is : (p : ℕ) (xs : List Placed) → Headed p xs → least_place xs ≡ p
-least_is p [] q = absurd q
-least_is p (x ∷ xs) q = q
-
 pub markers_kept : (wait : ℕ) (h : History) → Lawful h → (a : List Arrival) → Come h a → (s : ℕ) → markers wait a s ≡ marks_in (kept h (places wait h a) s)
 markers_kept wait h law [] c s = refl
 markers_kept wait h law (a ∷ before) c s =
     let all = a ∷ before in
-    let p = first_place h all in
-    let d = first_seq all in
-    let f = is_first h all in
-    let pairs = matched wait h p d all f c in
-    let least = least_is p (places wait h all) (places_headed wait h p d a before f c) in
-    let first = first_is h p d 0 a before f in
-    over_is h law p d s (has_number (used wait (numbered all))) (has_place (places wait h all)) (first_number 0 (numbered all)) (least_place (places wait h all))
-    (filter (is_packet_of s) (used wait (numbered all))) (filter (is_entry_of s) (places wait h all)) (same_tests h p d (used wait (numbered all)) (places wait h all) pairs) (omega arith)
-    (walk_of h (places wait h all) s (are_places wait h all c)) (pairs_filter h p d s (used wait (numbered all)) (places wait h all) pairs)
+    let pairs = beside wait h all c in
+    over_is h law (first_place h all) (first_seq all) s (has_number (used wait (numbered all))) (has_place (places wait h all)) (first_number 0 (numbered all)) (least_place (places wait h all))
+    (filter (is_packet_of s) (used wait (numbered all))) (filter (is_entry_of s) (places wait h all)) (same_tests h (first_place h all) (first_seq all) (used wait (numbered all)) (places wait h all) pairs) (first_beside wait h a before c)
+    (walk_of h (places wait h all) s (are_places wait h all c)) (pairs_filter h (first_place h all) (first_seq all) s (used wait (numbered all)) (places wait h all) pairs)

@@ -1,5 +1,5 @@
 -- What the definitions give on packets and recordings that stand in octets: each of these computes.
-use Rattle.std.specs.Prelude.{◌≡◌, ℕ, ◌+◌, ◌-◌, ◌*◌, ◌==◌, Bool, true, false, List, [], ◌∷◌, ◌++◌, length, replicate, take, Option, None, Some, Result, Ok, Err, nat_lt, if◌then◌else◌, codes}
+use Rattle.std.specs.Prelude.{◌≡◌, ℕ, ◌+◌, ◌-◌, ◌*◌, ◌==◌, Bool, true, false, List, [], ◌∷◌, ◌++◌, length, map, replicate, take, Option, None, Some, Result, Ok, Err, nat_lt, if◌then◌else◌, codes}
 use Rattle.std.proofs.Common.{refl}
 use Rattle.std.specs.Str.{is_utf8, chars}
 use Rattle.std.specs.Int.{w32, to_be_bytes}
@@ -218,84 +218,57 @@ octets_of front behind = hex front ++ (H ++ hex behind)
 abbrev plain : ℕ → List ℕ → Result Packet TextFault
 plain source text = Ok (record { mark = false; seq = 0; stamp = 0; ssrc = 1001; source = source; older = []; primary = text })
 
-one-octet : text_of (hex (codes "80")) None types ≡ Err Short
-unfolding text_of text_of_short rtp rtp_of_header red headers_at texts_at is_utf8 chars encode
-one-octet = refl
-
-version-one : text_of (hex (codes "40E4") ++ H) None types ≡ Err Version
-unfolding text_of text_of_short rtp rtp_of_header red headers_at texts_at is_utf8 chars encode
-version-one = refl
-
-source-cut : text_of (hex (codes "81E4") ++ H) None types ≡ Err Short
-unfolding text_of text_of_short rtp rtp_of_header red headers_at texts_at is_utf8 chars encode
-source-cut = refl
-
-padding-of-none : text_of (octets_of (codes "A0E4") (codes "00")) None types ≡ Err Padding
-unfolding text_of text_of_short rtp rtp_of_header red headers_at texts_at is_utf8 chars encode
-padding-of-none = refl
-
-padding-without-octets : text_of (hex (codes "A0E4") ++ H) None types ≡ Err Padding
-unfolding text_of text_of_short rtp rtp_of_header red headers_at texts_at is_utf8 chars encode
-padding-without-octets = refl
-
-padding-of-one : text_of (octets_of (codes "A062") (codes "41 01")) None types ≡ plain 1001 A
-unfolding text_of text_of_short rtp rtp_of_header red headers_at texts_at is_utf8 chars encode
-padding-of-one = refl
-
-extension : text_of (octets_of (codes "9062") (codes "BEDE0001 00000000 41")) None types ≡ plain 1001 A
-unfolding text_of text_of_short rtp rtp_of_header red headers_at texts_at is_utf8 chars encode
-extension = refl
-
-extension-cut : text_of (octets_of (codes "9062") (codes "BEDE0002 00000000")) None types ≡ Err Short
-unfolding text_of text_of_short rtp rtp_of_header red headers_at texts_at is_utf8 chars encode
-extension-cut = refl
-
-two-sources : text_of (octets_of (codes "8262") (codes "00000001 00000002 41")) None types ≡ Err Sources
-unfolding text_of text_of_short rtp rtp_of_header red headers_at texts_at is_utf8 chars encode
-two-sources = refl
-
-one-source : text_of (octets_of (codes "8162") (codes "00000007 41")) None types ≡ plain 7 A
-unfolding text_of text_of_short rtp rtp_of_header red headers_at texts_at is_utf8 chars encode
-one-source = refl
-
-other-type : text_of (octets_of (codes "8000") (codes "41")) None types ≡ Err WrongType
-unfolding text_of text_of_short rtp rtp_of_header red headers_at texts_at is_utf8 chars encode
-other-type = refl
-
-no-text : text_of (hex (codes "8062") ++ H) None types ≡ plain 1001 []
-unfolding text_of text_of_short rtp rtp_of_header red headers_at texts_at is_utf8 chars encode
-no-text = refl
-
-no-header : text_of (hex (codes "8064") ++ H) None types ≡ Err Cut
-unfolding text_of text_of_short rtp rtp_of_header red headers_at texts_at is_utf8 chars encode
-no-header = refl
-
-header-cut : text_of (octets_of (codes "8064") (codes "E2FFFC")) None types ≡ Err Cut
-unfolding text_of text_of_short rtp rtp_of_header red headers_at texts_at is_utf8 chars encode
-header-cut = refl
-
-text-cut : text_of (octets_of (codes "8064") (codes "E2FFFC01 62")) None types ≡ Err Cut
-unfolding text_of text_of_short rtp rtp_of_header red headers_at texts_at is_utf8 chars encode
-text-cut = refl
-
-block-of-other-type : text_of (octets_of (codes "8064") (codes "E1FFFC00 62")) None types ≡ Err WrongType
-unfolding text_of text_of_short rtp rtp_of_header red headers_at texts_at is_utf8 chars encode
-block-of-other-type = refl
-
 abbrev empty : TextBlock
 empty = block 16383 []
 
-eight-redundant : text_of (octets_of (codes "8064") (codes "E2FFFC00 E2FFFC00 E2FFFC00 E2FFFC00 E2FFFC00 E2FFFC00 E2FFFC00 E2FFFC00 62 41")) None types ≡ Ok (packet false 0 0 (replicate 8 empty) A)
-unfolding text_of text_of_short rtp rtp_of_header red headers_at texts_at is_utf8 chars encode
-eight-redundant = refl
+-- octets, and what they are as a packet of text
+abbrev neighbours : List (List ℕ × Result Packet TextFault)
+neighbours =
+    -- one octet
+    (hex (codes "80"), Err Short)
+    -- version 1
+    ∷ (hex (codes "40E4") ++ H, Err Version)
+    -- a CSRC that passes the end
+    ∷ (hex (codes "81E4") ++ H, Err Short)
+    -- padding of no octet
+    ∷ (octets_of (codes "A0E4") (codes "00"), Err Padding)
+    -- padding, but no octets
+    ∷ (hex (codes "A0E4") ++ H, Err Padding)
+    -- padding of one octet
+    ∷ (octets_of (codes "A062") (codes "41 01"), plain 1001 A)
+    -- an extension
+    ∷ (octets_of (codes "9062") (codes "BEDE0001 00000000 41"), plain 1001 A)
+    -- an extension that passes the end
+    ∷ (octets_of (codes "9062") (codes "BEDE0002 00000000"), Err Short)
+    -- two sources
+    ∷ (octets_of (codes "8262") (codes "00000001 00000002 41"), Err Sources)
+    -- one source
+    ∷ (octets_of (codes "8162") (codes "00000007 41"), plain 7 A)
+    -- another payload type
+    ∷ (octets_of (codes "8000") (codes "41"), Err WrongType)
+    -- no text
+    ∷ (hex (codes "8062") ++ H, plain 1001 [])
+    -- no header of a block
+    ∷ (hex (codes "8064") ++ H, Err Cut)
+    -- a header of a block that passes the end
+    ∷ (octets_of (codes "8064") (codes "E2FFFC"), Err Cut)
+    -- a text that passes the end
+    ∷ (octets_of (codes "8064") (codes "E2FFFC01 62"), Err Cut)
+    -- a block of another type
+    ∷ (octets_of (codes "8064") (codes "E1FFFC00 62"), Err WrongType)
+    -- eight redundant blocks
+    ∷ (octets_of (codes "8064") (codes "E2FFFC00 E2FFFC00 E2FFFC00 E2FFFC00 E2FFFC00 E2FFFC00 E2FFFC00 E2FFFC00 62 41"), Ok (packet false 0 0 (replicate 8 empty) A))
+    -- nine redundant blocks
+    ∷ (octets_of (codes "8064") (codes "E2FFFC00 E2FFFC00 E2FFFC00 E2FFFC00 E2FFFC00 E2FFFC00 E2FFFC00 E2FFFC00 E2FFFC00 62 41"), Err Many)
+    -- no UTF-8
+    ∷ (octets_of (codes "8064") (codes "62 C3"), Err NotText)
+    -- the ninth redundant block is of another type
+    ∷ (octets_of (codes "8064") (codes "E2FFFC00 E2FFFC00 E2FFFC00 E2FFFC00 E2FFFC00 E2FFFC00 E2FFFC00 E2FFFC00 E1FFFC00 62 41"), Err Many)
+    ∷ []
 
-nine-redundant : text_of (octets_of (codes "8064") (codes "E2FFFC00 E2FFFC00 E2FFFC00 E2FFFC00 E2FFFC00 E2FFFC00 E2FFFC00 E2FFFC00 E2FFFC00 62 41")) None types ≡ Err Many
+neighbours-read : map (λ r. text_of r.0 None types) neighbours ≡ map (λ r. r.1) neighbours
 unfolding text_of text_of_short rtp rtp_of_header red headers_at texts_at is_utf8 chars encode
-nine-redundant = refl
-
-no-utf8 : text_of (octets_of (codes "8064") (codes "62 C3")) None types ≡ Err NotText
-unfolding text_of text_of_short rtp rtp_of_header red headers_at texts_at is_utf8 chars encode
-no-utf8 = refl
+neighbours-read = refl
 
 foreign : text_of first (Some 7) types ≡ Err Foreign
 unfolding text_of text_of_short rtp rtp_of_header red headers_at texts_at is_utf8 chars encode
@@ -306,34 +279,25 @@ foreign-with-two-sources : text_of (octets_of (codes "8262") (codes "00000001 00
 unfolding text_of text_of_short rtp rtp_of_header red headers_at texts_at is_utf8 chars encode
 foreign-with-two-sources = refl
 
--- the ninth redundant block is of another type
-many-of-other-type : text_of (octets_of (codes "8064") (codes "E2FFFC00 E2FFFC00 E2FFFC00 E2FFFC00 E2FFFC00 E2FFFC00 E2FFFC00 E2FFFC00 E1FFFC00 62 41")) None types ≡ Err Many
-unfolding text_of text_of_short rtp rtp_of_header red headers_at texts_at is_utf8 chars encode
-many-of-other-type = refl
-
 -- ---- the greatest text and the greatest packet
 
-text-of-1023 : text_of (hex (codes "8062") ++ (H ++ replicate 1023 65)) None types ≡ plain 1001 (replicate 1023 65)
-unfolding text_of text_of_short rtp rtp_of_header red headers_at texts_at is_utf8 chars encode
-text-of-1023 = refl
+-- octets at a limit or past it, and what they are as a packet of text
+abbrev greatest : List (List ℕ × Result Packet TextFault)
+greatest =
+    -- a text of 1023 octets
+    (hex (codes "8062") ++ (H ++ replicate 1023 65), plain 1001 (replicate 1023 65))
+    -- one more
+    ∷ (hex (codes "8062") ++ (H ++ replicate 1024 65), Err Long)
+    -- a primary text of 1023 octets
+    ∷ (hex (codes "8064") ++ (H ++ (98 ∷ replicate 1023 65)), plain 1001 (replicate 1023 65))
+    -- one more
+    ∷ (hex (codes "8064") ++ (H ++ (98 ∷ replicate 1024 65)), Err Long)
+    -- 4224 octets of another type, so that only their length is looked at before
+    ∷ (hex (codes "8000") ++ (H ++ replicate 4212 65), Err WrongType)
+    -- one more
+    ∷ (hex (codes "8000") ++ (H ++ replicate 4213 65), Err Long)
+    ∷ []
 
-text-of-1024 : text_of (hex (codes "8062") ++ (H ++ replicate 1024 65)) None types ≡ Err Long
+greatest-read : map (λ r. text_of r.0 None types) greatest ≡ map (λ r. r.1) greatest
 unfolding text_of text_of_short rtp rtp_of_header red headers_at texts_at is_utf8 chars encode
-text-of-1024 = refl
-
-red-text-of-1023 : text_of (hex (codes "8064") ++ (H ++ (98 ∷ replicate 1023 65))) None types ≡ plain 1001 (replicate 1023 65)
-unfolding text_of text_of_short rtp rtp_of_header red headers_at texts_at is_utf8 chars encode
-red-text-of-1023 = refl
-
-red-text-of-1024 : text_of (hex (codes "8064") ++ (H ++ (98 ∷ replicate 1024 65))) None types ≡ Err Long
-unfolding text_of text_of_short rtp rtp_of_header red headers_at texts_at is_utf8 chars encode
-red-text-of-1024 = refl
-
--- of another type, so that only its length is looked at before
-packet-of-4224 : text_of (hex (codes "8000") ++ (H ++ replicate 4212 65)) None types ≡ Err WrongType
-unfolding text_of text_of_short rtp rtp_of_header red headers_at texts_at is_utf8 chars encode
-packet-of-4224 = refl
-
-packet-of-4225 : text_of (hex (codes "8000") ++ (H ++ replicate 4213 65)) None types ≡ Err Long
-unfolding text_of text_of_short rtp rtp_of_header red headers_at texts_at is_utf8 chars encode
-packet-of-4225 = refl
+greatest-read = refl
