@@ -3,7 +3,7 @@ ghost use Rattle.std.specs.Prelude.{◌≡◌, ◌<◌, ◌≤◌, ◌∷◌, []
 ghost use Rattle.file_spec.specs.declared.limits.TheConstants.{MOST_LEGS};
 ghost use Rattle.file_spec.specs.Conf.{Gens, Leg, Stays, nothing, with_entry};
 
-use conference::{Legs, Plan};
+use conference::{Legs, Plan, set_gens, set_stay};
 use file_spec::limits::{MOST_LEGS, USUAL_GENS};
 use file_spec::{GensLine, LegLine, MixerLine, PlanLine, Stay, StayLine};
 use rtt_base::{Name, NoMemory, Path, Pts};
@@ -107,7 +107,7 @@ impl Draft {
         ensures { OnOk result (above_of self.new ≡ with_entry (above_of self.old) (Gens line)) }
     {
         push_place(&mut self.gens, line.leg)?;
-        self.legs.set_gens(usize::from(line.leg), line.gens);
+        set_gens(&mut self.legs, usize::from(line.leg), line.gens);
         Ok(())
     }
 
@@ -116,7 +116,7 @@ impl Draft {
         ensures { OnOk result (above_of self.new ≡ with_entry (above_of self.old) (Stays line)) }
     {
         push_place(&mut self.stays, line.leg)?;
-        self.legs.set_stay(usize::from(line.leg), line.stay);
+        set_stay(&mut self.legs, usize::from(line.leg), line.stay);
         Ok(())
     }
 

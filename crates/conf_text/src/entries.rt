@@ -13,6 +13,9 @@ use file_spec::limits::{LEAST_SPACING, LEAST_TICK, MOST_SPACING, MOST_TICK, MOST
 use file_spec::{Form, MixerLine};
 use rtt_base::limits::LONGEST_WAIT;
 
+/// What a line says, or why it is refused.
+type Said<'a> = Result<Entry<'a>, ConfKind>;
+
 fn read_setting(least: u32, most: u32, above: Option<u32>, words: &[&str]) -> Result<u32, ConfKind>
     ensures { result ≡ setting least most above (texts_of words.now) }
 {
@@ -64,12 +67,7 @@ fn read_mixer(above: &Draft, words: &[&str]) -> Result<MixerLine, ConfKind>
 }
 
 #[tactic(auto, unfolding(file_spec::specs::Conf::stay_or_plan))]
-fn read_stay_or_plan<'a>(
-    form: Form,
-    above: &Draft,
-    word: &str,
-    words: &[&str],
-) -> Result<Entry<'a>, ConfKind>
+fn read_stay_or_plan<'a>(form: Form, above: &Draft, word: &str, words: &[&str]) -> Said<'a>
     ensures exact { seen meaning result ≡ stay_or_plan form (above_of above.now) word.now (texts_of words.now) }
     ensures follows { IfOk result (λ said. MayFollow (above_of above.now) (meaning said)) }
 {
@@ -83,12 +81,7 @@ fn read_stay_or_plan<'a>(
 }
 
 #[tactic(auto, unfolding(file_spec::specs::Conf::time_or_other))]
-fn read_time_or_other<'a>(
-    form: Form,
-    above: &Draft,
-    word: &str,
-    words: &[&str],
-) -> Result<Entry<'a>, ConfKind>
+fn read_time_or_other<'a>(form: Form, above: &Draft, word: &str, words: &[&str]) -> Said<'a>
     ensures exact { seen meaning result ≡ time_or_other form (above_of above.now) word.now (texts_of words.now) }
     ensures follows { IfOk result (λ said. MayFollow (above_of above.now) (meaning said)) }
 {
@@ -107,13 +100,7 @@ fn read_time_or_other<'a>(
 }
 
 #[tactic(auto, unfolding(file_spec::specs::Conf::entry))]
-fn read_worded<'a>(
-    form: Form,
-    above: &Draft,
-    line: u32,
-    word: &str,
-    words: &[&'a str],
-) -> Result<Entry<'a>, ConfKind>
+fn read_worded<'a>(form: Form, above: &Draft, line: u32, word: &str, words: &[&'a str]) -> Said<'a>
     ensures exact { seen meaning result ≡ entry form (above_of above.now) line (word.now ∷ texts_of words.now) }
     ensures follows { IfOk result (λ said. MayFollow (above_of above.now) (meaning said)) }
 {
@@ -127,12 +114,7 @@ fn read_worded<'a>(
 
 /// What the words of a line say.
 #[tactic(auto, unfolding(file_spec::specs::Conf::entry))]
-pub(crate) fn read_entry<'a>(
-    form: Form,
-    above: &Draft,
-    line: u32,
-    words: &[&'a str],
-) -> Result<Entry<'a>, ConfKind>
+pub(crate) fn read_entry<'a>(form: Form, above: &Draft, line: u32, words: &[&'a str]) -> Said<'a>
     ensures exact { seen meaning result ≡ entry form (above_of above.now) line (texts_of words.now) }
     ensures follows { IfOk result (λ said. MayFollow (above_of above.now) (meaning said)) }
 {

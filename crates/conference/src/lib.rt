@@ -9,7 +9,7 @@ mod speakers;
 
 pub use confs::Conf;
 pub use file_spec::{LegLine, MixerLine, PlanLine, Stay, What};
-pub use legs::Legs;
+pub use legs::{Legs, set_gens, set_name, set_stay};
 pub use names::{has_name, is_name_octet, name_of};
 pub use plans::{Plan, is_planned};
 pub use speakers::{Speakers, others};

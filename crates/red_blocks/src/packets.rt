@@ -7,7 +7,8 @@ ghost use Rattle.rtp_header.specs.Headers.{reading};
 
 use crate::read_blocks;
 use rtp_header::{RtpView, read_rtp};
-use rtt_base::{Packet, Pts, TextPacket};
+use rtt_base::limits::MOST_PACKET_OCTETS;
+use rtt_base::{Pts, TextPacket};
 use wire_spec::TextFault;
 
 /// A packet of the stream that is asked for, with one source.
@@ -61,7 +62,7 @@ pub fn read_text(
     ensures err { OnErr result (out.new ≡ record out.old { blocks = [] }) }
 {
     out.blocks.clear();
-    if bytes.len() > Packet::CAPACITY {
+    if bytes.len() > MOST_PACKET_OCTETS {
         return Err(TextFault::Long);
     }
     read_short(bytes, ssrc, pts, out)

@@ -9,8 +9,8 @@ ghost use Rattle.red_blocks.specs.Views.{blocks_in, packet_in, IsCut, IsPacketOf
 use crate::packets::accept;
 use crate::reading::{redundant_header, scan_headers};
 use rtp_header::{RtpView, read_rtp};
-use rtt_base::limits::MOST_TEXT_OCTETS;
-use rtt_base::{Packet, Pts};
+use rtt_base::Pts;
+use rtt_base::limits::{MOST_PACKET_OCTETS, MOST_TEXT_OCTETS};
 use wire_spec::RedHeader;
 
 /// A packet of text where it lies, all of whose texts are ASCII.
@@ -120,7 +120,7 @@ pub fn view_text(octets: &[u8], ssrc: Option<u32>, pts: Pts) -> Option<TextView<
     ensures packet { IfSome result (λ view. text_of octets.now ssrc pts ≡ Ok (packet_in view)) }
     ensures view { IfSome result IsView }
 {
-    if octets.len() > Packet::CAPACITY {
+    if octets.len() > MOST_PACKET_OCTETS {
         return None;
     }
     let Ok(read) = read_rtp(octets) else {

@@ -15,6 +15,20 @@ fn is_frame(batch: &FrameBatch, place: usize, at: u32, text: &[u8]) -> bool {
     }
 }
 
+// What a reader answers to these octets at once, the frames it read of them, and what it answers at their end.
+fn read_at_once(
+    octets: &[u8],
+) -> (
+    Result<usize, FrameFault>,
+    FrameBatch,
+    Result<(), FrameFault>,
+) {
+    let mut reader = FrameReader::new();
+    let mut batch = FrameBatch::new();
+    let answer = reader.feed(octets, &mut batch);
+    (answer, batch, reader.end())
+}
+
 // Feeds a reader these octets at once; they are refused with this fault.
 fn expect_refused(rt: &impl Abort, octets: &[u8], frames: usize, offset: u64, kind: FrameKind) {
     let mut reader = FrameReader::new();
@@ -31,14 +45,11 @@ fn expect_refused(rt: &impl Abort, octets: &[u8], frames: usize, offset: u64, ki
 
 #[test]
 fn two_letters_are_read_at_once(rt: HostRuntime) {
-    let mut reader = FrameReader::new();
-    let mut batch = FrameBatch::new();
-    let answer = reader.feed(&LETTERS, &mut batch);
+    let (answer, batch, end) = read_at_once(&LETTERS);
     assert!(rt; answer == Ok(14));
     assert!(rt; batch.len() == 2);
     assert!(rt; is_frame(&batch, 0, 0, b"A"));
     assert!(rt; is_frame(&batch, 1, 300, b"B"));
-    let end = reader.end();
     assert!(rt; end == Ok(()));
 }
 
@@ -63,12 +74,9 @@ fn two_letters_are_read_octet_by_octet(rt: HostRuntime) {
 
 #[test]
 fn a_cut_frame_is_missed_at_the_end(rt: HostRuntime) {
-    let mut reader = FrameReader::new();
-    let mut batch = FrameBatch::new();
-    let answer = reader.feed(&LETTERS[..13], &mut batch);
+    let (answer, batch, end) = read_at_once(&LETTERS[..13]);
     assert!(rt; answer == Ok(13));
     assert!(rt; batch.len() == 1);
-    let end = reader.end();
     assert!(rt;
         end == Err(FrameFault {
             offset: 7,
@@ -113,9 +121,7 @@ fn a_batch_has_64_frames(rt: HostRuntime) -> Result<(), Fail> {
     for _ in 0..65usize {
         write_frame(0, &text, &mut octets)?;
     }
-    let mut reader = FrameReader::new();
-    let mut batch = FrameBatch::new();
-    let answer = reader.feed(octets.as_slice(), &mut batch);
+    let (answer, batch, _) = read_at_once(octets.as_slice());
     assert!(rt; answer == Ok(448));
     assert!(rt; batch.len() == 64);
     Ok(())

@@ -1,3 +1,4 @@
 pub mod Stamps
 pub mod Buffers
 pub mod Steps
+pub mod Lends

@@ -3,28 +3,26 @@
 
 mod blocks;
 mod buffers;
-mod bytes;
 mod errors;
+mod growing;
 pub mod limits;
 mod names;
-mod packets;
+mod octets;
 mod paths;
 mod records;
 mod stamps;
 mod text_packets;
-mod texts;
 
 pub use blocks::{Blocks, TextBlock};
 pub use buffers::OctetBuffer;
-pub use bytes::Bytes;
 pub use errors::{Failed, Full, NoMemory};
+pub use growing::{Bytes, Growing};
 pub use names::Name;
-pub use packets::Packet;
+pub use octets::{Octets, Packet, Text};
 pub use paths::Path;
 pub use records::{Chunk, Record};
 pub use stamps::after;
 pub use text_packets::{Pts, TextPacket};
-pub use texts::Text;
 
 #[cfg(test)]
 mod tests;

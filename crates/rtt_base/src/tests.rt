@@ -1,4 +1,6 @@
-use crate::{Blocks, Bytes, Name, OctetBuffer, Packet, Path, Text, TextBlock, after};
+use crate::{
+    Blocks, Bytes, Growing, Name, OctetBuffer, Octets, Packet, Path, Text, TextBlock, after,
+};
 use std::test::Fail;
 
 #[test]
@@ -17,8 +19,19 @@ fn stamps_are_ordered_within_half_the_circle(rt: HostRuntime) {
     }
 }
 
+/// Whether all of these octets fit into what is empty, and not one more.
+fn are_most<const MOST: usize>(mut out: Octets<MOST>, octets: &[u8]) -> bool {
+    out.append(octets).is_ok() && out.append(b"a").is_err() && out.len() == octets.len()
+}
+
 #[test]
-fn a_text_takes_1023_octets(rt: HostRuntime) {
+fn a_text_takes_1023_octets_and_a_packet_4224(rt: HostRuntime) {
+    assert!(rt; are_most(Text::new(), &[65; 1023]));
+    assert!(rt; are_most(Packet::new(), &[0; 4224]));
+}
+
+#[test]
+fn what_does_not_fit_leaves_a_text_as_it_was(rt: HostRuntime) {
     let mut text = Text::new();
     assert!(rt; text.append(&[65; 1022]).is_ok());
     assert!(rt; text.append(&[65; 2]).is_err());
@@ -27,14 +40,6 @@ fn a_text_takes_1023_octets(rt: HostRuntime) {
     assert_eq!(rt; text.len(), 1023);
     text.clear();
     assert!(rt; text.is_empty());
-}
-
-#[test]
-fn a_packet_takes_4224_octets(rt: HostRuntime) {
-    let mut packet = Packet::new();
-    assert!(rt; packet.append(&[0; 4224]).is_ok());
-    assert!(rt; packet.append(&[0; 1]).is_err());
-    assert_eq!(rt; packet.len(), 4224);
 }
 
 #[test]
@@ -58,6 +63,12 @@ fn what_grows_finds_memory(rt: HostRuntime) -> Result<(), Fail> {
     bytes.push(65)?;
     bytes.append(b"nn")?;
     assert_eq!(rt; bytes.as_slice(), b"Ann".as_slice());
+    let mut numbers = Growing::new(rt.alloc());
+    numbers.push(7_u32)?;
+    if !numbers.is_empty() {
+        *numbers.item_mut(0) = 8;
+    }
+    assert_eq!(rt; numbers.as_slice(), [8].as_slice());
     let path = Path::from_text(rt.alloc(), "ann.rtp")?;
     assert_eq!(rt; path.as_str(), "ann.rtp");
     let mut name = Name::new();

@@ -1,5 +1,5 @@
 //! The conference, with the script and the first sequence number of each leg.
-ghost use Rattle.std.specs.Prelude.{◌≡◌, ◌==◌, ◌<◌, ◌≤◌, ◌++◌, [], ◌∷◌, length, map, slice_get, Some, IfOk, OnOk};
+ghost use Rattle.std.specs.Prelude.{◌≡◌, ◌==◌, ◌<◌, ◌≤◌, ◌++◌, [], ◌∷◌, map, IfOk};
 ghost use Rattle.file_spec.specs.Kept.{IsConference};
 ghost use Rattle.conference.specs.Conferences.{conf_of};
 ghost use Rattle.command_spec.specs.Draws.{times};
@@ -12,11 +12,10 @@ use crate::plans::draw_plan;
 use crate::scripts::draw_typist;
 use conference::{Conf, MixerLine, Plan};
 use file_spec::limits::{MOST_TURNS, USUAL_SPACING, USUAL_TICK};
-use rtt_base::NoMemory;
 use rtt_base::limits::USUAL_WAIT;
+use rtt_base::{Growing, NoMemory};
 use script_text::Script;
 use std::alloc::Global;
-use std::marker::Model;
 
 /// The mixer's SSRC. Its sequence numbers and its timestamps begin with 0.
 const MIXER_SSRC: u32 = 1;
@@ -25,83 +24,10 @@ const MIXER_SSRC: u32 = 1;
 const MORE_LEGS: u32 = 15;
 
 /// Scripts in leg order. Contracts see the lines of each.
-#[derive(Debug, Drop)]
-pub struct Scripts {
-    scripts: Vec<Script>,
-}
+pub type Scripts = Growing<Script>;
 
-impl Model for Scripts {
-    ghost use Rattle.std.specs.Prelude.{List};
-    ghost use Rattle.file_spec.specs.Script.{ScriptLine};
-
-    ghost Value = { List (List ScriptLine) };
-
-    ghost view = { λ s. s.scripts.items };
-}
-
-impl Scripts {
-    fn new(alloc: Global) -> Scripts
-        ensures { result ≡ [] }
-    {
-        Scripts {
-            scripts: Vec::new(alloc),
-        }
-    }
-
-    pub fn as_slice(&self) -> &[Script]
-        ensures { result.now ≡ self.now }
-    {
-        self.scripts.as_slice()
-    }
-
-    fn push(&mut self, script: Script) -> Result<(), NoMemory>
-        ensures { OnOk result (self.new ≡ self.old ++ script ∷ []) }
-    {
-        match self.scripts.push(script) {
-            Ok(()) => Ok(()),
-            Err(_) => Err(NoMemory),
-        }
-    }
-}
-
-/// First sequence numbers in leg order. Contracts see them as a list.
-#[derive(Debug, Drop)]
-pub struct Seqs {
-    seqs: Vec<u16>,
-}
-
-impl Model for Seqs {
-    ghost use Rattle.std.specs.Prelude.{ℕ, List};
-
-    ghost Value = { List ℕ };
-
-    ghost view = { λ s. s.seqs.items };
-}
-
-impl Seqs {
-    fn new(alloc: Global) -> Seqs
-        ensures { result ≡ [] }
-    {
-        Seqs {
-            seqs: Vec::new(alloc),
-        }
-    }
-
-    pub fn as_slice(&self) -> &[u16]
-        ensures { result.now ≡ self.now }
-    {
-        self.seqs.as_slice()
-    }
-
-    fn push(&mut self, seq: u16) -> Result<(), NoMemory>
-        ensures { OnOk result (self.new ≡ self.old ++ seq ∷ []) }
-    {
-        match self.seqs.push(seq) {
-            Ok(()) => Ok(()),
-            Err(_) => Err(NoMemory),
-        }
-    }
-}
+/// First sequence numbers in leg order.
+pub type Seqs = Growing<u16>;
 
 /// What all legs type, and their first sequence numbers.
 #[derive(Debug, Drop)]

@@ -49,6 +49,14 @@ fn expect_primary(rt: &impl Abort, packet: &Option<Packet>, repeated: usize, pri
     }
 }
 
+/// The packets of A at 0 and B at 300, each repeated twice.
+const TWO_LETTERS: [&[u8]; 4] = [
+    b"\x80\xE4\x00\x00\x00\x00\x00\x00\x00\x00\x03\xE9\xE2\xFF\xFC\x00\xE2\xFF\xFC\x00\x62\x41",
+    b"\x80\x64\x00\x01\x00\x00\x01\x2C\x00\x00\x03\xE9\xE2\xFF\xFC\x00\xE2\x04\xB0\x01\x62\x41\x42",
+    b"\x80\x64\x00\x02\x00\x00\x02\x58\x00\x00\x03\xE9\xE2\x09\x60\x01\xE2\x04\xB0\x01\x62\x41\x42",
+    b"\x80\x64\x00\x03\x00\x00\x03\x84\x00\x00\x03\xE9\xE2\x09\x60\x01\xE2\x04\xB0\x00\x62\x42",
+];
+
 #[test]
 fn two_letters_are_each_repeated_twice(rt: HostRuntime) -> Result<(), Fail> {
     let mut sender = Sender::new(rt.alloc(), conf())?;
@@ -56,33 +64,13 @@ fn two_letters_are_each_repeated_twice(rt: HostRuntime) -> Result<(), Fail> {
     assert_eq!(rt; sender.next_due(), None);
     sender.typed("A".as_bytes())?;
     assert!(rt; sender.due(0));
-    let first = sender.turn(0);
-    expect_octets(
-        &rt,
-        &first,
-        b"\x80\xE4\x00\x00\x00\x00\x00\x00\x00\x00\x03\xE9\xE2\xFF\xFC\x00\xE2\xFF\xFC\x00\x62\x41",
-    );
+    expect_octets(&rt, &sender.turn(0), TWO_LETTERS[0]);
     assert_eq!(rt; sender.next_due(), Some(300));
     assert!(rt; sender.turn(299).is_none());
     sender.typed("B".as_bytes())?;
-    let second = sender.turn(300);
-    expect_octets(
-        &rt,
-        &second,
-        b"\x80\x64\x00\x01\x00\x00\x01\x2C\x00\x00\x03\xE9\xE2\xFF\xFC\x00\xE2\x04\xB0\x01\x62\x41\x42",
-    );
-    let third = sender.turn(600);
-    expect_octets(
-        &rt,
-        &third,
-        b"\x80\x64\x00\x02\x00\x00\x02\x58\x00\x00\x03\xE9\xE2\x09\x60\x01\xE2\x04\xB0\x01\x62\x41\x42",
-    );
-    let fourth = sender.turn(900);
-    expect_octets(
-        &rt,
-        &fourth,
-        b"\x80\x64\x00\x03\x00\x00\x03\x84\x00\x00\x03\xE9\xE2\x09\x60\x01\xE2\x04\xB0\x00\x62\x42",
-    );
+    expect_octets(&rt, &sender.turn(300), TWO_LETTERS[1]);
+    expect_octets(&rt, &sender.turn(600), TWO_LETTERS[2]);
+    expect_octets(&rt, &sender.turn(900), TWO_LETTERS[3]);
     assert_eq!(rt; sender.next_due(), None);
     assert!(rt; sender.turn(1200).is_none());
     Ok(())
@@ -92,20 +80,12 @@ fn two_letters_are_each_repeated_twice(rt: HostRuntime) -> Result<(), Fail> {
 fn without_generations_each_text_is_sent_once(rt: HostRuntime) -> Result<(), Fail> {
     let mut sender = Sender::new(rt.alloc(), conf_of(0))?;
     sender.typed("A".as_bytes())?;
-    let first = sender.turn(0);
-    expect_octets(
-        &rt,
-        &first,
-        b"\x80\xE2\x00\x00\x00\x00\x00\x00\x00\x00\x03\xE9\x41",
-    );
+    let first = b"\x80\xE2\x00\x00\x00\x00\x00\x00\x00\x00\x03\xE9\x41";
+    expect_octets(&rt, &sender.turn(0), first);
     assert_eq!(rt; sender.next_due(), None);
     sender.typed("B".as_bytes())?;
-    let second = sender.turn(300);
-    expect_octets(
-        &rt,
-        &second,
-        b"\x80\x62\x00\x01\x00\x00\x01\x2C\x00\x00\x03\xE9\x42",
-    );
+    let second = b"\x80\x62\x00\x01\x00\x00\x01\x2C\x00\x00\x03\xE9\x42";
+    expect_octets(&rt, &sender.turn(300), second);
     Ok(())
 }
 
@@ -157,18 +137,12 @@ fn the_media_time_goes_on_by_8000_at_most_while_text_is_repeated(
     let mut sender = Sender::new(rt.alloc(), conf())?;
     sender.typed("A".as_bytes())?;
     assert!(rt; sender.turn(0).is_some());
-    let second = sender.turn(100000);
-    expect_octets(
-        &rt,
-        &second,
-        b"\x80\x64\x00\x01\x00\x00\x1F\x40\x00\x00\x03\xE9\xE2\xFF\xFC\x00\xE2\x7D\x00\x01\x62\x41",
-    );
-    let third = sender.turn(200000);
-    expect_octets(
-        &rt,
-        &third,
-        b"\x80\x64\x00\x02\x00\x00\x3E\x80\x00\x00\x03\xE9\xE2\xFA\x00\x01\xE2\x7D\x00\x00\x62\x41",
-    );
+    let second =
+        b"\x80\x64\x00\x01\x00\x00\x1F\x40\x00\x00\x03\xE9\xE2\xFF\xFC\x00\xE2\x7D\x00\x01\x62\x41";
+    expect_octets(&rt, &sender.turn(100000), second);
+    let third =
+        b"\x80\x64\x00\x02\x00\x00\x3E\x80\x00\x00\x03\xE9\xE2\xFA\x00\x01\xE2\x7D\x00\x00\x62\x41";
+    expect_octets(&rt, &sender.turn(200000), third);
     assert_eq!(rt; sender.next_due(), None);
     Ok(())
 }

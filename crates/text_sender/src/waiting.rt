@@ -1,9 +1,9 @@
 //! The text that waits to be sent.
-ghost use Rattle.std.specs.Prelude.{◌≡◌, ◌+◌, ◌≤◌, ◌<◌, ◌++◌, ◌↔◌, ◌==◌, [], length, min, take, drop, IfOk, IsOk, OnOk, OnErr};
+ghost use Rattle.std.specs.Prelude.{◌≡◌, ◌+◌, ◌≤◌, ◌<◌, ◌++◌, ◌↔◌, ◌==◌, [], length, min, drop, IfOk, IsOk, OnOk, OnErr};
 ghost use Rattle.stream_spec.specs.Typed.{is_end, last_end, whole_front};
-ghost use Rattle.rtt_base.specs.declared.limits.TheConstants.{MOST_TEXT_OCTETS};
 
 use circular_buffer::HeapCircularBuffer;
+use rtt_base::limits::MOST_TEXT_OCTETS;
 use rtt_base::{Full, NoMemory, Text};
 use std::alloc::Global;
 use std::marker::Model;
@@ -68,7 +68,7 @@ impl Waiting {
         ensures value { result ≡ last_end self.now (min MOST_TEXT_OCTETS (length self.now)) }
         ensures fits { (result ≤ MOST_TEXT_OCTETS) × (result ≤ length self.now) }
     {
-        let mut len = self.ring.len().min(Text::CAPACITY);
+        let mut len = self.ring.len().min(MOST_TEXT_OCTETS);
         while len > 0 && !self.ends_at(len) {
             len -= 1;
         }

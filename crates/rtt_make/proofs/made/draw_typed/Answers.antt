@@ -14,8 +14,8 @@ loop-preserved c =
     let first_of : Typist → ℕ = λ t. t.first in
     record {
       front = known.front ++ drawn ∷ [];
-      scripts = c.in_ok-push-2.ensures ∙ (ap (λ (l : List (List ScriptLine)). l ++ drawn.script ∷ []) known.scripts ∙ sym (map-append script_of known.front (drawn ∷ [])));
-      seqs = c.in_ok-push.ensures ∙ (ap (λ (l : List ℕ). l ++ drawn.first ∷ []) known.seqs ∙ sym (map-append first_of known.front (drawn ∷ [])));
+      scripts = c.in_ok-push-2.ensures.ok ∙ (ap (λ (l : List (List ScriptLine)). l ++ drawn.script ∷ []) known.scripts ∙ sym (map-append script_of known.front (drawn ∷ [])));
+      seqs = c.in_ok-push.ensures.ok ∙ (ap (λ (l : List ℕ). l ++ drawn.first ∷ []) known.seqs ∙ sym (map-append first_of known.front (drawn ∷ [])));
       drawn = step typist (times c.args.legs typist c.args.draws.now) known.front (c.args.legs - c.loop.counter) (c.args.legs - (c.loop.counter + 1)) c.loop.draws c.draw_typist.new.draws drawn
           known.drawn (omega (arith, c.loop-test.true)) c.in_ok-typist.ensures;
     }

@@ -1,46 +1,51 @@
-//! The octets of one packet.
+//! Octets of which there are only so many: a text of one block, and one packet.
 ghost use Rattle.std.specs.Prelude.{◌≡◌, ◌+◌, ◌≤◌, ◌<◌, ◌==◌, ◌↔◌, [], ◌∷◌, ◌++◌, length, take, IsOk, OnOk, OnErr};
 
 use crate::Full;
-use crate::limits::MOST_PACKET_OCTETS;
+use crate::limits::{MOST_PACKET_OCTETS, MOST_TEXT_OCTETS};
 use std::marker::Model;
 
+/// The text of a block, at most 1023 octets (RFC 2198, section 3: a length has 10 bits).
+pub type Text = Octets<MOST_TEXT_OCTETS>;
+
 /// The octets of one packet, at most 4224.
+pub type Packet = Octets<MOST_PACKET_OCTETS>;
+
+/// At most so many octets.
 #[derive(Debug, Drop)]
-pub struct Packet {
-    octets: [u8; MOST_PACKET_OCTETS],
+pub struct Octets<const MOST: usize> {
+    octets: [u8; MOST],
     len: usize,
 }
 
-impl Default for Packet {
-    ghost is_default = { λ t. t ≡ [] };
+impl<const MOST: usize> Default for Octets<MOST> {
+    ghost is_default = { λ o. o ≡ [] };
 
-    fn default() -> Packet {
-        Packet::new()
+    fn default() -> Octets<MOST> {
+        Octets::new()
     }
 }
 
-impl Model for Packet {
+impl<const MOST: usize> Model for Octets<MOST> {
     ghost use Rattle.std.specs.Prelude.{ℕ, List, ◌≤◌, take};
-    ghost use Rattle.rtt_base.specs.declared.limits.TheConstants.{MOST_PACKET_OCTETS};
 
     ghost Value = { List ℕ };
 
-    ghost view = { λ p. take p.len p.octets };
+    ghost view = { λ o. take o.len o.octets };
 
-    ghost invariant = { λ p. p.len ≤ MOST_PACKET_OCTETS };
+    ghost invariant = { λ o. o.len ≤ MOST };
 }
 
-impl Packet {
+impl<const MOST: usize> Octets<MOST> {
     /// How many octets fit.
-    pub const CAPACITY: usize = MOST_PACKET_OCTETS;
+    pub const CAPACITY: usize = MOST;
 
-    /// The packet with no octet.
-    pub fn new() -> Packet
+    /// No octets.
+    pub fn new() -> Octets<MOST>
         ensures { result ≡ [] }
     {
-        Packet {
-            octets: [0; MOST_PACKET_OCTETS],
+        Octets {
+            octets: [0; MOST],
             len: 0,
         }
     }
@@ -48,7 +53,7 @@ impl Packet {
     /// The number of octets.
     pub fn len(&self) -> usize
         ensures value { result ≡ length self.now }
-        ensures fits { result ≤ MOST_PACKET_OCTETS }
+        ensures fits { result ≤ MOST }
     {
         self.len
     }
@@ -61,14 +66,14 @@ impl Packet {
 
     pub fn as_slice(&self) -> &[u8]
         ensures value { result.now ≡ self.now }
-        ensures fits { length result.now ≤ MOST_PACKET_OCTETS }
+        ensures fits { length result.now ≤ MOST }
     {
         &self.octets[..self.len]
     }
 
     /// Appends one octet, for which there must be room.
     pub fn push(&mut self, octet: u8)
-        requires { length self.old < MOST_PACKET_OCTETS }
+        requires { length self.old < MOST }
         ensures { self.new ≡ self.old ++ octet ∷ [] }
     {
         self.octets[self.len] = octet;
@@ -77,15 +82,16 @@ impl Packet {
 
     /// Appends octets, or nothing where they pass the room left.
     pub fn append(&mut self, octets: &[u8]) -> Result<(), Full>
-        ensures room { IsOk result ↔ (length self.old + length octets.now ≤ MOST_PACKET_OCTETS) }
+        ensures room { IsOk result ↔ (length self.old + length octets.now ≤ MOST) }
         ensures ok { OnOk result (self.new ≡ self.old ++ octets.now) }
         ensures err { OnErr result (self.new ≡ self.old) }
     {
-        if octets.len() > Packet::CAPACITY - self.len {
+        if octets.len() > MOST - self.len {
             return Err(Full);
         }
         let end = self.len + octets.len();
-        self.octets[self.len..end].copy_from_slice(octets);
+        let places = &mut self.octets[..];
+        places[self.len..end].copy_from_slice(octets);
         self.len = end;
         Ok(())
     }
