@@ -1,5 +1,6 @@
 pub mod Taking
 pub mod Told
+pub mod Alike
 pub mod Ports
 pub mod MemPorts
 pub mod Held

@@ -1,5 +1,6 @@
 -- What links in memory hold (profile): of a port the first entry that is its own, and that entry's counts.
 use Rattle.std.specs.Prelude.{ℕ, Bool, true, false, List, [], ◌∷◌, Option, Some, None, cond, nat_eq}
+use Rattle.std.specs.Option.{option_map_or}
 use Rattle.link_spec.specs.Links.{Takes}
 use Rattle.rtt_io.specs.Counts.{counted}
 use Rattle.link_io.specs.declared.mem_ports.MemPort.{MemPort}
@@ -20,20 +21,16 @@ is_there None = false
 is_there (Some entry) = true
 
 abbrev pub takes_in : Option MemPort → Takes
-takes_in None = []
-takes_in (Some entry) = takes_told entry.taken.items
+takes_in entry = option_map_or (λ (e : MemPort). takes_told e.taken.items) entry []
 
 abbrev pub given_in : Option MemPort → List (List ℕ)
-given_in None = []
-given_in (Some entry) = entry.given.items
+given_in entry = option_map_or (λ (e : MemPort). e.given.items) entry []
 
 abbrev pub own_count : Option MemPort → ℕ
-own_count None = 0
-own_count (Some entry) = entry.own_faults
+own_count entry = option_map_or (λ (e : MemPort). e.own_faults) entry 0
 
 abbrev pub object_count : Option MemPort → ℕ
-object_count None = 0
-object_count (Some entry) = entry.object_faults
+object_count entry = option_map_or (λ (e : MemPort). e.object_faults) entry 0
 
 -- a link was opened at the port
 abbrev pub opened_of : List MemPort → ℕ → Bool

@@ -1,5 +1,6 @@
 //! Inbound ends in memory.
-ghost use Rattle.std.specs.Prelude.{◌≡◌, ◌<◌, ◌≤◌, ◌^◌, true, false, [], ◌∷◌, OnOk, OnErr};
+ghost use Rattle.std.specs.Prelude.{◌≡◌, ◌<◌, ◌≤◌, ◌^◌, true, false, [], ◌∷◌, IfOk, OnOk, OnErr};
+ghost use Rattle.link_io.specs.Alike.{SameIn};
 ghost use Rattle.link_io.specs.Taking.{taken_of, closes};
 ghost use Rattle.link_io.specs.Told.{takes_told};
 
@@ -17,15 +18,24 @@ pub struct Planned {
 }
 
 impl Planned {
-    /// The same once more.
-    pub fn copy(&self, alloc: Global) -> Result<Planned, NoMemory> {
-        let mut octets = Bytes::new(alloc);
-        octets.append(self.octets.as_slice())?;
+    /// This at this moment, with a copy of these octets.
+    pub fn new(alloc: Global, at: u32, came: Came, octets: &[u8]) -> Result<Planned, NoMemory>
+        ensures { IfOk result (λ planned. planned ≡ record { at = at; came = came; octets = octets.now }) }
+    {
+        let mut copy = Bytes::new(alloc);
+        copy.append(octets)?;
         Ok(Planned {
-            at: self.at,
-            came: self.came,
-            octets,
+            at,
+            came,
+            octets: copy,
         })
+    }
+
+    /// The same once more.
+    pub fn copy(&self, alloc: Global) -> Result<Planned, NoMemory>
+        ensures { IfOk result (λ planned. planned ≡ self.now) }
+    {
+        Planned::new(alloc, self.at, self.came, self.octets.as_slice())
     }
 }
 
@@ -43,12 +53,12 @@ pub struct Told {
 pub struct MemIn {
     alloc: Global,
     pub(crate) port: u16,
-    plan: Vec<Planned>,
+    pub(crate) plan: Vec<Planned>,
     // how much of the plan it gave
     used: usize,
     // how many takes were made
     takes: u64,
-    failing: Vec<u64>,
+    pub(crate) failing: Vec<u64>,
     pub(crate) told: Vec<Told>,
     pub(crate) closed: bool,
     moment: u64,
@@ -113,28 +123,18 @@ impl MemIn {
 
     /// Plans one take more, behind those that are planned.
     pub fn plan(&mut self, next: Planned) -> Result<(), NoMemory>
-        ensures same_taken { ⟦<MemIn as LinkIn>⟧.taken self.new ≡ ⟦<MemIn as LinkIn>⟧.taken self.old }
-        ensures same_port { ⟦<MemIn as LinkIn>⟧.port self.new ≡ ⟦<MemIn as LinkIn>⟧.port self.old }
-        ensures same_faults { ⟦<MemIn as LinkIn>⟧.faults self.new ≡ ⟦<MemIn as LinkIn>⟧.faults self.old }
-        ensures same_closed { ⟦<MemIn as LinkIn>⟧.closed self.new ≡ ⟦<MemIn as LinkIn>⟧.closed self.old }
+        ensures { SameIn ⟦<MemIn as LinkIn>⟧ self.old self.new }
     {
-        match self.plan.push(next) {
-            Ok(()) => Ok(()),
-            Err(_) => Err(NoMemory),
-        }
+        self.plan.push(next)?;
+        Ok(())
     }
 
     /// The take of this number is to fail. The first one has number 1.
     pub fn fail_at(&mut self, take: u64) -> Result<(), NoMemory>
-        ensures same_taken { ⟦<MemIn as LinkIn>⟧.taken self.new ≡ ⟦<MemIn as LinkIn>⟧.taken self.old }
-        ensures same_port { ⟦<MemIn as LinkIn>⟧.port self.new ≡ ⟦<MemIn as LinkIn>⟧.port self.old }
-        ensures same_faults { ⟦<MemIn as LinkIn>⟧.faults self.new ≡ ⟦<MemIn as LinkIn>⟧.faults self.old }
-        ensures same_closed { ⟦<MemIn as LinkIn>⟧.closed self.new ≡ ⟦<MemIn as LinkIn>⟧.closed self.old }
+        ensures { SameIn ⟦<MemIn as LinkIn>⟧ self.old self.new }
     {
-        match self.failing.push(take) {
-            Ok(()) => Ok(()),
-            Err(_) => Err(NoMemory),
-        }
+        self.failing.push(take)?;
+        Ok(())
     }
 
     /// What its takes gave, oldest first.

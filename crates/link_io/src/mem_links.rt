@@ -177,11 +177,12 @@ impl MemLinks {
         if self.fails_to_link(port) {
             return None;
         }
+        let (takes, gives) = self.failing_at(port).ok()?;
         let mut inbound = MemIn::new(self.alloc, port);
-        self.plan_comings(&mut inbound).ok()?;
-        self.plan_takes(&mut inbound).ok()?;
+        inbound.plan = self.coming_at(port).ok()?;
+        inbound.failing = takes;
         let mut outbound = MemOut::new(self.alloc, port);
-        self.plan_gives(&mut outbound).ok()?;
+        outbound.failing = gives;
         Some((inbound, outbound))
     }
 
@@ -189,52 +190,29 @@ impl MemLinks {
         self.failing.as_slice().contains(&FailingLink::Link(port))
     }
 
-    // Tells an inbound end what is to come at its port.
-    fn plan_comings(&self, link: &mut MemIn) -> Result<(), NoMemory>
-        ensures same_taken { takes_told link.new.told.items ≡ takes_told link.old.told.items }
-        ensures same_port { link.new.port ≡ link.old.port }
-        ensures same_faults { link.new.faults ≡ link.old.faults }
-        ensures same_closed { link.new.closed ≡ link.old.closed }
-    {
+    // What is to come at a port.
+    fn coming_at(&self, port: u16) -> Result<Vec<Planned>, NoMemory> {
+        let mut plan = Vec::new(self.alloc);
         for coming in &self.coming {
-            if coming.port == link.port {
-                link.plan(coming.planned.copy(self.alloc)?)?;
+            if coming.port == port {
+                plan.push(coming.planned.copy(self.alloc)?)?;
             }
         }
-        Ok(())
+        Ok(plan)
     }
 
-    // Tells an inbound end which of its takes are to fail.
-    fn plan_takes(&self, link: &mut MemIn) -> Result<(), NoMemory>
-        ensures same_taken { takes_told link.new.told.items ≡ takes_told link.old.told.items }
-        ensures same_port { link.new.port ≡ link.old.port }
-        ensures same_faults { link.new.faults ≡ link.old.faults }
-        ensures same_closed { link.new.closed ≡ link.old.closed }
-    {
+    // The takes and the gives at a port that are to fail.
+    fn failing_at(&self, port: u16) -> Result<(Vec<u64>, Vec<u64>), NoMemory> {
+        let mut takes = Vec::new(self.alloc);
+        let mut gives = Vec::new(self.alloc);
         for call in &self.failing {
-            if let FailingLink::Take(port, take) = call
-                && *port == link.port
-            {
-                link.fail_at(*take)?;
+            match call {
+                FailingLink::Take(at, take) if *at == port => takes.push(*take)?,
+                FailingLink::Give(at, give) if *at == port => gives.push(*give)?,
+                _ => {}
             }
         }
-        Ok(())
-    }
-
-    // Tells an outbound end which of its gives are to fail.
-    fn plan_gives(&self, link: &mut MemOut) -> Result<(), NoMemory>
-        ensures same_given { link.new.given.items ≡ link.old.given.items }
-        ensures same_port { link.new.port ≡ link.old.port }
-        ensures same_faults { link.new.faults ≡ link.old.faults }
-    {
-        for call in &self.failing {
-            if let FailingLink::Give(port, give) = call
-                && *port == link.port
-            {
-                link.fail_at(*give)?;
-            }
-        }
-        Ok(())
+        Ok((takes, gives))
     }
 
     // Makes the entry of a port, where there is none.

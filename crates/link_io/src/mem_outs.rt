@@ -1,5 +1,6 @@
 //! Outbound ends in memory.
 ghost use Rattle.std.specs.Prelude.{◌≡◌, [], ◌∷◌, ◌++◌, OnOk, OnErr};
+ghost use Rattle.link_io.specs.Alike.{SameOut};
 
 use crate::LinkOut;
 use rtt_base::{Bytes, Failed, NoMemory};
@@ -13,7 +14,7 @@ pub struct MemOut {
     pub(crate) given: Vec<Bytes>,
     // how many gives were made
     gives: u64,
-    failing: Vec<u64>,
+    pub(crate) failing: Vec<u64>,
     pub(crate) faults: u64,
 }
 
@@ -56,14 +57,10 @@ impl MemOut {
 
     /// The give of this number is to fail. The first one has number 1.
     pub fn fail_at(&mut self, give: u64) -> Result<(), NoMemory>
-        ensures same_given { ⟦<MemOut as LinkOut>⟧.given self.new ≡ ⟦<MemOut as LinkOut>⟧.given self.old }
-        ensures same_port { ⟦<MemOut as LinkOut>⟧.port self.new ≡ ⟦<MemOut as LinkOut>⟧.port self.old }
-        ensures same_faults { ⟦<MemOut as LinkOut>⟧.faults self.new ≡ ⟦<MemOut as LinkOut>⟧.faults self.old }
+        ensures { SameOut ⟦<MemOut as LinkOut>⟧ self.old self.new }
     {
-        match self.failing.push(give) {
-            Ok(()) => Ok(()),
-            Err(_) => Err(NoMemory),
-        }
+        self.failing.push(give)?;
+        Ok(())
     }
 
     /// The packets that it was given, oldest first.

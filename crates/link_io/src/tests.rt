@@ -1,21 +1,12 @@
 use crate::{
-    Came, FailingLink, LinkIn, LinkOut, Links, MemIn, MemLinks, MemOut, Planned, RealLinks, peer_of,
+    Came, FailingLink, LinkIn, LinkOut, Links, MemIn, MemLinks, MemOut, Planned, RealIn, RealLinks,
+    RealOut, peer_of,
 };
-use rtt_base::{Bytes, NoMemory, Packet};
+use rtt_base::Packet;
 use std::alloc::Global;
-use std::net::UdpSocket;
+use std::net::{Net, SocketAddr, UdpSocket};
 use std::test::Fail;
-use std::time::Duration;
-
-fn planned(alloc: Global, at: u32, came: Came, octets: &[u8]) -> Result<Planned, NoMemory> {
-    let mut copy = Bytes::new(alloc);
-    copy.append(octets)?;
-    Ok(Planned {
-        at,
-        came,
-        octets: copy,
-    })
-}
+use std::time::{Clock, Duration};
 
 // The next take gives this at this moment, and fails nowhere.
 fn takes<L: LinkIn>(link: &mut L, at: u64, came: Came) -> bool {
@@ -24,6 +15,16 @@ fn takes<L: LinkIn>(link: &mut L, at: u64, came: Came) -> bool {
         Ok(taken) => taken.at == at && taken.came == came,
         Err(_) => false,
     }
+}
+
+// The next takes give these at these moments, one each.
+fn takes_all<L: LinkIn>(link: &mut L, all: &[(u64, Came)]) -> bool {
+    for (at, came) in all {
+        if !takes(link, *at, *came) {
+            return false;
+        }
+    }
+    true
 }
 
 // The next take gives this, whenever it is.
@@ -47,13 +48,12 @@ fn hears<L: LinkIn>(link: &mut L, octets: &[u8]) -> bool {
 #[test]
 fn an_end_in_memory_gives_its_plan_and_is_quiet_behind_it(rt: HostRuntime) -> Result<(), Fail> {
     let mut link = MemIn::new(rt.alloc(), 5001);
-    link.plan(planned(rt.alloc(), 100, Came::Datagram, b"A")?)?;
-    link.plan(planned(rt.alloc(), 50, Came::Datagram, &[0; 4225])?)?;
-    link.plan(planned(rt.alloc(), 200, Came::Large, b"")?)?;
+    link.plan(Planned::new(rt.alloc(), 100, Came::Datagram, b"A")?)?;
+    link.plan(Planned::new(rt.alloc(), 50, Came::Datagram, &[0; 4225])?)?;
+    link.plan(Planned::new(rt.alloc(), 200, Came::Large, b"")?)?;
     assert!(rt; hears(&mut link, b"A"));
-    assert!(rt; takes(&mut link, 100, Came::Large));
-    assert!(rt; takes(&mut link, 200, Came::Large));
-    assert!(rt; takes(&mut link, 200, Came::Quiet));
+    let behind = [(100, Came::Large), (200, Came::Large), (200, Came::Quiet)];
+    assert!(rt; takes_all(&mut link, &behind));
     assert_eq!(rt; link.told().len(), 4);
     Ok(())
 }
@@ -61,8 +61,8 @@ fn an_end_in_memory_gives_its_plan_and_is_quiet_behind_it(rt: HostRuntime) -> Re
 #[test]
 fn a_take_that_fails_uses_up_nothing(rt: HostRuntime) -> Result<(), Fail> {
     let mut link = MemIn::new(rt.alloc(), 5001);
-    link.plan(planned(rt.alloc(), 7, Came::Closed, b"")?)?;
-    link.plan(planned(rt.alloc(), 8, Came::Datagram, b"A")?)?;
+    link.plan(Planned::new(rt.alloc(), 7, Came::Closed, b"")?)?;
+    link.plan(Planned::new(rt.alloc(), 8, Came::Datagram, b"A")?)?;
     link.fail_at(1)?;
     link.fail_at(3)?;
     assert!(rt; !takes(&mut link, 7, Came::Closed));
@@ -87,8 +87,8 @@ fn an_outbound_end_in_memory_keeps_what_it_was_given(rt: HostRuntime) -> Result<
 #[test]
 fn links_in_memory_keep_what_is_handed_back(rt: HostRuntime) -> Result<(), Fail> {
     let mut links = MemLinks::new(rt.alloc());
-    links.plan(5001, planned(rt.alloc(), 3, Came::Datagram, b"A")?)?;
-    links.plan(5002, planned(rt.alloc(), 4, Came::Closed, b"")?)?;
+    links.plan(5001, Planned::new(rt.alloc(), 3, Came::Datagram, b"A")?)?;
+    links.plan(5002, Planned::new(rt.alloc(), 4, Came::Closed, b"")?)?;
     let (mut inbound, mut outbound) = links.link(5001, "127.0.0.1:6001")?;
     assert!(rt; hears(&mut inbound, b"A"));
     assert!(rt; takes(&mut inbound, 3, Came::Quiet));
@@ -150,23 +150,33 @@ fn only_an_address_of_this_machine_is_a_peer(rt: HostRuntime) -> Result<(), Fail
 }
 
 // A socket at a port that the system picks, whose calls end.
-fn socket<R: std::net::Net>(rt: &R) -> std::io::Result<UdpSocket> {
+fn socket<R: Net>(rt: &R) -> std::io::Result<UdpSocket> {
     let socket = UdpSocket::bind(rt, "127.0.0.1:0")?;
     socket.set_read_timeout(Some(Duration::from_secs(5)))?;
     Ok(socket)
 }
 
 // A port that nobody has.
-fn free_port<R: std::net::Net>(rt: &R) -> std::io::Result<u16> {
+fn free_port<R: Net>(rt: &R) -> std::io::Result<u16> {
     Ok(socket(rt)?.local_addr()?.port())
+}
+
+// A link over UDP from a port that nobody has to a peer at this address, and that port.
+fn link_to<R: Net + Clock + Copy + Send>(
+    rt: R,
+    alloc: Global,
+    peer: SocketAddr,
+) -> Result<(u16, RealIn<R>, RealOut), Fail> {
+    let port = free_port(&rt)?;
+    let to = format!(in alloc; "{peer}")?;
+    let (inbound, outbound) = RealLinks::new(rt).link(port, to.as_str())?;
+    Ok((port, inbound, outbound))
 }
 
 #[test]
 fn a_peer_is_heard_whatever_the_length(rt: HostRuntime) -> Result<(), Fail> {
     let peer = socket(&rt)?;
-    let port = free_port(&rt)?;
-    let to = format!(in rt.alloc(); "{}", peer.local_addr()?)?;
-    let (mut inbound, _outbound) = RealLinks::new(&rt).link(port, to.as_str())?;
+    let (port, mut inbound, _outbound) = link_to(&rt, rt.alloc(), peer.local_addr()?)?;
     assert_eq!(rt; peer.send_to(b"one", ("127.0.0.1", port))?, 3);
     assert!(rt; hears(&mut inbound, b"one"));
     assert_eq!(rt; peer.send_to(b"", ("127.0.0.1", port))?, 0);
@@ -185,9 +195,7 @@ fn a_peer_is_heard_whatever_the_length(rt: HostRuntime) -> Result<(), Fail> {
 #[test]
 fn a_peer_is_sent_to_from_the_port_that_it_sends_to(rt: HostRuntime) -> Result<(), Fail> {
     let peer = socket(&rt)?;
-    let port = free_port(&rt)?;
-    let to = format!(in rt.alloc(); "{}", peer.local_addr()?)?;
-    let (_inbound, mut outbound) = RealLinks::new(&rt).link(port, to.as_str())?;
+    let (port, _inbound, mut outbound) = link_to(&rt, rt.alloc(), peer.local_addr()?)?;
     assert!(rt; outbound.give(b"two").is_ok());
     let mut buf = [0; 8];
     let (count, from) = peer.recv_from(&mut buf)?;
@@ -209,9 +217,7 @@ fn send_many(socket: &UdpSocket, port: u16, count: u32) -> std::io::Result<()> {
 fn a_stranger_is_not_heard_and_holds_nobody_up(rt: HostRuntime) -> Result<(), Fail> {
     let peer = socket(&rt)?;
     let stranger = socket(&rt)?;
-    let port = free_port(&rt)?;
-    let to = format!(in rt.alloc(); "{}", peer.local_addr()?)?;
-    let (mut inbound, _outbound) = RealLinks::new(&rt).link(port, to.as_str())?;
+    let (port, mut inbound, _outbound) = link_to(&rt, rt.alloc(), peer.local_addr()?)?;
     send_many(&stranger, port, 1000)?;
     assert_eq!(rt; peer.send_to(b"one", ("127.0.0.1", port))?, 3);
     send_many(&stranger, port, 1)?;
@@ -225,9 +231,7 @@ fn a_stranger_is_not_heard_and_holds_nobody_up(rt: HostRuntime) -> Result<(), Fa
 fn a_peer_that_goes_and_comes_back_is_heard_again(rt: HostRuntime) -> Result<(), Fail> {
     let peer = socket(&rt)?;
     let address = peer.local_addr()?;
-    let port = free_port(&rt)?;
-    let to = format!(in rt.alloc(); "{address}")?;
-    let (mut inbound, mut outbound) = RealLinks::new(&rt).link(port, to.as_str())?;
+    let (port, mut inbound, mut outbound) = link_to(&rt, rt.alloc(), address)?;
     drop(peer);
     assert!(rt; outbound.give(b"one").is_ok());
     assert!(rt; comes(&mut inbound, true, Came::Quiet));
@@ -242,9 +246,7 @@ fn a_peer_that_goes_and_comes_back_is_heard_again(rt: HostRuntime) -> Result<(),
 fn the_first_packet_to_a_peer_that_comes_back_is_sent(rt: HostRuntime) -> Result<(), Fail> {
     let peer = socket(&rt)?;
     let address = peer.local_addr()?;
-    let port = free_port(&rt)?;
-    let to = format!(in rt.alloc(); "{address}")?;
-    let (_inbound, mut outbound) = RealLinks::new(&rt).link(port, to.as_str())?;
+    let (_port, _inbound, mut outbound) = link_to(&rt, rt.alloc(), address)?;
     drop(peer);
     assert!(rt; outbound.give(b"one").is_ok());
     let again = UdpSocket::bind(&rt, address)?;

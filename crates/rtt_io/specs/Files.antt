@@ -1,5 +1,6 @@
 -- What a world in memory holds (profile): under a name the first file that bears it, and that file's counts.
 use Rattle.std.specs.Prelude.{ℕ, Bool, List, [], ◌∷◌, Option, Some, None, cond, nat_eq}
+use Rattle.std.specs.Option.{option_map, option_map_or}
 use Rattle.std.specs.Cmp.Lexicographic.{pointwise}
 use Rattle.rtt_io.specs.declared.mem_files.MemFile.{MemFile}
 use Rattle.rtt_io.specs.Counts.{counted}
@@ -15,8 +16,7 @@ file_of (file ∷ files) name = cond (is_named name file) (Some file) (file_of f
 
 -- the octets of a file
 abbrev pub octets_in : Option MemFile → Option (List ℕ)
-octets_in None = None
-octets_in (Some file) = Some file.octets
+octets_in file = option_map (λ (f : MemFile). f.octets) file
 
 -- the octets under a name
 abbrev pub octets_of : List MemFile → List ℕ → Option (List ℕ)
@@ -24,12 +24,10 @@ octets_of files name = octets_in (file_of files name)
 
 -- what a file counts; no file counts nothing
 abbrev pub own_count : Option MemFile → ℕ
-own_count None = 0
-own_count (Some file) = file.own_faults
+own_count file = option_map_or (λ (f : MemFile). f.own_faults) file 0
 
 abbrev pub object_count : Option MemFile → ℕ
-object_count None = 0
-object_count (Some file) = file.object_faults
+object_count file = option_map_or (λ (f : MemFile). f.object_faults) file 0
 
 -- the faults of the calls that open or create a name, with those that no file counts
 abbrev pub own_of : ℕ → List MemFile → List ℕ → ℕ

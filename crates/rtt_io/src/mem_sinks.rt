@@ -1,5 +1,6 @@
 //! Sinks in memory.
 ghost use Rattle.std.specs.Prelude.{◌≡◌, ◌≤◌, [], ◌++◌, length, OnOk, OnErr};
+ghost use Rattle.rtt_io.specs.Alike.{SameSink};
 ghost use Rattle.rtt_io.specs.Counts.{Rose};
 ghost use Rattle.rtt_io.specs.Fronts.{TakesFront};
 
@@ -23,7 +24,7 @@ pub struct MemSink {
     pub(crate) taken: Bytes,
     // how many writes were made
     writes: u64,
-    failing: Vec<FailingWrite>,
+    pub(crate) failing: Vec<FailingWrite>,
     pub(crate) faults: u64,
 }
 
@@ -63,14 +64,10 @@ impl MemSink {
 
     /// This write is to fail.
     pub fn fail_at(&mut self, write: FailingWrite) -> Result<(), NoMemory>
-        ensures same_took { ⟦<MemSink as Sink>⟧.took self.new ≡ ⟦<MemSink as Sink>⟧.took self.old }
-        ensures same_name { ⟦<MemSink as Sink>⟧.name self.new ≡ ⟦<MemSink as Sink>⟧.name self.old }
-        ensures same_faults { ⟦<MemSink as Sink>⟧.faults self.new ≡ ⟦<MemSink as Sink>⟧.faults self.old }
+        ensures { SameSink ⟦<MemSink as Sink>⟧ self.old self.new }
     {
-        match self.failing.push(write) {
-            Ok(()) => Ok(()),
-            Err(_) => Err(NoMemory),
-        }
+        self.failing.push(write)?;
+        Ok(())
     }
 
     /// What it took so far.

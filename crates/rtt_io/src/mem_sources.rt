@@ -1,5 +1,6 @@
 //! Sources in memory.
-ghost use Rattle.std.specs.Prelude.{◌≡◌, ◌≤◌, ◌<◌, [], length};
+ghost use Rattle.std.specs.Prelude.{◌≡◌, ◌≤◌, ◌<◌, [], ◌++◌, length, take};
+ghost use Rattle.rtt_io.specs.Alike.{SameSource};
 
 use crate::Source;
 use crate::reads::hand_out;
@@ -10,17 +11,11 @@ use std::alloc::Global;
 #[derive(Debug, Drop)]
 pub struct MemSource {
     pub(crate) name: Path,
-    octets: Bytes,
-    // how many of them were read
-    position: usize,
-    // the most that one read answers
-    step: usize,
+    steady: SteadySource,
     // how many reads were made
     reads: u64,
-    failing: Vec<u64>,
+    pub(crate) failing: Vec<u64>,
     pub(crate) faults: u64,
-    ghost within: { position ≤ length octets },
-    ghost moves: { 0 < step },
 }
 
 impl Source for MemSource {
@@ -28,7 +23,7 @@ impl Source for MemSource {
 
     ghost tells = { Unit {0} };
 
-    ghost left = { λ source. drop source.position source.octets };
+    ghost left = { λ source. drop source.steady.position source.steady.octets };
 
     ghost faults = { λ source. source.faults };
 
@@ -40,9 +35,7 @@ impl Source for MemSource {
             self.faults = self.faults.saturating_add(1);
             return Err(Failed);
         }
-        let number = hand_out(&self.octets.as_slice()[self.position..], buf, self.step);
-        self.position += number;
-        Ok(number)
+        Ok(self.steady.next(buf))
     }
 }
 
@@ -55,9 +48,7 @@ impl MemSource {
     {
         MemSource {
             name,
-            octets,
-            position: 0,
-            step: usize::MAX,
+            steady: SteadySource::new(octets),
             reads: 0,
             failing: Vec::new(alloc),
             faults: 0,
@@ -67,23 +58,17 @@ impl MemSource {
     /// From now on one read answers at most `step` octets.
     pub fn set_step(&mut self, step: usize)
         requires { 0 < step }
-        ensures same_left { ⟦<MemSource as Source>⟧.left self.new ≡ ⟦<MemSource as Source>⟧.left self.old }
-        ensures same_name { ⟦<MemSource as Source>⟧.name self.new ≡ ⟦<MemSource as Source>⟧.name self.old }
-        ensures same_faults { ⟦<MemSource as Source>⟧.faults self.new ≡ ⟦<MemSource as Source>⟧.faults self.old }
+        ensures { SameSource ⟦<MemSource as Source>⟧ self.old self.new }
     {
-        self.step = step;
+        self.steady.set_step(step);
     }
 
     /// The read of this number is to fail. The first one has number 1.
     pub fn fail_at(&mut self, read: u64) -> Result<(), NoMemory>
-        ensures same_left { ⟦<MemSource as Source>⟧.left self.new ≡ ⟦<MemSource as Source>⟧.left self.old }
-        ensures same_name { ⟦<MemSource as Source>⟧.name self.new ≡ ⟦<MemSource as Source>⟧.name self.old }
-        ensures same_faults { ⟦<MemSource as Source>⟧.faults self.new ≡ ⟦<MemSource as Source>⟧.faults self.old }
+        ensures { SameSource ⟦<MemSource as Source>⟧ self.old self.new }
     {
-        match self.failing.push(read) {
-            Ok(()) => Ok(()),
-            Err(_) => Err(NoMemory),
-        }
+        self.failing.push(read)?;
+        Ok(())
     }
 }
 
@@ -91,7 +76,9 @@ impl MemSource {
 #[derive(Debug, Drop)]
 pub struct SteadySource {
     octets: Bytes,
+    // how many of them were read
     position: usize,
+    // the most that one read answers
     step: usize,
     ghost within: { position ≤ length octets },
     ghost moves: { 0 < step },
@@ -109,9 +96,7 @@ impl Source for SteadySource {
     ghost name = { λ _. [] };
 
     fn read(&mut self, buf: &mut [u8]) -> Result<usize, Failed> {
-        let number = hand_out(&self.octets.as_slice()[self.position..], buf, self.step);
-        self.position += number;
-        Ok(number)
+        Ok(self.next(buf))
     }
 }
 
@@ -133,5 +118,17 @@ impl SteadySource {
         ensures { ⟦<SteadySource as Source>⟧.left self.new ≡ ⟦<SteadySource as Source>⟧.left self.old }
     {
         self.step = step;
+    }
+
+    // Hands out the next octets, and answers how many.
+    fn next(&mut self, buf: &mut [u8]) -> usize
+        requires { 0 < length buf.old }
+        ensures fits { result ≤ length buf.new }
+        ensures given { ⟦<SteadySource as Source>⟧.left self.old ≡ take result buf.new ++ ⟦<SteadySource as Source>⟧.left self.new }
+        ensures ended { result ≡ 0 → ⟦<SteadySource as Source>⟧.left self.old ≡ [] }
+    {
+        let number = hand_out(&self.octets.as_slice()[self.position..], buf, self.step);
+        self.position += number;
+        number
     }
 }

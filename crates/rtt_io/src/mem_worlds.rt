@@ -150,7 +150,8 @@ impl MemWorld {
         let mut octets = Bytes::new(self.alloc);
         octets.append(stored)?;
         let mut source = MemSource::new(self.alloc, Path::from_text(self.alloc, name)?, octets);
-        self.plan_reads(name, &mut source)?;
+        let (reads, _writes) = self.failing_of(name)?;
+        source.failing = reads;
         Ok(source)
     }
 
@@ -165,7 +166,8 @@ impl MemWorld {
         }
         let path = Path::from_text(self.alloc, name).ok()?;
         let mut sink = MemSink::new(self.alloc, path);
-        self.plan_writes(name, &mut sink).ok()?;
+        let (_reads, writes) = self.failing_of(name).ok()?;
+        sink.failing = writes;
         Some(sink)
     }
 
@@ -183,36 +185,18 @@ impl MemWorld {
         })
     }
 
-    // Tells a source which of its reads are to fail.
-    fn plan_reads(&self, name: &str, source: &mut MemSource) -> Result<(), NoMemory>
-        ensures same_left { ⟦<MemSource as Source>⟧.left source.new ≡ ⟦<MemSource as Source>⟧.left source.old }
-        ensures same_name { source.new.name ≡ source.old.name }
-        ensures same_faults { source.new.faults ≡ source.old.faults }
-    {
+    // The reads and the writes of a name that are to fail.
+    fn failing_of(&self, name: &str) -> Result<(Vec<u64>, Vec<FailingWrite>), NoMemory> {
+        let mut reads = Vec::new(self.alloc);
+        let mut writes = Vec::new(self.alloc);
         for call in &self.failing {
-            if let FailingCall::Read(path, read) = call
-                && path.as_str() == name
-            {
-                source.fail_at(*read)?;
+            match call {
+                FailingCall::Read(path, read) if path.as_str() == name => reads.push(*read)?,
+                FailingCall::Write(path, write) if path.as_str() == name => writes.push(*write)?,
+                _ => {}
             }
         }
-        Ok(())
-    }
-
-    // Tells a sink which of its writes are to fail.
-    fn plan_writes(&self, name: &str, sink: &mut MemSink) -> Result<(), NoMemory>
-        ensures same_took { sink.new.taken ≡ sink.old.taken }
-        ensures same_name { sink.new.name ≡ sink.old.name }
-        ensures same_faults { sink.new.faults ≡ sink.old.faults }
-    {
-        for call in &self.failing {
-            if let FailingCall::Write(path, write) = call
-                && path.as_str() == name
-            {
-                sink.fail_at(*write)?;
-            }
-        }
-        Ok(())
+        Ok((reads, writes))
     }
 
     // Makes what is under a name empty.

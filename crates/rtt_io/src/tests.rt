@@ -1,8 +1,9 @@
 use crate::{
-    FailingCall, FailingWrite, FileSink, FileSource, MemSink, MemSource, MemWorld, Pieces,
-    ReadFault, RealWorld, Sink, Source, SteadySource, Stored, StreamSink, Whole, World, read_whole,
+    FailingCall, FailingWrite, FileSink, FileSource, MemSink, MemSource, MemWorld, ReadFault,
+    RealWorld, Sink, Source, SteadySource, Stored, StreamSink, World, read_whole,
 };
-use rtt_base::{Bytes, Failed, Path};
+use rtt_base::{Bytes, Failed, NoMemory, Path};
+use std::alloc::Global;
 use std::io::{ErrorKind, Write};
 use std::test::Fail;
 
@@ -13,46 +14,70 @@ fn holds(world: &MemWorld, name: &str, octets: &[u8]) -> bool {
     }
 }
 
+fn bytes(alloc: Global, octets: &[u8]) -> Result<Bytes, NoMemory> {
+    let mut bytes = Bytes::new(alloc);
+    bytes.append(octets)?;
+    Ok(bytes)
+}
+
+// The next read gives these octets.
+fn reads<S: Source>(source: &mut S, octets: &[u8]) -> bool {
+    let mut buf = [0; 16];
+    match source.read(&mut buf) {
+        Ok(number) => &buf[..number] == octets,
+        Err(_) => false,
+    }
+}
+
+// The next reads give these texts, one each.
+fn reads_all<S: Source>(source: &mut S, texts: &[&str]) -> bool {
+    for text in texts {
+        if !reads(source, text.as_bytes()) {
+            return false;
+        }
+    }
+    true
+}
+
+// A sink in memory of which the write of this number is to take one octet, and fail.
+fn failing_sink(alloc: Global, write: u64) -> Result<MemSink, NoMemory> {
+    let mut sink = MemSink::new(alloc, Path::from_text(alloc, "a.out")?);
+    sink.fail_at(FailingWrite { write, through: 1 })?;
+    Ok(sink)
+}
+
+// A world in memory with files of these names, each of which holds `abc`.
+fn world_of(alloc: Global, names: &[&str]) -> Result<MemWorld, NoMemory> {
+    let mut world = MemWorld::new(alloc);
+    for name in names {
+        world.add_file(name, b"abc")?;
+    }
+    Ok(world)
+}
+
 #[test]
 fn a_source_in_memory_fails_where_it_is_told_and_goes_on(rt: HostRuntime) -> Result<(), Fail> {
-    let mut octets = Bytes::new(rt.alloc());
-    octets.append(b"abcdefg")?;
     let name = Path::from_text(rt.alloc(), "a.in")?;
-    let mut source = MemSource::new(rt.alloc(), name, octets);
+    let mut source = MemSource::new(rt.alloc(), name, bytes(rt.alloc(), b"abcdefg")?);
     source.set_step(3);
     source.fail_at(2)?;
-    let mut buf = [0; 16];
-    assert_eq!(rt; source.read(&mut buf)?, 3);
-    assert!(rt; source.read(&mut buf).is_err());
-    assert_eq!(rt; source.read(&mut buf)?, 3);
-    assert_eq!(rt; buf[..3], b"def"[..]);
-    assert_eq!(rt; source.read(&mut buf)?, 1);
-    assert_eq!(rt; buf[0], b'g');
-    assert_eq!(rt; source.read(&mut buf)?, 0);
+    assert!(rt; reads(&mut source, b"abc"));
+    assert!(rt; source.read(&mut [0; 16]).is_err());
+    assert!(rt; reads_all(&mut source, &["def", "g", ""]));
     Ok(())
 }
 
 #[test]
 fn a_steady_source_answers_to_its_end(rt: HostRuntime) -> Result<(), Fail> {
-    let mut octets = Bytes::new(rt.alloc());
-    octets.append(b"abc")?;
-    let mut source = SteadySource::new(octets);
+    let mut source = SteadySource::new(bytes(rt.alloc(), b"abc")?);
     source.set_step(2);
-    let mut buf = [0; 2];
-    assert_eq!(rt; source.read(&mut buf)?, 2);
-    assert_eq!(rt; source.read(&mut buf)?, 1);
-    assert_eq!(rt; buf[0], b'c');
-    assert_eq!(rt; source.read(&mut buf)?, 0);
+    assert!(rt; reads_all(&mut source, &["ab", "c", ""]));
     Ok(())
 }
 
 #[test]
 fn a_sink_in_memory_takes_a_part_of_a_failing_write(rt: HostRuntime) -> Result<(), Fail> {
-    let mut sink = MemSink::new(rt.alloc(), Path::from_text(rt.alloc(), "a.out")?);
-    sink.fail_at(FailingWrite {
-        write: 2,
-        through: 1,
-    })?;
+    let mut sink = failing_sink(rt.alloc(), 2)?;
     sink.write_all(b"ab")?;
     assert!(rt; sink.write_all(b"cd").is_err());
     sink.write_all(b"ef")?;
@@ -85,9 +110,7 @@ fn a_world_in_memory_keeps_its_files(rt: HostRuntime) -> Result<(), Fail> {
 
 #[test]
 fn each_kind_of_call_fails_in_a_world_that_says_so(rt: HostRuntime) -> Result<(), Fail> {
-    let mut world = MemWorld::new(rt.alloc());
-    world.add_file("a", b"abc")?;
-    world.add_file("b", b"abc")?;
+    let mut world = world_of(rt.alloc(), &["a", "b"])?;
     world.fail(FailingCall::Open(Path::from_text(rt.alloc(), "b")?))?;
     world.fail(FailingCall::Read(Path::from_text(rt.alloc(), "a")?, 1))?;
     world.fail(FailingCall::Create(Path::from_text(rt.alloc(), "b")?))?;
@@ -100,9 +123,8 @@ fn each_kind_of_call_fails_in_a_world_that_says_so(rt: HostRuntime) -> Result<()
     assert!(rt; world.create_sink("b").is_err());
     assert!(rt; holds(&world, "b", b"abc"));
     let mut source = world.open_source("a")?;
-    let mut buf = [0; 4];
-    assert!(rt; source.read(&mut buf).is_err());
-    assert_eq!(rt; source.read(&mut buf)?, 3);
+    assert!(rt; source.read(&mut [0; 4]).is_err());
+    assert!(rt; reads(&mut source, b"abc"));
     let mut sink = world.create_sink("a")?;
     assert!(rt; sink.write_all(b"xyz").is_err());
     world.done_src(source);
@@ -155,10 +177,7 @@ fn a_real_file_is_written_and_read_back(rt: HostRuntime) -> Result<(), Fail> {
     sink.write_all(b"two")?;
     world.done_dst(sink);
     let mut source = world.open_source("rtt_io_test_file")?;
-    let mut buf = [0; 16];
-    assert_eq!(rt; source.read(&mut buf)?, 7);
-    assert_eq!(rt; buf[..7], b"one two"[..]);
-    assert_eq!(rt; source.read(&mut buf)?, 0);
+    assert!(rt; reads_all(&mut source, &["one two", ""]));
     world.done_src(source);
     assert!(rt; world.open_source("rtt_io_no_such_file").is_err());
     std::fs::remove_file(&rt, "rtt_io_test_file")?;
@@ -183,10 +202,7 @@ fn a_real_file_has_its_name_once_it_was_written(rt: HostRuntime) -> Result<(), F
 fn real_forms_over_memory_give_and_take_what_it_holds(rt: HostRuntime) -> Result<(), Fail> {
     let octets: &[u8] = b"abc";
     let mut source = FileSource::new(octets, Path::from_text(rt.alloc(), "a.in")?);
-    let mut buf = [0; 8];
-    assert_eq!(rt; source.read(&mut buf)?, 3);
-    assert_eq!(rt; buf[..3], b"abc"[..]);
-    assert_eq!(rt; source.read(&mut buf)?, 0);
+    assert!(rt; reads_all(&mut source, &["abc", ""]));
     let mut sink = FileSink::new(Vec::new(rt.alloc()), Path::from_text(rt.alloc(), "a.out")?);
     sink.write_all(b"one ")?;
     sink.write_all(b"two")?;
@@ -197,23 +213,19 @@ fn real_forms_over_memory_give_and_take_what_it_holds(rt: HostRuntime) -> Result
 
 #[test]
 fn a_sink_takes_parts_and_a_last_piece_in_order(rt: HostRuntime) -> Result<(), Fail> {
-    let mut sink = MemSink::new(rt.alloc(), Path::from_text(rt.alloc(), "a.out")?);
-    sink.fail_at(FailingWrite {
-        write: 2,
-        through: 1,
-    })?;
-    sink.write_part(b"one ")?;
-    assert!(rt; sink.write_part(b"two ").is_err());
-    sink.write_part(b"wo ")?;
-    Whole { octets: b"three" }.write_to(&mut sink)?;
+    let mut sink = failing_sink(rt.alloc(), 1)?;
+    assert!(rt; sink.write_part(b"one ").is_err());
+    sink.write_part(b"ne ")?;
+    sink.write_part(b"two ")?;
+    sink.write_all(b"three")?;
     assert_eq!(rt; sink.taken(), b"one two three".as_slice());
     let mut file = FileSink::new(Vec::new(rt.alloc()), Path::from_text(rt.alloc(), "a.out")?);
     file.write_part(b"one ")?;
     file.write_part(b"two ")?;
-    Whole { octets: b"three" }.write_to(&mut file)?;
+    file.write_all(b"three")?;
     let mut stream = StreamSink::new(Vec::new(rt.alloc()));
     stream.write_part(b"one ")?;
-    Whole { octets: b"two" }.write_to(&mut stream)?;
+    stream.write_all(b"two")?;
     Ok(())
 }
 
@@ -250,9 +262,7 @@ fn parts_are_stored_with_the_last_piece(rt: HostRuntime) -> Result<(), Fail> {
 fn a_whole_source_is_read_to_its_end_or_one_block_past_the_limit(
     rt: HostRuntime,
 ) -> Result<(), Fail> {
-    let mut octets = Bytes::new(rt.alloc());
-    octets.append(b"abcdef")?;
-    let mut source = SteadySource::new(octets);
+    let mut source = SteadySource::new(bytes(rt.alloc(), b"abcdef")?);
     source.set_step(2);
     let front = read_whole(rt.alloc(), &mut source, 3)?;
     assert_eq!(rt; front.as_slice(), b"abcd".as_slice());
@@ -263,8 +273,7 @@ fn a_whole_source_is_read_to_its_end_or_one_block_past_the_limit(
 
 #[test]
 fn a_world_fails_no_call_that_it_was_not_told(rt: HostRuntime) -> Result<(), Fail> {
-    let mut world = MemWorld::new(rt.alloc());
-    world.add_file("a", b"abc")?;
+    let mut world = world_of(rt.alloc(), &["a"])?;
     let mut source = world.open_source("a")?;
     let octets = read_whole(rt.alloc(), &mut source, 100)?;
     world.done_src(source);
@@ -272,8 +281,7 @@ fn a_world_fails_no_call_that_it_was_not_told(rt: HostRuntime) -> Result<(), Fai
     sink.write_all(octets.as_slice())?;
     world.done_dst(sink);
     assert!(rt; holds(&world, "b", b"abc"));
-    let mut failing = MemWorld::new(rt.alloc());
-    failing.add_file("a", b"abc")?;
+    let mut failing = world_of(rt.alloc(), &["a"])?;
     failing.fail(FailingCall::Read(Path::from_text(rt.alloc(), "a")?, 1))?;
     let mut source = failing.open_source("a")?;
     let answer = read_whole(rt.alloc(), &mut source, 100);
