@@ -1,6 +1,8 @@
 -- Two lists that grow together.
-use Rattle.std.proofs.Common.{◌≡◌, ℕ, zero, suc, ◌<◌, ◌⊎◌, inl, inr, Some, List, [], ◌∷◌, ◌++◌, length, refl, ap, sym, subst, ◌∙◌, ◌+◌, arith, append_assoc}
+use Rattle.std.proofs.Common.{◌≡◌, ℕ, zero, suc, ◌<◌, ◌≤◌, ◌⊎◌, inl, inr, Some, List, [], ◌∷◌, ◌++◌, length, refl, ap, sym, subst, ◌∙◌, ◌+◌, arith, append_assoc}
 use Rattle.std.specs.Prelude.{slice_get}
+use Rattle.std.specs.Global.{Vec}
+use Rattle.std.specs.Vec.{vec_len, vec_capacity}
 use Rattle.std.proofs.lemmas.List.{append-nil, length_push}
 use Rattle.std.proofs.lemmas.Option.{slice_get_within}
 use Rattle.item_lanes.specs.Pairs.{Pairs}
@@ -66,3 +68,51 @@ module _ {A B : Type 0} (holds : A → B → Type 0) where
 pub no_element : {X : Type 0} (xs : List X) (n : ℕ) → length xs ≡ n → n ≡ 0 → xs ≡ []
 no_element [] n e z = refl
 no_element (x ∷ xs) n e z = absurd (omega arith)
+
+-- ---- a list whose elements go, one by one, into another
+module _ {A B : Type 0} where
+  -- so many are left, and there is room for them
+  pub record Fits (rest : List A) (left : ℕ) (to : Vec B) : Type 0 where
+    pub many : length rest ≡ left
+    pub room : left + vec_len to ≤ vec_capacity to
+
+  pub fits_first : (from : Vec A) (rest : List A) (left : ℕ) (to : Vec B) → rest ≡ from.items → left ≡ vec_len from → to.items ≡ [] → vec_len from ≤ vec_capacity to → Fits rest left to
+  fits_first from rest left to same len none room =
+      let many = ap (λ (l : List A). length l) same in
+      let empty = ap (λ (l : List B). length l) none in
+      record { many = omega (arith, many, len, from.ok.0); room = omega (arith, empty, len, room, to.ok.0) }
+
+  pub fits_next : (rest rest' : List A) (left left' : ℕ) (x : A) (to to' : Vec B) → Fits rest left to → (rest ≡ x ∷ rest') × (left' + 1 ≡ left) → vec_len to' ≡ vec_len to + 1 → vec_capacity to' ≡ vec_capacity to → Fits rest' left' to'
+  fits_next rest rest' left left' x to to' f next len capacity =
+      let many = ap (λ (l : List A). length l) next.0 in
+      let old = f.many in
+      let room = f.room in
+      let fewer = next.1 in
+      record { many = omega (arith, many, old, fewer); room = omega (arith, room, fewer, len, capacity) }
+
+  pub fits_one : (rest : List A) (left left' : ℕ) (to : Vec B) → Fits rest left to → left' + 1 ≡ left → vec_len to < vec_capacity to
+  fits_one rest left left' to f fewer = let room = f.room in omega (arith, room, fewer)
+
+  pub fits_none : (rest : List A) (left : ℕ) (to : Vec B) → Fits rest left to → left ≡ 0 → rest ≡ []
+  fits_none rest left to f none = no_element rest left f.many none
+
+module _ {A B : Type 0} (holds : A → B → Type 0) where
+  -- the first of all have one each, and there is room for the others
+  pub record Into (all rest : List A) (left : ℕ) (to : Vec B) : Type 0 where
+    pub done : Done holds all rest to.items
+    pub fits : Fits rest left to
+
+  pub into_first : (from : Vec A) (rest : List A) (left : ℕ) (to : Vec B) → rest ≡ from.items → left ≡ vec_len from → to.items ≡ [] → vec_len from ≤ vec_capacity to → Into from.items rest left to
+  into_first from rest left to same len none room = record {
+    done = none_done holds from.items rest to.items same none;
+    fits = fits_first from rest left to same len none room;
+  }
+
+  pub into_next : (all rest rest' : List A) (left left' : ℕ) (x : A) (y : B) (to to' : Vec B) → Into all rest left to → (rest ≡ x ∷ rest') × (left' + 1 ≡ left) → holds x y → to'.items ≡ to.items ++ y ∷ [] → vec_len to' ≡ vec_len to + 1 → vec_capacity to' ≡ vec_capacity to → Into all rest' left' to'
+  into_next all rest rest' left left' x y to to' i next h items len capacity = record {
+    done = more_done holds all rest rest' to.items to'.items x y i.done next.0 h items;
+    fits = fits_next rest rest' left left' x to to' i.fits next len capacity;
+  }
+
+  pub into_all : (all rest : List A) (left : ℕ) (to : Vec B) → Into all rest left to → left ≡ 0 → Pairs holds all to.items
+  into_all all rest left to i none = all_done holds all rest to.items i.done (fits_none rest left to i.fits none)

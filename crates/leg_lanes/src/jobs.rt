@@ -11,12 +11,17 @@ use rtt_io::{Gate, Source};
 pub(crate) type LegLane<S, G> = Lane<Answer<DumpFault>, LegInlet<S>, G>;
 
 /// What is to be mixed, and by whom.
-pub(crate) struct Job<'l, S: Source, M, G: Gate> {
+pub(crate) struct Task<'l, S: Source, M> {
     pub(crate) legs: Vec<LegInlet<S>>,
-    pub(crate) lanes: LaneRoom<Answer<DumpFault>, LegInlet<S>, G>,
-    pub(crate) room: Room<LegLane<S, G>>,
     pub(crate) lines: &'l [LegLine],
     pub(crate) mixer: M,
     pub(crate) tick: u64,
     pub(crate) turns: u64,
+}
+
+/// The same, with all memory that it needs where each leg has a thread.
+pub(crate) struct Job<'l, S: Source, M, G: Gate> {
+    pub(crate) task: Task<'l, S, M>,
+    pub(crate) lanes: LaneRoom<Answer<DumpFault>, LegInlet<S>, G>,
+    pub(crate) room: Room<LegLane<S, G>>,
 }

@@ -1,11 +1,13 @@
 //! Who reads the recordings that are mixed.
 ghost use Rattle.std.specs.Prelude.{◌≡◌, vec_len};
+ghost use Rattle.leg_lanes.specs.Jobs.{CanDo, RanAs};
 ghost use Rattle.leg_lanes.specs.Mixings.{CanMix, RanPlain};
 
-use crate::running::{Ran, STACK, mix_running};
+use crate::jobs::Task;
+use crate::running::{Ran, STACK, mix_running, unmixed};
 use file_spec::LegLine;
 use leg_items::LegInlet;
-use mix_loop::{Mixed, Mixes, Mixing, Room, mix_inlets};
+use mix_loop::{Mixed, Mixes, Room, mix_inlets};
 use rtt_base::NoMemory;
 use rtt_io::{Gate, Source};
 use std::alloc::Global;
@@ -45,34 +47,38 @@ pub fn mix_legs<
     ensures legs { vec_len result.legs ≡ vec_len legs }
     ensures mixed { RanPlain M.stands S.tells S.left S.faults S.name tick turns legs lines.now mixer result }
 {
+    let task = Task {
+        legs,
+        lines,
+        mixer,
+        tick,
+        turns,
+    };
     match readers {
-        Readers::Threads => mix_running(rt, alloc, gate, STACK, legs, lines, mixer, tick, turns),
-        Readers::Caller => mix_here(rt, alloc, legs, lines, mixer, tick, turns),
+        Readers::Threads => mix_running(rt, alloc, gate, STACK, task),
+        Readers::Caller => mix_here(rt, alloc, task),
     }
 }
 
 /// Mixes them on the thread of the caller.
-pub(crate) fn mix_here<S: Source, M: Mixes<Fault = NoMemory>, R: Wait>(
+pub(crate) fn mix_here<'l, S: Source, M: Mixes<Fault = NoMemory>, R: Wait>(
     rt: &R,
     alloc: Global,
-    legs: Vec<LegInlet<S>>,
-    lines: &[LegLine],
-    mixer: M,
-    tick: u64,
-    turns: u64,
+    task: Task<'l, S, M>,
 ) -> Ran<S, M>
-    requires { CanMix M.legs M.turns M.horizon legs lines.now mixer tick turns }
-    ensures legs { vec_len result.legs ≡ vec_len legs }
-    ensures mixed { RanPlain M.stands S.tells S.left S.faults S.name tick turns legs lines.now mixer result }
+    requires { CanDo M.legs M.turns M.horizon task }
+    ensures { RanAs M.stands S.tells S.left S.faults S.name task.entry result }
 {
-    let mut mixer = mixer;
-    let Ok(room) = Room::new(alloc, legs.len()) else {
-        return Ran {
-            mixing: Mixing::Stopped(NoMemory),
-            legs,
-            mixer,
-        };
+    let Ok(room) = Room::new(alloc, task.legs.len()) else {
+        return unmixed(task);
     };
+    let Task {
+        legs,
+        lines,
+        mut mixer,
+        tick,
+        turns,
+    } = task;
     let Mixed { mixing, inlets } = mix_inlets(rt, legs, lines, room, &mut mixer, tick, turns);
     Ran {
         mixing,

@@ -1,10 +1,7 @@
 //! Plain mixing of recordings, with each leg on a thread of its own.
-ghost use Rattle.std.specs.Prelude.{◌≡◌, vec_len};
-ghost use Rattle.leg_lanes.specs.Jobs.{CanRun, LentCanRun, LentRanAs, RanAs};
-ghost use Rattle.leg_lanes.specs.Mixings.{CanMix, RanPlain};
+ghost use Rattle.leg_lanes.specs.Jobs.{CanDo, CanRun, LentCanRun, LentRanAs, RanAs};
 
-use crate::jobs::Job;
-use file_spec::LegLine;
+use crate::jobs::{Job, Task};
 use item_lanes::{LaneRoom, LentGate, Started, join_lanes, lend, start_lanes};
 use leg_items::LegInlet;
 use mix_loop::{Mixed, Mixes, Mixing, Room, mix_inlets};
@@ -42,16 +39,18 @@ fn run_in<
     job: Job<'l, S, M, G>,
 ) -> Ran<S, M>
     requires { CanRun M.legs M.turns M.horizon job }
-    ensures { RanAs M.stands S.tells S.left S.faults S.name job.entry result }
+    ensures { RanAs M.stands S.tells S.left S.faults S.name job.entry.task result }
 {
     let Job {
-        legs,
+        task: Task {
+            legs,
+            lines,
+            mut mixer,
+            tick,
+            turns,
+        },
         lanes,
         room,
-        lines,
-        mut mixer,
-        tick,
-        turns,
     } = job;
     let Started { lanes, back } = start_lanes(scope, rt, gate, stack, legs, lanes);
     let Mixed { mixing, inlets } = mix_inlets(rt, lanes, lines, room, &mut mixer, tick, turns);
@@ -63,30 +62,7 @@ fn run_in<
     }
 }
 
-/// The same of a job that is lent.
-fn run_lent_in<
-    's,
-    'e,
-    'l,
-    S: Source + Send + 's,
-    M: Mixes<Fault = NoMemory>,
-    R: Threads + Wait + Sync,
-    G: Gate + Copy + Send + 's,
->(
-    scope: &'s Scope<'s, &'e ()>,
-    rt: &'s R,
-    gate: G,
-    stack: usize,
-    lent: ManuallyDrop<Job<'l, S, M, G>>,
-) -> Ran<S, M>
-    requires { LentCanRun M.legs M.turns M.horizon lent }
-    ensures { LentRanAs M.stands S.tells S.left S.faults S.name lent.entry result }
-{
-    let job = ManuallyDrop::into_inner(lent);
-    run_in(scope, rt, gate, stack, job)
-}
-
-/// The same in a scope of its own.
+/// The same of a job that is lent, in a scope of its own.
 fn run_scope<
     'l,
     S: Source + Send,
@@ -103,7 +79,10 @@ fn run_scope<
         |scope| -> Ran<S, M>
             requires { LentCanRun M.legs M.turns M.horizon lent }
             ensures { LentRanAs M.stands S.tells S.left S.faults S.name lent.entry result }
-        { run_lent_in(scope, rt, gate, stack, lent) },
+        {
+            let job = ManuallyDrop::into_inner(lent);
+            run_in(scope, rt, gate, stack, job)
+        },
     )
 }
 
@@ -116,11 +95,29 @@ fn run_job<
     G: Gate + Copy + Send,
 >(rt: &R, gate: G, stack: usize, job: Job<'l, S, M, G>) -> Ran<S, M>
     requires { CanRun M.legs M.turns M.horizon job }
-    ensures { RanAs M.stands S.tells S.left S.faults S.name job.entry result }
+    ensures { RanAs M.stands S.tells S.left S.faults S.name job.entry.task result }
 {
-    // Taken back first of all in `run_lent_in`, which the scope calls once.
+    // Taken back first of all in the scope of `run_scope`, which is entered once.
     let lent = unsafe { lend(job) };
     run_scope(rt, gate, stack, lent)
+}
+
+/// The answer where memory runs out before anything is mixed.
+pub(crate) fn unmixed<'l, S: Source, M: Mixes<Fault = NoMemory>>(task: Task<'l, S, M>) -> Ran<S, M>
+    ensures { RanAs M.stands S.tells S.left S.faults S.name task.entry result }
+{
+    let Task {
+        legs,
+        lines: _,
+        mixer,
+        tick: _,
+        turns: _,
+    } = task;
+    Ran {
+        mixing: Mixing::Stopped(NoMemory),
+        legs,
+        mixer,
+    }
 }
 
 /// How many octets of stack a leg's thread has.
@@ -128,48 +125,22 @@ pub(crate) const STACK: usize = 2_097_152;
 
 /// Mixes them, each on a thread of its own; a leg whose thread can't be started is read by the caller.
 pub(crate) fn mix_running<
+    'l,
     S: Source + Send,
     M: Mixes<Fault = NoMemory>,
     R: Threads + Wait + Sync,
     G: Gate + Sync,
->(
-    rt: &R,
-    alloc: Global,
-    gate: &G,
-    stack: usize,
-    legs: Vec<LegInlet<S>>,
-    lines: &[LegLine],
-    mixer: M,
-    tick: u64,
-    turns: u64,
-) -> Ran<S, M>
-    requires { CanMix M.legs M.turns M.horizon legs lines.now mixer tick turns }
-    ensures legs { vec_len result.legs ≡ vec_len legs }
-    ensures mixed { RanPlain M.stands S.tells S.left S.faults S.name tick turns legs lines.now mixer result }
+>(rt: &R, alloc: Global, gate: &G, stack: usize, task: Task<'l, S, M>) -> Ran<S, M>
+    requires { CanDo M.legs M.turns M.horizon task }
+    ensures { RanAs M.stands S.tells S.left S.faults S.name task.entry result }
 {
-    let Ok(lanes) = LaneRoom::new(alloc, legs.len()) else {
-        return Ran {
-            mixing: Mixing::Stopped(NoMemory),
-            legs,
-            mixer,
-        };
+    let Ok(lanes) = LaneRoom::new(alloc, task.legs.len()) else {
+        return unmixed(task);
     };
-    let Ok(room) = Room::new(alloc, legs.len()) else {
+    let Ok(room) = Room::new(alloc, task.legs.len()) else {
         lanes.discard();
-        return Ran {
-            mixing: Mixing::Stopped(NoMemory),
-            legs,
-            mixer,
-        };
+        return unmixed(task);
     };
-    let job = Job {
-        legs,
-        lanes,
-        room,
-        lines,
-        mixer,
-        tick,
-        turns,
-    };
+    let job = Job { task, lanes, room };
     run_job(rt, LentGate { gate }, stack, job)
 }

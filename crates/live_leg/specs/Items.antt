@@ -39,21 +39,15 @@ items_of xs = map item_of xs
 -- its texts, of the leg with this number
 abbrev pub text_in : ℕ → Item → List Chunk
 text_in leg (Text ready octets) = chunk leg ready octets ∷ []
-text_in leg Seen = []
-text_in leg End = []
-text_in leg Quit = []
-text_in leg Fault = []
+text_in leg _ = []
 
 abbrev pub texts_in : ℕ → List Item → List Chunk
 texts_in leg [] = []
 texts_in leg (x ∷ xs) = text_in leg x ++ texts_in leg xs
 
 abbrev pub is_seen : Item → Bool
-is_seen (Text ready octets) = false
 is_seen Seen = true
-is_seen End = false
-is_seen Quit = false
-is_seen Fault = false
+is_seen _ = false
 
 -- how often it said that all was given
 abbrev pub seen_in : List Item → ℕ
@@ -61,11 +55,8 @@ seen_in [] = 0
 seen_in (x ∷ xs) = if is_seen x then suc (seen_in xs) else seen_in xs
 
 abbrev pub is_fault : Item → Bool
-is_fault (Text ready octets) = false
-is_fault Seen = false
-is_fault End = false
-is_fault Quit = false
 is_fault Fault = true
+is_fault _ = false
 
 -- one of them says that the link failed
 abbrev pub has_fault : List Item → Bool
@@ -74,10 +65,7 @@ has_fault (x ∷ xs) = is_fault x || has_fault xs
 
 abbrev pub is_text : Item → Bool
 is_text (Text ready octets) = true
-is_text Seen = false
-is_text End = false
-is_text Quit = false
-is_text Fault = false
+is_text _ = false
 
 -- each is a text
 abbrev pub AreTexts : List Item → Type 0

@@ -2,7 +2,7 @@ use crate::{ItemKind, LegItem, LinkLeg};
 use ear::EarConf;
 use item_queue::{Gives, Reuse};
 use link_io::{Came, MemIn, Planned};
-use rtt_base::{Bytes, NoMemory, Pts};
+use rtt_base::{NoMemory, Pts};
 use std::alloc::Global;
 use std::sync::atomic::AtomicBool;
 use std::sync::{Arc, Wait};
@@ -19,24 +19,42 @@ const TYPED: &[u8] = b"\x80\xE2\0\0\0\0\0\0\0\0\x03\xE9A";
 
 const IDLE: &[u8] = b"\x80\x62\0\x01\0\0\x01\x2C\0\0\x03\xE9\xEF\xBB\xBF";
 
-fn planned(alloc: Global, at: u32, came: Came, octets: &[u8]) -> Result<Planned, NoMemory> {
-    let mut copy = Bytes::new(alloc);
-    copy.append(octets)?;
-    Ok(Planned {
-        at,
-        came,
-        octets: copy,
-    })
-}
+// What comes at Ann's link: the moment (milliseconds), what it is, and the octets of a datagram.
+type Coming = (u32, Came, &'static [u8]);
 
-fn ann(alloc: Global, link: MemIn, is_stopped: bool) -> Result<LinkLeg<MemIn>, NoMemory> {
+const SHE_TYPES: Coming = (100, Came::Datagram, TYPED);
+
+const SHE_IDLES: Coming = (100, Came::Datagram, IDLE);
+
+const SHE_CLOSES: Coming = (200, Came::Closed, b"");
+
+// Her leg over this link, told to stop or not, and an item for what it gives.
+fn over(
+    alloc: Global,
+    link: MemIn,
+    is_stopped: bool,
+) -> Result<(LinkLeg<MemIn>, LegItem), NoMemory> {
+    let item = LegItem::blank(alloc)?;
     let Ok(stop) = Arc::new(alloc, AtomicBool::new(is_stopped)) else {
         return Err(NoMemory);
     };
     match LinkLeg::new(alloc, link, ANN, stop) {
-        Ok(leg) => Ok(leg),
+        Ok(leg) => Ok((leg, item)),
         Err(_) => Err(NoMemory),
     }
+}
+
+// Her leg where this comes.
+fn ann(
+    alloc: Global,
+    comings: &[Coming],
+    is_stopped: bool,
+) -> Result<(LinkLeg<MemIn>, LegItem), NoMemory> {
+    let mut link = MemIn::new(alloc, 5001);
+    for (at, came, octets) in comings {
+        link.plan(Planned::new(alloc, *at, *came, *octets)?)?;
+    }
+    over(alloc, link, is_stopped)
 }
 
 // What a leg gives next, if it gives something.
@@ -64,11 +82,7 @@ fn is_said(item: &LegItem, text: &[u8], ready: u64) -> bool {
 
 #[test]
 fn what_is_heard_is_given_and_then_the_end(rt: HostRuntime) -> Result<(), Fail> {
-    let mut link = MemIn::new(rt.alloc(), 5001);
-    link.plan(planned(rt.alloc(), 100, Came::Datagram, TYPED)?)?;
-    link.plan(planned(rt.alloc(), 200, Came::Closed, b"")?)?;
-    let mut leg = ann(rt.alloc(), link, false)?;
-    let mut item = LegItem::blank(rt.alloc())?;
+    let (mut leg, mut item) = ann(rt.alloc(), &[SHE_TYPES, SHE_CLOSES], false)?;
     assert!(rt; gives(&rt, &mut leg, &mut item, ItemKind::Text));
     assert!(rt; is_said(&item, b"A", 100));
     assert!(rt; gives(&rt, &mut leg, &mut item, ItemKind::Seen));
@@ -79,10 +93,7 @@ fn what_is_heard_is_given_and_then_the_end(rt: HostRuntime) -> Result<(), Fail> 
 
 #[test]
 fn a_keep_alive_is_passed_over(rt: HostRuntime) -> Result<(), Fail> {
-    let mut link = MemIn::new(rt.alloc(), 5001);
-    link.plan(planned(rt.alloc(), 100, Came::Datagram, IDLE)?)?;
-    let mut leg = ann(rt.alloc(), link, false)?;
-    let mut item = LegItem::blank(rt.alloc())?;
+    let (mut leg, mut item) = ann(rt.alloc(), &[SHE_IDLES], false)?;
     assert!(rt; !next(&rt, &mut leg, &mut item));
     assert!(rt; gives(&rt, &mut leg, &mut item, ItemKind::Seen));
     assert!(rt; gives(&rt, &mut leg, &mut item, ItemKind::Silent));
@@ -91,10 +102,7 @@ fn a_keep_alive_is_passed_over(rt: HostRuntime) -> Result<(), Fail> {
 
 #[test]
 fn a_leg_that_is_told_to_stop_asks_no_more(rt: HostRuntime) -> Result<(), Fail> {
-    let mut link = MemIn::new(rt.alloc(), 5001);
-    link.plan(planned(rt.alloc(), 100, Came::Datagram, TYPED)?)?;
-    let mut leg = ann(rt.alloc(), link, true)?;
-    let mut item = LegItem::blank(rt.alloc())?;
+    let (mut leg, mut item) = ann(rt.alloc(), &[SHE_TYPES], true)?;
     assert!(rt; gives(&rt, &mut leg, &mut item, ItemKind::Quit));
     assert!(rt; leg.is_over());
     let link = leg.into_link();
@@ -106,8 +114,7 @@ fn a_leg_that_is_told_to_stop_asks_no_more(rt: HostRuntime) -> Result<(), Fail> 
 fn a_fault_is_the_last(rt: HostRuntime) -> Result<(), Fail> {
     let mut link = MemIn::new(rt.alloc(), 5001);
     link.fail_at(2)?;
-    let mut leg = ann(rt.alloc(), link, false)?;
-    let mut item = LegItem::blank(rt.alloc())?;
+    let (mut leg, mut item) = over(rt.alloc(), link, false)?;
     assert!(rt; gives(&rt, &mut leg, &mut item, ItemKind::Silent));
     assert!(rt; gives(&rt, &mut leg, &mut item, ItemKind::Fault));
     assert!(rt; leg.is_over());

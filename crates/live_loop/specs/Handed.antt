@@ -5,7 +5,7 @@ use Rattle.mixer_spec.specs.Setups.{Setup}
 use Rattle.mixer_spec.specs.Table.{Call, Admit, Hush, Leave, Offer, Turn, after_calls, has_room, is_seated}
 use Rattle.mixer_spec.specs.Calls.{IsAdmit, took}
 use Rattle.live_spec.specs.Live.{AllSeated, is_held_back}
-use Rattle.live_leg.specs.Items.{Item, Text, Seen, End, Quit, Fault, seen_in, texts_in}
+use Rattle.live_leg.specs.Items.{Item, End, seen_in, texts_in}
 
 -- the chunk that was offered last of the leg, where it was not taken
 abbrev pub hand_after : Setup → ℕ → List Call → Option Chunk
@@ -34,11 +34,8 @@ free_after s i (Turn now ∷ past) = one_free (is_blocked_after s i past) + free
 
 -- ---- items
 abbrev pub is_end : Item → Bool
-is_end (Text ready octets) = false
-is_end Seen = false
 is_end End = true
-is_end Quit = false
-is_end Fault = false
+is_end _ = false
 
 abbrev pub has_end : List Item → Bool
 has_end [] = false

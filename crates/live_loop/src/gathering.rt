@@ -82,21 +82,6 @@ impl<I> LivePort<I> {
         }
     }
 
-    /// Where its items come from.
-    pub fn into_inlet(self) -> I
-        ensures { result ≡ self.inlet }
-    {
-        let LivePort {
-            inlet,
-            leg: _,
-            hand: _,
-            full: _,
-            ended: _,
-            failed: _,
-        } = self;
-        inlet
-    }
-
     /// Offers the text in hand, and lets it go where it is taken, as is answered.
     fn offer<M: Mixes>(&mut self, mixer: &mut M) -> bool
         requires full { self.old.full ≡ true }

@@ -4,6 +4,23 @@ ghost use Rattle.std.specs.Vec.{vec_capacity};
 ghost use Rattle.live_loop.specs.Opening.{AreBegun};
 
 use crate::ports::LivePort;
+use mix_loop::HasInlet;
+
+impl<I> HasInlet<I> for LivePort<I> {
+    ghost inlet = { λ p. p.inlet };
+
+    fn into_inlet(self) -> I {
+        let LivePort {
+            inlet,
+            leg: _,
+            hand: _,
+            full: _,
+            ended: _,
+            failed: _,
+        } = self;
+        inlet
+    }
+}
 
 /// A port for each of these, in order, at which nothing was popped: the leg's number is its place in the list. There is room for
 /// them.
@@ -23,15 +40,10 @@ pub fn ports_over<I>(inlets: Vec<I>, mut ports: Vec<LivePort<I>>) -> Vec<LivePor
 }
 
 /// Where the items of these legs are popped. There is room for them.
-pub fn inlets_of<I>(ports: Vec<LivePort<I>>, mut inlets: Vec<I>) -> Vec<I>
+pub fn inlets_of<I>(ports: Vec<LivePort<I>>, inlets: Vec<I>) -> Vec<I>
     requires none { inlets.items ≡ [] }
     requires room { vec_len ports ≤ vec_capacity inlets }
     ensures { result.items ≡ map (λ p. p.inlet) ports.items }
 {
-    let mut rest = ports.into_iter();
-    while let Some(port) = rest.next() {
-        inlets.push_reserved(port.into_inlet());
-    }
-    rest.destroy_empty();
-    inlets
+    mix_loop::inlets_of(ports, inlets)
 }

@@ -1,5 +1,5 @@
 //! The turns of a live call.
-ghost use Rattle.std.specs.Prelude.{◌≡◌, ◌≤◌, ◌<◌, ◌^◌, true, false, length, MatchOption};
+ghost use Rattle.std.specs.Prelude.{◌≡◌, ◌≤◌, ◌<◌, ◌^◌, length, MatchOption};
 ghost use Rattle.std.specs.List.{list_all};
 ghost use Rattle.mix_loop.specs.Mixers.{Keeps};
 ghost use Rattle.live_loop.specs.Clocks.{OnlyTimePassed};

@@ -1,6 +1,7 @@
 -- What a mixing of ports tells of their inlets.
 use Rattle.std.proofs.Common.{◌≡◌, ◌<◌, ◌≤◌, ℕ, zero, suc, inl, inr, Some, None, Option, List, [], ◌∷◌, length, map, refl, ap, sym, subst, ◌∙◌, arith}
 use Rattle.std.specs.Prelude.{◌&&◌, filter, nat_le, slice_get}
+use Rattle.std.proofs.lemmas.List.{length-map}
 use Rattle.file_spec.specs.Stays.{is_before_end}
 use Rattle.file_spec.specs.declared.conf_lines.LegLine.{LegLine}
 use Rattle.mixer_spec.specs.Setups.{Setup}
@@ -37,6 +38,10 @@ map_from f (x ∷ xs) (suc j) y e = map_from f xs j y e
 
 -- ---- before
 module _ {I F : Type 0} where
+  -- as many ports as inlets
+  pub ports_many : (inlets : List I) (legs : List LegLine) (ps : List (Port I F)) → AreNew inlets legs ps → length ps ≡ length inlets
+  ports_many inlets legs ps new = sym (length-map ps inlet_in) ∙ ap (λ l. length l) new.are
+
   pub all_sound : (good : I → Type 0) (inlets : List I) (legs : List LegLine) (ps : List (Port I F)) → AreNew inlets legs ps → ((j : ℕ) (i : I) → slice_get inlets j ≡ Some i → good i) → AreSound good ps
   all_sound good inlets legs ps new each j p e =
       let n = (new.each j p e).2 in

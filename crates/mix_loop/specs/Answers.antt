@@ -9,10 +9,8 @@ use Rattle.mix_loop.specs.Items.{Gave, gave_more, goes_on, nothing}
 module _ {F : Type 0} where
   -- nothing is there yet
   abbrev pub is_later : Item F → Bool
-  is_later item.Chunk = false
   is_later item.Later = true
-  is_later item.End = false
-  is_later (item.Fault fault) = false
+  is_later _ = false
 
   -- the text that lies beside an answer
   abbrev pub said_in : Answer F → Chunk

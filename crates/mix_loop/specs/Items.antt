@@ -42,14 +42,11 @@ module _ {F : Type 0} where
   abbrev pub goes_on : Item F → Bool
   goes_on item.Chunk = true
   goes_on item.Later = true
-  goes_on item.End = false
-  goes_on (item.Fault fault) = false
+  goes_on _ = false
 
   abbrev pub is_chunk : Item F → Bool
   is_chunk item.Chunk = true
-  is_chunk item.Later = false
-  is_chunk item.End = false
-  is_chunk (item.Fault fault) = false
+  is_chunk _ = false
 
   abbrev pub ended_by : Item F → Ended F
   ended_by item.Chunk = Open

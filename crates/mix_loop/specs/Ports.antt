@@ -20,21 +20,15 @@ use Rattle.mix_loop.specs.Mixers.{At}
 -- ---- seats
 abbrev pub is_away : Seat → Bool
 is_away Away = true
-is_away Listens = false
-is_away Hushed = false
-is_away Left = false
+is_away _ = false
 
 abbrev pub is_listening : Seat → Bool
-is_listening Away = false
 is_listening Listens = true
-is_listening Hushed = false
-is_listening Left = false
+is_listening _ = false
 
 abbrev pub is_hushed : Seat → Bool
-is_hushed Away = false
-is_hushed Listens = false
 is_hushed Hushed = true
-is_hushed Left = false
+is_hushed _ = false
 
 abbrev pub seat_with : Bool → Seat
 seat_with true = Listens

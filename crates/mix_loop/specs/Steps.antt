@@ -100,7 +100,12 @@ module _ {I F M : Type 0} (stands : I → I → Gave F → Type 0) (mixes : M �
   AllOffered t ps ps' m m' = Whatever ps m (λ s pts firsts kn table.
       OffersBy stands (Of mixes pts) s firsts s.legs (offers_below s t s.legs) kn table ps' m')
 
-  -- all of this was done before a turn at the moment t, and this was found
+  -- all of this was done before a turn at the moment t
+  abbrev pub AllMoved : ℕ → List (Port I F) → List (Port I F) → M → M → Type 0
+  AllMoved t ps ps' m m' = Whatever ps m (λ s pts firsts kn table. Settled kn
+      → OffersBy stands (Of mixes pts) s firsts s.legs (before_turn s t) kn table ps' m')
+
+  -- so it was, and this was found
   abbrev pub AllSettled : ℕ → Before → List (Port I F) → List (Port I F) → M → M → Type 0
   AllSettled t found ps ps' m m' = Whatever ps m (λ s pts firsts kn table. Settled kn
       → SettlesBy stands (Of mixes pts) s firsts found (before_turn s t) kn table ps' m')

@@ -11,6 +11,7 @@ mod items;
 mod lanes;
 mod mixers;
 mod mixing;
+mod port_lists;
 mod ports;
 mod turns;
 
@@ -20,4 +21,5 @@ pub use inlets::Inlet;
 pub use items::{Ended, Item};
 pub use mixers::Mixes;
 pub use mixing::{Mixed, Room, mix_inlets};
+pub use port_lists::{HasInlet, inlets_of};
 pub use turns::Mixing;

@@ -5,9 +5,9 @@ ghost use Rattle.mix_loop.specs.Mixing.{AllGood, HasRoom, MixesInlets};
 ghost use Rattle.mix_loop.specs.Turns.{IsUnsent};
 ghost use Rattle.file_spec.specs.declared.limits.TheConstants.{MOST_LEGS};
 
-use crate::ports::{Port, inlets_of, ports_over};
+use crate::ports::{Port, ports_over};
 use crate::turns::mix_ports;
-use crate::{Inlet, Mixes, Mixing};
+use crate::{Inlet, Mixes, Mixing, inlets_of};
 use file_spec::LegLine;
 use rtt_base::NoMemory;
 use std::alloc::Global;

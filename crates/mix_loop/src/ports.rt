@@ -1,10 +1,10 @@
 //! One leg at the mixer.
-ghost use Rattle.std.specs.Prelude.{◌≡◌, ◌≤◌, [], length, map, nat_le, vec_len};
+ghost use Rattle.std.specs.Prelude.{◌≡◌, ◌≤◌, [], length, nat_le, vec_len};
 ghost use Rattle.std.specs.Vec.{vec_capacity};
 ghost use Rattle.stream_spec.specs.Ready.{chunk_of};
 ghost use Rattle.mix_loop.specs.Ports.{AreNew, IsNew, counts, is_away, is_spent, is_to_leave, is_to_stop, seat_with};
 
-use crate::{Ended, Inlet, Item};
+use crate::{Ended, HasInlet, Inlet, Item};
 use file_spec::{LegLine, Stay};
 use rtt_base::Chunk;
 
@@ -48,21 +48,6 @@ impl<I: Inlet> Port<I> {
         }
     }
 
-    /// Where its texts come from.
-    pub(crate) fn into_inlet(self) -> I
-        ensures { result ≡ self.inlet }
-    {
-        let Port {
-            inlet,
-            hand: _,
-            full: _,
-            ended: _,
-            stay: _,
-            seat: _,
-        } = self;
-        inlet
-    }
-
     /// Whether its stay is over at the moment `now`, and it listens still.
     pub(crate) fn is_to_stop(&self, now: u64) -> bool
         ensures { result ≡ is_to_stop now self.now }
@@ -81,6 +66,22 @@ impl<I: Inlet> Port<I> {
         ensures { result ≡ is_spent self.now }
     {
         !self.full && !self.ended.is_open()
+    }
+}
+
+impl<I: Inlet> HasInlet<I> for Port<I> {
+    ghost inlet = { λ p. p.inlet };
+
+    fn into_inlet(self) -> I {
+        let Port {
+            inlet,
+            hand: _,
+            full: _,
+            ended: _,
+            stay: _,
+            seat: _,
+        } = self;
+        inlet
     }
 }
 
@@ -133,18 +134,4 @@ pub(crate) fn ports_over<I: Inlet>(
     }
     rest.destroy_empty();
     ports
-}
-
-/// Where the texts of these legs come from. There is room for them.
-pub(crate) fn inlets_of<I: Inlet>(ports: Vec<Port<I>>, mut inlets: Vec<I>) -> Vec<I>
-    requires none { inlets.items ≡ [] }
-    requires room { vec_len ports ≤ vec_capacity inlets }
-    ensures { result.items ≡ map (λ p. p.inlet) ports.items }
-{
-    let mut rest = ports.into_iter();
-    while let Some(port) = rest.next() {
-        inlets.push_reserved(port.into_inlet());
-    }
-    rest.destroy_empty();
-    inlets
 }

@@ -3,7 +3,7 @@ ghost use Rattle.std.specs.Prelude.{◌≡◌, ◌*◌, ◌<◌, ◌≤◌, leng
 ghost use Rattle.std.specs.List.{list_any};
 ghost use Rattle.mix_loop.specs.Items.{is_fault, fault_in};
 ghost use Rattle.mix_loop.specs.Mixers.{ComeBefore, Keeps};
-ghost use Rattle.mix_loop.specs.Steps.{AllCame, AllDrained, AllOffered, AllSettled, AllTurned, AllWent, TellsOver, are_empty};
+ghost use Rattle.mix_loop.specs.Steps.{AllCame, AllDrained, AllMoved, AllOffered, AllSettled, AllTurned, AllWent, TellsOver, are_empty};
 ghost use Rattle.mix_loop.specs.Turns.{AreSound, IsLowestAt, IsMixing, IsUnsent, NoFaultBelow, WasStopped, ended_at, mixing_of};
 ghost use Rattle.file_spec.specs.declared.limits.TheConstants.{MOST_LEGS};
 
@@ -110,7 +110,21 @@ fn has_fault<I: Inlet>(ports: &[Port<I>]) -> bool
     ports.iter().any(|port| port.ended.is_fault())
 }
 
-/// Does all that is done before a turn at the moment `now`: legs go, legs come, and each offers what it can.
+/// At the moment `now` legs go, legs come, and each offers what it can.
+fn move_all<I: Inlet, M: Mixes, R: Wait>(rt: &R, ports: &mut [Port<I>], mixer: &mut M, now: u64)
+    requires few { length ports.old ≤ MOST_LEGS }
+    requires sound { AreSound I.good ports.old }
+    requires legs { M.legs mixer.old ≡ length ports.old }
+    ensures sound { AreSound I.good ports.new }
+    ensures keeps { Keeps M.legs M.turns M.addresses mixer.old mixer.new }
+    ensures moves { AllMoved I.stands M.stands now ports.old ports.new mixer.old mixer.new }
+{
+    go_all(ports, mixer, now);
+    come_all(ports, mixer, now);
+    gather_all(rt, ports, mixer, now);
+}
+
+/// Does all that is done before a turn at the moment `now`, and answers what is found then.
 fn settle<I: Inlet, M: Mixes, R: Wait>(
     rt: &R,
     ports: &mut [Port<I>],
@@ -124,9 +138,7 @@ fn settle<I: Inlet, M: Mixes, R: Wait>(
     ensures keeps { Keeps M.legs M.turns M.addresses mixer.old mixer.new }
     ensures settles { AllSettled I.stands M.stands now result ports.old ports.new mixer.old mixer.new }
 {
-    go_all(ports, mixer, now);
-    come_all(ports, mixer, now);
-    gather_all(rt, ports, mixer, now);
+    move_all(rt, ports, mixer, now);
     if has_fault(ports) {
         return Before::Faulted;
     }
