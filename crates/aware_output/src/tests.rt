@@ -3,6 +3,7 @@ ghost use Rattle.aware_output.specs.Confs.{IsConf};
 
 use crate::{OutConf, Output};
 use rtt_base::{Bytes, OctetBuffer, Packet, Pts};
+use std::alloc::Global;
 use std::process::Abort;
 use std::test::Fail;
 
@@ -41,44 +42,42 @@ fn expect(rt: &impl Abort, output: &mut Output, media: u64, text: &[u8], octets:
     assert!(rt; packet.as_slice() == octets);
 }
 
-#[test]
-fn two_generations_are_written_in_red_form(rt: HostRuntime) -> Result<(), Fail> {
-    let mut output = Output::new(rt.alloc(), conf(2), &[1001])?;
-    expect(
-        &rt,
-        &mut output,
-        0,
-        b"H",
-        b"\x81\xE4\x00\x64\x00\x00\x13\x88\x00\x00\x23\x28\x00\x00\x03\xE9\xE2\xFF\xFC\x00\xE2\xFF\xFC\x00\x62\x48",
-    );
-    expect(
-        &rt,
-        &mut output,
-        300,
-        b"e",
-        b"\x81\x64\x00\x65\x00\x00\x14\xB4\x00\x00\x23\x28\x00\x00\x03\xE9\xE2\xFF\xFC\x00\xE2\x04\xB0\x01\x62\x48\x65",
-    );
+/// The packets of an `H` and, 300 ms later, an `e` have these octets, where a text is repeated so often.
+fn expect_two(
+    rt: &impl Abort,
+    alloc: Global,
+    gens: u8,
+    first: &[u8],
+    second: &[u8],
+) -> Result<(), Fail>
+    requires { gens ≤ 3 }
+{
+    let mut output = Output::new(alloc, conf(gens), &[1001])?;
+    expect(rt, &mut output, 0, b"H", first);
+    expect(rt, &mut output, 300, b"e", second);
     Ok(())
 }
 
 #[test]
+fn two_generations_are_written_in_red_form(rt: HostRuntime) -> Result<(), Fail> {
+    expect_two(
+        &rt,
+        rt.alloc(),
+        2,
+        b"\x81\xE4\x00\x64\x00\x00\x13\x88\x00\x00\x23\x28\x00\x00\x03\xE9\xE2\xFF\xFC\x00\xE2\xFF\xFC\x00\x62\x48",
+        b"\x81\x64\x00\x65\x00\x00\x14\xB4\x00\x00\x23\x28\x00\x00\x03\xE9\xE2\xFF\xFC\x00\xE2\x04\xB0\x01\x62\x48\x65",
+    )
+}
+
+#[test]
 fn without_generations_a_packet_is_plain(rt: HostRuntime) -> Result<(), Fail> {
-    let mut output = Output::new(rt.alloc(), conf(0), &[1001])?;
-    expect(
+    expect_two(
         &rt,
-        &mut output,
+        rt.alloc(),
         0,
-        b"H",
         b"\x81\xE2\x00\x64\x00\x00\x13\x88\x00\x00\x23\x28\x00\x00\x03\xE9\x48",
-    );
-    expect(
-        &rt,
-        &mut output,
-        300,
-        b"e",
         b"\x81\x62\x00\x65\x00\x00\x14\xB4\x00\x00\x23\x28\x00\x00\x03\xE9\x65",
-    );
-    Ok(())
+    )
 }
 
 #[test]

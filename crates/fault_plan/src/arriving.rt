@@ -78,21 +78,6 @@ fn copies_with(alloc: Global, fates: &[Fate], sent: &[u32]) -> Result<Vec<Arriva
     Ok(copies)
 }
 
-/// All copies that come by the plan.
-fn copies_by(
-    alloc: Global,
-    plan: &[PlanLine],
-    terminal: u8,
-    sent: &[u32],
-) -> Result<Vec<Arrival>, NoMemory>
-    requires { length sent.now < 2 ^ 32 }
-    ensures copies { IfOk result (λ copies. AreCopies plan.now terminal sent.now copies.items) }
-    ensures sent { IfOk result (λ copies. All (IsOfFirst (length sent.now)) copies.items) }
-{
-    let fates = fates_of(alloc, plan, terminal, sent.len())?;
-    copies_with(alloc, fates.as_slice(), sent)
-}
-
 /// What comes to a terminal of a conference, by the lines of its plan, of the packets that were sent to it at these
 /// moments, in milliseconds: packet `k` at `sent[k]`. A packet is lost, comes late or comes twice as its lines say, and
 /// late by the first of them that delays it. What comes is ordered by its moments, and at one moment by its packets.
@@ -108,7 +93,8 @@ pub fn arrivals(
     ensures exact { IfOk result (λ arrivals. copies_of arrivals.items ≡ arrives plan.now terminal sent.now) }
     ensures sent { IfOk result (λ arrivals. All (IsOfFirst (length sent.now)) arrivals.items) }
 {
-    let mut copies = copies_by(alloc, plan, terminal, sent)?;
+    let fates = fates_of(alloc, plan, terminal, sent.len())?;
+    let mut copies = copies_with(alloc, fates.as_slice(), sent)?;
     copies.sort()?;
     Ok(copies)
 }

@@ -1,5 +1,5 @@
 //! What becomes of each packet.
-ghost use Rattle.std.specs.Prelude.{◌≡◌, ℕ, List, [], ◌∷◌, length, vec_len, IfOk};
+ghost use Rattle.std.specs.Prelude.{◌≡◌, List, [], ◌∷◌, vec_len, IfOk};
 ghost use Rattle.file_spec.specs.declared.conf_lines.PlanLine.{PlanLine};
 ghost use Rattle.file_spec.specs.declared.conf_lines.What.{What};
 ghost use Rattle.fault_plan.specs.Fates.{fate_of, AreFates};

@@ -1,7 +1,8 @@
 -- What a turn sends to one terminal is of its new entry.
-use Rattle.std.proofs.Common.{◌≡◌, ℕ, zero, suc, ◌<◌, ◌≤◌, Bool, true, false, cond, inl, inr, List, [], ◌∷◌, ◌++◌, map, refl, ap, ◌∙◌, arith}
+use Rattle.std.proofs.Common.{◌≡◌, ℕ, zero, suc, ◌<◌, ◌≤◌, Bool, inl, inr, List, [], ◌∷◌, ◌++◌, map, refl, ap, ◌∙◌, arith}
 use Rattle.std.specs.Prelude.{◌==◌, filter}
 use Rattle.std.proofs.lemmas.Bool.{cases_eq, eq-eqb, ne_eqb}
+use Rattle.std.proofs.lemmas.List.Elements.{filter-append}
 use Rattle.mixer_spec.specs.Setups.{Setup}
 use Rattle.mixer_spec.specs.Table.{TurnEntry, Table, turned}
 use Rattle.mixer_spec.proofs.Lists.{nil}
@@ -11,14 +12,6 @@ use Rattle.mixer_turn.specs.Turns.{post_of, posts_between, posts_at}
 
 abbrev to : ℕ → Post → Bool
 to j p = p.terminal == j
-
-filter_both : (f : Post → Bool) (xs ys : List Post) → filter f (xs ++ ys) ≡ filter f xs ++ filter f ys
-filter_both f [] ys = refl
-filter_both f (x ∷ xs) ys = go (f x) (filter_both f xs ys)
-  where
-    go : (b : Bool) → filter f (xs ++ ys) ≡ filter f xs ++ filter f ys → cond b (x ∷ filter f (xs ++ ys)) (filter f (xs ++ ys)) ≡ cond b (x ∷ filter f xs) (filter f xs) ++ filter f ys
-    go true e = ap (λ zs. x ∷ zs) e
-    go false e = e
 
 filter_own : (s : Setup) (j : ℕ) (es : List TurnEntry) → filter (to j) (map (post_of s j) es) ≡ map (post_of s j) es
 filter_own s j [] = refl
@@ -34,13 +27,13 @@ entry_at before after n = new_entry (before.terminals n).past (after.terminals n
 none_to : (s : Setup) (before after : Table) (n j : ℕ) → n ≤ j → filter (to j) (posts_between s before after n) ≡ []
 none_to s before after zero j l = refl
 none_to s before after (suc n) j l =
-    filter_both (to j) (posts_between s before after n) (map (post_of s n) (entry_at before after n))
+    filter-append (to j) (posts_between s before after n) (map (post_of s n) (entry_at before after n))
     ∙ (ap (λ xs. xs ++ filter (to j) (map (post_of s n) (entry_at before after n))) (none_to s before after n j (omega arith)) ∙ filter_other s j n (entry_at before after n) (λ e. omega (arith, l, e)))
 
 one_to : (s : Setup) (before after : Table) (n j : ℕ) → j < n → filter (to j) (posts_between s before after n) ≡ map (post_of s j) (entry_at before after j)
 one_to s before after zero j l = absurd (omega arith)
 one_to s before after (suc n) j l =
-    filter_both (to j) (posts_between s before after n) (map (post_of s n) (entry_at before after n))
+    filter-append (to j) (posts_between s before after n) (map (post_of s n) (entry_at before after n))
     ∙ elim (cases_eq n j) [
       | inl e ↦
           ap (λ xs. xs ++ filter (to j) (map (post_of s n) (entry_at before after n))) (none_to s before after n j (omega (arith, e)))

@@ -1,6 +1,6 @@
 -- All terminals have their turn, one after the other.
 use Rattle.std.proofs.Common.{◌≡◌, ℕ, suc, ◌+◌, ◌<◌, ◌≤◌, inl, inr, Some, List, [], length, map, set, refl, ap, subst, sym, ◌∙◌, arith}
-use Rattle.std.specs.Prelude.{slice_get}
+use Rattle.std.specs.Prelude.{slice_get, slice_index_or}
 use Rattle.std.proofs.lemmas.Bool.{cases_eq}
 use Rattle.std.proofs.lemmas.List.{length-map, length-set}
 use Rattle.std.proofs.lemmas.List.Elements.{All-nil}
@@ -9,7 +9,7 @@ use Rattle.mixer_spec.specs.Setups.{Setup}
 use Rattle.mixer_spec.specs.Table.{Table, turn_at, turned_to}
 use Rattle.slot_table.specs.Lanes.{Waiting}
 use Rattle.slot_table.specs.Standing as slots
-use Rattle.slot_table.proofs.Lists.{get_set_same}
+use Rattle.slot_table.proofs.Lists.{get_read, get_set_same}
 use Rattle.seating.specs.States as seating
 use Rattle.outlet.specs.declared.outlets.Outlet.{Outlet}
 use Rattle.outlet.specs.Outlets as outlets
@@ -48,9 +48,17 @@ none_yet t first places before called batch l e = record {
 }
 
 -- what is known of the next outlet
-pub next_of : (t n : ℕ) (first : List Outlet) (places : seating.State) (before : List Waiting) (called : List (List ℕ)) (all : List Outlet) (waiting : List Waiting) (batch : List Post) (o : Outlet) → AreOutletsOf (length first) t first
+next_of : (t n : ℕ) (first : List Outlet) (places : seating.State) (before : List Waiting) (called : List (List ℕ)) (all : List Outlet) (waiting : List Waiting) (batch : List Post) (o : Outlet) → AreOutletsOf (length first) t first
     → Turning t n first places before called all waiting batch → slice_get all n ≡ Some o → IsOutletOf (length first) t n o
 next_of t n first places before called all waiting batch o are h g = are n o (h.rest n o (omega arith) g)
+
+-- the one that was read is there, and what is known of it
+pub outlet_read : (all : List Outlet) (n : ℕ) (o : Outlet) → n < length all → o ≡ slice_index_or all n o → slice_get all n ≡ Some (slice_index_or all n o)
+outlet_read all n o l e = get_read all n o l e ∙ ap Some e
+
+pub next_read : (t n : ℕ) (first : List Outlet) (places : seating.State) (before : List Waiting) (called : List (List ℕ)) (all : List Outlet) (waiting : List Waiting) (batch : List Post) (o : Outlet) → AreOutletsOf (length first) t first
+    → Turning t n first places before called all waiting batch → n < length first → o ≡ slice_index_or all n o → IsOutletOf (length first) t n (slice_index_or all n o)
+next_read t n first places before called all waiting batch o are h l e = next_of t n first places before called all waiting batch (slice_index_or all n o) are h (outlet_read all n o (omega (arith, l, h.legs)) e)
 
 pub one_more : (t n : ℕ) (first : List Outlet) (places : seating.State) (before : List Waiting) (called : List (List ℕ)) (all : List Outlet) (waiting after : List Waiting) (batch more : List Post) (o new : Outlet) → AreOutletsOf (length first) t first
     → Turning t n first places before called all waiting batch → slice_get all n ≡ Some o → SameLeg o new → next_turn new ≤ t + 1 → length after ≡ length waiting

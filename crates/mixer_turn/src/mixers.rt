@@ -5,6 +5,8 @@ ghost use Rattle.mixer_spec.specs.Setups.{setup};
 ghost use Rattle.mixer_spec.specs.Table.{Admit, Hush, Leave, Offer, Turn, free_place, has_room, is_idle, may_leave};
 ghost use Rattle.conference.specs.Conferences.{conf_of};
 ghost use Rattle.mixer_turn.specs.Making.{source_counts};
+ghost use Rattle.mixer_turn.specs.States.{State};
+ghost use Rattle.mixer_turn.specs.Insides.{state_of, IsMixer};
 
 use crate::batches::Batch;
 use crate::looks::{are_quiet, is_done};
@@ -35,11 +37,7 @@ pub struct Mixer {
 }
 
 impl Model for Mixer {
-    ghost use Rattle.mixer_turn.specs.States.{State};
-
     ghost Value = { State };
-
-    ghost use Rattle.mixer_turn.specs.Insides.{state_of, IsMixer};
 
     ghost view = { state_of };
 

@@ -1,7 +1,9 @@
 //! Examples of a mixer.
 use crate::{Batch, Mixer};
 use conf_text::{Form, read_conf};
+use rtt_base::limits::MOST_TEXT_OCTETS;
 use rtt_base::{Chunk, Text};
+use std::alloc::Global;
 use std::process::Abort;
 use std::test::Fail;
 
@@ -28,7 +30,7 @@ fn come(rt: &impl Abort, mixer: &mut Mixer, legs: usize) {
 fn takes(rt: &impl Abort, mixer: &mut Mixer, source: u8, octet: u8, octets: usize) -> bool {
     let mut text = Text::new();
     for _ in 0..octets {
-        if text.len() < Text::CAPACITY {
+        if text.len() < MOST_TEXT_OCTETS {
             text.push(octet);
         }
     }
@@ -44,15 +46,18 @@ fn takes(rt: &impl Abort, mixer: &mut Mixer, source: u8, octet: u8, octets: usiz
     mixer.offer(&chunk).is_ok()
 }
 
-/// How many of so many such texts of the first leg are taken.
-fn count_taken(rt: &impl Abort, mixer: &mut Mixer, octets: usize, offers: u32) -> u32 {
+/// How many of so many such texts of the first of two legs are taken.
+fn count_taken(rt: &impl Abort, alloc: Global, octets: usize, offers: u32) -> Result<u32, Fail> {
+    let conf = read_conf(alloc, TWO, Form::Files)?;
+    let mut mixer = Mixer::new(alloc, &conf)?;
+    come(rt, &mut mixer, 2);
     let mut count = 0;
     for _ in 0..offers {
-        if takes(rt, mixer, 0, b'x', octets) {
+        if takes(rt, &mut mixer, 0, b'x', octets) {
             count += 1;
         }
     }
-    count
+    Ok(count)
 }
 
 /// A turn at this moment.
@@ -99,19 +104,13 @@ fn three_that_type_are_sent_in_turn(rt: HostRuntime) -> Result<(), Fail> {
 
 #[test]
 fn sixteen_texts_of_a_thousand_octets_are_taken(rt: HostRuntime) -> Result<(), Fail> {
-    let conf = read_conf(rt.alloc(), TWO, Form::Files)?;
-    let mut mixer = Mixer::new(rt.alloc(), &conf)?;
-    come(&rt, &mut mixer, 2);
-    assert_eq!(rt; count_taken(&rt, &mut mixer, 1000, 17), 16);
+    assert_eq!(rt; count_taken(&rt, rt.alloc(), 1000, 17)?, 16);
     Ok(())
 }
 
 #[test]
 fn texts_of_one_octet_are_taken_to_512(rt: HostRuntime) -> Result<(), Fail> {
-    let conf = read_conf(rt.alloc(), TWO, Form::Files)?;
-    let mut mixer = Mixer::new(rt.alloc(), &conf)?;
-    come(&rt, &mut mixer, 2);
-    assert_eq!(rt; count_taken(&rt, &mut mixer, 1, 513), 512);
+    assert_eq!(rt; count_taken(&rt, rt.alloc(), 1, 513)?, 512);
     Ok(())
 }
 

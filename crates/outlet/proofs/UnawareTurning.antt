@@ -179,6 +179,25 @@ pub record IsOver (s : Setup) (j now t : ℕ) (table : Table) (o : UnawareState)
   pub waits : slots.StandsFor s after (with_terminal j (turned_here s j now t table) table)
   pub puts : Puts false t (entry_here s j now t table) source text
 
+-- it stands for the terminal that was turned, where it does so of what was sent there
+stands_turned : (s : Setup) (j now t : ℕ) (table : Table) (o mid : UnawareState) (left free_at : ℕ) (asked gave due sends : Bool) (text : List ℕ) (after : List Waiting) → StandsFor s j o (table.terminals j)
+    → Steps s j t table o mid asked gave due sends text after → Told s j t table asked gave due sends text mid after → EachIsNext (stream s j) (sents (turned_here s j now t table).past)
+    → left ≡ repeats_left (s.gens j) (sent_from s.mixer (turned_here s j now t table)) → free_at ≡ free_after s.spacing (last_media (sent_from s.mixer (turned_here s j now t table)))
+    → AreBy s.mixer (sents (turned_here s j now t table).past) → StandsFor s j (record mid { left = left; free_at = free_at }) (turned_here s j now t table)
+stands_turned s j now t table o mid left free_at asked gave due sends text after h w p each left_is free_is by = record {
+  setup = h.setup;
+  own = w.same.0 ∙ h.own;
+  leg = h.leg;
+  spacing = w.times.0 ∙ h.spacing;
+  composer = subst (λ (xs : List Asked). composers.StandsFor s mid.composer xs) (sym (asks_are s j now t (table.terminals j) (answer_at s j t (table.terminals j)))) p.composer;
+  gens = w.repeats.0 ∙ h.gens;
+  sent = each;
+  left = left_is;
+  free = free_is;
+  by_mixer = by;
+  rests = none_left s j now t table asked gave due sends text mid after p;
+}
+
 -- a packet was sent
 stands_sent : (s : Setup) (j now t : ℕ) (table : Table) (o mid : UnawareState) (asked gave due sends : Bool) (text : List ℕ) (after : List Waiting) → StandsFor s j o (table.terminals j)
     → Steps s j t table o mid asked gave due sends text after → Told s j t table asked gave due sends text mid after → SendsNext (stream s j) (table.terminals j).past (turned_here s j now t table).past
@@ -190,19 +209,11 @@ stands_sent s j now t table o mid asked gave due sends text after h w p next a =
     ap (λ (x : Sent). x ∷ sents d.past) (sym a.2) ∙ sym (ap (λ (xs : List TurnEntry). sents xs) a.1) in
     let own : sent_of s.mixer (e ∷ sents d.past) ≡ e ∷ sent_of s.mixer (sents d.past) = rw (eq-eqb s.mixer s.mixer refl) refl in
     let mixed : e ∷ sent_from s.mixer d ≡ sent_from s.mixer (turned_here s j now t table) = sym own ∙ ap (λ (xs : List Sent). sent_of s.mixer xs) es in
-    record {
-      setup = h.setup;
-      own = w.same.0 ∙ h.own;
-      leg = h.leg;
-      spacing = w.times.0 ∙ h.spacing;
-      composer = subst (λ (xs : List Asked). composers.StandsFor s mid.composer xs) (sym (asks_are s j now t d (answer_at s j t d))) p.composer;
-      gens = w.repeats.0 ∙ h.gens;
-      sent = subst (λ (xs : List Sent). EachIsNext (stream s j) xs) es (subst (λ (x : Sent). IsNext (stream s j) (sents d.past) x) a.2 (next a.0 a.1), h.sent);
-      left = (λ r. cond (has_text text) ((w.repeats.0 ∙ h.gens) r) ((w.repeats.1 ∙ h.left) r - 1)) ∙ ap (λ (xs : List Sent). repeats_left (s.gens j) xs) mixed;
-      free = ap (λ (n : ℕ). t + n) (w.times.0 ∙ h.spacing) ∙ ap (λ (xs : List Sent). free_after s.spacing (last_media xs)) mixed;
-      by_mixer = subst (λ (xs : List Sent). AreBy s.mixer xs) es (refl, h.by_mixer);
-      rests = none_left s j now t table asked gave due sends text mid after p;
-    }
+    stands_turned s j now t table o mid (kept_sent t text mid).left (kept_sent t text mid).free_at asked gave due sends text after h w p
+    (subst (λ (xs : List Sent). EachIsNext (stream s j) xs) es (subst (λ (x : Sent). IsNext (stream s j) (sents d.past) x) a.2 (next a.0 a.1), h.sent))
+    ((λ r. cond (has_text text) ((w.repeats.0 ∙ h.gens) r) ((w.repeats.1 ∙ h.left) r - 1)) ∙ ap (λ (xs : List Sent). repeats_left (s.gens j) xs) mixed)
+    (ap (λ (n : ℕ). t + n) (w.times.0 ∙ h.spacing) ∙ ap (λ (xs : List Sent). free_after s.spacing (last_media xs)) mixed)
+    (subst (λ (xs : List Sent). AreBy s.mixer xs) es (refl, h.by_mixer))
 
 pub sent_so : (s : Setup) (j now t : ℕ) (table : Table) (o mid new : UnawareState) (waiting : List Waiting) (called : List (List ℕ)) (asked gave due sends : Bool) (text : List ℕ) (after : List Waiting)
     → IsTurn s j table o waiting called now t → Steps s j t table o mid asked gave due sends text after → sends ≡ true → new ≡ kept_sent t text mid → IsOver s j now t table new after (Some 0) text
@@ -225,19 +236,9 @@ stands_silent s j now t table o mid asked gave due sends text after h w p a =
     let d = table.terminals j in
     let es : sents d.past ≡ sents (turned_here s j now t table).past = sym (ap (λ (xs : List TurnEntry). sents xs) a) in
     let mixed : sent_from s.mixer d ≡ sent_from s.mixer (turned_here s j now t table) = ap (λ (xs : List Sent). sent_of s.mixer xs) es in
-    record {
-      setup = h.setup;
-      own = w.same.0 ∙ h.own;
-      leg = h.leg;
-      spacing = w.times.0 ∙ h.spacing;
-      composer = subst (λ (xs : List Asked). composers.StandsFor s mid.composer xs) (sym (asks_are s j now t d (answer_at s j t d))) p.composer;
-      gens = w.repeats.0 ∙ h.gens;
-      sent = subst (λ (xs : List Sent). EachIsNext (stream s j) xs) es h.sent;
-      left = w.repeats.1 ∙ (h.left ∙ ap (λ (xs : List Sent). repeats_left (s.gens j) xs) mixed);
-      free = w.times.1 ∙ (h.free ∙ ap (λ (xs : List Sent). free_after s.spacing (last_media xs)) mixed);
-      by_mixer = subst (λ (xs : List Sent). AreBy s.mixer xs) es h.by_mixer;
-      rests = none_left s j now t table asked gave due sends text mid after p;
-    }
+    stands_turned s j now t table o mid mid.left mid.free_at asked gave due sends text after h w p (subst (λ (xs : List Sent). EachIsNext (stream s j) xs) es h.sent)
+    (w.repeats.1 ∙ (h.left ∙ ap (λ (xs : List Sent). repeats_left (s.gens j) xs) mixed))
+    (w.times.1 ∙ (h.free ∙ ap (λ (xs : List Sent). free_after s.spacing (last_media xs)) mixed)) (subst (λ (xs : List Sent). AreBy s.mixer xs) es h.by_mixer)
 
 pub silent_so : (s : Setup) (j now t : ℕ) (table : Table) (o mid : UnawareState) (waiting : List Waiting) (called : List (List ℕ)) (asked gave due sends : Bool) (text : List ℕ) (after : List Waiting)
     → IsTurn s j table o waiting called now t → Steps s j t table o mid asked gave due sends text after → sends ≡ false → IsOver s j now t table mid after None text

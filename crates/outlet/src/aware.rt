@@ -6,9 +6,12 @@ ghost use Rattle.mixer_spec.specs.Table.{empty, has_work, is_due, is_due_at, is_
 ghost use Rattle.slot_table.specs.Standing.{Tells, Leads};
 ghost use Rattle.slot_table.specs.Words.{fetched};
 ghost use Rattle.outlet.specs.AwareTurns.{text_of_leg};
-ghost use Rattle.rtt_base.specs.declared.limits.TheConstants.{END_OF_MOMENTS, MOST_TEXT_OCTETS};
+ghost use Rattle.outlet.specs.AwareStates.{AwareState};
+ghost use Rattle.outlet.specs.AwareInsides.{state_of, IsSound};
+ghost use Rattle.rtt_base.specs.declared.limits.TheConstants.{END_OF_MOMENTS};
 
 use mixer_spec::limits::PLACES;
+use rtt_base::limits::MOST_TEXT_OCTETS;
 use rtt_base::{NoMemory, Text};
 use seating::Seating;
 use slot_table::Slots;
@@ -35,11 +38,7 @@ pub struct AwareOutlet {
 }
 
 impl Model for AwareOutlet {
-    ghost use Rattle.outlet.specs.AwareStates.{AwareState};
-
     ghost Value = { AwareState };
-
-    ghost use Rattle.outlet.specs.AwareInsides.{state_of, IsSound};
 
     ghost view = { state_of };
 
@@ -54,7 +53,7 @@ fn fetch(terminal: usize, leg: usize, slots: &mut Slots, text: &mut Text)
     ensures stands { Leads slots.old slots.new (fetched terminal leg MOST_TEXT_OCTETS) }
 {
     text.clear();
-    slots.take(terminal, leg, Text::CAPACITY, text);
+    slots.take(terminal, leg, MOST_TEXT_OCTETS, text);
 }
 
 impl AwareOutlet {

@@ -4,7 +4,8 @@ ghost use Rattle.mixer_spec.specs.Rounds.{all_below};
 ghost use Rattle.mixer_spec.specs.Table.{has_work, is_quiet};
 ghost use Rattle.slot_table.specs.Standing.{StandsFor as SlotsStandFor, Tells};
 ghost use Rattle.outlet.specs.Turns.{Puts, with_terminal};
-ghost use Rattle.outlet.specs.UnawareStates.{SameLeg, legs_of, next_turn, own_of};
+ghost use Rattle.outlet.specs.UnawareStates.{SameLeg, UnawareState, legs_of, next_turn, own_of};
+ghost use Rattle.outlet.specs.UnawareInsides.{IsSound, state_of};
 ghost use Rattle.outlet.specs.UnawareStanding.{Composes, OfAsks, OfTerminals, OfTurns, StandsFor, StandsNew, StandsWoken, entry_here, kept_sent, left_behind, none_here, turned_here};
 ghost use Rattle.rtt_base.specs.declared.limits.TheConstants.{END_OF_MOMENTS};
 
@@ -34,11 +35,7 @@ pub struct UnawareOutlet {
 }
 
 impl Model for UnawareOutlet {
-    ghost use Rattle.outlet.specs.UnawareStates.{UnawareState};
-
     ghost Value = { UnawareState };
-
-    ghost use Rattle.outlet.specs.UnawareInsides.{IsSound, state_of};
 
     ghost view = { state_of };
 

@@ -3,6 +3,8 @@ ghost use Rattle.std.specs.Prelude.{◌≡◌, ◌<◌, ◌≤◌, None, length,
 ghost use Rattle.mixer_spec.specs.Rounds.{count_below, first_from};
 ghost use Rattle.mixer_spec.specs.Setups.{Setup};
 ghost use Rattle.mixer_spec.specs.Table.{Table, admitted, free_place, freed, hushed, is_seated, leg_in, no_seats};
+ghost use Rattle.seating.specs.States.{State};
+ghost use Rattle.seating.specs.Insides.{state_of, IsSeating};
 ghost use Rattle.seating.specs.Places.{has_place, is_vacant};
 
 use mixer_spec::limits::PLACES;
@@ -26,11 +28,7 @@ pub struct Seating {
 }
 
 impl Model for Seating {
-    ghost use Rattle.seating.specs.States.{State};
-
     ghost Value = { State };
-
-    ghost use Rattle.seating.specs.Insides.{state_of, IsSeating};
 
     ghost view = { state_of };
 

@@ -1,7 +1,14 @@
 -- Where a text stands in a list, or goes on there.
 use Rattle.std.proofs.Common.{◌≡◌, ℕ, ◌-◌, ◌<◌, ◌≤◌, List, [], ◌++◌, length, take, drop, ap, sym, ◌∙◌, arith}
-use Rattle.std.proofs.lemmas.List.{drop-append-le, drop_all, length-append, length-drop, take-append-drop, take_all, take_at}
+use Rattle.std.proofs.lemmas.List.{drop-append-le, drop_all, length-append, length-drop, take-append-drop, take_all, take_at, take_rest}
 use Rattle.sent_log.specs.Lists.{Agrees, StandsAt}
+
+-- what was read from this place on, and where
+abbrev pub rest_of : List ℕ → ℕ → List ℕ
+rest_of all place = take (length all - place) (drop place all)
+
+pub rest_is : (octets all : List ℕ) (place : ℕ) → all ≡ octets → rest_of all place ≡ drop place octets
+rest_is octets all place e = take_rest all place ∙ ap (λ (xs : List ℕ). drop place xs) e
 
 -- what stands there begins with the text
 pub agrees_front : (octets : List ℕ) (place : ℕ) (text more : List ℕ) → place ≤ length octets → drop place octets ≡ text ++ more → Agrees octets place text

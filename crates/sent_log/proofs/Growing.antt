@@ -5,11 +5,13 @@ use Rattle.std.proofs.lemmas.List.{append-nil, drop-append-le, get_or_append_lef
 use Rattle.std.proofs.lemmas.List.Elements.{All-tail}
 use Rattle.stream_spec.specs.Own.{Sent}
 use Rattle.aware_output.specs.Speakers.{text_of}
+use Rattle.sent_log.specs.declared.logs.SentLog.TheInside.{Inside}
 use Rattle.sent_log.specs.declared.terminals.Entry.{Entry}
 use Rattle.sent_log.specs.declared.terminals.Terminal.{Terminal}
 use Rattle.sent_log.specs.declared.turns.Turn.{Turn}
-use Rattle.sent_log.specs.Insides.{IsEntry, IsTerminal, sending_of, sent_by, turn_at}
+use Rattle.sent_log.specs.Insides.{IsEntry, IsLog, IsTerminal, sending_of, sent_by, state_of, turn_at}
 use Rattle.sent_log.specs.Lists.{EachGrows, Grows, list_at, octets_at}
+use Rattle.sent_log.specs.States.{State}
 
 -- ---- one list
 
@@ -121,3 +123,10 @@ all_same turns turns' texts texts' ts g h a = map_same (sending_of turns' texts'
 
 pub all_still : (turns turns' : List Turn) (texts texts' : List (List ℕ)) (ts : List Terminal) → Grows turns turns' → EachGrows texts texts' → All (IsTerminal turns texts) ts → All (IsTerminal turns' texts') ts
 all_still turns turns' texts texts' ts g h a = λ i d l. terminal_still turns turns' texts texts' _ g h (a i d l)
+
+-- where the lists of a log grew
+pub lists_same : (i : Inside) (log : State) (texts : List (List ℕ)) → EachGrows i.texts.items texts → IsLog i → state_of i ≡ log → map (sending_of i.turns.items texts) i.terminals.items ≡ log
+lists_same i log texts h a v = all_same i.turns.items i.turns.items i.texts.items texts i.terminals.items (grows_same i.turns.items) h a ∙ v
+
+pub lists_still : (i : Inside) (texts : List (List ℕ)) → EachGrows i.texts.items texts → IsLog i → All (IsTerminal i.turns.items texts) i.terminals.items
+lists_still i texts h a = all_still i.turns.items i.turns.items i.texts.items texts i.terminals.items (grows_same i.turns.items) h a

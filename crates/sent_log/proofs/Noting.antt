@@ -10,12 +10,14 @@ use Rattle.stream_spec.specs.Own.{Sent}
 use Rattle.aware_output.specs.declared.outputs.OutConf.{OutConf}
 use Rattle.aware_output.specs.Confs.{IsConf}
 use Rattle.aware_output.specs.Speakers.{AreDistinct, text_of}
+use Rattle.sent_log.specs.declared.logs.SentLog.TheInside.{Inside}
 use Rattle.sent_log.specs.declared.terminals.Entry.{Entry}
 use Rattle.sent_log.specs.declared.terminals.Terminal.{Terminal}
 use Rattle.sent_log.specs.declared.turns.Turn.{Turn}
-use Rattle.sent_log.specs.Insides.{HasNoted, IsEntry, IsSame, IsTerminal, sending_of, sent_by, turn_at}
-use Rattle.sent_log.specs.Lists.{list_at, octets_at}
+use Rattle.sent_log.specs.Insides.{HasNoted, IsEntry, IsLog, IsSame, IsTerminal, sending_of, sent_by, state_of, turn_at}
+use Rattle.sent_log.specs.Lists.{EachGrows, Grows, list_at, octets_at}
 use Rattle.sent_log.specs.States.{HasSource, Sending, State, sent_to, with_sent}
+use Rattle.sent_log.proofs.Growing.{all_same, all_still}
 
 -- ---- a terminal
 
@@ -85,7 +87,7 @@ pub record Steps (turns : List Turn) (texts : List (List ℕ)) (t t' : Terminal)
   pub ok : OnOk r (HasNoted turn source text texts t t')
   pub err : OnErr r (t'.entries.items ≡ t.entries.items)
 
-pub steps_still : (turns : List Turn) (texts : List (List ℕ)) (ts : List Terminal) (terminal : ℕ) (t t' : Terminal) (now media turn source : ℕ) (text : List ℕ) (r : Result (Unit {0}) NoMemory) → All (IsTerminal turns texts) ts → slice_get ts terminal ≡ Some t
+steps_still : (turns : List Turn) (texts : List (List ℕ)) (ts : List Terminal) (terminal : ℕ) (t t' : Terminal) (now media turn source : ℕ) (text : List ℕ) (r : Result (Unit {0}) NoMemory) → All (IsTerminal turns texts) ts → slice_get ts terminal ≡ Some t
     → Steps turns texts t t' now media turn source text r → All (IsTerminal turns texts) (set ts terminal t')
 steps_still turns texts ts terminal t t' now media turn source text r a g s = All-set (IsTerminal turns texts) ts terminal t' (go r s.ok s.err) a
   where
@@ -96,7 +98,7 @@ steps_still turns texts ts terminal t t' now media turn source text r a g s = Al
     go (Ok x) n e = noted_still turns texts t t' turn source text k s.turn_below s.source_below s.short s.same n
     go (Err x) n e = still turns texts t t' t.entries.items k s.same e k.entries
 
-pub steps_sent : (turns : List Turn) (texts : List (List ℕ)) (ts : List Terminal) (terminal : ℕ) (t t' : Terminal) (now media turn source : ℕ) (text : List ℕ) (r : Result (Unit {0}) NoMemory) → slice_get ts terminal ≡ Some t
+steps_sent : (turns : List Turn) (texts : List (List ℕ)) (ts : List Terminal) (terminal : ℕ) (t t' : Terminal) (now media turn source : ℕ) (text : List ℕ) (r : Result (Unit {0}) NoMemory) → slice_get ts terminal ≡ Some t
     → Steps turns texts t t' now media turn source text r
     → OnOk r (map (sending_of turns texts) (set ts terminal t') ≡ sent_to terminal now (λ sources. text_of sources source media text) (map (sending_of turns texts) ts))
 steps_sent turns texts ts terminal t t' now media turn source text (Ok x) g s =
@@ -106,7 +108,7 @@ steps_sent turns texts ts terminal t t' now media turn source text (Ok x) g s =
     ∙ sym (sent_to_is (map f ts) terminal now (λ sources. text_of sources source media text) (f t) (get_map f ts terminal t g)))
 steps_sent turns texts ts terminal t t' now media turn source text (Err x) g s = tt
 
-pub steps_refused : (turns : List Turn) (texts : List (List ℕ)) (ts : List Terminal) (terminal : ℕ) (t t' : Terminal) (now media turn source : ℕ) (text : List ℕ) (r : Result (Unit {0}) NoMemory) → slice_get ts terminal ≡ Some t
+steps_refused : (turns : List Turn) (texts : List (List ℕ)) (ts : List Terminal) (terminal : ℕ) (t t' : Terminal) (now media turn source : ℕ) (text : List ℕ) (r : Result (Unit {0}) NoMemory) → slice_get ts terminal ≡ Some t
     → Steps turns texts t t' now media turn source text r
     → OnErr r (map (sending_of turns texts) (set ts terminal t') ≡ map (sending_of turns texts) ts)
 steps_refused turns texts ts terminal t t' now media turn source text (Ok x) g s = tt
@@ -119,12 +121,35 @@ source_in turns texts [] terminal source h = absurd h
 source_in turns texts (t ∷ ts) zero source h = (t, refl, h)
 source_in turns texts (t ∷ ts) (suc terminal) source h = source_in turns texts ts terminal source h
 
-pub source_there : (turns : List Turn) (texts : List (List ℕ)) (ts : List Terminal) (terminal source : ℕ) (t : Terminal) → t ≡ get_or ts terminal t → HasSource (map (sending_of turns texts) ts) terminal source
-    → (slice_get ts terminal ≡ Some t) × (source < length t.sources.items)
-source_there turns texts ts terminal source t e h =
-    let found = source_in turns texts ts terminal source h in
+-- in a log, and the terminal is the one that was read
+pub source_there : (i : Inside) (log : State) (terminal source : ℕ) (t : Terminal) → state_of i ≡ log → t ≡ get_or i.terminals.items terminal t → HasSource log terminal source
+    → (slice_get i.terminals.items terminal ≡ Some t) × (source < length t.sources.items)
+source_there i log terminal source t v e h =
+    let ts = i.terminals.items in
+    let found = source_in i.turns.items i.texts.items ts terminal source (subst (λ (x : State). HasSource x terminal source) (sym v) h) in
     let same : found.0 ≡ t = sym (e ∙ get_or_from_slice_get ts terminal found.0 t found.1) in
     subst (λ (u : Terminal). (slice_get ts terminal ≡ Some u) × (source < length u.sources.items)) same (found.1, found.2)
+
+-- the log, where the terminal that was read noted a text or is out of memory, and turns and texts grew
+pub record Noted (i : Inside) (log : State) (terminal source : ℕ) (turns : List Turn) (texts : List (List ℕ)) (t' : Terminal) (now media : ℕ) (text : List ℕ) (r : Result (Unit {0}) NoMemory) : Type 0 where
+  pub still : All (IsTerminal turns texts) (set i.terminals.items terminal t')
+  pub sent : OnOk r (map (sending_of turns texts) (set i.terminals.items terminal t') ≡ sent_to terminal now (λ sources. text_of sources source media text) log)
+  pub refused : OnErr r (map (sending_of turns texts) (set i.terminals.items terminal t') ≡ log)
+
+pub noting : (i : Inside) (log : State) (terminal source : ℕ) (t : Terminal) (turns : List Turn) (texts : List (List ℕ)) (t' : Terminal) (now media turn : ℕ) (text : List ℕ) (r : Result (Unit {0}) NoMemory)
+    → state_of i ≡ log → IsLog i → t ≡ get_or i.terminals.items terminal t → HasSource log terminal source → Grows i.turns.items turns → EachGrows i.texts.items texts
+    → turn_at turns turn ≡ record { now = now; media = media } → turn < length turns → length text < 1024 → IsSame t t' → OnOk r (HasNoted turn source text texts t t') → OnErr r (t'.entries.items ≡ t.entries.items)
+    → Noted i log terminal source turns texts t' now media text r
+noting i log terminal source t turns texts t' now media turn text r v a read has g h turn_is below short same ok err =
+    let ts = i.terminals.items in
+    let there = source_there i log terminal source t v read has in
+    let before : map (sending_of turns texts) ts ≡ log = all_same i.turns.items turns i.texts.items texts ts g h a ∙ v in
+    let steps : Steps turns texts t t' now media turn source text r = record { turn_is = turn_is; turn_below = below; source_below = there.1; short = short; same = same; ok = ok; err = err } in
+    record {
+      still = steps_still turns texts ts terminal t t' now media turn source text r (all_still i.turns.items turns i.texts.items texts ts g h a) there.0 steps;
+      sent = subst (λ (old : State). OnOk r (map (sending_of turns texts) (set ts terminal t') ≡ sent_to terminal now (λ sources. text_of sources source media text) old)) before (steps_sent turns texts ts terminal t t' now media turn source text r there.0 steps);
+      refused = subst (λ (old : State). OnErr r (map (sending_of turns texts) (set ts terminal t') ≡ old)) before (steps_refused turns texts ts terminal t t' now media turn source text r there.0 steps);
+    }
 
 -- ---- a terminal more
 

@@ -2,7 +2,7 @@
 use Rattle.std.proofs.Common.{◌≡◌, ℕ, zero, suc, ◌+◌, ◌-◌, ◌<◌, ◌≤◌, List, [], ◌∷◌, ◌++◌, length, get_or, take, drop, Some, refl, ap, subst, sym, ◌∙◌, arith}
 use Rattle.std.specs.Prelude.{All, map, reverse, slice_get}
 use Rattle.std.specs.List.Sorted.{IsNonDecreasing, IsNonDecreasingBy}
-use Rattle.std.proofs.lemmas.List.{drop-map, drop_at, get_or-map, get_or-take, length-drop, length-map, length-reverse, length-take-le, map-append, reverse-append, reverse-reverse, take-append-drop, take_more}
+use Rattle.std.proofs.lemmas.List.{drop-map, drop_at, get_or-map, get_or-take, get_or_read, length-drop, length-map, length-reverse, length-take-le, map-append, reverse-append, reverse-reverse, take-append-drop, take_more}
 use Rattle.std.proofs.lemmas.List.Sorted.{IsNonDecreasingBy-push}
 use Rattle.std.proofs.lemmas.Option.{get_or_from_slice_get, slice_get_read, slice_get_within}
 use Rattle.stream_spec.specs.Own.{Sent, Stream}
@@ -12,10 +12,11 @@ use Rattle.aware_output.specs.Sending.{OfNext, octets_of}
 use Rattle.aware_output.specs.Speakers.{EachIsNext, IsNext, text_of}
 use Rattle.aware_output.specs.Standing.{StandsFor}
 use Rattle.aware_output.specs.States as output
+use Rattle.sent_log.specs.declared.logs.SentLog.TheInside.{Inside}
 use Rattle.sent_log.specs.declared.terminals.Entry.{Entry}
 use Rattle.sent_log.specs.declared.terminals.Terminal.{Terminal}
 use Rattle.sent_log.specs.declared.turns.Turn.{Turn}
-use Rattle.sent_log.specs.Insides.{IsEntry, IsTerminal, sending_of, sent_by, turn_at}
+use Rattle.sent_log.specs.Insides.{IsEntry, IsLog, IsTerminal, sending_of, sent_by, state_of, turn_at}
 use Rattle.sent_log.specs.Lists.{list_at, octets_at}
 use Rattle.sent_log.specs.States.{Makes, NeverFalls, OfTerminal, Sending, State, first_sent, records_of, sents}
 use Rattle.sent_log.proofs.Noting.{get_map}
@@ -50,27 +51,33 @@ sent_count turns texts t =
     let ys = map (sent_by turns texts t.first t.sources.items) t.entries.items in
     sym (length-reverse ys ∙ length-map t.entries.items (sent_by turns texts t.first t.sources.items))
 
-pub number_within : (turns : List Turn) (texts : List (List ℕ)) (ts : List Terminal) (log : State) (terminal : ℕ) (t : Terminal) (number : ℕ) → map (sending_of turns texts) ts ≡ log → t ≡ get_or ts terminal t → terminal < length log
+pub number_within : (i : Inside) (log : State) (terminal : ℕ) (t : Terminal) (number : ℕ) → state_of i ≡ log → t ≡ get_or i.terminals.items terminal t → terminal < length log
     → OfTerminal log terminal (λ x. number < length x.sent) → number < length t.entries.items
-number_within turns texts ts log terminal t number v e l o =
-    let there = terminal_in turns texts ts log terminal t v e l in
-    let n = tells turns texts ts log terminal t (λ x. number < length x.sent) v there o in
-    omega (arith, n, sent_count turns texts t)
+number_within i log terminal t number v e l o =
+    let there = terminal_in i.turns.items i.texts.items i.terminals.items log terminal t v e l in
+    let n = tells i.turns.items i.texts.items i.terminals.items log terminal t (λ x. number < length x.sent) v there o in
+    omega (arith, n, sent_count i.turns.items i.texts.items t)
 
 -- the terminal and its entry that were read
-pub record Reads (turns : List Turn) (texts : List (List ℕ)) (ts : List Terminal) (terminal : ℕ) (t : Terminal) (number : ℕ) (e : Entry) : Type 0 where
-  pub there : slice_get ts terminal ≡ Some t
-  pub stands : IsTerminal turns texts t
+pub record Reads (i : Inside) (terminal : ℕ) (t : Terminal) (number : ℕ) (e : Entry) : Type 0 where
+  pub there : slice_get i.terminals.items terminal ≡ Some t
+  pub stands : IsTerminal i.turns.items i.texts.items t
   pub read : slice_get t.entries.items number ≡ Some e
-  pub entry : IsEntry turns texts t.first t.sources.items e
+  pub entry : IsEntry i.turns.items i.texts.items t.first t.sources.items e
 
-pub reads : (turns : List Turn) (texts : List (List ℕ)) (ts : List Terminal) (log : State) (terminal : ℕ) (t : Terminal) (number : ℕ) (e : Entry) → map (sending_of turns texts) ts ≡ log → All (IsTerminal turns texts) ts → t ≡ get_or ts terminal t
-    → e ≡ get_or t.entries.items number e → terminal < length log → OfTerminal log terminal (λ x. number < length x.sent) → Reads turns texts ts terminal t number e
-reads turns texts ts log terminal t number e v a s q l o =
-    let there = terminal_in turns texts ts log terminal t v s l in
-    let read = slice_get_read t.entries.items (length t.entries.items) number e refl (number_within turns texts ts log terminal t number v s l o) q in
-    let k = is_terminal turns texts ts terminal t a there in
+pub reads : (i : Inside) (log : State) (terminal : ℕ) (t : Terminal) (number : ℕ) (e : Entry) → state_of i ≡ log → IsLog i → t ≡ get_or i.terminals.items terminal t
+    → e ≡ get_or t.entries.items number e → terminal < length log → OfTerminal log terminal (λ x. number < length x.sent) → Reads i terminal t number e
+reads i log terminal t number e v a s q l o =
+    let turns = i.turns.items in
+    let texts = i.texts.items in
+    let there = terminal_in turns texts i.terminals.items log terminal t v s l in
+    let read = slice_get_read t.entries.items (length t.entries.items) number e refl (number_within i log terminal t number v s l o) q in
+    let k = is_terminal turns texts i.terminals.items terminal t a there in
     record { there = there; stands = k; read = read; entry = is_entry turns texts t number e k read }
+
+-- the list that its text stands in
+pub list_read : (i : Inside) (terminal : ℕ) (t : Terminal) (number : ℕ) (e : Entry) (list : List ℕ) → Reads i terminal t number e → list ≡ get_or i.texts.items (t.first + e.source) list → list ≡ list_at i.texts.items (t.first + e.source)
+list_read i terminal t number e list r q = get_or_read i.texts.items (t.first + e.source) list (omega (arith, r.entry.source, r.stands.lists)) q []
 
 -- ---- the first of them
 

@@ -3,12 +3,14 @@ ghost use Rattle.std.specs.Prelude.{◌≡◌, ◌<◌, ◌≤◌, ◌++◌, ◌
 ghost use Rattle.aware_output.specs.Confs.{IsConf};
 ghost use Rattle.aware_output.specs.Speakers.{AreDistinct, text_of};
 ghost use Rattle.aware_output.specs.Standing.{StandsFor};
-ghost use Rattle.sent_log.specs.States.{HasSource, Makes, NeverFalls, OfTerminal, sent_to};
+ghost use Rattle.sent_log.specs.States.{HasSource, Makes, NeverFalls, OfTerminal, State, sent_to};
+ghost use Rattle.sent_log.specs.Insides.{IsLog, state_of};
 
 use crate::terminals::{Terminal, make_lists, never_fall};
 use crate::text_lists::TextList;
 use crate::turns::{Turn, note_turn};
 use aware_output::{OutConf, Output};
+use rtt_base::limits::MOST_PACKET_OCTETS;
 use rtt_base::{NoMemory, Packet};
 use std::alloc::Global;
 use std::marker::Model;
@@ -23,11 +25,7 @@ pub struct SentLog {
 }
 
 impl Model for SentLog {
-    ghost use Rattle.sent_log.specs.States.{State};
-
     ghost Value = { State };
-
-    ghost use Rattle.sent_log.specs.Insides.{IsLog, state_of};
 
     ghost view = { state_of };
 
@@ -163,7 +161,7 @@ impl SentLog {
         let Ok(()) = output.packet(turn.media, source, text, packet) else {
             unreachable!()
         };
-        let fits = packet.len() <= Packet::CAPACITY;
+        let fits = packet.len() <= MOST_PACKET_OCTETS;
         prove!(fits);
         turn.now
     }

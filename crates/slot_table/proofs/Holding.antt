@@ -9,8 +9,10 @@ use Rattle.mixer_spec.specs.Chunks.{joined, octets, has_chunk}
 use Rattle.mixer_spec.specs.Table.{Taken, chunks_taken}
 use Rattle.slot_table.specs.declared.rings.Place.{Place}
 use Rattle.slot_table.specs.declared.parts.Part.{Part}
+use Rattle.slot_table.specs.declared.lanes.Lane.TheInside.{Inside}
 use Rattle.slot_table.specs.Rings.{Chunks, IsPlace, end_of}
 use Rattle.slot_table.specs.Lanes.{Waiting, part_end, part_heard}
+use Rattle.slot_table.specs.LaneInsides.{IsLane, waiting_in}
 use Rattle.slot_table.specs.Standing.{kept_of, place_of, IsPart, Holds}
 use Rattle.slot_table.proofs.Lists.{get_set_same, get_read}
 use Rattle.slot_table.proofs.Sizes.{joined_size, end_is, is_place, octets_taken, has_chunk_is}
@@ -137,6 +139,9 @@ listened w taken listens waits h j p g on =
 -- the part of a terminal, which a call reads where its lane is open
 pub part_at : (inside now : Waiting) (j : ℕ) (p : Part) → inside ≡ now → j < length now.parts → p ≡ get_or inside.parts j p → slice_get inside.parts j ≡ Some p
 part_at inside now j p same l is = get_read inside.parts j p (omega (arith, l, ap (λ (x : Waiting). length x.parts) same)) is
+
+pub bounds_in : (i : Inside) (now : Waiting) (j : ℕ) (p : Part) → IsLane i → waiting_in i ≡ now → j < length now.parts → p ≡ get_or i.parts.items j p → Bounds (waiting_in i).chunks p
+bounds_in i now j p k same l is = bounds (waiting_in i) k.taken k.listens k.waits k.holds j p (part_at (waiting_in i) now j p same l is)
 
 -- where it ends, by the end of all
 pub end_read : (all whole end : Place) (p : Part) → end ≡ part_end all p → all ≡ whole → end ≡ part_end whole p

@@ -5,6 +5,8 @@ ghost use Rattle.mixer_spec.specs.Rounds.{set_at};
 ghost use Rattle.mixer_spec.specs.Setups.{Setup};
 ghost use Rattle.mixer_spec.specs.Chunks.{joined, octets, front, behind, has_chunk};
 ghost use Rattle.mixer_spec.specs.Table.{Taken, Table, is_fit, is_given, span_with};
+ghost use Rattle.slot_table.specs.Lanes.{Waiting};
+ghost use Rattle.slot_table.specs.LaneInsides.{waiting_in, IsLane};
 ghost use Rattle.rtt_base.specs.declared.limits.TheConstants.{MOST_TEXT_OCTETS};
 
 use crate::parts::{Part, count_from, first_parts, oldest};
@@ -21,11 +23,7 @@ pub struct Lane {
 }
 
 impl Model for Lane {
-    ghost use Rattle.slot_table.specs.Lanes.{Waiting};
-
     ghost Value = { Waiting };
-
-    ghost use Rattle.slot_table.specs.LaneInsides.{waiting_in, IsLane};
 
     ghost view = { waiting_in };
 
@@ -33,7 +31,6 @@ impl Model for Lane {
 }
 
 impl Lane {
-    ghost use Rattle.slot_table.specs.Lanes.{Waiting};
     ghost use Rattle.slot_table.specs.Words.{all_listen};
     ghost use Rattle.slot_table.specs.Standing.{Adds, Holds, LaneTells, TellsRoom};
 

@@ -1,9 +1,11 @@
 //! What waits in a mixer, of each source at each terminal.
-ghost use Rattle.std.specs.Prelude.{◌≡◌, ◌+◌, ◌<◌, ◌≤◌, ◌++◌, ◌↔◌, ◌==◌, ◌&&◌, not, true, length, IsOk, IfOk, OnOk, OnErr, IsUtf8};
+ghost use Rattle.std.specs.Prelude.{◌≡◌, ◌+◌, ◌<◌, ◌≤◌, ◌++◌, ◌↔◌, ◌==◌, ◌&&◌, not, true, List, length, IsOk, IfOk, OnOk, OnErr, IsUtf8};
 ghost use Rattle.stream_spec.specs.Ready.{chunk_of};
 ghost use Rattle.mixer_spec.specs.Setups.{Setup};
 ghost use Rattle.mixer_spec.specs.Chunks.{joined, octets, front, has_chunk};
 ghost use Rattle.mixer_spec.specs.Table.{Table, is_fit, given, span_with};
+ghost use Rattle.slot_table.specs.Lanes.{Waiting};
+ghost use Rattle.slot_table.specs.SlotInsides.{IsSlots};
 ghost use Rattle.rtt_base.specs.declared.limits.TheConstants.{MOST_TEXT_OCTETS};
 
 use crate::lanes::Lane;
@@ -18,14 +20,9 @@ pub struct Slots {
 }
 
 impl Model for Slots {
-    ghost use Rattle.std.specs.Prelude.{List};
-    ghost use Rattle.slot_table.specs.Lanes.{Waiting};
-
     ghost Value = { List Waiting };
 
     ghost view = { λ s. s.lanes.items };
-
-    ghost use Rattle.slot_table.specs.SlotInsides.{IsSlots};
 
     ghost invariant = { IsSlots };
 }

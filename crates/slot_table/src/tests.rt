@@ -5,6 +5,7 @@ mod plain;
 
 use crate::Slots;
 use plain::{LEGS, Plain};
+use rtt_base::limits::MOST_TEXT_OCTETS;
 use rtt_base::{Chunk, Full, Text};
 use std::alloc::Global;
 use std::process::Abort;
@@ -14,7 +15,7 @@ use std::test::Fail;
 fn fill(text: &mut Text, octets: usize, first: u8) {
     text.clear();
     for index in 0..octets {
-        if text.len() < Text::CAPACITY {
+        if text.len() < MOST_TEXT_OCTETS {
             text.push((first ^ (index % 128) as u8) % 128);
         }
     }

@@ -7,6 +7,7 @@ use crate::{Receiver, SourceText};
 use red_blocks::view_text;
 use rtt_base::{Blocks, NoMemory, Pts, Text, TextBlock, TextPacket};
 use std::alloc::Global;
+use std::process::Abort;
 use std::test::Fail;
 
 const ANN: u32 = 1001;
@@ -88,11 +89,20 @@ fn gives_both(
     Ok(texts && heard[0].marks == 0 && heard[1].marks == 0)
 }
 
+/// A receiver of Ann's text that took her first packet.
+fn begun(rt: &impl Abort, alloc: Global) -> Result<Receiver, Fail>
+    ensures latest { IfOk result (λ receiver. latest_number receiver ≡ Some 65536) }
+    ensures one { IfOk result (λ receiver. sources_count receiver ≡ 1) }
+{
+    let mut ann = Receiver::new(alloc, &[ANN])?;
+    let first = packet(ANN, 0, &[(16383, b""), (16383, b"")], b"A");
+    assert!(rt; gives(alloc, &mut ann, 65536, &first, b"A", 0)?);
+    Ok(ann)
+}
+
 #[test]
 fn two_lost_packets_leave_no_marker(rt: HostRuntime) -> Result<(), Fail> {
-    let mut ann = Receiver::new(rt.alloc(), &[ANN])?;
-    let first = packet(ANN, 0, &[(16383, b""), (16383, b"")], b"A");
-    assert!(rt; gives(rt.alloc(), &mut ann, 65536, &first, b"A", 0)?);
+    let mut ann = begun(&rt, rt.alloc())?;
     let fourth = packet(ANN, 900, &[(600, b"B"), (300, b"C")], b"D");
     assert!(rt; gives(rt.alloc(), &mut ann, 65539, &fourth, b"BCD", 0)?);
     let fifth = packet(ANN, 1200, &[(600, b"C"), (300, b"D")], b"");
@@ -102,9 +112,7 @@ fn two_lost_packets_leave_no_marker(rt: HostRuntime) -> Result<(), Fail> {
 
 #[test]
 fn three_lost_packets_leave_a_marker(rt: HostRuntime) -> Result<(), Fail> {
-    let mut ann = Receiver::new(rt.alloc(), &[ANN])?;
-    let first = packet(ANN, 0, &[(16383, b""), (16383, b"")], b"A");
-    assert!(rt; gives(rt.alloc(), &mut ann, 65536, &first, b"A", 0)?);
+    let mut ann = begun(&rt, rt.alloc())?;
     let fifth = packet(ANN, 1200, &[(600, b"C"), (300, b"D")], b"");
     assert!(rt; gives(rt.alloc(), &mut ann, 65540, &fifth, b"\xEF\xBF\xBDCD", 1)?);
     Ok(())

@@ -16,6 +16,10 @@ length_is on name =
     let d = length-append name (93 ∷ 32 ∷ []) in
     omega (arith, a, b, d)
 
+-- behind its bracket the name is to come, and two octets
+pub bracketed : (on : Bool) (name start out a b : List ℕ) → start ≡ line_start on → a ≡ out ++ start → b ≡ a ++ 91 ∷ [] → length b + (2 + length name) ≡ length out + length (label_after on name)
+bracketed on name start out a b s p q = omega (arith, length_is on name, ap length s, ap length p, length-append out start, ap length q, length-append a (91 ∷ []))
+
 start_sizes : (length (line_start true) ≡ 3) × (length (line_start false) ≡ 0)
 unfolding encode_utf8
 start_sizes = (refl, refl)

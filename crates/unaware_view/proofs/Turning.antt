@@ -325,6 +325,23 @@ begins_then s table c asks names i next text after h =
     (new_then (name_at names i) g.start next (began_alone asks) (ends_with_cr (chars_of (run_of asks))) (began_behind_cr asks) (is_open asks) (run_of asks) (front (room_beside (name_at names i)) (waits_of table c.own i)) text
     (front_texts (room_beside (name_at names i)) (waits_of table c.own i) (h.texts i)) (b.is_open ∙ h.looks.stands.line) b.has_chunk g.headed.heads)
 
+-- where this was given, of the leg i
+spoken : (s : Setup) (c : State) (asks : List Asked) (w : ℕ → List Chunk) (media : ℕ) (g : Answer) (i : ℕ) (next : Run) (moments : List (Option ℕ)) → g.source ≡ i → i < s.legs → (i ≡ c.own → ⊥) → length moments ≡ s.legs
+    → ((j : ℕ) → j < s.legs → (j ≡ c.own → ⊥) → since_at moments j ≡ since j (asked_more w media asks (Some g)))
+    → Then next g.begins (run_of asks) g.chunks (began_alone asks) (ends_with_cr (chars_of (run_of asks))) (began_behind_cr asks) (is_open asks)
+    → StandsFor s (remembered (record c { run = next; since = moments; asked = media + 1 }) (Some i) media) (asked_more w media asks (Some g))
+spoken s c asks w media g i next moments source below other legs since_are t = record {
+  legs = legs;
+  current = now_current s c.own asks w media g i source below other;
+  waits_since = since_are;
+  run = t.run_is;
+  utf8 = t.utf8;
+  chunk = t.chunk;
+  begun = t.begun;
+  line = t.line;
+  asked = refl;
+}
+
 pub stands_then : (s : Setup) (table : Table) (c : State) (asks : List Asked) (names : List (List ℕ)) (k : Choice) (next : Run) (text : List ℕ) (after : List Waiting) (media : ℕ) (moments : List (Option ℕ))
     → Turns s table c asks names k next text after → Notes c k media moments
     → StandsFor s (state_then c k next moments media) (asked_more (waits_of table c.own) media asks (given_of s.name (waits_of table c.own) asks k))
@@ -343,35 +360,11 @@ stands_then s table c asks names Nobody next text after media moments h n =
       asked = refl;
     }
 stands_then s table c asks names (Begins i) next text after media moments h n =
-    let st = h.looks.stands in
     let w = waits_of table c.own in
-    let t = begins_then s table c asks names i next text after h in
-    record {
-      legs = n.legs ∙ st.legs;
-      current = now_current s c.own asks w media _ i refl h.below h.other;
-      waits_since = since_is s c asks w (Begins i) media moments h.looks n;
-      run = t.run_is;
-      utf8 = t.utf8;
-      chunk = t.chunk;
-      begun = t.begun;
-      line = t.line;
-      asked = refl;
-    }
+    spoken s c asks w media _ i next moments refl h.below h.other (n.legs ∙ h.looks.stands.legs) (since_is s c asks w (Begins i) media moments h.looks n) (begins_then s table c asks names i next text after h)
 stands_then s table c asks names (GoesOn i) next text after media moments h n =
-    let st = h.looks.stands in
     let w = waits_of table c.own in
-    let t = on_then s table c asks names i next text after h in
-    record {
-      legs = n.legs ∙ st.legs;
-      current = now_current s c.own asks w media _ i (source_is s.name w asks i) h.below h.other;
-      waits_since = since_is s c asks w (GoesOn i) media moments h.looks n;
-      run = t.run_is;
-      utf8 = t.utf8;
-      chunk = t.chunk;
-      begun = t.begun;
-      line = t.line;
-      asked = refl;
-    }
+    spoken s c asks w media _ i next moments (source_is s.name w asks i) h.below h.other (n.legs ∙ h.looks.stands.legs) (since_is s c asks w (GoesOn i) media moments h.looks n) (on_then s table c asks names i next text after h)
 
 -- ---- what the calls of a turn tell
 pub notes_of : (c : State) (k : Choice) (media : ℕ) (speaker : Option ℕ) (flags : List Bool) (old moments : List (Option ℕ)) → speaker ≡ speaker_of k → flags ≡ c.waits → old ≡ c.since

@@ -13,11 +13,13 @@ ghost use Rattle.unaware_view.specs.Choices.{IsBelow, begins, choice, is_left, s
 ghost use Rattle.unaware_view.specs.Standing.{IsAsked, NoneWaits, OfAsks, StandsFor, answered, asked_now, given_now, legs_of, next_ask, own_of};
 ghost use Rattle.mixer_spec.specs.Composed.{Asked, text_given};
 ghost use Rattle.unaware_view.specs.Giving.{Gives, GivesHeaded, GivesMore, remembered, waits_of};
-ghost use Rattle.rtt_base.specs.declared.limits.TheConstants.{MOST_TEXT_OCTETS};
+ghost use Rattle.unaware_view.specs.States.{State};
+ghost use Rattle.unaware_view.specs.Insides.{state_of, IsSound};
 
 use crate::choices::{any_long, any_other, first_round, is_paused, look, note};
 use crate::labels::room_beside;
 use crate::runs::Run;
+use rtt_base::limits::MOST_TEXT_OCTETS;
 use rtt_base::{Name, NoMemory, Text};
 use slot_table::Slots;
 use std::alloc::Global;
@@ -68,11 +70,7 @@ pub struct Composer {
 }
 
 impl Model for Composer {
-    ghost use Rattle.unaware_view.specs.States.{State};
-
     ghost Value = { State };
-
-    ghost use Rattle.unaware_view.specs.Insides.{state_of, IsSound};
 
     ghost view = { state_of };
 
@@ -252,7 +250,7 @@ fn go_on(
         → GoesOn name.now run.old run.new alone behind_cr before (front MOST_TEXT_OCTETS (waits_of table own speaker)) [] text.new) }
 {
     taken.clear();
-    slots.take(own, speaker, Text::CAPACITY, taken);
+    slots.take(own, speaker, MOST_TEXT_OCTETS, taken);
     write(taken.as_slice(), name, run, text);
 }
 

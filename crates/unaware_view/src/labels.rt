@@ -3,8 +3,8 @@ ghost use Rattle.std.specs.Prelude.{◌≡◌, ◌+◌, ◌≤◌, ◌++◌, len
 ghost use Rattle.text_spec.specs.Views.{label_after};
 ghost use Rattle.mixer_spec.specs.Composed.{room_beside};
 ghost use Rattle.unaware_view.specs.Labels.{line_start};
-ghost use Rattle.rtt_base.specs.declared.limits.TheConstants.{MOST_TEXT_OCTETS};
 
+use rtt_base::limits::MOST_TEXT_OCTETS;
 use rtt_base::{Name, Text};
 
 /// How many octets the label of a name has at most besides the name.
@@ -47,5 +47,5 @@ pub(crate) fn room_beside(name: &Name) -> usize
     ensures value { result ≡ room_beside name.now }
     ensures fits { length (label_after true name.now) + result ≤ MOST_TEXT_OCTETS }
 {
-    Text::CAPACITY - (FRAME + name.len())
+    MOST_TEXT_OCTETS - (FRAME + name.len())
 }

@@ -1,5 +1,5 @@
-use Rattle.std.proofs.Common.{◌≡◌, Some, true, false, not, length, ap, ◌∙◌, arith}
-use Rattle.std.specs.Prelude.{◌==◌, ◌||◌, ◌&&◌, slice_get}
+use Rattle.std.proofs.Common.{◌≡◌, true, false, not, length, ap, ◌∙◌, arith}
+use Rattle.std.specs.Prelude.{◌==◌, ◌||◌, ◌&&◌}
 use Rattle.slot_table.proofs.Lists.{get_read}
 use Rattle.mixer_spec.specs.Rounds.{all_below}
 use Rattle.mixer_spec.specs.Table.{is_quiet, has_work}
@@ -8,9 +8,8 @@ use Rattle.mixer_turn.proofs.looks.is_done.Goals as goal
 pub returns-then-is_quiet : goal.returns-then-is_quiet
 returns-then-is_quiet c = λ s table h w.
     let i = c.args.leg in
-    let o = c.index-outlets-leg.result in
-    let g : slice_get c.args.outlets.now i ≡ Some o = get_read c.args.outlets.now i o (omega (arith, c.requires.leg, c.requires.legs)) c.index-outlets-leg.is in
-    let quiet : true ≡ is_quiet s i (table.terminals i) = c.if-is_quiet.ensures s i table (h i o g) w in
+    let g = get_read c.args.outlets.now i c.index-outlets-leg.result (omega (arith, c.requires.leg, c.requires.legs)) c.index-outlets-leg.is in
+    let quiet : true ≡ is_quiet s i (table.terminals i) = c.if-is_quiet.ensures s i table (h i c.index-outlets-leg.result g) w in
     let legs : length c.args.outlets.now ≡ s.legs = c.requires.legs ∙ w.legs in
     c.are_free_of.ensures s table h w
     ∙ (ap (λ n. all_below (λ j. (j == i) || not (has_work s j (table.terminals j) i)) n) legs ∙ ap (λ b. b && all_below (λ j. (j == i) || not (has_work s j (table.terminals j) i)) s.legs) quiet)
@@ -18,7 +17,6 @@ returns-then-is_quiet c = λ s table h w.
 pub returns-else-is_quiet : goal.returns-else-is_quiet
 returns-else-is_quiet c = λ s table h w.
     let i = c.args.leg in
-    let o = c.index-outlets-leg.result in
-    let g : slice_get c.args.outlets.now i ≡ Some o = get_read c.args.outlets.now i o (omega (arith, c.requires.leg, c.requires.legs)) c.index-outlets-leg.is in
-    let quiet : false ≡ is_quiet s i (table.terminals i) = c.if-is_quiet.ensures s i table (h i o g) w in
+    let g = get_read c.args.outlets.now i c.index-outlets-leg.result (omega (arith, c.requires.leg, c.requires.legs)) c.index-outlets-leg.is in
+    let quiet : false ≡ is_quiet s i (table.terminals i) = c.if-is_quiet.ensures s i table (h i c.index-outlets-leg.result g) w in
     c.if-is_quiet.false ∙ ap (λ b. b && all_below (λ j. (j == i) || not (has_work s j (table.terminals j) i)) s.legs) quiet

@@ -1,44 +1,31 @@
-use Rattle.std.proofs.Common.{◌≡◌, ℕ, ◌+◌, ◌<◌, suc, List, Some, length, ap, subst, sym, ◌∙◌, arith}
-use Rattle.std.specs.Prelude.{slice_get, slice_index_or}
-use Rattle.slot_table.proofs.Lists.{get_read}
-use Rattle.outlet.specs.declared.outlets.Outlet.{Outlet}
-use Rattle.mixer_turn.proofs.Looping.{Turning, next_of, one_more, all_had, whole_turn}
+use Rattle.std.proofs.Common.{◌≡◌, ℕ, ◌+◌, suc, subst, sym, ◌∙◌, arith}
+use Rattle.std.specs.Prelude.{slice_index_or}
+use Rattle.mixer_turn.proofs.Looping.{Turning, next_read, one_more, outlet_read, all_had, whole_turn}
 use Rattle.mixer_turn.proofs.turns.turn_legs.Goals as goal
-
-there : (xs : List Outlet) (i : ℕ) (d : Outlet) → i < length xs → d ≡ slice_index_or xs i d → slice_get xs i ≡ Some (slice_index_or xs i d)
-there xs i d l e = get_read xs i d l e ∙ ap Some e
 
 pub turn_leg-requires-clause-slots : goal.turn_leg-requires-clause-slots
 turn_leg-requires-clause-slots c =
-    let o : Outlet = slice_index_or c.loop-leg.outlets c.loop-leg.leg c.index-outlets-leg.result in
-    let g = there c.loop-leg.outlets c.loop-leg.leg c.index-outlets-leg.result (omega (arith, c.loop-leg-test.true, c.loop-leg.invariant.0.legs)) c.index-outlets-leg.is in
-    let k = next_of c.args.media c.loop-leg.leg c.args.outlets.now c.args.seating.now c.args.slots.now c.args.names.now c.loop-leg.outlets c.loop-leg.slots c.loop-leg.batch
-    (slice_index_or c.loop-leg.outlets c.loop-leg.leg c.index-outlets-leg.result) c.requires.outlets c.loop-leg.invariant.0 g in
+    let k = next_read c.args.media c.loop-leg.leg c.args.outlets.now c.args.seating.now c.args.slots.now c.args.names.now c.loop-leg.outlets c.loop-leg.slots c.loop-leg.batch c.index-outlets-leg.result c.requires.outlets c.loop-leg.invariant.0 (omega (arith, c.loop-leg-test.true, c.loop-leg.invariant.0.legs)) c.index-outlets-leg.is in
     c.loop-leg.invariant.0.slots ∙ sym k.all
 
 pub turn_leg-requires-clause-names : goal.turn_leg-requires-clause-names
 turn_leg-requires-clause-names c =
-    let g = there c.loop-leg.outlets c.loop-leg.leg c.index-outlets-leg.result (omega (arith, c.loop-leg-test.true, c.loop-leg.invariant.0.legs)) c.index-outlets-leg.is in
-    let k = next_of c.args.media c.loop-leg.leg c.args.outlets.now c.args.seating.now c.args.slots.now c.args.names.now c.loop-leg.outlets c.loop-leg.slots c.loop-leg.batch
-    (slice_index_or c.loop-leg.outlets c.loop-leg.leg c.index-outlets-leg.result) c.requires.outlets c.loop-leg.invariant.0 g in
+    let k = next_read c.args.media c.loop-leg.leg c.args.outlets.now c.args.seating.now c.args.slots.now c.args.names.now c.loop-leg.outlets c.loop-leg.slots c.loop-leg.batch c.index-outlets-leg.result c.requires.outlets c.loop-leg.invariant.0 (omega (arith, c.loop-leg-test.true, c.loop-leg.invariant.0.legs)) c.index-outlets-leg.is in
     c.requires.names ∙ sym k.all
 
 pub turn_leg-requires-clause-seating : goal.turn_leg-requires-clause-seating
 turn_leg-requires-clause-seating c =
-    let g = there c.loop-leg.outlets c.loop-leg.leg c.index-outlets-leg.result (omega (arith, c.loop-leg-test.true, c.loop-leg.invariant.0.legs)) c.index-outlets-leg.is in
-    let k = next_of c.args.media c.loop-leg.leg c.args.outlets.now c.args.seating.now c.args.slots.now c.args.names.now c.loop-leg.outlets c.loop-leg.slots c.loop-leg.batch
-    (slice_index_or c.loop-leg.outlets c.loop-leg.leg c.index-outlets-leg.result) c.requires.outlets c.loop-leg.invariant.0 g in
+    let k = next_read c.args.media c.loop-leg.leg c.args.outlets.now c.args.seating.now c.args.slots.now c.args.names.now c.loop-leg.outlets c.loop-leg.slots c.loop-leg.batch c.index-outlets-leg.result c.requires.outlets c.loop-leg.invariant.0 (omega (arith, c.loop-leg-test.true, c.loop-leg.invariant.0.legs)) c.index-outlets-leg.is in
     c.requires.seating ∙ sym k.all
 
 pub turn_leg-requires-clause-rises : goal.turn_leg-requires-clause-rises
 turn_leg-requires-clause-rises c =
-    let g = there c.loop-leg.outlets c.loop-leg.leg c.index-outlets-leg.result (omega (arith, c.loop-leg-test.true, c.loop-leg.invariant.0.legs)) c.index-outlets-leg.is in
-    (next_of c.args.media c.loop-leg.leg c.args.outlets.now c.args.seating.now c.args.slots.now c.args.names.now c.loop-leg.outlets c.loop-leg.slots c.loop-leg.batch
-    (slice_index_or c.loop-leg.outlets c.loop-leg.leg c.index-outlets-leg.result) c.requires.outlets c.loop-leg.invariant.0 g).next
+    let k = next_read c.args.media c.loop-leg.leg c.args.outlets.now c.args.seating.now c.args.slots.now c.args.names.now c.loop-leg.outlets c.loop-leg.slots c.loop-leg.batch c.index-outlets-leg.result c.requires.outlets c.loop-leg.invariant.0 (omega (arith, c.loop-leg-test.true, c.loop-leg.invariant.0.legs)) c.index-outlets-leg.is in
+    k.next
 
 pub loop-leg-preserved : goal.loop-leg-preserved
 loop-leg-preserved c =
-    let g = there c.loop-leg.outlets c.loop-leg.leg c.index-outlets-leg.result (omega (arith, c.loop-leg-test.true, c.loop-leg.invariant.0.legs)) c.index-outlets-leg.is in
+    let g = outlet_read c.loop-leg.outlets c.loop-leg.leg c.index-outlets-leg.result (omega (arith, c.loop-leg-test.true, c.loop-leg.invariant.0.legs)) c.index-outlets-leg.is in
     let one : suc c.loop-leg.leg ≡ c.loop-leg.leg + 1 = omega arith in (
       subst (λ (n : ℕ). Turning c.args.media n c.args.outlets.now c.args.seating.now c.args.slots.now c.args.names.now (Rattle.std.specs.Prelude.slice_set c.loop-leg.outlets c.loop-leg.leg c.turn_leg.new.outlet) c.turn_leg.new.slots c.turn_leg.new.self) one
           (one_more c.args.media c.loop-leg.leg c.args.outlets.now c.args.seating.now c.args.slots.now c.args.names.now c.loop-leg.outlets c.loop-leg.slots c.turn_leg.new.slots c.loop-leg.batch c.turn_leg.new.self

@@ -2,7 +2,7 @@ use Rattle.std.proofs.Common.{◌≡◌, ◌+◌, ◌≤◌, List, Result, Ok, E
 use Rattle.std.specs.Prelude.{All, OnErr, map}
 use Rattle.sent_log.specs.declared.terminals.Terminal.{Terminal}
 use Rattle.sent_log.specs.Insides.{IsTerminal, sending_of}
-use Rattle.sent_log.proofs.Growing.{all_same, all_still, grows_same}
+use Rattle.sent_log.proofs.Growing.{lists_same, lists_still}
 use Rattle.sent_log.proofs.Noting.{added_all, added_still}
 use Rattle.sent_log.proofs.logs.SentLog.add.Goals as goal
 
@@ -11,38 +11,30 @@ on_err (Ok x) P h = tt
 on_err (Err e) P h = h
 
 pub invariant_of-self : goal.invariant_of-self
-invariant_of-self c =
-    let i = c.self.inside in
-    all_still i.turns.items i.turns.items i.texts.items c.make_lists.new.texts.items i.terminals.items (grows_same i.turns.items) c.make_lists.ensures.grows c.self.invariant
+invariant_of-self c = lists_still c.self.inside c.make_lists.new.texts.items c.make_lists.ensures.grows c.self.invariant
 
 pub returns-in_err-make_lists-clause-err : goal.returns-in_err-make_lists-clause-err
-returns-in_err-make_lists-clause-err c =
-    let i = c.self.inside in
-    on_err _ _ (all_same i.turns.items i.turns.items i.texts.items c.make_lists.new.texts.items i.terminals.items (grows_same i.turns.items) c.make_lists.ensures.grows c.self.invariant ∙ c.self.view_is)
+returns-in_err-make_lists-clause-err c = on_err _ _ (lists_same c.self.inside _ c.make_lists.new.texts.items c.make_lists.ensures.grows c.self.invariant c.self.view_is)
 
 pub invariant_of-self-in_err-expected : goal.invariant_of-self-in_err-expected
-invariant_of-self-in_err-expected c =
-    let i = c.self.inside in
-    all_still i.turns.items i.turns.items i.texts.items c.make_lists.new.texts.items i.terminals.items (grows_same i.turns.items) c.make_lists.ensures.grows c.self.invariant
+invariant_of-self-in_err-expected c = lists_still c.self.inside c.make_lists.new.texts.items c.make_lists.ensures.grows c.self.invariant
 
 pub returns-in_err-expected-clause-err : goal.returns-in_err-expected-clause-err
-returns-in_err-expected-clause-err c =
-    let i = c.self.inside in
-    on_err _ _ (all_same i.turns.items i.turns.items i.texts.items c.make_lists.new.texts.items i.terminals.items (grows_same i.turns.items) c.make_lists.ensures.grows c.self.invariant ∙ c.self.view_is)
+returns-in_err-expected-clause-err c = on_err _ _ (lists_same c.self.inside _ c.make_lists.new.texts.items c.make_lists.ensures.grows c.self.invariant c.self.view_is)
 
 pub invariant_of-self-in_err-push : goal.invariant_of-self-in_err-push
 invariant_of-self-in_err-push c =
     let i = c.self.inside in
     let texts = c.make_lists.new.texts.items in
     subst (λ (ts : List Terminal). All (IsTerminal i.turns.items texts) ts) (sym {A = List Terminal} c.in_err-push.ensures.items)
-    (all_still i.turns.items i.turns.items i.texts.items texts i.terminals.items (grows_same i.turns.items) c.make_lists.ensures.grows c.self.invariant)
+    (lists_still i texts c.make_lists.ensures.grows c.self.invariant)
 
 pub returns-in_err-push-clause-err : goal.returns-in_err-push-clause-err
 returns-in_err-push-clause-err c =
     let i = c.self.inside in
     let texts = c.make_lists.new.texts.items in
     on_err _ _ (ap (λ (ts : List Terminal). map (sending_of i.turns.items texts) ts) c.in_err-push.ensures.items
-    ∙ (all_same i.turns.items i.turns.items i.texts.items texts i.terminals.items (grows_same i.turns.items) c.make_lists.ensures.grows c.self.invariant ∙ c.self.view_is))
+    ∙ lists_same i _ texts c.make_lists.ensures.grows c.self.invariant c.self.view_is)
 
 pub invariant_of-self-2 : goal.invariant_of-self-2
 invariant_of-self-2 c =
@@ -51,7 +43,7 @@ invariant_of-self-2 c =
     let sources = c.args.sources in
     let expected = c.in_ok-expected.expected in
     let t : Terminal = record { conf = c.args.conf; sources = sources; first = c.first_list-first.result; expected = expected; entries = c.new.result } in
-    let before = all_still i.turns.items i.turns.items i.texts.items texts i.terminals.items (grows_same i.turns.items) c.make_lists.ensures.grows c.self.invariant in
+    let before = lists_still i texts c.make_lists.ensures.grows c.self.invariant in
     let lists : t.first + length sources.items ≤ length texts = omega (arith, c.in_ok-make_lists.ensures.ok, c.len-3.ensures, sources.ok.0) in
     let as_many : length expected.items ≡ length sources.items = omega (arith, c.in_ok-expected.ensures.len, c.len-4.ensures, sources.ok.0, expected.ok.0) in
     subst (λ (ts : List Terminal). All (IsTerminal i.turns.items texts) ts) (sym {A = List Terminal} c.in_ok-push.ensures.items)
@@ -62,6 +54,6 @@ returns-clause-ok c =
     let i = c.self.inside in
     let texts = c.make_lists.new.texts.items in
     let t : Terminal = record { conf = c.args.conf; sources = c.args.sources; first = c.first_list-first.result; expected = c.in_ok-expected.expected; entries = c.new.result } in
-    let before = all_same i.turns.items i.turns.items i.texts.items texts i.terminals.items (grows_same i.turns.items) c.make_lists.ensures.grows c.self.invariant ∙ c.self.view_is in
+    let before = lists_same i _ texts c.make_lists.ensures.grows c.self.invariant c.self.view_is in
     ap (λ (ts : List Terminal). map (sending_of i.turns.items texts) ts) c.in_ok-push.ensures.items
     ∙ added_all i.turns.items texts i.terminals.items t c.args.self.now before c.new.ensures.items

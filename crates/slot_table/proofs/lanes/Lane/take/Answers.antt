@@ -9,28 +9,22 @@ use Rattle.slot_table.specs.Lanes.{Waiting, part_end}
 use Rattle.slot_table.specs.LaneInsides.{waiting_in}
 use Rattle.slot_table.specs.Standing.{Holds}
 use Rattle.slot_table.proofs.Lists.{get_read}
-use Rattle.slot_table.proofs.Holding.{bounds, part_at, end_read}
+use Rattle.slot_table.proofs.Holding.{bounds_in, part_at, end_read}
 use Rattle.slot_table.proofs.Utf8.{fetched_utf8}
 use Rattle.slot_table.proofs.Taking.{IsFront, took_front, text_front, front_within, front_read}
 use Rattle.slot_table.proofs.lanes.Lane.take.Goals as goal
 
 pub place_behind-place-requires-clause-from : goal.place_behind-place-requires-clause-from
 place_behind-place-requires-clause-from c =
-    let w = waiting_in c.self.inside in
-    let p = c.index-part.result.now in
-    let old = c.self.invariant in
-    let g = part_at w _ c.args.terminal p c.self.view_is c.requires.terminal c.index-part.ensures in
-    let b = bounds w old.taken old.listens old.waits old.holds c.args.terminal p g in
+    let b = bounds_in c.self.inside _ c.args.terminal c.index-part.result.now c.self.invariant c.self.view_is c.requires.terminal c.index-part.ensures in
     omega (arith, b.octets_in_order, b.within, c.end-all.ensures.within, ap (λ (e : Place). e.octets) c.end-all.ensures.place, c.requires.fits)
 
 pub place_behind-place-requires-clause-end : goal.place_behind-place-requires-clause-end
 place_behind-place-requires-clause-end c =
     let w = waiting_in c.self.inside in
     let p = c.index-part.result.now in
-    let old = c.self.invariant in
-    let g = part_at w _ c.args.terminal p c.self.view_is c.requires.terminal c.index-part.ensures in
     let end = end_read c.end-all.result (end_of w.chunks) c.end-end.result p c.end-end.ensures c.end-all.ensures.place in
-    let b = bounds w old.taken old.listens old.waits old.holds c.args.terminal p g in
+    let b = bounds_in c.self.inside _ c.args.terminal c.index-part.result.now c.self.invariant c.self.view_is c.requires.terminal c.index-part.ensures in
     omega (arith, b.end.chunks, ap (λ (e : Place). e.chunks) end)
 
 pub append_to-requires-clause-within : goal.append_to-requires-clause-within
@@ -41,7 +35,7 @@ append_to-requires-clause-within c =
     let g = part_at w _ c.args.terminal p c.self.view_is c.requires.terminal c.index-part.ensures in
     let end = end_read c.end-all.result (end_of w.chunks) c.end-end.result p c.end-end.ensures c.end-all.ensures.place in
     let f = front_read w.chunks p c.args.room c.end-end.result c.place_behind-place.result end c.place_behind-place.ensures.chunks c.place_behind-place.ensures.octets in
-    let b = bounds w old.taken old.listens old.waits old.holds c.args.terminal p g in
+    let b = bounds_in c.self.inside _ c.args.terminal c.index-part.result.now c.self.invariant c.self.view_is c.requires.terminal c.index-part.ensures in
     omega (arith, b.within, front_within w old.taken old.listens old.waits old.holds c.args.terminal p g c.args.room c.place_behind-place.result f)
 
 pub invariant_of-self : goal.invariant_of-self

@@ -6,17 +6,15 @@ use Rattle.slot_table.specs.Lanes.{Waiting, part_end}
 use Rattle.slot_table.specs.LaneInsides.{waiting_in}
 use Rattle.slot_table.specs.Standing.{Holds}
 use Rattle.slot_table.proofs.Lists.{get_read}
-use Rattle.slot_table.proofs.Holding.{bounds, waiting_is, part_at, end_read}
+use Rattle.slot_table.proofs.Holding.{bounds_in, waiting_is, part_at, end_read}
 use Rattle.slot_table.proofs.lanes.Lane.waiting.Goals as goal
 
 pub overflow_sub-result : goal.overflow_sub-result
 overflow_sub-result c =
     let w = waiting_in c.self.inside in
     let p = c.index-part.result.now in
-    let old = c.self.invariant in
-    let g = part_at w _ c.args.terminal p c.self.view_is c.requires c.index-part.ensures in
     let end = end_read c.end.result (end_of w.chunks) c.end-end.result p c.end-end.ensures c.end.ensures.place in
-    let b = bounds w old.taken old.listens old.waits old.holds c.args.terminal p g in
+    let b = bounds_in c.self.inside _ c.args.terminal p c.self.invariant c.self.view_is c.requires c.index-part.ensures in
     omega (arith, b.octets_in_order, ap (λ (e : Place). e.octets) end)
 
 pub returns : goal.returns
