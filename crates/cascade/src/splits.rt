@@ -1,5 +1,5 @@
 //! A recording of what a mixer sent, split into recordings of its sources.
-ghost use Rattle.std.specs.Prelude.{◌≡◌, ◌≢◌, ℕ, ◌+◌, ◌≤◌, ◌<◌, ◌^◌, List, [], ◌∷◌, length, Bool, None, Some, OnOk, IfOk, IfErr, AllPairs, slice_get};
+ghost use Rattle.std.specs.Prelude.{◌≡◌, ◌≢◌, ◌+◌, ◌≤◌, ◌<◌, ◌^◌, [], ◌∷◌, length, Bool, None, Some, OnOk, IfOk, IfErr, AllPairs, slice_get};
 ghost use Rattle.wire_spec.specs.Dump.{dump};
 ghost use Rattle.gap_tracker.specs.States.{arrival_count};
 ghost use Rattle.rtpdump_io.specs.Reading.{is_ended, to_come, source_of, SourceCalm};

@@ -1,8 +1,9 @@
 use crate::{TrunkConf, split};
 use rtpdump_io::RecordingFault;
 use rtt_base::{Bytes, NoMemory, Pts};
-use rtt_io::{Source, SteadySource};
+use rtt_io::SteadySource;
 use std::alloc::Global;
+use std::process::Abort;
 use std::test::Fail;
 use wire_spec::DumpKind;
 
@@ -46,71 +47,45 @@ fn recording(alloc: Global, records: &[&[u8]]) -> Result<Bytes, NoMemory> {
     let mut recording = Bytes::new(alloc);
     recording.append(&OPENING)?;
     for record in records {
-        recording.append(*record)?;
+        recording.append(record)?;
     }
     Ok(recording)
 }
 
-// Whether the recording is split into these, for 1001 and for 2001.
-fn splits<S: Source + Drop>(
-    alloc: Global,
-    source: S,
-    first: &[u8],
-    second: &[u8],
-) -> Result<bool, Fail> {
+// Expects that a recording is split into this one for 1001, and into an empty one for 2001.
+fn expect_split(rt: &impl Abort, alloc: Global, sent: Bytes, first: Bytes) -> Result<(), Fail> {
+    let source = SteadySource::new(sent);
     let (_, splits) = split(alloc, source, 9000, &[1001, 2001], CONF);
     let Ok(splits) = splits else {
-        return Ok(false);
+        panic!(rt; "the recording is not split");
     };
-    if splits.len() != 2 {
-        return Ok(false);
-    }
-    Ok(splits.recording(0) == first && splits.recording(1) == second)
+    assert!(rt; splits.len() == 2);
+    assert!(rt; splits.recording(0) == first.as_slice());
+    assert!(rt; splits.recording(1) == OPENING.as_slice());
+    Ok(())
 }
 
 #[test]
 fn each_text_is_split_off_at_its_moment(rt: HostRuntime) -> Result<(), Fail> {
     let sent = recording(rt.alloc(), &[&FIRST, &SECOND, &THIRD, &FOURTH, &FIFTH])?;
     let first = recording(rt.alloc(), &[&OF_H, &OF_E, &OF_Y])?;
-    assert!(rt;
-        splits(
-            rt.alloc(),
-            SteadySource::new(sent),
-            first.as_slice(),
-            &OPENING
-        )?
-    );
-    Ok(())
+    expect_split(&rt, rt.alloc(), sent, first)
 }
 
 #[test]
 fn texts_that_are_ready_together_go_into_one_packet(rt: HostRuntime) -> Result<(), Fail> {
     let sent = recording(rt.alloc(), &[&FIRST, &THIRD, &FOURTH, &FIFTH])?;
     let first = recording(rt.alloc(), &[&OF_H, &OF_EY])?;
-    assert!(rt;
-        splits(
-            rt.alloc(),
-            SteadySource::new(sent),
-            first.as_slice(),
-            &OPENING
-        )?
-    );
-    Ok(())
-}
-
-// Whether the recording is refused at this byte.
-fn ends_at<S: Source + Drop>(alloc: Global, source: S, offset: u64) -> bool {
-    match split(alloc, source, 9000, &[1001], CONF) {
-        (_, Err(RecordingFault::Dump(fault))) => {
-            fault.offset == offset && fault.kind == DumpKind::EndsInside
-        }
-        _ => false,
-    }
+    expect_split(&rt, rt.alloc(), sent, first)
 }
 
 #[test]
 fn a_recording_that_breaks_off_is_not_split(rt: HostRuntime) -> Result<(), Fail> {
-    let sent = recording(rt.alloc(), &[&FIRST, b"\0\x23\0"])?;
-    assert!(rt; ends_at(rt.alloc(), SteadySource::new(sent), 78));
+    let source = SteadySource::new(recording(rt.alloc(), &[&FIRST, b"\0\x23\0"])?);
+    let (_, splits) = split(rt.alloc(), source, 9000, &[1001], CONF);
+    let Err(RecordingFault::Dump(fault)) = splits else {
+        panic!(rt; "a part of the recording is split");
+    };
+    assert!(rt; fault.offset == 78 && fault.kind == DumpKind::EndsInside);
     Ok(())
 }

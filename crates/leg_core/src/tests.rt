@@ -20,25 +20,20 @@ const ANN: EarConf = EarConf {
 const OPENING: [u8; 44] = *b"#!rtpplay1.0 127.0.0.1/5004\n\0\0\0\0\0\0\0\0\x7F\0\0\x01\x13\x8C\0\0";
 
 // Records at 0, 300 and 600 ms: Ann types A, then B, then nothing, and each packet repeats the two before it.
-const FIRST: [u8; 30] =
-    *b"\0\x1E\0\x16\0\0\0\0\x80\xE4\0\0\0\0\0\0\0\0\x03\xE9\xE2\xFF\xFC\0\xE2\xFF\xFC\0\x62A";
-
-const SECOND: [u8; 31] =
-    *b"\0\x1F\0\x17\0\0\x01\x2C\x80\x64\0\x01\0\0\x01\x2C\0\0\x03\xE9\xE2\xFF\xFC\0\xE2\x04\xB0\x01\x62AB";
-
-const THIRD: [u8; 31] =
-    *b"\0\x1F\0\x17\0\0\x02\x58\x80\x64\0\x02\0\0\x02\x58\0\0\x03\xE9\xE2\x09\x60\x01\xE2\x04\xB0\x01\x62AB";
+const LETTERS: [u8; 92] =
+    *b"\0\x1E\0\x16\0\0\0\0\x80\xE4\0\0\0\0\0\0\0\0\x03\xE9\xE2\xFF\xFC\0\xE2\xFF\xFC\0\x62A\
+    \0\x1F\0\x17\0\0\x01\x2C\x80\x64\0\x01\0\0\x01\x2C\0\0\x03\xE9\xE2\xFF\xFC\0\xE2\x04\xB0\x01\x62AB\
+    \0\x1F\0\x17\0\0\x02\x58\x80\x64\0\x02\0\0\x02\x58\0\0\x03\xE9\xE2\x09\x60\x01\xE2\x04\xB0\x01\x62AB";
 
 // A record at 1500 ms: the sixth packet, C, which repeats two without text.
 const SIXTH: [u8; 30] =
     *b"\0\x1E\0\x16\0\0\x05\xDC\x80\x64\0\x05\0\0\x05\xDC\0\0\x03\xE9\xE2\x09\x60\0\xE2\x04\xB0\0\x62C";
 
-fn recording(alloc: Global, first: &[u8], second: &[u8], third: &[u8]) -> Result<Bytes, NoMemory> {
+fn recording(alloc: Global, first: &[u8], rest: &[u8]) -> Result<Bytes, NoMemory> {
     let mut recording = Bytes::new(alloc);
     recording.append(&OPENING)?;
     recording.append(first)?;
-    recording.append(second)?;
-    recording.append(third)?;
+    recording.append(rest)?;
     Ok(recording)
 }
 
@@ -59,7 +54,7 @@ fn is_said(chunk: &Chunk, text: &[u8], ready: u64) -> bool {
 
 #[test]
 fn each_text_comes_at_its_moment(rt: HostRuntime) -> Result<(), Fail> {
-    let recording = recording(rt.alloc(), &FIRST, &SECOND, &THIRD)?;
+    let recording = recording(rt.alloc(), &LETTERS, b"")?;
     let mut leg = ann(rt.alloc(), recording, 4194304)?;
     let mut chunk = Chunk::default();
     assert!(rt; leg.step(&mut chunk) == Ok(LegStep::Chunk));
@@ -74,7 +69,7 @@ fn each_text_comes_at_its_moment(rt: HostRuntime) -> Result<(), Fail> {
 
 #[test]
 fn a_repeated_text_waits_for_the_lost_packet(rt: HostRuntime) -> Result<(), Fail> {
-    let recording = recording(rt.alloc(), &FIRST, &THIRD, b"")?;
+    let recording = recording(rt.alloc(), &LETTERS[..30], &LETTERS[61..])?;
     let mut leg = ann(rt.alloc(), recording, 4194304)?;
     let mut chunk = Chunk::default();
     assert!(rt; leg.step(&mut chunk) == Ok(LegStep::Chunk));
@@ -87,7 +82,7 @@ fn a_repeated_text_waits_for_the_lost_packet(rt: HostRuntime) -> Result<(), Fail
 
 #[test]
 fn a_marker_stands_where_text_is_missing(rt: HostRuntime) -> Result<(), Fail> {
-    let recording = recording(rt.alloc(), &FIRST, &SIXTH, b"")?;
+    let recording = recording(rt.alloc(), &LETTERS[..30], &SIXTH)?;
     let mut leg = ann(rt.alloc(), recording, 4194304)?;
     let mut chunk = Chunk::default();
     assert!(rt; leg.step(&mut chunk) == Ok(LegStep::Chunk));
@@ -101,7 +96,7 @@ fn a_marker_stands_where_text_is_missing(rt: HostRuntime) -> Result<(), Fail> {
 
 #[test]
 fn a_recording_over_the_limit_ends_in_a_fault(rt: HostRuntime) -> Result<(), Fail> {
-    let recording = recording(rt.alloc(), &FIRST, &SECOND, &THIRD)?;
+    let recording = recording(rt.alloc(), &LETTERS, b"")?;
     let mut leg = ann(rt.alloc(), recording, 80)?;
     let mut chunk = Chunk::default();
     assert!(rt; leg.step(&mut chunk) == Ok(LegStep::Chunk));

@@ -1,5 +1,5 @@
 //! Octets that are read block by block.
-ghost use Rattle.std.specs.Prelude.{◌≡◌, ℕ, ◌<◌, ◌≤◌, ◌+◌, [], ◌++◌, length, take, drop, min, Ok, None, true, false, OnOk, OnErr, IfOk, option_to_list};
+ghost use Rattle.std.specs.Prelude.{◌≡◌, ℕ, ◌<◌, ◌≤◌, ◌+◌, [], ◌++◌, length, take, drop, min, Ok, None, true, false, IfOk, option_to_list};
 ghost use Rattle.rtt_base.specs.declared.limits.TheConstants.{MOST_PACKET_OCTETS};
 
 use rtt_base::{Failed, Packet};
@@ -18,8 +18,7 @@ pub(crate) struct Input<S> {
 }
 
 impl<S: Source> Input<S> {
-    ghost use Rattle.rtt_io.specs.Counts.{Rose};
-    ghost use Rattle.rtpdump_io.specs.Input.{held, unread, IsAtEnd, HandsOut, PassesOver};
+    ghost use Rattle.rtpdump_io.specs.Input.{held, unread, CountsFaults, IsAtEnd, HandsOut, PassesOver};
 
     pub fn new(source: S) -> Input<S>
         ensures source { result.source ≡ source }
@@ -63,10 +62,7 @@ impl<S: Source> Input<S> {
 
     // Reads a block where none is left. The octets that stand in the block are none only at the end.
     fn fill(&mut self) -> Result<(), Failed>
-        ensures never_falls { S.faults self.old.source ≤ S.faults self.new.source }
-        ensures failed { OnErr result (Rose (S.faults self.old.source) (S.faults self.new.source)) }
-        ensures calm { OnOk result (S.faults self.new.source ≡ S.faults self.old.source) }
-        ensures same_name { S.name self.new.source ≡ S.name self.old.source }
+        ensures counts { CountsFaults S.faults S.name self.old.source self.new.source result }
         ensures unread { S.tells → unread S.left self.new ≡ unread S.left self.old }
         ensures ended { S.tells → result ≡ Ok tt → held self.new ≡ [] → IsAtEnd S.left self.old }
     {
@@ -94,10 +90,7 @@ impl<S: Source> Input<S> {
 
     /// The next octet, or none at the end.
     pub fn octet(&mut self) -> Result<Option<u8>, Failed>
-        ensures never_falls { S.faults self.old.source ≤ S.faults self.new.source }
-        ensures failed { OnErr result (Rose (S.faults self.old.source) (S.faults self.new.source)) }
-        ensures calm { OnOk result (S.faults self.new.source ≡ S.faults self.old.source) }
-        ensures same_name { S.name self.new.source ≡ S.name self.old.source }
+        ensures counts { CountsFaults S.faults S.name self.old.source self.new.source result }
         ensures given { S.tells → IfOk result (λ octet. HandsOut S.left self.old self.new (option_to_list octet)) }
         ensures ended { S.tells → result ≡ Ok None → IsAtEnd S.left self.new }
     {
@@ -113,10 +106,7 @@ impl<S: Source> Input<S> {
     #[inline(always)]
     pub fn read_full(&mut self, buf: &mut [u8]) -> Result<usize, Failed>
         ensures fits { IfOk result (λ number. number ≤ length buf.new) }
-        ensures never_falls { S.faults self.old.source ≤ S.faults self.new.source }
-        ensures failed { OnErr result (Rose (S.faults self.old.source) (S.faults self.new.source)) }
-        ensures calm { OnOk result (S.faults self.new.source ≡ S.faults self.old.source) }
-        ensures same_name { S.name self.new.source ≡ S.name self.old.source }
+        ensures counts { CountsFaults S.faults S.name self.old.source self.new.source result }
         ensures given { S.tells → IfOk result (λ number. HandsOut S.left self.old self.new (take number buf.new)) }
         ensures ended { S.tells → IfOk result (λ number. number < length buf.new → IsAtEnd S.left self.new) }
     {
@@ -130,10 +120,7 @@ impl<S: Source> Input<S> {
     #[inline(never)]
     fn read_parts(&mut self, buf: &mut [u8]) -> Result<usize, Failed>
         ensures fits { IfOk result (λ number. number ≤ length buf.new) }
-        ensures never_falls { S.faults self.old.source ≤ S.faults self.new.source }
-        ensures failed { OnErr result (Rose (S.faults self.old.source) (S.faults self.new.source)) }
-        ensures calm { OnOk result (S.faults self.new.source ≡ S.faults self.old.source) }
-        ensures same_name { S.name self.new.source ≡ S.name self.old.source }
+        ensures counts { CountsFaults S.faults S.name self.old.source self.new.source result }
         ensures given { S.tells → IfOk result (λ number. HandsOut S.left self.old self.new (take number buf.new)) }
         ensures ended { S.tells → IfOk result (λ number. number < length buf.new → IsAtEnd S.left self.new) }
     {
@@ -151,10 +138,7 @@ impl<S: Source> Input<S> {
 
     /// Passes over so many octets, and answers whether all of them were there.
     pub fn pass(&mut self, count: usize) -> Result<bool, Failed>
-        ensures never_falls { S.faults self.old.source ≤ S.faults self.new.source }
-        ensures failed { OnErr result (Rose (S.faults self.old.source) (S.faults self.new.source)) }
-        ensures calm { OnOk result (S.faults self.new.source ≡ S.faults self.old.source) }
-        ensures same_name { S.name self.new.source ≡ S.name self.old.source }
+        ensures counts { CountsFaults S.faults S.name self.old.source self.new.source result }
         ensures there { S.tells → result ≡ Ok true → PassesOver S.left self.old self.new count }
         ensures missing { S.tells → result ≡ Ok false → length (unread S.left self.old) < count }
     {
@@ -175,10 +159,7 @@ impl<S: Source> Input<S> {
     /// them in the block.
     pub fn copy(&mut self, count: usize, out: &mut Packet) -> Result<bool, Failed>
         requires { length out.old + count ≤ MOST_PACKET_OCTETS }
-        ensures never_falls { S.faults self.old.source ≤ S.faults self.new.source }
-        ensures failed { OnErr result (Rose (S.faults self.old.source) (S.faults self.new.source)) }
-        ensures calm { OnOk result (S.faults self.new.source ≡ S.faults self.old.source) }
-        ensures same_name { S.name self.new.source ≡ S.name self.old.source }
+        ensures counts { CountsFaults S.faults S.name self.old.source self.new.source result }
         ensures there { S.tells → result ≡ Ok true → PassesOver S.left self.old self.new count }
         ensures copied { S.tells → result ≡ Ok true → out.new ≡ out.old ++ take count (unread S.left self.old) }
         ensures missing { S.tells → result ≡ Ok false → length (unread S.left self.old) < count }
@@ -195,10 +176,7 @@ impl<S: Source> Input<S> {
     #[inline(never)]
     fn copy_parts(&mut self, count: usize, out: &mut Packet) -> Result<bool, Failed>
         requires { length out.old + count ≤ MOST_PACKET_OCTETS }
-        ensures never_falls { S.faults self.old.source ≤ S.faults self.new.source }
-        ensures failed { OnErr result (Rose (S.faults self.old.source) (S.faults self.new.source)) }
-        ensures calm { OnOk result (S.faults self.new.source ≡ S.faults self.old.source) }
-        ensures same_name { S.name self.new.source ≡ S.name self.old.source }
+        ensures counts { CountsFaults S.faults S.name self.old.source self.new.source result }
         ensures there { S.tells → result ≡ Ok true → PassesOver S.left self.old self.new count }
         ensures copied { S.tells → result ≡ Ok true → out.new ≡ out.old ++ take count (unread S.left self.old) }
         ensures missing { S.tells → result ≡ Ok false → length (unread S.left self.old) < count }

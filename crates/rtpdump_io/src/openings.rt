@@ -1,21 +1,17 @@
 //! Reading of the line with which a recording begins.
-ghost use Rattle.std.specs.Prelude.{◌≡◌, ◌≤◌, Ok, true, false, OnOk, OnErr, IfOk, IfSome};
+ghost use Rattle.std.specs.Prelude.{◌≡◌, ◌≤◌, Ok, true, false, IfOk, IfSome};
 
 use crate::inputs::Input;
 use rtt_base::Failed;
 use rtt_io::Source;
 
 impl<S: Source> Input<S> {
-    ghost use Rattle.rtt_io.specs.Counts.{Rose};
-    ghost use Rattle.rtpdump_io.specs.Input.{HandsOut};
+    ghost use Rattle.rtpdump_io.specs.Input.{CountsFaults, HandsOut};
     ghost use Rattle.rtpdump_io.specs.Line.{BeginsOtherwise, IsPastLine, IsLessBy};
 
     /// Whether these octets come next. They are passed over, or some of them.
     pub fn begins_with(&mut self, expected: &[u8]) -> Result<bool, Failed>
-        ensures never_falls { S.faults self.old.source ≤ S.faults self.new.source }
-        ensures failed { OnErr result (Rose (S.faults self.old.source) (S.faults self.new.source)) }
-        ensures calm { OnOk result (S.faults self.new.source ≡ S.faults self.old.source) }
-        ensures same_name { S.name self.new.source ≡ S.name self.old.source }
+        ensures counts { CountsFaults S.faults S.name self.old.source self.new.source result }
         ensures yes { S.tells → result ≡ Ok true → HandsOut S.left self.old self.new expected.now }
         ensures no { S.tells → result ≡ Ok false → BeginsOtherwise S.left self.old expected.now }
     {
@@ -30,10 +26,7 @@ impl<S: Source> Input<S> {
 
     /// Passes over the first line feed among so many octets, and answers how many octets that were.
     pub fn past_line(&mut self, most: u8) -> Result<Option<u8>, Failed>
-        ensures never_falls { S.faults self.old.source ≤ S.faults self.new.source }
-        ensures failed { OnErr result (Rose (S.faults self.old.source) (S.faults self.new.source)) }
-        ensures calm { OnOk result (S.faults self.new.source ≡ S.faults self.old.source) }
-        ensures same_name { S.name self.new.source ≡ S.name self.old.source }
+        ensures counts { CountsFaults S.faults S.name self.old.source self.new.source result }
         ensures fits { IfOk result (λ line. IfSome line (λ number. number ≤ most)) }
         ensures line { S.tells → IfOk result (λ line. IsPastLine S.left self.old self.new most line) }
         ensures number { S.tells → IfOk result (λ line. IsLessBy S.left self.old self.new line) }

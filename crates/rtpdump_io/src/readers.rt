@@ -43,7 +43,7 @@ impl<S: Source> DumpReader<S> {
     ghost use Rattle.rtpdump_io.specs.Steps.{OnFound, OnRecord, IsOfRecording, Opens, IsReady, Finds, Comes};
     ghost use Rattle.rtpdump_io.specs.Heads.{body_size, kept_size};
     ghost use Rattle.rtpdump_io.specs.Entries.{GivesEntry, HandsOutRtcp, entries_to_come, EntriesCome, EntriesReady};
-    ghost use Rattle.rtpdump_io.specs.Input.{PassesOver};
+    ghost use Rattle.rtpdump_io.specs.Input.{CountsFaults, PassesOver};
 
     /// A reader of a recording of at most 4194304 octets, from its first octet on. It takes no memory.
     pub fn new(source: S) -> DumpReader<S>
@@ -188,10 +188,7 @@ impl<S: Source> DumpReader<S> {
         ensures ready { OnFound result (self.new.stage ≡ Stage.Records) }
         ensures not_ended { is_ended self.new ≡ false }
         ensures nearer { OnRecord result (most_answers self.new < most_answers self.old) }
-        ensures failed { OnErr result (SourceFailed S.faults self.old self.new) }
-        ensures never_falls { S.faults (source_of self.old) ≤ S.faults (source_of self.new) }
-        ensures calm { OnOk result (SourceCalm S.faults self.old self.new) }
-        ensures same_name { S.name (source_of self.new) ≡ S.name (source_of self.old) }
+        ensures counts { CountsFaults S.faults S.name (source_of self.old) (source_of self.new) result }
     {
         if let Err(kind) = self.make_ready()? {
             return Ok(Err(kind));
@@ -212,10 +209,7 @@ impl<S: Source> DumpReader<S> {
         ensures not_farther { OnFound result (most_answers self.new ≤ most_answers self.old) }
         ensures not_read { IsOfRecording result }
         ensures not_ended { is_ended self.new ≡ false }
-        ensures failed { OnErr result (SourceFailed S.faults self.old self.new) }
-        ensures never_falls { S.faults (source_of self.old) ≤ S.faults (source_of self.new) }
-        ensures calm { OnOk result (SourceCalm S.faults self.old self.new) }
-        ensures same_name { S.name (source_of self.new) ≡ S.name (source_of self.old) }
+        ensures counts { CountsFaults S.faults S.name (source_of self.old) (source_of self.new) result }
     {
         match self.stage {
             Stage::Opening => {
@@ -238,10 +232,7 @@ impl<S: Source> DumpReader<S> {
         ensures not_read { IsOfRecording result }
         ensures same_limit { self.new.limit ≡ self.old.limit }
         ensures same_stage { self.new.stage ≡ self.old.stage }
-        ensures failed { OnErr result (SourceFailed S.faults self.old self.new) }
-        ensures never_falls { S.faults (source_of self.old) ≤ S.faults (source_of self.new) }
-        ensures calm { OnOk result (SourceCalm S.faults self.old self.new) }
-        ensures same_name { S.name (source_of self.new) ≡ S.name (source_of self.old) }
+        ensures counts { CountsFaults S.faults S.name (source_of self.old) (source_of self.new) result }
     {
         self.offset = 0;
         if !self.input.begins_with(b"#!rtpplay1.0 ")? {
@@ -273,10 +264,7 @@ impl<S: Source> DumpReader<S> {
         ensures not_read { IsOfRecording result }
         ensures same_limit { self.new.limit ≡ self.old.limit }
         ensures same_stage { self.new.stage ≡ self.old.stage }
-        ensures failed { OnErr result (SourceFailed S.faults self.old self.new) }
-        ensures never_falls { S.faults (source_of self.old) ≤ S.faults (source_of self.new) }
-        ensures calm { OnOk result (SourceCalm S.faults self.old self.new) }
-        ensures same_name { S.name (source_of self.new) ≡ S.name (source_of self.old) }
+        ensures counts { CountsFaults S.faults S.name (source_of self.old) (source_of self.new) result }
     {
         let mut octets = [0; 8];
         let number = self.input.read_full(&mut octets)?;
@@ -314,10 +302,7 @@ impl<S: Source> DumpReader<S> {
         ensures same_offset { self.new.offset ≡ self.old.offset }
         ensures same_limit { self.new.limit ≡ self.old.limit }
         ensures same_stage { self.new.stage ≡ self.old.stage }
-        ensures failed { OnErr result (SourceFailed S.faults self.old self.new) }
-        ensures never_falls { S.faults (source_of self.old) ≤ S.faults (source_of self.new) }
-        ensures calm { OnOk result (SourceCalm S.faults self.old self.new) }
-        ensures same_name { S.name (source_of self.new) ≡ S.name (source_of self.old) }
+        ensures counts { CountsFaults S.faults S.name (source_of self.old) (source_of self.new) result }
     {
         let size = usize::from(head.size - 8);
         let kept = head.kept(with_rtcp);

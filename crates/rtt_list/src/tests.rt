@@ -3,6 +3,7 @@ use rtpdump_io::{DumpFault, DumpReader, RecordingFault};
 use rtt_base::{Bytes, NoMemory, Path, Pts};
 use rtt_io::{MemSource, Source, SteadySource};
 use std::alloc::Global;
+use std::process::Abort;
 use std::test::Fail;
 use wire_spec::DumpKind;
 
@@ -42,27 +43,26 @@ fn append_part(recording: &mut Bytes, at: u32, size: u16, part: &[u8]) -> Result
     recording.append(part)
 }
 
-// Whether these lines are listed of a source.
-fn lists<S: Source + Drop>(alloc: Global, source: S, pts: Pts, lines: &str) -> Result<bool, Fail> {
-    let mut reader = DumpReader::new(source);
+// Expects that these lines are listed of a recording.
+fn expect_lines(rt: &impl Abort, alloc: Global, recording: Bytes, pts: Pts, lines: &str) {
+    let mut reader = DumpReader::new(SteadySource::new(recording));
     match list_records(alloc, &mut reader, pts) {
-        Ok(listed) => Ok(listed.as_slice() == lines.as_bytes()),
-        Err(_) => Ok(false),
+        Ok(listed) => assert!(rt; listed.as_slice() == lines.as_bytes()),
+        Err(_) => panic!(rt; "the recording is not listed"),
     }
 }
 
-// Whether a source is listed up to this fault.
-fn ends_at<S: Source + Drop>(
+// Expects that a source is listed up to this fault.
+fn expect_fault<S: Source + Drop>(
+    rt: &impl Abort,
     alloc: Global,
     source: S,
     offset: u64,
     kind: DumpKind,
-) -> Result<bool, Fail> {
+) {
     let mut reader = DumpReader::new(source);
-    match list_records(alloc, &mut reader, USUAL) {
-        Err(RecordingFault::Dump(fault)) => Ok(fault == DumpFault { offset, kind }),
-        _ => Ok(false),
-    }
+    let answer = list_records(alloc, &mut reader, USUAL);
+    assert!(rt; answer.err() == Some(RecordingFault::Dump(DumpFault { offset, kind })));
 }
 
 #[test]
@@ -80,18 +80,12 @@ fn packets_of_text_are_listed(rt: HostRuntime) -> Result<(), Fail> {
         b"\x81\x62\0\0\0\0\0\0\0\0\x03\xE9\0\0\0\x07A",
     )?;
     append_packet(&mut recording, 0, &NINE_BLOCKS)?;
-    assert!(rt;
-        lists(
-            rt.alloc(),
-            SteadySource::new(recording),
-            USUAL,
-            "0 0 mark 0 stamp 0 ssrc 1001 source 1001 texts 1\n\
-            0 0 mark 0 stamp 0 ssrc 1001 source 1001 texts 1\n\
-            0 0 mark 0 stamp 0 ssrc 1001 source 7 texts 1\n\
-            0 0 mark 0 stamp 0 ssrc 1001 source 1001 texts 0 0 0 0 0 0 0 0 1\n\
-            -- records 4\n"
-        )?
-    );
+    let lines = "0 0 mark 0 stamp 0 ssrc 1001 source 1001 texts 1\n\
+        0 0 mark 0 stamp 0 ssrc 1001 source 1001 texts 1\n\
+        0 0 mark 0 stamp 0 ssrc 1001 source 7 texts 1\n\
+        0 0 mark 0 stamp 0 ssrc 1001 source 1001 texts 0 0 0 0 0 0 0 0 1\n\
+        -- records 4\n";
+    expect_lines(&rt, rt.alloc(), recording, USUAL, lines);
     Ok(())
 }
 
@@ -113,17 +107,11 @@ fn a_packet_is_listed_with_all_its_fields(rt: HostRuntime) -> Result<(), Fail> {
         14400000,
         b"\x81\xE2\xFF\xFF\xFF\xFF\xFF\xFF\xFF\xFF\xFF\xFE\xFF\xFF\xFF\xFF\xE2\x82\xAC",
     )?;
-    assert!(rt;
-        lists(
-            rt.alloc(),
-            SteadySource::new(recording),
-            USUAL,
-            "0 0 mark 1 stamp 0 ssrc 1001 source 1001 texts 0 0 1\n\
-            300 1 mark 0 stamp 300 ssrc 1001 source 1001 texts 3 2 1\n\
-            14400000 65535 mark 1 stamp 4294967295 ssrc 4294967294 source 4294967295 texts 3\n\
-            -- records 3\n"
-        )?
-    );
+    let lines = "0 0 mark 1 stamp 0 ssrc 1001 source 1001 texts 0 0 1\n\
+        300 1 mark 0 stamp 300 ssrc 1001 source 1001 texts 3 2 1\n\
+        14400000 65535 mark 1 stamp 4294967295 ssrc 4294967294 source 4294967295 texts 3\n\
+        -- records 3\n";
+    expect_lines(&rt, rt.alloc(), recording, USUAL, lines);
     Ok(())
 }
 
@@ -147,15 +135,10 @@ fn refusals_are_listed_by_name(rt: HostRuntime) -> Result<(), Fail> {
         0,
         b"\x80\x64\0\0\0\0\0\0\0\0\x03\xE9\x62\xC3",
     )?;
-    assert!(rt;
-        lists(
-            rt.alloc(),
-            SteadySource::new(recording),
-            USUAL,
-            "0 refused Short\n0 refused Version\n0 refused Short\n0 refused Padding\n0 refused Sources\n\
-            0 refused WrongType\n0 refused Cut\n0 refused Many\n0 refused NotText\n-- records 9\n"
-        )?
-    );
+    let lines =
+        "0 refused Short\n0 refused Version\n0 refused Short\n0 refused Padding\n0 refused Sources\n\
+        0 refused WrongType\n0 refused Cut\n0 refused Many\n0 refused NotText\n-- records 9\n";
+    expect_lines(&rt, rt.alloc(), recording, USUAL, lines);
     Ok(())
 }
 
@@ -168,14 +151,9 @@ fn a_text_of_1024_octets_is_refused(rt: HostRuntime) -> Result<(), Fail> {
     append_packet(&mut recording, 7, packet.as_slice())?;
     packet.push(0x41)?;
     append_packet(&mut recording, 8, packet.as_slice())?;
-    assert!(rt;
-        lists(
-            rt.alloc(),
-            SteadySource::new(recording),
-            USUAL,
-            "7 0 mark 0 stamp 0 ssrc 1001 source 1001 texts 1023\n8 refused Long\n-- records 2\n"
-        )?
-    );
+    let lines =
+        "7 0 mark 0 stamp 0 ssrc 1001 source 1001 texts 1023\n8 refused Long\n-- records 2\n";
+    expect_lines(&rt, rt.alloc(), recording, USUAL, lines);
     Ok(())
 }
 
@@ -185,14 +163,8 @@ fn records_without_a_packet_are_listed(rt: HostRuntime) -> Result<(), Fail> {
     append_part(&mut recording, 1, 0, &[7; 4])?;
     append_part(&mut recording, 2, 13, &[7; 12])?;
     append_part(&mut recording, 3, 4225, &[7; 4225])?;
-    assert!(rt;
-        lists(
-            rt.alloc(),
-            SteadySource::new(recording),
-            USUAL,
-            "1 rtcp\n2 cut\n3 large\n-- records 3\n"
-        )?
-    );
+    let lines = "1 rtcp\n2 cut\n3 large\n-- records 3\n";
+    expect_lines(&rt, rt.alloc(), recording, USUAL, lines);
     Ok(())
 }
 
@@ -201,28 +173,17 @@ fn other_payload_types_are_listed(rt: HostRuntime) -> Result<(), Fail> {
     let mut recording = opening(rt.alloc())?;
     append_packet(&mut recording, 0, b"\x80\x60\0\0\0\0\0\0\0\0\x03\xE9A")?;
     append_packet(&mut recording, 0, b"\x80\x62\0\0\0\0\0\0\0\0\x03\xE9A")?;
-    assert!(rt;
-        lists(
-            rt.alloc(),
-            SteadySource::new(recording),
-            Pts { t140: 96, red: 97 },
-            "0 0 mark 0 stamp 0 ssrc 1001 source 1001 texts 1\n0 refused WrongType\n-- records 2\n"
-        )?
-    );
+    let types = Pts { t140: 96, red: 97 };
+    let lines =
+        "0 0 mark 0 stamp 0 ssrc 1001 source 1001 texts 1\n0 refused WrongType\n-- records 2\n";
+    expect_lines(&rt, rt.alloc(), recording, types, lines);
     Ok(())
 }
 
 #[test]
 fn an_empty_recording_has_one_line(rt: HostRuntime) -> Result<(), Fail> {
     let recording = opening(rt.alloc())?;
-    assert!(rt;
-        lists(
-            rt.alloc(),
-            SteadySource::new(recording),
-            USUAL,
-            "-- records 0\n"
-        )?
-    );
+    expect_lines(&rt, rt.alloc(), recording, USUAL, "-- records 0\n");
     Ok(())
 }
 
@@ -231,14 +192,8 @@ fn a_recording_that_ends_inside_a_record_is_refused(rt: HostRuntime) -> Result<(
     let mut recording = opening(rt.alloc())?;
     append_part(&mut recording, 0, 0, &[7; 4])?;
     recording.append(b"\0\x0C\0")?;
-    assert!(rt;
-        ends_at(
-            rt.alloc(),
-            SteadySource::new(recording),
-            56,
-            DumpKind::EndsInside
-        )?
-    );
+    let source = SteadySource::new(recording);
+    expect_fault(&rt, rt.alloc(), source, 56, DumpKind::EndsInside);
     Ok(())
 }
 
@@ -250,6 +205,6 @@ fn a_read_that_fails_between_two_records_is_told(rt: HostRuntime) -> Result<(), 
     let mut source = MemSource::new(rt.alloc(), Path::from_text(rt.alloc(), "a.rtp")?, recording);
     source.set_step(4);
     source.fail_at(15)?;
-    assert!(rt; ends_at(rt.alloc(), source, 56, DumpKind::Read)?);
+    expect_fault(&rt, rt.alloc(), source, 56, DumpKind::Read);
     Ok(())
 }

@@ -1,9 +1,9 @@
 //! Sends frames.
-ghost use Rattle.std.specs.Prelude.{◌≡◌, Ok, None, IfOk, IfErr, length};
+ghost use Rattle.std.specs.Prelude.{◌≡◌, Ok, None, IfOk, IfErr};
 ghost use Rattle.frame_spec.specs.Frames.{read_frames};
 ghost use Rattle.frame_spec.specs.declared.frames.FrameFault.{FrameFault};
 ghost use Rattle.text_sender.specs.Confs.{IsConf};
-ghost use Rattle.command_spec.specs.Frames.{AreTyped, lines_of, relay};
+ghost use Rattle.command_spec.specs.Frames.{lines_of, relay};
 ghost use Rattle.rtt_send.specs.Scripts.{sending_of};
 ghost use Rattle.rtt_relay.specs.Answers.{IsFrameCause, IsRelayCause};
 

@@ -1,9 +1,10 @@
 use crate::script_recording;
 use command_spec::ReadRequest;
-use rtpdump_io::{DumpFault, DumpReader, RecordingFault};
+use rtpdump_io::{DumpReader, RecordingFault};
 use rtt_base::{Bytes, NoMemory, Pts};
-use rtt_io::{Source, SteadySource};
+use rtt_io::SteadySource;
 use std::alloc::Global;
+use std::process::Abort;
 use std::test::Fail;
 use wire_spec::DumpKind;
 
@@ -25,41 +26,34 @@ const ANN_MIXED: ReadRequest = ReadRequest {
 // The line and the head of a recording.
 const OPENING: [u8; 44] = *b"#!rtpplay1.0 127.0.0.1/5004\n\0\0\0\0\0\0\0\0\x7F\0\0\x01\x13\x8C\0\0";
 
-fn recording(alloc: Global, records: &[&[u8]]) -> Result<Bytes, NoMemory> {
+// What is printed of a recording with these records.
+fn printed(
+    alloc: Global,
+    records: &[&[u8]],
+    conf: ReadRequest,
+) -> Result<Result<Bytes, RecordingFault>, NoMemory> {
     let mut recording = Bytes::new(alloc);
     recording.append(&OPENING)?;
     for record in records {
         recording.append(record)?;
     }
-    Ok(recording)
+    let mut reader = DumpReader::new(SteadySource::new(recording));
+    Ok(script_recording(alloc, &mut reader, conf))
 }
 
-// Whether this is printed.
-fn prints<S: Source + Drop>(
+// Expects that this is printed of a recording with these records.
+fn expect_printed(
+    rt: &impl Abort,
     alloc: Global,
-    source: S,
+    records: &[&[u8]],
     conf: ReadRequest,
     text: &str,
-) -> Result<bool, Fail> {
-    let mut reader = DumpReader::new(source);
-    match script_recording(alloc, &mut reader, conf) {
-        Ok(printed) => Ok(printed.as_slice() == text.as_bytes()),
-        Err(_) => Ok(false),
+) -> Result<(), Fail> {
+    match printed(alloc, records, conf)? {
+        Ok(printed) => assert!(rt; printed.as_slice() == text.as_bytes()),
+        Err(_) => panic!(rt; "the recording is not printed"),
     }
-}
-
-// Whether nothing is printed for this fault.
-fn ends_at<S: Source + Drop>(
-    alloc: Global,
-    source: S,
-    offset: u64,
-    kind: DumpKind,
-) -> Result<bool, Fail> {
-    let mut reader = DumpReader::new(source);
-    match script_recording(alloc, &mut reader, ANN) {
-        Err(RecordingFault::Dump(fault)) => Ok(fault == DumpFault { offset, kind }),
-        _ => Ok(false),
-    }
+    Ok(())
 }
 
 // Ann types A, and B 300 ms later; each packet repeats the two texts before it.
@@ -77,9 +71,7 @@ fn each_text_has_its_moment(rt: HostRuntime) -> Result<(), Fail> {
         b"\0\x1F\0\x17\0\0\x02\x58\x80\x64\0\x02\0\0\x02\x58\0\0\x03\xE9\xE2\x09\x60\x01\xE2\x04\xB0\x01\x62AB",
         b"\0\x1E\0\x16\0\0\x03\x84\x80\x64\0\x03\0\0\x03\x84\0\0\x03\xE9\xE2\x09\x60\x01\xE2\x04\xB0\0\x62B",
     ];
-    let source = SteadySource::new(recording(rt.alloc(), &records)?);
-    assert!(rt; prints(rt.alloc(), source, ANN, "0 A\n300 B\n")?);
-    Ok(())
+    expect_printed(&rt, rt.alloc(), &records, ANN, "0 A\n300 B\n")
 }
 
 #[test]
@@ -91,9 +83,13 @@ fn a_text_behind_a_gap_is_late(rt: HostRuntime) -> Result<(), Fail> {
         b"\0\x26\0\x1E\0\0\x03\x84\x81\x64\0\x67\0\0\x17\x0C\0\0\x23\x28\0\0\x03\xE9\xE2\x09\x60\x01\xE2\x04\xB0\x04\x62ey\xE2\x80\xA8",
         b"\0\x25\0\x1D\0\0\x04\xB0\x81\x64\0\x68\0\0\x18\x38\0\0\x23\x28\0\0\x03\xE9\xE2\x09\x60\x04\xE2\x04\xB0\0\x62y\xE2\x80\xA8",
     ];
-    let source = SteadySource::new(recording(rt.alloc(), &records)?);
-    assert!(rt; prints(rt.alloc(), source, ANN_MIXED, "0 H\n1600 e\n1600 y\\n\n")?);
-    Ok(())
+    expect_printed(
+        &rt,
+        rt.alloc(),
+        &records,
+        ANN_MIXED,
+        "0 H\n1600 e\n1600 y\\n\n",
+    )
 }
 
 #[test]
@@ -104,16 +100,8 @@ fn what_a_screen_obeys_is_escaped(rt: HostRuntime) -> Result<(), Fail> {
         b"\0\x17\0\x0F\0\0\x01\x2C\x80\x62\0\x01\0\0\x01\x2C\0\0\x03\xE9\xEF\xBB\xBF",
         b"\0\x19\0\x11\0\0\x02\x58\x80\x62\0\x02\0\0\x02\x58\0\0\x03\xE9\xC3\xA9\xEF\xBF\xBD",
     ];
-    let source = SteadySource::new(recording(rt.alloc(), &records)?);
-    assert!(rt;
-        prints(
-            rt.alloc(),
-            source,
-            ANN,
-            "0 a\\nb\\n\\n\\n\\b\\a\\\\c\n600 \u{E9}\u{FFFD}\n"
-        )?
-    );
-    Ok(())
+    let text = "0 a\\nb\\n\\n\\n\\b\\a\\\\c\n600 \u{E9}\u{FFFD}\n";
+    expect_printed(&rt, rt.alloc(), &records, ANN, text)
 }
 
 #[test]
@@ -122,14 +110,15 @@ fn a_cr_and_the_lf_of_the_next_text_are_two_new_lines(rt: HostRuntime) -> Result
         b"\0\x16\0\x0E\0\0\0\0\x80\x62\0\0\0\0\0\0\0\0\x03\xE9a\r",
         b"\0\x16\0\x0E\0\0\x01\x2C\x80\x62\0\x01\0\0\x01\x2C\0\0\x03\xE9\nb",
     ];
-    let source = SteadySource::new(recording(rt.alloc(), &records)?);
-    assert!(rt; prints(rt.alloc(), source, ANN, "0 a\\n\n300 \\nb\n")?);
-    Ok(())
+    expect_printed(&rt, rt.alloc(), &records, ANN, "0 a\\n\n300 \\nb\n")
 }
 
 #[test]
 fn a_recording_that_breaks_off_is_not_printed(rt: HostRuntime) -> Result<(), Fail> {
-    let source = SteadySource::new(recording(rt.alloc(), &[TYPED_A, TYPED_B, b"\0\x1F\0"])?);
-    assert!(rt; ends_at(rt.alloc(), source, 105, DumpKind::EndsInside)?);
+    let answer = printed(rt.alloc(), &[TYPED_A, TYPED_B, b"\0\x1F\0"], ANN)?;
+    let Err(RecordingFault::Dump(fault)) = answer else {
+        panic!(rt; "a part of the recording is printed");
+    };
+    assert!(rt; fault.offset == 105 && fault.kind == DumpKind::EndsInside);
     Ok(())
 }

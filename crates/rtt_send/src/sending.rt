@@ -1,5 +1,5 @@
 //! Sends the lines of a script.
-ghost use Rattle.std.specs.Prelude.{◌≡◌, ◌<◌, ◌^◌, ℕ, None, IfOk, IfErr};
+ghost use Rattle.std.specs.Prelude.{◌≡◌, ◌<◌, ◌^◌, None, IfOk, IfErr};
 ghost use Rattle.text_sender.specs.Confs.{IsConf};
 ghost use Rattle.command_spec.specs.Frames.{AreTyped};
 ghost use Rattle.command_spec.specs.Scripts.{AreLines};

@@ -207,6 +207,11 @@ none_at : (gs : List Group) (name k : ℕ) (d : Group) → list_any (λ x. x == 
 none_at gs name k d n low same =
     true≢false (sym (list_any_at (λ x. x == name) (map (λ group. group.name) gs) k d.name (omega (arith, length-map gs (λ group. group.name), low)) (ap (λ x. x == name) (name_at gs k d low ∙ same) ∙ is_name_same name)) ∙ n)
 
+-- a name that has no group was not named
+not_named : (of : Sort → Option ℕ) (limit : ℕ) (groups : Groups) (items : List Item) (name : ℕ) → None ≡ position (λ group. group.name == name) groups.groups.items → Grouped of limit groups items
+    → is_kept (named of items) name ≡ false
+not_named of limit groups items name unplaced w = ap (λ f. is_kept f name) (sym w.firsts) ∙ none_placed groups.groups.items name unplaced
+
 pub grouped_new : (of : Sort → Option ℕ) (limit : ℕ) (old new : Groups) (items : List Item) (name : ℕ) (r : ℕ × List ℕ) → IsRecord r → name < limit → of (sort_of (sent_item r)) ≡ Some name
     → None ≡ position (λ group. group.name == name) old.groups.items → length old.groups.items < MOST_SOURCES
     → new.groups.items ≡ old.groups.items ++ one_group name r ∷ [] → new.others ≡ old.others → Grouped of limit old items → Grouped of limit new (items ++ sent_item r ∷ [])
@@ -219,18 +224,12 @@ grouped_new of limit old new items name r is small e unplaced room n same w = re
     gs : List Group
     gs = old.groups.items
 
-    none : list_any (λ x. x == name) (map (λ group. group.name) gs) ≡ false
-    none = none_placed gs name unplaced
-
-    not_there : is_kept (named of items) name ≡ false
-    not_there = ap (λ f. is_kept f name) (sym w.firsts) ∙ none
-
     has_one : has_room (named of items) ≡ true
     has_one = ap has_room (sym w.firsts) ∙ (ap (λ k. nat_lt k MOST_SOURCES) (length-map gs (λ group. group.name)) ∙ (Decides-ltb (length gs) MOST_SOURCES).1 room)
 
     one_kept : with_name (named of items) name ≡ with_kept (named of items) name
     one_kept =
-        ap (λ b. cond b (named of items) (cond (has_room (named of items)) (with_kept (named of items) name) (with_other (named of items)))) not_there
+        ap (λ b. cond b (named of items) (cond (has_room (named of items)) (with_kept (named of items) name) (with_other (named of items)))) (not_named of limit old items name unplaced w)
         ∙ ap (λ b. cond b (with_kept (named of items) name) (with_other (named of items))) has_one
 
     names_are : map (λ group. group.name) new.groups.items ≡ map (λ group. group.name) gs ++ name ∷ []
@@ -246,11 +245,11 @@ grouped_new of limit old new items name r is small e unplaced room n same w = re
     each k d high = elim (cases_lt k (length gs)) [
       | inl below ↦
           subst (Holds of (items ++ sent_item r ∷ [])) (sym (get_or_append_left gs (one_group name r ∷ []) d k below))
-          (holds_passed of items (sent_item r) (get_or gs k d) (ap (is_name (get_or gs k d).name) e ∙ not_name name (get_or gs k d).name (none_at gs name k d none below)) (w.each k d below))
+          (holds_passed of items (sent_item r) (get_or gs k d) (ap (is_name (get_or gs k d).name) e ∙ not_name name (get_or gs k d).name (none_at gs name k d (none_placed gs name unplaced) below)) (w.each k d below))
       | inr over ↦
           let last : k ≡ length gs = omega (arith, over, high) in
           subst (Holds of (items ++ sent_item r ∷ [])) (sym (ap (λ j. get_or (gs ++ one_group name r ∷ []) j d) last ∙ get_or-append_seam gs (one_group name r) [] d))
-          (holds_first of items r name is e (fresh_from of (record { kept = []; others = 0 }) name items not_there has_one))
+          (holds_first of items r name is e (fresh_from of (record { kept = []; others = 0 }) name items (not_named of limit old items name unplaced w) has_one))
     ]
 
 pub grouped_other : (of : Sort → Option ℕ) (limit : ℕ) (old new : Groups) (items : List Item) (name : ℕ) (r : ℕ × List ℕ) → of (sort_of (sent_item r)) ≡ Some name
@@ -261,17 +260,11 @@ grouped_other of limit old new items name r e unplaced over n same w = record {
   below = subst (All (λ x. x < limit)) (sym (ap (map (λ group. group.name)) n)) w.below;
   each = λ k d low. subst (λ (xs : List Group). Holds of (items ++ sent_item r ∷ []) (get_or xs k d)) (sym n)
       (let below : k < length gs = omega (arith, low, ap (λ (xs : List Group). length xs) n) in
-      holds_passed of items (sent_item r) (get_or gs k d) (ap (is_name (get_or gs k d).name) e ∙ not_name name (get_or gs k d).name (none_at gs name k d none below)) (w.each k d below));
+      holds_passed of items (sent_item r) (get_or gs k d) (ap (is_name (get_or gs k d).name) e ∙ not_name name (get_or gs k d).name (none_at gs name k d (none_placed gs name unplaced) below)) (w.each k d below));
 }
   where
     gs : List Group
     gs = old.groups.items
-
-    none : list_any (λ x. x == name) (map (λ group. group.name) gs) ≡ false
-    none = none_placed gs name unplaced
-
-    not_there : is_kept (named of items) name ≡ false
-    not_there = ap (λ f. is_kept f name) (sym w.firsts) ∙ none
 
     has_none : has_room (named of items) ≡ false
     has_none = ap has_room (sym w.firsts) ∙ (ap (λ k. nat_lt k MOST_SOURCES) (length-map gs (λ group. group.name)) ∙ not_below (length gs) MOST_SOURCES over)
@@ -281,7 +274,7 @@ grouped_other of limit old new items name r e unplaced over n same w = record {
 
     one_other : with_name (named of items) name ≡ with_other (named of items)
     one_other =
-        ap (λ b. cond b (named of items) (cond (has_room (named of items)) (with_kept (named of items) name) (with_other (named of items)))) not_there
+        ap (λ b. cond b (named of items) (cond (has_room (named of items)) (with_kept (named of items) name) (with_other (named of items)))) (not_named of limit old items name unplaced w)
         ∙ ap (λ b. cond b (with_kept (named of items) name) (with_other (named of items))) has_none
 
     firsts_are : firsts_in new ≡ with_other (named of items)

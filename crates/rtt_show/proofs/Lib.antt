@@ -1,4 +1,3 @@
-pub mod Fronts
 pub mod Surveying
 pub mod Signing
 pub mod Firsts

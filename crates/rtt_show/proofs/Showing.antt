@@ -26,7 +26,8 @@ use Rattle.rtt_show.specs.declared.groups.Group.{Group}
 use Rattle.rtt_show.specs.declared.groups.Groups.{Groups}
 use Rattle.rtt_show.specs.declared.views.Shape.{Shape}
 use Rattle.rtt_show.specs.declared.views.Shape.TheVariants.{Stream, Pair}
-use Rattle.rtt_show.specs.Records.{AreRecords, OfRecords}
+use Rattle.rtpdump_io.specs.InMemory.{AreRecords}
+use Rattle.rtt_show.specs.Records.{OfRecords}
 use Rattle.rtt_show.specs.Groups.{Holds, Grouped}
 use Rattle.rtt_show.specs.Finds.{IsFound}
 use Rattle.rtt_show.specs.Whole.{shape_limit, shape_view, IsGroupOf, AreShown, others_text}

@@ -8,7 +8,8 @@ use Rattle.rtt_show.specs.declared.views.Shape.{Shape}
 use Rattle.rtt_show.specs.declared.views.Shape.TheVariants.{Stream, Pair}
 use Rattle.rtt_show.specs.declared.groups.Group.{Group}
 use Rattle.rtt_show.specs.declared.found.Found.{Found}
-use Rattle.rtt_show.specs.Records.{HasRecords, OfRecords}
+use Rattle.rtpdump_io.specs.InMemory.{HasRecords}
+use Rattle.rtt_show.specs.Records.{OfRecords}
 use Rattle.rtt_show.specs.Groups.{Holds}
 
 -- ---- groups

@@ -1,7 +1,7 @@
 //! A stream that is heard from its records.
 ghost use Rattle.std.specs.Prelude.{◌≡◌, ◌≢◌, ◌≤◌, ◌<◌, length, AllPairs, IfOk, OnOk};
 ghost use Rattle.terminal.specs.Terminals.{counts_of, IsOpen};
-ghost use Rattle.rtt_show.specs.Records.{HasRecords};
+ghost use Rattle.rtpdump_io.specs.InMemory.{HasRecords};
 ghost use Rattle.rtt_show.specs.Hearing.{HearsRecords, HasHeard};
 ghost use Rattle.rtt_base.specs.declared.limits.TheConstants.{LONGEST_WAIT, MOST_ARRIVALS, MOST_SOURCES};
 

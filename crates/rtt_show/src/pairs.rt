@@ -2,7 +2,8 @@
 ghost use Rattle.std.specs.Prelude.{◌≡◌, ◌==◌, ◌&&◌, ◌++◌, not, OnOk};
 ghost use Rattle.command_spec.specs.Streams.{are_like_text, is_dynamic};
 ghost use Rattle.command_spec.specs.Showing.{guess_line};
-ghost use Rattle.rtt_show.specs.Records.{HasRecords, OfRecords};
+ghost use Rattle.rtpdump_io.specs.InMemory.{HasRecords};
+ghost use Rattle.rtt_show.specs.Records.{OfRecords};
 ghost use Rattle.rtt_show.specs.Signs.{AreSigns};
 ghost use Rattle.rtt_show.specs.Shown.{first_guess, guessed, pair_text, pair_line};
 

@@ -1,7 +1,8 @@
 //! What the payloads of packets show of their type.
 ghost use Rattle.std.specs.Prelude.{◌≡◌, ◌+◌, ◌<◌, ◌^◌, []};
 ghost use Rattle.command_spec.specs.Streams.{first_type, has_redundant};
-ghost use Rattle.rtt_show.specs.Records.{HasRecords, OfRecords};
+ghost use Rattle.rtpdump_io.specs.InMemory.{HasRecords};
+ghost use Rattle.rtt_show.specs.Records.{OfRecords};
 ghost use Rattle.rtt_show.specs.Signs.{AreSigns, SignsMore};
 
 use crate::sorts::payload_of;

@@ -1,12 +1,13 @@
 //! What is shown of a stream of text.
 ghost use Rattle.std.specs.Prelude.{◌≡◌, ◌≢◌, ◌++◌, ◌≤◌, length, map, flat_map, decimal, AllPairs, IsUtf8, IfOk, OnOk};
-ghost use Rattle.command_spec.specs.Showing.{refusal_line, refusals, stream_view};
+ghost use Rattle.command_spec.specs.Showing.{refusal_line, stream_view};
 ghost use Rattle.view_spec.specs.Views.{source_view};
 ghost use Rattle.terminal.specs.Terminals.{texts_of, AreUtf8};
 ghost use Rattle.terminal.specs.Views.{named, source_shown};
 ghost use Rattle.rtt_base.specs.declared.limits.TheConstants.{MOST_SOURCES};
 ghost use Rattle.rtt_show.specs.Hearing.{HasHeard};
-ghost use Rattle.rtt_show.specs.Records.{HasRecords, OfRecords};
+ghost use Rattle.rtpdump_io.specs.InMemory.{HasRecords};
+ghost use Rattle.rtt_show.specs.Records.{OfRecords};
 ghost use Rattle.rtt_show.specs.Shown.{asked, conf_of, heard_text, refusal_lines};
 
 use crate::first_sources::FirstSources;

@@ -1,6 +1,7 @@
 //! What is found out of the packets of a stream before they are heard.
 ghost use Rattle.std.specs.Prelude.{◌≡◌, ℕ, ◌+◌, ◌<◌, ◌^◌, [], suc, slice_index, slice_set, IfOk, OnOk, Result};
-ghost use Rattle.rtt_show.specs.Records.{HasRecords, OfRecords};
+ghost use Rattle.rtpdump_io.specs.InMemory.{HasRecords};
+ghost use Rattle.rtt_show.specs.Records.{OfRecords};
 ghost use Rattle.rtt_show.specs.Surveys.{IsFew, IsSurvey, SurveysMore};
 ghost use Rattle.rtt_base.specs.declared.text_packets.Pts.{Pts as PayloadTypes};
 

@@ -1,8 +1,9 @@
 use crate::show_recording;
-use rtpdump_io::{DumpFault, DumpReader, RecordingFault};
-use rtt_base::{Bytes, NoMemory, Pts};
-use rtt_io::{Source, SteadySource};
+use rtpdump_io::{DumpReader, RecordingFault};
+use rtt_base::{Bytes, Pts};
+use rtt_io::SteadySource;
 use std::alloc::Global;
+use std::process::Abort;
 use std::test::Fail;
 use wire_spec::DumpKind;
 
@@ -12,17 +13,11 @@ const USUAL: Pts = Pts { t140: 98, red: 100 };
 const OPENING: [u8; 44] = *b"#!rtpplay1.0 127.0.0.1/5004\n\0\0\0\0\0\0\0\0\x7F\0\0\x01\x13\x8C\0\0";
 
 // Records at 0, 300, 600 and 900 ms: Ann types A, then B, and each packet repeats the two before it.
-const FIRST: [u8; 30] =
-    *b"\0\x1E\0\x16\0\0\0\0\x80\xE4\0\0\0\0\0\0\0\0\x03\xE9\xE2\xFF\xFC\0\xE2\xFF\xFC\0\x62A";
-
-const SECOND: [u8; 31] =
-    *b"\0\x1F\0\x17\0\0\x01\x2C\x80\x64\0\x01\0\0\x01\x2C\0\0\x03\xE9\xE2\xFF\xFC\0\xE2\x04\xB0\x01\x62AB";
-
-const THIRD: [u8; 31] =
-    *b"\0\x1F\0\x17\0\0\x02\x58\x80\x64\0\x02\0\0\x02\x58\0\0\x03\xE9\xE2\x09\x60\x01\xE2\x04\xB0\x01\x62AB";
-
-const FOURTH: [u8; 30] =
-    *b"\0\x1E\0\x16\0\0\x03\x84\x80\x64\0\x03\0\0\x03\x84\0\0\x03\xE9\xE2\x09\x60\x01\xE2\x04\xB0\0\x62B";
+const LETTERS: [u8; 122] =
+    *b"\0\x1E\0\x16\0\0\0\0\x80\xE4\0\0\0\0\0\0\0\0\x03\xE9\xE2\xFF\xFC\0\xE2\xFF\xFC\0\x62A\
+    \0\x1F\0\x17\0\0\x01\x2C\x80\x64\0\x01\0\0\x01\x2C\0\0\x03\xE9\xE2\xFF\xFC\0\xE2\x04\xB0\x01\x62AB\
+    \0\x1F\0\x17\0\0\x02\x58\x80\x64\0\x02\0\0\x02\x58\0\0\x03\xE9\xE2\x09\x60\x01\xE2\x04\xB0\x01\x62AB\
+    \0\x1E\0\x16\0\0\x03\x84\x80\x64\0\x03\0\0\x03\x84\0\0\x03\xE9\xE2\x09\x60\x01\xE2\x04\xB0\0\x62B";
 
 // A record of RTCP at 50 ms, and a packet of SSRC 7 and payload type 0 at 60 ms.
 const REPORT: [u8; 8] = *b"\0\x08\0\0\0\0\0\x32";
@@ -42,126 +37,66 @@ const OF_ANOTHER_TYPE: [u8; 21] = *b"\0\x15\0\x0D\0\0\0\0\x80\x61\0\x01\0\0\0\0\
 
 const NO_TEXT: [u8; 21] = *b"\0\x15\0\x0D\0\0\0\x05\x80\x62\0\x01\0\0\0\0\0\0\0\x07\xC3";
 
-fn two_letters(alloc: Global) -> Result<Bytes, NoMemory> {
-    let mut recording = Bytes::new(alloc);
-    recording.append(&OPENING)?;
-    recording.append(&FIRST)?;
-    recording.append(&SECOND)?;
-    recording.append(&THIRD)?;
-    recording.append(&FOURTH)?;
-    Ok(recording)
-}
-
-// The same, with what is no packet of text behind the first packet.
-fn with_others(alloc: Global) -> Result<Bytes, NoMemory> {
-    let mut recording = Bytes::new(alloc);
-    recording.append(&OPENING)?;
-    recording.append(&FIRST)?;
-    recording.append(&REPORT)?;
-    recording.append(&OF_SOUND)?;
-    append_rest(&mut recording)?;
-    Ok(recording)
-}
-
-fn append_rest(recording: &mut Bytes) -> Result<(), NoMemory> {
-    recording.append(&SECOND)?;
-    recording.append(&THIRD)?;
-    recording.append(&FOURTH)
-}
-
-fn of_one(alloc: Global, records: &[u8]) -> Result<Bytes, NoMemory> {
-    let mut recording = Bytes::new(alloc);
-    recording.append(&OPENING)?;
-    recording.append(records)?;
-    Ok(recording)
-}
-
-// Whether this is shown of a source.
-fn shows<S: Source + Drop>(
+// Expects that this is shown of a recording with these records.
+fn expect_shown(
+    rt: &impl Abort,
     alloc: Global,
-    source: S,
+    records: &[&[u8]],
     pts: Pts,
     expected: &str,
-) -> Result<bool, Fail> {
-    let mut reader = DumpReader::new(source);
+) -> Result<(), Fail> {
+    let mut recording = Bytes::new(alloc);
+    recording.append(&OPENING)?;
+    for record in records {
+        recording.append(record)?;
+    }
+    let mut reader = DumpReader::new(SteadySource::new(recording));
     match show_recording(alloc, &mut reader, pts) {
-        Ok(printed) => Ok(printed.as_slice() == expected.as_bytes()),
-        Err(_) => Ok(false),
+        Ok(shown) => assert!(rt; shown.as_slice() == expected.as_bytes()),
+        Err(_) => panic!(rt; "the recording is not shown"),
     }
-}
-
-// Whether the source is refused with this fault.
-fn is_refused<S: Source + Drop>(
-    alloc: Global,
-    source: S,
-    offset: u64,
-    kind: DumpKind,
-) -> Result<bool, Fail> {
-    let mut reader = DumpReader::new(source);
-    match show_recording(alloc, &mut reader, USUAL) {
-        Err(RecordingFault::Dump(fault)) => Ok(fault == DumpFault { offset, kind }),
-        _ => Ok(false),
-    }
+    Ok(())
 }
 
 #[test]
 fn a_stream_is_shown_beside_what_is_no_text(rt: HostRuntime) -> Result<(), Fail> {
-    let source = SteadySource::new(with_others(rt.alloc())?);
+    let records: [&[u8]; 4] = [&LETTERS[..30], &REPORT, &OF_SOUND, &LETTERS[30..]];
     let expected =
         "== 1001 from 0 to 900\n1001: AB\n-- 1001 bells 0\n-- packets 4 used 4 refused 0 foreign 0\n-- ssrc 7 type 0 packets 1\n-- rtcp 1\n-- whole\n";
-    assert!(rt; shows(rt.alloc(), source, USUAL, expected)?);
-    Ok(())
+    expect_shown(&rt, rt.alloc(), &records, USUAL, expected)
 }
 
 #[test]
 fn a_recording_that_breaks_off_is_shown_up_to_there(rt: HostRuntime) -> Result<(), Fail> {
-    let mut recording = two_letters(rt.alloc())?;
-    recording.truncate(153);
-    let source = SteadySource::new(recording);
     let expected =
         "== 1001 from 0 to 600\n1001: AB\n-- 1001 bells 0\n-- packets 3 used 3 refused 0 foreign 0\n-- byte 136: EndsInside\n";
-    assert!(rt; shows(rt.alloc(), source, USUAL, expected)?);
-    Ok(())
+    expect_shown(&rt, rt.alloc(), &[&LETTERS[..109]], USUAL, expected)
 }
 
 #[test]
 fn the_source_of_a_mixed_stream_is_shown(rt: HostRuntime) -> Result<(), Fail> {
-    let source = SteadySource::new(of_one(rt.alloc(), &MIXED)?);
     let expected =
         "== 9000 from 0 to 1200\n1001: Hey\n1001: \n-- 1001 bells 0\n-- packets 5 used 5 refused 0 foreign 0\n-- whole\n";
-    assert!(rt; shows(rt.alloc(), source, USUAL, expected)?);
-    Ok(())
+    expect_shown(&rt, rt.alloc(), &[&MIXED], USUAL, expected)
 }
 
 #[test]
-fn packets_of_red_are_known(rt: HostRuntime) -> Result<(), Fail> {
-    let source = SteadySource::new(two_letters(rt.alloc())?);
+fn what_other_packets_are_is_told(rt: HostRuntime) -> Result<(), Fail> {
     let types = Pts { t140: 96, red: 97 };
-    let expected = "-- ssrc 1001 type 100 packets 4 red of 98\n-- whole\n";
-    assert!(rt; shows(rt.alloc(), source, types, expected)?);
-    Ok(())
-}
-
-#[test]
-fn plain_texts_are_known(rt: HostRuntime) -> Result<(), Fail> {
-    let source = SteadySource::new(of_one(rt.alloc(), &OF_ANOTHER_TYPE)?);
-    let expected = "-- ssrc 7 type 97 packets 1 text\n-- whole\n";
-    assert!(rt; shows(rt.alloc(), source, USUAL, expected)?);
-    Ok(())
-}
-
-#[test]
-fn refused_packets_are_counted_by_their_refusal(rt: HostRuntime) -> Result<(), Fail> {
-    let source = SteadySource::new(of_one(rt.alloc(), &NO_TEXT)?);
-    let expected =
+    let red = "-- ssrc 1001 type 100 packets 4 red of 98\n-- whole\n";
+    expect_shown(&rt, rt.alloc(), &[&LETTERS], types, red)?;
+    let plain = "-- ssrc 7 type 97 packets 1 text\n-- whole\n";
+    expect_shown(&rt, rt.alloc(), &[&OF_ANOTHER_TYPE], USUAL, plain)?;
+    let refused =
         "== 7 from 5 to 5\n-- packets 1 used 0 refused 1 foreign 0\n-- refused NotText 1\n-- whole\n";
-    assert!(rt; shows(rt.alloc(), source, USUAL, expected)?);
-    Ok(())
+    expect_shown(&rt, rt.alloc(), &[&NO_TEXT], USUAL, refused)
 }
 
 #[test]
-fn what_is_no_recording_is_refused(rt: HostRuntime) -> Result<(), Fail> {
-    let source = SteadySource::new(Bytes::new(rt.alloc()));
-    assert!(rt; is_refused(rt.alloc(), source, 0, DumpKind::NotDump)?);
-    Ok(())
+fn what_is_no_recording_is_refused(rt: HostRuntime) {
+    let mut reader = DumpReader::new(SteadySource::new(Bytes::new(rt.alloc())));
+    let Err(RecordingFault::Dump(fault)) = show_recording(rt.alloc(), &mut reader, USUAL) else {
+        panic!(rt; "what is no recording is shown");
+    };
+    assert!(rt; fault.offset == 0 && fault.kind == DumpKind::NotDump);
 }

@@ -1,7 +1,7 @@
 use Rattle.std.proofs.Common.{ℕ, List, ◌∷◌, [], ◌++◌, subst}
 use Rattle.wire_spec.specs.Dump.{Item, sent_item}
 use Rattle.terminal.specs.Terminals.{counts_of, Listens}
-use Rattle.rtt_show.proofs.Fronts.{left_less, front_more, front_all}
+use Rattle.rtpdump_io.proofs.Fronts.{left_less, front_more, front_all}
 use Rattle.rtt_show.proofs.hearing.hear_records.Goals as goal
 
 pub loop-moment-preserved : goal.loop-moment-preserved

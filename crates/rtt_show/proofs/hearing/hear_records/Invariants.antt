@@ -1,8 +1,8 @@
 use Rattle.std.proofs.Common.{ℕ, List, [], length}
 use Rattle.terminal.specs.declared.confs.TermConf.{TermConf}
 use Rattle.terminal.specs.Terminals.{counts_of, IsOpen, Listens}
-use Rattle.rtt_show.specs.Records.{AreRecords}
-use Rattle.rtt_show.proofs.Fronts.{Left, Front}
+use Rattle.rtpdump_io.specs.InMemory.{AreRecords}
+use Rattle.rtpdump_io.proofs.Fronts.{Left, Front}
 use Rattle.rtt_show.proofs.hearing.hear_records.Given as goal
 
 abbrev pub invariant-loop-moment : goal.invariant-loop-moment

@@ -1,7 +1,7 @@
 use Rattle.std.proofs.Common.{◌≡◌}
 use Rattle.command_spec.specs.Streams.{are_like_text}
 use Rattle.wire_spec.specs.Dump.{sent_item}
-use Rattle.rtt_show.proofs.Fronts.{front_more, front_all}
+use Rattle.rtpdump_io.proofs.Fronts.{front_more, front_all}
 use Rattle.rtt_show.proofs.Surveying.{likes_more}
 use Rattle.rtt_show.proofs.likes.all_near_text.Goals as goal
 

@@ -1,7 +1,7 @@
 use Rattle.std.proofs.Common.{◌≡◌, ℕ, List, length}
 use Rattle.command_spec.specs.Streams.{are_like_text}
-use Rattle.rtt_show.specs.Records.{AreRecords}
-use Rattle.rtt_show.proofs.Fronts.{Front}
+use Rattle.rtpdump_io.specs.InMemory.{AreRecords}
+use Rattle.rtpdump_io.proofs.Fronts.{Front}
 use Rattle.rtt_show.proofs.likes.all_near_text.Given as goal
 
 abbrev pub invariant-loop-octets : goal.invariant-loop-octets

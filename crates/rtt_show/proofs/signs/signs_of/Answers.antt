@@ -1,7 +1,7 @@
 use Rattle.std.proofs.Common.{arith}
 use Rattle.wire_spec.specs.Dump.{sent_item}
 use Rattle.rtt_show.specs.Signs.{AreSigns}
-use Rattle.rtt_show.proofs.Fronts.{left_less, some_left, front_more, front_all}
+use Rattle.rtpdump_io.proofs.Fronts.{left_less, some_left, front_more, front_all}
 use Rattle.rtt_show.proofs.Signing.{signs_more}
 use Rattle.rtt_show.proofs.signs.signs_of.Goals as goal
 

@@ -1,7 +1,7 @@
 use Rattle.std.proofs.Common.{ℕ, List, length}
-use Rattle.rtt_show.specs.Records.{AreRecords}
+use Rattle.rtpdump_io.specs.InMemory.{AreRecords}
 use Rattle.rtt_show.specs.Signs.{AreSigns}
-use Rattle.rtt_show.proofs.Fronts.{Left, Front}
+use Rattle.rtpdump_io.proofs.Fronts.{Left, Front}
 use Rattle.rtt_show.proofs.signs.signs_of.Given as goal
 
 abbrev pub invariant-loop-octets : goal.invariant-loop-octets

@@ -3,7 +3,7 @@ use Rattle.std.specs.Prelude.{Result}
 use Rattle.wire_spec.specs.declared.faults.TextFault.{TextFault}
 use Rattle.wire_spec.specs.Dump.{sent_item}
 use Rattle.rtt_show.specs.Surveys.{IsSurvey, SurveysMore}
-use Rattle.rtt_show.proofs.Fronts.{left_less, some_left, front_none, front_more, front_all}
+use Rattle.rtpdump_io.proofs.Fronts.{left_less, some_left, front_none, front_more, front_all}
 use Rattle.rtt_show.proofs.Surveying.{survey_more}
 use Rattle.rtt_show.proofs.surveys.survey_of.Goals as goal
 

@@ -1,7 +1,7 @@
 use Rattle.std.proofs.Common.{ℕ, List, length}
-use Rattle.rtt_show.specs.Records.{AreRecords}
+use Rattle.rtpdump_io.specs.InMemory.{AreRecords}
 use Rattle.rtt_show.specs.Surveys.{IsFew, IsSurvey}
-use Rattle.rtt_show.proofs.Fronts.{Left, Front}
+use Rattle.rtpdump_io.proofs.Fronts.{Left, Front}
 use Rattle.rtt_show.proofs.surveys.survey_of.Given as goal
 
 abbrev pub invariant-loop-at : goal.invariant-loop-at

@@ -1,7 +1,7 @@
 use Rattle.std.proofs.Common.{ℕ, List, ◌++◌, map, ap, sym, ◌∙◌, subst}
 use Rattle.wire_spec.specs.Dump.{sent_item}
 use Rattle.rtt_show.specs.declared.views.Shape.{Shape}
-use Rattle.rtt_show.specs.Records.{AreRecords}
+use Rattle.rtpdump_io.specs.InMemory.{AreRecords}
 use Rattle.rtt_show.specs.Whole.{shape_view}
 use Rattle.rtt_show.proofs.Grouping.{on_ok}
 use Rattle.rtt_show.proofs.Showing.{pair_shown}

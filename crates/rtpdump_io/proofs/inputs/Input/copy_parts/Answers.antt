@@ -13,9 +13,9 @@ loop-done-preserved g c =
     record {
       within = omega arith;
       size = ap length grown ∙ simp (length-append, length-take) (omega arith);
-      never_falls = omega (arith, kept.never_falls, filled.never_falls, ap g.S.Source.faults same);
-      calm = ap g.S.Source.faults same ∙ filled.calm ∙ kept.calm;
-      same_name = ap g.S.Source.name same ∙ filled.same_name ∙ kept.same_name;
+      never_falls = omega (arith, kept.never_falls, filled.counts.0, ap g.S.Source.faults same);
+      calm = ap g.S.Source.faults same ∙ filled.counts.2 ∙ kept.calm;
+      same_name = ap g.S.Source.name same ∙ filled.counts.3 ∙ kept.same_name;
       passes = λ t. rw (same, c.advance.ensures.held) (passes_more _ _ _ _ _ _ (kept.passes t) (filled.unread t) number);
       copied = λ t. grown ∙ ap (λ (l : List ℕ). l ++ take c.min-number.result (held c.fill.new.self)) (kept.copied t) ∙ copies_more _ _ _ _ _ _ _ (kept.passes t) (filled.unread t) number;
     }

@@ -15,9 +15,9 @@ loop-place-preserved g c =
     let kept = c.loop-place.invariant in
     let read = c.in_ok-octet.ensures in
     record {
-      never_falls = omega (arith, kept.never_falls, read.never_falls);
-      calm = read.calm ∙ kept.calm;
-      same_name = read.same_name ∙ kept.same_name;
+      never_falls = omega (arith, kept.never_falls, read.counts.0);
+      calm = read.counts.2 ∙ kept.calm;
+      same_name = read.counts.3 ∙ kept.same_name;
       line = λ t. line_on _ _ _ _ _ _ c.in-Some.field-0 c.loop-place-test.true (kept.line t) (read.given t) c.in-Some.is c.in-Some.field-0-test.1;
       number = λ t. kept.number t ∙ one_more _ _ _ _ _ (read.given t) c.in-Some.is;
     }

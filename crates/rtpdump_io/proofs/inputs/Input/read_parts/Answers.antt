@@ -12,8 +12,8 @@ loop-done-preserved g c =
     record {
       within = simp (length-append, length-take, length-drop) (omega (arith, kept.within, tail, number));
       size = simp (length-append, length-take, length-drop) (omega (arith, kept.within, kept.size, tail));
-      never_falls = omega (arith, kept.never_falls, filled.never_falls, ap g.S.Source.faults moved.source);
-      calm = ap g.S.Source.faults moved.source ∙ filled.calm ∙ kept.calm;
-      same_name = ap g.S.Source.name moved.source ∙ filled.same_name ∙ kept.same_name;
+      never_falls = omega (arith, kept.never_falls, filled.counts.0, ap g.S.Source.faults moved.source);
+      calm = ap g.S.Source.faults moved.source ∙ filled.counts.2 ∙ kept.calm;
+      same_name = ap g.S.Source.name moved.source ∙ filled.counts.3 ∙ kept.same_name;
       given = λ t. rw moved.source (fills_more _ _ _ _ _ _ _ _ _ _ (kept.given t) (filled.unread t) moved.given kept.within number);
     }
