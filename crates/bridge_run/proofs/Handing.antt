@@ -57,8 +57,20 @@ module _ {S : Type 0} (Told : Type 0) (left : S → List ℕ) (c : Conf) (inputs
       } in
       subst (λ leg. Stands left p.leg (past leg)) (sym o.1) (o.2.told told)
 
-module _ {S : Type 0} (Told : Type 0) (left : S → List ℕ) (faults : S → ℕ) (name : S → List ℕ) (held : Contents) (c : Conf) (inlets : List (LegInlet S))
-    (many : length inlets ≡ length c.legs) (opened : AllOpened Told left faults name held c.wait (input_limit c) c.legs inlets) where
+-- the same, as these lines and this limit are those of the conference
+pub over_of : {S : Type 0} (Told : Type 0) (left : S → List ℕ) (c : Conf) (lines : List LegLine) (limit : ℕ) (inputs : List (List ℕ)) (inlets : List (LegInlet S)) → lines ≡ c.legs → limit ≡ input_limit c
+    → AllOver Told left c.wait limit lines inputs inlets → AllOver Told left c.wait (input_limit c) c.legs inputs inlets
+over_of Told left c lines limit inputs inlets are fits over =
+    subst (λ l. AllOver Told left c.wait l c.legs inputs inlets) fits (subst (λ (xs : List LegLine). AllOver Told left c.wait limit xs inputs inlets) are over)
+
+module _ {S : Type 0} (Told : Type 0) (left : S → List ℕ) (faults : S → ℕ) (name : S → List ℕ) (held : Contents) (c : Conf) (lines : List LegLine) (limit : ℕ) (inlets : List (LegInlet S))
+    (are : lines ≡ c.legs) (fits : limit ≡ input_limit c) (count : length inlets ≡ length lines) (opened_of : AllOpened Told left faults name held c.wait limit lines inlets) where
+  many : length inlets ≡ length c.legs
+  many = count ∙ ap (λ (xs : List LegLine). length xs) are
+
+  opened : AllOpened Told left faults name held c.wait (input_limit c) c.legs inlets
+  opened = subst (λ l. AllOpened Told left faults name held c.wait l c.legs inlets) fits (subst (λ (xs : List LegLine). AllOpened Told left faults name held c.wait limit xs inlets) are opened_of)
+
   all_over : AllOver Told left c.wait (input_limit c) c.legs (inputs_under held c.legs) inlets
   all_over = λ j p at.
       let o = opened j p at in (
@@ -86,10 +98,9 @@ module _ {S : Type 0} (Told : Type 0) (left : S → List ℕ) (faults : S → �
       some_of (held leg.input) t.0 (ap (λ (x : LegLine). held x.input) (sym same) ∙ t.1)
 
   -- ---- what is answered
-  module _ (result : Result Mixed MixFault)
-      (mixes_to : Told → MixesAsked left c inlets result) where
+  module _ (result : Result Mixed MixFault) (Tells : Type 0) (some : 0 < length lines) (shown : Told → 0 < length lines → Tells) (mixes_to : Tells → MixesAsked left c inlets result) where
     answered : Told → MixesTo c (inputs_under held c.legs) result
-    answered told = mixes_to told (inputs_under held c.legs) (length-map c.legs (λ leg. octets_under held leg.input)) (all_asked told)
+    answered told = mixes_to (shown told some) (inputs_under held c.legs) (length-map c.legs (λ leg. octets_under held leg.input)) (all_asked told)
 
     pub is_made : Told → IfOk result (IsMade held c)
     is_made told = go result (answered told)

@@ -15,7 +15,7 @@ use Rattle.mixer_posts.specs.Posts.{AreNext, sents_to}
 use Rattle.mixer_posts.specs.Streams.{pts_at}
 use Rattle.sent_log.specs.States.{HasSource, Sending, State, sent_to, with_sent}
 use Rattle.bridge_run.specs.Logs.{HasSent, IsNew, IsSentTo, sources_in}
-use Rattle.bridge_run.proofs.Opening.{pushed}
+use Rattle.mixer_posts.proofs.Backward.{pushed}
 
 -- ---- lists
 pub found_at : (log : State) (j : ℕ) → j < length log → (x : Sending) × (slice_get log j ≡ Some x)

@@ -1,13 +1,15 @@
 -- The inputs of legs, opened one by one and handed back.
-use Rattle.std.proofs.Common.{◌≡◌, ◌≢◌, ℕ, zero, suc, ◌+◌, ◌<◌, ◌≤◌, ◌⊎◌, inl, inr, Option, Some, List, [], ◌∷◌, ◌++◌, length, refl, ap, subst, sym, ◌∙◌, arith}
+use Rattle.std.proofs.Common.{◌≡◌, ◌≢◌, ℕ, zero, suc, ◌+◌, ◌<◌, ◌≤◌, inl, inr, Option, Some, List, [], ◌∷◌, ◌++◌, get_or, length, refl, ap, subst, sym, ◌∙◌, arith}
 use Rattle.std.specs.Prelude.{IsSome, slice_get}
 use Rattle.std.proofs.lemmas.Bool.{cases_lt}
+use Rattle.std.proofs.lemmas.Option.{slice_get_read}
 use Rattle.file_spec.specs.declared.conf_lines.LegLine.{LegLine}
 use Rattle.rtt_io.specs.Counts.{Rose, counted, last_count}
 use Rattle.leg_items.specs.declared.inlets.LegInlet.{LegInlet}
 use Rattle.bridge_run.specs.declared.mixed.MixFault.{MixFault}
 use Rattle.bridge_run.specs.declared.mixed.MixFault.TheVariants.{Open, Dump, TooLong, NoMemory}
 use Rattle.mixer_spec.specs.Setups.{leg_at}
+use Rattle.mixer_posts.proofs.Backward.{pushed}
 use Rattle.command_spec.specs.Mixing.{input_at}
 use Rattle.bridge_run.specs.Mixes.{IsFirst}
 use Rattle.bridge_run.specs.Opened.{AllOpened, AllOver, IsNotOpened, IsOpened, IsOver, IsRefused, LeavesCount}
@@ -27,29 +29,6 @@ pub is_there : {X : Type 0} (xs : List X) (i : ℕ) → i < length xs → (x : X
 is_there [] i l = absurd (omega arith)
 is_there (y ∷ xs) zero l = (y, refl)
 is_there (y ∷ xs) (suc i) l = is_there xs i (omega arith)
-
-pub pushed : {X : Type 0} (xs : List X) (y : X) (k : ℕ) (x : X) → slice_get (xs ++ y ∷ []) k ≡ Some x → (slice_get xs k ≡ Some x) ⊎ ((k ≡ length xs) × (x ≡ y))
-pushed [] y zero x e = inr (refl, cc e)
-pushed [] y (suc k) x e = absurd (cc e)
-pushed (z ∷ xs) y zero x e = inl e
-pushed (z ∷ xs) y (suc k) x e = elim (pushed xs y k x e) [ inl g ↦ inl g | inr p ↦ inr (ap suc p.0, p.1) ]
-
-get_front : {X : Type 0} (xs : List X) (y : X) (j : ℕ) (x : X) → slice_get xs j ≡ Some x → slice_get (xs ++ y ∷ []) j ≡ Some x
-get_front [] y j x e = absurd (cc e)
-get_front (z ∷ xs) y zero x e = e
-get_front (z ∷ xs) y (suc j) x e = get_front xs y j x e
-
-get_last : {X : Type 0} (xs : List X) (y : X) → slice_get (xs ++ y ∷ []) (length xs) ≡ Some y
-get_last [] y = refl
-get_last (z ∷ xs) y = get_last xs y
-
--- one was taken from the back of a front of all
-module _ {X : Type 0} (all now xs : List X) (x : X) (is : now ≡ xs ++ x ∷ []) (front : (j : ℕ) (p : X) → slice_get now j ≡ Some p → slice_get all j ≡ Some p) where
-  pub front_still : (j : ℕ) (p : X) → slice_get xs j ≡ Some p → slice_get all j ≡ Some p
-  front_still j p e = front j p (subst (λ (l : List X). slice_get l j ≡ Some p) (sym is) (get_front xs x j p e))
-
-  pub last_of_all : slice_get all (length xs) ≡ Some x
-  last_of_all = front (length xs) x (subst (λ (l : List X). slice_get l (length xs) ≡ Some x) (sym is) (get_last xs x))
 
 -- a source that leaves the count of this name was handed back
 pub left_by : {S : Type 0} (faults : S → ℕ) (name_of : S → List ℕ) (contents contents_now : List ℕ → Option (List ℕ)) (before after : List ℕ → ℕ) (s : S) (n : List ℕ)
@@ -142,3 +121,7 @@ pub leg_got : (legs : List LegLine) (k : ℕ) → leg_at legs k ≡ slice_get le
 leg_got [] k = refl
 leg_got (l ∷ legs) zero = refl
 leg_got (l ∷ legs) (suc k) = leg_got legs k
+
+-- a leg that is read by its number
+pub leg_read_at : (legs : List LegLine) (k : ℕ) (leg : LegLine) → k < length legs → leg ≡ get_or legs k leg → leg_at legs k ≡ Some leg
+leg_read_at legs k leg low is = leg_got legs k ∙ slice_get_read legs (length legs) k leg refl low is

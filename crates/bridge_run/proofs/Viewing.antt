@@ -1,21 +1,18 @@
 -- The view of each terminal is what is seen there.
-use Rattle.std.proofs.Common.{◌≡◌, ℕ, zero, suc, ◌+◌, ◌*◌, ◌^◌, ◌<◌, ◌≤◌, Bool, true, false, cond, List, [], ◌∷◌, ◌++◌, length, map, take, get_or, None, refl, ap, sym, ◌∙◌, subst, append_assoc, arith, add-one}
-use Rattle.std.specs.Prelude.{AllPairs, remove, flat_map, ◌≢◌}
+use Rattle.std.proofs.Common.{◌≡◌, ℕ, zero, suc, ◌+◌, ◌*◌, ◌^◌, ◌<◌, ◌≤◌, Bool, true, false, cond, List, [], ◌∷◌, ◌++◌, length, map, get_or, None, refl, ap, sym, ◌∙◌, subst, append_assoc, arith}
+use Rattle.std.specs.Prelude.{remove, flat_map}
 use Rattle.std.specs.Global.{Vec}
 use Rattle.std.specs.List.{concat, enumerate_from, sum_by}
 use Rattle.std.proofs.lemmas.List.Sums.{sum_by-cons, sum_by-le, sum_by_push}
 use Rattle.source_receiver.specs.declared.source_texts.SourceText.{SourceText}
 use Rattle.view_spec.specs.declared.counts.Counts.{Counts}
-use Rattle.std.proofs.Math.Seq.{take-suc}
-use Rattle.std.proofs.lemmas.List.{take_all, append-nil, get_or-map, length-map}
-use Rattle.std.proofs.lemmas.List.Quantifiers.{all_pairs_remove}
-use Rattle.std.proofs.lemmas.List.FromFn.{length-enumerate_from, get_or-enumerate_from}
+use Rattle.std.proofs.lemmas.List.{take_all, append-nil}
+use Rattle.std.proofs.lemmas.List.FromFn.{length-enumerate_from}
 use Rattle.std.proofs.lemmas.Grind.{flat_map-append}
 use Rattle.std.proofs.lemmas.List.Folds.{concat-append}
 use Rattle.wire_spec.specs.Dump.{Item}
 use Rattle.file_spec.specs.declared.conf_lines.LegLine.{LegLine}
 use Rattle.file_spec.specs.Conf.{Conf}
-use Rattle.file_spec.specs.Kept.{Differ}
 use Rattle.mixer_spec.specs.Table.{Table}
 use Rattle.view_spec.specs.Seen.{Reception, Speaker, aware_seen, counts_at, unaware_seen}
 use Rattle.command_spec.specs.Mixing.{records_to, reception_of, speaker_of, view_of, views}
@@ -26,6 +23,7 @@ use Rattle.view_spec.proofs.Counted.{markers_came, used_came}
 use Rattle.terminal.specs.declared.confs.TermConf.{TermConf}
 use Rattle.terminal.specs.declared.terminals.Terminal.{Terminal}
 use Rattle.terminal.specs.Terminals.{counts_of, reception, texts_of, IsTextOf, Heard}
+use Rattle.mixer_posts.proofs.LegLines.{legs_more}
 use Rattle.bridge_run.specs.declared.views.Seen.{Seen}
 use Rattle.bridge_run.specs.Viewed.{Adds, AddsCounts, AddsSeen, HasFew, IsSeenBetween, counts_from, first_legs, joined, marks_of, markers_from, marks_below, packets_below, summed, terminal_conf, used_below, view_from, views_below}
 
@@ -41,16 +39,6 @@ leg_read lines legs own leg d is low = ap (λ (ls : List LegLine). get_or ls own
 
 abbrev pub no_leg : LegLine
 no_leg = record { line = 0; name = []; aware = false; ssrc = 0; input = []; output = []; pts = record { t140 = 0; red = 0 }; gens = 0; stay = record { from = 0; until = None } }
-
--- the SSRCs of the other legs differ
-pub ssrcs_differ : (legs : List LegLine) (own : ℕ) → own < length legs → AllPairs (λ a b. Differ a b) legs → AllPairs (λ a b. a ≢ b) (map (λ leg. leg.ssrc) (remove legs own))
-ssrcs_differ legs own l h = go (remove legs own) (all_pairs_remove (λ a b. Differ a b) legs own l h)
-  where
-    go : (xs : List LegLine) → AllPairs (λ a b. Differ a b) xs → AllPairs (λ a b. a ≢ b) (map (λ leg. leg.ssrc) xs)
-    go [] q i j d low high = absurd (omega arith)
-    go (x ∷ xs) q i j d low high =
-        let size = length-map (x ∷ xs) (λ (leg : LegLine). leg.ssrc) in
-        λ same. (q i j x low (omega (arith, size))).ssrcs (sym (get_or-map (λ (leg : LegLine). leg.ssrc) (x ∷ xs) i x d (omega (arith, size))) ∙ (same ∙ get_or-map (λ (leg : LegLine). leg.ssrc) (x ∷ xs) j x d (omega (arith, size))))
 
 -- speakers have the names and the SSRCs of their legs
 names_are : (legs : List LegLine) → map (λ (s : Speaker). s.name) (map speaker_of legs) ≡ map (λ leg. leg.name) legs
@@ -131,14 +119,6 @@ adds c own leg records t q sources old shown new e s h view packets used marks a
     }
 
 -- ---- all of them
-legs_more : (c : Conf) (k : ℕ) (d : LegLine) → k < length c.legs → first_legs c (k + 1) ≡ first_legs c k ++ (k, get_or c.legs k d) ∷ []
-legs_more c k d l =
-    let all = enumerate_from 0 c.legs in
-    let size = length-enumerate_from 0 c.legs in
-    let zeroed : 0 + k ≡ k = omega arith in
-    let it : get_or all k (0, d) ≡ (k, get_or c.legs k d) = get_or-enumerate_from 0 c.legs k (0, d) l ∙ ap (λ (n : ℕ). (n, get_or c.legs k d)) zeroed in
-    ap (λ (n : ℕ). take n all) (add-one k) ∙ (take-suc all k (0, d) (omega (arith, size, l)) ∙ ap (λ (x : ℕ × LegLine). take k all ++ x ∷ []) it)
-
 -- a number of one more
 sum_more : (c : Conf) (f : ℕ × LegLine → ℕ) (k : ℕ) (d : LegLine) → k < length c.legs → sum_by f (first_legs c (k + 1)) ≡ sum_by f (first_legs c k) + f (k, get_or c.legs k d)
 sum_more c f k d l = ap (sum_by f) (legs_more c k d l) ∙ sum_by_push f (first_legs c k) (k, get_or c.legs k d)

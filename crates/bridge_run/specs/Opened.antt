@@ -3,6 +3,7 @@ use Rattle.std.specs.Prelude.{◌≡◌, ◌≢◌, ◌⊎◌, ℕ, false, IsSom
 use Rattle.std.specs.Global.{Vec}
 use Rattle.file_spec.specs.declared.conf_lines.LegLine.{LegLine}
 use Rattle.rtt_io.specs.Counts.{Rose}
+use Rattle.rtt_io.specs.Names.{Same}
 use Rattle.rtt_io.specs.declared.mem_sources.SteadySource.{SteadySource}
 use Rattle.rtt_io.specs.contracts.mem_sources.SteadySourceSource.TheImpl.{left-value, tells-value}
 use Rattle.ear.specs.declared.confs.EarConf.{EarConf}
@@ -97,3 +98,9 @@ module _ {W : Type 0} where
   abbrev pub CountsLeft : {S : Type 0} → (S → ℕ) → (S → List ℕ) → (W → List ℕ → Option (List ℕ)) → (W → List ℕ → ℕ) → List (LegInlet S) → W → W → Type 0
   CountsLeft {S} faults name_of contents objects legs old new =
       (name : List ℕ) → EachSource (LeavesCount faults name_of (contents old) name) legs → objects new name ≡ objects old name
+
+  -- Legs were handed back. Where no reading failed, all counts are the old ones.
+  pub record HandsBack {S : Type 0} (tells : Type 0) (faults : S → ℕ) (name_of : S → List ℕ) (contents : W → List ℕ → Option (List ℕ)) (objects : W → List ℕ → ℕ) (legs : List (LegInlet S)) (old new : W) : Type 0 where
+    pub calm : AreCalm faults legs → Same objects old new
+    pub failed : FaultsRose faults name_of objects legs old new
+    pub left : tells → CountsLeft faults name_of contents objects legs old new

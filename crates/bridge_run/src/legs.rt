@@ -3,7 +3,7 @@ ghost use Rattle.std.specs.Prelude.{◌≡◌, ◌≤◌, ◌<◌, length, IfOk,
 ghost use Rattle.rtt_io.specs.Names.{CountsNoOther, NoneFalls, Same};
 ghost use Rattle.leg_items.specs.Answers.{source_in};
 ghost use Rattle.bridge_run.specs.Mixes.{IsFirstIn};
-ghost use Rattle.bridge_run.specs.Opened.{AreCalm, AreHeld, AreOpened, CountsLeft, FaultsRose, IsOpened, IsOver, Unopened, RefusedIn};
+ghost use Rattle.bridge_run.specs.Opened.{AreHeld, AreOpened, HandsBack, IsOpened, IsOver, Unopened, RefusedIn};
 ghost use Rattle.rtt_base.specs.declared.limits.TheConstants.{LONGEST_WAIT};
 ghost use Rattle.wire_spec.specs.declared.limits.TheConstants.{MOST_RECORDING_OCTETS};
 ghost use Rattle.file_spec.specs.declared.limits.TheConstants.{MOST_LEGS};
@@ -144,9 +144,7 @@ pub(crate) fn held_legs(
 pub(crate) fn close_legs<W: World>(inlets: Vec<LegInlet<W::Src>>, world: &mut W)
     ensures same_own { Same W.own_faults world.old world.new }
     ensures objects_never_fall { NoneFalls W.object_faults world.old world.new }
-    ensures calm { AreCalm W.Src.faults inlets.items → Same W.object_faults world.old world.new }
-    ensures failed { FaultsRose W.Src.faults W.Src.name W.object_faults inlets.items world.old world.new }
-    ensures left { W.tells → CountsLeft W.Src.faults W.Src.name W.contents W.object_faults
+    ensures counts { HandsBack W.tells W.Src.faults W.Src.name W.contents W.object_faults
         inlets.items world.old world.new }
     ensures same_contents { W.tells → Same W.contents world.old world.new }
 {

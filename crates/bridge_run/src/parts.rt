@@ -123,28 +123,6 @@ fn add_part(part: Seen, all: &mut Seen) -> Result<(), NoMemory>
     Ok(())
 }
 
-/// What is seen at all terminals, part by part.
-fn views_by_parts<R: Threads + Sync>(
-    rt: &R,
-    alloc: Global,
-    conf: &Conf,
-    log: &SentLog,
-) -> Result<Seen, NoMemory>
-    requires each { length log.now ≡ length conf.now.legs }
-    requires sent { All IsPlayable log.now }
-    ensures views { IfOk result (λ seen. AreViewsOf (conf_of conf.now) (recordings_of log.now) (joined seen)) }
-    ensures sums { IfOk result (λ seen. AreSumsOf (conf_of conf.now) (recordings_of log.now) (summed seen)) }
-{
-    let size = part_size(log.terminals());
-    let parts = parts_of(rt, alloc, conf, log, size)?;
-    let mut total = nothing_seen(alloc);
-    for part in parts {
-        let seen = part?;
-        add_part(seen, &mut total)?;
-    }
-    Ok(total)
-}
-
 /// What is seen at the terminals of a conference, as `views_of` tells it, on several threads where much was sent.
 pub(crate) fn views_on_threads<R: Threads + Sync>(
     rt: &R,
@@ -160,5 +138,12 @@ pub(crate) fn views_on_threads<R: Threads + Sync>(
     if packets_in(log) < WORTH_THREADS {
         return views_of(alloc, conf, log);
     }
-    views_by_parts(rt, alloc, conf, log)
+    let size = part_size(log.terminals());
+    let parts = parts_of(rt, alloc, conf, log, size)?;
+    let mut total = nothing_seen(alloc);
+    for part in parts {
+        let seen = part?;
+        add_part(seen, &mut total)?;
+    }
+    Ok(total)
 }

@@ -21,6 +21,12 @@ module _ {X : Type 0} where
   at_more (x ∷ xs) a b zero e = inl e
   at_more (x ∷ xs) a b (suc j) e = ⊎_elim (λ t. inl t) (λ (t : (j ≡ length xs) × (a ≡ b)). inr (ap suc t.0, t.1)) (at_more xs a b j e)
 
+  -- what holds of each element, and of one more, holds of each when that was appended
+  pub each_more : (F : ℕ → X → Type 0) (views : List X) (w : X) → F (length views) w → ((j : ℕ) (u : X) → get_elem? views j ≡ some u → F j u)
+      → (j : ℕ) (u : X) → get_elem? (views ++ w ∷ []) j ≡ some u → F j u
+  each_more F views w last each j u e = ⊎_elim (λ (x : get_elem? views j ≡ some u). each j u x)
+      (λ (x : (j ≡ length views) × (w ≡ u)). subst (λ (y : ℕ × X). F y.0 y.1) (λ i. (sym x.0 i, x.1 i)) last) (at_more views w u j e)
+
   -- what holds of each element holds after one was changed
   pub each_set : (F : ℕ → X → Type 0) (views : List X) (id : ℕ) (w : X) → F id w → ((j : ℕ) (u : X) → j ≢ id → get_elem? views j ≡ some u → F j u)
       → (j : ℕ) (u : X) → get_elem? (set views id w) j ≡ some u → F j u

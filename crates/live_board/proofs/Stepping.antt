@@ -1,5 +1,5 @@
 -- Each step at a board keeps its rule.
-use Rattle.std.proofs.Common.{◌≡◌, ◌≢◌, ◌<◌, ◌≤◌, ◌⊎◌, ℕ, zero, suc, ◌+◌, ◌*◌, Bool, true, false, List, [], ◌∷◌, ◌++◌, map, length, set, refl, sym, ap, ◌∙◌, subst, ⊎_elim, append_assoc, arith}
+use Rattle.std.proofs.Common.{◌≡◌, ◌≢◌, ◌<◌, ◌≤◌, ℕ, zero, suc, ◌+◌, ◌*◌, Bool, true, false, List, [], ◌∷◌, ◌++◌, map, length, set, refl, sym, ap, ◌∙◌, subst, append_assoc, arith}
 use Rattle.std.specs.Prelude.{slice_index, slice_set, nat_lt, ◌||◌}
 use Rattle.std.proofs.lemmas.Bool.{ltb-true, ltb-false}
 use mathlib.Core.Option.{Option, none, some, some-injective, some-ne-none}
@@ -13,8 +13,8 @@ use Rattle.live_board.specs.declared.rule.View.{View}
 use Rattle.live_board.specs.Sheets.{IsSheetOf}
 use Rattle.live_board.specs.Views.{Follows, IsWord, both_ends, informed, looked, published, reader, settled, told_by, writer}
 use Rattle.live_board.specs.Ends.{IsWriting}
-use Rattle.live_board.specs.Rule.{AreApart, Fits, IsKept, IsReader, IsWriter, Standing, Stands}
-use Rattle.live_board.proofs.Fitting.{at_more, clash, each_set, either_is, front_self, front_trans}
+use Rattle.live_board.specs.Rule.{AreApart, Fits, IsKept, IsKnown, IsReader, IsWriter, Standing, Stands}
+use Rattle.live_board.proofs.Fitting.{clash, each_more, each_set, either_is, front_self, front_trans}
 
 abbrev Sheets : Type 0
 Sheets = List Shown
@@ -42,22 +42,40 @@ word_set s n m e = ap (λ l. slice_set l 0 m) e
 word_stays : (s : State Sheets View) (n : ℕ) → s.words ≡ n ∷ [] → slice_set s.words 0 (slice_index s.words 0) ≡ n ∷ []
 word_stays s n e = word_set s n (slice_index s.words 0) e ∙ ap (λ m. m ∷ []) (word_was s n e)
 
+-- nothing is known
+nothing : (published : List Chunk) (ended : Bool) → IsKnown [] false published ended
+nothing published ended = record { front = (published, refl); over = λ o. clash _ false o refl }
+
+-- more is published, which was not over
+more_known : (changes : List Chunk) (all : Bool) (published more : List Chunk) (ended now : Bool) → IsKnown changes all published ended → ended ≡ false → IsFront published more → IsKnown changes all more now
+more_known changes all published more ended now is going front = record {
+  front = front_trans changes published more is.front front;
+  over = λ o. clash _ ended (is.over o).0 going;
+}
+
+-- all that is published is seen, and the end too if it was seen or told of
+all_known : (k : ℕ) (homes : List (Option Sheets)) (b : Standing) (id : ℕ) (v : View) (changes : List Chunk) → Fits k homes b id v → changes ≡ b.changes
+    → IsKnown changes (v.ended || v.told_end) b.changes b.ended
+all_known k homes b id v changes f all = record {
+  front = subst (λ l. IsFront changes l) all (front_self changes);
+  over = λ o. (either_is (b.ended ≡ true) v.ended v.told_end o (λ p. (f.seen.over p).0) (λ p. (f.told.over p).0), all);
+}
+
+-- what is known is another, or who reads; of the copies at most one is taken that is not the shared one
+known_anew : (k : ℕ) (s now : State Sheets View) (b : Standing) (sheet : Sheets) (reader : ℕ) → Stands k s b sheet
+    → now.words ≡ (b.shared + 3 * b.new) ∷ [] → get_elem? now.homes b.shared ≡ some (some sheet)
+    → ((j : ℕ) (u : View) → get_elem? now.views j ≡ some u → Fits k now.homes (record b { reader = reader }) j u) → IsKept k now
+known_anew k s now b sheet reader st word home each = (
+  record b { reader = reader },
+  sheet,
+  record { word = word; flag = st.flag; apart = st.apart; home = home; wide = st.wide; shows = st.shows; each = each },
+)
+
 -- a view is changed, and nothing else
 seen_anew : (k : ℕ) (s : State Sheets View) (h : IsKept k s) (id : ℕ) (w : View) → Fits k s.homes h.0 id w
     → IsKept k record { words = slice_set s.words 0 (slice_index s.words 0); homes = s.homes; views = set s.views id w }
-seen_anew k s (b, sheet, st) id w mine = (
-  b,
-  sheet,
-  record {
-    word = word_stays s (b.shared + 3 * b.new) st.word;
-    flag = st.flag;
-    apart = st.apart;
-    home = st.home;
-    wide = st.wide;
-    shows = st.shows;
-    each = each_set (Fits k s.homes b) s.views id w mine (λ j u ne at. st.each j u at);
-  },
-)
+seen_anew k s (b, sheet, st) id w mine = known_anew k s (record { words = slice_set s.words 0 (slice_index s.words 0); homes = s.homes; views = set s.views id w }) b sheet b.reader st
+    (word_stays s (b.shared + 3 * b.new) st.word) st.home (each_set (Fits k s.homes b) s.views id w mine (λ j u ne at. st.each j u at))
 
 -- the writer has one more change to publish
 abbrev one_more : View → Chunk → View
@@ -69,9 +87,7 @@ adds k slots id v held c reads s h long at below =
     let f : Fits k s.homes h.0 id v = h.2.each id v at in
     let mine : Fits k s.homes h.0 id (one_more v c) = record {
       seen = f.seen;
-      over = f.over;
       told = f.told;
-      told_over = f.told_over;
       writes = λ w. let q = f.writes w in record { alone = q.alone; wide = q.wide; place = q.place; all = q.all; over = q.over; owed = q.owed };
       reads = λ r. clash _ v.reads r reads;
     } in
@@ -82,25 +98,13 @@ module _ (k : ℕ) (s : State Sheets View) (b : Standing) (sheet : Sheets) (st :
     (mine : Fits k (slice_set s.homes place none) b id w)
     (others : (j : ℕ) (u : View) → j ≢ id → get_elem? s.views j ≡ some u → Fits k (slice_set s.homes place none) b j u) where
   copy_taken : IsKept k record { words = slice_set s.words 0 (slice_index s.words 0); homes = slice_set s.homes place none; views = set s.views id w }
-  copy_taken = (
-    b,
-    sheet,
-    record {
-      word = word_stays s (b.shared + 3 * b.new) st.word;
-      flag = st.flag;
-      apart = st.apart;
-      home = set_else s.homes place b.shared none apart ∙ st.home;
-      wide = st.wide;
-      shows = st.shows;
-      each = each_set (Fits k (slice_set s.homes place none) b) s.views id w mine others;
-    },
-  )
+  copy_taken = known_anew k s (record { words = slice_set s.words 0 (slice_index s.words 0); homes = slice_set s.homes place none; views = set s.views id w }) b sheet b.reader st
+      (word_stays s (b.shared + 3 * b.new) st.word) (set_else s.homes place b.shared none apart ∙ st.home) (each_set (Fits k (slice_set s.homes place none) b) s.views id w mine others)
 
 abbrev taken : View → View
 taken v = record v { owes = false }
 
-takes_spare : (k slots id : ℕ) (v : View) → v.writes ≡ true → v.reads ≡ false → v.owes ≡ true
-    → Allows (λ s. IsKept k s) slots id (v, []) 0 (λ n. n) (Tookspare v)
+takes_spare : (k slots id : ℕ) (v : View) → v.writes ≡ true → v.reads ≡ false → v.owes ≡ true → Allows (λ s. IsKept k s) slots id (v, []) 0 (λ n. n) (Tookspare v)
 takes_spare k slots id v writes reads owes s (b, sheet, st) long at below =
     let f : Fits k s.homes b id v = st.each id v at in
     let wr : IsWriter k s.homes b id v = f.writes writes in
@@ -109,17 +113,13 @@ takes_spare k slots id v writes reads owes s (b, sheet, st) long at below =
     let homes : List (Option Sheets) = slice_set s.homes v.spare none in
     let mine : Fits k homes b id (taken v) = record {
       seen = f.seen;
-      over = f.over;
       told = f.told;
-      told_over = f.told_over;
       writes = λ _. record { alone = wr.alone; wide = wr.wide; place = wr.place; all = wr.all; over = wr.over; owed = λ o. clash _ false o refl };
       reads = λ r. clash _ v.reads r reads;
     } in
     let others : (j : ℕ) (u : View) → j ≢ id → get_elem? s.views j ≡ some u → Fits k homes b j u = λ j u ne there. let g = st.each j u there in record {
       seen = g.seen;
-      over = g.over;
       told = g.told;
-      told_over = g.told_over;
       writes = λ w. absurd (ne ((g.writes w).alone ∙ sym wr.alone));
       reads = λ r. let q = g.reads r in
           record { alone = q.alone; wide = q.wide; place = q.place; all = q.all; sure = q.sure; owed = λ o. let y = q.owed o in (y.0, set_else s.homes v.spare b.own none apart.third_first ∙ y.1, y.2) };
@@ -131,8 +131,7 @@ takes_spare k slots id v writes reads owes s (b, sheet, st) long at below =
       (own.0, refl, own.2 ∙ sym wr.wide),
     )
 
-takes_own : (k slots id : ℕ) (v : View) → v.reads ≡ true → v.writes ≡ false → v.owes ≡ true
-    → Allows (λ s. IsKept k s) slots id (v, []) 0 (λ n. n) (Tookown v)
+takes_own : (k slots id : ℕ) (v : View) → v.reads ≡ true → v.writes ≡ false → v.owes ≡ true → Allows (λ s. IsKept k s) slots id (v, []) 0 (λ n. n) (Tookown v)
 takes_own k slots id v reads writes owes s (b, sheet, st) long at below =
     let f : Fits k s.homes b id v = st.each id v at in
     let rd : IsReader k s.homes b id v = f.reads reads in
@@ -141,17 +140,13 @@ takes_own k slots id v reads writes owes s (b, sheet, st) long at below =
     let homes : List (Option Sheets) = slice_set s.homes v.own none in
     let mine : Fits k homes b id (taken v) = record {
       seen = f.seen;
-      over = f.over;
       told = f.told;
-      told_over = f.told_over;
       writes = λ w. clash _ v.writes w writes;
       reads = λ _. record { alone = rd.alone; wide = rd.wide; place = rd.place; all = rd.all; sure = rd.sure; owed = λ o. clash _ false o refl };
     } in
     let others : (j : ℕ) (u : View) → j ≢ id → get_elem? s.views j ≡ some u → Fits k homes b j u = λ j u ne there. let g = st.each j u there in record {
       seen = g.seen;
-      over = g.over;
       told = g.told;
-      told_over = g.told_over;
       writes = λ w. let q = g.writes w in
           record { alone = q.alone; wide = q.wide; place = q.place; all = q.all; over = q.over; owed = λ o. let y = q.owed o in (y.0, set_else s.homes v.own b.spare none (λ e. apart.third_first (sym e)) ∙ y.1, y.2) };
       reads = λ r. absurd (ne ((g.reads r).alone ∙ sym rd.alone));
@@ -173,16 +168,7 @@ publishes k slots id e v x three writes reads owes going is s (b, sheet, st) lon
     let wr : IsWriter k s.homes b id v = f.writes writes in
     let apart : AreApart v.spare b.shared b.own = subst (λ (p : ℕ). AreApart p b.shared b.own) (sym wr.place) st.apart in
     let not_over : b.ended ≡ false = sym wr.over ∙ going in
-    let after : Standing = record {
-      changes = v.changes ++ v.pending;
-      ended = v.ended || e;
-      writer = b.writer;
-      reader = b.reader;
-      spare = b.shared;
-      shared = v.spare;
-      own = b.own;
-      new = 1;
-    } in
+    let after : Standing = record b { changes = v.changes ++ v.pending; ended = v.ended || e; spare = b.shared; shared = v.spare; new = 1 } in
     let more : IsFront b.changes (v.changes ++ v.pending) = (v.pending, ap (λ l. l ++ v.pending) wr.all) in
     let given : List (Option Sheets) = slice_set s.homes v.spare (some x) in
     let homes : List (Option Sheets) = slice_set given b.shared none in
@@ -191,18 +177,14 @@ publishes k slots id e v x three writes reads owes going is s (b, sheet, st) lon
     set_else given b.shared b.own none (λ q. apart.second_third (sym q)) ∙ set_else s.homes v.spare b.own (some x) apart.third_first in
     let w : View = published e v b.shared in
     let mine : Fits k homes after id w = record {
-      seen = front_self (v.changes ++ v.pending);
-      over = λ o. (o, refl);
-      told = front_trans v.told b.changes (v.changes ++ v.pending) f.told more;
-      told_over = λ o. clash _ b.ended (f.told_over o).0 not_over;
+      seen = record { front = front_self (v.changes ++ v.pending); over = λ o. (o, refl) };
+      told = more_known v.told v.told_end b.changes (v.changes ++ v.pending) b.ended (v.ended || e) f.told not_over more;
       writes = λ _. record { alone = wr.alone; wide = wr.wide; place = refl; all = refl; over = refl; owed = λ o. clash _ v.owes o owes };
       reads = λ r. clash _ v.reads r reads;
     } in
     let others : (j : ℕ) (u : View) → j ≢ id → get_elem? s.views j ≡ some u → Fits k homes after j u = λ j u ne there. let g = st.each j u there in record {
-      seen = front_trans u.changes b.changes (v.changes ++ v.pending) g.seen more;
-      over = λ o. clash _ b.ended (g.over o).0 not_over;
-      told = front_trans u.told b.changes (v.changes ++ v.pending) g.told more;
-      told_over = λ o. clash _ b.ended (g.told_over o).0 not_over;
+      seen = more_known u.changes u.ended b.changes (v.changes ++ v.pending) b.ended (v.ended || e) g.seen not_over more;
+      told = more_known u.told u.told_end b.changes (v.changes ++ v.pending) b.ended (v.ended || e) g.told not_over more;
       writes = λ q. absurd (ne ((g.writes q).alone ∙ sym wr.alone));
       reads = λ r. let q = g.reads r in
           record { alone = q.alone; wide = q.wide; place = q.place; all = λ z. absurd (omega (arith, z)); sure = λ _. refl; owed = λ o. let y = q.owed o in (y.0, untouched ∙ y.1, y.2) };
@@ -258,18 +240,16 @@ looks k slots id v held reads writes owes s (b, sheet, st) long at below = go (n
         let all : v.changes ≡ b.changes = rd.all old in
         let w : View = settled (looked v) v.own v.changes in
         let mine : Fits k s.homes b id w = record {
-          seen = f.seen;
-          over = λ o. (either_is (b.ended ≡ true) v.ended v.told_end o (λ p. (f.over p).0) (λ p. (f.told_over p).0), all);
-          told = (b.changes, refl);
-          told_over = λ o. clash _ false o refl;
+          seen = all_known k s.homes b id v v.changes f all;
+          told = nothing b.changes b.ended;
           writes = λ q. clash _ v.writes q writes;
           reads = λ _. record { alone = rd.alone; wide = rd.wide; place = rd.place; all = rd.all; sure = λ o. clash _ false o refl; owed = λ o. clash _ v.owes o owes };
         } in
         let follows : Follows v v.changes = record {
           seen = front_self v.changes;
-          told = subst (λ l. IsFront v.told l) (sym all) f.told;
+          told = subst (λ l. IsFront v.told l) (sym all) f.told.front;
           over = λ _. refl;
-          told_over = λ o. all ∙ sym (f.told_over o).1;
+          told_over = λ o. all ∙ sym (f.told.over o).1;
         } in
         (w, keeps, tt, seen_anew k s (b, sheet, st) id w mine, ((λ _. (refl, follows)), λ no. clash _ _ t no))
     go false t =
@@ -281,9 +261,7 @@ looks k slots id v held reads writes owes s (b, sheet, st) long at below = go (n
         let w : View = record (looked v) { sure = true } in
         let mine : Fits k s.homes b id w = record {
           seen = f.seen;
-          over = f.over;
           told = f.told;
-          told_over = f.told_over;
           writes = λ q. clash _ v.writes q writes;
           reads = λ _. record { alone = rd.alone; wide = rd.wide; place = rd.place; all = rd.all; sure = λ _. fresh; owed = λ o. clash _ v.owes o owes };
         } in
@@ -298,16 +276,7 @@ fetches k slots id v x three reads writes owes sure wide s (b, sheet, st) long a
     let rd : IsReader k s.homes b id v = f.reads reads in
     let fresh : b.new ≡ 1 = rd.sure sure in
     let apart : AreApart b.spare b.shared v.own = subst (λ (p : ℕ). AreApart b.spare b.shared p) (sym rd.place) st.apart in
-    let after : Standing = record {
-      changes = b.changes;
-      ended = b.ended;
-      writer = b.writer;
-      reader = b.reader;
-      spare = b.spare;
-      shared = v.own;
-      own = b.shared;
-      new = 0;
-    } in
+    let after : Standing = record b { shared = v.own; own = b.shared; new = 0 } in
     let given : List (Option Sheets) = slice_set s.homes v.own (some x) in
     let homes : List (Option Sheets) = slice_set given b.shared none in
     let as_is : v.own ≡ v.own + 0 = omega arith in
@@ -316,18 +285,14 @@ fetches k slots id v x three reads writes owes sure wide s (b, sheet, st) long a
     set_else given b.shared b.spare none apart.first_second ∙ set_else s.homes v.own b.spare (some x) (λ q. apart.third_first (sym q)) in
     let w : View = settled v b.shared b.changes in
     let mine : Fits k homes after id w = record {
-      seen = front_self b.changes;
-      over = λ o. (either_is (b.ended ≡ true) v.ended v.told_end o (λ p. (f.over p).0) (λ p. (f.told_over p).0), refl);
-      told = (b.changes, refl);
-      told_over = λ o. clash _ false o refl;
+      seen = all_known k s.homes b id v b.changes f refl;
+      told = nothing b.changes b.ended;
       writes = λ q. clash _ v.writes q writes;
       reads = λ _. record { alone = rd.alone; wide = rd.wide; place = refl; all = λ _. refl; sure = λ o. clash _ false o refl; owed = λ o. clash _ v.owes o owes };
     } in
     let others : (j : ℕ) (u : View) → j ≢ id → get_elem? s.views j ≡ some u → Fits k homes after j u = λ j u ne there. let g = st.each j u there in record {
       seen = g.seen;
-      over = g.over;
       told = g.told;
-      told_over = g.told_over;
       writes = λ o. let q = g.writes o in
           record { alone = q.alone; wide = q.wide; place = q.place; all = q.all; over = q.over; owed = λ p. let y = q.owed p in (y.0, untouched ∙ y.1, y.2) };
       reads = λ r. absurd (ne ((g.reads r).alone ∙ sym rd.alone));
@@ -354,7 +319,7 @@ fetches k slots id v x three reads writes owes sure wide s (b, sheet, st) long a
         sheet,
         record { sum = word_was s (b.shared + 3 * b.new) st.word ∙ ap (λ (n : ℕ). b.shared + 3 * n) fresh; place_below = st.apart.second; new_below = omega arith },
         refl,
-        record { seen = f.seen; told = f.told; over = λ o. sym (f.over o).1; told_over = λ o. sym (f.told_over o).1 },
+        record { seen = f.seen.front; told = f.told.front; over = λ o. sym (f.seen.over o).1; told_over = λ o. sym (f.told.over o).1 },
         subst (λ (n : ℕ). IsSheetOf n b.changes sheet) (sym rd.wide) (st.shows fresh),
       ),
     )
@@ -370,44 +335,26 @@ parts k n id s (b, sheet, st) at =
     let rd : IsReader k s.homes b id v = f.reads refl in
     let views : List View = set s.views id left in
     let after : Standing = record b { reader = length views } in
-    let nothing : IsFront [] b.changes = (b.changes, refl) in
     let mine : Fits k s.homes after id left = record {
-      seen = nothing;
-      over = λ o. clash _ false o refl;
-      told = nothing;
-      told_over = λ o. clash _ false o refl;
+      seen = nothing b.changes b.ended;
+      told = nothing b.changes b.ended;
       writes = λ _. record { alone = wr.alone; wide = wr.wide; place = wr.place; all = wr.all; over = wr.over; owed = λ _. wr.owed refl };
       reads = λ r. clash _ false r refl;
     } in
     let new : Fits k s.homes after (length views) right = record {
-      seen = nothing;
-      over = λ o. clash _ false o refl;
-      told = nothing;
-      told_over = λ o. clash _ false o refl;
+      seen = nothing b.changes b.ended;
+      told = nothing b.changes b.ended;
       writes = λ q. clash _ false q refl;
       reads = λ _. record { alone = refl; wide = rd.wide; place = rd.place; all = rd.all; sure = λ o. clash _ false o refl; owed = λ _. rd.owed refl };
     } in
     let others : (j : ℕ) (u : View) → j ≢ id → get_elem? s.views j ≡ some u → Fits k s.homes after j u = λ j u ne there. let g = st.each j u there in record {
       seen = g.seen;
-      over = g.over;
       told = g.told;
-      told_over = g.told_over;
       writes = λ o. let q = g.writes o in record { alone = q.alone; wide = q.wide; place = q.place; all = q.all; over = q.over; owed = q.owed };
       reads = λ r. absurd (ne ((g.reads r).alone ∙ sym rd.alone));
-    } in (
-      after,
-      sheet,
-      record {
-        word = st.word;
-        flag = st.flag;
-        apart = st.apart;
-        home = st.home;
-        wide = st.wide;
-        shows = st.shows;
-        each = λ j u there. ⊎_elim (λ (e : get_elem? views j ≡ some u). each_set (Fits k s.homes after) s.views id left mine others j u e)
-            (λ (e : (j ≡ length views) × (right ≡ u)). subst (λ (y : ℕ × View). Fits k s.homes after y.0 y.1) (λ i. (sym e.0 i, e.1 i)) new) (at_more views right u j there);
-      },
-    )
+    } in
+    known_anew k s (record { words = s.words; homes = s.homes; views = views ++ right ∷ [] }) b sheet (length views) st st.word st.home
+    (each_more (Fits k s.homes after) views right new (each_set (Fits k s.homes after) s.views id left mine others))
 
 -- a note is made
 pub tells : (k id : ℕ) (v : View) → Splits (λ s. IsKept k s) id v v (told_by v.changes v.ended)
@@ -417,25 +364,12 @@ tells k id v s (b, sheet, st) at =
     let views : List View = set s.views id v in
     let new : Fits k s.homes b (length views) right = record {
       seen = f.seen;
-      over = f.over;
-      told = (b.changes, refl);
-      told_over = λ o. clash _ false o refl;
+      told = nothing b.changes b.ended;
       writes = λ q. clash _ false q refl;
       reads = λ q. clash _ false q refl;
-    } in (
-      b,
-      sheet,
-      record {
-        word = st.word;
-        flag = st.flag;
-        apart = st.apart;
-        home = st.home;
-        wide = st.wide;
-        shows = st.shows;
-        each = λ j u there. ⊎_elim (λ (e : get_elem? views j ≡ some u). each_set (Fits k s.homes b) s.views id v f (λ i x ne here. st.each i x here) j u e)
-            (λ (e : (j ≡ length views) × (right ≡ u)). subst (λ (y : ℕ × View). Fits k s.homes b y.0 y.1) (λ i. (sym e.0 i, e.1 i)) new) (at_more views right u j there);
-      },
-    )
+    } in
+    known_anew k s (record { words = s.words; homes = s.homes; views = views ++ right ∷ [] }) b sheet b.reader st st.word st.home
+    (each_more (Fits k s.homes b) views right new (each_set (Fits k s.homes b) s.views id v f (λ j u ne here. st.each j u here)))
 
 -- the reader takes in a note
 pub learns : (k id : ℕ) (v : View) (other : ℕ) (w : View) → v.writes ≡ false → Joins (λ s. IsKept k s) id v other w (informed v w) (told_by [] false)
@@ -445,33 +379,19 @@ learns k id v other w writes s (b, sheet, st) at apart there =
     let g : Fits k s.homes b other w = st.each other w (sym (set_else s.views id other (informed v w) apart) ∙ there) in
     let mine : Fits k s.homes b id (informed v w) = record {
       seen = f.seen;
-      over = f.over;
       told = g.seen;
-      told_over = g.over;
       writes = λ q. clash _ v.writes q writes;
       reads = λ r. let q = f.reads r in record { alone = q.alone; wide = q.wide; place = q.place; all = q.all; sure = q.sure; owed = q.owed };
     } in
     let spent : Fits k s.homes b other (told_by [] false) = record {
-      seen = (b.changes, refl);
-      over = λ o. clash _ false o refl;
-      told = (b.changes, refl);
-      told_over = λ o. clash _ false o refl;
+      seen = nothing b.changes b.ended;
+      told = nothing b.changes b.ended;
       writes = λ q. clash _ false q refl;
       reads = λ q. clash _ false q refl;
     } in
-    let one : (j : ℕ) (u : View) → get_elem? views j ≡ some u → Fits k s.homes b j u = each_set (Fits k s.homes b) s.views id (informed v w) mine (λ j u ne here. st.each j u here) in (
-      b,
-      sheet,
-      record {
-        word = st.word;
-        flag = st.flag;
-        apart = st.apart;
-        home = st.home;
-        wide = st.wide;
-        shows = st.shows;
-        each = each_set (Fits k s.homes b) views other (told_by [] false) spent (λ j u ne here. one j u here);
-      },
-    )
+    let one : (j : ℕ) (u : View) → get_elem? views j ≡ some u → Fits k s.homes b j u = each_set (Fits k s.homes b) s.views id (informed v w) mine (λ j u ne here. st.each j u here) in
+    known_anew k s (record { words = s.words; homes = s.homes; views = set views other (told_by [] false) }) b sheet b.reader st st.word st.home
+    (each_set (Fits k s.homes b) views other (told_by [] false) spent (λ j u ne here. one j u here))
 
 -- a new board
 pub starts : (k : ℕ) (x y z : Sheets) → IsSheetOf k [] x → IsSheetOf k [] y → IsSheetOf k [] z → IsKept k (opening (2 ∷ []) (x ∷ y ∷ z ∷ []) (both_ends k))
@@ -479,10 +399,8 @@ starts k x y z first second third =
     let b : Standing = record { changes = []; ended = false; writer = 0; reader = 0; spare = 0; shared = 2; own = 1; new = 0 } in
     let homes : List (Option Sheets) = some x ∷ some y ∷ some z ∷ [] in
     let mine : Fits k homes b 0 (both_ends k) = record {
-      seen = ([], refl);
-      over = λ o. clash _ false o refl;
-      told = ([], refl);
-      told_over = λ o. clash _ false o refl;
+      seen = nothing [] false;
+      told = nothing [] false;
       writes = λ _. record { alone = refl; wide = refl; place = refl; all = refl; over = refl; owed = λ _. (x, refl, first.wide) };
       reads = λ _. record { alone = refl; wide = refl; place = refl; all = λ _. refl; sure = λ o. clash _ false o refl; owed = λ _. (y, refl, second) };
     } in (

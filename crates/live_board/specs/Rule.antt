@@ -30,6 +30,11 @@ pub record AreApart (a b c : ℕ) : Type 0 where
   pub second_third : b ≢ c
   pub third_first : c ≢ a
 
+-- what is published begins with these changes, and where they are said to be all, it is over and they are all
+pub record IsKnown (changes : List Chunk) (all : Bool) (published : List Chunk) (ended : Bool) : Type 0 where
+  pub front : IsFront changes published
+  pub over : all ≡ true → (ended ≡ true) × (changes ≡ published)
+
 module _ (legs : ℕ) (homes : List (Option (List Shown))) (b : Standing) (seat : ℕ) (v : View) where
   -- it has all that is published, and its copy's place; the copy lies there until it is taken
   pub record IsWriter : Type 0 where
@@ -51,10 +56,8 @@ module _ (legs : ℕ) (homes : List (Option (List Shown))) (b : Standing) (seat 
 
   -- what it saw and what it was told is published, and is all where it knows of the end
   pub record Fits : Type 0 where
-    pub seen : IsFront v.changes b.changes
-    pub over : v.ended ≡ true → (b.ended ≡ true) × (v.changes ≡ b.changes)
-    pub told : IsFront v.told b.changes
-    pub told_over : v.told_end ≡ true → (b.ended ≡ true) × (v.told ≡ b.changes)
+    pub seen : IsKnown v.changes v.ended b.changes b.ended
+    pub told : IsKnown v.told v.told_end b.changes b.ended
     pub writes : v.writes ≡ true → IsWriter
     pub reads : v.reads ≡ true → IsReader
 

@@ -6,16 +6,16 @@ use Rattle.board_spec.specs.Folds.{Shown}
 use Rattle.live_board.specs.declared.rule.View.{View}
 use Rattle.live_board.specs.Sheets.{IsSheetOf}
 
--- both ends of a new board in one, which owe to take their copies
-abbrev pub both_ends : ℕ → View
-both_ends legs = record {
+-- an end that has no copy and knows of nothing
+abbrev pub nobody : ℕ → View
+nobody legs = record {
   legs = legs;
-  writes = true;
-  reads = true;
-  owes = true;
+  writes = false;
+  reads = false;
+  owes = false;
   sure = false;
   spare = 0;
-  own = 1;
+  own = 0;
   changes = [];
   ended = false;
   pending = [];
@@ -24,59 +24,21 @@ both_ends legs = record {
   looks = 0;
 }
 
+-- both ends of a new board in one, which owe to take their copies
+abbrev pub both_ends : ℕ → View
+both_ends legs = record (nobody legs) { writes = true; reads = true; owes = true; own = 1 }
+
 -- the writer, whose copy has this place
 abbrev pub writer : ℕ → Bool → ℕ → List Chunk → List Chunk → Bool → View
-writer legs owes spare changes pending ended = record {
-  legs = legs;
-  writes = true;
-  reads = false;
-  owes = owes;
-  sure = false;
-  spare = spare;
-  own = 0;
-  changes = changes;
-  ended = ended;
-  pending = pending;
-  told = [];
-  told_end = false;
-  looks = 0;
-}
+writer legs owes spare changes pending ended = record (nobody legs) { writes = true; owes = owes; spare = spare; changes = changes; ended = ended; pending = pending }
 
 -- the reader, whose copy has this place
 abbrev pub reader : ℕ → Bool → ℕ → List Chunk → Bool → View
-reader legs owes own changes ended = record {
-  legs = legs;
-  writes = false;
-  reads = true;
-  owes = owes;
-  sure = false;
-  spare = 0;
-  own = own;
-  changes = changes;
-  ended = ended;
-  pending = [];
-  told = [];
-  told_end = false;
-  looks = 0;
-}
+reader legs owes own changes ended = record (nobody legs) { reads = true; owes = owes; own = own; changes = changes; ended = ended }
 
 -- what a note tells
 abbrev pub told_by : List Chunk → Bool → View
-told_by changes ended = record {
-  legs = 0;
-  writes = false;
-  reads = false;
-  owes = false;
-  sure = false;
-  spare = 0;
-  own = 0;
-  changes = changes;
-  ended = ended;
-  pending = [];
-  told = [];
-  told_end = false;
-  looks = 0;
-}
+told_by changes ended = record (nobody 0) { changes = changes; ended = ended }
 
 -- one of the three places, and whether what stands there is new, as one number
 pub record IsWord (word place new : ℕ) : Type 0 where

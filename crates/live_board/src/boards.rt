@@ -1,5 +1,5 @@
 //! A new board.
-ghost use Rattle.std.specs.Prelude.{◌≡◌, ◌≤◌, true, false, [], IfOk};
+ghost use Rattle.std.specs.Prelude.{◌≡◌, ◌≤◌, false, [], IfOk};
 ghost use Rattle.std.specs.Arc.{arc_value};
 ghost use Rattle.file_spec.specs.declared.limits.TheConstants.{FEWEST_LEGS, MOST_LINKS};
 ghost use Rattle.live_board.specs.Views.{both_ends};

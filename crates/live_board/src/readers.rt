@@ -1,5 +1,5 @@
 //! The end of a board at which it is read.
-ghost use Rattle.std.specs.Prelude.{◌≡◌, ◌+◌, ◌<◌, ℕ, List, true, false, [], ◌∷◌, length, slice_get, Some};
+ghost use Rattle.std.specs.Prelude.{◌≡◌, ◌+◌, ◌<◌, ℕ, List, true, false, [], ◌∷◌, slice_get, Some};
 ghost use Rattle.std.specs.Arc.{arc_value};
 ghost use Rattle.stream_spec.specs.Fronts.{IsFront};
 ghost use Rattle.board_spec.specs.Folds.{Shown, fold_of};

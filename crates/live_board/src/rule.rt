@@ -3,7 +3,7 @@
 //! Three copies of what is shown have a place each: the writer's, the reader's, and the shared one. One word says which place
 //! is the shared one, and whether the copy there is new. Who publishes or fetches swaps its own place with that of the word,
 //! in one step, so that nobody waits.
-ghost use Rattle.std.specs.Prelude.{◌≡◌, ◌+◌, ◌*◌, ◌<◌, ◌≤◌, ℕ, true, false, List, [], ◌∷◌, ◌++◌, length, nat_lt, ◌||◌};
+ghost use Rattle.std.specs.Prelude.{◌≡◌, ◌+◌, ◌*◌, ◌<◌, ◌≤◌, ℕ, Bool, true, false, List, [], ◌∷◌, ◌++◌, length, nat_lt, ◌||◌};
 ghost use Rattle.rtt_base.specs.declared.records.Chunk.{Chunk};
 ghost use Rattle.board_spec.specs.Folds.{Shown};
 ghost use Rattle.live_board.specs.Sheets.{IsSheetOf};
@@ -89,18 +89,31 @@ impl Play<Sheet, View> for TakesOwn {
     ghost then = { λ _ me _ after. (sheet : List Shown) × (after ≡ (record me.0 { owes = false }, (me.0.own, sheet) ∷ [])) × IsSheetOf me.0.legs me.0.changes sheet };
 }
 
-// What is pending is published: the writer's copy is the shared one now, and the writer has what was shared.
-pub struct Publishes;
-
-impl Play<Sheet, View> for Publishes {
-    ghost then = { λ _ me found after. (place : ℕ) × (new : ℕ) × (sheet : List Shown) × IsWord found place new × (after ≡ (published false me.0 place, (place, sheet) ∷ [])) × (length sheet ≡ me.0.legs) };
+/// Whether the end stands behind what is published.
+pub trait Ending {
+    ghost ends: { Bool };
 }
 
-// The same, with the end behind it.
+// More may come.
+pub struct Goes;
+
+impl Ending for Goes {
+    ghost ends = { false };
+}
+
+// Nothing more comes.
 pub struct Ends;
 
-impl Play<Sheet, View> for Ends {
-    ghost then = { λ _ me found after. (place : ℕ) × (new : ℕ) × (sheet : List Shown) × IsWord found place new × (after ≡ (published true me.0 place, (place, sheet) ∷ [])) × (length sheet ≡ me.0.legs) };
+impl Ending for Ends {
+    ghost ends = { true };
+}
+
+// What is pending is published, with the end where there is one: the writer's copy is the shared one now, and the writer has
+// what was shared.
+pub struct Publishes<E>(PhantomData<E>);
+
+impl<E: Ending> Play<Sheet, View> for Publishes<E> {
+    ghost then = { λ _ me found after. (place : ℕ) × (new : ℕ) × (sheet : List Shown) × IsWord found place new × (after ≡ (published E.ends me.0 place, (place, sheet) ∷ [])) × (length sheet ≡ me.0.legs) };
 }
 
 // The reader looks whether the shared copy is new; where it is not, it has seen all.

@@ -1,5 +1,5 @@
 //! What is shown of all legs.
-ghost use Rattle.std.specs.Prelude.{◌≡◌, ◌++◌, ◌∷◌, ◌^◌, ◌≤◌, ◌<◌, [], ℕ, List, length, replicate, slice_get, Some, IfOk, OnOk, OnErr};
+ghost use Rattle.std.specs.Prelude.{◌≡◌, ◌++◌, ◌∷◌, ◌^◌, ◌≤◌, ◌<◌, [], ℕ, List, length, slice_get, Some, IfOk, OnOk, OnErr};
 ghost use Rattle.rtt_base.specs.declared.records.Chunk.{Chunk};
 ghost use Rattle.board_spec.specs.Folds.{text_of};
 ghost use Rattle.live_board.specs.Sheets.{IsSheetOf};

@@ -1,6 +1,7 @@
 ghost use Rattle.std.specs.Prelude.{◌≡◌, ◌≤◌, ◌<◌, false};
 
 use crate::{Board, BoardReader, BoardWriter, Tail};
+use rtt_base::limits::MOST_TEXT_OCTETS;
 use rtt_base::{Chunk, NoMemory, Text};
 use std::alloc::Global;
 use std::test::Fail;
@@ -10,7 +11,7 @@ use std::thread::{Threads, join};
 fn change(source: u8, octet: u8, count: usize) -> Chunk {
     let mut text = Text::new();
     for _ in 0..count {
-        if text.len() < Text::CAPACITY {
+        if text.len() < MOST_TEXT_OCTETS {
             text.push(octet);
         }
     }

@@ -8,7 +8,8 @@ ghost use Rattle.live_board.specs.Ends.{HoldsWide, IsOn};
 
 use crate::notes::Note;
 use crate::rule::{
-    Adding, Adds, Common, End, Ends, PLACES, Publishes, Shelf, TakesSpare, Tells, place_of,
+    Adding, Adds, Common, End, Ending, Ends, Goes, PLACES, Publishes, Shelf, TakesSpare, Tells,
+    place_of,
 };
 use crate::sheets::Sheet;
 use rtt_base::{Chunk, NoMemory};
@@ -94,16 +95,24 @@ impl BoardWriter {
         Ok(())
     }
 
+    /// Publishes all pending changes, with the end behind them where there is one.
+    fn share<E: Ending>(&mut self)
+        requires { self.old.ended ≡ false }
+        ensures { self.new ≡ record self.old { published = self.old.published ++ self.old.pending; pending = []; ended = E.ends } }
+    {
+        let shared = &self.shelf.shared;
+        write_copy(shared, &mut self.seat, self.place, &self.sheet);
+        let word = (self.place + PLACES) as u64;
+        let found = shared.swap::<Publishes<E>>(&mut self.seat, 0, word);
+        self.place = place_of(found);
+    }
+
     /// Publishes all pending changes at once. It does not wait for the reader, and cannot fail.
     pub fn publish(&mut self)
         requires { self.old.ended ≡ false }
         ensures { self.new ≡ record self.old { published = self.old.published ++ self.old.pending; pending = [] } }
     {
-        let shared = &self.shelf.shared;
-        write_copy(shared, &mut self.seat, self.place, &self.sheet);
-        let word = (self.place + PLACES) as u64;
-        let found = shared.swap::<Publishes>(&mut self.seat, 0, word);
-        self.place = place_of(found);
+        self.share::<Goes>();
     }
 
     /// Says what is published.
@@ -116,18 +125,6 @@ impl BoardWriter {
         Note { seat }
     }
 
-    /// Publishes all pending changes and the end behind them.
-    fn end(&mut self)
-        requires { self.old.ended ≡ false }
-        ensures { self.new ≡ record self.old { published = self.old.published ++ self.old.pending; pending = []; ended = true } }
-    {
-        let shared = &self.shelf.shared;
-        write_copy(shared, &mut self.seat, self.place, &self.sheet);
-        let word = (self.place + PLACES) as u64;
-        let found = shared.swap::<Ends>(&mut self.seat, 0, word);
-        self.place = place_of(found);
-    }
-
     /// Publishes all pending changes and the end behind them, and says what is then published. Nothing can be added or
     /// published after it.
     pub fn last(&mut self) -> Note
@@ -135,7 +132,7 @@ impl BoardWriter {
         ensures ended { self.new ≡ record self.old { published = self.old.published ++ self.old.pending; pending = []; ended = true } }
         ensures told { result ≡ record { board = self.old.board; changes = self.old.published ++ self.old.pending; ended = true } }
     {
-        self.end();
+        self.share::<Ends>();
         self.tell()
     }
 }

@@ -13,7 +13,7 @@ use Rattle.live_leg.specs.declared.legs.LinkLeg.{LinkLeg}
 use Rattle.live_run.specs.declared.faults.LiveFault.{LiveFault}
 use Rattle.live_run.specs.declared.faults.LiveFault.TheVariants.{Link, NoMemory}
 use Rattle.live_run.specs.Opened.{AreCalm, AreOpenBelow, IsNotOpened, IsRefusedAt, OpenEnds, OpenLegs, OpensEnd, OpensLeg}
-use Rattle.live_run.proofs.Closing.{pushed}
+use Rattle.mixer_posts.proofs.Backward.{pushed}
 
 pub some_leg : (legs : List LegLine) (j : ℕ) → j < length legs → (line : LegLine) × (leg_at legs j ≡ Some line)
 some_leg [] j low = absurd (omega arith)

@@ -1,10 +1,9 @@
 -- What the terminals show is what is seen of the packets that they heard.
-use Rattle.std.proofs.Common.{◌≡◌, ℕ, zero, suc, ◌+◌, ◌<◌, ◌≤◌, Bool, true, false, cond, Some, None, List, [], ◌∷◌, ◌++◌, length, map, take, get_or, refl, ap, sym, ◌∙◌, subst, arith, add-one}
+use Rattle.std.proofs.Common.{◌≡◌, ℕ, zero, suc, ◌+◌, ◌<◌, ◌≤◌, Bool, true, false, cond, Some, None, List, [], ◌∷◌, ◌++◌, length, map, take, get_or, refl, ap, sym, ◌∙◌, subst, arith}
 use Rattle.std.specs.Prelude.{remove, flat_map, slice_get}
 use Rattle.std.specs.List.{enumerate_from}
-use Rattle.std.proofs.Math.Seq.{take-suc}
 use Rattle.std.proofs.lemmas.List.{take_all, append-nil}
-use Rattle.std.proofs.lemmas.List.FromFn.{length-enumerate_from, get_or-enumerate_from}
+use Rattle.std.proofs.lemmas.List.FromFn.{length-enumerate_from}
 use Rattle.std.proofs.lemmas.Grind.{flat_map-append}
 use Rattle.wire_spec.specs.Dump.{Item}
 use Rattle.file_spec.specs.declared.conf_lines.LegLine.{LegLine}
@@ -12,6 +11,7 @@ use Rattle.file_spec.specs.Conf.{Conf}
 use Rattle.mixer_spec.specs.Setups.{leg_at}
 use Rattle.view_spec.specs.Seen.{Speaker, aware_seen, unaware_seen}
 use Rattle.command_spec.specs.Mixing.{speaker_of}
+use Rattle.mixer_posts.proofs.LegLines.{legs_more}
 use Rattle.terminal.specs.declared.confs.TermConf.{TermConf}
 use Rattle.terminal.specs.declared.terminals.Terminal.{Terminal}
 use Rattle.terminal.specs.Terminals.{Heard, reception}
@@ -24,6 +24,10 @@ pub read_leg : (legs : List LegLine) (j : ℕ) (d leg : LegLine) → leg_at legs
 read_leg [] j d leg at = absurd (cc at)
 read_leg (x ∷ legs) zero d leg at = cc at
 read_leg (x ∷ legs) (suc j) d leg at = read_leg legs j d leg at
+
+-- a line that is read by its number is that of the leg
+pub shown_leg : (lines legs : List LegLine) (own : ℕ) (shown leg : LegLine) → shown ≡ get_or lines own shown → lines ≡ legs → leg_at legs own ≡ Some leg → shown ≡ leg
+shown_leg lines legs own shown leg is are at = is ∙ (ap (λ (ls : List LegLine). get_or ls own shown) are ∙ read_leg legs own shown leg at)
 
 pub found_leg : (legs : List LegLine) (j : ℕ) (d : LegLine) → j < length legs → leg_at legs j ≡ Some (get_or legs j d)
 found_leg [] j d l = absurd (omega arith)
@@ -68,14 +72,6 @@ views_below c given k = flat_map (λ x. live_view c x.0 x.1 (given x.0)) (take k
 -- this is what the first k of these terminals show of whatever each was given
 abbrev pub AreFirst : Conf → List Listening → ℕ → List ℕ → Type 0
 AreFirst c listeners k views = (given : ℕ → List (List ℕ)) → ((j : ℕ) (l : Listening) → slice_get listeners j ≡ Some l → HasHeard l (given j)) → views ≡ views_below c given k
-
-legs_more : (c : Conf) (k : ℕ) (d : LegLine) → k < length c.legs → take (k + 1) (enumerate_from 0 c.legs) ≡ take k (enumerate_from 0 c.legs) ++ (k, get_or c.legs k d) ∷ []
-legs_more c k d l =
-    let all = enumerate_from 0 c.legs in
-    let size = length-enumerate_from 0 c.legs in
-    let zeroed : 0 + k ≡ k = omega arith in
-    let it : get_or all k (0, d) ≡ (k, get_or c.legs k d) = get_or-enumerate_from 0 c.legs k (0, d) l ∙ ap (λ (n : ℕ). (n, get_or c.legs k d)) zeroed in
-    ap (λ (n : ℕ). take n all) (add-one k) ∙ (take-suc all k (0, d) (omega (arith, size, l)) ∙ ap (λ (x : ℕ × LegLine). take k all ++ x ∷ []) it)
 
 pub first_more : (c : Conf) (listeners : List Listening) (k : ℕ) (d : LegLine) (l : Listening) (old new : List ℕ) → k < length c.legs → slice_get listeners k ≡ Some l
     → AreFirst c listeners k old → AppendsView c k l old new → AreFirst c listeners (k + 1) new

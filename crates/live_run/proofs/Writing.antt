@@ -18,7 +18,7 @@ use Rattle.live_run.specs.Ends.{WereGiven, count_sources, counts_of}
 use Rattle.live_run.specs.Listeners.{NoneHeard}
 use Rattle.live_run.specs.Opened.{AreUnused}
 use Rattle.live_run.specs.Outputs.{HasSentNone, NoneSent}
-use Rattle.live_run.proofs.Closing.{pushed}
+use Rattle.mixer_posts.proofs.Backward.{pushed}
 use Rattle.live_run.proofs.Composing.{map_there}
 
 -- ---- one by one

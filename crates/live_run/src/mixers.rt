@@ -1,8 +1,7 @@
 //! The mixer of a live call.
-ghost use Rattle.std.specs.Prelude.{◌≡◌, ◌<◌, true, [], length, IfOk, IfErr, is_some};
+ghost use Rattle.std.specs.Prelude.{◌≡◌, ◌<◌, true, [], length, IfOk, IfErr};
 ghost use Rattle.conference.specs.Conferences.{conf_of};
 ghost use Rattle.mixer_spec.specs.Setups.{AllStay, setup};
-ghost use Rattle.mixer_spec.specs.Table.{after_calls, is_seated};
 ghost use Rattle.mixer_turn.specs.Making.{source_counts};
 ghost use Rattle.mixer_turn.specs.States.{legs_of, sources_of};
 ghost use Rattle.mixer_turn.specs.Standing.{StandsFor};

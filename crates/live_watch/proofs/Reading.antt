@@ -1,10 +1,9 @@
 -- What is read of a board at the end is what the mixer took.
-use Rattle.std.proofs.Common.{◌≡◌, ◌<◌, ◌≤◌, ◌+◌, ℕ, true, false, Bool, List, [], ◌∷◌, ◌++◌, length, get_or, take, map, cond, refl, ap, sym, ◌∙◌, subst, add-one, arith}
+use Rattle.std.proofs.Common.{◌≡◌, ◌<◌, ◌≤◌, ◌+◌, ℕ, true, false, Bool, List, [], ◌∷◌, ◌++◌, length, get_or, take, map, cond, refl, ap, sym, ◌∙◌, subst, arith}
 use Rattle.std.specs.Prelude.{◌==◌, IfOk, Ok, Result, flat_map}
 use Rattle.atomic_table.specs.Seated.{TableId}
 use Rattle.std.specs.List.{enumerate_from}
-use Rattle.std.proofs.Math.Seq.{take-suc}
-use Rattle.std.proofs.lemmas.List.FromFn.{length-enumerate_from, get_or-enumerate_from}
+use Rattle.std.proofs.lemmas.List.FromFn.{length-enumerate_from}
 use Rattle.std.proofs.lemmas.Grind.{flat_map-append}
 use Rattle.std.proofs.lemmas.List.{append-nil, append_assoc, length-append, take_all}
 use Rattle.rtt_base.specs.declared.records.Chunk.{Chunk as ChunkValue}
@@ -19,6 +18,7 @@ use Rattle.serve_spec.specs.Served.{End}
 use Rattle.serve_spec.specs.Watched.{board_line, board_lines}
 use Rattle.serve_spec.proofs.Watching.{board_law}
 use Rattle.board_spec.specs.Folds.{fold_of, text_of}
+use Rattle.mixer_posts.proofs.LegLines.{legs_more}
 use Rattle.live_board.specs.Values.{Writing}
 use Rattle.live_run.specs.Calls.{AreTaken, WasTapped}
 use Rattle.live_run.specs.Taps.{chunks_of, chunks_taken_in, notices_by}
@@ -53,14 +53,6 @@ totals_are c changes chunks table is taken =
 -- those of the first k legs
 abbrev pub totals_below : Conf → List ChunkValue → ℕ → List ℕ
 totals_below c changes k = flat_map (λ x. board_line x.1 (fold_of x.0 changes).total) (take k (enumerate_from 0 c.legs))
-
-legs_more : (c : Conf) (k : ℕ) (d : LegLine) → k < length c.legs → take (k + 1) (enumerate_from 0 c.legs) ≡ take k (enumerate_from 0 c.legs) ++ (k, get_or c.legs k d) ∷ []
-legs_more c k d l =
-    let all = enumerate_from 0 c.legs in
-    let size = length-enumerate_from 0 c.legs in
-    let zeroed : 0 + k ≡ k = omega arith in
-    let it : get_or all k (0, d) ≡ (k, get_or c.legs k d) = get_or-enumerate_from 0 c.legs k (0, d) l ∙ ap (λ (n : ℕ). (n, get_or c.legs k d)) zeroed in
-    ap (λ (n : ℕ). take n all) (add-one k) ∙ (take-suc all k (0, d) (omega (arith, size, l)) ∙ ap (λ (x : ℕ × LegLine). take k all ++ x ∷ []) it)
 
 -- one line more
 pub line_more : (c : Conf) (changes : List ChunkValue) (k : ℕ) (d : LegLine) (first old new : List ℕ) → k < length c.legs → old ≡ first ++ totals_below c changes k

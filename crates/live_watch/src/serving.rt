@@ -1,5 +1,5 @@
 //! A live call with a board is served.
-ghost use Rattle.std.specs.Prelude.{◌≡◌, false, [], length, IfOk, IfErr, OnOk};
+ghost use Rattle.std.specs.Prelude.{◌≡◌, false, [], IfOk, IfErr, OnOk};
 ghost use Rattle.link_io.specs.Ports.{NoneFalls, Same};
 ghost use Rattle.conference.specs.Conferences.{conf_of};
 ghost use Rattle.live_loop.specs.Walks.{IsPaused};

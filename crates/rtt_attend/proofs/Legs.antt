@@ -1,5 +1,5 @@
 -- The inputs of a conference's legs, heard one by one.
-use Rattle.std.proofs.Common.{◌≡◌, ◌≢◌, ℕ, ◌+◌, ◌<◌, Bool, true, false, Option, Some, None, List, [], ◌∷◌, ◌++◌, length, drop, cond, refl, ap, sym, subst, ◌∙◌, inl, inr, arith}
+use Rattle.std.proofs.Common.{◌≡◌, ◌≢◌, ℕ, ◌+◌, ◌<◌, Bool, true, false, Option, Some, None, List, [], ◌∷◌, ◌++◌, length, drop, get_or, cond, refl, ap, sym, subst, ◌∙◌, inl, inr, arith}
 use Rattle.std.specs.Prelude.{IsSome, slice_get, Result, Ok, Err, IfErr}
 use Rattle.std.proofs.lemmas.List.{length-map}
 use Rattle.wire_spec.specs.Dump.{dump}
@@ -22,7 +22,8 @@ use Rattle.bridge_run.specs.declared.mixed.MixFault.TheVariants.{Open, Dump, Too
 use Rattle.command_spec.specs.Inputs.{AllLie, LieBelow, NoneFailedBelow, inputs_under, octets_under}
 use Rattle.bridge_run.specs.Mixes.{IsFirst, NoneFailed, RoseAt, Stops}
 use Rattle.bridge_run.specs.Opened.{IsNotOpened}
-use Rattle.bridge_run.proofs.Opening.{is_there, pushed, rose_behind}
+use Rattle.mixer_posts.proofs.Backward.{pushed}
+use Rattle.bridge_run.proofs.Opening.{is_there, leg_read_at, rose_behind}
 use Rattle.bridge_run.proofs.Handing.{input_is}
 use Rattle.bridge_run.proofs.Answering.{broken_steps, leg_within}
 use Rattle.rtt_attend.specs.declared.said.Said.{Said}
@@ -121,6 +122,13 @@ module _ {S : Type 0} (tells : Type 0) (left : S → List ℕ) (faults : S → �
       let same : o.0 ≡ leg = let a = o.1 in cc (a, at) in
       subst (λ (l : LegLine). IsInput tells left faults name_of held l s) same o.2
 
+  -- and the leg that is read there, with its input
+  pub read_at : (held : Contents) (legs : List LegLine) (sources : List S) (k number : ℕ) (leg : LegLine) (s : S) → AreInputs tells left faults name_of held legs sources → slice_get sources k ≡ Some s → number ≡ k
+      → number < length legs → leg ≡ get_or legs number leg → (leg_at legs k ≡ Some leg) × IsInput tells left faults name_of held leg s
+  read_at held legs sources k number leg s are there at low is =
+      let got : leg_at legs k ≡ Some leg = subst (λ (n : ℕ). leg_at legs n ≡ Some leg) at (leg_read_at legs number leg low is) in
+      (got, opened_at held legs sources k leg s are there got)
+
   -- the leg k, its input and what was heard of those before it; what is counted at first, before it is read, behind that and last
   module _ (limit : ℕ) (held now : Contents) (legs : List LegLine) (k : ℕ) (leg : LegLine) (s : S) (all : List Said) (fault : DumpFault) (objects objects_now objects_read objects_then : List ℕ → ℕ)
       (at : leg_at legs k ≡ Some leg) (is : IsInput tells left faults name_of held leg s) (many : length all ≡ k) where
@@ -156,6 +164,13 @@ unheard_in Told objects now objects_then held then limit legs (Dump k fault) cou
   lowest = λ t. subst (λ (h : Contents). (j : ℕ) → j < k → (dump limit (input_at (inputs_under h legs) j)).fault ≡ None) (same_function then held (same t)) (u.lowest t);
   others = λ t n none. u.others t n none ∙ counts n;
 }
+
+-- and so of the lines and the limit that these are
+pub unheard_of : (Told : Type 0) (objects now objects_then : List ℕ → ℕ) (held then : Contents) (limit most : ℕ) (lines legs : List LegLine) (fault : MixFault) → lines ≡ legs → limit ≡ most
+    → ((n : List ℕ) → now n ≡ objects n) → (Told → (n : List ℕ) → then n ≡ held n) → AreUnheard Told now objects_then then limit lines fault → AreUnheard Told objects objects_then held most legs fault
+unheard_of Told objects now objects_then held then limit most lines legs fault are fits counts same u =
+    subst (λ (n : ℕ). AreUnheard Told objects objects_then held n legs fault) fits
+    (subst (λ (l : List LegLine). AreUnheard Told objects objects_then held limit l fault) are (unheard_in Told objects now objects_then held then limit lines fault counts same u))
 
 -- ---- the conference
 module _ (held : Contents) (c : Conf) where

@@ -1,5 +1,5 @@
 //! The inputs of a conference are heard.
-ghost use Rattle.std.specs.Prelude.{◌≡◌, ◌≢◌, ◌<◌, ◌≤◌, [], true, length, IfOk, IfErr, OnOk, OnErr};
+ghost use Rattle.std.specs.Prelude.{◌≡◌, ◌≢◌, ◌<◌, ◌≤◌, [], length, IfOk, IfErr, OnOk, OnErr};
 ghost use Rattle.std.specs.Vec.{vec_capacity};
 ghost use Rattle.rtt_io.specs.Names.{CountsNoOther, NoneFalls, Same};
 ghost use Rattle.rtpdump_io.specs.Reading.{UnlessOfSource};

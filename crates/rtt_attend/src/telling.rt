@@ -1,6 +1,5 @@
 //! What is told of the legs of a conference, told to it.
 ghost use Rattle.std.specs.Prelude.{◌≡◌, ◌+◌, ◌==◌, ◌<◌, Some, true, [], ◌∷◌, ◌++◌, length, if◌then◌else◌};
-ghost use Rattle.std.specs.List.{list_any};
 ghost use Rattle.std.specs.Str.{byte};
 ghost use Rattle.file_spec.specs.Conf.{change_leg, is_name_octet};
 ghost use Rattle.command_spec.specs.Attending.{as_name, is_free, left_so, named_so, told_legs, told_so, until_then};
@@ -8,7 +7,7 @@ ghost use Rattle.rtt_attend.specs.Heard.{said_of};
 ghost use Rattle.rtt_attend.specs.Named.{says_in, shaped};
 
 use crate::said::Said;
-use conference::{Legs, has_name, is_name_octet};
+use conference::{Legs, has_name, is_name_octet, set_name, set_stay};
 use file_spec::limits::{LAST_MOMENT, LONGEST_NAME};
 use file_spec::{LegLine, Stay};
 use rtcp_spec::SdesName;
@@ -50,7 +49,6 @@ fn name_from(text: &str) -> Option<Name>
     Some(name)
 }
 
-/// Whether a leg has this name.
 /// Whether no leg has this name.
 fn is_free(legs: &[LegLine], name: &str) -> bool
     ensures { result ≡ is_free legs.now name.now }
@@ -67,7 +65,7 @@ fn tell_text(legs: &mut Legs, leg: usize, text: &str)
         return;
     };
     if is_free(legs.as_slice(), name.as_str()) {
-        legs.set_name(leg, name);
+        set_name(legs, leg, name);
     }
 }
 
@@ -112,7 +110,7 @@ fn tell_end(legs: &mut Legs, leg: usize, wait: u32, at: u32)
 {
     let end = end_of(at, wait);
     let stay = stay_until(legs.as_slice()[leg].stay, end);
-    legs.set_stay(leg, stay);
+    set_stay(legs, leg, stay);
 }
 
 /// The same where the leg's input tells that it left.

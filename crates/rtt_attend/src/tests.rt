@@ -176,16 +176,17 @@ fn read_fault(alloc: Global) -> Result<Option<MixFault>, NoMemory> {
     Ok(hear_names(alloc, &mut conf, &mut world).err())
 }
 
+/// That the input of this leg can't be read from its beginning.
+fn unread(leg: u8, kind: DumpKind) -> MixFault {
+    MixFault::Dump {
+        leg,
+        fault: DumpFault { offset: 0, kind },
+    }
+}
+
 #[test]
 fn a_read_that_fails_is_told_of(rt: HostRuntime) -> Result<(), Fail> {
-    let failed = MixFault::Dump {
-        leg: 1,
-        fault: DumpFault {
-            offset: 0,
-            kind: DumpKind::Read,
-        },
-    };
-    assert!(rt; read_fault(rt.alloc())? == Some(failed));
+    assert!(rt; read_fault(rt.alloc())? == Some(unread(1, DumpKind::Read)));
     Ok(())
 }
 
@@ -209,13 +210,7 @@ fn a_name_that_came_before_is_not_given_again(rt: HostRuntime) -> Result<(), Fai
 
 #[test]
 fn an_input_that_cannot_be_opened_comes_first(rt: HostRuntime) -> Result<(), Fail> {
-    let broken = MixFault::Dump {
-        leg: 0,
-        fault: DumpFault {
-            offset: 0,
-            kind: DumpKind::NotDump,
-        },
-    };
+    let broken = unread(0, DumpKind::NotDump);
     assert!(rt; fault_of(rt.alloc(), b"no recording", b"")? == Some(MixFault::Open { leg: 1 }));
     assert!(rt; fault_of(rt.alloc(), b"", b"no recording")? == Some(MixFault::Open { leg: 0 }));
     assert!(rt; fault_of(rt.alloc(), b"no recording", b"neither")? == Some(broken));

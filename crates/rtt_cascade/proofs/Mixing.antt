@@ -61,9 +61,16 @@ split_calm : {S : Type 0} (faults : S → ℕ) (name : S → List ℕ) (s : Trun
 split_calm faults name (Split own) e = refl
 split_calm faults name (Below b) e = absurd (cc e)
 
-module _ {S : Type 0} (Told Tells : Type 0) (left : S → List ℕ) (faults : S → ℕ) (name : S → List ℕ) (held : Contents) (c : Conf) (recordings : List (List ℕ)) (inlets : List (LegInlet (TrunkSource S)))
-    (many : length inlets ≡ length c.legs)
-    (fed : AllFed Told Tells (left_in left) (faults_in faults) (name_in name) held c.wait (input_limit c) c.legs recordings inlets) where
+module _ {S : Type 0} (Told Tells : Type 0) (left : S → List ℕ) (faults : S → ℕ) (name : S → List ℕ) (held : Contents) (c : Conf) (recordings : List (List ℕ)) (lines : List LegLine) (limit : ℕ) (inlets : List (LegInlet (TrunkSource S)))
+    (are : lines ≡ c.legs) (fits : limit ≡ input_limit c) (count : length inlets ≡ length lines)
+    (fed_of : AllFed Told Tells (left_in left) (faults_in faults) (name_in name) held c.wait limit lines recordings inlets) where
+  many : length inlets ≡ length c.legs
+  many = count ∙ ap (λ (xs : List LegLine). length xs) are
+
+  fed : AllFed Told Tells (left_in left) (faults_in faults) (name_in name) held c.wait (input_limit c) c.legs recordings inlets
+  fed = subst (λ l. AllFed Told Tells (left_in left) (faults_in faults) (name_in name) held c.wait l c.legs recordings inlets) fits
+      (subst (λ (xs : List LegLine). AllFed Told Tells (left_in left) (faults_in faults) (name_in name) held c.wait limit xs recordings inlets) are fed_of)
+
   abbrev pub texts : List (List ℕ)
   texts = texts_of held c.legs recordings
 

@@ -1,5 +1,5 @@
 -- Legs over splits and inputs, opened one by one and handed back.
-use Rattle.std.proofs.Common.{◌≡◌, ◌≢◌, ℕ, zero, suc, ◌≤◌, inl, inr, false, cond, Option, Some, List, [], ◌∷◌, ◌++◌, length, ap, subst, sym, ◌∙◌, arith}
+use Rattle.std.proofs.Common.{◌≡◌, ℕ, zero, suc, ◌≤◌, inl, inr, false, cond, Option, Some, List, [], ◌∷◌, ◌++◌, length, ap, subst, sym, ◌∙◌, arith}
 use Rattle.std.specs.Prelude.{IsSome, slice_get, unwrap_or}
 use Rattle.file_spec.specs.declared.conf_lines.LegLine.{LegLine}
 use Rattle.rtt_io.specs.Counts.{Rose}
@@ -11,9 +11,10 @@ use Rattle.command_spec.specs.Mixing.{input_at}
 use Rattle.command_spec.specs.Cascading.{is_on_trunk}
 use Rattle.bridge_run.specs.declared.mixed.MixFault.{MixFault}
 use Rattle.bridge_run.specs.declared.mixed.MixFault.TheVariants.{Open, Dump, TooLong, NoMemory}
-use Rattle.bridge_run.specs.Mixes.{IsFirst}
+use Rattle.bridge_run.specs.Opened as of_inputs
 use Rattle.bridge_run.specs.Opened.{ear_of}
-use Rattle.bridge_run.proofs.Opening.{first_here, is_there, pushed, rose_behind, rose_on}
+use Rattle.mixer_posts.proofs.Backward.{pushed}
+use Rattle.bridge_run.proofs.Opening.{is_there, rose_behind, rose_on}
 use Rattle.rtt_cascade.specs.Texts.{text_of}
 use Rattle.rtt_cascade.specs.Feeding.{Adds, AllFed, IsFedLeg, IsNotOpened, IsRefused, LeavesCount, RisesFor}
 
@@ -88,16 +89,12 @@ module _ {S : Type 0} (Told Tells : Type 0) (left : S → List ℕ) (faults : S 
   not_opened held wait limit j legs recordings leg ps before now after last TooLong h l g b a r = r
   not_opened held wait limit j legs recordings leg ps before now after last NoMemory h l g b a r = r
 
--- it is the first that can't be opened
-pub is_first : (Told : Type 0) (held held_now : Contents) (legs : List LegLine) (j : ℕ) (leg : LegLine) (before now after last : List ℕ → ℕ) (fault : MixFault)
-    → leg_at legs j ≡ Some leg → IsRefused now after j leg fault → (Told → (n : List ℕ) → held_now n ≡ held n)
-    → (Told → IsSome (held_now leg.input) → (n : List ℕ) → n ≢ leg.input → after n ≡ now n)
-    → ((n : List ℕ) → now n ≡ before n) → ((n : List ℕ) → last n ≡ after n) → IsFirst Told held legs before last fault
-is_first Told held held_now legs j leg before now after last (Open k) g r same other b a =
-    first_here Told held held_now legs k leg before now after last (ap (λ (i : ℕ). leg_at legs i) r.0 ∙ g) same other b a
-is_first Told held held_now legs j leg before now after last (Dump k fault) g r same other b a = absurd r
-is_first Told held held_now legs j leg before now after last TooLong g r same other b a = absurd r
-is_first Told held held_now legs j leg before now after last NoMemory g r same other b a = tt
+-- it was refused as one over its input is
+pub refused : (now after : List ℕ → ℕ) (j : ℕ) (leg : LegLine) (fault : MixFault) → IsRefused now after j leg fault → of_inputs.IsRefused now after j leg fault
+refused now after j leg (Open k) r = (r.0, r.1.1)
+refused now after j leg (Dump k fault) r = absurd r
+refused now after j leg TooLong r = absurd r
+refused now after j leg NoMemory r = tt
 
 -- an element that is read by its number
 pub got_input : (recordings : List (List ℕ)) (j : ℕ) (recording : List ℕ) → slice_get recordings j ≡ Some recording → recording ≡ input_at recordings j

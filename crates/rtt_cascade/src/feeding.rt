@@ -184,9 +184,8 @@ pub(crate) fn mix_fed<R: Threads + Wait + Sync, W: World, G: Gate + Sync>(
     ensures calls_never_fall { NoneFalls W.own_faults world.old world.new }
     ensures objects_never_fall { NoneFalls W.object_faults world.old world.new }
 {
-    let lines = conf.legs.as_slice();
     let limit = input_limit(conf);
-    let legs = match open_legs(alloc, lines, conf.wait, limit, splits, world) {
+    let legs = match open_legs(alloc, conf.legs.as_slice(), conf.wait, limit, splits, world) {
         Ok(legs) => legs,
         Err(fault) => return Err(fault),
     };

@@ -1,40 +1,32 @@
-use Rattle.std.proofs.Common.{◌+◌, List, length, refl, ap, subst, sym, ◌∙◌, arith}
-use Rattle.std.proofs.lemmas.Option.{slice_get_read}
+use Rattle.std.proofs.Common.{◌+◌, List, length, ap, subst, sym, ◌∙◌, arith}
 use Rattle.std.proofs.lemmas.List.{length_push}
 use Rattle.leg_items.specs.declared.inlets.LegInlet.{LegInlet}
 use Rattle.bridge_run.specs.Opened.{AllOpened}
-use Rattle.bridge_run.proofs.Opening.{is_first, leg_got, not_opened, opened_more}
+use Rattle.bridge_run.proofs.Opening.{is_first, leg_read_at, not_opened, opened_more}
 use Rattle.bridge_run.proofs.legs.open_legs.Goals as goal
 
 pub returns-in-Err-clause-refused : goal.returns-in-Err-clause-refused
 returns-in-Err-clause-refused g c =
-    let legs = c.args.legs.now in
-    let got = leg_got legs c.loop-index.index ∙ slice_get_read legs (length legs) c.loop-index.index c.index-legs-index.result refl (omega (arith, c.loop-index-test.true)) c.index-legs-index.is in
-    not_opened g.W.World.tells g.W.Src.Source.left g.W.Src.Source.faults g.W.Src.Source.name (g.W.World.contents c.args.world.now) c.args.wait c.args.limit c.loop-index.index legs c.index-legs-index.result c.loop-index.inlets.items
+    not_opened g.W.World.tells g.W.Src.Source.left g.W.Src.Source.faults g.W.Src.Source.name (g.W.World.contents c.args.world.now) c.args.wait c.args.limit c.loop-index.index c.args.legs.now c.index-legs-index.result c.loop-index.inlets.items
     (g.W.World.own_faults c.args.world.now) (g.W.World.own_faults c.loop-index.world) (g.W.World.own_faults c.open_leg.new.world) (g.W.World.own_faults c.close_legs.new.world) c.in-Err.fault
-    c.loop-index.invariant.opened c.loop-index.invariant.count got c.loop-index.invariant.same_own c.close_legs.ensures.same_own c.in-Err.ensures.refused
+    c.loop-index.invariant.opened c.loop-index.invariant.count (leg_read_at c.args.legs.now c.loop-index.index c.index-legs-index.result (omega (arith, c.loop-index-test.true)) c.index-legs-index.is) c.loop-index.invariant.same_own c.close_legs.ensures.same_own c.in-Err.ensures.refused
 
 pub returns-in-Err-clause-first : goal.returns-in-Err-clause-first
 returns-in-Err-clause-first g c =
-    let legs = c.args.legs.now in
-    let got = leg_got legs c.loop-index.index ∙ slice_get_read legs (length legs) c.loop-index.index c.index-legs-index.result refl (omega (arith, c.loop-index-test.true)) c.index-legs-index.is in
-    is_first g.W.World.tells (g.W.World.contents c.args.world.now) (g.W.World.contents c.loop-index.world) legs c.loop-index.index c.index-legs-index.result
+    is_first g.W.World.tells (g.W.World.contents c.args.world.now) (g.W.World.contents c.loop-index.world) c.args.legs.now c.loop-index.index c.index-legs-index.result
     (g.W.World.own_faults c.args.world.now) (g.W.World.own_faults c.loop-index.world) (g.W.World.own_faults c.open_leg.new.world) (g.W.World.own_faults c.close_legs.new.world) c.in-Err.fault
-    got c.in-Err.ensures.refused c.loop-index.invariant.contents c.in-Err.ensures.no_other c.loop-index.invariant.same_own c.close_legs.ensures.same_own
+    (leg_read_at c.args.legs.now c.loop-index.index c.index-legs-index.result (omega (arith, c.loop-index-test.true)) c.index-legs-index.is) c.in-Err.ensures.refused c.loop-index.invariant.contents c.in-Err.ensures.no_other c.loop-index.invariant.same_own c.close_legs.ensures.same_own
 
 pub loop-index-preserved : goal.loop-index-preserved
 loop-index-preserved g c =
     let i = c.loop-index.invariant in
-    let legs = c.args.legs.now in
     let inlet = c.in-Ok-open_leg.inlet in
-    let now = c.loop-index.inlets.items in
     let items = c.push_reserved.ensures.items in
-    let got = leg_got legs c.loop-index.index ∙ slice_get_read legs (length legs) c.loop-index.index c.index-legs-index.result refl (omega (arith, c.loop-index-test.true)) c.index-legs-index.is in
-    let opened = subst (λ (xs : List (LegInlet g.row.W-Src.Denot)). AllOpened g.W.World.tells g.W.Src.Source.left g.W.Src.Source.faults g.W.Src.Source.name (g.W.World.contents c.args.world.now) c.args.wait c.args.limit legs xs) (sym items)
-    (opened_more g.W.World.tells g.W.Src.Source.left g.W.Src.Source.faults g.W.Src.Source.name (g.W.World.contents c.loop-index.world) (g.W.World.contents c.args.world.now) c.args.wait c.args.limit c.loop-index.index legs c.index-legs-index.result now inlet
-    i.contents i.opened i.count got c.in-Ok-open_leg.ensures.opened) in
+    let opened = subst (λ (xs : List (LegInlet g.row.W-Src.Denot)). AllOpened g.W.World.tells g.W.Src.Source.left g.W.Src.Source.faults g.W.Src.Source.name (g.W.World.contents c.args.world.now) c.args.wait c.args.limit c.args.legs.now xs) (sym items)
+    (opened_more g.W.World.tells g.W.Src.Source.left g.W.Src.Source.faults g.W.Src.Source.name (g.W.World.contents c.loop-index.world) (g.W.World.contents c.args.world.now) c.args.wait c.args.limit c.loop-index.index c.args.legs.now c.index-legs-index.result c.loop-index.inlets.items inlet
+    i.contents i.opened i.count (leg_read_at c.args.legs.now c.loop-index.index c.index-legs-index.result (omega (arith, c.loop-index-test.true)) c.index-legs-index.is) c.in-Ok-open_leg.ensures.opened) in
     record {
-      count = ap (λ (xs : List (LegInlet g.row.W-Src.Denot)). length xs) items ∙ (length_push now inlet ∙ ap (λ n. n + 1) i.count);
+      count = ap (λ (xs : List (LegInlet g.row.W-Src.Denot)). length xs) items ∙ (length_push c.loop-index.inlets.items inlet ∙ ap (λ n. n + 1) i.count);
       len = omega (arith, c.push_reserved.ensures.len, i.len);
       room = omega (arith, c.push_reserved.ensures.capacity, i.room);
       opened = opened;

@@ -1,66 +1,39 @@
-use Rattle.std.proofs.Common.{◌<◌, List, length, ap, subst, ◌∙◌, arith}
+use Rattle.std.proofs.Common.{List, length, ap, subst, ◌∙◌, arith}
 use Rattle.rtt_io.specs.Counts.{Rose}
 use Rattle.file_spec.specs.declared.conf_lines.LegLine.{LegLine}
 use Rattle.conference.specs.Conferences.{conf_of}
 use Rattle.leg_items.specs.Answers.{source_in}
-use Rattle.bridge_run.specs.Answered.{MixesAsked}
 use Rattle.bridge_run.specs.Mixes.{RoseAt}
-use Rattle.bridge_run.specs.Opened.{AllOpened}
 use Rattle.bridge_run.proofs.Handing.{are_new, is_made, none_failed, none_failed_yet, none_refused, on_ok, stops}
 use Rattle.bridge_run.proofs.mixing.mix.Goals as goal
 
 pub mix_opened-mixed-requires-clause-new : goal.mix_opened-mixed-requires-clause-new
 mix_opened-mixed-requires-clause-new g c = λ κs lives.
-    let conf = conf_of c.args.conf.now in
-    let held = g.W.World.contents c.args.world.now in
-    let many = c.in-Ok.ensures.legs ∙ ap (λ (xs : List LegLine). length xs) c.as_slice-lines.ensures in
-    let opened = subst (λ l. AllOpened g.W.World.tells g.W.Src.Source.left g.W.Src.Source.faults g.W.Src.Source.name held conf.wait l conf.legs c.in-Ok.legs.items) c.input_limit-limit.ensures
-    (subst (λ (xs : List LegLine). AllOpened g.W.World.tells g.W.Src.Source.left g.W.Src.Source.faults g.W.Src.Source.name held conf.wait c.input_limit-limit.result xs c.in-Ok.legs.items) c.as_slice-lines.ensures c.in-Ok.ensures.opened) in
-    (are_new g.W.World.tells g.W.Src.Source.left g.W.Src.Source.faults g.W.Src.Source.name held conf c.in-Ok.legs.items many opened)
+    are_new g.W.World.tells g.W.Src.Source.left g.W.Src.Source.faults g.W.Src.Source.name (g.W.World.contents c.args.world.now) (conf_of c.args.conf.now) c.as_slice-lines.result.now c.input_limit-limit.result c.in-Ok.legs.items
+    c.as_slice-lines.ensures c.input_limit-limit.ensures c.in-Ok.ensures.legs c.in-Ok.ensures.opened
 
 pub returns-clause-made : goal.returns-clause-made
 returns-clause-made g c =
-    let conf = conf_of c.args.conf.now in
-    let held = g.W.World.contents c.args.world.now in
-    let many = c.in-Ok.ensures.legs ∙ ap (λ (xs : List LegLine). length xs) c.as_slice-lines.ensures in
-    let opened = subst (λ l. AllOpened g.W.World.tells g.W.Src.Source.left g.W.Src.Source.faults g.W.Src.Source.name held conf.wait l conf.legs c.in-Ok.legs.items) c.input_limit-limit.ensures
-    (subst (λ (xs : List LegLine). AllOpened g.W.World.tells g.W.Src.Source.left g.W.Src.Source.faults g.W.Src.Source.name held conf.wait c.input_limit-limit.result xs c.in-Ok.legs.items) c.as_slice-lines.ensures c.in-Ok.ensures.opened) in
-    let some : 0 < length c.as_slice-lines.result.now = omega (arith, c.args.conf.now.kept.two, ap (λ (xs : List LegLine). length xs) c.as_slice-lines.ensures) in
-    let mixes : g.W.World.tells → MixesAsked g.W.Src.Source.left conf c.in-Ok.legs.items c.mix_opened-mixed.result.mixed =
-    λ told. c.mix_opened-mixed.ensures.mixes (c.in-Ok.ensures.shown told some) in
-    is_made g.W.World.tells g.W.Src.Source.left g.W.Src.Source.faults g.W.Src.Source.name held conf c.in-Ok.legs.items many opened c.mix_opened-mixed.result.mixed mixes
+    is_made g.W.World.tells g.W.Src.Source.left g.W.Src.Source.faults g.W.Src.Source.name (g.W.World.contents c.args.world.now) (conf_of c.args.conf.now) c.as_slice-lines.result.now c.input_limit-limit.result c.in-Ok.legs.items
+    c.as_slice-lines.ensures c.input_limit-limit.ensures c.in-Ok.ensures.legs c.in-Ok.ensures.opened c.mix_opened-mixed.result.mixed g.W.Src.Source.tells (omega (arith, c.args.conf.now.kept.two, ap (λ (xs : List LegLine). length xs) c.as_slice-lines.ensures)) c.in-Ok.ensures.shown c.mix_opened-mixed.ensures.mixes
 
 pub returns-clause-stops : goal.returns-clause-stops
 returns-clause-stops g c =
-    let conf = conf_of c.args.conf.now in
-    let held = g.W.World.contents c.args.world.now in
-    let many = c.in-Ok.ensures.legs ∙ ap (λ (xs : List LegLine). length xs) c.as_slice-lines.ensures in
-    let opened = subst (λ l. AllOpened g.W.World.tells g.W.Src.Source.left g.W.Src.Source.faults g.W.Src.Source.name held conf.wait l conf.legs c.in-Ok.legs.items) c.input_limit-limit.ensures
-    (subst (λ (xs : List LegLine). AllOpened g.W.World.tells g.W.Src.Source.left g.W.Src.Source.faults g.W.Src.Source.name held conf.wait c.input_limit-limit.result xs c.in-Ok.legs.items) c.as_slice-lines.ensures c.in-Ok.ensures.opened) in
-    let some : 0 < length c.as_slice-lines.result.now = omega (arith, c.args.conf.now.kept.two, ap (λ (xs : List LegLine). length xs) c.as_slice-lines.ensures) in
-    let mixes : g.W.World.tells → MixesAsked g.W.Src.Source.left conf c.in-Ok.legs.items c.mix_opened-mixed.result.mixed =
-    λ told. c.mix_opened-mixed.ensures.mixes (c.in-Ok.ensures.shown told some) in
-    stops g.W.World.tells g.W.Src.Source.left g.W.Src.Source.faults g.W.Src.Source.name held conf c.in-Ok.legs.items many opened c.mix_opened-mixed.result.mixed mixes
+    stops g.W.World.tells g.W.Src.Source.left g.W.Src.Source.faults g.W.Src.Source.name (g.W.World.contents c.args.world.now) (conf_of c.args.conf.now) c.as_slice-lines.result.now c.input_limit-limit.result c.in-Ok.legs.items
+    c.as_slice-lines.ensures c.input_limit-limit.ensures c.in-Ok.ensures.legs c.in-Ok.ensures.opened c.mix_opened-mixed.result.mixed g.W.Src.Source.tells (omega (arith, c.args.conf.now.kept.two, ap (λ (xs : List LegLine). length xs) c.as_slice-lines.ensures)) c.in-Ok.ensures.shown c.mix_opened-mixed.ensures.mixes
     (g.W.World.object_faults c.args.world.now) (g.W.World.object_faults c.close_legs.new.world) c.mix_opened-mixed.result.legs.items c.mix_opened-mixed.ensures.legs
     (RoseAt (g.W.World.own_faults c.args.world.now) (g.W.World.own_faults c.close_legs.new.world)) c.mix_opened-mixed.ensures.sources c.mix_opened-mixed.ensures.leg
     (λ j q at rose. subst (λ n. Rose n (g.W.World.object_faults c.close_legs.new.world (g.W.Src.Source.name (source_in q)))) (c.in-Ok.ensures.same_objects (g.W.Src.Source.name (source_in q)))
-    (c.close_legs.ensures.failed j q at rose))
+    (c.close_legs.ensures.counts.failed j q at rose))
 
 pub returns-clause-none_failed : goal.returns-clause-none_failed
 returns-clause-none_failed g c =
-    let conf = conf_of c.args.conf.now in
-    let held = g.W.World.contents c.args.world.now in
-    let many = c.in-Ok.ensures.legs ∙ ap (λ (xs : List LegLine). length xs) c.as_slice-lines.ensures in
-    let opened = subst (λ l. AllOpened g.W.World.tells g.W.Src.Source.left g.W.Src.Source.faults g.W.Src.Source.name held conf.wait l conf.legs c.in-Ok.legs.items) c.input_limit-limit.ensures
-    (subst (λ (xs : List LegLine). AllOpened g.W.World.tells g.W.Src.Source.left g.W.Src.Source.faults g.W.Src.Source.name held conf.wait c.input_limit-limit.result xs c.in-Ok.legs.items) c.as_slice-lines.ensures c.in-Ok.ensures.opened) in
-    let some : 0 < length c.as_slice-lines.result.now = omega (arith, c.args.conf.now.kept.two, ap (λ (xs : List LegLine). length xs) c.as_slice-lines.ensures) in
-    let mixes : g.W.World.tells → MixesAsked g.W.Src.Source.left conf c.in-Ok.legs.items c.mix_opened-mixed.result.mixed =
-    λ told. c.mix_opened-mixed.ensures.mixes (c.in-Ok.ensures.shown told some) in
-    none_failed g.W.World.tells g.W.Src.Source.left g.W.Src.Source.faults g.W.Src.Source.name held conf c.in-Ok.legs.items many opened c.mix_opened-mixed.result.mixed mixes
+    none_failed g.W.World.tells g.W.Src.Source.left g.W.Src.Source.faults g.W.Src.Source.name (g.W.World.contents c.args.world.now) (conf_of c.args.conf.now) c.as_slice-lines.result.now c.input_limit-limit.result c.in-Ok.legs.items
+    c.as_slice-lines.ensures c.input_limit-limit.ensures c.in-Ok.ensures.legs c.in-Ok.ensures.opened c.mix_opened-mixed.result.mixed g.W.Src.Source.tells (omega (arith, c.args.conf.now.kept.two, ap (λ (xs : List LegLine). length xs) c.as_slice-lines.ensures)) c.in-Ok.ensures.shown c.mix_opened-mixed.ensures.mixes
     (g.W.World.object_faults c.args.world.now) (g.W.World.object_faults c.close_legs.new.world) c.mix_opened-mixed.result.legs.items c.mix_opened-mixed.ensures.legs
     (g.W.World.contents c.open_legs.new.world) c.mix_opened-mixed.ensures.sources c.mix_opened-mixed.ensures.leg c.in-Ok.ensures.same_contents
-    (λ calm n. c.close_legs.ensures.calm calm n ∙ c.in-Ok.ensures.same_objects n)
-    (λ told n left. c.close_legs.ensures.left told n left ∙ c.in-Ok.ensures.same_objects n)
+    (λ calm n. c.close_legs.ensures.counts.calm calm n ∙ c.in-Ok.ensures.same_objects n)
+    (λ told n left. c.close_legs.ensures.counts.left told n left ∙ c.in-Ok.ensures.same_objects n)
 
 pub returns-in-Err-clause-none_failed : goal.returns-in-Err-clause-none_failed
 returns-in-Err-clause-none_failed g c =

@@ -53,20 +53,16 @@ pub made-requires-clause-sent : goal.made-requires-clause-sent
 made-requires-clause-sent g c =
     let conf = conf_of c.args.conf.now in
     let x = c.mix_legs-mixing.ensures.mixed (setup conf) (pts_at conf) c.in-Ok.ensures.stands (sym c.requires.legs) (subst (λ lines. StayAs (setup conf) lines) (sym c.as_slice-lines.ensures) (stays_law conf)) in
-    let m = c.mix_legs-mixing.result.mixer in
-    let mixed : HasMixed conf m x.table = subst (λ (a : Mixing DumpFault memory.NoMemory). UnlessUnsent a (HasMixed conf m x.table)) c.in-Over.is x.mixed in
-    let log = c.into_outbound-log.ensures in
-    let playable : All IsPlayable c.into_outbound-log.result = subst (λ (l : State). All IsPlayable l) (sym log) (all_playable conf m x.table mixed) in
+    let playable : All IsPlayable c.into_outbound-log.result = subst (λ (l : State). All IsPlayable l) (sym c.into_outbound-log.ensures) (all_playable conf c.mix_legs-mixing.result.mixer x.table
+    (subst (λ (a : Mixing DumpFault memory.NoMemory). UnlessUnsent a (HasMixed conf c.mix_legs-mixing.result.mixer x.table)) c.in-Over.is x.mixed)) in
     search rules
 
 pub made-requires-clause-legs : goal.made-requires-clause-legs
 made-requires-clause-legs g c =
     let conf = conf_of c.args.conf.now in
     let x = c.mix_legs-mixing.ensures.mixed (setup conf) (pts_at conf) c.in-Ok.ensures.stands (sym c.requires.legs) (subst (λ lines. StayAs (setup conf) lines) (sym c.as_slice-lines.ensures) (stays_law conf)) in
-    let m = c.mix_legs-mixing.result.mixer in
-    let mixed : HasMixed conf m x.table = subst (λ (a : Mixing DumpFault memory.NoMemory). UnlessUnsent a (HasMixed conf m x.table)) c.in-Over.is x.mixed in
-    let log = c.into_outbound-log.ensures in
-    let all : length c.into_outbound-log.result ≡ length c.args.conf.now.legs = ap (λ (l : State). length l) log ∙ many conf m x.table mixed in
+    let mixed : HasMixed conf c.mix_legs-mixing.result.mixer x.table = subst (λ (a : Mixing DumpFault memory.NoMemory). UnlessUnsent a (HasMixed conf c.mix_legs-mixing.result.mixer x.table)) c.in-Over.is x.mixed in
+    let all : length c.into_outbound-log.result ≡ length c.args.conf.now.legs = ap (λ (l : State). length l) c.into_outbound-log.ensures ∙ many conf c.mix_legs-mixing.result.mixer x.table mixed in
     search rules
 
 pub returns-in-Over-clause-mixes : goal.returns-in-Over-clause-mixes

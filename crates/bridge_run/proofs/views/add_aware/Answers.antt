@@ -12,7 +12,8 @@ use Rattle.played.specs.Written.{IsWrittenOf}
 use Rattle.bridge_run.specs.Viewed.{Adds, view_from}
 use Rattle.bridge_run.proofs.Noting.{found_at}
 use Rattle.bridge_run.proofs.Recorded.{read_recording}
-use Rattle.bridge_run.proofs.Viewing.{leg_read, ssrcs_differ, aware_view, adds, has_few, piece_more}
+use Rattle.mixer_posts.proofs.LegLines.{ssrcs_differ}
+use Rattle.bridge_run.proofs.Viewing.{leg_read, aware_view, adds, has_few, piece_more}
 use Rattle.bridge_run.proofs.views.add_aware.Goals as goal
 
 pub played-requires-clause-differ : goal.played-requires-clause-differ

@@ -2,7 +2,7 @@ use Rattle.std.proofs.Common.{◌∙◌, ℕ, List, ap, sym, subst}
 use Rattle.std.specs.Prelude.{AllPairs, remove, ◌≢◌}
 use Rattle.file_spec.specs.declared.conf_lines.LegLine.{LegLine}
 use Rattle.conference.specs.Speakers.{ssrcs_of}
-use Rattle.live_run.proofs.Speaking.{ssrcs_differ}
+use Rattle.mixer_posts.proofs.LegLines.{ssrcs_differ}
 use Rattle.live_run.proofs.listeners.listener_of.Goals as goal
 
 pub new-requires-clause-differ : goal.new-requires-clause-differ

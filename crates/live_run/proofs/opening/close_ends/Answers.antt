@@ -1,5 +1,6 @@
-use Rattle.std.proofs.Common.{inl, inr, refl, ◌∙◌, arith}
-use Rattle.live_run.proofs.Closing.{failed_more, front_still, last_of_all, nothing_left, stored_more}
+use Rattle.std.proofs.Common.{inl, refl, ◌∙◌, arith}
+use Rattle.mixer_posts.proofs.Backward.{all_done, front_still, last_of_all}
+use Rattle.live_run.proofs.Closing.{failed_more, stored_more}
 use Rattle.live_run.proofs.opening.close_ends.Goals as goal
 
 pub loop-end-init : goal.loop-end-init
@@ -34,16 +35,10 @@ pub returns-clause-calm : goal.returns-clause-calm
 returns-clause-calm g c = c.loop-end.invariant.calm
 
 pub returns-clause-failed : goal.returns-clause-failed
-returns-clause-failed g c = λ j x e. elim (c.loop-end.invariant.failed j x e) [
-  | inl at ↦ absurd (nothing_left c.loop-end.ends.items _ c.pop.result c.loop-end.ends.ok.0 c.pop.ensures.variant.1 c.in_default.is j x at)
-  | inr r ↦ r
-]
+returns-clause-failed g c = λ j x e. all_done c.loop-end.ends.items _ c.pop.result c.loop-end.ends.ok.0 c.pop.ensures.variant.1 c.in_default.is j x (c.loop-end.invariant.failed j x e)
 
 pub returns-clause-stored : goal.returns-clause-stored
-returns-clause-stored g c = λ t own j x e. elim (c.loop-end.invariant.stored t own j x e) [
-  | inl at ↦ absurd (nothing_left c.loop-end.ends.items _ c.pop.result c.loop-end.ends.ok.0 c.pop.ensures.variant.1 c.in_default.is j x at)
-  | inr r ↦ r
-]
+returns-clause-stored g c = λ t own j x e. all_done c.loop-end.ends.items _ c.pop.result c.loop-end.ends.ok.0 c.pop.ensures.variant.1 c.in_default.is j x (c.loop-end.invariant.stored t own j x e)
 
 pub returns-clause-same_taken : goal.returns-clause-same_taken
 returns-clause-same_taken g c = c.loop-end.invariant.other

@@ -1,7 +1,8 @@
-use Rattle.std.proofs.Common.{◌≡◌, ◌≢◌, ℕ, true, inl, inr, refl, ap, subst, ◌∙◌, arith}
+use Rattle.std.proofs.Common.{◌≡◌, ◌≢◌, ℕ, true, inl, refl, ap, subst, ◌∙◌, arith}
 use Rattle.rtt_io.specs.Counts.{counted}
 use Rattle.live_leg.specs.declared.legs.LinkLeg.{LinkLeg}
-use Rattle.live_run.proofs.Closing.{failed_more, front_still, last_of_all, nothing_left, stored_more}
+use Rattle.mixer_posts.proofs.Backward.{all_done, front_still, last_of_all}
+use Rattle.live_run.proofs.Closing.{failed_more, stored_more}
 use Rattle.live_run.proofs.opening.close_legs.Goals as goal
 
 pub loop-leg-init : goal.loop-leg-init
@@ -44,16 +45,10 @@ pub returns-clause-calm : goal.returns-clause-calm
 returns-clause-calm g c = c.loop-leg.invariant.calm
 
 pub returns-clause-failed : goal.returns-clause-failed
-returns-clause-failed g c = λ j x e. elim (c.loop-leg.invariant.failed j x e) [
-  | inl at ↦ absurd (nothing_left c.loop-leg.legs.items _ c.pop.result c.loop-leg.legs.ok.0 c.pop.ensures.variant.1 c.in_default.is j x at)
-  | inr r ↦ r
-]
+returns-clause-failed g c = λ j x e. all_done c.loop-leg.legs.items _ c.pop.result c.loop-leg.legs.ok.0 c.pop.ensures.variant.1 c.in_default.is j x (c.loop-leg.invariant.failed j x e)
 
 pub returns-clause-stored : goal.returns-clause-stored
-returns-clause-stored g c = λ t own j x e. elim (c.loop-leg.invariant.stored t own j x e) [
-  | inl at ↦ absurd (nothing_left c.loop-leg.legs.items _ c.pop.result c.loop-leg.legs.ok.0 c.pop.ensures.variant.1 c.in_default.is j x at)
-  | inr r ↦ r
-]
+returns-clause-stored g c = λ t own j x e. all_done c.loop-leg.legs.items _ c.pop.result c.loop-leg.legs.ok.0 c.pop.ensures.variant.1 c.in_default.is j x (c.loop-leg.invariant.stored t own j x e)
 
 pub returns-clause-same_given : goal.returns-clause-same_given
 returns-clause-same_given g c = c.loop-leg.invariant.other

@@ -6,7 +6,7 @@ use Rattle.file_spec.specs.Conf.{port}
 use Rattle.mixer_spec.specs.Setups.{leg_at}
 use Rattle.conference.specs.Conferences.{conf_of}
 use Rattle.live_run.specs.Opened.{ear_at}
-use Rattle.live_run.proofs.Showing.{found_leg, read_leg}
+use Rattle.live_run.proofs.Showing.{found_leg, shown_leg}
 use Rattle.live_run.proofs.opening.open_link.Goals as goal
 
 pub unreachable-requires : goal.unreachable-requires
@@ -22,9 +22,7 @@ pub returns-in_default-link-clause-refused : goal.returns-in_default-link-clause
 returns-in_default-link-clause-refused g c = λ line at. (
   refl,
   λ p e.
-      let own = c.args.own in
-      let shown = c.index-as_slice-own.result in
-      let same : shown ≡ line = c.index-as_slice-own.is ∙ (ap (λ (ls : List LegLine). get_or ls own shown) c.as_slice.ensures ∙ read_leg c.args.conf.now.legs own shown line at) in
+      let same = shown_leg c.as_slice.result.now c.args.conf.now.legs c.args.own c.index-as_slice-own.result line c.index-as_slice-own.is c.as_slice.ensures at in
       let there = ap port (sym c.as_str.ensures) ∙ (sym c.number_from.ensures.exact ∙ c.in-Some.is) in
       let is : c.in-Some.port ≡ p = cc (sym there ∙ (ap (λ (l : LegLine). port l.input) same ∙ e)) in
       subst (λ (q : ℕ). Rose (g.W.Links.own_faults c.args.world.now q) (g.W.Links.own_faults c.link.new.self q)) is c.in_default-link.ensures.failed,
@@ -32,9 +30,7 @@ returns-in_default-link-clause-refused g c = λ line at. (
 
 pub returns-in-Ok-new-clause-leg : goal.returns-in-Ok-new-clause-leg
 returns-in-Ok-new-clause-leg g c = λ line at.
-    let own = c.args.own in
-    let shown = c.index-as_slice-own.result in
-    let same : shown ≡ line = c.index-as_slice-own.is ∙ (ap (λ (ls : List LegLine). get_or ls own shown) c.as_slice.ensures ∙ read_leg c.args.conf.now.legs own shown line at) in
+    let same = shown_leg c.as_slice.result.now c.args.conf.now.legs c.args.own c.index-as_slice-own.result line c.index-as_slice-own.is c.as_slice.ensures at in
     let there = ap port (sym c.as_str.ensures) ∙ (sym c.number_from.ensures.exact ∙ c.in-Some.is) in
     let link = c.in-Ok-new.ensures.link in
     let opened = c.in-Ok-link.ensures in
@@ -49,9 +45,7 @@ returns-in-Ok-new-clause-leg g c = λ line at.
 
 pub returns-in-Ok-new-clause-end : goal.returns-in-Ok-new-clause-end
 returns-in-Ok-new-clause-end g c = λ line at.
-    let own = c.args.own in
-    let shown = c.index-as_slice-own.result in
-    let same : shown ≡ line = c.index-as_slice-own.is ∙ (ap (λ (ls : List LegLine). get_or ls own shown) c.as_slice.ensures ∙ read_leg c.args.conf.now.legs own shown line at) in
+    let same = shown_leg c.as_slice.result.now c.args.conf.now.legs c.args.own c.index-as_slice-own.result line c.index-as_slice-own.is c.as_slice.ensures at in
     let there = ap port (sym c.as_str.ensures) ∙ (sym c.number_from.ensures.exact ∙ c.in-Some.is) in
     let opened = c.in-Ok-link.ensures in
     record {

@@ -12,12 +12,7 @@ returns-in-Err-answer_of-clause-given_up g c =
     (λ p. c.call-turned.ensures.same_objects p ∙ c.open_links.ensures.same_objects p) c.close_legs.ensures.objects_never_fall c.close_ends.ensures.objects_never_fall c.close_legs.ensures.failed c.close_ends.ensures.failed c.in-Err-answer_of.fault (sym c.in-Err-answer_of.ensures)
 
 pub returns-in-Err-answer_of-clause-objects_never_fall : goal.returns-in-Err-answer_of-clause-objects_never_fall
-returns-in-Err-answer_of-clause-objects_never_fall g c = λ p.
-    let made = c.call-turned.ensures.same_objects p in
-    let opened = c.open_links.ensures.same_objects p in
-    let legs = c.close_legs.ensures.objects_never_fall p in
-    let ends = c.close_ends.ensures.objects_never_fall p in
-    omega (arith, made, opened, legs, ends)
+returns-in-Err-answer_of-clause-objects_never_fall g c = λ p. omega (arith, c.call-turned.ensures.same_objects p, c.open_links.ensures.same_objects p, c.close_legs.ensures.objects_never_fall p, c.close_ends.ensures.objects_never_fall p)
 
 pub returns-in-Ok-printed-clause-tapped : goal.returns-in-Ok-printed-clause-tapped
 returns-in-Ok-printed-clause-tapped g c =
@@ -25,17 +20,7 @@ returns-in-Ok-printed-clause-tapped g c =
     c.close_legs.ensures.stored c.close_ends.ensures.same_taken c.close_legs.ensures.same_opened c.close_ends.ensures.stored c.in-Ok-answer_of.end c.in-Ok-printed.views (sym c.in-Ok-answer_of.ensures) c.in-Ok-printed.ensures
 
 pub returns-in-Ok-printed-clause-objects_never_fall : goal.returns-in-Ok-printed-clause-objects_never_fall
-returns-in-Ok-printed-clause-objects_never_fall g c = λ p.
-    let made = c.call-turned.ensures.same_objects p in
-    let opened = c.open_links.ensures.same_objects p in
-    let legs = c.close_legs.ensures.objects_never_fall p in
-    let ends = c.close_ends.ensures.objects_never_fall p in
-    omega (arith, made, opened, legs, ends)
+returns-in-Ok-printed-clause-objects_never_fall g c = λ p. omega (arith, c.call-turned.ensures.same_objects p, c.open_links.ensures.same_objects p, c.close_legs.ensures.objects_never_fall p, c.close_ends.ensures.objects_never_fall p)
 
 pub returns-in-Err-printed-clause-objects_never_fall : goal.returns-in-Err-printed-clause-objects_never_fall
-returns-in-Err-printed-clause-objects_never_fall g c = λ p.
-    let made = c.call-turned.ensures.same_objects p in
-    let opened = c.open_links.ensures.same_objects p in
-    let legs = c.close_legs.ensures.objects_never_fall p in
-    let ends = c.close_ends.ensures.objects_never_fall p in
-    omega (arith, made, opened, legs, ends)
+returns-in-Err-printed-clause-objects_never_fall g c = λ p. omega (arith, c.call-turned.ensures.same_objects p, c.open_links.ensures.same_objects p, c.close_legs.ensures.objects_never_fall p, c.close_ends.ensures.objects_never_fall p)

@@ -3,6 +3,7 @@ use Rattle.std.specs.Prelude.{Err}
 use Rattle.std.specs.Global.{Vec}
 use Rattle.file_spec.specs.declared.conf_lines.LegLine.{LegLine}
 use Rattle.command_spec.specs.Work.{Contents}
+use Rattle.mixer_spec.specs.Bridged.{input_limit}
 use Rattle.conference.specs.Conferences.{conf_of}
 use Rattle.bridge_run.specs.declared.mixed.MixFault.{MixFault}
 use Rattle.command_spec.specs.Inputs.{AllLie}
@@ -11,7 +12,7 @@ use Rattle.rtt_attend.specs.declared.said.Said.{Said}
 use Rattle.rtt_attend.specs.Opened.{AreHeard, AreUnheard}
 use Rattle.rtt_attend.specs.Named.{AreTold}
 use Rattle.rtt_attend.proofs.Lists.{both_ok, of_err, of_ok, same_function}
-use Rattle.rtt_attend.proofs.Legs.{are_told, lie_below, none_failed, none_refused, stops, unheard_in}
+use Rattle.rtt_attend.proofs.Legs.{are_told, lie_below, none_failed, none_refused, stops, unheard_of}
 use Rattle.rtt_attend.proofs.hearing.hear_all.Goals as goal
 
 pub returns-clause-told : goal.returns-clause-told
@@ -35,41 +36,29 @@ returns-clause-told g c = λ t.
 
 pub returns-clause-stops : goal.returns-clause-stops
 returns-clause-stops g c =
-    let conf = conf_of c.args.conf.now in
-    let held = g.W.World.contents c.args.world.now in
-    let then = g.W.World.contents c.open_inputs.new.world in
-    let objects = g.W.World.object_faults c.args.world.now in
-    let now = g.W.World.object_faults c.open_inputs.new.world in
-    let last = g.W.World.object_faults c.hear_inputs.new.world in
+    let held = g.W.World.contents in
+    let objects = g.W.World.object_faults in
+    let last = objects c.hear_inputs.new.world in
     let call = RoseAt (g.W.World.own_faults c.args.world.now) (g.W.World.own_faults c.hear_inputs.new.world) in
-    let lines = c.as_slice-lines.result.now in
-    let limit = c.input_limit-limit.result in
-    let are = c.as_slice-lines.ensures in
-    let all_lie : g.W.World.tells → AllLie held conf.legs = λ t. subst (λ (l : List LegLine). AllLie held l) are
-    (lie_below g.W.World.tells g.W.Src.Source.left g.W.Src.Source.faults g.W.Src.Source.name held lines c.in-Ok-open_inputs.sources.items (length lines) c.in-Ok-open_inputs.ensures.opened c.in-Ok-open_inputs.ensures.count t) in
-    of_err (λ (fault : MixFault). AreUnheard g.W.World.tells now last then limit lines fault) (λ (fault : MixFault). Stops g.W.World.tells call (RoseAt objects last) held conf fault) c.hear_inputs.result
-    (λ fault u. stops held conf g.W.World.tells call objects last fault all_lie
-    (subst (λ (n : ℕ). AreUnheard g.W.World.tells objects last held n conf.legs fault) c.input_limit-limit.ensures
-    (subst (λ (l : List LegLine). AreUnheard g.W.World.tells objects last held limit l fault) are
-    (unheard_in g.W.World.tells objects now last held then limit lines fault c.open_inputs.ensures.same_objects c.open_inputs.ensures.same_contents u))))
+    let all_lie : g.W.World.tells → AllLie (held c.args.world.now) (conf_of c.args.conf.now).legs = λ t. subst (λ (l : List LegLine). AllLie (held c.args.world.now) l) c.as_slice-lines.ensures
+    (lie_below g.W.World.tells g.W.Src.Source.left g.W.Src.Source.faults g.W.Src.Source.name (held c.args.world.now) c.as_slice-lines.result.now c.in-Ok-open_inputs.sources.items (length c.as_slice-lines.result.now) c.in-Ok-open_inputs.ensures.opened c.in-Ok-open_inputs.ensures.count t) in
+    of_err (λ (fault : MixFault). AreUnheard g.W.World.tells (objects c.open_inputs.new.world) last (held c.open_inputs.new.world) c.input_limit-limit.result c.as_slice-lines.result.now fault)
+    (λ (fault : MixFault). Stops g.W.World.tells call (RoseAt (objects c.args.world.now) last) (held c.args.world.now) (conf_of c.args.conf.now) fault) c.hear_inputs.result
+    (λ fault u. stops (held c.args.world.now) (conf_of c.args.conf.now) g.W.World.tells call (objects c.args.world.now) last fault all_lie
+    (unheard_of g.W.World.tells (objects c.args.world.now) (objects c.open_inputs.new.world) last (held c.args.world.now) (held c.open_inputs.new.world) c.input_limit-limit.result (input_limit (conf_of c.args.conf.now)) c.as_slice-lines.result.now (conf_of c.args.conf.now).legs fault
+    c.as_slice-lines.ensures c.input_limit-limit.ensures c.open_inputs.ensures.same_objects c.open_inputs.ensures.same_contents u))
     c.hear_inputs.ensures.unheard
 
 pub returns-clause-none_failed : goal.returns-clause-none_failed
 returns-clause-none_failed g c =
-    let conf = conf_of c.args.conf.now in
-    let held = g.W.World.contents c.args.world.now in
-    let then = g.W.World.contents c.open_inputs.new.world in
-    let objects = g.W.World.object_faults c.args.world.now in
-    let now = g.W.World.object_faults c.open_inputs.new.world in
-    let last = g.W.World.object_faults c.hear_inputs.new.world in
-    let call = RoseAt (g.W.World.own_faults c.args.world.now) (g.W.World.own_faults c.hear_inputs.new.world) in
-    let lines = c.as_slice-lines.result.now in
-    let limit = c.input_limit-limit.result in
-    of_err (λ (fault : MixFault). AreUnheard g.W.World.tells now last then limit lines fault) (λ (fault : MixFault). NoneFailed g.W.World.tells conf.legs objects last (Err fault)) c.hear_inputs.result
-    (λ fault u. none_failed held conf g.W.World.tells call objects last fault
-    (subst (λ (n : ℕ). AreUnheard g.W.World.tells objects last held n conf.legs fault) c.input_limit-limit.ensures
-    (subst (λ (l : List LegLine). AreUnheard g.W.World.tells objects last held limit l fault) c.as_slice-lines.ensures
-    (unheard_in g.W.World.tells objects now last held then limit lines fault c.open_inputs.ensures.same_objects c.open_inputs.ensures.same_contents u))))
+    let held = g.W.World.contents in
+    let objects = g.W.World.object_faults in
+    let last = objects c.hear_inputs.new.world in
+    of_err (λ (fault : MixFault). AreUnheard g.W.World.tells (objects c.open_inputs.new.world) last (held c.open_inputs.new.world) c.input_limit-limit.result c.as_slice-lines.result.now fault)
+    (λ (fault : MixFault). NoneFailed g.W.World.tells (conf_of c.args.conf.now).legs (objects c.args.world.now) last (Err fault)) c.hear_inputs.result
+    (λ fault u. none_failed (held c.args.world.now) (conf_of c.args.conf.now) g.W.World.tells (RoseAt (g.W.World.own_faults c.args.world.now) (g.W.World.own_faults c.hear_inputs.new.world)) (objects c.args.world.now) last fault
+    (unheard_of g.W.World.tells (objects c.args.world.now) (objects c.open_inputs.new.world) last (held c.args.world.now) (held c.open_inputs.new.world) c.input_limit-limit.result (input_limit (conf_of c.args.conf.now)) c.as_slice-lines.result.now (conf_of c.args.conf.now).legs fault
+    c.as_slice-lines.ensures c.input_limit-limit.ensures c.open_inputs.ensures.same_objects c.open_inputs.ensures.same_contents u))
     c.hear_inputs.ensures.unheard
 
 pub returns-clause-first : goal.returns-clause-first

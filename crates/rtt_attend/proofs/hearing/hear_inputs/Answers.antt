@@ -1,14 +1,11 @@
-use Rattle.std.proofs.Common.{◌≡◌, ◌+◌, ◌<◌, ℕ, Some, List, length, drop, suc, refl, ap, subst, sym, ◌∙◌, arith}
+use Rattle.std.proofs.Common.{◌≡◌, ◌+◌, ◌<◌, ℕ, List, length, drop, suc, refl, ap, subst, sym, ◌∙◌, arith}
 use Rattle.std.specs.Prelude.{Ok}
 use Rattle.std.specs.Vec.Iter.{into_iter_items}
-use Rattle.std.proofs.lemmas.Option.{slice_get_read}
 use Rattle.std.proofs.lemmas.List.{length_push}
-use Rattle.mixer_spec.specs.Setups.{leg_at}
-use Rattle.bridge_run.proofs.Opening.{leg_got}
 use Rattle.rtt_attend.specs.declared.said.Said.{Said}
 use Rattle.rtt_attend.specs.Opened.{AreHeard, IsUnheard}
 use Rattle.rtt_attend.proofs.Lists.{next_of, rest_of}
-use Rattle.rtt_attend.proofs.Legs.{heard_more, hears_leg, none_heard, opened_at, rest_fresh, unheard}
+use Rattle.rtt_attend.proofs.Legs.{heard_more, hears_leg, none_heard, read_at, rest_fresh, unheard}
 use Rattle.rtt_attend.proofs.hearing.hear_inputs.Goals as goal
 
 pub loop-source-init : goal.loop-source-init
@@ -71,8 +68,7 @@ loop-source-preserved g c =
     let leg = c.index-legs-number.result in
     let at : number ≡ k = omega (arith, c.len-number.ensures, i.len) in
     let low : number < length legs = omega (arith, c.len-number.ensures, i.len, i.count, step.1) in
-    let got : leg_at legs k ≡ Some leg = subst (λ (n : ℕ). leg_at legs n ≡ Some leg) at (leg_got legs number ∙ slice_get_read legs (length legs) number leg refl low c.index-legs-number.is) in
-    let is = opened_at g.W.World.tells g.W.Src.Source.left g.W.Src.Source.faults g.W.Src.Source.name held legs c.args.sources.items k leg source c.requires.opened there got in
+    let own = read_at g.W.World.tells g.W.Src.Source.left g.W.Src.Source.faults g.W.Src.Source.name held legs c.args.sources.items k number leg source c.requires.opened there at low c.index-legs-number.is in
     let items = c.push_reserved.ensures.items in
     let longer : length c.push_reserved.new.self.items ≡ k + 1 = ap (λ (l : List Said). length l) items ∙ length_push all said in
     let more : suc k ≡ length c.push_reserved.new.self.items = omega (arith, longer) in
@@ -84,7 +80,7 @@ loop-source-preserved g c =
       room = omega (arith, c.push_reserved.ensures.capacity, i.room);
       heard = λ t. subst (λ (l : List Said). AreHeard c.args.limit held legs l) (sym items)
           (heard_more c.args.limit held legs all said (i.heard t)
-          (hears_leg g.W.World.tells g.W.Src.Source.left g.W.Src.Source.faults g.W.Src.Source.name c.args.limit held legs k leg source (Ok said) got is t (c.in-Ok.ensures.hears (c.requires.shown t (omega (arith, low))))));
+          (hears_leg g.W.World.tells g.W.Src.Source.left g.W.Src.Source.faults g.W.Src.Source.name c.args.limit held legs k leg source (Ok said) own.0 own.1 t (c.in-Ok.ensures.hears (c.requires.shown t (omega (arith, low))))));
       same_own = λ n. c.hear_leg.ensures.same_own n ∙ i.same_own n;
       same_objects = λ n. c.in-Ok.ensures.calm n ∙ i.same_objects n;
       same_contents = λ t n. c.hear_leg.ensures.same_contents t n ∙ i.same_contents t n;
@@ -95,8 +91,7 @@ returns-in-Err-clause-unheard g c =
     let i = c.loop-source.invariant in
     let held = g.W.World.contents c.args.world.now in
     let legs = c.args.legs.now in
-    let all = c.loop-source.all.items in
-    let k = length all in
+    let k = length c.loop-source.all.items in
     let source = c.in-Some.source in
     let fault = c.in-Err.fault in
     let step = c.in-Some.ensures.cases in
@@ -106,13 +101,12 @@ returns-in-Err-clause-unheard g c =
     let leg = c.index-legs-number.result in
     let at : number ≡ k = omega (arith, c.len-number.ensures, i.len) in
     let low : number < length legs = omega (arith, c.len-number.ensures, i.len, i.count, step.1) in
-    let got : leg_at legs k ≡ Some leg = subst (λ (n : ℕ). leg_at legs n ≡ Some leg) at (leg_got legs number ∙ slice_get_read legs (length legs) number leg refl low c.index-legs-number.is) in
-    let is = opened_at g.W.World.tells g.W.Src.Source.left g.W.Src.Source.faults g.W.Src.Source.name held legs c.args.sources.items k leg source c.requires.opened there got in
+    let own = read_at g.W.World.tells g.W.Src.Source.left g.W.Src.Source.faults g.W.Src.Source.name held legs c.args.sources.items k number leg source c.requires.opened there at low c.index-legs-number.is in
     let objects = g.W.World.object_faults c.args.world.now in
     let objects_then = g.W.World.object_faults c.close_inputs.new.world in
     subst (λ (n : ℕ). IsUnheard g.W.World.tells objects objects_then held c.args.limit legs n fault) (sym at)
-    (unheard g.W.World.tells g.W.Src.Source.left g.W.Src.Source.faults g.W.Src.Source.name c.args.limit held (g.W.World.contents c.loop-source.world) legs k leg source all fault objects (g.W.World.object_faults c.loop-source.world) (g.W.World.object_faults c.hear_leg.new.world) objects_then
-    got is refl i.heard (λ t. c.in-Err.ensures.hears (c.requires.shown t (omega (arith, low)))) c.in-Err.ensures.read c.in-Err.ensures.calm c.hear_leg.ensures.no_other i.same_objects c.close_inputs.ensures.same_objects i.same_contents)
+    (unheard g.W.World.tells g.W.Src.Source.left g.W.Src.Source.faults g.W.Src.Source.name c.args.limit held (g.W.World.contents c.loop-source.world) legs k leg source c.loop-source.all.items fault objects (g.W.World.object_faults c.loop-source.world) (g.W.World.object_faults c.hear_leg.new.world) objects_then
+    own.0 own.1 refl i.heard (λ t. c.in-Err.ensures.hears (c.requires.shown t (omega (arith, low)))) c.in-Err.ensures.read c.in-Err.ensures.calm c.hear_leg.ensures.no_other i.same_objects c.close_inputs.ensures.same_objects i.same_contents)
 
 pub returns-clause-heard : goal.returns-clause-heard
 returns-clause-heard g c = c.loop-source.invariant.heard

@@ -1,63 +1,39 @@
-use Rattle.std.proofs.Common.{List, length, ap, subst, ◌∙◌, arith}
+use Rattle.std.proofs.Common.{List, length, subst, ◌∙◌, arith}
 use Rattle.rtt_io.specs.Counts.{Rose}
 use Rattle.file_spec.specs.declared.conf_lines.LegLine.{LegLine}
 use Rattle.conference.specs.Conferences.{conf_of}
 use Rattle.cascade.specs.Splits.{recordings_of}
-use Rattle.cascade.specs.TrunkSources.{faults_in, left_in, name_in}
 use Rattle.bridge_run.specs.Mixes.{IsFirst}
 use Rattle.bridge_run.proofs.Handing.{none_refused, on_ok}
-use Rattle.rtt_cascade.specs.Feeding.{AllFed, IsNotOpened}
+use Rattle.rtt_cascade.specs.Feeding.{IsNotOpened}
 use Rattle.rtt_cascade.proofs.Mixing.{are_new, caused, caused_none, counts_kept, fed_none, kept_none, mixes_fed}
 use Rattle.rtt_cascade.proofs.feeding.mix_fed.Goals as goal
 
 pub mix_opened-mixed-requires-clause-new : goal.mix_opened-mixed-requires-clause-new
 mix_opened-mixed-requires-clause-new g c = λ κs lives.
-    let conf = conf_of c.args.conf.now in
-    let held = g.W.World.contents c.args.world.now in
-    let recordings = recordings_of c.args.splits.now in
-    let many = c.in-Ok.ensures.legs ∙ ap (λ (xs : List LegLine). length xs) c.as_slice-lines.ensures in
-    let fed = subst (λ l. AllFed g.W.World.tells g.W.Src.Source.tells (left_in g.W.Src.Source.left) (faults_in g.W.Src.Source.faults) (name_in g.W.Src.Source.name) held conf.wait l conf.legs recordings c.in-Ok.legs.items) c.input_limit-limit.ensures
-    (subst (λ (xs : List LegLine). AllFed g.W.World.tells g.W.Src.Source.tells (left_in g.W.Src.Source.left) (faults_in g.W.Src.Source.faults) (name_in g.W.Src.Source.name) held conf.wait c.input_limit-limit.result xs recordings c.in-Ok.legs.items) c.as_slice-lines.ensures c.in-Ok.ensures.fed) in
-    are_new g.W.World.tells g.W.Src.Source.tells g.W.Src.Source.left g.W.Src.Source.faults g.W.Src.Source.name held conf recordings c.in-Ok.legs.items many fed
+    are_new g.W.World.tells g.W.Src.Source.tells g.W.Src.Source.left g.W.Src.Source.faults g.W.Src.Source.name (g.W.World.contents c.args.world.now) (conf_of c.args.conf.now) (recordings_of c.args.splits.now) c.as_slice.result.now c.input_limit-limit.result c.in-Ok.legs.items
+    c.as_slice.ensures c.input_limit-limit.ensures c.in-Ok.ensures.legs c.in-Ok.ensures.fed
 
 pub returns-clause-mixes : goal.returns-clause-mixes
 returns-clause-mixes g c = λ told tells.
-    let conf = conf_of c.args.conf.now in
-    let held = g.W.World.contents c.args.world.now in
-    let recordings = recordings_of c.args.splits.now in
-    let many = c.in-Ok.ensures.legs ∙ ap (λ (xs : List LegLine). length xs) c.as_slice-lines.ensures in
-    let fed = subst (λ l. AllFed g.W.World.tells g.W.Src.Source.tells (left_in g.W.Src.Source.left) (faults_in g.W.Src.Source.faults) (name_in g.W.Src.Source.name) held conf.wait l conf.legs recordings c.in-Ok.legs.items) c.input_limit-limit.ensures
-    (subst (λ (xs : List LegLine). AllFed g.W.World.tells g.W.Src.Source.tells (left_in g.W.Src.Source.left) (faults_in g.W.Src.Source.faults) (name_in g.W.Src.Source.name) held conf.wait c.input_limit-limit.result xs recordings c.in-Ok.legs.items) c.as_slice-lines.ensures c.in-Ok.ensures.fed) in
-    mixes_fed g.W.World.tells g.W.Src.Source.tells g.W.Src.Source.left g.W.Src.Source.faults g.W.Src.Source.name held conf recordings c.in-Ok.legs.items many fed
-    c.mix_opened-mixed.result.mixed c.mix_opened-mixed.ensures.leg c.mix_opened-mixed.ensures.mixes told tells
+    mixes_fed g.W.World.tells g.W.Src.Source.tells g.W.Src.Source.left g.W.Src.Source.faults g.W.Src.Source.name (g.W.World.contents c.args.world.now) (conf_of c.args.conf.now) (recordings_of c.args.splits.now) c.as_slice.result.now c.input_limit-limit.result c.in-Ok.legs.items
+    c.as_slice.ensures c.input_limit-limit.ensures c.in-Ok.ensures.legs c.in-Ok.ensures.fed c.mix_opened-mixed.result.mixed c.mix_opened-mixed.ensures.leg c.mix_opened-mixed.ensures.mixes told tells
 
 pub returns-clause-caused : goal.returns-clause-caused
 returns-clause-caused g c =
-    let conf = conf_of c.args.conf.now in
-    let held = g.W.World.contents c.args.world.now in
     let own = g.W.World.own_faults in
     let objects = g.W.World.object_faults in
-    let recordings = recordings_of c.args.splits.now in
-    let many = c.in-Ok.ensures.legs ∙ ap (λ (xs : List LegLine). length xs) c.as_slice-lines.ensures in
-    let fed = subst (λ l. AllFed g.W.World.tells g.W.Src.Source.tells (left_in g.W.Src.Source.left) (faults_in g.W.Src.Source.faults) (name_in g.W.Src.Source.name) held conf.wait l conf.legs recordings c.in-Ok.legs.items) c.input_limit-limit.ensures
-    (subst (λ (xs : List LegLine). AllFed g.W.World.tells g.W.Src.Source.tells (left_in g.W.Src.Source.left) (faults_in g.W.Src.Source.faults) (name_in g.W.Src.Source.name) held conf.wait c.input_limit-limit.result xs recordings c.in-Ok.legs.items) c.as_slice-lines.ensures c.in-Ok.ensures.fed) in
-    caused g.W.World.tells g.W.Src.Source.tells g.W.Src.Source.left g.W.Src.Source.faults g.W.Src.Source.name held conf recordings c.in-Ok.legs.items many fed
-    c.mix_opened-mixed.result.mixed c.mix_opened-mixed.ensures.leg (objects c.args.world.now) (objects c.close_legs.new.world) c.mix_opened-mixed.result.legs.items c.mix_opened-mixed.ensures.legs c.mix_opened-mixed.ensures.sources
-    (λ n. Rose (own c.args.world.now n) (own c.close_legs.new.world n))
+    caused g.W.World.tells g.W.Src.Source.tells g.W.Src.Source.left g.W.Src.Source.faults g.W.Src.Source.name (g.W.World.contents c.args.world.now) (conf_of c.args.conf.now) (recordings_of c.args.splits.now) c.as_slice.result.now c.input_limit-limit.result c.in-Ok.legs.items
+    c.as_slice.ensures c.input_limit-limit.ensures c.in-Ok.ensures.legs c.in-Ok.ensures.fed c.mix_opened-mixed.result.mixed c.mix_opened-mixed.ensures.leg
+    (objects c.args.world.now) (objects c.close_legs.new.world) c.mix_opened-mixed.result.legs.items c.mix_opened-mixed.ensures.legs c.mix_opened-mixed.ensures.sources (λ n. Rose (own c.args.world.now n) (own c.close_legs.new.world n))
     (λ j q at name named rose. subst (λ n. Rose n (objects c.close_legs.new.world name)) (c.open_legs.ensures.same_objects name) (c.close_legs.ensures.failed j q at name named rose))
 
 pub returns-clause-kept : goal.returns-clause-kept
 returns-clause-kept g c =
-    let conf = conf_of c.args.conf.now in
-    let held = g.W.World.contents c.args.world.now in
     let objects = g.W.World.object_faults in
-    let recordings = recordings_of c.args.splits.now in
-    let many = c.in-Ok.ensures.legs ∙ ap (λ (xs : List LegLine). length xs) c.as_slice-lines.ensures in
-    let fed = subst (λ l. AllFed g.W.World.tells g.W.Src.Source.tells (left_in g.W.Src.Source.left) (faults_in g.W.Src.Source.faults) (name_in g.W.Src.Source.name) held conf.wait l conf.legs recordings c.in-Ok.legs.items) c.input_limit-limit.ensures
-    (subst (λ (xs : List LegLine). AllFed g.W.World.tells g.W.Src.Source.tells (left_in g.W.Src.Source.left) (faults_in g.W.Src.Source.faults) (name_in g.W.Src.Source.name) held conf.wait c.input_limit-limit.result xs recordings c.in-Ok.legs.items) c.as_slice-lines.ensures c.in-Ok.ensures.fed) in
-    counts_kept g.W.World.tells g.W.Src.Source.tells g.W.Src.Source.left g.W.Src.Source.faults g.W.Src.Source.name held conf recordings c.in-Ok.legs.items many fed
-    c.mix_opened-mixed.result.mixed c.mix_opened-mixed.ensures.leg (objects c.args.world.now) (objects c.close_legs.new.world) c.mix_opened-mixed.result.legs.items c.mix_opened-mixed.ensures.legs c.mix_opened-mixed.ensures.sources
-    (g.W.World.contents c.open_legs.new.world) c.open_legs.ensures.same_contents
+    counts_kept g.W.World.tells g.W.Src.Source.tells g.W.Src.Source.left g.W.Src.Source.faults g.W.Src.Source.name (g.W.World.contents c.args.world.now) (conf_of c.args.conf.now) (recordings_of c.args.splits.now) c.as_slice.result.now c.input_limit-limit.result c.in-Ok.legs.items
+    c.as_slice.ensures c.input_limit-limit.ensures c.in-Ok.ensures.legs c.in-Ok.ensures.fed c.mix_opened-mixed.result.mixed c.mix_opened-mixed.ensures.leg
+    (objects c.args.world.now) (objects c.close_legs.new.world) c.mix_opened-mixed.result.legs.items c.mix_opened-mixed.ensures.legs c.mix_opened-mixed.ensures.sources (g.W.World.contents c.open_legs.new.world) c.open_legs.ensures.same_contents
     (λ calm n. c.close_legs.ensures.calm calm n ∙ c.open_legs.ensures.same_objects n)
     (λ told n left. c.close_legs.ensures.left told n left ∙ c.open_legs.ensures.same_objects n)
 
@@ -67,7 +43,7 @@ returns-in-Err-clause-mixes g c = λ told tells.
     let held = g.W.World.contents c.args.world.now in
     let own = g.W.World.own_faults in
     fed_none g.W.World.tells held (own c.args.world.now) (own c.open_legs.new.world) (recordings_of c.args.splits.now) conf c.in-Err.fault
-    (subst (λ (ls : List LegLine). IsNotOpened g.W.World.tells held (own c.args.world.now) (own c.open_legs.new.world) ls c.in-Err.fault) c.as_slice-lines.ensures c.in-Err.ensures.refused) told
+    (subst (λ (ls : List LegLine). IsNotOpened g.W.World.tells held (own c.args.world.now) (own c.open_legs.new.world) ls c.in-Err.fault) c.as_slice.ensures c.in-Err.ensures.refused) told
 
 pub returns-in-Err-clause-caused : goal.returns-in-Err-clause-caused
 returns-in-Err-clause-caused g c =
@@ -75,7 +51,7 @@ returns-in-Err-clause-caused g c =
     let own = g.W.World.own_faults in
     let objects = g.W.World.object_faults in
     caused_none g.W.World.tells held (own c.args.world.now) (own c.open_legs.new.world) (λ n. Rose (objects c.args.world.now n) (objects c.open_legs.new.world n)) c.args.conf.now.legs c.in-Err.fault
-    (subst (λ (ls : List LegLine). IsNotOpened g.W.World.tells held (own c.args.world.now) (own c.open_legs.new.world) ls c.in-Err.fault) c.as_slice-lines.ensures c.in-Err.ensures.refused)
+    (subst (λ (ls : List LegLine). IsNotOpened g.W.World.tells held (own c.args.world.now) (own c.open_legs.new.world) ls c.in-Err.fault) c.as_slice.ensures c.in-Err.ensures.refused)
 
 pub returns-in-Err-clause-kept : goal.returns-in-Err-clause-kept
 returns-in-Err-clause-kept g c =
@@ -83,7 +59,7 @@ returns-in-Err-clause-kept g c =
     let own = g.W.World.own_faults in
     let objects = g.W.World.object_faults in
     kept_none g.W.World.tells held (own c.args.world.now) (own c.open_legs.new.world) (objects c.args.world.now) (objects c.open_legs.new.world) c.args.conf.now.legs c.in-Err.fault
-    (subst (λ (ls : List LegLine). IsNotOpened g.W.World.tells held (own c.args.world.now) (own c.open_legs.new.world) ls c.in-Err.fault) c.as_slice-lines.ensures c.in-Err.ensures.refused)
+    (subst (λ (ls : List LegLine). IsNotOpened g.W.World.tells held (own c.args.world.now) (own c.open_legs.new.world) ls c.in-Err.fault) c.as_slice.ensures c.in-Err.ensures.refused)
     c.open_legs.ensures.same_objects
 
 pub returns-clause-calls_never_fall : goal.returns-clause-calls_never_fall
@@ -101,7 +77,7 @@ pub returns-in-Err-clause-first : goal.returns-in-Err-clause-first
 returns-in-Err-clause-first g c =
     let held = g.W.World.contents c.args.world.now in
     let own = g.W.World.own_faults in
-    subst (λ (ls : List LegLine). IsFirst g.W.World.tells held ls (own c.args.world.now) (own c.open_legs.new.world) c.in-Err.fault) c.as_slice-lines.ensures c.in-Err.ensures.first
+    subst (λ (ls : List LegLine). IsFirst g.W.World.tells held ls (own c.args.world.now) (own c.open_legs.new.world) c.in-Err.fault) c.as_slice.ensures c.in-Err.ensures.first
 
 pub returns-clause-opened : goal.returns-clause-opened
 returns-clause-opened g c = on_ok c.mix_opened-mixed.result.mixed _ (λ n. c.close_legs.ensures.same_own n ∙ c.in-Ok.ensures.calm n)

@@ -36,25 +36,19 @@ returns-in-Ok-hear-clause-took g c = λ s pts sent next w.
     }
 
 pub returns-in_default-give-clause-sources : goal.returns-in_default-give-clause-sources
-returns-in_default-give-clause-sources g c =
-    same_numbers count_sources c.args.self.now.outputs.items c.args.post.now.terminal c.index_mut-output.result.now c.packet.new.self c.index_mut-output.result.now c.index_mut-output.ensures.value c.packet.ensures.sources
+returns-in_default-give-clause-sources g c = same_numbers count_sources c.args.self.now.outputs.items c.args.post.now.terminal c.index_mut-output.result.now c.packet.new.self c.index_mut-output.result.now c.index_mut-output.ensures.value c.packet.ensures.sources
 
 pub returns-in_default-give-clause-addresses : goal.returns-in_default-give-clause-addresses
-returns-in_default-give-clause-addresses g c =
-    same_numbers g.O.LinkOut.port c.args.self.now.links.items c.args.post.now.terminal c.index_mut-link.result.now c.give.new.self c.index_mut-link.result.now c.index_mut-link.ensures.value c.give.ensures.same_port
+returns-in_default-give-clause-addresses g c = same_numbers g.O.LinkOut.port c.args.self.now.links.items c.args.post.now.terminal c.index_mut-link.result.now c.give.new.self c.index_mut-link.result.now c.index_mut-link.ensures.value c.give.ensures.same_port
 
 pub returns-in-Ok-hear-clause-sources : goal.returns-in-Ok-hear-clause-sources
-returns-in-Ok-hear-clause-sources g c =
-    same_numbers count_sources c.args.self.now.outputs.items c.args.post.now.terminal c.index_mut-output.result.now c.packet.new.self c.index_mut-output.result.now c.index_mut-output.ensures.value c.packet.ensures.sources
+returns-in-Ok-hear-clause-sources g c = same_numbers count_sources c.args.self.now.outputs.items c.args.post.now.terminal c.index_mut-output.result.now c.packet.new.self c.index_mut-output.result.now c.index_mut-output.ensures.value c.packet.ensures.sources
 
 pub returns-in-Ok-hear-clause-addresses : goal.returns-in-Ok-hear-clause-addresses
-returns-in-Ok-hear-clause-addresses g c =
-    same_numbers g.O.LinkOut.port c.args.self.now.links.items c.args.post.now.terminal c.index_mut-link.result.now c.give.new.self c.index_mut-link.result.now c.index_mut-link.ensures.value c.give.ensures.same_port
+returns-in-Ok-hear-clause-addresses g c = same_numbers g.O.LinkOut.port c.args.self.now.links.items c.args.post.now.terminal c.index_mut-link.result.now c.give.new.self c.index_mut-link.result.now c.index_mut-link.ensures.value c.give.ensures.same_port
 
 pub returns-in-Err-clause-sources : goal.returns-in-Err-clause-sources
-returns-in-Err-clause-sources g c =
-    same_numbers count_sources c.args.self.now.outputs.items c.args.post.now.terminal c.index_mut-output.result.now c.packet.new.self c.index_mut-output.result.now c.index_mut-output.ensures.value c.packet.ensures.sources
+returns-in-Err-clause-sources g c = same_numbers count_sources c.args.self.now.outputs.items c.args.post.now.terminal c.index_mut-output.result.now c.packet.new.self c.index_mut-output.result.now c.index_mut-output.ensures.value c.packet.ensures.sources
 
 pub returns-in-Err-clause-addresses : goal.returns-in-Err-clause-addresses
-returns-in-Err-clause-addresses g c =
-    same_numbers g.O.LinkOut.port c.args.self.now.links.items c.args.post.now.terminal c.index_mut-link.result.now c.give.new.self c.index_mut-link.result.now c.index_mut-link.ensures.value c.give.ensures.same_port
+returns-in-Err-clause-addresses g c = same_numbers g.O.LinkOut.port c.args.self.now.links.items c.args.post.now.terminal c.index_mut-link.result.now c.give.new.self c.index_mut-link.result.now c.index_mut-link.ensures.value c.give.ensures.same_port

@@ -5,7 +5,7 @@ use Rattle.mixer_spec.specs.Table.{Table}
 use Rattle.conference.specs.Conferences.{conf_of}
 use Rattle.sent_files.specs.Files.{recordings_of}
 use Rattle.bridge_run.specs.Viewed.{AreOf, AreSent, IsSeenBetween}
-use Rattle.bridge_run.proofs.parts.views_by_parts.Given as goal
+use Rattle.bridge_run.proofs.parts.views_on_threads.Given as goal
 
 abbrev pub invariant-loop-part : goal.invariant-loop-part
 invariant-loop-part g l = record {

@@ -9,7 +9,7 @@ use Rattle.sent_files.specs.Files.{recordings_of}
 use Rattle.bridge_run.specs.Viewed.{AreOf, IsSeenBetween}
 use Rattle.bridge_run.proofs.Viewing.{seen_none, sums_all, views_all}
 use Rattle.bridge_run.proofs.Joining.{Parts, all_read, more_seen, next_is, none_of}
-use Rattle.bridge_run.proofs.parts.views_by_parts.Goals as goal
+use Rattle.bridge_run.proofs.parts.views_on_threads.Goals as goal
 
 pub loop-part-init : goal.loop-part-init
 loop-part-init g c =
