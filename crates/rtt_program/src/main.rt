@@ -45,43 +45,6 @@ fn after_name(words: &[String]) -> &[String]
     }
 }
 
-/// Runs what the words after the first ask for.
-fn answer<
-    R: Threads + Wait + Clock + Copy + Send + Sync + 'static,
-    W: World,
-    L: Links,
-    K: Sink,
-    E: Sink,
->(
-    rt: &R,
-    alloc: Global,
-    words: &[String],
-    world: &mut W,
-    links: &mut L,
-    out: &mut K,
-    err: &mut E,
-) -> u8
-    ensures runs { Runs (asked_by (drop 1 words.now)) W.tells K.tells E.tells
-        (outside_over W.World K.Sink L.Links world.old out.old links.old) (outside_over W.World K.Sink L.Links world.new out.new links.new)
-        (output_at E.Sink err.old) (output_at E.Sink err.new) result }
-    ensures live { RunsLive (asked_by (drop 1 words.now)) W.tells K.tells L.tells
-        (outside_over W.World K.Sink L.Links world.old out.old links.old) (outside_over W.World K.Sink L.Links world.new out.new links.new) result }
-    ensures watched { RunsWatched (asked_by (drop 1 words.now)) W.tells K.tells L.tells
-        (outside_over W.World K.Sink L.Links world.old out.old links.old) (outside_over W.World K.Sink L.Links world.new out.new links.new) result }
-    ensures offline { uses_no_link (asked_by (drop 1 words.now)) result ≡ true → links.new ≡ links.old }
-{
-    run(
-        rt,
-        alloc,
-        after_name(words),
-        world,
-        links,
-        out,
-        err,
-        &StillGate,
-    )
-}
-
 /// The status where memory ran out before the words were read, which is told.
 fn no_memory<E: Sink>(err: &mut E) -> u8
     ensures status { result ≡ 70 }
@@ -133,7 +96,8 @@ fn program<
     let Ok(all) = words else {
         return exit_with(no_memory(err));
     };
-    let status = answer(rt, alloc, all.as_slice(), world, links, out, err);
+    let words = after_name(all.as_slice());
+    let status = run(rt, alloc, words, world, links, out, err, &StillGate);
     exit_with(status)
 }
 

@@ -32,7 +32,7 @@ command_of conference file ssrc = Cascade (record { file = file; ssrc = ssrc; co
 
 pub cascade_reads : (conference file : List ℕ) (ssrc : ℕ) → ReadsConf Files conference (command_of conference file ssrc)
 cascade_reads conference file ssrc =
-    record { first = refl; next = λ octets. cascades_read file ssrc (conf Files octets); steps = refl; refuses = λ octets refusal e. ap (cascades_read file ssrc) e }
+    record { next = λ octets. cascades_read file ssrc (conf Files octets); steps = refl; refuses = λ octets refusal e. ap (cascades_read file ssrc) e }
 
 -- no input before this number is refused
 none_of : (n : ℕ) (o : Outcome) → RefusesNoneBefore n o → NoneBefore n o

@@ -11,16 +11,18 @@ use Rattle.file_spec.specs.declared.conf_lines.Form.TheVariants.{Files, Links}
 use Rattle.file_spec.specs.Lines.{Refusal, told, at_line, read_lines}
 use Rattle.file_spec.specs.Conf.{Conf, and_line, complete, conf, is_blank, nothing}
 use Rattle.command_spec.specs.declared.faults.Refusal.TheVariants.{AtLine}
-use Rattle.command_spec.specs.declared.faults.Fault.{Fault}
-use Rattle.command_spec.specs.declared.faults.Fault.TheVariants.{WrongWords, CannotOpen, CannotRead, Refused, CannotPrint, CannotWrite, LinkFailed, NoMemory}
+use Rattle.command_spec.specs.declared.faults.Fault.TheVariants.{Refused}
 use Rattle.rtt_words.specs.Words.{Attend, Command, Live, Mix}
 use Rattle.command_spec.specs.Work.{Contents}
 use Rattle.command_spec.specs.Attending.{attends_read}
 use Rattle.command_spec.specs.Mixing.{mixes_read}
 use Rattle.command_spec.specs.Serving.{serves_read}
+use Rattle.rtt_top.specs.declared.recorded.Mixing.{Mixing}
+use Rattle.rtt_top.specs.declared.recorded.Mixing.TheVariants.{Attending, Plain}
 use Rattle.rtt_top.specs.Files.{IsFrontOf}
 use Rattle.rtt_top.specs.Conferences.{ReadsConf}
-use Rattle.rtt_top.specs.Faults.{IsUnread, RefusesSo, Stops}
+use Rattle.rtt_top.specs.Recorded.{asked_as}
+use Rattle.rtt_top.specs.Faults.{RefusesSo, Stops}
 use Rattle.rtt_top.proofs.Working.{refuses_of}
 use Rattle.rtt_top.proofs.Lying.{lying_octets}
 
@@ -52,23 +54,16 @@ conf_refused form WorldTells held file c Call Object octets line kind reads give
           (refuses_of WorldTells held file reads.next 0 (AtLine line kind) o.0 o.1 (reads.refuses o.0 (record { line = line; kind = kind }) (o.2 ∙ e))),
     )
 
--- its file could not be read to its end
-pub unread_stops : (WorldTells : Type 0) (held : Contents) (c : Command) (Call Object : Type 0) (fault : Fault) → IsUnread Call Object fault → Stops WorldTells held c Call Object fault
-unread_stops WorldTells held c Call Object WrongWords u = u
-unread_stops WorldTells held c Call Object (CannotOpen input) u = u
-unread_stops WorldTells held c Call Object (CannotRead input) u = u
-unread_stops WorldTells held c Call Object (Refused input refusal) u = absurd u
-unread_stops WorldTells held c Call Object CannotPrint u = u
-unread_stops WorldTells held c Call Object (CannotWrite output) u = u
-unread_stops WorldTells held c Call Object (LinkFailed leg) u = u
-unread_stops WorldTells held c Call Object NoMemory u = u
-
 -- ---- what reads a conference
 pub mix_reads : (file : List ℕ) → ReadsConf Files file (Mix (record { conf = file }))
-mix_reads file = record { first = refl; next = λ octets. mixes_read (conf Files octets); steps = refl; refuses = λ octets refusal e. ap mixes_read e }
+mix_reads file = record { next = λ octets. mixes_read (conf Files octets); steps = refl; refuses = λ octets refusal e. ap mixes_read e }
 
 pub attend_reads : (file : List ℕ) → ReadsConf Files file (Attend (record { conf = file }))
-attend_reads file = record { first = refl; next = λ octets. attends_read (conf Files octets); steps = refl; refuses = λ octets refusal e. ap attends_read e }
+attend_reads file = record { next = λ octets. attends_read (conf Files octets); steps = refl; refuses = λ octets refusal e. ap attends_read e }
+
+pub reads_as : (mixing : Mixing) (file : List ℕ) → ReadsConf Files file (asked_as mixing (record { conf = file }))
+reads_as Plain file = mix_reads file
+reads_as Attending file = attend_reads file
 
 pub live_reads : (file : List ℕ) → ReadsConf Links file (Live (record { conf = file }))
-live_reads file = record { first = refl; next = λ octets. serves_read (conf Links octets); steps = refl; refuses = λ octets refusal e. ap serves_read e }
+live_reads file = record { next = λ octets. serves_read (conf Links octets); steps = refl; refuses = λ octets refusal e. ap serves_read e }

@@ -23,4 +23,5 @@ pub mod Fronts
 pub mod Statuses
 pub mod FrameFronts
 pub mod Framing
-pub mod Shown
+pub mod Converting
+pub mod Refusals

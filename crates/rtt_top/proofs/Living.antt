@@ -215,21 +215,22 @@ used S OutTells old new before after c status (Err (CannotWrite n)) is l e = abs
 used S OutTells old new before after c status (Err (LinkFailed leg)) is l e = true≢false (sym e ∙ ap (λ n. is_unread n || n == 5) is)
 used S OutTells old new before after c status (Err NoMemory) is l e = true≢false (sym e ∙ ap (λ n. is_unread n || n == 5) is)
 
-same_words : (m k : MixWords) → Some (Live m) ≡ Some (Live k) → m ≡ k
-same_words m k e = cc e
+-- whoever asks so for a live call of the same file had it served
+served_as_asked : (asks : MixWords → Command) (S : Conf → served.End → List ℕ → Type 0) (WorldTells OutTells : Type 0) (old new : Outside) (m : MixWords) (status : ℕ)
+    → ((k : MixWords) → Some (asks m) ≡ Some (asks k) → m ≡ k) → ((share : Share) → status ≡ status_at share → IsServedFrom share S WorldTells OutTells m old new)
+    → (share : Share) → status ≡ status_at share → (k : MixWords) → Some (asks m) ≡ Some (asks k) → IsServedFrom share S WorldTells OutTells k old new
+served_as_asked asks S WorldTells OutTells old new m status same served share at k e =
+    subst (λ w. IsServedFrom share S WorldTells OutTells w old new) (same k e) (served share at)
 
 pub runs_live : (WorldTells OutTells LinksTell : Type 0) (old new : Outside) (m : MixWords) (status : ℕ)
     → ((share : Share) → status ≡ status_at share → IsServedFrom share (λ c. IsServedTo c LinksTell old.links new.links) WorldTells OutTells m old new) → RunsLive (Some (Live m)) WorldTells OutTells LinksTell old new status
-runs_live WorldTells OutTells LinksTell old new m status served = λ share at k e.
-    subst (λ w. IsServedFrom share (λ c. IsServedTo c LinksTell old.links new.links) WorldTells OutTells w old new) (same_words m k e) (served share at)
-
-same_watched : (m k : MixWords) → Some (Watch m) ≡ Some (Watch k) → m ≡ k
-same_watched m k e = cc e
+runs_live WorldTells OutTells LinksTell old new m status served =
+    served_as_asked Live (λ c. IsServedTo c LinksTell old.links new.links) WorldTells OutTells old new m status (λ k e. cc e) served
 
 pub runs_watched : (WorldTells OutTells LinksTell : Type 0) (old new : Outside) (m : MixWords) (status : ℕ)
     → ((share : Share) → status ≡ status_at share → IsServedFrom share (λ c. IsWatchedTo c LinksTell old.links new.links) WorldTells OutTells m old new) → RunsWatched (Some (Watch m)) WorldTells OutTells LinksTell old new status
-runs_watched WorldTells OutTells LinksTell old new m status served = λ share at k e.
-    subst (λ w. IsServedFrom share (λ c. IsWatchedTo c LinksTell old.links new.links) WorldTells OutTells w old new) (same_watched m k e) (served share at)
+runs_watched WorldTells OutTells LinksTell old new m status served =
+    served_as_asked Watch (λ c. IsWatchedTo c LinksTell old.links new.links) WorldTells OutTells old new m status (λ k e. cc e) served
 
 -- a live call that was served of a file ended as a command that serves the same file
 pub runs_served : (c : Command) (file : List ℕ) (WorldTells OutTells ErrTells : Type 0) (old new : Outside) (before after : Output) (status : ℕ)

@@ -73,14 +73,19 @@ recorded s octets file ls read room is =
 -- ---- how a command ends that makes one file of what it reads
 
 module _ (c : Command) (input out : List ℕ) (next : List ℕ → Steps) (is_work : (work c).steps ≡ Reads input next) where
-  pub output_is : (WorldTells : Type 0) (held : Contents) (octets file : List ℕ) → (WorldTells → held input ≡ Some octets)
+  output_is : (WorldTells : Type 0) (held : Contents) (octets file : List ℕ) → (WorldTells → held input ≡ Some octets)
       → next octets ≡ Makes [] (made_file out file ∷ []) → IsOutput WorldTells held (work c).steps 0 out
   output_is WorldTells held octets file t e =
       subst (λ steps. IsOutput WorldTells held steps 0 out) (sym is_work) (octets, t, subst (λ steps. IsOutput WorldTells held steps 0 out) (sym e) refl)
 
-  pub made_of : (held : Contents) (octets file : List ℕ) → held input ≡ Some octets
+  made_of : (held : Contents) (octets file : List ℕ) → held input ≡ Some octets
       → next octets ≡ Makes [] (made_file out file ∷ []) → outcome held (work c).steps ≡ Done [] (made_file out file ∷ [])
   made_of held octets file h e = ap (outcome held) is_work ∙ (lies held input next octets h ∙ ap (outcome_from 1 held) e)
+
+  pub only_makes : (WorldTells : Type 0) (held : Contents) (octets file : List ℕ) → (WorldTells → held input ≡ Some octets)
+      → next octets ≡ Makes [] (made_file out file ∷ [])
+      → IsOutput WorldTells held (work c).steps 0 out × (WorldTells → outcome held (work c).steps ≡ Done [] (made_file out file ∷ []))
+  only_makes WorldTells held octets file t e = (output_is WorldTells held octets file t e, λ told. made_of held octets file (t told) e)
 
 stores_after : (file : Made) (old between new : Contents) → Same old between → Stores file between new → Stores file old new
 stores_after file old between new same stores = record { stored = stores.stored; others = λ name other. stores.others name other ∙ same name }

@@ -1,5 +1,5 @@
 -- A command whose first part changed nothing outside ends as its second part does.
-use Rattle.std.proofs.Common.{◌≡◌, ℕ, zero, suc, ◌+◌, Option, Some, None, List, [], ◌++◌, take, Ok, Err, refl, ap, sym, subst, ◌∙◌, inl, inr}
+use Rattle.std.proofs.Common.{◌≡◌, ℕ, zero, suc, ◌+◌, true, Option, Some, None, List, [], ◌++◌, take, Ok, Err, refl, ap, sym, subst, ◌∙◌, inl, inr}
 use Rattle.std.specs.Prelude.{◌⊎◌, IsSome}
 use Rattle.file_spec.specs.Conf.{Conf}
 use Rattle.command_spec.specs.declared.faults.Refusal.{Refusal}
@@ -13,10 +13,10 @@ use Rattle.command_spec.specs.Outcomes as outcomes
 use Rattle.command_spec.specs.Messages.{Ending}
 use Rattle.file_spec.specs.declared.conf_lines.LegLine.{LegLine}
 use Rattle.rtt_top.specs.Conferences.{MakesOutputs}
-use Rattle.rtt_top.specs.Faults.{NoneBefore, RefusesSo, WhereRead, name_in}
+use Rattle.rtt_top.specs.Faults.{NoneBefore, RefusesSo, WhereRead, has_frames, is_recording, name_in}
 use Rattle.rtt_top.specs.Outside.{Outside, Output, Failed, CallFailed, ObjectFailed}
 use Rattle.rtt_top.specs.Ports.{LegFailed}
-use Rattle.rtt_top.specs.Runs.{Prints, PrintsFront, Unchanged, PartlyStored, Ends, NoneFailed, NoneFailedBefore}
+use Rattle.rtt_top.specs.Runs.{Prints, PrintsFront, Unchanged, PartlyStored, Ends, IsInputOf, NoneFailed, NoneFailedBefore, outcome_of}
 use Rattle.rtt_top.proofs.Counts.{rose_since}
 use Rattle.rtt_top.proofs.Bridging.{IsBetween, all_stored_since, partly_since}
 
@@ -115,6 +115,25 @@ refuses_since WorldTells old mid same (Refuses input other) n refusal r = r
 refuses_since WorldTells old mid same (Makes printed files) n refusal r = absurd r
 refuses_since WorldTells old mid same (Serves c) n refusal r = absurd r
 
+-- a command ends over octets of its input of this number, which are refused so; Kind says what is read there
+abbrev EndsRefused : (Kind : Type 0) → Command → (WorldTells OutTells : Type 0) → Outside → Outside → List ℕ → ℕ → Refusal → Type 0
+EndsRefused Kind c WorldTells OutTells old new name n refusal = IsInputOf c WorldTells old n name
+    × Kind
+    × (WorldTells → (outcome_of c old ≡ outcomes.Refused n refusal) × NoneFailedBefore n c WorldTells old new)
+    × Unchanged WorldTells OutTells old new
+
+refused_since : (Kind : Type 0) (c : Command) (WorldTells OutTells : Type 0) (old mid new : Outside) (name : List ℕ) (n : ℕ) (refusal : Refusal) → IsBetween WorldTells old mid mid.contents mid.calls mid.objects
+    → mid.out ≡ old.out → NoneFailed old mid → EndsRefused Kind c WorldTells OutTells mid new name n refusal → EndsRefused Kind c WorldTells OutTells old new name n refusal
+refused_since Kind c WorldTells OutTells old mid new name n refusal b out calm e = (
+  input_since WorldTells old.contents mid.contents b.same (work c).steps n name e.0,
+  e.1,
+  (λ told. (
+    sym (outcome_since old.contents mid.contents (b.same told) 0 (work c).steps) ∙ (e.2 told).0,
+    none_before_since n c WorldTells old mid new b.same calm (e.2 told).1,
+  )),
+  unchanged_since WorldTells OutTells old mid new b out e.3,
+)
+
 pub ends_since : (c : Command) (WorldTells OutTells : Type 0) (old mid new : Outside) (name : List ℕ) (ending : Ending) → IsBetween WorldTells old mid mid.contents mid.calls mid.objects → mid.out ≡ old.out → mid.links ≡ old.links → NoneFailed old mid → ((name : List ℕ) → mid.calls name ≡ old.calls name)
     → Ends c WorldTells OutTells mid new name ending → Ends c WorldTells OutTells old new name ending
 ends_since c WorldTells OutTells old mid new name (Ok u) b out left calm opened e = λ t.
@@ -168,24 +187,10 @@ ends_since c WorldTells OutTells old mid new name (Err (Refused n (AtTrunk line)
   refuses_since WorldTells old.contents mid.contents b.same (work c).steps n (AtTrunk line) e.1,
   unchanged_since WorldTells OutTells old mid new b out e.2,
 )
-ends_since c WorldTells OutTells old mid new name (Err (Refused n (AtByte byte kind))) b out left calm opened e = (
-  input_since WorldTells old.contents mid.contents b.same (work c).steps n name e.0,
-  e.1,
-  (λ told. (
-    sym (outcome_since old.contents mid.contents (b.same told) 0 (work c).steps) ∙ (e.2 told).0,
-    none_before_since n c WorldTells old mid new b.same calm (e.2 told).1,
-  )),
-  unchanged_since WorldTells OutTells old mid new b out e.3,
-)
-ends_since c WorldTells OutTells old mid new name (Err (Refused n (AtFrame byte kind))) b out left calm opened e = (
-  input_since WorldTells old.contents mid.contents b.same (work c).steps n name e.0,
-  e.1,
-  (λ told. (
-    sym (outcome_since old.contents mid.contents (b.same told) 0 (work c).steps) ∙ (e.2 told).0,
-    none_before_since n c WorldTells old mid new b.same calm (e.2 told).1,
-  )),
-  unchanged_since WorldTells OutTells old mid new b out e.3,
-)
+ends_since c WorldTells OutTells old mid new name (Err (Refused n (AtByte byte kind))) b out left calm opened e =
+    refused_since (is_recording c n ≡ true) c WorldTells OutTells old mid new name n (AtByte byte kind) b out calm e
+ends_since c WorldTells OutTells old mid new name (Err (Refused n (AtFrame byte kind))) b out left calm opened e =
+    refused_since (has_frames c ≡ true) c WorldTells OutTells old mid new name n (AtFrame byte kind) b out calm e
 ends_since c WorldTells OutTells old mid new name (Err (Refused n (AfterTurns turns))) b out left calm opened e = (
   e.0,
   e.1,

@@ -2,7 +2,6 @@
 use Rattle.std.proofs.Common.{◌≡◌, ℕ, ◌+◌, true, Option, Some, None, List, [], Ok, Err, refl, ap, sym, subst, ◌∙◌, arith}
 use Rattle.std.specs.Prelude.{IfErr, OnOk, OnErr}
 use Rattle.wire_spec.specs.declared.faults.DumpKind.{DumpKind}
-use Rattle.wire_spec.specs.Dump.{dump, usual_limit}
 use Rattle.wire_spec.specs.Dump as dumps
 use Rattle.command_spec.specs.declared.faults.Refusal.{Refusal}
 use Rattle.command_spec.specs.declared.faults.Refusal.TheVariants.{AtByte, AtFrame, AtLine, AtTrunk, AfterTurns}
@@ -12,7 +11,7 @@ use Rattle.rtt_words.specs.Words.{Command}
 use Rattle.command_spec.specs.Work.{Contents, Made, Steps, Reads, Refuses, Makes, Serves, IsInput}
 use Rattle.command_spec.specs.Outcomes.{outcome, outcome_from, Missing, Done, IsDone, Same, Stores, AllStored}
 use Rattle.command_spec.specs.Outcomes as outcomes
-use Rattle.rtt_words.specs.Tasks.{unless_broken, prints_unless, prints_recording, work}
+use Rattle.rtt_words.specs.Tasks.{unless_broken, prints_unless, work}
 use Rattle.command_spec.specs.Messages.{Ending}
 use Rattle.rtt_top.specs.Faults.{WhereRead, RefusesSo, Stops, IsUnread, IsOfByte, IsOfRecording, IsTrueOf, is_recording, name_in}
 use Rattle.rtt_top.specs.Outside.{Outside, Failed, ObjectFailed, OpenFailed}
@@ -90,22 +89,11 @@ stops_unless WorldTells held c file fault_of then Call Object (CannotWrite n) is
 stops_unless WorldTells held c file fault_of then Call Object (LinkFailed leg) is rec u t = u
 stops_unless WorldTells held c file fault_of then Call Object NoMemory is rec u t = tt
 
-pub stops_recording : (WorldTells : Type 0) (held : Contents) (c : Command) (file : List ℕ) (view : List ℕ → List ℕ) (Call Object : Type 0) (fault : Fault)
-    → (work c).steps ≡ (prints_recording file view).steps → is_recording c 0 ≡ true
-    → IsOfRecording Object fault → (WorldTells → (octets : List ℕ) × (held file ≡ Some octets) × IsTrueOf (dump usual_limit octets).fault fault)
-    → Stops WorldTells held c Call Object fault
-stops_recording WorldTells held c file view Call Object fault is rec u t =
-    stops_unless WorldTells held c file (λ octets. (dump usual_limit octets).fault) (λ octets. Makes (view octets) []) Call Object fault is rec u t
-
 pub views_unless : (held : Contents) (file : List ℕ) (fault_of : List ℕ → Option dumps.Fault) (view : List ℕ → List ℕ) (octets : List ℕ) → held file ≡ Some octets → fault_of octets ≡ None
     → outcome held (prints_unless fault_of file view).steps ≡ Done (view octets) []
 views_unless held file fault_of view octets e none =
     lies held file (λ octets. unless_broken (fault_of octets) (Makes (view octets) [])) octets e
     ∙ ap (λ o. outcome_from 1 held (unless_broken o (Makes (view octets) []))) none
-
-pub views : (held : Contents) (file : List ℕ) (view : List ℕ → List ℕ) (octets : List ℕ) → held file ≡ Some octets → (dump usual_limit octets).fault ≡ None
-    → outcome held (prints_recording file view).steps ≡ Done (view octets) []
-views held file view octets e none = views_unless held file (λ octets. (dump usual_limit octets).fault) view octets e none
 
 -- ---- a command that stops over its first input, of this name
 first_input : (WorldTells : Type 0) (held : Contents) (steps : Steps) (n : ℕ) (name : List ℕ) → n ≡ 0 → IsInput WorldTells held steps 0 name → IsInput WorldTells held steps n name

@@ -22,7 +22,6 @@ use Rattle.bridge_run.specs.declared.mixed.Mixed.{Mixed}
 use Rattle.sent_files.specs.Files.{recordings_of}
 use Rattle.bridge_run.specs.Mixes.{outputs_of, steps_of}
 use Rattle.rtt_top.specs.Faults.{WhereRead, is_mixed, is_recording}
-use Rattle.rtt_top.specs.Worlds.{first_file}
 use Rattle.rtt_top.specs.Outside.{Outside}
 use Rattle.rtt_top.specs.Runs.{Ends}
 use Rattle.bridge_run.specs.declared.mixed.MixFault.{MixFault}
@@ -107,7 +106,6 @@ ending_behind conference file legs ending = ending_name conference legs ending
 -- ---- what a command does with a conference
 -- It reads the file of this name first, whose form is this, and refuses what is no conference there.
 pub record ReadsConf (form : Form) (file : List ℕ) (c : Command) : Type 0 where
-  pub first : first_file c ≡ file
   pub next : List ℕ → Steps
   pub steps : (work c).steps ≡ Reads file next
   pub refuses : (octets : List ℕ) (refusal : lines.Refusal) → conf form octets ≡ Err refusal

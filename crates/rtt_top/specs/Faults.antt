@@ -6,7 +6,7 @@ use Rattle.command_spec.specs.declared.faults.Refusal.{Refusal}
 use Rattle.command_spec.specs.declared.faults.Refusal.TheVariants.{AtByte, AtFrame, AtLine, AtTrunk, AfterTurns}
 use Rattle.command_spec.specs.declared.faults.Fault.{Fault}
 use Rattle.command_spec.specs.declared.faults.Fault.TheVariants.{WrongWords, CannotOpen, CannotRead, Refused, CannotPrint, CannotWrite, LinkFailed, NoMemory}
-use Rattle.rtt_words.specs.Words.{Command, Read, ListRecords, Send, Mix, Attend, Cascade, Make, Live, Watch, Relay, Channel, Show, Script, Version}
+use Rattle.rtt_words.specs.Words.{Command, Read, ListRecords, Mix, Attend, Cascade, Make, Live, Watch, Relay, Channel, Show, Script}
 use Rattle.command_spec.specs.Work.{Contents, Steps, Reads, Refuses, Makes, Serves}
 use Rattle.rtt_words.specs.Tasks.{work}
 use Rattle.command_spec.specs.Outcomes.{Outcome, Missing, Done, Served, outcome}
@@ -44,21 +44,13 @@ RefusesSo WorldTells held (Serves c) input refusal = ⊥
 abbrev pub is_recording : Command → ℕ → Bool
 is_recording (Read r) input = true
 is_recording (ListRecords l) input = true
-is_recording (Send s) input = false
-is_recording (Mix m) zero = false
-is_recording (Mix m) (suc leg) = true
-is_recording (Attend m) zero = false
-is_recording (Attend m) (suc leg) = true
-is_recording (Cascade c) zero = false
-is_recording (Cascade c) (suc recording) = true
-is_recording (Make m) input = false
-is_recording (Live m) input = false
-is_recording (Watch m) input = false
-is_recording (Relay s) input = false
 is_recording (Channel c) input = true
 is_recording (Show l) input = true
 is_recording (Script r) input = true
-is_recording Version input = false
+is_recording (Mix m) (suc leg) = true
+is_recording (Attend m) (suc leg) = true
+is_recording (Cascade c) (suc recording) = true
+is_recording _ _ = false
 
 -- frames are read or made
 abbrev pub has_frames : Command → Bool

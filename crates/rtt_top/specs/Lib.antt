@@ -11,3 +11,6 @@ pub mod Sinks
 pub mod Worlds
 pub mod Statuses
 pub mod Frames
+pub mod RecordingViews
+pub mod Recorded
+pub mod Conversions

@@ -3,7 +3,7 @@
 use Rattle.std.specs.Prelude.{◌≡◌, ◌⊎◌, ◌<◌, ◌≤◌, ℕ, Bool, true, false, Option, None, Some, List, [], ◌∷◌, ◌++◌, take, Ok, Err, suc, zero, map, String, string_bytes}
 use Rattle.std.specs.Global.{Global}
 use Rattle.rtt_io.specs.Fronts.{TakesFront}
-use Rattle.rtt_words.specs.Words.{ReadWords, MixWords, CascadeWords, Command, Read, ListRecords, Send, Mix, Attend, Cascade, Make, Live, Watch, Relay, Channel, Show, Script, Version, command}
+use Rattle.rtt_words.specs.Words.{ReadWords, MixWords, CascadeWords, Command, Read, Mix, Attend, Cascade, Make, Live, Watch, command}
 use Rattle.stream_spec.specs.History.{History, Lawful, Come}
 use Rattle.command_spec.specs.declared.faults.Refusal.TheVariants.{AtByte, AtFrame, AtLine, AtTrunk, AfterTurns}
 use Rattle.command_spec.specs.declared.faults.Fault.TheVariants.{WrongWords, CannotOpen, CannotRead, Refused, CannotPrint, CannotWrite, LinkFailed, NoMemory}
@@ -28,21 +28,13 @@ asked_by words = command (map string_bytes words)
 
 -- Commands that need no thread and wait for nobody, and words that ask for none.
 abbrev pub is_plain : Option Command → Bool
-is_plain None = true
-is_plain (Some (Read r)) = true
-is_plain (Some (ListRecords l)) = true
-is_plain (Some (Send s)) = true
 is_plain (Some (Mix m)) = false
 is_plain (Some (Attend m)) = false
 is_plain (Some (Cascade c)) = false
 is_plain (Some (Make m)) = false
 is_plain (Some (Live m)) = false
 is_plain (Some (Watch m)) = false
-is_plain (Some (Relay s)) = true
-is_plain (Some (Channel c)) = true
-is_plain (Some (Show l)) = true
-is_plain (Some (Script r)) = true
-is_plain (Some Version) = true
+is_plain _ = true
 
 -- this was printed
 abbrev pub Prints : List ℕ → Outside → Outside → Type 0

@@ -8,8 +8,8 @@ use Rattle.file_spec.specs.declared.conf_lines.LegLine.{LegLine}
 use Rattle.file_spec.specs.Conf.{conf}
 use Rattle.file_spec.specs.Script.{ScriptLine, script}
 use Rattle.command_spec.specs.declared.faults.Fault.{Fault}
-use Rattle.rtt_words.specs.Words.{SendWords, ChannelWords, Command, Read, ListRecords, Send, Mix, Attend, Cascade, Make, Live, Watch, Relay, Channel, Show, Script, Version}
-use Rattle.command_spec.specs.Work.{Makes}
+use Rattle.rtt_words.specs.Words.{SendWords, ChannelWords, Command}
+use Rattle.command_spec.specs.Work.{IsOutput, Makes}
 use Rattle.rtt_words.specs.Tasks.{sending_of, sends, work}
 use Rattle.command_spec.specs.Frames.{channel, relay}
 use Rattle.wire_spec.specs.Dump.{dump, usual_limit}
@@ -23,23 +23,6 @@ use Rattle.rtt_top.specs.Outputs.{IsUnwritten}
 -- of a script with these octets `send` makes a file with those
 abbrev pub SendMakes : SendWords → List ℕ → List ℕ → Type 0
 SendMakes s octets file = sends s (script octets) ≡ Makes [] (made_file s.out file ∷ [])
-
--- the name of the file that a command reads first, if it reads one
-abbrev pub first_file : Command → List ℕ
-first_file (Read r) = r.file
-first_file (ListRecords l) = l.file
-first_file (Send s) = s.file
-first_file (Mix m) = m.conf
-first_file (Attend m) = m.conf
-first_file (Cascade c) = c.conf
-first_file (Make m) = []
-first_file (Live m) = m.conf
-first_file (Watch m) = m.conf
-first_file (Relay s) = s.file
-first_file (Channel c) = c.file
-first_file (Show l) = l.file
-first_file (Script r) = r.file
-first_file Version = []
 
 module _ {W S D : Type 0} (w : worlds.Ghosts W S D) where
   -- ---- what failed
@@ -63,10 +46,9 @@ module _ {W S D : Type 0} (w : worlds.Ghosts W S D) where
   abbrev pub IsUnreadIn : W → W → List ℕ → Fault → Type 0
   IsUnreadIn old new name = IsUnread (OpenFailedIn old new name) (ObjectFailedIn old new name)
 
-  -- the command stops over the file that it reads first
-  abbrev pub StopsIn : W → W → Command → Fault → Type 0
-  StopsIn old new c =
-      Stops w.tells (w.contents old) c (OpenFailedIn old new (first_file c)) (ObjectFailedIn old new (first_file c))
+  -- the command stops over the file of this name, which it reads first
+  abbrev pub StopsOver : W → W → List ℕ → Command → Fault → Type 0
+  StopsOver old new name c = Stops w.tells (w.contents old) c (OpenFailedIn old new name) (ObjectFailedIn old new name)
 
   -- ---- what was read
   -- this holds of some octets, which lie under this name as far as that is told
@@ -97,6 +79,11 @@ module _ {W S D : Type 0} (w : worlds.Ghosts W S D) where
   -- the outcome of the command is that these octets are printed, and no file is made
   abbrev pub OnlyPrints : W → Command → List ℕ → Type 0
   OnlyPrints world c printed = outcome (w.contents world) (work c).steps ≡ Done printed []
+
+  -- the outcome is that a file of this name is made with these octets, as far as that is told, and nothing is printed
+  abbrev pub OnlyMakes : W → Command → List ℕ → List ℕ → Type 0
+  OnlyMakes world c name octets = IsOutput w.tells (w.contents world) (work c).steps 0 name
+      × (w.tells → outcome (w.contents world) (work c).steps ≡ Done [] (made_file name octets ∷ []))
 
   -- ---- what was stored
   -- these octets lie under this name, and under each other name what lay there before

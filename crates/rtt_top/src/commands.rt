@@ -6,20 +6,14 @@ ghost use Rattle.rtt_top.specs.Lives.{RunsLive, RunsWatched, uses_no_link};
 ghost use Rattle.rtt_top.specs.Outside.{outside_at, outside_over, output_at};
 ghost use Rattle.rtt_top.specs.Runs.{is_plain, Runs};
 
-use crate::attend::run_attend;
-use crate::channel::run_channel;
-use crate::list::run_list;
-use crate::live::run_live;
+use crate::conversions::{Conversion, run_conversion};
 use crate::make::run_make;
-use crate::mix::run_mix;
-use crate::read::run_read;
-use crate::relay::run_relay;
-use crate::script::run_script;
-use crate::send::run_send;
-use crate::show::run_show;
+use crate::recorded::{Mixing, run_mixing};
+use crate::recordings::run_view;
+use crate::serving::{Serving, serve_file};
 use crate::trunk::run_cascade;
 use crate::version::run_version;
-use crate::watch::run_watch;
+use crate::views::{Lines, Streams, Text, Transcript, request_of};
 use link_io::Links;
 use rtt_io::{Gate, Sink, World};
 use rtt_words::Command;
@@ -43,13 +37,31 @@ pub fn carry_out_plain<W: World, K: Sink, E: Sink>(
     ensures same { result ≡ None → (world.new ≡ world.old) × (out.new ≡ out.old) × (err.new ≡ err.old) }
 {
     match command {
-        Command::Read(words) => Some(run_read(alloc, words, world, out, err)),
-        Command::ListRecords(words) => Some(run_list(alloc, words, world, out, err)),
-        Command::Send(words) => Some(run_send(alloc, words, world, out, err)),
-        Command::Relay(words) => Some(run_relay(alloc, words, world, out, err)),
-        Command::Channel(words) => Some(run_channel(alloc, words, world, out, err)),
-        Command::Show(words) => Some(run_show(alloc, words, world, out, err)),
-        Command::Script(words) => Some(run_script(alloc, words, world, out, err)),
+        Command::Read(words) => {
+            Some(run_view(alloc, words.file, &Text(request_of(words)), world, out, err))
+        }
+        Command::ListRecords(words) => {
+            Some(run_view(alloc, words.file, &Lines(words.pts), world, out, err))
+        }
+        Command::Show(words) => {
+            Some(run_view(alloc, words.file, &Streams(words.pts), world, out, err))
+        }
+        Command::Script(words) => {
+            let transcript = Transcript(request_of(words));
+            Some(run_view(alloc, words.file, &transcript, world, out, err))
+        }
+        Command::Send(words) => {
+            let script = Conversion::Script(*words);
+            Some(run_conversion(alloc, &script, world, out, err))
+        }
+        Command::Relay(words) => {
+            let frames = Conversion::Frames(*words);
+            Some(run_conversion(alloc, &frames, world, out, err))
+        }
+        Command::Channel(words) => {
+            let recording = Conversion::Recording(*words);
+            Some(run_conversion(alloc, &recording, world, out, err))
+        }
         Command::Version => Some(run_version(world, out, err)),
         Command::Mix(_)
         | Command::Attend(_)
@@ -79,8 +91,14 @@ fn carry_out_files<R: Threads + Wait + Sync, W: World, K: Sink, E: Sink, G: Gate
         return status;
     }
     match command {
-        Command::Mix(words) => run_mix(rt, alloc, words, world, out, err, gate),
-        Command::Attend(words) => run_attend(rt, alloc, words, world, out, err, gate),
+        Command::Mix(words) => {
+            let plain = Mixing::Plain;
+            run_mixing(plain, rt, alloc, words, world, out, err, gate)
+        }
+        Command::Attend(words) => {
+            let attending = Mixing::Attending;
+            run_mixing(attending, rt, alloc, words, world, out, err, gate)
+        }
         Command::Cascade(words) => run_cascade(rt, alloc, words, world, out, err, gate),
         Command::Make(words) => run_make(rt, alloc, words.number, world, out, err, gate),
         Command::Live(_)
@@ -124,8 +142,14 @@ pub fn carry_out<
     ensures offline { uses_no_link (Some (meaning command.now)) result ≡ true → links.new ≡ links.old }
 {
     match command {
-        Command::Live(words) => run_live(rt, alloc, words, world, links, out, err, gate),
-        Command::Watch(words) => run_watch(rt, alloc, words, world, links, out, err, gate),
+        Command::Live(words) => {
+            let alone = Serving::Alone;
+            serve_file(alone, rt, alloc, words, world, links, out, err, gate)
+        }
+        Command::Watch(words) => {
+            let watched = Serving::Watched;
+            serve_file(watched, rt, alloc, words, world, links, out, err, gate)
+        }
         _ => carry_out_files(rt, alloc, command, world, out, err, gate),
     }
 }

@@ -1,11 +1,12 @@
 //! The conference of a command: how it is read from its file, and the names of its files and legs.
 ghost use Rattle.std.specs.Prelude.{◌≡◌, OnOk, IfOk, IfErr};
 ghost use Rattle.rtt_io.specs.Names.{NoneFalls, Same as KeepsCounts};
+ghost use Rattle.std.specs.Option.{option_map};
 ghost use Rattle.mixer_spec.specs.Setups.{leg_at};
 ghost use Rattle.command_spec.specs.Outcomes.{Same};
 ghost use Rattle.rtt_words.specs.Words.{Command};
-ghost use Rattle.rtt_top.specs.Conferences.{ReadsConf, ending_name, fault_name, input_name, name_of, output_of};
-ghost use Rattle.rtt_top.specs.Worlds.{StopsIn, ReadsConference};
+ghost use Rattle.rtt_top.specs.Conferences.{ReadsConf, ending_name, fault_name, input_name};
+ghost use Rattle.rtt_top.specs.Worlds.{StopsOver, ReadsConference};
 
 use crate::files::{read_input, refused_line};
 use command_spec::Fault;
@@ -22,7 +23,7 @@ pub(crate) fn conf_under<W: World>(
     form: Form,
     world: &mut W,
 ) -> Result<Conf, Fault>
-    ensures stops { (c : Command) → ReadsConf form name.now c → IfErr result (StopsIn W.World world.old world.new c) }
+    ensures stops { (c : Command) → ReadsConf form name.now c → IfErr result (StopsOver W.World world.old world.new name.now c) }
     ensures read { IfOk result (ReadsConference W.World form world.old name.now) }
     ensures same_contents { W.tells → Same (W.contents world.old) (W.contents world.new) }
     ensures calm { OnOk result (KeepsCounts W.object_faults world.old world.new) }
@@ -56,28 +57,16 @@ fn input_name<'a>(file: &'a str, legs: &'a [LegLine], input: u32) -> &'a str
     leg.input.as_str()
 }
 
-/// The name of the output of this number.
-fn output_name<'a>(file: &'a str, legs: &'a [LegLine], output: u32) -> &'a str
-    ensures { result.now ≡ output_of file.now (leg_at legs.now output) }
+/// The leg of this number, if there is one.
+fn leg_of<'a>(legs: &'a [LegLine], number: u32) -> Option<&'a LegLine>
+    ensures { option_map (λ leg. leg.now) result ≡ leg_at legs.now number }
 {
-    let number = output as usize;
+    let number = number as usize;
     if legs.len() <= number {
-        return file;
+        return None;
     }
     let leg = &legs[number];
-    leg.output.as_str()
-}
-
-/// The name of the leg of this number.
-fn leg_name<'a>(file: &'a str, legs: &'a [LegLine], leg: u32) -> &'a str
-    ensures { result.now ≡ name_of file.now (leg_at legs.now leg) }
-{
-    let number = leg as usize;
-    if legs.len() <= number {
-        return file;
-    }
-    let leg = &legs[number];
-    leg.name.as_str()
+    Some(leg)
 }
 
 /// The name of the file or the leg of a fault.
@@ -88,8 +77,14 @@ fn fault_name<'a>(fault: Fault, file: &'a str, legs: &'a [LegLine]) -> &'a str
         Fault::CannotOpen { input }
         | Fault::CannotRead { input }
         | Fault::Refused { input, refusal: _ } => input_name(file, legs, input),
-        Fault::CannotWrite { output } => output_name(file, legs, output),
-        Fault::LinkFailed { leg } => leg_name(file, legs, leg),
+        Fault::CannotWrite { output } => match leg_of(legs, output) {
+            Some(leg) => leg.output.as_str(),
+            None => file,
+        },
+        Fault::LinkFailed { leg } => match leg_of(legs, leg) {
+            Some(leg) => leg.name.as_str(),
+            None => file,
+        },
         Fault::WrongWords | Fault::CannotPrint | Fault::NoMemory => file,
     }
 }

@@ -5,24 +5,22 @@ mod attend;
 mod channel;
 mod commands;
 mod conferences;
+mod conversions;
 mod files;
 pub mod laws;
-mod list;
-mod live;
 mod make;
 mod messages;
 mod mix;
 mod names;
-mod read;
+mod recorded;
+mod recordings;
 mod relay;
 mod runs;
-mod script;
 mod send;
 mod serving;
-mod show;
 mod trunk;
 mod version;
-mod watch;
+mod views;
 
 pub use runs::{run, run_plain};
 

@@ -1,25 +1,19 @@
-//! `mix`: the conference of a file is read and mixed, its outputs are written, and what is seen is printed.
-ghost use Rattle.std.specs.Prelude.{◌≡◌, ◌≤◌, length, Some, OnOk, IfErr};
+//! `mix`: a conference is mixed, its outputs are written, and what is seen is printed.
+ghost use Rattle.std.specs.Prelude.{◌≡◌, ◌≤◌, length, OnOk, IfErr};
 ghost use Rattle.rtt_io.specs.Names.{NoneFalls};
 ghost use Rattle.conference.specs.Conferences.{conf_of};
 ghost use Rattle.sent_files.specs.Files.{recordings_of};
-ghost use Rattle.rtt_words.specs.Words.{Mix};
-ghost use Rattle.rtt_words.specs.Commands.{mixed};
 ghost use Rattle.rtt_top.specs.Conferences.{MixingEnds, OutputsEnd, fault_of_mixing};
-ghost use Rattle.rtt_top.specs.Outside.{outside_at, output_at};
-ghost use Rattle.rtt_top.specs.Runs.{Runs};
+ghost use Rattle.rtt_top.specs.Outside.{outside_at};
 ghost use Rattle.rtt_top.specs.Worlds.{SavesEach, IsUnwrittenIn};
 ghost use Rattle.file_spec.specs.declared.limits.TheConstants.{MOST_LEGS};
 
-use crate::conferences::{conf_under, name_at_end};
 use crate::files::{fault_of_dump, save_recording};
-use crate::messages::{finish_with, print_all};
+use crate::messages::print_all;
 use bridge_run::{MixFault, Mixed, mix};
 use command_spec::{Fault, Refusal};
-use conf_text::Form;
 use conference::{Conf, LegLine};
 use rtt_io::{Gate, Sink, World};
-use rtt_words::MixWords;
 use sent_files::SentFiles;
 use std::alloc::Global;
 use std::sync::Wait;
@@ -106,27 +100,4 @@ pub(crate) fn mix_conf<R: Threads + Wait + Sync, W: World, K: Sink, G: Gate + Sy
         Err(fault) => return Err(fault_of_mixing(conf.turns, fault)),
     };
     make_outputs(conf.legs.as_slice(), mixed, world, out)
-}
-
-/// `mix`: mixes the conference of a file, and answers the status.
-pub fn run_mix<R: Threads + Wait + Sync, W: World, K: Sink, E: Sink, G: Gate + Sync>(
-    rt: &R,
-    alloc: Global,
-    words: &MixWords<'_>,
-    world: &mut W,
-    out: &mut K,
-    err: &mut E,
-    gate: &G,
-) -> u8
-    ensures { Runs (Some (Mix (mixed words.now))) W.tells K.tells E.tells
-        (outside_at W.World K.Sink world.old out.old) (outside_at W.World K.Sink world.new out.new)
-        (output_at E.Sink err.old) (output_at E.Sink err.new) result }
-{
-    let conf = match conf_under(alloc, words.conf, Form::Files, world) {
-        Ok(conf) => conf,
-        Err(fault) => return finish_with(Err(fault), words.conf, err),
-    };
-    let ending = mix_conf(rt, alloc, &conf, world, out, gate);
-    let name = name_at_end(ending, words.conf, conf.legs.as_slice());
-    finish_with(ending, name, err)
 }

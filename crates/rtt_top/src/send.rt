@@ -1,5 +1,5 @@
 //! `send`: a script is read and sent, and a recording is made of what is sent.
-ghost use Rattle.std.specs.Prelude.{◌≡◌, Some, IfOk, IfErr};
+ghost use Rattle.std.specs.Prelude.{◌≡◌, IfOk, IfErr};
 ghost use Rattle.rtt_io.specs.Names.{NoneFalls};
 ghost use Rattle.text_sender.specs.Confs.{IsConf};
 ghost use Rattle.rtt_words.specs.Tasks.{sending_of};
@@ -7,19 +7,15 @@ ghost use Rattle.rtt_words.specs.Words.{Send};
 ghost use Rattle.rtt_send.specs.Scripts as sender;
 ghost use Rattle.rtt_words.specs.Commands.{sent};
 ghost use Rattle.command_spec.specs.Outcomes.{Same};
-ghost use Rattle.rtt_top.specs.Faults.{name_in};
-ghost use Rattle.rtt_top.specs.Outside.{outside_at, output_at};
-ghost use Rattle.rtt_top.specs.Runs.{Ends, Runs};
-ghost use Rattle.rtt_top.specs.Worlds.{StopsIn, ReadsScript, MakesRecording};
+ghost use Rattle.rtt_top.specs.Worlds.{StopsOver, ReadsScript, MakesRecording};
 
-use crate::files::{read_input, refused_line, save_output};
-use crate::messages::finish;
+use crate::files::{read_input, refused_line};
 use command_spec::Fault;
 use command_spec::limits::USUAL_INTERVAL;
 use file_spec::ConfKind;
 use file_spec::limits::{MOST_SCRIPT_OCTETS, USUAL_RED, USUAL_T140};
 use rtt_base::{Bytes, Pts};
-use rtt_io::{Sink, World};
+use rtt_io::World;
 use rtt_send::{SendFault, send_script};
 use rtt_words::SendWords;
 use script_text::{ConfFault, Script, read_script};
@@ -28,7 +24,7 @@ use text_sender::SendConf;
 
 /// The script that is sent.
 fn script_of<W: World>(alloc: Global, words: &SendWords<'_>, world: &mut W) -> Result<Script, Fault>
-    ensures stops { IfErr result (StopsIn W.World world.old world.new (Send (sent words.now))) }
+    ensures stops { IfErr result (StopsOver W.World world.old world.new words.now.file.now (Send (sent words.now))) }
     ensures read { IfOk result (ReadsScript W.World world.old words.now.file.now) }
     ensures same_contents { W.tells → Same (W.contents world.old) (W.contents world.new) }
     ensures calls_never_fall { NoneFalls W.own_faults world.old world.new }
@@ -64,12 +60,12 @@ pub(crate) fn send_conf(words: &SendWords<'_>) -> SendConf
 }
 
 /// The recording of what is sent for a script.
-fn recording_of<W: World>(
+pub(crate) fn recording_of<W: World>(
     alloc: Global,
     words: &SendWords<'_>,
     world: &mut W,
 ) -> Result<Bytes, Fault>
-    ensures stops { IfErr result (StopsIn W.World world.old world.new (Send (sent words.now))) }
+    ensures stops { IfErr result (StopsOver W.World world.old world.new words.now.file.now (Send (sent words.now))) }
     ensures made { IfOk result (MakesRecording W.World world.old (sent words.now)) }
     ensures same_contents { W.tells → Same (W.contents world.old) (W.contents world.new) }
     ensures calls_never_fall { NoneFalls W.own_faults world.old world.new }
@@ -84,37 +80,4 @@ fn recording_of<W: World>(
         Err(SendFault::Full { line }) => Err(refused_line(line, ConfKind::Full)),
         Err(SendFault::NoMemory) => Err(Fault::NoMemory),
     }
-}
-
-/// `send`: makes a recording of what is sent for a script. It prints nothing: `out` stands here for the contract alone.
-fn send<W: World, K: Sink>(
-    alloc: Global,
-    words: &SendWords<'_>,
-    world: &mut W,
-    out: &K,
-) -> Result<(), Fault>
-    ensures { Ends (Send (sent words.now)) W.tells K.tells
-        (outside_at W.World K.Sink world.old out.now) (outside_at W.World K.Sink world.new out.now)
-        (name_in words.now.file.now words.now.out.now result) result }
-{
-    match recording_of(alloc, words, world) {
-        Ok(octets) => save_output(0, words.out, octets.as_slice(), world),
-        Err(fault) => Err(fault),
-    }
-}
-
-/// `send`, and what is told of it.
-pub fn run_send<W: World, K: Sink, E: Sink>(
-    alloc: Global,
-    words: &SendWords<'_>,
-    world: &mut W,
-    out: &mut K,
-    err: &mut E,
-) -> u8
-    ensures { Runs (Some (Send (sent words.now))) W.tells K.tells E.tells
-        (outside_at W.World K.Sink world.old out.old) (outside_at W.World K.Sink world.new out.new)
-        (output_at E.Sink err.old) (output_at E.Sink err.new) result }
-{
-    let ending = send(alloc, words, world, out);
-    finish(ending, words.file, words.out, err)
 }

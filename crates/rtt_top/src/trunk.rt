@@ -1,5 +1,5 @@
 //! `cascade`: the conference of a file is mixed, of which some legs stand behind another mixer, whose recording is split.
-ghost use Rattle.std.specs.Prelude.{◌≡◌, Some, IfErr, IfOk};
+ghost use Rattle.std.specs.Prelude.{◌≡◌, Some};
 ghost use Rattle.conference.specs.Conferences.{conf_of};
 ghost use Rattle.rtt_words.specs.Words.{Cascade};
 ghost use Rattle.rtt_words.specs.Commands.{cascaded};

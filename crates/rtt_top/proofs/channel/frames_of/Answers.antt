@@ -6,7 +6,7 @@ use Rattle.rtt_relay.specs.declared.faults.ChannelFault.TheVariants as channel_f
 use Rattle.rtt_words.specs.Words.{ChannelWords, Channel}
 use Rattle.rtt_words.specs.Commands.{channelled}
 use Rattle.rtt_top.specs.Outside.{RoseAt}
-use Rattle.rtt_top.specs.Worlds.{OpenFailedIn, StopsIn}
+use Rattle.rtt_top.specs.Worlds.{OpenFailedIn, StopsOver}
 use Rattle.rtt_top.proofs.Framing.{channel_stops, source_rose}
 use Rattle.rtt_top.proofs.Sources.{source_failed}
 use Rattle.rtt_top.proofs.channel.frames_of.Goals as goal
@@ -35,7 +35,7 @@ returns-in-Err-written-clause-stops g c =
     (ap g.W.Src.Source.name c.in-Ok-channel_leg.ensures.source ∙ c.in-Ok.ensures.named) (ap g.W.Src.Source.faults c.in-Ok-channel_leg.ensures.source ∙ c.in-Ok.ensures.fresh)
     c.in-Err-written.ensures.source.same_name c.into_source.ensures c.in-Ok.ensures.same_objects c.done_src-2.ensures.added
     (source_rose g.W.Src.Source.faults opened now fault c.in-Err-written.ensures.source.failed f e is) in
-    subst (λ f. StopsIn g.W.World old new (Channel w) f) (sym c.fault_of_channel.ensures)
+    subst (λ f. StopsOver g.W.World old new w.file (Channel w) f) (sym c.fault_of_channel.ensures)
     (channel_stops g.W.World.tells (g.W.World.contents old) w (OpenFailedIn g.W.World old new w.file) (RoseAt before after w.file)
     octets fault failed
     (λ told. (c.in-Ok.ensures.holds told, c.in-Err-written.ensures.refused (c.in-Ok.ensures.told told) w.ssrc octets (c.in-Ok-channel_leg.ensures.at (c.in-Ok.ensures.told told)))))

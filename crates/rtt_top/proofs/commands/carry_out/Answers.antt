@@ -1,7 +1,11 @@
-use Rattle.std.proofs.Common.{ap, refl}
+use Rattle.std.proofs.Common.{◌≡◌, true, Some, ap, refl, sym, subst}
 use Rattle.rtt_words.specs.Commands.{meaning, mixed}
+use Rattle.rtt_words.specs.Words.{Command, Live, Watch}
+use Rattle.rtt_top.specs.Lives.{RunsLive, RunsWatched, uses_no_link}
 use Rattle.rtt_top.specs.Outside.{left_by, outside_at, outside_over, output_at}
+use Rattle.rtt_top.specs.Runs.{Runs}
 use Rattle.rtt_top.proofs.Linked.{live_not_watched, no_live, no_watched, other_is_not_live, runs_linked, watched_not_live}
+use Rattle.rtt_top.proofs.Living.{runs_live, runs_served, runs_watched}
 use Rattle.rtt_top.proofs.commands.carry_out.Goals as goal
 
 pub returns-in_default : goal.returns-in_default
@@ -23,14 +27,40 @@ returns-in_default g c =
       offline = λ e. refl;
     }
 
-pub returns-in-Live-clause-watched : goal.returns-in-Live-clause-watched
-returns-in-Live-clause-watched g c =
-    live_not_watched (meaning c.args.command.now) (mixed c.in-Live.words) (ap meaning c.in-Live.is) g.W.World.tells g.K.Sink.tells g.L.Links.tells
-    (outside_over g.W.World g.K.Sink g.L.Links c.args.world.now c.args.out.now c.args.links.now)
-    (outside_over g.W.World g.K.Sink g.L.Links c.run_live.new.world c.run_live.new.out c.run_live.new.links) c.run_live.result
+pub returns-in-Live : goal.returns-in-Live
+returns-in-Live g c =
+    let call = c.serve_file in
+    let is = ap meaning c.in-Live.is in
+    let m = mixed c.in-Live.words in
+    let old = outside_over g.W.World g.K.Sink g.L.Links c.args.world.now c.args.out.now c.args.links.now in
+    let new = outside_over g.W.World g.K.Sink g.L.Links call.new.world call.new.out call.new.links in
+    let before = output_at g.E.Sink c.args.err.now in
+    let after = output_at g.E.Sink call.new.err in
+    let AreRun : Command → Type 0 = λ k. Runs (Some k) g.W.World.tells g.K.Sink.tells g.E.Sink.tells old new before after call.result in
+    let AreLive : Command → Type 0 = λ k. RunsLive (Some k) g.W.World.tells g.K.Sink.tells g.L.Links.tells old new call.result in
+    let UseNone : Command → Type 0 = λ k. uses_no_link (Some k) call.result ≡ true in
+    record {
+      runs = subst AreRun (sym is) (runs_served (Live m) m.conf g.W.World.tells g.K.Sink.tells g.E.Sink.tells old new before after call.result (λ name ending ends. ends) call.ensures.ends);
+      live = subst AreLive (sym is) (runs_live g.W.World.tells g.K.Sink.tells g.L.Links.tells old new m call.result call.ensures.served);
+      watched = live_not_watched (meaning c.args.command.now) m is g.W.World.tells g.K.Sink.tells g.L.Links.tells old new call.result;
+      offline = λ none. call.ensures.offline (subst UseNone is none);
+    }
 
-pub returns-in-Watch-clause-live : goal.returns-in-Watch-clause-live
-returns-in-Watch-clause-live g c =
-    watched_not_live (meaning c.args.command.now) (mixed c.in-Watch.words) (ap meaning c.in-Watch.is) g.W.World.tells g.K.Sink.tells g.L.Links.tells
-    (outside_over g.W.World g.K.Sink g.L.Links c.args.world.now c.args.out.now c.args.links.now)
-    (outside_over g.W.World g.K.Sink g.L.Links c.run_watch.new.world c.run_watch.new.out c.run_watch.new.links) c.run_watch.result
+pub returns-in-Watch : goal.returns-in-Watch
+returns-in-Watch g c =
+    let call = c.serve_file-in-Watch in
+    let is = ap meaning c.in-Watch.is in
+    let m = mixed c.in-Watch.words in
+    let old = outside_over g.W.World g.K.Sink g.L.Links c.args.world.now c.args.out.now c.args.links.now in
+    let new = outside_over g.W.World g.K.Sink g.L.Links call.new.world call.new.out call.new.links in
+    let before = output_at g.E.Sink c.args.err.now in
+    let after = output_at g.E.Sink call.new.err in
+    let AreRun : Command → Type 0 = λ k. Runs (Some k) g.W.World.tells g.K.Sink.tells g.E.Sink.tells old new before after call.result in
+    let AreWatched : Command → Type 0 = λ k. RunsWatched (Some k) g.W.World.tells g.K.Sink.tells g.L.Links.tells old new call.result in
+    let UseNone : Command → Type 0 = λ k. uses_no_link (Some k) call.result ≡ true in
+    record {
+      runs = subst AreRun (sym is) (runs_served (Watch m) m.conf g.W.World.tells g.K.Sink.tells g.E.Sink.tells old new before after call.result (λ name ending ends. ends) call.ensures.ends);
+      live = watched_not_live (meaning c.args.command.now) m is g.W.World.tells g.K.Sink.tells g.L.Links.tells old new call.result;
+      watched = subst AreWatched (sym is) (runs_watched g.W.World.tells g.K.Sink.tells g.L.Links.tells old new m call.result call.ensures.served);
+      offline = λ none. call.ensures.offline (subst UseNone is none);
+    }

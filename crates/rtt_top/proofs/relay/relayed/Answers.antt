@@ -5,7 +5,7 @@ use Rattle.rtt_words.specs.Tasks.{sending_of}
 use Rattle.rtt_words.specs.Words.{SendWords, Relay}
 use Rattle.rtt_words.specs.Commands.{sent}
 use Rattle.rtt_relay.specs.Answers.{IsRelayCause}
-use Rattle.rtt_top.specs.Worlds.{ObjectFailedIn, OpenFailedIn, StopsIn}
+use Rattle.rtt_top.specs.Worlds.{ObjectFailedIn, OpenFailedIn, StopsOver}
 use Rattle.rtt_top.proofs.Framing.{frames_sent, relay_stops}
 use Rattle.rtt_top.proofs.relay.relayed.Goals as goal
 
@@ -23,6 +23,6 @@ returns-clause-stops g c =
     let s : SendWords = sent c.args.words.now in
     let Is : Sending → List ℕ → Type 0 = λ sending octets. IsRelayCause c.in-Err-relay_frames.fault (relay sending octets) in
     let e = subst (λ octets. Is (sending_of s) octets) c.as_slice.ensures (subst (λ sending. Is sending c.as_slice.result.now) c.send_conf.ensures.sending c.in-Err-relay_frames.ensures.cause) in
-    subst (λ f. StopsIn g.W.World old new (Relay s) f) (sym c.fault_of_relay.ensures)
+    subst (λ f. StopsOver g.W.World old new s.file (Relay s) f) (sym c.fault_of_relay.ensures)
     (relay_stops g.W.World.tells (g.W.World.contents old) s (OpenFailedIn g.W.World old new s.file) (ObjectFailedIn g.W.World old new s.file)
     c.in-Ok.octets c.in-Err-relay_frames.fault c.in-Ok.ensures.given e)

@@ -1,0 +1,24 @@
+-- Why a recording is refused, and what is printed of one that is not.
+use Rattle.std.proofs.Common.{◌≡◌, ℕ, List, ap, ◌∙◌}
+use Rattle.rtt_base.specs.declared.text_packets.Pts.{Pts}
+use Rattle.wire_spec.specs.Dump.{Recording, dump, usual_limit}
+use Rattle.rtpdump_io.specs.declared.items.RecordingFault.{RecordingFault}
+use Rattle.rtpdump_io.specs.declared.items.RecordingFault.TheVariants.{Dump, NoMemory}
+use Rattle.rtpdump_io.specs.Faults.{FaultOf}
+use Rattle.command_spec.specs.Showing.{if_no_recording, recording_view, show_view}
+use Rattle.rtt_show.specs.Gathers.{IsRefused}
+use Rattle.rtt_top.specs.RecordingViews.{IsRefusal}
+
+-- a recording that is refused for any fault
+pub as_refusal : (recording : Recording) (fault : RecordingFault) → FaultOf recording fault → IsRefusal recording.fault fault
+as_refusal recording (Dump fault) is = is
+as_refusal recording NoMemory is = tt
+
+-- one that is refused only where it is none
+pub shown_refusal : (recording : Recording) (fault : RecordingFault) → IsRefused recording fault → IsRefusal (if_no_recording recording.fault) fault
+shown_refusal recording (Dump fault) refused = refused
+shown_refusal recording NoMemory refused = tt
+
+pub printed_is : (pts : Pts) (come : Recording) (octets printed : List ℕ) → printed ≡ recording_view pts come → come ≡ dump usual_limit octets → printed ≡ show_view pts octets
+unfolding show_view
+printed_is pts come octets printed is to = is ∙ ap (recording_view pts) to
