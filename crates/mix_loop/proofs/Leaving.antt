@@ -1,14 +1,14 @@
 -- What the mixer's calls do to its table, where legs come and go.
 use Rattle.std.proofs.Common.{◌≡◌, ◌<◌, ◌≤◌, ℕ, Bool, true, false, cond, not, List, ◌∷◌, ap, sym, ◌∙◌, subst, arith}
 use Rattle.std.specs.Prelude.{◌&&◌, is_some, nat_le}
-use Rattle.std.proofs.lemmas.Bool.{and_parts, not-true}
+use Rattle.std.proofs.lemmas.Bool.{not-true}
 use Rattle.mixer_spec.specs.Setups.{Setup, is_before_end}
 use Rattle.mixer_spec.specs.Table.{Table, Call, Admit, Hush, Leave, is_seated, after_calls, free_place, admitted, hushed, freed, may_leave, departed, stopped, entered}
 use Rattle.mixer_spec.specs.Calls.{IsAdmit, IsHush}
 use Rattle.mix_loop.specs.declared.ports.Seat.TheVariants.{Away, Listens, Hushed, Left}
 use Rattle.mix_loop.specs.declared.ports.Port.{Port}
 use Rattle.mix_loop.specs.Mixers.{At}
-use Rattle.mix_loop.specs.Ports.{SeatAt, StaysAs, is_away, is_listening, is_hushed, is_to_stop, is_to_leave, is_spent, seat_with}
+use Rattle.mix_loop.specs.Ports.{SeatAt, StaysAs, is_away, is_to_stop, is_to_leave, is_spent, seat_with}
 use Rattle.mix_loop.proofs.Places.{listening_is, hushed_is, away_is, stopped_over, stopped_still, hushed_seat, departed_stays, departed_leaves, freed_seat, entered_still, entered_early, entered_comes, admitted_seat, admitted_still}
 
 module _ {I F M : Type 0} (mixes : M → Setup → List Call → Type 0) (s : Setup) (i : ℕ) (table : Table) (p : Port I F) (old new : M) (at_old : At mixes old s table) where
@@ -17,8 +17,8 @@ module _ {I F M : Type 0} (mixes : M → Setup → List Call → Type 0) (s : Se
       → ((s : Setup) (calls : List Call) → mixes old s calls → IsHush s i calls → mixes new s (Hush i ∷ calls))
       → At mixes new s (stopped s i t table) × SeatAt (stopped s i t table).seats i Hushed
   stops t stays h e made =
-      let parts = and_parts (is_listening p.seat) (not (is_before_end t p.stay.until)) e in
-      let seat : SeatAt table.seats i Listens = subst (SeatAt table.seats i) (listening_is p.seat parts.0) h in
+      let parts = listening_is p.seat (not (is_before_end t p.stay.until)) e in
+      let seat : SeatAt table.seats i Listens = subst (SeatAt table.seats i) parts.0 h in
       let over : is_before_end t (s.until i) ≡ false = ap (is_before_end t) stays.until ∙ not-true (is_before_end t p.stay.until) parts.1 in
       let is = stopped_over s i t table seat over in (
         record {
@@ -31,7 +31,7 @@ module _ {I F M : Type 0} (mixes : M → Setup → List Call → Type 0) (s : Se
 
   pub not_stops : (t : ℕ) → StaysAs s i p → SeatAt table.seats i p.seat → is_to_stop t p ≡ false → At mixes old s (stopped s i t table) × SeatAt (stopped s i t table).seats i p.seat
   not_stops t stays h e =
-      let is = stopped_still s i t table p.seat h (ap (λ o. is_listening p.seat && not (is_before_end t o)) stays.until ∙ e) in
+      let is = stopped_still s i t table p.seat h (ap (λ o. elim p.seat as (λ x. Bool) [ Listens ↦ not (is_before_end t o) | _ ↦ false ]) stays.until ∙ e) in
       (subst (At mixes old s) (sym is) at_old, subst (λ (x : Table). SeatAt x.seats i p.seat) (sym is) h)
 
   -- ---- it may leave
@@ -53,8 +53,7 @@ module _ {I F M : Type 0} (mixes : M → Setup → List Call → Type 0) (s : Se
       → ((s : Setup) (calls : List Call) → mixes old s calls → mixes new s (Leave i ∷ calls) × (r ≡ may_leave s i (after_calls s calls)))
       → At mixes new s left_table × SeatAt left_table.seats i Left
   leaves h e r q made =
-      let parts = and_parts (is_hushed p.seat) (is_spent p) e in
-      let seat : SeatAt table.seats i Hushed = subst (SeatAt table.seats i) (hushed_is p.seat parts.0) h in
+      let seat : SeatAt table.seats i Hushed = subst (SeatAt table.seats i) (hushed_is p.seat (is_spent p) e) h in
       let d = departs r made in
       let is : left_table ≡ departed s i table = ap (λ b. cond {A = Table} b (departed s i table) table) e in
       let gone : departed s i table ≡ freed i table = departed_leaves s i table (sym d.1 ∙ q) in

@@ -198,7 +198,7 @@ module _ {I F M : Type 0} (stands : I → I → Gave F → Type 0) (mixes : M �
         table' = g.table';
         holds = g.holds;
         mixed = g.mixed;
-        gathered = subst (λ (h : Option Chunk). Gathered s i t gave hand table g.gave' h g.table') (sym empty)
+        gathers = subst (λ (h : Option Chunk). Gathered s i t gave hand table g.gave' h g.table') (sym empty)
             (gathered_end s i t gave g.gave' hand table g.table' (subst (λ (h : Option Chunk). Gathers s i t gave hand table g.gave' h g.table') empty g.gathers) (ap is_open (sym g.holds.ended) ∙ o));
       }
 
@@ -225,7 +225,7 @@ module _ {I F M : Type 0} (stands : I → I → Gave F → Type 0) (mixes : M �
           table' = g.table';
           holds = g.holds;
           mixed = subst (λ (b : Bool). At mixes m' s (cond {A = Table} b (given c.source c g.table') g.table')) e (k s g.table' g.mixed).1;
-          gathered = subst (λ (h : Option Chunk). Gathered s i t gave hand table g.gave' h g.table') (sym in_hand) (gathered_kept s i t gave g.gave' hand table g.table' c so_far (sym is ∙ e));
+          gathers = subst (λ (h : Option Chunk). Gathered s i t gave hand table g.gave' h g.table') (sym in_hand) (gathered_kept s i t gave g.gave' hand table g.table' c so_far (sym is ∙ e));
         })
 
     pub to_take : r ≡ true → (q : Port I F) → OnlyHand p q → q.full ≡ not r → GatheringTo stands mixes s i t first gave hand table q m'

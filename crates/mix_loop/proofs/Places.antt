@@ -9,21 +9,21 @@ use Rattle.mixer_spec.specs.Core.{gone}
 use Rattle.mixer_spec.proofs.Lists.{set_same, set_other}
 use Rattle.mix_loop.specs.declared.ports.Seat.{Seat}
 use Rattle.mix_loop.specs.declared.ports.Seat.TheVariants.{Away, Listens, Hushed, Left}
-use Rattle.mix_loop.specs.Ports.{SeatAt, SeatsKept, is_away, is_listening, is_hushed, seat_with}
+use Rattle.mix_loop.specs.Ports.{SeatAt, SeatsKept, is_away, seat_with}
 use Rattle.mix_loop.proofs.Lists.{set_still}
 
 -- ---- seats
-pub listening_is : (seat : Seat) → is_listening seat ≡ true → seat ≡ Listens
-listening_is Away e = absurd (true≢false (sym e))
-listening_is Listens e = refl
-listening_is Hushed e = absurd (true≢false (sym e))
-listening_is Left e = absurd (true≢false (sym e))
+pub listening_is : (seat : Seat) (over : Bool) → elim seat [ Listens ↦ over | _ ↦ false ] ≡ true → (seat ≡ Listens) × (over ≡ true)
+listening_is Away over e = absurd (true≢false (sym e))
+listening_is Listens over e = (refl, e)
+listening_is Hushed over e = absurd (true≢false (sym e))
+listening_is Left over e = absurd (true≢false (sym e))
 
-pub hushed_is : (seat : Seat) → is_hushed seat ≡ true → seat ≡ Hushed
-hushed_is Away e = absurd (true≢false (sym e))
-hushed_is Listens e = absurd (true≢false (sym e))
-hushed_is Hushed e = refl
-hushed_is Left e = absurd (true≢false (sym e))
+pub hushed_is : (seat : Seat) (spent : Bool) → elim seat [ Hushed ↦ spent | _ ↦ false ] ≡ true → seat ≡ Hushed
+hushed_is Away spent e = absurd (true≢false (sym e))
+hushed_is Listens spent e = absurd (true≢false (sym e))
+hushed_is Hushed spent e = refl
+hushed_is Left spent e = absurd (true≢false (sym e))
 
 pub away_is : (seat : Seat) → is_away seat ≡ true → seat ≡ Away
 away_is Away e = refl
@@ -43,7 +43,7 @@ module _ (s : Setup) (i t : ℕ) (table : Table) where
   pub stopped_over : SeatAt table.seats i Listens → is_before_end t (s.until i) ≡ false → stopped s i t table ≡ hushed i table
   stopped_over h e = ap (λ b. cond {A = Table} (b && not (is_before_end t (s.until i))) (hushed i table) table) h.1 ∙ ap (λ b. cond {A = Table} (not b) (hushed i table) table) e
 
-  pub stopped_still : (seat : Seat) → SeatAt table.seats i seat → (is_listening seat && not (is_before_end t (s.until i))) ≡ false → stopped s i t table ≡ table
+  pub stopped_still : (seat : Seat) → SeatAt table.seats i seat → elim seat [ Listens ↦ not (is_before_end t (s.until i)) | _ ↦ false ] ≡ false → stopped s i t table ≡ table
   stopped_still Away h e = ap (λ o. cond {A = Table} (is_some o && not (is_before_end t (s.until i))) (hushed i table) table) h.1
   stopped_still Listens h e = ap (λ b. cond {A = Table} (b && not (is_before_end t (s.until i))) (hushed i table) table) h.1 ∙ ap (λ b. cond {A = Table} b (hushed i table) table) e
   stopped_still Hushed h e = go (may_stop s i t table)
@@ -65,21 +65,21 @@ hushed_seat i table h = (h.0, h.1, set_same table.seats.listens i false i refl)
 
 -- ---- a leg leaves
 module _ (s : Setup) (i : ℕ) (table : Table) where
-  pub departed_still : (seat : Seat) → SeatAt table.seats i seat → is_hushed seat ≡ false → departed s i table ≡ table
+  pub departed_still : (seat : Seat) → SeatAt table.seats i seat → (seat ≡ Hushed → ⊥) → departed s i table ≡ table
   departed_still Away h e = go (may_leave s i table)
     where
       go : (b : Bool) → cond {A = Table} b (freed i table) table ≡ table
       go true = freed_still i table h.1
       go false = refl
   departed_still Listens h e = ap (λ b. cond {A = Table} (not b && is_done s i table) (freed i table) table) h.2
-  departed_still Hushed h e = absurd (true≢false e)
+  departed_still Hushed h e = absurd (e refl)
   departed_still Left h e = go (may_leave s i table)
     where
       go : (b : Bool) → cond {A = Table} b (freed i table) table ≡ table
       go true = freed_still i table h.1
       go false = refl
 
-  pub gone_still : (seat : Seat) → SeatAt table.seats i seat → is_hushed seat ≡ false → (xs : List Chunk) → gone s i xs table ≡ table
+  pub gone_still : (seat : Seat) → SeatAt table.seats i seat → (seat ≡ Hushed → ⊥) → (xs : List Chunk) → gone s i xs table ≡ table
   gone_still seat h e [] = departed_still seat h e
   gone_still seat h e (c ∷ cs) = refl
 

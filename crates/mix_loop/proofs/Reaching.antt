@@ -15,7 +15,7 @@ use Rattle.mix_loop.specs.declared.ports.Seat.TheVariants.{Away, Listens, Hushed
 use Rattle.mix_loop.specs.declared.ports.Port.{Port}
 use Rattle.mix_loop.specs.Items.{Gave, is_open}
 use Rattle.mix_loop.specs.Mixers.{At}
-use Rattle.mix_loop.specs.Ports.{MayCome, SeatAt, SeatsKept, Gathered, hand_of, hand_with, is_away, is_hushed, is_to_leave, SameSeat, Holds}
+use Rattle.mix_loop.specs.Ports.{MayCome, SeatAt, SeatsKept, Gathered, hand_of, hand_with, is_away, is_to_leave, SameSeat, Holds}
 use Rattle.mix_loop.specs.Turns.{Known, all_of, desk_of, MayComeAll, Reaches, Settled, KnownAt, AllKnown, IsNow, BecomesBy, comes}
 use Rattle.mix_loop.proofs.Lists.{funext, get_set_same, get_set_other, set_length}
 use Rattle.mix_loop.proofs.Places.{gone_still}
@@ -37,18 +37,15 @@ reaches_more f g kn kn1 kn2 table table1 table2 a b = record {
 -- whatever it has left to offer, it leaves where nothing is left
 gone_is : {I F : Type 0} (s : Setup) (i : ℕ) (table : Table) (p : Port I F) → SeatAt table.seats i p.seat → (hand : Option Chunk) → hand_of p ≡ hand → (rest : List Chunk) → MayCome p.ended rest
     → (is_away p.seat ≡ false → hand ≡ None → is_open p.ended ≡ false) → gone s i (held hand ++ rest) table ≡ cond {A = Table} (is_to_leave p) (departed s i table) table
-gone_is s i table p seat hand is rest may settled = go (is_hushed p.seat) p.full (is_open p.ended) refl refl refl
+gone_is s i table p seat hand is rest may settled = go p.seat p.full (is_open p.ended) refl refl refl seat
   where
-    not_away : (x : Seat) → is_hushed x ≡ true → is_away x ≡ false
-    not_away Away e = absurd (true≢false (sym e))
-    not_away Listens e = refl
-    not_away Hushed e = refl
-    not_away Left e = refl
-
-    go : (h f o : Bool) → is_hushed p.seat ≡ h → p.full ≡ f → is_open p.ended ≡ o → gone s i (held hand ++ rest) table ≡ cond {A = Table} (h && (not f && not o)) (departed s i table) table
-    go false f o eh ef eo = gone_still s i table p.seat seat eh (held hand ++ rest)
-    go true true o eh ef eo = ap (λ (x : Option Chunk). gone s i (held x ++ rest) table) (sym is ∙ ap (λ b. hand_with b (chunk_of p.hand)) ef)
-    go true false o eh ef eo = spent o eo (sym is ∙ ap (λ b. hand_with b (chunk_of p.hand)) ef) (not_away p.seat eh)
+    go : (x : Seat) (f o : Bool) → p.seat ≡ x → p.full ≡ f → is_open p.ended ≡ o → SeatAt table.seats i x
+        → gone s i (held hand ++ rest) table ≡ cond {A = Table} (elim x [ Hushed ↦ not f && not o | _ ↦ false ]) (departed s i table) table
+    go Away f o ex ef eo at = gone_still s i table Away at (λ e. cc e) (held hand ++ rest)
+    go Listens f o ex ef eo at = gone_still s i table Listens at (λ e. cc e) (held hand ++ rest)
+    go Left f o ex ef eo at = gone_still s i table Left at (λ e. cc e) (held hand ++ rest)
+    go Hushed true o ex ef eo at = ap (λ (x : Option Chunk). gone s i (held x ++ rest) table) (sym is ∙ ap (λ b. hand_with b (chunk_of p.hand)) ef)
+    go Hushed false o ex ef eo at = spent o eo (sym is ∙ ap (λ b. hand_with b (chunk_of p.hand)) ef) (ap is_away ex)
       where
         spent : (o : Bool) → is_open p.ended ≡ o → hand ≡ None → is_away p.seat ≡ false → gone s i (held hand ++ rest) table ≡ cond {A = Table} (not o) (departed s i table) table
         spent true eo n a = absurd (true≢false (sym eo ∙ settled a n))

@@ -115,7 +115,7 @@ module _ {I F M : Type 0} (stands : I → I → Gave F → Type 0) (mixes : M �
         let g = gathers s before k.first x.gave k.holds n.mixed in
         let y : Known F = record { gave = g.gave'; hand = hand_of r; seat = x.seat } in
         let gathered : Gathered s i t x.gave x.hand before y.gave y.hand g.table' =
-        subst (λ h. Gathered s i t x.gave h before y.gave y.hand g.table') k.hand g.gathered in
+        subst (λ h. Gathered s i t x.gave h before y.gave y.hand g.table') k.hand g.gathers in
         let seat : SeatAt g.table'.seats i x.seat = subst (λ z. SeatAt z i x.seat) (sym gathered.seats) (n.seats i below) in
         let more : suc i ≡ i + 1 = omega arith in
         let known = known_on stands s firsts i p r x k g.gave' same g.holds in

@@ -22,17 +22,9 @@ abbrev pub is_away : Seat → Bool
 is_away Away = true
 is_away _ = false
 
-abbrev pub is_listening : Seat → Bool
-is_listening Listens = true
-is_listening _ = false
-
-abbrev pub is_hushed : Seat → Bool
-is_hushed Hushed = true
-is_hushed _ = false
-
+-- the seat of a leg that came
 abbrev pub seat_with : Bool → Seat
-seat_with true = Listens
-seat_with false = Hushed
+seat_with listens = if listens then Listens else Hushed
 
 -- who holds which place has this of the leg i
 abbrev pub SeatAt : Seats → ℕ → Seat → Type 0
@@ -112,11 +104,11 @@ module _ {I F : Type 0} where
 
   -- it holds a place and listens, and its stay is over at the moment t
   abbrev pub is_to_stop : ℕ → Port I F → Bool
-  is_to_stop t p = is_listening p.seat && not (is_before_end t p.stay.until)
+  is_to_stop t p = elim p.seat [ Listens ↦ not (is_before_end t p.stay.until) | _ ↦ false ]
 
   -- it listens no more and has nothing left to offer
   abbrev pub is_to_leave : Port I F → Bool
-  is_to_leave p = is_hushed p.seat && is_spent p
+  is_to_leave p = elim p.seat [ Hushed ↦ is_spent p | _ ↦ false ]
 
   -- nothing came to it yet
   pub record IsNew (inlet : I) (stay : Stay) (p : Port I F) : Type 0 where
@@ -170,19 +162,19 @@ module _ {I F : Type 0} where
     pub holds : Holds stands j first p gave'
     pub pulls : Pulls gave hand gave' (hand_of p)
 
-  pub record GatheringTo {M : Type 0} (stands : I → I → Gave F → Type 0) (mixes : M → Setup → List Call → Type 0) (s : Setup) (i t : ℕ) (first : I) (gave : Gave F) (hand : Option Chunk) (table : Table) (p : Port I F) (m : M) : Type 0 where
+  -- from what the first inlet gave to what this port's did: the mixer is at a table to which this leads
+  pub record LeadsTo {M : Type 0} (stands : I → I → Gave F → Type 0) (mixes : M → Setup → List Call → Type 0) (s : Setup) (i : ℕ) (first : I) (leads : Gave F → Option Chunk → Table → Type 0) (p : Port I F) (m : M) : Type 0 where
     pub gave' : Gave F
     pub table' : Table
     pub holds : Holds stands i first p gave'
     pub mixed : At mixes m s table'
-    pub gathers : Gathers s i t gave hand table gave' (hand_of p) table'
+    pub gathers : leads gave' (hand_of p) table'
 
-  pub record GatheredTo {M : Type 0} (stands : I → I → Gave F → Type 0) (mixes : M → Setup → List Call → Type 0) (s : Setup) (i t : ℕ) (first : I) (gave : Gave F) (hand : Option Chunk) (table : Table) (p : Port I F) (m : M) : Type 0 where
-    pub gave' : Gave F
-    pub table' : Table
-    pub holds : Holds stands i first p gave'
-    pub mixed : At mixes m s table'
-    pub gathered : Gathered s i t gave hand table gave' (hand_of p) table'
+  abbrev pub GatheringTo : {M : Type 0} → (I → I → Gave F → Type 0) → (M → Setup → List Call → Type 0) → Setup → ℕ → ℕ → I → Gave F → Option Chunk → Table → Port I F → M → Type 0
+  GatheringTo stands mixes s i t first gave hand table p m = LeadsTo stands mixes s i first (Gathers s i t gave hand table) p m
+
+  abbrev pub GatheredTo : {M : Type 0} → (I → I → Gave F → Type 0) → (M → Setup → List Call → Type 0) → Setup → ℕ → ℕ → I → Gave F → Option Chunk → Table → Port I F → M → Type 0
+  GatheredTo stands mixes s i t first gave hand table p m = LeadsTo stands mixes s i first (Gathered s i t gave hand table) p m
 
   pub record DrainedTo (stands : I → I → Gave F → Type 0) (j : ℕ) (first : I) (gave : Gave F) (p : Port I F) : Type 0 where
     pub gave' : Gave F
