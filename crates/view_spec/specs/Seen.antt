@@ -43,16 +43,13 @@ abbrev pub fate_at : Reception → Item → Fate
 fate_at r item = fate_of_what r item.what
 
 abbrev pub is_packet : Fate → Bool
-is_packet NoPacket = false
-is_packet _ = true
+is_packet fate = elim fate [ NoPacket ↦ false | _ ↦ true ]
 
 abbrev pub is_refused : Fate → Bool
-is_refused Refused = true
-is_refused _ = false
+is_refused fate = elim fate [ Refused ↦ true | _ ↦ false ]
 
 abbrev pub is_foreign : Fate → Bool
-is_foreign Foreigner = true
-is_foreign _ = false
+is_foreign fate = elim fate [ Foreigner ↦ true | _ ↦ false ]
 
 -- how many of what came have such a fate
 abbrev pub many : {A : Type 0} → (Fate → Bool) → (A → Fate) → List A → ℕ
