@@ -21,7 +21,7 @@ use Rattle.mixer_spec.proofs.FileExample.{for_good, types}
 use Rattle.link_spec.specs.Links.{Takes, is_closed}
 use Rattle.link_spec.specs.Links as link
 use Rattle.live_spec.specs.Told.{ready_by}
-use Rattle.live_spec.specs.Live.{AreLive, IsUpToDate, MayTurn, turns_free}
+use Rattle.live_spec.specs.Live.{AreLive, IsUpToDate, Live, MayTurn, turns_free}
 use Rattle.serve_spec.specs.Served.{Closed, Done, End, IsDrained, IsServed, chunks_live, end_line, given_to, hearing_at, live_printed}
 use Rattle.serve_spec.specs.Watched.{board_line, board_lines}
 use Rattle.serve_spec.specs.HeadLive.{HeadLive}
@@ -238,18 +238,25 @@ quiet_gives zero leg e = refl
 quiet_gives (suc zero) leg e = refl
 quiet_gives (suc (suc j)) leg e = absurd (cc e)
 
-live_done : IsServed short quiet (to_bob []) Done (shows [] 0 Done)
-live_done = record {
-  table = table_after 1 quiet (Turn 0 ∷ entered);
+-- after one turn all turns were made
+done_at_once : (takes : ℕ → Takes) (packets : List (List ℕ)) (printed : List ℕ) (table : Table) → Live (setup short) (hearing_at short) takes 1 table
+    → ((j : ℕ) (leg : LegLine) → leg_at short.legs j ≡ Some leg → to_bob packets j ≡ given_to short table j leg) → printed ≡ live_printed short (to_bob packets) Done
+    → IsServed short takes (to_bob packets) Done printed
+done_at_once takes packets printed table live gives prints = record {
+  table = table;
   turns = 1;
-  live = record { past = Turn 0 ∷ entered; live = (quiet_turn, tt); turned = refl; leads = refl };
+  live = live;
   few = omega arith;
-  gives = quiet_gives;
-  prints = nothing_is_printed;
+  gives = gives;
+  prints = prints;
   done = λ e. refl;
   drained = λ e. absurd (cc e);
   idle = λ e. absurd (cc e);
 }
+
+live_done : IsServed short quiet (to_bob []) Done (shows [] 0 Done)
+live_done = done_at_once quiet [] (shows [] 0 Done) (table_after 1 quiet (Turn 0 ∷ entered))
+    (record { past = Turn 0 ∷ entered; live = (quiet_turn, tt); turned = refl; leads = refl }) quiet_gives nothing_is_printed
 
 -- ---- one turn, and a letter before it
 letter_ready : taken_of 1 one_letter offered 0 ≡ ready_by (hearing_at short 0) (took 5 (link.Datagram letter))
@@ -286,14 +293,5 @@ letter_gives (suc zero) leg e = let is : bob ≡ leg = cc e in letter_to_bob ∙
 letter_gives (suc (suc j)) leg e = absurd (cc e)
 
 live_one_letter : IsServed short one_letter (to_bob (first ∷ [])) Done (shows (codes "A") 1 Done)
-live_one_letter = record {
-  table = table_after 1 one_letter (Turn 0 ∷ offered);
-  turns = 1;
-  live = record { past = Turn 0 ∷ offered; live = (letter_turn, (letter_seated, tt)); turned = refl; leads = refl };
-  few = omega arith;
-  gives = letter_gives;
-  prints = letter_is_printed;
-  done = λ e. refl;
-  drained = λ e. absurd (cc e);
-  idle = λ e. absurd (cc e);
-}
+live_one_letter = done_at_once one_letter (first ∷ []) (shows (codes "A") 1 Done) (table_after 1 one_letter (Turn 0 ∷ offered))
+    (record { past = Turn 0 ∷ offered; live = (letter_turn, (letter_seated, tt)); turned = refl; leads = refl }) letter_gives letter_is_printed
