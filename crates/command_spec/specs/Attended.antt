@@ -4,6 +4,7 @@ use Rattle.std.specs.List.{AllZip}
 use Rattle.wire_spec.specs.Dump.{dump}
 use Rattle.file_spec.specs.declared.conf_lines.Form.TheVariants.{Files}
 use Rattle.file_spec.specs.Conf.{Conf, conf}
+use Rattle.file_spec.specs.Kept.{IsConference}
 use Rattle.mixer_spec.specs.Bridged.{IsConferenceMixed, input_limit}
 use Rattle.command_spec.specs.Work.{Contents, Made}
 use Rattle.command_spec.specs.Outcomes.{AllStored, Done, outcome}
@@ -44,3 +45,7 @@ AttendedAreBridged =
     → outcome held (attending file) ≡ Done printed files
     → AllStored files held after
     → IsAttended held after file printed
+
+-- A conference that keeps all limits does so with the names and the leavings that its inputs tell, whatever they tell.
+abbrev pub NamedAreConferences : Type 0
+NamedAreConferences = (c : Conf) (inputs : List (List ℕ)) → IsConference c → IsConference (named c inputs)

@@ -7,9 +7,8 @@ use Rattle.file_spec.specs.declared.conf_lines.MixerLine.{MixerLine}
 use Rattle.file_spec.specs.declared.conf_lines.PlanLine.{PlanLine}
 use Rattle.file_spec.specs.declared.conf_lines.What.{What}
 use Rattle.file_spec.specs.declared.conf_lines.What.TheVariants.{Lose, Delay, Twice}
-use Rattle.file_spec.specs.declared.limits.TheConstants.{MOST_TURNS, USUAL_GENS, USUAL_SPACING, USUAL_TICK}
-use Rattle.rtt_base.specs.declared.limits.TheConstants.{USUAL_WAIT}
-use Rattle.file_spec.specs.Conf.{Conf, is_same_packet, usual_types, whole_stay}
+use Rattle.file_spec.specs.declared.limits.TheConstants.{USUAL_GENS}
+use Rattle.file_spec.specs.Conf.{Conf, is_same_packet, nothing, usual_types, whole, whole_stay}
 use Rattle.file_spec.specs.Script.{ScriptLine}
 use Rattle.command_spec.specs.Draws.{Drawing, draw, give, times, ◌>>=◌}
 
@@ -107,17 +106,9 @@ leg i = record {
 abbrev pub mixer : MixerLine
 mixer = record { ssrc = 1; seq = 0; stamp = 0 }
 
--- so many legs, and this plan
+-- so many legs, and this plan; all else has its default
 abbrev pub conference_of : ℕ → List PlanLine → Conf
-conference_of legs plan = record {
-  legs = map leg (range_with_len 0 legs);
-  tick = USUAL_TICK;
-  spacing = USUAL_SPACING;
-  wait = USUAL_WAIT;
-  turns = MOST_TURNS;
-  mixer = mixer;
-  plan = plan;
-}
+conference_of legs plan = whole (record nothing { legs = map leg (range_with_len 0 legs); plan = plan }) mixer
 
 -- ---- the whole
 abbrev pub generated_of : ℕ → List Typist → List PlanLine → Generated

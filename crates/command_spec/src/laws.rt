@@ -1,20 +1,15 @@
 //! What holds of the definitions. No code stands here.
 ghost use Rattle.std.specs.Prelude.{◌≡◌, ◌≤◌, ℕ, ◌+◌, List, length, All};
-ghost use Rattle.file_spec.specs.Conf.{Conf};
 ghost use Rattle.file_spec.specs.Kept.{IsConference};
 ghost use Rattle.stream_spec.specs.History.{History, Lawful, Come};
 ghost use Rattle.command_spec.specs.declared.requests.ReadRequest.{ReadRequest};
 ghost use Rattle.view_spec.specs.Seen.{display_at, counts_at};
 ghost use Rattle.command_spec.specs.Reading.{arrivals_of, history_view, read_view, reception, records_of};
 ghost use Rattle.command_spec.specs.Streams.{AreGiven, stream};
-ghost use Rattle.command_spec.specs.Work.{Contents, Made};
-ghost use Rattle.command_spec.specs.Outcomes.{AllStored, Done, outcome};
 ghost use Rattle.command_spec.specs.Scripts.{AreLines};
 ghost use Rattle.command_spec.specs.Generated.{generated};
-ghost use Rattle.command_spec.specs.Mixing.{mixing};
-ghost use Rattle.command_spec.specs.Attending.{named};
-ghost use Rattle.command_spec.specs.Attended.{AttendedAreBridged, AttendedAreOne};
-ghost use Rattle.command_spec.specs.Bridges.{BridgesAreOne, IsBridged};
+ghost use Rattle.command_spec.specs.Attended.{AttendedAreBridged, AttendedAreOne, NamedAreConferences};
+ghost use Rattle.command_spec.specs.Bridges.{BridgesAreOne, MixedAreBridged};
 ghost use Rattle.command_spec.specs.Cascaded.{CascadesAreBridged, CascadesAreOne};
 ghost use Rattle.mixer_spec.specs.declared.limits.TheConstants.{PLACES};
 
@@ -38,8 +33,7 @@ pub fn shown_is_read()
 /// packets of a lawful history in which each text was repeated, and what is printed is what is heard behind both hops. Of what
 /// a terminal shares of a leg nothing is absent there but what every packet carrying it lost.
 pub fn mixed_is_bridged()
-    ensures { (held after : Contents) (file printed : List ℕ) (files : List Made)
-        → outcome held (mixing file) ≡ Done printed files → AllStored files held after → IsBridged held after file printed }
+    ensures { MixedAreBridged }
 {}
 
 /// What lies in the file of a conference and in its inputs decides the conference, the octets of its inputs and the table at
@@ -85,5 +79,5 @@ pub fn generated_conferences_keep()
 
 /// A conference with the names and the leavings that its inputs tell keeps all limits, whatever they tell.
 pub fn named_conferences_keep()
-    ensures { (c : Conf) (inputs : List (List ℕ)) → IsConference c → IsConference (named c inputs) }
+    ensures { NamedAreConferences }
 {}
