@@ -1,18 +1,15 @@
 -- How far a leg is.
-use Rattle.std.proofs.Common.{◌≡◌, true, false, true≢false, refl, sym}
+use Rattle.std.proofs.Common.{◌≡◌, true, false, true≢false, refl, ap, sym, ◌∙◌}
 use Rattle.link_io.specs.declared.ends.Came.{Came}
 use Rattle.link_io.specs.declared.ends.Came.TheVariants as came
 use Rattle.link_io.specs.Taking.{closes}
 use Rattle.live_leg.specs.declared.states.State.{State}
 use Rattle.live_leg.specs.declared.states.State.TheVariants.{Idle, Giving, Ending, Over}
-use Rattle.live_leg.specs.States.{is_ending, is_giving, is_going, is_idle}
+use Rattle.live_leg.specs.States.{is_ending, is_giving, is_going}
 use Rattle.live_leg.specs.Stepping.{state_after}
 
-pub giving_not_idle : (st : State) → is_giving st ≡ true → is_idle st ≡ true → ⊥
-giving_not_idle Idle g i = true≢false (sym g)
-giving_not_idle Giving g i = true≢false (sym i)
-giving_not_idle Ending g i = true≢false (sym i)
-giving_not_idle Over g i = true≢false (sym i)
+pub giving_not_idle : (st : State) → is_giving st ≡ true → st ≡ Idle → ⊥
+giving_not_idle st g i = true≢false (sym g ∙ ap is_giving i)
 
 pub still_going : (st : State) → is_giving st ≡ true → is_ending st ≡ false → is_going st ≡ true
 still_going Idle g e = refl
@@ -20,11 +17,11 @@ still_going Giving g e = refl
 still_going Ending g e = absurd (true≢false e)
 still_going Over g e = absurd (true≢false (sym g))
 
-pub asked_not_idle : (c : Came) → is_idle (state_after c) ≡ true → ⊥
-asked_not_idle came.Datagram i = true≢false (sym i)
-asked_not_idle came.Large i = true≢false (sym i)
-asked_not_idle came.Quiet i = true≢false (sym i)
-asked_not_idle came.Closed i = true≢false (sym i)
+pub asked_not_idle : (c : Came) → state_after c ≡ Idle → ⊥
+asked_not_idle came.Datagram i = cc i
+asked_not_idle came.Large i = cc i
+asked_not_idle came.Quiet i = cc i
+asked_not_idle came.Closed i = cc i
 
 pub going_is_open : (c : Came) → is_going (state_after c) ≡ true → closes c ≡ false
 going_is_open came.Datagram o = refl

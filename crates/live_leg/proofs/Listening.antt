@@ -20,17 +20,13 @@ use Rattle.live_leg.specs.declared.states.State.TheVariants.{Idle, Giving, Endin
 use Rattle.live_leg.specs.declared.legs.LinkLeg.{LinkLeg}
 use Rattle.live_leg.specs.Stories.{after_came, after_taken, hearing_of}
 use Rattle.live_leg.specs.Items.{Item, has_fault, is_fault, text_in}
-use Rattle.live_leg.specs.States.{is_idle}
 use Rattle.live_leg.specs.Stepping.{state_after}
 use Rattle.live_leg.specs.Stands.{Counts, GivesThen, IsGivingSome, IsIdle, IsStop, Listens, PhaseAt}
 use Rattle.live_leg.proofs.Telling.{closed_by, closing_is, told_more}
 use Rattle.live_leg.proofs.Texts.{fault_append, texts_same}
 
-idle_is : (st : State) (F : Type 0) (conf : EarConf) (takes : Takes) (items : List Item) (story : Story) → is_idle st ≡ true → PhaseAt st F conf takes items story → IsIdle (hearing_of conf) takes items
-idle_is Idle F conf takes items story e p = p
-idle_is Giving F conf takes items story e p = absurd (true≢false (sym e))
-idle_is Ending F conf takes items story e p = absurd (true≢false (sym e))
-idle_is Over F conf takes items story e p = absurd (true≢false (sym e))
+idle_is : (st : State) (F : Type 0) (conf : EarConf) (takes : Takes) (items : List Item) (story : Story) → st ≡ Idle → PhaseAt st F conf takes items story → IsIdle (hearing_of conf) takes items
+idle_is st F conf takes items story e p = subst (λ (x : State). PhaseAt x F conf takes items story) e p
 
 pub rose_since : (first old new : ℕ) → first ≤ old → Rose old new → Rose first new
 rose_since first old new f (inl r) = inl (omega (arith, f, r))
@@ -74,7 +70,7 @@ module _ {L : Type 0} (g : links.Ghosts L) where
       go came.Quiet all w = w
       go came.Closed all w = (w, all refl)
 
-  pub listens : (l m : LinkLeg L) (taken : Taken) (octets : List ℕ) → is_idle l.state ≡ true → m.state ≡ state_after taken.came
+  pub listens : (l m : LinkLeg L) (taken : Taken) (octets : List ℕ) → l.state ≡ Idle → m.state ≡ state_after taken.came
       → Becomes l.ear m.ear (λ conf story. after_taken conf story taken octets) → (closes taken.came ≡ true → AllReady l.ear) → conf_of m.ear ≡ conf_of l.ear
       → (g.tells → g.taken m.link ≡ taken_of taken octets ∷ g.taken l.link) → g.closed m.link ≡ (g.closed l.link || closes taken.came)
       → g.faults l.link ≤ g.faults m.link → g.faults m.link ≡ g.faults l.link → g.port m.link ≡ g.port l.link
@@ -102,7 +98,7 @@ module _ {L : Type 0} (g : links.Ghosts L) where
       }
 
   -- it is over, with this last item
-  pub stops : (l m : LinkLeg L) (x : Item) → ((leg : ℕ) → text_in leg x ≡ []) → is_idle l.state ≡ true → m.state ≡ Over → m.ear ≡ l.ear
+  pub stops : (l m : LinkLeg L) (x : Item) → ((leg : ℕ) → text_in leg x ≡ []) → l.state ≡ Idle → m.state ≡ Over → m.ear ≡ l.ear
       → (g.tells → g.taken m.link ≡ g.taken l.link) → g.closed m.link ≡ g.closed l.link → g.faults l.link ≤ g.faults m.link → g.port m.link ≡ g.port l.link
       → ((f : ℕ) → f ≤ g.faults l.link → IsStop x (Rose f (g.faults m.link)))
       → ((b : Bool) (f : ℕ) → f ≤ g.faults l.link → Counts b f (g.faults l.link) → Counts (b || (is_fault x || false)) f (g.faults m.link))

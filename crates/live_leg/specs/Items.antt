@@ -1,5 +1,6 @@
 -- What a leg over a link gives, by what the takes of its link gave (profile).
-use Rattle.std.specs.Prelude.{◌≡◌, ℕ, suc, Bool, true, false, Option, None, Some, List, [], ◌∷◌, ◌++◌, map, ◌||◌, if◌then◌else◌}
+use Rattle.std.specs.Prelude.{◌≡◌, ℕ, suc, Bool, true, false, Option, None, Some, List, [], ◌∷◌, ◌++◌, map, if◌then◌else◌}
+use Rattle.std.specs.List.{list_any}
 use Rattle.stream_spec.specs.Ready.{Chunk, chunk, chunk_of}
 use Rattle.link_spec.specs.Links.{Came, Takes, is_closing}
 use Rattle.live_spec.specs.Told.{Hearing, ready_by}
@@ -60,8 +61,7 @@ is_fault _ = false
 
 -- one of them says that the link failed
 abbrev pub has_fault : List Item → Bool
-has_fault [] = false
-has_fault (x ∷ xs) = is_fault x || has_fault xs
+has_fault xs = list_any is_fault xs
 
 abbrev pub is_text : Item → Bool
 is_text (Text ready octets) = true

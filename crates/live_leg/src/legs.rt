@@ -1,7 +1,8 @@
 //! A leg over a link.
 ghost use Rattle.std.specs.Prelude.{◌≡◌, true, false};
 ghost use Rattle.ear.specs.Hears.{IsGiving, is_finished, is_quiet};
-ghost use Rattle.live_leg.specs.States.{is_idle, is_going};
+ghost use Rattle.live_leg.specs.States.{is_going};
+ghost use Rattle.live_leg.specs.declared.states.State.TheVariants.{Idle};
 
 use crate::states::State;
 use ear::Ear;
@@ -24,6 +25,6 @@ pub struct LinkLeg<L> {
     /// What the link gave last.
     pub(crate) last: Came,
     ghost giving: { ∥ IsGiving ear ∥₁ },
-    ghost quiet: { is_idle state ≡ true → is_quiet ear ≡ true },
+    ghost quiet: { state ≡ Idle → is_quiet ear ≡ true },
     ghost open_still: { is_going state ≡ true → is_finished ear ≡ false },
 }

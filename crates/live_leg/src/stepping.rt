@@ -6,7 +6,7 @@ ghost use Rattle.live_leg.specs.Stepping.{seen_as, unless_blank};
 ghost use Rattle.ear.specs.Hears.{arrival_count, conf_of};
 ghost use Rattle.live_leg.specs.Items.{Item, items_with};
 ghost use Rattle.live_leg.specs.Stands.{GetsOn, GivesOf, GivesThen, LegStands, Listens};
-ghost use Rattle.live_leg.specs.States.{is_giving, is_idle, is_over};
+ghost use Rattle.live_leg.specs.States.{is_giving, is_over};
 ghost use Rattle.live_leg.specs.Texts.{HasText};
 
 use crate::hearing::hear_taken;
@@ -90,7 +90,7 @@ impl<L: LinkIn> LinkLeg<L> {
 
     /// Takes from the link, and tells the ear what came. Where the link failed the leg is over.
     fn listen(&mut self, may_wait: bool) -> Result<(), Failed>
-        requires idle { is_idle self.old.state ≡ true }
+        requires idle { self.old.state ≡ State.Idle }
         requires few { arrival_count self.old.ear < MOST_ARRIVALS }
         ensures ok { OnOk result (Listens L.LinkIn self.old self.new) }
         ensures giving { OnOk result (is_giving self.new.state ≡ true) }
@@ -131,7 +131,7 @@ impl<L: LinkIn> LinkLeg<L> {
 
     /// Stops.
     fn quit(&mut self)
-        requires { is_idle self.old.state ≡ true }
+        requires { self.old.state ≡ State.Idle }
         ensures { GivesThen L.LinkIn self.old self.new (Item.Quit ∷ []) }
     {
         self.state = State::Over;
@@ -139,7 +139,7 @@ impl<L: LinkIn> LinkLeg<L> {
 
     /// Takes from the link, and gives the first item of what came.
     fn ask(&mut self, may_wait: bool, chunk: &mut Chunk) -> Option<ItemKind>
-        requires idle { is_idle self.old.state ≡ true }
+        requires idle { self.old.state ≡ State.Idle }
         requires few { arrival_count self.old.ear < MOST_ARRIVALS }
         ensures gives { GivesThen L.LinkIn self.old self.new (items_with result (chunk_of chunk.new)) }
         ensures text { IfSome result (λ kind. HasText kind (chunk_of chunk.new)) }
@@ -153,7 +153,7 @@ impl<L: LinkIn> LinkLeg<L> {
 
     /// Takes from the link, unless the leg is to stop, or heard all that an ear hears.
     fn ask_unless_stopped(&mut self, may_wait: bool, chunk: &mut Chunk) -> Option<ItemKind>
-        requires { is_idle self.old.state ≡ true }
+        requires { self.old.state ≡ State.Idle }
         ensures gives { GivesThen L.LinkIn self.old self.new (items_with result (chunk_of chunk.new)) }
         ensures text { IfSome result (λ kind. HasText kind (chunk_of chunk.new)) }
         ensures later { result ≡ None → GetsOn self.old self.new }

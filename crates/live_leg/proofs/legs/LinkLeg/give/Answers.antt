@@ -29,7 +29,7 @@ returns-then-next-clause-text g c =
 pub invariant_of-self-then-is_ending : goal.invariant_of-self-then-is_ending
 invariant_of-self-then-is_ending g c = record {
   giving = ∥∥₁_map c.args.self.now.giving (rests_giving c.args.self.now.ear c.next.new.self (c.next.ensures.none c.if-next.false));
-  quiet = λ i. absurd (true≢false (sym i));
+  quiet = λ i. absurd (cc i);
   open_still = λ o. absurd (true≢false (sym o));
 }
 

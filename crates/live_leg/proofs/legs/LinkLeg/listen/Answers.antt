@@ -3,7 +3,7 @@ use Rattle.std.proofs.Math.Logic.{∥∥₁_map}
 use Rattle.ear.specs.Hears.{Becomes}
 use Rattle.live_leg.specs.Items.{Fault}
 use Rattle.live_leg.specs.Stories.{after_taken}
-use Rattle.live_leg.specs.States.{is_going, is_idle}
+use Rattle.live_leg.specs.States.{is_going}
 use Rattle.live_leg.proofs.Ears.{becomes_giving}
 use Rattle.live_leg.proofs.HowFar.{asked_not_idle, going_is_open}
 use Rattle.live_leg.proofs.Listening.{listens, rose_since, stops}
@@ -13,7 +13,7 @@ use Rattle.live_leg.proofs.legs.LinkLeg.listen.Goals as goal
 pub invariant_of-self : goal.invariant_of-self
 invariant_of-self g c = record {
   giving = ∥∥₁_map c.args.self.now.giving (becomes_giving c.args.self.now.ear c.hear_taken.new.ear (λ conf story. after_taken conf story c.in-Ok.taken c.as_slice.result.now) c.hear_taken.ensures.becomes);
-  quiet = λ i. absurd (asked_not_idle c.in-Ok.taken.came (ap is_idle (sym c.state_after-self.ensures) ∙ i));
+  quiet = λ i. absurd (asked_not_idle c.in-Ok.taken.came (sym c.state_after-self.ensures ∙ i));
   open_still = λ o. c.hear_taken.ensures.finished ∙ going_is_open c.in-Ok.taken.came (ap is_going (sym c.state_after-self.ensures) ∙ o);
 }
 
