@@ -6,8 +6,8 @@ use Rattle.file_spec.specs.declared.conf_lines.Form.TheVariants.{Files}
 use Rattle.file_spec.specs.Conf.{Conf, conf}
 use Rattle.file_spec.specs.Kept.{IsConference}
 use Rattle.mixer_spec.specs.Bridged.{IsConferenceMixed, input_limit}
-use Rattle.command_spec.specs.Work.{Contents, Made}
-use Rattle.command_spec.specs.Outcomes.{AllStored, Done, outcome}
+use Rattle.command_spec.specs.Work.{Contents}
+use Rattle.command_spec.specs.Outcomes.{HoldsOfMade}
 use Rattle.command_spec.specs.Mixing.{input_at}
 use Rattle.command_spec.specs.Attending.{attending, named}
 use Rattle.command_spec.specs.Bridges.{Bridge}
@@ -40,11 +40,7 @@ pub record IsAttended (held after : Contents) (file printed : List ℕ) : Type 0
 
 -- Whatever lies in the files, that is what `attend` makes of it.
 abbrev pub AttendedAreBridged : Type 0
-AttendedAreBridged =
-    (held after : Contents) (file printed : List ℕ) (files : List Made)
-    → outcome held (attending file) ≡ Done printed files
-    → AllStored files held after
-    → IsAttended held after file printed
+AttendedAreBridged = HoldsOfMade attending IsAttended
 
 -- A conference that keeps all limits does so with the names and the leavings that its inputs tell, whatever they tell.
 abbrev pub NamedAreConferences : Type 0

@@ -21,8 +21,8 @@ use Rattle.mixer_spec.specs.Table.{Table}
 use Rattle.mixer_spec.specs.Arrives.{arrivals}
 use Rattle.mixer_spec.specs.Headline.{Hop, hears, OneHop, Headline, HeadlineAt, all_sent}
 use Rattle.mixer_spec.specs.Bridged.{Bridged, BridgedAsOne, IsConferenceMixed, IsPair, IsSentBy, SharedIsPart, hop_from, hop_to, input_limit, leg_heard, told_by_packets}
-use Rattle.command_spec.specs.Work.{Contents, Made}
-use Rattle.command_spec.specs.Outcomes.{AllStored, Done, outcome}
+use Rattle.command_spec.specs.Work.{Contents}
+use Rattle.command_spec.specs.Outcomes.{HoldsOfMade}
 use Rattle.command_spec.specs.Mixing.{mixing, sent_to, records_to, input_at}
 use Rattle.wire_spec.specs.declared.limits.TheConstants.{LAST_RECORD_MOMENT}
 
@@ -165,8 +165,4 @@ pub record IsBridged (held after : Contents) (file printed : List ℕ) : Type 0 
 
 -- Whatever lies in the files, that is what `mix` makes of it.
 abbrev pub MixedAreBridged : Type 0
-MixedAreBridged =
-    (held after : Contents) (file printed : List ℕ) (files : List Made)
-    → outcome held (mixing file) ≡ Done printed files
-    → AllStored files held after
-    → IsBridged held after file printed
+MixedAreBridged = HoldsOfMade mixing IsBridged

@@ -44,3 +44,11 @@ pub record Stores (file : Made) (old new : Contents) : Type 0 where
 abbrev pub AllStored : List Made → Contents → Contents → Type 0
 AllStored [] old new = Same old new
 AllStored (file ∷ more) old new = (between : Contents) × Stores file old between × AllStored more between new
+
+-- whatever lies in the files, this holds of what these steps make of a file
+abbrev pub HoldsOfMade : (List ℕ → Steps) → (Contents → Contents → List ℕ → List ℕ → Type 0) → Type 0
+HoldsOfMade steps P =
+    (held after : Contents) (file printed : List ℕ) (files : List Made)
+    → outcome held (steps file) ≡ Done printed files
+    → AllStored files held after
+    → P held after file printed
