@@ -22,9 +22,7 @@ fn read_setting(least: u32, most: u32, above: Option<u32>, words: &[&str]) -> Re
     let [text] = words else {
         return Err(ConfKind::Count);
     };
-    let Some(value) = number_from(text, least, most) else {
-        return Err(ConfKind::Number);
-    };
+    let value = number_from(text, least, most).ok_or(ConfKind::Number)?;
     if above.is_some() {
         return Err(ConfKind::Twice);
     }
@@ -35,15 +33,9 @@ fn read_setting(least: u32, most: u32, above: Option<u32>, words: &[&str]) -> Re
 fn read_stream(above: &Draft, ssrc: &str, seq: &str, stamp: &str) -> Result<MixerLine, ConfKind>
     ensures { result ≡ mixer_of (above_of above.now) ssrc.now seq.now stamp.now }
 {
-    let Some(ssrc) = number_of(ssrc, u32::MAX) else {
-        return Err(ConfKind::Number);
-    };
-    let Some(seq) = number_of(seq, 65_535) else {
-        return Err(ConfKind::Number);
-    };
-    let Some(stamp) = number_of(stamp, u32::MAX) else {
-        return Err(ConfKind::Number);
-    };
+    let ssrc = number_of(ssrc, u32::MAX).ok_or(ConfKind::Number)?;
+    let seq = number_of(seq, 65_535).ok_or(ConfKind::Number)?;
+    let stamp = number_of(stamp, u32::MAX).ok_or(ConfKind::Number)?;
     if above.mixer.is_some() {
         return Err(ConfKind::Twice);
     }

@@ -143,21 +143,15 @@ fn read_words<'a>(
     ensures exact { seen leg_line result ≡ leg_said form above.now line words.now pts }
     ensures seat { OnOk result (length above.now.legs < MOST_LEGS) }
 {
-    let Some(aware) = awareness(words.mode) else {
-        return Err(ConfKind::Word);
-    };
+    let aware = awareness(words.mode).ok_or(ConfKind::Word)?;
     if !are_named(form, words) {
         return Err(ConfKind::Name);
     }
-    let Some(ssrc) = number_of(words.ssrc, u32::MAX) else {
-        return Err(ConfKind::Number);
-    };
+    let ssrc = number_of(words.ssrc, u32::MAX).ok_or(ConfKind::Number)?;
     if !is_heard(form, words.input) {
         return Err(ConfKind::Number);
     }
-    let Some(pts) = pts else {
-        return Err(ConfKind::Number);
-    };
+    let pts = pts.ok_or(ConfKind::Number)?;
     let leg = NewLeg {
         line,
         name: name_of(words.name),
@@ -180,27 +174,20 @@ pub(crate) fn read_leg<'a>(
     ensures exact { seen leg_line result ≡ leg form (above_of above.now) line (texts_of words.now) }
     ensures seat { OnOk result (length above.now.legs < MOST_LEGS) }
 {
-    match words {
-        [name, mode, ssrc, input, output] => {
-            let words = LegWords {
-                name,
-                mode,
-                ssrc,
-                input,
-                output,
-            };
-            read_words(form, above, line, &words, Some(USUAL_TYPES))
-        }
-        [name, mode, ssrc, input, output, t140, red] => {
-            let words = LegWords {
-                name,
-                mode,
-                ssrc,
-                input,
-                output,
-            };
-            read_words(form, above, line, &words, pts_of(t140, red))
-        }
-        _ => Err(ConfKind::Count),
-    }
+    let [name, mode, ssrc, input, output, types @ ..] = words else {
+        return Err(ConfKind::Count);
+    };
+    let pts = match types {
+        [] => Some(USUAL_TYPES),
+        [t140, red] => pts_of(t140, red),
+        _ => return Err(ConfKind::Count),
+    };
+    let words = LegWords {
+        name,
+        mode,
+        ssrc,
+        input,
+        output,
+    };
+    read_words(form, above, line, &words, pts)
 }

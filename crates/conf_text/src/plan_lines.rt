@@ -20,15 +20,9 @@ fn read_event(
 ) -> Result<PlanLine, ConfKind>
     ensures { result ≡ plan_of (above_of above.now) name.now packet.now what }
 {
-    let Some(terminal) = leg_place(above, name) else {
-        return Err(ConfKind::Name);
-    };
-    let Some(packet) = number_of(packet, u32::MAX) else {
-        return Err(ConfKind::Number);
-    };
-    let Some(what) = what else {
-        return Err(ConfKind::Number);
-    };
+    let terminal = leg_place(above, name).ok_or(ConfKind::Name)?;
+    let packet = number_of(packet, u32::MAX).ok_or(ConfKind::Number)?;
+    let what = what.ok_or(ConfKind::Number)?;
     if above.plan.len() >= MOST_PLAN_LINES {
         return Err(ConfKind::PlanMany);
     }

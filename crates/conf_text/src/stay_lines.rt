@@ -39,12 +39,8 @@ fn read_count(above: &Draft, name: &str, count: &str) -> Result<GensLine, ConfKi
     ensures exact { result ≡ gens_of (above_of above.now) name.now count.now }
     ensures place { IfOk result (λ line. line.leg < length above.now.legs) }
 {
-    let Some(leg) = leg_place(above, name) else {
-        return Err(ConfKind::Name);
-    };
-    let Some(gens) = number_of(count, MOST_GENS) else {
-        return Err(ConfKind::Number);
-    };
+    let leg = leg_place(above, name).ok_or(ConfKind::Name)?;
+    let gens = number_of(count, MOST_GENS).ok_or(ConfKind::Number)?;
     if is_told(above.gens.as_slice(), leg) {
         return Err(ConfKind::Twice);
     }
@@ -70,15 +66,9 @@ fn read_moments(above: &Draft, name: &str, from: &str, until: &str) -> Result<St
     ensures exact { result ≡ stay_of (above_of above.now) name.now from.now until.now }
     ensures place { IfOk result (λ line. line.leg < length above.now.legs) }
 {
-    let Some(leg) = leg_place(above, name) else {
-        return Err(ConfKind::Name);
-    };
-    let Some(from) = number_of(from, LAST_MOMENT) else {
-        return Err(ConfKind::Number);
-    };
-    let Some(until) = number_of(until, LAST_MOMENT) else {
-        return Err(ConfKind::Number);
-    };
+    let leg = leg_place(above, name).ok_or(ConfKind::Name)?;
+    let from = number_of(from, LAST_MOMENT).ok_or(ConfKind::Number)?;
+    let until = number_of(until, LAST_MOMENT).ok_or(ConfKind::Number)?;
     if until <= from {
         return Err(ConfKind::Number);
     }
