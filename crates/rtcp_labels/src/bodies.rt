@@ -4,6 +4,7 @@ ghost use Rattle.wire_spec.specs.Steps.{Gives};
 ghost use Rattle.rtcp_spec.specs.Rtcp.{unpadded, body_of, body_at};
 ghost use Rattle.rtcp_labels.specs.Views.{body_view};
 
+use crate::notes::Told;
 use rtcp_spec::RtcpFault;
 
 /// How many octets a head has: version, padding bit and count, the type, and the length in two octets.
@@ -23,7 +24,7 @@ pub(crate) struct Body<'a> {
 }
 
 /// What stands before the padding, where there is some.
-fn before_padding_octets(octets: &[u8], padded: bool) -> Result<&[u8], RtcpFault>
+fn before_padding_octets(octets: &[u8], padded: bool) -> Told<&[u8]>
     ensures { Gives (λ body. body.now) result (unpadded padded octets.now) }
 {
     if !padded {
@@ -37,7 +38,7 @@ fn before_padding_octets(octets: &[u8], padded: bool) -> Result<&[u8], RtcpFault
 }
 
 /// The packet whose head began with this octet and this type, from behind the head on, where `size` octets are its own.
-fn body_behind(first: u8, kind: u8, size: usize, behind: &[u8]) -> Result<Body<'_>, RtcpFault>
+fn body_behind(first: u8, kind: u8, size: usize, behind: &[u8]) -> Told<Body<'_>>
     ensures exact { Gives body_view result (body_of first kind size behind.now) }
     ensures shorter { IfOk result (λ body. length body.rest.now ≤ length behind.now) }
 {
@@ -56,7 +57,7 @@ fn body_behind(first: u8, kind: u8, size: usize, behind: &[u8]) -> Result<Body<'
 
 /// The packet in front.
 #[tactic(auto, unfolding(rtcp_spec::specs::Rtcp::body_at))]
-pub(crate) fn front_body(bytes: &[u8]) -> Result<Body<'_>, RtcpFault>
+pub(crate) fn front_body(bytes: &[u8]) -> Told<Body<'_>>
     ensures exact { Gives body_view result (body_at bytes.now) }
     ensures shorter { IfOk result (λ body. length body.rest.now + 4 ≤ length bytes.now) }
 {

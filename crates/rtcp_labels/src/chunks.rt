@@ -5,7 +5,7 @@ ghost use Rattle.rtcp_spec.specs.Rtcp.{item_at, items, fill, chunk_at, chunks, b
 ghost use Rattle.rtcp_labels.specs.Views.{item_view, FitsIn};
 ghost use Rattle.rtcp_labels.specs.Notes.{notes, all_noted, after, after_all, Noted};
 
-use crate::notes::{note, note_item};
+use crate::notes::{Told, note, note_item};
 use rtcp_spec::{Event, Events, RtcpFault};
 
 /// How many octets an SSRC has.
@@ -19,7 +19,7 @@ pub(crate) struct Item<'a> {
 }
 
 /// The item in front, or `None` where an octet 0 ends the items.
-fn front_item(octets: &[u8]) -> Result<Option<Item<'_>>, RtcpFault>
+fn front_item(octets: &[u8]) -> Told<Option<Item<'_>>>
     ensures exact { Gives (option_map item_view) result (item_at octets.now) }
     ensures fits { IfOk result (λ item. IfSome item (FitsIn octets.now)) }
     ensures last { result ≡ Ok None → 1 ≤ length octets.now }
@@ -45,12 +45,7 @@ fn front_item(octets: &[u8]) -> Result<Option<Item<'_>>, RtcpFault>
 }
 
 /// Notes what the items of a source tell, and answers what is behind them.
-fn read_items<'a>(
-    ssrc: u32,
-    octets: &'a [u8],
-    out: &mut Events,
-    many: &mut bool,
-) -> Result<&'a [u8], RtcpFault>
+fn read_items<'a>(ssrc: u32, octets: &'a [u8], out: &mut Events, many: &mut bool) -> Told<&'a [u8]>
     ensures exact { Gives (λ rest. record { noted = notes out.new.items many.new; rest = rest.now }) result (after (notes out.old.items many.old) (items ssrc octets.now)) }
     ensures shorter { IfOk result (λ rest. length rest.now ≤ length octets.now) }
 {
@@ -71,11 +66,7 @@ fn fill_of(size: usize) -> usize
 
 /// Notes what a chunk tells, and answers what is behind it.
 #[tactic(auto, unfolding(rtcp_spec::specs::Rtcp::chunk_at))]
-fn read_chunk<'a>(
-    octets: &'a [u8],
-    out: &mut Events,
-    many: &mut bool,
-) -> Result<&'a [u8], RtcpFault>
+fn read_chunk<'a>(octets: &'a [u8], out: &mut Events, many: &mut bool) -> Told<&'a [u8]>
     ensures { Gives (λ rest. record { noted = notes out.new.items many.new; rest = rest.now }) result (after (notes out.old.items many.old) (chunk_at octets.now)) }
 {
     if octets.len() < SOURCE {
@@ -92,12 +83,7 @@ fn read_chunk<'a>(
 }
 
 /// Notes what so many chunks tell.
-pub(crate) fn read_chunks(
-    count: u8,
-    octets: &[u8],
-    out: &mut Events,
-    many: &mut bool,
-) -> Result<(), RtcpFault>
+pub(crate) fn read_chunks(count: u8, octets: &[u8], out: &mut Events, many: &mut bool) -> Told<()>
     ensures { Gives (λ _. notes out.new.items many.new) result (after_all (notes out.old.items many.old) (chunks count octets.now)) }
 {
     let mut rest = octets;
@@ -125,12 +111,7 @@ fn note_byes(count: u8, octets: &[u8], out: &mut Events, many: &mut bool)
 }
 
 /// Notes the sources that leave.
-pub(crate) fn read_byes(
-    count: u8,
-    octets: &[u8],
-    out: &mut Events,
-    many: &mut bool,
-) -> Result<(), RtcpFault>
+pub(crate) fn read_byes(count: u8, octets: &[u8], out: &mut Events, many: &mut bool) -> Told<()>
     ensures { Gives (λ _. notes out.new.items many.new) result (after_all (notes out.old.items many.old) (leavings count octets.now)) }
 {
     if octets.len() < SOURCE * usize::from(count) {

@@ -7,6 +7,7 @@ ghost use Rattle.rtcp_labels.specs.Notes.{notes, after_all};
 
 use crate::bodies::{Body, front_body};
 use crate::chunks::{read_byes, read_chunks};
+use crate::notes::Told;
 use rtcp_spec::{Events, RtcpFault};
 
 /// The type of a source description.
@@ -16,7 +17,7 @@ const SDES: u8 = 202;
 const BYE: u8 = 203;
 
 /// Notes what a packet tells.
-fn read_body(body: &Body<'_>, out: &mut Events, many: &mut bool) -> Result<(), RtcpFault>
+fn read_body(body: &Body<'_>, out: &mut Events, many: &mut bool) -> Told<()>
     ensures { Gives (λ _. notes out.new.items many.new) result (after_all (notes out.old.items many.old) (events_of (body_view body.now))) }
 {
     if body.kind == SDES {
@@ -29,7 +30,7 @@ fn read_body(body: &Body<'_>, out: &mut Events, many: &mut bool) -> Result<(), R
 }
 
 /// Reads the packet in front, behind the events of those before it, and answers what follows it.
-fn read_packet<'a>(bytes: &'a [u8], out: &mut Events) -> Result<&'a [u8], RtcpFault>
+fn read_packet<'a>(bytes: &'a [u8], out: &mut Events) -> Told<&'a [u8]>
     requires { length out.old.items ≤ 64 }
     ensures exact { Gives (λ rest. record { events = out.new.items; rest = rest.now }) result (packet_read out.old.items bytes.now) }
     ensures shorter { IfOk result (λ rest. length rest.now + 4 ≤ length bytes.now) }
@@ -45,7 +46,7 @@ fn read_packet<'a>(bytes: &'a [u8], out: &mut Events) -> Result<&'a [u8], RtcpFa
 }
 
 /// Reads packets up to the end, of which there is at least one.
-fn read_packets(bytes: &[u8], out: &mut Events) -> Result<(), RtcpFault>
+fn read_packets(bytes: &[u8], out: &mut Events) -> Told<()>
     requires { out.old.items ≡ [] }
     ensures { Gives (λ _. out.new.items) result (rtcp bytes.now) }
 {
