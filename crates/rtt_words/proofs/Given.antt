@@ -1,6 +1,7 @@
 -- What the texts that clap's model gives each argument ask for, by the number of words.
 use Rattle.std.proofs.Common.{◌≡◌, ◌≢◌, ◌∙◌, ◌&&◌, Bool, true, false, List, [], ◌∷◌, Option, Some, None, refl, sym, ap, subst, drop, true≢false}
-use Rattle.std.specs.Prelude.{if◌then◌else◌}
+use Rattle.std.specs.Prelude.{if◌then◌else◌, Result, IfOk}
+use Rattle.std.proofs.lemmas.Result.{IfOk-weaker}
 use Rattle.std.specs.List.{list_all}
 use Rattle.std.specs.Option.{option_map}
 use Rattle.file_spec.specs.Numbers.{number, most_ssrc}
@@ -60,9 +61,11 @@ module _ {A : Type 0} (app : App) (given : Texts → Option A) (row : List Text 
             agrees_refused _ _ _ (agrees (drop 1 words) plain) (λ none. some (same words plain ∙ none));
       }
 
--- a command that `clap` sees as this one
-pub form_by : {A : Type 0} {app made : App} {given : Texts → Option A} {said : List Text → Option A} → made ≡ app → IsForm app given said → IsForm made given said
-form_by {A} {app} {made} {given} {said} same form = subst (λ (a : App). IsForm a given said) (sym same) form
+-- a command that `clap` sees as this one, if one was made
+pub form_by : {A C E : Type 0} {app : App} {given : Texts → Option A} {said : List Text → Option A} (app_of : C → App) (made : Result C E)
+    → IfOk made (λ c. app_of c ≡ app) → IsForm app given said → IfOk made (λ c. IsForm (app_of c) given said)
+form_by {A} {C} {E} {app} {given} {said} app_of made same form =
+    IfOk-weaker made _ _ (λ c is. subst (λ (a : App). IsForm a given said) (sym is) form) same
 
 -- ---- the rows
 
@@ -82,78 +85,43 @@ ends true true false e = e
 ends true false c e = absurd (true≢false (sym e))
 ends false b c e = e
 
-read_agrees : AgreesOnAll read_app read_given read_words
+pub read_agrees : AgreesOnAll read_app read_given read_words
 unfolding placed place_fault defaults_fault
-read_agrees [] e = refl
-read_agrees (a ∷ []) e = refl
 read_agrees (a ∷ b ∷ []) e = kept (is_word a) (read_of a (number most_ssrc b) (number most_ssrc b) (Some usual_pts)) (both (is_word a) _ e).0
 read_agrees (a ∷ b ∷ c ∷ []) e = kept (is_word a) (read_of a (number most_ssrc b) (number most_ssrc c) (Some usual_pts)) (both (is_word a) _ e).0
 read_agrees (a ∷ b ∷ c ∷ d ∷ []) e = no_types a (number most_ssrc b) (number most_ssrc c)
 read_agrees (a ∷ b ∷ c ∷ d ∷ f ∷ []) e = kept (is_word a) (read_of a (number most_ssrc b) (number most_ssrc c) (payload_types d f)) (both (is_word a) _ e).0
-read_agrees (a ∷ b ∷ c ∷ d ∷ f ∷ g ∷ rest) e = refl
+read_agrees _ e = refl
 
-list_agrees : AgreesOnAll list_app list_given list_words
+pub list_agrees : AgreesOnAll list_app list_given list_words
 unfolding placed place_fault defaults_fault
-list_agrees [] e = refl
 list_agrees (a ∷ []) e = kept (is_word a) (list_of a (Some usual_pts)) (both (is_word a) _ e).0
-list_agrees (a ∷ b ∷ []) e = refl
 list_agrees (a ∷ b ∷ c ∷ []) e = kept (is_word a) (list_of a (payload_types b c)) (both (is_word a) _ e).0
-list_agrees (a ∷ b ∷ c ∷ d ∷ rest) e = refl
+list_agrees _ e = refl
 
-send_agrees : AgreesOnAll send_app send_given send_words
+pub send_agrees : AgreesOnAll send_app send_given send_words
 unfolding placed place_fault defaults_fault
-send_agrees [] e = refl
-send_agrees (a ∷ []) e = refl
-send_agrees (a ∷ b ∷ []) e = refl
-send_agrees (a ∷ b ∷ c ∷ []) e = refl
-send_agrees (a ∷ b ∷ c ∷ d ∷ []) e = refl
 send_agrees (a ∷ b ∷ c ∷ d ∷ f ∷ []) e =
     kept (is_word a && is_word b) (send_of a b (number most_ssrc c) (number 65535 d) (number 4294967295 f)) (front (is_word a) (is_word b) _ e)
-send_agrees (a ∷ b ∷ c ∷ d ∷ f ∷ g ∷ rest) e = refl
+send_agrees _ e = refl
 
-mix_agrees : AgreesOnAll mix_app mix_given mix_words
+pub mix_agrees : AgreesOnAll mix_app mix_given mix_words
 unfolding placed place_fault defaults_fault
-mix_agrees [] e = refl
 mix_agrees (a ∷ []) e = kept (is_word a) (Some (record { conf = a })) (both (is_word a) _ e).0
-mix_agrees (a ∷ b ∷ rest) e = refl
+mix_agrees _ e = refl
 
-make_agrees : AgreesOnAll make_app make_given make_words
+pub make_agrees : AgreesOnAll make_app make_given make_words
 unfolding placed place_fault defaults_fault
-make_agrees [] e = refl
 make_agrees (a ∷ []) e = refl
-make_agrees (a ∷ b ∷ rest) e = refl
+make_agrees _ e = refl
 
-channel_agrees : AgreesOnAll channel_app channel_given channel_words
+pub channel_agrees : AgreesOnAll channel_app channel_given channel_words
 unfolding placed place_fault defaults_fault
-channel_agrees [] e = refl
-channel_agrees (a ∷ []) e = refl
-channel_agrees (a ∷ b ∷ []) e = refl
 channel_agrees (a ∷ b ∷ c ∷ []) e =
     kept (is_word a && is_word c) (option_map (λ s. record { file = a; ssrc = s; out = c }) (number most_ssrc b)) (ends (is_word a) (is_word b) (is_word c) e)
-channel_agrees (a ∷ b ∷ c ∷ d ∷ rest) e = refl
+channel_agrees _ e = refl
 
-version_agrees : AgreesOnAll version_app version_given version_words
+pub version_agrees : AgreesOnAll version_app version_given version_words
 unfolding placed place_fault defaults_fault
 version_agrees [] e = refl
-version_agrees (a ∷ rest) e = refl
-
-pub read_form : IsForm read_app read_given read_words
-read_form = form_is read_app read_given read_words (refl, refl, λ _. refl, λ _. refl) read_agrees
-
-pub list_form : IsForm list_app list_given list_words
-list_form = form_is list_app list_given list_words (refl, refl, λ _. refl, λ _. refl) list_agrees
-
-pub send_form : IsForm send_app send_given send_words
-send_form = form_is send_app send_given send_words (refl, refl, λ _. refl, λ _. refl) send_agrees
-
-pub mix_form : IsForm mix_app mix_given mix_words
-mix_form = form_is mix_app mix_given mix_words (refl, refl, λ _. refl, λ _. refl) mix_agrees
-
-pub make_form : IsForm make_app make_given make_words
-make_form = form_is make_app make_given make_words (refl, refl, λ _. refl, λ _. refl) make_agrees
-
-pub channel_form : IsForm channel_app channel_given channel_words
-channel_form = form_is channel_app channel_given channel_words (refl, refl, λ _. refl, λ _. refl) channel_agrees
-
-pub version_form : IsForm version_app version_given version_words
-version_form = form_is version_app version_given version_words (refl, refl, λ _. refl, λ _. refl) version_agrees
+version_agrees _ e = refl

@@ -110,15 +110,12 @@ off_two : (a b : Text) → list_all is_word (a ∷ b ∷ []) ≡ false → (is_w
 off_two a b e = elim (off_first a (b ∷ []) e) [ inl h ↦ inl h | inr h ↦ inr (off_last b h) ]
 
 read_off : (words : List Text) → list_all is_word words ≡ false → read_words words ≡ None
-read_off [] e = refl
-read_off (a ∷ []) e = refl
 read_off (a ∷ b ∷ []) e =
     under (is_word a) (read_of a (number most_ssrc b) (number most_ssrc b) (Some usual_pts))
     (elim (off_two a b e) [ inl h ↦ inl h | inr h ↦ inr (read_of_off a b b (Some usual_pts) (inl h)) ])
 read_off (a ∷ b ∷ c ∷ []) e =
     under (is_word a) (read_of a (number most_ssrc b) (number most_ssrc c) (Some usual_pts))
     (elim (off_first a (b ∷ c ∷ []) e) [ inl h ↦ inl h | inr h ↦ inr (read_of_off a b c (Some usual_pts) (off_two b c h)) ])
-read_off (a ∷ b ∷ c ∷ d ∷ []) e = refl
 read_off (a ∷ b ∷ c ∷ d ∷ f ∷ []) e =
     under (is_word a) (read_of a (number most_ssrc b) (number most_ssrc c) (payload_types d f))
     (elim (off_first a (b ∷ c ∷ d ∷ f ∷ []) e) [ inl h ↦ inl h | inr h ↦ inr (numbers h) ])
@@ -134,23 +131,16 @@ read_off (a ∷ b ∷ c ∷ d ∷ f ∷ []) e =
         | inr j ↦ none (types_off d f (off_two d f j))
       ]
     ]
-read_off (a ∷ b ∷ c ∷ d ∷ f ∷ g ∷ rest) e = refl
+read_off _ e = refl
 
 list_off : (words : List Text) → list_all is_word words ≡ false → list_words words ≡ None
-list_off [] e = refl
 list_off (a ∷ []) e = under (is_word a) (list_of a (Some usual_pts)) (inl (off_last a e))
-list_off (a ∷ b ∷ []) e = refl
 list_off (a ∷ b ∷ c ∷ []) e =
     under (is_word a) (list_of a (payload_types b c))
     (elim (off_first a (b ∷ c ∷ []) e) [ inl h ↦ inl h | inr h ↦ inr (ap (list_of a) (types_off b c (off_two b c h))) ])
-list_off (a ∷ b ∷ c ∷ d ∷ rest) e = refl
+list_off _ e = refl
 
 send_off : (words : List Text) → list_all is_word words ≡ false → send_words words ≡ None
-send_off [] e = refl
-send_off (a ∷ []) e = refl
-send_off (a ∷ b ∷ []) e = refl
-send_off (a ∷ b ∷ c ∷ []) e = refl
-send_off (a ∷ b ∷ c ∷ d ∷ []) e = refl
 send_off (a ∷ b ∷ c ∷ d ∷ f ∷ []) e =
     under (is_word a && is_word b) (send_of a b (number most_ssrc c) (number 65535 d) (number 4294967295 f))
     (elim (off_first a (b ∷ c ∷ d ∷ f ∷ []) e) [
@@ -160,24 +150,19 @@ send_off (a ∷ b ∷ c ∷ d ∷ f ∷ []) e =
         | inr i ↦ inr (send_of_off a b c d f (elim (off_first c (d ∷ f ∷ []) i) [ inl j ↦ inl j | inr j ↦ inr (off_two d f j) ]))
       ]
     ])
-send_off (a ∷ b ∷ c ∷ d ∷ f ∷ g ∷ rest) e = refl
+send_off _ e = refl
 
 mix_off : (words : List Text) → list_all is_word words ≡ false → mix_words words ≡ None
-mix_off [] e = refl
 mix_off (a ∷ []) e = under (is_word a) (Some (record { conf = a })) (inl (off_last a e))
-mix_off (a ∷ b ∷ rest) e = refl
+mix_off _ e = refl
 
 make_off : (words : List Text) → list_all is_word words ≡ false → make_words words ≡ None
-make_off [] e = refl
 make_off (a ∷ []) e =
     ap (λ (o : Option ℕ). option_map (λ k. Make (record { number = k })) (option_and_then (λ (n : ℕ). if nat_lt n 1 then None else Some n) o))
     (number_off 1000 a (off_last a e))
-make_off (a ∷ b ∷ rest) e = refl
+make_off _ e = refl
 
 channel_off : (words : List Text) → list_all is_word words ≡ false → channel_words words ≡ None
-channel_off [] e = refl
-channel_off (a ∷ []) e = refl
-channel_off (a ∷ b ∷ []) e = refl
 channel_off (a ∷ b ∷ c ∷ []) e =
     under (is_word a && is_word c) (option_map channelled (number most_ssrc b))
     (elim (off_first a (b ∷ c ∷ []) e) [
@@ -190,7 +175,7 @@ channel_off (a ∷ b ∷ c ∷ []) e =
   where
     channelled : ℕ → ChannelWords
     channelled s = record { file = a; ssrc = s; out = c }
-channel_off (a ∷ b ∷ c ∷ d ∷ rest) e = refl
+channel_off _ e = refl
 
 version_off : (words : List Text) → list_all is_word words ≡ false → version_words words ≡ None
 version_off [] e = absurd (true≢false e)

@@ -1,5 +1,5 @@
 -- The arguments of each command, as `clap` sees them, and what their texts ask for.
-use Rattle.std.specs.Prelude.{◌≡◌, ◌≢◌, ℕ, true, List, [], codes, Option, Some, None, option_and_then, unwrap_or, drop}
+use Rattle.std.specs.Prelude.{◌≡◌, ◌≢◌, ℕ, Bool, true, false, List, [], ◌∷◌, codes, Option, Some, None, option_and_then, unwrap_or, drop}
 use Rattle.std.specs.List.{list_all}
 use Rattle.std.specs.Option.{option_map}
 use Rattle.clap.specs.Words.{App, Rule, fault_of, first_of, is_simple_and_free, matches_of, new_app, new_rule, with_rule}
@@ -22,42 +22,46 @@ fault_by _ = Wrong
 abbrev pub bare_app : List ℕ → App
 bare_app name = on_top (λ s. record s { disable_help_flag = true }) (new_app name)
 
--- an argument that every row has
-abbrev pub required_rule : List ℕ → Rule
-required_rule id = record (new_rule id) { required = true }
+-- an argument that every row has, or one that some rows have
+abbrev pub rule_for : Bool → List ℕ → Rule
+rule_for required id = record (new_rule id) { required = required }
+
+-- a command with these arguments behind those that it has
+abbrev pub with_rules : Bool → App → List (List ℕ) → App
+with_rules required app [] = app
+with_rules required app (id ∷ ids) = with_rules required (with_rule app (rule_for required id)) ids
+
+-- a command of this name, with arguments that every row has, and behind them those that some rows have
+abbrev pub app_with : List ℕ → List (List ℕ) → List (List ℕ) → App
+app_with name all some = with_rules false (with_rules true (bare_app name) all) some
 
 -- `read FILE SSRC`, and then SOURCE, T140 and RED; `script` has the same
 abbrev pub read_app : App
-read_app =
-    with_rule (with_rule (with_rule (with_rule (with_rule (bare_app (codes "read")) (required_rule (codes "FILE"))) (required_rule (codes "SSRC")))
-    (new_rule (codes "SOURCE"))) (new_rule (codes "T140"))) (new_rule (codes "RED"))
+read_app = app_with (codes "read") (codes "FILE" ∷ codes "SSRC" ∷ []) (codes "SOURCE" ∷ codes "T140" ∷ codes "RED" ∷ [])
 
 -- `list FILE`, and then T140 and RED; `show` has the same
 abbrev pub list_app : App
-list_app = with_rule (with_rule (with_rule (bare_app (codes "list")) (required_rule (codes "FILE"))) (new_rule (codes "T140"))) (new_rule (codes "RED"))
+list_app = app_with (codes "list") (codes "FILE" ∷ []) (codes "T140" ∷ codes "RED" ∷ [])
 
 -- `send SCRIPT OUT SSRC SEQ STAMP`; `relay` has as many
 abbrev pub send_app : App
-send_app =
-    with_rule (with_rule (with_rule (with_rule (with_rule (bare_app (codes "send")) (required_rule (codes "SCRIPT"))) (required_rule (codes "OUT")))
-    (required_rule (codes "SSRC"))) (required_rule (codes "SEQ"))) (required_rule (codes "STAMP"))
+send_app = app_with (codes "send") (codes "SCRIPT" ∷ codes "OUT" ∷ codes "SSRC" ∷ codes "SEQ" ∷ codes "STAMP" ∷ []) []
 
 -- `mix CONF`; `attend`, `live` and `watch` have the same
 abbrev pub mix_app : App
-mix_app = with_rule (bare_app (codes "mix")) (required_rule (codes "CONF"))
+mix_app = app_with (codes "mix") (codes "CONF" ∷ []) []
 
 -- `make N`
 abbrev pub make_app : App
-make_app = with_rule (bare_app (codes "make")) (required_rule (codes "N"))
+make_app = app_with (codes "make") (codes "N" ∷ []) []
 
 -- `channel FILE SSRC OUT`; `cascade` has as many
 abbrev pub channel_app : App
-channel_app =
-    with_rule (with_rule (with_rule (bare_app (codes "channel")) (required_rule (codes "FILE"))) (required_rule (codes "SSRC"))) (required_rule (codes "OUT"))
+channel_app = app_with (codes "channel") (codes "FILE" ∷ codes "SSRC" ∷ codes "OUT" ∷ []) []
 
 -- `version`
 abbrev pub version_app : App
-version_app = bare_app (codes "version")
+version_app = app_with (codes "version") [] []
 
 -- ---- what is asked for where each argument has this text
 
@@ -101,6 +105,13 @@ abbrev pub version_given : Texts → Option Command
 version_given text = Some Version
 
 -- ---- what the arguments have to do with the rows of the word table
+
+-- what the words of the code mean, what is asked for where each argument has this text, and what the word table says of the
+-- words after the name
+pub record Row (W A : Type 0) : Type 0 where
+  pub meant : W → A
+  pub given : Texts → Option A
+  pub said : List (List ℕ) → Option A
 
 -- the words after the name are neither empty nor begin with `-`
 abbrev pub ArePlain : List (List ℕ) → Type 0

@@ -2,7 +2,7 @@
 ghost use Rattle.std.specs.Prelude.{◌≡◌, ◌≢◌, [], true, List, ℕ, Option, Some, None, map, string_bytes, IfOk, drop};
 ghost use Rattle.std.specs.Option.{option_map};
 ghost use Rattle.clap.specs.Words.{app_of, fault_of, first_of, first_value, found_of, is_simple_and_free, matches_of};
-ghost use Rattle.rtt_words.specs.Apps.{ArePlain, IsForm, Texts};
+ghost use Rattle.rtt_words.specs.Apps.{ArePlain, IsForm, Row};
 
 use crate::WordFault;
 use clap::{ArgMatches, Command};
@@ -13,21 +13,17 @@ pub(crate) trait Arguments<'a>: Sized + Drop {
     /// What the word table calls it.
     ghost Meant: { Type 0 };
 
-    ghost meant: { Self → Meant };
-
-    /// What is asked for where each argument has this text.
-    ghost given: { Texts → Option Meant };
-
-    /// What the word table says of the words after the name.
-    ghost said: { List (List ℕ) → Option Meant };
+    /// What is meant, what is asked for where each argument has this text, and what the word table says of the words after the
+    /// name.
+    ghost table_row: { Row Self Meant };
 
     /// The command with its arguments.
     fn form(alloc: Global) -> Result<Command<'a>, AllocError>
-        ensures { IfOk result (λ c. IsForm (app_of c) given said) };
+        ensures { IfOk result (λ c. IsForm (app_of c) table_row.given table_row.said) };
 
     /// What the arguments ask for, if their numbers are in range.
     fn from_matches(matches: &ArgMatches<'a>) -> Option<Self>
-        ensures { option_map meant result ≡ given (first_value (found_of matches.now)) };
+        ensures { option_map table_row.meant result ≡ table_row.given (first_value (found_of matches.now)) };
 }
 
 /// The arguments' texts among the words, of which the first is the command's name.
@@ -47,9 +43,12 @@ pub(crate) fn from_words<'a, R: Arguments<'a>>(
     words: &'a [String],
 ) -> Result<R, WordFault>
     requires { ArePlain (map string_bytes words.now) }
-    ensures meant { IfOk result (λ r. R.said (drop 1 (map string_bytes words.now)) ≡ Some (R.meant r)) }
-    ensures wrong { result ≡ Err WordFault.Wrong → R.said (drop 1 (map string_bytes words.now)) ≡ None }
+    ensures meant { IfOk result (λ r. R.table_row.said (drop 1 (map string_bytes words.now)) ≡ Some (R.table_row.meant r)) }
+    ensures wrong { result ≡ Err WordFault.Wrong → R.table_row.said (drop 1 (map string_bytes words.now)) ≡ None }
 {
-    let matches = matches_for(R::form(alloc)?, words)?;
+    let Ok(form) = R::form(alloc) else {
+        return Err(WordFault::NoMemory);
+    };
+    let matches = matches_for(form, words)?;
     R::from_matches(&matches).ok_or(WordFault::Wrong)
 }

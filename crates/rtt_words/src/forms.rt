@@ -1,8 +1,10 @@
 //! The arguments of each command, and what they ask for.
-ghost use Rattle.std.specs.Prelude.{◌≡◌, false, codes};
-ghost use Rattle.clap.specs.Words.{app_of, first_value, found_of, new_rule, rule_of};
+ghost use Rattle.std.specs.Prelude.{◌≡◌, false, codes, map, IfOk};
+ghost use Rattle.clap.specs.Words.{app_of, first_value, found_of, rule_of};
+ghost use Rattle.rtt_words.specs.Words as table;
 ghost use Rattle.rtt_words.specs.Words.{payload_types};
-ghost use Rattle.rtt_words.specs.Apps.{bare_app, pts_given, required_rule};
+ghost use Rattle.rtt_words.specs.Commands.{asked, channelled, listed, made, mixed, sent};
+ghost use Rattle.rtt_words.specs.Apps.{app_with, bare_app, channel_given, list_given, make_given, mix_given, pts_given, read_given, rule_for, send_given, version_given, with_rules};
 
 use crate::arguments::Arguments;
 use crate::{ChannelWords, ListWords, MakeWords, MixWords, ReadWords, SendWords};
@@ -19,20 +21,43 @@ fn bare<'a>(alloc: Global, name: &'a str) -> Command<'a>
     Command::new(alloc, name).disable_help_flag(true)
 }
 
-/// An argument that every row has.
-fn required<'a>(alloc: Global, id: &'a str) -> Arg<'a>
-    ensures rule { rule_of result ≡ required_rule id.now }
+/// An argument that every row has, or one that some rows have.
+fn argument<'a>(alloc: Global, id: &'a str, required: bool) -> Arg<'a>
+    ensures rule { rule_of result ≡ rule_for required id.now }
     ensures local { result.global ≡ false }
 {
-    Arg::new(alloc, id).required(true)
+    Arg::new(alloc, id).required(required)
 }
 
-/// An argument that some rows have.
-fn optional<'a>(alloc: Global, id: &'a str) -> Arg<'a>
-    ensures rule { rule_of result ≡ new_rule id.now }
-    ensures local { result.global ≡ false }
+/// The command with these arguments behind those that it has.
+fn with_arguments<'a>(
+    alloc: Global,
+    command: Command<'a>,
+    ids: &[&'a str],
+    required: bool,
+) -> Result<Command<'a>, AllocError>
+    ensures { IfOk result (λ c. app_of c ≡ with_rules required (app_of command.entry) (map (λ id. id.now) ids.now)) }
 {
-    Arg::new(alloc, id)
+    match ids {
+        [] => Ok(command),
+        [id, rest @ ..] => {
+            let command = command.arg(argument(alloc, id, required))?;
+            with_arguments(alloc, command, rest, required)
+        }
+    }
+}
+
+/// A command of this name, with arguments that every row has, and behind them those that some rows have.
+fn command_with<'a>(
+    alloc: Global,
+    name: &'a str,
+    all: &[&'a str],
+    some: &[&'a str],
+) -> Result<Command<'a>, AllocError>
+    ensures { IfOk result (λ c. app_of c ≡ app_with name.now (map (λ id. id.now) all.now) (map (λ id. id.now) some.now)) }
+{
+    let command = with_arguments(alloc, bare(alloc, name), all, true)?;
+    with_arguments(alloc, command, some, false)
 }
 
 /// The payload types where none are named.
@@ -61,27 +86,13 @@ fn pts_matched(matches: &ArgMatches<'_>) -> Option<Pts>
 }
 
 impl<'a> Arguments<'a> for ReadWords<'a> {
-    ghost use Rattle.rtt_words.specs.Words as table;
-    ghost use Rattle.rtt_words.specs.Apps.{read_given};
-    ghost use Rattle.rtt_words.specs.Commands.{asked};
-
     ghost Meant = { table.ReadWords };
 
-    ghost meant = { asked };
-
-    ghost given = { read_given };
-
-    ghost said = { table.read_words };
+    ghost table_row = { record { meant = asked; given = read_given; said = table.read_words } };
 
     /// `read FILE SSRC`, and then SOURCE, T140 and RED. `script` has the same.
     fn form(alloc: Global) -> Result<Command<'a>, AllocError> {
-        let command = bare(alloc, "read")
-            .arg(required(alloc, "FILE"))?
-            .arg(required(alloc, "SSRC"))?
-            .arg(optional(alloc, "SOURCE"))?
-            .arg(optional(alloc, "T140"))?
-            .arg(optional(alloc, "RED"))?;
-        Ok(command)
+        command_with(alloc, "read", &["FILE", "SSRC"], &["SOURCE", "T140", "RED"])
     }
 
     fn from_matches(matches: &ArgMatches<'a>) -> Option<ReadWords<'a>> {
@@ -101,25 +112,13 @@ impl<'a> Arguments<'a> for ReadWords<'a> {
 }
 
 impl<'a> Arguments<'a> for ListWords<'a> {
-    ghost use Rattle.rtt_words.specs.Words as table;
-    ghost use Rattle.rtt_words.specs.Apps.{list_given};
-    ghost use Rattle.rtt_words.specs.Commands.{listed};
-
     ghost Meant = { table.ListWords };
 
-    ghost meant = { listed };
-
-    ghost given = { list_given };
-
-    ghost said = { table.list_words };
+    ghost table_row = { record { meant = listed; given = list_given; said = table.list_words } };
 
     /// `list FILE`, and then T140 and RED. `show` has the same.
     fn form(alloc: Global) -> Result<Command<'a>, AllocError> {
-        let command = bare(alloc, "list")
-            .arg(required(alloc, "FILE"))?
-            .arg(optional(alloc, "T140"))?
-            .arg(optional(alloc, "RED"))?;
-        Ok(command)
+        command_with(alloc, "list", &["FILE"], &["T140", "RED"])
     }
 
     fn from_matches(matches: &ArgMatches<'a>) -> Option<ListWords<'a>> {
@@ -130,27 +129,18 @@ impl<'a> Arguments<'a> for ListWords<'a> {
 }
 
 impl<'a> Arguments<'a> for SendWords<'a> {
-    ghost use Rattle.rtt_words.specs.Words as table;
-    ghost use Rattle.rtt_words.specs.Apps.{send_given};
-    ghost use Rattle.rtt_words.specs.Commands.{sent};
-
     ghost Meant = { table.SendWords };
 
-    ghost meant = { sent };
-
-    ghost given = { send_given };
-
-    ghost said = { table.send_words };
+    ghost table_row = { record { meant = sent; given = send_given; said = table.send_words } };
 
     /// `send SCRIPT OUT SSRC SEQ STAMP`. `relay` has as many.
     fn form(alloc: Global) -> Result<Command<'a>, AllocError> {
-        let command = bare(alloc, "send")
-            .arg(required(alloc, "SCRIPT"))?
-            .arg(required(alloc, "OUT"))?
-            .arg(required(alloc, "SSRC"))?
-            .arg(required(alloc, "SEQ"))?
-            .arg(required(alloc, "STAMP"))?;
-        Ok(command)
+        command_with(
+            alloc,
+            "send",
+            &["SCRIPT", "OUT", "SSRC", "SEQ", "STAMP"],
+            &[],
+        )
     }
 
     fn from_matches(matches: &ArgMatches<'a>) -> Option<SendWords<'a>> {
@@ -170,22 +160,13 @@ impl<'a> Arguments<'a> for SendWords<'a> {
 }
 
 impl<'a> Arguments<'a> for MixWords<'a> {
-    ghost use Rattle.rtt_words.specs.Words as table;
-    ghost use Rattle.rtt_words.specs.Apps.{mix_given};
-    ghost use Rattle.rtt_words.specs.Commands.{mixed};
-
     ghost Meant = { table.MixWords };
 
-    ghost meant = { mixed };
-
-    ghost given = { mix_given };
-
-    ghost said = { table.mix_words };
+    ghost table_row = { record { meant = mixed; given = mix_given; said = table.mix_words } };
 
     /// `mix CONF`. `attend`, `live` and `watch` have the same.
     fn form(alloc: Global) -> Result<Command<'a>, AllocError> {
-        let command = bare(alloc, "mix").arg(required(alloc, "CONF"))?;
-        Ok(command)
+        command_with(alloc, "mix", &["CONF"], &[])
     }
 
     fn from_matches(matches: &ArgMatches<'a>) -> Option<MixWords<'a>> {
@@ -195,22 +176,13 @@ impl<'a> Arguments<'a> for MixWords<'a> {
 }
 
 impl<'a> Arguments<'a> for MakeWords {
-    ghost use Rattle.rtt_words.specs.Words as table;
-    ghost use Rattle.rtt_words.specs.Apps.{make_given};
-    ghost use Rattle.rtt_words.specs.Commands.{made};
-
     ghost Meant = { table.Command };
 
-    ghost meant = { λ m. table.Make (made m) };
-
-    ghost given = { make_given };
-
-    ghost said = { table.make_words };
+    ghost table_row = { record { meant = λ m. table.Make (made m); given = make_given; said = table.make_words } };
 
     /// `make N`.
     fn form(alloc: Global) -> Result<Command<'a>, AllocError> {
-        let command = bare(alloc, "make").arg(required(alloc, "N"))?;
-        Ok(command)
+        command_with(alloc, "make", &["N"], &[])
     }
 
     fn from_matches(matches: &ArgMatches<'a>) -> Option<MakeWords> {
@@ -220,25 +192,13 @@ impl<'a> Arguments<'a> for MakeWords {
 }
 
 impl<'a> Arguments<'a> for ChannelWords<'a> {
-    ghost use Rattle.rtt_words.specs.Words as table;
-    ghost use Rattle.rtt_words.specs.Apps.{channel_given};
-    ghost use Rattle.rtt_words.specs.Commands.{channelled};
-
     ghost Meant = { table.ChannelWords };
 
-    ghost meant = { channelled };
-
-    ghost given = { channel_given };
-
-    ghost said = { table.channel_words };
+    ghost table_row = { record { meant = channelled; given = channel_given; said = table.channel_words } };
 
     /// `channel FILE SSRC OUT`. `cascade` has as many.
     fn form(alloc: Global) -> Result<Command<'a>, AllocError> {
-        let command = bare(alloc, "channel")
-            .arg(required(alloc, "FILE"))?
-            .arg(required(alloc, "SSRC"))?
-            .arg(required(alloc, "OUT"))?;
-        Ok(command)
+        command_with(alloc, "channel", &["FILE", "SSRC", "OUT"], &[])
     }
 
     fn from_matches(matches: &ArgMatches<'a>) -> Option<ChannelWords<'a>> {
@@ -254,20 +214,13 @@ impl<'a> Arguments<'a> for ChannelWords<'a> {
 pub(crate) struct NoWords;
 
 impl<'a> Arguments<'a> for NoWords {
-    ghost use Rattle.rtt_words.specs.Words as table;
-    ghost use Rattle.rtt_words.specs.Apps.{version_given};
-
     ghost Meant = { table.Command };
 
-    ghost meant = { λ _. table.Version };
-
-    ghost given = { version_given };
-
-    ghost said = { table.version_words };
+    ghost table_row = { record { meant = λ _. table.Version; given = version_given; said = table.version_words } };
 
     /// `version`.
     fn form(alloc: Global) -> Result<Command<'a>, AllocError> {
-        Ok(bare(alloc, "version"))
+        command_with(alloc, "version", &[], &[])
     }
 
     fn from_matches(_matches: &ArgMatches<'a>) -> Option<NoWords> {

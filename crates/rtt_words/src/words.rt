@@ -9,7 +9,7 @@ use crate::arguments::from_words;
 use crate::forms::NoWords;
 use crate::{CascadeWords, ChannelWords, Command};
 use clap::error::ErrorKind;
-use std::alloc::{AllocError, Global};
+use std::alloc::Global;
 use thiserror::Error;
 
 /// Why words ask for nothing.
@@ -21,17 +21,6 @@ pub enum WordFault {
     /// Memory ran out before the words were read.
     #[error("out of memory")]
     NoMemory,
-}
-
-impl From<AllocError> for WordFault {
-    ghost use Rattle.std.specs.Prelude.{◌≡◌};
-    ghost use Rattle.rtt_words.specs.declared.words.WordFault.TheVariants.{NoMemory};
-
-    ghost from_gives = { λ _ fault. fault ≡ NoMemory };
-
-    fn from(_error: AllocError) -> WordFault {
-        WordFault::NoMemory
-    }
 }
 
 impl From<clap::Error> for WordFault {

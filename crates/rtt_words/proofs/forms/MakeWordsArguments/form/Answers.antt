@@ -1,8 +1,9 @@
-use Rattle.std.proofs.Common.{◌∙◌, ap₂}
-use Rattle.clap.specs.Words.{with_rule}
-use Rattle.rtt_words.proofs.Given.{form_by, make_form}
+use Rattle.std.proofs.Common.{refl}
+use Rattle.clap.specs.Words.{app_of}
+use Rattle.rtt_words.specs.Apps.{make_app, make_given}
+use Rattle.rtt_words.specs.Words.{make_words}
+use Rattle.rtt_words.proofs.Given.{make_agrees, form_by, form_is}
 use Rattle.rtt_words.proofs.forms.MakeWordsArguments.form.Goals as goal
 
 pub returns : goal.returns
-returns c =
-    form_by (c.in_ok-command.ensures.shape c.required.ensures.local ∙ ap₂ with_rule c.bare.ensures c.required.ensures.rule) make_form
+returns c = form_by app_of c.command_with.result c.command_with.ensures (form_is make_app make_given make_words (refl, refl, λ _. refl, λ _. refl) make_agrees)

@@ -1,13 +1,9 @@
-use Rattle.std.proofs.Common.{◌∙◌, ap₂}
-use Rattle.clap.specs.Words.{with_rule}
-use Rattle.rtt_words.proofs.Given.{form_by, read_form}
+use Rattle.std.proofs.Common.{refl}
+use Rattle.clap.specs.Words.{app_of}
+use Rattle.rtt_words.specs.Apps.{read_app, read_given}
+use Rattle.rtt_words.specs.Words.{read_words}
+use Rattle.rtt_words.proofs.Given.{read_agrees, form_by, form_is}
 use Rattle.rtt_words.proofs.forms.ReadWordsArguments.form.Goals as goal
 
--- each argument is added to those before it
 pub returns : goal.returns
-returns c =
-    let one = c.in_ok-arg.ensures.shape c.required.ensures.local ∙ ap₂ with_rule c.bare.ensures c.required.ensures.rule in
-    let two = c.in_ok-arg-2.ensures.shape c.required-2.ensures.local ∙ ap₂ with_rule one c.required-2.ensures.rule in
-    let three = c.in_ok-arg-3.ensures.shape c.optional.ensures.local ∙ ap₂ with_rule two c.optional.ensures.rule in
-    let four = c.in_ok-arg-4.ensures.shape c.optional-2.ensures.local ∙ ap₂ with_rule three c.optional-2.ensures.rule in
-    form_by (c.in_ok-command.ensures.shape c.optional-3.ensures.local ∙ ap₂ with_rule four c.optional-3.ensures.rule) read_form
+returns c = form_by app_of c.command_with.result c.command_with.ensures (form_is read_app read_given read_words (refl, refl, λ _. refl, λ _. refl) read_agrees)

@@ -1,13 +1,9 @@
-use Rattle.std.proofs.Common.{◌∙◌, ap₂}
-use Rattle.clap.specs.Words.{with_rule}
-use Rattle.rtt_words.proofs.Given.{form_by, send_form}
+use Rattle.std.proofs.Common.{refl}
+use Rattle.clap.specs.Words.{app_of}
+use Rattle.rtt_words.specs.Apps.{send_app, send_given}
+use Rattle.rtt_words.specs.Words.{send_words}
+use Rattle.rtt_words.proofs.Given.{send_agrees, form_by, form_is}
 use Rattle.rtt_words.proofs.forms.SendWordsArguments.form.Goals as goal
 
--- each argument is added to those before it
 pub returns : goal.returns
-returns c =
-    let one = c.in_ok-arg.ensures.shape c.required.ensures.local ∙ ap₂ with_rule c.bare.ensures c.required.ensures.rule in
-    let two = c.in_ok-arg-2.ensures.shape c.required-2.ensures.local ∙ ap₂ with_rule one c.required-2.ensures.rule in
-    let three = c.in_ok-arg-3.ensures.shape c.required-3.ensures.local ∙ ap₂ with_rule two c.required-3.ensures.rule in
-    let four = c.in_ok-arg-4.ensures.shape c.required-4.ensures.local ∙ ap₂ with_rule three c.required-4.ensures.rule in
-    form_by (c.in_ok-command.ensures.shape c.required-5.ensures.local ∙ ap₂ with_rule four c.required-5.ensures.rule) send_form
+returns c = form_by app_of c.command_with.result c.command_with.ensures (form_is send_app send_given send_words (refl, refl, λ _. refl, λ _. refl) send_agrees)
