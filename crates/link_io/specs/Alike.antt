@@ -1,13 +1,15 @@
--- What an end of a link tells of itself is as it was.
+-- What an inbound end of a link, or what links are opened in, tells of itself is as it was.
 use Rattle.std.specs.Prelude.{◌≡◌}
 use Rattle.link_io.specs.declared.ends.LinkIn as ins
-use Rattle.link_io.specs.declared.ends.LinkOut as outs
+use Rattle.link_io.specs.declared.links.Links as links
+use Rattle.link_io.specs.Ports.{Same}
 
 -- what an inbound end gave, its port, its faults and whether it is closed
 abbrev pub SameIn : {I : Type 0} → ins.Ghosts I → I → I → Type 0
 SameIn g old new =
     (g.taken new ≡ g.taken old) × (g.port new ≡ g.port old) × (g.faults new ≡ g.faults old) × (g.closed new ≡ g.closed old)
 
--- what an outbound end was given, its port and its faults
-abbrev pub SameOut : {O : Type 0} → outs.Ghosts O → O → O → Type 0
-SameOut g old new = (g.given new ≡ g.given old) × (g.port new ≡ g.port old) × (g.faults new ≡ g.faults old)
+-- where a link was opened, what is stored, the faults of each port and how often the clock was paused
+abbrev pub SameLinks : {W I O : Type 0} → links.Ghosts W I O → W → W → Type 0
+SameLinks g old new =
+    Same g.opened old new × Same g.taken_at old new × Same g.given_at old new × Same g.own_faults old new × Same g.object_faults old new × (g.pauses new ≡ g.pauses old)

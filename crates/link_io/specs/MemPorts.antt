@@ -2,6 +2,7 @@
 use Rattle.std.specs.Prelude.{ℕ, Bool, true, false, List, [], ◌∷◌, Option, Some, None, cond, nat_eq}
 use Rattle.std.specs.Option.{option_map_or}
 use Rattle.link_spec.specs.Links.{Takes}
+use Rattle.rtt_io.specs.declared.faults.Faults.{Faults}
 use Rattle.rtt_io.specs.Counts.{counted}
 use Rattle.link_io.specs.declared.mem_ports.MemPort.{MemPort}
 use Rattle.link_io.specs.Told.{takes_told}
@@ -27,10 +28,10 @@ abbrev pub given_in : Option MemPort → List (List ℕ)
 given_in entry = option_map_or (λ (e : MemPort). e.given.items) entry []
 
 abbrev pub own_count : Option MemPort → ℕ
-own_count entry = option_map_or (λ (e : MemPort). e.own_faults) entry 0
+own_count entry = option_map_or (λ (e : MemPort). e.faults.own) entry 0
 
 abbrev pub object_count : Option MemPort → ℕ
-object_count entry = option_map_or (λ (e : MemPort). e.object_faults) entry 0
+object_count entry = option_map_or (λ (e : MemPort). e.faults.objects) entry 0
 
 -- a link was opened at the port
 abbrev pub opened_of : List MemPort → ℕ → Bool
@@ -45,9 +46,9 @@ abbrev pub given_of : List MemPort → ℕ → List (List ℕ)
 given_of entries port = given_in (entry_of entries port)
 
 -- the faults of the calls that open the port, with those that no entry counts
-abbrev pub own_of : ℕ → List MemPort → ℕ → ℕ
-own_of others entries port = counted others (own_count (entry_of entries port))
+abbrev pub own_of : Faults → List MemPort → ℕ → ℕ
+own_of others entries port = counted others.own (own_count (entry_of entries port))
 
 -- the faults of the ends of the port, with those that no entry counts
-abbrev pub objects_of : ℕ → List MemPort → ℕ → ℕ
-objects_of others entries port = counted others (object_count (entry_of entries port))
+abbrev pub objects_of : Faults → List MemPort → ℕ → ℕ
+objects_of others entries port = counted others.objects (object_count (entry_of entries port))

@@ -6,6 +6,7 @@ ghost use Rattle.link_io.specs.Told.{takes_told};
 
 use crate::{Came, LinkIn, Taken};
 use rtt_base::{Bytes, Failed, NoMemory, Packet};
+use rtt_io::FailingCalls;
 use std::alloc::Global;
 
 /// What a link is to give at a moment (milliseconds), or at that of the take before, where that is later.
@@ -56,9 +57,7 @@ pub struct MemIn {
     pub(crate) plan: Vec<Planned>,
     // how much of the plan it gave
     used: usize,
-    // how many takes were made
-    takes: u64,
-    pub(crate) failing: Vec<u64>,
+    pub(crate) takes: FailingCalls,
     pub(crate) told: Vec<Told>,
     pub(crate) closed: bool,
     moment: u64,
@@ -82,8 +81,7 @@ impl LinkIn for MemIn {
     ghost port = { λ link. link.port };
 
     fn take(&mut self, out: &mut Packet, _may_wait: bool) -> Result<Taken, Failed> {
-        self.takes = self.takes.saturating_add(1);
-        if self.failing.as_slice().contains(&self.takes) {
+        if self.takes.next_fails() {
             self.faults = self.faults.saturating_add(1);
             return Err(Failed);
         }
@@ -112,8 +110,7 @@ impl MemIn {
             port,
             plan: Vec::new(alloc),
             used: 0,
-            takes: 0,
-            failing: Vec::new(alloc),
+            takes: FailingCalls::none(alloc),
             told: Vec::new(alloc),
             closed: false,
             moment: 0,
@@ -133,8 +130,7 @@ impl MemIn {
     pub fn fail_at(&mut self, take: u64) -> Result<(), NoMemory>
         ensures { SameIn ⟦<MemIn as LinkIn>⟧ self.old self.new }
     {
-        self.failing.push(take)?;
-        Ok(())
+        self.takes.fail_at(take)
     }
 
     /// What its takes gave, oldest first.
@@ -187,25 +183,6 @@ impl MemIn {
         octets.append(out.as_slice())?;
         self.told.push(Told { taken, octets })?;
         Ok(())
-    }
-
-    // Its port, what its takes gave and how often it failed.
-    pub(crate) fn into_parts(self) -> (u16, Vec<Told>, u64)
-        ensures { result ≡ (self.port, self.told, self.faults) }
-    {
-        let MemIn {
-            alloc: _,
-            port,
-            plan: _plan,
-            used: _,
-            takes: _,
-            failing: _failing,
-            told,
-            closed: _,
-            moment: _,
-            faults,
-        } = self;
-        (port, told, faults)
     }
 }
 

@@ -1,14 +1,15 @@
 //! Links in memory.
 ghost use Rattle.std.specs.Prelude.{◌≡◌, ◌<◌, ◌^◌, ℕ, true, false, [], OnOk, OnErr, IfOk, IfSome};
-ghost use Rattle.rtt_io.specs.Counts.{Rose};
-ghost use Rattle.link_io.specs.Ports.{Same, SameBut, Replaces, StayOpened, NoneFalls, CountsMore, CountsNoOther};
+ghost use Rattle.link_io.specs.Alike.{SameLinks};
+ghost use Rattle.link_io.specs.Ports.{Same, StayOpened};
 ghost use Rattle.link_io.specs.Told.{takes_told};
-ghost use Rattle.link_io.specs.Held.{opened_in, taken_in, given_in, own_in, objects_in};
+ghost use Rattle.link_io.specs.Held.{opened_in, taken_in, given_in, own_in, objects_in, Stores, Counts};
 
 use crate::clocks::StillClock;
 use crate::mem_ports::{MemPort, place};
 use crate::{Links, MemIn, MemOut, Planned, Told};
 use rtt_base::{Bytes, Failed, NoMemory};
+use rtt_io::{FailingCalls, Faults};
 use std::alloc::Global;
 
 /// A call that is to fail.
@@ -41,8 +42,7 @@ pub struct MemLinks {
     failing: Vec<FailingLink>,
     clock: StillClock,
     pauses: u64,
-    own_faults: u64,
-    object_faults: u64,
+    faults: Faults,
 }
 
 impl Links for MemLinks {
@@ -60,9 +60,9 @@ impl Links for MemLinks {
 
     ghost given_at = { λ links. given_of links.ports.items };
 
-    ghost own_faults = { λ links. own_of links.own_faults links.ports.items };
+    ghost own_faults = { λ links. own_of links.faults links.ports.items };
 
-    ghost object_faults = { λ links. objects_of links.object_faults links.ports.items };
+    ghost object_faults = { λ links. objects_of links.faults links.ports.items };
 
     ghost moment = { λ links. links.clock.moment };
 
@@ -74,20 +74,18 @@ impl Links for MemLinks {
                 return Ok(ends);
             }
         }
-        self.count_own(port);
+        self.count(port, Faults::one_own());
         Err(Failed)
     }
 
     fn done_in(&mut self, link: MemIn) {
-        let (port, taken, faults) = link.into_parts();
-        self.count_object(port, faults);
-        self.store_taken(port, taken);
+        self.count(link.port, Faults::of_objects(link.faults));
+        self.store_taken(link.port, link.told);
     }
 
     fn done_out(&mut self, link: MemOut) {
-        let (port, given, faults) = link.into_parts();
-        self.count_object(port, faults);
-        self.store_given(port, given);
+        self.count(link.port, Faults::of_objects(link.faults));
+        self.store_given(link.port, link.given);
     }
 
     fn now(&mut self) -> u64 {
@@ -116,19 +114,13 @@ impl MemLinks {
             failing: Vec::new(alloc),
             clock: StillClock::new(),
             pauses: 0,
-            own_faults: 0,
-            object_faults: 0,
+            faults: Faults::none(),
         }
     }
 
     /// Plans what comes next at a port, behind what is planned there.
     pub fn plan(&mut self, port: u16, planned: Planned) -> Result<(), NoMemory>
-        ensures same_opened { Same ⟦<MemLinks as Links>⟧.opened self.old self.new }
-        ensures same_taken { Same ⟦<MemLinks as Links>⟧.taken_at self.old self.new }
-        ensures same_given { Same ⟦<MemLinks as Links>⟧.given_at self.old self.new }
-        ensures same_own { Same ⟦<MemLinks as Links>⟧.own_faults self.old self.new }
-        ensures same_objects { Same ⟦<MemLinks as Links>⟧.object_faults self.old self.new }
-        ensures same_pauses { ⟦<MemLinks as Links>⟧.pauses self.new ≡ ⟦<MemLinks as Links>⟧.pauses self.old }
+        ensures { SameLinks ⟦<MemLinks as Links>⟧ self.old self.new }
     {
         self.coming.push(Coming { port, planned })?;
         Ok(())
@@ -136,12 +128,7 @@ impl MemLinks {
 
     /// This call is to fail.
     pub fn fail(&mut self, call: FailingLink) -> Result<(), NoMemory>
-        ensures same_opened { Same ⟦<MemLinks as Links>⟧.opened self.old self.new }
-        ensures same_taken { Same ⟦<MemLinks as Links>⟧.taken_at self.old self.new }
-        ensures same_given { Same ⟦<MemLinks as Links>⟧.given_at self.old self.new }
-        ensures same_own { Same ⟦<MemLinks as Links>⟧.own_faults self.old self.new }
-        ensures same_objects { Same ⟦<MemLinks as Links>⟧.object_faults self.old self.new }
-        ensures same_pauses { ⟦<MemLinks as Links>⟧.pauses self.new ≡ ⟦<MemLinks as Links>⟧.pauses self.old }
+        ensures { SameLinks ⟦<MemLinks as Links>⟧ self.old self.new }
     {
         self.failing.push(call)?;
         Ok(())
@@ -180,9 +167,14 @@ impl MemLinks {
         let (takes, gives) = self.failing_at(port).ok()?;
         let mut inbound = MemIn::new(self.alloc, port);
         inbound.plan = self.coming_at(port).ok()?;
-        inbound.failing = takes;
-        let mut outbound = MemOut::new(self.alloc, port);
-        outbound.failing = gives;
+        inbound.takes = takes;
+        let outbound = MemOut {
+            alloc: self.alloc,
+            port,
+            given: Vec::new(self.alloc),
+            gives,
+            faults: 0,
+        };
         Some((inbound, outbound))
     }
 
@@ -202,13 +194,13 @@ impl MemLinks {
     }
 
     // The takes and the gives at a port that are to fail.
-    fn failing_at(&self, port: u16) -> Result<(Vec<u64>, Vec<u64>), NoMemory> {
-        let mut takes = Vec::new(self.alloc);
-        let mut gives = Vec::new(self.alloc);
+    fn failing_at(&self, port: u16) -> Result<(FailingCalls, FailingCalls), NoMemory> {
+        let mut takes = FailingCalls::none(self.alloc);
+        let mut gives = FailingCalls::none(self.alloc);
         for call in &self.failing {
             match call {
-                FailingLink::Take(at, take) if *at == port => takes.push(*take)?,
-                FailingLink::Give(at, give) if *at == port => gives.push(*give)?,
+                FailingLink::Take(at, take) if *at == port => takes.fail_at(*take)?,
+                FailingLink::Give(at, give) if *at == port => gives.fail_at(*give)?,
                 _ => {}
             }
         }
@@ -233,8 +225,7 @@ impl MemLinks {
             number: port,
             taken: Vec::new(self.alloc),
             given: Vec::new(self.alloc),
-            own_faults: 0,
-            object_faults: 0,
+            faults: Faults::none(),
         };
         self.ports.push(entry)?;
         Ok(())
@@ -242,14 +233,7 @@ impl MemLinks {
 
     // Puts this in place of what came at a port, where a link was opened there.
     fn store_taken(&mut self, port: u16, taken: Vec<Told>)
-        ensures stored { Replaces opened_in taken_in port (takes_told taken.items) self.old self.new }
-        ensures others { SameBut port taken_in self.old self.new }
-        ensures same_opened { Same opened_in self.old self.new }
-        ensures same_given { Same given_in self.old self.new }
-        ensures same_own { Same own_in self.old self.new }
-        ensures same_objects { Same objects_in self.old self.new }
-        ensures same_clock { self.new.clock ≡ self.old.clock }
-        ensures same_pauses { self.new.pauses ≡ self.old.pauses }
+        ensures { Stores taken_in given_in port (takes_told taken.items) self.old self.new }
     {
         if let Some(at) = place(self.ports.as_slice(), port) {
             let entry = &mut self.ports[at];
@@ -259,14 +243,7 @@ impl MemLinks {
 
     // Puts this in place of what was given at a port, where a link was opened there.
     fn store_given(&mut self, port: u16, given: Vec<Bytes>)
-        ensures stored { Replaces opened_in given_in port given.items self.old self.new }
-        ensures others { SameBut port given_in self.old self.new }
-        ensures same_opened { Same opened_in self.old self.new }
-        ensures same_taken { Same taken_in self.old self.new }
-        ensures same_own { Same own_in self.old self.new }
-        ensures same_objects { Same objects_in self.old self.new }
-        ensures same_clock { self.new.clock ≡ self.old.clock }
-        ensures same_pauses { self.new.pauses ≡ self.old.pauses }
+        ensures { Stores given_in taken_in port given.items self.old self.new }
     {
         if let Some(at) = place(self.ports.as_slice(), port) {
             let entry = &mut self.ports[at];
@@ -274,45 +251,16 @@ impl MemLinks {
         }
     }
 
-    // Counts a fault of a call that opens a port.
-    fn count_own(&mut self, port: u16)
-        ensures rose { Rose (own_in self.old port) (own_in self.new port) }
-        ensures never_falls { NoneFalls own_in self.old self.new }
-        ensures same_opened { Same opened_in self.old self.new }
-        ensures same_taken { Same taken_in self.old self.new }
-        ensures same_given { Same given_in self.old self.new }
-        ensures same_objects { Same objects_in self.old self.new }
-        ensures same_clock { self.new.clock ≡ self.old.clock }
-        ensures same_pauses { self.new.pauses ≡ self.old.pauses }
+    // Counts so many more faults of a port.
+    fn count(&mut self, port: u16, more: Faults)
+        ensures { Counts port more self.old self.new }
     {
         match place(self.ports.as_slice(), port) {
             Some(at) => {
                 let entry = &mut self.ports[at];
-                entry.own_faults = entry.own_faults.saturating_add(1);
+                entry.faults = entry.faults.and(more);
             }
-            None => self.own_faults = self.own_faults.saturating_add(1),
-        }
-    }
-
-    // Adds the faults of an end to those of its port.
-    fn count_object(&mut self, port: u16, faults: u64)
-        ensures added { CountsMore objects_in port faults self.old self.new }
-        ensures no_other { CountsNoOther opened_in objects_in port self.old self.new }
-        ensures calm { faults ≡ 0 → Same objects_in self.old self.new }
-        ensures never_fall { NoneFalls objects_in self.old self.new }
-        ensures same_opened { Same opened_in self.old self.new }
-        ensures same_taken { Same taken_in self.old self.new }
-        ensures same_given { Same given_in self.old self.new }
-        ensures same_own { Same own_in self.old self.new }
-        ensures same_clock { self.new.clock ≡ self.old.clock }
-        ensures same_pauses { self.new.pauses ≡ self.old.pauses }
-    {
-        match place(self.ports.as_slice(), port) {
-            Some(at) => {
-                let entry = &mut self.ports[at];
-                entry.object_faults = entry.object_faults.saturating_add(faults);
-            }
-            None => self.object_faults = self.object_faults.saturating_add(faults),
+            None => self.faults = self.faults.and(more),
         }
     }
 }

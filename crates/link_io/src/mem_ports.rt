@@ -4,6 +4,7 @@ ghost use Rattle.link_io.specs.MemPorts.{is_of};
 
 use crate::Told;
 use rtt_base::Bytes;
+use rtt_io::Faults;
 
 /// A port at which a link was opened: what is stored under it, with the faults of that port.
 #[derive(Debug, Drop)]
@@ -12,8 +13,7 @@ pub struct MemPort {
     /// What the takes gave, oldest first.
     pub taken: Vec<Told>,
     pub given: Vec<Bytes>,
-    pub own_faults: u64,
-    pub object_faults: u64,
+    pub faults: Faults,
 }
 
 /// The place of the first entry of this port.

@@ -1,5 +1,5 @@
 use crate::{
-    Came, FailingLink, LinkIn, LinkOut, Links, MemIn, MemLinks, MemOut, Planned, RealIn, RealLinks,
+    Came, FailingLink, LinkIn, LinkOut, Links, MemIn, MemLinks, Planned, RealIn, RealLinks,
     RealOut, peer_of,
 };
 use rtt_base::Packet;
@@ -34,6 +34,11 @@ fn comes<L: LinkIn>(link: &mut L, may_wait: bool, came: Came) -> bool {
         Ok(taken) => taken.came == came,
         Err(_) => false,
     }
+}
+
+// Nothing more comes, whether a take may wait or not.
+fn is_quiet<L: LinkIn>(link: &mut L) -> bool {
+    comes(link, false, Came::Quiet) && comes(link, true, Came::Quiet)
 }
 
 // The next take gives these octets.
@@ -74,17 +79,6 @@ fn a_take_that_fails_uses_up_nothing(rt: HostRuntime) -> Result<(), Fail> {
 }
 
 #[test]
-fn an_outbound_end_in_memory_keeps_what_it_was_given(rt: HostRuntime) -> Result<(), Fail> {
-    let mut link = MemOut::new(rt.alloc(), 5001);
-    link.fail_at(2)?;
-    assert!(rt; link.give(b"one").is_ok());
-    assert!(rt; link.give(b"two").is_err());
-    assert!(rt; link.give(b"").is_ok());
-    assert_eq!(rt; link.given().len(), 2);
-    Ok(())
-}
-
-#[test]
 fn links_in_memory_keep_what_is_handed_back(rt: HostRuntime) -> Result<(), Fail> {
     let mut links = MemLinks::new(rt.alloc());
     links.plan(5001, Planned::new(rt.alloc(), 3, Came::Datagram, b"A")?)?;
@@ -114,8 +108,10 @@ fn each_kind_of_call_fails_in_links_that_say_so(rt: HostRuntime) -> Result<(), F
     assert!(rt; takes(&mut inbound, 0, Came::Quiet));
     assert!(rt; outbound.give(b"one").is_ok());
     assert!(rt; outbound.give(b"two").is_err());
+    assert!(rt; outbound.give(b"").is_ok());
     links.done_in(inbound);
     links.done_out(outbound);
+    assert_eq!(rt; links.given(5002).len(), 2);
     Ok(())
 }
 
@@ -132,20 +128,34 @@ fn a_clock_in_memory_stands_still_but_for_pauses(rt: HostRuntime) -> Result<(), 
     Ok(())
 }
 
+const PEERS: [&str; 3] = ["127.0.0.1:5004", "127.255.0.9:65535", "[::1]:5004"];
+
+const NO_PEERS: [&str; 9] = [
+    "[::1%1]:5004",
+    "[::ffff:127.0.0.1]:5004",
+    "[::2]:5004",
+    "192.0.2.1:5004",
+    "0.0.0.0:5004",
+    "127.0.0.1:0",
+    "127.0.0.1",
+    "localhost:5004",
+    "",
+];
+
+// Whether each of these texts is the address of a peer, or none is.
+fn all_are(peers: bool, texts: &[&str]) -> bool {
+    for text in texts {
+        if peer_of(text).is_some() != peers {
+            return false;
+        }
+    }
+    true
+}
+
 #[test]
 fn only_an_address_of_this_machine_is_a_peer(rt: HostRuntime) -> Result<(), Fail> {
-    assert!(rt; peer_of("127.0.0.1:5004").is_some());
-    assert!(rt; peer_of("127.255.0.9:65535").is_some());
-    assert!(rt; peer_of("[::1]:5004").is_some());
-    assert!(rt; peer_of("[::1%1]:5004").is_none());
-    assert!(rt; peer_of("[::ffff:127.0.0.1]:5004").is_none());
-    assert!(rt; peer_of("[::2]:5004").is_none());
-    assert!(rt; peer_of("192.0.2.1:5004").is_none());
-    assert!(rt; peer_of("0.0.0.0:5004").is_none());
-    assert!(rt; peer_of("127.0.0.1:0").is_none());
-    assert!(rt; peer_of("127.0.0.1").is_none());
-    assert!(rt; peer_of("localhost:5004").is_none());
-    assert!(rt; peer_of("").is_none());
+    assert!(rt; all_are(true, &PEERS));
+    assert!(rt; all_are(false, &NO_PEERS));
     Ok(())
 }
 
@@ -173,6 +183,18 @@ fn link_to<R: Net + Clock + Copy + Send>(
     Ok((port, inbound, outbound))
 }
 
+// A link over UDP whose peer has gone: the peer's address, the link's port and its ends.
+fn link_to_nobody<R: Net + Clock + Copy + Send>(
+    rt: R,
+    alloc: Global,
+) -> Result<(SocketAddr, u16, RealIn<R>, RealOut), Fail> {
+    let peer = socket(&rt)?;
+    let address = peer.local_addr()?;
+    let (port, inbound, outbound) = link_to(rt, alloc, address)?;
+    drop(peer);
+    Ok((address, port, inbound, outbound))
+}
+
 #[test]
 fn a_peer_is_heard_whatever_the_length(rt: HostRuntime) -> Result<(), Fail> {
     let peer = socket(&rt)?;
@@ -187,8 +209,7 @@ fn a_peer_is_heard_whatever_the_length(rt: HostRuntime) -> Result<(), Fail> {
     assert!(rt; comes(&mut inbound, false, Came::Large));
     assert_eq!(rt; peer.send_to(&[7; 9000], ("127.0.0.1", port))?, 9000);
     assert!(rt; comes(&mut inbound, true, Came::Large));
-    assert!(rt; comes(&mut inbound, false, Came::Quiet));
-    assert!(rt; comes(&mut inbound, true, Came::Quiet));
+    assert!(rt; is_quiet(&mut inbound));
     Ok(())
 }
 
@@ -222,17 +243,13 @@ fn a_stranger_is_not_heard_and_holds_nobody_up(rt: HostRuntime) -> Result<(), Fa
     assert_eq!(rt; peer.send_to(b"one", ("127.0.0.1", port))?, 3);
     send_many(&stranger, port, 1)?;
     assert!(rt; hears(&mut inbound, b"one"));
-    assert!(rt; comes(&mut inbound, true, Came::Quiet));
-    assert!(rt; comes(&mut inbound, false, Came::Quiet));
+    assert!(rt; is_quiet(&mut inbound));
     Ok(())
 }
 
 #[test]
 fn a_peer_that_goes_and_comes_back_is_heard_again(rt: HostRuntime) -> Result<(), Fail> {
-    let peer = socket(&rt)?;
-    let address = peer.local_addr()?;
-    let (port, mut inbound, mut outbound) = link_to(&rt, rt.alloc(), address)?;
-    drop(peer);
+    let (address, port, mut inbound, mut outbound) = link_to_nobody(&rt, rt.alloc())?;
     assert!(rt; outbound.give(b"one").is_ok());
     assert!(rt; comes(&mut inbound, true, Came::Quiet));
     assert!(rt; outbound.give(b"two").is_ok());
@@ -244,10 +261,7 @@ fn a_peer_that_goes_and_comes_back_is_heard_again(rt: HostRuntime) -> Result<(),
 
 #[test]
 fn the_first_packet_to_a_peer_that_comes_back_is_sent(rt: HostRuntime) -> Result<(), Fail> {
-    let peer = socket(&rt)?;
-    let address = peer.local_addr()?;
-    let (_port, _inbound, mut outbound) = link_to(&rt, rt.alloc(), address)?;
-    drop(peer);
+    let (address, _port, _inbound, mut outbound) = link_to_nobody(&rt, rt.alloc())?;
     assert!(rt; outbound.give(b"one").is_ok());
     let again = UdpSocket::bind(&rt, address)?;
     again.set_read_timeout(Some(Duration::from_secs(5)))?;

@@ -1,8 +1,8 @@
 -- A list in which of all keys one alone has another element than before: what of each key stays, and what its counts come to.
-use Rattle.std.proofs.Common.{◌≡◌, ◌≢◌, ◌⊎◌, inl, inr, ℕ, zero, suc, ◌<◌, ◌≤◌, ◌+◌, ◌-◌, ◌^◌, min, Bool, true, false, List, [], ◌∷◌, ◌++◌, length, set, get_or, refl, ap, sym, ◌∙◌, arith, Option, Some, None, cond, not, nat_lt}
+use Rattle.std.proofs.Common.{◌≡◌, ◌≢◌, ◌⊎◌, inl, inr, ℕ, zero, suc, ◌<◌, ◌≤◌, ◌+◌, Bool, true, false, List, [], ◌∷◌, ◌++◌, length, set, get_or, refl, ap, sym, ◌∙◌, arith, Option, Some, None, cond, not, nat_lt}
 use Rattle.std.specs.List.{position, position_or_len}
 use Rattle.std.proofs.lemmas.Bool.{ltb-false}
-use Rattle.rtt_io.specs.Counts.{Rose, counted}
+use Rattle.rtt_io.specs.Counts.{Rose, counted, Adds}
 
 -- ---- the first element that passes
 module _ {X : Type 0} (first : List X → Option X) (p : X → Bool) (none : first [] ≡ None) (step : (x : X) (xs : List X) → first (x ∷ xs) ≡ cond (p x) (Some x) (first xs)) where
@@ -44,14 +44,27 @@ pub record Changed {X K : Type 0} (at : List X → K → Option X) (old new : Li
   pub becomes : at new key ≡ Some after
   pub others : (k : K) → k ≢ key → at new k ≡ at old k
 
-rose_one : (o a b : ℕ) → b ≡ min (a + 1) (2 ^ 64 - 1) → Rose (counted o a) (counted o b)
-rose_one o a b e = grind arith
+counted_one : (o a b more : ℕ) → b ≡ counted a more → more ≡ 1 → Rose (counted o a) (counted o b)
+counted_one o a b more e one = grind arith
 
-counted_more : (o a b more : ℕ) → b ≡ min (a + more) (2 ^ 64 - 1) → counted o b ≡ counted (counted o a) more
+counted_more : (o a b more : ℕ) → b ≡ counted a more → counted o b ≡ counted (counted o a) more
 counted_more o a b more e = omega arith
 
-counted_none : (o a b more : ℕ) → b ≡ min (a + more) (2 ^ 64 - 1) → more ≡ 0 → counted o b ≡ counted o a
+counted_none : (o a b more : ℕ) → b ≡ counted a more → more ≡ 0 → counted o b ≡ counted o a
 counted_none o a b more e z = omega arith
+
+to_all_one : (a b n more : ℕ) → b ≡ counted a more → more ≡ 1 → Rose (counted a n) (counted b n)
+to_all_one a b n more e one = grind arith
+
+-- where the key has no count of its own, the count for all keys has more
+pub adds_to_all : {K : Type 0} {there : Type 0} (key : K) (more a b : ℕ) (count : K → ℕ) → (there → ⊥) → b ≡ counted a more → Adds there key more (λ k. counted a (count k)) (λ k. counted b (count k))
+adds_to_all key more a b count none e = record {
+  added = omega arith;
+  rose = λ one. to_all_one a b (count key) more e one;
+  calm = λ z k. omega arith;
+  never_falls = λ k. omega arith;
+  no_other = λ there. absurd (none there);
+}
 
 module _ {X K : Type 0} {at : List X → K → Option X} {old new : List X} {key : K} {before : Option X} {after : X} (told : (a b : K) → (a ≡ b) ⊎ (a ≢ b)) (c : Changed at old new key before after) where
   -- a part of the element that is as it was, is so under each key
@@ -69,23 +82,20 @@ module _ {X K : Type 0} {at : List X → K → Option X} {old new : List X} {key
   becomes_part part = ap part c.becomes
 
   -- and what a count of it comes to
-  pub count_rises : (count : Option X → ℕ) → count before ≤ count (Some after) → (o : ℕ) (k : K) → counted o (count (at old k)) ≤ counted o (count (at new k))
-  count_rises count h o k = elim (told k key) [
-    | inl same ↦ rw (same, c.becomes, c.was) (omega arith)
-    | inr other ↦ rw (c.others k other) (omega arith)
-  ]
-
-  pub count_rose : (count : Option X → ℕ) → count (Some after) ≡ min (count before + 1) (2 ^ 64 - 1) → (o : ℕ) → Rose (counted o (count (at old key))) (counted o (count (at new key)))
-  count_rose count e o = rw (c.becomes, c.was) (rose_one o _ _ e)
-
-  pub count_added : (count : Option X → ℕ) (more : ℕ) → count (Some after) ≡ min (count before + more) (2 ^ 64 - 1) → (o : ℕ) → counted o (count (at new key)) ≡ counted (counted o (count (at old key))) more
-  count_added count more e o = rw (c.becomes, c.was) (counted_more o _ _ more e)
-
-  pub count_calm : (count : Option X → ℕ) (more : ℕ) → count (Some after) ≡ min (count before + more) (2 ^ 64 - 1) → more ≡ 0 → (o : ℕ) (k : K) → counted o (count (at new k)) ≡ counted o (count (at old k))
-  count_calm count more e z o k = elim (told k key) [
-    | inl same ↦ rw (same, c.becomes, c.was) (counted_none o _ _ more e z)
-    | inr other ↦ rw (c.others k other) refl
-  ]
+  pub adds_to_one : {there : Type 0} (count : Option X → ℕ) (more : ℕ) → count (Some after) ≡ counted (count before) more → (o : ℕ) → Adds there key more (λ k. counted o (count (at old k))) (λ k. counted o (count (at new k)))
+  adds_to_one count more e o = record {
+    added = rw (c.becomes, c.was) (counted_more o _ _ more e);
+    rose = λ one. rw (c.becomes, c.was) (counted_one o _ _ more e one);
+    calm = λ z k. elim (told k key) [
+      | inl same ↦ rw (same, c.becomes, c.was) (counted_none o _ _ more e z)
+      | inr other ↦ rw (c.others k other) refl
+    ];
+    never_falls = λ k. elim (told k key) [
+      | inl same ↦ rw (same, c.becomes, c.was) (omega arith)
+      | inr other ↦ rw (c.others k other) (omega arith)
+    ];
+    no_other = λ _ k h. rw (c.others k h) refl;
+  }
 
   pub count_stays : (count : Option X → ℕ) → count before ≡ count (Some after) → (o : ℕ) (k : K) → counted o (count (at new k)) ≡ counted o (count (at old k))
   count_stays count e o k = ap (λ n. counted o n) (stays count e k)

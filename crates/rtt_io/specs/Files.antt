@@ -3,6 +3,7 @@ use Rattle.std.specs.Prelude.{ℕ, Bool, List, [], ◌∷◌, Option, Some, None
 use Rattle.std.specs.Option.{option_map, option_map_or}
 use Rattle.std.specs.Cmp.Lexicographic.{pointwise}
 use Rattle.rtt_io.specs.declared.mem_files.MemFile.{MemFile}
+use Rattle.rtt_io.specs.declared.faults.Faults.{Faults}
 use Rattle.rtt_io.specs.Counts.{counted}
 
 -- the file bears this name
@@ -24,15 +25,15 @@ octets_of files name = octets_in (file_of files name)
 
 -- what a file counts; no file counts nothing
 abbrev pub own_count : Option MemFile → ℕ
-own_count file = option_map_or (λ (f : MemFile). f.own_faults) file 0
+own_count file = option_map_or (λ (f : MemFile). f.faults.own) file 0
 
 abbrev pub object_count : Option MemFile → ℕ
-object_count file = option_map_or (λ (f : MemFile). f.object_faults) file 0
+object_count file = option_map_or (λ (f : MemFile). f.faults.objects) file 0
 
 -- the faults of the calls that open or create a name, with those that no file counts
-abbrev pub own_of : ℕ → List MemFile → List ℕ → ℕ
-own_of others files name = counted others (own_count (file_of files name))
+abbrev pub own_of : Faults → List MemFile → List ℕ → ℕ
+own_of others files name = counted others.own (own_count (file_of files name))
 
 -- the faults of the objects of a name, with those that no file counts
-abbrev pub objects_of : ℕ → List MemFile → List ℕ → ℕ
-objects_of others files name = counted others (object_count (file_of files name))
+abbrev pub objects_of : Faults → List MemFile → List ℕ → ℕ
+objects_of others files name = counted others.objects (object_count (file_of files name))

@@ -1,6 +1,8 @@
 //! The outside: what the program reads from and writes to, in memory and for real.
 #![tactic(auto)]
 
+mod failing_calls;
+mod faults;
 mod gates;
 mod mem_files;
 mod mem_sinks;
@@ -15,6 +17,8 @@ mod streams;
 mod whole;
 mod worlds;
 
+pub use failing_calls::FailingCalls;
+pub use faults::Faults;
 pub use gates::{Gate, StillGate};
 pub use mem_sinks::{FailingWrite, MemSink};
 pub use mem_sources::{MemSource, SteadySource};

@@ -2,6 +2,7 @@
 ghost use Rattle.std.specs.Prelude.{◌≡◌, position};
 ghost use Rattle.rtt_io.specs.Files.{is_named};
 
+use crate::Faults;
 use rtt_base::{Bytes, Path};
 
 /// What is under a name, with the faults of that name.
@@ -9,8 +10,7 @@ use rtt_base::{Bytes, Path};
 pub struct MemFile {
     pub name: Path,
     pub octets: Bytes,
-    pub own_faults: u64,
-    pub object_faults: u64,
+    pub faults: Faults,
 }
 
 /// The place of the first file of this name.

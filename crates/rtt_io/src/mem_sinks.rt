@@ -77,20 +77,6 @@ impl MemSink {
         self.taken.as_slice()
     }
 
-    // Its name, what it took and how often it failed.
-    pub(crate) fn into_parts(self) -> (Path, Bytes, u64)
-        ensures { result ≡ (self.name, self.taken, self.faults) }
-    {
-        let MemSink {
-            name,
-            taken,
-            writes: _,
-            failing: _failing,
-            faults,
-        } = self;
-        (name, taken, faults)
-    }
-
     // Makes one write: it takes all octets, or fails and took some of them from the front, or none.
     fn write(&mut self, bytes: &[u8]) -> Result<(), Failed>
         ensures never_falls { self.old.faults ≤ self.new.faults }

@@ -2,8 +2,8 @@
 ghost use Rattle.std.specs.Prelude.{◌≡◌, ◌≤◌, ◌<◌, [], ◌++◌, length, take};
 ghost use Rattle.rtt_io.specs.Alike.{SameSource};
 
-use crate::Source;
 use crate::reads::hand_out;
+use crate::{FailingCalls, Source};
 use rtt_base::{Bytes, Failed, NoMemory, Path};
 use std::alloc::Global;
 
@@ -12,9 +12,7 @@ use std::alloc::Global;
 pub struct MemSource {
     pub(crate) name: Path,
     steady: SteadySource,
-    // how many reads were made
-    reads: u64,
-    pub(crate) failing: Vec<u64>,
+    pub(crate) reads: FailingCalls,
     pub(crate) faults: u64,
 }
 
@@ -30,8 +28,7 @@ impl Source for MemSource {
     ghost name = { λ source. source.name };
 
     fn read(&mut self, buf: &mut [u8]) -> Result<usize, Failed> {
-        self.reads = self.reads.saturating_add(1);
-        if self.failing.as_slice().contains(&self.reads) {
+        if self.reads.next_fails() {
             self.faults = self.faults.saturating_add(1);
             return Err(Failed);
         }
@@ -49,8 +46,7 @@ impl MemSource {
         MemSource {
             name,
             steady: SteadySource::new(octets),
-            reads: 0,
-            failing: Vec::new(alloc),
+            reads: FailingCalls::none(alloc),
             faults: 0,
         }
     }
@@ -67,8 +63,7 @@ impl MemSource {
     pub fn fail_at(&mut self, read: u64) -> Result<(), NoMemory>
         ensures { SameSource ⟦<MemSource as Source>⟧ self.old self.new }
     {
-        self.failing.push(read)?;
-        Ok(())
+        self.reads.fail_at(read)
     }
 }
 

@@ -1,12 +1,11 @@
 //! A world in memory.
 ghost use Rattle.std.specs.Prelude.{◌≡◌, ℕ, List, [], Option, OnOk, OnErr, IfOk, IfSome, map, option_map, option_copied};
-ghost use Rattle.rtt_io.specs.Counts.{Rose};
 ghost use Rattle.rtt_io.specs.Files.{octets_of, own_of, objects_of};
-ghost use Rattle.rtt_io.specs.Names.{Same, SameBut, NoneFalls, CountsMore, CountsNoOther, Replaces};
-ghost use Rattle.rtt_io.specs.Worlds.{octets_held, own_counted, objects_counted};
+ghost use Rattle.rtt_io.specs.Names.{Same, SameBut};
+ghost use Rattle.rtt_io.specs.Worlds.{octets_held, own_counted, objects_counted, Stores, Counts};
 
 use crate::mem_files::{MemFile, place};
-use crate::{FailingWrite, MemSink, MemSource, Source, World};
+use crate::{FailingCalls, FailingWrite, Faults, MemSink, MemSource, Source, World};
 use rtt_base::{Bytes, Failed, NoMemory, Path};
 use std::alloc::Global;
 
@@ -31,8 +30,7 @@ pub struct MemWorld {
     alloc: Global,
     files: Vec<MemFile>,
     failing: Vec<FailingCall>,
-    own_faults: u64,
-    object_faults: u64,
+    faults: Faults,
 }
 
 impl World for MemWorld {
@@ -44,38 +42,38 @@ impl World for MemWorld {
 
     ghost contents = { λ world. octets_of world.files.items };
 
-    ghost own_faults = { λ world. own_of world.own_faults world.files.items };
+    ghost own_faults = { λ world. own_of world.faults world.files.items };
 
-    ghost object_faults = { λ world. objects_of world.object_faults world.files.items };
+    ghost object_faults = { λ world. objects_of world.faults world.files.items };
 
     fn open_source(&mut self, name: &str) -> Result<MemSource, Failed> {
         match self.source(name) {
             Some(source) => Ok(source),
             None => {
-                self.count_own(name);
+                self.count(name, Faults::one_own());
                 Err(Failed)
             }
         }
     }
 
     fn create_sink(&mut self, name: &str) -> Result<MemSink, Failed> {
-        if let Some(sink) = self.sink(name) {
-            if self.make_empty(name).is_ok() {
-                return Ok(sink);
+        match self.sink(name) {
+            Some(sink) if self.make_empty(name).is_ok() => Ok(sink),
+            _ => {
+                self.count(name, Faults::one_own());
+                Err(Failed)
             }
         }
-        self.count_own(name);
-        Err(Failed)
     }
 
     fn done_src(&mut self, source: MemSource) {
-        self.count_object(source.name.as_str(), source.faults);
+        self.count(source.name.as_str(), Faults::of_objects(source.faults));
     }
 
     fn done_dst(&mut self, sink: MemSink) {
-        let (name, taken, faults) = sink.into_parts();
-        self.count_object(name.as_str(), faults);
-        self.store(name.as_str(), taken);
+        let taken = sink.taken;
+        self.count(sink.name.as_str(), Faults::of_objects(sink.faults));
+        self.store(sink.name.as_str(), taken);
     }
 }
 
@@ -90,8 +88,7 @@ impl MemWorld {
             alloc,
             files: Vec::new(alloc),
             failing: Vec::new(alloc),
-            own_faults: 0,
-            object_faults: 0,
+            faults: Faults::none(),
         }
     }
 
@@ -151,7 +148,7 @@ impl MemWorld {
         octets.append(stored)?;
         let mut source = MemSource::new(self.alloc, Path::from_text(self.alloc, name)?, octets);
         let (reads, _writes) = self.failing_of(name)?;
-        source.failing = reads;
+        source.reads = reads;
         Ok(source)
     }
 
@@ -186,12 +183,12 @@ impl MemWorld {
     }
 
     // The reads and the writes of a name that are to fail.
-    fn failing_of(&self, name: &str) -> Result<(Vec<u64>, Vec<FailingWrite>), NoMemory> {
-        let mut reads = Vec::new(self.alloc);
+    fn failing_of(&self, name: &str) -> Result<(FailingCalls, Vec<FailingWrite>), NoMemory> {
+        let mut reads = FailingCalls::none(self.alloc);
         let mut writes = Vec::new(self.alloc);
         for call in &self.failing {
             match call {
-                FailingCall::Read(path, read) if path.as_str() == name => reads.push(*read)?,
+                FailingCall::Read(path, read) if path.as_str() == name => reads.fail_at(*read)?,
                 FailingCall::Write(path, write) if path.as_str() == name => writes.push(*write)?,
                 _ => {}
             }
@@ -215,8 +212,7 @@ impl MemWorld {
         let file = MemFile {
             name: Path::from_text(self.alloc, name)?,
             octets: Bytes::new(self.alloc),
-            own_faults: 0,
-            object_faults: 0,
+            faults: Faults::none(),
         };
         self.files.push(file)?;
         Ok(())
@@ -224,10 +220,7 @@ impl MemWorld {
 
     // Puts octets in place of what is under a name, where something is.
     fn store(&mut self, name: &str, octets: Bytes)
-        ensures stored { Replaces octets_held name.now octets self.old self.new }
-        ensures others { SameBut name.now octets_held self.old self.new }
-        ensures same_own { Same own_counted self.old self.new }
-        ensures same_objects { Same objects_counted self.old self.new }
+        ensures { Stores name.now octets self.old self.new }
     {
         if let Some(at) = place(self.files.as_slice(), name) {
             let file = &mut self.files[at];
@@ -235,38 +228,16 @@ impl MemWorld {
         }
     }
 
-    // Counts a fault of a call that opens or creates a name.
-    fn count_own(&mut self, name: &str)
-        ensures rose { Rose (own_counted self.old name.now) (own_counted self.new name.now) }
-        ensures no_other { CountsNoOther octets_held own_counted name.now self.old self.new }
-        ensures never_falls { NoneFalls own_counted self.old self.new }
-        ensures same_contents { Same octets_held self.old self.new }
-        ensures same_objects { Same objects_counted self.old self.new }
+    // Counts so many more faults of a name.
+    fn count(&mut self, name: &str, more: Faults)
+        ensures { Counts name.now more self.old self.new }
     {
         match place(self.files.as_slice(), name) {
             Some(at) => {
                 let file = &mut self.files[at];
-                file.own_faults = file.own_faults.saturating_add(1);
+                file.faults = file.faults.and(more);
             }
-            None => self.own_faults = self.own_faults.saturating_add(1),
-        }
-    }
-
-    // Adds the faults of an object to those of its name.
-    fn count_object(&mut self, name: &str, faults: u64)
-        ensures added { CountsMore objects_counted name.now faults self.old self.new }
-        ensures no_other { CountsNoOther octets_held objects_counted name.now self.old self.new }
-        ensures calm { faults ≡ 0 → Same objects_counted self.old self.new }
-        ensures never_fall { NoneFalls objects_counted self.old self.new }
-        ensures same_contents { Same octets_held self.old self.new }
-        ensures same_own { Same own_counted self.old self.new }
-    {
-        match place(self.files.as_slice(), name) {
-            Some(at) => {
-                let file = &mut self.files[at];
-                file.object_faults = file.object_faults.saturating_add(faults);
-            }
-            None => self.object_faults = self.object_faults.saturating_add(faults),
+            None => self.faults = self.faults.and(more),
         }
     }
 }

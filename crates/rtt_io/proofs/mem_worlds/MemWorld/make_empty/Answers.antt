@@ -1,5 +1,6 @@
-use Rattle.std.proofs.Common.{◌∙◌, Some, ap, refl, ◌≡◌, ◌++◌, ◌∷◌, [], None}
+use Rattle.std.proofs.Common.{◌∙◌, Some, ap, refl, sym, ◌≡◌, ◌++◌, ◌∷◌, [], None}
 use Rattle.std.specs.List.{position}
+use Rattle.rtt_io.specs.declared.faults.Faults.{Faults}
 use Rattle.rtt_io.specs.Files.{is_named, own_count, object_count, octets_in}
 use Rattle.rtt_io.proofs.Files.{written, unplaced, added, Changes, told}
 use Rattle.rtt_io.proofs.mem_worlds.MemWorld.make_empty.Goals as goal
@@ -34,7 +35,7 @@ pub returns-clause-others : goal.returns-clause-others
 returns-clause-others c = rw c.in_ok-push.ensures.items (others_stay told (addition c _ c.in_ok-from_text.ensures) octets_in)
 
 pub returns-clause-same_own : goal.returns-clause-same_own
-returns-clause-same_own c = rw c.in_ok-push.ensures.items (count_stays told (addition c _ c.in_ok-from_text.ensures) own_count refl _)
+returns-clause-same_own c = rw c.in_ok-push.ensures.items (count_stays told (addition c _ c.in_ok-from_text.ensures) own_count (sym (ap (λ (x : Faults). x.own) c.none.ensures)) _)
 
 pub returns-clause-same_objects : goal.returns-clause-same_objects
-returns-clause-same_objects c = rw c.in_ok-push.ensures.items (count_stays told (addition c _ c.in_ok-from_text.ensures) object_count refl _)
+returns-clause-same_objects c = rw c.in_ok-push.ensures.items (count_stays told (addition c _ c.in_ok-from_text.ensures) object_count (sym (ap (λ (x : Faults). x.objects) c.none.ensures)) _)
