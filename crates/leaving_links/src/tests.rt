@@ -7,27 +7,14 @@ use std::test::Fail;
 /// A packet of 1001: the text `Hi`.
 const TEXT: &[u8] = b"\x80\xE2\x00\x05\x00\x00\x00\x64\x00\x00\x03\xE9Hi";
 
-/// The same of 1002.
-const OTHER_TEXT: &[u8] = b"\x80\xE2\x00\x05\x00\x00\x00\x64\x00\x00\x03\xEAHi";
-
 /// 1001 leaves.
 const LEAVING: &[u8] = b"\x81\xCB\x00\x01\x00\x00\x03\xE9";
 
 /// 1002 leaves.
 const OTHER: &[u8] = b"\x81\xCB\x00\x01\x00\x00\x03\xEA";
 
-/// An empty report of 1001, and its leaving behind it, as terminals send them.
-const REPORT_AND_LEAVING: &[u8] =
-    b"\x80\xC9\x00\x01\x00\x00\x03\xE9\x81\xCB\x00\x01\x00\x00\x03\xE9";
-
-/// A report of 1001 alone.
+/// An empty report of 1001.
 const REPORT: &[u8] = b"\x80\xC9\x00\x01\x00\x00\x03\xE9";
-
-/// A leaving of 1001 with an octet too many.
-const BROKEN: &[u8] = b"\x81\xCB\x00\x01\x00\x00\x03\xE9\x00";
-
-/// A packet of 1001 with payload type 75 and M bit 1: RTCP by its second octet, and none that can be read.
-const UNREAD: &[u8] = b"\x80\xCB\x00\x05\x00\x00\x00\x64\x00\x00\x03\xE9";
 
 /// Datagrams that come one after the other, and how many of them are told before the link is closed.
 #[derive(Clone, Copy)]
@@ -36,8 +23,21 @@ struct Story(&'static [&'static [u8]], usize);
 /// The own BYE, alone, closes for good.
 const LEAVES: Story = Story(&[TEXT, LEAVING, TEXT, REPORT], 1);
 
-/// Behind a report it does too.
-const REPORTS_AND_LEAVES: Story = Story(&[TEXT, REPORT, REPORT_AND_LEAVING], 2);
+/// Behind a report in one datagram, as terminals send them, it does too.
+const REPORTS_AND_LEAVES: Story = Story(
+    &[
+        TEXT,
+        REPORT,
+        b"\x80\xC9\x00\x01\x00\x00\x03\xE9\x81\xCB\x00\x01\x00\x00\x03\xE9",
+    ],
+    2,
+);
+
+/// A leaving of 1001 with an octet too many.
+const BROKEN: &[u8] = b"\x81\xCB\x00\x01\x00\x00\x03\xE9\x00";
+
+/// A packet of 1001 with payload type 75 and M bit 1: RTCP by its second octet, and none that can be read.
+const UNREAD: &[u8] = b"\x80\xCB\x00\x05\x00\x00\x00\x64\x00\x00\x03\xE9";
 
 /// Nobody else closes the link, once the peer has sent text, nor does what can't be read.
 const GOES_ON: Story = Story(
@@ -48,8 +48,16 @@ const GOES_ON: Story = Story(
 /// Before text of the peer, any BYE does.
 const NEVER_SPOKE: Story = Story(&[REPORT, OTHER, TEXT], 1);
 
-/// The last SSRC counts.
-const ANOTHER_STREAM: Story = Story(&[TEXT, OTHER_TEXT, LEAVING, OTHER], 3);
+/// The last SSRC counts, here that of a text of 1002.
+const ANOTHER_STREAM: Story = Story(
+    &[
+        TEXT,
+        b"\x80\xE2\x00\x05\x00\x00\x00\x64\x00\x00\x03\xEAHi",
+        LEAVING,
+        OTHER,
+    ],
+    3,
+);
 
 // Plans that these come, one after the other.
 fn plan_all(links: &mut MemLinks, alloc: Global, datagrams: &[&[u8]]) -> Result<(), NoMemory> {

@@ -1,5 +1,5 @@
 //! The frames of one piece.
-ghost use Rattle.std.specs.Prelude.{◌≡◌, ◌≤◌, ◌<◌, ◌==◌, [], ◌∷◌, ◌++◌, length};
+ghost use Rattle.std.specs.Prelude.{◌≡◌, ◌≤◌, ◌<◌, [], ◌∷◌, ◌++◌, length};
 
 use arrayvec::ArrayVec;
 use frame_spec::Frame;
@@ -67,12 +67,6 @@ impl FrameBatch {
         ensures fits { result ≤ 64 }
     {
         self.len
-    }
-
-    pub fn is_empty(&self) -> bool
-        ensures { result ≡ (length self.now == 0) }
-    {
-        self.len == 0
     }
 
     pub fn as_slice(&self) -> &[Frame]

@@ -38,7 +38,7 @@ fn expect_refused(rt: &impl Abort, octets: &[u8], frames: usize, offset: u64, ki
     assert!(rt; batch.len() == frames);
     let again = reader.feed(octets, &mut batch);
     assert!(rt; again == Err(FrameFault { offset, kind }));
-    assert!(rt; batch.is_empty());
+    assert!(rt; batch.len() == 0);
     let end = reader.end();
     assert!(rt; end == Err(FrameFault { offset, kind }));
 }
@@ -65,7 +65,7 @@ fn two_letters_are_read_octet_by_octet(rt: HostRuntime) {
         } else if place == 13 {
             assert!(rt; is_frame(&batch, 0, 300, b"B"));
         } else {
-            assert!(rt; batch.is_empty());
+            assert!(rt; batch.len() == 0);
         }
     }
     let end = reader.end();
