@@ -1,5 +1,5 @@
 //! Scripts.
-ghost use Rattle.std.specs.Prelude.{◌≡◌, ◌<◌, ◌==◌, [], ◌∷◌, ◌++◌, length, OnOk, OnErr, Some, slice_get};
+ghost use Rattle.std.specs.Prelude.{◌≡◌, ◌<◌, [], ◌∷◌, ◌++◌, length, OnOk, OnErr, Some, slice_get};
 ghost use Rattle.script_text.specs.ScriptLines.{line_of};
 
 use crate::ScriptLine;
@@ -44,12 +44,6 @@ impl Script {
         ensures { result ≡ length self.now }
     {
         self.spans.len()
-    }
-
-    pub fn is_empty(&self) -> bool
-        ensures { result ≡ (length self.now == 0) }
-    {
-        self.spans.is_empty()
     }
 
     /// The line at an index, from 0.
