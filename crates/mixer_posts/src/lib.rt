@@ -11,7 +11,7 @@ mod streams;
 pub use laws::posts_are_entered;
 pub use mixers::Sending;
 pub use outbounds::Outbound;
-pub use streams::{sources_to, stream_to};
+pub use streams::{sources_to, ssrcs_of, stream_to};
 
 #[cfg(test)]
 mod tests;

@@ -28,9 +28,9 @@ pub fn stream_to(conf: &Conf, own: usize) -> OutConf
     }
 }
 
-/// The SSRC of each leg.
-fn ssrcs_of(alloc: Global, legs: &[LegLine]) -> Result<Vec<u32>, NoMemory>
-    ensures { IfOk result (λ v. v.items ≡ map (λ leg. leg.ssrc) legs.now) }
+/// The SSRC of each leg, in leg order.
+pub fn ssrcs_of(alloc: Global, legs: &[LegLine]) -> Result<Vec<u32>, NoMemory>
+    ensures { IfOk result (λ ssrcs. ssrcs.items ≡ map (λ leg. leg.ssrc) legs.now) }
 {
     let mut ssrcs = Vec::with_capacity(alloc, legs.len())?;
     for leg in legs {
