@@ -14,7 +14,7 @@ use Rattle.wire_spec.specs.Dump.{Item}
 use Rattle.file_spec.specs.declared.conf_lines.LegLine.{LegLine}
 use Rattle.file_spec.specs.Conf.{Conf}
 use Rattle.mixer_spec.specs.Table.{Table}
-use Rattle.view_spec.specs.Seen.{Reception, Speaker, aware_seen, counts_at, unaware_seen}
+use Rattle.view_spec.specs.Seen.{Speaker, aware_seen, unaware_seen}
 use Rattle.command_spec.specs.Mixing.{records_to, reception_of, speaker_of, view_of, views}
 use Rattle.mixer_spec.specs.Arrives.{came}
 use Rattle.command_spec.specs.Sums.{counts_to, markers_to, sources_of, sums}
@@ -22,10 +22,12 @@ use Rattle.view_spec.specs.Markers.{markers_at}
 use Rattle.view_spec.proofs.Counted.{markers_came, used_came}
 use Rattle.terminal.specs.declared.confs.TermConf.{TermConf}
 use Rattle.terminal.specs.declared.terminals.Terminal.{Terminal}
+use Rattle.terminal.specs.declared.views.View.{View}
 use Rattle.terminal.specs.Terminals.{counts_of, reception, texts_of, IsTextOf, Heard}
+use Rattle.terminal.specs.Told.{AppendsSeen}
 use Rattle.mixer_posts.proofs.LegLines.{legs_more}
 use Rattle.bridge_run.specs.declared.views.Seen.{Seen}
-use Rattle.bridge_run.specs.Viewed.{Adds, AddsCounts, AddsSeen, HasFew, IsSeenBetween, counts_from, first_legs, joined, marks_of, markers_from, marks_below, packets_below, summed, terminal_conf, used_below, view_from, views_below}
+use Rattle.bridge_run.specs.Viewed.{Adds, AddsCounts, AddsSeen, HasFew, IsSeenAs, IsSeenBetween, counts_from, first_legs, joined, marks_of, markers_from, marks_below, packets_below, summed, terminal_conf, used_below, view_from, views_below}
 
 -- which element is meant makes no difference within
 pub same_default : {X : Type 0} (xs : List X) (i : ℕ) (d e : X) → i < length xs → get_or xs i d ≡ get_or xs i e
@@ -50,9 +52,8 @@ ssrcs_are [] = refl
 ssrcs_are (l ∷ ls) = ap (λ (xs : List ℕ). l.ssrc ∷ xs) (ssrcs_are ls)
 
 -- pieces, and one behind them
-pub piece_more : (old new : List (List ℕ)) (before piece view : List ℕ) → new ≡ old ++ piece ∷ [] → before ≡ [] → piece ≡ before ++ view → concat new ≡ concat old ++ view
-piece_more old new before piece view e none is =
-    ap concat e ∙ (concat-append old (piece ∷ []) ∙ ap (λ (xs : List ℕ). concat old ++ xs) (append-nil piece ∙ (is ∙ ap (λ (xs : List ℕ). xs ++ view) none)))
+piece_more : (old new : List (List ℕ)) (piece : List ℕ) → new ≡ old ++ piece ∷ [] → concat new ≡ concat old ++ piece
+piece_more old new piece e = ap concat e ∙ (concat-append old (piece ∷ []) ∙ ap (λ (xs : List ℕ). concat old ++ xs) (append-nil piece))
 
 -- ---- one terminal
 pub aware_view : (c : Conf) (own : ℕ) (leg : LegLine) (records : List (ℕ × List ℕ)) (t : Terminal) (conf : TermConf) (sources : List ℕ) (names : List (List ℕ)) (old new : List ℕ)
@@ -100,22 +101,38 @@ module _ (t : Terminal) (q : TermConf) (sources : List ℕ) (items : List Item) 
           let rest = go ss ts (omega (arith, n)) (λ k d l. f (suc k) d (omega (arith, l))) in
           omega (arith, here, rest, sum_by-cons (λ (text : SourceText). text.marks) t ts, sum_by-cons (markers_at (reception q) items) s ss)
 
--- all that a terminal adds
-pub adds : (c : Conf) (own : ℕ) (leg : LegLine) (records : List (ℕ × List ℕ)) (t : Terminal) (q : TermConf) (sources : List ℕ) (old shown new : Seen)
-    → q ≡ terminal_conf c leg → sources ≡ sources_of c own leg → Heard t q sources (came c.plan own records)
-    → joined shown ≡ joined old ++ view_from c own leg records → shown.packets ≡ old.packets → shown.used ≡ old.used → shown.marks ≡ old.marks → AddsCounts t shown new
-    → Adds c own leg records old new
-adds c own leg records t q sources old shown new e s h view packets used marks a =
+-- what a view shows of a terminal is added, and then its numbers
+pub seen_as : (c : Conf) (own : ℕ) (leg : LegLine) (records : List (ℕ × List ℕ)) (t : Terminal) (q : TermConf) (sources : List ℕ) (view : View) (none piece : List ℕ) (old shown new : Seen)
+    → q ≡ terminal_conf c leg → Heard t q sources (came c.plan own records) → none ≡ [] → AppendsSeen t view none piece → shown.views.items ≡ old.views.items ++ piece ∷ []
+    → shown.packets ≡ old.packets → shown.used ≡ old.used → shown.marks ≡ old.marks → AddsCounts t shown new → IsSeenAs c own leg sources view records old new
+seen_as c own leg records t q sources view none piece old shown new e h n s pushed packets used marks a = record {
+  terminal = t;
+  heard = subst (λ (r : TermConf). Heard t r sources (came c.plan own records)) e h;
+  shown = piece;
+  is_shown = subst (λ (before : List ℕ). AppendsSeen t view before piece) n s;
+  views = ap (λ (v : Vec (List ℕ)). concat v.items) a.views ∙ piece_more old.views.items shown.views.items piece pushed;
+  packets = omega (arith, a.packets, packets);
+  used = omega (arith, a.used, used);
+  marks = omega (arith, a.marks, marks);
+}
+
+-- the same of a leg with this line
+pub at_leg : {c : Conf} {own : ℕ} {l m : LegLine} {sources : List ℕ} {view : View} {records : List (ℕ × List ℕ)} {old new : Seen} → l ≡ m → IsSeenAs c own m sources view records old new → IsSeenAs c own l sources view records old new
+at_leg {c} {own} {l} {m} {sources} {view} {records} {old} {new} e s = subst (λ (x : LegLine). IsSeenAs c own x sources view records old new) (sym e) s
+
+-- all that a terminal adds, where its view is that of the leg
+pub adds : (c : Conf) (own : ℕ) (leg : LegLine) (records : List (ℕ × List ℕ)) (sources : List ℕ) (view : View) (old new : Seen)
+    → sources ≡ sources_of c own leg → (s : IsSeenAs c own leg sources view records old new) → s.shown ≡ view_from c own leg records → Adds c own leg records old new
+adds c own leg records sources view old new listed s is =
     let items = came c.plan own records in
-    let is_reception : reception q ≡ reception_of c leg = ap reception e in
-    let counts : counts_of t ≡ counts_from c own leg records = h.counts ∙ ap (λ (r : Reception). counts_at r items) is_reception in
-    let markers : marks_of t ≡ markers_from c own leg records = marks_heard t q sources items h
-    ∙ (ap (λ (r : Reception). sum_by (markers_at r items) sources) is_reception ∙ ap (λ (xs : List ℕ). sum_by (markers_at (reception_of c leg) items) xs) s) in
+    let counts : counts_of s.terminal ≡ counts_from c own leg records = s.heard.counts in
+    let markers : marks_of s.terminal ≡ markers_from c own leg records =
+    marks_heard s.terminal (terminal_conf c leg) sources items s.heard ∙ ap (λ (xs : List ℕ). sum_by (markers_at (reception_of c leg) items) xs) listed in
     record {
-      views = ap (λ (views : List (List ℕ)). concat views) (ap (λ (v : Vec (List ℕ)). v.items) a.views) ∙ view;
-      packets = omega (arith, a.packets, packets, ap (λ (n : Counts). n.packets) counts);
-      used = omega (arith, a.used, used, ap (λ (n : Counts). n.used) counts);
-      marks = omega (arith, a.marks, marks, markers);
+      views = s.views ∙ ap (λ (xs : List ℕ). joined old ++ xs) is;
+      packets = omega (arith, s.packets, ap (λ (n : Counts). n.packets) counts);
+      used = omega (arith, s.used, ap (λ (n : Counts). n.used) counts);
+      marks = omega (arith, s.marks, markers);
     }
 
 -- ---- all of them

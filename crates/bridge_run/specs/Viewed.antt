@@ -1,5 +1,5 @@
 -- What is seen at the terminals of a conference, by what was sent to each (profile).
-use Rattle.std.specs.Prelude.{◌≡◌, ℕ, Bool, ◌+◌, ◌*◌, ◌^◌, ◌<◌, ◌≤◌, List, [], ◌++◌, length, map, min, remove, take, flat_map, slice_index_or, IfOk, Result, if◌then◌else◌}
+use Rattle.std.specs.Prelude.{◌≡◌, ℕ, ◌+◌, ◌*◌, ◌^◌, ◌<◌, ◌≤◌, List, [], ◌++◌, length, map, min, remove, take, flat_map, slice_index_or, IfOk, Result, if◌then◌else◌}
 use Rattle.std.specs.List.{concat, enumerate_from, sum_by}
 use Rattle.rtt_base.specs.declared.errors.NoMemory.{NoMemory}
 use Rattle.view_spec.specs.declared.counts.Counts.{Counts}
@@ -14,7 +14,9 @@ use Rattle.view_spec.specs.Markers.{markers_at}
 use Rattle.played.specs.Written.{IsWrittenOf}
 use Rattle.terminal.specs.declared.confs.TermConf.{TermConf}
 use Rattle.terminal.specs.declared.terminals.Terminal.{Terminal}
-use Rattle.terminal.specs.Terminals.{counts_of, texts_of}
+use Rattle.terminal.specs.declared.views.View.{View}
+use Rattle.terminal.specs.Terminals.{Heard, counts_of, texts_of}
+use Rattle.terminal.specs.Told.{AppendsSeen}
 use Rattle.bridge_run.specs.declared.views.Seen.{Seen}
 use Rattle.bridge_run.specs.declared.parts.TheConstants.{MOST_PARTS}
 use Rattle.file_spec.specs.declared.limits.TheConstants.{MOST_LEGS}
@@ -52,6 +54,10 @@ counts_from c j leg records = counts_at (reception_of c leg) (came c.plan j reco
 abbrev pub markers_from : Conf → ℕ → LegLine → List (ℕ × List ℕ) → ℕ
 markers_from c j leg records = sum_by (markers_at (reception_of c leg) (came c.plan j records)) (sources_of c j leg)
 
+-- all markers that were heard at a terminal
+abbrev pub marks_of : Terminal → ℕ
+marks_of t = sum_by (λ text. text.marks) (texts_of t)
+
 -- all views, one behind the other
 abbrev pub joined : Seen → List ℕ
 joined seen = concat seen.views.items
@@ -68,17 +74,24 @@ abbrev pub AddsSent : Conf → ℕ → List ℕ → Seen → Seen → Type 0
 AddsSent c j recording old new =
     (records : List (ℕ × List ℕ)) (d : LegLine) → IsWrittenOf recording records → Adds c j (slice_index_or c.legs j d) records old new
 
--- the same where the terminal is aware, or where it is not
-abbrev pub AddsSentTo : Bool → Conf → ℕ → List ℕ → Seen → Seen → Type 0
-AddsSentTo aware c j recording old new =
-    (records : List (ℕ × List ℕ)) (d : LegLine) → (slice_index_or c.legs j d).aware ≡ aware
-    → IsWrittenOf recording records → Adds c j (slice_index_or c.legs j d) records old new
+-- What came to the terminal of the leg j, where these records were sent to it, was heard by a terminal of these sources; what this
+-- view shows of it was added, and its numbers.
+pub record IsSeenAs (c : Conf) (j : ℕ) (leg : LegLine) (sources : List ℕ) (view : View) (records : List (ℕ × List ℕ)) (old new : Seen) : Type 0 where
+  pub terminal : Terminal
+  pub heard : Heard terminal (terminal_conf c leg) sources (came c.plan j records)
+  pub shown : List ℕ
+  pub is_shown : AppendsSeen terminal view [] shown
+  pub views : joined new ≡ joined old ++ shown
+  pub packets : new.packets ≡ old.packets + (counts_of terminal).packets
+  pub used : new.used ≡ old.used + (counts_of terminal).used
+  pub marks : new.marks ≡ old.marks + marks_of terminal
+
+-- so it was of the terminal of the leg j, to which this recording was sent
+abbrev pub AddsSeenAs : Conf → ℕ → List ℕ → List ℕ → View → Seen → Seen → Type 0
+AddsSeenAs c j recording sources view old new =
+    (records : List (ℕ × List ℕ)) (d : LegLine) → IsWrittenOf recording records → IsSeenAs c j (slice_index_or c.legs j d) sources view records old new
 
 -- ---- the numbers
--- all markers that were heard at a terminal
-abbrev pub marks_of : Terminal → ℕ
-marks_of t = sum_by (λ text. text.marks) (texts_of t)
-
 -- A terminal's numbers were added.
 pub record AddsCounts (t : Terminal) (old new : Seen) : Type 0 where
   pub views : new.views ≡ old.views

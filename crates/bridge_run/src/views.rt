@@ -1,11 +1,13 @@
 //! What is seen at the terminals of a conference.
-ghost use Rattle.std.specs.Prelude.{◌≡◌, ℕ, ◌+◌, ◌^◌, ◌<◌, ◌≤◌, [], length, false, true, All, IfOk, OnOk};
+ghost use Rattle.std.specs.Prelude.{◌≡◌, ◌≢◌, ℕ, ◌+◌, ◌^◌, ◌<◌, ◌≤◌, [], length, All, AllPairs, IfOk, OnOk};
 ghost use Rattle.conference.specs.Conferences.{conf_of};
 ghost use Rattle.sent_log.specs.States.{OfTerminal};
 ghost use Rattle.played.specs.Written.{IsPlayable};
 ghost use Rattle.sent_files.specs.Files.{recording_at, recordings_of};
-ghost use Rattle.bridge_run.specs.Viewed.{AddsCounts, AddsSent, AddsSentTo, AreOf, AreSeenBetween, AreSumsOf, AreViewsOf, HasFew, joined, marks_of, summed, terminal_conf};
+ghost use Rattle.bridge_run.specs.Viewed.{AddsCounts, AddsSeenAs, AddsSent, AreOf, AreSeenBetween, AreSumsOf, AreViewsOf, HasFew, joined, marks_of, summed, terminal_conf};
+ghost use Rattle.terminal.specs.Views.{Fits};
 ghost use Rattle.file_spec.specs.declared.limits.TheConstants.{MOST_LEGS};
+ghost use Rattle.rtt_base.specs.declared.limits.TheConstants.{MOST_SOURCES};
 
 use conference::{Conf, LegLine, others};
 use played::played;
@@ -62,67 +64,37 @@ fn count(terminal: &Terminal, seen: &mut Seen)
     seen.marks += marks_of(terminal);
 }
 
-/// Adds what is seen at an aware terminal, of what the log has for it.
-fn add_aware(
+/// Adds what this view shows of a terminal that hears these sources, of what the log has for it.
+fn add_seen(
     alloc: Global,
     conf: &Conf,
     own: usize,
+    sources: &[u32],
+    view: View<'_>,
     log: &SentLog,
     seen: &mut Seen,
 ) -> Result<(), NoMemory>
     requires own { own < length conf.now.legs }
+    requires some { 0 < length sources.now }
+    requires few { length sources.now ≤ MOST_SOURCES }
+    requires differ { AllPairs (λ a b. a ≢ b) sources.now }
+    requires fits { Fits view (length sources.now) }
     requires each { length log.now ≡ length conf.now.legs }
     requires sent { OfTerminal log.now own IsPlayable }
     requires before { AreOf own seen.old }
-    ensures adds { OnOk result (AddsSentTo true (conf_of conf.now) own (recording_at log.now own) seen.old seen.new) }
-    ensures with_it { OnOk result (AreOf (own + 1) seen.new) }
-{
-    let leg = &conf.legs.as_slice()[own];
-    let speakers = others(alloc, conf.legs.as_slice(), own)?;
-    let terminal = played(
-        alloc,
-        conf_at(conf, leg),
-        speakers.sources.as_slice(),
-        log,
-        own,
-        conf.plan.as_slice(),
-    )?;
-    let view = View::Aware {
-        name: &leg.name,
-        names: speakers.names.as_slice(),
-    };
-    let mut octets = Bytes::new(alloc);
-    terminal.append_view(alloc, view, &mut octets)?;
-    seen.views.push(octets)?;
-    count(&terminal, seen);
-    Ok(())
-}
-
-/// Adds what is seen at another terminal, of what the log has for it.
-fn add_unaware(
-    alloc: Global,
-    conf: &Conf,
-    own: usize,
-    log: &SentLog,
-    seen: &mut Seen,
-) -> Result<(), NoMemory>
-    requires own { own < length conf.now.legs }
-    requires each { length log.now ≡ length conf.now.legs }
-    requires sent { OfTerminal log.now own IsPlayable }
-    requires before { AreOf own seen.old }
-    ensures adds { OnOk result (AddsSentTo false (conf_of conf.now) own (recording_at log.now own) seen.old seen.new) }
+    ensures adds { OnOk result (AddsSeenAs (conf_of conf.now) own (recording_at log.now own)
+        sources.now view.entry seen.old seen.new) }
     ensures with_it { OnOk result (AreOf (own + 1) seen.new) }
 {
     let leg = &conf.legs.as_slice()[own];
     let terminal = played(
         alloc,
         conf_at(conf, leg),
-        &[conf.mixer.ssrc],
+        sources,
         log,
         own,
         conf.plan.as_slice(),
     )?;
-    let view = View::Unaware { name: &leg.name };
     let mut octets = Bytes::new(alloc);
     terminal.append_view(alloc, view, &mut octets)?;
     seen.views.push(octets)?;
@@ -145,11 +117,20 @@ fn add_view(
     ensures adds { OnOk result (AddsSent (conf_of conf.now) own (recording_at log.now own) seen.old seen.new) }
     ensures with_it { OnOk result (AreOf (own + 1) seen.new) }
 {
-    if conf.legs.as_slice()[own].aware {
-        add_aware(alloc, conf, own, log, seen)
-    } else {
-        add_unaware(alloc, conf, own, log, seen)
+    let legs = conf.legs.as_slice();
+    let leg = &legs[own];
+    if leg.aware {
+        let speakers = others(alloc, legs, own)?;
+        let sources = speakers.sources.as_slice();
+        let names = speakers.names.as_slice();
+        let view = View::Aware {
+            name: &leg.name,
+            names,
+        };
+        return add_seen(alloc, conf, own, sources, view, log, seen);
     }
+    let view = View::Unaware { name: &leg.name };
+    add_seen(alloc, conf, own, &[conf.mixer.ssrc], view, log, seen)
 }
 
 /// Of no terminal.

@@ -1,23 +1,23 @@
-use Rattle.std.proofs.Common.{ℕ, List, [], ◌∷◌, map, cond, refl, sym, ◌∙◌, ap, subst, arith}
-use Rattle.std.specs.Prelude.{remove}
+use Rattle.std.proofs.Common.{ℕ, List, refl, sym, ◌∙◌, subst, arith}
 use Rattle.file_spec.specs.declared.conf_lines.LegLine.{LegLine}
 use Rattle.file_spec.specs.declared.conf_lines.PlanLine.{PlanLine}
 use Rattle.conference.specs.Conferences.{conf_of}
 use Rattle.mixer_spec.specs.Arrives.{came}
 use Rattle.terminal.specs.Terminals.{Heard}
+use Rattle.terminal.specs.Views.{Fits}
 use Rattle.sent_log.specs.States.{records_of}
 use Rattle.played.specs.Written.{IsWrittenOf}
-use Rattle.bridge_run.specs.Viewed.{Adds, view_from}
+use Rattle.bridge_run.specs.Viewed.{IsSeenAs}
 use Rattle.bridge_run.proofs.Noting.{found_at}
 use Rattle.bridge_run.proofs.Recorded.{read_recording}
-use Rattle.bridge_run.proofs.Viewing.{leg_read, adds, has_few, piece_more, unaware_view}
-use Rattle.bridge_run.proofs.views.add_unaware.Goals as goal
+use Rattle.bridge_run.proofs.Viewing.{leg_read, has_few, seen_as}
+use Rattle.bridge_run.proofs.views.add_seen.Goals as goal
 
 pub append_view-requires-clause-finished : goal.append_view-requires-clause-finished
 append_view-requires-clause-finished c = λ whole.
     let x = found_at c.args.log.now c.args.own (omega (arith, c.requires.own, c.requires.each)) in (
       c.conf_at.result,
-      c.args.conf.now.mixer.ssrc ∷ [],
+      c.args.sources.now,
       _,
       c.in_ok-terminal.ensures.heard x.0 x.1 (records_of x.0.conf x.0.sent) (c.requires.sent x.0 x.1).written,
     )
@@ -26,35 +26,30 @@ pub append_view-requires-clause-fits : goal.append_view-requires-clause-fits
 append_view-requires-clause-fits c = λ whole.
     let x = found_at c.args.log.now c.args.own (omega (arith, c.requires.own, c.requires.each)) in
     let heard = c.in_ok-terminal.ensures.heard x.0 x.1 (records_of x.0.conf x.0.sent) (c.requires.sent x.0 x.1).written in
-    omega (arith, heard.each)
+    subst (λ n. Fits c.args.view n) (sym heard.each) c.requires.fits
 
 pub count-requires-clause-few : goal.count-requires-clause-few
 count-requires-clause-few c =
     let x = found_at c.args.log.now c.args.own (omega (arith, c.requires.own, c.requires.each)) in
-    has_few c.in_ok-terminal.terminal c.conf_at.result (c.args.conf.now.mixer.ssrc ∷ []) _ (c.in_ok-terminal.ensures.heard x.0 x.1 (records_of x.0.conf x.0.sent) (c.requires.sent x.0 x.1).written) (omega arith) c.in_ok-terminal.ensures.few
+    has_few c.in_ok-terminal.terminal c.conf_at.result c.args.sources.now _ (c.in_ok-terminal.ensures.heard x.0 x.1 (records_of x.0.conf x.0.sent) (c.requires.sent x.0 x.1).written) (omega (arith, c.requires.few)) c.in_ok-terminal.ensures.few
 
 pub count-requires-clause-before : goal.count-requires-clause-before
 count-requires-clause-before c =
     (c.args.own, omega (arith, c.requires.own, c.args.conf.now.kept.legs.most), record { packets = c.requires.before.packets; used = c.requires.before.used; marks = c.requires.before.marks })
 
 pub returns-clause-adds : goal.returns-clause-adds
-returns-clause-adds c = λ records d e w.
-    let sources = (conf_of c.args.conf.now).mixer.ssrc ∷ [] in
+returns-clause-adds c = λ records d w.
     let own = c.args.own in
     let conf = conf_of c.args.conf.now in
     let leg = c.index-as_slice-own.result in
+    let sources = c.args.sources.now in
     let same = c.index-as_slice-own.is ∙ leg_read c.as_slice.result.now c.args.conf.now.legs own leg d c.as_slice.ensures c.requires.own in
-    let aware = ap (λ (l : LegLine). l.aware) same ∙ e in
     let x = found_at c.args.log.now own (omega (arith, c.requires.own, c.requires.each)) in
     let written = subst (λ (octets : List ℕ). IsWrittenOf octets records) (read_recording c.args.log.now own x.0 x.1) w in
     let heard = subst (λ (ps : List PlanLine). Heard c.in_ok-terminal.terminal c.conf_at.result sources (came ps own records)) c.as_slice-2.ensures (c.in_ok-terminal.ensures.heard x.0 x.1 records written) in
-    let view = unaware_view conf own leg records c.in_ok-terminal.terminal c.conf_at.result c.new-octets.result c.append_view.new.out
-    aware c.conf_at.ensures heard c.in_ok-append_view.ensures.seen in
-    let more = piece_more c.args.seen.now.views.items c.push.new.self.items c.new-octets.result c.append_view.new.out (view_from conf own leg records) c.in_ok-push.ensures.items c.new-octets.ensures view in
-    let listed = ap (λ b. cond b (map (λ (l : LegLine). l.ssrc) (remove c.args.conf.now.legs own)) sources) (sym aware) in
-    subst (λ (l : LegLine). Adds conf own l records c.args.seen.now c.count.new.seen) same
-    (adds conf own leg records c.in_ok-terminal.terminal c.conf_at.result sources c.args.seen.now (record c.args.seen.now { views = c.push.new.self }) c.count.new.seen
-    c.conf_at.ensures listed heard more refl refl refl c.count.ensures.adds)
+    subst (λ (l : LegLine). IsSeenAs conf own l sources c.args.view records c.args.seen.now c.count.new.seen) same
+    (seen_as conf own leg records c.in_ok-terminal.terminal c.conf_at.result sources c.args.view c.new-octets.result c.append_view.new.out c.args.seen.now (record c.args.seen.now { views = c.push.new.self }) c.count.new.seen
+    c.conf_at.ensures heard c.new-octets.ensures c.in_ok-append_view.ensures.seen c.in_ok-push.ensures.items refl refl refl c.count.ensures.adds)
 
 pub returns-clause-with_it : goal.returns-clause-with_it
 returns-clause-with_it c =
