@@ -80,6 +80,17 @@ going_first tells left faults name leg old o = record {
   wrote = λ t ssrc octets s. record { gave = []; stands = s; out = sym (append-nil old) };
 }
 
+-- so it is behind a step that is not the last
+pub going_on : {S : Type 0} (tells : Type 0) (left : S → List ℕ) (faults : S → ℕ) (name : S → List ℕ) (before : Leg S) (old : List ℕ) (leg next : Leg S) (out new : List ℕ) → Going tells left faults name before old leg out
+    → is_over next ≡ false → faults (source_of leg) ≤ faults (source_of next) → name (source_of next) ≡ name (source_of leg)
+    → (tells → (ssrc : ℕ) (octets : List ℕ) → Wrote left leg ssrc octets old out → Wrote left next ssrc octets old new) → Going tells left faults name before old next new
+going_on tells left faults name before old leg next out new g open_still never_falls same_name wrote = record {
+  not_over = open_still;
+  never_falls = omega (arith, never_falls, g.never_falls);
+  same_name = same_name ∙ g.same_name;
+  wrote = λ t ssrc octets s. wrote t ssrc octets (g.wrote t ssrc octets s);
+}
+
 -- how much may still come: each text makes the frames longer, which a number counts, and else a record is read
 abbrev pub left_to_do : {S : Type 0} → Leg S → List ℕ → ℕ
 left_to_do leg out = (18446744073709551616 - length out) * 4194307 + unread leg
