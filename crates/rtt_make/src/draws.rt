@@ -1,5 +1,5 @@
 //! Numbers drawn one after another.
-ghost use Rattle.std.specs.Prelude.{◌≡◌, ◌<◌};
+ghost use Rattle.std.specs.Prelude.{◌≡◌, ℕ, ◌<◌};
 ghost use Rattle.command_spec.specs.Draws.{draw, next};
 
 use std::marker::Model;
@@ -21,8 +21,6 @@ pub(crate) struct Draws {
 }
 
 impl Model for Draws {
-    ghost use Rattle.std.specs.Prelude.{ℕ};
-
     ghost Value = { ℕ };
 
     ghost view = { λ d. d.state };
