@@ -1,6 +1,6 @@
 -- Lists that are gone through from the front.
 use Rattle.std.proofs.Common.{◌≡◌, ℕ, zero, suc, ◌+◌, Some, List, [], ◌∷◌, drop, subst, arith}
-use Rattle.std.specs.Prelude.{slice_get, Result, Ok, Err, IfOk, IfErr}
+use Rattle.std.specs.Prelude.{slice_get}
 
 -- what comes next has the next number
 pub next_of : {X : Type 0} (xs rest : List X) (k : ℕ) (x : X) → drop k xs ≡ x ∷ rest → slice_get xs k ≡ Some x
@@ -26,17 +26,3 @@ in_rest (y ∷ xs) (suc k) j x e = let more : suc (k + j) ≡ suc k + j = omega 
 -- what makes the same of everything is the same
 pub same_function : {A B : Type 0} (f g : A → B) → ((x : A) → f x ≡ g x) → f ≡ g
 same_function f g same = λ i x. same x i
-
--- ---- answers
--- what holds of an answer, and what follows of it
-pub of_ok : {X E : Type 0} (P Q : X → Type 0) (r : Result X E) → ((x : X) → P x → Q x) → IfOk r P → IfOk r Q
-of_ok P Q (Ok x) f p = f x p
-of_ok P Q (Err e) f p = tt
-
-pub of_err : {X E : Type 0} (P Q : E → Type 0) (r : Result X E) → ((e : E) → P e → Q e) → IfErr r P → IfErr r Q
-of_err P Q (Ok x) f p = tt
-of_err P Q (Err e) f p = f e p
-
-pub both_ok : {X E : Type 0} (P Q : X → Type 0) (r : Result X E) → IfOk r P → IfOk r Q → IfOk r (λ x. P x × Q x)
-both_ok P Q (Ok x) p q = (p, q)
-both_ok P Q (Err e) p q = tt

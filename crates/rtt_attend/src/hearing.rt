@@ -9,7 +9,7 @@ ghost use Rattle.conference.specs.Conferences.{conf_of};
 ghost use Rattle.bridge_run.specs.Mixes.{IsFirstIn, StopsIn};
 ghost use Rattle.rtt_attend.specs.Heard.{Hears};
 ghost use Rattle.rtt_attend.specs.Opened.{AreInputs, FailedIn, HeardIn, UnheardIn};
-ghost use Rattle.rtt_attend.specs.Named.{AreTold, IsNamed, IsNamedSome, NoneFailedWith};
+ghost use Rattle.rtt_attend.specs.Named.{IsNamed, IsNamedSome, NoneFailedWith};
 
 use crate::inputs::{Heard, hear_input};
 use crate::opening::{close_inputs, open_inputs};
@@ -102,35 +102,6 @@ fn hear_inputs<W: World>(
     Ok(all)
 }
 
-/// What the inputs of all legs tell of them.
-fn hear_all<W: World>(alloc: Global, conf: &Conf, world: &mut W) -> Result<Vec<Said>, MixFault>
-    ensures told { W.tells → IfOk result (λ all. AreTold (W.contents world.old) (conf_of conf.now) all.items) }
-    ensures count { IfOk result (λ all. length all.items ≡ length conf.now.legs) }
-    ensures stops { IfErr result (StopsIn W.tells W.contents W.own_faults W.object_faults
-        world.old world.new (conf_of conf.now)) }
-    ensures in_time { IfErr result (λ fault. fault ≢ MixFault.TooLong) }
-    ensures none_failed { IfErr result (NoneFailedWith W.tells W.object_faults
-        world.old world.new (conf_of conf.now)) }
-    ensures first { IfErr result (IsFirstIn W.tells W.contents W.own_faults
-        world.old world.new conf.now.legs) }
-    ensures calm { OnOk result (Same W.object_faults world.old world.new) }
-    ensures opened { OnOk result (Same W.own_faults world.old world.new) }
-    ensures same_contents { W.tells → Same W.contents world.old world.new }
-    ensures calls_never_fall { NoneFalls W.own_faults world.old world.new }
-    ensures objects_never_fall { NoneFalls W.object_faults world.old world.new }
-{
-    let lines = conf.legs.as_slice();
-    let Ok(all) = Vec::with_capacity(alloc, lines.len()) else {
-        return Err(MixFault::NoMemory);
-    };
-    let sources = match open_inputs(alloc, lines, world) {
-        Ok(sources) => sources,
-        Err(fault) => return Err(fault),
-    };
-    let limit = input_limit(conf);
-    hear_inputs(lines, limit, sources, world, all)
-}
-
 /// The conference with the names and the leavings that the RTCP records of its inputs tell. All inputs are opened in leg
 /// order before one is read, and each is handed back. A fault means what it means of a mixing of the same conference, and the
 /// conference is as before then.
@@ -151,11 +122,20 @@ pub fn hear_names<W: World>(alloc: Global, conf: &mut Conf, world: &mut W) -> Re
     ensures calls_never_fall { NoneFalls W.own_faults world.old world.new }
     ensures objects_never_fall { NoneFalls W.object_faults world.old world.new }
 {
-    let said = match hear_all(alloc, conf, world) {
+    let limit = input_limit(conf);
+    let wait = conf.wait;
+    let lines = conf.legs.as_slice();
+    let Ok(all) = Vec::with_capacity(alloc, lines.len()) else {
+        return Err(MixFault::NoMemory);
+    };
+    let sources = match open_inputs(alloc, lines, world) {
+        Ok(sources) => sources,
+        Err(fault) => return Err(fault),
+    };
+    let said = match hear_inputs(lines, limit, sources, world, all) {
         Ok(said) => said,
         Err(fault) => return Err(fault),
     };
-    let wait = conf.wait;
     tell_legs(&mut conf.legs, wait, said.as_slice());
     Ok(())
 }
