@@ -3,6 +3,7 @@ use Rattle.std.proofs.Common.{◌≡◌, ℕ, zero, suc, ◌<◌, Bool, true, fa
 use Rattle.std.specs.Prelude.{IfErr, IfOk, IsSome, OnOk, slice_get, unwrap_or}
 use Rattle.std.proofs.lemmas.List.{length-map}
 use Rattle.rtt_io.specs.Counts.{Rose}
+use Rattle.rtpdump_io.specs.declared.items.DumpFault.{DumpFault}
 use Rattle.rtpdump_io.specs.Reading.{is_of_source}
 use Rattle.file_spec.specs.declared.conf_lines.LegLine.{LegLine}
 use Rattle.file_spec.specs.Conf.{Conf}
@@ -21,14 +22,10 @@ use Rattle.bridge_run.specs.declared.mixed.Mixed.{Mixed}
 use Rattle.bridge_run.specs.Answered.{AreKept, IsOfLegs, MixesAsked, MixesTo, NoReadFailed, WasReadWell, asked_of}
 use Rattle.command_spec.specs.Inputs.{AllLie, inputs_under, octets_under}
 use Rattle.bridge_run.specs.Mixes.{IsFirst, IsMade, NoneFailed, RoseAt, Stops}
+use Rattle.bridge_run.proofs.Opening.{is_there}
 use Rattle.bridge_run.specs.Opened.{AllOpened, AllOver, AreCalm, EachSource, IsNotOpened, LeavesCount, ear_of}
 
 -- ---- lists
-found : {X : Type 0} (xs : List X) (k : ℕ) → k < length xs → (x : X) × (slice_get xs k ≡ Some x)
-found [] k l = absurd (omega arith)
-found (x ∷ xs) zero l = (x, refl)
-found (x ∷ xs) (suc k) l = found xs k (omega arith)
-
 pub input_is : (held : Contents) (legs : List LegLine) (j : ℕ) (leg : LegLine) (octets : List ℕ) → leg_at legs j ≡ Some leg → held leg.input ≡ Some octets
     → octets ≡ input_at (inputs_under held legs) j
 input_is held [] j leg octets at is = absurd (cc at)
@@ -39,6 +36,25 @@ input_is held (l ∷ legs) (suc j) leg octets at is = input_is held legs j leg o
 some_of : (o : Option (List ℕ)) (octets : List ℕ) → o ≡ Some octets → IsSome o
 some_of None octets e = absurd (cc e)
 some_of (Some x) octets e = refl
+
+-- ---- legs as they came back
+-- the leg before of one that came back
+pub leg_before : {S : Type 0} (before after : List (LegInlet S)) → length after ≡ length before → (j : ℕ) (q : LegInlet S) → slice_get after j ≡ Some q → (p : LegInlet S) × (slice_get before j ≡ Some p)
+leg_before before after same j q at = let low = get_within after j q at in is_there before j (omega (arith, low, same))
+
+-- no reading failed, where by this result none did
+pub all_calm : {S : Type 0} (faults : S → ℕ) (name : S → List ℕ) (before after : List (LegInlet S)) (result : Result Mixed MixFault) → length after ≡ length before
+    → AreKept faults name result before after → AreCalm faults before → ((j : ℕ) → WasReadWell result j) → AreCalm faults after
+all_calm faults name before after result same kept fresh well = λ j q at. (let p = leg_before before after same j q at in (kept j p.0 q p.1 at).calm (well j) ∙ fresh j p.0 p.1)
+
+-- By what a mixing comes to, once all inputs were opened: all were read well, or memory ran out, or a recording has a fault.
+pub by_reading : (n : ℕ) (P : Result Mixed MixFault → Type 0) (Well : Type 0) (result : Result Mixed MixFault) → IsOfLegs n result → (((j : ℕ) → WasReadWell result j) → Well)
+    → ((mixed : Mixed) → Well → P (Ok mixed)) → (Well → P (Err TooLong)) → P (Err NoMemory) → ((leg : ℕ) (fault : DumpFault) → result ≡ Err (Dump leg fault) → P (Err (Dump leg fault))) → P result
+by_reading n P Well (Ok mixed) of well made long none dump = made mixed (well (λ j. tt))
+by_reading n P Well (Err (Open leg)) of well made long none dump = absurd of
+by_reading n P Well (Err (Dump leg fault)) of well made long none dump = dump leg fault refl
+by_reading n P Well (Err TooLong) of well made long none dump = long (well (λ j. tt))
+by_reading n P Well (Err NoMemory) of well made long none dump = none
 
 -- ---- legs over inputs
 module _ {S : Type 0} (Told : Type 0) (left : S → List ℕ) (c : Conf) (inputs : List (List ℕ)) (inlets : List (LegInlet S))
@@ -91,7 +107,7 @@ module _ {S : Type 0} (Told : Type 0) (left : S → List ℕ) (faults : S → �
 
   all_lie : Told → AllLie held c.legs
   all_lie told = λ k leg less at.
-      let p = found inlets k (omega (arith, less, many)) in
+      let p = is_there inlets k (omega (arith, less, many)) in
       let o = opened k p.0 p.1 in
       let same : o.0 ≡ leg = let a = o.1 in cc (a, at) in
       let t = o.2.told told in
@@ -122,8 +138,8 @@ module _ {S : Type 0} (Told : Type 0) (left : S → List ℕ) (faults : S → �
           go (Err TooLong) m kept of = λ told. (all_lie told, m told)
           go (Err NoMemory) m kept of = tt
           go (Err (Dump leg fault)) m kept of =
-              let p = found inlets leg (omega (arith, of, many)) in
-              let q = found after leg (omega (arith, of, many, same)) in
+              let p = is_there inlets leg (omega (arith, of, many)) in
+              let q = is_there after leg (omega (arith, of, many, same)) in
               let o = opened leg p.0 p.1 in
               let kept_here = kept leg p.0 q.0 p.1 q.1 in
               let named : name (source_in q.0) ≡ o.0.input = kept_here.same_name ∙ o.2.named in (
@@ -142,32 +158,21 @@ module _ {S : Type 0} (Told : Type 0) (left : S → List ℕ) (faults : S → �
       pub none_failed : (contents_then : Contents) → AreKept faults name result inlets after → IsOfLegs (length c.legs) result → (Told → (n : List ℕ) → contents_then n ≡ held n)
           → (AreCalm faults after → (n : List ℕ) → objects_then n ≡ objects n) → (Told → (n : List ℕ) → EachSource (LeavesCount faults name contents_then n) after → objects_then n ≡ objects n)
           → NoneFailed Told c.legs objects objects_then result
-      none_failed contents_then kept of lie calm left = go result kept of
-        where
-          -- the leg before of one that came back
-          leg_of : (j : ℕ) (q : LegInlet S) → slice_get after j ≡ Some q → (p : LegInlet S) × (slice_get inlets j ≡ Some p)
-          leg_of j q at = let low = get_within after j q at in found inlets j (omega (arith, low, same))
-
-          all_calm : (r : Result Mixed MixFault) → AreKept faults name r inlets after → ((j : ℕ) → WasReadWell r j) → AreCalm faults after
-          all_calm r kept well = λ j q at. (let p = leg_of j q at in (kept j p.0 q p.1 at).calm (well j) ∙ (opened j p.0 p.1).2.fresh)
-
-          go : (r : Result Mixed MixFault) → AreKept faults name r inlets after → IsOfLegs (length c.legs) r → NoneFailed Told c.legs objects objects_then r
-          go (Ok mixed) kept of = calm (all_calm (Ok mixed) kept (λ j. tt))
-          go (Err (Open leg)) kept of = absurd of
-          go (Err TooLong) kept of = calm (all_calm (Err TooLong) kept (λ j. tt))
-          go (Err NoMemory) kept of = tt
-          go (Err (Dump leg fault)) kept of = λ told n none. left told n (λ j q at.
-              let p = leg_of j q at in
-              let o = opened j p.0 p.1 in
-              let kept_here = kept j p.0 q p.1 at in
-              let named : name (source_in q) ≡ o.0.input = kept_here.same_name ∙ o.2.named in
-              elim (lt_or_ge j (read_well leg fault)) [
-                | inl low ↦ inl (kept_here.calm low ∙ o.2.fresh)
-                | inr high ↦ inr (
-                  λ e. none j o.0 high o.1 (sym (e ∙ named)),
-                  subst (λ (x : Option (List ℕ)). IsSome x) (sym (lie told (name (source_in q)) ∙ ap held named)) (let low = get_within inlets j p.0 p.1 in all_lie told j o.0 (omega (arith, low, many)) o.1),
-                )
-              ])
+      none_failed contents_then kept of lie calm left =
+          by_reading (length c.legs) (λ (r : Result Mixed MixFault). NoneFailed Told c.legs objects objects_then r) ((n : List ℕ) → objects_then n ≡ objects n) result of
+          (λ well. calm (all_calm faults name inlets after result same kept (λ j p at. (opened j p at).2.fresh) well)) (λ mixed same_counts. same_counts) (λ same_counts. same_counts) tt
+          (λ leg fault is told n none. left told n (λ j q at.
+          let p = leg_before inlets after same j q at in
+          let o = opened j p.0 p.1 in
+          let kept_here = kept j p.0 q p.1 at in
+          let named : name (source_in q) ≡ o.0.input = kept_here.same_name ∙ o.2.named in
+          elim (lt_or_ge j (read_well leg fault)) [
+            | inl low ↦ inl (kept_here.calm (subst (λ (r : Result Mixed MixFault). WasReadWell r j) (sym is) low) ∙ o.2.fresh)
+            | inr high ↦ inr (
+              λ e. none j o.0 high o.1 (sym (e ∙ named)),
+              subst (λ (x : Option (List ℕ)). IsSome x) (sym (lie told (name (source_in q)) ∙ ap held named)) (let low = get_within inlets j p.0 p.1 in all_lie told j o.0 (omega (arith, low, many)) o.1),
+            )
+          ]))
 
 -- nothing was read, since not all inputs were opened
 pub none_failed_yet : (Told : Type 0) (contents : List ℕ → Option (List ℕ)) (before after objects objects_then : List ℕ → ℕ) (legs legs' : List LegLine) (fault : MixFault) → IsNotOpened Told contents before after legs fault
@@ -203,6 +208,6 @@ pub never_read : {S : Type 0} (faults : S → ℕ) (name : S → List ℕ) (n : 
     → AreKept faults name result old new → IsOfLegs n result → NoReadFailed result
 never_read faults name n result old new calm many same kept of leg fault e =
     let within : leg < n = subst (IsOfLegs n) e of in
-    let p = found old leg (omega (arith, within, many)) in
-    let q = found new leg (omega (arith, within, many, same)) in
+    let p = is_there old leg (omega (arith, within, many)) in
+    let q = is_there new leg (omega (arith, within, many, same)) in
     no_fault (is_of_source fault.kind) (λ source. never_rose (faults (source_in p.0)) (faults (source_in q.0)) (calm (source_in p.0)) (calm (source_in q.0)) ((kept leg p.0 q.0 p.1 q.1).read fault e source))
