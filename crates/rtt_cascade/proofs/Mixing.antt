@@ -1,6 +1,6 @@
 -- A conference is mixed over splits and the inputs that were opened.
 use Rattle.std.proofs.Common.{◌≡◌, ℕ, zero, suc, ◌+◌, ◌<◌, ◌⊎◌, Bool, true, false, cond, Option, Some, List, [], ◌∷◌, length, Result, Ok, Err, refl, ap, sym, subst, ◌∙◌, inl, inr, arith}
-use Rattle.std.specs.Prelude.{IsSome, slice_get}
+use Rattle.std.specs.Prelude.{IsSome}
 use Rattle.rtt_io.specs.Counts.{Rose}
 use Rattle.rtpdump_io.specs.declared.items.DumpFault.{DumpFault}
 use Rattle.rtpdump_io.specs.Reading.{is_of_source}
@@ -12,7 +12,7 @@ use Rattle.command_spec.specs.Work.{Contents}
 use Rattle.command_spec.specs.Mixing.{input_at}
 use Rattle.command_spec.specs.Cascading.{is_on_trunk}
 use Rattle.leg_core.specs.Gives.{Stands, LegPast}
-use Rattle.mix_loop.proofs.Lists.{get_within, lt_or_ge}
+use Rattle.mix_loop.proofs.Lists.{lt_or_ge}
 use Rattle.leg_items.specs.declared.inlets.LegInlet.{LegInlet}
 use Rattle.leg_items.specs.Answers.{AllAsked, AllNew, read_well, source_in}
 use Rattle.mixer_posts.specs.Streams.{pts_of}
@@ -23,6 +23,7 @@ use Rattle.bridge_run.specs.declared.mixed.MixFault.{MixFault}
 use Rattle.bridge_run.specs.declared.mixed.MixFault.TheVariants.{Open, Dump, TooLong, NoMemory}
 use Rattle.bridge_run.specs.declared.mixed.Mixed.{Mixed}
 use Rattle.bridge_run.specs.Answered.{AreKept, IsOfLegs, MixesAsked, MixesTo, WasReadWell, asked_of}
+use Rattle.bridge_run.proofs.Handing.{all_calm, by_reading, leg_before}
 use Rattle.bridge_run.proofs.Opening.{is_there}
 use Rattle.rtt_cascade.specs.Texts.{AllOwnLie, text_of, texts_of}
 use Rattle.rtt_cascade.specs.Feeding.{AllFed, AreCalm, EachSource, IsNotOpened, LeavesCount, RisesFor, source_name}
@@ -141,37 +142,26 @@ module _ {S : Type 0} (Told Tells : Type 0) (left : S → List ℕ) (faults : S 
 
       pub counts_kept : (held_then : Contents) → (Told → (n : List ℕ) → held_then n ≡ held n) → (AreCalm (faults_in faults) after → (n : List ℕ) → objects_then n ≡ objects n)
           → (Told → (n : List ℕ) → EachSource (LeavesCount (faults_in faults) (name_in name) held_then n) after → objects_then n ≡ objects n) → CountsKept Told c.legs objects objects_then result
-      counts_kept held_then lie calm leaves = go result of kept
-        where
-          -- the leg before of one that came back
-          leg_of : (j : ℕ) (q : LegInlet (TrunkSource S)) → slice_get after j ≡ Some q → (p : LegInlet (TrunkSource S)) × (slice_get inlets j ≡ Some p)
-          leg_of j q at = let low = get_within after j q at in is_there inlets j (omega (arith, low, same))
-
-          all_calm : (r : Result Mixed MixFault) → AreKept (faults_in faults) (name_in name) r inlets after → ((j : ℕ) → WasReadWell r j) → AreCalm (faults_in faults) after
-          all_calm r kept well = λ j q at. (let p = leg_of j q at in (kept j p.0 q p.1 at).calm (well j) ∙ (fed j p.0 p.1).2.source.fresh)
-
-          go : (r : Result Mixed MixFault) → IsOfLegs (length c.legs) r → AreKept (faults_in faults) (name_in name) r inlets after → CountsKept Told c.legs objects objects_then r
-          go (Ok mixed) of kept = calm (all_calm (Ok mixed) kept (λ j. tt))
-          go (Err (Open leg)) of kept = absurd of
-          go (Err TooLong) of kept = calm (all_calm (Err TooLong) kept (λ j. tt))
-          go (Err NoMemory) of kept = tt
-          go (Err (Dump leg fault)) of kept = λ told n none. leaves told n (λ j q at.
-              let p = leg_of j q at in
-              let o = fed j p.0 p.1 in
-              let here = kept j p.0 q p.1 at in
-              let named : name_in name (source_in q) ≡ source_name o.0 = here.same_name ∙ o.2.source.named in
-              elim (lt_or_ge j leg) [
-                | inl low ↦ inl (here.calm (below_well j leg fault low) ∙ o.2.source.fresh)
-                | inr high ↦ elim (decide (is_on_trunk o.0)) [
-                  | inl on ↦ inl (split_calm faults name (source_in q) (named ∙ ap (λ b. cond b [] (below o.0.input)) on))
-                  | inr off ↦ inr (
-                    o.0.input,
-                    named ∙ ap (λ b. cond b [] (below o.0.input)) off,
-                    (λ e. none j o.0 high o.1 off (sym e)),
-                    subst (λ (x : Option (List ℕ)). IsSome x) (sym (lie told o.0.input)) (o.2.source.lies told off),
-                  )
-                ]
-              ])
+      counts_kept held_then lie calm leaves =
+          by_reading (length c.legs) (λ (r : Result Mixed MixFault). CountsKept Told c.legs objects objects_then r) ((n : List ℕ) → objects_then n ≡ objects n) result of
+          (λ well. calm (all_calm (faults_in faults) (name_in name) inlets after result same kept (λ j p at. (fed j p at).2.source.fresh) well)) (λ mixed same_counts. same_counts) (λ same_counts. same_counts) tt
+          (λ leg fault is told n none. leaves told n (λ j q at.
+          let p = leg_before inlets after same j q at in
+          let o = fed j p.0 p.1 in
+          let here = kept j p.0 q p.1 at in
+          let named : name_in name (source_in q) ≡ source_name o.0 = here.same_name ∙ o.2.source.named in
+          elim (lt_or_ge j leg) [
+            | inl low ↦ inl (here.calm (subst (λ (r : Result Mixed MixFault). WasReadWell r j) (sym is) (below_well j leg fault low)) ∙ o.2.source.fresh)
+            | inr high ↦ elim (decide (is_on_trunk o.0)) [
+              | inl on ↦ inl (split_calm faults name (source_in q) (named ∙ ap (λ b. cond b [] (below o.0.input)) on))
+              | inr off ↦ inr (
+                o.0.input,
+                named ∙ ap (λ b. cond b [] (below o.0.input)) off,
+                (λ e. none j o.0 high o.1 off (sym e)),
+                subst (λ (x : Option (List ℕ)). IsSome x) (sym (lie told o.0.input)) (o.2.source.lies told off),
+              )
+            ]
+          ]))
 
 -- not all legs were opened
 pub fed_none : (Told : Type 0) (held : Contents) (own own_then : List ℕ → ℕ) (recordings : List (List ℕ)) (c : Conf) (fault : MixFault) → IsNotOpened Told held own own_then c.legs fault

@@ -115,10 +115,10 @@ module _ {W : Type 0} where
   abbrev pub IsFirstIn : Type 0 → (W → Contents) → (W → List ℕ → ℕ) → W → W → List ℕ → List LegLine → CascadeFault → Type 0
   IsFirstIn Told contents own old new file legs fault = IsFirst Told (contents old) file legs (own old) (own new) fault
 
-  -- why the recording was not split
-  abbrev pub IsUnsplitIn : Type 0 → (W → Contents) → (W → List ℕ → ℕ) → (W → List ℕ → ℕ) → W → W → List ℕ → Conf → CascadeFault → Type 0
-  IsUnsplitIn Told contents own objects old new file c =
-      IsUnsplit Told (RoseAt (own old) (own new) file) (RoseAt (objects old) (objects new) file) (contents old) file c
+  -- Why the recording was not split. No call for another input failed.
+  pub record IsUnsplitIn (Told : Type 0) (contents : W → Contents) (own objects : W → List ℕ → ℕ) (old new : W) (file : List ℕ) (c : Conf) (fault : CascadeFault) : Type 0 where
+    pub cause : IsUnsplit Told (RoseAt (own old) (own new) file) (RoseAt (objects old) (objects new) file) (contents old) file c fault
+    pub first : IsFirstIn Told contents own old new file c.legs fault
 
   abbrev pub OthersKeptIn : Type 0 → (W → List ℕ → ℕ) → W → W → List ℕ → Result Splits CascadeFault → Type 0
   OthersKeptIn Told objects old new file result = OthersKept Told file (objects old) (objects new) result

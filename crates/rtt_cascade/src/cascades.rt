@@ -1,5 +1,5 @@
 //! A conference behind another mixer is mixed.
-ghost use Rattle.std.specs.Prelude.{◌≡◌, ◌≤◌, ℕ, length, map, IfOk, IfErr, OnOk};
+ghost use Rattle.std.specs.Prelude.{◌≡◌, ◌≤◌, ℕ, length, IfOk, IfErr, OnOk};
 ghost use Rattle.rtt_io.specs.Names.{NoneFalls, Same};
 ghost use Rattle.conference.specs.Conferences.{conf_of};
 ghost use Rattle.command_spec.specs.Cascading.{trunk_limit, trunk_of};
@@ -18,9 +18,10 @@ use command_spec::limits::{MOST_TRUNK_OCTETS, MOST_TRUNK_OF_MANY};
 use conference::Conf;
 use file_spec::LegLine;
 use file_spec::limits::{USUAL_RED, USUAL_T140};
+use mixer_posts::ssrcs_of;
 use mixer_spec::limits::PLACES;
 use rtpdump_io::RecordingFault;
-use rtt_base::{NoMemory, Pts};
+use rtt_base::Pts;
 use rtt_io::{Gate, World};
 use std::alloc::Global;
 use std::sync::Wait;
@@ -51,17 +52,6 @@ fn trunk_conf(conf: &Conf) -> TrunkConf
     }
 }
 
-/// The SSRCs of these legs, in their order.
-fn ssrcs_of(alloc: Global, legs: &[LegLine]) -> Result<Vec<u32>, NoMemory>
-    ensures { IfOk result (λ ssrcs. ssrcs.items ≡ map (λ leg. leg.ssrc) legs.now) }
-{
-    let mut ssrcs = Vec::with_capacity(alloc, legs.len())?;
-    for leg in legs {
-        ssrcs.push(leg.ssrc)?;
-    }
-    Ok(ssrcs)
-}
-
 /// Why the recording is not split, where it has this fault.
 fn trunk_fault(fault: RecordingFault) -> CascadeFault
     ensures { result ≡ trunk_fault fault }
@@ -87,8 +77,6 @@ fn split_recording<W: World>(
     ensures unsplit { IfErr result (IsUnsplitIn W.tells W.contents W.own_faults W.object_faults
         world.old world.new file.now (conf_of conf.now)) }
     ensures kept { OthersKeptIn W.tells W.object_faults world.old world.new file.now result }
-    ensures first { IfErr result (IsFirstIn W.tells W.contents W.own_faults
-        world.old world.new file.now conf.now.legs) }
     ensures opened { OnOk result (Same W.own_faults world.old world.new) }
     ensures same_contents { W.tells → Same W.contents world.old world.new }
     ensures calls_never_fall { NoneFalls W.own_faults world.old world.new }

@@ -13,7 +13,7 @@ returns-in-Err-clause-stops g c =
     let own = g.W.World.own_faults in
     let objects = g.W.World.object_faults in
     unsplit_stops g.W.World.tells (λ n. Rose (own c.args.world.now n) (own c.split_recording.new.world n)) (λ n. Rose (objects c.args.world.now n) (objects c.split_recording.new.world n))
-    (g.W.World.contents c.args.world.now) c.args.file.now c.args.ssrc (conf_of c.args.conf.now) c.in-Err.fault c.in-Err.ensures.unsplit
+    (g.W.World.contents c.args.world.now) c.args.file.now c.args.ssrc (conf_of c.args.conf.now) c.in-Err.fault c.in-Err.ensures.unsplit.cause
 
 pub returns-in-Err-clause-none_failed : goal.returns-in-Err-clause-none_failed
 returns-in-Err-clause-none_failed g c =
@@ -21,7 +21,10 @@ returns-in-Err-clause-none_failed g c =
     let objects = g.W.World.object_faults in
     unsplit_kept g.W.World.tells (g.W.World.contents c.args.world.now) c.args.file.now c.args.ssrc (conf_of c.args.conf.now) (objects c.args.world.now) (objects c.split_recording.new.world) c.in-Err.fault
     (Rose (own c.args.world.now c.args.file.now) (own c.split_recording.new.world c.args.file.now)) (Rose (objects c.args.world.now c.args.file.now) (objects c.split_recording.new.world c.args.file.now))
-    c.in-Err.ensures.unsplit c.in-Err.ensures.kept
+    c.in-Err.ensures.unsplit.cause c.in-Err.ensures.kept
+
+pub returns-in-Err-clause-first : goal.returns-in-Err-clause-first
+returns-in-Err-clause-first g c = c.in-Err.ensures.unsplit.first
 
 pub returns-in-Ok-mix_fed-clause-made : goal.returns-in-Ok-mix_fed-clause-made
 returns-in-Ok-mix_fed-clause-made g c = λ told.

@@ -63,20 +63,19 @@ returns-clause-unsplit g c =
     let held = g.W.World.contents c.args.world.now in
     let failed : IsSourceFault c.in-Err.fault → Rose (faults c.in-Ok-open_source.source) (faults c.split-source.result.0) =
     subst (λ (r : Result Splits RecordingFault). IfErr r (λ f. IsSourceFault f → Rose (faults c.in-Ok-open_source.source) (faults c.split-source.result.0))) c.in-Err.is c.split-source.ensures.failed in
-    subst (λ (f : CascadeFault). IsUnsplit g.W.World.tells Call Object held file (conf_of c.args.conf.now) f) (sym c.trunk_fault.ensures)
-    (unsplit g.W.World.tells Call Object held file c.args.ssrc (conf_of c.args.conf.now) octets (splitting.trunk_of c.args.ssrc c.trunk_conf.result) c.in-Err.fault
-    (c.trunk_conf.ensures c.args.ssrc) c.in-Ok-open_source.ensures.holds
-    (λ of. risen (objects c.args.world.now) (objects c.open_source.new.self) (objects c.done_src.new.self) file (name c.split-source.result.0) (faults c.in-Ok-open_source.source) (faults c.split-source.result.0)
-    c.in-Ok-open_source.ensures.same_objects (c.split-source.ensures.same_name ∙ c.in-Ok-open_source.ensures.named) c.in-Ok-open_source.ensures.fresh c.done_src.ensures.added (failed of))
-    (λ told. subst (λ (r : Result Splits RecordingFault). IfErr r (FaultOf (dump c.trunk_conf.result.limit octets))) c.in-Err.is (c.split-source.ensures.fault (c.in-Ok-open_source.ensures.told told))))
+    record {
+      cause =
+          subst (λ (f : CascadeFault). IsUnsplit g.W.World.tells Call Object held file (conf_of c.args.conf.now) f) (sym c.trunk_fault.ensures)
+          (unsplit g.W.World.tells Call Object held file c.args.ssrc (conf_of c.args.conf.now) octets (splitting.trunk_of c.args.ssrc c.trunk_conf.result) c.in-Err.fault
+          (c.trunk_conf.ensures c.args.ssrc) c.in-Ok-open_source.ensures.holds
+          (λ of. risen (objects c.args.world.now) (objects c.open_source.new.self) (objects c.done_src.new.self) file (name c.split-source.result.0) (faults c.in-Ok-open_source.source) (faults c.split-source.result.0)
+          c.in-Ok-open_source.ensures.same_objects (c.split-source.ensures.same_name ∙ c.in-Ok-open_source.ensures.named) c.in-Ok-open_source.ensures.fresh c.done_src.ensures.added (failed of))
+          (λ told. subst (λ (r : Result Splits RecordingFault). IfErr r (FaultOf (dump c.trunk_conf.result.limit octets))) c.in-Err.is (c.split-source.ensures.fault (c.in-Ok-open_source.ensures.told told))));
+      first =
+          subst (λ (f : CascadeFault). IsFirst g.W.World.tells held file c.args.conf.now.legs (own c.args.world.now) (own c.done_src.new.self) f) (sym c.trunk_fault.ensures)
+          (unsplit_first g.W.World.tells held file c.args.conf.now.legs (own c.args.world.now) (own c.done_src.new.self) c.in-Err.fault
+          (λ n. c.done_src.ensures.same_own n ∙ c.in-Ok-open_source.ensures.calm n));
+    }
 
 pub returns-in-Ok-splits-clause-opened : goal.returns-in-Ok-splits-clause-opened
 returns-in-Ok-splits-clause-opened g c = λ n. c.done_src.ensures.same_own n ∙ c.in-Ok-open_source.ensures.calm n
-
-pub returns-clause-first : goal.returns-clause-first
-returns-clause-first g c =
-    let own = g.W.World.own_faults in
-    let held = g.W.World.contents c.args.world.now in
-    subst (λ (f : CascadeFault). IsFirst g.W.World.tells held c.args.file.now c.args.conf.now.legs (own c.args.world.now) (own c.done_src.new.self) f) (sym c.trunk_fault.ensures)
-    (unsplit_first g.W.World.tells held c.args.file.now c.args.conf.now.legs (own c.args.world.now) (own c.done_src.new.self) c.in-Err.fault
-    (λ n. c.done_src.ensures.same_own n ∙ c.in-Ok-open_source.ensures.calm n))

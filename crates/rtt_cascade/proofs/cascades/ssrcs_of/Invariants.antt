@@ -1,6 +1,0 @@
-use Rattle.std.proofs.Common.{◌≡◌, take}
-use Rattle.std.specs.Prelude.{map}
-use Rattle.rtt_cascade.proofs.cascades.ssrcs_of.Given as goal
-
-abbrev pub invariant-loop-leg : goal.invariant-loop-leg
-invariant-loop-leg l = l.ssrcs.items ≡ map (λ x. x.ssrc) (take l.leg-index l.legs)
