@@ -5,12 +5,9 @@ ghost use Rattle.rtt_make.specs.Mades.{made_of, IsGenerated};
 
 use crate::Made;
 use crate::legs::leg_ssrc;
-use command_spec::limits::USUAL_INTERVAL;
-use file_spec::limits::{USUAL_GENS, USUAL_RED, USUAL_T140};
-use rtt_base::{Bytes, NoMemory, Pts};
-use rtt_send::{SendFault, send_script};
+use rtt_base::{Bytes, NoMemory};
+use rtt_send::{SendFault, send_script, usual_conf};
 use std::alloc::Global;
-use text_sender::SendConf;
 
 /// The recording of what a leg sends of its script.
 fn recording_of(alloc: Global, made: &Made, leg: usize) -> Result<Bytes, NoMemory>
@@ -18,17 +15,7 @@ fn recording_of(alloc: Global, made: &Made, leg: usize) -> Result<Bytes, NoMemor
     requires within { leg < length made.now.scripts }
     ensures { IfOk result (λ octets. octets ≡ recording_at (made_of made.now) leg) }
 {
-    let conf = SendConf {
-        ssrc: leg_ssrc(leg as u32),
-        seq: made.seqs.as_slice()[leg],
-        stamp: 0,
-        pts: Pts {
-            t140: USUAL_T140,
-            red: USUAL_RED,
-        },
-        interval: USUAL_INTERVAL,
-        gens: USUAL_GENS,
-    };
+    let conf = usual_conf(leg_ssrc(leg as u32), made.seqs.as_slice()[leg], 0);
     match send_script(alloc, &made.scripts.as_slice()[leg], conf) {
         Ok(octets) => Ok(octets),
         Err(SendFault::Full { line: _ }) => unreachable!(),

@@ -12,7 +12,7 @@ use frame_spec::limits::FRAME_HEAD_OCTETS;
 use frame_spec::{FrameFault, FrameKind};
 use reliable_leg::{Place, first_frame};
 use rtt_base::Bytes;
-use rtt_send::{SendFault, send_lines};
+use rtt_send::{SendFault, send_script};
 use script_text::{Script, ScriptLine};
 use std::alloc::Global;
 use text_sender::SendConf;
@@ -67,7 +67,7 @@ pub fn relay_frames(alloc: Global, frames: &[u8], conf: SendConf) -> Result<Byte
         Ok(script) => script,
         Err(fault) => return Err(fault),
     };
-    match send_lines(alloc, &script, conf) {
+    match send_script(alloc, &script, conf) {
         Ok(recording) => Ok(recording),
         Err(SendFault::Full { line }) => Err(refused(u64::from(line), FrameKind::Full)),
         Err(SendFault::NoMemory) => Err(RelayFault::NoMemory),

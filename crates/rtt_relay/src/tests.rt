@@ -1,15 +1,13 @@
 //! Frames and recordings with octets by hand.
-ghost use Rattle.text_sender.specs.Confs.{IsConf};
-
 use crate::{ChannelFault, RelayFault, channel_file, channel_leg, relay_frames};
 use frame_spec::{FrameFault, FrameKind};
 use rtpdump_io::DumpFault;
-use rtt_base::{Bytes, NoMemory, Pts};
+use rtt_base::{Bytes, NoMemory};
 use rtt_io::SteadySource;
+use rtt_send::usual_conf;
 use std::alloc::Global;
 use std::process::Abort;
 use std::test::Fail;
-use text_sender::SendConf;
 use wire_spec::DumpKind;
 
 // A at 0 and B at 300.
@@ -24,22 +22,9 @@ const RECORDS: [u8; 122] =
 \0\x1F\0\x17\0\0\x02\x58\x80\x64\0\x02\0\0\x02\x58\0\0\x03\xE9\xE2\x09\x60\x01\xE2\x04\xB0\x01\x62\x41\x42\
 \0\x1E\0\x16\0\0\x03\x84\x80\x64\0\x03\0\0\x03\x84\0\0\x03\xE9\xE2\x09\x60\x01\xE2\x04\xB0\0\x62\x42";
 
-fn conf() -> SendConf
-    ensures { IsConf result }
-{
-    SendConf {
-        ssrc: 1001,
-        seq: 0,
-        stamp: 0,
-        pts: Pts { t140: 98, red: 100 },
-        interval: 300,
-        gens: 2,
-    }
-}
-
 // Expects that these frames are not sent, for this fault.
 fn expect_refused(rt: &impl Abort, alloc: Global, frames: &[u8], offset: u64, kind: FrameKind) {
-    let answer = relay_frames(alloc, frames, conf());
+    let answer = relay_frames(alloc, frames, usual_conf(1001, 0, 0));
     assert!(rt; answer.err() == Some(RelayFault::Refused(FrameFault { offset, kind })));
 }
 
@@ -56,7 +41,7 @@ fn channel_of(alloc: Global, records: &[u8]) -> Result<Result<Bytes, ChannelFaul
 
 #[test]
 fn two_letters_are_relayed(rt: HostRuntime) -> Result<(), Fail> {
-    let recording = relay_frames(rt.alloc(), &LETTERS, conf())?;
+    let recording = relay_frames(rt.alloc(), &LETTERS, usual_conf(1001, 0, 0))?;
     assert!(rt; recording.as_slice().get(..44) == Some(OPENING.as_slice()));
     assert!(rt; recording.as_slice().get(44..) == Some(RECORDS.as_slice()));
     Ok(())

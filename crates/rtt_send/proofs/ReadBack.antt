@@ -1,6 +1,6 @@
 -- What a script sends is read back.
 use Rattle.std.proofs.Common.{◌≡◌, ℕ, ◌<◌, ◌≤◌, ◌^◌, true, inl, inr, Some, None, Ok, Result, List, [], ◌∷◌, ◌++◌, length, refl, ap, subst, sym, ◌∙◌, arith}
-use Rattle.std.specs.Prelude.{map, max, ◌==◌, All}
+use Rattle.std.specs.Prelude.{map, ◌==◌, All}
 use Rattle.std.specs.List.{AllByRecursion}
 use Rattle.std.proofs.lemmas.List.Elements.{recursion_from_All}
 use Rattle.std.proofs.lemmas.Bool.Decides.{nat_tests}
@@ -12,10 +12,10 @@ use Rattle.wire_spec.proofs.SentBack.{sent_back}
 use Rattle.wire_spec.proofs.Recordings.{read_back}
 use Rattle.file_spec.specs.Script.{ScriptLine}
 use Rattle.stream_spec.specs.Lists.{In}
-use Rattle.stream_spec.specs.History.{History, Entry, Placed, placed}
+use Rattle.stream_spec.specs.History.{History, Placed, placed}
 use Rattle.stream_spec.specs.Own.{Sent, Sendable, own_packet, packet_after, entry_after, sent_history}
 use Rattle.stream_spec.specs.Typed.{Event, Turned, sents, IsScript}
-use Rattle.stream_spec.proofs.Grows.{grown, placed_grown, before_grown, window_grown, packet_stays}
+use Rattle.stream_spec.proofs.Grows.{placed_grown, packet_stays}
 use Rattle.stream_spec.proofs.Sent.{the_last, last_packet, in_sent_of}
 use Rattle.stream_spec.proofs.Typing.{paced}
 use Rattle.text_sender.specs.declared.senders.SendConf.{SendConf}

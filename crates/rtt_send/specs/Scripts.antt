@@ -3,10 +3,17 @@ use Rattle.std.specs.Prelude.{◌≡◌, ℕ, ◌≤◌, false, Option, List, Al
 use Rattle.file_spec.specs.Script.{ScriptLine}
 use Rattle.stream_spec.specs.Typed.{Turned}
 use Rattle.command_spec.specs.Scripts as scripts
+use Rattle.command_spec.specs.Usual.{usual_pts}
+use Rattle.command_spec.specs.declared.limits.TheConstants.{USUAL_INTERVAL}
+use Rattle.file_spec.specs.declared.limits.TheConstants.{USUAL_GENS}
 use Rattle.command_spec.specs.Scripts.{Sending, events_through}
 use Rattle.text_sender.specs.declared.senders.SendConf.{SendConf}
 use Rattle.text_sender.specs.Confs.{stream_of}
 use Rattle.text_sender.specs.Standing.{has_more}
+
+-- the stream of this SSRC as it is usually sent, from this sequence number and this timestamp on
+abbrev pub usual_conf : ℕ → ℕ → ℕ → SendConf
+usual_conf ssrc seq stamp = record { ssrc = ssrc; seq = seq; stamp = stamp; pts = usual_pts; interval = USUAL_INTERVAL; gens = USUAL_GENS }
 
 -- what sends
 abbrev pub sending_of : SendConf → Sending

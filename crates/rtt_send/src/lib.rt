@@ -11,7 +11,7 @@ pub use laws::{
     accepted_scripts_are_lines, ends_agree, scripts_end, sent_arrives, sent_history, sent_is_heard,
     sent_is_read_back,
 };
-pub use sending::{send_lines, send_script};
+pub use sending::{send_script, usual_conf};
 
 #[cfg(test)]
 mod tests;

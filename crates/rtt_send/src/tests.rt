@@ -1,31 +1,15 @@
 //! Scripts and the recordings of what they send, with octets by hand.
-ghost use Rattle.text_sender.specs.Confs.{IsConf};
-
-use crate::{SendFault, send_script};
-use rtt_base::{Bytes, Pts};
+use crate::{SendFault, send_script, usual_conf};
+use rtt_base::Bytes;
 use script_text::read_script;
 use std::alloc::Global;
 use std::process::Abort;
 use std::test::Fail;
-use text_sender::SendConf;
-
-fn conf() -> SendConf
-    ensures { IsConf result }
-{
-    SendConf {
-        ssrc: 1001,
-        seq: 0,
-        stamp: 0,
-        pts: Pts { t140: 98, red: 100 },
-        interval: 300,
-        gens: 2,
-    }
-}
 
 /// Sends the script of these octets, which has no bad line.
 fn sent(alloc: Global, script: &str) -> Result<Result<Bytes, SendFault>, Fail> {
     let lines = read_script(alloc, script.as_bytes())?;
-    Ok(send_script(alloc, &lines, conf()))
+    Ok(send_script(alloc, &lines, usual_conf(1001, 0, 0)))
 }
 
 /// The recording is its opening, and then these octets.

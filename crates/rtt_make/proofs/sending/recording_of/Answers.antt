@@ -1,7 +1,9 @@
 use Rattle.std.proofs.Common.{◌≡◌, ◌<◌, ℕ, Some, None, List, length, get_or, ap, sym, ◌∙◌, arith}
 use Rattle.std.specs.Prelude.{All}
-use Rattle.command_spec.specs.Scripts.{AreLines, Sending}
+use Rattle.command_spec.specs.Scripts.{AreLines}
 use Rattle.command_spec.proofs.Generating.{IsSaid}
+use Rattle.rtt_send.specs.Scripts.{sending_of}
+use Rattle.rtt_send.proofs.Lines.{script_typed}
 use Rattle.rtt_make.specs.Mades.{made_of}
 use Rattle.rtt_make.proofs.Bounds.{few_scripts, is_made, never_full_line, script_at}
 use Rattle.rtt_make.proofs.sending.recording_of.Goals as goal
@@ -22,8 +24,9 @@ bounds-as_slice-leg c =
 
 pub send_script-requires-clause-lines : goal.send_script-requires-clause-lines
 send_script-requires-clause-lines c =
-    script_at (λ s. AreLines s) c.args.made.now.scripts c.as_slice-2.result.now c.args.leg c.index-as_slice-leg.result c.as_slice-2.ensures c.index-as_slice-leg.is c.requires.within
-    (is_made c.args.made.now c.requires.generated).scripts
+    script_typed c.index-as_slice-leg.result
+    (script_at (λ s. AreLines s) c.args.made.now.scripts c.as_slice-2.result.now c.args.leg c.index-as_slice-leg.result c.as_slice-2.ensures c.index-as_slice-leg.is c.requires.within
+    (is_made c.args.made.now c.requires.generated).scripts)
 
 -- A script has too little text to be full.
 pub unreachable-requires : goal.unreachable-requires
@@ -33,11 +36,6 @@ unreachable-requires c =
     let said = script_at (λ s. All (IsSaid 0 41000) s) c.args.made.now.scripts c.as_slice-2.result.now c.args.leg script c.as_slice-2.ensures c.index-as_slice-leg.is c.requires.within made.said in
     let forty = script_at (λ s. length s ≡ 40) c.args.made.now.scripts c.as_slice-2.result.now c.args.leg script c.as_slice-2.ensures c.index-as_slice-leg.is c.requires.within made.forty in
     let cause = rw c.in-Err-Full.field-0-is at c.in-Err-Full.ensures.cause in
-    let sending : Sending = record {
-      stream = record { ssrc = c.leg_ssrc.result; first = get_or c.as_slice.result.now c.args.leg 0; base = 0; gens = 2 };
-      interval = 300;
-      pts = record { t140 = 98; red = 100 };
-    } in
-    let none = never_full_line sending script said forty in
+    let none = never_full_line (sending_of c.usual_conf-conf.result) script said forty in
     let false : Some c.in-Err-Full.field-0-0 ≡ None = sym cause ∙ none in
     cc

@@ -9,7 +9,7 @@ use Rattle.command_spec.specs.Scripts.{events_until}
 use Rattle.rtt_send.proofs.Steps.{err_over, ok_fits, from_ok}
 use Rattle.rtt_send.proofs.Lines.{Sends, Sent, at_line, above_to, all_lines, next_line, full_here, at_last}
 use Rattle.rtt_send.proofs.Firsts.{at_end}
-use Rattle.rtt_send.proofs.sending.send_lines.Goals as goal
+use Rattle.rtt_send.proofs.sending.send_script.Goals as goal
 
 pub type_line-requires-clause-text : goal.type_line-requires-clause-text
 type_line-requires-clause-text c =
