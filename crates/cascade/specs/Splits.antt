@@ -1,7 +1,8 @@
 -- What a recording was split into.
-use Rattle.std.specs.Prelude.{◌≡◌, ℕ, None, List, [], map}
+use Rattle.std.specs.Prelude.{◌≡◌, ℕ, List, [], map}
 use Rattle.wire_spec.specs.Packets.{Arrival}
 use Rattle.wire_spec.specs.Dump.{Item, Recording, arrivals_after, arrivals_with}
+use Rattle.rtpdump_io.specs.Calls.{SomeCame}
 use Rattle.cascade_spec.specs.Splitting.{Trunk, split}
 use Rattle.cascade.specs.declared.dividers.Divider.{Divider}
 use Rattle.cascade.specs.declared.splits.Splits.{Splits}
@@ -27,10 +28,8 @@ TakesItems old new items =
     (t : Trunk) (sources : List ℕ) (past : List Arrival) → Listens old t sources past → Listens new t sources (arrivals_after t.ssrc t.pts past items)
 
 -- some records came; those of this recording, which has no fault, where this tells it
-pub record HearsAll (tells : Type 0) (recording : Recording) (before after : Divider) : Type 0 where
-  pub items : List Item
-  pub hears : TakesItems before after items
-  pub is : tells → recording ≡ record { items = items; fault = None }
+abbrev pub HearsAll : Type 0 → Recording → Divider → Divider → Type 0
+HearsAll tells recording before after = SomeCame tells recording (TakesItems before after)
 
 -- the recordings of these sources out of these records
 abbrev pub SplitsAs : Trunk → List ℕ → Recording → Splits → Type 0

@@ -2,9 +2,10 @@
 ghost use Rattle.std.specs.Prelude.{◌≡◌, ◌≢◌, ◌+◌, ◌≤◌, ◌<◌, ◌^◌, [], ◌∷◌, length, Bool, None, Some, OnOk, IfOk, IfErr, AllPairs, slice_get};
 ghost use Rattle.wire_spec.specs.Dump.{dump};
 ghost use Rattle.gap_tracker.specs.States.{arrival_count};
-ghost use Rattle.rtpdump_io.specs.Reading.{is_ended, to_come, source_of, SourceCalm};
+ghost use Rattle.rtpdump_io.specs.Reading.{to_come};
 ghost use Rattle.rtpdump_io.specs.Answers.{record_of, is_end};
-ghost use Rattle.rtpdump_io.specs.Faults.{FaultOf, HasCause, IsSourceFault};
+ghost use Rattle.rtpdump_io.specs.Calls.{ReadsToEnd};
+ghost use Rattle.rtpdump_io.specs.Faults.{FaultOf, IsSourceFault};
 ghost use Rattle.rtt_io.specs.Counts.{Rose};
 ghost use Rattle.cascade_spec.specs.Splitting as splitting;
 ghost use Rattle.cascade.specs.declared.splits.TrunkConf.{TrunkConf};
@@ -75,29 +76,16 @@ fn listen<S: Source>(
     reader: &mut DumpReader<S>,
     divider: &mut Divider,
 ) -> Result<(), RecordingFault>
-    requires reads { is_ended reader.old ≡ Bool.false }
     requires listens { IsListening divider.old }
     requires few { arrival_count divider.old.tracker ≡ 0 }
     ensures hears { OnOk result (HearsAll S.tells (to_come S.left reader.old) divider.old divider.new) }
-    ensures fault { S.tells → IfErr result (FaultOf (to_come S.left reader.old)) }
-    ensures failed { IfErr result (HasCause S.faults reader.old reader.new) }
-    ensures calm { OnOk result (SourceCalm S.faults reader.old reader.new) }
-    ensures never_falls { S.faults (source_of reader.old) ≤ S.faults (source_of reader.new) }
-    ensures same_name { S.name (source_of reader.new) ≡ S.name (source_of reader.old) }
+    ensures reads { ReadsToEnd S.tells S.left S.faults S.name reader.old reader.new result }
 {
     let mut packet = Packet::new();
-    loop {
-        let item = match reader.next(&mut packet) {
-            Ok(item) => item,
-            Err(fault) => return Err(RecordingFault::Dump(fault)),
-        };
-        if let DumpItem::End = item {
-            return Ok(());
-        }
-        let Ok(()) = hear_record(divider, item, packet.as_slice()) else {
-            return Err(RecordingFault::NoMemory);
-        };
+    while let Some(item) = reader.next_record(&mut packet)? {
+        hear_record(divider, item, packet.as_slice())?;
     }
+    Ok(())
 }
 
 /// Splits what is still to come of a recording.
@@ -108,7 +96,6 @@ fn split_from<S: Source>(
     sources: &[u32],
     conf: TrunkConf,
 ) -> Result<Splits, RecordingFault>
-    requires open { is_ended reader.old ≡ Bool.false }
     requires t140 { conf.pts.t140 < 2 ^ 7 }
     requires wait { conf.wait ≤ LONGEST_WAIT }
     requires some { 0 < length sources.now }
@@ -116,23 +103,12 @@ fn split_from<S: Source>(
     requires differ { AllPairs (λ a b. a ≢ b) sources.now }
     ensures splits { S.tells → IfOk result (SplitsAs (trunk_of ssrc conf) sources.now (to_come S.left reader.old)) }
     ensures each { IfOk result (λ s. length (recordings_of s) ≡ length sources.now) }
-    ensures whole { S.tells → OnOk result ((to_come S.left reader.old).fault ≡ None) }
-    ensures fault { S.tells → IfErr result (FaultOf (to_come S.left reader.old)) }
-    ensures failed { IfErr result (HasCause S.faults reader.old reader.new) }
-    ensures calm { OnOk result (SourceCalm S.faults reader.old reader.new) }
-    ensures never_falls { S.faults (source_of reader.old) ≤ S.faults (source_of reader.new) }
-    ensures same_name { S.name (source_of reader.new) ≡ S.name (source_of reader.old) }
+    ensures reads { ReadsToEnd S.tells S.left S.faults S.name reader.old reader.new result }
 {
-    let Ok(mut divider) = Divider::new(alloc, ssrc, sources, conf.pts, conf.wait) else {
-        return Err(RecordingFault::NoMemory);
-    };
-    if let Err(fault) = listen(reader, &mut divider) {
-        return Err(fault);
-    }
-    match divider.finish() {
-        Ok(splitters) => Ok(Splits { splitters }),
-        Err(_) => Err(RecordingFault::NoMemory),
-    }
+    let mut divider = Divider::new(alloc, ssrc, sources, conf.pts, conf.wait)?;
+    listen(reader, &mut divider)?;
+    let splitters = divider.finish()?;
+    Ok(Splits { splitters })
 }
 
 /// Splits a recording of what a mixer sent under this SSRC: for each of these sources, 1 to 64 and all different, the

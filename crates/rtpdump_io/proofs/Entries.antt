@@ -1,8 +1,8 @@
 -- The records of a recording with the octets of those of RTCP, one by one.
-use Rattle.std.proofs.Common.{◌≡◌, ◌∙◌, ℕ, zero, suc, ◌-◌, ◌≤◌, ◌&&◌, Bool, true, false, cond, nat_eq, nat_lt, List, [], ◌∷◌, ◌++◌, length, take, refl, sym, ap, subst, arith, Result, Ok, Err, IfOk, length-take}
+use Rattle.std.proofs.Common.{◌≡◌, ◌∙◌, ℕ, ◌-◌, ◌≤◌, ◌&&◌, Bool, true, false, cond, nat_eq, nat_lt, List, [], ◌∷◌, ◌++◌, length, take, refl, sym, ap, subst, arith, Result, Ok, Err, IfOk, length-take}
 use Rattle.std.proofs.lemmas.Bool.{le-ltb}
 use Rattle.wire_spec.specs.declared.faults.DumpKind.{DumpKind}
-use Rattle.wire_spec.specs.Dump.{Place, Step, End, Broken, Next, opening, size_of, dump_step}
+use Rattle.wire_spec.specs.Dump.{Place, opening, size_of, dump_step}
 use Rattle.rtcp_spec.specs.Recorded.{Entry, body_of, at_most_4224, octets_of, entries_by, entries_within, entries_at, entries_from, entries}
 use Rattle.rtpdump_io.specs.Input.{Passes}
 use Rattle.rtpdump_io.specs.Found.{opened_as, found_as, kind_of, kept_of, wanted_of}
@@ -12,36 +12,17 @@ use Rattle.rtpdump_io.specs.declared.readers.Stage.TheVariants.{Opening, Records
 use Rattle.rtpdump_io.specs.declared.items.DumpItem.{DumpItem}
 use Rattle.rtpdump_io.specs.declared.items.DumpItem.TheVariants as answer
 use Rattle.rtt_base.specs.declared.limits.TheConstants.{MOST_PACKET_OCTETS}
-use Rattle.rtpdump_io.proofs.Recordings.{Shrinks, shrinks, body_is}
-
--- ---- the definition, from one place to the next
-
-at_end_of : (m limit : ℕ) (p : Place) → length p.rest ≡ 0 → entries_by (entries_within m limit) p.rest (dump_step limit p) ≡ []
-unfolding dump_step
-at_end_of m limit p e = rw e refl
-
--- so many steps as there are octets are enough
-enough : (n m limit : ℕ) (p : Place) → length p.rest ≤ n → length p.rest ≤ m → entries_within n limit p ≡ entries_within m limit p
-unfolding entries_within Shrinks
-enough zero zero limit p a b = refl
-enough zero (suc m) limit p a b = sym (at_end_of m limit p (omega arith))
-enough (suc n) zero limit p a b = at_end_of n limit p (omega arith)
-enough (suc n) (suc m) limit p a b = go (dump_step limit p) (shrinks limit p) (enough n m limit)
-  where
-    go : (s : Step) → Shrinks p s → ((q : Place) → length q.rest ≤ n → length q.rest ≤ m → entries_within n limit q ≡ entries_within m limit q) → entries_by (entries_within n limit) p.rest s ≡ entries_by (entries_within m limit) p.rest s
-    go End h same = refl
-    go (Broken fault) h same = refl
-    go (Next item q) h same = ap (λ (es : List Entry). record { item = item; octets = octets_of item.what (body_of p.rest) } ∷ es) (same q (omega (arith, h)) (omega (arith, h)))
+use Rattle.rtpdump_io.proofs.Recordings.{unrolls, body_is}
 
 -- the records from a place on are the first and those behind it
 unrolled : (limit : ℕ) (p : Place) → entries_at limit p ≡ entries_by (entries_at limit) p.rest (dump_step limit p)
-unfolding entries_at entries_within Shrinks
-unrolled limit p = enough (length p.rest) (suc (length p.rest)) limit p (omega arith) (omega arith) ∙ go (dump_step limit p) (shrinks limit p)
-  where
-    go : (s : Step) → Shrinks p s → entries_by (entries_within (length p.rest) limit) p.rest s ≡ entries_by (entries_at limit) p.rest s
-    go End h = refl
-    go (Broken fault) h = refl
-    go (Next item q) h = ap (λ (es : List Entry). record { item = item; octets = octets_of item.what (body_of p.rest) } ∷ es) (enough (length p.rest) (length q.rest) limit q (omega (arith, h)) (omega arith))
+unfolding entries_at entries_within
+unrolled limit = unrolls limit (λ n. entries_within n limit) (λ more p. entries_by more p.rest) (record {
+  none = λ p more. refl;
+  some = λ n p. refl;
+  broken = λ f g p fault. refl;
+  next = λ f g p item q e. ap (λ (es : List Entry). record { item = item; octets = octets_of item.what (body_of p.rest) } ∷ es) e;
+})
 
 -- ---- one record
 

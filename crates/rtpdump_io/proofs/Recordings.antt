@@ -204,32 +204,56 @@ shrinks limit p = outer (nat_eq (length p.rest) 0) (nat_lt (length p.rest) 8) (i
         let within = ltb-false (length p.rest) (size_of p.rest) two.1 in
         simp length-drop (omega (arith, large, within))
 
-at_end_of : (m limit : ℕ) (p : Place) → length p.rest ≡ 0 → records_by (records_within m limit) (dump_step limit p) ≡ record { items = []; fault = None }
+-- what is read step by step: so, with this many steps left, and so of one step
+pub record Folds {X : Type 0} (limit : ℕ) (within : ℕ → Place → X) (by : (Place → X) → Place → Step → X) : Type 0 where
+  pub none : (p : Place) (more : Place → X) → within zero p ≡ by more p End
+  pub some : (n : ℕ) (p : Place) → within (suc n) p ≡ by (within n) p (dump_step limit p)
+  pub broken : (f g : Place → X) (p : Place) (fault : Fault) → by f p (Broken fault) ≡ by g p (Broken fault)
+  pub next : (f g : Place → X) (p : Place) (item : Item) (q : Place) → f q ≡ g q → by f p (Next item q) ≡ by g p (Next item q)
+
+at_its_end : (limit : ℕ) (p : Place) → length p.rest ≡ 0 → dump_step limit p ≡ End
 unfolding dump_step
-at_end_of m limit p e = rw e refl
+at_its_end limit p e = rw e refl
 
--- so many steps as there are octets are enough
-enough : (n m limit : ℕ) (p : Place) → length p.rest ≤ n → length p.rest ≤ m → records_within n limit p ≡ records_within m limit p
-unfolding records_within Shrinks
-enough zero zero limit p a b = refl
-enough zero (suc m) limit p a b = sym (at_end_of m limit p (omega arith))
-enough (suc n) zero limit p a b = at_end_of n limit p (omega arith)
-enough (suc n) (suc m) limit p a b = go (dump_step limit p) (shrinks limit p) (enough n m limit)
-  where
-    go : (s : Step) → Shrinks p s → ((q : Place) → length q.rest ≤ n → length q.rest ≤ m → records_within n limit q ≡ records_within m limit q) → records_by (records_within n limit) s ≡ records_by (records_within m limit) s
-    go End h same = refl
-    go (Broken fault) h same = refl
-    go (Next item q) h same = ap (with_item item) (same q (omega (arith, h)) (omega (arith, h)))
+module _ {X : Type 0} (limit : ℕ) (within : ℕ → Place → X) (by : (Place → X) → Place → Step → X) (folds : Folds limit within by) where
+  by_end : (m : ℕ) (p : Place) → length p.rest ≡ 0 → within (suc m) p ≡ within zero p
+  by_end m p e = folds.some m p ∙ (ap (by (within m) p) (at_its_end limit p e) ∙ sym (folds.none p (within m)))
 
--- the records from a place on are the first and those behind it
+  -- two readings that agree behind a step agree before it
+  by_step : (f g : Place → X) (p : Place) → ((q : Place) → length q.rest < length p.rest → f q ≡ g q) → by f p (dump_step limit p) ≡ by g p (dump_step limit p)
+  unfolding Shrinks
+  by_step f g p same = go (dump_step limit p) (shrinks limit p)
+    where
+      go : (s : Step) → Shrinks p s → by f p s ≡ by g p s
+      go End h = sym (folds.none p f) ∙ folds.none p g
+      go (Broken fault) h = folds.broken f g p fault
+      go (Next item q) h = folds.next f g p item q (same q (omega (arith, h)))
+
+  -- so many steps as there are octets are enough
+  enough : (n m : ℕ) (p : Place) → length p.rest ≤ n → length p.rest ≤ m → within n p ≡ within m p
+  enough zero zero p a b = refl
+  enough zero (suc m) p a b = sym (by_end m p (omega arith))
+  enough (suc n) zero p a b = by_end n p (omega arith)
+  enough (suc n) (suc m) p a b = go (enough n m)
+    where
+      go : ((q : Place) → length q.rest ≤ n → length q.rest ≤ m → within n q ≡ within m q) → within (suc n) p ≡ within (suc m) p
+      go same = folds.some n p ∙ (by_step (within n) (within m) p (λ q less. same q (omega (arith, less)) (omega (arith, less))) ∙ sym (folds.some m p))
+
+  -- what comes from a place on is the first and what comes behind it
+  pub unrolls : (p : Place) → within (length p.rest) p ≡ by (λ q. within (length q.rest) q) p (dump_step limit p)
+  unrolls p =
+      enough (length p.rest) (suc (length p.rest)) p (omega arith) (omega arith)
+      ∙ (folds.some (length p.rest) p
+      ∙ by_step (within (length p.rest)) (λ q. within (length q.rest) q) p (λ q less. enough (length p.rest) (length q.rest) q (omega (arith, less)) (omega arith)))
+
 pub unrolled : (limit : ℕ) (p : Place) → records limit p ≡ records_by (records limit) (dump_step limit p)
-unfolding records records_within Shrinks
-unrolled limit p = enough (length p.rest) (suc (length p.rest)) limit p (omega arith) (omega arith) ∙ go (dump_step limit p) (shrinks limit p)
-  where
-    go : (s : Step) → Shrinks p s → records_by (records_within (length p.rest) limit) s ≡ records_by (records limit) s
-    go End h = refl
-    go (Broken fault) h = refl
-    go (Next item q) h = ap (with_item item) (enough (length p.rest) (length q.rest) limit q (omega (arith, h)) (omega arith))
+unfolding records records_within
+unrolled limit = unrolls limit (λ n. records_within n limit) (λ more p. records_by more) (record {
+  none = λ p more. refl;
+  some = λ n p. refl;
+  broken = λ f g p fault. refl;
+  next = λ f g p item q e. ap (with_item item) e;
+})
 
 -- what comes after a step that an answer stands for
 came : (limit : ℕ) (r : Result DumpItem DumpKind) (out : List ℕ) (q : Place) → records_by (records limit) (found_as r out q) ≡ came_as r out q.byte (records limit q)

@@ -10,3 +10,4 @@ pub mod Answers
 pub mod Structures
 pub mod InMemory
 pub mod Faults
+pub mod Calls

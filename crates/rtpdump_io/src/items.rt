@@ -1,4 +1,9 @@
 //! What a reader of a recording answers.
+ghost use Rattle.std.specs.Prelude.{◌≡◌};
+ghost use Rattle.rtpdump_io.specs.Calls.{unless_end};
+ghost use Rattle.rtpdump_io.specs.declared.items.RecordingFault.TheVariants.{NoMemory};
+
+use rtt_base::NoMemory as OutOfMemory;
 use thiserror::Error;
 use wire_spec::DumpKind;
 
@@ -17,6 +22,19 @@ pub enum DumpItem {
     End,
 }
 
+impl DumpItem {
+    /// What it is, unless it is the end.
+    #[inline(always)]
+    pub(crate) fn unless_end(self) -> Option<DumpItem>
+        ensures { result ≡ unless_end self }
+    {
+        match self {
+            DumpItem::End => None,
+            item => Some(item),
+        }
+    }
+}
+
 /// Why a recording can't be read further.
 #[derive(Clone, Copy, Debug, PartialEq, Eq, Error)]
 #[error("byte {offset}: {kind}")]
@@ -32,4 +50,12 @@ pub enum RecordingFault {
     /// It can't be read further.
     Dump(DumpFault),
     NoMemory,
+}
+
+impl From<OutOfMemory> for RecordingFault {
+    ghost from_gives = { λ _ fault. fault ≡ NoMemory };
+
+    fn from(_error: OutOfMemory) -> RecordingFault {
+        RecordingFault::NoMemory
+    }
 }

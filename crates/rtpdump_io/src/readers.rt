@@ -3,7 +3,7 @@ ghost use Rattle.std.specs.Prelude.{◌≤◌};
 ghost use Rattle.wire_spec.specs.declared.limits.TheConstants.{MOST_RECORDING_OCTETS};
 
 use crate::inputs::Input;
-use crate::items::{DumpFault, DumpItem};
+use crate::items::{DumpFault, DumpItem, RecordingFault};
 use crate::record_heads::RecordHead;
 use rtt_base::{Failed, Packet};
 use rtt_io::Source;
@@ -38,12 +38,13 @@ impl<S: Source> DumpReader<S> {
     ghost use Rattle.std.specs.Prelude.{◌≡◌, ◌<◌, ◌≤◌, true, false, Ok, OnOk, OnErr, IfOk, length, take};
     ghost use Rattle.wire_spec.specs.Dump.{dump, usual_limit};
     ghost use Rattle.rtcp_spec.specs.Recorded.{entries};
-    ghost use Rattle.rtpdump_io.specs.Reading.{Gives, is_last, nothing, to_come, most_answers, is_ended, source_of, unread_by, SourceFailed, SourceCalm, IfOfSource, UnlessOfSource};
+    ghost use Rattle.rtpdump_io.specs.Reading.{to_come, most_answers, is_ended, source_of, unread_by};
     ghost use Rattle.rtpdump_io.specs.Structures.{Starts, IsLineOrHead, all_octets, octets_around};
     ghost use Rattle.rtpdump_io.specs.Steps.{OnFound, OnRecord, IsOfRecording, Opens, IsReady, Finds, Comes};
     ghost use Rattle.rtpdump_io.specs.Heads.{body_size, kept_size};
     ghost use Rattle.rtpdump_io.specs.Entries.{GivesEntry, HandsOutRtcp, entries_to_come, EntriesCome, EntriesReady};
     ghost use Rattle.rtpdump_io.specs.Input.{CountsFaults, PassesOver};
+    ghost use Rattle.rtpdump_io.specs.Calls.{Reads, ReadsRecord};
 
     /// A reader of a recording of at most 4194304 octets, from its first octet on. It takes no memory.
     pub fn new(source: S) -> DumpReader<S>
@@ -84,12 +85,7 @@ impl<S: Source> DumpReader<S> {
     pub fn into_source(self) -> S
         ensures { result ≡ source_of self }
     {
-        let DumpReader {
-            input,
-            limit: _,
-            offset: _,
-            stage: _,
-        } = self;
+        let DumpReader { input, .. } = self;
         input.into_source()
     }
 
@@ -99,35 +95,31 @@ impl<S: Source> DumpReader<S> {
     #[inline(always)]
     pub fn next(&mut self, out: &mut Packet) -> Result<DumpItem, DumpFault>
         requires { is_ended self.old ≡ false }
-        ensures gives { S.tells → Gives result out.new (to_come S.left self.old) (to_come S.left self.new) }
-        ensures read { IfOfSource result (λ _. SourceFailed S.faults self.old self.new) }
-        ensures read_at { S.tells → IfOfSource result (λ byte. Starts S.left self.old byte) }
-        ensures all { S.tells → OnOk result (all_octets S.left self.new ≡ all_octets S.left self.old) }
-        ensures ended { is_ended self.new ≡ is_last result }
-        ensures over { is_last result ≡ true → to_come S.left self.new ≡ nothing }
-        ensures nearer { most_answers self.new < most_answers self.old }
-        ensures never_falls { S.faults (source_of self.old) ≤ S.faults (source_of self.new) }
-        ensures calm { UnlessOfSource result (SourceCalm S.faults self.old self.new) }
-        ensures same_name { S.name (source_of self.new) ≡ S.name (source_of self.old) }
+        ensures { Reads S.tells S.left S.faults S.name self.old self.new out.new result }
     {
         self.read(false, out)
+    }
+
+    /// Reads the next record as `next` does; there is none behind the last one, nor behind a fault.
+    #[inline(always)]
+    pub fn next_record(&mut self, out: &mut Packet) -> Result<Option<DumpItem>, RecordingFault>
+        ensures { ReadsRecord S.tells S.left S.faults S.name self.old self.new out.new result }
+    {
+        if self.ended() {
+            return Ok(None);
+        }
+        match self.next(out) {
+            Ok(item) => Ok(item.unless_end()),
+            Err(fault) => Err(RecordingFault::Dump(fault)),
+        }
     }
 
     /// Reads what stands next as `next` does, and leaves the octets of a record of RTCP in `out` too: those behind its head,
     /// or none where they are more than 4224.
     pub fn next_all(&mut self, out: &mut Packet) -> Result<DumpItem, DumpFault>
         requires { is_ended self.old ≡ false }
-        ensures gives { S.tells → Gives result out.new (to_come S.left self.old) (to_come S.left self.new) }
+        ensures reads { Reads S.tells S.left S.faults S.name self.old self.new out.new result }
         ensures entries { S.tells → GivesEntry result out.new (entries_to_come S.left self.old) (entries_to_come S.left self.new) }
-        ensures read { IfOfSource result (λ _. SourceFailed S.faults self.old self.new) }
-        ensures read_at { S.tells → IfOfSource result (λ byte. Starts S.left self.old byte) }
-        ensures all { S.tells → OnOk result (all_octets S.left self.new ≡ all_octets S.left self.old) }
-        ensures ended { is_ended self.new ≡ is_last result }
-        ensures over { is_last result ≡ true → to_come S.left self.new ≡ nothing }
-        ensures nearer { most_answers self.new < most_answers self.old }
-        ensures never_falls { S.faults (source_of self.old) ≤ S.faults (source_of self.new) }
-        ensures calm { UnlessOfSource result (SourceCalm S.faults self.old self.new) }
-        ensures same_name { S.name (source_of self.new) ≡ S.name (source_of self.old) }
     {
         self.read(true, out)
     }
@@ -136,17 +128,8 @@ impl<S: Source> DumpReader<S> {
     #[inline(always)]
     fn read(&mut self, with_rtcp: bool, out: &mut Packet) -> Result<DumpItem, DumpFault>
         requires { is_ended self.old ≡ false }
-        ensures gives { S.tells → Gives result out.new (to_come S.left self.old) (to_come S.left self.new) }
+        ensures reads { Reads S.tells S.left S.faults S.name self.old self.new out.new result }
         ensures entries { S.tells → with_rtcp ≡ true → GivesEntry result out.new (entries_to_come S.left self.old) (entries_to_come S.left self.new) }
-        ensures read { IfOfSource result (λ _. SourceFailed S.faults self.old self.new) }
-        ensures read_at { S.tells → IfOfSource result (λ byte. Starts S.left self.old byte) }
-        ensures all { S.tells → OnOk result (all_octets S.left self.new ≡ all_octets S.left self.old) }
-        ensures ended { is_ended self.new ≡ is_last result }
-        ensures over { is_last result ≡ true → to_come S.left self.new ≡ nothing }
-        ensures nearer { most_answers self.new < most_answers self.old }
-        ensures never_falls { S.faults (source_of self.old) ≤ S.faults (source_of self.new) }
-        ensures calm { UnlessOfSource result (SourceCalm S.faults self.old self.new) }
-        ensures same_name { S.name (source_of self.new) ≡ S.name (source_of self.old) }
     {
         match self.step(with_rtcp, out) {
             Ok(Ok(DumpItem::End)) => {
