@@ -1,12 +1,12 @@
 -- A terminal that is told of the records of a recording, one after another.
-use Rattle.std.proofs.Common.{◌≡◌, ℕ, ◌+◌, ◌≤◌, false, List, [], ◌∷◌, ◌++◌, refl, ap, sym, ◌∙◌, subst, ◌⊎◌, inl, inr, append-nil, append_assoc}
-use Rattle.wire_spec.specs.Dump.{Item, Recording, with_item, dump, usual_limit}
+use Rattle.std.proofs.Common.{◌≡◌, ℕ, ◌≤◌, List, [], ◌∷◌, ◌++◌, length, refl, ap, sym, ◌∙◌, subst, arith, ◌⊎◌, inl, inr, append-nil, append_assoc}
+use Rattle.wire_spec.specs.Dump.{Item, dump, usual_limit}
 use Rattle.wire_spec.specs.Dump as dumps
-use Rattle.rtpdump_io.specs.Reading.{is_ended, most_answers, source_of, to_come}
 use Rattle.rtpdump_io.specs.declared.items.DumpItem.{DumpItem}
 use Rattle.rtpdump_io.specs.declared.items.DumpItem.TheVariants.{Rtcp, End}
 use Rattle.rtpdump_io.specs.declared.readers.DumpReader.{DumpReader}
 use Rattle.rtpdump_io.specs.Answers.{record_of}
+use Rattle.rtpdump_io.proofs.Records.{ReadSome, none_read}
 use Rattle.command_spec.specs.declared.requests.ReadRequest.{ReadRequest}
 use Rattle.view_spec.specs.Seen.{text_seen}
 use Rattle.command_spec.specs.Reading.{read_view}
@@ -21,34 +21,26 @@ hears_none : (t : Terminal) → Takes t [] t
 hears_none t c sources came l = subst (Listens t c sources) (sym (append-nil came)) l
 
 -- one record more
-hears_more : (before now after : Terminal) (items : List Item) (item : Item) → Takes before items now → Takes now (item ∷ []) after → Takes before (items ++ item ∷ []) after
+pub hears_more : (before now after : Terminal) (items : List Item) (item : Item) → Takes before items now → Takes now (item ∷ []) after → Takes before (items ++ item ∷ []) after
 hears_more before now after items item h one c sources came l =
     subst (Listens after c sources) (append_assoc came items (item ∷ [])) (one c sources (came ++ items) (h c sources came l))
 
--- some records came, and of the recording the rest is still to come, where this tells it
-pub record HeardSome (tells : Type 0) (before : Recording) (l : Terminal) (now : Recording) (m : Terminal) : Type 0 where
-  pub items : List Item
-  pub hears : Takes l items m
-  pub is : tells → before ≡ record { items = items ++ now.items; fault = now.fault }
-
-pub some_none : (tells : Type 0) (before : Recording) (l : Terminal) → HeardSome tells before l before l
-some_none tells before l = record { items = []; hears = hears_none l; is = λ t. refl }
-
-pub some_more : (tells : Type 0) (before now next : Recording) (l m n : Terminal) (item : Item) → HeardSome tells before l now m → (tells → now ≡ with_item item next) → Takes m (item ∷ []) n → HeardSome tells before l next n
-some_more tells before now next l m n item h e one = record {
-  items = h.items ++ item ∷ [];
-  hears = hears_more l m n h.items item h.hears one;
-  is = λ t. h.is t ∙ (ap (λ (r : Recording). record { items = h.items ++ r.items; fault = r.fault }) (e t) ∙ ap (λ (items : List Item). record { items = items; fault = next.fault }) (sym (append_assoc h.items (item ∷ []) next.items)));
-}
-
 -- what holds of the reader and the terminal between two records
 pub record Going {S : Type 0} (tells : Type 0) (left : S → List ℕ) (faults : S → ℕ) (name : S → List ℕ) (before : DumpReader S) (l : Terminal) (now : DumpReader S) (m : Terminal) : Type 0 where
-  pub not_ended : is_ended now ≡ false
+  pub items : List Item
+  pub read : ReadSome tells left faults name before now items
   pub open_still : IsOpen m
-  pub few : (counts_of m).packets + most_answers now ≤ most_answers before
-  pub never_falls : faults (source_of before) ≤ faults (source_of now)
-  pub same_name : name (source_of now) ≡ name (source_of before)
-  pub heard : HeardSome tells (to_come left before) l (to_come left now) m
+  pub few : (counts_of m).packets ≤ length items
+  pub hears : Takes l items m
+
+pub begins : {S : Type 0} (tells : Type 0) (left : S → List ℕ) (faults : S → ℕ) (name : S → List ℕ) (reader : DumpReader S) (t : Terminal) → IsOpen t → (counts_of t).packets ≡ 0 → Going tells left faults name reader t reader t
+begins tells left faults name reader t still none = record {
+  items = [];
+  read = none_read tells left faults name reader;
+  open_still = still;
+  few = omega (arith, none);
+  hears = hears_none t;
+}
 
 -- what is no packet changes nothing
 no_packet : (item : DumpItem) (octets : List ℕ) → ((at : ℕ) × (item ≡ Rtcp at)) ⊎ (item ≡ End) → (record_of item octets).what ≡ dumps.Rtcp

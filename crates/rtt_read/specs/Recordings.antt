@@ -1,6 +1,7 @@
 -- What a terminal heard of a recording.
-use Rattle.std.specs.Prelude.{◌≡◌, ℕ, None, List, [], ◌∷◌}
+use Rattle.std.specs.Prelude.{ℕ, List, [], ◌∷◌}
 use Rattle.wire_spec.specs.Dump.{Item, Recording, dump, usual_limit}
+use Rattle.rtpdump_io.specs.Calls.{SomeCame}
 use Rattle.command_spec.specs.declared.requests.ReadRequest.{ReadRequest}
 use Rattle.command_spec.specs.Reading.{usual_wait}
 use Rattle.terminal.specs.declared.confs.TermConf.{TermConf}
@@ -25,7 +26,5 @@ abbrev pub HasHeard : ReadRequest → List ℕ → Terminal → Type 0
 HasHeard r octets t = Heard t (asked_of r) (r.source ∷ []) (dump usual_limit octets).items
 
 -- some records came; those of this recording, which has no fault, where this tells it
-pub record HearsAll (tells : Type 0) (recording : Recording) (before after : Terminal) : Type 0 where
-  pub items : List Item
-  pub hears : Takes before items after
-  pub is : tells → recording ≡ record { items = items; fault = None }
+abbrev pub HearsAll : Type 0 → Recording → Terminal → Terminal → Type 0
+HearsAll tells recording before after = SomeCame tells recording (λ items. Takes before items after)

@@ -1,9 +1,9 @@
 //! The work of `read`: a recording is heard to its end.
-ghost use Rattle.std.specs.Prelude.{◌≡◌, ℕ, ◌+◌, ◌≤◌, ◌<◌, List, [], ◌∷◌, Bool, None, OnOk, IfOk, IfErr};
+ghost use Rattle.std.specs.Prelude.{◌≡◌, ℕ, ◌+◌, ◌≤◌, ◌<◌, List, [], ◌∷◌, Bool, OnOk, IfOk};
 ghost use Rattle.wire_spec.specs.Dump.{dump, usual_limit};
-ghost use Rattle.rtpdump_io.specs.Reading.{is_ended, to_come, source_of};
+ghost use Rattle.rtpdump_io.specs.Reading.{to_come};
 ghost use Rattle.rtpdump_io.specs.Answers.{record_of, is_end};
-ghost use Rattle.rtpdump_io.specs.Faults.{FaultOf, HasCause};
+ghost use Rattle.rtpdump_io.specs.Calls.{ReadsToEnd};
 ghost use Rattle.command_spec.specs.declared.requests.ReadRequest.{ReadRequest};
 ghost use Rattle.terminal.specs.Terminals.{counts_of, IsOpen, Listens};
 ghost use Rattle.terminal.specs.Told.{HearsToEnd, Takes};
@@ -56,30 +56,18 @@ fn listen<S: Source>(
     reader: &mut DumpReader<S>,
     terminal: &mut Terminal,
 ) -> Result<(), RecordingFault>
-    requires reads { is_ended reader.old ≡ Bool.false }
     requires open { IsOpen terminal.old }
     requires few { (counts_of terminal.old).packets ≡ 0 }
     ensures hears { OnOk result (HearsAll S.tells (to_come S.left reader.old) terminal.old terminal.new) }
     ensures open { OnOk result (IsOpen terminal.new) }
     ensures few { OnOk result ((counts_of terminal.new).packets < MOST_ARRIVALS) }
-    ensures fault { S.tells → IfErr result (FaultOf (to_come S.left reader.old)) }
-    ensures failed { IfErr result (HasCause S.faults reader.old reader.new) }
-    ensures never_falls { S.faults (source_of reader.old) ≤ S.faults (source_of reader.new) }
-    ensures same_name { S.name (source_of reader.new) ≡ S.name (source_of reader.old) }
+    ensures reads { ReadsToEnd S.tells S.left S.faults S.name reader.old reader.new result }
 {
     let mut packet = Packet::new();
-    loop {
-        let item = match reader.next(&mut packet) {
-            Ok(item) => item,
-            Err(fault) => return Err(RecordingFault::Dump(fault)),
-        };
-        if let DumpItem::End = item {
-            return Ok(());
-        }
-        let Ok(()) = hear_record(terminal, item, packet.as_slice()) else {
-            return Err(RecordingFault::NoMemory);
-        };
+    while let Some(item) = reader.next_record(&mut packet)? {
+        hear_record(terminal, item, packet.as_slice())?;
     }
+    Ok(())
 }
 
 /// A terminal that hears one source, when all that came to it is heard to its end.
@@ -98,24 +86,12 @@ pub fn hear_recording<S: Source>(
     reader: &mut DumpReader<S>,
     conf: ReadRequest,
 ) -> Result<Terminal, RecordingFault>
-    requires open { is_ended reader.old ≡ Bool.false }
     ensures heard { S.tells → IfOk result (λ terminal. (octets : List ℕ) → to_come S.left reader.old ≡ dump usual_limit octets
         → HasHeard conf octets terminal) }
     ensures one { IfOk result HasHeardOne }
-    ensures whole { S.tells → OnOk result ((to_come S.left reader.old).fault ≡ None) }
-    ensures fault { S.tells → IfErr result (FaultOf (to_come S.left reader.old)) }
-    ensures failed { IfErr result (HasCause S.faults reader.old reader.new) }
-    ensures never_falls { S.faults (source_of reader.old) ≤ S.faults (source_of reader.new) }
-    ensures same_name { S.name (source_of reader.new) ≡ S.name (source_of reader.old) }
+    ensures reads { ReadsToEnd S.tells S.left S.faults S.name reader.old reader.new result }
 {
-    let Ok(mut terminal) = terminal_for(alloc, conf) else {
-        return Err(RecordingFault::NoMemory);
-    };
-    if let Err(fault) = listen(reader, &mut terminal) {
-        return Err(fault);
-    }
-    match finished(terminal) {
-        Ok(terminal) => Ok(terminal),
-        Err(_) => Err(RecordingFault::NoMemory),
-    }
+    let mut terminal = terminal_for(alloc, conf)?;
+    listen(reader, &mut terminal)?;
+    Ok(finished(terminal)?)
 }

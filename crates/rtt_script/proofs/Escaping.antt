@@ -1,5 +1,5 @@
 -- A text that is escaped character by character.
-use Rattle.std.proofs.Common.{◌≡◌, ℕ, ◌<◌, Bool, true, false, ◌&&◌, ◌||◌, cond, eqb, ltb, leb, List, [], ◌∷◌, ◌++◌, refl, ap, sym, ◌∙◌, arith, append-nil, append_assoc}
+use Rattle.std.proofs.Common.{◌≡◌, ℕ, ◌<◌, Bool, true, false, ◌&&◌, ◌||◌, cond, eqb, List, [], ◌∷◌, ◌++◌, refl, ap, sym, ◌∙◌, arith, append-nil, append_assoc}
 use Rattle.std.specs.Prelude.{flat_map, map, codes, encode_utf8, All}
 use Rattle.std.specs.Str.{IsAscii}
 use Rattle.std.proofs.lemmas.Grind.{flat_map-append}
@@ -12,6 +12,7 @@ use Rattle.text_spec.specs.declared.classes.CharClass.TheVariants.{NewLine, Prin
 use Rattle.text_spec.specs.Characters.{class_of, is_new_line}
 use Rattle.text_spec.specs.Shown.{signs, ends_with_cr}
 use Rattle.text_spec.proofs.Signs.{signs-append, signs-cr_lf}
+use Rattle.text_spec.proofs.Steps.{plain_class}
 use Rattle.command_spec.specs.Transcripts.{escaped, escaped_as, escaped_sign}
 use Rattle.rtt_script.specs.Escapes.{IsPlain, escaped_after}
 
@@ -98,26 +99,11 @@ map_same [] = refl
 map_same (x ∷ xs) = ap (λ l. x ∷ l) (map_same xs)
 
 -- ---- a text that stands for itself
-plain_class : (c : ℕ) → IsPlain c → class_of c ≡ Print
-unfolding class_of
-plain_class c p =
-    let lo = p.from in
-    let hi = p.to in
-    let a : eqb c 0x08 ≡ false = grind (arith, nat_tests) in
-    let b : eqb c 0x07 ≡ false = grind (arith, nat_tests) in
-    let d : eqb c 0x0A ≡ false = grind (arith, nat_tests) in
-    let e : eqb c 0x0D ≡ false = grind (arith, nat_tests) in
-    let f : eqb c 0x2028 ≡ false = grind (arith, nat_tests) in
-    let g : ltb c 0x20 ≡ false = grind (arith, nat_tests) in
-    let h : leb 0x7F c ≡ false = grind (arith, nat_tests) in
-    let i : eqb c 0xFEFF ≡ false = grind (arith, nat_tests) in
-    rw (a, b, d, e, f, g, h, i) refl
-
 plain_sign : (c : ℕ) → IsPlain c → escaped_sign c ≡ c ∷ []
 plain_sign c p =
     let hi = p.to in
     let other : eqb c 92 ≡ false = let n = p.other in grind (arith, nat_tests) in
-    ap (λ k. escaped_as k c) (plain_class c p) ∙ (ap (λ b. cond b (codes "\\\\") (encode_utf8 c)) other ∙ encode_ascii c (omega (arith, hi)))
+    ap (λ k. escaped_as k c) (plain_class c p.from p.to) ∙ (ap (λ b. cond b (codes "\\\\") (encode_utf8 c)) other ∙ encode_ascii c (omega (arith, hi)))
 
 plain_signs : (cs : List ℕ) → All IsPlain cs → signs cs ≡ cs
 plain_signs [] a = refl

@@ -1,5 +1,5 @@
 -- An ear that is told and gives, and what is printed of it.
-use Rattle.std.proofs.Common.{◌≡◌, ℕ, ◌+◌, ◌≤◌, true, false, Some, Ok, Err, Result, List, [], ◌∷◌, ◌++◌, refl, ap, sym, ◌∙◌, subst, append-nil}
+use Rattle.std.proofs.Common.{◌≡◌, ℕ, ◌≤◌, true, false, Some, Ok, Err, Result, List, [], ◌∷◌, ◌++◌, length, refl, ap, sym, ◌∙◌, subst, append-nil}
 use Rattle.std.specs.Prelude.{IfOk, OnOk}
 use Rattle.std.proofs.lemmas.Grind.{flat_map-append}
 use Rattle.wire_spec.specs.declared.faults.TextFault.{TextFault}
@@ -7,7 +7,8 @@ use Rattle.wire_spec.specs.Packets.{Packet, Arrival}
 use Rattle.wire_spec.specs.Text.{text_of}
 use Rattle.wire_spec.specs.Dump.{Item, Recording, with_item, Whole, arrivals_after, arrivals_with, dump, usual_limit}
 use Rattle.rtpdump_io.specs.declared.readers.DumpReader.{DumpReader}
-use Rattle.rtpdump_io.specs.Reading.{nothing, is_ended, most_answers, source_of, to_come}
+use Rattle.rtpdump_io.specs.Reading.{nothing, to_come}
+use Rattle.rtpdump_io.proofs.Records.{ReadSome}
 use Rattle.stream_spec.specs.Ready.{Chunk, chunks}
 use Rattle.command_spec.specs.declared.requests.ReadRequest.{ReadRequest}
 use Rattle.command_spec.specs.Reading.{usual_wait, arrivals_of}
@@ -138,15 +139,13 @@ all_printed tells before rest ear after old new p e r past h =
 
 -- what holds of the reader and the ear between two records
 pub record Going {S : Type 0} (tells : Type 0) (left : S → List ℕ) (faults : S → ℕ) (name : S → List ℕ) (before : DumpReader S) (ear : Ear) (old : List ℕ) (reader : DumpReader S) (now : Ear) (new : List ℕ) : Type 0 where
-  pub not_ended : is_ended reader ≡ false
+  pub items : List Item
+  pub read : ReadSome tells left faults name before reader items
   pub giving : ∥ IsGiving now ∥₁
   pub quiet : is_quiet now ≡ true
   pub open_still : is_finished now ≡ false
-  pub few : arrival_count now + most_answers reader ≤ most_answers before
-  pub never_falls : faults (source_of before) ≤ faults (source_of reader)
-  pub same_name : name (source_of reader) ≡ name (source_of before)
+  pub few : arrival_count now ≤ length items
   pub printed : PrintsSome tells (to_come left before) ear old (to_come left reader) now new
-  pub fault : tells → (to_come left before).fault ≡ (to_come left reader).fault
 
 -- ---- the whole recording
 pub whole_printed : (r : ReadRequest) (octets : List ℕ) (tells : Type 0) (recording : Recording) (ear after : Ear) (old new printed : List ℕ) → tells → recording ≡ dump usual_limit octets

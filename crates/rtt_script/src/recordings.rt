@@ -1,8 +1,8 @@
 //! The work of `script`: each text of a recording becomes a line as soon as it is heard.
-ghost use Rattle.std.specs.Prelude.{◌≡◌, ◌+◌, ◌≤◌, ◌<◌, [], Bool, None, OnOk, IfOk, IfErr};
-ghost use Rattle.rtpdump_io.specs.Reading.{is_ended, to_come, source_of};
+ghost use Rattle.std.specs.Prelude.{◌≡◌, ◌+◌, ◌≤◌, ◌<◌, [], Bool, OnOk, IfOk};
+ghost use Rattle.rtpdump_io.specs.Reading.{to_come};
 ghost use Rattle.rtpdump_io.specs.Answers.{record_of, is_end};
-ghost use Rattle.rtpdump_io.specs.Faults.{FaultOf, HasCause};
+ghost use Rattle.rtpdump_io.specs.Calls.{ReadsToEnd};
 ghost use Rattle.command_spec.specs.declared.requests.ReadRequest.{ReadRequest};
 ghost use Rattle.ear.specs.Hears.{IsGiving, arrival_count, is_finished, is_quiet};
 ghost use Rattle.rtt_script.specs.Writing.{HasPrinted, IsTranscript, PrintsAll, PrintsEnd, PrintsItem, PrintsPacket, PrintsReady};
@@ -113,34 +113,21 @@ fn print_records<S: Source>(
     chunk: &mut Chunk,
     out: &mut Bytes,
 ) -> Result<(), RecordingFault>
-    requires reads { is_ended reader.old ≡ Bool.false }
     requires giving { ∥ IsGiving ear.old ∥₁ }
     requires quiet { is_quiet ear.old ≡ Bool.true }
     requires none { arrival_count ear.old ≡ 0 }
     requires open { is_finished ear.old ≡ Bool.false }
     ensures prints { OnOk result (PrintsAll S.tells (to_come S.left reader.old) ear.old out.old ear.new out.new) }
-    ensures whole { S.tells → OnOk result ((to_come S.left reader.old).fault ≡ None) }
     ensures giving { OnOk result ∥ IsGiving ear.new ∥₁ }
     ensures quiet { OnOk result (is_quiet ear.new ≡ Bool.true) }
     ensures open { OnOk result (is_finished ear.new ≡ Bool.false) }
-    ensures fault { S.tells → IfErr result (FaultOf (to_come S.left reader.old)) }
-    ensures failed { IfErr result (HasCause S.faults reader.old reader.new) }
-    ensures never_falls { S.faults (source_of reader.old) ≤ S.faults (source_of reader.new) }
-    ensures same_name { S.name (source_of reader.new) ≡ S.name (source_of reader.old) }
+    ensures reads { ReadsToEnd S.tells S.left S.faults S.name reader.old reader.new result }
 {
     let mut packet = Packet::new();
-    loop {
-        let item = match reader.next(&mut packet) {
-            Ok(item) => item,
-            Err(fault) => return Err(RecordingFault::Dump(fault)),
-        };
-        if let DumpItem::End = item {
-            return Ok(());
-        }
-        let Ok(()) = print_record(ear, item, packet.as_slice(), chunk, out) else {
-            return Err(RecordingFault::NoMemory);
-        };
+    while let Some(item) = reader.next_record(&mut packet)? {
+        print_record(ear, item, packet.as_slice(), chunk, out)?;
     }
+    Ok(())
 }
 
 /// Prints what is heard once nothing more comes.
@@ -161,24 +148,13 @@ pub fn script_recording<S: Source>(
     reader: &mut DumpReader<S>,
     conf: ReadRequest,
 ) -> Result<Bytes, RecordingFault>
-    requires open { is_ended reader.old ≡ Bool.false }
     ensures printed { S.tells → IfOk result (IsTranscript conf (to_come S.left reader.old)) }
-    ensures whole { S.tells → OnOk result ((to_come S.left reader.old).fault ≡ None) }
-    ensures fault { S.tells → IfErr result (FaultOf (to_come S.left reader.old)) }
-    ensures failed { IfErr result (HasCause S.faults reader.old reader.new) }
-    ensures never_falls { S.faults (source_of reader.old) ≤ S.faults (source_of reader.new) }
-    ensures same_name { S.name (source_of reader.new) ≡ S.name (source_of reader.old) }
+    ensures reads { ReadsToEnd S.tells S.left S.faults S.name reader.old reader.new result }
 {
-    let Ok(mut ear) = ear_for(alloc, conf) else {
-        return Err(RecordingFault::NoMemory);
-    };
+    let mut ear = ear_for(alloc, conf)?;
     let mut chunk = Chunk::default();
     let mut out = Bytes::new(alloc);
-    if let Err(fault) = print_records(reader, &mut ear, &mut chunk, &mut out) {
-        return Err(fault);
-    }
-    match print_rest(&mut ear, &mut chunk, &mut out) {
-        Ok(()) => Ok(out),
-        Err(_) => Err(RecordingFault::NoMemory),
-    }
+    print_records(reader, &mut ear, &mut chunk, &mut out)?;
+    print_rest(&mut ear, &mut chunk, &mut out)?;
+    Ok(out)
 }

@@ -4,8 +4,8 @@ use Rattle.rtt_script.specs.Writing.{HasPrinted}
 use Rattle.rtt_script.proofs.Printing.{whole_printed}
 use Rattle.rtt_script.proofs.recordings.script_recording.Goals as goal
 
-pub returns-in-Ok-print_rest-clause-printed : goal.returns-in-Ok-print_rest-clause-printed
-returns-in-Ok-print_rest-clause-printed g c = λ t octets e.
-    let P : List ℕ → Type 0 = λ printed. HasPrinted c.args.conf [] c.in-Ok.ear printed in
-    whole_printed c.args.conf octets g.S.Source.tells (to_come g.S.Source.left c.args.reader.now) c.in-Ok.ear c.print_records.new.ear c.new-out.result c.print_records.new.out c.print_rest.new.out t e
-    (subst P (sym c.new-out.ensures) c.in-Ok.ensures.printed) c.in_default-print_records.ensures.prints c.in-Ok-print_rest.ensures
+pub returns-clause-printed : goal.returns-clause-printed
+returns-clause-printed g c = λ t octets e.
+    let P : List ℕ → Type 0 = λ printed. HasPrinted c.args.conf [] c.in_ok-ear.ear printed in
+    whole_printed c.args.conf octets g.S.Source.tells (to_come g.S.Source.left c.args.reader.now) c.in_ok-ear.ear c.print_records.new.ear c.new-out.result c.print_records.new.out c.print_rest.new.out t e
+    (subst P (sym c.new-out.ensures) c.in_ok-ear.ensures.printed) c.in_ok-print_records.ensures.prints c.in_ok-print_rest.ensures

@@ -8,4 +8,4 @@ use Rattle.rtt_top.proofs.views.TranscriptRecordingView.view_of.Goals as goal
 pub returns-clause-refused : goal.returns-clause-refused
 returns-clause-refused g c = λ told.
     let come = to_come g.S.Source.left c.args.reader.now in
-    IfErr-weaker c.script_recording.result (FaultOf come) (IsRefusal come.fault) (as_refusal come) (c.script_recording.ensures.fault told)
+    IfErr-weaker c.script_recording.result (FaultOf come) (IsRefusal come.fault) (as_refusal come) (c.script_recording.ensures.reads.fault told)
