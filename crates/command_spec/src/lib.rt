@@ -4,7 +4,9 @@
 mod faults;
 pub mod laws;
 pub mod limits;
+mod names;
 mod requests;
 
 pub use faults::{Fault, Refusal};
+pub use names::{dump_kind_name, fault_name};
 pub use requests::ReadRequest;

@@ -3,33 +3,16 @@ ghost use Rattle.std.specs.Prelude.{◌≡◌, ◌+◌, ◌≤◌, ◌++◌, fla
 ghost use Rattle.wire_spec.specs.Packets.{packet_of, blocks_of};
 ghost use Rattle.wire_spec.specs.Text.{text_of};
 ghost use Rattle.red_blocks.specs.Views.{IsView, blocks_in, packet_in};
-ghost use Rattle.command_spec.specs.Listing.{fault_name, bit, block_length, packet_line, refused_line, sent_line, record_line};
+ghost use Rattle.command_spec.specs.Listing.{bit, block_length, packet_line, refused_line, sent_line, record_line};
 ghost use Rattle.rtt_list.specs.Lines.{head_line};
 ghost use Rattle.rtpdump_io.specs.Answers.{record_of, is_end};
 
 use crate::lines::Line;
+use command_spec::fault_name;
 use red_blocks::{TextView, read_text, view_text};
 use rtpdump_io::DumpItem;
 use rtt_base::{Pts, TextBlock, TextPacket};
 use wire_spec::TextFault;
-
-fn name_of(fault: TextFault) -> &'static [u8]
-    ensures name { result.now ≡ fault_name fault }
-    ensures short { length result.now ≤ 9 }
-{
-    match fault {
-        TextFault::Short => b"Short",
-        TextFault::Version => b"Version",
-        TextFault::Padding => b"Padding",
-        TextFault::Sources => b"Sources",
-        TextFault::WrongType => b"WrongType",
-        TextFault::Cut => b"Cut",
-        TextFault::Many => b"Many",
-        TextFault::Long => b"Long",
-        TextFault::NotText => b"NotText",
-        TextFault::Foreign => b"Foreign",
-    }
-}
 
 fn digit_of(mark: bool) -> &'static [u8]
     ensures digit { result.now ≡ bit mark }
@@ -145,7 +128,7 @@ fn write_refused(line: &mut Line, at: u32, fault: TextFault)
 {
     line.clear();
     line.prepend(b"\n");
-    line.prepend(name_of(fault));
+    line.prepend(fault_name(fault));
     line.prepend(b" refused ");
     line.prepend_number(at);
 }

@@ -1,13 +1,10 @@
 //! Lines of print. Where memory runs out a part of one may be appended.
 ghost use Rattle.std.specs.Prelude.{◌≡◌, ◌++◌, OnOk, decimal};
-ghost use Rattle.command_spec.specs.Listing.{fault_name};
-ghost use Rattle.command_spec.specs.Messages.{dump_kind_name};
 ghost use Rattle.command_spec.specs.Showing.{number_line};
 ghost use Rattle.rtt_show.specs.Surveys.{title_of};
 
 use itoa::Buffer;
 use rtt_base::{Bytes, NoMemory};
-use wire_spec::{DumpKind, TextFault};
 
 /// Appends a number and what stands before it.
 pub(crate) fn append_number(before: &[u8], number: u64, out: &mut Bytes) -> Result<(), NoMemory>
@@ -41,36 +38,4 @@ pub(crate) fn append_title(ssrc: u32, from: u32, to: u32, out: &mut Bytes) -> Re
     append_number(b" from ", u64::from(from), out)?;
     append_number(b" to ", u64::from(to), out)?;
     out.append(b"\n")
-}
-
-/// The name of a refusal.
-pub(crate) fn refusal_name(fault: TextFault) -> &'static [u8]
-    ensures { result.now ≡ fault_name fault }
-{
-    match fault {
-        TextFault::Short => b"Short",
-        TextFault::Version => b"Version",
-        TextFault::Padding => b"Padding",
-        TextFault::Sources => b"Sources",
-        TextFault::WrongType => b"WrongType",
-        TextFault::Cut => b"Cut",
-        TextFault::Many => b"Many",
-        TextFault::Long => b"Long",
-        TextFault::NotText => b"NotText",
-        TextFault::Foreign => b"Foreign",
-    }
-}
-
-/// The name of a fault of a recording.
-pub(crate) fn kind_name(kind: DumpKind) -> &'static [u8]
-    ensures { result.now ≡ dump_kind_name kind }
-{
-    match kind {
-        DumpKind::NotDump => b"NotDump",
-        DumpKind::BadLength => b"BadLength",
-        DumpKind::EndsInside => b"EndsInside",
-        DumpKind::TooLong => b"TooLong",
-        DumpKind::TooLarge => b"TooLarge",
-        DumpKind::Read => b"Read",
-    }
 }

@@ -12,9 +12,10 @@ ghost use Rattle.rtt_show.specs.Shown.{asked, conf_of, heard_text, refusal_lines
 
 use crate::first_sources::FirstSources;
 use crate::hearing::hear_all;
-use crate::printing::{append_number_line, append_title, refusal_name};
+use crate::printing::{append_number_line, append_title};
 use crate::sorts::place_among;
 use crate::surveys::{Survey, survey_of};
+use command_spec::fault_name;
 use itoa::Buffer;
 use rtt_base::limits::USUAL_WAIT;
 use rtt_base::{Bytes, NoMemory, Pts};
@@ -108,7 +109,7 @@ fn append_refusal(fault: TextFault, number: u64, out: &mut Bytes) -> Result<(), 
         return Ok(());
     }
     out.append(b"-- refused ")?;
-    out.append(refusal_name(fault))?;
+    out.append(fault_name(fault))?;
     append_number_line(b" ", number, out)
 }
 

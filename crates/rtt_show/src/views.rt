@@ -10,8 +10,9 @@ ghost use Rattle.rtt_show.specs.Whole.{AreShown, IsGroupOf, IsGroupShown, ends, 
 use crate::found::Found;
 use crate::groups::{Group, Groups};
 use crate::pairs::show_pair;
-use crate::printing::{append_number, append_number_line, kind_name};
+use crate::printing::{append_number, append_number_line};
 use crate::streams::show_stream;
+use command_spec::dump_kind_name;
 use rtpdump_io::DumpFault;
 use rtt_base::{Bytes, NoMemory, Pts};
 use std::alloc::Global;
@@ -90,7 +91,7 @@ fn append_end(end: Option<DumpFault>, out: &mut Bytes) -> Result<(), NoMemory>
         Some(fault) => {
             append_number(b"-- byte ", fault.offset, out)?;
             out.append(b": ")?;
-            out.append(kind_name(fault.kind))?;
+            out.append(dump_kind_name(fault.kind))?;
             out.append(b"\n")
         }
     }

@@ -2,19 +2,18 @@
 ghost use Rattle.std.specs.Prelude.{◌≡◌, ◌++◌, ◌≤◌, decimal, Ok, OnErr, IfErr};
 ghost use Rattle.std.specs.List.{concat};
 ghost use Rattle.rtt_io.specs.Counts.{Rose};
-ghost use Rattle.command_spec.specs.Messages.{refusal_status, fault_status, status_of, refusal_message, trouble, byte_message, line_message, dump_kind_name, conf_kind_name, frame_kind_name};
+ghost use Rattle.command_spec.specs.Messages.{refusal_status, fault_status, status_of, refusal_message, trouble, byte_message, line_message, conf_kind_name, frame_kind_name};
 ghost use Rattle.rtt_words.specs.Told.{fault_message, message_of};
 ghost use Rattle.rtt_top.specs.Faults.{message_in};
 ghost use Rattle.rtt_top.specs.Sinks.{Wrote, WrotePartly, TookFront, TookIfCalm, place_message};
 
 use crate::names::ending_name;
-use command_spec::{Fault, Refusal};
+use command_spec::{Fault, Refusal, dump_kind_name};
 use file_spec::ConfKind;
 use frame_spec::FrameKind;
 use itoa::Buffer;
 use rtt_base::{Bytes, Failed};
 use rtt_io::Sink;
-use wire_spec::DumpKind;
 
 /// The program's status for a refusal.
 fn refusal_status(refusal: Refusal) -> u8
@@ -39,19 +38,6 @@ pub fn status(fault: Fault) -> u8
         Fault::CannotPrint | Fault::CannotWrite { .. } => 7,
         Fault::LinkFailed { .. } => 8,
         Fault::NoMemory => 70,
-    }
-}
-
-fn dump_kind_name(kind: DumpKind) -> &'static [u8]
-    ensures { result.now ≡ dump_kind_name kind }
-{
-    match kind {
-        DumpKind::NotDump => b"NotDump",
-        DumpKind::BadLength => b"BadLength",
-        DumpKind::EndsInside => b"EndsInside",
-        DumpKind::TooLong => b"TooLong",
-        DumpKind::TooLarge => b"TooLarge",
-        DumpKind::Read => b"Read",
     }
 }
 

@@ -19,4 +19,4 @@ returns-clause-view g c = λ told.
 pub returns-clause-refused : goal.returns-clause-refused
 returns-clause-refused g c = λ told.
     let come = to_come g.S.Source.left c.args.reader.now in
-    IfErr-weaker c.list_records.result (FaultOf come) (IsRefusal come.fault) (as_refusal come) (c.list_records.ensures.refused told)
+    IfErr-weaker c.list_records.result (FaultOf come) (IsRefusal come.fault) (as_refusal come) (c.list_records.ensures.reads.fault told)
