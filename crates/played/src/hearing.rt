@@ -117,30 +117,8 @@ fn hear_by_plan(
     hear_copies(terminal, records, &found, copies.as_slice())
 }
 
-/// Hears what comes by the plan of what was sent to the terminal: its whole recording is made in memory.
-fn hear_recording(
-    alloc: Global,
-    heard: &mut Terminal,
-    log: &SentLog,
-    terminal: usize,
-    plan: &[PlanLine],
-) -> Result<(), NoMemory>
-    requires open { IsOpen heard.old }
-    requires none { (counts_of heard.old).packets ≡ 0 }
-    requires terminal { terminal < length log.now }
-    requires leg { terminal < MOST_LEGS }
-    requires sent { OfTerminal log.now terminal IsPlayable }
-    ensures listens { OnOk result (OfTerminal log.now terminal (HearsSent heard.old plan.now terminal heard.new)) }
-    ensures open { IsOpen heard.new }
-    ensures few { (counts_of heard.new).packets < MOST_ARRIVALS }
-{
-    let recording = in_memory(alloc, log, terminal)?;
-    let records = records_of(recording.as_slice());
-    hear_by_plan(alloc, heard, records, plan, terminal as u8)
-}
-
 /// Hears what comes by the plan of what was sent to the terminal: as it was sent, where no line of the plan is of the
-/// terminal and the moments of the packets never fall.
+/// terminal and the moments of the packets never fall. Else its whole recording is made in memory.
 fn hear(
     alloc: Global,
     heard: &mut Terminal,
@@ -158,10 +136,11 @@ fn hear(
     ensures few { (counts_of heard.new).packets < MOST_ARRIVALS }
 {
     if !speaks_of(plan, terminal as u8) && log.never_falls(terminal) {
-        hear_as_sent(alloc, heard, log, terminal)
-    } else {
-        hear_recording(alloc, heard, log, terminal, plan)
+        return hear_as_sent(alloc, heard, log, terminal);
     }
+    let recording = in_memory(alloc, log, terminal)?;
+    let records = records_of(recording.as_slice());
+    hear_by_plan(alloc, heard, records, plan, terminal as u8)
 }
 
 /// The terminal with this number, counted from 0 and below 64, that heard to its end what comes to it, by the plan of a
