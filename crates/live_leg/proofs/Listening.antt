@@ -1,5 +1,5 @@
 -- A leg asks its link.
-use Rattle.std.proofs.Common.{◌≡◌, ◌≤◌, ℕ, true, false, true≢false, inl, inr, List, [], ◌∷◌, ◌++◌, ◌||◌, refl, ap, sym, ◌∙◌, subst, arith}
+use Rattle.std.proofs.Common.{◌≡◌, ◌≤◌, ℕ, true, false, inl, inr, List, [], ◌∷◌, ◌++◌, ◌||◌, refl, ap, sym, ◌∙◌, subst, arith}
 use Rattle.std.specs.Prelude.{Bool}
 use Rattle.std.proofs.lemmas.List.{append-nil}
 use Rattle.stream_spec.specs.Fronts.{IsFront}
@@ -16,7 +16,7 @@ use Rattle.link_io.specs.Taking.{taken_of, closes, came_of}
 use Rattle.link_spec.specs.Links.{Takes, is_closed, is_closing}
 use Rattle.live_spec.specs.Told.{all_by}
 use Rattle.live_leg.specs.declared.states.State.{State}
-use Rattle.live_leg.specs.declared.states.State.TheVariants.{Idle, Giving, Ending, Over}
+use Rattle.live_leg.specs.declared.states.State.TheVariants.{Idle, Over}
 use Rattle.live_leg.specs.declared.legs.LinkLeg.{LinkLeg}
 use Rattle.live_leg.specs.Stories.{after_came, after_taken, hearing_of}
 use Rattle.live_leg.specs.Items.{Item, has_fault, is_fault, text_in}

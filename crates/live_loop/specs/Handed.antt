@@ -1,5 +1,6 @@
 -- A live run by the mixer's calls, newest first: what is in each leg's hand, and how many turns were not blocked for it.
-use Rattle.std.specs.Prelude.{◌≡◌, ◌≤◌, ◌<◌, ◌⊎◌, ℕ, ◌+◌, ◌==◌, Bool, true, false, Option, None, Some, List, [], ◌∷◌, ◌++◌, if◌then◌else◌, ◌||◌}
+use Rattle.std.specs.Prelude.{◌≡◌, ◌≤◌, ◌<◌, ◌⊎◌, ℕ, ◌+◌, ◌==◌, Bool, true, false, Option, None, Some, List, [], ◌∷◌, ◌++◌, if◌then◌else◌}
+use Rattle.std.specs.List.{list_any}
 use Rattle.stream_spec.specs.Ready.{Chunk}
 use Rattle.mixer_spec.specs.Setups.{Setup}
 use Rattle.mixer_spec.specs.Table.{Call, Admit, Hush, Leave, Offer, Turn, after_calls, has_room, is_seated}
@@ -38,8 +39,7 @@ is_end End = true
 is_end _ = false
 
 abbrev pub has_end : List Item → Bool
-has_end [] = false
-has_end (x ∷ xs) = is_end x || has_end xs
+has_end xs = list_any is_end xs
 
 -- it was said so often that all was given, or the end was
 abbrev pub IsEnough : ℕ → List Item → Type 0

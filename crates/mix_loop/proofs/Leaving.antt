@@ -1,6 +1,6 @@
 -- What the mixer's calls do to its table, where legs come and go.
 use Rattle.std.proofs.Common.{◌≡◌, ◌<◌, ◌≤◌, ℕ, Bool, true, false, cond, not, List, ◌∷◌, ap, sym, ◌∙◌, subst, arith}
-use Rattle.std.specs.Prelude.{◌&&◌, is_some, nat_le}
+use Rattle.std.specs.Prelude.{is_some, nat_le}
 use Rattle.std.proofs.lemmas.Bool.{not-true}
 use Rattle.mixer_spec.specs.Setups.{Setup, is_before_end}
 use Rattle.mixer_spec.specs.Table.{Table, Call, Admit, Hush, Leave, is_seated, after_calls, free_place, admitted, hushed, freed, may_leave, departed, stopped, entered}
