@@ -15,7 +15,8 @@ use Rattle.command_spec.specs.Firsts.{Firsts}
 use Rattle.command_spec.specs.Listing.{fault_name}
 use Rattle.command_spec.specs.Messages.{dump_kind_name}
 use Rattle.command_spec.specs.Reading.{usual_wait}
-use Rattle.command_spec.specs.Streams.{Sort, sort_of, is_of_rtcp, is_cut, is_large, is_no_rtp, ssrc_of, type_of, streams, stream, pairs, packets_of, sources, text_at, is_dynamic, type_inside, may_be_red, may_be_text}
+use Rattle.command_spec.specs.Streams as sorts
+use Rattle.command_spec.specs.Streams.{Sort, sort_of, is_same_sort, ssrc_of, type_of, streams, stream, pairs, packets_of, sources, text_at, is_dynamic, type_inside, may_be_red, may_be_text}
 
 -- a line of a number, where it is not 0
 abbrev pub number_line : List ℕ → ℕ → List ℕ
@@ -104,8 +105,9 @@ pair_view pair came =
 
 -- ---- all
 
-abbrev pub how_many : (Sort → Bool) → List Item → ℕ
-how_many is items = length (filter (λ item. is (sort_of item)) items)
+-- how many records are of this sort, of which no header is read
+abbrev pub how_many : Sort → List Item → ℕ
+how_many sort items = length (filter (λ item. is_same_sort sort (sort_of item)) items)
 
 -- how many packets are of later streams and pairs
 abbrev pub more : Pts → List Item → ℕ
@@ -113,8 +115,8 @@ more pts items = (streams pts items).others + (pairs pts items).others
 
 unfoldable pub other_lines : Pts → List Item → List ℕ
 other_lines pts items =
-    number_line (codes "-- rtcp ") (how_many is_of_rtcp items) ++ number_line (codes "-- cut ") (how_many is_cut items)
-    ++ number_line (codes "-- large ") (how_many is_large items) ++ number_line (codes "-- no RTP ") (how_many is_no_rtp items)
+    number_line (codes "-- rtcp ") (how_many sorts.Rtcp items) ++ number_line (codes "-- cut ") (how_many sorts.Cut items)
+    ++ number_line (codes "-- large ") (how_many sorts.Large items) ++ number_line (codes "-- no RTP ") (how_many sorts.NoRtp items)
     ++ number_line (codes "-- more ") (more pts items)
 
 -- the recording is whole, or there is a fault where it can't be read further

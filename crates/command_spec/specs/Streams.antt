@@ -41,21 +41,13 @@ sort_of_what dumps.Large = Large
 abbrev pub sort_of : Item → Sort
 sort_of item = sort_of_what item.what
 
-abbrev pub is_of_rtcp : Sort → Bool
-is_of_rtcp Rtcp = true
-is_of_rtcp _ = false
-
-abbrev pub is_cut : Sort → Bool
-is_cut Cut = true
-is_cut _ = false
-
-abbrev pub is_large : Sort → Bool
-is_large Large = true
-is_large _ = false
-
-abbrev pub is_no_rtp : Sort → Bool
-is_no_rtp NoRtp = true
-is_no_rtp _ = false
+-- both are the same, and none whose header is read
+abbrev pub is_same_sort : Sort → Sort → Bool
+is_same_sort NoRtp NoRtp = true
+is_same_sort Rtcp Rtcp = true
+is_same_sort Cut Cut = true
+is_same_sort Large Large = true
+is_same_sort _ _ = false
 
 -- ---- streams and pairs
 

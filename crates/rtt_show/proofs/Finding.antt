@@ -10,7 +10,7 @@ use Rattle.rtpdump_io.specs.InMemory.{IsRecord}
 use Rattle.rtpdump_io.specs.declared.items.DumpItem.{DumpItem}
 use Rattle.rtpdump_io.specs.declared.items.DumpItem.TheVariants as items
 use Rattle.rtpdump_io.specs.Answers.{record_of}
-use Rattle.command_spec.specs.Streams.{Sort, Headed, sort_of, sort_of_what, is_rtcp, is_of_rtcp, is_cut, is_large, is_no_rtp, is_of_text, stream_of, pair_of, pair, headed}
+use Rattle.command_spec.specs.Streams.{Sort, Headed, sort_of, sort_of_what, is_rtcp, is_same_sort, is_of_text, stream_of, pair_of, pair, headed}
 use Rattle.command_spec.specs.Streams as sorts
 use Rattle.command_spec.specs.Showing.{how_many}
 use Rattle.command_spec.proofs.HeaderTypes.{header_read, type_read}
@@ -24,15 +24,15 @@ use Rattle.rtt_show.proofs.Grouping.{passed}
 use Rattle.rtt_show.proofs.Surveying.{filter_more}
 
 -- one more, or none
-how_many_more : (is : Sort → Bool) (items : List Item) (item : Item) → how_many is (items ++ item ∷ []) ≡ how_many is items + one_if (is (sort_of item))
-how_many_more is items item = filter_more (λ i. is (sort_of i)) items item ∙ go (is (sort_of item))
+how_many_more : (kind : Sort) (items : List Item) (item : Item) → how_many kind (items ++ item ∷ []) ≡ how_many kind items + one_if (is_same_sort kind (sort_of item))
+how_many_more kind items item = filter_more (λ i. is_same_sort kind (sort_of i)) items item ∙ go (is_same_sort kind (sort_of item))
   where
-    go : (b : Bool) → cond b (suc (how_many is items)) (how_many is items) ≡ how_many is items + one_if b
+    go : (b : Bool) → cond b (suc (how_many kind items)) (how_many kind items) ≡ how_many kind items + one_if b
     go true = omega arith
     go false = omega arith
 
-counted : (is : Sort → Bool) (items : List Item) (item : Item) (sort : Sort) (old new : ℕ) → sort_of item ≡ sort → old ≡ how_many is items → new ≡ old + one_if (is sort) → new ≡ how_many is (items ++ item ∷ [])
-counted is items item sort old new s e n = n ∙ (ap (λ k. k + one_if (is sort)) e ∙ (ap (λ (x : Sort). how_many is items + one_if (is x)) (sym s) ∙ sym (how_many_more is items item)))
+counted : (kind : Sort) (items : List Item) (item : Item) (sort : Sort) (old new : ℕ) → sort_of item ≡ sort → old ≡ how_many kind items → new ≡ old + one_if (is_same_sort kind sort) → new ≡ how_many kind (items ++ item ∷ [])
+counted kind items item sort old new s e n = n ∙ (ap (λ k. k + one_if (is_same_sort kind sort)) e ∙ (ap (λ (x : Sort). how_many kind items + one_if (is_same_sort kind x)) (sym s) ∙ sym (how_many_more kind items item)))
 
 no_stream : (pts : Pts) (unread : Unread) → stream_of pts (unread_sort unread) ≡ None
 no_stream pts Rtcp = refl
@@ -56,14 +56,14 @@ tallied old new item unread s t items f =
     subst (λ (pts : Pts). IsFound (record { pts = pts; streams = new.streams; pairs = new.pairs; rtcp = new.rtcp; cut = new.cut; large = new.large; no_rtp = new.no_rtp }) (items ++ item ∷ [])) (sym t.pts) (record {
       streams = passed (stream_of old.pts) (2 ^ 32) new.streams items item (ap (stream_of old.pts) s ∙ no_stream old.pts unread) (groups_same (stream_of old.pts) (2 ^ 32) old.streams new.streams items t.streams f.streams);
       pairs = passed (pair_of old.pts) (2 ^ 39) new.pairs items item (ap (pair_of old.pts) s ∙ no_pair old.pts unread) (groups_same (pair_of old.pts) (2 ^ 39) old.pairs new.pairs items t.pairs f.pairs);
-      rtcp = counted is_of_rtcp items item sort old.rtcp new.rtcp s f.rtcp t.rtcp;
-      cut = counted is_cut items item sort old.cut new.cut s f.cut t.cut;
-      large = counted is_large items item sort old.large new.large s f.large t.large;
-      no_rtp = counted is_no_rtp items item sort old.no_rtp new.no_rtp s f.no_rtp t.no_rtp;
+      rtcp = counted sorts.Rtcp items item sort old.rtcp new.rtcp s f.rtcp t.rtcp;
+      cut = counted sorts.Cut items item sort old.cut new.cut s f.cut t.cut;
+      large = counted sorts.Large items item sort old.large new.large s f.large t.large;
+      no_rtp = counted sorts.NoRtp items item sort old.no_rtp new.no_rtp s f.no_rtp t.no_rtp;
     })
 
-uncounted : (is : Sort → Bool) (items : List Item) (item : Item) (header : Reading) (n : ℕ) → sort_of item ≡ Headed header → is (Headed header) ≡ false → n ≡ how_many is items → n ≡ how_many is (items ++ item ∷ [])
-uncounted is items item header n s none e = counted is items item (Headed header) n n s e (nothing_more ∙ ap (λ b. n + one_if b) (sym none))
+uncounted : (kind : Sort) (items : List Item) (item : Item) (header : Reading) (n : ℕ) → sort_of item ≡ Headed header → is_same_sort kind (Headed header) ≡ false → n ≡ how_many kind items → n ≡ how_many kind (items ++ item ∷ [])
+uncounted kind items item header n s none e = counted kind items item (Headed header) n n s e (nothing_more ∙ ap (λ b. n + one_if b) (sym none))
   where
     nothing_more : n ≡ n + 0
     nothing_more = omega arith
@@ -79,10 +79,10 @@ of_stream old new r header s t small is g e items f =
     subst (λ (x : Found). IsFound x (items ++ item ∷ [])) (sym e) (record {
       streams = g (stream_of pts) (2 ^ 32) items is small named f.streams;
       pairs = passed (pair_of pts) (2 ^ 39) old.pairs items item other f.pairs;
-      rtcp = uncounted is_of_rtcp items item header old.rtcp s refl f.rtcp;
-      cut = uncounted is_cut items item header old.cut s refl f.cut;
-      large = uncounted is_large items item header old.large s refl f.large;
-      no_rtp = uncounted is_no_rtp items item header old.no_rtp s refl f.no_rtp;
+      rtcp = uncounted sorts.Rtcp items item header old.rtcp s refl f.rtcp;
+      cut = uncounted sorts.Cut items item header old.cut s refl f.cut;
+      large = uncounted sorts.Large items item header old.large s refl f.large;
+      no_rtp = uncounted sorts.NoRtp items item header old.no_rtp s refl f.no_rtp;
     })
 
 -- a packet of a pair
@@ -96,10 +96,10 @@ of_pair old new r header s t small is g e items f =
     subst (λ (x : Found). IsFound x (items ++ item ∷ [])) (sym e) (record {
       streams = passed (stream_of pts) (2 ^ 32) old.streams items item other f.streams;
       pairs = g (pair_of pts) (2 ^ 39) items is small named f.pairs;
-      rtcp = uncounted is_of_rtcp items item header old.rtcp s refl f.rtcp;
-      cut = uncounted is_cut items item header old.cut s refl f.cut;
-      large = uncounted is_large items item header old.large s refl f.large;
-      no_rtp = uncounted is_no_rtp items item header old.no_rtp s refl f.no_rtp;
+      rtcp = uncounted sorts.Rtcp items item header old.rtcp s refl f.rtcp;
+      cut = uncounted sorts.Cut items item header old.cut s refl f.cut;
+      large = uncounted sorts.Large items item header old.large s refl f.large;
+      no_rtp = uncounted sorts.NoRtp items item header old.no_rtp s refl f.no_rtp;
     })
 
 -- what a header tells

@@ -13,7 +13,7 @@ use Rattle.view_spec.specs.declared.counts.Counts.{Counts}
 use Rattle.view_spec.specs.Seen.{Reception, text_at, source_at, counts_at}
 use Rattle.view_spec.specs.Views.{Source, source_view, counts_line}
 use Rattle.command_spec.specs.Firsts.{Firsts}
-use Rattle.command_spec.specs.Streams.{Sort, sort_of, is_name, naming, stream_of, pair_of, is_of_rtcp, is_cut, is_large, is_no_rtp, sources, source_in, is_dynamic, is_like_text, are_like_text, type_inside, may_be_red, may_be_text}
+use Rattle.command_spec.specs.Streams.{Sort, sort_of, is_name, naming, stream_of, pair_of, sources, source_in, is_dynamic, is_like_text, are_like_text, type_inside, may_be_red, may_be_text}
 use Rattle.command_spec.specs.Streams as streams
 use Rattle.command_spec.specs.Showing.{hearing, speaker, sources_seen, refusals, place_of, refusal_line, refusal_lines, refused_as, number_line, stream_title, stream_view, pair_view, items_view, other_lines, how_many, guess, guess_line, least_time, greatest_time}
 use Rattle.terminal.specs.declared.terminals.Terminal.{Terminal}
@@ -166,11 +166,11 @@ others_are f items w =
     let lines : ℕ → ℕ → ℕ → ℕ → ℕ → List ℕ = λ rtcp cut large no_rtp more.
     number_line (codes "-- rtcp ") rtcp ++ number_line (codes "-- cut ") cut ++ number_line (codes "-- large ") large ++ number_line (codes "-- no RTP ") no_rtp ++ number_line (codes "-- more ") more in
     ap (λ n. lines n f.cut f.large f.no_rtp (f.streams.others + f.pairs.others)) w.rtcp
-    ∙ (ap (λ n. lines (how_many is_of_rtcp items) n f.large f.no_rtp (f.streams.others + f.pairs.others)) w.cut
-    ∙ (ap (λ n. lines (how_many is_of_rtcp items) (how_many is_cut items) n f.no_rtp (f.streams.others + f.pairs.others)) w.large
-    ∙ (ap (λ n. lines (how_many is_of_rtcp items) (how_many is_cut items) (how_many is_large items) n (f.streams.others + f.pairs.others)) w.no_rtp
-    ∙ (ap (λ (x : Firsts). lines (how_many is_of_rtcp items) (how_many is_cut items) (how_many is_large items) (how_many is_no_rtp items) (x.others + f.pairs.others)) w.streams.firsts
-    ∙ ap (λ (x : Firsts). lines (how_many is_of_rtcp items) (how_many is_cut items) (how_many is_large items) (how_many is_no_rtp items) ((streams.streams f.pts items).others + x.others)) w.pairs.firsts))))
+    ∙ (ap (λ n. lines (how_many streams.Rtcp items) n f.large f.no_rtp (f.streams.others + f.pairs.others)) w.cut
+    ∙ (ap (λ n. lines (how_many streams.Rtcp items) (how_many streams.Cut items) n f.no_rtp (f.streams.others + f.pairs.others)) w.large
+    ∙ (ap (λ n. lines (how_many streams.Rtcp items) (how_many streams.Cut items) (how_many streams.Large items) n (f.streams.others + f.pairs.others)) w.no_rtp
+    ∙ (ap (λ (x : Firsts). lines (how_many streams.Rtcp items) (how_many streams.Cut items) (how_many streams.Large items) (how_many streams.NoRtp items) (x.others + f.pairs.others)) w.streams.firsts
+    ∙ ap (λ (x : Firsts). lines (how_many streams.Rtcp items) (how_many streams.Cut items) (how_many streams.Large items) (how_many streams.NoRtp items) ((streams.streams f.pts items).others + x.others)) w.pairs.firsts))))
 
 pub all_shown : (f : Found) (items : List Item) (end one two three four five : List ℕ) → IsFound f items → length items < 2 ^ 32 → one ≡ [] → AreShown (Stream f.pts) f.streams.groups.items one two → AreShown Pair f.pairs.groups.items two three → four ≡ three ++ others_text f → five ≡ four ++ end
     → five ≡ items_view f.pts items ++ end

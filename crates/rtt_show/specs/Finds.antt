@@ -3,7 +3,7 @@ use Rattle.std.specs.Prelude.{◌≡◌, ℕ, ◌+◌, ◌≤◌, ◌^◌, Bool,
 use Rattle.wire_spec.specs.Dump.{Item}
 use Rattle.rtpdump_io.specs.declared.items.DumpItem.{DumpItem}
 use Rattle.rtpdump_io.specs.declared.items.DumpItem.TheVariants as items
-use Rattle.command_spec.specs.Streams.{Sort, sort_of, is_of_rtcp, is_cut, is_large, is_no_rtp, stream_of, pair_of}
+use Rattle.command_spec.specs.Streams.{Sort, is_same_sort, stream_of, pair_of}
 use Rattle.command_spec.specs.Streams as sorts
 use Rattle.command_spec.specs.Showing.{how_many}
 use Rattle.rtt_show.specs.declared.found.Found.{Found}
@@ -15,10 +15,10 @@ use Rattle.rtt_show.specs.Groups.{Grouped}
 pub record IsFound (f : Found) (items : List Item) : Type 0 where
   pub streams : Grouped (stream_of f.pts) (2 ^ 32) f.streams items
   pub pairs : Grouped (pair_of f.pts) (2 ^ 39) f.pairs items
-  pub rtcp : f.rtcp ≡ how_many is_of_rtcp items
-  pub cut : f.cut ≡ how_many is_cut items
-  pub large : f.large ≡ how_many is_large items
-  pub no_rtp : f.no_rtp ≡ how_many is_no_rtp items
+  pub rtcp : f.rtcp ≡ how_many sorts.Rtcp items
+  pub cut : f.cut ≡ how_many sorts.Cut items
+  pub large : f.large ≡ how_many sorts.Large items
+  pub no_rtp : f.no_rtp ≡ how_many sorts.NoRtp items
 
 -- no count is greater
 pub record IsSmall (n : ℕ) (f : Found) : Type 0 where
@@ -51,7 +51,7 @@ pub record Tallies (old : Found) (unread : Unread) (new : Found) : Type 0 where
   pub pts : new.pts ≡ old.pts
   pub streams : new.streams ≡ old.streams
   pub pairs : new.pairs ≡ old.pairs
-  pub rtcp : new.rtcp ≡ old.rtcp + one_if (is_of_rtcp (unread_sort unread))
-  pub cut : new.cut ≡ old.cut + one_if (is_cut (unread_sort unread))
-  pub large : new.large ≡ old.large + one_if (is_large (unread_sort unread))
-  pub no_rtp : new.no_rtp ≡ old.no_rtp + one_if (is_no_rtp (unread_sort unread))
+  pub rtcp : new.rtcp ≡ old.rtcp + one_if (is_same_sort sorts.Rtcp (unread_sort unread))
+  pub cut : new.cut ≡ old.cut + one_if (is_same_sort sorts.Cut (unread_sort unread))
+  pub large : new.large ≡ old.large + one_if (is_same_sort sorts.Large (unread_sort unread))
+  pub no_rtp : new.no_rtp ≡ old.no_rtp + one_if (is_same_sort sorts.NoRtp (unread_sort unread))
