@@ -1,7 +1,7 @@
 //! What the lines of a conference say, one by one and so far.
 ghost use Rattle.std.specs.Prelude.{◌≡◌, ◌<◌, ◌≤◌, ◌∷◌, [], ◌++◌, length, OnOk};
 ghost use Rattle.file_spec.specs.declared.limits.TheConstants.{MOST_LEGS};
-ghost use Rattle.file_spec.specs.Conf.{Gens, Leg, Stays, nothing, with_entry};
+ghost use Rattle.file_spec.specs.Conf.{Leg, nothing, with_entry};
 
 use conference::{Legs, Plan, set_gens, set_stay};
 use file_spec::limits::{MOST_LEGS, USUAL_GENS};
@@ -102,24 +102,6 @@ impl Draft {
         })
     }
 
-    fn add_gens(&mut self, line: GensLine) -> Result<(), NoMemory>
-        requires { line.leg < length self.old.legs }
-        ensures { OnOk result (above_of self.new ≡ with_entry (above_of self.old) (Gens line)) }
-    {
-        push_place(&mut self.gens, line.leg)?;
-        set_gens(&mut self.legs, usize::from(line.leg), line.gens);
-        Ok(())
-    }
-
-    fn add_stay(&mut self, line: StayLine) -> Result<(), NoMemory>
-        requires { line.leg < length self.old.legs }
-        ensures { OnOk result (above_of self.new ≡ with_entry (above_of self.old) (Stays line)) }
-    {
-        push_place(&mut self.stays, line.leg)?;
-        set_stay(&mut self.legs, usize::from(line.leg), line.stay);
-        Ok(())
-    }
-
     /// The lines so far and one more.
     pub fn add(&mut self, alloc: Global, entry: Entry<'_>) -> Result<(), NoMemory>
         requires { MayFollow (above_of self.old) (meaning entry) }
@@ -127,8 +109,14 @@ impl Draft {
     {
         match entry {
             Entry::Leg(leg) => return self.add_leg(alloc, leg),
-            Entry::Gens(line) => return self.add_gens(line),
-            Entry::Stays(line) => return self.add_stay(line),
+            Entry::Gens(line) => {
+                push_place(&mut self.gens, line.leg)?;
+                set_gens(&mut self.legs, usize::from(line.leg), line.gens);
+            }
+            Entry::Stays(line) => {
+                push_place(&mut self.stays, line.leg)?;
+                set_stay(&mut self.legs, usize::from(line.leg), line.stay);
+            }
             Entry::Tick(value) => self.tick = Some(value),
             Entry::Spacing(value) => self.spacing = Some(value),
             Entry::Wait(value) => self.wait = Some(value),
