@@ -25,11 +25,8 @@ moment_of (Large at) = Some at
 moment_of End = None
 
 abbrev pub is_rtcp : DumpItem → Bool
-is_rtcp (Packet at) = false
 is_rtcp (Rtcp at) = true
-is_rtcp (Cut at) = false
-is_rtcp (Large at) = false
-is_rtcp End = false
+is_rtcp _ = false
 
 -- what is known then is what a record at this moment tells, which has these octets where it is one of RTCP
 abbrev pub TellsItem : ℕ → ℕ → DumpItem → List ℕ → Said → Said → Type 0
