@@ -1,12 +1,12 @@
 -- What each call changes of what places stand for.
-use Rattle.std.proofs.Common.{◌≡◌, ℕ, zero, suc, ◌+◌, ◌-◌, ◌<◌, Bool, true, false, cond, not, inl, inr, Option, Some, None, List, [], ◌∷◌, length, length-set, set, get_or, replicate, refl, ap, subst, sym, ◌∙◌, arith}
+use Rattle.std.proofs.Common.{◌≡◌, ℕ, zero, suc, ◌+◌, ◌-◌, ◌<◌, Bool, true, false, cond, not, inl, inr, Option, Some, None, List, length, length-set, set, get_or, replicate, refl, ap, subst, sym, ◌∙◌, arith}
 use Rattle.std.specs.Prelude.{slice_get, slice_index_or, is_some, unwrap_or, IfSome}
-use Rattle.std.proofs.lemmas.Bool.{cases_Bool, cases_eq, true≢false, eq-eqb, ne_eqb}
+use Rattle.std.proofs.lemmas.Bool.{cases_eq, ne_eqb}
 use Rattle.std.proofs.lemmas.Option.{slice_get_within, slice_get-get_or, unwrap_or-slice_get}
 use Rattle.mixer_spec.specs.Rounds.{first_from, set_at}
 use Rattle.mixer_spec.proofs.Rounds.{first_some}
 use Rattle.mixer_spec.proofs.Lists.{set_same, set_other, get_set_same, get_set_other}
-use Rattle.mixer_spec.proofs.Seats.{leg_in_some}
+use Rattle.mixer_spec.proofs.Seats.{leg_in_found, leg_in_some}
 use Rattle.mixer_spec.specs.Setups.{Setup}
 use Rattle.mixer_spec.specs.Table.{Seats, Table, no_seats, is_at, leg_in, is_free, free_place, come_to, admitted, hushed, freed}
 use Rattle.seating.specs.declared.seats.Seat.{Seat}
@@ -58,25 +58,11 @@ at_other f i o q k was is = elim (cases_eq k i) [
   | inr other ↦ ap (is_at q) (set_other f i o k other)
 ]
 
-at_from : (o : Option ℕ) (p : ℕ) → o ≡ Some p → is_at p o ≡ true
-at_from o p e = ap (is_at p) e ∙ eq-eqb p p refl
-
 not_at : (o : Option ℕ) (p q : ℕ) → o ≡ Some p → (q ≡ p → ⊥) → is_at q o ≡ false
 not_at o p q e n = ap (is_at q) e ∙ ne_eqb p q (λ s. n (sym s))
 
 none_at : (o : Option ℕ) (q : ℕ) → o ≡ None → is_at q o ≡ false
 none_at o q e = ap (is_at q) e
-
--- of those that hold a place one is found there
-pub leg_in_found : (v : Seats) (n p a : ℕ) → a < n → v.place a ≡ Some p → (b : ℕ) × (leg_in v n p ≡ Some b)
-leg_in_found v zero p a l e = absurd (omega arith)
-leg_in_found v (suc n) p a l e = elim (cases_Bool (is_at p (v.place n))) [
-  | inl t ↦ (n, rw t refl)
-  | inr f ↦ elim (cases_eq a n) [
-    | inl same ↦ absurd (true≢false (sym (at_from (v.place n) p (sym (ap v.place same) ∙ e)) ∙ f))
-    | inr other ↦ let r = leg_in_found v n p a (omega arith) e in (r.0, rw f r.1)
-  ]
-]
 
 -- whoever is found at q is one that holds it
 none_found : (v : Seats) (n q : ℕ) → ((k : ℕ) → k < n → v.place k ≡ Some q → ⊥) → leg_in v n q ≡ None
