@@ -1,6 +1,6 @@
 -- What a table of slots stands for: at each terminal what waits of each source, who listens, and what was taken of each
 -- source with who was given it. Chunks that wait nowhere any more are kept for a while, or not.
-use Rattle.std.specs.Prelude.{◌≡◌, ℕ, Bool, true, false, None, Some, List, [], ◌∷◌, ◌++◌, ◌↔◌, length, map, slice_get, if◌then◌else◌}
+use Rattle.std.specs.Prelude.{◌≡◌, ℕ, Bool, true, false, None, Some, List, [], ◌∷◌, ◌++◌, ◌↔◌, ◌≤◌, IsUtf8, length, map, slice_get, if◌then◌else◌}
 use Rattle.stream_spec.specs.Ready.{Chunk}
 use Rattle.mixer_spec.specs.Chunks.{joined, octets}
 use Rattle.mixer_spec.specs.Setups.{Setup}
@@ -9,6 +9,7 @@ use Rattle.mixer_spec.specs.Laws.{AllGiven}
 use Rattle.slot_table.specs.declared.rings.Place.{Place}
 use Rattle.slot_table.specs.declared.parts.Part.{Part}
 use Rattle.slot_table.specs.Rings.{Chunks}
+use Rattle.rtt_base.specs.declared.limits.TheConstants.{MOST_TEXT_OCTETS}
 use Rattle.slot_table.specs.Lanes.{Waiting}
 
 -- their octets and lengths
@@ -44,6 +45,11 @@ pub record Holds (w : Waiting) (taken : List Taken) (listens : ℕ → Bool) (wa
 -- of whatever the lane holds
 abbrev pub LaneTells : Waiting → (List Taken → (ℕ → Bool) → (ℕ → List Chunk) → Type 0) → Type 0
 LaneTells w P = (taken : List Taken) (listens : ℕ → Bool) (waits : ℕ → List Chunk) → Holds w taken listens waits → P taken listens waits
+
+-- a chunk may have this text
+pub record FitsChunk (text : List ℕ) : Type 0 where
+  pub short : length text ≤ MOST_TEXT_OCTETS
+  pub utf8 : IsUtf8 text
 
 -- a chunk with this text comes behind the others, for each terminal that listens
 abbrev pub Adds : List ℕ → Waiting → Waiting → Type 0

@@ -1,10 +1,8 @@
 //! What waits of one source, at every terminal.
-ghost use Rattle.std.specs.Prelude.{◌≡◌, ◌+◌, ◌-◌, ◌<◌, ◌≤◌, ◌==◌, ◌∷◌, ◌++◌, ◌↔◌, [], ℕ, List, Bool, true, not, length, if◌then◌else◌, IsOk, IfOk, OnOk, OnErr, IsUtf8};
-ghost use Rattle.stream_spec.specs.Ready.{Chunk};
+ghost use Rattle.std.specs.Prelude.{◌≡◌, ◌+◌, ◌<◌, ◌≤◌, ◌++◌, [], length, if◌then◌else◌, IsOk, IfOk, OnOk, OnErr, IsUtf8};
 ghost use Rattle.mixer_spec.specs.Rounds.{set_at};
-ghost use Rattle.mixer_spec.specs.Setups.{Setup};
 ghost use Rattle.mixer_spec.specs.Chunks.{joined, octets, front, behind, has_chunk};
-ghost use Rattle.mixer_spec.specs.Table.{Taken, Table, is_fit, is_given, span_with};
+ghost use Rattle.mixer_spec.specs.Table.{is_given};
 ghost use Rattle.slot_table.specs.Lanes.{Waiting};
 ghost use Rattle.slot_table.specs.LaneInsides.{waiting_in, IsLane};
 ghost use Rattle.rtt_base.specs.declared.limits.TheConstants.{MOST_TEXT_OCTETS};
@@ -32,7 +30,7 @@ impl Model for Lane {
 
 impl Lane {
     ghost use Rattle.slot_table.specs.Words.{all_listen};
-    ghost use Rattle.slot_table.specs.Standing.{Adds, Holds, LaneTells, TellsRoom};
+    ghost use Rattle.slot_table.specs.Standing.{Adds, FitsChunk, Holds, LaneTells, TellsRoom};
 
     /// The lane of the source `own`, which is heard by each of so many terminals but its own.
     pub fn new(alloc: Global, terminals: usize, own: usize) -> Result<Lane, NoMemory>
@@ -96,8 +94,7 @@ impl Lane {
 
     /// Appends a chunk. `Full`: the span with it has more than 16384 octets or 512 chunks; then all is as before.
     pub fn offer(&mut self, text: &[u8]) -> Result<(), Full>
-        requires short { length text.now ≤ MOST_TEXT_OCTETS }
-        requires utf8 { IsUtf8 text.now }
+        requires { FitsChunk text.now }
         ensures terminals { length self.new.parts ≡ length self.old.parts }
         ensures room { TellsRoom text.now self.old (IsOk result) }
         ensures ok { OnOk result (Adds text.now self.old self.new) }
@@ -113,8 +110,7 @@ impl Lane {
     /// `offer`, where chunks must be given up first.
     #[inline(never)]
     fn offer_where_full(&mut self, text: &[u8]) -> Result<(), Full>
-        requires short { length text.now ≤ MOST_TEXT_OCTETS }
-        requires utf8 { IsUtf8 text.now }
+        requires { FitsChunk text.now }
         ensures terminals { length self.new.parts ≡ length self.old.parts }
         ensures room { TellsRoom text.now self.old (IsOk result) }
         ensures ok { OnOk result (Adds text.now self.old self.new) }
