@@ -145,18 +145,22 @@ three (a ∷ b ∷ c ∷ d ∷ xs) e = absurd (omega arith)
 abbrev next_of : ℕ → ℕ → ℕ
 next_of g n = cond (n + 1 == g) 0 (n + 1)
 
+-- what holds at each place of one, two and three
+each_place : (P : ℕ → ℕ → Type 0) → P 1 0 → P 2 0 → P 2 1 → P 3 0 → P 3 1 → P 3 2 → (g n : ℕ) → g ≤ 3 → n < g → P g n
+each_place P a b c d e f zero n l m = absurd (omega arith)
+each_place P a b c d e f (suc zero) zero l m = a
+each_place P a b c d e f (suc zero) (suc n) l m = absurd (omega arith)
+each_place P a b c d e f (suc (suc zero)) zero l m = b
+each_place P a b c d e f (suc (suc zero)) (suc zero) l m = c
+each_place P a b c d e f (suc (suc zero)) (suc (suc n)) l m = absurd (omega arith)
+each_place P a b c d e f (suc (suc (suc zero))) zero l m = d
+each_place P a b c d e f (suc (suc (suc zero))) (suc zero) l m = e
+each_place P a b c d e f (suc (suc (suc zero))) (suc (suc zero)) l m = f
+each_place P a b c d e f (suc (suc (suc zero))) (suc (suc (suc n))) l m = absurd (omega arith)
+each_place P a b c d e f (suc (suc (suc (suc g)))) n l m = absurd (omega arith)
+
 over_three : (g n : ℕ) (a b c x : KeptBlock) → g ≤ 3 → n < g → in_turn (next_of g n) (take g (set (a ∷ b ∷ c ∷ []) n x)) ≡ shifted (in_turn n (take g (a ∷ b ∷ c ∷ []))) x
-over_three zero n a b c x l m = absurd (omega arith)
-over_three (suc zero) zero a b c x l m = refl
-over_three (suc zero) (suc n) a b c x l m = absurd (omega arith)
-over_three (suc (suc zero)) zero a b c x l m = refl
-over_three (suc (suc zero)) (suc zero) a b c x l m = refl
-over_three (suc (suc zero)) (suc (suc n)) a b c x l m = absurd (omega arith)
-over_three (suc (suc (suc zero))) zero a b c x l m = refl
-over_three (suc (suc (suc zero))) (suc zero) a b c x l m = refl
-over_three (suc (suc (suc zero))) (suc (suc zero)) a b c x l m = refl
-over_three (suc (suc (suc zero))) (suc (suc (suc n))) a b c x l m = absurd (omega arith)
-over_three (suc (suc (suc (suc g)))) n a b c x l m = absurd (omega arith)
+over_three g n a b c x = each_place (λ g n. in_turn (next_of g n) (take g (set (a ∷ b ∷ c ∷ []) n x)) ≡ shifted (in_turn n (take g (a ∷ b ∷ c ∷ []))) x) refl refl refl refl refl refl g n
 
 -- a block is written over the oldest one
 pub written_over : (g n : ℕ) (places : List KeptBlock) (x : KeptBlock) → length places ≡ 3 → g ≤ 3 → n < g → in_turn (next_of g n) (take g (set places n x)) ≡ shifted (in_turn n (take g places)) x
@@ -172,16 +176,8 @@ next_is g n m f h = go (n + 1 == g) refl
 turn_size : (g n stamp : ℕ) (a b c : KeptBlock) → g ≤ 3 → n < max 1 g → length (blocks_kept stamp (in_turn n (take g (a ∷ b ∷ c ∷ [])))) ≡ g
 turn_size zero zero stamp a b c l m = refl
 turn_size zero (suc n) stamp a b c l m = absurd (omega arith)
-turn_size (suc zero) zero stamp a b c l m = refl
-turn_size (suc zero) (suc n) stamp a b c l m = absurd (omega arith)
-turn_size (suc (suc zero)) zero stamp a b c l m = refl
-turn_size (suc (suc zero)) (suc zero) stamp a b c l m = refl
-turn_size (suc (suc zero)) (suc (suc n)) stamp a b c l m = absurd (omega arith)
-turn_size (suc (suc (suc zero))) zero stamp a b c l m = refl
-turn_size (suc (suc (suc zero))) (suc zero) stamp a b c l m = refl
-turn_size (suc (suc (suc zero))) (suc (suc zero)) stamp a b c l m = refl
-turn_size (suc (suc (suc zero))) (suc (suc (suc n))) stamp a b c l m = absurd (omega arith)
-turn_size (suc (suc (suc (suc g)))) n stamp a b c l m = absurd (omega arith)
+turn_size (suc g) n stamp a b c l m =
+    each_place (λ g n. length (blocks_kept stamp (in_turn n (take g (a ∷ b ∷ c ∷ [])))) ≡ g) refl refl refl refl refl refl (suc g) n l (omega arith)
 
 -- a window has as many blocks as generations
 pub blocks_size : (g n stamp : ℕ) (places : List KeptBlock) → length places ≡ 3 → g ≤ 3 → n < max 1 g → length (blocks_kept stamp (in_turn n (take g places))) ≡ g
