@@ -58,6 +58,17 @@ coming_is s story n p f q = ap (λ t. record { time = t; number = n; packet = p 
 one_more : (s : State) (story : Story) (n : ℕ) (p : Packet) → Follows s story → n ≡ number_after (numbered story.past) p.seq → max s.top n ≡ greatest (numbered (arrived story p).past)
 one_more s story n p f q = ap (λ m. max m n) f.top ∙ ap (λ k. max (greatest (numbered story.past)) k) q
 
+-- where the counts are those of the arrival, only the phase is left to be shown
+followed : (s t : State) (story : Story) (n : ℕ) (p : Packet) → Follows s story → n ≡ number_after (numbered story.past) p.seq
+    → t.wait ≡ s.wait → t.moment ≡ s.moment → t.arrivals ≡ s.arrivals + 1 → t.top ≡ max s.top n → Phase t (arrived story p) → Follows t (arrived story p)
+followed s t story n p f q wait moment arrivals top phase = record {
+  wait = wait ∙ f.wait;
+  moment = moment ∙ f.moment;
+  arrivals = let m = f.arrivals in omega arith;
+  top = top ∙ one_more s story n p f q;
+  phase = phase;
+}
+
 -- what was refused
 pub record Refused (s : State) (story : Story) (n : ℕ) (p : Packet) (taken : Taken) : Type 0 where
   pub follows : Follows (counted s n) (arrived story p)
@@ -86,13 +97,8 @@ refused_step s story n p taken k q r = go k.follows.phase
         let why = refused_why s (numbered story.past) story.given e h taken (same taken r') in
         let by = pass_by s (numbered story.past) story.given e (s.arrivals + 1) (max s.top n) refl k.still why.0 h in
         record {
-          follows = rw is (record {
-            wait = k.follows.wait;
-            moment = k.follows.moment;
-            arrivals = let m = k.follows.arrivals in omega arith;
-            top = one_more s story n p k.follows q;
-            phase = Within (subst (λ (x : Numbered). Holding (record s { arrivals = s.arrivals + 1; top = max s.top n }) (x ∷ numbered story.past) story.given) eq by.1);
-          });
+          follows = rw is (followed s (record s { arrivals = s.arrivals + 1; top = max s.top n }) story n p k.follows q refl refl refl refl
+              (Within (subst (λ (x : Numbered). Holding (record s { arrivals = s.arrivals + 1; top = max s.top n }) (x ∷ numbered story.past) story.given) eq by.1)));
           still = subst (λ (t : State). next_latest t ≡ None) (sym is) k.still;
           answer_is = sym (refused_answer s (numbered story.past) story.given e refl k.still h taken (same taken r'))
               ∙ (ap (λ x. taken_as s.wait (numbered story.past) x) eq ∙ ap (λ w. taken_as w (numbered story.past) (arriving story p)) k.follows.wait);
@@ -124,16 +130,12 @@ put_step s story n p place it k q at a b = go k.follows.phase
         let eq = coming_is s story n p k.follows q in
         let none : numbered story.past ≡ [] = ap numbered w.past in
         let h = start s [] [] (now_coming s n p) (s.arrivals + 1) (max s.top n) place it refl w.held w.settled w.latest at in
+        let then : State = put_at (record s { arrivals = s.arrivals + 1; first = n; front = n; top = max s.top n }) place (now_coming s n p) it in
         record {
-          follows = subst (λ (t : State). Follows (put_at t place (now_coming s n p) it) (arrived story p)) (sym is) (record {
-            wait = k.follows.wait;
-            moment = k.follows.moment;
-            arrivals = let m = k.follows.arrivals in omega arith;
-            top = one_more s story n p k.follows q;
-            phase = Within (subst (λ (us : List Numbered). Holding (put_at (record s { arrivals = s.arrivals + 1; first = n; front = n; top = max s.top n }) place (now_coming s n p) it) (arriving story p ∷ us) story.given) (sym none)
-                (subst (λ (gs : List Given). Holding (put_at (record s { arrivals = s.arrivals + 1; first = n; front = n; top = max s.top n }) place (now_coming s n p) it) (arriving story p ∷ []) gs) (sym w.given)
-                (subst (λ (x : Numbered). Holding (put_at (record s { arrivals = s.arrivals + 1; first = n; front = n; top = max s.top n }) place (now_coming s n p) it) (x ∷ []) []) eq h)));
-          });
+          follows = subst (λ (t : State). Follows (put_at t place (now_coming s n p) it) (arrived story p)) (sym is) (followed s then story n p k.follows q refl refl refl refl
+              (Within (subst (λ (us : List Numbered). Holding then (arriving story p ∷ us) story.given) (sym none)
+              (subst (λ (gs : List Given). Holding then (arriving story p ∷ []) gs) (sym w.given)
+              (subst (λ (x : Numbered). Holding then (x ∷ []) []) eq h)))));
           answer_is = subst (λ (us : List Numbered). taken_as story.wait us (arriving story p) ≡ cond (is_settled story.wait (arriving story p ∷ us) story.moment n) Ready Held) (sym none)
               (start_answer story.wait (arriving story p) ∙ ap (λ m. cond (is_settled story.wait (arriving story p ∷ []) story.moment m) Ready Held) (sym q));
           used_is = sym (ap (λ us. in_time story.wait (arriving story p) us) none ∙ start_in_time story.wait (arriving story p));
@@ -147,13 +149,9 @@ put_step s story n p place it k q at a b = go k.follows.phase
         let fresh = not_held n s.held place h.holds.rising at in
         let told = held_answer s (numbered story.past) story.given (now_coming s n p) refl k.still h first_le front_le fresh in
         record {
-          follows = subst (λ (t : State). Follows (put_at t place (now_coming s n p) it) (arrived story p)) (sym is) (record {
-            wait = k.follows.wait;
-            moment = k.follows.moment;
-            arrivals = let m = k.follows.arrivals in omega arith;
-            top = one_more s story n p k.follows q;
-            phase = Within (subst (λ (x : Numbered). Holding (put_at (record s { arrivals = s.arrivals + 1; top = max s.top n }) place (now_coming s n p) it) (x ∷ numbered story.past) story.given) eq on.1);
-          });
+          follows = subst (λ (t : State). Follows (put_at t place (now_coming s n p) it) (arrived story p)) (sym is)
+              (followed s (put_at (record s { arrivals = s.arrivals + 1; top = max s.top n }) place (now_coming s n p) it) story n p k.follows q refl refl refl refl
+              (Within (subst (λ (x : Numbered). Holding (put_at (record s { arrivals = s.arrivals + 1; top = max s.top n }) place (now_coming s n p) it) (x ∷ numbered story.past) story.given) eq on.1)));
           answer_is = subst (λ (w : ℕ). taken_as w (numbered story.past) (arriving story p) ≡ cond (is_settled w (arriving story p ∷ numbered story.past) story.moment n) Ready Held) k.follows.wait
               (subst (λ (t : ℕ). taken_as s.wait (numbered story.past) (arriving story p) ≡ cond (is_settled s.wait (arriving story p ∷ numbered story.past) t n) Ready Held) k.follows.moment
               (subst (λ (x : Numbered). taken_as s.wait (numbered story.past) x ≡ cond (is_settled s.wait (x ∷ numbered story.past) s.moment n) Ready Held) eq told));

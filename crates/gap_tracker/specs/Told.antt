@@ -1,10 +1,11 @@
 -- What a call tells of all that the tracker may have been told and have given before it (profile).
-use Rattle.std.specs.Prelude.{◌≡◌, ℕ, ◌⊎◌, ◌∷◌, ◌++◌, Bool, List, length, nat_lt}
+use Rattle.std.specs.Prelude.{◌≡◌, ℕ, ◌+◌, ◌^◌, ◌<◌, ◌≤◌, ◌⊎◌, ◌∷◌, ◌++◌, Bool, None, List, length, nat_lt}
+use Rattle.rtt_base.specs.declared.limits.TheConstants.{MOST_HELD}
 use Rattle.rtt_base.specs.declared.text_packets.TextPacket.{TextPacket}
 use Rattle.wire_spec.specs.Packets.{Packet, packet_of}
 use Rattle.stream_spec.specs.Lists.{In}
 use Rattle.gap_tracker.specs.Stories.{Story, Given, came, ended, gave, given_of, given_packet, answer, is_in_time, dues, ready_dues}
-use Rattle.gap_tracker.specs.States.{State, with_packet}
+use Rattle.gap_tracker.specs.States.{State, next_latest, put_current, with_packet}
 use Rattle.gap_tracker.specs.Tracks.{Follows, Tracks, SameBut}
 use Rattle.gap_tracker.specs.Views.{next_number}
 use Rattle.gap_tracker.specs.declared.answers.Due.{Due}
@@ -80,3 +81,16 @@ IsButCurrent t s = t ≡ with_packet s t.current
 
 abbrev pub SameButCurrent : State → State → Type 0
 SameButCurrent s t = SameBut (with_packet s t.current) t
+
+-- the current packet, which has this number, may be held at the place: there is room for it
+pub record MayHold (s : State) (place n : ℕ) : Type 0 where
+  pub counted : 0 < s.arrivals
+  pub room : length s.settled + length s.held ≤ MOST_HELD
+  pub within : place ≤ length s.held
+  pub number : n < 2 ^ 60
+
+-- it is held there, and all is settled that can be
+pub record Holds (old : State) (place n : ℕ) (new : State) : Type 0 where
+  pub stands : FollowsAll (put_current old place n) new
+  pub still : next_latest new ≡ None
+  pub same : SameButCurrent (put_current old place n) new

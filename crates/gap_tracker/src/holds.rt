@@ -7,7 +7,7 @@ ghost use Rattle.gap_tracker.specs.Stories.{went, ended, is_used};
 ghost use Rattle.gap_tracker.specs.States.{fresh, has_ready, passed, oldest_from, given_up_at, next_latest, settled_first, settled_at_once, counted, put_current, IsNext, ready_at_once, given_at_once, GivesFirst, IsRefused, AllAbove, IsPlace};
 ghost use Rattle.gap_tracker.specs.Views.{next_number, AnyPackets, IsBehind};
 ghost use Rattle.gap_tracker.specs.Tracks.{SameBut};
-ghost use Rattle.gap_tracker.specs.Told.{Leads, Tells, came_current, answer_current, is_current_in_time, ComeAlone, GivesAsItCame, AllReady, FollowsAll, IsButCurrent, SameButCurrent};
+ghost use Rattle.gap_tracker.specs.Told.{Leads, Tells, came_current, answer_current, is_current_in_time, ComeAlone, GivesAsItCame, AllReady, FollowsAll, IsButCurrent, Holds, MayHold};
 
 use crate::lines::Line;
 use crate::numbering::{first_number, nearest_number};
@@ -245,10 +245,7 @@ impl Hold {
 
     /// Holds the current packet.
     fn put(&mut self, at: usize, number: u64)
-        requires counted { 0 < self.old.arrivals }
-        requires room { length self.old.settled + length self.old.held ≤ MOST_HELD }
-        requires within { at ≤ length self.old.held }
-        requires number { number < 2 ^ 60 }
+        requires { MayHold self.old at number }
         ensures { IsButCurrent self.new (put_current self.old at number) }
     {
         let place = self.pool.give_away();
@@ -287,13 +284,8 @@ impl Hold {
     /// the others.
     #[inline(never)]
     fn hold(&mut self, at: usize, number: u64)
-        requires counted { 0 < self.old.arrivals }
-        requires room { length self.old.settled + length self.old.held ≤ MOST_HELD }
-        requires within { at ≤ length self.old.held }
-        requires number { number < 2 ^ 60 }
-        ensures stands { FollowsAll (put_current self.old at number) self.new }
-        ensures still { next_latest self.new ≡ None }
-        ensures same { SameButCurrent (put_current self.old at number) self.new }
+        requires { MayHold self.old at number }
+        ensures { Holds self.old at number self.new }
     {
         self.put(at, number);
         self.advance();
@@ -303,13 +295,8 @@ impl Hold {
     /// as most are.
     #[inline(always)]
     fn take_in(&mut self, at: usize, number: u64)
-        requires counted { 0 < self.old.arrivals }
-        requires room { length self.old.settled + length self.old.held ≤ MOST_HELD }
-        requires within { at ≤ length self.old.held }
-        requires number { number < 2 ^ 60 }
-        ensures stands { FollowsAll (put_current self.old at number) self.new }
-        ensures still { next_latest self.new ≡ None }
-        ensures same { SameButCurrent (put_current self.old at number) self.new }
+        requires { MayHold self.old at number }
+        ensures { Holds self.old at number self.new }
     {
         if self.held.is_empty() && number == self.front {
             self.settle_at_once(number);

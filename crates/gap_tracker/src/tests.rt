@@ -1,11 +1,12 @@
 //! Runs of a tracker against cases worked out by hand.
-ghost use Rattle.std.specs.Prelude.{◌≡◌};
+ghost use Rattle.std.specs.Prelude.{◌≡◌, false};
 ghost use Rattle.gap_tracker.specs.States.{is_finished};
 
 use crate::plain::{Came, number_after, ready_of, taken, used_under};
 use crate::{Taken, Tracker};
 use rtt_base::limits::{END_OF_MOMENTS, MOST_ARRIVALS};
 use std::alloc::Global;
+use std::process::Abort;
 use std::test::Fail;
 
 /// What came of a run: the answer to each arrival, and the sequence number and the ready time of each packet given.
@@ -50,59 +51,96 @@ fn give_at_once(tracker: &mut Tracker, at: u64, seq: u16) -> Option<u64>
     Some(tracker.give_at_once(at, number))
 }
 
-/// Hands in packets as `play` does, but what is next in order is given at once.
-fn play_at_once(alloc: Global, wait: u64, arrivals: &[(u64, u16)]) -> Result<Played, Fail> {
-    let mut tracker = Tracker::new(alloc, wait.min(10000))?;
-    let mut answers = Vec::new(alloc);
-    let mut given = Vec::new(alloc);
-    for (at, seq) in arrivals {
-        if let Some(ready) = give_at_once(&mut tracker, *at, *seq) {
-            answers.push(Taken::Ready)?;
-            given.push((*seq, ready))?;
-        } else if let Some(taken) = hand_in(&mut tracker, *at, *seq) {
-            answers.push(taken)?;
-        }
-        drain(&mut tracker, &mut given)?;
+/// Nothing came yet.
+fn nothing_played(alloc: Global) -> Played {
+    Played {
+        answers: Vec::new(alloc),
+        given: Vec::new(alloc),
     }
+}
+
+/// What came of a run to whose tracker nothing comes any more.
+fn ended(mut tracker: Tracker, mut played: Played) -> Result<Played, Fail>
+    requires { is_finished tracker ≡ false }
+{
     if !tracker.ready() {
         tracker.finish();
     }
-    drain(&mut tracker, &mut given)?;
-    Ok(Played { answers, given })
+    drain(&mut tracker, &mut played.given)?;
+    Ok(played)
+}
+
+/// Hands in packets as `play` does, but what is next in order is given at once.
+fn play_at_once(alloc: Global, wait: u64, arrivals: &[(u64, u16)]) -> Result<Played, Fail> {
+    let mut tracker = Tracker::new(alloc, wait.min(10000))?;
+    let mut played = nothing_played(alloc);
+    for (at, seq) in arrivals {
+        if let Some(ready) = give_at_once(&mut tracker, *at, *seq) {
+            played.answers.push(Taken::Ready)?;
+            played.given.push((*seq, ready))?;
+        } else if let Some(taken) = hand_in(&mut tracker, *at, *seq) {
+            played.answers.push(taken)?;
+        }
+        drain(&mut tracker, &mut played.given)?;
+    }
+    ended(tracker, played)
 }
 
 /// Hands in packets, each a time and a sequence number, then the end, and takes what is ready after each.
 fn play(alloc: Global, wait: u64, arrivals: &[(u64, u16)]) -> Result<Played, Fail> {
     let mut tracker = Tracker::new(alloc, wait.min(10000))?;
-    let mut answers = Vec::new(alloc);
-    let mut given = Vec::new(alloc);
+    let mut played = nothing_played(alloc);
     for (at, seq) in arrivals {
         if let Some(taken) = hand_in(&mut tracker, *at, *seq) {
-            answers.push(taken)?;
+            played.answers.push(taken)?;
         }
-        drain(&mut tracker, &mut given)?;
+        drain(&mut tracker, &mut played.given)?;
     }
-    if !tracker.ready() {
-        tracker.finish();
-    }
-    drain(&mut tracker, &mut given)?;
-    Ok(Played { answers, given })
+    ended(tracker, played)
+}
+
+/// Of these arrivals these packets are given, where the wait is 1000 ms.
+fn expect_given(
+    rt: &impl Abort,
+    alloc: Global,
+    arrivals: &[(u64, u16)],
+    given: &[(u16, u64)],
+) -> Result<(), Fail> {
+    let played = play(alloc, 1000, arrivals)?;
+    assert_eq!(rt; played.given.as_slice(), given);
+    Ok(())
+}
+
+/// These arrivals are answered so, and of them these packets are given, where the wait is 1000 ms.
+fn expect_played(
+    rt: &impl Abort,
+    alloc: Global,
+    arrivals: &[(u64, u16)],
+    answers: &[Taken],
+    given: &[(u16, u64)],
+) -> Result<(), Fail> {
+    let played = play(alloc, 1000, arrivals)?;
+    assert_eq!(rt; played.answers.as_slice(), answers);
+    assert_eq!(rt; played.given.as_slice(), given);
+    Ok(())
 }
 
 #[test]
 fn one_millisecond_late_is_late(rt: HostRuntime) -> Result<(), Fail> {
-    let played = play(rt.alloc(), 1000, &[(0, 10), (300, 12), (1299, 11)])?;
-    let answers = [Taken::Ready, Taken::Held, Taken::Ready];
-    assert_eq!(rt; played.answers.as_slice(), answers.as_slice());
-    let given = [(10, 0), (11, 1299), (12, 1299)];
-    assert_eq!(rt; played.given.as_slice(), given.as_slice());
-
-    let played = play(rt.alloc(), 1000, &[(0, 10), (300, 12), (1300, 11)])?;
-    let answers = [Taken::Ready, Taken::Held, Taken::Old];
-    assert_eq!(rt; played.answers.as_slice(), answers.as_slice());
-    let given = [(10, 0), (12, 1300)];
-    assert_eq!(rt; played.given.as_slice(), given.as_slice());
-    Ok(())
+    expect_played(
+        &rt,
+        rt.alloc(),
+        &[(0, 10), (300, 12), (1299, 11)],
+        &[Taken::Ready, Taken::Held, Taken::Ready],
+        &[(10, 0), (11, 1299), (12, 1299)],
+    )?;
+    expect_played(
+        &rt,
+        rt.alloc(),
+        &[(0, 10), (300, 12), (1300, 11)],
+        &[Taken::Ready, Taken::Held, Taken::Old],
+        &[(10, 0), (12, 1300)],
+    )
 }
 
 #[test]
@@ -155,26 +193,16 @@ fn sixty_four_greater_numbers_wait_and_sixty_five_do_not(rt: HostRuntime) -> Res
 
 #[test]
 fn numbers_go_on_where_sequence_numbers_go_round(rt: HostRuntime) -> Result<(), Fail> {
-    let played = play(
-        rt.alloc(),
-        1000,
-        &[(0, 65534), (300, 65535), (600, 0), (900, 1)],
-    )?;
+    let rising = [(0, 65534), (300, 65535), (600, 0), (900, 1)];
     let given = [(65534, 0), (65535, 300), (0, 600), (1, 900)];
-    assert_eq!(rt; played.given.as_slice(), given.as_slice());
-    let played = play(rt.alloc(), 1000, &[(0, 65535), (10, 1), (20, 0)])?;
-    let given = [(65535, 0), (0, 20), (1, 20)];
-    assert_eq!(rt; played.given.as_slice(), given.as_slice());
-    Ok(())
+    expect_given(&rt, rt.alloc(), &rising, &given)?;
+    let swapped = [(0, 65535), (10, 1), (20, 0)];
+    expect_given(&rt, rt.alloc(), &swapped, &[(65535, 0), (0, 20), (1, 20)])
 }
 
 #[test]
 fn a_packet_counts_once(rt: HostRuntime) -> Result<(), Fail> {
-    let played = play(
-        rt.alloc(),
-        1000,
-        &[(0, 7), (0, 7), (10, 7), (20, 9), (30, 9)],
-    )?;
+    let arrivals = [(0, 7), (0, 7), (10, 7), (20, 9), (30, 9)];
     let answers = [
         Taken::Ready,
         Taken::Old,
@@ -182,9 +210,7 @@ fn a_packet_counts_once(rt: HostRuntime) -> Result<(), Fail> {
         Taken::Held,
         Taken::Repeat,
     ];
-    assert_eq!(rt; played.answers.as_slice(), answers.as_slice());
-    assert_eq!(rt; played.given.as_slice(), [(7, 0), (9, 1020)].as_slice());
-    Ok(())
+    expect_played(&rt, rt.alloc(), &arrivals, &answers, &[(7, 0), (9, 1020)])
 }
 
 #[test]
@@ -205,19 +231,16 @@ fn a_far_number_is_the_nearest_and_on_a_tie_the_lower(rt: HostRuntime) -> Result
 
 #[test]
 fn time_never_falls(rt: HostRuntime) -> Result<(), Fail> {
-    let played = play(rt.alloc(), 1000, &[(5000, 10), (100, 12), (0, 11)])?;
     let given = [(10, 5000), (11, 5000), (12, 5000)];
-    assert_eq!(rt; played.given.as_slice(), given.as_slice());
-    Ok(())
+    expect_given(&rt, rt.alloc(), &[(5000, 10), (100, 12), (0, 11)], &given)
 }
 
 #[test]
 fn the_end_settles_what_is_held(rt: HostRuntime) -> Result<(), Fail> {
-    let played = play(rt.alloc(), 1000, &[(0, 10), (100, 12), (250, 15)])?;
+    let arrivals = [(0, 10), (100, 12), (250, 15)];
     let given = [(10, 0), (12, 1100), (15, 1250)];
-    assert_eq!(rt; played.given.as_slice(), given.as_slice());
-    assert_eq!(rt; play(rt.alloc(), 1000, &[])?.given.len(), 0);
-    Ok(())
+    expect_given(&rt, rt.alloc(), &arrivals, &given)?;
+    expect_given(&rt, rt.alloc(), &[], &[])
 }
 
 /// The next of a row of numbers that look random.
