@@ -1,5 +1,6 @@
 -- What a call tells of all that may have come to the terminal before it (profile).
-use Rattle.std.specs.Prelude.{◌≡◌, ℕ, List, [], ◌∷◌, ◌++◌, map, Err}
+use Rattle.std.specs.Prelude.{◌≡◌, ◌<◌, ℕ, List, [], ◌∷◌, ◌++◌, map, Err}
+use Rattle.rtt_base.specs.declared.limits.TheConstants.{END_OF_MOMENTS, MOST_ARRIVALS}
 use Rattle.wire_spec.specs.declared.faults.TextFault.{TextFault}
 use Rattle.wire_spec.specs.Dump.{Item, sent_item}
 use Rattle.gap_tracker.specs.Stories.{Story}
@@ -9,9 +10,15 @@ use Rattle.terminal.specs.declared.confs.TermConf.{TermConf}
 use Rattle.terminal.specs.declared.terminals.Terminal.{Terminal}
 use Rattle.terminal.specs.declared.views.View.{View}
 use Rattle.terminal.specs.declared.views.View.TheVariants.{Text, Unaware, Aware}
-use Rattle.terminal.specs.Terminals.{reception, one_if, IsUnread, HearsTexts, Listens, Heard}
+use Rattle.terminal.specs.Terminals.{reception, counts_of, one_if, IsUnread, IsListening, HearsTexts, Listens, Heard}
 
 -- ---- something comes
+
+-- a packet may come at this moment
+pub record MayTake (t : Terminal) (moment : ℕ) : Type 0 where
+  pub at : moment < END_OF_MOMENTS
+  pub stands : IsListening t
+  pub few : (counts_of t).packets < MOST_ARRIVALS
 
 -- behind whatever came, these came
 abbrev pub Takes : Terminal → List Item → Terminal → Type 0

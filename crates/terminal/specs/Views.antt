@@ -1,12 +1,17 @@
 -- What is printed of a terminal (profile).
-use Rattle.std.specs.Prelude.{◌≡◌, ℕ, List, [], ◌∷◌, length}
+use Rattle.std.specs.Prelude.{◌≡◌, ◌<◌, ℕ, List, [], ◌∷◌, length}
 use Rattle.source_receiver.specs.declared.source_texts.SourceText.{SourceText}
 use Rattle.text_spec.specs.Shown.{Display, shown}
 use Rattle.view_spec.specs.Views.{Source, text_view, unaware_view, aware_view}
 use Rattle.terminal.specs.declared.terminals.Terminal.{Terminal}
 use Rattle.terminal.specs.declared.views.View.{View}
 use Rattle.terminal.specs.declared.views.View.TheVariants.{Text, Unaware, Aware}
-use Rattle.terminal.specs.Terminals.{texts_of, counts_of}
+use Rattle.terminal.specs.Terminals.{texts_of, counts_of, AreUtf8}
+
+-- there is a text to be shown, and each is UTF-8
+pub record AreShown (texts : List SourceText) : Type 0 where
+  pub some : 0 < length texts
+  pub utf8 : AreUtf8 texts
 
 -- the text of the first of these
 abbrev pub first_text : List SourceText → List ℕ

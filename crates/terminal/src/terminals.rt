@@ -2,7 +2,7 @@
 ghost use Rattle.std.specs.Prelude.{◌≡◌, ◌≢◌, ◌+◌, ◌≤◌, ◌<◌, ◌^◌, [], length, Bool, OnOk, OnErr, IfOk, IsTrue, All, AllPairs, vec_len};
 ghost use Rattle.ear.specs.Hears.{arrival_count, is_clear, is_quiet, is_finished};
 ghost use Rattle.terminal.specs.Terminals.{texts_of, counts_of, is_spent, IsWhole, IsEmpty, IsHearingTexts, SameCounts, Listens, IsListening, IsOpen, IsFinished};
-ghost use Rattle.terminal.specs.Told.{TakesPacket, TakesUnread, ListensAlike, one_if_refused, one_if_foreign, GathersTexts, HearsToEnd};
+ghost use Rattle.terminal.specs.Told.{MayTake, TakesPacket, TakesUnread, ListensAlike, one_if_refused, one_if_foreign, GathersTexts, HearsToEnd};
 ghost use Rattle.rtt_base.specs.declared.limits.TheConstants.{END_OF_MOMENTS, LONGEST_WAIT, MOST_ARRIVALS, MOST_SOURCES};
 
 use crate::TermConf;
@@ -103,9 +103,7 @@ impl Terminal {
     /// heard of it, as most are. Else it answers false, and nothing came.
     #[inline(always)]
     fn take_plain(&mut self, at: u64, octets: &[u8]) -> Result<bool, NoMemory>
-        requires at { at < END_OF_MOMENTS }
-        requires stands { IsListening self.old }
-        requires few { (counts_of self.old).packets < MOST_ARRIVALS }
+        requires { MayTake self.old at }
         ensures listens { IfOk result (λ plain. IsTrue plain → TakesPacket self.old at octets.now self.new) }
         ensures same { IfOk result (λ plain. plain ≡ Bool.false → ListensAlike self.old self.new) }
         ensures uncounted { IfOk result (λ plain. plain ≡ Bool.false → self.new.counts ≡ self.old.counts) }
@@ -122,9 +120,7 @@ impl Terminal {
     /// Takes a packet that came at this moment, whichever it is: it is read, and held where it is not next in order.
     #[inline(never)]
     fn take_any(&mut self, at: u64, octets: &[u8]) -> Result<(), NoMemory>
-        requires at { at < END_OF_MOMENTS }
-        requires stands { IsListening self.old }
-        requires few { (counts_of self.old).packets < MOST_ARRIVALS }
+        requires { MayTake self.old at }
         ensures listens { OnOk result (TakesPacket self.old at octets.now self.new) }
         ensures packets { (counts_of self.new).packets ≡ (counts_of self.old).packets + 1 }
     {
@@ -141,9 +137,7 @@ impl Terminal {
     /// Takes a packet that came at this moment.
     #[inline(always)]
     fn take(&mut self, at: u64, octets: &[u8]) -> Result<(), NoMemory>
-        requires at { at < END_OF_MOMENTS }
-        requires stands { IsListening self.old }
-        requires few { (counts_of self.old).packets < MOST_ARRIVALS }
+        requires { MayTake self.old at }
         ensures listens { OnOk result (TakesPacket self.old at octets.now self.new) }
         ensures packets { (counts_of self.new).packets ≤ (counts_of self.old).packets + 1 }
     {

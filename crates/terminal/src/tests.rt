@@ -160,26 +160,19 @@ fn shows_as_one(rt: &HostRuntime, packets: &[&[u8]], wanted: &str) -> Result<boo
 }
 
 #[test]
-fn a_lost_round_of_each_writer_is_repeated(rt: HostRuntime) -> Result<(), Fail> {
-    let view =
+fn lost_packets_are_repeated_or_leave_a_mark(rt: HostRuntime) -> Result<(), Fail> {
+    // A round of each writer.
+    let repeated =
         "== D aware\nA: 1234\n-- A bells 0\nB: 1234\n-- B bells 0\nC: 1234\n-- C bells 0\n-- packets 15 used 15 refused 0 foreign 0\n";
-    assert!(rt; shows(&rt, &[3, 4, 5], view)?);
-    Ok(())
-}
-
-#[test]
-fn six_lost_packets_leave_a_mark_at_each_writer(rt: HostRuntime) -> Result<(), Fail> {
-    let view =
+    assert!(rt; shows(&rt, &[3, 4, 5], repeated)?);
+    // Two rounds of each.
+    let marked =
         "== D aware\nA: 1\u{FFFD}234\n-- A bells 0\nB: 1\u{FFFD}234\n-- B bells 0\nC: 1\u{FFFD}234\n-- C bells 0\n-- packets 12 used 12 refused 0 foreign 0\n";
-    assert!(rt; shows(&rt, &[3, 4, 5, 6, 7, 8], view)?);
-    Ok(())
-}
-
-#[test]
-fn scattered_losses_mark_who_may_have_lost_more(rt: HostRuntime) -> Result<(), Fail> {
-    let view =
+    assert!(rt; shows(&rt, &[3, 4, 5, 6, 7, 8], marked)?);
+    // Some here and there: a mark stands at who may have lost more.
+    let scattered =
         "== D aware\nA: 1234\n-- A bells 0\nB: \u{FFFD}1234\n-- B bells 0\nC: \u{FFFD}1234\n-- C bells 0\n-- packets 15 used 15 refused 0 foreign 0\n";
-    assert!(rt; shows(&rt, &[1, 2, 4], view)?);
+    assert!(rt; shows(&rt, &[1, 2, 4], scattered)?);
     Ok(())
 }
 

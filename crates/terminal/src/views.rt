@@ -4,7 +4,7 @@ ghost use Rattle.view_spec.specs.Views.{text_view, unaware_view, aware_view, sou
 ghost use Rattle.t140_text.specs.Displays.{Extends, display_of};
 ghost use Rattle.terminal.specs.Terminals.{texts_of, AreUtf8, IsWhole, IsFinished};
 ghost use Rattle.terminal.specs.Told.{AppendsSeen};
-ghost use Rattle.terminal.specs.Views.{first_shown, source_shown, named, view_of, Fits};
+ghost use Rattle.terminal.specs.Views.{first_shown, source_shown, named, view_of, AreShown, Fits};
 
 use crate::Terminal;
 use rtt_base::{Bytes, Name, NoMemory};
@@ -28,8 +28,7 @@ pub enum View<'a> {
 
 /// What the first of these shows.
 fn shown_first(alloc: Global, texts: &[SourceText]) -> Result<Shown, NoMemory>
-    requires some { 0 < length texts.now }
-    requires utf8 { AreUtf8 texts.now }
+    requires { AreShown texts.now }
     ensures { IfOk result (λ s. display_of s ≡ first_shown texts.now) }
 {
     show(alloc, texts[0].text.as_slice())
@@ -75,8 +74,7 @@ fn append_one(
     counts: Counts,
     out: &mut Bytes,
 ) -> Result<(), NoMemory>
-    requires some { 0 < length texts.now }
-    requires utf8 { AreUtf8 texts.now }
+    requires { AreShown texts.now }
     ensures ok { OnOk result (out.new ≡ out.old ++ text_view (first_shown texts.now) counts) }
     ensures kept { Extends out.old out.new }
 {
@@ -93,8 +91,7 @@ fn append_unaware(
     counts: Counts,
     out: &mut Bytes,
 ) -> Result<(), NoMemory>
-    requires some { 0 < length texts.now }
-    requires utf8 { AreUtf8 texts.now }
+    requires { AreShown texts.now }
     ensures ok { OnOk result (out.new ≡ out.old ++ unaware_view name.now (first_shown texts.now) counts) }
     ensures kept { Extends out.old out.new }
 {
@@ -142,8 +139,7 @@ impl Terminal {
     /// Appends a view of a terminal that is not spent, or a part of it.
     fn append_part(&self, alloc: Global, view: View<'_>, out: &mut Bytes) -> Result<(), NoMemory>
         requires fits { Fits view (length (texts_of self.now)) }
-        requires some { 0 < length (texts_of self.now) }
-        requires utf8 { AreUtf8 (texts_of self.now) }
+        requires shown { AreShown (texts_of self.now) }
         ensures ok { OnOk result (out.new ≡ out.old ++ view_of view.entry self.now) }
         ensures kept { Extends out.old out.new }
     {
@@ -159,8 +155,7 @@ impl Terminal {
     /// Appends a view of a terminal that is not spent.
     fn append_whole(&self, alloc: Global, view: View<'_>, out: &mut Bytes) -> Result<(), NoMemory>
         requires fits { Fits view (length (texts_of self.now)) }
-        requires some { 0 < length (texts_of self.now) }
-        requires utf8 { AreUtf8 (texts_of self.now) }
+        requires shown { AreShown (texts_of self.now) }
         ensures ok { OnOk result (out.new ≡ out.old ++ view_of view.entry self.now) }
         ensures err { OnErr result (out.new ≡ out.old) }
     {
