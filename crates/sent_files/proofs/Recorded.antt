@@ -1,10 +1,10 @@
 -- The records of what was sent, packet by packet.
-use Rattle.std.proofs.Common.{◌≡◌, ℕ, zero, suc, ◌+◌, ◌-◌, ◌<◌, ◌≤◌, Some, List, [], ◌∷◌, ◌++◌, ◌⊎◌, inl, inr, drop, length, set, append_assoc, refl, ap, subst, sym, ◌∙◌, arith}
-use Rattle.std.specs.Prelude.{flat_map, slice_get}
+use Rattle.std.proofs.Common.{Result, ◌≡◌, ℕ, zero, suc, ◌+◌, ◌-◌, ◌<◌, ◌≤◌, Some, List, [], ◌∷◌, ◌++◌, ◌⊎◌, inl, inr, drop, length, set, append_assoc, refl, ap, subst, sym, ◌∙◌, arith}
+use Rattle.std.specs.Prelude.{OnErr, OnOk, flat_map, slice_get}
 use Rattle.std.proofs.lemmas.List.{append-nil, length-map}
 use Rattle.std.proofs.lemmas.Grind.{flat_map-append}
 use Rattle.stream_spec.specs.Own.{Sent}
-use Rattle.wire_spec.specs.Dump.{record_written}
+use Rattle.wire_spec.specs.Dump.{dump_opening, record_written}
 use Rattle.aware_output.specs.declared.outputs.OutConf.{OutConf}
 use Rattle.aware_output.specs.declared.speakers.Speaker.{Speaker}
 use Rattle.aware_output.specs.Sending.{octets_of}
@@ -14,7 +14,7 @@ use Rattle.sent_log.specs.States.{Sending, State, first_sent, recording_of, reco
 use Rattle.rtt_io.specs.Fronts.{TakesFront}
 use Rattle.sent_files.specs.Files.{AreOutputsTo, IsOutputTo, recording_at}
 use Rattle.sent_files.specs.Writing.{HoldsRest}
-use Rattle.sent_files.proofs.Passing.{front_before, front_taken, more_held, taken_on}
+use Rattle.sent_files.proofs.Passing.{all_taken, err_then, front_before, front_taken, more_held, ok_then, taken_on}
 
 -- the octets of the records
 abbrev pub written_of : OutConf → List (ℕ × Sent) → List ℕ
@@ -80,6 +80,22 @@ front_of_all conf n sent before middle took page opening h f =
     let written = written_of conf (first_sent n sent) in
     subst (λ (xs : List ℕ). TakesFront before took xs) (append_assoc opening written r.0 ∙ ap (λ (xs : List ℕ). opening ++ xs) (sym r.1))
     (front_before before took (opening ++ written) r.0 (front_taken before middle took page (opening ++ written) h f))
+
+-- once all records were made, what was taken and the page are the whole recording
+all_held : (x : Sending) (n : ℕ) (before took page : List ℕ) → length x.sent ≤ n → HoldsRest before took page (dump_opening ++ written_of x.conf (first_sent n x.sent)) → HoldsRest before took page (recording_of x)
+all_held x n before took page l h = subst (λ (s : List (ℕ × Sent)). HoldsRest before took page (dump_opening ++ written_of x.conf s)) (all_first n x.sent l) h
+
+-- where the page is taken then, the whole recording was
+pub whole_taken : {A B : Type 0} (r : Result A B) (x : Sending) (n : ℕ) (before middle took page octets : List ℕ) → length x.sent ≤ n → HoldsRest before middle page (dump_opening ++ written_of x.conf (first_sent n x.sent))
+    → octets ≡ page → OnOk r (took ≡ middle ++ octets) → OnOk r (took ≡ before ++ recording_of x)
+whole_taken r x n before middle took page octets l h is =
+    ok_then (took ≡ middle ++ octets) (took ≡ before ++ recording_of x) r (λ e. all_taken before middle took page (recording_of x) (all_held x n before middle page l h) (e ∙ ap (λ (xs : List ℕ). middle ++ xs) is))
+
+-- where a front of it is, a front of the recording was
+pub front_is_taken : {A B : Type 0} (r : Result A B) (x : Sending) (n : ℕ) (before middle took page octets : List ℕ) → length x.sent ≤ n → HoldsRest before middle page (dump_opening ++ written_of x.conf (first_sent n x.sent))
+    → octets ≡ page → OnErr r (TakesFront middle took octets) → OnErr r (TakesFront before took (recording_of x))
+front_is_taken r x n before middle took page octets l h is =
+    err_then (TakesFront middle took octets) (TakesFront before took (recording_of x)) r (λ f. front_taken before middle took page (recording_of x) (all_held x n before middle page l h) (subst (λ (xs : List ℕ). TakesFront middle took xs) is f))
 
 -- ---- an output's sources
 pub as_many : (x : Sending) (o : output.State) (past : List Sent) → StandsFor x.conf x.sources o past → length o.speakers ≡ length x.sources

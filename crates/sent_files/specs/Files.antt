@@ -1,10 +1,9 @@
 -- What was sent to each terminal, as recordings (profile).
-use Rattle.std.specs.Prelude.{◌≡◌, ℕ, Some, List, [], flat_map, length, map, slice_get, slice_index_or}
+use Rattle.std.specs.Prelude.{◌≡◌, ℕ, Some, List, [], length, map, slice_get, slice_index_or}
 use Rattle.stream_spec.specs.Own.{Sent}
-use Rattle.wire_spec.specs.Dump.{record_written}
 use Rattle.aware_output.specs.Standing.{StandsFor}
 use Rattle.aware_output.specs.States as output
-use Rattle.sent_log.specs.States.{Sending, State, recording_of, records_of}
+use Rattle.sent_log.specs.States.{Sending, State, recording_of}
 
 -- the recordings, by terminal
 abbrev pub recordings_of : State → List (List ℕ)
@@ -13,10 +12,6 @@ recordings_of log = map recording_of log
 -- the recording of what was sent to the terminal with this number
 abbrev pub recording_at : State → ℕ → List ℕ
 recording_at log terminal = slice_index_or (recordings_of log) terminal []
-
--- the octets of its records, without the opening
-abbrev pub records_written : Sending → List ℕ
-records_written x = flat_map record_written (records_of x.conf x.sent)
 
 -- an output to the terminal, whatever it has sent
 pub record IsOutputTo (x : Sending) (o : output.State) : Type 0 where

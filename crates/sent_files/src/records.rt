@@ -1,11 +1,10 @@
 //! The records of a recording, page by page.
-ghost use Rattle.std.specs.Prelude.{◌≡◌, ◌<◌, ◌≤◌, ◌+◌, ◌++◌, [], length, OnOk, OnErr};
+ghost use Rattle.std.specs.Prelude.{◌≡◌, ◌<◌, ◌≤◌, ◌+◌, ◌++◌, length, OnOk, OnErr};
 ghost use Rattle.rtt_io.specs.Counts.{Rose};
 ghost use Rattle.rtt_io.specs.Fronts.{TakesFront};
 ghost use Rattle.wire_spec.specs.Dump.{dump_opening, record_written};
-ghost use Rattle.aware_output.specs.Standing.{StandsFor};
 ghost use Rattle.sent_log.specs.States.{IsLawful, OfTerminal, recording_of};
-ghost use Rattle.sent_files.specs.Files.{IsOutputTo, records_written};
+ghost use Rattle.sent_files.specs.Files.{IsOutputTo};
 ghost use Rattle.sent_files.specs.Writing.{HoldsRest};
 ghost use Rattle.sent_files.specs.declared.pages.TheConstants.{PAGE_OCTETS};
 
@@ -64,40 +63,6 @@ fn turn_page<K: Sink>(page: &mut Page, sink: &mut K) -> Result<(), Failed>
     Ok(())
 }
 
-/// Writes the records of what was sent to the terminal, by an output that has sent nothing. What is left of them stays in the
-/// page. After `Failed` the sink took some of the octets from the front, or none.
-fn write_records<K: Sink>(
-    log: &SentLog,
-    terminal: usize,
-    output: &mut Output,
-    page: &mut Page,
-    sink: &mut K,
-) -> Result<(), Failed>
-    requires terminal { terminal < length log.now }
-    requires lawful { OfTerminal log.now terminal IsLawful }
-    requires fresh { OfTerminal log.now terminal (λ x. StandsFor x.conf x.sources output.old []) }
-    ensures output { OfTerminal log.now terminal (λ x. IsOutputTo x output.new) }
-    ensures never_falls { K.faults sink.old ≤ K.faults sink.new }
-    ensures failed { OnErr result (Rose (K.faults sink.old) (K.faults sink.new)) }
-    ensures same_name { K.name sink.new ≡ K.name sink.old }
-    ensures calm { OnOk result (K.faults sink.new ≡ K.faults sink.old) }
-    ensures held { K.tells → OfTerminal log.now terminal (λ x. OnOk result
-        (HoldsRest (K.took sink.old) (K.took sink.new) page.new (page.old ++ records_written x))) }
-    ensures prefix { K.tells → OfTerminal log.now terminal (λ x. OnErr result
-        (TakesFront (K.took sink.old) (K.took sink.new) (page.old ++ records_written x))) }
-{
-    let mut packet = Packet::new();
-    for number in 0..log.count(terminal) {
-        let at = log.packet(terminal, number, output, &mut packet);
-        let turned = turn_page(page, sink);
-        if turned.is_err() {
-            return turned;
-        }
-        put_record(page, at, &packet);
-    }
-    Ok(())
-}
-
 /// Writes the recording of what was sent to the terminal, by an output to it, and stores it. After `Failed` the sink took some
 /// of the octets from the front, or none.
 pub fn write_recording<K: Sink>(
@@ -122,9 +87,14 @@ pub fn write_recording<K: Sink>(
 {
     output.restart();
     begin(page);
-    let written = write_records(log, terminal, output, page, sink);
-    if written.is_err() {
-        return written;
+    let mut packet = Packet::new();
+    for number in 0..log.count(terminal) {
+        let at = log.packet(terminal, number, output, &mut packet);
+        let turned = turn_page(page, sink);
+        if turned.is_err() {
+            return turned;
+        }
+        put_record(page, at, &packet);
     }
     sink.write_all(page.as_slice())
 }

@@ -56,7 +56,8 @@ fn expect_ends(rt: &impl Abort, octets: &[u8], len: usize) {
     assert!(rt; octets.ends_with(&LAST));
 }
 
-/// The recording is written as these octets.
+/// The recording is written as these octets; where the second write fails the sink took a page of them, and some of the
+/// next one.
 fn expect_written(
     rt: &impl Abort,
     alloc: Global,
@@ -69,25 +70,13 @@ fn expect_written(
     let mut sink = MemSink::new(alloc, Path::from_text(alloc, "a.rtp")?);
     assert!(rt; files.write_to(0, &mut sink).is_ok());
     assert!(rt; sink.taken() == octets);
-    Ok(())
-}
-
-/// Where the second write fails the sink took a page of these octets, and some of the next one.
-fn expect_front(
-    rt: &impl Abort,
-    alloc: Global,
-    files: &mut SentFiles,
-    octets: &[u8],
-) -> Result<(), NoMemory>
-    requires { 0 < length files.old }
-{
-    let mut sink = MemSink::new(alloc, Path::from_text(alloc, "a.rtp")?);
-    sink.fail_at(FailingWrite {
+    let mut failing = MemSink::new(alloc, Path::from_text(alloc, "b.rtp")?);
+    failing.fail_at(FailingWrite {
         write: 2,
         through: 10,
     })?;
-    assert!(rt; files.write_to(0, &mut sink).is_err());
-    let taken = sink.taken();
+    assert!(rt; files.write_to(0, &mut failing).is_err());
+    let taken = failing.taken();
     assert!(rt; 60_000 < taken.len());
     assert!(rt; taken.len() < 65_600);
     assert!(rt; octets.starts_with(taken));
@@ -103,15 +92,5 @@ fn a_recording_of_three_pages_is_written_twice(rt: HostRuntime) -> Result<(), Fa
     let mut files = SentFiles::new(alloc, log)?;
     expect_written(&rt, alloc, &mut files, whole.as_slice())?;
     expect_written(&rt, alloc, &mut files, whole.as_slice())?;
-    Ok(())
-}
-
-#[test]
-fn where_the_second_write_fails_a_front_was_taken(rt: HostRuntime) -> Result<(), Fail> {
-    let alloc = rt.alloc();
-    let log = log_of(alloc, conf(), 6000, b"")?;
-    let whole = in_memory(alloc, &log, 0)?;
-    let mut files = SentFiles::new(alloc, log)?;
-    expect_front(&rt, alloc, &mut files, whole.as_slice())?;
     Ok(())
 }

@@ -1,38 +1,81 @@
-use Rattle.std.proofs.Common.{◌≡◌, ◌++◌, ℕ, List, ap, subst, sym, ◌∙◌}
+use Rattle.std.proofs.Common.{◌≡◌, ◌+◌, ◌++◌, ℕ, List, refl, subst, sym, ◌∙◌, arith}
+use Rattle.std.proofs.lemmas.List.{append-nil}
 use Rattle.rtt_io.specs.Fronts.{TakesFront}
-use Rattle.sent_log.specs.States.{recording_of}
+use Rattle.wire_spec.specs.Dump.{dump_opening}
+use Rattle.stream_spec.specs.Own.{Sent}
+use Rattle.aware_output.specs.Standing.{StandsFor}
+use Rattle.sent_log.specs.States.{first_sent, recording_of, sents}
 use Rattle.sent_files.specs.Writing.{HoldsRest}
-use Rattle.sent_files.proofs.Passing.{all_taken, err_then, front_taken, ok_gives, ok_then}
-use Rattle.sent_files.proofs.Recorded.{written_of}
+use Rattle.sent_files.proofs.Passing.{err_then, nothing_taken, ok_gives}
+use Rattle.sent_files.proofs.Recorded.{as_many, front_is_taken, front_of_all, next_held, none_first, whole_taken, written_of}
 use Rattle.sent_files.proofs.records.write_recording.Goals as goal
 
-pub write_records-written-requires-clause-fresh : goal.write_records-written-requires-clause-fresh
-write_records-written-requires-clause-fresh g c = λ x at. let o = c.requires.output x at in c.restart.ensures.stands x.conf x.sources o.past o.stands
+pub loop-number-init : goal.loop-number-init
+loop-number-init g c =
+    let took = g.K.Sink.took c.args.sink.now in
+    let page = c.begin.new.page in
+    record {
+      stands = λ x at.
+          let o = c.requires.output x at in
+          subst (λ (s : List (ℕ × Sent)). StandsFor x.conf x.sources c.restart.new.self (sents s)) (sym (none_first x.sent)) (c.restart.ensures.stands x.conf x.sources o.past o.stands);
+      calm = refl;
+      named = refl;
+      held = λ told x at. subst (λ (s : List (ℕ × Sent)). HoldsRest took took page (dump_opening ++ written_of x.conf s)) (sym (none_first x.sent))
+          (subst (λ (xs : List ℕ). HoldsRest took took page xs) (c.begin.ensures ∙ sym (append-nil dump_opening)) (nothing_taken took page));
+    }
+
+pub packet-at-requires-clause-sources : goal.packet-at-requires-clause-sources
+packet-at-requires-clause-sources g c = λ x at. as_many x c.loop-number.output (sents (first_sent c.loop-number.number x.sent)) (c.loop-number.invariant.stands x at)
+
+pub returns-then-is_err-clause-output : goal.returns-then-is_err-clause-output
+returns-then-is_err-clause-output g c = λ x at. record {
+  past = sents (first_sent (c.loop-number.number + 1) x.sent);
+  stands = (c.packet-at.ensures.made x at (c.requires.lawful x at) (c.loop-number.invariant.stands x at)).4;
+}
+
+pub returns-then-is_err-clause-prefix : goal.returns-then-is_err-clause-prefix
+returns-then-is_err-clause-prefix g c = λ told x at.
+    let took = g.K.Sink.took in
+    let before = took c.args.sink.now in
+    let middle = took c.loop-number.sink in
+    let now = took c.turn_page-turned.new.sink in
+    let page = c.loop-number.page in
+    err_then (TakesFront middle now page) (TakesFront before now (recording_of x)) c.turn_page-turned.result
+    (front_of_all x.conf c.loop-number.number x.sent before middle now page dump_opening (c.loop-number.invariant.held told x at))
+    (c.turn_page-turned.ensures.prefix told)
+
+pub loop-number-preserved : goal.loop-number-preserved
+loop-number-preserved g c =
+    let took = g.K.Sink.took in
+    let n = c.loop-number.number in
+    let turned = c.turn_page-turned.result in
+    let went = sym c.is_err.ensures.value ∙ c.if-is_err.false in
+    let middle = took c.loop-number.sink in
+    let now = took c.turn_page-turned.new.sink in
+    record {
+      stands = λ x at. (c.packet-at.ensures.made x at (c.requires.lawful x at) (c.loop-number.invariant.stands x at)).4;
+      calm = ok_gives (g.K.Sink.faults c.turn_page-turned.new.sink ≡ g.K.Sink.faults c.loop-number.sink) turned went c.turn_page-turned.ensures.calm ∙ c.loop-number.invariant.calm;
+      named = c.turn_page-turned.ensures.same_name ∙ c.loop-number.invariant.named;
+      held = λ told x at.
+          let m = c.packet-at.ensures.made x at (c.requires.lawful x at) (c.loop-number.invariant.stands x at) in
+          next_held x.conf n x.sent m.0 c.packet-at.result c.packet-at.new.packet m.1 m.2 m.3
+          (took c.args.sink.now) middle now c.loop-number.page c.turn_page-turned.new.page c.put_record.new.page dump_opening
+          (c.loop-number.invariant.held told x at)
+          (ok_gives (HoldsRest middle now c.turn_page-turned.new.page c.loop-number.page) turned went (c.turn_page-turned.ensures.held told))
+          c.put_record.ensures;
+    }
+
+pub returns-clause-output : goal.returns-clause-output
+returns-clause-output g c = λ x at. record { past = sents (first_sent c.loop-number.number x.sent); stands = c.loop-number.invariant.stands x at }
 
 pub returns-clause-appended : goal.returns-clause-appended
 returns-clause-appended g c = λ told x at.
     let took = g.K.Sink.took in
-    let before = took c.args.sink.now in
-    let middle = took c.write_records-written.new.sink in
-    let now = took c.write_all.new.self in
-    let page = c.write_records-written.new.page in
-    let went = sym c.is_err.ensures.value ∙ c.if-is_err.false in
-    let held = ok_gives (HoldsRest before middle page (c.begin.new.page ++ written_of x.conf x.sent)) c.write_records-written.result went (c.write_records-written.ensures.held told x at) in
-    let whole = subst (λ (xs : List ℕ). HoldsRest before middle page (xs ++ written_of x.conf x.sent)) c.begin.ensures held in
-    ok_then (now ≡ middle ++ c.as_slice.result.now) (now ≡ before ++ recording_of x) c.write_all.result
-    (λ e. all_taken before middle now page (recording_of x) whole (e ∙ ap (λ (xs : List ℕ). middle ++ xs) c.as_slice.ensures))
-    (c.write_all.ensures.appended told)
+    whole_taken c.write_all.result x c.loop-number.number (took c.args.sink.now) (took c.loop-number.sink) (took c.write_all.new.self) c.loop-number.page c.as_slice.result.now
+    (omega (arith, c.count-number-end.ensures x at, c.loop-number-test.false)) (c.loop-number.invariant.held told x at) c.as_slice.ensures (c.write_all.ensures.appended told)
 
 pub returns-clause-prefix : goal.returns-clause-prefix
 returns-clause-prefix g c = λ told x at.
     let took = g.K.Sink.took in
-    let before = took c.args.sink.now in
-    let middle = took c.write_records-written.new.sink in
-    let now = took c.write_all.new.self in
-    let page = c.write_records-written.new.page in
-    let went = sym c.is_err.ensures.value ∙ c.if-is_err.false in
-    let held = ok_gives (HoldsRest before middle page (c.begin.new.page ++ written_of x.conf x.sent)) c.write_records-written.result went (c.write_records-written.ensures.held told x at) in
-    let whole = subst (λ (xs : List ℕ). HoldsRest before middle page (xs ++ written_of x.conf x.sent)) c.begin.ensures held in
-    err_then (TakesFront middle now c.as_slice.result.now) (TakesFront before now (recording_of x)) c.write_all.result
-    (λ f. front_taken before middle now page (recording_of x) whole (subst (λ (xs : List ℕ). TakesFront middle now xs) c.as_slice.ensures f))
-    (c.write_all.ensures.prefix told)
+    front_is_taken c.write_all.result x c.loop-number.number (took c.args.sink.now) (took c.loop-number.sink) (took c.write_all.new.self) c.loop-number.page c.as_slice.result.now
+    (omega (arith, c.count-number-end.ensures x at, c.loop-number-test.false)) (c.loop-number.invariant.held told x at) c.as_slice.ensures (c.write_all.ensures.prefix told)
