@@ -176,54 +176,50 @@ fn lost_packets_are_repeated_or_leave_a_mark(rt: HostRuntime) -> Result<(), Fail
     Ok(())
 }
 
+// To Ann, where Bob typed one text.
+const TO_ANN: [&[u8]; 3] = [
+    b"\x81\xE4\0\x64\0\0\x17\x70\0\0\x23\x28\0\0\x03\xEA\xE2\xFF\xFC\0\xE2\xFF\xFC\0\x62Hi Ann",
+    b"\x81\x64\0\x65\0\0\x18\x9C\0\0\x23\x28\0\0\x03\xEA\xE2\xFF\xFC\0\xE2\x04\xB0\x06\x62Hi Ann",
+    b"\x81\x64\0\x66\0\0\x19\xC8\0\0\x23\x28\0\0\x03\xEA\xE2\x09\x60\x06\xE2\x04\xB0\0\x62Hi Ann",
+];
+
+// To Bob, where Ann typed three, the last one with a line separator.
+const TO_BOB: [&[u8]; 5] = [
+    b"\x81\xE4\0\x64\0\0\x13\x88\0\0\x23\x28\0\0\x03\xE9\xE2\xFF\xFC\0\xE2\xFF\xFC\0\x62H",
+    b"\x81\x64\0\x65\0\0\x14\xB4\0\0\x23\x28\0\0\x03\xE9\xE2\xFF\xFC\0\xE2\x04\xB0\x01\x62He",
+    b"\x81\x64\0\x66\0\0\x15\xE0\0\0\x23\x28\0\0\x03\xE9\xE2\x09\x60\x01\xE2\x04\xB0\x01\x62Hey\xE2\x80\xA8",
+    b"\x81\x64\0\x67\0\0\x17\x0C\0\0\x23\x28\0\0\x03\xE9\xE2\x09\x60\x01\xE2\x04\xB0\x04\x62ey\xE2\x80\xA8",
+    b"\x81\x64\0\x68\0\0\x18\x38\0\0\x23\x28\0\0\x03\xE9\xE2\x09\x60\x04\xE2\x04\xB0\0\x62y\xE2\x80\xA8",
+];
+
+// Of the mixer, to a terminal that shows one text.
+const LABELLED: [&[u8]; 4] = [
+    b"\x80\xE4\0\0\0\0\0\0\0\0\x23\x28\xE2\xFF\xFC\0\xE2\xFF\xFC\0\x62[Bob] Hi. ",
+    b"\x80\x64\0\x01\0\0\x01\x2C\0\0\x23\x28\xE2\xFF\xFC\0\xE2\x04\xB0\x0A\x62[Bob] Hi. \xE2\x80\xA8[Cy] yes",
+    b"\x80\x64\0\x02\0\0\x02\x58\0\0\x23\x28\xE2\x09\x60\x0A\xE2\x04\xB0\x0B\x62[Bob] Hi. \xE2\x80\xA8[Cy] yes",
+    b"\x80\x64\0\x03\0\0\x03\x84\0\0\x23\x28\xE2\x09\x60\x0B\xE2\x04\xB0\0\x62\xE2\x80\xA8[Cy] yes",
+];
+
+// To Bob, where Ann typed a replacement character, and the packet between did not come.
+const REPLACEMENT: [&[u8]; 2] = [
+    b"\x81\xE2\0\x64\0\0\x13\x88\0\0\x23\x28\0\0\x03\xE9\xEF\xBF\xBD",
+    b"\x81\x62\0\x66\0\0\x15\xE0\0\0\x23\x28\0\0\x03\xE9y",
+];
+
 #[test]
-fn each_in_a_call_of_two_sees_what_the_other_typed(rt: HostRuntime) -> Result<(), Fail> {
-    // Bob typed one text.
-    let to_ann: [&[u8]; 3] = [
-        b"\x81\xE4\0\x64\0\0\x17\x70\0\0\x23\x28\0\0\x03\xEA\xE2\xFF\xFC\0\xE2\xFF\xFC\0\x62Hi Ann",
-        b"\x81\x64\0\x65\0\0\x18\x9C\0\0\x23\x28\0\0\x03\xEA\xE2\xFF\xFC\0\xE2\x04\xB0\x06\x62Hi Ann",
-        b"\x81\x64\0\x66\0\0\x19\xC8\0\0\x23\x28\0\0\x03\xEA\xE2\x09\x60\x06\xE2\x04\xB0\0\x62Hi Ann",
-    ];
+fn each_sees_what_the_others_typed(rt: HostRuntime) -> Result<(), Fail> {
     let ann =
         "== Ann aware\nBob: Hi Ann\n-- Bob bells 0\n-- packets 3 used 3 refused 0 foreign 0\n";
-    assert!(rt; shows_other(&rt, ("Ann", "Bob"), 1002, &to_ann, ann, 0)?);
-    // Ann typed three, the last one with a line separator.
-    let to_bob: [&[u8]; 5] = [
-        b"\x81\xE4\0\x64\0\0\x13\x88\0\0\x23\x28\0\0\x03\xE9\xE2\xFF\xFC\0\xE2\xFF\xFC\0\x62H",
-        b"\x81\x64\0\x65\0\0\x14\xB4\0\0\x23\x28\0\0\x03\xE9\xE2\xFF\xFC\0\xE2\x04\xB0\x01\x62He",
-        b"\x81\x64\0\x66\0\0\x15\xE0\0\0\x23\x28\0\0\x03\xE9\xE2\x09\x60\x01\xE2\x04\xB0\x01\x62Hey\xE2\x80\xA8",
-        b"\x81\x64\0\x67\0\0\x17\x0C\0\0\x23\x28\0\0\x03\xE9\xE2\x09\x60\x01\xE2\x04\xB0\x04\x62ey\xE2\x80\xA8",
-        b"\x81\x64\0\x68\0\0\x18\x38\0\0\x23\x28\0\0\x03\xE9\xE2\x09\x60\x04\xE2\x04\xB0\0\x62y\xE2\x80\xA8",
-    ];
+    assert!(rt; shows_other(&rt, ("Ann", "Bob"), 1002, &TO_ANN, ann, 0)?);
     let bob =
         "== Bob aware\nAnn: Hey\nAnn: \n-- Ann bells 0\n-- packets 5 used 5 refused 0 foreign 0\n";
-    assert!(rt; shows_other(&rt, ("Bob", "Ann"), 1001, &to_bob, bob, 0)?);
-    Ok(())
-}
-
-#[test]
-fn an_unaware_terminal_shows_the_labelled_text(rt: HostRuntime) -> Result<(), Fail> {
-    let packets: [&[u8]; 4] = [
-        b"\x80\xE4\0\0\0\0\0\0\0\0\x23\x28\xE2\xFF\xFC\0\xE2\xFF\xFC\0\x62[Bob] Hi. ",
-        b"\x80\x64\0\x01\0\0\x01\x2C\0\0\x23\x28\xE2\xFF\xFC\0\xE2\x04\xB0\x0A\x62[Bob] Hi. \xE2\x80\xA8[Cy] yes",
-        b"\x80\x64\0\x02\0\0\x02\x58\0\0\x23\x28\xE2\x09\x60\x0A\xE2\x04\xB0\x0B\x62[Bob] Hi. \xE2\x80\xA8[Cy] yes",
-        b"\x80\x64\0\x03\0\0\x03\x84\0\0\x23\x28\xE2\x09\x60\x0B\xE2\x04\xB0\0\x62\xE2\x80\xA8[Cy] yes",
-    ];
-    let view =
+    assert!(rt; shows_other(&rt, ("Bob", "Ann"), 1001, &TO_BOB, bob, 0)?);
+    let unaware =
         "== Ann unaware\n| [Bob] Hi. \n| [Cy] yes\n-- bells 0\n-- packets 4 used 4 refused 0 foreign 0\n";
-    assert!(rt; shows_as_one(&rt, &packets, view)?);
-    Ok(())
-}
-
-#[test]
-fn a_typed_replacement_character_is_no_marker(rt: HostRuntime) -> Result<(), Fail> {
-    let packets: [&[u8]; 2] = [
-        b"\x81\xE2\0\x64\0\0\x13\x88\0\0\x23\x28\0\0\x03\xE9\xEF\xBF\xBD",
-        b"\x81\x62\0\x66\0\0\x15\xE0\0\0\x23\x28\0\0\x03\xE9y",
-    ];
-    // One was typed, and one stands for the packet between that did not come.
-    let view =
+    assert!(rt; shows_as_one(&rt, &LABELLED, unaware)?);
+    // What was typed is no marker, and the other one is.
+    let marked =
         "== Bob aware\nAnn: \u{FFFD}\u{FFFD}y\n-- Ann bells 0\n-- packets 2 used 2 refused 0 foreign 0\n";
-    assert!(rt; shows_other(&rt, ("Bob", "Ann"), 1001, &packets, view, 1)?);
+    assert!(rt; shows_other(&rt, ("Bob", "Ann"), 1001, &REPLACEMENT, marked, 1)?);
     Ok(())
 }
