@@ -66,9 +66,9 @@ speaker_flag s c asks w x h l n = h.flags x (let k = h.legs in omega (arith, l, 
 
 switch_same : (s : Setup) (c : State) (asks : List Asked) (w : ℕ → List Chunk) (g : Answer) (x : Current) (now : ℕ) → Looks s c asks w → IsSpeaker s c.own asks g x → is_left c x now ≡ is_switch s.legs c.own now w asks x.speaker
 switch_same s c asks w g x now h k = λ r.
-    h.stands.chunk r
+    h.stands.run.chunk r
     && (others_same s c asks w x.speaker h r
-    && (turn_is c.run (joined (run_of asks)) h.stands.run.ending r
+    && (turn_is c.run (joined (run_of asks)) h.stands.run.is_run.ending r
     || ((not (speaker_flag s c asks w x.speaker h k.leg k.other r) && is_ago 2000 now (sym k.given r))
     || longs_same s c asks w x.speaker now h r)))
 

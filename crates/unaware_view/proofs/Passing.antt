@@ -67,9 +67,5 @@ passed s table c media due asks h f =
           let silent : has_chunk (waiting table c i) ≡ false = sym (ap (λ (b : Bool). not b && has_chunk (waiting table c i)) (ne_eqb i c.own o)) ∙ f i l in
           h.waits_since i l o ∙ sym (ap (λ (b : Bool). option_or (since i asks) (cond b (Some media) None)) silent ∙ or_none (since i asks));
       run = h.run;
-      utf8 = h.utf8;
-      chunk = h.chunk;
-      begun = h.begun;
-      line = h.line;
       asked = refl;
     })

@@ -29,7 +29,7 @@ use Rattle.mixer_spec.proofs.Texts.{front_texts, joined_utf8}
 use Rattle.unaware_view.specs.Runs.{GoesAlone, GoesOn as RunGoesOn, Heads, IsAhead, IsRun, behind}
 use Rattle.unaware_view.specs.States.{State}
 use Rattle.unaware_view.specs.Choices.{is_set, since_at, is_left, begins, choice_after, choice, speaker_of, IsBelow, is_leg, noted}
-use Rattle.unaware_view.specs.Standing.{StandsFor, IsAsked, IsCurrent, IsSpeaker, name_at, answered, asked_now, given_now}
+use Rattle.unaware_view.specs.Standing.{RunStands, StandsFor, IsAsked, IsCurrent, IsSpeaker, name_at, answered, asked_now, given_now}
 use Rattle.unaware_view.specs.Giving.{Gives, GivesLabel, GivesOn, remembered, waits_of}
 use Rattle.unaware_view.proofs.Asking.{Looks, choice_is, given_of, speaker_flag}
 use Rattle.rtt_base.specs.declared.limits.TheConstants.{MOST_TEXT_OCTETS}
@@ -85,10 +85,10 @@ some_is name w asks (GoesOn i) = refl
 
 -- the label of a run is to come as the definition says it
 unlabelled_is : (s : Setup) (c : State) (asks : List Asked) → StandsFor s c asks → is_unlabelled asks ≡ not c.run.labelled
-unlabelled_is s c asks h = elim h.run.part [ inl a ↦ ahead a | inr b ↦ and_right (has_chunk (run_of asks)) _ b.seen ∙ sym (ap not b.labelled) ]
+unlabelled_is s c asks h = elim h.run.is_run.part [ inl a ↦ ahead a | inr b ↦ and_right (has_chunk (run_of asks)) _ b.seen ∙ sym (ap not b.labelled) ]
   where
     has : began_alone asks ≡ false → has_chunk (run_of asks) ≡ true
-    has e = go (has_chunk (run_of asks)) (sym (ap (λ b. has_chunk (run_of asks) || b) e) ∙ h.begun)
+    has e = go (has_chunk (run_of asks)) (sym (ap (λ b. has_chunk (run_of asks) || b) e) ∙ h.run.begun)
       where
         go : (b : Bool) → (b || false) ≡ true → b ≡ true
         go true q = refl
@@ -109,12 +109,9 @@ no_text = joined_utf8 [] tt
 
 -- ---- a run with more chunks
 -- With these chunks, with which a run begins or not, this is the run.
-record Then (next : Run) (begins : Bool) (run cs : List Chunk) (alone other behind_cr on : Bool) : Type 0 where
-  run_is : IsRun next (cond begins (not (has_chunk cs)) alone) (cond begins other behind_cr) (chars_of (cond begins cs (run ++ cs)))
-  utf8 : IsUtf8 (joined (cond begins cs (run ++ cs)))
-  chunk : next.has_chunk ≡ has_chunk (cond begins cs (run ++ cs))
-  begun : (has_chunk (cond begins cs (run ++ cs)) || cond begins (not (has_chunk cs)) alone) ≡ true
-  line : next.is_open ≡ ((begins && not (has_chunk cs)) || is_open_after on (chars_of cs))
+abbrev Then : Run → Bool → List Chunk → List Chunk → Bool → Bool → Bool → Bool → Type 0
+Then next begins run cs alone other behind_cr on =
+    RunStands next (cond begins (not (has_chunk cs)) alone) (cond begins other behind_cr) (cond begins cs (run ++ cs)) ((begins && not (has_chunk cs)) || is_open_after on (chars_of cs))
 
 has_chunk_append : (cs ds : List Chunk) → (has_chunk cs || has_chunk ds) ≡ has_chunk (cs ++ ds)
 has_chunk_append [] ds = refl
@@ -130,7 +127,7 @@ some_chunk false = refl
 goes_then : (name : List ℕ) (r next : Run) (alone other behind_cr on : Bool) (run cs : List Chunk) (text : List ℕ) → IsUtf8 (joined run) → AreTexts cs → r.is_open ≡ on → r.has_chunk ≡ has_chunk run → (has_chunk run || alone) ≡ true
     → RunGoesOn name r next alone behind_cr (chars_of run) cs [] text → Then next false run cs alone other behind_cr on
 goes_then name r next alone other behind_cr on run cs text u a o k b h = record {
-  run_is = subst (λ (xs : List ℕ). IsRun next alone behind_cr xs) (sym (chars_append run cs u)) h.sends.run_is;
+  is_run = subst (λ (xs : List ℕ). IsRun next alone behind_cr xs) (sym (chars_append run cs u)) h.sends.run_is;
   utf8 = subst IsUtf8 (sym (joined_append run cs)) (IsUtf8-append (joined run) (joined cs) u (joined_utf8 cs a));
   chunk = h.has_chunk ∙ (ap (λ (x : Bool). x || has_chunk cs) k ∙ has_chunk_append run cs);
   begun = still run b;
@@ -143,7 +140,7 @@ goes_then name r next alone other behind_cr on run cs text u a o k b h = record 
 
 alone_then : (name : List ℕ) (r next : Run) (alone other behind_cr on : Bool) (run : List Chunk) (text : List ℕ) → GoesAlone name r next text → Then next true run [] alone other behind_cr on
 alone_then name r next alone other behind_cr on run text h = record {
-  run_is = subst (λ (xs : List ℕ). IsRun next true other xs) (sym no_chars) (h.run_is other);
+  is_run = subst (λ (xs : List ℕ). IsRun next true other xs) (sym no_chars) (h.run_is other);
   utf8 = joined_utf8 [] tt;
   chunk = h.has_chunk;
   begun = refl;
@@ -155,7 +152,7 @@ new_then : (name : List ℕ) (r next : Run) (alone other behind_cr on : Bool) (r
     → Heads name r next other [] cs text → Then next true run cs alone other behind_cr on
 new_then name r next alone other behind_cr on run [] text a o k h = alone_then name r next alone other behind_cr on run text h
 new_then name r next alone other behind_cr on run (c ∷ cs) text a o k h = record {
-  run_is = h.sends.run_is;
+  is_run = h.sends.run_is;
   utf8 = joined_utf8 (c ∷ cs) a;
   chunk = h.has_chunk ∙ ap (λ (x : Bool). x || true) k;
   begun = refl;
@@ -190,7 +187,7 @@ begins_text s table c asks names i next text after h =
     let name : List ℕ = name_at names i in
     let cs : List ℕ → List Chunk = λ n. front (room_beside n) (waits_of table c.own i) in
     let b = g.begun in
-    heads_text name g.start next (ends_with_cr (chars_of (run_of asks))) (is_open asks) [] (cs name) text (b.is_open ∙ h.looks.stands.line) b.labelled
+    heads_text name g.start next (ends_with_cr (chars_of (run_of asks))) (is_open asks) [] (cs name) text (b.is_open ∙ h.looks.stands.run.line) b.labelled
     (new_heads name g.start next (ends_with_cr (chars_of (run_of asks))) (cs name) text g.headed.heads)
     ∙ ap (λ n. with_label n (ends_with_cr (chars_of (run_of asks))) (is_open asks) [] (cs n)) (h.names_are i h.below)
 
@@ -209,7 +206,7 @@ on_text s table c asks names i next text after h = elim h.gives [ inl g ↦ on g
 
     label : GivesLabel s table c.own (name_at names i) c.run next (began_alone asks) (began_behind_cr asks) (chars_of (run_of asks)) i text after → text ≡ (go_on s.name (waits_of table c.own) asks i).text
     label g =
-        heads_text (name_at names i) c.run next (began_behind_cr asks) (is_open asks) (run_of asks) (front (room_beside (name_at names i)) (waits_of table c.own i)) text h.looks.stands.line g.labelled g.headed.heads
+        heads_text (name_at names i) c.run next (began_behind_cr asks) (is_open asks) (run_of asks) (front (room_beside (name_at names i)) (waits_of table c.own i)) text h.looks.stands.run.line g.labelled g.headed.heads
         ∙ (ap (λ n. with_label n (began_behind_cr asks) (is_open asks) (run_of asks) (front (room_beside n) (waits_of table c.own i))) (h.names_are i h.below)
         ∙ ap by (sym (unlabelled_is s c asks h.looks.stands ∙ ap not g.labelled)))
 
@@ -299,7 +296,7 @@ on_then s table c asks names i next text after h = elim h.gives [ inl g ↦ on g
         let st = h.looks.stands in
         subst at (sym (unlabelled_is s c asks st ∙ ap not g.labelled))
         (goes_then (name_at names i) c.run next (began_alone asks) (ends_with_cr (chars_of (run_of asks))) (began_behind_cr asks) (is_open asks) (run_of asks) (front MOST_TEXT_OCTETS (waits_of table c.own i)) text
-        st.utf8 (front_texts MOST_TEXT_OCTETS (waits_of table c.own i) (h.texts i)) st.line st.chunk st.begun g.goes)
+        st.run.utf8 (front_texts MOST_TEXT_OCTETS (waits_of table c.own i) (h.texts i)) st.run.line st.run.chunk st.run.begun g.goes)
 
     parts : is_unlabelled asks ≡ true → (has_chunk (run_of asks) ≡ true) × (began_alone asks ≡ false)
     parts e =
@@ -314,7 +311,7 @@ on_then s table c asks names i next text after h = elim h.gives [ inl g ↦ on g
         subst at (sym q)
         (subst (λ (n : List ℕ). after_by (headed (waits_of table c.own) n (began_behind_cr asks) (is_open asks) (run_of asks) i)) (h.names_are i h.below)
         (more_then (name_at names i) c.run next (began_alone asks) (ends_with_cr (chars_of (run_of asks))) (began_behind_cr asks) (is_open asks) (run_of asks) (front (room_beside (name_at names i)) (waits_of table c.own i)) text
-        st.utf8 (front_texts (room_beside (name_at names i)) (waits_of table c.own i) (h.texts i)) st.line st.chunk p.1 p.0 g.headed.heads))
+        st.run.utf8 (front_texts (room_beside (name_at names i)) (waits_of table c.own i) (h.texts i)) st.run.line st.run.chunk p.1 p.0 g.headed.heads))
 
 begins_then : (s : Setup) (table : Table) (c : State) (asks : List Asked) (names : List (List ℕ)) (i : ℕ) (next : Run) (text : List ℕ) (after : List Waiting) → Turns s table c asks names (Begins i) next text after
     → Then next true (run_of asks) (front (room_beside (s.name i)) (waits_of table c.own i)) (began_alone asks) (ends_with_cr (chars_of (run_of asks))) (began_behind_cr asks) (is_open asks)
@@ -323,7 +320,7 @@ begins_then s table c asks names i next text after h =
     let b = g.begun in
     subst (λ (n : List ℕ). Then next true (run_of asks) (front (room_beside n) (waits_of table c.own i)) (began_alone asks) (ends_with_cr (chars_of (run_of asks))) (began_behind_cr asks) (is_open asks)) (h.names_are i h.below)
     (new_then (name_at names i) g.start next (began_alone asks) (ends_with_cr (chars_of (run_of asks))) (began_behind_cr asks) (is_open asks) (run_of asks) (front (room_beside (name_at names i)) (waits_of table c.own i)) text
-    (front_texts (room_beside (name_at names i)) (waits_of table c.own i) (h.texts i)) (b.is_open ∙ h.looks.stands.line) b.has_chunk g.headed.heads)
+    (front_texts (room_beside (name_at names i)) (waits_of table c.own i) (h.texts i)) (b.is_open ∙ h.looks.stands.run.line) b.has_chunk g.headed.heads)
 
 -- where this was given, of the leg i
 spoken : (s : Setup) (c : State) (asks : List Asked) (w : ℕ → List Chunk) (media : ℕ) (g : Answer) (i : ℕ) (next : Run) (moments : List (Option ℕ)) → g.source ≡ i → i < s.legs → (i ≡ c.own → ⊥) → length moments ≡ s.legs
@@ -334,11 +331,7 @@ spoken s c asks w media g i next moments source below other legs since_are t = r
   legs = legs;
   current = now_current s c.own asks w media g i source below other;
   waits_since = since_are;
-  run = t.run_is;
-  utf8 = t.utf8;
-  chunk = t.chunk;
-  begun = t.begun;
-  line = t.line;
+  run = t;
   asked = refl;
 }
 
@@ -352,11 +345,7 @@ stands_then s table c asks names Nobody next text after media moments h n =
       legs = n.legs ∙ st.legs;
       current = still_current s c.own asks w media (latest asks) c.current st.current;
       waits_since = since_is s c asks w Nobody media moments h.looks n;
-      run = subst (λ (q : Run). IsRun q (began_alone asks) (began_behind_cr asks) (chars_of (run_of asks))) (sym h.gives.run) st.run;
-      utf8 = st.utf8;
-      chunk = ap (λ (q : Run). q.has_chunk) h.gives.run ∙ st.chunk;
-      begun = st.begun;
-      line = ap (λ (q : Run). q.is_open) h.gives.run ∙ st.line;
+      run = subst (λ (q : Run). RunStands q (began_alone asks) (began_behind_cr asks) (run_of asks) (is_open asks)) (sym h.gives.run) st.run;
       asked = refl;
     }
 stands_then s table c asks names (Begins i) next text after media moments h n =
@@ -388,7 +377,7 @@ looks_of : (s : Setup) (table : Table) (c : State) (now : List Waiting) (names :
 looks_of s table c now names asks flags h l f =
     let st = h.stands in
     record {
-      stands = record { legs = st.legs; current = st.current; waits_since = st.waits_since; run = st.run; utf8 = st.utf8; chunk = st.chunk; begun = st.begun; line = st.line; asked = st.asked };
+      stands = record { legs = st.legs; current = st.current; waits_since = st.waits_since; run = st.run; asked = st.asked };
       legs = l ∙ st.legs;
       flags = λ i b. f i (omega (arith, b, l));
     }

@@ -11,6 +11,7 @@ use Rattle.slot_table.specs.Lanes.{Waiting}
 use Rattle.slot_table.specs.Standing as slots
 use Rattle.unaware_view.specs.declared.composers.Current.{Current}
 use Rattle.unaware_view.specs.Runs.{IsRun}
+use Rattle.unaware_view.specs.declared.runs.Run.{Run}
 use Rattle.unaware_view.specs.States.{State}
 use Rattle.unaware_view.specs.Choices.{since_at}
 
@@ -32,16 +33,20 @@ IsCurrent s own asks None (Some x) = ⊥
 IsCurrent s own asks (Some g) None = ⊥
 IsCurrent s own asks (Some g) (Some x) = IsSpeaker s own asks g x
 
+-- The run has these chunks so far, or its label alone, and a line is open or not.
+pub record RunStands (r : Run) (alone behind_cr : Bool) (chunks : List Chunk) (opened : Bool) : Type 0 where
+  pub is_run : IsRun r alone behind_cr (chars_of chunks)
+  pub utf8 : IsUtf8 (joined chunks)
+  pub chunk : r.has_chunk ≡ has_chunk chunks
+  pub begun : (has_chunk chunks || alone) ≡ true
+  pub line : r.is_open ≡ opened
+
 -- The composer of a terminal of this setup was asked so.
 pub record StandsFor (s : Setup) (c : State) (asks : List Asked) : Type 0 where
   pub legs : length c.since ≡ s.legs
   pub current : IsCurrent s c.own asks (latest asks) c.current
   pub waits_since : (i : ℕ) → i < s.legs → (i ≡ c.own → ⊥) → since_at c.since i ≡ since i asks
-  pub run : IsRun c.run (began_alone asks) (began_behind_cr asks) (chars_of (run_of asks))
-  pub utf8 : IsUtf8 (joined (run_of asks))
-  pub chunk : c.run.has_chunk ≡ has_chunk (run_of asks)
-  pub begun : (has_chunk (run_of asks) || began_alone asks) ≡ true
-  pub line : c.run.is_open ≡ is_open asks
+  pub run : RunStands c.run (began_alone asks) (began_behind_cr asks) (run_of asks) (is_open asks)
   pub asked : c.asked ≡ least_ask asks
 
 -- ---- one ask

@@ -12,10 +12,6 @@ returns-clause-stands c = λ s e.
       legs = ap (λ (xs : List (Option ℕ)). length xs) all ∙ (length-replicate c.args.legs none ∙ sym e);
       current = tt;
       waits_since = λ i l o. ap (λ (xs : List (Option ℕ)). since_at xs i) all ∙ get_or-replicate c.args.legs i none none (omega (arith, l, e));
-      run = at_first c.new.result c.new.ensures.run;
-      utf8 = no_text;
-      chunk = c.new.ensures.empty;
-      begun = refl;
-      line = c.new.ensures.closed;
+      run = record { is_run = at_first c.new.result c.new.ensures.run; utf8 = no_text; chunk = c.new.ensures.empty; begun = refl; line = c.new.ensures.closed };
       asked = refl;
     }

@@ -38,7 +38,7 @@ calls_told c s table asks h =
     (ap (λ (xs : List Bool). length xs) flags_are ∙ (c.look.ensures.legs ∙ (of_waits ∙ c.self.invariant.legs)))
     (λ i b. ap (λ (xs : List Bool). is_set xs i) flags_are ∙ c.look.ensures.waits s table h.slots_stand i (omega (arith, b, of_waits, c.self.invariant.legs)))
     c.choose-choice.ensures.choice c.choose-choice.ensures.leg
-    (c.give-given.ensures.gives s table h.slots_stand (began_alone asks) (began_behind_cr asks) (chars_of (run_of asks)) h.texts h.stands.run) notes
+    (c.give-given.ensures.gives s table h.slots_stand (began_alone asks) (began_behind_cr asks) (chars_of (run_of asks)) h.texts h.stands.run.is_run) notes
 
 pub returns-clause-given : goal.returns-clause-given
 returns-clause-given c = λ s table asks.
