@@ -1,9 +1,11 @@
 //! One text of many speakers.
-ghost use Rattle.std.specs.Prelude.{◌≡◌, ◌<◌, length};
+ghost use Rattle.std.specs.Prelude.{◌≡◌, ◌<◌, ◌≤◌, length};
+ghost use Rattle.unaware_view.specs.Standing.{legs_of, next_ask};
 
 use crate::Composer;
 use rtt_base::{Chunk, Name, Text};
 use slot_table::Slots;
+use std::alloc::Global;
 use std::test::Fail;
 
 fn name(text: &str) -> Name {
@@ -16,11 +18,14 @@ fn name(text: &str) -> Name {
     name
 }
 
-/// What this leg has typed waits at each other one.
+/// What this leg has typed, if anything, waits at each other one.
 fn offer(slots: &mut Slots, source: u8, text: &str) -> Result<(), Fail>
     requires { source < length slots.old }
     ensures { length slots.new ≡ length slots.old }
 {
+    if text.is_empty() {
+        return Ok(());
+    }
     let mut chunk = Chunk {
         source,
         ready: 0,
@@ -31,54 +36,125 @@ fn offer(slots: &mut Slots, source: u8, text: &str) -> Result<(), Fail>
     Ok(())
 }
 
-#[test]
-fn another_one_follows_a_sentence(rt: HostRuntime) -> Result<(), Fail> {
-    let names = [name("Ann"), name("Bob"), name("Cy")];
-    let mut slots = Slots::new(rt.alloc(), 3)?;
-    let mut ann = Composer::new(rt.alloc(), 3, 0)?;
+/// A step of a talk at Ann's terminal.
+enum Step<'a> {
+    /// Bob types this.
+    Bob(&'a str),
+    /// At this media time, where text may be given or not, this is given, or nothing.
+    Gives(u64, bool, &'a str),
+}
+
+/// Whether this is given at this media time, or nothing. The next ask is not before `least`.
+fn is_given(
+    ann: &mut Composer,
+    least: &mut u64,
+    media: u64,
+    due: bool,
+    names: &[Name],
+    slots: &mut Slots,
+    given: &str,
+) -> bool
+    requires slots { length slots.old ≡ legs_of ann.old }
+    requires names { length names.now ≡ legs_of ann.old }
+    requires rises { next_ask ann.old ≤ least.old }
+    ensures slots { length slots.new ≡ length slots.old }
+    ensures legs { legs_of ann.new ≡ legs_of ann.old }
+    ensures rises { next_ask ann.new ≤ least.new }
+{
+    if media < *least || media >= 100_000 {
+        return false;
+    }
+    *least = media + 1;
     let mut text = Text::new();
-    offer(&mut slots, 1, "Hi. ")?;
-    offer(&mut slots, 2, "yes")?;
-    assert!(rt; ann.turn(0, true, &names, &mut slots, &mut text));
-    assert_eq!(rt; str::from_utf8(text.as_slice()), Ok("[Bob] Hi. "));
-    assert!(rt; !ann.turn(150, false, &names, &mut slots, &mut text));
-    assert!(rt; text.is_empty());
-    assert!(rt; ann.turn(300, true, &names, &mut slots, &mut text));
-    assert_eq!(rt; str::from_utf8(text.as_slice()), Ok("\u{2028}[Cy] yes"));
-    assert!(rt; !ann.turn(600, true, &names, &mut slots, &mut text));
+    let gave = ann.turn(media, due, names, slots, &mut text);
+    gave != given.is_empty() && text.as_slice() == given.as_bytes()
+}
+
+/// Whether each step is as it says.
+fn are_so(
+    steps: &[Step<'_>],
+    ann: &mut Composer,
+    least: &mut u64,
+    names: &[Name],
+    slots: &mut Slots,
+) -> Result<bool, Fail>
+    requires bob { 1 < length slots.old }
+    requires slots { length slots.old ≡ legs_of ann.old }
+    requires names { length names.now ≡ legs_of ann.old }
+    requires rises { next_ask ann.old ≤ least.old }
+{
+    match steps {
+        [step, rest @ ..] => match step {
+            Step::Bob(typed) => {
+                offer(slots, 1, typed)?;
+                are_so(rest, ann, least, names, slots)
+            }
+            Step::Gives(media, due, given) => {
+                if !is_given(ann, least, *media, *due, names, slots, given) {
+                    return Ok(false);
+                }
+                are_so(rest, ann, least, names, slots)
+            }
+        },
+        [] => Ok(true),
+    }
+}
+
+/// Whether the talk goes so at Ann's terminal, before which Bob and Cy typed these.
+fn goes_so(alloc: Global, bob: &str, cy: &str, steps: &[Step<'_>]) -> Result<bool, Fail> {
+    let names = [name("Ann"), name("Bob"), name("Cy")];
+    let mut slots = Slots::new(alloc, 3)?;
+    let mut ann = Composer::new(alloc, 3, 0)?;
+    offer(&mut slots, 1, bob)?;
+    offer(&mut slots, 2, cy)?;
+    let mut least = 0;
+    are_so(steps, &mut ann, &mut least, &names, &mut slots)
+}
+
+const SENTENCE: [Step<'static>; 4] = [
+    Step::Gives(0, true, "[Bob] Hi. "),
+    Step::Gives(150, false, ""),
+    Step::Gives(300, true, "\u{2028}[Cy] yes"),
+    Step::Gives(600, true, ""),
+];
+
+const IN_MID_SENTENCE: [Step<'static>; 3] = [
+    Step::Gives(0, true, "[Bob] Hi"),
+    Step::Gives(1999, true, ""),
+    Step::Gives(2000, true, "\u{2028}[Cy] yes"),
+];
+
+const BELL_ALONE: [Step<'static>; 3] = [
+    Step::Gives(0, true, "\u{7}"),
+    Step::Gives(1999, true, ""),
+    Step::Gives(2000, true, "[Cy] Hi"),
+];
+
+#[test]
+fn another_one_follows_a_sentence_or_two_seconds(rt: HostRuntime) -> Result<(), Fail> {
+    assert!(rt; goes_so(rt.alloc(), "Hi. ", "yes", &SENTENCE)?);
+    assert!(rt; goes_so(rt.alloc(), "Hi", "yes", &IN_MID_SENTENCE)?);
+    assert!(rt; goes_so(rt.alloc(), "\u{7}", "Hi", &BELL_ALONE)?);
     Ok(())
 }
 
-#[test]
-fn another_one_waits_two_seconds_in_mid_sentence(rt: HostRuntime) -> Result<(), Fail> {
-    let names = [name("Ann"), name("Bob"), name("Cy")];
-    let mut slots = Slots::new(rt.alloc(), 3)?;
-    let mut ann = Composer::new(rt.alloc(), 3, 0)?;
-    let mut text = Text::new();
-    offer(&mut slots, 1, "Hi")?;
-    offer(&mut slots, 2, "yes")?;
-    assert!(rt; ann.turn(0, true, &names, &mut slots, &mut text));
-    assert_eq!(rt; str::from_utf8(text.as_slice()), Ok("[Bob] Hi"));
-    assert!(rt; !ann.turn(1999, true, &names, &mut slots, &mut text));
-    assert!(rt; ann.turn(2000, true, &names, &mut slots, &mut text));
-    assert_eq!(rt; str::from_utf8(text.as_slice()), Ok("\u{2028}[Cy] yes"));
-    Ok(())
-}
+const ERASURE: [Step<'static>; 4] = [
+    Step::Gives(0, true, "[Bob] Hi. "),
+    Step::Bob("\u{8}"),
+    Step::Gives(300, true, "\u{2028}[Cy] yes. "),
+    Step::Gives(600, true, "\u{2028}[Bob] X"),
+];
+
+const LABEL_LATER: [Step<'static>; 3] = [
+    Step::Gives(0, true, "\u{7}"),
+    Step::Bob("Hi"),
+    Step::Gives(300, true, "[Bob] Hi"),
+];
 
 #[test]
-fn an_erasure_stays_in_its_run(rt: HostRuntime) -> Result<(), Fail> {
-    let names = [name("Ann"), name("Bob"), name("Cy")];
-    let mut slots = Slots::new(rt.alloc(), 3)?;
-    let mut ann = Composer::new(rt.alloc(), 3, 0)?;
-    let mut text = Text::new();
-    offer(&mut slots, 1, "Hi. ")?;
-    offer(&mut slots, 2, "yes. ")?;
-    assert!(rt; ann.turn(0, true, &names, &mut slots, &mut text));
-    offer(&mut slots, 1, "\u{8}")?;
-    assert!(rt; ann.turn(300, true, &names, &mut slots, &mut text));
-    assert_eq!(rt; str::from_utf8(text.as_slice()), Ok("\u{2028}[Cy] yes. "));
-    assert!(rt; ann.turn(600, true, &names, &mut slots, &mut text));
-    assert_eq!(rt; str::from_utf8(text.as_slice()), Ok("\u{2028}[Bob] X"));
+fn an_erasure_stays_in_its_run_and_a_label_comes_later(rt: HostRuntime) -> Result<(), Fail> {
+    assert!(rt; goes_so(rt.alloc(), "Hi. ", "yes. ", &ERASURE)?);
+    assert!(rt; goes_so(rt.alloc(), "\u{7}", "", &LABEL_LATER)?);
     Ok(())
 }
 
@@ -109,9 +185,8 @@ fn all_given(rt: &HostRuntime, cases: &[(&str, &str, &str)]) -> Result<usize, Fa
     }
 }
 
-const CASES: [(&str, &str, &str); 12] = [
+const CASES: [(&str, &str, &str); 11] = [
     // the label stands before what is seen, on a line of its own
-    ("Hello. ", "Hi", "\u{2028}[Cy] Hi"),
     ("Hello. ", "\u{2028}Hi", "\u{2028}[Cy] Hi"),
     ("Hello.\n", "\u{7}\0Hi", "\u{7}\0[Cy] Hi"),
     ("Hello. ", "\u{7}Hi", "\u{7}\u{2028}[Cy] Hi"),
@@ -133,36 +208,5 @@ const CASES: [(&str, &str, &str); 12] = [
 #[test]
 fn labels_stand_before_what_is_seen(rt: HostRuntime) -> Result<(), Fail> {
     assert_eq!(rt; all_given(&rt, &CASES)?, CASES.len());
-    Ok(())
-}
-
-#[test]
-fn the_label_of_a_run_comes_later(rt: HostRuntime) -> Result<(), Fail> {
-    let names = [name("Ann"), name("Bob"), name("Cy")];
-    let mut slots = Slots::new(rt.alloc(), 3)?;
-    let mut ann = Composer::new(rt.alloc(), 3, 0)?;
-    let mut text = Text::new();
-    offer(&mut slots, 1, "\u{7}")?;
-    assert!(rt; ann.turn(0, true, &names, &mut slots, &mut text));
-    assert_eq!(rt; str::from_utf8(text.as_slice()), Ok("\u{7}"));
-    offer(&mut slots, 1, "Hi")?;
-    assert!(rt; ann.turn(300, true, &names, &mut slots, &mut text));
-    assert_eq!(rt; str::from_utf8(text.as_slice()), Ok("[Bob] Hi"));
-    Ok(())
-}
-
-#[test]
-fn a_bell_alone_is_left_after_two_seconds(rt: HostRuntime) -> Result<(), Fail> {
-    let names = [name("Ann"), name("Bob"), name("Cy")];
-    let mut slots = Slots::new(rt.alloc(), 3)?;
-    let mut ann = Composer::new(rt.alloc(), 3, 0)?;
-    let mut text = Text::new();
-    offer(&mut slots, 1, "\u{7}")?;
-    offer(&mut slots, 2, "Hi")?;
-    assert!(rt; ann.turn(0, true, &names, &mut slots, &mut text));
-    assert_eq!(rt; str::from_utf8(text.as_slice()), Ok("\u{7}"));
-    assert!(rt; !ann.turn(1999, true, &names, &mut slots, &mut text));
-    assert!(rt; ann.turn(2000, true, &names, &mut slots, &mut text));
-    assert_eq!(rt; str::from_utf8(text.as_slice()), Ok("[Cy] Hi"));
     Ok(())
 }
