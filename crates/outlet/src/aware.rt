@@ -1,12 +1,12 @@
 //! The outlet of a terminal that tells sources apart.
-ghost use Rattle.std.specs.Prelude.{◌≡◌, ◌-◌, ◌^◌, ◌<◌, ◌≤◌, ◌||◌, ◌==◌, not, [], length, IfOk, IfSome};
+ghost use Rattle.std.specs.Prelude.{◌≡◌, ◌-◌, ◌<◌, ◌≤◌, ◌||◌, ◌==◌, not, [], length, IfOk, IfSome};
 ghost use Rattle.mixer_spec.specs.Rounds.{first_from};
 ghost use Rattle.mixer_spec.specs.Setups.{Setup};
 ghost use Rattle.mixer_spec.specs.Table.{empty, has_work, is_due, is_due_at, is_quiet, served};
 ghost use Rattle.slot_table.specs.Standing.{Tells, Leads};
 ghost use Rattle.slot_table.specs.Words.{fetched};
-ghost use Rattle.outlet.specs.AwareTurns.{text_of_leg};
-ghost use Rattle.outlet.specs.AwareStates.{AwareState};
+ghost use Rattle.outlet.specs.AwareTurns.{AtTerminal, AtTable, ServesLeg, StandsWoken, is_free, kept_served, left_behind, text_of_leg};
+ghost use Rattle.outlet.specs.AwareStates.{AwareState, SameLeg};
 ghost use Rattle.outlet.specs.AwareInsides.{state_of, IsSound};
 ghost use Rattle.rtt_base.specs.declared.limits.TheConstants.{END_OF_MOMENTS};
 
@@ -58,8 +58,6 @@ fn fetch(terminal: usize, leg: usize, slots: &mut Slots, text: &mut Text)
 
 impl AwareOutlet {
     ghost use Rattle.outlet.specs.AwareStanding.{StandsFor, IsMadeFor};
-    ghost use Rattle.outlet.specs.AwareStates.{SameLeg};
-    ghost use Rattle.outlet.specs.AwareTurns.{AtTerminal, AtTable, ServesLeg, StandsWoken, is_free, kept_served, left_behind};
     ghost use Rattle.outlet.specs.AwareRounds.{AtSeats, Serves, Turns};
 
     /// The outlet of the terminal of this leg, to which nothing was sent, where there are so many legs. A text is repeated in
