@@ -1,5 +1,5 @@
 -- The line of a conference that is made from a number, and how the command ends.
-use Rattle.std.proofs.Common.{◌≡◌, ℕ, suc, Bool, true, false, true≢false, Option, Some, None, List, [], ◌∷◌, length, Ok, Err, refl, ap, sym, subst, ◌∙◌}
+use Rattle.std.proofs.Common.{◌≡◌, ℕ, suc, Option, Some, None, List, [], ◌∷◌, length, Ok, Err, refl, ap, sym, subst, ◌∙◌}
 use Rattle.std.specs.Prelude.{IfErr, OnOk, OnErr}
 use Rattle.std.proofs.lemmas.List.FromFn.{length-map-range_with_len}
 use Rattle.wire_spec.specs.Dump.{dump}
@@ -10,7 +10,7 @@ use Rattle.mixer_spec.specs.Plain.{plain}
 use Rattle.mixer_spec.specs.Setups.{setup}
 use Rattle.mixer_spec.specs.Table.{Table}
 use Rattle.command_spec.specs.declared.faults.Refusal.{Refusal}
-use Rattle.command_spec.specs.declared.faults.Refusal.TheVariants.{AtByte, AtFrame, AtLine, AtTrunk, AfterTurns}
+use Rattle.command_spec.specs.declared.faults.Refusal.TheVariants.{AtByte, AfterTurns}
 use Rattle.command_spec.specs.declared.faults.Fault.{Fault}
 use Rattle.command_spec.specs.declared.faults.Fault.TheVariants.{WrongWords, CannotOpen, CannotRead, Refused, CannotPrint, CannotWrite, LinkFailed, NoMemory}
 use Rattle.command_spec.specs.Generated.{Generated, generated}
@@ -70,38 +70,29 @@ as_many made inputs each sent =
 abbrev make_of : ℕ → Command
 make_of n = Make (record { number = n })
 
-abbrev is_after_turns : Refusal → Bool
-is_after_turns (AtByte byte kind) = false
-is_after_turns (AtFrame byte kind) = false
-is_after_turns (AtLine line kind) = false
-is_after_turns (AtTrunk line) = false
-is_after_turns (AfterTurns turns) = true
-
 -- it refuses nothing but its conference, after its turns
-abbrev RefusesTurns : Steps → Type 0
-RefusesTurns (Reads name next) = ⊥
-RefusesTurns (Refuses input refusal) = (input ≡ 0) × (is_after_turns refusal ≡ true)
-RefusesTurns (Makes printed files) = Unit {0}
-RefusesTurns (Serves c) = ⊥
+abbrev RefusesTurns : ℕ → Steps → Type 0
+RefusesTurns turns (Reads name next) = ⊥
+RefusesTurns turns (Refuses input refusal) = (input ≡ 0) × (refusal ≡ AfterTurns turns)
+RefusesTurns turns (Makes printed files) = Unit {0}
+RefusesTurns turns (Serves c) = ⊥
 
-refuses_turns : (n : ℕ) (made : Generated) (found : Option Sums) → RefusesTurns (makes_summary n made found)
+refuses_turns : (n : ℕ) (made : Generated) (found : Option Sums) → RefusesTurns made.conference.turns (makes_summary n made found)
 refuses_turns n made None = (refl, refl)
 refuses_turns n made (Some sums) = tt
 
-refused_make : (n : ℕ) (input : ℕ) (refusal : Refusal) → making n ≡ Refuses input refusal → (input ≡ 0) × (is_after_turns refusal ≡ true)
+refused_make : (n : ℕ) (input : ℕ) (refusal : Refusal) → making n ≡ Refuses input refusal → (input ≡ 0) × (refusal ≡ AfterTurns (generated n).conference.turns)
 refused_make n input refusal e =
-    subst RefusesTurns e (refuses_turns n (generated n) (sums_mixed (generated n).conference (recordings (generated n))))
+    subst (RefusesTurns (generated n).conference.turns) e (refuses_turns n (generated n) (sums_mixed (generated n).conference (recordings (generated n))))
 
 pub ends_why : (n : ℕ) (WorldTells OutTells : Type 0) (outside : Outside) (name : List ℕ) (fault : Fault) → IsWhy (making n) fault → Ends (make_of n) WorldTells OutTells outside outside name (Err fault)
 ends_why n WorldTells OutTells outside name WrongWords w = absurd w
 ends_why n WorldTells OutTells outside name (CannotOpen k) w = absurd w
 ends_why n WorldTells OutTells outside name (CannotRead k) w = absurd w
-ends_why n WorldTells OutTells outside name (Refused k (AtByte byte kind)) w = absurd (true≢false (sym (refused_make n k (AtByte byte kind) w).1))
-ends_why n WorldTells OutTells outside name (Refused k (AtFrame byte kind)) w = absurd (true≢false (sym (refused_make n k (AtFrame byte kind) w).1))
-ends_why n WorldTells OutTells outside name (Refused k (AtLine line kind)) w = absurd (true≢false (sym (refused_make n k (AtLine line kind) w).1))
-ends_why n WorldTells OutTells outside name (Refused k (AtTrunk line)) w = absurd (true≢false (sym (refused_make n k (AtTrunk line) w).1))
-ends_why n WorldTells OutTells outside name (Refused k (AfterTurns turns)) w =
-    ((refused_make n k (AfterTurns turns) w).0, refl, (λ t. ap (outcome outside.contents) w), (λ file. refl), ((λ shown. refl), λ told file. refl))
+ends_why n WorldTells OutTells outside name (Refused k refusal) w =
+    let is = refused_make n k refusal w in
+    let P : Refusal → Type 0 = λ r. making n ≡ Refuses k r → Ends (make_of n) WorldTells OutTells outside outside name (Err (Refused k r)) in
+    subst P (sym is.1) (λ e. (is.0, refl, (λ t. ap (outcome outside.contents) e), (λ file. refl), ((λ shown. refl), λ told file. refl))) w
 ends_why n WorldTells OutTells outside name CannotPrint w = absurd w
 ends_why n WorldTells OutTells outside name (CannotWrite k) w = absurd w
 ends_why n WorldTells OutTells outside name (LinkFailed leg) w = absurd w

@@ -50,20 +50,7 @@ reads_none WorldTells held k n name i = no_input WorldTells held k (generated k)
 
 -- what each command can end with: all was done, an output failed, memory ran out
 always : (c : Command) → (can_end c 0 ≡ true) × (can_end c 7 ≡ true) × (can_end c 70 ≡ true)
-always (Read r) = (refl, refl, refl)
-always (ListRecords l) = (refl, refl, refl)
-always (Send s) = (refl, refl, refl)
-always (Mix m) = (refl, refl, refl)
-always (Attend m) = (refl, refl, refl)
-always (Cascade c) = (refl, refl, refl)
-always (Make m) = (refl, refl, refl)
-always (Live m) = (refl, refl, refl)
-always (Watch m) = (refl, refl, refl)
-always (Relay s) = (refl, refl, refl)
-always (Channel c) = (refl, refl, refl)
-always (Show l) = (refl, refl, refl)
-always (Script r) = (refl, refl, refl)
-always Version = (refl, refl, refl)
+always c = (refl, refl, refl)
 
 -- nothing holds of a command of another kind
 off : {A : Type 0} → false ≡ true → A
@@ -88,49 +75,36 @@ by_kind (Script r) n = (λ e. refl, off, off, off)
 by_kind Version n = (off, off, off, off)
 
 module _ (WorldTells : Type 0) (old : Outside) (n : ℕ) (name : List ℕ) where
-  -- 3 and 4 of a command that has an input
-  unread : (c : Command) → IsInputOf c WorldTells old n name → (can_end c 3 ≡ true) × (can_end c 4 ≡ true)
-  unread (Read r) i = (refl, refl)
-  unread (ListRecords l) i = (refl, refl)
-  unread (Send s) i = (refl, refl)
-  unread (Mix m) i = (refl, refl)
-  unread (Attend m) i = (refl, refl)
-  unread (Cascade c) i = (refl, refl)
-  unread (Make m) i = absurd (reads_none WorldTells old.contents m.number n name i)
-  unread (Live m) i = (refl, refl)
-  unread (Watch m) i = (refl, refl)
-  unread (Relay s) i = (refl, refl)
-  unread (Channel c) i = (refl, refl)
-  unread (Show l) i = (refl, refl)
-  unread (Script r) i = (refl, refl)
-  unread Version i = absurd i
-
-  -- 5 of a command that reads lines
-  at_line : (c : Command) (refusal : Refusal) → is_of_line refusal ≡ true → IsInputOf c WorldTells old n name → RefusesSo WorldTells old.contents (work c).steps n refusal → can_end c 5 ≡ true
-  at_line (Read q) refusal line i r = absurd (no_line WorldTells old.contents (dump usual_limit r.0).fault (Makes _ []) n refusal line (λ none. none) r.2)
-  at_line (ListRecords l) refusal line i r = absurd (no_line WorldTells old.contents (dump usual_limit r.0).fault (Makes _ []) n refusal line (λ none. none) r.2)
-  at_line (Send s) refusal line i r = refl
-  at_line (Mix m) refusal line i r = refl
-  at_line (Attend m) refusal line i r = refl
-  at_line (Cascade c) refusal line i r = refl
-  at_line (Make m) refusal line i r = absurd (reads_none WorldTells old.contents m.number n name i)
-  at_line (Live m) refusal line i r = refl
-  at_line (Watch m) refusal line i r = refl
-  at_line (Relay s) refusal line i r = absurd (no_frame_line WorldTells old.contents s.out (relay (sending_of s) r.0) n refusal line r.2)
-  at_line (Channel c) refusal line i r =
-      absurd (no_line WorldTells old.contents (dump usual_limit r.0).fault (saves_frames c.out (channel c.ssrc r.0)) n refusal line
-      (no_frame_line WorldTells old.contents c.out (channel c.ssrc r.0) n refusal line) r.2)
-  at_line (Show l) refusal line i r = absurd (no_line WorldTells old.contents (show_refusal r.0) (Makes _ []) n refusal line (λ none. none) r.2)
-  at_line (Script q) refusal line i r = absurd (no_line WorldTells old.contents (dump usual_limit r.0).fault (Makes _ []) n refusal line (λ none. none) r.2)
-  at_line Version refusal line i r = absurd i
+  -- of a command that has an input: 3 and 4, and 5 where it reads lines
+  with_input : (c : Command) → IsInputOf c WorldTells old n name → (can_end c 3 ≡ true) × (can_end c 4 ≡ true)
+      × ((refusal : Refusal) → is_of_line refusal ≡ true → RefusesSo WorldTells old.contents (work c).steps n refusal → can_end c 5 ≡ true)
+  with_input (Read q) i = (refl, refl, λ refusal line r. absurd (no_line WorldTells old.contents (dump usual_limit r.0).fault (Makes _ []) n refusal line (λ none. none) r.2))
+  with_input (ListRecords l) i = (refl, refl, λ refusal line r. absurd (no_line WorldTells old.contents (dump usual_limit r.0).fault (Makes _ []) n refusal line (λ none. none) r.2))
+  with_input (Send s) i = (refl, refl, λ refusal line r. refl)
+  with_input (Mix m) i = (refl, refl, λ refusal line r. refl)
+  with_input (Attend m) i = (refl, refl, λ refusal line r. refl)
+  with_input (Cascade c) i = (refl, refl, λ refusal line r. refl)
+  with_input (Make m) i = absurd (reads_none WorldTells old.contents m.number n name i)
+  with_input (Live m) i = (refl, refl, λ refusal line r. refl)
+  with_input (Watch m) i = (refl, refl, λ refusal line r. refl)
+  with_input (Relay s) i = (refl, refl, λ refusal line r. absurd (no_frame_line WorldTells old.contents s.out (relay (sending_of s) r.0) n refusal line r.2))
+  with_input (Channel c) i = (
+    refl,
+    refl,
+    λ refusal line r. absurd (no_line WorldTells old.contents (dump usual_limit r.0).fault (saves_frames c.out (channel c.ssrc r.0)) n refusal line
+        (no_frame_line WorldTells old.contents c.out (channel c.ssrc r.0) n refusal line) r.2),
+  )
+  with_input (Show l) i = (refl, refl, λ refusal line r. absurd (no_line WorldTells old.contents (show_refusal r.0) (Makes _ []) n refusal line (λ none. none) r.2))
+  with_input (Script q) i = (refl, refl, λ refusal line r. absurd (no_line WorldTells old.contents (dump usual_limit r.0).fault (Makes _ []) n refusal line (λ none. none) r.2))
+  with_input Version i = absurd i
 
 ends_so : (c : Command) (WorldTells OutTells : Type 0) (old new : Outside) (name : List ℕ) (ending : Ending) → Ends c WorldTells OutTells old new name ending → can_end c (status_of ending) ≡ true
 ends_so c WorldTells OutTells old new name (Ok u) e = (always c).0
 ends_so c WorldTells OutTells old new name (Err WrongWords) e = absurd e
-ends_so c WorldTells OutTells old new name (Err (CannotOpen n)) e = (unread WorldTells old n name c e.0).0
-ends_so c WorldTells OutTells old new name (Err (CannotRead n)) e = (unread WorldTells old n name c e.0).1
-ends_so c WorldTells OutTells old new name (Err (Refused n (AtLine line kind))) e = at_line WorldTells old n name c (AtLine line kind) refl e.0 e.1
-ends_so c WorldTells OutTells old new name (Err (Refused n (AtTrunk line))) e = at_line WorldTells old n name c (AtTrunk line) refl e.0 e.1
+ends_so c WorldTells OutTells old new name (Err (CannotOpen n)) e = (with_input WorldTells old n name c e.0).0
+ends_so c WorldTells OutTells old new name (Err (CannotRead n)) e = (with_input WorldTells old n name c e.0).1
+ends_so c WorldTells OutTells old new name (Err (Refused n (AtLine line kind))) e = (with_input WorldTells old n name c e.0).2 (AtLine line kind) refl e.1
+ends_so c WorldTells OutTells old new name (Err (Refused n (AtTrunk line))) e = (with_input WorldTells old n name c e.0).2 (AtTrunk line) refl e.1
 ends_so c WorldTells OutTells old new name (Err (Refused n (AtByte byte kind))) e = (by_kind c n).0 e.1
 ends_so c WorldTells OutTells old new name (Err (Refused n (AtFrame byte kind))) e = (by_kind c n).1 e.1
 ends_so c WorldTells OutTells old new name (Err (Refused n (AfterTurns turns))) e = (by_kind c n).2 e.1
