@@ -117,11 +117,11 @@ the_mix c m e = cc
 the_same : (c : Command) (r : ReadWords) → Some c ≡ Some (Read r) → c ≡ Read r
 the_same c r e = cc
 
-pub runs : (c : Command) (WorldTells OutTells ErrTells : Type 0) (old new : Outside) (before after : Output) (status : ℕ) (ending : Ending) (name : List ℕ)
+pub runs : {c : Command} {WorldTells OutTells ErrTells : Type 0} {old new : Outside} {before after : Output} {status : ℕ} (ending : Ending) (name : List ℕ)
     → status ≡ status_of ending → Ends c WorldTells OutTells old new name ending → (ending ≡ Ok tt → after.octets ≡ before.octets)
     → (ErrTells → TakesFront before.octets after.octets (message_of name ending))
     → (ErrTells → (Failed before after → ⊥) → after.octets ≡ before.octets ++ message_of name ending) → Runs (Some c) WorldTells OutTells ErrTells old new before after status
-runs c WorldTells OutTells ErrTells old new before after status ending name is ends silent front told = record {
+runs {c} {WorldTells} {OutTells} {ErrTells} {old} {new} {before} {after} {status} ending name is ends silent front told = record {
   ending = ending;
   name = name;
   is_status = is;
@@ -183,4 +183,4 @@ pub no_memory : (words : Option Command) (WorldTells OutTells ErrTells : Type 0)
     → (ErrTells → (Failed before after → ⊥) → after.octets ≡ before.octets ++ message_of name (Err NoMemory)) → Runs words WorldTells OutTells ErrTells old old before after status
 no_memory None WorldTells OutTells ErrTells old before after status name s silent front told = no_words None WorldTells OutTells ErrTells old before after status NoMemory name refl (inr refl) s silent front told
 no_memory (Some c) WorldTells OutTells ErrTells old before after status name s silent front told =
-    runs c WorldTells OutTells ErrTells old old before after status (Err NoMemory) name s ((λ shown. refl), λ told name. refl) silent front told
+    runs (Err NoMemory) name s ((λ shown. refl), λ told name. refl) silent front told

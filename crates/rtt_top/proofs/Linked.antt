@@ -30,12 +30,12 @@ ends_linked c WorldTells OutTells old new before after name (Err (CannotWrite n)
 ends_linked c WorldTells OutTells old new before after name (Err (LinkFailed leg)) off e = absurd (true≢false (sym e.0 ∙ off))
 ends_linked c WorldTells OutTells old new before after name (Err NoMemory) off e = e
 
-pub runs_linked : (c : Command) (WorldTells OutTells ErrTells : Type 0) (old new : Outside) (before after : LinksLeft) (told told_then : Output) (status : ℕ) → is_live c ≡ false
+pub runs_linked : (words : Option Command) (c : Command) (WorldTells OutTells ErrTells : Type 0) (old new : Outside) (before after : LinksLeft) (told told_then : Output) (status : ℕ) → words ≡ Some c → is_live c ≡ false
     → Runs (Some c) WorldTells OutTells ErrTells old new told told_then status
-    → Runs (Some c) WorldTells OutTells ErrTells (with_links old before) (with_links new after) told told_then status
-runs_linked c WorldTells OutTells ErrTells old new before after told told_then status off r =
-    runs c WorldTells OutTells ErrTells (with_links old before) (with_links new after) told told_then status r.ending r.name r.is_status
-    (ends_linked c WorldTells OutTells old new before after r.name r.ending off r.ends) r.silent r.front r.told
+    → Runs words WorldTells OutTells ErrTells (with_links old before) (with_links new after) told told_then status
+runs_linked words c WorldTells OutTells ErrTells old new before after told told_then status is off r =
+    subst (λ w. Runs w WorldTells OutTells ErrTells (with_links old before) (with_links new after) told told_then status) (sym is)
+    (runs r.ending r.name r.is_status (ends_linked c WorldTells OutTells old new before after r.name r.ending off r.ends) r.silent r.front r.told)
 
 pub plain_is_not_live : (c : Command) → is_plain (Some c) ≡ true → is_live c ≡ false
 plain_is_not_live (Read r) e = refl
@@ -77,8 +77,9 @@ live : (c : Command) (m : MixWords) → Some c ≡ Some (Live m) → is_live c �
 live c m e off = true≢false (subst (λ k. is_live k ≡ false) (same c m e) off)
 
 -- of another command nothing is said of a live call
-pub no_live : (c : Command) (WorldTells OutTells LinksTell : Type 0) (old new : Outside) (status : ℕ) → is_live c ≡ false → RunsLive (Some c) WorldTells OutTells LinksTell old new status
-no_live c WorldTells OutTells LinksTell old new status off = λ share at m e. absurd (live c m e off)
+pub no_live : {words : Option Command} {WorldTells OutTells LinksTell : Type 0} {old new : Outside} {status : ℕ} (c : Command) → words ≡ Some c → is_live c ≡ false
+    → RunsLive words WorldTells OutTells LinksTell old new status
+no_live c is off = λ share at m e. absurd (live c m (sym is ∙ e) off)
 
 watching : (c : Command) (m : MixWords) → Some c ≡ Some (Watch m) → is_live c ≡ false → ⊥
 watching c m e off = true≢false (subst (λ k. is_live k ≡ false) (same_watch c m e) off)
@@ -86,15 +87,18 @@ watching c m e off = true≢false (subst (λ k. is_live k ≡ false) (same_watch
     same_watch : (d : Command) (k : MixWords) → Some d ≡ Some (Watch k) → d ≡ Watch k
     same_watch d k q = cc q
 
-pub no_watched : (c : Command) (WorldTells OutTells LinksTell : Type 0) (old new : Outside) (status : ℕ) → is_live c ≡ false → RunsWatched (Some c) WorldTells OutTells LinksTell old new status
-no_watched c WorldTells OutTells LinksTell old new status off = λ share at m e. absurd (watching c m e off)
+pub no_watched : {words : Option Command} {WorldTells OutTells LinksTell : Type 0} {old new : Outside} {status : ℕ} (c : Command) → words ≡ Some c → is_live c ≡ false
+    → RunsWatched words WorldTells OutTells LinksTell old new status
+no_watched c is off = λ share at m e. absurd (watching c m (sym is ∙ e) off)
 
 -- `live` is not `watch`
-pub live_not_watched : (c : Command) (k : MixWords) → c ≡ Live k → (WorldTells OutTells LinksTell : Type 0) (old new : Outside) (status : ℕ) → RunsWatched (Some c) WorldTells OutTells LinksTell old new status
-live_not_watched c k is WorldTells OutTells LinksTell old new status = λ share at m e. absurd (cc (is, e))
+pub live_not_watched : {words : Option Command} {WorldTells OutTells LinksTell : Type 0} {old new : Outside} {status : ℕ} (k : MixWords) → words ≡ Some (Live k)
+    → RunsWatched words WorldTells OutTells LinksTell old new status
+live_not_watched k is = λ share at m e. absurd (cc (is, e))
 
-pub watched_not_live : (c : Command) (k : MixWords) → c ≡ Watch k → (WorldTells OutTells LinksTell : Type 0) (old new : Outside) (status : ℕ) → RunsLive (Some c) WorldTells OutTells LinksTell old new status
-watched_not_live c k is WorldTells OutTells LinksTell old new status = λ share at m e. absurd (cc (is, e))
+pub watched_not_live : {words : Option Command} {WorldTells OutTells LinksTell : Type 0} {old new : Outside} {status : ℕ} (k : MixWords) → words ≡ Some (Watch k)
+    → RunsLive words WorldTells OutTells LinksTell old new status
+watched_not_live k is = λ share at m e. absurd (cc (is, e))
 
 pub no_words_watched : (words : Option Command) (WorldTells OutTells LinksTell : Type 0) (old new : Outside) (status : ℕ) → words ≡ None → RunsWatched words WorldTells OutTells LinksTell old new status
 no_words_watched words WorldTells OutTells LinksTell old new status none = λ share at m e. absurd (cc (none, e))

@@ -1,5 +1,5 @@
 -- A live call: how it ends for the command.
-use Rattle.std.proofs.Common.{◌≡◌, ℕ, ◌++◌, true, true≢false, take, Some, List, Result, Ok, Err, refl, ap, sym, subst, ◌∙◌}
+use Rattle.std.proofs.Common.{◌≡◌, ℕ, ◌++◌, true, true≢false, take, Option, Some, List, Result, Ok, Err, refl, ap, sym, subst, ◌∙◌}
 use Rattle.std.specs.Prelude.{◌==◌, ◌||◌, IfErr, IfOk, OnOk, OnErr}
 use Rattle.file_spec.specs.declared.conf_lines.Form.TheVariants.{Links}
 use Rattle.file_spec.specs.Conf.{Conf, conf}
@@ -77,28 +77,27 @@ was_watched LinksTell old new octets c end printed read w paused opened calm = r
   printed_is = w.printed_is;
 }
 
-module _ (LinksTell : Type 0) (old new : LinksLeft) (c : Conf) where
-  -- all turns were made, where the answer says so
-  abbrev pub IsPausedAtEnd : LiveReport → Type 0
-  IsPausedAtEnd report = report.end ≡ ends.Done → IsPaused c.turns old.pauses new.pauses
+-- all turns were made, where the answer says so
+abbrev pub IsPausedAtEnd : LinksLeft → LinksLeft → Conf → LiveReport → Type 0
+IsPausedAtEnd old new c report = report.end ≡ ends.Done → IsPaused c.turns old.pauses new.pauses
 
-  -- no call that opens a link failed
-  abbrev pub AllOpened : Type 0
-  AllOpened = (port : ℕ) → new.calls port ≡ old.calls port
+-- no call that opens a link failed
+abbrev pub AllOpened : LinksLeft → LinksLeft → Type 0
+AllOpened old new = (port : ℕ) → new.calls port ≡ old.calls port
 
-  -- where all links were closed, none of their ends did
-  abbrev pub IsCalmAtEnd : LiveReport → Type 0
-  IsCalmAtEnd report = report.end ≡ ends.Closed → (port : ℕ) → new.ends port ≡ old.ends port
+-- where all links were closed, none of their ends did
+abbrev pub IsCalmAtEnd : LinksLeft → LinksLeft → LiveReport → Type 0
+IsCalmAtEnd old new report = report.end ≡ ends.Closed → (port : ℕ) → new.ends port ≡ old.ends port
 
-  pub served_as : (answer : Result LiveReport LiveFault) → IfOk answer (λ r. WasServed LinksTell new.taken new.given c (end_of r.end) r.views) → IfOk answer IsPausedAtEnd → OnOk answer AllOpened → IfOk answer IsCalmAtEnd
-      → IfOk answer (λ r. ServedAs IsServedTo LinksTell old new c (end_of r.end) r.views)
-  served_as (Ok r) w paused opened calm = λ octets read. was_served LinksTell old new octets c r.end r.views read w paused opened calm
-  served_as (Err fault) w paused opened calm = w
+pub served_as : (LinksTell : Type 0) (old new : LinksLeft) (c : Conf) (answer : Result LiveReport LiveFault) → IfOk answer (λ r. WasServed LinksTell new.taken new.given c (end_of r.end) r.views) → IfOk answer (IsPausedAtEnd old new c)
+    → OnOk answer (AllOpened old new) → IfOk answer (IsCalmAtEnd old new) → IfOk answer (λ r. ServedAs IsServedTo LinksTell old new c (end_of r.end) r.views)
+served_as LinksTell old new c (Ok r) w paused opened calm = λ octets read. was_served LinksTell old new octets c r.end r.views read w paused opened calm
+served_as LinksTell old new c (Err fault) w paused opened calm = w
 
-  pub watched_as : (answer : Result LiveReport LiveFault) → IfOk answer (λ r. WasWatched LinksTell new.taken new.given c (end_of r.end) r.views) → IfOk answer IsPausedAtEnd → OnOk answer AllOpened → IfOk answer IsCalmAtEnd
-      → IfOk answer (λ r. ServedAs IsWatchedTo LinksTell old new c (end_of r.end) r.views)
-  watched_as (Ok r) w paused opened calm = λ octets read. was_watched LinksTell old new octets c r.end r.views read w paused opened calm
-  watched_as (Err fault) w paused opened calm = w
+pub watched_as : (LinksTell : Type 0) (old new : LinksLeft) (c : Conf) (answer : Result LiveReport LiveFault) → IfOk answer (λ r. WasWatched LinksTell new.taken new.given c (end_of r.end) r.views) → IfOk answer (IsPausedAtEnd old new c)
+    → OnOk answer (AllOpened old new) → IfOk answer (IsCalmAtEnd old new) → IfOk answer (λ r. ServedAs IsWatchedTo LinksTell old new c (end_of r.end) r.views)
+watched_as LinksTell old new c (Ok r) w paused opened calm = λ octets read. was_watched LinksTell old new octets c r.end r.views read w paused opened calm
+watched_as LinksTell old new c (Err fault) w paused opened calm = w
 
 pub given_up : (S : served.End → List ℕ → Type 0) (OutTells : Type 0) (old new : LinksLeft) (out : Output) (c : Conf) (fault : LiveFault)
     → WasGivenUp old.calls new.calls old.ends new.ends c fault → LiveEnds S OutTells old new out out c (Err (fault_of_live fault))
@@ -222,19 +221,22 @@ served_as_asked : (asks : MixWords → Command) (S : Conf → served.End → Lis
 served_as_asked asks S WorldTells OutTells old new m status same served share at k e =
     subst (λ w. IsServedFrom share S WorldTells OutTells w old new) (same k e) (served share at)
 
-pub runs_live : (WorldTells OutTells LinksTell : Type 0) (old new : Outside) (m : MixWords) (status : ℕ)
-    → ((share : Share) → status ≡ status_at share → IsServedFrom share (λ c. IsServedTo c LinksTell old.links new.links) WorldTells OutTells m old new) → RunsLive (Some (Live m)) WorldTells OutTells LinksTell old new status
-runs_live WorldTells OutTells LinksTell old new m status served =
-    served_as_asked Live (λ c. IsServedTo c LinksTell old.links new.links) WorldTells OutTells old new m status (λ k e. cc e) served
+pub runs_live : {words : Option Command} {WorldTells OutTells LinksTell : Type 0} {old new : Outside} {status : ℕ} (m : MixWords) → words ≡ Some (Live m)
+    → ((share : Share) → status ≡ status_at share → IsServedFrom share (λ c. IsServedTo c LinksTell old.links new.links) WorldTells OutTells m old new) → RunsLive words WorldTells OutTells LinksTell old new status
+runs_live {words} {WorldTells} {OutTells} {LinksTell} {old} {new} {status} m is served =
+    subst (λ w. RunsLive w WorldTells OutTells LinksTell old new status) (sym is)
+    (served_as_asked Live (λ c. IsServedTo c LinksTell old.links new.links) WorldTells OutTells old new m status (λ k e. cc e) served)
 
-pub runs_watched : (WorldTells OutTells LinksTell : Type 0) (old new : Outside) (m : MixWords) (status : ℕ)
-    → ((share : Share) → status ≡ status_at share → IsServedFrom share (λ c. IsWatchedTo c LinksTell old.links new.links) WorldTells OutTells m old new) → RunsWatched (Some (Watch m)) WorldTells OutTells LinksTell old new status
-runs_watched WorldTells OutTells LinksTell old new m status served =
-    served_as_asked Watch (λ c. IsWatchedTo c LinksTell old.links new.links) WorldTells OutTells old new m status (λ k e. cc e) served
+pub runs_watched : {words : Option Command} {WorldTells OutTells LinksTell : Type 0} {old new : Outside} {status : ℕ} (m : MixWords) → words ≡ Some (Watch m)
+    → ((share : Share) → status ≡ status_at share → IsServedFrom share (λ c. IsWatchedTo c LinksTell old.links new.links) WorldTells OutTells m old new) → RunsWatched words WorldTells OutTells LinksTell old new status
+runs_watched {words} {WorldTells} {OutTells} {LinksTell} {old} {new} {status} m is served =
+    subst (λ w. RunsWatched w WorldTells OutTells LinksTell old new status) (sym is)
+    (served_as_asked Watch (λ c. IsWatchedTo c LinksTell old.links new.links) WorldTells OutTells old new m status (λ k e. cc e) served)
 
 -- a live call that was served of a file ended as a command that serves the same file
-pub runs_served : (c : Command) (file : List ℕ) (WorldTells OutTells ErrTells : Type 0) (old new : Outside) (before after : Output) (status : ℕ)
+pub runs_served : {words : Option Command} {file : List ℕ} {WorldTells OutTells ErrTells : Type 0} {old new : Outside} {before after : Output} {status : ℕ} (c : Command) → words ≡ Some c
     → ((name : List ℕ) (ending : Ending) → Ends (serving_of file) WorldTells OutTells old new name ending → Ends c WorldTells OutTells old new name ending)
-    → EndsServing file WorldTells OutTells ErrTells old new before after status → Runs (Some c) WorldTells OutTells ErrTells old new before after status
-runs_served c file WorldTells OutTells ErrTells old new before after status same e =
-    runs c WorldTells OutTells ErrTells old new before after status e.ending e.name e.is_status (same e.name e.ending e.ends) e.silent e.front e.told
+    → EndsServing file WorldTells OutTells ErrTells old new before after status → Runs words WorldTells OutTells ErrTells old new before after status
+runs_served {words} {file} {WorldTells} {OutTells} {ErrTells} {old} {new} {before} {after} {status} c is same e =
+    subst (λ w. Runs w WorldTells OutTells ErrTells old new before after status) (sym is)
+    (runs e.ending e.name e.is_status (same e.name e.ending e.ends) e.silent e.front e.told)

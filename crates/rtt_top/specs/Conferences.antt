@@ -1,19 +1,17 @@
 -- The faults of a mixing and of a live call, and the names of the files and legs that they are about.
-use Rattle.std.specs.Prelude.{◌≡◌, ℕ, zero, suc, ◌+◌, true, Option, None, Some, List, Ok, Err, length, if◌then◌else◌}
+use Rattle.std.specs.Prelude.{◌≡◌, ℕ, zero, suc, ◌+◌, true, Option, None, Some, List, Ok, Err, length}
 use Rattle.std.specs.List.{concat}
-use Rattle.rtpdump_io.specs.declared.items.DumpFault.{DumpFault}
-use Rattle.rtpdump_io.specs.Reading.{is_of_source}
 use Rattle.file_spec.specs.declared.conf_lines.Form.{Form}
 use Rattle.file_spec.specs.declared.conf_lines.Form.TheVariants.{Files}
 use Rattle.file_spec.specs.declared.conf_lines.LegLine.{LegLine}
 use Rattle.file_spec.specs.Conf.{Conf, conf}
 use Rattle.mixer_spec.specs.Setups.{leg_at}
 use Rattle.file_spec.specs.Lines as lines
-use Rattle.command_spec.specs.declared.faults.Refusal.TheVariants.{AtByte, AtLine, AfterTurns}
+use Rattle.command_spec.specs.declared.faults.Refusal.TheVariants.{AtLine, AfterTurns}
 use Rattle.command_spec.specs.declared.faults.Fault.{Fault}
 use Rattle.command_spec.specs.declared.faults.Fault.TheVariants.{WrongWords, CannotOpen, CannotRead, Refused, CannotPrint, CannotWrite, LinkFailed, NoMemory}
 use Rattle.command_spec.specs.Messages.{Ending}
-use Rattle.rtt_words.specs.Words.{Attend, Cascade, Command, Live}
+use Rattle.rtt_words.specs.Words.{Cascade, Command, Live}
 use Rattle.command_spec.specs.Work.{Contents, IsInput, IsOutput, Made, Makes, Reads, Refuses, Steps}
 use Rattle.rtt_words.specs.Tasks.{work}
 use Rattle.command_spec.specs.Outcomes.{Done, outcome, outcome_from}
@@ -21,9 +19,10 @@ use Rattle.command_spec.specs.Inputs.{AllLie, LieBelow}
 use Rattle.bridge_run.specs.declared.mixed.Mixed.{Mixed}
 use Rattle.sent_files.specs.Files.{recordings_of}
 use Rattle.bridge_run.specs.Mixes.{outputs_of, steps_of}
-use Rattle.rtt_top.specs.Faults.{WhereRead, is_mixed, is_recording}
-use Rattle.rtt_top.specs.Outside.{Outside}
-use Rattle.rtt_top.specs.Runs.{Ends}
+use Rattle.rtt_top.specs.Faults.{WhereRead, fault_of_dump, is_mixed, is_recording}
+use Rattle.rtt_io.specs.declared.sinks.Sink as sinks
+use Rattle.rtt_io.specs.declared.worlds.World as worlds
+use Rattle.rtt_top.specs.Across.{EndsAcross}
 use Rattle.bridge_run.specs.declared.mixed.MixFault.{MixFault}
 use Rattle.bridge_run.specs.declared.mixed.MixFault.TheVariants.{Open, Dump, TooLong}
 use Rattle.bridge_run.specs.declared.mixed.MixFault.TheVariants as mix
@@ -33,23 +32,18 @@ use Rattle.rtt_cascade.specs.Inputs as behind_inputs
 use Rattle.live_run.specs.declared.faults.LiveFault.{LiveFault}
 use Rattle.live_run.specs.declared.faults.LiveFault.TheVariants as live
 
--- the fault of the recording that is the input of this number
-abbrev pub fault_of_recording : ℕ → DumpFault → Fault
-fault_of_recording input fault =
-    if is_of_source fault.kind then CannotRead input else Refused input (AtByte fault.offset fault.kind)
-
 -- The fault of a command for that of a mixing of at most so many turns. The conference is the first input, and the recording of leg k
 -- is the one of number k + 1.
 abbrev pub fault_of_mixing : ℕ → MixFault → Fault
 fault_of_mixing turns (Open leg) = CannotOpen (leg + 1)
-fault_of_mixing turns (Dump leg fault) = fault_of_recording (leg + 1) fault
+fault_of_mixing turns (Dump leg fault) = fault_of_dump (leg + 1) fault
 fault_of_mixing turns TooLong = Refused 0 (AfterTurns turns)
 fault_of_mixing turns mix.NoMemory = NoMemory
 
 -- the same for that of a conference behind another mixer, whose inputs are numbered as the command's
 abbrev pub fault_of_cascade : ℕ → CascadeFault → Fault
 fault_of_cascade turns (behind.Open input) = CannotOpen input
-fault_of_cascade turns (behind.Dump input fault) = fault_of_recording input fault
+fault_of_cascade turns (behind.Dump input fault) = fault_of_dump input fault
 fault_of_cascade turns behind.TooLong = Refused 0 (AfterTurns turns)
 fault_of_cascade turns behind.NoMemory = NoMemory
 
@@ -139,28 +133,23 @@ serving_of file = Live (record { conf = file })
 abbrev pub NamesOutputs : List LegLine → (Ending → List ℕ) → Type 0
 NamesOutputs legs name = (n : ℕ) (leg : LegLine) → leg_at legs n ≡ Some leg → name (Err (CannotWrite n)) ≡ leg.output
 
--- Any command that makes these outputs ends so, however its files are named.
-abbrev pub OutputsEnd : (WorldTells OutTells : Type 0) → Outside → Outside → List LegLine → Mixed → Ending → Type 0
-OutputsEnd WorldTells OutTells old new legs mixed ending =
-    (command : Command) (name : Ending → List ℕ) → NamesOutputs legs name
-    → MakesOutputs WorldTells old.contents command legs (concat mixed.views.items) (outputs_of legs (recordings_of mixed.outs))
-    → Ends command WorldTells OutTells old new (name ending) ending
+module _ {W S D K : Type 0} (w : worlds.Ghosts W S D) (k : sinks.Ghosts K) where
+  -- Any command that makes these outputs ends so, however its files are named.
+  abbrev pub OutputsEnd : W → K → W → K → List LegLine → Mixed → Ending → Type 0
+  OutputsEnd old out new out_then legs mixed ending =
+      (command : Command) (name : Ending → List ℕ) → NamesOutputs legs name
+      → MakesOutputs w.tells (w.contents old) command legs (concat mixed.views.items) (outputs_of legs (recordings_of mixed.outs))
+      → EndsAcross w k command old out new out_then (name ending) ending
 
--- Any command that comes to the mixing of this conference ends so, where its file has any name.
-abbrev pub MixingEnds : (WorldTells OutTells : Type 0) → Outside → Outside → Conf → Ending → Type 0
-MixingEnds WorldTells OutTells old new c ending =
-    (file : List ℕ) (command : Command) → ComesToMixing WorldTells old.contents command c
-    → Ends command WorldTells OutTells old new (ending_name file c.legs ending) ending
+  -- Any command that comes to the mixing of this conference ends so, where its file has any name.
+  abbrev pub MixingEnds : W → K → W → K → Conf → Ending → Type 0
+  MixingEnds old out new out_then c ending =
+      (file : List ℕ) (command : Command) → ComesToMixing w.tells (w.contents old) command c
+      → EndsAcross w k command old out new out_then (ending_name file c.legs ending) ending
 
--- `attend` ends so where the file of any name has this conference; its legs are these then.
-abbrev pub AttendingEnds : (WorldTells OutTells : Type 0) → Outside → Outside → Conf → Conf → Ending → Type 0
-AttendingEnds WorldTells OutTells old new c now ending =
-    (file octets : List ℕ) → (WorldTells → old.contents file ≡ Some octets) → conf Files octets ≡ Ok c
-    → Ends (Attend (record { conf = file })) WorldTells OutTells old new (ending_name file now.legs ending) ending
-
--- `cascade` ends so where the file of any name has this conference, behind a mixer of this SSRC, which is recorded in this file.
-abbrev pub CascadingEnds : (WorldTells OutTells : Type 0) → Outside → Outside → List ℕ → ℕ → Conf → Ending → Type 0
-CascadingEnds WorldTells OutTells old new file ssrc c ending =
-    (conference octets : List ℕ) → (WorldTells → old.contents conference ≡ Some octets) → conf Files octets ≡ Ok c
-    → Ends (Cascade (record { file = file; ssrc = ssrc; conf = conference })) WorldTells OutTells old new
-    (ending_behind conference file c.legs ending) ending
+  -- `cascade` ends so where the file of any name has this conference, behind a mixer of this SSRC, which is recorded in this file.
+  abbrev pub CascadingEnds : W → K → W → K → List ℕ → ℕ → Conf → Ending → Type 0
+  CascadingEnds old out new out_then file ssrc c ending =
+      (conference octets : List ℕ) → (w.tells → w.contents old conference ≡ Some octets) → conf Files octets ≡ Ok c
+      → EndsAcross w k (Cascade (record { file = file; ssrc = ssrc; conf = conference })) old out new out_then
+      (ending_behind conference file c.legs ending) ending

@@ -1,7 +1,9 @@
 -- Why a command stops before it makes anything.
-use Rattle.std.specs.Prelude.{◌≡◌, ◌≤◌, ℕ, zero, suc, Bool, true, false, Option, Some, List, Err}
+use Rattle.std.specs.Prelude.{◌≡◌, ◌≤◌, ℕ, suc, Bool, true, false, Option, Some, List, Err, if◌then◌else◌}
 use Rattle.wire_spec.specs.Dump.{Recording}
 use Rattle.wire_spec.specs.Dump as dumps
+use Rattle.rtpdump_io.specs.declared.items.DumpFault.{DumpFault}
+use Rattle.rtpdump_io.specs.Reading.{is_of_source}
 use Rattle.command_spec.specs.declared.faults.Refusal.{Refusal}
 use Rattle.command_spec.specs.declared.faults.Refusal.TheVariants.{AtByte, AtFrame, AtLine, AtTrunk, AfterTurns}
 use Rattle.command_spec.specs.declared.faults.Fault.{Fault}
@@ -13,6 +15,11 @@ use Rattle.command_spec.specs.Outcomes.{Outcome, Missing, Done, Served, outcome}
 use Rattle.command_spec.specs.Outcomes as outcomes
 use Rattle.command_spec.specs.Messages.{Ending}
 use Rattle.rtt_words.specs.Told.{message_of}
+
+-- the fault of the recording that is the input of this number
+abbrev pub fault_of_dump : ℕ → DumpFault → Fault
+fault_of_dump input fault =
+    if is_of_source fault.kind then CannotRead input else Refused input (AtByte fault.offset fault.kind)
 
 -- this holds where a file is read
 abbrev pub WhereRead : Steps → Type 0 → Type 0

@@ -1,15 +1,15 @@
 -- The faults of frames that are relayed or written.
-use Rattle.std.specs.Prelude.{ℕ, ◌+◌, if◌then◌else◌}
-use Rattle.rtpdump_io.specs.Reading.{is_of_source}
+use Rattle.std.specs.Prelude.{ℕ, ◌+◌}
 use Rattle.frame_spec.specs.declared.frames.FrameFault.{FrameFault}
 use Rattle.frame_spec.specs.declared.limits.TheConstants.{FRAME_HEAD_OCTETS, MOST_FRAMES_OCTETS}
-use Rattle.command_spec.specs.declared.faults.Refusal.TheVariants.{AtByte, AtFrame}
+use Rattle.command_spec.specs.declared.faults.Refusal.TheVariants.{AtFrame}
 use Rattle.command_spec.specs.declared.faults.Fault.{Fault}
-use Rattle.command_spec.specs.declared.faults.Fault.TheVariants.{CannotRead, Refused, NoMemory}
+use Rattle.command_spec.specs.declared.faults.Fault.TheVariants.{Refused, NoMemory}
 use Rattle.rtt_relay.specs.declared.faults.ChannelFault.{ChannelFault}
 use Rattle.rtt_relay.specs.declared.faults.ChannelFault.TheVariants as channel
 use Rattle.rtt_relay.specs.declared.faults.RelayFault.{RelayFault}
 use Rattle.rtt_relay.specs.declared.faults.RelayFault.TheVariants as relay
+use Rattle.rtt_top.specs.Faults.{fault_of_dump}
 
 -- so many octets are read of frames: those that frames may have, and the head of one more
 abbrev pub most_read : ℕ
@@ -24,6 +24,6 @@ fault_of_relay (relay.Refused fault) = refused_frames fault
 fault_of_relay relay.NoMemory = NoMemory
 
 abbrev pub fault_of_channel : ChannelFault → Fault
-fault_of_channel (channel.Dump fault) = if is_of_source fault.kind then CannotRead 0 else Refused 0 (AtByte fault.offset fault.kind)
+fault_of_channel (channel.Dump fault) = fault_of_dump 0 fault
 fault_of_channel (channel.Refused fault) = refused_frames fault
 fault_of_channel channel.NoMemory = NoMemory

@@ -5,6 +5,7 @@ pub mod Ports
 pub mod Runs
 pub mod Lives
 pub mod Outputs
+pub mod Across
 pub mod Conferences
 pub mod Makings
 pub mod Sinks

@@ -12,12 +12,15 @@ use Rattle.serve_spec.specs.Served.{End, Done, Closed, IsServed}
 use Rattle.serve_spec.specs.Watched.{IsBoardOf}
 use Rattle.serve_spec.specs.HeadLive.{HeadLive}
 use Rattle.live_loop.specs.Walks.{IsPaused}
+use Rattle.link_io.specs.declared.links.Links as links
+use Rattle.live_run.specs.declared.reports.LiveReport.{LiveReport}
 use Rattle.live_run.specs.Calls.{AtPorts}
+use Rattle.live_run.specs.Reports.{end_of}
 use Rattle.rtt_top.specs.declared.serving.Serving.{Serving}
 use Rattle.rtt_top.specs.declared.serving.Serving.TheVariants.{Alone, Watched}
 use Rattle.rtt_top.specs.Conferences.{serving_of}
 use Rattle.rtt_top.specs.Faults.{is_live}
-use Rattle.rtt_top.specs.Outside.{Failed, LinksLeft, Output, Outside}
+use Rattle.rtt_top.specs.Outside.{Failed, LinksLeft, Output, Outside, left_by}
 use Rattle.rtt_top.specs.Ports.{LegFailed}
 use Rattle.rtt_top.specs.Runs.{Ends, Prints, PrintsFront}
 use Rattle.rtt_top.specs.Statuses.{is_unread}
@@ -52,6 +55,10 @@ served_by Watched c LinksTell old new = IsWatchedTo c LinksTell old new
 -- a conference that some file of its form describes was served, as S says
 abbrev pub ServedAs : (S : Conf → Type 0 → LinksLeft → LinksLeft → End → List ℕ → Type 0) → Type 0 → LinksLeft → LinksLeft → Conf → End → List ℕ → Type 0
 ServedAs S LinksTell old new c end printed = (octets : List ℕ) → conf Links octets ≡ Ok c → S c LinksTell old new end printed
+
+-- this tells of such a call that was served so, from what links were to what they are
+abbrev pub IsReportOf : {L I O : Type 0} → Serving → links.Ghosts L I O → L → L → Conf → LiveReport → Type 0
+IsReportOf serving l old new c report = ServedAs (served_by serving) l.tells (left_by l old) (left_by l new) c (end_of report.end) report.views
 
 -- it was served to some end, as S says, and this holds of what was printed of it
 abbrev pub IsServedWith : (S : End → List ℕ → Type 0) → (List ℕ → Type 0) → Type 0

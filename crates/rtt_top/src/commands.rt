@@ -1,26 +1,22 @@
 //! Which command is asked for: it is carried out, and its status answered.
-ghost use Rattle.std.specs.Prelude.{◌≡◌, false, true, None, Some, is_some, IfSome};
+ghost use Rattle.std.specs.Prelude.{◌≡◌, false, None, Some, is_some, IfSome};
 ghost use Rattle.rtt_words.specs.Commands.{meaning};
 ghost use Rattle.rtt_top.specs.Faults.{is_live};
-ghost use Rattle.rtt_top.specs.Lives.{RunsLive, RunsWatched, uses_no_link};
-ghost use Rattle.rtt_top.specs.Outside.{outside_at, outside_over, output_at};
-ghost use Rattle.rtt_top.specs.Runs.{is_plain, Runs};
+ghost use Rattle.rtt_top.specs.Runs.{is_plain};
+ghost use Rattle.rtt_top.specs.Across.{RunsAcross};
 
 use crate::conversions::{Conversion, run_conversion};
 use crate::make::run_make;
 use crate::recorded::{Mixing, run_mixing};
 use crate::recordings::run_view;
-use crate::serving::{Serving, serve_file};
 use crate::trunk::run_cascade;
 use crate::version::run_version;
 use crate::views::{Lines, Streams, Text, Transcript, request_of};
-use link_io::Links;
 use rtt_io::{Gate, Sink, World};
 use rtt_words::Command;
 use std::alloc::Global;
 use std::sync::Wait;
 use std::thread::Threads;
-use std::time::Clock;
 
 /// Does what is asked for, where that needs no thread and waits for nobody, and answers the status.
 pub fn carry_out_plain<W: World, K: Sink, E: Sink>(
@@ -31,9 +27,7 @@ pub fn carry_out_plain<W: World, K: Sink, E: Sink>(
     err: &mut E,
 ) -> Option<u8>
     ensures plain { is_some result ≡ is_plain (Some (meaning command.now)) }
-    ensures runs { IfSome result (Runs (Some (meaning command.now)) W.tells K.tells E.tells
-        (outside_at W.World K.Sink world.old out.old) (outside_at W.World K.Sink world.new out.new)
-        (output_at E.Sink err.old) (output_at E.Sink err.new)) }
+    ensures runs { IfSome result (RunsAcross W.World K.Sink E.Sink (meaning command.now) world.old out.old err.old world.new out.new err.new) }
     ensures same { result ≡ None → (world.new ≡ world.old) × (out.new ≡ out.old) × (err.new ≡ err.old) }
 {
     match command {
@@ -72,8 +66,8 @@ pub fn carry_out_plain<W: World, K: Sink, E: Sink>(
     }
 }
 
-/// Does what is asked for with files alone, and answers the status.
-fn carry_out_files<R: Threads + Wait + Sync, W: World, K: Sink, E: Sink, G: Gate + Sync>(
+/// Does what is asked for, where that is no live call, and answers the status.
+pub fn carry_out<R: Threads + Wait + Sync, W: World, K: Sink, E: Sink, G: Gate + Sync>(
     rt: &R,
     alloc: Global,
     command: &Command<'_>,
@@ -83,9 +77,7 @@ fn carry_out_files<R: Threads + Wait + Sync, W: World, K: Sink, E: Sink, G: Gate
     gate: &G,
 ) -> u8
     requires { is_live (meaning command.now) ≡ false }
-    ensures { Runs (Some (meaning command.now)) W.tells K.tells E.tells
-        (outside_at W.World K.Sink world.old out.old) (outside_at W.World K.Sink world.new out.new)
-        (output_at E.Sink err.old) (output_at E.Sink err.new) result }
+    ensures { RunsAcross W.World K.Sink E.Sink (meaning command.now) world.old out.old err.old world.new out.new err.new result }
 {
     if let Some(status) = carry_out_plain(alloc, command, world, out, err) {
         return status;
@@ -111,45 +103,5 @@ fn carry_out_files<R: Threads + Wait + Sync, W: World, K: Sink, E: Sink, G: Gate
         | Command::Show(_)
         | Command::Script(_)
         | Command::Version => unreachable!(),
-    }
-}
-
-/// Does what is asked for, and answers the status.
-pub fn carry_out<
-    R: Threads + Wait + Clock + Copy + Send + Sync + 'static,
-    W: World,
-    L: Links,
-    K: Sink,
-    E: Sink,
-    G: Gate + Sync,
->(
-    rt: &R,
-    alloc: Global,
-    command: &Command<'_>,
-    world: &mut W,
-    links: &mut L,
-    out: &mut K,
-    err: &mut E,
-    gate: &G,
-) -> u8
-    ensures runs { Runs (Some (meaning command.now)) W.tells K.tells E.tells
-        (outside_over W.World K.Sink L.Links world.old out.old links.old) (outside_over W.World K.Sink L.Links world.new out.new links.new)
-        (output_at E.Sink err.old) (output_at E.Sink err.new) result }
-    ensures live { RunsLive (Some (meaning command.now)) W.tells K.tells L.tells
-        (outside_over W.World K.Sink L.Links world.old out.old links.old) (outside_over W.World K.Sink L.Links world.new out.new links.new) result }
-    ensures watched { RunsWatched (Some (meaning command.now)) W.tells K.tells L.tells
-        (outside_over W.World K.Sink L.Links world.old out.old links.old) (outside_over W.World K.Sink L.Links world.new out.new links.new) result }
-    ensures offline { uses_no_link (Some (meaning command.now)) result ≡ true → links.new ≡ links.old }
-{
-    match command {
-        Command::Live(words) => {
-            let alone = Serving::Alone;
-            serve_file(alone, rt, alloc, words, world, links, out, err, gate)
-        }
-        Command::Watch(words) => {
-            let watched = Serving::Watched;
-            serve_file(watched, rt, alloc, words, world, links, out, err, gate)
-        }
-        _ => carry_out_files(rt, alloc, command, world, out, err, gate),
     }
 }

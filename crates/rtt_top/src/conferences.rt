@@ -1,7 +1,6 @@
 //! The conference of a command: how it is read from its file, and the names of its files and legs.
-ghost use Rattle.std.specs.Prelude.{◌≡◌, OnOk, IfOk, IfErr};
+ghost use Rattle.std.specs.Prelude.{◌≡◌, option_map, OnOk, IfOk, IfErr};
 ghost use Rattle.rtt_io.specs.Names.{NoneFalls, Same as KeepsCounts};
-ghost use Rattle.std.specs.Option.{option_map};
 ghost use Rattle.mixer_spec.specs.Setups.{leg_at};
 ghost use Rattle.command_spec.specs.Outcomes.{Same};
 ghost use Rattle.rtt_words.specs.Words.{Command};

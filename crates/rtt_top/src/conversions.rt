@@ -1,12 +1,11 @@
 //! A file is made of another one.
-ghost use Rattle.std.specs.Prelude.{◌≡◌, Some, IfOk, IfErr};
+ghost use Rattle.std.specs.Prelude.{◌≡◌, IfOk, IfErr};
 ghost use Rattle.rtt_io.specs.Names.{NoneFalls};
 ghost use Rattle.command_spec.specs.Outcomes.{Same};
 ghost use Rattle.rtt_top.specs.Conversions.{asked_for, input_of, output_of};
 ghost use Rattle.rtt_top.specs.Faults.{name_in};
-ghost use Rattle.rtt_top.specs.Outside.{outside_at, output_at};
-ghost use Rattle.rtt_top.specs.Runs.{Ends, Runs};
 ghost use Rattle.rtt_top.specs.Worlds.{StopsOver, OnlyMakes};
+ghost use Rattle.rtt_top.specs.Across.{EndsAcross, RunsAcross};
 
 use crate::channel::frames_of;
 use crate::files::save_output;
@@ -35,8 +34,7 @@ fn input_of<'a>(conversion: &Conversion<'a>) -> &'a str
     ensures { result.now ≡ input_of conversion.now }
 {
     match conversion {
-        Conversion::Script(words) => words.file,
-        Conversion::Frames(words) => words.file,
+        Conversion::Script(words) | Conversion::Frames(words) => words.file,
         Conversion::Recording(words) => words.file,
     }
 }
@@ -46,8 +44,7 @@ fn output_of<'a>(conversion: &Conversion<'a>) -> &'a str
     ensures { result.now ≡ output_of conversion.now }
 {
     match conversion {
-        Conversion::Script(words) => words.out,
-        Conversion::Frames(words) => words.out,
+        Conversion::Script(words) | Conversion::Frames(words) => words.out,
         Conversion::Recording(words) => words.out,
     }
 }
@@ -78,9 +75,7 @@ fn convert<W: World, K: Sink>(
     world: &mut W,
     out: &K,
 ) -> Result<(), Fault>
-    ensures { Ends (asked_for conversion.now) W.tells K.tells
-        (outside_at W.World K.Sink world.old out.now) (outside_at W.World K.Sink world.new out.now)
-        (name_in (input_of conversion.now) (output_of conversion.now) result) result }
+    ensures { EndsAcross W.World K.Sink (asked_for conversion.now) world.old out.now world.new out.now (name_in (input_of conversion.now) (output_of conversion.now) result) result }
 {
     match octets_of(alloc, conversion, world) {
         Ok(octets) => save_output(0, output_of(conversion), octets.as_slice(), world),
@@ -96,9 +91,7 @@ pub(crate) fn run_conversion<W: World, K: Sink, E: Sink>(
     out: &mut K,
     err: &mut E,
 ) -> u8
-    ensures { Runs (Some (asked_for conversion.now)) W.tells K.tells E.tells
-        (outside_at W.World K.Sink world.old out.old) (outside_at W.World K.Sink world.new out.new)
-        (output_at E.Sink err.old) (output_at E.Sink err.new) result }
+    ensures { RunsAcross W.World K.Sink E.Sink (asked_for conversion.now) world.old out.old err.old world.new out.new err.new result }
 {
     let ending = convert(alloc, conversion, world, out);
     finish(ending, input_of(conversion), output_of(conversion), err)

@@ -1,11 +1,10 @@
 //! Whole files: read, refused, and written.
-ghost use Rattle.std.specs.Prelude.{◌≡◌, ◌<◌, length, if◌then◌else◌, OnOk, OnErr, IfOk, IfErr};
+ghost use Rattle.std.specs.Prelude.{◌≡◌, ◌<◌, length, OnOk, OnErr, IfOk, IfErr};
 ghost use Rattle.rtt_io.specs.Names.{NoneFalls, Same as KeepsCounts};
-ghost use Rattle.rtpdump_io.specs.Reading.{is_of_source};
 ghost use Rattle.rtpdump_io.specs.Faults.{IsSourceFault, FaultOf};
 ghost use Rattle.sent_files.specs.Files.{recording_at};
 ghost use Rattle.command_spec.specs.Outcomes.{Same};
-ghost use Rattle.rtt_top.specs.Faults.{IsOfRecording, IsTrueFor};
+ghost use Rattle.rtt_top.specs.Faults.{IsOfRecording, IsTrueFor, fault_of_dump};
 ghost use Rattle.rtt_top.specs.Files.{IsReadOf};
 ghost use Rattle.rtt_top.specs.Frames.{refused_frames};
 ghost use Rattle.rtt_top.specs.Worlds.{IsUnreadIn, FailedIn, Saves, SavesPartly};
@@ -72,8 +71,7 @@ pub(crate) fn refused_frames(fault: FrameFault) -> Fault
 
 /// The fault of a command whose input of this number is a recording that has this fault.
 pub(crate) fn fault_of_dump(input: u32, fault: DumpFault) -> Fault
-    ensures { result ≡ (if is_of_source fault.kind then Fault.CannotRead input
-        else Fault.Refused input (Refusal.AtByte fault.offset fault.kind)) }
+    ensures { result ≡ fault_of_dump input fault }
 {
     match fault {
         DumpFault {

@@ -1,7 +1,6 @@
 //! One command of the program: words in, a status out.
 #![tactic(auto)]
 
-mod attend;
 mod channel;
 mod commands;
 mod conferences;

@@ -1,11 +1,10 @@
 //! `make`: a conference is made from a number and mixed in memory, and a line is printed of it.
-ghost use Rattle.std.specs.Prelude.{◌≡◌, ℕ, List, [], Some, IfOk, IfErr};
+ghost use Rattle.std.specs.Prelude.{◌≡◌, ℕ, List, [], IfOk, IfErr};
 ghost use Rattle.command_spec.specs.Making.{making};
 ghost use Rattle.rtt_words.specs.Words.{Make};
 ghost use Rattle.command_spec.specs.Work.{Makes};
 ghost use Rattle.rtt_top.specs.Makings.{fault_in_memory, IsWhy};
-ghost use Rattle.rtt_top.specs.Outside.{outside_at, output_at};
-ghost use Rattle.rtt_top.specs.Runs.{Ends, Runs};
+ghost use Rattle.rtt_top.specs.Across.{EndsAcross, RunsAcross};
 
 use crate::messages::{finish_with, print};
 use bridge_run::{MixFault, mix_held};
@@ -74,9 +73,7 @@ fn make<R: Threads + Wait + Sync, W: World, K: Sink, G: Gate + Sync>(
     out: &mut K,
     gate: &G,
 ) -> Result<(), Fault>
-    ensures { (name : List ℕ) → Ends (Make (record { number = number })) W.tells K.tells
-        (outside_at W.World K.Sink world.now out.old) (outside_at W.World K.Sink world.now out.new)
-        name result }
+    ensures { (name : List ℕ) → EndsAcross W.World K.Sink (Make (record { number = number })) world.now out.old world.now out.new name result }
 {
     match line_of(rt, alloc, number, gate) {
         Ok(line) => print(line.as_slice(), out),
@@ -94,9 +91,7 @@ pub fn run_make<R: Threads + Wait + Sync, W: World, K: Sink, E: Sink, G: Gate + 
     err: &mut E,
     gate: &G,
 ) -> u8
-    ensures { Runs (Some (Make (record { number = number }))) W.tells K.tells E.tells
-        (outside_at W.World K.Sink world.now out.old) (outside_at W.World K.Sink world.now out.new)
-        (output_at E.Sink err.old) (output_at E.Sink err.new) result }
+    ensures { RunsAcross W.World K.Sink E.Sink (Make (record { number = number })) world.now out.old err.old world.now out.new err.new result }
 {
     let ending = make(rt, alloc, number, world, out, gate);
     finish_with(ending, "", err)

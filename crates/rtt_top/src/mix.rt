@@ -4,7 +4,6 @@ ghost use Rattle.rtt_io.specs.Names.{NoneFalls};
 ghost use Rattle.conference.specs.Conferences.{conf_of};
 ghost use Rattle.sent_files.specs.Files.{recordings_of};
 ghost use Rattle.rtt_top.specs.Conferences.{MixingEnds, OutputsEnd, fault_of_mixing};
-ghost use Rattle.rtt_top.specs.Outside.{outside_at};
 ghost use Rattle.rtt_top.specs.Worlds.{SavesEach, IsUnwrittenIn};
 ghost use Rattle.file_spec.specs.declared.limits.TheConstants.{MOST_LEGS};
 
@@ -69,9 +68,7 @@ pub(crate) fn make_outputs<W: World, K: Sink>(
 ) -> Result<(), Fault>
     requires as_many { length legs.now ≡ length mixed.outs }
     requires few { length legs.now ≤ MOST_LEGS }
-    ensures { OutputsEnd W.tells K.tells
-        (outside_at W.World K.Sink world.old out.old) (outside_at W.World K.Sink world.new out.new)
-        legs.now mixed result }
+    ensures { OutputsEnd W.World K.Sink world.old out.old world.new out.new legs.now mixed result }
 {
     let mut files = mixed.outs;
     let saved = save_outputs(legs, &mut files, world);
@@ -91,9 +88,7 @@ pub(crate) fn mix_conf<R: Threads + Wait + Sync, W: World, K: Sink, G: Gate + Sy
     out: &mut K,
     gate: &G,
 ) -> Result<(), Fault>
-    ensures { MixingEnds W.tells K.tells
-        (outside_at W.World K.Sink world.old out.old) (outside_at W.World K.Sink world.new out.new)
-        (conf_of conf.now) result }
+    ensures { MixingEnds W.World K.Sink world.old out.old world.new out.new (conf_of conf.now) result }
 {
     let mixed = match mix(rt, alloc, conf, world, gate) {
         Ok(mixed) => mixed,

@@ -1,18 +1,17 @@
 //! The conference of a file is mixed over recordings.
-ghost use Rattle.std.specs.Prelude.{◌≡◌, Some};
+ghost use Rattle.std.specs.Prelude.{◌≡◌};
 ghost use Rattle.conference.specs.Conferences.{conf_of};
 ghost use Rattle.rtt_words.specs.Commands.{mixed};
 ghost use Rattle.rtt_top.specs.Recorded.{MixingEndsAs, asked_as};
-ghost use Rattle.rtt_top.specs.Outside.{outside_at, output_at};
-ghost use Rattle.rtt_top.specs.Runs.{Runs};
+ghost use Rattle.rtt_top.specs.Across.{RunsAcross};
 
-use crate::attend::attend_conf;
 use crate::conferences::{conf_under, name_at_end};
 use crate::messages::finish_with;
-use crate::mix::mix_conf;
+use crate::mix::{fault_of_mixing, mix_conf};
 use command_spec::Fault;
 use conf_text::Form;
 use conference::Conf;
+use rtt_attend::hear_names;
 use rtt_io::{Gate, Sink, World};
 use rtt_words::MixWords;
 use std::alloc::Global;
@@ -28,7 +27,9 @@ pub(crate) enum Mixing {
     Attending,
 }
 
-/// Mixes a conference, writes its outputs, and prints what is seen.
+/// Mixes a conference, writes its outputs, and prints what is seen. Where its names are heard, each input is read to its end before one
+/// is mixed.
+#[inline(never)]
 fn mix_as<R: Threads + Wait + Sync, W: World, K: Sink, G: Gate + Sync>(
     mixing: Mixing,
     rt: &R,
@@ -38,13 +39,14 @@ fn mix_as<R: Threads + Wait + Sync, W: World, K: Sink, G: Gate + Sync>(
     out: &mut K,
     gate: &G,
 ) -> Result<(), Fault>
-    ensures { MixingEndsAs mixing W.tells K.tells
-        (outside_at W.World K.Sink world.old out.old) (outside_at W.World K.Sink world.new out.new)
-        (conf_of conf.old) (conf_of conf.new) result }
+    ensures { MixingEndsAs mixing W.World K.Sink world.old out.old world.new out.new (conf_of conf.old) (conf_of conf.new) result }
 {
     match mixing {
         Mixing::Plain => mix_conf(rt, alloc, conf, world, out, gate),
-        Mixing::Attending => attend_conf(rt, alloc, conf, world, out, gate),
+        Mixing::Attending => match hear_names(alloc, conf, world) {
+            Ok(()) => mix_conf(rt, alloc, conf, world, out, gate),
+            Err(fault) => Err(fault_of_mixing(conf.turns, fault)),
+        },
     }
 }
 
@@ -59,9 +61,7 @@ pub(crate) fn run_mixing<R: Threads + Wait + Sync, W: World, K: Sink, E: Sink, G
     err: &mut E,
     gate: &G,
 ) -> u8
-    ensures { Runs (Some (asked_as mixing (mixed words.now))) W.tells K.tells E.tells
-        (outside_at W.World K.Sink world.old out.old) (outside_at W.World K.Sink world.new out.new)
-        (output_at E.Sink err.old) (output_at E.Sink err.new) result }
+    ensures { RunsAcross W.World K.Sink E.Sink (asked_as mixing (mixed words.now)) world.old out.old err.old world.new out.new err.new result }
 {
     let mut conf = match conf_under(alloc, words.conf, Form::Files, world) {
         Ok(conf) => conf,

@@ -1,5 +1,5 @@
 //! A view of a recording: the recording is opened and read, and its view is printed.
-ghost use Rattle.std.specs.Prelude.{◌≡◌, ℕ, List, Option, None, Some, false, OnOk, IfOk, IfErr};
+ghost use Rattle.std.specs.Prelude.{◌≡◌, ℕ, List, Option, None, false, OnOk, IfOk, IfErr};
 ghost use Rattle.wire_spec.specs.Dump.{Fault as BrokenAt};
 ghost use Rattle.rtpdump_io.specs.Reading.{is_ended, source_of, to_come};
 ghost use Rattle.rtpdump_io.specs.Faults.{HasCause};
@@ -7,9 +7,8 @@ ghost use Rattle.rtt_words.specs.Words.{Command};
 ghost use Rattle.command_spec.specs.Outcomes.{Same};
 ghost use Rattle.rtt_top.specs.Faults.{name_in};
 ghost use Rattle.rtt_top.specs.RecordingViews.{IsViewOf, IsRefusal, PrintsView};
-ghost use Rattle.rtt_top.specs.Outside.{outside_at, output_at};
-ghost use Rattle.rtt_top.specs.Runs.{Ends, Runs};
 ghost use Rattle.rtt_top.specs.Worlds.{OnlyPrints, StopsOver};
+ghost use Rattle.rtt_top.specs.Across.{EndsAcross, RunsAcross};
 
 use crate::files::fault_of_recording;
 use crate::messages::{finish, print};
@@ -77,9 +76,7 @@ fn print_view<V: RecordingView, W: World, K: Sink>(
     world: &mut W,
     out: &mut K,
 ) -> Result<(), Fault>
-    ensures { Ends (V.command view.now name.now) W.tells K.tells
-        (outside_at W.World K.Sink world.old out.old) (outside_at W.World K.Sink world.new out.new)
-        (name_in name.now name.now result) result }
+    ensures { EndsAcross W.World K.Sink (V.command view.now name.now) world.old out.old world.new out.new (name_in name.now name.now result) result }
 {
     match view_under(alloc, name, view, world) {
         Ok(octets) => print(octets.as_slice(), out),
@@ -96,9 +93,7 @@ pub(crate) fn run_view<V: RecordingView, W: World, K: Sink, E: Sink>(
     out: &mut K,
     err: &mut E,
 ) -> u8
-    ensures { Runs (Some (V.command view.now name.now)) W.tells K.tells E.tells
-        (outside_at W.World K.Sink world.old out.old) (outside_at W.World K.Sink world.new out.new)
-        (output_at E.Sink err.old) (output_at E.Sink err.new) result }
+    ensures { RunsAcross W.World K.Sink E.Sink (V.command view.now name.now) world.old out.old err.old world.new out.new err.new result }
 {
     let ending = print_view(alloc, name, view, world, out);
     finish(ending, name, name, err)

@@ -6,10 +6,11 @@ ghost use Rattle.rtt_top.specs.Runs.{asked_by, is_plain, Runs};
 
 use crate::commands::{carry_out, carry_out_plain};
 use crate::messages::finish;
+use crate::serving::{Serving, serve_file};
 use command_spec::Fault;
 use link_io::Links;
 use rtt_io::{Gate, Sink, World};
-use rtt_words::{WordFault, command_of};
+use rtt_words::{Command, WordFault, command_of};
 use std::alloc::Global;
 use std::sync::Wait;
 use std::thread::Threads;
@@ -70,9 +71,20 @@ pub fn run<
         (outside_over W.World K.Sink L.Links world.old out.old links.old) (outside_over W.World K.Sink L.Links world.new out.new links.new) result }
     ensures offline { uses_no_link (asked_by words.now) result ≡ true → links.new ≡ links.old }
 {
-    match command_of(alloc, words) {
-        Ok(command) => carry_out(rt, alloc, &command, world, links, out, err, gate),
-        Err(WordFault::Wrong) => finish(Err(Fault::WrongWords), "", "", err),
-        Err(WordFault::NoMemory) => finish(Err(Fault::NoMemory), "", "", err),
+    let command = match command_of(alloc, words) {
+        Ok(command) => command,
+        Err(WordFault::Wrong) => return finish(Err(Fault::WrongWords), "", "", err),
+        Err(WordFault::NoMemory) => return finish(Err(Fault::NoMemory), "", "", err),
+    };
+    match &command {
+        Command::Live(call) => {
+            let alone = Serving::Alone;
+            serve_file(alone, rt, alloc, call, world, links, out, err, gate)
+        }
+        Command::Watch(call) => {
+            let watched = Serving::Watched;
+            serve_file(watched, rt, alloc, call, world, links, out, err, gate)
+        }
+        _ => carry_out(rt, alloc, &command, world, out, err, gate),
     }
 }

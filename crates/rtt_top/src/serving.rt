@@ -2,10 +2,9 @@
 ghost use Rattle.std.specs.Prelude.{◌≡◌, true, IfOk, IfErr};
 ghost use Rattle.conference.specs.Conferences.{conf_of};
 ghost use Rattle.live_run.specs.Calls.{IsOfLinks, WasGivenUp};
-ghost use Rattle.live_run.specs.Reports.{end_of};
 ghost use Rattle.rtt_words.specs.Commands.{mixed};
 ghost use Rattle.rtt_top.specs.Conferences.{fault_of_live};
-ghost use Rattle.rtt_top.specs.Lives.{EndsServing, IsServedFrom, ServedAs, ServingEnds, Share, is_unserved, served_by, status_at};
+ghost use Rattle.rtt_top.specs.Lives.{EndsServing, IsReportOf, IsServedFrom, ServingEnds, Share, is_unserved, served_by, status_at};
 ghost use Rattle.rtt_top.specs.Outside.{left_by, outside_over, output_at};
 
 use crate::conferences::{conf_under, name_at_end};
@@ -41,8 +40,7 @@ fn serve_call<R: Threads + Wait + Clock + Copy + Send + Sync + 'static, L: Links
     gate: &G,
 ) -> Result<LiveReport, LiveFault>
     requires { IsOfLinks (conf_of conf.now) }
-    ensures served { IfOk result (λ report. ServedAs (served_by serving) L.tells (left_by L.Links links.old) (left_by L.Links links.new)
-        (conf_of conf.now) (end_of report.end) report.views) }
+    ensures served { IfOk result (IsReportOf serving L.Links links.old links.new (conf_of conf.now)) }
     ensures given_up { IfErr result (WasGivenUp (L.own_faults links.old) (L.own_faults links.new)
         (L.object_faults links.old) (L.object_faults links.new) (conf_of conf.now)) }
 {

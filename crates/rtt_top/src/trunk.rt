@@ -1,12 +1,11 @@
 //! `cascade`: the conference of a file is mixed, of which some legs stand behind another mixer, whose recording is split.
-ghost use Rattle.std.specs.Prelude.{◌≡◌, Some};
+ghost use Rattle.std.specs.Prelude.{◌≡◌};
 ghost use Rattle.conference.specs.Conferences.{conf_of};
 ghost use Rattle.rtt_words.specs.Words.{Cascade};
 ghost use Rattle.rtt_words.specs.Commands.{cascaded};
 ghost use Rattle.rtt_cascade.specs.Inputs.{input_name};
 ghost use Rattle.rtt_top.specs.Conferences.{CascadingEnds, ending_behind, fault_of_cascade, input_behind};
-ghost use Rattle.rtt_top.specs.Outside.{outside_at, output_at};
-ghost use Rattle.rtt_top.specs.Runs.{Runs};
+ghost use Rattle.rtt_top.specs.Across.{RunsAcross};
 
 use crate::conferences::{conf_under, name_at_end};
 use crate::files::fault_of_dump;
@@ -65,21 +64,17 @@ fn name_behind<'a>(
     }
 }
 
-/// Mixes a conference behind a mixer that sent under this SSRC what is recorded in `file`, writes its outputs, and prints what is
-/// seen.
+/// Mixes a conference behind a mixer whose recording and SSRC these words name, writes its outputs, and prints what is seen.
 fn cascade_conf<R: Threads + Wait + Sync, W: World, K: Sink, G: Gate + Sync>(
     rt: &R,
     alloc: Global,
-    file: &str,
-    ssrc: u32,
+    words: &CascadeWords<'_>,
     conf: &Conf,
     world: &mut W,
     out: &mut K,
     gate: &G,
 ) -> Result<(), Fault>
-    ensures { CascadingEnds W.tells K.tells
-        (outside_at W.World K.Sink world.old out.old) (outside_at W.World K.Sink world.new out.new)
-        file.now ssrc (conf_of conf.now) result }
+    ensures { CascadingEnds W.World K.Sink world.old out.old world.new out.new words.now.file.now words.now.ssrc (conf_of conf.now) result }
 {
     if let Some(line) = odd_line(conf.legs.as_slice()) {
         return Err(Fault::Refused {
@@ -87,7 +82,7 @@ fn cascade_conf<R: Threads + Wait + Sync, W: World, K: Sink, G: Gate + Sync>(
             refusal: Refusal::AtTrunk { line },
         });
     }
-    let mixed = match cascade(rt, alloc, file, ssrc, conf, world, gate) {
+    let mixed = match cascade(rt, alloc, words.file, words.ssrc, conf, world, gate) {
         Ok(mixed) => mixed,
         Err(fault) => return Err(fault_of_cascade(conf.turns, fault)),
     };
@@ -104,15 +99,13 @@ pub fn run_cascade<R: Threads + Wait + Sync, W: World, K: Sink, E: Sink, G: Gate
     err: &mut E,
     gate: &G,
 ) -> u8
-    ensures { Runs (Some (Cascade (cascaded words.now))) W.tells K.tells E.tells
-        (outside_at W.World K.Sink world.old out.old) (outside_at W.World K.Sink world.new out.new)
-        (output_at E.Sink err.old) (output_at E.Sink err.new) result }
+    ensures { RunsAcross W.World K.Sink E.Sink (Cascade (cascaded words.now)) world.old out.old err.old world.new out.new err.new result }
 {
     let conf = match conf_under(alloc, words.conf, Form::Files, world) {
         Ok(conf) => conf,
         Err(fault) => return finish_with(Err(fault), words.conf, err),
     };
-    let ending = cascade_conf(rt, alloc, words.file, words.ssrc, &conf, world, out, gate);
+    let ending = cascade_conf(rt, alloc, words, &conf, world, out, gate);
     let name = name_behind(ending, words.conf, words.file, conf.legs.as_slice());
     finish_with(ending, name, err)
 }

@@ -1,7 +1,7 @@
 use Rattle.std.proofs.Common.{sym, subst}
 use Rattle.rtt_top.specs.Conversions.{asked_for, input_of}
 use Rattle.rtt_top.specs.Faults.{name_in}
-use Rattle.rtt_top.specs.Outside.{outside_at, output_at}
+use Rattle.rtt_top.specs.Outside.{outside_at}
 use Rattle.rtt_top.specs.Runs.{Ends}
 use Rattle.rtt_top.proofs.Ending.{runs}
 use Rattle.rtt_top.proofs.conversions.run_conversion.Goals as goal
@@ -14,8 +14,7 @@ returns g c =
     let ending = c.convert-ending.result in
     let input = c.input_of.result.now in
     let output = c.output_of.result.now in
-    runs (asked_for it) g.W.World.tells g.K.Sink.tells g.E.Sink.tells old new (output_at g.E.Sink c.args.err.now) (output_at g.E.Sink c.finish.new.err) c.finish.result
-    ending (name_in input output ending) c.finish.ensures.status
+    runs ending (name_in input output ending) c.finish.ensures.status
     (subst (λ i. Ends (asked_for it) g.W.World.tells g.K.Sink.tells old new (name_in i output ending) ending) (sym c.input_of.ensures)
     (subst (λ o. Ends (asked_for it) g.W.World.tells g.K.Sink.tells old new (name_in (input_of it) o ending) ending) (sym c.output_of.ensures) c.convert-ending.ensures))
     c.finish.ensures.silent c.finish.ensures.front c.finish.ensures.told

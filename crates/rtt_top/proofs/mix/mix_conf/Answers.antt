@@ -28,7 +28,7 @@ returns g c = λ file command m.
     let mixed = c.in-Ok.mixed in
     let printed = concat mixed.views.items in
     let recordings = recordings_of mixed.outs in
-    let ends = subst (λ lines. OutputsEnd g.W.World.tells g.K.Sink.tells mid new lines mixed c.make_outputs.result) c.as_slice.ensures c.make_outputs.ensures in
+    let ends = subst (λ lines. OutputsEnd g.W.World g.K.Sink c.mix.new.world c.args.out.now c.make_outputs.new.world c.make_outputs.new.out lines mixed c.make_outputs.result) c.as_slice.ensures c.make_outputs.ensures in
     ends_since command g.W.World.tells g.K.Sink.tells old mid new (ending_name file legs c.make_outputs.result) c.make_outputs.result
     (record { same = c.mix.ensures.same_contents; calls_rise = c.mix.ensures.calls_never_fall; objects_rise = c.mix.ensures.objects_never_fall }) refl refl c.in-Ok.ensures.none_failed c.in-Ok.ensures.opened
     (ends command (ending_name file legs) (names_outputs file legs)

@@ -1,7 +1,7 @@
 use Rattle.std.proofs.Common.{Err, refl, ap, sym, subst, ◌∙◌}
 use Rattle.command_spec.specs.Messages.{Ending}
 use Rattle.command_spec.specs.Work.{IsInput, Steps}
-use Rattle.rtt_top.specs.Outside.{outside_at, output_at}
+use Rattle.rtt_top.specs.Outside.{outside_at}
 use Rattle.rtt_words.specs.Commands.{mixed}
 use Rattle.rtt_top.specs.Conferences.{ending_name}
 use Rattle.rtt_top.specs.Recorded.{asked_as}
@@ -20,8 +20,7 @@ returns-in-Err g c =
     let command = asked_as c.args.mixing (mixed c.args.words.now) in
     let reads = reads_as c.args.mixing file in
     let ending : Ending = Err c.in-Err.fault in
-    runs command g.W.World.tells g.K.Sink.tells g.E.Sink.tells old new (output_at g.E.Sink c.args.err.now) (output_at g.E.Sink c.finish_with.new.err) c.finish_with.result
-    ending file c.finish_with.ensures.status
+    runs ending file c.finish_with.ensures.status
     (subst (λ n. Ends command g.W.World.tells g.K.Sink.tells old new n ending) (same_name file ending)
     (stopped command g.W.World.tells g.K.Sink.tells old new file file c.in-Err.fault
     (subst (λ (s : Steps). IsInput g.W.World.tells old.contents s 0 file) (sym reads.steps) refl)
@@ -31,17 +30,15 @@ returns-in-Err g c =
 pub returns : goal.returns
 returns g c =
     let old = outside_at g.W.World g.K.Sink c.args.world.now c.args.out.now in
-    let mid = outside_at g.W.World g.K.Sink c.conf_under.new.world c.args.out.now in
     let new = outside_at g.W.World g.K.Sink c.mix_as-ending.new.world c.mix_as-ending.new.out in
     let file = c.args.words.now.conf.now in
     let command = asked_as c.args.mixing (mixed c.args.words.now) in
     let ending = c.mix_as-ending.result in
     let read = c.in-Ok.ensures.read in
     let named = c.name_at_end-name.ensures ∙ ap (λ legs. ending_name file legs ending) c.as_slice.ensures in
-    runs command g.W.World.tells g.K.Sink.tells g.E.Sink.tells old new (output_at g.E.Sink c.args.err.now) (output_at g.E.Sink c.finish_with-2.new.err) c.finish_with-2.result
-    ending c.name_at_end-name.result.now c.finish_with-2.ensures.status
+    runs ending c.name_at_end-name.result.now c.finish_with-2.ensures.status
     (subst (λ n. Ends command g.W.World.tells g.K.Sink.tells old new n ending) (sym named)
-    (ends_since command g.W.World.tells g.K.Sink.tells old mid new (ending_name file c.mix_as-ending.new.conf.legs ending) ending
+    (ends_since command g.W.World.tells g.K.Sink.tells old (outside_at g.W.World g.K.Sink c.conf_under.new.world c.args.out.now) new (ending_name file c.mix_as-ending.new.conf.legs ending) ending
     (record { same = c.in-Ok.ensures.same_contents; calls_rise = c.in-Ok.ensures.calls_never_fall; objects_rise = c.in-Ok.ensures.objects_never_fall }) refl refl c.in-Ok.ensures.calm c.in-Ok.ensures.opened
     (c.mix_as-ending.ensures file read.0 (λ told. c.in-Ok.ensures.same_contents told file ∙ read.1 told) read.2)))
     c.finish_with-2.ensures.silent c.finish_with-2.ensures.front c.finish_with-2.ensures.told

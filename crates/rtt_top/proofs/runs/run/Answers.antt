@@ -1,9 +1,13 @@
-use Rattle.std.proofs.Common.{refl, inl, []}
+use Rattle.std.proofs.Common.{◌≡◌, true, Some, [], inl, refl, ap, subst, ◌∙◌}
 use Rattle.command_spec.specs.declared.faults.Fault.TheVariants.{WrongWords}
-use Rattle.rtt_top.specs.Outside.{outside_over, output_at}
+use Rattle.rtt_words.specs.Commands.{meaning, mixed}
+use Rattle.rtt_words.specs.Words.{Live, Watch}
+use Rattle.rtt_top.specs.Lives.{uses_no_link}
+use Rattle.rtt_top.specs.Outside.{left_by, outside_at, outside_over, output_at}
 use Rattle.rtt_top.specs.Runs.{asked_by}
 use Rattle.rtt_top.proofs.Ending.{no_words, no_memory}
-use Rattle.rtt_top.proofs.Linked.{failed_at_all, failed_live, no_words_live, no_words_watched}
+use Rattle.rtt_top.proofs.Linked.{failed_at_all, failed_live, live_not_watched, no_live, no_watched, no_words_live, no_words_watched, other_is_not_live, runs_linked, watched_not_live}
+use Rattle.rtt_top.proofs.Living.{runs_live, runs_served, runs_watched}
 use Rattle.rtt_top.proofs.runs.run.Goals as goal
 
 pub returns-in-Err-Wrong-clause-runs : goal.returns-in-Err-Wrong-clause-runs
@@ -44,3 +48,43 @@ returns-in-Err-NoMemory-clause-watched g c =
     let here = outside_over g.W.World g.K.Sink g.L.Links c.args.world.now c.args.out.now c.args.links.now in
     let finish = c.finish-in-Err-NoMemory in
     failed_at_all (asked_by c.args.words.now) g.W.World.tells g.K.Sink.tells g.L.Links.tells here here finish.result finish.ensures.status
+
+pub returns-in-Live : goal.returns-in-Live
+returns-in-Live g c =
+    let call = c.serve_file in
+    let m = mixed c.in-Live.call in
+    let is : asked_by c.args.words.now ≡ Some (Live m) = c.in-Ok.ensures.asked ∙ ap (λ k. Some (meaning k)) c.in-Live.is in
+    record {
+      runs = runs_served (Live m) is (λ name ending ends. ends) call.ensures.ends;
+      live = runs_live m is call.ensures.served;
+      watched = live_not_watched m is;
+      offline = λ none. call.ensures.offline (subst (λ w. uses_no_link w call.result ≡ true) is none);
+    }
+
+pub returns-in-Watch : goal.returns-in-Watch
+returns-in-Watch g c =
+    let call = c.serve_file-in-Watch in
+    let m = mixed c.in-Watch.call in
+    let is : asked_by c.args.words.now ≡ Some (Watch m) = c.in-Ok.ensures.asked ∙ ap (λ k. Some (meaning k)) c.in-Watch.is in
+    record {
+      runs = runs_served (Watch m) is (λ name ending ends. ends) call.ensures.ends;
+      live = watched_not_live m is;
+      watched = runs_watched m is call.ensures.served;
+      offline = λ none. call.ensures.offline (subst (λ w. uses_no_link w call.result ≡ true) is none);
+    }
+
+pub returns-in_default : goal.returns-in_default
+returns-in_default g c =
+    let command = c.in-Ok.command in
+    let done = c.carry_out in
+    let off = other_is_not_live command c.in_default.not-Live c.in_default.not-Watch in
+    let links = left_by g.L.Links c.args.links.now in
+    let old = outside_at g.W.World g.K.Sink c.args.world.now c.args.out.now in
+    let new = outside_at g.W.World g.K.Sink done.new.world done.new.out in
+    record {
+      runs = runs_linked (asked_by c.args.words.now) (meaning command) g.W.World.tells g.K.Sink.tells g.E.Sink.tells old new links links (output_at g.E.Sink c.args.err.now) (output_at g.E.Sink done.new.err)
+          done.result c.in-Ok.ensures.asked off done.ensures;
+      live = no_live (meaning command) c.in-Ok.ensures.asked off;
+      watched = no_watched (meaning command) c.in-Ok.ensures.asked off;
+      offline = λ e. refl;
+    }

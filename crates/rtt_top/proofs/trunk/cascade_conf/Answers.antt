@@ -16,14 +16,14 @@ pub returns-in-Some : goal.returns-in-Some
 returns-in-Some g c = λ conference octets there read.
     let outside = outside_at g.W.World g.K.Sink c.args.world.now c.args.out.now in
     let odd : odd_line c.args.conf.now.legs ≡ Some c.in-Some.line = sym (c.odd_line.ensures ∙ ap odd_line c.as_slice.ensures) ∙ c.in-Some.is in
-    odd_ends g.W.World.tells g.K.Sink.tells outside conference octets c.args.file.now c.args.ssrc (conf_of c.args.conf.now) c.in-Some.line there read odd
+    odd_ends g.W.World.tells g.K.Sink.tells outside conference octets c.args.words.now.file.now c.args.words.now.ssrc (conf_of c.args.conf.now) c.in-Some.line there read odd
 
 pub returns-in-Err : goal.returns-in-Err
 returns-in-Err g c = λ conference octets there read.
     let old = outside_at g.W.World g.K.Sink c.args.world.now c.args.out.now in
     let new = outside_at g.W.World g.K.Sink c.cascade.new.world c.args.out.now in
-    let file = c.args.file.now in
-    let ssrc = c.args.ssrc in
+    let file = c.args.words.now.file.now in
+    let ssrc = c.args.words.now.ssrc in
     let conf = conf_of c.args.conf.now in
     let even : odd_line conf.legs ≡ None = sym (c.odd_line.ensures ∙ ap odd_line c.as_slice.ensures) ∙ none_odd c.odd_line.result c.in_default.not-Some in
     let P : Fault → Type 0 = λ f. Ends (command_of conference file ssrc) g.W.World.tells g.K.Sink.tells old new (ending_behind conference file conf.legs (Err f)) (Err f) in
@@ -36,15 +36,15 @@ returns g c = λ conference octets there read.
     let old = outside_at g.W.World g.K.Sink c.args.world.now c.args.out.now in
     let mid = outside_at g.W.World g.K.Sink c.cascade.new.world c.args.out.now in
     let new = outside_at g.W.World g.K.Sink c.make_outputs.new.world c.make_outputs.new.out in
-    let file = c.args.file.now in
-    let ssrc = c.args.ssrc in
+    let file = c.args.words.now.file.now in
+    let ssrc = c.args.words.now.ssrc in
     let conf = conf_of c.args.conf.now in
     let mixed = c.in-Ok.mixed in
     let files = outputs_of conf.legs (recordings_of mixed.outs) in
     let printed = concat mixed.views.items in
     let command = command_of conference file ssrc in
     let even : odd_line conf.legs ≡ None = sym (c.odd_line.ensures ∙ ap odd_line c.as_slice.ensures) ∙ none_odd c.odd_line.result c.in_default.not-Some in
-    let ends = subst (λ lines. OutputsEnd g.W.World.tells g.K.Sink.tells mid new lines mixed c.make_outputs.result) c.as_slice-2.ensures c.make_outputs.ensures in
+    let ends = subst (λ lines. OutputsEnd g.W.World g.K.Sink c.cascade.new.world c.args.out.now c.make_outputs.new.world c.make_outputs.new.out lines mixed c.make_outputs.result) c.as_slice-2.ensures c.make_outputs.ensures in
     ends_since command g.W.World.tells g.K.Sink.tells old mid new (ending_behind conference file conf.legs c.make_outputs.result) c.make_outputs.result
     (record { same = c.cascade.ensures.same_contents; calls_rise = c.cascade.ensures.calls_never_fall; objects_rise = c.cascade.ensures.objects_never_fall }) refl refl c.in-Ok.ensures.none_failed c.in-Ok.ensures.opened
     (ends command (ending_behind conference file conf.legs) (names_behind conference file conf.legs)
