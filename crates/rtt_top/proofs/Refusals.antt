@@ -1,5 +1,5 @@
 -- Why a recording is refused, and what is printed of one that is not.
-use Rattle.std.proofs.Common.{◌≡◌, ℕ, List, ap, ◌∙◌}
+use Rattle.std.proofs.Common.{◌≡◌, ℕ, List, refl, ap, ◌∙◌}
 use Rattle.rtt_base.specs.declared.text_packets.Pts.{Pts}
 use Rattle.wire_spec.specs.Dump.{Recording, dump, usual_limit}
 use Rattle.rtpdump_io.specs.declared.items.RecordingFault.{RecordingFault}
@@ -7,7 +7,9 @@ use Rattle.rtpdump_io.specs.declared.items.RecordingFault.TheVariants.{Dump, NoM
 use Rattle.rtpdump_io.specs.Faults.{FaultOf}
 use Rattle.command_spec.specs.Showing.{if_no_recording, recording_view, show_view}
 use Rattle.rtt_show.specs.Gathers.{IsRefused}
-use Rattle.rtt_top.specs.RecordingViews.{IsRefusal}
+use Rattle.rtt_top.specs.declared.views.RecordingView.{RecordingView}
+use Rattle.rtt_top.specs.declared.views.RecordingView.TheVariants.{Lines, Streams, Text, Transcript}
+use Rattle.rtt_top.specs.RecordingViews.{IsRefusal, PrintsView, command_of, refused_by, view_by}
 
 -- a recording that is refused for any fault
 pub as_refusal : (recording : Recording) (fault : RecordingFault) → FaultOf recording fault → IsRefusal recording.fault fault
@@ -22,3 +24,10 @@ shown_refusal recording NoMemory refused = tt
 pub printed_is : (pts : Pts) (come : Recording) (octets printed : List ℕ) → printed ≡ recording_view pts come → come ≡ dump usual_limit octets → printed ≡ show_view pts octets
 unfolding show_view
 printed_is pts come octets printed is to = is ∙ ap (recording_view pts) to
+
+-- each view is what its command prints
+pub prints_view : (it : RecordingView) (file : List ℕ) → PrintsView (refused_by it) (view_by it) file (command_of it file)
+prints_view (Lines pts) file = record { does = refl; recording = refl }
+prints_view (Streams pts) file = record { does = refl; recording = refl }
+prints_view (Text request) file = record { does = refl; recording = refl }
+prints_view (Transcript request) file = record { does = refl; recording = refl }

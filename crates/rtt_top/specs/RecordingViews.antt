@@ -5,8 +5,14 @@ use Rattle.wire_spec.specs.Dump as dumps
 use Rattle.rtpdump_io.specs.declared.items.RecordingFault.{RecordingFault}
 use Rattle.rtpdump_io.specs.Faults.{FaultOf}
 use Rattle.command_spec.specs.declared.requests.ReadRequest.{ReadRequest}
-use Rattle.rtt_words.specs.Words.{Command, ReadWords}
+use Rattle.command_spec.specs.Listing.{list_view}
+use Rattle.command_spec.specs.Reading.{read_view}
+use Rattle.command_spec.specs.Showing.{if_no_recording, show_view}
+use Rattle.command_spec.specs.Transcripts.{transcript_view}
+use Rattle.rtt_words.specs.Words.{Command, ListRecords, Read, ReadWords, Script, Show}
 use Rattle.rtt_words.specs.Tasks.{prints_unless, work}
+use Rattle.rtt_top.specs.declared.views.RecordingView.{RecordingView}
+use Rattle.rtt_top.specs.declared.views.RecordingView.TheVariants.{Lines, Streams, Text, Transcript}
 use Rattle.rtt_top.specs.Faults.{is_recording}
 
 -- The command prints this view of the recording of this name, unless it is refused by the fault that it has.
@@ -25,3 +31,24 @@ IsRefusal refused fault = FaultOf (record { items = []; fault = refused }) fault
 -- the words that ask for this of the recording of this name
 abbrev pub words_for : ReadRequest → List ℕ → ReadWords
 words_for r file = record { file = file; ssrc = r.ssrc; source = r.source; pts = r.pts }
+
+-- the command that prints this of the recording of this name
+abbrev pub command_of : RecordingView → List ℕ → Command
+command_of (Lines pts) file = ListRecords (record { file = file; pts = pts })
+command_of (Streams pts) file = Show (record { file = file; pts = pts })
+command_of (Text request) file = Read (words_for request file)
+command_of (Transcript request) file = Script (words_for request file)
+
+-- why nothing is printed, where the recording has this fault or none
+abbrev pub refused_by : RecordingView → Option dumps.Fault → Option dumps.Fault
+refused_by (Lines pts) fault = fault
+refused_by (Streams pts) fault = if_no_recording fault
+refused_by (Text request) fault = fault
+refused_by (Transcript request) fault = fault
+
+-- the view of the recording with these octets
+abbrev pub view_by : RecordingView → List ℕ → List ℕ
+view_by (Lines pts) octets = list_view pts (dump usual_limit octets).items
+view_by (Streams pts) octets = show_view pts octets
+view_by (Text request) octets = read_view request octets
+view_by (Transcript request) octets = transcript_view request octets

@@ -11,7 +11,7 @@ use crate::recorded::{Mixing, run_mixing};
 use crate::recordings::run_view;
 use crate::trunk::run_cascade;
 use crate::version::run_version;
-use crate::views::{Lines, Streams, Text, Transcript, request_of};
+use crate::views::{RecordingView, request_of};
 use rtt_io::{Gate, Sink, World};
 use rtt_words::Command;
 use std::alloc::Global;
@@ -32,17 +32,20 @@ pub fn carry_out_plain<W: World, K: Sink, E: Sink>(
 {
     match command {
         Command::Read(words) => {
-            Some(run_view(alloc, words.file, &Text(request_of(words)), world, out, err))
+            let text = RecordingView::Text(request_of(words));
+            Some(run_view(alloc, words.file, text, world, out, err))
         }
         Command::ListRecords(words) => {
-            Some(run_view(alloc, words.file, &Lines(words.pts), world, out, err))
+            let lines = RecordingView::Lines(words.pts);
+            Some(run_view(alloc, words.file, lines, world, out, err))
         }
         Command::Show(words) => {
-            Some(run_view(alloc, words.file, &Streams(words.pts), world, out, err))
+            let streams = RecordingView::Streams(words.pts);
+            Some(run_view(alloc, words.file, streams, world, out, err))
         }
         Command::Script(words) => {
-            let transcript = Transcript(request_of(words));
-            Some(run_view(alloc, words.file, &transcript, world, out, err))
+            let transcript = RecordingView::Transcript(request_of(words));
+            Some(run_view(alloc, words.file, transcript, world, out, err))
         }
         Command::Send(words) => {
             let script = Conversion::Script(*words);

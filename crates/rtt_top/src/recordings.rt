@@ -1,59 +1,29 @@
 //! A view of a recording: the recording is opened and read, and its view is printed.
-ghost use Rattle.std.specs.Prelude.{◌≡◌, ℕ, List, Option, None, false, OnOk, IfOk, IfErr};
-ghost use Rattle.wire_spec.specs.Dump.{Fault as BrokenAt};
-ghost use Rattle.rtpdump_io.specs.Reading.{is_ended, source_of, to_come};
-ghost use Rattle.rtpdump_io.specs.Faults.{HasCause};
-ghost use Rattle.rtt_words.specs.Words.{Command};
+ghost use Rattle.std.specs.Prelude.{IfOk, IfErr};
 ghost use Rattle.command_spec.specs.Outcomes.{Same};
 ghost use Rattle.rtt_top.specs.Faults.{name_in};
-ghost use Rattle.rtt_top.specs.RecordingViews.{IsViewOf, IsRefusal, PrintsView};
+ghost use Rattle.rtt_top.specs.RecordingViews.{command_of};
 ghost use Rattle.rtt_top.specs.Worlds.{OnlyPrints, StopsOver};
 ghost use Rattle.rtt_top.specs.Across.{EndsAcross, RunsAcross};
 
 use crate::files::fault_of_recording;
 use crate::messages::{finish, print};
+use crate::views::RecordingView;
 use command_spec::Fault;
-use rtpdump_io::{DumpReader, RecordingFault};
+use rtpdump_io::DumpReader;
 use rtt_base::Bytes;
-use rtt_io::{Sink, Source, World};
+use rtt_io::{Sink, World};
 use std::alloc::Global;
 
-/// What is printed of a recording by a command.
-pub(crate) trait RecordingView {
-    /// The command that prints it of the recording of this name.
-    ghost command: { Self → List ℕ → Command };
-
-    /// Why nothing is printed, where the recording has this fault or none.
-    ghost refuses: { Self → Option BrokenAt → Option BrokenAt };
-
-    /// The view of the recording with these octets.
-    ghost view: { Self → List ℕ → List ℕ };
-
-    ghost prints: { (it : Self) (file : List ℕ) → PrintsView (refuses it) (view it) file (command it file) };
-
-    /// Reads the recording, and makes its view.
-    fn view_of<S: Source>(
-        &self,
-        alloc: Global,
-        reader: &mut DumpReader<S>,
-    ) -> Result<Bytes, RecordingFault>
-        requires open { is_ended reader.old ≡ false }
-        ensures view { S.tells → IfOk result (IsViewOf (view self.now) (to_come S.left reader.old)) }
-        ensures whole { S.tells → OnOk result (refuses self.now (to_come S.left reader.old).fault ≡ None) }
-        ensures refused { S.tells → IfErr result (IsRefusal (refuses self.now (to_come S.left reader.old).fault)) }
-        ensures failed { IfErr result (HasCause S.faults reader.old reader.new) }
-        ensures same_name { S.name (source_of reader.new) ≡ S.name (source_of reader.old) };
-}
-
 /// The view of the recording of this name.
-fn view_under<V: RecordingView, W: World>(
+fn view_under<W: World>(
     alloc: Global,
     name: &str,
-    view: &V,
+    view: RecordingView,
     world: &mut W,
 ) -> Result<Bytes, Fault>
-    ensures stops { IfErr result (StopsOver W.World world.old world.new name.now (V.command view.now name.now)) }
-    ensures view { W.tells → IfOk result (OnlyPrints W.World world.old (V.command view.now name.now)) }
+    ensures stops { IfErr result (StopsOver W.World world.old world.new name.now (command_of view name.now)) }
+    ensures view { W.tells → IfOk result (OnlyPrints W.World world.old (command_of view name.now)) }
     ensures same_contents { W.tells → Same (W.contents world.old) (W.contents world.new) }
 {
     let Ok(source) = world.open_source(name) else {
@@ -69,14 +39,14 @@ fn view_under<V: RecordingView, W: World>(
 }
 
 /// Prints the view of the recording of this name.
-fn print_view<V: RecordingView, W: World, K: Sink>(
+fn print_view<W: World, K: Sink>(
     alloc: Global,
     name: &str,
-    view: &V,
+    view: RecordingView,
     world: &mut W,
     out: &mut K,
 ) -> Result<(), Fault>
-    ensures { EndsAcross W.World K.Sink (V.command view.now name.now) world.old out.old world.new out.new (name_in name.now name.now result) result }
+    ensures { EndsAcross W.World K.Sink (command_of view name.now) world.old out.old world.new out.new (name_in name.now name.now result) result }
 {
     match view_under(alloc, name, view, world) {
         Ok(octets) => print(octets.as_slice(), out),
@@ -85,15 +55,15 @@ fn print_view<V: RecordingView, W: World, K: Sink>(
 }
 
 /// Does a command that prints a view of the recording of this name, and answers the status.
-pub(crate) fn run_view<V: RecordingView, W: World, K: Sink, E: Sink>(
+pub(crate) fn run_view<W: World, K: Sink, E: Sink>(
     alloc: Global,
     name: &str,
-    view: &V,
+    view: RecordingView,
     world: &mut W,
     out: &mut K,
     err: &mut E,
 ) -> u8
-    ensures { RunsAcross W.World K.Sink E.Sink (V.command view.now name.now) world.old out.old err.old world.new out.new err.new result }
+    ensures { RunsAcross W.World K.Sink E.Sink (command_of view name.now) world.old out.old err.old world.new out.new err.new result }
 {
     let ending = print_view(alloc, name, view, world, out);
     finish(ending, name, name, err)

@@ -1,10 +1,12 @@
 //! What `list`, `show`, `read` and `script` print of a recording.
-ghost use Rattle.std.specs.Prelude.{◌≡◌, ℕ, List, IfOk};
+ghost use Rattle.std.specs.Prelude.{◌≡◌, ℕ, List, None, false, OnOk, IfOk, IfErr};
+ghost use Rattle.rtpdump_io.specs.Reading.{is_ended, source_of, to_come};
+ghost use Rattle.rtpdump_io.specs.Faults.{FaultOf, HasCause};
 ghost use Rattle.command_spec.specs.Reading.{read_view};
 ghost use Rattle.command_spec.specs.declared.requests.ReadRequest.{ReadRequest};
 ghost use Rattle.rtt_read.specs.Recordings.{HasHeard, HasHeardOne};
+ghost use Rattle.rtt_top.specs.RecordingViews.{IsViewOf, IsRefusal, refused_by, view_by};
 
-use crate::recordings::RecordingView;
 use command_spec::ReadRequest;
 use rtpdump_io::{DumpReader, RecordingFault};
 use rtt_base::{Bytes, NoMemory as OutOfMemory, Pts};
@@ -28,57 +30,17 @@ pub(crate) fn request_of(words: &ReadWords<'_>) -> ReadRequest
     }
 }
 
-/// `list`: a line for each record, under these payload types.
+/// What is printed of a recording.
 #[derive(Clone, Copy)]
-pub(crate) struct Lines(pub Pts);
-
-impl RecordingView for Lines {
-    ghost use Rattle.std.specs.Prelude.{refl};
-    ghost use Rattle.wire_spec.specs.Dump.{dump, usual_limit};
-    ghost use Rattle.command_spec.specs.Listing.{list_view};
-    ghost use Rattle.rtt_words.specs.Words.{ListRecords};
-
-    ghost command = { λ it file. ListRecords (record { file = file; pts = it.0 }) };
-
-    ghost refuses = { λ it fault. fault };
-
-    ghost view = { λ it octets. list_view it.0 (dump usual_limit octets).items };
-
-    ghost prints = { λ it file. record { does = refl; recording = refl } };
-
-    fn view_of<S: Source>(
-        &self,
-        alloc: Global,
-        reader: &mut DumpReader<S>,
-    ) -> Result<Bytes, RecordingFault> {
-        list_records(alloc, reader, self.0)
-    }
-}
-
-/// `show`: all that it has, as far as it can be read, under these payload types.
-#[derive(Clone, Copy)]
-pub(crate) struct Streams(pub Pts);
-
-impl RecordingView for Streams {
-    ghost use Rattle.std.specs.Prelude.{refl};
-    ghost use Rattle.command_spec.specs.Showing.{if_no_recording, show_view};
-    ghost use Rattle.rtt_words.specs.Words.{Show};
-
-    ghost command = { λ it file. Show (record { file = file; pts = it.0 }) };
-
-    ghost refuses = { λ it. if_no_recording };
-
-    ghost view = { λ it. show_view it.0 };
-
-    ghost prints = { λ it file. record { does = refl; recording = refl } };
-
-    fn view_of<S: Source>(
-        &self,
-        alloc: Global,
-        reader: &mut DumpReader<S>,
-    ) -> Result<Bytes, RecordingFault> {
-        show_recording(alloc, reader, self.0)
-    }
+pub(crate) enum RecordingView {
+    /// `list`: a line for each record, under these payload types.
+    Lines(Pts),
+    /// `show`: all that it has, as far as it can be read, under these payload types.
+    Streams(Pts),
+    /// `read`: the text that is asked for.
+    Text(ReadRequest),
+    /// `script`: when each text that is asked for could be read.
+    Transcript(ReadRequest),
 }
 
 /// The text that a terminal shows, as it is printed.
@@ -91,62 +53,47 @@ fn text_of(alloc: Global, terminal: &Terminal) -> Result<Bytes, OutOfMemory>
     Ok(text)
 }
 
-/// `read`: the text that is asked for.
-#[derive(Clone, Copy)]
-pub(crate) struct Text(pub ReadRequest);
-
-impl RecordingView for Text {
-    ghost use Rattle.std.specs.Prelude.{refl};
-    ghost use Rattle.command_spec.specs.Reading.{read_view};
-    ghost use Rattle.rtt_words.specs.Words.{Read};
-    ghost use Rattle.rtt_top.specs.RecordingViews.{words_for};
-
-    ghost command = { λ it file. Read (words_for it.0 file) };
-
-    ghost refuses = { λ it fault. fault };
-
-    ghost view = { λ it. read_view it.0 };
-
-    ghost prints = { λ it file. record { does = refl; recording = refl } };
-
-    fn view_of<S: Source>(
-        &self,
-        alloc: Global,
-        reader: &mut DumpReader<S>,
-    ) -> Result<Bytes, RecordingFault> {
-        match hear_recording(alloc, reader, self.0) {
-            Ok(terminal) => match text_of(alloc, &terminal) {
-                Ok(text) => Ok(text),
-                Err(_) => Err(RecordingFault::NoMemory),
-            },
-            Err(fault) => Err(fault),
-        }
+/// Reads the recording, and makes the view of the text that is asked for.
+fn text_heard<S: Source>(
+    alloc: Global,
+    reader: &mut DumpReader<S>,
+    request: ReadRequest,
+) -> Result<Bytes, RecordingFault>
+    requires open { is_ended reader.old ≡ false }
+    ensures view { S.tells → IfOk result (IsViewOf (read_view request) (to_come S.left reader.old)) }
+    ensures whole { S.tells → OnOk result ((to_come S.left reader.old).fault ≡ None) }
+    ensures refused { S.tells → IfErr result (FaultOf (to_come S.left reader.old)) }
+    ensures failed { IfErr result (HasCause S.faults reader.old reader.new) }
+    ensures same_name { S.name (source_of reader.new) ≡ S.name (source_of reader.old) }
+{
+    match hear_recording(alloc, reader, request) {
+        Ok(terminal) => match text_of(alloc, &terminal) {
+            Ok(text) => Ok(text),
+            Err(_) => Err(RecordingFault::NoMemory),
+        },
+        Err(fault) => Err(fault),
     }
 }
 
-/// `script`: when each text that is asked for could be read.
-#[derive(Clone, Copy)]
-pub(crate) struct Transcript(pub ReadRequest);
-
-impl RecordingView for Transcript {
-    ghost use Rattle.std.specs.Prelude.{refl};
-    ghost use Rattle.command_spec.specs.Transcripts.{transcript_view};
-    ghost use Rattle.rtt_words.specs.Words.{Script};
-    ghost use Rattle.rtt_top.specs.RecordingViews.{words_for};
-
-    ghost command = { λ it file. Script (words_for it.0 file) };
-
-    ghost refuses = { λ it fault. fault };
-
-    ghost view = { λ it. transcript_view it.0 };
-
-    ghost prints = { λ it file. record { does = refl; recording = refl } };
-
-    fn view_of<S: Source>(
-        &self,
+impl RecordingView {
+    /// Reads the recording, and makes what is printed of it.
+    pub(crate) fn view_of<S: Source>(
+        self,
         alloc: Global,
         reader: &mut DumpReader<S>,
-    ) -> Result<Bytes, RecordingFault> {
-        script_recording(alloc, reader, self.0)
+    ) -> Result<Bytes, RecordingFault>
+        requires open { is_ended reader.old ≡ false }
+        ensures view { S.tells → IfOk result (IsViewOf (view_by self) (to_come S.left reader.old)) }
+        ensures whole { S.tells → OnOk result (refused_by self (to_come S.left reader.old).fault ≡ None) }
+        ensures refused { S.tells → IfErr result (IsRefusal (refused_by self (to_come S.left reader.old).fault)) }
+        ensures failed { IfErr result (HasCause S.faults reader.old reader.new) }
+        ensures same_name { S.name (source_of reader.new) ≡ S.name (source_of reader.old) }
+    {
+        match self {
+            RecordingView::Lines(pts) => list_records(alloc, reader, pts),
+            RecordingView::Streams(pts) => show_recording(alloc, reader, pts),
+            RecordingView::Text(request) => text_heard(alloc, reader, request),
+            RecordingView::Transcript(request) => script_recording(alloc, reader, request),
+        }
     }
 }

@@ -5,6 +5,8 @@ use Rattle.rtt_words.specs.Tasks.{work}
 use Rattle.rtt_top.specs.Faults.{WhereRead}
 use Rattle.rtt_top.specs.Outside.{outside_at}
 use Rattle.rtt_top.proofs.Working.{printed, stopped}
+use Rattle.rtt_top.specs.RecordingViews.{command_of}
+use Rattle.rtt_top.proofs.Refusals.{prints_view}
 use Rattle.rtt_top.proofs.recordings.print_view.Goals as goal
 
 pub returns-in-Ok : goal.returns-in-Ok
@@ -12,8 +14,8 @@ returns-in-Ok g c =
     let old = outside_at g.W.World g.K.Sink c.args.world.now c.args.out.now in
     let new = outside_at g.W.World g.K.Sink c.view_under.new.world c.print.new.out in
     let file = c.args.name.now in
-    let command = g.V.RecordingView.command c.args.view.now file in
-    let prints = g.V.RecordingView.prints c.args.view.now file in
+    let command = command_of c.args.view file in
+    let prints = prints_view c.args.view file in
     printed command g.W.World.tells g.K.Sink.tells old new file file c.as_slice.result.now c.print.result
     (ap (λ (w : Work). w.prints) prints.does)
     (λ reads. subst (λ v. outcome old.contents (work command).steps ≡ Done v []) (sym c.as_slice.ensures)
@@ -25,6 +27,6 @@ returns-in-Err g c =
     let old = outside_at g.W.World g.K.Sink c.args.world.now c.args.out.now in
     let new = outside_at g.W.World g.K.Sink c.view_under.new.world c.args.out.now in
     let file = c.args.name.now in
-    stopped (g.V.RecordingView.command c.args.view.now file) g.W.World.tells g.K.Sink.tells old new file file c.in-Err.fault
-    (subst (λ (w : Work). IsInput g.W.World.tells old.contents w.steps 0 file) (sym (g.V.RecordingView.prints c.args.view.now file).does) refl)
+    stopped (command_of c.args.view file) g.W.World.tells g.K.Sink.tells old new file file c.in-Err.fault
+    (subst (λ (w : Work). IsInput g.W.World.tells old.contents w.steps 0 file) (sym (prints_view c.args.view file).does) refl)
     c.in-Err.ensures.stops ((λ shown. refl), c.in-Err.ensures.same_contents)

@@ -9,6 +9,8 @@ use Rattle.rtt_top.specs.Outside.{RoseAt}
 use Rattle.rtt_top.specs.Worlds.{OpenFailedIn}
 use Rattle.rtt_top.proofs.Sources.{source_failed, of_recording}
 use Rattle.rtt_top.proofs.Working.{stops_unless, views_unless}
+use Rattle.rtt_top.specs.RecordingViews.{command_of, refused_by, view_by}
+use Rattle.rtt_top.proofs.Refusals.{prints_view}
 use Rattle.rtt_top.proofs.recordings.view_under.Goals as goal
 
 pub returns-in-Err-clause-stops : goal.returns-in-Err-clause-stops
@@ -16,16 +18,16 @@ returns-in-Err-clause-stops g c =
     let before = g.W.World.object_faults c.args.world.now in
     let after = g.W.World.object_faults c.done_src.new.self in
     let file = c.args.name.now in
-    let it = c.args.view.now in
-    let prints = g.V.RecordingView.prints it file in
-    let refuses = g.V.RecordingView.refuses it in
+    let it = c.args.view in
+    let prints = prints_view it file in
+    let refuses = refused_by it in
     let fault = c.fault_of_recording.result in
     let failed : IsSourceFault c.in-Err.fault → RoseAt before after file = λ s. source_failed g.W.Src.Source.name g.W.Src.Source.faults before (g.W.World.object_faults c.open_source.new.self) after file
     (source_of c.new-reader.result) (source_of c.view_of-made.new.reader) c.into_source.result
     (ap g.W.Src.Source.name c.new-reader.ensures.source ∙ c.in-Ok.ensures.named) (ap g.W.Src.Source.faults c.new-reader.ensures.source ∙ c.in-Ok.ensures.fresh)
     c.in-Err.ensures.same_name c.into_source.ensures c.in-Ok.ensures.same_objects c.done_src.ensures.added (c.in-Err.ensures.failed s) in
-    stops_unless g.W.World.tells (g.W.World.contents c.args.world.now) (g.V.RecordingView.command it file) file
-    (λ octets. refuses (dump usual_limit octets).fault) (λ octets. Makes (g.V.RecordingView.view it octets) [])
+    stops_unless g.W.World.tells (g.W.World.contents c.args.world.now) (command_of it file) file
+    (λ octets. refuses (dump usual_limit octets).fault) (λ octets. Makes (view_by it octets) [])
     (OpenFailedIn g.W.World c.args.world.now c.done_src.new.self file) (RoseAt before after file) fault
     (ap (λ (w : Work). w.steps) prints.does) prints.recording
     (of_recording (IsSourceFault c.in-Err.fault) (RoseAt before after file) failed fault c.fault_of_recording.ensures.of_recording)
@@ -41,11 +43,11 @@ pub returns-in-Ok-made-clause-view : goal.returns-in-Ok-made-clause-view
 returns-in-Ok-made-clause-view g c = λ told.
     let held = g.W.World.contents c.args.world.now in
     let file = c.args.name.now in
-    let it = c.args.view.now in
-    let refuses = g.V.RecordingView.refuses it in
+    let it = c.args.view in
+    let refuses = refused_by it in
     let octets = g.W.Src.Source.left c.in-Ok.source in
     let P : Recording → Type 0 = λ q. refuses q.fault ≡ None in
-    ap (λ (w : Work). outcome held w.steps) (g.V.RecordingView.prints it file).does
-    ∙ views_unless held file (λ octets. refuses (dump usual_limit octets).fault) (g.V.RecordingView.view it) octets (c.in-Ok.ensures.holds told)
+    ap (λ (w : Work). outcome held w.steps) (prints_view it file).does
+    ∙ views_unless held file (λ octets. refuses (dump usual_limit octets).fault) (view_by it) octets (c.in-Ok.ensures.holds told)
     (subst P c.new-reader.ensures.to_come (c.in-Ok-made.ensures.whole (c.in-Ok.ensures.told told)))
     ∙ ap (λ v. Done v []) (sym (c.in-Ok-made.ensures.view (c.in-Ok.ensures.told told) octets c.new-reader.ensures.to_come))

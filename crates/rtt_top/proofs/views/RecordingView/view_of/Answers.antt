@@ -1,0 +1,55 @@
+use Rattle.std.proofs.Common.{◌≡◌, List, ℕ, ap, sym, subst, ◌∙◌}
+use Rattle.std.proofs.lemmas.Result.{IfErr-weaker, IfOk-weaker}
+use Rattle.std.specs.Prelude.{IfErr, IfOk}
+use Rattle.rtpdump_io.specs.Faults.{FaultOf}
+use Rattle.rtpdump_io.specs.Reading.{to_come}
+use Rattle.wire_spec.specs.Dump.{Recording, dump, usual_limit}
+use Rattle.command_spec.specs.Listing.{list_view}
+use Rattle.command_spec.specs.Showing.{if_no_recording, recording_view, show_view}
+use Rattle.rtt_show.specs.Gathers.{IsRefused}
+use Rattle.rtt_top.specs.declared.views.RecordingView.{RecordingView}
+use Rattle.rtt_top.specs.RecordingViews.{IsRefusal, IsViewOf, refused_by, view_by}
+use Rattle.rtt_top.proofs.Refusals.{as_refusal, printed_is, shown_refusal}
+use Rattle.rtt_top.proofs.views.RecordingView.view_of.Goals as goal
+
+pub returns-in-Lines-clause-view : goal.returns-in-Lines-clause-view
+returns-in-Lines-clause-view g c = λ told.
+    let come = to_come g.S.Source.left c.args.reader.now in
+    let pts = c.in-Lines.pts in
+    let Listed : List ℕ → Type 0 = λ lines. lines ≡ list_view pts come.items in
+    subst (λ (it : RecordingView). IfOk c.list_records.result (IsViewOf (view_by it) come)) (sym c.in-Lines.is)
+    (IfOk-weaker c.list_records.result Listed (IsViewOf (λ octets. list_view pts (dump usual_limit octets).items) come)
+    (λ lines is octets e. is ∙ ap (λ (r : Recording). list_view pts r.items) e) (c.list_records.ensures.listed told))
+
+pub returns-in-Streams-clause-view : goal.returns-in-Streams-clause-view
+returns-in-Streams-clause-view g c = λ told.
+    let come = to_come g.S.Source.left c.args.reader.now in
+    let pts = c.in-Streams.pts in
+    let Printed : List ℕ → Type 0 = λ printed. printed ≡ recording_view pts come in
+    subst (λ (it : RecordingView). IfOk c.show_recording.result (IsViewOf (view_by it) come)) (sym c.in-Streams.is)
+    (IfOk-weaker c.show_recording.result Printed (IsViewOf (show_view pts) come)
+    (λ printed is octets e. printed_is pts come octets printed is e) (c.show_recording.ensures.shown told))
+
+pub returns-in-Streams-clause-refused : goal.returns-in-Streams-clause-refused
+returns-in-Streams-clause-refused g c = λ told.
+    let come = to_come g.S.Source.left c.args.reader.now in
+    subst (λ (it : RecordingView). IfErr c.show_recording.result (IsRefusal (refused_by it come.fault))) (sym c.in-Streams.is)
+    (IfErr-weaker c.show_recording.result (IsRefused come) (IsRefusal (if_no_recording come.fault)) (shown_refusal come) (c.show_recording.ensures.refused told))
+
+pub returns-in-Lines-clause-refused : goal.returns-in-Lines-clause-refused
+returns-in-Lines-clause-refused g c = λ told.
+    let come = to_come g.S.Source.left c.args.reader.now in
+    subst (λ (it : RecordingView). IfErr c.list_records.result (IsRefusal (refused_by it come.fault))) (sym c.in-Lines.is)
+    (IfErr-weaker c.list_records.result (FaultOf come) (IsRefusal come.fault) (as_refusal come) (c.list_records.ensures.reads.fault told))
+
+pub returns-in-Text-clause-refused : goal.returns-in-Text-clause-refused
+returns-in-Text-clause-refused g c = λ told.
+    let come = to_come g.S.Source.left c.args.reader.now in
+    subst (λ (it : RecordingView). IfErr c.text_heard.result (IsRefusal (refused_by it come.fault))) (sym c.in-Text.is)
+    (IfErr-weaker c.text_heard.result (FaultOf come) (IsRefusal come.fault) (as_refusal come) (c.text_heard.ensures.refused told))
+
+pub returns-in-Transcript-clause-refused : goal.returns-in-Transcript-clause-refused
+returns-in-Transcript-clause-refused g c = λ told.
+    let come = to_come g.S.Source.left c.args.reader.now in
+    subst (λ (it : RecordingView). IfErr c.script_recording.result (IsRefusal (refused_by it come.fault))) (sym c.in-Transcript.is)
+    (IfErr-weaker c.script_recording.result (FaultOf come) (IsRefusal come.fault) (as_refusal come) (c.script_recording.ensures.reads.fault told))
