@@ -5,6 +5,7 @@ use Rattle.file_spec.specs.declared.conf_lines.Form.TheVariants.{Links}
 use Rattle.file_spec.specs.Conf.{Conf, conf}
 use Rattle.file_spec.specs.Lines as lines
 use Rattle.mixer_spec.specs.Setups.{leg_at}
+use Rattle.rtt_io.specs.declared.sinks.Sink as sinks
 use Rattle.serve_spec.specs.Served as served
 use Rattle.serve_spec.proofs.LinksStay.{apart_law, stay_law}
 use Rattle.live_loop.specs.Walks.{IsPaused}
@@ -26,10 +27,10 @@ use Rattle.command_spec.specs.Serving.{serves_read, serving}
 use Rattle.command_spec.specs.Messages.{Ending, status_of}
 use Rattle.rtt_top.specs.Conferences.{ending_name, fault_of_live, name_of, serving_of}
 use Rattle.rtt_top.specs.Faults.{Stops}
-use Rattle.rtt_top.specs.Outside.{Failed, LinksLeft, Output, Outside}
+use Rattle.rtt_top.specs.Outside.{Failed, LinksLeft, Output, Outside, output_at}
 use Rattle.rtt_top.specs.Ports.{LegFailed}
 use Rattle.rtt_top.specs.Runs.{Prints, PrintsFront, Ends, Runs}
-use Rattle.rtt_top.specs.Lives.{EndsServing, Front, IsServedFrom, ServedAs, IsServedTo, IsWatchedTo, LiveEnds, RunsLive, RunsWatched, Share, Whole, is_unserved, status_at}
+use Rattle.rtt_top.specs.Lives.{EndsServing, Front, IsServedFrom, ServedAs, IsServedTo, IsWatchedTo, LiveEnds, PrintsReport, ServingEnds, RunsLive, RunsWatched, Share, Whole, is_unserved, status_at}
 use Rattle.rtt_top.specs.Statuses.{is_unread}
 use Rattle.rtt_top.proofs.Working.{lies}
 use Rattle.rtt_top.proofs.Ending.{runs}
@@ -112,6 +113,17 @@ pub shown : (S : served.End → List ℕ → Type 0) (OutTells : Type 0) (old ne
 shown S OutTells old new before after c end printed (Ok u) s fault cause whole partly = (end, printed, s, whole)
 shown S OutTells old new before after c end printed (Err f) s fault cause whole partly =
     subst (λ g. LiveEnds S OutTells old new before after c (Err g)) (sym fault) (cause, (end, printed, s, partly))
+
+-- a call that is answered so, of which this is printed, ends so
+pub answered : {K : Type 0} (k : sinks.Ghosts K) (S : Conf → Type 0 → LinksLeft → LinksLeft → served.End → List ℕ → Type 0) (LinksTell : Type 0) (old new : LinksLeft) (before after : K) (c : Conf)
+    (answer : Result LiveReport LiveFault) (ending : Ending) → IfOk answer (λ r. ServedAs S LinksTell old new c (end_of r.end) r.views) → IfErr answer (WasGivenUp old.calls new.calls old.ends new.ends c)
+    → PrintsReport k answer before after ending → ServingEnds (S c LinksTell old new) k.tells old new (output_at k before) (output_at k after) c ending
+answered {K} k S LinksTell old new before after c (Ok r) ending seen given_up_so prints = λ octets read.
+    shown (S c LinksTell old new) k.tells old new (output_at k before) (output_at k after) c (end_of r.end) r.views ending (seen octets read) prints.0 prints.1 prints.2 prints.3
+answered {K} k S LinksTell old new before after c (Err fault) ending seen given_up_so prints = λ octets read.
+    let EndsAt : K → Ending → Type 0 = λ out e. LiveEnds (S c LinksTell old new) k.tells old new (output_at k before) (output_at k out) c e in
+    subst (λ out. EndsAt out ending) (sym prints.0)
+    (subst (EndsAt before) (sym prints.1) (given_up (S c LinksTell old new) k.tells old new (output_at k before) c fault given_up_so))
 
 -- ---- how the command ends
 served_outcome : (held : Contents) (file octets : List ℕ) (c : Conf) → held file ≡ Some octets → conf Links octets ≡ Ok c → outcome held (serving file) ≡ Served c

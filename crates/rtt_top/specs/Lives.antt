@@ -1,5 +1,5 @@
 -- What a live call leaves (profile).
-use Rattle.std.specs.Prelude.{◌≡◌, ◌==◌, ◌||◌, ℕ, Bool, true, not, Option, None, Some, List, ◌++◌, take, Ok, Err}
+use Rattle.std.specs.Prelude.{◌≡◌, ◌==◌, ◌||◌, ℕ, Bool, true, not, Option, None, Some, List, ◌++◌, take, Result, Ok, Err, IfErr, OnErr}
 use Rattle.link_spec.specs.Links.{Takes}
 use Rattle.file_spec.specs.declared.conf_lines.Form.TheVariants.{Links}
 use Rattle.file_spec.specs.Conf.{Conf, conf}
@@ -12,17 +12,18 @@ use Rattle.serve_spec.specs.Served.{End, Done, Closed, IsServed}
 use Rattle.serve_spec.specs.Watched.{IsBoardOf}
 use Rattle.serve_spec.specs.HeadLive.{HeadLive}
 use Rattle.live_loop.specs.Walks.{IsPaused}
-use Rattle.link_io.specs.declared.links.Links as links
+use Rattle.rtt_io.specs.declared.sinks.Sink as sinks
+use Rattle.live_run.specs.declared.faults.LiveFault.{LiveFault}
 use Rattle.live_run.specs.declared.reports.LiveReport.{LiveReport}
 use Rattle.live_run.specs.Calls.{AtPorts}
-use Rattle.live_run.specs.Reports.{end_of}
 use Rattle.rtt_top.specs.declared.serving.Serving.{Serving}
 use Rattle.rtt_top.specs.declared.serving.Serving.TheVariants.{Alone, Watched}
-use Rattle.rtt_top.specs.Conferences.{serving_of}
+use Rattle.rtt_top.specs.Conferences.{fault_of_live, serving_of}
 use Rattle.rtt_top.specs.Faults.{is_live}
-use Rattle.rtt_top.specs.Outside.{Failed, LinksLeft, Output, Outside, left_by}
+use Rattle.rtt_top.specs.Outside.{Failed, LinksLeft, Output, Outside, output_at}
 use Rattle.rtt_top.specs.Ports.{LegFailed}
 use Rattle.rtt_top.specs.Runs.{Ends, Prints, PrintsFront}
+use Rattle.rtt_top.specs.Sinks.{Wrote, WrotePartly}
 use Rattle.rtt_top.specs.Statuses.{is_unread}
 
 -- A live call of a conference was served to this end, and this was printed of it: the legs' links gave this and were given that, and it
@@ -56,10 +57,6 @@ served_by Watched c LinksTell old new = IsWatchedTo c LinksTell old new
 abbrev pub ServedAs : (S : Conf → Type 0 → LinksLeft → LinksLeft → End → List ℕ → Type 0) → Type 0 → LinksLeft → LinksLeft → Conf → End → List ℕ → Type 0
 ServedAs S LinksTell old new c end printed = (octets : List ℕ) → conf Links octets ≡ Ok c → S c LinksTell old new end printed
 
--- this tells of such a call that was served so, from what links were to what they are
-abbrev pub IsReportOf : {L I O : Type 0} → Serving → links.Ghosts L I O → L → L → Conf → LiveReport → Type 0
-IsReportOf serving l old new c report = ServedAs (served_by serving) l.tells (left_by l old) (left_by l new) c (end_of report.end) report.views
-
 -- it was served to some end, as S says, and this holds of what was printed of it
 abbrev pub IsServedWith : (S : End → List ℕ → Type 0) → (List ℕ → Type 0) → Type 0
 IsServedWith S P = (end : End) × (printed : List ℕ) × S end printed × P printed
@@ -83,6 +80,14 @@ LiveEnds S OutTells old new before after c (Err NoMemory) = after ≡ before
 abbrev pub ServingEnds : (S : End → List ℕ → Type 0) (OutTells : Type 0) → (old new : LinksLeft) → (before after : Output) → Conf → Ending → Type 0
 ServingEnds S OutTells old new before after c ending =
     (octets : List ℕ) → conf Links octets ≡ Ok c → LiveEnds S OutTells old new before after c ending
+
+-- what was seen of a call is printed, where this was served; or nothing is, and the ending tells why it was given up
+abbrev pub PrintsReport : {K : Type 0} → sinks.Ghosts K → Result LiveReport LiveFault → K → K → Ending → Type 0
+PrintsReport k (Ok report) old new ending = IfErr ending (λ fault. fault ≡ CannotPrint)
+    × OnErr ending (Failed (output_at k old) (output_at k new))
+    × Wrote k old new report.views ending
+    × WrotePartly k old new report.views ending
+PrintsReport k (Err fault) old new ending = (new ≡ old) × (ending ≡ Err (fault_of_live fault))
 
 -- what the output took: all that is printed, or a front of it, where it failed
 pub data Share : Type 0 where

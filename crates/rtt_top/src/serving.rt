@@ -1,10 +1,10 @@
 //! A live call of the conference of a file is served, and what was seen is printed.
-ghost use Rattle.std.specs.Prelude.{◌≡◌, true, IfOk, IfErr};
+ghost use Rattle.std.specs.Prelude.{◌≡◌, true};
 ghost use Rattle.conference.specs.Conferences.{conf_of};
-ghost use Rattle.live_run.specs.Calls.{IsOfLinks, WasGivenUp};
+ghost use Rattle.live_run.specs.Calls.{IsOfLinks};
 ghost use Rattle.rtt_words.specs.Commands.{mixed};
 ghost use Rattle.rtt_top.specs.Conferences.{fault_of_live};
-ghost use Rattle.rtt_top.specs.Lives.{EndsServing, IsReportOf, IsServedFrom, ServingEnds, Share, is_unserved, served_by, status_at};
+ghost use Rattle.rtt_top.specs.Lives.{EndsServing, IsServedFrom, PrintsReport, ServingEnds, Share, is_unserved, served_by, status_at};
 ghost use Rattle.rtt_top.specs.Outside.{left_by, outside_over, output_at};
 
 use crate::conferences::{conf_under, name_at_end};
@@ -30,26 +30,6 @@ pub(crate) enum Serving {
     Watched,
 }
 
-/// Serves a live call of a conference of links.
-fn serve_call<R: Threads + Wait + Clock + Copy + Send + Sync + 'static, L: Links, G: Gate + Sync>(
-    serving: Serving,
-    rt: &R,
-    alloc: Global,
-    conf: &Conf,
-    links: &mut L,
-    gate: &G,
-) -> Result<LiveReport, LiveFault>
-    requires { IsOfLinks (conf_of conf.now) }
-    ensures served { IfOk result (IsReportOf serving L.Links links.old links.new (conf_of conf.now)) }
-    ensures given_up { IfErr result (WasGivenUp (L.own_faults links.old) (L.own_faults links.new)
-        (L.object_faults links.old) (L.object_faults links.new) (conf_of conf.now)) }
-{
-    match serving {
-        Serving::Alone => serve(rt, alloc, conf, links, gate),
-        Serving::Watched => serve_watched(rt, alloc, conf, links, gate),
-    }
-}
-
 /// The fault of a command for that of a live call.
 fn fault_of_live(fault: LiveFault) -> Fault
     ensures { result ≡ fault_of_live fault }
@@ -59,6 +39,16 @@ fn fault_of_live(fault: LiveFault) -> Fault
             leg: u32::from(leg),
         },
         LiveFault::NoMemory => Fault::NoMemory,
+    }
+}
+
+/// Prints what was seen of a live call that was served, or answers the fault that ended it.
+fn print_report<K: Sink>(served: Result<LiveReport, LiveFault>, out: &mut K) -> Result<(), Fault>
+    ensures { PrintsReport K.Sink served out.old out.new result }
+{
+    match served {
+        Ok(report) => print(report.views.as_slice(), out),
+        Err(fault) => Err(fault_of_live(fault)),
     }
 }
 
@@ -81,11 +71,16 @@ fn serve_conf<
     ensures { ServingEnds (served_by serving (conf_of conf.now) L.tells (left_by L.Links links.old) (left_by L.Links links.new)) K.tells
         (left_by L.Links links.old) (left_by L.Links links.new) (output_at K.Sink out.old) (output_at K.Sink out.new) (conf_of conf.now) result }
 {
-    let report = match serve_call(serving, rt, alloc, conf, links, gate) {
-        Ok(report) => report,
-        Err(fault) => return Err(fault_of_live(fault)),
-    };
-    print(report.views.as_slice(), out)
+    match serving {
+        Serving::Alone => {
+            let served = serve(rt, alloc, conf, links, gate);
+            print_report(served, out)
+        }
+        Serving::Watched => {
+            let served = serve_watched(rt, alloc, conf, links, gate);
+            print_report(served, out)
+        }
+    }
 }
 
 /// Serves a live call of the conference of a file, and answers the status.
