@@ -17,7 +17,7 @@ use Rattle.item_queue.specs.Giving.{GivesMore, items_by}
 use Rattle.link_io.specs.declared.ends.LinkIn as links
 use Rattle.link_io.specs.declared.ends.Came.{Came}
 use Rattle.link_spec.specs.Links.{Takes, is_closed}
-use Rattle.live_spec.specs.Told.{all_by, all_told, ready_by, told_by}
+use Rattle.live_spec.specs.Told.{Hearing, all_by, all_told, ready_by, told_by}
 use Rattle.live_leg.specs.declared.items.LegItem.{LegItem}
 use Rattle.live_leg.specs.declared.kinds.ItemKind.{ItemKind}
 use Rattle.live_leg.specs.declared.kinds.ItemKind.TheVariants as kind
@@ -43,24 +43,23 @@ filter_swap p q (x ∷ xs) = go (p x) (q x) refl refl (filter_swap p q xs)
     go false true e f h = rw e h
     go false false e f h = h
 
+-- what is ready by these takes, where the link is closed or not
+abbrev ready_where : Hearing → Takes → Bool → List Chunk
+ready_where h takes closed = let d = told_by h takes in if closed then all_told h d else filter (is_ready_by d.moment) (chunks h.wait h.leg (still d.past) h.ssrc)
+
 ready_open : (conf : EarConf) (takes : Takes) (story : Story) → (told_by (hearing_of conf) takes).closed ≡ false → ToldAs (hearing_of conf) takes story
     → filter is_lively_chunk (ready_chunks conf conf.ssrc story) ≡ ready_by (hearing_of conf) takes
 ready_open conf takes story o s =
-    let h = hearing_of conf in
-    let d = told_by h takes in
-    let F : Bool → List Chunk = λ b. if b then all_told h d else filter (is_ready_by d.moment) (chunks h.wait h.leg (still d.past) h.ssrc) in
+    let d = told_by (hearing_of conf) takes in
     filter_swap is_lively_chunk (is_ready_by story.moment) (chunks conf.wait 0 story.past conf.ssrc)
     ∙ (ap (λ cs. filter (is_ready_by story.moment) cs) (sym (chunks_still conf.wait 0 story.past conf.ssrc))
     ∙ (ap (λ (a : List Arrival). filter (is_ready_by story.moment) (chunks conf.wait 0 (still a) conf.ssrc)) s.past
-    ∙ (ap (λ (n : ℕ). filter (is_ready_by n) (chunks conf.wait 0 (still d.past) conf.ssrc)) (s.moment o) ∙ ap F (sym o))))
+    ∙ (ap (λ (n : ℕ). filter (is_ready_by n) (chunks conf.wait 0 (still d.past) conf.ssrc)) (s.moment o) ∙ ap (ready_where (hearing_of conf) takes) (sym o))))
 
 ready_closed : (conf : EarConf) (takes : Takes) (story : Story) → (told_by (hearing_of conf) takes).closed ≡ true → ToldAs (hearing_of conf) takes story
     → filter is_lively_chunk (story_chunks conf conf.ssrc story) ≡ ready_by (hearing_of conf) takes
 ready_closed conf takes story o s =
-    let h = hearing_of conf in
-    let d = told_by h takes in
-    let F : Bool → List Chunk = λ b. if b then all_told h d else filter (is_ready_by d.moment) (chunks h.wait h.leg (still d.past) h.ssrc) in
-    sym (chunks_still conf.wait 0 story.past conf.ssrc) ∙ (ap (λ (a : List Arrival). chunks conf.wait 0 (still a) conf.ssrc) s.past ∙ ap F (sym o))
+    sym (chunks_still conf.wait 0 story.past conf.ssrc) ∙ (ap (λ (a : List Arrival). chunks conf.wait 0 (still a) conf.ssrc) s.past ∙ ap (ready_where (hearing_of conf) takes) (sym o))
 
 one_lively : (c : Chunk) → is_lively_chunk c ≡ true → filter is_lively_chunk (c ∷ []) ≡ c ∷ []
 one_lively c e = ap (λ b. cond b (c ∷ []) []) e
