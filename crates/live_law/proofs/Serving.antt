@@ -25,7 +25,7 @@ use Rattle.live_loop.specs.Walks.{IsServing}
 use Rattle.live_loop.proofs.Others.{other_hand, other_took}
 use Rattle.live_law.specs.Covers.{Covers}
 use Rattle.live_law.specs.Laws.{IsAnswered, IsJoined}
-use Rattle.live_law.proofs.Covering.{covers}
+use Rattle.live_law.proofs.Covering.{covers, covers_by}
 use Rattle.live_law.proofs.Following.{calls_law}
 
 pub answered : {L G : Type 0} (g : links.Ghosts L) (first back : LinkLeg L) (started now : Lane LegItem (LinkLeg L) G) → IsJoined g first back started now → IsAnswered g first back now
@@ -70,19 +70,7 @@ module _ {I M : Type 0} (popped : I → List Item) (stands : M → Setup → (�
   items_above (q ∷ ps) (suc i) high = items_above ps i (omega (arith, high))
 
   none_covers : (h : Hearing) (takes : Takes) (items : List Item) → takes ≡ [] → items ≡ [] → Covers h takes items
-  none_covers h takes items e i = subst (λ (l : List Item). Covers h takes l) (sym i) (subst (λ (as' : Takes). Covers h as' []) (sym e) (record {
-    later = [];
-    counting = [];
-    given = [];
-    tail = [];
-    left = [];
-    takes_are = refl;
-    are = refl;
-    no_marks = tt;
-    items_are = refl;
-    last = tt;
-    front = (all_by h [], refl);
-  }))
+  none_covers h takes items e i = subst (λ (l : List Item). Covers h takes l) (sym i) (subst (λ (as' : Takes). Covers h as' []) (sym e) (covers_by h [] [] [] [] refl (all_by h [], refl) [] [] [] [] tt refl refl tt refl))
 
   pub serving : (s : Setup) (pts : ℕ → Pts) (turns : ℕ) (ps : List (LivePort I)) (m : M) (v : IsServing popped stands s pts turns ps m) (hears : ℕ → Hearing) (takes : ℕ → Takes)
       → s.legs ≡ length ps → ((i : ℕ) → (hears i).leg ≡ i) → ((i : ℕ) → s.legs ≤ i → takes i ≡ []) → ((j : ℕ) (p : LivePort I) → slice_get ps j ≡ Some p → Covers (hears j) (takes j) (popped p.inlet))
