@@ -1,61 +1,43 @@
 -- A live call before its first turn.
-use Rattle.std.proofs.Common.{◌≡◌, ℕ, true≢false, inl, Option, Some, None, List, [], ◌∷◌, refl, ap, sym, ◌∙◌, arith}
-use Rattle.std.specs.Prelude.{if◌then◌else◌}
+use Rattle.std.proofs.Common.{◌≡◌, ℕ, true≢false, inl, Some, None, List, [], ◌∷◌, refl, ap, sym, ◌∙◌, arith}
+use Rattle.std.specs.Prelude.{Bool, if◌then◌else◌}
 use Rattle.rtt_base.specs.declared.text_packets.Pts.{Pts}
 use Rattle.stream_spec.specs.Ready.{chunk_of}
 use Rattle.mixer_spec.specs.Setups.{Setup}
-use Rattle.mixer_spec.specs.Table.{Call, Admit, Hush, Leave, Offer, Turn, Table, after_calls, chunks_taken, come_to, free_place}
+use Rattle.mixer_spec.specs.Table.{Call, Admit, Hush, Leave, Offer, Taken, Turn, after_calls, chunks_taken, free_place}
 use Rattle.mixer_spec.specs.Calls.{took, turns_made}
 use Rattle.mixer_spec.specs.Legs.{held}
+use Rattle.mixer_spec.proofs.Legs.{come_taken}
 use Rattle.live_leg.specs.Items.{Item}
 use Rattle.live_loop.specs.declared.ports.LivePort.{LivePort}
 use Rattle.live_loop.specs.Handed.{AreLiveCalls, free_after, hand_after}
 use Rattle.live_loop.specs.Ports.{PortAt}
 use Rattle.live_loop.specs.Begun.{AreAdmits, IsUnpopped, MayBegin}
 
+-- what holds of no call and goes on with each leg that comes holds of calls by which legs only come
+by_admits : (s : Setup) (P : List Call → Type 0) → P [] → ((j : ℕ) (l : Bool) (past : List Call) → AreAdmits s (Admit j l ∷ past) → P past → P (Admit j l ∷ past)) → (calls : List Call) → AreAdmits s calls → P calls
+by_admits s P z f [] a = z
+by_admits s P z f (Admit j l ∷ past) a = f j l past a (by_admits s P z f past a.1)
+by_admits s P z f (Hush j ∷ past) a = absurd a
+by_admits s P z f (Leave j ∷ past) a = absurd a
+by_admits s P z f (Offer c ∷ past) a = absurd a
+by_admits s P z f (Turn now ∷ past) a = absurd a
+
 hand_none : (s : Setup) (i : ℕ) (calls : List Call) → AreAdmits s calls → hand_after s i calls ≡ None
-hand_none s i [] a = refl
-hand_none s i (Admit j l ∷ past) a = hand_none s i past a.1
-hand_none s i (Hush j ∷ past) a = absurd a
-hand_none s i (Leave j ∷ past) a = absurd a
-hand_none s i (Offer c ∷ past) a = absurd a
-hand_none s i (Turn now ∷ past) a = absurd a
+hand_none s i = by_admits s (λ calls. hand_after s i calls ≡ None) refl (λ j l past a h. h)
 
 free_none : (s : Setup) (i : ℕ) (calls : List Call) → AreAdmits s calls → free_after s i calls ≡ 0
-free_none s i [] a = refl
-free_none s i (Admit j l ∷ past) a = free_none s i past a.1
-free_none s i (Hush j ∷ past) a = absurd a
-free_none s i (Leave j ∷ past) a = absurd a
-free_none s i (Offer c ∷ past) a = absurd a
-free_none s i (Turn now ∷ past) a = absurd a
+free_none s i = by_admits s (λ calls. free_after s i calls ≡ 0) refl (λ j l past a h. h)
 
 no_turn : (s : Setup) (calls : List Call) → AreAdmits s calls → turns_made calls ≡ 0
-no_turn s [] a = refl
-no_turn s (Admit j l ∷ past) a = no_turn s past a.1
-no_turn s (Hush j ∷ past) a = absurd a
-no_turn s (Leave j ∷ past) a = absurd a
-no_turn s (Offer c ∷ past) a = absurd a
-no_turn s (Turn now ∷ past) a = absurd a
+no_turn s = by_admits s (λ calls. turns_made calls ≡ 0) refl (λ j l past a h. h)
 
 none_taken : (s : Setup) (i : ℕ) (calls : List Call) → AreAdmits s calls → took s i calls ≡ []
-none_taken s i [] a = refl
-none_taken s i (Admit j l ∷ past) a = go (after_calls s past) (free_place s (after_calls s past).seats) ∙ none_taken s i past a.1
-  where
-    go : (t : Table) (p : Option ℕ) → chunks_taken ((come_to j l t p).taken i) ≡ chunks_taken (t.taken i)
-    go t None = refl
-    go t (Some p) = refl
-none_taken s i (Hush j ∷ past) a = absurd a
-none_taken s i (Leave j ∷ past) a = absurd a
-none_taken s i (Offer c ∷ past) a = absurd a
-none_taken s i (Turn now ∷ past) a = absurd a
+none_taken s i = by_admits s (λ calls. took s i calls ≡ []) refl
+    (λ j l past a h. let t = after_calls s past in ap (λ (taken : ℕ → List Taken). chunks_taken (taken i)) (come_taken j l t (free_place s t.seats)) ∙ h)
 
 live_admits : (s : Setup) (items : ℕ → List Item) (calls : List Call) → AreAdmits s calls → AreLiveCalls s items calls
-live_admits s items [] a = tt
-live_admits s items (Admit j l ∷ past) a = (a.0, live_admits s items past a.1)
-live_admits s items (Hush j ∷ past) a = absurd a
-live_admits s items (Leave j ∷ past) a = absurd a
-live_admits s items (Offer c ∷ past) a = absurd a
-live_admits s items (Turn now ∷ past) a = absurd a
+live_admits s items = by_admits s (AreLiveCalls s items) tt (λ j l past a h. (a.0, h))
 
 port_begun : {I : Type 0} (popped : I → List Item) (s : Setup) (calls : List Call) (i : ℕ) (p : LivePort I) → AreAdmits s calls → IsUnpopped popped p → PortAt popped s calls i (free_after s i calls) p
 port_begun popped s calls i p a u = record {

@@ -10,15 +10,7 @@ impl<I> HasInlet<I> for LivePort<I> {
     ghost inlet = { λ p. p.inlet };
 
     fn into_inlet(self) -> I {
-        let LivePort {
-            inlet,
-            leg: _,
-            hand: _,
-            full: _,
-            ended: _,
-            failed: _,
-        } = self;
-        inlet
+        self.inlet
     }
 }
 

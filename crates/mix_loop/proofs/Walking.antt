@@ -1,5 +1,5 @@
 -- One port after the other: legs go, come, and offer.
-use Rattle.std.proofs.Common.{◌≡◌, ◌<◌, ◌+◌, ℕ, suc, Bool, true, false, cond, inl, inr, Some, None, List, length, set, refl, ap, sym, subst, ◌∙◌, arith}
+use Rattle.std.proofs.Common.{◌≡◌, ◌<◌, ◌+◌, ℕ, suc, Bool, true, false, cond, inl, inr, Some, None, List, length, get_or, set, refl, ap, sym, subst, ◌∙◌, arith}
 use Rattle.std.specs.Prelude.{slice_get}
 use Rattle.std.proofs.lemmas.Bool.{cases_eq}
 use Rattle.mixer_spec.specs.Setups.{Setup}
@@ -11,12 +11,16 @@ use Rattle.mix_loop.specs.Items.{Gave, is_open}
 use Rattle.mix_loop.specs.Mixers.{At}
 use Rattle.mix_loop.specs.Ports.{SeatAt, SeatsKept, StaysAs, OnlySeat, SameSeat, IsSound, Holds, Gathered, GatheredTo, hand_of, is_away, is_to_leave}
 use Rattle.mix_loop.specs.Turns.{Known, AreSound, KnownAt, IsNow, BecomesBy, GoesBy, OffersBy, Settled, comes}
-use Rattle.mix_loop.proofs.Lists.{get_within, get_set_same, get_set_other}
+use Rattle.mix_loop.proofs.Lists.{get_there, get_within, get_set_same, get_set_other}
 use Rattle.mix_loop.proofs.Places.{stopped_kept, departed_kept, entered_kept}
 use Rattle.mix_loop.proofs.Reaching.{seated, goes_one, comes_one, offers_one, settled_same, kept_more, no_others, becomes_none, becomes_more, known_on}
 
 -- ---- ports that are sound
 module _ {I F : Type 0} (good : I → Type 0) where
+  -- one that is read at an index
+  pub sound_read : (ps : List (Port I F)) (i : ℕ) (x : Port I F) → AreSound good ps → i < length ps → IsSound good i (get_or ps i x)
+  sound_read ps i x a low = a i (get_or ps i x) (get_there ps i x low)
+
   pub sound_set : (ps : List (Port I F)) (i : ℕ) (q : Port I F) → AreSound good ps → i < length ps → IsSound good i q → AreSound good (set ps i q)
   sound_set ps i q a low sound j r e = elim (cases_eq j i) [
     | inl same ↦

@@ -73,15 +73,7 @@ impl<I: Inlet> HasInlet<I> for Port<I> {
     ghost inlet = { λ p. p.inlet };
 
     fn into_inlet(self) -> I {
-        let Port {
-            inlet,
-            hand: _,
-            full: _,
-            ended: _,
-            stay: _,
-            seat: _,
-        } = self;
-        inlet
+        self.inlet
     }
 }
 

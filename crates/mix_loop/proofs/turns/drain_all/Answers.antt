@@ -1,6 +1,6 @@
-use Rattle.std.proofs.Common.{◌≡◌, ◌<◌, ℕ, length, get_or, subst, arith}
+use Rattle.std.proofs.Common.{◌≡◌, ◌<◌, ℕ, length, subst, arith}
 use Rattle.mix_loop.specs.Turns.{DrainsTo}
-use Rattle.mix_loop.proofs.Walking.{sound_set}
+use Rattle.mix_loop.proofs.Walking.{sound_read, sound_set}
 use Rattle.mix_loop.proofs.Finding.{drains_none, drains_more}
 use Rattle.mix_loop.proofs.Lists.{get_there}
 use Rattle.mix_loop.proofs.turns.drain_all.Goals as goal
@@ -12,19 +12,13 @@ pub drain-requires-clause-few : goal.drain-requires-clause-few
 drain-requires-clause-few g c = omega (arith, c.loop-leg-test.true, c.loop-leg.auto.ports, c.requires.few)
 
 pub drain-requires-clause-sound : goal.drain-requires-clause-sound
-drain-requires-clause-sound g c =
-    let low : c.loop-leg.leg < length c.loop-leg.ports = omega (arith, c.loop-leg-test.true, c.loop-leg.auto.ports) in
-    let p = get_or c.loop-leg.ports c.loop-leg.leg c.index-ports-leg.result in
-    let at = get_there c.loop-leg.ports c.loop-leg.leg c.index-ports-leg.result low in
-    c.loop-leg.invariant.0 c.loop-leg.leg p at
+drain-requires-clause-sound g c = sound_read g.I.Inlet.good c.loop-leg.ports c.loop-leg.leg c.index-ports-leg.result c.loop-leg.invariant.0 (omega (arith, c.loop-leg-test.true, c.loop-leg.auto.ports))
 
 pub loop-leg-preserved : goal.loop-leg-preserved
 loop-leg-preserved g c =
-    let low : c.loop-leg.leg < length c.loop-leg.ports = omega (arith, c.loop-leg-test.true, c.loop-leg.auto.ports) in
-    let p = get_or c.loop-leg.ports c.loop-leg.leg c.index-ports-leg.result in
-    let at = get_there c.loop-leg.ports c.loop-leg.leg c.index-ports-leg.result low in (
+    let low : c.loop-leg.leg < length c.loop-leg.ports = omega (arith, c.loop-leg-test.true, c.loop-leg.auto.ports) in (
       sound_set g.I.Inlet.good c.loop-leg.ports c.loop-leg.leg c.drain.new.self c.loop-leg.invariant.0 low c.drain.ensures.sound,
-      λ s firsts kn known. drains_more g.I.Inlet.stands s firsts kn c.loop-leg.leg c.loop-leg.ports p c.drain.new.self (c.loop-leg.invariant.1 s firsts kn known) at c.drain.ensures.same c.drain.ensures.closed c.drain.ensures.drained,
+      λ s firsts kn known. drains_more g.I.Inlet.stands s firsts kn c.loop-leg.leg c.loop-leg.ports _ c.drain.new.self (c.loop-leg.invariant.1 s firsts kn known) (get_there c.loop-leg.ports c.loop-leg.leg c.index-ports-leg.result low) c.drain.ensures.same c.drain.ensures.closed c.drain.ensures.drained,
     )
 
 pub returns-clause-drains : goal.returns-clause-drains

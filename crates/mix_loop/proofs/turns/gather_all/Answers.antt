@@ -4,7 +4,7 @@ use Rattle.mix_loop.specs.Turns.{OffersBy}
 use Rattle.mix_loop.specs.Mixers.{Of}
 use Rattle.mix_loop.proofs.Offering.{keeps_none, keeps_more}
 use Rattle.mix_loop.proofs.Reaching.{becomes_none}
-use Rattle.mix_loop.proofs.Walking.{offer_more, sound_set}
+use Rattle.mix_loop.proofs.Walking.{offer_more, sound_read, sound_set}
 use Rattle.mix_loop.proofs.Lists.{get_there}
 use Rattle.mix_loop.proofs.turns.gather_all.Goals as goal
 
@@ -22,11 +22,7 @@ pub gather-requires-clause-leg : goal.gather-requires-clause-leg
 gather-requires-clause-leg g c = let e = c.loop-leg.invariant.1.legs in omega (arith, c.loop-leg-test.true, e, c.requires.legs)
 
 pub gather-requires-clause-sound : goal.gather-requires-clause-sound
-gather-requires-clause-sound g c =
-    let low : c.loop-leg.leg < length c.loop-leg.ports = omega (arith, c.loop-leg-test.true, c.loop-leg.auto.ports) in
-    let p = get_or c.loop-leg.ports c.loop-leg.leg c.index-ports-leg.result in
-    let at = get_there c.loop-leg.ports c.loop-leg.leg c.index-ports-leg.result low in
-    c.loop-leg.invariant.0 c.loop-leg.leg p at
+gather-requires-clause-sound g c = sound_read g.I.Inlet.good c.loop-leg.ports c.loop-leg.leg c.index-ports-leg.result c.loop-leg.invariant.0 (omega (arith, c.loop-leg-test.true, c.loop-leg.auto.ports))
 
 pub loop-leg-preserved : goal.loop-leg-preserved
 loop-leg-preserved g c =
