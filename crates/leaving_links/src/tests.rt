@@ -1,68 +1,95 @@
 use crate::Leaving;
 use link_io::{Came, FailingLink, LinkIn, Links, MemLinks, Planned};
-use rtt_base::{NoMemory, Packet};
+use rtt_base::{Bytes, NoMemory, Packet};
 use std::alloc::Global;
 use std::test::Fail;
 
-/// A packet of 1001: the text `Hi`.
-const TEXT: &[u8] = b"\x80\xE2\x00\x05\x00\x00\x00\x64\x00\x00\x03\xE9Hi";
+/// A leaving of 1001 with an octet too many.
+const BROKEN: Datagram = Octets(b"\x81\xCB\0\x01\0\0\x03\xE9\0");
 
-/// 1001 leaves.
-const LEAVING: &[u8] = b"\x81\xCB\x00\x01\x00\x00\x03\xE9";
+/// A packet of 1001 with payload type 75 and M bit 1: RTCP by its second octet, and none that can be read.
+const UNREAD: Datagram = Octets(b"\x80\xCB\0\x05\0\0\0\x64\0\0\x03\xE9");
 
-/// 1002 leaves.
-const OTHER: &[u8] = b"\x81\xCB\x00\x01\x00\x00\x03\xEA";
+/// What comes, of an SSRC.
+#[derive(Clone, Copy)]
+enum Datagram {
+    /// A packet: the text `Hi`.
+    Text(u32),
+    /// An empty report.
+    Report(u32),
+    /// A leaving.
+    Bye(u32),
+    /// A report and a leaving behind it, as terminals send them.
+    ReportAndBye(u32),
+    /// Any octets.
+    Octets(&'static [u8]),
+}
 
-/// An empty report of 1001.
-const REPORT: &[u8] = b"\x80\xC9\x00\x01\x00\x00\x03\xE9";
+use Datagram::{Bye, Octets, Report, ReportAndBye, Text};
 
 /// Datagrams that come one after the other, and how many of them are told before the link is closed.
 #[derive(Clone, Copy)]
-struct Story(&'static [&'static [u8]], usize);
+struct Story(&'static [Datagram], usize);
 
 /// The own BYE, alone, closes for good.
-const LEAVES: Story = Story(&[TEXT, LEAVING, TEXT, REPORT], 1);
+const LEAVES: Story = Story(&[Text(1001), Bye(1001), Text(1001), Report(1001)], 1);
 
-/// Behind a report in one datagram, as terminals send them, it does too.
-const REPORTS_AND_LEAVES: Story = Story(
-    &[
-        TEXT,
-        REPORT,
-        b"\x80\xC9\x00\x01\x00\x00\x03\xE9\x81\xCB\x00\x01\x00\x00\x03\xE9",
-    ],
-    2,
-);
-
-/// A leaving of 1001 with an octet too many.
-const BROKEN: &[u8] = b"\x81\xCB\x00\x01\x00\x00\x03\xE9\x00";
-
-/// A packet of 1001 with payload type 75 and M bit 1: RTCP by its second octet, and none that can be read.
-const UNREAD: &[u8] = b"\x80\xCB\x00\x05\x00\x00\x00\x64\x00\x00\x03\xE9";
+/// Behind a report it does too.
+const REPORTS_AND_LEAVES: Story = Story(&[Text(1001), Report(1001), ReportAndBye(1001)], 2);
 
 /// Nobody else closes the link, once the peer has sent text, nor does what can't be read.
 const GOES_ON: Story = Story(
-    &[b"", REPORT, BROKEN, UNREAD, TEXT, OTHER, BROKEN, UNREAD],
+    &[
+        Octets(b""),
+        Report(1001),
+        BROKEN,
+        UNREAD,
+        Text(1001),
+        Bye(1002),
+        BROKEN,
+        UNREAD,
+    ],
     8,
 );
 
 /// Before text of the peer, any BYE does.
-const NEVER_SPOKE: Story = Story(&[REPORT, OTHER, TEXT], 1);
+const NEVER_SPOKE: Story = Story(&[Report(1001), Bye(1002), Text(1001)], 1);
 
-/// The last SSRC counts, here that of a text of 1002.
-const ANOTHER_STREAM: Story = Story(
-    &[
-        TEXT,
-        b"\x80\xE2\x00\x05\x00\x00\x00\x64\x00\x00\x03\xEAHi",
-        LEAVING,
-        OTHER,
-    ],
-    3,
-);
+/// The last SSRC counts.
+const ANOTHER_STREAM: Story = Story(&[Text(1001), Text(1002), Bye(1001), Bye(1002)], 3);
+
+fn append_head(octets: &mut Bytes, head: &[u8], ssrc: u32) -> Result<(), NoMemory> {
+    octets.append(head)?;
+    octets.append(&ssrc.to_be_bytes())
+}
+
+fn append_datagram(octets: &mut Bytes, datagram: Datagram) -> Result<(), NoMemory> {
+    match datagram {
+        Text(ssrc) => {
+            append_head(octets, b"\x80\xE2\0\x05\0\0\0\x64", ssrc)?;
+            octets.append(b"Hi")
+        }
+        Report(ssrc) => append_head(octets, b"\x80\xC9\0\x01", ssrc),
+        Bye(ssrc) => append_head(octets, b"\x81\xCB\0\x01", ssrc),
+        ReportAndBye(ssrc) => {
+            append_head(octets, b"\x80\xC9\0\x01", ssrc)?;
+            append_head(octets, b"\x81\xCB\0\x01", ssrc)
+        }
+        Octets(all) => octets.append(all),
+    }
+}
 
 // Plans that these come, one after the other.
-fn plan_all(links: &mut MemLinks, alloc: Global, datagrams: &[&[u8]]) -> Result<(), NoMemory> {
-    for octets in datagrams {
-        links.plan(5001, Planned::new(alloc, 100, Came::Datagram, octets)?)?;
+fn plan_all(links: &mut MemLinks, alloc: Global, datagrams: &[Datagram]) -> Result<(), NoMemory> {
+    for datagram in datagrams {
+        let mut octets = Bytes::new(alloc);
+        append_datagram(&mut octets, *datagram)?;
+        let planned = Planned {
+            at: 100,
+            came: Came::Datagram,
+            octets,
+        };
+        links.plan(5001, planned)?;
     }
     Ok(())
 }
