@@ -18,31 +18,25 @@ wait 500
 stay Bob 100 900
 ";
 
-/// The name `Ann Lee` of 1001.
-const ANN_LEE: &[u8] = b"\x81\xCA\0\x04\0\0\x03\xE9\x02\x07Ann Lee\0\0\0";
-/// The name `Eve` of 1001.
-const EVE: &[u8] = b"\x81\xCA\0\x03\0\0\x03\xE9\x02\x03Eve\0\0\0";
-/// The name `Zoe` of 1002.
-const ZOE: &[u8] = b"\x81\xCA\0\x03\0\0\x03\xEA\x02\x03Zoe\0\0\0";
-/// The name `Bob` of 1001.
-const BOB: &[u8] = b"\x81\xCA\0\x03\0\0\x03\xE9\x02\x03Bob\0\0\0";
-/// The name `A!` of 1001.
-const NO_NAME: &[u8] = b"\x81\xCA\0\x03\0\0\x03\xE9\x02\x02A!\0\0\0\0";
 /// A name of 1001 that is no UTF-8.
 const NO_TEXT: &[u8] = b"\x81\xCA\0\x02\0\0\x03\xE9\x02\x01\xFF\0";
-/// A name of 1001 of 33 letters.
-const LONG: &[u8] =
-    b"\x81\xCA\0\x0B\0\0\x03\xE9\x02\x21abcdefghijklmnopqrstuvwxyzabcdefg\0\0\0\0\0";
 /// The name `Eve` of 1001, without the octet that ends the chunk.
 const CUT: &[u8] = b"\x81\xCA\0\x03\0\0\x03\xE9\x02\x06Eve\0\0\0";
-/// 1001 leaves.
-const ANN_LEAVES: &[u8] = b"\x81\xCB\0\x01\0\0\x03\xE9";
-/// 1002 leaves.
-const BOB_LEAVES: &[u8] = b"\x81\xCB\0\x01\0\0\x03\xEA";
+/// A name of 33 letters.
+const LONG: &str = "abcdefghijklmnopqrstuvwxyzabcdefg";
 
-/// The moment of a record of RTCP (milliseconds), and its octets.
+/// A record of RTCP at its moment (milliseconds).
 #[derive(Clone, Copy)]
-struct Record(u32, &'static [u8]);
+enum Record {
+    /// This SSRC has this name.
+    Named(u32, u32, &'static str),
+    /// This SSRC leaves.
+    Leaves(u32, u32),
+    /// These octets.
+    Octets(u32, &'static [u8]),
+}
+
+use Record::{Leaves, Named, Octets};
 
 /// What an input has, and what is to be known then: the leg's name and the end of its stay, 0 for none.
 #[derive(Clone, Copy)]
@@ -52,46 +46,74 @@ const NO_RECORDS: &[Record] = &[];
 
 const ANNS: &[Case] = &[
     Case(&[], "Ann", 0),
-    Case(&[Record(0, ANN_LEE)], "Ann_Lee", 0),
-    Case(&[Record(0, EVE), Record(1, ANN_LEE)], "Eve", 0),
-    Case(&[Record(0, NO_NAME), Record(1, EVE)], "Ann", 0),
-    Case(&[Record(0, LONG)], "Ann", 0),
-    Case(&[Record(0, BOB)], "Ann", 0),
-    Case(&[Record(0, ZOE)], "Ann", 0),
-    Case(&[Record(0, NO_TEXT), Record(1, EVE)], "Eve", 0),
-    Case(&[Record(0, CUT), Record(1, ANN_LEE)], "Ann_Lee", 0),
-    Case(&[Record(100, ANN_LEAVES)], "Ann", 601),
-    Case(
-        &[Record(100, BOB_LEAVES), Record(200, ANN_LEAVES)],
-        "Ann",
-        701,
-    ),
-    Case(
-        &[Record(300, ANN_LEAVES), Record(400, ANN_LEAVES)],
-        "Ann",
-        801,
-    ),
-    Case(&[Record(300, ZOE), Record(100, ANN_LEAVES)], "Ann", 801),
-    Case(&[Record(14_400_000, ANN_LEAVES)], "Ann", 0),
+    Case(&[Named(0, 1001, "Ann Lee")], "Ann_Lee", 0),
+    Case(&[Named(0, 1001, "Eve"), Named(1, 1001, "Zoe")], "Eve", 0),
+    Case(&[Named(0, 1001, "A!"), Named(1, 1001, "Eve")], "Ann", 0),
+    Case(&[Named(0, 1001, LONG)], "Ann", 0),
+    Case(&[Named(0, 1001, "Bob")], "Ann", 0),
+    Case(&[Named(0, 1002, "Zoe")], "Ann", 0),
+    Case(&[Octets(0, NO_TEXT), Named(1, 1001, "Eve")], "Eve", 0),
+    Case(&[Octets(0, CUT), Named(1, 1001, "Ann Lee")], "Ann_Lee", 0),
+    Case(&[Leaves(100, 1001)], "Ann", 601),
+    Case(&[Leaves(100, 1002), Leaves(200, 1001)], "Ann", 701),
+    Case(&[Leaves(300, 1001), Leaves(400, 1001)], "Ann", 801),
+    Case(&[Named(300, 1002, "Zoe"), Leaves(100, 1001)], "Ann", 801),
+    Case(&[Leaves(14_400_000, 1001)], "Ann", 0),
 ];
 
 const BOBS: &[Case] = &[
     Case(&[], "Bob", 900),
-    Case(&[Record(0, ZOE)], "Zoe", 900),
-    Case(&[Record(200, BOB_LEAVES)], "Bob", 701),
-    Case(&[Record(600, BOB_LEAVES)], "Bob", 900),
+    Case(&[Named(0, 1002, "Zoe")], "Zoe", 900),
+    Case(&[Leaves(200, 1002)], "Bob", 701),
+    Case(&[Leaves(600, 1002)], "Bob", 900),
 ];
 
-fn add_records(recording: &mut Bytes, records: &[Record]) -> Result<(), NoMemory> {
+/// The octets of a description of this name, of at most 40 octets. Behind it there is a zero octet at least, up to a whole
+/// number of words.
+fn append_name(octets: &mut Bytes, ssrc: u32, name: &str) -> Result<(), NoMemory> {
+    let size = name.len().min(40) as u8;
+    let words = (size + 6) / 4 + 1;
+    octets.append(&[0x81, 0xCA, 0, words])?;
+    octets.append(&ssrc.to_be_bytes())?;
+    octets.append(&[2, size])?;
+    octets.append(name.as_bytes())?;
+    octets.append(&[0; 4][..usize::from(words * 4 - size - 6)])
+}
+
+fn append_leaving(octets: &mut Bytes, ssrc: u32) -> Result<(), NoMemory> {
+    octets.append(b"\x81\xCB\0\x01")?;
+    octets.append(&ssrc.to_be_bytes())
+}
+
+fn append_record(recording: &mut Bytes, at: u32, octets: &[u8]) -> Result<(), NoMemory> {
+    // No record here has more than 100 octets.
+    let size = 8 + octets.len().min(100) as u16;
+    recording.append(&size.to_be_bytes())?;
+    recording.append(&[0, 0])?;
+    recording.append(&at.to_be_bytes())?;
+    recording.append(octets)
+}
+
+fn add_record(alloc: Global, recording: &mut Bytes, record: Record) -> Result<(), NoMemory> {
+    let mut octets = Bytes::new(alloc);
+    match record {
+        Named(at, ssrc, name) => {
+            append_name(&mut octets, ssrc, name)?;
+            append_record(recording, at, octets.as_slice())
+        }
+        Leaves(at, ssrc) => {
+            append_leaving(&mut octets, ssrc)?;
+            append_record(recording, at, octets.as_slice())
+        }
+        Octets(at, all) => append_record(recording, at, all),
+    }
+}
+
+fn add_records(alloc: Global, recording: &mut Bytes, records: &[Record]) -> Result<(), NoMemory> {
     match records {
-        [Record(at, octets), rest @ ..] => {
-            // No record here has more than 100 octets.
-            let size = 8 + octets.len().min(100) as u16;
-            recording.append(&size.to_be_bytes())?;
-            recording.append(&[0, 0])?;
-            recording.append(&at.to_be_bytes())?;
-            recording.append(octets)?;
-            add_records(recording, rest)
+        [first, rest @ ..] => {
+            add_record(alloc, recording, *first)?;
+            add_records(alloc, recording, rest)
         }
         [] => Ok(()),
     }
@@ -100,7 +122,7 @@ fn add_records(recording: &mut Bytes, records: &[Record]) -> Result<(), NoMemory
 fn recording(alloc: Global, records: &[Record]) -> Result<Bytes, NoMemory> {
     let mut recording = Bytes::new(alloc);
     write_opening(&mut recording)?;
-    add_records(&mut recording, records)?;
+    add_records(alloc, &mut recording, records)?;
     Ok(recording)
 }
 
@@ -199,9 +221,12 @@ fn what_is_told_of_a_leg(rt: HostRuntime) -> Result<(), Fail> {
 
 #[test]
 fn a_name_that_came_before_is_not_given_again(rt: HostRuntime) -> Result<(), Fail> {
-    let zoe: &[Record] = &[Record(0, b"\x81\xCA\0\x03\0\0\x03\xE9\x02\x03Zoe\0\0\0")];
     let mut conf = call(rt.alloc())?;
-    let mut world = call_world(rt.alloc(), zoe, &[Record(0, ZOE)])?;
+    let mut world = call_world(
+        rt.alloc(),
+        &[Named(0, 1001, "Zoe")],
+        &[Named(0, 1002, "Zoe")],
+    )?;
     assert!(rt; hear_names(rt.alloc(), &mut conf, &mut world).is_ok());
     assert!(rt; is_known(&conf, 0, "Zoe", 0));
     assert!(rt; is_known(&conf, 1, "Bob", 900));
