@@ -1,8 +1,7 @@
 //! Malicious and truncated input, and how each is answered.
-use crate::plays::Piece::{Octets, Packet, Plain};
-use crate::plays::{
-    Failure, Piece, View, eight_times, ends, failures_told, recording_of, views_seen,
-};
+use crate::plays::Case::{Silent, View};
+use crate::plays::Piece::{First, Octets, Packet, Plain};
+use crate::plays::{Case, Piece, eight_times, left};
 use rtt_base::{Bytes, NoMemory};
 use rtt_io::MemWorld;
 use std::alloc::Global;
@@ -35,32 +34,29 @@ const CUT: [Piece<'static>; 1] = [Octets(b"\0\x14\0\x0D\0\0\0\0\x80\x62\0\0\0\0\
 // Packets of which all but seven are refused.
 const PACKETS: [Piece<'static>; 22] = [
     Packet(0, b"\x80"),
-    Packet(0, b"\x40\xE4\0\0\0\0\0\0\0\0\x03\xE9"),
-    Packet(0, b"\x81\xE4\0\0\0\0\0\0\0\0\x03\xE9"),
-    Packet(0, b"\xA0\xE4\0\0\0\0\0\0\0\0\x03\xE9\0"),
-    Packet(0, b"\xA0\xE4\0\0\0\0\0\0\0\0\x03\xE9"),
-    Packet(0, b"\xA0\x62\0\0\0\0\0\0\0\0\x03\xE9A\x01"),
-    Packet(
-        0,
-        b"\x90\x62\0\0\0\0\0\0\0\0\x03\xE9\xBE\xDE\0\x01\0\0\0\0A",
-    ),
-    Packet(0, b"\x90\x62\0\0\0\0\0\0\0\0\x03\xE9\xBE\xDE\0\x02\0\0\0\0"),
-    Packet(0, b"\x82\x62\0\0\0\0\0\0\0\0\x03\xE9\0\0\0\x01\0\0\0\x02A"),
-    Packet(0, b"\x81\x62\0\0\0\0\0\0\0\0\x03\xE9\0\0\0\x07A"),
-    Packet(0, b"\x80\0\0\0\0\0\0\0\0\0\x03\xE9A"),
-    Packet(0, b"\x80\x62\0\0\0\0\0\0\0\0\x03\xE9"),
-    Packet(0, b"\x80\x64\0\0\0\0\0\0\0\0\x03\xE9"),
-    Packet(0, b"\x80\x64\0\0\0\0\0\0\0\0\x03\xE9\xE2\xFF\xFC"),
-    Packet(0, b"\x80\x64\0\0\0\0\0\0\0\0\x03\xE9\xE2\xFF\xFC\x01\x62"),
-    Packet(0, b"\x80\x64\0\0\0\0\0\0\0\0\x03\xE9\xE1\xFF\xFC\0\x62"),
+    First(b"\x40\xE4", b""),
+    First(b"\x81\xE4", b""),
+    First(b"\xA0\xE4", b"\0"),
+    First(b"\xA0\xE4", b""),
+    First(b"\xA0\x62", b"A\x01"),
+    First(b"\x90\x62", b"\xBE\xDE\0\x01\0\0\0\0A"),
+    First(b"\x90\x62", b"\xBE\xDE\0\x02\0\0\0\0"),
+    First(b"\x82\x62", b"\0\0\0\x01\0\0\0\x02A"),
+    First(b"\x81\x62", b"\0\0\0\x07A"),
+    First(b"\x80\0", b"A"),
+    First(b"\x80\x62", b""),
+    First(b"\x80\x64", b""),
+    First(b"\x80\x64", b"\xE2\xFF\xFC"),
+    First(b"\x80\x64", b"\xE2\xFF\xFC\x01\x62"),
+    First(b"\x80\x64", b"\xE1\xFF\xFC\0\x62"),
     // eight blocks of redundancy, and nine
-    Packet(
-        0,
-        b"\x80\x64\0\0\0\0\0\0\0\0\x03\xE9\xE2\xFF\xFC\0\xE2\xFF\xFC\0\xE2\xFF\xFC\0\xE2\xFF\xFC\0\xE2\xFF\xFC\0\xE2\xFF\xFC\0\xE2\xFF\xFC\0\xE2\xFF\xFC\0\x62A",
+    First(
+        b"\x80\x64",
+        b"\xE2\xFF\xFC\0\xE2\xFF\xFC\0\xE2\xFF\xFC\0\xE2\xFF\xFC\0\xE2\xFF\xFC\0\xE2\xFF\xFC\0\xE2\xFF\xFC\0\xE2\xFF\xFC\0\x62A",
     ),
-    Packet(
-        0,
-        b"\x80\x64\0\0\0\0\0\0\0\0\x03\xE9\xE2\xFF\xFC\0\xE2\xFF\xFC\0\xE2\xFF\xFC\0\xE2\xFF\xFC\0\xE2\xFF\xFC\0\xE2\xFF\xFC\0\xE2\xFF\xFC\0\xE2\xFF\xFC\0\xE2\xFF\xFC\0\x62A",
+    First(
+        b"\x80\x64",
+        b"\xE2\xFF\xFC\0\xE2\xFF\xFC\0\xE2\xFF\xFC\0\xE2\xFF\xFC\0\xE2\xFF\xFC\0\xE2\xFF\xFC\0\xE2\xFF\xFC\0\xE2\xFF\xFC\0\xE2\xFF\xFC\0\x62A",
     ),
     // 1023 octets of text, and 1024
     Octets(b"\x04\x13\x04\x0B\0\0\0\0\x80\x62\0\0\0\0\0\0\0\0\x03\xE9"),
@@ -69,7 +65,7 @@ const PACKETS: [Piece<'static>; 22] = [
     Octets(&[b'A'; 1024]),
 ];
 
-const ANSWERS: [View<'static>; 10] = [
+const ANSWERS: [Case<'static>; 11] = [
     View(
         &SIXTEEN_SOURCES,
         "read a.rtp 1001",
@@ -115,6 +111,8 @@ const ANSWERS: [View<'static>; 10] = [
         "| \n-- bells 0\n-- packets 1 used 0 refused 1 foreign 0\n",
     ),
     View(&CUT, "list a.rtp", "0 cut\n-- records 1\n"),
+    // packets of all kinds
+    View(&PACKETS, "list a.rtp", LISTED),
 ];
 
 const LISTED: &str = "\
@@ -141,11 +139,9 @@ const LISTED: &str = "\
 -- records 20
 ";
 
-const COPIES: &[u8] = b"| A\n-- bells 0\n-- packets 10000 used 1 refused 0 foreign 0\n";
+const COPIES: &str = "| A\n-- bells 0\n-- packets 10000 used 1 refused 0 foreign 0\n";
 
-const REFUSALS: [View<'static>; 1] = [View(&PACKETS, "list a.rtp", LISTED)];
-
-const TOO_LARGE: [Failure<'static>; 1] = [Failure("mix c.txt", 5, "c.txt line 0: Large\n")];
+const TOO_LARGE: [Case<'static>; 1] = [Silent("mix c.txt", 5, "c.txt line 0: Large\n")];
 
 fn ten_times(alloc: Global, octets: &[u8]) -> Result<Bytes, NoMemory> {
     let mut all = eight_times(alloc, octets)?;
@@ -178,24 +174,13 @@ fn large_conference(alloc: Global) -> Result<Bytes, NoMemory> {
 
 #[test]
 fn hostile_input_is_answered(rt: HostRuntime) -> Result<(), Fail> {
-    assert_eq!(rt; views_seen(&rt, rt.alloc(), &ANSWERS)?, ANSWERS.len());
-    let copies = copies(rt.alloc())?;
-    let recording = recording_of(rt.alloc(), &[Octets(copies.as_slice())])?;
     let mut world = MemWorld::new(rt.alloc());
-    world.add_file("a.rtp", recording.as_slice())?;
-    assert!(rt;
-        ends(
-            &rt,
-            rt.alloc(),
-            &mut world,
-            "read a.rtp 1001",
-            0,
-            COPIES,
-            b""
-        )?
-    );
-    assert_eq!(rt; views_seen(&rt, rt.alloc(), &REFUSALS)?, 1);
+    assert_eq!(rt; left(&rt, rt.alloc(), &mut world, &ANSWERS)?, 0);
+    let copies = copies(rt.alloc())?;
+    let pieces = [Octets(copies.as_slice())];
+    let copied = [View(&pieces, "read a.rtp 1001", COPIES)];
+    assert_eq!(rt; left(&rt, rt.alloc(), &mut world, &copied)?, 0);
     world.add_file("c.txt", large_conference(rt.alloc())?.as_slice())?;
-    assert_eq!(rt; failures_told(&rt, rt.alloc(), &mut world, &TOO_LARGE)?, 1);
+    assert_eq!(rt; left(&rt, rt.alloc(), &mut world, &TOO_LARGE)?, 0);
     Ok(())
 }

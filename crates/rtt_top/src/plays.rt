@@ -1,4 +1,5 @@
 //! Runs over files in memory, and what each has to leave.
+use crate::failing::{End, ends_with_first};
 use crate::run;
 use link_io::{Came, FailingLink, MemLinks, Planned};
 use rtt_base::{Bytes, NoMemory, Path};
@@ -20,121 +21,155 @@ pub enum Piece<'a> {
     Packet(u32, &'a [u8]),
     /// A packet of plain text: its millisecond, sequence number, timestamp and text.
     Plain(u32, u16, u32, &'a [u8]),
+    /// A packet at 0 ms with sequence number 0 and timestamp 0: its first two octets, and those behind its SSRC.
+    First(&'a [u8], &'a [u8]),
     /// RTCP: its millisecond and its octets.
     Rtcp(u32, &'a [u8]),
     /// Octets as they are.
     Octets(&'a [u8]),
 }
 
-/// A recording, the words of a run over it as `a.rtp`, and what that prints.
+/// What a take of a link gives: its moment, what came, and the octets of a datagram.
 #[derive(Clone, Copy)]
-pub struct View<'a>(pub &'a [Piece<'a>], pub &'a str, pub &'a str);
+pub struct Coming<'a>(pub u32, pub Came, pub &'a [u8]);
 
-/// The words of a run that prints nothing, its status, and what is told.
+/// What the links of Ann and of Bob give, the call of a link that fails, and the line of how many turns are made.
 #[derive(Clone, Copy)]
-pub struct Failure<'a>(pub &'a str, pub u8, pub &'a str);
+pub struct Line<'a>(
+    pub &'a [Coming<'a>],
+    pub &'a [Coming<'a>],
+    pub Option<FailingLink>,
+    pub &'a str,
+);
 
-/// A script that is sent, and what `read` then shows.
+/// What is run, and what that is to leave.
 #[derive(Clone, Copy)]
-pub struct Call<'a>(pub &'a str, pub &'a str);
+pub enum Case<'a> {
+    /// A recording, the words of a run over it as `a.rtp`, and what that prints.
+    View(&'a [Piece<'a>], &'a str, &'a str),
+    /// The words of a run that prints nothing, its status, and what is told.
+    Silent(&'a str, u8, &'a str),
+    /// Words outside the word table.
+    Wrong(&'a str),
+    /// A script that is sent, and what `read` then shows.
+    Sent(&'a str, &'a str),
+    /// Frames of 1001 that are relayed and come back, and the recording between.
+    Relayed(&'a [u8], &'a [Piece<'a>]),
+    /// What Ann types, what Bob types, and what is printed where a third one, Cy, whose terminal is old, listens.
+    Mixed(&'a str, &'a str, &'a str),
+    /// What Ann's recording has, and what `attend` prints of her call with Bob, who types nothing.
+    Attended(&'a [Piece<'a>], &'a str),
+    /// What is recorded of a mixer that sent under 9000, and what `cascade` prints of Ann behind it and Cy, who types nothing.
+    Behind(&'a [Piece<'a>], &'a str),
+    /// What the links of Ann and of Bob, who types nothing, give in so many turns; what `live` prints behind what Ann sees, and
+    /// what `watch` prints behind that.
+    Live(&'a Line<'a>, &'a str, &'a str),
+    /// A live call that ends with a fault of Bob's link, by `live` and by `watch`.
+    LinkFault(&'a Line<'a>),
+    /// The words of a run, its outputs in the order in which they are written, and what ends it: the first of these, though the
+    /// others would end it too.
+    Ended(&'a str, &'a [&'a str], &'a [End<'a>]),
+}
 
-/// What Ann types, what Bob types, and what is printed where a third one, Cy, whose terminal is old, listens.
+// The words of a run, its status, and what it writes on `out` and on `err`.
 #[derive(Clone, Copy)]
-pub struct Mixing<'a>(pub &'a str, pub &'a str, pub &'a str);
+struct Ran<'a>(&'a str, u8, &'a str, &'a str);
 
-/// What Ann's recording has, and what `attend` prints of her call with Bob, who types nothing.
-#[derive(Clone, Copy)]
-pub struct Attended<'a>(pub &'a [Piece<'a>], pub &'a str);
+/// The lines of a conference of Ann and Bob.
+pub const MIXER: &str = "mixer 9000 100 5000\n";
 
-/// What is recorded of a mixer that sent under 9000, and what `cascade` prints of Ann behind it and Cy, who types nothing.
-#[derive(Clone, Copy)]
-pub struct Behind<'a>(pub &'a [Piece<'a>], pub &'a str);
+pub const ANN: &str = "leg Ann aware 1001 a.in a.out\n";
 
-const TRUNK: &[u8] = b"mixer 9001 0 0
-leg Ann aware 1001 trunk x.out
-leg Cy aware 2001 cy.in y.out
-";
+pub const BOB: &str = "leg Bob aware 1002 b.in b.out\n";
 
-const TWO: &[u8] = b"mixer 9000 100 5000
-leg Ann aware 1001 a.in a.out
-leg Bob aware 1002 b.in b.out
-wait 0
-";
+/// The lines of a conference of Ann, who is behind another mixer, and Cy.
+pub const NEXT_MIXER: &str = "mixer 9001 0 0\n";
 
-const THREE: &[u8] = b"mixer 9000 0 0
+pub const TRUNK: &str = "leg Ann aware 1001 trunk x.out\n";
+
+pub const CY: &str = "leg Cy aware 2001 cy.in y.out\n";
+
+const THREE: &str = "mixer 9000 0 0
 leg Ann aware 1001 ann.rtp to-ann.rtp
 leg Bob aware 1002 bob.rtp to-bob.rtp
 leg Cy unaware 1003 cy.rtp to-cy.rtp
 ";
 
-/// What a take of a link gives: its moment, what came, and the octets of a datagram.
-#[derive(Clone, Copy)]
-pub struct Coming<'a>(pub u32, pub Came, pub &'a [u8]);
-
-/// What the links of Ann and of Bob give, which call of a link is to fail, how many turns are made, and the status, output
-/// and error of the call.
-#[derive(Clone, Copy)]
-pub struct Live<'a> {
-    pub ann: &'a [Coming<'a>],
-    pub bob: &'a [Coming<'a>],
-    pub failing: Option<FailingLink>,
-    pub turns: &'a str,
-    pub status: u8,
-    pub out: &'a str,
-    pub err: &'a str,
-}
-
-const LINKS: &[u8] = b"mixer 9000 0 0
+// A live conference, but for how many turns it has.
+const LINKS: &str = "mixer 9000 0 0
 leg Ann aware 1001 5001 127.0.0.1:5101
 leg Bob aware 1002 5002 127.0.0.1:5102
-turns ";
+";
 
-/// What a run left: its status, and what it wrote.
-#[derive(Drop)]
-struct Ran {
-    status: u8,
-    out: MemSink,
-    err: MemSink,
+// What Ann sees of Bob, who types nothing.
+const SEEN_BY_ANN: &str =
+    "== Ann aware\nBob: \n-- Bob bells 0\n-- packets 0 used 0 refused 0 foreign 0\n";
+
+// What is told of words outside the word table.
+const USAGE: &str = "\
+usage: rtt_program read FILE SSRC [SOURCE [T140 RED]]
+\x20      rtt_program list FILE [T140 RED]
+\x20      rtt_program send SCRIPT OUT SSRC SEQ STAMP
+\x20      rtt_program mix CONF
+\x20      rtt_program attend CONF
+\x20      rtt_program cascade FILE SSRC CONF
+\x20      rtt_program make N
+\x20      rtt_program live CONF
+\x20      rtt_program watch CONF
+\x20      rtt_program relay FRAMES OUT SSRC SEQ STAMP
+\x20      rtt_program channel FILE SSRC OUT
+\x20      rtt_program show FILE [T140 RED]
+\x20      rtt_program script FILE SSRC [SOURCE [T140 RED]]
+\x20      rtt_program version
+";
+
+fn size(octets: &[u8]) -> u16 {
+    u16::try_from(octets.len()).unwrap_or(0)
+}
+
+// What stands before the octets of a record: how many they are, how many its packet had, and its moment.
+fn append_head(recording: &mut Bytes, octets: u16, packet: u16, at: u32) -> Result<(), NoMemory> {
+    recording.append(&octets.saturating_add(8).to_be_bytes())?;
+    recording.append(&packet.to_be_bytes())?;
+    recording.append(&at.to_be_bytes())
 }
 
 fn append_packet(recording: &mut Bytes, at: u32, packet: &[u8]) -> Result<(), NoMemory> {
-    let size = u16::try_from(packet.len()).unwrap_or(0);
-    recording.append(&size.saturating_add(8).to_be_bytes())?;
-    recording.append(&size.to_be_bytes())?;
-    recording.append(&at.to_be_bytes())?;
+    let size = size(packet);
+    append_head(recording, size, size, at)?;
     recording.append(packet)
 }
 
 fn append_rtcp(recording: &mut Bytes, at: u32, packet: &[u8]) -> Result<(), NoMemory> {
-    let size = u16::try_from(packet.len()).unwrap_or(0);
-    recording.append(&size.saturating_add(8).to_be_bytes())?;
-    recording.append(b"\0\0")?;
-    recording.append(&at.to_be_bytes())?;
+    append_head(recording, size(packet), 0, at)?;
     recording.append(packet)
 }
 
-fn append_plain(
+// A packet of 1001: its moment, its first two octets, sequence number, timestamp, and the octets behind its SSRC.
+fn append_parts(
     recording: &mut Bytes,
     at: u32,
+    first: &[u8],
     seq: u16,
     stamp: u32,
-    text: &[u8],
+    rest: &[u8],
 ) -> Result<(), NoMemory> {
-    let size = u16::try_from(text.len()).unwrap_or(0).saturating_add(12);
-    recording.append(&size.saturating_add(8).to_be_bytes())?;
-    recording.append(&size.to_be_bytes())?;
-    recording.append(&at.to_be_bytes())?;
-    recording.append(b"\x80\x62")?;
+    let size = size(rest).saturating_add(12);
+    append_head(recording, size, size, at)?;
+    recording.append(first)?;
     recording.append(&seq.to_be_bytes())?;
     recording.append(&stamp.to_be_bytes())?;
     recording.append(b"\0\0\x03\xE9")?;
-    recording.append(text)
+    recording.append(rest)
 }
 
 fn append_piece(recording: &mut Bytes, piece: &Piece<'_>) -> Result<(), NoMemory> {
     match piece {
         Piece::Packet(at, packet) => append_packet(recording, *at, packet),
-        Piece::Plain(at, seq, stamp, text) => append_plain(recording, *at, *seq, *stamp, text),
+        Piece::Plain(at, seq, stamp, text) => {
+            append_parts(recording, *at, b"\x80\x62", *seq, *stamp, text)
+        }
+        Piece::First(first, rest) => append_parts(recording, 0, first, 0, 0, rest),
         Piece::Rtcp(at, packet) => append_rtcp(recording, *at, packet),
         Piece::Octets(octets) => recording.append(octets),
     }
@@ -163,8 +198,7 @@ pub fn sink(alloc: Global) -> Result<MemSink, NoMemory> {
     Ok(MemSink::new(alloc, Path::from_text(alloc, "")?))
 }
 
-/// The words, separated by spaces.
-pub fn words(alloc: Global, text: &str) -> Result<Vec<String>, Fail> {
+fn words(alloc: Global, text: &str) -> Result<Vec<String>, Fail> {
     let mut words = Vec::new(alloc);
     for word in text.split(' ') {
         words.push(String::from_str(alloc, word)?)?;
@@ -172,272 +206,50 @@ pub fn words(alloc: Global, text: &str) -> Result<Vec<String>, Fail> {
     Ok(words)
 }
 
-fn play<R: Threads + Wait + Clock + Copy + Send + Sync + 'static>(
+/// The status of a run of these words.
+pub fn status_of<R: Threads + Wait + Clock + Copy + Send + Sync + 'static>(
     rt: &R,
     alloc: Global,
+    text: &str,
     world: &mut MemWorld,
     links: &mut MemLinks,
-    text: &str,
-) -> Result<Ran, Fail> {
+    out: &mut MemSink,
+    err: &mut MemSink,
+) -> Result<u8, Fail> {
     let words = words(alloc, text)?;
-    let mut out = sink(alloc)?;
-    let mut err = sink(alloc)?;
-    let status = run(
-        rt,
-        alloc,
-        words.as_slice(),
-        world,
-        links,
-        &mut out,
-        &mut err,
-        &StillGate,
-    );
-    Ok(Ran { status, out, err })
+    let words = words.as_slice();
+    Ok(run(rt, alloc, words, world, links, out, err, &StillGate))
 }
 
-/// Whether a run of these words ends with this status, and writes this on `out` and on `err`.
-pub fn ends<R: Threads + Wait + Clock + Copy + Send + Sync + 'static>(
-    rt: &R,
+/// Puts a file of these lines into the world.
+pub fn add_lines(
     alloc: Global,
     world: &mut MemWorld,
-    text: &str,
-    status: u8,
-    out: &[u8],
-    err: &[u8],
-) -> Result<bool, Fail> {
-    let mut links = MemLinks::new(alloc);
-    let ran = play(rt, alloc, world, &mut links, text)?;
-    Ok(ran.status == status && ran.out.taken() == out && ran.err.taken() == err)
-}
-
-fn is_seen<R: Threads + Wait + Clock + Copy + Send + Sync + 'static>(
-    rt: &R,
-    alloc: Global,
-    view: &View<'_>,
-) -> Result<bool, Fail> {
-    let recording = recording_of(alloc, view.0)?;
-    let mut world = MemWorld::new(alloc);
-    world.add_file("a.rtp", recording.as_slice())?;
-    ends(rt, alloc, &mut world, view.1, 0, view.2.as_bytes(), b"")
-}
-
-/// How many of these are seen as they are to be, before the first that is not.
-pub fn views_seen<R: Threads + Wait + Clock + Copy + Send + Sync + 'static>(
-    rt: &R,
-    alloc: Global,
-    views: &[View<'_>],
-) -> Result<usize, Fail> {
-    match views {
-        [first, rest @ ..] => {
-            if !is_seen(rt, alloc, first)? {
-                return Ok(0);
-            }
-            let more = views_seen(rt, alloc, rest)?;
-            Ok(more.saturating_add(1))
-        }
-        [] => Ok(0),
+    name: &str,
+    lines: &[&str],
+) -> Result<(), NoMemory> {
+    let mut file = Bytes::new(alloc);
+    for line in lines {
+        file.append(line.as_bytes())?;
     }
+    world.add_file(name, file.as_slice())
 }
 
-/// How many of these fail as they are to, in this world, before the first that does not.
-pub fn failures_told<R: Threads + Wait + Clock + Copy + Send + Sync + 'static>(
-    rt: &R,
-    alloc: Global,
-    world: &mut MemWorld,
-    failures: &[Failure<'_>],
-) -> Result<usize, Fail> {
-    match failures {
-        [first, rest @ ..] => {
-            if !ends(rt, alloc, world, first.0, first.1, b"", first.2.as_bytes())? {
-                return Ok(0);
-            }
-            let more = failures_told(rt, alloc, world, rest)?;
-            Ok(more.saturating_add(1))
-        }
-        [] => Ok(0),
-    }
-}
-
-/// Whether a script is sent, and `read` shows this of its recording.
-pub fn is_sent<R: Threads + Wait + Clock + Copy + Send + Sync + 'static>(
-    rt: &R,
-    alloc: Global,
-    script: &[u8],
-    view: &[u8],
-) -> Result<bool, Fail> {
-    let mut world = MemWorld::new(alloc);
-    world.add_file("s.txt", script)?;
-    let sending = "send s.txt a.rtp 4294967295 65535 4294967295";
-    if !ends(rt, alloc, &mut world, sending, 0, b"", b"")? {
-        return Ok(false);
-    }
-    ends(rt, alloc, &mut world, "read a.rtp 4294967295", 0, view, b"")
-}
-
-/// How many of these are shown as they are to be, before the first that is not.
-pub fn calls_shown<R: Threads + Wait + Clock + Copy + Send + Sync + 'static>(
-    rt: &R,
-    alloc: Global,
-    calls: &[Call<'_>],
-) -> Result<usize, Fail> {
-    match calls {
-        [first, rest @ ..] => {
-            if !is_sent(rt, alloc, first.0.as_bytes(), first.1.as_bytes())? {
-                return Ok(0);
-            }
-            let more = calls_shown(rt, alloc, rest)?;
-            Ok(more.saturating_add(1))
-        }
-        [] => Ok(0),
-    }
-}
-
-/// Whether these frames of 1001 are relayed into this recording, and come back of it.
-pub fn is_relayed<R: Threads + Wait + Clock + Copy + Send + Sync + 'static>(
-    rt: &R,
-    alloc: Global,
-    frames: &[u8],
-    recording: &[u8],
-) -> Result<bool, Fail> {
-    let mut world = MemWorld::new(alloc);
-    world.add_file("f", frames)?;
-    if !ends(rt, alloc, &mut world, "relay f a.rtp 1001 0 0", 0, b"", b"")? {
-        return Ok(false);
-    }
-    let is_back = ends(rt, alloc, &mut world, "channel a.rtp 1001 g", 0, b"", b"")?;
-    Ok(is_back && holds(&world, "a.rtp", recording) && holds(&world, "g", frames))
-}
-
-/// A world with the conference and what each types.
-fn with_scripts(alloc: Global, mixing: &Mixing<'_>) -> Result<MemWorld, Fail> {
-    let mut world = MemWorld::new(alloc);
-    world.add_file("ann.txt", mixing.0.as_bytes())?;
-    world.add_file("bob.txt", mixing.1.as_bytes())?;
+// What Ann and Bob type, and that Cy types nothing.
+fn add_scripts(world: &mut MemWorld, ann: &str, bob: &str) -> Result<(), NoMemory> {
+    world.add_file("ann.txt", ann.as_bytes())?;
+    world.add_file("bob.txt", bob.as_bytes())?;
     world.add_file("cy.txt", b"")?;
-    world.add_file("c.txt", THREE)?;
-    Ok(world)
+    world.add_file("c.txt", THREE.as_bytes())
 }
 
-/// Whether each script is sent.
-fn are_sent<R: Threads + Wait + Clock + Copy + Send + Sync + 'static>(
-    rt: &R,
-    alloc: Global,
-    world: &mut MemWorld,
-) -> Result<bool, Fail> {
-    let ann = "send ann.txt ann.rtp 1001 0 0";
-    let bob = "send bob.txt bob.rtp 1002 0 0";
-    let cy = "send cy.txt cy.rtp 1003 0 0";
-    let is_first = ends(rt, alloc, world, ann, 0, b"", b"")?;
-    let is_second = ends(rt, alloc, world, bob, 0, b"", b"")?;
-    let is_third = ends(rt, alloc, world, cy, 0, b"", b"")?;
-    Ok(is_first && is_second && is_third)
-}
+const SENDINGS: [&str; 3] = [
+    "send ann.txt ann.rtp 1001 0 0",
+    "send bob.txt bob.rtp 1002 0 0",
+    "send cy.txt cy.rtp 1003 0 0",
+];
 
-/// Whether this is printed where these are mixed.
-pub fn is_mixed<R: Threads + Wait + Clock + Copy + Send + Sync + 'static>(
-    rt: &R,
-    alloc: Global,
-    mixing: &Mixing<'_>,
-) -> Result<bool, Fail> {
-    let mut world = with_scripts(alloc, mixing)?;
-    if !are_sent(rt, alloc, &mut world)? {
-        return Ok(false);
-    }
-    let printed = mixing.2.as_bytes();
-    ends(rt, alloc, &mut world, "mix c.txt", 0, printed, b"")
-}
-
-/// How many of these are mixed as they are to be, before the first that is not.
-pub fn mixings_printed<R: Threads + Wait + Clock + Copy + Send + Sync + 'static>(
-    rt: &R,
-    alloc: Global,
-    mixings: &[Mixing<'_>],
-) -> Result<usize, Fail> {
-    match mixings {
-        [first, rest @ ..] => {
-            if !is_mixed(rt, alloc, first)? {
-                return Ok(0);
-            }
-            let more = mixings_printed(rt, alloc, rest)?;
-            Ok(more.saturating_add(1))
-        }
-        [] => Ok(0),
-    }
-}
-
-/// Whether `attend` prints this.
-fn is_attended<R: Threads + Wait + Clock + Copy + Send + Sync + 'static>(
-    rt: &R,
-    alloc: Global,
-    attended: &Attended<'_>,
-) -> Result<bool, Fail> {
-    let mut world = MemWorld::new(alloc);
-    world.add_file("c.txt", TWO)?;
-    world.add_file("a.in", recording_of(alloc, attended.0)?.as_slice())?;
-    world.add_file("b.in", &OPENING)?;
-    let printed = attended.1.as_bytes();
-    ends(rt, alloc, &mut world, "attend c.txt", 0, printed, b"")
-}
-
-/// How many of these are attended as they are to be, before the first that is not.
-pub fn calls_attended<R: Threads + Wait + Clock + Copy + Send + Sync + 'static>(
-    rt: &R,
-    alloc: Global,
-    calls: &[Attended<'_>],
-) -> Result<usize, Fail> {
-    match calls {
-        [first, rest @ ..] => {
-            if !is_attended(rt, alloc, first)? {
-                return Ok(0);
-            }
-            let more = calls_attended(rt, alloc, rest)?;
-            Ok(more.saturating_add(1))
-        }
-        [] => Ok(0),
-    }
-}
-
-/// Whether `cascade` prints this.
-fn is_behind<R: Threads + Wait + Clock + Copy + Send + Sync + 'static>(
-    rt: &R,
-    alloc: Global,
-    behind: &Behind<'_>,
-) -> Result<bool, Fail> {
-    let mut world = MemWorld::new(alloc);
-    world.add_file("c.txt", TRUNK)?;
-    world.add_file("b.out", recording_of(alloc, behind.0)?.as_slice())?;
-    world.add_file("cy.in", &OPENING)?;
-    let printed = behind.1.as_bytes();
-    ends(
-        rt,
-        alloc,
-        &mut world,
-        "cascade b.out 9000 c.txt",
-        0,
-        printed,
-        b"",
-    )
-}
-
-/// How many of these are mixed behind another mixer as they are to be, before the first that is not.
-pub fn calls_behind<R: Threads + Wait + Clock + Copy + Send + Sync + 'static>(
-    rt: &R,
-    alloc: Global,
-    calls: &[Behind<'_>],
-) -> Result<usize, Fail> {
-    match calls {
-        [first, rest @ ..] => {
-            if !is_behind(rt, alloc, first)? {
-                return Ok(0);
-            }
-            let more = calls_behind(rt, alloc, rest)?;
-            Ok(more.saturating_add(1))
-        }
-        [] => Ok(0),
-    }
-}
-
-/// Plans what comes at a port.
+// Plans what comes at a port.
 fn plan(
     links: &mut MemLinks,
     alloc: Global,
@@ -446,67 +258,180 @@ fn plan(
 ) -> Result<(), NoMemory> {
     match comings {
         [first, rest @ ..] => {
-            let mut octets = Bytes::new(alloc);
-            octets.append(first.2)?;
-            let planned = Planned {
-                at: first.0,
-                came: first.1,
-                octets,
-            };
-            links.plan(port, planned)?;
+            links.plan(port, Planned::new(alloc, first.0, first.1, first.2)?)?;
             plan(links, alloc, port, rest)
         }
         [] => Ok(()),
     }
 }
 
-/// The links of a live call.
-fn links_of(alloc: Global, live: &Live<'_>) -> Result<MemLinks, NoMemory> {
+fn links_of(alloc: Global, line: &Line<'_>) -> Result<MemLinks, NoMemory> {
     let mut links = MemLinks::new(alloc);
-    plan(&mut links, alloc, 5001, live.ann)?;
-    plan(&mut links, alloc, 5002, live.bob)?;
-    if let Some(failing) = live.failing {
+    plan(&mut links, alloc, 5001, line.0)?;
+    plan(&mut links, alloc, 5002, line.1)?;
+    if let Some(failing) = line.2 {
         links.fail(failing)?;
     }
     Ok(links)
 }
 
-/// Whether a live call ends so, which these words ask for.
-fn is_live<R: Threads + Wait + Clock + Copy + Send + Sync + 'static>(
+fn ends_over<R: Threads + Wait + Clock + Copy + Send + Sync + 'static>(
     rt: &R,
     alloc: Global,
-    words: &str,
-    live: &Live<'_>,
+    world: &mut MemWorld,
+    links: &mut MemLinks,
+    wanted: Ran<'_>,
 ) -> Result<bool, Fail> {
-    let mut conf = Bytes::new(alloc);
-    conf.append(LINKS)?;
-    conf.append(live.turns.as_bytes())?;
-    conf.append(b"\n")?;
-    let mut world = MemWorld::new(alloc);
-    world.add_file("c.txt", conf.as_slice())?;
-    let mut links = links_of(alloc, live)?;
-    let ran = play(rt, alloc, &mut world, &mut links, words)?;
-    let is_told = ran.out.taken() == live.out.as_bytes() && ran.err.taken() == live.err.as_bytes();
-    Ok(ran.status == live.status && is_told)
+    let mut out = sink(alloc)?;
+    let mut err = sink(alloc)?;
+    let status = status_of(rt, alloc, wanted.0, world, links, &mut out, &mut err)?;
+    let is_told = err.taken() == wanted.3.as_bytes();
+    Ok(status == wanted.1 && out.taken() == wanted.2.as_bytes() && is_told)
 }
 
-/// How many of these, which these words ask for, end as they are to, before the first that does not.
-pub fn lives_ended<R: Threads + Wait + Clock + Copy + Send + Sync + 'static>(
+fn ends<R: Threads + Wait + Clock + Copy + Send + Sync + 'static>(
     rt: &R,
     alloc: Global,
-    words: &str,
-    lives: &[Live<'_>],
-) -> Result<usize, Fail> {
-    match lives {
+    world: &mut MemWorld,
+    wanted: Ran<'_>,
+) -> Result<bool, Fail> {
+    let mut links = MemLinks::new(alloc);
+    ends_over(rt, alloc, world, &mut links, wanted)
+}
+
+// Whether each of these runs prints nothing and has status 0.
+fn are_silent<R: Threads + Wait + Clock + Copy + Send + Sync + 'static>(
+    rt: &R,
+    alloc: Global,
+    world: &mut MemWorld,
+    texts: &[&str],
+) -> Result<bool, Fail> {
+    match texts {
         [first, rest @ ..] => {
-            if !is_live(rt, alloc, words, first)? {
-                return Ok(0);
+            let is_first = ends(rt, alloc, world, Ran(first, 0, "", ""))?;
+            Ok(is_first && are_silent(rt, alloc, world, rest)?)
+        }
+        [] => Ok(true),
+    }
+}
+
+fn is_relayed<R: Threads + Wait + Clock + Copy + Send + Sync + 'static>(
+    rt: &R,
+    alloc: Global,
+    world: &mut MemWorld,
+    frames: &[u8],
+    pieces: &[Piece<'_>],
+) -> Result<bool, Fail> {
+    world.add_file("f", frames)?;
+    let both = ["relay f a.rtp 1001 0 0", "channel a.rtp 1001 g"];
+    let are_silent = are_silent(rt, alloc, world, &both)?;
+    let recording = recording_of(alloc, pieces)?;
+    let is_held = holds(world, "a.rtp", recording.as_slice());
+    Ok(are_silent && is_held && holds(world, "g", frames))
+}
+
+// Whether a live call ends so.
+fn ends_live<R: Threads + Wait + Clock + Copy + Send + Sync + 'static>(
+    rt: &R,
+    alloc: Global,
+    world: &mut MemWorld,
+    line: &Line<'_>,
+    wanted: Ran<'_>,
+) -> Result<bool, Fail> {
+    add_lines(alloc, world, "c.txt", &[LINKS, line.3])?;
+    let mut links = links_of(alloc, line)?;
+    ends_over(rt, alloc, world, &mut links, wanted)
+}
+
+fn is_served<R: Threads + Wait + Clock + Copy + Send + Sync + 'static>(
+    rt: &R,
+    alloc: Global,
+    world: &mut MemWorld,
+    line: &Line<'_>,
+    printed: &str,
+    board: &str,
+) -> Result<bool, Fail> {
+    let mut all = String::from_str(alloc, SEEN_BY_ANN)?;
+    all.push_str(printed)?;
+    let live = Ran("live c.txt", 0, all.as_str(), "");
+    let is_live = ends_live(rt, alloc, world, line, live)?;
+    all.push_str(board)?;
+    let watched = Ran("watch c.txt", 0, all.as_str(), "");
+    Ok(is_live && ends_live(rt, alloc, world, line, watched)?)
+}
+
+fn is_right<R: Threads + Wait + Clock + Copy + Send + Sync + 'static>(
+    rt: &R,
+    alloc: Global,
+    world: &mut MemWorld,
+    case: &Case<'_>,
+) -> Result<bool, Fail> {
+    match case {
+        Case::View(pieces, words, printed) => {
+            world.add_file("a.rtp", recording_of(alloc, pieces)?.as_slice())?;
+            ends(rt, alloc, world, Ran(words, 0, printed, ""))
+        }
+        Case::Silent(words, status, told) => {
+            ends(rt, alloc, world, Ran(words, *status, "", told))
+        }
+        Case::Wrong(words) => ends(rt, alloc, world, Ran(words, 2, "", USAGE)),
+        Case::Sent(script, view) => {
+            world.add_file("s.txt", script.as_bytes())?;
+            let sending = Ran("send s.txt a.rtp 4294967295 65535 4294967295", 0, "", "");
+            let reading = Ran("read a.rtp 4294967295", 0, view, "");
+            Ok(ends(rt, alloc, world, sending)? && ends(rt, alloc, world, reading)?)
+        }
+        Case::Relayed(frames, pieces) => is_relayed(rt, alloc, world, frames, pieces),
+        Case::Mixed(ann, bob, printed) => {
+            add_scripts(world, ann, bob)?;
+            let mixing = Ran("mix c.txt", 0, printed, "");
+            Ok(are_silent(rt, alloc, world, &SENDINGS)? && ends(rt, alloc, world, mixing)?)
+        }
+        Case::Attended(ann, printed) => {
+            world.add_file("a.in", recording_of(alloc, ann)?.as_slice())?;
+            world.add_file("b.in", &OPENING)?;
+            add_lines(alloc, world, "c.txt", &[MIXER, ANN, BOB, "wait 0\n"])?;
+            ends(rt, alloc, world, Ran("attend c.txt", 0, printed, ""))
+        }
+        Case::Behind(sent, printed) => {
+            world.add_file("b.out", recording_of(alloc, sent)?.as_slice())?;
+            world.add_file("cy.in", &OPENING)?;
+            add_lines(alloc, world, "c.txt", &[NEXT_MIXER, TRUNK, CY])?;
+            let mixing = Ran("cascade b.out 9000 c.txt", 0, printed, "");
+            ends(rt, alloc, world, mixing)
+        }
+        Case::Live(line, printed, board) => is_served(rt, alloc, world, line, printed, board),
+        Case::LinkFault(line) => {
+            let told = "link fault at leg Bob\n";
+            let live = ends_live(rt, alloc, world, line, Ran("live c.txt", 8, "", told))?;
+            let watch = ends_live(rt, alloc, world, line, Ran("watch c.txt", 8, "", told))?;
+            Ok(live && watch)
+        }
+        Case::Ended(words, outputs, ends) => ends_with_first(rt, alloc, words, outputs, ends),
+    }
+}
+
+/// How many of these cases are left, in this world, from the first one on that does not end as it is to.
+pub fn left<R: Threads + Wait + Clock + Copy + Send + Sync + 'static>(
+    rt: &R,
+    alloc: Global,
+    world: &mut MemWorld,
+    cases: &[Case<'_>],
+) -> Result<usize, Fail> {
+    match cases {
+        [first, rest @ ..] => {
+            if !is_right(rt, alloc, world, first)? {
+                return Ok(cases.len());
             }
-            let more = lives_ended(rt, alloc, words, rest)?;
-            Ok(more.saturating_add(1))
+            left(rt, alloc, world, rest)
         }
         [] => Ok(0),
     }
+}
+
+/// So many octets of these from the first on, or all.
+pub fn front(octets: &[u8], most: usize) -> &[u8] {
+    &octets[..octets.len().min(most)]
 }
 
 /// Whether a file holds these octets.

@@ -1,8 +1,9 @@
+use crate::plays::Case::{
+    Attended, Behind, LinkFault, Live, Mixed, Relayed, Sent, Silent, View, Wrong,
+};
 use crate::plays::Piece::{Octets, Packet, Plain, Rtcp};
 use crate::plays::{
-    Attended, Behind, Call, Coming, Failure, Live, Mixing, OPENING, Piece, View, calls_attended,
-    calls_behind, calls_shown, eight_times, ends, failures_told, holds, is_relayed, is_sent,
-    lives_ended, mixings_printed, recording_of, twice, views_seen,
+    Case, Coming, Line, OPENING, Piece, eight_times, front, holds, left, recording_of, twice,
 };
 use link_io::{Came, FailingLink};
 use rtt_base::{Bytes, NoMemory, Path};
@@ -57,17 +58,14 @@ const WRAPPED: [Piece<'static>; 4] = [
     Plain(900, 1, 900, b"D"),
 ];
 
-const JUST_IN_TIME: [Piece<'static>; 3] = [
-    Plain(0, 10, 0, b"A"),
-    Plain(300, 12, 600, b"C"),
-    Plain(1299, 11, 300, b"B"),
-];
+// What came before a packet that is in time or late.
+const TENTH: Piece<'static> = Plain(0, 10, 0, b"A");
 
-const LATE: [Piece<'static>; 3] = [
-    Plain(0, 10, 0, b"A"),
-    Plain(300, 12, 600, b"C"),
-    Plain(1300, 11, 300, b"B"),
-];
+const TWELFTH: Piece<'static> = Plain(300, 12, 600, b"C");
+
+const JUST_IN_TIME: [Piece<'static>; 3] = [TENTH, TWELFTH, Plain(1299, 11, 300, b"B")];
+
+const LATE: [Piece<'static>; 3] = [TENTH, TWELFTH, Plain(1300, 11, 300, b"B")];
 
 const ERASURES: [Piece<'static>; 3] = [
     Plain(0, 1, 0, b"ab\x08"),
@@ -139,7 +137,7 @@ const MIXED_LOST: [Piece<'static>; 4] = [
     Octets(SENT_LAST),
 ];
 
-const VIEWS: [View<'static>; 26] = [
+const VIEWS: [Case<'static>; 26] = [
     // two lost packets leave no marker, and three leave one
     View(
         &TWO_LETTERS,
@@ -282,51 +280,31 @@ const VIEWS: [View<'static>; 26] = [
 
 #[test]
 fn recordings_are_seen(rt: HostRuntime) -> Result<(), Fail> {
-    assert_eq!(rt; views_seen(&rt, rt.alloc(), &VIEWS)?, VIEWS.len());
+    let mut world = MemWorld::new(rt.alloc());
+    assert_eq!(rt; left(&rt, rt.alloc(), &mut world, &VIEWS)?, 0);
     Ok(())
 }
 
-// What is told of words outside the word table.
-const USAGE: &str = "\
-usage: rtt_program read FILE SSRC [SOURCE [T140 RED]]
-\x20      rtt_program list FILE [T140 RED]
-\x20      rtt_program send SCRIPT OUT SSRC SEQ STAMP
-\x20      rtt_program mix CONF
-\x20      rtt_program attend CONF
-\x20      rtt_program cascade FILE SSRC CONF
-\x20      rtt_program make N
-\x20      rtt_program live CONF
-\x20      rtt_program watch CONF
-\x20      rtt_program relay FRAMES OUT SSRC SEQ STAMP
-\x20      rtt_program channel FILE SSRC OUT
-\x20      rtt_program show FILE [T140 RED]
-\x20      rtt_program script FILE SSRC [SOURCE [T140 RED]]
-\x20      rtt_program version
-";
-
-const WRONG_WORDS: [Failure<'static>; 13] = [
-    Failure("read a.rtp", 2, USAGE),
-    Failure("read a.rtp -1", 2, USAGE),
-    Failure("read --help 1", 2, USAGE),
-    Failure("read a.rtp 4294967296", 2, USAGE),
-    Failure("help", 2, USAGE),
-    Failure("", 2, USAGE),
-    Failure("mix", 2, USAGE),
-    Failure("mix a b", 2, USAGE),
-    Failure("make", 2, USAGE),
-    Failure("make 0", 2, USAGE),
-    Failure("make 1001", 2, USAGE),
-    Failure("list a.rtp 98", 2, USAGE),
-    Failure("send s o 1 65536 0", 2, USAGE),
+const WRONG_WORDS: [Case<'static>; 13] = [
+    Wrong("read a.rtp"),
+    Wrong("read a.rtp -1"),
+    Wrong("read --help 1"),
+    Wrong("read a.rtp 4294967296"),
+    Wrong("help"),
+    Wrong(""),
+    Wrong("mix"),
+    Wrong("mix a b"),
+    Wrong("make"),
+    Wrong("make 0"),
+    Wrong("make 1001"),
+    Wrong("list a.rtp 98"),
+    Wrong("send s o 1 65536 0"),
 ];
 
 #[test]
 fn wrong_words_are_answered_with_the_usage(rt: HostRuntime) -> Result<(), Fail> {
     let mut world = MemWorld::new(rt.alloc());
-    assert_eq!(rt;
-        failures_told(&rt, rt.alloc(), &mut world, &WRONG_WORDS)?,
-        WRONG_WORDS.len()
-    );
+    assert_eq!(rt; left(&rt, rt.alloc(), &mut world, &WRONG_WORDS)?, 0);
     Ok(())
 }
 
@@ -352,10 +330,6 @@ fn full(alloc: Global, last: &[u8]) -> Result<Bytes, NoMemory> {
     let mut script = twice(alloc, eight.as_slice())?;
     script.append(last)?;
     Ok(script)
-}
-
-fn front(octets: &[u8], most: usize) -> &[u8] {
-    &octets[..octets.len().min(most)]
 }
 
 // Recordings that are broken at some byte.
@@ -419,49 +393,49 @@ fn add_failing(world: &mut MemWorld, alloc: Global) -> Result<(), Fail> {
     Ok(())
 }
 
-const FAILURES: [Failure<'static>; 18] = [
+const FAILURES: [Case<'static>; 18] = [
     // broken recordings are refused at their byte
-    Failure("read few.rtp 1001", 6, "few.rtp byte 136: EndsInside\n"),
-    Failure("read head.rtp 1001", 6, "head.rtp byte 28: EndsInside\n"),
-    Failure("list large.rtp", 6, "large.rtp byte 4161580: TooLarge\n"),
-    Failure("read cut.rtp 1001", 6, "cut.rtp byte 136: EndsInside\n"),
-    Failure("read empty.rtp 1001", 6, "empty.rtp byte 0: NotDump\n"),
-    Failure("read long.rtp 1001", 6, "long.rtp byte 44: TooLong\n"),
-    Failure("read short.rtp 1001", 6, "short.rtp byte 44: BadLength\n"),
-    Failure("script cut.rtp 1001", 6, "cut.rtp byte 136: EndsInside\n"),
-    Failure("show empty.rtp", 6, "empty.rtp byte 0: NotDump\n"),
-    Failure(
+    Silent("read few.rtp 1001", 6, "few.rtp byte 136: EndsInside\n"),
+    Silent("read head.rtp 1001", 6, "head.rtp byte 28: EndsInside\n"),
+    Silent("list large.rtp", 6, "large.rtp byte 4161580: TooLarge\n"),
+    Silent("read cut.rtp 1001", 6, "cut.rtp byte 136: EndsInside\n"),
+    Silent("read empty.rtp 1001", 6, "empty.rtp byte 0: NotDump\n"),
+    Silent("read long.rtp 1001", 6, "long.rtp byte 44: TooLong\n"),
+    Silent("read short.rtp 1001", 6, "short.rtp byte 44: BadLength\n"),
+    Silent("script cut.rtp 1001", 6, "cut.rtp byte 136: EndsInside\n"),
+    Silent("show empty.rtp", 6, "empty.rtp byte 0: NotDump\n"),
+    Silent(
         "channel cut.rtp 1001 c.rtp",
         6,
         "cut.rtp byte 136: EndsInside\n",
     ),
     // frames are refused at the first octet of one
-    Failure(
+    Silent(
         "relay cut.frames c.rtp 1001 0 0",
         6,
         "cut.frames byte 7: EndsInside\n",
     ),
-    Failure(
+    Silent(
         "relay none.frames c.rtp 1001 0 0",
         6,
         "none.frames byte 0: Length\n",
     ),
     // scripts are refused at their line, also where too much text would wait
-    Failure(
+    Silent(
         "send number.txt c.rtp 1001 0 0",
         5,
         "number.txt line 3: Number\n",
     ),
-    Failure(
+    Silent(
         "send full.txt c.rtp 1001 0 0",
         5,
         "full.txt line 17: Full\n",
     ),
     // faults of the outside
-    Failure("read b.rtp 1001", 3, "cannot open b.rtp\n"),
-    Failure("read whole.rtp 1001", 4, "cannot read whole.rtp\n"),
-    Failure("send two.txt a.rtp 1001 0 0", 7, "cannot write a.rtp\n"),
-    Failure("send two.txt b.rtp 1001 0 0", 7, "cannot write b.rtp\n"),
+    Silent("read b.rtp 1001", 3, "cannot open b.rtp\n"),
+    Silent("read whole.rtp 1001", 4, "cannot read whole.rtp\n"),
+    Silent("send two.txt a.rtp 1001 0 0", 7, "cannot write a.rtp\n"),
+    Silent("send two.txt b.rtp 1001 0 0", 7, "cannot write b.rtp\n"),
 ];
 
 #[test]
@@ -469,10 +443,7 @@ fn failures_are_told(rt: HostRuntime) -> Result<(), Fail> {
     let mut world = MemWorld::new(rt.alloc());
     add_refused(&mut world, rt.alloc())?;
     add_failing(&mut world, rt.alloc())?;
-    assert_eq!(rt;
-        failures_told(&rt, rt.alloc(), &mut world, &FAILURES)?,
-        FAILURES.len()
-    );
+    assert_eq!(rt; left(&rt, rt.alloc(), &mut world, &FAILURES)?, 0);
     // what was refused, or could not be created, is not there, and what could not be written has its front
     assert!(rt; world.contents("a.rtp").is_none());
     assert!(rt; world.contents("c.rtp").is_none());
@@ -481,36 +452,18 @@ fn failures_are_told(rt: HostRuntime) -> Result<(), Fail> {
     Ok(())
 }
 
+const SENDINGS: [Case<'static>; 2] = [
+    Silent("send two.txt a.rtp 1001 0 0", 0, ""),
+    Silent("send most.txt b.rtp 1001 0 0", 0, ""),
+];
+
 #[test]
 fn a_script_of_two_letters_is_sent(rt: HostRuntime) -> Result<(), Fail> {
     let mut world = MemWorld::new(rt.alloc());
     world.add_file("two.txt", b"0 A\n300 B\n")?;
-    world.add_file(
-        "most.txt",
-        full(rt.alloc(), b"0 1234567890123456")?.as_slice(),
-    )?;
-    assert!(rt;
-        ends(
-            &rt,
-            rt.alloc(),
-            &mut world,
-            "send two.txt a.rtp 1001 0 0",
-            0,
-            b"",
-            b""
-        )?
-    );
-    assert!(rt;
-        ends(
-            &rt,
-            rt.alloc(),
-            &mut world,
-            "send most.txt b.rtp 1001 0 0",
-            0,
-            b"",
-            b""
-        )?
-    );
+    let most = full(rt.alloc(), b"0 1234567890123456")?;
+    world.add_file("most.txt", most.as_slice())?;
+    assert_eq!(rt; left(&rt, rt.alloc(), &mut world, &SENDINGS)?, 0);
     let whole = recording_of(rt.alloc(), &TWO_LETTERS)?;
     assert_eq!(rt; whole.len(), 166);
     assert!(rt; holds(&world, "a.rtp", whole.as_slice()));
@@ -518,67 +471,58 @@ fn a_script_of_two_letters_is_sent(rt: HostRuntime) -> Result<(), Fail> {
     Ok(())
 }
 
-#[test]
-fn frames_of_two_letters_are_relayed_and_come_back(rt: HostRuntime) -> Result<(), Fail> {
-    let whole = recording_of(rt.alloc(), &TWO_LETTERS)?;
-    assert!(rt; is_relayed(&rt, rt.alloc(), FRAMES, whole.as_slice())?);
-    Ok(())
-}
-
-const CALLS: [Call<'static>; 3] = [
+const CALLS: [Case<'static>; 4] = [
+    // frames of two letters, with their recording between
+    Relayed(FRAMES, &TWO_LETTERS),
     // wide characters, a pause of 20 seconds, a new line, an erasure and a bell
-    Call(
+    Sent(
         "# a call\n0 Gr\u{fc}\u{df}e\n\n20000 \u{1F600}\\nx\\a\n20100 y\\bz\n",
         "| Gr\u{fc}\u{df}e\u{1F600}\n| xz\n-- bells 1\n-- packets 7 used 7 refused 0 foreign 0\n",
     ),
     // the last line of the longest day, and a pause in which text is still to be repeated
-    Call(
+    Sent(
         "0 a\n100 b\n14399000 c",
         "| abc\n-- bells 0\n-- packets 7 used 7 refused 0 foreign 0\n",
     ),
     // nothing is typed
-    Call(
+    Sent(
         "# nothing\n0 \n",
         "| \n-- bells 0\n-- packets 0 used 0 refused 0 foreign 0\n",
     ),
 ];
 
-#[test]
-fn a_script_that_was_sent_shows_its_text(rt: HostRuntime) -> Result<(), Fail> {
-    assert_eq!(rt; calls_shown(&rt, rt.alloc(), &CALLS)?, CALLS.len());
-    Ok(())
+// 256 signs of three octets.
+fn signs(alloc: Global) -> Result<Bytes, NoMemory> {
+    let eight = eight_times(alloc, "\u{20AC}".as_bytes())?;
+    let most = eight_times(alloc, eight.as_slice())?;
+    let half = twice(alloc, most.as_slice())?;
+    twice(alloc, half.as_slice())
 }
 
-const MIXINGS: [Mixing<'static>; 3] = [
-    // who presses Enter first: the label stands before the first letter
-    Mixing(
-        "0 Hello. ",
-        "0 \\nHi",
-        "== Ann aware\nBob: \nBob: Hi\n-- Bob bells 0\nCy: \n-- Cy bells 0\n-- packets 3 used 3 refused 0 foreign 0\n\
-        == Bob aware\nAnn: Hello. \n-- Ann bells 0\nCy: \n-- Cy bells 0\n-- packets 3 used 3 refused 0 foreign 0\n\
-        == Cy unaware\n| [Ann] Hello. \n| [Bob] Hi\n-- bells 0\n-- packets 4 used 4 refused 0 foreign 0\n",
-    ),
-    // who types another's label
-    Mixing(
-        "0 Hello.\\n[Bob] I owe you. ",
-        "",
-        "== Ann aware\nBob: \n-- Bob bells 0\nCy: \n-- Cy bells 0\n-- packets 0 used 0 refused 0 foreign 0\n\
-        == Bob aware\nAnn: Hello.\nAnn: [Bob] I owe you. \n-- Ann bells 0\nCy: \n-- Cy bells 0\n-- packets 3 used 3 refused 0 foreign 0\n\
-        == Cy unaware\n| [Ann] Hello.\n| (Bob] I owe you. \n-- bells 0\n-- packets 3 used 3 refused 0 foreign 0\n",
-    ),
-    // who rings alone has no label
-    Mixing(
-        "0 \\a",
-        "300 Hi",
-        "== Ann aware\nBob: Hi\n-- Bob bells 0\nCy: \n-- Cy bells 0\n-- packets 3 used 3 refused 0 foreign 0\n\
-        == Bob aware\nAnn: \n-- Ann bells 1\nCy: \n-- Cy bells 0\n-- packets 3 used 3 refused 0 foreign 0\n\
-        == Cy unaware\n| [Bob] Hi\n-- bells 1\n-- packets 6 used 6 refused 0 foreign 0\n",
-    ),
-];
+// The signs behind these and behind those, and what follows them.
+fn with_signs(alloc: Global, these: &[u8], those: &[u8], last: &[u8]) -> Result<Bytes, NoMemory> {
+    let signs = signs(alloc)?;
+    let mut all = Bytes::new(alloc);
+    all.append(these)?;
+    all.append(signs.as_slice())?;
+    all.append(those)?;
+    all.append(signs.as_slice())?;
+    all.append(last)?;
+    Ok(all)
+}
+
+const LONG_LINE: &[u8] = b"\n-- bells 0\n-- packets 4 used 4 refused 0 foreign 0\n";
 
 #[test]
-fn labels_stand_before_what_is_seen(rt: HostRuntime) -> Result<(), Fail> {
-    assert_eq!(rt; mixings_printed(&rt, rt.alloc(), &MIXINGS)?, MIXINGS.len());
+fn what_was_sent_comes_back(rt: HostRuntime) -> Result<(), Fail> {
+    let mut world = MemWorld::new(rt.alloc());
+    assert_eq!(rt; left(&rt, rt.alloc(), &mut world, &CALLS)?, 0);
+    // a block of 1023 octets would end inside a sign
+    let script = with_signs(rt.alloc(), b"0 abcd", b"\n0 efgh", b"")?;
+    let view = with_signs(rt.alloc(), b"| abcd", b"efgh", LONG_LINE)?;
+    let script = str::from_utf8(script.as_slice())?;
+    let long = [Sent(script, str::from_utf8(view.as_slice())?)];
+    assert_eq!(rt; left(&rt, rt.alloc(), &mut world, &long)?, 0);
     Ok(())
 }
 
@@ -601,7 +545,34 @@ const AS_ANN: &str = "\
 == Ann aware\nBob: \n-- Bob bells 0\n-- packets 0 used 0 refused 0 foreign 0\n\
 == Bob aware\nAnn: Hi\n-- Ann bells 0\n-- packets 4 used 4 refused 0 foreign 0\n";
 
-const ATTENDED: [Attended<'static>; 5] = [
+// Three packets are lost, which all have the `e`.
+const E_LOST: [Piece<'static>; 2] = [Octets(SENT_H), Octets(SENT_LAST)];
+
+const CONFERENCES: [Case<'static>; 11] = [
+    // who presses Enter first: the label stands before the first letter
+    Mixed(
+        "0 Hello. ",
+        "0 \\nHi",
+        "== Ann aware\nBob: \nBob: Hi\n-- Bob bells 0\nCy: \n-- Cy bells 0\n-- packets 3 used 3 refused 0 foreign 0\n\
+        == Bob aware\nAnn: Hello. \n-- Ann bells 0\nCy: \n-- Cy bells 0\n-- packets 3 used 3 refused 0 foreign 0\n\
+        == Cy unaware\n| [Ann] Hello. \n| [Bob] Hi\n-- bells 0\n-- packets 4 used 4 refused 0 foreign 0\n",
+    ),
+    // who types another's label
+    Mixed(
+        "0 Hello.\\n[Bob] I owe you. ",
+        "",
+        "== Ann aware\nBob: \n-- Bob bells 0\nCy: \n-- Cy bells 0\n-- packets 0 used 0 refused 0 foreign 0\n\
+        == Bob aware\nAnn: Hello.\nAnn: [Bob] I owe you. \n-- Ann bells 0\nCy: \n-- Cy bells 0\n-- packets 3 used 3 refused 0 foreign 0\n\
+        == Cy unaware\n| [Ann] Hello.\n| (Bob] I owe you. \n-- bells 0\n-- packets 3 used 3 refused 0 foreign 0\n",
+    ),
+    // who rings alone has no label
+    Mixed(
+        "0 \\a",
+        "300 Hi",
+        "== Ann aware\nBob: Hi\n-- Bob bells 0\nCy: \n-- Cy bells 0\n-- packets 3 used 3 refused 0 foreign 0\n\
+        == Bob aware\nAnn: \n-- Ann bells 1\nCy: \n-- Cy bells 0\n-- packets 3 used 3 refused 0 foreign 0\n\
+        == Cy unaware\n| [Bob] Hi\n-- bells 1\n-- packets 6 used 6 refused 0 foreign 0\n",
+    ),
     // she is called by the name that her description has
     Attended(
         &[NAMES_ANN, H, I],
@@ -620,18 +591,6 @@ const ATTENDED: [Attended<'static>; 5] = [
 == Bob aware\nAnn: H\n-- Ann bells 0\n-- packets 3 used 3 refused 0 foreign 0\n",
     ),
     Attended(&[H, BOB_LEAVES, I], AS_ANN),
-];
-
-#[test]
-fn names_and_leavings_are_heard(rt: HostRuntime) -> Result<(), Fail> {
-    assert_eq!(rt; calls_attended(&rt, rt.alloc(), &ATTENDED)?, ATTENDED.len());
-    Ok(())
-}
-
-// Three packets are lost, which all have the `e`.
-const E_LOST: [Piece<'static>; 2] = [Octets(SENT_H), Octets(SENT_LAST)];
-
-const BEHIND: [Behind<'static>; 3] = [
     // all came
     Behind(
         &MIXED,
@@ -656,30 +615,9 @@ const BEHIND: [Behind<'static>; 3] = [
 ];
 
 #[test]
-fn texts_go_over_two_mixers(rt: HostRuntime) -> Result<(), Fail> {
-    assert_eq!(rt; calls_behind(&rt, rt.alloc(), &BEHIND)?, BEHIND.len());
-    Ok(())
-}
-
-#[test]
-fn characters_of_long_lines_are_not_cut(rt: HostRuntime) -> Result<(), Fail> {
-    let eight = eight_times(rt.alloc(), "\u{20AC}".as_bytes())?;
-    let most = eight_times(rt.alloc(), eight.as_slice())?;
-    let half = twice(rt.alloc(), most.as_slice())?;
-    let signs = twice(rt.alloc(), half.as_slice())?;
-    let mut script = Bytes::new(rt.alloc());
-    let mut view = Bytes::new(rt.alloc());
-    // 256 signs of three octets behind four letters, twice: a block of 1023 octets would end inside a sign
-    script.append(b"0 abcd")?;
-    script.append(signs.as_slice())?;
-    script.append(b"\n0 efgh")?;
-    script.append(signs.as_slice())?;
-    view.append(b"| abcd")?;
-    view.append(signs.as_slice())?;
-    view.append(b"efgh")?;
-    view.append(signs.as_slice())?;
-    view.append(b"\n-- bells 0\n-- packets 4 used 4 refused 0 foreign 0\n")?;
-    assert!(rt; is_sent(&rt, rt.alloc(), script.as_slice(), view.as_slice())?);
+fn conferences_print_what_is_seen(rt: HostRuntime) -> Result<(), Fail> {
+    let mut world = MemWorld::new(rt.alloc());
+    assert_eq!(rt; left(&rt, rt.alloc(), &mut world, &CONFERENCES)?, 0);
     Ok(())
 }
 
@@ -687,172 +625,48 @@ const AN_A: Coming<'static> = Coming(0, Came::Datagram, A);
 
 const CLOSED: Coming<'static> = Coming(0, Came::Closed, b"");
 
-// By `live` and by `watch`.
-const FAILING_LINKS: [Live<'static>; 3] = [
-    // Bob's link can't be opened.
-    Live {
-        ann: &[],
-        bob: &[],
-        failing: Some(FailingLink::Link(5002)),
-        turns: "2",
-        status: 8,
-        out: "",
-        err: "link fault at leg Bob\n",
-    },
-    // Bob's first take fails.
-    Live {
-        ann: &[],
-        bob: &[],
-        failing: Some(FailingLink::Take(5002, 1)),
-        turns: "2",
-        status: 8,
-        out: "",
-        err: "link fault at leg Bob\n",
-    },
-    // What Ann types can't be given to Bob.
-    Live {
-        ann: &[AN_A],
-        bob: &[],
-        failing: Some(FailingLink::Give(5002, 1)),
-        turns: "2",
-        status: 8,
-        out: "",
-        err: "link fault at leg Bob\n",
-    },
-];
+const ALL_CLOSED: Line<'static> = Line(&[AN_A, CLOSED], &[CLOSED], None, "turns 100\n");
 
-const LIVES: [Live<'static>; 3] = [
-    // All links are closed: Bob is sent the A and both repeats.
-    Live {
-        ann: &[AN_A, CLOSED],
-        bob: &[CLOSED],
-        failing: None,
-        turns: "100",
-        status: 0,
-        out: "\
-== Ann aware
-Bob:\x20
--- Bob bells 0
--- packets 0 used 0 refused 0 foreign 0
-== Bob aware
-Ann: A
--- Ann bells 0
--- packets 3 used 3 refused 0 foreign 0
--- live closed
-",
-        err: "",
-    },
-    // Nothing comes, for one turn.
-    Live {
-        ann: &[],
-        bob: &[],
-        failing: None,
-        turns: "1",
-        status: 0,
-        out: "\
-== Ann aware
-Bob:\x20
--- Bob bells 0
--- packets 0 used 0 refused 0 foreign 0
-== Bob aware
-Ann:\x20
--- Ann bells 0
--- packets 0 used 0 refused 0 foreign 0
--- live done
-",
-        err: "",
-    },
-    // An A comes before the only turn.
-    Live {
-        ann: &[AN_A],
-        bob: &[],
-        failing: None,
-        turns: "1",
-        status: 0,
-        out: "\
-== Ann aware
-Bob:\x20
--- Bob bells 0
--- packets 0 used 0 refused 0 foreign 0
-== Bob aware
-Ann: A
--- Ann bells 0
--- packets 1 used 1 refused 0 foreign 0
--- live done
-",
-        err: "",
-    },
+const NOTHING_COMES: Line<'static> = Line(&[], &[], None, "turns 1\n");
+
+const AN_A_COMES: Line<'static> = Line(&[AN_A], &[], None, "turns 1\n");
+
+const NO_LINK: Line<'static> = Line(&[], &[], Some(FailingLink::Link(5002)), "turns 2\n");
+
+const NO_TAKE: Line<'static> = Line(&[], &[], Some(FailingLink::Take(5002, 1)), "turns 2\n");
+
+const NO_GIVE: Line<'static> = Line(&[AN_A], &[], Some(FailingLink::Give(5002, 1)), "turns 2\n");
+
+const ONE_TYPED: &str = "-- board Ann total 1\n-- board Bob total 0\n";
+
+const LIVES: [Case<'static>; 6] = [
+    // all links are closed: Bob is sent the A and both repeats
+    Live(
+        &ALL_CLOSED,
+        "== Bob aware\nAnn: A\n-- Ann bells 0\n-- packets 3 used 3 refused 0 foreign 0\n-- live closed\n",
+        ONE_TYPED,
+    ),
+    // nothing comes, for one turn
+    Live(
+        &NOTHING_COMES,
+        "== Bob aware\nAnn: \n-- Ann bells 0\n-- packets 0 used 0 refused 0 foreign 0\n-- live done\n",
+        "-- board Ann total 0\n-- board Bob total 0\n",
+    ),
+    // an A comes before the only turn
+    Live(
+        &AN_A_COMES,
+        "== Bob aware\nAnn: A\n-- Ann bells 0\n-- packets 1 used 1 refused 0 foreign 0\n-- live done\n",
+        ONE_TYPED,
+    ),
+    // Bob's link can't be opened, his first take fails, and what Ann types can't be given to him
+    LinkFault(&NO_LINK),
+    LinkFault(&NO_TAKE),
+    LinkFault(&NO_GIVE),
 ];
 
 #[test]
 fn live_calls_end_as_their_links_say(rt: HostRuntime) -> Result<(), Fail> {
-    assert_eq!(rt;
-        lives_ended(&rt, rt.alloc(), "live c.txt", &LIVES)?,
-        LIVES.len()
-    );
-    assert_eq!(rt;
-        lives_ended(&rt, rt.alloc(), "live c.txt", &FAILING_LINKS)?,
-        FAILING_LINKS.len()
-    );
-    Ok(())
-}
-
-const WATCHED: [Live<'static>; 2] = [
-    // All links are closed: behind what `live` prints stands how much each leg typed.
-    Live {
-        ann: &[AN_A, CLOSED],
-        bob: &[CLOSED],
-        failing: None,
-        turns: "100",
-        status: 0,
-        out: "\
-== Ann aware
-Bob:\x20
--- Bob bells 0
--- packets 0 used 0 refused 0 foreign 0
-== Bob aware
-Ann: A
--- Ann bells 0
--- packets 3 used 3 refused 0 foreign 0
--- live closed
--- board Ann total 1
--- board Bob total 0
-",
-        err: "",
-    },
-    // An A comes before the only turn.
-    Live {
-        ann: &[AN_A],
-        bob: &[],
-        failing: None,
-        turns: "1",
-        status: 0,
-        out: "\
-== Ann aware
-Bob:\x20
--- Bob bells 0
--- packets 0 used 0 refused 0 foreign 0
-== Bob aware
-Ann: A
--- Ann bells 0
--- packets 1 used 1 refused 0 foreign 0
--- live done
--- board Ann total 1
--- board Bob total 0
-",
-        err: "",
-    },
-];
-
-#[test]
-fn watched_calls_print_what_the_board_counts(rt: HostRuntime) -> Result<(), Fail> {
-    assert_eq!(rt;
-        lives_ended(&rt, rt.alloc(), "watch c.txt", &WATCHED)?,
-        WATCHED.len()
-    );
-    assert_eq!(rt;
-        lives_ended(&rt, rt.alloc(), "watch c.txt", &FAILING_LINKS)?,
-        FAILING_LINKS.len()
-    );
+    let mut world = MemWorld::new(rt.alloc());
+    assert_eq!(rt; left(&rt, rt.alloc(), &mut world, &LIVES)?, 0);
     Ok(())
 }
