@@ -150,6 +150,7 @@ fn hear(
 /// Where no line of the plan is of the terminal, and the moments of the packets never fall, each packet is made again where
 /// it is heard. Else the whole recording is made in memory, with 12 octets a packet to find it there, and 16 for each packet
 /// that comes.
+#[inline(never)]
 pub fn played(
     alloc: Global,
     conf: TermConf,
