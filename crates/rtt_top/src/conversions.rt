@@ -75,7 +75,8 @@ fn convert<W: World, K: Sink>(
     world: &mut W,
     out: &K,
 ) -> Result<(), Fault>
-    ensures { EndsAcross W.World K.Sink (asked_for conversion.now) world.old out.now world.new out.now (name_in (input_of conversion.now) (output_of conversion.now) result) result }
+    ensures { EndsAcross W.World K.Sink (asked_for conversion.now) world.old out.now world.new out.now
+        (name_in (input_of conversion.now) (output_of conversion.now) result) result }
 {
     match octets_of(alloc, conversion, world) {
         Ok(octets) => save_output(0, output_of(conversion), octets.as_slice(), world),

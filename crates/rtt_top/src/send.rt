@@ -11,12 +11,11 @@ ghost use Rattle.rtt_top.specs.Worlds.{StopsOver, ReadsScript, MakesRecording};
 
 use crate::files::{read_input, refused_line};
 use command_spec::Fault;
-use command_spec::limits::USUAL_INTERVAL;
 use file_spec::ConfKind;
-use file_spec::limits::{MOST_SCRIPT_OCTETS, USUAL_RED, USUAL_T140};
-use rtt_base::{Bytes, Pts};
+use file_spec::limits::MOST_SCRIPT_OCTETS;
+use rtt_base::Bytes;
 use rtt_io::World;
-use rtt_send::{SendFault, send_script};
+use rtt_send::{SendFault, send_script, usual_conf};
 use rtt_words::SendWords;
 use script_text::{ConfFault, Script, read_script};
 use std::alloc::Global;
@@ -46,17 +45,7 @@ pub(crate) fn send_conf(words: &SendWords<'_>) -> SendConf
     ensures conf { IsConf result }
     ensures sending { sender.sending_of result ≡ sending_of (sent words.now) }
 {
-    SendConf {
-        ssrc: words.ssrc,
-        seq: words.seq,
-        stamp: words.stamp,
-        pts: Pts {
-            t140: USUAL_T140,
-            red: USUAL_RED,
-        },
-        interval: USUAL_INTERVAL,
-        gens: 2,
-    }
+    usual_conf(words.ssrc, words.seq, words.stamp)
 }
 
 /// The recording of what is sent for a script.
