@@ -8,7 +8,7 @@ use Rattle.std.proofs.lemmas.List.Elements.{All-head, All-tail, All-weaker}
 use Rattle.std.proofs.lemmas.Str.{encode_ascii, chars-IsAscii}
 use Rattle.std.proofs.lemmas.Str.Ascii.{IsAscii-from_all}
 use Rattle.text_spec.specs.declared.classes.CharClass.{CharClass}
-use Rattle.text_spec.specs.declared.classes.CharClass.TheVariants.{NewLine, Print}
+use Rattle.text_spec.specs.declared.classes.CharClass.TheVariants.{Marker, NewLine, Print}
 use Rattle.text_spec.specs.Characters.{class_of, is_new_line}
 use Rattle.text_spec.specs.Shown.{signs, ends_with_cr}
 use Rattle.text_spec.proofs.Signs.{signs-append, signs-cr_lf}
@@ -32,13 +32,18 @@ separator_class : class_of 0x2028 ≡ NewLine
 unfolding class_of
 separator_class = refl
 
+paragraph_class : class_of 0x2029 ≡ NewLine
+unfolding class_of
+paragraph_class = refl
+
 new_line_class : (c : ℕ) → is_new_line c ≡ true → class_of c ≡ NewLine
-new_line_class c e = go (eqb c 0x0A) (eqb c 0x0D) refl refl e
+new_line_class c e = go (eqb c 0x0A) (eqb c 0x0D) (eqb c 0x2028) refl refl refl e
   where
-    go : (a b : Bool) → eqb c 0x0A ≡ a → eqb c 0x0D ≡ b → a || b || eqb c 0x2028 ≡ true → class_of c ≡ NewLine
-    go true b p q f = let same : c ≡ 0x0A = grind (arith, nat_tests) in ap class_of same ∙ lf_class
-    go false true p q f = let same : c ≡ 0x0D = grind (arith, nat_tests) in ap class_of same ∙ cr_class
-    go false false p q f = let same : c ≡ 0x2028 = grind (arith, nat_tests) in ap class_of same ∙ separator_class
+    go : (a b d : Bool) → eqb c 0x0A ≡ a → eqb c 0x0D ≡ b → eqb c 0x2028 ≡ d → a || b || d || eqb c 0x2029 ≡ true → class_of c ≡ NewLine
+    go true b d p q r f = let same : c ≡ 0x0A = grind (arith, nat_tests) in ap class_of same ∙ lf_class
+    go false true d p q r f = let same : c ≡ 0x0D = grind (arith, nat_tests) in ap class_of same ∙ cr_class
+    go false false true p q r f = let same : c ≡ 0x2028 = grind (arith, nat_tests) in ap class_of same ∙ separator_class
+    go false false false p q r f = let same : c ≡ 0x2029 = grind (arith, nat_tests) in ap class_of same ∙ paragraph_class
 
 -- a new line, of whatever kind, is one
 pub new_line_sign : (c : ℕ) → is_new_line c ≡ true → escaped_sign 0x0A ≡ escaped_sign c
@@ -94,6 +99,10 @@ escaped_print c after e n =
     let other : eqb c 92 ≡ false = grind (arith, nat_tests) in
     escaped_by_class c after Print e (λ q. cc) ∙ ap (λ b. cond b (codes "\\\\") (encode_utf8 c)) other
 
+-- and a marker
+pub escaped_marker : (c : ℕ) (after : Bool) → class_of c ≡ Marker → escaped_after after c ≡ encode_utf8 c
+escaped_marker c after e = escaped_by_class c after Marker e (λ q. cc)
+
 pub map_same : (xs : List ℕ) → map (λ x. x) xs ≡ xs
 map_same [] = refl
 map_same (x ∷ xs) = ap (λ l. x ∷ l) (map_same xs)
@@ -114,7 +123,8 @@ plain_signs (c ∷ cs) a =
     let d : eqb c 0x0A ≡ false = grind (arith, nat_tests) in
     let e : eqb c 0x0D ≡ false = grind (arith, nat_tests) in
     let f : eqb c 0x2028 ≡ false = grind (arith, nat_tests) in
-    rw (d, e, f) (ap (λ l. c ∷ l) (plain_signs cs (All-tail IsPlain c cs a)))
+    let g : eqb c 0x2029 ≡ false = grind (arith, nat_tests) in
+    rw (d, e, f, g) (ap (λ l. c ∷ l) (plain_signs cs (All-tail IsPlain c cs a)))
 
 plain_characters : (cs : List ℕ) → All IsPlain cs → flat_map escaped_sign cs ≡ cs
 plain_characters [] a = refl

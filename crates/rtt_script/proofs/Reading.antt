@@ -26,7 +26,7 @@ use Rattle.mixer_spec.proofs.Heard.{chunks_law}
 use Rattle.mixer_spec.proofs.HeardShort.{short_law}
 use Rattle.mixer_spec.proofs.Recordings.{recordings_law}
 use Rattle.text_spec.specs.declared.classes.CharClass.{CharClass}
-use Rattle.text_spec.specs.declared.classes.CharClass.TheVariants.{Erase, Bell, NewLine, Silent, Print}
+use Rattle.text_spec.specs.declared.classes.CharClass.TheVariants.{Erase, Bell, NewLine, Silent, Marker, Print}
 use Rattle.text_spec.specs.Characters.{class_of}
 use Rattle.command_spec.specs.declared.requests.ReadRequest.{ReadRequest}
 use Rattle.command_spec.specs.Reading.{usual_wait, records_of, arrivals_of}
@@ -163,6 +163,7 @@ sign_utf8 c h = go (class_of c)
     go Bell = ascii 97 (omega arith)
     go NewLine = ascii 110 (omega arith)
     go Silent = IsUtf8-nil
+    go Marker = print false
     go Print = print (eqb c 92)
 
 characters_utf8 : (cs : List ℕ) → scalars cs ≡ true → IsUtf8 (flat_map escaped_sign cs)

@@ -6,7 +6,7 @@ use Rattle.std.proofs.lemmas.Bool.{and_parts, cases_lt, true≢false}
 use Rattle.std.proofs.lemmas.Bool.Decides.{nat_tests}
 use Rattle.std.proofs.lemmas.Str.{inside_one, encode_ascii, encodes-chars}
 use Rattle.text_spec.specs.declared.classes.CharClass.{CharClass}
-use Rattle.text_spec.specs.declared.classes.CharClass.TheVariants.{Erase, Bell, NewLine, Silent, Print}
+use Rattle.text_spec.specs.declared.classes.CharClass.TheVariants.{Erase, Bell, NewLine, Silent, Marker, Print}
 use Rattle.text_spec.specs.Characters.{class_of, is_new_line}
 use Rattle.text_spec.specs.Characters as tests
 use Rattle.text_spec.specs.Shown.{begins_with_lf, signs}
@@ -47,25 +47,30 @@ an_escape : (d : ℕ) (octets rest text : List ℕ) → escape d ≡ Some octets
 an_escape d octets rest text o e = ap (λ (x : Option (List ℕ)). followed x (unescaped rest)) o ∙ ap (followed (Some octets)) e
 
 -- what a class comes from
-abbrev by_tests : Bool → Bool → Bool → Bool → CharClass
-by_tests a b n s = cond a Erase (cond b Bell (cond n NewLine (cond s Silent Print)))
+abbrev by_tests : Bool → Bool → Bool → Bool → Bool → CharClass
+by_tests a b n s m = cond a Erase (cond b Bell (cond n NewLine (cond s Silent (cond m Marker Print))))
 
-class_is : (c : ℕ) → class_of c ≡ by_tests (eqb c 0x08) (eqb c 0x07) (is_new_line c) (tests.is_silent c)
+class_is : (c : ℕ) → class_of c ≡ by_tests (eqb c 0x08) (eqb c 0x07) (is_new_line c) (tests.is_silent c) (eqb c 0xFFFD)
 unfolding class_of
 class_is c = refl
 
-separator : (c : ℕ) → is_new_line c ≡ true → eqb c 0x0A ≡ false → eqb c 0x0D ≡ false → c ≡ 0x2028
-separator c n a b =
-    let e : eqb c 0x2028 ≡ true = ap (λ y. (false || y) || eqb c 0x2028) (sym b) ∙ (ap (λ x. (x || eqb c 0x0D) || eqb c 0x2028) (sym a) ∙ n) in
-    grind (arith, nat_tests)
+separator : (c : ℕ) → is_new_line c ≡ true → eqb c 0x0A ≡ false → eqb c 0x0D ≡ false → eqb c 0x2029 ≡ false → c ≡ 0x2028
+separator c n a b d = go (eqb c 0x0A) (eqb c 0x0D) (eqb c 0x2028) (eqb c 0x2029) refl n a b d
+  where
+    go : (x y z w : Bool) → eqb c 0x2028 ≡ z → x || y || z || w ≡ true → x ≡ false → y ≡ false → w ≡ false → c ≡ 0x2028
+    go x y true w p e f g h = grind (arith, nat_tests)
+    go true y false w p e f g h = absurd (cc)
+    go false true false w p e f g h = absurd (cc)
+    go false false false true p e f g h = absurd (cc)
+    go false false false false p e f g h = absurd (cc)
 
 not_backslash : (c : ℕ) → eqb c 92 ≡ false → AllByRecursion (λ o. o ≢ 92) (encode_utf8 c)
 not_backslash c e = each_octet (λ o. o ≢ 92) c (λ s. let t : eqb c 92 ≡ true = grind (arith, nat_tests) in true≢false (sym t ∙ e)) (λ o big s. absurd (omega arith))
 
 -- what is said of a character is read as its octets
-sign_back : (c : ℕ) (rest text : List ℕ) → eqb c 0x0A ≡ false → eqb c 0x0D ≡ false → is_silent_class (class_of c) ≡ false → unescaped rest ≡ Some text → unescaped (escaped_sign c ++ rest) ≡ Some (encode_utf8 c ++ text)
-sign_back c rest text lf cr silent e =
-    ap (λ k. unescaped (escaped_as k c ++ rest)) (class_is c) ∙ go (eqb c 0x08) (eqb c 0x07) (is_new_line c) (tests.is_silent c) refl refl refl (ap is_silent_class (sym (class_is c)) ∙ silent)
+sign_back : (c : ℕ) (rest text : List ℕ) → eqb c 0x0A ≡ false → eqb c 0x0D ≡ false → eqb c 0x2029 ≡ false → is_silent_class (class_of c) ≡ false → unescaped rest ≡ Some text → unescaped (escaped_sign c ++ rest) ≡ Some (encode_utf8 c ++ text)
+sign_back c rest text lf cr paragraph silent e =
+    ap (λ k. unescaped (escaped_as k c ++ rest)) (class_is c) ∙ go (eqb c 0x08) (eqb c 0x07) (is_new_line c) (tests.is_silent c) (eqb c 0xFFFD) refl refl refl refl (ap is_silent_class (sym (class_is c)) ∙ silent)
   where
     print : (b : Bool) → eqb c 92 ≡ b → unescaped (cond b (codes "\\\\") (encode_utf8 c) ++ rest) ≡ Some (encode_utf8 c ++ text)
     print true p =
@@ -73,32 +78,37 @@ sign_back c rest text lf cr silent e =
         an_escape 92 (92 ∷ []) rest text refl e ∙ ap (λ (o : List ℕ). Some (o ++ text)) (sym (ap encode_utf8 same ∙ encode_ascii 92 (omega arith)))
     print false p = plain_octets (encode_utf8 c) rest text (not_backslash c p) e
 
-    go : (a b n s : Bool) → eqb c 0x08 ≡ a → eqb c 0x07 ≡ b → is_new_line c ≡ n → is_silent_class (by_tests a b n s) ≡ false → unescaped (escaped_as (by_tests a b n s) c ++ rest) ≡ Some (encode_utf8 c ++ text)
-    go true b n s p q r f =
+    go : (a b n s m : Bool) → eqb c 0x08 ≡ a → eqb c 0x07 ≡ b → is_new_line c ≡ n → eqb c 0xFFFD ≡ m → is_silent_class (by_tests a b n s m) ≡ false → unescaped (escaped_as (by_tests a b n s m) c ++ rest) ≡ Some (encode_utf8 c ++ text)
+    go true b n s m p q r t f =
         let same : c ≡ 8 = grind (arith, nat_tests) in
         an_escape 98 (8 ∷ []) rest text refl e ∙ ap (λ (o : List ℕ). Some (o ++ text)) (sym (ap encode_utf8 same ∙ encode_ascii 8 (omega arith)))
-    go false true n s p q r f =
+    go false true n s m p q r t f =
         let same : c ≡ 7 = grind (arith, nat_tests) in
         an_escape 97 (7 ∷ []) rest text refl e ∙ ap (λ (o : List ℕ). Some (o ++ text)) (sym (ap encode_utf8 same ∙ encode_ascii 7 (omega arith)))
-    go false false true s p q r f =
-        an_escape 110 (226 ∷ 128 ∷ 168 ∷ []) rest text refl e ∙ ap (λ (o : List ℕ). Some (o ++ text)) (sym (ap encode_utf8 (separator c r lf cr) ∙ line_separator))
-    go false false false true p q r f = absurd (cc)
-    go false false false false p q r f = print (eqb c 92) refl
+    go false false true s m p q r t f =
+        an_escape 110 (226 ∷ 128 ∷ 168 ∷ []) rest text refl e ∙ ap (λ (o : List ℕ). Some (o ++ text)) (sym (ap encode_utf8 (separator c r lf cr paragraph) ∙ line_separator))
+    go false false false true m p q r t f = absurd (cc)
+    go false false false false true p q r t f =
+        let other : eqb c 92 ≡ false = grind (arith, nat_tests) in
+        plain_octets (encode_utf8 c) rest text (not_backslash c other) e
+    go false false false false false p q r t f = print (eqb c 92) refl
 
 -- ---- a text
 pub record Parts (c : ℕ) : Type 0 where
   pub lf : eqb c 0x0A ≡ false
   pub cr : eqb c 0x0D ≡ false
+  pub paragraph : eqb c 0x2029 ≡ false
   pub silent : is_silent_class (class_of c) ≡ false
 
 pub parts_of : (c : ℕ) → is_sayable c ≡ true → Parts c
-parts_of c e = go (eqb c 0x0A) (eqb c 0x0D) (is_silent_class (class_of c)) refl refl refl e
+parts_of c e = go (eqb c 0x0A) (eqb c 0x0D) (eqb c 0x2029) (is_silent_class (class_of c)) refl refl refl refl e
   where
-    go : (a b s : Bool) → eqb c 0x0A ≡ a → eqb c 0x0D ≡ b → is_silent_class (class_of c) ≡ s → not (a || b || s) ≡ true → Parts c
-    go true b s p q r f = absurd (cc)
-    go false true s p q r f = absurd (cc)
-    go false false true p q r f = absurd (cc)
-    go false false false p q r f = record { lf = p; cr = q; silent = r }
+    go : (a b d s : Bool) → eqb c 0x0A ≡ a → eqb c 0x0D ≡ b → eqb c 0x2029 ≡ d → is_silent_class (class_of c) ≡ s → not (a || b || d || s) ≡ true → Parts c
+    go true b d s p q t r f = absurd (cc)
+    go false true d s p q t r f = absurd (cc)
+    go false false true s p q t r f = absurd (cc)
+    go false false false true p q t r f = absurd (cc)
+    go false false false false p q t r f = record { lf = p; cr = q; paragraph = t; silent = r }
 
 -- without CR, what stands for the signs stands for the characters
 pub said_as_characters : (cs : List ℕ) → list_all is_sayable cs ≡ true → flat_map escaped_sign (signs cs) ≡ flat_map escaped_sign cs
@@ -117,7 +127,7 @@ characters_back [] a = refl
 characters_back (c ∷ cs) a =
     let b = and_parts (is_sayable c) (list_all is_sayable cs) a in
     let p = parts_of c b.0 in
-    sign_back c (flat_map escaped_sign cs) (encode_utf8_all cs) p.lf p.cr p.silent (characters_back cs b.1)
+    sign_back c (flat_map escaped_sign cs) (encode_utf8_all cs) p.lf p.cr p.paragraph p.silent (characters_back cs b.1)
 
 pub text_back : (text : List ℕ) → IsUtf8 text → list_all is_sayable (chars text) ≡ true → unescaped (escaped text) ≡ Some text
 unfolding escaped
@@ -148,6 +158,7 @@ sign_inside c p = go (class_of c)
     go Bell = ((refl, refl), ((refl, refl), tt))
     go NewLine = ((refl, refl), ((refl, refl), tt))
     go Silent = tt
+    go Marker = print false
     go Print = print (eqb c 92)
 
 characters_inside : (cs : List ℕ) → list_all is_sayable cs ≡ true → AllByRecursion IsInside (flat_map escaped_sign cs)

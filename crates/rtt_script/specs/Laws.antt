@@ -14,9 +14,9 @@ abbrev pub is_silent_class : CharClass → Bool
 is_silent_class Silent = true
 is_silent_class _ = false
 
--- a line of a script can say it: it is neither LF nor CR nor silent
+-- a line of a script can say it: it is neither LF nor CR nor U+2029, which are said as U+2028, nor silent
 abbrev pub is_sayable : ℕ → Bool
-is_sayable c = not (c == 0x0A || c == 0x0D || is_silent_class (class_of c))
+is_sayable c = not (c == 0x0A || c == 0x0D || c == 0x2029 || is_silent_class (class_of c))
 
 -- a line of a script can say the text, and so late
 pub record IsSayable (c : Chunk) : Type 0 where

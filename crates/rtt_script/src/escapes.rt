@@ -44,6 +44,7 @@ fn append_escaped_character(c: char, after_cr: bool, out: &mut Bytes) -> Result<
         CharClass::NewLine if c == '\n' && after_cr => Ok(()),
         CharClass::NewLine => out.append(b"\\n"),
         CharClass::Silent => Ok(()),
+        CharClass::Marker => append_as_it_is(c, out),
         CharClass::Print if c == '\\' => out.append(b"\\\\"),
         CharClass::Print => append_as_it_is(c, out),
     }

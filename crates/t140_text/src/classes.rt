@@ -5,15 +5,19 @@ ghost use Rattle.text_spec.specs.Characters.{class_of};
 use text_spec::CharClass;
 
 /// What the character does on a display. CR and LF are each a new line here, also where they stand together.
-#[tactic(auto, unfolding(text_spec::specs::Characters::class_of))]
+#[tactic(auto, using(text_spec::proofs::Steps::plain_class), unfolding(text_spec::specs::Characters::class_of))]
 pub fn class(c: char) -> CharClass
     ensures { result ≡ class_of c }
 {
+    if ' ' <= c && c <= '~' {
+        return CharClass::Print;
+    }
     match c {
         '\u{8}' => CharClass::Erase,
         '\u{7}' => CharClass::Bell,
-        '\n' | '\r' | '\u{2028}' => CharClass::NewLine,
+        '\n' | '\r' | '\u{2028}' | '\u{2029}' => CharClass::NewLine,
         '\0'..='\u{1f}' | '\u{7f}'..='\u{9f}' | '\u{feff}' => CharClass::Silent,
+        '\u{fffd}' => CharClass::Marker,
         _ => CharClass::Print,
     }
 }

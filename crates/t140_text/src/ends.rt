@@ -100,7 +100,7 @@ impl Ending {
     fn is_line_end(&self) -> bool
         ensures { result ≡ is_line_end self.now }
     {
-        matches!(self.last, '\n' | '\r' | '\u{2028}')
+        matches!(self.last, '\n' | '\r' | '\u{2028}' | '\u{2029}')
     }
 
     /// Whether the three end a sentence.

@@ -1,5 +1,6 @@
 //! What a text shows so far, character by character.
-ghost use Rattle.std.specs.Prelude.{◌≡◌, ℕ, ◌+◌, ◌-◌, ◌<◌, ◌≤◌, ◌^◌, List, [], ◌∷◌, ◌++◌, length, All, OnOk, IfOk};
+ghost use Rattle.std.specs.Prelude.{◌≡◌, ℕ, ◌+◌, ◌-◌, ◌<◌, ◌≤◌, ◌^◌, List, [], ◌∷◌, ◌++◌, length, All, OnOk, IfOk, encode_utf8_all, string_bytes};
+ghost use Rattle.text_spec.specs.Shown.{one_back};
 ghost use Rattle.t140_text.specs.Screens.{Holds, IsPlain, Reads};
 
 use crate::class;
@@ -14,6 +15,20 @@ pub(crate) struct Screen {
     pub(crate) text: String,
     pub(crate) bells: u64,
     pub(crate) after_cr: bool,
+}
+
+/// Takes the last character away, if there is one and it is no marker.
+fn erase(text: &mut String) -> Result<(), NoMemory>
+    ensures { (cs : List ℕ) → string_bytes text.old ≡ encode_utf8_all cs
+        → OnOk result (string_bytes text.new ≡ encode_utf8_all (one_back cs)) }
+{
+    let Some(last) = text.pop() else {
+        return Ok(());
+    };
+    if last == '\u{fffd}' {
+        text.push(last)?;
+    }
+    Ok(())
 }
 
 impl Screen {
@@ -33,14 +48,12 @@ impl Screen {
         ensures { (cs : List ℕ) → Holds self.old cs → OnOk result (Holds self.new (cs ++ c ∷ [])) }
     {
         match class(c) {
-            CharClass::Erase => {
-                let _erased = self.text.pop();
-            }
+            CharClass::Erase => erase(&mut self.text)?,
             CharClass::Bell => self.bells += 1,
             CharClass::NewLine if c == '\n' && self.after_cr => {}
             CharClass::NewLine => self.text.push('\n')?,
             CharClass::Silent => {}
-            CharClass::Print => self.text.push(c)?,
+            CharClass::Marker | CharClass::Print => self.text.push(c)?,
         }
         self.after_cr = c == '\r';
         Ok(())

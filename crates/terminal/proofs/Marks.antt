@@ -1,6 +1,6 @@
 -- Packet by packet, as many markers are put as are heard.
 use Rattle.std.proofs.Common.{◌≡◌, ℕ, ◌+◌, ◌<◌, Bool, true, false, cond, inl, inr, Option, Some, None, List, [], ◌∷◌, ◌++◌, refl, ap, subst, sym, ◌∙◌, arith, append_assoc}
-use Rattle.std.specs.Prelude.{filter, map, length, ◌&&◌, ◌||◌, ◌==◌}
+use Rattle.std.specs.Prelude.{filter, length, ◌&&◌, ◌||◌, ◌==◌}
 use Rattle.std.proofs.lemmas.Bool.{eqb-true, ne_eqb}
 use Rattle.std.proofs.lemmas.List.Elements.{filter-append}
 use Rattle.wire_spec.specs.Packets.{Arrival}

@@ -22,6 +22,10 @@ texts_of t = t.heard.items
 abbrev pub counts_of : Terminal → Counts
 counts_of t = t.counts
 
+-- so many packets came, and each was used
+abbrev pub all_used : ℕ → Counts
+all_used packets = record { packets = packets; used = packets; refused = 0; foreign = 0 }
+
 -- it had no memory to hear on, and answers so from then on
 abbrev pub is_spent : Terminal → Bool
 is_spent t = t.spent

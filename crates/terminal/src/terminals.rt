@@ -1,7 +1,7 @@
 //! Hearing one to 64 sources in the packets of one stream, and counting the packets.
 ghost use Rattle.std.specs.Prelude.{◌≡◌, ◌≢◌, ◌+◌, ◌≤◌, ◌<◌, ◌^◌, [], length, Bool, OnOk, OnErr, IfOk, IsTrue, All, AllPairs, vec_len};
 ghost use Rattle.ear.specs.Hears.{arrival_count, is_clear, is_quiet, is_finished};
-ghost use Rattle.terminal.specs.Terminals.{texts_of, counts_of, is_spent, IsWhole, IsEmpty, IsHearingTexts, SameCounts, Listens, IsListening, IsOpen, IsFinished};
+ghost use Rattle.terminal.specs.Terminals.{texts_of, counts_of, is_spent, all_used, IsWhole, IsEmpty, IsHearingTexts, SameCounts, Listens, IsListening, IsOpen, IsFinished};
 ghost use Rattle.terminal.specs.Told.{MayTake, TakesPacket, TakesUnread, ListensAlike, one_if_refused, one_if_foreign, GathersTexts, HearsToEnd};
 ghost use Rattle.rtt_base.specs.declared.limits.TheConstants.{END_OF_MOMENTS, LONGEST_WAIT, MOST_ARRIVALS, MOST_SOURCES};
 
@@ -48,6 +48,7 @@ impl Terminal {
         requires differ { AllPairs (λ a b. a ≢ b) sources.now }
         ensures listens { IfOk result (λ terminal. Listens terminal conf sources.now []) }
         ensures packets { IfOk result (λ terminal. (counts_of terminal).packets ≡ 0) }
+        ensures whole { IfOk result IsWhole }
     {
         let asked = EarConf {
             ssrc: conf.ssrc,
@@ -61,6 +62,34 @@ impl Terminal {
             counts: Counts::default(),
             spent: false,
         })
+    }
+
+    /// A terminal that is told what there is to hear of these sources, in place of the packets, so many, each of which was
+    /// used.
+    pub fn told(
+        alloc: Global,
+        conf: TermConf,
+        sources: &[u32],
+        heard: Vec<SourceText>,
+        packets: u64,
+    ) -> Result<Terminal, NoMemory>
+        requires wait { conf.wait ≤ LONGEST_WAIT }
+        requires some { 0 < length sources.now }
+        requires few { length sources.now ≤ MOST_SOURCES }
+        requires differ { AllPairs (λ a b. a ≢ b) sources.now }
+        ensures texts { IfOk result (λ terminal. texts_of terminal ≡ heard.items) }
+        ensures counts { IfOk result (λ terminal. counts_of terminal ≡ all_used packets) }
+        ensures whole { IfOk result IsWhole }
+    {
+        let mut terminal = Terminal::new(alloc, conf, sources)?;
+        terminal.heard = heard;
+        terminal.counts = Counts {
+            packets,
+            used: packets,
+            refused: 0,
+            foreign: 0,
+        };
+        Ok(terminal)
     }
 
     /// Hears the packets that are settled.

@@ -7,16 +7,16 @@ use Rattle.std.proofs.lemmas.Bool.{and_parts}
 use Rattle.std.proofs.lemmas.List.Elements.{All-nil, All-cons}
 use Rattle.std.proofs.lemmas.Str.{chars-encodes, scalars-chars}
 use Rattle.text_spec.specs.declared.classes.CharClass.{CharClass}
-use Rattle.text_spec.specs.declared.classes.CharClass.TheVariants.{Erase, Bell, NewLine, Silent, Print}
-use Rattle.text_spec.specs.Characters.{class_of, is_new_line, is_erasable, is_print}
-use Rattle.text_spec.specs.Shown.{begins_with_lf, signs, survivors, takes_back, lines_of, shown}
+use Rattle.text_spec.specs.declared.classes.CharClass.TheVariants.{Erase, Bell, NewLine, Silent, Marker, Print}
+use Rattle.text_spec.specs.Characters.{class_of, is_new_line, is_erasable, is_marker, is_print}
+use Rattle.text_spec.specs.Shown.{begins_with_lf, signs, stays, survivors, takes_back, lines_of, shown}
 use Rattle.text_spec.proofs.Steps.{new_line}
 
 -- a printing character of Unicode
 abbrev prints : ℕ → Bool
 prints c = scalar c && is_print (class_of c)
 
-and_both : (x y : Bool) → x ≡ true → y ≡ true → x && y ≡ true
+pub and_both : (x y : Bool) → x ≡ true → y ≡ true → x && y ≡ true
 and_both true y e f = f
 and_both false y e f = absurd (cc)
 
@@ -32,30 +32,35 @@ all_weaker p q h [] e = refl
 all_weaker p q h (c ∷ cs) e = let a = and_parts _ _ e in and_both (q c) (list_all q cs) (h c a.0) (all_weaker p q h cs a.1)
 
 -- what all characters have, the survivors have
-all_survivors : (p : ℕ → Bool) (cs : List ℕ) → list_all p cs ≡ true → list_all p (survivors cs) ≡ true
+pub all_survivors : (p : ℕ → Bool) (cs : List ℕ) → list_all p cs ≡ true → list_all p (survivors cs) ≡ true
 all_survivors p [] e = refl
 all_survivors p (c ∷ cs) e =
     let a = and_parts _ _ e in
-    go (is_erasable (class_of c) && not (takes_back cs)) a.0 (all_survivors p cs a.1)
+    go (stays c cs) a.0 (all_survivors p cs a.1)
   where
     go : (b : Bool) → p c ≡ true → list_all p (survivors cs) ≡ true → list_all p (cond b (c ∷ survivors cs) (survivors cs)) ≡ true
     go true one again = and_both (p c) (list_all p (survivors cs)) one again
     go false one again = again
 
-erasable_survivors : (cs : List ℕ) → list_all (λ c. is_erasable (class_of c)) (survivors cs) ≡ true
-erasable_survivors [] = refl
-erasable_survivors (c ∷ cs) = go (is_erasable (class_of c)) (not (takes_back cs)) refl (erasable_survivors cs)
+-- a marker, or what an erasure could take back
+abbrev can_stay : CharClass → Bool
+can_stay k = is_marker k || is_erasable k
+
+staying_survivors : (cs : List ℕ) → list_all (λ c. can_stay (class_of c)) (survivors cs) ≡ true
+staying_survivors [] = refl
+staying_survivors (c ∷ cs) = go (is_marker (class_of c)) (is_erasable (class_of c)) (not (takes_back cs)) refl (staying_survivors cs)
   where
-    go : (b d : Bool) → is_erasable (class_of c) ≡ b → list_all (λ x. is_erasable (class_of x)) (survivors cs) ≡ true → list_all (λ x. is_erasable (class_of x)) (cond (b && d) (c ∷ survivors cs) (survivors cs)) ≡ true
-    go true true e again = and_both (is_erasable (class_of c)) _ e again
-    go true false e again = again
-    go false d e again = again
+    go : (m b d : Bool) → can_stay (class_of c) ≡ m || b → list_all (λ x. can_stay (class_of x)) (survivors cs) ≡ true → list_all (λ x. can_stay (class_of x)) (cond (m || (b && d)) (c ∷ survivors cs) (survivors cs)) ≡ true
+    go true b d e again = and_both (can_stay (class_of c)) _ e again
+    go false true true e again = and_both (can_stay (class_of c)) _ e again
+    go false true false e again = again
+    go false false d e again = again
 
 -- the signs have no new line but LF, and nothing but LF that the text has not
 abbrev is_sign : ℕ → Bool
 is_sign c = eqb c 0x0A || not (is_new_line c)
 
-all_signs : (p : ℕ → Bool) → p 0x0A ≡ true → (cs : List ℕ) → list_all p cs ≡ true → list_all p (signs cs) ≡ true
+pub all_signs : (p : ℕ → Bool) → p 0x0A ≡ true → (cs : List ℕ) → list_all p cs ≡ true → list_all p (signs cs) ≡ true
 all_signs p lf [] e = refl
 all_signs p lf (c ∷ cs) e =
     let a = and_parts _ _ e in
@@ -84,35 +89,36 @@ signs_are_signs (c ∷ cs) = go (eqb c 0x0D && begins_with_lf cs) (is_new_line c
 abbrev stands : ℕ → Bool
 stands c = eqb c 0x0A || prints c
 
-erasable_class : (k : CharClass) → is_erasable k ≡ true → (k ≡ NewLine → ⊥) → is_print k ≡ true
-erasable_class Print e other = refl
-erasable_class NewLine e other = absurd (other refl)
-erasable_class Erase e other = absurd (cc)
-erasable_class Bell e other = absurd (cc)
-erasable_class Silent e other = absurd (cc)
+staying_class : (k : CharClass) → can_stay k ≡ true → (k ≡ NewLine → ⊥) → is_print k ≡ true
+staying_class Print e other = refl
+staying_class Marker e other = refl
+staying_class NewLine e other = absurd (other refl)
+staying_class Erase e other = absurd (cc)
+staying_class Bell e other = absurd (cc)
+staying_class Silent e other = absurd (cc)
 
 no_line : (x n : Bool) → x ≡ false → x || not n ≡ true → n ≡ true → ⊥
 no_line false true e f g = absurd (let h : false ≡ true = f in cc)
 no_line false false e f g = absurd (cc)
 no_line true n e f g = absurd (cc)
 
-standing : (c : ℕ) → scalar c && (is_erasable (class_of c) && is_sign c) ≡ true → stands c ≡ true
+standing : (c : ℕ) → scalar c && (can_stay (class_of c) && is_sign c) ≡ true → stands c ≡ true
 standing c e =
     let a = and_parts _ _ e in
     let b = and_parts _ _ a.1 in
     go (eqb c 0x0A) refl a.0 b.0 b.1
   where
-    go : (x : Bool) → eqb c 0x0A ≡ x → scalar c ≡ true → is_erasable (class_of c) ≡ true → is_sign c ≡ true → x || prints c ≡ true
+    go : (x : Bool) → eqb c 0x0A ≡ x → scalar c ≡ true → can_stay (class_of c) ≡ true → is_sign c ≡ true → x || prints c ≡ true
     go true f sc er si = refl
-    go false f sc er si = and_both (scalar c) (is_print (class_of c)) sc (erasable_class (class_of c) er (λ k. no_line (eqb c 0x0A) (is_new_line c) f si (new_line c k)))
+    go false f sc er si = and_both (scalar c) (is_print (class_of c)) sc (staying_class (class_of c) er (λ k. no_line (eqb c 0x0A) (is_new_line c) f si (new_line c k)))
 
-lf_is_scalar : scalar 0x0A ≡ true
+pub lf_is_scalar : scalar 0x0A ≡ true
 lf_is_scalar = refl
 
 stand_all : (cs : List ℕ) → list_all scalar cs ≡ true → list_all stands (survivors (signs cs)) ≡ true
 stand_all cs e = all_weaker _ stands standing (survivors (signs cs))
-    (all_both scalar (λ c. is_erasable (class_of c) && is_sign c) _ (all_survivors scalar (signs cs) (all_signs scalar lf_is_scalar cs e))
-    (all_both (λ c. is_erasable (class_of c)) is_sign _ (erasable_survivors (signs cs)) (all_survivors is_sign (signs cs) (signs_are_signs cs))))
+    (all_both scalar (λ c. can_stay (class_of c) && is_sign c) _ (all_survivors scalar (signs cs) (all_signs scalar lf_is_scalar cs e))
+    (all_both (λ c. can_stay (class_of c)) is_sign _ (staying_survivors (signs cs)) (all_survivors is_sign (signs cs) (signs_are_signs cs))))
 
 -- so a line prints
 abbrev each_prints : List (List ℕ) → Type 0
@@ -136,7 +142,7 @@ lines_print (c ∷ cs) e =
 abbrev pub PrintsOctets : List ℕ → Type 0
 PrintsOctets line = IsUtf8 line × (list_all (λ c. is_print (class_of c)) (chars line) ≡ true)
 
-scalars_same : (cs : List ℕ) → all_scalars cs ≡ list_all scalar cs
+pub scalars_same : (cs : List ℕ) → all_scalars cs ≡ list_all scalar cs
 scalars_same [] = refl
 scalars_same (c ∷ cs) = ap (λ b. scalar c && b) (scalars_same cs)
 

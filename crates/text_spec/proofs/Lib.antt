@@ -5,3 +5,4 @@ pub mod Steps
 pub mod Octets
 pub mod Separators
 pub mod Kept
+pub mod Parts

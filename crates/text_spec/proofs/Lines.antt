@@ -1,5 +1,5 @@
 -- The lines of what is shown: plain texts, and how long they are.
-use Rattle.std.proofs.Common.{◌≡◌, ℕ, ◌+◌, ◌<◌, ◌≤◌, Bool, true, false, ◌||◌, ◌&&◌, not, cond, eqb, List, [], ◌∷◌, ◌++◌, map, length, refl, sym, ap, ap₂, subst, ◌∙◌, arith, length-append, encode_utf8_all, IsUtf8}
+use Rattle.std.proofs.Common.{◌≡◌, ℕ, ◌+◌, ◌<◌, ◌≤◌, Bool, true, false, ◌||◌, ◌&&◌, cond, eqb, List, [], ◌∷◌, ◌++◌, map, length, ◌⊎◌, inl, inr, refl, sym, ap, ap₂, subst, ◌∙◌, arith, length-append, encode_utf8_all, IsUtf8}
 use Rattle.std.specs.List.{list_all, concat, onto_first}
 use Rattle.std.proofs.lemmas.List.{length-map}
 use Rattle.std.proofs.lemmas.Bool.{and_parts}
@@ -7,11 +7,11 @@ use Rattle.std.proofs.lemmas.Str.{encodes-chars, length-encode, len_utf8_bounds}
 use Rattle.std.specs.Char.{encode_utf8}
 use Rattle.std.specs.Str.{chars}
 use Rattle.text_spec.specs.declared.classes.CharClass.{CharClass}
-use Rattle.text_spec.specs.declared.classes.CharClass.TheVariants.{Erase, Bell, NewLine, Silent, Print}
-use Rattle.text_spec.specs.Characters.{class_of, is_new_line, is_erasable, is_bell, is_print, is_silent}
-use Rattle.text_spec.specs.Shown.{begins_with_lf, signs, survivors, takes_back, lines_of, shown, bells, Display}
+use Rattle.text_spec.specs.declared.classes.CharClass.TheVariants.{Erase, Bell, NewLine, Silent, Marker, Print}
+use Rattle.text_spec.specs.Characters.{class_of, is_new_line, is_bell, is_print, is_silent}
+use Rattle.text_spec.specs.Shown.{begins_with_lf, signs, stays, survivors, lines_of, shown, bells, Display}
 use Rattle.text_spec.proofs.Signs.{not_lf}
-use Rattle.text_spec.proofs.Erasing.{Stands, reach, survivors_with, reach_stands}
+use Rattle.text_spec.proofs.Erasing.{Marks, Stands, reach, reach_marks, reach_stands, survivors_marked, survivors_with}
 
 -- how many octets lie on the lines
 abbrev pub octets : List (List ℕ) → ℕ
@@ -34,7 +34,7 @@ octets_lines (c ∷ cs) =
 
 octets_survivors : (cs : List ℕ) → length (encode_utf8_all (survivors cs)) ≤ length (encode_utf8_all cs)
 octets_survivors [] = omega arith
-octets_survivors (c ∷ cs) = go (is_erasable (class_of c) && not (takes_back cs)) (octets_survivors cs)
+octets_survivors (c ∷ cs) = go (stays c cs) (octets_survivors cs)
   where
     go : (b : Bool) → length (encode_utf8_all (survivors cs)) ≤ length (encode_utf8_all cs) → length (encode_utf8_all (cond b (c ∷ survivors cs) (survivors cs))) ≤ length (encode_utf8 c ++ encode_utf8_all cs)
     go true again = omega (arith, length-append (encode_utf8 c) (encode_utf8_all (survivors cs)), length-append (encode_utf8 c) (encode_utf8_all cs))
@@ -62,20 +62,21 @@ never_longer text u =
     let cs : List ℕ = chars text in
     omega (arith, octets_concat (lines_of (survivors (signs cs))), octets_lines (survivors (signs cs)), octets_survivors (signs cs), octets_signs cs, ap length (encodes-chars text u))
 
--- a printing character stands, and is no new line
+-- a character that is shown as it is stands or is a marker, and is no new line
 pub record Plain (c : ℕ) : Type 0 where
-  pub stands : Stands (class_of c)
+  pub stands : Stands (class_of c) ⊎ Marks (class_of c)
   pub line : is_new_line c ≡ false
   pub bell : is_bell (class_of c) ≡ false
 
-no_new_line : (a b n s : Bool) → is_print (cond a Erase (cond b Bell (cond n NewLine (cond s Silent Print)))) ≡ true → n ≡ false
-no_new_line a b false s e = refl
-no_new_line true b true s e = absurd (cc)
-no_new_line false true true s e = absurd (cc)
-no_new_line false false true s e = absurd (cc)
+no_new_line : (a b n s m : Bool) → is_print (cond a Erase (cond b Bell (cond n NewLine (cond s Silent (cond m Marker Print))))) ≡ true → n ≡ false
+no_new_line a b false s m e = refl
+no_new_line true b true s m e = absurd (cc)
+no_new_line false true true s m e = absurd (cc)
+no_new_line false false true s m e = absurd (cc)
 
-stands_print : (k : CharClass) → is_print k ≡ true → Stands k
-stands_print Print e = record { stays = refl; stands = refl }
+stands_print : (k : CharClass) → is_print k ≡ true → Stands k ⊎ Marks k
+stands_print Print e = inl (record { unmarked = refl; stays = refl; stands = refl })
+stands_print Marker e = inr (record { marks = refl; stays = refl; passes = refl })
 stands_print Erase e = absurd (cc)
 stands_print Bell e = absurd (cc)
 stands_print NewLine e = absurd (cc)
@@ -83,6 +84,7 @@ stands_print Silent e = absurd (cc)
 
 silent_print : (k : CharClass) → is_print k ≡ true → is_bell k ≡ false
 silent_print Print e = refl
+silent_print Marker e = refl
 silent_print Erase e = absurd (cc)
 silent_print Bell e = absurd (cc)
 silent_print NewLine e = absurd (cc)
@@ -90,7 +92,7 @@ silent_print Silent e = absurd (cc)
 
 new_line_print : (c : ℕ) → is_print (class_of c) ≡ true → is_new_line c ≡ false
 unfolding class_of
-new_line_print c e = no_new_line (eqb c 0x08) (eqb c 0x07) (is_new_line c) (is_silent c) e
+new_line_print c e = no_new_line (eqb c 0x08) (eqb c 0x07) (is_new_line c) (is_silent c) (eqb c 0xFFFD) e
 
 plain : (c : ℕ) → is_print (class_of c) ≡ true → Plain c
 plain c e = record {
@@ -99,18 +101,18 @@ plain c e = record {
   bell = silent_print (class_of c) e;
 }
 
-not_cr : (c : ℕ) → is_new_line c ≡ false → eqb c 0x0D ≡ false
-not_cr c e = no_second (eqb c 0x0A) (eqb c 0x0D) (eqb c 0x2028) e
+pub not_cr : (c : ℕ) → is_new_line c ≡ false → eqb c 0x0D ≡ false
+not_cr c e = no_second (eqb c 0x0A) (eqb c 0x0D) (eqb c 0x2028) (eqb c 0x2029) e
   where
-    no_second : (x y z : Bool) → x || y || z ≡ false → y ≡ false
-    no_second x false z f = refl
-    no_second true true z f = absurd (cc)
-    no_second false true z f = absurd (cc)
+    no_second : (x y z w : Bool) → x || y || z || w ≡ false → y ≡ false
+    no_second x false z w f = refl
+    no_second true true z w f = absurd (cc)
+    no_second false true z w f = absurd (cc)
 
 abbrev pub are_print : List ℕ → Bool
 are_print cs = list_all (λ c. is_print (class_of c)) cs
 
-plain_signs : (cs : List ℕ) → are_print cs ≡ true → signs cs ≡ cs
+pub plain_signs : (cs : List ℕ) → are_print cs ≡ true → signs cs ≡ cs
 plain_signs [] e = refl
 plain_signs (c ∷ cs) e =
     let p = and_parts _ _ e in
@@ -126,17 +128,24 @@ plain_signs (c ∷ cs) e =
     kept true n f g = absurd (cc)
     kept false true f g = absurd (cc)
 
-plain_reach : (cs : List ℕ) → are_print cs ≡ true → reach cs ≡ 0
+pub plain_reach : (cs : List ℕ) → are_print cs ≡ true → reach cs ≡ 0
 plain_reach [] e = refl
 plain_reach (c ∷ cs) e =
     let p = and_parts _ _ e in
-    reach_stands c cs (stands_print (class_of c) p.0) ∙ omega (arith, plain_reach cs p.1)
+    elim (stands_print (class_of c) p.0) [
+      | inl h ↦ reach_stands c cs h ∙ omega (arith, plain_reach cs p.1)
+      | inr h ↦ reach_marks c cs h
+    ]
 
-plain_survivors : (cs : List ℕ) → are_print cs ≡ true → survivors cs ≡ cs
+pub plain_survivors : (cs : List ℕ) → are_print cs ≡ true → survivors cs ≡ cs
 plain_survivors [] e = refl
 plain_survivors (c ∷ cs) e =
     let p = and_parts _ _ e in
-    survivors_with c cs (stands_print (class_of c) p.0) (plain_reach cs p.1) ∙ ap (λ l. c ∷ l) (plain_survivors cs p.1)
+    let first : survivors (c ∷ cs) ≡ c ∷ survivors cs = elim (stands_print (class_of c) p.0) [
+      | inl h ↦ survivors_with c cs h (plain_reach cs p.1)
+      | inr h ↦ survivors_marked c cs h.marks
+    ] in
+    first ∙ ap (λ l. c ∷ l) (plain_survivors cs p.1)
 
 plain_lines : (cs : List ℕ) → are_print cs ≡ true → lines_of cs ≡ cs ∷ []
 plain_lines [] e = refl
@@ -168,7 +177,7 @@ some_in_first : (c : ℕ) (lines : List (List ℕ)) → 0 < length (onto_first c
 some_in_first c [] = omega arith
 some_in_first c (line ∷ lines) = omega arith
 
-some_line : (cs : List ℕ) → 0 < length (lines_of cs)
+pub some_line : (cs : List ℕ) → 0 < length (lines_of cs)
 some_line [] = omega arith
 some_line (c ∷ cs) = go (eqb c 0x0A)
   where

@@ -5,11 +5,11 @@ use Rattle.text_spec.specs.Characters.{is_new_line}
 use Rattle.text_spec.specs.Shown.{begins_with_lf, signs, ends_with_cr}
 
 pub not_lf : (c : ℕ) → is_new_line c ≡ false → eqb c 0x0A ≡ false
-not_lf c e = no_first (eqb c 0x0A) (eqb c 0x0D) (eqb c 0x2028) e
+not_lf c e = no_first (eqb c 0x0A) (eqb c 0x0D) (eqb c 0x2028) (eqb c 0x2029) e
   where
-    no_first : (x y z : Bool) → x || y || z ≡ false → x ≡ false
-    no_first false y z f = refl
-    no_first true y z f = absurd (cc)
+    no_first : (x y z w : Bool) → x || y || z || w ≡ false → x ≡ false
+    no_first false y z w f = refl
+    no_first true y z w f = absurd (cc)
 
 -- what one character adds before the given signs
 abbrev sign_before : Bool → ℕ → List ℕ → List ℕ

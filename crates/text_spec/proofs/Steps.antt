@@ -1,77 +1,101 @@
 -- One more character: what it does to what stands, by its class.
-use Rattle.std.proofs.Common.{◌≡◌, ℕ, ◌+◌, ◌<◌, Bool, true, false, ◌&&◌, cond, eqb, ltb, leb, List, [], ◌∷◌, ◌++◌, length, refl, ap, ◌∙◌, arith, length-append, ◌≤◌, filter}
+use Rattle.std.proofs.Common.{◌≡◌, ℕ, ◌+◌, ◌<◌, Bool, true, false, ◌&&◌, cond, eqb, ltb, leb, List, [], ◌∷◌, ◌++◌, length, ◌⊎◌, inl, inr, refl, ap, ◌∙◌, arith, length-append, ◌≤◌, filter}
 use Rattle.std.proofs.lemmas.List.Elements.{filter-append}
 use Rattle.std.proofs.lemmas.Bool.{and_right}
 use Rattle.std.proofs.lemmas.Bool.Decides.{nat_tests}
 use Rattle.text_spec.specs.declared.classes.CharClass.{CharClass}
-use Rattle.text_spec.specs.declared.classes.CharClass.TheVariants.{Erase, Bell, NewLine, Silent, Print}
+use Rattle.text_spec.specs.declared.classes.CharClass.TheVariants.{Erase, Bell, NewLine, Silent, Marker, Print}
 use Rattle.text_spec.specs.Characters.{class_of, is_new_line, is_bell}
-use Rattle.text_spec.specs.Shown.{signs, ends_with_cr, survivors, without_last, bells}
-use Rattle.text_spec.proofs.Erasing.{erased, appended, passed}
+use Rattle.text_spec.specs.Shown.{signs, ends_with_cr, survivors, one_back, bells}
+use Rattle.text_spec.proofs.Erasing.{erased, appended, marked, passed}
 use Rattle.text_spec.proofs.Signs.{not_lf, signs-append, signs-cr_lf}
 
 -- a class by the tests, in their order
-abbrev by_tests : Bool → Bool → Bool → Bool → CharClass
-by_tests a b n s = cond a Erase (cond b Bell (cond n NewLine (cond s Silent Print)))
+abbrev by_tests : Bool → Bool → Bool → Bool → Bool → CharClass
+by_tests a b n s m = cond a Erase (cond b Bell (cond n NewLine (cond s Silent (cond m Marker Print))))
 
-tests_erase : (a b n s : Bool) → by_tests a b n s ≡ Erase → a ≡ true
-tests_erase true b n s e = refl
-tests_erase false true n s e = absurd (cc)
-tests_erase false false true s e = absurd (cc)
-tests_erase false false false true e = absurd (cc)
-tests_erase false false false false e = absurd (cc)
+tests_erase : (a b n s m : Bool) → by_tests a b n s m ≡ Erase → a ≡ true
+tests_erase true b n s m e = refl
+tests_erase false true n s m e = absurd (cc)
+tests_erase false false true s m e = absurd (cc)
+tests_erase false false false true m e = absurd (cc)
+tests_erase false false false false true e = absurd (cc)
+tests_erase false false false false false e = absurd (cc)
 
-tests_bell : (a b n s : Bool) → by_tests a b n s ≡ Bell → b ≡ true
-tests_bell true b n s e = absurd (cc)
-tests_bell false true n s e = refl
-tests_bell false false true s e = absurd (cc)
-tests_bell false false false true e = absurd (cc)
-tests_bell false false false false e = absurd (cc)
+tests_bell : (a b n s m : Bool) → by_tests a b n s m ≡ Bell → b ≡ true
+tests_bell true b n s m e = absurd (cc)
+tests_bell false true n s m e = refl
+tests_bell false false true s m e = absurd (cc)
+tests_bell false false false true m e = absurd (cc)
+tests_bell false false false false true e = absurd (cc)
+tests_bell false false false false false e = absurd (cc)
 
-tests_new_line : (a b n s : Bool) → by_tests a b n s ≡ NewLine → n ≡ true
-tests_new_line true b n s e = absurd (cc)
-tests_new_line false true n s e = absurd (cc)
-tests_new_line false false true s e = refl
-tests_new_line false false false true e = absurd (cc)
-tests_new_line false false false false e = absurd (cc)
+tests_new_line : (a b n s m : Bool) → by_tests a b n s m ≡ NewLine → n ≡ true
+tests_new_line true b n s m e = absurd (cc)
+tests_new_line false true n s m e = absurd (cc)
+tests_new_line false false true s m e = refl
+tests_new_line false false false true m e = absurd (cc)
+tests_new_line false false false false true e = absurd (cc)
+tests_new_line false false false false false e = absurd (cc)
 
-tests_silent : (a b n s : Bool) → by_tests a b n s ≡ Silent → n ≡ false
-tests_silent true b n s e = absurd (cc)
-tests_silent false true n s e = absurd (cc)
-tests_silent false false true s e = absurd (cc)
-tests_silent false false false s e = refl
+tests_silent : (a b n s m : Bool) → by_tests a b n s m ≡ Silent → n ≡ false
+tests_silent true b n s m e = absurd (cc)
+tests_silent false true n s m e = absurd (cc)
+tests_silent false false true s m e = absurd (cc)
+tests_silent false false false true m e = refl
+tests_silent false false false false true e = absurd (cc)
+tests_silent false false false false false e = absurd (cc)
 
-tests_print : (a b n s : Bool) → by_tests a b n s ≡ Print → n ≡ false
-tests_print true b n s e = absurd (cc)
-tests_print false true n s e = absurd (cc)
-tests_print false false true s e = absurd (cc)
-tests_print false false false s e = refl
+tests_marker : (a b n s m : Bool) → by_tests a b n s m ≡ Marker → m ≡ true
+tests_marker true b n s m e = absurd (cc)
+tests_marker false true n s m e = absurd (cc)
+tests_marker false false true s m e = absurd (cc)
+tests_marker false false false true m e = absurd (cc)
+tests_marker false false false false true e = refl
+tests_marker false false false false false e = absurd (cc)
+
+tests_print : (a b n s m : Bool) → by_tests a b n s m ≡ Print → n ≡ false
+tests_print true b n s m e = absurd (cc)
+tests_print false true n s m e = absurd (cc)
+tests_print false false true s m e = absurd (cc)
+tests_print false false false true m e = absurd (cc)
+tests_print false false false false true e = absurd (cc)
+tests_print false false false false false e = refl
 
 same_code : (c d : ℕ) → eqb c d ≡ true → c ≡ d
 same_code c d e = grind (arith, nat_tests)
 
--- whether a character is a new line, by its class
-erase_line : (c : ℕ) → class_of c ≡ Erase → is_new_line c ≡ false
+-- only U+0008 erases
+pub erase_code : (c : ℕ) → class_of c ≡ Erase → c ≡ 0x08
 unfolding class_of
-erase_line c e = let same : c ≡ 0x08 = same_code c 0x08 (tests_erase _ _ _ _ e) in rw same refl
+erase_code c e = same_code c 0x08 (tests_erase _ _ _ _ _ e)
+
+-- whether a character is a new line, by its class
+pub erase_line : (c : ℕ) → class_of c ≡ Erase → is_new_line c ≡ false
+unfolding class_of
+erase_line c e = let same : c ≡ 0x08 = same_code c 0x08 (tests_erase _ _ _ _ _ e) in rw same refl
 
 bell_line : (c : ℕ) → class_of c ≡ Bell → is_new_line c ≡ false
 unfolding class_of
-bell_line c e = let same : c ≡ 0x07 = same_code c 0x07 (tests_bell _ _ _ _ e) in rw same refl
+bell_line c e = let same : c ≡ 0x07 = same_code c 0x07 (tests_bell _ _ _ _ _ e) in rw same refl
 
 pub new_line : (c : ℕ) → class_of c ≡ NewLine → is_new_line c ≡ true
 unfolding class_of
-new_line c e = tests_new_line _ _ _ _ e
+new_line c e = tests_new_line _ _ _ _ _ e
 
 silent_line : (c : ℕ) → class_of c ≡ Silent → is_new_line c ≡ false
 unfolding class_of
-silent_line c e = tests_silent _ _ _ _ e
+silent_line c e = tests_silent _ _ _ _ _ e
 
-print_line : (c : ℕ) → class_of c ≡ Print → is_new_line c ≡ false
+marker_line : (c : ℕ) → class_of c ≡ Marker → is_new_line c ≡ false
 unfolding class_of
-print_line c e = tests_print _ _ _ _ e
+marker_line c e = let same : c ≡ 0xFFFD = same_code c 0xFFFD (tests_marker _ _ _ _ _ e) in rw same refl
 
-lf_class : class_of 0x0A ≡ NewLine
+pub print_line : (c : ℕ) → class_of c ≡ Print → is_new_line c ≡ false
+unfolding class_of
+print_line c e = tests_print _ _ _ _ _ e
+
+pub lf_class : class_of 0x0A ≡ NewLine
 unfolding class_of
 lf_class = refl
 
@@ -80,12 +104,12 @@ sign_of : (first : Bool) (n : Bool) (c : ℕ) → cond (first && false) [] (cond
 sign_of true n c = refl
 sign_of false n c = refl
 
-signs_letter : (cs : List ℕ) (c : ℕ) → is_new_line c ≡ false → signs (cs ++ c ∷ []) ≡ signs cs ++ c ∷ []
+pub signs_letter : (cs : List ℕ) (c : ℕ) → is_new_line c ≡ false → signs (cs ++ c ∷ []) ≡ signs cs ++ c ∷ []
 signs_letter cs c e =
     signs-append cs (c ∷ []) (and_right (ends_with_cr cs) (eqb c 0x0A) (not_lf c e))
     ∙ ap (λ l. signs cs ++ l) (sign_of (eqb c 0x0D) (is_new_line c) c ∙ ap (λ b. cond b (0x0A ∷ []) (c ∷ [])) e)
 
-signs_new_line : (cs : List ℕ) (c : ℕ) → is_new_line c ≡ true → eqb c 0x0A && ends_with_cr cs ≡ false → signs (cs ++ c ∷ []) ≡ signs cs ++ 0x0A ∷ []
+pub signs_new_line : (cs : List ℕ) (c : ℕ) → is_new_line c ≡ true → eqb c 0x0A && ends_with_cr cs ≡ false → signs (cs ++ c ∷ []) ≡ signs cs ++ 0x0A ∷ []
 signs_new_line cs c e f =
     signs-append cs (c ∷ []) (turned (eqb c 0x0A) (ends_with_cr cs) f)
     ∙ ap (λ l. signs cs ++ l) (sign_of (eqb c 0x0D) (is_new_line c) c ∙ ap (λ b. cond b (0x0A ∷ []) (c ∷ [])) e)
@@ -97,17 +121,29 @@ signs_new_line cs c e f =
     turned false false g = refl
 
 -- what stands after one more character
-pub stands-erase : (cs : List ℕ) (c : ℕ) → class_of c ≡ Erase → survivors (signs (cs ++ c ∷ [])) ≡ without_last (survivors (signs cs))
+pub stands-erase : (cs : List ℕ) (c : ℕ) → class_of c ≡ Erase → survivors (signs (cs ++ c ∷ [])) ≡ one_back (survivors (signs cs))
 stands-erase cs c e = ap survivors (signs_letter cs c (erase_line c e)) ∙ erased (signs cs) c e
 
 pub stands-bell : (cs : List ℕ) (c : ℕ) → class_of c ≡ Bell → survivors (signs (cs ++ c ∷ [])) ≡ survivors (signs cs)
-stands-bell cs c e = ap survivors (signs_letter cs c (bell_line c e)) ∙ passed (signs cs) c (rw e refl) (rw e refl)
+stands-bell cs c e = ap survivors (signs_letter cs c (bell_line c e)) ∙ passed (signs cs) c (rw e refl) (rw e refl) (rw e refl)
 
 pub stands-silent : (cs : List ℕ) (c : ℕ) → class_of c ≡ Silent → survivors (signs (cs ++ c ∷ [])) ≡ survivors (signs cs)
-stands-silent cs c e = ap survivors (signs_letter cs c (silent_line c e)) ∙ passed (signs cs) c (rw e refl) (rw e refl)
+stands-silent cs c e = ap survivors (signs_letter cs c (silent_line c e)) ∙ passed (signs cs) c (rw e refl) (rw e refl) (rw e refl)
+
+pub stands-marker : (cs : List ℕ) (c : ℕ) → class_of c ≡ Marker → survivors (signs (cs ++ c ∷ [])) ≡ survivors (signs cs) ++ c ∷ []
+stands-marker cs c e = ap survivors (signs_letter cs c (marker_line c e)) ∙ marked (signs cs) c e
 
 pub stands-print : (cs : List ℕ) (c : ℕ) → class_of c ≡ Print → survivors (signs (cs ++ c ∷ [])) ≡ survivors (signs cs) ++ c ∷ []
 stands-print cs c e = ap survivors (signs_letter cs c (print_line c e)) ∙ appended (signs cs) c (rw e refl)
+
+-- what is shown as it is
+pub stands-shown : (cs : List ℕ) (c : ℕ) → (class_of c ≡ Marker) ⊎ (class_of c ≡ Print) → survivors (signs (cs ++ c ∷ [])) ≡ survivors (signs cs) ++ c ∷ []
+stands-shown cs c (inl e) = stands-marker cs c e
+stands-shown cs c (inr e) = stands-print cs c e
+
+pub bells_shown : (k : CharClass) → (k ≡ Marker) ⊎ (k ≡ Print) → is_bell k ≡ false
+bells_shown k (inl e) = rw e refl
+bells_shown k (inr e) = rw e refl
 
 pub stands-new_line : (cs : List ℕ) (c : ℕ) → class_of c ≡ NewLine → eqb c 0x0A && ends_with_cr cs ≡ false → survivors (signs (cs ++ c ∷ [])) ≡ survivors (signs cs) ++ 0x0A ∷ []
 stands-new_line cs c e f = ap survivors (signs_new_line cs c (new_line c e) f) ∙ appended (signs cs) 0x0A (rw lf_class refl)
@@ -147,7 +183,9 @@ plain_class c lo hi =
     let d : eqb c 0x0A ≡ false = grind (arith, nat_tests) in
     let e : eqb c 0x0D ≡ false = grind (arith, nat_tests) in
     let f : eqb c 0x2028 ≡ false = grind (arith, nat_tests) in
+    let j : eqb c 0x2029 ≡ false = grind (arith, nat_tests) in
+    let m : eqb c 0xFFFD ≡ false = grind (arith, nat_tests) in
     let g : ltb c 0x20 ≡ false = grind (arith, nat_tests) in
     let h : leb 0x7F c ≡ false = grind (arith, nat_tests) in
     let i : eqb c 0xFEFF ≡ false = grind (arith, nat_tests) in
-    rw (a, b, d, e, f, g, h, i) refl
+    rw (a, b, d, e, f, j, g, h, i, m) refl

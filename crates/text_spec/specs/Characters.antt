@@ -2,11 +2,11 @@
 -- A character is its code. The characters of a text in UTF-8 are std's `chars`.
 use Rattle.std.specs.Prelude.{ℕ, Bool, true, false, ◌||◌, ◌&&◌, nat_lt, nat_le, ◌==◌, if◌then◌else◌, List, [], ◌∷◌}
 use Rattle.text_spec.specs.declared.classes.CharClass.{CharClass}
-use Rattle.text_spec.specs.declared.classes.CharClass.TheVariants.{Erase, Bell, NewLine, Silent, Print}
+use Rattle.text_spec.specs.declared.classes.CharClass.TheVariants.{Erase, Bell, NewLine, Silent, Marker, Print}
 
--- LF, CR and U+2028
+-- LF, CR, U+2028 and U+2029
 abbrev pub is_new_line : ℕ → Bool
-is_new_line c = c == 0x0A || c == 0x0D || c == 0x2028
+is_new_line c = c == 0x0A || c == 0x0D || c == 0x2028 || c == 0x2029
 
 -- the control characters of both sets, DEL, and the byte order mark
 abbrev pub is_silent : ℕ → Bool
@@ -17,7 +17,8 @@ class_of c =
     if c == 0x08 then Erase else (
     if c == 0x07 then Bell else (
     if is_new_line c then NewLine else (
-    if is_silent c then Silent else Print)))
+    if is_silent c then Silent else (
+    if c == 0xFFFD then Marker else Print))))
 
 abbrev pub is_erasure : CharClass → Bool
 is_erasure Erase = true
@@ -33,7 +34,14 @@ is_erasable NewLine = true
 is_erasable Print = true
 is_erasable _ = false
 
+-- U+FFFD
+abbrev pub is_marker : CharClass → Bool
+is_marker Marker = true
+is_marker _ = false
+
+-- what is shown as it is
 abbrev pub is_print : CharClass → Bool
+is_print Marker = true
 is_print Print = true
 is_print _ = false
 

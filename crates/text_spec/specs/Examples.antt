@@ -39,6 +39,21 @@ missing_marker : shown (0xEF ∷ 0xBF ∷ 0xBD ∷ []) ≡ record { lines = (0xE
 unfolding shown class_of chars encode_utf8
 missing_marker = refl
 
+-- with `(m)` for U+FFFD: `ab(m)c`, four erasures, `d` show `ab(m)d`
+erasures_stop_at_a_marker : shown (97 ∷ 98 ∷ 0xEF ∷ 0xBF ∷ 0xBD ∷ 99 ∷ 8 ∷ 8 ∷ 8 ∷ 8 ∷ 100 ∷ []) ≡ record { lines = (97 ∷ 98 ∷ 0xEF ∷ 0xBF ∷ 0xBD ∷ 100 ∷ []) ∷ []; bells = 0 }
+unfolding shown class_of chars encode_utf8
+erasures_stop_at_a_marker = refl
+
+-- `a(m)(m)` and an erasure show `a(m)(m)`
+a_marker_stays : shown (97 ∷ 0xEF ∷ 0xBF ∷ 0xBD ∷ 0xEF ∷ 0xBF ∷ 0xBD ∷ 8 ∷ []) ≡ record { lines = (97 ∷ 0xEF ∷ 0xBF ∷ 0xBD ∷ 0xEF ∷ 0xBF ∷ 0xBD ∷ []) ∷ []; bells = 0 }
+unfolding shown class_of chars encode_utf8
+a_marker_stays = refl
+
+-- `(m)`, LF, two erasures and `b` show `(m)b`
+a_new_line_behind_a_marker : shown (0xEF ∷ 0xBF ∷ 0xBD ∷ 10 ∷ 8 ∷ 8 ∷ 98 ∷ []) ≡ record { lines = (0xEF ∷ 0xBF ∷ 0xBD ∷ 98 ∷ []) ∷ []; bells = 0 }
+unfolding shown class_of chars encode_utf8
+a_new_line_behind_a_marker = refl
+
 cr_alone : shown (97 ∷ 13 ∷ 98 ∷ []) ≡ record { lines = (97 ∷ []) ∷ (98 ∷ []) ∷ []; bells = 0 }
 unfolding shown class_of chars encode_utf8
 cr_alone = refl
@@ -54,6 +69,10 @@ lf_cr = refl
 line_separator : shown (97 ∷ 0xE2 ∷ 0x80 ∷ 0xA8 ∷ 98 ∷ []) ≡ record { lines = (97 ∷ []) ∷ (98 ∷ []) ∷ []; bells = 0 }
 unfolding shown class_of chars encode_utf8
 line_separator = refl
+
+paragraph_separator : shown (97 ∷ 0xE2 ∷ 0x80 ∷ 0xA9 ∷ 98 ∷ []) ≡ record { lines = (97 ∷ []) ∷ (98 ∷ []) ∷ []; bells = 0 }
+unfolding shown class_of chars encode_utf8
+paragraph_separator = refl
 
 -- ---- ends
 -- whether these characters end a sentence

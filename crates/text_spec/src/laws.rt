@@ -1,22 +1,25 @@
 //! Laws of the definitions, each the contract of a function that does nothing.
-ghost use Rattle.std.specs.Prelude.{◌≡◌, ◌==◌, ℕ, ◌+◌, ◌<◌, ◌≤◌, true, false, ◌&&◌, List, [], ◌∷◌, ◌++◌, length, reverse, All, chars, encode_utf8_all, IsUtf8};
+ghost use Rattle.std.specs.Prelude.{◌≡◌, ◌==◌, ℕ, ◌+◌, ◌<◌, ◌≤◌, true, false, ◌&&◌, List, [], ◌∷◌, ◌++◌, length, reverse, All, chars, encode_utf8_all, encode_utf8, IsUtf8};
 ghost use Rattle.std.specs.List.{concat, list_all};
 ghost use Rattle.std.specs.Str.{all_scalars};
-ghost use Rattle.text_spec.specs.declared.classes.CharClass.TheVariants.{Bell, Erase, NewLine, Print, Silent};
-ghost use Rattle.text_spec.specs.Characters.{class_of, is_bell, is_erasable, is_erasure, is_print};
+ghost use Rattle.text_spec.specs.declared.classes.CharClass.TheVariants.{Bell, Erase, Marker, NewLine, Print, Silent};
+ghost use Rattle.text_spec.specs.Characters.{class_of, is_bell, is_erasable, is_erasure, is_marker, is_print};
 ghost use Rattle.text_spec.specs.Ends.{from_end};
-ghost use Rattle.text_spec.specs.Shown.{begins_with_lf, bells, ends_with_cr, shown, signs, survivors, without_last};
+ghost use Rattle.text_spec.specs.Shown.{begins_with_lf, bells, ends_with_cr, markers, one_back, shown, signs, survivors, with_marker_between};
 
 /// One more sign at the end of a text: what survives is what a stack holds.
 pub fn one_more_sign()
-    // An erasure takes the last survivor away, if there is one.
+    // An erasure takes the last survivor away, if there is one and it is no marker.
     ensures erasure { (cs : List ℕ) (c : ℕ) → class_of c ≡ Erase
-        → survivors (cs ++ c ∷ []) ≡ without_last (survivors cs) }
+        → survivors (cs ++ c ∷ []) ≡ one_back (survivors cs) }
     // A letter or a new line is put behind the survivors.
     ensures erasable { (cs : List ℕ) (c : ℕ) → is_erasable (class_of c) ≡ true
         → survivors (cs ++ c ∷ []) ≡ survivors cs ++ c ∷ [] }
+    // A marker is put there too, and stays.
+    ensures marker { (cs : List ℕ) (c : ℕ) → class_of c ≡ Marker
+        → survivors (cs ++ c ∷ []) ≡ survivors cs ++ c ∷ [] }
     // Anything else changes nothing.
-    ensures others { (cs : List ℕ) (c : ℕ) → is_erasable (class_of c) ≡ false
+    ensures others { (cs : List ℕ) (c : ℕ) → is_marker (class_of c) ≡ false → is_erasable (class_of c) ≡ false
         → is_erasure (class_of c) ≡ false → survivors (cs ++ c ∷ []) ≡ survivors cs }
 {}
 
@@ -33,8 +36,10 @@ pub fn pieces()
 /// One more character at the end of a text: what then survives.
 pub fn one_more_character()
     ensures erasure { (cs : List ℕ) (c : ℕ) → class_of c ≡ Erase
-        → survivors (signs (cs ++ c ∷ [])) ≡ without_last (survivors (signs cs)) }
+        → survivors (signs (cs ++ c ∷ [])) ≡ one_back (survivors (signs cs)) }
     ensures letter { (cs : List ℕ) (c : ℕ) → class_of c ≡ Print
+        → survivors (signs (cs ++ c ∷ [])) ≡ survivors (signs cs) ++ c ∷ [] }
+    ensures marker { (cs : List ℕ) (c : ℕ) → class_of c ≡ Marker
         → survivors (signs (cs ++ c ∷ [])) ≡ survivors (signs cs) ++ c ∷ [] }
     ensures new_line { (cs : List ℕ) (c : ℕ) → class_of c ≡ NewLine
         → ((c == 10) && ends_with_cr cs) ≡ false
@@ -48,7 +53,7 @@ pub fn one_more_character()
         → survivors (signs (cs ++ c ∷ [])) ≡ survivors (signs cs) }
 {}
 
-/// A text of printing characters is one line, and that line is the text.
+/// A text of characters that are shown as they are is one line, and that line is the text.
 pub fn plain_text()
     ensures { (text : List ℕ) → IsUtf8 text
         → list_all (λ c. is_print (class_of c)) (chars text) ≡ true
@@ -60,12 +65,23 @@ pub fn empty_text()
     ensures { shown [] ≡ record { lines = [] ∷ []; bells = 0 } }
 {}
 
-/// There is always a line; a line has printing characters alone; and all lines together are no longer than the text.
+/// There is always a line; a line has characters alone that are shown as they are; and all lines together are no longer than the text.
 pub fn lines()
     ensures some { (text : List ℕ) → 0 < length (shown text).lines }
     ensures plain { (text : List ℕ) → IsUtf8 text → All (λ line.
         IsUtf8 line × (list_all (λ c. is_print (class_of c)) (chars line) ≡ true)) (shown text).lines }
     ensures short { (text : List ℕ) → IsUtf8 text → length (concat (shown text).lines) ≤ length text }
+{}
+
+/// What stands before a marker and what stands behind it are shown each for itself: nothing that is typed behind a marker
+/// changes what is shown before it.
+pub fn shown_in_parts()
+    ensures { (a b : List ℕ) → IsUtf8 a → shown (a ++ (encode_utf8 0xFFFD ++ b)) ≡ with_marker_between (shown a) (shown b) }
+{}
+
+/// As many markers are shown as the text has.
+pub fn markers_are_seen()
+    ensures { (text : List ℕ) → IsUtf8 text → markers (chars (concat (shown text).lines)) ≡ markers (chars text) }
 {}
 
 /// Read from its end a text in UTF-8 is its characters, the last one first.

@@ -1,2 +1,3 @@
 pub mod Markers
 pub mod Counted
+pub mod MarkersShown

@@ -1,10 +1,13 @@
 -- The markers that are heard of a source, and the texts that are none (profile).
-use Rattle.std.specs.Prelude.{ℕ, ◌+◌, Bool, Option, None, Some, List, [], ◌∷◌, ◌++◌, filter, if◌then◌else◌}
+use Rattle.std.specs.Prelude.{ℕ, ◌+◌, Bool, Option, None, Some, List, [], ◌∷◌, ◌++◌, filter, chars, if◌then◌else◌}
+use Rattle.std.specs.List.{concat}
 use Rattle.wire_spec.specs.Packets.{Arrival}
 use Rattle.wire_spec.specs.Dump.{Item}
 use Rattle.stream_spec.specs.Numbering.{Numbered, numbered, used, has_number, first_number}
 use Rattle.stream_spec.specs.Hearing.{is_marked, is_packet_of, new_texts}
 use Rattle.stream_spec.specs.Kept as kept
+use Rattle.text_spec.specs.Shown as text
+use Rattle.text_spec.specs.Shown.{Display}
 use Rattle.view_spec.specs.Seen.{Reception, arrivals_at}
 
 -- What is heard are markers and new texts: a marker is a text of its own before the new texts of a packet (`piece`). So a
@@ -38,3 +41,10 @@ abbrev pub marks_in : List kept.Item → ℕ
 marks_in [] = 0
 marks_in (kept.Mark ∷ items) = 1 + marks_in items
 marks_in (kept.Block x ∷ items) = marks_in items
+
+-- how many U+FFFD these texts have, and how many are shown
+abbrev pub typed_marks : List (List ℕ) → ℕ
+typed_marks texts = text.markers (chars (concat texts))
+
+abbrev pub marks_seen : Display → ℕ
+marks_seen d = text.markers (chars (concat d.lines))

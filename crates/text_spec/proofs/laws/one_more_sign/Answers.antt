@@ -1,4 +1,4 @@
-use Rattle.text_spec.proofs.Erasing.{erased, appended, passed}
+use Rattle.text_spec.proofs.Erasing.{erased, appended, marked, passed}
 use Rattle.text_spec.proofs.laws.one_more_sign.Goals as goal
 
 pub returns-clause-erasure : goal.returns-clause-erasure
@@ -6,6 +6,9 @@ returns-clause-erasure c = erased
 
 pub returns-clause-erasable : goal.returns-clause-erasable
 returns-clause-erasable c = appended
+
+pub returns-clause-marker : goal.returns-clause-marker
+returns-clause-marker c = marked
 
 pub returns-clause-others : goal.returns-clause-others
 returns-clause-others c = passed
