@@ -11,10 +11,10 @@ use Rattle.conf_text.specs.declared.leg_lines.LegWords.{LegWords}
 use Rattle.conf_text.specs.declared.drafts.NewLeg.{NewLeg}
 use Rattle.conf_text.specs.declared.drafts.Draft.{Draft}
 use Rattle.conf_text.specs.declared.drafts.Entry.{Entry}
-use Rattle.conf_text.specs.declared.drafts.Entry.TheVariants.{Leg, Gens, Stays, Tick, Spacing, Wait, Turns, Mixer, Plan}
+use Rattle.conf_text.specs.declared.drafts.Entry.TheVariants.{Leg, Gens, Stays, Tick, Spacing, Wait, Turns, Relabel, Mixer, Plan}
 
 abbrev pub above_of : Draft → conf.Above
-above_of d = record { legs = d.legs; gens = d.gens.items; stays = d.stays.items; tick = d.tick; spacing = d.spacing; wait = d.wait; turns = d.turns; mixer = d.mixer; plan = d.plan }
+above_of d = record { legs = d.legs; gens = d.gens.items; stays = d.stays.items; tick = d.tick; spacing = d.spacing; wait = d.wait; turns = d.turns; relabel = d.relabel; mixer = d.mixer; plan = d.plan }
 
 abbrev pub leg_line : NewLeg → LegLine
 leg_line l = record { line = l.line; name = l.name; aware = l.aware; ssrc = l.ssrc; input = l.input.now; output = l.output.now; pts = l.pts; gens = USUAL_GENS; stay = conf.whole_stay }
@@ -27,6 +27,7 @@ meaning (Tick n) = conf.Tick n
 meaning (Spacing n) = conf.Spacing n
 meaning (Wait n) = conf.Wait n
 meaning (Turns n) = conf.Turns n
+meaning (Relabel n) = conf.Relabel n
 meaning (Mixer m) = conf.Mixer m
 meaning (Plan p) = conf.Plan p
 
@@ -57,5 +58,6 @@ MayFollow above (conf.Tick n) = Unit {0}
 MayFollow above (conf.Spacing n) = Unit {0}
 MayFollow above (conf.Wait n) = Unit {0}
 MayFollow above (conf.Turns n) = Unit {0}
+MayFollow above (conf.Relabel n) = Unit {0}
 MayFollow above (conf.Mixer m) = Unit {0}
 MayFollow above (conf.Plan p) = Unit {0}

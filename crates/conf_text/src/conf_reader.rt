@@ -97,6 +97,7 @@ fn finish(draft: Draft, line: u32) -> Result<Conf, ConfFault>
         spacing: draft.spacing.unwrap_or(USUAL_SPACING),
         wait: draft.wait.unwrap_or(USUAL_WAIT),
         turns: draft.turns.unwrap_or(MOST_TURNS),
+        relabel: draft.relabel,
         mixer,
         plan: draft.plan,
     })

@@ -31,6 +31,7 @@ pub(crate) enum Entry<'a> {
     Spacing(u32),
     Wait(u32),
     Turns(u32),
+    Relabel(u32),
     Mixer(MixerLine),
     Plan(PlanLine),
 }
@@ -47,6 +48,7 @@ pub(crate) struct Draft {
     pub spacing: Option<u32>,
     pub wait: Option<u32>,
     pub turns: Option<u32>,
+    pub relabel: Option<u32>,
     pub mixer: Option<MixerLine>,
     pub plan: Plan,
     ghost seats: { length legs ≤ MOST_LEGS },
@@ -75,6 +77,7 @@ impl Draft {
             spacing: None,
             wait: None,
             turns: None,
+            relabel: None,
             mixer: None,
             plan: Plan::new(alloc),
         }
@@ -121,6 +124,7 @@ impl Draft {
             Entry::Spacing(value) => self.spacing = Some(value),
             Entry::Wait(value) => self.wait = Some(value),
             Entry::Turns(value) => self.turns = Some(value),
+            Entry::Relabel(value) => self.relabel = Some(value),
             Entry::Mixer(line) => self.mixer = Some(line),
             Entry::Plan(line) => return self.plan.push(line),
         }

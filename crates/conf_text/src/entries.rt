@@ -9,7 +9,9 @@ use crate::leg_lines::{has_ssrc, read_leg};
 use crate::plan_lines::read_plan;
 use crate::stay_lines::{read_gens, read_stay};
 use file_lines::{number_from, number_of};
-use file_spec::limits::{LEAST_SPACING, LEAST_TICK, MOST_SPACING, MOST_TICK, MOST_TURNS};
+use file_spec::limits::{
+    LEAST_RELABEL, LEAST_SPACING, LEAST_TICK, MOST_RELABEL, MOST_SPACING, MOST_TICK, MOST_TURNS,
+};
 use file_spec::{Form, MixerLine};
 use rtt_base::limits::LONGEST_WAIT;
 
@@ -87,6 +89,12 @@ fn read_time_or_other<'a>(form: Form, above: &Draft, word: &str, words: &[&str])
         )?)),
         "wait" => Ok(Entry::Wait(read_setting(0, LONGEST_WAIT, above.wait, words)?)),
         "turns" => Ok(Entry::Turns(read_setting(1, MOST_TURNS, above.turns, words)?)),
+        "relabel" => Ok(Entry::Relabel(read_setting(
+            LEAST_RELABEL,
+            MOST_RELABEL,
+            above.relabel,
+            words,
+        )?)),
         other => read_stay_or_plan(form, above, other, words),
     }
 }

@@ -65,7 +65,7 @@ fn check_no_text(
 #[test]
 fn a_conference_of_all_kinds_of_lines(rt: HostRuntime) -> Result<(), Fail> {
     let file =
-        b"# two of us\nmixer 9000 100 5000\r\n\n  leg Ann aware 1001 ann.in ann.out  \nleg Bob unaware 1002 ann.in bob.out 96 0127\ntick 20\nspacing 500\nwait 0\nturns 17\ngens Bob 0\nstay Ann 300 14400000\nlose Bob 4294967295\ndelay Ann 3 60000\ntwice Ann 3";
+        b"# two of us\nmixer 9000 100 5000\r\n\n  leg Ann aware 1001 ann.in ann.out  \nleg Bob unaware 1002 ann.in bob.out 96 0127\ntick 20\nspacing 500\nwait 0\nturns 17\nrelabel 60000\ngens Bob 0\nstay Ann 300 14400000\nlose Bob 4294967295\ndelay Ann 3 60000\ntwice Ann 3";
     let conf = read_conf(rt.alloc(), file, Form::Files)?;
     let legs = conf.legs.as_slice();
     assert_eq!(rt; legs.len(), 2);
@@ -102,6 +102,7 @@ fn a_conference_of_all_kinds_of_lines(rt: HostRuntime) -> Result<(), Fail> {
         (conf.tick, conf.spacing, conf.wait, conf.turns),
         (20, 500, 0, 17)
     );
+    assert_eq!(rt; conf.relabel, Some(60_000));
     assert_eq!(rt;
         (conf.mixer.ssrc, conf.mixer.seq, conf.mixer.stamp),
         (9000, 100, 5000)
@@ -143,6 +144,7 @@ fn what_is_not_said_has_its_default(rt: HostRuntime) -> Result<(), Fail> {
         (conf.tick, conf.spacing, conf.wait, conf.turns),
         (100, 300, 1000, 5_000_000)
     );
+    assert_eq!(rt; conf.relabel, None);
     assert!(rt; conf.plan.is_empty());
     assert_eq!(rt; conf.legs.as_slice().len(), 2);
     Ok(())
@@ -179,6 +181,9 @@ spacing 501 => line 3: Number\n\
 wait 10001 => line 3: Number\n\
 turns 0 => line 3: Number\n\
 turns 5000001 => line 3: Number\n\
+relabel 1999 => line 3: Number\n\
+relabel 60001 => line 3: Number\n\
+relabel => line 3: Count\n\
 mixer 1 65536 0 => line 3: Number\n\
 mixer x 0 0 => line 3: Number\n\
 mixer 1 0 4294967296 => line 3: Number\n\
@@ -251,6 +256,9 @@ tick 20; tick 20 20 => line 2: Count\n\
 spacing 100; spacing 100 => line 2: Twice\n\
 wait 0; wait 0 => line 2: Twice\n\
 turns 1; turns 1 => line 2: Twice\n\
+relabel 2000; relabel 2000 => line 2: Twice\n\
+relabel 2000; relabel 1999 => line 2: Number\n\
+relabel 2000; relabel 2000 2000 => line 2: Count\n\
 mixer 1 0 0; mixer 2 0 0 => line 2: Twice\n\
 mixer 1 0 0; mixer 2 65536 0 => line 2: Number\n\
 mixer 1 0 0; mixer 2 0 => line 2: Count\n\

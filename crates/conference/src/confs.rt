@@ -17,7 +17,9 @@ pub struct Conf {
     pub wait: u32,
     /// The most turns that the mixer takes.
     pub turns: u32,
+    /// After how long without text to a terminal that is not aware a run that goes on is labelled again there, if it is.
+    pub relabel: Option<u32>,
     pub mixer: MixerLine,
     pub plan: Plan,
-    pub ghost kept: { IsConference (record { legs = legs; tick = tick; spacing = spacing; wait = wait; turns = turns; mixer = mixer; plan = plan }) },
+    pub ghost kept: { IsConference (record { legs = legs; tick = tick; spacing = spacing; wait = wait; turns = turns; relabel = relabel; mixer = mixer; plan = plan }) },
 }

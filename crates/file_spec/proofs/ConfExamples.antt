@@ -16,7 +16,7 @@ use Rattle.file_spec.specs.Conf.{Above, Conf, complete, conf, entry, gens_of, le
 
 -- a conference of these legs that says no more than it must
 abbrev usual : List LegLine → MixerLine → Conf
-usual legs mixer = record { legs = legs; tick = 100; spacing = 300; wait = 1000; turns = 5000000; mixer = mixer; plan = [] }
+usual legs mixer = record { legs = legs; tick = 100; spacing = 300; wait = 1000; turns = 5000000; relabel = None; mixer = mixer; plan = [] }
 
 two_legs_and_a_loss : conf Files (codes "mixer 9000 100 5000\n\n# who\n leg Ann aware 1001 ann.in ann.out\r\nleg Bob  unaware 1002 bob.in bob.out 96 97\ntick 20\nlose Bob 1")
     ≡ Ok (record (
@@ -27,6 +27,16 @@ two_legs_and_a_loss : conf Files (codes "mixer 9000 100 5000\n\n# who\n leg Ann 
     ) { tick = 20; plan = record { terminal = 1; packet = 1; what = what.Lose } ∷ [] })
 unfolding entry gens_of leg_of mixer_of plan_of stay_of stay_or_plan time_or_other is_utf8 chars encode_utf8
 two_legs_and_a_loss = refl
+
+labelled_again : conf Links (codes "leg A aware 1 5004 h:1\nleg B unaware 2 5006 h:2\nrelabel 7000\nmixer 3 0 0")
+    ≡ Ok (record (
+    usual
+    (record { line = 1; name = codes "A"; aware = true; ssrc = 1; input = codes "5004"; output = codes "h:1"; pts = record { t140 = 98; red = 100 }; gens = 2; stay = record { from = 0; until = None } }
+    ∷ record { line = 2; name = codes "B"; aware = false; ssrc = 2; input = codes "5006"; output = codes "h:2"; pts = record { t140 = 98; red = 100 }; gens = 2; stay = record { from = 0; until = None } } ∷ [])
+    (record { ssrc = 3; seq = 0; stamp = 0 })
+    ) { relabel = Some 7000 })
+unfolding entry gens_of leg_of mixer_of plan_of stay_of stay_or_plan time_or_other is_utf8 chars encode_utf8
+labelled_again = refl
 
 generations_and_stays : conf Files (codes "leg A aware 1 a.in a.out\nleg B aware 2 b.in b.out\ngens B 0\nstay A 300 900\nmixer 3 0 0")
     ≡ Ok (usual
@@ -58,6 +68,12 @@ faulty =
     ∷ (Files, codes "leg AAAAAAAAAAAAAAAAAAAAAAAAAAAAAAAAA aware 1 a b", record { line = 1; kind = Name })
     -- a long tick
     ∷ (Files, codes "tick 201", record { line = 1; kind = Number })
+    -- a run labelled again too soon, or too late
+    ∷ (Files, codes "relabel 1999", record { line = 1; kind = Number })
+    ∷ (Links, codes "relabel 60001", record { line = 1; kind = Number })
+    -- two such times, and none
+    ∷ (Links, codes "relabel 2000\nrelabel 2000", record { line = 2; kind = Twice })
+    ∷ (Files, codes "relabel", record { line = 1; kind = Count })
     -- short spacing
     ∷ (Files, codes "spacing 99", record { line = 1; kind = Number })
     -- four generations

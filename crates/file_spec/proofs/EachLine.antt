@@ -3,7 +3,7 @@ use Rattle.std.proofs.Common.{◌≡◌, ℕ, ◌+◌, Bool, true, false, Option
 use Rattle.std.specs.Prelude.{not, nat_lt, if◌then◌else◌, Result, Ok, Err, codes, bytes_eq, ◌==◌, is_some}
 use Rattle.std.specs.Str.{is_utf8}
 use Rattle.std.specs.Str.Lines.{lines}
-use Rattle.file_spec.specs.declared.limits.TheConstants.{FEWEST_LEGS, LEAST_TICK, MOST_TICK, LEAST_SPACING, MOST_SPACING, MOST_TURNS, MOST_CONF_OCTETS, USUAL_GENS}
+use Rattle.file_spec.specs.declared.limits.TheConstants.{FEWEST_LEGS, LEAST_TICK, MOST_TICK, LEAST_SPACING, MOST_SPACING, LEAST_RELABEL, MOST_RELABEL, MOST_TURNS, MOST_CONF_OCTETS, USUAL_GENS}
 use Rattle.file_spec.specs.declared.kinds.ConfKind.{ConfKind}
 use Rattle.file_spec.specs.declared.kinds.ConfKind.TheVariants.{NotText, Few, Crowd, Large, Name, Number, Twice, Clash, Word}
 use Rattle.file_spec.specs.declared.conf_lines.Form.{Form}
@@ -17,7 +17,7 @@ use Rattle.rtt_base.specs.Steps.{◌>>=◌}
 use Rattle.file_spec.specs.Steps.{unless}
 use Rattle.file_spec.specs.Lines.{Line, words, told, at_line, read_lines}
 use Rattle.file_spec.specs.Stays.{is_crowd}
-use Rattle.file_spec.specs.Conf.{Above, Conf, Entry, Leg, Gens, Stays, Tick, Spacing, Wait, Turns, Mixer, Plan, says, time_or_other, stay_or_plan, nothing, with_entry, setting, mixer, leg, gens, stay, plan_word, entry, is_blank, and_line, whole, complete, conf, mixer_of, leg_of, new_leg, has_names, has_port, aware_of, whole_stay}
+use Rattle.file_spec.specs.Conf.{Above, Conf, Entry, Leg, Gens, Stays, Tick, Spacing, Wait, Turns, Relabel, Mixer, Plan, says, time_or_other, stay_or_plan, nothing, with_entry, setting, mixer, leg, gens, stay, plan_word, entry, is_blank, and_line, whole, complete, conf, mixer_of, leg_of, new_leg, has_names, has_port, aware_of, whole_stay}
 use Rattle.rtt_base.proofs.Steps.{bind_ok}
 use Rattle.file_spec.proofs.Passed.{unless_ok}
 use Rattle.rtt_base.specs.declared.limits.TheConstants.{LONGEST_WAIT}
@@ -90,6 +90,7 @@ pub record HoldsOf (P : Entry → Type 0) (form : Form) (above : Above) (n : ℕ
   pub each_spacing : (ws : List (List ℕ)) (x : ℕ) → setting LEAST_SPACING MOST_SPACING above.spacing ws ≡ Ok x → P (Spacing x)
   pub each_wait : (ws : List (List ℕ)) (x : ℕ) → setting 0 LONGEST_WAIT above.wait ws ≡ Ok x → P (Wait x)
   pub each_turns : (ws : List (List ℕ)) (x : ℕ) → setting 1 MOST_TURNS above.turns ws ≡ Ok x → P (Turns x)
+  pub each_relabel : (ws : List (List ℕ)) (x : ℕ) → setting LEAST_RELABEL MOST_RELABEL above.relabel ws ≡ Ok x → P (Relabel x)
 
 says_holds : {A : Type 0} (P : Entry → Type 0) (make : A → Entry) (r : Result A ConfKind) (e : Entry) → ((x : A) → r ≡ Ok x → P (make x)) → says make r ≡ Ok e → P e
 says_holds P make (Ok x) e f q = let same : make x ≡ e = cc q in subst P same (f x refl)
@@ -107,16 +108,17 @@ module _ (P : Entry → Type 0) (form : Form) (above : Above) (n : ℕ) (h : Hol
 
   time_holds : (word : List ℕ) (more : List (List ℕ)) (e : Entry) → time_or_other form above word more ≡ Ok e → P e
   unfolding time_or_other
-  time_holds word more e q = go (bytes_eq word (codes "tick")) (bytes_eq word (codes "spacing")) (bytes_eq word (codes "wait")) (bytes_eq word (codes "turns")) q
+  time_holds word more e q = go (bytes_eq word (codes "tick")) (bytes_eq word (codes "spacing")) (bytes_eq word (codes "wait")) (bytes_eq word (codes "turns")) (bytes_eq word (codes "relabel")) q
     where
-      go : (a b c d : Bool)
-          → (if a then says Tick (setting LEAST_TICK MOST_TICK above.tick more) else (if b then says Spacing (setting LEAST_SPACING MOST_SPACING above.spacing more) else (if c then says Wait (setting 0 LONGEST_WAIT above.wait more) else (if d then says Turns (setting 1 MOST_TURNS above.turns more) else stay_or_plan form above word more)))) ≡ Ok e
+      go : (a b c d r : Bool)
+          → (if a then says Tick (setting LEAST_TICK MOST_TICK above.tick more) else (if b then says Spacing (setting LEAST_SPACING MOST_SPACING above.spacing more) else (if c then says Wait (setting 0 LONGEST_WAIT above.wait more) else (if d then says Turns (setting 1 MOST_TURNS above.turns more) else (if r then says Relabel (setting LEAST_RELABEL MOST_RELABEL above.relabel more) else stay_or_plan form above word more))))) ≡ Ok e
           → P e
-      go true b c d q = says_holds P Tick (setting LEAST_TICK MOST_TICK above.tick more) e (h.each_tick more) q
-      go false true c d q = says_holds P Spacing (setting LEAST_SPACING MOST_SPACING above.spacing more) e (h.each_spacing more) q
-      go false false true d q = says_holds P Wait (setting 0 LONGEST_WAIT above.wait more) e (h.each_wait more) q
-      go false false false true q = says_holds P Turns (setting 1 MOST_TURNS above.turns more) e (h.each_turns more) q
-      go false false false false q = stay_or_plan_holds form refl word more e q
+      go true b c d r q = says_holds P Tick (setting LEAST_TICK MOST_TICK above.tick more) e (h.each_tick more) q
+      go false true c d r q = says_holds P Spacing (setting LEAST_SPACING MOST_SPACING above.spacing more) e (h.each_spacing more) q
+      go false false true d r q = says_holds P Wait (setting 0 LONGEST_WAIT above.wait more) e (h.each_wait more) q
+      go false false false true r q = says_holds P Turns (setting 1 MOST_TURNS above.turns more) e (h.each_turns more) q
+      go false false false false true q = says_holds P Relabel (setting LEAST_RELABEL MOST_RELABEL above.relabel more) e (h.each_relabel more) q
+      go false false false false false q = stay_or_plan_holds form refl word more e q
 
   pub entry_holds : (ws : List (List ℕ)) (e : Entry) → entry form above n ws ≡ Ok e → P e
   unfolding entry

@@ -10,7 +10,7 @@ use Rattle.std.proofs.lemmas.List.Folds.{list_any_at}
 use Rattle.std.proofs.lemmas.List.Quantifiers.{all_pairs_push, position-Some}
 use Rattle.std.proofs.lemmas.Slice.Eq.{bytes_eq-Decides}
 use Rattle.rtt_base.specs.declared.text_packets.Pts.{Pts}
-use Rattle.file_spec.specs.declared.limits.TheConstants.{FEWEST_LEGS, MOST_LEGS, LEAST_TICK, MOST_TICK, USUAL_TICK, LEAST_SPACING, MOST_SPACING, USUAL_SPACING, MOST_TURNS, MOST_GENS, USUAL_GENS, MOST_PLAN_LINES, LONGEST_DELAY, FIRST_TYPE, LAST_TYPE, LAST_MOMENT}
+use Rattle.file_spec.specs.declared.limits.TheConstants.{FEWEST_LEGS, MOST_LEGS, LEAST_TICK, MOST_TICK, USUAL_TICK, LEAST_SPACING, MOST_SPACING, USUAL_SPACING, LEAST_RELABEL, MOST_RELABEL, MOST_TURNS, MOST_GENS, USUAL_GENS, MOST_PLAN_LINES, LONGEST_DELAY, FIRST_TYPE, LAST_TYPE, LAST_MOMENT}
 use Rattle.file_spec.specs.declared.kinds.ConfKind.TheVariants.{Word, Name, Number, Many, PlanMany, Twice, Clash}
 use Rattle.file_spec.specs.declared.conf_lines.Form.{Form}
 use Rattle.file_spec.specs.declared.conf_lines.Form.TheVariants.{Files, Links}
@@ -27,9 +27,9 @@ use Rattle.file_spec.specs.Steps.{unless}
 use Rattle.file_spec.specs.Lines.{Line}
 use Rattle.file_spec.specs.Numbers.{number, most_ssrc, number_between, payload_type, pts}
 use Rattle.file_spec.specs.Stays.{IsStay, is_crowd}
-use Rattle.file_spec.specs.Conf.{Above, Conf, Entry, Leg, Gens, Stays, Tick, Spacing, Wait, Turns, Mixer, Plan, nothing, with_entry, change_leg, with_gens, with_stay, setting, mixer, mixer_of, is_mixers, is_name, has_names, has_port, shares_own, shares_path, clashes, most_legs, new_leg, aware_of, whole_stay, usual_types, leg_of, leg, place_of, gens_of, gens, stay_of, stay, is_same_packet, plan_of, plan, delay_of, delay, plan_word, and_line, whole, conf}
+use Rattle.file_spec.specs.Conf.{Above, Conf, Entry, Leg, Gens, Stays, Tick, Spacing, Wait, Turns, Relabel, Mixer, Plan, nothing, with_entry, change_leg, with_gens, with_stay, setting, mixer, mixer_of, is_mixers, is_name, has_names, has_port, shares_own, shares_path, clashes, most_legs, new_leg, aware_of, whole_stay, usual_types, leg_of, leg, place_of, gens_of, gens, stay_of, stay, is_same_packet, plan_of, plan, delay_of, delay, plan_word, and_line, whole, conf}
 use Rattle.file_spec.specs.Sound.{IsBetween}
-use Rattle.file_spec.specs.Kept.{IsLeg, Differ, AreLegs, IsMixerFor, IsShort, IsTick, IsSpacing, IsWait, AreTurns, Keeps, IsConference}
+use Rattle.file_spec.specs.Kept.{IsLeg, Differ, AreLegs, IsMixerFor, IsShort, IsTick, IsSpacing, IsWait, AreTurns, IsRelabel, Keeps, IsConference}
 use Rattle.file_spec.proofs.Crowds.{crowds_seen}
 use Rattle.rtt_base.proofs.Steps.{bind_ok}
 use Rattle.file_spec.proofs.Passed.{unless_ok, ok_or_ok, then_some, number_most, number_in}
@@ -60,6 +60,7 @@ IsNew above (Tick n) = IsTick n
 IsNew above (Spacing n) = IsSpacing n
 IsNew above (Wait n) = IsWait n
 IsNew above (Turns n) = AreTurns n
+IsNew above (Relabel n) = IsRelabel n
 IsNew above (Mixer m) = IsMixerFor above.legs m
 IsNew above (Plan p) = IsNewPlan above p
 
@@ -74,6 +75,7 @@ leg_more above l k new = record {
   spacing = k.spacing;
   wait = k.wait;
   turns = k.turns;
+  relabel = k.relabel;
   mixer = λ m e. record { seq = (k.mixer m e).seq; differs = All-push (λ a. a.ssrc ≢ m.ssrc) above.legs l (k.mixer m e).differs (new.mixer m e) };
   plan = record {
     most = k.plan.most;
@@ -90,6 +92,7 @@ plan_more above p k new = record {
   spacing = k.spacing;
   wait = k.wait;
   turns = k.turns;
+  relabel = k.relabel;
   mixer = k.mixer;
   plan = record {
     most = let r = new.room in omega (arith, length_push above.plan p);
@@ -153,6 +156,7 @@ changed above change leaves k gs ss kept = record {
   spacing = kept.spacing;
   wait = kept.wait;
   turns = kept.turns;
+  relabel = kept.relabel;
   mixer = λ m e. record {
     seq = (kept.mixer m e).seq;
     differs = λ i d h. changed_at change (λ l. l.ssrc ≢ m.ssrc) (λ l f q. f (sym (leaves.ssrc l) ∙ q)) above.legs k i d ((kept.mixer m e).differs i d (shorter change k above.legs i h));
@@ -175,11 +179,12 @@ more : (above : Above) (said : Entry) → Keeps above → IsNew above said → K
 more above (Leg l) k new = leg_more above l k new
 more above (Gens g) k new = changed above (with_gens g.gens) (gens_leave g.gens new) g.leg _ above.stays k
 more above (Stays s) k new = changed above (with_stay s.stay) (stay_leaves s.stay new) s.leg above.gens _ k
-more above (Tick n) k new = record { legs = k.legs; tick = λ m e. subst IsTick (some_same n m e) new; spacing = k.spacing; wait = k.wait; turns = k.turns; mixer = k.mixer; plan = k.plan }
-more above (Spacing n) k new = record { legs = k.legs; tick = k.tick; spacing = λ m e. subst IsSpacing (some_same n m e) new; wait = k.wait; turns = k.turns; mixer = k.mixer; plan = k.plan }
-more above (Wait n) k new = record { legs = k.legs; tick = k.tick; spacing = k.spacing; wait = λ m e. subst IsWait (some_same n m e) new; turns = k.turns; mixer = k.mixer; plan = k.plan }
-more above (Turns n) k new = record { legs = k.legs; tick = k.tick; spacing = k.spacing; wait = k.wait; turns = λ m e. subst AreTurns (some_same n m e) new; mixer = k.mixer; plan = k.plan }
-more above (Mixer x) k new = record { legs = k.legs; tick = k.tick; spacing = k.spacing; wait = k.wait; turns = k.turns; mixer = λ m e. subst (IsMixerFor above.legs) (some_same x m e) new; plan = k.plan }
+more above (Tick n) k new = record { legs = k.legs; tick = λ m e. subst IsTick (some_same n m e) new; spacing = k.spacing; wait = k.wait; turns = k.turns; relabel = k.relabel; mixer = k.mixer; plan = k.plan }
+more above (Spacing n) k new = record { legs = k.legs; tick = k.tick; spacing = λ m e. subst IsSpacing (some_same n m e) new; wait = k.wait; turns = k.turns; relabel = k.relabel; mixer = k.mixer; plan = k.plan }
+more above (Wait n) k new = record { legs = k.legs; tick = k.tick; spacing = k.spacing; wait = λ m e. subst IsWait (some_same n m e) new; turns = k.turns; relabel = k.relabel; mixer = k.mixer; plan = k.plan }
+more above (Turns n) k new = record { legs = k.legs; tick = k.tick; spacing = k.spacing; wait = k.wait; turns = λ m e. subst AreTurns (some_same n m e) new; relabel = k.relabel; mixer = k.mixer; plan = k.plan }
+more above (Relabel n) k new = record { legs = k.legs; tick = k.tick; spacing = k.spacing; wait = k.wait; turns = k.turns; relabel = λ m e. subst IsRelabel (some_same n m e) new; mixer = k.mixer; plan = k.plan }
+more above (Mixer x) k new = record { legs = k.legs; tick = k.tick; spacing = k.spacing; wait = k.wait; turns = k.turns; relabel = k.relabel; mixer = λ m e. subst (IsMixerFor above.legs) (some_same x m e) new; plan = k.plan }
 more above (Plan p) k new = plan_more above p k new
 
 -- ---- tests of the lines above
@@ -418,6 +423,7 @@ entry_ok form above n = record {
   each_spacing = setting_ok LEAST_SPACING MOST_SPACING above.spacing;
   each_wait = λ ws x e. (setting_ok 0 LONGEST_WAIT above.wait ws x e).high;
   each_turns = setting_ok 1 MOST_TURNS above.turns;
+  each_relabel = setting_ok LEAST_RELABEL MOST_RELABEL above.relabel;
 }
 
 pub line_keeps : (form : Form) (above later : Above) (line : Line) → and_line form above line ≡ Ok later → Keeps above → Keeps later
@@ -432,6 +438,7 @@ nothing_keeps = record {
   spacing = λ m e. absurd (cc e);
   wait = λ m e. absurd (cc e);
   turns = λ m e. absurd (cc e);
+  relabel = λ m e. absurd (cc e);
   mixer = λ m e. absurd (cc e);
   plan = record { most = omega arith; terminals = All-nil (λ a. a.terminal < 0); delays = All-nil (λ a. IsShort a.what); differ = λ i j d l h. absurd (omega arith) };
 }
@@ -450,6 +457,7 @@ whole_keeps above m k said two room = record {
   spacing = or_usual above.spacing USUAL_SPACING IsSpacing (record { low = omega arith; high = omega arith }) k.spacing;
   wait = or_usual above.wait USUAL_WAIT IsWait (omega arith) k.wait;
   turns = or_usual above.turns MOST_TURNS AreTurns (record { low = omega arith; high = omega arith }) k.turns;
+  relabel = k.relabel;
   mixer = k.mixer m said;
   plan = k.plan;
 }

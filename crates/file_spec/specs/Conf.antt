@@ -18,7 +18,7 @@ use Rattle.file_spec.specs.declared.conf_lines.StayLine.{StayLine}
 use Rattle.file_spec.specs.declared.conf_lines.PlanLine.{PlanLine}
 use Rattle.file_spec.specs.declared.conf_lines.What.{What}
 use Rattle.file_spec.specs.declared.conf_lines.What.TheVariants as what
-use Rattle.file_spec.specs.declared.limits.TheConstants.{FEWEST_LEGS, MOST_LEGS, MOST_LINKS, LEAST_TICK, MOST_TICK, USUAL_TICK, LEAST_SPACING, MOST_SPACING, USUAL_SPACING, MOST_TURNS, MOST_GENS, USUAL_GENS, MOST_PLAN_LINES, LONGEST_DELAY, LAST_MOMENT, USUAL_T140, USUAL_RED, LONGEST_NAME, LONGEST_PATH, MOST_CONF_OCTETS}
+use Rattle.file_spec.specs.declared.limits.TheConstants.{FEWEST_LEGS, MOST_LEGS, MOST_LINKS, LEAST_TICK, MOST_TICK, USUAL_TICK, LEAST_SPACING, MOST_SPACING, USUAL_SPACING, LEAST_RELABEL, MOST_RELABEL, MOST_TURNS, MOST_GENS, USUAL_GENS, MOST_PLAN_LINES, LONGEST_DELAY, LAST_MOMENT, USUAL_T140, USUAL_RED, LONGEST_NAME, LONGEST_PATH, MOST_CONF_OCTETS}
 use Rattle.rtt_base.specs.Steps.{◌>>=◌}
 use Rattle.file_spec.specs.Steps.{unless}
 use Rattle.file_spec.specs.Lines.{Line, Refusal, told, is_comment, words, at_line, read_lines}
@@ -32,6 +32,7 @@ pub record Conf : Type 0 where
   pub spacing : ℕ
   pub wait : ℕ
   pub turns : ℕ
+  pub relabel : Option ℕ
   pub mixer : MixerLine
   pub plan : List PlanLine
 
@@ -44,6 +45,7 @@ pub record Above : Type 0 where
   pub spacing : Option ℕ
   pub wait : Option ℕ
   pub turns : Option ℕ
+  pub relabel : Option ℕ
   pub mixer : Option MixerLine
   pub plan : List PlanLine
 
@@ -56,11 +58,12 @@ pub data Entry : Type 0 where
   Spacing : ℕ → Entry
   Wait : ℕ → Entry
   Turns : ℕ → Entry
+  Relabel : ℕ → Entry
   Mixer : MixerLine → Entry
   Plan : PlanLine → Entry
 
 abbrev pub nothing : Above
-nothing = record { legs = []; gens = []; stays = []; tick = None; spacing = None; wait = None; turns = None; mixer = None; plan = [] }
+nothing = record { legs = []; gens = []; stays = []; tick = None; spacing = None; wait = None; turns = None; relabel = None; mixer = None; plan = [] }
 
 -- the legs, the one at this place changed
 abbrev pub change_leg : (LegLine → LegLine) → ℕ → List LegLine → List LegLine
@@ -82,6 +85,7 @@ with_entry a (Tick n) = record a { tick = Some n }
 with_entry a (Spacing n) = record a { spacing = Some n }
 with_entry a (Wait n) = record a { wait = Some n }
 with_entry a (Turns n) = record a { turns = Some n }
+with_entry a (Relabel n) = record a { relabel = Some n }
 with_entry a (Mixer m) = record a { mixer = Some m }
 with_entry a (Plan p) = record a { plan = a.plan ++ p ∷ [] }
 
@@ -271,7 +275,8 @@ time_or_other form above word more =
     else (if bytes_eq word (codes "spacing") then says Spacing (setting LEAST_SPACING MOST_SPACING above.spacing more)
     else (if bytes_eq word (codes "wait") then says Wait (setting 0 LONGEST_WAIT above.wait more)
     else (if bytes_eq word (codes "turns") then says Turns (setting 1 MOST_TURNS above.turns more)
-    else stay_or_plan form above word more)))
+    else (if bytes_eq word (codes "relabel") then says Relabel (setting LEAST_RELABEL MOST_RELABEL above.relabel more)
+    else stay_or_plan form above word more))))
 
 -- what the words of a line say: the first one decides how many there are
 unfoldable pub entry : Form → Above → ℕ → List (List ℕ) → Result Entry ConfKind
@@ -295,7 +300,7 @@ and_line form above line = do
 
 -- ---- the whole
 
--- what isn't said has its default
+-- what isn't said has its default; of labelling again there is none
 abbrev pub whole : Above → MixerLine → Conf
 whole above mixer = record {
   legs = above.legs;
@@ -303,6 +308,7 @@ whole above mixer = record {
   spacing = unwrap_or above.spacing USUAL_SPACING;
   wait = unwrap_or above.wait USUAL_WAIT;
   turns = unwrap_or above.turns MOST_TURNS;
+  relabel = above.relabel;
   mixer = mixer;
   plan = above.plan;
 }

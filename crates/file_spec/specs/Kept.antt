@@ -2,7 +2,7 @@
 use Rattle.std.specs.Prelude.{◌≡◌, ◌≢◌, ◌<◌, ◌≤◌, ℕ, false, IsTrue, List, length, All, AllPairs}
 use Rattle.std.specs.Option.{ForSome}
 use Rattle.rtt_base.specs.declared.text_packets.Pts.{Pts}
-use Rattle.file_spec.specs.declared.limits.TheConstants.{FEWEST_LEGS, MOST_LEGS, LEAST_TICK, MOST_TICK, LEAST_SPACING, MOST_SPACING, MOST_TURNS, MOST_GENS, MOST_PLAN_LINES, LONGEST_DELAY, FIRST_TYPE, LAST_TYPE}
+use Rattle.file_spec.specs.declared.limits.TheConstants.{FEWEST_LEGS, MOST_LEGS, LEAST_TICK, MOST_TICK, LEAST_SPACING, MOST_SPACING, LEAST_RELABEL, MOST_RELABEL, MOST_TURNS, MOST_GENS, MOST_PLAN_LINES, LONGEST_DELAY, FIRST_TYPE, LAST_TYPE}
 use Rattle.file_spec.specs.declared.conf_lines.LegLine.{LegLine}
 use Rattle.file_spec.specs.declared.conf_lines.MixerLine.{MixerLine}
 use Rattle.file_spec.specs.declared.conf_lines.PlanLine.{PlanLine}
@@ -64,6 +64,9 @@ IsWait n = n ≤ LONGEST_WAIT
 abbrev pub AreTurns : ℕ → Type 0
 AreTurns n = IsBetween 1 MOST_TURNS n
 
+abbrev pub IsRelabel : ℕ → Type 0
+IsRelabel n = IsBetween LEAST_RELABEL MOST_RELABEL n
+
 -- what the lines so far keep
 pub record Keeps (above : Above) : Type 0 where
   pub legs : AreLegs above.legs
@@ -71,6 +74,7 @@ pub record Keeps (above : Above) : Type 0 where
   pub spacing : ForSome above.spacing (λ n. IsSpacing n)
   pub wait : ForSome above.wait (λ n. IsWait n)
   pub turns : ForSome above.turns (λ n. AreTurns n)
+  pub relabel : ForSome above.relabel (λ n. IsRelabel n)
   pub mixer : ForSome above.mixer (λ m. IsMixerFor above.legs m)
   pub plan : IsPlanFor above.legs above.plan
 
@@ -83,5 +87,6 @@ pub record IsConference (c : Conf) : Type 0 where
   pub spacing : IsSpacing c.spacing
   pub wait : IsWait c.wait
   pub turns : AreTurns c.turns
+  pub relabel : ForSome c.relabel (λ n. IsRelabel n)
   pub mixer : IsMixerFor c.legs c.mixer
   pub plan : IsPlanFor c.legs c.plan

@@ -23,6 +23,10 @@ pub const LEAST_SPACING: u32 = 100;
 pub const MOST_SPACING: u32 = 500;
 
 pub const USUAL_SPACING: u32 = 300;
+/// The range of the milliseconds after which a run that goes on is labelled again.
+pub const LEAST_RELABEL: u32 = 2000;
+
+pub const MOST_RELABEL: u32 = 60_000;
 /// How many turns the mixer may take: at least one.
 pub const MOST_TURNS: u32 = 5_000_000;
 /// How many redundant generations a terminal is sent.
