@@ -71,6 +71,7 @@ call = record {
   spacing = 300;
   wait = 1000;
   turns = 30;
+  relabel = None;
   mixer = record { ssrc = 9000; seq = 100; stamp = 5000 };
   plan = record { terminal = 1; packet = 1; what = Lose } ∷ [];
 }

@@ -2,7 +2,7 @@
 use Rattle.std.specs.Prelude.{◌≡◌, ℕ, ◌<◌, Bool, true, false, ◌⊎◌, Option, None, Some, List, [], ◌∷◌, ◌++◌, encode_utf8_all}
 use Rattle.std.specs.List.{list_any}
 use Rattle.text_spec.specs.Characters.{is_open_after}
-use Rattle.text_spec.specs.Views.{is_bracket, label_after}
+use Rattle.text_spec.specs.Views.{is_bracket, is_direction, label_after}
 use Rattle.mixer_spec.specs.Composed.{Answer, Asked, from_seen, is_seen, labelled, written}
 use Rattle.stream_spec.specs.Ready.{Chunk}
 use Rattle.mixer_spec.specs.Setups.{Setup, IsAnother}
@@ -60,7 +60,7 @@ SharedIsGiven =
 
 -- ---- labels
 -- A text that was given of a speaker of this name: some characters, its label or none, and more characters. No bracket is among
--- the characters, so each one that is sent is a label's.
+-- the characters, so each one that is sent is a label's; nor is any direction.
 pub record HasOneLabel (name text : List ℕ) : Type 0 where
   pub ahead : List ℕ
   pub label : List ℕ
@@ -68,6 +68,7 @@ pub record HasOneLabel (name text : List ℕ) : Type 0 where
   pub text_is : text ≡ encode_utf8_all ahead ++ (label ++ encode_utf8_all rest)
   pub of_name : (label ≡ []) ⊎ ((is_open : Bool) × (label ≡ label_after is_open name))
   pub no_bracket : list_any is_bracket (ahead ++ rest) ≡ false
+  pub no_direction : list_any is_direction (ahead ++ rest) ≡ false
 
 abbrev pub IsLabelledAnswer : Setup → Option Answer → Type 0
 IsLabelledAnswer s None = Unit {0}
@@ -78,7 +79,7 @@ abbrev pub AreLabelled : Setup → List Asked → Type 0
 AreLabelled s [] = Unit {0}
 AreLabelled s (a ∷ past) = IsLabelledAnswer s a.given × AreLabelled s past
 
--- Whatever is typed, no bracket is sent but those of labels.
+-- Whatever is typed, no bracket is sent but those of labels, and no direction.
 abbrev pub BracketsAreLabels : Type 0
 BracketsAreLabels =
     (s : Setup) (chunks : ℕ → List Chunk) (past : List Event) (j : ℕ)

@@ -89,10 +89,10 @@ pub all_named : (c : Conf) → IsConference c → AreNamed c.legs
 all_named c h = λ i x l. (h.legs.each i x l).name
 
 -- what is told of a new outlet, where there are so many legs
-pub made_of : (c : Conf) (k count : ℕ) (leg : LegLine) (r : Result Outlet NoMemory) → IsConference c → slice_get c.legs k ≡ Some leg → count ≡ length c.legs → IfOk r (λ o. StandsNew leg.aware leg.gens count k c.spacing o)
+pub made_of : (c : Conf) (k count : ℕ) (leg : LegLine) (r : Result Outlet NoMemory) → IsConference c → slice_get c.legs k ≡ Some leg → count ≡ length c.legs → IfOk r (λ o. StandsNew leg.aware leg.gens count k c.spacing c.relabel o)
     → IfOk r (λ o. own_of o ≡ k) → IfOk r (λ o. legs_of o ≡ count) → IfOk r (λ o. sources_of o ≡ (if leg.aware then count else 1)) → IfOk r (λ o. next_turn o ≡ 0) → IfOk r (λ o. IsMade c k o)
 made_of c k count leg (Ok o) h g e stands own legs sources next = record {
-  stands = stands (setup c) (made_for c k count leg h g e) (aware_is c k leg g);
+  stands = stands (setup c) (made_for c k count leg h g e) refl (aware_is c k leg g);
   own = own;
   legs = legs ∙ e;
   sources = get_map (λ l. if l.aware then length c.legs else 1) c.legs k leg g ∙ ap Some (sym (sources ∙ ap (λ n. if leg.aware then n else 1) e));

@@ -50,6 +50,7 @@ fn outlet_of(alloc: Global, conf: &Conf, own: usize) -> Result<Outlet, NoMemory>
         conf.legs.len(),
         own,
         conf.spacing,
+        conf.relabel,
     )
 }
 

@@ -47,9 +47,9 @@ StandsFor s j (Aware o) d = (s.aware j ≡ true) × aware.StandsFor s j o d
 StandsFor s j (Unaware o) d = (s.aware j ≡ false) × unaware.StandsFor s j o d
 
 -- Made so, aware or not, it stands for a terminal of this leg to which nothing was sent.
-abbrev pub StandsNew : Bool → (gens legs own spacing : ℕ) → Outlet → Type 0
-StandsNew aware gens legs own spacing o =
-    (s : Setup) → IsMadeFor s gens legs own spacing → aware ≡ s.aware own
+abbrev pub StandsNew : Bool → (gens legs own spacing : ℕ) → Option ℕ → Outlet → Type 0
+StandsNew aware gens legs own spacing relabel o =
+    (s : Setup) → IsMadeFor s gens legs own spacing → s.relabel ≡ relabel → aware ≡ s.aware own
     → StandsFor s own o (empty.terminals own)
 
 -- it stands for the same terminal, whatever waits there

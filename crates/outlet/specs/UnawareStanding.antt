@@ -1,5 +1,5 @@
 -- What the outlet of a terminal that is not aware stands for (profile).
-use Rattle.std.specs.Prelude.{◌≡◌, ◌+◌, ◌-◌, ◌<◌, ◌==◌, ◌||◌, not, ℕ, Bool, true, false, is_some, List, [], ◌∷◌, if◌then◌else◌}
+use Rattle.std.specs.Prelude.{◌≡◌, ◌+◌, ◌-◌, ◌<◌, ◌==◌, ◌||◌, not, ℕ, Bool, true, false, Option, is_some, List, [], ◌∷◌, if◌then◌else◌}
 use Rattle.wire_spec.specs.Packets.{has_text}
 use Rattle.stream_spec.specs.Own.{Sent}
 use Rattle.stream_spec.specs.Ready.{Chunk}
@@ -38,9 +38,9 @@ pub record StandsFor (s : Setup) (j : ℕ) (o : UnawareState) (d : Terminal) : T
   pub rests : o.none_waits ≡ true → (i : ℕ) → i < s.legs → waits_here j d.waits i ≡ false
 
 -- Made so, it stands for a terminal of this leg to which nothing was sent.
-abbrev pub StandsNew : (gens legs own spacing : ℕ) → UnawareState → Type 0
-StandsNew gens legs own spacing o =
-    (s : Setup) → IsSetup s → s.legs ≡ legs → s.spacing ≡ spacing → s.gens own ≡ gens
+abbrev pub StandsNew : (gens legs own spacing : ℕ) → Option ℕ → UnawareState → Type 0
+StandsNew gens legs own spacing relabel o =
+    (s : Setup) → IsSetup s → s.legs ≡ legs → s.spacing ≡ spacing → s.gens own ≡ gens → s.relabel ≡ relabel
     → StandsFor s own o (empty.terminals own)
 
 -- it stands for the same terminal, whatever waits there

@@ -20,7 +20,8 @@ pub enum Outlet {
 
 impl Outlet {
     /// The outlet of the terminal of this leg, aware or not, to which nothing was sent, where there are so many legs. A text is
-    /// repeated in so many packets. It takes all memory that it ever needs.
+    /// repeated in so many packets. Where it is not aware, a run that goes on is labelled again after `relabel` milliseconds
+    /// without text, if at all. It takes all memory that it ever needs.
     pub fn new(
         alloc: Global,
         aware: bool,
@@ -28,9 +29,10 @@ impl Outlet {
         legs: usize,
         own: usize,
         spacing: u32,
+        relabel: Option<u32>,
     ) -> Result<Outlet, NoMemory>
         requires own { own < legs }
-        ensures stands { IfOk result (λ outlet. StandsNew aware gens legs own spacing outlet) }
+        ensures stands { IfOk result (λ outlet. StandsNew aware gens legs own spacing relabel outlet) }
         ensures own { IfOk result (λ outlet. own_of outlet ≡ own) }
         ensures legs { IfOk result (λ outlet. legs_of outlet ≡ legs) }
         ensures sources { IfOk result (λ outlet. sources_of outlet ≡ (if aware then legs else 1)) }
@@ -40,7 +42,7 @@ impl Outlet {
             let outlet = AwareOutlet::new(alloc, gens, legs, own, spacing)?;
             return Ok(Outlet::Aware(outlet));
         }
-        let outlet = UnawareOutlet::new(alloc, gens, legs, own, spacing)?;
+        let outlet = UnawareOutlet::new(alloc, gens, legs, own, spacing, relabel)?;
         Ok(Outlet::Unaware(outlet))
     }
 

@@ -44,21 +44,23 @@ impl Model for UnawareOutlet {
 
 impl UnawareOutlet {
     /// The outlet of the terminal of the leg `own`, where there are so many legs, to which nothing was sent yet. A text is
-    /// repeated in so many packets. It takes all memory that it ever needs.
+    /// repeated in so many packets, and a run that goes on is labelled again after `relabel` milliseconds without text, if at
+    /// all. It takes all memory that it ever needs.
     pub fn new(
         alloc: Global,
         gens: u8,
         legs: usize,
         own: usize,
         spacing: u32,
+        relabel: Option<u32>,
     ) -> Result<UnawareOutlet, NoMemory>
         requires own { own < legs }
-        ensures stands { IfOk result (λ outlet. StandsNew gens legs own spacing outlet) }
+        ensures stands { IfOk result (λ outlet. StandsNew gens legs own spacing relabel outlet) }
         ensures own { IfOk result (λ outlet. own_of outlet ≡ own) }
         ensures legs { IfOk result (λ outlet. legs_of outlet ≡ legs) }
         ensures next { IfOk result (λ outlet. next_turn outlet ≡ 0) }
     {
-        let composer = Composer::new(alloc, legs, own)?;
+        let composer = Composer::new(alloc, legs, own, relabel)?;
         Ok(UnawareOutlet {
             own,
             legs,

@@ -73,6 +73,7 @@ fn conf_with(alloc: Global, legs: u32, plan: Plan) -> Result<Conf, NoMemory>
         spacing: USUAL_SPACING,
         wait: USUAL_WAIT,
         turns: MOST_TURNS,
+        relabel: None,
         mixer: MixerLine {
             ssrc: MIXER_SSRC,
             seq: 0,

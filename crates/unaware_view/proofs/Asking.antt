@@ -1,5 +1,5 @@
 -- The choice of a composer is the answer of the definition.
-use Rattle.std.proofs.Common.{◌≡◌, ℕ, suc, ◌<◌, ◌≤◌, Bool, true, false, cond, not, ◌&&◌, ◌||◌, inl, inr, Option, Some, None, List, [], length, refl, sym, ap, ◌∙◌, arith}
+use Rattle.std.proofs.Common.{◌≡◌, ℕ, suc, ◌<◌, ◌≤◌, Bool, true, false, cond, not, ◌&&◌, ◌||◌, inl, inr, Option, Some, None, List, [], length, refl, sym, ap, subst, ◌∙◌, arith}
 use Rattle.std.specs.Prelude.{◌==◌, chars}
 use Rattle.std.proofs.lemmas.Bool.{cases_eq, eq-eqb, ne_eqb}
 use Rattle.text_spec.specs.Shown.{ends_with_cr}
@@ -9,14 +9,16 @@ use Rattle.stream_spec.specs.Ready.{Chunk}
 use Rattle.mixer_spec.specs.Chunks.{joined, has_chunk}
 use Rattle.mixer_spec.specs.Rounds.{any_below, first_round}
 use Rattle.mixer_spec.specs.Setups.{Setup}
-use Rattle.mixer_spec.specs.Composed.{Answer, Asked, answer, answer_after, begin_with, chars_of, go_on, headed, is_open, latest, run_of, since, is_ago, is_switch, ends_turn, waits_here}
+use Rattle.mixer_spec.specs.Composed.{Answer, Asked, answer, answer_after, begin_with, chars_of, go_on, headed, is_labelled_again, is_open, latest, run_of, since, speak_on, text_of, is_ago, is_switch, ends_turn, waits_here}
 use Rattle.unaware_view.specs.declared.composers.Current.{Current}
 use Rattle.unaware_view.specs.declared.composers.Choice.{Choice}
 use Rattle.unaware_view.specs.declared.composers.Choice.TheVariants.{Nobody, Begins, GoesOn}
 use Rattle.unaware_view.specs.declared.runs.Run.{Run}
 use Rattle.unaware_view.specs.Runs.{is_turn}
 use Rattle.unaware_view.specs.States.{State}
-use Rattle.unaware_view.specs.Choices.{is_set, since_at, is_left, begins, choice_after, choice}
+use Rattle.std.proofs.lemmas.Str.{chars-encodes}
+use Rattle.mixer_spec.proofs.Texts.{utf8_scalars}
+use Rattle.unaware_view.specs.Choices.{again_by, is_again, is_set, since_at, is_left, begins, choice_after, choice, onward}
 use Rattle.unaware_view.specs.Standing.{StandsFor, IsCurrent, IsSpeaker}
 use Rattle.unaware_view.proofs.Firsts.{any_same, round_same}
 
@@ -68,12 +70,19 @@ switch_same : (s : Setup) (c : State) (asks : List Asked) (w : ℕ → List Chun
 switch_same s c asks w g x now h k = λ r.
     h.stands.run.chunk r
     && (others_same s c asks w x.speaker h r
-    && (turn_is c.run (joined (run_of asks)) h.stands.run.is_run.ending r
+    && (turn_is c.run (text_of (run_of asks)) (subst (λ (cs : List ℕ). IsEnding c.run.ending cs) (sym (chars-encodes (chars_of (run_of asks)) (utf8_scalars (run_of asks) h.stands.run.utf8))) h.stands.run.is_run.ending) r
     || ((not (speaker_flag s c asks w x.speaker h k.leg k.other r) && is_ago 2000 now (sym k.given r))
     || longs_same s c asks w x.speaker now h r)))
 
+again_same : (s : Setup) (c : State) (asks : List Asked) (w : ℕ → List Chunk) (g : Answer) (x : Current) (now : ℕ) → Looks s c asks w → IsSpeaker s c.own asks g x → is_again c x now ≡ is_labelled_again s.relabel now asks x.speaker
+again_same s c asks w g x now h k = ap (λ (o : Option ℕ). again_by o c.run.has_chunk now x.given_at) h.stands.relabel ∙ go s.relabel
+  where
+    go : (o : Option ℕ) → again_by o c.run.has_chunk now x.given_at ≡ is_labelled_again o now asks x.speaker
+    go None = refl
+    go (Some ms) = λ r. h.stands.run.chunk r && is_ago ms now (sym k.given r)
+
 -- ---- the choice
-pub choice_is : (s : Setup) (c : State) (asks : List Asked) (w : ℕ → List Chunk) (due : Bool) (now : ℕ) → Looks s c asks w → given_of s.name w asks (choice c due now) ≡ answer s.legs s.name c.own now due w asks
+pub choice_is : (s : Setup) (c : State) (asks : List Asked) (w : ℕ → List Chunk) (due : Bool) (now : ℕ) → Looks s c asks w → given_of s.name w asks (choice c due now) ≡ answer s.legs s.name s.relabel c.own now due w asks
 choice_is s c asks w false now h = refl
 choice_is s c asks w true now h = go (latest asks) c.current h.stands.current
   where
@@ -82,16 +91,20 @@ choice_is s c asks w true now h = go (latest asks) c.current h.stands.current
         begins_given s.name w asks (first_round (is_set c.waits) start (length c.waits))
         ∙ ap (begin_with s.name w asks) (round_same (is_set c.waits) (waits_here c.own w) start (length c.waits) (let k = h.legs in omega (arith, l, k)) h.flags ∙ ap (first_round (waits_here c.own w) start) h.legs)
 
-    by : (b d : Bool) (k k' : Choice) (i : ℕ) (o : Option Answer) → given_of s.name w asks k ≡ o → given_of s.name w asks (cond b k (cond d (GoesOn i) Nobody)) ≡ cond b o (cond d (Some (go_on s.name w asks i)) None)
-    by true d k k' i o e = e
-    by false true k k' i o e = refl
-    by false false k k' i o e = refl
+    on : (a : Bool) → ℕ → Answer
+    on a i = cond a (headed w (s.name i) (ends_with_cr (chars_of (run_of asks))) (is_open asks) [] i) (go_on s.name w asks i)
 
-    go : (o : Option Answer) (k : Option Current) → IsCurrent s c.own asks o k → given_of s.name w asks (choice_after c now k) ≡ answer_after s.legs s.name c.own now w asks o
+    by : (b d a : Bool) (k : Choice) (i : ℕ) (o : Option Answer) → given_of s.name w asks k ≡ o → given_of s.name w asks (cond b k (cond d (onward a i) Nobody)) ≡ cond b o (cond d (Some (on a i)) None)
+    by true d a k i o e = e
+    by false true true k i o e = refl
+    by false true false k i o e = refl
+    by false false a k i o e = refl
+
+    go : (o : Option Answer) (k : Option Current) → IsCurrent s c.own asks o k → given_of s.name w asks (choice_after c now k) ≡ answer_after s.legs s.name s.relabel c.own now w asks o
     go None None u = rounds 0 (omega arith)
     go None (Some x) u = absurd u
     go (Some g) None u = absurd u
     go (Some g) (Some x) u =
-        by (is_left c x now) (is_set c.waits x.speaker) (begins (first_round (is_set c.waits) (suc x.speaker) (length c.waits))) Nobody x.speaker (begin_with s.name w asks (first_round (waits_here c.own w) (suc x.speaker) s.legs)) (rounds (suc x.speaker) (let l = u.leg in omega (arith, l)))
-        ∙ ((λ r. cond (switch_same s c asks w g x now h u r) (begin_with s.name w asks (first_round (waits_here c.own w) (suc x.speaker) s.legs)) (cond (speaker_flag s c asks w x.speaker h u.leg u.other r) (Some (go_on s.name w asks x.speaker)) None))
-        ∙ ap (λ (i : ℕ). cond (is_switch s.legs c.own now w asks i) (begin_with s.name w asks (first_round (waits_here c.own w) (suc i) s.legs)) (cond (has_chunk (w i)) (Some (go_on s.name w asks i)) None)) (sym u.source))
+        by (is_left c x now) (is_set c.waits x.speaker) (is_again c x now) (begins (first_round (is_set c.waits) (suc x.speaker) (length c.waits))) x.speaker (begin_with s.name w asks (first_round (waits_here c.own w) (suc x.speaker) s.legs)) (rounds (suc x.speaker) (let l = u.leg in omega (arith, l)))
+        ∙ ((λ r. cond (switch_same s c asks w g x now h u r) (begin_with s.name w asks (first_round (waits_here c.own w) (suc x.speaker) s.legs)) (cond (speaker_flag s c asks w x.speaker h u.leg u.other r) (Some (on (again_same s c asks w g x now h u r) x.speaker)) None))
+        ∙ ap (λ (i : ℕ). cond (is_switch s.legs c.own now w asks i) (begin_with s.name w asks (first_round (waits_here c.own w) (suc i) s.legs)) (cond (has_chunk (w i)) (Some (speak_on s.name s.relabel now w asks i)) None)) (sym u.source))

@@ -28,11 +28,11 @@ none_below p zero f = refl
 none_below p (suc n) f = rw (f n (omega arith)) (none_below p n (λ i l. f i (omega arith)))
 
 -- ---- nothing is given
-none_after : (legs : ℕ) (name : ℕ → List ℕ) (own now : ℕ) (waits : ℕ → List Chunk) (asks : List Asked) (s : Setup) (o : Option Answer) (c : Option Current) → s.legs ≡ legs
-    → ((i : ℕ) → i < legs → waits_here own waits i ≡ false) → IsCurrent s own asks o c → answer_after legs name own now waits asks o ≡ None
-none_after legs name own now waits asks s None c e f u = ap (λ (o : Option ℕ). begin_with name waits asks o) (none_round (waits_here own waits) 0 legs (omega arith) f)
-none_after legs name own now waits asks s (Some g) None e f u = absurd u
-none_after legs name own now waits asks s (Some g) (Some x) e f u =
+none_after : (legs : ℕ) (name : ℕ → List ℕ) (relabel : Option ℕ) (own now : ℕ) (waits : ℕ → List Chunk) (asks : List Asked) (s : Setup) (o : Option Answer) (c : Option Current) → s.legs ≡ legs
+    → ((i : ℕ) → i < legs → waits_here own waits i ≡ false) → IsCurrent s own asks o c → answer_after legs name relabel own now waits asks o ≡ None
+none_after legs name relabel own now waits asks s None c e f u = ap (λ (o : Option ℕ). begin_with name waits asks o) (none_round (waits_here own waits) 0 legs (omega arith) f)
+none_after legs name relabel own now waits asks s (Some g) None e f u = absurd u
+none_after legs name relabel own now waits asks s (Some g) (Some x) e f u =
     let here : g.source < legs = let l = u.leg in let q = u.source in omega (arith, l, q, e) in
     let other : g.source ≡ own → ⊥ = λ q. u.other (sym u.source ∙ q) in
     let silent : has_chunk (waits g.source) ≡ false = sym (ap (λ (b : Bool). not b && has_chunk (waits g.source)) (ne_eqb g.source own other)) ∙ f g.source here in
@@ -42,7 +42,7 @@ none_after legs name own now waits asks s (Some g) (Some x) e f u =
 
 pub none_given : (s : Setup) (table : Table) (c : State) (media : ℕ) (due : Bool) (asks : List Asked) → StandsFor s c asks → NoneWaits s table c → given_now s table c media due asks ≡ None
 none_given s table c media false asks h f = refl
-none_given s table c media true asks h f = none_after s.legs s.name c.own media (waiting table c) asks s (latest asks) c.current refl f h.current
+none_given s table c media true asks h f = none_after s.legs s.name s.relabel c.own media (waiting table c) asks s (latest asks) c.current refl f h.current
 
 -- ---- the composer behind it
 or_none : (o : Option ℕ) → option_or o None ≡ o
@@ -68,4 +68,5 @@ passed s table c media due asks h f =
           h.waits_since i l o ∙ sym (ap (λ (b : Bool). option_or (since i asks) (cond b (Some media) None)) silent ∙ or_none (since i asks));
       run = h.run;
       asked = refl;
+      relabel = h.relabel;
     })

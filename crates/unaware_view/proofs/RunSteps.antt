@@ -5,49 +5,53 @@ use Rattle.std.specs.Char.{encode_utf8}
 use Rattle.std.proofs.lemmas.Bool.{eqb-true, ne_eqb, true≢false, and_parts, not-true, or_parts}
 use Rattle.std.proofs.lemmas.Str.{IsUtf8-past_char, chars-encodes, chars_past_char, encode_ascii}
 use Rattle.text_spec.specs.declared.classes.CharClass.{CharClass}
-use Rattle.text_spec.specs.declared.classes.CharClass.TheVariants.{Erase, Bell, NewLine, Silent, Print}
-use Rattle.text_spec.specs.Characters.{class_of, is_open_after, is_print, opens}
-use Rattle.text_spec.specs.Shown.{signs, survivors, ends_with_cr, without_last}
-use Rattle.text_spec.specs.Views.{is_bracket, label_after, without_bracket}
-use Rattle.text_spec.proofs.Steps.{ends_with_cr-last, stands-erase, stands-print, stands-new_line, stands-cr_lf, stands-bell, stands-silent}
+use Rattle.text_spec.specs.declared.classes.CharClass.TheVariants.{Erase, Bell, NewLine, Silent, Marker, Print}
+use Rattle.text_spec.specs.Characters.{class_of, is_marker, is_open_after, is_print, opens}
+use Rattle.text_spec.specs.Shown.{ends_with_cr, loose, signs, survivors}
+use Rattle.text_spec.specs.Views.{is_bracket, is_direction, label_after, without_bracket, without_directions}
+use Rattle.text_spec.proofs.Erasing.{loose-append, loose-one_back}
+use Rattle.text_spec.proofs.Steps.{ends_with_cr-last, stands-erase, stands-marker, stands-print, stands-new_line, stands-cr_lf, stands-bell, stands-silent}
 use Rattle.t140_text.specs.Endings.{IsEnding}
 use Rattle.t140_text.proofs.Endings.{push_step}
 use Rattle.mixer_spec.specs.Composed.{from_seen, is_erased, is_seen, labelled, own_part, written}
 use Rattle.mixer_spec.proofs.Labels.{unseen_one}
 use Rattle.mixer_spec.proofs.Texts.{encode_some, one_short}
 use Rattle.unaware_view.specs.declared.runs.Run.{Run}
-use Rattle.unaware_view.specs.Runs.{IsAhead, IsBehind, IsRun, Sends, Writes, before_by, behind, cr_last, erasable_after, erasable_by, is_headed, is_seen_at, sent_for, sent_of, step_by, stepped, text_by, text_of_one}
+use Rattle.unaware_view.specs.Runs.{IsAhead, IsBehind, IsRun, Sends, Writes, after_one, before_by, behind, cr_last, erasable_after, erasable_by, is_headed, is_seen_at, sent_for, sent_of, step_by, stepped, text_after_one, text_by, text_of_one}
 
 -- ---- what can be taken back
-length_without_last : (cs : List ℕ) → length (without_last cs) ≡ length cs - 1
-length_without_last [] = refl
-length_without_last (c ∷ []) = refl
-length_without_last (c ∷ d ∷ cs) = let r = length_without_last (d ∷ cs) in omega (arith, r)
+one_longer : (cs : List ℕ) (c n : ℕ) → is_marker (class_of c) ≡ false → loose cs ≡ n → loose (cs ++ c ∷ []) ≡ n + 1
+one_longer cs c n m e = loose-append 0 cs c ∙ (ap (λ b. cond b 0 (loose cs + 1)) m ∙ ap (λ x. x + 1) e)
 
-one_longer : (cs : List ℕ) (c n : ℕ) → length cs ≡ n → length (cs ++ c ∷ []) ≡ n + 1
-one_longer cs c n e = let l = length-append cs (c ∷ []) in omega (arith, l, e)
+none_behind : (cs : List ℕ) (c : ℕ) → is_marker (class_of c) ≡ true → loose (cs ++ c ∷ []) ≡ 0
+none_behind cs c m = loose-append 0 cs c ∙ ap (λ b. cond b 0 (loose cs + 1)) m
 
-erasable_step : (cs : List ℕ) (c n : ℕ) (after : Bool) → length (survivors (signs cs)) ≡ n → ends_with_cr cs ≡ after → length (survivors (signs (cs ++ c ∷ []))) ≡ erasable_after after n c
+lf_unmarked : is_marker (class_of 0x0A) ≡ false
+unfolding class_of
+lf_unmarked = refl
+
+erasable_step : (cs : List ℕ) (c n : ℕ) (after : Bool) → loose (survivors (signs cs)) ≡ n → ends_with_cr cs ≡ after → loose (survivors (signs (cs ++ c ∷ []))) ≡ erasable_after after n c
 erasable_step cs c n after e cr = go (class_of c) refl
   where
-    line : (a b : Bool) → (c == 0x0A) ≡ a → after ≡ b → class_of c ≡ NewLine → length (survivors (signs (cs ++ c ∷ []))) ≡ cond (a && b) n (n + 1)
-    line true true p q k = subst (λ (x : ℕ). length (survivors (signs (cs ++ x ∷ []))) ≡ n) (sym (eqb-true c 0x0A p)) (ap length (stands-cr_lf cs (cr ∙ q)) ∙ e)
-    line true false p q k = ap length (stands-new_line cs c k (ap (λ (b : Bool). (c == 0x0A) && b) (cr ∙ q) ∙ ap (λ (a : Bool). a && false) p)) ∙ one_longer (survivors (signs cs)) 0x0A n e
-    line false b p q k = ap length (stands-new_line cs c k (ap (λ (a : Bool). a && ends_with_cr cs) p)) ∙ one_longer (survivors (signs cs)) 0x0A n e
+    line : (a b : Bool) → (c == 0x0A) ≡ a → after ≡ b → class_of c ≡ NewLine → loose (survivors (signs (cs ++ c ∷ []))) ≡ cond (a && b) n (n + 1)
+    line true true p q k = subst (λ (x : ℕ). loose (survivors (signs (cs ++ x ∷ []))) ≡ n) (sym (eqb-true c 0x0A p)) (ap loose (stands-cr_lf cs (cr ∙ q)) ∙ e)
+    line true false p q k = ap loose (stands-new_line cs c k (ap (λ (b : Bool). (c == 0x0A) && b) (cr ∙ q) ∙ ap (λ (a : Bool). a && false) p)) ∙ one_longer (survivors (signs cs)) 0x0A n lf_unmarked e
+    line false b p q k = ap loose (stands-new_line cs c k (ap (λ (a : Bool). a && ends_with_cr cs) p)) ∙ one_longer (survivors (signs cs)) 0x0A n lf_unmarked e
 
-    go : (k : CharClass) → class_of c ≡ k → length (survivors (signs (cs ++ c ∷ []))) ≡ erasable_by k after n c
-    go Erase k = ap length (stands-erase cs c k) ∙ (length_without_last (survivors (signs cs)) ∙ ap (λ (m : ℕ). m - 1) e)
-    go Bell k = ap length (stands-bell cs c k) ∙ e
+    go : (k : CharClass) → class_of c ≡ k → loose (survivors (signs (cs ++ c ∷ []))) ≡ erasable_by k after n c
+    go Erase k = ap loose (stands-erase cs c k) ∙ (loose-one_back (survivors (signs cs)) ∙ ap (λ (m : ℕ). m - 1) e)
+    go Bell k = ap loose (stands-bell cs c k) ∙ e
     go NewLine k = line (c == 0x0A) after refl refl k
-    go Silent k = ap length (stands-silent cs c k) ∙ e
-    go Print k = ap length (stands-print cs c k) ∙ one_longer (survivors (signs cs)) c n e
+    go Silent k = ap loose (stands-silent cs c k) ∙ e
+    go Marker k = ap loose (stands-marker cs c k) ∙ none_behind (survivors (signs cs)) c (ap is_marker k)
+    go Print k = ap loose (stands-print cs c k) ∙ one_longer (survivors (signs cs)) c n (ap is_marker k) e
 
 lf_is_no_print : class_of 0x0A ≡ Print → ⊥
 unfolding class_of
 lf_is_no_print q = cc q
 
 -- the first character, behind a CR of another run or not
-first_step : (behind_cr : Bool) (c : ℕ) → length (survivors (signs (own_part behind_cr (c ∷ [])))) ≡ erasable_after behind_cr 0 c
+first_step : (behind_cr : Bool) (c : ℕ) → loose (survivors (signs (own_part behind_cr (c ∷ [])))) ≡ erasable_after behind_cr 0 c
 first_step true c = go (c == 0x0A) refl
   where
     same : (k : CharClass) → (c == 0x0A) ≡ false → erasable_by k false 0 c ≡ erasable_by k true 0 c
@@ -55,6 +59,7 @@ first_step true c = go (c == 0x0A) refl
     same Bell e = refl
     same NewLine e = ap (λ (b : Bool). cond (b && false) 0 1) e ∙ sym (ap (λ (b : Bool). cond (b && true) 0 1) e)
     same Silent e = refl
+    same Marker e = refl
     same Print e = refl
 
     line_feed : (k : CharClass) → class_of 0x0A ≡ k → 0 ≡ erasable_by k true 0 0x0A
@@ -62,21 +67,22 @@ first_step true c = go (c == 0x0A) refl
     line_feed Bell e = refl
     line_feed NewLine e = refl
     line_feed Silent e = refl
+    line_feed Marker e = refl
     line_feed Print e = absurd (lf_is_no_print e)
 
-    go : (b : Bool) → (c == 0x0A) ≡ b → length (survivors (signs (cond b [] (c ∷ [])))) ≡ erasable_after true 0 c
+    go : (b : Bool) → (c == 0x0A) ≡ b → loose (survivors (signs (cond b [] (c ∷ [])))) ≡ erasable_after true 0 c
     go true e = subst (λ (x : ℕ). 0 ≡ erasable_after true 0 x) (sym (eqb-true c 0x0A e)) (line_feed (class_of 0x0A) refl)
     go false e = erasable_step [] c 0 false refl refl ∙ same (class_of c) e
 first_step false c = erasable_step [] c 0 false refl refl
 
 -- what can be taken back ahead of the label
-own_step : (behind_cr : Bool) (cs : List ℕ) (c n : ℕ) (after : Bool) → length (survivors (signs (own_part behind_cr cs))) ≡ n → cr_last behind_cr cs ≡ after
-    → length (survivors (signs (own_part behind_cr (cs ++ c ∷ [])))) ≡ erasable_after after n c
+own_step : (behind_cr : Bool) (cs : List ℕ) (c n : ℕ) (after : Bool) → loose (survivors (signs (own_part behind_cr cs))) ≡ n → cr_last behind_cr cs ≡ after
+    → loose (survivors (signs (own_part behind_cr (cs ++ c ∷ [])))) ≡ erasable_after after n c
 own_step behind_cr [] c n after e cr =
     let none : n ≡ 0 = sym e ∙ empty behind_cr in
     first_step behind_cr c ∙ (λ i. erasable_after (cr i) (sym none i) c)
   where
-    empty : (b : Bool) → length (survivors (signs (own_part b []))) ≡ 0
+    empty : (b : Bool) → loose (survivors (signs (own_part b []))) ≡ 0
     empty true = refl
     empty false = refl
 own_step behind_cr (x ∷ xs) c n after e cr = go (behind_cr && x == 0x0A) refl e
@@ -85,7 +91,7 @@ own_step behind_cr (x ∷ xs) c n after e cr = go (behind_cr && x == 0x0A) refl 
     behind_lf [] q = ap (λ y. y == 0x0D) q
     behind_lf (y ∷ ys) q = refl
 
-    go : (b : Bool) → (behind_cr && x == 0x0A) ≡ b → length (survivors (signs (cond b xs (x ∷ xs)))) ≡ n → length (survivors (signs (cond b (xs ++ c ∷ []) (x ∷ (xs ++ c ∷ []))))) ≡ erasable_after after n c
+    go : (b : Bool) → (behind_cr && x == 0x0A) ≡ b → loose (survivors (signs (cond b xs (x ∷ xs)))) ≡ n → loose (survivors (signs (cond b (xs ++ c ∷ []) (x ∷ (xs ++ c ∷ []))))) ≡ erasable_after after n c
     go true q f = erasable_step xs c n after f (sym (behind_lf xs (eqb-true x 0x0A (and_parts behind_cr (x == 0x0A) q).1)) ∙ cr)
     go false q f = erasable_step (x ∷ xs) c n after f cr
 
@@ -148,7 +154,7 @@ run_by r alone behind_cr run c true q h = record { ending = push_step r.ending c
         record {
           labelled = refl;
           seen = (λ i. not (a.not_alone i) && length (one i) == 0);
-          erasable = ap (λ xs. length (survivors (signs xs))) own ∙ erasable_step [] c 0 false refl refl;
+          erasable = ap (λ xs. loose (survivors (signs xs))) own ∙ erasable_step [] c 0 false refl refl;
           after_cr = ap ends_with_cr own;
         }
 run_by r alone behind_cr run c false q h = record { ending = push_step r.ending c run h.ending; part = elim h.part [ inl a ↦ inl (unseen a) | inr b ↦ inr (more b) ] }
@@ -168,7 +174,7 @@ run_by r alone behind_cr run c false q h = record { ending = push_step r.ending 
         record {
           labelled = b.labelled;
           seen = still_seen alone behind_cr run c b.seen;
-          erasable = ap (λ xs. length (survivors (signs xs))) own ∙ erasable_step (behind alone behind_cr run) c r.erasable r.after_cr b.erasable b.after_cr;
+          erasable = ap (λ xs. loose (survivors (signs xs))) own ∙ erasable_step (behind alone behind_cr run) c r.erasable r.after_cr b.erasable b.after_cr;
           after_cr = ap ends_with_cr own ∙ ends_with_cr-last (behind alone behind_cr run) c;
         }
 
@@ -179,14 +185,10 @@ one_run r alone behind_cr run c h = run_by r alone behind_cr run c (is_headed r 
 plain_sent : (n c : ℕ) → is_seen_at n c ≡ false → is_bracket c ≡ false → sent_for n c ≡ c
 plain_sent n c s b =
     let seen = or_parts (is_print (class_of c)) (c == 0x08 && n == 0) s in
-    let bracket = or_parts (c == 0x5B) (c == 0xFF3B) b in
-    go (c == 0x08 && n == 0) (c == 0x5B) (c == 0xFF3B) seen.1 bracket.0 bracket.1
-  where
-    go : (x y z : Bool) → x ≡ false → y ≡ false → z ≡ false → cond x 0x58 (cond y 0x28 (cond z 0xFF08 c)) ≡ c
-    go true y z p q r = absurd (true≢false p)
-    go false true z p q r = absurd (true≢false q)
-    go false false true p q r = absurd (true≢false r)
-    go false false false p q r = refl
+    let last = or_parts (c == 0x5B || c == 0x5D || c == 0xFF3B) (c == 0xFF3D) b in
+    let third = or_parts (c == 0x5B || c == 0x5D) (c == 0xFF3B) last.0 in
+    let first = or_parts (c == 0x5B) (c == 0x5D) third.0 in
+    λ i. cond (seen.1 i) 0x58 (cond (first.0 i) 0x28 (cond (first.1 i) 0x29 (cond (third.1 i) 0xFF08 (cond (last.1 i) 0xFF09 c))))
 
 labelled_at : (name : List ℕ) (behind_cr on : Bool) (run : List ℕ) (c : ℕ) (more : List ℕ) (b : Bool) → is_seen behind_cr run c ≡ b
     → labelled name behind_cr on run (c ∷ more) ≡ cond b (label_after on name ++ encode_utf8_all (written [] (c ∷ more))) (encode_utf8 c ++ labelled name behind_cr (opens (class_of c) on) (run ++ c ∷ []) more)
@@ -257,6 +259,7 @@ erasable_bound after n c = go (class_of c)
     go Bell = omega arith
     go NewLine = line (c == 0x0A && after)
     go Silent = omega arith
+    go Marker = omega arith
     go Print = omega arith
 
 pub bound_by : (heads : Bool) (r : Run) (c : ℕ) → (step_by heads r c).erasable ≤ r.erasable + 1
@@ -280,40 +283,59 @@ sent_size n c = go (c == 0x08 && n == 0)
     go false = plain (c == 0x08) refl
 
 -- ---- a text
--- the first character of the rest was written
-pub write_step : (name : List ℕ) (first r next : Run) (alone behind_cr : Bool) (run cs before out after rest others : List ℕ) (c : ℕ) → rest ≡ encode_utf8 c ++ others → next ≡ stepped r c → after ≡ out ++ text_of_one name r c
-    → Writes name first r alone behind_cr run cs before out rest → Writes name first next alone behind_cr run cs before after others
-write_step name first r next alone behind_cr run cs before out after rest others c e n a w =
-    let here = chars_past_char rest others c w.utf8 e in
-    let more : run ++ (w.past ++ c ∷ []) ≡ (run ++ w.past) ++ c ∷ [] = sym (append_assoc run w.past (c ∷ [])) in
-    subst (λ (x : Run). Writes name first x alone behind_cr run cs before after others) (sym n) (record {
-      past = w.past ++ c ∷ [];
-      parts = append_assoc w.past (c ∷ []) (chars others) ∙ (ap (λ xs. w.past ++ xs) (sym here) ∙ w.parts);
-      utf8 = IsUtf8-past_char rest others c w.utf8 e;
-      run_is = subst (λ (xs : List ℕ). IsRun (stepped r c) alone behind_cr xs) (sym more) (one_run r alone behind_cr (run ++ w.past) c w.run_is);
-      open_is = open_by (is_headed r c) r c ∙ (ap (opens (class_of c)) w.open_is ∙ sym (opens_push first.is_open w.past c));
-      out_is = (λ i. a i ++ sent_of name (stepped r c) alone behind_cr (more i) (chars others))
-          ∙ (append_assoc out (text_of_one name r c) (sent_of name (stepped r c) alone behind_cr ((run ++ w.past) ++ c ∷ []) (chars others))
-          ∙ (ap (λ xs. out ++ xs) (sym (one_text name r alone behind_cr (run ++ w.past) c (chars others) w.run_is) ∙ ap (sent_of name r alone behind_cr (run ++ w.past)) (sym here)) ∙ w.out_is));
-    })
-  where
-    opens_push : (was : Bool) (xs : List ℕ) (c : ℕ) → is_open_after was (xs ++ c ∷ []) ≡ opens (class_of c) (is_open_after was xs)
-    opens_push was [] c = refl
-    opens_push was (x ∷ xs) c = opens_push (opens (class_of x) was) xs c
+opens_push : (was : Bool) (xs : List ℕ) (c : ℕ) → is_open_after was (xs ++ c ∷ []) ≡ opens (class_of c) (is_open_after was xs)
+opens_push was [] c = refl
+opens_push was (x ∷ xs) c = opens_push (opens (class_of x) was) xs c
 
-pub write_begin : (name : List ℕ) (r : Run) (alone behind_cr : Bool) (run out text : List ℕ) → IsUtf8 text → IsRun r alone behind_cr run → Writes name r r alone behind_cr run (chars text) out out text
+-- the first character of the rest was written, or is a direction
+pub write_step : (name : List ℕ) (first r next : Run) (alone behind_cr : Bool) (run cs before out after rest others : List ℕ) (c : ℕ) → rest ≡ encode_utf8 c ++ others → next ≡ after_one r c → after ≡ out ++ text_after_one name r c
+    → Writes name first r alone behind_cr run cs before out rest → Writes name first next alone behind_cr run cs before after others
+write_step name first r next alone behind_cr run cs before out after rest others c e n a w = go (is_direction c) refl n a
+  where
+    more : List ℕ
+    more = without_directions (chars others)
+
+    kept : (b : Bool) → is_direction c ≡ b → without_directions (chars rest) ≡ cond (not b) (c ∷ more) more
+    kept b d = ap without_directions (chars_past_char rest others c w.utf8 e) ∙ ap (λ b. cond (not b) (c ∷ more) more) d
+
+    go : (b : Bool) → is_direction c ≡ b → next ≡ cond b r (stepped r c) → after ≡ out ++ cond b [] (text_of_one name r c) → Writes name first next alone behind_cr run cs before after others
+    go true d n a =
+        let here = kept true d in
+        subst (λ (x : Run). Writes name first x alone behind_cr run cs before after others) (sym n) (record {
+          past = w.past;
+          parts = ap (λ xs. w.past ++ xs) (sym here) ∙ w.parts;
+          utf8 = IsUtf8-past_char rest others c w.utf8 e;
+          run_is = w.run_is;
+          open_is = w.open_is;
+          out_is = (λ i. (a ∙ append-nil out) i ++ sent_of name r alone behind_cr (run ++ w.past) (sym here i)) ∙ w.out_is;
+        })
+    go false d n a =
+        let here = kept false d in
+        let longer : run ++ (w.past ++ c ∷ []) ≡ (run ++ w.past) ++ c ∷ [] = sym (append_assoc run w.past (c ∷ [])) in
+        subst (λ (x : Run). Writes name first x alone behind_cr run cs before after others) (sym n) (record {
+          past = w.past ++ c ∷ [];
+          parts = append_assoc w.past (c ∷ []) more ∙ (ap (λ xs. w.past ++ xs) (sym here) ∙ w.parts);
+          utf8 = IsUtf8-past_char rest others c w.utf8 e;
+          run_is = subst (λ (xs : List ℕ). IsRun (stepped r c) alone behind_cr xs) (sym longer) (one_run r alone behind_cr (run ++ w.past) c w.run_is);
+          open_is = open_by (is_headed r c) r c ∙ (ap (opens (class_of c)) w.open_is ∙ sym (opens_push first.is_open w.past c));
+          out_is = (λ i. a i ++ sent_of name (stepped r c) alone behind_cr (longer i) more)
+              ∙ (append_assoc out (text_of_one name r c) (sent_of name (stepped r c) alone behind_cr ((run ++ w.past) ++ c ∷ []) more)
+              ∙ (ap (λ xs. out ++ xs) (sym (one_text name r alone behind_cr (run ++ w.past) c more w.run_is) ∙ ap (sent_of name r alone behind_cr (run ++ w.past)) (sym here)) ∙ w.out_is));
+        })
+
+pub write_begin : (name : List ℕ) (r : Run) (alone behind_cr : Bool) (run out text : List ℕ) → IsUtf8 text → IsRun r alone behind_cr run → Writes name r r alone behind_cr run (without_directions (chars text)) out out text
 write_begin name r alone behind_cr run out text u h = record {
   past = [];
   parts = refl;
   utf8 = u;
   run_is = subst (λ (xs : List ℕ). IsRun r alone behind_cr xs) (sym (append-nil run)) h;
   open_is = refl;
-  out_is = ap (λ xs. out ++ sent_of name r alone behind_cr xs (chars text)) (append-nil run);
+  out_is = ap (λ xs. out ++ sent_of name r alone behind_cr xs (without_directions (chars text))) (append-nil run);
 }
 
 pub write_end : (name : List ℕ) (r next : Run) (alone behind_cr : Bool) (run cs before out rest : List ℕ) → rest ≡ [] → Writes name r next alone behind_cr run cs before out rest → Sends name r next alone behind_cr run cs before out
 write_end name r next alone behind_cr run cs before out rest e w =
-    let none : chars rest ≡ [] = ap chars e ∙ chars-encodes [] refl in
+    let none : without_directions (chars rest) ≡ [] = ap without_directions (ap chars e ∙ chars-encodes [] refl) in
     let same : w.past ≡ cs = sym (append-nil w.past) ∙ (ap (λ xs. w.past ++ xs) (sym none) ∙ w.parts) in
     record {
       run_is = subst (λ (xs : List ℕ). IsRun next alone behind_cr (run ++ xs)) same w.run_is;

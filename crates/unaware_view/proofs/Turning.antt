@@ -8,7 +8,8 @@ use Rattle.std.proofs.lemmas.Str.{IsUtf8-append, chars-append, chars-encodes}
 use Rattle.std.proofs.lemmas.Bool.{and_right}
 use Rattle.text_spec.specs.Characters.{is_open_after}
 use Rattle.text_spec.specs.Shown.{ends_with_cr}
-use Rattle.text_spec.specs.Views.{label_after}
+use Rattle.text_spec.specs.Views.{is_direction, label_after, without_directions}
+use Rattle.std.proofs.lemmas.List.Elements.{filter-append}
 use Rattle.stream_spec.specs.Ready.{Chunk}
 use Rattle.mixer_spec.specs.Chunks.{joined, has_chunk, front}
 use Rattle.mixer_spec.specs.Rounds.{first_round}
@@ -28,7 +29,7 @@ use Rattle.mixer_spec.specs.Laws.{AreTexts}
 use Rattle.mixer_spec.proofs.Texts.{front_texts, joined_utf8}
 use Rattle.unaware_view.specs.Runs.{GoesAlone, GoesOn as RunGoesOn, Heads, IsAhead, IsRun, behind}
 use Rattle.unaware_view.specs.States.{State}
-use Rattle.unaware_view.specs.Choices.{is_set, since_at, is_left, begins, choice_after, choice, speaker_of, IsBelow, is_leg, noted}
+use Rattle.unaware_view.specs.Choices.{is_set, since_at, is_again, is_left, begins, choice_after, choice, onward, speaker_of, IsBelow, is_leg, noted}
 use Rattle.unaware_view.specs.Standing.{RunStands, StandsFor, IsAsked, IsCurrent, IsSpeaker, name_at, answered, asked_now, given_now}
 use Rattle.unaware_view.specs.Giving.{Gives, GivesLabel, GivesOn, remembered, waits_of}
 use Rattle.unaware_view.proofs.Asking.{Looks, choice_is, given_of, speaker_flag}
@@ -55,17 +56,18 @@ pub choice_other : (s : Setup) (c : State) (asks : List Asked) (w : ℕ → List
 choice_other s c asks w false now h = tt
 choice_other s c asks w true now h = go (latest asks) c.current h.stands.current
   where
-    by : (b d : Bool) (k : Choice) (i : ℕ) → IsOther c.own k → (i ≡ c.own → ⊥) → IsOther c.own (cond b k (cond d (GoesOn i) Nobody))
-    by true d k i o n = o
-    by false true k i o n = n
-    by false false k i o n = tt
+    by : (b d a : Bool) (k : Choice) (i : ℕ) → IsOther c.own k → (i ≡ c.own → ⊥) → IsOther c.own (cond b k (cond d (onward a i) Nobody))
+    by true d a k i o n = o
+    by false true true k i o n = n
+    by false true false k i o n = n
+    by false false a k i o n = tt
 
     go : (o : Option Answer) (k : Option Current) → IsCurrent s c.own asks o k → IsOther c.own (choice_after c now k)
     go None None u = begins_other s c asks w 0 h (omega arith)
     go None (Some x) u = absurd u
     go (Some g) None u = absurd u
     go (Some g) (Some x) u =
-        by (is_left c x now) (is_set c.waits x.speaker) (begins (first_round (is_set c.waits) (suc x.speaker) (length c.waits))) x.speaker
+        by (is_left c x now) (is_set c.waits x.speaker) (is_again c x now) (begins (first_round (is_set c.waits) (suc x.speaker) (length c.waits))) x.speaker
         (begins_other s c asks w (suc x.speaker) h (let l = u.leg in let k = h.legs in omega (arith, l, k))) u.other
 
 -- ---- what is given
@@ -98,7 +100,7 @@ unlabelled_is s c asks h = elim h.run.is_run.part [ inl a ↦ ahead a | inr b �
     ahead a = (λ i. has a.not_alone i && (not (a.not_alone i) && length (a.unseen i) == 0)) ∙ sym (ap not a.labelled)
 
 no_chars : chars_of [] ≡ []
-no_chars = chars-encodes [] refl
+no_chars = ap without_directions (chars-encodes [] refl)
 
 -- before the first ask
 pub at_first : (r : Run) → ((behind_cr : Bool) → IsRun r true behind_cr []) → IsRun r (began_alone []) (began_behind_cr []) (chars_of (run_of []))
@@ -118,7 +120,9 @@ has_chunk_append [] ds = refl
 has_chunk_append (c ∷ cs) ds = refl
 
 chars_append : (cs ds : List Chunk) → IsUtf8 (joined cs) → chars_of (cs ++ ds) ≡ chars_of cs ++ chars_of ds
-chars_append cs ds u = ap chars (joined_append cs ds) ∙ chars-append (joined cs) (joined ds) u
+chars_append cs ds u =
+    ap without_directions (ap chars (joined_append cs ds) ∙ chars-append (joined cs) (joined ds) u)
+    ∙ filter-append (λ c. not (is_direction c)) (chars (joined cs)) (chars (joined ds))
 
 some_chunk : (b : Bool) → (b || true) ≡ true
 some_chunk true = refl
@@ -323,16 +327,17 @@ begins_then s table c asks names i next text after h =
     (front_texts (room_beside (name_at names i)) (waits_of table c.own i) (h.texts i)) (b.is_open ∙ h.looks.stands.run.line) b.has_chunk g.headed.heads)
 
 -- where this was given, of the leg i
-spoken : (s : Setup) (c : State) (asks : List Asked) (w : ℕ → List Chunk) (media : ℕ) (g : Answer) (i : ℕ) (next : Run) (moments : List (Option ℕ)) → g.source ≡ i → i < s.legs → (i ≡ c.own → ⊥) → length moments ≡ s.legs
+spoken : (s : Setup) (c : State) (asks : List Asked) (w : ℕ → List Chunk) (media : ℕ) (g : Answer) (i : ℕ) (next : Run) (moments : List (Option ℕ)) → c.relabel ≡ s.relabel → g.source ≡ i → i < s.legs → (i ≡ c.own → ⊥) → length moments ≡ s.legs
     → ((j : ℕ) → j < s.legs → (j ≡ c.own → ⊥) → since_at moments j ≡ since j (asked_more w media asks (Some g)))
     → Then next g.begins (run_of asks) g.chunks (began_alone asks) (ends_with_cr (chars_of (run_of asks))) (began_behind_cr asks) (is_open asks)
     → StandsFor s (remembered (record c { run = next; since = moments; asked = media + 1 }) (Some i) media) (asked_more w media asks (Some g))
-spoken s c asks w media g i next moments source below other legs since_are t = record {
+spoken s c asks w media g i next moments again source below other legs since_are t = record {
   legs = legs;
   current = now_current s c.own asks w media g i source below other;
   waits_since = since_are;
   run = t;
   asked = refl;
+  relabel = again;
 }
 
 pub stands_then : (s : Setup) (table : Table) (c : State) (asks : List Asked) (names : List (List ℕ)) (k : Choice) (next : Run) (text : List ℕ) (after : List Waiting) (media : ℕ) (moments : List (Option ℕ))
@@ -347,13 +352,14 @@ stands_then s table c asks names Nobody next text after media moments h n =
       waits_since = since_is s c asks w Nobody media moments h.looks n;
       run = subst (λ (q : Run). RunStands q (began_alone asks) (began_behind_cr asks) (run_of asks) (is_open asks)) (sym h.gives.run) st.run;
       asked = refl;
+      relabel = st.relabel;
     }
 stands_then s table c asks names (Begins i) next text after media moments h n =
     let w = waits_of table c.own in
-    spoken s c asks w media _ i next moments refl h.below h.other (n.legs ∙ h.looks.stands.legs) (since_is s c asks w (Begins i) media moments h.looks n) (begins_then s table c asks names i next text after h)
+    spoken s c asks w media _ i next moments h.looks.stands.relabel refl h.below h.other (n.legs ∙ h.looks.stands.legs) (since_is s c asks w (Begins i) media moments h.looks n) (begins_then s table c asks names i next text after h)
 stands_then s table c asks names (GoesOn i) next text after media moments h n =
     let w = waits_of table c.own in
-    spoken s c asks w media _ i next moments (source_is s.name w asks i) h.below h.other (n.legs ∙ h.looks.stands.legs) (since_is s c asks w (GoesOn i) media moments h.looks n) (on_then s table c asks names i next text after h)
+    spoken s c asks w media _ i next moments h.looks.stands.relabel (source_is s.name w asks i) h.below h.other (n.legs ∙ h.looks.stands.legs) (since_is s c asks w (GoesOn i) media moments h.looks n) (on_then s table c asks names i next text after h)
 
 -- ---- what the calls of a turn tell
 pub notes_of : (c : State) (k : Choice) (media : ℕ) (speaker : Option ℕ) (flags : List Bool) (old moments : List (Option ℕ)) → speaker ≡ speaker_of k → flags ≡ c.waits → old ≡ c.since
@@ -377,7 +383,7 @@ looks_of : (s : Setup) (table : Table) (c : State) (now : List Waiting) (names :
 looks_of s table c now names asks flags h l f =
     let st = h.stands in
     record {
-      stands = record { legs = st.legs; current = st.current; waits_since = st.waits_since; run = st.run; asked = st.asked };
+      stands = record { legs = st.legs; current = st.current; waits_since = st.waits_since; run = st.run; asked = st.asked; relabel = st.relabel };
       legs = l ∙ st.legs;
       flags = λ i b. f i (omega (arith, b, l));
     }

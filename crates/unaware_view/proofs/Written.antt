@@ -6,11 +6,12 @@ use Rattle.std.proofs.lemmas.Bool.{true≢false, ne_eqb}
 use Rattle.wire_spec.specs.Packets.{has_text}
 use Rattle.stream_spec.specs.Ready.{Chunk}
 use Rattle.text_spec.specs.Characters.{is_open_after}
-use Rattle.text_spec.specs.Shown.{ends_with_cr, signs, survivors}
+use Rattle.text_spec.specs.Shown.{ends_with_cr, loose, signs, survivors}
 use Rattle.t140_text.proofs.Endings.{cr_of}
 use Rattle.mixer_spec.specs.Chunks.{joined, has_chunk}
 use Rattle.mixer_spec.specs.Laws.{AreTexts}
 use Rattle.mixer_spec.specs.Composed.{own_part}
+use Rattle.text_spec.specs.Views.{without_directions}
 use Rattle.unaware_view.specs.declared.runs.Run.{Run}
 use Rattle.unaware_view.specs.Runs.{GoesAlone, GoesOn, Heads, IsBegun, IsRun, Sends, sent_of}
 
@@ -34,7 +35,7 @@ same_run r q alone behind_cr cs e h = subst (λ (x : Run). IsRun x alone behind_
 
 -- the text was written, and then it was noted whether the run has a chunk
 pub written_step : (name : List ℕ) (r q next : Run) (alone behind_cr : Bool) (before octets after text : List ℕ) (chunks : List Chunk) (b any : Bool) → AreTexts chunks → octets ≡ joined chunks → any ≡ not (length octets == 0) → b ≡ (r.has_chunk || any)
-    → Sends name r q alone behind_cr before (chars octets) text after → next ≡ record { erasable = q.erasable; after_cr = q.after_cr; ending = q.ending; has_chunk = b; labelled = q.labelled; is_open = q.is_open }
+    → Sends name r q alone behind_cr before (without_directions (chars octets)) text after → next ≡ record { erasable = q.erasable; after_cr = q.after_cr; ending = q.ending; has_chunk = b; labelled = q.labelled; is_open = q.is_open }
     → GoesOn name r next alone behind_cr before chunks text after
 written_step name r q next alone behind_cr before octets after text chunks b any a e n k h x =
     let chunk : next.has_chunk ≡ b = ap (λ (y : Run). y.has_chunk) x in
@@ -42,9 +43,9 @@ written_step name r q next alone behind_cr before octets after text chunks b any
     x ∙ ap (λ (y : Bool). record { erasable = q.erasable; after_cr = q.after_cr; ending = q.ending; has_chunk = y; labelled = q.labelled; is_open = q.is_open }) (sym chunk) in
     record {
       sends = record {
-        run_is = subst (λ (l : List ℕ). IsRun next alone behind_cr (before ++ chars l)) e (same_run q next alone behind_cr (before ++ chars octets) same h.run_is);
-        open_is = ap (λ (y : Run). y.is_open) x ∙ (h.open_is ∙ ap (λ l. is_open_after r.is_open (chars l)) e);
-        text_is = h.text_is ∙ ap (λ l. text ++ sent_of name r alone behind_cr before (chars l)) e;
+        run_is = subst (λ (l : List ℕ). IsRun next alone behind_cr (before ++ without_directions (chars l))) e (same_run q next alone behind_cr (before ++ without_directions (chars octets)) same h.run_is);
+        open_is = ap (λ (y : Run). y.is_open) x ∙ (h.open_is ∙ ap (λ l. is_open_after r.is_open (without_directions (chars l))) e);
+        text_is = h.text_is ∙ ap (λ l. text ++ sent_of name r alone behind_cr before (without_directions (chars l))) e;
       };
       has_chunk = chunk ∙ (k ∙ ap (λ (y : Bool). r.has_chunk || y) (n ∙ (ap (λ (l : List ℕ). not (length l == 0)) e ∙ some_text chunks a)));
     }
@@ -79,7 +80,7 @@ begun_is r next alone behind_cr cs h b = record {
   });
 }
   where
-    none : (x : Bool) → length (survivors (signs (own_part x []))) ≡ 0
+    none : (x : Bool) → loose (survivors (signs (own_part x []))) ≡ 0
     none true = refl
     none false = refl
 

@@ -36,6 +36,18 @@ is_left c x media =
     || ((not (is_set c.waits x.speaker) && is_ago 2000 media (Some x.given_at))
     || any_long c.waits c.since 7000 media x.speaker)))
 
+-- Whether the run of a speaker that was given text last at this moment is labelled again, where it has a chunk or not.
+abbrev pub again_by : Option ℕ → Bool → ℕ → ℕ → Bool
+again_by None has_chunk media given_at = false
+again_by (Some ms) has_chunk media given_at = has_chunk && is_ago ms media (Some given_at)
+
+abbrev pub is_again : State → Current → ℕ → Bool
+is_again c x media = again_by c.relabel c.run.has_chunk media x.given_at
+
+-- more of this speaker
+abbrev pub onward : Bool → ℕ → Choice
+onward again s = if again then Begins s else GoesOn s
+
 abbrev pub begins : Option ℕ → Choice
 begins None = Nobody
 begins (Some s) = Begins s
@@ -44,7 +56,7 @@ abbrev pub choice_after : State → ℕ → Option Current → Choice
 choice_after c media None = begins (first_round (is_set c.waits) 0 (length c.waits))
 choice_after c media (Some x) =
     if is_left c x media then begins (first_round (is_set c.waits) (suc x.speaker) (length c.waits))
-    else (if is_set c.waits x.speaker then GoesOn x.speaker else Nobody)
+    else (if is_set c.waits x.speaker then onward (is_again c x media) x.speaker else Nobody)
 
 -- who is given text at this media time, where text may be given
 abbrev pub choice : State → Bool → ℕ → Choice

@@ -13,6 +13,7 @@ state_of c = record {
   waits = c.waits.items;
   since = c.since.items;
   asked = c.asked;
+  relabel = c.relabel;
 }
 
 -- There is a flag and a moment for each leg, and the speaker is one of them. Each ask gives at most 1023 characters.

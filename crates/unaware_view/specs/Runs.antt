@@ -1,10 +1,10 @@
 -- What is kept of a run: what an erasure can take back, what its text ends with, and whether its label was given.
 use Rattle.std.specs.Prelude.{◌≡◌, ℕ, ◌+◌, ◌-◌, ◌==◌, Bool, true, false, not, ◌&&◌, ◌||◌, ◌⊎◌, if◌then◌else◌, List, [], ◌∷◌, ◌++◌, length, chars, encode_utf8, encode_utf8_all, IsUtf8}
 use Rattle.text_spec.specs.declared.classes.CharClass.{CharClass}
-use Rattle.text_spec.specs.declared.classes.CharClass.TheVariants.{Erase, Bell, NewLine, Silent, Print}
+use Rattle.text_spec.specs.declared.classes.CharClass.TheVariants.{Erase, Bell, NewLine, Silent, Marker, Print}
 use Rattle.text_spec.specs.Characters.{class_of, is_open_after, is_print, opens}
-use Rattle.text_spec.specs.Shown.{signs, survivors, ends_with_cr}
-use Rattle.text_spec.specs.Views.{label_after, without_bracket}
+use Rattle.text_spec.specs.Shown.{ends_with_cr, loose, signs, survivors}
+use Rattle.text_spec.specs.Views.{is_direction, label_after, without_bracket, without_directions}
 use Rattle.t140_text.specs.declared.ends.Ending.{Ending}
 use Rattle.t140_text.specs.Endings.{IsEnding, is_line_end, is_sentence_end, pushed}
 use Rattle.stream_spec.specs.Ready.{Chunk}
@@ -22,6 +22,7 @@ erasable_by Erase after_cr n c = n - 1
 erasable_by Bell after_cr n c = n
 erasable_by NewLine after_cr n c = if c == 0x0A && after_cr then n else n + 1
 erasable_by Silent after_cr n c = n
+erasable_by Marker after_cr n c = 0
 erasable_by Print after_cr n c = n + 1
 
 -- how many characters an erasure can take back with one character more, where there were n, after a CR or not
@@ -74,6 +75,13 @@ stepped r c = step_by (is_headed r c) r c
 abbrev pub text_of_one : List ℕ → Run → ℕ → List ℕ
 text_of_one name r c = text_by (is_headed r c) name r c
 
+-- with this character, or as it was where that is a direction, which is left out
+abbrev pub after_one : Run → ℕ → Run
+after_one r c = if is_direction c then r else stepped r c
+
+abbrev pub text_after_one : List ℕ → Run → ℕ → List ℕ
+text_after_one name r c = if is_direction c then [] else text_of_one name r c
+
 -- the room that is kept for the label
 abbrev pub label_room : Bool → List ℕ → ℕ
 label_room labelled name = if labelled then 0 else length (label_after true name)
@@ -102,14 +110,14 @@ pub record IsAhead (r : Run) (alone behind_cr : Bool) (cs : List ℕ) : Type 0 w
   pub labelled : r.labelled ≡ false
   pub not_alone : alone ≡ false
   pub unseen : from_seen behind_cr [] cs ≡ []
-  pub erasable : length (survivors (signs (own_part behind_cr cs))) ≡ r.erasable
+  pub erasable : loose (survivors (signs (own_part behind_cr cs))) ≡ r.erasable
   pub after_cr : cr_last behind_cr cs ≡ r.after_cr
 
 -- It has these characters, and its label was given.
 pub record IsBehind (r : Run) (alone behind_cr : Bool) (cs : List ℕ) : Type 0 where
   pub labelled : r.labelled ≡ true
   pub seen : (not alone && length (from_seen behind_cr [] cs) == 0) ≡ false
-  pub erasable : length (survivors (signs (behind alone behind_cr cs))) ≡ r.erasable
+  pub erasable : loose (survivors (signs (behind alone behind_cr cs))) ≡ r.erasable
   pub after_cr : ends_with_cr (behind alone behind_cr cs) ≡ r.after_cr
 
 -- The run, which began with its label alone or not, and behind a CR or not, has these characters.
@@ -133,11 +141,11 @@ pub record Sends (name : List ℕ) (r next : Run) (alone behind_cr : Bool) (run 
 -- Of the whole, which goes on this run, `rest` is still to be written.
 pub record Writes (name : List ℕ) (r next : Run) (alone behind_cr : Bool) (run cs before out rest : List ℕ) : Type 0 where
   pub past : List ℕ
-  pub parts : past ++ chars rest ≡ cs
+  pub parts : past ++ without_directions (chars rest) ≡ cs
   pub utf8 : IsUtf8 rest
   pub run_is : IsRun next alone behind_cr (run ++ past)
   pub open_is : next.is_open ≡ is_open_after r.is_open past
-  pub out_is : out ++ sent_of name next alone behind_cr (run ++ past) (chars rest) ≡ before ++ sent_of name r alone behind_cr run cs
+  pub out_is : out ++ sent_of name next alone behind_cr (run ++ past) (without_directions (chars rest)) ≡ before ++ sent_of name r alone behind_cr run cs
 
 -- With these chunks the run goes on; `after` has them behind `before`, as they are sent.
 pub record GoesOn (name : List ℕ) (r next : Run) (alone behind_cr : Bool) (run : List ℕ) (chunks : List Chunk) (before after : List ℕ) : Type 0 where

@@ -48,6 +48,7 @@ pub record StandsFor (s : Setup) (c : State) (asks : List Asked) : Type 0 where
   pub waits_since : (i : ℕ) → i < s.legs → (i ≡ c.own → ⊥) → since_at c.since i ≡ since i asks
   pub run : RunStands c.run (began_alone asks) (began_behind_cr asks) (run_of asks) (is_open asks)
   pub asked : c.asked ≡ least_ask asks
+  pub relabel : c.relabel ≡ s.relabel
 
 -- ---- one ask
 -- the leg of its terminal
@@ -80,7 +81,7 @@ waiting table c = (table.terminals c.own).waits
 
 -- what is given at this media time, where text may be given or not
 abbrev pub given_now : Setup → Table → State → ℕ → Bool → List Asked → Option Answer
-given_now s table c media due asks = answer s.legs s.name c.own media due (waiting table c) asks
+given_now s table c media due asks = answer s.legs s.name s.relabel c.own media due (waiting table c) asks
 
 -- with this ask
 abbrev pub asked_now : Setup → Table → State → ℕ → Bool → List Asked → List Asked

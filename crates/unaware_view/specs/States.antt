@@ -10,3 +10,4 @@ pub record State : Type 0 where
   pub waits : List Bool
   pub since : List (Option ℕ)
   pub asked : ℕ
+  pub relabel : Option ℕ

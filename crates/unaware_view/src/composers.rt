@@ -9,14 +9,14 @@ ghost use Rattle.slot_table.specs.Standing.{StandsFor as SlotsStandFor, Leads, T
 ghost use Rattle.slot_table.specs.Words.{fetched};
 ghost use Rattle.unaware_view.specs.Runs.{GoesOn, Heads, IsRun, label_room};
 ghost use Rattle.unaware_view.specs.declared.runs.Run.{Run};
-ghost use Rattle.unaware_view.specs.Choices.{IsBelow, begins, choice, is_left, speaker_of};
+ghost use Rattle.unaware_view.specs.Choices.{IsBelow, begins, choice, is_again, is_left, speaker_of};
 ghost use Rattle.unaware_view.specs.Standing.{IsAsked, NoneWaits, OfAsks, StandsFor, answered, asked_now, given_now, legs_of, next_ask, own_of};
 ghost use Rattle.mixer_spec.specs.Composed.{Asked, text_given};
 ghost use Rattle.unaware_view.specs.Giving.{Gives, GivesHeaded, GivesMore, remembered, waits_of};
 ghost use Rattle.unaware_view.specs.States.{State};
 ghost use Rattle.unaware_view.specs.Insides.{state_of, IsSound};
 
-use crate::choices::{any_long, any_other, first_round, is_paused, look, note};
+use crate::choices::{any_long, any_other, first_round, is_ago, is_paused, look, note};
 use crate::labels::room_beside;
 use crate::runs::Run;
 use rtt_base::limits::MOST_TEXT_OCTETS;
@@ -65,6 +65,8 @@ pub struct Composer {
     since: Vec<Option<u64>>,
     /// The least media time of the next ask.
     asked: u64,
+    /// After how many milliseconds without text a run that goes on is labelled again, if it is.
+    relabel: Option<u32>,
     /// What was taken of a leg last, as it came.
     taken: Text,
 }
@@ -91,6 +93,19 @@ impl Composer {
         self.run.has_chunk && (other && (ends || (paused || long)))
     }
 
+    /// Whether the run of the speaker is labelled again, if more of it is given.
+    fn is_again(&self, current: Current, media: u64) -> bool
+        ensures { result ≡ is_again self.now current media }
+    {
+        match self.relabel {
+            Some(ms) => {
+                let long = is_ago(u64::from(ms), media, Some(current.given_at));
+                self.run.has_chunk && long
+            }
+            None => false,
+        }
+    }
+
     /// Who is given text at this media time, in milliseconds, where text may be given.
     fn choose(&self, due: bool, media: u64) -> Choice
         ensures choice { result ≡ choice self.now due media }
@@ -105,16 +120,25 @@ impl Composer {
         if self.is_left(current, media) {
             return begins(first_round(&self.waits, current.speaker + 1));
         }
-        if self.waits[current.speaker] {
-            return Choice::GoesOn(current.speaker);
+        if !self.waits[current.speaker] {
+            return Choice::Nobody;
         }
-        Choice::Nobody
+        if self.is_again(current, media) {
+            return Choice::Begins(current.speaker);
+        }
+        Choice::GoesOn(current.speaker)
     }
 
-    /// The composer of the terminal of this leg, where there are so many legs. It takes all memory that it ever needs.
-    pub fn new(alloc: Global, legs: usize, own: usize) -> Result<Composer, NoMemory>
+    /// The composer of the terminal of this leg, where there are so many legs. A run that goes on is labelled again after
+    /// `relabel` milliseconds without text, if at all. It takes all memory that it ever needs.
+    pub fn new(
+        alloc: Global,
+        legs: usize,
+        own: usize,
+        relabel: Option<u32>,
+    ) -> Result<Composer, NoMemory>
         requires { own < legs }
-        ensures stands { IfOk result (λ c. (s : Setup) → s.legs ≡ legs → StandsFor s c []) }
+        ensures stands { IfOk result (λ c. (s : Setup) → s.legs ≡ legs → s.relabel ≡ relabel → StandsFor s c []) }
         ensures own { IfOk result (λ c. own_of c ≡ own) }
         ensures legs { IfOk result (λ c. legs_of c ≡ legs) }
         ensures next { IfOk result (λ c. next_ask c ≡ 0) }
@@ -126,6 +150,7 @@ impl Composer {
             waits: vec![in alloc; false; legs]?,
             since: vec![in alloc; None; legs]?,
             asked: 0,
+            relabel,
             taken: Text::new(),
         })
     }

@@ -1,8 +1,8 @@
 //! A run: what one speaker was given since another one was, or since its label went alone.
 ghost use Rattle.std.specs.Prelude.{◌≡◌, ◌+◌, ◌-◌, ◌^◌, ◌<◌, ◌≤◌, ◌++◌, ℕ, Bool, List, [], length, chars, IsUtf8, encode_utf8, true, false};
 ghost use Rattle.text_spec.specs.Characters.{opens};
-ghost use Rattle.text_spec.specs.Views.{label_after};
-ghost use Rattle.unaware_view.specs.Runs.{GoesAlone, IsBegun, IsRun, Sends, Writes, before_by, erasable_by, is_headed, is_seen_at, is_turn, label_by, label_room, sent_for, stepped, text_of_one, with_one};
+ghost use Rattle.text_spec.specs.Views.{is_direction, label_after, without_directions};
+ghost use Rattle.unaware_view.specs.Runs.{GoesAlone, IsBegun, IsRun, Sends, Writes, after_one, before_by, erasable_by, is_headed, is_seen_at, is_turn, label_by, label_room, sent_for, stepped, text_after_one, text_of_one, with_one};
 ghost use Rattle.rtt_base.specs.declared.limits.TheConstants.{MOST_TEXT_OCTETS};
 
 use crate::labels::label;
@@ -39,6 +39,7 @@ fn erasable_by(class: CharClass, after_cr: bool, n: u64, c: char) -> u64
         CharClass::Erase => n.saturating_sub(1),
         CharClass::NewLine if c == '\n' && after_cr => n,
         CharClass::NewLine | CharClass::Print => n + 1,
+        CharClass::Marker => 0,
         CharClass::Bell | CharClass::Silent => n,
     }
 }
@@ -50,7 +51,7 @@ fn opens(class: CharClass, was: bool) -> bool
     match class {
         CharClass::NewLine => false,
         CharClass::Bell | CharClass::Silent => was,
-        CharClass::Print | CharClass::Erase => true,
+        CharClass::Print | CharClass::Marker | CharClass::Erase => true,
     }
 }
 
@@ -62,9 +63,19 @@ fn sent_for(n: u64, c: char) -> char
     match c {
         '\u{8}' if n == 0 => 'X',
         '[' => '(',
+        ']' => ')',
         '\u{ff3b}' => '\u{ff08}',
+        '\u{ff3d}' => '\u{ff09}',
         _ => c,
     }
+}
+
+/// Whether a character turns the direction in which text runs, and not only its own: an embedding, an override or an isolate, or
+/// the end of one.
+fn is_direction(c: char) -> bool
+    ensures { result ≡ is_direction c }
+{
+    ('\u{202a}' <= c && c <= '\u{202e}') || ('\u{2066}' <= c && c <= '\u{2069}')
 }
 
 /// Whether a character prints, or is sent as `X`, where `n` can be taken back.
@@ -72,7 +83,7 @@ fn is_seen(n: u64, c: char) -> bool
     ensures { result ≡ is_seen_at n c }
 {
     match class(c) {
-        CharClass::Print => true,
+        CharClass::Print | CharClass::Marker => true,
         _ => c == '\u{8}' && n == 0,
     }
 }
@@ -183,6 +194,23 @@ impl Run {
         push(sent, out);
     }
 
+    /// Writes the next character, but for a direction, which is left out.
+    fn write_next(&mut self, name: &str, c: char, out: &mut Text)
+        requires bound { self.old.erasable + 1 < 2 ^ 64 }
+        requires fits { length out.old + label_room self.old.labelled name.now + length (encode_utf8 c) ≤ MOST_TEXT_OCTETS }
+        ensures run { self.new ≡ after_one self.old c }
+        ensures out { out.new ≡ out.old ++ text_after_one name.now self.old c }
+        ensures fits { length out.new + label_room self.new.labelled name.now
+            ≤ length out.old + label_room self.old.labelled name.now + length (encode_utf8 c) }
+        ensures bound { self.new.erasable ≤ self.old.erasable + 1 }
+        ensures kept { self.new.has_chunk ≡ self.old.has_chunk }
+    {
+        if is_direction(c) {
+            return;
+        }
+        self.write_one(name, c, out);
+    }
+
     /// Writes the first character of a text, if there is one, and answers with the others.
     fn write_first<'a>(&mut self, name: &str, text: &'a str, out: &mut Text) -> &'a str
         requires bound { self.old.erasable + 1 < 2 ^ 64 }
@@ -199,16 +227,16 @@ impl Run {
         let Some(c) = chars.next() else {
             return text;
         };
-        self.write_one(name, c, out);
+        self.write_next(name, c, out);
         chars.as_str()
     }
 
-    /// Appends a text of the run to `out`, as it is sent.
+    /// Appends a text of the run to `out`, as it is sent: without its directions.
     pub(crate) fn write(&mut self, name: &str, text: &str, out: &mut Text)
         requires bound { self.old.erasable + MOST_TEXT_OCTETS < 2 ^ 64 }
         requires fits { length out.old + label_room self.old.labelled name.now + length text.now ≤ MOST_TEXT_OCTETS }
         ensures sends { (alone behind_cr : Bool) (run : List ℕ) → IsUtf8 text.now → IsRun self.old alone behind_cr run
-            → Sends name.now self.old self.new alone behind_cr run (chars text.now) out.old out.new }
+            → Sends name.now self.old self.new alone behind_cr run (without_directions (chars text.now)) out.old out.new }
         ensures bound { self.new.erasable ≤ self.old.erasable + length text.now }
         ensures kept { self.new.has_chunk ≡ self.old.has_chunk }
     {

@@ -100,11 +100,18 @@ fn are_so(
     }
 }
 
-/// Whether the talk goes so at Ann's terminal, before which Bob and Cy typed these.
-fn goes_so(alloc: Global, bob: &str, cy: &str, steps: &[Step<'_>]) -> Result<bool, Fail> {
+/// Whether the talk goes so at Ann's terminal, before which Bob and Cy typed these, where a run is labelled again after so many
+/// milliseconds, or never.
+fn goes_so(
+    alloc: Global,
+    relabel: Option<u32>,
+    bob: &str,
+    cy: &str,
+    steps: &[Step<'_>],
+) -> Result<bool, Fail> {
     let names = [name("Ann"), name("Bob"), name("Cy")];
     let mut slots = Slots::new(alloc, 3)?;
-    let mut ann = Composer::new(alloc, 3, 0)?;
+    let mut ann = Composer::new(alloc, 3, 0, relabel)?;
     offer(&mut slots, 1, bob)?;
     offer(&mut slots, 2, cy)?;
     let mut least = 0;
@@ -132,9 +139,9 @@ const BELL_ALONE: [Step<'static>; 3] = [
 
 #[test]
 fn another_one_follows_a_sentence_or_two_seconds(rt: HostRuntime) -> Result<(), Fail> {
-    assert!(rt; goes_so(rt.alloc(), "Hi. ", "yes", &SENTENCE)?);
-    assert!(rt; goes_so(rt.alloc(), "Hi", "yes", &IN_MID_SENTENCE)?);
-    assert!(rt; goes_so(rt.alloc(), "\u{7}", "Hi", &BELL_ALONE)?);
+    assert!(rt; goes_so(rt.alloc(), None, "Hi. ", "yes", &SENTENCE)?);
+    assert!(rt; goes_so(rt.alloc(), None, "Hi", "yes", &IN_MID_SENTENCE)?);
+    assert!(rt; goes_so(rt.alloc(), None, "\u{7}", "Hi", &BELL_ALONE)?);
     Ok(())
 }
 
@@ -153,8 +160,30 @@ const LABEL_LATER: [Step<'static>; 3] = [
 
 #[test]
 fn an_erasure_stays_in_its_run_and_a_label_comes_later(rt: HostRuntime) -> Result<(), Fail> {
-    assert!(rt; goes_so(rt.alloc(), "Hi. ", "yes. ", &ERASURE)?);
-    assert!(rt; goes_so(rt.alloc(), "\u{7}", "", &LABEL_LATER)?);
+    assert!(rt; goes_so(rt.alloc(), None, "Hi. ", "yes. ", &ERASURE)?);
+    assert!(rt; goes_so(rt.alloc(), None, "\u{7}", "", &LABEL_LATER)?);
+    Ok(())
+}
+
+/// What Bob types while nobody else does, where his run is labelled again after seven seconds.
+const AGAIN: [Step<'static>; 5] = [
+    Step::Gives(0, true, "[Bob] Yes"),
+    Step::Bob("No"),
+    Step::Gives(6999, true, "No"),
+    Step::Bob("Well"),
+    Step::Gives(13_999, true, "\u{2028}[Bob] Well"),
+];
+
+const NEVER_AGAIN: [Step<'static>; 3] = [
+    Step::Gives(0, true, "[Bob] Yes"),
+    Step::Bob("No"),
+    Step::Gives(99_999, true, "No"),
+];
+
+#[test]
+fn a_run_is_labelled_again_where_that_is_asked_for(rt: HostRuntime) -> Result<(), Fail> {
+    assert!(rt; goes_so(rt.alloc(), Some(7000), "Yes", "", &AGAIN)?);
+    assert!(rt; goes_so(rt.alloc(), None, "Yes", "", &NEVER_AGAIN)?);
     Ok(())
 }
 
@@ -162,7 +191,7 @@ fn an_erasure_stays_in_its_run_and_a_label_comes_later(rt: HostRuntime) -> Resul
 fn given(rt: &HostRuntime, before: &str, typed: &str, expected: &str) -> Result<bool, Fail> {
     let names = [name("Ann"), name("Bob"), name("Cy")];
     let mut slots = Slots::new(rt.alloc(), 3)?;
-    let mut ann = Composer::new(rt.alloc(), 3, 0)?;
+    let mut ann = Composer::new(rt.alloc(), 3, 0, None)?;
     let mut text = Text::new();
     offer(&mut slots, 1, before)?;
     offer(&mut slots, 2, typed)?;
@@ -185,7 +214,7 @@ fn all_given(rt: &HostRuntime, cases: &[(&str, &str, &str)]) -> Result<usize, Fa
     }
 }
 
-const CASES: [(&str, &str, &str); 11] = [
+const CASES: [(&str, &str, &str); 17] = [
     // the label stands before what is seen, on a line of its own
     ("Hello. ", "\u{2028}Hi", "\u{2028}[Cy] Hi"),
     ("Hello.\n", "\u{7}\0Hi", "\u{7}\0[Cy] Hi"),
@@ -195,12 +224,37 @@ const CASES: [(&str, &str, &str); 11] = [
     ("Hello. ", "\n\u{8}\u{8}", "\n\u{8}\u{2028}[Cy] X"),
     // behind it all is counted afresh
     ("Hello. ", "\nH\u{8}\u{8}", "\n[Cy] H\u{8}X"),
+    // no erasure passes a marker or takes it back, and a marker is seen
+    (
+        "Hello. ",
+        "10\u{fffd}2\u{8}\u{8}15",
+        "\u{2028}[Cy] 10\u{fffd}2\u{8}X15",
+    ),
+    ("Hello.\n", "\n\u{fffd}\u{8}", "\n[Cy] \u{fffd}X"),
     // an LF behind another's CR is a part of that one's new line
     ("Hello.\r", "\n\u{8}", "\n[Cy] X"),
     ("Hello.\n", "\n\u{8}H", "\n\u{8}\u{2028}[Cy] H"),
     // no bracket is sent but a label's
-    ("Hello. ", "[Bob] Hi", "\u{2028}[Cy] (Bob] Hi"),
-    ("Hello. ", "\n[\u{ff3b}x", "\n[Cy] (\u{ff08}x"),
+    ("Hello. ", "[Bob] Hi", "\u{2028}[Cy] (Bob) Hi"),
+    (
+        "Hello. ",
+        "\n[\u{ff3b}\u{ff3d}]x",
+        "\n[Cy] (\u{ff08}\u{ff09})x",
+    ),
+    // directions are left out, and their neighbours are not
+    (
+        "Hello. ",
+        "\u{202e}]\u{202c}Bob] Hi",
+        "\u{2028}[Cy] )Bob) Hi",
+    ),
+    (
+        "Hello. ",
+        "\u{202a}\u{202f}\u{2065}\u{2066}\u{206a}\u{200f}\u{2069}",
+        "\u{2028}[Cy] \u{202f}\u{2065}\u{206a}\u{200f}",
+    ),
+    // so no erasure is for one, and a sentence may end before one
+    ("Hello. ", "a\u{2067}\u{8}\u{8}b", "\u{2028}[Cy] a\u{8}Xb"),
+    ("Hello. \u{2069}", "Hi", "\u{2028}[Cy] Hi"),
     // sentences of other scripts end too
     ("\u{597d}\u{3002}", "\"Hi.\" ", "\u{2028}[Cy] \"Hi.\" "),
 ];

@@ -5,7 +5,7 @@ use Rattle.unaware_view.specs.Choices.{since_at}
 use Rattle.unaware_view.proofs.Turning.{at_first, no_text}
 
 pub returns-clause-stands : goal.returns-clause-stands
-returns-clause-stands c = λ s e.
+returns-clause-stands c = λ s e again.
     let none : Option ℕ = None in
     let all : c.in_ok-vec-2.field-0.items ≡ replicate c.args.legs none = c.in_ok-vec-2.ensures.items_if_clones_equal (λ y q. search rules) in
     record {
@@ -14,4 +14,5 @@ returns-clause-stands c = λ s e.
       waits_since = λ i l o. ap (λ (xs : List (Option ℕ)). since_at xs i) all ∙ get_or-replicate c.args.legs i none none (omega (arith, l, e));
       run = record { is_run = at_first c.new.result c.new.ensures.run; utf8 = no_text; chunk = c.new.ensures.empty; begun = refl; line = c.new.ensures.closed };
       asked = refl;
+      relabel = sym again;
     }
