@@ -1,0 +1,11 @@
+pub mod Cutting
+pub mod Walls
+pub mod Sent
+pub mod Blocks
+pub mod Naming
+pub mod Sending
+pub mod Screens
+pub mod Showing
+pub mod Labels
+pub mod NamedExample
+pub mod ShownExample

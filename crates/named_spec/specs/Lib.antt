@@ -1,0 +1,4 @@
+pub mod Stretches
+pub mod Named
+pub mod Heard
+pub mod Seen
