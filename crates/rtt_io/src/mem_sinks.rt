@@ -33,6 +33,8 @@ impl Sink for MemSink {
 
     ghost took = { λ sink. sink.taken };
 
+    ghost stored = { λ sink. sink.taken };
+
     ghost faults = { λ sink. sink.faults };
 
     ghost name = { λ sink. sink.name };

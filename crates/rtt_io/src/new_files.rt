@@ -136,6 +136,8 @@ impl<R: Files<File = File> + Copy> Sink for NewFile<R> {
 
     ghost took = { λ _. [] };
 
+    ghost stored = { λ _. [] };
+
     ghost faults = { λ file. file.sink.faults };
 
     ghost name = { λ file. file.sink.name };

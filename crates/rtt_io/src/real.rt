@@ -86,6 +86,8 @@ impl<F: Stored> Sink for FileSink<F> {
 
     ghost took = { λ sink. unwrap_or (F.contents sink.file) [] };
 
+    ghost stored = { λ sink. unwrap_or (F.contents sink.file) [] };
+
     ghost faults = { λ sink. sink.faults };
 
     ghost name = { λ sink. sink.name };
@@ -145,6 +147,8 @@ impl<W: Write> Sink for StreamSink<W> {
     ghost tells = { (w : W) → IsSome (W.contents w) };
 
     ghost took = { λ sink. unwrap_or (W.contents sink.stream) [] };
+
+    ghost stored = { λ sink. unwrap_or (W.contents sink.stream) [] };
 
     ghost faults = { λ sink. sink.faults };
 

@@ -13,6 +13,9 @@ pub trait Sink {
     /// The octets that it took so far.
     ghost took: { Self → List ℕ };
 
+    /// The octets of it that are stored.
+    ghost stored: { Self → List ℕ };
+
     /// How often it failed.
     ghost faults: { Self → ℕ };
 
@@ -28,7 +31,8 @@ pub trait Sink {
         ensures calm { OnOk result (faults self.new ≡ faults self.old) }
 
         ensures appended { tells → OnOk result (took self.new ≡ took self.old ++ bytes.now) }
-        ensures prefix { tells → OnErr result (TakesFront (took self.old) (took self.new) bytes.now) };
+        ensures prefix { tells → OnErr result (TakesFront (took self.old) (took self.new) bytes.now) }
+        ensures partly { tells → OnErr result (TakesFront (took self.old) (stored self.new) bytes.now) };
 
     /// Writes all octets, and stores them with the parts that came before. After `Failed` it took some of them from the front,
     /// or none.
@@ -39,5 +43,7 @@ pub trait Sink {
         ensures calm { OnOk result (faults self.new ≡ faults self.old) }
 
         ensures appended { tells → OnOk result (took self.new ≡ took self.old ++ bytes.now) }
-        ensures prefix { tells → OnErr result (TakesFront (took self.old) (took self.new) bytes.now) };
+        ensures prefix { tells → OnErr result (TakesFront (took self.old) (took self.new) bytes.now) }
+        ensures stores { tells → OnOk result (stored self.new ≡ took self.new) }
+        ensures partly { tells → OnErr result (TakesFront (took self.old) (stored self.new) bytes.now) };
 }

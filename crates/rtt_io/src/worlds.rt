@@ -62,12 +62,12 @@ pub trait World {
         ensures no_other { tells → CountsNoOther contents object_faults (Self.Src.name source) self.old self.new }
         ensures same_contents { tells → Same contents self.old self.new };
 
-    /// Takes back a sink, stores what it took under its name, and adds its faults to those of its name.
+    /// Takes back a sink, puts what is stored of it under its name, and adds its faults to those of its name.
     fn done_dst(&mut self, sink: Self::Dst)
         ensures same_own { Same own_faults self.old self.new }
         ensures objects_never_fall { NoneFalls object_faults self.old self.new }
         ensures calm { Self.Dst.faults sink ≡ 0 → Same object_faults self.old self.new }
         ensures added { CountsMore object_faults (Self.Dst.name sink) (Self.Dst.faults sink) self.old self.new }
-        ensures stored { tells → Replaces contents (Self.Dst.name sink) (Self.Dst.took sink) self.old self.new }
+        ensures stored { tells → Replaces contents (Self.Dst.name sink) (Self.Dst.stored sink) self.old self.new }
         ensures other_contents { tells → SameBut (Self.Dst.name sink) contents self.old self.new };
 }

@@ -86,16 +86,16 @@ all_held : (x : Sending) (n : ℕ) (before took page : List ℕ) → length x.se
 all_held x n before took page l h = subst (λ (s : List (ℕ × Sent)). HoldsRest before took page (dump_opening ++ written_of x.conf s)) (all_first n x.sent l) h
 
 -- where the page is taken then, the whole recording was
-pub whole_taken : {A B : Type 0} (r : Result A B) (x : Sending) (n : ℕ) (before middle took page octets : List ℕ) → length x.sent ≤ n → HoldsRest before middle page (dump_opening ++ written_of x.conf (first_sent n x.sent))
-    → octets ≡ page → OnOk r (took ≡ middle ++ octets) → OnOk r (took ≡ before ++ recording_of x)
-whole_taken r x n before middle took page octets l h is =
-    ok_then (took ≡ middle ++ octets) (took ≡ before ++ recording_of x) r (λ e. all_taken before middle took page (recording_of x) (all_held x n before middle page l h) (e ∙ ap (λ (xs : List ℕ). middle ++ xs) is))
+pub whole_taken : {A B : Type 0} (r : Result A B) (x : Sending) (n : ℕ) (before middle took page : List ℕ) → length x.sent ≤ n → HoldsRest before middle page (dump_opening ++ written_of x.conf (first_sent n x.sent))
+    → OnOk r (took ≡ middle ++ page) → OnOk r (took ≡ before ++ recording_of x)
+whole_taken r x n before middle took page l h =
+    ok_then (took ≡ middle ++ page) (took ≡ before ++ recording_of x) r (all_taken before middle took page (recording_of x) (all_held x n before middle page l h))
 
 -- where a front of it is, a front of the recording was
-pub front_is_taken : {A B : Type 0} (r : Result A B) (x : Sending) (n : ℕ) (before middle took page octets : List ℕ) → length x.sent ≤ n → HoldsRest before middle page (dump_opening ++ written_of x.conf (first_sent n x.sent))
-    → octets ≡ page → OnErr r (TakesFront middle took octets) → OnErr r (TakesFront before took (recording_of x))
-front_is_taken r x n before middle took page octets l h is =
-    err_then (TakesFront middle took octets) (TakesFront before took (recording_of x)) r (λ f. front_taken before middle took page (recording_of x) (all_held x n before middle page l h) (subst (λ (xs : List ℕ). TakesFront middle took xs) is f))
+pub front_is_taken : {A B : Type 0} (r : Result A B) (x : Sending) (n : ℕ) (before middle took page : List ℕ) → length x.sent ≤ n → HoldsRest before middle page (dump_opening ++ written_of x.conf (first_sent n x.sent))
+    → OnErr r (TakesFront middle took page) → OnErr r (TakesFront before took (recording_of x))
+front_is_taken r x n before middle took page l h =
+    err_then (TakesFront middle took page) (TakesFront before took (recording_of x)) r (front_taken before middle took page (recording_of x) (all_held x n before middle page l h))
 
 -- ---- an output's sources
 pub as_many : (x : Sending) (o : output.State) (past : List Sent) → StandsFor x.conf x.sources o past → length o.speakers ≡ length x.sources

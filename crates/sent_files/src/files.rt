@@ -85,6 +85,9 @@ impl SentFiles {
             OnOk result (K.took sink.new ≡ K.took sink.old ++ recording_at self.old terminal) }
         ensures prefix { K.tells →
             OnErr result (TakesFront (K.took sink.old) (K.took sink.new) (recording_at self.old terminal)) }
+        ensures stores { K.tells → OnOk result (K.stored sink.new ≡ K.took sink.new) }
+        ensures partly { K.tells →
+            OnErr result (TakesFront (K.took sink.old) (K.stored sink.new) (recording_at self.old terminal)) }
     {
         let output = &mut self.outputs[terminal];
         write_recording(&self.log, terminal, output, &mut self.page, sink)

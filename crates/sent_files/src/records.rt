@@ -51,6 +51,7 @@ fn turn_page<K: Sink>(page: &mut Page, sink: &mut K) -> Result<(), Failed>
     ensures calm { OnOk result (K.faults sink.new ≡ K.faults sink.old) }
     ensures held { K.tells → OnOk result (HoldsRest (K.took sink.old) (K.took sink.new) page.new page.old) }
     ensures prefix { K.tells → OnErr result (TakesFront (K.took sink.old) (K.took sink.new) page.old) }
+    ensures partly { K.tells → OnErr result (TakesFront (K.took sink.old) (K.stored sink.new) page.old) }
 {
     if page.len() + MOST_RECORD_OCTETS <= PAGE_OCTETS {
         return Ok(());
@@ -61,6 +62,21 @@ fn turn_page<K: Sink>(page: &mut Page, sink: &mut K) -> Result<(), Failed>
     }
     page.clear();
     Ok(())
+}
+
+/// Gives the last page to the sink, which stores all that it took. After `Failed` it took some of the page from the front, or
+/// nothing.
+fn store_page<K: Sink>(page: &Page, sink: &mut K) -> Result<(), Failed>
+    ensures never_falls { K.faults sink.old ≤ K.faults sink.new }
+    ensures failed { OnErr result (Rose (K.faults sink.old) (K.faults sink.new)) }
+    ensures same_name { K.name sink.new ≡ K.name sink.old }
+    ensures calm { OnOk result (K.faults sink.new ≡ K.faults sink.old) }
+    ensures appended { K.tells → OnOk result (K.took sink.new ≡ K.took sink.old ++ page.now) }
+    ensures prefix { K.tells → OnErr result (TakesFront (K.took sink.old) (K.took sink.new) page.now) }
+    ensures stores { K.tells → OnOk result (K.stored sink.new ≡ K.took sink.new) }
+    ensures partly { K.tells → OnErr result (TakesFront (K.took sink.old) (K.stored sink.new) page.now) }
+{
+    sink.write_all(page.as_slice())
 }
 
 /// Writes the recording of what was sent to the terminal, by an output to it, and stores it. After `Failed` the sink took some
@@ -84,6 +100,9 @@ pub fn write_recording<K: Sink>(
         OnOk result (K.took sink.new ≡ K.took sink.old ++ recording_of x)) }
     ensures prefix { K.tells → OfTerminal log.now terminal (λ x.
         OnErr result (TakesFront (K.took sink.old) (K.took sink.new) (recording_of x))) }
+    ensures stores { K.tells → OnOk result (K.stored sink.new ≡ K.took sink.new) }
+    ensures partly { K.tells → OfTerminal log.now terminal (λ x.
+        OnErr result (TakesFront (K.took sink.old) (K.stored sink.new) (recording_of x))) }
 {
     output.restart();
     begin(page);
@@ -96,5 +115,5 @@ pub fn write_recording<K: Sink>(
         }
         put_record(page, at, &packet);
     }
-    sink.write_all(page.as_slice())
+    store_page(page, sink)
 }

@@ -44,6 +44,16 @@ returns-then-is_err-clause-prefix g c = λ told x at.
     (front_of_all x.conf c.loop-number.number x.sent before middle now page dump_opening (c.loop-number.invariant.held told x at))
     (c.turn_page-turned.ensures.prefix told)
 
+pub returns-then-is_err-clause-partly : goal.returns-then-is_err-clause-partly
+returns-then-is_err-clause-partly g c = λ told x at.
+    let before = g.K.Sink.took c.args.sink.now in
+    let middle = g.K.Sink.took c.loop-number.sink in
+    let now = g.K.Sink.stored c.turn_page-turned.new.sink in
+    let page = c.loop-number.page in
+    err_then (TakesFront middle now page) (TakesFront before now (recording_of x)) c.turn_page-turned.result
+    (front_of_all x.conf c.loop-number.number x.sent before middle now page dump_opening (c.loop-number.invariant.held told x at))
+    (c.turn_page-turned.ensures.partly told)
+
 pub loop-number-preserved : goal.loop-number-preserved
 loop-number-preserved g c =
     let took = g.K.Sink.took in
@@ -71,11 +81,17 @@ returns-clause-output g c = λ x at. record { past = sents (first_sent c.loop-nu
 pub returns-clause-appended : goal.returns-clause-appended
 returns-clause-appended g c = λ told x at.
     let took = g.K.Sink.took in
-    whole_taken c.write_all.result x c.loop-number.number (took c.args.sink.now) (took c.loop-number.sink) (took c.write_all.new.self) c.loop-number.page c.as_slice.result.now
-    (omega (arith, c.count-number-end.ensures x at, c.loop-number-test.false)) (c.loop-number.invariant.held told x at) c.as_slice.ensures (c.write_all.ensures.appended told)
+    whole_taken c.store_page.result x c.loop-number.number (took c.args.sink.now) (took c.loop-number.sink) (took c.store_page.new.sink) c.loop-number.page
+    (omega (arith, c.count-number-end.ensures x at, c.loop-number-test.false)) (c.loop-number.invariant.held told x at) (c.store_page.ensures.appended told)
 
 pub returns-clause-prefix : goal.returns-clause-prefix
 returns-clause-prefix g c = λ told x at.
     let took = g.K.Sink.took in
-    front_is_taken c.write_all.result x c.loop-number.number (took c.args.sink.now) (took c.loop-number.sink) (took c.write_all.new.self) c.loop-number.page c.as_slice.result.now
-    (omega (arith, c.count-number-end.ensures x at, c.loop-number-test.false)) (c.loop-number.invariant.held told x at) c.as_slice.ensures (c.write_all.ensures.prefix told)
+    front_is_taken c.store_page.result x c.loop-number.number (took c.args.sink.now) (took c.loop-number.sink) (took c.store_page.new.sink) c.loop-number.page
+    (omega (arith, c.count-number-end.ensures x at, c.loop-number-test.false)) (c.loop-number.invariant.held told x at) (c.store_page.ensures.prefix told)
+
+pub returns-clause-partly : goal.returns-clause-partly
+returns-clause-partly g c = λ told x at.
+    let took = g.K.Sink.took in
+    front_is_taken c.store_page.result x c.loop-number.number (took c.args.sink.now) (took c.loop-number.sink) (g.K.Sink.stored c.store_page.new.sink) c.loop-number.page
+    (omega (arith, c.count-number-end.ensures x at, c.loop-number-test.false)) (c.loop-number.invariant.held told x at) (c.store_page.ensures.partly told)
