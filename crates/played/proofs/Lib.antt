@@ -3,3 +3,5 @@ pub mod Going
 pub mod Copies
 pub mod FirstSent
 pub mod SameRecords
+pub mod Whole
+pub mod SaidTexts

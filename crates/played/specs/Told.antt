@@ -1,5 +1,5 @@
 -- What a call tells of the records that came to a terminal (profile).
-use Rattle.std.specs.Prelude.{ℕ, List, [], ◌++◌, map, flat_map}
+use Rattle.std.specs.Prelude.{◌≡◌, ℕ, List, [], ◌++◌, map, flat_map}
 use Rattle.file_spec.specs.declared.conf_lines.PlanLine.{PlanLine}
 use Rattle.wire_spec.specs.Dump.{Item, sent_item}
 use Rattle.mixer_spec.specs.Arrives.{came, item_of}
@@ -8,7 +8,7 @@ use Rattle.fault_plan.specs.Arriving.{copy_of, copies_of}
 use Rattle.terminal.specs.declared.confs.TermConf.{TermConf}
 use Rattle.terminal.specs.declared.terminals.Terminal.{Terminal}
 use Rattle.terminal.specs.Terminals.{Listens, Heard}
-use Rattle.sent_log.specs.States.{Sending, records_of}
+use Rattle.sent_log.specs.States.{IsStreamOf, OfTerminal, Sending, State, records_of}
 use Rattle.played.specs.declared.found.Found.{Found}
 use Rattle.played.specs.Written.{AreRecords, IsWrittenOf}
 use Rattle.played.specs.Finds.{Finds}
@@ -16,10 +16,6 @@ use Rattle.played.specs.Finds.{Finds}
 -- where nothing came before, this came
 abbrev pub Hears : Terminal → List Item → Terminal → Type 0
 Hears old items new = (c : TermConf) (sources : List ℕ) → Listens old c sources [] → Listens new c sources items
-
--- all that was sent came, as it was sent
-abbrev pub HearsAsSent : Terminal → Terminal → Sending → Type 0
-HearsAsSent old new x = Hears old (map sent_item (records_of x.conf x.sent)) new
 
 -- what comes of it by the plan came
 abbrev pub HearsSent : Terminal → List PlanLine → ℕ → Terminal → Sending → Type 0
@@ -44,3 +40,8 @@ HearsCopy old octets found copy new =
 -- what comes by the plan of the records of this recording was heard to its end
 abbrev pub HeardByPlan : TermConf → List ℕ → List ℕ → List PlanLine → ℕ → Terminal → Type 0
 HeardByPlan conf sources recording plan number terminal = (records : List (ℕ × List ℕ)) → IsWrittenOf recording records → Heard terminal conf sources (came plan number records)
+
+-- all that was sent comes as it was sent, and is a stream that is heard
+pub record HearsAll (conf : TermConf) (log : State) (terminal : ℕ) (plan : List PlanLine) : Type 0 where
+  pub stream : OfTerminal log terminal (IsStreamOf conf.ssrc conf.pts)
+  pub same : OfTerminal log terminal (λ x. came plan terminal (records_of x.conf x.sent) ≡ map sent_item (records_of x.conf x.sent))

@@ -1,20 +1,21 @@
 //! A terminal that hears what comes to it.
-ghost use Rattle.std.specs.Prelude.{◌≡◌, ◌≢◌, ◌+◌, ◌≤◌, ◌<◌, ◌==◌, length, All, AllPairs, IfOk, OnOk};
+ghost use Rattle.std.specs.Prelude.{true, ◌≡◌, ◌≢◌, ◌+◌, ◌≤◌, ◌<◌, ◌==◌, length, All, AllPairs, IfOk, OnOk};
 ghost use Rattle.std.specs.List.{list_any};
 ghost use Rattle.fault_plan.specs.Arriving.{IsOfFirst};
 ghost use Rattle.terminal.specs.Terminals.{counts_of, IsOpen};
 ghost use Rattle.sent_log.specs.States.{OfTerminal, recording_of};
 ghost use Rattle.played.specs.Written.{HasRecords, IsPlayable};
 ghost use Rattle.played.specs.Finds.{AreFound, LieWithin};
-ghost use Rattle.played.specs.Told.{HearsAsSent, HearsByPlan, HearsCopies, HearsCopy, HearsSent, HeardByPlan};
+ghost use Rattle.played.specs.Told.{HearsAll, HearsByPlan, HearsCopies, HearsCopy, HearsSent, HeardByPlan};
 ghost use Rattle.file_spec.specs.declared.limits.TheConstants.{MOST_LEGS};
 ghost use Rattle.rtt_base.specs.declared.limits.TheConstants.{LONGEST_WAIT, MOST_ARRIVALS, MOST_SOURCES};
 
 use crate::found::{Found, find_records};
+use crate::saying::heard_all;
 use fault_plan::{Arrival, arrivals};
 use file_spec::PlanLine;
 use rtpdump_io::{next_record, records_of};
-use rtt_base::{NoMemory, Packet};
+use rtt_base::NoMemory;
 use sent_files::in_memory;
 use sent_log::SentLog;
 use std::alloc::Global;
@@ -25,30 +26,6 @@ fn speaks_of(plan: &[PlanLine], terminal: u8) -> bool
     ensures { result ≡ list_any (λ line. line.terminal == terminal) plan.now }
 {
     plan.iter().any(|line| line.terminal == terminal)
-}
-
-/// Hears what was sent to the terminal, as it was sent: each packet is made again where it is heard.
-fn hear_as_sent(
-    alloc: Global,
-    heard: &mut Terminal,
-    log: &SentLog,
-    terminal: usize,
-) -> Result<(), NoMemory>
-    requires open { IsOpen heard.old }
-    requires none { (counts_of heard.old).packets ≡ 0 }
-    requires terminal { terminal < length log.now }
-    requires sent { OfTerminal log.now terminal IsPlayable }
-    ensures listens { OnOk result (OfTerminal log.now terminal (HearsAsSent heard.old heard.new)) }
-    ensures open { IsOpen heard.new }
-    ensures few { (counts_of heard.new).packets < MOST_ARRIVALS }
-{
-    let mut output = log.output(alloc, terminal)?;
-    let mut packet = Packet::new();
-    for number in 0..log.count(terminal) {
-        let moment = log.packet(terminal, number, &mut output, &mut packet);
-        heard.arrive(u64::from(moment), packet.as_slice())?;
-    }
-    Ok(())
 }
 
 /// Hears a packet that comes.
@@ -117,8 +94,7 @@ fn hear_by_plan(
     hear_copies(terminal, records, &found, copies.as_slice())
 }
 
-/// Hears what comes by the plan of what was sent to the terminal: as it was sent, where no line of the plan is of the
-/// terminal and the moments of the packets never fall. Else its whole recording is made in memory.
+/// Hears what comes by the plan of what was sent to the terminal, of which the whole recording is made in memory.
 fn hear(
     alloc: Global,
     heard: &mut Terminal,
@@ -135,23 +111,13 @@ fn hear(
     ensures open { IsOpen heard.new }
     ensures few { (counts_of heard.new).packets < MOST_ARRIVALS }
 {
-    if !speaks_of(plan, terminal as u8) && log.never_falls(terminal) {
-        return hear_as_sent(alloc, heard, log, terminal);
-    }
     let recording = in_memory(alloc, log, terminal)?;
     let records = records_of(recording.as_slice());
     hear_by_plan(alloc, heard, records, plan, terminal as u8)
 }
 
-/// The terminal with this number, counted from 0 and below 64, that heard to its end what comes to it, by the plan of a
-/// conference, of what was sent to it: texts each of which could be sent after those before it, in packets of at most
-/// 65527 octets. The terminal is made as `Terminal::new` makes it.
-///
-/// Where no line of the plan is of the terminal, and the moments of the packets never fall, each packet is made again where
-/// it is heard. Else the whole recording is made in memory, with 12 octets a packet to find it there, and 16 for each packet
-/// that comes.
-#[inline(never)]
-pub fn played(
+/// Hears to its end what comes by the plan of what was sent to the terminal.
+fn played_by_plan(
     alloc: Global,
     conf: TermConf,
     sources: &[u32],
@@ -174,4 +140,48 @@ pub fn played(
     hear(alloc, &mut heard, log, terminal, plan)?;
     heard.finish()?;
     Ok(heard)
+}
+
+/// Whether all that was sent to the terminal comes as it was sent, and is a stream that it hears.
+fn hears_all(conf: TermConf, log: &SentLog, terminal: usize, plan: &[PlanLine]) -> bool
+    requires terminal { terminal < length log.now }
+    requires leg { terminal < MOST_LEGS }
+    ensures { result ≡ true → HearsAll conf log.now terminal plan.now }
+{
+    !speaks_of(plan, terminal as u8)
+        && log.never_falls(terminal)
+        && log.is_stream(terminal, conf.ssrc, conf.pts)
+}
+
+/// The terminal with this number, counted from 0 and below 64, that heard to its end what comes to it, by the plan of a
+/// conference, of what was sent to it: texts each of which could be sent after those before it, in packets of at most
+/// 65527 octets. The terminal is made as `Terminal::new` makes it.
+///
+/// Where no line of the plan is of the terminal, and the moments of the packets never fall, what it hears is what was sent, and
+/// no packet is made. Else the whole recording is made in memory, with 12 octets a packet to find it there, and 16 for each packet
+/// that comes.
+#[inline(never)]
+pub fn played(
+    alloc: Global,
+    conf: TermConf,
+    sources: &[u32],
+    log: &SentLog,
+    terminal: usize,
+    plan: &[PlanLine],
+) -> Result<Terminal, NoMemory>
+    requires wait { conf.wait ≤ LONGEST_WAIT }
+    requires some { 0 < length sources.now }
+    requires few { length sources.now ≤ MOST_SOURCES }
+    requires differ { AllPairs (λ a b. a ≢ b) sources.now }
+    requires terminal { terminal < length log.now }
+    requires leg { terminal < MOST_LEGS }
+    requires sent { OfTerminal log.now terminal IsPlayable }
+    ensures heard { IfOk result (λ heard. OfTerminal log.now terminal (λ x.
+        HeardByPlan conf sources.now (recording_of x) plan.now terminal heard)) }
+    ensures few { IfOk result (λ terminal. (counts_of terminal).packets < MOST_ARRIVALS) }
+{
+    if hears_all(conf, log, terminal, plan) {
+        return heard_all(alloc, conf, sources, log, terminal);
+    }
+    played_by_plan(alloc, conf, sources, log, terminal, plan)
 }

@@ -4,5 +4,6 @@
 mod found;
 mod hearing;
 pub mod laws;
+mod saying;
 
 pub use hearing::played;

@@ -1,6 +1,7 @@
 -- The packets of a terminal, made one by one.
-use Rattle.std.proofs.Common.{◌≡◌, ℕ, zero, suc, ◌+◌, ◌-◌, ◌<◌, ◌≤◌, List, [], ◌∷◌, ◌++◌, length, get_or, take, drop, Some, refl, ap, subst, sym, ◌∙◌, arith}
-use Rattle.std.specs.Prelude.{All, map, reverse, slice_get}
+use Rattle.std.proofs.Common.{◌≡◌, ℕ, zero, suc, ◌+◌, ◌-◌, ◌<◌, ◌≤◌, ◌^◌, inl, inr, List, [], ◌∷◌, ◌++◌, length, get_or, take, drop, Some, refl, ap, subst, sym, ◌∙◌, arith}
+use Rattle.std.specs.Prelude.{All, map, reverse, slice_get, slice_index}
+use Rattle.std.proofs.lemmas.List.Elements.{All-head, All-tail}
 use Rattle.std.specs.List.Sorted.{IsNonDecreasing, IsNonDecreasingBy}
 use Rattle.std.proofs.lemmas.List.{drop-map, drop_at, get_or-map, get_or-take, get_or_read, length-drop, length-map, length-reverse, length-take-le, map-append, reverse-append, reverse-reverse, take-append-drop, take_more}
 use Rattle.std.proofs.lemmas.List.Sorted.{IsNonDecreasingBy-push}
@@ -18,7 +19,10 @@ use Rattle.sent_log.specs.declared.terminals.Terminal.{Terminal}
 use Rattle.sent_log.specs.declared.turns.Turn.{Turn}
 use Rattle.sent_log.specs.Insides.{IsEntry, IsLog, IsTerminal, sending_of, sent_by, state_of, turn_at}
 use Rattle.sent_log.specs.Lists.{list_at, octets_at}
-use Rattle.sent_log.specs.States.{Makes, NeverFalls, OfTerminal, Sending, State, first_sent, records_of, sents}
+use Rattle.stream_spec.specs.Lists.{In}
+use Rattle.stream_spec.proofs.Lists.{in_append}
+use Rattle.rtt_base.specs.declared.text_packets.Pts.{Pts}
+use Rattle.sent_log.specs.States.{IsStreamOf, Makes, NeverFalls, OfTerminal, Sending, State, TellsText, first_sent, records_of, sents}
 use Rattle.sent_log.proofs.Noting.{get_map}
 
 -- ---- what holds of a terminal
@@ -133,6 +137,53 @@ made turns texts t number e old new octets turn text g te xe p s = λ lawful sta
       p t.conf t.sources.items past stands may,
       subst (λ (xs : List (ℕ × Sent)). StandsFor t.conf t.sources.items new (sents xs)) (sym following) (s t.conf t.sources.items past stands may),
     )
+
+-- ---- one text
+
+pub text_told : (turns : List Turn) (texts : List (List ℕ)) (t : Terminal) (number : ℕ) (e : Entry) (ssrc : ℕ) (text : List ℕ) → slice_get t.entries.items number ≡ Some e → ssrc ≡ slice_index t.sources.items e.source
+    → text ≡ octets_at (list_at texts (t.first + e.source)) e.place e.len → TellsText (sending_of turns texts t) number ssrc text
+text_told turns texts t number e ssrc text g se xe =
+    let f = sent_by turns texts t.first t.sources.items in
+    let entries = t.entries.items in
+    let ys = map f entries in
+    let sent = reverse ys in
+    let l = slice_get_within entries number e g in
+    let turn = turn_at turns e.turn in
+    let one : get_or ys number (f e) ≡ f e = get_or-map f entries number e (f e) l ∙ ap f (get_or_from_slice_get entries number e e g) in
+    let same : f e ≡ (turn.now, record { source = ssrc; media = turn.media; text = text }) =
+    ap (λ (xs : List ℕ). (turn.now, text_of t.sources.items e.source turn.media xs)) (sym xe)
+    ∙ ap (λ (n : ℕ). let z : Sent = record { source = n; media = turn.media; text = text } in (turn.now, z)) (sym se) in
+    record {
+      at = turn.now;
+      media = turn.media;
+      next = next_reversed number ys (f e) (omega (arith, l, length-map entries f)) ∙ ap (λ (x : ℕ × Sent). x ∷ first_sent number sent) (one ∙ same);
+    }
+
+-- ---- the whole stream
+
+in_reverse : (e : Sent) (xs : List (ℕ × Sent)) → In e (sents (reverse xs)) → In e (sents xs)
+in_reverse e [] i = i
+in_reverse e (x ∷ xs) i =
+    elim (in_append e (sents (reverse xs)) (x.1 ∷ []) (subst (λ (ys : List Sent). In e ys) (ap (λ (ys : List (ℕ × Sent)). sents ys) (reverse-append (x ∷ []) xs) ∙ map-append (λ (y : ℕ × Sent). y.1) (reverse xs) (x ∷ [])) i)) [
+      | inl j ↦ inr (in_reverse e xs j)
+      | inr (inl q) ↦ inl q
+      | inr (inr j) ↦ absurd j
+    ]
+
+each_word : (turns : List Turn) (texts : List (List ℕ)) (first : ℕ) (sources : List ℕ) (entries : List Entry) → All (λ s. s < 2 ^ 32) sources → All (IsEntry turns texts first sources) entries
+    → (e : Sent) → In e (sents (map (sent_by turns texts first sources) entries)) → e.source < 2 ^ 32
+each_word turns texts first sources [] w a e i = absurd i
+each_word turns texts first sources (x ∷ entries) w a e (inl q) =
+    let l = w x.source 0 (All-head (IsEntry turns texts first sources) x entries a).source in omega (arith, l, ap (λ (z : Sent). z.source) q)
+each_word turns texts first sources (x ∷ entries) w a e (inr i) = each_word turns texts first sources entries w (All-tail (IsEntry turns texts first sources) x entries a) e i
+
+pub stream_of_these : (turns : List Turn) (texts : List (List ℕ)) (t : Terminal) (ssrc : ℕ) (pts : Pts) → IsTerminal turns texts t → All (λ s. s < 2 ^ 32) t.sources.items → t.conf.ssrc ≡ ssrc → t.conf.pts ≡ pts → IsStreamOf ssrc pts (sending_of turns texts t)
+stream_of_these turns texts t ssrc pts k w s p = record {
+  conf = k.conf;
+  ssrc_is = s;
+  pts_are = p;
+  words = λ e i. each_word turns texts t.first t.sources.items t.entries.items w k.entries e (in_reverse e (map (sent_by turns texts t.first t.sources.items) t.entries.items) i);
+}
 
 -- ---- moments
 

@@ -1,10 +1,12 @@
 -- What was sent to the terminals of a conference, and its recordings (profile).
-use Rattle.std.specs.Prelude.{◌≡◌, ◌+◌, ◌-◌, ◌<◌, ℕ, Option, None, Some, MatchOption, All, List, [], ◌∷◌, ◌++◌, drop, length, map, slice_get, slice_set}
+use Rattle.std.specs.Prelude.{◌≡◌, ◌+◌, ◌-◌, ◌<◌, ◌^◌, ℕ, Option, None, Some, MatchOption, All, List, [], ◌∷◌, ◌++◌, drop, length, map, slice_get, slice_set}
 use Rattle.std.specs.List.Sorted.{IsNonDecreasing}
 use Rattle.wire_spec.specs.Dump.{dump_written}
 use Rattle.stream_spec.specs.Own.{Sent}
 use Rattle.aware_output.specs.declared.outputs.OutConf.{OutConf}
-use Rattle.aware_output.specs.Confs.{stream_of}
+use Rattle.rtt_base.specs.declared.text_packets.Pts.{Pts}
+use Rattle.stream_spec.specs.Lists.{In}
+use Rattle.aware_output.specs.Confs.{IsConf, stream_of}
 use Rattle.aware_output.specs.Speakers.{EachIsNext}
 use Rattle.aware_output.specs.Sending.{octets_of}
 use Rattle.aware_output.specs.Standing.{StandsFor}
@@ -78,3 +80,18 @@ Makes x number old new octets at = IsLawful x → StandsFor x.conf x.sources old
     → (e : ℕ × Sent) × (first_sent (number + 1) x.sent ≡ e ∷ first_sent number x.sent) × (at ≡ e.0)
     × (octets ≡ octets_of x.conf (sents (first_sent number x.sent)) e.1)
     × StandsFor x.conf x.sources new (sents (first_sent (number + 1) x.sent))
+
+-- The packet with this number was sent of the source with this SSRC, with this text.
+pub record TellsText (x : Sending) (number ssrc : ℕ) (text : List ℕ) : Type 0 where
+  pub at : ℕ
+  pub media : ℕ
+  pub next : first_sent (number + 1) x.sent ≡ (at, record { source = ssrc; media = media; text = text }) ∷ first_sent number x.sent
+
+-- ---- the whole stream
+
+-- it is a stream with this SSRC and these payload types, and the source of each text that was sent has 32 bits
+pub record IsStreamOf (ssrc : ℕ) (pts : Pts) (x : Sending) : Type 0 where
+  pub conf : IsConf x.conf
+  pub ssrc_is : x.conf.ssrc ≡ ssrc
+  pub pts_are : x.conf.pts ≡ pts
+  pub words : (e : Sent) → In e (sents x.sent) → e.source < 2 ^ 32

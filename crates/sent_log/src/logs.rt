@@ -3,7 +3,7 @@ ghost use Rattle.std.specs.Prelude.{◌≡◌, ◌<◌, ◌≤◌, ◌++◌, ◌
 ghost use Rattle.aware_output.specs.Confs.{IsConf};
 ghost use Rattle.aware_output.specs.Speakers.{AreDistinct, text_of};
 ghost use Rattle.aware_output.specs.Standing.{StandsFor};
-ghost use Rattle.sent_log.specs.States.{HasSource, Makes, NeverFalls, OfTerminal, State, sent_to};
+ghost use Rattle.sent_log.specs.States.{HasSource, IsStreamOf, Makes, NeverFalls, OfTerminal, State, TellsText, sent_to};
 ghost use Rattle.sent_log.specs.Insides.{IsLog, state_of};
 
 use crate::terminals::{Terminal, make_lists, never_fall};
@@ -11,7 +11,7 @@ use crate::text_lists::TextList;
 use crate::turns::{Turn, note_turn};
 use aware_output::{OutConf, Output};
 use rtt_base::limits::MOST_PACKET_OCTETS;
-use rtt_base::{NoMemory, Packet};
+use rtt_base::{NoMemory, Packet, Pts};
 use std::alloc::Global;
 use std::marker::Model;
 
@@ -119,6 +119,32 @@ impl SentLog {
         ensures { result ≡ true → OfTerminal self.now terminal NeverFalls }
     {
         never_fall(&self.terminals[terminal].entries, &self.turns)
+    }
+
+    /// Whether what is sent to the terminal is a stream with this SSRC and these payload types.
+    pub fn is_stream(&self, terminal: usize, ssrc: u32, pts: Pts) -> bool
+        requires { terminal < length self.now }
+        ensures { result ≡ true → OfTerminal self.now terminal (IsStreamOf ssrc pts) }
+    {
+        let sent_to = &self.terminals[terminal];
+        sent_to.has_ssrcs();
+        sent_to.is_stream(ssrc, pts)
+    }
+
+    /// The number of the source, counted from 0, its SSRC, and the text of the packet with this number, counted from 0, that was
+    /// sent to the terminal.
+    pub fn text(&self, terminal: usize, number: usize) -> (usize, u32, &[u8])
+        requires terminal { terminal < length self.now }
+        requires number { OfTerminal self.now terminal (λ x. number < length x.sent) }
+        ensures { OfTerminal self.now terminal (λ x. TellsText x number result.1 result.2.now) }
+    {
+        let sent_to = &self.terminals[terminal];
+        let entry = sent_to.entries[number];
+        let source = entry.source as usize;
+        let ssrc = sent_to.sources[source];
+        let list = &self.texts[sent_to.first + source];
+        let text = list.text(entry.place as usize, entry.len as usize);
+        (source, ssrc, text)
     }
 
     /// An output to the terminal that has sent nothing.

@@ -1,5 +1,5 @@
 //! What was sent to one terminal.
-ghost use Rattle.std.specs.Prelude.{◌≡◌, ◌+◌, ◌<◌, ◌≤◌, true, length, All, IfOk, OnOk, OnErr};
+ghost use Rattle.std.specs.Prelude.{◌≡◌, ◌+◌, ◌<◌, ◌≤◌, ◌^◌, true, length, All, IfOk, OnOk, OnErr};
 ghost use Rattle.std.specs.List.Sorted.{IsNonDecreasingBy};
 ghost use Rattle.sent_log.specs.Insides.{HasNoted, IsSame, turn_at};
 ghost use Rattle.sent_log.specs.Lists.{EachGrows};
@@ -7,7 +7,7 @@ ghost use Rattle.sent_log.specs.Lists.{EachGrows};
 use crate::text_lists::TextList;
 use crate::turns::Turn;
 use aware_output::OutConf;
-use rtt_base::NoMemory;
+use rtt_base::{NoMemory, Pts};
 use std::alloc::Global;
 
 /// A packet that was sent, in 12 octets.
@@ -37,6 +37,23 @@ pub struct Terminal {
 }
 
 impl Terminal {
+    /// Whether it is sent a stream with this SSRC and these payload types.
+    pub fn is_stream(&self, ssrc: u32, pts: Pts) -> bool
+        ensures ssrc { result ≡ true → self.now.conf.ssrc ≡ ssrc }
+        ensures pts { result ≡ true → self.now.conf.pts ≡ pts }
+    {
+        self.conf.ssrc == ssrc && self.conf.pts == pts
+    }
+
+    /// The SSRC of each source has 32 bits. Nothing is done.
+    pub fn has_ssrcs(&self)
+        ensures { All (λ source. source < 2 ^ 32) self.now.sources.items }
+    {
+        for source in &self.sources {
+            let _source = *source;
+        }
+    }
+
     /// Notes what is sent in this turn: a text of the source.
     pub fn note(
         &mut self,
