@@ -16,6 +16,7 @@ pub struct Leaving<L: Links> {
 impl<L: Links> Leaving<L> {
     /// The links over these.
     pub fn new(links: L) -> Leaving<L>
+        ensures leads { ⟦<Leaving<L> as Links>⟧.leads result ≡ L.leads links }
         ensures taken { (p : ℕ) → ⟦<Leaving<L> as Links>⟧.taken_at result p ≡ takes_told (L.taken_at links p) }
         ensures given { (p : ℕ) → ⟦<Leaving<L> as Links>⟧.given_at result p ≡ L.given_at links p }
         ensures own { (p : ℕ) → ⟦<Leaving<L> as Links>⟧.own_faults result p ≡ L.own_faults links p }
@@ -27,6 +28,7 @@ impl<L: Links> Leaving<L> {
 
     /// The links below.
     pub fn into_links(self) -> L
+        ensures leads { ⟦<Leaving<L> as Links>⟧.leads self ≡ L.leads result }
         ensures taken { (p : ℕ) → ⟦<Leaving<L> as Links>⟧.taken_at self p ≡ takes_told (L.taken_at result p) }
         ensures given { (p : ℕ) → ⟦<Leaving<L> as Links>⟧.given_at self p ≡ L.given_at result p }
         ensures own { (p : ℕ) → ⟦<Leaving<L> as Links>⟧.own_faults self p ≡ L.own_faults result p }
@@ -48,6 +50,8 @@ impl<L: Links> Links for Leaving<L> {
     ghost tells = { L.tells };
 
     ghost opened = { λ all. L.opened all.links };
+
+    ghost leads = { λ all. L.leads all.links };
 
     ghost taken_at = { λ all port. takes_told (L.taken_at all.links port) };
 

@@ -27,8 +27,9 @@ own_in links port = own_of links.faults links.ports.items port
 abbrev pub objects_in : MemLinks → ℕ → ℕ
 objects_in links port = objects_of links.faults links.ports.items port
 
--- the clock is, and how often it was paused
-pub record SameClock (old new : MemLinks) : Type 0 where
+-- where links lead, the clock, and how often it was paused
+pub record SameRest (old new : MemLinks) : Type 0 where
+  pub leads : new.leads ≡ old.leads
   pub moment : new.clock.moment ≡ old.clock.moment
   pub pauses : new.pauses ≡ old.pauses
 
@@ -40,7 +41,7 @@ pub record Stores {K L : Type 0} (kept : MemLinks → ℕ → K) (beside : MemLi
   pub same_opened : Same opened_in old new
   pub same_own : Same own_in old new
   pub same_objects : Same objects_in old new
-  pub same_clock : SameClock old new
+  pub same_rest : SameRest old new
 
 -- so many more faults of the port came
 pub record Counts (port : ℕ) (more : Faults) (old new : MemLinks) : Type 0 where
@@ -49,4 +50,4 @@ pub record Counts (port : ℕ) (more : Faults) (old new : MemLinks) : Type 0 whe
   pub same_opened : Same opened_in old new
   pub same_taken : Same taken_in old new
   pub same_given : Same given_in old new
-  pub same_clock : SameClock old new
+  pub same_rest : SameRest old new

@@ -1,9 +1,10 @@
 -- What links in memory hold (profile): of a port the first entry that is its own, and that entry's counts.
-use Rattle.std.specs.Prelude.{ℕ, Bool, true, false, List, [], ◌∷◌, Option, Some, None, cond, nat_eq}
+use Rattle.std.specs.Prelude.{ℕ, Bool, true, false, List, [], ◌∷◌, Option, Some, None, cond, map, nat_eq}
 use Rattle.std.specs.Option.{option_map_or}
 use Rattle.link_spec.specs.Links.{Takes}
 use Rattle.rtt_io.specs.declared.faults.Faults.{Faults}
 use Rattle.rtt_io.specs.Counts.{counted}
+use Rattle.link_io.specs.declared.mem_ports.MemLead.{MemLead}
 use Rattle.link_io.specs.declared.mem_ports.MemPort.{MemPort}
 use Rattle.link_io.specs.Told.{takes_told}
 
@@ -36,6 +37,10 @@ object_count entry = option_map_or (λ (e : MemPort). e.faults.objects) entry 0
 -- a link was opened at the port
 abbrev pub opened_of : List MemPort → ℕ → Bool
 opened_of entries port = is_there (entry_of entries port)
+
+-- the links that were opened, each with its port and its peer
+abbrev pub leads_of : List MemLead → List (ℕ × List ℕ)
+leads_of leads = map (λ (l : MemLead). (l.port, l.to)) leads
 
 -- what came at the port
 abbrev pub takes_of : List MemPort → ℕ → Takes

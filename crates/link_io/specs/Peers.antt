@@ -1,12 +1,22 @@
 -- Which peers a link over UDP may have (profile).
-use Rattle.std.specs.Prelude.{◌≡◌}
+use Rattle.std.specs.Prelude.{◌≡◌, ℕ, List, [], ◌∷◌, take}
+use Rattle.std.specs.declared.net.ip_addr.IpAddr.{IpAddr}
 use Rattle.std.specs.declared.net.socket_addr.SocketAddr.{SocketAddr}
-use Rattle.std.specs.Net.Addr.{MatchIp, IsLoopbackV4, IsLoopbackV6}
-use Rattle.std.specs.Net.Socket.{socket_ip, socket_port}
+use Rattle.std.specs.declared.net.socket_addr.SocketAddr.TheVariants.{V4, V6}
+use Rattle.std.specs.Net.Addr.{MatchIp, IsLoopbackV4, IsLoopbackV6, ipv4_octets, ipv6_segments}
+use Rattle.std.specs.Net.Socket.{socket_ip, socket_port, v4_ip, v6_ip}
 
--- the address is one of this machine's own: 127.0.0.0/8 or ::1
+-- the IP address is one of this machine's own: 127.0.0.0/8 or ::1
+abbrev pub IsLocalIp : IpAddr → Type 0
+IsLocalIp ip = MatchIp ip IsLoopbackV4 IsLoopbackV6
+
+-- the address is one of this machine's own
 abbrev pub IsLocal : SocketAddr → Type 0
-IsLocal a = MatchIp (socket_ip a) IsLoopbackV4 IsLoopbackV6
+IsLocal a = IsLocalIp (socket_ip a)
+
+pub IsLocal-prop : (a : SocketAddr) → ((xs ys : List ℕ) → IsProp (xs ≡ ys)) → IsProp (IsLocal a)
+IsLocal-prop (V4 a) equal = equal (take 1 (ipv4_octets (v4_ip a))) (127 ∷ [])
+IsLocal-prop (V6 a) equal = equal (ipv6_segments (v6_ip a)) (0 ∷ 0 ∷ 0 ∷ 0 ∷ 0 ∷ 0 ∷ 0 ∷ 1 ∷ [])
 
 -- two addresses and ports are the same
 abbrev pub IsSamePeer : SocketAddr → SocketAddr → Type 0

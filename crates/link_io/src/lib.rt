@@ -17,7 +17,7 @@ pub use links::Links;
 pub use mem_ins::{MemIn, Planned, Told};
 pub use mem_links::{FailingLink, MemLinks};
 pub use mem_outs::MemOut;
-pub use peers::peer_of;
+pub use peers::{Peer, peer_of};
 pub use real_ends::{RealIn, RealOut};
 pub use real_links::RealLinks;
 

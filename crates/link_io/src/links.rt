@@ -1,5 +1,5 @@
 //! What links are opened in, with its clock.
-ghost use Rattle.std.specs.Prelude.{◌≡◌, ℕ, ◌<◌, ◌≤◌, ◌^◌, Bool, true, false, List, [], OnOk, OnErr, IfOk};
+ghost use Rattle.std.specs.Prelude.{◌≡◌, ℕ, ◌<◌, ◌≤◌, ◌^◌, Bool, true, false, List, [], ◌∷◌, ◌++◌, OnOk, OnErr, IfOk};
 ghost use Rattle.rtt_io.specs.Counts.{Rose, counted};
 ghost use Rattle.link_spec.specs.Links.{Takes};
 ghost use Rattle.link_io.specs.Ports.{Same, SameBut, Replaces, StayOpened, NoneFalls, CountsMore, CountsNoOther};
@@ -19,6 +19,9 @@ pub trait Links {
 
     /// A link was opened at this port.
     ghost opened: { Self → ℕ → Bool };
+
+    /// The links that were opened, oldest first: of each its port, and the peer that it leads to.
+    ghost leads: { Self → List (ℕ × List ℕ) };
 
     /// What the takes of the inbound end gave that was handed back last of this port, newest first.
     ghost taken_at: { Self → ℕ → Takes };
@@ -54,6 +57,8 @@ pub trait Links {
 
         ensures told { tells → OnOk result (Self.In.tells × Self.Out.tells) }
         ensures opens { tells → OnOk result (opened self.new port ≡ true) }
+        ensures leads_there { tells → OnOk result (leads self.new ≡ leads self.old ++ (port, to.now) ∷ []) }
+        ensures leads_nowhere { tells → OnErr result (leads self.new ≡ leads self.old) }
         ensures stay_opened { tells → StayOpened opened self.old self.new }
         ensures same_taken { tells → Same taken_at self.old self.new }
         ensures same_given { tells → Same given_at self.old self.new };
@@ -71,7 +76,8 @@ pub trait Links {
         ensures stored { tells → Replaces opened taken_at (Self.In.port link) (Self.In.taken link) self.old self.new }
         ensures other_taken { tells → SameBut (Self.In.port link) taken_at self.old self.new }
         ensures same_given { tells → Same given_at self.old self.new }
-        ensures same_opened { tells → Same opened self.old self.new };
+        ensures same_opened { tells → Same opened self.old self.new }
+        ensures same_leads { tells → leads self.new ≡ leads self.old };
 
     /// Takes back an outbound end, stores what it was given under its port, and adds its faults to those of its port.
     fn done_out(&mut self, link: Self::Out)
@@ -86,7 +92,8 @@ pub trait Links {
         ensures stored { tells → Replaces opened given_at (Self.Out.port link) (Self.Out.given link) self.old self.new }
         ensures other_given { tells → SameBut (Self.Out.port link) given_at self.old self.new }
         ensures same_taken { tells → Same taken_at self.old self.new }
-        ensures same_opened { tells → Same opened self.old self.new };
+        ensures same_opened { tells → Same opened self.old self.new }
+        ensures same_leads { tells → leads self.new ≡ leads self.old };
 
     /// The moment of its clock. It never falls.
     fn now(&mut self) -> u64
@@ -98,6 +105,7 @@ pub trait Links {
         ensures same_objects { Same object_faults self.old self.new }
 
         ensures same_opened { tells → Same opened self.old self.new }
+        ensures same_leads { tells → leads self.new ≡ leads self.old }
         ensures same_taken { tells → Same taken_at self.old self.new }
         ensures same_given { tells → Same given_at self.old self.new };
 
@@ -110,6 +118,7 @@ pub trait Links {
 
         ensures reached { tells → until < 2 ^ 47 → until ≤ moment self.new }
         ensures same_opened { tells → Same opened self.old self.new }
+        ensures same_leads { tells → leads self.new ≡ leads self.old }
         ensures same_taken { tells → Same taken_at self.old self.new }
         ensures same_given { tells → Same given_at self.old self.new };
 }

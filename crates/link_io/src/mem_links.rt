@@ -1,14 +1,15 @@
 //! Links in memory.
-ghost use Rattle.std.specs.Prelude.{◌≡◌, ◌<◌, ◌^◌, ℕ, true, false, [], OnOk, OnErr, IfOk, IfSome};
+ghost use Rattle.std.specs.Prelude.{◌≡◌, ◌<◌, ◌^◌, ℕ, true, false, [], ◌∷◌, ◌++◌, OnOk, OnErr, IfOk, IfSome};
 ghost use Rattle.link_io.specs.Alike.{SameLinks};
 ghost use Rattle.link_io.specs.Ports.{Same, StayOpened};
 ghost use Rattle.link_io.specs.Told.{takes_told};
+ghost use Rattle.link_io.specs.MemPorts.{leads_of};
 ghost use Rattle.link_io.specs.Held.{opened_in, taken_in, given_in, own_in, objects_in, Stores, Counts};
 
 use crate::clocks::StillClock;
-use crate::mem_ports::{MemPort, place};
+use crate::mem_ports::{MemLead, MemPort, place};
 use crate::{Links, MemIn, MemOut, Planned, Told};
-use rtt_base::{Bytes, Failed, NoMemory};
+use rtt_base::{Bytes, Failed, NoMemory, Path};
 use rtt_io::{FailingCalls, Faults};
 use std::alloc::Global;
 
@@ -38,6 +39,7 @@ struct Coming {
 pub struct MemLinks {
     alloc: Global,
     ports: Vec<MemPort>,
+    leads: Vec<MemLead>,
     coming: Vec<Coming>,
     failing: Vec<FailingLink>,
     clock: StillClock,
@@ -50,11 +52,13 @@ impl Links for MemLinks {
 
     type Out = MemOut;
 
-    ghost use Rattle.link_io.specs.MemPorts.{opened_of, takes_of, given_of, own_of, objects_of};
+    ghost use Rattle.link_io.specs.MemPorts.{opened_of, leads_of, takes_of, given_of, own_of, objects_of};
 
     ghost tells = { Unit {0} };
 
     ghost opened = { λ links. opened_of links.ports.items };
+
+    ghost leads = { λ links. leads_of links.leads.items };
 
     ghost taken_at = { λ links. takes_of links.ports.items };
 
@@ -68,9 +72,9 @@ impl Links for MemLinks {
 
     ghost pauses = { λ links. links.pauses };
 
-    fn link(&mut self, port: u16, _to: &str) -> Result<(MemIn, MemOut), Failed> {
+    fn link(&mut self, port: u16, to: &str) -> Result<(MemIn, MemOut), Failed> {
         if let Some(ends) = self.ends(port) {
-            if self.open(port).is_ok() {
+            if self.open(port).is_ok() && self.lead(port, to).is_ok() {
                 return Ok(ends);
             }
         }
@@ -102,6 +106,7 @@ impl MemLinks {
     /// Links that are quiet for good, where no call is to fail, at moment 0. It takes no memory.
     pub fn new(alloc: Global) -> MemLinks
         ensures none { (p : ℕ) → ⟦<MemLinks as Links>⟧.taken_at result p ≡ [] }
+        ensures none_opened { ⟦<MemLinks as Links>⟧.leads result ≡ [] }
         ensures none_given { (p : ℕ) → ⟦<MemLinks as Links>⟧.given_at result p ≡ [] }
         ensures fresh { (p : ℕ) → ⟦<MemLinks as Links>⟧.own_faults result p ≡ 0 }
         ensures fresh_objects { (p : ℕ) → ⟦<MemLinks as Links>⟧.object_faults result p ≡ 0 }
@@ -110,6 +115,7 @@ impl MemLinks {
         MemLinks {
             alloc,
             ports: Vec::new(alloc),
+            leads: Vec::new(alloc),
             coming: Vec::new(alloc),
             failing: Vec::new(alloc),
             clock: StillClock::new(),
@@ -215,6 +221,7 @@ impl MemLinks {
         ensures same_given { Same given_in self.old self.new }
         ensures same_own { Same own_in self.old self.new }
         ensures same_objects { Same objects_in self.old self.new }
+        ensures same_leads { self.new.leads ≡ self.old.leads }
         ensures same_clock { self.new.clock ≡ self.old.clock }
         ensures same_pauses { self.new.pauses ≡ self.old.pauses }
     {
@@ -228,6 +235,20 @@ impl MemLinks {
             faults: Faults::none(),
         };
         self.ports.push(entry)?;
+        Ok(())
+    }
+
+    // Keeps to whom the link of a port leads.
+    fn lead(&mut self, port: u16, to: &str) -> Result<(), NoMemory>
+        ensures ok { OnOk result (leads_of self.new.leads.items ≡ leads_of self.old.leads.items ++ (port, to.now) ∷ []) }
+        ensures err { OnErr result (self.new.leads.items ≡ self.old.leads.items) }
+        ensures same_ports { self.new.ports ≡ self.old.ports }
+        ensures same_faults { self.new.faults ≡ self.old.faults }
+        ensures same_clock { self.new.clock ≡ self.old.clock }
+        ensures same_pauses { self.new.pauses ≡ self.old.pauses }
+    {
+        let to = Path::from_text(self.alloc, to)?;
+        self.leads.push(MemLead { port, to })?;
         Ok(())
     }
 

@@ -3,7 +3,7 @@ ghost use Rattle.std.specs.Prelude.{◌≡◌, position};
 ghost use Rattle.link_io.specs.MemPorts.{is_of};
 
 use crate::Told;
-use rtt_base::Bytes;
+use rtt_base::{Bytes, Path};
 use rtt_io::Faults;
 
 /// A port at which a link was opened: what is stored under it, with the faults of that port.
@@ -14,6 +14,13 @@ pub struct MemPort {
     pub taken: Vec<Told>,
     pub given: Vec<Bytes>,
     pub faults: Faults,
+}
+
+/// A link that was opened at a port, to a peer.
+#[derive(Debug, Drop)]
+pub struct MemLead {
+    pub port: u16,
+    pub to: Path,
 }
 
 /// The place of the first entry of this port.

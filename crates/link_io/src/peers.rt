@@ -1,36 +1,57 @@
 //! Which peers a link over UDP may have, and who is heard on it.
 ghost use Rattle.std.specs.Prelude.{◌≡◌, ◌≢◌, ◌↔◌, IsTrue, IfSome};
+ghost use Rattle.std.proofs.Props.{props};
+ghost use Rattle.std.specs.Net.Grammar.{IsSocketText};
 ghost use Rattle.std.specs.Net.Socket.{socket_port};
-ghost use Rattle.link_io.specs.Peers.{IsLocal, IsSamePeer};
+ghost use Rattle.link_io.specs.Peers.{IsLocal, IsLocal-prop, IsLocalIp, IsSamePeer};
 
 use std::net::{IpAddr, Ipv4Addr, Ipv6Addr, SocketAddr};
+
+/// An address of this machine's own and a port, to which a link over UDP may lead. `peer_of` alone makes one.
+#[derive(Clone, Copy)]
+pub struct Peer {
+    address: SocketAddr,
+    ghost local: { IsLocal address } by { IsLocal-prop address (λ xs ys. Prim.hlevel props) },
+    ghost port: { socket_port address ≢ 0 },
+}
+
+impl Peer {
+    /// Its address and port.
+    pub(crate) fn address(&self) -> SocketAddr
+        ensures is { result ≡ self.now.address }
+        ensures local { IsLocal result }
+    {
+        self.address
+    }
+}
 
 /// The peer that an OUT names: an IP address of this machine's own, which is 127.0.0.0/8 or ::1, a colon and a port, with
 /// the brackets of an IPv6 address. None where it is anything else: a name, an address of another machine, one with a
 /// scope, port 0.
-pub fn peer_of(to: &str) -> Option<SocketAddr>
-    ensures local { IfSome result IsLocal }
-    ensures port { IfSome result (λ peer. socket_port peer ≢ 0) }
+pub fn peer_of(to: &str) -> Option<Peer>
+    ensures named { IfSome result (λ peer. IsSocketText to.now peer.address) }
 {
-    let peer = to.parse::<SocketAddr>().ok()?;
-    let plain = SocketAddr::new(peer.ip(), peer.port());
-    if plain == peer && peer.ip().is_loopback() && peer.port() != 0 {
-        return Some(peer);
+    let address = to.parse::<SocketAddr>().ok()?;
+    let plain = SocketAddr::new(address.ip(), address.port());
+    if plain == address && address.ip().is_loopback() && address.port() != 0 {
+        return Some(Peer { address });
     }
     None
 }
 
 /// This machine's own address, of the kind of a peer's.
-pub(crate) fn own_address(peer: SocketAddr) -> IpAddr {
-    match peer {
+pub(crate) fn own_address(peer: Peer) -> IpAddr
+    ensures { IsLocalIp result }
+{
+    match peer.address {
         SocketAddr::V4(_) => IpAddr::V4(Ipv4Addr::LOCALHOST),
         SocketAddr::V6(_) => IpAddr::V6(Ipv6Addr::LOCALHOST),
     }
 }
 
 /// A datagram from here is the peer's.
-pub(crate) fn is_from(peer: SocketAddr, from: SocketAddr) -> bool
-    ensures { IsTrue result ↔ IsSamePeer from peer }
+pub(crate) fn is_from(peer: Peer, from: SocketAddr) -> bool
+    ensures { IsTrue result ↔ IsSamePeer from peer.address }
 {
-    from.ip() == peer.ip() && from.port() == peer.port()
+    from.ip() == peer.address.ip() && from.port() == peer.address.port()
 }

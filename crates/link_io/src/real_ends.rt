@@ -4,12 +4,12 @@ ghost use Rattle.link_io.specs.Taking.{closes};
 ghost use Rattle.link_io.specs.Receiving.{IsOpenStill};
 
 use crate::clocks::millis_since;
-use crate::peers::is_from;
+use crate::peers::{Peer, is_from};
 use crate::{Came, LinkIn, LinkOut, Taken};
 use rtt_base::{Failed, Packet};
 use std::io;
 use std::io::ErrorKind;
-use std::net::{SocketAddr, UdpSocket};
+use std::net::UdpSocket;
 use std::time::{Clock, Duration};
 
 /// How long a `take` that may wait does so, in milliseconds.
@@ -64,7 +64,7 @@ pub struct RealIn<C> {
     socket: UdpSocket,
     // how long the socket waits now, in milliseconds; 0 where it does not wait
     patience: u64,
-    peer: SocketAddr,
+    peer: Peer,
     pub(crate) port: u16,
     moment: u64,
     pub(crate) faults: u64,
@@ -104,13 +104,7 @@ impl<C: Clock> LinkIn for RealIn<C> {
 
 impl<C: Clock> RealIn<C> {
     /// The inbound end of a socket that waits as long as a `take` may. Moments are counted from this one of the clock.
-    pub(crate) fn new(
-        clock: C,
-        start: u64,
-        socket: UdpSocket,
-        peer: SocketAddr,
-        port: u16,
-    ) -> RealIn<C>
+    pub(crate) fn new(clock: C, start: u64, socket: UdpSocket, peer: Peer, port: u16) -> RealIn<C>
         ensures at { result.port ≡ port }
         ensures fresh { result.faults ≡ 0 }
     {

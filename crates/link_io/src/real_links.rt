@@ -1,9 +1,10 @@
 //! Links over UDP.
 ghost use Rattle.std.specs.Prelude.{◌≡◌, ◌<◌, ◌≤◌, ◌^◌, ℕ, IfSome};
+ghost use Rattle.link_io.specs.Peers.{IsLocal};
 
 use crate::Links;
 use crate::clocks::millis_since;
-use crate::peers::{own_address, peer_of};
+use crate::peers::{Peer, own_address, peer_of};
 use crate::real_ends::{PATIENCE, RealIn, RealOut};
 use rtt_base::Failed;
 use std::net::{Net, SocketAddr, UdpSocket};
@@ -42,6 +43,20 @@ impl<R: Net + Clock + Copy + Send> RealLinks<R> {
     }
 }
 
+/// A socket at an address of this machine. It leads nowhere yet, and whoever sends to it is heard.
+pub(crate) fn socket_at<R: Net>(rt: &R, here: SocketAddr) -> Option<UdpSocket>
+    requires { IsLocal here }
+{
+    UdpSocket::bind(rt, here).ok()
+}
+
+/// From here on the socket leads to this address, and the system keeps from it what others send.
+pub(crate) fn lead_to(socket: &UdpSocket, to: SocketAddr) -> Option<()>
+    requires { IsLocal to }
+{
+    socket.connect(to).ok()
+}
+
 impl<R: Net + Clock + Copy> RealLinks<R> {
     // The two ends of a link from this port to an address, where it is a peer's and the system opens them.
     fn open(&self, port: u16, to: &str) -> Option<(RealIn<R>, RealOut)>
@@ -50,8 +65,21 @@ impl<R: Net + Clock + Copy> RealLinks<R> {
     {
         let peer = peer_of(to)?;
         let here = SocketAddr::new(own_address(peer), port);
-        let socket = UdpSocket::bind(&self.rt, here).ok()?;
-        socket.connect(peer).ok()?;
+        let socket = socket_at(&self.rt, here)?;
+        lead_to(&socket, peer.address())?;
+        self.ends_over(socket, peer, port)
+    }
+
+    /// The two ends of a link by the socket at this port, which leads to this peer.
+    pub(crate) fn ends_over(
+        &self,
+        socket: UdpSocket,
+        peer: Peer,
+        port: u16,
+    ) -> Option<(RealIn<R>, RealOut)>
+        ensures ports { IfSome result (λ ends. (ends.0.port ≡ port) × (ends.1.port ≡ port)) }
+        ensures fresh { IfSome result (λ ends. (ends.0.faults ≡ 0) × (ends.1.faults ≡ 0)) }
+    {
         let patience = Duration::from_millis(PATIENCE);
         socket.set_read_timeout(Some(patience)).ok()?;
         socket
@@ -86,6 +114,8 @@ impl<R: Net + Clock + Copy + Send> Links for RealLinks<R> {
     ghost tells = { ⊥ };
 
     ghost opened = { λ _ _. false };
+
+    ghost leads = { λ _. [] };
 
     ghost taken_at = { λ _ _. [] };
 

@@ -1,3 +1,5 @@
+use crate::peers::own_address;
+use crate::real_links::{lead_to, socket_at};
 use crate::{
     Came, FailingLink, LinkIn, LinkOut, Links, MemIn, MemLinks, Planned, RealIn, RealLinks,
     RealOut, peer_of,
@@ -244,6 +246,39 @@ fn a_stranger_is_not_heard_and_holds_nobody_up(rt: HostRuntime) -> Result<(), Fa
     send_many(&stranger, port, 1)?;
     assert!(rt; hears(&mut inbound, b"one"));
     assert!(rt; is_quiet(&mut inbound));
+    Ok(())
+}
+
+// A datagram is sent from a stranger to a link's port before the socket there leads to its peer, and one of the peer behind it.
+// The link hears the peer's alone.
+fn hears_the_peer_alone<R: Net + Clock + Copy + Send>(rt: R, alloc: Global) -> Result<bool, Fail> {
+    let peer = socket(&rt)?;
+    let stranger = socket(&rt)?;
+    let to = format!(in alloc; "{}", peer.local_addr()?)?;
+    let Some(known) = peer_of(to.as_str()) else {
+        return Ok(false);
+    };
+    let port = free_port(&rt)?;
+    let here = SocketAddr::new(own_address(known), port);
+    let Some(bound) = socket_at(&rt, here) else {
+        return Ok(false);
+    };
+    stranger.send_to(b"strange", ("127.0.0.1", port))?;
+    peer.send_to(b"one", ("127.0.0.1", port))?;
+    let Some(()) = lead_to(&bound, known.address()) else {
+        return Ok(false);
+    };
+    let Some((mut inbound, _outbound)) = RealLinks::new(rt).ends_over(bound, known, port) else {
+        return Ok(false);
+    };
+    Ok(hears(&mut inbound, b"one") && is_quiet(&mut inbound))
+}
+
+#[test]
+fn what_a_stranger_sent_before_the_link_led_to_its_peer_is_not_heard(
+    rt: HostRuntime,
+) -> Result<(), Fail> {
+    assert!(rt; hears_the_peer_alone(&rt, rt.alloc())?);
     Ok(())
 }
 

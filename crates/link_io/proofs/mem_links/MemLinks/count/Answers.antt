@@ -8,8 +8,8 @@ use Rattle.link_io.proofs.mem_links.MemLinks.count.Goals as goal
 pub returns-in-Some : goal.returns-in-Some
 returns-in-Some c =
     let change = written c.args.self.now.ports.items c.args.port c.in-Some.at c.index_mut-entry.result.now _ (c.in-Some.ensures ∙ ap (position (is_of c.args.port)) c.as_slice.ensures.value) c.index_mut-entry.ensures.value refl in
-    counts_of_one c.args.more change refl refl c.and-entry.ensures.own c.and-entry.ensures.objects refl (record { moment = refl; pauses = refl })
+    counts_of_one c.args.more change refl refl c.and-entry.ensures.own c.and-entry.ensures.objects refl (record { leads = refl; moment = refl; pauses = refl })
 
 pub returns-in-None : goal.returns-in-None
 returns-in-None c =
-    counts_of_all c.args.more (unplaced c.args.self.now.ports.items c.args.port (c.in-None.ensures ∙ ap (position (is_of c.args.port)) c.as_slice.ensures.value)) refl c.and-self.ensures.own c.and-self.ensures.objects (record { moment = refl; pauses = refl })
+    counts_of_all c.args.more (unplaced c.args.self.now.ports.items c.args.port (c.in-None.ensures ∙ ap (position (is_of c.args.port)) c.as_slice.ensures.value)) refl c.and-self.ensures.own c.and-self.ensures.objects (record { leads = refl; moment = refl; pauses = refl })

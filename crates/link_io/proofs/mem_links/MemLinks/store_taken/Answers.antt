@@ -8,7 +8,7 @@ use Rattle.link_io.proofs.mem_links.MemLinks.store_taken.Goals as goal
 
 pub returns-in-Some : goal.returns-in-Some
 returns-in-Some c =
-    stores takes_in given_in (written c.args.self.now.ports.items c.args.port c.in-Some.at c.index_mut-entry.result.now _ (c.in-Some.ensures ∙ ap (position (is_of c.args.port)) c.as_slice.ensures.value) c.index_mut-entry.ensures.value refl) refl refl refl (record { moment = refl; pauses = refl })
+    stores takes_in given_in (written c.args.self.now.ports.items c.args.port c.in-Some.at c.index_mut-entry.result.now _ (c.in-Some.ensures ∙ ap (position (is_of c.args.port)) c.as_slice.ensures.value) c.index_mut-entry.ensures.value refl) refl refl refl (record { leads = refl; moment = refl; pauses = refl })
 
 pub returns-in_default : goal.returns-in_default
 returns-in_default c =
