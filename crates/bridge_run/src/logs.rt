@@ -57,6 +57,8 @@ impl Outbound for Log {
 
     ghost took = { λ log s pts posts. HasSent s pts log posts };
 
+    ghost halted = { λ log s pts posts now post. Unit {0} };
+
     ghost sources = { λ log. sources_in log };
 
     ghost addresses = { λ log. [] };

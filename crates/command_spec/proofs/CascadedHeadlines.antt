@@ -4,7 +4,6 @@ use Rattle.std.specs.Prelude.{All, map, not, ◌&&◌, ◌==◌}
 use Rattle.std.specs.List.{AllZip, concat}
 use Rattle.std.proofs.lemmas.Bool.{true≢false, eq-eqb, eqb-true, and_parts}
 use Rattle.std.proofs.lemmas.List.Elements.{All-nil, All-cons, All-head, All-tail}
-use Rattle.std.proofs.lemmas.List.Folds.{concat-append}
 use Rattle.rtt_base.specs.declared.text_packets.Pts.{Pts}
 use Rattle.wire_spec.specs.Packets.{Arrival}
 use Rattle.wire_spec.specs.Dump.{arrivals_after, dump}
@@ -22,17 +21,21 @@ use Rattle.file_spec.specs.Lines as lines
 use Rattle.mixer_spec.specs.Setups.{leg_at, setup, ssrc_of}
 use Rattle.mixer_spec.specs.Table.{Table}
 use Rattle.mixer_spec.specs.Plain.{plain}
-use Rattle.mixer_spec.specs.Bridged.{input_limit, leg_arrivals, leg_chunks}
+use Rattle.mixer_spec.specs.Arrives.{IsPlan}
+use Rattle.mixer_spec.specs.Bridged.{IsPair, input_limit, leg_arrivals, leg_chunks}
+use Rattle.mixer_spec.proofs.Conferences.{accepted_law, plan_law}
 use Rattle.cascade_spec.specs.Splitting.{came_of, chunks_of}
 use Rattle.cascade_spec.specs.Laws.{IsStream, mixed_in, split_of}
 use Rattle.cascade_spec.proofs.Lively.{recordings_mixed}
 use Rattle.command_spec.specs.Work.{Contents, Made, Steps, Reads}
 use Rattle.command_spec.specs.Outcomes.{AllStored, Done, outcome_from}
 use Rattle.command_spec.specs.Mixing.{input_at, makes, outs, views}
-use Rattle.command_spec.specs.Bridges.{Bridge}
+use Rattle.command_spec.specs.Bridges.{Bridge, IsHeard, setup_of}
 use Rattle.command_spec.specs.Cascading.{cascades, cascades_read, has_other_types, is_on_trunk, mixes_over, mixes_splits, odd_line, reads_others, trunk_limit, trunk_of, unless_faulty, unless_leg_faulty, unless_odd}
 use Rattle.command_spec.specs.Cascaded.{CascadesAreBridged, IsCascaded, IsHeardBehind, IsTextOf, heard_of}
+use Rattle.command_spec.proofs.BehindMixers.{headline_all_behind, headline_behind}
 use Rattle.command_spec.proofs.Headlines.{seen}
+use Rattle.command_spec.proofs.Regrouped.{groups_say}
 use Rattle.command_spec.proofs.Reached.{done_parts, found}
 use Rattle.command_spec.proofs.Ssrcs.{ssrcs_fit}
 use Rattle.command_spec.proofs.TrunkSizes.{input_fits}
@@ -125,23 +128,19 @@ types_are leg on same =
     let each = and_parts (leg.pts.t140 == usual_types.t140) (leg.pts.red == usual_types.red) both in
     same_types leg.pts usual_types (eqb-true leg.pts.t140 usual_types.t140 each.0) (eqb-true leg.pts.red usual_types.red each.1)
 
--- groups of texts have the octets of these
-groups_say : (es ts : List (List ℕ)) → Groups es ts [] → concat es ≡ concat ts
-groups_say [] ts g = ap concat (sym g)
-groups_say (e ∷ es) ts g =
-    ap (λ (x : List ℕ). x ++ concat es) g.3
-    ∙ (ap (λ (x : List ℕ). concat g.0 ++ x) (groups_say es g.1 g.5)
-    ∙ (sym (concat-append g.0 g.1) ∙ ap concat (sym g.2)))
-
 behind_of : (held : Contents) (ssrc : ℕ) (octets : List ℕ) (b : Bridge) (i : ℕ) (leg : LegLine)
     → AllZip (IsTextOf held (split_of (trunk_of b.conference ssrc) octets)) b.conference.legs b.inputs → All (λ (l : LegLine). l.ssrc < 2 ^ 32) b.conference.legs
     → leg_at b.conference.legs i ≡ Some leg → is_on_trunk leg ≡ true → has_other_types leg ≡ false
-    → length (split_of (trunk_of b.conference ssrc) octets leg.ssrc) ≤ input_limit b.conference → IsHeardBehind (trunk_of b.conference ssrc) octets b i leg.ssrc
-behind_of held ssrc octets b i leg lie fit at on same few = record {
+    → length (split_of (trunk_of b.conference ssrc) octets leg.ssrc) ≤ input_limit b.conference
+    → IsPlan b.conference.plan → ((j : ℕ) → IsPair (setup_of b) j i → IsHeard b j i)
+    → IsHeardBehind (trunk_of b.conference ssrc) octets b i leg.ssrc
+behind_of held ssrc octets b i leg lie fit at on same few plan heard_at = record {
   same = is_same;
   kept_of = λ h law come.
       groups_say (heard_of b i) (map (λ c. c.text) (chunks_of b.conference.wait past leg.ssrc)) is_same
       ∙ ap concat (chunk_texts b.conference.wait 0 (still past) leg.ssrc ∙ l1 b.conference.wait (still_history h) (lawful_still h law) (still past) (come_still h past come) leg.ssrc);
+  headline = λ j pair h law come. headline_behind (trunk_of b.conference ssrc) octets b j i leg.ssrc (heard_at j pair) plan (λ k. is_recorded) h law come;
+  headline_all = λ stay j pair h law come. headline_all_behind (trunk_of b.conference ssrc) octets b j i leg.ssrc (heard_at j pair) plan (λ k. is_recorded) stay h law come;
 }
   where
     past : List Arrival
@@ -163,6 +162,9 @@ behind_of held ssrc octets b i leg lie fit at on same few = record {
     is_same : Groups (heard_of b i) (map (λ c. c.text) (chunks_of b.conference.wait (came_of (trunk_of b.conference ssrc) octets) leg.ssrc)) []
     is_same = subst (λ ts. Groups ts (map (λ c. c.text) (chunks_of b.conference.wait (came_of (trunk_of b.conference ssrc) octets) leg.ssrc)) []) (sym heard_is)
         (recordings_mixed (trunk_of b.conference ssrc) octets leg.ssrc is_stream (input_limit b.conference) b.conference.wait few)
+
+    is_recorded : Groups (heard_of b i) (heard b.conference.wait (still past) leg.ssrc) []
+    is_recorded = subst (λ ts. Groups (heard_of b i) ts []) (chunk_texts b.conference.wait 0 (still past) leg.ssrc) is_same
 
 -- ---- the whole
 by_bool : (P : Bool → Type 0) (b : Bool) → (b ≡ true → P true) → (b ≡ false → P false) → P b
@@ -192,12 +194,14 @@ cascaded held after conference file ssrc printed files e stored =
     over described there c read even octets h none inputs lie whole m (Some table) p e =
         let d = done_parts (views c table) printed (outs c table) files e in
         let b : Bridge = record { conference = c; inputs = inputs; table = table } in
+        let is_seen = seen held after described printed b read p (sym d.0) (subst (λ (fs : List Made). AllStored fs held after) (sym d.1) stored) in
         record {
           bridge = b;
           octets = octets;
           cascaded = record { read = (described, there, read); lies = h; recorded = none; texts_lie = lie; whole = whole; over = p };
-          seen = seen held after described printed b read p (sym d.0) (subst (λ (fs : List Made). AllStored fs held after) (sym d.1) stored);
-          behind = λ i leg at on. behind_of held ssrc octets b i leg lie (ssrcs_fit Files described c read).legs at on (not_odd c.legs i leg even at) (input_fits c ssrc octets leg.ssrc);
+          seen = is_seen;
+          behind = λ i leg at on. behind_of held ssrc octets b i leg lie (ssrcs_fit Files described c read).legs at on (not_odd c.legs i leg even at) (input_fits c ssrc octets leg.ssrc)
+              (plan_law c (accepted_law Files described c read).0) (λ j pair. is_seen.heard j i pair);
         }
 
     behind_mixer : (described : List ℕ) → held conference ≡ Some described → (c : Conf) → conf Files described ≡ Ok c → odd_line c.legs ≡ None

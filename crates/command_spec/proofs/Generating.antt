@@ -266,6 +266,7 @@ conference_is n lines some few plan short = record {
   spacing = record { low = lit≤ tt; high = lit≤ tt };
   wait = lit≤ tt;
   turns = record { low = lit≤ tt; high = lit≤ tt };
+  relabel = λ n e. absurd (cc e);
   mixer = record { seq = lit< tt; differs = legs_are (λ l. l.ssrc ≢ mixer.ssrc) n few (λ i h e. omega (arith, e)) };
   plan = record {
     most = let a = no_longer lines in omega arith;

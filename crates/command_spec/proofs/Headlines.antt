@@ -29,6 +29,8 @@ use Rattle.mixer_spec.proofs.Told.{out_of as told_out}
 use Rattle.mixer_spec.proofs.Bridged.{all_stay_law}
 use Rattle.mixer_spec.proofs.Staying.{shared_law, stay_law}
 use Rattle.stream_spec.proofs.ChunkTexts.{chunk_texts}
+use Rattle.named_spec.proofs.Showing.{end_law as named_law}
+use Rattle.command_spec.proofs.PrintedNames.{names_print}
 use Rattle.command_spec.specs.Work.{Contents, Made}
 use Rattle.command_spec.specs.Outcomes.{Done, outcome, AllStored}
 use Rattle.view_spec.specs.Seen.{Text, fate_at, arrivals_at, counts_at, source_at}
@@ -133,9 +135,13 @@ pair_heard b w j i p = record {
 one_heard : (b : Bridge) → IsWhole b → (j : ℕ) → j < length b.conference.legs → (setup_of b).aware j ≡ false → IsHeardAsOne b j
 one_heard b w j l u =
     let o = other_law b.conference (input_at b.inputs) b.table w.is w.over j u l in
+    let come = o.comes b.conference.plan (plan_law b.conference w.is) in
+    let both = named_law (setup_of b) (leg_chunks b.conference (input_at b.inputs)) b.conference.tick b.conference.turns b.table (names_print b.conference w.is) (mixed_of b w) j u l b.conference.wait (comes_to b j) come in
     record {
       bridged = o;
-      one_hop = o.one_hop b.conference.wait (comes_to b j) (o.comes b.conference.plan (plan_law b.conference w.is));
+      one_hop = o.one_hop b.conference.wait (comes_to b j) come;
+      named = both.0;
+      shown_named = both.1;
       part = part_law b.conference (input_at b.inputs) b.table w.is w.over j;
     }
 

@@ -5,6 +5,7 @@ pub mod Reached
 pub mod Stored
 pub mod SentBack
 pub mod Coming
+pub mod PrintedNames
 pub mod Headlines
 pub mod OneBridge
 mod MixExamples
@@ -22,6 +23,8 @@ mod AttendExamples
 pub mod GroupSizes
 pub mod SplitSizes
 pub mod TrunkSizes
+pub mod Regrouped
+pub mod BehindMixers
 pub mod CascadedHeadlines
 pub mod CascadeOutputs
 mod CascadeExamples

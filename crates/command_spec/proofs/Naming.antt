@@ -257,6 +257,7 @@ named_conference says c keeps =
       spacing = keeps.spacing;
       wait = keeps.wait;
       turns = keeps.turns;
+      relabel = keeps.relabel;
       mixer = record { seq = keeps.mixer.seq; differs = all.differs };
       plan = record {
         most = keeps.plan.most;

@@ -84,7 +84,7 @@ enter_first = refl
 -- Ann types what looks like Bob's label.
 forged :
     seen (once 1001 0 (codes "Hello." ++ break ++ codes "[Bob] I owe you. ")) (dump_written [])
-    ≡ views silent 0 (display (codes "Hello." ∷ codes "[Bob] I owe you. " ∷ []) 0) 3 (display (codes "[Ann] Hello." ∷ codes "(Bob] I owe you. " ∷ []) 0) 3
+    ≡ views silent 0 (display (codes "Hello." ∷ codes "[Bob] I owe you. " ∷ []) 0) 3 (display (codes "[Ann] Hello." ∷ codes "(Bob) I owe you. " ∷ []) 0) 3
 unfolding entry time_or_other stay_or_plan leg_of mixer_of plan_of is_utf8 chars encode_utf8 text_of text_of_short rtp rtp_of_header red headers_at texts_at dump records records_within dump_step opening shown class_of ends_line ends_sentence label label_after
 forged = refl
 

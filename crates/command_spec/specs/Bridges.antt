@@ -21,6 +21,8 @@ use Rattle.mixer_spec.specs.Table.{Table}
 use Rattle.mixer_spec.specs.Arrives.{arrivals}
 use Rattle.mixer_spec.specs.Headline.{Hop, hears, OneHop, Headline, HeadlineAt, all_sent}
 use Rattle.mixer_spec.specs.Bridged.{Bridged, BridgedAsOne, IsConferenceMixed, IsPair, IsSentBy, SharedIsPart, hop_from, hop_to, input_limit, leg_heard, told_by_packets}
+use Rattle.named_spec.specs.Heard.{HearsNamed}
+use Rattle.named_spec.specs.Seen.{ShowsNamed}
 use Rattle.command_spec.specs.Work.{Contents}
 use Rattle.command_spec.specs.Outcomes.{HoldsOfMade}
 use Rattle.command_spec.specs.Mixing.{mixing, sent_to, records_to, input_at}
@@ -129,6 +131,13 @@ pub record IsHeard (b : Bridge) (j i : ℕ) : Type 0 where
 pub record IsHeardAsOne (b : Bridge) (j : ℕ) : Type 0 where
   pub bridged : BridgedAsOne (setup_of b) b.table j (told_to b j)
   pub one_hop : OneHop (onward_from_mixer b j)
+  -- What is heard are stretches of the composer's one text, with a marker between each two. Within each, each character that
+  -- prints stands behind the label of the leg that typed it, up to the next label or marker; and what stands before the first
+  -- label was typed by one leg.
+  pub named : HearsNamed (setup_of b) (b.table.terminals j).asks (onward_from_mixer b j)
+  -- What is shown of it is what is shown of each stretch for itself, with a marker between each two; and of each stretch its labels
+  -- whole, and behind each label, up to the next, what prints of what its leg typed there.
+  pub shown_named : ShowsNamed (setup_of b) (b.table.terminals j).asks (onward_from_mixer b j) named
   -- What it shares of each other leg stands in what is heard of that leg.
   pub part : (i : ℕ) → i < length b.conference.legs → IsAnother i j
       → (h : History) → SharedIsPart (setup_of b) b.table j i (inward b i h) (chunks_of b i)

@@ -1,5 +1,5 @@
 -- The headline of a conference behind another mixer, from what lay in files to what lies there then and is printed (profile).
-use Rattle.std.specs.Prelude.{◌≡◌, ◌<◌, ℕ, true, false, None, Some, Ok, List, [], length, map, All}
+use Rattle.std.specs.Prelude.{◌≡◌, ◌<◌, ℕ, true, false, None, Some, Ok, List, [], ◌++◌, length, map, All}
 use Rattle.std.specs.List.{AllZip, concat}
 use Rattle.wire_spec.specs.Dump.{dump}
 use Rattle.stream_spec.specs.Carries.{Groups}
@@ -10,15 +10,16 @@ use Rattle.stream_spec.specs.Still.{still, still_history}
 use Rattle.file_spec.specs.declared.conf_lines.Form.TheVariants.{Files}
 use Rattle.file_spec.specs.declared.conf_lines.LegLine.{LegLine}
 use Rattle.file_spec.specs.Conf.{conf}
-use Rattle.mixer_spec.specs.Setups.{leg_at, ssrc_of}
-use Rattle.mixer_spec.specs.Bridged.{IsConferenceMixed, IsPair, input_limit}
+use Rattle.mixer_spec.specs.Setups.{AllStay, leg_at, ssrc_of}
+use Rattle.mixer_spec.specs.Headline.{Headline, HeadlineAt, Hop, all_sent, hears}
+use Rattle.mixer_spec.specs.Bridged.{IsConferenceMixed, IsPair, IsPart, before_shared, input_limit, shared_texts}
 use Rattle.mixer_spec.specs.Bridged as mixer
 use Rattle.cascade_spec.specs.Splitting.{Trunk, came_of, chunks_of}
 use Rattle.cascade_spec.specs.Laws.{split_of}
 use Rattle.command_spec.specs.Work.{Contents, Made}
 use Rattle.command_spec.specs.Outcomes.{AllStored, Done, outcome}
 use Rattle.command_spec.specs.Mixing.{input_at}
-use Rattle.command_spec.specs.Bridges.{Bridge, IsHeard, IsHeardAsOne, IsOut, setup_of, views_behind}
+use Rattle.command_spec.specs.Bridges.{Bridge, IsHeard, IsHeardAsOne, IsOut, chunks_of as chunks_in, onward_from, setup_of, views_behind}
 use Rattle.command_spec.specs.Cascading.{cascading, is_on_trunk, trunk_limit, trunk_of}
 
 -- the text of a leg lies in these octets: the split of its SSRC, or what lies in its input
@@ -30,6 +31,21 @@ pub record IsTextOf (held : Contents) (split : ℕ → List ℕ) (leg : LegLine)
 abbrev pub heard_of : Bridge → ℕ → List (List ℕ)
 heard_of b i = heard b.conference.wait (still (mixer.came_of b.conference (input_at b.inputs) i)) (ssrc_of (leg_at b.conference.legs i))
 
+-- the hop to the other mixer's recording, of whose sender the history h was sent, but for keep-alives, where this SSRC is listened to
+abbrev pub to_recording : Trunk → List ℕ → ℕ → History → Hop
+to_recording t octets ssrc h = record { sent = still_history h; wait = t.wait; came = still (came_of t octets); source = ssrc }
+
+-- The texts of the recording, cut where what the terminal j shares of the leg i begins and ends in what is heard of the leg.
+pub record IsCutBehind (b : Bridge) (j i : ℕ) (recorded : List (List ℕ)) : Type 0 where
+  pub part : IsPart (before_shared (setup_of b) b.table j i (chunks_in b i)) (heard_of b i) (shared_texts b.table j i)
+  pub front : List (List ℕ)
+  pub shared : List (List ℕ)
+  pub back : List (List ℕ)
+  pub whole : recorded ≡ front ++ (shared ++ back)
+  pub before : Groups part.before front []
+  pub between : Groups (shared_texts b.table j i) shared []
+  pub behind : Groups part.after back []
+
 -- What is heard of the leg i, of this SSRC, which stands behind another mixer whose recording has these octets. Each text is a group
 -- of whole texts that are heard of the SSRC in the recording: none is lost, and no marker is added.
 pub record IsHeardBehind (t : Trunk) (octets : List ℕ) (b : Bridge) (i ssrc : ℕ) : Type 0 where
@@ -37,6 +53,13 @@ pub record IsHeardBehind (t : Trunk) (octets : List ℕ) (b : Bridge) (i ssrc : 
   -- Where the recording is of a lawful history, that is what is kept of it, whatever was lost before it was recorded.
   pub kept_of : (h : History) → Lawful h → Come h (came_of t octets)
       → concat (heard_of b i) ≡ concat (texts (kept (still_history h) (places t.wait (still_history h) (still (came_of t octets))) ssrc))
+  -- Then the headline holds from the sender of that history to each aware terminal, cut at what the terminal shares of the leg.
+  pub headline : (j : ℕ) → IsPair (setup_of b) j i → (h : History) → Lawful h → Come h (came_of t octets)
+      → (cut : IsCutBehind b j i (hears (to_recording t octets ssrc h)))
+      × HeadlineAt (to_recording t octets ssrc h) (onward_from b j i) cut.front [] cut.back
+  -- Where nobody comes later or goes, it leaves nothing out.
+  pub headline_all : AllStay (setup_of b) → (j : ℕ) → IsPair (setup_of b) j i → (h : History) → Lawful h → Come h (came_of t octets)
+      → Headline (to_recording t octets ssrc h) (onward_from b j i) (all_sent (to_recording t octets ssrc h))
 
 -- What lies in the outputs of a mixed conference then, what is printed of it, and what its terminals hear.
 pub record IsSeen (after : Contents) (printed : List ℕ) (b : Bridge) : Type 0 where

@@ -5,7 +5,7 @@ use Rattle.std.specs.Str.{byte}
 use Rattle.wire_spec.specs.Packets.{has_text}
 use Rattle.stream_spec.specs.Ready.{Chunk, chunks}
 use Rattle.text_spec.specs.declared.classes.CharClass.{CharClass}
-use Rattle.text_spec.specs.declared.classes.CharClass.TheVariants.{Erase, Bell, NewLine, Silent, Print}
+use Rattle.text_spec.specs.declared.classes.CharClass.TheVariants.{Erase, Bell, NewLine, Silent, Marker, Print}
 use Rattle.text_spec.specs.Characters.{class_of}
 use Rattle.text_spec.specs.Shown.{signs}
 use Rattle.view_spec.specs.Views.{printed_line}
@@ -20,6 +20,7 @@ escaped_as Erase c = codes "\\b"
 escaped_as Bell c = codes "\\a"
 escaped_as NewLine c = codes "\\n"
 escaped_as Silent c = []
+escaped_as Marker c = encode_utf8 c
 escaped_as Print c = if c == byte "\\" then codes "\\\\" else encode_utf8 c
 
 abbrev pub escaped_sign : ℕ → List ℕ

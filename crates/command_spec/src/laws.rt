@@ -56,7 +56,7 @@ pub fn attended_are_one()
 
 /// What comes of a conference of which some legs stand behind another mixer, whose recording is split for them: the conference is
 /// mixed as any is, and what is heard of such a leg, put together, is what is heard of its SSRC in the recording. Where that is of
-/// a lawful history, it is what is kept of the history: so behind both mixers a terminal hears what is kept of what is kept.
+/// a lawful history, it is what is kept of the history, and the headline holds from the sender of that to each aware terminal.
 pub fn cascades_are_bridged()
     ensures { CascadesAreBridged }
 {}
