@@ -15,21 +15,20 @@ use Rattle.ear.specs.Hears.{Gave, GaveFront, GaveReady, GaveSome, GivesChunk, Gi
 use Rattle.rtt_io.specs.Counts.{Rose}
 use Rattle.item_queue.specs.Giving.{GivesMore, items_by}
 use Rattle.link_io.specs.declared.ends.LinkIn as links
-use Rattle.link_io.specs.declared.ends.Came.{Came}
 use Rattle.link_spec.specs.Links.{Takes, is_closed}
 use Rattle.live_spec.specs.Told.{Hearing, all_by, all_told, ready_by, told_by}
 use Rattle.live_leg.specs.declared.items.LegItem.{LegItem}
 use Rattle.live_leg.specs.declared.kinds.ItemKind.{ItemKind}
 use Rattle.live_leg.specs.declared.kinds.ItemKind.TheVariants as kind
 use Rattle.live_leg.specs.declared.states.State.{State}
-use Rattle.live_leg.specs.declared.states.State.TheVariants.{Idle, Giving, Ending, Over}
+use Rattle.live_leg.specs.declared.states.State.TheVariants.{Idle, Giving, Blank, Ending, Over}
 use Rattle.live_leg.specs.declared.legs.LinkLeg.{LinkLeg}
 use Rattle.live_leg.specs.Stories.{ToldAs, hearing_of}
-use Rattle.live_leg.specs.Items.{AreItems, Item, Text, Seen, End, has_fault, is_text, item_with, items_of, items_with, text_in, texts_in}
+use Rattle.live_leg.specs.Items.{AreItems, Item, Text, Seen, Silent, End, has_fault, is_text, item_with, items_of, items_with, text_in, texts_in}
 use Rattle.live_leg.specs.States.{is_ending, is_giving}
 use Rattle.live_leg.specs.Stands.{Counts, GivesOf, GivesThen, IsGivingSome, LegGave, LegStands, Nearly, PhaseAt}
 use Rattle.live_leg.specs.Stepping.{seen_as, unless_blank}
-use Rattle.live_leg.proofs.Texts.{all_texts, counts_same, fault_append, items_append, seen_item, texts_append, texts_same}
+use Rattle.live_leg.proofs.Texts.{all_texts, counts_same, fault_append, items_append, texts_append, texts_same}
 
 -- ---- what is ready
 filter_swap : {X : Type 0} (p q : X → Bool) (xs : List X) → filter p (filter q xs) ≡ filter q (filter p xs)
@@ -68,8 +67,8 @@ none_lively : (c : Chunk) → is_lively_chunk c ≡ false → filter is_lively_c
 none_lively c e = ap (λ b. cond b (c ∷ []) []) e
 
 -- ---- one item more
-with_text : (closing : Bool) (conf : EarConf) (takes : Takes) (items : List Item) (x : Item) → is_text x ≡ true → IsGivingSome closing (hearing_of conf) takes items → IsGivingSome closing (hearing_of conf) takes (items ++ x ∷ [])
-with_text closing conf takes items x e w = record {
+with_text : (closing : Bool) (mark : Item) (conf : EarConf) (takes : Takes) (items : List Item) (x : Item) → is_text x ≡ true → IsGivingSome closing mark (hearing_of conf) takes items → IsGivingSome closing mark (hearing_of conf) takes (items ++ x ∷ [])
+with_text closing mark conf takes items x e w = record {
   last = w.last;
   past = w.past;
   before = w.before;
@@ -79,25 +78,26 @@ with_text closing conf takes items x e w = record {
   are = w.are;
   texts = all_texts w.news x w.texts e;
   closes = w.closes;
+  marks = w.marks;
   open_before = w.open_before;
   closed = w.closed;
 }
 
 -- the answer's mark behind its texts, which are all that is ready
-with_mark : (closing : Bool) (conf : EarConf) (takes : Takes) (items : List Item) (x : Item) → x ≡ (if closing then End else Seen) → texts_in 0 (items ++ x ∷ []) ≡ ready_by (hearing_of conf) takes
-    → IsGivingSome closing (hearing_of conf) takes items → AreItems (hearing_of conf) takes (items ++ x ∷ [])
-with_mark closing conf takes items x m all w =
+with_mark : (closing : Bool) (conf : EarConf) (takes : Takes) (items : List Item) (x : Item) → texts_in 0 (items ++ x ∷ []) ≡ ready_by (hearing_of conf) takes
+    → IsGivingSome closing x (hearing_of conf) takes items → AreItems (hearing_of conf) takes (items ++ x ∷ [])
+with_mark closing conf takes items x all w =
     let h = hearing_of conf in
     subst (λ (ps : Takes). AreItems h ps (items ++ x ∷ [])) (sym w.takes_are) (
       w.before,
       w.news,
-      ap (λ l. l ++ x ∷ []) w.items_are ∙ (append_assoc w.before w.news (x ∷ []) ∙ ap (λ y. w.before ++ (w.news ++ y ∷ [])) (m ∙ ap (λ b. if b then End else Seen) (sym w.closes))),
+      ap (λ l. l ++ x ∷ []) w.items_are ∙ (append_assoc w.before w.news (x ∷ []) ∙ ap (λ y. w.before ++ (w.news ++ y ∷ [])) (sym w.marks)),
       w.are,
       w.texts,
       all ∙ ap (λ (ps : Takes). ready_by h ps) w.takes_are,
     )
 
-closing_by : (conf : EarConf) (takes : Takes) (items : List Item) → IsGivingSome true (hearing_of conf) takes items → is_closed takes ≡ true
+closing_by : (conf : EarConf) (takes : Takes) (items : List Item) → IsGivingSome true End (hearing_of conf) takes items → is_closed takes ≡ true
 closing_by conf takes items w = ap is_closed w.takes_are ∙ ap (λ b. b || is_closed w.past) w.closes
 
 module _ {L : Type 0} (g : links.Ghosts L) where
@@ -113,14 +113,16 @@ module _ {L : Type 0} (g : links.Ghosts L) where
   text_phase : (st : State) (F G : Type 0) (conf : EarConf) (takes : Takes) (items : List Item) (x : Item) (story : Story) (given : List Given) → is_text x ≡ true → is_giving st ≡ true
       → PhaseAt st F conf takes items story → PhaseAt st G conf takes (items ++ x ∷ []) (record story { given = given })
   text_phase Idle F G conf takes items x story given t e p = absurd (true≢false (sym e))
-  text_phase Giving F G conf takes items x story given t e p = with_text false conf takes items x t p
-  text_phase Ending F G conf takes items x story given t e p = (with_text true conf takes items x t p.0, p.1)
+  text_phase Giving F G conf takes items x story given t e p = with_text false Seen conf takes items x t p
+  text_phase Blank F G conf takes items x story given t e p = with_text false Silent conf takes items x t p
+  text_phase Ending F G conf takes items x story given t e p = (with_text true End conf takes items x t p.0, p.1)
   text_phase Over F G conf takes items x story given t e p = absurd (true≢false (sym e))
 
   same_phase : (st : State) (F G : Type 0) (conf : EarConf) (takes : Takes) (items : List Item) (story : Story) (given : List Given) → is_giving st ≡ true
       → PhaseAt st F conf takes items story → PhaseAt st G conf takes items (record story { given = given })
   same_phase Idle F G conf takes items story given e p = absurd (true≢false (sym e))
   same_phase Giving F G conf takes items story given e p = p
+  same_phase Blank F G conf takes items story given e p = p
   same_phase Ending F G conf takes items story given e p = p
   same_phase Over F G conf takes items story given e p = absurd (true≢false (sym e))
 
@@ -190,36 +192,54 @@ module _ {L : Type 0} (g : links.Ghosts L) where
       (subst (λ cs. GaveSome m.ear conf conf.ssrc n.story cs) (sym (append-nil n.heard)) (gives conf conf.ssrc n.story n.heard n.gave))
       (append-nil (text_in 0 x) ∙ none 0) phase
 
-  giving_is : (st : State) (F : Type 0) (conf : EarConf) (takes : Takes) (items : List Item) (story : Story) → is_giving st ≡ true → is_ending st ≡ false → PhaseAt st F conf takes items story → IsGivingSome false (hearing_of conf) takes items
-  giving_is Idle F conf takes items story e d p = absurd (true≢false (sym e))
-  giving_is Giving F conf takes items story e d p = p
-  giving_is Ending F conf takes items story e d p = absurd (true≢false d)
-  giving_is Over F conf takes items story e d p = absurd (true≢false (sym e))
+  giving_is : (st : State) (F : Type 0) (conf : EarConf) (takes : Takes) (items : List Item) (story : Story) (c : Chunk) → is_giving st ≡ true → is_ending st ≡ false → PhaseAt st F conf takes items story
+      → IsGivingSome false (item_with (seen_as st) c) (hearing_of conf) takes items
+  giving_is Idle F conf takes items story c e d p = absurd (true≢false (sym e))
+  giving_is Giving F conf takes items story c e d p = p
+  giving_is Blank F conf takes items story c e d p = p
+  giving_is Ending F conf takes items story c e d p = absurd (true≢false d)
+  giving_is Over F conf takes items story c e d p = absurd (true≢false (sym e))
 
   ending_is : (st : State) (F : Type 0) (conf : EarConf) (takes : Takes) (items : List Item) (story : Story) → is_ending st ≡ true → PhaseAt st F conf takes items story
-      → IsGivingSome true (hearing_of conf) takes items × (ready_chunks conf conf.ssrc story ≡ story_chunks conf conf.ssrc story)
+      → IsGivingSome true End (hearing_of conf) takes items × (ready_chunks conf conf.ssrc story ≡ story_chunks conf conf.ssrc story)
   ending_is Idle F conf takes items story e p = absurd (true≢false (sym e))
   ending_is Giving F conf takes items story e p = absurd (true≢false (sym e))
+  ending_is Blank F conf takes items story e p = absurd (true≢false (sym e))
   ending_is Ending F conf takes items story e p = p
   ending_is Over F conf takes items story e p = absurd (true≢false (sym e))
 
-  pub gives_seen : (l m : LinkLeg L) → is_giving l.state ≡ true → is_ending l.state ≡ false → m.state ≡ Idle → m.link ≡ l.link → conf_of m.ear ≡ conf_of l.ear
-      → GivesNone l.ear m.ear → GaveReady l.ear → GaveFront m.ear → GivesOf g l m (Seen ∷ [])
-  gives_seen l m giving not_ending state link conf_is gives ready front first items n =
-      let conf = conf_of first.ear in
-      let F = Rose (g.faults first.link) (g.faults m.link) in
-      let w = giving_is l.state _ conf n.takes items n.story giving not_ending n.phase in
-      let all : texts_in 0 (items ++ Seen ∷ []) ≡ ready_by (hearing_of conf) n.takes = texts_same 0 items Seen refl
-      ∙ (n.texts ∙ (ap (λ cs. filter is_lively_chunk cs) (ready conf conf.ssrc n.story n.heard n.gave) ∙ ready_open conf n.takes n.story w.closed n.told)) in
-      marked l m Seen (λ leg. refl) refl link conf_is gives front first items n
-      (λ given. subst (λ (st : State). PhaseAt st F conf n.takes (items ++ Seen ∷ []) (record n.story { given = given })) (sym state)
-      (record { open_still = w.closed; are = with_mark false conf n.takes items Seen refl all w }))
+  no_text : (st : State) (c : Chunk) (leg : ℕ) → text_in leg (item_with (seen_as st) c) ≡ []
+  no_text Idle c leg = refl
+  no_text Giving c leg = refl
+  no_text Blank c leg = refl
+  no_text Ending c leg = refl
+  no_text Over c leg = refl
 
-  -- the same, as it is said where this came last
-  pub gives_said : (l m : LinkLeg L) (c : Chunk) (last : Came) (said : ItemKind) → said ≡ seen_as last → is_giving l.state ≡ true → is_ending l.state ≡ false → m.state ≡ Idle → m.link ≡ l.link → conf_of m.ear ≡ conf_of l.ear
+  no_fault : (st : State) (c : Chunk) → has_fault (item_with (seen_as st) c ∷ []) ≡ false
+  no_fault Idle c = refl
+  no_fault Giving c = refl
+  no_fault Blank c = refl
+  no_fault Ending c = refl
+  no_fault Over c = refl
+
+  -- that all was given, as it is said there
+  gives_seen : (l m : LinkLeg L) (c : Chunk) → is_giving l.state ≡ true → is_ending l.state ≡ false → m.state ≡ Idle → m.link ≡ l.link → conf_of m.ear ≡ conf_of l.ear
+      → GivesNone l.ear m.ear → GaveReady l.ear → GaveFront m.ear → GivesOf g l m (item_with (seen_as l.state) c ∷ [])
+  gives_seen l m c giving not_ending state link conf_is gives ready front first items n =
+      let conf = conf_of first.ear in
+      let x = item_with (seen_as l.state) c in
+      let F = Rose (g.faults first.link) (g.faults m.link) in
+      let w = giving_is l.state _ conf n.takes items n.story c giving not_ending n.phase in
+      let all : texts_in 0 (items ++ x ∷ []) ≡ ready_by (hearing_of conf) n.takes = texts_same 0 items x (no_text l.state c 0)
+      ∙ (n.texts ∙ (ap (λ cs. filter is_lively_chunk cs) (ready conf conf.ssrc n.story n.heard n.gave) ∙ ready_open conf n.takes n.story w.closed n.told)) in
+      marked l m x (no_text l.state c) (no_fault l.state c) link conf_is gives front first items n
+      (λ given. subst (λ (st : State). PhaseAt st F conf n.takes (items ++ x ∷ []) (record n.story { given = given })) (sym state)
+      (record { open_still = w.closed; are = with_mark false conf n.takes items x all w }))
+
+  pub gives_said : (l m : LinkLeg L) (c : Chunk) (said : ItemKind) → said ≡ seen_as l.state → is_giving l.state ≡ true → is_ending l.state ≡ false → m.state ≡ Idle → m.link ≡ l.link → conf_of m.ear ≡ conf_of l.ear
       → GivesNone l.ear m.ear → GaveReady l.ear → GaveFront m.ear → GivesOf g l m (items_with (Some said) c)
-  gives_said l m c last said is giving open_still state link conf_is gives ready front first items n =
-      subst (λ (x : Item). LegStands g first m (items ++ x ∷ [])) (sym (ap (λ k. item_with k c) is ∙ seen_item last c)) (gives_seen l m giving open_still state link conf_is gives ready front first items n)
+  gives_said l m c said is giving open_still state link conf_is gives ready front first items n =
+      subst (λ (k : ItemKind). LegStands g first m (items ++ item_with k c ∷ [])) (sym is) (gives_seen l m c giving open_still state link conf_is gives ready front first items n)
 
   pub gives_end : (l m : LinkLeg L) → is_ending l.state ≡ true → m.state ≡ Over → m.link ≡ l.link → conf_of m.ear ≡ conf_of l.ear
       → GivesNone l.ear m.ear → GaveReady l.ear → GaveFront m.ear → GivesOf g l m (End ∷ [])
@@ -231,7 +251,7 @@ module _ {L : Type 0} (g : links.Ghosts L) where
       ∙ (n.texts ∙ (ap (λ cs. filter is_lively_chunk cs) (ready conf conf.ssrc n.story n.heard n.gave ∙ w.1) ∙ ready_closed conf n.takes n.story w.0.closed n.told)) in
       marked l m End (λ leg. refl) refl link conf_is gives front first items n
       (λ given. subst (λ (st : State). PhaseAt st F conf n.takes (items ++ End ∷ []) (record n.story { given = given })) (sym state)
-      (inl (record { closed = closing_by conf n.takes items w.0; some = record { last = w.0.last; past = w.0.past; takes_are = w.0.takes_are; closes = w.0.closes; open_before = w.0.open_before }; are = with_mark true conf n.takes items End refl all w.0 })))
+      (inl (record { closed = closing_by conf n.takes items w.0; some = record { last = w.0.last; past = w.0.past; takes_are = w.0.takes_are; closes = w.0.closes; open_before = w.0.open_before }; are = with_mark true conf n.takes items End all w.0 })))
 
   -- ---- as items that are used again
   pub gave_with : (l m : LinkLeg L) (given : Option ItemKind) (some : Bool) (x : LegItem) → some ≡ is_some given → x.kind ≡ unwrap_or given kind.Seen

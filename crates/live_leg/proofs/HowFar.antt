@@ -4,7 +4,7 @@ use Rattle.link_io.specs.declared.ends.Came.{Came}
 use Rattle.link_io.specs.declared.ends.Came.TheVariants as came
 use Rattle.link_io.specs.Taking.{closes}
 use Rattle.live_leg.specs.declared.states.State.{State}
-use Rattle.live_leg.specs.declared.states.State.TheVariants.{Idle, Giving, Ending, Over}
+use Rattle.live_leg.specs.declared.states.State.TheVariants.{Idle, Giving, Blank, Ending, Over}
 use Rattle.live_leg.specs.States.{is_ending, is_giving, is_going}
 use Rattle.live_leg.specs.Stepping.{state_after}
 
@@ -14,6 +14,7 @@ giving_not_idle st g i = true≢false (sym g ∙ ap is_giving i)
 pub still_going : (st : State) → is_giving st ≡ true → is_ending st ≡ false → is_going st ≡ true
 still_going Idle g e = refl
 still_going Giving g e = refl
+still_going Blank g e = refl
 still_going Ending g e = absurd (true≢false e)
 still_going Over g e = absurd (true≢false (sym g))
 

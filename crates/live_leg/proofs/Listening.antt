@@ -19,7 +19,7 @@ use Rattle.live_leg.specs.declared.states.State.{State}
 use Rattle.live_leg.specs.declared.states.State.TheVariants.{Idle, Over}
 use Rattle.live_leg.specs.declared.legs.LinkLeg.{LinkLeg}
 use Rattle.live_leg.specs.Stories.{after_came, after_taken, hearing_of}
-use Rattle.live_leg.specs.Items.{Item, has_fault, is_fault, text_in}
+use Rattle.live_leg.specs.Items.{Item, has_fault, is_fault, mark_of, text_in}
 use Rattle.live_leg.specs.Stepping.{state_after}
 use Rattle.live_leg.specs.Stands.{Counts, GivesThen, IsGivingSome, IsIdle, IsStop, Listens, PhaseAt}
 use Rattle.live_leg.proofs.Telling.{closed_by, closing_is, told_more}
@@ -47,7 +47,7 @@ module _ {L : Type 0} (g : links.Ghosts L) where
       → PhaseAt (state_after c) F conf (record { at = t; came = came_of c octets } ∷ takes) items (after_came conf story t c octets)
   begins F conf takes items story t c octets i all = go c all (some c)
     where
-      some : (c : Came) → IsGivingSome (closes c) (hearing_of conf) (record { at = t; came = came_of c octets } ∷ takes) items
+      some : (c : Came) → IsGivingSome (closes c) (mark_of (came_of c octets)) (hearing_of conf) (record { at = t; came = came_of c octets } ∷ takes) items
       some c = record {
         last = record { at = t; came = came_of c octets };
         past = takes;
@@ -58,12 +58,13 @@ module _ {L : Type 0} (g : links.Ghosts L) where
         are = i.are;
         texts = tt;
         closes = closing_is c octets;
+        marks = refl;
         open_before = i.open_still;
         closed = closed_by conf takes t c octets i.open_still;
       }
 
       go : (c : Came) → (closes c ≡ true → ready_chunks conf conf.ssrc (ended story) ≡ story_chunks conf conf.ssrc story)
-          → IsGivingSome (closes c) (hearing_of conf) (record { at = t; came = came_of c octets } ∷ takes) items
+          → IsGivingSome (closes c) (mark_of (came_of c octets)) (hearing_of conf) (record { at = t; came = came_of c octets } ∷ takes) items
           → PhaseAt (state_after c) F conf (record { at = t; came = came_of c octets } ∷ takes) items (after_came conf story t c octets)
       go came.Datagram all w = w
       go came.Large all w = w

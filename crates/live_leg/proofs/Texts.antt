@@ -7,13 +7,13 @@ use Rattle.wire_spec.specs.Packets.{has_text}
 use Rattle.stream_spec.specs.Ready.{Chunk}
 use Rattle.live_leg.specs.declared.kinds.ItemKind.{ItemKind}
 use Rattle.live_leg.specs.declared.items.LegItem.{LegItem}
-use Rattle.link_io.specs.declared.ends.Came.{Came}
-use Rattle.link_io.specs.declared.ends.Came.TheVariants as came
+use Rattle.live_leg.specs.declared.states.State.{State}
+use Rattle.live_leg.specs.declared.states.State.TheVariants.{Idle, Giving, Blank, Ending, Over}
 use Rattle.live_leg.specs.Stepping.{seen_as}
 use Rattle.rtt_io.specs.Counts.{Rose}
 use Rattle.live_leg.specs.Stands.{Counts}
 use Rattle.live_leg.specs.Texts.{HasText}
-use Rattle.live_leg.specs.Items.{AreTexts, Item, Seen, has_fault, is_fault, is_text, item_of, item_with, items_of, text_in, texts_in}
+use Rattle.live_leg.specs.Items.{AreTexts, Item, has_fault, is_fault, is_text, item_of, items_of, text_in, texts_in}
 
 pub texts_append : (leg : ℕ) (xs ys : List Item) → texts_in leg (xs ++ ys) ≡ texts_in leg xs ++ texts_in leg ys
 texts_append leg [] ys = refl
@@ -35,18 +35,13 @@ pub some_text : (given : Option ItemKind) (c : Chunk) → has_text c.text ≡ tr
 some_text None c h u = tt
 some_text (Some kind) c h u = λ _. (h, u)
 
--- that all was given is no text, whatever came last
-pub seen_item : (last : Came) (c : Chunk) → item_with (seen_as last) c ≡ Seen
-seen_item came.Datagram c = refl
-seen_item came.Large c = refl
-seen_item came.Quiet c = refl
-seen_item came.Closed c = refl
-
-pub seen_text : (last : Came) (c : Chunk) → HasText (seen_as last) c
-seen_text came.Datagram c = λ e. absurd (cc e)
-seen_text came.Large c = λ e. absurd (cc e)
-seen_text came.Quiet c = λ e. absurd (cc e)
-seen_text came.Closed c = λ e. absurd (cc e)
+-- that all was given is no text
+pub seen_text : (state : State) (c : Chunk) → HasText (seen_as state) c
+seen_text Idle c = λ e. absurd (cc e)
+seen_text Giving c = λ e. absurd (cc e)
+seen_text Blank c = λ e. absurd (cc e)
+seen_text Ending c = λ e. absurd (cc e)
+seen_text Over c = λ e. absurd (cc e)
 
 pub items_append : (xs ys : List LegItem) → items_of (xs ++ ys) ≡ items_of xs ++ items_of ys
 items_append [] ys = refl

@@ -1,18 +1,20 @@
 -- What a leg over a link gives, by what the takes of its link gave (profile).
-use Rattle.std.specs.Prelude.{◌≡◌, ℕ, suc, Bool, true, false, Option, None, Some, List, [], ◌∷◌, ◌++◌, map, if◌then◌else◌}
+use Rattle.std.specs.Prelude.{◌≡◌, ℕ, ◌+◌, Bool, true, false, Option, None, Some, List, [], ◌∷◌, ◌++◌, map, if◌then◌else◌}
 use Rattle.std.specs.List.{list_any}
 use Rattle.stream_spec.specs.Ready.{Chunk, chunk, chunk_of}
-use Rattle.link_spec.specs.Links.{Came, Takes, is_closing}
+use Rattle.link_spec.specs.Links.{Came, Datagram, Large, Quiet, Closed, Takes}
 use Rattle.live_spec.specs.Told.{Hearing, ready_by}
 use Rattle.live_leg.specs.declared.items.LegItem.{LegItem}
 use Rattle.live_leg.specs.declared.kinds.ItemKind.{ItemKind}
 use Rattle.live_leg.specs.declared.kinds.ItemKind.TheVariants as kind
 
--- A text that is heard, with the moment from which it may be mixed; that all which is ready by then was given; that the link is
--- closed and all was given; that the leg was told to stop; that the link failed.
+-- A text that is heard, with the moment from which it may be mixed; that all which is ready by then was given; the same, and that
+-- the link had nothing when it was asked last; that the link is closed and all was given; that the leg was told to stop; that the
+-- link failed.
 pub data Item : Type 0 where
   Text : ℕ → List ℕ → Item
   Seen : Item
+  Silent : Item
   End : Item
   Quit : Item
   Fault : Item
@@ -21,7 +23,7 @@ pub data Item : Type 0 where
 abbrev pub item_with : ItemKind → Chunk → Item
 item_with kind.Text c = Text c.ready c.text
 item_with kind.Seen c = Seen
-item_with kind.Silent c = Seen
+item_with kind.Silent c = Silent
 item_with kind.End c = End
 item_with kind.Quit c = Quit
 item_with kind.Fault c = Fault
@@ -46,14 +48,19 @@ abbrev pub texts_in : ℕ → List Item → List Chunk
 texts_in leg [] = []
 texts_in leg (x ∷ xs) = text_in leg x ++ texts_in leg xs
 
-abbrev pub is_seen : Item → Bool
-is_seen Seen = true
-is_seen _ = false
+-- it says that all was given
+abbrev pub is_mark : Item → Bool
+is_mark (Text ready octets) = false
+is_mark Seen = true
+is_mark Silent = true
+is_mark End = true
+is_mark Quit = false
+is_mark Fault = false
 
--- how often it said that all was given
-abbrev pub seen_in : List Item → ℕ
-seen_in [] = 0
-seen_in (x ∷ xs) = if is_seen x then suc (seen_in xs) else seen_in xs
+-- how often it said so: once for each take
+abbrev pub marks_in : List Item → ℕ
+marks_in [] = 0
+marks_in (x ∷ xs) = (if is_mark x then 1 else 0) + marks_in xs
 
 abbrev pub is_fault : Item → Bool
 is_fault Fault = true
@@ -74,7 +81,10 @@ AreTexts (x ∷ xs) = (is_text x ≡ true) × AreTexts xs
 
 -- what it says behind the texts that are ready by what came
 abbrev pub mark_of : Came → Item
-mark_of came = if is_closing came then End else Seen
+mark_of (Datagram octets) = Seen
+mark_of Large = Seen
+mark_of Quiet = Silent
+mark_of Closed = End
 
 -- Take by take, newest first: what it gave before, then texts, and that this was all. The texts are those that are ready by these
 -- takes, but for keep-alives.

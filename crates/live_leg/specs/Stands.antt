@@ -13,16 +13,17 @@ use Rattle.link_spec.specs.Links.{Taken, Takes, is_closed, is_closing}
 use Rattle.live_spec.specs.Told.{Hearing, all_by, told_by}
 use Rattle.live_leg.specs.declared.items.LegItem.{LegItem}
 use Rattle.live_leg.specs.declared.states.State.{State}
-use Rattle.live_leg.specs.declared.states.State.TheVariants.{Idle, Giving, Ending, Over}
+use Rattle.live_leg.specs.declared.states.State.TheVariants.{Idle, Giving, Blank, Ending, Over}
 use Rattle.live_leg.specs.declared.legs.LinkLeg.{LinkLeg}
 use Rattle.live_leg.specs.Stories.{ToldAs, hearing_of}
 use Rattle.live_leg.specs.States.{is_giving}
-use Rattle.live_leg.specs.Items.{AreItems, AreTexts, Item, Text, Seen, End, Quit, Fault, has_fault, items_of, texts_in}
+use Rattle.live_leg.specs.Items.{AreItems, AreTexts, Item, Text, Seen, Silent, End, Quit, Fault, has_fault, items_of, mark_of, texts_in}
 
 -- This is the last item of a leg that was told to stop, or whose link failed.
 abbrev pub IsStop : Item → (Faulted : Type 0) → Type 0
 IsStop (Text ready octets) Faulted = ⊥
 IsStop Seen Faulted = ⊥
+IsStop Silent Faulted = ⊥
 IsStop End Faulted = ⊥
 IsStop Quit Faulted = Unit {0}
 IsStop Fault Faulted = Faulted
@@ -38,8 +39,8 @@ pub record IsIdle (h : Hearing) (takes : Takes) (items : List Item) : Type 0 whe
   pub open_still : (told_by h takes).closed ≡ false
   pub are : AreItems h takes items
 
--- Some of what is ready by the takes was given; the last of them closed the link, or not.
-pub record IsGivingSome (closing : Bool) (h : Hearing) (takes : Takes) (items : List Item) : Type 0 where
+-- Some of what is ready by the takes was given; the last of them closed the link, or not, and has this mark.
+pub record IsGivingSome (closing : Bool) (mark : Item) (h : Hearing) (takes : Takes) (items : List Item) : Type 0 where
   pub last : Taken
   pub past : Takes
   pub before : List Item
@@ -49,6 +50,7 @@ pub record IsGivingSome (closing : Bool) (h : Hearing) (takes : Takes) (items : 
   pub are : AreItems h past before
   pub texts : AreTexts news
   pub closes : is_closing last.came ≡ closing
+  pub marks : mark_of last.came ≡ mark
   pub open_before : (told_by h past).closed ≡ false
   pub closed : (told_by h takes).closed ≡ closing
 
@@ -77,9 +79,10 @@ pub record IsStopped (Faulted : Type 0) (h : Hearing) (takes : Takes) (items : L
 
 abbrev pub PhaseAt : State → (Faulted : Type 0) → EarConf → Takes → List Item → Story → Type 0
 PhaseAt Idle Faulted conf takes items story = IsIdle (hearing_of conf) takes items
-PhaseAt Giving Faulted conf takes items story = IsGivingSome false (hearing_of conf) takes items
+PhaseAt Giving Faulted conf takes items story = IsGivingSome false Seen (hearing_of conf) takes items
+PhaseAt Blank Faulted conf takes items story = IsGivingSome false Silent (hearing_of conf) takes items
 PhaseAt Ending Faulted conf takes items story =
-    IsGivingSome true (hearing_of conf) takes items × (ready_chunks conf conf.ssrc story ≡ story_chunks conf conf.ssrc story)
+    IsGivingSome true End (hearing_of conf) takes items × (ready_chunks conf conf.ssrc story ≡ story_chunks conf conf.ssrc story)
 PhaseAt Over Faulted conf takes items story = IsEnded (hearing_of conf) takes items ⊎ IsStopped Faulted (hearing_of conf) takes items
 
 module _ {L : Type 0} (g : links.Ghosts L) where

@@ -7,22 +7,19 @@ use Rattle.link_io.specs.declared.ends.Came.TheVariants as came
 use Rattle.live_leg.specs.declared.kinds.ItemKind.{ItemKind}
 use Rattle.live_leg.specs.declared.kinds.ItemKind.TheVariants.{Text, Seen, Silent}
 use Rattle.live_leg.specs.declared.states.State.{State}
-use Rattle.live_leg.specs.declared.states.State.TheVariants.{Giving, Ending}
+use Rattle.live_leg.specs.declared.states.State.TheVariants.{Idle, Giving, Blank, Ending, Over}
 
 -- how far it is, of whose link this came
 abbrev pub state_after : Came → State
 state_after came.Datagram = Giving
 state_after came.Large = Giving
-state_after came.Quiet = Giving
+state_after came.Quiet = Blank
 state_after came.Closed = Ending
 
 -- what a text that is heard comes to: a keep-alive is none
 abbrev pub unless_blank : Chunk → Option ItemKind
 unless_blank c = if is_lively_chunk c then Some Text else None
 
--- how it says that all was given, where this came last
-abbrev pub seen_as : Came → ItemKind
-seen_as came.Datagram = Seen
-seen_as came.Large = Seen
-seen_as came.Quiet = Silent
-seen_as came.Closed = Seen
+-- how it says that all was given, where it is so far
+abbrev pub seen_as : State → ItemKind
+seen_as state = elim state [ Blank ↦ Silent | _ ↦ Seen ]

@@ -6,7 +6,6 @@ ghost use Rattle.live_leg.specs.declared.states.State.TheVariants.{Idle};
 
 use crate::states::State;
 use ear::Ear;
-use link_io::Came;
 use rtt_base::Packet;
 use std::alloc::Global;
 use std::sync::Arc;
@@ -22,8 +21,6 @@ pub struct LinkLeg<L> {
     /// Says that the leg is to stop.
     pub(crate) stop: Arc<AtomicBool, Global>,
     pub(crate) state: State,
-    /// What the link gave last.
-    pub(crate) last: Came,
     ghost giving: { ∥ IsGiving ear ∥₁ },
     ghost quiet: { state ≡ Idle → is_quiet ear ≡ true },
     ghost open_still: { is_going state ≡ true → is_finished ear ≡ false },

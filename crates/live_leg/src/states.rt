@@ -12,6 +12,8 @@ pub(crate) enum State {
     Idle,
     /// The link gave something, and what is ready by then is being given.
     Giving,
+    /// The link had nothing, and what is ready by then is being given.
+    Blank,
     /// The link is closed, and what is left is being given.
     Ending,
     /// The last item was given.
@@ -38,6 +40,7 @@ pub(crate) fn state_after(came: Came) -> State
 {
     match came {
         Came::Closed => State::Ending,
+        Came::Quiet => State::Blank,
         _ => State::Giving,
     }
 }

@@ -14,7 +14,7 @@ use crate::kinds::ItemKind;
 use crate::legs::LinkLeg;
 use crate::states::{State, state_after};
 use ear::{Ear, EarConf, is_blank};
-use link_io::{Came, LinkIn};
+use link_io::LinkIn;
 use rtt_base::limits::MOST_ARRIVALS;
 use rtt_base::{Chunk, Failed, Packet};
 use std::alloc::Global;
@@ -31,12 +31,12 @@ fn unless_blank(chunk: &Chunk) -> Option<ItemKind>
     Some(ItemKind::Text)
 }
 
-/// How it is said that all was given which is ready by what the link gave, where this came last.
-fn seen_as(last: Came) -> ItemKind
-    ensures { result ≡ seen_as last }
+/// How it is said that all was given which is ready by what the link gave, where a leg is so far.
+fn seen_as(state: State) -> ItemKind
+    ensures { result ≡ seen_as state }
 {
-    match last {
-        Came::Quiet => ItemKind::Silent,
+    match state {
+        State::Blank => ItemKind::Silent,
         _ => ItemKind::Seen,
     }
 }
@@ -69,7 +69,6 @@ impl<L: LinkIn> LinkLeg<L> {
             packet,
             stop,
             state: State::Idle,
-            last: Came::Quiet,
         })
     }
 
@@ -83,7 +82,6 @@ impl<L: LinkIn> LinkLeg<L> {
             packet: _,
             stop: _,
             state: _,
-            last: _,
         } = self;
         link
     }
@@ -100,7 +98,6 @@ impl<L: LinkIn> LinkLeg<L> {
             Ok(taken) => {
                 hear_taken(&mut self.ear, taken, self.packet.as_slice());
                 self.state = state_after(taken.came);
-                self.last = taken.came;
                 Ok(())
             }
             Err(failed) => {
@@ -125,8 +122,9 @@ impl<L: LinkIn> LinkLeg<L> {
             self.state = State::Over;
             return Some(ItemKind::End);
         }
+        let said = seen_as(self.state);
         self.state = State::Idle;
-        Some(seen_as(self.last))
+        Some(said)
     }
 
     /// Stops.
@@ -176,7 +174,7 @@ impl<L: LinkIn> LinkLeg<L> {
         ensures later { result ≡ None → GetsOn self.old self.new }
     {
         match self.state {
-            State::Giving | State::Ending => self.give(chunk),
+            State::Giving | State::Blank | State::Ending => self.give(chunk),
             State::Idle => self.ask_unless_stopped(may_wait, chunk),
             State::Over => None,
         }

@@ -1,5 +1,5 @@
 -- What a leg offers, step by step.
-use Rattle.std.proofs.Common.{◌≡◌, ℕ, suc, ◌+◌, ◌≤◌, true, false, true≢false, inl, inr, ◌⊎◌, List, [], ◌∷◌, ◌++◌, refl, ap, sym, ◌∙◌, subst, append_assoc, not, arith}
+use Rattle.std.proofs.Common.{◌≡◌, ℕ, suc, ◌+◌, ◌≤◌, ◌<◌, true, false, true≢false, inl, inr, ◌⊎◌, ◌||◌, List, [], ◌∷◌, ◌++◌, refl, ap, sym, ◌∙◌, subst, append_assoc, not, arith}
 use Rattle.std.specs.Prelude.{Bool}
 use Rattle.std.proofs.lemmas.List.{append-nil}
 use Rattle.rtt_base.specs.declared.text_packets.Pts.{Pts}
@@ -7,17 +7,19 @@ use Rattle.stream_spec.specs.Ready.{Chunk, chunk_of}
 use Rattle.mixer_spec.specs.Setups.{Setup}
 use Rattle.mixer_spec.specs.Table.{Call, Offer, after_calls, has_room}
 use Rattle.mix_loop.specs.Mixers.{Keeps, Offers}
-use Rattle.live_leg.specs.Items.{Item, seen_in, text_in}
+use Rattle.live_spec.specs.Live.{most_takes}
+use Rattle.live_leg.specs.Items.{Item, Silent, marks_in, text_in}
 use Rattle.live_loop.specs.declared.ports.LivePort.{LivePort}
-use Rattle.live_loop.specs.Handed.{IsNext, is_blocked_after, is_end, one_free}
-use Rattle.live_loop.specs.Ports.{Advances, AreNext, Blocks, Gathered, GatheredTo, Goes, GoesOn, Grew, IsGathering, OffersTo, OnlyHand, PortAt, PullsMark, PullsNothing, PullsText, Retries, after_offer, so_far, with_offers}
-use Rattle.live_loop.proofs.Enough.{fault_before, fault_behind, one_most}
-use Rattle.live_loop.proofs.Offering.{blocks, less}
+use Rattle.live_loop.specs.Handed.{EndsSilent, HasMarks, IsEnough, IsNext, has_end, is_blocked_after, is_end}
+use Rattle.live_loop.specs.Ports.{Advances, AreNext, Blocks, Gathered, GatheredTo, Goes, GoesOn, Grew, IsGathering, OffersTo, OnlyHand, PortAt, PullsMark, PullsNothing, PullsText, Retries, Silences, after_offer, with_offers}
+use Rattle.live_loop.proofs.Enough.{fault_before, fault_behind, or_none}
+use Rattle.live_loop.proofs.Offering.{as_enough, blocks, less}
 use Rattle.live_loop.proofs.Pulling.{again_is, next_is, offers_again, pulls_mark, pulls_nothing, pulls_text}
 
-at_least : (seen : Bool) (n : ℕ) → n ≤ so_far seen n
-at_least true n = omega arith
-at_least false n = omega arith
+-- whether a turn is blocked or not
+enough_any : (blocked : Bool) (n : ℕ) (items : List Item) → n ≤ marks_in items → ((n < marks_in items) × EndsSilent items) ⊎ ((n + most_takes ≤ marks_in items) ⊎ (has_end items ≡ true)) → IsEnough blocked n items
+enough_any true n items e w = e
+enough_any false n items e w = (e, w)
 
 -- ---- offers one behind the other
 pub offers_append : (more offers : List Chunk) (calls : List Call) → with_offers (more ++ offers) calls ≡ with_offers more (with_offers offers calls)
@@ -34,28 +36,34 @@ next_append s i (c ∷ more) offers calls a b = (
 
 module _ {I M : Type 0} (popped : I → List Item) (stands : M → Setup → (ℕ → Pts) → List Call → Type 0) where
   -- no offer
-  none : (p p' : LivePort I) (m : M) (f : ℕ → ℕ) → ((s : Setup) (calls : List Call) (n : ℕ) → PortAt popped s calls p.leg n p → PortAt popped s calls p.leg (f n) p') → Goes f popped stands p p' m m
+  none : (p p' : LivePort I) (m : M) (f : ℕ → ℕ) → ((s : Setup) (calls : List Call) (n : ℕ) → PortAt popped s calls p.leg (HasMarks n) p → PortAt popped s calls p.leg (HasMarks (f n)) p') → Goes f popped stands p p' m m
   none p p' m f g s pts calls n made a = record { offers = []; next = tt; made = made; port = g s calls n a }
 
-  pub goes_mark : (p p' : LivePort I) (m : M) (f : ℕ → ℕ) (x : Item) (ended failed : Bool) → ((k : ℕ) → text_in k x ≡ []) → ((n : ℕ) → f n ≤ n + seen_in (x ∷ [])) → (ended ≡ true → (p.ended ≡ true) ⊎ (is_end x ≡ true))
+  pub goes_mark : (p p' : LivePort I) (m : M) (f : ℕ → ℕ) (x : Item) (ended failed : Bool) → ((k : ℕ) → text_in k x ≡ []) → ((n : ℕ) → f n ≤ n + marks_in (x ∷ [])) → ended ≡ (p.ended || is_end x)
       → p.full ≡ false → PullsMark popped p p' x ended failed → GoesOn f popped stands p p' m m
-  goes_mark p p' m f x ended failed t more ends empty w = (w.empty, none p p' m f (λ s calls n a. pulls_mark popped s calls p.leg n (f n) p p' x ended failed t (more n) ends empty w a))
+  goes_mark p p' m f x ended failed t more ends empty w = (w.empty, none p p' m f (λ s calls n a. (pulls_mark popped s calls p.leg n (f n) p p' x ended failed t (more n) ends empty w a).0))
+
+  -- the link had nothing
+  pub goes_silent : (p p' : LivePort I) (m : M) → p.full ≡ false → PullsMark popped p p' Silent p.ended p.failed → Silences suc popped stands p p' m m
+  goes_silent p p' m empty w s pts calls n made a =
+      let x = pulls_mark popped s calls p.leg n (suc n) p p' Silent p.ended p.failed (λ k. refl) (omega arith) (sym (or_none p.ended)) empty w a in
+      record { goes = record { offers = []; next = tt; made = made; port = x.0 }; silent = (a.before ++ a.tail, x.1) }
 
   pub goes_nothing : (p p' : LivePort I) (m : M) → p.full ≡ false → PullsNothing popped p p' → GoesOn (λ n. n) popped stands p p' m m
   goes_nothing p p' m empty w = (w.empty, none p p' m (λ n. n) (λ s calls n a. pulls_nothing popped s calls p.leg n p p' empty w a))
 
   -- one offer
   one : (p p' : LivePort I) (m m' : M) (c : Chunk) (taken : Bool) → c.source ≡ p.leg → Offers stands m m' c taken
-      → ((s : Setup) (calls : List Call) (n : ℕ) → PortAt popped s calls p.leg n p → IsNext s c calls)
-      → ((s : Setup) (calls : List Call) (n : ℕ) → taken ≡ has_room s c.source c (after_calls s calls) → PortAt popped s calls p.leg n p → PortAt popped s (Offer c ∷ calls) p.leg n p')
+      → ((s : Setup) (calls : List Call) (n : ℕ) → PortAt popped s calls p.leg (HasMarks n) p → IsNext s c calls)
+      → ((s : Setup) (calls : List Call) (n : ℕ) → taken ≡ has_room s c.source c (after_calls s calls) → PortAt popped s calls p.leg (HasMarks n) p → PortAt popped s (Offer c ∷ calls) p.leg (HasMarks n) p')
       → Goes (λ n. n) popped stands p p' m m'
   one p p' m m' c taken own o next port s pts calls n made a =
       let r = o s pts calls made in
       record { offers = c ∷ []; next = (own, next s calls n a, tt); made = r.0; port = port s calls n r.1 a }
 
   one_blocks : (p p' : LivePort I) (m m' : M) (c : Chunk) → c.source ≡ p.leg → Offers stands m m' c false
-      → ((s : Setup) (calls : List Call) (n : ℕ) → PortAt popped s calls p.leg n p → IsNext s c calls)
-      → ((s : Setup) (calls : List Call) (n : ℕ) → false ≡ has_room s c.source c (after_calls s calls) → PortAt popped s calls p.leg n p → PortAt popped s (Offer c ∷ calls) p.leg n p')
+      → ((s : Setup) (calls : List Call) (n : ℕ) → PortAt popped s calls p.leg (HasMarks n) p → IsNext s c calls)
+      → ((s : Setup) (calls : List Call) (n : ℕ) → false ≡ has_room s c.source c (after_calls s calls) → PortAt popped s calls p.leg (HasMarks n) p → PortAt popped s (Offer c ∷ calls) p.leg (HasMarks n) p')
       → Blocks popped stands p p' m m'
   unfolding one
   one_blocks p p' m m' c own o next port s pts calls n made a = record {
@@ -89,60 +97,87 @@ module _ {I M : Type 0} (popped : I → List Item) (stands : M → Setup → (�
   pub then_goes : (f g : ℕ → ℕ) (p q r : LivePort I) (m m' m'' : M) → q.leg ≡ p.leg → Goes f popped stands p q m m' → Goes g popped stands q r m' m'' → Goes (λ n. g (f n)) popped stands p r m m''
   then_goes f g p q r m m' m'' same a b s pts calls n made at =
       let x = a s pts calls n made at in
-      let y = b s pts (with_offers x.offers calls) (f n) x.made (subst (λ (i : ℕ). PortAt popped s (with_offers x.offers calls) i (f n) q) (sym same) x.port) in
+      let y = b s pts (with_offers x.offers calls) (f n) x.made (subst (λ (i : ℕ). PortAt popped s (with_offers x.offers calls) i (HasMarks (f n)) q) (sym same) x.port) in
       let j = offers_append y.offers x.offers calls in
       record {
         offers = y.offers ++ x.offers;
         next = next_append s p.leg y.offers x.offers calls (subst (λ (i : ℕ). AreNext s i y.offers (with_offers x.offers calls)) same y.next) x.next;
         made = subst (λ (k : List Call). stands m'' s pts k) (sym j) y.made;
-        port = subst (λ (k : List Call). PortAt popped s k p.leg (g (f n)) r) (sym j) (subst (λ (i : ℕ). PortAt popped s (with_offers y.offers (with_offers x.offers calls)) i (g (f n)) r) same y.port);
+        port = subst (λ (k : List Call). PortAt popped s k p.leg (HasMarks (g (f n))) r) (sym j) (subst (λ (i : ℕ). PortAt popped s (with_offers y.offers (with_offers x.offers calls)) i (HasMarks (g (f n))) r) same y.port);
       }
 
   -- ---- before the turn
   fresh_with : (s : Setup) (pts : ℕ → Pts) (calls : List Call) (i n k : ℕ) (p : LivePort I) (m : M) → n ≤ k → (x : OffersTo popped stands s pts calls i k p m)
-      → (p.failed ≡ false → PortAt popped s (with_offers x.offers calls) i (one_free (is_blocked_after s i (with_offers x.offers calls)) + n) p) → GatheredTo popped stands s pts calls i n p m
-  fresh_with s pts calls i n k p m l x f = record { offers = x.offers; next = x.next; made = x.made; port = less popped s (with_offers x.offers calls) i n k p l x.port; fresh = f }
+      → (p.failed ≡ false → IsEnough (is_blocked_after s i (with_offers x.offers calls)) n x.port.before) → GatheredTo popped stands s pts calls i n p m
+  fresh_with s pts calls i n k p m l x f = record {
+    offers = x.offers;
+    next = x.next;
+    made = x.made;
+    port = less popped s (with_offers x.offers calls) i n k p l x.port;
+    fresh = λ well. as_enough popped s (with_offers x.offers calls) i n (HasMarks k) (IsEnough (is_blocked_after s i (with_offers x.offers calls)) n) p x.port (f well);
+  }
 
-  pub gathered_ended : (seen : Bool) (p q : LivePort I) (m m' : M) → q.ended ≡ true → Goes (so_far seen) popped stands p q m m' → (s : Setup) (pts : ℕ → Pts) (calls : List Call) (n : ℕ) → stands m s pts calls → PortAt popped s calls p.leg n p → GatheredTo popped stands s pts calls p.leg n q m'
-  gathered_ended seen p q m m' e a s pts calls n made at =
+  pub gathered_ended : (takes : ℕ) (p q : LivePort I) (m m' : M) → q.ended ≡ true → Goes (λ n. takes + n) popped stands p q m m' → Gathered popped stands p q m m'
+  gathered_ended takes p q m m' e a s pts calls n made at =
       let x = a s pts calls n made at in
       let w = x.port in
-      fresh_with s pts calls p.leg n (so_far seen n) q m' (at_least seen n) x
-      (λ _. record { before = w.before; tail = w.tail; popped_are = w.popped_are; taken = w.taken; in_hand = w.in_hand; hand_is = w.hand_is; ended = w.ended; enough = inr (w.ended e) })
+      fresh_with s pts calls p.leg n (takes + n) q m' (omega arith) x
+      (λ _. enough_any (is_blocked_after s p.leg (with_offers x.offers calls)) n w.before (let k : takes + n ≤ marks_in w.before = w.enough in omega (arith, k)) (inr (inr (sym w.ended ∙ e))))
 
-  pub gathered_failed : (seen : Bool) (p q : LivePort I) (m m' : M) → q.failed ≡ true → Goes (so_far seen) popped stands p q m m' → (s : Setup) (pts : ℕ → Pts) (calls : List Call) (n : ℕ) → stands m s pts calls → PortAt popped s calls p.leg n p → GatheredTo popped stands s pts calls p.leg n q m'
-  gathered_failed seen p q m m' e a s pts calls n made at =
+  pub gathered_failed : (takes : ℕ) (p q : LivePort I) (m m' : M) → q.failed ≡ true → Goes (λ n. takes + n) popped stands p q m m' → Gathered popped stands p q m m'
+  gathered_failed takes p q m m' e a s pts calls n made at =
       let x = a s pts calls n made at in
-      fresh_with s pts calls p.leg n (so_far seen n) q m' (at_least seen n) x (λ f. absurd (true≢false (sym e ∙ f)))
+      fresh_with s pts calls p.leg n (takes + n) q m' (omega arith) x (λ f. absurd (true≢false (sym e ∙ f)))
 
-  pub gathered_seen : (seen : Bool) (p q : LivePort I) (m m' : M) → seen ≡ true → Goes (so_far seen) popped stands p q m m' → (s : Setup) (pts : ℕ → Pts) (calls : List Call) (n : ℕ) → stands m s pts calls → PortAt popped s calls p.leg n p → GatheredTo popped stands s pts calls p.leg n q m'
-  gathered_seen true p q m m' e a s pts calls n made at =
+  -- it was asked so often
+  pub gathered_most : (takes : ℕ) (p q : LivePort I) (m m' : M) → most_takes ≤ takes → Goes (λ n. takes + n) popped stands p q m m' → Gathered popped stands p q m m'
+  gathered_most takes p q m m' most a s pts calls n made at =
       let x = a s pts calls n made at in
-      fresh_with s pts calls p.leg n (suc n) q m' (omega arith) x
-      (λ _. less popped s (with_offers x.offers calls) p.leg (one_free (is_blocked_after s p.leg (with_offers x.offers calls)) + n) (suc n) q (one_most (is_blocked_after s p.leg (with_offers x.offers calls)) n) x.port)
-  gathered_seen false p q m m' e a s pts calls n made at = absurd (true≢false (sym e))
+      let w = x.port in
+      fresh_with s pts calls p.leg n (takes + n) q m' (omega arith) x
+      (λ _. enough_any (is_blocked_after s p.leg (with_offers x.offers calls)) n w.before (let k : takes + n ≤ marks_in w.before = w.enough in omega (arith, k)) (inr (inl (let k : takes + n ≤ marks_in w.before = w.enough in omega (arith, k, most)))))
 
-  pub gathered_blocked : (p q : LivePort I) (m m' : M) → Blocks popped stands p q m m' → (s : Setup) (pts : ℕ → Pts) (calls : List Call) (n : ℕ) → stands m s pts calls → PortAt popped s calls p.leg n p → GatheredTo popped stands s pts calls p.leg n q m'
+  pub gathered_blocked : (p q : LivePort I) (m m' : M) → Blocks popped stands p q m m' → Gathered popped stands p q m m'
   gathered_blocked p q m m' a s pts calls n made at =
       let x = a s pts calls n made at in
       fresh_with s pts calls p.leg n n q m' (omega arith) x.goes
-      (λ _. subst (λ (b : Bool). PortAt popped s (with_offers x.goes.offers calls) p.leg (one_free b + n) q) (sym x.blocked)
-      (less popped s (with_offers x.goes.offers calls) p.leg (0 + n) n q (omega arith) x.goes.port))
+      (λ _. subst (λ (b : Bool). IsEnough b n x.goes.port.before) (sym x.blocked) x.goes.port.enough)
+
+  -- what was so far, and then the link had nothing
+  pub gathered_silent : (takes : ℕ) (p q r : LivePort I) (m m' m'' : M) → q.leg ≡ p.leg → Goes (λ n. takes + n) popped stands p q m m' → Silences suc popped stands q r m' m'' → Gathered popped stands p r m m''
+  gathered_silent takes p q r m m' m'' same a b s pts calls n made at =
+      let x = a s pts calls n made at in
+      let mid = with_offers x.offers calls in
+      let y = b s pts mid (takes + n) x.made (subst (λ (i : ℕ). PortAt popped s mid i (HasMarks (takes + n)) q) (sym same) x.port) in
+      let last = with_offers y.goes.offers mid in
+      let j = offers_append y.goes.offers x.offers calls in
+      let k : suc (takes + n) ≤ marks_in y.goes.port.before = y.goes.port.enough in
+      let fresh : PortAt popped s last q.leg (IsEnough (is_blocked_after s q.leg last) n) r = as_enough popped s last q.leg n (HasMarks (suc (takes + n))) (IsEnough (is_blocked_after s q.leg last) n) r y.goes.port
+      (enough_any (is_blocked_after s q.leg last) n y.goes.port.before (omega (arith, k)) (inl (omega (arith, k), y.silent))) in
+      record {
+        offers = y.goes.offers ++ x.offers;
+        next = next_append s p.leg y.goes.offers x.offers calls (subst (λ (i : ℕ). AreNext s i y.goes.offers mid) same y.goes.next) x.next;
+        made = subst (λ (c : List Call). stands m'' s pts c) (sym j) y.goes.made;
+        port = subst (λ (c : List Call). PortAt popped s c p.leg (HasMarks n) r) (sym j)
+            (subst (λ (i : ℕ). PortAt popped s last i (HasMarks n) r) same (less popped s last q.leg n (suc (takes + n)) r (omega arith) y.goes.port));
+        fresh = λ _. subst (λ (c : List Call). PortAt popped s c p.leg (IsEnough (is_blocked_after s p.leg c) n) r) (sym j)
+            (subst (λ (i : ℕ). PortAt popped s last i (IsEnough (is_blocked_after s i last) n) r) same fresh);
+      }
 
   -- what was so far, and then the last text was not taken
-  pub then_blocks : (seen : Bool) (p q r : LivePort I) (m m' m'' : M) → q.leg ≡ p.leg → Goes (so_far seen) popped stands p q m m' → Blocks popped stands q r m' m'' → Blocks popped stands p r m m''
-  then_blocks seen p q r m m' m'' same a b s pts calls n made at =
+  pub then_blocks : (takes : ℕ) (p q r : LivePort I) (m m' m'' : M) → q.leg ≡ p.leg → Goes (λ n. takes + n) popped stands p q m m' → Blocks popped stands q r m' m'' → Blocks popped stands p r m m''
+  then_blocks takes p q r m m' m'' same a b s pts calls n made at =
       let x = a s pts calls n made at in
-      let y = b s pts (with_offers x.offers calls) (so_far seen n) x.made (subst (λ (i : ℕ). PortAt popped s (with_offers x.offers calls) i (so_far seen n) q) (sym same) x.port) in
+      let y = b s pts (with_offers x.offers calls) (takes + n) x.made (subst (λ (i : ℕ). PortAt popped s (with_offers x.offers calls) i (HasMarks (takes + n)) q) (sym same) x.port) in
       let j = offers_append y.goes.offers x.offers calls in
       record {
         goes = record {
           offers = y.goes.offers ++ x.offers;
           next = next_append s p.leg y.goes.offers x.offers calls (subst (λ (i : ℕ). AreNext s i y.goes.offers (with_offers x.offers calls)) same y.goes.next) x.next;
           made = subst (λ (k : List Call). stands m'' s pts k) (sym j) y.goes.made;
-          port = subst (λ (k : List Call). PortAt popped s k p.leg n r) (sym j)
-              (less popped s (with_offers y.goes.offers (with_offers x.offers calls)) p.leg n (so_far seen n) r (at_least seen n)
-              (subst (λ (i : ℕ). PortAt popped s (with_offers y.goes.offers (with_offers x.offers calls)) i (so_far seen n) r) same y.goes.port));
+          port = subst (λ (k : List Call). PortAt popped s k p.leg (HasMarks n) r) (sym j)
+              (less popped s (with_offers y.goes.offers (with_offers x.offers calls)) p.leg n (takes + n) r (omega arith)
+              (subst (λ (i : ℕ). PortAt popped s (with_offers y.goes.offers (with_offers x.offers calls)) i (HasMarks (takes + n)) r) same y.goes.port));
         };
         blocked = subst (λ (k : List Call). is_blocked_after s p.leg k ≡ true) (sym j) (subst (λ (i : ℕ). is_blocked_after s i (with_offers y.goes.offers (with_offers x.offers calls)) ≡ true) same y.blocked);
       }
@@ -182,34 +217,45 @@ module _ {I : Type 0} (popped : I → List Item) (began : I → I → Type 0) wh
 
 -- ---- the loop
 module _ {I M : Type 0} (popped : I → List Item) (began : I → I → Type 0) (stands : M → Setup → (ℕ → Pts) → List Call → Type 0) (legs turns : M → ℕ) (addresses : M → List ℕ) where
-  pub begins : (p q : LivePort I) (m m' : M) → q.leg ≡ p.leg → Grew popped began p q → Keeps legs turns addresses m m' → GoesOn (λ n. n) popped stands p q m m' → IsGathering popped began stands legs turns addresses false p q m m'
-  begins p q m m' same grew keeps w = record { empty = w.0; same = same; grew = grew; keeps = keeps; goes = w.1 }
+  pub begins : (p q : LivePort I) (m m' : M) → q.leg ≡ p.leg → Grew popped began p q → Keeps legs turns addresses m m' → GoesOn (λ n. n) popped stands p q m m' → IsGathering popped began stands legs turns addresses 0 p q m m'
+  begins p q m m' same grew keeps w = record {
+    empty = w.0;
+    same = same;
+    grew = grew;
+    keeps = keeps;
+    goes = λ s pts calls n made at.
+        let x = w.1 s pts calls n made at in
+        record { offers = x.offers; next = x.next; made = x.made; port = less popped s (with_offers x.offers calls) p.leg (0 + n) n q (omega arith) x.port };
+  }
 
   keeps_then : (m m' m'' : M) → Keeps legs turns addresses m m' → Keeps legs turns addresses m' m'' → Keeps legs turns addresses m m''
   keeps_then m m' m'' a b = record { legs = b.legs ∙ a.legs; turns = b.turns ∙ a.turns; addresses = b.addresses ∙ a.addresses }
 
-  pub goes_still : (seen : Bool) (p q r : LivePort I) (m m' m'' : M) → IsGathering popped began stands legs turns addresses seen p q m m' → r.leg ≡ q.leg → Grew popped began q r → Keeps legs turns addresses m' m''
-      → GoesOn (λ n. n) popped stands q r m' m'' → IsGathering popped began stands legs turns addresses seen p r m m''
-  goes_still seen p q r m m' m'' a same grew keeps w = record {
+  pub goes_still : (takes : ℕ) (p q r : LivePort I) (m m' m'' : M) → IsGathering popped began stands legs turns addresses takes p q m m' → r.leg ≡ q.leg → Grew popped began q r → Keeps legs turns addresses m' m''
+      → GoesOn (λ n. n) popped stands q r m' m'' → IsGathering popped began stands legs turns addresses takes p r m m''
+  goes_still takes p q r m m' m'' a same grew keeps w = record {
     empty = w.0;
     same = same ∙ a.same;
     grew = then_grew popped began p q r a.grew grew;
     keeps = keeps_then m m' m'' a.keeps keeps;
-    goes = then_goes popped stands (so_far seen) (λ n. n) p q r m m' m'' a.same a.goes w.1;
+    goes = then_goes popped stands (λ n. takes + n) (λ n. n) p q r m m' m'' a.same a.goes w.1;
   }
 
-  -- the leg has said that all was given, maybe once more
-  pub goes_seen : (seen : Bool) (p q r : LivePort I) (m m' m'' : M) → IsGathering popped began stands legs turns addresses seen p q m m' → r.leg ≡ q.leg → Grew popped began q r → Keeps legs turns addresses m' m''
-      → GoesOn suc popped stands q r m' m'' → IsGathering popped began stands legs turns addresses true p r m m''
-  goes_seen seen p q r m m' m'' a same grew keeps w = record {
+  -- the leg has said once more that all was given
+  pub goes_seen : (takes : ℕ) (p q r : LivePort I) (m m' m'' : M) → IsGathering popped began stands legs turns addresses takes p q m m' → r.leg ≡ q.leg → Grew popped began q r → Keeps legs turns addresses m' m''
+      → GoesOn suc popped stands q r m' m'' → IsGathering popped began stands legs turns addresses (takes + 1) p r m m''
+  goes_seen takes p q r m m' m'' a same grew keeps w = record {
     empty = w.0;
     same = same ∙ a.same;
     grew = then_grew popped began p q r a.grew grew;
     keeps = keeps_then m m' m'' a.keeps keeps;
     goes = λ s pts calls n made at.
-        let x = then_goes popped stands (so_far seen) suc p q r m m' m'' a.same a.goes w.1 s pts calls n made at in
-        record { offers = x.offers; next = x.next; made = x.made; port = less popped s (with_offers x.offers calls) p.leg (suc n) (suc (so_far seen n)) r (let l = at_least seen n in omega (arith, l)) x.port };
+        let x = then_goes popped stands (λ n. takes + n) suc p q r m m' m'' a.same a.goes w.1 s pts calls n made at in
+        record { offers = x.offers; next = x.next; made = x.made; port = less popped s (with_offers x.offers calls) p.leg (takes + 1 + n) (suc (takes + n)) r (omega arith) x.port };
   }
 
-  pub all_blocked : (seen : Bool) (p q r : LivePort I) (m m' m'' : M) → IsGathering popped began stands legs turns addresses seen p q m m' → Blocks popped stands q r m' m'' → Gathered popped stands p r m m''
-  all_blocked seen p q r m m' m'' a b = gathered_blocked popped stands p r m m'' (then_blocks popped stands seen p q r m m' m'' a.same a.goes b)
+  pub all_silent : (takes : ℕ) (p q r : LivePort I) (m m' m'' : M) → IsGathering popped began stands legs turns addresses takes p q m m' → Silences suc popped stands q r m' m'' → Gathered popped stands p r m m''
+  all_silent takes p q r m m' m'' a b = gathered_silent popped stands takes p q r m m' m'' a.same a.goes b
+
+  pub all_blocked : (takes : ℕ) (p q r : LivePort I) (m m' m'' : M) → IsGathering popped began stands legs turns addresses takes p q m m' → Blocks popped stands q r m' m'' → Gathered popped stands p r m m''
+  all_blocked takes p q r m m' m'' a b = gathered_blocked popped stands p r m m'' (then_blocks popped stands takes p q r m m' m'' a.same a.goes b)

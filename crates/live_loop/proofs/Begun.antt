@@ -1,5 +1,5 @@
 -- A live call before its first turn.
-use Rattle.std.proofs.Common.{◌≡◌, ℕ, true≢false, inl, Some, None, List, [], ◌∷◌, refl, ap, sym, ◌∙◌, arith}
+use Rattle.std.proofs.Common.{◌≡◌, ℕ, Some, None, List, [], ◌∷◌, refl, ap, sym, ◌∙◌, arith}
 use Rattle.std.specs.Prelude.{Bool, if◌then◌else◌}
 use Rattle.rtt_base.specs.declared.text_packets.Pts.{Pts}
 use Rattle.stream_spec.specs.Ready.{chunk_of}
@@ -10,7 +10,7 @@ use Rattle.mixer_spec.specs.Legs.{held}
 use Rattle.mixer_spec.proofs.Legs.{come_taken}
 use Rattle.live_leg.specs.Items.{Item}
 use Rattle.live_loop.specs.declared.ports.LivePort.{LivePort}
-use Rattle.live_loop.specs.Handed.{AreLiveCalls, free_after, hand_after}
+use Rattle.live_loop.specs.Handed.{AreLiveCalls, HasMarks, hand_after}
 use Rattle.live_loop.specs.Ports.{PortAt}
 use Rattle.live_loop.specs.Begun.{AreAdmits, IsUnpopped, MayBegin}
 
@@ -26,9 +26,6 @@ by_admits s P z f (Turn now ∷ past) a = absurd a
 hand_none : (s : Setup) (i : ℕ) (calls : List Call) → AreAdmits s calls → hand_after s i calls ≡ None
 hand_none s i = by_admits s (λ calls. hand_after s i calls ≡ None) refl (λ j l past a h. h)
 
-free_none : (s : Setup) (i : ℕ) (calls : List Call) → AreAdmits s calls → free_after s i calls ≡ 0
-free_none s i = by_admits s (λ calls. free_after s i calls ≡ 0) refl (λ j l past a h. h)
-
 no_turn : (s : Setup) (calls : List Call) → AreAdmits s calls → turns_made calls ≡ 0
 no_turn s = by_admits s (λ calls. turns_made calls ≡ 0) refl (λ j l past a h. h)
 
@@ -36,10 +33,10 @@ none_taken : (s : Setup) (i : ℕ) (calls : List Call) → AreAdmits s calls →
 none_taken s i = by_admits s (λ calls. took s i calls ≡ []) refl
     (λ j l past a h. let t = after_calls s past in ap (λ (taken : ℕ → List Taken). chunks_taken (taken i)) (come_taken j l t (free_place s t.seats)) ∙ h)
 
-live_admits : (s : Setup) (items : ℕ → List Item) (calls : List Call) → AreAdmits s calls → AreLiveCalls s items calls
-live_admits s items = by_admits s (AreLiveCalls s items) tt (λ j l past a h. (a.0, h))
+live_admits : (s : Setup) (items : ℕ → List Item) (calls : List Call) → AreAdmits s calls → AreLiveCalls s items [] calls
+live_admits s items = by_admits s (AreLiveCalls s items []) tt (λ j l past a h. (a.0, h))
 
-port_begun : {I : Type 0} (popped : I → List Item) (s : Setup) (calls : List Call) (i : ℕ) (p : LivePort I) → AreAdmits s calls → IsUnpopped popped p → PortAt popped s calls i (free_after s i calls) p
+port_begun : {I : Type 0} (popped : I → List Item) (s : Setup) (calls : List Call) (i : ℕ) (p : LivePort I) → AreAdmits s calls → IsUnpopped popped p → PortAt popped s calls i (HasMarks 0) p
 port_begun popped s calls i p a u = record {
   before = [];
   tail = [];
@@ -47,13 +44,15 @@ port_begun popped s calls i p a u = record {
   taken = sym (none_taken s i calls a);
   in_hand = ap (λ b. held (if b then Some (chunk_of p.hand) else None)) (sym u.empty);
   hand_is = ap (λ b. if b then Some (chunk_of p.hand) else None) u.empty ∙ sym (hand_none s i calls a);
-  ended = λ e. absurd (true≢false (sym e ∙ u.going));
-  enough = inl (let none = free_none s i calls a in omega (arith, none));
+  ended = u.going;
+  goes_on = refl;
+  enough = omega arith;
 }
 
 pub may_begin : {I M : Type 0} (popped : I → List Item) (stands : M → Setup → (ℕ → Pts) → List Call → Type 0) → MayBegin popped stands
 may_begin popped stands s pts calls ps m made a seated u = record {
   calls = calls;
+  counts = [];
   made = made;
   live = λ items _. live_admits s items calls a;
   turned = no_turn s calls a;

@@ -1,52 +1,51 @@
 -- What was said in items.
-use Rattle.std.proofs.Common.{◌≡◌, ◌≤◌, ℕ, suc, ◌+◌, true, false, true≢false, inl, inr, List, [], ◌∷◌, ◌++◌, ◌||◌, refl, ap, sym, ◌∙◌, arith}
-use Rattle.std.specs.Prelude.{Bool, if◌then◌else◌}
-use Rattle.live_leg.specs.Items.{Item, has_fault, is_seen, seen_in}
+use Rattle.std.proofs.Common.{◌≡◌, ◌≤◌, ℕ, ◌+◌, true, false, List, [], ◌∷◌, ◌++◌, ◌||◌, refl, ap, sym, ◌∙◌, arith}
+use Rattle.std.specs.Prelude.{Bool}
+use Rattle.live_leg.specs.Items.{Item, has_fault, marks_in}
 use Rattle.live_leg.proofs.Texts.{fault_append}
-use Rattle.live_loop.specs.Handed.{IsEnough, has_end, is_end, one_free}
+use Rattle.live_loop.specs.Handed.{HasMarks, IsEnough, has_end, is_end}
 
-pub seen_append : (xs ys : List Item) → seen_in (xs ++ ys) ≡ seen_in xs + seen_in ys
-seen_append [] ys = omega arith
-seen_append (x ∷ xs) ys = go (is_seen x) (seen_append xs ys)
+pub marks_append : (xs ys : List Item) → marks_in (xs ++ ys) ≡ marks_in xs + marks_in ys
+marks_append [] ys = omega arith
+marks_append (x ∷ xs) ys = let r = marks_append xs ys in omega (arith, r)
+
+pub or_none : (b : Bool) → (b || false) ≡ b
+or_none true = refl
+or_none false = refl
+
+pub or_some : (b : Bool) → (b || true) ≡ true
+or_some true = refl
+or_some false = refl
+
+pub end_both : (xs ys : List Item) → has_end (xs ++ ys) ≡ (has_end xs || has_end ys)
+end_both [] ys = refl
+end_both (x ∷ xs) ys = ap (λ b. is_end x || b) (end_both xs ys) ∙ go (is_end x)
   where
-    go : (b : Bool) → seen_in (xs ++ ys) ≡ seen_in xs + seen_in ys → (if b then suc (seen_in (xs ++ ys)) else seen_in (xs ++ ys)) ≡ (if b then suc (seen_in xs) else seen_in xs) + seen_in ys
-    go true e = omega (arith, e)
-    go false e = e
+    go : (b : Bool) → (b || (has_end xs || has_end ys)) ≡ ((b || has_end xs) || has_end ys)
+    go true = refl
+    go false = refl
+
+-- behind these the end is not
+pub end_none : (xs ys : List Item) → has_end ys ≡ false → has_end (xs ++ ys) ≡ has_end xs
+end_none xs ys e = end_both xs ys ∙ (ap (λ b. has_end xs || b) e ∙ or_none (has_end xs))
 
 pub end_append : (xs ys : List Item) → has_end xs ≡ true → has_end (xs ++ ys) ≡ true
-end_append [] ys e = absurd (true≢false (sym e))
-end_append (x ∷ xs) ys e = go (is_end x) e (end_append xs ys)
-  where
-    go : (b : Bool) → (b || has_end xs) ≡ true → (has_end xs ≡ true → has_end (xs ++ ys) ≡ true) → (b || has_end (xs ++ ys)) ≡ true
-    go true h f = refl
-    go false h f = f h
-
-pub end_behind : (xs ys : List Item) → has_end ys ≡ true → has_end (xs ++ ys) ≡ true
-end_behind [] ys e = e
-end_behind (x ∷ xs) ys e = go (is_end x) (end_behind xs ys e)
-  where
-    go : (b : Bool) → has_end (xs ++ ys) ≡ true → (b || has_end (xs ++ ys)) ≡ true
-    go true h = refl
-    go false h = h
+end_append xs ys e = end_both xs ys ∙ ap (λ b. b || has_end ys) e
 
 pub fault_before : (xs ys : List Item) → has_fault xs ≡ true → has_fault (xs ++ ys) ≡ true
 fault_before xs ys e = fault_append xs ys ∙ ap (λ b. b || has_fault ys) e
 
 pub fault_behind : (xs ys : List Item) → has_fault ys ≡ true → has_fault (xs ++ ys) ≡ true
-fault_behind xs ys e = fault_append xs ys ∙ (ap (λ b. has_fault xs || b) e ∙ go (has_fault xs))
-  where
-    go : (b : Bool) → (b || true) ≡ true
-    go true = refl
-    go false = refl
+fault_behind xs ys e = fault_append xs ys ∙ (ap (λ b. has_fault xs || b) e ∙ or_some (has_fault xs))
 
-pub enough_less : (n m : ℕ) (items : List Item) → n ≤ m → IsEnough m items → IsEnough n items
-enough_less n m items l (inl e) = inl (omega (arith, l, e))
-enough_less n m items l (inr e) = inr e
+pub marks_more : (n m : ℕ) (xs ys : List Item) → m ≤ n + marks_in ys → HasMarks n xs → HasMarks m (xs ++ ys)
+marks_more n m xs ys l e =
+    let a = marks_append xs ys in
+    let k : n ≤ marks_in xs = e in
+    let r : m ≤ marks_in (xs ++ ys) = omega (arith, l, k, a) in
+    r
 
-pub enough_more : (n m : ℕ) (xs ys : List Item) → m ≤ n + seen_in ys → IsEnough n xs → IsEnough m (xs ++ ys)
-enough_more n m xs ys l (inl e) = inl (let a = seen_append xs ys in omega (arith, l, e, a))
-enough_more n m xs ys l (inr e) = inr (end_append xs ys e)
-
-pub one_most : (b : Bool) (n : ℕ) → one_free b + n ≤ suc n
-one_most true n = omega arith
-one_most false n = omega arith
+-- what is enough was said so often
+pub has_marks : (blocked : Bool) (n : ℕ) (items : List Item) → IsEnough blocked n items → HasMarks n items
+has_marks true n items e = e
+has_marks false n items e = e.0

@@ -1,5 +1,5 @@
 -- A leg's chunk is offered.
-use Rattle.std.proofs.Common.{◌≡◌, ℕ, ◌≤◌, true, false, cond, Some, None, List, [], ◌∷◌, ◌++◌, ap, sym, ◌∙◌, not, arith}
+use Rattle.std.proofs.Common.{◌≡◌, ℕ, ◌≤◌, true, false, cond, Some, None, List, [], ◌∷◌, ◌++◌, refl, ap, sym, ◌∙◌, not, arith}
 use Rattle.std.specs.Prelude.{Bool, Option, if◌then◌else◌}
 use Rattle.std.proofs.lemmas.Bool.{eq-eqb}
 use Rattle.std.proofs.lemmas.List.{append-nil}
@@ -10,13 +10,13 @@ use Rattle.mixer_spec.specs.Calls.{took}
 use Rattle.mixer_spec.specs.Legs.{held}
 use Rattle.mixer_spec.proofs.Lists.{set_same}
 use Rattle.mixer_spec.proofs.Legs.{chunks_more}
-use Rattle.live_leg.specs.Items.{Item, texts_in}
+use Rattle.live_leg.specs.Items.{Item, marks_in, texts_in}
 use Rattle.live_leg.proofs.Texts.{texts_append}
 use Rattle.live_spec.specs.Live.{is_held_back}
 use Rattle.live_loop.specs.declared.ports.LivePort.{LivePort}
-use Rattle.live_loop.specs.Handed.{IsEnough, hand_after, has_end, is_blocked_after}
+use Rattle.live_loop.specs.Handed.{HasMarks, hand_after, has_end, is_blocked_after}
 use Rattle.live_loop.specs.Ports.{PortAt, hand_of}
-use Rattle.live_loop.proofs.Enough.{end_append, enough_less, enough_more}
+use Rattle.live_loop.proofs.Enough.{end_none, marks_more}
 
 -- ---- by the calls
 module _ (s : Setup) (calls : List Call) (c : Chunk) (i : ℕ) (own : c.source ≡ i) where
@@ -61,18 +61,19 @@ module _ (s : Setup) (calls : List Call) (c : Chunk) (i : ℕ) (own : c.source �
 module _ {I : Type 0} (popped : I → List Item) (s : Setup) (calls : List Call) (i n : ℕ) where
   -- the text behind the others was offered
   pub offered_at : (c : Chunk) (before tail : List Item) (p : LivePort I) (taken : Bool) → c.source ≡ i → popped p.inlet ≡ before ++ tail → texts_in i before ≡ took s i calls → texts_in i tail ≡ c ∷ []
-      → chunk_of p.hand ≡ c → p.full ≡ not taken → taken ≡ has_room s c.source c (after_calls s calls) → (p.ended ≡ true → has_end before ≡ true) → IsEnough n before → PortAt popped s (Offer c ∷ calls) i n p
-  offered_at c before tail p true own items texts text hand full room ends enough = record {
+      → chunk_of p.hand ≡ c → p.full ≡ not taken → taken ≡ has_room s c.source c (after_calls s calls) → p.ended ≡ has_end before → has_end tail ≡ false → HasMarks n before → PortAt popped s (Offer c ∷ calls) i (HasMarks n) p
+  offered_at c before tail p true own items texts text hand full room ends goes enough = record {
     before = before ++ tail;
     tail = [];
     popped_are = items ∙ sym (append-nil (before ++ tail));
     taken = texts_append i before tail ∙ (ap (λ cs. cs ++ texts_in i tail) texts ∙ (ap (λ cs. took s i calls ++ cs) text ∙ sym (took_taken s calls c i own (sym room))));
     in_hand = ap (λ b. held (if b then Some (chunk_of p.hand) else None)) (sym full);
     hand_is = ap (λ b. if b then Some (chunk_of p.hand) else None) full ∙ sym (hand_taken s calls c i own (sym room));
-    ended = λ e. end_append before tail (ends e);
-    enough = enough_more n n before tail (omega arith) enough;
+    ended = ends ∙ sym (end_none before tail goes);
+    goes_on = refl;
+    enough = marks_more n n before tail (omega arith) enough;
   }
-  offered_at c before tail p false own items texts text hand full room ends enough =
+  offered_at c before tail p false own items texts text hand full room ends goes enough =
       let held_is : hand_of p ≡ Some c = ap (λ b. if b then Some (chunk_of p.hand) else None) full ∙ ap Some hand in
       record {
         before = before;
@@ -82,8 +83,16 @@ module _ {I : Type 0} (popped : I → List Item) (s : Setup) (calls : List Call)
         in_hand = text ∙ ap held (sym held_is);
         hand_is = held_is ∙ sym (hand_kept s calls c i own (sym room));
         ended = ends;
+        goes_on = goes;
         enough = enough;
       }
 
-  pub less : (m : ℕ) (p : LivePort I) → n ≤ m → PortAt popped s calls i m p → PortAt popped s calls i n p
-  less m p l a = record { before = a.before; tail = a.tail; popped_are = a.popped_are; taken = a.taken; in_hand = a.in_hand; hand_is = a.hand_is; ended = a.ended; enough = enough_less n m a.before l a.enough }
+  -- it is enough for something else
+  pub as_enough : (E F : List Item → Type 0) (p : LivePort I) (a : PortAt popped s calls i E p) → F a.before → PortAt popped s calls i F p
+  as_enough E F p a f = record { before = a.before; tail = a.tail; popped_are = a.popped_are; taken = a.taken; in_hand = a.in_hand; hand_is = a.hand_is; ended = a.ended; goes_on = a.goes_on; enough = f }
+
+  pub less : (m : ℕ) (p : LivePort I) → n ≤ m → PortAt popped s calls i (HasMarks m) p → PortAt popped s calls i (HasMarks n) p
+  less m p l a =
+      let e : m ≤ marks_in a.before = a.enough in
+      let r : n ≤ marks_in a.before = omega (arith, l, e) in
+      as_enough (HasMarks m) (HasMarks n) p a r

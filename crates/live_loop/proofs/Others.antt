@@ -51,11 +51,11 @@ module _ (s : Setup) (k : ℕ) where
   others_blocked i [] calls ne a = refl
   others_blocked i (c ∷ more) calls ne a = other_blocked (with_offers more calls) c (apart i c a.0 ne) ∙ others_blocked i more calls ne a.2
 
-  pub others_at : {I : Type 0} (popped : I → List Item) (i n : ℕ) (p : LivePort I) (more : List Chunk) (calls : List Call) → (k ≡ i → ⊥) → AreNext s i more calls
-      → PortAt popped s calls k n p → PortAt popped s (with_offers more calls) k n p
-  others_at popped i n p [] calls ne a q = q
-  others_at popped i n p (c ∷ more) calls ne a q =
-      let b = others_at popped i n p more calls ne a.2 q in
+  pub others_at : {I : Type 0} (popped : I → List Item) (i : ℕ) (E : List Item → Type 0) (p : LivePort I) (more : List Chunk) (calls : List Call) → (k ≡ i → ⊥) → AreNext s i more calls
+      → PortAt popped s calls k E p → PortAt popped s (with_offers more calls) k E p
+  others_at popped i E p [] calls ne a q = q
+  others_at popped i E p (c ∷ more) calls ne a q =
+      let b = others_at popped i E p more calls ne a.2 q in
       let away = apart i c a.0 ne in
       record {
         before = b.before;
@@ -65,5 +65,6 @@ module _ (s : Setup) (k : ℕ) where
         in_hand = b.in_hand;
         hand_is = b.hand_is ∙ sym (other_hand (with_offers more calls) c away);
         ended = b.ended;
+        goes_on = b.goes_on;
         enough = b.enough;
       }

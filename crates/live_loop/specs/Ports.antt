@@ -13,7 +13,7 @@ use Rattle.live_loop.specs.declared.gathering.Advanced.TheVariants as advanced
 use Rattle.live_loop.specs.declared.gathering.Looked.{Looked}
 use Rattle.live_loop.specs.declared.gathering.Looked.TheVariants.{Text, Seen, Silent, End, Fault, Quit, Nothing}
 use Rattle.live_loop.specs.declared.ports.LivePort.{LivePort}
-use Rattle.live_loop.specs.Handed.{IsEnough, IsNext, hand_after, has_end, is_blocked_after, one_free}
+use Rattle.live_loop.specs.Handed.{EndsSilent, HasMarks, IsEnough, IsNext, hand_after, has_end, is_blocked_after}
 use Rattle.rtt_base.specs.declared.text_packets.Pts.{Pts}
 
 -- the mixer's calls with these offers behind them, newest first
@@ -26,9 +26,6 @@ abbrev pub AreNext : Setup → ℕ → List Chunk → List Call → Type 0
 AreNext s i [] calls = Unit {0}
 AreNext s i (c ∷ more) calls = (c.source ≡ i) × IsNext s c (with_offers more calls) × AreNext s i more calls
 
-abbrev pub so_far : Bool → ℕ → ℕ
-so_far seen n = if seen then suc n else n
-
 module _ {I : Type 0} where
   -- What was popped of the port, and maybe more; a fault of which it knows is among that.
   pub record Grew (popped : I → List Item) (began : I → I → Type 0) (old new : LivePort I) : Type 0 where
@@ -40,17 +37,18 @@ module _ {I : Type 0} where
   abbrev pub hand_of : LivePort I → Option Chunk
   hand_of p = if p.full then Some (chunk_of p.hand) else None
 
-  -- After these calls: of what was popped of the leg i the first items have all its texts that were taken, and are enough for n turns;
-  -- behind them there is at most one text, which is in hand.
-  pub record PortAt (popped : I → List Item) (s : Setup) (calls : List Call) (i n : ℕ) (p : LivePort I) : Type 0 where
+  -- After these calls: of what was popped of the leg i the first items have all its texts that were taken, and are enough; behind
+  -- them there is at most one text, which is in hand.
+  pub record PortAt (popped : I → List Item) (s : Setup) (calls : List Call) (i : ℕ) (Enough : List Item → Type 0) (p : LivePort I) : Type 0 where
     pub before : List Item
     pub tail : List Item
     pub popped_are : popped p.inlet ≡ before ++ tail
     pub taken : texts_in i before ≡ took s i calls
     pub in_hand : texts_in i tail ≡ held (hand_of p)
     pub hand_is : hand_of p ≡ hand_after s i calls
-    pub ended : p.ended ≡ true → has_end before ≡ true
-    pub enough : IsEnough n before
+    pub ended : p.ended ≡ has_end before
+    pub goes_on : has_end tail ≡ false
+    pub enough : Enough before
 
   -- what was popped of the port, and one more item
   abbrev pub IsMore : (I → List Item) → LivePort I → LivePort I → Item → Type 0
@@ -97,37 +95,37 @@ module _ {I : Type 0} where
   abbrev pub Pulls : (I → List Item) → LivePort I → LivePort I → Looked → Type 0
   Pulls popped old new Text = PullsText popped old new
   Pulls popped old new Seen = PullsMark popped old new item.Seen old.ended old.failed
-  Pulls popped old new Silent = PullsMark popped old new item.Seen old.ended old.failed
+  Pulls popped old new Silent = PullsMark popped old new item.Silent old.ended old.failed
   Pulls popped old new End = PullsMark popped old new item.End true old.failed
   Pulls popped old new Fault = PullsMark popped old new item.Fault old.ended true
   Pulls popped old new Quit = PullsMark popped old new item.Quit old.ended old.failed
   Pulls popped old new Nothing = PullsNothing popped old new
 
-  -- From these calls on: offers of the leg i were made, and what was popped is enough for n turns.
+  -- From these calls on: offers of the leg i were made, and it said n times that all was given.
   pub record OffersTo {M : Type 0} (popped : I → List Item) (stands : M → Setup → (ℕ → Pts) → List Call → Type 0) (s : Setup) (pts : ℕ → Pts) (calls : List Call) (i n : ℕ) (p : LivePort I) (m : M) : Type 0 where
     pub offers : List Chunk
     pub next : AreNext s i offers calls
     pub made : stands m s pts (with_offers offers calls)
-    pub port : PortAt popped s (with_offers offers calls) i n p
+    pub port : PortAt popped s (with_offers offers calls) i (HasMarks n) p
 
-  -- The same before a turn: it is enough for one turn more, unless that is blocked.
+  -- The same before a turn, for which it is enough.
   pub record GatheredTo {M : Type 0} (popped : I → List Item) (stands : M → Setup → (ℕ → Pts) → List Call → Type 0) (s : Setup) (pts : ℕ → Pts) (calls : List Call) (i n : ℕ) (p : LivePort I) (m : M) : Type 0 where
     pub offers : List Chunk
     pub next : AreNext s i offers calls
     pub made : stands m s pts (with_offers offers calls)
-    pub port : PortAt popped s (with_offers offers calls) i n p
-    pub fresh : p.failed ≡ false → PortAt popped s (with_offers offers calls) i (one_free (is_blocked_after s i (with_offers offers calls)) + n) p
+    pub port : PortAt popped s (with_offers offers calls) i (HasMarks n) p
+    pub fresh : p.failed ≡ false → PortAt popped s (with_offers offers calls) i (IsEnough (is_blocked_after s i (with_offers offers calls)) n) p
 
   -- whatever calls were made before
   abbrev pub Gathered : {M : Type 0} → (I → List Item) → (M → Setup → (ℕ → Pts) → List Call → Type 0) → LivePort I → LivePort I → M → M → Type 0
   Gathered popped stands p p' m m' =
-      (s : Setup) (pts : ℕ → Pts) (calls : List Call) (n : ℕ) → stands m s pts calls → PortAt popped s calls p.leg n p
+      (s : Setup) (pts : ℕ → Pts) (calls : List Call) (n : ℕ) → stands m s pts calls → PortAt popped s calls p.leg (HasMarks n) p
       → GatheredTo popped stands s pts calls p.leg n p' m'
 
-  -- whatever calls were made before, and for however many turns that was enough
+  -- whatever calls were made before, and however often that was said
   abbrev pub Goes : {M : Type 0} → (ℕ → ℕ) → (I → List Item) → (M → Setup → (ℕ → Pts) → List Call → Type 0) → LivePort I → LivePort I → M → M → Type 0
   Goes f popped stands p p' m m' =
-      (s : Setup) (pts : ℕ → Pts) (calls : List Call) (n : ℕ) → stands m s pts calls → PortAt popped s calls p.leg n p
+      (s : Setup) (pts : ℕ → Pts) (calls : List Call) (n : ℕ) → stands m s pts calls → PortAt popped s calls p.leg (HasMarks n) p
       → OffersTo popped stands s pts calls p.leg (f n) p' m'
 
   -- the last text that was offered was not taken
@@ -137,8 +135,18 @@ module _ {I : Type 0} where
 
   abbrev pub Blocks : {M : Type 0} → (I → List Item) → (M → Setup → (ℕ → Pts) → List Call → Type 0) → LivePort I → LivePort I → M → M → Type 0
   Blocks popped stands p p' m m' =
-      (s : Setup) (pts : ℕ → Pts) (calls : List Call) (n : ℕ) → stands m s pts calls → PortAt popped s calls p.leg n p
+      (s : Setup) (pts : ℕ → Pts) (calls : List Call) (n : ℕ) → stands m s pts calls → PortAt popped s calls p.leg (HasMarks n) p
       → BlockedTo popped stands s pts calls p.leg n p' m'
+
+  -- the link had nothing, and that is the last item
+  pub record SilentTo {M : Type 0} (popped : I → List Item) (stands : M → Setup → (ℕ → Pts) → List Call → Type 0) (s : Setup) (pts : ℕ → Pts) (calls : List Call) (i n : ℕ) (p : LivePort I) (m : M) : Type 0 where
+    pub goes : OffersTo popped stands s pts calls i n p m
+    pub silent : EndsSilent goes.port.before
+
+  abbrev pub Silences : {M : Type 0} → (ℕ → ℕ) → (I → List Item) → (M → Setup → (ℕ → Pts) → List Call → Type 0) → LivePort I → LivePort I → M → M → Type 0
+  Silences f popped stands p p' m m' =
+      (s : Setup) (pts : ℕ → Pts) (calls : List Call) (n : ℕ) → stands m s pts calls → PortAt popped s calls p.leg (HasMarks n) p
+      → SilentTo popped stands s pts calls p.leg (f n) p' m'
 
   abbrev pub GoesOn : {M : Type 0} → (ℕ → ℕ) → (I → List Item) → (M → Setup → (ℕ → Pts) → List Call → Type 0) → LivePort I → LivePort I → M → M → Type 0
   GoesOn f popped stands p p' m m' = (p'.full ≡ false) × Goes f popped stands p p' m m'
@@ -150,17 +158,17 @@ module _ {I : Type 0} where
   abbrev pub Advances : {M : Type 0} → (I → List Item) → (M → Setup → (ℕ → Pts) → List Call → Type 0) → LivePort I → LivePort I → M → M → Advanced → Type 0
   Advances popped stands p p' m m' advanced.Going = GoesOn (λ n. n) popped stands p p' m m'
   Advances popped stands p p' m m' advanced.Seen = GoesOn suc popped stands p p' m m'
-  Advances popped stands p p' m m' advanced.Silent = GoesOn suc popped stands p p' m m'
+  Advances popped stands p p' m m' advanced.Silent = Silences suc popped stands p p' m m'
   Advances popped stands p p' m m' advanced.Nothing = GoesOn (λ n. n) popped stands p p' m m'
   Advances popped stands p p' m m' advanced.Blocked = Blocks popped stands p p' m m'
 
-  -- where a leg was asked since the last turn, and has said that all was given, or not yet
-  pub record IsGathering {M : Type 0} (popped : I → List Item) (began : I → I → Type 0) (stands : M → Setup → (ℕ → Pts) → List Call → Type 0) (legs turns : M → ℕ) (addresses : M → List ℕ) (seen : Bool) (p p' : LivePort I) (m m' : M) : Type 0 where
+  -- where a leg was asked since the last turn, and has said so often that all was given
+  pub record IsGathering {M : Type 0} (popped : I → List Item) (began : I → I → Type 0) (stands : M → Setup → (ℕ → Pts) → List Call → Type 0) (legs turns : M → ℕ) (addresses : M → List ℕ) (takes : ℕ) (p p' : LivePort I) (m m' : M) : Type 0 where
     pub empty : p'.full ≡ false
     pub same : p'.leg ≡ p.leg
     pub grew : Grew popped began p p'
     pub keeps : Keeps legs turns addresses m m'
-    pub goes : Goes (so_far seen) popped stands p p' m m'
+    pub goes : Goes (λ n. takes + n) popped stands p p' m m'
 
 -- what becomes of a text that was offered
 abbrev pub after_offer : Bool → Advanced

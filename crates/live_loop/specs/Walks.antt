@@ -6,12 +6,13 @@ use Rattle.stream_spec.specs.Ready.{Chunk}
 use Rattle.mixer_spec.specs.Setups.{Setup}
 use Rattle.mixer_spec.specs.Table.{Call, after_calls, is_idle}
 use Rattle.mixer_spec.specs.Calls.{turns_made}
-use Rattle.live_spec.specs.Live.{AllSeated}
+use Rattle.live_spec.specs.Live.{AllSeated, at_last}
 use Rattle.live_leg.specs.Items.{Item}
 use Rattle.live_loop.specs.declared.ports.LivePort.{LivePort}
 use Rattle.live_loop.specs.declared.turns.Turned.{Turned}
 use Rattle.live_loop.specs.declared.turns.Turned.TheVariants.{Done, Closed, Faulted, Stopped}
-use Rattle.live_loop.specs.Handed.{AreLiveCalls, IsNext, free_after, is_blocked_after, one_free}
+use Rattle.live_loop.specs.Clocks.{moments_of}
+use Rattle.live_loop.specs.Handed.{AreLiveCalls, HasMarks, IsEnough, IsNext, is_blocked_after}
 use Rattle.live_loop.specs.Ports.{Grew, PortAt, with_offers}
 
 -- each of these offers may be made
@@ -57,19 +58,23 @@ WasStopped unsent Closed m = Unit {0}
 WasStopped unsent (Faulted leg) m = Unit {0}
 WasStopped unsent (Stopped why) m = unsent m why
 
+-- these calls were made, and then a turn, at some moment, that was not sent to its end
+abbrev pub HaltsThen : {M : Type 0} → (M → Setup → (ℕ → Pts) → List Call → ℕ → Type 0) → M → Setup → (ℕ → Pts) → List Call → Type 0
+HaltsThen halted m s pts calls = (now : ℕ) × halted m s pts calls now
+
 module _ {I : Type 0} (popped : I → List Item) where
   -- these items begin with those that were popped of each leg
   abbrev pub AreOf : List (LivePort I) → (ℕ → List Item) → Type 0
   AreOf ps items = (j : ℕ) (p : LivePort I) → slice_get ps j ≡ Some p → (more : List Item) × (items j ≡ popped p.inlet ++ more)
 
-  -- of the first `done` legs what was popped is enough for the turn that comes, of the others for those that were made
-  pub record WalkedTo {M : Type 0} (stands : M → Setup → (ℕ → Pts) → List Call → Type 0) (s : Setup) (pts : ℕ → Pts) (calls : List Call) (done : ℕ) (ps : List (LivePort I)) (m : M) : Type 0 where
+  -- of the first `done` legs what was popped is enough for the turn that comes, where that all was given was said so often before
+  pub record WalkedTo {M : Type 0} (stands : M → Setup → (ℕ → Pts) → List Call → Type 0) (s : Setup) (pts : ℕ → Pts) (calls : List Call) (before : ℕ → ℕ) (done : ℕ) (ps : List (LivePort I)) (m : M) : Type 0 where
     pub offers : List Chunk
     pub next : AllNext s offers calls
     pub made : stands m s pts (with_offers offers calls)
-    pub at : (j : ℕ) (p : LivePort I) → slice_get ps j ≡ Some p → PortAt popped s (with_offers offers calls) j (free_after s j calls) p
+    pub at : (j : ℕ) (p : LivePort I) → slice_get ps j ≡ Some p → PortAt popped s (with_offers offers calls) j (HasMarks (before j)) p
     pub fresh : (j : ℕ) (p : LivePort I) → j < done → slice_get ps j ≡ Some p → p.failed ≡ false
-        → PortAt popped s (with_offers offers calls) j (one_free (is_blocked_after s j (with_offers offers calls)) + free_after s j calls) p
+        → PortAt popped s (with_offers offers calls) j (IsEnough (is_blocked_after s j (with_offers offers calls)) (before j)) p
 
   -- what was popped of each leg, and maybe more
   abbrev pub AllGrew : (I → I → Type 0) → List (LivePort I) → List (LivePort I) → Type 0
@@ -78,22 +83,24 @@ module _ {I : Type 0} (popped : I → List Item) where
   -- In this conference these calls were made, in a live run of what was popped.
   pub record IsServing {M : Type 0} (stands : M → Setup → (ℕ → Pts) → List Call → Type 0) (s : Setup) (pts : ℕ → Pts) (turns : ℕ) (ps : List (LivePort I)) (m : M) : Type 0 where
     pub calls : List Call
+    pub counts : List (ℕ → ℕ)
     pub made : stands m s pts calls
-    pub live : (items : ℕ → List Item) → AreOf ps items → AreLiveCalls s items calls
+    pub live : (items : ℕ → List Item) → AreOf ps items → AreLiveCalls s items counts calls
     pub turned : turns_made calls ≡ turns
     pub seated : AllSeated s (after_calls s calls)
-    pub at : (j : ℕ) (p : LivePort I) → slice_get ps j ≡ Some p → PortAt popped s calls j (free_after s j calls) p
+    pub at : (j : ℕ) (p : LivePort I) → slice_get ps j ≡ Some p → PortAt popped s calls j (HasMarks (at_last counts j)) p
 
   -- and it is enough for the turn that comes
   pub record MayBeTurned {M : Type 0} (stands : M → Setup → (ℕ → Pts) → List Call → Type 0) (s : Setup) (pts : ℕ → Pts) (turns : ℕ) (ps : List (LivePort I)) (m : M) : Type 0 where
     pub serving : IsServing stands s pts turns ps m
     pub fresh : (j : ℕ) (p : LivePort I) → slice_get ps j ≡ Some p → p.failed ≡ false
-        → PortAt popped s serving.calls j (one_free (is_blocked_after s j serving.calls) + free_after s j serving.calls) p
+        → PortAt popped s serving.calls j (IsEnough (is_blocked_after s j serving.calls) (at_last serving.counts j)) p
 
   -- each leg offered what it could
   abbrev pub AllGathered : {M : Type 0} → (M → Setup → (ℕ → Pts) → List Call → Type 0) → List (LivePort I) → List (LivePort I) → M → M → Type 0
   AllGathered stands ps ps' m m' =
-      (s : Setup) (pts : ℕ → Pts) (turns : ℕ) → s.legs ≡ length ps → IsServing stands s pts turns ps m → MayBeTurned stands s pts turns ps' m'
+      (s : Setup) (pts : ℕ → Pts) (turns : ℕ) → s.legs ≡ length ps → (v : IsServing stands s pts turns ps m)
+      → (w : MayBeTurned stands s pts turns ps' m') × (moments_of w.serving.calls ≡ moments_of v.calls)
 
   -- the mixer is idle, and each leg's end was popped
   pub record IsClosed {M : Type 0} (stands : M → Setup → (ℕ → Pts) → List Call → Type 0) (s : Setup) (pts : ℕ → Pts) (ps : List (LivePort I)) (m : M) (calls : List Call) : Type 0 where
@@ -107,13 +114,20 @@ module _ {I : Type 0} (popped : I → List Item) where
     pub serving : IsServing stands s pts turns ps m
     pub closed : IsClosed stands s pts ps m serving.calls
 
-  abbrev pub RanTo : {M T : Type 0} → Turned T → (M → Setup → (ℕ → Pts) → List Call → Type 0) → Setup → (ℕ → Pts) → ℕ → List (LivePort I) → M → Type 0
-  RanTo Done stands s pts turns ps m = IsServing stands s pts turns ps m
-  RanTo Closed stands s pts turns ps m = ClosedTo stands s pts turns ps m
-  RanTo (Faulted leg) stands s pts turns ps m = Unit {0}
-  RanTo (Stopped why) stands s pts turns ps m = Unit {0}
+  -- so many turns were made
+  pub record BrokenTo {M : Type 0} (stands : M → Setup → (ℕ → Pts) → List Call → Type 0) (s : Setup) (pts : ℕ → Pts) (most : ℕ) (ps : List (LivePort I)) (m : M) : Type 0 where
+    pub turns : ℕ
+    pub few : turns ≤ most
+    pub serving : IsServing stands s pts turns ps m
 
-  -- the turns were made, and ended so
-  abbrev pub Ran : {M T : Type 0} → Turned T → (M → Setup → (ℕ → Pts) → List Call → Type 0) → ℕ → List (LivePort I) → List (LivePort I) → M → M → Type 0
-  Ran ended stands turns ps ps' m m' =
-      (s : Setup) (pts : ℕ → Pts) → s.legs ≡ length ps → IsServing stands s pts 0 ps m → RanTo ended stands s pts turns ps' m'
+  -- how the turns ended, of a mixer that stands so then, or of which the last turn was not sent to its end
+  abbrev pub RanTo : {M T : Type 0} → Turned T → (stands halts : M → Setup → (ℕ → Pts) → List Call → Type 0) → Setup → (ℕ → Pts) → ℕ → List (LivePort I) → M → Type 0
+  RanTo Done stands halts s pts turns ps m = IsServing stands s pts turns ps m
+  RanTo Closed stands halts s pts turns ps m = ClosedTo stands s pts turns ps m
+  RanTo (Faulted leg) stands halts s pts turns ps m = BrokenTo stands s pts turns ps m
+  RanTo (Stopped why) stands halts s pts turns ps m = BrokenTo halts s pts turns ps m
+
+  -- the turns were made, and ended so, of a mixer that stood so
+  abbrev pub Ran : {M T : Type 0} → Turned T → (stands then halts : M → Setup → (ℕ → Pts) → List Call → Type 0) → ℕ → List (LivePort I) → List (LivePort I) → M → M → Type 0
+  Ran ended stands then halts turns ps ps' m m' =
+      (s : Setup) (pts : ℕ → Pts) → s.legs ≡ length ps → IsServing stands s pts 0 ps m → RanTo ended then halts s pts turns ps' m'

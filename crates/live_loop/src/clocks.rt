@@ -1,5 +1,5 @@
 //! The clock of the turns.
-ghost use Rattle.std.specs.Prelude.{◌≡◌, ℕ, ◌<◌, ◌≤◌, ◌^◌, Bool};
+ghost use Rattle.std.specs.Prelude.{◌≡◌, ℕ, ◌<◌, ◌≤◌, ◌^◌, Bool, List};
 ghost use Rattle.rtt_io.specs.Counts.{counted};
 ghost use Rattle.link_io.specs.Ports.{Same};
 
@@ -13,6 +13,9 @@ pub trait TurnClock {
 
     /// A link was opened at this port.
     ghost opened: { Self → ℕ → Bool };
+
+    /// The links that were opened, oldest first: of each its port, and the peer that it leads to.
+    ghost leads: { Self → List (ℕ × List ℕ) };
 
     /// How often a call that opens this port failed.
     ghost own_faults: { Self → ℕ → ℕ };
@@ -34,7 +37,8 @@ pub trait TurnClock {
         ensures same_pauses { pauses self.new ≡ pauses self.old }
         ensures same_own { Same own_faults self.old self.new }
         ensures same_objects { Same object_faults self.old self.new }
-        ensures same_opened { tells → Same opened self.old self.new };
+        ensures same_opened { tells → Same opened self.old self.new }
+        ensures same_leads { tells → leads self.new ≡ leads self.old };
 
     /// Lets time go by until this moment, where that is still to come, and counts a pause.
     fn sleep_until(&mut self, until: u64)
@@ -43,13 +47,16 @@ pub trait TurnClock {
         ensures same_own { Same own_faults self.old self.new }
         ensures same_objects { Same object_faults self.old self.new }
         ensures reached { tells → until < 2 ^ 47 → until ≤ moment self.new }
-        ensures same_opened { tells → Same opened self.old self.new };
+        ensures same_opened { tells → Same opened self.old self.new }
+        ensures same_leads { tells → leads self.new ≡ leads self.old };
 }
 
 impl<W: Links> TurnClock for W {
     ghost tells = { W.Links.tells };
 
     ghost opened = { W.Links.opened };
+
+    ghost leads = { W.Links.leads };
 
     ghost own_faults = { W.Links.own_faults };
 

@@ -11,9 +11,8 @@ use mix_loop::Mixes;
 use rtt_base::Chunk;
 use std::sync::Wait;
 
-/// How many items are popped at most before a turn, once the leg has said that all was given. A socket's buffer holds hardly more
-/// packets.
-const MOST_POPPED: u64 = 256;
+/// How often a link is asked at most before a turn. A socket's buffer holds hardly more packets.
+const MOST_TAKES: u64 = 256;
 
 /// What was popped of a leg.
 #[derive(Clone, Copy, Debug, PartialEq, Eq)]
@@ -58,13 +57,6 @@ fn after_offer(taken: bool) -> Advanced
     } else {
         Advanced::Blocked
     }
-}
-
-/// Whether a leg that has said that all was given was asked often enough.
-fn is_enough(seen: bool, popped: u64) -> bool
-    ensures { result ≡ true → seen ≡ true }
-{
-    seen && popped >= MOST_POPPED
 }
 
 impl<I> LivePort<I> {
@@ -166,9 +158,9 @@ impl<I: Pops> LivePort<I> {
         }
     }
 
-    /// Offers what is in hand and what is popped, until a text is not taken; or the end or a fault is popped; or the leg has said
-    /// that all was given, and its link has nothing or enough was popped. So all that came is offered, however much came at once,
-    /// and a link that never falls silent holds no turn up.
+    /// Offers what is in hand and what is popped, until a text is not taken; or the end or a fault is popped; or the link has
+    /// nothing; or it was asked so often. So all that came is offered, however much came at once, and a link that never falls
+    /// silent holds no turn up.
     pub fn gather<R: Wait, M: Mixes>(&mut self, rt: &R, mixer: &mut M)
         requires leg { self.old.leg < M.legs mixer.old }
         ensures keeps { Keeps M.legs M.turns M.addresses mixer.old mixer.new }
@@ -179,8 +171,7 @@ impl<I: Pops> LivePort<I> {
         if !self.retry(mixer) {
             return;
         }
-        let mut seen = false;
-        let mut popped = 0u64;
+        let mut takes = 0u64;
         for _ in rt.forever() {
             if self.ended {
                 return;
@@ -188,15 +179,12 @@ impl<I: Pops> LivePort<I> {
             if self.failed {
                 return;
             }
-            if is_enough(seen, popped) {
+            if takes >= MOST_TAKES {
                 return;
             }
             match self.advance(rt, mixer) {
-                Advanced::Going => popped = popped.saturating_add(1),
-                Advanced::Seen => {
-                    seen = true;
-                    popped = popped.saturating_add(1);
-                }
+                Advanced::Going => {}
+                Advanced::Seen => takes += 1,
                 Advanced::Nothing => {}
                 Advanced::Silent => return,
                 Advanced::Blocked => return,

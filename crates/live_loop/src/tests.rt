@@ -32,6 +32,8 @@ impl Mixes for Counting {
 
     ghost stands = { λ m s pts calls. ⊥ };
 
+    ghost halted = { λ m s pts calls now. Unit {0} };
+
     ghost legs = { λ m. m.legs };
 
     ghost turns = { λ m. m.turns };
@@ -244,9 +246,9 @@ fn a_silent_leg_ends_with_the_turns(rt: HostRuntime) -> Result<(), Fail> {
 
 #[test]
 fn a_flood_holds_no_turn_up(rt: HostRuntime) -> Result<(), Fail> {
-    let ran = call(&rt, rt.alloc(), 700, false)?;
+    let ran = call(&rt, rt.alloc(), 1500, false)?;
     assert!(rt; ran.turned == Turned::Done);
     assert!(rt; ran.turns == 5);
-    assert!(rt; ran.taken == 640);
+    assert!(rt; ran.taken == 1280);
     Ok(())
 }

@@ -1,9 +1,9 @@
 //! The turns of a live call.
-ghost use Rattle.std.specs.Prelude.{◌≡◌, ◌≤◌, ◌<◌, ◌^◌, length, MatchOption};
+ghost use Rattle.std.specs.Prelude.{◌≡◌, ◌≤◌, ◌<◌, ◌^◌, true, false, length, MatchOption};
 ghost use Rattle.std.specs.List.{list_all};
-ghost use Rattle.mix_loop.specs.Mixers.{Keeps};
-ghost use Rattle.live_loop.specs.Clocks.{OnlyTimePassed};
-ghost use Rattle.live_loop.specs.Walks.{AllGathered, AllGrew, AreAt, HasFailed, IsPaused, NoneFailed, Ran, WasFaulted, WasStopped, is_spent};
+ghost use Rattle.mix_loop.specs.Mixers.{Keeps, TellsIdle};
+ghost use Rattle.live_loop.specs.Clocks.{IsPaced, OnlyTimePassed, StandsPaced};
+ghost use Rattle.live_loop.specs.Walks.{AllGathered, AllGrew, AreAt, HaltsThen, HasFailed, IsPaused, NoneFailed, Ran, WasFaulted, WasStopped, is_spent};
 
 use crate::clocks::TurnClock;
 use crate::moments::next_tick;
@@ -61,6 +61,18 @@ fn all_spent<I>(ports: &[LivePort<I>]) -> bool
     ports.iter().all(|port| port.ended && !port.full)
 }
 
+/// Whether each leg's end was popped, nothing is in a hand, and the mixer is idle.
+fn is_over<I, M: Mixes>(ports: &[LivePort<I>], mixer: &M) -> bool
+    ensures spent { result ≡ true → list_all is_spent ports.now ≡ true }
+    ensures idle { result ≡ true → TellsIdle M.stands mixer.now true }
+    ensures goes_on { result ≡ false → list_all is_spent ports.now ≡ true → TellsIdle M.stands mixer.now false }
+{
+    if !all_spent(ports) {
+        return false;
+    }
+    mixer.idle()
+}
+
 /// Makes so many turns, one at each multiple of `tick` milliseconds from the first on, or later where what is done before takes
 /// longer; unless a link fails, or all are closed and nothing is left. It pauses once a turn.
 pub fn take_turns<I: Pops, M: Mixes, C: TurnClock, R: Wait>(
@@ -80,11 +92,13 @@ pub fn take_turns<I: Pops, M: Mixes, C: TurnClock, R: Wait>(
     requires horizon { 2 ^ 47 ≤ M.horizon }
     ensures at { AreAt ports.new }
     ensures grew { AllGrew I.popped I.began ports.old ports.new }
-    ensures ran { Ran I.popped result M.stands turns ports.old ports.new mixer.old mixer.new }
+    ensures ran { Ran I.popped result M.stands (StandsPaced C.tells tick (C.moment clock.old) M.stands)
+        (StandsPaced C.tells tick (C.moment clock.old) (HaltsThen M.halted)) turns ports.old ports.new mixer.old mixer.new }
     ensures addresses { M.addresses mixer.new ≡ M.addresses mixer.old }
     ensures faulted { WasFaulted result ports.new }
     ensures unsent { WasStopped M.unsent result mixer.new }
     ensures pauses { result ≡ Turned.Done → IsPaused turns (C.pauses clock.old) (C.pauses clock.new) }
+    ensures paced { C.tells → result ≡ Turned.Done → IsPaced turns tick (C.moment clock.old) (C.moment clock.new) }
     ensures passed { OnlyTimePassed C.TurnClock clock.old clock.new }
 {
     let began = clock.clock_now();
@@ -94,8 +108,7 @@ pub fn take_turns<I: Pops, M: Mixes, C: TurnClock, R: Wait>(
             Some(leg) => return Turned::Faulted(leg),
             None => {}
         }
-        let spent = all_spent(ports);
-        if spent && mixer.idle() {
+        if is_over(ports, mixer) {
             return Turned::Closed;
         }
         let now = clock.clock_now();
@@ -105,8 +118,7 @@ pub fn take_turns<I: Pops, M: Mixes, C: TurnClock, R: Wait>(
         }
         clock.sleep_until(next_tick(began, now, tick));
     }
-    let spent = all_spent(ports);
-    if spent && mixer.idle() {
+    if is_over(ports, mixer) {
         return Turned::Closed;
     }
     Turned::Done

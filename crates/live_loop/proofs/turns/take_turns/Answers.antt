@@ -1,7 +1,9 @@
-use Rattle.std.proofs.Common.{◌≡◌, ℕ, length, inl, refl, sym, subst, ◌∙◌, arith}
-use Rattle.live_loop.specs.Walks.{IsServing, is_spent}
-use Rattle.live_loop.proofs.Pausing.{all_at, count_same, passed_on, paused_more}
-use Rattle.live_loop.proofs.Walking.{all_then_grew, none_grew, turn_made}
+use Rattle.std.proofs.Common.{◌≡◌, ◌≤◌, ◌<◌, ◌+◌, ◌*◌, ◌^◌, ℕ, true, List, length, inl, refl, sym, subst, ◌∙◌, arith}
+use Rattle.mixer_spec.specs.Table.{Call, after_calls, is_idle}
+use Rattle.live_loop.specs.Clocks.{ArePaced, AtTicks, StandsPaced, moments_of}
+use Rattle.live_loop.specs.Walks.{HaltsThen, IsServing, is_spent}
+use Rattle.live_loop.proofs.Pausing.{all_at, count_same, passed_on, paused_more, tick_more}
+use Rattle.live_loop.proofs.Walking.{all_then_grew, at_more, at_none, becomes, known, none_grew, turn_made}
 use Rattle.live_loop.proofs.turns.take_turns.Goals as goal
 
 pub loop-k-init : goal.loop-k-init
@@ -10,23 +12,32 @@ loop-k-init g c = (
   c.requires.legs,
   c.requires.none,
   (let same = c.clock_now-began.ensures.same_pauses in inl (omega (arith, same))),
-  λ s pts legs v. v,
+  λ s pts legs v. (v, λ t. at_none c.args.tick c.clock_now-began.result v.calls v.turned),
   none_grew g.I.Pops.popped g.I.Pops.began c.args.ports.now,
   (let is = c.clock_now-began.ensures.is in omega (arith, is)),
-  (let e = c.clock_now-began.ensures in record { same_own = e.same_own; same_objects = e.same_objects; rises = e.rises; same_opened = e.same_opened }),
+  (let is = c.clock_now-began.ensures.is in let rises = c.clock_now-began.ensures.rises in omega (arith, is, rises)),
+  λ t early. (let is = c.clock_now-began.ensures.is in omega (arith, is)),
+  (let e = c.clock_now-began.ensures in record { same_own = e.same_own; same_objects = e.same_objects; rises = e.rises; same_opened = e.same_opened; same_leads = e.same_leads }),
   refl,
 )
 
-pub returns-then-idle-clause-ran : goal.returns-then-idle-clause-ran
-returns-then-idle-clause-ran g c = λ s pts legs v.
+pub returns-then-is_over-clause-ran : goal.returns-then-is_over-clause-ran
+returns-then-is_over-clause-ran g c = λ s pts legs v.
     let b = c.loop-k.invariant.4 s pts legs v in
     let here : s.legs ≡ length c.loop-k.ports = omega (arith, legs, c.loop-k.auto.ports) in
-    let w = c.gather_all.ensures.gathered s pts c.loop-k.k here b in
+    let w = c.gather_all.ensures.gathered s pts c.loop-k.k here b.0 in
+    let v = w.0.serving in
+    let P : List Call → Type 0 = λ calls. g.C.TurnClock.tells → ArePaced c.args.tick (g.C.TurnClock.moment c.args.clock.now) calls in
+    let x = known g.I.Pops.popped g.I.Pops.began g.M.Mixes.stands P s pts c.loop-k.k c.gather_all.new.ports c.gather_all.new.mixer v
+    (λ t. record { began = c.clock_now-began.result; behind = c.loop-k.invariant.7; at = subst (λ (ms : List ℕ). AtTicks c.args.tick c.clock_now-began.result ms) (sym w.1) (b.1 t) }) in
     record {
       turns = c.loop-k.k;
       few = omega (arith, c.loop-k-test.true);
-      serving = w.serving;
-      closed = record { ends = all_at is_spent c.gather_all.new.ports (sym c.all_spent-spent.ensures ∙ c.if-spent.true); idle = sym (c.idle.ensures s pts w.serving.calls w.serving.made) ∙ c.if-idle.true };
+      serving = x.0;
+      closed = record {
+        ends = all_at is_spent c.gather_all.new.ports (c.is_over.ensures.spent c.if-is_over.true);
+        idle = subst (λ (calls : List Call). is_idle s (after_calls s calls) ≡ true) (sym x.1) (sym (c.is_over.ensures.idle c.if-is_over.true s pts v.calls v.made));
+      };
     }
 
 pub loop-k-preserved : goal.loop-k-preserved
@@ -41,50 +52,104 @@ loop-k-preserved g c =
       λ s pts legs v.
           let b = c.loop-k.invariant.4 s pts legs v in
           let here : s.legs ≡ length c.loop-k.ports = omega (arith, legs, c.loop-k.auto.ports) in
-          let w = c.gather_all.ensures.gathered s pts c.loop-k.k here b in
-          turn_made g.I.Pops.popped g.I.Pops.began g.M.Mixes.stands s pts c.loop-k.k c.clock_now-now.result c.gather_all.new.ports c.gather_all.new.mixer c.turn.new.self (here ∙ sym same) c.in-None.ensures c.in-Ok.ensures.turned w,
+          let w = c.gather_all.ensures.gathered s pts c.loop-k.k here b.0 in
+          let x = turn_made g.I.Pops.popped g.I.Pops.began g.M.Mixes.stands s pts c.loop-k.k c.clock_now-now.result c.gather_all.new.ports c.gather_all.new.mixer c.turn.new.self (here ∙ sym same) c.in-None.ensures c.in-Ok.ensures.turned (c.is_over.ensures.goes_on c.if-is_over.false) w.0 in (
+            x.0,
+            λ t. at_more c.args.tick c.clock_now-began.result c.loop-k.k c.clock_now-now.result w.0.serving.calls x.0.calls x.1 w.0.serving.turned
+                (λ early. let s = c.loop-k.invariant.8 t early in let is = c.clock_now-now.ensures.is in let rises = c.clock_now-now.ensures.rises in omega (arith, s, is, rises))
+                (subst (λ (ms : List ℕ). AtTicks c.args.tick c.clock_now-began.result ms) (sym w.1) (b.1 t)),
+          ),
       all_then_grew g.I.Pops.popped g.I.Pops.began c.args.ports.now c.loop-k.ports c.gather_all.new.ports c.loop-k.invariant.5 c.gather_all.ensures.grew,
       (let before = c.loop-k.invariant.6 in let asked = c.clock_now-now.ensures.rises in let paused = c.sleep_until.ensures.rises in omega (arith, before, asked, paused)),
+      c.loop-k.invariant.7,
+      λ t early.
+          let now = c.clock_now-now.ensures in
+          tick_more c.loop-k.k c.args.tick c.clock_now-began.result (g.C.TurnClock.moment c.loop-k.clock) c.clock_now-now.result c.next_tick.result (g.C.TurnClock.moment c.sleep_until.new.self)
+          c.requires.tick (let is = now.is in let rises = now.rises in omega (arith, is, rises)) c.loop-k.invariant.6 (c.loop-k.invariant.8 t) c.next_tick.ensures (c.sleep_until.ensures.reached t)
+          (let is = now.is in let rises = c.sleep_until.ensures.rises in omega (arith, is, rises)) early,
       passed_on g.C.TurnClock c.args.clock.now c.clock_now-now.new.self c.sleep_until.new.self
-          (passed_on g.C.TurnClock c.args.clock.now c.loop-k.clock c.clock_now-now.new.self c.loop-k.invariant.7
-          (let e = c.clock_now-now.ensures in record { same_own = e.same_own; same_objects = e.same_objects; rises = e.rises; same_opened = e.same_opened }))
-          (let e = c.sleep_until.ensures in record { same_own = e.same_own; same_objects = e.same_objects; rises = e.rises; same_opened = e.same_opened }),
-      c.turn.ensures.addresses ∙ (keeps.addresses ∙ c.loop-k.invariant.8),
+          (passed_on g.C.TurnClock c.args.clock.now c.loop-k.clock c.clock_now-now.new.self c.loop-k.invariant.9
+          (let e = c.clock_now-now.ensures in record { same_own = e.same_own; same_objects = e.same_objects; rises = e.rises; same_opened = e.same_opened; same_leads = e.same_leads }))
+          (let e = c.sleep_until.ensures in record { same_own = e.same_own; same_objects = e.same_objects; rises = e.rises; same_opened = e.same_opened; same_leads = e.same_leads }),
+      c.turn.ensures.addresses ∙ (keeps.addresses ∙ c.loop-k.invariant.10),
     )
 
-pub returns-then-idle-2-clause-ran : goal.returns-then-idle-2-clause-ran
-returns-then-idle-2-clause-ran g c = λ s pts legs v.
+pub returns-then-is_over-2-clause-ran : goal.returns-then-is_over-2-clause-ran
+returns-then-is_over-2-clause-ran g c = λ s pts legs v.
     let b = c.loop-k.invariant.4 s pts legs v in
+    let P : List Call → Type 0 = λ calls. g.C.TurnClock.tells → ArePaced c.args.tick (g.C.TurnClock.moment c.args.clock.now) calls in
+    let x = known g.I.Pops.popped g.I.Pops.began g.M.Mixes.stands P s pts c.loop-k.k c.loop-k.ports c.loop-k.mixer b.0
+    (λ t. record { began = c.clock_now-began.result; behind = c.loop-k.invariant.7; at = b.1 t }) in
     record {
       turns = c.loop-k.k;
       few = omega (arith, c.loop-k-test.false, c.loop-k.auto.k-end);
-      serving = b;
-      closed = record { ends = all_at is_spent c.loop-k.ports (sym c.all_spent-spent-2.ensures ∙ c.if-spent-2.true); idle = sym (c.idle-then-spent-2.ensures s pts b.calls b.made) ∙ c.if-idle-2.true };
+      serving = x.0;
+      closed = record {
+        ends = all_at is_spent c.loop-k.ports (c.is_over-2.ensures.spent c.if-is_over-2.true);
+        idle = subst (λ (calls : List Call). is_idle s (after_calls s calls) ≡ true) (sym x.1) (sym (c.is_over-2.ensures.idle c.if-is_over-2.true s pts b.0.calls b.0.made));
+      };
     }
 
 pub returns-clause-ran : goal.returns-clause-ran
 returns-clause-ran g c = λ s pts legs v.
     let last : c.loop-k.k ≡ c.args.turns = omega (arith, c.loop-k-test.false, c.loop-k.auto.k-end) in
-    subst (λ (k : ℕ). IsServing g.I.Pops.popped g.M.Mixes.stands s pts k c.loop-k.ports c.loop-k.mixer) last (c.loop-k.invariant.4 s pts legs v)
+    let b = c.loop-k.invariant.4 s pts legs v in
+    let P : List Call → Type 0 = λ calls. g.C.TurnClock.tells → ArePaced c.args.tick (g.C.TurnClock.moment c.args.clock.now) calls in
+    let x = known g.I.Pops.popped g.I.Pops.began g.M.Mixes.stands P s pts c.loop-k.k c.loop-k.ports c.loop-k.mixer b.0
+    (λ t. record { began = c.clock_now-began.result; behind = c.loop-k.invariant.7; at = b.1 t }) in
+    subst (λ (k : ℕ). IsServing g.I.Pops.popped (λ m s pts calls. g.M.Mixes.stands m s pts calls × P calls) s pts k c.loop-k.ports c.loop-k.mixer) last x.0
+
+-- a link failed before a turn
+pub returns-in-Some-clause-ran : goal.returns-in-Some-clause-ran
+returns-in-Some-clause-ran g c = λ s pts legs v.
+    let b = c.loop-k.invariant.4 s pts legs v in
+    let here : s.legs ≡ length c.loop-k.ports = omega (arith, legs, c.loop-k.auto.ports) in
+    let w = c.gather_all.ensures.gathered s pts c.loop-k.k here b.0 in
+    let P : List Call → Type 0 = λ calls. g.C.TurnClock.tells → ArePaced c.args.tick (g.C.TurnClock.moment c.args.clock.now) calls in
+    let x = known g.I.Pops.popped g.I.Pops.began g.M.Mixes.stands P s pts c.loop-k.k c.gather_all.new.ports c.gather_all.new.mixer w.0.serving
+    (λ t. record { began = c.clock_now-began.result; behind = c.loop-k.invariant.7; at = subst (λ (ms : List ℕ). AtTicks c.args.tick c.clock_now-began.result ms) (sym w.1) (b.1 t) }) in
+    record { turns = c.loop-k.k; few = omega (arith, c.loop-k-test.true); serving = x.0 }
+
+-- a turn was not sent to its end
+pub returns-in-Err-clause-ran : goal.returns-in-Err-clause-ran
+returns-in-Err-clause-ran g c = λ s pts legs v.
+    let b = c.loop-k.invariant.4 s pts legs v in
+    let here : s.legs ≡ length c.loop-k.ports = omega (arith, legs, c.loop-k.auto.ports) in
+    let w = c.gather_all.ensures.gathered s pts c.loop-k.k here b.0 in
+    let v = w.0.serving in
+    let x = becomes g.I.Pops.popped g.I.Pops.began g.M.Mixes.stands (StandsPaced g.C.TurnClock.tells c.args.tick (g.C.TurnClock.moment c.args.clock.now) (HaltsThen g.M.Mixes.halted)) s pts c.loop-k.k c.gather_all.new.ports c.gather_all.new.mixer c.turn.new.self v (
+      (c.clock_now-now.result, c.in-Err.ensures.halted s pts v.calls v.made),
+      λ t. record { began = c.clock_now-began.result; behind = c.loop-k.invariant.7; at = subst (λ (ms : List ℕ). AtTicks c.args.tick c.clock_now-began.result ms) (sym w.1) (b.1 t) },
+    ) in
+    record { turns = c.loop-k.k; few = omega (arith, c.loop-k-test.true); serving = x.0 }
 
 pub returns-in-Some-clause-grew : goal.returns-in-Some-clause-grew
 returns-in-Some-clause-grew g c = all_then_grew g.I.Pops.popped g.I.Pops.began c.args.ports.now c.loop-k.ports c.gather_all.new.ports c.loop-k.invariant.5 c.gather_all.ensures.grew
 
-pub returns-then-idle-clause-grew : goal.returns-then-idle-clause-grew
-returns-then-idle-clause-grew g c = all_then_grew g.I.Pops.popped g.I.Pops.began c.args.ports.now c.loop-k.ports c.gather_all.new.ports c.loop-k.invariant.5 c.gather_all.ensures.grew
+pub returns-then-is_over-clause-grew : goal.returns-then-is_over-clause-grew
+returns-then-is_over-clause-grew g c = all_then_grew g.I.Pops.popped g.I.Pops.began c.args.ports.now c.loop-k.ports c.gather_all.new.ports c.loop-k.invariant.5 c.gather_all.ensures.grew
 
 pub returns-in-Err-clause-grew : goal.returns-in-Err-clause-grew
 returns-in-Err-clause-grew g c = all_then_grew g.I.Pops.popped g.I.Pops.began c.args.ports.now c.loop-k.ports c.gather_all.new.ports c.loop-k.invariant.5 c.gather_all.ensures.grew
 
 pub returns-in-Err-clause-passed : goal.returns-in-Err-clause-passed
-returns-in-Err-clause-passed g c = passed_on g.C.TurnClock c.args.clock.now c.loop-k.clock c.clock_now-now.new.self c.loop-k.invariant.7
-    (let e = c.clock_now-now.ensures in record { same_own = e.same_own; same_objects = e.same_objects; rises = e.rises; same_opened = e.same_opened })
+returns-in-Err-clause-passed g c = passed_on g.C.TurnClock c.args.clock.now c.loop-k.clock c.clock_now-now.new.self c.loop-k.invariant.9
+    (let e = c.clock_now-now.ensures in record { same_own = e.same_own; same_objects = e.same_objects; rises = e.rises; same_opened = e.same_opened; same_leads = e.same_leads })
 
 pub returns-in-Some-clause-addresses : goal.returns-in-Some-clause-addresses
-returns-in-Some-clause-addresses g c = let keeps = c.gather_all.ensures.keeps in keeps.addresses ∙ c.loop-k.invariant.8
+returns-in-Some-clause-addresses g c = let keeps = c.gather_all.ensures.keeps in keeps.addresses ∙ c.loop-k.invariant.10
 
-pub returns-then-idle-clause-addresses : goal.returns-then-idle-clause-addresses
-returns-then-idle-clause-addresses g c = let keeps = c.gather_all.ensures.keeps in keeps.addresses ∙ c.loop-k.invariant.8
+pub returns-then-is_over-clause-addresses : goal.returns-then-is_over-clause-addresses
+returns-then-is_over-clause-addresses g c = let keeps = c.gather_all.ensures.keeps in keeps.addresses ∙ c.loop-k.invariant.10
 
 pub returns-in-Err-clause-addresses : goal.returns-in-Err-clause-addresses
-returns-in-Err-clause-addresses g c = let keeps = c.gather_all.ensures.keeps in c.turn.ensures.addresses ∙ (keeps.addresses ∙ c.loop-k.invariant.8)
+returns-in-Err-clause-addresses g c = let keeps = c.gather_all.ensures.keeps in c.turn.ensures.addresses ∙ (keeps.addresses ∙ c.loop-k.invariant.10)
+
+pub returns-clause-paced : goal.returns-clause-paced
+returns-clause-paced g c = λ t done.
+    let last : c.loop-k.k ≡ c.args.turns = omega (arith, c.loop-k-test.false, c.loop-k.auto.k-end) in
+    record {
+      began = c.clock_now-began.result;
+      behind = c.loop-k.invariant.7;
+      passed = subst (λ (k : ℕ). c.clock_now-began.result + k * c.args.tick < 2 ^ 47 → c.clock_now-began.result + k * c.args.tick ≤ g.C.TurnClock.moment c.loop-k.clock) last (c.loop-k.invariant.8 t);
+    }

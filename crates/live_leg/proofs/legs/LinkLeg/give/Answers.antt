@@ -47,9 +47,9 @@ invariant_of-self-2 g c = record {
 
 pub returns-clause-gives : goal.returns-clause-gives
 returns-clause-gives g c =
-    gives_said g.L.LinkIn c.args.self.now _ (chunk_of c.next.new.chunk) c.args.self.now.last c.seen_as.result c.seen_as.ensures c.requires (sym c.is_ending.ensures ∙ c.if-is_ending.false) refl refl c.next.ensures.conf
+    gives_said g.L.LinkIn c.args.self.now _ (chunk_of c.next.new.chunk) c.seen_as-said.result c.seen_as-said.ensures c.requires (sym c.is_ending.ensures ∙ c.if-is_ending.false) refl refl c.next.ensures.conf
     (c.next.ensures.none c.if-next.false) (c.next.ensures.all c.if-next.false) c.next.ensures.front
 
 pub returns-clause-text : goal.returns-clause-text
 returns-clause-text g c =
-    subst (λ (k : ItemKind). HasText k (chunk_of c.next.new.chunk)) (sym c.seen_as.ensures) (seen_text c.args.self.now.last (chunk_of c.next.new.chunk))
+    subst (λ (k : ItemKind). HasText k (chunk_of c.next.new.chunk)) (sym c.seen_as-said.ensures) (seen_text c.args.self.now.state (chunk_of c.next.new.chunk))

@@ -1,5 +1,5 @@
-use Rattle.std.proofs.Common.{true, refl}
-use Rattle.live_loop.proofs.Advancing.{all_blocked, begins, gathered_blocked, gathered_ended, gathered_failed, gathered_seen, goes_seen, goes_still, then_grew}
+use Rattle.std.proofs.Common.{arith}
+use Rattle.live_loop.proofs.Advancing.{all_blocked, all_silent, begins, gathered_blocked, gathered_ended, gathered_failed, gathered_most, goes_seen, goes_still, then_grew}
 use Rattle.live_loop.proofs.ports.LivePort.gather.Goals as goal
 
 pub returns-then-not-retry-clause-gathered : goal.returns-then-not-retry-clause-gathered
@@ -10,38 +10,37 @@ loop-init g c =
     begins g.I.Pops.popped g.I.Pops.began g.M.Mixes.stands g.M.Mixes.legs g.M.Mixes.turns g.M.Mixes.addresses c.args.self.now c.retry.new.self c.args.mixer.now c.retry.new.mixer c.retry.ensures.leg c.retry.ensures.grew c.retry.ensures.keeps c.if-not-retry.ensures.retries
 
 pub returns-then-self-clause-gathered : goal.returns-then-self-clause-gathered
-returns-then-self-clause-gathered g c = gathered_ended g.I.Pops.popped g.M.Mixes.stands c.loop.seen c.args.self.now c.loop.self c.args.mixer.now c.loop.mixer c.if-self.true c.loop.invariant.goes
+returns-then-self-clause-gathered g c = gathered_ended g.I.Pops.popped g.M.Mixes.stands c.loop.takes c.args.self.now c.loop.self c.args.mixer.now c.loop.mixer c.if-self.true c.loop.invariant.goes
 
 pub returns-then-self-2-clause-gathered : goal.returns-then-self-2-clause-gathered
-returns-then-self-2-clause-gathered g c = gathered_failed g.I.Pops.popped g.M.Mixes.stands c.loop.seen c.args.self.now c.loop.self c.args.mixer.now c.loop.mixer c.if-self-2.true c.loop.invariant.goes
+returns-then-self-2-clause-gathered g c = gathered_failed g.I.Pops.popped g.M.Mixes.stands c.loop.takes c.args.self.now c.loop.self c.args.mixer.now c.loop.mixer c.if-self-2.true c.loop.invariant.goes
 
-pub returns-then-is_enough-clause-gathered : goal.returns-then-is_enough-clause-gathered
-returns-then-is_enough-clause-gathered g c = gathered_seen g.I.Pops.popped g.M.Mixes.stands c.loop.seen c.args.self.now c.loop.self c.args.mixer.now c.loop.mixer (c.is_enough.ensures c.if-is_enough.true) c.loop.invariant.goes
+pub returns-then-takes-ge-MOST_TAKES-clause-gathered : goal.returns-then-takes-ge-MOST_TAKES-clause-gathered
+returns-then-takes-ge-MOST_TAKES-clause-gathered g c = gathered_most g.I.Pops.popped g.M.Mixes.stands c.loop.takes c.args.self.now c.loop.self c.args.mixer.now c.loop.mixer (omega (arith, c.if-takes-ge-MOST_TAKES.true)) c.loop.invariant.goes
 
 pub loop-preserved-in-Going : goal.loop-preserved-in-Going
 loop-preserved-in-Going g c =
-    goes_still g.I.Pops.popped g.I.Pops.began g.M.Mixes.stands g.M.Mixes.legs g.M.Mixes.turns g.M.Mixes.addresses c.loop.seen c.args.self.now c.loop.self c.advance.new.self c.args.mixer.now c.loop.mixer c.advance.new.mixer c.loop.invariant
+    goes_still g.I.Pops.popped g.I.Pops.began g.M.Mixes.stands g.M.Mixes.legs g.M.Mixes.turns g.M.Mixes.addresses c.loop.takes c.args.self.now c.loop.self c.advance.new.self c.args.mixer.now c.loop.mixer c.advance.new.mixer c.loop.invariant
     c.advance.ensures.leg c.advance.ensures.grew c.advance.ensures.keeps c.in-Going.ensures.advances
 
 pub loop-preserved-in-Seen : goal.loop-preserved-in-Seen
 loop-preserved-in-Seen g c =
-    goes_seen g.I.Pops.popped g.I.Pops.began g.M.Mixes.stands g.M.Mixes.legs g.M.Mixes.turns g.M.Mixes.addresses c.loop.seen c.args.self.now c.loop.self c.advance.new.self c.args.mixer.now c.loop.mixer c.advance.new.mixer c.loop.invariant
+    goes_seen g.I.Pops.popped g.I.Pops.began g.M.Mixes.stands g.M.Mixes.legs g.M.Mixes.turns g.M.Mixes.addresses c.loop.takes c.args.self.now c.loop.self c.advance.new.self c.args.mixer.now c.loop.mixer c.advance.new.mixer c.loop.invariant
     c.advance.ensures.leg c.advance.ensures.grew c.advance.ensures.keeps c.in-Seen.ensures.advances
 
 pub loop-preserved : goal.loop-preserved
 loop-preserved g c =
-    goes_still g.I.Pops.popped g.I.Pops.began g.M.Mixes.stands g.M.Mixes.legs g.M.Mixes.turns g.M.Mixes.addresses c.loop.seen c.args.self.now c.loop.self c.advance.new.self c.args.mixer.now c.loop.mixer c.advance.new.mixer c.loop.invariant
+    goes_still g.I.Pops.popped g.I.Pops.began g.M.Mixes.stands g.M.Mixes.legs g.M.Mixes.turns g.M.Mixes.addresses c.loop.takes c.args.self.now c.loop.self c.advance.new.self c.args.mixer.now c.loop.mixer c.advance.new.mixer c.loop.invariant
     c.advance.ensures.leg c.advance.ensures.grew c.advance.ensures.keeps c.in-Nothing.ensures.advances
 
 pub returns-in-Silent-clause-gathered : goal.returns-in-Silent-clause-gathered
 returns-in-Silent-clause-gathered g c =
-    let now = goes_seen g.I.Pops.popped g.I.Pops.began g.M.Mixes.stands g.M.Mixes.legs g.M.Mixes.turns g.M.Mixes.addresses c.loop.seen c.args.self.now c.loop.self c.advance.new.self c.args.mixer.now c.loop.mixer c.advance.new.mixer c.loop.invariant
-    c.advance.ensures.leg c.advance.ensures.grew c.advance.ensures.keeps c.in-Silent.ensures.advances in
-    gathered_seen g.I.Pops.popped g.M.Mixes.stands true c.args.self.now c.advance.new.self c.args.mixer.now c.advance.new.mixer refl now.goes
+    all_silent g.I.Pops.popped g.I.Pops.began g.M.Mixes.stands g.M.Mixes.legs g.M.Mixes.turns g.M.Mixes.addresses c.loop.takes c.args.self.now c.loop.self c.advance.new.self c.args.mixer.now c.loop.mixer c.advance.new.mixer c.loop.invariant
+    c.in-Silent.ensures.advances
 
 pub returns-in-Blocked-clause-gathered : goal.returns-in-Blocked-clause-gathered
 returns-in-Blocked-clause-gathered g c =
-    all_blocked g.I.Pops.popped g.I.Pops.began g.M.Mixes.stands g.M.Mixes.legs g.M.Mixes.turns g.M.Mixes.addresses c.loop.seen c.args.self.now c.loop.self c.advance.new.self c.args.mixer.now c.loop.mixer c.advance.new.mixer c.loop.invariant
+    all_blocked g.I.Pops.popped g.I.Pops.began g.M.Mixes.stands g.M.Mixes.legs g.M.Mixes.turns g.M.Mixes.addresses c.loop.takes c.args.self.now c.loop.self c.advance.new.self c.args.mixer.now c.loop.mixer c.advance.new.mixer c.loop.invariant
     c.in-Blocked.ensures.advances
 
 pub returns-in-Silent-clause-grew : goal.returns-in-Silent-clause-grew
