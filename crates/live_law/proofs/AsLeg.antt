@@ -16,6 +16,7 @@ use Rattle.live_law.specs.Covers.{Covers, as_leg}
 text_as : (p j : ℕ) (x : Item) → map (of_leg j) (text_in p x) ≡ text_in j x
 text_as p j (item.Text ready octets) = refl
 text_as p j item.Seen = refl
+text_as p j item.Silent = refl
 text_as p j item.End = refl
 text_as p j item.Quit = refl
 text_as p j item.Fault = refl

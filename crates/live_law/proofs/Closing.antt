@@ -11,7 +11,7 @@ use Rattle.live_spec.specs.Told.{Hearing, all_by, ready_by, told_by}
 use Rattle.live_leg.specs.Items.{Item}
 use Rattle.live_leg.specs.Items as item
 use Rattle.live_leg.specs.declared.states.State.{State}
-use Rattle.live_leg.specs.declared.states.State.TheVariants.{Idle, Giving, Ending, Over}
+use Rattle.live_leg.specs.declared.states.State.TheVariants.{Idle, Giving, Blank, Ending, Over}
 use Rattle.live_leg.specs.Items.{AreItems, mark_of, texts_in}
 use Rattle.live_leg.specs.Stands.{IsEnded, IsGivingSome, IsStop, PhaseAt}
 use Rattle.live_leg.specs.Stories.{hearing_of}
@@ -49,6 +49,7 @@ open_no_end h (w ∷ past) items a o e =
 stop_no_end : (x : Item) (F : Type 0) → IsStop x F → has_end (x ∷ []) ≡ true → ⊥
 stop_no_end (item.Text r o) F s e = s
 stop_no_end item.Seen F s e = s
+stop_no_end item.Silent F s e = s
 stop_no_end item.End F s e = s
 stop_no_end item.Quit F s e = true≢false (sym e)
 stop_no_end item.Fault F s e = true≢false (sym e)
@@ -60,7 +61,7 @@ module _ (conf : EarConf) (takes : Takes) (gave popped left : List Item) (all : 
   end_in : has_end gave ≡ true
   end_in = ap has_end all ∙ end_append popped left ends
 
-  giving_no_end : {b : Bool} → IsGivingSome b (hearing_of conf) takes gave → ⊥
+  giving_no_end : {b : Bool} {m : Item} → IsGivingSome b m (hearing_of conf) takes gave → ⊥
   giving_no_end w = elim (end_split w.before w.news (sym (ap has_end w.items_are) ∙ end_in)) [
     | inl before ↦ open_no_end (hearing_of conf) w.past w.before w.are w.open_before before
     | inr text ↦ true≢false (sym text ∙ no_end w.news (texts_no_marks w.news w.texts))
@@ -91,6 +92,7 @@ module _ (conf : EarConf) (takes : Takes) (gave popped left : List Item) (all : 
   phase_all : (st : State) (F : Type 0) (story : Story) → PhaseAt st F conf takes gave story → (is_closed takes ≡ true) × (texts_in 0 popped ≡ all_by (hearing_of conf) takes)
   phase_all Idle F story p = absurd (open_no_end (hearing_of conf) takes gave p.are p.open_still end_in)
   phase_all Giving F story p = absurd (giving_no_end p)
+  phase_all Blank F story p = absurd (giving_no_end p)
   phase_all Ending F story p = absurd (giving_no_end p.0)
   phase_all Over F story (inl p) = ended_all p
   phase_all Over F story (inr p) = absurd (elim (end_split p.before (p.last ∷ []) (sym (ap has_end p.items_are) ∙ end_in)) [

@@ -11,19 +11,20 @@ use Rattle.live_spec.specs.Told.{Hearing, all_by}
 use Rattle.live_leg.specs.Items.{Item}
 use Rattle.live_leg.specs.Items as item
 use Rattle.live_leg.specs.declared.states.State.{State}
-use Rattle.live_leg.specs.declared.states.State.TheVariants.{Idle, Giving, Ending, Over}
+use Rattle.live_leg.specs.declared.states.State.TheVariants.{Idle, Giving, Blank, Ending, Over}
 use Rattle.live_leg.specs.declared.legs.LinkLeg.{LinkLeg}
-use Rattle.live_leg.specs.Items.{AreItems, AreTexts, is_text, texts_in}
+use Rattle.live_leg.specs.Items.{AreItems, AreTexts, is_mark, is_text, texts_in}
 use Rattle.live_leg.specs.Stands.{IsGivingSome, IsStop, LegStands, PhaseAt}
 use Rattle.live_leg.specs.Stories.{hearing_of}
 use Rattle.live_law.specs.Covers.{Covers, as_leg}
 use Rattle.live_law.proofs.AsLeg.{covers_as}
 use Rattle.live_law.proofs.Opening.{open_before, open_takes}
-use Rattle.live_law.specs.Marks.{AreNoMarks, IsOpenBefore, is_mark}
+use Rattle.live_law.specs.Marks.{AreNoMarks, IsOpenBefore}
 
 text_no_mark : (x : Item) → is_text x ≡ true → is_mark x ≡ false
 text_no_mark (item.Text r o) e = refl
 text_no_mark item.Seen e = absurd (cc e)
+text_no_mark item.Silent e = absurd (cc e)
 text_no_mark item.End e = absurd (cc e)
 text_no_mark item.Quit e = refl
 text_no_mark item.Fault e = refl
@@ -35,6 +36,7 @@ texts_no_marks (x ∷ xs) a = (text_no_mark x a.0, texts_no_marks xs a.1)
 stop_no_mark : (x : Item) (F : Type 0) → IsStop x F → is_mark x ≡ false
 stop_no_mark (item.Text r o) F s = absurd s
 stop_no_mark item.Seen F s = absurd s
+stop_no_mark item.Silent F s = absurd s
 stop_no_mark item.End F s = absurd s
 stop_no_mark item.Quit F s = refl
 stop_no_mark item.Fault F s = refl
@@ -57,12 +59,13 @@ covers_by h takes gave popped left all front later counting given tail last e ar
 }
 
 module _ (conf : EarConf) (takes : Takes) (gave popped left : List Item) (all : gave ≡ popped ++ left) (front : IsFront (texts_in 0 gave) (all_by (hearing_of conf) takes)) where
-  some_covers : {b : _} → IsGivingSome b (hearing_of conf) takes gave → Covers (hearing_of conf) takes popped
+  some_covers : {b : _} {m : _} → IsGivingSome b m (hearing_of conf) takes gave → Covers (hearing_of conf) takes popped
   some_covers w = covers_by (hearing_of conf) takes gave popped left all front (w.last ∷ []) w.past w.before w.news (subst IsOpenBefore (sym w.takes_are) (open_takes (hearing_of conf) w.past w.open_before)) w.takes_are w.are (texts_no_marks w.news w.texts) w.items_are
 
   phase_covers : (st : State) (F : Type 0) (story : Story) → PhaseAt st F conf takes gave story → Covers (hearing_of conf) takes popped
   phase_covers Idle F story p = covers_by (hearing_of conf) takes gave popped left all front [] takes gave [] (open_before (hearing_of conf) takes p.open_still) refl p.are tt (sym (append-nil gave))
   phase_covers Giving F story p = some_covers p
+  phase_covers Blank F story p = some_covers p
   phase_covers Ending F story p = some_covers p.0
   phase_covers Over F story (inl p) = covers_by (hearing_of conf) takes gave popped left all front [] takes gave [] (subst IsOpenBefore (sym p.some.takes_are) (open_takes (hearing_of conf) p.some.past p.some.open_before)) refl p.are tt (sym (append-nil gave))
   phase_covers Over F story (inr p) = covers_by (hearing_of conf) takes gave popped left all front [] takes p.before (p.last ∷ []) (open_before (hearing_of conf) takes p.open_still) refl p.are (stop_no_mark p.last F p.stops, tt) p.items_are

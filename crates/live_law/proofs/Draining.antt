@@ -16,7 +16,7 @@ use Rattle.live_law.proofs.Opening.{none_later, told_closed}
 pub whole_ready : (h : Hearing) (takes : Takes) → is_closed takes ≡ true → ready_by h takes ≡ all_by h takes
 whole_ready h takes c = ap (λ b. if b then all_told h (told_by h takes) else ready_told h (record (told_by h takes) { closed = false })) (told_closed h takes c)
 
-nothing : (cs : List Chunk) → length cs ≡ 0 → cs ≡ []
+pub nothing : (cs : List Chunk) → length cs ≡ 0 → cs ≡ []
 nothing [] e = refl
 nothing (c ∷ cs) e = absurd (omega (arith, e))
 

@@ -1,21 +1,21 @@
 -- The takes that count.
-use Rattle.std.proofs.Common.{◌≡◌, ◌≤◌, ℕ, suc, ◌+◌, true, false, true≢false, inl, inr, ◌⊎◌, List, [], ◌∷◌, ◌++◌, ◌||◌, length, refl, ap, sym, ◌∙◌, subst, append_assoc, arith}
+use Rattle.std.proofs.Common.{◌≡◌, ◌≤◌, ◌<◌, ℕ, ◌+◌, ◌-◌, true, false, true≢false, inl, inr, ◌⊎◌, List, [], ◌∷◌, ◌++◌, ◌||◌, drop, length, length-append, refl, ap, sym, ◌∙◌, subst, append_assoc, arith}
 use Rattle.std.specs.Prelude.{Bool, if◌then◌else◌}
 use Rattle.std.proofs.lemmas.List.{append-nil}
-use Rattle.mix_loop.proofs.Lists.{lt_or_ge}
+use Rattle.std.proofs.Math.Seq.{drop-append_seam}
 use Rattle.stream_spec.specs.Fronts.{IsFront}
 use Rattle.stream_spec.specs.Ready.{Chunk}
 use Rattle.link_spec.specs.Links.{Taken, Takes, Came, Datagram, Large, Quiet, Closed, is_closed, is_closing}
 use Rattle.live_spec.specs.Told.{Hearing, ready_by}
-use Rattle.live_spec.specs.Live.{IsUpToDate}
+use Rattle.live_spec.specs.Live.{IsHeardOut, IsUpToDate, first_takes, is_blank, is_quiet, most_takes}
 use Rattle.live_leg.specs.Items.{Item}
 use Rattle.live_leg.specs.Items as item
-use Rattle.live_leg.specs.Items.{AreItems, is_seen, mark_of, seen_in, texts_in}
+use Rattle.live_leg.specs.Items.{AreItems, is_mark, mark_of, marks_in, texts_in}
 use Rattle.live_leg.proofs.Texts.{texts_append}
-use Rattle.live_loop.specs.Handed.{IsEnough, has_end, is_end}
-use Rattle.live_loop.proofs.Enough.{end_append}
+use Rattle.live_loop.specs.Handed.{EndsSilent, IsEnough, has_end, is_end}
+use Rattle.live_loop.proofs.Enough.{end_append, end_both, end_none, has_marks, marks_append, or_none}
 use Rattle.live_law.specs.Covers.{Covers}
-use Rattle.live_law.specs.Marks.{AreNoMarks, IsOpenBefore, is_mark}
+use Rattle.live_law.specs.Marks.{AreNoMarks, IsOpenBefore}
 use Rattle.live_law.proofs.Covering.{texts_no_marks}
 use Rattle.live_law.proofs.Opening.{none_later}
 
@@ -50,32 +50,9 @@ but_last (x ∷ xs) z (v ∷ w) y m e =
     (r.0, ap (λ l. x ∷ l) r.1 ∙ ap (λ k. k ∷ w) head)
 
 -- ---- marks
-abbrev marks_in : List Item → ℕ
-marks_in [] = 0
-marks_in (x ∷ xs) = (if is_mark x then 1 else 0) + marks_in xs
-
-marks_append : (xs ys : List Item) → marks_in (xs ++ ys) ≡ marks_in xs + marks_in ys
-marks_append [] ys = omega arith
-marks_append (x ∷ xs) ys = let r = marks_append xs ys in omega (arith, r)
-
 no_marks_in : (xs : List Item) → AreNoMarks xs → marks_in xs ≡ 0
 no_marks_in [] a = refl
 no_marks_in (x ∷ xs) a = let r = no_marks_in xs a.1 in ap (λ b. (if b then 1 else 0) + marks_in xs) a.0 ∙ omega (arith, r)
-
-seen_mark : (x : Item) → is_seen x ≡ true → is_mark x ≡ true
-seen_mark (item.Text r o) e = absurd (cc e)
-seen_mark item.Seen e = refl
-seen_mark item.End e = absurd (cc e)
-seen_mark item.Quit e = absurd (cc e)
-seen_mark item.Fault e = absurd (cc e)
-
-seen_marks : (xs : List Item) → seen_in xs ≤ marks_in xs
-seen_marks [] = omega arith
-seen_marks (x ∷ xs) = go (is_seen x) refl (seen_marks xs)
-  where
-    go : (b : Bool) → is_seen x ≡ b → seen_in xs ≤ marks_in xs → (if b then suc (seen_in xs) else seen_in xs) ≤ (if is_mark x then 1 else 0) + marks_in xs
-    go true e l = subst (λ (c : Bool). suc (seen_in xs) ≤ (if c then 1 else 0) + marks_in xs) (sym (seen_mark x e)) (omega (arith, l))
-    go false e l = omega (arith, l)
 
 mark_is : (w : Came) → is_mark (mark_of w) ≡ true
 mark_is (Datagram o) = refl
@@ -124,39 +101,6 @@ all_count h a past given z E i e = record {
 found_at : (h : Hearing) (counting : Takes) (xs ys : List Item) (E : Takes → Type 0) → xs ≡ ys → Found h counting ys E → Found h counting xs E
 found_at h counting xs ys E e f = subst (λ (l : List Item). Found h counting l E) (sym e) f
 
-find_seen : (h : Hearing) (counting : Takes) (given before rest tail : List Item) (n : ℕ) → AreItems h counting given → AreNoMarks tail → before ++ rest ≡ given ++ tail → n ≤ marks_in before → Found h counting before (λ first. length first ≡ n)
-find_seen h [] given before rest tail n a none e l =
-    let p = marks_append before rest in
-    let q = marks_append given tail in
-    let x = ap marks_in e in
-    let y = ap marks_in a in
-    let z = no_marks_in tail none in
-    record { later = []; first = []; are = refl; enough = omega (arith, l, p, q, x, y, z); took = (texts_in h.leg before, refl) }
-find_seen h (w ∷ past) given before rest tail n a none e l =
-    let bf = a.0 in
-    let news = a.1 in
-    let m = mark_of w.came in
-    elim (longer before rest given tail e) [
-      | inl all ↦ elim (lt_or_ge (length past) n) [
-        | inl more ↦
-            let p = marks_append before rest in
-            let q = marks_append given tail in
-            let x = ap marks_in e in
-            let y = marks_given h (w ∷ past) given a in
-            let z = no_marks_in tail none in
-            found_at h (w ∷ past) before (given ++ all.0) (λ first. length first ≡ n) all.1 (all_count h w past given all.0 (λ first. length first ≡ n) a (omega (arith, l, p, q, x, y, z, more)))
-        | inr less ↦
-            let y = marks_given h past bf a.3 in
-            let inner = find_seen h past bf bf [] [] n a.3 tt refl (omega (arith, y, less)) in
-            let whole : before ≡ bf ++ ((news ++ m ∷ []) ++ all.0) = all.1 ∙ (ap (λ k. k ++ all.0) a.2 ∙ append_assoc bf (news ++ m ∷ []) all.0) in
-            found_at h (w ∷ past) before (bf ++ ((news ++ m ∷ []) ++ all.0)) (λ first. length first ≡ n) whole
-            (one_later h w past (bf ++ ((news ++ m ∷ []) ++ all.0)) (λ first. length first ≡ n) (longer_took h past bf ((news ++ m ∷ []) ++ all.0) (λ first. length first ≡ n) inner))
-      ]
-      | inr part ↦
-          let r = but_last before part.1 (bf ++ news) part.0 m (sym part.2 ∙ (a.2 ∙ sym (append_assoc bf news (m ∷ [])))) in
-          one_later h w past before (λ first. length first ≡ n) (find_seen h past bf before r.0 news n a.3 (texts_no_marks news a.4) r.1 l)
-    ]
-
 -- ---- all takes, where the link was closed
 pub no_end : (xs : List Item) → AreNoMarks xs → has_end xs ≡ false
 no_end [] a = refl
@@ -165,6 +109,7 @@ no_end (x ∷ xs) a = ap (λ b. b || has_end xs) (end_mark x a.0) ∙ no_end xs 
     end_mark : (x : Item) → is_mark x ≡ false → is_end x ≡ false
     end_mark (item.Text r o) e = refl
     end_mark item.Seen e = refl
+    end_mark item.Silent e = refl
     end_mark item.End e = absurd (cc e)
     end_mark item.Quit e = refl
     end_mark item.Fault e = refl
@@ -213,13 +158,149 @@ find_end h (w ∷ past) given before rest tail a none e l =
           one_later h w past before E (find_end h past bf before r.0 news a.3 (texts_no_marks news a.4) r.1 l)
     ]
 
+-- ---- as many takes as marks
+-- the last of these items
+abbrev last_item : Item → List Item → Item
+last_item d [] = d
+last_item d (x ∷ xs) = last_item x xs
+
+last_is : (d : Item) (xs : List Item) (x : Item) → last_item d (xs ++ x ∷ []) ≡ x
+last_is d [] x = refl
+last_is d (y ∷ xs) x = last_is y xs x
+
+last_append : (d : Item) (xs ys : List Item) → last_item d (xs ++ ys) ≡ last_item (last_item d xs) ys
+last_append d [] ys = refl
+last_append d (x ∷ xs) ys = last_append x xs ys
+
+last_no_mark : (d : Item) (xs : List Item) → is_mark d ≡ false → AreNoMarks xs → is_mark (last_item d xs) ≡ false
+last_no_mark d [] e a = e
+last_no_mark d (x ∷ xs) e a = last_no_mark x xs a.0 a.1
+
+-- of what ends with a mark nothing is behind it that is none
+last_mark : (d : Item) (xs ys : List Item) → is_mark (last_item d (xs ++ ys)) ≡ true → AreNoMarks ys → last_item d (xs ++ ys) ≡ last_item d xs
+last_mark d xs [] e a = ap (last_item d) (append-nil xs)
+last_mark d xs (y ∷ ys) e a = absurd (true≢false (sym e ∙ (ap is_mark (last_append d xs (y ∷ ys)) ∙ last_no_mark y ys a.0 a.1)))
+
+quiet_is : (w : Came) → mark_of w ≡ item.Silent → is_quiet w ≡ true
+quiet_is (Datagram o) e = absurd (cc e)
+quiet_is Large e = absurd (cc e)
+quiet_is Quiet e = refl
+quiet_is Closed e = absurd (cc e)
+
+end_is : (w : Came) → is_end (mark_of w) ≡ is_closing w
+end_is (Datagram o) = refl
+end_is Large = refl
+end_is Quiet = refl
+end_is Closed = refl
+
+-- the end was given where the link is closed
+ends_are : (h : Hearing) (takes : Takes) (given : List Item) → AreItems h takes given → has_end given ≡ is_closed takes
+ends_are h [] given a = ap has_end a
+ends_are h (w ∷ past) given a =
+    let m = mark_of w.came in
+    ap has_end a.2
+    ∙ (end_both a.0 (a.1 ++ m ∷ [])
+    ∙ (ap (λ b. has_end a.0 || b) (end_both a.1 (m ∷ []) ∙ (ap (λ b. b || (is_end m || false)) (no_end a.1 (texts_no_marks a.1 a.4)) ∙ (or_none (is_end m) ∙ end_is w.came)))
+    ∙ (ap (λ b. b || is_closing w.came) (ends_are h past a.0 a.3) ∙ swap (is_closed past) (is_closing w.came))))
+  where
+    swap : (a b : Bool) → (a || b) ≡ (b || a)
+    swap true true = refl
+    swap true false = refl
+    swap false true = refl
+    swap false false = refl
+
+-- these takes are those whose marks were popped
+record AreCounted (xs : List Item) (first : Takes) : Type 0 where
+  many : length first ≡ marks_in xs
+  blank : last_item item.Quit xs ≡ item.Silent → is_blank first ≡ true
+  ends : has_end xs ≡ is_closed first
+
+-- of items without a mark
+none_counted : (xs ys tail : List Item) → AreNoMarks tail → xs ++ ys ≡ tail → AreCounted xs []
+none_counted xs ys tail none e = record {
+  many = (let p = marks_append xs ys in let q = ap marks_in e in let z = no_marks_in tail none in omega (arith, p, q, z));
+  blank = λ b. absurd (true≢false (sym (ap is_mark b) ∙ last_no_mark item.Quit xs refl (front_no_marks xs ys (subst AreNoMarks (sym e) none))));
+  ends = front_no_end (has_end xs) (has_end ys) (sym (end_both xs ys) ∙ (ap has_end e ∙ no_end tail none));
+}
+  where
+    front_no_marks : (xs ys : List Item) → AreNoMarks (xs ++ ys) → AreNoMarks xs
+    front_no_marks [] ys a = tt
+    front_no_marks (x ∷ xs) ys a = (a.0, front_no_marks xs ys a.1)
+
+    front_no_end : (a b : Bool) → (a || b) ≡ false → a ≡ false
+    front_no_end true b e = e
+    front_no_end false b e = refl
+
+all_counted : (h : Hearing) (w : Taken) (past : Takes) (given z xs : List Item) → AreItems h (w ∷ past) given → AreNoMarks z → xs ≡ given ++ z → AreCounted xs (w ∷ past)
+all_counted h w past given z xs a none e =
+    let m = mark_of w.came in
+    let whole : given ≡ (a.0 ++ a.1) ++ m ∷ [] = a.2 ∙ sym (append_assoc a.0 a.1 (m ∷ [])) in
+    record {
+      many = (let p = marks_append given z in let q = ap marks_in e in let y = no_marks_in z none in let r = marks_given h (w ∷ past) given a in omega (arith, p, q, y, r));
+      blank = λ b. quiet_is w.came (
+          let there : last_item item.Quit (given ++ z) ≡ item.Silent = ap (last_item item.Quit) (sym e) ∙ b in
+          sym (last_is item.Quit (a.0 ++ a.1) m) ∙ (ap (last_item item.Quit) (sym whole) ∙ (sym (last_mark item.Quit given z (ap is_mark there) none) ∙ there)));
+      ends = ap has_end e ∙ (end_none given z (no_end z none) ∙ ends_are h (w ∷ past) given a);
+    }
+
+behind_none : (xs ys tail : List Item) → xs ++ ys ≡ tail → AreNoMarks tail → AreNoMarks xs
+behind_none xs ys tail e none = front xs (subst AreNoMarks (sym e) none)
+  where
+    front : (xs : List Item) → AreNoMarks (xs ++ ys) → AreNoMarks xs
+    front [] a = tt
+    front (x ∷ xs) a = (a.0, front xs a.1)
+
+find_marks : (h : Hearing) (counting : Takes) (given before rest tail : List Item) → AreItems h counting given → AreNoMarks tail → before ++ rest ≡ given ++ tail → Found h counting before (AreCounted before)
+find_marks h [] given before rest tail a none e =
+    record { later = []; first = []; are = refl; enough = none_counted before rest tail none (e ∙ ap (λ k. k ++ tail) a); took = (texts_in h.leg before, refl) }
+find_marks h (w ∷ past) given before rest tail a none e =
+    let bf = a.0 in
+    let news = a.1 in
+    let m = mark_of w.came in
+    elim (longer before rest given tail e) [
+      | inl all ↦
+          let c = all_counted h w past given all.0 before a (behind_none all.0 rest tail all.2 none) all.1 in
+          found_at h (w ∷ past) before (given ++ all.0) (AreCounted before) all.1 (all_count h w past given all.0 (AreCounted before) a c)
+      | inr part ↦
+          let r = but_last before part.1 (bf ++ news) part.0 m (sym part.2 ∙ (a.2 ∙ sym (append_assoc bf news (m ∷ [])))) in
+          one_later h w past before (AreCounted before) (find_marks h past bf before r.0 news a.3 (texts_no_marks news a.4) r.1)
+    ]
+
 -- ---- what was popped before a turn
-pub up_to_date : (h : Hearing) (takes : Takes) (items before more : List Item) (n : ℕ) → Covers h takes items → items ≡ before ++ more → IsEnough n before → IsUpToDate h takes n (texts_in h.leg before)
-up_to_date h takes items before more n w e (inl l) =
-    let s = seen_marks before in
-    let f = find_seen h w.counting w.given before (more ++ w.left) w.tail n w.are w.no_marks (sym (append_assoc before more w.left) ∙ (ap (λ k. k ++ w.left) (sym e) ∙ w.items_are)) (omega (arith, l, s)) in
-    record { later = w.later ++ f.later; counting = f.first; are = w.takes_are ∙ (ap (λ k. w.later ++ k) f.are ∙ sym (append_assoc w.later f.later f.first)); enough = inl f.enough; took = f.took }
-up_to_date h takes items before more n w e (inr l) =
-    let f = find_end h w.counting w.given before (more ++ w.left) w.tail w.are w.no_marks (sym (append_assoc before more w.left) ∙ (ap (λ k. k ++ w.left) (sym e) ∙ w.items_are)) l in
-    let are : takes ≡ (w.later ++ f.later) ++ f.first = w.takes_are ∙ (ap (λ k. w.later ++ k) f.are ∙ sym (append_assoc w.later f.later f.first)) in
-    record { later = w.later ++ f.later; counting = f.first; are = are; enough = inr (none_later (w.later ++ f.later) f.first (subst IsOpenBefore are w.last) f.enough, f.enough); took = f.took }
+first_is : (takes later first : Takes) (n : ℕ) → takes ≡ later ++ first → length first ≡ n → first_takes n takes ≡ first
+first_is takes later first n e many =
+    let all = ap length e in
+    let both = length-append later first in
+    let gap : length takes - n ≡ length later = omega (arith, all, both, many) in
+    ap (λ (k : ℕ). drop k takes) gap ∙ (ap (λ (l : Takes). drop (length later) l) e ∙ drop-append_seam later first)
+
+module _ (h : Hearing) (takes : Takes) (items before more : List Item) (w : Covers h takes items) (e : items ≡ before ++ more) where
+  found : Found h w.counting before (AreCounted before)
+  found = find_marks h w.counting w.given before (more ++ w.left) w.tail w.are w.no_marks (sym (append_assoc before more w.left) ∙ (ap (λ k. k ++ w.left) (sym e) ∙ w.items_are))
+
+  takes_are : takes ≡ (w.later ++ found.later) ++ found.first
+  takes_are = w.takes_are ∙ (ap (λ (k : Takes). w.later ++ k) found.are ∙ sym (append_assoc w.later found.later found.first))
+
+  counted_are : first_takes (marks_in before) takes ≡ found.first
+  counted_are = first_is takes (w.later ++ found.later) found.first (marks_in before) takes_are found.enough.many
+
+  -- where the takes that count closed the link, the end was popped
+  pub closed_ends : is_closed (first_takes (marks_in before) takes) ≡ true → has_end before ≡ true
+  closed_ends c = found.enough.ends ∙ (ap is_closed (sym counted_are) ∙ c)
+
+  heard_out : (last : ℕ) → ((last < marks_in before) × EndsSilent before) ⊎ ((last + most_takes ≤ marks_in before) ⊎ (has_end before ≡ true)) → IsHeardOut takes last (marks_in before)
+  heard_out last (inl s) = inl (s.0, ap is_blank counted_are ∙ found.enough.blank (ap (last_item item.Quit) s.1.1 ∙ last_is item.Quit s.1.0 item.Silent))
+  heard_out last (inr (inl l)) = inr (inl l)
+  heard_out last (inr (inr ends)) =
+      let closed : is_closed found.first ≡ true = sym found.enough.ends ∙ ends in
+      let none = none_later (w.later ++ found.later) found.first (subst IsOpenBefore takes_are w.last) closed in
+      let is : takes ≡ found.first = takes_are ∙ ap (λ (l : Takes). l ++ found.first) none in
+      inr (inr (sym found.enough.many ∙ ap length (sym is), ap is_closed is ∙ closed))
+
+  pub up_to_date : (blocked : Bool) (last : ℕ) → IsEnough blocked last before → IsUpToDate h takes blocked last (marks_in before) (texts_in h.leg before)
+  up_to_date blocked last enough = record {
+    more = has_marks blocked last before enough;
+    came = (let all = ap length takes_are in let both = length-append (w.later ++ found.later) found.first in let many = found.enough.many in omega (arith, all, both, many));
+    took = subst (λ (l : Takes). IsFront (ready_by h l) (texts_in h.leg before)) (sym counted_are) found.took;
+    heard_out = λ free. heard_out last (subst (λ (b : Bool). IsEnough b last before) free enough).1;
+  }

@@ -1,12 +1,12 @@
 -- The calls of a live run as events of the core.
-use Rattle.std.proofs.Common.{◌≡◌, ◌+◌, ℕ, suc, true, false, cond, inl, inr, Some, None, List, [], ◌∷◌, ◌++◌, refl, ap, sym, not, ◌∙◌, subst, append_assoc, arith}
+use Rattle.std.proofs.Common.{◌≡◌, ◌+◌, ℕ, suc, true, false, cond, inl, inr, Some, None, List, [], ◌∷◌, ◌++◌, length, length-append, refl, ap, sym, not, ◌∙◌, subst, append_assoc, arith}
 use Rattle.std.specs.Prelude.{Bool, Option, nat_le, ◌&&◌, if◌then◌else◌}
 use Rattle.std.proofs.lemmas.Bool.{cases_eq, le-leb, lt-ltb}
 use Rattle.std.proofs.lemmas.List.{append-nil}
 use Rattle.stream_spec.specs.Ready.{Chunk}
 use Rattle.mixer_spec.specs.Rounds.{set_at}
 use Rattle.mixer_spec.specs.Setups.{Setup, is_before_end}
-use Rattle.mixer_spec.specs.Table.{Admit, Call, Hush, Leave, Offer, Table, Taken, admitted, after_calls, chunks_taken, entered, free_place, given, has_room, is_seated, may_enter, offered, turned}
+use Rattle.mixer_spec.specs.Table.{Admit, Call, Hush, Leave, Offer, Table, Taken, admitted, after_calls, chunks_taken, entered, free_place, given, has_room, is_idle, is_seated, may_enter, offered, turned}
 use Rattle.mixer_spec.specs.Table as table
 use Rattle.mixer_spec.specs.Legs.{Leg, begin, held, picked, pushed, take_hand}
 use Rattle.mixer_spec.specs.Core.{Core, Enter, Event, Push, Take, after, happens, is_taken, offer_hand, turns_in}
@@ -14,17 +14,18 @@ use Rattle.mixer_spec.specs.Core as core
 use Rattle.mixer_spec.specs.Calls.{took, turns_made}
 use Rattle.mixer_spec.proofs.Lists.{set_other, set_same}
 use Rattle.mixer_spec.proofs.Legs.{come_taken}
-use Rattle.link_spec.specs.Links.{Takes}
+use Rattle.link_spec.specs.Links.{Takes, is_closed}
 use Rattle.live_spec.specs.Told.{Hearing}
-use Rattle.live_spec.specs.Live.{AllSeated, AreLive, IsUpToDate, Live, MayTurn, is_held_back, live_chunks, turns_free}
-use Rattle.live_leg.specs.Items.{Item, texts_in}
+use Rattle.live_spec.specs.Live.{AllMayTurn, AllSeated, AreLive, IsUpToDate, Live, MayTurn, at_last, but_last, first_takes, is_blocked, is_held_back, live_chunks}
+use Rattle.live_leg.specs.Items.{Item, marks_in, texts_in}
 use Rattle.live_leg.proofs.Texts.{texts_append}
-use Rattle.live_loop.specs.Handed.{AreLiveCalls, IsFreshAt, free_after, hand_after, is_blocked_after, one_free}
+use Rattle.live_loop.specs.Handed.{AllFreshAt, AreLiveCalls, IsFreshAt, hand_after, is_blocked_after}
 use Rattle.live_loop.proofs.Offering.{hand_kept, hand_taken, took_kept, took_taken}
 use Rattle.live_loop.proofs.Others.{other_hand, other_took}
 use Rattle.live_law.specs.Covers.{Covers}
 use Rattle.live_law.specs.Laws.{CallsAreLive}
-use Rattle.live_law.proofs.Finding.{up_to_date}
+use Rattle.live_law.proofs.Draining.{nothing}
+use Rattle.live_law.proofs.Finding.{closed_ends, up_to_date}
 
 -- ---- one offer
 abbrev leg_with : List Chunk → Option Chunk → Leg
@@ -79,19 +80,18 @@ module _ (s : Setup) (hears : ℕ → Hearing) (takes : ℕ → Takes) (items : 
   abbrev chunks : ℕ → List Chunk
   chunks i = live_chunks hears takes i
 
-  record Follows (more : ℕ → List Chunk) (calls : List Call) : Type 0 where
+  record Follows (more : ℕ → List Chunk) (counts : List (ℕ → ℕ)) (calls : List Call) : Type 0 where
     past : List Event
     turns : turns_in past ≡ turns_made calls
     table_is : (after s chunks past).table ≡ after_calls s calls
     legs : (i : ℕ) → (after s chunks past).legs i ≡ leg_with (more i) (hand_after s i calls)
-    free : (i : ℕ) → turns_free s chunks i past ≡ free_after s i calls
-    live : AreLive s hears takes chunks past
+    live : AreLive s hears takes chunks counts past
 
   abbrev Splits : (ℕ → List Chunk) → List Call → ℕ → Type 0
   Splits more calls i = chunks i ≡ (took s i calls ++ held (hand_after s i calls)) ++ more i
 
   -- all legs hold a place
-  there : {more : ℕ → List Chunk} {past : List Call} → AllSeated s (after_calls s past) → (f : Follows more past) → AllSeated s (after s chunks f.past).table
+  there : {more : ℕ → List Chunk} {counts : List (ℕ → ℕ)} {past : List Call} → AllSeated s (after_calls s past) → (f : Follows more counts past) → AllSeated s (after s chunks f.past).table
   there seated f = subst (λ (t : Table). AllSeated s t) (sym f.table_is) seated
 
   -- what the offer adds
@@ -107,9 +107,9 @@ module _ (s : Setup) (hears : ℕ → Hearing) (takes : ℕ → Takes) (items : 
   offer_table : (b : Bool) (c : Chunk) (past : List Call) → has_room s c.source c (after_calls s past) ≡ b → table_if b c.source c (after_calls s past) ≡ after_calls s (Offer c ∷ past)
   offer_table b c past e = ap (λ x. table_if x c.source c (after_calls s past)) (sym e)
 
-  new_offer : (b : Bool) (c : Chunk) (past : List Call) (more : ℕ → List Chunk) → has_room s c.source c (after_calls s past) ≡ b → hand_after s c.source past ≡ None
-      → AllSeated s (after_calls s past) → Follows (set_at more c.source (c ∷ more c.source)) past → Follows more (Offer c ∷ past)
-  new_offer b c past more e n seated f =
+  new_offer : (b : Bool) (c : Chunk) (past : List Call) (more : ℕ → List Chunk) (counts : List (ℕ → ℕ)) → has_room s c.source c (after_calls s past) ≡ b → hand_after s c.source past ≡ None
+      → AllSeated s (after_calls s past) → Follows (set_at more c.source (c ∷ more c.source)) counts past → Follows more counts (Offer c ∷ past)
+  new_offer b c past more counts e n seated f =
       let i = c.source in
       let w = after s chunks f.past in
       let before : w.legs i ≡ leg_with (c ∷ more i) None = f.legs i ∙ (ap (λ h. leg_with (set_at more i (c ∷ more i) i) h) n ∙ ap (λ m. leg_with m None) (set_same more i (c ∷ more i) i refl)) in
@@ -122,12 +122,11 @@ module _ (s : Setup) (hears : ℕ → Hearing) (takes : ℕ → Takes) (items : 
           | inl same ↦ ap (after s chunks (Take i c.ready ∷ Push i ∷ f.past)).legs same ∙ (o.leg ∙ (ap (leg_with (more i)) (sym (hand_is b c past e)) ∙ ap (λ k. leg_with (more k) (hand_after s k (Offer c ∷ past))) (sym same)))
           | inr other ↦ o.others x other ∙ (f.legs x ∙ (ap (λ m. leg_with m (hand_after s x past)) (set_other more i (c ∷ more i) x other) ∙ ap (leg_with (more x)) (sym (other_hand s x past c other))))
         ];
-        free = f.free;
-        live = (there seated f, f.live);
+        live = (there seated f, (tt, f.live));
       }
 
-  old_offer : (b : Bool) (c : Chunk) (past : List Call) (more : ℕ → List Chunk) → has_room s c.source c (after_calls s past) ≡ b → hand_after s c.source past ≡ Some c → AllSeated s (after_calls s past) → Follows more past → Follows more (Offer c ∷ past)
-  old_offer b c past more e n seated f =
+  old_offer : (b : Bool) (c : Chunk) (past : List Call) (more : ℕ → List Chunk) (counts : List (ℕ → ℕ)) → has_room s c.source c (after_calls s past) ≡ b → hand_after s c.source past ≡ Some c → AllSeated s (after_calls s past) → Follows more counts past → Follows more counts (Offer c ∷ past)
+  old_offer b c past more counts e n seated f =
       let i = c.source in
       let w = after s chunks f.past in
       let o = again s w i c (more i) b (f.legs i ∙ ap (leg_with (more i)) n) (ap (has_room s i c) f.table_is ∙ e) in
@@ -139,7 +138,6 @@ module _ (s : Setup) (hears : ℕ → Hearing) (takes : ℕ → Takes) (items : 
           | inl same ↦ ap (after s chunks (Take i c.ready ∷ f.past)).legs same ∙ (o.leg ∙ (ap (leg_with (more i)) (sym (hand_is b c past e)) ∙ ap (λ k. leg_with (more k) (hand_after s k (Offer c ∷ past))) (sym same)))
           | inr other ↦ o.others x other ∙ (f.legs x ∙ ap (leg_with (more x)) (sym (other_hand s x past c other)))
         ];
-        free = f.free;
         live = (there seated f, f.live);
       }
 
@@ -169,40 +167,61 @@ module _ (s : Setup) (hears : ℕ → Hearing) (takes : ℕ → Takes) (items : 
   ]
 
   -- the turn may be made
-  may_turn : (more : ℕ → List Chunk) (past : List Call) (now i : ℕ) → IsFreshAt s (items i) past i → (f : Follows more past) → MayTurn s hears takes chunks f.past now i
-  may_turn more past now i w f =
+  blocked_is : (more : ℕ → List Chunk) (counts : List (ℕ → ℕ)) (past : List Call) (i : ℕ) (f : Follows more counts past) → is_blocked s (after s chunks f.past) i ≡ is_blocked_after s i past
+  blocked_is more counts past i f =
+      ap (λ (l : Leg). is_held_back s (after s chunks f.past).table i l.hand) (f.legs i) ∙ ap (λ (t : Table). is_held_back s t i (hand_after s i past)) f.table_is
+
+  taken_is_took : (more : ℕ → List Chunk) (counts : List (ℕ → ℕ)) (past : List Call) (i : ℕ) (f : Follows more counts past) → chunks_taken ((after s chunks f.past).table.taken i) ≡ took s i past
+  taken_is_took more counts past i f = ap (λ (t : Table). chunks_taken (t.taken i)) f.table_is
+
+  may_turn : (more : ℕ → List Chunk) (counts : List (ℕ → ℕ)) (past : List Call) (last now i : ℕ) → IsFreshAt s (items i) past last now i → (f : Follows more counts past) → MayTurn s hears takes chunks f.past last now i
+  may_turn more counts past last now i w f =
       let h = hears i in
-      let blocked : is_held_back s (after s chunks f.past).table i ((after s chunks f.past).legs i).hand ≡ is_blocked_after s i past =
-      ap (λ (l : Leg). is_held_back s (after s chunks f.past).table i l.hand) (f.legs i) ∙ ap (λ (t : Table). is_held_back s t i (hand_after s i past)) f.table_is in
-      let count : turns_free s chunks i (core.Turn now ∷ f.past) ≡ one_free (is_blocked_after s i past) + free_after s i past =
-      ap (λ b. (if b then 0 else 1) + turns_free s chunks i f.past) blocked ∙ ap (λ n. one_free (is_blocked_after s i past) + n) (f.free i) in
-      let fresh = up_to_date h (takes i) (items i) w.before w.more (one_free (is_blocked_after s i past) + free_after s i past) (covers i) w.items_are w.enough in
-      let texts : texts_in h.leg w.before ≡ chunks_taken ((after s chunks f.past).table.taken i) = ap (λ n. texts_in n w.before) (own i) ∙ (w.taken ∙ ap (λ (t : Table). chunks_taken (t.taken i)) (sym f.table_is)) in
+      let b = is_blocked s (after s chunks f.past) i in
+      let fresh = up_to_date h (takes i) (items i) w.given w.more (covers i) w.items_are (is_blocked_after s i past) last w.enough in
+      let texts : texts_in h.leg w.given ≡ chunks_taken ((after s chunks f.past).table.taken i) = ap (λ n. texts_in n w.given) (own i) ∙ (w.taken ∙ sym (taken_is_took more counts past i f)) in
       record {
         seated = ap (λ (t : Table). is_seated t.seats i) f.table_is ∙ w.seated;
-        fresh = subst (λ (n : ℕ). IsUpToDate h (takes i) n (chunks_taken ((after s chunks f.past).table.taken i))) (sym count)
-            (subst (λ (cs : List Chunk). IsUpToDate h (takes i) (one_free (is_blocked_after s i past) + free_after s i past) cs) texts fresh);
+        fresh = subst (λ (n : ℕ). IsUpToDate h (takes i) b last n (chunks_taken ((after s chunks f.past).table.taken i))) (sym w.count)
+            (subst (λ (cs : List Chunk). IsUpToDate h (takes i) b last (marks_in w.given) cs) texts
+            (subst (λ (x : Bool). IsUpToDate h (takes i) x last (marks_in w.given) (texts_in h.leg w.given)) (sym (blocked_is more counts past i f)) fresh));
       }
 
-  follows : (calls : List Call) → AreLiveCalls s items calls → (more : ℕ → List Chunk) → ((i : ℕ) → Splits more calls i) → Follows more calls
-  follows [] l more e = record { past = []; turns = refl; table_is = refl; legs = λ i. ap begin (e i); free = λ i. refl; live = tt }
-  follows (table.Turn now ∷ past) l more e =
-      let f = follows past l.1 more e in
-      record {
-        past = core.Turn now ∷ f.past;
-        turns = ap suc f.turns;
-        table_is = ap (turned s now) f.table_is;
-        legs = f.legs;
-        free = λ i. ap (λ b. (if b then 0 else 1) + turns_free s chunks i f.past)
-            (ap (λ (g : Leg). is_held_back s (after s chunks f.past).table i g.hand) (f.legs i) ∙ ap (λ (t : Table). is_held_back s t i (hand_after s i past)) f.table_is)
-            ∙ ap (λ n. one_free (is_blocked_after s i past) + n) (f.free i);
-        live = (λ i low. may_turn more past now i (l.0 i low) f, f.live);
-      }
-  follows (Admit i a ∷ past) l more e =
+  all_may_turn : (more : ℕ → List Chunk) (counts : List (ℕ → ℕ)) (past : List Call) (last now : ℕ → ℕ) → AllFreshAt s items past last now → ((i : ℕ) → Splits more past i) → (f : Follows more counts past)
+      → AllMayTurn s hears takes chunks f.past last now
+  all_may_turn more counts past last now w e f = record {
+    each = λ i low. may_turn more counts past (last i) (now i) i (w.each i low) f;
+    goes_on = λ over. w.goes_on
+        (λ i low. let x = w.each i low in (
+          closed_ends (hears i) (takes i) (items i) x.given x.more (covers i) x.items_are (ap (λ (n : ℕ). is_closed (first_takes n (takes i))) (sym x.count) ∙ over.closed i low),
+          none_held (hand_after s i past) (all_held (took s i past) (held (hand_after s i past)) (more i) (chunks i) (sym (taken_is_took more counts past i f) ∙ over.taken i low) (e i)),
+        ))
+        (ap (is_idle s) (sym f.table_is) ∙ over.idle);
+  }
+    where
+      none_held : (h : Option Chunk) → held h ≡ [] → h ≡ None
+      none_held None q = refl
+      none_held (Some c) q = absurd (cc q)
+
+      -- of a list that is whole nothing is behind
+      all_held : (xs ys zs all : List Chunk) → xs ≡ all → all ≡ (xs ++ ys) ++ zs → ys ≡ []
+      all_held xs ys zs all is e =
+          let a = ap length is in
+          let b = ap length e in
+          let c = length-append (xs ++ ys) zs in
+          let d = length-append xs ys in
+          nothing ys (omega (arith, a, b, c, d))
+
+  follows : (counts : List (ℕ → ℕ)) (calls : List Call) → AreLiveCalls s items counts calls → (more : ℕ → List Chunk) → ((i : ℕ) → Splits more calls i) → Follows more counts calls
+  follows counts [] l more e = record { past = []; turns = refl; table_is = refl; legs = λ i. ap begin (e i); live = tt }
+  follows counts (table.Turn now ∷ past) l more e =
+      let f = follows (but_last counts) past l.1 more e in
+      record { past = core.Turn now ∷ f.past; turns = ap suc f.turns; table_is = ap (turned s now) f.table_is; legs = f.legs; live = (all_may_turn more (but_last counts) past (at_last (but_last counts)) (at_last counts) l.0 e f, f.live) }
+  follows counts (Admit i a ∷ past) l more e =
       let m = l.0 in
       let t = after_calls s past in
       let same : (admitted s i a t).taken ≡ t.taken = come_taken i a t (free_place s t.seats) in
-      let f = follows past l.1 more (λ x. e x ∙ ap (λ (y : ℕ → List Taken). (chunks_taken (y x) ++ held (hand_after s x past)) ++ more x) same) in
+      let f = follows counts past l.1 more (λ x. e x ∙ ap (λ (y : ℕ → List Taken). (chunks_taken (y x) ++ held (hand_after s x past)) ++ more x) same) in
       let may : may_enter s i m.at t ≡ true =
       ap (λ b. b && (not (t.seats.came i) && nat_le (s.from i) m.at)) (lt-ltb i s.legs m.leg) ∙ (ap (λ b. not b && nat_le (s.from i) m.at) m.fresh ∙ le-leb (s.from i) m.at m.begun) in
       record {
@@ -210,16 +229,15 @@ module _ (s : Setup) (hears : ℕ → Hearing) (takes : ℕ → Takes) (items : 
         turns = f.turns;
         table_is = ap (entered s i m.at) f.table_is ∙ (ap (λ b. cond {A = Table} b (admitted s i (is_before_end m.at (s.until i)) t) t) may ∙ ap (λ b. admitted s i b t) (sym m.listens));
         legs = f.legs;
-        free = f.free;
-        live = f.live;
+        live = (tt, f.live);
       }
-  follows (Hush i ∷ past) l more e = absurd l
-  follows (Leave i ∷ past) l more e = absurd l
-  follows (Offer c ∷ past) l more e =
+  follows counts (Hush i ∷ past) l more e = absurd l
+  follows counts (Leave i ∷ past) l more e = absurd l
+  follows counts (Offer c ∷ past) l more e =
       let b = has_room s c.source c (after_calls s past) in
       elim l.1 [
-        | inl n ↦ new_offer b c past more refl n l.2 (follows past l.3 (set_at more c.source (c ∷ more c.source)) (new_splits b c past more refl n e))
-        | inr n ↦ old_offer b c past more refl n l.2 (follows past l.3 more (old_splits b c past more refl n e))
+        | inl n ↦ new_offer b c past more counts refl n l.2 (follows counts past l.3 (set_at more c.source (c ∷ more c.source)) (new_splits b c past more refl n e))
+        | inr n ↦ old_offer b c past more counts refl n l.2 (follows counts past l.3 more (old_splits b c past more refl n e))
       ]
 
   -- what is still ahead of a leg
@@ -231,10 +249,10 @@ module _ (s : Setup) (hears : ℕ → Hearing) (takes : ℕ → Takes) (items : 
       w.front.1 ∙ (ap (λ l. texts_in h.leg l ++ w.front.0) (sym w.items_are) ∙ (ap (λ cs. cs ++ w.front.0) (texts_append h.leg (items i) w.left) ∙ append_assoc (texts_in h.leg (items i)) (texts_in h.leg w.left) w.front.0)) in
       (texts_in h.leg w.left ++ w.front.0, all ∙ ap (λ n. texts_in n (items i) ++ (texts_in h.leg w.left ++ w.front.0)) (own i))
 
-  pub live_run : (calls : List Call) → AreLiveCalls s items calls → ((i : ℕ) → texts_in i (items i) ≡ took s i calls ++ held (hand_after s i calls)) → Live s hears takes (turns_made calls) (after_calls s calls)
-  live_run calls l texts =
-      let f = follows calls l (λ i. (ahead i).0) (λ i. (ahead i).1 ∙ ap (λ cs. cs ++ (ahead i).0) (texts i)) in
-      record { past = f.past; live = f.live; turned = f.turns; leads = f.table_is }
+  pub live_run : (counts : List (ℕ → ℕ)) (calls : List Call) → AreLiveCalls s items counts calls → ((i : ℕ) → texts_in i (items i) ≡ took s i calls ++ held (hand_after s i calls)) → Live s hears takes (turns_made calls) (after_calls s calls)
+  live_run counts calls l texts =
+      let f = follows counts calls l (λ i. (ahead i).0) (λ i. (ahead i).1 ∙ ap (λ cs. cs ++ (ahead i).0) (texts i)) in
+      record { past = f.past; counts = counts; live = f.live; turned = f.turns; leads = f.table_is }
 
 pub calls_law : CallsAreLive
-calls_law s hears takes items calls own l texts covers = live_run s hears takes items own covers calls l texts
+calls_law s hears takes items counts calls own l texts covers = live_run s hears takes items own covers counts calls l texts

@@ -20,17 +20,17 @@ use Rattle.live_loop.specs.Walks.{AllClosed, IsServing, is_spent}
 use Rattle.live_loop.proofs.Enough.{end_append}
 use Rattle.serve_spec.specs.Served.{IsDrained, hearing_at}
 use Rattle.live_law.specs.Covers.{Covers}
-use Rattle.live_law.specs.Served.{ClosedIsServed, DoneIsServed, IsOfConf}
+use Rattle.live_law.specs.Served.{BrokenIsServed, ClosedIsServed, DoneIsServed, IsOfConf}
 use Rattle.live_law.proofs.Draining.{covered_end}
 use Rattle.live_law.proofs.Serving.{serving, some_there}
 
 module _ {I M : Type 0} (popped : I → List Item) (stands : M → Setup → (ℕ → Pts) → List Call → Type 0) where
   -- all of a leg was popped and taken
-  drained_at : (c : Conf) (takes : ℕ → Takes) (calls : List Call) (j n : ℕ) (p : LivePort I) → PortAt popped (setup c) calls j n p → is_spent p ≡ true → Covers (hearing_at c j) (takes j) (popped p.inlet)
+  drained_at : (c : Conf) (takes : ℕ → Takes) (calls : List Call) (j : ℕ) (E : List Item → Type 0) (p : LivePort I) → PortAt popped (setup c) calls j E p → is_spent p ≡ true → Covers (hearing_at c j) (takes j) (popped p.inlet)
       → IsDrained c takes (after_calls (setup c) calls) j
-  drained_at c takes calls j n p a spent w =
+  drained_at c takes calls j E p a spent w =
       let both = and_parts p.ended (not p.full) spent in
-      let ends : has_end (popped p.inlet) ≡ true = ap has_end a.popped_are ∙ end_append a.before a.tail (a.ended both.0) in
+      let ends : has_end (popped p.inlet) ≡ true = ap has_end a.popped_are ∙ end_append a.before a.tail (sym a.ended ∙ both.0) in
       let empty : held (hand_of p) ≡ [] = ap (λ b. held (if b then Some (chunk_of p.hand) else None)) (not-true p.full both.1) in
       let texts : texts_in j (popped p.inlet) ≡ took (setup c) j calls =
       ap (texts_in j) a.popped_are
@@ -71,4 +71,19 @@ module _ {I M : Type 0} (popped : I → List Item) (stands : M → Setup → (�
         done = λ e. absurd (cc e);
         drained = λ e. all_drained c takes pts w.turns ps m given v o w.closed.ends;
         idle = λ e. w.closed.idle;
+      }
+
+  unfoldable pub broken_law : BrokenIsServed popped stands
+  broken_law c pts ps m takes given w o =
+      let v = w.serving in
+      record {
+        table = after_calls (setup c) v.calls;
+        turns = w.turns;
+        live = serving popped stands (setup c) pts w.turns ps m v (hearing_at c) takes o.legs (λ i. refl) o.none o.covers;
+        few = w.few;
+        gives = o.gave;
+        prints = refl;
+        done = λ e. absurd (cc e);
+        drained = λ e. absurd (cc e);
+        idle = λ e. absurd (cc e);
       }

@@ -12,7 +12,7 @@ use Rattle.mix_loop.proofs.Lists.{lt_or_ge}
 use Rattle.link_io.specs.declared.ends.LinkIn as links
 use Rattle.link_spec.specs.Links.{Takes}
 use Rattle.live_spec.specs.Told.{Hearing, all_by}
-use Rattle.live_spec.specs.Live.{Live}
+use Rattle.live_spec.specs.Live.{Live, but_last}
 use Rattle.live_leg.specs.declared.items.LegItem.{LegItem}
 use Rattle.live_leg.specs.declared.legs.LinkLeg.{LinkLeg}
 use Rattle.live_leg.specs.Items.{Item, items_of, texts_in}
@@ -34,19 +34,19 @@ answered g first back started now w =
     record { takes = c.1.so.takes; covers = λ leg. covers g leg first back (items_of (popped_of now ++ c.0)) (items_of (popped_of now)) (items_of c.0) c.1 (items_append (popped_of now) c.0); taken = c.1.so.taken }
 
 -- nothing was offered of what is no leg
-none_took : (s : Setup) (items : ℕ → List Item) (calls : List Call) (i : ℕ) → AreLiveCalls s items calls → s.legs ≤ i → (took s i calls ≡ []) × (hand_after s i calls ≡ None)
-none_took s items [] i l high = (refl, refl)
-none_took s items (Admit k a ∷ past) i l high =
+none_took : (s : Setup) (items : ℕ → List Item) (counts : List (ℕ → ℕ)) (calls : List Call) (i : ℕ) → AreLiveCalls s items counts calls → s.legs ≤ i → (took s i calls ≡ []) × (hand_after s i calls ≡ None)
+none_took s items counts [] i l high = (refl, refl)
+none_took s items counts (Admit k a ∷ past) i l high =
     let t = after_calls s past in
-    let r = none_took s items past i l.1 high in
+    let r = none_took s items counts past i l.1 high in
     (ap (λ (y : ℕ → List Taken). chunks_taken (y i)) (come_taken k a t (free_place s t.seats)) ∙ r.0, r.1)
-none_took s items (Hush k ∷ past) i l high = absurd l
-none_took s items (Leave k ∷ past) i l high = absurd l
-none_took s items (Offer c ∷ past) i l high =
+none_took s items counts (Hush k ∷ past) i l high = absurd l
+none_took s items counts (Leave k ∷ past) i l high = absurd l
+none_took s items counts (Offer c ∷ past) i l high =
     let away : i ≡ c.source → ⊥ = λ e. let low = l.0 in absurd (omega (arith, e, low, high)) in
-    let r = none_took s items past i l.3 high in
+    let r = none_took s items counts past i l.3 high in
     (other_took s i past c away ∙ r.0, other_hand s i past c away ∙ r.1)
-none_took s items (Turn now ∷ past) i l high = none_took s items past i l.1 high
+none_took s items counts (Turn now ∷ past) i l high = none_took s items (but_last counts) past i l.1 high
 
 pub some_there : {X : Type 0} (xs : List X) (i : ℕ) → i < length xs → (x : X) × (slice_get xs i ≡ Some x)
 some_there [] i low = absurd (omega arith)
@@ -85,7 +85,7 @@ module _ {I M : Type 0} (popped : I → List Item) (stands : M → Setup → (�
             ap (texts_in i) (items_there ps i there.0 there.1 ∙ a.popped_are)
             ∙ (texts_append i a.before a.tail ∙ (ap (λ cs. cs ++ texts_in i a.tail) a.taken ∙ ap (λ cs. took s i v.calls ++ cs) (a.in_hand ∙ ap held a.hand_is)))
         | inr high ↦
-            let r = none_took s items v.calls i live (omega (arith, legs, high)) in
+            let r = none_took s items v.counts v.calls i live (omega (arith, legs, high)) in
             ap (texts_in i) (items_above ps i high) ∙ sym (ap (λ cs. cs ++ held (hand_after s i v.calls)) r.0 ∙ ap held r.1)
       ] in
       let covered : (i : ℕ) → Covers (hears i) (takes i) (items i) = λ i. elim (lt_or_ge i (length ps)) [
@@ -94,4 +94,4 @@ module _ {I M : Type 0} (popped : I → List Item) (stands : M → Setup → (�
             subst (λ (l : List Item). Covers (hears i) (takes i) l) (sym (items_there ps i there.0 there.1)) (all i there.0 there.1)
         | inr high ↦ none_covers (hears i) (takes i) (items i) (none i (omega (arith, legs, high))) (items_above ps i high)
       ] in
-      subst (λ (n : ℕ). Live s hears takes n (after_calls s v.calls)) v.turned (calls_law s hears takes items v.calls own live texts covered)
+      subst (λ (n : ℕ). Live s hears takes n (after_calls s v.calls)) v.turned (calls_law s hears takes items v.counts v.calls own live texts covered)

@@ -25,9 +25,9 @@ use Rattle.live_law.specs.Covers.{Covers, as_leg}
 -- Where calls were made in a live run of these items, which the legs gave by these takes, they are a live run of the core.
 abbrev pub CallsAreLive : Type 0
 CallsAreLive =
-    (s : Setup) (hears : ℕ → Hearing) (takes : ℕ → Takes) (items : ℕ → List Item) (calls : List Call)
+    (s : Setup) (hears : ℕ → Hearing) (takes : ℕ → Takes) (items : ℕ → List Item) (counts : List (ℕ → ℕ)) (calls : List Call)
     → ((i : ℕ) → (hears i).leg ≡ i)
-    → AreLiveCalls s items calls
+    → AreLiveCalls s items counts calls
     → ((i : ℕ) → texts_in i (items i) ≡ took s i calls ++ held (hand_after s i calls))
     → ((i : ℕ) → Covers (hears i) (takes i) (items i))
     → Live s hears takes (turns_made calls) (after_calls s calls)

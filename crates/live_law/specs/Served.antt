@@ -8,8 +8,8 @@ use Rattle.mixer_spec.specs.Table.{Call, after_calls}
 use Rattle.link_spec.specs.Links.{Takes}
 use Rattle.live_leg.specs.Items.{Item}
 use Rattle.live_loop.specs.declared.ports.LivePort.{LivePort}
-use Rattle.live_loop.specs.Walks.{ClosedTo, IsServing}
-use Rattle.serve_spec.specs.Served.{Closed, Done, IsServed, given_to, hearing_at, live_printed}
+use Rattle.live_loop.specs.Walks.{BrokenTo, ClosedTo, IsServing}
+use Rattle.serve_spec.specs.Served.{Broken, Closed, Done, IsServed, given_to, hearing_at, live_printed}
 use Rattle.live_law.specs.Covers.{Covers}
 
 -- The links of the conference's legs gave this, of which that was popped at the ports, and were given what these calls of the mixer
@@ -35,3 +35,11 @@ ClosedIsServed {I} {M} popped stands =
     → (w : ClosedTo popped stands (setup c) pts c.turns ps m)
     → IsOfConf popped c w.serving.calls ps takes given
     → IsServed c takes given Closed (live_printed c given Closed)
+
+-- So it is where it broke off before.
+abbrev pub BrokenIsServed : {I M : Type 0} → (I → List Item) → (M → Setup → (ℕ → Pts) → List Call → Type 0) → Type 0
+BrokenIsServed {I} {M} popped stands =
+    (c : Conf) (pts : ℕ → Pts) (ps : List (LivePort I)) (m : M) (takes : ℕ → Takes) (given : ℕ → List (List ℕ))
+    → (w : BrokenTo popped stands (setup c) pts c.turns ps m)
+    → IsOfConf popped c w.serving.calls ps takes given
+    → IsServed c takes given Broken (live_printed c given Broken)

@@ -1,6 +1,6 @@
 //! The laws. No code stands here.
 ghost use Rattle.live_law.specs.Laws.{CallsAreLive, EndIsAll, EndIsCovered, LegsCover, ServedAreAnswered, ServingIsLive};
-ghost use Rattle.live_law.specs.Served.{ClosedIsServed, DoneIsServed};
+ghost use Rattle.live_law.specs.Served.{BrokenIsServed, ClosedIsServed, DoneIsServed};
 
 use link_io::LinkIn;
 use live_loop::Pops;
@@ -37,9 +37,10 @@ pub fn covered_end_is_all()
     ensures { EndIsCovered }
 {}
 
-/// Turns that were made of the legs of a conference are a live call of it: all turns, or those until all links were closed and
-/// nothing was left.
+/// Turns that were made of the legs of a conference are a live call of it: all turns, those until all links were closed and
+/// nothing was left, or those until it broke off.
 pub fn turns_are_served<I: Pops, M: Mixes>()
     ensures done { DoneIsServed I.popped M.stands }
     ensures closed { ClosedIsServed I.popped M.stands }
+    ensures broken { BrokenIsServed I.popped M.stands }
 {}

@@ -4,7 +4,7 @@ use Rattle.std.specs.Prelude.{Bool, slice_get}
 use Rattle.std.proofs.lemmas.Bool.{cases_eq, cases_lt}
 use Rattle.rtt_io.specs.Counts.{Rose, counted, last_count}
 use Rattle.mixer_posts.proofs.Backward.{left_or_last}
-use Rattle.live_run.specs.Opened.{HaveOwnPorts}
+use Rattle.live_run.specs.Opened.{GivesNothing, HaveOwnPorts}
 
 -- a count of faults that rose, behind others
 rose_behind : (before between after faults : ℕ) → before ≤ between → after ≡ counted between faults → Rose 0 faults → Rose before after
@@ -15,6 +15,20 @@ rose_behind before between after faults l e (inr r) = inr (omega arith)
 pub rose_on : (before after later : ℕ) → before ≤ after → after ≤ later → Rose before after → Rose before later
 rose_on before after later l m (inl r) = inl (omega arith)
 rose_on before after later l m (inr r) = elim (cases_lt last_count later) [ inl lt ↦ inl (omega arith) | inr ge ↦ inr (omega arith) ]
+
+-- nothing is given to this port, and nothing else to any other
+pub nothing_more : (port : ℕ) (first between after : ℕ → List (List ℕ)) → after port ≡ [] → ((p : ℕ) → p ≢ port → after p ≡ between p) → GivesNothing first between → GivesNothing first after
+nothing_more port first between after none others so p = elim (cases_eq p port) [
+  | inl here ↦ inr (ap after here ∙ none)
+  | inr other ↦ elim (so p) [ inl same ↦ inl (others p other ∙ same) | inr empty ↦ inr (others p other ∙ empty) ]
+]
+
+-- nor between
+pub nothing_then : (first between after : ℕ → List (List ℕ)) → GivesNothing first between → GivesNothing between after → GivesNothing first after
+nothing_then first between after a b p = elim (b p) [
+  | inl same ↦ elim (a p) [ inl before ↦ inl (same ∙ before) | inr empty ↦ inr (same ∙ empty) ]
+  | inr empty ↦ inr empty
+]
 
 -- one was taken from the back of a front of all
 module _ {X : Type 0} (all now xs : List X) (x : X) (is : now ≡ xs ++ x ∷ []) where

@@ -1,5 +1,5 @@
 -- From turns that were made to a live call of the conference.
-use Rattle.std.proofs.Common.{◌≡◌, ◌<◌, ◌≤◌, ◌⊎◌, ℕ, zero, suc, Bool, true, false, inl, inr, Some, List, [], ◌∷◌, ◌++◌, length, map, refl, ap, sym, ◌∙◌, subst, arith}
+use Rattle.std.proofs.Common.{◌≡◌, ◌<◌, ◌≤◌, ◌⊎◌, ℕ, zero, suc, Bool, true, false, inl, inr, Some, List, [], ◌∷◌, ◌++◌, append_assoc, length, map, refl, ap, sym, ◌∙◌, subst, arith}
 use Rattle.std.specs.Prelude.{Option, slice_get}
 use Rattle.std.proofs.lemmas.List.{append-nil}
 use Rattle.std.proofs.lemmas.Option.{slice_get_within}
@@ -8,11 +8,14 @@ use Rattle.rtt_io.specs.Counts.{Rose}
 use Rattle.file_spec.specs.declared.conf_lines.LegLine.{LegLine}
 use Rattle.file_spec.specs.Conf.{Conf}
 use Rattle.mixer_spec.specs.Setups.{Setup, leg_at, setup, ssrc_of}
-use Rattle.mixer_spec.specs.Table.{Call, after_calls}
+use Rattle.mixer_spec.specs.Table.{Call, Turn, after_calls}
+use Rattle.mixer_turn.specs.declared.batches.Post.{Post}
+use Rattle.mixer_turn.specs.Turns.{posts_at}
 use Rattle.mixer_posts.specs.Streams.{conf_at, pts_at}
 use Rattle.mixer_posts.specs.States.{SendingState}
-use Rattle.mixer_posts.specs.Posts.{sent_by, sents_to}
-use Rattle.mixer_posts.proofs.Entering.{entered_law}
+use Rattle.mixer_posts.specs.Posts.{sent_by, sents_to, with_posts}
+use Rattle.mixer_posts.proofs.Entering.{entered_law, some_sent}
+use Rattle.mixer_posts.proofs.Posting.{with_one}
 use Rattle.ear.specs.declared.confs.EarConf.{EarConf}
 use Rattle.ear.specs.Hears.{conf_of}
 use Rattle.link_spec.specs.Links.{Takes, is_closed}
@@ -30,32 +33,33 @@ use Rattle.live_loop.specs.declared.clocks.TurnClock as clocks
 use Rattle.live_loop.specs.declared.ports.LivePort.{LivePort}
 use Rattle.live_loop.specs.declared.turns.Turned.{Turned}
 use Rattle.live_loop.specs.declared.turns.Turned.TheVariants.{Done, Closed, Faulted, Stopped}
-use Rattle.live_loop.specs.Walks.{RanTo, WasFaulted, WasStopped}
+use Rattle.live_loop.specs.Clocks.{ArePaced, AtTicks, StandsPaced, moments_of}
+use Rattle.live_loop.specs.Walks.{BrokenTo, HaltsThen, RanTo, WasFaulted, WasStopped}
 use Rattle.mix_loop.proofs.Lists.{lt_or_ge}
-use Rattle.serve_spec.specs.Served.{End, IsServed, hearing_at, live_printed, pts_of}
+use Rattle.serve_spec.specs.Served.{End, IsCutShort, IsServed, given_to, hearing_at, live_printed, pts_of}
 use Rattle.serve_spec.specs.Served as served
 use Rattle.live_law.specs.Covers.{Covers, as_leg}
 use Rattle.live_law.specs.Served.{IsOfConf}
 use Rattle.live_law.proofs.Covering.{covers}
-use Rattle.live_law.proofs.Served.{closed_law, done_law}
+use Rattle.live_law.proofs.Served.{broken_law, closed_law, done_law}
 use Rattle.live_law.proofs.Serving.{some_there}
 use Rattle.live_run.specs.declared.far_ends.FarEnds.{FarEnds}
 use Rattle.live_run.specs.declared.faults.LiveFault.{LiveFault}
 use Rattle.live_run.specs.declared.faults.LiveFault.TheVariants.{Link, NoMemory}
 use Rattle.live_run.specs.declared.calls.Called.{Called}
 use Rattle.live_run.specs.declared.tapped.Tapped.{Tapped}
-use Rattle.live_run.specs.Calls.{AreAtPorts, AtPorts, EndsAs, FailedAt, IsCallOf, IsCalled, IsOfLinks}
+use Rattle.live_run.specs.Calls.{AreAtPorts, AtPorts, EndsAs, FailedAt, IsBrokenOff, IsCallOf, IsCalled, IsOfLinks}
 use Rattle.live_run.specs.Ends.{IsUnsent, packets_of}
 use Rattle.live_run.specs.declared.running.Job.{Job}
 use Rattle.live_run.specs.declared.running.Ended.{Ended}
 use Rattle.live_run.specs.Jobs.{GaveFirst, RanAs, popped_in}
-use Rattle.live_run.specs.Mixers.{GivesFor, HasAll, all_admitted}
+use Rattle.live_run.specs.Mixers.{GivesFor, HaltsGiving, HasAll, all_admitted}
 use Rattle.live_run.specs.Listeners.{HasHeard}
 use Rattle.live_run.specs.Opened.{AreUnused, OpenEnds, OpenLegs, ear_at, link_in}
-use Rattle.live_run.specs.Taps.{IsUnsentIn, Learns, Notice, Shows, TellsFor, ended_with, notices_by}
+use Rattle.live_run.specs.Taps.{HaltsTold, IsUnsentIn, Learns, Notice, Shows, TellsFor, ended_with, notices_by}
 use Rattle.live_run.proofs.Failing.{closed_calm, fault_rose}
 use Rattle.live_run.proofs.Linking.{some_leg}
-use Rattle.live_run.proofs.Sent.{given_by, given_law}
+use Rattle.live_run.proofs.Sent.{given_by, given_law, sent_law}
 use Rattle.live_run.proofs.Taking.{none_offered}
 
 -- ---- lists
@@ -170,14 +174,17 @@ module _ {I G : Type 0} (i : ins.Ghosts I) (tells : Type 0) (opened : ℕ → Bo
     abbrev gives : Tapped (SendingState (FarEnds O)) T → Setup → (ℕ → Pts) → List Call → Type 0
     gives = TellsFor (GivesFor o.tells o.given o.faults) stands
 
+    abbrev halts : Tapped (SendingState (FarEnds O)) T → Setup → (ℕ → Pts) → List Call → ℕ → Type 0
+    halts = HaltsTold (GivesFor o.tells o.given o.faults) (HaltsGiving o.tells o.given)
+
     abbrev far : FarEnds O
     far = m.mixer.outbound
 
-    is_call : (end : End) (calls : List Call) → gives m (setup c) (pts_at c) calls → m.short ≡ false
+    is_call : (end : End) (calls : List Call) → gives m (setup c) (pts_at c) calls → (tells → (began : ℕ) × AtTicks c.tick began (moments_of calls)) → m.short ≡ false
         → (serves : (takes : ℕ → Takes) (given : ℕ → List (List ℕ)) → IsOfConf popped_in c calls ports takes given → IsServed c takes given end (live_printed c given end))
         → ((takes : ℕ → Takes) (given : ℕ → List (List ℕ)) (w : IsOfConf popped_in c calls ports takes given) → (serves takes given w).table ≡ after_calls (setup c) calls)
         → IsCallOf i o (stands tap) tells c backs far.links.items far.listeners.items end
-    is_call end calls gave_all long serves leads =
+    is_call end calls gave_all paced long serves leads =
         let made = gave_all.made in
         let takes : ℕ → Takes = pick [] took (length c.legs) took_at in
         let table = after_calls (setup c) calls in
@@ -216,25 +223,103 @@ module _ {I G : Type 0} (i : ins.Ghosts I) (tells : Type 0) (opened : ℕ → Bo
               let here : j < length c.legs = omega (arith, low, many, many_backs) in
               (pick_holds [] took (length c.legs) took_at j here).calm ((serves takes given w).drained closed j here).closed leg e;
           told = record { calls = calls; made = sym (leads takes given w); told = shows (notices_by (setup c) calls) (gave_all.told long) };
+          paced = λ t. let p = paced t in record { calls = calls; made = sym (leads takes given w); began = p.0; at = p.1 };
         }
 
-    ends_as : (failed : (j : ℕ) (p : LivePort (Lane LegItem (LinkLeg I) G)) → slice_get ports j ≡ Some p → p.failed ≡ true → has_fault (popped_in p.inlet) ≡ true) (t : Turned LiveFault)
-        → RanTo popped_in t gives (setup c) (pts_at c) c.turns ports m → WasFaulted t ports → WasStopped (IsUnsentIn (λ (x : SendingState (FarEnds O)) (why : LiveFault). IsUnsent o.faults x.outbound why)) t m → m.short ≡ false
+    -- turns at the ticks of a clock are those of the conference's tick
+    at_ticks : (known : Type 0) (tick old : ℕ) (calls : List Call) → tick ≡ c.tick → (tells → known) → (known → ArePaced tick old calls) → tells → (began : ℕ) × AtTicks c.tick began (moments_of calls)
+    at_ticks known tick old calls same tell paced t =
+        let p = paced (tell t) in
+        (p.began, subst (λ (n : ℕ). AtTicks n p.began (moments_of calls)) same p.at)
+
+    -- ---- one that broke off
+    -- what was given by calls, to the links and by definition
+    given_whole : (calls : List Call) → GivesFor o.tells o.given o.faults m.mixer (setup c) (pts_at c) calls → (j : ℕ) (link : O) (line : LegLine) → slice_get far.links.items j ≡ Some link → leg_at c.legs j ≡ Some line → o.tells
+        → o.given link ≡ given_to c (after_calls (setup c) calls) j line
+    given_whole calls made j link line e at tell =
+        let w = made.sent.each j (leg_within c.legs j line at) in
+        (w.gave link e).1 tell ∙ sent_law c calls j line w.sources at w.are
+
+    -- what was given by calls and a turn that was not sent to its end
+    given_cut : (calls : List Call) (now : ℕ) → HaltsGiving o.tells o.given m.mixer (setup c) (pts_at c) calls now → (j : ℕ) (link : O) (line : LegLine) → slice_get far.links.items j ≡ Some link → leg_at c.legs j ≡ Some line → o.tells
+        → IsCutShort c (after_calls (setup c) calls) now j line (o.given link)
+    given_cut calls now h j link line e at tell =
+        let s = setup c in
+        let low = leg_within c.legs j line at in
+        let w = h.halts.each j low in
+        let conf = conf_at s (pts_at c j) j in
+        let sent = sent_by s calls in
+        let table = after_calls s calls in
+        let cut_by : (first left : List Post) → posts_at s now table ≡ first ++ left → o.given link ≡ packets_of conf (sents_to w.sources j (with_posts now first sent)) → IsCutShort c table now j line (o.given link) =
+        λ first left are is. elim (some_sent s now j w.sources table sent first left low are) [
+          | inl none ↦ inl (is ∙ (ap (packets_of conf) none ∙ sent_law c calls j line w.sources at w.are))
+          | inr all ↦ inr (is ∙ (ap (packets_of conf) all ∙ sent_law c (Turn now ∷ calls) j line w.sources at w.are))
+        ] in
+        elim (w.gave link e tell) [
+          | inl q ↦ cut_by h.first (h.next ∷ h.left) h.are q
+          | inr q ↦ cut_by (h.first ++ h.next ∷ []) h.left (h.are ∙ sym (append_assoc h.first (h.next ∷ []) h.left)) (q ∙ ap (λ (xs : List (ℕ × Post)). packets_of conf (sents_to w.sources j xs)) (sym (with_one now h.first h.next sent)))
+        ]
+
+    -- of a turn that the tap was told of, or not
+    given_then : (calls : List Call) (now : ℕ) → HaltsTold (GivesFor o.tells o.given o.faults) (HaltsGiving o.tells o.given) m (setup c) (pts_at c) calls now → (j : ℕ) (link : O) (line : LegLine) → slice_get far.links.items j ≡ Some link → leg_at c.legs j ≡ Some line → o.tells
+        → IsCutShort c (after_calls (setup c) calls) now j line (o.given link)
+    given_then calls now (inl h) j link line e at tell = given_cut calls now h j link line e at tell
+    given_then calls now (inr made) j link line e at tell = inr (given_whole (Turn now ∷ calls) made j link line e at tell)
+
+    is_broken : (then : Tapped (SendingState (FarEnds O)) T → Setup → (ℕ → Pts) → List Call → Type 0) (w : BrokenTo popped_in then (setup c) (pts_at c) c.turns ports m) (now : ℕ)
+        → ((j : ℕ) (link : O) (line : LegLine) → slice_get far.links.items j ≡ Some link → leg_at c.legs j ≡ Some line → o.tells → IsCutShort c (after_calls (setup c) w.serving.calls) now j line (o.given link))
+        → (tells → (began : ℕ) × AtTicks c.tick began (moments_of w.serving.calls)) → IsBrokenOff i o tells c backs far.links.items
+    unfolding broken_law
+    is_broken then w now cut paced =
+        let calls = w.serving.calls in
+        let takes : ℕ → Takes = pick [] took (length c.legs) took_at in
+        let table = after_calls (setup c) calls in
+        let given : ℕ → List (List ℕ) = λ j. given_by c table j in
+        let is_of : IsOfConf popped_in c calls ports takes given = record {
+          legs = omega (arith, many, many_ports);
+          none = pick_none [] took (length c.legs) took_at;
+          covers = λ j p e. (pick_holds [] took (length c.legs) took_at j (let low = slice_get_within ports j p e in omega (arith, low, many, many_ports))).covering p e;
+          gave = λ j leg at. given_law c table j leg at;
+        } in
+        record {
+          takes = takes;
+          given = given;
+          served = broken_law popped_in then c (pts_at c) ports m takes given w is_of;
+          now = now;
+          taken = λ t j leg e. (pick_holds [] took (length c.legs) took_at j (let low = slice_get_within backs j leg e in omega (arith, low, many, many_backs))).taken t leg e;
+          gave = λ t j link line e at. cut j link line e at (tells_out t j (leg_within c.legs j line at));
+          paced = λ t. let p = paced t in record { calls = calls; made = refl; began = p.0; at = p.1 };
+        }
+
+    -- however its turns ended
+    breaks : (known : Type 0) (tick old : ℕ) (same_tick : tick ≡ c.tick) (tell : tells → known) (t : Turned LiveFault)
+        → RanTo popped_in t (StandsPaced known tick old gives) (StandsPaced known tick old (HaltsThen halts)) (setup c) (pts_at c) c.turns ports m → IsBrokenOff i o tells c backs far.links.items
+    breaks known tick old same_tick tell Done v = is_broken (StandsPaced known tick old gives) (record { turns = c.turns; few = omega arith; serving = v }) 0
+        (λ j link line e at told. inl (given_whole v.calls v.made.0.made j link line e at told)) (at_ticks known tick old v.calls same_tick tell v.made.1)
+    breaks known tick old same_tick tell Closed v = is_broken (StandsPaced known tick old gives) (record { turns = v.turns; few = v.few; serving = v.serving }) 0
+        (λ j link line e at told. inl (given_whole v.serving.calls v.serving.made.0.made j link line e at told)) (at_ticks known tick old v.serving.calls same_tick tell v.serving.made.1)
+    breaks known tick old same_tick tell (Faulted k) v = is_broken (StandsPaced known tick old gives) v 0
+        (λ j link line e at told. inl (given_whole v.serving.calls v.serving.made.0.made j link line e at told)) (at_ticks known tick old v.serving.calls same_tick tell v.serving.made.1)
+    breaks known tick old same_tick tell (Stopped why) v = is_broken (StandsPaced known tick old (HaltsThen halts)) v v.serving.made.0.0
+        (given_then v.serving.calls v.serving.made.0.0 v.serving.made.0.1) (at_ticks known tick old v.serving.calls same_tick tell v.serving.made.1)
+
+    ends_as : (known : Type 0) (tick old : ℕ) (same_tick : tick ≡ c.tick) (tell : tells → known) (failed : (j : ℕ) (p : LivePort (Lane LegItem (LinkLeg I) G)) → slice_get ports j ≡ Some p → p.failed ≡ true → has_fault (popped_in p.inlet) ≡ true) (t : Turned LiveFault)
+        → RanTo popped_in t (StandsPaced known tick old gives) (StandsPaced known tick old (HaltsThen halts)) (setup c) (pts_at c) c.turns ports m → WasFaulted t ports → WasStopped (IsUnsentIn (λ (x : SendingState (FarEnds O)) (why : LiveFault). IsUnsent o.faults x.outbound why)) t m → m.short ≡ false
         → EndsAs i o (stands tap) tells c backs far.links.items far.listeners.items t
     unfolding done_law closed_law
-    ends_as failed Done v f s long = is_call served.Done v.calls v.made long (λ takes given w. done_law popped_in gives c (pts_at c) ports m takes given v w) (λ takes given w. refl)
-    ends_as failed Closed v f s long = is_call served.Closed v.serving.calls v.serving.made long (λ takes given w. closed_law popped_in gives c (pts_at c) ports m takes given v w) (λ takes given w. refl)
-    ends_as failed (Faulted j) v f s long = fault_at j f.0 f.1 (failed j f.0 f.1 f.2)
-    ends_as failed (Stopped (Link j)) v f s long = s
-    ends_as failed (Stopped NoMemory) v f s long = tt
+    ends_as known tick old same_tick tell failed Done v f s long = is_call served.Done v.calls v.made.0 (at_ticks known tick old v.calls same_tick tell v.made.1) long (λ takes given w. done_law popped_in (StandsPaced known tick old gives) c (pts_at c) ports m takes given v w) (λ takes given w. refl)
+    ends_as known tick old same_tick tell failed Closed v f s long = is_call served.Closed v.serving.calls v.serving.made.0 (at_ticks known tick old v.serving.calls same_tick tell v.serving.made.1) long (λ takes given w. closed_law popped_in (StandsPaced known tick old gives) c (pts_at c) ports m takes given v w) (λ takes given w. refl)
+    ends_as known tick old same_tick tell failed (Faulted j) v f s long = (fault_at j f.0 f.1 (failed j f.0 f.1 f.2), breaks known tick old same_tick tell (Faulted j) v)
+    ends_as known tick old same_tick tell failed (Stopped (Link j)) v f s long = (s, let t : Turned LiveFault = Stopped (Link j) in breaks known tick old same_tick tell t v)
+    ends_as known tick old same_tick tell failed (Stopped NoMemory) v f s long = inl (let t : Turned LiveFault = Stopped NoMemory in breaks known tick old same_tick tell t v)
 
     -- or for want of memory, where the tap had none
-    pub ends_told : (failed : (j : ℕ) (p : LivePort (Lane LegItem (LinkLeg I) G)) → slice_get ports j ≡ Some p → p.failed ≡ true → has_fault (popped_in p.inlet) ≡ true) (t : Turned LiveFault) (short : Bool)
+    pub ends_told : (known : Type 0) (tick old : ℕ) (same_tick : tick ≡ c.tick) (tell : tells → known) (failed : (j : ℕ) (p : LivePort (Lane LegItem (LinkLeg I) G)) → slice_get ports j ≡ Some p → p.failed ≡ true → has_fault (popped_in p.inlet) ≡ true) (t : Turned LiveFault) (short : Bool)
         → m.short ≡ short
-        → RanTo popped_in t gives (setup c) (pts_at c) c.turns ports m → WasFaulted t ports → WasStopped (IsUnsentIn (λ (x : SendingState (FarEnds O)) (why : LiveFault). IsUnsent o.faults x.outbound why)) t m
+        → RanTo popped_in t (StandsPaced known tick old gives) (StandsPaced known tick old (HaltsThen halts)) (setup c) (pts_at c) c.turns ports m → WasFaulted t ports → WasStopped (IsUnsentIn (λ (x : SendingState (FarEnds O)) (why : LiveFault). IsUnsent o.faults x.outbound why)) t m
         → EndsAs i o (stands tap) tells c backs far.links.items far.listeners.items (ended_with short t)
-    ends_told failed t true is v f s = tt
-    ends_told failed t false is v f s = ends_as failed t v f s is
+    ends_told known tick old same_tick tell failed t true is v f s = inl (breaks known tick old same_tick tell t v)
+    ends_told known tick old same_tick tell failed t false is v f s = ends_as known tick old same_tick tell failed t v f s is
 
 -- ---- before the first turn
 pub are_unused : {O : Type 0} (o : outs.Ghosts O) (tells : Type 0) (c : Conf) (ends : List O) → OpenEnds o tells c ends → length ends ≡ length c.legs → AreUnused o.given o.faults ends
@@ -262,7 +347,7 @@ module _ {O : Type 0} (o : outs.Ghosts O) (tells : Type 0) (c : Conf) (firsts ba
 -- ---- a call that did not begin
 pub not_called : {I O T : Type 0} (i : ins.Ghosts I) (o : outs.Ghosts O) (stands : List Notice → Type 0) (tells : Type 0) (c : Conf) (opened : ℕ → Bool) (legs : List (LinkLeg I)) (links : List O) (called : Called I O T) → OpenLegs i tells opened c legs → OpenEnds o tells c links
     → length legs ≡ length c.legs → length links ≡ length c.legs → called.turned ≡ Stopped NoMemory → called.legs.items ≡ legs → called.ends.items ≡ links → IsCalled i o stands tells c opened called
-not_called i o stands tells c opened legs links called are_legs are_ends many many_ends turned is is_ends = record {
+not_called {I} {O} i o stands tells c opened legs links called are_legs are_ends many many_ends turned is is_ends = record {
   many_legs = ap (λ (xs : List (LinkLeg _)). length xs) is ∙ many;
   many_ends = ap (λ (xs : List _). length xs) is_ends ∙ many_ends;
   legs_at = λ j leg line there at. (are_legs j leg (ap (λ (xs : List (LinkLeg _)). slice_get xs j) (sym is) ∙ there) line at).at;
@@ -272,7 +357,8 @@ not_called i o stands tells c opened legs links called are_legs are_ends many ma
       let w = are_legs j first.0 first.1 line at in
       let same : i.port first.0.link ≡ p = cc (sym w.at ∙ e) in
       subst (λ (q : ℕ). opened q ≡ true) same (w.told t).2;
-  ended = subst (λ (t : Turned LiveFault). EndsAs i o stands tells c called.legs.items called.ends.items called.listeners.items t) (sym turned) tt;
+  ended = subst (λ (t : Turned LiveFault). EndsAs i o stands tells c called.legs.items called.ends.items called.listeners.items t) (sym turned)
+      (inr (subst (λ (xs : List O). AreUnused o.given o.faults xs) (sym is_ends) (are_unused o tells c links are_ends many_ends)));
 }
 
 -- ---- a call that was made
@@ -282,17 +368,19 @@ tells_first mixes stands m s pts n made none = record { made = made; told = λ l
 
 pub call_made : {I O W G T : Type 0} (i : ins.Ghosts I) (o : outs.Ghosts O) (k : clocks.Ghosts W) (stands : T → List Notice → Type 0) (tells : Type 0) (c : Conf) (job : Job I (Tapped (SendingState (FarEnds O)) T) G) (before after : W) (ended : Ended I (Tapped (SendingState (FarEnds O)) T)) (tap : T) (opened later : ℕ → Bool) (firsts : List O)
     → IsOfLinks c → OpenLegs i tells opened c job.legs.items → length job.legs.items ≡ length c.legs → OpenEnds o tells c firsts → length firsts ≡ length c.legs
-    → job.mixer.mixer.outbound.links.items ≡ firsts → HasAll o.tells o.given o.faults c job.mixer.mixer → stands job.mixer.tap [] → job.turns ≡ c.turns → (tells → (p : ℕ) → later p ≡ opened p)
-    → RanAs i k (TellsFor (GivesFor o.tells o.given o.faults) stands) (λ (m : Tapped (SendingState (FarEnds O)) T). map o.port m.mixer.outbound.links.items) (IsUnsentIn (λ (m : SendingState (FarEnds O)) (why : LiveFault). IsUnsent o.faults m.outbound why)) job before after ended
+    → job.mixer.mixer.outbound.links.items ≡ firsts → HasAll o.tells o.given o.faults c job.mixer.mixer → stands job.mixer.tap [] → job.turns ≡ c.turns → job.tick ≡ c.tick → (tells → k.tells) → (tells → (p : ℕ) → later p ≡ opened p)
+    → RanAs i k (TellsFor (GivesFor o.tells o.given o.faults) stands) (HaltsTold (GivesFor o.tells o.given o.faults) (HaltsGiving o.tells o.given)) (λ (m : Tapped (SendingState (FarEnds O)) T). map o.port m.mixer.outbound.links.items) (IsUnsentIn (λ (m : SendingState (FarEnds O)) (why : LiveFault). IsUnsent o.faults m.outbound why)) job before after ended
     → Learns stands ended.mixer.tap tap Shows
     → IsCalled i o (stands tap) tells c later (record { turned = ended_with ended.mixer.short ended.turned; legs = ended.legs; ends = ended.mixer.mixer.outbound.links; listeners = ended.mixer.mixer.outbound.listeners; tap = tap })
-call_made {I} {O} {W} {G} {T} i o k stands tells c job before after ended tap opened later firsts links are many are_ends many_ends is all none turns still ran shows =
+call_made {I} {O} {W} {G} {T} i o k stands tells c job before after ended tap opened later firsts links are many are_ends many_ends is all none turns ticks tell still ran shows =
     let m = ended.mixer in
     let legs = job.legs.items in
     let backs = ended.legs.items in
     let gives : Tapped (SendingState (FarEnds O)) T → Setup → (ℕ → Pts) → List Call → Type 0 = TellsFor (GivesFor o.tells o.given o.faults) stands in
     let first : gives job.mixer (setup c) (pts_at c) (all_admitted (length c.legs)) = tells_first (GivesFor o.tells o.given o.faults) stands job.mixer (setup c) (pts_at c) (length c.legs) all none in
-    let made : RanTo popped_in ended.turned gives (setup c) (pts_at c) c.turns ran.ports m = subst (λ (n : ℕ). RanTo popped_in ended.turned gives (setup c) (pts_at c) n ran.ports m) turns (ran.ran (setup c) (pts_at c) (sym many) links.stay first) in
+    let gives_paced : Tapped (SendingState (FarEnds O)) T → Setup → (ℕ → Pts) → List Call → Type 0 = StandsPaced k.tells job.tick (k.moment before) gives in
+    let halts_paced : Tapped (SendingState (FarEnds O)) T → Setup → (ℕ → Pts) → List Call → Type 0 = StandsPaced k.tells job.tick (k.moment before) (HaltsThen (HaltsTold (GivesFor o.tells o.given o.faults) (HaltsGiving o.tells o.given))) in
+    let made : RanTo popped_in ended.turned gives_paced halts_paced (setup c) (pts_at c) c.turns ran.ports m = subst (λ (n : ℕ). RanTo popped_in ended.turned gives_paced halts_paced (setup c) (pts_at c) n ran.ports m) turns (ran.ran (setup c) (pts_at c) (sym many) links.stay first) in
     let same : map o.port m.mixer.outbound.links.items ≡ map o.port firsts = ran.addresses_are ∙ ap (λ (xs : List O). map o.port xs) is in
     let tells_out : tells → (j : ℕ) → j < length c.legs → o.tells = λ t j low.
     let line = some_leg c.legs j low in
@@ -304,7 +392,7 @@ call_made {I} {O} {W} {G} {T} i o k stands tells c job before after ended tap op
       legs_at = backs_at i tells opened c legs backs ran.ports are many ran.each ran.many ran.legs;
       ends_at = far_ends_at o tells c firsts m.mixer.outbound.links.items are_ends same;
       are_open = λ t j line p at e. still t p ∙ ports_open i tells opened c legs backs ran.ports are many ran.each ran.many ran.legs t j line p at e;
-      ended = ends_told i tells opened c legs backs ran.ports are many ran.each ran.many ran.legs o tells_out stands m tap shows ran.failed ended.turned m.short refl made ran.faulted ran.stopped;
+      ended = ends_told i tells opened c legs backs ran.ports are many ran.each ran.many ran.legs o tells_out stands m tap shows k.tells job.tick (k.moment before) ticks tell ran.failed ended.turned m.short refl made ran.faulted ran.stopped;
     }
 
 -- all turns were made where the call ended so

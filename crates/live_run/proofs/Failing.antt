@@ -1,16 +1,16 @@
 -- Where a leg said that its link failed, its link did; and none failed that was closed.
 use Rattle.std.proofs.Common.{◌≡◌, Bool, true, false, true≢false, inl, inr, List, [], ◌∷◌, ◌++◌, refl, ap, sym, ◌∙◌, subst}
-use Rattle.std.specs.Prelude.{◌||◌, if◌then◌else◌}
+use Rattle.std.specs.Prelude.{◌||◌}
 use Rattle.rtt_io.specs.Counts.{Rose}
 use Rattle.gap_tracker.specs.Stories.{Story}
 use Rattle.ear.specs.declared.confs.EarConf.{EarConf}
 use Rattle.ear.specs.Hears.{conf_of}
-use Rattle.link_spec.specs.Links.{Came, Takes, is_closed, is_closing}
+use Rattle.link_spec.specs.Links.{Came, Datagram, Large, Quiet, Closed, Takes, is_closed}
 use Rattle.link_io.specs.declared.ends.LinkIn as links
 use Rattle.live_spec.specs.Told.{Hearing}
 use Rattle.live_law.proofs.Opening.{open_takes}
 use Rattle.live_leg.specs.declared.states.State.{State}
-use Rattle.live_leg.specs.declared.states.State.TheVariants.{Idle, Giving, Ending, Over}
+use Rattle.live_leg.specs.declared.states.State.TheVariants.{Idle, Giving, Blank, Ending, Over}
 use Rattle.live_leg.specs.declared.legs.LinkLeg.{LinkLeg}
 use Rattle.live_leg.specs.Items.{AreItems, AreTexts, Item, has_fault, is_fault, is_text, mark_of}
 use Rattle.live_leg.specs.Items as item
@@ -43,29 +43,30 @@ texts_calm : (xs : List Item) → AreTexts xs → has_fault xs ≡ false
 texts_calm [] a = refl
 texts_calm (item.Text r o ∷ xs) a = texts_calm xs a.1
 texts_calm (item.Seen ∷ xs) a = absurd (true≢false (sym a.0))
+texts_calm (item.Silent ∷ xs) a = absurd (true≢false (sym a.0))
 texts_calm (item.End ∷ xs) a = absurd (true≢false (sym a.0))
 texts_calm (item.Quit ∷ xs) a = absurd (true≢false (sym a.0))
 texts_calm (item.Fault ∷ xs) a = absurd (true≢false (sym a.0))
 
 mark_calm : (came : Came) → has_fault (mark_of came ∷ []) ≡ false
-mark_calm came = go (is_closing came)
-  where
-    go : (b : Bool) → has_fault ((if b then item.End else item.Seen) ∷ []) ≡ false
-    go true = refl
-    go false = refl
+mark_calm (Datagram octets) = refl
+mark_calm Large = refl
+mark_calm Quiet = refl
+mark_calm Closed = refl
 
 items_calm : (h : Hearing) (takes : Takes) (items : List Item) → AreItems h takes items → has_fault items ≡ false
 items_calm h [] items a = ap has_fault a
 items_calm h (t ∷ past) items a =
     ap has_fault a.2 ∙ both_calm a.0 (a.1 ++ mark_of t.came ∷ []) (items_calm h past a.0 a.3) (both_calm a.1 (mark_of t.came ∷ []) (texts_calm a.1 a.4) (mark_calm t.came))
 
-some_calm : (closing : Bool) (h : Hearing) (takes : Takes) (items : List Item) → IsGivingSome closing h takes items → has_fault items ≡ false
-some_calm closing h takes items p = ap has_fault p.items_are ∙ both_calm p.before p.news (items_calm h p.past p.before p.are) (texts_calm p.news p.texts)
+some_calm : (closing : Bool) (mark : Item) (h : Hearing) (takes : Takes) (items : List Item) → IsGivingSome closing mark h takes items → has_fault items ≡ false
+some_calm closing mark h takes items p = ap has_fault p.items_are ∙ both_calm p.before p.news (items_calm h p.past p.before p.are) (texts_calm p.news p.texts)
 
 phase_calm : (st : State) (F : Type 0) (conf : EarConf) (takes : Takes) (items : List Item) (story : Story) → PhaseAt st F conf takes items story → is_closed takes ≡ true → has_fault items ≡ false
 phase_calm Idle F conf takes items story p e = items_calm (hearing_of conf) takes items p.are
-phase_calm Giving F conf takes items story p e = some_calm false (hearing_of conf) takes items p
-phase_calm Ending F conf takes items story p e = some_calm true (hearing_of conf) takes items p.0
+phase_calm Giving F conf takes items story p e = some_calm false item.Seen (hearing_of conf) takes items p
+phase_calm Blank F conf takes items story p e = some_calm false item.Silent (hearing_of conf) takes items p
+phase_calm Ending F conf takes items story p e = some_calm true item.End (hearing_of conf) takes items p.0
 phase_calm Over F conf takes items story (inl p) e = items_calm (hearing_of conf) takes items p.are
 phase_calm Over F conf takes items story (inr p) e = absurd (true≢false (sym e ∙ open_takes (hearing_of conf) takes p.open_still))
 

@@ -13,7 +13,7 @@ use Rattle.mixer_turn.specs.declared.batches.Post.{Post}
 use Rattle.mixer_posts.specs.Streams.{conf_at}
 use Rattle.mixer_posts.specs.Posts.{AreNext, sent_of_post, sents_to}
 use Rattle.live_run.specs.Listeners.{HasHeard, HearsNext, Listening}
-use Rattle.live_run.specs.Ends.{WasGiven, WasSent, packets_of, texts_in}
+use Rattle.live_run.specs.Ends.{WasCut, WasGiven, WasSent, packets_of, texts_in}
 
 -- ---- lists
 pub got : {X : Type 0} (xs : List X) (i : ℕ) (x d : X) → i < length xs → x ≡ get_or xs i d → slice_get xs i ≡ Some x
@@ -111,3 +111,58 @@ module _ {O : Type 0} (tells : Type 0) (given : O → List (List ℕ)) (faults :
       | inl q ↦ subst (λ (k : ℕ). WasSentThen (pts k) k) q (sent_here (pts p.terminal) low next (w p.terminal low))
       | inr n ↦ sent_else (pts j) j n (w j low_j)
     ]
+
+-- ---- a post that was given, or not, and was not sent to its end
+module _ {O : Type 0} (tells : Type 0) (given : O → List (List ℕ)) (faults : O → ℕ) (outputs : List State) (links : List O) (listeners : List Listening) (s : Setup) (now : ℕ) (p : Post) (new_link : O) (sent : List (ℕ × Post)) where
+  abbrev pub WasCutThen : Pts → ℕ → Type 0
+  WasCutThen pts j = WasCut tells given (slice_set links p.terminal new_link) s pts j sent now p
+
+  -- another terminal is as it was
+  cut_else : (pts : Pts) (j : ℕ) → (p.terminal ≡ j → ⊥) → WasSent tells given faults outputs links listeners s pts j sent → WasCutThen pts j
+  cut_else pts j n w = record {
+    sources = w.sources;
+    are = w.are;
+    gave = λ link e t. inl ((w.gave link (sym (set_other links p.terminal j new_link n) ∙ e)).1 t);
+  }
+
+  module _ (link : O) (link_at : slice_get links p.terminal ≡ Some link) where
+    -- the link of its terminal was not given it
+    cut_here : (pts : Pts) → (tells → given new_link ≡ given link) → WasSent tells given faults outputs links listeners s pts p.terminal sent → WasCutThen pts p.terminal
+    cut_here pts same w =
+        let all = packets_of (conf_at s pts p.terminal) (sents_to w.sources p.terminal sent) in
+        record {
+          sources = w.sources;
+          are = w.are;
+          gave = λ x q t. inl (subst (λ (y : O). given y ≡ all) (sym (set_there links p.terminal new_link x q)) (same t ∙ (w.gave link link_at).1 t));
+        }
+
+    pub cut_one : (pts : ℕ → Pts) → (tells → given new_link ≡ given link) → ((j : ℕ) → j < s.legs → WasSent tells given faults outputs links listeners s (pts j) j sent) → (j : ℕ) → j < s.legs → WasCutThen (pts j) j
+    cut_one pts same w j low_j = elim (cases_eq p.terminal j) [
+      | inl q ↦ subst (λ (k : ℕ). WasCutThen (pts k) k) q (cut_here (pts p.terminal) same (w p.terminal (subst (λ (k : ℕ). k < s.legs) (sym q) low_j)))
+      | inr n ↦ cut_else (pts j) j n (w j low_j)
+    ]
+
+    module _ (o new_o : State) (octets : List ℕ) (o_at : slice_get outputs p.terminal ≡ Some o) (writes : Writes o new_o p octets) (told : tells → given new_link ≡ given link ++ octets ∷ []) where
+      -- it was given it, and nobody heard it
+      unheard_here : (pts : Pts) → p.terminal < s.legs → AreNext s ((now, p) ∷ sent) → WasSent tells given faults outputs links listeners s pts p.terminal sent → WasCutThen pts p.terminal
+      unheard_here pts low next w =
+          let k = p.terminal in
+          let conf = conf_at s pts k in
+          let before = sents_to w.sources k sent in
+          let e = sent_of_post w.sources p in
+          let here : sents_to w.sources k ((now, p) ∷ sent) ≡ (now, e) ∷ before = sents_here w.sources k now p sent refl in
+          let may : IsNext (stream s k) (texts_in before) e = (subst (λ (xs : List (ℕ × Sent)). EachIsNext (stream s k) (texts_in xs)) here (next k w.sources low w.are)).0 in
+          let step = writes conf w.sources (texts_in before) (w.wrote o o_at) may in
+          let all : packets_of conf before ++ octets ∷ [] ≡ packets_of conf (sents_to w.sources k ((now, p) ∷ sent)) = ap (λ (q : List ℕ). packets_of conf before ++ q ∷ []) step.0 ∙ sym (ap (packets_of conf) here) in
+          record {
+            sources = w.sources;
+            are = w.are;
+            gave = λ x q t. inr (subst (λ (y : O). given y ≡ packets_of conf (sents_to w.sources k ((now, p) ∷ sent))) (sym (set_there links k new_link x q))
+                (told t ∙ (ap (λ (ps : List (List ℕ)). ps ++ octets ∷ []) ((w.gave link link_at).1 t) ∙ all)));
+          }
+
+      pub unheard_one : (pts : ℕ → Pts) → p.terminal < s.legs → AreNext s ((now, p) ∷ sent) → ((j : ℕ) → j < s.legs → WasSent tells given faults outputs links listeners s (pts j) j sent) → (j : ℕ) → j < s.legs → WasCutThen (pts j) j
+      unheard_one pts low next w j low_j = elim (cases_eq p.terminal j) [
+        | inl q ↦ subst (λ (k : ℕ). WasCutThen (pts k) k) q (unheard_here (pts p.terminal) low next (w p.terminal low))
+        | inr n ↦ cut_else (pts j) j n (w j low_j)
+      ]

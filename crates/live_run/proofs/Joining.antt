@@ -104,8 +104,8 @@ module _ {L M G : Type 0} (g : links.Ghosts L) (stands : M → Setup → (ℕ �
       ap items_of (started.are j first.0 x first.1 e).none
 
   -- each leg gave first what was popped of it at the end of the turns
-  pub all_gave : (turns : ℕ) (turned : Turned LiveFault) (legs back : List (LinkLeg L)) (lanes joined : List (Lane LegItem (LinkLeg L) G)) (ps new : List (LivePort (Lane LegItem (LinkLeg L) G))) (m m' : M)
-      → AreStarted (LegGave g) legs lanes → ArePortsOf lanes ps → (w : TurnsWere popped_in (LaneFollows (LegGave g)) stands turns turned ps new m m')
+  pub all_gave : {then halts : M → Setup → (ℕ → Pts) → List Call → Type 0} (turns : ℕ) (turned : Turned LiveFault) (legs back : List (LinkLeg L)) (lanes joined : List (Lane LegItem (LinkLeg L) G)) (ps new : List (LivePort (Lane LegItem (LinkLeg L) G))) (m m' : M)
+      → AreStarted (LegGave g) legs lanes → ArePortsOf lanes ps → (w : TurnsWere popped_in (LaneFollows (LegGave g)) stands then halts turns turned ps new m m')
       → Pairs IsInletOf new joined → AreBack (LegGave g) joined back
       → (j : ℕ) (p : LivePort (Lane LegItem (LinkLeg L) G)) (first last : LinkLeg L) → slice_get w.ports j ≡ Some p → slice_get legs j ≡ Some first → slice_get back j ≡ Some last
       → GaveFirst g first last (popped_in p.inlet)
@@ -120,9 +120,9 @@ module _ {L M G : Type 0} (g : links.Ghosts L) (stands : M → Setup → (ℕ �
       (subst (λ (x : LivePort (Lane LegItem (LinkLeg L) G)). Grew popped_in (LaneFollows (LegGave g)) p0.0 x) same q.2) r.2 (inlets.are j r.0 lane2.0 r.1 lane2.1) (comes.are j lane2.0 last lane2.1 el)
 
   -- a fault of which a port knows was popped there
-  pub all_failed : (turns : ℕ) (turned : Turned LiveFault) (lanes : List (Lane LegItem (LinkLeg L) G)) (ps new : List (LivePort (Lane LegItem (LinkLeg L) G))) (m m' : M)
+  pub all_failed : {then halts : M → Setup → (ℕ → Pts) → List Call → Type 0} (turns : ℕ) (turned : Turned LiveFault) (lanes : List (Lane LegItem (LinkLeg L) G)) (ps new : List (LivePort (Lane LegItem (LinkLeg L) G))) (m m' : M)
       → ArePortsOf lanes ps → ((j : ℕ) (x : Lane LegItem (LinkLeg L) G) → slice_get lanes j ≡ Some x → popped_in x ≡ [])
-      → (w : TurnsWere popped_in (LaneFollows (LegGave g)) stands turns turned ps new m m')
+      → (w : TurnsWere popped_in (LaneFollows (LegGave g)) stands then halts turns turned ps new m m')
       → (j : ℕ) (p : LivePort (Lane LegItem (LinkLeg L) G)) → slice_get w.ports j ≡ Some p → p.failed ≡ true → has_fault (popped_in p.inlet) ≡ true
   all_failed turns turned lanes ps new m m' ports none w j p ep failed =
       let p0 = is_there ps j (let low = slice_get_within w.ports j p ep in let many = w.many in omega (arith, low, many)) in

@@ -1,10 +1,12 @@
 -- Links that are opened one by one, in leg order.
-use Rattle.std.proofs.Common.{◌≡◌, ℕ, zero, suc, ◌<◌, ◌≤◌, inl, inr, Some, List, [], ◌∷◌, ◌++◌, true, length, refl, ap, sym, ◌∙◌, subst, arith}
-use Rattle.std.specs.Prelude.{Bool, slice_get}
+use Rattle.std.proofs.Common.{◌≡◌, ℕ, zero, suc, ◌+◌, ◌<◌, ◌≤◌, ◌⊎◌, inl, inr, Some, List, [], ◌∷◌, ◌++◌, true, append_assoc, get_or, length, map, take, refl, ap, sym, ◌∙◌, subst, arith}
+use Rattle.std.specs.Option.{option_map_or}
+use Rattle.std.specs.Prelude.{Bool, Option, slice_get}
+use Rattle.std.proofs.lemmas.List.{append-nil, map_more, take_all}
 use Rattle.std.proofs.lemmas.Option.{slice_get_within}
 use Rattle.rtt_io.specs.Counts.{Rose}
 use Rattle.file_spec.specs.declared.conf_lines.LegLine.{LegLine}
-use Rattle.file_spec.specs.Conf.{Conf}
+use Rattle.file_spec.specs.Conf.{Conf, port}
 use Rattle.mixer_spec.specs.Setups.{leg_at}
 use Rattle.item_lanes.proofs.Matching.{is_there}
 use Rattle.link_io.specs.declared.ends.LinkIn as ins
@@ -12,7 +14,8 @@ use Rattle.link_io.specs.declared.ends.LinkOut as outs
 use Rattle.live_leg.specs.declared.legs.LinkLeg.{LinkLeg}
 use Rattle.live_run.specs.declared.faults.LiveFault.{LiveFault}
 use Rattle.live_run.specs.declared.faults.LiveFault.TheVariants.{Link, NoMemory}
-use Rattle.live_run.specs.Opened.{AreCalm, AreOpenBelow, IsNotOpened, IsRefusedAt, OpenEnds, OpenLegs, OpensEnd, OpensLeg}
+use Rattle.live_run.specs.Opened.{AreCalm, AreEmptyAt, AreOpenBelow, IsNotOpened, IsRefusedAt, LeadsAll, LeadsFirst, LeadsOne, LeadsSome, OpenEnds, OpenLegs, OpensEnd, OpensLeg, link_of}
+use Rattle.live_run.proofs.Showing.{read_leg}
 use Rattle.mixer_posts.proofs.Backward.{pushed}
 
 pub some_leg : (legs : List LegLine) (j : ℕ) → j < length legs → (line : LegLine) × (leg_at legs j ≡ Some line)
@@ -67,6 +70,45 @@ module _ {O : Type 0} (g : outs.Ghosts O) (tells : Type 0) (c : Conf) where
       let low = slice_get_within ends j end e in
       let line = some_leg c.legs j (omega (arith, low, len, few)) in
       (all j end e line.0 line.1).fresh
+
+  -- nothing was given to them, and links are open at their ports
+  pub ends_empty : (opened : ℕ → Bool) (ends : List O) (n : ℕ) → length ends ≡ n → n ≤ length c.legs → OpenEnds g tells c ends → AreOpenBelow n opened c → AreEmptyAt g.given g.port opened ends
+  ends_empty opened ends n len few all below j end e =
+      let low = slice_get_within ends j end e in
+      let line = some_leg c.legs j (omega (arith, low, len, few)) in
+      let w = all j end e line.0 line.1 in
+      (w.none, below j line.0 (g.port end) (omega (arith, low, len)) line.1 w.at)
+
+-- ---- to whom
+module _ (c : Conf) (first old new : List (ℕ × List ℕ)) (n : ℕ) (low : n < length c.legs) (so_far : LeadsFirst n c first old) where
+  -- one more link was opened
+  pub leads_more : LeadsOne c n old new → LeadsFirst (n + 1) c first new
+  leads_more one =
+      let line = some_leg c.legs n low in
+      let here : get_or c.legs n line.0 ≡ line.0 = read_leg c.legs n line.0 line.0 line.1 in
+      one line.0 line.1
+      ∙ (ap (λ (xs : List (ℕ × List ℕ)). xs ++ link_of line.0 ∷ []) so_far
+      ∙ (append_assoc first (map link_of (take n c.legs)) (link_of line.0 ∷ [])
+      ∙ ap (λ (xs : List (ℕ × List ℕ)). first ++ xs) (sym (map_more link_of c.legs n line.0 low ∙ ap (λ (leg : LegLine). map link_of (take n c.legs) ++ link_of leg ∷ []) here))))
+
+  -- or none
+  pub leads_some : (new ≡ old) ⊎ LeadsOne c n old new → LeadsSome c first new
+  leads_some (inl same) = (n, same ∙ so_far)
+  leads_some (inr one) = (n + 1, leads_more one)
+
+-- a port and a peer that are those of the leg
+pub pair_is : (p : ℕ) (to : List ℕ) (line : LegLine) → port line.input ≡ Some p → to ≡ line.output → (p, to) ≡ link_of line
+pair_is p to line there is =
+    let pair : ℕ → List ℕ → ℕ × List ℕ = λ n name. (n, name) in
+    subst (λ (o : Option ℕ). pair p to ≡ pair (option_map_or (λ (q : ℕ). q) o 0) line.output) (sym there) (ap (pair p) is)
+
+-- none was opened yet
+pub leads_none : (c : Conf) (first : List (ℕ × List ℕ)) → LeadsFirst 0 c first first
+leads_none c first = sym (append-nil first)
+
+-- all were
+pub leads_all : (c : Conf) (first new : List (ℕ × List ℕ)) (n : ℕ) → length c.legs ≤ n → LeadsFirst n c first new → LeadsAll c first new
+leads_all c first new n all some = some ∙ ap (λ (legs : List LegLine). first ++ map link_of legs) (take_all n c.legs all)
 
 -- the link of this leg was not opened, and those before it were handed back
 pub not_opened : (tells : Type 0) (opened : ℕ → Bool) (before now after last : ℕ → ℕ) (c : Conf) (own : ℕ) (fault : LiveFault) → own < length c.legs → ((p : ℕ) → now p ≡ before p) → ((p : ℕ) → last p ≡ after p)

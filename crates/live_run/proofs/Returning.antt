@@ -1,5 +1,5 @@
 -- What a live call answers, when its links were handed back.
-use Rattle.std.proofs.Common.{◌≡◌, ◌≤◌, ℕ, Bool, true, inl, inr, Some, None, Ok, Err, List, length, refl, ap, sym, ◌∙◌, subst, arith}
+use Rattle.std.proofs.Common.{◌≡◌, ◌≤◌, ℕ, Bool, true, inl, inr, Some, None, Ok, Err, List, [], length, refl, ap, sym, ◌∙◌, subst, arith}
 use Rattle.std.specs.Prelude.{IfOk, IsSome, Option, Result, slice_get}
 use Rattle.std.proofs.lemmas.Option.{slice_get_within}
 use Rattle.rtt_io.specs.Counts.{Rose}
@@ -11,7 +11,10 @@ use Rattle.live_leg.specs.declared.legs.LinkLeg.{LinkLeg}
 use Rattle.live_loop.specs.declared.turns.Turned.{Turned}
 use Rattle.live_loop.specs.declared.turns.Turned.TheVariants.{Done, Closed, Faulted, Stopped}
 use Rattle.live_law.proofs.Serving.{some_there}
-use Rattle.serve_spec.specs.Served.{End, IsServed, live_printed}
+use Rattle.serve_spec.specs.Served.{Broken, End, IsCutShort, IsServed, live_printed}
+use Rattle.serve_spec.specs.Served as served
+use Rattle.file_spec.specs.declared.conf_lines.LegLine.{LegLine}
+use Rattle.mixer_spec.specs.Setups.{leg_at}
 use Rattle.serve_spec.proofs.Promised.{head_law}
 use Rattle.live_run.specs.declared.calls.Called.{Called}
 use Rattle.live_run.specs.declared.faults.LiveFault.{LiveFault}
@@ -19,9 +22,9 @@ use Rattle.live_run.specs.declared.faults.LiveFault.TheVariants.{Link, NoMemory}
 use Rattle.live_run.specs.declared.reports.LiveEnd.{LiveEnd}
 use Rattle.live_run.specs.declared.reports.LiveReport.{LiveReport}
 use Rattle.live_run.specs.declared.reports.LiveEnd.TheVariants as ends
-use Rattle.live_run.specs.Calls.{AreAtPorts, AtPorts, EndsAs, FailedAt, IsCallOf, IsCalled, IsOfLinks, LinkFailed, WasGivenUp, WasServed, WasTapped, answer_of}
+use Rattle.live_run.specs.Calls.{AreAtPorts, AtPorts, BrokeOff, EndsAs, FailedAt, GaveNothing, HasGivenUp, IsBrokenOff, IsCallOf, IsCalled, IsOfLinks, LinkFailed, WasBroken, WasGivenUp, WasServed, WasTapped, answer_of}
 use Rattle.live_run.specs.Listeners.{ArePrintedOf, Listening}
-use Rattle.live_run.specs.Opened.{AreCalm, AreStored, FaultsRose, HaveOwnPorts, IsNotOpened, link_in}
+use Rattle.live_run.specs.Opened.{AreCalm, AreStored, FaultsRose, GivesNothing, HaveOwnPorts, IsNotOpened, link_in}
 use Rattle.live_run.specs.Reports.{end_of}
 use Rattle.live_run.specs.Taps.{Notice}
 use Rattle.live_run.proofs.Closing.{rose_on}
@@ -47,6 +50,14 @@ module _ {X : Type 0} (c : Conf) (links : IsOfLinks c) (port_of : X → ℕ) (xs
       let x = some_there xs j (let low = leg_within c.legs j line at in omega (arith, low, many)) in
       let here : p ≡ port_of x.0 = cc (sym e ∙ are j x.0 line x.1 at) in
       ap stored here ∙ (keeps own_ports j x.0 x.1 (sym (ap opened here) ∙ is_open j line p at e) ∙ is j x.0 x.1)
+
+  -- what it has is stored there
+  stored_at : {K : Type 0} (has : X → K) (opened : ℕ → Bool) (stored : ℕ → K) → AtPorts c opened (λ j. true) → AreStored has port_of opened stored xs
+      → (j : ℕ) (line : LegLine) (p : ℕ) → leg_at c.legs j ≡ Some line → port line.input ≡ Some p → (x : X) × (slice_get xs j ≡ Some x) × (stored p ≡ has x)
+  stored_at has opened stored is_open keeps j line p at e =
+      let x = some_there xs j (let low = leg_within c.legs j line at in omega (arith, low, many)) in
+      let here : p ≡ port_of x.0 = cc (sym e ∙ are j x.0 line x.1 at) in
+      (x.0, x.1, ap stored here ∙ keeps own_ports j x.0 x.1 (sym (ap opened here) ∙ is_open j line p at e))
 
   -- where the link of a leg failed, a count of its port rose
   link_failed : (faults : X → ℕ) (own own' ends ends' : ℕ → ℕ) (j : ℕ) → FailedAt faults xs j → FaultsRose faults port_of ends ends' xs → LinkFailed own own' ends ends' c j
@@ -82,6 +93,48 @@ done_turned (Stopped why) end e d = absurd (cc e)
 prints_so : (c : Conf) (takes : ℕ → Takes) (given : ℕ → List (List ℕ)) (end : End) (printed : List ℕ) → IsServed c takes given end (live_printed c given end) → printed ≡ live_printed c given end → IsServed c takes given end printed
 prints_so c takes given end printed w is = record { table = w.table; turns = w.turns; live = w.live; few = w.few; gives = w.gives; prints = is; done = w.done; drained = w.drained; idle = w.idle }
 
+-- ---- a call that broke off
+broken : (c : Conf) (takes : ℕ → Takes) (given : ℕ → List (List ℕ)) (end : End) (printed : List ℕ) → IsServed c takes given end printed → IsServed c takes given Broken (live_printed c given Broken)
+broken c takes given end printed w = record { table = w.table; turns = w.turns; live = w.live; few = w.few; gives = w.gives; prints = refl; done = λ e. absurd (cc e); drained = λ e. absurd (cc e); idle = λ e. absurd (cc e) }
+
+-- so did any that was served
+call_breaks : {I O : Type 0} (i : ins.Ghosts I) (o : outs.Ghosts O) (stands : List Notice → Type 0) (tells : Type 0) (c : Conf) (legs : List (LinkLeg I)) (links : List O) (listeners : List Listening) (end : End)
+    → IsCallOf i o stands tells c legs links listeners end → IsBrokenOff i o tells c legs links
+unfolding broken
+call_breaks i o stands tells c legs links listeners end w = record {
+  takes = w.takes;
+  given = w.given;
+  served = broken c w.takes w.given end (live_printed c w.given end) w.served;
+  now = 0;
+  taken = w.taken;
+  gave = λ t j link line e at. inl (w.gave t j link e ∙ w.served.gives j line at);
+  paced = w.paced;
+}
+
+any_breaks : {I O : Type 0} (i : ins.Ghosts I) (o : outs.Ghosts O) (stands : List Notice → Type 0) (tells : Type 0) (c : Conf) (legs : List (LinkLeg I)) (links : List O) (listeners : List Listening) (t : Turned LiveFault)
+    → EndsAs i o stands tells c legs links listeners t → HasGivenUp i o tells c legs links
+any_breaks i o stands tells c legs links listeners Done w = inl (call_breaks i o stands tells c legs links listeners served.Done w)
+any_breaks i o stands tells c legs links listeners Closed w = inl (call_breaks i o stands tells c legs links listeners served.Closed w)
+any_breaks i o stands tells c legs links listeners (Faulted j) w = inl w.1
+any_breaks i o stands tells c legs links listeners (Stopped (Link j)) w = inl w.1
+any_breaks i o stands tells c legs links listeners (Stopped NoMemory) w = w
+
+-- when its links were handed back
+pub was_broken : (tells : Type 0) (taken_at : ℕ → Takes) (given_at : ℕ → List (List ℕ)) (c : Conf) (end : End) (printed : List ℕ) → WasServed tells taken_at given_at c end printed → WasBroken tells taken_at given_at c
+unfolding broken
+was_broken tells taken_at given_at c end printed w =
+    let b = broken c w.takes w.given end printed w.served in
+    record {
+      takes = w.takes;
+      given = w.given;
+      served = b;
+      keeps = λ octets read. head_law octets c w.takes w.given Broken (live_printed c w.given Broken) read b;
+      now = 0;
+      taken = w.taken;
+      gave = λ t j line p at e. inl (w.gave t j line p at e ∙ w.served.gives j line at);
+      paced = w.paced;
+    }
+
 module _ {I O T : Type 0} (i : ins.Ghosts I) (o : outs.Ghosts O) (stands : List Notice → Type 0) (tells : Type 0) (c : Conf) (opened : ℕ → Bool) (called : Called I O T) (w : IsCalled i o stands tells c opened called) where
   pub each_heard : (end : LiveEnd) → answer_of called.turned ≡ Ok end → length called.listeners.items ≡ length c.legs
   each_heard end e = (ended_call i o stands tells c called.legs.items called.ends.items called.listeners.items called.turned end w.ended e).many
@@ -111,9 +164,31 @@ module _ {I O T : Type 0} (i : ins.Ghosts I) (o : outs.Ghosts O) (stands : List 
             keeps = λ octets read. head_law octets c v.takes v.given (end_of end) printed read served;
             taken = λ t. at_ports c links (λ (leg : LinkLeg I). i.port (link_in leg)) called.legs.items w.many_legs w.legs_at (λ (leg : LinkLeg I). i.taken (link_in leg)) opened taken_at v.takes (w.are_open t) (stored_legs t) (v.taken t);
             gave = λ t. at_ports c links o.port called.ends.items w.many_ends w.ends_at o.given opened given_at v.given (w.are_open t) (stored_ends t) (v.gave t);
+            paced = v.paced;
           };
           told = v.told;
         }
+
+    pub broke_off : (before : ℕ → List (List ℕ)) → BrokeOff tells before taken_at given_at c
+    broke_off before =
+        let legs = called.legs.items in
+        let ends = called.ends.items in
+        let in_port : LinkLeg I → ℕ = λ leg. i.port (link_in leg) in
+        elim (any_breaks i o stands tells c legs ends called.listeners.items called.turned w.ended) [
+          | inl b ↦ inl (record {
+            takes = b.takes;
+            given = b.given;
+            served = b.served;
+            keeps = λ octets read. head_law octets c b.takes b.given Broken (live_printed c b.given Broken) read b.served;
+            now = b.now;
+            taken = λ t. at_ports c links in_port legs w.many_legs w.legs_at (λ (leg : LinkLeg I). i.taken (link_in leg)) opened taken_at b.takes (w.are_open t) (stored_legs t) (b.taken t);
+            gave = λ t j line p at e.
+                let x = stored_at c links o.port ends w.many_ends w.ends_at o.given opened given_at (w.are_open t) (stored_ends t) j line p at e in
+                subst (λ (packets : List (List ℕ)). IsCutShort c b.served.table b.now j line packets) (sym x.2) (b.gave t j x.0 line x.1 at);
+            paced = b.paced;
+          })
+          | inr unused ↦ inr (λ t j line p at e. inr (at_ports c links o.port ends w.many_ends w.ends_at o.given opened given_at (λ j. []) (w.are_open t) (stored_ends t) (λ j link there. (unused j link there).0) j line p at e))
+        ]
 
   -- where it was given up, the counts are the cause
   module _ (links : IsOfLinks c) (own own' ends_before ends_between ends_after : ℕ → ℕ) (never : (p : ℕ) → ends_before p ≤ ends_between p) (never_then : (p : ℕ) → ends_between p ≤ ends_after p)
@@ -127,12 +202,12 @@ module _ {I O T : Type 0} (i : ins.Ghosts I) (o : outs.Ghosts O) (stands : List 
         let rose : FaultsRose (λ (leg : LinkLeg I). i.faults (link_in leg)) (λ (leg : LinkLeg I). i.port (link_in leg)) ends_before ends_after called.legs.items =
         λ k leg at r. let p = i.port (link_in leg) in rose_on (ends_before p) (ends_between p) (ends_after p) (never p) (never_then p) (rose_legs k leg at r) in
         subst (λ (x : LiveFault). WasGivenUp own own' ends_before ends_after c x) same
-        (link_failed c links (λ (leg : LinkLeg I). i.port (link_in leg)) called.legs.items w.many_legs w.legs_at (λ (leg : LinkLeg I). i.faults (link_in leg)) own own' ends_before ends_after j e rose)
+        (link_failed c links (λ (leg : LinkLeg I). i.port (link_in leg)) called.legs.items w.many_legs w.legs_at (λ (leg : LinkLeg I). i.faults (link_in leg)) own own' ends_before ends_after j e.0 rose)
     given_up_so (Stopped (Link j)) fault e q =
         let same : Link j ≡ fault = cc q in
         let rose : FaultsRose o.faults o.port ends_before ends_after called.ends.items =
         λ k link at r. let p = o.port link in rose_since (ends_before p) (ends_between p) (ends_after p) (never p) (rose_ends k link at r) in
-        subst (λ (x : LiveFault). WasGivenUp own own' ends_before ends_after c x) same (link_failed c links o.port called.ends.items w.many_ends w.ends_at o.faults own own' ends_before ends_after j e rose)
+        subst (λ (x : LiveFault). WasGivenUp own own' ends_before ends_after c x) same (link_failed c links o.port called.ends.items w.many_ends w.ends_at o.faults own own' ends_before ends_after j e.0 rose)
     given_up_so (Stopped NoMemory) fault e q =
         let same : NoMemory ≡ fault = cc q in
         subst (λ (x : LiveFault). WasGivenUp own own' ends_before ends_after c x) same tt
@@ -147,6 +222,10 @@ was_not_opened tells opened own own' ends_before ends_after c links (Link k) n =
     record { line = n.0; at = n.1; number = number.0; is = number.1; rose = inl (n.2 number.0 number.1) }
 was_not_opened tells opened own own' ends_before ends_after c links NoMemory n = tt
 
+-- then nothing was given
+pub gave_nothing : (tells : Type 0) (before given_at : ℕ → List (List ℕ)) (taken_at : ℕ → Takes) (c : Conf) → (tells → GivesNothing before given_at) → BrokeOff tells before taken_at given_at c
+gave_nothing tells before given_at taken_at c nothing = inr (λ t j line p at e. nothing t p)
+
 -- ---- by the calls that opened the links, made the call, and closed them
 module _ {I O T : Type 0} (i : ins.Ghosts I) (o : outs.Ghosts O) (stands : List Notice → Type 0) (tells : Type 0) (c : Conf) (opened : ℕ → Bool) (called : Called I O T) (w : IsCalled i o stands tells c opened called) (links : IsOfLinks c) where
   pub served_by : (open_then : ℕ → Bool) (taken_then taken_at : ℕ → Takes) (given_at : ℕ → List (List ℕ))
@@ -156,6 +235,14 @@ module _ {I O T : Type 0} (i : ins.Ghosts I) (o : outs.Ghosts O) (stands : List 
   served_by open_then taken_then taken_at given_at legs same_taken same_open ends end printed e shown =
       was_served i o stands tells c opened called w links taken_at given_at (λ t own j leg at is. same_taken t (i.port (link_in leg)) ∙ legs t own j leg at is)
       (λ t own j link at is. ends t own j link at (same_open t (o.port link) ∙ is)) end printed e shown
+
+  pub broke_off_by : (open_then : ℕ → Bool) (taken_then taken_at : ℕ → Takes) (given_at : ℕ → List (List ℕ))
+      → (tells → AreStored (λ (leg : LinkLeg I). i.taken (link_in leg)) (λ (leg : LinkLeg I). i.port (link_in leg)) opened taken_then called.legs.items)
+      → (tells → (p : ℕ) → taken_at p ≡ taken_then p) → (tells → (p : ℕ) → open_then p ≡ opened p) → (tells → AreStored o.given o.port open_then given_at called.ends.items)
+      → (before : ℕ → List (List ℕ)) → BrokeOff tells before taken_at given_at c
+  broke_off_by open_then taken_then taken_at given_at legs same_taken same_open ends before =
+      broke_off i o stands tells c opened called w links taken_at given_at (λ t own j leg at is. same_taken t (i.port (link_in leg)) ∙ legs t own j leg at is)
+      (λ t own j link at is. ends t own j link at (same_open t (o.port link) ∙ is)) before
 
   pub given_up_by : (own own' first at_call between last : ℕ → ℕ) → ((p : ℕ) → at_call p ≡ first p) → ((p : ℕ) → at_call p ≤ between p) → ((p : ℕ) → between p ≤ last p)
       → FaultsRose (λ (leg : LinkLeg I). i.faults (link_in leg)) (λ (leg : LinkLeg I). i.port (link_in leg)) at_call between called.legs.items → FaultsRose o.faults o.port between last called.ends.items

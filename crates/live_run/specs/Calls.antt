@@ -1,5 +1,5 @@
 -- What a live call of a conference of links comes to: behind its last turn, and when its links were handed back.
-use Rattle.std.specs.Prelude.{◌≡◌, ◌⊎◌, ℕ, Bool, true, Some, Result, Ok, Err, List, ◌∷◌, length, slice_get}
+use Rattle.std.specs.Prelude.{◌≡◌, ◌⊎◌, ℕ, Bool, true, Some, Result, Ok, Err, List, [], ◌∷◌, length, slice_get}
 use Rattle.rtt_io.specs.Counts.{Rose}
 use Rattle.stream_spec.specs.Ready.{Chunk}
 use Rattle.file_spec.specs.declared.conf_lines.Form.TheVariants.{Links}
@@ -11,10 +11,11 @@ use Rattle.link_spec.specs.Links.{Takes}
 use Rattle.link_io.specs.declared.ends.LinkIn as ins
 use Rattle.link_io.specs.declared.ends.LinkOut as outs
 use Rattle.live_leg.specs.declared.legs.LinkLeg.{LinkLeg}
+use Rattle.live_loop.specs.Clocks.{AtTicks, moments_of}
 use Rattle.live_loop.specs.declared.turns.Turned.{Turned}
 use Rattle.live_loop.specs.declared.turns.Turned.TheVariants.{Done, Closed, Faulted, Stopped}
 use Rattle.serve_spec.specs.HeadLive.{HeadLive}
-use Rattle.serve_spec.specs.Served.{End, IsServed, live_printed}
+use Rattle.serve_spec.specs.Served.{Broken, End, IsCutShort, IsServed, live_printed}
 use Rattle.serve_spec.specs.Served as served
 use Rattle.live_run.specs.declared.calls.Called.{Called}
 use Rattle.live_run.specs.declared.faults.LiveFault.{LiveFault}
@@ -22,7 +23,7 @@ use Rattle.live_run.specs.declared.faults.LiveFault.TheVariants.{Link, NoMemory}
 use Rattle.live_run.specs.declared.reports.LiveEnd.{LiveEnd}
 use Rattle.live_run.specs.declared.reports.LiveEnd.TheVariants as ends
 use Rattle.live_run.specs.Listeners.{HasHeard, Listening}
-use Rattle.live_run.specs.Opened.{AreCalm, HavePorts, link_in}
+use Rattle.live_run.specs.Opened.{AreCalm, AreUnused, HavePorts, link_in}
 use Rattle.live_run.specs.Taps.{Notice, Shows, chunks_of, notices_by}
 
 -- ---- conferences
@@ -45,6 +46,10 @@ LinksAreApart = (octets : List ℕ) (c : Conf) → conf Links octets ≡ Ok c �
 abbrev pub AtPorts : {K : Type 0} → Conf → (ℕ → K) → (ℕ → K) → Type 0
 AtPorts c under of = (j : ℕ) (line : LegLine) (p : ℕ) → leg_at c.legs j ≡ Some line → port line.input ≡ Some p → under p ≡ of j
 
+-- under the port of each leg is what was there before, or nothing
+abbrev pub GaveNothing : Conf → (ℕ → List (List ℕ)) → (ℕ → List (List ℕ)) → Type 0
+GaveNothing c old new = (j : ℕ) (line : LegLine) (p : ℕ) → leg_at c.legs j ≡ Some line → port line.input ≡ Some p → (new p ≡ old p) ⊎ (new p ≡ [])
+
 -- ---- behind the last turn
 -- the link of this number failed
 abbrev pub FailedAt : {X : Type 0} → (X → ℕ) → List X → ℕ → Type 0
@@ -64,6 +69,31 @@ pub record WasTold (stands : List Notice → Type 0) (c : Conf) (table : Table) 
   pub made : after_calls (setup c) calls ≡ table
   pub told : stands (Shows ∷ notices_by (setup c) calls)
 
+-- The calls by which the mixer came to this table: each turn was told a moment that lies at its multiple of the tick since the call
+-- began, or later.
+pub record WasPaced (c : Conf) (table : Table) : Type 0 where
+  pub calls : List Call
+  pub made : after_calls (setup c) calls ≡ table
+  pub began : ℕ
+  pub at : AtTicks c.tick began (moments_of calls)
+
+module _ {I O : Type 0} (i : ins.Ghosts I) (o : outs.Ghosts O) (tells : Type 0) (c : Conf) where
+  -- A live call of the conference broke off: the legs' links gave this, and the turns that were made give that. Where the world tells
+  -- it, this is what the inbound ends have taken, and the outbound ends were given that, or what one more turn gives besides.
+  pub record IsBrokenOff (legs : List (LinkLeg I)) (links : List O) : Type 0 where
+    pub takes : ℕ → Takes
+    pub given : ℕ → List (List ℕ)
+    pub served : IsServed c takes given Broken (live_printed c given Broken)
+    pub now : ℕ
+    pub taken : tells → (j : ℕ) (leg : LinkLeg I) → slice_get legs j ≡ Some leg → i.taken leg.link ≡ takes j
+    pub gave : tells → (j : ℕ) (link : O) (line : LegLine) → slice_get links j ≡ Some link → leg_at c.legs j ≡ Some line
+        → IsCutShort c served.table now j line (o.given link)
+    pub paced : tells → WasPaced c served.table
+
+  -- or nothing was given
+  abbrev pub HasGivenUp : List (LinkLeg I) → List O → Type 0
+  HasGivenUp legs links = IsBrokenOff legs links ⊎ AreUnused o.given o.faults links
+
 -- `stands` is what is known of the tap that was told this
 module _ {I O : Type 0} (i : ins.Ghosts I) (o : outs.Ghosts O) (stands : List Notice → Type 0) (tells : Type 0) (c : Conf) where
   -- It is a live call of the conference: the legs' links gave this and were given that. Where the world tells it, that is what these
@@ -80,14 +110,15 @@ module _ {I O : Type 0} (i : ins.Ghosts I) (o : outs.Ghosts O) (stands : List No
     pub taken : tells → (j : ℕ) (leg : LinkLeg I) → slice_get legs j ≡ Some leg → i.taken leg.link ≡ takes j
     pub gave : tells → (j : ℕ) (link : O) → slice_get links j ≡ Some link → o.given link ≡ given j
     pub told : WasTold stands c served.table
+    pub paced : tells → WasPaced c served.table
 
   -- how it ended
   abbrev pub EndsAs : List (LinkLeg I) → List O → List Listening → Turned LiveFault → Type 0
   EndsAs legs links listeners Done = IsCallOf legs links listeners served.Done
   EndsAs legs links listeners Closed = IsCallOf legs links listeners served.Closed
-  EndsAs legs links listeners (Faulted j) = FailedAt (λ (leg : LinkLeg I). i.faults (link_in leg)) legs j
-  EndsAs legs links listeners (Stopped (Link j)) = FailedAt o.faults links j
-  EndsAs legs links listeners (Stopped NoMemory) = Unit {0}
+  EndsAs legs links listeners (Faulted j) = FailedAt (λ (leg : LinkLeg I). i.faults (link_in leg)) legs j × IsBrokenOff i o tells c legs links
+  EndsAs legs links listeners (Stopped (Link j)) = FailedAt o.faults links j × IsBrokenOff i o tells c legs links
+  EndsAs legs links listeners (Stopped NoMemory) = HasGivenUp i o tells c legs links
 
   -- Each end of a link is that of its leg. Where the world tells it, links are open at their ports.
   pub record IsCalled {T : Type 0} (opened : ℕ → Bool) (called : Called I O T) : Type 0 where
@@ -115,11 +146,30 @@ pub record WasServed (tells : Type 0) (taken_at : ℕ → Takes) (given_at : ℕ
   pub keeps : (octets : List ℕ) → conf Links octets ≡ Ok c → HeadLive c takes given end printed
   pub taken : tells → AtPorts c taken_at takes
   pub gave : tells → AtPorts c given_at given
+  pub paced : tells → WasPaced c served.table
 
 -- The same, where the tap was told what the mixer took, and of its turns.
 pub record WasTapped (stands : List Notice → Type 0) (tells : Type 0) (taken_at : ℕ → Takes) (given_at : ℕ → List (List ℕ)) (c : Conf) (end : End) (printed : List ℕ) : Type 0 where
   pub was : WasServed tells taken_at given_at c end printed
   pub told : WasTold stands c was.served.table
+
+-- A live call of the conference broke off: its legs' links gave this, and the turns that were made give that. It keeps what a live
+-- call promises. Where the world tells it, this is what is stored under the ports of the legs, and that, or, of a terminal to which
+-- one more turn was sent, what that turn gives besides.
+pub record WasBroken (tells : Type 0) (taken_at : ℕ → Takes) (given_at : ℕ → List (List ℕ)) (c : Conf) : Type 0 where
+  pub takes : ℕ → Takes
+  pub given : ℕ → List (List ℕ)
+  pub served : IsServed c takes given Broken (live_printed c given Broken)
+  pub keeps : (octets : List ℕ) → conf Links octets ≡ Ok c → HeadLive c takes given Broken (live_printed c given Broken)
+  pub now : ℕ
+  pub taken : tells → AtPorts c taken_at takes
+  pub gave : tells → (j : ℕ) (line : LegLine) (p : ℕ) → leg_at c.legs j ≡ Some line → port line.input ≡ Some p
+      → IsCutShort c served.table now j line (given_at p)
+  pub paced : tells → WasPaced c served.table
+
+-- What became of a live call of the conference that was given up: it broke off so, or nothing was given.
+abbrev pub BrokeOff : (tells : Type 0) → (given_before : ℕ → List (List ℕ)) → (taken_at : ℕ → Takes) → (given_at : ℕ → List (List ℕ)) → Conf → Type 0
+BrokeOff tells given_before taken_at given_at c = WasBroken tells taken_at given_at c ⊎ (tells → GaveNothing c given_before given_at)
 
 -- The link of the leg j failed: a count of its port rose, of the calls that open it or of its ends.
 pub record LinkFailed (own own' ends ends' : ℕ → ℕ) (c : Conf) (j : ℕ) : Type 0 where

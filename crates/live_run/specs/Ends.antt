@@ -1,5 +1,5 @@
 -- What was given to the terminals of a live call.
-use Rattle.std.specs.Prelude.{◌≡◌, ◌<◌, ℕ, Some, List, [], ◌∷◌, ◌++◌, length, map, slice_get}
+use Rattle.std.specs.Prelude.{◌≡◌, ◌<◌, ◌⊎◌, ℕ, Some, List, [], ◌∷◌, ◌++◌, length, map, slice_get}
 use Rattle.rtt_base.specs.declared.text_packets.Pts.{Pts}
 use Rattle.rtt_io.specs.Counts.{Rose}
 use Rattle.stream_spec.specs.Own.{Sent}
@@ -51,6 +51,19 @@ module _ {O : Type 0} (tells : Type 0) (given : O → List (List ℕ)) (faults :
   pub record WereGiven (ends : FarEnds O) (s : Setup) (pts : ℕ → Pts) (sent : List (ℕ × Post)) : Type 0 where
     pub many : length ends.links.items ≡ s.legs
     pub each : (j : ℕ) → j < s.legs → WasSent ends.outputs.items ends.links.items ends.listeners.items s (pts j) j sent
+
+module _ {O : Type 0} (tells : Type 0) (given : O → List (List ℕ)) where
+  -- Where it tells, the link of the terminal j was given the packets of these posts, newest first, or that of one more besides.
+  pub record WasCut (links : List O) (s : Setup) (pts : Pts) (j : ℕ) (sent : List (ℕ × Post)) (now : ℕ) (next : Post) : Type 0 where
+    pub sources : List ℕ
+    pub are : AreSourcesAt s j sources
+    pub gave : (link : O) → slice_get links j ≡ Some link → tells
+        → (given link ≡ packets_of (conf_at s pts j) (sents_to sources j sent)) ⊎ (given link ≡ packets_of (conf_at s pts j) (sents_to sources j ((now, next) ∷ sent)))
+
+  -- so of each terminal of the setup
+  pub record WereCut (ends : FarEnds O) (s : Setup) (pts : ℕ → Pts) (sent : List (ℕ × Post)) (now : ℕ) (next : Post) : Type 0 where
+    pub many : length ends.links.items ≡ s.legs
+    pub each : (j : ℕ) → j < s.legs → WasCut ends.links.items s (pts j) j sent now next
 
 -- why a packet was not given: the link of its leg failed, or memory ran out
 abbrev pub IsUnsent : {O : Type 0} → (O → ℕ) → FarEnds O → LiveFault → Type 0

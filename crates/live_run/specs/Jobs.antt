@@ -17,9 +17,9 @@ use Rattle.live_loop.specs.declared.clocks.TurnClock as clocks
 use Rattle.live_loop.specs.declared.ports.LivePort.{LivePort}
 use Rattle.live_loop.specs.declared.turns.Turned.{Turned}
 use Rattle.live_loop.specs.declared.turns.Turned.TheVariants.{Done}
-use Rattle.live_loop.specs.Clocks.{OnlyTimePassed}
+use Rattle.live_loop.specs.Clocks.{IsPaced, OnlyTimePassed, StandsPaced}
 use Rattle.live_loop.specs.Ports.{IsBegun}
-use Rattle.live_loop.specs.Walks.{AllGrew, AreAt, IsPaused, Ran, RanTo, WasFaulted, WasStopped}
+use Rattle.live_loop.specs.Walks.{AllGrew, AreAt, HaltsThen, IsPaused, Ran, RanTo, WasFaulted, WasStopped}
 use Rattle.live_run.specs.declared.faults.LiveFault.{LiveFault}
 use Rattle.live_run.specs.declared.running.Job.{Job}
 use Rattle.live_run.specs.declared.running.Ended.{Ended}
@@ -41,13 +41,13 @@ module _ {I : Type 0} where
   IsInletOf p inlet = inlet ≡ p.inlet
 
 -- ---- turns
--- Turns were made of these ports, which were emptied then.
-pub record TurnsWere {I M : Type 0} (popped : I → List Item) (began : I → I → Type 0) (stands : M → Setup → (ℕ → Pts) → List Call → Type 0) (turns : ℕ) (turned : Turned LiveFault) (old new : List (LivePort I)) (m m' : M) : Type 0 where
+-- Turns were made of these ports, which were emptied then, of a mixer that stood so.
+pub record TurnsWere {I M : Type 0} (popped : I → List Item) (began : I → I → Type 0) (stands then halts : M → Setup → (ℕ → Pts) → List Call → Type 0) (turns : ℕ) (turned : Turned LiveFault) (old new : List (LivePort I)) (m m' : M) : Type 0 where
   pub ports : List (LivePort I)
   pub many : length ports ≡ length old
   pub grew : AllGrew popped began old ports
   pub emptied : AllGrew popped began ports new
-  pub ran : Ran popped turned stands turns old ports m m'
+  pub ran : Ran popped turned stands then halts turns old ports m m'
   pub faulted : WasFaulted turned ports
 
 -- ---- the whole
@@ -79,7 +79,7 @@ module _ {L M G : Type 0} where
     pub in_time : 2 ^ 47 ≤ horizon
 
   -- It ran by a clock: turns were made of what was popped of the legs, all of which came back.
-  pub record RanAs {C : Type 0} (g : links.Ghosts L) (k : clocks.Ghosts C) (stands : M → Setup → (ℕ → Pts) → List Call → Type 0) (addresses : M → List ℕ) (unsent : M → LiveFault → Type 0) (job : Job L M G) (before after : C) (ended : Ended L M) : Type 0 where
+  pub record RanAs {C : Type 0} (g : links.Ghosts L) (k : clocks.Ghosts C) (stands : M → Setup → (ℕ → Pts) → List Call → Type 0) (halted : M → Setup → (ℕ → Pts) → List Call → ℕ → Type 0) (addresses : M → List ℕ) (unsent : M → LiveFault → Type 0) (job : Job L M G) (before after : C) (ended : Ended L M) : Type 0 where
     pub passed : OnlyTimePassed k before after
     pub many : length ended.legs.items ≡ length job.legs.items
     pub addresses_are : addresses ended.mixer ≡ addresses job.mixer
@@ -88,8 +88,10 @@ module _ {L M G : Type 0} where
     pub legs : (j : ℕ) (p : LivePort (Lane LegItem (LinkLeg L) G)) (first back : LinkLeg L) → slice_get ports j ≡ Some p
         → slice_get job.legs.items j ≡ Some first → slice_get ended.legs.items j ≡ Some back → GaveFirst g first back (popped_in p.inlet)
     pub ran : (s : Setup) (pts : ℕ → Pts) → s.legs ≡ length job.legs.items → AllStay s → stands job.mixer s pts (all_admitted s.legs)
-        → RanTo popped_in ended.turned stands s pts job.turns ports ended.mixer
+        → RanTo popped_in ended.turned (StandsPaced k.tells job.tick (k.moment before) stands)
+        (StandsPaced k.tells job.tick (k.moment before) (HaltsThen halted)) s pts job.turns ports ended.mixer
     pub faulted : WasFaulted ended.turned ports
     pub failed : (j : ℕ) (p : LivePort (Lane LegItem (LinkLeg L) G)) → slice_get ports j ≡ Some p → p.failed ≡ true → has_fault (popped_in p.inlet) ≡ true
     pub stopped : WasStopped unsent ended.turned ended.mixer
+    pub paced : k.tells → ended.turned ≡ Done → IsPaced job.turns job.tick (k.moment before) (k.moment after)
     pub paused : ended.turned ≡ Done → IsPaused job.turns (k.pauses before) (k.pauses after)

@@ -6,14 +6,20 @@ use Rattle.mixer_spec.specs.Setups.{Setup, setup}
 use Rattle.mixer_spec.specs.Table.{Call, Admit, after_calls, is_seated}
 use Rattle.mixer_posts.specs.Streams.{pts_at}
 use Rattle.mixer_posts.specs.States.{SendingState}
-use Rattle.mixer_posts.specs.Standing.{SendsFor}
+use Rattle.mixer_posts.specs.Standing.{HaltsFor, SendsFor}
 use Rattle.live_run.specs.declared.far_ends.FarEnds.{FarEnds}
-use Rattle.live_run.specs.Ends.{WereGiven, counts_of}
+use Rattle.live_run.specs.Ends.{WereCut, WereGiven, counts_of}
 
 -- the legs below n came, in leg order, and listen
 abbrev pub all_admitted : ℕ → List Call
 all_admitted zero = []
 all_admitted (suc n) = Admit n true ∷ all_admitted n
+
+module _ {O : Type 0} (tells : Type 0) (given : O → List (List ℕ)) where
+  -- These calls were made of it, and the links were given what they send; then a turn was made at this moment, of which some links were given
+  -- what it sends.
+  abbrev pub HaltsGiving : SendingState (FarEnds O) → Setup → (ℕ → Pts) → List Call → ℕ → Type 0
+  HaltsGiving m s pts calls now = HaltsFor (λ ends s pts sent at next. WereCut tells given ends s pts sent at next) m s pts calls now
 
 module _ {O : Type 0} (tells : Type 0) (given : O → List (List ℕ)) (faults : O → ℕ) where
   -- These calls were made of it, and the links were given what they send.

@@ -1,5 +1,6 @@
 -- What is known of links that are opened, and of those that were handed back.
-use Rattle.std.specs.Prelude.{◌≡◌, ℕ, ◌<◌, Bool, true, Some, IsSome, List, [], slice_get}
+use Rattle.std.specs.Prelude.{◌≡◌, ◌⊎◌, ℕ, ◌<◌, Bool, true, Some, IsSome, List, [], ◌∷◌, ◌++◌, map, slice_get, take}
+use Rattle.std.specs.Option.{option_map_or}
 use Rattle.rtt_io.specs.Counts.{Rose}
 use Rattle.file_spec.specs.declared.conf_lines.LegLine.{LegLine}
 use Rattle.file_spec.specs.Conf.{Conf, port}
@@ -21,6 +22,27 @@ ear_at c leg = record { ssrc = leg.ssrc; pts = leg.pts; wait = c.wait }
 abbrev pub HavePorts : Conf → Type 0
 HavePorts c = (j : ℕ) (leg : LegLine) → leg_at c.legs j ≡ Some leg → IsSome (port leg.input)
 
+-- ---- to whom
+-- the link of a leg: its port, and the peer that it leads to
+abbrev pub link_of : LegLine → ℕ × List ℕ
+link_of leg = (option_map_or (λ (p : ℕ). p) (port leg.input) 0, leg.output)
+
+-- the link of the leg j was opened, and no other
+abbrev pub LeadsOne : Conf → ℕ → List (ℕ × List ℕ) → List (ℕ × List ℕ) → Type 0
+LeadsOne c j old new = (line : LegLine) → leg_at c.legs j ≡ Some line → new ≡ old ++ link_of line ∷ []
+
+-- those of the first n legs were, in leg order, and no other
+abbrev pub LeadsFirst : ℕ → Conf → List (ℕ × List ℕ) → List (ℕ × List ℕ) → Type 0
+LeadsFirst n c old new = new ≡ old ++ map link_of (take n c.legs)
+
+-- those of some legs, from the first one on
+abbrev pub LeadsSome : Conf → List (ℕ × List ℕ) → List (ℕ × List ℕ) → Type 0
+LeadsSome c old new = (n : ℕ) × LeadsFirst n c old new
+
+-- those of all legs
+abbrev pub LeadsAll : Conf → List (ℕ × List ℕ) → List (ℕ × List ℕ) → Type 0
+LeadsAll c old new = new ≡ old ++ map link_of c.legs
+
 -- ---- that are opened
 -- The leg j over the inbound end of its link, of which nothing was taken. Where the world tells it, a link is opened at its port.
 pub record IsOpenedLeg {I : Type 0} (g : ins.Ghosts I) (tells : Type 0) (opened : ℕ → Bool) (c : Conf) (j : ℕ) (line : LegLine) (leg : LinkLeg I) : Type 0 where
@@ -40,6 +62,14 @@ pub record IsOpenedEnd {O : Type 0} (g : outs.Ghosts O) (tells : Type 0) (line :
 -- nothing was given to these, and none failed
 abbrev pub AreUnused : {O : Type 0} → (O → List (List ℕ)) → (O → ℕ) → List O → Type 0
 AreUnused {O} given faults ends = (j : ℕ) (end : O) → slice_get ends j ≡ Some end → (given end ≡ []) × (faults end ≡ 0)
+
+-- each of these was given nothing, and a link was opened at its port
+abbrev pub AreEmptyAt : {O : Type 0} → (O → List (List ℕ)) → (O → ℕ) → (ℕ → Bool) → List O → Type 0
+AreEmptyAt {O} given port_of opened ends = (j : ℕ) (end : O) → slice_get ends j ≡ Some end → (given end ≡ []) × (opened (port_of end) ≡ true)
+
+-- under each port is what was there before, or nothing
+abbrev pub GivesNothing : (ℕ → List (List ℕ)) → (ℕ → List (List ℕ)) → Type 0
+GivesNothing old new = (p : ℕ) → (new p ≡ old p) ⊎ (new p ≡ [])
 
 -- why the link of the leg j was not opened: the count of its port rose, or memory ran out
 abbrev pub IsRefused : (ℕ → ℕ) → (ℕ → ℕ) → ℕ → LegLine → LiveFault → Type 0

@@ -1,5 +1,5 @@
 -- What is told of a live call while it runs: the chunks that its mixer took, and its turns.
-use Rattle.std.specs.Prelude.{◌≡◌, ◌==◌, ℕ, Bool, true, false, List, [], ◌∷◌, ◌++◌, filter, if◌then◌else◌}
+use Rattle.std.specs.Prelude.{◌≡◌, ◌==◌, ◌⊎◌, ℕ, Bool, true, false, List, [], ◌∷◌, ◌++◌, filter, if◌then◌else◌}
 use Rattle.rtt_base.specs.declared.text_packets.Pts.{Pts}
 use Rattle.stream_spec.specs.Ready.{Chunk}
 use Rattle.mixer_spec.specs.Setups.{Setup}
@@ -49,6 +49,10 @@ module _ {T : Type 0} (stands : T → List Notice → Type 0) where
 pub record TellsFor {M T : Type 0} (mixes : M → Setup → (ℕ → Pts) → List Call → Type 0) (stands : T → List Notice → Type 0) (m : Tapped M T) (s : Setup) (pts : ℕ → Pts) (calls : List Call) : Type 0 where
   pub made : mixes m.mixer s pts calls
   pub told : m.short ≡ false → stands m.tap (notices_by s calls)
+
+-- a turn at this moment was made behind these calls, or was not sent to its end
+abbrev pub HaltsTold : {M T : Type 0} → (M → Setup → (ℕ → Pts) → List Call → Type 0) → (M → Setup → (ℕ → Pts) → List Call → ℕ → Type 0) → Tapped M T → Setup → (ℕ → Pts) → List Call → ℕ → Type 0
+HaltsTold mixes halted m s pts calls now = halted m.mixer s pts calls now ⊎ mixes m.mixer s pts (Turn now ∷ calls)
 
 -- why a turn was the last: the mixer could not send, or memory ran out
 abbrev pub IsUnsentIn : {M T : Type 0} → (M → LiveFault → Type 0) → Tapped M T → LiveFault → Type 0

@@ -4,6 +4,7 @@ ghost use Rattle.link_io.specs.Ports.{Same};
 ghost use Rattle.conference.specs.Conferences.{conf_of};
 ghost use Rattle.mixer_spec.specs.Setups.{AllStay, setup};
 ghost use Rattle.mixer_turn.specs.States.{legs_of};
+ghost use Rattle.live_loop.specs.Clocks.{IsPaced};
 ghost use Rattle.live_loop.specs.Walks.{IsPaused};
 ghost use Rattle.live_run.specs.Calls.{IsCalled, IsOfLinks};
 ghost use Rattle.live_run.specs.Mixers.{HasAll};
@@ -114,9 +115,11 @@ pub(crate) fn call<W: Links, R: Threads + Wait, G: Gate, T: Tap>(
     requires ends { OpenEnds W.Out.LinkOut W.tells (conf_of conf.now) opened.ends.items }
     requires told { T.stands tap [] }
     ensures called { IsCalled W.In.LinkIn W.Out.LinkOut (T.stands result.tap) W.tells (conf_of conf.now) (W.opened world.new) result }
+    ensures paced { W.tells → result.turned ≡ Turned.Done → IsPaced conf.now.turns conf.now.tick (W.moment world.old) (W.moment world.new) }
     ensures paused { result.turned ≡ Turned.Done → IsPaused conf.now.turns (W.pauses world.old) (W.pauses world.new) }
     ensures same_own { Same W.own_faults world.old world.new }
     ensures same_objects { Same W.object_faults world.old world.new }
+    ensures same_leads { W.tells → W.leads world.new ≡ W.leads world.old }
 {
     let Opened { legs, ends } = opened;
     let Ok(room) = CallRoom::new(alloc, legs.len()) else {

@@ -24,11 +24,13 @@ pub struct FarEnds<O> {
 impl<O: LinkOut> Outbound for FarEnds<O> {
     ghost use Rattle.std.proofs.Common.{rules};
     ghost use Rattle.std.specs.Prelude.{◌^◌, map};
-    ghost use Rattle.live_run.specs.Ends.{WereGiven, IsUnsent, counts_of};
+    ghost use Rattle.live_run.specs.Ends.{WereCut, WereGiven, IsUnsent, counts_of};
 
     type Fault = LiveFault;
 
     ghost took = { λ ends s pts sent. WereGiven O.tells O.given O.faults ends s pts sent };
+
+    ghost halted = { λ ends s pts sent now next. WereCut O.tells O.given ends s pts sent now next };
 
     ghost sources = { λ ends. counts_of ends };
 

@@ -1,9 +1,9 @@
 //! The links of a live call are opened, and handed back.
-ghost use Rattle.std.specs.Prelude.{◌≡◌, ◌<◌, ◌≤◌, [], length, IfOk, IfErr, OnOk};
+ghost use Rattle.std.specs.Prelude.{◌≡◌, ◌<◌, ◌≤◌, ◌⊎◌, [], length, IfOk, IfErr, OnOk, OnErr};
 ghost use Rattle.std.specs.Vec.{vec_capacity};
 ghost use Rattle.link_io.specs.Ports.{NoneFalls, Same, StayOpened};
 ghost use Rattle.conference.specs.Conferences.{conf_of};
-ghost use Rattle.live_run.specs.Opened.{AreCalm, AreStored, FaultsRose, HavePorts, IsNotOpened, IsRefusedAt, OpenEnds, OpenLegs, OpensEnd, OpensLeg, ear_at, link_in};
+ghost use Rattle.live_run.specs.Opened.{AreCalm, AreEmptyAt, AreStored, FaultsRose, GivesNothing, HavePorts, IsNotOpened, IsRefusedAt, LeadsAll, LeadsOne, LeadsSome, OpenEnds, OpenLegs, OpensEnd, OpensLeg, ear_at, link_in};
 
 use crate::LiveFault;
 use conference::{Conf, LegLine};
@@ -43,8 +43,10 @@ pub(crate) fn close_legs<W: Links>(legs: Vec<LinkLeg<W::In>>, world: &mut W)
     ensures stored { W.tells → AreStored (λ leg. W.In.taken (link_in leg)) (λ leg. W.In.port (link_in leg))
         (W.opened world.old) (W.taken_at world.new) legs.items }
     ensures same_pauses { W.pauses world.new ≡ W.pauses world.old }
+    ensures same_moment { W.moment world.new ≡ W.moment world.old }
     ensures same_given { W.tells → Same W.given_at world.old world.new }
     ensures same_opened { W.tells → Same W.opened world.old world.new }
+    ensures same_leads { W.tells → W.leads world.new ≡ W.leads world.old }
 {
     let mut legs = legs;
     while let Some(leg) = legs.pop() {
@@ -60,9 +62,13 @@ pub(crate) fn close_ends<W: Links>(ends: Vec<W::Out>, world: &mut W)
     ensures calm { AreCalm W.Out.faults ends.items → Same W.object_faults world.old world.new }
     ensures failed { FaultsRose W.Out.faults W.Out.port (W.object_faults world.old) (W.object_faults world.new) ends.items }
     ensures stored { W.tells → AreStored W.Out.given W.Out.port (W.opened world.old) (W.given_at world.new) ends.items }
+    ensures empty { W.tells → AreEmptyAt W.Out.given W.Out.port (W.opened world.old) ends.items
+        → GivesNothing (W.given_at world.old) (W.given_at world.new) }
     ensures same_pauses { W.pauses world.new ≡ W.pauses world.old }
+    ensures same_moment { W.moment world.new ≡ W.moment world.old }
     ensures same_taken { W.tells → Same W.taken_at world.old world.new }
     ensures same_opened { W.tells → Same W.opened world.old world.new }
+    ensures same_leads { W.tells → W.leads world.new ≡ W.leads world.old }
 {
     let mut ends = ends;
     while let Some(end) = ends.pop() {
@@ -88,7 +94,13 @@ fn open_link<W: Links>(
     ensures calm { OnOk result (Same W.own_faults world.old world.new) }
     ensures same_objects { Same W.object_faults world.old world.new }
     ensures same_pauses { OnOk result (W.pauses world.new ≡ W.pauses world.old) }
+    ensures same_moment { OnOk result (W.moment world.new ≡ W.moment world.old) }
     ensures stay_opened { W.tells → StayOpened W.opened world.old world.new }
+    ensures leads_there { W.tells → OnOk result (LeadsOne (conf_of conf.now) own (W.leads world.old) (W.leads world.new)) }
+    ensures leads_nowhere_else { W.tells → OnErr result ((W.leads world.new ≡ W.leads world.old)
+        ⊎ LeadsOne (conf_of conf.now) own (W.leads world.old) (W.leads world.new)) }
+    ensures same_given { W.tells → OnOk result (Same W.given_at world.old world.new) }
+    ensures gives_nothing { W.tells → OnErr result (GivesNothing (W.given_at world.old) (W.given_at world.new)) }
 {
     let leg = &conf.legs.as_slice()[own as usize];
     let Ok(stop) = Arc::try_clone(stop) else {
@@ -147,6 +159,10 @@ pub(crate) fn open_links<W: Links>(
     ensures calm { OnOk result (Same W.own_faults world.old world.new) }
     ensures same_objects { Same W.object_faults world.old world.new }
     ensures same_pauses { OnOk result (W.pauses world.new ≡ W.pauses world.old) }
+    ensures same_moment { OnOk result (W.moment world.new ≡ W.moment world.old) }
+    ensures leads_all { W.tells → OnOk result (LeadsAll (conf_of conf.now) (W.leads world.old) (W.leads world.new)) }
+    ensures leads_some { W.tells → OnErr result (LeadsSome (conf_of conf.now) (W.leads world.old) (W.leads world.new)) }
+    ensures gives_nothing { W.tells → OnErr result (GivesNothing (W.given_at world.old) (W.given_at world.new)) }
 {
     let Ok(opened) = Opened::with_capacity(alloc, conf.legs.len()) else {
         return Err(LiveFault::NoMemory);

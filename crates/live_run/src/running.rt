@@ -1,8 +1,8 @@
 //! A live call runs: before each turn its legs are heard, and then the turn is made.
 ghost use Rattle.std.specs.Prelude.{◌≡◌, ◌≤◌, ◌<◌, ◌^◌, length};
 ghost use Rattle.live_loop.specs.declared.turns.Turned.TheVariants.{Done};
-ghost use Rattle.live_loop.specs.Clocks.{OnlyTimePassed};
-ghost use Rattle.live_loop.specs.Walks.{AreAt, IsPaused, WasStopped};
+ghost use Rattle.live_loop.specs.Clocks.{IsPaced, OnlyTimePassed, StandsPaced};
+ghost use Rattle.live_loop.specs.Walks.{AreAt, HaltsThen, IsPaused, WasStopped};
 ghost use Rattle.live_run.specs.Jobs.{CanRun, RanAs, TurnsWere};
 
 use crate::LiveFault;
@@ -58,10 +58,12 @@ fn turn_and_stop<I: Pops, M: Mixes<Fault = LiveFault>, C: TurnClock, R: Wait>(
     requires tick { 0 < tick }
     requires short { tick ≤ 400 }
     requires horizon { 2 ^ 47 ≤ M.horizon }
-    ensures were { TurnsWere I.popped I.began M.stands turns result ports.old ports.new mixer.old mixer.new }
+    ensures were { TurnsWere I.popped I.began M.stands (StandsPaced C.tells tick (C.moment clock.old) M.stands)
+        (StandsPaced C.tells tick (C.moment clock.old) (HaltsThen M.halted)) turns result ports.old ports.new mixer.old mixer.new }
     ensures addresses { M.addresses mixer.new ≡ M.addresses mixer.old }
     ensures unsent { WasStopped M.unsent result mixer.new }
     ensures pauses { result ≡ Done → IsPaused turns (C.pauses clock.old) (C.pauses clock.new) }
+    ensures paced { C.tells → result ≡ Done → IsPaced turns tick (C.moment clock.old) (C.moment clock.new) }
     ensures passed { OnlyTimePassed C.TurnClock clock.old clock.new }
 {
     let turned = take_turns(rt, ports, mixer, clock, tick, turns);
@@ -80,7 +82,7 @@ pub(crate) fn run_job<
     G: Gate + Copy,
 >(rt: &R, gate: G, job: Job<L, M, G>, clock: &mut C) -> Ended<L, M>
     requires { CanRun L.LinkIn M.legs M.turns M.horizon job }
-    ensures { RanAs L.LinkIn C.TurnClock M.stands M.addresses M.unsent job clock.old clock.new result }
+    ensures { RanAs L.LinkIn C.TurnClock M.stands M.halted M.addresses M.unsent job clock.old clock.new result }
 {
     let Job {
         legs,

@@ -1,9 +1,11 @@
 //! A live call is served.
-ghost use Rattle.std.specs.Prelude.{◌≡◌, [], IfOk, IfErr, OnOk};
+ghost use Rattle.std.specs.Prelude.{◌≡◌, [], IfOk, IfErr, OnErr, OnOk};
 ghost use Rattle.link_io.specs.Ports.{NoneFalls, Same};
 ghost use Rattle.conference.specs.Conferences.{conf_of};
+ghost use Rattle.live_loop.specs.Clocks.{IsPaced};
 ghost use Rattle.live_loop.specs.Walks.{IsPaused};
-ghost use Rattle.live_run.specs.Calls.{IsOfLinks, WasGivenUp, WasServed, WasTapped, answer_of};
+ghost use Rattle.live_run.specs.Calls.{BrokeOff, IsOfLinks, WasGivenUp, WasServed, WasTapped, answer_of};
+ghost use Rattle.live_run.specs.Opened.{LeadsAll, LeadsSome};
 ghost use Rattle.live_run.specs.Reports.{end_of};
 
 use crate::calls::{Called, call};
@@ -46,10 +48,16 @@ pub fn serve<R: Threads + Wait + Sync, W: Links, G: Gate + Sync>(
         (conf_of conf.now) (end_of report.end) report.views) }
     ensures given_up { IfErr result (WasGivenUp (W.own_faults world.old) (W.own_faults world.new)
         (W.object_faults world.old) (W.object_faults world.new) (conf_of conf.now)) }
+    ensures broke_off { OnErr result (BrokeOff W.tells (W.given_at world.old) (W.taken_at world.new) (W.given_at world.new)
+        (conf_of conf.now)) }
     ensures calm { IfOk result (λ report. report.end ≡ LiveEnd.Closed
         → Same W.object_faults world.old world.new) }
+    ensures paced { W.tells → IfOk result (λ report. report.end ≡ LiveEnd.Done
+        → IsPaced conf.now.turns conf.now.tick (W.moment world.old) (W.moment world.new)) }
     ensures paused { IfOk result (λ report. report.end ≡ LiveEnd.Done
         → IsPaused conf.now.turns (W.pauses world.old) (W.pauses world.new)) }
+    ensures leads_all { W.tells → OnOk result (LeadsAll (conf_of conf.now) (W.leads world.old) (W.leads world.new)) }
+    ensures leads_some { W.tells → OnErr result (LeadsSome (conf_of conf.now) (W.leads world.old) (W.leads world.new)) }
     ensures all_opened { OnOk result (Same W.own_faults world.old world.new) }
     ensures own_never_falls { NoneFalls W.own_faults world.old world.new }
     ensures objects_never_fall { NoneFalls W.object_faults world.old world.new }
@@ -74,10 +82,16 @@ pub fn serve_tapped<R: Threads + Wait + Sync, W: Links, G: Gate + Sync, T: Tap>(
         (conf_of conf.now) (end_of report.end) report.views) }
     ensures given_up { IfErr result.0 (WasGivenUp (W.own_faults world.old) (W.own_faults world.new)
         (W.object_faults world.old) (W.object_faults world.new) (conf_of conf.now)) }
+    ensures broke_off { OnErr result.0 (BrokeOff W.tells (W.given_at world.old) (W.taken_at world.new) (W.given_at world.new)
+        (conf_of conf.now)) }
     ensures calm { IfOk result.0 (λ report. report.end ≡ LiveEnd.Closed
         → Same W.object_faults world.old world.new) }
+    ensures paced { W.tells → IfOk result.0 (λ report. report.end ≡ LiveEnd.Done
+        → IsPaced conf.now.turns conf.now.tick (W.moment world.old) (W.moment world.new)) }
     ensures paused { IfOk result.0 (λ report. report.end ≡ LiveEnd.Done
         → IsPaused conf.now.turns (W.pauses world.old) (W.pauses world.new)) }
+    ensures leads_all { W.tells → OnOk result.0 (LeadsAll (conf_of conf.now) (W.leads world.old) (W.leads world.new)) }
+    ensures leads_some { W.tells → OnErr result.0 (LeadsSome (conf_of conf.now) (W.leads world.old) (W.leads world.new)) }
     ensures all_opened { OnOk result.0 (Same W.own_faults world.old world.new) }
     ensures own_never_falls { NoneFalls W.own_faults world.old world.new }
     ensures objects_never_fall { NoneFalls W.object_faults world.old world.new }

@@ -58,11 +58,13 @@ impl<M, T: Tap> Tapped<M, T> {
 }
 
 impl<M: Mixes<Fault = LiveFault>, T: Tap> Mixes for Tapped<M, T> {
-    ghost use Rattle.live_run.specs.Taps.{TellsFor, IsUnsentIn};
+    ghost use Rattle.live_run.specs.Taps.{HaltsTold, TellsFor, IsUnsentIn};
 
     type Fault = LiveFault;
 
     ghost stands = { λ m s pts calls. TellsFor M.stands T.stands m s pts calls };
+
+    ghost halted = { λ m s pts calls now. HaltsTold M.stands M.halted m s pts calls now };
 
     ghost legs = { λ m. M.legs m.mixer };
 

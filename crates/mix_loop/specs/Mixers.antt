@@ -49,6 +49,10 @@ module _ {M : Type 0} (stands : M → Setup → (ℕ → Pts) → List Call → 
   abbrev pub Turns : M → M → ℕ → Type 0
   Turns old new now = (s : Setup) (pts : ℕ → Pts) (calls : List Call) → stands old s pts calls → stands new s pts (Turn now ∷ calls)
 
+  -- a turn was not sent to its end
+  abbrev pub Halts : (M → Setup → (ℕ → Pts) → List Call → ℕ → Type 0) → M → M → ℕ → Type 0
+  Halts halted old new now = (s : Setup) (pts : ℕ → Pts) (calls : List Call) → stands old s pts calls → halted new s pts calls now
+
   -- whether its table is idle
   abbrev pub TellsIdle : M → Bool → Type 0
   TellsIdle m idle = (s : Setup) (pts : ℕ → Pts) (calls : List Call) → stands m s pts calls → idle ≡ is_idle s (after_calls s calls)

@@ -1,11 +1,11 @@
 //! The mixer, by its calls.
-ghost use Rattle.std.specs.Prelude.{◌≡◌, ℕ, ◌+◌, ◌<◌, List, is_ok, OnOk, IfErr};
+ghost use Rattle.std.specs.Prelude.{◌≡◌, ℕ, ◌+◌, ◌<◌, List, is_ok, OnOk, OnErr, IfErr};
 ghost use Rattle.rtt_base.specs.declared.text_packets.Pts.{Pts};
 ghost use Rattle.stream_spec.specs.Ready.{chunk_of};
 ghost use Rattle.mixer_spec.specs.Setups.{Setup};
 ghost use Rattle.mixer_spec.specs.Table.{Call};
 ghost use Rattle.mix_loop.specs.Items.{IsOf};
-ghost use Rattle.mix_loop.specs.Mixers.{Keeps, Admits, Hushes, Leaves, Offers, Turns, TellsIdle};
+ghost use Rattle.mix_loop.specs.Mixers.{Keeps, Admits, Hushes, Leaves, Offers, Turns, Halts, TellsIdle};
 
 use rtt_base::{Chunk, Full};
 
@@ -17,6 +17,10 @@ pub trait Mixes {
     /// In a conference of this setup, with these payload types at its terminals, these calls were made, newest first, and all
     /// that they send was sent.
     ghost stands: { Self → Setup → (ℕ → Pts) → List Call → Type 0 };
+
+    /// These calls were made, and then a turn at this moment (milliseconds). All that the calls send was sent, and of what the
+    /// turn sends maybe not all.
+    ghost halted: { Self → Setup → (ℕ → Pts) → List Call → ℕ → Type 0 };
 
     /// How many legs there are.
     ghost legs: { Self → ℕ };
@@ -63,6 +67,7 @@ pub trait Mixes {
         requires few { turns self.old < 5000000 }
         requires now { now < horizon }
         ensures turned { OnOk result (Turns stands self.old self.new now) }
+        ensures halted { OnErr result (Halts stands halted self.old self.new now) }
         ensures unsent { IfErr result (unsent self.new) }
         ensures legs { legs self.new ≡ legs self.old }
         ensures turns { turns self.new ≡ turns self.old + 1 }

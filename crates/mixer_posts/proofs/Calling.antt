@@ -1,6 +1,6 @@
 -- Calls of a mixer whose packets are sent.
 use Rattle.std.proofs.Common.{◌≡◌, ◌≤◌, ◌<◌, ℕ, Bool, true, false, true≢false, Ok, Err, List, ◌∷◌, length, refl, ap, sym, subst, ◌∙◌, arith}
-use Rattle.std.specs.Prelude.{◌↔◌, Result, IsOk, OnOk, is_ok}
+use Rattle.std.specs.Prelude.{◌↔◌, Result, IsOk, OnErr, OnOk, is_ok}
 use Rattle.rtt_base.specs.declared.text_packets.Pts.{Pts}
 use Rattle.stream_spec.specs.Ready.{Chunk}
 use Rattle.mixer_spec.specs.Setups.{Setup}
@@ -13,8 +13,8 @@ use Rattle.mixer_turn.specs.States.{legs_of}
 use Rattle.mixer_turn.specs.Standing.{Leads, StandsFor}
 use Rattle.mixer_turn.specs.Turns.{HasBatch, OfCalls, posts_at}
 use Rattle.mixer_posts.specs.States.{SendingState}
-use Rattle.mixer_posts.specs.Posts.{AreNext, TakesAll, sent_by, with_posts}
-use Rattle.mixer_posts.specs.Standing.{SendsFor}
+use Rattle.mixer_posts.specs.Posts.{AreNext, IsHaltedIn, TakesAll, TakesFirst, sent_by, with_posts}
+use Rattle.mixer_posts.specs.Standing.{HaltsFor, SendsFor}
 use Rattle.mixer_posts.proofs.Nexts.{are_next}
 use Rattle.rtt_base.specs.declared.limits.TheConstants.{MOST_TEXT_OCTETS}
 
@@ -30,6 +30,10 @@ offered_text leg c octets h e few = record { some = h.text; utf8 = h.utf8; short
 pub on_ok : {E : Type 0} (r : Result (Unit {0}) E) (P Q : Type 0) → (P → Q) → OnOk r P → OnOk r Q
 on_ok (Ok x) P Q f h = f h
 on_ok (Err x) P Q f h = tt
+
+pub on_err : {E : Type 0} (r : Result (Unit {0}) E) (P Q : Type 0) → (P → Q) → OnErr r P → OnErr r Q
+on_err (Ok x) P Q f h = tt
+on_err (Err x) P Q f h = f h
 
 -- as many legs and turns, and the same addresses
 abbrev pub KeepsAll : {O : Type 0} → (O → List ℕ) → SendingState O → SendingState O → Type 0
@@ -51,3 +55,14 @@ turn_sent took sources horizon now old new posts soon leads few has takes same s
       early = (soon, h.early);
       few = omega (arith, few, h.stands.turns);
     }
+
+-- or not to its end
+pub turn_halted : {O : Type 0} (took : O → Setup → (ℕ → Pts) → List (ℕ × Post) → Type 0) (halted : O → Setup → (ℕ → Pts) → List (ℕ × Post) → ℕ → Post → Type 0) (sources : O → List ℕ) (horizon now : ℕ) (old new : SendingState O) (posts : List Post)
+    → Leads old.mixer new.mixer (Turn now) → OfCalls old.mixer (λ s table. HasBatch s now table posts)
+    → TakesFirst halted took old.outbound new.outbound now posts
+    → (s : Setup) (pts : ℕ → Pts) (calls : List Call) → SendsFor took sources horizon old s pts calls → HaltsFor halted new s pts calls now
+turn_halted took halted sources horizon now old new posts leads has takes s pts calls h =
+    let is : posts ≡ posts_at s now (after_calls s calls) = has s calls h.stands in
+    let stands : StandsFor s new.mixer (Turn now ∷ calls) = leads s calls h.stands h.stands.allowed in
+    let next : AreNext s (with_posts now posts (sent_by s calls)) = subst (λ (ps : List Post). AreNext s (with_posts now ps (sent_by s calls))) (sym is) (are_next s new.mixer (Turn now ∷ calls) stands) in
+    subst (λ (ps : List Post). IsHaltedIn halted new.outbound s pts (sent_by s calls) now ps) is (takes s pts (sent_by s calls) next h.sent)

@@ -1,7 +1,8 @@
 -- What the turns of a mixer send to a terminal is what they enter there.
-use Rattle.std.proofs.Common.{◌≡◌, ℕ, suc, ◌<◌, Bool, true, false, cond, ◌⊎◌, inl, inr, Option, Some, None, List, [], ◌∷◌, length, map, refl, ap, subst, sym, ◌∙◌, arith}
+use Rattle.std.proofs.Common.{◌≡◌, ℕ, suc, ◌<◌, Bool, true, false, cond, ◌⊎◌, inl, inr, Option, Some, None, List, [], ◌∷◌, ◌++◌, length, map, refl, ap, subst, sym, ◌∙◌, arith}
 use Rattle.std.specs.Prelude.{◌&&◌, ◌==◌, filter, slice_index}
 use Rattle.std.proofs.lemmas.Bool.{cases_eq, eq-eqb, ne_eqb}
+use Rattle.std.proofs.lemmas.List.Elements.{filter-append}
 use Rattle.stream_spec.specs.Own.{Sent, has_text_in}
 use Rattle.mixer_spec.specs.Chunks.{front, joined}
 use Rattle.mixer_spec.specs.Composed.{Answer}
@@ -108,6 +109,37 @@ turn_entered s now j sources w sent l a h =
     turn_sents sources now j (posts_at s now w) sent
     ∙ (ap (λ (ps : List Post). with_sents now (map (sent_of_post sources) ps) (sents_to sources j sent)) (entered_to s now j w l)
     ∙ entry_sent s now j sources (w.terminals j).past after (sents_to sources j sent) a (turn_enters s w.seats j now (next_media s.step w.media now) (w.terminals j)) h)
+
+-- at most one post goes to a terminal in a turn
+one_post : (s : Setup) (j : ℕ) (before after : List TurnEntry) → (map (post_of s j) (new_entry before after) ≡ []) ⊎ ((p : Post) × (map (post_of s j) (new_entry before after) ≡ p ∷ []))
+one_post s j before [] = inl refl
+one_post s j before (e ∷ past) = go (length past == length before)
+  where
+    go : (b : Bool) → (map (post_of s j) (cond {A = List TurnEntry} b (e ∷ []) []) ≡ []) ⊎ ((p : Post) × (map (post_of s j) (cond {A = List TurnEntry} b (e ∷ []) []) ≡ p ∷ []))
+    go true = inr (post_of s j e, refl)
+    go false = inl refl
+
+-- so the first of them have none of it, or all
+none_or_all : (first left all : List Post) → first ++ left ≡ all → (all ≡ []) ⊎ ((p : Post) × (all ≡ p ∷ [])) → (first ≡ []) ⊎ (first ≡ all)
+none_or_all [] left all e few = inl refl
+none_or_all (x ∷ []) left all e (inl n) = absurd (cc (e, n))
+none_or_all (x ∷ []) left all e (inr r) = let q : x ∷ left ≡ r.0 ∷ [] = e ∙ r.1 in let same : x ≡ r.0 = cc q in inr (ap (λ (p : Post). p ∷ []) same ∙ sym r.1)
+none_or_all (x ∷ y ∷ first) left all e (inl n) = absurd (cc (e, n))
+none_or_all (x ∷ y ∷ first) left all e (inr r) = let q : x ∷ (y ∷ (first ++ left)) ≡ r.0 ∷ [] = e ∙ r.1 in absurd (cc q)
+
+-- Of a turn of which some first posts were sent, all that goes to a terminal was, or nothing.
+pub some_sent : (s : Setup) (now j : ℕ) (sources : List ℕ) (w : Table) (sent : List (ℕ × Post)) (first left : List Post) → j < s.legs → posts_at s now w ≡ first ++ left
+    → (sents_to sources j (with_posts now first sent) ≡ sents_to sources j sent) ⊎ (sents_to sources j (with_posts now first sent) ≡ sents_to sources j (with_posts now (posts_at s now w) sent))
+some_sent s now j sources w sent first left l are =
+    let before = (w.terminals j).past in
+    let after = ((turned s now w).terminals j).past in
+    let all = map (post_of s j) (new_entry before after) in
+    let split : filter (to j) first ++ filter (to j) left ≡ all = sym (filter-append (to j) first left) ∙ (ap (filter (to j)) (sym are) ∙ entered_to s now j w l) in
+    let sents_of : List Post → List (ℕ × Sent) = λ ps. with_sents now (map (sent_of_post sources) ps) (sents_to sources j sent) in
+    elim (none_or_all (filter (to j) first) (filter (to j) left) all split (one_post s j before after)) [
+      | inl none ↦ inl (turn_sents sources now j first sent ∙ ap sents_of none)
+      | inr whole ↦ inr (turn_sents sources now j first sent ∙ (ap sents_of (whole ∙ sym (entered_to s now j w l)) ∙ sym (turn_sents sources now j (posts_at s now w) sent)))
+    ]
 
 -- ---- what all calls send
 pub entered_law : PostsAreEntered

@@ -1,16 +1,17 @@
 -- The posts of a turn, one behind the other, are those of the definition.
-use Rattle.std.proofs.Common.{◌≡◌, ℕ, ◌+◌, ◌<◌, List, [], ◌∷◌, ◌++◌, length, take, get_or, add-one, refl, ap, subst, sym, ◌∙◌}
+use Rattle.std.proofs.Common.{◌≡◌, ℕ, suc, ◌+◌, ◌<◌, List, [], ◌∷◌, ◌++◌, length, take, drop, get_or, add-one, refl, ap, subst, sym, ◌∙◌}
 use Rattle.std.proofs.lemmas.List.Elements.{All-get_or}
-use Rattle.std.proofs.Math.Seq.{take-suc}
+use Rattle.std.proofs.lemmas.List.{take-append-drop}
+use Rattle.std.proofs.Math.Seq.{drop-cons, take-suc}
 use Rattle.rtt_base.specs.declared.text_packets.Pts.{Pts}
 use Rattle.mixer_spec.specs.Setups.{Setup}
 use Rattle.mixer_turn.specs.declared.batches.Post.{Post}
 use Rattle.mixer_turn.specs.Posts.{ArePosts, IsPost}
-use Rattle.mixer_posts.specs.Posts.{AreNext, Takes, TakesAll, with_posts}
+use Rattle.mixer_posts.specs.Posts.{AreNext, IsHaltedIn, Takes, TakesAll, TakesSome, with_posts}
 use Rattle.mixer_posts.proofs.Nexts.{next_before}
 
 -- ---- one more
-with_one : (now : ℕ) (xs : List Post) (p : Post) (sent : List (ℕ × Post)) → with_posts now (xs ++ p ∷ []) sent ≡ (now, p) ∷ with_posts now xs sent
+pub with_one : (now : ℕ) (xs : List Post) (p : Post) (sent : List (ℕ × Post)) → with_posts now (xs ++ p ∷ []) sent ≡ (now, p) ∷ with_posts now xs sent
 with_one now [] p sent = refl
 with_one now (x ∷ xs) p sent = with_one now xs p ((now, x) ∷ sent)
 
@@ -26,6 +27,31 @@ module _ {O : Type 0} (took : O → Setup → (ℕ → Pts) → List (ℕ × Pos
       let all : with_posts now (take (i + 1) posts) sent ≡ (now, p) ∷ before = ap (λ xs. with_posts now xs sent) more ∙ with_one now (take i posts) p sent in
       let last : AreNext s ((now, p) ∷ before) = subst (λ (xs : List (ℕ × Post)). AreNext s xs) all next in
       subst (λ (xs : List (ℕ × Post)). took new s pts xs) (sym all) (takes s pts before last (taken s pts sent (next_before s now p before last) h))
+
+-- those of the first may be sent that may be followed by others
+next_front : (s : Setup) (now : ℕ) (ys : List Post) (sent : List (ℕ × Post)) → AreNext s (with_posts now ys sent) → AreNext s sent
+next_front s now [] sent h = h
+next_front s now (y ∷ ys) sent h = next_before s now y sent (next_front s now ys ((now, y) ∷ sent) h)
+
+with_both : (now : ℕ) (xs ys : List Post) (sent : List (ℕ × Post)) → with_posts now (xs ++ ys) sent ≡ with_posts now ys (with_posts now xs sent)
+with_both now [] ys sent = refl
+with_both now (x ∷ xs) ys sent = with_both now xs ys ((now, x) ∷ sent)
+
+-- the one at a place stands between those before it and those behind
+around : (posts : List Post) (i : ℕ) (p : Post) → i < length posts → p ≡ get_or posts i p → posts ≡ take i posts ++ p ∷ drop (suc i) posts
+around posts i p low is = sym (take-append-drop i posts) ∙ ap (λ (qs : List Post). take i posts ++ qs) (drop-cons posts i p low ∙ ap (λ (q : Post). q ∷ drop (suc i) posts) (sym is))
+
+-- the first of them were taken, and maybe one more
+pub halted_in : {O : Type 0} (took : O → Setup → (ℕ → Pts) → List (ℕ × Post) → Type 0) (halted : O → Setup → (ℕ → Pts) → List (ℕ × Post) → ℕ → Post → Type 0) (now : ℕ) (posts : List Post) (old mid new : O) (i : ℕ) (p : Post) → i < length posts → p ≡ get_or posts i p
+    → Taken took now posts i old mid → TakesSome took halted mid new now p → (s : Setup) (pts : ℕ → Pts) (sent : List (ℕ × Post)) → AreNext s (with_posts now posts sent) → took old s pts sent → IsHaltedIn halted new s pts sent now posts
+halted_in took halted now posts old mid new i p low is taken some s pts sent next h =
+    let first = take i posts in
+    let left = drop (suc i) posts in
+    let are = around posts i p low is in
+    let before = with_posts now first sent in
+    let all : with_posts now posts sent ≡ with_posts now left ((now, p) ∷ before) = ap (λ ps. with_posts now ps sent) are ∙ with_both now first (p ∷ left) sent in
+    let here : AreNext s ((now, p) ∷ before) = next_front s now left ((now, p) ∷ before) (subst (λ (xs : List (ℕ × Post)). AreNext s xs) all next) in
+    record { first = first; next = p; left = left; are = are; halts = some s pts before here (taken s pts sent (next_before s now p before here) h) }
 
 -- each of them is one, read as the loop reads it
 pub is_post : (sources : List ℕ) (posts : List Post) (i : ℕ) (p : Post) → i < length posts → p ≡ get_or posts i p → ArePosts sources posts → IsPost sources p

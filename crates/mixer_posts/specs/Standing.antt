@@ -2,12 +2,13 @@
 use Rattle.std.specs.Prelude.{◌≡◌, ◌<◌, ◌≤◌, ℕ, List, [], ◌∷◌, length}
 use Rattle.rtt_base.specs.declared.text_packets.Pts.{Pts}
 use Rattle.mixer_spec.specs.Setups.{Setup}
-use Rattle.mixer_spec.specs.Table.{Call, Admit, Hush, Leave, Offer, Turn}
+use Rattle.mixer_spec.specs.Table.{Call, Admit, Hush, Leave, Offer, Turn, after_calls}
 use Rattle.mixer_spec.specs.Calls.{turns_made}
 use Rattle.mixer_turn.specs.declared.batches.Post.{Post}
 use Rattle.mixer_turn.specs.Standing.{StandsFor}
 use Rattle.mixer_posts.specs.States.{SendingState}
-use Rattle.mixer_posts.specs.Posts.{sent_by}
+use Rattle.mixer_turn.specs.Turns.{posts_at}
+use Rattle.mixer_posts.specs.Posts.{IsHaltedIn, sent_by}
 
 -- each turn came before this moment
 abbrev pub AreBefore : ℕ → List Call → Type 0
@@ -26,3 +27,8 @@ pub record SendsFor {O : Type 0} (took : O → Setup → (ℕ → Pts) → List 
   pub all : length (sources m.outbound) ≡ s.legs
   pub early : AreBefore horizon calls
   pub few : turns_made calls ≤ 5000000
+
+-- These calls were made of it, and what they send was taken; then a turn was made at this moment, of which some first posts were taken, and
+-- maybe the next one.
+abbrev pub HaltsFor : {O : Type 0} → (O → Setup → (ℕ → Pts) → List (ℕ × Post) → ℕ → Post → Type 0) → SendingState O → Setup → (ℕ → Pts) → List Call → ℕ → Type 0
+HaltsFor halted m s pts calls now = IsHaltedIn halted m.outbound s pts (sent_by s calls) now (posts_at s now (after_calls s calls))

@@ -56,12 +56,14 @@ impl<O: Outbound> Sending<O> {
 }
 
 impl<O: Outbound> Mixes for Sending<O> {
-    ghost use Rattle.mixer_posts.specs.Standing.{SendsFor};
+    ghost use Rattle.mixer_posts.specs.Standing.{HaltsFor, SendsFor};
     ghost use Rattle.mixer_turn.specs.States.{legs_of};
 
     type Fault = O::Fault;
 
     ghost stands = { λ m s pts calls. SendsFor O.took O.sources O.horizon m s pts calls };
+
+    ghost halted = { λ m s pts calls now. HaltsFor O.halted m s pts calls now };
 
     ghost legs = { λ m. legs_of m.mixer };
 

@@ -1,7 +1,7 @@
 //! What a turn sends is given to an outbound.
-ghost use Rattle.std.specs.Prelude.{◌≡◌, ◌<◌, OnOk, IfErr};
+ghost use Rattle.std.specs.Prelude.{◌≡◌, ◌<◌, OnOk, OnErr, IfErr};
 ghost use Rattle.mixer_turn.specs.Posts.{ArePosts};
-ghost use Rattle.mixer_posts.specs.Posts.{TakesAll};
+ghost use Rattle.mixer_posts.specs.Posts.{TakesAll, TakesFirst};
 
 use crate::Outbound;
 use mixer_turn::Post;
@@ -15,6 +15,7 @@ pub(crate) fn send_posts<O: Outbound>(
     requires moment { now < O.horizon }
     requires posts { ArePosts (O.sources outbound.old) posts.now }
     ensures took { OnOk result (TakesAll O.took outbound.old outbound.new now posts.now) }
+    ensures halted { OnErr result (TakesFirst O.halted O.took outbound.old outbound.new now posts.now) }
     ensures unsent { IfErr result (O.unsent outbound.new) }
     ensures sources { O.sources outbound.new ≡ O.sources outbound.old }
     ensures addresses { O.addresses outbound.new ≡ O.addresses outbound.old }

@@ -32,6 +32,8 @@ impl Outbound for Notes {
 
     ghost took = { λ notes s pts sent. Unit {0} };
 
+    ghost halted = { λ notes s pts sent now post. Unit {0} };
+
     ghost sources = { λ notes. source_counts (conf_of notes.conf) };
 
     ghost addresses = { λ notes. [] };

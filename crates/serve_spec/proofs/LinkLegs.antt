@@ -18,7 +18,7 @@ use Rattle.file_spec.specs.Steps.{unless}
 use Rattle.file_spec.specs.Lines.{Line, at_line, read_lines, told, words}
 use Rattle.file_spec.specs.Numbers.{most_ssrc, number, pts}
 use Rattle.file_spec.specs.Stays.{is_crowd}
-use Rattle.file_spec.specs.Conf.{Above, Conf, Entry, Gens, Leg, Mixer, Plan, Spacing, Stays, Tick, Turns, Wait, and_line, aware_of, change_leg, clashes, complete, conf, entry, gens, has_names, has_port, is_blank, is_mixers, leg, leg_of, mixer, most_legs, new_leg, nothing, port, says, setting, shares_own, shares_path, stay_or_plan, time_or_other, usual_types, whole, whole_stay, with_entry, with_gens}
+use Rattle.file_spec.specs.Conf.{Above, Conf, Entry, Gens, Leg, Mixer, Plan, Relabel, Spacing, Stays, Tick, Turns, Wait, and_line, aware_of, change_leg, clashes, complete, conf, entry, gens, has_names, has_port, is_blank, is_mixers, leg, leg_of, mixer, most_legs, new_leg, nothing, port, says, setting, shares_own, shares_path, stay_or_plan, time_or_other, usual_types, whole, whole_stay, with_entry, with_gens}
 use Rattle.rtt_base.proofs.Steps.{bind_ok}
 use Rattle.file_spec.proofs.Passed.{unless_ok}
 use Rattle.rtt_base.specs.declared.limits.TheConstants.{LONGEST_WAIT}
@@ -39,6 +39,7 @@ Fits above (Tick n) = Unit {0}
 Fits above (Spacing n) = Unit {0}
 Fits above (Wait n) = Unit {0}
 Fits above (Turns n) = Unit {0}
+Fits above (Relabel n) = Unit {0}
 Fits above (Plan p) = Unit {0}
 
 -- ---- legs
@@ -82,6 +83,7 @@ entry_fits above n = record {
   each_spacing = λ ws x e. tt;
   each_wait = λ ws x e. tt;
   each_turns = λ ws x e. tt;
+  each_relabel = λ ws x e. tt;
 }
 
 -- ---- the whole, where none keeps it, one more keeps it, and another count of generations does
@@ -95,6 +97,7 @@ module _ (Fit : List LegLine → Type 0) (none : Fit []) (push : (above : List L
   more above (Spacing m) f n = f
   more above (Wait m) f n = f
   more above (Turns m) f n = f
+  more above (Relabel m) f n = f
   more above (Mixer x) f n = f
   more above (Plan p) f n = f
 

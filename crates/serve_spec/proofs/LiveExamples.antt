@@ -1,6 +1,6 @@
 -- A live call of two, worked out by hand. Ann's link gives one packet with an `A`, and is closed, as Bob's is at once; or the call
 -- has one turn, and the links stay quiet.
-use Rattle.std.proofs.Common.{◌≡◌, ℕ, zero, suc, ◌<◌, true, cond, inl, inr, Some, None, Ok, List, [], ◌∷◌, ◌++◌, drop, refl, ap, sym, ◌∙◌, arith}
+use Rattle.std.proofs.Common.{◌≡◌, ℕ, zero, suc, ◌-◌, ◌<◌, ◌≤◌, true, false, true≢false, cond, inl, inr, Some, None, Ok, List, [], ◌∷◌, ◌++◌, drop, length, refl, ap, sym, ◌∙◌, arith}
 use Rattle.std.specs.Prelude.{codes, ◌==◌}
 use Rattle.std.specs.Str.{is_utf8, chars}
 use Rattle.std.specs.Char.{encode_utf8}
@@ -21,7 +21,7 @@ use Rattle.mixer_spec.proofs.FileExample.{for_good, types}
 use Rattle.link_spec.specs.Links.{Takes, is_closed}
 use Rattle.link_spec.specs.Links as link
 use Rattle.live_spec.specs.Told.{ready_by}
-use Rattle.live_spec.specs.Live.{AreLive, IsUpToDate, Live, MayTurn, turns_free}
+use Rattle.live_spec.specs.Live.{AllMayTurn, AreLive, IsUpToDate, Live, MayTurn, at_last, but_last, first_takes, is_blocked}
 use Rattle.serve_spec.specs.Served.{Closed, Done, End, IsDrained, IsServed, chunks_live, end_line, given_to, hearing_at, live_printed}
 use Rattle.serve_spec.specs.Watched.{board_line, board_lines}
 use Rattle.serve_spec.specs.HeadLive.{HeadLive}
@@ -38,7 +38,7 @@ abbrev bob : LegLine
 bob = record { line = 2; name = codes "Bob"; aware = true; ssrc = 1002; input = codes "5006"; output = codes "127.0.0.1:6006"; pts = types; gens = 2; stay = for_good }
 
 abbrev call : ℕ → Conf
-call turns = record { legs = ann ∷ bob ∷ []; tick = 100; spacing = 300; wait = 1000; turns = turns; mixer = record { ssrc = 9000; seq = 100; stamp = 5000 }; plan = [] }
+call turns = record { legs = ann ∷ bob ∷ []; tick = 100; spacing = 300; wait = 1000; turns = turns; relabel = None; mixer = record { ssrc = 9000; seq = 100; stamp = 5000 }; plan = [] }
 
 many_turns : conf Links legs ≡ Ok (call 5000000)
 unfolding entry time_or_other stay_or_plan leg_of mixer_of is_utf8 chars encode_utf8
@@ -118,15 +118,25 @@ module _ (turns : ℕ) (takes : ℕ → Takes) where
   abbrev taken_of : List Event → ℕ → List Chunk
   taken_of past i = chunks_taken ((table_after past).taken i)
 
-  abbrev IsFreshFor : List Event → ℕ → ℕ → Type 0
-  IsFreshFor past now i = IsUpToDate (hearing_at (call turns) i) (takes i) (turns_free (setup (call turns)) (chunks_live (call turns) takes) i (Turn now ∷ past)) (taken_of past i)
+  abbrev IsFreshFor : List Event → (before now : ℕ) → ℕ → Type 0
+  IsFreshFor past before now i =
+      IsUpToDate (hearing_at (call turns) i) (takes i) (is_blocked (setup (call turns)) (after (setup (call turns)) (chunks_live (call turns) takes) past) i) before now (taken_of past i)
 
   -- both hold places and are up to date
-  both : (past : List Event) (now : ℕ) → is_seated (table_after past).seats 0 ≡ true → is_seated (table_after past).seats 1 ≡ true → IsFreshFor past now 0 → IsFreshFor past now 1
-      → (i : ℕ) → i < 2 → MayTurn (setup (call turns)) (hearing_at (call turns)) takes (chunks_live (call turns) takes) past now i
-  both past now a b f g zero low = record { seated = a; fresh = f }
-  both past now a b f g (suc zero) low = record { seated = b; fresh = g }
-  both past now a b f g (suc (suc i)) low = absurd (omega (arith, low))
+  both : (past : List Event) (before now : ℕ → ℕ) → is_seated (table_after past).seats 0 ≡ true → is_seated (table_after past).seats 1 ≡ true → IsFreshFor past (before 0) (now 0) 0 → IsFreshFor past (before 1) (now 1) 1
+      → (i : ℕ) → i < 2 → MayTurn (setup (call turns)) (hearing_at (call turns)) takes (chunks_live (call turns) takes) past (before i) (now i) i
+  both past before now a b f g zero low = record { seated = a; fresh = f }
+  both past before now a b f g (suc zero) low = record { seated = b; fresh = g }
+  both past before now a b f g (suc (suc i)) low = absurd (omega (arith, low))
+
+-- before a turn so many of Ann's takes count, and so many of Bob's
+abbrev heard : ℕ → ℕ → ℕ → ℕ
+heard a b j = cond (j == 0) a b
+
+-- before each of so many turns two of hers, and one of his
+abbrev heard_each : ℕ → List (ℕ → ℕ)
+heard_each zero = []
+heard_each (suc n) = heard 2 1 ∷ heard_each n
 
 pub nil : (xs : List Chunk) → xs ≡ xs ++ []
 nil [] = refl
@@ -142,12 +152,28 @@ closed_after past = table_after 5000000 to_the_end past
 abbrev AreTaken : List Event → Type 0
 AreTaken past = (taken_of 5000000 to_the_end past 0 ≡ ready_by (hearing_at long 0) (to_the_end 0)) × (taken_of 5000000 to_the_end past 1 ≡ ready_by (hearing_at long 1) (to_the_end 1))
 
-closed_turn : (past : List Event) (now : ℕ) → is_seated (closed_after past).seats 0 ≡ true → is_seated (closed_after past).seats 1 ≡ true → AreTaken past
-    → (i : ℕ) → i < 2 → MayTurn (setup long) (hearing_at long) to_the_end (chunks_live long to_the_end) past now i
-closed_turn past now a b r = both 5000000 to_the_end past now a b (up 0 refl r.0) (up 1 refl r.1)
+closed_turn : (past : List Event) (counts : List (ℕ → ℕ)) (a b : ℕ) → at_last counts 0 ≡ 2 → at_last counts 1 ≡ 1 → at_last (but_last counts) 0 ≡ a → at_last (but_last counts) 1 ≡ b → a ≤ 2 → b ≤ 1
+    → is_seated (closed_after past).seats 0 ≡ true → is_seated (closed_after past).seats 1 ≡ true → AreTaken past → is_idle (setup long) (closed_after past) ≡ false
+    → AllMayTurn (setup long) (hearing_at long) to_the_end (chunks_live long to_the_end) past (at_last (but_last counts)) (at_last counts)
+closed_turn past counts a b two one la lb more_a more_b x y r busy = record {
+  each = both 5000000 to_the_end past (at_last (but_last counts)) (at_last counts) x y
+      (up 0 (at_last (but_last counts) 0) (at_last counts 0) two (omega (arith, la, more_a)) refl r.0) (up 1 (at_last (but_last counts) 1) (at_last counts 1) one (omega (arith, lb, more_b)) refl r.1);
+  goes_on = λ over. true≢false (sym over.idle ∙ busy);
+}
   where
-    up : (i : ℕ) → is_closed (to_the_end i) ≡ true → taken_of 5000000 to_the_end past i ≡ ready_by (hearing_at long i) (to_the_end i) → IsFreshFor 5000000 to_the_end past now i
-    up i c e = record { later = []; counting = to_the_end i; are = refl; enough = inr (refl, c); took = ([], e ∙ nil (ready_by (hearing_at long i) (to_the_end i))) }
+    up : (i last now : ℕ) → now ≡ length (to_the_end i) → last ≤ length (to_the_end i) → is_closed (to_the_end i) ≡ true → taken_of 5000000 to_the_end past i ≡ ready_by (hearing_at long i) (to_the_end i)
+        → IsFreshFor 5000000 to_the_end past last now i
+    up i last now is l c e =
+        let all : first_takes now (to_the_end i) ≡ to_the_end i = ap (λ (n : ℕ). drop (length (to_the_end i) - n) (to_the_end i)) is ∙ ap (λ (n : ℕ). drop n (to_the_end i)) (none (length (to_the_end i))) in
+        record {
+          more = omega (arith, is, l);
+          came = omega (arith, is);
+          took = ([], e ∙ (ap (ready_by (hearing_at long i)) (sym all) ∙ nil (ready_by (hearing_at long i) (first_takes now (to_the_end i)))));
+          heard_out = λ free. inr (inr (is, c));
+        }
+      where
+        none : (n : ℕ) → n - n ≡ 0
+        none n = omega arith
 
 closed_seated : (i : ℕ) → i < 2 → is_seated (closed_after (Push 0 ∷ entered)).seats i ≡ true
 closed_seated zero low = refl
@@ -158,23 +184,23 @@ all_taken : AreTaken offered
 unfolding is_utf8 chars encode_utf8 text_of text_of_short rtp rtp_of_header red headers_at texts_at
 all_taken = (refl, refl)
 
-closed_live : AreLive (setup long) (hearing_at long) to_the_end (chunks_live long to_the_end) (turned offered)
+closed_live : AreLive (setup long) (hearing_at long) to_the_end (chunks_live long to_the_end) (heard_each 7) (turned offered)
 unfolding is_utf8 chars encode_utf8 text_of text_of_short rtp rtp_of_header red headers_at texts_at
 closed_live = (
-  closed_turn (drop 1 (turned offered)) 600 refl refl all_taken,
+  closed_turn (drop 1 (turned offered)) (heard_each 7) 2 1 refl refl refl refl (omega arith) (omega arith) refl refl all_taken refl,
   (
-    closed_turn (drop 2 (turned offered)) 500 refl refl all_taken,
+    closed_turn (drop 2 (turned offered)) (heard_each 6) 2 1 refl refl refl refl (omega arith) (omega arith) refl refl all_taken refl,
     (
-      closed_turn (drop 3 (turned offered)) 400 refl refl all_taken,
+      closed_turn (drop 3 (turned offered)) (heard_each 5) 2 1 refl refl refl refl (omega arith) (omega arith) refl refl all_taken refl,
       (
-        closed_turn (drop 4 (turned offered)) 300 refl refl all_taken,
+        closed_turn (drop 4 (turned offered)) (heard_each 4) 2 1 refl refl refl refl (omega arith) (omega arith) refl refl all_taken refl,
         (
-          closed_turn (drop 5 (turned offered)) 200 refl refl all_taken,
+          closed_turn (drop 5 (turned offered)) (heard_each 3) 2 1 refl refl refl refl (omega arith) (omega arith) refl refl all_taken refl,
           (
-            closed_turn (drop 6 (turned offered)) 100 refl refl all_taken,
+            closed_turn (drop 6 (turned offered)) (heard_each 2) 2 1 refl refl refl refl (omega arith) (omega arith) refl refl all_taken refl,
             (
-              closed_turn (drop 7 (turned offered)) 0 refl refl all_taken,
-              (closed_seated, tt),
+              closed_turn (drop 7 (turned offered)) (heard_each 1) 0 0 refl refl refl refl (omega arith) (omega arith) refl refl all_taken refl,
+              (closed_seated, (tt, (tt, (tt, tt)))),
             ),
           ),
         ),
@@ -206,7 +232,7 @@ live_closed : IsServed long to_the_end (to_bob (first ∷ second ∷ third ∷ [
 live_closed = record {
   table = closed_after (turned offered);
   turns = 7;
-  live = record { past = turned offered; live = closed_live; turned = refl; leads = refl };
+  live = record { past = turned offered; counts = heard_each 7; live = closed_live; turned = refl; leads = refl };
   few = omega arith;
   gives = closed_gives;
   prints = closed_is_printed;
@@ -228,10 +254,12 @@ live_closed_keeps = head_law legs long to_the_end (to_bob (first ∷ second ∷ 
 abbrev short : Conf
 short = call 1
 
-quiet_turn : (i : ℕ) → i < 2 → MayTurn (setup short) (hearing_at short) quiet (chunks_live short quiet) entered 0 i
-quiet_turn = both 1 quiet entered 0 refl refl
-    (record { later = record { at = 17; came = link.Quiet } ∷ []; counting = record { at = 5; came = link.Quiet } ∷ []; are = refl; enough = inl refl; took = ([], refl) })
-    (record { later = []; counting = record { at = 6; came = link.Quiet } ∷ []; are = refl; enough = inl refl; took = ([], refl) })
+quiet_turn : AllMayTurn (setup short) (hearing_at short) quiet (chunks_live short quiet) entered (at_last []) (at_last (heard 2 1 ∷ []))
+quiet_turn = record {
+  each = both 1 quiet entered (at_last []) (at_last (heard 2 1 ∷ [])) refl refl
+      (record { more = omega arith; came = omega arith; took = ([], refl); heard_out = λ free. inl (omega arith, refl) }) (record { more = omega arith; came = omega arith; took = ([], refl); heard_out = λ free. inl (omega arith, refl) });
+  goes_on = λ over. true≢false (sym (over.closed 0 (omega arith)));
+}
 
 quiet_gives : (j : ℕ) (leg : LegLine) → leg_at short.legs j ≡ Some leg → to_bob [] j ≡ given_to short (table_after 1 quiet (Turn 0 ∷ entered)) j leg
 quiet_gives zero leg e = refl
@@ -256,26 +284,28 @@ done_at_once takes packets printed table live gives prints = record {
 
 live_done : IsServed short quiet (to_bob []) Done (shows [] 0 Done)
 live_done = done_at_once quiet [] (shows [] 0 Done) (table_after 1 quiet (Turn 0 ∷ entered))
-    (record { past = Turn 0 ∷ entered; live = (quiet_turn, tt); turned = refl; leads = refl }) quiet_gives nothing_is_printed
+    (record { past = Turn 0 ∷ entered; counts = heard 2 1 ∷ []; live = (quiet_turn, (tt, (tt, tt))); turned = refl; leads = refl }) quiet_gives nothing_is_printed
 
 -- ---- one turn, and a letter before it
-letter_ready : taken_of 1 one_letter offered 0 ≡ ready_by (hearing_at short 0) (took 5 (link.Datagram letter))
+letter_ready : taken_of 1 one_letter offered 0 ≡ ready_by (hearing_at short 0) (one_letter 0)
 unfolding is_utf8 chars encode_utf8 text_of text_of_short rtp rtp_of_header red headers_at texts_at
 letter_ready = refl
 
-none_ready : taken_of 1 one_letter offered 1 ≡ ready_by (hearing_at short 1) (took 6 link.Quiet)
+none_ready : taken_of 1 one_letter offered 1 ≡ ready_by (hearing_at short 1) (one_letter 1)
 unfolding is_utf8 chars encode_utf8 text_of text_of_short rtp rtp_of_header red headers_at texts_at
 none_ready = refl
 
-none_blocked : (turns_free (setup short) (chunks_live short one_letter) 0 (Turn 0 ∷ offered) ≡ 1) × (turns_free (setup short) (chunks_live short one_letter) 1 (Turn 0 ∷ offered) ≡ 1)
+letter_seats : (is_seated (table_after 1 one_letter offered).seats 0 ≡ true) × (is_seated (table_after 1 one_letter offered).seats 1 ≡ true)
 unfolding is_utf8 chars encode_utf8 text_of text_of_short rtp rtp_of_header red headers_at texts_at
-none_blocked = (refl, refl)
+letter_seats = (refl, refl)
 
-letter_turn : (i : ℕ) → i < 2 → MayTurn (setup short) (hearing_at short) one_letter (chunks_live short one_letter) offered 0 i
-unfolding is_utf8 chars encode_utf8 text_of text_of_short rtp rtp_of_header red headers_at texts_at
-letter_turn = both 1 one_letter offered 0 refl refl
-    (record { later = record { at = 17; came = link.Quiet } ∷ []; counting = took 5 (link.Datagram letter); are = refl; enough = inl (sym none_blocked.0); took = ([], letter_ready ∙ nil (ready_by (hearing_at short 0) (took 5 (link.Datagram letter)))) })
-    (record { later = []; counting = took 6 link.Quiet; are = refl; enough = inl (sym none_blocked.1); took = ([], none_ready ∙ nil (ready_by (hearing_at short 1) (took 6 link.Quiet))) })
+letter_turn : AllMayTurn (setup short) (hearing_at short) one_letter (chunks_live short one_letter) offered (at_last []) (at_last (heard 2 1 ∷ []))
+letter_turn = record {
+  each = both 1 one_letter offered (at_last []) (at_last (heard 2 1 ∷ [])) letter_seats.0 letter_seats.1
+      (record { more = omega arith; came = omega arith; took = ([], letter_ready ∙ nil (ready_by (hearing_at short 0) (one_letter 0))); heard_out = λ free. inl (omega arith, refl) })
+      (record { more = omega arith; came = omega arith; took = ([], none_ready ∙ nil (ready_by (hearing_at short 1) (one_letter 1))); heard_out = λ free. inl (omega arith, refl) });
+  goes_on = λ over. true≢false (sym (over.closed 0 (omega arith)));
+}
 
 letter_seated : (i : ℕ) → i < 2 → is_seated (table_after 1 one_letter (Push 0 ∷ entered)).seats i ≡ true
 letter_seated zero low = refl
@@ -294,4 +324,4 @@ letter_gives (suc (suc j)) leg e = absurd (cc e)
 
 live_one_letter : IsServed short one_letter (to_bob (first ∷ [])) Done (shows (codes "A") 1 Done)
 live_one_letter = done_at_once one_letter (first ∷ []) (shows (codes "A") 1 Done) (table_after 1 one_letter (Turn 0 ∷ offered))
-    (record { past = Turn 0 ∷ offered; live = (letter_turn, (letter_seated, tt)); turned = refl; leads = refl }) letter_gives letter_is_printed
+    (record { past = Turn 0 ∷ offered; counts = heard 2 1 ∷ []; live = (letter_turn, (letter_seated, (tt, (tt, (tt, tt))))); turned = refl; leads = refl }) letter_gives letter_is_printed

@@ -1,14 +1,15 @@
 -- A live call keeps what it promises.
-use Rattle.std.proofs.Common.{◌≡◌, ℕ, ◌*◌, ◌<◌, ◌≤◌, ◌^◌, true, false, Some, List, [], ◌++◌, length, ap, subst, sym, ◌∙◌, append_assoc, arith}
+use Rattle.std.proofs.Common.{◌≡◌, ℕ, ◌*◌, ◌<◌, ◌≤◌, ◌^◌, true, false, Some, List, [], ◌++◌, length, ap, refl, subst, sym, ◌∙◌, append_assoc, arith}
 use Rattle.std.specs.Prelude.{map}
 use Rattle.std.proofs.Math.Nat.{mul-le-mul_left}
+use Rattle.wire_spec.specs.Packets.{Arrival}
 use Rattle.wire_spec.specs.Text.{text_of}
 use Rattle.file_spec.specs.declared.conf_lines.LegLine.{LegLine}
 use Rattle.file_spec.specs.Conf.{Conf}
 use Rattle.file_spec.specs.Kept.{IsConference}
 use Rattle.stream_spec.specs.Ready.{Chunk}
 use Rattle.stream_spec.specs.Still.{still}
-use Rattle.stream_spec.specs.History.{History}
+use Rattle.stream_spec.specs.History.{Come, History}
 use Rattle.stream_spec.specs.Own.{Own}
 use Rattle.stream_spec.specs.Own as histories
 use Rattle.stream_spec.specs.Carries.{CarriesFront}
@@ -19,10 +20,14 @@ use Rattle.mixer_spec.specs.Table.{Table, chunks_taken, is_idle, is_quiet, share
 use Rattle.mixer_spec.specs.Legs.{left}
 use Rattle.mixer_spec.specs.Core.{Core, Event, after, turns_in}
 use Rattle.mixer_spec.specs.Laws.{chunks_given}
-use Rattle.mixer_spec.specs.Bridged.{IsOut, IsPair, IsRunning, shared_texts, told_at, waiting_texts}
+use Rattle.mixer_spec.specs.Bridged.{IsOut, IsPair, IsRunning, hop_to, shared_texts, told_at, waiting_texts}
+use Rattle.mixer_spec.specs.Headline.{hears}
+use Rattle.mixer_spec.specs.Headlines.{hop_behind}
 use Rattle.mixer_spec.proofs.After.{core_good}
 use Rattle.mixer_spec.proofs.Asks.{composed_law, given_law, texts_law}
-use Rattle.mixer_spec.proofs.Bridged.{any_front_law, any_out_law}
+use Rattle.mixer_spec.proofs.Bridged.{any_front_law, any_out_law, hops_law}
+use Rattle.mixer_spec.proofs.OneHop.{one_hop}
+use Rattle.stream_spec.proofs.Still.{come_still, lawful_still}
 use Rattle.mixer_spec.proofs.Carries.{texts_append}
 use Rattle.mixer_spec.proofs.Conferences.{accepted_law, media_law, setup_law}
 use Rattle.mixer_spec.proofs.Done.{below_all, quiet_parts}
@@ -36,12 +41,16 @@ use Rattle.command_spec.proofs.SentBack.{below_legs}
 use Rattle.command_spec.proofs.Ssrcs.{HasSsrcs, ssrcs_fit}
 use Rattle.link_spec.specs.Links.{Takes}
 use Rattle.live_spec.specs.Live.{AreLive}
+use Rattle.named_spec.proofs.Sending.{all_mixers}
+use Rattle.named_spec.proofs.Showing.{any_law as named_law}
+use Rattle.named_spec.specs.Seen.{IsNamedThere}
+use Rattle.command_spec.proofs.PrintedNames.{names_print}
 use Rattle.serve_spec.specs.Served.{Closed, End, IsDrained, chunks_live, came_live, given_to, heard_live, hearing_at}
-use Rattle.serve_spec.specs.HeadLive.{IsGiven, IsToldAsOne, IsToldLive, ServedIsHeadLive}
+use Rattle.serve_spec.specs.HeadLive.{IsGiven, IsToldAsOne, IsToldLive, ServedIsHeadLive, inward_live}
 use Rattle.serve_spec.proofs.Texts.{live_texts}
 use Rattle.serve_spec.proofs.Sharing.{shared_live}
 use Rattle.serve_spec.proofs.Back.{read_back}
-use Rattle.serve_spec.proofs.Composing.{composed_more, one_source}
+use Rattle.serve_spec.proofs.Composing.{composed_more}
 use Rattle.serve_spec.proofs.LinksStay.{links_stay}
 
 -- what a call says of its table
@@ -61,7 +70,8 @@ record Runs (c : Conf) (takes : ℕ → Takes) (past : List Event) : Type 0 wher
   is : IsConference c
   fits : HasSsrcs c
   stay : AllStay (setup c)
-  live : AreLive (setup c) (hearing_at c) takes (chunks_live c takes) past
+  counts : List (ℕ → ℕ)
+  live : AreLive (setup c) (hearing_at c) takes (chunks_live c takes) counts past
   few : turns_in past ≤ c.turns
 
 module _ (c : Conf) (takes : ℕ → Takes) (given : ℕ → List (List ℕ)) (end : End) (past : List Event) (r : Runs c takes past) where
@@ -91,7 +101,7 @@ module _ (c : Conf) (takes : ℕ → Takes) (given : ℕ → List (List ℕ)) (e
   heard_is i = chunk_texts c.wait i (still (came_live c takes i)) (ssrc_of (leg_at c.legs i))
 
   all_given : (j i : ℕ) → j < (setup c).legs → IsAnother i j → shared j (w.taken i) ≡ chunks_taken (w.taken i)
-  all_given j i low n = shared_live (setup c) (hearing_at c) takes (chunks_live c takes) past r.stay r.live j i low n
+  all_given j i low n = shared_live (setup c) (hearing_at c) takes (chunks_live c takes) r.counts past r.stay r.live j i low n
 
   module _ (v : Serves c takes given end w) where
     quiet : end ≡ Closed → (j : ℕ) → j < (setup c).legs → is_quiet (setup c) j (w.terminals j) ≡ true
@@ -119,9 +129,17 @@ module _ (c : Conf) (takes : ℕ → Takes) (given : ℕ → List (List ℕ)) (e
         let back = texts_of (rest_of i) in
         let all : shared_texts w j i ++ back ≡ heard_live c takes i =
         ap (λ cs. texts_of cs ++ back) same ∙ (sym (texts_append (chunks_taken (w.taken i)) (rest_of i)) ∙ (ap texts_of (in_order (setup c) (chunks_live c takes) past i) ∙ heard_is i)) in
+        let front : CarriesFront (told j) x (heard_live c takes i) (waiting_texts w j i ++ back) =
+        subst (λ (ts : List (List ℕ)). CarriesFront (told j) x ts (waiting_texts w j i ++ back)) all (groups_more _ (shared_texts w j i) (waiting_texts w j i) back f) in
+        let lawful = (any_out_law (setup c) (chunks_live c takes) past running j p.terminal).lawful in
         record {
           rest = waiting_texts w j i ++ back;
-          front = subst (λ (ts : List (List ℕ)). CarriesFront (told j) x ts (waiting_texts w j i ++ back)) all (groups_more _ (shared_texts w j i) (waiting_texts w j i) back f);
+          front = front;
+          left = (rest_of i, in_order (setup c) (chunks_live c takes) past i, refl);
+          headline = λ h from wait came comes.
+              hops_law (inward_live c takes i h) (hop_behind (setup c) w j i wait came) (record { lawful = lawful_still h from.lawful; come = come_still h (came_live c takes i) from.come })
+              (record { lawful = lawful; come = comes }) 0 (heard_live c takes i) (waiting_texts w j i ++ back)
+              (record { before = []; after = []; count = refl; whole = sym (nil (heard_live c takes i)) }) front;
           whole = λ q.
               let none = (quiet_parts (setup c) j i (w.terminals j) (quiet q j p.terminal) p.leg p.other).0 in
               subst (λ (ts : List (List ℕ)). CarriesFront (told j) x ts []) (ap texts_of (same ∙ (v.drained q i p.leg).taken) ∙ heard_is i)
@@ -133,15 +151,19 @@ module _ (c : Conf) (takes : ℕ → Takes) (given : ℕ → List (List ℕ)) (e
     told_one j low u =
         let chunks = chunks_live c takes in
         let d = w.terminals j in
-        let own = (any_out_law (setup c) chunks past running j low).packets_are in
         let some : (i : ℕ) → IsAnother i j → chunks i ≡ shared j (w.taken i) ++ rest_of i =
         λ i n. sym (in_order (setup c) chunks past i) ∙ ap (λ cs. cs ++ rest_of i) (sym (all_given j i low n)) in
         let kept : (i : ℕ) → IsAnother i j → chunks_given i d.asks ++ d.waits i ≡ chunks_taken (w.taken i) =
         λ i n. ap (λ cs. cs ++ d.waits i) (sym (given_law (setup c) chunks past j i u)) ∙ (core_kept (setup c) chunks past j i n ∙ all_given j i low n) in
+        let both : (wait : ℕ) (came : List Arrival) → Come (told j) came → IsNamedThere (setup c) d.asks (hop_to (told j) c.mixer.ssrc wait came) =
+        λ wait came comes. named_law (setup c) chunks past (names_print c r.is) running j u low wait came comes in
         record {
-          source = one_source (setup c) j c.mixer.ssrc d.past (told j) (λ e k. ((timed j low).unaware u).own e k) own;
+          source = all_mixers (setup c) j d.past (λ e k. ((timed j low).unaware u).own e k);
+          one_hop = λ wait came comes. one_hop (hop_to (told j) c.mixer.ssrc wait came) (record { lawful = (any_out_law (setup c) chunks past running j low).lawful; come = comes });
           composed = composed_more (setup c) (λ i. shared j (w.taken i)) chunks j d.asks (λ i n. (rest_of i, some i n)) (composed_law (setup c) chunks past j u);
           sent = texts_law (setup c) chunks past j u;
+          named = λ wait came comes. (both wait came comes).0;
+          shown_named = λ wait came comes. (both wait came comes).1;
           front = λ i li n.
               let given = chunks_given i d.asks in
               let behind = d.waits i ++ rest_of i in
@@ -161,7 +183,7 @@ head_law octets c takes given end printed read v =
     let is = (accepted_law Links octets c read).0 in
     let few = v.few in
     let turned = v.live.turned in
-    let runs : Runs c takes v.live.past = record { is = is; fits = ssrcs_fit Links octets c read; stay = links_stay octets c read is; live = v.live.live; few = omega (arith, few, turned) } in
+    let runs : Runs c takes v.live.past = record { is = is; fits = ssrcs_fit Links octets c read; stay = links_stay octets c read is; counts = v.live.counts; live = v.live.live; few = omega (arith, few, turned) } in
     let serves : Serves c takes given end v.table = record { gives = v.gives; drained = v.drained; idle = v.idle } in
     let p = subst (λ (t : Table). Promises c takes given end t) v.live.leads (promised c takes given end v.live.past runs (subst (λ (t : Table). Serves c takes given end t) (sym v.live.leads) serves)) in
     record { served = v; sent = p.sent; told = p.told; told_as_one = p.told_as_one }

@@ -14,7 +14,7 @@ use Rattle.mixer_spec.proofs.Parts.{core_parts}
 use Rattle.mixer_spec.proofs.Seats.{enter_with}
 use Rattle.link_spec.specs.Links.{Takes}
 use Rattle.live_spec.specs.Told.{Hearing}
-use Rattle.live_spec.specs.Live.{AllSeated, AreLive}
+use Rattle.live_spec.specs.Live.{AllSeated, AreLive, but_last}
 
 -- who holds a place listens
 abbrev Listen : Seats → Type 0
@@ -57,23 +57,23 @@ given_shares s i c table all h = record {
 }
 
 -- ---- all events
-live_shares : (s : Setup) (hears : ℕ → Hearing) (takes : ℕ → Takes) (chunks : ℕ → List Chunk) (past : List Event) → AllStay s → AreLive s hears takes chunks past → Shares s (after s chunks past).table
-live_shares s hears takes chunks [] st l = record { listen = λ j e. absurd (cc e); given = λ j i low n. tt }
-live_shares s hears takes chunks (Enter i t ∷ past) st l = entered_shares s chunks past i t st (live_shares s hears takes chunks past st l)
-live_shares s hears takes chunks (Stop i t ∷ past) st l = absurd l
-live_shares s hears takes chunks (Depart i ∷ past) st l = absurd l
-live_shares s hears takes chunks (Push i ∷ past) st l = let h = live_shares s hears takes chunks past st l in record { listen = h.listen; given = h.given }
-live_shares s hears takes chunks (Take i t ∷ past) st l =
+live_shares : (s : Setup) (hears : ℕ → Hearing) (takes : ℕ → Takes) (chunks : ℕ → List Chunk) (counts : List (ℕ → ℕ)) (past : List Event) → AllStay s → AreLive s hears takes chunks counts past → Shares s (after s chunks past).table
+live_shares s hears takes chunks counts [] st l = record { listen = λ j e. absurd (cc e); given = λ j i low n. tt }
+live_shares s hears takes chunks counts (Enter i t ∷ past) st l = entered_shares s chunks past i t st (live_shares s hears takes chunks counts past st l.1)
+live_shares s hears takes chunks counts (Stop i t ∷ past) st l = absurd l.0
+live_shares s hears takes chunks counts (Depart i ∷ past) st l = absurd l.0
+live_shares s hears takes chunks counts (Push i ∷ past) st l = let h = live_shares s hears takes chunks counts past st l.1 in record { listen = h.listen; given = h.given }
+live_shares s hears takes chunks counts (Take i t ∷ past) st l =
     let w = after s chunks past in
-    let h = live_shares s hears takes chunks past st l.1 in
+    let h = live_shares s hears takes chunks counts past st l.1 in
     take_with s w i t (picked (w.legs i)) (picked (w.legs i)).hand (Shares s) h (λ c e. given_shares s i c w.table l.0 h)
-live_shares s hears takes chunks (Turn now ∷ past) st l = let h = live_shares s hears takes chunks past st l.1 in record { listen = h.listen; given = h.given }
+live_shares s hears takes chunks counts (Turn now ∷ past) st l = let h = live_shares s hears takes chunks (but_last counts) past st l.1 in record { listen = h.listen; given = h.given }
 
 all_shared : (j : ℕ) (xs : List Taken) → AllGiven true j xs → shared j xs ≡ chunks_taken xs
 all_shared j [] a = refl
 all_shared j (x ∷ xs) a = ap (λ b. (if b then x.chunk ∷ [] else []) ++ shared j xs) a.0 ∙ ap (λ cs. x.chunk ∷ cs) (all_shared j xs a.1)
 
-pub shared_live : (s : Setup) (hears : ℕ → Hearing) (takes : ℕ → Takes) (chunks : ℕ → List Chunk) (past : List Event) → AllStay s → AreLive s hears takes chunks past → (j i : ℕ) → j < s.legs → IsAnother i j
+pub shared_live : (s : Setup) (hears : ℕ → Hearing) (takes : ℕ → Takes) (chunks : ℕ → List Chunk) (counts : List (ℕ → ℕ)) (past : List Event) → AllStay s → AreLive s hears takes chunks counts past → (j i : ℕ) → j < s.legs → IsAnother i j
     → let w = (after s chunks past).table in
     shared j (w.taken i) ≡ chunks_taken (w.taken i)
-shared_live s hears takes chunks past st l j i low n = all_shared j ((after s chunks past).table.taken i) ((live_shares s hears takes chunks past st l).given j i low n)
+shared_live s hears takes chunks counts past st l j i low n = all_shared j ((after s chunks past).table.taken i) ((live_shares s hears takes chunks counts past st l).given j i low n)

@@ -1,22 +1,29 @@
 -- What a live call promises, whatever its links gave, and at whatever moments (profile).
-use Rattle.std.specs.Prelude.{◌≡◌, ◌<◌, ℕ, false, Some, Ok, List, length, map, IsSome}
+use Rattle.std.specs.Prelude.{◌≡◌, ◌<◌, ℕ, false, Some, Ok, List, [], ◌++◌, length, map, IsSome}
+use Rattle.wire_spec.specs.Packets.{Arrival}
 use Rattle.wire_spec.specs.Text.{text_of}
 use Rattle.file_spec.specs.declared.conf_lines.Form.TheVariants.{Links}
 use Rattle.file_spec.specs.declared.conf_lines.LegLine.{LegLine}
 use Rattle.file_spec.specs.Conf.{Conf, conf, port}
 use Rattle.stream_spec.specs.Lists.{In}
-use Rattle.stream_spec.specs.History.{Lawful, Placed, placed}
+use Rattle.stream_spec.specs.History.{Come, History, Lawful, Placed, placed}
+use Rattle.stream_spec.specs.Ready.{Chunk}
+use Rattle.stream_spec.specs.Still.{still, still_history}
 use Rattle.stream_spec.specs.Own.{Own, own_packet}
 use Rattle.stream_spec.specs.Own as histories
 use Rattle.stream_spec.specs.Carries.{Carries, CarriesFront}
 use Rattle.stream_spec.specs.Fronts.{IsFront}
 use Rattle.mixer_spec.specs.Chunks.{texts_of}
 use Rattle.mixer_spec.specs.Setups.{AllStay, IsAnother, leg_at, setup}
-use Rattle.mixer_spec.specs.Table.{Table}
+use Rattle.mixer_spec.specs.Table.{Table, chunks_taken}
 use Rattle.mixer_spec.specs.Laws.{IsComposed, SendsGiven, chunks_given}
-use Rattle.mixer_spec.specs.Bridged.{IsPair, told_at}
+use Rattle.mixer_spec.specs.Bridged.{IsPair, hop_to, told_at, waiting_texts}
+use Rattle.mixer_spec.specs.Headline.{HeadlineAt, Hop, OneHop}
+use Rattle.mixer_spec.specs.Headlines.{hop_behind}
+use Rattle.named_spec.specs.Heard.{HearsNamed}
+use Rattle.named_spec.specs.Seen.{ShowsNamed}
 use Rattle.link_spec.specs.Links.{Takes}
-use Rattle.serve_spec.specs.Served.{Closed, End, IsServed, chunks_live, heard_live}
+use Rattle.serve_spec.specs.Served.{Closed, End, IsServed, came_live, chunks_live, heard_live}
 
 -- What was given to the terminal j, where this is the leg j: the packets of the history that they tell, which is lawful and of the
 -- mixer's own making. At `Closed` each text was repeated as often as it is to be.
@@ -26,18 +33,43 @@ pub record IsGiven (c : Conf) (table : Table) (end : End) (j : ℕ) (leg : LegLi
   pub packets : map (λ octets. text_of octets (Some c.mixer.ssrc) leg.pts) given ≡ map (λ x. Ok (own_packet (told_at (setup c) table j) x)) (placed (told_at (setup c) table j))
   pub closed : end ≡ Closed → histories.Closed leg.gens (told_at (setup c) table j)
 
+-- what came of the leg i is of the lawful history h
+pub record IsFromLive (c : Conf) (takes : ℕ → Takes) (i : ℕ) (h : History) : Type 0 where
+  pub lawful : Lawful h
+  pub come : Come h (came_live c takes i)
+
+-- the hop from the leg i, of whom the history h was sent, but for keep-alives
+abbrev pub inward_live : Conf → (ℕ → Takes) → ℕ → History → Hop
+inward_live c takes i h = record { sent = still_history h; wait = c.wait; came = still (came_live c takes i); source = (setup c).ssrc i }
+
 -- Of the leg i the aware terminal j is given a front of what is heard of it, in order. At `Closed` it is given all of that.
 pub record IsToldLive (c : Conf) (takes : ℕ → Takes) (table : Table) (end : End) (j i : ℕ) : Type 0 where
   pub rest : List (List ℕ)
   pub front : CarriesFront (told_at (setup c) table j) ((setup c).ssrc i) (heard_live c takes i) rest
   pub whole : end ≡ Closed → Carries (told_at (setup c) table j) ((setup c).ssrc i) (heard_live c takes i)
+  -- What is left waits for its turn at the terminal, or was not taken by the mixer.
+  pub left : (behind : List Chunk) × (chunks_taken (table.taken i) ++ behind ≡ chunks_live c takes i) × (rest ≡ waiting_texts table j i ++ texts_of behind)
+  -- The headline, for every lawful history of which the leg's packets come, and whatever comes to the terminal of what it is given.
+  pub headline : (h : History) → IsFromLive c takes i h
+      → (wait : ℕ) (came : List Arrival) → Come (told_at (setup c) table j) came
+      → HeadlineAt (inward_live c takes i h) (hop_behind (setup c) table j i wait came) [] rest []
 
 -- A terminal that is not aware is given one text, of the mixer: what the composer gives of what is heard of the other legs. What it
 -- gives of each is a front of that, in order. At `Closed` it is all of that.
 pub record IsToldAsOne (c : Conf) (takes : ℕ → Takes) (table : Table) (end : End) (j : ℕ) : Type 0 where
   pub source : (x : Placed) → In x (placed (told_at (setup c) table j)) → x.source ≡ c.mixer.ssrc
+  pub one_hop : (wait : ℕ) (came : List Arrival) → Come (told_at (setup c) table j) came → OneHop (hop_to (told_at (setup c) table j) c.mixer.ssrc wait came)
   pub composed : IsComposed (setup c) (chunks_live c takes) j (table.terminals j).asks
   pub sent : SendsGiven table j
+  -- Whatever comes of it, however long a gap is waited for: what is heard are stretches of that text, with a marker between each
+  -- two. Within each, each character that prints stands behind the label of the leg that typed it, up to the next label or marker;
+  -- and what stands before the first label was typed by one leg.
+  pub named : (wait : ℕ) (came : List Arrival) → Come (told_at (setup c) table j) came
+      → HearsNamed (setup c) (table.terminals j).asks (hop_to (told_at (setup c) table j) c.mixer.ssrc wait came)
+  -- What is shown of it is what is shown of each stretch for itself, with a marker between each two; and of each stretch its labels
+  -- whole, and behind each label, up to the next, what prints of what its leg typed there.
+  pub shown_named : (wait : ℕ) (came : List Arrival) (comes : Come (told_at (setup c) table j) came)
+      → ShowsNamed (setup c) (table.terminals j).asks (hop_to (told_at (setup c) table j) c.mixer.ssrc wait came) (named wait came comes)
   pub front : (i : ℕ) → i < length c.legs → IsAnother i j → IsFront (texts_of (chunks_given i (table.terminals j).asks)) (heard_live c takes i)
   pub whole : end ≡ Closed → (i : ℕ) → i < length c.legs → IsAnother i j → texts_of (chunks_given i (table.terminals j).asks) ≡ heard_live c takes i
 

@@ -1,6 +1,6 @@
 -- What a live call gives and prints (profile). Legs and their terminals are numbered from 0. Takes stand newest first, what is
 -- given to a terminal oldest first.
-use Rattle.std.specs.Prelude.{◌≡◌, ◌<◌, ◌≤◌, ℕ, true, Option, None, Some, List, ◌++◌, codes, length, map, flat_map, remove, if◌then◌else◌}
+use Rattle.std.specs.Prelude.{◌≡◌, ◌<◌, ◌≤◌, ◌⊎◌, ℕ, true, Option, None, Some, List, [], ◌++◌, codes, length, map, flat_map, remove, if◌then◌else◌}
 use Rattle.std.specs.List.{enumerate_from}
 use Rattle.rtt_base.specs.declared.text_packets.Pts.{Pts}
 use Rattle.wire_spec.specs.Packets.{Arrival}
@@ -12,17 +12,18 @@ use Rattle.stream_spec.specs.Still.{still}
 use Rattle.file_spec.specs.declared.conf_lines.LegLine.{LegLine}
 use Rattle.file_spec.specs.Conf.{Conf}
 use Rattle.mixer_spec.specs.Setups.{leg_at, setup, ssrc_of}
-use Rattle.mixer_spec.specs.Table.{Table, chunks_taken, is_idle}
+use Rattle.mixer_spec.specs.Table.{Table, chunks_taken, is_idle, turned}
 use Rattle.view_spec.specs.Seen.{aware_seen, unaware_seen}
 use Rattle.command_spec.specs.Mixing.{reception_of, sent_to, speaker_of}
 use Rattle.link_spec.specs.Links.{Takes, is_closed}
 use Rattle.live_spec.specs.Told.{Hearing, told_by}
 use Rattle.live_spec.specs.Live.{Live, live_chunks}
 
--- how a live call ended: all turns were made, or all links are closed and nothing is left
+-- how a live call ended: all turns were made, or all links are closed and nothing is left, or it broke off before
 pub data End : Type 0 where
   Done : End
   Closed : End
+  Broken : End
 
 -- ---- what is heard of a leg, where its link gave this
 abbrev pub pts_of : Option LegLine → Pts
@@ -50,6 +51,11 @@ chunks_live c takes = live_chunks (hearing_at c) takes
 abbrev pub given_to : Conf → Table → ℕ → LegLine → List (List ℕ)
 given_to c table j leg = map (λ a. packet_written leg.pts a.packet) (sent_to c table j)
 
+-- what its link was given of a call that broke off: what the turns that were made give, or its packet of one more turn besides,
+-- at this moment
+abbrev pub IsCutShort : Conf → Table → (now j : ℕ) → LegLine → List (List ℕ) → Type 0
+IsCutShort c table now j leg given = (given ≡ given_to c table j leg) ⊎ (given ≡ given_to c (turned (setup c) now table) j leg)
+
 -- ---- what is seen there, where they come in order and at once
 abbrev pub came_at_once : List (List ℕ) → List Item
 came_at_once given = map (λ octets. sent_item (0, octets)) given
@@ -67,8 +73,9 @@ live_views c given = flat_map (λ x. live_view c x.0 x.1 (given x.0)) (enumerate
 abbrev pub end_line : End → List ℕ
 end_line Done = codes "-- live done\n"
 end_line Closed = codes "-- live closed\n"
+end_line Broken = []
 
--- what is printed
+-- what is printed; of a call that broke off, what would be
 abbrev pub live_printed : Conf → (ℕ → List (List ℕ)) → End → List ℕ
 live_printed c given end = live_views c given ++ end_line end
 
@@ -78,7 +85,8 @@ pub record IsDrained (c : Conf) (takes : ℕ → Takes) (table : Table) (j : ℕ
   pub closed : is_closed (takes j) ≡ true
   pub taken : chunks_taken (table.taken j) ≡ chunks_live c takes j
 
--- A live call of this conference, whose legs' links gave this and were given that, ended so and printed this.
+-- A live call of this conference, whose legs' links gave this and were given that, ended so and printed this. Where it broke off
+-- nothing is printed: this is what would be, of what was given by then.
 pub record IsServed (c : Conf) (takes : ℕ → Takes) (given : ℕ → List (List ℕ)) (end : End) (printed : List ℕ) : Type 0 where
   pub table : Table
   pub turns : ℕ

@@ -5,6 +5,7 @@ use Rattle.conference.specs.Conferences.{conf_of}
 use Rattle.item_lanes.specs.Rooms.{HasRoom}
 use Rattle.live_leg.specs.declared.legs.LinkLeg.{LinkLeg}
 use Rattle.live_run.specs.declared.far_ends.FarEnds.{FarEnds}
+use Rattle.live_loop.specs.Clocks.{IsPaced}
 use Rattle.live_loop.specs.Walks.{IsPaused}
 use Rattle.live_loop.specs.declared.turns.Turned.{Turned}
 use Rattle.mixer_posts.specs.States.{SendingState}
@@ -60,6 +61,14 @@ returns-clause-paused g c = λ done.
     subst (λ (n : ℕ). IsPaused n (g.W.Links.pauses c.args.world.now) (g.W.Links.pauses c.run_job-turned.new.clock)) c.from-2.ensures
     (c.run_job-turned.ensures.paused (ended_done c.run_job-turned.result.mixer.short c.run_job-turned.result.turned (sym c.finish-turned.ensures.turned ∙ done)))
 
+pub returns-clause-paced : goal.returns-clause-paced
+returns-clause-paced g c = λ t done.
+    let old = g.W.Links.moment c.args.world.now in
+    let new = g.W.Links.moment c.run_job-turned.new.clock in
+    subst (λ (n : ℕ). IsPaced n c.args.conf.now.tick old new) c.from-2.ensures
+    (subst (λ (k : ℕ). IsPaced c.from-2.result k old new) c.from.ensures
+    (c.run_job-turned.ensures.paced t (ended_done c.run_job-turned.result.mixer.short c.run_job-turned.result.turned (sym c.finish-turned.ensures.turned ∙ done))))
+
 pub returns-clause-called : goal.returns-clause-called
 returns-clause-called g c =
     let ran = c.run_job-turned.ensures in
@@ -79,4 +88,4 @@ returns-clause-called g c =
     (ap (λ (m : Tapped (SendingState (FarEnds g.row.W-Out.Denot)) g.row.T.Denot). m.mixer.outbound.links.items) tapped ∙ ap (λ (v : Vec g.row.W-Out.Denot). v.items) made.links)
     (subst (λ (m : Tapped (SendingState (FarEnds g.row.W-Out.Denot)) g.row.T.Denot). HasAll g.W.Out.LinkOut.tells g.W.Out.LinkOut.given g.W.Out.LinkOut.faults conf m.mixer) (sym tapped) made.stands)
     (subst (λ (m : Tapped (SendingState (FarEnds g.row.W-Out.Denot)) g.row.T.Denot). stands m.tap []) (sym tapped) c.requires.told)
-    c.from-2.ensures ran.passed.same_opened ran c.finish-turned.ensures.shows))
+    c.from-2.ensures c.from.ensures (λ t. t) ran.passed.same_opened ran c.finish-turned.ensures.shows))

@@ -1,10 +1,10 @@
 use Rattle.std.proofs.Common.{inl, refl, ◌∙◌, arith}
 use Rattle.mixer_posts.proofs.Backward.{all_done, front_still, last_of_all}
-use Rattle.live_run.proofs.Closing.{failed_more, stored_more}
+use Rattle.live_run.proofs.Closing.{failed_more, nothing_more, stored_more}
 use Rattle.live_run.proofs.opening.close_ends.Goals as goal
 
 pub loop-end-init : goal.loop-end-init
-loop-end-init g c = record { same_own = λ p. refl; pauses = refl; never_fall = λ p. omega arith; front = λ j x e. e; calm = λ a p. refl; failed = λ j x e. inl e; opened = λ t p. refl; other = λ t p. refl; stored = λ t own j x e. inl e }
+loop-end-init g c = record { same_own = λ p. refl; pauses = refl; moment = refl; never_fall = λ p. omega arith; front = λ j x e. e; calm = λ a p. refl; failed = λ j x e. inl e; opened = λ t p. refl; leads = λ t. refl; other = λ t p. refl; stored = λ t own j x e. inl e; nothing = λ t e p. inl refl }
 
 pub loop-end-preserved : goal.loop-end-preserved
 loop-end-preserved g c =
@@ -21,14 +21,20 @@ loop-end-preserved g c =
     record {
       same_own = λ p. done.same_own p ∙ i.same_own p;
       pauses = done.same_pauses ∙ i.pauses;
+      moment = done.same_moment ∙ i.moment;
       never_fall = λ p. omega (arith, i.never_fall p, done.objects_never_fall p);
       front = front_still all now xs x items i.front;
       calm = λ a p. done.calm (a _ x (last_of_all all now xs x items i.front)) p ∙ i.calm a p;
       failed = failed_more all now xs x items faults port_of (objects c.args.world.now) (objects c.loop-end.world) (objects c.done_out.new.self) i.never_fall done.objects_never_fall done.added i.failed;
       opened = λ t p. done.same_opened t p ∙ i.opened t p;
+      leads = λ t. done.same_leads t ∙ i.leads t;
       other = λ t p. done.same_taken t p ∙ i.other t p;
       stored = λ t own. stored_more all now xs x items g.W.Out.LinkOut.given port_of (g.W.Links.opened c.args.world.now) (g.W.Links.opened c.loop-end.world) (g.W.Links.given_at c.loop-end.world) (g.W.Links.given_at c.done_out.new.self)
           own (last_of_all all now xs x items i.front) (i.opened t (port_of x)) (done.stored t) (done.other_given t) (i.stored t own);
+      nothing = λ t empty.
+          let last = empty _ x (last_of_all all now xs x items i.front) in
+          nothing_more (port_of x) (g.W.Links.given_at c.args.world.now) (g.W.Links.given_at c.loop-end.world) (g.W.Links.given_at c.done_out.new.self)
+          (done.stored t (i.opened t (port_of x) ∙ last.1) ∙ last.0) (done.other_given t) (i.nothing t empty);
     }
 
 pub returns-clause-calm : goal.returns-clause-calm
@@ -45,3 +51,9 @@ returns-clause-same_taken g c = c.loop-end.invariant.other
 
 pub returns-clause-same_opened : goal.returns-clause-same_opened
 returns-clause-same_opened g c = c.loop-end.invariant.opened
+
+pub returns-clause-same_leads : goal.returns-clause-same_leads
+returns-clause-same_leads g c = c.loop-end.invariant.leads
+
+pub returns-clause-empty : goal.returns-clause-empty
+returns-clause-empty g c = c.loop-end.invariant.nothing

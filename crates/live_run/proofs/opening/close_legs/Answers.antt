@@ -6,7 +6,7 @@ use Rattle.live_run.proofs.Closing.{failed_more, stored_more}
 use Rattle.live_run.proofs.opening.close_legs.Goals as goal
 
 pub loop-leg-init : goal.loop-leg-init
-loop-leg-init g c = record { same_own = λ p. refl; pauses = refl; never_fall = λ p. omega arith; front = λ j x e. e; calm = λ a p. refl; failed = λ j x e. inl e; opened = λ t p. refl; other = λ t p. refl; stored = λ t own j x e. inl e }
+loop-leg-init g c = record { same_own = λ p. refl; pauses = refl; moment = refl; never_fall = λ p. omega arith; front = λ j x e. e; calm = λ a p. refl; failed = λ j x e. inl e; opened = λ t p. refl; leads = λ t. refl; other = λ t p. refl; stored = λ t own j x e. inl e }
 
 pub loop-leg-preserved : goal.loop-leg-preserved
 loop-leg-preserved g c =
@@ -26,11 +26,13 @@ loop-leg-preserved g c =
     record {
       same_own = λ p. done.same_own p ∙ i.same_own p;
       pauses = done.same_pauses ∙ i.pauses;
+      moment = done.same_moment ∙ i.moment;
       never_fall = λ p. omega (arith, i.never_fall p, done.objects_never_fall p);
       front = front_still all now xs x items i.front;
       calm = λ a p. done.calm (ap g.W.In.LinkIn.faults link ∙ a _ x (last_of_all all now xs x items i.front)) p ∙ i.calm a p;
       failed = failed_more all now xs x items faults port_of (objects c.args.world.now) (objects c.loop-leg.world) (objects c.done_in.new.self) i.never_fall done.objects_never_fall added i.failed;
       opened = λ t p. done.same_opened t p ∙ i.opened t p;
+      leads = λ t. done.same_leads t ∙ i.leads t;
       other = λ t p. done.same_given t p ∙ i.other t p;
       stored = λ t own.
           let at : g.W.Links.opened c.loop-leg.world (port_of x) ≡ true → g.W.Links.taken_at c.done_in.new.self (port_of x) ≡ g.W.In.LinkIn.taken x.link =
@@ -55,3 +57,6 @@ returns-clause-same_given g c = c.loop-leg.invariant.other
 
 pub returns-clause-same_opened : goal.returns-clause-same_opened
 returns-clause-same_opened g c = c.loop-leg.invariant.opened
+
+pub returns-clause-same_leads : goal.returns-clause-same_leads
+returns-clause-same_leads g c = c.loop-leg.invariant.leads

@@ -1,4 +1,4 @@
-use Rattle.std.proofs.Common.{◌≡◌, ◌∙◌, ℕ, true, Some, Option, List, get_or, refl, ap, sym, subst}
+use Rattle.std.proofs.Common.{◌≡◌, ◌∙◌, ◌∷◌, ◌++◌, [], ℕ, true, Some, Option, List, get_or, inl, inr, refl, ap, sym, subst}
 use Rattle.std.specs.Prelude.{IsSome}
 use Rattle.rtt_io.specs.Counts.{Rose}
 use Rattle.file_spec.specs.declared.conf_lines.LegLine.{LegLine}
@@ -6,7 +6,9 @@ use Rattle.file_spec.specs.Conf.{port}
 use Rattle.mixer_spec.specs.Setups.{leg_at}
 use Rattle.conference.specs.Conferences.{conf_of}
 use Rattle.live_run.specs.Opened.{ear_at}
+use Rattle.live_run.proofs.Closing.{nothing_more}
 use Rattle.live_run.proofs.Showing.{found_leg, shown_leg}
+use Rattle.live_run.proofs.Linking.{pair_is}
 use Rattle.live_run.proofs.opening.open_link.Goals as goal
 
 pub unreachable-requires : goal.unreachable-requires
@@ -54,3 +56,37 @@ returns-in-Ok-new-clause-end g c = λ line at.
       none = opened.none.1;
       told = λ t. (opened.told t).1;
     }
+
+pub returns-in-Ok-new-clause-leads_there : goal.returns-in-Ok-new-clause-leads_there
+returns-in-Ok-new-clause-leads_there g c =
+    λ t line at.
+    let same = shown_leg c.as_slice.result.now c.args.conf.now.legs c.args.own c.index-as_slice-own.result line c.index-as_slice-own.is c.as_slice.ensures at in
+    let there : port line.input ≡ Some c.in-Some.port = ap (λ (l : LegLine). port l.input) (sym same) ∙ (ap port (sym c.as_str.ensures) ∙ (sym c.number_from.ensures.exact ∙ c.in-Some.is)) in
+    let to : c.as_str-2.result.now ≡ line.output = c.as_str-2.ensures ∙ ap (λ (l : LegLine). l.output) same in
+    let led = (c.in-Ok-link.ensures.leads_there t) in
+    led ∙ ap (λ (x : ℕ × List ℕ). g.W.Links.leads c.args.world.now ++ x ∷ []) (pair_is c.in-Some.port c.as_str-2.result.now line there to)
+
+pub returns-in-Err-clause-leads_nowhere_else : goal.returns-in-Err-clause-leads_nowhere_else
+returns-in-Err-clause-leads_nowhere_else g c = λ t. inr (λ line at.
+    let same = shown_leg c.as_slice.result.now c.args.conf.now.legs c.args.own c.index-as_slice-own.result line c.index-as_slice-own.is c.as_slice.ensures at in
+    let there : port line.input ≡ Some c.in-Some.port = ap (λ (l : LegLine). port l.input) (sym same) ∙ (ap port (sym c.as_str.ensures) ∙ (sym c.number_from.ensures.exact ∙ c.in-Some.is)) in
+    let to : c.as_str-2.result.now ≡ line.output = c.as_str-2.ensures ∙ ap (λ (l : LegLine). l.output) same in
+    c.done_out.ensures.same_leads t
+    ∙ (c.done_in.ensures.same_leads t
+    ∙ (c.in-Ok-link.ensures.leads_there t
+    ∙ ap (λ (x : ℕ × List ℕ). g.W.Links.leads c.args.world.now ++ x ∷ []) (pair_is c.in-Some.port c.as_str-2.result.now line there to))))
+
+pub returns-in_default-clause-gives_nothing : goal.returns-in_default-clause-gives_nothing
+returns-in_default-clause-gives_nothing g c = λ t p. inl refl
+
+pub returns-in_default-link-clause-gives_nothing : goal.returns-in_default-link-clause-gives_nothing
+returns-in_default-link-clause-gives_nothing g c = λ t p. inl (c.link.ensures.same_given t p)
+
+pub returns-in-Err-clause-gives_nothing : goal.returns-in-Err-clause-gives_nothing
+returns-in-Err-clause-gives_nothing g c = λ t.
+    let opened = c.in-Ok-link.ensures in
+    let end = c.in-Ok-link.outbound in
+    let is_open : g.W.Links.opened c.done_in.new.self (g.W.Out.LinkOut.port end) ≡ true =
+    c.done_in.ensures.same_opened t (g.W.Out.LinkOut.port end) ∙ (ap (g.W.Links.opened c.link.new.self) opened.ports.1 ∙ opened.opens t) in
+    nothing_more (g.W.Out.LinkOut.port end) (g.W.Links.given_at c.args.world.now) (g.W.Links.given_at c.done_in.new.self) (g.W.Links.given_at c.done_out.new.self)
+    (c.done_out.ensures.stored t is_open ∙ opened.none.1) (c.done_out.ensures.other_given t) (λ p. inl (c.done_in.ensures.same_given t p ∙ c.link.ensures.same_given t p))

@@ -1,10 +1,11 @@
-use Rattle.std.proofs.Common.{◌≤◌, ◌+◌, List, length, refl, ap, subst, sym, ◌∙◌, arith}
+use Rattle.std.proofs.Common.{◌≤◌, ◌+◌, List, length, inl, refl, ap, subst, sym, ◌∙◌, arith}
 use Rattle.std.specs.Vec.{vec_capacity}
 use Rattle.std.proofs.lemmas.List.{length_push}
 use Rattle.live_leg.specs.declared.legs.LinkLeg.{LinkLeg}
 use Rattle.conference.specs.Conferences.{conf_of}
 use Rattle.live_run.specs.Opened.{OpenEnds, OpenLegs}
-use Rattle.live_run.proofs.Linking.{ends_calm, ends_more, legs_calm, legs_more, no_ends, no_legs, not_opened, open_below}
+use Rattle.live_run.proofs.Closing.{nothing_then}
+use Rattle.live_run.proofs.Linking.{ends_calm, ends_empty, ends_more, leads_all, leads_more, leads_none, leads_some, legs_calm, legs_more, no_ends, no_legs, not_opened, open_below}
 use Rattle.live_run.proofs.opening.open_links.Goals as goal
 
 pub loop-own-init : goal.loop-own-init
@@ -23,8 +24,11 @@ loop-own-init g c =
       open_legs = no_legs g.W.In.LinkIn g.W.Links.tells conf (g.W.Links.opened c.args.world.now) c.in-Ok.opened.legs.items made.no_leg;
       open_ends = no_ends g.W.Out.LinkOut g.W.Links.tells conf c.in-Ok.opened.ends.items made.no_end;
       same_own = λ p. refl;
+      leads = λ t. leads_none conf (g.W.Links.leads c.args.world.now);
       pauses = refl;
+      moment = refl;
       same_objects = λ p. refl;
+      same_given = λ t p. refl;
     }
 
 pub loop-own-preserved : goal.loop-own-preserved
@@ -46,8 +50,11 @@ loop-own-preserved g c =
       open_ends = subst (λ (xs : List g.row.W-Out.Denot). OpenEnds g.W.Out.LinkOut g.W.Links.tells conf xs) (sym ends)
           (ends_more g.W.Out.LinkOut g.W.Links.tells conf c.loop-own.ends.items c.in-Ok-open_link.end c.loop-own.own i.ends i.open_ends made.end);
       same_own = λ p. made.calm p ∙ i.same_own p;
+      leads = λ t. leads_more conf (g.W.Links.leads c.args.world.now) (g.W.Links.leads c.loop-own.world) (g.W.Links.leads c.open_link.new.world) c.loop-own.own (omega (arith, c.loop-own-test.true)) (i.leads t) (made.leads_there t);
       pauses = made.same_pauses ∙ i.pauses;
+      moment = made.same_moment ∙ i.moment;
       same_objects = λ p. c.open_link.ensures.same_objects p ∙ i.same_objects p;
+      same_given = λ t p. made.same_given t p ∙ i.same_given t p;
     }
 
 pub returns-in-Err-clause-refused : goal.returns-in-Err-clause-refused
@@ -81,3 +88,34 @@ returns-in-Err-clause-same_objects g c =
 
 pub returns-clause-own_never_falls : goal.returns-clause-own_never_falls
 returns-clause-own_never_falls g c = λ p. let same = c.loop-own.invariant.same_own p in omega (arith, same)
+
+pub returns-in_default-clause-leads_some : goal.returns-in_default-clause-leads_some
+returns-in_default-clause-leads_some g c = λ t. (0, leads_none (conf_of c.args.conf.now) (g.W.Links.leads c.args.world.now))
+
+pub returns-in-Err-clause-leads_some : goal.returns-in-Err-clause-leads_some
+returns-in-Err-clause-leads_some g c = λ t.
+    let i = c.loop-own.invariant in
+    let s = leads_some (conf_of c.args.conf.now) (g.W.Links.leads c.args.world.now) (g.W.Links.leads c.loop-own.world) (g.W.Links.leads c.open_link.new.world) c.loop-own.own (omega (arith, c.loop-own-test.true)) (i.leads t) (c.in-Err.ensures.leads_nowhere_else t) in
+    (s.0, c.close_ends.ensures.same_leads t ∙ (c.close_legs.ensures.same_leads t ∙ s.1))
+
+pub returns-clause-leads_all : goal.returns-clause-leads_all
+returns-clause-leads_all g c = λ t. leads_all (conf_of c.args.conf.now) (g.W.Links.leads c.args.world.now) (g.W.Links.leads c.loop-own.world) c.loop-own.own (omega (arith, c.loop-own-test.false, c.loop-own.auto.own-end)) (c.loop-own.invariant.leads t)
+
+pub returns-in_default-clause-gives_nothing : goal.returns-in_default-clause-gives_nothing
+returns-in_default-clause-gives_nothing g c = λ t p. inl refl
+
+pub returns-in-Err-clause-gives_nothing : goal.returns-in-Err-clause-gives_nothing
+returns-in-Err-clause-gives_nothing g c = λ t.
+    let i = c.loop-own.invariant in
+    let conf = conf_of c.args.conf.now in
+    let own = c.loop-own.own in
+    let given = g.W.Links.given_at in
+    let few : own ≤ length conf.legs = omega (arith, c.loop-own-test.true) in
+    let empty = ends_empty g.W.Out.LinkOut g.W.Links.tells conf (g.W.Links.opened c.close_legs.new.world) c.loop-own.ends.items own i.ends few i.open_ends
+    (λ j line p low at there. c.close_legs.ensures.same_opened t p
+    ∙ c.open_link.ensures.stay_opened t p (open_below g.W.In.LinkIn g.W.Links.tells conf (g.W.Links.opened c.loop-own.world) c.loop-own.legs.items own i.legs i.open_legs t j line p low at there)) in
+    nothing_then (given c.args.world.now) (given c.close_legs.new.world) (given c.close_ends.new.world)
+    (nothing_then (given c.args.world.now) (given c.open_link.new.world) (given c.close_legs.new.world)
+    (nothing_then (given c.args.world.now) (given c.loop-own.world) (given c.open_link.new.world) (λ p. inl (i.same_given t p)) (c.in-Err.ensures.gives_nothing t))
+    (λ p. inl (c.close_legs.ensures.same_given t p)))
+    (c.close_ends.ensures.empty t empty)

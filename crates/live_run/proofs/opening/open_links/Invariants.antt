@@ -1,7 +1,7 @@
 use Rattle.std.proofs.Common.{◌≡◌, ◌≤◌, ℕ, length}
 use Rattle.std.specs.Vec.{vec_len, vec_capacity}
 use Rattle.conference.specs.Conferences.{conf_of}
-use Rattle.live_run.specs.Opened.{OpenEnds, OpenLegs}
+use Rattle.live_run.specs.Opened.{LeadsFirst, OpenEnds, OpenLegs}
 use Rattle.live_run.proofs.opening.open_links.Given as goal
 
 abbrev pub invariant-loop-own : goal.invariant-loop-own
@@ -15,6 +15,9 @@ invariant-loop-own g l = record {
   open_legs : OpenLegs g.W.In.LinkIn g.W.Links.tells (g.W.Links.opened l.world) (conf_of l.fn.conf) l.legs.items;
   open_ends : OpenEnds g.W.Out.LinkOut g.W.Links.tells (conf_of l.fn.conf) l.ends.items;
   same_own : (p : ℕ) → g.W.Links.own_faults l.world p ≡ g.W.Links.own_faults l.fn.world p;
+  leads : g.W.Links.tells → LeadsFirst l.own (conf_of l.fn.conf) (g.W.Links.leads l.fn.world) (g.W.Links.leads l.world);
   pauses : g.W.Links.pauses l.world ≡ g.W.Links.pauses l.fn.world;
+  moment : g.W.Links.moment l.world ≡ g.W.Links.moment l.fn.world;
   same_objects : (p : ℕ) → g.W.Links.object_faults l.world p ≡ g.W.Links.object_faults l.fn.world p;
+  same_given : g.W.Links.tells → (p : ℕ) → g.W.Links.given_at l.world p ≡ g.W.Links.given_at l.fn.world p;
 }

@@ -66,5 +66,6 @@ returns g c =
       faulted = were.faulted;
       failed = all_failed g.L.LinkIn g.M.Mixes.stands job.turns ran.result lanes ps ran.new.ports job.mixer ran.new.mixer ports (none_popped g.L.LinkIn g.M.Mixes.stands job.legs.items lanes started) were;
       stopped = ran.ensures.unsent;
+      paced = ran.ensures.paced;
       paused = ran.ensures.pauses;
     }

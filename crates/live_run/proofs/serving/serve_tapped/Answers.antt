@@ -1,6 +1,7 @@
-use Rattle.std.proofs.Common.{◌∙◌, sym, arith}
+use Rattle.std.proofs.Common.{◌∙◌, inl, refl, ℕ, subst, sym, arith}
 use Rattle.conference.specs.Conferences.{conf_of}
-use Rattle.live_run.proofs.Returning.{given_up_by, served_by, was_not_opened}
+use Rattle.live_loop.specs.Clocks.{IsPaced}
+use Rattle.live_run.proofs.Returning.{broke_off_by, done_turned, gave_nothing, given_up_by, served_by, was_not_opened}
 use Rattle.live_run.proofs.serving.serve_tapped.Goals as goal
 
 pub returns-in-Err-clause-given_up : goal.returns-in-Err-clause-given_up
@@ -24,3 +25,29 @@ returns-in-Ok-printed-clause-objects_never_fall g c = λ p. omega (arith, c.call
 
 pub returns-in-Err-printed-clause-objects_never_fall : goal.returns-in-Err-printed-clause-objects_never_fall
 returns-in-Err-printed-clause-objects_never_fall g c = λ p. omega (arith, c.call-turned.ensures.same_objects p, c.open_links.ensures.same_objects p, c.close_legs.ensures.objects_never_fall p, c.close_ends.ensures.objects_never_fall p)
+
+pub returns-in-Ok-printed-clause-paced : goal.returns-in-Ok-printed-clause-paced
+returns-in-Ok-printed-clause-paced g c = λ t done.
+    let turns = c.args.conf.now.turns in
+    let tick = c.args.conf.now.tick in
+    subst (λ (m : ℕ). IsPaced turns tick m (g.W.Links.moment c.close_ends.new.world)) c.in-Ok-open_links.ensures.same_moment
+    (subst (λ (m : ℕ). IsPaced turns tick (g.W.Links.moment c.open_links.new.world) m) (sym (c.close_ends.ensures.same_moment ∙ c.close_legs.ensures.same_moment))
+    (c.call-turned.ensures.paced t (done_turned c.call-turned.result.turned c.in-Ok-answer_of.end (sym c.in-Ok-answer_of.ensures) done)))
+
+pub returns-in_default-clause-broke_off : goal.returns-in_default-clause-broke_off
+returns-in_default-clause-broke_off g c =
+    gave_nothing g.W.Links.tells (g.W.Links.given_at c.args.world.now) (g.W.Links.given_at c.args.world.now) (g.W.Links.taken_at c.args.world.now) (conf_of c.args.conf.now) (λ t p. inl refl)
+
+pub returns-in-Err-clause-broke_off : goal.returns-in-Err-clause-broke_off
+returns-in-Err-clause-broke_off g c =
+    gave_nothing g.W.Links.tells (g.W.Links.given_at c.args.world.now) (g.W.Links.given_at c.open_links.new.world) (g.W.Links.taken_at c.open_links.new.world) (conf_of c.args.conf.now) c.in-Err.ensures.gives_nothing
+
+pub returns-in-Err-answer_of-clause-broke_off : goal.returns-in-Err-answer_of-clause-broke_off
+returns-in-Err-answer_of-clause-broke_off g c =
+    broke_off_by g.W.In.LinkIn g.W.Out.LinkOut (g.T.Tap.stands c.call-turned.result.tap) g.W.Links.tells (conf_of c.args.conf.now) (g.W.Links.opened c.call-turned.new.world) c.call-turned.result c.call-turned.ensures.called c.requires.links (g.W.Links.opened c.close_legs.new.world) (g.W.Links.taken_at c.close_legs.new.world) (g.W.Links.taken_at c.close_ends.new.world) (g.W.Links.given_at c.close_ends.new.world)
+    c.close_legs.ensures.stored c.close_ends.ensures.same_taken c.close_legs.ensures.same_opened c.close_ends.ensures.stored (g.W.Links.given_at c.args.world.now)
+
+pub returns-in-Err-printed-clause-broke_off : goal.returns-in-Err-printed-clause-broke_off
+returns-in-Err-printed-clause-broke_off g c =
+    broke_off_by g.W.In.LinkIn g.W.Out.LinkOut (g.T.Tap.stands c.call-turned.result.tap) g.W.Links.tells (conf_of c.args.conf.now) (g.W.Links.opened c.call-turned.new.world) c.call-turned.result c.call-turned.ensures.called c.requires.links (g.W.Links.opened c.close_legs.new.world) (g.W.Links.taken_at c.close_legs.new.world) (g.W.Links.taken_at c.close_ends.new.world) (g.W.Links.given_at c.close_ends.new.world)
+    c.close_legs.ensures.stored c.close_ends.ensures.same_taken c.close_legs.ensures.same_opened c.close_ends.ensures.stored (g.W.Links.given_at c.args.world.now)

@@ -1,6 +1,6 @@
 use Rattle.std.proofs.Common.{◌∙◌, ℕ, List, subst, sym}
 use Rattle.mixer_turn.specs.Posts.{IsPost}
-use Rattle.mixer_posts.proofs.Posting.{is_post, taken_more}
+use Rattle.mixer_posts.proofs.Posting.{halted_in, is_post, taken_more}
 use Rattle.mixer_posts.proofs.sending.send_posts.Goals as goal
 
 pub send-requires-clause-post : goal.send-requires-clause-post
@@ -17,3 +17,8 @@ loop-post-preserved g c =
       taken = taken_more g.O.Outbound.took c.args.now c.args.posts.now c.args.outbound.now c.loop-post.outbound c.send.new.self c.loop-post.post-index c.post-item.result c.loop-post-test.true c.post-item.is
           i.taken c.in-Ok.ensures.took;
     }
+
+pub returns-in-Err-clause-halted : goal.returns-in-Err-clause-halted
+returns-in-Err-clause-halted g c =
+    halted_in g.O.Outbound.took g.O.Outbound.halted c.args.now c.args.posts.now c.args.outbound.now c.loop-post.outbound c.send.new.self c.loop-post.post-index c.post-item.result c.loop-post-test.true c.post-item.is
+    c.loop-post.invariant.taken c.in-Err.ensures.halted

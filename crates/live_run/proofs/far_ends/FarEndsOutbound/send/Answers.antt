@@ -2,7 +2,7 @@ use Rattle.std.proofs.Common.{◌∙◌, ◌∷◌, ◌++◌, ℕ, List, [], ap,
 use Rattle.std.proofs.lemmas.List.{length-map}
 use Rattle.live_run.specs.Ends.{count_sources}
 use Rattle.live_run.specs.Listeners.{HearsNext}
-use Rattle.live_run.proofs.Giving.{got, same_numbers, sent_one, set_long, writes_into}
+use Rattle.live_run.proofs.Giving.{cut_one, got, same_numbers, sent_one, set_long, unheard_one, writes_into}
 use Rattle.live_run.proofs.far_ends.FarEndsOutbound.send.Goals as goal
 
 pub returns-in-Ok-hear-clause-took : goal.returns-in-Ok-hear-clause-took
@@ -52,3 +52,46 @@ returns-in-Err-clause-sources g c = same_numbers count_sources c.args.self.now.o
 
 pub returns-in-Err-clause-addresses : goal.returns-in-Err-clause-addresses
 returns-in-Err-clause-addresses g c = same_numbers g.O.LinkOut.port c.args.self.now.links.items c.args.post.now.terminal c.index_mut-link.result.now c.give.new.self c.index_mut-link.result.now c.index_mut-link.ensures.value c.give.ensures.same_port
+
+pub returns-in_default-give-clause-halted : goal.returns-in_default-give-clause-halted
+returns-in_default-give-clause-halted g c = λ s pts sent next w.
+    let ends = c.args.self.now in
+    let p = c.args.post.now in
+    let k = p.terminal in
+    let gl = g.O.LinkOut in
+    let many = length-map ends.outputs.items count_sources in
+    let low = c.requires.post.below in
+    let wrote = ends.wrote in
+    let links = w.many in
+    let link = c.index_mut-link.result.now in
+    record {
+      many = set_long ends.links.items k c.give.new.self ∙ links;
+      each = cut_one gl.tells gl.given gl.faults ends.outputs.items ends.links.items ends.listeners.items s c.args._now p c.give.new.self sent
+          link (got ends.links.items k link link (omega (arith, low, many, wrote)) c.index_mut-link.ensures.value)
+          pts c.in_default-give.ensures.unchanged w.each;
+    }
+
+pub returns-in-Err-clause-halted : goal.returns-in-Err-clause-halted
+returns-in-Err-clause-halted g c = λ s pts sent next w.
+    let ends = c.args.self.now in
+    let p = c.args.post.now in
+    let k = p.terminal in
+    let gl = g.O.LinkOut in
+    let many = length-map ends.outputs.items count_sources in
+    let low = c.requires.post.below in
+    let wrote = ends.wrote in
+    let links = w.many in
+    let o = c.index_mut-output.result.now in
+    let link = c.index_mut-link.result.now in
+    let octets = c.packet.new.out in
+    record {
+      many = set_long ends.links.items k c.give.new.self ∙ links;
+      each = unheard_one gl.tells gl.given gl.faults ends.outputs.items ends.links.items ends.listeners.items s c.args._now p c.give.new.self sent
+          link (got ends.links.items k link link (omega (arith, low, many, wrote)) c.index_mut-link.ensures.value)
+          o c.packet.new.self octets
+          (got ends.outputs.items k o o (omega (arith, low, many)) c.index_mut-output.ensures.value)
+          (writes_into o c.packet.new.self p c.as_slice-text.result.now c.clear.new.self octets c.as_slice-text.ensures.value c.clear.ensures
+          (λ conf sources past h n. (c.in-Ok.ensures.packet conf sources past h n).ok) c.in-Ok.ensures.stands)
+          (λ t. c.in-Ok-give.ensures.appended t ∙ ap (λ (q : List ℕ). gl.given link ++ q ∷ []) c.as_slice.ensures.value)
+          pts (omega (arith, low, many, wrote, links)) next w.each;
+    }

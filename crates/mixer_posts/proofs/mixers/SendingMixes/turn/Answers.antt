@@ -1,14 +1,14 @@
 use Rattle.std.proofs.Common.{◌≡◌, ℕ, List, ap, ◌∙◌, subst, sym, arith}
-use Rattle.std.specs.Prelude.{OnOk}
+use Rattle.std.specs.Prelude.{OnErr, OnOk}
 use Rattle.mixer_spec.specs.Table.{after_calls}
-use Rattle.mix_loop.specs.Mixers.{Turns}
+use Rattle.mix_loop.specs.Mixers.{Halts, Turns}
 use Rattle.mixer_turn.specs.declared.batches.Post.{Post}
 use Rattle.mixer_turn.specs.Posts.{ArePosts}
 use Rattle.mixer_turn.specs.States.{sources_of}
 use Rattle.mixer_turn.specs.Turns.{HasBatch}
 use Rattle.mixer_posts.specs.States.{SendingState}
-use Rattle.mixer_posts.specs.Standing.{SendsFor}
-use Rattle.mixer_posts.proofs.Calling.{on_ok, turn_sent}
+use Rattle.mixer_posts.specs.Standing.{HaltsFor, SendsFor}
+use Rattle.mixer_posts.proofs.Calling.{on_err, on_ok, turn_halted, turn_sent}
 use Rattle.mixer_posts.proofs.mixers.SendingMixes.turn.Goals as goal
 
 pub turn-requires-clause-moment : goal.turn-requires-clause-moment
@@ -34,3 +34,13 @@ returns-clause-turned g c =
     (λ takes. turn_sent g.O.Outbound.took g.O.Outbound.sources g.O.Outbound.horizon c.args.now old new c.posts.result.now c.requires.now c.turn.ensures.stands (omega (arith, few, c.requires.few))
     (λ s calls h. subst (λ (posts : List Post). HasBatch s c.args.now (after_calls s calls) posts) (sym c.posts.ensures) (c.turn.ensures.batch s calls h)) takes c.send_posts.ensures.sources)
     c.send_posts.ensures.took)
+
+pub returns-clause-halted : goal.returns-clause-halted
+returns-clause-halted g c =
+    let old : SendingState g.row.O.Denot = record { mixer = c.self.inside.mixer; outbound = c.self.inside.outbound } in
+    let new : SendingState g.row.O.Denot = record { mixer = c.turn.new.self; outbound = c.send_posts.new.outbound } in
+    subst (λ (m : SendingState g.row.O.Denot). OnErr c.send_posts.result (Halts (SendsFor g.O.Outbound.took g.O.Outbound.sources g.O.Outbound.horizon) (HaltsFor g.O.Outbound.halted) m new c.args.now)) c.self.view_is
+    (on_err c.send_posts.result _ _
+    (λ takes. turn_halted g.O.Outbound.took g.O.Outbound.halted g.O.Outbound.sources g.O.Outbound.horizon c.args.now old new c.posts.result.now c.turn.ensures.stands
+    (λ s calls h. subst (λ (posts : List Post). HasBatch s c.args.now (after_calls s calls) posts) (sym c.posts.ensures) (c.turn.ensures.batch s calls h)) takes)
+    c.send_posts.ensures.halted)
