@@ -1,13 +1,15 @@
--- A sheet of which nothing came, and a sheet after a change.
-use Rattle.std.proofs.Common.{◌≡◌, ◌≢◌, ◌≤◌, ◌<◌, ◌^◌, ◌⊎◌, ℕ, zero, suc, ◌+◌, Bool, true, false, Option, Some, None, List, [], ◌∷◌, ◌++◌, length, set, get_or, refl, sym, ap, ◌∙◌, subst, inl, inr, arith, length-append}
-use Rattle.std.specs.Prelude.{slice_get, slice_set, nat_lt}
-use Rattle.std.proofs.lemmas.Option.{slice_get-get_or, get_or_from_slice_get}
+-- A sheet of which nothing came, and a sheet after changes.
+use Rattle.std.proofs.Common.{◌≡◌, ◌≢◌, ◌≤◌, ◌<◌, ℕ, zero, suc, ◌+◌, Bool, true, false, Option, Some, None, List, [], ◌∷◌, ◌++◌, length, set, get_or, refl, sym, ap, ◌∙◌, subst, arith, length-append, append_assoc, append-nil, if◌then◌else◌, eq-eqb, ne_eqb}
+use Rattle.std.specs.Prelude.{slice_get, nat_lt}
 use Rattle.std.proofs.lemmas.List.{length-set}
-use native.Mathlib.Decide.{ℕ_discrete}
+use Rattle.std.proofs.lemmas.Bool.{ltb-false}
+use Rattle.std.proofs.lemmas.List.Sums.{sum_by-append}
+use native.Mathlib.Decide.{ℕ_discrete, dec_le}
 use Rattle.rtt_base.specs.declared.records.Chunk.{Chunk}
-use Rattle.board_spec.specs.Folds.{Shown, text_of, tail_of, shown_of, fold_of}
+use Rattle.board_spec.specs.Folds.{Shown, octets_in, text_of, fold_of}
 use Rattle.board_spec.proofs.Folding.{fold_here, fold_elsewhere}
-use Rattle.live_board.specs.Sheets.{IsSheetOf}
+use Rattle.live_board.specs.Histories.{octets_of}
+use Rattle.live_board.specs.Sheets.{IsSheetOf, grown, grown_or_same, put, added, added_all}
 
 get_set_same : {X : Type 0} (xs : List X) (i : ℕ) (x : X) → i < length xs → slice_get (set xs i x) i ≡ Some x
 get_set_same [] i x h = absurd (omega arith)
@@ -32,6 +34,11 @@ get_last [] x (suc j) e = absurd (omega arith)
 get_last (y ∷ ys) x zero e = absurd (omega arith)
 get_last (y ∷ ys) x (suc j) e = get_last ys x j (omega arith)
 
+pub get_outside : {X : Type 0} (xs : List X) (j : ℕ) → length xs ≤ j → slice_get xs j ≡ None
+get_outside [] j h = refl
+get_outside (y ∷ ys) zero h = absurd (omega arith)
+get_outside (y ∷ ys) (suc j) h = get_outside ys j (omega arith)
+
 -- a sheet of no leg
 pub no_leg : IsSheetOf 0 [] []
 no_leg = record { wide = refl; shows = λ leg h. absurd (omega arith) }
@@ -47,24 +54,18 @@ leg_more legs sheet t is blank = record {
 }
 
 -- a change of no leg
-pub add_nowhere : (c : Chunk) (old : List Shown) → length old ≤ c.source → (legs : ℕ) (changes : List Chunk) → IsSheetOf legs changes old → IsSheetOf legs (changes ++ c ∷ []) old
+add_nowhere : (c : Chunk) (old : List Shown) → length old ≤ c.source → (legs : ℕ) (changes : List Chunk) → IsSheetOf legs changes old → IsSheetOf legs (changes ++ c ∷ []) old
 add_nowhere c old past legs changes is = record {
   wide = is.wide;
   shows = λ leg h. is.shows leg h ∙ ap Some (sym (fold_elsewhere leg changes c (λ e. let w = is.wide in absurd (omega (arith, h, e, w, past)))));
 }
 
--- what the leg of a change showed before it
-here_before : (c : Chunk) (old : List Shown) (t : Shown) → c.source < length old → t ≡ get_or old c.source t → (legs : ℕ) (changes : List Chunk) → IsSheetOf legs changes old → t ≡ fold_of c.source changes
-here_before c old t within read legs changes is = read ∙ get_or_from_slice_get old c.source (fold_of c.source changes) t (is.shows c.source (let w = is.wide in omega (arith, w, within)))
-
 -- a change of a leg
-pub add_here : (c : Chunk) (old : List Shown) (t u : Shown) → c.source < length old → t ≡ get_or old c.source t → u.total ≡ t.total + length c.text → u.last ≡ tail_of (t.last ++ c.text)
-    → (legs : ℕ) (changes : List Chunk) → IsSheetOf legs changes old → IsSheetOf legs (changes ++ c ∷ []) (set old c.source u)
-add_here c old t u within read total last legs changes is =
-    let was : t ≡ fold_of c.source changes = here_before c old t within read legs changes is in
-    let one : u ≡ record { total = t.total + length c.text; last = tail_of (t.last ++ c.text) } = λ i. record { total = total i; last = last i } in
-    let now : u ≡ fold_of c.source (changes ++ c ∷ []) =
-    one ∙ ap (λ (s : Shown). let r : Shown = record { total = s.total + length c.text; last = tail_of (s.last ++ c.text) } in r) was ∙ sym (fold_here changes c) in
+add_here : (c : Chunk) (old : List Shown) → c.source < length old → (legs : ℕ) (changes : List Chunk) → IsSheetOf legs changes old
+    → IsSheetOf legs (changes ++ c ∷ []) (set old c.source (grown (fold_of c.source changes) c.text))
+add_here c old within legs changes is =
+    let u : Shown = grown (fold_of c.source changes) c.text in
+    let now : u ≡ fold_of c.source (changes ++ c ∷ []) = sym (fold_here changes c) in
     record {
       wide = length-set old c.source u ∙ is.wide;
       shows = λ leg h. elim (ℕ_discrete c.source leg) as (λ _. slice_get (set old c.source u) leg ≡ Some (fold_of leg (changes ++ c ∷ []))) [
@@ -73,10 +74,75 @@ add_here c old t u within read total last legs changes is =
       ];
     }
 
--- where the leg of a change has no room for it, its octets cannot be counted
-pub no_room : (c : Chunk) (old : List Shown) (t : Shown) → c.source < length old → t ≡ get_or old c.source t → 18446744073709551616 ≤ t.total + length c.text
-    → (legs : ℕ) (changes : List Chunk) → IsSheetOf legs changes old → 18446744073709551616 ≤ length (text_of c.source (changes ++ c ∷ []))
-no_room c old t within read full legs changes is =
-    let was : t.total ≡ length (text_of c.source changes) = ap (λ (s : Shown). s.total) (here_before c old t within read legs changes is) in
-    let now : length (text_of c.source (changes ++ c ∷ [])) ≡ length (text_of c.source changes) + length c.text = ap (λ (s : Shown). s.total) (fold_here changes c) in
-    omega (arith, was, now, full)
+octets_in_few : (leg : ℕ) (c : Chunk) → length (octets_in leg c) ≤ length c.text
+octets_in_few leg c = elim (ℕ_discrete c.source leg) as (λ _. length (octets_in leg c) ≤ length c.text) [
+  | yes e ↦ let same : length (octets_in leg c) ≡ length c.text = ap (λ b. length (if b then c.text else [])) (eq-eqb c.source leg e) in omega (arith, same)
+  | no n ↦ let none : length (octets_in leg c) ≡ 0 = ap (λ b. length (if b then c.text else [])) (ne_eqb c.source leg n) in omega (arith, none)
+]
+
+-- a leg has no more octets than all
+pub text_few : (leg : ℕ) (changes : List Chunk) → length (text_of leg changes) ≤ octets_of changes
+text_few leg [] = omega arith
+text_few leg (c ∷ cs) =
+    let l = length-append (octets_in leg c) (text_of leg cs) in
+    let a = octets_in_few leg c in
+    let b = text_few leg cs in
+    let whole : length (text_of leg (c ∷ cs)) ≡ length (octets_in leg c ++ text_of leg cs) = refl in
+    let all : octets_of (c ∷ cs) ≡ octets_of (c ∷ []) + octets_of cs = sum_by-append (λ (x : Chunk). length x.text) (c ∷ []) cs in
+    let one : octets_of (c ∷ []) ≡ 0 + length c.text = refl in
+    omega (arith, whole, all, one, l, a, b)
+
+-- what can be counted is shown
+one_more : (legs : ℕ) (changes : List Chunk) (c : Chunk) (sheet : List Shown) → IsSheetOf legs changes sheet → octets_of (changes ++ c ∷ []) < 18446744073709551616
+    → IsSheetOf legs (changes ++ c ∷ []) (added sheet c)
+one_more legs changes c sheet is fits = elim (dec_le (length sheet) c.source) as (λ _. IsSheetOf legs (changes ++ c ∷ []) (added sheet c)) [
+  | yes past ↦ subst (λ (o : Option Shown). IsSheetOf legs (changes ++ c ∷ []) (put sheet c o)) (sym (get_outside sheet c.source past)) (add_nowhere c sheet past legs changes is)
+  | no inside ↦
+      let w = is.wide in
+      let within : c.source < length sheet = omega (arith, inside) in
+      let t : Shown = fold_of c.source changes in
+      let there : slice_get sheet c.source ≡ Some t = is.shows c.source (omega (arith, within, w)) in
+      let all : length (text_of c.source (changes ++ c ∷ [])) ≡ t.total + length c.text = ap (λ (s : Shown). s.total) (fold_here changes c) in
+      let few = text_few c.source (changes ++ c ∷ []) in
+      let below : t.total + length c.text < 18446744073709551616 = omega (arith, all, few, fits) in
+      let counted : nat_lt (t.total + length c.text) 18446744073709551616 ≡ true = is_below _ _ below in
+      let same : grown_or_same t c.text ≡ grown t c.text = ap (λ b. if b then grown t c.text else t) counted in
+      subst (λ (o : Option Shown). IsSheetOf legs (changes ++ c ∷ []) (put sheet c o)) (sym there)
+      (subst (λ (u : Shown). IsSheetOf legs (changes ++ c ∷ []) (set sheet c.source u)) (sym same) (add_here c sheet within legs changes is))
+]
+  where
+    go : (a b : ℕ) → a < b → (t : Bool) → nat_lt a b ≡ t → nat_lt a b ≡ true
+    go a b h true e = e
+    go a b h false e = absurd (let l = ltb-false a b e in omega (arith, l, h))
+
+    is_below : (a b : ℕ) → a < b → nat_lt a b ≡ true
+    is_below a b h = go a b h (nat_lt a b) refl
+
+-- changes that can be counted are shown
+pub all_more : (legs : ℕ) (changes more : List Chunk) (sheet : List Shown) → IsSheetOf legs changes sheet → octets_of (changes ++ more) < 18446744073709551616
+    → IsSheetOf legs (changes ++ more) (added_all sheet more)
+all_more legs changes [] sheet is fits = subst (λ (l : List Chunk). IsSheetOf legs l sheet) (sym (append-nil changes)) is
+all_more legs changes (c ∷ cs) sheet is fits =
+    let moved : (changes ++ c ∷ []) ++ cs ≡ changes ++ c ∷ cs = append_assoc changes (c ∷ []) cs in
+    let all : octets_of ((changes ++ c ∷ []) ++ cs) < 18446744073709551616 = subst (λ (l : List Chunk). octets_of l < 18446744073709551616) (sym moved) fits in
+    let split = sum_by-append (λ (x : Chunk). length x.text) (changes ++ c ∷ []) cs in
+    let one : octets_of (changes ++ c ∷ []) < 18446744073709551616 = omega (arith, split, all) in
+    subst (λ (l : List Chunk). IsSheetOf legs l (added_all sheet (c ∷ cs))) moved (all_more legs (changes ++ c ∷ []) cs (added sheet c) (one_more legs changes c sheet is one) all)
+
+get_inside : {X : Type 0} (xs : List X) (i : ℕ) (d : X) → i < length xs → slice_get xs i ≡ Some (get_or xs i d)
+get_inside [] i d h = absurd (omega arith)
+get_inside (x ∷ xs) zero d h = refl
+get_inside (x ∷ xs) (suc i) d h = get_inside xs i d (omega arith)
+
+set_back : {X : Type 0} (xs : List X) (i : ℕ) (d : X) → set xs i (get_or xs i d) ≡ xs
+set_back [] i d = refl
+set_back (x ∷ xs) zero d = refl
+set_back (x ∷ xs) (suc i) d = ap (λ l. x ∷ l) (set_back xs i d)
+
+-- a change that cannot be counted
+pub add_full : (sheet : List Shown) (c : Chunk) (t : Shown) → c.source < length sheet → t ≡ get_or sheet c.source t → nat_lt (t.total + length c.text) 18446744073709551616 ≡ false → sheet ≡ added sheet c
+add_full sheet c t within read full =
+    let there : slice_get sheet c.source ≡ Some t = get_inside sheet c.source t within ∙ ap Some (sym read) in
+    let same : grown_or_same t c.text ≡ t = ap (λ b. if b then grown t c.text else t) full in
+    let back : set sheet c.source t ≡ sheet = ap (λ (u : Shown). set sheet c.source u) read ∙ set_back sheet c.source t in
+    sym (ap (λ (o : Option Shown). put sheet c o) there ∙ (ap (λ (u : Shown). set sheet c.source u) same ∙ back))

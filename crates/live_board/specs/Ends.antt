@@ -1,57 +1,41 @@
 -- What the parts of an end of a board are.
-use Rattle.std.specs.Prelude.{◌≡◌, ℕ, ◌<◌, Bool, false, List, [], ◌∷◌, ◌++◌, length}
+use Rattle.std.specs.Prelude.{◌≡◌, ℕ, ◌++◌, true, false, List, [], ◌∷◌}
 use Rattle.rtt_base.specs.declared.records.Chunk.{Chunk}
-use Rattle.atomic_table.specs.Table.{Me}
-use Rattle.atomic_table.specs.Seated.{TableId}
-use Rattle.board_spec.specs.Folds.{Shown}
+use Rattle.logbook.specs.Pages.{Named}
+use Rattle.live_board.specs.declared.pages.Page.{Page}
+use Rattle.live_board.specs.declared.pages.Publish.{Publish}
 use Rattle.live_board.specs.declared.rule.View.{View}
-use Rattle.live_board.specs.Sheets.{IsSheetOf}
-use Rattle.live_board.specs.Views.{writer, reader, looked, settled, Follows}
+use Rattle.live_board.specs.Histories.{changes_of, ended_in, octets_of, head_of}
+use Rattle.live_board.specs.Pages.{IsGood, IsNext, published}
+use Rattle.live_board.specs.Rule.{Knows, view_of}
 
--- the table with this identity and this key is the one of a seat, has one word and three places, and is of so many legs
-pub record IsOn (table : TableId) (key : ℕ) (seat : TableId) (legs : ℕ) : Type 0 where
-  pub same : seat ≡ table
-  pub words : table.words ≡ 1
-  pub places : table.slots ≡ 3
-  pub counted : key ≡ legs
+-- a reader knows the board of the page that it keeps
+pub record IsReading (v : View) (page : Page) : Type 0 where
+  pub known : v.known ≡ true
+  pub board : Knows page v
+  pub good : IsGood page
 
--- the copy at this place, of so many legs, is held
-abbrev pub HoldsWide : List (ℕ × List Shown) → ℕ → ℕ → Type 0
-HoldsWide held place legs = (sheet : List Shown) × (held ≡ (place, sheet) ∷ []) × (length sheet ≡ legs)
+-- the page that is shown is good, and nothing waits but what is counted
+pub record IsWriting (shown : Page) (waits : List Publish) (word : Named) (pending : List Chunk) (octets : ℕ) : Type 0 where
+  pub good : IsGood shown
+  pub none : waits ≡ []
+  pub word_is : word ≡ head_of shown.seen.book
+  pub counted : octets ≡ octets_of (changes_of shown.seen.log ++ pending)
 
--- the copy at this place, which shows these changes, is held
-abbrev pub HoldsSheet : List (ℕ × List Shown) → ℕ → ℕ → List Chunk → Type 0
-HoldsSheet held place legs changes = (sheet : List Shown) × (held ≡ (place, sheet) ∷ []) × IsSheetOf legs changes sheet
+-- one publishing waits, which is the next of the page
+pub record CanShow (shown : Page) (waits : List Publish) : Type 0 where
+  pub good : IsGood shown
+  pub one : (p : Publish) × (waits ≡ p ∷ []) × IsNext shown p
 
--- the writer's seat holds its copy; what the writer is to publish, with what it published, is on a sheet of its own
-pub record IsWriting (me : Me (List Shown) View) (place : ℕ) (sheet : List Shown) : Type 0 where
-  pub view : me.0 ≡ writer me.0.legs false place me.0.changes me.0.pending me.0.ended
-  pub held : HoldsWide me.1 place me.0.legs
-  pub shows : IsSheetOf me.0.legs (me.0.changes ++ me.0.pending) sheet
+-- a board was laid: nothing was published and nothing waits, and its writer knows it
+pub record IsLaid (shown : Page) (waits : List Publish) (v : View) (word : Named) : Type 0 where
+  pub writing : IsWriting shown waits word [] 0
+  pub knows : v ≡ view_of shown
+  pub nothing : changes_of shown.seen.log ≡ []
+  pub going : ended_in shown.seen.log ≡ false
 
--- the reader's seat holds its copy, which shows what it has seen; it may have been told of more
-pub record IsInformed (me : Me (List Shown) View) (place : ℕ) : Type 0 where
-  pub view : me.0 ≡ record (reader me.0.legs false place me.0.changes me.0.ended) { told = me.0.told; told_end = me.0.told_end; looks = me.0.looks }
-  pub held : HoldsSheet me.1 place me.0.legs me.0.changes
-
--- the same, where it has seen all of which it was told
-pub record IsReading (me : Me (List Shown) View) (place : ℕ) : Type 0 where
-  pub view : me.0 ≡ record (reader me.0.legs false place me.0.changes me.0.ended) { looks = me.0.looks }
-  pub held : HoldsSheet me.1 place me.0.legs me.0.changes
-
--- a reader has looked, and what it has seen then follows what it knew
-pub record HasLooked (me after : Me (List Shown) View) (place : ℕ) : Type 0 where
-  pub changes : List Chunk
-  pub view : after.0 ≡ settled (looked me.0) place changes
-  pub follows : Follows me.0 changes
-  pub held : HoldsSheet after.1 place me.0.legs changes
-
--- three sheets of which nothing came
-pub record AreBlank (legs : ℕ) (sheets : List (List Shown)) : Type 0 where
-  pub first : List Shown
-  pub second : List Shown
-  pub third : List Shown
-  pub all : sheets ≡ first ∷ second ∷ third ∷ []
-  pub first_blank : IsSheetOf legs [] first
-  pub second_blank : IsSheetOf legs [] second
-  pub third_blank : IsSheetOf legs [] third
+-- what waited is shown
+pub record HasShown (shown : Page) (waits : List Publish) (after : Page) (left : List Publish) : Type 0 where
+  pub good : IsGood after
+  pub all : (p : Publish) → waits ≡ p ∷ [] → after ≡ published shown p
+  pub none : left ≡ []

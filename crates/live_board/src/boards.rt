@@ -1,68 +1,157 @@
 //! A new board.
-ghost use Rattle.std.specs.Prelude.{◌≡◌, ◌≤◌, false, [], IfOk};
-ghost use Rattle.std.specs.Arc.{arc_value};
+ghost use Rattle.std.specs.Prelude.{◌≡◌, ◌≤◌, ◌<◌, ◌^◌, false, [], IfOk, length, drop, replicate};
 ghost use Rattle.file_spec.specs.declared.limits.TheConstants.{FEWEST_LEGS, MOST_LINKS};
-ghost use Rattle.live_board.specs.Views.{both_ends};
-ghost use Rattle.live_board.specs.Ends.{AreBlank, IsOn};
+ghost use Rattle.left_right.specs.Sides.{view};
+ghost use Rattle.live_board.specs.Ends.{IsLaid};
+ghost use Rattle.live_board.specs.Histories.{head_of};
+ghost use Rattle.live_board.specs.Pages.{IsGood};
+ghost use Rattle.live_board.specs.Rule.{view_of};
+ghost use Rattle.live_board.specs.Views.{reading_of};
 
+use crate::held::Held;
+use crate::histories::{Fresh, Head, open};
+use crate::pages::Page;
 use crate::readers::BoardReader;
-use crate::rule::{End, Parts, Shelf};
-use crate::sheets::Sheet;
-use crate::writers::BoardWriter;
-use atomic_table::Table;
+use crate::rule::{Inner, Outer, Tells};
+use crate::writers::{BoardWriter, show};
 use file_spec::limits::{FEWEST_LEGS, MOST_LINKS};
 use rtt_base::NoMemory;
-use std::alloc::Global;
-use std::sync::Arc;
-
-/// The place of the shared copy of a new board, which is not new to its reader.
-const SHARED: u64 = 2;
+use std::alloc::{AllocError, Global};
+use std::sync::Wait;
 
 /// A board for the text of some legs: what is published at the one end is read at the other.
 pub struct Board;
 
-// One copy for the writer, one for the reader, and one to share.
-fn copies(alloc: Global, legs: usize) -> Result<Vec<Sheet>, NoMemory>
-    ensures { IfOk result (λ v. AreBlank legs v.items) }
+// Publishes nothing, once: from then on the writer knows its board, and the log of what is published has all memory that it ever
+// needs, since it keeps at most two publishings. Where there is none the writer comes back.
+fn introduce<R: Wait>(rt: &R, alloc: Global, mut outer: Outer, head: &Head) -> Result<Outer, Outer>
+    requires good { IsGood outer.desk.shown.value }
+    requires new { outer.desk.shown.value.seen.log ≡ [] }
+    requires head { head.now ≡ head_of outer.desk.shown.value.seen.book }
+    requires none { drop outer.behind outer.log.items ≡ [] }
+    ensures laid { IfOk result (λ o. IsLaid o.desk.shown.value (drop o.behind o.log.items) (view o.desk.place) head.now) }
+    ensures wide { IfOk result (λ o. length o.desk.shown.value.sheet ≡ length outer.desk.shown.value.sheet) }
 {
-    let first = Sheet::new(alloc, legs)?;
-    let second = Sheet::new(alloc, legs)?;
-    let third = Sheet::new(alloc, legs)?;
-    let mut all = Vec::with_capacity(alloc, 3)?;
-    all.push_reserved(first);
-    all.push_reserved(second);
-    all.push_reserved(third);
-    Ok(all)
+    let nothing = Fresh {
+        chunks: Vec::new(alloc),
+        ends: false,
+    };
+    let page = outer.published();
+    let publish = page.next(rt, head, nothing, 0);
+    match outer.append(publish) {
+        Ok(()) => Ok(show(outer, rt)),
+        Err(_refused) => Err(outer),
+    }
 }
 
-// The copies at their places, and a seat for both ends.
-fn lay(alloc: Global, legs: usize) -> Result<(Arc<Shelf>, End), NoMemory>
-    ensures on { IfOk result (λ s. IsOn (arc_value s.0).shared.table_id (arc_value s.0).shared.key s.1.table_id legs) }
-    ensures me { IfOk result (λ s. s.1.me ≡ (both_ends legs, [])) }
+// A board in which nothing was published, with places for so many readers.
+fn lay<R: Wait>(
+    rt: &R,
+    alloc: Global,
+    legs: usize,
+    places: usize,
+) -> Result<(Outer, Head), NoMemory>
+    requires places { (0 < places) × (places < 2 ^ 32) }
+    ensures laid { IfOk result (λ b. IsLaid b.0.desk.shown.value (drop b.0.behind b.0.log.items) (view b.0.desk.place) b.1) }
+    ensures wide { IfOk result (λ b. length b.0.desk.shown.value.sheet ≡ legs) }
 {
-    let sheets = copies(alloc, legs)?;
-    let Ok((table, seat)) = Table::new(alloc, &[SHARED], sheets, &legs) else {
+    let (head, seen) = open();
+    let first = Page::blank(alloc, legs, &seen)?;
+    let second = first.another(alloc)?;
+    let Ok(outer) = Outer::new(alloc, first, second, places) else {
         return Err(NoMemory);
     };
-    let shelf = Arc::new(alloc, table)?;
-    Ok((shelf, seat))
+    match introduce(rt, alloc, outer, &head) {
+        Ok(outer) => Ok((outer, head)),
+        Err(outer) => {
+            drop(outer.take(rt));
+            Err(NoMemory)
+        }
+    }
+}
+
+// A reader that knows what the writer knows.
+fn introduced(outer: &mut Outer) -> Result<Inner, AllocError>
+    ensures shown { outer.new.desk.shown ≡ outer.old.desk.shown }
+    ensures waits { drop outer.new.behind outer.new.log.items ≡ drop outer.old.behind outer.old.log.items }
+    ensures kept { view outer.new.desk.place ≡ view outer.old.desk.place }
+    ensures view { IfOk result (λ r. view r.place ≡ view outer.old.desk.place) }
+{
+    let mut reader = outer.factory().reader()?;
+    reader.learn::<Tells>(outer.tell::<Tells>());
+    Ok(reader)
+}
+
+// One reader more, which saw what is shown.
+fn one_more(alloc: Global, outer: &mut Outer) -> Result<BoardReader, NoMemory>
+    requires good { IsGood outer.old.desk.shown.value }
+    requires known { view outer.old.desk.place ≡ view_of outer.old.desk.shown.value }
+    ensures shown { outer.new.desk.shown ≡ outer.old.desk.shown }
+    ensures waits { drop outer.new.behind outer.new.log.items ≡ drop outer.old.behind outer.old.log.items }
+    ensures kept { view outer.new.desk.place ≡ view outer.old.desk.place }
+    ensures reads { IfOk result (λ r. r ≡ reading_of outer.old.desk.shown.value) }
+{
+    let page = outer.published().another(alloc)?;
+    let Ok(reader) = introduced(outer) else {
+        return Err(NoMemory);
+    };
+    Ok(BoardReader::new(Held { reader, page }))
+}
+
+// So many readers, each of which saw what is shown.
+fn so_many(alloc: Global, outer: &mut Outer, count: usize) -> Result<Vec<BoardReader>, NoMemory>
+    requires good { IsGood outer.old.desk.shown.value }
+    requires known { view outer.old.desk.place ≡ view_of outer.old.desk.shown.value }
+    ensures shown { outer.new.desk.shown ≡ outer.old.desk.shown }
+    ensures waits { drop outer.new.behind outer.new.log.items ≡ drop outer.old.behind outer.old.log.items }
+    ensures each { IfOk result (λ rs. rs.items ≡ replicate count (reading_of outer.old.desk.shown.value)) }
+{
+    let mut readers = Vec::new(alloc);
+    for _ in 0..count {
+        let reader = one_more(alloc, outer)?;
+        readers.push(reader)?;
+    }
+    Ok(readers)
 }
 
 impl Board {
-    /// The two ends of a board of so many legs, of which nothing came. It takes all memory that is ever needed: four copies of
-    /// the last 2048 octets of each leg.
-    pub fn new(alloc: Global, legs: usize) -> Result<(BoardWriter, BoardReader), NoMemory>
+    /// The two ends of a board of so many legs, of which nothing came.
+    pub fn new<R: Wait>(
+        rt: &R,
+        alloc: Global,
+        legs: usize,
+    ) -> Result<(BoardWriter, BoardReader), NoMemory>
         requires { (FEWEST_LEGS ≤ legs) × (legs ≤ MOST_LINKS) }
         ensures board { IfOk result (λ b. b.1.board ≡ b.0.board) }
         ensures writer { IfOk result (λ b. b.0 ≡ record { board = b.0.board; legs = legs; published = []; pending = []; ended = false }) }
-        ensures reader { IfOk result (λ b. b.1 ≡ record { board = b.1.board; legs = legs; seen = []; ended = false; looks = 0 }) }
+        ensures reader { IfOk result (λ b. b.1 ≡ record { board = b.1.board; legs = legs; seen = []; ended = false }) }
     {
-        let sheet = Sheet::new(alloc, legs)?;
-        let (shelf, mut seat) = lay(alloc, legs)?;
-        let other = Arc::try_clone(&shelf)?;
-        let reading = shelf.shared.split_seat::<Parts>(&mut seat);
-        let reader = BoardReader::new(other, reading);
-        let writer = BoardWriter::new(shelf, seat, sheet);
-        Ok((writer, reader))
+        let (mut outer, head) = lay(rt, alloc, legs, 1)?;
+        let Ok(reader) = one_more(alloc, &mut outer) else {
+            drop(outer.take(rt));
+            return Err(NoMemory);
+        };
+        Ok((BoardWriter::new(alloc, outer, head), reader))
+    }
+
+    /// A board of so many legs, of which nothing came, and so many readers of it, which may read at the same time. It takes the
+    /// memory of a page for each of them and two more.
+    pub fn with_readers<R: Wait>(
+        rt: &R,
+        alloc: Global,
+        legs: usize,
+        readers: usize,
+    ) -> Result<(BoardWriter, Vec<BoardReader>), NoMemory>
+        requires legs { (FEWEST_LEGS ≤ legs) × (legs ≤ MOST_LINKS) }
+        requires readers { (0 < readers) × (readers < 2 ^ 32) }
+        ensures writer { IfOk result (λ b. b.0 ≡ record { board = b.0.board; legs = legs; published = []; pending = []; ended = false }) }
+        ensures readers { IfOk result (λ b. b.1.items ≡ replicate readers (record { board = b.0.board; legs = legs; seen = []; ended = false })) }
+    {
+        let (mut outer, head) = lay(rt, alloc, legs, readers)?;
+        let Ok(all) = so_many(alloc, &mut outer, readers) else {
+            drop(outer.take(rt));
+            return Err(NoMemory);
+        };
+        Ok((BoardWriter::new(alloc, outer, head), all))
     }
 }

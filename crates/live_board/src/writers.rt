@@ -1,138 +1,183 @@
 //! The end of a board at which it is written.
-ghost use Rattle.std.specs.Prelude.{◌≡◌, ◌+◌, ◌^◌, ◌≤◌, true, false, [], ◌∷◌, ◌++◌, length, OnOk, OnErr};
-ghost use Rattle.std.specs.Arc.{arc_value};
-ghost use Rattle.board_spec.specs.Folds.{text_of};
-ghost use Rattle.live_board.specs.Views.{writer};
-ghost use Rattle.live_board.specs.Sheets.{IsSheetOf};
-ghost use Rattle.live_board.specs.Ends.{HoldsWide, IsOn};
+ghost use Rattle.std.specs.Prelude.{◌≡◌, true, false, [], ◌∷◌, ◌++◌, length, drop, IfOk, OnOk, OnErr};
+ghost use Rattle.left_right.specs.Sides.{view};
+ghost use Rattle.live_board.specs.Ends.{IsWriting, CanShow, HasShown};
+ghost use Rattle.live_board.specs.Rule.{view_of};
+ghost use Rattle.live_board.specs.Views.{writing_of};
 
+use crate::histories::{Fresh, Head};
 use crate::notes::Note;
-use crate::rule::{
-    Adding, Adds, Common, End, Ending, Ends, Goes, PLACES, Publishes, Shelf, TakesSpare, Tells,
-    place_of,
-};
-use crate::sheets::Sheet;
-use rtt_base::{Chunk, NoMemory};
-use std::marker::{Brand, Model};
-use std::sync::Arc;
+use crate::pages::{Page, Publish};
+use crate::rule::{Looks, Outer};
+use core::mem::{replace, replace_with};
+use rtt_base::{Chunk, NoMemory, Text};
+use std::alloc::Global;
+use std::marker::Model;
+use std::sync::Wait;
 
-/// Where changes are added and published. It waits for nobody.
-#[derive(Drop)]
+/// Where changes are added and published. It isn't `Drop`: end it by `close`.
 pub struct BoardWriter {
-    shelf: Arc<Shelf>,
-    seat: End,
-    /// The place of the copy that is written over at the next call that publishes.
-    place: usize,
-    /// All changes, those that are pending too.
-    sheet: Sheet,
+    alloc: Global,
+    outer: Outer,
+    head: Head,
+    pending: Vec<Chunk>,
+    /// Of all changes, those that are pending too.
+    octets: u64,
 }
 
 impl Model for BoardWriter {
-    ghost use Rattle.std.specs.Arc.{arc_value};
+    ghost use Rattle.std.specs.Prelude.{drop};
     ghost use Rattle.live_board.specs.Values.{Writing};
-    ghost use Rattle.live_board.specs.Ends.{IsOn, IsWriting};
+    ghost use Rattle.live_board.specs.Views.{writing_of};
+    ghost use Rattle.live_board.specs.Ends.{IsWriting};
 
     ghost Value = { Writing };
 
-    ghost view = { λ w. record { board = w.seat.table_id; legs = w.seat.me.0.legs; published = w.seat.me.0.changes; pending = w.seat.me.0.pending; ended = w.seat.me.0.ended } };
+    ghost view = { λ w. writing_of w.outer.desk.shown.value w.pending.items };
 
-    ghost invariant = { λ w. IsOn (arc_value w.shelf).shared.table_id (arc_value w.shelf).shared.key w.seat.table_id w.seat.me.0.legs × IsWriting w.seat.me w.place w.sheet };
+    ghost invariant = { λ w. IsWriting w.outer.desk.shown.value (drop w.outer.behind w.outer.log.items) w.head w.pending.items w.octets };
 }
 
-// The rule learns of a change that is pending. What the load finds is of no matter.
-fn note_change<C: Adding>(shared: &Common, seat: &mut End, _c: &Chunk)
-    requires change { C.change ≡ _c.now }
-    requires on { IsOn shared.now.table_id shared.now.key seat.old.table_id seat.old.me.0.legs }
-    requires writer { seat.old.me.0 ≡ writer seat.old.me.0.legs false seat.old.me.0.spare seat.old.me.0.changes seat.old.me.0.pending seat.old.me.0.ended }
-    ensures table { seat.new.table_id ≡ seat.old.table_id }
-    ensures me { seat.new.me ≡ (record seat.old.me.0 { pending = seat.old.me.0.pending ++ _c.now ∷ [] }, seat.old.me.1) }
+// Another one of the same.
+fn copy_of(c: &Chunk) -> Chunk
+    ensures { result ≡ c.now }
 {
-    shared.load::<Adds<C>>(seat, 0);
+    let mut text = Text::new();
+    let _room = text.append(c.text.as_slice());
+    Chunk {
+        source: c.source,
+        ready: c.ready,
+        text,
+    }
 }
 
-// Writes a sheet over the copy that the seat holds.
-fn write_copy(shared: &Common, seat: &mut End, place: usize, sheet: &Sheet)
-    requires table { seat.old.table_id ≡ shared.now.table_id }
-    requires held { HoldsWide seat.old.me.1 place (length sheet.now) }
-    ensures table { seat.new.table_id ≡ seat.old.table_id }
-    ensures me { seat.new.me ≡ (seat.old.me.0, (place, sheet.now) ∷ []) }
+// Has this be published next.
+fn queue<R: Wait>(rt: &R, outer: &mut Outer, publish: Publish)
+    requires { drop outer.old.behind outer.old.log.items ≡ [] }
+    ensures desk { outer.new.desk ≡ outer.old.desk }
+    ensures one { drop outer.new.behind outer.new.log.items ≡ publish ∷ [] }
 {
-    let copy = seat.slot_mut(shared, place);
-    copy.copy_from(sheet);
+    let mut next = publish;
+    for _ in rt.forever() {
+        match outer.append(next) {
+            Ok(()) => return,
+            Err(back) => next = back,
+        }
+    }
+    unreachable!()
+}
+
+/// Publishes what waits: from then on the writer knows its board.
+pub fn show<R: Wait>(outer: Outer, rt: &R) -> Outer
+    requires { CanShow outer.desk.shown.value (drop outer.behind outer.log.items) }
+    ensures shown { HasShown outer.desk.shown.value (drop outer.behind outer.log.items) result.desk.shown.value (drop result.behind result.log.items) }
+    ensures view { view result.desk.place ≡ view_of result.desk.shown.value }
+{
+    let (outer, _done) = outer.publish_as::<Looks, R>(rt);
+    outer
 }
 
 impl BoardWriter {
-    /// The writer of a board of which nothing was written, which takes its copy.
-    pub(crate) fn new(shelf: Arc<Shelf>, mut seat: End, sheet: Sheet) -> BoardWriter
-        requires on { IsOn (arc_value shelf).shared.table_id (arc_value shelf).shared.key seat.table_id seat.me.0.legs }
-        requires me { seat.me ≡ (writer seat.me.0.legs true 0 [] [] false, []) }
-        requires sheet { IsSheetOf seat.me.0.legs [] sheet }
-        ensures { result ≡ record { board = seat.table_id; legs = seat.me.0.legs; published = []; pending = []; ended = false } }
+    pub(crate) fn new(alloc: Global, outer: Outer, head: Head) -> BoardWriter
+        requires { IsWriting outer.desk.shown.value (drop outer.behind outer.log.items) head [] 0 }
+        ensures { result ≡ writing_of outer.desk.shown.value [] }
     {
-        let shared = &shelf.shared;
-        shared.load::<TakesSpare>(&mut seat, 0);
         BoardWriter {
-            shelf,
-            seat,
-            place: 0,
-            sheet,
+            alloc,
+            outer,
+            head,
+            pending: Vec::new(alloc),
+            octets: 0,
         }
     }
 
     /// Adds a change to those that are pending. A chunk whose source is no leg of the board counts for no leg. It is refused
-    /// only where the octets of its leg would be 2^64 or more, and then all is as before.
+    /// only for want of memory, or where the octets of all legs would be 2^64 or more, and then all is as before.
     pub fn add(&mut self, c: &Chunk) -> Result<(), NoMemory>
-        requires { self.old.ended ≡ false }
         ensures ok { OnOk result (self.new ≡ record self.old { pending = self.old.pending ++ c.now ∷ [] }) }
         ensures unchanged { OnErr result (self.new ≡ self.old) }
-        ensures cause { OnErr result (2 ^ 64 ≤ length (text_of c.now.source ((self.old.published ++ self.old.pending) ++ c.now ∷ []))) }
     {
-        let Ok(()) = self.sheet.add(c) else {
+        let Some(octets) = self.octets.checked_add(c.text.len() as u64) else {
             return Err(NoMemory);
         };
-        let shared = &self.shelf.shared;
-        note_change::<Brand>(shared, &mut self.seat, c);
+        if self.pending.push(copy_of(c)).is_err() {
+            return Err(NoMemory);
+        }
+        self.octets = octets;
         Ok(())
     }
 
-    /// Publishes all pending changes, with the end behind them where there is one.
-    fn share<E: Ending>(&mut self)
+    // Publishes all pending changes, with the end behind them where there is one.
+    fn share<R: Wait>(&mut self, rt: &R, ends: bool)
         requires { self.old.ended ≡ false }
-        ensures { self.new ≡ record self.old { published = self.old.published ++ self.old.pending; pending = []; ended = E.ends } }
+        ensures { self.new ≡ record self.old { published = self.old.published ++ self.old.pending; pending = []; ended = ends } }
     {
-        let shared = &self.shelf.shared;
-        write_copy(shared, &mut self.seat, self.place, &self.sheet);
-        let word = (self.place + PLACES) as u64;
-        let found = shared.swap::<Publishes<E>>(&mut self.seat, 0, word);
-        self.place = place_of(found);
+        let fresh = Fresh {
+            chunks: replace(&mut self.pending, Vec::new(self.alloc)),
+            ends,
+        };
+        let page = self.outer.published();
+        let publish = page.next(rt, &self.head, fresh, self.octets);
+        queue(rt, &mut self.outer, publish);
+        replace_with(
+            &mut self.outer,
+            rt,
+            |outer: Outer, rt: &R| -> (Outer, ())
+                requires { CanShow outer.desk.shown.value (drop outer.behind outer.log.items) }
+                ensures { HasShown outer.desk.shown.value (drop outer.behind outer.log.items) result.0.desk.shown.value (drop result.0.behind result.0.log.items) }
+            { (show(outer, rt), ()) },
+        );
     }
 
-    /// Publishes all pending changes at once. It does not wait for the reader, and cannot fail.
-    pub fn publish(&mut self)
+    /// Publishes all pending changes at once. It may wait for the reader to leave.
+    pub fn publish<R: Wait>(&mut self, rt: &R)
         requires { self.old.ended ≡ false }
         ensures { self.new ≡ record self.old { published = self.old.published ++ self.old.pending; pending = [] } }
     {
-        self.share::<Goes>();
+        if !self.pending.is_empty() {
+            self.share(rt, false);
+        }
     }
 
     /// Says what is published.
-    pub fn tell(&mut self) -> Note
-        ensures same { self.new ≡ self.old }
-        ensures told { result ≡ record { board = self.old.board; changes = self.old.published; ended = self.old.ended } }
+    pub fn tell(&self) -> Result<Note, NoMemory>
+        ensures { IfOk result (λ n. n ≡ record { board = self.now.board; changes = self.now.published; ended = self.now.ended }) }
     {
-        let shared = &self.shelf.shared;
-        let seat = shared.split_seat::<Tells>(&mut self.seat);
-        Note { seat }
+        let page = self.outer.published().another(self.alloc)?;
+        Ok(Note { page })
     }
 
-    /// Publishes all pending changes and the end behind them, and says what is then published. Nothing can be added or
-    /// published after it.
-    pub fn last(&mut self) -> Note
+    /// Publishes all pending changes and the end behind them, and says what is then published. Nothing can be published after it.
+    /// It may wait for the reader to leave. Where there is no memory for the note all is as before.
+    pub fn last<R: Wait>(&mut self, rt: &R) -> Result<Note, NoMemory>
         requires { self.old.ended ≡ false }
-        ensures ended { self.new ≡ record self.old { published = self.old.published ++ self.old.pending; pending = []; ended = true } }
-        ensures told { result ≡ record { board = self.old.board; changes = self.old.published ++ self.old.pending; ended = true } }
+        ensures ended { OnOk result (self.new ≡ record self.old { published = self.old.published ++ self.old.pending; pending = []; ended = true }) }
+        ensures told { IfOk result (λ n. n ≡ record { board = self.old.board; changes = self.old.published ++ self.old.pending; ended = true }) }
+        ensures unchanged { OnErr result (self.new ≡ self.old) }
     {
-        self.share::<Ends>();
-        self.tell()
+        let mut page = self.room()?;
+        self.share(rt, true);
+        page.copy_from(self.outer.published());
+        Ok(Note { page })
+    }
+
+    // A page to write over.
+    fn room(&self) -> Result<Page, NoMemory>
+        ensures { IfOk result (λ x. length x.sheet ≡ self.now.legs) }
+    {
+        let page = self.outer.published();
+        Page::blank(self.alloc, page.sheet.legs(), &page.seen)
+    }
+
+    /// Ends it. It may wait for the reader to leave.
+    pub fn close<R: Wait>(self, rt: &R) {
+        let BoardWriter {
+            alloc: _,
+            outer,
+            head: _head,
+            pending: _pending,
+            octets: _,
+        } = self;
+        drop(outer.take(rt));
     }
 }

@@ -1,0 +1,17 @@
+-- A live call with a board that was given up.
+use Rattle.std.proofs.Common.{ℕ, List, inl, inr, refl}
+use Rattle.file_spec.specs.Conf.{Conf}
+use Rattle.link_spec.specs.Links.{Takes}
+use Rattle.serve_spec.specs.Served.{End}
+use Rattle.live_run.specs.Calls.{BrokeOff, WasTapped}
+use Rattle.live_run.specs.Taps.{Notice}
+use Rattle.live_run.proofs.Returning.{was_broken}
+
+-- before it began
+pub none_given : (tells : Type 0) (given : ℕ → List (List ℕ)) (taken : ℕ → Takes) (c : Conf) → BrokeOff tells given taken given c
+none_given tells given taken c = inr (λ t j line p at e. inl refl)
+
+-- when it was over
+pub after_all : (stands : List Notice → Type 0) (tells : Type 0) (before : ℕ → List (List ℕ)) (taken : ℕ → Takes) (given : ℕ → List (List ℕ)) (c : Conf) (end : End) (printed : List ℕ)
+    → WasTapped stands tells taken given c end printed → BrokeOff tells before taken given c
+after_all stands tells before taken given c end printed w = inl (was_broken tells taken given c end printed w.was)
