@@ -1,5 +1,5 @@
 -- What holds of a command that uses no link holds whatever links leave.
-use Rattle.std.proofs.Common.{◌≡◌, ℕ, true, false, true≢false, Option, Some, None, List, Ok, Err, refl, sym, subst, ◌∙◌}
+use Rattle.std.proofs.Common.{◌≡◌, ℕ, true, false, true≢false, inl, inr, Option, Some, None, List, Ok, Err, refl, sym, subst, ◌∙◌}
 use Rattle.command_spec.specs.declared.faults.Refusal.TheVariants.{AtByte, AtFrame, AtLine, AtTrunk, AfterTurns}
 use Rattle.command_spec.specs.declared.faults.Fault.TheVariants.{WrongWords, CannotOpen, CannotRead, Refused, CannotPrint, CannotWrite, LinkFailed, NoMemory}
 use Rattle.rtt_words.specs.Words.{MixWords, Command, Read, ListRecords, Send, Mix, Attend, Cascade, Make, Live, Watch, Relay, Channel, Show, Script, Version}
@@ -9,7 +9,7 @@ use Rattle.rtt_words.specs.declared.commands.Command as asked
 use Rattle.rtt_words.specs.declared.commands.Command.TheVariants as word
 use Rattle.rtt_words.specs.Commands.{meaning}
 use Rattle.rtt_top.specs.Faults.{is_live}
-use Rattle.rtt_top.specs.Lives.{Front, RunsLive, RunsWatched, Share, Whole, status_at}
+use Rattle.rtt_top.specs.Lives.{Front, RunsGivenUp, RunsLive, RunsWatched, Share, Whole, status_at}
 use Rattle.rtt_top.specs.Outside.{LinksLeft, Output, Outside, with_links}
 use Rattle.rtt_top.specs.Runs.{Ends, Runs, is_plain}
 use Rattle.rtt_top.proofs.Ending.{runs}
@@ -116,3 +116,15 @@ no_words_live words WorldTells OutTells LinksTell old new status none = λ share
 
 pub failed_live : (words : Option Command) (WorldTells OutTells LinksTell : Type 0) (old new : Outside) (status : ℕ) → status ≡ 70 → RunsLive words WorldTells OutTells LinksTell old new status
 failed_live words WorldTells OutTells LinksTell old new status is = λ share at m e. absurd (no_share share (sym is ∙ at))
+
+-- nor of one that was given up
+pub no_given_up : {words : Option Command} {WorldTells LinksTell : Type 0} {old new : Outside} {status : ℕ} (c : Command) → words ≡ Some c → is_live c ≡ false → RunsGivenUp words WorldTells LinksTell old new status
+no_given_up c is off m (inl e) = absurd (live c m (sym is ∙ e) off)
+no_given_up c is off m (inr e) = absurd (watching c m (sym is ∙ e) off)
+
+pub no_words_given_up : (words : Option Command) (WorldTells LinksTell : Type 0) (old new : Outside) (status : ℕ) → words ≡ None → RunsGivenUp words WorldTells LinksTell old new status
+no_words_given_up words WorldTells LinksTell old new status none m (inl e) = absurd (cc (none, e))
+no_words_given_up words WorldTells LinksTell old new status none m (inr e) = absurd (cc (none, e))
+
+pub failed_given_up : (words : Option Command) (WorldTells LinksTell : Type 0) (old : Outside) (status : ℕ) → status ≡ 70 → RunsGivenUp words WorldTells LinksTell old old status
+failed_given_up words WorldTells LinksTell old status is m asks = record { failed = λ at. absurd (cc (is, at)); no_memory = λ at. inr refl }

@@ -1,5 +1,5 @@
 -- A live call: how it ends for the command.
-use Rattle.std.proofs.Common.{◌≡◌, ℕ, ◌++◌, true, true≢false, take, Option, Some, List, Result, Ok, Err, refl, ap, sym, subst, ◌∙◌}
+use Rattle.std.proofs.Common.{◌≡◌, ℕ, ◌++◌, true, true≢false, inl, inr, take, Option, Some, List, Result, Ok, Err, refl, ap, sym, subst, ◌∙◌}
 use Rattle.std.specs.Prelude.{◌==◌, ◌||◌, IfErr, IfOk, OnOk, OnErr}
 use Rattle.file_spec.specs.declared.conf_lines.Form.TheVariants.{Links}
 use Rattle.file_spec.specs.Conf.{Conf, conf}
@@ -8,13 +8,15 @@ use Rattle.mixer_spec.specs.Setups.{leg_at}
 use Rattle.rtt_io.specs.declared.sinks.Sink as sinks
 use Rattle.serve_spec.specs.Served as served
 use Rattle.serve_spec.proofs.LinksStay.{apart_law, stay_law}
+use Rattle.live_loop.specs.Clocks.{IsPaced}
 use Rattle.live_loop.specs.Walks.{IsPaused}
 use Rattle.live_run.specs.declared.faults.LiveFault.{LiveFault}
 use Rattle.live_run.specs.declared.faults.LiveFault.TheVariants as live
 use Rattle.live_run.specs.declared.reports.LiveEnd.{LiveEnd}
 use Rattle.live_run.specs.declared.reports.LiveReport.{LiveReport}
 use Rattle.live_run.specs.declared.reports.LiveEnd.TheVariants as ends
-use Rattle.live_run.specs.Calls.{IsOfLinks, WasGivenUp, WasServed}
+use Rattle.live_run.specs.Calls.{BrokeOff, IsOfLinks, WasGivenUp, WasServed}
+use Rattle.live_run.specs.Opened.{LeadsAll, LeadsSome}
 use Rattle.live_run.specs.Reports.{end_of}
 use Rattle.live_watch.specs.Watched.{WasWatched}
 use Rattle.command_spec.specs.declared.faults.Fault.{Fault}
@@ -30,7 +32,7 @@ use Rattle.rtt_top.specs.Faults.{Stops}
 use Rattle.rtt_top.specs.Outside.{Failed, LinksLeft, Output, Outside, output_at}
 use Rattle.rtt_top.specs.Ports.{LegFailed}
 use Rattle.rtt_top.specs.Runs.{Prints, PrintsFront, Ends, Runs}
-use Rattle.rtt_top.specs.Lives.{EndsServing, Front, IsServedFrom, ServedAs, IsServedTo, IsWatchedTo, LiveEnds, PrintsReport, ServingEnds, RunsLive, RunsWatched, Share, Whole, is_unserved, status_at}
+use Rattle.rtt_top.specs.Lives.{EndsServing, Front, GivesUp, IsGivenUp, IsGivenUpFrom, IsServedFrom, OnGivenUp, RunsGivenUp, ServedAs, IsServedTo, IsWatchedTo, LiveEnds, PrintsReport, ServingEnds, RunsLive, RunsWatched, Share, Whole, is_unserved, status_at}
 use Rattle.rtt_top.specs.Statuses.{is_unread}
 use Rattle.rtt_top.proofs.Working.{lies}
 use Rattle.rtt_top.proofs.Ending.{runs}
@@ -51,14 +53,18 @@ is_closed ends.Closed e = refl
 
 pub was_served : (LinksTell : Type 0) (old new : LinksLeft) (octets : List ℕ) (c : Conf) (end : LiveEnd) (printed : List ℕ) → conf Links octets ≡ Ok c
     → WasServed LinksTell new.taken new.given c (end_of end) printed → (end ≡ ends.Done → IsPaused c.turns old.pauses new.pauses)
-    → ((port : ℕ) → new.calls port ≡ old.calls port) → (end ≡ ends.Closed → (port : ℕ) → new.ends port ≡ old.ends port)
+    → (LinksTell → end ≡ ends.Done → IsPaced c.turns c.tick old.moment new.moment) → (LinksTell → LeadsAll c old.leads new.leads) → ((port : ℕ) → new.calls port ≡ old.calls port) → (end ≡ ends.Closed → (port : ℕ) → new.ends port ≡ old.ends port)
     → IsServedTo c LinksTell old new (end_of end) printed
-was_served LinksTell old new octets c end printed read w paused opened calm = record {
+was_served LinksTell old new octets c end printed read w paused paced leads opened calm = record {
   takes = w.takes;
   given = w.given;
+  call = w.served;
   keeps = w.keeps octets read;
+  turned = w.paced;
   taken = w.taken;
   gave = w.gave;
+  leads = leads;
+  paced = λ t e. paced t (is_done end e);
   paused = λ e. paused (is_done end e);
   all_opened = opened;
   calm = λ e. calm (is_closed end e);
@@ -66,13 +72,13 @@ was_served LinksTell old new octets c end printed read w paused opened calm = re
 
 pub was_watched : (LinksTell : Type 0) (old new : LinksLeft) (octets : List ℕ) (c : Conf) (end : LiveEnd) (printed : List ℕ) → conf Links octets ≡ Ok c
     → WasWatched LinksTell new.taken new.given c (end_of end) printed → (end ≡ ends.Done → IsPaused c.turns old.pauses new.pauses)
-    → ((port : ℕ) → new.calls port ≡ old.calls port) → (end ≡ ends.Closed → (port : ℕ) → new.ends port ≡ old.ends port)
+    → (LinksTell → end ≡ ends.Done → IsPaced c.turns c.tick old.moment new.moment) → (LinksTell → LeadsAll c old.leads new.leads) → ((port : ℕ) → new.calls port ≡ old.calls port) → (end ≡ ends.Closed → (port : ℕ) → new.ends port ≡ old.ends port)
     → IsWatchedTo c LinksTell old new (end_of end) printed
 unfolding was_served
-was_watched LinksTell old new octets c end printed read w paused opened calm = record {
+was_watched LinksTell old new octets c end printed read w paused paced leads opened calm = record {
   views = w.views;
   lines = w.lines;
-  served = was_served LinksTell old new octets c end w.views read w.was paused opened calm;
+  served = was_served LinksTell old new octets c end w.views read w.was paused paced leads opened calm;
   call = w.was.served;
   board = w.board;
   printed_is = w.printed_is;
@@ -81,6 +87,9 @@ was_watched LinksTell old new octets c end printed read w paused opened calm = r
 -- all turns were made, where the answer says so
 abbrev pub IsPausedAtEnd : LinksLeft → LinksLeft → Conf → LiveReport → Type 0
 IsPausedAtEnd old new c report = report.end ≡ ends.Done → IsPaused c.turns old.pauses new.pauses
+
+abbrev pub IsPacedAtEnd : LinksLeft → LinksLeft → Conf → LiveReport → Type 0
+IsPacedAtEnd old new c report = report.end ≡ ends.Done → IsPaced c.turns c.tick old.moment new.moment
 
 -- no call that opens a link failed
 abbrev pub AllOpened : LinksLeft → LinksLeft → Type 0
@@ -91,14 +100,14 @@ abbrev pub IsCalmAtEnd : LinksLeft → LinksLeft → LiveReport → Type 0
 IsCalmAtEnd old new report = report.end ≡ ends.Closed → (port : ℕ) → new.ends port ≡ old.ends port
 
 pub served_as : (LinksTell : Type 0) (old new : LinksLeft) (c : Conf) (answer : Result LiveReport LiveFault) → IfOk answer (λ r. WasServed LinksTell new.taken new.given c (end_of r.end) r.views) → IfOk answer (IsPausedAtEnd old new c)
-    → OnOk answer (AllOpened old new) → IfOk answer (IsCalmAtEnd old new) → IfOk answer (λ r. ServedAs IsServedTo LinksTell old new c (end_of r.end) r.views)
-served_as LinksTell old new c (Ok r) w paused opened calm = λ octets read. was_served LinksTell old new octets c r.end r.views read w paused opened calm
-served_as LinksTell old new c (Err fault) w paused opened calm = w
+    → (LinksTell → IfOk answer (IsPacedAtEnd old new c)) → (LinksTell → OnOk answer (LeadsAll c old.leads new.leads)) → OnOk answer (AllOpened old new) → IfOk answer (IsCalmAtEnd old new) → IfOk answer (λ r. ServedAs IsServedTo LinksTell old new c (end_of r.end) r.views)
+served_as LinksTell old new c (Ok r) w paused paced leads opened calm = λ octets read. was_served LinksTell old new octets c r.end r.views read w paused paced leads opened calm
+served_as LinksTell old new c (Err fault) w paused paced leads opened calm = w
 
 pub watched_as : (LinksTell : Type 0) (old new : LinksLeft) (c : Conf) (answer : Result LiveReport LiveFault) → IfOk answer (λ r. WasWatched LinksTell new.taken new.given c (end_of r.end) r.views) → IfOk answer (IsPausedAtEnd old new c)
-    → OnOk answer (AllOpened old new) → IfOk answer (IsCalmAtEnd old new) → IfOk answer (λ r. ServedAs IsWatchedTo LinksTell old new c (end_of r.end) r.views)
-watched_as LinksTell old new c (Ok r) w paused opened calm = λ octets read. was_watched LinksTell old new octets c r.end r.views read w paused opened calm
-watched_as LinksTell old new c (Err fault) w paused opened calm = w
+    → (LinksTell → IfOk answer (IsPacedAtEnd old new c)) → (LinksTell → OnOk answer (LeadsAll c old.leads new.leads)) → OnOk answer (AllOpened old new) → IfOk answer (IsCalmAtEnd old new) → IfOk answer (λ r. ServedAs IsWatchedTo LinksTell old new c (end_of r.end) r.views)
+watched_as LinksTell old new c (Ok r) w paused paced leads opened calm = λ octets read. was_watched LinksTell old new octets c r.end r.views read w paused paced leads opened calm
+watched_as LinksTell old new c (Err fault) w paused paced leads opened calm = w
 
 pub given_up : (S : served.End → List ℕ → Type 0) (OutTells : Type 0) (old new : LinksLeft) (out : Output) (c : Conf) (fault : LiveFault)
     → WasGivenUp old.calls new.calls old.ends new.ends c fault → LiveEnds S OutTells old new out out c (Err (fault_of_live fault))
@@ -225,6 +234,67 @@ used S OutTells old new before after c status (Err CannotPrint) is l e = true≢
 used S OutTells old new before after c status (Err (CannotWrite n)) is l e = absurd l
 used S OutTells old new before after c status (Err (LinkFailed leg)) is l e = true≢false (sym e ∙ ap (λ n. is_unread n || n == 5) is)
 used S OutTells old new before after c status (Err NoMemory) is l e = true≢false (sym e ∙ ap (λ n. is_unread n || n == 5) is)
+
+-- ---- a call that was given up
+pub given_up_as : (LinksTell : Type 0) (old new : LinksLeft) (c : Conf) (answer : Result LiveReport LiveFault) → (LinksTell → OnErr answer (LeadsSome c old.leads new.leads)) → OnErr answer (BrokeOff LinksTell old.given new.taken new.given c)
+    → OnErr answer (IsGivenUp c LinksTell old new)
+given_up_as LinksTell old new c (Ok r) leads broke = tt
+given_up_as LinksTell old new c (Err fault) leads broke = record { leads = leads; broke_off = broke }
+
+-- what is answered of it is how it ends
+pub given_up_answer : {K : Type 0} (k : sinks.Ghosts K) (answer : Result LiveReport LiveFault) (before after : K) (ending : Ending) (P : Type 0) → OnErr answer P → PrintsReport k answer before after ending → OnGivenUp ending P
+given_up_answer k (Ok r) before after (Ok u) P p prints = tt
+given_up_answer k (Ok r) before after (Err fault) P p prints = subst (λ (f : Fault). let e : Ending = Err f in OnGivenUp e P) (sym prints.0) tt
+given_up_answer k (Err (live.Link leg)) before after ending P p prints = subst (λ (e : Ending). OnGivenUp e P) (sym prints.1) p
+given_up_answer k (Err live.NoMemory) before after ending P p prints = subst (λ (e : Ending). OnGivenUp e P) (sym prints.1) p
+
+-- a call of the conference in this file
+pub given_up_from : (S : served.End → List ℕ → Type 0) (WorldTells OutTells LinksTell : Type 0) (old new : Outside) (m : MixWords) (octets : List ℕ) (c : Conf) (status : ℕ) (ending : Ending) → (WorldTells → old.contents m.conf ≡ Some octets) → conf Links octets ≡ Ok c
+    → status ≡ status_of ending → LiveEnds S OutTells old.links new.links old.out new.out c ending → OnGivenUp ending (IsGivenUp c LinksTell old.links new.links) → GivesUp WorldTells LinksTell m old new status
+given_up_from S WorldTells OutTells LinksTell old new m octets c status (Ok u) there read is l g = record { failed = λ at. absurd (cc (is, at)); no_memory = λ at. absurd (cc (is, at)) }
+given_up_from S WorldTells OutTells LinksTell old new m octets c status (Err WrongWords) there read is l g = absurd l
+given_up_from S WorldTells OutTells LinksTell old new m octets c status (Err (CannotOpen n)) there read is l g = absurd l
+given_up_from S WorldTells OutTells LinksTell old new m octets c status (Err (CannotRead n)) there read is l g = absurd l
+given_up_from S WorldTells OutTells LinksTell old new m octets c status (Err (Refused n refusal)) there read is l g = absurd l
+given_up_from S WorldTells OutTells LinksTell old new m octets c status (Err CannotPrint) there read is l g = record { failed = λ at. absurd (cc (is, at)); no_memory = λ at. absurd (cc (is, at)) }
+given_up_from S WorldTells OutTells LinksTell old new m octets c status (Err (CannotWrite n)) there read is l g = absurd l
+given_up_from S WorldTells OutTells LinksTell old new m octets c status (Err (LinkFailed leg)) there read is l g =
+    let this : IsGivenUpFrom WorldTells LinksTell m old new = record { octets = octets; lies = there; conference = c; is = read; given_up = g } in record { failed = λ at. this; no_memory = λ at. inl this }
+given_up_from S WorldTells OutTells LinksTell old new m octets c status (Err NoMemory) there read is l g =
+    let this : IsGivenUpFrom WorldTells LinksTell m old new = record { octets = octets; lies = there; conference = c; is = read; given_up = g } in record { failed = λ at. this; no_memory = λ at. inl this }
+
+-- what stops over the file that is read first has not the status 8
+not_a_link : (Told : Type 0) (held : Contents) (c : Command) (Call Object : Type 0) (fault : Fault) → Stops Told held c Call Object fault → (let e : Ending = Err fault in status_of e ≡ 8) → ⊥
+not_a_link Told held c Call Object WrongWords s e = absurd s
+not_a_link Told held c Call Object (CannotOpen n) s e = cc e
+not_a_link Told held c Call Object (CannotRead n) s e = cc e
+not_a_link Told held c Call Object (Refused n (AtByte byte kind)) s e = cc e
+not_a_link Told held c Call Object (Refused n (AtFrame byte kind)) s e = cc e
+not_a_link Told held c Call Object (Refused n (AtLine line kind)) s e = cc e
+not_a_link Told held c Call Object (Refused n (AtTrunk line)) s e = cc e
+not_a_link Told held c Call Object (Refused n (AfterTurns turns)) s e = cc e
+not_a_link Told held c Call Object CannotPrint s e = absurd s
+not_a_link Told held c Call Object (CannotWrite n) s e = absurd s
+not_a_link Told held c Call Object (LinkFailed leg) s e = absurd s
+not_a_link Told held c Call Object NoMemory s e = cc e
+
+pub not_begun : (Told : Type 0) (held : Contents) (c : Command) (Call Object WorldTells LinksTell : Type 0) (m : MixWords) (old new : Outside) (status : ℕ) (fault : Fault) → Stops Told held c Call Object fault → (let e : Ending = Err fault in status ≡ status_of e) → new.links ≡ old.links
+    → GivesUp WorldTells LinksTell m old new status
+not_begun Told held c Call Object WorldTells LinksTell m old new status fault s is same = record { failed = λ at. absurd (not_a_link Told held c Call Object fault s (sym is ∙ at)); no_memory = λ at. inr same }
+
+same_live : (m k : MixWords) → Some (Live m) ≡ Some (Live k) → m ≡ k
+same_live m k e = cc e
+
+same_watched : (m k : MixWords) → Some (Watch m) ≡ Some (Watch k) → m ≡ k
+same_watched m k e = cc e
+
+pub runs_given_up_live : {words : Option Command} {WorldTells LinksTell : Type 0} {old new : Outside} {status : ℕ} (m : MixWords) → words ≡ Some (Live m) → GivesUp WorldTells LinksTell m old new status → RunsGivenUp words WorldTells LinksTell old new status
+runs_given_up_live {words} {WorldTells} {LinksTell} {old} {new} {status} m is g k (inl e) = subst (λ w. GivesUp WorldTells LinksTell w old new status) (same_live m k (sym is ∙ e)) g
+runs_given_up_live m is g k (inr e) = absurd (cc (is, e))
+
+pub runs_given_up_watched : {words : Option Command} {WorldTells LinksTell : Type 0} {old new : Outside} {status : ℕ} (m : MixWords) → words ≡ Some (Watch m) → GivesUp WorldTells LinksTell m old new status → RunsGivenUp words WorldTells LinksTell old new status
+runs_given_up_watched {words} {WorldTells} {LinksTell} {old} {new} {status} m is g k (inr e) = subst (λ w. GivesUp WorldTells LinksTell w old new status) (same_watched m k (sym is ∙ e)) g
+runs_given_up_watched m is g k (inl e) = absurd (cc (is, e))
 
 -- whoever asks so for a live call of the same file had it served
 served_as_asked : (asks : MixWords → Command) (S : Conf → served.End → List ℕ → Type 0) (WorldTells OutTells : Type 0) (old new : Outside) (m : MixWords) (status : ℕ)

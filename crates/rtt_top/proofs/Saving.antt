@@ -17,6 +17,11 @@ use Rattle.rtt_top.specs.Outputs.{IsUnwritten}
 use Rattle.rtt_top.specs.Outside.{RoseAt}
 use Rattle.rtt_top.proofs.Counts.{rose_since}
 
+-- what is stored is what was taken, which is all of this
+pub stores_all : {A B : Type 0} (r : Result A B) (stored took all : List ℕ) → OnOk r (stored ≡ took) → OnOk r (took ≡ all) → OnOk r (stored ≡ all)
+stores_all (Ok a) stored took all s t = s ∙ t
+stores_all (Err e) stored took all s t = t
+
 -- the first n of these are stored, and then one more
 pub stored_more : (files : List Made) (file : Made) (old between new : Contents) → AllStored files old between → Stores file between new → AllStored (files ++ file ∷ []) old new
 stored_more [] file old between new same s =

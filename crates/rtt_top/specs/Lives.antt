@@ -1,5 +1,5 @@
 -- What a live call leaves (profile).
-use Rattle.std.specs.Prelude.{◌≡◌, ◌==◌, ◌||◌, ℕ, Bool, true, not, Option, None, Some, List, ◌++◌, take, Result, Ok, Err, IfErr, OnErr}
+use Rattle.std.specs.Prelude.{◌≡◌, ◌⊎◌, ◌==◌, ◌||◌, ℕ, Bool, true, not, Option, None, Some, List, ◌++◌, take, Result, Ok, Err, IfErr, OnErr}
 use Rattle.link_spec.specs.Links.{Takes}
 use Rattle.file_spec.specs.declared.conf_lines.Form.TheVariants.{Links}
 use Rattle.file_spec.specs.Conf.{Conf, conf}
@@ -11,11 +11,13 @@ use Rattle.rtt_words.specs.Words.{MixWords, Command, Live, Watch}
 use Rattle.serve_spec.specs.Served.{End, Done, Closed, IsServed}
 use Rattle.serve_spec.specs.Watched.{IsBoardOf}
 use Rattle.serve_spec.specs.HeadLive.{HeadLive}
+use Rattle.live_loop.specs.Clocks.{IsPaced}
 use Rattle.live_loop.specs.Walks.{IsPaused}
 use Rattle.rtt_io.specs.declared.sinks.Sink as sinks
 use Rattle.live_run.specs.declared.faults.LiveFault.{LiveFault}
 use Rattle.live_run.specs.declared.reports.LiveReport.{LiveReport}
-use Rattle.live_run.specs.Calls.{AtPorts}
+use Rattle.live_run.specs.Calls.{AtPorts, BrokeOff, WasPaced}
+use Rattle.live_run.specs.Opened.{LeadsAll, LeadsSome}
 use Rattle.rtt_top.specs.declared.serving.Serving.{Serving}
 use Rattle.rtt_top.specs.declared.serving.Serving.TheVariants.{Alone, Watched}
 use Rattle.rtt_top.specs.Conferences.{fault_of_live, serving_of}
@@ -27,14 +29,20 @@ use Rattle.rtt_top.specs.Sinks.{Wrote, WrotePartly}
 use Rattle.rtt_top.specs.Statuses.{is_unread}
 
 -- A live call of a conference was served to this end, and this was printed of it: the legs' links gave this and were given that, and it
--- keeps what a live call promises. Where the links tell it, that is what they left at the legs' ports. No call that opens a link failed,
+-- keeps what a live call promises. Where the links tell it, that is what they left at the legs' ports, and
+-- the links that were opened are one of each leg, from its port to its peer, and no other; and where all
+-- turns were made, a tick went by for each. No call that opens a link failed,
 -- and where all links were closed, none of their ends did.
 pub record IsServedTo (c : Conf) (LinksTell : Type 0) (old new : LinksLeft) (end : End) (printed : List ℕ) : Type 0 where
   pub takes : ℕ → Takes
   pub given : ℕ → List (List ℕ)
+  pub call : IsServed c takes given end printed
   pub keeps : HeadLive c takes given end printed
+  pub turned : LinksTell → WasPaced c call.table
   pub taken : LinksTell → AtPorts c new.taken takes
   pub gave : LinksTell → AtPorts c new.given given
+  pub leads : LinksTell → LeadsAll c old.leads new.leads
+  pub paced : LinksTell → end ≡ Done → IsPaced c.turns c.tick old.moment new.moment
   pub paused : end ≡ Done → IsPaused c.turns old.pauses new.pauses
   pub all_opened : (port : ℕ) → new.calls port ≡ old.calls port
   pub calm : end ≡ Closed → (port : ℕ) → new.ends port ≡ old.ends port
@@ -123,6 +131,39 @@ RunsLive words WorldTells OutTells LinksTell old new status =
 abbrev pub RunsWatched : Option Command → (WorldTells OutTells LinksTell : Type 0) → Outside → Outside → ℕ → Type 0
 RunsWatched words WorldTells OutTells LinksTell old new status =
     (share : Share) → status ≡ status_at share → (m : MixWords) → words ≡ Some (Watch m) → IsServedFrom share (λ c. IsWatchedTo c LinksTell old.links new.links) WorldTells OutTells m old new
+
+-- A live call of the conference was given up. Where the links tell it, the links that were opened are those of some legs, from the
+-- first one on, each from its port to its peer, and no other. It broke off, or no terminal was given anything.
+pub record IsGivenUp (c : Conf) (LinksTell : Type 0) (old new : LinksLeft) : Type 0 where
+  pub leads : LinksTell → LeadsSome c old.leads new.leads
+  pub broke_off : BrokeOff LinksTell old.given new.taken new.given c
+
+-- where the ending says that it was given up, this holds
+abbrev pub OnGivenUp : Ending → Type 0 → Type 0
+OnGivenUp (Err (LinkFailed leg)) P = P
+OnGivenUp (Err NoMemory) P = P
+OnGivenUp _ P = Unit {0}
+
+-- a live call of the conference in this file was given up so
+pub record IsGivenUpFrom (WorldTells LinksTell : Type 0) (m : MixWords) (old new : Outside) : Type 0 where
+  pub octets : List ℕ
+  pub lies : WorldTells → old.contents m.conf ≡ Some octets
+  pub conference : Conf
+  pub is : conf Links octets ≡ Ok conference
+  pub given_up : IsGivenUp conference LinksTell old.links new.links
+
+-- at the status 8 one was; at 70 one was, or no link was used
+pub record GivesUp (WorldTells LinksTell : Type 0) (m : MixWords) (old new : Outside) (status : ℕ) : Type 0 where
+  pub failed : status ≡ 8 → IsGivenUpFrom WorldTells LinksTell m old new
+  pub no_memory : status ≡ 70 → IsGivenUpFrom WorldTells LinksTell m old new ⊎ (new.links ≡ old.links)
+
+-- a live call of the conference in this file is asked for, alone or with a board
+abbrev pub AsksForCall : Option Command → MixWords → Type 0
+AsksForCall words m = (words ≡ Some (Live m)) ⊎ (words ≡ Some (Watch m))
+
+-- where a live call is asked for, and the status is 8 or 70, it was given up so
+abbrev pub RunsGivenUp : Option Command → (WorldTells LinksTell : Type 0) → Outside → Outside → ℕ → Type 0
+RunsGivenUp words WorldTells LinksTell old new status = (m : MixWords) → AsksForCall words m → GivesUp WorldTells LinksTell m old new status
 
 -- the status says that the conference can't be read (3, 4) or is refused (5), so that no live call began
 abbrev pub is_unserved : ℕ → Bool

@@ -13,18 +13,21 @@ pub record Output : Type 0 where
   pub octets : List ℕ
   pub faults : ℕ
 
--- What links left at their ports: what the takes of an inbound end gave, newest first, and the packets that an outbound end was given,
--- oldest first; how often a call that opens a port failed, and how often the ends of a port did; and the number of pauses.
+-- The links that were opened, oldest first, each with its port and its peer. What links left at their ports: what the takes of an inbound end gave, newest first, and the packets that an outbound end was given,
+-- oldest first; how often a call that opens a port failed, and how often the ends of a port did; the last moment that their clock told, and
+-- the number of pauses.
 pub record LinksLeft : Type 0 where
+  pub leads : List (ℕ × List ℕ)
   pub taken : ℕ → Takes
   pub given : ℕ → List (List ℕ)
   pub calls : ℕ → ℕ
   pub ends : ℕ → ℕ
+  pub moment : ℕ
   pub pauses : ℕ
 
 -- where no link is used
 abbrev pub no_links : LinksLeft
-no_links = record { taken = λ port. []; given = λ port. []; calls = λ port. 0; ends = λ port. 0; pauses = 0 }
+no_links = record { leads = []; taken = λ port. []; given = λ port. []; calls = λ port. 0; ends = λ port. 0; moment = 0; pauses = 0 }
 
 -- The octets under each name; how often a call that opens or creates a name failed; how often the sources and sinks of a
 -- name failed; the output; and what links left.
@@ -52,10 +55,12 @@ outside_at w k world out = outside (w.contents world) (w.own_faults world) (w.ob
 -- what these links left
 abbrev pub left_by : {L I O : Type 0} → links.Ghosts L I O → L → LinksLeft
 left_by l left = record {
+  leads = l.leads left;
   taken = l.taken_at left;
   given = l.given_at left;
   calls = l.own_faults left;
   ends = l.object_faults left;
+  moment = l.moment left;
   pauses = l.pauses left;
 }
 

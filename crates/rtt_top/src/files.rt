@@ -1,5 +1,7 @@
 //! Whole files: read, refused, and written.
-ghost use Rattle.std.specs.Prelude.{◌≡◌, ◌<◌, length, OnOk, OnErr, IfOk, IfErr};
+ghost use Rattle.std.specs.Prelude.{◌≡◌, ◌<◌, ◌≤◌, ◌++◌, length, OnOk, OnErr, IfOk, IfErr};
+ghost use Rattle.rtt_io.specs.Counts.{Rose};
+ghost use Rattle.rtt_io.specs.Fronts.{TakesFront};
 ghost use Rattle.rtt_io.specs.Names.{NoneFalls, Same as KeepsCounts};
 ghost use Rattle.rtpdump_io.specs.Faults.{IsSourceFault, FaultOf};
 ghost use Rattle.sent_files.specs.Files.{recording_at};
@@ -96,7 +98,39 @@ pub(crate) fn fault_of_recording(fault: RecordingFault) -> Fault
     }
 }
 
-/// Creates the output of this number anew, with these octets.
+/// A sink stores these octets behind what it took. After `Failed` some of them are stored, from the front, or none.
+#[tactic(auto, using(crate::proofs::Saving::stores_all))]
+fn store<K: Sink>(octets: &[u8], sink: &mut K) -> Result<(), Failed>
+    ensures never_falls { K.faults sink.old ≤ K.faults sink.new }
+    ensures failed { OnErr result (Rose (K.faults sink.old) (K.faults sink.new)) }
+    ensures same_name { K.name sink.new ≡ K.name sink.old }
+    ensures calm { OnOk result (K.faults sink.new ≡ K.faults sink.old) }
+    ensures stored { K.tells → OnOk result (K.stored sink.new ≡ K.took sink.old ++ octets.now) }
+    ensures partly { K.tells → OnErr result (TakesFront (K.took sink.old) (K.stored sink.new) octets.now) }
+{
+    sink.write_all(octets)
+}
+
+/// The same of the recording of what was sent to the terminal of this number.
+#[tactic(auto, using(crate::proofs::Saving::stores_all))]
+fn store_recording<K: Sink>(
+    files: &mut SentFiles,
+    terminal: usize,
+    sink: &mut K,
+) -> Result<(), Failed>
+    requires { terminal < length files.old }
+    ensures same { files.new ≡ files.old }
+    ensures never_falls { K.faults sink.old ≤ K.faults sink.new }
+    ensures failed { OnErr result (Rose (K.faults sink.old) (K.faults sink.new)) }
+    ensures same_name { K.name sink.new ≡ K.name sink.old }
+    ensures calm { OnOk result (K.faults sink.new ≡ K.faults sink.old) }
+    ensures stored { K.tells → OnOk result (K.stored sink.new ≡ K.took sink.old ++ recording_at files.old terminal) }
+    ensures partly { K.tells → OnErr result (TakesFront (K.took sink.old) (K.stored sink.new) (recording_at files.old terminal)) }
+{
+    files.write_to(terminal, sink)
+}
+
+/// Creates the output of this number anew, with these octets, and stores them.
 pub fn save_output<W: World>(
     output: u32,
     name: &str,
@@ -113,7 +147,7 @@ pub fn save_output<W: World>(
     let Ok(mut sink) = world.create_sink(name) else {
         return Err(Fault::CannotWrite { output });
     };
-    let written = sink.write_all(octets);
+    let written = store(octets, &mut sink);
     world.done_dst(sink);
     match written {
         Ok(()) => Ok(()),
@@ -121,7 +155,7 @@ pub fn save_output<W: World>(
     }
 }
 
-/// Creates the output of this number anew, with the recording of what was sent to the terminal of that number.
+/// Creates the output of this number anew, with the recording of what was sent to the terminal of that number, and stores it.
 pub(crate) fn save_recording<W: World>(
     output: u32,
     name: &str,
@@ -140,7 +174,7 @@ pub(crate) fn save_recording<W: World>(
     let Ok(mut sink) = world.create_sink(name) else {
         return Err(Fault::CannotWrite { output });
     };
-    let written = files.write_to(output as usize, &mut sink);
+    let written = store_recording(files, output as usize, &mut sink);
     world.done_dst(sink);
     match written {
         Ok(()) => Ok(()),

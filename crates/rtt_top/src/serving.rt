@@ -4,7 +4,7 @@ ghost use Rattle.conference.specs.Conferences.{conf_of};
 ghost use Rattle.live_run.specs.Calls.{IsOfLinks};
 ghost use Rattle.rtt_words.specs.Commands.{mixed};
 ghost use Rattle.rtt_top.specs.Conferences.{fault_of_live};
-ghost use Rattle.rtt_top.specs.Lives.{EndsServing, IsServedFrom, PrintsReport, ServingEnds, Share, is_unserved, served_by, status_at};
+ghost use Rattle.rtt_top.specs.Lives.{EndsServing, GivesUp, IsGivenUp, IsServedFrom, OnGivenUp, PrintsReport, ServingEnds, Share, is_unserved, served_by, status_at};
 ghost use Rattle.rtt_top.specs.Outside.{left_by, outside_over, output_at};
 
 use crate::conferences::{conf_under, name_at_end};
@@ -68,8 +68,9 @@ fn serve_conf<
     gate: &G,
 ) -> Result<(), Fault>
     requires { IsOfLinks (conf_of conf.now) }
-    ensures { ServingEnds (served_by serving (conf_of conf.now) L.tells (left_by L.Links links.old) (left_by L.Links links.new)) K.tells
+    ensures ends { ServingEnds (served_by serving (conf_of conf.now) L.tells (left_by L.Links links.old) (left_by L.Links links.new)) K.tells
         (left_by L.Links links.old) (left_by L.Links links.new) (output_at K.Sink out.old) (output_at K.Sink out.new) (conf_of conf.now) result }
+    ensures given_up { OnGivenUp result (IsGivenUp (conf_of conf.now) L.tells (left_by L.Links links.old) (left_by L.Links links.new)) }
 {
     match serving {
         Serving::Alone => {
@@ -108,6 +109,8 @@ pub(crate) fn serve_file<
     ensures served { (share : Share) → result ≡ status_at share
         → IsServedFrom share (λ c. served_by serving c L.tells (left_by L.Links links.old) (left_by L.Links links.new)) W.tells K.tells (mixed words.now)
         (outside_over W.World K.Sink L.Links world.old out.old links.old) (outside_over W.World K.Sink L.Links world.new out.new links.new) }
+    ensures given_up { GivesUp W.tells L.tells (mixed words.now)
+        (outside_over W.World K.Sink L.Links world.old out.old links.old) (outside_over W.World K.Sink L.Links world.new out.new links.new) result }
     ensures offline { is_unserved result ≡ true → links.new ≡ links.old }
 {
     let conf = match conf_under(alloc, words.conf, Form::Links, world) {

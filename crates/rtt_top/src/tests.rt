@@ -563,7 +563,7 @@ const CONFERENCES: [Case<'static>; 11] = [
         "",
         "== Ann aware\nBob: \n-- Bob bells 0\nCy: \n-- Cy bells 0\n-- packets 0 used 0 refused 0 foreign 0\n\
         == Bob aware\nAnn: Hello.\nAnn: [Bob] I owe you. \n-- Ann bells 0\nCy: \n-- Cy bells 0\n-- packets 3 used 3 refused 0 foreign 0\n\
-        == Cy unaware\n| [Ann] Hello.\n| (Bob] I owe you. \n-- bells 0\n-- packets 3 used 3 refused 0 foreign 0\n",
+        == Cy unaware\n| [Ann] Hello.\n| (Bob) I owe you. \n-- bells 0\n-- packets 3 used 3 refused 0 foreign 0\n",
     ),
     // who rings alone has no label
     Mixed(

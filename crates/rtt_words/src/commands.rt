@@ -90,7 +90,7 @@ pub enum Command<'a> {
     Make(MakeWords),
     /// Mixes a conference over UDP links.
     Live(MixWords<'a>),
-    /// Mixes a conference over UDP links, and shows how much of each leg's text a reader saw meanwhile.
+    /// Mixes a conference over UDP links, while a reader follows its text, and shows how much of each leg's was taken.
     Watch(MixWords<'a>),
     /// Sends frames of text into a recording.
     Relay(SendWords<'a>),

@@ -16,3 +16,11 @@ returns-in-CannotRead-clause-written g c =
 pub returns-in-CannotRead-clause-partly : goal.returns-in-CannotRead-clause-partly
 returns-in-CannotRead-clause-partly g c =
     subst (λ (f : Fault). g.E.Sink.tells → OnErr c.write_trouble-in-CannotRead.result (TakesFront (g.E.Sink.took c.args.err.now) (g.E.Sink.took c.write_trouble-in-CannotRead.new.err) (fault_message c.args.name.now f))) (sym c.in-CannotRead.is) c.write_trouble-in-CannotRead.ensures.partly
+
+pub returns-in-CannotPrint-clause-partly : goal.returns-in-CannotPrint-clause-partly
+returns-in-CannotPrint-clause-partly g c =
+    subst (λ (f : Fault). g.E.Sink.tells → OnErr c.write_all-in-CannotPrint.result (TakesFront (g.E.Sink.took c.args.err.now) (g.E.Sink.took c.write_all-in-CannotPrint.new.self) (fault_message c.args.name.now f))) (sym c.in-CannotPrint.is) c.write_all-in-CannotPrint.ensures.prefix
+
+pub returns-in-NoMemory-clause-partly : goal.returns-in-NoMemory-clause-partly
+returns-in-NoMemory-clause-partly g c =
+    subst (λ (f : Fault). g.E.Sink.tells → OnErr c.write_all-in-NoMemory.result (TakesFront (g.E.Sink.took c.args.err.now) (g.E.Sink.took c.write_all-in-NoMemory.new.self) (fault_message c.args.name.now f))) (sym c.in-NoMemory.is) c.write_all-in-NoMemory.ensures.prefix

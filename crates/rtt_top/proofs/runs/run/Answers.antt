@@ -6,8 +6,8 @@ use Rattle.rtt_top.specs.Lives.{uses_no_link}
 use Rattle.rtt_top.specs.Outside.{left_by, outside_at, outside_over, output_at}
 use Rattle.rtt_top.specs.Runs.{asked_by}
 use Rattle.rtt_top.proofs.Ending.{no_words, no_memory}
-use Rattle.rtt_top.proofs.Linked.{failed_at_all, failed_live, live_not_watched, no_live, no_watched, no_words_live, no_words_watched, other_is_not_live, runs_linked, watched_not_live}
-use Rattle.rtt_top.proofs.Living.{runs_live, runs_served, runs_watched}
+use Rattle.rtt_top.proofs.Linked.{failed_at_all, failed_given_up, failed_live, live_not_watched, no_given_up, no_live, no_watched, no_words_given_up, no_words_live, no_words_watched, other_is_not_live, runs_linked, watched_not_live}
+use Rattle.rtt_top.proofs.Living.{runs_given_up_live, runs_given_up_watched, runs_live, runs_served, runs_watched}
 use Rattle.rtt_top.proofs.runs.run.Goals as goal
 
 pub returns-in-Err-Wrong-clause-runs : goal.returns-in-Err-Wrong-clause-runs
@@ -27,6 +27,12 @@ pub returns-in-Err-Wrong-clause-watched : goal.returns-in-Err-Wrong-clause-watch
 returns-in-Err-Wrong-clause-watched g c =
     let here = outside_over g.W.World g.K.Sink g.L.Links c.args.world.now c.args.out.now c.args.links.now in
     no_words_watched (asked_by c.args.words.now) g.W.World.tells g.K.Sink.tells g.L.Links.tells here here c.finish.result
+    (c.command_of.ensures.wrong (cc (c.in-Err-Wrong.is, c.in-Err-Wrong.field-0-is)))
+
+pub returns-in-Err-Wrong-clause-given_up : goal.returns-in-Err-Wrong-clause-given_up
+returns-in-Err-Wrong-clause-given_up g c =
+    let here = outside_over g.W.World g.K.Sink g.L.Links c.args.world.now c.args.out.now c.args.links.now in
+    no_words_given_up (asked_by c.args.words.now) g.W.World.tells g.L.Links.tells here here c.finish.result
     (c.command_of.ensures.wrong (cc (c.in-Err-Wrong.is, c.in-Err-Wrong.field-0-is)))
 
 pub returns-in-Err-NoMemory-clause-runs : goal.returns-in-Err-NoMemory-clause-runs
@@ -49,6 +55,12 @@ returns-in-Err-NoMemory-clause-watched g c =
     let finish = c.finish-in-Err-NoMemory in
     failed_at_all (asked_by c.args.words.now) g.W.World.tells g.K.Sink.tells g.L.Links.tells here here finish.result finish.ensures.status
 
+pub returns-in-Err-NoMemory-clause-given_up : goal.returns-in-Err-NoMemory-clause-given_up
+returns-in-Err-NoMemory-clause-given_up g c =
+    let here = outside_over g.W.World g.K.Sink g.L.Links c.args.world.now c.args.out.now c.args.links.now in
+    let finish = c.finish-in-Err-NoMemory in
+    failed_given_up (asked_by c.args.words.now) g.W.World.tells g.L.Links.tells here finish.result finish.ensures.status
+
 pub returns-in-Live : goal.returns-in-Live
 returns-in-Live g c =
     let call = c.serve_file in
@@ -58,6 +70,7 @@ returns-in-Live g c =
       runs = runs_served (Live m) is (λ name ending ends. ends) call.ensures.ends;
       live = runs_live m is call.ensures.served;
       watched = live_not_watched m is;
+      given_up = runs_given_up_live m is call.ensures.given_up;
       offline = λ none. call.ensures.offline (subst (λ w. uses_no_link w call.result ≡ true) is none);
     }
 
@@ -69,6 +82,7 @@ returns-in-Watch g c =
     record {
       runs = runs_served (Watch m) is (λ name ending ends. ends) call.ensures.ends;
       live = watched_not_live m is;
+      given_up = runs_given_up_watched m is call.ensures.given_up;
       watched = runs_watched m is call.ensures.served;
       offline = λ none. call.ensures.offline (subst (λ w. uses_no_link w call.result ≡ true) is none);
     }
@@ -86,5 +100,6 @@ returns-in_default g c =
           done.result c.in-Ok.ensures.asked off done.ensures;
       live = no_live (meaning command) c.in-Ok.ensures.asked off;
       watched = no_watched (meaning command) c.in-Ok.ensures.asked off;
+      given_up = no_given_up (meaning command) c.in-Ok.ensures.asked off;
       offline = λ e. refl;
     }

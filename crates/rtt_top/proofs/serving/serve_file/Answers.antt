@@ -10,7 +10,7 @@ use Rattle.rtt_top.specs.Runs.{Ends}
 use Rattle.rtt_top.proofs.Conferring.{live_reads}
 use Rattle.rtt_top.proofs.Working.{stopped}
 use Rattle.rtt_top.proofs.Since.{ends_since, same_name}
-use Rattle.rtt_top.proofs.Living.{ends_live, failed, is_of_links, served_from, used}
+use Rattle.rtt_top.proofs.Living.{ends_live, failed, given_up_from, is_of_links, not_begun, served_from, used}
 use Rattle.rtt_top.proofs.serving.serve_file.Goals as goal
 
 pub serve_conf-ending-requires : goal.serve_conf-ending-requires
@@ -62,7 +62,7 @@ returns-clause-ends g c =
       ends = subst (λ n. Ends (serving_of file) g.W.World.tells g.K.Sink.tells old new n ending) (sym named)
           (ends_since (serving_of file) g.W.World.tells g.K.Sink.tells old mid new (ending_name file c.in-Ok.conf.legs ending) ending
           (record { same = c.in-Ok.ensures.same_contents; calls_rise = c.in-Ok.ensures.calls_never_fall; objects_rise = c.in-Ok.ensures.objects_never_fall }) refl refl c.in-Ok.ensures.calm c.in-Ok.ensures.opened
-          (ends_live (served_by c.args.serving conference g.L.Links.tells mid.links new.links) g.W.World.tells g.K.Sink.tells mid new file read.0 conference ending (λ told. c.in-Ok.ensures.same_contents told file ∙ read.1 told) read.2 (λ name. refl) (c.serve_conf-ending.ensures read.0 read.2)));
+          (ends_live (served_by c.args.serving conference g.L.Links.tells mid.links new.links) g.W.World.tells g.K.Sink.tells mid new file read.0 conference ending (λ told. c.in-Ok.ensures.same_contents told file ∙ read.1 told) read.2 (λ name. refl) (c.serve_conf-ending.ensures.ends read.0 read.2)));
       silent = c.finish_with-2.ensures.silent;
       front = c.finish_with-2.ensures.front;
       told = c.finish_with-2.ensures.told;
@@ -75,7 +75,7 @@ returns-clause-served g c = λ share at.
     let read = c.in-Ok.ensures.read in
     served_from share (λ d. served_by c.args.serving d g.L.Links.tells old.links new.links) g.W.World.tells g.K.Sink.tells old new
     (mixed c.args.words.now) read.0 (conf_of c.in-Ok.conf) c.finish_with-2.result c.serve_conf-ending.result read.1 read.2
-    c.finish_with-2.ensures.status (c.serve_conf-ending.ensures read.0 read.2) at
+    c.finish_with-2.ensures.status (c.serve_conf-ending.ensures.ends read.0 read.2) at
 
 pub returns-clause-offline : goal.returns-clause-offline
 returns-clause-offline g c = λ e.
@@ -84,4 +84,20 @@ returns-clause-offline g c = λ e.
     let old = left_by g.L.Links c.args.links.now in
     let new = left_by g.L.Links c.serve_conf-ending.new.links in
     absurd (used (served_by c.args.serving conference g.L.Links.tells old new) g.K.Sink.tells old new (output_at g.K.Sink c.args.out.now) (output_at g.K.Sink c.serve_conf-ending.new.out) conference
-    c.finish_with-2.result c.serve_conf-ending.result c.finish_with-2.ensures.status (c.serve_conf-ending.ensures read.0 read.2) e)
+    c.finish_with-2.result c.serve_conf-ending.result c.finish_with-2.ensures.status (c.serve_conf-ending.ensures.ends read.0 read.2) e)
+
+pub returns-in-Err-clause-given_up : goal.returns-in-Err-clause-given_up
+returns-in-Err-clause-given_up g c =
+    let file = c.args.words.now.conf.now in
+    not_begun g.W.World.tells (g.W.World.contents c.args.world.now) (serving_of file) _ _ g.W.World.tells g.L.Links.tells (mixed c.args.words.now) _ _ c.finish_with.result c.in-Err.fault
+    (c.in-Err.ensures.stops (serving_of file) (live_reads file)) c.finish_with.ensures.status refl
+
+pub returns-clause-given_up : goal.returns-clause-given_up
+returns-clause-given_up g c =
+    let old = outside_over g.W.World g.K.Sink g.L.Links c.args.world.now c.args.out.now c.args.links.now in
+    let new = outside_over g.W.World g.K.Sink g.L.Links c.conf_under.new.world c.serve_conf-ending.new.out c.serve_conf-ending.new.links in
+    let read = c.in-Ok.ensures.read in
+    let conference = conf_of c.in-Ok.conf in
+    given_up_from (served_by c.args.serving conference g.L.Links.tells old.links new.links) g.W.World.tells g.K.Sink.tells g.L.Links.tells old new
+    (mixed c.args.words.now) read.0 conference c.finish_with-2.result c.serve_conf-ending.result read.1 read.2
+    c.finish_with-2.ensures.status (c.serve_conf-ending.ensures.ends read.0 read.2) c.serve_conf-ending.ensures.given_up
