@@ -1,0 +1,5 @@
+pub mod Typed
+pub mod Mixed
+pub mod Live
+pub mod Cascade
+pub mod Shut
