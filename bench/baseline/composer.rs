@@ -21,6 +21,7 @@ pub struct Composer {
     pub own: u8,
     legs: u32,
     names: Vec<String>,
+    relabel: Option<u32>,
     /// the legs of which something waits, by their bits
     pub waits: u64,
     /// the legs that were seen waiting since their last text, and from when on
@@ -30,7 +31,7 @@ pub struct Composer {
     given_at: u32,
     /// the run has a chunk
     has_chunk: bool,
-    /// the last three characters of the run
+    /// the last three characters of the run, but for directions
     tail: [char; 3],
     /// how many characters of the run an erasure can take back
     erasable: u64,
@@ -45,8 +46,13 @@ fn is_silent(c: char) -> bool {
     c < ' ' || ('\u{7F}'..='\u{9F}').contains(&c) || c == '\u{FEFF}'
 }
 
+/// One that turns the direction in which other text runs.
+fn is_direction(c: char) -> bool {
+    matches!(c, '\u{202A}'..='\u{202E}' | '\u{2066}'..='\u{2069}')
+}
+
 fn ends_line(tail: &[char; 3]) -> bool {
-    matches!(tail[2], '\r' | '\n' | NEW_LINE)
+    matches!(tail[2], '\r' | '\n' | NEW_LINE | '\u{2029}')
 }
 
 /// The text ends a sentence: a stop, at most one closing mark, and a space, which may be left out behind a wide stop.
@@ -70,6 +76,7 @@ impl Composer {
             own: own as u8,
             legs: legs.len() as u32,
             names: legs.iter().map(|leg| format!("[{}] ", leg.name)).collect(),
+            relabel: conference.relabel,
             waits: 0,
             known: 0,
             since: vec![0; legs.len()],
@@ -115,7 +122,11 @@ impl Composer {
         false
     }
 
-    /// Whose text is given now, if any is; a run begins where that is another than before.
+    fn is_labelled_again(&self, now: u32) -> bool {
+        self.has_chunk && self.relabel.is_some_and(|ms| self.given_at + ms <= now)
+    }
+
+    /// Whose text is given now, if any is; a run begins where that is another than before, or where the label is due again.
     pub fn next_speaker(&mut self, now: u32) -> Option<usize> {
         match self.speaker {
             None if self.waits == 0 => return None,
@@ -126,6 +137,7 @@ impl Composer {
                 self.begin(if behind != 0 { start + behind.trailing_zeros() } else { self.waits.trailing_zeros() });
             }
             Some(speaker) if self.waits >> speaker & 1 == 0 => return None,
+            Some(speaker) if self.is_labelled_again(now) => self.begin(speaker as u32),
             Some(_) => {}
         }
         self.speaker
@@ -176,7 +188,7 @@ impl Composer {
         }
         let octets = &chunks.text[chunks.bounds[next as usize] as usize..chunks.bounds[last as usize] as usize];
         self.has_chunk = true;
-        if octets.iter().all(|octet| matches!(octet, b' '..=b'~') && *octet != b'[') {
+        if octets.iter().all(|octet| matches!(octet, b' '..=b'~') && !matches!(octet, b'[' | b']')) {
             if self.label_due {
                 self.put_label(text);
             }
@@ -188,7 +200,7 @@ impl Composer {
                 self.tail = [self.tail[1], self.tail[2], octet.into()];
             }
         } else {
-            for c in std::str::from_utf8(octets).unwrap().chars() {
+            for c in std::str::from_utf8(octets).unwrap().chars().filter(|&c| !is_direction(c)) {
                 self.put(c, text);
                 self.tail = [self.tail[1], self.tail[2], c];
             }
@@ -198,7 +210,7 @@ impl Composer {
     fn put(&mut self, c: char, text: &mut Vec<u8>) {
         let mut sent = c;
         match c {
-            '\n' | '\r' | NEW_LINE => {
+            '\n' | '\r' | NEW_LINE | '\u{2029}' => {
                 // CR LF is one new line, also where the CR is another's.
                 if !(c == '\n' && self.after_cr) {
                     self.erasable += 1;
@@ -223,10 +235,12 @@ impl Composer {
                 }
                 sent = match c {
                     '[' => '(',
+                    ']' => ')',
                     '\u{FF3B}' => '\u{FF08}',
+                    '\u{FF3D}' => '\u{FF09}',
                     _ => c,
                 };
-                self.erasable += 1;
+                self.erasable = if c == '\u{FFFD}' { 0 } else { self.erasable + 1 };
                 self.shown = Shown::Other;
             }
         }

@@ -51,6 +51,8 @@ pub struct Conference {
     pub spacing: u32,
     pub wait: u32,
     pub turns: u32,
+    /// after how long without text a run that goes on is labelled again, if it is
+    pub relabel: Option<u32>,
     pub mixer: MixerLine,
     pub plan: Vec<PlanLine>,
 }
@@ -80,6 +82,7 @@ struct Above {
     spacing: Option<u32>,
     wait: Option<u32>,
     turns: Option<u32>,
+    relabel: Option<u32>,
     mixer: Option<MixerLine>,
     plan: Vec<PlanLine>,
     planned: HashSet<(&'static str, usize, u32)>,
@@ -219,6 +222,7 @@ impl Above {
             "spacing" => setting(&mut self.spacing, more, 100, 500),
             "wait" => setting(&mut self.wait, more, 0, 10_000),
             "turns" => setting(&mut self.turns, more, 1, MOST_TURNS),
+            "relabel" => setting(&mut self.relabel, more, 2000, 60_000),
             "lose" => self.plan("lose", more),
             "delay" => self.plan("delay", more),
             "twice" => self.plan("twice", more),
@@ -262,6 +266,7 @@ pub fn read(octets: &[u8]) -> Result<Conference, (usize, Kind)> {
         spacing: above.spacing.unwrap_or(300),
         wait: above.wait.unwrap_or(1000),
         turns: above.turns.unwrap_or(MOST_TURNS as u32),
+        relabel: above.relabel,
         mixer,
         plan: above.plan,
     })

@@ -35,7 +35,7 @@ impl Display {
                 '\u{8}' => self.erase(),
                 '\u{7}' => self.bells += 1,
                 '\n' if self.after_cr => {}
-                '\n' | '\r' | '\u{2028}' => self.text.push(b'\n'),
+                '\n' | '\r' | '\u{2028}' | '\u{2029}' => self.text.push(b'\n'),
                 '\0'..='\u{1F}' | '\u{7F}'..='\u{9F}' | '\u{FEFF}' => {}
                 _ => self.text.extend_from_slice(c.encode_utf8(&mut [0; 4]).as_bytes()),
             }
@@ -43,8 +43,11 @@ impl Display {
         }
     }
 
-    /// Takes back the last character or new line.
+    /// Takes back the last character or new line, and no marker.
     fn erase(&mut self) {
+        if self.text.ends_with("\u{FFFD}".as_bytes()) {
+            return;
+        }
         while self.text.pop().is_some_and(|octet| octet & 0xC0 == 0x80) {}
     }
 
