@@ -65,6 +65,8 @@ impl Mixes for Noting {
 
     ghost stands = { λ m s pts calls. ⊥ };
 
+    ghost halted = { λ m s pts calls now. Unit {0} };
+
     ghost legs = { λ m. m.legs };
 
     ghost turns = { λ m. m.turns };
