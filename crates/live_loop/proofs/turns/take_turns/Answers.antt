@@ -1,9 +1,9 @@
-use Rattle.std.proofs.Common.{◌≡◌, ◌≤◌, ◌<◌, ◌+◌, ◌*◌, ◌^◌, ℕ, true, List, length, inl, refl, sym, subst, ◌∙◌, arith}
+use Rattle.std.proofs.Common.{◌≡◌, ◌≤◌, ◌<◌, ◌+◌, ◌*◌, ◌^◌, ℕ, true, true≢false, List, length, inl, refl, sym, subst, ◌∙◌, arith}
 use Rattle.mixer_spec.specs.Table.{Call, after_calls, is_idle}
 use Rattle.live_loop.specs.Clocks.{ArePaced, AtTicks, StandsPaced, moments_of}
-use Rattle.live_loop.specs.Walks.{HaltsThen, IsServing, is_spent}
+use Rattle.live_loop.specs.Walks.{DoneTo, HaltsThen, is_spent}
 use Rattle.live_loop.proofs.Pausing.{all_at, count_same, passed_on, paused_more, tick_more}
-use Rattle.live_loop.proofs.Walking.{all_then_grew, at_more, at_none, becomes, known, none_grew, turn_made}
+use Rattle.live_loop.proofs.Walking.{all_then_grew, all_true, at_more, at_none, becomes, known, none_grew, turn_made}
 use Rattle.live_loop.proofs.turns.take_turns.Goals as goal
 
 pub loop-k-init : goal.loop-k-init
@@ -97,7 +97,13 @@ returns-clause-ran g c = λ s pts legs v.
     let P : List Call → Type 0 = λ calls. g.C.TurnClock.tells → ArePaced c.args.tick (g.C.TurnClock.moment c.args.clock.now) calls in
     let x = known g.I.Pops.popped g.I.Pops.began g.M.Mixes.stands P s pts c.loop-k.k c.loop-k.ports c.loop-k.mixer b.0
     (λ t. record { began = c.clock_now-began.result; behind = c.loop-k.invariant.7; at = b.1 t }) in
-    subst (λ (k : ℕ). IsServing g.I.Pops.popped (λ m s pts calls. g.M.Mixes.stands m s pts calls × P calls) s pts k c.loop-k.ports c.loop-k.mixer) last x.0
+    subst (λ (k : ℕ). DoneTo g.I.Pops.popped (λ m s pts calls. g.M.Mixes.stands m s pts calls × P calls) s pts k c.loop-k.ports c.loop-k.mixer) last (record {
+      serving = x.0;
+      goes_on = λ closed. true≢false (
+          sym (subst (λ (calls : List Call). is_idle s (after_calls s calls) ≡ true) x.1 closed.idle)
+          ∙ sym (c.is_over-2.ensures.goes_on c.if-is_over-2.false (all_true is_spent c.loop-k.ports closed.ends) s pts b.0.calls b.0.made)
+          );
+    })
 
 -- a link failed before a turn
 pub returns-in-Some-clause-ran : goal.returns-in-Some-clause-ran
