@@ -294,8 +294,8 @@ module _ {I G : Type 0} (i : ins.Ghosts I) (tells : Type 0) (opened : ℕ → Bo
     -- however its turns ended
     breaks : (known : Type 0) (tick old : ℕ) (same_tick : tick ≡ c.tick) (tell : tells → known) (t : Turned LiveFault)
         → RanTo popped_in t (StandsPaced known tick old gives) (StandsPaced known tick old (HaltsThen halts)) (setup c) (pts_at c) c.turns ports m → IsBrokenOff i o tells c backs far.links.items
-    breaks known tick old same_tick tell Done v = is_broken (StandsPaced known tick old gives) (record { turns = c.turns; few = omega arith; serving = v }) 0
-        (λ j link line e at told. inl (given_whole v.calls v.made.0.made j link line e at told)) (at_ticks known tick old v.calls same_tick tell v.made.1)
+    breaks known tick old same_tick tell Done v = is_broken (StandsPaced known tick old gives) (record { turns = c.turns; few = omega arith; serving = v.serving }) 0
+        (λ j link line e at told. inl (given_whole v.serving.calls v.serving.made.0.made j link line e at told)) (at_ticks known tick old v.serving.calls same_tick tell v.serving.made.1)
     breaks known tick old same_tick tell Closed v = is_broken (StandsPaced known tick old gives) (record { turns = v.turns; few = v.few; serving = v.serving }) 0
         (λ j link line e at told. inl (given_whole v.serving.calls v.serving.made.0.made j link line e at told)) (at_ticks known tick old v.serving.calls same_tick tell v.serving.made.1)
     breaks known tick old same_tick tell (Faulted k) v = is_broken (StandsPaced known tick old gives) v 0
@@ -307,7 +307,7 @@ module _ {I G : Type 0} (i : ins.Ghosts I) (tells : Type 0) (opened : ℕ → Bo
         → RanTo popped_in t (StandsPaced known tick old gives) (StandsPaced known tick old (HaltsThen halts)) (setup c) (pts_at c) c.turns ports m → WasFaulted t ports → WasStopped (IsUnsentIn (λ (x : SendingState (FarEnds O)) (why : LiveFault). IsUnsent o.faults x.outbound why)) t m → m.short ≡ false
         → EndsAs i o (stands tap) tells c backs far.links.items far.listeners.items t
     unfolding done_law closed_law
-    ends_as known tick old same_tick tell failed Done v f s long = is_call served.Done v.calls v.made.0 (at_ticks known tick old v.calls same_tick tell v.made.1) long (λ takes given w. done_law popped_in (StandsPaced known tick old gives) c (pts_at c) ports m takes given v w) (λ takes given w. refl)
+    ends_as known tick old same_tick tell failed Done v f s long = is_call served.Done v.serving.calls v.serving.made.0 (at_ticks known tick old v.serving.calls same_tick tell v.serving.made.1) long (λ takes given w. done_law popped_in (StandsPaced known tick old gives) c (pts_at c) ports m takes given v w) (λ takes given w. refl)
     ends_as known tick old same_tick tell failed Closed v f s long = is_call served.Closed v.serving.calls v.serving.made.0 (at_ticks known tick old v.serving.calls same_tick tell v.serving.made.1) long (λ takes given w. closed_law popped_in (StandsPaced known tick old gives) c (pts_at c) ports m takes given v w) (λ takes given w. refl)
     ends_as known tick old same_tick tell failed (Faulted j) v f s long = (fault_at j f.0 f.1 (failed j f.0 f.1 f.2), breaks known tick old same_tick tell (Faulted j) v)
     ends_as known tick old same_tick tell failed (Stopped (Link j)) v f s long = (s, let t : Turned LiveFault = Stopped (Link j) in breaks known tick old same_tick tell t v)
