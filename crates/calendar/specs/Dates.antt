@@ -1,5 +1,5 @@
 -- The dates of the proleptic Gregorian calendar (ISO 8601, section 4.3.2), one day after another.
-use Rattle.std.specs.Prelude.{ℕ, zero, suc, ◌+◌, ◌≤◌, ◌%◌, ◌==◌, ◌||◌, Bool, if◌then◌else◌}
+use Rattle.std.specs.Prelude.{ℕ, zero, suc, ◌≤◌, ◌%◌, ◌==◌, ◌||◌, Bool, if◌then◌else◌}
 use Rattle.calendar.specs.declared.dates.Date.{Date}
 
 -- each fourth year, but of those that end a century each fourth alone
