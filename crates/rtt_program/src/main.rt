@@ -128,7 +128,7 @@ fn main(rt: HostRuntime) -> ExitCode {
     let mut world = RealWorld::new(&rt, rt.alloc());
     let mut out = StandardOutput::new(rt.stdout());
     let mut err = StandardError::new(rt.stderr());
-    let links = RealLinks::new(&rt);
+    let links = RealLinks::new(&rt, rt.alloc());
     let words = all_words(&rt);
     program_over(
         &rt,
