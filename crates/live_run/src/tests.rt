@@ -269,6 +269,7 @@ fn same_by<R: Threads + Wait + Sync, G: Gate + Sync>(
     let Ok(conf) = read_conf(alloc, CALL, Form::Links) else {
         return Ok(false);
     };
+    links_are_apart();
     let mut world = links(alloc, comings)?;
     let Ok(plain) = serve(rt, alloc, &conf, &mut world, &StillGate) else {
         return Ok(false);
