@@ -1,14 +1,12 @@
 //! Live calls over links in memory.
-use crate::calls::{Called, call};
-use crate::opening::{close_ends, close_legs, open_links};
-use crate::{LiveFault, NoTap, links_are_apart, serve};
+use crate::{LiveFault, links_are_apart, serve};
 use conf_text::{Form, read_conf};
 use link_io::{Came, FailingLink, MemLinks, Planned};
 use rtt_base::{Bytes, NoMemory};
 use rtt_io::{Gate, StillGate};
 use std::alloc::Global;
+use std::sync::Wait;
 use std::sync::atomic::{AtomicBool, AtomicU64, Ordering};
-use std::sync::{Arc, Wait};
 use std::test::Fail;
 use std::thread;
 use std::thread::Threads;
@@ -307,60 +305,5 @@ fn a_queue_is_emptied_while_its_leg_runs(rt: HostRuntime) -> Result<(), Fail> {
     assert!(rt; same_by(&rt, rt.alloc(), &comings, &gate)?);
     assert!(rt; !gate.missed.load(Ordering::SeqCst));
     assert!(rt; gate.passed.load(Ordering::SeqCst) >= 70);
-    Ok(())
-}
-
-// The links behind a call of this conference, at whose links this comes, each leg of which was to run on a thread of so many octets of
-// stack.
-fn links_after<R: Threads + Wait + Sync>(
-    rt: &R,
-    alloc: Global,
-    comings: &[Coming],
-    stack: usize,
-) -> Result<MemLinks, NoMemory> {
-    let mut world = links(alloc, comings)?;
-    let Ok(conf) = read_conf(alloc, CALL, Form::Links) else {
-        return Ok(world);
-    };
-    let Ok(stop) = Arc::new(alloc, AtomicBool::new(false)) else {
-        return Err(NoMemory);
-    };
-    links_are_apart();
-    let Ok(opened) = open_links(alloc, &conf, &stop, &mut world) else {
-        return Ok(world);
-    };
-    let Called {
-        turned: _,
-        legs,
-        ends,
-        listeners: _,
-        tap: _,
-    } = call(
-        rt, alloc, &conf, opened, stop, &mut world, &StillGate, stack, NoTap,
-    );
-    close_legs(legs, &mut world);
-    close_ends(ends, &mut world);
-    Ok(world)
-}
-
-// Whether the link at this port was given the same in both.
-fn same_given(one: &MemLinks, other: &MemLinks, port: u16) -> bool {
-    let given = one.given(port);
-    let again = other.given(port);
-    given.len() == again.len()
-        && given
-            .iter()
-            .zip(again)
-            .all(|(packet, same)| packet.as_slice() == same.as_slice())
-}
-
-#[test]
-fn a_call_whose_threads_are_refused_is_the_same(rt: HostRuntime) -> Result<(), Fail> {
-    let comings = [LETTER_COMES, ANN_CLOSES, BOB_CLOSES];
-    let on_threads = links_after(&rt, rt.alloc(), &comings, 2_097_152)?;
-    let refused = links_after(&rt, rt.alloc(), &comings, usize::MAX)?;
-    assert!(rt; on_threads.given(5006).len() == 3);
-    assert!(rt; same_given(&on_threads, &refused, 5004));
-    assert!(rt; same_given(&on_threads, &refused, 5006));
     Ok(())
 }
