@@ -58,6 +58,7 @@ bench: $(PROGRAM)
 	bench/send $(PROGRAM)
 	for it in show show-64 script channel relay; do bench/run $$it $(PROGRAM) || exit 1; done
 	bench/mix $(PROGRAM)
+	bench/idle $(PROGRAM)
 	bench/threads $(PROGRAM)
 	bench/cascade $(PROGRAM)
 	bench/live $(PROGRAM)
