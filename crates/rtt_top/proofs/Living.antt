@@ -7,7 +7,10 @@ use Rattle.file_spec.specs.Lines as lines
 use Rattle.mixer_spec.specs.Setups.{leg_at}
 use Rattle.rtt_io.specs.declared.sinks.Sink as sinks
 use Rattle.serve_spec.specs.Served as served
+use Rattle.serve_spec.specs.Served.{IsServed}
+use Rattle.serve_spec.specs.Watched.{IsBoardOf}
 use Rattle.serve_spec.proofs.LinksStay.{apart_law, stay_law}
+use Rattle.serve_spec.proofs.Totals.{covers_told}
 use Rattle.live_loop.specs.Clocks.{IsPaced}
 use Rattle.live_loop.specs.Walks.{IsPaused}
 use Rattle.live_run.specs.declared.faults.LiveFault.{LiveFault}
@@ -15,7 +18,7 @@ use Rattle.live_run.specs.declared.faults.LiveFault.TheVariants as live
 use Rattle.live_run.specs.declared.reports.LiveEnd.{LiveEnd}
 use Rattle.live_run.specs.declared.reports.LiveReport.{LiveReport}
 use Rattle.live_run.specs.declared.reports.LiveEnd.TheVariants as ends
-use Rattle.live_run.specs.Calls.{BrokeOff, IsOfLinks, WasGivenUp, WasServed}
+use Rattle.live_run.specs.Calls.{BrokeOff, IsOfLinks, WasGivenUp, WasPaced, WasServed}
 use Rattle.live_run.specs.Opened.{LeadsAll, LeadsSome}
 use Rattle.live_run.specs.Reports.{end_of}
 use Rattle.live_watch.specs.Watched.{WasWatched}
@@ -58,9 +61,8 @@ pub was_served : (LinksTell : Type 0) (old new : LinksLeft) (octets : List ℕ) 
 was_served LinksTell old new octets c end printed read w paused paced leads opened calm = record {
   takes = w.takes;
   given = w.given;
-  call = w.served;
   keeps = w.keeps octets read;
-  turned = w.paced;
+  turned = λ t. subst (λ (s : IsServed c w.takes w.given (end_of end) printed). WasPaced c s.table) (sym (w.same octets read)) (w.paced t);
   taken = w.taken;
   gave = w.gave;
   leads = leads;
@@ -79,8 +81,8 @@ was_watched LinksTell old new octets c end printed read w paused paced leads ope
   views = w.views;
   lines = w.lines;
   served = was_served LinksTell old new octets c end w.views read w.was paused paced leads opened calm;
-  call = w.was.served;
-  board = w.board;
+  board = subst (λ (s : IsServed c w.was.takes w.was.given (end_of end) w.views). IsBoardOf c w.was.takes s.table (end_of end) w.lines) (sym (w.was.same octets read)) w.board;
+  covers = covers_told c w.was.takes w.was.given (end_of end) w.views (w.was.keeps octets read);
   printed_is = w.printed_is;
 }
 

@@ -8,8 +8,8 @@ use Rattle.rtt_io.specs.Fronts.{TakesFront}
 use Rattle.command_spec.specs.Messages.{Ending, status_of}
 use Rattle.rtt_words.specs.Told.{message_of}
 use Rattle.rtt_words.specs.Words.{MixWords, Command, Live, Watch}
-use Rattle.serve_spec.specs.Served.{End, Done, Closed, IsServed}
-use Rattle.serve_spec.specs.Watched.{IsBoardOf}
+use Rattle.serve_spec.specs.Served.{End, Done, Closed}
+use Rattle.serve_spec.specs.Watched.{CoversTold, IsBoardOf}
 use Rattle.serve_spec.specs.HeadLive.{HeadLive}
 use Rattle.live_loop.specs.Clocks.{IsPaced}
 use Rattle.live_loop.specs.Walks.{IsPaused}
@@ -36,9 +36,8 @@ use Rattle.rtt_top.specs.Statuses.{is_unread}
 pub record IsServedTo (c : Conf) (LinksTell : Type 0) (old new : LinksLeft) (end : End) (printed : List ℕ) : Type 0 where
   pub takes : ℕ → Takes
   pub given : ℕ → List (List ℕ)
-  pub call : IsServed c takes given end printed
   pub keeps : HeadLive c takes given end printed
-  pub turned : LinksTell → WasPaced c call.table
+  pub turned : LinksTell → WasPaced c keeps.served.table
   pub taken : LinksTell → AtPorts c new.taken takes
   pub gave : LinksTell → AtPorts c new.given given
   pub leads : LinksTell → LeadsAll c old.leads new.leads
@@ -47,13 +46,14 @@ pub record IsServedTo (c : Conf) (LinksTell : Type 0) (old new : LinksLeft) (end
   pub all_opened : (port : ℕ) → new.calls port ≡ old.calls port
   pub calm : end ≡ Closed → (port : ℕ) → new.ends port ≡ old.ends port
 
--- The same by `watch`: behind what is printed of a live call stand the lines of its board, which count what the mixer took in it.
+-- The same by `watch`: behind what is printed of a live call stand the lines of its board, which count what the mixer took in that very
+-- call: of each leg at least what any aware terminal was given of its text.
 pub record IsWatchedTo (c : Conf) (LinksTell : Type 0) (old new : LinksLeft) (end : End) (printed : List ℕ) : Type 0 where
   pub views : List ℕ
   pub lines : List ℕ
   pub served : IsServedTo c LinksTell old new end views
-  pub call : IsServed c served.takes served.given end views
-  pub board : IsBoardOf c served.takes call.table end lines
+  pub board : IsBoardOf c served.takes served.keeps.served.table end lines
+  pub covers : CoversTold c served.keeps.served.table
   pub printed_is : printed ≡ views ++ lines
 
 -- what serving a live call so means
