@@ -35,7 +35,7 @@ use Rattle.rtt_top.specs.Faults.{Stops}
 use Rattle.rtt_top.specs.Outside.{Failed, LinksLeft, Output, Outside, output_at}
 use Rattle.rtt_top.specs.Ports.{LegFailed}
 use Rattle.rtt_top.specs.Runs.{Prints, PrintsFront, Ends, Runs}
-use Rattle.rtt_top.specs.Lives.{EndsServing, Front, GivesUp, IsGivenUp, IsGivenUpFrom, IsServedFrom, OnGivenUp, RunsGivenUp, ServedAs, IsServedTo, IsWatchedTo, LiveEnds, PrintsReport, ServingEnds, RunsLive, RunsWatched, Share, Whole, is_unserved, status_at}
+use Rattle.rtt_top.specs.Lives.{EndsServing, Front, GivesUp, IsGivenUp, IsGivenUpFrom, IsServedFrom, OnGivenUp, RunsCall, ServedAs, IsServedTo, IsWatchedTo, LiveEnds, PrintsReport, ServingEnds, Share, Whole, is_unserved, status_at}
 use Rattle.rtt_top.specs.Statuses.{is_unread}
 use Rattle.rtt_top.proofs.Working.{lies}
 use Rattle.rtt_top.proofs.Ending.{runs}
@@ -284,38 +284,10 @@ pub not_begun : (Told : Type 0) (held : Contents) (c : Command) (Call Object Wor
     → GivesUp WorldTells LinksTell m old new status
 not_begun Told held c Call Object WorldTells LinksTell m old new status fault s is same = record { failed = λ at. absurd (not_a_link Told held c Call Object fault s (sym is ∙ at)); no_memory = λ at. inr same }
 
-same_live : (m k : MixWords) → Some (Live m) ≡ Some (Live k) → m ≡ k
-same_live m k e = cc e
-
-same_watched : (m k : MixWords) → Some (Watch m) ≡ Some (Watch k) → m ≡ k
-same_watched m k e = cc e
-
-pub runs_given_up_live : {words : Option Command} {WorldTells LinksTell : Type 0} {old new : Outside} {status : ℕ} (m : MixWords) → words ≡ Some (Live m) → GivesUp WorldTells LinksTell m old new status → RunsGivenUp words WorldTells LinksTell old new status
-runs_given_up_live {words} {WorldTells} {LinksTell} {old} {new} {status} m is g k (inl e) = subst (λ w. GivesUp WorldTells LinksTell w old new status) (same_live m k (sym is ∙ e)) g
-runs_given_up_live m is g k (inr e) = absurd (cc (is, e))
-
-pub runs_given_up_watched : {words : Option Command} {WorldTells LinksTell : Type 0} {old new : Outside} {status : ℕ} (m : MixWords) → words ≡ Some (Watch m) → GivesUp WorldTells LinksTell m old new status → RunsGivenUp words WorldTells LinksTell old new status
-runs_given_up_watched {words} {WorldTells} {LinksTell} {old} {new} {status} m is g k (inr e) = subst (λ w. GivesUp WorldTells LinksTell w old new status) (same_watched m k (sym is ∙ e)) g
-runs_given_up_watched m is g k (inl e) = absurd (cc (is, e))
-
--- whoever asks so for a live call of the same file had it served
-served_as_asked : (asks : MixWords → Command) (S : Conf → served.End → List ℕ → Type 0) (WorldTells OutTells : Type 0) (old new : Outside) (m : MixWords) (status : ℕ)
-    → ((k : MixWords) → Some (asks m) ≡ Some (asks k) → m ≡ k) → ((share : Share) → status ≡ status_at share → IsServedFrom share S WorldTells OutTells m old new)
-    → (share : Share) → status ≡ status_at share → (k : MixWords) → Some (asks m) ≡ Some (asks k) → IsServedFrom share S WorldTells OutTells k old new
-served_as_asked asks S WorldTells OutTells old new m status same served share at k e =
-    subst (λ w. IsServedFrom share S WorldTells OutTells w old new) (same k e) (served share at)
-
-pub runs_live : {words : Option Command} {WorldTells OutTells LinksTell : Type 0} {old new : Outside} {status : ℕ} (m : MixWords) → words ≡ Some (Live m)
-    → ((share : Share) → status ≡ status_at share → IsServedFrom share (λ c. IsServedTo c LinksTell old.links new.links) WorldTells OutTells m old new) → RunsLive words WorldTells OutTells LinksTell old new status
-runs_live {words} {WorldTells} {OutTells} {LinksTell} {old} {new} {status} m is served =
-    subst (λ w. RunsLive w WorldTells OutTells LinksTell old new status) (sym is)
-    (served_as_asked Live (λ c. IsServedTo c LinksTell old.links new.links) WorldTells OutTells old new m status (λ k e. cc e) served)
-
-pub runs_watched : {words : Option Command} {WorldTells OutTells LinksTell : Type 0} {old new : Outside} {status : ℕ} (m : MixWords) → words ≡ Some (Watch m)
-    → ((share : Share) → status ≡ status_at share → IsServedFrom share (λ c. IsWatchedTo c LinksTell old.links new.links) WorldTells OutTells m old new) → RunsWatched words WorldTells OutTells LinksTell old new status
-runs_watched {words} {WorldTells} {OutTells} {LinksTell} {old} {new} {status} m is served =
-    subst (λ w. RunsWatched w WorldTells OutTells LinksTell old new status) (sym is)
-    (served_as_asked Watch (λ c. IsWatchedTo c LinksTell old.links new.links) WorldTells OutTells old new m status (λ k e. cc e) served)
+-- what was asked for is a call that was served, or given up, so
+pub runs_call : (words : Option Command) (c : Command) (WorldTells OutTells LinksTell : Type 0) (old new : Outside) (status : ℕ) → words ≡ Some c
+    → RunsCall (Some c) WorldTells OutTells LinksTell old new status → RunsCall words WorldTells OutTells LinksTell old new status
+runs_call words c WorldTells OutTells LinksTell old new status is call = subst (λ w. RunsCall w WorldTells OutTells LinksTell old new status) (sym is) call
 
 -- a live call that was served of a file ended as a command that serves the same file
 pub runs_served : {words : Option Command} {file : List ℕ} {WorldTells OutTells ErrTells : Type 0} {old new : Outside} {before after : Output} {status : ℕ} (c : Command) → words ≡ Some c

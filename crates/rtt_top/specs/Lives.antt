@@ -122,16 +122,6 @@ pub record IsServedFrom (share : Share) (S : Conf → End → List ℕ → Type 
   pub served : S conference end printed
   pub prints : OutTells → PrintsShare share printed old new
 
--- where a live call is asked for, and the status is 0 or 7, one was served so
-abbrev pub RunsLive : Option Command → (WorldTells OutTells LinksTell : Type 0) → Outside → Outside → ℕ → Type 0
-RunsLive words WorldTells OutTells LinksTell old new status =
-    (share : Share) → status ≡ status_at share → (m : MixWords) → words ≡ Some (Live m) → IsServedFrom share (λ c. IsServedTo c LinksTell old.links new.links) WorldTells OutTells m old new
-
--- where `watch` is asked for, and the status is 0 or 7, one was served so
-abbrev pub RunsWatched : Option Command → (WorldTells OutTells LinksTell : Type 0) → Outside → Outside → ℕ → Type 0
-RunsWatched words WorldTells OutTells LinksTell old new status =
-    (share : Share) → status ≡ status_at share → (m : MixWords) → words ≡ Some (Watch m) → IsServedFrom share (λ c. IsWatchedTo c LinksTell old.links new.links) WorldTells OutTells m old new
-
 -- A live call of the conference was given up. Where the links tell it, the links that were opened are those of some legs, from the
 -- first one on, each from its port to its peer, and no other. It broke off, or no terminal was given anything.
 pub record IsGivenUp (c : Conf) (LinksTell : Type 0) (old new : LinksLeft) : Type 0 where
@@ -157,13 +147,16 @@ pub record GivesUp (WorldTells LinksTell : Type 0) (m : MixWords) (old new : Out
   pub failed : status ≡ 8 → IsGivenUpFrom WorldTells LinksTell m old new
   pub no_memory : status ≡ 70 → IsGivenUpFrom WorldTells LinksTell m old new ⊎ (new.links ≡ old.links)
 
--- a live call of the conference in this file is asked for, alone or with a board
-abbrev pub AsksForCall : Option Command → MixWords → Type 0
-AsksForCall words m = (words ≡ Some (Live m)) ⊎ (words ≡ Some (Watch m))
+-- A live call of the conference in this file was served so, at the status 0 or 7, or given up so, at 8 or 70.
+pub record IsCallOf (S : Conf → End → List ℕ → Type 0) (WorldTells OutTells LinksTell : Type 0) (m : MixWords) (old new : Outside) (status : ℕ) : Type 0 where
+  pub served : (share : Share) → status ≡ status_at share → IsServedFrom share S WorldTells OutTells m old new
+  pub given_up : GivesUp WorldTells LinksTell m old new status
 
--- where a live call is asked for, and the status is 8 or 70, it was given up so
-abbrev pub RunsGivenUp : Option Command → (WorldTells LinksTell : Type 0) → Outside → Outside → ℕ → Type 0
-RunsGivenUp words WorldTells LinksTell old new status = (m : MixWords) → AsksForCall words m → GivesUp WorldTells LinksTell m old new status
+-- where a live call is asked for, alone or with a board, one was made so
+abbrev pub RunsCall : Option Command → (WorldTells OutTells LinksTell : Type 0) → Outside → Outside → ℕ → Type 0
+RunsCall (Some (Live m)) WorldTells OutTells LinksTell old new = IsCallOf (λ c. IsServedTo c LinksTell old.links new.links) WorldTells OutTells LinksTell m old new
+RunsCall (Some (Watch m)) WorldTells OutTells LinksTell old new = IsCallOf (λ c. IsWatchedTo c LinksTell old.links new.links) WorldTells OutTells LinksTell m old new
+RunsCall _ WorldTells OutTells LinksTell old new = λ status. Unit {0}
 
 -- the status says that the conference can't be read (3, 4) or is refused (5), so that no live call began
 abbrev pub is_unserved : ℕ → Bool
