@@ -20,6 +20,7 @@ pub mod Before
 pub mod Plain
 pub mod Lying
 pub mod Fronts
+pub mod Telling
 pub mod Statuses
 pub mod FrameFronts
 pub mod Framing

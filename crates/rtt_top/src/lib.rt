@@ -17,6 +17,7 @@ mod relay;
 mod runs;
 mod send;
 mod serving;
+mod told;
 mod trunk;
 mod version;
 mod views;

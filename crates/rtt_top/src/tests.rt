@@ -393,7 +393,7 @@ fn add_failing(world: &mut MemWorld, alloc: Global) -> Result<(), Fail> {
     Ok(())
 }
 
-const FAILURES: [Case<'static>; 18] = [
+const FAILURES: [Case<'static>; 21] = [
     // broken recordings are refused at their byte
     Silent("read few.rtp 1001", 6, "few.rtp byte 136: EndsInside\n"),
     Silent("read head.rtp 1001", 6, "head.rtp byte 28: EndsInside\n"),
@@ -433,6 +433,18 @@ const FAILURES: [Case<'static>; 18] = [
     ),
     // faults of the outside
     Silent("read b.rtp 1001", 3, "cannot open b.rtp\n"),
+    // in a name no control character is told, and none that turns the direction in which text runs
+    Silent("read \x1B[2J.rtp 1001", 3, "cannot open \u{fffd}[2J.rtp\n"),
+    Silent(
+        "read a\u{202e}ptr\u{2069}\n\u{85}.b 1001",
+        3,
+        "cannot open a\u{fffd}ptr\u{fffd}\u{fffd}\u{fffd}.b\n",
+    ),
+    Silent(
+        "read Gr\u{fc}\u{df}e\u{202f}\u{2065}~.rtp 1001",
+        3,
+        "cannot open Gr\u{fc}\u{df}e\u{202f}\u{2065}~.rtp\n",
+    ),
     Silent("read whole.rtp 1001", 4, "cannot read whole.rtp\n"),
     Silent("send two.txt a.rtp 1001 0 0", 7, "cannot write a.rtp\n"),
     Silent("send two.txt b.rtp 1001 0 0", 7, "cannot write b.rtp\n"),
