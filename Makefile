@@ -3,7 +3,7 @@
 # make run         proves what the program is made of, builds it, and prints that view
 # make examples    runs the commands of the documents and compares what they print, and what is stored in examples
 # make trials      tries the program against the system, with each request of memory refused, against a second program, with
-#                  terminals over UDP, in a browser, on an archive and two machines, and as a package
+#                  terminals over UDP, in a browser, on an archive and two machines, in pods, and as a package
 # make recordings  makes the stored recordings of examples/ anew
 # make bench       how fast the program reads, lists, shows, sends and mixes, and how late live calls are
 # make compare     how fast it mixes beside a second program on one thread (takes rustc)
@@ -49,6 +49,7 @@ trials: $(PROGRAM)
 	examples/live/real $(PROGRAM)
 	examples/web/try $(PROGRAM)
 	examples/archives/try $(PROGRAM)
+	examples/pods/try $(PROGRAM)
 	package/try $(PROGRAM)
 
 recordings: $(PROGRAM)
