@@ -3,7 +3,7 @@
 # make test        the gate: proves from nothing what did not pass on this machine as it stands, and runs everything
 # make examples    runs the commands of the documents and compares what they print, and what is stored in examples
 # make trials      tries the program against the system, with each request of memory refused, against a second program, with
-#                  terminals over UDP, in a browser, and as a package
+#                  terminals over UDP, on a call that is captured, in a browser, and as a package; and a capture of 2 GB
 # make recordings  makes the stored recordings of examples/ anew
 # make bench       how fast the program reads, lists, shows, sends and mixes, and how late live calls are
 # make compare     how fast it mixes beside a second program on one thread (takes rustc)
@@ -46,6 +46,9 @@ trials: $(PROGRAM)
 	examples/second-program $(PROGRAM)
 	examples/live/try $(PROGRAM)
 	examples/live/real $(PROGRAM)
+	examples/plays/try $(PROGRAM)
+	examples/captures/call $(PROGRAM)
+	examples/pcap/large
 	examples/web/try $(PROGRAM)
 	package/try $(PROGRAM)
 
