@@ -6,6 +6,7 @@ ghost use Rattle.rtt_top.specs.Runs.{is_plain};
 ghost use Rattle.rtt_top.specs.Across.{RunsAcross};
 
 use crate::conversions::{Conversion, run_conversion};
+use crate::help::run_help;
 use crate::make::run_make;
 use crate::recorded::{Mixing, run_mixing};
 use crate::recordings::run_view;
@@ -59,6 +60,7 @@ pub fn carry_out_plain<W: World, K: Sink, E: Sink>(
             let recording = Conversion::Recording(*words);
             Some(run_conversion(alloc, &recording, world, out, err))
         }
+        Command::Help(topic) => Some(run_help(*topic, world, out, err)),
         Command::Version => Some(run_version(world, out, err)),
         Command::Mix(_)
         | Command::Attend(_)
@@ -105,6 +107,7 @@ pub fn carry_out<R: Threads + Wait + Sync, W: World, K: Sink, E: Sink, G: Gate +
         | Command::Channel(_)
         | Command::Show(_)
         | Command::Script(_)
+        | Command::Help(_)
         | Command::Version => unreachable!(),
     }
 }

@@ -6,6 +6,7 @@ mod commands;
 mod conferences;
 mod conversions;
 mod files;
+mod help;
 pub mod laws;
 mod make;
 mod messages;

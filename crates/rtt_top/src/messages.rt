@@ -14,6 +14,7 @@ use frame_spec::FrameKind;
 use itoa::Buffer;
 use rtt_base::{Bytes, Failed};
 use rtt_io::Sink;
+use rtt_words::{Topic, help_text};
 
 /// The program's status for a refusal.
 fn refusal_status(refusal: Refusal) -> u8
@@ -164,24 +165,6 @@ fn write_counted<E: Sink>(
     write_two(err, number, after)
 }
 
-/// The lines of the commands.
-const USAGE: &[u8] = b"\
-usage: rtt_program read FILE SSRC [SOURCE [T140 RED]]
-       rtt_program list FILE [T140 RED]
-       rtt_program send SCRIPT OUT SSRC SEQ STAMP
-       rtt_program mix CONF
-       rtt_program attend CONF
-       rtt_program cascade FILE SSRC CONF
-       rtt_program make N
-       rtt_program live CONF
-       rtt_program watch CONF
-       rtt_program relay FRAMES OUT SSRC SEQ STAMP
-       rtt_program channel FILE SSRC OUT
-       rtt_program show FILE [T140 RED]
-       rtt_program script FILE SSRC [SOURCE [T140 RED]]
-       rtt_program version
-";
-
 /// Writes why what lies in a file of this name is refused.
 fn write_refusal<E: Sink>(err: &mut E, name: &[u8], refusal: Refusal) -> Result<(), Failed>
     ensures never_falls { E.faults err.old ≤ E.faults err.new }
@@ -208,7 +191,7 @@ fn write_message<E: Sink>(err: &mut E, name: &[u8], fault: Fault) -> Result<(), 
     ensures partly { WrotePartly E.Sink err.old err.new (fault_message name.now fault) result }
 {
     match fault {
-        Fault::WrongWords => err.write_all(USAGE),
+        Fault::WrongWords => err.write_all(help_text(Topic::Usage)),
         Fault::CannotOpen { .. } => write_trouble(err, b"cannot open ", name),
         Fault::CannotRead { .. } => write_trouble(err, b"cannot read ", name),
         Fault::Refused { refusal, .. } => write_refusal(err, name, refusal),

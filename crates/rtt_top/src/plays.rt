@@ -106,7 +106,7 @@ const SEEN_BY_ANN: &str =
     "== Ann aware\nBob: \n-- Bob bells 0\n-- packets 0 used 0 refused 0 foreign 0\n";
 
 // What is told of words outside the word table.
-const USAGE: &str = "\
+pub const USAGE: &str = "\
 usage: rtt_program read FILE SSRC [SOURCE [T140 RED]]
 \x20      rtt_program list FILE [T140 RED]
 \x20      rtt_program send SCRIPT OUT SSRC SEQ STAMP
@@ -120,6 +120,7 @@ usage: rtt_program read FILE SSRC [SOURCE [T140 RED]]
 \x20      rtt_program channel FILE SSRC OUT
 \x20      rtt_program show FILE [T140 RED]
 \x20      rtt_program script FILE SSRC [SOURCE [T140 RED]]
+\x20      rtt_program help [COMMAND]
 \x20      rtt_program version
 ";
 

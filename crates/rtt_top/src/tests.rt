@@ -3,7 +3,7 @@ use crate::plays::Case::{
 };
 use crate::plays::Piece::{Octets, Packet, Plain, Rtcp};
 use crate::plays::{
-    Case, Coming, Line, OPENING, Piece, eight_times, front, holds, left, recording_of, twice,
+    Case, Coming, Line, OPENING, Piece, USAGE, eight_times, front, holds, left, recording_of, twice,
 };
 use link_io::{Came, FailingLink};
 use rtt_base::{Bytes, NoMemory, Path};
@@ -137,7 +137,7 @@ const MIXED_LOST: [Piece<'static>; 4] = [
     Octets(SENT_LAST),
 ];
 
-const VIEWS: [Case<'static>; 26] = [
+const VIEWS: [Case<'static>; 31] = [
     // two lost packets leave no marker, and three leave one
     View(
         &TWO_LETTERS,
@@ -276,6 +276,12 @@ const VIEWS: [Case<'static>; 26] = [
     ),
     // the program tells its version
     View(&[], "version", "rtt_program 0.1.0\n"),
+    View(&[], "--version", "rtt_program 0.1.0\n"),
+    // help tells of all commands, or of one
+    View(&[], "help", USAGE),
+    View(&[], "--help", USAGE),
+    View(&[], "-h", USAGE),
+    View(&[], "help version", HELP_OF_VERSION),
 ];
 
 #[test]
@@ -285,12 +291,20 @@ fn recordings_are_seen(rt: HostRuntime) -> Result<(), Fail> {
     Ok(())
 }
 
+const HELP_OF_VERSION: &str = "\
+usage: rtt_program version
+prints the name of the program and its version
+status 0: all is done
+status 7: the output, or OUT, cannot be written
+status 70: out of memory
+";
+
 const WRONG_WORDS: [Case<'static>; 13] = [
     Wrong("read a.rtp"),
     Wrong("read a.rtp -1"),
     Wrong("read --help 1"),
     Wrong("read a.rtp 4294967296"),
-    Wrong("help"),
+    Wrong("help raed"),
     Wrong(""),
     Wrong("mix"),
     Wrong("mix a b"),

@@ -8,7 +8,7 @@ use Rattle.rtt_words.specs.declared.commands.MakeWords.{MakeWords}
 use Rattle.rtt_words.specs.declared.commands.ChannelWords.{ChannelWords}
 use Rattle.rtt_words.specs.declared.commands.CascadeWords.{CascadeWords}
 use Rattle.rtt_words.specs.declared.commands.Command.{Command}
-use Rattle.rtt_words.specs.declared.commands.Command.TheVariants.{Read, ListRecords, Send, Mix, Attend, Cascade, Make, Live, Watch, Relay, Channel, Show, Script, Version}
+use Rattle.rtt_words.specs.declared.commands.Command.TheVariants.{Read, ListRecords, Send, Mix, Attend, Cascade, Make, Live, Watch, Relay, Channel, Show, Script, Help, Version}
 
 abbrev pub asked : ReadWords → words.ReadWords
 asked r = record { file = r.file.now; ssrc = r.ssrc; source = r.source; pts = r.pts }
@@ -45,4 +45,5 @@ meaning (Relay s) = words.Relay (sent s)
 meaning (Channel c) = words.Channel (channelled c)
 meaning (Show l) = words.Show (listed l)
 meaning (Script r) = words.Script (asked r)
+meaning (Help t) = words.Help t
 meaning Version = words.Version

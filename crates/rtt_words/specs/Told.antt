@@ -1,12 +1,9 @@
--- The usage, and what is told of a fault (profile). Each line ends with LF.
+-- What is told of a fault (profile). Each line ends with LF.
 use Rattle.std.specs.Prelude.{List, [], ℕ, Ok, Err, codes}
 use Rattle.command_spec.specs.declared.faults.Fault.{Fault}
 use Rattle.command_spec.specs.declared.faults.Fault.TheVariants.{WrongWords, CannotOpen, CannotRead, Refused, CannotPrint, CannotWrite, LinkFailed, NoMemory}
 use Rattle.command_spec.specs.Messages.{Ending, refusal_message, trouble}
-
--- for words outside the word table
-abbrev pub usage : List ℕ
-usage = codes "usage: rtt_program read FILE SSRC [SOURCE [T140 RED]]\n       rtt_program list FILE [T140 RED]\n       rtt_program send SCRIPT OUT SSRC SEQ STAMP\n       rtt_program mix CONF\n       rtt_program attend CONF\n       rtt_program cascade FILE SSRC CONF\n       rtt_program make N\n       rtt_program live CONF\n       rtt_program watch CONF\n       rtt_program relay FRAMES OUT SSRC SEQ STAMP\n       rtt_program channel FILE SSRC OUT\n       rtt_program show FILE [T140 RED]\n       rtt_program script FILE SSRC [SOURCE [T140 RED]]\n       rtt_program version\n"
+use Rattle.rtt_words.specs.Help.{usage}
 
 -- what is told of a fault whose file or leg has this name
 abbrev pub fault_message : List ℕ → Fault → List ℕ

@@ -4,6 +4,9 @@ use Rattle.std.specs.Option.{option_map}
 use Rattle.rtt_base.specs.declared.text_packets.Pts.{Pts}
 use Rattle.file_spec.specs.Numbers.{number, number_between, most_ssrc, pts}
 use Rattle.command_spec.specs.Usual.{usual_pts}
+use Rattle.rtt_words.specs.declared.topics.Topic.{Topic}
+use Rattle.rtt_words.specs.declared.topics.Topic.TheVariants.{Usage}
+use Rattle.rtt_words.specs.Help.{topic}
 
 -- what `read` and `script` are asked for: the text of a source in the packets of an SSRC of a recording, under two payload types
 pub record ReadWords : Type 0 where
@@ -60,6 +63,7 @@ pub data Command : Type 0 where
   Channel : ChannelWords → Command
   Show : ListWords → Command
   Script : ReadWords → Command
+  Help : Topic → Command
   Version : Command
 
 -- a word that is empty or begins with `-` is none
@@ -140,6 +144,12 @@ before_conf c = record { file = c.file; ssrc = c.ssrc; conf = c.out }
 abbrev pub cascade_words : List (List ℕ) → Option CascadeWords
 cascade_words words = option_map before_conf (channel_words words)
 
+-- no words, or `COMMAND`
+abbrev pub help_words : List (List ℕ) → Option Command
+help_words [] = Some (Help Usage)
+help_words (name ∷ []) = if is_word name then option_map Help (topic name) else None
+help_words _ = None
+
 -- no words
 abbrev pub version_words : List (List ℕ) → Option Command
 version_words [] = Some Version
@@ -162,4 +172,8 @@ command (name ∷ words) =
     else (if bytes_eq name (codes "channel") then option_map Channel (channel_words words)
     else (if bytes_eq name (codes "show") then option_map Show (list_words words)
     else (if bytes_eq name (codes "script") then option_map Script (read_words words)
-    else (if bytes_eq name (codes "version") then version_words words else None)))))))))))))
+    else (if bytes_eq name (codes "help") then help_words words
+    else (if bytes_eq name (codes "--help") then help_words words
+    else (if bytes_eq name (codes "-h") then help_words words
+    else (if bytes_eq name (codes "version") then version_words words
+    else (if bytes_eq name (codes "--version") then version_words words else None)))))))))))))))))

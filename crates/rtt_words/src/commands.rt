@@ -1,4 +1,5 @@
 //! What the program is asked for.
+use crate::Topic;
 use rtt_base::Pts;
 
 /// What `read` and `script` are asked for.
@@ -100,6 +101,8 @@ pub enum Command<'a> {
     Show(ListWords<'a>),
     /// Prints the text of a source of a recording as a script.
     Script(ReadWords<'a>),
+    /// Prints the words of all commands, or of one its words, what it does and its statuses.
+    Help(Topic),
     /// Prints the version of the program.
     Version,
 }

@@ -85,7 +85,8 @@ fn named<'a>(alloc: Global, name: &str, words: &'a [String]) -> Result<Command<'
         "channel" => Ok(Command::Channel(from_words(alloc, words)?)),
         "show" => Ok(Command::Show(from_words(alloc, words)?)),
         "script" => Ok(Command::Script(from_words(alloc, words)?)),
-        "version" => {
+        "help" | "--help" | "-h" => Ok(Command::Help(from_words(alloc, words)?)),
+        "version" | "--version" => {
             let NoWords = from_words(alloc, words)?;
             Ok(Command::Version)
         }

@@ -7,7 +7,13 @@ use Rattle.rtt_top.proofs.messages.write_message.Goals as goal
 
 pub returns-in-WrongWords-clause-partly : goal.returns-in-WrongWords-clause-partly
 returns-in-WrongWords-clause-partly g c =
-    subst (λ (f : Fault). g.E.Sink.tells → OnErr c.write_all.result (TakesFront (g.E.Sink.took c.args.err.now) (g.E.Sink.took c.write_all.new.self) (fault_message c.args.name.now f))) (sym c.in-WrongWords.is) c.write_all.ensures.prefix
+    subst (λ (f : Fault). g.E.Sink.tells → OnErr c.write_all.result (TakesFront (g.E.Sink.took c.args.err.now) (g.E.Sink.took c.write_all.new.self) (fault_message c.args.name.now f))) (sym c.in-WrongWords.is)
+    (subst (λ octets. g.E.Sink.tells → OnErr c.write_all.result (TakesFront (g.E.Sink.took c.args.err.now) (g.E.Sink.took c.write_all.new.self) octets)) c.help_text.ensures c.write_all.ensures.prefix)
+
+pub returns-in-WrongWords-clause-written : goal.returns-in-WrongWords-clause-written
+returns-in-WrongWords-clause-written g c =
+    subst (λ (f : Fault). g.E.Sink.tells → OnOk c.write_all.result (g.E.Sink.took c.write_all.new.self ≡ g.E.Sink.took c.args.err.now ++ fault_message c.args.name.now f)) (sym c.in-WrongWords.is)
+    (subst (λ octets. g.E.Sink.tells → OnOk c.write_all.result (g.E.Sink.took c.write_all.new.self ≡ g.E.Sink.took c.args.err.now ++ octets)) c.help_text.ensures c.write_all.ensures.appended)
 
 pub returns-in-CannotRead-clause-written : goal.returns-in-CannotRead-clause-written
 returns-in-CannotRead-clause-written g c =
