@@ -18,7 +18,8 @@ use Rattle.rtt_words.specs.Tasks.{request_of, unless_broken, work}
 use Rattle.command_spec.specs.Messages.{Ending, ending_of, status_of}
 use Rattle.rtt_words.specs.Told.{message_of}
 use Rattle.rtt_top.specs.Outside.{Outside, Output, Failed}
-use Rattle.rtt_top.specs.Runs.{Prints, Ends, outcome_of, IsCalm, IsAsWorked, IsOfWords, IsHeadline, IsAttendedHeadline, IsCascadedHeadline, Runs}
+use Rattle.rtt_top.specs.Runs.{Prints, Ends, outcome_of, IsCalm, IsAsWorked, IsOfWords, IsHeadline, IsAttendedHeadline, IsCascadedHeadline, Runs, HasStatus}
+use Rattle.rtt_top.proofs.Statused.{of_fault}
 use Rattle.command_spec.specs.Attending.{attending}
 use Rattle.command_spec.specs.Cascading.{cascading}
 use Rattle.command_spec.specs.Mixing.{mixing}
@@ -118,7 +119,7 @@ the_same : (c : Command) (r : ReadWords) → Some c ≡ Some (Read r) → c ≡ 
 the_same c r e = cc
 
 pub runs : {c : Command} {WorldTells OutTells ErrTells : Type 0} {old new : Outside} {before after : Output} {status : ℕ} (ending : Ending) (name : List ℕ)
-    → status ≡ status_of ending → Ends c WorldTells OutTells old new name ending → (ending ≡ Ok tt → after.octets ≡ before.octets)
+    → HasStatus (Some c) WorldTells old.contents ending status → Ends c WorldTells OutTells old new name ending → (ending ≡ Ok tt → after.octets ≡ before.octets)
     → (ErrTells → TakesFront before.octets after.octets (message_of name ending))
     → (ErrTells → (Failed before after → ⊥) → after.octets ≡ before.octets ++ message_of name ending) → Runs (Some c) WorldTells OutTells ErrTells old new before after status
 runs {c} {WorldTells} {OutTells} {ErrTells} {old} {new} {before} {after} {status} ending name is ends silent front told = record {
@@ -183,4 +184,4 @@ pub no_memory : (words : Option Command) (WorldTells OutTells ErrTells : Type 0)
     → (ErrTells → (Failed before after → ⊥) → after.octets ≡ before.octets ++ message_of name (Err NoMemory)) → Runs words WorldTells OutTells ErrTells old old before after status
 no_memory None WorldTells OutTells ErrTells old before after status name s silent front told = no_words None WorldTells OutTells ErrTells old before after status NoMemory name refl (inr refl) s silent front told
 no_memory (Some c) WorldTells OutTells ErrTells old before after status name s silent front told =
-    runs (Err NoMemory) name s ((λ shown. refl), λ told name. refl) silent front told
+    runs (Err NoMemory) name (of_fault c WorldTells old.contents NoMemory status s) ((λ shown. refl), λ told name. refl) silent front told

@@ -2,6 +2,7 @@ pub mod Counts
 pub mod Sources
 pub mod Working
 pub mod Unserved
+pub mod Statused
 pub mod Ending
 pub mod Sending
 pub mod Histories
@@ -24,4 +25,5 @@ pub mod Statuses
 pub mod FrameFronts
 pub mod Framing
 pub mod Converting
+pub mod Looking
 pub mod Refusals

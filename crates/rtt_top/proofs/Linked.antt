@@ -2,7 +2,7 @@
 use Rattle.std.proofs.Common.{◌≡◌, ℕ, true, false, true≢false, inl, inr, Option, Some, None, List, Ok, Err, refl, sym, subst, ◌∙◌}
 use Rattle.command_spec.specs.declared.faults.Refusal.TheVariants.{AtByte, AtFrame, AtLine, AtTrunk, AfterTurns}
 use Rattle.command_spec.specs.declared.faults.Fault.TheVariants.{WrongWords, CannotOpen, CannotRead, Refused, CannotPrint, CannotWrite, LinkFailed, NoMemory}
-use Rattle.rtt_words.specs.Words.{MixWords, Command, Read, ListRecords, Send, Mix, Attend, Cascade, Make, Live, Watch, Relay, Channel, Show, Script, Help, Version}
+use Rattle.rtt_words.specs.Words.{MixWords, Command, Read, ListRecords, Send, Mix, Attend, Cascade, Make, Live, Watch, Relay, Channel, Show, Script, Check, Help, Version}
 use Rattle.command_spec.specs.Messages.{Ending}
 use Rattle.rtt_words.specs.declared.commands.MixWords as coded
 use Rattle.rtt_words.specs.declared.commands.Command as asked
@@ -51,6 +51,7 @@ plain_is_not_live (Relay s) e = refl
 plain_is_not_live (Channel c) e = refl
 plain_is_not_live (Show l) e = refl
 plain_is_not_live (Script r) e = refl
+plain_is_not_live (Check c) e = refl
 plain_is_not_live (Help t) e = refl
 plain_is_not_live Version e = refl
 
@@ -69,6 +70,7 @@ other_is_not_live (word.Relay s) other watch = refl
 other_is_not_live (word.Channel c) other watch = refl
 other_is_not_live (word.Show l) other watch = refl
 other_is_not_live (word.Script r) other watch = refl
+other_is_not_live (word.Check c) other watch = refl
 other_is_not_live (word.Help t) other watch = refl
 other_is_not_live word.Version other watch = refl
 

@@ -28,12 +28,13 @@ use Rattle.command_spec.specs.Outcomes.{Outcome, Served, outcome, outcome_from, 
 use Rattle.command_spec.specs.Serving.{serves_read, serving}
 use Rattle.command_spec.specs.Messages.{Ending, status_of}
 use Rattle.rtt_top.specs.Conferences.{ending_name, fault_of_live, name_of, serving_of}
-use Rattle.rtt_top.specs.Faults.{Stops}
+use Rattle.rtt_top.specs.Faults.{Stops, is_check}
 use Rattle.rtt_top.specs.Outside.{Failed, LinksLeft, Output, Outside, output_at}
 use Rattle.rtt_top.specs.Ports.{LegFailed}
 use Rattle.rtt_top.specs.Runs.{Prints, PrintsFront, Ends, Runs}
 use Rattle.rtt_top.specs.Lives.{EndsServing, Front, GivesUp, IsGivenUp, IsGivenUpFrom, IsServedFrom, OnGivenUp, RunsGivenUp, ServedAs, IsServedTo, IsWatchedTo, LiveEnds, PrintsReport, ServingEnds, RunsLive, RunsWatched, Share, Whole, is_unserved, status_at}
 use Rattle.rtt_top.specs.Statuses.{is_unread}
+use Rattle.rtt_top.proofs.Statused.{other}
 use Rattle.rtt_top.proofs.Working.{lies}
 use Rattle.rtt_top.proofs.Ending.{runs}
 
@@ -316,9 +317,9 @@ runs_watched {words} {WorldTells} {OutTells} {LinksTell} {old} {new} {status} m 
     (served_as_asked Watch (λ c. IsWatchedTo c LinksTell old.links new.links) WorldTells OutTells old new m status (λ k e. cc e) served)
 
 -- a live call that was served of a file ended as a command that serves the same file
-pub runs_served : {words : Option Command} {file : List ℕ} {WorldTells OutTells ErrTells : Type 0} {old new : Outside} {before after : Output} {status : ℕ} (c : Command) → words ≡ Some c
+pub runs_served : {words : Option Command} {file : List ℕ} {WorldTells OutTells ErrTells : Type 0} {old new : Outside} {before after : Output} {status : ℕ} (c : Command) → words ≡ Some c → is_check c ≡ false
     → ((name : List ℕ) (ending : Ending) → Ends (serving_of file) WorldTells OutTells old new name ending → Ends c WorldTells OutTells old new name ending)
     → EndsServing file WorldTells OutTells ErrTells old new before after status → Runs words WorldTells OutTells ErrTells old new before after status
-runs_served {words} {file} {WorldTells} {OutTells} {ErrTells} {old} {new} {before} {after} {status} c is same e =
+runs_served {words} {file} {WorldTells} {OutTells} {ErrTells} {old} {new} {before} {after} {status} c is off same e =
     subst (λ w. Runs w WorldTells OutTells ErrTells old new before after status) (sym is)
-    (runs e.ending e.name e.is_status (same e.name e.ending e.ends) e.silent e.front e.told)
+    (runs e.ending e.name (other c WorldTells old.contents e.ending status off e.is_status) (same e.name e.ending e.ends) e.silent e.front e.told)

@@ -3,7 +3,7 @@
 use Rattle.std.specs.Prelude.{◌≡◌, ◌⊎◌, ◌<◌, ◌≤◌, ℕ, Bool, true, false, Option, None, Some, List, [], ◌∷◌, ◌++◌, take, Ok, Err, suc, zero, map, String, string_bytes}
 use Rattle.std.specs.Global.{Global}
 use Rattle.rtt_io.specs.Fronts.{TakesFront}
-use Rattle.rtt_words.specs.Words.{ReadWords, MixWords, CascadeWords, Command, Read, Mix, Attend, Cascade, Make, Live, Watch, command}
+use Rattle.rtt_words.specs.Words.{ReadWords, MixWords, CascadeWords, Command, Read, Mix, Attend, Cascade, Make, Live, Watch, Check, CheckWords, command}
 use Rattle.stream_spec.specs.History.{History, Lawful, Come}
 use Rattle.command_spec.specs.declared.faults.Refusal.TheVariants.{AtByte, AtFrame, AtLine, AtTrunk, AfterTurns}
 use Rattle.command_spec.specs.declared.faults.Fault.TheVariants.{WrongWords, CannotOpen, CannotRead, Refused, CannotPrint, CannotWrite, LinkFailed, NoMemory}
@@ -16,6 +16,7 @@ use Rattle.command_spec.specs.Cascaded.{IsCascaded}
 use Rattle.command_spec.specs.Reading.{arrivals_of, history_view}
 use Rattle.rtt_words.specs.Tasks.{request_of, work}
 use Rattle.command_spec.specs.Messages.{Ending, ending_of, status_of}
+use Rattle.check_spec.specs.Checking.{report}
 use Rattle.rtt_words.specs.Told.{message_of}
 use Rattle.rtt_top.specs.Faults.{NoneBefore, RefusesSo, WhereRead, has_frames, is_live, is_mixed, is_recording}
 use Rattle.rtt_top.specs.Files.{IsPartlyStored}
@@ -161,6 +162,22 @@ abbrev pub RunEnds : Option Command → (WorldTells OutTells : Type 0) → Outsi
 RunEnds None WorldTells OutTells old new name ending = IsOfWords ending × Unchanged WorldTells OutTells old new
 RunEnds (Some c) WorldTells OutTells old new name ending = Ends c WorldTells OutTells old new name ending
 
+-- 0 where a file is taken, else 1
+abbrev pub found_status : Bool → ℕ
+found_status true = 0
+found_status false = 1
+
+-- the status says whether the file is taken that lies there, as far as that is told
+pub record IsFound (w : CheckWords) (WorldTells : Type 0) (held : Contents) (status : ℕ) : Type 0 where
+  pub taken : Bool
+  pub is_status : status ≡ found_status taken
+  pub is_taken : WorldTells → (octets : List ℕ) → held w.file ≡ Some octets → taken ≡ (report w.file octets).taken
+
+-- the status is that of the ending; where `check` has looked at a file, that of what was found
+abbrev pub HasStatus : Option Command → (WorldTells : Type 0) → Contents → Ending → ℕ → Type 0
+HasStatus (Some (Check w)) WorldTells held (Ok done) status = IsFound w WorldTells held status
+HasStatus words WorldTells held ending status = status ≡ status_of ending
+
 -- a recording that is read, whose packets are those of a history, and the view of that history
 pub record IsViewOf (h : History) (words : Option Command) (held : Contents) (view : List ℕ) : Type 0 where
   pub request : ReadWords
@@ -193,7 +210,7 @@ pub record Runs (words : Option Command) (WorldTells OutTells ErrTells : Type 0)
     (status : ℕ) : Type 0 where
   pub ending : Ending
   pub name : List ℕ
-  pub is_status : status ≡ status_of ending
+  pub is_status : HasStatus words WorldTells old.contents ending status
   pub ends : RunEnds words WorldTells OutTells old new name ending
   pub calm : (c : Command) → words ≡ Some c → WhereRead (work c).steps WorldTells
       → IsCalm (work c) WorldTells old new → IsAsWorked (work c) old ending

@@ -1,7 +1,7 @@
 -- The statuses with which each command can end.
 use Rattle.std.specs.Prelude.{◌≡◌, ◌==◌, ◌||◌, ℕ, Bool, true, false, Some, List, [], ◌∷◌, map}
 use Rattle.std.specs.List.{list_any}
-use Rattle.rtt_words.specs.Words.{Command, Read, ListRecords, Send, Mix, Attend, Cascade, Make, Live, Watch, Relay, Channel, Show, Script, Help, Version}
+use Rattle.rtt_words.specs.Words.{Command, Read, ListRecords, Send, Mix, Attend, Cascade, Make, Live, Watch, Relay, Channel, Show, Script, Check, Help, Version}
 use Rattle.rtt_words.specs.declared.topics.Topic.{Topic}
 use Rattle.rtt_words.specs.declared.topics.Topic.TheVariants as of
 use Rattle.rtt_words.specs.Help.{statuses}
@@ -17,7 +17,7 @@ abbrev pub is_unread : ℕ → Bool
 is_unread status = status == 3 || status == 4
 
 -- Why this command stops before all was done, besides. 5: a line of a script or a conference is refused; 6: a recording or frames are;
--- 8: a link failed; 9: a conference was not over.
+-- 8: a link failed; 9: a conference was not over; 1: a file is not taken that `check` has looked at.
 abbrev pub can_stop : Command → ℕ → Bool
 can_stop (Read r) status = is_unread status || status == 6
 can_stop (ListRecords l) status = is_unread status || status == 6
@@ -32,6 +32,7 @@ can_stop (Relay s) status = is_unread status || status == 6
 can_stop (Channel c) status = is_unread status || status == 6
 can_stop (Show l) status = is_unread status || status == 6
 can_stop (Script r) status = is_unread status || status == 6
+can_stop (Check c) status = is_unread status || status == 1
 can_stop (Help t) status = false
 can_stop Version status = false
 
@@ -59,12 +60,13 @@ topic_of (Relay s) = of.Relay
 topic_of (Channel c) = of.Channel
 topic_of (Show l) = of.Show
 topic_of (Script r) = of.Script
+topic_of (Check c) = of.Check
 topic_of (Help t) = of.Help
 topic_of Version = of.Version
 
 -- all statuses of the program
 abbrev pub all_statuses : List ℕ
-all_statuses = 0 ∷ 2 ∷ 3 ∷ 4 ∷ 5 ∷ 6 ∷ 7 ∷ 8 ∷ 9 ∷ 70 ∷ []
+all_statuses = 0 ∷ 1 ∷ 2 ∷ 3 ∷ 4 ∷ 5 ∷ 6 ∷ 7 ∷ 8 ∷ 9 ∷ 70 ∷ []
 
 -- `help` names the statuses with which a command can end, and no other
 abbrev pub HelpNamesThem : Type 0

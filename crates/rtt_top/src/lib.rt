@@ -2,6 +2,7 @@
 #![tactic(auto)]
 
 mod channel;
+mod check;
 mod commands;
 mod conferences;
 mod conversions;

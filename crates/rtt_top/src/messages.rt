@@ -2,7 +2,7 @@
 ghost use Rattle.std.specs.Prelude.{◌≡◌, ◌++◌, ◌≤◌, decimal, Ok, OnErr, IfErr};
 ghost use Rattle.std.specs.List.{concat};
 ghost use Rattle.rtt_io.specs.Counts.{Rose};
-ghost use Rattle.command_spec.specs.Messages.{refusal_status, fault_status, status_of, refusal_message, trouble, byte_message, line_message, conf_kind_name, frame_kind_name};
+ghost use Rattle.command_spec.specs.Messages.{refusal_status, fault_status, status_of, refusal_message, trouble, byte_message, line_message};
 ghost use Rattle.rtt_words.specs.Told.{fault_message, message_of};
 ghost use Rattle.rtt_top.specs.Faults.{message_in};
 ghost use Rattle.rtt_top.specs.Sinks.{Wrote, WrotePartly, TookFront, TookIfCalm, place_message};
@@ -13,6 +13,7 @@ use file_spec::ConfKind;
 use frame_spec::FrameKind;
 use itoa::Buffer;
 use rtt_base::{Bytes, Failed};
+use rtt_check::{conf_kind_name, frame_kind_name};
 use rtt_io::Sink;
 use rtt_words::{Topic, help_text};
 
@@ -39,43 +40,6 @@ pub fn status(fault: Fault) -> u8
         Fault::CannotPrint | Fault::CannotWrite { .. } => 7,
         Fault::LinkFailed { .. } => 8,
         Fault::NoMemory => 70,
-    }
-}
-
-fn conf_kind_name(kind: ConfKind) -> &'static [u8]
-    ensures { result.now ≡ conf_kind_name kind }
-{
-    match kind {
-        ConfKind::NotText => b"NotText",
-        ConfKind::Word => b"Word",
-        ConfKind::Count => b"Count",
-        ConfKind::Name => b"Name",
-        ConfKind::Number => b"Number",
-        ConfKind::Many => b"Many",
-        ConfKind::PlanMany => b"PlanMany",
-        ConfKind::Twice => b"Twice",
-        ConfKind::Clash => b"Clash",
-        ConfKind::Few => b"Few",
-        ConfKind::Crowd => b"Crowd",
-        ConfKind::Large => b"Large",
-        ConfKind::Order => b"Order",
-        ConfKind::Escape => b"Escape",
-        ConfKind::Long => b"Long",
-        ConfKind::Full => b"Full",
-    }
-}
-
-fn frame_kind_name(kind: FrameKind) -> &'static [u8]
-    ensures { result.now ≡ frame_kind_name kind }
-{
-    match kind {
-        FrameKind::Time => b"Time",
-        FrameKind::Length => b"Length",
-        FrameKind::TooLarge => b"TooLarge",
-        FrameKind::NotText => b"NotText",
-        FrameKind::EndsInside => b"EndsInside",
-        FrameKind::Full => b"Full",
-        FrameKind::ManyFrames => b"ManyFrames",
     }
 }
 

@@ -1,5 +1,5 @@
 use crate::plays::Case::{
-    Attended, Behind, LinkFault, Live, Mixed, Relayed, Sent, Silent, View, Wrong,
+    Attended, Behind, LinkFault, Live, Mixed, Relayed, Sent, Silent, Untaken, View, Wrong,
 };
 use crate::plays::Piece::{Octets, Packet, Plain, Rtcp};
 use crate::plays::{
@@ -137,7 +137,7 @@ const MIXED_LOST: [Piece<'static>; 4] = [
     Octets(SENT_LAST),
 ];
 
-const VIEWS: [Case<'static>; 31] = [
+const VIEWS: [Case<'static>; 33] = [
     // two lost packets leave no marker, and three leave one
     View(
         &TWO_LETTERS,
@@ -276,6 +276,12 @@ const VIEWS: [Case<'static>; 31] = [
     ),
     // the program tells its version
     View(&[], "version", "rtt_program 0.1.0\n"),
+    // a file is looked at
+    View(&TWO_LETTERS, "check a.rtp", "recording: 4 packets, whole\n"),
+    Untaken(
+        "mixer 9 0 0\ntick 10\n",
+        "conference of recordings\nf line 2: Number\n| tick 10\ntick is a number of milliseconds from 20 to 200\n",
+    ),
     View(&[], "--version", "rtt_program 0.1.0\n"),
     // help tells of all commands, or of one
     View(&[], "help", USAGE),

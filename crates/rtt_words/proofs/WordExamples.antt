@@ -3,7 +3,7 @@ use Rattle.std.proofs.Common.{◌≡◌, ℕ, List, [], ◌∷◌, Some, true, c
 use Rattle.std.specs.List.{list_all}
 use Rattle.std.specs.Option.{is_none}
 use Rattle.rtt_words.specs.declared.topics.Topic.TheVariants as of
-use Rattle.rtt_words.specs.Words.{command, Command, Read, ListRecords, Send, Mix, Attend, Cascade, Make, Live, Watch, Relay, Channel, Show, Script, Help, Version}
+use Rattle.rtt_words.specs.Words.{command, Command, Read, ListRecords, Send, Mix, Attend, Cascade, Make, Live, Watch, Relay, Channel, Show, Script, Check, Help, Version}
 
 -- the words of each row ask for what stands behind them
 abbrev AskFor : List (List (List ℕ) × Command) → Type 0
@@ -65,6 +65,7 @@ words_are_missing : AskNothing (
     ∷ (codes "cascade" ∷ codes "b.out" ∷ codes "9000" ∷ [])
     ∷ (codes "live" ∷ [])
     ∷ (codes "watch" ∷ [])
+    ∷ (codes "check" ∷ [])
     ∷ (codes "make" ∷ [])
     ∷ [])
 words_are_missing = refl
@@ -105,6 +106,9 @@ no_word_is_like_an_option : AskNothing (
     ∷ (codes "channel" ∷ codes "a.rtp" ∷ codes "1001" ∷ codes "-f" ∷ [])
     ∷ [])
 no_word_is_like_an_option = refl
+
+check_a_file : AskFor ((codes "check" ∷ codes "a" ∷ [], Check (record { file = codes "a" })) ∷ [])
+check_a_file = refl
 
 help_of_all_or_of_one : AskFor (
     (codes "help" ∷ [], Help of.Usage)

@@ -7,7 +7,7 @@ use Rattle.rtt_words.specs.declared.topics.Topic.TheVariants as of
 
 -- the commands, in the order in which they are told
 abbrev pub commands : List Topic
-commands = of.Read ∷ of.List ∷ of.Send ∷ of.Mix ∷ of.Attend ∷ of.Cascade ∷ of.Make ∷ of.Live ∷ of.Watch ∷ of.Relay ∷ of.Channel ∷ of.Show ∷ of.Script ∷ of.Help ∷ of.Version ∷ []
+commands = of.Read ∷ of.List ∷ of.Send ∷ of.Mix ∷ of.Attend ∷ of.Cascade ∷ of.Make ∷ of.Live ∷ of.Watch ∷ of.Relay ∷ of.Channel ∷ of.Show ∷ of.Script ∷ of.Check ∷ of.Help ∷ of.Version ∷ []
 
 -- the command of this name, or all of them
 abbrev pub topic : List ℕ → Option Topic
@@ -25,8 +25,9 @@ topic name =
     else (if bytes_eq name (codes "channel") then Some of.Channel
     else (if bytes_eq name (codes "show") then Some of.Show
     else (if bytes_eq name (codes "script") then Some of.Script
+    else (if bytes_eq name (codes "check") then Some of.Check
     else (if bytes_eq name (codes "help") then Some of.Help
-    else (if bytes_eq name (codes "version") then Some of.Version else None))))))))))))))
+    else (if bytes_eq name (codes "version") then Some of.Version else None)))))))))))))))
 
 -- its words
 abbrev pub row : Topic → List ℕ
@@ -44,6 +45,7 @@ row of.Relay = codes "relay FRAMES OUT SSRC SEQ STAMP"
 row of.Channel = codes "channel FILE SSRC OUT"
 row of.Show = codes "show FILE [T140 RED]"
 row of.Script = codes "script FILE SSRC [SOURCE [T140 RED]]"
+row of.Check = codes "check FILE"
 row of.Help = codes "help [COMMAND]"
 row of.Version = codes "version"
 
@@ -103,6 +105,7 @@ does of.Relay = codes "makes the recording of what a sender sends of frames of t
 does of.Channel = codes "writes the text of a recording as frames\n" ++ (file_word ++ (ssrc_word ++ (codes "OUT: the file of frames that is made\n")))
 does of.Show = codes "prints all that was typed in each stream of a recording, and what else is in it; of one that is broken, the front\n" ++ (file_word ++ types_words)
 does of.Script = codes "prints the text of a source of a recording as a script, which send takes\n" ++ (file_word ++ (ssrc_word ++ (source_word ++ types_words)))
+does of.Check = codes "prints what a file is, whether the program takes it, and if not where, why, and what to do\n" ++ (codes "FILE: a recording, a script, a conference or frames\n")
 does of.Help = codes "prints the words of all commands, or of one its words, what it does, and the statuses with which it ends\n" ++ (codes "COMMAND: the first word of a command\n")
 does of.Version = codes "prints the name of the program and its version\n"
 
@@ -122,19 +125,21 @@ statuses of.Relay = 0 ∷ 3 ∷ 4 ∷ 6 ∷ 7 ∷ 70 ∷ []
 statuses of.Channel = 0 ∷ 3 ∷ 4 ∷ 6 ∷ 7 ∷ 70 ∷ []
 statuses of.Show = 0 ∷ 3 ∷ 4 ∷ 6 ∷ 7 ∷ 70 ∷ []
 statuses of.Script = 0 ∷ 3 ∷ 4 ∷ 6 ∷ 7 ∷ 70 ∷ []
+statuses of.Check = 0 ∷ 1 ∷ 3 ∷ 4 ∷ 7 ∷ 70 ∷ []
 statuses of.Help = 0 ∷ 7 ∷ 70 ∷ []
 statuses of.Version = 0 ∷ 7 ∷ 70 ∷ []
 
 abbrev pub status_line : ℕ → List ℕ
 status_line status =
     if status == 0 then codes "status 0: all is done\n"
+    else (if status == 1 then codes "status 1: something is wrong with FILE\n"
     else (if status == 3 then codes "status 3: a file cannot be opened\n"
     else (if status == 4 then codes "status 4: a file cannot be read to its end\n"
     else (if status == 5 then codes "status 5: the script or the conference is refused\n"
     else (if status == 6 then codes "status 6: a recording, or frames, are refused\n"
     else (if status == 7 then codes "status 7: the output, or OUT, cannot be written\n"
     else (if status == 8 then codes "status 8: a link cannot be opened, or fails\n"
-    else (if status == 9 then codes "status 9: the conference takes too many turns\n" else codes "status 70: out of memory\n")))))))
+    else (if status == 9 then codes "status 9: the conference takes too many turns\n" else codes "status 70: out of memory\n"))))))))
 
 abbrev pub help_text : Topic → List ℕ
 help_text of.Usage = usage

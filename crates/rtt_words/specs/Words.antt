@@ -43,6 +43,10 @@ pub record ChannelWords : Type 0 where
   pub ssrc : ℕ
   pub out : List ℕ
 
+-- what `check` is asked for: what lies in a file
+pub record CheckWords : Type 0 where
+  pub file : List ℕ
+
 -- what `cascade` is asked for: the conference in a file, behind a mixer that sent the packets of an SSRC of a recording
 pub record CascadeWords : Type 0 where
   pub file : List ℕ
@@ -63,6 +67,7 @@ pub data Command : Type 0 where
   Channel : ChannelWords → Command
   Show : ListWords → Command
   Script : ReadWords → Command
+  Check : CheckWords → Command
   Help : Topic → Command
   Version : Command
 
@@ -144,6 +149,14 @@ before_conf c = record { file = c.file; ssrc = c.ssrc; conf = c.out }
 abbrev pub cascade_words : List (List ℕ) → Option CascadeWords
 cascade_words words = option_map before_conf (channel_words words)
 
+-- the one word names a file
+abbrev pub to_check : MixWords → CheckWords
+to_check m = record { file = m.conf }
+
+-- `FILE`, of the same shape as `CONF`
+abbrev pub check_words : List (List ℕ) → Option CheckWords
+check_words words = option_map to_check (mix_words words)
+
 -- no words, or `COMMAND`
 abbrev pub help_words : List (List ℕ) → Option Command
 help_words [] = Some (Help Usage)
@@ -172,8 +185,9 @@ command (name ∷ words) =
     else (if bytes_eq name (codes "channel") then option_map Channel (channel_words words)
     else (if bytes_eq name (codes "show") then option_map Show (list_words words)
     else (if bytes_eq name (codes "script") then option_map Script (read_words words)
+    else (if bytes_eq name (codes "check") then option_map Check (check_words words)
     else (if bytes_eq name (codes "help") then help_words words
     else (if bytes_eq name (codes "--help") then help_words words
     else (if bytes_eq name (codes "-h") then help_words words
     else (if bytes_eq name (codes "version") then version_words words
-    else (if bytes_eq name (codes "--version") then version_words words else None)))))))))))))))))
+    else (if bytes_eq name (codes "--version") then version_words words else None))))))))))))))))))

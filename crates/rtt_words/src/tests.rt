@@ -1,6 +1,6 @@
 use crate::{
-    CascadeWords, ChannelWords, Command, ListWords, MakeWords, MixWords, ReadWords, SendWords,
-    Topic, WordFault, command_of,
+    CascadeWords, ChannelWords, CheckWords, Command, ListWords, MakeWords, MixWords, ReadWords,
+    SendWords, Topic, WordFault, command_of,
 };
 use rtt_base::Pts;
 use std::alloc::Global;
@@ -159,6 +159,14 @@ fn a_version_is_asked_for_alone(rt: HostRuntime) -> Result<(), Fail> {
     assert!(rt; asks(rt.alloc(), "version", Command::Version)?);
     assert!(rt; asks(rt.alloc(), "--version", Command::Version)?);
     assert!(rt; is_wrong(rt.alloc(), "version a.rtp")?);
+    Ok(())
+}
+
+#[test]
+fn a_check_names_a_file(rt: HostRuntime) -> Result<(), Fail> {
+    let words = CheckWords { file: "a" };
+    assert!(rt; asks(rt.alloc(), "check a", Command::Check(words))?);
+    assert!(rt; are_wrong(rt.alloc(), &["check", "check a b", "check -a"])?);
     Ok(())
 }
 

@@ -20,6 +20,7 @@ pub enum Topic {
     Channel,
     Show,
     Script,
+    Check,
     Help,
     Version,
 }
@@ -42,6 +43,7 @@ pub(crate) fn topic_of(name: &str) -> Option<Topic>
         "channel" => Some(Topic::Channel),
         "show" => Some(Topic::Show),
         "script" => Some(Topic::Script),
+        "check" => Some(Topic::Check),
         "help" => Some(Topic::Help),
         "version" => Some(Topic::Version),
         _ => None,
@@ -62,6 +64,7 @@ usage: rtt_program read FILE SSRC [SOURCE [T140 RED]]
 \x20      rtt_program channel FILE SSRC OUT
 \x20      rtt_program show FILE [T140 RED]
 \x20      rtt_program script FILE SSRC [SOURCE [T140 RED]]
+\x20      rtt_program check FILE
 \x20      rtt_program help [COMMAND]
 \x20      rtt_program version
 ";
@@ -244,6 +247,18 @@ status 7: the output, or OUT, cannot be written
 status 70: out of memory
 ";
 
+const CHECK: &[u8] = b"\
+usage: rtt_program check FILE
+prints what a file is, whether the program takes it, and if not where, why, and what to do
+FILE: a recording, a script, a conference or frames
+status 0: all is done
+status 1: something is wrong with FILE
+status 3: a file cannot be opened
+status 4: a file cannot be read to its end
+status 7: the output, or OUT, cannot be written
+status 70: out of memory
+";
+
 const HELP: &[u8] = b"\
 usage: rtt_program help [COMMAND]
 prints the words of all commands, or of one its words, what it does, and the statuses with which it ends
@@ -281,6 +296,7 @@ pub fn help_text(topic: Topic) -> &'static [u8]
         Topic::Channel => CHANNEL,
         Topic::Show => SHOW,
         Topic::Script => SCRIPT,
+        Topic::Check => CHECK,
         Topic::Help => HELP,
         Topic::Version => VERSION,
     }

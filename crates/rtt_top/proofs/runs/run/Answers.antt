@@ -67,7 +67,7 @@ returns-in-Live g c =
     let m = mixed c.in-Live.call in
     let is : asked_by c.args.words.now ≡ Some (Live m) = c.in-Ok.ensures.asked ∙ ap (λ k. Some (meaning k)) c.in-Live.is in
     record {
-      runs = runs_served (Live m) is (λ name ending ends. ends) call.ensures.ends;
+      runs = runs_served (Live m) is refl (λ name ending ends. ends) call.ensures.ends;
       live = runs_live m is call.ensures.served;
       watched = live_not_watched m is;
       given_up = runs_given_up_live m is call.ensures.given_up;
@@ -80,7 +80,7 @@ returns-in-Watch g c =
     let m = mixed c.in-Watch.call in
     let is : asked_by c.args.words.now ≡ Some (Watch m) = c.in-Ok.ensures.asked ∙ ap (λ k. Some (meaning k)) c.in-Watch.is in
     record {
-      runs = runs_served (Watch m) is (λ name ending ends. ends) call.ensures.ends;
+      runs = runs_served (Watch m) is refl (λ name ending ends. ends) call.ensures.ends;
       live = watched_not_live m is;
       given_up = runs_given_up_watched m is call.ensures.given_up;
       watched = runs_watched m is call.ensures.served;
