@@ -1,15 +1,16 @@
-# make try         builds the program unproved, and prints the view of the stored recording
-# make run         builds the proved program, and prints the same
-# make test        the gate: proves from nothing what did not pass on this machine as it stands, and runs everything
+# make try         builds the program unproved, in some two minutes, keeps it, and prints the view of the stored recording
+# make test        proves and tests all, and leaves the proved program: what .ci/run does
+# make run         proves what the program is made of, builds it, and prints that view
 # make examples    runs the commands of the documents and compares what they print, and what is stored in examples
 # make trials      tries the program against the system, with each request of memory refused, against a second program, with
-#                  terminals over UDP, in a browser, and as a package
+#                  terminals over UDP, on a call that is captured, in a browser, on an archive and two machines, in pods, and
+#                  as a package; and a capture of 2 GB
 # make recordings  makes the stored recordings of examples/ anew
 # make bench       how fast the program reads, lists, shows, sends and mixes, and how late live calls are
 # make compare     how fast it mixes beside a second program on one thread (takes rustc)
 # make install     the program and its page, below PREFIX
 # make deb         the package cinderwool_VERSION_ARCHITECTURE.deb, of the program, its page, the documents and the examples
-# PROGRAM=.. names another program than the one that `make run` built.
+# Each of them takes the program that was built last; where there is none, `make run` is done first. PROGRAM=.. names another.
 PREFIX ?= /usr/local
 BUILT = crates/rtt_program/out/rtt_program
 PROGRAM = $(BUILT)
@@ -17,13 +18,14 @@ PROGRAM = $(BUILT)
 .PHONY: try run test examples trials recordings bench compare install deb
 
 try:
-	cd crates/rtt_program && rt try -- read data/call.rtp 1001
+	@package/unproved $(BUILT)
+	@cd crates/rtt_program && out/rtt_program read data/call.rtp 1001
 
 run:
 	cd crates/rtt_program && rt run -- read data/call.rtp 1001
 
 test:
-	rt ci
+	.ci/run
 
 $(BUILT):
 	$(MAKE) run
@@ -46,7 +48,12 @@ trials: $(PROGRAM)
 	examples/second-program $(PROGRAM)
 	examples/live/try $(PROGRAM)
 	examples/live/real $(PROGRAM)
+	examples/plays/try $(PROGRAM)
+	examples/captures/call $(PROGRAM)
+	examples/pcap/large
 	examples/web/try $(PROGRAM)
+	examples/archives/try $(PROGRAM)
+	examples/pods/try $(PROGRAM)
 	package/try $(PROGRAM)
 
 recordings: $(PROGRAM)
@@ -58,6 +65,7 @@ bench: $(PROGRAM)
 	bench/send $(PROGRAM)
 	for it in show show-64 script channel relay; do bench/run $$it $(PROGRAM) || exit 1; done
 	bench/mix $(PROGRAM)
+	bench/idle $(PROGRAM)
 	bench/threads $(PROGRAM)
 	bench/cascade $(PROGRAM)
 	bench/live $(PROGRAM)

@@ -46,8 +46,8 @@ impl<I: LinkIn> LinkIn for LeavingIn<I> {
 
     ghost port = { λ end. I.port end.link };
 
-    fn take(&mut self, out: &mut Packet, may_wait: bool) -> Result<Taken, Failed> {
-        let Ok(taken) = self.link.take(out, may_wait) else {
+    fn take(&mut self, out: &mut Packet, until: u64) -> Result<Taken, Failed> {
+        let Ok(taken) = self.link.take(out, until) else {
             return Err(Failed);
         };
         self.peer = self.peer.after(taken.came, out.as_slice());

@@ -97,7 +97,7 @@ fn plan_all(links: &mut MemLinks, alloc: Global, datagrams: &[Datagram]) -> Resu
 // Whether the next take tells this, at the moment of all cases.
 fn tells<L: LinkIn>(link: &mut L, came: Came) -> bool {
     let mut out = Packet::new();
-    match link.take(&mut out, true) {
+    match link.take(&mut out, 0) {
         Ok(taken) => taken.at == 100 && taken.came == came,
         Err(_) => false,
     }

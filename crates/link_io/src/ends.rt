@@ -46,10 +46,10 @@ pub trait LinkIn {
     /// The port that it was opened at.
     ghost port: { Self → ℕ };
 
-    /// Tells what came, and puts the octets of a datagram in place of what is in `out`. Where it may wait, it waits some
-    /// milliseconds for a datagram before it says `Quiet`; else it answers at once. Its moments never fall. After
+    /// Tells what came, and puts the octets of a datagram in place of what is in `out`. Where none came it waits for one until
+    /// this moment of its clock, before it says `Quiet`. Its moments never fall. After
     /// `Failed` nothing was given.
-    fn take(&mut self, out: &mut Packet, may_wait: bool) -> Result<Taken, Failed>
+    fn take(&mut self, out: &mut Packet, until: u64) -> Result<Taken, Failed>
         ensures never_falls { faults self.old ≤ faults self.new }
         ensures failed { OnErr result (Rose (faults self.old) (faults self.new)) }
         ensures calm { OnOk result (faults self.new ≡ faults self.old) }

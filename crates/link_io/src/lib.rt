@@ -1,6 +1,7 @@
 //! Links to the terminals of a live call: what comes from them and what goes to them, in memory and over UDP.
 #![tactic(auto)]
 
+mod bells;
 mod clocks;
 mod ends;
 mod links;

@@ -4,6 +4,7 @@ ghost use Rattle.link_io.specs.Alike.{SameIn};
 ghost use Rattle.link_io.specs.Taking.{taken_of, closes};
 ghost use Rattle.link_io.specs.Told.{takes_told};
 
+use crate::clocks::LAST_MOMENT;
 use crate::{Came, LinkIn, Taken};
 use rtt_base::{Bytes, Failed, NoMemory, Packet};
 use rtt_io::FailingCalls;
@@ -80,12 +81,12 @@ impl LinkIn for MemIn {
 
     ghost port = { λ link. link.port };
 
-    fn take(&mut self, out: &mut Packet, _may_wait: bool) -> Result<Taken, Failed> {
+    fn take(&mut self, out: &mut Packet, until: u64) -> Result<Taken, Failed> {
         if self.takes.next_fails() {
             self.faults = self.faults.saturating_add(1);
             return Err(Failed);
         }
-        let taken = self.next(out);
+        let taken = self.next(out, until);
         if self.keep(taken, out).is_err() {
             self.faults = self.faults.saturating_add(1);
             return Err(Failed);
@@ -141,7 +142,7 @@ impl MemIn {
     }
 
     // What the next take gives, and its octets.
-    fn next(&self, out: &mut Packet) -> Taken
+    fn next(&self, out: &mut Packet, until: u64) -> Taken
         ensures rises { self.now.moment ≤ result.at }
         ensures early { result.at < 2 ^ 48 }
         ensures for_good { self.now.closed ≡ true → closes result.came ≡ true }
@@ -155,7 +156,10 @@ impl MemIn {
                 at: later(self.moment, planned.at),
                 came: hand_out(planned, out),
             },
-            None => self.at_once(Came::Quiet),
+            None => Taken {
+                at: self.moment.max(until.min(LAST_MOMENT)),
+                came: Came::Quiet,
+            },
         }
     }
 

@@ -3,6 +3,7 @@ ghost use Rattle.std.specs.Prelude.{◌≡◌, ◌<◌, ◌≤◌, ◌^◌, fals
 ghost use Rattle.link_io.specs.Taking.{closes};
 ghost use Rattle.link_io.specs.Receiving.{IsOpenStill};
 
+use crate::bells::Bell;
 use crate::clocks::millis_since;
 use crate::peers::{Peer, is_from};
 use crate::{Came, LinkIn, LinkOut, Taken};
@@ -10,10 +11,10 @@ use rtt_base::{Failed, Packet};
 use std::io;
 use std::io::ErrorKind;
 use std::net::UdpSocket;
-use std::time::{Clock, Duration};
+use std::time::Clock;
 
-/// How long a `take` that may wait does so, in milliseconds.
-pub(crate) const PATIENCE: u64 = 5;
+/// How long one call waits at most, in milliseconds.
+const LONGEST: u64 = 1000;
 
 /// How often one `take` passes over what is nothing of the peer.
 const MOST_PASSED_OVER: u32 = 64;
@@ -32,6 +33,11 @@ fn is_absence(kind: ErrorKind) -> bool {
             | ErrorKind::NetworkUnreachable
             | ErrorKind::NetworkDown
     ) || is_refusal(kind)
+}
+
+/// What a call of a socket that does not wait says where nothing is there.
+fn is_nothing(kind: ErrorKind) -> bool {
+    matches!(kind, ErrorKind::WouldBlock | ErrorKind::TimedOut)
 }
 
 /// What the next call of a socket says where nobody was at the peer's port for an earlier datagram. It is said in place of what was
@@ -62,8 +68,7 @@ pub struct RealIn<C> {
     clock: C,
     start: u64,
     socket: UdpSocket,
-    // how long the socket waits now, in milliseconds; 0 where it does not wait
-    patience: u64,
+    bell: Bell,
     peer: Peer,
     pub(crate) port: u16,
     moment: u64,
@@ -86,8 +91,8 @@ impl<C: Clock> LinkIn for RealIn<C> {
 
     ghost port = { λ link. link.port };
 
-    fn take(&mut self, out: &mut Packet, may_wait: bool) -> Result<Taken, Failed> {
-        let received = self.receive(out, may_wait);
+    fn take(&mut self, out: &mut Packet, until: u64) -> Result<Taken, Failed> {
+        let received = self.receive(out, until);
         self.moment = self.moment.max(millis_since(&self.clock, self.start));
         match received {
             Some(came) => Ok(Taken {
@@ -103,8 +108,16 @@ impl<C: Clock> LinkIn for RealIn<C> {
 }
 
 impl<C: Clock> RealIn<C> {
-    /// The inbound end of a socket that waits as long as a `take` may. Moments are counted from this one of the clock.
-    pub(crate) fn new(clock: C, start: u64, socket: UdpSocket, peer: Peer, port: u16) -> RealIn<C>
+    /// The inbound end of a socket that does not wait, with what rings where something came there. Moments are counted from this
+    /// one of the clock.
+    pub(crate) fn new(
+        clock: C,
+        start: u64,
+        socket: UdpSocket,
+        bell: Bell,
+        peer: Peer,
+        port: u16,
+    ) -> RealIn<C>
         ensures at { result.port ≡ port }
         ensures fresh { result.faults ≡ 0 }
     {
@@ -112,7 +125,7 @@ impl<C: Clock> RealIn<C> {
             clock,
             start,
             socket,
-            patience: PATIENCE,
+            bell,
             peer,
             port,
             moment: 0,
@@ -122,42 +135,34 @@ impl<C: Clock> RealIn<C> {
 
     // What comes of the peer, and its octets; `Quiet` where it sent nothing by now, or too much came of others. None where
     // the socket fails.
-    fn receive(&mut self, out: &mut Packet, may_wait: bool) -> Option<Came>
+    fn receive(&mut self, out: &mut Packet, until: u64) -> Option<Came>
         ensures open { IfSome result (λ came. closes came ≡ false) }
         ensures same_moment { self.new.moment ≡ self.old.moment }
         ensures same_faults { self.new.faults ≡ self.old.faults }
         ensures same_port { self.new.port ≡ self.old.port }
     {
-        let begin = millis_since(&self.clock, self.start);
         for _ in 0..MOST_PASSED_OVER {
-            let waited = millis_since(&self.clock, self.start).saturating_sub(begin);
-            self.set_patience(patience_left(may_wait, waited)).ok()?;
             match self.receive_one(out) {
                 Received::OfPeer(came) => return Some(came),
                 Received::PassedOver => {}
-                Received::Nothing => return Some(Came::Quiet),
+                Received::Nothing => {
+                    let left = self.left_until(until);
+                    if left == 0 {
+                        return Some(Came::Quiet);
+                    }
+                    self.bell.wait(left)?;
+                }
                 Received::Broken => return None,
             }
         }
         Some(Came::Quiet)
     }
 
-    // From now on the socket waits so many milliseconds, or not at all.
-    fn set_patience(&mut self, patience: u64) -> io::Result<()>
-        ensures same_moment { self.new.moment ≡ self.old.moment }
-        ensures same_faults { self.new.faults ≡ self.old.faults }
-        ensures same_port { self.new.port ≡ self.old.port }
-    {
-        if patience == self.patience {
-            return Ok(());
-        }
-        if patience > 0 {
-            self.socket
-                .set_read_timeout(Some(Duration::from_millis(patience)))?;
-        }
-        self.socket.set_nonblocking(patience == 0)?;
-        self.patience = patience;
-        Ok(())
+    // How many milliseconds are left until this moment of the clock.
+    fn left_until(&self, until: u64) -> u64 {
+        until
+            .saturating_sub(millis_since(&self.clock, self.start))
+            .min(LONGEST)
     }
 
     // What one call of the socket receives, and its octets, where it is the peer's.
@@ -170,21 +175,11 @@ impl<C: Clock> RealIn<C> {
                 Received::OfPeer(hand_out(&room[..count], out))
             }
             Ok(_) => Received::PassedOver,
-            Err(error) if is_refusal(error.kind()) => Received::PassedOver,
-            Err(error) if is_absence(error.kind()) => Received::Nothing,
+            Err(error) if is_nothing(error.kind()) => Received::Nothing,
+            Err(error) if is_absence(error.kind()) => Received::PassedOver,
             Err(_) => Received::Broken,
         }
     }
-}
-
-/// How long a `take` may still wait that has waited so many milliseconds.
-fn patience_left(may_wait: bool, waited: u64) -> u64
-    ensures { result ≤ PATIENCE }
-{
-    if !may_wait {
-        return 0;
-    }
-    PATIENCE.saturating_sub(waited)
 }
 
 /// Puts the octets of a datagram in place of what is in a packet. One that does not fit is a large one.
@@ -231,7 +226,7 @@ impl LinkOut for RealOut {
 }
 
 impl RealOut {
-    /// The outbound end of a socket that knows its peer and does not wait long.
+    /// The outbound end of a socket that knows its peer and does not wait.
     pub(crate) fn new(socket: UdpSocket, port: u16) -> RealOut
         ensures at { result.port ≡ port }
         ensures fresh { result.faults ≡ 0 }

@@ -3,10 +3,12 @@ ghost use Rattle.std.specs.Prelude.{◌≡◌, ◌<◌, ◌≤◌, ◌^◌, ℕ,
 ghost use Rattle.link_io.specs.Peers.{IsLocal};
 
 use crate::Links;
+use crate::bells::Bell;
 use crate::clocks::millis_since;
 use crate::peers::{Peer, own_address, peer_of};
-use crate::real_ends::{PATIENCE, RealIn, RealOut};
+use crate::real_ends::{RealIn, RealOut};
 use rtt_base::Failed;
+use std::alloc::Global;
 use std::net::{Net, SocketAddr, UdpSocket};
 use std::thread;
 use std::time::{Clock, Duration};
@@ -16,6 +18,7 @@ use std::time::{Clock, Duration};
 #[derive(Drop)]
 pub struct RealLinks<R> {
     rt: R,
+    alloc: Global,
     start: u64,
     moment: u64,
     pauses: u64,
@@ -26,7 +29,7 @@ pub struct RealLinks<R> {
 
 impl<R: Net + Clock + Copy + Send> RealLinks<R> {
     /// The network of this runtime. Moments are counted from now on.
-    pub fn new(rt: R) -> RealLinks<R>
+    pub fn new(rt: R, alloc: Global) -> RealLinks<R>
         ensures fresh { (p : ℕ) → ⟦<RealLinks<R> as Links>⟧.own_faults result p ≡ 0 }
         ensures fresh_objects { (p : ℕ) → ⟦<RealLinks<R> as Links>⟧.object_faults result p ≡ 0 }
         ensures no_pause { ⟦<RealLinks<R> as Links>⟧.pauses result ≡ 0 }
@@ -34,6 +37,7 @@ impl<R: Net + Clock + Copy + Send> RealLinks<R> {
         let start = millis_since(&rt, 0);
         RealLinks {
             rt,
+            alloc,
             start,
             moment: 0,
             pauses: 0,
@@ -80,13 +84,10 @@ impl<R: Net + Clock + Copy> RealLinks<R> {
         ensures ports { IfSome result (λ ends. (ends.0.port ≡ port) × (ends.1.port ≡ port)) }
         ensures fresh { IfSome result (λ ends. (ends.0.faults ≡ 0) × (ends.1.faults ≡ 0)) }
     {
-        let patience = Duration::from_millis(PATIENCE);
-        socket.set_read_timeout(Some(patience)).ok()?;
-        socket
-            .set_write_timeout(Some(Duration::from_millis(1)))
-            .ok()?;
+        socket.set_nonblocking(true).ok()?;
         let other = socket.try_clone().ok()?;
-        let inbound = RealIn::new(self.rt, self.start, socket, peer, port);
+        let bell = Bell::new(&self.rt, self.alloc, &socket)?;
+        let inbound = RealIn::new(self.rt, self.start, socket, bell, peer, port);
         Some((inbound, RealOut::new(other, port)))
     }
 

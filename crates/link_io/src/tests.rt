@@ -2,7 +2,7 @@ use crate::peers::own_address;
 use crate::real_links::{lead_to, socket_at};
 use crate::{
     Came, FailingLink, LinkIn, LinkOut, Links, MemIn, MemLinks, Planned, RealIn, RealLinks,
-    RealOut, peer_of,
+    RealOut, Taken, peer_of,
 };
 use rtt_base::Packet;
 use std::alloc::Global;
@@ -10,10 +10,13 @@ use std::net::{Net, SocketAddr, UdpSocket};
 use std::test::Fail;
 use std::time::{Clock, Duration};
 
+// By this moment of a link's clock what was sent has come.
+const SOON: u64 = 5000;
+
 // The next take gives this at this moment, and fails nowhere.
 fn takes<L: LinkIn>(link: &mut L, at: u64, came: Came) -> bool {
     let mut out = Packet::new();
-    match link.take(&mut out, true) {
+    match link.take(&mut out, 0) {
         Ok(taken) => taken.at == at && taken.came == came,
         Err(_) => false,
     }
@@ -30,23 +33,23 @@ fn takes_all<L: LinkIn>(link: &mut L, all: &[(u64, Came)]) -> bool {
 }
 
 // The next take gives this, whenever it is.
-fn comes<L: LinkIn>(link: &mut L, may_wait: bool, came: Came) -> bool {
+fn comes<L: LinkIn>(link: &mut L, until: u64, came: Came) -> bool {
     let mut out = Packet::new();
-    match link.take(&mut out, may_wait) {
+    match link.take(&mut out, until) {
         Ok(taken) => taken.came == came,
         Err(_) => false,
     }
 }
 
-// Nothing more comes, whether a take may wait or not.
+// Nothing more comes, at once or by moment 20.
 fn is_quiet<L: LinkIn>(link: &mut L) -> bool {
-    comes(link, false, Came::Quiet) && comes(link, true, Came::Quiet)
+    comes(link, 0, Came::Quiet) && comes(link, 20, Came::Quiet)
 }
 
 // The next take gives these octets.
 fn hears<L: LinkIn>(link: &mut L, octets: &[u8]) -> bool {
     let mut out = Packet::new();
-    match link.take(&mut out, true) {
+    match link.take(&mut out, SOON) {
         Ok(taken) => taken.came == Came::Datagram && out.as_slice() == octets,
         Err(_) => false,
     }
@@ -181,7 +184,7 @@ fn link_to<R: Net + Clock + Copy + Send>(
 ) -> Result<(u16, RealIn<R>, RealOut), Fail> {
     let port = free_port(&rt)?;
     let to = format!(in alloc; "{peer}")?;
-    let (inbound, outbound) = RealLinks::new(rt).link(port, to.as_str())?;
+    let (inbound, outbound) = RealLinks::new(rt, alloc).link(port, to.as_str())?;
     Ok((port, inbound, outbound))
 }
 
@@ -208,9 +211,9 @@ fn a_peer_is_heard_whatever_the_length(rt: HostRuntime) -> Result<(), Fail> {
     assert_eq!(rt; peer.send_to(&[7; 4224], ("127.0.0.1", port))?, 4224);
     assert!(rt; hears(&mut inbound, &[7; 4224]));
     assert_eq!(rt; peer.send_to(&[7; 4225], ("127.0.0.1", port))?, 4225);
-    assert!(rt; comes(&mut inbound, false, Came::Large));
+    assert!(rt; comes(&mut inbound, 0, Came::Large));
     assert_eq!(rt; peer.send_to(&[7; 9000], ("127.0.0.1", port))?, 9000);
-    assert!(rt; comes(&mut inbound, true, Came::Large));
+    assert!(rt; comes(&mut inbound, 0, Came::Large));
     assert!(rt; is_quiet(&mut inbound));
     Ok(())
 }
@@ -225,6 +228,31 @@ fn a_peer_is_sent_to_from_the_port_that_it_sends_to(rt: HostRuntime) -> Result<(
     assert_eq!(rt; count, 3);
     assert_eq!(rt; buf[..3], b"two"[..]);
     assert_eq!(rt; from.port(), port);
+    Ok(())
+}
+
+#[test]
+fn a_take_waits_until_its_moment(rt: HostRuntime) -> Result<(), Fail> {
+    let peer = socket(&rt)?;
+    let (_port, mut inbound, _outbound) = link_to(&rt, rt.alloc(), peer.local_addr()?)?;
+    let mut out = Packet::new();
+    let taken = inbound.take(&mut out, 30)?;
+    assert!(rt; taken.came == Came::Quiet && taken.at >= 30);
+    let mut still = MemIn::new(rt.alloc(), 5001);
+    assert!(rt;
+        still.take(&mut out, 30)?
+            == Taken {
+                at: 30,
+                came: Came::Quiet
+            }
+    );
+    assert!(rt;
+        still.take(&mut out, 0)?
+            == Taken {
+                at: 30,
+                came: Came::Quiet
+            }
+    );
     Ok(())
 }
 
@@ -268,7 +296,8 @@ fn hears_the_peer_alone<R: Net + Clock + Copy + Send>(rt: R, alloc: Global) -> R
     let Some(()) = lead_to(&bound, known.address()) else {
         return Ok(false);
     };
-    let Some((mut inbound, _outbound)) = RealLinks::new(rt).ends_over(bound, known, port) else {
+    let Some((mut inbound, _outbound)) = RealLinks::new(rt, alloc).ends_over(bound, known, port)
+    else {
         return Ok(false);
     };
     Ok(hears(&mut inbound, b"one") && is_quiet(&mut inbound))
@@ -286,7 +315,7 @@ fn what_a_stranger_sent_before_the_link_led_to_its_peer_is_not_heard(
 fn a_peer_that_goes_and_comes_back_is_heard_again(rt: HostRuntime) -> Result<(), Fail> {
     let (address, port, mut inbound, mut outbound) = link_to_nobody(&rt, rt.alloc())?;
     assert!(rt; outbound.give(b"one").is_ok());
-    assert!(rt; comes(&mut inbound, true, Came::Quiet));
+    assert!(rt; comes(&mut inbound, 0, Came::Quiet));
     assert!(rt; outbound.give(b"two").is_ok());
     let again = UdpSocket::bind(&rt, address)?;
     assert_eq!(rt; again.send_to(b"three", ("127.0.0.1", port))?, 5);
@@ -310,7 +339,7 @@ fn the_first_packet_to_a_peer_that_comes_back_is_sent(rt: HostRuntime) -> Result
 #[test]
 fn a_port_that_is_taken_is_refused(rt: HostRuntime) -> Result<(), Fail> {
     let port = free_port(&rt)?;
-    let mut links = RealLinks::new(&rt);
+    let mut links = RealLinks::new(&rt, rt.alloc());
     let (inbound, outbound) = links.link(port, "127.0.0.1:5004")?;
     assert!(rt; links.link(port, "127.0.0.1:5004").is_err());
     links.done_in(inbound);
@@ -324,7 +353,7 @@ fn a_port_that_is_taken_is_refused(rt: HostRuntime) -> Result<(), Fail> {
 #[test]
 fn a_packet_that_no_datagram_carries_is_a_fault(rt: HostRuntime) -> Result<(), Fail> {
     let port = free_port(&rt)?;
-    let (_inbound, mut outbound) = RealLinks::new(&rt).link(port, "127.0.0.1:5004")?;
+    let (_inbound, mut outbound) = RealLinks::new(&rt, rt.alloc()).link(port, "127.0.0.1:5004")?;
     let large = vec![in rt.alloc(); 0u8; 70_000]?;
     assert!(rt; outbound.give(large.as_slice()).is_err());
     assert!(rt; outbound.give(b"one").is_ok());
@@ -333,7 +362,7 @@ fn a_packet_that_no_datagram_carries_is_a_fault(rt: HostRuntime) -> Result<(), F
 
 #[test]
 fn a_pause_ends_where_the_clock_is_there(rt: HostRuntime) -> Result<(), Fail> {
-    let mut links = RealLinks::new(&rt);
+    let mut links = RealLinks::new(&rt, rt.alloc());
     let begin = links.now();
     links.pause_until(begin.saturating_add(20));
     let end = links.now();

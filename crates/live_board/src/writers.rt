@@ -1,7 +1,8 @@
 //! The end of a board at which it is written.
-ghost use Rattle.std.specs.Prelude.{◌≡◌, true, false, [], ◌∷◌, ◌++◌, length, drop, IfOk, OnOk, OnErr};
+ghost use Rattle.std.specs.Prelude.{◌≡◌, ◌≤◌, ◌^◌, true, false, Err, [], ◌∷◌, ◌++◌, length, drop, IfOk, OnOk, OnErr};
 ghost use Rattle.left_right.specs.Sides.{view};
 ghost use Rattle.live_board.specs.Ends.{IsWriting, CanShow, HasShown};
+ghost use Rattle.live_board.specs.Histories.{octets_of};
 ghost use Rattle.live_board.specs.Rule.{view_of};
 ghost use Rattle.live_board.specs.Views.{writing_of};
 
@@ -14,6 +15,18 @@ use rtt_base::{Chunk, NoMemory, Text};
 use std::alloc::Global;
 use std::marker::Model;
 use std::sync::Wait;
+use thiserror::Error;
+
+/// Why a change was not added.
+#[derive(Clone, Copy, Debug, Drop, Error, PartialEq, Eq)]
+pub enum AddFault {
+    /// There was no memory for it.
+    #[error("out of memory")]
+    NoMemory,
+    /// The octets of all legs would be 2^64 or more.
+    #[error("the octets of a board can't be counted")]
+    Uncountable,
+}
 
 /// Where changes are added and published. It isn't `Drop`: end it by `close`.
 pub struct BoardWriter {
@@ -93,15 +106,16 @@ impl BoardWriter {
 
     /// Adds a change to those that are pending. A chunk whose source is no leg of the board counts for no leg. It is refused
     /// only for want of memory, or where the octets of all legs would be 2^64 or more, and then all is as before.
-    pub fn add(&mut self, c: &Chunk) -> Result<(), NoMemory>
+    pub fn add(&mut self, c: &Chunk) -> Result<(), AddFault>
         ensures ok { OnOk result (self.new ≡ record self.old { pending = self.old.pending ++ c.now ∷ [] }) }
         ensures unchanged { OnErr result (self.new ≡ self.old) }
+        ensures cause { result ≡ Err AddFault.Uncountable → 2 ^ 64 ≤ octets_of ((self.old.published ++ self.old.pending) ++ c.now ∷ []) }
     {
         let Some(octets) = self.octets.checked_add(c.text.len() as u64) else {
-            return Err(NoMemory);
+            return Err(AddFault::Uncountable);
         };
         if self.pending.push(copy_of(c)).is_err() {
-            return Err(NoMemory);
+            return Err(AddFault::NoMemory);
         }
         self.octets = octets;
         Ok(())

@@ -1,5 +1,5 @@
 -- The takes that count.
-use Rattle.std.proofs.Common.{◌≡◌, ◌≤◌, ◌<◌, ℕ, ◌+◌, ◌-◌, true, false, true≢false, inl, inr, ◌⊎◌, List, [], ◌∷◌, ◌++◌, ◌||◌, drop, length, length-append, refl, ap, sym, ◌∙◌, subst, append_assoc, arith}
+use Rattle.std.proofs.Common.{◌≡◌, ◌≤◌, ◌<◌, ℕ, zero, suc, ◌+◌, ◌-◌, true, false, true≢false, inl, inr, ◌⊎◌, List, [], ◌∷◌, ◌++◌, ◌||◌, drop, length, length-append, refl, ap, sym, ◌∙◌, subst, append_assoc, arith}
 use Rattle.std.specs.Prelude.{Bool, if◌then◌else◌}
 use Rattle.std.proofs.lemmas.List.{append-nil}
 use Rattle.std.proofs.Math.Seq.{drop-append_seam}
@@ -48,6 +48,26 @@ but_last (x ∷ xs) z (v ∷ w) y m e =
     let tail : xs ++ y ∷ z ≡ w ++ m ∷ [] = cc e in
     let r = but_last xs z w y m tail in
     (r.0, ap (λ l. x ∷ l) r.1 ∙ ap (λ k. k ∷ w) head)
+
+-- ---- closed links
+or_right : (a b : Bool) → b ≡ true → (a || b) ≡ true
+or_right true b e = refl
+or_right false b e = e
+
+closed_then : (k : ℕ) (takes : Takes) → is_closed (drop k takes) ≡ true → is_closed takes ≡ true
+closed_then zero takes e = e
+closed_then (suc k) [] e = e
+closed_then (suc k) (t ∷ takes) e = or_right (is_closing t.came) (is_closed takes) (closed_then k takes e)
+
+closed_with : (j k : ℕ) (takes : Takes) → j ≤ k → is_closed (drop k takes) ≡ true → is_closed (drop j takes) ≡ true
+closed_with zero k takes low e = closed_then k takes e
+closed_with (suc j) zero takes low e = absurd (omega (arith, low))
+closed_with (suc j) (suc k) [] low e = e
+closed_with (suc j) (suc k) (t ∷ takes) low e = closed_with j k takes (omega (arith, low)) e
+
+-- a link that was closed by the first takes is closed by more of them
+pub closed_by_more : (n m : ℕ) (takes : Takes) → n ≤ m → is_closed (first_takes n takes) ≡ true → is_closed (first_takes m takes) ≡ true
+closed_by_more n m takes low e = closed_with (length takes - m) (length takes - n) takes (omega (arith, low)) e
 
 -- ---- marks
 no_marks_in : (xs : List Item) → AreNoMarks xs → marks_in xs ≡ 0

@@ -1,5 +1,5 @@
 -- The calls of a live run as events of the core.
-use Rattle.std.proofs.Common.{◌≡◌, ◌+◌, ℕ, suc, true, false, cond, inl, inr, Some, None, List, [], ◌∷◌, ◌++◌, length, length-append, refl, ap, sym, not, ◌∙◌, subst, append_assoc, arith}
+use Rattle.std.proofs.Common.{◌≡◌, ◌<◌, ◌+◌, ℕ, suc, true, false, cond, inl, inr, Some, None, List, [], ◌∷◌, ◌++◌, length, length-append, refl, ap, sym, not, ◌∙◌, subst, append_assoc, arith}
 use Rattle.std.specs.Prelude.{Bool, Option, nat_le, ◌&&◌, if◌then◌else◌}
 use Rattle.std.proofs.lemmas.Bool.{cases_eq, le-leb, lt-ltb}
 use Rattle.std.proofs.lemmas.List.{append-nil}
@@ -16,7 +16,7 @@ use Rattle.mixer_spec.proofs.Lists.{set_other, set_same}
 use Rattle.mixer_spec.proofs.Legs.{come_taken}
 use Rattle.link_spec.specs.Links.{Takes, is_closed}
 use Rattle.live_spec.specs.Told.{Hearing}
-use Rattle.live_spec.specs.Live.{AllMayTurn, AllSeated, AreLive, IsUpToDate, Live, MayTurn, at_last, but_last, first_takes, is_blocked, is_held_back, live_chunks}
+use Rattle.live_spec.specs.Live.{AllMayTurn, AllSeated, AreLive, IsOver, IsUpToDate, Live, MayTurn, at_last, but_last, first_takes, is_blocked, is_held_back, live_chunks}
 use Rattle.live_leg.specs.Items.{Item, marks_in, texts_in}
 use Rattle.live_leg.proofs.Texts.{texts_append}
 use Rattle.live_loop.specs.Handed.{AllFreshAt, AreLiveCalls, IsFreshAt, hand_after, is_blocked_after}
@@ -187,17 +187,9 @@ module _ (s : Setup) (hears : ℕ → Hearing) (takes : ℕ → Takes) (items : 
             (subst (λ (x : Bool). IsUpToDate h (takes i) x last (marks_in w.given) (texts_in h.leg w.given)) (sym (blocked_is more counts past i f)) fresh));
       }
 
-  all_may_turn : (more : ℕ → List Chunk) (counts : List (ℕ → ℕ)) (past : List Call) (last now : ℕ → ℕ) → AllFreshAt s items past last now → ((i : ℕ) → Splits more past i) → (f : Follows more counts past)
-      → AllMayTurn s hears takes chunks f.past last now
-  all_may_turn more counts past last now w e f = record {
-    each = λ i low. may_turn more counts past (last i) (now i) i (w.each i low) f;
-    goes_on = λ over. w.goes_on
-        (λ i low. let x = w.each i low in (
-          closed_ends (hears i) (takes i) (items i) x.given x.more (covers i) x.items_are (ap (λ (n : ℕ). is_closed (first_takes n (takes i))) (sym x.count) ∙ over.closed i low),
-          none_held (hand_after s i past) (all_held (took s i past) (held (hand_after s i past)) (more i) (chunks i) (sym (taken_is_took more counts past i f) ∙ over.taken i low) (e i)),
-        ))
-        (ap (is_idle s) (sym f.table_is) ∙ over.idle);
-  }
+  -- where all is taken nothing is in the hand
+  none_left : (more : ℕ → List Chunk) (counts : List (ℕ → ℕ)) (past : List Call) (i : ℕ) (f : Follows more counts past) → chunks_taken ((after s chunks f.past).table.taken i) ≡ chunks i → Splits more past i → hand_after s i past ≡ None
+  none_left more counts past i f all e = none_held (hand_after s i past) (all_held (took s i past) (held (hand_after s i past)) (more i) (chunks i) (sym (taken_is_took more counts past i f) ∙ all) e)
     where
       none_held : (h : Option Chunk) → held h ≡ [] → h ≡ None
       none_held None q = refl
@@ -211,6 +203,18 @@ module _ (s : Setup) (hears : ℕ → Hearing) (takes : ℕ → Takes) (items : 
           let c = length-append (xs ++ ys) zs in
           let d = length-append xs ys in
           nothing ys (omega (arith, a, b, c, d))
+
+  all_may_turn : (more : ℕ → List Chunk) (counts : List (ℕ → ℕ)) (past : List Call) (last now : ℕ → ℕ) → AllFreshAt s items past last now → ((i : ℕ) → Splits more past i) → (f : Follows more counts past)
+      → AllMayTurn s hears takes chunks f.past last now
+  all_may_turn more counts past last now w e f = record {
+    each = λ i low. may_turn more counts past (last i) (now i) i (w.each i low) f;
+    goes_on = λ over. w.goes_on
+        (λ i low. let x = w.each i low in (
+          closed_ends (hears i) (takes i) (items i) x.given x.more (covers i) x.items_are (ap (λ (n : ℕ). is_closed (first_takes n (takes i))) (sym x.count) ∙ over.closed i low),
+          none_left more counts past i f (over.taken i low) (e i),
+        ))
+        (ap (is_idle s) (sym f.table_is) ∙ over.idle);
+  }
 
   follows : (counts : List (ℕ → ℕ)) (calls : List Call) → AreLiveCalls s items counts calls → (more : ℕ → List Chunk) → ((i : ℕ) → Splits more calls i) → Follows more counts calls
   follows counts [] l more e = record { past = []; turns = refl; table_is = refl; legs = λ i. ap begin (e i); live = tt }
@@ -249,10 +253,31 @@ module _ (s : Setup) (hears : ℕ → Hearing) (takes : ℕ → Takes) (items : 
       w.front.1 ∙ (ap (λ l. texts_in h.leg l ++ w.front.0) (sym w.items_are) ∙ (ap (λ cs. cs ++ w.front.0) (texts_append h.leg (items i) w.left) ∙ append_assoc (texts_in h.leg (items i)) (texts_in h.leg w.left) w.front.0)) in
       (texts_in h.leg w.left ++ w.front.0, all ∙ ap (λ n. texts_in n (items i) ++ (texts_in h.leg w.left ++ w.front.0)) (own i))
 
+  -- by the takes that count each link is closed, and nothing is in a hand or left in the mixer
+  pub record IsOverBy (counts : List (ℕ → ℕ)) (calls : List Call) : Type 0 where
+    pub closed : (i : ℕ) → i < s.legs → is_closed (first_takes (at_last counts i) (takes i)) ≡ true
+    pub empty : (i : ℕ) → i < s.legs → hand_after s i calls ≡ None
+    pub idle : is_idle s (after_calls s calls) ≡ true
+
+  -- a live run, and that only such a one is over
+  abbrev pub RunsTo : (counts : List (ℕ → ℕ)) (calls : List Call) (turns : ℕ) → Type 0
+  RunsTo counts calls turns = (l : Live s hears takes turns (after_calls s calls)) × (IsOver s hears takes chunks l.past (at_last l.counts) → IsOverBy counts calls)
+
+  pub runs_to : (counts : List (ℕ → ℕ)) (calls : List Call) → AreLiveCalls s items counts calls → ((i : ℕ) → texts_in i (items i) ≡ took s i calls ++ held (hand_after s i calls)) → RunsTo counts calls (turns_made calls)
+  runs_to counts calls l texts =
+      let more : ℕ → List Chunk = λ i. (ahead i).0 in
+      let splits : (i : ℕ) → Splits more calls i = λ i. (ahead i).1 ∙ ap (λ cs. cs ++ (ahead i).0) (texts i) in
+      let f = follows counts calls l more splits in (
+        record { past = f.past; counts = counts; live = f.live; turned = f.turns; leads = f.table_is },
+        λ over. record {
+          closed = over.closed;
+          empty = λ i low. none_left more counts calls i f (over.taken i low) (splits i);
+          idle = ap (is_idle s) (sym f.table_is) ∙ over.idle;
+        },
+      )
+
   pub live_run : (counts : List (ℕ → ℕ)) (calls : List Call) → AreLiveCalls s items counts calls → ((i : ℕ) → texts_in i (items i) ≡ took s i calls ++ held (hand_after s i calls)) → Live s hears takes (turns_made calls) (after_calls s calls)
-  live_run counts calls l texts =
-      let f = follows counts calls l (λ i. (ahead i).0) (λ i. (ahead i).1 ∙ ap (λ cs. cs ++ (ahead i).0) (texts i)) in
-      record { past = f.past; counts = counts; live = f.live; turned = f.turns; leads = f.table_is }
+  live_run counts calls l texts = (runs_to counts calls l texts).0
 
 pub calls_law : CallsAreLive
 calls_law s hears takes items counts calls own l texts covers = live_run s hears takes items own covers counts calls l texts

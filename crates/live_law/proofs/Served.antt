@@ -22,7 +22,7 @@ use Rattle.serve_spec.specs.Served.{IsDrained, hearing_at}
 use Rattle.live_law.specs.Covers.{Covers}
 use Rattle.live_law.specs.Served.{BrokenIsServed, ClosedIsServed, DoneIsServed, IsOfConf}
 use Rattle.live_law.proofs.Draining.{covered_end}
-use Rattle.live_law.proofs.Serving.{serving, some_there}
+use Rattle.live_law.proofs.Serving.{serving, serving_to, some_there}
 
 module _ {I M : Type 0} (popped : I → List Item) (stands : M → Setup → (ℕ → Pts) → List Call → Type 0) where
   -- all of a leg was popped and taken
@@ -46,17 +46,21 @@ module _ {I M : Type 0} (popped : I → List Item) (stands : M → Setup → (�
       drained_at c takes v.calls j _ there.0 (v.at j there.0 there.1) (closed j there.0 there.1) (o.covers j there.0 there.1)
 
   unfoldable pub done_law : DoneIsServed popped stands
-  done_law c pts ps m takes given v o = record {
-    table = after_calls (setup c) v.calls;
-    turns = c.turns;
-    live = serving popped stands (setup c) pts c.turns ps m v (hearing_at c) takes o.legs (λ i. refl) o.none o.covers;
-    few = omega arith;
-    gives = o.gave;
-    prints = refl;
-    done = λ e. refl;
-    drained = λ e. absurd (cc e);
-    idle = λ e. absurd (cc e);
-  }
+  done_law c pts ps m takes given w o =
+      let v = w.serving in
+      let l = serving_to popped stands (setup c) pts c.turns ps m v (hearing_at c) takes o.legs (λ i. refl) o.none o.covers in
+      record {
+        table = after_calls (setup c) v.calls;
+        turns = c.turns;
+        live = l.0;
+        few = omega arith;
+        gives = o.gave;
+        prints = refl;
+        done = λ e. refl;
+        goes_on = λ e over. w.goes_on (l.1 over);
+        drained = λ e. absurd (cc e);
+        idle = λ e. absurd (cc e);
+      }
 
   unfoldable pub closed_law : ClosedIsServed popped stands
   closed_law c pts ps m takes given w o =
@@ -69,6 +73,7 @@ module _ {I M : Type 0} (popped : I → List Item) (stands : M → Setup → (�
         gives = o.gave;
         prints = refl;
         done = λ e. absurd (cc e);
+        goes_on = λ e. absurd (cc e);
         drained = λ e. all_drained c takes pts w.turns ps m given v o w.closed.ends;
         idle = λ e. w.closed.idle;
       }
@@ -84,6 +89,7 @@ module _ {I M : Type 0} (popped : I → List Item) (stands : M → Setup → (�
         gives = o.gave;
         prints = refl;
         done = λ e. absurd (cc e);
+        goes_on = λ e. absurd (cc e);
         drained = λ e. absurd (cc e);
         idle = λ e. absurd (cc e);
       }

@@ -3,30 +3,33 @@ use Rattle.std.proofs.Common.{◌≡◌, ◌<◌, ◌≤◌, ℕ, zero, suc, inl
 use Rattle.std.specs.Prelude.{slice_get}
 use Rattle.std.proofs.lemmas.List.{append-nil}
 use Rattle.rtt_base.specs.declared.text_packets.Pts.{Pts}
+use Rattle.stream_spec.specs.Ready.{chunk_of}
 use Rattle.mixer_spec.specs.Setups.{Setup}
 use Rattle.mixer_spec.specs.Table.{Admit, Call, Hush, Leave, Offer, Taken, Turn, after_calls, chunks_taken, free_place}
 use Rattle.mixer_spec.specs.Calls.{took}
 use Rattle.mixer_spec.specs.Legs.{held}
 use Rattle.mixer_spec.proofs.Legs.{come_taken}
-use Rattle.mix_loop.proofs.Lists.{lt_or_ge}
+use Rattle.mix_loop.proofs.Lists.{get_within, lt_or_ge}
 use Rattle.link_io.specs.declared.ends.LinkIn as links
 use Rattle.link_spec.specs.Links.{Takes}
 use Rattle.live_spec.specs.Told.{Hearing, all_by}
-use Rattle.live_spec.specs.Live.{Live, but_last}
+use Rattle.live_spec.specs.Live.{IsOver, Live, at_last, but_last, live_chunks}
 use Rattle.live_leg.specs.declared.items.LegItem.{LegItem}
 use Rattle.live_leg.specs.declared.legs.LinkLeg.{LinkLeg}
-use Rattle.live_leg.specs.Items.{Item, items_of, texts_in}
+use Rattle.live_leg.specs.Items.{Item, items_of, marks_in, texts_in}
 use Rattle.live_leg.proofs.Texts.{items_append, texts_append}
 use Rattle.item_lanes.specs.declared.lanes.Lane.{Lane}
 use Rattle.item_lanes.specs.Lanes.{popped_of}
 use Rattle.live_loop.specs.declared.ports.LivePort.{LivePort}
 use Rattle.live_loop.specs.Handed.{AreLiveCalls, hand_after}
-use Rattle.live_loop.specs.Walks.{IsServing}
+use Rattle.live_loop.specs.Walks.{IsClosed, IsServing}
 use Rattle.live_loop.proofs.Others.{other_hand, other_took}
+use Rattle.live_loop.proofs.Walking.{is_and, none_full}
 use Rattle.live_law.specs.Covers.{Covers}
 use Rattle.live_law.specs.Laws.{IsAnswered, IsJoined}
 use Rattle.live_law.proofs.Covering.{covers, covers_by}
-use Rattle.live_law.proofs.Following.{calls_law}
+use Rattle.live_law.proofs.Finding.{closed_by_more, closed_ends}
+use Rattle.live_law.proofs.Following.{runs_to}
 
 pub answered : {L G : Type 0} (g : links.Ghosts L) (first back : LinkLeg L) (started now : Lane LegItem (LinkLeg L) G) → IsJoined g first back started now → IsAnswered g first back now
 answered g first back started now w =
@@ -72,10 +75,16 @@ module _ {I M : Type 0} (popped : I → List Item) (stands : M → Setup → (�
   none_covers : (h : Hearing) (takes : Takes) (items : List Item) → takes ≡ [] → items ≡ [] → Covers h takes items
   none_covers h takes items e i = subst (λ (l : List Item). Covers h takes l) (sym i) (subst (λ (as' : Takes). Covers h as' []) (sym e) (covers_by h [] [] [] [] refl (all_by h [], refl) [] [] [] [] tt refl refl tt refl))
 
-  pub serving : (s : Setup) (pts : ℕ → Pts) (turns : ℕ) (ps : List (LivePort I)) (m : M) (v : IsServing popped stands s pts turns ps m) (hears : ℕ → Hearing) (takes : ℕ → Takes)
+  -- a live run, and that where it is over nothing is left
+  abbrev pub LiveTo : (s : Setup) (pts : ℕ → Pts) (turns : ℕ) (ps : List (LivePort I)) (m : M) → IsServing popped stands s pts turns ps m → (ℕ → Hearing) → (ℕ → Takes) → Type 0
+  LiveTo s pts turns ps m v hears takes =
+      (l : Live s hears takes turns (after_calls s v.calls))
+      × (IsOver s hears takes (live_chunks hears takes) l.past (at_last l.counts) → IsClosed popped stands s pts ps m v.calls)
+
+  pub serving_to : (s : Setup) (pts : ℕ → Pts) (turns : ℕ) (ps : List (LivePort I)) (m : M) (v : IsServing popped stands s pts turns ps m) (hears : ℕ → Hearing) (takes : ℕ → Takes)
       → s.legs ≡ length ps → ((i : ℕ) → (hears i).leg ≡ i) → ((i : ℕ) → s.legs ≤ i → takes i ≡ []) → ((j : ℕ) (p : LivePort I) → slice_get ps j ≡ Some p → Covers (hears j) (takes j) (popped p.inlet))
-      → Live s hears takes turns (after_calls s v.calls)
-  serving s pts turns ps m v hears takes legs own none all =
+      → LiveTo s pts turns ps m v hears takes
+  serving_to s pts turns ps m v hears takes legs own none all =
       let items : ℕ → List Item = items_at ps in
       let live = v.live items (λ j p e. ([], items_there ps j p e ∙ sym (append-nil (popped p.inlet)))) in
       let texts : (i : ℕ) → texts_in i (items i) ≡ took s i v.calls ++ held (hand_after s i v.calls) = λ i. elim (lt_or_ge i (length ps)) [
@@ -94,4 +103,23 @@ module _ {I M : Type 0} (popped : I → List Item) (stands : M → Setup → (�
             subst (λ (l : List Item). Covers (hears i) (takes i) l) (sym (items_there ps i there.0 there.1)) (all i there.0 there.1)
         | inr high ↦ none_covers (hears i) (takes i) (items i) (none i (omega (arith, legs, high))) (items_above ps i high)
       ] in
-      subst (λ (n : ℕ). Live s hears takes n (after_calls s v.calls)) v.turned (calls_law s hears takes items v.counts v.calls own live texts covered)
+      let r = runs_to s hears takes items own covered v.counts v.calls live texts in
+      subst (λ (n : ℕ). (l : Live s hears takes n (after_calls s v.calls)) × (IsOver s hears takes (live_chunks hears takes) l.past (at_last l.counts) → IsClosed popped stands s pts ps m v.calls)) v.turned (
+        r.0,
+        λ over.
+            let by = r.1 over in
+            record {
+              ends = λ j p e.
+                  let low : j < s.legs = (let k = get_within ps j p e in omega (arith, k, legs)) in
+                  let a = v.at j p e in
+                  let closed = closed_by_more (at_last v.counts j) (marks_in a.before) (takes j) a.enough (by.closed j low) in
+                  let ended = closed_ends (hears j) (takes j) (items j) a.before a.tail (covered j) (items_there ps j p e ∙ a.popped_are) closed in
+                  is_and p.ended p.full (a.ended ∙ ended) (none_full p.full (chunk_of p.hand) (a.hand_is ∙ by.empty j low));
+              idle = by.idle;
+            },
+      )
+
+  pub serving : (s : Setup) (pts : ℕ → Pts) (turns : ℕ) (ps : List (LivePort I)) (m : M) (v : IsServing popped stands s pts turns ps m) (hears : ℕ → Hearing) (takes : ℕ → Takes)
+      → s.legs ≡ length ps → ((i : ℕ) → (hears i).leg ≡ i) → ((i : ℕ) → s.legs ≤ i → takes i ≡ []) → ((j : ℕ) (p : LivePort I) → slice_get ps j ≡ Some p → Covers (hears j) (takes j) (popped p.inlet))
+      → Live s hears takes turns (after_calls s v.calls)
+  serving s pts turns ps m v hears takes legs own none all = (serving_to s pts turns ps m v hears takes legs own none all).0

@@ -8,7 +8,7 @@ use Rattle.mixer_spec.specs.Table.{Call, after_calls}
 use Rattle.link_spec.specs.Links.{Takes}
 use Rattle.live_leg.specs.Items.{Item}
 use Rattle.live_loop.specs.declared.ports.LivePort.{LivePort}
-use Rattle.live_loop.specs.Walks.{BrokenTo, ClosedTo, IsServing}
+use Rattle.live_loop.specs.Walks.{BrokenTo, ClosedTo, DoneTo}
 use Rattle.serve_spec.specs.Served.{Broken, Closed, Done, IsServed, given_to, hearing_at, live_printed}
 use Rattle.live_law.specs.Covers.{Covers}
 
@@ -20,12 +20,12 @@ pub record IsOfConf {I : Type 0} (popped : I → List Item) (c : Conf) (calls : 
   pub covers : (j : ℕ) (p : LivePort I) → slice_get ps j ≡ Some p → Covers (hearing_at c j) (takes j) (popped p.inlet)
   pub gave : (j : ℕ) (leg : LegLine) → leg_at c.legs j ≡ Some leg → given j ≡ given_to c (after_calls (setup c) calls) j leg
 
--- Where all turns of the conference were made, that is a live call of it.
+-- Where all turns of the conference were made and something is left, that is a live call of it.
 abbrev pub DoneIsServed : {I M : Type 0} → (I → List Item) → (M → Setup → (ℕ → Pts) → List Call → Type 0) → Type 0
 DoneIsServed {I} {M} popped stands =
     (c : Conf) (pts : ℕ → Pts) (ps : List (LivePort I)) (m : M) (takes : ℕ → Takes) (given : ℕ → List (List ℕ))
-    → (v : IsServing popped stands (setup c) pts c.turns ps m)
-    → IsOfConf popped c v.calls ps takes given
+    → (v : DoneTo popped stands (setup c) pts c.turns ps m)
+    → IsOfConf popped c v.serving.calls ps takes given
     → IsServed c takes given Done (live_printed c given Done)
 
 -- So it is where all links are closed and nothing is left.

@@ -20,9 +20,11 @@ impl<L: LinkIn> Gives<LegItem> for LinkLeg<L> {
         self.state.is_over()
     }
 
-    fn next<R: Wait>(&mut self, _rt: &R, may_wait: bool, item: &mut LegItem) -> bool {
-        let given = self.step(may_wait, &mut item.chunk);
+    /// It waits until the next turn at most, whoever steps it: who makes the turns does so when that moment has come.
+    fn next<R: Wait>(&mut self, _rt: &R, _may_wait: bool, item: &mut LegItem) -> bool {
+        let given = self.step(&mut item.chunk);
         item.kind = given.unwrap_or(ItemKind::Seen);
+        item.at = self.pace.at();
         given.is_some()
     }
 }

@@ -13,6 +13,8 @@ use std::alloc::Global;
 pub struct LegItem {
     pub kind: ItemKind,
     pub chunk: Box<Chunk>,
+    /// The moment of the take behind which it was given.
+    pub at: u64,
     ghost text: { HasText kind (chunk_of chunk.value) },
 }
 
@@ -24,6 +26,7 @@ impl Reuse for LegItem {
         Ok(LegItem {
             kind: ItemKind::Seen,
             chunk,
+            at: 0,
         })
     }
 }

@@ -4,6 +4,7 @@ ghost use Rattle.ear.specs.Hears.{IsGiving, is_finished, is_quiet};
 ghost use Rattle.live_leg.specs.States.{is_going};
 ghost use Rattle.live_leg.specs.declared.states.State.TheVariants.{Idle};
 
+use crate::paces::Pace;
 use crate::states::State;
 use ear::Ear;
 use rtt_base::Packet;
@@ -21,6 +22,7 @@ pub struct LinkLeg<L> {
     /// Says that the leg is to stop.
     pub(crate) stop: Arc<AtomicBool, Global>,
     pub(crate) state: State,
+    pub(crate) pace: Pace,
     ghost giving: { ∥ IsGiving ear ∥₁ },
     ghost quiet: { state ≡ Idle → is_quiet ear ≡ true },
     ghost open_still: { is_going state ≡ true → is_finished ear ≡ false },

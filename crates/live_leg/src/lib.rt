@@ -6,6 +6,7 @@ mod hearing;
 mod items;
 mod kinds;
 mod legs;
+mod paces;
 mod states;
 mod stepping;
 

@@ -12,6 +12,7 @@ ghost use Rattle.live_leg.specs.Texts.{HasText};
 use crate::hearing::hear_taken;
 use crate::kinds::ItemKind;
 use crate::legs::LinkLeg;
+use crate::paces::Pace;
 use crate::states::{State, state_after};
 use ear::{Ear, EarConf, is_blank};
 use link_io::LinkIn;
@@ -42,15 +43,18 @@ fn seen_as(state: State) -> ItemKind
 }
 
 impl<L: LinkIn> LinkLeg<L> {
-    /// A leg over a link, of which nothing was heard. It stops where the word is set. It takes all memory that it needs; where
-    /// there is not enough, the link comes back.
+    /// A leg over a link, of which nothing was heard. Where its link has nothing it waits for a turn; they are at the multiples of
+    /// `tick` (milliseconds) of its clock. It stops where the word is set. It takes all memory that it needs; where there is not
+    /// enough, the link comes back.
     pub fn new(
         alloc: Global,
         link: L,
         conf: EarConf,
+        tick: u64,
         stop: Arc<AtomicBool, Global>,
     ) -> Result<LinkLeg<L>, L>
         requires wait { conf.wait ≤ LONGEST_WAIT }
+        requires tick { 0 < tick }
         ensures conf { IfOk result (λ leg. conf_of leg.ear ≡ conf) }
         ensures link { IfOk result (λ leg. leg.link ≡ link) }
         ensures open { IfOk result (λ leg. is_over leg.state ≡ false) }
@@ -69,6 +73,7 @@ impl<L: LinkIn> LinkLeg<L> {
             packet,
             stop,
             state: State::Idle,
+            pace: Pace::new(tick),
         })
     }
 
@@ -82,22 +87,25 @@ impl<L: LinkIn> LinkLeg<L> {
             packet: _,
             stop: _,
             state: _,
+            pace: _,
         } = self;
         link
     }
 
-    /// Takes from the link, and tells the ear what came. Where the link failed the leg is over.
-    fn listen(&mut self, may_wait: bool) -> Result<(), Failed>
+    /// Takes from the link, where it has nothing at the next turn at the latest, and tells the ear what came. Where the link failed
+    /// the leg is over.
+    fn listen(&mut self) -> Result<(), Failed>
         requires idle { self.old.state ≡ State.Idle }
         requires few { arrival_count self.old.ear < MOST_ARRIVALS }
         ensures ok { OnOk result (Listens L.LinkIn self.old self.new) }
         ensures giving { OnOk result (is_giving self.new.state ≡ true) }
         ensures err { OnErr result (GivesThen L.LinkIn self.old self.new (Item.Fault ∷ [])) }
     {
-        match self.link.take(&mut self.packet, may_wait) {
+        match self.link.take(&mut self.packet, self.pace.until()) {
             Ok(taken) => {
                 hear_taken(&mut self.ear, taken, self.packet.as_slice());
                 self.state = state_after(taken.came);
+                self.pace = self.pace.after(taken);
                 Ok(())
             }
             Err(failed) => {
@@ -136,21 +144,21 @@ impl<L: LinkIn> LinkLeg<L> {
     }
 
     /// Takes from the link, and gives the first item of what came.
-    fn ask(&mut self, may_wait: bool, chunk: &mut Chunk) -> Option<ItemKind>
+    fn ask(&mut self, chunk: &mut Chunk) -> Option<ItemKind>
         requires idle { self.old.state ≡ State.Idle }
         requires few { arrival_count self.old.ear < MOST_ARRIVALS }
         ensures gives { GivesThen L.LinkIn self.old self.new (items_with result (chunk_of chunk.new)) }
         ensures text { IfSome result (λ kind. HasText kind (chunk_of chunk.new)) }
         ensures later { result ≡ None → is_giving self.new.state ≡ true }
     {
-        match self.listen(may_wait) {
+        match self.listen() {
             Ok(()) => self.give(chunk),
             Err(_) => Some(ItemKind::Fault),
         }
     }
 
     /// Takes from the link, unless the leg is to stop, or heard all that an ear hears.
-    fn ask_unless_stopped(&mut self, may_wait: bool, chunk: &mut Chunk) -> Option<ItemKind>
+    fn ask_unless_stopped(&mut self, chunk: &mut Chunk) -> Option<ItemKind>
         requires { self.old.state ≡ State.Idle }
         ensures gives { GivesThen L.LinkIn self.old self.new (items_with result (chunk_of chunk.new)) }
         ensures text { IfSome result (λ kind. HasText kind (chunk_of chunk.new)) }
@@ -163,11 +171,11 @@ impl<L: LinkIn> LinkLeg<L> {
         if self.ear.arrivals() >= MOST_ARRIVALS {
             return None;
         }
-        self.ask(may_wait, chunk)
+        self.ask(chunk)
     }
 
     /// Gives the next item, if there is one, and puts its text in place of what is in `chunk`.
-    pub(crate) fn step(&mut self, may_wait: bool, chunk: &mut Chunk) -> Option<ItemKind>
+    pub(crate) fn step(&mut self, chunk: &mut Chunk) -> Option<ItemKind>
         requires { is_over self.old.state ≡ false }
         ensures gives { GivesThen L.LinkIn self.old self.new (items_with result (chunk_of chunk.new)) }
         ensures text { IfSome result (λ kind. HasText kind (chunk_of chunk.new)) }
@@ -175,7 +183,7 @@ impl<L: LinkIn> LinkLeg<L> {
     {
         match self.state {
             State::Giving | State::Blank | State::Ending => self.give(chunk),
-            State::Idle => self.ask_unless_stopped(may_wait, chunk),
+            State::Idle => self.ask_unless_stopped(chunk),
             State::Over => None,
         }
     }

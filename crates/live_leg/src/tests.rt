@@ -38,7 +38,7 @@ fn over(
     let Ok(stop) = Arc::new(alloc, AtomicBool::new(is_stopped)) else {
         return Err(NoMemory);
     };
-    match LinkLeg::new(alloc, link, ANN, stop) {
+    match LinkLeg::new(alloc, link, ANN, 100, stop) {
         Ok(leg) => Ok((leg, item)),
         Err(_) => Err(NoMemory),
     }
@@ -118,5 +118,24 @@ fn a_fault_is_the_last(rt: HostRuntime) -> Result<(), Fail> {
     assert!(rt; gives(&rt, &mut leg, &mut item, ItemKind::Silent));
     assert!(rt; gives(&rt, &mut leg, &mut item, ItemKind::Fault));
     assert!(rt; leg.is_over());
+    Ok(())
+}
+
+// Whether its link has nothing then, as it says at this moment.
+fn is_silent_at<F: Gives<LegItem>, R: Wait>(
+    rt: &R,
+    leg: &mut F,
+    item: &mut LegItem,
+    at: u64,
+) -> bool {
+    gives(rt, leg, item, ItemKind::Silent) && item.at == at
+}
+
+#[test]
+fn a_leg_that_hears_nothing_waits_for_the_next_turn(rt: HostRuntime) -> Result<(), Fail> {
+    let (mut leg, mut item) = ann(rt.alloc(), &[(130, Came::Quiet, b"")], false)?;
+    assert!(rt; is_silent_at(&rt, &mut leg, &mut item, 130));
+    assert!(rt; is_silent_at(&rt, &mut leg, &mut item, 200));
+    assert!(rt; is_silent_at(&rt, &mut leg, &mut item, 300));
     Ok(())
 }

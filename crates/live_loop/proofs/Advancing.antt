@@ -44,10 +44,17 @@ module _ {I M : Type 0} (popped : I → List Item) (stands : M → Setup → (�
   goes_mark p p' m f x ended failed t more ends empty w = (w.empty, none p p' m f (λ s calls n a. (pulls_mark popped s calls p.leg n (f n) p p' x ended failed t (more n) ends empty w a).0))
 
   -- the link had nothing
-  pub goes_silent : (p p' : LivePort I) (m : M) → p.full ≡ false → PullsMark popped p p' Silent p.ended p.failed → Silences suc popped stands p p' m m
-  goes_silent p p' m empty w s pts calls n made a =
-      let x = pulls_mark popped s calls p.leg n (suc n) p p' Silent p.ended p.failed (λ k. refl) (omega arith) (sym (or_none p.ended)) empty w a in
-      record { goes = record { offers = []; next = tt; made = made; port = x.0 }; silent = (a.before ++ a.tail, x.1) }
+  pub goes_silent : (p p' : LivePort I) (m : M) → p.full ≡ false → PullsMark popped p p' Silent p.ended p.failed → (p'.full ≡ false) × Silences suc popped stands p p' m m
+  goes_silent p p' m empty w = (
+    w.empty,
+    λ s pts calls n made a.
+        let x = pulls_mark popped s calls p.leg n (suc n) p p' Silent p.ended p.failed (λ k. refl) (omega arith) (sym (or_none p.ended)) empty w a in
+        record { goes = record { offers = []; next = tt; made = made; port = x.0 }; silent = (a.before ++ a.tail, x.1) },
+  )
+
+  -- it said so before the turn, and may have more
+  pub silent_goes : (p p' : LivePort I) (m m' : M) → (p'.full ≡ false) × Silences suc popped stands p p' m m' → GoesOn suc popped stands p p' m m'
+  silent_goes p p' m m' w = (w.0, λ s pts calls n made a. (w.1 s pts calls n made a).goes)
 
   pub goes_nothing : (p p' : LivePort I) (m : M) → p.full ≡ false → PullsNothing popped p p' → GoesOn (λ n. n) popped stands p p' m m
   goes_nothing p p' m empty w = (w.empty, none p p' m (λ n. n) (λ s calls n a. pulls_nothing popped s calls p.leg n p p' empty w a))

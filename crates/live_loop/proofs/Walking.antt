@@ -78,7 +78,7 @@ some_there [] i low = absurd (omega arith)
 some_there (y ∷ xs) zero low = (y, refl)
 some_there (y ∷ xs) (suc i) low = some_there xs i (omega arith)
 
-is_and : (a b : Bool) → a ≡ true → b ≡ false → (a && not b) ≡ true
+pub is_and : (a b : Bool) → a ≡ true → b ≡ false → (a && not b) ≡ true
 is_and true true a b = absurd (true≢false b)
 is_and true false a b = refl
 is_and false b a e = absurd (true≢false (sym a))
@@ -99,11 +99,11 @@ counts_for {X} (y ∷ xs) Q h = (put_first (h zero y refl).0 (counts_for xs (λ 
     at first rest zero x e = let is : y ≡ x = cc e in subst (λ (z : X). Q zero z first.0) is first.1
     at first rest (suc j) x e = rest.1 j x e
 
-all_true : {X : Type 0} (f : X → Bool) (xs : List X) → ((j : ℕ) (x : X) → slice_get xs j ≡ Some x → f x ≡ true) → list_all f xs ≡ true
+pub all_true : {X : Type 0} (f : X → Bool) (xs : List X) → ((j : ℕ) (x : X) → slice_get xs j ≡ Some x → f x ≡ true) → list_all f xs ≡ true
 all_true f [] a = refl
 all_true f (y ∷ xs) a = ap (λ b. b && list_all f xs) (a zero y refl) ∙ all_true f xs (λ j x e. a (suc j) x e)
 
-none_full : (b : Bool) (c : Chunk) → (if b then Some c else None) ≡ None → b ≡ false
+pub none_full : (b : Bool) (c : Chunk) → (if b then Some c else None) ≡ None → b ≡ false
 none_full true c e = absurd (cc e)
 none_full false c e = refl
 

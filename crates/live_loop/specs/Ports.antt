@@ -158,7 +158,7 @@ module _ {I : Type 0} where
   abbrev pub Advances : {M : Type 0} → (I → List Item) → (M → Setup → (ℕ → Pts) → List Call → Type 0) → LivePort I → LivePort I → M → M → Advanced → Type 0
   Advances popped stands p p' m m' advanced.Going = GoesOn (λ n. n) popped stands p p' m m'
   Advances popped stands p p' m m' advanced.Seen = GoesOn suc popped stands p p' m m'
-  Advances popped stands p p' m m' advanced.Silent = Silences suc popped stands p p' m m'
+  Advances popped stands p p' m m' advanced.Silent = (p'.full ≡ false) × Silences suc popped stands p p' m m'
   Advances popped stands p p' m m' advanced.Nothing = GoesOn (λ n. n) popped stands p p' m m'
   Advances popped stands p p' m m' advanced.Blocked = Blocks popped stands p p' m m'
 

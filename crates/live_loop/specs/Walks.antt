@@ -114,6 +114,11 @@ module _ {I : Type 0} (popped : I → List Item) where
     pub serving : IsServing stands s pts turns ps m
     pub closed : IsClosed stands s pts ps m serving.calls
 
+  -- all these turns were made, and something is left
+  pub record DoneTo {M : Type 0} (stands : M → Setup → (ℕ → Pts) → List Call → Type 0) (s : Setup) (pts : ℕ → Pts) (turns : ℕ) (ps : List (LivePort I)) (m : M) : Type 0 where
+    pub serving : IsServing stands s pts turns ps m
+    pub goes_on : IsClosed stands s pts ps m serving.calls → ⊥
+
   -- so many turns were made
   pub record BrokenTo {M : Type 0} (stands : M → Setup → (ℕ → Pts) → List Call → Type 0) (s : Setup) (pts : ℕ → Pts) (most : ℕ) (ps : List (LivePort I)) (m : M) : Type 0 where
     pub turns : ℕ
@@ -122,7 +127,7 @@ module _ {I : Type 0} (popped : I → List Item) where
 
   -- how the turns ended, of a mixer that stands so then, or of which the last turn was not sent to its end
   abbrev pub RanTo : {M T : Type 0} → Turned T → (stands halts : M → Setup → (ℕ → Pts) → List Call → Type 0) → Setup → (ℕ → Pts) → ℕ → List (LivePort I) → M → Type 0
-  RanTo Done stands halts s pts turns ps m = IsServing stands s pts turns ps m
+  RanTo Done stands halts s pts turns ps m = DoneTo stands s pts turns ps m
   RanTo Closed stands halts s pts turns ps m = ClosedTo stands s pts turns ps m
   RanTo (Faulted leg) stands halts s pts turns ps m = BrokenTo stands s pts turns ps m
   RanTo (Stopped why) stands halts s pts turns ps m = BrokenTo halts s pts turns ps m

@@ -68,6 +68,7 @@ impl<I> LivePort<I> {
             inlet,
             leg,
             hand: Chunk::default(),
+            at: 0,
             full: false,
             ended: false,
             failed: false,
@@ -97,7 +98,7 @@ impl<I: Pops> LivePort<I> {
         ensures leg { self.new.leg ≡ self.old.leg }
         ensures grew { Grew I.popped I.began self.old self.new }
     {
-        match self.inlet.pop(rt, &mut self.hand) {
+        match self.inlet.pop(rt, &mut self.hand, &mut self.at) {
             None => {
                 self.inlet.wait(rt);
                 Looked::Nothing
@@ -159,9 +160,9 @@ impl<I: Pops> LivePort<I> {
     }
 
     /// Offers what is in hand and what is popped, until a text is not taken; or the end or a fault is popped; or the link has
-    /// nothing; or it was asked so often. So all that came is offered, however much came at once, and a link that never falls
-    /// silent holds no turn up.
-    pub fn gather<R: Wait, M: Mixes>(&mut self, rt: &R, mixer: &mut M)
+    /// nothing, at the moment of the turn or later; or it was asked so often. So all that came is offered, however much came at once
+    /// and however late the turn is, and a link that never falls silent holds no turn up.
+    pub fn gather<R: Wait, M: Mixes>(&mut self, rt: &R, mixer: &mut M, turn: u64)
         requires leg { self.old.leg < M.legs mixer.old }
         ensures keeps { Keeps M.legs M.turns M.addresses mixer.old mixer.new }
         ensures leg { self.new.leg ≡ self.old.leg }
@@ -186,7 +187,12 @@ impl<I: Pops> LivePort<I> {
                 Advanced::Going => {}
                 Advanced::Seen => takes += 1,
                 Advanced::Nothing => {}
-                Advanced::Silent => return,
+                Advanced::Silent => {
+                    if self.at >= turn {
+                        return;
+                    }
+                    takes += 1;
+                }
                 Advanced::Blocked => return,
             }
         }

@@ -30,10 +30,11 @@ impl<L: LinkIn, G: Gate> Pops for Lane<LegItem, LinkLeg<L>, G> {
     ghost began = { LaneFollows (LegGave L.LinkIn) };
 
     /// What is given was popped. That the queue is asked is tested.
-    fn pop<R: Wait>(&mut self, rt: &R, chunk: &mut Chunk) -> Option<ItemKind> {
+    fn pop<R: Wait>(&mut self, rt: &R, chunk: &mut Chunk, at: &mut u64) -> Option<ItemKind> {
         match Lane::pop(self, rt) {
             Some(item) => {
                 let kind = hand_out(&item, chunk);
+                *at = item.at;
                 self.give_back(rt, item);
                 Some(kind)
             }

@@ -16,9 +16,9 @@ pub trait Pops {
     /// From the first of these on, of which nothing was popped yet, it has become the second.
     ghost began: { Self → Self → Type 0 };
 
-    /// The next item, if one is there. Where it is a text, it is put in place of what is in `chunk`. Whose text it is (`source`) is
-    /// known to who asks.
-    fn pop<R: Wait>(&mut self, rt: &R, chunk: &mut Chunk) -> Option<ItemKind>
+    /// The next item, if one is there, and at which moment of the leg's link (milliseconds) it was given. Where it is a text, it is
+    /// put in place of what is in `chunk`. Whose text it is (`source`) is known to who asks.
+    fn pop<R: Wait>(&mut self, rt: &R, chunk: &mut Chunk, at: &mut u64) -> Option<ItemKind>
         ensures popped { popped self.new ≡ popped self.old ++ items_with result (chunk_of chunk.new) }
         ensures text { IfSome result (λ kind. HasText kind (chunk_of chunk.new)) }
         ensures began { (first : Self) → began first self.old → began first self.new };

@@ -12,6 +12,8 @@ pub struct LivePort<I> {
     /// The number of the leg.
     pub(crate) leg: u8,
     pub(crate) hand: Chunk,
+    /// The moment at which the last item was given.
+    pub(crate) at: u64,
     /// Whether a text is in hand.
     pub(crate) full: bool,
     /// Whether the end was popped.

@@ -6,7 +6,7 @@ ghost use Rattle.live_loop.specs.Walks.{AreAt};
 use crate::{LivePort, Turned, drain_all, inlets_of, ports_over, take_turns};
 use ear::EarConf;
 use item_lanes::{Lane, LaneRoom, Started, join_lanes, keep_lanes};
-use link_io::{Came, LinkIn, MemIn, MemLinks, Planned};
+use link_io::{Came, LinkIn, Links, MemIn, MemLinks, Planned};
 use live_leg::{LegItem, LinkLeg};
 use mix_loop::Mixes;
 use rtt_base::{Bytes, Chunk, Full, NoMemory, Pts};
@@ -23,6 +23,8 @@ struct Counting {
     legs: usize,
     taken: u64,
     turns: u64,
+    // the moments of the first turns
+    moments: [u64; 3],
 }
 
 impl Mixes for Counting {
@@ -59,7 +61,10 @@ impl Mixes for Counting {
         Ok(())
     }
 
-    fn turn(&mut self, _now: u64) -> Result<(), NoMemory> {
+    fn turn(&mut self, now: u64) -> Result<(), NoMemory> {
+        if self.turns < 3 {
+            self.moments[self.turns as usize] = now;
+        }
         self.turns += 1;
         Ok(())
     }
@@ -111,6 +116,7 @@ struct Ran {
     turned: Turned<NoMemory>,
     turns: u64,
     taken: u64,
+    moments: [u64; 3],
 }
 
 // Makes five turns, one each 100 milliseconds, and lets go what comes behind them.
@@ -161,15 +167,15 @@ fn ann(alloc: Global, link: MemIn) -> Option<(Vec<LinkLeg<MemIn>>, Arc<AtomicBoo
     let Ok(theirs) = Arc::try_clone(&stop) else {
         return None;
     };
-    let Ok(leg) = LinkLeg::new(alloc, link, ANN, theirs) else {
+    let Ok(leg) = LinkLeg::new(alloc, link, ANN, 100, theirs) else {
         return None;
     };
     let legs = alone(alloc, leg)?;
     Some((legs, stop))
 }
 
-// A call of one leg.
-fn run<R: Threads + Wait>(rt: &R, alloc: Global, link: MemIn) -> Option<Ran> {
+// A call of one leg, which begins at this moment.
+fn run<R: Threads + Wait>(rt: &R, alloc: Global, link: MemIn, begin: u64) -> Option<Ran> {
     let (legs, stop) = ann(alloc, link)?;
     let Ok(room) = LaneRoom::new(alloc, legs.len()) else {
         return None;
@@ -187,8 +193,10 @@ fn run<R: Threads + Wait>(rt: &R, alloc: Global, link: MemIn) -> Option<Ran> {
         legs: legs.len(),
         taken: 0,
         turns: 0,
+        moments: [0; 3],
     };
     let mut world = MemLinks::new(alloc);
+    world.pause_until(begin);
     let Started {
         lanes,
         back: joined,
@@ -201,6 +209,7 @@ fn run<R: Threads + Wait>(rt: &R, alloc: Global, link: MemIn) -> Option<Ran> {
         turned,
         turns: mixer.turns,
         taken: mixer.taken,
+        moments: mixer.moments,
     })
 }
 
@@ -212,7 +221,7 @@ fn call<R: Threads + Wait>(
     closes: bool,
 ) -> Result<Ran, NoMemory> {
     let link = link(alloc, count, closes)?;
-    match run(rt, alloc, link) {
+    match run(rt, alloc, link, 0) {
         Some(ran) => Ok(ran),
         None => Err(NoMemory),
     }
@@ -250,5 +259,15 @@ fn a_flood_holds_no_turn_up(rt: HostRuntime) -> Result<(), Fail> {
     assert!(rt; ran.turned == Turned::Done);
     assert!(rt; ran.turns == 5);
     assert!(rt; ran.taken == 1280);
+    Ok(())
+}
+
+#[test]
+fn turns_are_at_the_ticks_of_the_clock(rt: HostRuntime) -> Result<(), Fail> {
+    let link = link(rt.alloc(), 1, false)?;
+    let Some(ran) = run(&rt, rt.alloc(), link, 30) else {
+        return Err(NoMemory)?;
+    };
+    assert!(rt; ran.moments == [30, 200, 300]);
     Ok(())
 }

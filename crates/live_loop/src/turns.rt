@@ -6,7 +6,7 @@ ghost use Rattle.live_loop.specs.Clocks.{IsPaced, OnlyTimePassed, StandsPaced};
 ghost use Rattle.live_loop.specs.Walks.{AllGathered, AllGrew, AreAt, HaltsThen, HasFailed, IsPaused, NoneFailed, Ran, WasFaulted, WasStopped, is_spent};
 
 use crate::clocks::TurnClock;
-use crate::moments::next_tick;
+use crate::moments::{first_tick, next_tick};
 use crate::pops::Pops;
 use crate::ports::LivePort;
 use mix_loop::Mixes;
@@ -25,8 +25,13 @@ pub enum Turned<T> {
     Stopped(T),
 }
 
-/// Each leg offers what it can, in leg order.
-fn gather_all<I: Pops, M: Mixes, R: Wait>(rt: &R, ports: &mut [LivePort<I>], mixer: &mut M)
+/// Each leg offers what it can before the turn of this moment, in leg order.
+fn gather_all<I: Pops, M: Mixes, R: Wait>(
+    rt: &R,
+    ports: &mut [LivePort<I>],
+    mixer: &mut M,
+    turn: u64,
+)
     requires at { AreAt ports.old }
     requires legs { M.legs mixer.old ≡ length ports.old }
     ensures at { AreAt ports.new }
@@ -36,7 +41,7 @@ fn gather_all<I: Pops, M: Mixes, R: Wait>(rt: &R, ports: &mut [LivePort<I>], mix
 {
     for leg in 0..ports.len() {
         let port = &mut ports[leg];
-        port.gather(rt, mixer);
+        port.gather(rt, mixer, turn);
     }
 }
 
@@ -73,8 +78,8 @@ fn is_over<I, M: Mixes>(ports: &[LivePort<I>], mixer: &M) -> bool
     mixer.idle()
 }
 
-/// Makes so many turns, one at each multiple of `tick` milliseconds from the first on, or later where what is done before takes
-/// longer; unless a link fails, or all are closed and nothing is left. It pauses once a turn.
+/// Makes so many turns, one at each multiple of `tick` milliseconds of the clock, or later where what is done before takes longer;
+/// unless a link fails, or all are closed and nothing is left. It pauses once a turn.
 pub fn take_turns<I: Pops, M: Mixes, C: TurnClock, R: Wait>(
     rt: &R,
     ports: &mut [LivePort<I>],
@@ -102,8 +107,9 @@ pub fn take_turns<I: Pops, M: Mixes, C: TurnClock, R: Wait>(
     ensures passed { OnlyTimePassed C.TurnClock clock.old clock.new }
 {
     let began = clock.clock_now();
+    let mut due = first_tick(began, tick);
     for k in 0..turns {
-        gather_all(rt, ports, mixer);
+        gather_all(rt, ports, mixer, due);
         match first_failed(ports) {
             Some(leg) => return Turned::Faulted(leg),
             None => {}
@@ -116,7 +122,8 @@ pub fn take_turns<I: Pops, M: Mixes, C: TurnClock, R: Wait>(
             Ok(()) => {}
             Err(fault) => return Turned::Stopped(fault),
         }
-        clock.sleep_until(next_tick(began, now, tick));
+        due = next_tick(due, now, tick);
+        clock.sleep_until(due);
     }
     if is_over(ports, mixer) {
         return Turned::Closed;

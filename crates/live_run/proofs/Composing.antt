@@ -294,8 +294,8 @@ module _ {I G : Type 0} (i : ins.Ghosts I) (tells : Type 0) (opened : ℕ → Bo
     -- however its turns ended
     breaks : (known : Type 0) (tick old : ℕ) (same_tick : tick ≡ c.tick) (tell : tells → known) (t : Turned LiveFault)
         → RanTo popped_in t (StandsPaced known tick old gives) (StandsPaced known tick old (HaltsThen halts)) (setup c) (pts_at c) c.turns ports m → IsBrokenOff i o tells c backs far.links.items
-    breaks known tick old same_tick tell Done v = is_broken (StandsPaced known tick old gives) (record { turns = c.turns; few = omega arith; serving = v }) 0
-        (λ j link line e at told. inl (given_whole v.calls v.made.0.made j link line e at told)) (at_ticks known tick old v.calls same_tick tell v.made.1)
+    breaks known tick old same_tick tell Done v = is_broken (StandsPaced known tick old gives) (record { turns = c.turns; few = omega arith; serving = v.serving }) 0
+        (λ j link line e at told. inl (given_whole v.serving.calls v.serving.made.0.made j link line e at told)) (at_ticks known tick old v.serving.calls same_tick tell v.serving.made.1)
     breaks known tick old same_tick tell Closed v = is_broken (StandsPaced known tick old gives) (record { turns = v.turns; few = v.few; serving = v.serving }) 0
         (λ j link line e at told. inl (given_whole v.serving.calls v.serving.made.0.made j link line e at told)) (at_ticks known tick old v.serving.calls same_tick tell v.serving.made.1)
     breaks known tick old same_tick tell (Faulted k) v = is_broken (StandsPaced known tick old gives) v 0
@@ -307,7 +307,7 @@ module _ {I G : Type 0} (i : ins.Ghosts I) (tells : Type 0) (opened : ℕ → Bo
         → RanTo popped_in t (StandsPaced known tick old gives) (StandsPaced known tick old (HaltsThen halts)) (setup c) (pts_at c) c.turns ports m → WasFaulted t ports → WasStopped (IsUnsentIn (λ (x : SendingState (FarEnds O)) (why : LiveFault). IsUnsent o.faults x.outbound why)) t m → m.short ≡ false
         → EndsAs i o (stands tap) tells c backs far.links.items far.listeners.items t
     unfolding done_law closed_law
-    ends_as known tick old same_tick tell failed Done v f s long = is_call served.Done v.calls v.made.0 (at_ticks known tick old v.calls same_tick tell v.made.1) long (λ takes given w. done_law popped_in (StandsPaced known tick old gives) c (pts_at c) ports m takes given v w) (λ takes given w. refl)
+    ends_as known tick old same_tick tell failed Done v f s long = is_call served.Done v.serving.calls v.serving.made.0 (at_ticks known tick old v.serving.calls same_tick tell v.serving.made.1) long (λ takes given w. done_law popped_in (StandsPaced known tick old gives) c (pts_at c) ports m takes given v w) (λ takes given w. refl)
     ends_as known tick old same_tick tell failed Closed v f s long = is_call served.Closed v.serving.calls v.serving.made.0 (at_ticks known tick old v.serving.calls same_tick tell v.serving.made.1) long (λ takes given w. closed_law popped_in (StandsPaced known tick old gives) c (pts_at c) ports m takes given v w) (λ takes given w. refl)
     ends_as known tick old same_tick tell failed (Faulted j) v f s long = (fault_at j f.0 f.1 (failed j f.0 f.1 f.2), breaks known tick old same_tick tell (Faulted j) v)
     ends_as known tick old same_tick tell failed (Stopped (Link j)) v f s long = (s, let t : Turned LiveFault = Stopped (Link j) in breaks known tick old same_tick tell t v)
@@ -366,20 +366,20 @@ not_called {I} {O} i o stands tells c opened legs links called are_legs are_ends
 pub tells_first : {M T : Type 0} (mixes : M → Setup → (ℕ → Pts) → List Call → Type 0) (stands : T → List Notice → Type 0) (m : Tapped M T) (s : Setup) (pts : ℕ → Pts) (n : ℕ) → mixes m.mixer s pts (all_admitted n) → stands m.tap [] → TellsFor mixes stands m s pts (all_admitted n)
 tells_first mixes stands m s pts n made none = record { made = made; told = λ long. subst (λ (past : List Notice). stands m.tap past) (sym (none_offered s n)) none }
 
-pub call_made : {I O W G T : Type 0} (i : ins.Ghosts I) (o : outs.Ghosts O) (k : clocks.Ghosts W) (stands : T → List Notice → Type 0) (tells : Type 0) (c : Conf) (job : Job I (Tapped (SendingState (FarEnds O)) T) G) (before after : W) (ended : Ended I (Tapped (SendingState (FarEnds O)) T)) (tap : T) (opened later : ℕ → Bool) (firsts : List O)
+pub call_made : {I O W G T : Type 0} (i : ins.Ghosts I) (o : outs.Ghosts O) (k : clocks.Ghosts W) (stands : T → List Notice → Type 0) (tells : Type 0) (c : Conf) (job : Job I (Tapped (SendingState (FarEnds O)) T) W G) (ended : Ended I (Tapped (SendingState (FarEnds O)) T) W) (tap : T) (opened later : ℕ → Bool) (firsts : List O)
     → IsOfLinks c → OpenLegs i tells opened c job.legs.items → length job.legs.items ≡ length c.legs → OpenEnds o tells c firsts → length firsts ≡ length c.legs
     → job.mixer.mixer.outbound.links.items ≡ firsts → HasAll o.tells o.given o.faults c job.mixer.mixer → stands job.mixer.tap [] → job.turns ≡ c.turns → job.tick ≡ c.tick → (tells → k.tells) → (tells → (p : ℕ) → later p ≡ opened p)
-    → RanAs i k (TellsFor (GivesFor o.tells o.given o.faults) stands) (HaltsTold (GivesFor o.tells o.given o.faults) (HaltsGiving o.tells o.given)) (λ (m : Tapped (SendingState (FarEnds O)) T). map o.port m.mixer.outbound.links.items) (IsUnsentIn (λ (m : SendingState (FarEnds O)) (why : LiveFault). IsUnsent o.faults m.outbound why)) job before after ended
+    → RanAs i k (TellsFor (GivesFor o.tells o.given o.faults) stands) (HaltsTold (GivesFor o.tells o.given o.faults) (HaltsGiving o.tells o.given)) (λ (m : Tapped (SendingState (FarEnds O)) T). map o.port m.mixer.outbound.links.items) (IsUnsentIn (λ (m : SendingState (FarEnds O)) (why : LiveFault). IsUnsent o.faults m.outbound why)) job ended
     → Learns stands ended.mixer.tap tap Shows
     → IsCalled i o (stands tap) tells c later (record { turned = ended_with ended.mixer.short ended.turned; legs = ended.legs; ends = ended.mixer.mixer.outbound.links; listeners = ended.mixer.mixer.outbound.listeners; tap = tap })
-call_made {I} {O} {W} {G} {T} i o k stands tells c job before after ended tap opened later firsts links are many are_ends many_ends is all none turns ticks tell still ran shows =
+call_made {I} {O} {W} {G} {T} i o k stands tells c job ended tap opened later firsts links are many are_ends many_ends is all none turns ticks tell still ran shows =
     let m = ended.mixer in
     let legs = job.legs.items in
     let backs = ended.legs.items in
     let gives : Tapped (SendingState (FarEnds O)) T → Setup → (ℕ → Pts) → List Call → Type 0 = TellsFor (GivesFor o.tells o.given o.faults) stands in
     let first : gives job.mixer (setup c) (pts_at c) (all_admitted (length c.legs)) = tells_first (GivesFor o.tells o.given o.faults) stands job.mixer (setup c) (pts_at c) (length c.legs) all none in
-    let gives_paced : Tapped (SendingState (FarEnds O)) T → Setup → (ℕ → Pts) → List Call → Type 0 = StandsPaced k.tells job.tick (k.moment before) gives in
-    let halts_paced : Tapped (SendingState (FarEnds O)) T → Setup → (ℕ → Pts) → List Call → Type 0 = StandsPaced k.tells job.tick (k.moment before) (HaltsThen (HaltsTold (GivesFor o.tells o.given o.faults) (HaltsGiving o.tells o.given))) in
+    let gives_paced : Tapped (SendingState (FarEnds O)) T → Setup → (ℕ → Pts) → List Call → Type 0 = StandsPaced k.tells job.tick (k.moment job.clock.now) gives in
+    let halts_paced : Tapped (SendingState (FarEnds O)) T → Setup → (ℕ → Pts) → List Call → Type 0 = StandsPaced k.tells job.tick (k.moment job.clock.now) (HaltsThen (HaltsTold (GivesFor o.tells o.given o.faults) (HaltsGiving o.tells o.given))) in
     let made : RanTo popped_in ended.turned gives_paced halts_paced (setup c) (pts_at c) c.turns ran.ports m = subst (λ (n : ℕ). RanTo popped_in ended.turned gives_paced halts_paced (setup c) (pts_at c) n ran.ports m) turns (ran.ran (setup c) (pts_at c) (sym many) links.stay first) in
     let same : map o.port m.mixer.outbound.links.items ≡ map o.port firsts = ran.addresses_are ∙ ap (λ (xs : List O). map o.port xs) is in
     let tells_out : tells → (j : ℕ) → j < length c.legs → o.tells = λ t j low.
@@ -392,7 +392,7 @@ call_made {I} {O} {W} {G} {T} i o k stands tells c job before after ended tap op
       legs_at = backs_at i tells opened c legs backs ran.ports are many ran.each ran.many ran.legs;
       ends_at = far_ends_at o tells c firsts m.mixer.outbound.links.items are_ends same;
       are_open = λ t j line p at e. still t p ∙ ports_open i tells opened c legs backs ran.ports are many ran.each ran.many ran.legs t j line p at e;
-      ended = ends_told i tells opened c legs backs ran.ports are many ran.each ran.many ran.legs o tells_out stands m tap shows k.tells job.tick (k.moment before) ticks tell ran.failed ended.turned m.short refl made ran.faulted ran.stopped;
+      ended = ends_told i tells opened c legs backs ran.ports are many ran.each ran.many ran.legs o tells_out stands m tap shows k.tells job.tick (k.moment job.clock.now) ticks tell ran.failed ended.turned m.short refl made ran.faulted ran.stopped;
     }
 
 -- all turns were made where the call ended so

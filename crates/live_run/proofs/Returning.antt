@@ -15,7 +15,7 @@ use Rattle.serve_spec.specs.Served.{Broken, End, IsCutShort, IsServed, live_prin
 use Rattle.serve_spec.specs.Served as served
 use Rattle.file_spec.specs.declared.conf_lines.LegLine.{LegLine}
 use Rattle.mixer_spec.specs.Setups.{leg_at}
-use Rattle.serve_spec.proofs.Promised.{head_law}
+use Rattle.serve_spec.proofs.Promised.{head_law, same_run}
 use Rattle.live_run.specs.declared.calls.Called.{Called}
 use Rattle.live_run.specs.declared.faults.LiveFault.{LiveFault}
 use Rattle.live_run.specs.declared.faults.LiveFault.TheVariants.{Link, NoMemory}
@@ -91,11 +91,11 @@ done_turned (Stopped why) end e d = absurd (cc e)
 
 -- what was printed of it
 prints_so : (c : Conf) (takes : ℕ → Takes) (given : ℕ → List (List ℕ)) (end : End) (printed : List ℕ) → IsServed c takes given end (live_printed c given end) → printed ≡ live_printed c given end → IsServed c takes given end printed
-prints_so c takes given end printed w is = record { table = w.table; turns = w.turns; live = w.live; few = w.few; gives = w.gives; prints = is; done = w.done; drained = w.drained; idle = w.idle }
+prints_so c takes given end printed w is = record { table = w.table; turns = w.turns; live = w.live; few = w.few; gives = w.gives; prints = is; done = w.done; goes_on = w.goes_on; drained = w.drained; idle = w.idle }
 
 -- ---- a call that broke off
 broken : (c : Conf) (takes : ℕ → Takes) (given : ℕ → List (List ℕ)) (end : End) (printed : List ℕ) → IsServed c takes given end printed → IsServed c takes given Broken (live_printed c given Broken)
-broken c takes given end printed w = record { table = w.table; turns = w.turns; live = w.live; few = w.few; gives = w.gives; prints = refl; done = λ e. absurd (cc e); drained = λ e. absurd (cc e); idle = λ e. absurd (cc e) }
+broken c takes given end printed w = record { table = w.table; turns = w.turns; live = w.live; few = w.few; gives = w.gives; prints = refl; done = λ e. absurd (cc e); goes_on = λ e. absurd (cc e); drained = λ e. absurd (cc e); idle = λ e. absurd (cc e) }
 
 -- so did any that was served
 call_breaks : {I O : Type 0} (i : ins.Ghosts I) (o : outs.Ghosts O) (stands : List Notice → Type 0) (tells : Type 0) (c : Conf) (legs : List (LinkLeg I)) (links : List O) (listeners : List Listening) (end : End)
@@ -162,6 +162,7 @@ module _ {I O T : Type 0} (i : ins.Ghosts I) (o : outs.Ghosts O) (stands : List 
             given = v.given;
             served = served;
             keeps = λ octets read. head_law octets c v.takes v.given (end_of end) printed read served;
+            same = λ octets read. same_run octets c v.takes v.given (end_of end) printed read served;
             taken = λ t. at_ports c links (λ (leg : LinkLeg I). i.port (link_in leg)) called.legs.items w.many_legs w.legs_at (λ (leg : LinkLeg I). i.taken (link_in leg)) opened taken_at v.takes (w.are_open t) (stored_legs t) (v.taken t);
             gave = λ t. at_ports c links o.port called.ends.items w.many_ends w.ends_at o.given opened given_at v.given (w.are_open t) (stored_ends t) (v.gave t);
             paced = v.paced;

@@ -138,12 +138,13 @@ answer_of (Stopped why) = Err why
 
 -- ---- when its links were handed back
 -- A live call of the conference ended so, and this is printed of it: its legs' links gave this and were given that. It keeps what a
--- live call promises. Where the world tells it, that is what is stored under the ports of the legs.
+-- live call promises, and that tells of this very run. Where the world tells it, that is what is stored under the ports of the legs.
 pub record WasServed (tells : Type 0) (taken_at : ℕ → Takes) (given_at : ℕ → List (List ℕ)) (c : Conf) (end : End) (printed : List ℕ) : Type 0 where
   pub takes : ℕ → Takes
   pub given : ℕ → List (List ℕ)
   pub served : IsServed c takes given end printed
   pub keeps : (octets : List ℕ) → conf Links octets ≡ Ok c → HeadLive c takes given end printed
+  pub same : (octets : List ℕ) (read : conf Links octets ≡ Ok c) → (keeps octets read).served ≡ served
   pub taken : tells → AtPorts c taken_at takes
   pub gave : tells → AtPorts c given_at given
   pub paced : tells → WasPaced c served.table

@@ -1,6 +1,8 @@
 -- What a clause says of a live call that runs.
 use Rattle.std.specs.Prelude.{◌≡◌, ◌≤◌, ◌<◌, ◌^◌, ℕ, Some, List, [], ◌++◌, length, slice_get, vec_len, true}
+use Rattle.std.specs.Mem.{manually_drop_value}
 use Rattle.std.specs.Vec.{vec_capacity}
+use Rattle.core.specs.declared.mem.manually_drop.ManuallyDrop.{ManuallyDrop}
 use Rattle.rtt_base.specs.declared.text_packets.Pts.{Pts}
 use Rattle.mixer_spec.specs.Setups.{AllStay, Setup}
 use Rattle.mixer_spec.specs.Table.{Call}
@@ -61,9 +63,9 @@ module _ {L : Type 0} (g : links.Ghosts L) where
   abbrev pub GaveFirst : LinkLeg L → LinkLeg L → List Item → Type 0
   GaveFirst first back items = (left : List Item) × LegStands g first back (items ++ left)
 
-module _ {L M G : Type 0} where
+module _ {L M C G : Type 0} where
   -- a call may run that is described so
-  pub record CanRun (g : links.Ghosts L) (legs_of turns_of : M → ℕ) (horizon : ℕ) (job : Job L M G) : Type 0 where
+  pub record CanRun (g : links.Ghosts L) (legs_of turns_of : M → ℕ) (horizon : ℕ) (job : Job L M C G) : Type 0 where
     pub few : vec_len job.legs ≤ 64
     pub new : AreNew (LegGave g) job.legs.items
     pub lanes : HasRoom (vec_len job.legs) job.lanes
@@ -78,9 +80,10 @@ module _ {L M G : Type 0} where
     pub tick_fits : job.tick ≤ 400
     pub in_time : 2 ^ 47 ≤ horizon
 
-  -- It ran by a clock: turns were made of what was popped of the legs, all of which came back.
-  pub record RanAs {C : Type 0} (g : links.Ghosts L) (k : clocks.Ghosts C) (stands : M → Setup → (ℕ → Pts) → List Call → Type 0) (halted : M → Setup → (ℕ → Pts) → List Call → ℕ → Type 0) (addresses : M → List ℕ) (unsent : M → LiveFault → Type 0) (job : Job L M G) (before after : C) (ended : Ended L M) : Type 0 where
-    pub passed : OnlyTimePassed k before after
+  -- It ran: turns were made of what was popped of the legs, all of which came back.
+  pub record RanAs (g : links.Ghosts L) (k : clocks.Ghosts C) (stands : M → Setup → (ℕ → Pts) → List Call → Type 0) (halted : M → Setup → (ℕ → Pts) → List Call → ℕ → Type 0) (addresses : M → List ℕ) (unsent : M → LiveFault → Type 0) (job : Job L M C G) (ended : Ended L M C) : Type 0 where
+    pub same : ended.clock.ghost_name ≡ job.clock.ghost_name
+    pub passed : OnlyTimePassed k job.clock.now ended.clock.now
     pub many : length ended.legs.items ≡ length job.legs.items
     pub addresses_are : addresses ended.mixer ≡ addresses job.mixer
     pub ports : List (LivePort (Lane LegItem (LinkLeg L) G))
@@ -88,10 +91,17 @@ module _ {L M G : Type 0} where
     pub legs : (j : ℕ) (p : LivePort (Lane LegItem (LinkLeg L) G)) (first back : LinkLeg L) → slice_get ports j ≡ Some p
         → slice_get job.legs.items j ≡ Some first → slice_get ended.legs.items j ≡ Some back → GaveFirst g first back (popped_in p.inlet)
     pub ran : (s : Setup) (pts : ℕ → Pts) → s.legs ≡ length job.legs.items → AllStay s → stands job.mixer s pts (all_admitted s.legs)
-        → RanTo popped_in ended.turned (StandsPaced k.tells job.tick (k.moment before) stands)
-        (StandsPaced k.tells job.tick (k.moment before) (HaltsThen halted)) s pts job.turns ports ended.mixer
+        → RanTo popped_in ended.turned (StandsPaced k.tells job.tick (k.moment job.clock.now) stands)
+        (StandsPaced k.tells job.tick (k.moment job.clock.now) (HaltsThen halted)) s pts job.turns ports ended.mixer
     pub faulted : WasFaulted ended.turned ports
     pub failed : (j : ℕ) (p : LivePort (Lane LegItem (LinkLeg L) G)) → slice_get ports j ≡ Some p → p.failed ≡ true → has_fault (popped_in p.inlet) ≡ true
     pub stopped : WasStopped unsent ended.turned ended.mixer
-    pub paced : k.tells → ended.turned ≡ Done → IsPaced job.turns job.tick (k.moment before) (k.moment after)
-    pub paused : ended.turned ≡ Done → IsPaused job.turns (k.pauses before) (k.pauses after)
+    pub paced : k.tells → ended.turned ≡ Done → IsPaced job.turns job.tick (k.moment job.clock.now) (k.moment ended.clock.now)
+    pub paused : ended.turned ≡ Done → IsPaused job.turns (k.pauses job.clock.now) (k.pauses ended.clock.now)
+
+  -- the same of one that is lent
+  abbrev pub LentCanRun : links.Ghosts L → (M → ℕ) → (M → ℕ) → ℕ → ManuallyDrop (Job L M C G) → Type 0
+  LentCanRun g legs_of turns_of horizon lent = CanRun g legs_of turns_of horizon (manually_drop_value lent)
+
+  abbrev pub LentRanAs : links.Ghosts L → clocks.Ghosts C → (M → Setup → (ℕ → Pts) → List Call → Type 0) → (M → Setup → (ℕ → Pts) → List Call → ℕ → Type 0) → (M → List ℕ) → (M → LiveFault → Type 0) → ManuallyDrop (Job L M C G) → Ended L M C → Type 0
+  LentRanAs g k stands halted addresses unsent lent ended = RanAs g k stands halted addresses unsent (manually_drop_value lent) ended

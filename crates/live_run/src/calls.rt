@@ -97,8 +97,9 @@ fn mixer_over<O: LinkOut>(
     }
 }
 
-/// Makes the call, of which the tap is told, and gives the ends of its links and the tap back, whatever happens.
-pub(crate) fn call<W: Links, R: Threads + Wait, G: Gate, T: Tap>(
+/// Makes the call, of which the tap is told, and gives the ends of its links and the tap back, whatever happens. Each leg's thread
+/// has so many octets of stack.
+pub(crate) fn call<W: Links, R: Threads + Wait + Sync, G: Gate + Sync, T: Tap>(
     rt: &R,
     alloc: Global,
     conf: &Conf,
@@ -106,6 +107,7 @@ pub(crate) fn call<W: Links, R: Threads + Wait, G: Gate, T: Tap>(
     stop: Arc<AtomicBool, Global>,
     world: &mut W,
     gate: &G,
+    stack: usize,
     tap: T,
 ) -> Called<W::In, W::Out, T>
     requires links { IsOfLinks (conf_of conf.now) }
@@ -145,6 +147,7 @@ pub(crate) fn call<W: Links, R: Threads + Wait, G: Gate, T: Tap>(
         joined,
         mixer: tapped,
         stop,
+        clock: world,
         tick: u64::from(conf.tick),
         turns: u64::from(conf.turns),
     };
@@ -152,7 +155,8 @@ pub(crate) fn call<W: Links, R: Threads + Wait, G: Gate, T: Tap>(
         turned,
         legs,
         mixer,
-    } = run_job(rt, LentGate { gate }, job, world);
+        clock: _clock,
+    } = run_job(rt, LentGate { gate }, stack, job);
     let Told { turned, mixer, tap } = mixer.finish(turned);
     let FarEnds {
         links,

@@ -112,7 +112,8 @@ fn open_link<W: Links>(
     let Ok((inbound, outbound)) = world.link(port as u16, leg.output.as_str()) else {
         return Err(LiveFault::Link { leg: own });
     };
-    match LinkLeg::new(alloc, inbound, ear_conf(conf, leg), stop) {
+    let tick = u64::from(conf.tick);
+    match LinkLeg::new(alloc, inbound, ear_conf(conf, leg), tick, stop) {
         Ok(leg) => Ok((leg, outbound)),
         Err(inbound) => {
             world.done_in(inbound);

@@ -1,27 +1,29 @@
-//! A live call runs: before each turn its legs are heard, and then the turn is made.
+//! A live call runs: each leg on a thread of its own, the turns on the caller's.
 ghost use Rattle.std.specs.Prelude.{◌≡◌, ◌≤◌, ◌<◌, ◌^◌, length};
 ghost use Rattle.live_loop.specs.declared.turns.Turned.TheVariants.{Done};
 ghost use Rattle.live_loop.specs.Clocks.{IsPaced, OnlyTimePassed, StandsPaced};
 ghost use Rattle.live_loop.specs.Walks.{AreAt, HaltsThen, IsPaused, WasStopped};
-ghost use Rattle.live_run.specs.Jobs.{CanRun, RanAs, TurnsWere};
+ghost use Rattle.live_run.specs.Jobs.{CanRun, LentCanRun, LentRanAs, RanAs, TurnsWere};
 
 use crate::LiveFault;
-use item_lanes::{Lane, LaneRoom, Started, join_lanes, keep_lanes};
+use item_lanes::{Lane, LaneRoom, Started, join_lanes, lend, start_lanes};
 use link_io::LinkIn;
 use live_leg::{LegItem, LinkLeg};
 use live_loop::{LivePort, Pops, TurnClock, Turned, drain_all, inlets_of, ports_over, take_turns};
 use mix_loop::Mixes;
 use rtt_io::Gate;
 use std::alloc::Global;
+use std::mem::ManuallyDrop;
 use std::sync::atomic::{AtomicBool, Ordering};
 use std::sync::{Arc, Wait};
-use std::thread::Threads;
+use std::thread;
+use std::thread::{Scope, Threads};
 
-/// A leg that is stepped where its items are popped.
+/// A leg that runs.
 pub(crate) type LegLane<L, G> = Lane<LegItem, LinkLeg<L>, G>;
 
 /// A live call that is to run, with all memory that it needs.
-pub(crate) struct Job<L: LinkIn, M, G: Gate> {
+pub(crate) struct Job<'w, L: LinkIn, M, C, G: Gate> {
     pub(crate) legs: Vec<LinkLeg<L>>,
     pub(crate) lanes: LaneRoom<LegItem, LinkLeg<L>, G>,
     pub(crate) ports: Vec<LivePort<LegLane<L, G>>>,
@@ -29,16 +31,18 @@ pub(crate) struct Job<L: LinkIn, M, G: Gate> {
     pub(crate) mixer: M,
     /// Says that the legs are to stop.
     pub(crate) stop: Arc<AtomicBool, Global>,
-    /// From one turn to the next, in milliseconds.
+    /// The links, for the clock alone.
+    pub(crate) clock: &'w mut C,
     pub(crate) tick: u64,
     pub(crate) turns: u64,
 }
 
-/// How its turns ended, with the legs and the mixer.
-pub(crate) struct Ended<L, M> {
+/// How its turns ended, with all that was lent to it.
+pub(crate) struct Ended<'w, L, M, C> {
     pub(crate) turned: Turned<LiveFault>,
     pub(crate) legs: Vec<LinkLeg<L>>,
     pub(crate) mixer: M,
+    pub(crate) clock: &'w mut C,
 }
 
 /// Makes the turns; then the legs are told to stop, and what they still give is let go.
@@ -72,17 +76,25 @@ fn turn_and_stop<I: Pops, M: Mixes<Fault = LiveFault>, C: TurnClock, R: Wait>(
     turned
 }
 
-/// Runs a call by this clock. No thread is started: who makes the turns hears the legs, so the call wakes once a turn, whatever the
-/// number of its legs.
-pub(crate) fn run_job<
-    L: LinkIn,
+/// Runs a call, whose legs run on threads of this scope.
+fn run_in<
+    's,
+    'e,
+    'w,
+    L: LinkIn + Send + 's,
     M: Mixes<Fault = LiveFault>,
     C: TurnClock,
-    R: Threads + Wait,
-    G: Gate + Copy,
->(rt: &R, gate: G, job: Job<L, M, G>, clock: &mut C) -> Ended<L, M>
+    R: Threads + Wait + Sync,
+    G: Gate + Copy + Send + 's,
+>(
+    scope: &'s Scope<'s, &'e ()>,
+    rt: &'s R,
+    gate: G,
+    stack: usize,
+    job: Job<'w, L, M, C, G>,
+) -> Ended<'w, L, M, C>
     requires { CanRun L.LinkIn M.legs M.turns M.horizon job }
-    ensures { RanAs L.LinkIn C.TurnClock M.stands M.halted M.addresses M.unsent job clock.old clock.new result }
+    ensures { RanAs L.LinkIn C.TurnClock M.stands M.halted M.addresses M.unsent job.entry result }
 {
     let Job {
         legs,
@@ -91,10 +103,11 @@ pub(crate) fn run_job<
         joined,
         mut mixer,
         stop,
+        clock,
         tick,
         turns,
     } = job;
-    let Started { lanes, back } = keep_lanes(gate, legs, lanes);
+    let Started { lanes, back } = start_lanes(scope, rt, gate, stack, legs, lanes);
     let mut ports = ports_over(lanes, ports);
     let turned = turn_and_stop(
         rt,
@@ -111,5 +124,70 @@ pub(crate) fn run_job<
         turned,
         legs,
         mixer,
+        clock,
     }
+}
+
+/// The same of one that is lent.
+fn run_lent_in<
+    's,
+    'e,
+    'w,
+    L: LinkIn + Send + 's,
+    M: Mixes<Fault = LiveFault>,
+    C: TurnClock,
+    R: Threads + Wait + Sync,
+    G: Gate + Copy + Send + 's,
+>(
+    scope: &'s Scope<'s, &'e ()>,
+    rt: &'s R,
+    gate: G,
+    stack: usize,
+    lent: ManuallyDrop<Job<'w, L, M, C, G>>,
+) -> Ended<'w, L, M, C>
+    requires { LentCanRun L.LinkIn M.legs M.turns M.horizon lent }
+    ensures { LentRanAs L.LinkIn C.TurnClock M.stands M.halted M.addresses M.unsent lent.entry result }
+{
+    let job = ManuallyDrop::into_inner(lent);
+    run_in(scope, rt, gate, stack, job)
+}
+
+/// The same in a scope of its own.
+fn run_scope<
+    'w,
+    L: LinkIn + Send,
+    M: Mixes<Fault = LiveFault>,
+    C: TurnClock,
+    R: Threads + Wait + Sync,
+    G: Gate + Copy + Send,
+>(rt: &R, gate: G, stack: usize, lent: ManuallyDrop<Job<'w, L, M, C, G>>) -> Ended<'w, L, M, C>
+    requires { LentCanRun L.LinkIn M.legs M.turns M.horizon lent }
+    ensures { LentRanAs L.LinkIn C.TurnClock M.stands M.halted M.addresses M.unsent lent.entry result }
+{
+    thread::scope(
+        thread::scope_env(),
+        rt,
+        |scope| -> Ended<L, M, C>
+            requires { LentCanRun L.LinkIn M.legs M.turns M.horizon lent }
+            ensures { LentRanAs L.LinkIn C.TurnClock M.stands M.halted M.addresses M.unsent lent.entry result }
+        { run_lent_in(scope, rt, gate, stack, lent) },
+    )
+}
+
+/// Runs a call, whose legs run on threads of so many octets of stack.
+pub(crate) fn run_job<
+    'w,
+    L: LinkIn + Send,
+    M: Mixes<Fault = LiveFault>,
+    C: TurnClock,
+    R: Threads + Wait + Sync,
+    G: Gate + Copy + Send,
+>(rt: &R, gate: G, stack: usize, job: Job<'w, L, M, C, G>) -> Ended<'w, L, M, C>
+    requires { CanRun L.LinkIn M.legs M.turns M.horizon job }
+    ensures same_reference { result.clock.ghost_name ≡ job.entry.clock.ghost_name }
+    ensures ran { RanAs L.LinkIn C.TurnClock M.stands M.halted M.addresses M.unsent job.entry result }
+{
+    // Taken back first of all in `run_lent_in`, which the scope calls once.
+    let lent = unsafe { lend(job) };
+    run_scope(rt, gate, stack, lent)
 }

@@ -21,6 +21,9 @@ use std::sync::atomic::AtomicBool;
 use std::sync::{Arc, Wait};
 use std::thread::Threads;
 
+/// How many octets of stack a leg's thread has.
+const STACK: usize = 2_097_152;
+
 /// What is answered where turns ended so.
 fn answer_of(turned: Turned<LiveFault>) -> Result<LiveEnd, LiveFault>
     ensures { result ≡ answer_of turned }
@@ -33,9 +36,10 @@ fn answer_of(turned: Turned<LiveFault>) -> Result<LiveEnd, LiveFault>
     }
 }
 
-/// Serves a live call of a conference of links: opens the links, hears all that came at each before each turn, mixes it, and gives it
-/// to the terminals' links, until all turns are made, or all links are closed and nothing is left. No thread is started. Each link
-/// is handed back, whatever is answered. The first link that fails ends the call.
+/// Serves a live call of a conference of links: opens the links, hears each leg on a thread of its own, mixes what is heard turn by
+/// turn, and gives it to the terminals' links, until all turns are made, or all links are closed and nothing is left. A leg whose
+/// thread can't be started is heard by the caller. Each link is handed back, whatever is answered. The first link that fails ends
+/// the call.
 pub fn serve<R: Threads + Wait + Sync, W: Links, G: Gate + Sync>(
     rt: &R,
     alloc: Global,
@@ -109,7 +113,7 @@ pub fn serve_tapped<R: Threads + Wait + Sync, W: Links, G: Gate + Sync, T: Tap>(
         ends,
         listeners,
         tap,
-    } = call(rt, alloc, conf, opened, stop, world, gate, tap);
+    } = call(rt, alloc, conf, opened, stop, world, gate, STACK, tap);
     close_legs(legs, world);
     close_ends(ends, world);
     let end = match answer_of(turned) {

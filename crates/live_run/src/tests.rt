@@ -3,10 +3,12 @@ use crate::{LiveFault, links_are_apart, serve};
 use conf_text::{Form, read_conf};
 use link_io::{Came, FailingLink, MemLinks, Planned};
 use rtt_base::{Bytes, NoMemory};
-use rtt_io::StillGate;
+use rtt_io::{Gate, StillGate};
 use std::alloc::Global;
 use std::sync::Wait;
+use std::sync::atomic::{AtomicBool, AtomicU64, Ordering};
 use std::test::Fail;
+use std::thread;
 use std::thread::Threads;
 
 /// A call of two, which ends when both links are closed.
@@ -20,12 +22,12 @@ const ONE_TURN: &[u8] = b"leg Ann aware 1001 5004 127.0.0.1:6004\n\
     mixer 9000 100 5000\n\
     turns 1\n";
 
-/// The same at tick 20, of an hour of turns.
+/// The same at tick 200, of an hour of turns.
 const HOUR: &[u8] = b"leg Ann aware 1001 5004 127.0.0.1:6004\n\
     leg Bob aware 1002 5006 127.0.0.1:6006\n\
     mixer 9000 100 5000\n\
-    tick 20\n\
-    turns 180000\n";
+    tick 200\n\
+    turns 18000\n";
 
 /// The first packet of Ann's terminal, where she typed an A.
 const LETTER: &[u8] = b"\x80\xE4\0\0\0\0\0\0\0\0\x03\xE9\xE2\xFF\xFC\0\xE2\xFF\xFC\0\x62A";
@@ -183,5 +185,126 @@ fn a_link_that_fails_is_named(rt: HostRuntime) -> Result<(), Fail> {
     assert!(rt; fails_at_bob(&rt, rt.alloc(), FailingLink::Link(5006))?);
     assert!(rt; fails_at_bob(&rt, rt.alloc(), FailingLink::Take(5006, 1))?);
     assert!(rt; fails_at_bob(&rt, rt.alloc(), FailingLink::Give(5006, 1))?);
+    Ok(())
+}
+
+// So often a gate looks at most whether what it waits for has come.
+const LOOKS: u32 = 10_000_000;
+
+// Whether the number is above this before so many looks.
+fn rises(number: &AtomicU64, above: u64) -> bool {
+    for _ in 0..LOOKS {
+        if number.load(Ordering::SeqCst) > above {
+            return true;
+        }
+        thread::yield_now();
+    }
+    false
+}
+
+// Holds each of two legs at its first item until the other leg has come to its first.
+#[derive(Drop)]
+struct Meeting {
+    first: AtomicU64,
+    second: AtomicU64,
+    missed: AtomicBool,
+}
+
+impl Gate for Meeting {
+    fn pass(&self, leg: u32) {
+        let (mine, other) = if leg == 0 {
+            (&self.first, &self.second)
+        } else {
+            (&self.second, &self.first)
+        };
+        mine.fetch_add(1, Ordering::SeqCst);
+        if !rises(other, 0) {
+            self.missed.store(true, Ordering::SeqCst);
+        }
+    }
+
+    fn popped(&self, _leg: u32) {}
+}
+
+// Holds who pops at the first item of leg 0 until that leg came to its 60th; and leg 0 at its 70th until one more was popped.
+#[derive(Drop)]
+struct Seventieth {
+    passed: AtomicU64,
+    popped: AtomicU64,
+    missed: AtomicBool,
+}
+
+impl Gate for Seventieth {
+    fn pass(&self, leg: u32) {
+        if leg != 0 {
+            return;
+        }
+        let before = self.passed.fetch_add(1, Ordering::SeqCst);
+        let popped = self.popped.load(Ordering::SeqCst);
+        if before == 69 && !rises(&self.popped, popped) {
+            self.missed.store(true, Ordering::SeqCst);
+        }
+    }
+
+    fn popped(&self, leg: u32) {
+        if leg != 0 {
+            return;
+        }
+        let before = self.popped.fetch_add(1, Ordering::SeqCst);
+        if before == 0 && !rises(&self.passed, 59) {
+            self.missed.store(true, Ordering::SeqCst);
+        }
+    }
+}
+
+// Whether a call of this conference and these links prints the same by this gate and without one.
+fn same_by<R: Threads + Wait + Sync, G: Gate + Sync>(
+    rt: &R,
+    alloc: Global,
+    conf: &[u8],
+    comings: &[Coming],
+    gate: &G,
+) -> Result<bool, NoMemory> {
+    let Ok(conf) = read_conf(alloc, conf, Form::Links) else {
+        return Ok(false);
+    };
+    links_are_apart();
+    let mut world = links(alloc, comings)?;
+    let Ok(plain) = serve(rt, alloc, &conf, &mut world, &StillGate) else {
+        return Ok(false);
+    };
+    let mut world = links(alloc, comings)?;
+    let Ok(held) = serve(rt, alloc, &conf, &mut world, gate) else {
+        return Ok(false);
+    };
+    Ok(plain.views.as_slice() == held.views.as_slice())
+}
+
+#[test]
+fn legs_run_at_the_same_time(rt: HostRuntime) -> Result<(), Fail> {
+    let gate = Meeting {
+        first: AtomicU64::new(0),
+        second: AtomicU64::new(0),
+        missed: AtomicBool::new(false),
+    };
+    let comings = [LETTER_COMES, ANN_CLOSES, BOB_CLOSES];
+    assert!(rt; same_by(&rt, rt.alloc(), CALL, &comings, &gate)?);
+    assert!(rt; !gate.missed.load(Ordering::SeqCst));
+    Ok(())
+}
+
+#[test]
+fn a_queue_is_emptied_while_its_leg_runs(rt: HostRuntime) -> Result<(), Fail> {
+    let gate = Seventieth {
+        passed: AtomicU64::new(0),
+        popped: AtomicU64::new(0),
+        missed: AtomicBool::new(false),
+    };
+    let mut comings = [LETTER_COMES; 82];
+    comings[80] = ANN_CLOSES;
+    comings[81] = BOB_CLOSES;
+    assert!(rt; same_by(&rt, rt.alloc(), CALL, &comings, &gate)?);
+    assert!(rt; !gate.missed.load(Ordering::SeqCst));
+    assert!(rt; gate.passed.load(Ordering::SeqCst) >= 70);
     Ok(())
 }

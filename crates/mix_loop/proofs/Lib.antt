@@ -4,7 +4,9 @@ pub mod Leaving
 pub mod Offering
 pub mod Reaching
 pub mod Walking
+pub mod Resting
 pub mod Turning
+pub mod Calm
 pub mod Finding
 pub mod Opening
 pub mod Ending

@@ -18,6 +18,12 @@ get_there [] i x low = absurd (omega arith)
 get_there (y ∷ xs) zero x low = refl
 get_there (y ∷ xs) (suc i) x low = get_there xs i x (omega arith)
 
+-- an index within a list has an element
+pub get_at : {X : Type 0} (xs : List X) (i : ℕ) → i < length xs → (x : X) × (slice_get xs i ≡ Some x)
+get_at [] i low = absurd (omega arith)
+get_at (y ∷ xs) zero low = (y, refl)
+get_at (y ∷ xs) (suc i) low = get_at xs i (omega (arith, low))
+
 -- and so is what an index gives
 pub get_read : {X : Type 0} (xs : List X) (i : ℕ) (x : X) → i < length xs → x ≡ get_or xs i x → slice_get xs i ≡ Some x
 get_read xs i x low e = get_there xs i x low ∙ ap Some (sym e)

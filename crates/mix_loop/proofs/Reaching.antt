@@ -35,7 +35,7 @@ reaches_more f g kn kn1 kn2 table table1 table2 a b = record {
 
 -- ---- one leg goes
 -- whatever it has left to offer, it leaves where nothing is left
-gone_is : {I F : Type 0} (s : Setup) (i : ℕ) (table : Table) (p : Port I F) → SeatAt table.seats i p.seat → (hand : Option Chunk) → hand_of p ≡ hand → (rest : List Chunk) → MayCome p.ended rest
+pub gone_is : {I F : Type 0} (s : Setup) (i : ℕ) (table : Table) (p : Port I F) → SeatAt table.seats i p.seat → (hand : Option Chunk) → hand_of p ≡ hand → (rest : List Chunk) → MayCome p.ended rest
     → (is_away p.seat ≡ false → hand ≡ None → is_open p.ended ≡ false) → gone s i (held hand ++ rest) table ≡ cond {A = Table} (is_to_leave p) (departed s i table) table
 gone_is s i table p seat hand is rest may settled = go p.seat p.full (is_open p.ended) refl refl refl seat
   where

@@ -2,6 +2,7 @@ pub mod Items
 pub mod Mixers
 pub mod Ports
 pub mod Steps
+pub mod Calm
 pub mod Turns
 pub mod Mixing
 pub mod Texts

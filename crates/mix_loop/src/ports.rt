@@ -1,7 +1,10 @@
 //! One leg at the mixer.
-ghost use Rattle.std.specs.Prelude.{◌≡◌, ◌≤◌, [], length, nat_le, vec_len};
+ghost use Rattle.std.specs.Prelude.{◌≡◌, ◌<◌, ◌≤◌, ℕ, true, false, [], length, nat_le, vec_len};
 ghost use Rattle.std.specs.Vec.{vec_capacity};
+ghost use Rattle.file_spec.specs.Stays.{is_before_end};
 ghost use Rattle.stream_spec.specs.Ready.{chunk_of};
+ghost use Rattle.mix_loop.specs.Calm.{IsCalmBefore};
+ghost use Rattle.mix_loop.specs.Items.{is_open};
 ghost use Rattle.mix_loop.specs.Ports.{AreNew, IsNew, counts, is_away, is_spent, is_to_leave, is_to_stop, seat_with};
 
 use crate::{Ended, HasInlet, Inlet, Item};
@@ -67,6 +70,48 @@ impl<I: Inlet> Port<I> {
     {
         !self.full && !self.ended.is_open()
     }
+
+    /// The moment from which it has a text to offer: 0 where it is still to ask for one, and none where no more comes.
+    fn ready_from(&self) -> u64
+        ensures waits { self.now.full ≡ true → result ≤ self.now.hand.ready }
+        ensures ended { self.now.full ≡ false → 0 < result → is_open self.now.ended ≡ false }
+    {
+        if self.full {
+            return self.hand.ready;
+        }
+        if self.ended.is_open() { 0 } else { u64::MAX }
+    }
+
+    /// Before this moment it has something left to offer: before none, or before all.
+    fn offering_until(&self) -> u64
+        ensures { 0 < result → is_spent self.now ≡ false }
+    {
+        if self.is_spent() {
+            return 0;
+        }
+        u64::MAX
+    }
+
+    /// Before this moment its leg neither comes nor goes.
+    fn seated_until(&self) -> u64
+        ensures early { is_away self.now.seat ≡ true → result ≤ self.now.stay.from }
+        ensures stays { (t : ℕ) → t < result → is_to_stop t self.now ≡ false }
+        ensures keeps { 0 < result → is_to_leave self.now ≡ false }
+    {
+        match self.seat {
+            Seat::Away => u64::from(self.stay.from),
+            Seat::Listens => end_of(self.stay),
+            Seat::Hushed => self.offering_until(),
+            Seat::Left => u64::MAX,
+        }
+    }
+
+    /// Before this moment nothing is done with it before a turn.
+    pub(crate) fn calm_until(&self) -> u64
+        ensures { IsCalmBefore result self.now }
+    {
+        self.ready_from().min(self.seated_until())
+    }
 }
 
 impl<I: Inlet> HasInlet<I> for Port<I> {
@@ -89,6 +134,16 @@ pub(crate) fn has_begun(stay: Stay, moment: u64) -> bool
     ensures { result ≡ nat_le stay.from moment }
 {
     u64::from(stay.from) <= moment
+}
+
+/// The end of the stay, in milliseconds: all moments are before it where it has none.
+fn end_of(stay: Stay) -> u64
+    ensures { (t : ℕ) → t < result → is_before_end t stay.until ≡ true }
+{
+    match stay.until {
+        Some(until) => u64::from(until),
+        None => u64::MAX,
+    }
 }
 
 /// The seat of a leg that came.

@@ -1,6 +1,7 @@
 //! The turns of a mixing.
 ghost use Rattle.std.specs.Prelude.{◌≡◌, ◌*◌, ◌<◌, ◌≤◌, length, MatchOption};
 ghost use Rattle.std.specs.List.{list_any};
+ghost use Rattle.mix_loop.specs.Calm.{AreCalmBefore};
 ghost use Rattle.mix_loop.specs.Items.{is_fault, fault_in};
 ghost use Rattle.mix_loop.specs.Mixers.{ComeBefore, Keeps};
 ghost use Rattle.mix_loop.specs.Steps.{AllCame, AllDrained, AllMoved, AllOffered, AllSettled, AllTurned, AllWent, TellsOver, are_empty};
@@ -148,6 +149,47 @@ fn settle<I: Inlet, M: Mixes, R: Wait>(
     Before::Going
 }
 
+/// Before this moment nothing is done before a turn; 0 where each hand is empty.
+fn calm_until<I: Inlet>(ports: &[Port<I>]) -> u64
+    ensures { AreCalmBefore result ports.now }
+{
+    if all_empty(ports) {
+        return 0;
+    }
+    let mut until = u64::MAX;
+    for leg in 0..ports.len() {
+        let port = &ports[leg];
+        until = until.min(port.calm_until());
+    }
+    until
+}
+
+/// Does all that is done before a turn at the moment `now`, and answers what is found then. Nothing is done before the moment
+/// `calm`, which is then the next such moment.
+fn settle_from<I: Inlet, M: Mixes, R: Wait>(
+    rt: &R,
+    ports: &mut [Port<I>],
+    mixer: &mut M,
+    now: u64,
+    calm: &mut u64,
+) -> Before
+    requires few { length ports.old ≤ MOST_LEGS }
+    requires sound { AreSound I.good ports.old }
+    requires legs { M.legs mixer.old ≡ length ports.old }
+    requires calm { AreCalmBefore calm.old ports.old }
+    ensures sound { AreSound I.good ports.new }
+    ensures keeps { Keeps M.legs M.turns M.addresses mixer.old mixer.new }
+    ensures calm { AreCalmBefore calm.new ports.new }
+    ensures settles { AllSettled I.stands M.stands now result ports.old ports.new mixer.old mixer.new }
+{
+    if now < *calm {
+        return Before::Going;
+    }
+    let found = settle(rt, ports, mixer, now);
+    *calm = calm_until(ports);
+    found
+}
+
 /// The moment of a turn: so many ticks.
 fn moment_of(turn: u64, tick: u64) -> u64
     requires turns { turn ≤ 5000000 }
@@ -176,9 +218,10 @@ fn take_turns<I: Inlet, M: Mixes, R: Wait>(
     ensures turned { AllTurned I.stands M.stands tick turns result ports.old ports.new mixer.old mixer.new }
     ensures unsent { WasStopped M.unsent result mixer.new }
 {
+    let mut calm = 0;
     for k in 0..turns {
         let now = moment_of(k, tick);
-        match settle(rt, ports, mixer, now) {
+        match settle_from(rt, ports, mixer, now, &mut calm) {
             Before::Going => {}
             Before::Over => return Turned::Over,
             Before::Faulted => return Turned::Faulted,

@@ -43,7 +43,7 @@ one_or_none before (e ∷ past) = go (length past == length before)
     go true = omega arith
     go false = omega arith
 
-none_new : (past : List TurnEntry) → new_entry past past ≡ []
+pub none_new : (past : List TurnEntry) → new_entry past past ≡ []
 none_new [] = refl
 none_new (e ∷ past) = rw (ne_eqb (length past) (suc (length past)) (λ q. omega (arith, q))) refl
 

@@ -10,6 +10,7 @@ pub mod Turning
 pub mod MayTurns
 pub mod Putting
 pub mod Looping
+pub mod Resting
 pub mod Calling
 pub mod Made
 pub mod Woken

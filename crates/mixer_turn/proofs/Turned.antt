@@ -10,6 +10,7 @@ use Rattle.mixer_turn.specs.Allowed.{MayTurn}
 use Rattle.mixer_turn.specs.States.{State, least_media}
 use Rattle.mixer_turn.specs.Standing.{Keeps, StandsFor}
 use Rattle.mixer_turn.specs.Insides.{IsSound}
+use Rattle.mixer_turn.specs.Calm.{AreCalmBefore}
 use Rattle.mixer_turn.specs.Turns.{AreOutletsOf, MayTurnAll, AllMayTurn, AllTurned, OfMixers, HasBatch, posts_between}
 use Rattle.mixer_turn.proofs.MayTurns.{may_turn_all}
 
@@ -68,20 +69,21 @@ pub media_rises : (last : Option ℕ) (now turns : ℕ) → now < 2 ^ 47 → Rat
 media_rises None now turns l h = omega (arith, l)
 media_rises (Some t) now turns l h = omega (arith, l, h)
 
-pub sound_after : (m : State) (now t : ℕ) (all : List Outlet) (waiting : List Waiting) → IsSound m → m.turns < 5000000 → now < 2 ^ 47 → t ≡ next_media 200 m.media now → length all ≡ length m.outlets → length waiting ≡ length m.slots
-    → AreOutletsOf (length m.outlets) (t + 1) all → IsSound (with_turn m t all waiting)
-sound_after m now t all waiting h l b e n k each = record {
+pub sound_after : (m : State) (was is : ℕ) (now t : ℕ) (all : List Outlet) (waiting : List Waiting) → IsSound m was → m.turns < 5000000 → now < 2 ^ 47 → t ≡ next_media 200 m.media now → length all ≡ length m.outlets → length waiting ≡ length m.slots
+    → AreOutletsOf (length m.outlets) (t + 1) all → AreCalmBefore is m.seating all → IsSound (with_turn m t all waiting) is
+sound_after m was is now t all waiting h l b e n k each calm = record {
   seats = h.seats ∙ sym n;
   slots = k ∙ (h.slots ∙ sym n);
   names = h.names ∙ sym n;
   outlets = subst (λ (x : ℕ). AreOutletsOf x (t + 1) all) (sym n) each;
   media = subst (λ (x : ℕ). x < 2 ^ 47 + (m.turns + 1)) (sym e) (media_rises m.media now m.turns b h.media);
   turns = omega (arith, l);
+  calm = calm;
 }
 
 -- each outlet may have a turn at this media time
-pub next_from : (m : State) (now t : ℕ) → IsSound m → t ≡ next_media 200 m.media now → AreOutletsOf (length m.outlets) t m.outlets
-next_from m now t h e j o g =
+pub next_from : (m : State) (was : ℕ) (now t : ℕ) → IsSound m was → t ≡ next_media 200 m.media now → AreOutletsOf (length m.outlets) t m.outlets
+next_from m was now t h e j o g =
     let x = h.outlets j o g in
     let l : least_media m.media ≤ t = subst (λ (k : ℕ). least_media m.media ≤ k) (sym e) (rises m.media now) in
     record { own = x.own; all = x.all; next = let n = x.next in omega (arith, n, l) }

@@ -40,7 +40,7 @@ turned_there s now t table (suc n) j l = elim (cases_eq j n) [
 pub no_turn : (s : Setup) (seats : Seats) (j now t : ℕ) (d : Terminal) → is_seated seats j ≡ false → turn_at s seats j now t d ≡ d
 no_turn s seats j now t d e = ap (λ b. cond b (cond (s.aware j) (turn_aware s seats j now t d) (turn_unaware s j now t d)) d) e
 
-not_seated : (s : Setup) (seats : Seats) (j : ℕ) → AreHeld s seats → s.legs ≤ j → is_seated seats j ≡ false
+pub not_seated : (s : Setup) (seats : Seats) (j : ℕ) → AreHeld s seats → s.legs ≤ j → is_seated seats j ≡ false
 not_seated s seats j h l = go (seats.place j) refl
   where
     go : (o : Option ℕ) → seats.place j ≡ o → is_some o ≡ false

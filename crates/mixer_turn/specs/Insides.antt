@@ -1,20 +1,22 @@
 -- What holds of each mixer: its parts are of as many legs, and what its turns rest on.
-use Rattle.std.specs.Prelude.{◌≡◌, ◌+◌, ◌^◌, ◌<◌, ◌≤◌, length, IfSome}
+use Rattle.std.specs.Prelude.{◌≡◌, ◌+◌, ◌^◌, ◌<◌, ◌≤◌, ℕ, length, IfSome}
 use Rattle.mixer_turn.specs.declared.mixers.Mixer.TheInside.{Inside}
 use Rattle.mixer_turn.specs.States.{State, least_media}
+use Rattle.mixer_turn.specs.Calm.{AreCalmBefore}
 use Rattle.mixer_turn.specs.Turns.{AreOutletsOf}
 
 abbrev pub state_of : Inside → State
 state_of i = record { seating = i.seating; slots = i.slots; outlets = i.outlets.items; names = i.names.items; media = i.media; turns = i.turns }
 
 -- ---- fields
-pub record IsSound (m : State) : Type 0 where
+pub record IsSound (m : State) (moment : ℕ) : Type 0 where
   pub seats : length m.seating.legs ≡ length m.outlets
   pub slots : length m.slots ≡ length m.outlets
   pub names : length m.names ≡ length m.outlets
   pub outlets : AreOutletsOf (length m.outlets) (least_media m.media) m.outlets
   pub media : IfSome m.media (λ t. t < 2 ^ 47 + m.turns)
   pub turns : m.turns ≤ 5000000
+  pub calm : AreCalmBefore moment m.seating m.outlets
 
 abbrev pub IsMixer : Inside → Type 0
-IsMixer i = IsSound (state_of i)
+IsMixer i = IsSound (state_of i) i.calm

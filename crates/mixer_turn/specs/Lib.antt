@@ -6,6 +6,7 @@ pub mod Standing
 pub mod BatchInsides
 pub mod Posts
 pub mod Turns
+pub mod Calm
 pub mod Insides
 pub mod Looks
 pub mod Waking

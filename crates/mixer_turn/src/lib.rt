@@ -2,6 +2,7 @@
 #![tactic(auto)]
 
 mod batches;
+mod calm;
 mod laws;
 mod looks;
 mod making;

@@ -9,9 +9,10 @@ ghost use Rattle.mixer_turn.specs.States.{State};
 ghost use Rattle.mixer_turn.specs.Insides.{state_of, IsMixer};
 
 use crate::batches::Batch;
+use crate::calm::turn_from;
 use crate::looks::{are_quiet, is_done};
 use crate::making::{names_of, outlets_of, silent_slots};
-use crate::turns::{next_media, turn_legs};
+use crate::turns::next_media;
 use crate::waking::wake;
 use conference::Conf;
 use outlet::Outlet;
@@ -34,6 +35,8 @@ pub struct Mixer {
     media: Option<u64>,
     /// How many turns were made.
     turns: u64,
+    /// Before this media time, in milliseconds, a turn changes nothing at any terminal.
+    calm: u64,
 }
 
 impl Model for Mixer {
@@ -69,6 +72,7 @@ impl Mixer {
             names,
             media: None,
             turns: 0,
+            calm: 0,
         })
     }
 
@@ -96,6 +100,7 @@ impl Mixer {
         ensures free { Tells self.old (λ s table. result ≡ is_some (free_place s table.seats)) }
         ensures stands { Leads self.old self.new (Admit leg listens) }
     {
+        self.calm = 0;
         if !self.seating.admit(leg, listens) {
             return false;
         }
@@ -111,6 +116,7 @@ impl Mixer {
         ensures turns { self.new.turns ≡ self.old.turns }
         ensures stands { Leads self.old self.new (Hush leg) }
     {
+        self.calm = 0;
         self.seating.hush(leg);
         self.slots.listen(leg, false);
     }
@@ -128,6 +134,7 @@ impl Mixer {
         if !self.may_leave(leg) {
             return false;
         }
+        self.calm = 0;
         self.seating.free(leg);
         true
     }
@@ -157,6 +164,7 @@ impl Mixer {
         let Ok(()) = self.slots.offer(chunk) else {
             return Err(Full);
         };
+        self.calm = 0;
         wake(&mut self.outlets);
         Ok(())
     }
@@ -181,7 +189,8 @@ impl Mixer {
         ensures stands { Leads self.old self.new (Turn now) }
     {
         let media = next_media(self.media, now);
-        turn_legs(
+        let calm = turn_from(
+            self.calm,
             &mut self.outlets,
             media,
             &self.names,
@@ -189,6 +198,7 @@ impl Mixer {
             &mut self.slots,
             batch,
         );
+        self.calm = calm;
         self.media = Some(media);
         self.turns += 1;
     }

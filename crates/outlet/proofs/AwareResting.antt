@@ -1,7 +1,7 @@
--- A terminal that is quiet.
-use Rattle.std.proofs.Common.{◌≡◌, ℕ, ◌≤◌, Bool, true, false, not, ◌&&◌, ◌||◌, Option, Some, None, List, refl, ap, sym, ◌∙◌, arith}
+-- A terminal at which nobody is due.
+use Rattle.std.proofs.Common.{◌≡◌, ℕ, ◌+◌, ◌<◌, ◌≤◌, Bool, true, false, not, ◌&&◌, ◌||◌, Option, Some, None, List, refl, ap, sym, ◌∙◌, arith}
 use Rattle.std.specs.Prelude.{◌==◌}
-use Rattle.std.proofs.lemmas.Bool.{true≢false}
+use Rattle.std.proofs.lemmas.Bool.{true≢false, lt-leb}
 use Rattle.stream_spec.specs.Own.{Sent, has_text_in}
 use Rattle.stream_spec.specs.Ready.{Chunk}
 use Rattle.mixer_spec.specs.Rounds.{all_below}
@@ -12,7 +12,8 @@ use Rattle.mixer_spec.proofs.Rounds.{round_some}
 use Rattle.mixer_spec.proofs.Seats.{leg_in_some}
 use Rattle.outlet.proofs.Below.{no_text}
 use Rattle.outlet.specs.AwareStates.{AwareState}
-use Rattle.outlet.specs.AwareStanding.{StandsFor}
+use Rattle.outlet.specs.AwareStanding.{NoneDue, StandsFor}
+use Rattle.outlet.specs.Turns.{free_after}
 
 -- no text of the leg i waits, or is still to be repeated; the terminal's own has none there
 abbrev pub is_done_with : Setup → ℕ → Terminal → ℕ → Bool
@@ -24,7 +25,7 @@ quiet_is s j o d h =
     ap (λ (b : Bool). not b && all_below (is_done_with s j d) s.legs) (sym (ap (λ (xs : List Sent). has_text_in (s.gens j) xs) h.none_mixed ∙ no_text (s.gens j)))
 
 -- ---- nobody is due
-not_due : (s : Setup) (j t i : ℕ) (d : Terminal) → is_done_with s j d i ≡ true → is_due s j t d i ≡ false
+pub not_due : (s : Setup) (j t i : ℕ) (d : Terminal) → is_done_with s j d i ≡ true → is_due s j t d i ≡ false
 not_due s j t i d e = go (i == j) (has_work s j d i) (is_spaced s.spacing t (last_media (sent_from (s.ssrc i) d))) e
   where
     go : (o h p : Bool) → (o || not h) ≡ true → (not o && (h && p)) ≡ false
@@ -32,30 +33,30 @@ not_due s j t i d e = go (i == j) (has_work s j d i) (is_spaced s.spacing t (las
     go false true p e = cc e
     go false false p e = refl
 
-quiet_serves : (s : Setup) (seats : Seats) (j t : ℕ) (d : Terminal) → is_quiet s j d ≡ true → round_start d.past ≤ s.places → None ≡ served s seats j t d
-quiet_serves s seats j t d q l = go (served s seats j t d) refl
+none_serves : (s : Setup) (seats : Seats) (j t : ℕ) (d : Terminal) → NoneDue s j t d → round_start d.past ≤ s.places → None ≡ served s seats j t d
+none_serves s seats j t d none l = go (served s seats j t d) refl
   where
-    all : (a b : Bool) → (a && b) ≡ true → b ≡ true
-    all true b e = e
-    all false b e = cc e
-
     leg : (o : Option ℕ) (p : ℕ) → leg_in seats s.legs p ≡ o → is_due_leg s j t d o ≡ true → ⊥
     leg None p e f = true≢false (sym f)
-    leg (Some i) p e f =
-        true≢false (sym f ∙ not_due s j t i d (below_all (is_done_with s j d) s.legs i (all (not (has_text_in (s.gens j) (sent_from s.mixer d))) (all_below (is_done_with s j d) s.legs) q) (leg_in_some seats s.legs p i e).0))
+    leg (Some i) p e f = true≢false (sym f ∙ none i (leg_in_some seats s.legs p i e).0)
 
     go : (o : Option ℕ) → served s seats j t d ≡ o → None ≡ o
     go None e = refl
     go (Some p) e = absurd (leg (leg_in seats s.legs p) p refl (round_some (is_due_at s seats j t d) (round_start d.past) s.places p l e).passes)
 
-pub none_due : (s : Setup) (seats : Seats) (o : AwareState) (t : ℕ) (d : Terminal) → StandsFor s o.own o d → o.quiet ≡ true → o.next ≤ 16 → None ≡ served s seats o.own t d
-none_due s seats o t d h q l = quiet_serves s seats o.own t d (h.rests q) (omega (arith, l, h.next, h.places))
+pub none_due : (s : Setup) (seats : Seats) (o : AwareState) (t : ℕ) (d : Terminal) → StandsFor s o.own o d → t < o.calm → o.next ≤ 16 → None ≡ served s seats o.own t d
+none_due s seats o t d h c l = none_serves s seats o.own t d (h.calm t c) (omega (arith, l, h.next, h.places))
 
--- ---- what changes only what is known of quiet
-pub stands_quiet : (s : Setup) (j : ℕ) (o : AwareState) (d : Terminal) (q : Bool) (waits : ℕ → List Chunk) → StandsFor s j o d
-    → (let after : Terminal = record { past = d.past; asks = d.asks; waits = waits } in q ≡ true → is_quiet s j after ≡ true)
-    → StandsFor s j (record o { quiet = q }) (record { past = d.past; asks = d.asks; waits = waits })
-stands_quiet s j o d q waits h r = record {
+-- its last packet is not so long ago
+pub not_spaced : (spacing t : ℕ) (last : Option ℕ) → t < free_after spacing last → false ≡ is_spaced spacing t last
+not_spaced spacing t None l = absurd (omega (arith, l))
+not_spaced spacing t (Some m) l = sym (lt-leb (m + spacing) t l)
+
+-- ---- what changes only what is known of who is due
+pub stands_calm : (s : Setup) (j : ℕ) (o : AwareState) (d : Terminal) (calm : ℕ) (waits : ℕ → List Chunk) → StandsFor s j o d
+    → ((t : ℕ) → t < calm → NoneDue s j t (record { past = d.past; asks = d.asks; waits = waits }))
+    → StandsFor s j (record o { calm = calm }) (record { past = d.past; asks = d.asks; waits = waits })
+stands_calm s j o d calm waits h r = record {
   setup = h.setup;
   places = h.places;
   own = h.own;
@@ -68,5 +69,5 @@ stands_quiet s j o d q waits h r = record {
   free = h.free;
   next = h.next;
   none_mixed = h.none_mixed;
-  rests = r;
+  calm = r;
 }

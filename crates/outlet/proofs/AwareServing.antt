@@ -67,7 +67,7 @@ stands_then s o d place leg media now h c l n =
           (λ i b m. h.free i b ∙ ap (λ (xs : List Sent). free_after s.spacing (last_media xs)) (sym (other i b m)));
       next = omega arith;
       none_mixed = sent_other s.mixer e (sents d.past) (h.setup.mixer_differs leg l) ∙ h.none_mixed;
-      rests = λ q. cc q;
+      calm = λ t l. absurd (omega (arith, l));
     }
 
 slots_then : (s : Setup) (table : Table) (j leg place media now : ℕ) (after : List Waiting) → slots.StandsFor s after (fetched j leg MOST_TEXT_OCTETS table)

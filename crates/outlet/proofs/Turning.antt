@@ -1,7 +1,7 @@
 -- A turn of an outlet that is aware or not.
-use Rattle.std.proofs.Common.{◌≡◌, ℕ, Bool, false, Option, List, refl, subst, sym}
+use Rattle.std.proofs.Common.{◌≡◌, ◌<◌, ℕ, Bool, true, false, cond, Option, None, List, refl, ap, subst, sym, ◌∙◌}
 use Rattle.mixer_spec.specs.Setups.{Setup, stream}
-use Rattle.mixer_spec.specs.Table.{Terminal, Table}
+use Rattle.mixer_spec.specs.Table.{Seats, Terminal, Table, is_seated, serve, served, turn_at, turn_aware, turn_unaware}
 use Rattle.slot_table.specs.Lanes.{Waiting}
 use Rattle.slot_table.specs.Standing as slots
 use Rattle.seating.specs.States.{State}
@@ -42,6 +42,17 @@ aware_turned s j table o new places waiting after called now t source text h f =
     let q = subst (λ (x : Terminal). aware_turns.IsTurned s table j x t new after source text) (sym at)
     (subst (λ (k : ℕ). aware_turns.IsTurned s table k (turned s table k now t) t new after source text) own r) in
     record { stands = (h.stands.0, q.outlet); slots_stand = q.slots_stand; puts = subst (λ (b : Bool). Puts b t (new_entry (table.terminals j).past (turned_here s j now t table).past) source text) (sym h.stands.0) q.puts }
+
+-- nothing changes where nobody is served
+pub aware_calm : (s : Setup) (j : ℕ) (d : Terminal) (o : AwareState) (calm : ℕ) → s.aware j ≡ true → aware.StandsFor s j o d → aware_turns.IsCalmBefore calm o → (seats : Seats) (now t : ℕ) → t < calm → turn_at s seats j now t d ≡ d
+aware_calm s j d o calm is h r seats now t l = go (is_seated seats j)
+  where
+    none : served s seats j t d ≡ None
+    none = sym (subst (λ (k : ℕ). None ≡ served s seats k t d) h.own (r s d (subst (λ (k : ℕ). aware.StandsFor s k o d) (sym h.own) h) seats t l))
+
+    go : (b : Bool) → cond b (cond (s.aware j) (turn_aware s seats j now t d) (turn_unaware s j now t d)) d ≡ d
+    go true = ap (λ b. cond b (turn_aware s seats j now t d) (turn_unaware s j now t d)) is ∙ ap (serve s seats now t d) none
+    go false = refl
 
 -- ---- another one
 unaware_at : (s : Setup) (j : ℕ) (table : Table) (o : UnawareState) (places : State) (waiting : List Waiting) (called : List (List ℕ)) (now t : ℕ) → IsTurn s j table (Unaware o) places waiting called now t

@@ -5,7 +5,7 @@ use Rattle.outlet.specs.AwareStates.{AwareState}
 use Rattle.mixer_spec.specs.declared.limits.TheConstants.{PLACES}
 
 abbrev pub state_of : Inside → AwareState
-state_of o = record { own = o.own; spacing = o.spacing; gens = o.gens; left = o.left.items; free_at = o.free_at.items; next = o.next; quiet = o.quiet }
+state_of o = record { own = o.own; spacing = o.spacing; gens = o.gens; left = o.left.items; free_at = o.free_at.items; next = o.next; calm = o.calm }
 
 -- each leg has a count and a moment
 pub record IsSound (o : Inside) : Type 0 where

@@ -1,11 +1,15 @@
 -- What the outlet of an aware terminal stands for (profile).
-use Rattle.std.specs.Prelude.{◌≡◌, ℕ, ◌<◌, true, [], length, slice_index}
+use Rattle.std.specs.Prelude.{◌≡◌, ℕ, ◌<◌, false, [], length, slice_index}
 use Rattle.mixer_spec.specs.Setups.{Setup, IsSetup, stream}
-use Rattle.mixer_spec.specs.Table.{Terminal, sents, sent_from, last_media, round_start, is_quiet}
+use Rattle.mixer_spec.specs.Table.{Terminal, sents, sent_from, last_media, round_start, is_due}
 use Rattle.aware_output.specs.Speakers.{EachIsNext}
 use Rattle.outlet.specs.Turns.{free_after, repeats_left}
 use Rattle.outlet.specs.AwareStates.{AwareState}
 use Rattle.mixer_spec.specs.declared.limits.TheConstants.{PLACES}
+
+-- no leg is due at the terminal j at the media time t
+abbrev pub NoneDue : Setup → ℕ → ℕ → Terminal → Type 0
+NoneDue s j t d = (i : ℕ) → i < s.legs → is_due s j t d i ≡ false
 
 -- This was sent to the aware terminal j.
 pub record StandsFor (s : Setup) (j : ℕ) (o : AwareState) (d : Terminal) : Type 0 where
@@ -21,7 +25,7 @@ pub record StandsFor (s : Setup) (j : ℕ) (o : AwareState) (d : Terminal) : Typ
   pub free : (i : ℕ) → i < s.legs → slice_index o.free_at i ≡ free_after s.spacing (last_media (sent_from (s.ssrc i) d))
   pub next : o.next ≡ round_start d.past
   pub none_mixed : sent_from s.mixer d ≡ []
-  pub rests : o.quiet ≡ true → is_quiet s j d ≡ true
+  pub calm : (t : ℕ) → t < o.calm → NoneDue s j t d
 
 -- An outlet of the terminal j of so many legs, which repeats so often and waits so long, is one of this setup.
 pub record IsMadeFor (s : Setup) (gens legs j spacing : ℕ) : Type 0 where

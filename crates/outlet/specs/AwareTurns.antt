@@ -1,11 +1,11 @@
 -- What a turn of an aware terminal finds, and what it comes to.
-use Rattle.std.specs.Prelude.{ℕ, ◌+◌, ◌-◌, ◌<◌, Bool, true, false, Option, Some, List, slice_index, slice_set, if◌then◌else◌}
+use Rattle.std.specs.Prelude.{◌≡◌, ℕ, ◌+◌, ◌-◌, ◌<◌, Bool, true, false, Option, None, Some, List, slice_index, slice_set, if◌then◌else◌}
 use Rattle.wire_spec.specs.Packets.{has_text}
 use Rattle.stream_spec.specs.Own.{Sent}
 use Rattle.stream_spec.specs.Ready.{Chunk}
 use Rattle.mixer_spec.specs.Chunks.{joined, front}
 use Rattle.mixer_spec.specs.Setups.{Setup, stream}
-use Rattle.mixer_spec.specs.Table.{Terminal, Table, is_spaced, last_media, sent_from, sents, serve_leg}
+use Rattle.mixer_spec.specs.Table.{Seats, Terminal, Table, is_spaced, last_media, sent_from, sents, serve_leg, served}
 use Rattle.aware_output.specs.Speakers.{IsNext}
 use Rattle.slot_table.specs.Lanes.{Waiting}
 use Rattle.slot_table.specs.Standing as slots
@@ -57,6 +57,10 @@ abbrev pub StandsWoken : AwareState → AwareState → Type 0
 StandsWoken old new = AtTerminal old (λ s d. (waits : ℕ → List Chunk)
     → StandsFor s old.own new (record { past = d.past; asks = d.asks; waits = waits }))
 
+-- whoever holds which place, no turn before this media time serves anybody
+abbrev pub IsCalmBefore : ℕ → AwareState → Type 0
+IsCalmBefore calm o = AtTerminal o (λ s d. (seats : Seats) (t : ℕ) → t < calm → None ≡ served s seats o.own t d)
+
 -- how many packets of the leg are still to repeat its last text, behind one with this text
 abbrev pub left_behind : ℕ → List ℕ → AwareState → ℕ
 left_behind leg text o = if has_text text then o.gens else slice_index o.left leg - 1
@@ -67,5 +71,5 @@ kept_served place leg media text o = record o {
   left = slice_set o.left leg (left_behind leg text o);
   free_at = slice_set o.free_at leg (media + o.spacing);
   next = place + 1;
-  quiet = false;
+  calm = 0;
 }

@@ -3,7 +3,7 @@ use Rattle.std.specs.Prelude.{◌≡◌, ◌<◌, ℕ, Bool, true, false, Option
 use Rattle.stream_spec.specs.Ready.{Chunk}
 use Rattle.mixer_spec.specs.Setups.{Setup, stream}
 use Rattle.mixer_spec.specs.Laws.{AreTexts}
-use Rattle.mixer_spec.specs.Table.{Terminal, Table, empty, is_seated, turn_at}
+use Rattle.mixer_spec.specs.Table.{Seats, Terminal, Table, empty, is_seated, turn_at}
 use Rattle.slot_table.specs.Lanes.{Waiting}
 use Rattle.slot_table.specs.Standing as slots
 use Rattle.seating.specs.States.{State}
@@ -66,6 +66,10 @@ OfTerminals o waiting P = (s : Setup) (j : ℕ) (table : Table) → StandsFor s 
 -- the terminal j after a turn at the moment `now`, with the media time t
 abbrev pub turned_here : Setup → ℕ → ℕ → ℕ → Table → Terminal
 turned_here s j now t table = turn_at s table.seats j now t (table.terminals j)
+
+-- whoever holds which place, no turn before this media time changes anything at the terminal for which it stands
+abbrev pub IsCalmBefore : ℕ → Outlet → Type 0
+IsCalmBefore calm o = (s : Setup) (j : ℕ) (d : Terminal) → StandsFor s j o d → (seats : Seats) (now t : ℕ) → t < calm → turn_at s seats j now t d ≡ d
 
 -- Such a turn at the terminal j, which holds a place and for which the outlet stands: the slots have what waits there, which
 -- are texts, these are the seats and the names, and what is sent may be sent.

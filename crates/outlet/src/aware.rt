@@ -1,11 +1,13 @@
 //! The outlet of a terminal that tells sources apart.
-ghost use Rattle.std.specs.Prelude.{◌≡◌, ◌-◌, ◌<◌, ◌≤◌, ◌||◌, ◌==◌, not, [], length, IfOk, IfSome};
+ghost use Rattle.std.specs.Prelude.{◌≡◌, ◌-◌, ◌<◌, ◌≤◌, ◌||◌, ◌==◌, not, ℕ, false, [], length, IfOk, IfSome};
 ghost use Rattle.mixer_spec.specs.Rounds.{first_from};
 ghost use Rattle.mixer_spec.specs.Setups.{Setup};
-ghost use Rattle.mixer_spec.specs.Table.{empty, has_work, is_due, is_due_at, is_quiet, served};
+ghost use Rattle.mixer_spec.specs.Table.{empty, has_work, is_due, is_due_at, is_quiet, last_media, sent_from, served};
 ghost use Rattle.slot_table.specs.Standing.{Tells, Leads};
 ghost use Rattle.slot_table.specs.Words.{fetched};
-ghost use Rattle.outlet.specs.AwareTurns.{AtTerminal, AtTable, ServesLeg, StandsWoken, is_free, kept_served, left_behind, text_of_leg};
+ghost use Rattle.outlet.specs.AwareTurns.{AtTerminal, AtTable, IsCalmBefore, ServesLeg, StandsWoken, is_free, kept_served, left_behind, text_of_leg};
+ghost use Rattle.outlet.specs.Turns.{free_after};
+ghost use Rattle.outlet.specs.AwareStanding.{NoneDue};
 ghost use Rattle.outlet.specs.AwareStates.{AwareState, SameLeg};
 ghost use Rattle.outlet.specs.AwareInsides.{state_of, IsSound};
 ghost use Rattle.rtt_base.specs.declared.limits.TheConstants.{END_OF_MOMENTS};
@@ -33,8 +35,8 @@ pub struct AwareOutlet {
     free_at: Vec<u64>,
     /// The place after the one served last.
     next: usize,
-    /// Whether it is known that nothing waits here, and that no text is still to be repeated.
-    quiet: bool,
+    /// Before this media time, in milliseconds, no leg is due.
+    calm: u64,
 }
 
 impl Model for AwareOutlet {
@@ -84,7 +86,7 @@ impl AwareOutlet {
             left,
             free_at,
             next: 0,
-            quiet: false,
+            calm: 0,
         })
     }
 
@@ -128,14 +130,49 @@ impl AwareOutlet {
         true
     }
 
-    /// Finds out whether the terminal is quiet.
+    /// The media time from which a packet of the leg may be sent, as far as its last packet goes.
+    fn spaced_from(&self, leg: usize) -> u64
+        requires { leg < length self.now.free_at }
+        ensures { AtTerminal self.now (λ s d.
+            result ≡ free_after s.spacing (last_media (sent_from (s.ssrc leg) d))) }
+    {
+        self.free_at[leg]
+    }
+
+    /// Before this media time the leg is not due, if no more text comes.
+    fn due_from(&self, leg: usize, slots: &Slots) -> u64
+        requires leg { leg < length self.now.free_at }
+        requires slots { length slots.now ≡ length self.now.free_at }
+        ensures { AtTable self.now slots.now (λ s table d.
+            (t : ℕ) → t < result → is_due s self.now.own t d leg ≡ false) }
+    {
+        if self.is_done_with(leg, slots) {
+            return u64::MAX;
+        }
+        self.spaced_from(leg)
+    }
+
+    /// Before this media time no leg is due, if no more text comes.
+    fn any_due_from(&self, slots: &Slots) -> u64
+        requires { length slots.now ≡ length self.now.free_at }
+        ensures { AtTable self.now slots.now (λ s table d.
+            (t : ℕ) → t < result → NoneDue s self.now.own t d) }
+    {
+        let mut from = u64::MAX;
+        for leg in 0..self.free_at.len() {
+            from = from.min(self.due_from(leg, slots));
+        }
+        from
+    }
+
+    /// Finds out from when on a leg is due.
     fn rest(&mut self, slots: &Slots)
         requires { length slots.now ≡ length self.old.free_at }
         ensures same { SameLeg self.old self.new }
         ensures stands { AtTable self.old slots.now (λ s table d. StandsFor s self.old.own self.new d) }
     {
-        let quiet = self.is_quiet(slots);
-        self.quiet = quiet;
+        let calm = self.any_due_from(slots);
+        self.calm = calm;
     }
 
     /// Whether the leg is due at this media time: another one than the terminal's own, which has work and is spaced.
@@ -244,7 +281,7 @@ impl AwareOutlet {
         self.left[leg] = left;
         self.free_at[leg] = media + u64::from(self.spacing);
         self.next = place + 1;
-        self.quiet = false;
+        self.calm = 0;
     }
 
     /// Takes what is sent of the leg that holds the place, and answers which leg that is.
@@ -288,7 +325,7 @@ impl AwareOutlet {
         ensures turned { Turns self.old seating.now slots.old media self.new slots.new result text.new }
         ensures within { IfSome result (λ leg. leg < length self.old.free_at) }
     {
-        if self.quiet {
+        if media < self.calm {
             return None;
         }
         match self.served(media, seating, slots) {
@@ -300,11 +337,18 @@ impl AwareOutlet {
         }
     }
 
+    /// Before this media time, in milliseconds, a turn serves nobody, if no text comes.
+    pub fn calm_until(&self) -> u64
+        ensures { IsCalmBefore result self.now }
+    {
+        self.calm
+    }
+
     /// Is told that text may wait here that did not before.
     pub fn wake(&mut self)
         ensures same { SameLeg self.old self.new }
         ensures stands { StandsWoken self.old self.new }
     {
-        self.quiet = false;
+        self.calm = 0;
     }
 }

@@ -1,7 +1,7 @@
 //! The outlet of a terminal, be it aware or not.
 ghost use Rattle.std.specs.Prelude.{◌≡◌, ◌+◌, ◌<◌, ◌≤◌, length, IfOk, IfSome, if◌then◌else◌};
 ghost use Rattle.mixer_spec.specs.Table.{has_work, is_quiet};
-ghost use Rattle.outlet.specs.Outlets.{IsTurned, OfTerminals, OfTurns, SameLeg, StandsNew, StandsWoken, legs_of, next_turn, own_of, sources_of};
+ghost use Rattle.outlet.specs.Outlets.{IsCalmBefore, IsTurned, OfTerminals, OfTurns, SameLeg, StandsNew, StandsWoken, legs_of, next_turn, own_of, sources_of};
 ghost use Rattle.rtt_base.specs.declared.limits.TheConstants.{END_OF_MOMENTS};
 
 use crate::aware::AwareOutlet;
@@ -95,6 +95,16 @@ impl Outlet {
         match self {
             Outlet::Aware(outlet) => outlet.turn(media, seating, slots, text),
             Outlet::Unaware(outlet) => outlet.turn(media, names, slots, text),
+        }
+    }
+
+    /// Before this media time, in milliseconds, a turn changes nothing at the terminal, if no text comes.
+    pub fn calm_until(&self) -> u64
+        ensures { IsCalmBefore result self.now }
+    {
+        match self {
+            Outlet::Aware(outlet) => outlet.calm_until(),
+            Outlet::Unaware(_) => 0,
         }
     }
 

@@ -2,6 +2,7 @@
 use Rattle.std.proofs.Common.{ℕ, List, [], refl, subst}
 use Rattle.mixer_spec.specs.Headline.{Hop}
 use Rattle.command_spec.specs.Bridges.{inward, onward_from}
+use Rattle.rtt_words.specs.Words.{Mix}
 use Rattle.rtt_top.specs.Runs.{Prints}
 use Rattle.promise_tests.specs.Mixed.{MixTellsWhatWasTyped}
 use Rattle.promise_tests.proofs.Endings.{all_done}
@@ -9,14 +10,14 @@ use Rattle.promise_tests.proofs.Typing.{all_typed_at, at_all, only_typed}
 
 pub mix_tells : (WorldTells OutTells ErrTells : Type 0) → MixTellsWhatWasTyped WorldTells OutTells ErrTells
 mix_tells WorldTells OutTells ErrTells old new before after m tells r =
-    let l = r.headline tells (all_done r.ending r.is_status) m refl in
-    let b = l.bridged.bridge in
+    let l = r.made tells (all_done r.ending r.is_status) (Mix m) refl in
+    let b = l.made.bridge in
     record {
       bridge = b;
-      mixed = l.bridged.mixed;
-      prints = λ t. subst (λ (octets : List ℕ). Prints octets old new) l.bridged.views (l.prints t);
+      mixed = l.made.mixed;
+      prints = λ t. subst (λ (octets : List ℕ). Prints octets old new) l.made.views (l.prints t);
       only = λ j i pair h from.
-          only_typed (inward b i h) (onward_from b j i) _ [] _ ((l.bridged.heard j i pair).headline h from);
+          only_typed (inward b i h) (onward_from b j i) _ [] _ ((l.made.heard j i pair).headline h from);
       whole = λ stay j i pair h from.
-          all_typed_at (inward b i h) (onward_from b j i) (at_all (inward b i h) (onward_from b j i) ((l.bridged.heard j i pair).headline_all stay h from));
+          all_typed_at (inward b i h) (onward_from b j i) (at_all (inward b i h) (onward_from b j i) ((l.made.heard j i pair).headline_all stay h from));
     }

@@ -2,16 +2,21 @@
 ghost use Rattle.std.specs.Prelude.{◌≡◌, IfSome};
 
 use crate::{FileSink, Sink};
+use itoa::Buffer;
 use rtt_base::Failed;
 use std::alloc::{AllocError, Global};
 use std::fs;
-use std::fs::{File, OpenOptions};
+use std::fs::{File, Metadata, OpenOptions};
 use std::io::ErrorKind;
 use std::os::unix::fs::MetadataExt;
 use std::rt::Files;
 
-/// What stands behind the name of a file that does not have its own name yet.
-const BESIDE: &str = ".rtt-part";
+/// What stands behind the name of a file that does not have its own name yet, and before a number. No name in a conference has
+/// a space.
+const BESIDE: &str = ".rtt-part ";
+
+/// How many such names are tried.
+const MOST_BESIDE: u32 = 100;
 
 /// The two names of a file that is written beside the one whose place it is to take.
 #[derive(Debug, Drop)]
@@ -38,10 +43,11 @@ fn copy_of(alloc: Global, text: &str) -> Result<String, AllocError> {
     Ok(copy)
 }
 
-/// The move of a file that is to have this name.
-fn move_to(alloc: Global, name: &str) -> Result<Move, AllocError> {
+/// The move of a file that is to have this name, and now has the one beside it that has this number.
+fn move_to(alloc: Global, name: &str, number: u32) -> Result<Move, AllocError> {
     let mut from = copy_of(alloc, name)?;
     from.push_str(BESIDE)?;
+    from.push_str(Buffer::new().format(number))?;
     let to = copy_of(alloc, name)?;
     Ok(Move { from, to })
 }
@@ -59,16 +65,27 @@ fn is_replaceable<R: Files<File = File>>(rt: &R, name: &str) -> bool {
     }
 }
 
-/// A new file beside a name, which may be written by whom the file under the name may be. One that an ended program left
-/// there is removed.
-fn file_beside<R: Files<File = File>>(rt: &R, moves: &Move) -> Option<File> {
-    let from = moves.from.as_str();
-    let _gone = fs::remove_file(rt, from);
-    let file = File::create_new(rt, from).ok()?;
-    if let Ok(found) = fs::symlink_metadata(rt, moves.to.as_str()) {
-        let _same = file.set_permissions(found.permissions());
+/// A new file under the first of the names beside a name at which nothing is, where one of them is free and it can be made. It may be
+/// written by whom the file under the name may be.
+fn file_beside<R: Files<File = File>>(
+    rt: &R,
+    alloc: Global,
+    name: &str,
+) -> Result<Option<(File, Move)>, AllocError> {
+    for number in 1..=MOST_BESIDE {
+        let moves = move_to(alloc, name, number)?;
+        match File::create_new(rt, moves.from.as_str()) {
+            Ok(file) => {
+                if let Ok(found) = fs::symlink_metadata(rt, name) {
+                    let _same = file.set_permissions(found.permissions());
+                }
+                return Ok(Some((file, moves)));
+            }
+            Err(error) if error.kind() == ErrorKind::AlreadyExists => {}
+            Err(_) => return Ok(None),
+        }
     }
-    Some(file)
+    Ok(None)
 }
 
 /// The file to write for a name, and the move that then is to be made, if one is. Where none can be made beside it, it is
@@ -79,13 +96,36 @@ pub(crate) fn file_to_write<R: Files<File = File>>(
     name: &str,
 ) -> Option<(File, Option<Move>)> {
     if is_replaceable(rt, name) {
-        let moves = move_to(alloc, name).ok()?;
-        if let Some(file) = file_beside(rt, &moves) {
+        if let Some((file, moves)) = file_beside(rt, alloc, name).ok()? {
             return Some((file, Some(moves)));
         }
     }
     let file = fs::create(rt, name).ok()?;
     Some((file, None))
+}
+
+/// Which of the system's ordinary files a file is, whatever its names.
+#[derive(Clone, Copy, Debug, PartialEq, Eq)]
+pub(crate) struct FileId {
+    device: u64,
+    inode: u64,
+}
+
+/// Which file this tells of, where that is an ordinary one.
+pub(crate) fn id_in(found: &Metadata) -> Option<FileId> {
+    if !found.is_file() {
+        return None;
+    }
+    Some(FileId {
+        device: found.dev(),
+        inode: found.ino(),
+    })
+}
+
+/// Which ordinary file lies under a name, at the end of its links.
+pub(crate) fn id_under<R: Files<File = File>>(rt: &R, name: &str) -> Option<FileId> {
+    let found = fs::metadata(rt, name).ok()?;
+    id_in(&found)
 }
 
 impl<R: Files<File = File> + Copy> NewFile<R> {

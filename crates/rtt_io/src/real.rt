@@ -2,7 +2,7 @@
 ghost use Rattle.std.specs.Prelude.{◌≡◌, ℕ, ◌≤◌, List, [], None, OnOk, OnErr, IfSome, unwrap_or};
 ghost use Rattle.rtt_io.specs.Counts.{Rose};
 
-use crate::new_files::{NewFile, file_to_write};
+use crate::new_files::{FileId, NewFile, file_to_write, id_in, id_under};
 use crate::streams::{Stored, read_once, write_stored, write_whole};
 use crate::{Sink, Source, World};
 use rtt_base::{Failed, Path};
@@ -165,13 +165,16 @@ impl<W: Write> Sink for StreamSink<W> {
     }
 }
 
-/// The files of the system. One number of each kind counts the faults of all names.
+/// The files of the system. One number of each kind counts the faults of all names. An ordinary file that was made is not made a
+/// second time, whatever its name then is.
 #[derive(Drop)]
 pub struct RealWorld<R> {
     rt: R,
     alloc: Global,
     own_faults: u64,
     object_faults: u64,
+    /// The ordinary files that were made.
+    made: Vec<FileId>,
 }
 
 impl<R: Files<File = File> + Copy + Send> RealWorld<R> {
@@ -185,6 +188,7 @@ impl<R: Files<File = File> + Copy + Send> RealWorld<R> {
             alloc,
             own_faults: 0,
             object_faults: 0,
+            made: Vec::new(alloc),
         }
     }
 }
@@ -200,14 +204,40 @@ impl<R: Files<File = File> + Copy> RealWorld<R> {
         Some(FileSource::new(file, path))
     }
 
-    // What is to be the file of a name, where the system makes it.
-    fn sink(&self, name: &str) -> Option<NewFile<R>>
-        ensures named { IfSome result (λ sink. sink.sink.name ≡ name.now) }
-        ensures fresh { IfSome result (λ sink. sink.sink.faults ≡ 0) }
+    // Whether the file of a name was made.
+    fn was_made(&self, name: &str) -> bool {
+        match id_under(&self.rt, name) {
+            Some(id) => self.made.iter().any(|other| *other == id),
+            None => false,
+        }
+    }
+
+    // What is to be the file of a name, where the system makes it, and which file it is, where it tells that.
+    fn sink(&self, name: &str) -> Option<(NewFile<R>, Option<FileId>)>
+        ensures named { IfSome result (λ made. made.0.sink.name ≡ name.now) }
+        ensures fresh { IfSome result (λ made. made.0.sink.faults ≡ 0) }
     {
+        if self.was_made(name) {
+            return None;
+        }
         let path = Path::from_text(self.alloc, name).ok()?;
         let (file, moves) = file_to_write(&self.rt, self.alloc, name)?;
-        Some(NewFile::new(self.rt, FileSink::new(file, path), moves))
+        let id = match file.metadata() {
+            Ok(found) => id_in(&found),
+            Err(_) => None,
+        };
+        let sink = NewFile::new(self.rt, FileSink::new(file, path), moves);
+        Some((sink, id))
+    }
+
+    // Keeps which file was made, where there is memory.
+    fn keep(&mut self, id: Option<FileId>)
+        ensures own { self.new.own_faults ≡ self.old.own_faults }
+        ensures objects { self.new.object_faults ≡ self.old.object_faults }
+    {
+        if let Some(id) = id {
+            let _kept = self.made.push(id);
+        }
     }
 }
 
@@ -236,7 +266,10 @@ impl<R: Files<File = File> + Copy + Send> World for RealWorld<R> {
 
     fn create_sink(&mut self, name: &str) -> Result<NewFile<R>, Failed> {
         match self.sink(name) {
-            Some(sink) => Ok(sink),
+            Some((sink, id)) => {
+                self.keep(id);
+                Ok(sink)
+            }
             None => {
                 self.own_faults = self.own_faults.saturating_add(1);
                 Err(Failed)

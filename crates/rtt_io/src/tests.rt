@@ -184,17 +184,50 @@ fn a_real_file_is_written_and_read_back(rt: HostRuntime) -> Result<(), Fail> {
     Ok(())
 }
 
+// Makes a file with these octets.
+fn write_real<W: World>(world: &mut W, name: &str, octets: &[u8]) -> Result<(), Fail> {
+    let mut sink = world.create_sink(name)?;
+    let written = sink.write_all(octets);
+    world.done_dst(sink);
+    written?;
+    Ok(())
+}
+
 #[test]
 fn a_real_file_has_its_name_once_it_was_written(rt: HostRuntime) -> Result<(), Fail> {
     let mut world = RealWorld::new(&rt, rt.alloc());
     let mut sink = world.create_sink("rtt_io_new_file")?;
     assert!(rt; !std::fs::exists(&rt, "rtt_io_new_file")?);
-    assert!(rt; std::fs::exists(&rt, "rtt_io_new_file.rtt-part")?);
+    assert!(rt; std::fs::exists(&rt, "rtt_io_new_file.rtt-part 1")?);
     sink.write_all(b"one")?;
     assert!(rt; std::fs::exists(&rt, "rtt_io_new_file")?);
-    assert!(rt; !std::fs::exists(&rt, "rtt_io_new_file.rtt-part")?);
+    assert!(rt; !std::fs::exists(&rt, "rtt_io_new_file.rtt-part 1")?);
     world.done_dst(sink);
     std::fs::remove_file(&rt, "rtt_io_new_file")?;
+    Ok(())
+}
+
+#[test]
+fn a_file_beside_takes_a_name_that_is_free(rt: HostRuntime) -> Result<(), Fail> {
+    let mut world = RealWorld::new(&rt, rt.alloc());
+    write_real(&mut world, "rtt_io_taken.rtt-part 1", b"one")?;
+    write_real(&mut world, "rtt_io_taken", b"two")?;
+    assert!(rt; std::fs::exists(&rt, "rtt_io_taken.rtt-part 1")?);
+    assert!(rt; !std::fs::exists(&rt, "rtt_io_taken.rtt-part 2")?);
+    std::fs::remove_file(&rt, "rtt_io_taken.rtt-part 1")?;
+    std::fs::remove_file(&rt, "rtt_io_taken")?;
+    Ok(())
+}
+
+#[test]
+fn a_real_file_is_made_once(rt: HostRuntime) -> Result<(), Fail> {
+    let mut world = RealWorld::new(&rt, rt.alloc());
+    write_real(&mut world, "rtt_io_made_once", b"one")?;
+    assert!(rt; world.create_sink("./rtt_io_made_once").is_err());
+    let mut source = world.open_source("rtt_io_made_once")?;
+    assert!(rt; reads_all(&mut source, &["one", ""]));
+    world.done_src(source);
+    std::fs::remove_file(&rt, "rtt_io_made_once")?;
     Ok(())
 }
 

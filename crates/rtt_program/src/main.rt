@@ -5,7 +5,7 @@
 ghost use Rattle.std.specs.Prelude.{◌≡◌, ◌++◌, true, drop, codes, IfOk, OnErr};
 ghost use Rattle.std.specs.Process.{exit_status};
 ghost use Rattle.rtt_io.specs.Counts.{Rose};
-ghost use Rattle.rtt_top.specs.Lives.{RunsGivenUp, RunsLive, RunsWatched, uses_no_link};
+ghost use Rattle.rtt_top.specs.Lives.{RunsCall, uses_no_link};
 ghost use Rattle.rtt_top.specs.Outside.{outside_over, output_at};
 ghost use Rattle.rtt_top.specs.Runs.{asked_by, Runs};
 
@@ -81,13 +81,7 @@ fn program<
     ensures runs { IfOk words (λ all. Runs (asked_by (drop 1 all.items)) W.tells K.tells E.tells
         (outside_over W.World K.Sink L.Links world.old out.old links.old) (outside_over W.World K.Sink L.Links world.new out.new links.new)
         (output_at E.Sink err.old) (output_at E.Sink err.new) (exit_status result)) }
-    ensures live { IfOk words (λ all. RunsLive (asked_by (drop 1 all.items)) W.tells K.tells L.tells
-        (outside_over W.World K.Sink L.Links world.old out.old links.old) (outside_over W.World K.Sink L.Links world.new out.new links.new)
-        (exit_status result)) }
-    ensures watched { IfOk words (λ all. RunsWatched (asked_by (drop 1 all.items)) W.tells K.tells L.tells
-        (outside_over W.World K.Sink L.Links world.old out.old links.old) (outside_over W.World K.Sink L.Links world.new out.new links.new)
-        (exit_status result)) }
-    ensures given_up { IfOk words (λ all. RunsGivenUp (asked_by (drop 1 all.items)) W.tells L.tells
+    ensures call { IfOk words (λ all. RunsCall (asked_by (drop 1 all.items)) W.tells K.tells L.tells
         (outside_over W.World K.Sink L.Links world.old out.old links.old) (outside_over W.World K.Sink L.Links world.new out.new links.new)
         (exit_status result)) }
     ensures offline { IfOk words (λ all.
@@ -128,7 +122,7 @@ fn main(rt: HostRuntime) -> ExitCode {
     let mut world = RealWorld::new(&rt, rt.alloc());
     let mut out = StandardOutput::new(rt.stdout());
     let mut err = StandardError::new(rt.stderr());
-    let links = RealLinks::new(&rt);
+    let links = RealLinks::new(&rt, rt.alloc());
     let words = all_words(&rt);
     program_over(
         &rt,

@@ -7,7 +7,7 @@ use Rattle.rtt_io.specs.Fronts.{TakesFront}
 use Rattle.file_spec.specs.Conf.{Conf}
 use Rattle.command_spec.specs.declared.faults.Refusal.{Refusal}
 use Rattle.command_spec.specs.declared.faults.Refusal.TheVariants.{AtByte, AtFrame, AtLine, AtTrunk, AfterTurns}
-use Rattle.rtt_words.specs.Words.{ReadWords, MixWords, CascadeWords, Command, Read, Mix, Attend, Cascade}
+use Rattle.rtt_words.specs.Words.{ReadWords, Command, Read, Mix, Attend, Cascade}
 use Rattle.command_spec.specs.declared.faults.Fault.{Fault}
 use Rattle.command_spec.specs.declared.faults.Fault.TheVariants.{WrongWords, CannotOpen, CannotRead, Refused, CannotPrint, CannotWrite, LinkFailed, NoMemory}
 use Rattle.command_spec.specs.Work.{Contents, Made, Steps, Reads, Refuses, Makes, Serves, IsInput}
@@ -18,7 +18,8 @@ use Rattle.rtt_words.specs.Tasks.{request_of, unless_broken, work}
 use Rattle.command_spec.specs.Messages.{Ending, ending_of, status_of}
 use Rattle.rtt_words.specs.Told.{message_of}
 use Rattle.rtt_top.specs.Outside.{Outside, Output, Failed}
-use Rattle.rtt_top.specs.Runs.{Prints, Ends, outcome_of, IsCalm, IsAsWorked, IsOfWords, IsHeadline, IsAttendedHeadline, IsCascadedHeadline, Runs}
+use Rattle.rtt_top.specs.Runs.{Prints, Ends, outcome_of, IsCalm, IsAsWorked, IsOfWords, IsMadeBy, Runs, HasStatus}
+use Rattle.rtt_top.proofs.Statused.{of_fault}
 use Rattle.command_spec.specs.Attending.{attending}
 use Rattle.command_spec.specs.Cascading.{cascading}
 use Rattle.command_spec.specs.Mixing.{mixing}
@@ -90,35 +91,24 @@ is_done (outcomes.Refused n refusal) P none d = absurd d
 is_done (Done printed files) P none d = (printed, files, refl, d)
 is_done (Served c) P none d = absurd (none c refl)
 
-headline : (WorldTells OutTells : Type 0) (old new : Outside) (name : List ℕ) (m : MixWords) → WorldTells → Ends (Mix m) WorldTells OutTells old new name (Ok tt) → IsHeadline OutTells m old new
-headline WorldTells OutTells old new name m told e =
+-- what a command makes of a conference
+made : (c : Command) (WorldTells OutTells : Type 0) (old new : Outside) (name : List ℕ) → WorldTells → Ends c WorldTells OutTells old new name (Ok tt) → IsMadeBy c OutTells old new
+made (Mix m) WorldTells OutTells old new name told e =
     let d = is_done (outcome old.contents (mixing m.conf)) (λ printed files. (WorldTells → AllStored files old.contents new.contents) × (OutTells → Prints printed old new)) (mixing_serves_none old.contents m.conf) (e told) in
-    record { printed = d.0; prints = d.3.1; bridged = bridged old.contents new.contents m.conf d.0 d.1 d.2 (d.3.0 told) }
-
-attended_headline : (WorldTells OutTells : Type 0) (old new : Outside) (name : List ℕ) (m : MixWords) → WorldTells → Ends (Attend m) WorldTells OutTells old new name (Ok tt) → IsAttendedHeadline OutTells m old new
-attended_headline WorldTells OutTells old new name m told e =
+    record { printed = d.0; prints = d.3.1; made = bridged old.contents new.contents m.conf d.0 d.1 d.2 (d.3.0 told) }
+made (Attend m) WorldTells OutTells old new name told e =
     let d = is_done (outcome old.contents (attending m.conf)) (λ printed files. (WorldTells → AllStored files old.contents new.contents) × (OutTells → Prints printed old new)) (attending_serves_none old.contents m.conf) (e told) in
-    record { printed = d.0; prints = d.3.1; attended = attended old.contents new.contents m.conf d.0 d.1 d.2 (d.3.0 told) }
-
-cascaded_headline : (WorldTells OutTells : Type 0) (old new : Outside) (name : List ℕ) (w : CascadeWords) → WorldTells → Ends (Cascade w) WorldTells OutTells old new name (Ok tt) → IsCascadedHeadline OutTells w old new
-cascaded_headline WorldTells OutTells old new name w told e =
+    record { printed = d.0; prints = d.3.1; made = attended old.contents new.contents m.conf d.0 d.1 d.2 (d.3.0 told) }
+made (Cascade w) WorldTells OutTells old new name told e =
     let d = is_done (outcome old.contents (cascading w.conf w.file w.ssrc)) (λ printed files. (WorldTells → AllStored files old.contents new.contents) × (OutTells → Prints printed old new)) (cascading_serves_none old.contents w.conf w.file w.ssrc) (e told) in
-    record { printed = d.0; prints = d.3.1; cascaded = cascaded old.contents new.contents w.conf w.file w.ssrc d.0 d.1 d.2 (d.3.0 told) }
-
-the_cascade : (c : Command) (w : CascadeWords) → Some c ≡ Some (Cascade w) → c ≡ Cascade w
-the_cascade c w e = cc
-
-the_attend : (c : Command) (m : MixWords) → Some c ≡ Some (Attend m) → c ≡ Attend m
-the_attend c m e = cc
-
-the_mix : (c : Command) (m : MixWords) → Some c ≡ Some (Mix m) → c ≡ Mix m
-the_mix c m e = cc
+    record { printed = d.0; prints = d.3.1; made = cascaded old.contents new.contents w.conf w.file w.ssrc d.0 d.1 d.2 (d.3.0 told) }
+made _ WorldTells OutTells old new name told e = tt
 
 the_same : (c : Command) (r : ReadWords) → Some c ≡ Some (Read r) → c ≡ Read r
 the_same c r e = cc
 
 pub runs : {c : Command} {WorldTells OutTells ErrTells : Type 0} {old new : Outside} {before after : Output} {status : ℕ} (ending : Ending) (name : List ℕ)
-    → status ≡ status_of ending → Ends c WorldTells OutTells old new name ending → (ending ≡ Ok tt → after.octets ≡ before.octets)
+    → HasStatus (Some c) WorldTells old.contents ending status → Ends c WorldTells OutTells old new name ending → (ending ≡ Ok tt → after.octets ≡ before.octets)
     → (ErrTells → TakesFront before.octets after.octets (message_of name ending))
     → (ErrTells → (Failed before after → ⊥) → after.octets ≡ before.octets ++ message_of name ending) → Runs (Some c) WorldTells OutTells ErrTells old new before after status
 runs {c} {WorldTells} {OutTells} {ErrTells} {old} {new} {before} {after} {status} ending name is ends silent front told = record {
@@ -131,18 +121,9 @@ runs {c} {WorldTells} {OutTells} {ErrTells} {old} {new} {before} {after} {status
       let P : Command → Type 0 = λ k. Ends k WorldTells OutTells old new name ending in
       let Q : Ending → Type 0 = λ q. Ends (Read v.request) WorldTells OutTells old new name q in
       viewed WorldTells OutTells old new name h law t s v.request v.octets view v.lies v.come v.view_is (subst Q ok (subst P (the_same c v.request v.reads) ends));
-  headline = λ t ok m e.
-      let P : Command → Type 0 = λ k. Ends k WorldTells OutTells old new name ending in
-      let Q : Ending → Type 0 = λ q. Ends (Mix m) WorldTells OutTells old new name q in
-      headline WorldTells OutTells old new name m t (subst Q ok (subst P (the_mix c m e) ends));
-  attended = λ t ok m e.
-      let P : Command → Type 0 = λ k. Ends k WorldTells OutTells old new name ending in
-      let Q : Ending → Type 0 = λ q. Ends (Attend m) WorldTells OutTells old new name q in
-      attended_headline WorldTells OutTells old new name m t (subst Q ok (subst P (the_attend c m e) ends));
-  cascaded = λ t ok w e.
-      let P : Command → Type 0 = λ k. Ends k WorldTells OutTells old new name ending in
-      let Q : Ending → Type 0 = λ q. Ends (Cascade w) WorldTells OutTells old new name q in
-      cascaded_headline WorldTells OutTells old new name w t (subst Q ok (subst P (the_cascade c w e) ends));
+  made = λ t ok d e.
+      let Q : Ending → Type 0 = λ q. Ends c WorldTells OutTells old new name q in
+      subst (λ k. IsMadeBy k OutTells old new) (some_same c d e) (made c WorldTells OutTells old new name t (subst Q ok ends));
   silent = silent;
   front = front;
   told = told;
@@ -165,9 +146,7 @@ no_words words WorldTells OutTells ErrTells old before after status fault name n
       ends = (is, ((λ shown. refl), λ told name. refl));
       calm = λ c e. absurd (no_command c e);
       kept = λ t s ok h law view v. absurd (no_command (Read v.request) v.reads);
-      headline = λ t ok m e. absurd (no_command (Mix m) e);
-      attended = λ t ok m e. absurd (no_command (Attend m) e);
-      cascaded = λ t ok w e. absurd (no_command (Cascade w) e);
+      made = λ t ok c e. absurd (no_command c e);
       silent = silent;
       front = front;
       told = told;
@@ -183,4 +162,4 @@ pub no_memory : (words : Option Command) (WorldTells OutTells ErrTells : Type 0)
     → (ErrTells → (Failed before after → ⊥) → after.octets ≡ before.octets ++ message_of name (Err NoMemory)) → Runs words WorldTells OutTells ErrTells old old before after status
 no_memory None WorldTells OutTells ErrTells old before after status name s silent front told = no_words None WorldTells OutTells ErrTells old before after status NoMemory name refl (inr refl) s silent front told
 no_memory (Some c) WorldTells OutTells ErrTells old before after status name s silent front told =
-    runs (Err NoMemory) name s ((λ shown. refl), λ told name. refl) silent front told
+    runs (Err NoMemory) name (of_fault c WorldTells old.contents NoMemory status s) ((λ shown. refl), λ told name. refl) silent front told

@@ -54,7 +54,7 @@ pub both : (old mid new first second : List ℕ) → mid ≡ old ++ first → ne
 both old mid new first second e f = f ∙ (ap (λ xs. xs ++ second) e ∙ append_assoc old first second)
 
 -- ---- pieces, one behind the other
-concat_push : (pieces : List (List ℕ)) (piece : List ℕ) → concat (pieces ++ piece ∷ []) ≡ concat pieces ++ piece
+pub concat_push : (pieces : List (List ℕ)) (piece : List ℕ) → concat (pieces ++ piece ∷ []) ≡ concat pieces ++ piece
 concat_push [] piece = sym (append_none piece)
 concat_push (first ∷ more) piece = ap (λ octets. first ++ octets) (concat_push more piece) ∙ sym (append_assoc first (concat more) piece)
 

@@ -2,6 +2,7 @@ pub mod Counts
 pub mod Sources
 pub mod Working
 pub mod Unserved
+pub mod Statused
 pub mod Ending
 pub mod Sending
 pub mod Histories
@@ -20,8 +21,10 @@ pub mod Before
 pub mod Plain
 pub mod Lying
 pub mod Fronts
+pub mod Telling
 pub mod Statuses
 pub mod FrameFronts
 pub mod Framing
 pub mod Converting
+pub mod Looking
 pub mod Refusals

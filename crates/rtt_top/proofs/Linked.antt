@@ -2,14 +2,16 @@
 use Rattle.std.proofs.Common.{◌≡◌, ℕ, true, false, true≢false, inl, inr, Option, Some, None, List, Ok, Err, refl, sym, subst, ◌∙◌}
 use Rattle.command_spec.specs.declared.faults.Refusal.TheVariants.{AtByte, AtFrame, AtLine, AtTrunk, AfterTurns}
 use Rattle.command_spec.specs.declared.faults.Fault.TheVariants.{WrongWords, CannotOpen, CannotRead, Refused, CannotPrint, CannotWrite, LinkFailed, NoMemory}
-use Rattle.rtt_words.specs.Words.{MixWords, Command, Read, ListRecords, Send, Mix, Attend, Cascade, Make, Live, Watch, Relay, Channel, Show, Script, Version}
+use Rattle.file_spec.specs.Conf.{Conf}
+use Rattle.serve_spec.specs.Served.{End}
+use Rattle.rtt_words.specs.Words.{MixWords, Command, Read, ListRecords, Send, Mix, Attend, Cascade, Make, Live, Watch, Relay, Channel, Show, Script, Check, Help, Version}
 use Rattle.command_spec.specs.Messages.{Ending}
 use Rattle.rtt_words.specs.declared.commands.MixWords as coded
 use Rattle.rtt_words.specs.declared.commands.Command as asked
 use Rattle.rtt_words.specs.declared.commands.Command.TheVariants as word
 use Rattle.rtt_words.specs.Commands.{meaning}
 use Rattle.rtt_top.specs.Faults.{is_live}
-use Rattle.rtt_top.specs.Lives.{Front, RunsGivenUp, RunsLive, RunsWatched, Share, Whole, status_at}
+use Rattle.rtt_top.specs.Lives.{Front, IsCallOf, IsServedTo, IsWatchedTo, RunsCall, Share, Whole, status_at}
 use Rattle.rtt_top.specs.Outside.{LinksLeft, Output, Outside, with_links}
 use Rattle.rtt_top.specs.Runs.{Ends, Runs, is_plain}
 use Rattle.rtt_top.proofs.Ending.{runs}
@@ -51,6 +53,8 @@ plain_is_not_live (Relay s) e = refl
 plain_is_not_live (Channel c) e = refl
 plain_is_not_live (Show l) e = refl
 plain_is_not_live (Script r) e = refl
+plain_is_not_live (Check c) e = refl
+plain_is_not_live (Help t) e = refl
 plain_is_not_live Version e = refl
 
 -- what asks for no live call
@@ -68,63 +72,37 @@ other_is_not_live (word.Relay s) other watch = refl
 other_is_not_live (word.Channel c) other watch = refl
 other_is_not_live (word.Show l) other watch = refl
 other_is_not_live (word.Script r) other watch = refl
+other_is_not_live (word.Check c) other watch = refl
+other_is_not_live (word.Help t) other watch = refl
 other_is_not_live word.Version other watch = refl
 
-same : (c : Command) (m : MixWords) → Some c ≡ Some (Live m) → c ≡ Live m
-same c m e = cc e
-
-live : (c : Command) (m : MixWords) → Some c ≡ Some (Live m) → is_live c ≡ false → ⊥
-live c m e off = true≢false (subst (λ k. is_live k ≡ false) (same c m e) off)
-
 -- of another command nothing is said of a live call
-pub no_live : {words : Option Command} {WorldTells OutTells LinksTell : Type 0} {old new : Outside} {status : ℕ} (c : Command) → words ≡ Some c → is_live c ≡ false
-    → RunsLive words WorldTells OutTells LinksTell old new status
-no_live c is off = λ share at m e. absurd (live c m (sym is ∙ e) off)
+no_call_of : (c : Command) (WorldTells OutTells LinksTell : Type 0) (old new : Outside) (status : ℕ) → is_live c ≡ false → RunsCall (Some c) WorldTells OutTells LinksTell old new status
+no_call_of (Live m) WorldTells OutTells LinksTell old new status off = absurd (true≢false off)
+no_call_of (Watch m) WorldTells OutTells LinksTell old new status off = absurd (true≢false off)
+no_call_of _ WorldTells OutTells LinksTell old new status off = tt
 
-watching : (c : Command) (m : MixWords) → Some c ≡ Some (Watch m) → is_live c ≡ false → ⊥
-watching c m e off = true≢false (subst (λ k. is_live k ≡ false) (same_watch c m e) off)
-  where
-    same_watch : (d : Command) (k : MixWords) → Some d ≡ Some (Watch k) → d ≡ Watch k
-    same_watch d k q = cc q
+pub no_call : (words : Option Command) (c : Command) (WorldTells OutTells LinksTell : Type 0) (old new : Outside) (status : ℕ) → words ≡ Some c → is_live c ≡ false
+    → RunsCall words WorldTells OutTells LinksTell old new status
+no_call words c WorldTells OutTells LinksTell old new status is off =
+    subst (λ w. RunsCall w WorldTells OutTells LinksTell old new status) (sym is) (no_call_of c WorldTells OutTells LinksTell old new status off)
 
-pub no_watched : {words : Option Command} {WorldTells OutTells LinksTell : Type 0} {old new : Outside} {status : ℕ} (c : Command) → words ≡ Some c → is_live c ≡ false
-    → RunsWatched words WorldTells OutTells LinksTell old new status
-no_watched c is off = λ share at m e. absurd (watching c m (sym is ∙ e) off)
+-- nor where the words ask for none
+pub no_words_call : (words : Option Command) (WorldTells OutTells LinksTell : Type 0) (old new : Outside) (status : ℕ) → words ≡ None → RunsCall words WorldTells OutTells LinksTell old new status
+no_words_call words WorldTells OutTells LinksTell old new status none = subst (λ w. RunsCall w WorldTells OutTells LinksTell old new status) (sym none) tt
 
--- `live` is not `watch`
-pub live_not_watched : {words : Option Command} {WorldTells OutTells LinksTell : Type 0} {old new : Outside} {status : ℕ} (k : MixWords) → words ≡ Some (Live k)
-    → RunsWatched words WorldTells OutTells LinksTell old new status
-live_not_watched k is = λ share at m e. absurd (cc (is, e))
-
-pub watched_not_live : {words : Option Command} {WorldTells OutTells LinksTell : Type 0} {old new : Outside} {status : ℕ} (k : MixWords) → words ≡ Some (Watch k)
-    → RunsLive words WorldTells OutTells LinksTell old new status
-watched_not_live k is = λ share at m e. absurd (cc (is, e))
-
-pub no_words_watched : (words : Option Command) (WorldTells OutTells LinksTell : Type 0) (old new : Outside) (status : ℕ) → words ≡ None → RunsWatched words WorldTells OutTells LinksTell old new status
-no_words_watched words WorldTells OutTells LinksTell old new status none = λ share at m e. absurd (cc (none, e))
-
--- nor where it failed
+-- nor where memory ran out before they were told apart
 no_share : (share : Share) → 70 ≡ status_at share → ⊥
 no_share Whole e = cc e
 no_share Front e = cc e
 
-pub failed_at_all : (words : Option Command) (WorldTells OutTells LinksTell : Type 0) (old new : Outside) (status : ℕ) → status ≡ 70 → RunsWatched words WorldTells OutTells LinksTell old new status
-failed_at_all words WorldTells OutTells LinksTell old new status is = λ share at m e. absurd (no_share share (sym is ∙ at))
+none_of : (S : Conf → End → List ℕ → Type 0) (WorldTells OutTells LinksTell : Type 0) (m : MixWords) (old : Outside) (status : ℕ) → status ≡ 70 → IsCallOf S WorldTells OutTells LinksTell m old old status
+none_of S WorldTells OutTells LinksTell m old status is = record {
+  served = λ share at. absurd (no_share share (sym is ∙ at));
+  given_up = record { failed = λ at. absurd (cc (is, at)); no_memory = λ at. inr refl };
+}
 
-pub no_words_live : (words : Option Command) (WorldTells OutTells LinksTell : Type 0) (old new : Outside) (status : ℕ) → words ≡ None → RunsLive words WorldTells OutTells LinksTell old new status
-no_words_live words WorldTells OutTells LinksTell old new status none = λ share at m e. absurd (cc (none, e))
-
-pub failed_live : (words : Option Command) (WorldTells OutTells LinksTell : Type 0) (old new : Outside) (status : ℕ) → status ≡ 70 → RunsLive words WorldTells OutTells LinksTell old new status
-failed_live words WorldTells OutTells LinksTell old new status is = λ share at m e. absurd (no_share share (sym is ∙ at))
-
--- nor of one that was given up
-pub no_given_up : {words : Option Command} {WorldTells LinksTell : Type 0} {old new : Outside} {status : ℕ} (c : Command) → words ≡ Some c → is_live c ≡ false → RunsGivenUp words WorldTells LinksTell old new status
-no_given_up c is off m (inl e) = absurd (live c m (sym is ∙ e) off)
-no_given_up c is off m (inr e) = absurd (watching c m (sym is ∙ e) off)
-
-pub no_words_given_up : (words : Option Command) (WorldTells LinksTell : Type 0) (old new : Outside) (status : ℕ) → words ≡ None → RunsGivenUp words WorldTells LinksTell old new status
-no_words_given_up words WorldTells LinksTell old new status none m (inl e) = absurd (cc (none, e))
-no_words_given_up words WorldTells LinksTell old new status none m (inr e) = absurd (cc (none, e))
-
-pub failed_given_up : (words : Option Command) (WorldTells LinksTell : Type 0) (old : Outside) (status : ℕ) → status ≡ 70 → RunsGivenUp words WorldTells LinksTell old old status
-failed_given_up words WorldTells LinksTell old status is m asks = record { failed = λ at. absurd (cc (is, at)); no_memory = λ at. inr refl }
+pub failed_call : (words : Option Command) (WorldTells OutTells LinksTell : Type 0) (old : Outside) (status : ℕ) → status ≡ 70 → RunsCall words WorldTells OutTells LinksTell old old status
+failed_call (Some (Live m)) WorldTells OutTells LinksTell old status is = none_of (λ c. IsServedTo c LinksTell old.links old.links) WorldTells OutTells LinksTell m old status is
+failed_call (Some (Watch m)) WorldTells OutTells LinksTell old status is = none_of (λ c. IsWatchedTo c LinksTell old.links old.links) WorldTells OutTells LinksTell m old status is
+failed_call _ WorldTells OutTells LinksTell old status is = tt

@@ -1,5 +1,5 @@
 -- A live call: how it ends for the command.
-use Rattle.std.proofs.Common.{◌≡◌, ℕ, ◌++◌, true, true≢false, inl, inr, take, Option, Some, List, Result, Ok, Err, refl, ap, sym, subst, ◌∙◌}
+use Rattle.std.proofs.Common.{◌≡◌, ℕ, ◌++◌, true, false, true≢false, inl, inr, take, Option, Some, List, Result, Ok, Err, refl, ap, sym, subst, ◌∙◌}
 use Rattle.std.specs.Prelude.{◌==◌, ◌||◌, IfErr, IfOk, OnOk, OnErr}
 use Rattle.file_spec.specs.declared.conf_lines.Form.TheVariants.{Links}
 use Rattle.file_spec.specs.Conf.{Conf, conf}
@@ -7,7 +7,10 @@ use Rattle.file_spec.specs.Lines as lines
 use Rattle.mixer_spec.specs.Setups.{leg_at}
 use Rattle.rtt_io.specs.declared.sinks.Sink as sinks
 use Rattle.serve_spec.specs.Served as served
+use Rattle.serve_spec.specs.Served.{IsServed}
+use Rattle.serve_spec.specs.Watched.{IsBoardOf}
 use Rattle.serve_spec.proofs.LinksStay.{apart_law, stay_law}
+use Rattle.serve_spec.proofs.Totals.{covers_told}
 use Rattle.live_loop.specs.Clocks.{IsPaced}
 use Rattle.live_loop.specs.Walks.{IsPaused}
 use Rattle.live_run.specs.declared.faults.LiveFault.{LiveFault}
@@ -15,7 +18,7 @@ use Rattle.live_run.specs.declared.faults.LiveFault.TheVariants as live
 use Rattle.live_run.specs.declared.reports.LiveEnd.{LiveEnd}
 use Rattle.live_run.specs.declared.reports.LiveReport.{LiveReport}
 use Rattle.live_run.specs.declared.reports.LiveEnd.TheVariants as ends
-use Rattle.live_run.specs.Calls.{BrokeOff, IsOfLinks, WasGivenUp, WasServed}
+use Rattle.live_run.specs.Calls.{BrokeOff, IsOfLinks, WasGivenUp, WasPaced, WasServed}
 use Rattle.live_run.specs.Opened.{LeadsAll, LeadsSome}
 use Rattle.live_run.specs.Reports.{end_of}
 use Rattle.live_watch.specs.Watched.{WasWatched}
@@ -28,12 +31,13 @@ use Rattle.command_spec.specs.Outcomes.{Outcome, Served, outcome, outcome_from, 
 use Rattle.command_spec.specs.Serving.{serves_read, serving}
 use Rattle.command_spec.specs.Messages.{Ending, status_of}
 use Rattle.rtt_top.specs.Conferences.{ending_name, fault_of_live, name_of, serving_of}
-use Rattle.rtt_top.specs.Faults.{Stops}
+use Rattle.rtt_top.specs.Faults.{Stops, is_check}
 use Rattle.rtt_top.specs.Outside.{Failed, LinksLeft, Output, Outside, output_at}
 use Rattle.rtt_top.specs.Ports.{LegFailed}
 use Rattle.rtt_top.specs.Runs.{Prints, PrintsFront, Ends, Runs}
-use Rattle.rtt_top.specs.Lives.{EndsServing, Front, GivesUp, IsGivenUp, IsGivenUpFrom, IsServedFrom, OnGivenUp, RunsGivenUp, ServedAs, IsServedTo, IsWatchedTo, LiveEnds, PrintsReport, ServingEnds, RunsLive, RunsWatched, Share, Whole, is_unserved, status_at}
+use Rattle.rtt_top.specs.Lives.{EndsServing, Front, GivesUp, IsGivenUp, IsGivenUpFrom, IsServedFrom, OnGivenUp, RunsCall, ServedAs, IsServedTo, IsWatchedTo, LiveEnds, PrintsReport, ServingEnds, Share, Whole, is_unserved, status_at}
 use Rattle.rtt_top.specs.Statuses.{is_unread}
+use Rattle.rtt_top.proofs.Statused.{other}
 use Rattle.rtt_top.proofs.Working.{lies}
 use Rattle.rtt_top.proofs.Ending.{runs}
 
@@ -58,9 +62,8 @@ pub was_served : (LinksTell : Type 0) (old new : LinksLeft) (octets : List ℕ) 
 was_served LinksTell old new octets c end printed read w paused paced leads opened calm = record {
   takes = w.takes;
   given = w.given;
-  call = w.served;
   keeps = w.keeps octets read;
-  turned = w.paced;
+  turned = λ t. subst (λ (s : IsServed c w.takes w.given (end_of end) printed). WasPaced c s.table) (sym (w.same octets read)) (w.paced t);
   taken = w.taken;
   gave = w.gave;
   leads = leads;
@@ -79,8 +82,8 @@ was_watched LinksTell old new octets c end printed read w paused paced leads ope
   views = w.views;
   lines = w.lines;
   served = was_served LinksTell old new octets c end w.views read w.was paused paced leads opened calm;
-  call = w.was.served;
-  board = w.board;
+  board = subst (λ (s : IsServed c w.was.takes w.was.given (end_of end) w.views). IsBoardOf c w.was.takes s.table (end_of end) w.lines) (sym (w.was.same octets read)) w.board;
+  covers = covers_told c w.was.takes w.was.given (end_of end) w.views (w.was.keeps octets read);
   printed_is = w.printed_is;
 }
 
@@ -282,43 +285,15 @@ pub not_begun : (Told : Type 0) (held : Contents) (c : Command) (Call Object Wor
     → GivesUp WorldTells LinksTell m old new status
 not_begun Told held c Call Object WorldTells LinksTell m old new status fault s is same = record { failed = λ at. absurd (not_a_link Told held c Call Object fault s (sym is ∙ at)); no_memory = λ at. inr same }
 
-same_live : (m k : MixWords) → Some (Live m) ≡ Some (Live k) → m ≡ k
-same_live m k e = cc e
-
-same_watched : (m k : MixWords) → Some (Watch m) ≡ Some (Watch k) → m ≡ k
-same_watched m k e = cc e
-
-pub runs_given_up_live : {words : Option Command} {WorldTells LinksTell : Type 0} {old new : Outside} {status : ℕ} (m : MixWords) → words ≡ Some (Live m) → GivesUp WorldTells LinksTell m old new status → RunsGivenUp words WorldTells LinksTell old new status
-runs_given_up_live {words} {WorldTells} {LinksTell} {old} {new} {status} m is g k (inl e) = subst (λ w. GivesUp WorldTells LinksTell w old new status) (same_live m k (sym is ∙ e)) g
-runs_given_up_live m is g k (inr e) = absurd (cc (is, e))
-
-pub runs_given_up_watched : {words : Option Command} {WorldTells LinksTell : Type 0} {old new : Outside} {status : ℕ} (m : MixWords) → words ≡ Some (Watch m) → GivesUp WorldTells LinksTell m old new status → RunsGivenUp words WorldTells LinksTell old new status
-runs_given_up_watched {words} {WorldTells} {LinksTell} {old} {new} {status} m is g k (inr e) = subst (λ w. GivesUp WorldTells LinksTell w old new status) (same_watched m k (sym is ∙ e)) g
-runs_given_up_watched m is g k (inl e) = absurd (cc (is, e))
-
--- whoever asks so for a live call of the same file had it served
-served_as_asked : (asks : MixWords → Command) (S : Conf → served.End → List ℕ → Type 0) (WorldTells OutTells : Type 0) (old new : Outside) (m : MixWords) (status : ℕ)
-    → ((k : MixWords) → Some (asks m) ≡ Some (asks k) → m ≡ k) → ((share : Share) → status ≡ status_at share → IsServedFrom share S WorldTells OutTells m old new)
-    → (share : Share) → status ≡ status_at share → (k : MixWords) → Some (asks m) ≡ Some (asks k) → IsServedFrom share S WorldTells OutTells k old new
-served_as_asked asks S WorldTells OutTells old new m status same served share at k e =
-    subst (λ w. IsServedFrom share S WorldTells OutTells w old new) (same k e) (served share at)
-
-pub runs_live : {words : Option Command} {WorldTells OutTells LinksTell : Type 0} {old new : Outside} {status : ℕ} (m : MixWords) → words ≡ Some (Live m)
-    → ((share : Share) → status ≡ status_at share → IsServedFrom share (λ c. IsServedTo c LinksTell old.links new.links) WorldTells OutTells m old new) → RunsLive words WorldTells OutTells LinksTell old new status
-runs_live {words} {WorldTells} {OutTells} {LinksTell} {old} {new} {status} m is served =
-    subst (λ w. RunsLive w WorldTells OutTells LinksTell old new status) (sym is)
-    (served_as_asked Live (λ c. IsServedTo c LinksTell old.links new.links) WorldTells OutTells old new m status (λ k e. cc e) served)
-
-pub runs_watched : {words : Option Command} {WorldTells OutTells LinksTell : Type 0} {old new : Outside} {status : ℕ} (m : MixWords) → words ≡ Some (Watch m)
-    → ((share : Share) → status ≡ status_at share → IsServedFrom share (λ c. IsWatchedTo c LinksTell old.links new.links) WorldTells OutTells m old new) → RunsWatched words WorldTells OutTells LinksTell old new status
-runs_watched {words} {WorldTells} {OutTells} {LinksTell} {old} {new} {status} m is served =
-    subst (λ w. RunsWatched w WorldTells OutTells LinksTell old new status) (sym is)
-    (served_as_asked Watch (λ c. IsWatchedTo c LinksTell old.links new.links) WorldTells OutTells old new m status (λ k e. cc e) served)
+-- what was asked for is a call that was served, or given up, so
+pub runs_call : (words : Option Command) (c : Command) (WorldTells OutTells LinksTell : Type 0) (old new : Outside) (status : ℕ) → words ≡ Some c
+    → RunsCall (Some c) WorldTells OutTells LinksTell old new status → RunsCall words WorldTells OutTells LinksTell old new status
+runs_call words c WorldTells OutTells LinksTell old new status is call = subst (λ w. RunsCall w WorldTells OutTells LinksTell old new status) (sym is) call
 
 -- a live call that was served of a file ended as a command that serves the same file
-pub runs_served : {words : Option Command} {file : List ℕ} {WorldTells OutTells ErrTells : Type 0} {old new : Outside} {before after : Output} {status : ℕ} (c : Command) → words ≡ Some c
+pub runs_served : {words : Option Command} {file : List ℕ} {WorldTells OutTells ErrTells : Type 0} {old new : Outside} {before after : Output} {status : ℕ} (c : Command) → words ≡ Some c → is_check c ≡ false
     → ((name : List ℕ) (ending : Ending) → Ends (serving_of file) WorldTells OutTells old new name ending → Ends c WorldTells OutTells old new name ending)
     → EndsServing file WorldTells OutTells ErrTells old new before after status → Runs words WorldTells OutTells ErrTells old new before after status
-runs_served {words} {file} {WorldTells} {OutTells} {ErrTells} {old} {new} {before} {after} {status} c is same e =
+runs_served {words} {file} {WorldTells} {OutTells} {ErrTells} {old} {new} {before} {after} {status} c is off same e =
     subst (λ w. Runs w WorldTells OutTells ErrTells old new before after status) (sym is)
-    (runs e.ending e.name e.is_status (same e.name e.ending e.ends) e.silent e.front e.told)
+    (runs e.ending e.name (other c WorldTells old.contents e.ending status off e.is_status) (same e.name e.ending e.ends) e.silent e.front e.told)

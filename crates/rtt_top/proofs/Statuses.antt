@@ -2,7 +2,7 @@
 use Rattle.std.proofs.Common.{◌≡◌, ◌∙◌, ℕ, Bool, true, false, true≢false, Option, Some, None, List, [], Result, Ok, Err, refl, ap, sym, subst}
 use Rattle.wire_spec.specs.Dump.{dump, usual_limit}
 use Rattle.wire_spec.specs.Dump as dumps
-use Rattle.rtt_words.specs.Words.{Command, Read, ListRecords, Send, Mix, Attend, Cascade, Make, Live, Watch, Relay, Channel, Show, Script, Version}
+use Rattle.rtt_words.specs.Words.{Command, Read, ListRecords, Send, Mix, Attend, Cascade, Make, Live, Watch, Relay, Channel, Show, Script, Check, Help, Version}
 use Rattle.command_spec.specs.declared.faults.Refusal.{Refusal}
 use Rattle.command_spec.specs.declared.faults.Refusal.TheVariants.{AtByte, AtFrame, AtLine, AtTrunk, AfterTurns}
 use Rattle.command_spec.specs.declared.faults.Fault.TheVariants.{WrongWords, CannotOpen, CannotRead, Refused, CannotPrint, CannotWrite, LinkFailed, NoMemory}
@@ -18,7 +18,8 @@ use Rattle.command_spec.specs.Messages.{Ending, status_of}
 use Rattle.rtt_top.specs.Faults.{RefusesSo, has_frames, is_live, is_mixed, is_recording}
 use Rattle.rtt_top.specs.Outside.{Outside}
 use Rattle.rtt_top.specs.Runs.{Ends, IsInputOf}
-use Rattle.rtt_top.specs.Statuses.{EndsAsItCan, can_end}
+use Rattle.rtt_top.proofs.Statused.{can_be}
+use Rattle.rtt_top.specs.Statuses.{EndsAsItCan, HelpNamesThem, can_end}
 
 -- a line is refused
 abbrev is_of_line : Refusal → Bool
@@ -72,6 +73,8 @@ by_kind (Relay s) n = (off, λ e. refl, off, off)
 by_kind (Channel c) n = (λ e. refl, λ e. refl, off, off)
 by_kind (Show l) n = (λ e. refl, off, off, off)
 by_kind (Script r) n = (λ e. refl, off, off, off)
+by_kind (Check c) n = (off, off, off, off)
+by_kind (Help t) n = (off, off, off, off)
 by_kind Version n = (off, off, off, off)
 
 module _ (WorldTells : Type 0) (old : Outside) (n : ℕ) (name : List ℕ) where
@@ -96,6 +99,8 @@ module _ (WorldTells : Type 0) (old : Outside) (n : ℕ) (name : List ℕ) where
   )
   with_input (Show l) i = (refl, refl, λ refusal line r. absurd (no_line WorldTells old.contents (show_refusal r.0) (Makes _ []) n refusal line (λ none. none) r.2))
   with_input (Script q) i = (refl, refl, λ refusal line r. absurd (no_line WorldTells old.contents (dump usual_limit r.0).fault (Makes _ []) n refusal line (λ none. none) r.2))
+  with_input (Check c) i = (refl, refl, λ refusal line r. absurd r.2)
+  with_input (Help t) i = absurd i
   with_input Version i = absurd i
 
 ends_so : (c : Command) (WorldTells OutTells : Type 0) (old new : Outside) (name : List ℕ) (ending : Ending) → Ends c WorldTells OutTells old new name ending → can_end c (status_of ending) ≡ true
@@ -115,4 +120,23 @@ ends_so c WorldTells OutTells old new name (Err NoMemory) e = (always c).2
 
 pub can : (WorldTells OutTells ErrTells : Type 0) → EndsAsItCan WorldTells OutTells ErrTells
 can WorldTells OutTells ErrTells c old new before after status r =
-    subst (λ s. can_end c s ≡ true) (sym r.is_status) (ends_so c WorldTells OutTells old new r.name r.ending r.ends)
+    can_be c WorldTells old.contents r.ending status r.is_status (ends_so c WorldTells OutTells old new r.name r.ending r.ends)
+
+-- `help` names them
+pub named : HelpNamesThem
+named (Read r) = refl
+named (ListRecords l) = refl
+named (Send s) = refl
+named (Mix m) = refl
+named (Attend m) = refl
+named (Cascade c) = refl
+named (Make m) = refl
+named (Live m) = refl
+named (Watch m) = refl
+named (Relay s) = refl
+named (Channel c) = refl
+named (Show l) = refl
+named (Script r) = refl
+named (Check c) = refl
+named (Help t) = refl
+named Version = refl

@@ -8,7 +8,7 @@ use Rattle.command_spec.specs.declared.faults.Refusal.{Refusal}
 use Rattle.command_spec.specs.declared.faults.Refusal.TheVariants.{AtByte, AtFrame, AtLine, AtTrunk, AfterTurns}
 use Rattle.command_spec.specs.declared.faults.Fault.{Fault}
 use Rattle.command_spec.specs.declared.faults.Fault.TheVariants.{WrongWords, CannotOpen, CannotRead, Refused, CannotPrint, CannotWrite, LinkFailed, NoMemory}
-use Rattle.rtt_words.specs.Words.{Command, Read, ListRecords, Mix, Attend, Cascade, Make, Live, Watch, Relay, Channel, Show, Script}
+use Rattle.rtt_words.specs.Words.{Command, Read, ListRecords, Mix, Attend, Cascade, Make, Live, Watch, Relay, Channel, Show, Script, Check}
 use Rattle.command_spec.specs.Work.{Contents, Steps, Reads, Refuses, Makes, Serves}
 use Rattle.rtt_words.specs.Tasks.{work}
 use Rattle.command_spec.specs.Outcomes.{Outcome, Missing, Done, Served, outcome}
@@ -64,6 +64,11 @@ abbrev pub has_frames : Command → Bool
 has_frames (Relay s) = true
 has_frames (Channel c) = true
 has_frames _ = false
+
+-- a file is looked at
+abbrev pub is_check : Command → Bool
+is_check (Check c) = true
+is_check _ = false
 
 -- a live call is served
 abbrev pub is_live : Command → Bool

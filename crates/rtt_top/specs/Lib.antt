@@ -15,3 +15,4 @@ pub mod Frames
 pub mod RecordingViews
 pub mod Recorded
 pub mod Conversions
+pub mod Looks

@@ -8,8 +8,8 @@ use Rattle.rtt_io.specs.Fronts.{TakesFront}
 use Rattle.command_spec.specs.Messages.{Ending, status_of}
 use Rattle.rtt_words.specs.Told.{message_of}
 use Rattle.rtt_words.specs.Words.{MixWords, Command, Live, Watch}
-use Rattle.serve_spec.specs.Served.{End, Done, Closed, IsServed}
-use Rattle.serve_spec.specs.Watched.{IsBoardOf}
+use Rattle.serve_spec.specs.Served.{End, Done, Closed}
+use Rattle.serve_spec.specs.Watched.{CoversTold, IsBoardOf}
 use Rattle.serve_spec.specs.HeadLive.{HeadLive}
 use Rattle.live_loop.specs.Clocks.{IsPaced}
 use Rattle.live_loop.specs.Walks.{IsPaused}
@@ -36,9 +36,8 @@ use Rattle.rtt_top.specs.Statuses.{is_unread}
 pub record IsServedTo (c : Conf) (LinksTell : Type 0) (old new : LinksLeft) (end : End) (printed : List ℕ) : Type 0 where
   pub takes : ℕ → Takes
   pub given : ℕ → List (List ℕ)
-  pub call : IsServed c takes given end printed
   pub keeps : HeadLive c takes given end printed
-  pub turned : LinksTell → WasPaced c call.table
+  pub turned : LinksTell → WasPaced c keeps.served.table
   pub taken : LinksTell → AtPorts c new.taken takes
   pub gave : LinksTell → AtPorts c new.given given
   pub leads : LinksTell → LeadsAll c old.leads new.leads
@@ -47,13 +46,14 @@ pub record IsServedTo (c : Conf) (LinksTell : Type 0) (old new : LinksLeft) (end
   pub all_opened : (port : ℕ) → new.calls port ≡ old.calls port
   pub calm : end ≡ Closed → (port : ℕ) → new.ends port ≡ old.ends port
 
--- The same by `watch`: behind what is printed of a live call stand the lines of its board, which count what the mixer took in it.
+-- The same by `watch`: behind what is printed of a live call stand the lines of its board, which count what the mixer took in that very
+-- call: of each leg at least what any aware terminal was given of its text.
 pub record IsWatchedTo (c : Conf) (LinksTell : Type 0) (old new : LinksLeft) (end : End) (printed : List ℕ) : Type 0 where
   pub views : List ℕ
   pub lines : List ℕ
   pub served : IsServedTo c LinksTell old new end views
-  pub call : IsServed c served.takes served.given end views
-  pub board : IsBoardOf c served.takes call.table end lines
+  pub board : IsBoardOf c served.takes served.keeps.served.table end lines
+  pub covers : CoversTold c served.keeps.served.table
   pub printed_is : printed ≡ views ++ lines
 
 -- what serving a live call so means
@@ -122,16 +122,6 @@ pub record IsServedFrom (share : Share) (S : Conf → End → List ℕ → Type 
   pub served : S conference end printed
   pub prints : OutTells → PrintsShare share printed old new
 
--- where a live call is asked for, and the status is 0 or 7, one was served so
-abbrev pub RunsLive : Option Command → (WorldTells OutTells LinksTell : Type 0) → Outside → Outside → ℕ → Type 0
-RunsLive words WorldTells OutTells LinksTell old new status =
-    (share : Share) → status ≡ status_at share → (m : MixWords) → words ≡ Some (Live m) → IsServedFrom share (λ c. IsServedTo c LinksTell old.links new.links) WorldTells OutTells m old new
-
--- where `watch` is asked for, and the status is 0 or 7, one was served so
-abbrev pub RunsWatched : Option Command → (WorldTells OutTells LinksTell : Type 0) → Outside → Outside → ℕ → Type 0
-RunsWatched words WorldTells OutTells LinksTell old new status =
-    (share : Share) → status ≡ status_at share → (m : MixWords) → words ≡ Some (Watch m) → IsServedFrom share (λ c. IsWatchedTo c LinksTell old.links new.links) WorldTells OutTells m old new
-
 -- A live call of the conference was given up. Where the links tell it, the links that were opened are those of some legs, from the
 -- first one on, each from its port to its peer, and no other. It broke off, or no terminal was given anything.
 pub record IsGivenUp (c : Conf) (LinksTell : Type 0) (old new : LinksLeft) : Type 0 where
@@ -157,13 +147,16 @@ pub record GivesUp (WorldTells LinksTell : Type 0) (m : MixWords) (old new : Out
   pub failed : status ≡ 8 → IsGivenUpFrom WorldTells LinksTell m old new
   pub no_memory : status ≡ 70 → IsGivenUpFrom WorldTells LinksTell m old new ⊎ (new.links ≡ old.links)
 
--- a live call of the conference in this file is asked for, alone or with a board
-abbrev pub AsksForCall : Option Command → MixWords → Type 0
-AsksForCall words m = (words ≡ Some (Live m)) ⊎ (words ≡ Some (Watch m))
+-- A live call of the conference in this file was served so, at the status 0 or 7, or given up so, at 8 or 70.
+pub record IsCallOf (S : Conf → End → List ℕ → Type 0) (WorldTells OutTells LinksTell : Type 0) (m : MixWords) (old new : Outside) (status : ℕ) : Type 0 where
+  pub served : (share : Share) → status ≡ status_at share → IsServedFrom share S WorldTells OutTells m old new
+  pub given_up : GivesUp WorldTells LinksTell m old new status
 
--- where a live call is asked for, and the status is 8 or 70, it was given up so
-abbrev pub RunsGivenUp : Option Command → (WorldTells LinksTell : Type 0) → Outside → Outside → ℕ → Type 0
-RunsGivenUp words WorldTells LinksTell old new status = (m : MixWords) → AsksForCall words m → GivesUp WorldTells LinksTell m old new status
+-- where a live call is asked for, alone or with a board, one was made so
+abbrev pub RunsCall : Option Command → (WorldTells OutTells LinksTell : Type 0) → Outside → Outside → ℕ → Type 0
+RunsCall (Some (Live m)) WorldTells OutTells LinksTell old new = IsCallOf (λ c. IsServedTo c LinksTell old.links new.links) WorldTells OutTells LinksTell m old new
+RunsCall (Some (Watch m)) WorldTells OutTells LinksTell old new = IsCallOf (λ c. IsWatchedTo c LinksTell old.links new.links) WorldTells OutTells LinksTell m old new
+RunsCall _ WorldTells OutTells LinksTell old new = λ status. Unit {0}
 
 -- the status says that the conference can't be read (3, 4) or is refused (5), so that no live call began
 abbrev pub is_unserved : ℕ → Bool

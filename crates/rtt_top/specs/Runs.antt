@@ -3,7 +3,7 @@
 use Rattle.std.specs.Prelude.{◌≡◌, ◌⊎◌, ◌<◌, ◌≤◌, ℕ, Bool, true, false, Option, None, Some, List, [], ◌∷◌, ◌++◌, take, Ok, Err, suc, zero, map, String, string_bytes}
 use Rattle.std.specs.Global.{Global}
 use Rattle.rtt_io.specs.Fronts.{TakesFront}
-use Rattle.rtt_words.specs.Words.{ReadWords, MixWords, CascadeWords, Command, Read, Mix, Attend, Cascade, Make, Live, Watch, command}
+use Rattle.rtt_words.specs.Words.{ReadWords, Command, Read, Mix, Attend, Cascade, Make, Live, Watch, Check, CheckWords, command}
 use Rattle.stream_spec.specs.History.{History, Lawful, Come}
 use Rattle.command_spec.specs.declared.faults.Refusal.TheVariants.{AtByte, AtFrame, AtLine, AtTrunk, AfterTurns}
 use Rattle.command_spec.specs.declared.faults.Fault.TheVariants.{WrongWords, CannotOpen, CannotRead, Refused, CannotPrint, CannotWrite, LinkFailed, NoMemory}
@@ -16,6 +16,7 @@ use Rattle.command_spec.specs.Cascaded.{IsCascaded}
 use Rattle.command_spec.specs.Reading.{arrivals_of, history_view}
 use Rattle.rtt_words.specs.Tasks.{request_of, work}
 use Rattle.command_spec.specs.Messages.{Ending, ending_of, status_of}
+use Rattle.check_spec.specs.Checking.{report}
 use Rattle.rtt_words.specs.Told.{message_of}
 use Rattle.rtt_top.specs.Faults.{NoneBefore, RefusesSo, WhereRead, has_frames, is_live, is_mixed, is_recording}
 use Rattle.rtt_top.specs.Files.{IsPartlyStored}
@@ -161,6 +162,22 @@ abbrev pub RunEnds : Option Command → (WorldTells OutTells : Type 0) → Outsi
 RunEnds None WorldTells OutTells old new name ending = IsOfWords ending × Unchanged WorldTells OutTells old new
 RunEnds (Some c) WorldTells OutTells old new name ending = Ends c WorldTells OutTells old new name ending
 
+-- 0 where a file is taken, else 1
+abbrev pub found_status : Bool → ℕ
+found_status true = 0
+found_status false = 1
+
+-- the status says whether the file is taken that lies there, as far as that is told
+pub record IsFound (w : CheckWords) (WorldTells : Type 0) (held : Contents) (status : ℕ) : Type 0 where
+  pub taken : Bool
+  pub is_status : status ≡ found_status taken
+  pub is_taken : WorldTells → (octets : List ℕ) → held w.file ≡ Some octets → taken ≡ (report w.file octets).taken
+
+-- the status is that of the ending; where `check` has looked at a file, that of what was found
+abbrev pub HasStatus : Option Command → (WorldTells : Type 0) → Contents → Ending → ℕ → Type 0
+HasStatus (Some (Check w)) WorldTells held (Ok done) status = IsFound w WorldTells held status
+HasStatus words WorldTells held ending status = status ≡ status_of ending
+
 -- a recording that is read, whose packets are those of a history, and the view of that history
 pub record IsViewOf (h : History) (words : Option Command) (held : Contents) (view : List ℕ) : Type 0 where
   pub request : ReadWords
@@ -170,38 +187,32 @@ pub record IsViewOf (h : History) (words : Option Command) (held : Contents) (vi
   pub come : Come h (arrivals_of (request_of request) octets)
   pub view_is : view ≡ history_view h (request_of request) octets
 
--- What was made of a conference is bridged: the headline, from its files to what lies there then and what was printed.
-pub record IsHeadline (OutTells : Type 0) (m : MixWords) (old new : Outside) : Type 0 where
+-- What lay in files, what lies there then, and what was printed are as this says.
+pub record IsMadeOf (Says : Contents → Contents → List ℕ → Type 0) (OutTells : Type 0) (old new : Outside) : Type 0 where
   pub printed : List ℕ
   pub prints : OutTells → Prints printed old new
-  pub bridged : IsBridged old.contents new.contents m.conf printed
+  pub made : Says old.contents new.contents printed
 
--- What was made of a conference with the names and the leavings that its inputs tell is bridged.
-pub record IsAttendedHeadline (OutTells : Type 0) (m : MixWords) (old new : Outside) : Type 0 where
-  pub printed : List ℕ
-  pub prints : OutTells → Prints printed old new
-  pub attended : IsAttended old.contents new.contents m.conf printed
-
--- What was made of a conference behind another mixer is bridged, behind both mixers.
-pub record IsCascadedHeadline (OutTells : Type 0) (w : CascadeWords) (old new : Outside) : Type 0 where
-  pub printed : List ℕ
-  pub prints : OutTells → Prints printed old new
-  pub cascaded : IsCascaded old.contents new.contents w.conf w.file w.ssrc printed
+-- What a command makes of a conference is bridged: the headline, from its files to what lies there then and what was printed. With
+-- `attend` it is so under the names and leavings that its inputs tell, with `cascade` behind both mixers.
+abbrev pub IsMadeBy : Command → (OutTells : Type 0) → Outside → Outside → Type 0
+IsMadeBy (Mix m) = IsMadeOf (λ held after. IsBridged held after m.conf)
+IsMadeBy (Attend m) = IsMadeOf (λ held after. IsAttended held after m.conf)
+IsMadeBy (Cascade w) = IsMadeOf (λ held after. IsCascaded held after w.conf w.file w.ssrc)
+IsMadeBy _ = λ OutTells old new. Unit {0}
 
 -- What a run is that ends with this status, where the output of errors was and is such.
 pub record Runs (words : Option Command) (WorldTells OutTells ErrTells : Type 0) (old new : Outside) (before after : Output)
     (status : ℕ) : Type 0 where
   pub ending : Ending
   pub name : List ℕ
-  pub is_status : status ≡ status_of ending
+  pub is_status : HasStatus words WorldTells old.contents ending status
   pub ends : RunEnds words WorldTells OutTells old new name ending
   pub calm : (c : Command) → words ≡ Some c → WhereRead (work c).steps WorldTells
       → IsCalm (work c) WorldTells old new → IsAsWorked (work c) old ending
   pub kept : WorldTells → OutTells → ending ≡ Ok tt → (h : History) → Lawful h → (view : List ℕ)
       → IsViewOf h words old.contents view → Prints view old new
-  pub headline : WorldTells → ending ≡ Ok tt → (m : MixWords) → words ≡ Some (Mix m) → IsHeadline OutTells m old new
-  pub attended : WorldTells → ending ≡ Ok tt → (m : MixWords) → words ≡ Some (Attend m) → IsAttendedHeadline OutTells m old new
-  pub cascaded : WorldTells → ending ≡ Ok tt → (w : CascadeWords) → words ≡ Some (Cascade w) → IsCascadedHeadline OutTells w old new
+  pub made : WorldTells → ending ≡ Ok tt → (c : Command) → words ≡ Some c → IsMadeBy c OutTells old new
   pub silent : ending ≡ Ok tt → after.octets ≡ before.octets
   pub front : ErrTells → TakesFront before.octets after.octets (message_of name ending)
   pub told : ErrTells → (Failed before after → ⊥) → after.octets ≡ before.octets ++ message_of name ending

@@ -1,8 +1,12 @@
 -- What a sink took between two moments.
-use Rattle.std.specs.Prelude.{◌≡◌, ℕ, List, ◌++◌, Result, OnOk, OnErr, codes}
+use Rattle.std.specs.Prelude.{◌≡◌, ℕ, Bool, ◌&&◌, nat_le, List, ◌++◌, Result, OnOk, OnErr, codes}
 use Rattle.rtt_io.specs.Counts.{Rose}
 use Rattle.rtt_io.specs.Fronts.{TakesFront}
 use Rattle.rtt_io.specs.declared.sinks.Sink as sinks
+
+-- an octet of ASCII that prints
+abbrev pub is_plain_octet : ℕ → Bool
+is_plain_octet octet = nat_le 0x20 octet && nat_le octet 0x7E
 
 -- where in a file of this name something is refused, and why
 abbrev pub place_message : List ℕ → List ℕ → List ℕ → List ℕ → List ℕ

@@ -5,7 +5,9 @@ ghost use Rattle.rtt_top.specs.Faults.{is_live};
 ghost use Rattle.rtt_top.specs.Runs.{is_plain};
 ghost use Rattle.rtt_top.specs.Across.{RunsAcross};
 
+use crate::check::run_check;
 use crate::conversions::{Conversion, run_conversion};
+use crate::help::run_help;
 use crate::make::run_make;
 use crate::recorded::{Mixing, run_mixing};
 use crate::recordings::run_view;
@@ -59,6 +61,8 @@ pub fn carry_out_plain<W: World, K: Sink, E: Sink>(
             let recording = Conversion::Recording(*words);
             Some(run_conversion(alloc, &recording, world, out, err))
         }
+        Command::Check(words) => Some(run_check(alloc, words, world, out, err)),
+        Command::Help(topic) => Some(run_help(*topic, world, out, err)),
         Command::Version => Some(run_version(world, out, err)),
         Command::Mix(_)
         | Command::Attend(_)
@@ -105,6 +109,8 @@ pub fn carry_out<R: Threads + Wait + Sync, W: World, K: Sink, E: Sink, G: Gate +
         | Command::Channel(_)
         | Command::Show(_)
         | Command::Script(_)
+        | Command::Check(_)
+        | Command::Help(_)
         | Command::Version => unreachable!(),
     }
 }

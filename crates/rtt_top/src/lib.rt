@@ -2,10 +2,12 @@
 #![tactic(auto)]
 
 mod channel;
+mod check;
 mod commands;
 mod conferences;
 mod conversions;
 mod files;
+mod help;
 pub mod laws;
 mod make;
 mod messages;
@@ -17,6 +19,7 @@ mod relay;
 mod runs;
 mod send;
 mod serving;
+mod told;
 mod trunk;
 mod version;
 mod views;

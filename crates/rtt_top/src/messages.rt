@@ -2,18 +2,21 @@
 ghost use Rattle.std.specs.Prelude.{◌≡◌, ◌++◌, ◌≤◌, decimal, Ok, OnErr, IfErr};
 ghost use Rattle.std.specs.List.{concat};
 ghost use Rattle.rtt_io.specs.Counts.{Rose};
-ghost use Rattle.command_spec.specs.Messages.{refusal_status, fault_status, status_of, refusal_message, trouble, byte_message, line_message, conf_kind_name, frame_kind_name};
-ghost use Rattle.rtt_words.specs.Told.{fault_message, message_of};
+ghost use Rattle.command_spec.specs.Messages.{refusal_status, fault_status, status_of, refusal_message, trouble, byte_message, line_message};
+ghost use Rattle.rtt_words.specs.Told.{fault_message, message_of, told_name};
 ghost use Rattle.rtt_top.specs.Faults.{message_in};
 ghost use Rattle.rtt_top.specs.Sinks.{Wrote, WrotePartly, TookFront, TookIfCalm, place_message};
 
 use crate::names::ending_name;
+use crate::told::write_name;
 use command_spec::{Fault, Refusal, dump_kind_name};
 use file_spec::ConfKind;
 use frame_spec::FrameKind;
 use itoa::Buffer;
 use rtt_base::{Bytes, Failed};
+use rtt_check::{conf_kind_name, frame_kind_name};
 use rtt_io::Sink;
+use rtt_words::{Topic, help_text};
 
 /// The program's status for a refusal.
 fn refusal_status(refusal: Refusal) -> u8
@@ -41,43 +44,6 @@ pub fn status(fault: Fault) -> u8
     }
 }
 
-fn conf_kind_name(kind: ConfKind) -> &'static [u8]
-    ensures { result.now ≡ conf_kind_name kind }
-{
-    match kind {
-        ConfKind::NotText => b"NotText",
-        ConfKind::Word => b"Word",
-        ConfKind::Count => b"Count",
-        ConfKind::Name => b"Name",
-        ConfKind::Number => b"Number",
-        ConfKind::Many => b"Many",
-        ConfKind::PlanMany => b"PlanMany",
-        ConfKind::Twice => b"Twice",
-        ConfKind::Clash => b"Clash",
-        ConfKind::Few => b"Few",
-        ConfKind::Crowd => b"Crowd",
-        ConfKind::Large => b"Large",
-        ConfKind::Order => b"Order",
-        ConfKind::Escape => b"Escape",
-        ConfKind::Long => b"Long",
-        ConfKind::Full => b"Full",
-    }
-}
-
-fn frame_kind_name(kind: FrameKind) -> &'static [u8]
-    ensures { result.now ≡ frame_kind_name kind }
-{
-    match kind {
-        FrameKind::Time => b"Time",
-        FrameKind::Length => b"Length",
-        FrameKind::TooLarge => b"TooLarge",
-        FrameKind::NotText => b"NotText",
-        FrameKind::EndsInside => b"EndsInside",
-        FrameKind::Full => b"Full",
-        FrameKind::ManyFrames => b"ManyFrames",
-    }
-}
-
 /// Writes two pieces, one after the other.
 #[tactic(auto, using(crate::proofs::Counts::rose_since, crate::proofs::Counts::rose_before))]
 fn write_two<E: Sink>(err: &mut E, first: &[u8], second: &[u8]) -> Result<(), Failed>
@@ -92,41 +58,43 @@ fn write_two<E: Sink>(err: &mut E, first: &[u8], second: &[u8]) -> Result<(), Fa
 
 /// Writes what went wrong with a file or a leg.
 #[tactic(auto, using(crate::proofs::Counts::rose_since, crate::proofs::Counts::rose_before))]
-fn write_trouble<E: Sink>(err: &mut E, what: &[u8], name: &[u8]) -> Result<(), Failed>
+fn write_trouble<E: Sink>(err: &mut E, what: &[u8], name: &str) -> Result<(), Failed>
     ensures never_falls { E.faults err.old ≤ E.faults err.new }
     ensures failed { OnErr result (Rose (E.faults err.old) (E.faults err.new)) }
-    ensures written { Wrote E.Sink err.old err.new (trouble what.now name.now) result }
-    ensures partly { WrotePartly E.Sink err.old err.new (trouble what.now name.now) result }
+    ensures written { Wrote E.Sink err.old err.new (trouble what.now (told_name name.now)) result }
+    ensures partly { WrotePartly E.Sink err.old err.new (trouble what.now (told_name name.now)) result }
 {
     err.write_all(what)?;
-    write_two(err, name, b"\n")
+    write_name(err, name)?;
+    err.write_all(b"\n")
 }
 
 /// Writes where in a file of this name something is refused, and why.
 #[tactic(auto, using(crate::proofs::Counts::rose_since, crate::proofs::Counts::rose_before))]
 fn write_place<E: Sink>(
     err: &mut E,
-    name: &[u8],
+    name: &str,
     unit: &[u8],
     number: &[u8],
     why: &[u8],
 ) -> Result<(), Failed>
     ensures never_falls { E.faults err.old ≤ E.faults err.new }
     ensures failed { OnErr result (Rose (E.faults err.old) (E.faults err.new)) }
-    ensures written { Wrote E.Sink err.old err.new (place_message name.now unit.now number.now why.now) result }
-    ensures partly { WrotePartly E.Sink err.old err.new (place_message name.now unit.now number.now why.now) result }
+    ensures written { Wrote E.Sink err.old err.new (place_message (told_name name.now) unit.now number.now why.now) result }
+    ensures partly { WrotePartly E.Sink err.old err.new (place_message (told_name name.now) unit.now number.now why.now) result }
 {
-    write_two(err, name, unit)?;
+    write_name(err, name)?;
+    err.write_all(unit)?;
     write_two(err, number, b": ")?;
     write_two(err, why, b"\n")
 }
 
 /// Writes at which byte a file is refused, and why.
-fn write_byte<E: Sink>(err: &mut E, name: &[u8], byte: u64, why: &[u8]) -> Result<(), Failed>
+fn write_byte<E: Sink>(err: &mut E, name: &str, byte: u64, why: &[u8]) -> Result<(), Failed>
     ensures never_falls { E.faults err.old ≤ E.faults err.new }
     ensures failed { OnErr result (Rose (E.faults err.old) (E.faults err.new)) }
-    ensures written { Wrote E.Sink err.old err.new (byte_message name.now byte why.now) result }
-    ensures partly { WrotePartly E.Sink err.old err.new (byte_message name.now byte why.now) result }
+    ensures written { Wrote E.Sink err.old err.new (byte_message (told_name name.now) byte why.now) result }
+    ensures partly { WrotePartly E.Sink err.old err.new (byte_message (told_name name.now) byte why.now) result }
 {
     let mut digits = Buffer::new();
     let number = digits.format(byte).as_bytes();
@@ -134,11 +102,11 @@ fn write_byte<E: Sink>(err: &mut E, name: &[u8], byte: u64, why: &[u8]) -> Resul
 }
 
 /// Writes which line of a file is refused, and why.
-fn write_line<E: Sink>(err: &mut E, name: &[u8], line: u32, why: &[u8]) -> Result<(), Failed>
+fn write_line<E: Sink>(err: &mut E, name: &str, line: u32, why: &[u8]) -> Result<(), Failed>
     ensures never_falls { E.faults err.old ≤ E.faults err.new }
     ensures failed { OnErr result (Rose (E.faults err.old) (E.faults err.new)) }
-    ensures written { Wrote E.Sink err.old err.new (line_message name.now line why.now) result }
-    ensures partly { WrotePartly E.Sink err.old err.new (line_message name.now line why.now) result }
+    ensures written { Wrote E.Sink err.old err.new (line_message (told_name name.now) line why.now) result }
+    ensures partly { WrotePartly E.Sink err.old err.new (line_message (told_name name.now) line why.now) result }
 {
     let mut digits = Buffer::new();
     let number = digits.format(line).as_bytes();
@@ -164,30 +132,12 @@ fn write_counted<E: Sink>(
     write_two(err, number, after)
 }
 
-/// The lines of the commands.
-const USAGE: &[u8] = b"\
-usage: rtt_program read FILE SSRC [SOURCE [T140 RED]]
-       rtt_program list FILE [T140 RED]
-       rtt_program send SCRIPT OUT SSRC SEQ STAMP
-       rtt_program mix CONF
-       rtt_program attend CONF
-       rtt_program cascade FILE SSRC CONF
-       rtt_program make N
-       rtt_program live CONF
-       rtt_program watch CONF
-       rtt_program relay FRAMES OUT SSRC SEQ STAMP
-       rtt_program channel FILE SSRC OUT
-       rtt_program show FILE [T140 RED]
-       rtt_program script FILE SSRC [SOURCE [T140 RED]]
-       rtt_program version
-";
-
 /// Writes why what lies in a file of this name is refused.
-fn write_refusal<E: Sink>(err: &mut E, name: &[u8], refusal: Refusal) -> Result<(), Failed>
+fn write_refusal<E: Sink>(err: &mut E, name: &str, refusal: Refusal) -> Result<(), Failed>
     ensures never_falls { E.faults err.old ≤ E.faults err.new }
     ensures failed { OnErr result (Rose (E.faults err.old) (E.faults err.new)) }
-    ensures written { Wrote E.Sink err.old err.new (refusal_message name.now refusal) result }
-    ensures partly { WrotePartly E.Sink err.old err.new (refusal_message name.now refusal) result }
+    ensures written { Wrote E.Sink err.old err.new (refusal_message (told_name name.now) refusal) result }
+    ensures partly { WrotePartly E.Sink err.old err.new (refusal_message (told_name name.now) refusal) result }
 {
     match refusal {
         Refusal::AtByte { byte, kind } => write_byte(err, name, byte, dump_kind_name(kind)),
@@ -201,14 +151,14 @@ fn write_refusal<E: Sink>(err: &mut E, name: &[u8], refusal: Refusal) -> Result<
 }
 
 /// Writes what is told of a fault whose file or leg has this name.
-fn write_message<E: Sink>(err: &mut E, name: &[u8], fault: Fault) -> Result<(), Failed>
+fn write_message<E: Sink>(err: &mut E, name: &str, fault: Fault) -> Result<(), Failed>
     ensures never_falls { E.faults err.old ≤ E.faults err.new }
     ensures failed { OnErr result (Rose (E.faults err.old) (E.faults err.new)) }
-    ensures written { Wrote E.Sink err.old err.new (fault_message name.now fault) result }
-    ensures partly { WrotePartly E.Sink err.old err.new (fault_message name.now fault) result }
+    ensures written { Wrote E.Sink err.old err.new (fault_message (told_name name.now) fault) result }
+    ensures partly { WrotePartly E.Sink err.old err.new (fault_message (told_name name.now) fault) result }
 {
     match fault {
-        Fault::WrongWords => err.write_all(USAGE),
+        Fault::WrongWords => err.write_all(help_text(Topic::Usage)),
         Fault::CannotOpen { .. } => write_trouble(err, b"cannot open ", name),
         Fault::CannotRead { .. } => write_trouble(err, b"cannot read ", name),
         Fault::Refused { refusal, .. } => write_refusal(err, name, refusal),
@@ -221,10 +171,10 @@ fn write_message<E: Sink>(err: &mut E, name: &[u8], fault: Fault) -> Result<(), 
 
 /// Tells of a fault in one line, or for wrong words in the lines of the usage text. A fault in telling it changes nothing.
 pub fn tell<E: Sink>(err: &mut E, name: &str, fault: Fault)
-    ensures told { E.tells → TookIfCalm E.Sink err.old err.new (fault_message name.now fault) }
-    ensures front { E.tells → TookFront E.Sink err.old err.new (fault_message name.now fault) }
+    ensures told { E.tells → TookIfCalm E.Sink err.old err.new (fault_message (told_name name.now) fault) }
+    ensures front { E.tells → TookFront E.Sink err.old err.new (fault_message (told_name name.now) fault) }
 {
-    let _ = write_message(err, name.as_bytes(), fault);
+    let _ = write_message(err, name, fault);
 }
 
 /// Tells how a command ended, where the file or the leg that is told of has this name, and answers the status.

@@ -51,6 +51,8 @@ pub enum Case<'a> {
     Silent(&'a str, u8, &'a str),
     /// Words outside the word table.
     Wrong(&'a str),
+    /// What lies in a file that the program does not take, and what `check` prints of it.
+    Untaken(&'a str, &'a str),
     /// A script that is sent, and what `read` then shows.
     Sent(&'a str, &'a str),
     /// Frames of 1001 that are relayed and come back, and the recording between.
@@ -106,7 +108,7 @@ const SEEN_BY_ANN: &str =
     "== Ann aware\nBob: \n-- Bob bells 0\n-- packets 0 used 0 refused 0 foreign 0\n";
 
 // What is told of words outside the word table.
-const USAGE: &str = "\
+pub const USAGE: &str = "\
 usage: rtt_program read FILE SSRC [SOURCE [T140 RED]]
 \x20      rtt_program list FILE [T140 RED]
 \x20      rtt_program send SCRIPT OUT SSRC SEQ STAMP
@@ -120,6 +122,8 @@ usage: rtt_program read FILE SSRC [SOURCE [T140 RED]]
 \x20      rtt_program channel FILE SSRC OUT
 \x20      rtt_program show FILE [T140 RED]
 \x20      rtt_program script FILE SSRC [SOURCE [T140 RED]]
+\x20      rtt_program check FILE
+\x20      rtt_program help [COMMAND]
 \x20      rtt_program version
 ";
 
@@ -373,6 +377,10 @@ fn is_right<R: Threads + Wait + Clock + Copy + Send + Sync + 'static>(
         }
         Case::Silent(words, status, told) => {
             ends(rt, alloc, world, Ran(words, *status, "", told))
+        }
+        Case::Untaken(octets, printed) => {
+            world.add_file("f", octets.as_bytes())?;
+            ends(rt, alloc, world, Ran("check f", 1, printed, ""))
         }
         Case::Wrong(words) => ends(rt, alloc, world, Ran(words, 2, "", USAGE)),
         Case::Sent(script, view) => {

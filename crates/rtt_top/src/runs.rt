@@ -1,6 +1,6 @@
 //! One run of the program.
 ghost use Rattle.std.specs.Prelude.{◌≡◌, None, true, false, IsSome, IfSome};
-ghost use Rattle.rtt_top.specs.Lives.{RunsGivenUp, RunsLive, RunsWatched, uses_no_link};
+ghost use Rattle.rtt_top.specs.Lives.{RunsCall, uses_no_link};
 ghost use Rattle.rtt_top.specs.Outside.{outside_at, outside_over, output_at};
 ghost use Rattle.rtt_top.specs.Runs.{asked_by, is_plain, Runs};
 
@@ -44,8 +44,7 @@ pub fn run_plain<W: World, K: Sink, E: Sink>(
 
 /// Runs one command and answers the program's status. `words` are the words after the program's name. `Runs` has what
 /// a run is, a clause a line: by what the words ask for, what lay outside before and lies there after, and the status.
-/// `RunsLive` has what a live call is that was served to its end, `RunsWatched` what one is with a board, `RunsGivenUp` what one is
-/// that was given up.
+/// `RunsCall` has what a live call is, with a board or without: one that was served to its end, and one that was given up.
 pub fn run<
     R: Threads + Wait + Clock + Copy + Send + Sync + 'static,
     W: World,
@@ -66,11 +65,7 @@ pub fn run<
     ensures runs { Runs (asked_by words.now) W.tells K.tells E.tells
         (outside_over W.World K.Sink L.Links world.old out.old links.old) (outside_over W.World K.Sink L.Links world.new out.new links.new)
         (output_at E.Sink err.old) (output_at E.Sink err.new) result }
-    ensures live { RunsLive (asked_by words.now) W.tells K.tells L.tells
-        (outside_over W.World K.Sink L.Links world.old out.old links.old) (outside_over W.World K.Sink L.Links world.new out.new links.new) result }
-    ensures watched { RunsWatched (asked_by words.now) W.tells K.tells L.tells
-        (outside_over W.World K.Sink L.Links world.old out.old links.old) (outside_over W.World K.Sink L.Links world.new out.new links.new) result }
-    ensures given_up { RunsGivenUp (asked_by words.now) W.tells L.tells
+    ensures call { RunsCall (asked_by words.now) W.tells K.tells L.tells
         (outside_over W.World K.Sink L.Links world.old out.old links.old) (outside_over W.World K.Sink L.Links world.new out.new links.new) result }
     ensures offline { uses_no_link (asked_by words.now) result ≡ true → links.new ≡ links.old }
 {

@@ -1,9 +1,9 @@
 use crate::plays::Case::{
-    Attended, Behind, LinkFault, Live, Mixed, Relayed, Sent, Silent, View, Wrong,
+    Attended, Behind, LinkFault, Live, Mixed, Relayed, Sent, Silent, Untaken, View, Wrong,
 };
 use crate::plays::Piece::{Octets, Packet, Plain, Rtcp};
 use crate::plays::{
-    Case, Coming, Line, OPENING, Piece, eight_times, front, holds, left, recording_of, twice,
+    Case, Coming, Line, OPENING, Piece, USAGE, eight_times, front, holds, left, recording_of, twice,
 };
 use link_io::{Came, FailingLink};
 use rtt_base::{Bytes, NoMemory, Path};
@@ -137,7 +137,7 @@ const MIXED_LOST: [Piece<'static>; 4] = [
     Octets(SENT_LAST),
 ];
 
-const VIEWS: [Case<'static>; 26] = [
+const VIEWS: [Case<'static>; 30] = [
     // two lost packets leave no marker, and three leave one
     View(
         &TWO_LETTERS,
@@ -276,6 +276,15 @@ const VIEWS: [Case<'static>; 26] = [
     ),
     // the program tells its version
     View(&[], "version", "rtt_program 0.1.0\n"),
+    // a file is looked at
+    View(&TWO_LETTERS, "check a.rtp", "recording: 4 packets, whole\n"),
+    Untaken(
+        "mixer 9 0 0\ntick 10\n",
+        "conference of recordings\nf line 2: Number\n| tick 10\ntick is a number of milliseconds from 20 to 200\n",
+    ),
+    // help tells of all commands, or of one
+    View(&[], "help", USAGE),
+    View(&[], "help version", HELP_OF_VERSION),
 ];
 
 #[test]
@@ -285,12 +294,20 @@ fn recordings_are_seen(rt: HostRuntime) -> Result<(), Fail> {
     Ok(())
 }
 
+const HELP_OF_VERSION: &str = "\
+usage: rtt_program version
+prints the name of the program and its version
+status 0: all is done
+status 7: the output, or OUT, cannot be written
+status 70: out of memory
+";
+
 const WRONG_WORDS: [Case<'static>; 13] = [
     Wrong("read a.rtp"),
     Wrong("read a.rtp -1"),
     Wrong("read --help 1"),
     Wrong("read a.rtp 4294967296"),
-    Wrong("help"),
+    Wrong("help raed"),
     Wrong(""),
     Wrong("mix"),
     Wrong("mix a b"),
@@ -393,7 +410,7 @@ fn add_failing(world: &mut MemWorld, alloc: Global) -> Result<(), Fail> {
     Ok(())
 }
 
-const FAILURES: [Case<'static>; 18] = [
+const FAILURES: [Case<'static>; 21] = [
     // broken recordings are refused at their byte
     Silent("read few.rtp 1001", 6, "few.rtp byte 136: EndsInside\n"),
     Silent("read head.rtp 1001", 6, "head.rtp byte 28: EndsInside\n"),
@@ -433,6 +450,18 @@ const FAILURES: [Case<'static>; 18] = [
     ),
     // faults of the outside
     Silent("read b.rtp 1001", 3, "cannot open b.rtp\n"),
+    // in a name no control character is told, and none that turns the direction in which text runs
+    Silent("read \x1B[2J.rtp 1001", 3, "cannot open \u{fffd}[2J.rtp\n"),
+    Silent(
+        "read a\u{202e}ptr\u{2069}\n\u{85}.b 1001",
+        3,
+        "cannot open a\u{fffd}ptr\u{fffd}\u{fffd}\u{fffd}.b\n",
+    ),
+    Silent(
+        "read Gr\u{fc}\u{df}e\u{202f}\u{2065}~.rtp 1001",
+        3,
+        "cannot open Gr\u{fc}\u{df}e\u{202f}\u{2065}~.rtp\n",
+    ),
     Silent("read whole.rtp 1001", 4, "cannot read whole.rtp\n"),
     Silent("send two.txt a.rtp 1001 0 0", 7, "cannot write a.rtp\n"),
     Silent("send two.txt b.rtp 1001 0 0", 7, "cannot write b.rtp\n"),

@@ -6,13 +6,14 @@ use Rattle.std.specs.List.{list_all}
 use Rattle.std.specs.Option.{option_map}
 use Rattle.file_spec.specs.Numbers.{number, most_ssrc}
 use Rattle.command_spec.specs.Usual.{usual_pts}
-use Rattle.rtt_words.specs.Words.{channel_words, is_word, list_of, list_words, make_words, mix_words, payload_types, read_of, read_words, send_of, send_words, version_words}
+use Rattle.rtt_words.specs.Help.{topic}
+use Rattle.rtt_words.specs.Words.{Help, channel_words, help_words, is_word, list_of, list_words, make_words, mix_words, payload_types, read_of, read_words, send_of, send_words, version_words}
 use Rattle.clap.specs.Walk.{Text, first_of, nothing_held, rows_after}
 use Rattle.clap.specs.Simple.{App, Shape, built, matches_of}
 use Rattle.clap.specs.Kinds.{Kinds}
 use Rattle.clap.specs.Words.{is_simple_and_free}
 use Rattle.clap.specs.Faults.{built_fault, defaults_fault, fault_of}
-use Rattle.rtt_words.specs.Apps.{IsForm, Texts, channel_app, channel_given, list_app, list_given, make_app, make_given, mix_app, mix_given, read_app, read_given, send_app, send_given, version_app, version_given}
+use Rattle.rtt_words.specs.Apps.{IsForm, Texts, channel_app, channel_given, help_app, help_given, list_app, list_given, make_app, make_given, mix_app, mix_given, read_app, read_given, send_app, send_given, version_app, version_given}
 use Rattle.rtt_words.proofs.Plain.{no_types}
 use Rattle.rtt_words.proofs.Places.{both, fault_given, fault_is, is_single, leaf, place_fault, placed, rows_are, rows_given}
 
@@ -120,6 +121,12 @@ unfolding placed place_fault defaults_fault
 channel_agrees (a ∷ b ∷ c ∷ []) e =
     kept (is_word a && is_word c) (option_map (λ s. record { file = a; ssrc = s; out = c }) (number most_ssrc b)) (ends (is_word a) (is_word b) (is_word c) e)
 channel_agrees _ e = refl
+
+pub help_agrees : AgreesOnAll help_app help_given help_words
+unfolding placed place_fault defaults_fault
+help_agrees [] e = refl
+help_agrees (a ∷ []) e = kept (is_word a) (option_map Help (topic a)) (both (is_word a) _ e).0
+help_agrees _ e = refl
 
 pub version_agrees : AgreesOnAll version_app version_given version_words
 unfolding placed place_fault defaults_fault

@@ -2,7 +2,8 @@
 use Rattle.std.proofs.Common.{◌≡◌, ℕ, List, [], ◌∷◌, Some, true, codes, map, refl}
 use Rattle.std.specs.List.{list_all}
 use Rattle.std.specs.Option.{is_none}
-use Rattle.rtt_words.specs.Words.{command, Command, Read, ListRecords, Send, Mix, Attend, Cascade, Make, Live, Watch, Relay, Channel, Show, Script, Version}
+use Rattle.rtt_words.specs.declared.topics.Topic.TheVariants as of
+use Rattle.rtt_words.specs.Words.{command, Command, Read, ListRecords, Send, Mix, Attend, Cascade, Make, Live, Watch, Relay, Channel, Show, Script, Check, Help, Version}
 
 -- the words of each row ask for what stands behind them
 abbrev AskFor : List (List (List ℕ) × Command) → Type 0
@@ -49,7 +50,7 @@ make_with_leading_zeros : AskFor (
     ∷ [])
 make_with_leading_zeros = refl
 
-version_alone : AskFor ((codes "version" ∷ [], Version) ∷ [])
+version_alone : AskFor ((codes "version" ∷ [], Version) ∷ (codes "--version" ∷ [], Version) ∷ [])
 version_alone = refl
 
 words_are_missing : AskNothing (
@@ -64,6 +65,7 @@ words_are_missing : AskNothing (
     ∷ (codes "cascade" ∷ codes "b.out" ∷ codes "9000" ∷ [])
     ∷ (codes "live" ∷ [])
     ∷ (codes "watch" ∷ [])
+    ∷ (codes "check" ∷ [])
     ∷ (codes "make" ∷ [])
     ∷ [])
 words_are_missing = refl
@@ -105,5 +107,23 @@ no_word_is_like_an_option : AskNothing (
     ∷ [])
 no_word_is_like_an_option = refl
 
-no_help : AskNothing ((codes "help" ∷ []) ∷ [])
-no_help = refl
+check_a_file : AskFor ((codes "check" ∷ codes "a" ∷ [], Check (record { file = codes "a" })) ∷ [])
+check_a_file = refl
+
+help_of_all_or_of_one : AskFor (
+    (codes "help" ∷ [], Help of.Usage)
+    ∷ (codes "--help" ∷ [], Help of.Usage)
+    ∷ (codes "-h" ∷ [], Help of.Usage)
+    ∷ (codes "help" ∷ codes "read" ∷ [], Help of.Read)
+    ∷ (codes "help" ∷ codes "help" ∷ [], Help of.Help)
+    ∷ (codes "--help" ∷ codes "mix" ∷ [], Help of.Mix)
+    ∷ [])
+help_of_all_or_of_one = refl
+
+help_of_no_command : AskNothing (
+    (codes "help" ∷ codes "raed" ∷ [])
+    ∷ (codes "help" ∷ codes "-h" ∷ [])
+    ∷ (codes "help" ∷ codes "read" ∷ codes "list" ∷ [])
+    ∷ (codes "-help" ∷ [])
+    ∷ [])
+help_of_no_command = refl

@@ -11,7 +11,9 @@ use Rattle.clap.specs.Simple.{on_top}
 use Rattle.rtt_base.specs.declared.text_packets.Pts.{Pts}
 use Rattle.file_spec.specs.Numbers.{number, number_between, most_ssrc}
 use Rattle.command_spec.specs.Usual.{usual_pts}
-use Rattle.rtt_words.specs.Words.{ReadWords, ListWords, SendWords, MixWords, ChannelWords, Command, Make, Version, is_word, payload_types, read_of, list_of, send_of}
+use Rattle.rtt_words.specs.declared.topics.Topic.TheVariants.{Usage}
+use Rattle.rtt_words.specs.Help.{topic}
+use Rattle.rtt_words.specs.Words.{ReadWords, ListWords, SendWords, MixWords, ChannelWords, Command, Make, Help, Version, is_word, payload_types, read_of, list_of, send_of}
 
 -- a refusal of `clap`, by its kind
 abbrev pub fault_by : ErrorKind → WordFault
@@ -59,7 +61,11 @@ make_app = app_with (codes "make") (codes "N" ∷ []) []
 abbrev pub channel_app : App
 channel_app = app_with (codes "channel") (codes "FILE" ∷ codes "SSRC" ∷ codes "OUT" ∷ []) []
 
--- `version`
+-- `help`, and then COMMAND; `--help` and `-h` have the same
+abbrev pub help_app : App
+help_app = app_with (codes "help") [] (codes "COMMAND" ∷ [])
+
+-- `version`; `--version` has as many
 abbrev pub version_app : App
 version_app = app_with (codes "version") [] []
 
@@ -100,6 +106,13 @@ channel_given text =
     option_and_then (λ file. option_and_then (λ ssrc. option_and_then (λ out.
     option_map (λ s. record { file = file; ssrc = s; out = out }) (number most_ssrc ssrc))
     (text (codes "OUT"))) (text (codes "SSRC"))) (text (codes "FILE"))
+
+abbrev pub help_of : Option (List ℕ) → Option Command
+help_of None = Some (Help Usage)
+help_of (Some name) = option_map Help (topic name)
+
+abbrev pub help_given : Texts → Option Command
+help_given text = help_of (text (codes "COMMAND"))
 
 abbrev pub version_given : Texts → Option Command
 version_given text = Some Version

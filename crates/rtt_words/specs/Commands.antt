@@ -7,8 +7,9 @@ use Rattle.rtt_words.specs.declared.commands.MixWords.{MixWords}
 use Rattle.rtt_words.specs.declared.commands.MakeWords.{MakeWords}
 use Rattle.rtt_words.specs.declared.commands.ChannelWords.{ChannelWords}
 use Rattle.rtt_words.specs.declared.commands.CascadeWords.{CascadeWords}
+use Rattle.rtt_words.specs.declared.commands.CheckWords.{CheckWords}
 use Rattle.rtt_words.specs.declared.commands.Command.{Command}
-use Rattle.rtt_words.specs.declared.commands.Command.TheVariants.{Read, ListRecords, Send, Mix, Attend, Cascade, Make, Live, Watch, Relay, Channel, Show, Script, Version}
+use Rattle.rtt_words.specs.declared.commands.Command.TheVariants.{Read, ListRecords, Send, Mix, Attend, Cascade, Make, Live, Watch, Relay, Channel, Show, Script, Check, Help, Version}
 
 abbrev pub asked : ReadWords → words.ReadWords
 asked r = record { file = r.file.now; ssrc = r.ssrc; source = r.source; pts = r.pts }
@@ -31,6 +32,9 @@ channelled c = record { file = c.file.now; ssrc = c.ssrc; out = c.out.now }
 abbrev pub cascaded : CascadeWords → words.CascadeWords
 cascaded c = record { file = c.file.now; ssrc = c.ssrc; conf = c.conf.now }
 
+abbrev pub checked : CheckWords → words.CheckWords
+checked c = record { file = c.file.now }
+
 abbrev pub meaning : Command → words.Command
 meaning (Read r) = words.Read (asked r)
 meaning (ListRecords l) = words.ListRecords (listed l)
@@ -45,4 +49,6 @@ meaning (Relay s) = words.Relay (sent s)
 meaning (Channel c) = words.Channel (channelled c)
 meaning (Show l) = words.Show (listed l)
 meaning (Script r) = words.Script (asked r)
+meaning (Check c) = words.Check (checked c)
+meaning (Help t) = words.Help t
 meaning Version = words.Version

@@ -1,3 +1,4 @@
+pub mod Help
 pub mod Words
 pub mod Tasks
 pub mod Sent

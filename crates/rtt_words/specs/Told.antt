@@ -1,14 +1,23 @@
--- The usage, and what is told of a fault (profile). Each line ends with LF.
-use Rattle.std.specs.Prelude.{List, [], ℕ, Ok, Err, codes}
+-- What is told of a fault (profile). Each line ends with LF.
+use Rattle.std.specs.Prelude.{List, [], ℕ, ◌||◌, Ok, Err, codes, chars, encode_utf8, flat_map, if◌then◌else◌}
+use Rattle.std.specs.Char.{is_control}
+use Rattle.text_spec.specs.Views.{is_direction}
 use Rattle.command_spec.specs.declared.faults.Fault.{Fault}
 use Rattle.command_spec.specs.declared.faults.Fault.TheVariants.{WrongWords, CannotOpen, CannotRead, Refused, CannotPrint, CannotWrite, LinkFailed, NoMemory}
 use Rattle.command_spec.specs.Messages.{Ending, refusal_message, trouble}
+use Rattle.rtt_words.specs.Help.{usage}
 
--- for words outside the word table
-abbrev pub usage : List ℕ
-usage = codes "usage: rtt_program read FILE SSRC [SOURCE [T140 RED]]\n       rtt_program list FILE [T140 RED]\n       rtt_program send SCRIPT OUT SSRC SEQ STAMP\n       rtt_program mix CONF\n       rtt_program attend CONF\n       rtt_program cascade FILE SSRC CONF\n       rtt_program make N\n       rtt_program live CONF\n       rtt_program watch CONF\n       rtt_program relay FRAMES OUT SSRC SEQ STAMP\n       rtt_program channel FILE SSRC OUT\n       rtt_program show FILE [T140 RED]\n       rtt_program script FILE SSRC [SOURCE [T140 RED]]\n       rtt_program version\n"
+-- ---- names
+-- a character of a name as it is told: U+FFFD for a control character, and for one that turns the direction in which text runs
+abbrev pub told_character : ℕ → ℕ
+told_character c = if is_control c || is_direction c then 0xFFFD else c
 
--- what is told of a fault whose file or leg has this name
+-- a name as it is told
+abbrev pub told_name : List ℕ → List ℕ
+told_name name = flat_map (λ c. encode_utf8 (told_character c)) (chars name)
+
+-- ---- messages
+-- what is told of a fault whose file or leg is told of by this name
 abbrev pub fault_message : List ℕ → Fault → List ℕ
 fault_message name WrongWords = usage
 fault_message name (CannotOpen input) = trouble (codes "cannot open ") name
@@ -19,6 +28,7 @@ fault_message name (CannotWrite output) = trouble (codes "cannot write ") name
 fault_message name (LinkFailed leg) = trouble (codes "link fault at leg ") name
 fault_message name NoMemory = codes "out of memory\n"
 
+-- what is told of how a command ended, where the file or the leg that is told of has this name
 abbrev pub message_of : List ℕ → Ending → List ℕ
 message_of name (Ok done) = []
-message_of name (Err fault) = fault_message name fault
+message_of name (Err fault) = fault_message (told_name name) fault

@@ -4,6 +4,9 @@ use Rattle.std.specs.Option.{option_map}
 use Rattle.rtt_base.specs.declared.text_packets.Pts.{Pts}
 use Rattle.file_spec.specs.Numbers.{number, number_between, most_ssrc, pts}
 use Rattle.command_spec.specs.Usual.{usual_pts}
+use Rattle.rtt_words.specs.declared.topics.Topic.{Topic}
+use Rattle.rtt_words.specs.declared.topics.Topic.TheVariants.{Usage}
+use Rattle.rtt_words.specs.Help.{topic}
 
 -- what `read` and `script` are asked for: the text of a source in the packets of an SSRC of a recording, under two payload types
 pub record ReadWords : Type 0 where
@@ -40,6 +43,10 @@ pub record ChannelWords : Type 0 where
   pub ssrc : ℕ
   pub out : List ℕ
 
+-- what `check` is asked for: what lies in a file
+pub record CheckWords : Type 0 where
+  pub file : List ℕ
+
 -- what `cascade` is asked for: the conference in a file, behind a mixer that sent the packets of an SSRC of a recording
 pub record CascadeWords : Type 0 where
   pub file : List ℕ
@@ -60,6 +67,8 @@ pub data Command : Type 0 where
   Channel : ChannelWords → Command
   Show : ListWords → Command
   Script : ReadWords → Command
+  Check : CheckWords → Command
+  Help : Topic → Command
   Version : Command
 
 -- a word that is empty or begins with `-` is none
@@ -140,6 +149,20 @@ before_conf c = record { file = c.file; ssrc = c.ssrc; conf = c.out }
 abbrev pub cascade_words : List (List ℕ) → Option CascadeWords
 cascade_words words = option_map before_conf (channel_words words)
 
+-- the one word names a file
+abbrev pub to_check : MixWords → CheckWords
+to_check m = record { file = m.conf }
+
+-- `FILE`, of the same shape as `CONF`
+abbrev pub check_words : List (List ℕ) → Option CheckWords
+check_words words = option_map to_check (mix_words words)
+
+-- no words, or `COMMAND`
+abbrev pub help_words : List (List ℕ) → Option Command
+help_words [] = Some (Help Usage)
+help_words (name ∷ []) = if is_word name then option_map Help (topic name) else None
+help_words _ = None
+
 -- no words
 abbrev pub version_words : List (List ℕ) → Option Command
 version_words [] = Some Version
@@ -162,4 +185,9 @@ command (name ∷ words) =
     else (if bytes_eq name (codes "channel") then option_map Channel (channel_words words)
     else (if bytes_eq name (codes "show") then option_map Show (list_words words)
     else (if bytes_eq name (codes "script") then option_map Script (read_words words)
-    else (if bytes_eq name (codes "version") then version_words words else None)))))))))))))
+    else (if bytes_eq name (codes "check") then option_map Check (check_words words)
+    else (if bytes_eq name (codes "help") then help_words words
+    else (if bytes_eq name (codes "--help") then help_words words
+    else (if bytes_eq name (codes "-h") then help_words words
+    else (if bytes_eq name (codes "version") then version_words words
+    else (if bytes_eq name (codes "--version") then version_words words else None))))))))))))))))))

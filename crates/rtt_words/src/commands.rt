@@ -1,4 +1,5 @@
 //! What the program is asked for.
+use crate::Topic;
 use rtt_base::Pts;
 
 /// What `read` and `script` are asked for.
@@ -60,6 +61,13 @@ pub struct ChannelWords<'a> {
     pub out: &'a str,
 }
 
+/// What `check` is asked for.
+#[derive(Clone, Copy, Debug, PartialEq, Eq)]
+pub struct CheckWords<'a> {
+    /// The name of the file.
+    pub file: &'a str,
+}
+
 /// What `cascade` is asked for.
 #[derive(Clone, Copy, Debug, PartialEq, Eq)]
 pub struct CascadeWords<'a> {
@@ -100,6 +108,10 @@ pub enum Command<'a> {
     Show(ListWords<'a>),
     /// Prints the text of a source of a recording as a script.
     Script(ReadWords<'a>),
+    /// Prints what a file is, and what is wrong with it.
+    Check(CheckWords<'a>),
+    /// Prints the words of all commands, or of one its words, what it does and its statuses.
+    Help(Topic),
     /// Prints the version of the program.
     Version,
 }

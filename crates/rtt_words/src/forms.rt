@@ -4,10 +4,11 @@ ghost use Rattle.clap.specs.Words.{app_of, first_value, found_of, rule_of};
 ghost use Rattle.rtt_words.specs.Words as table;
 ghost use Rattle.rtt_words.specs.Words.{payload_types};
 ghost use Rattle.rtt_words.specs.Commands.{asked, channelled, listed, made, mixed, sent};
-ghost use Rattle.rtt_words.specs.Apps.{app_with, bare_app, channel_given, list_given, make_given, mix_given, pts_given, read_given, rule_for, send_given, version_given, with_rules};
+ghost use Rattle.rtt_words.specs.Apps.{app_with, bare_app, channel_given, help_given, list_given, make_given, mix_given, pts_given, read_given, rule_for, send_given, version_given, with_rules};
 
 use crate::arguments::Arguments;
-use crate::{ChannelWords, ListWords, MakeWords, MixWords, ReadWords, SendWords};
+use crate::topics::topic_of;
+use crate::{ChannelWords, ListWords, MakeWords, MixWords, ReadWords, SendWords, Topic};
 use clap::{Arg, ArgMatches, Command};
 use file_lines::{number_from, number_of, pts_of};
 use file_spec::limits::{USUAL_RED, USUAL_T140};
@@ -209,6 +210,24 @@ impl<'a> Arguments<'a> for ChannelWords<'a> {
     }
 }
 
+impl<'a> Arguments<'a> for Topic {
+    ghost Meant = { table.Command };
+
+    ghost table_row = { record { meant = table.Help; given = help_given; said = table.help_words } };
+
+    /// `help`, and then COMMAND. `--help` and `-h` have the same.
+    fn form(alloc: Global) -> Result<Command<'a>, AllocError> {
+        command_with(alloc, "help", &[], &["COMMAND"])
+    }
+
+    fn from_matches(matches: &ArgMatches<'a>) -> Option<Topic> {
+        match matches.get_str("COMMAND") {
+            None => Some(Topic::Usage),
+            Some(name) => topic_of(name),
+        }
+    }
+}
+
 /// What `version` is asked for, which takes no words.
 #[derive(Drop)]
 pub(crate) struct NoWords;
@@ -218,7 +237,7 @@ impl<'a> Arguments<'a> for NoWords {
 
     ghost table_row = { record { meant = λ _. table.Version; given = version_given; said = table.version_words } };
 
-    /// `version`.
+    /// `version`. `--version` has as many.
     fn form(alloc: Global) -> Result<Command<'a>, AllocError> {
         command_with(alloc, "version", &[], &[])
     }

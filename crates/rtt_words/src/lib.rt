@@ -4,11 +4,14 @@
 mod arguments;
 mod commands;
 mod forms;
+mod topics;
 mod words;
 
 pub use commands::{
-    CascadeWords, ChannelWords, Command, ListWords, MakeWords, MixWords, ReadWords, SendWords,
+    CascadeWords, ChannelWords, CheckWords, Command, ListWords, MakeWords, MixWords, ReadWords,
+    SendWords,
 };
+pub use topics::{Topic, help_text};
 pub use words::{WordFault, command_of};
 
 #[cfg(test)]

@@ -1,6 +1,6 @@
 use crate::{
-    CascadeWords, ChannelWords, Command, ListWords, MakeWords, MixWords, ReadWords, SendWords,
-    WordFault, command_of,
+    CascadeWords, ChannelWords, CheckWords, Command, ListWords, MakeWords, MixWords, ReadWords,
+    SendWords, Topic, WordFault, command_of,
 };
 use rtt_base::Pts;
 use std::alloc::Global;
@@ -157,7 +157,26 @@ fn a_make_names_a_number(rt: HostRuntime) -> Result<(), Fail> {
 #[test]
 fn a_version_is_asked_for_alone(rt: HostRuntime) -> Result<(), Fail> {
     assert!(rt; asks(rt.alloc(), "version", Command::Version)?);
+    assert!(rt; asks(rt.alloc(), "--version", Command::Version)?);
     assert!(rt; is_wrong(rt.alloc(), "version a.rtp")?);
+    Ok(())
+}
+
+#[test]
+fn a_check_names_a_file(rt: HostRuntime) -> Result<(), Fail> {
+    let words = CheckWords { file: "a" };
+    assert!(rt; asks(rt.alloc(), "check a", Command::Check(words))?);
+    assert!(rt; are_wrong(rt.alloc(), &["check", "check a b", "check -a"])?);
+    Ok(())
+}
+
+#[test]
+fn a_help_is_of_all_or_of_one_command(rt: HostRuntime) -> Result<(), Fail> {
+    for all in ["help", "--help", "-h"] {
+        assert!(rt; asks(rt.alloc(), all, Command::Help(Topic::Usage))?);
+    }
+    assert!(rt; asks(rt.alloc(), "help read", Command::Help(Topic::Read))?);
+    assert!(rt; are_wrong(rt.alloc(), &["help raed", "help -h", "help read list"])?);
     Ok(())
 }
 
@@ -171,7 +190,7 @@ fn no_words_ask_for_nothing(rt: HostRuntime) -> Result<(), Fail> {
 
 #[test]
 fn other_commands_are_wrong(rt: HostRuntime) -> Result<(), Fail> {
-    assert!(rt; are_wrong(rt.alloc(), &["serve c", "help", "--help"])?);
+    assert!(rt; are_wrong(rt.alloc(), &["serve c", "raed a.rtp 1", "-help", "--"])?);
     Ok(())
 }
 

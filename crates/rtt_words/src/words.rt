@@ -1,13 +1,13 @@
 //! Reads command words.
 ghost use Rattle.std.specs.Prelude.{◌≡◌, ◌∷◌, Some, None, map, string_bytes, IfOk, drop};
 ghost use Rattle.std.specs.List.{list_all};
-ghost use Rattle.rtt_words.specs.Words.{command, is_word, cascade_words};
+ghost use Rattle.rtt_words.specs.Words.{command, is_word, cascade_words, check_words};
 ghost use Rattle.rtt_words.specs.Apps.{ArePlain};
-ghost use Rattle.rtt_words.specs.Commands.{cascaded, meaning};
+ghost use Rattle.rtt_words.specs.Commands.{cascaded, checked, meaning};
 
 use crate::arguments::from_words;
 use crate::forms::NoWords;
-use crate::{CascadeWords, ChannelWords, Command};
+use crate::{CascadeWords, ChannelWords, CheckWords, Command, MixWords};
 use clap::error::ErrorKind;
 use std::alloc::Global;
 use thiserror::Error;
@@ -65,6 +65,16 @@ fn cascade_command(alloc: Global, words: &[String]) -> Result<CascadeWords<'_>, 
     Ok(CascadeWords { file, ssrc, conf })
 }
 
+/// A `check`, where the words after its name are in its row.
+fn check_command(alloc: Global, words: &[String]) -> Result<CheckWords<'_>, WordFault>
+    requires { ArePlain (map string_bytes words.now) }
+    ensures asked { IfOk result (λ c. check_words (drop 1 (map string_bytes words.now)) ≡ Some (checked c)) }
+    ensures wrong { result ≡ Err WordFault.Wrong → check_words (drop 1 (map string_bytes words.now)) ≡ None }
+{
+    let MixWords { conf } = from_words(alloc, words)?;
+    Ok(CheckWords { file: conf })
+}
+
 /// The command of this name, where the words after the first are in its rows.
 fn named<'a>(alloc: Global, name: &str, words: &'a [String]) -> Result<Command<'a>, WordFault>
     requires { ArePlain (map string_bytes words.now) }
@@ -85,7 +95,9 @@ fn named<'a>(alloc: Global, name: &str, words: &'a [String]) -> Result<Command<'
         "channel" => Ok(Command::Channel(from_words(alloc, words)?)),
         "show" => Ok(Command::Show(from_words(alloc, words)?)),
         "script" => Ok(Command::Script(from_words(alloc, words)?)),
-        "version" => {
+        "check" => Ok(Command::Check(check_command(alloc, words)?)),
+        "help" | "--help" | "-h" => Ok(Command::Help(from_words(alloc, words)?)),
+        "version" | "--version" => {
             let NoWords = from_words(alloc, words)?;
             Ok(Command::Version)
         }

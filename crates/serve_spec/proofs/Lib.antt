@@ -7,3 +7,4 @@ pub mod LinksStay
 pub mod Promised
 mod LiveExamples
 pub mod Watching
+pub mod Totals

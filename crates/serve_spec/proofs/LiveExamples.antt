@@ -21,7 +21,7 @@ use Rattle.mixer_spec.proofs.FileExample.{for_good, types}
 use Rattle.link_spec.specs.Links.{Takes, is_closed}
 use Rattle.link_spec.specs.Links as link
 use Rattle.live_spec.specs.Told.{ready_by}
-use Rattle.live_spec.specs.Live.{AllMayTurn, AreLive, IsUpToDate, Live, MayTurn, at_last, but_last, first_takes, is_blocked}
+use Rattle.live_spec.specs.Live.{AllMayTurn, AreLive, IsOver, IsUpToDate, Live, MayTurn, at_last, but_last, first_takes, is_blocked}
 use Rattle.serve_spec.specs.Served.{Closed, Done, End, IsDrained, IsServed, chunks_live, end_line, given_to, hearing_at, live_printed}
 use Rattle.serve_spec.specs.Watched.{board_line, board_lines}
 use Rattle.serve_spec.specs.HeadLive.{HeadLive}
@@ -237,6 +237,7 @@ live_closed = record {
   gives = closed_gives;
   prints = closed_is_printed;
   done = λ e. absurd (cc e);
+  goes_on = λ e. absurd (cc e);
   drained = λ e. closed_drained;
   idle = λ e. closed_idle;
 }
@@ -267,10 +268,11 @@ quiet_gives (suc zero) leg e = refl
 quiet_gives (suc (suc j)) leg e = absurd (cc e)
 
 -- after one turn all turns were made
-done_at_once : (takes : ℕ → Takes) (packets : List (List ℕ)) (printed : List ℕ) (table : Table) → Live (setup short) (hearing_at short) takes 1 table
+done_at_once : (takes : ℕ → Takes) (packets : List (List ℕ)) (printed : List ℕ) (table : Table) (live : Live (setup short) (hearing_at short) takes 1 table)
+    → (IsOver (setup short) (hearing_at short) takes (chunks_live short takes) live.past (at_last live.counts) → ⊥)
     → ((j : ℕ) (leg : LegLine) → leg_at short.legs j ≡ Some leg → to_bob packets j ≡ given_to short table j leg) → printed ≡ live_printed short (to_bob packets) Done
     → IsServed short takes (to_bob packets) Done printed
-done_at_once takes packets printed table live gives prints = record {
+done_at_once takes packets printed table live goes_on gives prints = record {
   table = table;
   turns = 1;
   live = live;
@@ -278,13 +280,14 @@ done_at_once takes packets printed table live gives prints = record {
   gives = gives;
   prints = prints;
   done = λ e. refl;
+  goes_on = λ e. goes_on;
   drained = λ e. absurd (cc e);
   idle = λ e. absurd (cc e);
 }
 
 live_done : IsServed short quiet (to_bob []) Done (shows [] 0 Done)
 live_done = done_at_once quiet [] (shows [] 0 Done) (table_after 1 quiet (Turn 0 ∷ entered))
-    (record { past = Turn 0 ∷ entered; counts = heard 2 1 ∷ []; live = (quiet_turn, (tt, (tt, tt))); turned = refl; leads = refl }) quiet_gives nothing_is_printed
+    (record { past = Turn 0 ∷ entered; counts = heard 2 1 ∷ []; live = (quiet_turn, (tt, (tt, tt))); turned = refl; leads = refl }) (λ over. true≢false (sym (over.closed 0 (omega arith)))) quiet_gives nothing_is_printed
 
 -- ---- one turn, and a letter before it
 letter_ready : taken_of 1 one_letter offered 0 ≡ ready_by (hearing_at short 0) (one_letter 0)
@@ -324,4 +327,4 @@ letter_gives (suc (suc j)) leg e = absurd (cc e)
 
 live_one_letter : IsServed short one_letter (to_bob (first ∷ [])) Done (shows (codes "A") 1 Done)
 live_one_letter = done_at_once one_letter (first ∷ []) (shows (codes "A") 1 Done) (table_after 1 one_letter (Turn 0 ∷ offered))
-    (record { past = Turn 0 ∷ offered; counts = heard 2 1 ∷ []; live = (letter_turn, (letter_seated, (tt, (tt, (tt, tt))))); turned = refl; leads = refl }) letter_gives letter_is_printed
+    (record { past = Turn 0 ∷ offered; counts = heard 2 1 ∷ []; live = (letter_turn, (letter_seated, (tt, (tt, (tt, tt))))); turned = refl; leads = refl }) (λ over. true≢false (sym (over.closed 0 (omega arith)))) letter_gives letter_is_printed

@@ -1,11 +1,11 @@
 -- A live call keeps what it promises.
-use Rattle.std.proofs.Common.{◌≡◌, ℕ, ◌*◌, ◌<◌, ◌≤◌, ◌^◌, true, false, Some, List, [], ◌++◌, length, ap, refl, subst, sym, ◌∙◌, append_assoc, arith}
+use Rattle.std.proofs.Common.{◌≡◌, ℕ, ◌*◌, ◌<◌, ◌≤◌, ◌^◌, true, false, Some, Ok, List, [], ◌++◌, length, ap, refl, subst, sym, ◌∙◌, append_assoc, arith}
 use Rattle.std.specs.Prelude.{map}
 use Rattle.std.proofs.Math.Nat.{mul-le-mul_left}
 use Rattle.wire_spec.specs.Packets.{Arrival}
 use Rattle.wire_spec.specs.Text.{text_of}
 use Rattle.file_spec.specs.declared.conf_lines.LegLine.{LegLine}
-use Rattle.file_spec.specs.Conf.{Conf}
+use Rattle.file_spec.specs.Conf.{Conf, conf}
 use Rattle.file_spec.specs.Kept.{IsConference}
 use Rattle.stream_spec.specs.Ready.{Chunk}
 use Rattle.stream_spec.specs.Still.{still}
@@ -45,7 +45,7 @@ use Rattle.named_spec.proofs.Sending.{all_mixers}
 use Rattle.named_spec.proofs.Showing.{any_law as named_law}
 use Rattle.named_spec.specs.Seen.{IsNamedThere}
 use Rattle.command_spec.proofs.PrintedNames.{names_print}
-use Rattle.serve_spec.specs.Served.{Closed, End, IsDrained, chunks_live, came_live, given_to, heard_live, hearing_at}
+use Rattle.serve_spec.specs.Served.{Closed, End, IsDrained, IsServed, chunks_live, came_live, given_to, heard_live, hearing_at}
 use Rattle.serve_spec.specs.HeadLive.{IsGiven, IsToldAsOne, IsToldLive, ServedIsHeadLive, inward_live}
 use Rattle.serve_spec.proofs.Texts.{live_texts}
 use Rattle.serve_spec.proofs.Sharing.{shared_live}
@@ -187,3 +187,9 @@ head_law octets c takes given end printed read v =
     let serves : Serves c takes given end v.table = record { gives = v.gives; drained = v.drained; idle = v.idle } in
     let p = subst (λ (t : Table). Promises c takes given end t) v.live.leads (promised c takes given end v.live.past runs (subst (λ (t : Table). Serves c takes given end t) (sym v.live.leads) serves)) in
     record { served = v; sent = p.sent; told = p.told; told_as_one = p.told_as_one }
+
+-- the run that it tells is the call's
+pub same_run : (octets : List ℕ) (c : Conf) (takes : ℕ → Takes) (given : ℕ → List (List ℕ)) (end : End) (printed : List ℕ) (read : conf Links octets ≡ Ok c) (v : IsServed c takes given end printed)
+    → (head_law octets c takes given end printed read v).served ≡ v
+unfolding head_law
+same_run octets c takes given end printed read v = refl

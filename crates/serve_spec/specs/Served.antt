@@ -17,7 +17,7 @@ use Rattle.view_spec.specs.Seen.{aware_seen, unaware_seen}
 use Rattle.command_spec.specs.Mixing.{reception_of, sent_to, speaker_of}
 use Rattle.link_spec.specs.Links.{Takes, is_closed}
 use Rattle.live_spec.specs.Told.{Hearing, told_by}
-use Rattle.live_spec.specs.Live.{Live, live_chunks}
+use Rattle.live_spec.specs.Live.{IsOver, Live, at_last, live_chunks}
 
 -- how a live call ended: all turns were made, or all links are closed and nothing is left, or it broke off before
 pub data End : Type 0 where
@@ -94,8 +94,9 @@ pub record IsServed (c : Conf) (takes : ℕ → Takes) (given : ℕ → List (Li
   pub few : turns ≤ c.turns
   pub gives : (j : ℕ) (leg : LegLine) → leg_at c.legs j ≡ Some leg → given j ≡ given_to c table j leg
   pub prints : printed ≡ live_printed c given end
-  -- At `Done` all turns were made.
+  -- At `Done` all turns were made, and behind the last one the call was not over.
   pub done : end ≡ Done → turns ≡ c.turns
+  pub goes_on : end ≡ Done → IsOver (setup c) (hearing_at c) takes (chunks_live c takes) live.past (at_last live.counts) → ⊥
   -- At `Closed` each link was closed, all that is heard was taken, and nothing waits or is still to be repeated.
   pub drained : end ≡ Closed → (j : ℕ) → j < length c.legs → IsDrained c takes table j
   pub idle : end ≡ Closed → is_idle (setup c) table ≡ true

@@ -1,10 +1,14 @@
 -- What `watch` prints of a live call behind what the terminals show: how many octets of each leg's text the mixer took (profile).
-use Rattle.std.specs.Prelude.{◌≡◌, ℕ, List, ◌++◌, codes, decimal, flat_map}
-use Rattle.std.specs.List.{enumerate_from}
+use Rattle.std.specs.Prelude.{◌≡◌, ◌≤◌, ℕ, List, ◌++◌, codes, decimal, flat_map, length}
+use Rattle.std.specs.List.{concat, enumerate_from}
+use Rattle.stream_spec.specs.Carries.{texts_by}
+use Rattle.stream_spec.specs.History.{History}
 use Rattle.stream_spec.specs.Ready.{Chunk}
 use Rattle.file_spec.specs.declared.conf_lines.LegLine.{LegLine}
 use Rattle.file_spec.specs.Conf.{Conf}
+use Rattle.mixer_spec.specs.Bridged.{IsPair, told_at}
 use Rattle.mixer_spec.specs.Chunks.{octets}
+use Rattle.mixer_spec.specs.Setups.{setup}
 use Rattle.mixer_spec.specs.Table.{Table, chunks_taken}
 use Rattle.view_spec.specs.Views.{printed_line}
 use Rattle.link_spec.specs.Links.{Takes}
@@ -27,3 +31,13 @@ watched_printed c given chunks end = live_printed c given end ++ board_lines c c
 pub record IsBoardOf (c : Conf) (takes : ℕ → Takes) (table : Table) (end : End) (lines : List ℕ) : Type 0 where
   pub taken : lines ≡ board_lines c (λ j. chunks_taken (table.taken j))
   pub whole : end ≡ Closed → lines ≡ board_lines c (chunks_live c takes)
+
+-- how many octets of this source's text a history tells
+abbrev pub octets_told : History → ℕ → ℕ
+octets_told h s = length (concat (texts_by s h.entries))
+
+-- What the mixer took of each leg is at least what it gave of it to any aware terminal.
+abbrev pub CoversTold : Conf → Table → Type 0
+CoversTold c table =
+    (j i : ℕ) → IsPair (setup c) j i
+    → octets_told (told_at (setup c) table j) ((setup c).ssrc i) ≤ octets (chunks_taken (table.taken i))

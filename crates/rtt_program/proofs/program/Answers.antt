@@ -1,7 +1,7 @@
 use Rattle.std.proofs.Common.{◌≡◌, true, IfOk, List, Result, Ok, String, Global, drop, ap, sym, subst, ◌∙◌, ℕ}
 use Rattle.std.specs.Prelude.{OnErr}
 use Rattle.std.specs.Process.{exit_status}
-use Rattle.rtt_top.specs.Lives.{RunsGivenUp, RunsLive, RunsWatched, uses_no_link}
+use Rattle.rtt_top.specs.Lives.{RunsCall, uses_no_link}
 use Rattle.rtt_top.specs.Outside.{outside_over, output_at}
 use Rattle.rtt_top.specs.Runs.{Runs, asked_by}
 use Rattle.rtt_program.proofs.program.Goals as goal
@@ -29,9 +29,7 @@ returns g c =
     λ P. carried c.args.words c.in-Ok.all (λ all. drop 1 all.items) P c.after_name-words.result.now (exit_status c.exit_with-2.result) run.result c.in-Ok.is is_run c.exit_with-2.ensures in
     record {
       runs = carry (λ items status. Runs (asked_by items) g.W.World.tells g.K.Sink.tells g.E.Sink.tells old new before after status) run.ensures.runs;
-      live = carry (λ items status. RunsLive (asked_by items) g.W.World.tells g.K.Sink.tells g.L.Links.tells old new status) run.ensures.live;
-      watched = carry (λ items status. RunsWatched (asked_by items) g.W.World.tells g.K.Sink.tells g.L.Links.tells old new status) run.ensures.watched;
-      given_up = carry (λ items status. RunsGivenUp (asked_by items) g.W.World.tells g.L.Links.tells old new status) run.ensures.given_up;
+      call = carry (λ items status. RunsCall (asked_by items) g.W.World.tells g.K.Sink.tells g.L.Links.tells old new status) run.ensures.call;
       offline = carry (λ items status. uses_no_link (asked_by items) status ≡ true → run.new.links ≡ c.args.links.now) run.ensures.offline;
       no_memory = not_failed _ c.args.words c.in-Ok.all c.in-Ok.is;
       same = not_failed _ c.args.words c.in-Ok.all c.in-Ok.is;

@@ -1,9 +1,9 @@
-use Rattle.std.proofs.Common.{◌≡◌, ◌≤◌, ◌<◌, ◌+◌, ◌*◌, ◌^◌, ℕ, true, List, length, inl, refl, sym, subst, ◌∙◌, arith}
+use Rattle.std.proofs.Common.{◌≡◌, ◌≤◌, ◌<◌, ◌+◌, ◌*◌, ◌^◌, ℕ, true, true≢false, List, length, inl, refl, sym, subst, ◌∙◌, arith}
 use Rattle.mixer_spec.specs.Table.{Call, after_calls, is_idle}
 use Rattle.live_loop.specs.Clocks.{ArePaced, AtTicks, StandsPaced, moments_of}
-use Rattle.live_loop.specs.Walks.{HaltsThen, IsServing, is_spent}
-use Rattle.live_loop.proofs.Pausing.{all_at, count_same, passed_on, paused_more, tick_more}
-use Rattle.live_loop.proofs.Walking.{all_then_grew, at_more, at_none, becomes, known, none_grew, turn_made}
+use Rattle.live_loop.specs.Walks.{DoneTo, HaltsThen, IsServing, is_spent}
+use Rattle.live_loop.proofs.Pausing.{all_at, count_same, due_more, first_due, is_told, passed_on, paused_more}
+use Rattle.live_loop.proofs.Walking.{all_then_grew, all_true, at_more, at_none, becomes, known, none_grew, turn_made}
 use Rattle.live_loop.proofs.turns.take_turns.Goals as goal
 
 pub loop-k-init : goal.loop-k-init
@@ -19,6 +19,8 @@ loop-k-init g c = (
   λ t early. (let is = c.clock_now-began.ensures.is in omega (arith, is)),
   (let e = c.clock_now-began.ensures in record { same_own = e.same_own; same_objects = e.same_objects; rises = e.rises; same_opened = e.same_opened; same_leads = e.same_leads }),
   refl,
+  is_told _ c.first_tick-due.result c.first_tick-due.ensures,
+  λ early. (let first = first_due c.clock_now-began.result _ c.first_tick-due.result (omega (arith, early)) c.first_tick-due.ensures in omega (arith, first)),
 )
 
 pub returns-then-is_over-clause-ran : goal.returns-then-is_over-clause-ran
@@ -63,15 +65,16 @@ loop-k-preserved g c =
       (let before = c.loop-k.invariant.6 in let asked = c.clock_now-now.ensures.rises in let paused = c.sleep_until.ensures.rises in omega (arith, before, asked, paused)),
       c.loop-k.invariant.7,
       λ t early.
-          let now = c.clock_now-now.ensures in
-          tick_more c.loop-k.k c.args.tick c.clock_now-began.result (g.C.TurnClock.moment c.loop-k.clock) c.clock_now-now.result c.next_tick.result (g.C.TurnClock.moment c.sleep_until.new.self)
-          c.requires.tick (let is = now.is in let rises = now.rises in omega (arith, is, rises)) c.loop-k.invariant.6 (c.loop-k.invariant.8 t) c.next_tick.ensures (c.sleep_until.ensures.reached t)
-          (let is = now.is in let rises = c.sleep_until.ensures.rises in omega (arith, is, rises)) early,
+          let due = due_more c.loop-k.k c.args.tick c.clock_now-began.result c.clock_now-now.result c.loop-k.due c.next_tick-due.result c.requires.tick c.loop-k.invariant.12 c.next_tick-due.ensures early in
+          let reached = c.sleep_until.ensures.reached t (is_told _ c.next_tick-due.result c.next_tick-due.ensures) in
+          omega (arith, due, reached),
       passed_on g.C.TurnClock c.args.clock.now c.clock_now-now.new.self c.sleep_until.new.self
           (passed_on g.C.TurnClock c.args.clock.now c.loop-k.clock c.clock_now-now.new.self c.loop-k.invariant.9
           (let e = c.clock_now-now.ensures in record { same_own = e.same_own; same_objects = e.same_objects; rises = e.rises; same_opened = e.same_opened; same_leads = e.same_leads }))
           (let e = c.sleep_until.ensures in record { same_own = e.same_own; same_objects = e.same_objects; rises = e.rises; same_opened = e.same_opened; same_leads = e.same_leads }),
       c.turn.ensures.addresses ∙ (keeps.addresses ∙ c.loop-k.invariant.10),
+      is_told _ c.next_tick-due.result c.next_tick-due.ensures,
+      due_more c.loop-k.k c.args.tick c.clock_now-began.result c.clock_now-now.result c.loop-k.due c.next_tick-due.result c.requires.tick c.loop-k.invariant.12 c.next_tick-due.ensures,
     )
 
 pub returns-then-is_over-2-clause-ran : goal.returns-then-is_over-2-clause-ran
@@ -97,7 +100,13 @@ returns-clause-ran g c = λ s pts legs v.
     let P : List Call → Type 0 = λ calls. g.C.TurnClock.tells → ArePaced c.args.tick (g.C.TurnClock.moment c.args.clock.now) calls in
     let x = known g.I.Pops.popped g.I.Pops.began g.M.Mixes.stands P s pts c.loop-k.k c.loop-k.ports c.loop-k.mixer b.0
     (λ t. record { began = c.clock_now-began.result; behind = c.loop-k.invariant.7; at = b.1 t }) in
-    subst (λ (k : ℕ). IsServing g.I.Pops.popped (λ m s pts calls. g.M.Mixes.stands m s pts calls × P calls) s pts k c.loop-k.ports c.loop-k.mixer) last x.0
+    subst (λ (k : ℕ). DoneTo g.I.Pops.popped (λ m s pts calls. g.M.Mixes.stands m s pts calls × P calls) s pts k c.loop-k.ports c.loop-k.mixer) last (record {
+      serving = x.0;
+      goes_on = λ closed. true≢false (
+          sym (subst (λ (calls : List Call). is_idle s (after_calls s calls) ≡ true) x.1 closed.idle)
+          ∙ sym (c.is_over-2.ensures.goes_on c.if-is_over-2.false (all_true is_spent c.loop-k.ports closed.ends) s pts b.0.calls b.0.made)
+          );
+    })
 
 -- a link failed before a turn
 pub returns-in-Some-clause-ran : goal.returns-in-Some-clause-ran

@@ -19,3 +19,5 @@ invariant-loop-k g l =
     × (g.C.TurnClock.tells → l.began + l.k * l.fn.tick < 2 ^ 47 → l.began + l.k * l.fn.tick ≤ g.C.TurnClock.moment l.clock)
     × OnlyTimePassed g.C.TurnClock l.fn.clock l.clock
     × (g.M.Mixes.addresses l.mixer ≡ g.M.Mixes.addresses l.fn.mixer)
+    × (l.due < 2 ^ 47)
+    × (l.began + l.k * l.fn.tick < 2 ^ 47 → l.began + l.k * l.fn.tick ≤ l.due)

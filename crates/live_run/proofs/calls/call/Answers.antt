@@ -33,8 +33,8 @@ returns-in-Err-clause-called g c =
     not_called g.W.In.LinkIn g.W.Out.LinkOut (g.T.Tap.stands c.not_begun-in-Err.result.tap) g.W.Links.tells (conf_of c.args.conf.now) (g.W.Links.opened c.args.world.now) c.args.opened.legs.items c.args.opened.ends.items c.not_begun-in-Err.result c.requires.legs c.requires.ends c.requires.each_leg c.requires.each_end e.turned
     (ap (λ (v : Vec (LinkLeg g.row.W-In.Denot)). v.items) e.legs) (ap (λ (v : Vec g.row.W-Out.Denot). v.items) (e.ends ∙ c.in-Err.ensures.back))
 
-pub run_job-turned-requires : goal.run_job-turned-requires
-run_job-turned-requires g c =
+pub run_job-turned-requires-after_bounds : goal.run_job-turned-requires-after_bounds
+run_job-turned-requires-after_bounds g c κs within =
     let seats : length c.args.conf.now.legs ≤ 16 = c.requires.links.stay.seats in
     let conf = c.args.conf.now in
     let len = c.args.opened.legs.ok.0 in
@@ -56,23 +56,44 @@ run_job-turned-requires g c =
       in_time = omega arith;
     }
 
+pub returns-clause-same_own : goal.returns-clause-same_own
+returns-clause-same_own g c =
+    let last = c.world-1.given.1 (sym c.run_job-turned.ensures.same_reference) in
+    λ p. ap (λ (w : g.row.W.Denot). g.W.Links.own_faults w p) last ∙ c.run_job-turned.ensures.ran.passed.same_own p
+
+pub returns-clause-same_objects : goal.returns-clause-same_objects
+returns-clause-same_objects g c =
+    let last = c.world-1.given.1 (sym c.run_job-turned.ensures.same_reference) in
+    λ p. ap (λ (w : g.row.W.Denot). g.W.Links.object_faults w p) last ∙ c.run_job-turned.ensures.ran.passed.same_objects p
+
 pub returns-clause-paused : goal.returns-clause-paused
 returns-clause-paused g c = λ done.
-    subst (λ (n : ℕ). IsPaused n (g.W.Links.pauses c.args.world.now) (g.W.Links.pauses c.run_job-turned.new.clock)) c.from-2.ensures
-    (c.run_job-turned.ensures.paused (ended_done c.run_job-turned.result.mixer.short c.run_job-turned.result.turned (sym c.finish-turned.ensures.turned ∙ done)))
+    let last = c.world-1.given.1 (sym c.run_job-turned.ensures.same_reference) in
+    let begun = g.W.Links.pauses c.args.world.now in
+    subst (λ (w : g.row.W.Denot). IsPaused c.args.conf.now.turns begun (g.W.Links.pauses w)) (sym last)
+    (subst (λ (n : ℕ). IsPaused n begun (g.W.Links.pauses c.run_job-turned.result.clock.now)) c.from-2.ensures
+    (c.run_job-turned.ensures.ran.paused (ended_done c.run_job-turned.result.mixer.short c.run_job-turned.result.turned (sym c.finish-turned.ensures.turned ∙ done))))
 
 pub returns-clause-paced : goal.returns-clause-paced
 returns-clause-paced g c = λ t done.
     let old = g.W.Links.moment c.args.world.now in
-    let new = g.W.Links.moment c.run_job-turned.new.clock in
-    subst (λ (n : ℕ). IsPaced n c.args.conf.now.tick old new) c.from-2.ensures
+    let last = c.world-1.given.1 (sym c.run_job-turned.ensures.same_reference) in
+    let new = g.W.Links.moment c.run_job-turned.result.clock.now in
+    subst (λ (w : g.row.W.Denot). IsPaced c.args.conf.now.turns c.args.conf.now.tick old (g.W.Links.moment w)) (sym last)
+    (subst (λ (n : ℕ). IsPaced n c.args.conf.now.tick old new) c.from-2.ensures
     (subst (λ (k : ℕ). IsPaced c.from-2.result k old new) c.from.ensures
-    (c.run_job-turned.ensures.paced t (ended_done c.run_job-turned.result.mixer.short c.run_job-turned.result.turned (sym c.finish-turned.ensures.turned ∙ done))))
+    (c.run_job-turned.ensures.ran.paced t (ended_done c.run_job-turned.result.mixer.short c.run_job-turned.result.turned (sym c.finish-turned.ensures.turned ∙ done)))))
+
+pub returns-clause-same_leads : goal.returns-clause-same_leads
+returns-clause-same_leads g c = λ t.
+    let last = c.world-1.given.1 (sym c.run_job-turned.ensures.same_reference) in
+    ap (λ (w : g.row.W.Denot). g.W.Links.leads w) last ∙ c.run_job-turned.ensures.ran.passed.same_leads t
 
 pub returns-clause-called : goal.returns-clause-called
 returns-clause-called g c =
-    let ran = c.run_job-turned.ensures in
+    let ran = c.run_job-turned.ensures.ran in
     let made = c.in-Ok-mixer_over.ensures in
+    let last = c.world-1.given.1 (sym c.run_job-turned.ensures.same_reference) in
     let conf = conf_of c.args.conf.now in
     let over = c.finish-turned.result in
     let legs = c.run_job-turned.result.legs in
@@ -81,11 +102,12 @@ returns-clause-called g c =
     let tapped = c.new-tapped.ensures in
     let first : Tapped (SendingState (FarEnds g.row.W-Out.Denot)) g.row.T.Denot = record { mixer = c.in-Ok-mixer_over.mixer; tap = c.args.tap; short = false } in
     let far_is : far ≡ c.run_job-turned.result.mixer.mixer.outbound = c.into_outbound-links.ensures ∙ ap (λ (m : SendingState (FarEnds g.row.W-Out.Denot)). m.outbound) c.finish-turned.ensures.mixer in
-    let later = g.W.Links.opened c.run_job-turned.new.clock in
-    subst (λ (t : Turned LiveFault). IsCalled g.W.In.LinkIn g.W.Out.LinkOut (stands over.tap) g.W.Links.tells conf later (record { turned = t; legs = legs; ends = far.links; listeners = far.listeners; tap = over.tap })) (sym c.finish-turned.ensures.turned)
+    let later = g.W.Links.opened c.run_job-turned.result.clock.now in
+    subst (λ (w : g.row.W.Denot). IsCalled g.W.In.LinkIn g.W.Out.LinkOut (stands over.tap) g.W.Links.tells conf (g.W.Links.opened w) (record { turned = over.turned; legs = legs; ends = far.links; listeners = far.listeners; tap = over.tap })) (sym last)
+    (subst (λ (t : Turned LiveFault). IsCalled g.W.In.LinkIn g.W.Out.LinkOut (stands over.tap) g.W.Links.tells conf later (record { turned = t; legs = legs; ends = far.links; listeners = far.listeners; tap = over.tap })) (sym c.finish-turned.ensures.turned)
     (subst (λ (f : FarEnds g.row.W-Out.Denot). IsCalled g.W.In.LinkIn g.W.Out.LinkOut (stands over.tap) g.W.Links.tells conf later (record { turned = ended_with c.run_job-turned.result.mixer.short c.run_job-turned.result.turned; legs = legs; ends = f.links; listeners = f.listeners; tap = over.tap })) (sym far_is)
-    (call_made g.W.In.LinkIn g.W.Out.LinkOut _ stands g.W.Links.tells conf _ c.args.world.now c.run_job-turned.new.clock c.run_job-turned.result over.tap (g.W.Links.opened c.args.world.now) later c.args.opened.ends.items c.requires.links c.requires.legs c.requires.each_leg c.requires.ends c.requires.each_end
+    (call_made g.W.In.LinkIn g.W.Out.LinkOut _ stands g.W.Links.tells conf _ c.run_job-turned.result over.tap (g.W.Links.opened c.args.world.now) later c.args.opened.ends.items c.requires.links c.requires.legs c.requires.each_leg c.requires.ends c.requires.each_end
     (ap (λ (m : Tapped (SendingState (FarEnds g.row.W-Out.Denot)) g.row.T.Denot). m.mixer.outbound.links.items) tapped ∙ ap (λ (v : Vec g.row.W-Out.Denot). v.items) made.links)
     (subst (λ (m : Tapped (SendingState (FarEnds g.row.W-Out.Denot)) g.row.T.Denot). HasAll g.W.Out.LinkOut.tells g.W.Out.LinkOut.given g.W.Out.LinkOut.faults conf m.mixer) (sym tapped) made.stands)
     (subst (λ (m : Tapped (SendingState (FarEnds g.row.W-Out.Denot)) g.row.T.Denot). stands m.tap []) (sym tapped) c.requires.told)
-    c.from-2.ensures c.from.ensures (λ t. t) ran.passed.same_opened ran c.finish-turned.ensures.shows))
+    c.from-2.ensures c.from.ensures (λ t. t) ran.passed.same_opened ran c.finish-turned.ensures.shows)))

@@ -8,6 +8,7 @@ use Rattle.rtt_top.specs.Recorded.{asked_as}
 use Rattle.rtt_top.specs.Runs.{Ends}
 use Rattle.rtt_top.proofs.Conferring.{reads_as}
 use Rattle.rtt_top.proofs.Ending.{runs}
+use Rattle.rtt_top.proofs.Statused.{no_check_mixing, other}
 use Rattle.rtt_top.proofs.Working.{stopped}
 use Rattle.rtt_top.proofs.Since.{ends_since, same_name}
 use Rattle.rtt_top.proofs.recorded.run_mixing.Goals as goal
@@ -20,7 +21,8 @@ returns-in-Err g c =
     let command = asked_as c.args.mixing (mixed c.args.words.now) in
     let reads = reads_as c.args.mixing file in
     let ending : Ending = Err c.in-Err.fault in
-    runs ending file c.finish_with.ensures.status
+    runs ending file
+    (other command g.W.World.tells (g.W.World.contents c.args.world.now) ending c.finish_with.result (no_check_mixing c.args.mixing (mixed c.args.words.now)) c.finish_with.ensures.status)
     (subst (λ n. Ends command g.W.World.tells g.K.Sink.tells old new n ending) (same_name file ending)
     (stopped command g.W.World.tells g.K.Sink.tells old new file file c.in-Err.fault
     (subst (λ (s : Steps). IsInput g.W.World.tells old.contents s 0 file) (sym reads.steps) refl)
@@ -36,7 +38,8 @@ returns g c =
     let ending = c.mix_as-ending.result in
     let read = c.in-Ok.ensures.read in
     let named = c.name_at_end-name.ensures ∙ ap (λ legs. ending_name file legs ending) c.as_slice.ensures in
-    runs ending c.name_at_end-name.result.now c.finish_with-2.ensures.status
+    runs ending c.name_at_end-name.result.now
+    (other command g.W.World.tells (g.W.World.contents c.args.world.now) ending c.finish_with-2.result (no_check_mixing c.args.mixing (mixed c.args.words.now)) c.finish_with-2.ensures.status)
     (subst (λ n. Ends command g.W.World.tells g.K.Sink.tells old new n ending) (sym named)
     (ends_since command g.W.World.tells g.K.Sink.tells old (outside_at g.W.World g.K.Sink c.conf_under.new.world c.args.out.now) new (ending_name file c.mix_as-ending.new.conf.legs ending) ending
     (record { same = c.in-Ok.ensures.same_contents; calls_rise = c.in-Ok.ensures.calls_never_fall; objects_rise = c.in-Ok.ensures.objects_never_fall }) refl refl c.in-Ok.ensures.calm c.in-Ok.ensures.opened

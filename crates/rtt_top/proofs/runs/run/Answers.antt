@@ -6,8 +6,8 @@ use Rattle.rtt_top.specs.Lives.{uses_no_link}
 use Rattle.rtt_top.specs.Outside.{left_by, outside_at, outside_over, output_at}
 use Rattle.rtt_top.specs.Runs.{asked_by}
 use Rattle.rtt_top.proofs.Ending.{no_words, no_memory}
-use Rattle.rtt_top.proofs.Linked.{failed_at_all, failed_given_up, failed_live, live_not_watched, no_given_up, no_live, no_watched, no_words_given_up, no_words_live, no_words_watched, other_is_not_live, runs_linked, watched_not_live}
-use Rattle.rtt_top.proofs.Living.{runs_given_up_live, runs_given_up_watched, runs_live, runs_served, runs_watched}
+use Rattle.rtt_top.proofs.Linked.{failed_call, no_call, no_words_call, other_is_not_live, runs_linked}
+use Rattle.rtt_top.proofs.Living.{runs_call, runs_served}
 use Rattle.rtt_top.proofs.runs.run.Goals as goal
 
 pub returns-in-Err-Wrong-clause-runs : goal.returns-in-Err-Wrong-clause-runs
@@ -17,22 +17,10 @@ returns-in-Err-Wrong-clause-runs g c =
     (output_at g.E.Sink c.args.err.now) (output_at g.E.Sink c.finish.new.err) c.finish.result
     WrongWords [] (c.command_of.ensures.wrong (cc (c.in-Err-Wrong.is, c.in-Err-Wrong.field-0-is))) (inl refl) c.finish.ensures.status c.finish.ensures.silent c.finish.ensures.front c.finish.ensures.told
 
-pub returns-in-Err-Wrong-clause-live : goal.returns-in-Err-Wrong-clause-live
-returns-in-Err-Wrong-clause-live g c =
+pub returns-in-Err-Wrong-clause-call : goal.returns-in-Err-Wrong-clause-call
+returns-in-Err-Wrong-clause-call g c =
     let here = outside_over g.W.World g.K.Sink g.L.Links c.args.world.now c.args.out.now c.args.links.now in
-    no_words_live (asked_by c.args.words.now) g.W.World.tells g.K.Sink.tells g.L.Links.tells here here c.finish.result
-    (c.command_of.ensures.wrong (cc (c.in-Err-Wrong.is, c.in-Err-Wrong.field-0-is)))
-
-pub returns-in-Err-Wrong-clause-watched : goal.returns-in-Err-Wrong-clause-watched
-returns-in-Err-Wrong-clause-watched g c =
-    let here = outside_over g.W.World g.K.Sink g.L.Links c.args.world.now c.args.out.now c.args.links.now in
-    no_words_watched (asked_by c.args.words.now) g.W.World.tells g.K.Sink.tells g.L.Links.tells here here c.finish.result
-    (c.command_of.ensures.wrong (cc (c.in-Err-Wrong.is, c.in-Err-Wrong.field-0-is)))
-
-pub returns-in-Err-Wrong-clause-given_up : goal.returns-in-Err-Wrong-clause-given_up
-returns-in-Err-Wrong-clause-given_up g c =
-    let here = outside_over g.W.World g.K.Sink g.L.Links c.args.world.now c.args.out.now c.args.links.now in
-    no_words_given_up (asked_by c.args.words.now) g.W.World.tells g.L.Links.tells here here c.finish.result
+    no_words_call (asked_by c.args.words.now) g.W.World.tells g.K.Sink.tells g.L.Links.tells here here c.finish.result
     (c.command_of.ensures.wrong (cc (c.in-Err-Wrong.is, c.in-Err-Wrong.field-0-is)))
 
 pub returns-in-Err-NoMemory-clause-runs : goal.returns-in-Err-NoMemory-clause-runs
@@ -43,47 +31,35 @@ returns-in-Err-NoMemory-clause-runs g c =
     (output_at g.E.Sink c.args.err.now) (output_at g.E.Sink finish.new.err) finish.result
     [] finish.ensures.status finish.ensures.silent finish.ensures.front finish.ensures.told
 
-pub returns-in-Err-NoMemory-clause-live : goal.returns-in-Err-NoMemory-clause-live
-returns-in-Err-NoMemory-clause-live g c =
+pub returns-in-Err-NoMemory-clause-call : goal.returns-in-Err-NoMemory-clause-call
+returns-in-Err-NoMemory-clause-call g c =
     let here = outside_over g.W.World g.K.Sink g.L.Links c.args.world.now c.args.out.now c.args.links.now in
     let finish = c.finish-in-Err-NoMemory in
-    failed_live (asked_by c.args.words.now) g.W.World.tells g.K.Sink.tells g.L.Links.tells here here finish.result finish.ensures.status
-
-pub returns-in-Err-NoMemory-clause-watched : goal.returns-in-Err-NoMemory-clause-watched
-returns-in-Err-NoMemory-clause-watched g c =
-    let here = outside_over g.W.World g.K.Sink g.L.Links c.args.world.now c.args.out.now c.args.links.now in
-    let finish = c.finish-in-Err-NoMemory in
-    failed_at_all (asked_by c.args.words.now) g.W.World.tells g.K.Sink.tells g.L.Links.tells here here finish.result finish.ensures.status
-
-pub returns-in-Err-NoMemory-clause-given_up : goal.returns-in-Err-NoMemory-clause-given_up
-returns-in-Err-NoMemory-clause-given_up g c =
-    let here = outside_over g.W.World g.K.Sink g.L.Links c.args.world.now c.args.out.now c.args.links.now in
-    let finish = c.finish-in-Err-NoMemory in
-    failed_given_up (asked_by c.args.words.now) g.W.World.tells g.L.Links.tells here finish.result finish.ensures.status
+    failed_call (asked_by c.args.words.now) g.W.World.tells g.K.Sink.tells g.L.Links.tells here finish.result finish.ensures.status
 
 pub returns-in-Live : goal.returns-in-Live
 returns-in-Live g c =
     let call = c.serve_file in
+    let old = outside_over g.W.World g.K.Sink g.L.Links c.args.world.now c.args.out.now c.args.links.now in
+    let new = outside_over g.W.World g.K.Sink g.L.Links call.new.world call.new.out call.new.links in
     let m = mixed c.in-Live.call in
     let is : asked_by c.args.words.now ≡ Some (Live m) = c.in-Ok.ensures.asked ∙ ap (λ k. Some (meaning k)) c.in-Live.is in
     record {
-      runs = runs_served (Live m) is (λ name ending ends. ends) call.ensures.ends;
-      live = runs_live m is call.ensures.served;
-      watched = live_not_watched m is;
-      given_up = runs_given_up_live m is call.ensures.given_up;
+      runs = runs_served (Live m) is refl (λ name ending ends. ends) call.ensures.ends;
+      call = runs_call (asked_by c.args.words.now) (Live m) g.W.World.tells g.K.Sink.tells g.L.Links.tells old new call.result is (record { served = call.ensures.served; given_up = call.ensures.given_up });
       offline = λ none. call.ensures.offline (subst (λ w. uses_no_link w call.result ≡ true) is none);
     }
 
 pub returns-in-Watch : goal.returns-in-Watch
 returns-in-Watch g c =
     let call = c.serve_file-in-Watch in
+    let old = outside_over g.W.World g.K.Sink g.L.Links c.args.world.now c.args.out.now c.args.links.now in
+    let new = outside_over g.W.World g.K.Sink g.L.Links call.new.world call.new.out call.new.links in
     let m = mixed c.in-Watch.call in
     let is : asked_by c.args.words.now ≡ Some (Watch m) = c.in-Ok.ensures.asked ∙ ap (λ k. Some (meaning k)) c.in-Watch.is in
     record {
-      runs = runs_served (Watch m) is (λ name ending ends. ends) call.ensures.ends;
-      live = watched_not_live m is;
-      given_up = runs_given_up_watched m is call.ensures.given_up;
-      watched = runs_watched m is call.ensures.served;
+      runs = runs_served (Watch m) is refl (λ name ending ends. ends) call.ensures.ends;
+      call = runs_call (asked_by c.args.words.now) (Watch m) g.W.World.tells g.K.Sink.tells g.L.Links.tells old new call.result is (record { served = call.ensures.served; given_up = call.ensures.given_up });
       offline = λ none. call.ensures.offline (subst (λ w. uses_no_link w call.result ≡ true) is none);
     }
 
@@ -98,8 +74,7 @@ returns-in_default g c =
     record {
       runs = runs_linked (asked_by c.args.words.now) (meaning command) g.W.World.tells g.K.Sink.tells g.E.Sink.tells old new links links (output_at g.E.Sink c.args.err.now) (output_at g.E.Sink done.new.err)
           done.result c.in-Ok.ensures.asked off done.ensures;
-      live = no_live (meaning command) c.in-Ok.ensures.asked off;
-      watched = no_watched (meaning command) c.in-Ok.ensures.asked off;
-      given_up = no_given_up (meaning command) c.in-Ok.ensures.asked off;
+      call = no_call (asked_by c.args.words.now) (meaning command) g.W.World.tells g.K.Sink.tells g.L.Links.tells (outside_over g.W.World g.K.Sink g.L.Links c.args.world.now c.args.out.now c.args.links.now)
+          (outside_over g.W.World g.K.Sink g.L.Links done.new.world done.new.out c.args.links.now) done.result c.in-Ok.ensures.asked off;
       offline = λ e. refl;
     }

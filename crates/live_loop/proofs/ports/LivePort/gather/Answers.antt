@@ -1,5 +1,5 @@
 use Rattle.std.proofs.Common.{arith}
-use Rattle.live_loop.proofs.Advancing.{all_blocked, all_silent, begins, gathered_blocked, gathered_ended, gathered_failed, gathered_most, goes_seen, goes_still, then_grew}
+use Rattle.live_loop.proofs.Advancing.{all_blocked, all_silent, begins, gathered_blocked, gathered_ended, gathered_failed, gathered_most, goes_seen, goes_still, silent_goes, then_grew}
 use Rattle.live_loop.proofs.ports.LivePort.gather.Goals as goal
 
 pub returns-then-not-retry-clause-gathered : goal.returns-then-not-retry-clause-gathered
@@ -28,23 +28,29 @@ loop-preserved-in-Seen g c =
     goes_seen g.I.Pops.popped g.I.Pops.began g.M.Mixes.stands g.M.Mixes.legs g.M.Mixes.turns g.M.Mixes.addresses c.loop.takes c.args.self.now c.loop.self c.advance.new.self c.args.mixer.now c.loop.mixer c.advance.new.mixer c.loop.invariant
     c.advance.ensures.leg c.advance.ensures.grew c.advance.ensures.keeps c.in-Seen.ensures.advances
 
-pub loop-preserved : goal.loop-preserved
-loop-preserved g c =
+pub loop-preserved-in-Nothing : goal.loop-preserved-in-Nothing
+loop-preserved-in-Nothing g c =
     goes_still g.I.Pops.popped g.I.Pops.began g.M.Mixes.stands g.M.Mixes.legs g.M.Mixes.turns g.M.Mixes.addresses c.loop.takes c.args.self.now c.loop.self c.advance.new.self c.args.mixer.now c.loop.mixer c.advance.new.mixer c.loop.invariant
     c.advance.ensures.leg c.advance.ensures.grew c.advance.ensures.keeps c.in-Nothing.ensures.advances
 
-pub returns-in-Silent-clause-gathered : goal.returns-in-Silent-clause-gathered
-returns-in-Silent-clause-gathered g c =
+-- it had nothing before the turn
+pub loop-preserved : goal.loop-preserved
+loop-preserved g c =
+    goes_seen g.I.Pops.popped g.I.Pops.began g.M.Mixes.stands g.M.Mixes.legs g.M.Mixes.turns g.M.Mixes.addresses c.loop.takes c.args.self.now c.loop.self c.advance.new.self c.args.mixer.now c.loop.mixer c.advance.new.mixer c.loop.invariant
+    c.advance.ensures.leg c.advance.ensures.grew c.advance.ensures.keeps (silent_goes g.I.Pops.popped g.M.Mixes.stands c.loop.self c.advance.new.self c.loop.mixer c.advance.new.mixer c.in-Silent.ensures.advances)
+
+pub returns-then-self-turn-clause-gathered : goal.returns-then-self-turn-clause-gathered
+returns-then-self-turn-clause-gathered g c =
     all_silent g.I.Pops.popped g.I.Pops.began g.M.Mixes.stands g.M.Mixes.legs g.M.Mixes.turns g.M.Mixes.addresses c.loop.takes c.args.self.now c.loop.self c.advance.new.self c.args.mixer.now c.loop.mixer c.advance.new.mixer c.loop.invariant
-    c.in-Silent.ensures.advances
+    c.in-Silent.ensures.advances.1
 
 pub returns-in-Blocked-clause-gathered : goal.returns-in-Blocked-clause-gathered
 returns-in-Blocked-clause-gathered g c =
     all_blocked g.I.Pops.popped g.I.Pops.began g.M.Mixes.stands g.M.Mixes.legs g.M.Mixes.turns g.M.Mixes.addresses c.loop.takes c.args.self.now c.loop.self c.advance.new.self c.args.mixer.now c.loop.mixer c.advance.new.mixer c.loop.invariant
     c.in-Blocked.ensures.advances
 
-pub returns-in-Silent-clause-grew : goal.returns-in-Silent-clause-grew
-returns-in-Silent-clause-grew g c = then_grew g.I.Pops.popped g.I.Pops.began c.args.self.now c.loop.self c.advance.new.self c.loop.invariant.grew c.advance.ensures.grew
+pub returns-then-self-turn-clause-grew : goal.returns-then-self-turn-clause-grew
+returns-then-self-turn-clause-grew g c = then_grew g.I.Pops.popped g.I.Pops.began c.args.self.now c.loop.self c.advance.new.self c.loop.invariant.grew c.advance.ensures.grew
 
 pub returns-in-Blocked-clause-grew : goal.returns-in-Blocked-clause-grew
 returns-in-Blocked-clause-grew g c = then_grew g.I.Pops.popped g.I.Pops.began c.args.self.now c.loop.self c.advance.new.self c.loop.invariant.grew c.advance.ensures.grew

@@ -22,6 +22,7 @@ invariant_of-result c =
       outlets = λ j o g. let m = made.each j o g in record { own = m.own; all = m.legs ∙ sym made.count; next = omega (arith, m.next) };
       media = tt;
       turns = omega arith;
+      calm = λ j o g e s k d h seats now t l. absurd (omega (arith, l));
     }
 
 pub returns-clause-sources : goal.returns-clause-sources

@@ -1,4 +1,4 @@
-use Rattle.std.proofs.Common.{◌≤◌, ℕ, Option, None, sym, ap, subst, ◌∙◌}
+use Rattle.std.proofs.Common.{◌<◌, ◌≤◌, ℕ, Option, None, sym, ap, subst, ◌∙◌}
 use Rattle.mixer_spec.specs.Setups.{stream}
 use Rattle.mixer_spec.specs.Table.{serve}
 use Rattle.outlet.specs.Turns.{SendsNext}
@@ -8,14 +8,14 @@ use Rattle.outlet.proofs.AwareRounding.{none_served}
 use Rattle.outlet.proofs.AwareResting.{none_due}
 use Rattle.outlet.proofs.aware.AwareOutlet.turn.Goals as goal
 
-pub returns-then-self-clause-turned : goal.returns-then-self-clause-turned
-returns-then-self-clause-turned c = λ s table h now.
+pub returns-then-media-self-clause-turned : goal.returns-then-media-self-clause-turned
+returns-then-media-self-clause-turned c = λ s table h now.
     let o = c.args.self.now in
     let d = table.terminals o.own in
     let next : o.next ≤ 16 = subst (λ (x : AwareState). x.next ≤ 16) c.self.view_is c.self.invariant.next in
     subst (λ (x : Option ℕ). SendsNext (stream s o.own) d.past (serve s table.seats now c.args.media d x).past
     → IsTurned s table o.own (serve s table.seats now c.args.media d x) c.args.media o c.args.slots.now None c.args.text.now)
-    (none_due s table.seats o c.args.media d h.there.outlet (sym (ap (λ (x : AwareState). x.quiet) c.self.view_is) ∙ c.if-self.true) next)
+    (none_due s table.seats o c.args.media d h.there.outlet (subst (λ (n : ℕ). c.args.media < n) (ap (λ (x : AwareState). x.calm) c.self.view_is) c.if-media-self.true) next)
     (λ n. none_served s o o c.args.slots.now table c.args.media c.args.text.now h.there h.there.outlet)
 
 pub returns-in-Some-clause-turned : goal.returns-in-Some-clause-turned

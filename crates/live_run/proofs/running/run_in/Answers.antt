@@ -1,4 +1,4 @@
-use Rattle.std.proofs.Common.{◌≡◌, ℕ, List, length, ap, sym, subst, arith}
+use Rattle.std.proofs.Common.{◌≡◌, ℕ, List, length, refl, ap, sym, subst, arith}
 use Rattle.std.proofs.lemmas.List.{with_items_is}
 use Rattle.item_lanes.specs.declared.lanes.Lane.{Lane}
 use Rattle.item_lanes.specs.Pairs.{Pairs}
@@ -10,16 +10,16 @@ use Rattle.live_leg.specs.declared.legs.LinkLeg.{LinkLeg}
 use Rattle.live_loop.specs.declared.ports.LivePort.{LivePort}
 use Rattle.live_run.specs.Jobs.{ArePortsOf, IsInletOf, popped_in}
 use Rattle.live_run.proofs.Joining.{all_failed, all_gave, inlets_paired, none_popped, ports_begun, serving_first}
-use Rattle.live_run.proofs.running.run_job.Goals as goal
+use Rattle.live_run.proofs.running.run_in.Goals as goal
 
 pub turn_and_stop-turned-requires-clause-at : goal.turn_and_stop-turned-requires-clause-at
 turn_and_stop-turned-requires-clause-at g c =
-    subst (λ (xs : List (LivePort (Lane LegItem (LinkLeg g.row.L.Denot) g.row.G.Denot))). AreAt xs) (sym c.as_mut_slice.ensures.value) (ports_begun c.keep_lanes-lanes.result.lanes.items c.ports_over-ports.result.items c.ports_over-ports.ensures).at
+    subst (λ (xs : List (LivePort (Lane LegItem (LinkLeg g.row.L.Denot) g.row.G.Denot))). AreAt xs) (sym c.as_mut_slice.ensures.value) (ports_begun c.start_lanes-lanes.result.lanes.items c.ports_over-ports.result.items c.ports_over-ports.ensures).at
 
 pub turn_and_stop-turned-requires-clause-legs : goal.turn_and_stop-turned-requires-clause-legs
 turn_and_stop-turned-requires-clause-legs g c =
     let is = ap (λ (xs : List (LivePort (Lane LegItem (LinkLeg g.row.L.Denot) g.row.G.Denot))). length xs) c.as_mut_slice.ensures.value in
-    omega (arith, c.requires.terminals, is, (ports_begun c.keep_lanes-lanes.result.lanes.items c.ports_over-ports.result.items c.ports_over-ports.ensures).pairs.many, c.keep_lanes-lanes.ensures.lanes.many, c.args.job.legs.ok.0)
+    omega (arith, c.requires.terminals, is, (ports_begun c.start_lanes-lanes.result.lanes.items c.ports_over-ports.result.items c.ports_over-ports.ensures).pairs.many, c.start_lanes-lanes.ensures.lanes.many, c.args.job.legs.ok.0)
 
 pub join_lanes-legs-requires : goal.join_lanes-legs-requires
 join_lanes-legs-requires g c =
@@ -33,16 +33,16 @@ join_lanes-legs-requires g c =
       ap (λ (xs : List (LivePort (Lane LegItem (LinkLeg g.row.L.Denot) g.row.G.Denot))). length xs) whole,
       still,
       is,
-      (ports_begun c.keep_lanes-lanes.result.lanes.items c.ports_over-ports.result.items c.ports_over-ports.ensures).pairs.many,
-      c.keep_lanes-lanes.ensures.lanes.many,
+      (ports_begun c.start_lanes-lanes.result.lanes.items c.ports_over-ports.result.items c.ports_over-ports.ensures).pairs.many,
+      c.start_lanes-lanes.ensures.lanes.many,
       c.args.job.legs.ok.0,
     ) in
-    subst (λ (n : ℕ). HasRoomBack n c.keep_lanes-lanes.result.back) (sym same) c.keep_lanes-lanes.ensures.back
+    subst (λ (n : ℕ). HasRoomBack n c.start_lanes-lanes.result.back) (sym same) c.start_lanes-lanes.ensures.back
 
 pub returns : goal.returns
 returns g c =
     let job = c.args.job in
-    let began = c.keep_lanes-lanes in
+    let began = c.start_lanes-lanes in
     let ran = c.turn_and_stop-turned in
     let were = ran.ensures.were in
     let started = began.ensures.lanes in
@@ -56,6 +56,7 @@ returns g c =
     let inlets : Pairs IsInletOf ran.new.ports joined.result.items = subst (λ (xs : List (LivePort (Lane LegItem (LinkLeg g.row.L.Denot) g.row.G.Denot))). Pairs IsInletOf xs joined.result.items) whole (inlets_paired _ joined.result.items joined.ensures) in
     let back = c.join_lanes-legs in
     record {
+      same = refl;
       passed = ran.ensures.passed;
       addresses_are = ran.ensures.addresses;
       many = omega (arith, back.ensures.many, inlets.many, still, ports.pairs.many, started.many);

@@ -1,0 +1,2 @@
+pub mod LongFiles
+mod Examples

@@ -1,0 +1,6 @@
+//! What is looked at. Sizes are in octets.
+
+/// The most octets of a file that is looked at throughout: no form has more.
+pub const MOST_CHECKED_OCTETS: usize = 4_194_304;
+/// The most octets of a line that are shown.
+pub const MOST_SHOWN_OCTETS: usize = 100;

@@ -1,0 +1,50 @@
+//! Until when a leg waits for a datagram.
+ghost use Rattle.std.specs.Prelude.{◌≡◌, ◌<◌};
+
+use link_io::{Came, Taken};
+
+/// At which moment a leg's link was asked last, and until which one it may wait: turns are at the multiples of `tick` of its clock.
+/// All are in milliseconds.
+#[derive(Clone, Copy, Debug)]
+pub(crate) struct Pace {
+    at: u64,
+    until: u64,
+    tick: u64,
+    ghost some: { 0 < tick },
+}
+
+impl Pace {
+    /// That of a leg whose link was not asked yet: it answers at once.
+    pub(crate) fn new(tick: u64) -> Pace
+        requires { 0 < tick }
+    {
+        Pace {
+            at: 0,
+            until: 0,
+            tick,
+        }
+    }
+
+    /// The moment of the last take.
+    pub(crate) fn at(&self) -> u64 {
+        self.at
+    }
+
+    /// The moment until which the next take may wait.
+    pub(crate) fn until(&self) -> u64 {
+        self.until
+    }
+
+    /// The same behind a take that gave this. Where the link had nothing, the next one may wait until the turn behind it.
+    pub(crate) fn after(self, taken: Taken) -> Pace {
+        let until = match taken.came {
+            Came::Quiet => taken.at.saturating_add(self.tick - taken.at % self.tick),
+            _ => self.until,
+        };
+        Pace {
+            at: taken.at,
+            until,
+            tick: self.tick,
+        }
+    }
+}

@@ -1,0 +1,10 @@
+-- Terminals at which a turn changes nothing.
+use Rattle.std.specs.Prelude.{◌≡◌, ℕ, true, Some, List, slice_get}
+use Rattle.seating.specs.States.{State}
+use Rattle.seating.specs.Places.{has_place}
+use Rattle.outlet.specs.declared.outlets.Outlet.{Outlet}
+use Rattle.outlet.specs.Outlets.{IsCalmBefore}
+
+-- at each whose leg holds a place no turn before this media time changes anything
+abbrev pub AreCalmBefore : ℕ → State → List Outlet → Type 0
+AreCalmBefore calm seating all = (j : ℕ) (o : Outlet) → slice_get all j ≡ Some o → has_place seating j ≡ true → IsCalmBefore calm o

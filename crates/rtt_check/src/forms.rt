@@ -1,0 +1,104 @@
+//! What a file is.
+ghost use Rattle.std.specs.Prelude.{◌≡◌, IfOk};
+ghost use Rattle.std.specs.Str.Lines.{lines};
+ghost use Rattle.check_spec.specs.Forms.{begins, conference_of, first_said, foreign, form_of, has_mark, is_utf16, other_text, text_form, without_mark};
+
+use crate::lines::{begins_with_moment, first_said, has_conference, has_link};
+use check_spec::FileForm;
+use rtt_base::NoMemory;
+use std::alloc::Global;
+
+fn begins(octets: &[u8], front: &[u8]) -> bool
+    ensures { result ≡ begins octets.now front.now }
+{
+    octets.starts_with(front)
+}
+
+/// A capture or a compressed file.
+pub(crate) fn foreign(octets: &[u8]) -> Option<FileForm>
+    ensures { result ≡ foreign octets.now }
+{
+    if begins(octets, b"\x1F\x8B") {
+        Some(FileForm::Gzip)
+    } else if begins(octets, b"\xD4\xC3\xB2\xA1")
+        || begins(octets, b"\xA1\xB2\xC3\xD4")
+        || begins(octets, b"\x4D\x3C\xB2\xA1")
+        || begins(octets, b"\xA1\xB2\x3C\x4D")
+    {
+        Some(FileForm::Pcap)
+    } else if begins(octets, b"\x0A\x0D\x0D\x0A") {
+        Some(FileForm::PcapNg)
+    } else {
+        None
+    }
+}
+
+/// Whether the byte order mark of UTF-8 stands in front.
+pub(crate) fn has_mark(octets: &[u8]) -> bool
+    ensures { result ≡ has_mark octets.now }
+{
+    begins(octets, b"\xEF\xBB\xBF")
+}
+
+fn without_mark(octets: &[u8]) -> &[u8]
+    ensures { result.now ≡ without_mark octets.now }
+{
+    if has_mark(octets) {
+        &octets[3..]
+    } else {
+        octets
+    }
+}
+
+fn is_utf16(octets: &[u8]) -> bool
+    ensures { result ≡ is_utf16 octets.now }
+{
+    begins(octets, b"\xFF\xFE") || begins(octets, b"\xFE\xFF")
+}
+
+fn conference_of(alloc: Global, text: &[u8]) -> Result<FileForm, NoMemory>
+    ensures { IfOk result (λ form. form ≡ conference_of (lines text.now)) }
+{
+    if has_link(alloc, text)? {
+        Ok(FileForm::Links)
+    } else {
+        Ok(FileForm::Recordings)
+    }
+}
+
+fn other_text(alloc: Global, text: &[u8]) -> Result<FileForm, NoMemory>
+    ensures { IfOk result (λ form. form ≡ other_text (lines text.now)) }
+{
+    if has_conference(alloc, text)? {
+        conference_of(alloc, text)
+    } else {
+        Ok(FileForm::Nothing)
+    }
+}
+
+fn text_form(alloc: Global, text: &[u8]) -> Result<FileForm, NoMemory>
+    ensures { IfOk result (λ form. form ≡ text_form (first_said (lines text.now)) (lines text.now)) }
+{
+    match first_said(text) {
+        None => Ok(FileForm::Script),
+        Some(line) if begins_with_moment(line) => Ok(FileForm::Script),
+        Some(_) => other_text(alloc, text),
+    }
+}
+
+/// What a file is that is none of a foreign form.
+pub(crate) fn form_of(alloc: Global, octets: &[u8]) -> Result<FileForm, NoMemory>
+    ensures { IfOk result (λ form. form ≡ form_of octets.now) }
+{
+    if octets.is_empty() {
+        Ok(FileForm::Empty)
+    } else if begins(octets, b"#!rtpplay1.0 ") {
+        Ok(FileForm::Recording)
+    } else if begins(octets, b"\0") {
+        Ok(FileForm::Frames)
+    } else if is_utf16(octets) {
+        Ok(FileForm::Utf16)
+    } else {
+        text_form(alloc, without_mark(octets))
+    }
+}

@@ -1,0 +1,237 @@
+//! Lines and their words.
+ghost use Rattle.std.specs.Prelude.{◌≡◌, ◌==◌, not, map, option_map, IfOk};
+ghost use Rattle.std.specs.Char.{is_ascii_digit};
+ghost use Rattle.std.specs.List.{list_all, list_any};
+ghost use Rattle.std.specs.Str.Lines.{lines};
+ghost use Rattle.file_spec.specs.Conf.{is_blank};
+ghost use Rattle.file_spec.specs.Lines.{words};
+ghost use Rattle.file_spec.specs.Numbers.{is_number};
+ghost use Rattle.check_spec.specs.Checking.{line_at, word_in};
+ghost use Rattle.check_spec.specs.Forms.{begins_with_moment, first_said, is_conference_word, is_of_conference, is_of_link, is_of_moment, line_word, packet_word, said, time_word, word_of};
+
+use check_spec::LineWord;
+use file_lines::{next_line, says_nothing, text_of};
+use rtt_base::NoMemory;
+use std::alloc::Global;
+
+fn all_spaces(line: &[u8]) -> bool
+    ensures { result ≡ list_all (λ c. c == 32) line.now }
+{
+    line.iter().all(|octet| *octet == b' ')
+}
+
+fn says_something(line: &[u8]) -> bool
+    ensures { result ≡ not (is_blank line.now) }
+{
+    !(all_spaces(line) || says_nothing(line))
+}
+
+/// The words of a text: what stands between its spaces.
+fn text_words(alloc: Global, text: &str) -> Result<Vec<&str>, NoMemory>
+    ensures { IfOk result (λ v. map (λ w. w.now) v.items ≡ words text.now) }
+{
+    match text
+        .split(' ')
+        .filter(|word| !word.is_empty())
+        .collect(alloc)
+    {
+        Ok(words) => Ok(words),
+        Err(_) => Err(NoMemory),
+    }
+}
+
+/// The words of a line, where it is text.
+fn words_of(alloc: Global, line: &[u8]) -> Result<Vec<&str>, NoMemory>
+    ensures { IfOk result (λ v. map (λ w. w.now) v.items ≡ said line.now) }
+{
+    match text_of(line) {
+        Some(text) => text_words(alloc, text),
+        None => Ok(Vec::new(alloc)),
+    }
+}
+
+/// A digit, a sign or a point.
+fn is_of_moment(octet: u8) -> bool
+    ensures { result ≡ is_of_moment octet }
+{
+    octet.is_ascii_digit() || octet == b'-' || octet == b'+' || octet == b'.'
+}
+
+/// Whether a line begins with a moment, or what is meant as one, behind spaces.
+pub(crate) fn begins_with_moment(line: &[u8]) -> bool
+    ensures { result ≡ begins_with_moment line.now }
+{
+    let mut rest = line;
+    while let [octet, behind @ ..] = rest {
+        if *octet != b' ' {
+            return is_of_moment(*octet);
+        }
+        rest = behind;
+    }
+    false
+}
+
+fn is_conference_word(word: &str) -> bool
+    ensures { result ≡ is_conference_word word.now }
+{
+    word == "leg" || word == "mixer"
+}
+
+fn is_of_conference(words: &[&str]) -> bool
+    ensures { result ≡ is_of_conference (map (λ w. w.now) words.now) }
+{
+    match words {
+        [] => false,
+        [word, ..] => is_conference_word(word),
+    }
+}
+
+fn all_digits(octets: &[u8]) -> bool
+    ensures { result ≡ list_all is_ascii_digit octets.now }
+{
+    octets.iter().all(|octet| octet.is_ascii_digit())
+}
+
+fn is_port(word: &str) -> bool
+    ensures { result ≡ is_number word.now }
+{
+    let octets = word.as_bytes();
+    !octets.is_empty() && octets.len() <= 10 && all_digits(octets)
+}
+
+fn has_colon(word: &str) -> bool
+    ensures { result ≡ list_any (λ c. c == 58) word.now }
+{
+    word.as_bytes().iter().any(|octet| *octet == b':')
+}
+
+fn is_of_link(words: &[&str]) -> bool
+    ensures { result ≡ is_of_link (map (λ w. w.now) words.now) }
+{
+    match words {
+        [word, _, _, _, input, output, ..] => {
+            *word == "leg" && (is_port(input) || has_colon(output))
+        }
+        _ => false,
+    }
+}
+
+fn packet_word(word: &str) -> LineWord
+    ensures { result ≡ packet_word word.now }
+{
+    match word {
+        "lose" => LineWord::Lose,
+        "delay" => LineWord::Delay,
+        "twice" => LineWord::Twice,
+        _ => LineWord::Other,
+    }
+}
+
+fn time_word(word: &str) -> LineWord
+    ensures { result ≡ time_word word.now }
+{
+    match word {
+        "tick" => LineWord::Tick,
+        "spacing" => LineWord::Spacing,
+        "wait" => LineWord::Wait,
+        "turns" => LineWord::Turns,
+        "relabel" => LineWord::Relabel,
+        other => packet_word(other),
+    }
+}
+
+fn line_word(word: &str) -> LineWord
+    ensures { result ≡ line_word word.now }
+{
+    match word {
+        "leg" => LineWord::Leg,
+        "mixer" => LineWord::Mixer,
+        "gens" => LineWord::Gens,
+        "stay" => LineWord::Stay,
+        other => time_word(other),
+    }
+}
+
+fn word_of(words: &[&str]) -> LineWord
+    ensures { result ≡ word_of (map (λ w. w.now) words.now) }
+{
+    match words {
+        [] => LineWord::Other,
+        [word, ..] => line_word(word),
+    }
+}
+
+/// What a line tells, where there is one.
+pub(crate) fn word_in(alloc: Global, line: Option<&[u8]>) -> Result<LineWord, NoMemory>
+    ensures { IfOk result (λ word. word ≡ word_in (option_map (λ l. l.now) line.entry)) }
+{
+    match line {
+        Some(line) => {
+            let words = words_of(alloc, line)?;
+            Ok(word_of(words.as_slice()))
+        }
+        None => Ok(LineWord::Other),
+    }
+}
+
+/// The first line that says something.
+pub(crate) fn first_said(octets: &[u8]) -> Option<&[u8]>
+    ensures { option_map (λ l. l.now) result ≡ first_said (lines octets.now) }
+{
+    let mut rest = octets;
+    while let Some((line, after)) = next_line(rest) {
+        if says_something(line) {
+            return Some(line);
+        }
+        rest = after;
+    }
+    None
+}
+
+/// Whether a line has a leg or a mixer.
+pub(crate) fn has_conference(alloc: Global, octets: &[u8]) -> Result<bool, NoMemory>
+    ensures { IfOk result (λ has. has ≡ list_any (λ l. is_of_conference (said l)) (lines octets.now)) }
+{
+    let mut rest = octets;
+    while let Some((line, after)) = next_line(rest) {
+        let words = words_of(alloc, line)?;
+        if is_of_conference(words.as_slice()) {
+            return Ok(true);
+        }
+        rest = after;
+    }
+    Ok(false)
+}
+
+/// Whether a line has a leg over a link.
+pub(crate) fn has_link(alloc: Global, octets: &[u8]) -> Result<bool, NoMemory>
+    ensures { IfOk result (λ has. has ≡ list_any (λ l. is_of_link (said l)) (lines octets.now)) }
+{
+    let mut rest = octets;
+    while let Some((line, after)) = next_line(rest) {
+        let words = words_of(alloc, line)?;
+        if is_of_link(words.as_slice()) {
+            return Ok(true);
+        }
+        rest = after;
+    }
+    Ok(false)
+}
+
+/// The line of this number, of which the first is 1.
+pub(crate) fn line_at(octets: &[u8], number: u32) -> Option<&[u8]>
+    ensures { option_map (λ l. l.now) result ≡ line_at number (lines octets.now) }
+{
+    let mut rest = octets;
+    let mut left = number;
+    while let Some((line, after)) = next_line(rest) {
+        match left {
+            0 => return None,
+            1 => return Some(line),
+            _ => {}
+        }
+        left -= 1;
+        rest = after;
+    }
+    None
+}

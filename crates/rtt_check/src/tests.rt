@@ -1,0 +1,219 @@
+use crate::report_of;
+use rtt_base::{Bytes, NoMemory};
+use std::alloc::Global;
+use std::test::Fail;
+
+// What is told of the file f that has these octets.
+fn tells(alloc: Global, octets: &[u8], wanted: &[u8]) -> Result<bool, NoMemory> {
+    let report = report_of(alloc, b"f", octets)?;
+    Ok(report.text.as_slice() == wanted)
+}
+
+const TOLD: [(&str, &str); 24] = [
+    (
+        "mixer 9 0 0\nleg A aware 1 a.in a.out\nleg B aware 2 b.in b.out\nleg C deaf 3 c d\n",
+        "conference of recordings\nf line 4: Word\n| leg C deaf 3 c d\nbehind the name of a leg stands aware or unaware, in small letters\n",
+    ),
+    (
+        "mixer 9 0 0\nleg A aware 1 a.in a.out\nleg B aware 2 b.in b.out\ngens A\n",
+        "conference of recordings\nf line 4: Count\n| gens A\ngens has the words NAME N, and no other\n",
+    ),
+    (
+        "mixer 9 0 0\nleg A aware 1 a.in a.out\nleg B aware 2 b.in b.out\nlose C 1\n",
+        "conference of recordings\nf line 4: Name\n| lose C 1\nno leg above has this name: correct it, or move the line below that of the leg\n",
+    ),
+    (
+        "mixer 9 0 0\nleg A aware 1 a.in a.out\nleg B aware 2 b.in b.out\ngens A 4\n",
+        "conference of recordings\nf line 4: Number\n| gens A 4\ngens is a number from 0 to 3\n",
+    ),
+    (
+        "mixer 9 0 0\nleg A aware 1 a.in a.out\nleg B aware 2 b.in b.out\nmixer 8 0 0\n",
+        "conference of recordings\nf line 4: Twice\n| mixer 8 0 0\na line above says it: leave one of them out\n",
+    ),
+    (
+        "leg A aware 9 a.in a.out\nmixer 9 0 0\n",
+        "conference of recordings\nf line 2: Clash\n| mixer 9 0 0\na leg above has this SSRC: give the mixer its own\n",
+    ),
+    (
+        "mixer 9 0 0\nleg A aware 1 a b\n",
+        "conference of recordings\nf line 3: Few\nthe line mixer or a leg is missing: a conference has one mixer, and two legs at least\n",
+    ),
+    (
+        "mixer 9 0 0\nleg L10 aware 10 i10 o10\nleg L11 aware 11 i11 o11\nleg L12 aware 12 i12 o12\nleg L13 aware 13 i13 o13\nleg L14 aware 14 i14 o14\nleg L15 aware 15 i15 o15\nleg L16 aware 16 i16 o16\nleg L17 aware 17 i17 o17\nleg L18 aware 18 i18 o18\nleg L19 aware 19 i19 o19\nleg L20 aware 20 i20 o20\nleg L21 aware 21 i21 o21\nleg L22 aware 22 i22 o22\nleg L23 aware 23 i23 o23\nleg L24 aware 24 i24 o24\nleg L25 aware 25 i25 o25\nleg L26 aware 26 i26 o26\n",
+        "conference of recordings\nf line 19: Crowd\nat some moment more than 16 legs stay: give legs stays, so that one goes before another comes\n",
+    ),
+    (
+        "mixer 999 0 0\nleg L10 aware 10 5010 [::1]:10\nleg L11 aware 11 5011 [::1]:11\nleg L12 aware 12 5012 [::1]:12\nleg L13 aware 13 5013 [::1]:13\nleg L14 aware 14 5014 [::1]:14\nleg L15 aware 15 5015 [::1]:15\nleg L16 aware 16 5016 [::1]:16\nleg L17 aware 17 5017 [::1]:17\nleg L18 aware 18 5018 [::1]:18\nleg L19 aware 19 5019 [::1]:19\nleg L20 aware 20 5020 [::1]:20\nleg L21 aware 21 5021 [::1]:21\nleg L22 aware 22 5022 [::1]:22\nleg L23 aware 23 5023 [::1]:23\nleg L24 aware 24 5024 [::1]:24\nleg L25 aware 25 5025 [::1]:25\nleg L26 aware 26 5026 [::1]:26\n",
+        "conference of links\nf line 18: Many\n| leg L26 aware 26 5026 [::1]:26\na conference of links has at most 16 legs\n",
+    ),
+    (
+        "mixer 9 0 0\nleg A aware 1 5001 127.0.0.1:5101\nleg B aware 2 5002 127.0.0.1:5102\nstay A 0 1000\n",
+        "conference of links\nf line 4: Word\n| stay A 0 1000\na conference of links has no lines stay, lose, delay and twice: leave the line out\n",
+    ),
+    (
+        "mixer 9 0 0\nleg A aware 1 5001 127.0.0.1:5101\nleg B aware 2 5002 127.0.0.1:5102\nleg C aware 3 0 127.0.0.1:1\n",
+        "conference of links\nf line 4: Number\n| leg C aware 3 0 127.0.0.1:1\nSSRC is a number up to 4294967295, in decimal digits, IN is a port from 1 to 65535, and T140 and RED are numbers from 96 to 127\n",
+    ),
+    (
+        "mixer 9 0 0\nleg A aware 1 5001 127.0.0.1:5101\nleg B aware 2 5002 127.0.0.1:5102\nleg C aware 3 5001 127.0.0.1:1\n",
+        "conference of links\nf line 4: Clash\n| leg C aware 3 5001 127.0.0.1:1\nthe SSRC is that of a leg or the mixer above, the IN or the OUT is that of a leg above, or the two payload types are the same: give each its own\n",
+    ),
+    (
+        "mixer 9 0 0\nleg A aware 1 a.in a.out\nleg B aware 2 b.in b.out\n",
+        "conference of recordings: 2 legs, whole\n",
+    ),
+    (
+        "mixer 9 0 0\nleg A aware 1 5001 127.0.0.1:5101\nleg B aware 2 5002 127.0.0.1:5102\n",
+        "conference of links: 2 legs, whole\n",
+    ),
+    (
+        "0\tHi\n",
+        "script\nf line 1: Count\n| 0?Hi\nno space stands in the line: put one, and no tab, behind the number, also where nothing is typed\n",
+    ),
+    (
+        "500 b\n0 a\n",
+        "script\nf line 2: Order\n| 0 a\na line above is later: sort the lines by their numbers\n",
+    ),
+    (
+        "0 C:\\temp\n",
+        "script\nf line 1: Escape\n| 0 C:\\temp\na backslash stands before n, b, a or another backslash: write two for one\n",
+    ),
+    (
+        "0 xxxxxxxxxxxxxxxxxxxxxxxxxxxxxxxxxxxxxxxxxxxxxxxxxxxxxxxxxxxxxxxxxxxxxxxxxxxxxxxxxxxxxxxxxxxxxxxxxxxxxxxxxxxxxxxxxxxxxxxxxxxxxxxxxxxxxxxxxxxxxxxxxxxxxxxxxxxxxxxxxxxxxxxxxxxxxxxxxxxxxxxxxxxxxxxxxxxxxxxxxxxxxxxxxxxxxxxxxxxxxxxxxxxxxxxxxxxxxxxxxxxxxxxxxxxxxxxxxxxxxxxxxxxxxxxxxxxxxxxxxxxxxxxxxxxxxxxxxxxxxxxxxxxxxxxxxxxxxxxxxxxxxxxxxxxxxxxxxxxxxxxxxxxxxxxxxxxxxxxxxxxxxxxxxxxxxxxxxxxxxxxxxxxxxxxxxxxxxxxxxxxxxxxxxxxxxxxxxxxxxxxxxxxxxxxxxxxxxxxxxxxxxxxxxxxxxxxxxxxxxxxxxxxxxxxxxxxxxxxxxxxxxxxxxxxxxxxxxxxxxxxxxxxxxxxxxxxxxxxxxxxxxxxxxxxxxxxxxxxxxxxxxxxxxxxxxxxxxxxxxxxxxxxxxxxxxxxxxxxxxxxxxxxxxxxxxxxxxxxxxxxxxxxxxxxxxxxxxxxxxxxxxxxxxxxxxxxxxxxxxxxxxxxxxxxxxxxxxxxxxxxxxxxxxxxxxxxxxxxxxxxxxxxxxxxxxxxxxxxxxxxxxxxxxxxxxxxxxxxxxxxxxxxxxxxxxxxxxxxxxxxxxxxxxxxxxxxxxxxxxxxxxxxxxxxxxxxxxxxxxxxxxxxxxxxxxxxxxxxxxxxxxxxxxxxxxxxxxxxxxxxxxxxxxxxxxxxxxxxxxxxxxxxxxxxxxxxxxxxxxxxxxxxxxxxxxxxxxxxxxxxxxxxxxxxxxxxxxxxxxxxxxxxxxxxxxxxxxxxxxxxxxxxxxxxxxxxxxxxxxxxxxxxxxxxxxxxxxxxxxxxxxxxxxxxxxxxxxxxxxxxxxxxxxxxxxxxxxxxxxxxxxxxxxxxxxxxxxxxxxxxx\n",
+        "script\nf line 1: Long\n| 0 xxxxxxxxxxxxxxxxxxxxxxxxxxxxxxxxxxxxxxxxxxxxxxxxxxxxxxxxxxxxxxxxxxxxxxxxxxxxxxxxxxxxxxxxxxxxxxxxxx\na line types at most 1023 octets: make two lines of it\n",
+    ),
+    (
+        " 0 Hi\n",
+        "script\nf line 1: Number\n|  0 Hi\nbefore the first space stands a whole number of milliseconds up to 14400000, in decimal digits, and the line begins with it\n",
+    ),
+    ("0 Hi.\n900 you\n", "script: 2 lines, whole\n"),
+    ("# nothing\n", "script: 0 lines, whole\n"),
+    (
+        "",
+        "empty\nnothing is in the file: as a script and as frames it is taken, and says nothing\n",
+    ),
+    (
+        "Hello.\n",
+        "nothing of these\na recording begins with #!rtpplay1.0, a line of a script with a number, and a conference has lines that begin with mixer and leg\n",
+    ),
+    (
+        "#!rtpplay1.0 a/1",
+        "recording\nf byte 0: NotDump\nthere is no line feed among the first 128 octets: export the recording as rtpdump anew\n",
+    ),
+];
+
+#[test]
+fn each_kind_of_fault_has_its_sentence(rt: HostRuntime) -> Result<(), Fail> {
+    for (octets, wanted) in &TOLD {
+        assert!(rt; tells(rt.alloc(), octets.as_bytes(), wanted.as_bytes())?);
+    }
+    Ok(())
+}
+
+const TOLD_OF_OCTETS: [(&[u8], &str); 20] = [
+    (
+        b"#!rtpplay1.0 127.0.0.1/5004\x0A\x00\x00\x00\x00\x00\x00\x00\x00\x00\x00\x00\x00\x00\x00\x00\x00\x00\x15\x00\x0D\x00\x00\x00\x00\x80b\x00\x00\x00\x00\x00\x00\x00\x00\x03\xE9A\x00\x08\x00\x00\x00\x00\x00\x01",
+        "recording: 1 packets, whole\n",
+    ),
+    (
+        b"#!rtpplay1.0 127.0.0.1/5004\x0A\x00\x00\x00\x00\x00\x00\x00\x00\x00\x00\x00\x00\x00\x00\x00\x00\x00\x15\x00\x0D\x00\x00\x00\x00\x80b\x00\x00\x00\x00\x00\x00\x00\x00\x03\xE9A\x00\x1E",
+        "recording\nf byte 65: EndsInside\nthe file ends inside the head or the record that begins at this byte: it was broken off; keep what stands before it, which show prints\n",
+    ),
+    (
+        b"#!rtpplay1.0 127.0.0.1/5004\x0A\x00\x00\x00\x00\x00\x00\x00\x00\x00\x00\x00\x00\x00\x00\x00\x00\x00\x07\x00\x00\x00\x00\x00\x00",
+        "recording\nf byte 44: BadLength\nthe length of a record is below 8, so the file is damaged from this byte on: keep what stands before it, which show prints\n",
+    ),
+    (
+        b"#!rtpplay1.0 127.0.0.1/5004\x0A\x00\x00\x00\x00\x00\x00\x00\x00\x00\x00\x00\x00\x00\x00\x00\x00\x00\x15\x00\x0D\x00\xDB\xBA\x01\x80b\x00\x00\x00\x00\x00\x00\x00\x00\x03\xE9A",
+        "recording\nf byte 44: TooLong\nthe time of a record is above 14400000 milliseconds: export the call in parts, each with times from 0\n",
+    ),
+    (
+        b"\x00\x00\x00\x00\x00\x01A\x00\x00\x01,\x00\x01B",
+        "frames: 14 octets, whole\n",
+    ),
+    (
+        b"\x00\x00\x00\x00\x00\x01A\x00\x00\x01,\x00\x01",
+        "frames\nf byte 7: EndsInside\nthe file ends inside the frame that begins at this byte: it was broken off; keep what stands before it\n",
+    ),
+    (
+        b"\x00\x00\x00\x01\x00\x01A\x00\x00\x00\x00\x00\x01B",
+        "frames\nf byte 7: Time\nthe time of a frame is not before that of the frame in front, and below 16777216: count milliseconds from the first frame, and sort the frames\n",
+    ),
+    (
+        b"\x00\x00\x00\x00\x00\x00",
+        "frames\nf byte 0: Length\nthe text of a frame has 1 to 1023 octets: leave empty texts out, and part long ones\n",
+    ),
+    (
+        b"\x00\x00\x00\x00\x00\x01\xC3",
+        "frames\nf byte 0: NotText\nthe text of a frame is not UTF-8: cut texts between characters\n",
+    ),
+    (
+        b"\x1F\x8B\x08",
+        "gzip\nthe file is compressed: unpack it first\n",
+    ),
+    (
+        b"\xD4\xC3\xB2\xA1",
+        "pcap\nthe program reads no captures: examples/from-pcap makes recordings of one, and Wireshark exports a stream as rtpdump\n",
+    ),
+    (
+        b"\xA1\xB2\xC3\xD4",
+        "pcap\nthe program reads no captures: examples/from-pcap makes recordings of one, and Wireshark exports a stream as rtpdump\n",
+    ),
+    (
+        b"M<\xB2\xA1",
+        "pcap\nthe program reads no captures: examples/from-pcap makes recordings of one, and Wireshark exports a stream as rtpdump\n",
+    ),
+    (
+        b"\xA1\xB2<M",
+        "pcap\nthe program reads no captures: examples/from-pcap makes recordings of one, and Wireshark exports a stream as rtpdump\n",
+    ),
+    (
+        b"\x0A\x0D\x0D\x0A",
+        "pcapng\nthe program reads no captures: examples/from-pcap makes recordings of one, and Wireshark exports a stream as rtpdump\n",
+    ),
+    (
+        b"\xFF\xFE0\x00",
+        "text in UTF-16\nsave the file as UTF-8 without a byte order mark\n",
+    ),
+    (
+        b"\xFE\xFF\x000",
+        "text in UTF-16\nsave the file as UTF-8 without a byte order mark\n",
+    ),
+    (
+        b"\xEF\xBB\xBF0 Hi\x0A",
+        "script\nf line 1: Number\n| ???0 Hi\nthe file begins with a byte order mark: save it as UTF-8 without one\n",
+    ),
+    (
+        b"0 caf\xE9\x0A",
+        "script\nf line 1: NotText\n| 0 caf?\nthe line is not UTF-8: save the file as UTF-8\n",
+    ),
+    (
+        b"mixer 9 0 0\x0Aleg A aware 1 a.in a.out\x0Aleg B aware 2 b.in b.out\x0Atick 100\xC3\x0A",
+        "conference of recordings\nf line 4: NotText\n| tick 100?\nthe line is not UTF-8: save the file as UTF-8\n",
+    ),
+];
+
+#[test]
+fn octets_are_told_apart(rt: HostRuntime) -> Result<(), Fail> {
+    for (octets, wanted) in &TOLD_OF_OCTETS {
+        assert!(rt; tells(rt.alloc(), *octets, wanted.as_bytes())?);
+    }
+    Ok(())
+}
+
+#[test]
+fn what_is_too_large_is_told(rt: HostRuntime) -> Result<(), Fail> {
+    let mut octets = Bytes::new(rt.alloc());
+    for _ in 0..4097 {
+        octets.append(&[b'#'; 1024])?;
+    }
+    let report = report_of(rt.alloc(), b"f", octets.as_slice())?;
+    assert!(rt;
+        report
+            .text
+            .as_slice()
+            .starts_with(b"more than 4194304 octets\n")
+    );
+    assert!(rt; !report.taken);
+    Ok(())
+}

@@ -1,0 +1,4 @@
+pub mod Ordered
+pub mod Numbers
+pub mod Times
+pub mod Laws
