@@ -3,7 +3,7 @@ ghost use Rattle.std.specs.Prelude.{◌≡◌, ℕ};
 ghost use Rattle.leaving_links.specs.Leaving.{takes_told};
 
 use crate::LeavingIn;
-use link_io::Links;
+use link_io::{Beat, Links};
 use rtt_base::Failed;
 
 /// Links over others, each of which is closed for good once its peer has left ([`LeavingIn`]). All else is as below: the outbound ends,
@@ -47,6 +47,8 @@ impl<L: Links> Links for Leaving<L> {
 
     type Out = L::Out;
 
+    type Clock = L::Clock;
+
     ghost tells = { L.tells };
 
     ghost opened = { λ all. L.opened all.links };
@@ -86,6 +88,10 @@ impl<L: Links> Links for Leaving<L> {
 
     fn now(&mut self) -> u64 {
         self.links.now()
+    }
+
+    fn beat(&self) -> Beat<'_, L::Clock> {
+        self.links.beat()
     }
 
     fn pause_until(&mut self, until: u64) {

@@ -1,5 +1,7 @@
 pub mod Taking
 pub mod Told
+pub mod Given
+pub mod GivenTold
 pub mod Alike
 pub mod Ports
 pub mod MemPorts

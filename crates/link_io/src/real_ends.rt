@@ -6,7 +6,7 @@ ghost use Rattle.link_io.specs.Receiving.{IsOpenStill};
 use crate::bells::Bell;
 use crate::clocks::millis_since;
 use crate::peers::{Peer, is_from};
-use crate::{Came, LinkIn, LinkOut, Taken};
+use crate::{Beat, Came, LinkIn, LinkOut, Taken};
 use rtt_base::{Failed, Packet};
 use std::io;
 use std::io::ErrorKind;
@@ -193,6 +193,10 @@ fn hand_out(octets: &[u8], out: &mut Packet) -> Came
     }
 }
 
+/// The kind of clock of links over UDP.
+#[derive(Debug, Drop)]
+pub struct UdpClock;
+
 /// The outbound end of a link over UDP, whose packets come from the port of the inbound one. A datagram that finds no way to
 /// its peer is lost, and no fault.
 #[derive(Drop)]
@@ -203,6 +207,8 @@ pub struct RealOut {
 }
 
 impl LinkOut for RealOut {
+    type Clock = UdpClock;
+
     ghost use Rattle.std.specs.Prelude.{[]};
 
     ghost tells = { ⊥ };
@@ -213,7 +219,7 @@ impl LinkOut for RealOut {
 
     ghost port = { λ link. link.port };
 
-    fn give(&mut self, packet: &[u8]) -> Result<(), Failed> {
+    fn give(&mut self, _beat: &Beat<'_, Self::Clock>, packet: &[u8]) -> Result<(), Failed> {
         match self.send(packet) {
             Ok(_) => Ok(()),
             Err(error) if is_absence(error.kind()) => Ok(()),

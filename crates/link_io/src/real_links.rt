@@ -2,11 +2,11 @@
 ghost use Rattle.std.specs.Prelude.{◌≡◌, ◌<◌, ◌≤◌, ◌^◌, ℕ, IfSome};
 ghost use Rattle.link_io.specs.Peers.{IsLocal};
 
-use crate::Links;
 use crate::bells::Bell;
 use crate::clocks::millis_since;
 use crate::peers::{Peer, own_address, peer_of};
-use crate::real_ends::{RealIn, RealOut};
+use crate::real_ends::{RealIn, RealOut, UdpClock};
+use crate::{Beat, Links};
 use rtt_base::Failed;
 use std::alloc::Global;
 use std::net::{Net, SocketAddr, UdpSocket};
@@ -110,6 +110,8 @@ impl<R: Net + Clock + Copy + Send> Links for RealLinks<R> {
 
     type Out = RealOut;
 
+    type Clock = UdpClock;
+
     ghost use Rattle.std.specs.Prelude.{false, []};
 
     ghost tells = { ⊥ };
@@ -150,6 +152,10 @@ impl<R: Net + Clock + Copy + Send> Links for RealLinks<R> {
 
     fn now(&mut self) -> u64 {
         self.look()
+    }
+
+    fn beat(&self) -> Beat<'_, UdpClock> {
+        Beat::of(&self.pauses)
     }
 
     fn pause_until(&mut self, until: u64) {

@@ -10,6 +10,7 @@ ghost use Rattle.file_spec.specs.declared.limits.TheConstants.{MOST_LEGS};
 
 use crate::ports::Port;
 use crate::{Inlet, Mixes};
+use link_io::Beat;
 use std::sync::Wait;
 
 /// How a mixing ended.
@@ -226,7 +227,7 @@ fn take_turns<I: Inlet, M: Mixes, R: Wait>(
             Before::Over => return Turned::Over,
             Before::Faulted => return Turned::Faulted,
         }
-        match mixer.turn(now) {
+        match mixer.turn(now, &Beat::last()) {
             Ok(()) => {}
             Err(fault) => return Turned::Stopped(fault),
         }
