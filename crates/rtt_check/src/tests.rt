@@ -9,7 +9,7 @@ fn tells(alloc: Global, octets: &[u8], wanted: &[u8]) -> Result<bool, NoMemory> 
     Ok(report.text.as_slice() == wanted)
 }
 
-const TOLD: [(&str, &str); 24] = [
+const TOLD: [(&str, &str); 31] = [
     (
         "mixer 9 0 0\nleg A aware 1 a.in a.out\nleg B aware 2 b.in b.out\nleg C deaf 3 c d\n",
         "conference of recordings\nf line 4: Word\n| leg C deaf 3 c d\nbehind the name of a leg stands aware or unaware, in small letters\n",
@@ -56,7 +56,35 @@ const TOLD: [(&str, &str); 24] = [
     ),
     (
         "mixer 9 0 0\nleg A aware 1 5001 127.0.0.1:5101\nleg B aware 2 5002 127.0.0.1:5102\nleg C aware 3 5001 127.0.0.1:1\n",
-        "conference of links\nf line 4: Clash\n| leg C aware 3 5001 127.0.0.1:1\nthe SSRC is that of a leg or the mixer above, the IN or the OUT is that of a leg above, or the two payload types are the same: give each its own\n",
+        "conference of links\nf line 4: Clash\n| leg C aware 3 5001 127.0.0.1:1\nthe SSRC is that of a leg or the mixer above, the IN is that of a leg or the operator above, the OUT is that of a leg above, or the two payload types are the same: give each its own\n",
+    ),
+    (
+        "mixer 9 0 0\nleg A aware 1 a.in a.out\nleg B aware 2 b.in b.out\ngone 60000\n",
+        "conference of recordings\nf line 4: Word\n| gone 60000\na conference of recordings has no lines gone and operator: leave the line out\n",
+    ),
+    (
+        "mixer 9 0 0\nleg A aware 1 5001 127.0.0.1:5101\nleg B aware 2 5002 127.0.0.1:5102\nseat A\n",
+        "conference of links\nf line 4: Word\n| seat A\na line begins with mixer, leg, gens, tick, spacing, wait, turns, relabel, gone or operator, in small letters, or with # as its first octet: correct the word, and part words by spaces, not by tabs\n",
+    ),
+    (
+        "mixer 9 0 0\nleg A aware 1 5001 127.0.0.1:5101\nleg B aware 2 5002 127.0.0.1:5102\ngone 9999\n",
+        "conference of links\nf line 4: Number\n| gone 9999\ngone is a number of milliseconds from 10000 to 86400000\n",
+    ),
+    (
+        "mixer 9 0 0\nleg A aware 1 5001 127.0.0.1:5101\nleg B aware 2 5002 127.0.0.1:5102\noperator 6100\n",
+        "conference of links\nf line 4: Count\n| operator 6100\noperator has the words PORT WORD, and no other\n",
+    ),
+    (
+        "mixer 9 0 0\nleg A aware 1 5001 127.0.0.1:5101\nleg B aware 2 5002 127.0.0.1:5102\noperator 6100 seven77\n",
+        "conference of links\nf line 4: Name\n| operator 6100 seven77\nWORD has 8 to 64 letters A to Z and a to z and digits\n",
+    ),
+    (
+        "mixer 9 0 0\nleg A aware 1 5001 127.0.0.1:5101\nleg B aware 2 5002 127.0.0.1:5102\noperator 0 Word4Watch\n",
+        "conference of links\nf line 4: Number\n| operator 0 Word4Watch\nPORT is a number from 1 to 65535\n",
+    ),
+    (
+        "mixer 9 0 0\nleg A aware 1 5001 127.0.0.1:5101\nleg B aware 2 5002 127.0.0.1:5102\noperator 5001 Word4Watch\n",
+        "conference of links\nf line 4: Clash\n| operator 5001 Word4Watch\na leg above has this port: give the operator its own\n",
     ),
     (
         "mixer 9 0 0\nleg A aware 1 a.in a.out\nleg B aware 2 b.in b.out\n",
