@@ -15,7 +15,11 @@ mod streams;
 mod surveys;
 mod views;
 
-pub use shows::show_recording;
+pub use first_sources::FirstSources;
+pub use found::Found;
+pub use groups::{Group, Groups};
+pub use shows::{gather, show_recording};
+pub use views::append_end;
 
 #[cfg(test)]
 mod tests;

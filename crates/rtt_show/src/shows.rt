@@ -25,7 +25,7 @@ fn is_end(kind: DumpKind) -> bool
 }
 
 /// Takes all records that are still to come, and answers the fault that ends them, if one does.
-fn gather<S: Source>(
+pub fn gather<S: Source>(
     alloc: Global,
     reader: &mut DumpReader<S>,
     found: &mut Found,

@@ -83,7 +83,7 @@ fn append_others(found: &Found, out: &mut Bytes) -> Result<(), NoMemory>
 
 /// Appends the last line: that the recording is whole, or the fault behind which it can't be read.
 #[tactic(auto, unfolding(command_spec::specs::Showing::end_line))]
-fn append_end(end: Option<DumpFault>, out: &mut Bytes) -> Result<(), NoMemory>
+pub fn append_end(end: Option<DumpFault>, out: &mut Bytes) -> Result<(), NoMemory>
     ensures { OnOk result (out.new ≡ out.old ++ end_line (ends end)) }
 {
     match end {
