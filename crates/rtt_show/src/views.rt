@@ -2,7 +2,8 @@
 ghost use Rattle.std.specs.Prelude.{◌≡◌, ℕ, ◌<◌, ◌^◌, ◌++◌, List, length, All, IfOk, OnOk};
 ghost use Rattle.wire_spec.specs.Dump.{Item};
 ghost use Rattle.command_spec.specs.Streams.{ssrc_of, type_of};
-ghost use Rattle.command_spec.specs.Showing.{end_line, items_view};
+ghost use Rattle.command_spec.specs.Showing.{end_line};
+ghost use Rattle.show_spec.specs.Showing.{items_view};
 ghost use Rattle.rtpdump_io.specs.InMemory.{HasRecords};
 ghost use Rattle.rtt_show.specs.Finds.{IsFound, IsSmall};
 ghost use Rattle.rtt_show.specs.Whole.{AreShown, IsGroupOf, IsGroupShown, ends, others_text, shape_limit};

@@ -5,7 +5,8 @@ use Rattle.wire_spec.specs.Dump.{Recording, dump, usual_limit}
 use Rattle.rtpdump_io.specs.declared.items.RecordingFault.{RecordingFault}
 use Rattle.rtpdump_io.specs.declared.items.RecordingFault.TheVariants.{Dump, NoMemory}
 use Rattle.rtpdump_io.specs.Faults.{FaultOf}
-use Rattle.command_spec.specs.Showing.{if_no_recording, recording_view, show_view}
+use Rattle.command_spec.specs.Showing.{if_no_recording}
+use Rattle.show_spec.specs.Showing.{recording_view, show_view}
 use Rattle.rtt_show.specs.Gathers.{IsRefused}
 use Rattle.rtt_top.specs.declared.views.RecordingView.{RecordingView}
 use Rattle.rtt_top.specs.declared.views.RecordingView.TheVariants.{Lines, Streams, Text, Transcript}

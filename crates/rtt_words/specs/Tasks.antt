@@ -18,7 +18,8 @@ use Rattle.command_spec.specs.Making.{making}
 use Rattle.command_spec.specs.Messages.{version_line}
 use Rattle.command_spec.specs.Mixing.{mixing}
 use Rattle.command_spec.specs.Reading.{read_view}
-use Rattle.command_spec.specs.Showing.{show_refusal, show_view}
+use Rattle.command_spec.specs.Showing.{show_refusal}
+use Rattle.show_spec.specs.Showing.{show_view}
 use Rattle.command_spec.specs.Transcripts.{transcript_view}
 use Rattle.command_spec.specs.Frames.{relay, channel}
 use Rattle.frame_spec.specs.declared.frames.FrameFault.{FrameFault}
