@@ -28,6 +28,10 @@ form_name form.Script = codes "script"
 form_name form.Recordings = codes "conference of recordings"
 form_name form.Links = codes "conference of links"
 
+-- what a conference of recordings is that is right for `cascade`
+abbrev pub cascade_name : List ℕ
+cascade_name = codes "conference of recordings, for cascade"
+
 -- what is wrong with a file of which nothing is taken
 abbrev pub form_sentence : FileForm → List ℕ
 form_sentence form.Gzip = codes "the file is compressed: unpack it first"
@@ -243,3 +247,7 @@ conf_sentence f w kind.Full = []
 -- where the file begins with a byte order mark
 abbrev pub mark_sentence : List ℕ
 mark_sentence = codes "the file begins with a byte order mark: save it as UTF-8 without one"
+
+-- what is wrong with a leg behind another mixer
+abbrev pub trunk_sentence : List ℕ
+trunk_sentence = codes "the recording of another mixer has the payload types 98 and 100: leave them out of the line, or name another IN than trunk"

@@ -1,6 +1,6 @@
 //! What is wrong with a file, and what to do.
 ghost use Rattle.std.specs.Prelude.{◌≡◌};
-ghost use Rattle.check_spec.specs.Sentences.{clash_sentence, conf_sentence, count_sentence, dump_sentence, form_name, form_sentence, frame_sentence, many_sentence, name_sentence, number_sentence, script_sentence, twice_sentence, word_sentence};
+ghost use Rattle.check_spec.specs.Sentences.{clash_sentence, conf_sentence, count_sentence, dump_sentence, form_name, form_sentence, frame_sentence, many_sentence, name_sentence, number_sentence, script_sentence, trunk_sentence, twice_sentence, word_sentence};
 
 use check_spec::{FileForm, LineWord};
 use file_spec::{ConfKind, Form};
@@ -383,3 +383,13 @@ pub(crate) fn conf_sentence(form: Form, word: LineWord, kind: ConfKind) -> &'sta
 /// What is wrong where the file begins with a byte order mark.
 pub(crate) const MARK_SENTENCE: &[u8] =
     b"the file begins with a byte order mark: save it as UTF-8 without one";
+
+/// What a conference of recordings is that is right for `cascade`.
+pub(crate) const CASCADE_NAME: &[u8] = b"conference of recordings, for cascade";
+
+/// What is wrong with a leg behind another mixer.
+pub(crate) fn trunk_sentence() -> &'static [u8]
+    ensures { result.now ≡ trunk_sentence }
+{
+    b"the recording of another mixer has the payload types 98 and 100: leave them out of the line, or name another IN than trunk"
+}

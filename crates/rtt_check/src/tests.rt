@@ -9,7 +9,7 @@ fn tells(alloc: Global, octets: &[u8], wanted: &[u8]) -> Result<bool, NoMemory> 
     Ok(report.text.as_slice() == wanted)
 }
 
-const TOLD: [(&str, &str); 24] = [
+const TOLD: [(&str, &str); 26] = [
     (
         "mixer 9 0 0\nleg A aware 1 a.in a.out\nleg B aware 2 b.in b.out\nleg C deaf 3 c d\n",
         "conference of recordings\nf line 4: Word\n| leg C deaf 3 c d\nbehind the name of a leg stands aware or unaware, in small letters\n",
@@ -67,6 +67,14 @@ const TOLD: [(&str, &str); 24] = [
         "conference of links: 2 legs, whole\n",
     ),
     (
+        "mixer 9 0 0\nleg A aware 1 trunk a.out\nleg B aware 2 b.in b.out\n",
+        "conference of recordings, for cascade: 2 legs, whole\n",
+    ),
+    (
+        "mixer 9 0 0\nleg A aware 1 trunk a.out 96 97\nleg B aware 2 b.in b.out\n",
+        "conference of recordings\nf line 2: Trunk\n| leg A aware 1 trunk a.out 96 97\nthe recording of another mixer has the payload types 98 and 100: leave them out of the line, or name another IN than trunk\n",
+    ),
+    (
         "0\tHi\n",
         "script\nf line 1: Count\n| 0?Hi\nno space stands in the line: put one, and no tab, behind the number, also where nothing is typed\n",
     ),
@@ -98,7 +106,7 @@ const TOLD: [(&str, &str); 24] = [
     ),
     (
         "#!rtpplay1.0 a/1",
-        "recording\nf byte 0: NotDump\nthere is no line feed among the first 128 octets: export the recording as rtpdump anew\n",
+        "recording\nf byte 0: NotDump\n| 23 21 72 74 70 70 6c 61 79 31 2e 30 20 61 2f 31\nthere is no line feed among the first 128 octets: export the recording as rtpdump anew\n",
     ),
 ];
 
@@ -117,15 +125,15 @@ const TOLD_OF_OCTETS: [(&[u8], &str); 20] = [
     ),
     (
         b"#!rtpplay1.0 127.0.0.1/5004\x0A\x00\x00\x00\x00\x00\x00\x00\x00\x00\x00\x00\x00\x00\x00\x00\x00\x00\x15\x00\x0D\x00\x00\x00\x00\x80b\x00\x00\x00\x00\x00\x00\x00\x00\x03\xE9A\x00\x1E",
-        "recording\nf byte 65: EndsInside\nthe file ends inside the head or the record that begins at this byte: it was broken off; keep what stands before it, which show prints\n",
+        "recording\nf byte 65: EndsInside\n| 00 1e\nthe file ends inside the head or the record that begins at this byte: it was broken off; keep what stands before it, which show prints\n",
     ),
     (
         b"#!rtpplay1.0 127.0.0.1/5004\x0A\x00\x00\x00\x00\x00\x00\x00\x00\x00\x00\x00\x00\x00\x00\x00\x00\x00\x07\x00\x00\x00\x00\x00\x00",
-        "recording\nf byte 44: BadLength\nthe length of a record is below 8, so the file is damaged from this byte on: keep what stands before it, which show prints\n",
+        "recording\nf byte 44: BadLength\n| 00 07 00 00 00 00 00 00\nthe length of a record is below 8, so the file is damaged from this byte on: keep what stands before it, which show prints\n",
     ),
     (
         b"#!rtpplay1.0 127.0.0.1/5004\x0A\x00\x00\x00\x00\x00\x00\x00\x00\x00\x00\x00\x00\x00\x00\x00\x00\x00\x15\x00\x0D\x00\xDB\xBA\x01\x80b\x00\x00\x00\x00\x00\x00\x00\x00\x03\xE9A",
-        "recording\nf byte 44: TooLong\nthe time of a record is above 14400000 milliseconds: export the call in parts, each with times from 0\n",
+        "recording\nf byte 44: TooLong\n| 00 15 00 0d 00 db ba 01 80 62 00 00 00 00 00 00\nthe time of a record is above 14400000 milliseconds: export the call in parts, each with times from 0\n",
     ),
     (
         b"\x00\x00\x00\x00\x00\x01A\x00\x00\x01,\x00\x01B",
@@ -133,19 +141,19 @@ const TOLD_OF_OCTETS: [(&[u8], &str); 20] = [
     ),
     (
         b"\x00\x00\x00\x00\x00\x01A\x00\x00\x01,\x00\x01",
-        "frames\nf byte 7: EndsInside\nthe file ends inside the frame that begins at this byte: it was broken off; keep what stands before it\n",
+        "frames\nf byte 7: EndsInside\n| 00 00 01 2c 00 01\nthe file ends inside the frame that begins at this byte: it was broken off; keep what stands before it\n",
     ),
     (
         b"\x00\x00\x00\x01\x00\x01A\x00\x00\x00\x00\x00\x01B",
-        "frames\nf byte 7: Time\nthe time of a frame is not before that of the frame in front, and below 16777216: count milliseconds from the first frame, and sort the frames\n",
+        "frames\nf byte 7: Time\n| 00 00 00 00 00 01 42\nthe time of a frame is not before that of the frame in front, and below 16777216: count milliseconds from the first frame, and sort the frames\n",
     ),
     (
         b"\x00\x00\x00\x00\x00\x00",
-        "frames\nf byte 0: Length\nthe text of a frame has 1 to 1023 octets: leave empty texts out, and part long ones\n",
+        "frames\nf byte 0: Length\n| 00 00 00 00 00 00\nthe text of a frame has 1 to 1023 octets: leave empty texts out, and part long ones\n",
     ),
     (
         b"\x00\x00\x00\x00\x00\x01\xC3",
-        "frames\nf byte 0: NotText\nthe text of a frame is not UTF-8: cut texts between characters\n",
+        "frames\nf byte 0: NotText\n| 00 00 00 00 00 01 c3\nthe text of a frame is not UTF-8: cut texts between characters\n",
     ),
     (
         b"\x1F\x8B\x08",
