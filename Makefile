@@ -40,6 +40,7 @@ examples: $(PROGRAM)
 	examples/pcap/try $(PROGRAM)
 	examples/pictures/try $(PROGRAM)
 	examples/captures/try $(PROGRAM)
+	examples/wrong/try $(PROGRAM)
 	examples/words
 
 trials: $(PROGRAM)

@@ -4,6 +4,7 @@ ghost use Rattle.conference.specs.Conferences.{conf_of};
 ghost use Rattle.bridge_run.specs.Logs.{IsNew};
 
 use conference::Conf;
+use link_io::Beat;
 use mixer_posts::{Outbound, sources_to, stream_to};
 use mixer_turn::Post;
 use rtt_base::NoMemory;
@@ -55,6 +56,8 @@ impl Outbound for Log {
 
     type Fault = NoMemory;
 
+    type Clock = ();
+
     ghost took = { λ log s pts posts. HasSent s pts log posts };
 
     ghost halted = { λ log s pts posts now post. Unit {0} };
@@ -67,7 +70,7 @@ impl Outbound for Log {
 
     ghost unsent = { λ log why. Unit {0} };
 
-    fn send(&mut self, now: u64, post: &Post) -> Result<(), NoMemory> {
+    fn send(&mut self, now: u64, _beat: &Beat<'_, ()>, post: &Post) -> Result<(), NoMemory> {
         let text = post.text.as_slice();
         self.sent
             .send(post.terminal, now as u32, post.media, post.source, text)

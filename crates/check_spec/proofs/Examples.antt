@@ -3,6 +3,7 @@ use Rattle.std.proofs.Common.{◌≡◌, ℕ, List, [], ◌∷◌, ◌++◌, cod
 use Rattle.std.specs.Str.{is_utf8, chars}
 use Rattle.std.specs.Char.{encode_utf8}
 use Rattle.check_spec.specs.declared.forms.FileForm.TheVariants.{Empty, Utf16, Nothing, Recording, Frames, Script, Recordings, Links}
+use Rattle.check_spec.specs.Checking.{shown_at}
 use Rattle.check_spec.specs.Forms.{form_of}
 
 files_are : map form_of (
@@ -12,3 +13,9 @@ files_are : map form_of (
     ≡ (Empty ∷ Recording ∷ Frames ∷ Utf16 ∷ Nothing ∷ Script ∷ Script ∷ Script ∷ Script ∷ Recordings ∷ Links ∷ Links ∷ [])
 unfolding is_utf8 chars encode_utf8
 files_are = refl
+
+octets_are : shown_at (7 ∷ 0 ∷ 30 ∷ 171 ∷ []) 1 ≡ codes "| 00 1e ab\n"
+octets_are = refl
+
+none_are : shown_at (7 ∷ []) 1 ≡ []
+none_are = refl

@@ -1,18 +1,21 @@
--- What `check` tells of a file: what it is and that it is whole, or its first fault as the commands name it, the line, and a sentence
--- (profile). Each line ends with LF.
-use Rattle.std.specs.Prelude.{ℕ, zero, suc, ◌+◌, nat_lt, Bool, true, false, ◌&&◌, if◌then◌else◌, List, [], ◌∷◌, ◌++◌, length, take, map, Option, None, Some, Result, Ok, Err, codes, decimal}
+-- What `check` tells of a file alone: what it is and that it is whole, or its first fault as the commands name it, the line or the octets,
+-- and a sentence (profile). Each line ends with LF.
+use Rattle.std.specs.Prelude.{ℕ, zero, suc, ◌+◌, ◌/◌, ◌%◌, nat_lt, Bool, true, false, ◌&&◌, if◌then◌else◌, List, [], ◌∷◌, ◌++◌, length, take, drop, map, flat_map, Option, None, Some, Result, Ok, Err, codes, decimal}
+use Rattle.std.specs.List.{list_any}
 use Rattle.std.specs.Str.Lines.{lines}
 use Rattle.wire_spec.specs.Dump.{Item, What, Whole, Rtcp, Cut, Large, dump, usual_limit}
 use Rattle.wire_spec.specs.Dump as dumps
 use Rattle.file_spec.specs.declared.conf_lines.Form.{Form}
 use Rattle.file_spec.specs.declared.conf_lines.Form.TheVariants as of
+use Rattle.file_spec.specs.declared.conf_lines.LegLine.{LegLine}
 use Rattle.file_spec.specs.declared.kinds.ConfKind.TheVariants.{Full}
 use Rattle.file_spec.specs.Lines as file
 use Rattle.file_spec.specs.Conf.{Conf, conf}
 use Rattle.file_spec.specs.Script.{ScriptLine, script}
 use Rattle.frame_spec.specs.declared.frames.FrameFault.{FrameFault}
 use Rattle.command_spec.specs.declared.faults.Refusal.{Refusal}
-use Rattle.command_spec.specs.declared.faults.Refusal.TheVariants.{AtByte, AtFrame, AtLine}
+use Rattle.command_spec.specs.declared.faults.Refusal.TheVariants.{AtByte, AtFrame, AtLine, AtTrunk}
+use Rattle.command_spec.specs.Cascading.{is_on_trunk, odd_line}
 use Rattle.command_spec.specs.Frames.{relay}
 use Rattle.command_spec.specs.Messages.{refusal_message}
 use Rattle.command_spec.specs.Scripts.{Sending, full_line, usual_sending}
@@ -20,9 +23,9 @@ use Rattle.check_spec.specs.declared.forms.FileForm.{FileForm}
 use Rattle.check_spec.specs.declared.forms.FileForm.TheVariants.{Gzip, Pcap, PcapNg, TooLarge, Empty, Utf16, Nothing, Recording, Frames, Script, Recordings, Links}
 use Rattle.check_spec.specs.declared.forms.LineWord.{LineWord}
 use Rattle.check_spec.specs.declared.forms.LineWord.TheVariants.{Other}
-use Rattle.check_spec.specs.declared.limits.TheConstants.{MOST_CHECKED_OCTETS, MOST_SHOWN_OCTETS}
+use Rattle.check_spec.specs.declared.limits.TheConstants.{MOST_CHECKED_OCTETS, MOST_SHOWN_AT_BYTE, MOST_SHOWN_OCTETS}
 use Rattle.check_spec.specs.Forms.{foreign, form_of, has_mark, said, word_of}
-use Rattle.check_spec.specs.Sentences.{conf_sentence, dump_sentence, form_name, form_sentence, frame_sentence, mark_sentence, script_sentence}
+use Rattle.check_spec.specs.Sentences.{cascade_name, conf_sentence, dump_sentence, form_name, form_sentence, frame_sentence, mark_sentence, script_sentence, trunk_sentence}
 
 -- what is told, and whether the program takes the file
 pub record Report : Type 0 where
@@ -55,10 +58,32 @@ abbrev pub word_in : Option (List ℕ) → LineWord
 word_in None = Other
 word_in (Some line) = word_of (said line)
 
+-- ---- the octets at a byte
+
+abbrev pub hex_digit : ℕ → ℕ
+hex_digit d = if nat_lt d 10 then 48 + d else 87 + d
+
+-- two hexadecimal digits behind a space
+abbrev pub hex_octet : ℕ → List ℕ
+hex_octet c = 32 ∷ hex_digit (c / 16) ∷ hex_digit (c % 16) ∷ []
+
+-- the first of these octets, where there is one
+abbrev pub shown_octets : List ℕ → List ℕ
+shown_octets [] = []
+shown_octets (c ∷ more) = codes "|" ++ (flat_map hex_octet (take MOST_SHOWN_AT_BYTE (c ∷ more)) ++ codes "\n")
+
+-- those of a file from this byte on
+abbrev pub shown_at : List ℕ → ℕ → List ℕ
+shown_at octets byte = shown_octets (drop byte octets)
+
 -- ---- what is told
 
+-- a file of this name of a form is whole
+abbrev pub whole_as : List ℕ → ℕ → List ℕ → Report
+whole_as what count unit = record { text = what ++ (codes ": " ++ (decimal count ++ (unit ++ codes ", whole\n"))); taken = true }
+
 abbrev pub whole : FileForm → ℕ → List ℕ → Report
-whole form count unit = record { text = form_name form ++ (codes ": " ++ (decimal count ++ (unit ++ codes ", whole\n"))); taken = true }
+whole form count unit = whole_as (form_name form) count unit
 
 abbrev pub refused : FileForm → List ℕ → Refusal → List ℕ → List ℕ → Report
 refused form name refusal line sentence = record {
@@ -82,15 +107,15 @@ abbrev pub packets_in : List Item → ℕ
 packets_in [] = 0
 packets_in (item ∷ more) = packets_of item.what + packets_in more
 
-abbrev pub recording_read : List ℕ → dumps.Recording → Report
-recording_read name r =
+abbrev pub recording_read : List ℕ → List ℕ → dumps.Recording → Report
+recording_read name octets r =
     elim r.fault [
       | None ↦ whole Recording (packets_in r.items) (codes " packets")
-      | Some fault ↦ refused Recording name (AtByte fault.byte fault.kind) [] (dump_sentence fault.kind)
+      | Some fault ↦ refused Recording name (AtByte fault.byte fault.kind) (shown_at octets fault.byte) (dump_sentence fault.kind)
     ]
 
 abbrev pub recording_report : List ℕ → List ℕ → Report
-recording_report name octets = recording_read name (dump usual_limit octets)
+recording_report name octets = recording_read name octets (dump usual_limit octets)
 
 -- ---- a script
 
@@ -123,8 +148,25 @@ abbrev pub form_in : Form → FileForm
 form_in of.Files = Recordings
 form_in of.Links = Links
 
+-- a leg stands behind another mixer
+abbrev pub has_trunk : List LegLine → Bool
+has_trunk legs = list_any is_on_trunk legs
+
+-- a conference of recordings that is right for `cascade` is said to be so
+abbrev pub recordings_name : List LegLine → List ℕ
+recordings_name legs = if has_trunk legs then cascade_name else form_name Recordings
+
+-- it is refused where a leg that stands there has other payload types
+abbrev pub unless_odd : List ℕ → List ℕ → List LegLine → Option ℕ → Report
+unless_odd name octets legs None = whole_as (recordings_name legs) (length legs) (codes " legs")
+unless_odd name octets legs (Some line) = refused Recordings name (AtTrunk line) (shown (line_at line (lines octets))) trunk_sentence
+
+abbrev pub conf_whole : Form → List ℕ → List ℕ → List LegLine → Report
+conf_whole of.Files name octets legs = unless_odd name octets legs (odd_line legs)
+conf_whole of.Links name octets legs = whole Links (length legs) (codes " legs")
+
 abbrev pub conf_read : Form → List ℕ → List ℕ → Result Conf file.Refusal → Report
-conf_read form name octets (Ok c) = whole (form_in form) (length c.legs) (codes " legs")
+conf_read form name octets (Ok c) = conf_whole form name octets c.legs
 conf_read form name octets (Err r) =
     refused (form_in form) name (AtLine r.line r.kind) (shown (line_at r.line (lines octets)))
     (unless_mark octets (conf_sentence form (word_in (line_at r.line (lines octets))) r.kind))
@@ -136,7 +178,7 @@ conf_report form name octets = conf_read form name octets (conf form octets)
 
 abbrev pub frames_read : List ℕ → List ℕ → Result (List ℕ) FrameFault → Report
 frames_read name octets (Ok sent) = whole Frames (length octets) (codes " octets")
-frames_read name octets (Err fault) = refused Frames name (AtFrame fault.offset fault.kind) [] (frame_sentence fault.kind)
+frames_read name octets (Err fault) = refused Frames name (AtFrame fault.offset fault.kind) (shown_at octets fault.offset) (frame_sentence fault.kind)
 
 abbrev pub frames_report : List ℕ → List ℕ → Report
 frames_report name octets = frames_read name octets (relay any_sending octets)
@@ -162,6 +204,6 @@ report_of (Some form) name octets = untaken form
 report_of None name octets =
     if nat_lt MOST_CHECKED_OCTETS (length octets) then untaken TooLarge else report_as (form_of octets) name octets
 
--- what is told of the file of this name that has these octets
+-- what is told of the file of this name that has these octets, alone
 abbrev pub report : List ℕ → List ℕ → Report
 report name octets = report_of (foreign octets) name octets

@@ -54,12 +54,17 @@ abbrev pub is_of_link : List (List ℕ) → Bool
 is_of_link (w ∷ _ ∷ _ ∷ _ ∷ input ∷ output ∷ _) = bytes_eq w (codes "leg") && (is_number input || list_any (λ c. c == byte ":") output)
 is_of_link _ = false
 
--- what a line tells that begins with this word: of a packet, of a time or the turns, of anything
+-- what a line tells that begins with this word: of a packet, of what is asked beside the mixing, of a time or the turns, of anything
 abbrev pub packet_word : List ℕ → LineWord
 packet_word w =
     if bytes_eq w (codes "lose") then word.Lose
     else (if bytes_eq w (codes "delay") then word.Delay
     else (if bytes_eq w (codes "twice") then word.Twice else word.Other))
+
+abbrev pub service_word : List ℕ → LineWord
+service_word w =
+    if bytes_eq w (codes "gone") then word.Gone
+    else (if bytes_eq w (codes "operator") then word.Operator else packet_word w)
 
 abbrev pub time_word : List ℕ → LineWord
 time_word w =
@@ -67,7 +72,7 @@ time_word w =
     else (if bytes_eq w (codes "spacing") then word.Spacing
     else (if bytes_eq w (codes "wait") then word.Wait
     else (if bytes_eq w (codes "turns") then word.Turns
-    else (if bytes_eq w (codes "relabel") then word.Relabel else packet_word w))))
+    else (if bytes_eq w (codes "relabel") then word.Relabel else service_word w))))
 
 abbrev pub line_word : List ℕ → LineWord
 line_word w =

@@ -41,6 +41,8 @@ pub enum LineWord {
     Wait,
     Turns,
     Relabel,
+    Gone,
+    Operator,
     Lose,
     Delay,
     Twice,

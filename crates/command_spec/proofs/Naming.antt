@@ -10,7 +10,7 @@ use Rattle.std.proofs.lemmas.Slice.Eq.{bytes_eq-Decides}
 use Rattle.file_spec.specs.declared.limits.TheConstants.{LAST_MOMENT, MOST_GENS}
 use Rattle.file_spec.specs.declared.conf_lines.LegLine.{LegLine}
 use Rattle.file_spec.specs.declared.conf_lines.Stay.{Stay}
-use Rattle.file_spec.specs.Conf.{Conf, change_leg, is_name}
+use Rattle.file_spec.specs.Conf.{Conf, change_leg, is_name, port}
 use Rattle.file_spec.specs.Stays.{IsStay, NeverCrowd, is_before_end, stays_at}
 use Rattle.file_spec.specs.Kept.{AreLegs, AreTwoTypes, Differ, IsConference, IsLeg}
 use Rattle.command_spec.proofs.SameFiles.{HasFilesOf, HaveFilesOf, changed_files, same_files}
@@ -124,6 +124,9 @@ told_keeps wait said ls leg = go said.left
 same_ssrc : (ls : List LegLine) (old new : LegLine) → Keeps ls old new → new.ssrc ≡ old.ssrc
 same_ssrc ls old new k = ap (λ (l : LegLine). l.ssrc) k.same
 
+same_input : (ls : List LegLine) (old new : LegLine) → Keeps ls old new → new.input ≡ old.input
+same_input ls old new k = ap (λ (l : LegLine). l.input) k.same
+
 same_output : (ls : List LegLine) (old new : LegLine) → Keeps ls old new → new.output ≡ old.output
 same_output ls old new k = ap (λ (l : LegLine). l.output) k.same
 
@@ -193,14 +196,20 @@ module _ (wait : ℕ) (said : Said) (k : ℕ) (ls : List LegLine) where
     differ = λ i j d l h. differ_at i j d l (shorter_than j h) (legs.differ i j d l (shorter_than j h));
   }
 
-  -- what holds of the SSRC of each leg
-  ssrcs_keep : (P : ℕ → Type 0) → All (λ leg. P leg.ssrc) ls → All (λ leg. P leg.ssrc) (change_leg change k ls)
+  -- what holds of each leg, and of one that is told so where it held before
+  each_keeps : (P : LegLine → Type 0) → ((old new : LegLine) → Keeps ls old new → P old → P new) → All P ls → All P (change_leg change k ls)
   unfolding IsChanged
-  ssrcs_keep P all i d h = elim (at_changed change k ls i d) [
-    | inl same ↦ subst (λ (x : LegLine). P x.ssrc) (sym same) (all i d (shorter_than i h))
-    | inr p ↦ subst (λ (x : LegLine). P x.ssrc) (sym p.1)
-        (subst P (sym (same_ssrc ls (get_or ls i d) (change (get_or ls i d)) (told_keeps wait said ls (get_or ls i d)))) (all i d (shorter_than i h)))
+  each_keeps P keeps all i d h = elim (at_changed change k ls i d) [
+    | inl same ↦ subst P (sym same) (all i d (shorter_than i h))
+    | inr p ↦ subst P (sym p.1) (keeps (get_or ls i d) (change (get_or ls i d)) (told_keeps wait said ls (get_or ls i d)) (all i d (shorter_than i h)))
   ]
+
+  -- what holds of the SSRC of each leg, and of its input
+  ssrcs_keep : (P : ℕ → Type 0) → All (λ leg. P leg.ssrc) ls → All (λ leg. P leg.ssrc) (change_leg change k ls)
+  ssrcs_keep P all = each_keeps (λ leg. P leg.ssrc) (λ old new keeps. subst P (sym (same_ssrc ls old new keeps))) all
+
+  inputs_keep : (P : List ℕ → Type 0) → All (λ leg. P leg.input) ls → All (λ leg. P leg.input) (change_leg change k ls)
+  inputs_keep P all = each_keeps (λ leg. P leg.input) (λ old new keeps. subst P (sym (same_input ls old new keeps))) all
 
 -- at no moment more legs stay than before
 fewer : (change : LegLine → LegLine) (p : LegLine → Bool) → ((l : LegLine) → p (change l) ≡ true → p l ≡ true)
@@ -246,6 +255,10 @@ all_keep wait says (suc k) n mixer ls keep =
       differs = ssrcs_keep wait (says k) k legs (λ ssrc. ssrc ≢ mixer) before.differs;
     }
 
+inputs_told : (P : List ℕ → Type 0) (wait : ℕ) (says : ℕ → Said) (k : ℕ) (ls : List LegLine) → All (λ leg. P leg.input) ls → All (λ leg. P leg.input) (told_legs wait says k ls)
+inputs_told P wait says zero ls all = all
+inputs_told P wait says (suc k) ls all = inputs_keep wait (says k) k (told_legs wait says k ls) P (inputs_told P wait says k ls all)
+
 pub named_conference : (says : ℕ → Said) (c : Conf) → IsConference c → IsConference (named_by says c)
 named_conference says c keeps =
     let all = all_keep c.wait says (length c.legs) (length c.legs) c.mixer.ssrc c.legs (record { length_is = refl; legs = keeps.legs; room = keeps.room; differs = keeps.mixer.differs }) in
@@ -264,6 +277,14 @@ named_conference says c keeps =
         terminals = λ i d h. let t = keeps.plan.terminals i d h in omega (arith, all.length_is);
         delays = keeps.plan.delays;
         differ = keeps.plan.differ;
+      };
+      service = record {
+        gone = keeps.service.gone;
+        operator = λ o e. let was = keeps.service.operator o e in record {
+          at = was.at;
+          word = was.word;
+          differs = inputs_told (λ input. port input ≢ Some o.port) c.wait says (length c.legs) c.legs was.differs;
+        };
       };
     }
 

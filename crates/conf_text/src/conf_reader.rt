@@ -100,6 +100,7 @@ fn finish(draft: Draft, line: u32) -> Result<Conf, ConfFault>
         relabel: draft.relabel,
         mixer,
         plan: draft.plan,
+        service: draft.service,
     })
 }
 

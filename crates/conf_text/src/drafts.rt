@@ -5,7 +5,7 @@ ghost use Rattle.file_spec.specs.Conf.{Leg, nothing, with_entry};
 
 use conference::{Legs, Plan, set_gens, set_stay};
 use file_spec::limits::{MOST_LEGS, USUAL_GENS};
-use file_spec::{GensLine, LegLine, MixerLine, PlanLine, Stay, StayLine};
+use file_spec::{GensLine, LegLine, MixerLine, PlanLine, Service, ServiceLine, Stay, StayLine};
 use rtt_base::{Name, NoMemory, Path, Pts};
 use std::alloc::Global;
 
@@ -34,6 +34,7 @@ pub(crate) enum Entry<'a> {
     Relabel(u32),
     Mixer(MixerLine),
     Plan(PlanLine),
+    Serves(ServiceLine),
 }
 
 /// What the lines so far say.
@@ -51,6 +52,7 @@ pub(crate) struct Draft {
     pub relabel: Option<u32>,
     pub mixer: Option<MixerLine>,
     pub plan: Plan,
+    pub service: Service,
     ghost seats: { length legs ≤ MOST_LEGS },
 }
 
@@ -80,6 +82,7 @@ impl Draft {
             relabel: None,
             mixer: None,
             plan: Plan::new(alloc),
+            service: Service::none(),
         }
     }
 
@@ -127,6 +130,7 @@ impl Draft {
             Entry::Relabel(value) => self.relabel = Some(value),
             Entry::Mixer(line) => self.mixer = Some(line),
             Entry::Plan(line) => return self.plan.push(line),
+            Entry::Serves(line) => self.service.add(line),
         }
         Ok(())
     }

@@ -1,12 +1,13 @@
 //! The lines of a conference.
 ghost use Rattle.std.specs.Prelude.{◌≡◌, ◌∷◌, IfOk};
-ghost use Rattle.file_spec.specs.Conf.{entry, mixer, mixer_of, setting, stay_or_plan, time_or_other};
+ghost use Rattle.file_spec.specs.Conf.{entry, mixer, mixer_of, of_form, setting, stay_or_plan, time_or_other};
 ghost use Rattle.conf_text.specs.Lines.{above_of, meaning, seen, texts_of, MayFollow};
 
 use crate::ConfKind;
 use crate::drafts::{Draft, Entry};
 use crate::leg_lines::{has_ssrc, read_leg};
 use crate::plan_lines::read_plan;
+use crate::service_lines::read_service;
 use crate::stay_lines::{read_gens, read_stay};
 use file_lines::{number_from, number_of};
 use file_spec::limits::{
@@ -18,7 +19,13 @@ use rtt_base::limits::LONGEST_WAIT;
 /// What a line says, or why it is refused.
 type Said<'a> = Result<Entry<'a>, ConfKind>;
 
-fn read_setting(least: u32, most: u32, above: Option<u32>, words: &[&str]) -> Result<u32, ConfKind>
+/// The number of a line that says one, from the words after the first.
+pub(crate) fn read_setting(
+    least: u32,
+    most: u32,
+    above: Option<u32>,
+    words: &[&str],
+) -> Result<u32, ConfKind>
     ensures { result ≡ setting least most above (texts_of words.now) }
 {
     let [text] = words else {
@@ -61,16 +68,23 @@ fn read_mixer(above: &Draft, words: &[&str]) -> Result<MixerLine, ConfKind>
 }
 
 #[tactic(auto, unfolding(file_spec::specs::Conf::stay_or_plan))]
-fn read_stay_or_plan<'a>(form: Form, above: &Draft, word: &str, words: &[&str]) -> Said<'a>
-    ensures exact { seen meaning result ≡ stay_or_plan form (above_of above.now) word.now (texts_of words.now) }
+fn read_stay_or_plan<'a>(above: &Draft, word: &str, words: &[&str]) -> Said<'a>
+    ensures exact { seen meaning result ≡ stay_or_plan (above_of above.now) word.now (texts_of words.now) }
     ensures follows { IfOk result (λ said. MayFollow (above_of above.now) (meaning said)) }
 {
-    if form == Form::Links {
-        return Err(ConfKind::Word);
-    }
     match word {
         "stay" => Ok(Entry::Stays(read_stay(above, words)?)),
         other => Ok(Entry::Plan(read_plan(above, other, words)?)),
+    }
+}
+
+fn read_of_form<'a>(form: Form, above: &Draft, word: &str, words: &[&str]) -> Said<'a>
+    ensures exact { seen meaning result ≡ of_form form (above_of above.now) word.now (texts_of words.now) }
+    ensures follows { IfOk result (λ said. MayFollow (above_of above.now) (meaning said)) }
+{
+    match form {
+        Form::Files => read_stay_or_plan(above, word, words),
+        Form::Links => Ok(Entry::Serves(read_service(above, word, words)?)),
     }
 }
 
@@ -95,7 +109,7 @@ fn read_time_or_other<'a>(form: Form, above: &Draft, word: &str, words: &[&str])
             above.relabel,
             words,
         )?)),
-        other => read_stay_or_plan(form, above, other, words),
+        other => read_of_form(form, above, other, words),
     }
 }
 

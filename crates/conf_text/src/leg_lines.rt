@@ -1,7 +1,8 @@
 //! The lines of legs.
-ghost use Rattle.std.specs.Prelude.{◌≡◌, ◌==◌, ◌<◌, length, OnOk};
+ghost use Rattle.std.specs.Prelude.{◌≡◌, ◌==◌, ◌<◌, ◌||◌, length, IfSome, OnOk, Some};
 ghost use Rattle.std.specs.List.{list_any};
-ghost use Rattle.file_spec.specs.Conf.{clashes, has_names, has_port, is_mixers, leg, most_legs, new_leg, port, is_same_port, shares_own, shares_path};
+ghost use Rattle.file_spec.specs.Conf.{clashes, has_names, has_port, is_mixers, is_operators, leg, most_legs, new_leg, port, is_same_port, shares_own, shares_path};
+ghost use Rattle.file_spec.specs.Sound.{IsBetween};
 ghost use Rattle.conf_text.specs.Lines.{above_of, leg_line, leg_said, seen, texts_of};
 
 use crate::ConfKind;
@@ -10,7 +11,7 @@ use crate::names::{awareness, names_leg, names_path};
 use conference::{has_name, name_of};
 use file_lines::{number_from, number_of, pts_of};
 use file_spec::limits::{MOST_LEGS, MOST_LINKS, USUAL_RED, USUAL_T140};
-use file_spec::{Form, LegLine, MixerLine};
+use file_spec::{Form, LegLine, MixerLine, OperatorLine};
 use rtt_base::Pts;
 
 /// The payload types of a leg that names none.
@@ -37,8 +38,10 @@ fn are_named(form: Form, words: &LegWords<'_>) -> bool
         && names_path(words.output)
 }
 
-fn port_of(input: &str) -> Option<u32>
-    ensures { result ≡ port input.now }
+/// The port at which a link hears.
+pub(crate) fn port_of(input: &str) -> Option<u32>
+    ensures value { result ≡ port input.now }
+    ensures fits { IfSome result (λ n. IsBetween 1 65535 n) }
 {
     number_from(input, 1, 65_535)
 }
@@ -85,6 +88,22 @@ fn has_mixer(mixer: &Option<MixerLine>, ssrc: u32) -> bool
     }
 }
 
+fn has_operator(operator: &Option<OperatorLine>, port: Option<u32>) -> bool
+    ensures { result ≡ is_operators operator.now port }
+{
+    match operator {
+        Some(line) => share_port(Some(u32::from(line.port)), port),
+        None => false,
+    }
+}
+
+/// Whether one of the legs hears at this port.
+pub(crate) fn hears_at(legs: &[LegLine], number: u32) -> bool
+    ensures { result ≡ list_any (λ leg. is_same_port (Some number) (port leg.input)) legs.now }
+{
+    legs.iter().any(|leg| share_port(Some(number), port_of(leg.input.as_str())))
+}
+
 pub(crate) fn has_ssrc(legs: &[LegLine], ssrc: u32) -> bool
     ensures { result ≡ list_any (λ a. a.ssrc == ssrc) legs.now }
 {
@@ -97,6 +116,15 @@ fn share_paths(form: Form, legs: &[LegLine], leg: &NewLeg<'_>) -> bool
     legs.iter().any(|above| share_path(form, above, leg))
 }
 
+/// Whether the leg wants a path or a port that another leg has, or the port of an operator.
+fn is_taken(form: Form, above: &Draft, leg: &NewLeg<'_>) -> bool
+    ensures { result ≡ (list_any (λ a. shares_path form a (leg_line leg.now)) above.now.legs
+        || is_operators above.now.service.operator (port leg.now.input.now)) }
+{
+    share_paths(form, above.legs.as_slice(), leg)
+        || has_operator(&above.service.operator, port_of(leg.input))
+}
+
 fn does_clash(form: Form, above: &Draft, leg: &NewLeg<'_>) -> bool
     ensures { result ≡ clashes form (above_of above.now) (leg_line leg.now) }
 {
@@ -104,7 +132,7 @@ fn does_clash(form: Form, above: &Draft, leg: &NewLeg<'_>) -> bool
     has_ssrc(legs, leg.ssrc)
         || has_mixer(&above.mixer, leg.ssrc)
         || share_own(form, leg)
-        || share_paths(form, legs, leg)
+        || is_taken(form, above, leg)
 }
 
 fn seats(form: Form) -> usize

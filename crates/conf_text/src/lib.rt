@@ -8,6 +8,7 @@ mod entries;
 mod leg_lines;
 mod names;
 mod plan_lines;
+mod service_lines;
 mod stay_lines;
 
 pub use conf_reader::read_conf;

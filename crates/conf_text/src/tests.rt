@@ -146,7 +146,21 @@ fn what_is_not_said_has_its_default(rt: HostRuntime) -> Result<(), Fail> {
     );
     assert_eq!(rt; conf.relabel, None);
     assert!(rt; conf.plan.is_empty());
+    assert_eq!(rt; conf.service.gone, None);
+    assert!(rt; conf.service.operator.is_none());
     assert_eq!(rt; conf.legs.as_slice().len(), 2);
+    Ok(())
+}
+
+#[test]
+fn what_is_asked_of_links(rt: HostRuntime) -> Result<(), Fail> {
+    let file =
+        b"gone 86400000\nleg A aware 1 5004 h:1\noperator 065535 aZ345678\nleg B aware 2 5006 h:2\nmixer 0 0 0";
+    let conf = read_conf(rt.alloc(), file, Form::Links)?;
+    assert_eq!(rt; conf.service.gone, Some(86_400_000));
+    let operator = conf.service.operator.ok_or("no operator")?;
+    assert_eq!(rt; operator.port, 65_535);
+    assert_eq!(rt; operator.word.as_str(), "aZ345678");
     Ok(())
 }
 
@@ -155,6 +169,10 @@ const TWO_LEGS: &str = "leg A aware 1 a.in a.out\nleg B aware 2 b.in b.out\n";
 /// The line after the two legs, and what it is refused for.
 const THIRD_LINES: &str = "legs A aware 1 a b => line 3: Word\n\
 leg C deaf 3 c d => line 3: Word\n\
+gone 60000 => line 3: Word\n\
+gone => line 3: Word\n\
+operator 6100 Word4Watch => line 3: Word\n\
+operator => line 3: Word\n\
 tick => line 3: Count\n\
 tick 20 20 => line 3: Count\n\
 mixer 1 2 => line 3: Count\n\
@@ -305,6 +323,35 @@ leg A aware 1 5004 h:1; lose A 1 => line 2: Word\n\
 leg A aware 1 5004 h:1; delay A => line 2: Word\n\
 leg A aware 1 5004 h:1; delay A 1 60001 => line 2: Word\n\
 leg A aware 1 5004 h:1; twice B x => line 2: Word\n\
+gone 9999 => line 1: Number\n\
+gone 86400001 => line 1: Number\n\
+gone 1.5 => line 1: Number\n\
+gone => line 1: Count\n\
+gone 10000 10000 => line 1: Count\n\
+gone 10000; gone 10000 => line 2: Twice\n\
+gone 10000; gone 9999 => line 2: Number\n\
+gone 10000; gone => line 2: Count\n\
+Gone 10000 => line 1: Word\n\
+operator 6100 aZ34567 => line 1: Name\n\
+operator 6100 aZ345-78 => line 1: Name\n\
+operator 6100 aZ3456\u{e9} => line 1: Name\n\
+operator 6100 0123456789012345678901234567890123456789012345678901234567890123 => line 2: Few\n\
+operator 6100 01234567890123456789012345678901234567890123456789012345678901234 => line 1: Name\n\
+operator 0 aZ345678 => line 1: Number\n\
+operator 65536 aZ345678 => line 1: Number\n\
+operator h:1 aZ345678 => line 1: Number\n\
+operator 0 aZ34567 => line 1: Name\n\
+operator aZ345678 => line 1: Count\n\
+operator 6100 aZ345678 9 => line 1: Count\n\
+operator 0 => line 1: Count\n\
+operator 6100 aZ345678; operator 6102 bZ345678 => line 2: Twice\n\
+operator 6100 aZ345678; operator 0 bZ345678 => line 2: Number\n\
+leg A aware 1 5004 h:1; operator 05004 aZ345678 => line 2: Clash\n\
+leg A aware 1 5004 h:1; leg B aware 2 5006 h:2; operator 5006 aZ345678 => line 3: Clash\n\
+operator 5004 aZ345678; leg A aware 1 05004 h:1 => line 2: Clash\n\
+operator 5004 aZ345678; leg A aware 1 5006 h:1; leg B aware 2 5004 h:2 => line 3: Clash\n\
+operator 5006 aZ345678; leg A aware 1 5004 h:1; operator 5004 aZ345678 => line 3: Twice\n\
+operator 5004 aZ345678; leg A aware 1 5006 h:5004 => line 3: Few\n\
 leg A aware 1 5004 5004; leg B aware 2 5006 h:2 => line 3: Few\n\
 leg A aware 1 5004 5006; leg B aware 2 5006 5004 => line 3: Few\n\
 ";

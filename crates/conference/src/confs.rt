@@ -2,7 +2,7 @@
 ghost use Rattle.file_spec.specs.Kept.{IsConference};
 
 use crate::{Legs, Plan};
-use file_spec::MixerLine;
+use file_spec::{MixerLine, Service};
 
 /// A conference: who takes part, and when the mixer does what. Times are in milliseconds. It keeps all that reading
 /// its file tested and that can be said without its form: the limits, and that names, SSRCs and outputs differ.
@@ -21,5 +21,7 @@ pub struct Conf {
     pub relabel: Option<u32>,
     pub mixer: MixerLine,
     pub plan: Plan,
-    pub ghost kept: { IsConference (record { legs = legs; tick = tick; spacing = spacing; wait = wait; turns = turns; relabel = relabel; mixer = mixer; plan = plan }) },
+    /// What is asked of a call over links beside the mixing.
+    pub service: Service,
+    pub ghost kept: { IsConference (record { legs = legs; tick = tick; spacing = spacing; wait = wait; turns = turns; relabel = relabel; mixer = mixer; plan = plan; service = service }) },
 }

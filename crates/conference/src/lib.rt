@@ -8,7 +8,9 @@ mod plans;
 mod speakers;
 
 pub use confs::Conf;
-pub use file_spec::{LegLine, MixerLine, PlanLine, Stay, What};
+pub use file_spec::{
+    LegLine, MixerLine, OperatorLine, OperatorWord, PlanLine, Service, ServiceLine, Stay, What,
+};
 pub use legs::{Legs, set_gens, set_name, set_stay};
 pub use names::{has_name, is_name_octet, name_of};
 pub use plans::{Plan, is_planned};

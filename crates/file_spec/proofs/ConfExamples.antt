@@ -12,11 +12,12 @@ use Rattle.file_spec.specs.declared.conf_lines.Stay.{Stay}
 use Rattle.file_spec.specs.declared.conf_lines.What.TheVariants as what
 use Rattle.file_spec.specs.Lines.{Refusal}
 use Rattle.file_spec.specs.Stays.{is_crowd}
-use Rattle.file_spec.specs.Conf.{Above, Conf, complete, conf, entry, gens_of, leg_of, mixer_of, new_leg, nothing, plan_of, stay_of, stay_or_plan, time_or_other, usual_types, whole, whole_stay}
+use Rattle.file_spec.specs.Services.{no_service}
+use Rattle.file_spec.specs.Conf.{Above, Conf, complete, conf, entry, gens_of, leg_of, mixer_of, new_leg, nothing, operator_of, plan_of, stay_of, stay_or_plan, time_or_other, usual_types, whole, whole_stay}
 
 -- a conference of these legs that says no more than it must
 abbrev usual : List LegLine → MixerLine → Conf
-usual legs mixer = record { legs = legs; tick = 100; spacing = 300; wait = 1000; turns = 5000000; relabel = None; mixer = mixer; plan = [] }
+usual legs mixer = record { legs = legs; tick = 100; spacing = 300; wait = 1000; turns = 5000000; relabel = None; mixer = mixer; plan = []; service = no_service }
 
 two_legs_and_a_loss : conf Files (codes "mixer 9000 100 5000\n\n# who\n leg Ann aware 1001 ann.in ann.out\r\nleg Bob  unaware 1002 bob.in bob.out 96 97\ntick 20\nlose Bob 1")
     ≡ Ok (record (
@@ -37,6 +38,16 @@ labelled_again : conf Links (codes "leg A aware 1 5004 h:1\nleg B unaware 2 5006
     ) { relabel = Some 7000 })
 unfolding entry gens_of leg_of mixer_of plan_of stay_of stay_or_plan time_or_other is_utf8 chars encode_utf8
 labelled_again = refl
+
+asked_of_links : conf Links (codes "gone 60000\nleg A aware 1 5004 h:1\noperator 06100 Word4Watch\nleg B unaware 2 5006 h:2\nmixer 3 0 0")
+    ≡ Ok (record (
+    usual
+    (record { line = 2; name = codes "A"; aware = true; ssrc = 1; input = codes "5004"; output = codes "h:1"; pts = record { t140 = 98; red = 100 }; gens = 2; stay = record { from = 0; until = None } }
+    ∷ record { line = 4; name = codes "B"; aware = false; ssrc = 2; input = codes "5006"; output = codes "h:2"; pts = record { t140 = 98; red = 100 }; gens = 2; stay = record { from = 0; until = None } } ∷ [])
+    (record { ssrc = 3; seq = 0; stamp = 0 })
+    ) { service = record { gone = Some 60000; operator = Some (record { port = 6100; word = codes "Word4Watch" }) } })
+unfolding entry gens_of leg_of mixer_of operator_of plan_of stay_of stay_or_plan time_or_other is_utf8 chars encode_utf8
+asked_of_links = refl
 
 generations_and_stays : conf Files (codes "leg A aware 1 a.in a.out\nleg B aware 2 b.in b.out\ngens B 0\nstay A 300 900\nmixer 3 0 0")
     ≡ Ok (usual
@@ -98,10 +109,27 @@ faulty =
     ∷ (Links, codes "mixer 1 0 0\nleg A aware 2 5004 h:1\nlose A 0", record { line = 3; kind = Word })
     -- no stay among links
     ∷ (Links, codes "leg A aware 2 5004 h:1\nstay A 0 1", record { line = 2; kind = Word })
+    -- no operator and nobody gone among files
+    ∷ (Files, codes "gone 60000", record { line = 1; kind = Word })
+    ∷ (Files, codes "operator 6100 Word4Watch", record { line = 1; kind = Word })
+    -- gone too soon, and twice
+    ∷ (Links, codes "gone 9999", record { line = 1; kind = Number })
+    ∷ (Links, codes "gone 86400001", record { line = 1; kind = Number })
+    ∷ (Links, codes "gone 10000\ngone 86400000", record { line = 2; kind = Twice })
+    -- an operator without a word, with a short one, and one of other letters
+    ∷ (Links, codes "operator 6100", record { line = 1; kind = Count })
+    ∷ (Links, codes "operator 6100 Word4Op", record { line = 1; kind = Name })
+    ∷ (Links, codes "operator 6100 Word-4-Watch", record { line = 1; kind = Name })
+    -- an operator at no port, and two of them
+    ∷ (Links, codes "operator 0 Word4Watch", record { line = 1; kind = Number })
+    ∷ (Links, codes "operator 6100 Word4Watch\noperator 6102 Word4Watch", record { line = 2; kind = Twice })
+    -- an operator at the port of a leg, above or below
+    ∷ (Links, codes "leg A aware 1 5004 h:1\noperator 05004 Word4Watch", record { line = 2; kind = Clash })
+    ∷ (Links, codes "operator 5004 Word4Watch\nleg A aware 1 05004 h:1", record { line = 2; kind = Clash })
     ∷ []
 
 faults_are_told : map (λ f. conf f.0 f.1) faulty ≡ map (λ f. Err f.2) faulty
-unfolding entry gens_of leg_of mixer_of plan_of stay_of stay_or_plan time_or_other is_utf8 chars encode_utf8
+unfolding entry gens_of leg_of mixer_of operator_of plan_of stay_of stay_or_plan time_or_other is_utf8 chars encode_utf8
 faults_are_told = refl
 
 -- ---- many legs, by themselves

@@ -3,7 +3,7 @@ use Rattle.std.proofs.Common.{◌≡◌, ℕ, ◌+◌, Bool, true, false, Option
 use Rattle.std.specs.Prelude.{not, nat_lt, if◌then◌else◌, Result, Ok, Err, codes, bytes_eq, ◌==◌, is_some}
 use Rattle.std.specs.Str.{is_utf8}
 use Rattle.std.specs.Str.Lines.{lines}
-use Rattle.file_spec.specs.declared.limits.TheConstants.{FEWEST_LEGS, LEAST_TICK, MOST_TICK, LEAST_SPACING, MOST_SPACING, LEAST_RELABEL, MOST_RELABEL, MOST_TURNS, MOST_CONF_OCTETS, USUAL_GENS}
+use Rattle.file_spec.specs.declared.limits.TheConstants.{FEWEST_LEGS, LEAST_TICK, MOST_TICK, LEAST_SPACING, MOST_SPACING, LEAST_RELABEL, MOST_RELABEL, LEAST_GONE, MOST_GONE, MOST_TURNS, MOST_CONF_OCTETS, USUAL_GENS}
 use Rattle.file_spec.specs.declared.kinds.ConfKind.{ConfKind}
 use Rattle.file_spec.specs.declared.kinds.ConfKind.TheVariants.{NotText, Few, Crowd, Large, Name, Number, Twice, Clash, Word}
 use Rattle.file_spec.specs.declared.conf_lines.Form.{Form}
@@ -13,15 +13,20 @@ use Rattle.file_spec.specs.declared.conf_lines.GensLine.{GensLine}
 use Rattle.file_spec.specs.declared.conf_lines.StayLine.{StayLine}
 use Rattle.file_spec.specs.declared.conf_lines.LegLine.{LegLine}
 use Rattle.file_spec.specs.declared.conf_lines.PlanLine.{PlanLine}
+use Rattle.file_spec.specs.declared.services.OperatorLine.{OperatorLine}
+use Rattle.file_spec.specs.declared.services.ServiceLine.{ServiceLine}
+use Rattle.file_spec.specs.declared.services.ServiceLine.TheVariants as service
 use Rattle.rtt_base.specs.Steps.{◌>>=◌}
 use Rattle.file_spec.specs.Steps.{unless}
 use Rattle.file_spec.specs.Lines.{Line, words, told, at_line, read_lines}
 use Rattle.file_spec.specs.Stays.{is_crowd}
-use Rattle.file_spec.specs.Conf.{Above, Conf, Entry, Leg, Gens, Stays, Tick, Spacing, Wait, Turns, Relabel, Mixer, Plan, says, time_or_other, stay_or_plan, nothing, with_entry, setting, mixer, leg, gens, stay, plan_word, entry, is_blank, and_line, whole, complete, conf, mixer_of, leg_of, new_leg, has_names, has_port, aware_of, whole_stay}
+use Rattle.file_spec.specs.Services.{is_operator_word}
+use Rattle.file_spec.specs.Conf.{Above, Conf, Entry, Leg, Gens, Stays, Tick, Spacing, Wait, Turns, Relabel, Mixer, Plan, Serves, says, time_or_other, stay_or_plan, of_form, service_word, operator, operator_of, port, is_same_port, nothing, with_entry, setting, mixer, leg, gens, stay, plan_word, entry, is_blank, and_line, whole, complete, conf, mixer_of, leg_of, new_leg, has_names, has_port, aware_of, whole_stay}
 use Rattle.rtt_base.proofs.Steps.{bind_ok}
-use Rattle.file_spec.proofs.Passed.{unless_ok}
+use Rattle.file_spec.proofs.Passed.{unless_ok, ok_or_ok}
 use Rattle.rtt_base.specs.declared.limits.TheConstants.{LONGEST_WAIT}
 use Rattle.std.specs.List.{list_any}
+use Rattle.std.proofs.lemmas.Bool.{not-false}
 use Rattle.std.specs.Option.{ok_or}
 use Rattle.rtt_base.specs.declared.text_packets.Pts.{Pts}
 use Rattle.file_spec.specs.Numbers.{number, most_ssrc}
@@ -47,6 +52,27 @@ mixer_read above ssrc seq stamp x e =
     let u = unless_ok (is_some above.mixer) Twice (record { ssrc = a.0; seq = b.0; stamp = c.0 }) d.0 d.1 in
     let v = unless_ok (list_any (λ l. l.ssrc == a.0) above.legs) Clash d.0 x d.2 in
     subst (MixerRead above ssrc seq) (u.1 ∙ v.1) (record { source = a.1; first = b.1; differs = v.0 })
+
+-- what a line of an operator is read as
+pub record OperatorRead (above : Above) (at word : List ℕ) (x : OperatorLine) : Type 0 where
+  pub heard : port at ≡ Some x.port
+  pub worded : is_operator_word x.word ≡ true
+  pub differs : list_any (λ l. is_same_port (Some x.port) (port l.input)) above.legs ≡ false
+
+pub operator_read : (above : Above) (at word : List ℕ) (x : OperatorLine) → operator_of above at word ≡ Ok x → OperatorRead above at word x
+unfolding operator_of
+operator_read above at word x e =
+    let a = bind_ok (unless (not (is_operator_word word)) Name word) _ x e in
+    let b = bind_ok (ok_or (port at) Number) _ x a.2 in
+    let d = bind_ok (unless (is_some above.service.operator) Twice (record { port = b.0; word = a.0 })) _ x b.2 in
+    let t = unless_ok (not (is_operator_word word)) Name word a.0 a.1 in
+    let u = unless_ok (is_some above.service.operator) Twice (record { port = b.0; word = a.0 }) d.0 d.1 in
+    let v = unless_ok (list_any (λ l. is_same_port (Some b.0) (port l.input)) above.legs) Clash d.0 x d.2 in
+    subst (OperatorRead above at word) (u.1 ∙ v.1) (record {
+      heard = ok_or_ok (port at) Number b.0 b.1;
+      worded = subst (λ (text : List ℕ). is_operator_word text ≡ true) t.1 (not-false (is_operator_word word) t.0);
+      differs = v.0;
+    })
 
 -- what a line of a leg is read as
 pub record LegRead (form : Form) (above : Above) (name ssrc input output : List ℕ) (types : Option Pts) (x : LegLine) : Type 0 where
@@ -78,6 +104,24 @@ leg_read form above n name mode ssrc input output types x e =
       is = f.2;
     }
 
+-- ---- what is asked beside the mixing
+-- this holds of whatever is asked, word by word
+pub record HoldsOfService (P : ServiceLine → Type 0) (above : Above) : Type 0 where
+  pub each_gone : (ws : List (List ℕ)) (x : ℕ) → setting LEAST_GONE MOST_GONE above.service.gone ws ≡ Ok x → P (service.Gone x)
+  pub each_operator : (ws : List (List ℕ)) (x : OperatorLine) → operator above ws ≡ Ok x → P (service.Operator x)
+
+says_holds : {A B : Type 0} (P : B → Type 0) (make : A → B) (r : Result A ConfKind) (e : B) → ((x : A) → r ≡ Ok x → P (make x)) → says make r ≡ Ok e → P e
+says_holds P make (Ok x) e f q = let same : make x ≡ e = cc q in subst P same (f x refl)
+says_holds P make (Err k) e f q = absurd (cc q)
+
+pub service_holds : (P : ServiceLine → Type 0) (above : Above) → HoldsOfService P above → (word : List ℕ) (more : List (List ℕ)) (e : ServiceLine) → service_word above word more ≡ Ok e → P e
+service_holds P above h word more e q = go (bytes_eq word (codes "gone")) (bytes_eq word (codes "operator")) q
+  where
+    go : (a b : Bool) → (if a then says service.Gone (setting LEAST_GONE MOST_GONE above.service.gone more) else (if b then says service.Operator (operator above more) else Err Word)) ≡ Ok e → P e
+    go true b q = says_holds P service.Gone (setting LEAST_GONE MOST_GONE above.service.gone more) e (h.each_gone more) q
+    go false true q = says_holds P service.Operator (operator above more) e (h.each_operator more) q
+    go false false q = absurd (cc q)
+
 -- ---- one line
 -- this holds of whatever a line says, word by word
 pub record HoldsOf (P : Entry → Type 0) (form : Form) (above : Above) (n : ℕ) : Type 0 where
@@ -90,35 +134,35 @@ pub record HoldsOf (P : Entry → Type 0) (form : Form) (above : Above) (n : ℕ
   pub each_spacing : (ws : List (List ℕ)) (x : ℕ) → setting LEAST_SPACING MOST_SPACING above.spacing ws ≡ Ok x → P (Spacing x)
   pub each_wait : (ws : List (List ℕ)) (x : ℕ) → setting 0 LONGEST_WAIT above.wait ws ≡ Ok x → P (Wait x)
   pub each_turns : (ws : List (List ℕ)) (x : ℕ) → setting 1 MOST_TURNS above.turns ws ≡ Ok x → P (Turns x)
+  pub each_service : form ≡ Links → (word : List ℕ) (ws : List (List ℕ)) (x : ServiceLine) → service_word above word ws ≡ Ok x → P (Serves x)
   pub each_relabel : (ws : List (List ℕ)) (x : ℕ) → setting LEAST_RELABEL MOST_RELABEL above.relabel ws ≡ Ok x → P (Relabel x)
 
-says_holds : {A : Type 0} (P : Entry → Type 0) (make : A → Entry) (r : Result A ConfKind) (e : Entry) → ((x : A) → r ≡ Ok x → P (make x)) → says make r ≡ Ok e → P e
-says_holds P make (Ok x) e f q = let same : make x ≡ e = cc q in subst P same (f x refl)
-says_holds P make (Err k) e f q = absurd (cc q)
-
 module _ (P : Entry → Type 0) (form : Form) (above : Above) (n : ℕ) (h : HoldsOf P form above n) where
-  stay_or_plan_holds : (f : Form) → form ≡ f → (word : List ℕ) (more : List (List ℕ)) (e : Entry) → stay_or_plan f above word more ≡ Ok e → P e
+  stay_or_plan_holds : form ≡ Files → (word : List ℕ) (more : List (List ℕ)) (e : Entry) → stay_or_plan above word more ≡ Ok e → P e
   unfolding stay_or_plan
-  stay_or_plan_holds Links is word more e q = absurd (cc q)
-  stay_or_plan_holds Files is word more e q = go (bytes_eq word (codes "stay")) q
+  stay_or_plan_holds is word more e q = go (bytes_eq word (codes "stay")) q
     where
       go : (a : Bool) → (if a then says Stays (stay above more) else says Plan (plan_word above word more)) ≡ Ok e → P e
       go true q = says_holds P Stays (stay above more) e (h.each_stay is more) q
       go false q = says_holds P Plan (plan_word above word more) e (h.each_plan is word more) q
+
+  form_holds : (f : Form) → form ≡ f → (word : List ℕ) (more : List (List ℕ)) (e : Entry) → of_form f above word more ≡ Ok e → P e
+  form_holds Files is word more e q = stay_or_plan_holds is word more e q
+  form_holds Links is word more e q = says_holds P Serves (service_word above word more) e (h.each_service is word more) q
 
   time_holds : (word : List ℕ) (more : List (List ℕ)) (e : Entry) → time_or_other form above word more ≡ Ok e → P e
   unfolding time_or_other
   time_holds word more e q = go (bytes_eq word (codes "tick")) (bytes_eq word (codes "spacing")) (bytes_eq word (codes "wait")) (bytes_eq word (codes "turns")) (bytes_eq word (codes "relabel")) q
     where
       go : (a b c d r : Bool)
-          → (if a then says Tick (setting LEAST_TICK MOST_TICK above.tick more) else (if b then says Spacing (setting LEAST_SPACING MOST_SPACING above.spacing more) else (if c then says Wait (setting 0 LONGEST_WAIT above.wait more) else (if d then says Turns (setting 1 MOST_TURNS above.turns more) else (if r then says Relabel (setting LEAST_RELABEL MOST_RELABEL above.relabel more) else stay_or_plan form above word more))))) ≡ Ok e
+          → (if a then says Tick (setting LEAST_TICK MOST_TICK above.tick more) else (if b then says Spacing (setting LEAST_SPACING MOST_SPACING above.spacing more) else (if c then says Wait (setting 0 LONGEST_WAIT above.wait more) else (if d then says Turns (setting 1 MOST_TURNS above.turns more) else (if r then says Relabel (setting LEAST_RELABEL MOST_RELABEL above.relabel more) else of_form form above word more))))) ≡ Ok e
           → P e
       go true b c d r q = says_holds P Tick (setting LEAST_TICK MOST_TICK above.tick more) e (h.each_tick more) q
       go false true c d r q = says_holds P Spacing (setting LEAST_SPACING MOST_SPACING above.spacing more) e (h.each_spacing more) q
       go false false true d r q = says_holds P Wait (setting 0 LONGEST_WAIT above.wait more) e (h.each_wait more) q
       go false false false true r q = says_holds P Turns (setting 1 MOST_TURNS above.turns more) e (h.each_turns more) q
       go false false false false true q = says_holds P Relabel (setting LEAST_RELABEL MOST_RELABEL above.relabel more) e (h.each_relabel more) q
-      go false false false false false q = stay_or_plan_holds form refl word more e q
+      go false false false false false q = form_holds form refl word more e q
 
   pub entry_holds : (ws : List (List ℕ)) (e : Entry) → entry form above n ws ≡ Ok e → P e
   unfolding entry

@@ -10,7 +10,7 @@ use Rattle.std.proofs.lemmas.List.Folds.{list_any_at}
 use Rattle.std.proofs.lemmas.List.Quantifiers.{all_pairs_push, position-Some}
 use Rattle.std.proofs.lemmas.Slice.Eq.{bytes_eq-Decides}
 use Rattle.rtt_base.specs.declared.text_packets.Pts.{Pts}
-use Rattle.file_spec.specs.declared.limits.TheConstants.{FEWEST_LEGS, MOST_LEGS, LEAST_TICK, MOST_TICK, USUAL_TICK, LEAST_SPACING, MOST_SPACING, USUAL_SPACING, LEAST_RELABEL, MOST_RELABEL, MOST_TURNS, MOST_GENS, USUAL_GENS, MOST_PLAN_LINES, LONGEST_DELAY, FIRST_TYPE, LAST_TYPE, LAST_MOMENT}
+use Rattle.file_spec.specs.declared.limits.TheConstants.{FEWEST_LEGS, MOST_LEGS, LEAST_TICK, MOST_TICK, USUAL_TICK, LEAST_SPACING, MOST_SPACING, USUAL_SPACING, LEAST_RELABEL, MOST_RELABEL, LEAST_GONE, MOST_GONE, MOST_TURNS, MOST_GENS, USUAL_GENS, MOST_PLAN_LINES, LONGEST_DELAY, FIRST_TYPE, LAST_TYPE, LAST_MOMENT}
 use Rattle.file_spec.specs.declared.kinds.ConfKind.TheVariants.{Word, Name, Number, Many, PlanMany, Twice, Clash}
 use Rattle.file_spec.specs.declared.conf_lines.Form.{Form}
 use Rattle.file_spec.specs.declared.conf_lines.Form.TheVariants.{Files, Links}
@@ -22,19 +22,24 @@ use Rattle.file_spec.specs.declared.conf_lines.LegLine.{LegLine}
 use Rattle.file_spec.specs.declared.conf_lines.PlanLine.{PlanLine}
 use Rattle.file_spec.specs.declared.conf_lines.What.{What}
 use Rattle.file_spec.specs.declared.conf_lines.What.TheVariants as what
+use Rattle.file_spec.specs.declared.services.OperatorLine.{OperatorLine}
+use Rattle.file_spec.specs.declared.services.Service.{Service}
+use Rattle.file_spec.specs.declared.services.ServiceLine.{ServiceLine}
+use Rattle.file_spec.specs.declared.services.ServiceLine.TheVariants as service
 use Rattle.rtt_base.specs.Steps.{◌>>=◌}
 use Rattle.file_spec.specs.Steps.{unless}
 use Rattle.file_spec.specs.Lines.{Line}
 use Rattle.file_spec.specs.Numbers.{number, most_ssrc, number_between, payload_type, pts}
 use Rattle.file_spec.specs.Stays.{IsStay, is_crowd}
-use Rattle.file_spec.specs.Conf.{Above, Conf, Entry, Leg, Gens, Stays, Tick, Spacing, Wait, Turns, Relabel, Mixer, Plan, nothing, with_entry, change_leg, with_gens, with_stay, setting, mixer, mixer_of, is_mixers, is_name, has_names, has_port, shares_own, shares_path, clashes, most_legs, new_leg, aware_of, whole_stay, usual_types, leg_of, leg, place_of, gens_of, gens, stay_of, stay, is_same_packet, plan_of, plan, delay_of, delay, plan_word, and_line, whole, conf}
+use Rattle.file_spec.specs.Conf.{Above, Conf, Entry, Leg, Gens, Stays, Tick, Spacing, Wait, Turns, Relabel, Mixer, Plan, Serves, nothing, with_entry, change_leg, with_gens, with_stay, setting, mixer, mixer_of, is_mixers, is_name, has_names, has_port, shares_own, shares_path, clashes, most_legs, new_leg, aware_of, whole_stay, usual_types, leg_of, leg, place_of, gens_of, gens, stay_of, stay, is_same_packet, plan_of, plan, delay_of, delay, plan_word, service_word, operator, port, is_same_port, is_operators, and_line, whole, conf}
 use Rattle.file_spec.specs.Sound.{IsBetween}
-use Rattle.file_spec.specs.Kept.{IsLeg, Differ, AreLegs, IsMixerFor, IsShort, IsTick, IsSpacing, IsWait, AreTurns, IsRelabel, Keeps, IsConference}
+use Rattle.file_spec.specs.Services.{with_service}
+use Rattle.file_spec.specs.Kept.{IsLeg, Differ, AreLegs, IsMixerFor, IsShort, IsTick, IsSpacing, IsWait, AreTurns, IsRelabel, IsGone, IsOperatorFor, IsServiceFor, Keeps, IsConference}
 use Rattle.file_spec.proofs.Crowds.{crowds_seen}
 use Rattle.rtt_base.proofs.Steps.{bind_ok}
 use Rattle.file_spec.proofs.Passed.{unless_ok, ok_or_ok, then_some, number_most, number_in}
 use Rattle.rtt_base.specs.declared.limits.TheConstants.{LONGEST_WAIT, USUAL_WAIT}
-use Rattle.file_spec.proofs.EachLine.{HoldsOf, entry_holds, line_adds, lines_of, completed, leg_read, mixer_read}
+use Rattle.file_spec.proofs.EachLine.{HoldsOf, entry_holds, service_holds, line_adds, lines_of, completed, leg_read, mixer_read, operator_read}
 
 some_same : {A : Type 0} (x y : A) → Some x ≡ Some y → x ≡ y
 some_same x y e = cc e
@@ -45,12 +50,17 @@ record IsNewLeg (above : Above) (l : LegLine) : Type 0 where
   leg : IsLeg l
   differ : All (λ a. Differ a l) above.legs
   mixer : ForSome above.mixer (λ m. l.ssrc ≢ m.ssrc)
+  operator : ForSome above.service.operator (λ o. port l.input ≢ Some o.port)
 
 record IsNewPlan (above : Above) (p : PlanLine) : Type 0 where
   room : length above.plan < MOST_PLAN_LINES
   terminal : p.terminal < length above.legs
   delay : IsShort p.what
   others : All (λ a. is_same_packet a p ≡ false) above.plan
+
+abbrev IsNewService : Above → ServiceLine → Type 0
+IsNewService above (service.Gone n) = IsGone n
+IsNewService above (service.Operator o) = IsOperatorFor above.legs o
 
 abbrev IsNew : Above → Entry → Type 0
 IsNew above (Leg l) = IsNewLeg above l
@@ -63,6 +73,7 @@ IsNew above (Turns n) = AreTurns n
 IsNew above (Relabel n) = IsRelabel n
 IsNew above (Mixer m) = IsMixerFor above.legs m
 IsNew above (Plan p) = IsNewPlan above p
+IsNew above (Serves s) = IsNewService above s
 
 leg_more : (above : Above) (l : LegLine) → Keeps above → IsNewLeg above l → Keeps (with_entry above (Leg l))
 leg_more above l k new = record {
@@ -83,6 +94,10 @@ leg_more above l k new = record {
     delays = k.plan.delays;
     differ = k.plan.differ;
   };
+  service = record {
+    gone = k.service.gone;
+    operator = λ o e. let was = k.service.operator o e in record { at = was.at; word = was.word; differs = All-push (λ a. port a.input ≢ Some o.port) above.legs l was.differs (new.operator o e) };
+  };
 }
 
 plan_more : (above : Above) (p : PlanLine) → Keeps above → IsNewPlan above p → Keeps (with_entry above (Plan p))
@@ -100,13 +115,19 @@ plan_more above p k new = record {
     delays = All-push (λ a. IsShort a.what) above.plan p k.plan.delays new.delay;
     differ = all_pairs_push (λ a b. is_same_packet a b ≡ false) above.plan p k.plan.differ new.others;
   };
+  service = k.service;
 }
+
+service_more : (above : Above) (s : ServiceLine) → Keeps above → IsNewService above s → IsServiceFor above.legs (with_service above.service s)
+service_more above (service.Gone n) k new = record { gone = λ m e. subst IsGone (some_same n m e) new; operator = k.service.operator }
+service_more above (service.Operator x) k new = record { gone = k.service.gone; operator = λ o e. subst (IsOperatorFor above.legs) (some_same x o e) new }
 
 -- ---- a leg that is changed
 -- what is said of a leg leaves what it is known by
 record Leaves (change : LegLine → LegLine) : Type 0 where
   name : (l : LegLine) → (change l).name ≡ l.name
   ssrc : (l : LegLine) → (change l).ssrc ≡ l.ssrc
+  input : (l : LegLine) → (change l).input ≡ l.input
   output : (l : LegLine) → (change l).output ≡ l.output
   leg : (l : LegLine) → IsLeg l → IsLeg (change l)
 
@@ -167,25 +188,34 @@ changed above change leaves k gs ss kept = record {
     delays = kept.plan.delays;
     differ = kept.plan.differ;
   };
+  service = record {
+    gone = kept.service.gone;
+    operator = λ o e. let was = kept.service.operator o e in record {
+      at = was.at;
+      word = was.word;
+      differs = λ i d h. changed_at change (λ l. port l.input ≢ Some o.port) (λ l f q. f (ap port (sym (leaves.input l)) ∙ q)) above.legs k i d (was.differs i d (shorter change k above.legs i h));
+    };
+  };
 }
 
 gens_leave : (n : ℕ) → n ≤ MOST_GENS → Leaves (with_gens n)
-gens_leave n few = record { name = λ l. refl; ssrc = λ l. refl; output = λ l. refl; leg = λ l is. record { name = is.name; types = is.types; gens = few; stay = is.stay } }
+gens_leave n few = record { name = λ l. refl; ssrc = λ l. refl; input = λ l. refl; output = λ l. refl; leg = λ l is. record { name = is.name; types = is.types; gens = few; stay = is.stay } }
 
 stay_leaves : (s : Stay) → IsStay s → Leaves (with_stay s)
-stay_leaves s stays = record { name = λ l. refl; ssrc = λ l. refl; output = λ l. refl; leg = λ l is. record { name = is.name; types = is.types; gens = is.gens; stay = stays } }
+stay_leaves s stays = record { name = λ l. refl; ssrc = λ l. refl; input = λ l. refl; output = λ l. refl; leg = λ l is. record { name = is.name; types = is.types; gens = is.gens; stay = stays } }
 
 more : (above : Above) (said : Entry) → Keeps above → IsNew above said → Keeps (with_entry above said)
 more above (Leg l) k new = leg_more above l k new
 more above (Gens g) k new = changed above (with_gens g.gens) (gens_leave g.gens new) g.leg _ above.stays k
 more above (Stays s) k new = changed above (with_stay s.stay) (stay_leaves s.stay new) s.leg above.gens _ k
-more above (Tick n) k new = record { legs = k.legs; tick = λ m e. subst IsTick (some_same n m e) new; spacing = k.spacing; wait = k.wait; turns = k.turns; relabel = k.relabel; mixer = k.mixer; plan = k.plan }
-more above (Spacing n) k new = record { legs = k.legs; tick = k.tick; spacing = λ m e. subst IsSpacing (some_same n m e) new; wait = k.wait; turns = k.turns; relabel = k.relabel; mixer = k.mixer; plan = k.plan }
-more above (Wait n) k new = record { legs = k.legs; tick = k.tick; spacing = k.spacing; wait = λ m e. subst IsWait (some_same n m e) new; turns = k.turns; relabel = k.relabel; mixer = k.mixer; plan = k.plan }
-more above (Turns n) k new = record { legs = k.legs; tick = k.tick; spacing = k.spacing; wait = k.wait; turns = λ m e. subst AreTurns (some_same n m e) new; relabel = k.relabel; mixer = k.mixer; plan = k.plan }
-more above (Relabel n) k new = record { legs = k.legs; tick = k.tick; spacing = k.spacing; wait = k.wait; turns = k.turns; relabel = λ m e. subst IsRelabel (some_same n m e) new; mixer = k.mixer; plan = k.plan }
-more above (Mixer x) k new = record { legs = k.legs; tick = k.tick; spacing = k.spacing; wait = k.wait; turns = k.turns; relabel = k.relabel; mixer = λ m e. subst (IsMixerFor above.legs) (some_same x m e) new; plan = k.plan }
+more above (Tick n) k new = record { legs = k.legs; tick = λ m e. subst IsTick (some_same n m e) new; spacing = k.spacing; wait = k.wait; turns = k.turns; relabel = k.relabel; mixer = k.mixer; plan = k.plan; service = k.service }
+more above (Spacing n) k new = record { legs = k.legs; tick = k.tick; spacing = λ m e. subst IsSpacing (some_same n m e) new; wait = k.wait; turns = k.turns; relabel = k.relabel; mixer = k.mixer; plan = k.plan; service = k.service }
+more above (Wait n) k new = record { legs = k.legs; tick = k.tick; spacing = k.spacing; wait = λ m e. subst IsWait (some_same n m e) new; turns = k.turns; relabel = k.relabel; mixer = k.mixer; plan = k.plan; service = k.service }
+more above (Turns n) k new = record { legs = k.legs; tick = k.tick; spacing = k.spacing; wait = k.wait; turns = λ m e. subst AreTurns (some_same n m e) new; relabel = k.relabel; mixer = k.mixer; plan = k.plan; service = k.service }
+more above (Relabel n) k new = record { legs = k.legs; tick = k.tick; spacing = k.spacing; wait = k.wait; turns = k.turns; relabel = λ m e. subst IsRelabel (some_same n m e) new; mixer = k.mixer; plan = k.plan; service = k.service }
+more above (Mixer x) k new = record { legs = k.legs; tick = k.tick; spacing = k.spacing; wait = k.wait; turns = k.turns; relabel = k.relabel; mixer = λ m e. subst (IsMixerFor above.legs) (some_same x m e) new; plan = k.plan; service = k.service }
 more above (Plan p) k new = plan_more above p k new
+more above (Serves s) k new = record { legs = k.legs; tick = k.tick; spacing = k.spacing; wait = k.wait; turns = k.turns; relabel = k.relabel; mixer = k.mixer; plan = k.plan; service = service_more above s k new }
 
 -- ---- tests of the lines above
 none_passes : {A : Type 0} (test : A → Bool) (xs : List A) → list_any test xs ≡ false → All (λ x. test x ≡ false) xs
@@ -214,6 +244,13 @@ other_output Links a l e = no_text a.output l.output (or_parts (bytes_eq a.outpu
 no_mixer : (o : Option MixerLine) (n : ℕ) → is_mixers o n ≡ false → ForSome o (λ m. n ≢ m.ssrc)
 no_mixer None n e m q same = absurd (cc q)
 no_mixer (Some x) n e m q same = true≢false (sym (eq-eqb x.ssrc n (ap (λ (y : MixerLine). y.ssrc) (some_same x m q) ∙ sym same)) ∙ e)
+
+same_port : (a b : Option ℕ) (n : ℕ) → is_same_port a b ≡ false → a ≡ Some n → b ≢ Some n
+same_port a b n e here there = true≢false (sym (rw (here, there) (eq-eqb n n refl)) ∙ e)
+
+no_operator : (o : Option OperatorLine) (at : Option ℕ) → is_operators o at ≡ false → ForSome o (λ l. at ≢ Some l.port)
+no_operator None at e l q = absurd (cc q)
+no_operator (Some x) at e l q = same_port (Some x.port) at l.port e (ap (λ (y : OperatorLine). Some y.port) (some_same x l q))
 
 -- ---- legs
 named : (form : Form) (name input output : List ℕ) → has_names form name input output ≡ true → is_name name ≡ true
@@ -251,6 +288,7 @@ new_ok form above l x worded e =
     let p = or_parts (list_any (λ a. a.ssrc == l.ssrc) above.legs) _ f.0 in
     let q = or_parts (is_mixers above.mixer l.ssrc) _ p.1 in
     let r = or_parts (shares_own form l) _ q.1 in
+    let s = or_parts (list_any (λ a. shares_path form a l) above.legs) _ r.1 in
     subst (IsNewLeg above) (c.1 ∙ (d.1 ∙ f.1)) (record {
       room = most_is form (length above.legs) (leb-false (most_legs form) (length above.legs) c.0);
       leg = record {
@@ -262,9 +300,10 @@ new_ok form above l x worded e =
       differ = λ i dd h. record {
         names = no_text (get_or above.legs i dd).name l.name (none_passes (λ a. bytes_eq a.name l.name) above.legs d.0 i dd h);
         ssrcs = no_ssrc above.legs l.ssrc p.0 i dd h;
-        outputs = other_output form (get_or above.legs i dd) l (none_passes (λ a. shares_path form a l) above.legs r.1 i dd h);
+        outputs = other_output form (get_or above.legs i dd) l (none_passes (λ a. shares_path form a l) above.legs s.0 i dd h);
       };
       mixer = no_mixer above.mixer l.ssrc q.0;
+      operator = no_operator above.service.operator (port l.input) s.1;
     })
 
 always : IsStay whole_stay
@@ -411,6 +450,22 @@ setting_ok least most above (text ∷ []) x e =
     subst (IsBetween least most) u.1 (number_in least most text a.0 (ok_or_ok (number_between least most text) Number a.0 a.1))
 setting_ok least most above (a ∷ b ∷ more) x e = absurd (cc e)
 
+-- ---- what is asked beside the mixing
+operator_ok : (above : Above) (ws : List (List ℕ)) (x : OperatorLine) → operator above ws ≡ Ok x → IsOperatorFor above.legs x
+operator_ok above [] x e = absurd (cc e)
+operator_ok above (a ∷ []) x e = absurd (cc e)
+operator_ok above (a ∷ b ∷ []) x e =
+    let r = operator_read above a b x e in
+    record {
+      at = number_in 1 65535 a x.port r.heard;
+      word = r.worded;
+      differs = λ i d h. same_port (Some x.port) (port (get_or above.legs i d).input) x.port (none_passes (λ l. is_same_port (Some x.port) (port l.input)) above.legs r.differs i d h) refl;
+    }
+operator_ok above (a ∷ b ∷ c ∷ more) x e = absurd (cc e)
+
+service_ok : (above : Above) (word : List ℕ) (ws : List (List ℕ)) (x : ServiceLine) → service_word above word ws ≡ Ok x → IsNewService above x
+service_ok above = service_holds (IsNewService above) above (record { each_gone = setting_ok LEAST_GONE MOST_GONE above.service.gone; each_operator = operator_ok above })
+
 -- ---- lines
 entry_ok : (form : Form) (above : Above) (n : ℕ) → HoldsOf (IsNew above) form above n
 entry_ok form above n = record {
@@ -424,6 +479,7 @@ entry_ok form above n = record {
   each_wait = λ ws x e. (setting_ok 0 LONGEST_WAIT above.wait ws x e).high;
   each_turns = setting_ok 1 MOST_TURNS above.turns;
   each_relabel = setting_ok LEAST_RELABEL MOST_RELABEL above.relabel;
+  each_service = λ q. service_ok above;
 }
 
 pub line_keeps : (form : Form) (above later : Above) (line : Line) → and_line form above line ≡ Ok later → Keeps above → Keeps later
@@ -441,6 +497,7 @@ nothing_keeps = record {
   relabel = λ m e. absurd (cc e);
   mixer = λ m e. absurd (cc e);
   plan = record { most = omega arith; terminals = All-nil (λ a. a.terminal < 0); delays = All-nil (λ a. IsShort a.what); differ = λ i j d l h. absurd (omega arith) };
+  service = record { gone = λ m e. absurd (cc e); operator = λ m e. absurd (cc e) };
 }
 
 -- ---- the whole
@@ -460,6 +517,7 @@ whole_keeps above m k said two room = record {
   relabel = k.relabel;
   mixer = k.mixer m said;
   plan = k.plan;
+  service = k.service;
 }
 
 pub accepted_keeps : (form : Form) (octets : List ℕ) (c : Conf) → conf form octets ≡ Ok c → IsConference c

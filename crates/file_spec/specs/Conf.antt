@@ -18,12 +18,17 @@ use Rattle.file_spec.specs.declared.conf_lines.StayLine.{StayLine}
 use Rattle.file_spec.specs.declared.conf_lines.PlanLine.{PlanLine}
 use Rattle.file_spec.specs.declared.conf_lines.What.{What}
 use Rattle.file_spec.specs.declared.conf_lines.What.TheVariants as what
-use Rattle.file_spec.specs.declared.limits.TheConstants.{FEWEST_LEGS, MOST_LEGS, MOST_LINKS, LEAST_TICK, MOST_TICK, USUAL_TICK, LEAST_SPACING, MOST_SPACING, USUAL_SPACING, LEAST_RELABEL, MOST_RELABEL, MOST_TURNS, MOST_GENS, USUAL_GENS, MOST_PLAN_LINES, LONGEST_DELAY, LAST_MOMENT, USUAL_T140, USUAL_RED, LONGEST_NAME, LONGEST_PATH, MOST_CONF_OCTETS}
+use Rattle.file_spec.specs.declared.services.OperatorLine.{OperatorLine}
+use Rattle.file_spec.specs.declared.services.Service.{Service}
+use Rattle.file_spec.specs.declared.services.ServiceLine.{ServiceLine}
+use Rattle.file_spec.specs.declared.services.ServiceLine.TheVariants as service
+use Rattle.file_spec.specs.declared.limits.TheConstants.{FEWEST_LEGS, MOST_LEGS, MOST_LINKS, LEAST_TICK, MOST_TICK, USUAL_TICK, LEAST_SPACING, MOST_SPACING, USUAL_SPACING, LEAST_RELABEL, MOST_RELABEL, LEAST_GONE, MOST_GONE, MOST_TURNS, MOST_GENS, USUAL_GENS, MOST_PLAN_LINES, LONGEST_DELAY, LAST_MOMENT, USUAL_T140, USUAL_RED, LONGEST_NAME, LONGEST_PATH, MOST_CONF_OCTETS}
 use Rattle.rtt_base.specs.Steps.{◌>>=◌}
 use Rattle.file_spec.specs.Steps.{unless}
 use Rattle.file_spec.specs.Lines.{Line, Refusal, told, is_comment, words, at_line, read_lines}
 use Rattle.file_spec.specs.Numbers.{number, number_between, most_ssrc, pts}
 use Rattle.file_spec.specs.Stays.{is_crowd}
+use Rattle.file_spec.specs.Services.{no_service, with_service, is_operator_word}
 use Rattle.rtt_base.specs.declared.limits.TheConstants.{LONGEST_WAIT, USUAL_WAIT}
 
 pub record Conf : Type 0 where
@@ -35,6 +40,7 @@ pub record Conf : Type 0 where
   pub relabel : Option ℕ
   pub mixer : MixerLine
   pub plan : List PlanLine
+  pub service : Service
 
 -- what the lines so far say: the legs with their generations and stays, and of which legs lines have told these
 pub record Above : Type 0 where
@@ -48,6 +54,7 @@ pub record Above : Type 0 where
   pub relabel : Option ℕ
   pub mixer : Option MixerLine
   pub plan : List PlanLine
+  pub service : Service
 
 -- what one line says
 pub data Entry : Type 0 where
@@ -61,9 +68,10 @@ pub data Entry : Type 0 where
   Relabel : ℕ → Entry
   Mixer : MixerLine → Entry
   Plan : PlanLine → Entry
+  Serves : ServiceLine → Entry
 
 abbrev pub nothing : Above
-nothing = record { legs = []; gens = []; stays = []; tick = None; spacing = None; wait = None; turns = None; relabel = None; mixer = None; plan = [] }
+nothing = record { legs = []; gens = []; stays = []; tick = None; spacing = None; wait = None; turns = None; relabel = None; mixer = None; plan = []; service = no_service }
 
 -- the legs, the one at this place changed
 abbrev pub change_leg : (LegLine → LegLine) → ℕ → List LegLine → List LegLine
@@ -88,6 +96,7 @@ with_entry a (Turns n) = record a { turns = Some n }
 with_entry a (Relabel n) = record a { relabel = Some n }
 with_entry a (Mixer m) = record a { mixer = Some m }
 with_entry a (Plan p) = record a { plan = a.plan ++ p ∷ [] }
+with_entry a (Serves s) = record a { service = with_service a.service s }
 
 -- ---- numbers, times and the mixer
 
@@ -154,10 +163,15 @@ abbrev pub is_mixers : Option MixerLine → ℕ → Bool
 is_mixers None ssrc = false
 is_mixers (Some m) ssrc = m.ssrc == ssrc
 
+-- whether an operator is heard at this port; so it is among links alone
+abbrev pub is_operators : Option OperatorLine → Option ℕ → Bool
+is_operators None port = false
+is_operators (Some o) port = is_same_port (Some o.port) port
+
 abbrev pub clashes : Form → Above → LegLine → Bool
 clashes form above leg =
     list_any (λ a. a.ssrc == leg.ssrc) above.legs || (is_mixers above.mixer leg.ssrc
-    || (shares_own form leg || list_any (λ a. shares_path form a leg) above.legs))
+    || (shares_own form leg || (list_any (λ a. shares_path form a leg) above.legs || is_operators above.service.operator (port leg.input))))
 
 -- how many legs there may be
 abbrev pub most_legs : Form → ℕ
@@ -255,18 +269,39 @@ plan_word above word more =
     else (if bytes_eq word (codes "delay") then delay above more
     else (if bytes_eq word (codes "twice") then plan above what.Twice more else Err Word))
 
--- ---- lines
+-- ---- what is asked beside the mixing
 
-abbrev pub says : {A : Type 0} → (A → Entry) → Result A ConfKind → Result Entry ConfKind
+abbrev pub says : {A B : Type 0} → (A → B) → Result A ConfKind → Result B ConfKind
 says entry (Ok x) = Ok (entry x)
 says entry (Err kind) = Err kind
 
--- stays and plans have words in the form Files alone
-unfoldable pub stay_or_plan : Form → Above → List ℕ → List (List ℕ) → Result Entry ConfKind
-stay_or_plan Links above word more = Err Word
-stay_or_plan Files above word more =
+unfoldable pub operator_of : Above → List ℕ → List ℕ → Result OperatorLine ConfKind
+operator_of above at word = do
+  said ← unless (not (is_operator_word word)) Name word
+  n ← ok_or (port at) Number
+  line ← unless (is_some above.service.operator) Twice (record { port = n; word = said })
+  unless (list_any (λ leg. is_same_port (Some n) (port leg.input)) above.legs) Clash line
+
+abbrev pub operator : Above → List (List ℕ) → Result OperatorLine ConfKind
+operator above (at ∷ word ∷ []) = operator_of above at word
+operator above _ = Err Count
+
+abbrev pub service_word : Above → List ℕ → List (List ℕ) → Result ServiceLine ConfKind
+service_word above word more =
+    if bytes_eq word (codes "gone") then says service.Gone (setting LEAST_GONE MOST_GONE above.service.gone more)
+    else (if bytes_eq word (codes "operator") then says service.Operator (operator above more) else Err Word)
+
+-- ---- lines
+
+unfoldable pub stay_or_plan : Above → List ℕ → List (List ℕ) → Result Entry ConfKind
+stay_or_plan above word more =
     if bytes_eq word (codes "stay") then says Stays (stay above more)
     else says Plan (plan_word above word more)
+
+-- what one form alone has words for
+abbrev pub of_form : Form → Above → List ℕ → List (List ℕ) → Result Entry ConfKind
+of_form Files above word more = stay_or_plan above word more
+of_form Links above word more = says Serves (service_word above word more)
 
 -- the times, one number each
 unfoldable pub time_or_other : Form → Above → List ℕ → List (List ℕ) → Result Entry ConfKind
@@ -276,7 +311,7 @@ time_or_other form above word more =
     else (if bytes_eq word (codes "wait") then says Wait (setting 0 LONGEST_WAIT above.wait more)
     else (if bytes_eq word (codes "turns") then says Turns (setting 1 MOST_TURNS above.turns more)
     else (if bytes_eq word (codes "relabel") then says Relabel (setting LEAST_RELABEL MOST_RELABEL above.relabel more)
-    else stay_or_plan form above word more))))
+    else of_form form above word more))))
 
 -- what the words of a line say: the first one decides how many there are
 unfoldable pub entry : Form → Above → ℕ → List (List ℕ) → Result Entry ConfKind
@@ -311,6 +346,7 @@ whole above mixer = record {
   relabel = above.relabel;
   mixer = mixer;
   plan = above.plan;
+  service = above.service;
 }
 
 -- two legs at least, a mixer, and a place for each leg that stays

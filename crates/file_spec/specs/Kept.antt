@@ -1,14 +1,17 @@
 -- What a conference keeps that a file describes (profile).
-use Rattle.std.specs.Prelude.{◌≡◌, ◌≢◌, ◌<◌, ◌≤◌, ℕ, false, IsTrue, List, length, All, AllPairs}
+use Rattle.std.specs.Prelude.{◌≡◌, ◌≢◌, ◌<◌, ◌≤◌, ℕ, false, Some, IsTrue, List, length, All, AllPairs}
 use Rattle.std.specs.Option.{ForSome}
 use Rattle.rtt_base.specs.declared.text_packets.Pts.{Pts}
-use Rattle.file_spec.specs.declared.limits.TheConstants.{FEWEST_LEGS, MOST_LEGS, LEAST_TICK, MOST_TICK, LEAST_SPACING, MOST_SPACING, LEAST_RELABEL, MOST_RELABEL, MOST_TURNS, MOST_GENS, MOST_PLAN_LINES, LONGEST_DELAY, FIRST_TYPE, LAST_TYPE}
+use Rattle.file_spec.specs.declared.limits.TheConstants.{FEWEST_LEGS, MOST_LEGS, LEAST_TICK, MOST_TICK, LEAST_SPACING, MOST_SPACING, LEAST_RELABEL, MOST_RELABEL, LEAST_GONE, MOST_GONE, MOST_TURNS, MOST_GENS, MOST_PLAN_LINES, LONGEST_DELAY, FIRST_TYPE, LAST_TYPE}
 use Rattle.file_spec.specs.declared.conf_lines.LegLine.{LegLine}
 use Rattle.file_spec.specs.declared.conf_lines.MixerLine.{MixerLine}
 use Rattle.file_spec.specs.declared.conf_lines.PlanLine.{PlanLine}
 use Rattle.file_spec.specs.declared.conf_lines.What.{What}
 use Rattle.file_spec.specs.declared.conf_lines.What.TheVariants.{Delay}
-use Rattle.file_spec.specs.Conf.{Above, Conf, is_name, is_same_packet}
+use Rattle.file_spec.specs.declared.services.OperatorLine.{OperatorLine}
+use Rattle.file_spec.specs.declared.services.Service.{Service}
+use Rattle.file_spec.specs.Conf.{Above, Conf, is_name, is_same_packet, port}
+use Rattle.file_spec.specs.Services.{is_operator_word}
 use Rattle.file_spec.specs.Sound.{IsBetween}
 use Rattle.file_spec.specs.Stays.{IsStay, NeverCrowd}
 use Rattle.rtt_base.specs.declared.limits.TheConstants.{LONGEST_WAIT}
@@ -67,6 +70,19 @@ AreTurns n = IsBetween 1 MOST_TURNS n
 abbrev pub IsRelabel : ℕ → Type 0
 IsRelabel n = IsBetween LEAST_RELABEL MOST_RELABEL n
 
+abbrev pub IsGone : ℕ → Type 0
+IsGone n = IsBetween LEAST_GONE MOST_GONE n
+
+-- an operator is heard at a port that no leg has
+pub record IsOperatorFor (legs : List LegLine) (line : OperatorLine) : Type 0 where
+  pub at : IsBetween 1 65535 line.port
+  pub word : IsTrue (is_operator_word line.word)
+  pub differs : All (λ leg. port leg.input ≢ Some line.port) legs
+
+pub record IsServiceFor (legs : List LegLine) (service : Service) : Type 0 where
+  pub gone : ForSome service.gone (λ n. IsGone n)
+  pub operator : ForSome service.operator (λ o. IsOperatorFor legs o)
+
 -- what the lines so far keep
 pub record Keeps (above : Above) : Type 0 where
   pub legs : AreLegs above.legs
@@ -77,6 +93,7 @@ pub record Keeps (above : Above) : Type 0 where
   pub relabel : ForSome above.relabel (λ n. IsRelabel n)
   pub mixer : ForSome above.mixer (λ m. IsMixerFor above.legs m)
   pub plan : IsPlanFor above.legs above.plan
+  pub service : IsServiceFor above.legs above.service
 
 -- what the whole keeps
 pub record IsConference (c : Conf) : Type 0 where
@@ -90,3 +107,4 @@ pub record IsConference (c : Conf) : Type 0 where
   pub relabel : ForSome c.relabel (λ n. IsRelabel n)
   pub mixer : IsMixerFor c.legs c.mixer
   pub plan : IsPlanFor c.legs c.plan
+  pub service : IsServiceFor c.legs c.service

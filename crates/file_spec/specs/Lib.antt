@@ -3,6 +3,7 @@ pub mod Kept
 pub mod Lines
 pub mod Numbers
 pub mod Script
+pub mod Services
 pub mod Sound
 pub mod Stays
 pub mod Steps

@@ -13,7 +13,7 @@ pub enum ConfKind {
     /// The number of words is none of the line's, or a script line has no space.
     #[error("Count")]
     Count,
-    /// A name or a path is outside its shape, or no leg above has the name.
+    /// A name, a path or an operator's word is outside its shape, or no leg above has the name.
     #[error("Name")]
     Name,
     /// A number is none, or out of its range, or a stay ends before it begins.
@@ -28,7 +28,7 @@ pub enum ConfKind {
     /// A line above says the same.
     #[error("Twice")]
     Twice,
-    /// Two of the conference's SSRCs, paths or payload types may not be the same.
+    /// Two of the conference's SSRCs, paths, ports or payload types may not be the same.
     #[error("Clash")]
     Clash,
     /// There are fewer than two legs, or there is no mixer.

@@ -7,7 +7,8 @@ ghost use Rattle.file_spec.specs.Kept.{IsConference};
 ghost use Rattle.file_spec.specs.Stays.{HasCrowd, NeverCrowd, is_crowd};
 
 /// A conference that a file describes keeps all limits: its numbers are in their ranges, names, SSRCs and outputs
-/// differ, each stay is not empty, at no moment too many legs stay, and the plan is about packets to its legs.
+/// differ, each stay is not empty, at no moment too many legs stay, the plan is about packets to its legs, and an operator
+/// is heard at no leg's port.
 pub fn accepted_conferences_keep()
     ensures { (form : Form) (octets : List ℕ) (c : Conf) → conf form octets ≡ Ok c → IsConference c }
 {}

@@ -27,6 +27,10 @@ pub const USUAL_SPACING: u32 = 300;
 pub const LEAST_RELABEL: u32 = 2000;
 
 pub const MOST_RELABEL: u32 = 60_000;
+/// The range of the milliseconds after which a link at which nothing comes is closed: ten seconds to a day.
+pub const LEAST_GONE: u32 = 10_000;
+
+pub const MOST_GONE: u32 = 86_400_000;
 /// How many turns the mixer may take: at least one.
 pub const MOST_TURNS: u32 = 5_000_000;
 /// How many redundant generations a terminal is sent.
@@ -55,6 +59,10 @@ pub const USUAL_RED: u8 = 100;
 pub const LONGEST_NAME: usize = 32;
 /// The longest input and output of a leg.
 pub const LONGEST_PATH: usize = 255;
+/// The shortest and the longest word of an operator.
+pub const SHORTEST_WORD: usize = 8;
+
+pub const LONGEST_WORD: usize = 64;
 /// The greatest size of a conference file.
 pub const MOST_CONF_OCTETS: usize = 262_144;
 /// The greatest size of a script.

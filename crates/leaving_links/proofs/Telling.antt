@@ -1,21 +1,16 @@
 -- What is told of one take more.
-use Rattle.std.proofs.Common.{◌≡◌, ◌∙◌, true≢false, ◌||◌, ℕ, Bool, true, false, List, [], ◌∷◌, refl, sym, ap, subst}
+use Rattle.std.proofs.Common.{◌≡◌, ◌∙◌, true≢false, ◌||◌, ◌-◌, ℕ, Option, Bool, true, false, List, [], ◌∷◌, refl, sym, ap}
 use Rattle.std.specs.Prelude.{if◌then◌else◌}
 use Rattle.link_spec.specs.Links as links
 use Rattle.link_io.specs.declared.ends.Came.{Came}
+use Rattle.link_io.specs.declared.ends.Taken.{Taken}
 use Rattle.link_io.specs.Taking.{came_of, closes, taken_of}
 use Rattle.leaving_links.specs.declared.peers.Peer.{Peer}
-use Rattle.leaving_links.specs.Leaving.{after_came, came_told, peer_by, says_bye, takes_told}
+use Rattle.leaving_links.specs.Leaving.{after_taken, came_told, has_gone, is_farewell, peer_by, silent_since, takes_told}
 
 -- who has left comes not back
-left_stays : (p : Peer) (c : links.Came) → p.left ≡ true → (after_came p c).left ≡ true
-left_stays p (links.Datagram octets) e = ap (λ b. b || says_bye p.last octets) e
-left_stays p links.Large e = e
-left_stays p links.Quiet e = e
-left_stays p links.Closed e = e
-
-pub stays : (old new : Peer) (c : links.Came) → new ≡ after_came old c → old.left ≡ true → new.left ≡ true
-stays old new c e l = ap (λ (p : Peer). p.left) e ∙ left_stays old c l
+pub stays : (longest : Option ℕ) (old new : Peer) (t : links.Taken) → new ≡ after_taken longest old t → old.left ≡ true → new.left ≡ true
+stays longest old new t e l = ap (λ (p : Peer). p.left) e ∙ ap (λ b. b || is_farewell old.last t.came || has_gone longest (t.at - silent_since old.since t)) l
 
 -- what is told closes the link where the peer has left, or where what came does
 told_closes : (p : Peer) (c : links.Came) → links.is_closing (came_told p c) ≡ (if p.left then true else links.is_closing c)
@@ -44,14 +39,15 @@ closed_stays true false closed closing f g h = absurd (true≢false (sym (f refl
 closed_stays false false closed closing f g h = g h
 
 -- takes behind which what came is told so
-pub told_more : (past all : links.Takes) (old new : Peer) (at : ℕ) (came told : Came) (octets : List ℕ)
-    → old ≡ peer_by past
-    → all ≡ taken_of (record { at = at; came = came }) octets ∷ past
-    → new ≡ after_came old (came_of came octets)
-    → ((o : List ℕ) → came_of told o ≡ came_told new (came_of came o))
-    → takes_told all ≡ taken_of (record { at = at; came = told }) octets ∷ takes_told past
-told_more past all old new at came told octets known more after tells =
-    let by : peer_by (taken_of (record { at = at; came = came }) octets ∷ past) ≡ new = ap (λ (p : Peer). after_came p (came_of came octets)) (sym known) ∙ sym after in
-    let so : came_told (peer_by (taken_of (record { at = at; came = came }) octets ∷ past)) (came_of came octets) ≡ came_of told octets =
-    ap (λ (p : Peer). came_told p (came_of came octets)) by ∙ sym (tells octets) in
-    ap takes_told more ∙ ap (λ (c : links.Came). record { at = at; came = c } ∷ takes_told past) so
+pub told_more : (longest : Option ℕ) (past all : links.Takes) (old new : Peer) (taken : Taken) (told : Came) (octets : List ℕ)
+    → old ≡ peer_by longest past
+    → all ≡ taken_of taken octets ∷ past
+    → new ≡ after_taken longest old (taken_of taken octets)
+    → ((o : List ℕ) → came_of told o ≡ came_told new (came_of taken.came o))
+    → takes_told longest all ≡ taken_of (record { at = taken.at; came = told }) octets ∷ takes_told longest past
+told_more longest past all old new taken told octets known more after tells =
+    let t = taken_of taken octets in
+    let by : peer_by longest (t ∷ past) ≡ new = ap (λ (p : Peer). after_taken longest p t) (sym known) ∙ sym after in
+    let so : came_told (peer_by longest (t ∷ past)) (came_of taken.came octets) ≡ came_of told octets =
+    ap (λ (p : Peer). came_told p (came_of taken.came octets)) by ∙ sym (tells octets) in
+    ap (takes_told longest) more ∙ ap (λ (c : links.Came). record { at = taken.at; came = c } ∷ takes_told longest past) so

@@ -2,50 +2,66 @@
 ghost use Rattle.std.specs.Prelude.{◌≡◌, ℕ};
 ghost use Rattle.leaving_links.specs.Leaving.{takes_told};
 
-use crate::LeavingIn;
-use link_io::Links;
+use crate::{LeavingIn, Silence};
+use link_io::{Beat, Links};
 use rtt_base::Failed;
+use std::marker::PhantomData;
 
 /// Links over others, each of which is closed for good once its peer has left ([`LeavingIn`]). All else is as below: the outbound ends,
 /// the clock, what is stored and the counts of faults.
 #[derive(Drop)]
-pub struct Leaving<L: Links> {
+pub struct Leaving<L: Links, S: Silence> {
     links: L,
+    /// How long a peer may be silent.
+    longest: Option<u32>,
+    of: PhantomData<S>,
+    ghost agreed: { longest ≡ S.longest },
 }
 
-impl<L: Links> Leaving<L> {
-    /// The links over these.
-    pub fn new(links: L) -> Leaving<L>
-        ensures leads { ⟦<Leaving<L> as Links>⟧.leads result ≡ L.leads links }
-        ensures taken { (p : ℕ) → ⟦<Leaving<L> as Links>⟧.taken_at result p ≡ takes_told (L.taken_at links p) }
-        ensures given { (p : ℕ) → ⟦<Leaving<L> as Links>⟧.given_at result p ≡ L.given_at links p }
-        ensures own { (p : ℕ) → ⟦<Leaving<L> as Links>⟧.own_faults result p ≡ L.own_faults links p }
-        ensures objects { (p : ℕ) → ⟦<Leaving<L> as Links>⟧.object_faults result p ≡ L.object_faults links p }
-        ensures pauses { ⟦<Leaving<L> as Links>⟧.pauses result ≡ L.pauses links }
+impl<L: Links, S: Silence + Send> Leaving<L, S> {
+    /// The links over these, whose peers may be silent for so many milliseconds, where there is an end to it.
+    pub fn new(links: L, longest: Option<u32>) -> Leaving<L, S>
+        requires { longest ≡ S.longest }
+        ensures leads { ⟦<Leaving<L, S> as Links>⟧.leads result ≡ L.leads links }
+        ensures taken { (p : ℕ) → ⟦<Leaving<L, S> as Links>⟧.taken_at result p ≡ takes_told S.longest (L.taken_at links p) }
+        ensures given { (p : ℕ) → ⟦<Leaving<L, S> as Links>⟧.given_at result p ≡ L.given_at links p }
+        ensures own { (p : ℕ) → ⟦<Leaving<L, S> as Links>⟧.own_faults result p ≡ L.own_faults links p }
+        ensures objects { (p : ℕ) → ⟦<Leaving<L, S> as Links>⟧.object_faults result p ≡ L.object_faults links p }
+        ensures pauses { ⟦<Leaving<L, S> as Links>⟧.pauses result ≡ L.pauses links }
     {
-        Leaving { links }
+        Leaving {
+            links,
+            longest,
+            of: PhantomData,
+        }
     }
 
     /// The links below.
     pub fn into_links(self) -> L
-        ensures leads { ⟦<Leaving<L> as Links>⟧.leads self ≡ L.leads result }
-        ensures taken { (p : ℕ) → ⟦<Leaving<L> as Links>⟧.taken_at self p ≡ takes_told (L.taken_at result p) }
-        ensures given { (p : ℕ) → ⟦<Leaving<L> as Links>⟧.given_at self p ≡ L.given_at result p }
-        ensures own { (p : ℕ) → ⟦<Leaving<L> as Links>⟧.own_faults self p ≡ L.own_faults result p }
-        ensures objects { (p : ℕ) → ⟦<Leaving<L> as Links>⟧.object_faults self p ≡ L.object_faults result p }
-        ensures pauses { ⟦<Leaving<L> as Links>⟧.pauses self ≡ L.pauses result }
+        ensures leads { ⟦<Leaving<L, S> as Links>⟧.leads self ≡ L.leads result }
+        ensures taken { (p : ℕ) → ⟦<Leaving<L, S> as Links>⟧.taken_at self p ≡ takes_told S.longest (L.taken_at result p) }
+        ensures given { (p : ℕ) → ⟦<Leaving<L, S> as Links>⟧.given_at self p ≡ L.given_at result p }
+        ensures own { (p : ℕ) → ⟦<Leaving<L, S> as Links>⟧.own_faults self p ≡ L.own_faults result p }
+        ensures objects { (p : ℕ) → ⟦<Leaving<L, S> as Links>⟧.object_faults self p ≡ L.object_faults result p }
+        ensures pauses { ⟦<Leaving<L, S> as Links>⟧.pauses self ≡ L.pauses result }
     {
-        let Leaving { links } = self;
+        let Leaving {
+            links,
+            longest: _,
+            of: _,
+        } = self;
         links
     }
 }
 
-impl<L: Links> Links for Leaving<L> {
+impl<L: Links, S: Silence + Send> Links for Leaving<L, S> {
     ghost use Rattle.leaving_links.specs.Leaving.{takes_told};
 
-    type In = LeavingIn<L::In>;
+    type In = LeavingIn<L::In, S>;
 
     type Out = L::Out;
+
+    type Clock = L::Clock;
 
     ghost tells = { L.tells };
 
@@ -53,7 +69,7 @@ impl<L: Links> Links for Leaving<L> {
 
     ghost leads = { λ all. L.leads all.links };
 
-    ghost taken_at = { λ all port. takes_told (L.taken_at all.links port) };
+    ghost taken_at = { λ all port. takes_told S.longest (L.taken_at all.links port) };
 
     ghost given_at = { λ all. L.given_at all.links };
 
@@ -65,19 +81,15 @@ impl<L: Links> Links for Leaving<L> {
 
     ghost pauses = { λ all. L.pauses all.links };
 
-    fn link(&mut self, port: u16, to: &str) -> Result<(LeavingIn<L::In>, L::Out), Failed> {
+    fn link(&mut self, port: u16, to: &str) -> Result<(LeavingIn<L::In, S>, L::Out), Failed> {
         let Ok((inbound, outbound)) = self.links.link(port, to) else {
             return Err(Failed);
         };
-        Ok((LeavingIn::new(inbound), outbound))
+        Ok((LeavingIn::new(inbound, self.longest), outbound))
     }
 
-    fn done_in(&mut self, link: LeavingIn<L::In>) {
-        let LeavingIn {
-            link: below,
-            peer: _,
-        } = link;
-        self.links.done_in(below);
+    fn done_in(&mut self, link: LeavingIn<L::In, S>) {
+        self.links.done_in(link.into_link());
     }
 
     fn done_out(&mut self, link: L::Out) {
@@ -86,6 +98,10 @@ impl<L: Links> Links for Leaving<L> {
 
     fn now(&mut self) -> u64 {
         self.links.now()
+    }
+
+    fn beat(&self) -> Beat<'_, L::Clock> {
+        self.links.beat()
     }
 
     fn pause_until(&mut self, until: u64) {

@@ -1,7 +1,10 @@
-use crate::Leaving;
+ghost use Rattle.std.specs.Prelude.{◌≡◌};
+
+use crate::{Leaving, Silence};
 use link_io::{Came, FailingLink, LinkIn, Links, MemLinks, Planned};
 use rtt_base::{Bytes, NoMemory, Packet};
 use std::alloc::Global;
+use std::marker::Brand;
 use std::test::Fail;
 
 /// A leaving of 1001 with an octet too many.
@@ -118,7 +121,7 @@ fn is_told(alloc: Global, story: Story) -> Result<bool, NoMemory> {
     let Story(datagrams, open) = story;
     let mut below = MemLinks::new(alloc);
     plan_all(&mut below, alloc, datagrams)?;
-    let mut links = Leaving::new(below);
+    let mut links: Leaving<MemLinks, Brand> = Leaving::new(below, None);
     let Ok((mut inbound, outbound)) = links.link(5001, "127.0.0.1:6001") else {
         return Ok(false);
     };
@@ -152,7 +155,7 @@ fn faults_are_those_of_the_link_below(rt: HostRuntime) -> Result<(), Fail> {
     plan_all(&mut below, rt.alloc(), LEAVES.0)?;
     below.fail(FailingLink::Link(5002))?;
     below.fail(FailingLink::Take(5001, 2))?;
-    let mut links = Leaving::new(below);
+    let mut links: Leaving<MemLinks, Brand> = Leaving::new(below, None);
     assert!(rt; links.link(5002, "127.0.0.1:6002").is_err());
     let (mut inbound, outbound) = links.link(5001, "127.0.0.1:6001")?;
     assert!(rt; tells(&mut inbound, Came::Datagram));
@@ -160,5 +163,70 @@ fn faults_are_those_of_the_link_below(rt: HostRuntime) -> Result<(), Fail> {
     assert!(rt; tells_often(&mut inbound, 3, Came::Closed));
     links.done_in(inbound);
     links.done_out(outbound);
+    Ok(())
+}
+
+/// What one take gives at a moment, and what is told of it.
+#[derive(Clone, Copy)]
+struct Moment(u32, Came, Came);
+
+/// Who was silent for 100 ms has gone: counted from the first take, and from each datagram; it comes not back.
+const GOES_SILENTLY: &[Moment] = &[
+    Moment(1000, Came::Quiet, Came::Quiet),
+    Moment(1099, Came::Quiet, Came::Quiet),
+    Moment(1099, Came::Large, Came::Large),
+    Moment(1198, Came::Quiet, Came::Quiet),
+    Moment(1199, Came::Quiet, Came::Closed),
+    Moment(1200, Came::Large, Came::Closed),
+];
+
+/// A datagram keeps who sends it, however late it is.
+const COMES_LATE: &[Moment] = &[
+    Moment(5000, Came::Large, Came::Large),
+    Moment(9000, Came::Large, Came::Large),
+    Moment(9099, Came::Quiet, Came::Quiet),
+    Moment(9100, Came::Quiet, Came::Closed),
+];
+
+// Whether moments are told as they are to be, where a peer may be silent so long.
+fn is_told_by<S: Silence + Send>(
+    alloc: Global,
+    longest: Option<u32>,
+    moments: &[Moment],
+) -> Result<bool, NoMemory>
+    requires { longest ≡ S.longest }
+{
+    let mut below = MemLinks::new(alloc);
+    for Moment(at, came, _) in moments {
+        below.plan(5001, Planned::new(alloc, *at, *came, b"")?)?;
+    }
+    let mut links: Leaving<MemLinks, S> = Leaving::new(below, longest);
+    let Ok((mut inbound, outbound)) = links.link(5001, "127.0.0.1:6001") else {
+        return Ok(false);
+    };
+    let mut right = true;
+    let mut out = Packet::new();
+    for Moment(at, _, told) in moments {
+        right = right
+            && match inbound.take(&mut out, 0) {
+                Ok(taken) => taken.at == u64::from(*at) && taken.came == *told,
+                Err(_) => false,
+            };
+    }
+    links.done_in(inbound);
+    links.done_out(outbound);
+    Ok(right)
+}
+
+fn is_told_at(alloc: Global, longest: Option<u32>, moments: &[Moment]) -> Result<bool, NoMemory> {
+    is_told_by::<Brand>(alloc, longest, moments)
+}
+
+#[test]
+fn who_is_silent_too_long_has_gone(rt: HostRuntime) -> Result<(), Fail> {
+    assert!(rt; is_told_at(rt.alloc(), Some(100), GOES_SILENTLY)?);
+    assert!(rt; is_told_at(rt.alloc(), Some(100), COMES_LATE)?);
+    assert!(rt; !is_told_at(rt.alloc(), Some(101), GOES_SILENTLY)?);
+    assert!(rt; !is_told_at(rt.alloc(), None, GOES_SILENTLY)?);
     Ok(())
 }

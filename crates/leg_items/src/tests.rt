@@ -6,6 +6,7 @@ use crate::LegInlet;
 use ear::EarConf;
 use file_spec::{LegLine, Stay};
 use leg_core::Leg;
+use link_io::Beat;
 use mix_loop::{Mixed, Mixes, Mixing, Room, mix_inlets};
 use rtpdump_io::DumpFault;
 use rtt_base::{Bytes, Chunk, Full, Name, NoMemory, Path, Pts};
@@ -63,6 +64,8 @@ impl Mixes for Noting {
 
     type Fault = NoMemory;
 
+    type Clock = ();
+
     ghost stands = { λ m s pts calls. ⊥ };
 
     ghost halted = { λ m s pts calls now. Unit {0} };
@@ -96,7 +99,7 @@ impl Mixes for Noting {
         Ok(())
     }
 
-    fn turn(&mut self, now: u64) -> Result<(), NoMemory> {
+    fn turn(&mut self, now: u64, _beat: &Beat<'_, ()>) -> Result<(), NoMemory> {
         self.note(Called::Turn(now));
         self.turns += 1;
         Ok(())

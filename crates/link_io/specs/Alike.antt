@@ -10,6 +10,6 @@ SameIn g old new =
     (g.taken new ≡ g.taken old) × (g.port new ≡ g.port old) × (g.faults new ≡ g.faults old) × (g.closed new ≡ g.closed old)
 
 -- where a link was opened and to whom, what is stored, the faults of each port and how often the clock was paused
-abbrev pub SameLinks : {W I O : Type 0} → links.Ghosts W I O → W → W → Type 0
+abbrev pub SameLinks : {W I O C : Type 0} → links.Ghosts W I O C → W → W → Type 0
 SameLinks g old new =
     Same g.opened old new × (g.leads new ≡ g.leads old) × Same g.taken_at old new × Same g.given_at old new × Same g.own_faults old new × Same g.object_faults old new × (g.pauses new ≡ g.pauses old)

@@ -16,7 +16,7 @@ abbrev pub taken_in : MemLinks → ℕ → Takes
 taken_in links port = takes_of links.ports.items port
 
 -- what was given
-abbrev pub given_in : MemLinks → ℕ → List (List ℕ)
+abbrev pub given_in : MemLinks → ℕ → List (ℕ × List ℕ)
 given_in links port = given_of links.ports.items port
 
 -- the faults of the calls that open the port

@@ -1,8 +1,9 @@
 pub mod Taking
 pub mod Told
+pub mod Given
+pub mod GivenTold
 pub mod Alike
 pub mod Ports
 pub mod MemPorts
 pub mod Held
 pub mod Peers
-pub mod Receiving

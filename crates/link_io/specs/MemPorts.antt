@@ -7,6 +7,7 @@ use Rattle.rtt_io.specs.Counts.{counted}
 use Rattle.link_io.specs.declared.mem_ports.MemLead.{MemLead}
 use Rattle.link_io.specs.declared.mem_ports.MemPort.{MemPort}
 use Rattle.link_io.specs.Told.{takes_told}
+use Rattle.link_io.specs.GivenTold.{gives_told}
 
 -- the entry is that of this port
 abbrev pub is_of : ℕ → MemPort → Bool
@@ -25,8 +26,8 @@ is_there (Some entry) = true
 abbrev pub takes_in : Option MemPort → Takes
 takes_in entry = option_map_or (λ (e : MemPort). takes_told e.taken.items) entry []
 
-abbrev pub given_in : Option MemPort → List (List ℕ)
-given_in entry = option_map_or (λ (e : MemPort). e.given.items) entry []
+abbrev pub given_in : Option MemPort → List (ℕ × List ℕ)
+given_in entry = option_map_or (λ (e : MemPort). gives_told e.given.items) entry []
 
 abbrev pub own_count : Option MemPort → ℕ
 own_count entry = option_map_or (λ (e : MemPort). e.faults.own) entry 0
@@ -47,7 +48,7 @@ abbrev pub takes_of : List MemPort → ℕ → Takes
 takes_of entries port = takes_in (entry_of entries port)
 
 -- what was given at the port
-abbrev pub given_of : List MemPort → ℕ → List (List ℕ)
+abbrev pub given_of : List MemPort → ℕ → List (ℕ × List ℕ)
 given_of entries port = given_in (entry_of entries port)
 
 -- the faults of the calls that open the port, with those that no entry counts

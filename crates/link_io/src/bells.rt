@@ -1,7 +1,9 @@
 //! What waits until something comes to a socket.
 use mio::unix::SourceFd;
 use mio::{Events, Interest, Poll, Token};
+use rtt_base::Failed;
 use std::alloc::Global;
+use std::io::ErrorKind;
 use std::net::{Net, UdpSocket};
 use std::os::fd::AsRawFd;
 use std::time::Duration;
@@ -26,9 +28,13 @@ impl Bell {
         Some(Bell { poll, events })
     }
 
-    /// Waits so many milliseconds at most. It may come back before anything came. None where the system refuses.
-    pub(crate) fn wait(&mut self, millis: u64) -> Option<()> {
+    /// Waits so many milliseconds at most. It may come back before anything came, as where a signal broke it off. After `Failed` it
+    /// rings no more.
+    pub(crate) fn wait(&mut self, millis: u64) -> Result<(), Failed> {
         let longest = Duration::from_millis(millis);
-        self.poll.poll(&mut self.events, Some(longest)).ok()
+        match self.poll.poll(&mut self.events, Some(longest)) {
+            Err(error) if error.kind() != ErrorKind::Interrupted => Err(Failed),
+            _ => Ok(()),
+        }
     }
 }

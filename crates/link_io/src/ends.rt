@@ -3,7 +3,9 @@ ghost use Rattle.std.specs.Prelude.{◌≡◌, ℕ, ◌≤◌, ◌<◌, ◌^◌,
 ghost use Rattle.rtt_io.specs.Counts.{Rose};
 ghost use Rattle.link_spec.specs.Links.{Takes};
 ghost use Rattle.link_io.specs.Taking.{taken_of, closes};
+ghost use Rattle.link_io.specs.Given.{GivesAfter};
 
+use crate::Beat;
 use rtt_base::{Failed, Packet};
 
 /// What came of a link, where it was asked.
@@ -67,11 +69,14 @@ pub trait LinkIn {
 
 /// The end of a link at which packets go out.
 pub trait LinkOut {
+    /// The kind of clock at whose beats it is given packets.
+    type Clock;
+
     /// Whether links of this type tell what they were given. Those over real sockets don't.
     ghost tells: { Type 0 };
 
-    /// The packets that it was given, oldest first.
-    ghost given: { Self → List (List ℕ) };
+    /// The packets that it was given, oldest first, each with how often the clock had paused.
+    ghost given: { Self → List (ℕ × List ℕ) };
 
     /// How often it failed.
     ghost faults: { Self → ℕ };
@@ -79,13 +84,15 @@ pub trait LinkOut {
     /// The port that it was opened at.
     ghost port: { Self → ℕ };
 
-    /// Gives a packet. That it arrives is not promised, and the call does not wait for it. After `Failed` it was not given.
-    fn give(&mut self, packet: &[u8]) -> Result<(), Failed>
+    /// Gives a packet at this beat of the clock. That it arrives is not promised, and the call does not wait for it. After `Failed`
+    /// it was not given.
+    fn give(&mut self, beat: &Beat<'_, Self::Clock>, packet: &[u8]) -> Result<(), Failed>
         ensures never_falls { faults self.old ≤ faults self.new }
         ensures failed { OnErr result (Rose (faults self.old) (faults self.new)) }
         ensures calm { OnOk result (faults self.new ≡ faults self.old) }
         ensures same_port { port self.new ≡ port self.old }
 
-        ensures appended { tells → OnOk result (given self.new ≡ given self.old ++ packet.now ∷ []) }
+        ensures now { GivesAfter beat.now.pauses (given self.old) (given self.new) }
+        ensures appended { tells → OnOk result (given self.new ≡ given self.old ++ (beat.now.pauses, packet.now) ∷ []) }
         ensures unchanged { tells → OnErr result (given self.new ≡ given self.old) };
 }

@@ -1,6 +1,7 @@
 //! Links to the terminals of a live call: what comes from them and what goes to them, in memory and over UDP.
 #![tactic(auto)]
 
+mod beats;
 mod bells;
 mod clocks;
 mod ends;
@@ -13,13 +14,14 @@ mod peers;
 mod real_ends;
 mod real_links;
 
+pub use beats::Beat;
 pub use ends::{Came, LinkIn, LinkOut, Taken};
 pub use links::Links;
 pub use mem_ins::{MemIn, Planned, Told};
 pub use mem_links::{FailingLink, MemLinks};
-pub use mem_outs::MemOut;
+pub use mem_outs::{Given, MemOut};
 pub use peers::{Peer, peer_of};
-pub use real_ends::{RealIn, RealOut};
+pub use real_ends::{RealIn, RealOut, UdpClock};
 pub use real_links::RealLinks;
 
 #[cfg(test)]

@@ -4,7 +4,7 @@ ghost use Rattle.rtt_io.specs.Counts.{Rose, counted};
 ghost use Rattle.link_spec.specs.Links.{Takes};
 ghost use Rattle.link_io.specs.Ports.{Same, SameBut, Replaces, StayOpened, NoneFalls, CountsMore, CountsNoOther};
 
-use crate::{LinkIn, LinkOut};
+use crate::{Beat, LinkIn, LinkOut};
 use rtt_base::Failed;
 
 /// What links are opened in, each at a port of its own, and a clock (milliseconds). Each end that it gives is handed back
@@ -12,7 +12,10 @@ use rtt_base::Failed;
 pub trait Links {
     type In: LinkIn + Send;
 
-    type Out: LinkOut;
+    type Out: LinkOut<Clock = Self::Clock>;
+
+    /// The kind of its clock, of which no links of another kind have one.
+    type Clock;
 
     /// Whether it tells what is stored under a port. Those over real sockets don't.
     ghost tells: { Type 0 };
@@ -26,8 +29,9 @@ pub trait Links {
     /// What the takes of the inbound end gave that was handed back last of this port, newest first.
     ghost taken_at: { Self → ℕ → Takes };
 
-    /// The packets that the outbound end was given that was handed back last of this port, oldest first.
-    ghost given_at: { Self → ℕ → List (List ℕ) };
+    /// The packets that the outbound end was given that was handed back last of this port, oldest first, each with how often the clock
+    /// had paused.
+    ghost given_at: { Self → ℕ → List (ℕ × List ℕ) };
 
     /// How often a call that opens this port failed.
     ghost own_faults: { Self → ℕ → ℕ };
@@ -108,6 +112,10 @@ pub trait Links {
         ensures same_leads { tells → leads self.new ≡ leads self.old }
         ensures same_taken { tells → Same taken_at self.old self.new }
         ensures same_given { tells → Same given_at self.old self.new };
+
+    /// How often it paused, for what is given before it pauses again.
+    fn beat(&self) -> Beat<'_, Self::Clock>
+        ensures { result.pauses ≡ pauses self.now };
 
     /// Lets time go by until this moment of its clock, where that is still to come, and counts a pause.
     fn pause_until(&mut self, until: u64)

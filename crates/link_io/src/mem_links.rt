@@ -3,13 +3,14 @@ ghost use Rattle.std.specs.Prelude.{◌≡◌, ◌<◌, ◌^◌, ℕ, true, fals
 ghost use Rattle.link_io.specs.Alike.{SameLinks};
 ghost use Rattle.link_io.specs.Ports.{Same, StayOpened};
 ghost use Rattle.link_io.specs.Told.{takes_told};
+ghost use Rattle.link_io.specs.GivenTold.{gives_told};
 ghost use Rattle.link_io.specs.MemPorts.{leads_of};
 ghost use Rattle.link_io.specs.Held.{opened_in, taken_in, given_in, own_in, objects_in, Stores, Counts};
 
 use crate::clocks::StillClock;
 use crate::mem_ports::{MemLead, MemPort, place};
-use crate::{Links, MemIn, MemOut, Planned, Told};
-use rtt_base::{Bytes, Failed, NoMemory, Path};
+use crate::{Beat, Given, Links, MemIn, MemOut, Planned, Told};
+use rtt_base::{Failed, NoMemory, Path};
 use rtt_io::{FailingCalls, Faults};
 use std::alloc::Global;
 
@@ -51,6 +52,8 @@ impl Links for MemLinks {
     type In = MemIn;
 
     type Out = MemOut;
+
+    type Clock = MemLinks;
 
     ghost use Rattle.link_io.specs.MemPorts.{opened_of, leads_of, takes_of, given_of, own_of, objects_of};
 
@@ -94,6 +97,10 @@ impl Links for MemLinks {
 
     fn now(&mut self) -> u64 {
         self.clock.moment()
+    }
+
+    fn beat(&self) -> Beat<'_, MemLinks> {
+        Beat::of(&self.pauses)
     }
 
     fn pause_until(&mut self, until: u64) {
@@ -150,9 +157,9 @@ impl MemLinks {
         }
     }
 
-    /// The packets that the end was given that was handed back last of a port, oldest first.
-    pub fn given(&self, port: u16) -> &[Bytes]
-        ensures { result.now ≡ ⟦<MemLinks as Links>⟧.given_at self.now port }
+    /// The packets that the end was given that was handed back last of a port, oldest first, each with how often the clock had paused.
+    pub fn given(&self, port: u16) -> &[Given]
+        ensures { gives_told result.now ≡ ⟦<MemLinks as Links>⟧.given_at self.now port }
     {
         match place(self.ports.as_slice(), port) {
             Some(at) => self.ports[at].given.as_slice(),
@@ -164,7 +171,7 @@ impl MemLinks {
     fn ends(&self, port: u16) -> Option<(MemIn, MemOut)>
         ensures ports { IfSome result (λ ends. (ends.0.port ≡ port) × (ends.1.port ≡ port)) }
         ensures fresh { IfSome result (λ ends. (ends.0.faults ≡ 0) × (ends.1.faults ≡ 0)) }
-        ensures none { IfSome result (λ ends. (takes_told ends.0.told.items ≡ []) × (ends.1.given.items ≡ [])) }
+        ensures none { IfSome result (λ ends. (takes_told ends.0.told.items ≡ []) × (gives_told ends.1.given.items ≡ [])) }
         ensures not_closed { IfSome result (λ ends. ends.0.closed ≡ false) }
     {
         if self.fails_to_link(port) {
@@ -263,8 +270,8 @@ impl MemLinks {
     }
 
     // Puts this in place of what was given at a port, where a link was opened there.
-    fn store_given(&mut self, port: u16, given: Vec<Bytes>)
-        ensures { Stores given_in taken_in port given.items self.old self.new }
+    fn store_given(&mut self, port: u16, given: Vec<Given>)
+        ensures { Stores given_in taken_in port (gives_told given.items) self.old self.new }
     {
         if let Some(at) = place(self.ports.as_slice(), port) {
             let entry = &mut self.ports[at];

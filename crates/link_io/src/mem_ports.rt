@@ -2,8 +2,8 @@
 ghost use Rattle.std.specs.Prelude.{◌≡◌, position};
 ghost use Rattle.link_io.specs.MemPorts.{is_of};
 
-use crate::Told;
-use rtt_base::{Bytes, Path};
+use crate::{Given, Told};
+use rtt_base::Path;
 use rtt_io::Faults;
 
 /// A port at which a link was opened: what is stored under it, with the faults of that port.
@@ -12,7 +12,8 @@ pub struct MemPort {
     pub number: u16,
     /// What the takes gave, oldest first.
     pub taken: Vec<Told>,
-    pub given: Vec<Bytes>,
+    /// What it was given, oldest first.
+    pub given: Vec<Given>,
     pub faults: Faults,
 }
 

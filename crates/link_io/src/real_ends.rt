@@ -1,12 +1,10 @@
 //! The two ends of a link over UDP.
-ghost use Rattle.std.specs.Prelude.{◌≡◌, ◌<◌, ◌≤◌, ◌^◌, false, IfSome};
-ghost use Rattle.link_io.specs.Taking.{closes};
-ghost use Rattle.link_io.specs.Receiving.{IsOpenStill};
+ghost use Rattle.std.specs.Prelude.{◌≡◌, ◌<◌, ◌≤◌, ◌^◌, true, false};
 
 use crate::bells::Bell;
 use crate::clocks::millis_since;
 use crate::peers::{Peer, is_from};
-use crate::{Came, LinkIn, LinkOut, Taken};
+use crate::{Beat, Came, LinkIn, LinkOut, Taken};
 use rtt_base::{Failed, Packet};
 use std::io;
 use std::io::ErrorKind;
@@ -22,17 +20,9 @@ const MOST_PASSED_OVER: u32 = 64;
 /// One octet more than a packet may have, so that a longer datagram is told from one that fits.
 const ROOM: usize = 4225;
 
-/// What a call of a socket may say while a peer, or the way to it, is away, a send buffer is full or the call is broken off.
-fn is_absence(kind: ErrorKind) -> bool {
-    matches!(
-        kind,
-        ErrorKind::WouldBlock
-            | ErrorKind::TimedOut
-            | ErrorKind::Interrupted
-            | ErrorKind::HostUnreachable
-            | ErrorKind::NetworkUnreachable
-            | ErrorKind::NetworkDown
-    ) || is_refusal(kind)
+/// Whether a socket that says this says it of each call from now on: it is none, or no longer open.
+fn is_for_good(error: &io::Error) -> bool {
+    matches!(error.raw_os_error(), Some(libc::EBADF | libc::ENOTSOCK))
 }
 
 /// What a call of a socket that does not wait says where nothing is there.
@@ -57,12 +47,15 @@ enum Received {
     PassedOver,
     /// Nothing, by now.
     Nothing,
-    /// The socket failed.
+    /// Nothing, since the system had some trouble that may pass.
+    Troubled,
+    /// The socket fails for good.
     Broken,
 }
 
 /// The inbound end of a link over UDP. It hears the peer alone, whose address and port its outbound end sends to; what others
-/// send is passed over as if it had not come, most of it by the system, which knows the peer. It is never closed.
+/// send is passed over as if it had not come, most of it by the system, which knows the peer. Where the system has trouble with it,
+/// nothing came, and it is asked again; it is closed where its socket fails for good, and never fails itself.
 #[derive(Drop)]
 pub struct RealIn<C> {
     clock: C,
@@ -72,38 +65,33 @@ pub struct RealIn<C> {
     peer: Peer,
     pub(crate) port: u16,
     moment: u64,
-    pub(crate) faults: u64,
+    closed: bool,
     ghost early: { moment < 2 ^ 47 },
 }
 
 impl<C: Clock> LinkIn for RealIn<C> {
-    ghost use Rattle.std.specs.Prelude.{false, []};
+    ghost use Rattle.std.specs.Prelude.{[]};
 
     ghost tells = { ⊥ };
 
     ghost taken = { λ _. [] };
 
-    ghost closed = { λ _. false };
+    ghost closed = { λ link. link.closed };
 
     ghost moment = { λ link. link.moment };
 
-    ghost faults = { λ link. link.faults };
+    ghost faults = { λ _. 0 };
 
     ghost port = { λ link. link.port };
 
     fn take(&mut self, out: &mut Packet, until: u64) -> Result<Taken, Failed> {
-        let received = self.receive(out, until);
+        let came = self.receive(out, until);
+        self.closed = self.closed || came == Came::Closed;
         self.moment = self.moment.max(millis_since(&self.clock, self.start));
-        match received {
-            Some(came) => Ok(Taken {
-                at: self.moment,
-                came,
-            }),
-            None => {
-                self.faults = self.faults.saturating_add(1);
-                Err(Failed)
-            }
-        }
+        Ok(Taken {
+            at: self.moment,
+            came,
+        })
     }
 }
 
@@ -119,7 +107,7 @@ impl<C: Clock> RealIn<C> {
         port: u16,
     ) -> RealIn<C>
         ensures at { result.port ≡ port }
-        ensures fresh { result.faults ≡ 0 }
+        ensures open { result.closed ≡ false }
     {
         RealIn {
             clock,
@@ -129,33 +117,52 @@ impl<C: Clock> RealIn<C> {
             peer,
             port,
             moment: 0,
-            faults: 0,
+            closed: false,
         }
     }
 
-    // What comes of the peer, and its octets; `Quiet` where it sent nothing by now, or too much came of others. None where
-    // the socket fails.
-    fn receive(&mut self, out: &mut Packet, until: u64) -> Option<Came>
-        ensures open { IfSome result (λ came. closes came ≡ false) }
+    // What comes of the peer, and its octets; `Quiet` where it sent nothing by now, too much came of others, or the system had
+    // trouble. Once it is closed it is asked no more.
+    fn receive(&mut self, out: &mut Packet, until: u64) -> Came
+        ensures for_good { self.old.closed ≡ true → result ≡ Came.Closed }
+        ensures same_closed { self.new.closed ≡ self.old.closed }
         ensures same_moment { self.new.moment ≡ self.old.moment }
-        ensures same_faults { self.new.faults ≡ self.old.faults }
         ensures same_port { self.new.port ≡ self.old.port }
     {
+        if self.closed {
+            return Came::Closed;
+        }
         for _ in 0..MOST_PASSED_OVER {
             match self.receive_one(out) {
-                Received::OfPeer(came) => return Some(came),
+                Received::OfPeer(came) => return came,
                 Received::PassedOver => {}
                 Received::Nothing => {
                     let left = self.left_until(until);
                     if left == 0 {
-                        return Some(Came::Quiet);
+                        return Came::Quiet;
                     }
-                    self.bell.wait(left)?;
+                    if self.bell.wait(left).is_err() {
+                        return Came::Closed;
+                    }
                 }
-                Received::Broken => return None,
+                Received::Troubled => return self.sit_out(until),
+                Received::Broken => return Came::Closed,
             }
         }
-        Some(Came::Quiet)
+        Came::Quiet
+    }
+
+    // Behind trouble of the system: nothing comes until this moment of the clock, so that it is asked again at the next turn.
+    fn sit_out(&mut self, until: u64) -> Came
+        ensures same_closed { self.new.closed ≡ self.old.closed }
+        ensures same_moment { self.new.moment ≡ self.old.moment }
+        ensures same_port { self.new.port ≡ self.old.port }
+    {
+        let left = self.left_until(until);
+        match self.bell.wait(left) {
+            Ok(()) => Came::Quiet,
+            Err(_) => Came::Closed,
+        }
     }
 
     // How many milliseconds are left until this moment of the clock.
@@ -166,9 +173,7 @@ impl<C: Clock> RealIn<C> {
     }
 
     // What one call of the socket receives, and its octets, where it is the peer's.
-    fn receive_one(&self, out: &mut Packet) -> Received
-        ensures { IsOpenStill result }
-    {
+    fn receive_one(&self, out: &mut Packet) -> Received {
         let mut room = [0u8; ROOM];
         match self.socket.recv_from(&mut room) {
             Ok((count, from)) if is_from(self.peer, from) => {
@@ -176,16 +181,15 @@ impl<C: Clock> RealIn<C> {
             }
             Ok(_) => Received::PassedOver,
             Err(error) if is_nothing(error.kind()) => Received::Nothing,
-            Err(error) if is_absence(error.kind()) => Received::PassedOver,
-            Err(_) => Received::Broken,
+            Err(error) if is_refusal(error.kind()) => Received::PassedOver,
+            Err(error) if is_for_good(&error) => Received::Broken,
+            Err(_) => Received::Troubled,
         }
     }
 }
 
 /// Puts the octets of a datagram in place of what is in a packet. One that does not fit is a large one.
-fn hand_out(octets: &[u8], out: &mut Packet) -> Came
-    ensures { closes result ≡ false }
-{
+fn hand_out(octets: &[u8], out: &mut Packet) -> Came {
     out.clear();
     match out.append(octets) {
         Ok(()) => Came::Datagram,
@@ -193,35 +197,34 @@ fn hand_out(octets: &[u8], out: &mut Packet) -> Came
     }
 }
 
-/// The outbound end of a link over UDP, whose packets come from the port of the inbound one. A datagram that finds no way to
-/// its peer is lost, and no fault.
+/// The kind of clock of links over UDP.
+#[derive(Debug, Drop)]
+pub struct UdpClock;
+
+/// The outbound end of a link over UDP, whose packets come from the port of the inbound one. A datagram that the system can't send,
+/// for whatever reason, is lost, and no fault.
 #[derive(Drop)]
 pub struct RealOut {
     socket: UdpSocket,
     pub(crate) port: u16,
-    pub(crate) faults: u64,
 }
 
 impl LinkOut for RealOut {
+    type Clock = UdpClock;
+
     ghost use Rattle.std.specs.Prelude.{[]};
 
     ghost tells = { ⊥ };
 
     ghost given = { λ _. [] };
 
-    ghost faults = { λ link. link.faults };
+    ghost faults = { λ _. 0 };
 
     ghost port = { λ link. link.port };
 
-    fn give(&mut self, packet: &[u8]) -> Result<(), Failed> {
-        match self.send(packet) {
-            Ok(_) => Ok(()),
-            Err(error) if is_absence(error.kind()) => Ok(()),
-            Err(_) => {
-                self.faults = self.faults.saturating_add(1);
-                Err(Failed)
-            }
-        }
+    fn give(&mut self, _beat: &Beat<'_, Self::Clock>, packet: &[u8]) -> Result<(), Failed> {
+        let _ = self.send(packet);
+        Ok(())
     }
 }
 
@@ -229,13 +232,8 @@ impl RealOut {
     /// The outbound end of a socket that knows its peer and does not wait.
     pub(crate) fn new(socket: UdpSocket, port: u16) -> RealOut
         ensures at { result.port ≡ port }
-        ensures fresh { result.faults ≡ 0 }
     {
-        RealOut {
-            socket,
-            port,
-            faults: 0,
-        }
+        RealOut { socket, port }
     }
 
     // Sends a packet. Where the system says in place of it that an earlier one found nobody, it is sent once more.

@@ -1,12 +1,12 @@
 //! Links over UDP.
-ghost use Rattle.std.specs.Prelude.{◌≡◌, ◌<◌, ◌≤◌, ◌^◌, ℕ, IfSome};
+ghost use Rattle.std.specs.Prelude.{◌≡◌, ◌<◌, ◌≤◌, ◌^◌, ℕ, false, IfSome};
 ghost use Rattle.link_io.specs.Peers.{IsLocal};
 
-use crate::Links;
 use crate::bells::Bell;
 use crate::clocks::millis_since;
 use crate::peers::{Peer, own_address, peer_of};
-use crate::real_ends::{RealIn, RealOut};
+use crate::real_ends::{RealIn, RealOut, UdpClock};
+use crate::{Beat, Links};
 use rtt_base::Failed;
 use std::alloc::Global;
 use std::net::{Net, SocketAddr, UdpSocket};
@@ -14,7 +14,7 @@ use std::thread;
 use std::time::{Clock, Duration};
 
 /// Links over UDP, from ports of this machine's own addresses to peers on it, and its clock. There is no encryption, so no
-/// peer elsewhere is taken. One number of each kind counts the faults of all ports.
+/// peer elsewhere is taken. One number counts the links that could not be opened, of all ports; what is open never fails.
 #[derive(Drop)]
 pub struct RealLinks<R> {
     rt: R,
@@ -23,7 +23,6 @@ pub struct RealLinks<R> {
     moment: u64,
     pauses: u64,
     own_faults: u64,
-    object_faults: u64,
     ghost early: { moment < 2 ^ 47 },
 }
 
@@ -42,7 +41,6 @@ impl<R: Net + Clock + Copy + Send> RealLinks<R> {
             moment: 0,
             pauses: 0,
             own_faults: 0,
-            object_faults: 0,
         }
     }
 }
@@ -65,7 +63,7 @@ impl<R: Net + Clock + Copy> RealLinks<R> {
     // The two ends of a link from this port to an address, where it is a peer's and the system opens them.
     fn open(&self, port: u16, to: &str) -> Option<(RealIn<R>, RealOut)>
         ensures ports { IfSome result (λ ends. (ends.0.port ≡ port) × (ends.1.port ≡ port)) }
-        ensures fresh { IfSome result (λ ends. (ends.0.faults ≡ 0) × (ends.1.faults ≡ 0)) }
+        ensures open { IfSome result (λ ends. ends.0.closed ≡ false) }
     {
         let peer = peer_of(to)?;
         let here = SocketAddr::new(own_address(peer), port);
@@ -82,7 +80,7 @@ impl<R: Net + Clock + Copy> RealLinks<R> {
         port: u16,
     ) -> Option<(RealIn<R>, RealOut)>
         ensures ports { IfSome result (λ ends. (ends.0.port ≡ port) × (ends.1.port ≡ port)) }
-        ensures fresh { IfSome result (λ ends. (ends.0.faults ≡ 0) × (ends.1.faults ≡ 0)) }
+        ensures open { IfSome result (λ ends. ends.0.closed ≡ false) }
     {
         socket.set_nonblocking(true).ok()?;
         let other = socket.try_clone().ok()?;
@@ -98,7 +96,6 @@ impl<R: Net + Clock + Copy> RealLinks<R> {
         ensures early { result < 2 ^ 47 }
         ensures same_pauses { self.new.pauses ≡ self.old.pauses }
         ensures same_own { self.new.own_faults ≡ self.old.own_faults }
-        ensures same_objects { self.new.object_faults ≡ self.old.object_faults }
     {
         self.moment = self.moment.max(millis_since(&self.rt, self.start));
         self.moment
@@ -109,6 +106,8 @@ impl<R: Net + Clock + Copy + Send> Links for RealLinks<R> {
     type In = RealIn<R>;
 
     type Out = RealOut;
+
+    type Clock = UdpClock;
 
     ghost use Rattle.std.specs.Prelude.{false, []};
 
@@ -124,7 +123,7 @@ impl<R: Net + Clock + Copy + Send> Links for RealLinks<R> {
 
     ghost own_faults = { λ links _. links.own_faults };
 
-    ghost object_faults = { λ links _. links.object_faults };
+    ghost object_faults = { λ _ _. 0 };
 
     ghost moment = { λ links. links.moment };
 
@@ -140,16 +139,16 @@ impl<R: Net + Clock + Copy + Send> Links for RealLinks<R> {
         }
     }
 
-    fn done_in(&mut self, link: RealIn<R>) {
-        self.object_faults = self.object_faults.saturating_add(link.faults);
-    }
+    fn done_in(&mut self, _link: RealIn<R>) {}
 
-    fn done_out(&mut self, link: RealOut) {
-        self.object_faults = self.object_faults.saturating_add(link.faults);
-    }
+    fn done_out(&mut self, _link: RealOut) {}
 
     fn now(&mut self) -> u64 {
         self.look()
+    }
+
+    fn beat(&self) -> Beat<'_, UdpClock> {
+        Beat::of(&self.pauses)
     }
 
     fn pause_until(&mut self, until: u64) {

@@ -6,6 +6,7 @@ use Rattle.rtt_base.specs.declared.text_packets.Pts.{Pts}
 use Rattle.stream_spec.specs.Ready.{Chunk, chunk_of}
 use Rattle.mixer_spec.specs.Setups.{Setup}
 use Rattle.mixer_spec.specs.Table.{Call, Offer, after_calls, has_room}
+use Rattle.mix_loop.specs.Addresses.{Address}
 use Rattle.mix_loop.specs.Mixers.{Keeps, Offers}
 use Rattle.live_spec.specs.Live.{most_takes}
 use Rattle.live_leg.specs.Items.{Item, Silent, marks_in, text_in}
@@ -223,7 +224,7 @@ module _ {I : Type 0} (popped : I → List Item) (began : I → I → Type 0) wh
   text_grew p q r a only = then_grew p q r a (hand_grew q r only)
 
 -- ---- the loop
-module _ {I M : Type 0} (popped : I → List Item) (began : I → I → Type 0) (stands : M → Setup → (ℕ → Pts) → List Call → Type 0) (legs turns : M → ℕ) (addresses : M → List ℕ) where
+module _ {I M : Type 0} (popped : I → List Item) (began : I → I → Type 0) (stands : M → Setup → (ℕ → Pts) → List Call → Type 0) (legs turns : M → ℕ) (addresses : M → List Address) where
   pub begins : (p q : LivePort I) (m m' : M) → q.leg ≡ p.leg → Grew popped began p q → Keeps legs turns addresses m m' → GoesOn (λ n. n) popped stands p q m m' → IsGathering popped began stands legs turns addresses 0 p q m m'
   begins p q m m' same grew keeps w = record {
     empty = w.0;

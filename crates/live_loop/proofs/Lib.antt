@@ -3,6 +3,7 @@ pub mod Offering
 pub mod Others
 pub mod Pulling
 pub mod Advancing
+pub mod Ordering
 pub mod Walking
 pub mod Pausing
 pub mod Opening

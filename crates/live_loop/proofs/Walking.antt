@@ -14,11 +14,13 @@ use Rattle.live_spec.specs.Live.{AllSeated, at_last}
 use Rattle.live_leg.specs.Items.{Item, marks_in}
 use Rattle.live_loop.specs.declared.ports.LivePort.{LivePort}
 use Rattle.live_loop.specs.Clocks.{AtTicks, moments_of}
+use Rattle.live_loop.specs.Order.{SameTurns}
 use Rattle.live_loop.specs.Handed.{AreLiveCalls, HasMarks, IsEnough, IsNext, has_end, is_blocked_after}
 use Rattle.live_loop.specs.Ports.{AreNext, Gathered, Grew, PortAt, with_offers}
 use Rattle.live_loop.specs.Walks.{AllGrew, AllNext, AreAt, AreOf, HasFailed, IsServing, MayBeTurned, NoneFailed, WalkedTo, is_spent}
 use Rattle.live_loop.proofs.Advancing.{offers_append, same_grew, then_grew}
 use Rattle.live_loop.proofs.Others.{others_at, others_blocked}
+use Rattle.live_loop.proofs.Ordering.{ups_same}
 
 -- ---- offers
 all_append : (s : Setup) (i : ℕ) (more offers : List Chunk) (calls : List Call) → i < s.legs → AreNext s i more (with_offers offers calls) → AllNext s offers calls → AllNext s (more ++ offers) calls
@@ -201,7 +203,7 @@ module _ {I : Type 0} (popped : I → List Item) (began : I → I → Type 0) wh
 
     -- all legs offered what they could
     pub walked : (s : Setup) (pts : ℕ → Pts) (turns : ℕ) (ps ps' : List (LivePort I)) (m m' : M) → AllGrew popped began ps ps' → (v : IsServing popped stands s pts turns ps m)
-        → WalkedTo popped stands s pts v.calls (at_last v.counts) (length ps') ps' m' → (w : MayBeTurned popped stands s pts turns ps' m') × (moments_of w.serving.calls ≡ moments_of v.calls)
+        → WalkedTo popped stands s pts v.calls (at_last v.counts) (length ps') ps' m' → (w : MayBeTurned popped stands s pts turns ps' m') × SameTurns v.calls w.serving.calls
     walked s pts turns ps ps' m m' grew v w =
         let now = with_offers w.offers v.calls in (
           record {
@@ -216,7 +218,7 @@ module _ {I : Type 0} (popped : I → List Item) (began : I → I → Type 0) wh
             };
             fresh = λ j p e well. w.fresh j p (get_within ps' j p e) e well;
           },
-          moments_same w.offers v.calls,
+          record { moments = moments_same w.offers v.calls; up_to = ups_same w.offers v.calls },
         )
 
     -- a turn was made, where not all legs have ended with an empty hand while the mixer is idle
@@ -280,8 +282,3 @@ module _ {I : Type 0} (popped : I → List Item) (began : I → I → Type 0) wh
     pub becomes : (meets : M → Setup → (ℕ → Pts) → List Call → Type 0) (s : Setup) (pts : ℕ → Pts) (turns : ℕ) (ps : List (LivePort I)) (m m' : M) (v : IsServing popped stands s pts turns ps m) → meets m' s pts v.calls
         → (w : IsServing popped meets s pts turns ps m') × (w.calls ≡ v.calls)
     becomes meets s pts turns ps m m' v made = (record { calls = v.calls; counts = v.counts; made = made; live = v.live; turned = v.turned; seated = v.seated; at = v.at }, refl)
-
-    -- or something more
-    pub known : (P : List Call → Type 0) (s : Setup) (pts : ℕ → Pts) (turns : ℕ) (ps : List (LivePort I)) (m : M) (v : IsServing popped stands s pts turns ps m) → P v.calls
-        → (w : IsServing popped (λ m s pts calls. stands m s pts calls × P calls) s pts turns ps m) × (w.calls ≡ v.calls)
-    known P s pts turns ps m v p = becomes (λ m s pts calls. stands m s pts calls × P calls) s pts turns ps m m v (v.made, p)

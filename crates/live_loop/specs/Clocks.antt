@@ -27,9 +27,9 @@ pub record ArePaced (tick old : ℕ) (calls : List Call) : Type 0 where
   pub behind : old ≤ began
   pub at : AtTicks tick began (moments_of calls)
 
--- what is known of a mixer of which these calls were made, and that, where links tell, their turns are paced
-abbrev pub StandsPaced : {M : Type 0} → (tells : Type 0) → (tick old : ℕ) → (M → Setup → (ℕ → Pts) → List Call → Type 0) → M → Setup → (ℕ → Pts) → List Call → Type 0
-StandsPaced tells tick old stands m s pts calls = stands m s pts calls × (tells → ArePaced tick old calls)
+-- what is known of a mixer of which these calls were made, that, where links tell, their turns are paced, and what is known of their order
+abbrev pub StandsPaced : {M : Type 0} → (tells : Type 0) → (tick old : ℕ) → (order stands : M → Setup → (ℕ → Pts) → List Call → Type 0) → M → Setup → (ℕ → Pts) → List Call → Type 0
+StandsPaced tells tick old order stands m s pts calls = stands m s pts calls × (tells → ArePaced tick old calls) × order m s pts calls
 
 -- ---- time
 -- So many ticks have passed since a moment, which was no earlier than the first: so long as clocks tell moments.
@@ -39,7 +39,7 @@ pub record IsPaced (turns tick old new : ℕ) : Type 0 where
   pub passed : began + turns * tick < 2 ^ 47 → began + turns * tick ≤ new
 
 -- Only time did: the counts of faults and the links are the same, and the moment did not fall.
-pub record OnlyTimePassed {C : Type 0} (g : clocks.Ghosts C) (old new : C) : Type 0 where
+pub record OnlyTimePassed {C K : Type 0} (g : clocks.Ghosts C K) (old new : C) : Type 0 where
   pub same_own : Same g.own_faults old new
   pub same_objects : Same g.object_faults old new
   pub rises : g.moment old ≤ g.moment new

@@ -4,3 +4,4 @@ pub mod Walks
 pub mod Begun
 pub mod Opening
 pub mod Clocks
+pub mod Order

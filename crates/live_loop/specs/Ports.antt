@@ -7,6 +7,7 @@ use Rattle.mixer_spec.specs.Calls.{took}
 use Rattle.mixer_spec.specs.Legs.{held}
 use Rattle.live_leg.specs.Items as item
 use Rattle.live_leg.specs.Items.{Item, has_fault, text_in, texts_in}
+use Rattle.mix_loop.specs.Addresses.{Address}
 use Rattle.mix_loop.specs.Mixers.{Keeps}
 use Rattle.live_loop.specs.declared.gathering.Advanced.{Advanced}
 use Rattle.live_loop.specs.declared.gathering.Advanced.TheVariants as advanced
@@ -163,7 +164,7 @@ module _ {I : Type 0} where
   Advances popped stands p p' m m' advanced.Blocked = Blocks popped stands p p' m m'
 
   -- where a leg was asked since the last turn, and has said so often that all was given
-  pub record IsGathering {M : Type 0} (popped : I → List Item) (began : I → I → Type 0) (stands : M → Setup → (ℕ → Pts) → List Call → Type 0) (legs turns : M → ℕ) (addresses : M → List ℕ) (takes : ℕ) (p p' : LivePort I) (m m' : M) : Type 0 where
+  pub record IsGathering {M : Type 0} (popped : I → List Item) (began : I → I → Type 0) (stands : M → Setup → (ℕ → Pts) → List Call → Type 0) (legs turns : M → ℕ) (addresses : M → List Address) (takes : ℕ) (p p' : LivePort I) (m m' : M) : Type 0 where
     pub empty : p'.full ≡ false
     pub same : p'.leg ≡ p.leg
     pub grew : Grew popped began p p'

@@ -11,7 +11,7 @@ use Rattle.live_leg.specs.Items.{Item}
 use Rattle.live_loop.specs.declared.ports.LivePort.{LivePort}
 use Rattle.live_loop.specs.declared.turns.Turned.{Turned}
 use Rattle.live_loop.specs.declared.turns.Turned.TheVariants.{Done, Closed, Faulted, Stopped}
-use Rattle.live_loop.specs.Clocks.{moments_of}
+use Rattle.live_loop.specs.Order.{SameTurns}
 use Rattle.live_loop.specs.Handed.{AreLiveCalls, HasMarks, IsEnough, IsNext, is_blocked_after}
 use Rattle.live_loop.specs.Ports.{Grew, PortAt, with_offers}
 
@@ -100,7 +100,7 @@ module _ {I : Type 0} (popped : I → List Item) where
   abbrev pub AllGathered : {M : Type 0} → (M → Setup → (ℕ → Pts) → List Call → Type 0) → List (LivePort I) → List (LivePort I) → M → M → Type 0
   AllGathered stands ps ps' m m' =
       (s : Setup) (pts : ℕ → Pts) (turns : ℕ) → s.legs ≡ length ps → (v : IsServing stands s pts turns ps m)
-      → (w : MayBeTurned stands s pts turns ps' m') × (moments_of w.serving.calls ≡ moments_of v.calls)
+      → (w : MayBeTurned stands s pts turns ps' m') × SameTurns v.calls w.serving.calls
 
   -- the mixer is idle, and each leg's end was popped
   pub record IsClosed {M : Type 0} (stands : M → Setup → (ℕ → Pts) → List Call → Type 0) (s : Setup) (pts : ℕ → Pts) (ps : List (LivePort I)) (m : M) (calls : List Call) : Type 0 where

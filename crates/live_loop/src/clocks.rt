@@ -3,11 +3,14 @@ ghost use Rattle.std.specs.Prelude.{◌≡◌, ℕ, ◌<◌, ◌≤◌, ◌^◌,
 ghost use Rattle.rtt_io.specs.Counts.{counted};
 ghost use Rattle.link_io.specs.Ports.{Same};
 
-use link_io::Links;
+use link_io::{Beat, Links};
 
 /// What turns ask of the links of a call: the clock (milliseconds), and that it lets time go by. Nothing else of the links
 /// changes with it.
 pub trait TurnClock {
+    /// The kind of clock.
+    type Clock;
+
     /// Whether the links tell what is stored under a port.
     ghost tells: { Type 0 };
 
@@ -40,6 +43,10 @@ pub trait TurnClock {
         ensures same_opened { tells → Same opened self.old self.new }
         ensures same_leads { tells → leads self.new ≡ leads self.old };
 
+    /// How often it paused, for what is given before it pauses again.
+    fn clock_beat(&self) -> Beat<'_, Self::Clock>
+        ensures { result.pauses ≡ pauses self.now };
+
     /// Lets time go by until this moment, where that is still to come, and counts a pause.
     fn sleep_until(&mut self, until: u64)
         ensures counted { pauses self.new ≡ counted (pauses self.old) 1 }
@@ -52,6 +59,8 @@ pub trait TurnClock {
 }
 
 impl<W: Links> TurnClock for W {
+    type Clock = W::Clock;
+
     ghost tells = { W.Links.tells };
 
     ghost opened = { W.Links.opened };
@@ -68,6 +77,10 @@ impl<W: Links> TurnClock for W {
 
     fn clock_now(&mut self) -> u64 {
         self.now()
+    }
+
+    fn clock_beat(&self) -> Beat<'_, W::Clock> {
+        self.beat()
     }
 
     fn sleep_until(&mut self, until: u64) {

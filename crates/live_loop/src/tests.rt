@@ -6,7 +6,7 @@ ghost use Rattle.live_loop.specs.Walks.{AreAt};
 use crate::{LivePort, Turned, drain_all, inlets_of, ports_over, take_turns};
 use ear::EarConf;
 use item_lanes::{Lane, LaneRoom, Started, join_lanes, keep_lanes};
-use link_io::{Came, LinkIn, Links, MemIn, MemLinks, Planned};
+use link_io::{Beat, Came, LinkIn, Links, MemIn, MemLinks, Planned};
 use live_leg::{LegItem, LinkLeg};
 use mix_loop::Mixes;
 use rtt_base::{Bytes, Chunk, Full, NoMemory, Pts};
@@ -31,6 +31,8 @@ impl Mixes for Counting {
     ghost use Rattle.std.specs.Prelude.{◌^◌, []};
 
     type Fault = NoMemory;
+
+    type Clock = MemLinks;
 
     ghost stands = { λ m s pts calls. ⊥ };
 
@@ -61,7 +63,7 @@ impl Mixes for Counting {
         Ok(())
     }
 
-    fn turn(&mut self, now: u64) -> Result<(), NoMemory> {
+    fn turn(&mut self, now: u64, _beat: &Beat<'_, MemLinks>) -> Result<(), NoMemory> {
         if self.turns < 3 {
             self.moments[self.turns as usize] = now;
         }

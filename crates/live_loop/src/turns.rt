@@ -1,8 +1,10 @@
 //! The turns of a live call.
 ghost use Rattle.std.specs.Prelude.{◌≡◌, ◌≤◌, ◌<◌, ◌^◌, true, false, length, MatchOption};
 ghost use Rattle.std.specs.List.{list_all};
+ghost use Rattle.mix_loop.specs.Addresses.{AreWithin, ports_of};
 ghost use Rattle.mix_loop.specs.Mixers.{Keeps, TellsIdle};
 ghost use Rattle.live_loop.specs.Clocks.{IsPaced, OnlyTimePassed, StandsPaced};
+ghost use Rattle.live_loop.specs.Order.{AreInTurn};
 ghost use Rattle.live_loop.specs.Walks.{AllGathered, AllGrew, AreAt, HaltsThen, HasFailed, IsPaused, NoneFailed, Ran, WasFaulted, WasStopped, is_spent};
 
 use crate::clocks::TurnClock;
@@ -79,8 +81,8 @@ fn is_over<I, M: Mixes>(ports: &[LivePort<I>], mixer: &M) -> bool
 }
 
 /// Makes so many turns, one at each multiple of `tick` milliseconds of the clock, or later where what is done before takes longer;
-/// unless a link fails, or all are closed and nothing is left. It pauses once a turn.
-pub fn take_turns<I: Pops, M: Mixes, C: TurnClock, R: Wait>(
+/// unless a link fails, or all are closed and nothing is left. It pauses once a turn, when all that the turn sends was given.
+pub fn take_turns<I: Pops, M: Mixes<Clock = C::Clock>, C: TurnClock, R: Wait>(
     rt: &R,
     ports: &mut [LivePort<I>],
     mixer: &mut M,
@@ -95,11 +97,14 @@ pub fn take_turns<I: Pops, M: Mixes, C: TurnClock, R: Wait>(
     requires tick { 0 < tick }
     requires short { tick ≤ 400 }
     requires horizon { 2 ^ 47 ≤ M.horizon }
+    requires given { AreWithin (C.pauses clock.old) (M.addresses mixer.old) }
     ensures at { AreAt ports.new }
     ensures grew { AllGrew I.popped I.began ports.old ports.new }
-    ensures ran { Ran I.popped result M.stands (StandsPaced C.tells tick (C.moment clock.old) M.stands)
-        (StandsPaced C.tells tick (C.moment clock.old) (HaltsThen M.halted)) turns ports.old ports.new mixer.old mixer.new }
-    ensures addresses { M.addresses mixer.new ≡ M.addresses mixer.old }
+    ensures ran { Ran I.popped result M.stands
+        (StandsPaced C.tells tick (C.moment clock.old) (AreInTurn M.stands M.addresses (C.pauses clock.old)) M.stands)
+        (StandsPaced C.tells tick (C.moment clock.old) (AreInTurn M.stands M.addresses (C.pauses clock.old)) (HaltsThen M.halted))
+        turns ports.old ports.new mixer.old mixer.new }
+    ensures addresses { ports_of (M.addresses mixer.new) ≡ ports_of (M.addresses mixer.old) }
     ensures faulted { WasFaulted result ports.new }
     ensures unsent { WasStopped M.unsent result mixer.new }
     ensures pauses { result ≡ Turned.Done → IsPaused turns (C.pauses clock.old) (C.pauses clock.new) }
@@ -118,7 +123,7 @@ pub fn take_turns<I: Pops, M: Mixes, C: TurnClock, R: Wait>(
             return Turned::Closed;
         }
         let now = clock.clock_now();
-        match mixer.turn(now) {
+        match mixer.turn(now, &clock.clock_beat()) {
             Ok(()) => {}
             Err(fault) => return Turned::Stopped(fault),
         }

@@ -17,14 +17,14 @@ rose_on before after later l m (inl r) = inl (omega arith)
 rose_on before after later l m (inr r) = elim (cases_lt last_count later) [ inl lt ↦ inl (omega arith) | inr ge ↦ inr (omega arith) ]
 
 -- nothing is given to this port, and nothing else to any other
-pub nothing_more : (port : ℕ) (first between after : ℕ → List (List ℕ)) → after port ≡ [] → ((p : ℕ) → p ≢ port → after p ≡ between p) → GivesNothing first between → GivesNothing first after
+pub nothing_more : {K : Type 0} (port : ℕ) (first between after : ℕ → List K) → after port ≡ [] → ((p : ℕ) → p ≢ port → after p ≡ between p) → GivesNothing first between → GivesNothing first after
 nothing_more port first between after none others so p = elim (cases_eq p port) [
   | inl here ↦ inr (ap after here ∙ none)
   | inr other ↦ elim (so p) [ inl same ↦ inl (others p other ∙ same) | inr empty ↦ inr (others p other ∙ empty) ]
 ]
 
 -- nor between
-pub nothing_then : (first between after : ℕ → List (List ℕ)) → GivesNothing first between → GivesNothing between after → GivesNothing first after
+pub nothing_then : {K : Type 0} (first between after : ℕ → List K) → GivesNothing first between → GivesNothing between after → GivesNothing first after
 nothing_then first between after a b p = elim (b p) [
   | inl same ↦ elim (a p) [ inl before ↦ inl (same ∙ before) | inr empty ↦ inr (same ∙ empty) ]
   | inr empty ↦ inr empty

@@ -2,6 +2,7 @@
 use Rattle.std.proofs.Common.{◌≡◌, ℕ, zero, suc, ◌<◌, inl, inr, Some, List, [], ◌∷◌, ◌++◌, length, get_or, refl, ap, sym, ◌∙◌, subst, arith}
 use Rattle.std.specs.Prelude.{map, slice_get, slice_set}
 use Rattle.std.proofs.lemmas.Bool.{cases_eq, eq-eqb, ne_eqb}
+use Rattle.std.proofs.lemmas.List.{append-nil, map-append}
 use Rattle.rtt_base.specs.declared.text_packets.Pts.{Pts}
 use Rattle.stream_spec.specs.Own.{Sent}
 use Rattle.mixer_spec.specs.Setups.{Setup, stream}
@@ -10,10 +11,13 @@ use Rattle.aware_output.specs.Speakers.{EachIsNext, IsNext, text_of}
 use Rattle.aware_output.specs.Standing.{StandsFor}
 use Rattle.aware_output.specs.States.{State}
 use Rattle.mixer_turn.specs.declared.batches.Post.{Post}
+use Rattle.link_io.specs.Given.{GivesAfter, packets}
+use Rattle.mix_loop.specs.Addresses.{GiveAfter}
+use Rattle.mix_loop.proofs.Addresses.{give_none}
 use Rattle.mixer_posts.specs.Streams.{conf_at}
 use Rattle.mixer_posts.specs.Posts.{AreNext, sent_of_post, sents_to}
 use Rattle.live_run.specs.Listeners.{HasHeard, HearsNext, Listening}
-use Rattle.live_run.specs.Ends.{WasCut, WasGiven, WasSent, packets_of, texts_in}
+use Rattle.live_run.specs.Ends.{WasCut, WasGiven, WasSent, addresses_of, packets_of, texts_in}
 
 -- ---- lists
 pub got : {X : Type 0} (xs : List X) (i : ℕ) (x d : X) → i < length xs → x ≡ get_or xs i d → slice_get xs i ≡ Some x
@@ -43,6 +47,18 @@ pub same_numbers : {O : Type 0} (number_of : O → ℕ) (xs : List O) (i : ℕ) 
 same_numbers number_of [] i old new d is same = refl
 same_numbers number_of (y ∷ xs) zero old new d is same = ap (λ (p : ℕ). p ∷ map number_of xs) (same ∙ ap number_of is)
 same_numbers number_of (y ∷ xs) (suc i) old new d is same = ap (λ (ps : List ℕ). number_of y ∷ ps) (same_numbers number_of xs i old new d is same)
+
+-- where a link was given something, and has its port, each has its own
+pub give_one : {O : Type 0} (port_of : O → ℕ) (given : O → List (ℕ × List ℕ)) (pauses : ℕ) (xs : List O) (i : ℕ) (old new d : O) → old ≡ get_or xs i d → port_of new ≡ port_of old → GivesAfter pauses (given old) (given new)
+    → GiveAfter pauses (addresses_of port_of given xs) (addresses_of port_of given (slice_set xs i new))
+give_one port_of given pauses [] i old new d is same gives = tt
+give_one {O} port_of given pauses (y ∷ xs) zero old new d is same gives =
+    (same ∙ ap port_of is, subst (λ (x : O). GivesAfter pauses (given x) (given new)) is gives, give_none pauses (addresses_of port_of given xs))
+give_one port_of given pauses (y ∷ xs) (suc i) old new d is same gives = (refl, ([], sym (append-nil (given y)), tt), give_one port_of given pauses xs i old new d is same gives)
+
+-- one packet more
+pub given_one : (old new : List (ℕ × List ℕ)) (pauses : ℕ) (packet : List ℕ) → new ≡ old ++ (pauses, packet) ∷ [] → packets new ≡ packets old ++ packet ∷ []
+given_one old new pauses packet is = ap packets is ∙ map-append (λ (x : ℕ × List ℕ). x.1) old ((pauses, packet) ∷ [])
 
 -- ---- one post more
 sents_here : (sources : List ℕ) (j now : ℕ) (p : Post) (sent : List (ℕ × Post)) → p.terminal ≡ j → sents_to sources j ((now, p) ∷ sent) ≡ (now, sent_of_post sources p) ∷ sents_to sources j sent

@@ -1,6 +1,7 @@
 pub mod Seating
 pub mod Hearing
 pub mod Giving
+pub mod Ordering
 pub mod Showing
 pub mod Sent
 pub mod Joining

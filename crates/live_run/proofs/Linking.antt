@@ -55,7 +55,7 @@ module _ {I : Type 0} (g : ins.Ghosts I) (tells : Type 0) (c : Conf) where
       let line = some_leg c.legs j (omega (arith, low, len, few)) in
       (all j leg e line.0 line.1).fresh
 
-module _ {O : Type 0} (g : outs.Ghosts O) (tells : Type 0) (c : Conf) where
+module _ {O K : Type 0} (g : outs.Ghosts O K) (tells : Type 0) (c : Conf) where
   pub no_ends : (ends : List O) → ends ≡ [] → OpenEnds g tells c ends
   no_ends ends none j end e = absurd (cc (ap (λ (xs : List O). slice_get xs j) (sym none) ∙ e))
 

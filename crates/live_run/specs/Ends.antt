@@ -9,6 +9,8 @@ use Rattle.aware_output.specs.Sending.{octets_of}
 use Rattle.aware_output.specs.Standing.{StandsFor}
 use Rattle.aware_output.specs.States.{State}
 use Rattle.mixer_turn.specs.declared.batches.Post.{Post}
+use Rattle.link_io.specs.Given.{packets}
+use Rattle.mix_loop.specs.Addresses.{Address, address}
 use Rattle.mixer_posts.specs.Streams.{AreSourcesAt, conf_at}
 use Rattle.mixer_posts.specs.Posts.{sents_to}
 use Rattle.live_run.specs.declared.faults.LiveFault.{LiveFault}
@@ -32,6 +34,14 @@ texts_in sent = map (λ x. x.1) sent
 abbrev pub packets_of : OutConf → List (ℕ × Sent) → List (List ℕ)
 packets_of conf [] = []
 packets_of conf (x ∷ sent) = packets_of conf sent ++ octets_of conf (texts_in sent) x.1 ∷ []
+
+-- the packets that a link was given
+abbrev pub packets_in : {O : Type 0} → (O → List (ℕ × List ℕ)) → O → List (List ℕ)
+packets_in given link = packets (given link)
+
+-- where these links are, and what each was given
+abbrev pub addresses_of : {O : Type 0} → (O → ℕ) → (O → List (ℕ × List ℕ)) → List O → List Address
+addresses_of port given links = map (λ link. address (port link) (given link)) links
 
 module _ {O : Type 0} (tells : Type 0) (given : O → List (List ℕ)) (faults : O → ℕ) where
   -- no give of the link failed, and where it tells, it was given these packets

@@ -11,6 +11,7 @@ use Rattle.item_lanes.specs.Lanes.{AreNew, popped_of}
 use Rattle.item_lanes.specs.Pairs.{Pairs}
 use Rattle.item_lanes.specs.Rooms.{HasRoom}
 use Rattle.link_io.specs.declared.ends.LinkIn as links
+use Rattle.mix_loop.specs.Addresses.{Address, AreWithin, ports_of}
 use Rattle.live_leg.specs.declared.items.LegItem.{LegItem}
 use Rattle.live_leg.specs.declared.legs.LinkLeg.{LinkLeg}
 use Rattle.live_leg.specs.Items.{Item, has_fault, items_of}
@@ -20,6 +21,7 @@ use Rattle.live_loop.specs.declared.ports.LivePort.{LivePort}
 use Rattle.live_loop.specs.declared.turns.Turned.{Turned}
 use Rattle.live_loop.specs.declared.turns.Turned.TheVariants.{Done}
 use Rattle.live_loop.specs.Clocks.{IsPaced, OnlyTimePassed, StandsPaced}
+use Rattle.live_loop.specs.Order.{AreInTurn}
 use Rattle.live_loop.specs.Ports.{IsBegun}
 use Rattle.live_loop.specs.Walks.{AllGrew, AreAt, HaltsThen, IsPaused, Ran, RanTo, WasFaulted, WasStopped}
 use Rattle.live_run.specs.declared.faults.LiveFault.{LiveFault}
@@ -65,7 +67,7 @@ module _ {L : Type 0} (g : links.Ghosts L) where
 
 module _ {L M C G : Type 0} where
   -- a call may run that is described so
-  pub record CanRun (g : links.Ghosts L) (legs_of turns_of : M → ℕ) (horizon : ℕ) (job : Job L M C G) : Type 0 where
+  pub record CanRun {K : Type 0} (g : links.Ghosts L) (k : clocks.Ghosts C K) (legs_of turns_of : M → ℕ) (addresses : M → List Address) (horizon : ℕ) (job : Job L M C G) : Type 0 where
     pub few : vec_len job.legs ≤ 64
     pub new : AreNew (LegGave g) job.legs.items
     pub lanes : HasRoom (vec_len job.legs) job.lanes
@@ -79,20 +81,21 @@ module _ {L M C G : Type 0} where
     pub tick_some : 0 < job.tick
     pub tick_fits : job.tick ≤ 400
     pub in_time : 2 ^ 47 ≤ horizon
+    pub given : AreWithin (k.pauses job.clock.now) (addresses job.mixer)
 
   -- It ran: turns were made of what was popped of the legs, all of which came back.
-  pub record RanAs (g : links.Ghosts L) (k : clocks.Ghosts C) (stands : M → Setup → (ℕ → Pts) → List Call → Type 0) (halted : M → Setup → (ℕ → Pts) → List Call → ℕ → Type 0) (addresses : M → List ℕ) (unsent : M → LiveFault → Type 0) (job : Job L M C G) (ended : Ended L M C) : Type 0 where
+  pub record RanAs {K : Type 0} (g : links.Ghosts L) (k : clocks.Ghosts C K) (stands : M → Setup → (ℕ → Pts) → List Call → Type 0) (halted : M → Setup → (ℕ → Pts) → List Call → ℕ → Type 0) (addresses : M → List Address) (unsent : M → LiveFault → Type 0) (job : Job L M C G) (ended : Ended L M C) : Type 0 where
     pub same : ended.clock.ghost_name ≡ job.clock.ghost_name
     pub passed : OnlyTimePassed k job.clock.now ended.clock.now
     pub many : length ended.legs.items ≡ length job.legs.items
-    pub addresses_are : addresses ended.mixer ≡ addresses job.mixer
+    pub addresses_are : ports_of (addresses ended.mixer) ≡ ports_of (addresses job.mixer)
     pub ports : List (LivePort (Lane LegItem (LinkLeg L) G))
     pub each : length ports ≡ length job.legs.items
     pub legs : (j : ℕ) (p : LivePort (Lane LegItem (LinkLeg L) G)) (first back : LinkLeg L) → slice_get ports j ≡ Some p
         → slice_get job.legs.items j ≡ Some first → slice_get ended.legs.items j ≡ Some back → GaveFirst g first back (popped_in p.inlet)
     pub ran : (s : Setup) (pts : ℕ → Pts) → s.legs ≡ length job.legs.items → AllStay s → stands job.mixer s pts (all_admitted s.legs)
-        → RanTo popped_in ended.turned (StandsPaced k.tells job.tick (k.moment job.clock.now) stands)
-        (StandsPaced k.tells job.tick (k.moment job.clock.now) (HaltsThen halted)) s pts job.turns ports ended.mixer
+        → RanTo popped_in ended.turned (StandsPaced k.tells job.tick (k.moment job.clock.now) (AreInTurn stands addresses (k.pauses job.clock.now)) stands)
+        (StandsPaced k.tells job.tick (k.moment job.clock.now) (AreInTurn stands addresses (k.pauses job.clock.now)) (HaltsThen halted)) s pts job.turns ports ended.mixer
     pub faulted : WasFaulted ended.turned ports
     pub failed : (j : ℕ) (p : LivePort (Lane LegItem (LinkLeg L) G)) → slice_get ports j ≡ Some p → p.failed ≡ true → has_fault (popped_in p.inlet) ≡ true
     pub stopped : WasStopped unsent ended.turned ended.mixer
@@ -100,8 +103,8 @@ module _ {L M C G : Type 0} where
     pub paused : ended.turned ≡ Done → IsPaused job.turns (k.pauses job.clock.now) (k.pauses ended.clock.now)
 
   -- the same of one that is lent
-  abbrev pub LentCanRun : links.Ghosts L → (M → ℕ) → (M → ℕ) → ℕ → ManuallyDrop (Job L M C G) → Type 0
-  LentCanRun g legs_of turns_of horizon lent = CanRun g legs_of turns_of horizon (manually_drop_value lent)
+  abbrev pub LentCanRun : {K : Type 0} → links.Ghosts L → clocks.Ghosts C K → (M → ℕ) → (M → ℕ) → (M → List Address) → ℕ → ManuallyDrop (Job L M C G) → Type 0
+  LentCanRun g k legs_of turns_of addresses horizon lent = CanRun g k legs_of turns_of addresses horizon (manually_drop_value lent)
 
-  abbrev pub LentRanAs : links.Ghosts L → clocks.Ghosts C → (M → Setup → (ℕ → Pts) → List Call → Type 0) → (M → Setup → (ℕ → Pts) → List Call → ℕ → Type 0) → (M → List ℕ) → (M → LiveFault → Type 0) → ManuallyDrop (Job L M C G) → Ended L M C → Type 0
+  abbrev pub LentRanAs : {K : Type 0} → links.Ghosts L → clocks.Ghosts C K → (M → Setup → (ℕ → Pts) → List Call → Type 0) → (M → Setup → (ℕ → Pts) → List Call → ℕ → Type 0) → (M → List Address) → (M → LiveFault → Type 0) → ManuallyDrop (Job L M C G) → Ended L M C → Type 0
   LentRanAs g k stands halted addresses unsent lent ended = RanAs g k stands halted addresses unsent (manually_drop_value lent) ended

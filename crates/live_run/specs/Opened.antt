@@ -27,6 +27,10 @@ HavePorts c = (j : ℕ) (leg : LegLine) → leg_at c.legs j ≡ Some leg → IsS
 abbrev pub link_of : LegLine → ℕ × List ℕ
 link_of leg = (option_map_or (λ (p : ℕ). p) (port leg.input) 0, leg.output)
 
+-- the port of the leg j
+abbrev pub port_of : Conf → ℕ → ℕ
+port_of c j = option_map_or (λ (leg : LegLine). (link_of leg).0) (leg_at c.legs j) 0
+
 -- the link of the leg j was opened, and no other
 abbrev pub LeadsOne : Conf → ℕ → List (ℕ × List ℕ) → List (ℕ × List ℕ) → Type 0
 LeadsOne c j old new = (line : LegLine) → leg_at c.legs j ≡ Some line → new ≡ old ++ link_of line ∷ []
@@ -53,22 +57,22 @@ pub record IsOpenedLeg {I : Type 0} (g : ins.Ghosts I) (tells : Type 0) (opened 
   pub told : tells → g.tells × (g.taken leg.link ≡ []) × (opened (g.port leg.link) ≡ true)
 
 -- the outbound end of its link, which was given nothing
-pub record IsOpenedEnd {O : Type 0} (g : outs.Ghosts O) (tells : Type 0) (line : LegLine) (end : O) : Type 0 where
+pub record IsOpenedEnd {O K : Type 0} (g : outs.Ghosts O K) (tells : Type 0) (line : LegLine) (end : O) : Type 0 where
   pub at : port line.input ≡ Some (g.port end)
   pub fresh : g.faults end ≡ 0
   pub none : g.given end ≡ []
   pub told : tells → g.tells
 
 -- nothing was given to these, and none failed
-abbrev pub AreUnused : {O : Type 0} → (O → List (List ℕ)) → (O → ℕ) → List O → Type 0
+abbrev pub AreUnused : {O K : Type 0} → (O → List K) → (O → ℕ) → List O → Type 0
 AreUnused {O} given faults ends = (j : ℕ) (end : O) → slice_get ends j ≡ Some end → (given end ≡ []) × (faults end ≡ 0)
 
 -- each of these was given nothing, and a link was opened at its port
-abbrev pub AreEmptyAt : {O : Type 0} → (O → List (List ℕ)) → (O → ℕ) → (ℕ → Bool) → List O → Type 0
+abbrev pub AreEmptyAt : {O K : Type 0} → (O → List K) → (O → ℕ) → (ℕ → Bool) → List O → Type 0
 AreEmptyAt {O} given port_of opened ends = (j : ℕ) (end : O) → slice_get ends j ≡ Some end → (given end ≡ []) × (opened (port_of end) ≡ true)
 
 -- under each port is what was there before, or nothing
-abbrev pub GivesNothing : (ℕ → List (List ℕ)) → (ℕ → List (List ℕ)) → Type 0
+abbrev pub GivesNothing : {K : Type 0} → (ℕ → List K) → (ℕ → List K) → Type 0
 GivesNothing old new = (p : ℕ) → (new p ≡ old p) ⊎ (new p ≡ [])
 
 -- why the link of the leg j was not opened: the count of its port rose, or memory ran out
@@ -80,7 +84,7 @@ IsRefused before after j line NoMemory = Unit {0}
 abbrev pub OpensLeg : {I : Type 0} → ins.Ghosts I → Type 0 → (ℕ → Bool) → Conf → ℕ → LinkLeg I → Type 0
 OpensLeg g tells opened c j leg = (line : LegLine) → leg_at c.legs j ≡ Some line → IsOpenedLeg g tells opened c j line leg
 
-abbrev pub OpensEnd : {O : Type 0} → outs.Ghosts O → Type 0 → Conf → ℕ → O → Type 0
+abbrev pub OpensEnd : {O K : Type 0} → outs.Ghosts O K → Type 0 → Conf → ℕ → O → Type 0
 OpensEnd g tells c j end = (line : LegLine) → leg_at c.legs j ≡ Some line → IsOpenedEnd g tells line end
 
 abbrev pub IsRefusedAt : (ℕ → ℕ) → (ℕ → ℕ) → Conf → ℕ → LiveFault → Type 0
@@ -90,7 +94,7 @@ IsRefusedAt before after c j fault = (line : LegLine) → leg_at c.legs j ≡ So
 abbrev pub OpenLegs : {I : Type 0} → ins.Ghosts I → Type 0 → (ℕ → Bool) → Conf → List (LinkLeg I) → Type 0
 OpenLegs {I} g tells opened c legs = (j : ℕ) (leg : LinkLeg I) → slice_get legs j ≡ Some leg → OpensLeg g tells opened c j leg
 
-abbrev pub OpenEnds : {O : Type 0} → outs.Ghosts O → Type 0 → Conf → List O → Type 0
+abbrev pub OpenEnds : {O K : Type 0} → outs.Ghosts O K → Type 0 → Conf → List O → Type 0
 OpenEnds {O} g tells c ends = (j : ℕ) (end : O) → slice_get ends j ≡ Some end → OpensEnd g tells c j end
 
 -- a link was opened at the port of each leg below n

@@ -7,6 +7,7 @@ ghost use Rattle.mixer_turn.specs.States.{legs_of};
 ghost use Rattle.live_loop.specs.Clocks.{IsPaced};
 ghost use Rattle.live_loop.specs.Walks.{IsPaused};
 ghost use Rattle.live_run.specs.Calls.{IsCalled, IsOfLinks};
+ghost use Rattle.live_run.specs.Ends.{packets_in};
 ghost use Rattle.live_run.specs.Mixers.{HasAll};
 ghost use Rattle.live_run.specs.Opened.{AreUnused, OpenEnds, OpenLegs};
 
@@ -67,7 +68,7 @@ fn mixer_over<O: LinkOut>(
     requires unused { AreUnused O.given O.faults ends.items }
     ensures legs { IfOk result (λ sending. legs_of sending.mixer ≡ length conf.now.legs) }
     ensures turns { IfOk result (λ sending. sending.mixer.turns ≡ 0) }
-    ensures stands { IfOk result (HasAll O.tells O.given O.faults (conf_of conf.now)) }
+    ensures stands { IfOk result (HasAll O.tells (packets_in O.given) O.faults (conf_of conf.now)) }
     ensures links { IfOk result (λ sending. sending.outbound.links ≡ ends) }
     ensures back { IfErr result (λ back. back ≡ ends) }
 {
@@ -116,7 +117,8 @@ pub(crate) fn call<W: Links, R: Threads + Wait + Sync, G: Gate + Sync, T: Tap>(
     requires legs { OpenLegs W.In.LinkIn W.tells (W.opened world.old) (conf_of conf.now) opened.legs.items }
     requires ends { OpenEnds W.Out.LinkOut W.tells (conf_of conf.now) opened.ends.items }
     requires told { T.stands tap [] }
-    ensures called { IsCalled W.In.LinkIn W.Out.LinkOut (T.stands result.tap) W.tells (conf_of conf.now) (W.opened world.new) result }
+    ensures called { IsCalled W.In.LinkIn W.Out.LinkOut (T.stands result.tap) W.tells (conf_of conf.now) (W.pauses world.old)
+        (W.opened world.new) result }
     ensures paced { W.tells → result.turned ≡ Turned.Done → IsPaced conf.now.turns conf.now.tick (W.moment world.old) (W.moment world.new) }
     ensures paused { result.turned ≡ Turned.Done → IsPaused conf.now.turns (W.pauses world.old) (W.pauses world.new) }
     ensures same_own { Same W.own_faults world.old world.new }

@@ -3,7 +3,7 @@ ghost use Rattle.std.specs.Prelude.{◌≡◌, ◌≤◌, length};
 
 use crate::{Listener, LiveFault};
 use aware_output::Output;
-use link_io::LinkOut;
+use link_io::{Beat, LinkOut};
 use mixer_posts::Outbound;
 use mixer_turn::Post;
 use rtt_base::{NoMemory, Packet};
@@ -23,24 +23,26 @@ pub struct FarEnds<O> {
 
 impl<O: LinkOut> Outbound for FarEnds<O> {
     ghost use Rattle.std.proofs.Common.{rules};
-    ghost use Rattle.std.specs.Prelude.{◌^◌, map};
-    ghost use Rattle.live_run.specs.Ends.{WereCut, WereGiven, IsUnsent, counts_of};
+    ghost use Rattle.std.specs.Prelude.{◌^◌};
+    ghost use Rattle.live_run.specs.Ends.{WereCut, WereGiven, IsUnsent, addresses_of, counts_of, packets_in};
 
     type Fault = LiveFault;
 
-    ghost took = { λ ends s pts sent. WereGiven O.tells O.given O.faults ends s pts sent };
+    type Clock = O::Clock;
 
-    ghost halted = { λ ends s pts sent now next. WereCut O.tells O.given ends s pts sent now next };
+    ghost took = { λ ends s pts sent. WereGiven O.tells (packets_in O.given) O.faults ends s pts sent };
+
+    ghost halted = { λ ends s pts sent now next. WereCut O.tells (packets_in O.given) ends s pts sent now next };
 
     ghost sources = { λ ends. counts_of ends };
 
-    ghost addresses = { λ ends. map O.port ends.links.items };
+    ghost addresses = { λ ends. addresses_of O.port O.given ends.links.items };
 
     ghost horizon = { 2 ^ 47 };
 
     ghost unsent = { λ ends why. IsUnsent O.faults ends why };
 
-    fn send(&mut self, _now: u64, post: &Post) -> Result<(), LiveFault> {
+    fn send(&mut self, _now: u64, beat: &Beat<'_, O::Clock>, post: &Post) -> Result<(), LiveFault> {
         let leg = post.terminal as u8;
         let text = post.text.as_slice();
         self.packet.clear();
@@ -49,7 +51,7 @@ impl<O: LinkOut> Outbound for FarEnds<O> {
             unreachable!()
         };
         let link = &mut self.links[post.terminal];
-        let Ok(()) = link.give(self.packet.as_slice()) else {
+        let Ok(()) = link.give(beat, self.packet.as_slice()) else {
             return Err(LiveFault::Link { leg });
         };
         let listener = &mut self.listeners[post.terminal];

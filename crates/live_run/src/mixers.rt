@@ -6,7 +6,7 @@ ghost use Rattle.mixer_turn.specs.Making.{source_counts};
 ghost use Rattle.mixer_turn.specs.States.{legs_of, sources_of};
 ghost use Rattle.mixer_turn.specs.Standing.{StandsFor};
 ghost use Rattle.mixer_posts.specs.Streams.{pts_at};
-ghost use Rattle.live_run.specs.Ends.{WereGiven};
+ghost use Rattle.live_run.specs.Ends.{WereGiven, packets_in};
 ghost use Rattle.live_run.specs.Mixers.{HasAll, SeatsAll, all_admitted};
 
 use crate::FarEnds;
@@ -41,10 +41,10 @@ pub fn live_mixer<O: LinkOut>(
 ) -> Result<Sending<FarEnds<O>>, FarEnds<O>>
     requires stay { AllStay (setup (conf_of conf.now)) }
     requires each { length ends.links.items ≡ length conf.now.legs }
-    requires none { WereGiven O.tells O.given O.faults ends (setup (conf_of conf.now)) (pts_at (conf_of conf.now)) [] }
+    requires none { WereGiven O.tells (packets_in O.given) O.faults ends (setup (conf_of conf.now)) (pts_at (conf_of conf.now)) [] }
     ensures legs { IfOk result (λ sending. legs_of sending.mixer ≡ length conf.now.legs) }
     ensures turns { IfOk result (λ sending. sending.mixer.turns ≡ 0) }
-    ensures stands { IfOk result (HasAll O.tells O.given O.faults (conf_of conf.now)) }
+    ensures stands { IfOk result (HasAll O.tells (packets_in O.given) O.faults (conf_of conf.now)) }
     ensures seats { IfOk result (λ _. SeatsAll (conf_of conf.now)) }
     ensures outbound { IfOk result (λ sending. sending.outbound ≡ ends) }
     ensures back { IfErr result (λ back. back ≡ ends) }

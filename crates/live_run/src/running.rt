@@ -2,6 +2,8 @@
 ghost use Rattle.std.specs.Prelude.{◌≡◌, ◌≤◌, ◌<◌, ◌^◌, length};
 ghost use Rattle.live_loop.specs.declared.turns.Turned.TheVariants.{Done};
 ghost use Rattle.live_loop.specs.Clocks.{IsPaced, OnlyTimePassed, StandsPaced};
+ghost use Rattle.mix_loop.specs.Addresses.{AreWithin, ports_of};
+ghost use Rattle.live_loop.specs.Order.{AreInTurn};
 ghost use Rattle.live_loop.specs.Walks.{AreAt, HaltsThen, IsPaused, WasStopped};
 ghost use Rattle.live_run.specs.Jobs.{CanRun, LentCanRun, LentRanAs, RanAs, TurnsWere};
 
@@ -46,7 +48,7 @@ pub(crate) struct Ended<'w, L, M, C> {
 }
 
 /// Makes the turns; then the legs are told to stop, and what they still give is let go.
-fn turn_and_stop<I: Pops, M: Mixes<Fault = LiveFault>, C: TurnClock, R: Wait>(
+fn turn_and_stop<I: Pops, M: Mixes<Fault = LiveFault, Clock = C::Clock>, C: TurnClock, R: Wait>(
     rt: &R,
     ports: &mut [LivePort<I>],
     mixer: &mut M,
@@ -62,9 +64,12 @@ fn turn_and_stop<I: Pops, M: Mixes<Fault = LiveFault>, C: TurnClock, R: Wait>(
     requires tick { 0 < tick }
     requires short { tick ≤ 400 }
     requires horizon { 2 ^ 47 ≤ M.horizon }
-    ensures were { TurnsWere I.popped I.began M.stands (StandsPaced C.tells tick (C.moment clock.old) M.stands)
-        (StandsPaced C.tells tick (C.moment clock.old) (HaltsThen M.halted)) turns result ports.old ports.new mixer.old mixer.new }
-    ensures addresses { M.addresses mixer.new ≡ M.addresses mixer.old }
+    requires given { AreWithin (C.pauses clock.old) (M.addresses mixer.old) }
+    ensures were { TurnsWere I.popped I.began M.stands
+        (StandsPaced C.tells tick (C.moment clock.old) (AreInTurn M.stands M.addresses (C.pauses clock.old)) M.stands)
+        (StandsPaced C.tells tick (C.moment clock.old) (AreInTurn M.stands M.addresses (C.pauses clock.old)) (HaltsThen M.halted))
+        turns result ports.old ports.new mixer.old mixer.new }
+    ensures addresses { ports_of (M.addresses mixer.new) ≡ ports_of (M.addresses mixer.old) }
     ensures unsent { WasStopped M.unsent result mixer.new }
     ensures pauses { result ≡ Done → IsPaused turns (C.pauses clock.old) (C.pauses clock.new) }
     ensures paced { C.tells → result ≡ Done → IsPaced turns tick (C.moment clock.old) (C.moment clock.new) }
@@ -82,7 +87,7 @@ fn run_in<
     'e,
     'w,
     L: LinkIn + Send + 's,
-    M: Mixes<Fault = LiveFault>,
+    M: Mixes<Fault = LiveFault, Clock = C::Clock>,
     C: TurnClock,
     R: Threads + Wait + Sync,
     G: Gate + Copy + Send + 's,
@@ -93,7 +98,7 @@ fn run_in<
     stack: usize,
     job: Job<'w, L, M, C, G>,
 ) -> Ended<'w, L, M, C>
-    requires { CanRun L.LinkIn M.legs M.turns M.horizon job }
+    requires { CanRun L.LinkIn C.TurnClock M.legs M.turns M.addresses M.horizon job }
     ensures { RanAs L.LinkIn C.TurnClock M.stands M.halted M.addresses M.unsent job.entry result }
 {
     let Job {
@@ -134,7 +139,7 @@ fn run_lent_in<
     'e,
     'w,
     L: LinkIn + Send + 's,
-    M: Mixes<Fault = LiveFault>,
+    M: Mixes<Fault = LiveFault, Clock = C::Clock>,
     C: TurnClock,
     R: Threads + Wait + Sync,
     G: Gate + Copy + Send + 's,
@@ -145,7 +150,7 @@ fn run_lent_in<
     stack: usize,
     lent: ManuallyDrop<Job<'w, L, M, C, G>>,
 ) -> Ended<'w, L, M, C>
-    requires { LentCanRun L.LinkIn M.legs M.turns M.horizon lent }
+    requires { LentCanRun L.LinkIn C.TurnClock M.legs M.turns M.addresses M.horizon lent }
     ensures { LentRanAs L.LinkIn C.TurnClock M.stands M.halted M.addresses M.unsent lent.entry result }
 {
     let job = ManuallyDrop::into_inner(lent);
@@ -156,19 +161,19 @@ fn run_lent_in<
 fn run_scope<
     'w,
     L: LinkIn + Send,
-    M: Mixes<Fault = LiveFault>,
+    M: Mixes<Fault = LiveFault, Clock = C::Clock>,
     C: TurnClock,
     R: Threads + Wait + Sync,
     G: Gate + Copy + Send,
 >(rt: &R, gate: G, stack: usize, lent: ManuallyDrop<Job<'w, L, M, C, G>>) -> Ended<'w, L, M, C>
-    requires { LentCanRun L.LinkIn M.legs M.turns M.horizon lent }
+    requires { LentCanRun L.LinkIn C.TurnClock M.legs M.turns M.addresses M.horizon lent }
     ensures { LentRanAs L.LinkIn C.TurnClock M.stands M.halted M.addresses M.unsent lent.entry result }
 {
     thread::scope(
         thread::scope_env(),
         rt,
         |scope| -> Ended<L, M, C>
-            requires { LentCanRun L.LinkIn M.legs M.turns M.horizon lent }
+            requires { LentCanRun L.LinkIn C.TurnClock M.legs M.turns M.addresses M.horizon lent }
             ensures { LentRanAs L.LinkIn C.TurnClock M.stands M.halted M.addresses M.unsent lent.entry result }
         { run_lent_in(scope, rt, gate, stack, lent) },
     )
@@ -178,12 +183,12 @@ fn run_scope<
 pub(crate) fn run_job<
     'w,
     L: LinkIn + Send,
-    M: Mixes<Fault = LiveFault>,
+    M: Mixes<Fault = LiveFault, Clock = C::Clock>,
     C: TurnClock,
     R: Threads + Wait + Sync,
     G: Gate + Copy + Send,
 >(rt: &R, gate: G, stack: usize, job: Job<'w, L, M, C, G>) -> Ended<'w, L, M, C>
-    requires { CanRun L.LinkIn M.legs M.turns M.horizon job }
+    requires { CanRun L.LinkIn C.TurnClock M.legs M.turns M.addresses M.horizon job }
     ensures same_reference { result.clock.ghost_name ≡ job.entry.clock.ghost_name }
     ensures ran { RanAs L.LinkIn C.TurnClock M.stands M.halted M.addresses M.unsent job.entry result }
 {

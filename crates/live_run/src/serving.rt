@@ -48,12 +48,12 @@ pub fn serve<R: Threads + Wait + Sync, W: Links, G: Gate + Sync>(
     gate: &G,
 ) -> Result<LiveReport, LiveFault>
     requires { IsOfLinks (conf_of conf.now) }
-    ensures served { IfOk result (λ report. WasServed W.tells (W.taken_at world.new) (W.given_at world.new)
-        (conf_of conf.now) (end_of report.end) report.views) }
+    ensures served { IfOk result (λ report. WasServed W.tells (W.pauses world.old)
+        (W.taken_at world.new) (W.given_at world.new) (conf_of conf.now) (end_of report.end) report.views) }
     ensures given_up { IfErr result (WasGivenUp (W.own_faults world.old) (W.own_faults world.new)
         (W.object_faults world.old) (W.object_faults world.new) (conf_of conf.now)) }
-    ensures broke_off { OnErr result (BrokeOff W.tells (W.given_at world.old) (W.taken_at world.new) (W.given_at world.new)
-        (conf_of conf.now)) }
+    ensures broke_off { OnErr result (BrokeOff W.tells (W.pauses world.old) (W.given_at world.old)
+        (W.taken_at world.new) (W.given_at world.new) (conf_of conf.now)) }
     ensures calm { IfOk result (λ report. report.end ≡ LiveEnd.Closed
         → Same W.object_faults world.old world.new) }
     ensures paced { W.tells → IfOk result (λ report. report.end ≡ LiveEnd.Done
@@ -82,12 +82,12 @@ pub fn serve_tapped<R: Threads + Wait + Sync, W: Links, G: Gate + Sync, T: Tap>(
 ) -> (Result<LiveReport, LiveFault>, T)
     requires links { IsOfLinks (conf_of conf.now) }
     requires told { T.stands tap [] }
-    ensures tapped { IfOk result.0 (λ report. WasTapped (T.stands result.1) W.tells (W.taken_at world.new) (W.given_at world.new)
-        (conf_of conf.now) (end_of report.end) report.views) }
+    ensures tapped { IfOk result.0 (λ report. WasTapped (T.stands result.1) W.tells (W.pauses world.old)
+        (W.taken_at world.new) (W.given_at world.new) (conf_of conf.now) (end_of report.end) report.views) }
     ensures given_up { IfErr result.0 (WasGivenUp (W.own_faults world.old) (W.own_faults world.new)
         (W.object_faults world.old) (W.object_faults world.new) (conf_of conf.now)) }
-    ensures broke_off { OnErr result.0 (BrokeOff W.tells (W.given_at world.old) (W.taken_at world.new) (W.given_at world.new)
-        (conf_of conf.now)) }
+    ensures broke_off { OnErr result.0 (BrokeOff W.tells (W.pauses world.old) (W.given_at world.old)
+        (W.taken_at world.new) (W.given_at world.new) (conf_of conf.now)) }
     ensures calm { IfOk result.0 (λ report. report.end ≡ LiveEnd.Closed
         → Same W.object_faults world.old world.new) }
     ensures paced { W.tells → IfOk result.0 (λ report. report.end ≡ LiveEnd.Done

@@ -3,6 +3,7 @@ ghost use Rattle.std.specs.Prelude.{◌≡◌, false};
 ghost use Rattle.live_run.specs.Taps.{Learns, Shows, ended_with};
 
 use crate::{LiveFault, Tap};
+use link_io::Beat;
 use live_loop::Turned;
 use mix_loop::Mixes;
 use rtt_base::{Chunk, Full};
@@ -62,6 +63,8 @@ impl<M: Mixes<Fault = LiveFault>, T: Tap> Mixes for Tapped<M, T> {
 
     type Fault = LiveFault;
 
+    type Clock = M::Clock;
+
     ghost stands = { λ m s pts calls. TellsFor M.stands T.stands m s pts calls };
 
     ghost halted = { λ m s pts calls now. HaltsTold M.stands M.halted m s pts calls now };
@@ -99,8 +102,8 @@ impl<M: Mixes<Fault = LiveFault>, T: Tap> Mixes for Tapped<M, T> {
         Ok(())
     }
 
-    fn turn(&mut self, now: u64) -> Result<(), LiveFault> {
-        match self.mixer.turn(now) {
+    fn turn(&mut self, now: u64, beat: &Beat<'_, M::Clock>) -> Result<(), LiveFault> {
+        match self.mixer.turn(now, beat) {
             Ok(()) => {}
             Err(fault) => return Err(fault),
         }

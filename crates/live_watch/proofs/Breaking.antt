@@ -8,10 +8,10 @@ use Rattle.live_run.specs.Taps.{Notice}
 use Rattle.live_run.proofs.Returning.{was_broken}
 
 -- before it began
-pub none_given : (tells : Type 0) (given : ℕ → List (List ℕ)) (taken : ℕ → Takes) (c : Conf) → BrokeOff tells given taken given c
-none_given tells given taken c = inr (λ t j line p at e. inl refl)
+pub none_given : (tells : Type 0) (paused : ℕ) (given : ℕ → List (ℕ × List ℕ)) (taken : ℕ → Takes) (c : Conf) → BrokeOff tells paused given taken given c
+none_given tells paused given taken c = inr (λ t j line p at e. inl refl)
 
 -- when it was over
-pub after_all : (stands : List Notice → Type 0) (tells : Type 0) (before : ℕ → List (List ℕ)) (taken : ℕ → Takes) (given : ℕ → List (List ℕ)) (c : Conf) (end : End) (printed : List ℕ)
-    → WasTapped stands tells taken given c end printed → BrokeOff tells before taken given c
-after_all stands tells before taken given c end printed w = inl (was_broken tells taken given c end printed w.was)
+pub after_all : (stands : List Notice → Type 0) (tells : Type 0) (paused : ℕ) (before : ℕ → List (ℕ × List ℕ)) (taken : ℕ → Takes) (given : ℕ → List (ℕ × List ℕ)) (c : Conf) (end : End) (printed : List ℕ)
+    → WasTapped stands tells paused taken given c end printed → BrokeOff tells paused before taken given c
+after_all stands tells paused before taken given c end printed w = inl (was_broken tells paused taken given c end printed w.was)

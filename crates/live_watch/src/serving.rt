@@ -38,12 +38,12 @@ fn serve_on<B: OnBoard, R: Threads + Wait + Sync, W: Links, G: Gate + Sync>(
     requires board { writer.board ≡ B.board }
     requires new { (writer.published ≡ []) × (writer.pending ≡ []) × (writer.ended ≡ false) }
     ensures open { result.1.ended ≡ false }
-    ensures tapped { IfOk result.0 (λ report. WasTapped (IsWrittenFor B.board result.1) W.tells (W.taken_at world.new) (W.given_at world.new)
-        (conf_of conf.now) (end_of report.end) report.views) }
+    ensures tapped { IfOk result.0 (λ report. WasTapped (IsWrittenFor B.board result.1) W.tells (W.pauses world.old)
+        (W.taken_at world.new) (W.given_at world.new) (conf_of conf.now) (end_of report.end) report.views) }
     ensures given_up { IfErr result.0 (WasGivenUp (W.own_faults world.old) (W.own_faults world.new)
         (W.object_faults world.old) (W.object_faults world.new) (conf_of conf.now)) }
-    ensures broke_off { OnErr result.0 (BrokeOff W.tells (W.given_at world.old) (W.taken_at world.new) (W.given_at world.new)
-        (conf_of conf.now)) }
+    ensures broke_off { OnErr result.0 (BrokeOff W.tells (W.pauses world.old) (W.given_at world.old)
+        (W.taken_at world.new) (W.given_at world.new) (conf_of conf.now)) }
     ensures calm { IfOk result.0 (λ report. report.end ≡ LiveEnd.Closed
         → Same W.object_faults world.old world.new) }
     ensures paced { W.tells → IfOk result.0 (λ report. report.end ≡ LiveEnd.Done
@@ -80,12 +80,12 @@ pub fn serve_watched<
     G: Gate + Sync,
 >(rt: &R, alloc: Global, conf: &Conf, world: &mut W, gate: &G) -> Result<LiveReport, LiveFault>
     requires { IsOfLinks (conf_of conf.now) }
-    ensures watched { IfOk result (λ report. WasWatched W.tells (W.taken_at world.new) (W.given_at world.new)
-        (conf_of conf.now) (end_of report.end) report.views) }
+    ensures watched { IfOk result (λ report. WasWatched W.tells (W.pauses world.old)
+        (W.taken_at world.new) (W.given_at world.new) (conf_of conf.now) (end_of report.end) report.views) }
     ensures given_up { IfErr result (WasGivenUp (W.own_faults world.old) (W.own_faults world.new)
         (W.object_faults world.old) (W.object_faults world.new) (conf_of conf.now)) }
-    ensures broke_off { OnErr result (BrokeOff W.tells (W.given_at world.old) (W.taken_at world.new) (W.given_at world.new)
-        (conf_of conf.now)) }
+    ensures broke_off { OnErr result (BrokeOff W.tells (W.pauses world.old) (W.given_at world.old)
+        (W.taken_at world.new) (W.given_at world.new) (conf_of conf.now)) }
     ensures calm { IfOk result (λ report. report.end ≡ LiveEnd.Closed
         → Same W.object_faults world.old world.new) }
     ensures paced { W.tells → IfOk result (λ report. report.end ≡ LiveEnd.Done

@@ -1,4 +1,5 @@
 pub mod Lists
+pub mod Addresses
 pub mod Places
 pub mod Leaving
 pub mod Offering

@@ -18,6 +18,7 @@ use Rattle.mix_loop.specs.declared.items.Ended.{Ended}
 use Rattle.mix_loop.specs.declared.items.Ended.TheVariants.{Open, AtEnd, AtFault}
 use Rattle.mix_loop.specs.declared.ports.Port.{Port}
 use Rattle.mix_loop.specs.Items.{Gave, IsOf, IsSaid, ended_by, gave_more, goes_on, is_chunk, is_open}
+use Rattle.mix_loop.specs.Addresses.{Address}
 use Rattle.mix_loop.specs.Mixers.{At, Keeps}
 use Rattle.mix_loop.specs.Ports.{OnlyHand, IsSound, SameSeat, MayCome, Pulls, Gathers, Gathered, Holds, PulledTo, GatheringTo, GatheredTo, DrainedTo, counted, counts, hand_of, hand_with, mixed_of, of_leg}
 
@@ -158,10 +159,10 @@ module _ {M : Type 0} (mixes : M → Setup → List Call → Type 0) (s : Setup)
       )
 
 -- ---- what stays the same
-pub keeps_none : {M : Type 0} (legs turns : M → ℕ) (addresses : M → List ℕ) (m : M) → Keeps legs turns addresses m m
+pub keeps_none : {M : Type 0} (legs turns : M → ℕ) (addresses : M → List Address) (m : M) → Keeps legs turns addresses m m
 keeps_none legs turns addresses m = record { legs = refl; turns = refl; addresses = refl }
 
-pub keeps_more : {M : Type 0} (legs turns : M → ℕ) (addresses : M → List ℕ) (a b c : M) → Keeps legs turns addresses a b → Keeps legs turns addresses b c → Keeps legs turns addresses a c
+pub keeps_more : {M : Type 0} (legs turns : M → ℕ) (addresses : M → List Address) (a b c : M) → Keeps legs turns addresses a b → Keeps legs turns addresses b c → Keeps legs turns addresses a c
 keeps_more legs turns addresses a b c x y = record { legs = y.legs ∙ x.legs; turns = y.turns ∙ x.turns; addresses = y.addresses ∙ x.addresses }
 
 pub seats_none : {I F : Type 0} (p : Port I F) → SameSeat p p

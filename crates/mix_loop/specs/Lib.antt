@@ -1,4 +1,5 @@
 pub mod Items
+pub mod Addresses
 pub mod Mixers
 pub mod Ports
 pub mod Steps

@@ -5,10 +5,11 @@ use Rattle.mixer_spec.specs.Setups.{Setup}
 use Rattle.mixer_spec.specs.Table.{Table, Call, Admit, Hush, Leave, Offer, Turn, after_calls, free_place, may_leave, has_room, is_idle}
 use Rattle.mixer_spec.specs.Calls.{IsAdmit, IsHush}
 use Rattle.stream_spec.specs.Ready.{Chunk}
+use Rattle.mix_loop.specs.Addresses.{Address}
 
 module _ {M : Type 0} where
-  -- it has as many legs, made no turn, and sends where it sent
-  pub record Keeps (legs_of turns_of : M → ℕ) (addresses_of : M → List ℕ) (old new : M) : Type 0 where
+  -- it has as many legs, made no turn, and sends where it sent, and nothing was given there
+  pub record Keeps (legs_of turns_of : M → ℕ) (addresses_of : M → List Address) (old new : M) : Type 0 where
     pub legs : legs_of new ≡ legs_of old
     pub turns : turns_of new ≡ turns_of old
     pub addresses : addresses_of new ≡ addresses_of old

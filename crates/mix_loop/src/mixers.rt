@@ -5,14 +5,19 @@ ghost use Rattle.stream_spec.specs.Ready.{chunk_of};
 ghost use Rattle.mixer_spec.specs.Setups.{Setup};
 ghost use Rattle.mixer_spec.specs.Table.{Call};
 ghost use Rattle.mix_loop.specs.Items.{IsOf};
+ghost use Rattle.mix_loop.specs.Addresses.{Address, GiveAfter};
 ghost use Rattle.mix_loop.specs.Mixers.{Keeps, Admits, Hushes, Leaves, Offers, Turns, Halts, TellsIdle};
 
+use link_io::Beat;
 use rtt_base::{Chunk, Full};
 
 /// A mixer, which stands for the calls that were made of it. Where it sends what a turn sends is its own matter.
 pub trait Mixes {
     /// Why what a turn sends could not be sent.
     type Fault: Copy;
+
+    /// The kind of clock at whose beats it sends.
+    type Clock;
 
     /// In a conference of this setup, with these payload types at its terminals, these calls were made, newest first, and all
     /// that they send was sent.
@@ -28,8 +33,8 @@ pub trait Mixes {
     /// How many turns were made.
     ghost turns: { Self → ℕ };
 
-    /// Where it sends what goes to each terminal, in leg order. No call changes it.
-    ghost addresses: { Self → List ℕ };
+    /// Where it sends what goes to each terminal, in leg order, and what was given there.
+    ghost addresses: { Self → List Address };
 
     /// Turns come before this moment, in milliseconds.
     ghost horizon: { ℕ };
@@ -62,8 +67,9 @@ pub trait Mixes {
         ensures offered { Offers stands self.old self.new (chunk_of chunk.now) (is_ok result) }
         ensures keeps { Keeps legs turns addresses self.old self.new };
 
-    /// Makes a turn at the moment `now` (milliseconds), and sends what it sends. Behind a fault it makes no more.
-    fn turn(&mut self, now: u64) -> Result<(), Self::Fault>
+    /// Makes a turn at the moment `now` (milliseconds), and sends what it sends at this beat of the clock. Behind a fault it makes
+    /// no more.
+    fn turn(&mut self, now: u64, beat: &Beat<'_, Self::Clock>) -> Result<(), Self::Fault>
         requires few { turns self.old < 5000000 }
         requires now { now < horizon }
         ensures turned { OnOk result (Turns stands self.old self.new now) }
@@ -71,7 +77,7 @@ pub trait Mixes {
         ensures unsent { IfErr result (unsent self.new) }
         ensures legs { legs self.new ≡ legs self.old }
         ensures turns { turns self.new ≡ turns self.old + 1 }
-        ensures addresses { addresses self.new ≡ addresses self.old };
+        ensures addresses { GiveAfter beat.now.pauses (addresses self.old) (addresses self.new) };
 
     /// Whether nothing waits and nothing is to be repeated.
     fn idle(&self) -> bool

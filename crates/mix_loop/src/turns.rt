@@ -10,6 +10,7 @@ ghost use Rattle.file_spec.specs.declared.limits.TheConstants.{MOST_LEGS};
 
 use crate::ports::Port;
 use crate::{Inlet, Mixes};
+use link_io::Beat;
 use std::sync::Wait;
 
 /// How a mixing ended.
@@ -149,8 +150,9 @@ fn settle<I: Inlet, M: Mixes, R: Wait>(
     Before::Going
 }
 
-/// Before this moment nothing is done before a turn; 0 where each hand is empty.
-fn calm_until<I: Inlet>(ports: &[Port<I>]) -> u64
+/// Before this moment nothing is done before a turn; 0 where each hand is empty, and where it is not behind `next`, the moment
+/// of the next turn, so that no turn is passed over.
+fn calm_until<I: Inlet>(ports: &[Port<I>], next: u64) -> u64
     ensures { AreCalmBefore result ports.now }
 {
     if all_empty(ports) {
@@ -160,17 +162,21 @@ fn calm_until<I: Inlet>(ports: &[Port<I>]) -> u64
     for leg in 0..ports.len() {
         let port = &ports[leg];
         until = until.min(port.calm_until());
+        if until <= next {
+            return 0;
+        }
     }
     until
 }
 
 /// Does all that is done before a turn at the moment `now`, and answers what is found then. Nothing is done before the moment
-/// `calm`, which is then the next such moment.
+/// `calm`, which is then the next such moment, where that is behind `next`, the moment of the next turn.
 fn settle_from<I: Inlet, M: Mixes, R: Wait>(
     rt: &R,
     ports: &mut [Port<I>],
     mixer: &mut M,
     now: u64,
+    next: u64,
     calm: &mut u64,
 ) -> Before
     requires few { length ports.old ≤ MOST_LEGS }
@@ -186,7 +192,7 @@ fn settle_from<I: Inlet, M: Mixes, R: Wait>(
         return Before::Going;
     }
     let found = settle(rt, ports, mixer, now);
-    *calm = calm_until(ports);
+    *calm = calm_until(ports, next);
     found
 }
 
@@ -221,12 +227,13 @@ fn take_turns<I: Inlet, M: Mixes, R: Wait>(
     let mut calm = 0;
     for k in 0..turns {
         let now = moment_of(k, tick);
-        match settle_from(rt, ports, mixer, now, &mut calm) {
+        let next = moment_of(k + 1, tick);
+        match settle_from(rt, ports, mixer, now, next, &mut calm) {
             Before::Going => {}
             Before::Over => return Turned::Over,
             Before::Faulted => return Turned::Faulted,
         }
-        match mixer.turn(now) {
+        match mixer.turn(now, &Beat::last()) {
             Ok(()) => {}
             Err(fault) => return Turned::Stopped(fault),
         }

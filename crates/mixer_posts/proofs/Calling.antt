@@ -6,6 +6,7 @@ use Rattle.stream_spec.specs.Ready.{Chunk}
 use Rattle.mixer_spec.specs.Setups.{Setup}
 use Rattle.mixer_spec.specs.Table.{Call, Turn, after_calls}
 use Rattle.mix_loop.specs.Items.{IsOf}
+use Rattle.mix_loop.specs.Addresses.{Address}
 use Rattle.mix_loop.specs.Mixers.{Keeps}
 use Rattle.mixer_turn.specs.declared.batches.Post.{Post}
 use Rattle.mixer_turn.specs.Allowed.{IsOffer}
@@ -36,7 +37,7 @@ on_err (Ok x) P Q f h = tt
 on_err (Err x) P Q f h = f h
 
 -- as many legs and turns, and the same addresses
-abbrev pub KeepsAll : {O : Type 0} → (O → List ℕ) → SendingState O → SendingState O → Type 0
+abbrev pub KeepsAll : {O : Type 0} → (O → List Address) → SendingState O → SendingState O → Type 0
 KeepsAll {O} addresses old new = Keeps (λ (m : SendingState O). legs_of m.mixer) (λ (m : SendingState O). m.mixer.turns) (λ (m : SendingState O). addresses m.outbound) old new
 
 -- a turn was made, and what it sends was taken

@@ -4,6 +4,7 @@ ghost use Rattle.mixer_turn.specs.States.{sources_of};
 
 use crate::Outbound;
 use crate::sending::send_posts;
+use link_io::Beat;
 use mix_loop::Mixes;
 use mixer_turn::{Batch, Mixer};
 use rtt_base::{Chunk, Full};
@@ -61,6 +62,8 @@ impl<O: Outbound> Mixes for Sending<O> {
 
     type Fault = O::Fault;
 
+    type Clock = O::Clock;
+
     ghost stands = { λ m s pts calls. SendsFor O.took O.sources O.horizon m s pts calls };
 
     ghost halted = { λ m s pts calls now. HaltsFor O.halted m s pts calls now };
@@ -92,9 +95,9 @@ impl<O: Outbound> Mixes for Sending<O> {
         self.mixer.offer(chunk)
     }
 
-    fn turn(&mut self, now: u64) -> Result<(), O::Fault> {
+    fn turn(&mut self, now: u64, beat: &Beat<'_, O::Clock>) -> Result<(), O::Fault> {
         self.mixer.turn(now, &mut self.batch);
-        send_posts(now, self.batch.posts(), &mut self.outbound)
+        send_posts(now, beat, self.batch.posts(), &mut self.outbound)
     }
 
     fn idle(&self) -> bool {

@@ -4,14 +4,19 @@ ghost use Rattle.rtt_base.specs.declared.text_packets.Pts.{Pts};
 ghost use Rattle.mixer_spec.specs.Setups.{Setup};
 ghost use Rattle.mixer_turn.specs.declared.batches.Post.{Post};
 ghost use Rattle.mixer_turn.specs.Posts.{IsPost};
+ghost use Rattle.mix_loop.specs.Addresses.{Address, GiveAfter};
 ghost use Rattle.mixer_posts.specs.Posts.{Takes, TakesSome};
 
+use link_io::Beat;
 use mixer_turn::Post;
 
 /// Where what is sent to the terminals of a conference goes: recordings, or links. It makes the packets.
 pub trait Outbound {
     /// Why it took no post.
     type Fault: Copy;
+
+    /// The kind of clock at whose beats it takes posts.
+    type Clock;
 
     /// It took these posts, newest first, each with its moment, for the terminals of this setup, with these payload types.
     ghost took: { Self → Setup → (ℕ → Pts) → List (ℕ × Post) → Type 0 };
@@ -22,8 +27,8 @@ pub trait Outbound {
     /// How many sources each terminal has, in leg order.
     ghost sources: { Self → List ℕ };
 
-    /// Where the packets to each terminal go, in leg order. No call changes it.
-    ghost addresses: { Self → List ℕ };
+    /// Where the packets to each terminal go, in leg order, and what was given there.
+    ghost addresses: { Self → List Address };
 
     /// What is sent is sent before this moment, in milliseconds.
     ghost horizon: { ℕ };
@@ -31,15 +36,20 @@ pub trait Outbound {
     /// In this state it took no post, for this reason.
     ghost unsent: { Self → Self.Fault → Type 0 };
 
-    /// Takes what is sent to one of the terminals, at the moment `now` (milliseconds).
-    fn send(&mut self, now: u64, post: &Post) -> Result<(), Self::Fault>
+    /// Takes what is sent to one of the terminals, at the moment `now` (milliseconds), at this beat of the clock.
+    fn send(
+        &mut self,
+        now: u64,
+        beat: &Beat<'_, Self::Clock>,
+        post: &Post,
+    ) -> Result<(), Self::Fault>
         requires moment { now < horizon }
         requires post { IsPost (sources self.old) post.now }
         ensures took { OnOk result (Takes took self.old self.new now post.now) }
         ensures halted { OnErr result (TakesSome took halted self.old self.new now post.now) }
         ensures unsent { IfErr result (unsent self.new) }
         ensures sources { sources self.new ≡ sources self.old }
-        ensures addresses { addresses self.new ≡ addresses self.old };
+        ensures addresses { GiveAfter beat.now.pauses (addresses self.old) (addresses self.new) };
 
     /// The mixer can make turns till then.
     ghost in_time: { horizon ≤ 2 ^ 47 };

@@ -1,14 +1,17 @@
 //! What a turn sends is given to an outbound.
 ghost use Rattle.std.specs.Prelude.{◌≡◌, ◌<◌, OnOk, OnErr, IfErr};
 ghost use Rattle.mixer_turn.specs.Posts.{ArePosts};
+ghost use Rattle.mix_loop.specs.Addresses.{GiveAfter};
 ghost use Rattle.mixer_posts.specs.Posts.{TakesAll, TakesFirst};
 
 use crate::Outbound;
+use link_io::Beat;
 use mixer_turn::Post;
 
-/// Gives these posts at the moment `now` (milliseconds), one after the other.
+/// Gives these posts at the moment `now` (milliseconds), at this beat of the clock, one after the other.
 pub(crate) fn send_posts<O: Outbound>(
     now: u64,
+    beat: &Beat<'_, O::Clock>,
     posts: &[Post],
     outbound: &mut O,
 ) -> Result<(), O::Fault>
@@ -18,10 +21,10 @@ pub(crate) fn send_posts<O: Outbound>(
     ensures halted { OnErr result (TakesFirst O.halted O.took outbound.old outbound.new now posts.now) }
     ensures unsent { IfErr result (O.unsent outbound.new) }
     ensures sources { O.sources outbound.new ≡ O.sources outbound.old }
-    ensures addresses { O.addresses outbound.new ≡ O.addresses outbound.old }
+    ensures addresses { GiveAfter beat.now.pauses (O.addresses outbound.old) (O.addresses outbound.new) }
 {
     for post in posts {
-        match outbound.send(now, post) {
+        match outbound.send(now, beat, post) {
             Ok(()) => {}
             Err(fault) => return Err(fault),
         }

@@ -4,6 +4,7 @@ ghost use Rattle.std.specs.Prelude.{◌≡◌, IfOk};
 use crate::{Outbound, Sending};
 use conf_text::{Form, read_conf};
 use conference::Conf;
+use link_io::Beat;
 use mix_loop::Mixes;
 use mixer_turn::{Batch, Mixer, Post};
 use rtt_base::{Chunk, NoMemory, Text};
@@ -30,6 +31,8 @@ impl Outbound for Notes {
 
     type Fault = NoMemory;
 
+    type Clock = ();
+
     ghost took = { λ notes s pts sent. Unit {0} };
 
     ghost halted = { λ notes s pts sent now post. Unit {0} };
@@ -42,7 +45,7 @@ impl Outbound for Notes {
 
     ghost unsent = { λ notes why. Unit {0} };
 
-    fn send(&mut self, now: u64, post: &Post) -> Result<(), NoMemory> {
+    fn send(&mut self, now: u64, _beat: &Beat<'_, ()>, post: &Post) -> Result<(), NoMemory> {
         if self.sent.len() >= self.room {
             return Err(NoMemory);
         }
@@ -85,6 +88,6 @@ fn typed(rt: &impl Abort, alloc: Global, room: usize) -> Result<Sending<Notes>, 
 #[test]
 fn an_outbound_without_room_stops_the_turn(rt: HostRuntime) -> Result<(), Fail> {
     let mut sending = typed(&rt, rt.alloc(), 0)?;
-    assert!(rt; sending.turn(300).is_err());
+    assert!(rt; sending.turn(300, &Beat::last()).is_err());
     Ok(())
 }

@@ -25,6 +25,7 @@ use Rattle.file_spec.specs.declared.conf_lines.Stay.{Stay}
 use Rattle.file_spec.specs.declared.conf_lines.What.TheVariants.{Lose}
 use Rattle.file_spec.specs.Kept.{IsConference}
 use Rattle.file_spec.specs.Conf as line
+use Rattle.file_spec.specs.Services.{no_service}
 use Rattle.file_spec.specs.Conf.{Conf, conf, entry, leg_of, mixer_of, plan_of, stay_or_plan, time_or_other}
 use Rattle.text_spec.specs.Characters.{class_of}
 use Rattle.text_spec.specs.Ends.{ends_line, ends_sentence}
@@ -74,6 +75,7 @@ call = record {
   relabel = None;
   mixer = record { ssrc = 9000; seq = 100; stamp = 5000 };
   plan = record { terminal = 1; packet = 1; what = Lose } ∷ [];
+  service = no_service;
 }
 
 is_read : conf Files file ≡ Ok call

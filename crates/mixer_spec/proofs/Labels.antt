@@ -6,14 +6,13 @@ use Rattle.std.proofs.lemmas.Bool.{cases_Bool, eqb-true, or_cases, or_parts, tru
 use Rattle.std.proofs.lemmas.List.Folds.{list_any-append}
 use Rattle.text_spec.specs.declared.classes.CharClass.TheVariants.{Print}
 use Rattle.text_spec.specs.Characters.{class_of, is_open_after, is_print, opens}
-use Rattle.text_spec.specs.Shown.{ends_with_cr}
 use Rattle.text_spec.specs.Views.{is_bracket, is_direction, label_after, without_directions}
 use Rattle.stream_spec.specs.Ready.{Chunk}
 use Rattle.mixer_spec.specs.Chunks.{joined, has_chunk, front}
 use Rattle.std.specs.Prelude.{chars}
 use Rattle.mixer_spec.specs.Rounds.{first_round}
 use Rattle.mixer_spec.specs.Setups.{Setup}
-use Rattle.mixer_spec.specs.Composed.{Answer, Asked, began_behind_cr, begin_with, behind_label, chars_of, from_seen, go_on, gone_on, headed, is_erased, is_labelled_again, is_open, is_seen, is_switch, is_unlabelled, labelled, latest, own_part, room_beside, run_of, sent_one, speak_on, waits_here, with_label, written, answer, answer_after}
+use Rattle.mixer_spec.specs.Composed.{Answer, Asked, began_behind_cr, begin_with, behind_label, chars_of, from_seen, go_on, gone_on, headed, is_after_cr, is_erased, is_labelled_again, is_open, is_seen, is_switch, is_unlabelled, labelled, latest, own_part, room_beside, run_of, sent_one, speak_on, waits_here, with_label, written, answer, answer_after}
 use Rattle.mixer_spec.specs.Table.{shared}
 use Rattle.mixer_spec.specs.Core.{Event, after}
 use Rattle.mixer_spec.specs.Laws.{IsComposed}
@@ -171,8 +170,8 @@ go_on_has s waits asks c = go (is_unlabelled asks)
 speak_on_has : (s : Setup) (now : ℕ) (waits : ℕ → List Chunk) (asks : List Asked) (c : ℕ) → Has s (speak_on s.name s.relabel now waits asks c)
 speak_on_has s now waits asks c = go (is_labelled_again s.relabel now asks c)
   where
-    go : (b : Bool) → Has s (cond b (headed waits (s.name c) (ends_with_cr (chars_of (run_of asks))) (is_open asks) [] c) (go_on s.name waits asks c))
-    go true = with_label_has (s.name c) (ends_with_cr (chars_of (run_of asks))) (is_open asks) [] (front (room_beside (s.name c)) (waits c))
+    go : (b : Bool) → Has s (cond b (headed waits (s.name c) (is_after_cr asks) (is_open asks) [] c) (go_on s.name waits asks c))
+    go true = with_label_has (s.name c) (is_after_cr asks) (is_open asks) [] (front (room_beside (s.name c)) (waits c))
     go false = go_on_has s waits asks c
 
 answer_has : (s : Setup) (own now : ℕ) (due : Bool) (waits : ℕ → List Chunk) (asks : List Asked) (g : Answer) → answer s.legs s.name s.relabel own now due waits asks ≡ Some g → Has s g
@@ -182,8 +181,8 @@ answer_has s own now true waits asks g e = from (latest asks) e
     begins : (o : Option ℕ) → begin_with s.name waits asks o ≡ Some g → Has s g
     begins None e = absurd (cc e)
     begins (Some u) e =
-        let same : headed waits (s.name u) (ends_with_cr (chars_of (run_of asks))) (is_open asks) [] u ≡ g = cc e in
-        subst (Has s) same (with_label_has (s.name u) (ends_with_cr (chars_of (run_of asks))) (is_open asks) [] (front (room_beside (s.name u)) (waits u)))
+        let same : headed waits (s.name u) (is_after_cr asks) (is_open asks) [] u ≡ g = cc e in
+        subst (Has s) same (with_label_has (s.name u) (is_after_cr asks) (is_open asks) [] (front (room_beside (s.name u)) (waits u)))
 
     rest : (b : Bool) (c : ℕ) → cond b (Some (speak_on s.name s.relabel now waits asks c)) None ≡ Some g → Has s g
     rest true c e = let same : speak_on s.name s.relabel now waits asks c ≡ g = cc e in subst (Has s) same (speak_on_has s now waits asks c)

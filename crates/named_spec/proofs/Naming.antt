@@ -9,14 +9,14 @@ use Rattle.std.proofs.lemmas.List.Folds.{list_any-append}
 use Rattle.std.proofs.lemmas.Str.{chars-append, chars-encodes}
 use lib.Utf8.{scalar, scalars}
 use Rattle.text_spec.specs.Characters.{is_open_after}
-use Rattle.text_spec.specs.Shown.{ends_with_cr, signs}
+use Rattle.text_spec.specs.Shown.{signs}
 use Rattle.text_spec.specs.Views.{is_bracket, is_direction, label_after, without_directions}
 use Rattle.text_spec.proofs.Erasing.{reach}
 use Rattle.stream_spec.specs.Ready.{Chunk}
 use Rattle.mixer_spec.specs.Chunks.{joined, has_chunk, front}
 use Rattle.mixer_spec.specs.Rounds.{first_round}
 use Rattle.mixer_spec.specs.Setups.{Setup}
-use Rattle.mixer_spec.specs.Composed.{Answer, Asked, began_alone, began_behind_cr, begin_with, behind_label, chars_of, from_seen, go_on, gone_on, headed, is_erased, is_labelled_again, is_open, is_seen, is_switch, is_unlabelled, labelled, latest, own_part, room_beside, run_of, seen_part, speak_on, waits_here, with_label, written, answer, answer_after}
+use Rattle.mixer_spec.specs.Composed.{Answer, Asked, began_alone, began_behind_cr, begin_with, behind_label, chars_of, from_seen, go_on, gone_on, headed, is_after_cr, is_erased, is_labelled_again, is_open, is_seen, is_switch, is_unlabelled, labelled, latest, own_part, room_beside, run_of, seen_part, speak_on, waits_here, with_label, written, answer, answer_after}
 use Rattle.mixer_spec.specs.Laws.{AreTexts, IsComposed, IsAnswered}
 use Rattle.mixer_spec.specs.OneText.{StandsBeforeSeen, begins_seen, label_before}
 use Rattle.mixer_spec.proofs.Rounds.{round_some}
@@ -320,11 +320,11 @@ begun_alone cs e = ap not e
 
 -- a run begins
 begun : (s : Setup) (own m : ℕ) (w : ℕ → Bool) (waits : ℕ → List Chunk) (past : List Asked) (u : ℕ) → u < s.legs → (u ≡ own → ⊥) → AreTexts (waits u) → State s own past
-    → State s own (with_ask m w (headed waits (s.name u) (ends_with_cr (chars_of (run_of past))) (is_open past) [] u) past)
+    → State s own (with_ask m w (headed waits (s.name u) (is_after_cr past) (is_open past) [] u) past)
 begun s own m w waits past u b d a t = go (with_label_parts s.name u cr (is_open past) [] cs)
   where
     cr : Bool
-    cr = ends_with_cr (chars_of (run_of past))
+    cr = is_after_cr past
 
     cs : List Chunk
     cs = front (room_beside (s.name u)) (waits u)
@@ -390,11 +390,11 @@ labelled_later s own m w waits past u b d a un t = go (with_label_parts s.name u
     lacks begins =
         has_chunk (cond begins cs (run_of past ++ cs))
         && (not (cond begins (not (has_chunk cs)) (began_alone past))
-        && length (from_seen (cond begins (ends_with_cr (chars_of (run_of past))) (began_behind_cr past)) [] (chars_of (cond begins cs (run_of past ++ cs)))) == 0)
+        && length (from_seen (cond begins (is_after_cr past) (began_behind_cr past)) [] (chars_of (cond begins cs (run_of past ++ cs)))) == 0)
 
     behind : Bool → List ℕ
     behind begins = cond (cond begins (not (has_chunk cs)) (began_alone past)) (chars_of (cond begins cs (run_of past ++ cs)))
-        (from_seen (cond begins (ends_with_cr (chars_of (run_of past))) (began_behind_cr past)) [] (chars_of (cond begins cs (run_of past ++ cs))))
+        (from_seen (cond begins (is_after_cr past) (began_behind_cr past)) [] (chars_of (cond begins cs (run_of past ++ cs))))
 
     begins : Bool
     begins = not (has_chunk (run_of past) && has_chunk cs)
@@ -428,8 +428,8 @@ labelled_later s own m w waits past u b d a un t = go (with_label_parts s.name u
         let z = empty cs h in
         let no : chars_of cs ≡ [] = ap chars_of z ∙ no_chars in
         let nil : [] ≡ typed = sym (ap (from_seen (began_behind_cr past) (chars_of (run_of past))) no) ∙ f in (
-          ap lacks (is_alone h) ∙ ap (λ (c : Bool). c && (not (not (has_chunk cs)) && length (from_seen (ends_with_cr (chars_of (run_of past))) [] (chars_of cs)) == 0)) h,
-          ap behind (is_alone h) ∙ (ap (λ (c : Bool). cond (not c) (chars_of cs) (from_seen (ends_with_cr (chars_of (run_of past))) [] (chars_of cs))) h ∙ (no ∙ nil)),
+          ap lacks (is_alone h) ∙ ap (λ (c : Bool). c && (not (not (has_chunk cs)) && length (from_seen (is_after_cr past) [] (chars_of cs)) == 0)) h,
+          ap behind (is_alone h) ∙ (ap (λ (c : Bool). cond (not c) (chars_of cs) (from_seen (is_after_cr past) [] (chars_of cs))) h ∙ (no ∙ nil)),
         )
     labels true h typed (inl z) f = absurd (true≢false (sym h ∙ ap has_chunk z))
     labels true h typed (inr n) f = (
@@ -552,14 +552,14 @@ step s own m w true waits past g a t e = from (latest past) refl e
         let f = round_some (waits_here own waits) start s.legs u l q in
         let x = and_parts (not (u == own)) (has_chunk (waits u)) f.passes in
         let n = eqb-false u own (not-true (u == own) x.0) in
-        let same : headed waits (s.name u) (ends_with_cr (chars_of (run_of past))) (is_open past) [] u ≡ g = cc e in
+        let same : headed waits (s.name u) (is_after_cr past) (is_open past) [] u ≡ g = cc e in
         subst Then same (begun s own m w waits past u f.below n (a u n) t)
 
     goes : (b : Bool) (c : Answer) → is_unlabelled past ≡ b → latest past ≡ Some c → Then (cond b (headed waits (s.name c.source) (began_behind_cr past) (is_open past) (run_of past) c.source) (gone_on waits (behind_label past) c.source))
     goes true c un q = let sp = t.speaker c q in labelled_later s own m w waits past c.source sp.0 sp.1 (a c.source sp.1) un t
     goes false c un q = let sp = t.speaker c q in went_on s own m w waits past c q (a c.source sp.1) un t
 
-    speaks : (b : Bool) (c : Answer) → latest past ≡ Some c → Then (cond b (headed waits (s.name c.source) (ends_with_cr (chars_of (run_of past))) (is_open past) [] c.source) (go_on s.name waits past c.source))
+    speaks : (b : Bool) (c : Answer) → latest past ≡ Some c → Then (cond b (headed waits (s.name c.source) (is_after_cr past) (is_open past) [] c.source) (go_on s.name waits past c.source))
     speaks true c q = let sp = t.speaker c q in begun s own m w waits past c.source sp.0 sp.1 (a c.source sp.1) t
     speaks false c q = goes (is_unlabelled past) c refl q
 

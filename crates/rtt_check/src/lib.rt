@@ -8,6 +8,7 @@ mod packets;
 mod refusals;
 mod reports;
 mod sentences;
+mod trunks;
 
 pub use names::{conf_kind_name, frame_kind_name};
 pub use reports::{Report, report_of};

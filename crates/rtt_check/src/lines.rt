@@ -7,7 +7,7 @@ ghost use Rattle.file_spec.specs.Conf.{is_blank};
 ghost use Rattle.file_spec.specs.Lines.{words};
 ghost use Rattle.file_spec.specs.Numbers.{is_number};
 ghost use Rattle.check_spec.specs.Checking.{line_at, word_in};
-ghost use Rattle.check_spec.specs.Forms.{begins_with_moment, first_said, is_conference_word, is_of_conference, is_of_link, is_of_moment, line_word, packet_word, said, time_word, word_of};
+ghost use Rattle.check_spec.specs.Forms.{begins_with_moment, first_said, is_conference_word, is_of_conference, is_of_link, is_of_moment, line_word, packet_word, said, service_word, time_word, word_of};
 
 use check_spec::LineWord;
 use file_lines::{next_line, says_nothing, text_of};
@@ -127,6 +127,16 @@ fn packet_word(word: &str) -> LineWord
     }
 }
 
+fn service_word(word: &str) -> LineWord
+    ensures { result ≡ service_word word.now }
+{
+    match word {
+        "gone" => LineWord::Gone,
+        "operator" => LineWord::Operator,
+        other => packet_word(other),
+    }
+}
+
 fn time_word(word: &str) -> LineWord
     ensures { result ≡ time_word word.now }
 {
@@ -136,7 +146,7 @@ fn time_word(word: &str) -> LineWord
         "wait" => LineWord::Wait,
         "turns" => LineWord::Turns,
         "relabel" => LineWord::Relabel,
-        other => packet_word(other),
+        other => service_word(other),
     }
 }
 

@@ -1,11 +1,11 @@
 //! What is told of a refusal.
-ghost use Rattle.std.specs.Prelude.{◌≡◌, ◌++◌, map, take, option_map, OnOk};
-ghost use Rattle.command_spec.specs.declared.faults.Refusal.TheVariants.{AtByte, AtFrame, AtLine};
+ghost use Rattle.std.specs.Prelude.{◌≡◌, ◌<◌, ◌++◌, drop, flat_map, map, take, option_map, OnOk};
+ghost use Rattle.command_spec.specs.declared.faults.Refusal.TheVariants.{AtByte, AtFrame, AtLine, AtTrunk};
 ghost use Rattle.command_spec.specs.Messages.{byte_message, line_message, refusal_message};
-ghost use Rattle.check_spec.specs.Checking.{shown, shown_line, shown_octet};
+ghost use Rattle.check_spec.specs.Checking.{hex_digit, hex_octet, shown, shown_at, shown_line, shown_octet, shown_octets};
 
 use crate::names::{conf_kind_name, frame_kind_name};
-use check_spec::limits::MOST_SHOWN_OCTETS;
+use check_spec::limits::{MOST_SHOWN_AT_BYTE, MOST_SHOWN_OCTETS};
 use command_spec::dump_kind_name;
 use file_spec::ConfKind;
 use frame_spec::FrameKind;
@@ -50,7 +50,20 @@ pub(crate) fn append_frame(
     append_byte(text, name, byte, frame_kind_name(kind))
 }
 
-/// Appends which line of a file of this name is refused, and why.
+/// Appends which line of a file of this name is refused, and the name of the reason.
+fn append_at_line(text: &mut Bytes, name: &[u8], line: u32, why: &[u8]) -> Result<(), NoMemory>
+    ensures { OnOk result (text.new ≡ text.old ++ line_message name.now line why.now) }
+{
+    let mut digits = Buffer::new();
+    text.append(name)?;
+    text.append(b" line ")?;
+    text.append(digits.format(line).as_bytes())?;
+    text.append(b": ")?;
+    text.append(why)?;
+    text.append(b"\n")
+}
+
+/// The same of a script or a conference.
 pub(crate) fn append_line(
     text: &mut Bytes,
     name: &[u8],
@@ -59,13 +72,83 @@ pub(crate) fn append_line(
 ) -> Result<(), NoMemory>
     ensures { OnOk result (text.new ≡ text.old ++ refusal_message name.now (AtLine line kind)) }
 {
-    let mut digits = Buffer::new();
-    text.append(name)?;
-    text.append(b" line ")?;
-    text.append(digits.format(line).as_bytes())?;
-    text.append(b": ")?;
-    text.append(conf_kind_name(kind))?;
+    append_at_line(text, name, line, conf_kind_name(kind))
+}
+
+/// The same of a leg behind another mixer.
+pub(crate) fn append_trunk(text: &mut Bytes, name: &[u8], line: u32) -> Result<(), NoMemory>
+    ensures { OnOk result (text.new ≡ text.old ++ refusal_message name.now (AtTrunk line)) }
+{
+    append_at_line(text, name, line, b"Trunk")
+}
+
+/// A hexadecimal digit.
+fn hex_digit(digit: u8) -> u8
+    requires { digit < 16 }
+    ensures { result ≡ hex_digit digit }
+{
+    if digit < 10 { b'0' + digit } else { 87 + digit }
+}
+
+/// Appends an octet in hexadecimal digits.
+fn append_hex_octet(text: &mut Bytes, octet: u8) -> Result<(), NoMemory>
+    ensures { OnOk result (text.new ≡ text.old ++ hex_octet octet) }
+{
+    text.append(&[b' ', hex_digit(octet / 16), hex_digit(octet % 16)])
+}
+
+/// The same of each of these.
+fn append_hex(text: &mut Bytes, octets: &[u8]) -> Result<(), NoMemory>
+    ensures { OnOk result (text.new ≡ text.old ++ flat_map hex_octet octets.now) }
+{
+    match octets {
+        [octet, more @ ..] => {
+            append_hex_octet(text, *octet)?;
+            append_hex(text, more)
+        }
+        [] => Ok(()),
+    }
+}
+
+/// What is shown of octets at a byte: not more than are shown of any.
+fn first_octets(octets: &[u8]) -> &[u8]
+    ensures { result.now ≡ take MOST_SHOWN_AT_BYTE octets.now }
+{
+    if octets.len() > MOST_SHOWN_AT_BYTE {
+        &octets[..MOST_SHOWN_AT_BYTE]
+    } else {
+        octets
+    }
+}
+
+/// Appends the first of these octets, where there is one.
+fn append_shown_octets(text: &mut Bytes, octets: &[u8]) -> Result<(), NoMemory>
+    ensures { OnOk result (text.new ≡ text.old ++ shown_octets octets.now) }
+{
+    if octets.is_empty() {
+        return Ok(());
+    }
+    text.append(b"|")?;
+    append_hex(text, first_octets(octets))?;
     text.append(b"\n")
+}
+
+/// What stands in a file from this byte on.
+fn octets_from(octets: &[u8], byte: u64) -> &[u8]
+    ensures { result.now ≡ drop byte octets.now }
+{
+    if byte < octets.len() as u64 {
+        &octets[byte as usize..]
+    } else {
+        &[]
+    }
+}
+
+/// Appends the octets that stand at this byte of a file.
+pub(crate) fn append_shown_at(text: &mut Bytes, octets: &[u8], byte: u64) -> Result<(), NoMemory>
+    ensures { OnOk result (text.new ≡ text.old ++ shown_at octets.now byte) }
+{
+    append_shown_octets(text, octets_from(octets, byte))
 }
 
 /// An octet as it is shown.

@@ -4,23 +4,27 @@ ghost use Rattle.std.specs.Str.Lines.{lines};
 ghost use Rattle.check_spec.specs.declared.forms.FileForm.TheVariants as form;
 ghost use Rattle.check_spec.specs.Checking as checking;
 ghost use Rattle.check_spec.specs.Sentences.{dump_sentence, form_name, frame_sentence};
+ghost use Rattle.command_spec.specs.Cascading.{odd_line};
 ghost use Rattle.command_spec.specs.Frames.{AreTyped};
 ghost use Rattle.command_spec.specs.Scripts.{full_line};
-ghost use Rattle.command_spec.specs.declared.faults.Refusal.TheVariants.{AtByte, AtFrame, AtLine};
+ghost use Rattle.command_spec.specs.declared.faults.Refusal.TheVariants.{AtByte, AtFrame, AtLine, AtTrunk};
 ghost use Rattle.rtt_check.specs.Reports.{as_told};
 
 use crate::forms::{foreign, form_of, has_mark};
 use crate::lines::{line_at, word_in};
 use crate::packets::count_packets;
-use crate::refusals::{append_dump, append_frame, append_line, append_shown};
-use crate::sentences::{
-    MARK_SENTENCE, conf_sentence, dump_sentence, form_name, form_sentence, frame_sentence,
-    script_sentence,
+use crate::refusals::{
+    append_dump, append_frame, append_line, append_shown, append_shown_at, append_trunk,
 };
+use crate::sentences::{
+    CASCADE_NAME, MARK_SENTENCE, conf_sentence, dump_sentence, form_name, form_sentence,
+    frame_sentence, script_sentence, trunk_sentence,
+};
+use crate::trunks::{is_on_trunk, odd_line};
 use check_spec::FileForm;
 use check_spec::limits::MOST_CHECKED_OCTETS;
 use conf_text::{ConfFault, read_conf};
-use file_spec::{ConfKind, Form};
+use file_spec::{ConfKind, Form, LegLine};
 use frame_spec::FrameFault;
 use itoa::Buffer;
 use rtpdump_io::{DumpFault, DumpReader, RecordingFault};
@@ -39,18 +43,25 @@ pub struct Report {
     pub taken: bool,
 }
 
-/// A file that is whole, with so many of a unit.
-fn whole(alloc: Global, form: FileForm, count: u64, unit: &[u8]) -> Result<Report, NoMemory>
-    ensures { IfOk result (λ report. as_told report ≡ checking.whole form count unit.now) }
+/// What is told as this is whole, with so many of a unit.
+fn whole_as(alloc: Global, what: &[u8], count: u64, unit: &[u8]) -> Result<Report, NoMemory>
+    ensures { IfOk result (λ report. as_told report ≡ checking.whole_as what.now count unit.now) }
 {
     let mut digits = Buffer::new();
     let mut text = Bytes::new(alloc);
-    text.append(form_name(form))?;
+    text.append(what)?;
     text.append(b": ")?;
     text.append(digits.format(count).as_bytes())?;
     text.append(unit)?;
     text.append(b", whole\n")?;
     Ok(Report { text, taken: true })
+}
+
+/// A file that is whole, with so many of a unit.
+fn whole(alloc: Global, form: FileForm, count: u64, unit: &[u8]) -> Result<Report, NoMemory>
+    ensures { IfOk result (λ report. as_told report ≡ checking.whole form count unit.now) }
+{
+    whole_as(alloc, form_name(form), count, unit)
 }
 
 /// A file of which nothing is taken.
@@ -93,11 +104,18 @@ fn copy_of(alloc: Global, octets: &[u8]) -> Result<Bytes, NoMemory>
 }
 
 /// A recording that is refused.
-fn dump_refused(alloc: Global, name: &[u8], fault: DumpFault) -> Result<Report, NoMemory>
-    ensures { IfOk result (λ report. as_told report ≡ checking.refused form.Recording name.now (AtByte fault.offset fault.kind) [] (dump_sentence fault.kind)) }
+fn dump_refused(
+    alloc: Global,
+    name: &[u8],
+    octets: &[u8],
+    fault: DumpFault,
+) -> Result<Report, NoMemory>
+    ensures { IfOk result (λ report. as_told report ≡ checking.refused form.Recording name.now (AtByte fault.offset fault.kind)
+        (checking.shown_at octets.now fault.offset) (dump_sentence fault.kind)) }
 {
     let mut text = begin(alloc, FileForm::Recording)?;
     append_dump(&mut text, name, fault.offset, fault.kind)?;
+    append_shown_at(&mut text, octets, fault.offset)?;
     end(text, dump_sentence(fault.kind))
 }
 
@@ -108,7 +126,7 @@ fn recording_report(alloc: Global, name: &[u8], octets: &[u8]) -> Result<Report,
     let mut reader = DumpReader::new(SteadySource::new(copy));
     match count_packets(&mut reader) {
         Ok(packets) => whole(alloc, FileForm::Recording, u64::from(packets), b" packets"),
-        Err(RecordingFault::Dump(fault)) => dump_refused(alloc, name, fault),
+        Err(RecordingFault::Dump(fault)) => dump_refused(alloc, name, octets, fault),
         Err(RecordingFault::NoMemory) => Err(NoMemory),
     }
 }
@@ -196,11 +214,84 @@ fn form_in(form: Form) -> FileForm
     }
 }
 
+/// Whether a leg stands behind another mixer.
+fn has_trunk(legs: &[LegLine]) -> bool
+    ensures { result ≡ checking.has_trunk legs.now }
+{
+    match legs {
+        [leg, more @ ..] => is_on_trunk(leg) || has_trunk(more),
+        [] => false,
+    }
+}
+
+/// What a conference of recordings with these legs is.
+fn recordings_name(legs: &[LegLine]) -> &'static [u8]
+    ensures { result.now ≡ checking.recordings_name legs.now }
+{
+    if has_trunk(legs) {
+        CASCADE_NAME
+    } else {
+        form_name(FileForm::Recordings)
+    }
+}
+
+/// A file of this form in which a leg behind another mixer has other payload types than the recording of that has.
+fn trunk_refused(
+    alloc: Global,
+    form: FileForm,
+    name: &[u8],
+    octets: &[u8],
+    line: u32,
+    sentence: &[u8],
+) -> Result<Report, NoMemory>
+    ensures { IfOk result (λ report. as_told report ≡ checking.refused form name.now (AtTrunk line)
+        (checking.shown (checking.line_at line (lines octets.now))) sentence.now) }
+{
+    let mut text = begin(alloc, form)?;
+    append_trunk(&mut text, name, line)?;
+    append_shown(&mut text, line_at(octets, line))?;
+    end(text, sentence)
+}
+
+/// A conference of recordings that is whole, unless it is wrong for `cascade`.
+fn unless_odd(
+    alloc: Global,
+    name: &[u8],
+    octets: &[u8],
+    legs: &[LegLine],
+) -> Result<Report, NoMemory>
+    ensures { IfOk result (λ report. as_told report ≡ checking.unless_odd name.now octets.now legs.now (odd_line legs.now)) }
+{
+    match odd_line(legs) {
+        Some(line) => {
+            let sentence = trunk_sentence();
+            trunk_refused(alloc, FileForm::Recordings, name, octets, line, sentence)
+        }
+        None => whole_as(alloc, recordings_name(legs), legs.len() as u64, b" legs"),
+    }
+}
+
+/// A conference that was read.
+fn conf_whole(
+    alloc: Global,
+    form: Form,
+    name: &[u8],
+    octets: &[u8],
+    legs: &[LegLine],
+) -> Result<Report, NoMemory>
+    ensures { IfOk result (λ report. as_told report ≡ checking.conf_whole form name.now octets.now legs.now) }
+{
+    match form {
+        Form::Files => unless_odd(alloc, name, octets, legs),
+        Form::Links => whole(alloc, FileForm::Links, legs.len() as u64, b" legs"),
+    }
+}
+
 fn conf_report(alloc: Global, form: Form, name: &[u8], octets: &[u8]) -> Result<Report, NoMemory>
     ensures { IfOk result (λ report. as_told report ≡ checking.conf_report form name.now octets.now) }
 {
     match read_conf(alloc, octets, form) {
-        Ok(conf) => whole(alloc, form_in(form), conf.legs.len() as u64, b" legs"),
+        Ok(conf) => conf_whole(alloc, form, name, octets, conf.legs.as_slice()),
         Err(ConfFault::Refused { line, kind }) => {
             let word = word_in(alloc, line_at(octets, line))?;
             let sentence = conf_sentence(form, word, kind);
@@ -211,11 +302,18 @@ fn conf_report(alloc: Global, form: Form, name: &[u8], octets: &[u8]) -> Result<
 }
 
 /// Frames that are refused.
-fn frame_refused(alloc: Global, name: &[u8], fault: FrameFault) -> Result<Report, NoMemory>
-    ensures { IfOk result (λ report. as_told report ≡ checking.refused form.Frames name.now (AtFrame fault.offset fault.kind) [] (frame_sentence fault.kind)) }
+fn frame_refused(
+    alloc: Global,
+    name: &[u8],
+    octets: &[u8],
+    fault: FrameFault,
+) -> Result<Report, NoMemory>
+    ensures { IfOk result (λ report. as_told report ≡ checking.refused form.Frames name.now (AtFrame fault.offset fault.kind)
+        (checking.shown_at octets.now fault.offset) (frame_sentence fault.kind)) }
 {
     let mut text = begin(alloc, FileForm::Frames)?;
     append_frame(&mut text, name, fault.offset, fault.kind)?;
+    append_shown_at(&mut text, octets, fault.offset)?;
     end(text, frame_sentence(fault.kind))
 }
 
@@ -224,7 +322,7 @@ fn frames_report(alloc: Global, name: &[u8], octets: &[u8]) -> Result<Report, No
 {
     match relay_frames(alloc, octets, usual_conf(0, 0, 0)) {
         Ok(_) => whole(alloc, FileForm::Frames, octets.len() as u64, b" octets"),
-        Err(RelayFault::Refused(fault)) => frame_refused(alloc, name, fault),
+        Err(RelayFault::Refused(fault)) => frame_refused(alloc, name, octets, fault),
         Err(RelayFault::NoMemory) => Err(NoMemory),
     }
 }
@@ -248,7 +346,7 @@ fn report_as(alloc: Global, form: FileForm, name: &[u8], octets: &[u8]) -> Resul
     }
 }
 
-/// What is told of a file of this name that has these octets.
+/// What is told of a file of this name that has these octets, alone.
 pub fn report_of(alloc: Global, name: &[u8], octets: &[u8]) -> Result<Report, NoMemory>
     ensures { IfOk result (λ report. as_told report ≡ checking.report name.now octets.now) }
 {

@@ -1,6 +1,6 @@
 //! What is wrong with a file, and what to do.
 ghost use Rattle.std.specs.Prelude.{◌≡◌};
-ghost use Rattle.check_spec.specs.Sentences.{clash_sentence, conf_sentence, count_sentence, dump_sentence, form_name, form_sentence, frame_sentence, many_sentence, name_sentence, number_sentence, script_sentence, twice_sentence, word_sentence};
+ghost use Rattle.check_spec.specs.Sentences.{clash_sentence, conf_sentence, count_sentence, dump_sentence, form_name, form_sentence, frame_sentence, many_sentence, name_sentence, number_sentence, script_sentence, trunk_sentence, twice_sentence, word_sentence};
 
 use check_spec::{FileForm, LineWord};
 use file_spec::{ConfKind, Form};
@@ -142,6 +142,10 @@ fn word_sentence(form: Form, word: LineWord) -> &'static [u8]
             b"a line begins with mixer, leg, gens, stay, tick, spacing, wait, turns, relabel, lose, delay or twice, in small letters, or with # as its first octet: correct the word, and part words by spaces, not by tabs",
         (Form::Files, LineWord::Relabel) =>
             b"a line begins with mixer, leg, gens, stay, tick, spacing, wait, turns, relabel, lose, delay or twice, in small letters, or with # as its first octet: correct the word, and part words by spaces, not by tabs",
+        (Form::Files, LineWord::Gone) =>
+            b"a conference of recordings has no lines gone and operator: leave the line out",
+        (Form::Files, LineWord::Operator) =>
+            b"a conference of recordings has no lines gone and operator: leave the line out",
         (Form::Files, LineWord::Lose) =>
             b"a line begins with mixer, leg, gens, stay, tick, spacing, wait, turns, relabel, lose, delay or twice, in small letters, or with # as its first octet: correct the word, and part words by spaces, not by tabs",
         (Form::Files, LineWord::Delay) =>
@@ -153,21 +157,25 @@ fn word_sentence(form: Form, word: LineWord) -> &'static [u8]
         (Form::Links, LineWord::Leg) =>
             b"behind the name of a leg stands aware or unaware, in small letters",
         (Form::Links, LineWord::Mixer) =>
-            b"a line begins with mixer, leg, gens, stay, tick, spacing, wait, turns, relabel, lose, delay or twice, in small letters, or with # as its first octet: correct the word, and part words by spaces, not by tabs",
+            b"a line begins with mixer, leg, gens, tick, spacing, wait, turns, relabel, gone or operator, in small letters, or with # as its first octet: correct the word, and part words by spaces, not by tabs",
         (Form::Links, LineWord::Gens) =>
-            b"a line begins with mixer, leg, gens, stay, tick, spacing, wait, turns, relabel, lose, delay or twice, in small letters, or with # as its first octet: correct the word, and part words by spaces, not by tabs",
+            b"a line begins with mixer, leg, gens, tick, spacing, wait, turns, relabel, gone or operator, in small letters, or with # as its first octet: correct the word, and part words by spaces, not by tabs",
         (Form::Links, LineWord::Stay) =>
             b"a conference of links has no lines stay, lose, delay and twice: leave the line out",
         (Form::Links, LineWord::Tick) =>
-            b"a line begins with mixer, leg, gens, stay, tick, spacing, wait, turns, relabel, lose, delay or twice, in small letters, or with # as its first octet: correct the word, and part words by spaces, not by tabs",
+            b"a line begins with mixer, leg, gens, tick, spacing, wait, turns, relabel, gone or operator, in small letters, or with # as its first octet: correct the word, and part words by spaces, not by tabs",
         (Form::Links, LineWord::Spacing) =>
-            b"a line begins with mixer, leg, gens, stay, tick, spacing, wait, turns, relabel, lose, delay or twice, in small letters, or with # as its first octet: correct the word, and part words by spaces, not by tabs",
+            b"a line begins with mixer, leg, gens, tick, spacing, wait, turns, relabel, gone or operator, in small letters, or with # as its first octet: correct the word, and part words by spaces, not by tabs",
         (Form::Links, LineWord::Wait) =>
-            b"a line begins with mixer, leg, gens, stay, tick, spacing, wait, turns, relabel, lose, delay or twice, in small letters, or with # as its first octet: correct the word, and part words by spaces, not by tabs",
+            b"a line begins with mixer, leg, gens, tick, spacing, wait, turns, relabel, gone or operator, in small letters, or with # as its first octet: correct the word, and part words by spaces, not by tabs",
         (Form::Links, LineWord::Turns) =>
-            b"a line begins with mixer, leg, gens, stay, tick, spacing, wait, turns, relabel, lose, delay or twice, in small letters, or with # as its first octet: correct the word, and part words by spaces, not by tabs",
+            b"a line begins with mixer, leg, gens, tick, spacing, wait, turns, relabel, gone or operator, in small letters, or with # as its first octet: correct the word, and part words by spaces, not by tabs",
         (Form::Links, LineWord::Relabel) =>
-            b"a line begins with mixer, leg, gens, stay, tick, spacing, wait, turns, relabel, lose, delay or twice, in small letters, or with # as its first octet: correct the word, and part words by spaces, not by tabs",
+            b"a line begins with mixer, leg, gens, tick, spacing, wait, turns, relabel, gone or operator, in small letters, or with # as its first octet: correct the word, and part words by spaces, not by tabs",
+        (Form::Links, LineWord::Gone) =>
+            b"a line begins with mixer, leg, gens, tick, spacing, wait, turns, relabel, gone or operator, in small letters, or with # as its first octet: correct the word, and part words by spaces, not by tabs",
+        (Form::Links, LineWord::Operator) =>
+            b"a line begins with mixer, leg, gens, tick, spacing, wait, turns, relabel, gone or operator, in small letters, or with # as its first octet: correct the word, and part words by spaces, not by tabs",
         (Form::Links, LineWord::Lose) =>
             b"a conference of links has no lines stay, lose, delay and twice: leave the line out",
         (Form::Links, LineWord::Delay) =>
@@ -175,7 +183,7 @@ fn word_sentence(form: Form, word: LineWord) -> &'static [u8]
         (Form::Links, LineWord::Twice) =>
             b"a conference of links has no lines stay, lose, delay and twice: leave the line out",
         (Form::Links, LineWord::Other) =>
-            b"a line begins with mixer, leg, gens, stay, tick, spacing, wait, turns, relabel, lose, delay or twice, in small letters, or with # as its first octet: correct the word, and part words by spaces, not by tabs",
+            b"a line begins with mixer, leg, gens, tick, spacing, wait, turns, relabel, gone or operator, in small letters, or with # as its first octet: correct the word, and part words by spaces, not by tabs",
     }
 }
 
@@ -200,6 +208,9 @@ fn count_sentence(word: LineWord) -> &'static [u8]
             b"one number stands behind the word, and nothing else: a comment needs a line of its own",
         LineWord::Relabel =>
             b"one number stands behind the word, and nothing else: a comment needs a line of its own",
+        LineWord::Gone =>
+            b"one number stands behind the word, and nothing else: a comment needs a line of its own",
+        LineWord::Operator => b"operator has the words PORT WORD, and no other",
         LineWord::Lose => b"lose has the words NAME K, and no other",
         LineWord::Delay => b"delay has the words NAME K MS, and no other",
         LineWord::Twice => b"twice has the words NAME K, and no other",
@@ -231,6 +242,9 @@ fn name_sentence(word: LineWord) -> &'static [u8]
             b"no leg above has this name: correct it, or move the line below that of the leg",
         LineWord::Relabel =>
             b"no leg above has this name: correct it, or move the line below that of the leg",
+        LineWord::Gone =>
+            b"no leg above has this name: correct it, or move the line below that of the leg",
+        LineWord::Operator => b"WORD has 8 to 64 letters A to Z and a to z and digits",
         LineWord::Lose =>
             b"no leg above has this name: correct it, or move the line below that of the leg",
         LineWord::Delay =>
@@ -260,6 +274,8 @@ fn number_sentence(form: Form, word: LineWord) -> &'static [u8]
         (Form::Files, LineWord::Turns) => b"turns is a number from 1 to 5000000",
         (Form::Files, LineWord::Relabel) =>
             b"relabel is a number of milliseconds from 2000 to 60000",
+        (Form::Files, LineWord::Gone) => b"gone is a number of milliseconds from 10000 to 86400000",
+        (Form::Files, LineWord::Operator) => b"PORT is a number from 1 to 65535",
         (Form::Files, LineWord::Lose) => b"the number of a packet is one from 0 to 4294967295",
         (Form::Files, LineWord::Delay) =>
             b"the number of a packet is one from 0 to 4294967295, and MS one of milliseconds up to 60000",
@@ -278,6 +294,8 @@ fn number_sentence(form: Form, word: LineWord) -> &'static [u8]
         (Form::Links, LineWord::Turns) => b"turns is a number from 1 to 5000000",
         (Form::Links, LineWord::Relabel) =>
             b"relabel is a number of milliseconds from 2000 to 60000",
+        (Form::Links, LineWord::Gone) => b"gone is a number of milliseconds from 10000 to 86400000",
+        (Form::Links, LineWord::Operator) => b"PORT is a number from 1 to 65535",
         (Form::Links, LineWord::Lose) => b"the number of a packet is one from 0 to 4294967295",
         (Form::Links, LineWord::Delay) =>
             b"the number of a packet is one from 0 to 4294967295, and MS one of milliseconds up to 60000",
@@ -300,6 +318,8 @@ fn twice_sentence(word: LineWord) -> &'static [u8]
         LineWord::Wait => b"a line above says it: leave one of them out",
         LineWord::Turns => b"a line above says it: leave one of them out",
         LineWord::Relabel => b"a line above says it: leave one of them out",
+        LineWord::Gone => b"a line above says it: leave one of them out",
+        LineWord::Operator => b"a line above says it: leave one of them out",
         LineWord::Lose => b"a line above says it of this packet: leave one of them out",
         LineWord::Delay => b"a line above says it of this packet: leave one of them out",
         LineWord::Twice => b"a line above says it of this packet: leave one of them out",
@@ -322,12 +342,15 @@ fn clash_sentence(form: Form, word: LineWord) -> &'static [u8]
         (Form::Files, LineWord::Wait) => b"a leg above has this SSRC: give the mixer its own",
         (Form::Files, LineWord::Turns) => b"a leg above has this SSRC: give the mixer its own",
         (Form::Files, LineWord::Relabel) => b"a leg above has this SSRC: give the mixer its own",
+        (Form::Files, LineWord::Gone) => b"a leg above has this SSRC: give the mixer its own",
+        (Form::Files, LineWord::Operator) =>
+            b"a leg above has this port: give the operator its own",
         (Form::Files, LineWord::Lose) => b"a leg above has this SSRC: give the mixer its own",
         (Form::Files, LineWord::Delay) => b"a leg above has this SSRC: give the mixer its own",
         (Form::Files, LineWord::Twice) => b"a leg above has this SSRC: give the mixer its own",
         (Form::Files, LineWord::Other) => b"a leg above has this SSRC: give the mixer its own",
         (Form::Links, LineWord::Leg) =>
-            b"the SSRC is that of a leg or the mixer above, the IN or the OUT is that of a leg above, or the two payload types are the same: give each its own",
+            b"the SSRC is that of a leg or the mixer above, the IN is that of a leg or the operator above, the OUT is that of a leg above, or the two payload types are the same: give each its own",
         (Form::Links, LineWord::Mixer) => b"a leg above has this SSRC: give the mixer its own",
         (Form::Links, LineWord::Gens) => b"a leg above has this SSRC: give the mixer its own",
         (Form::Links, LineWord::Stay) => b"a leg above has this SSRC: give the mixer its own",
@@ -336,6 +359,9 @@ fn clash_sentence(form: Form, word: LineWord) -> &'static [u8]
         (Form::Links, LineWord::Wait) => b"a leg above has this SSRC: give the mixer its own",
         (Form::Links, LineWord::Turns) => b"a leg above has this SSRC: give the mixer its own",
         (Form::Links, LineWord::Relabel) => b"a leg above has this SSRC: give the mixer its own",
+        (Form::Links, LineWord::Gone) => b"a leg above has this SSRC: give the mixer its own",
+        (Form::Links, LineWord::Operator) =>
+            b"a leg above has this port: give the operator its own",
         (Form::Links, LineWord::Lose) => b"a leg above has this SSRC: give the mixer its own",
         (Form::Links, LineWord::Delay) => b"a leg above has this SSRC: give the mixer its own",
         (Form::Links, LineWord::Twice) => b"a leg above has this SSRC: give the mixer its own",
@@ -383,3 +409,13 @@ pub(crate) fn conf_sentence(form: Form, word: LineWord, kind: ConfKind) -> &'sta
 /// What is wrong where the file begins with a byte order mark.
 pub(crate) const MARK_SENTENCE: &[u8] =
     b"the file begins with a byte order mark: save it as UTF-8 without one";
+
+/// What a conference of recordings is that is right for `cascade`.
+pub(crate) const CASCADE_NAME: &[u8] = b"conference of recordings, for cascade";
+
+/// What is wrong with a leg behind another mixer.
+pub(crate) fn trunk_sentence() -> &'static [u8]
+    ensures { result.now ≡ trunk_sentence }
+{
+    b"the recording of another mixer has the payload types 98 and 100: leave them out of the line, or name another IN than trunk"
+}

@@ -9,7 +9,7 @@ fn tells(alloc: Global, octets: &[u8], wanted: &[u8]) -> Result<bool, NoMemory> 
     Ok(report.text.as_slice() == wanted)
 }
 
-const TOLD: [(&str, &str); 24] = [
+const TOLD: [(&str, &str); 22] = [
     (
         "mixer 9 0 0\nleg A aware 1 a.in a.out\nleg B aware 2 b.in b.out\nleg C deaf 3 c d\n",
         "conference of recordings\nf line 4: Word\n| leg C deaf 3 c d\nbehind the name of a leg stands aware or unaware, in small letters\n",
@@ -43,28 +43,20 @@ const TOLD: [(&str, &str); 24] = [
         "conference of recordings\nf line 19: Crowd\nat some moment more than 16 legs stay: give legs stays, so that one goes before another comes\n",
     ),
     (
-        "mixer 999 0 0\nleg L10 aware 10 5010 [::1]:10\nleg L11 aware 11 5011 [::1]:11\nleg L12 aware 12 5012 [::1]:12\nleg L13 aware 13 5013 [::1]:13\nleg L14 aware 14 5014 [::1]:14\nleg L15 aware 15 5015 [::1]:15\nleg L16 aware 16 5016 [::1]:16\nleg L17 aware 17 5017 [::1]:17\nleg L18 aware 18 5018 [::1]:18\nleg L19 aware 19 5019 [::1]:19\nleg L20 aware 20 5020 [::1]:20\nleg L21 aware 21 5021 [::1]:21\nleg L22 aware 22 5022 [::1]:22\nleg L23 aware 23 5023 [::1]:23\nleg L24 aware 24 5024 [::1]:24\nleg L25 aware 25 5025 [::1]:25\nleg L26 aware 26 5026 [::1]:26\n",
-        "conference of links\nf line 18: Many\n| leg L26 aware 26 5026 [::1]:26\na conference of links has at most 16 legs\n",
-    ),
-    (
-        "mixer 9 0 0\nleg A aware 1 5001 127.0.0.1:5101\nleg B aware 2 5002 127.0.0.1:5102\nstay A 0 1000\n",
-        "conference of links\nf line 4: Word\n| stay A 0 1000\na conference of links has no lines stay, lose, delay and twice: leave the line out\n",
-    ),
-    (
-        "mixer 9 0 0\nleg A aware 1 5001 127.0.0.1:5101\nleg B aware 2 5002 127.0.0.1:5102\nleg C aware 3 0 127.0.0.1:1\n",
-        "conference of links\nf line 4: Number\n| leg C aware 3 0 127.0.0.1:1\nSSRC is a number up to 4294967295, in decimal digits, IN is a port from 1 to 65535, and T140 and RED are numbers from 96 to 127\n",
-    ),
-    (
-        "mixer 9 0 0\nleg A aware 1 5001 127.0.0.1:5101\nleg B aware 2 5002 127.0.0.1:5102\nleg C aware 3 5001 127.0.0.1:1\n",
-        "conference of links\nf line 4: Clash\n| leg C aware 3 5001 127.0.0.1:1\nthe SSRC is that of a leg or the mixer above, the IN or the OUT is that of a leg above, or the two payload types are the same: give each its own\n",
+        "mixer 9 0 0\nleg A aware 1 a.in a.out\nleg B aware 2 b.in b.out\ngone 60000\n",
+        "conference of recordings\nf line 4: Word\n| gone 60000\na conference of recordings has no lines gone and operator: leave the line out\n",
     ),
     (
         "mixer 9 0 0\nleg A aware 1 a.in a.out\nleg B aware 2 b.in b.out\n",
         "conference of recordings: 2 legs, whole\n",
     ),
     (
-        "mixer 9 0 0\nleg A aware 1 5001 127.0.0.1:5101\nleg B aware 2 5002 127.0.0.1:5102\n",
-        "conference of links: 2 legs, whole\n",
+        "mixer 9 0 0\nleg A aware 1 trunk a.out\nleg B aware 2 b.in b.out\n",
+        "conference of recordings, for cascade: 2 legs, whole\n",
+    ),
+    (
+        "mixer 9 0 0\nleg A aware 1 trunk a.out 96 97\nleg B aware 2 b.in b.out\n",
+        "conference of recordings\nf line 2: Trunk\n| leg A aware 1 trunk a.out 96 97\nthe recording of another mixer has the payload types 98 and 100: leave them out of the line, or name another IN than trunk\n",
     ),
     (
         "0\tHi\n",
@@ -98,13 +90,68 @@ const TOLD: [(&str, &str); 24] = [
     ),
     (
         "#!rtpplay1.0 a/1",
-        "recording\nf byte 0: NotDump\nthere is no line feed among the first 128 octets: export the recording as rtpdump anew\n",
+        "recording\nf byte 0: NotDump\n| 23 21 72 74 70 70 6c 61 79 31 2e 30 20 61 2f 31\nthere is no line feed among the first 128 octets: export the recording as rtpdump anew\n",
+    ),
+];
+
+const TOLD_OF_LINKS: [(&str, &str); 11] = [
+    (
+        "mixer 999 0 0\nleg L10 aware 10 5010 [::1]:10\nleg L11 aware 11 5011 [::1]:11\nleg L12 aware 12 5012 [::1]:12\nleg L13 aware 13 5013 [::1]:13\nleg L14 aware 14 5014 [::1]:14\nleg L15 aware 15 5015 [::1]:15\nleg L16 aware 16 5016 [::1]:16\nleg L17 aware 17 5017 [::1]:17\nleg L18 aware 18 5018 [::1]:18\nleg L19 aware 19 5019 [::1]:19\nleg L20 aware 20 5020 [::1]:20\nleg L21 aware 21 5021 [::1]:21\nleg L22 aware 22 5022 [::1]:22\nleg L23 aware 23 5023 [::1]:23\nleg L24 aware 24 5024 [::1]:24\nleg L25 aware 25 5025 [::1]:25\nleg L26 aware 26 5026 [::1]:26\n",
+        "conference of links\nf line 18: Many\n| leg L26 aware 26 5026 [::1]:26\na conference of links has at most 16 legs\n",
+    ),
+    (
+        "mixer 9 0 0\nleg A aware 1 5001 127.0.0.1:5101\nleg B aware 2 5002 127.0.0.1:5102\nstay A 0 1000\n",
+        "conference of links\nf line 4: Word\n| stay A 0 1000\na conference of links has no lines stay, lose, delay and twice: leave the line out\n",
+    ),
+    (
+        "mixer 9 0 0\nleg A aware 1 5001 127.0.0.1:5101\nleg B aware 2 5002 127.0.0.1:5102\nleg C aware 3 0 127.0.0.1:1\n",
+        "conference of links\nf line 4: Number\n| leg C aware 3 0 127.0.0.1:1\nSSRC is a number up to 4294967295, in decimal digits, IN is a port from 1 to 65535, and T140 and RED are numbers from 96 to 127\n",
+    ),
+    (
+        "mixer 9 0 0\nleg A aware 1 5001 127.0.0.1:5101\nleg B aware 2 5002 127.0.0.1:5102\nleg C aware 3 5001 127.0.0.1:1\n",
+        "conference of links\nf line 4: Clash\n| leg C aware 3 5001 127.0.0.1:1\nthe SSRC is that of a leg or the mixer above, the IN is that of a leg or the operator above, the OUT is that of a leg above, or the two payload types are the same: give each its own\n",
+    ),
+    (
+        "mixer 9 0 0\nleg A aware 1 5001 127.0.0.1:5101\nleg B aware 2 5002 127.0.0.1:5102\nseat A\n",
+        "conference of links\nf line 4: Word\n| seat A\na line begins with mixer, leg, gens, tick, spacing, wait, turns, relabel, gone or operator, in small letters, or with # as its first octet: correct the word, and part words by spaces, not by tabs\n",
+    ),
+    (
+        "mixer 9 0 0\nleg A aware 1 5001 127.0.0.1:5101\nleg B aware 2 5002 127.0.0.1:5102\ngone 9999\n",
+        "conference of links\nf line 4: Number\n| gone 9999\ngone is a number of milliseconds from 10000 to 86400000\n",
+    ),
+    (
+        "mixer 9 0 0\nleg A aware 1 5001 127.0.0.1:5101\nleg B aware 2 5002 127.0.0.1:5102\noperator 6100\n",
+        "conference of links\nf line 4: Count\n| operator 6100\noperator has the words PORT WORD, and no other\n",
+    ),
+    (
+        "mixer 9 0 0\nleg A aware 1 5001 127.0.0.1:5101\nleg B aware 2 5002 127.0.0.1:5102\noperator 6100 seven77\n",
+        "conference of links\nf line 4: Name\n| operator 6100 seven77\nWORD has 8 to 64 letters A to Z and a to z and digits\n",
+    ),
+    (
+        "mixer 9 0 0\nleg A aware 1 5001 127.0.0.1:5101\nleg B aware 2 5002 127.0.0.1:5102\noperator 0 Word4Watch\n",
+        "conference of links\nf line 4: Number\n| operator 0 Word4Watch\nPORT is a number from 1 to 65535\n",
+    ),
+    (
+        "mixer 9 0 0\nleg A aware 1 5001 127.0.0.1:5101\nleg B aware 2 5002 127.0.0.1:5102\noperator 5001 Word4Watch\n",
+        "conference of links\nf line 4: Clash\n| operator 5001 Word4Watch\na leg above has this port: give the operator its own\n",
+    ),
+    (
+        "mixer 9 0 0\nleg A aware 1 5001 127.0.0.1:5101\nleg B aware 2 5002 127.0.0.1:5102\n",
+        "conference of links: 2 legs, whole\n",
     ),
 ];
 
 #[test]
 fn each_kind_of_fault_has_its_sentence(rt: HostRuntime) -> Result<(), Fail> {
     for (octets, wanted) in &TOLD {
+        assert!(rt; tells(rt.alloc(), octets.as_bytes(), wanted.as_bytes())?);
+    }
+    Ok(())
+}
+
+#[test]
+fn each_kind_of_fault_of_links_has_its_sentence(rt: HostRuntime) -> Result<(), Fail> {
+    for (octets, wanted) in &TOLD_OF_LINKS {
         assert!(rt; tells(rt.alloc(), octets.as_bytes(), wanted.as_bytes())?);
     }
     Ok(())
@@ -117,15 +164,15 @@ const TOLD_OF_OCTETS: [(&[u8], &str); 20] = [
     ),
     (
         b"#!rtpplay1.0 127.0.0.1/5004\x0A\x00\x00\x00\x00\x00\x00\x00\x00\x00\x00\x00\x00\x00\x00\x00\x00\x00\x15\x00\x0D\x00\x00\x00\x00\x80b\x00\x00\x00\x00\x00\x00\x00\x00\x03\xE9A\x00\x1E",
-        "recording\nf byte 65: EndsInside\nthe file ends inside the head or the record that begins at this byte: it was broken off; keep what stands before it, which show prints\n",
+        "recording\nf byte 65: EndsInside\n| 00 1e\nthe file ends inside the head or the record that begins at this byte: it was broken off; keep what stands before it, which show prints\n",
     ),
     (
         b"#!rtpplay1.0 127.0.0.1/5004\x0A\x00\x00\x00\x00\x00\x00\x00\x00\x00\x00\x00\x00\x00\x00\x00\x00\x00\x07\x00\x00\x00\x00\x00\x00",
-        "recording\nf byte 44: BadLength\nthe length of a record is below 8, so the file is damaged from this byte on: keep what stands before it, which show prints\n",
+        "recording\nf byte 44: BadLength\n| 00 07 00 00 00 00 00 00\nthe length of a record is below 8, so the file is damaged from this byte on: keep what stands before it, which show prints\n",
     ),
     (
         b"#!rtpplay1.0 127.0.0.1/5004\x0A\x00\x00\x00\x00\x00\x00\x00\x00\x00\x00\x00\x00\x00\x00\x00\x00\x00\x15\x00\x0D\x00\xDB\xBA\x01\x80b\x00\x00\x00\x00\x00\x00\x00\x00\x03\xE9A",
-        "recording\nf byte 44: TooLong\nthe time of a record is above 14400000 milliseconds: export the call in parts, each with times from 0\n",
+        "recording\nf byte 44: TooLong\n| 00 15 00 0d 00 db ba 01 80 62 00 00 00 00 00 00\nthe time of a record is above 14400000 milliseconds: export the call in parts, each with times from 0\n",
     ),
     (
         b"\x00\x00\x00\x00\x00\x01A\x00\x00\x01,\x00\x01B",
@@ -133,19 +180,19 @@ const TOLD_OF_OCTETS: [(&[u8], &str); 20] = [
     ),
     (
         b"\x00\x00\x00\x00\x00\x01A\x00\x00\x01,\x00\x01",
-        "frames\nf byte 7: EndsInside\nthe file ends inside the frame that begins at this byte: it was broken off; keep what stands before it\n",
+        "frames\nf byte 7: EndsInside\n| 00 00 01 2c 00 01\nthe file ends inside the frame that begins at this byte: it was broken off; keep what stands before it\n",
     ),
     (
         b"\x00\x00\x00\x01\x00\x01A\x00\x00\x00\x00\x00\x01B",
-        "frames\nf byte 7: Time\nthe time of a frame is not before that of the frame in front, and below 16777216: count milliseconds from the first frame, and sort the frames\n",
+        "frames\nf byte 7: Time\n| 00 00 00 00 00 01 42\nthe time of a frame is not before that of the frame in front, and below 16777216: count milliseconds from the first frame, and sort the frames\n",
     ),
     (
         b"\x00\x00\x00\x00\x00\x00",
-        "frames\nf byte 0: Length\nthe text of a frame has 1 to 1023 octets: leave empty texts out, and part long ones\n",
+        "frames\nf byte 0: Length\n| 00 00 00 00 00 00\nthe text of a frame has 1 to 1023 octets: leave empty texts out, and part long ones\n",
     ),
     (
         b"\x00\x00\x00\x00\x00\x01\xC3",
-        "frames\nf byte 0: NotText\nthe text of a frame is not UTF-8: cut texts between characters\n",
+        "frames\nf byte 0: NotText\n| 00 00 00 00 00 01 c3\nthe text of a frame is not UTF-8: cut texts between characters\n",
     ),
     (
         b"\x1F\x8B\x08",

@@ -212,32 +212,28 @@ impl<R: Files<File = File> + Copy> RealWorld<R> {
         }
     }
 
-    // What is to be the file of a name, where the system makes it, and which file it is, where it tells that.
-    fn sink(&self, name: &str) -> Option<(NewFile<R>, Option<FileId>)>
-        ensures named { IfSome result (λ made. made.0.sink.name ≡ name.now) }
-        ensures fresh { IfSome result (λ made. made.0.sink.faults ≡ 0) }
+    // What is to be the file of a name, where the system makes it and there is memory. Which file it is, where the system tells
+    // that, is kept; room for that is made first, so that no file is made that can't be kept.
+    fn sink(&mut self, name: &str) -> Option<NewFile<R>>
+        ensures named { IfSome result (λ made. made.sink.name ≡ name.now) }
+        ensures fresh { IfSome result (λ made. made.sink.faults ≡ 0) }
+        ensures own { self.new.own_faults ≡ self.old.own_faults }
+        ensures objects { self.new.object_faults ≡ self.old.object_faults }
     {
         if self.was_made(name) {
             return None;
         }
         let path = Path::from_text(self.alloc, name).ok()?;
-        let (file, moves) = file_to_write(&self.rt, self.alloc, name)?;
-        let id = match file.metadata() {
-            Ok(found) => id_in(&found),
-            Err(_) => None,
+        let Ok(()) = self.made.reserve(1) else {
+            return None;
         };
-        let sink = NewFile::new(self.rt, FileSink::new(file, path), moves);
-        Some((sink, id))
-    }
-
-    // Keeps which file was made, where there is memory.
-    fn keep(&mut self, id: Option<FileId>)
-        ensures own { self.new.own_faults ≡ self.old.own_faults }
-        ensures objects { self.new.object_faults ≡ self.old.object_faults }
-    {
-        if let Some(id) = id {
-            let _kept = self.made.push(id);
+        let (file, moves) = file_to_write(&self.rt, self.alloc, name)?;
+        if let Ok(found) = file.metadata() {
+            if let Some(id) = id_in(&found) {
+                self.made.push_reserved(id);
+            }
         }
+        Some(NewFile::new(self.rt, FileSink::new(file, path), moves))
     }
 }
 
@@ -266,10 +262,7 @@ impl<R: Files<File = File> + Copy + Send> World for RealWorld<R> {
 
     fn create_sink(&mut self, name: &str) -> Result<NewFile<R>, Failed> {
         match self.sink(name) {
-            Some((sink, id)) => {
-                self.keep(id);
-                Ok(sink)
-            }
+            Some(sink) => Ok(sink),
             None => {
                 self.own_faults = self.own_faults.saturating_add(1);
                 Err(Failed)

@@ -10,7 +10,7 @@ use crate::draws::Draws;
 use crate::legs::legs_of;
 use crate::plans::draw_plan;
 use crate::scripts::draw_typist;
-use conference::{Conf, MixerLine, Plan};
+use conference::{Conf, MixerLine, Plan, Service};
 use file_spec::limits::{MOST_TURNS, USUAL_SPACING, USUAL_TICK};
 use rtt_base::limits::USUAL_WAIT;
 use rtt_base::{Growing, NoMemory};
@@ -80,6 +80,7 @@ fn conf_with(alloc: Global, legs: u32, plan: Plan) -> Result<Conf, NoMemory>
             stamp: 0,
         },
         plan,
+        service: Service::none(),
     })
 }
 

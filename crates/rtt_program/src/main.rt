@@ -1,6 +1,8 @@
-//! The program: its words go to `run`, over the files of the system, its network, on which terminals leave by RTCP, and its standard
-//! streams.
+//! The program: its words go to `run`, over the files of the system, its network, on which terminals leave by RTCP or without a word and
+//! an operator is heard, and its standard streams.
 #![tactic(auto)]
+
+mod calls;
 
 ghost use Rattle.std.specs.Prelude.{◌≡◌, ◌++◌, true, drop, codes, IfOk, OnErr};
 ghost use Rattle.std.specs.Process.{exit_status};
@@ -9,13 +11,17 @@ ghost use Rattle.rtt_top.specs.Lives.{RunsCall, uses_no_link};
 ghost use Rattle.rtt_top.specs.Outside.{outside_over, output_at};
 ghost use Rattle.rtt_top.specs.Runs.{asked_by, Runs};
 
-use leaving_links::Leaving;
+use calls::{CallService, service_of};
+use leaving_links::{Leaving, Silence};
 use link_io::{Links, RealLinks};
+use operated_links::{Operated, Operator, OperatorPort};
+use rtt_base::NoMemory;
 use rtt_io::{RealWorld, Sink, StandardError, StandardOutput, StillGate, World};
 use rtt_top::run;
 use std::alloc::{AllocError, Global};
 use std::env;
 use std::io::ErrorKind;
+use std::marker::Brand;
 use std::process::ExitCode;
 use std::sync::Wait;
 use std::thread::Threads;
@@ -98,36 +104,79 @@ fn program<
     exit_with(status)
 }
 
-/// The program over links that terminals leave by RTCP.
+/// The program over links that terminals leave by RTCP, or without a word where they are silent so long (milliseconds), of whose call an
+/// operator may ask.
 fn program_over<
+    S: Silence + Send,
     R: Threads + Wait + Clock + Copy + Send + Sync + 'static,
     W: World,
     L: Links + Drop,
+    P: OperatorPort,
     K: Sink,
     E: Sink,
 >(
     rt: &R,
     alloc: Global,
     words: Result<Vec<String>, AllocError>,
+    gone: Option<u32>,
+    operator: Operator<P>,
+    world: &mut W,
+    links: L,
+    out: &mut K,
+    err: &mut E,
+) -> ExitCode
+    requires { gone ≡ S.longest }
+{
+    let leaving: Leaving<L, S> = Leaving::new(links, gone);
+    let mut links = Operated::new(leaving, operator);
+    program(rt, alloc, words, world, &mut links, out, err)
+}
+
+/// The same, for whichever silence is said.
+fn program_for<
+    R: Threads + Wait + Clock + Copy + Send + Sync + 'static,
+    W: World,
+    L: Links + Drop,
+    P: OperatorPort,
+    K: Sink,
+    E: Sink,
+>(
+    rt: &R,
+    alloc: Global,
+    words: Result<Vec<String>, AllocError>,
+    gone: Option<u32>,
+    operator: Operator<P>,
     world: &mut W,
     links: L,
     out: &mut K,
     err: &mut E,
 ) -> ExitCode {
-    let mut links = Leaving::new(links);
-    program(rt, alloc, words, world, &mut links, out, err)
+    program_over::<Brand, R, W, L, P, K, E>(
+        rt, alloc, words, gone, operator, world, links, out, err,
+    )
 }
 
 fn main(rt: HostRuntime) -> ExitCode {
     let mut world = RealWorld::new(&rt, rt.alloc());
     let mut out = StandardOutput::new(rt.stdout());
     let mut err = StandardError::new(rt.stderr());
-    let links = RealLinks::new(&rt, rt.alloc());
     let words = all_words(&rt);
-    program_over(
+    let asked = match &words {
+        Ok(all) => service_of(&rt, rt.alloc(), after_name(all.as_slice()), &mut world),
+        Err(AllocError) => Err(NoMemory),
+    };
+    let (words, service) = match asked {
+        Ok(service) => (words, service),
+        Err(NoMemory) => (Err(AllocError), CallService::none()),
+    };
+    let CallService { gone, operator } = service;
+    let links = RealLinks::new(&rt, rt.alloc());
+    program_for(
         &rt,
         rt.alloc(),
         words,
+        gone,
+        operator,
         &mut world,
         links,
         &mut out,

@@ -69,7 +69,7 @@ fn append_characters(text: &[u8], out: &mut Bytes) -> Result<(), NoMemory>
 
 /// Appends a text with its escapes. Most texts have none.
 #[tactic(auto, using(crate::proofs::Escaping::plain_escaped))]
-pub(crate) fn append_escaped(text: &[u8], out: &mut Bytes) -> Result<(), NoMemory>
+pub fn append_escaped(text: &[u8], out: &mut Bytes) -> Result<(), NoMemory>
     requires { IsUtf8 text.now }
     ensures { OnOk result (out.new ≡ out.old ++ escaped text.now) }
 {

@@ -6,6 +6,7 @@ pub mod laws;
 mod lines;
 mod recordings;
 
+pub use escapes::append_escaped;
 pub use recordings::script_recording;
 
 #[cfg(test)]

@@ -4,4 +4,8 @@ pub mod Firsts
 pub mod Grouping
 pub mod Finding
 pub mod Showing
+pub mod Appending
+pub mod Spreading
+pub mod Straying
+pub mod Following
 pub mod Gathering

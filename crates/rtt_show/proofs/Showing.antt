@@ -1,7 +1,8 @@
 -- What is printed of a stream or a pair is its view.
-use Rattle.std.proofs.Common.{◌≡◌, ℕ, zero, suc, ◌+◌, ◌/◌, ◌%◌, ◌<◌, ◌≤◌, ◌^◌, Bool, true, false, cond, List, [], ◌∷◌, ◌++◌, length, map, filter, flat_map, drop, get_or, refl, ap, sym, ◌∙◌, subst, arith, append_assoc, append-nil}
-use Rattle.std.specs.Prelude.{◌≢◌, All, AllPairs, Option, slice_index, slice_index_or, decimal, codes, ◌==◌, ◌&&◌, not, if◌then◌else◌}
-use Rattle.std.specs.List.{filter_map}
+use Rattle.std.proofs.Common.{◌≡◌, ℕ, zero, suc, ◌+◌, ◌*◌, ◌/◌, ◌%◌, ◌<◌, ◌≤◌, ◌^◌, Bool, true, false, cond, List, [], ◌∷◌, ◌++◌, length, map, filter, flat_map, drop, get_or, refl, ap, sym, ◌∙◌, subst, arith, append_assoc, append-nil}
+use Rattle.std.specs.Prelude.{◌≢◌, All, AllPairs, Option, slice_index, slice_index_or, decimal, codes, ◌==◌, ◌&&◌, ◌||◌, nat_lt, nat_le, not, if◌then◌else◌}
+use Rattle.std.specs.List.{filter_map, list_any}
+use Rattle.std.proofs.lemmas.Bool.{lt-ltb}
 use Rattle.std.proofs.lemmas.List.{length-map, get_or-map}
 use Rattle.std.proofs.Math.ListN.{drop_of_length-le}
 use Rattle.rtt_base.specs.declared.text_packets.Pts.{Pts}
@@ -13,9 +14,16 @@ use Rattle.view_spec.specs.declared.counts.Counts.{Counts}
 use Rattle.view_spec.specs.Seen.{Reception, text_at, source_at, counts_at}
 use Rattle.view_spec.specs.Views.{Source, source_view, counts_line}
 use Rattle.command_spec.specs.Firsts.{Firsts}
-use Rattle.command_spec.specs.Streams.{Sort, sort_of, is_name, naming, stream_of, pair_of, sources, source_in, is_dynamic, is_like_text, are_like_text, type_inside, may_be_red, may_be_text}
+use Rattle.command_spec.specs.Streams.{Sort, sort_of, is_name, naming, stream_of, pair_of, sources, source_in, is_dynamic, is_like_text, are_like_text, type_inside, may_be_red}
 use Rattle.command_spec.specs.Streams as streams
-use Rattle.command_spec.specs.Showing.{hearing, speaker, sources_seen, refusals, place_of, refusal_line, refusal_lines, refused_as, number_line, stream_title, stream_view, pair_view, items_view, other_lines, how_many, guess, guess_line, least_time, greatest_time}
+use Rattle.command_spec.specs.Showing.{hearing, speaker, sources_seen, refusals, place_of, refusal_line, refusal_lines, refused_as, number_line, other_lines, how_many, least_time, greatest_time}
+use Rattle.show_spec.specs.Showing.{numbers_of, title_of, stream_title, stream_view, pair_view, items_view}
+use Rattle.show_spec.specs.Guesses.{has_payload, filled, is_accepted, accepted, are_mostly_text, may_be_plain, guess, guess_line}
+use Rattle.show_spec.specs.Missed.{lost_count, late_count}
+use Rattle.command_spec.specs.Reading.{usual_wait}
+use Rattle.stream_spec.specs.Numbering.{used}
+use Rattle.rtt_show.specs.declared.missed.Missed.{Missed}
+use Rattle.rtt_show.specs.Missed.{IsMissed, IsMissedOf}
 use Rattle.terminal.specs.declared.terminals.Terminal.{Terminal}
 use Rattle.terminal.specs.Terminals.{texts_of, counts_of, IsTextOf, Heard}
 use Rattle.terminal.specs.Views.{named}
@@ -32,8 +40,10 @@ use Rattle.rtt_show.specs.Groups.{Holds, Grouped}
 use Rattle.rtt_show.specs.Finds.{IsFound}
 use Rattle.rtt_show.specs.Whole.{shape_limit, shape_view, IsGroupOf, AreShown, others_text}
 use Rattle.rtt_show.specs.Signs.{AreSigns}
-use Rattle.rtt_show.specs.Surveys.{IsSurvey, all_faults, title_of}
+use Rattle.rtt_show.specs.Surveys.{IsSurvey, all_faults}
 use Rattle.rtt_show.specs.Shown.{asked, conf_of, heard_text, pair_line}
+use Rattle.rtt_show.specs.Finds.{one_if}
+use Rattle.rtt_show.proofs.Surveying.{count_more}
 use Rattle.rtt_show.proofs.Firsts.{apart, few}
 
 -- ---- the sources that are named
@@ -69,20 +79,23 @@ asked_is r came (s ∷ sources) texts n f = named_is r came (s ∷ sources) text
 refusals_are : (r : Reception) (came : List Item) (counts : List ℕ) → counts ≡ map (refused_as r came) all_faults → flat_map (λ fault. refusal_line fault (slice_index counts (place_of fault))) refusals ≡ refusal_lines r came
 refusals_are r came counts e = ap (λ ns. flat_map (λ fault. refusal_line fault (slice_index ns (place_of fault))) refusals) e ∙ refl
 
-pub stream_shown : (pts : Pts) (ssrc : ℕ) (s : Survey) (t : Terminal) (came : List Item) → IsSurvey pts ssrc s came → Heard t (conf_of pts ssrc) (asked ssrc s.sources.kept.items) came → title_of ssrc s.from s.to ++ heard_text s t ≡ stream_view pts ssrc came
+pub stream_shown : (pts : Pts) (ssrc : ℕ) (s : Survey) (t : Terminal) (m : Missed) (came : List Item) → IsSurvey pts ssrc s came → Heard t (conf_of pts ssrc) (asked ssrc s.sources.kept.items) came → IsMissed pts ssrc m came
+    → title_of ssrc s.from s.to m.lost m.late ++ heard_text s t ≡ stream_view pts ssrc came
 unfolding stream_view stream_title
-stream_shown pts ssrc s t came i h =
+stream_shown pts ssrc s t m came i h missed =
     let r = hearing pts ssrc in
     let kept = s.sources.kept.items in
-    ap (λ n. title_of ssrc n s.to ++ heard_text s t) i.from
-    ∙ (ap (λ n. title_of ssrc (streams_least came) n ++ heard_text s t) i.to
+    ap (λ n. title_of ssrc n s.to m.lost m.late ++ heard_text s t) i.from
+    ∙ (ap (λ n. title_of ssrc (streams_least came) n m.lost m.late ++ heard_text s t) i.to
+    ∙ (ap (λ n. title_of ssrc (streams_least came) (greatest_time came) n m.late ++ heard_text s t) missed.lost
+    ∙ (ap (λ n. title_of ssrc (streams_least came) (greatest_time came) (lost_count (numbers_of pts ssrc came)) n ++ heard_text s t) missed.late
     ∙ (ap (λ (xs : List Source). title came ++ (flat_map source_view xs ++ counts_line (counts_of t) ++ lines s ++ last s)) (asked_is r came kept (texts_of t) h.each h.texts)
     ∙ (ap (λ (n : Counts). title came ++ (flat_map source_view (sources_seen r kept came) ++ counts_line n ++ lines s ++ last s)) h.counts
     ∙ (ap (λ xs. title came ++ (flat_map source_view (sources_seen r kept came) ++ counts_line (counts_at r came) ++ xs ++ last s)) (refusals_are r came s.refused i.refused)
-    ∙ ap (λ (f : Firsts). title came ++ (flat_map source_view (sources_seen r f.kept came) ++ counts_line (counts_at r came) ++ refusal_lines r came ++ number_line (codes "-- other sources ") f.others)) i.sources))))
+    ∙ ap (λ (f : Firsts). title came ++ (flat_map source_view (sources_seen r f.kept came) ++ counts_line (counts_at r came) ++ refusal_lines r came ++ number_line (codes "-- other sources ") f.others)) i.sources))))))
   where
     title : List Item → List ℕ
-    title xs = title_of ssrc (least_time xs) (greatest_time xs)
+    title xs = title_of ssrc (least_time xs) (greatest_time xs) (lost_count (numbers_of pts ssrc xs)) (late_count usual_wait (numbers_of pts ssrc xs))
 
     streams_least : List Item → ℕ
     streams_least xs = least_time xs
@@ -93,19 +106,42 @@ stream_shown pts ssrc s t came i h =
     last : Survey → List ℕ
     last x = number_line (codes "-- other sources ") x.sources.others
 
+-- so many were used
+pub used_is : (pts : Pts) (ssrc : ℕ) (s : Survey) (t : Terminal) (sources : List ℕ) (m : Missed) (came : List Item) → IsSurvey pts ssrc s came → Heard t (conf_of pts ssrc) sources came → IsMissedOf pts ssrc s.spread (counts_of t).used m came → IsMissed pts ssrc m came
+used_is pts ssrc s t sources m came i h missed = missed i.spread (ap (λ (n : Counts). n.used) h.counts)
+
 -- ---- a pair
-pub guess_is : (ssrc pt : ℕ) (came : List Item) (signs : Signs) (red text : Bool) → AreSigns signs came → is_dynamic pt ≡ true
+-- one is not empty
+any_filled : (p : Item → Bool) (came : List Item) → nat_lt 0 (length (filter p came)) ≡ list_any p came
+any_filled p [] = refl
+any_filled p (c ∷ came) = go (p c) (any_filled p came)
+  where
+    go : (b : Bool) → nat_lt 0 (length (filter p came)) ≡ list_any p came → nat_lt 0 (length (cond b (c ∷ filter p came) (filter p came))) ≡ (b || list_any p came)
+    go true e = lt-ltb 0 (suc (length (filter p came))) (omega arith)
+    go false e = e
+
+pub accepted_more : (ssrc : ℕ) (pts : Pts) (old new : ℕ) (came : List Item) (item : Item) → old ≡ length (accepted ssrc pts came) → new ≡ old + one_if (is_accepted ssrc pts item) → new ≡ length (accepted ssrc pts (came ++ item ∷ []))
+accepted_more ssrc pts old new came item e n = count_more (is_accepted ssrc pts) old new came item e n
+
+pub mostly_is : (ssrc : ℕ) (pts : Pts) (came : List Item) (n k : ℕ) → n ≡ length (filled came) → k ≡ length (accepted ssrc pts came) → nat_le n (2 * k) ≡ are_mostly_text ssrc pts came
+mostly_is ssrc pts came n k e f = ap (λ m. nat_le m (2 * k)) e ∙ ap (λ m. nat_le (length (filled came)) (2 * m)) f
+
+pub guess_is : (ssrc pt : ℕ) (came : List Item) (signs : Signs) (red near text : Bool) → AreSigns signs came → is_dynamic pt ≡ true
     → red ≡ ((is_dynamic signs.inside && not (signs.inside == pt) && signs.redundant) && are_like_text ssrc (record { t140 = signs.inside; red = pt }) came)
-    → text ≡ (signs.text && are_like_text ssrc (record { t140 = pt; red = 0 }) came)
+    → near ≡ (nat_lt 0 signs.filled && are_like_text ssrc (record { t140 = pt; red = 0 }) came)
+    → (signs.filled ≡ length (filled came) → text ≡ (near && are_mostly_text ssrc (record { t140 = pt; red = 0 }) came))
     → (if red then codes " red of " ++ decimal signs.inside else (if text then codes " text" else [])) ≡ guess_line ssrc pt came
-guess_is ssrc pt came signs red text s d r t =
+guess_is ssrc pt came signs red near text s d r n m =
     let red_is : red ≡ may_be_red ssrc pt (type_inside came) came =
     r ∙ (ap (λ n. (is_dynamic n && not (n == pt) && signs.redundant) && are_like_text ssrc (record { t140 = n; red = pt }) came) s.inside
     ∙ ap (λ b. (is_dynamic (type_inside came) && not (type_inside came == pt) && b) && are_like_text ssrc (record { t140 = type_inside came; red = pt }) came) s.redundant) in
-    let text_is : text ≡ may_be_text ssrc pt came = t ∙ ap (λ b. b && are_like_text ssrc (record { t140 = pt; red = 0 }) came) s.text in
+    let like = are_like_text ssrc (record { t140 = pt; red = 0 }) came in
+    let mostly = are_mostly_text ssrc (record { t140 = pt; red = 0 }) came in
+    let text_is : text ≡ may_be_plain ssrc pt came =
+    m s.filled ∙ (ap (λ b. b && mostly) n ∙ (ap (λ k. (nat_lt 0 k && like) && mostly) s.filled ∙ ap (λ b. (b && like) && mostly) (any_filled has_payload came))) in
     ap (λ b. if b then codes " red of " ++ decimal signs.inside else (if text then codes " text" else [])) red_is
     ∙ (ap (λ b. if may_be_red ssrc pt (type_inside came) came then codes " red of " ++ decimal signs.inside else (if b then codes " text" else [])) text_is
-    ∙ (ap (λ n. if may_be_red ssrc pt (type_inside came) came then codes " red of " ++ decimal n else (if may_be_text ssrc pt came then codes " text" else [])) s.inside
+    ∙ (ap (λ n. if may_be_red ssrc pt (type_inside came) came then codes " red of " ++ decimal n else (if may_be_plain ssrc pt came then codes " text" else [])) s.inside
     ∙ ap (λ b. if b then guess ssrc pt came else []) (sym d)))
 
 -- ---- groups

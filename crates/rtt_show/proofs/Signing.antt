@@ -9,6 +9,9 @@ use Rattle.wire_spec.specs.Dump.{Item}
 use Rattle.command_spec.specs.Streams.{payload_of, first_type, has_redundant, type_inside}
 use Rattle.rtt_show.specs.declared.signs.Signs.{Signs}
 use Rattle.rtt_show.specs.Signs.{AreSigns, SignsMore}
+use Rattle.rtt_show.specs.Finds.{one_if}
+use Rattle.show_spec.specs.Guesses.{has_payload}
+use Rattle.rtt_show.proofs.Surveying.{count_more}
 
 or_false : (b : Bool) → (b || false) ≡ b
 or_false true = refl
@@ -30,5 +33,5 @@ signs_more old new payload came item s m n e = record {
   packets = n ∙ (ap (λ k. k + 1) s.packets ∙ sym (length-append came (item ∷ [])));
   inside = m.inside ∙ (ap (λ p. if old.packets == 0 then first_type p else old.inside) e ∙ inside_more old.packets old.inside came item s.packets s.inside);
   redundant = m.redundant ∙ (ap (λ p. old.redundant || has_redundant p) e ∙ (ap (λ b. b || has_redundant (payload_of item)) s.redundant ∙ sym (any_more (λ x. has_redundant (payload_of x)) came item)));
-  text = m.text ∙ (ap (λ p. old.text || has_text p) e ∙ (ap (λ b. b || has_text (payload_of item)) s.text ∙ sym (any_more (λ x. has_text (payload_of x)) came item)));
+  filled = count_more has_payload old.filled new.filled came item s.filled (m.filled ∙ ap (λ p. old.filled + one_if (has_text p)) e);
 }

@@ -1,5 +1,5 @@
 -- One packet more of a stream.
-use Rattle.std.proofs.Common.{◌≡◌, ℕ, suc, Bool, true, false, cond, List, [], ◌∷◌, ◌++◌, length, map, filter, refl, ap, sym, ◌∙◌, arith}
+use Rattle.std.proofs.Common.{◌≡◌, ℕ, suc, ◌+◌, Bool, true, false, cond, List, [], ◌∷◌, ◌++◌, length, map, filter, refl, ap, sym, ◌∙◌, subst, arith, Some}
 use Rattle.std.specs.Prelude.{◌&&◌, min, max, Result, Ok, Err, Option, if◌then◌else◌}
 use Rattle.std.specs.List.{filter_map, cons_option, list_all}
 use Rattle.std.proofs.lemmas.List.Elements.{filter_map-append}
@@ -7,13 +7,19 @@ use Rattle.std.proofs.lemmas.List.Folds.{list_all-append}
 use Rattle.rtt_base.specs.declared.text_packets.Pts.{Pts}
 use Rattle.wire_spec.specs.declared.faults.TextFault.{TextFault}
 use Rattle.wire_spec.specs.declared.faults.TextFault.TheVariants.{Short, Version, Padding, Sources, WrongType, Cut, Many, Long, NotText, Foreign}
-use Rattle.wire_spec.specs.Packets.{Packet}
-use Rattle.wire_spec.specs.Dump.{Item}
+use Rattle.wire_spec.specs.Packets.{Packet, Arrival}
+use Rattle.wire_spec.specs.Text.{text_of}
+use Rattle.wire_spec.specs.Dump.{Item, sent_item, arrived, latest, arrivals_after, arrivals_with}
+use Rattle.stream_spec.specs.Numbering.{numbered, number_it}
 use Rattle.view_spec.specs.Seen.{Reception}
 use Rattle.command_spec.specs.Firsts.{Firsts, firsts, with_name, with_names}
 use Rattle.command_spec.specs.Streams.{source_in, sources, text_at, is_like_text, are_like_text}
 use Rattle.command_spec.specs.Showing.{hearing, least_time, greatest_time, refused_as, is_refused_as}
-use Rattle.rtt_show.specs.Surveys.{seen, is_like, all_faults, IsSurvey, SurveysMore, refused_after, names_after}
+use Rattle.rtt_show.specs.Surveys.{seen, is_like, is_read, all_faults, IsSurvey, SpreadsAs, SurveysMore, refused_after, names_after}
+use Rattle.rtt_show.specs.Spreads.{IsSpread}
+use Rattle.rtt_show.specs.declared.spreads.Spread.{Spread}
+use Rattle.rtt_show.specs.Finds.{one_if}
+use Rattle.show_spec.specs.Guesses.{is_ok}
 use Rattle.rtt_show.specs.declared.surveys.Survey.{Survey}
 
 least_more : (came : List Item) (item : Item) → least_time (came ++ item ∷ []) ≡ min (least_time came) item.time
@@ -39,6 +45,13 @@ filter_more p (y ∷ ys) x = go (p y) (p x) (filter_more p ys x)
     go true false e = ap suc e
     go false true e = e
     go false false e = e
+
+pub count_more : {X : Type 0} (p : X → Bool) (old new : ℕ) (xs : List X) (x : X) → old ≡ length (filter p xs) → new ≡ old + one_if (p x) → new ≡ length (filter p (xs ++ x ∷ []))
+count_more p old new xs x e n = n ∙ (ap (λ k. k + one_if (p x)) e ∙ (go (p x) (length (filter p xs)) ∙ sym (filter_more p xs x)))
+  where
+    go : (b : Bool) (n : ℕ) → n + one_if b ≡ (if b then suc n else n)
+    go true n = omega arith
+    go false n = omega arith
 
 with_names_more : (f : Firsts) (names : List ℕ) (more : List ℕ) → with_names f (names ++ more) ≡ with_names (with_names f names) more
 with_names_more f [] more = refl
@@ -74,8 +87,23 @@ sources_more f (Ok packet) = refl
 sources_more f (Err fault) = refl
 
 -- a packet more of the stream
-pub survey_more : (pts : Pts) (ssrc : ℕ) (old new : Survey) (came : List Item) (item : Item) → IsSurvey pts ssrc old came → SurveysMore old item.time (seen (text_at ssrc pts item)) new → IsSurvey pts ssrc new (came ++ item ∷ [])
-survey_more pts ssrc old new came item i m =
+-- ---- the numbers
+after_more : (ssrc : ℕ) (pts : Pts) (before : List Arrival) (came : List Item) (item : Item) → arrivals_after ssrc pts before (came ++ item ∷ []) ≡ arrivals_with ssrc pts item (arrivals_after ssrc pts before came)
+after_more ssrc pts before [] item = refl
+after_more ssrc pts before (x ∷ came) item = after_more ssrc pts (arrivals_with ssrc pts x before) came item
+
+pub arrives_more : (pts : Pts) (ssrc : ℕ) (came : List Item) (at : ℕ) (octets : List ℕ)
+    → arrivals_after ssrc pts [] (came ++ sent_item (at, octets) ∷ []) ≡ arrived at (text_of octets (Some ssrc) pts) (arrivals_after ssrc pts [] came)
+arrives_more pts ssrc came at octets = after_more ssrc pts [] came (sent_item (at, octets))
+
+spread_more : (old new : Spread) (past : List Arrival) (at : ℕ) (t : Result Packet TextFault) → IsSpread old (numbered past) → SpreadsAs old (seen t) new → IsSpread new (numbered (arrived at t past))
+spread_more old new past at (Ok packet) i m =
+    m.1.more (numbered past) (number_it (numbered past) (record { time = max at (latest past); packet = packet })) i (sym (m.1.is (numbered past) i))
+spread_more old new past at (Err fault) i m = subst (λ (s : Spread). IsSpread s (numbered past)) (sym m) i
+
+pub survey_more : (pts : Pts) (ssrc : ℕ) (old new : Survey) (came : List Item) (at : ℕ) (octets : List ℕ) → IsSurvey pts ssrc old came → SurveysMore old at (seen (text_of octets (Some ssrc) pts)) new → IsSurvey pts ssrc new (came ++ sent_item (at, octets) ∷ [])
+survey_more pts ssrc old new came at octets i m =
+    let item = sent_item (at, octets) in
     let t = text_at ssrc pts item in
     let r = hearing pts ssrc in
     record {
@@ -83,6 +111,7 @@ survey_more pts ssrc old new came item i m =
       to = m.to ∙ (ap (λ n. max n item.time) i.to ∙ sym (greatest_more came item));
       refused = m.refused ∙ (ap (λ ns. refused_after ns (seen t)) i.refused ∙ (counts_more (refused_as r came) t ∙ map_alike _ (refused_as r (came ++ item ∷ [])) (λ fault. sym (refused_more r came item fault)) all_faults));
       sources = m.sources ∙ (ap (λ f. names_after f (seen t)) i.sources ∙ (sym (sources_more (sources ssrc pts came) t) ∙ sym (firsts_more (λ x. source_in (text_at ssrc pts x)) came item)));
+      spread = subst (λ (past : List Arrival). IsSpread new.spread (numbered past)) (sym (arrives_more pts ssrc came at octets)) (spread_more old.spread new.spread (arrivals_after ssrc pts [] came) at (text_of octets (Some ssrc) pts) i.spread m.spread);
     }
 
 -- ---- whether packets are like texts
@@ -98,6 +127,10 @@ like_seen (Err Many) = refl
 like_seen (Err Long) = refl
 like_seen (Err NotText) = refl
 like_seen (Err Foreign) = refl
+
+pub read_ok : (t : Result Packet TextFault) → is_read (seen t) ≡ is_ok t
+read_ok (Ok packet) = refl
+read_ok (Err fault) = refl
 
 and_true : (b : Bool) → (b && true) ≡ b
 and_true true = refl

@@ -1,5 +1,8 @@
 pub mod Records
+pub mod Spreads
 pub mod Surveys
+pub mod Missed
+pub mod Strays
 pub mod Signs
 pub mod Hearing
 pub mod Groups

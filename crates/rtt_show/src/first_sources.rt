@@ -10,7 +10,7 @@ use std::alloc::Global;
 
 /// The first 64 sources that are named, and how often another was named.
 #[derive(Drop)]
-pub(crate) struct FirstSources {
+pub struct FirstSources {
     pub kept: Vec<u32>,
     pub others: u64,
 }
@@ -24,7 +24,7 @@ fn is_one_of(kept: &[u32], source: u32) -> bool
 
 impl FirstSources {
     /// None was named yet.
-    pub(crate) fn new(alloc: Global) -> FirstSources
+    pub fn new(alloc: Global) -> FirstSources
         ensures none { firsts_of result ≡ firsts [] }
         ensures others { result.others ≡ 0 }
     {
@@ -35,7 +35,7 @@ impl FirstSources {
     }
 
     /// A source is named.
-    pub(crate) fn name(&mut self, source: u32) -> Result<(), NoMemory>
+    pub fn name(&mut self, source: u32) -> Result<(), NoMemory>
         requires few { self.old.others < 2 ^ 32 }
         ensures named { OnOk result (firsts_of self.new ≡ with_name (firsts_of self.old) source) }
         ensures others { self.new.others ≤ self.old.others + 1 }

@@ -37,7 +37,7 @@ fn unread_of(item: DumpItem) -> Unread
 
 /// The packets of streams and of pairs, and how many records are neither.
 #[derive(Drop)]
-pub(crate) struct Found {
+pub struct Found {
     /// The payload types of text.
     pub pts: Pts,
     pub streams: Groups,
@@ -49,7 +49,7 @@ pub(crate) struct Found {
 }
 
 impl Found {
-    pub(crate) fn new(alloc: Global, pts: Pts) -> Found
+    pub fn new(alloc: Global, pts: Pts) -> Found
         ensures pts { result.pts ≡ pts }
         ensures nothing { IsFound result [] }
         ensures small { IsSmall 0 result }

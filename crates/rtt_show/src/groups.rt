@@ -9,14 +9,14 @@ use std::alloc::Global;
 
 /// The packets that name the same, as records one behind the other.
 #[derive(Drop)]
-pub(crate) struct Group {
+pub struct Group {
     pub name: u64,
     pub records: Bytes,
 }
 
 /// The packets of the first 64 names, and how many packets have other names.
 #[derive(Drop)]
-pub(crate) struct Groups {
+pub struct Groups {
     pub groups: Vec<Group>,
     pub others: u64,
 }

@@ -1,21 +1,30 @@
 //! All that a recording has: what was typed in each stream of text, and what else is there.
 #![tactic(auto)]
 
+mod counting;
 mod first_sources;
 mod found;
 mod groups;
 mod hearing;
 mod likes;
+mod missed;
+mod origins;
 mod pairs;
 mod printing;
 mod shows;
 mod signs;
 mod sorts;
+mod spreads;
+mod strays;
 mod streams;
 mod surveys;
 mod views;
 
-pub use shows::show_recording;
+pub use first_sources::FirstSources;
+pub use found::Found;
+pub use groups::{Group, Groups};
+pub use shows::{gather, show_recording};
+pub use views::append_end;
 
 #[cfg(test)]
 mod tests;

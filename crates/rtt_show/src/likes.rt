@@ -1,11 +1,15 @@
 //! Whether packets are like those of text.
-ghost use Rattle.std.specs.Prelude.{◌≡◌, ◌&&◌, Some};
+ghost use Rattle.std.specs.Prelude.{◌≡◌, ◌&&◌, ◌<◌, ◌^◌, Some, length};
 ghost use Rattle.wire_spec.specs.Text.{text_of};
 ghost use Rattle.command_spec.specs.Streams.{are_like_text};
 ghost use Rattle.rtt_show.specs.Records.{OfRecords};
+ghost use Rattle.rtpdump_io.specs.InMemory.{HasRecords};
+ghost use Rattle.show_spec.specs.Guesses.{accepted};
 ghost use Rattle.rtt_show.specs.Surveys.{seen, is_like};
+ghost use Rattle.rtt_show.specs.Signs.{is_filled_text};
 
-use crate::sorts::{is_near_text, read_source};
+use crate::counting::one_if;
+use crate::sorts::{has_octets, is_near_text, is_text, payload_of, read_source};
 use rtpdump_io::next_record;
 use rtt_base::{Pts, TextPacket};
 
@@ -32,4 +36,31 @@ pub(crate) fn all_near_text(records: &[u8], ssrc: u32, pts: Pts) -> bool
         rest = more;
     }
     near
+}
+
+/// Whether a packet has a payload, and is a text of this SSRC and these payload types.
+fn is_accepted(octets: &[u8], ssrc: u32, pts: Pts, packet: &mut TextPacket) -> bool
+    ensures { result ≡ is_filled_text ssrc pts octets.now }
+{
+    if !has_octets(payload_of(octets)) {
+        return false;
+    }
+    is_text(read_source(octets, ssrc, pts, packet))
+}
+
+/// How many of these packets have a payload, and are texts of this SSRC and these payload types.
+pub(crate) fn accepted_of(records: &[u8], ssrc: u32, pts: Pts) -> u64
+    requires { HasRecords records.now }
+    ensures number { OfRecords records.now (λ came. result ≡ length (accepted ssrc pts came)) }
+    ensures few { result < 2 ^ 32 }
+{
+    let mut packet = TextPacket::default();
+    let mut number = 0u64;
+    let mut rest = records;
+    while let Some((_, octets, more)) = next_record(rest) {
+        let accepted = is_accepted(octets, ssrc, pts, &mut packet);
+        number += one_if(accepted);
+        rest = more;
+    }
+    number
 }

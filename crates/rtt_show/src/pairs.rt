@@ -1,13 +1,13 @@
 //! What is shown of the packets of another payload type.
-ghost use Rattle.std.specs.Prelude.{◌≡◌, ◌==◌, ◌&&◌, ◌++◌, not, OnOk};
+ghost use Rattle.std.specs.Prelude.{◌≡◌, ◌==◌, ◌&&◌, ◌++◌, not, nat_lt, length, OnOk};
 ghost use Rattle.command_spec.specs.Streams.{are_like_text, is_dynamic};
-ghost use Rattle.command_spec.specs.Showing.{guess_line};
+ghost use Rattle.show_spec.specs.Guesses.{filled, are_mostly_text, guess_line};
 ghost use Rattle.rtpdump_io.specs.InMemory.{HasRecords};
 ghost use Rattle.rtt_show.specs.Records.{OfRecords};
 ghost use Rattle.rtt_show.specs.Signs.{AreSigns};
 ghost use Rattle.rtt_show.specs.Shown.{first_guess, guessed, pair_text, pair_line};
 
-use crate::likes::all_near_text;
+use crate::likes::{accepted_of, all_near_text};
 use crate::printing::append_number;
 use crate::signs::{Signs, signs_of};
 use crate::sorts::may_be_given;
@@ -38,6 +38,25 @@ fn are_near_where(shown: bool, records: &[u8], ssrc: u32, pts: Pts) -> bool
     all_near_text(records, ssrc, pts)
 }
 
+/// Whether a payload is not empty.
+fn has_filled(signs: Signs) -> bool
+    ensures { result ≡ nat_lt 0 signs.filled }
+{
+    signs.filled > 0
+}
+
+/// Whether that is so, and of those of these packets that have a payload, so many, at least half are texts of this SSRC and
+/// these payload types.
+fn are_mostly_texts(near: bool, records: &[u8], ssrc: u32, pts: Pts, number: u64) -> bool
+    requires { HasRecords records.now }
+    ensures { OfRecords records.now (λ came. number ≡ length (filled came) → result ≡ (near && are_mostly_text ssrc pts came)) }
+{
+    if !near {
+        return false;
+    }
+    number <= 2 * accepted_of(records, ssrc, pts)
+}
+
 /// The first of the two that they may be.
 fn guess_from(red: bool, text: bool, inside: u8) -> Guess
     ensures { guessed result ≡ first_guess red text inside }
@@ -53,6 +72,7 @@ fn guess_from(red: bool, text: bool, inside: u8) -> Guess
 
 /// What these packets of a pair may be.
 fn guess_of(ssrc: u32, pt: u8, records: &[u8], signs: Signs) -> Guess
+    requires { HasRecords records.now }
     ensures { OfRecords records.now (λ came. AreSigns signs came → guessed result ≡ guess_line ssrc pt came) }
 {
     if !may_be_given(pt) {
@@ -64,7 +84,8 @@ fn guess_of(ssrc: u32, pt: u8, records: &[u8], signs: Signs) -> Guess
     };
     let plain = Pts { t140: pt, red: 0 };
     let red = are_near_where(show_red(signs, pt), records, ssrc, inside);
-    let text = are_near_where(signs.text, records, ssrc, plain);
+    let near = are_near_where(has_filled(signs), records, ssrc, plain);
+    let text = are_mostly_texts(near, records, ssrc, plain, signs.filled);
     guess_from(red, text, signs.inside)
 }
 

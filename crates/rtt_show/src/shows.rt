@@ -2,7 +2,8 @@
 ghost use Rattle.std.specs.Prelude.{◌≡◌, ◌≤◌, ◌&&◌, not, Bool, None, [], IfErr, IfOk, OnOk};
 ghost use Rattle.rtpdump_io.specs.Reading.{is_ended, is_of_source, to_come, source_of};
 ghost use Rattle.rtpdump_io.specs.Faults.{HasCause};
-ghost use Rattle.command_spec.specs.Showing.{if_no_recording, is_no_recording, recording_view};
+ghost use Rattle.command_spec.specs.Showing.{if_no_recording, is_no_recording};
+ghost use Rattle.show_spec.specs.Showing.{recording_view};
 ghost use Rattle.rtt_show.specs.Finds.{IsFound, IsSmall};
 ghost use Rattle.rtt_show.specs.Gathers.{Gathered, IsRefused};
 
@@ -25,7 +26,7 @@ fn is_end(kind: DumpKind) -> bool
 }
 
 /// Takes all records that are still to come, and answers the fault that ends them, if one does.
-fn gather<S: Source>(
+pub fn gather<S: Source>(
     alloc: Global,
     reader: &mut DumpReader<S>,
     found: &mut Found,

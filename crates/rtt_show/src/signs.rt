@@ -1,21 +1,22 @@
 //! What the payloads of packets show of their type.
-ghost use Rattle.std.specs.Prelude.{◌≡◌, ◌+◌, ◌<◌, ◌^◌, []};
+ghost use Rattle.std.specs.Prelude.{◌≡◌, ◌+◌, ◌<◌, ◌≤◌, ◌^◌, []};
 ghost use Rattle.command_spec.specs.Streams.{first_type, has_redundant};
 ghost use Rattle.rtpdump_io.specs.InMemory.{HasRecords};
 ghost use Rattle.rtt_show.specs.Records.{OfRecords};
 ghost use Rattle.rtt_show.specs.Signs.{AreSigns, SignsMore};
 
-use crate::sorts::payload_of;
+use crate::counting::one_if;
+use crate::sorts::{has_octets, payload_of};
 use rtpdump_io::next_record;
 
 /// How many packets there are, the type in the first header of the first payload, whether F is 1 in the first header
-/// of a payload, and whether one is not empty.
+/// of a payload, and how many payloads are not empty.
 #[derive(Clone, Copy)]
 pub(crate) struct Signs {
     pub packets: u64,
     pub inside: u8,
     pub redundant: bool,
-    pub text: bool,
+    pub filled: u64,
 }
 
 /// The type in the first header of a red payload; 0 of an empty one.
@@ -34,28 +35,31 @@ fn begins_redundant(payload: &[u8]) -> bool
 
 impl Signs {
     fn none() -> Signs
-        ensures { AreSigns result [] }
+        ensures signs { AreSigns result [] }
+        ensures filled { result.filled ≤ result.packets }
     {
         Signs {
             packets: 0,
             inside: 0,
             redundant: false,
-            text: false,
+            filled: 0,
         }
     }
 
     /// A packet with this payload came.
     fn take(&mut self, payload: &[u8])
-        requires { self.old.packets < 2 ^ 32 }
+        requires few { self.old.packets < 2 ^ 32 }
+        requires filled { self.old.filled ≤ self.old.packets }
         ensures more { SignsMore self.old payload.now self.new }
         ensures packets { self.new.packets ≡ self.old.packets + 1 }
+        ensures filled { self.new.filled ≤ self.new.packets }
     {
         if self.packets == 0 {
             self.inside = first_type_of(payload);
         }
         self.packets += 1;
         self.redundant = self.redundant || begins_redundant(payload);
-        self.text = self.text || !payload.is_empty();
+        self.filled += one_if(has_octets(payload));
     }
 }
 

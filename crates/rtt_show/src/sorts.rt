@@ -1,12 +1,14 @@
 //! What a packet is, by its header, and as one of text.
 ghost use Rattle.std.specs.Prelude.{◌≡◌, ◌<◌, Some};
+ghost use Rattle.wire_spec.specs.Packets.{has_text};
 ghost use Rattle.wire_spec.specs.Dump.{Whole};
 ghost use Rattle.wire_spec.specs.Text.{text_of};
 ghost use Rattle.command_spec.specs.Streams.{is_rtcp, sort_of_what, payload_in, is_of_text, is_dynamic};
 ghost use Rattle.command_spec.specs.Showing.{place_of};
 ghost use Rattle.rtp_header.specs.Headers.{reading};
-ghost use Rattle.rtt_show.specs.Surveys.{sorted, seen, is_like};
+ghost use Rattle.rtt_show.specs.Surveys.{sorted, seen, is_like, is_read};
 
+use crate::origins::Origin;
 use file_spec::limits::{FIRST_TYPE, LAST_TYPE};
 use red_blocks::{read_text, view_text};
 use rtp_header::{RtpView, read_rtp};
@@ -52,6 +54,13 @@ pub(crate) fn payload_of(octets: &[u8]) -> &[u8]
     }
 }
 
+/// Whether a payload is not empty.
+pub(crate) fn has_octets(payload: &[u8]) -> bool
+    ensures { result ≡ has_text payload.now }
+{
+    !payload.is_empty()
+}
+
 /// Whether a packet's payload type is one of the two of text.
 pub(crate) fn has_text_type(view: &RtpView<'_>, pts: Pts) -> bool
     ensures { result ≡ is_of_text pts (reading view.now) }
@@ -66,31 +75,45 @@ pub(crate) fn may_be_given(pt: u8) -> bool
     FIRST_TYPE <= u32::from(pt) && u32::from(pt) <= LAST_TYPE
 }
 
-/// The source of a packet of text of this stream, or why it is none.
+/// The source and the sequence number of a packet of text of this stream, or why it is none.
 #[inline(always)]
 pub(crate) fn read_source(
     octets: &[u8],
     ssrc: u32,
     pts: Pts,
     packet: &mut TextPacket,
-) -> Result<u32, TextFault>
+) -> Result<Origin, TextFault>
     ensures { result ≡ seen (text_of octets.now (Some ssrc) pts) }
 {
     if let Some(view) = view_text(octets, Some(ssrc), pts) {
-        return Ok(view.source);
+        let (source, seq) = (view.source, view.seq);
+        return Ok(Origin { source, seq });
     }
     match read_text(octets, Some(ssrc), pts, packet) {
-        Ok(()) => Ok(packet.source),
+        Ok(()) => Ok(Origin {
+            source: packet.source,
+            seq: packet.seq,
+        }),
         Err(fault) => Err(fault),
     }
 }
 
 /// Whether a packet was read as a text, or would be if its text were shorter or other octets.
-pub(crate) fn is_near_text(read: Result<u32, TextFault>) -> bool
+pub(crate) fn is_near_text(read: Result<Origin, TextFault>) -> bool
     ensures { result ≡ is_like read }
 {
     match read {
         Ok(_) | Err(TextFault::Long | TextFault::NotText) => true,
+        Err(_) => false,
+    }
+}
+
+/// Whether a packet was read as a text.
+pub(crate) fn is_text(read: Result<Origin, TextFault>) -> bool
+    ensures { result ≡ is_read read }
+{
+    match read {
+        Ok(_) => true,
         Err(_) => false,
     }
 }

@@ -1,6 +1,7 @@
 //! What is shown of a stream of text.
 ghost use Rattle.std.specs.Prelude.{◌≡◌, ◌≢◌, ◌++◌, ◌≤◌, length, map, flat_map, decimal, AllPairs, IsUtf8, IfOk, OnOk};
-ghost use Rattle.command_spec.specs.Showing.{refusal_line, stream_view};
+ghost use Rattle.command_spec.specs.Showing.{refusal_line};
+ghost use Rattle.show_spec.specs.Showing.{stream_view};
 ghost use Rattle.view_spec.specs.Views.{source_view};
 ghost use Rattle.terminal.specs.Terminals.{texts_of, AreUtf8};
 ghost use Rattle.terminal.specs.Views.{named, source_shown};
@@ -12,6 +13,7 @@ ghost use Rattle.rtt_show.specs.Shown.{asked, conf_of, heard_text, refusal_lines
 
 use crate::first_sources::FirstSources;
 use crate::hearing::hear_all;
+use crate::missed::missed_of;
 use crate::printing::{append_number_line, append_title};
 use crate::sorts::place_among;
 use crate::surveys::{Survey, survey_of};
@@ -157,6 +159,8 @@ pub(crate) fn show_stream(
 {
     let found = survey_of(alloc, records, ssrc, pts)?;
     let terminal = hear_sources(alloc, ssrc, pts, &found.sources, records)?;
-    append_title(ssrc, found.from, found.to, out)?;
+    let used = terminal.counts().used;
+    let missed = missed_of(alloc, ssrc, pts, records, found.spread, used)?;
+    append_title(ssrc, found.from, found.to, missed, out)?;
     append_heard(alloc, &found, &terminal, out)
 }

@@ -6,14 +6,16 @@ ghost use Rattle.rtt_show.specs.Surveys.{IsFew, IsSurvey, SurveysMore};
 ghost use Rattle.rtt_base.specs.declared.text_packets.Pts.{Pts as PayloadTypes};
 
 use crate::first_sources::FirstSources;
+use crate::origins::Origin;
 use crate::sorts::{place_among, read_source};
+use crate::spreads::Spread;
 use rtpdump_io::next_record;
 use rtt_base::{NoMemory, Pts, TextPacket};
 use std::alloc::Global;
 use wire_spec::TextFault;
 use wire_spec::limits::LAST_RECORD_MOMENT;
 
-/// Moments in milliseconds, how many packets were refused by each fault, and the sources.
+/// Moments in milliseconds, how many packets were refused by each fault, the sources, and the numbers.
 #[derive(Drop)]
 pub(crate) struct Survey {
     /// The least moment of a packet, and the greatest.
@@ -22,6 +24,7 @@ pub(crate) struct Survey {
     /// By the place of the fault in the order of the tests; last, the foreign ones.
     pub refused: [u64; 10],
     pub sources: FirstSources,
+    pub spread: Spread,
 }
 
 /// Counts one more at this place.
@@ -44,11 +47,12 @@ impl Survey {
             to: 0,
             refused: [0; 10],
             sources: FirstSources::new(alloc),
+            spread: Spread::none(),
         }
     }
 
-    /// A packet came, with a text of this source or none.
-    fn take(&mut self, at: u32, read: Result<u32, TextFault>) -> Result<(), NoMemory>
+    /// A packet came, with a text from there or none.
+    fn take(&mut self, at: u32, read: Result<Origin, TextFault>) -> Result<(), NoMemory>
         requires { (n : ℕ) × (n < 2 ^ 32) × IsFew n self.old }
         ensures more { OnOk result (SurveysMore self.old at read self.new) }
         ensures few { OnOk result ((n : ℕ) → IsFew n self.old → IsFew (n + 1) self.new) }
@@ -56,7 +60,10 @@ impl Survey {
         self.from = self.from.min(at);
         self.to = self.to.max(at);
         match read {
-            Ok(source) => self.sources.name(source),
+            Ok(origin) => {
+                let _number = self.spread.take(origin.seq);
+                self.sources.name(origin.source)
+            }
             Err(fault) => {
                 count_at(&mut self.refused, place_among(fault));
                 Ok(())

@@ -37,6 +37,16 @@ const OF_ANOTHER_TYPE: [u8; 21] = *b"\0\x15\0\x0D\0\0\0\0\x80\x61\0\x01\0\0\0\0\
 
 const NO_TEXT: [u8; 21] = *b"\0\x15\0\x0D\0\0\0\x05\x80\x62\0\x01\0\0\0\0\0\0\0\x07\xC3";
 
+// Packets of SSRC 7 and type 111: the payloads of two are no UTF-8, that of the third is.
+const NOISE: [u8; 63] = *b"\0\x15\0\x0D\0\0\0\0\x80\x6F\0\x01\0\0\0\0\0\0\0\x07\xC3\
+    \0\x15\0\x0D\0\0\0\x05\x80\x6F\0\x02\0\0\0\0\0\0\0\x07\xC3\
+    \0\x15\0\x0D\0\0\0\x0A\x80\x6F\0\x03\0\0\0\0\0\0\0\x07U";
+
+// Texts without redundancy: those numbered 10, 13 and 12 come at 0, 100 and 1500 ms.
+const WITH_GAPS: [u8; 63] = *b"\0\x15\0\x0D\0\0\0\0\x80\x62\0\x0A\0\0\0\0\0\0\x03\xE9a\
+    \0\x15\0\x0D\0\0\0\x64\x80\x62\0\x0D\0\0\0\x64\0\0\x03\xE9d\
+    \0\x15\0\x0D\0\0\x05\xDC\x80\x62\0\x0C\0\0\x05\xDC\0\0\x03\xE9c";
+
 // Expects that this is shown of a recording with these records.
 fn expect_shown(
     rt: &impl Abort,
@@ -90,6 +100,21 @@ fn what_other_packets_are_is_told(rt: HostRuntime) -> Result<(), Fail> {
     let refused =
         "== 7 from 5 to 5\n-- packets 1 used 0 refused 1 foreign 0\n-- refused NotText 1\n-- whole\n";
     expect_shown(&rt, rt.alloc(), &[&NO_TEXT], USUAL, refused)
+}
+
+#[test]
+fn what_was_lost_and_late_is_counted(rt: HostRuntime) -> Result<(), Fail> {
+    let expected =
+        "== 1001 from 0 to 1500 lost 1 late 1\n1001: a\u{FFFD}d\n-- 1001 bells 0\n-- packets 3 used 2 refused 0 foreign 0\n-- whole\n";
+    expect_shown(&rt, rt.alloc(), &[&WITH_GAPS], USUAL, expected)
+}
+
+#[test]
+fn noise_is_no_text(rt: HostRuntime) -> Result<(), Fail> {
+    let noise = "-- ssrc 7 type 111 packets 3\n-- whole\n";
+    expect_shown(&rt, rt.alloc(), &[&NOISE], USUAL, noise)?;
+    let half = "-- ssrc 7 type 111 packets 2 text\n-- whole\n";
+    expect_shown(&rt, rt.alloc(), &[&NOISE[21..]], USUAL, half)
 }
 
 #[test]

@@ -2,7 +2,8 @@
 ghost use Rattle.std.specs.Prelude.{◌≡◌, ℕ, ◌<◌, ◌^◌, ◌++◌, List, length, All, IfOk, OnOk};
 ghost use Rattle.wire_spec.specs.Dump.{Item};
 ghost use Rattle.command_spec.specs.Streams.{ssrc_of, type_of};
-ghost use Rattle.command_spec.specs.Showing.{end_line, items_view};
+ghost use Rattle.command_spec.specs.Showing.{end_line};
+ghost use Rattle.show_spec.specs.Showing.{items_view};
 ghost use Rattle.rtpdump_io.specs.InMemory.{HasRecords};
 ghost use Rattle.rtt_show.specs.Finds.{IsFound, IsSmall};
 ghost use Rattle.rtt_show.specs.Whole.{AreShown, IsGroupOf, IsGroupShown, ends, others_text, shape_limit};
@@ -83,7 +84,7 @@ fn append_others(found: &Found, out: &mut Bytes) -> Result<(), NoMemory>
 
 /// Appends the last line: that the recording is whole, or the fault behind which it can't be read.
 #[tactic(auto, unfolding(command_spec::specs::Showing::end_line))]
-fn append_end(end: Option<DumpFault>, out: &mut Bytes) -> Result<(), NoMemory>
+pub fn append_end(end: Option<DumpFault>, out: &mut Bytes) -> Result<(), NoMemory>
     ensures { OnOk result (out.new ≡ out.old ++ end_line (ends end)) }
 {
     match end {

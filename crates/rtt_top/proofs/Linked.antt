@@ -4,7 +4,7 @@ use Rattle.command_spec.specs.declared.faults.Refusal.TheVariants.{AtByte, AtFra
 use Rattle.command_spec.specs.declared.faults.Fault.TheVariants.{WrongWords, CannotOpen, CannotRead, Refused, CannotPrint, CannotWrite, LinkFailed, NoMemory}
 use Rattle.file_spec.specs.Conf.{Conf}
 use Rattle.serve_spec.specs.Served.{End}
-use Rattle.rtt_words.specs.Words.{MixWords, Command, Read, ListRecords, Send, Mix, Attend, Cascade, Make, Live, Watch, Relay, Channel, Show, Script, Check, Help, Version}
+use Rattle.rtt_words.specs.Words.{MixWords, Command, Read, ListRecords, Send, Mix, Attend, Cascade, Make, Live, Watch, Relay, Channel, Show, Times, Script, Check, Help, Version}
 use Rattle.command_spec.specs.Messages.{Ending}
 use Rattle.rtt_words.specs.declared.commands.MixWords as coded
 use Rattle.rtt_words.specs.declared.commands.Command as asked
@@ -52,6 +52,7 @@ plain_is_not_live (Watch m) e = absurd (true≢false (sym e))
 plain_is_not_live (Relay s) e = refl
 plain_is_not_live (Channel c) e = refl
 plain_is_not_live (Show l) e = refl
+plain_is_not_live (Times l) e = refl
 plain_is_not_live (Script r) e = refl
 plain_is_not_live (Check c) e = refl
 plain_is_not_live (Help t) e = refl
@@ -71,6 +72,7 @@ other_is_not_live (word.Watch m) other watch = absurd (watch m refl)
 other_is_not_live (word.Relay s) other watch = refl
 other_is_not_live (word.Channel c) other watch = refl
 other_is_not_live (word.Show l) other watch = refl
+other_is_not_live (word.Times l) other watch = refl
 other_is_not_live (word.Script r) other watch = refl
 other_is_not_live (word.Check c) other watch = refl
 other_is_not_live (word.Help t) other watch = refl

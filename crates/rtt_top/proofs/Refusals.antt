@@ -1,12 +1,14 @@
 -- Why a recording is refused, and what is printed of one that is not.
-use Rattle.std.proofs.Common.{◌≡◌, ℕ, List, refl, ap, ◌∙◌}
+use Rattle.std.proofs.Common.{◌≡◌, ℕ, Option, List, refl, ap, ◌∙◌}
 use Rattle.rtt_base.specs.declared.text_packets.Pts.{Pts}
 use Rattle.wire_spec.specs.Dump.{Recording, dump, usual_limit}
 use Rattle.rtpdump_io.specs.declared.items.RecordingFault.{RecordingFault}
 use Rattle.rtpdump_io.specs.declared.items.RecordingFault.TheVariants.{Dump, NoMemory}
 use Rattle.rtpdump_io.specs.Faults.{FaultOf}
-use Rattle.command_spec.specs.Showing.{if_no_recording, recording_view, show_view}
+use Rattle.command_spec.specs.Showing.{if_no_recording}
+use Rattle.show_spec.specs.Showing.{recording_view, show_view}
 use Rattle.rtt_show.specs.Gathers.{IsRefused}
+use Rattle.times_spec.specs.Times.{start_of, timed_view, times_view}
 use Rattle.rtt_top.specs.declared.views.RecordingView.{RecordingView}
 use Rattle.rtt_top.specs.declared.views.RecordingView.TheVariants.{Lines, Streams, Text, Transcript}
 use Rattle.rtt_top.specs.RecordingViews.{IsRefusal, PrintsView, command_of, refused_by, view_by}
@@ -24,6 +26,12 @@ shown_refusal recording NoMemory refused = tt
 pub printed_is : (pts : Pts) (come : Recording) (octets printed : List ℕ) → printed ≡ recording_view pts come → come ≡ dump usual_limit octets → printed ≡ show_view pts octets
 unfolding show_view
 printed_is pts come octets printed is to = is ∙ ap (recording_view pts) to
+
+-- what is told of it by the clock
+pub timed_is : (pts : Pts) (start : Option ℕ) (come : Recording) (octets printed : List ℕ) → printed ≡ timed_view pts start come
+    → start ≡ start_of octets → come ≡ dump usual_limit octets → printed ≡ times_view pts octets
+unfolding times_view
+timed_is pts start come octets printed is at to = is ∙ (ap (λ s. timed_view pts s come) at ∙ ap (timed_view pts (start_of octets)) to)
 
 -- each view is what its command prints
 pub prints_view : (it : RecordingView) (file : List ℕ) → PrintsView (refused_by it) (view_by it) file (command_of it file)

@@ -3,7 +3,7 @@ use Rattle.std.proofs.Common.{◌≡◌, ℕ, Bool, true, false, true≢false, S
 use Rattle.command_spec.specs.declared.faults.Fault.{Fault}
 use Rattle.command_spec.specs.Messages.{Ending, status_of}
 use Rattle.command_spec.specs.Work.{Contents}
-use Rattle.rtt_words.specs.Words.{Command, Read, ListRecords, Send, Mix, Attend, Cascade, Make, Live, Watch, Relay, Channel, Show, Script, Check, Help, Version}
+use Rattle.rtt_words.specs.Words.{Command, Read, ListRecords, Send, Mix, Attend, Cascade, Make, Live, Watch, Relay, Channel, Show, Times, Script, Check, Help, Version}
 use Rattle.rtt_top.specs.declared.conversions.Conversion.{Conversion}
 use Rattle.rtt_top.specs.declared.conversions.Conversion.TheVariants as conversion
 use Rattle.rtt_top.specs.declared.recorded.Mixing.{Mixing}
@@ -32,6 +32,7 @@ other (Watch m) WorldTells held ending status off is = is
 other (Relay s) WorldTells held ending status off is = is
 other (Channel c) WorldTells held ending status off is = is
 other (Show l) WorldTells held ending status off is = is
+other (Times l) WorldTells held ending status off is = is
 other (Script r) WorldTells held ending status off is = is
 other (Check c) WorldTells held ending status off is = absurd (true≢false off)
 other (Help t) WorldTells held ending status off is = is
@@ -51,6 +52,7 @@ of_fault (Watch m) WorldTells held fault status is = is
 of_fault (Relay s) WorldTells held fault status is = is
 of_fault (Channel c) WorldTells held fault status is = is
 of_fault (Show l) WorldTells held fault status is = is
+of_fault (Times l) WorldTells held fault status is = is
 of_fault (Script r) WorldTells held fault status is = is
 of_fault (Check c) WorldTells held fault status is = is
 of_fault (Help t) WorldTells held fault status is = is
@@ -71,6 +73,7 @@ can_be_found false (Watch m) e = absurd (true≢false (sym e))
 can_be_found false (Relay s) e = absurd (true≢false (sym e))
 can_be_found false (Channel c) e = absurd (true≢false (sym e))
 can_be_found false (Show l) e = absurd (true≢false (sym e))
+can_be_found false (Times l) e = absurd (true≢false (sym e))
 can_be_found false (Script r) e = absurd (true≢false (sym e))
 can_be_found false (Check c) e = refl
 can_be_found false (Help t) e = absurd (true≢false (sym e))
@@ -89,6 +92,7 @@ can_be (Watch m) WorldTells held ending status is can = subst (λ n. can_end (Wa
 can_be (Relay s) WorldTells held ending status is can = subst (λ n. can_end (Relay s) n ≡ true) (sym is) can
 can_be (Channel c) WorldTells held ending status is can = subst (λ n. can_end (Channel c) n ≡ true) (sym is) can
 can_be (Show l) WorldTells held ending status is can = subst (λ n. can_end (Show l) n ≡ true) (sym is) can
+can_be (Times l) WorldTells held ending status is can = subst (λ n. can_end (Times l) n ≡ true) (sym is) can
 can_be (Script r) WorldTells held ending status is can = subst (λ n. can_end (Script r) n ≡ true) (sym is) can
 can_be (Check c) WorldTells held (Ok done) status is can = subst (λ n. can_end (Check c) n ≡ true) (sym is.is_status) (can_be_found is.taken (Check c) refl)
 can_be (Check c) WorldTells held (Err fault) status is can = subst (λ n. can_end (Check c) n ≡ true) (sym is) can

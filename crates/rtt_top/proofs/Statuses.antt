@@ -2,7 +2,7 @@
 use Rattle.std.proofs.Common.{◌≡◌, ◌∙◌, ℕ, Bool, true, false, true≢false, Option, Some, None, List, [], Result, Ok, Err, refl, ap, sym, subst}
 use Rattle.wire_spec.specs.Dump.{dump, usual_limit}
 use Rattle.wire_spec.specs.Dump as dumps
-use Rattle.rtt_words.specs.Words.{Command, Read, ListRecords, Send, Mix, Attend, Cascade, Make, Live, Watch, Relay, Channel, Show, Script, Check, Help, Version}
+use Rattle.rtt_words.specs.Words.{Command, Read, ListRecords, Send, Mix, Attend, Cascade, Make, Live, Watch, Relay, Channel, Show, Times, Script, Check, Help, Version}
 use Rattle.command_spec.specs.declared.faults.Refusal.{Refusal}
 use Rattle.command_spec.specs.declared.faults.Refusal.TheVariants.{AtByte, AtFrame, AtLine, AtTrunk, AfterTurns}
 use Rattle.command_spec.specs.declared.faults.Fault.TheVariants.{WrongWords, CannotOpen, CannotRead, Refused, CannotPrint, CannotWrite, LinkFailed, NoMemory}
@@ -72,6 +72,7 @@ by_kind (Watch m) n = (off, off, off, λ e. refl)
 by_kind (Relay s) n = (off, λ e. refl, off, off)
 by_kind (Channel c) n = (λ e. refl, λ e. refl, off, off)
 by_kind (Show l) n = (λ e. refl, off, off, off)
+by_kind (Times l) n = (λ e. refl, off, off, off)
 by_kind (Script r) n = (λ e. refl, off, off, off)
 by_kind (Check c) n = (off, off, off, off)
 by_kind (Help t) n = (off, off, off, off)
@@ -98,6 +99,7 @@ module _ (WorldTells : Type 0) (old : Outside) (n : ℕ) (name : List ℕ) where
         (no_frame_line WorldTells old.contents c.out (channel c.ssrc r.0) n refusal line) r.2),
   )
   with_input (Show l) i = (refl, refl, λ refusal line r. absurd (no_line WorldTells old.contents (show_refusal r.0) (Makes _ []) n refusal line (λ none. none) r.2))
+  with_input (Times l) i = (refl, refl, λ refusal line r. absurd (no_line WorldTells old.contents (show_refusal r.0) (Makes _ []) n refusal line (λ none. none) r.2))
   with_input (Script q) i = (refl, refl, λ refusal line r. absurd (no_line WorldTells old.contents (dump usual_limit r.0).fault (Makes _ []) n refusal line (λ none. none) r.2))
   with_input (Check c) i = (refl, refl, λ refusal line r. absurd r.2)
   with_input (Help t) i = absurd i
@@ -136,6 +138,7 @@ named (Watch m) = refl
 named (Relay s) = refl
 named (Channel c) = refl
 named (Show l) = refl
+named (Times l) = refl
 named (Script r) = refl
 named (Check c) = refl
 named (Help t) = refl

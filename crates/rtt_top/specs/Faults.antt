@@ -8,7 +8,7 @@ use Rattle.command_spec.specs.declared.faults.Refusal.{Refusal}
 use Rattle.command_spec.specs.declared.faults.Refusal.TheVariants.{AtByte, AtFrame, AtLine, AtTrunk, AfterTurns}
 use Rattle.command_spec.specs.declared.faults.Fault.{Fault}
 use Rattle.command_spec.specs.declared.faults.Fault.TheVariants.{WrongWords, CannotOpen, CannotRead, Refused, CannotPrint, CannotWrite, LinkFailed, NoMemory}
-use Rattle.rtt_words.specs.Words.{Command, Read, ListRecords, Mix, Attend, Cascade, Make, Live, Watch, Relay, Channel, Show, Script, Check}
+use Rattle.rtt_words.specs.Words.{Command, Read, ListRecords, Mix, Attend, Cascade, Make, Live, Watch, Relay, Channel, Show, Times, Script, Check}
 use Rattle.command_spec.specs.Work.{Contents, Steps, Reads, Refuses, Makes, Serves}
 use Rattle.rtt_words.specs.Tasks.{work}
 use Rattle.command_spec.specs.Outcomes.{Outcome, Missing, Done, Served, outcome}
@@ -53,6 +53,7 @@ is_recording (Read r) input = true
 is_recording (ListRecords l) input = true
 is_recording (Channel c) input = true
 is_recording (Show l) input = true
+is_recording (Times l) input = true
 is_recording (Script r) input = true
 is_recording (Mix m) (suc leg) = true
 is_recording (Attend m) (suc leg) = true

@@ -16,7 +16,8 @@ use Rattle.live_loop.specs.Walks.{IsPaused}
 use Rattle.rtt_io.specs.declared.sinks.Sink as sinks
 use Rattle.live_run.specs.declared.faults.LiveFault.{LiveFault}
 use Rattle.live_run.specs.declared.reports.LiveReport.{LiveReport}
-use Rattle.live_run.specs.Calls.{AtPorts, BrokeOff, WasPaced}
+use Rattle.live_run.specs.Calls.{AtPorts, BrokeOff, WasPaced, at_ports_of}
+use Rattle.live_run.specs.Ends.{packets_in}
 use Rattle.live_run.specs.Opened.{LeadsAll, LeadsSome}
 use Rattle.rtt_top.specs.declared.serving.Serving.{Serving}
 use Rattle.rtt_top.specs.declared.serving.Serving.TheVariants.{Alone, Watched}
@@ -37,9 +38,9 @@ pub record IsServedTo (c : Conf) (LinksTell : Type 0) (old new : LinksLeft) (end
   pub takes : ℕ → Takes
   pub given : ℕ → List (List ℕ)
   pub keeps : HeadLive c takes given end printed
-  pub turned : LinksTell → WasPaced c keeps.served.table
+  pub turned : LinksTell → WasPaced c keeps.served.table old.pauses (at_ports_of c new.given)
   pub taken : LinksTell → AtPorts c new.taken takes
-  pub gave : LinksTell → AtPorts c new.given given
+  pub gave : LinksTell → AtPorts c (packets_in new.given) given
   pub leads : LinksTell → LeadsAll c old.leads new.leads
   pub paced : LinksTell → end ≡ Done → IsPaced c.turns c.tick old.moment new.moment
   pub paused : end ≡ Done → IsPaused c.turns old.pauses new.pauses
@@ -126,7 +127,7 @@ pub record IsServedFrom (share : Share) (S : Conf → End → List ℕ → Type 
 -- first one on, each from its port to its peer, and no other. It broke off, or no terminal was given anything.
 pub record IsGivenUp (c : Conf) (LinksTell : Type 0) (old new : LinksLeft) : Type 0 where
   pub leads : LinksTell → LeadsSome c old.leads new.leads
-  pub broke_off : BrokeOff LinksTell old.given new.taken new.given c
+  pub broke_off : BrokeOff LinksTell old.pauses old.given new.taken new.given c
 
 -- where the ending says that it was given up, this holds
 abbrev pub OnGivenUp : Ending → Type 0 → Type 0

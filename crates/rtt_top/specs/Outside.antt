@@ -19,7 +19,7 @@ pub record Output : Type 0 where
 pub record LinksLeft : Type 0 where
   pub leads : List (ℕ × List ℕ)
   pub taken : ℕ → Takes
-  pub given : ℕ → List (List ℕ)
+  pub given : ℕ → List (ℕ × List ℕ)
   pub calls : ℕ → ℕ
   pub ends : ℕ → ℕ
   pub moment : ℕ
@@ -53,7 +53,7 @@ abbrev pub outside_at : {W S D K : Type 0} → worlds.Ghosts W S D → sinks.Gho
 outside_at w k world out = outside (w.contents world) (w.own_faults world) (w.object_faults world) (output_at k out)
 
 -- what these links left
-abbrev pub left_by : {L I O : Type 0} → links.Ghosts L I O → L → LinksLeft
+abbrev pub left_by : {L I O C : Type 0} → links.Ghosts L I O C → L → LinksLeft
 left_by l left = record {
   leads = l.leads left;
   taken = l.taken_at left;
@@ -69,7 +69,7 @@ abbrev pub with_links : Outside → LinksLeft → Outside
 with_links o left = record o { links = left }
 
 -- what lies outside, where this is the world, this the output and these the links
-abbrev pub outside_over : {W S D K L I O : Type 0} → worlds.Ghosts W S D → sinks.Ghosts K → links.Ghosts L I O → W → K → L → Outside
+abbrev pub outside_over : {W S D K L I O C : Type 0} → worlds.Ghosts W S D → sinks.Ghosts K → links.Ghosts L I O C → W → K → L → Outside
 outside_over w k l world out left = with_links (outside_at w k world out) (left_by l left)
 
 -- the count of this name rose

@@ -1,5 +1,6 @@
 -- Commands that print a view of a recording.
 use Rattle.std.specs.Prelude.{◌≡◌, ℕ, true, Option, List, []}
+use Rattle.rtt_base.specs.declared.text_packets.Pts.{Pts}
 use Rattle.wire_spec.specs.Dump.{Recording, dump, usual_limit}
 use Rattle.wire_spec.specs.Dump as dumps
 use Rattle.rtpdump_io.specs.declared.items.RecordingFault.{RecordingFault}
@@ -7,9 +8,10 @@ use Rattle.rtpdump_io.specs.Faults.{FaultOf}
 use Rattle.command_spec.specs.declared.requests.ReadRequest.{ReadRequest}
 use Rattle.command_spec.specs.Listing.{list_view}
 use Rattle.command_spec.specs.Reading.{read_view}
-use Rattle.command_spec.specs.Showing.{if_no_recording, show_view}
+use Rattle.command_spec.specs.Showing.{if_no_recording}
+use Rattle.show_spec.specs.Showing.{show_view}
 use Rattle.command_spec.specs.Transcripts.{transcript_view}
-use Rattle.rtt_words.specs.Words.{Command, ListRecords, Read, ReadWords, Script, Show}
+use Rattle.rtt_words.specs.Words.{Command, ListRecords, Read, ReadWords, Script, Show, Times}
 use Rattle.rtt_words.specs.Tasks.{prints_unless, work}
 use Rattle.rtt_top.specs.declared.views.RecordingView.{RecordingView}
 use Rattle.rtt_top.specs.declared.views.RecordingView.TheVariants.{Lines, Streams, Text, Transcript}
@@ -38,6 +40,10 @@ command_of (Lines pts) file = ListRecords (record { file = file; pts = pts })
 command_of (Streams pts) file = Show (record { file = file; pts = pts })
 command_of (Text request) file = Read (words_for request file)
 command_of (Transcript request) file = Script (words_for request file)
+
+-- the command that tells, by the clock, what came in the recording of this name
+abbrev pub times_command : Pts → List ℕ → Command
+times_command pts file = Times (record { file = file; pts = pts })
 
 -- why nothing is printed, where the recording has this fault or none
 abbrev pub refused_by : RecordingView → Option dumps.Fault → Option dumps.Fault

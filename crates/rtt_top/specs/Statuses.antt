@@ -1,7 +1,7 @@
 -- The statuses with which each command can end.
 use Rattle.std.specs.Prelude.{◌≡◌, ◌==◌, ◌||◌, ℕ, Bool, true, false, Some, List, [], ◌∷◌, map}
 use Rattle.std.specs.List.{list_any}
-use Rattle.rtt_words.specs.Words.{Command, Read, ListRecords, Send, Mix, Attend, Cascade, Make, Live, Watch, Relay, Channel, Show, Script, Check, Help, Version}
+use Rattle.rtt_words.specs.Words.{Command, Read, ListRecords, Send, Mix, Attend, Cascade, Make, Live, Watch, Relay, Channel, Show, Times, Script, Check, Help, Version}
 use Rattle.rtt_words.specs.declared.topics.Topic.{Topic}
 use Rattle.rtt_words.specs.declared.topics.Topic.TheVariants as of
 use Rattle.rtt_words.specs.Help.{statuses}
@@ -31,6 +31,7 @@ can_stop (Watch m) status = is_unread status || status == 5 || status == 8
 can_stop (Relay s) status = is_unread status || status == 6
 can_stop (Channel c) status = is_unread status || status == 6
 can_stop (Show l) status = is_unread status || status == 6
+can_stop (Times l) status = is_unread status || status == 6
 can_stop (Script r) status = is_unread status || status == 6
 can_stop (Check c) status = is_unread status || status == 1
 can_stop (Help t) status = false
@@ -59,6 +60,7 @@ topic_of (Watch m) = of.Watch
 topic_of (Relay s) = of.Relay
 topic_of (Channel c) = of.Channel
 topic_of (Show l) = of.Show
+topic_of (Times l) = of.Times
 topic_of (Script r) = of.Script
 topic_of (Check c) = of.Check
 topic_of (Help t) = of.Help

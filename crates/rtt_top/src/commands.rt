@@ -11,6 +11,7 @@ use crate::help::run_help;
 use crate::make::run_make;
 use crate::recorded::{Mixing, run_mixing};
 use crate::recordings::run_view;
+use crate::timed::run_times;
 use crate::trunk::run_cascade;
 use crate::version::run_version;
 use crate::views::{RecordingView, request_of};
@@ -45,6 +46,7 @@ pub fn carry_out_plain<W: World, K: Sink, E: Sink>(
             let streams = RecordingView::Streams(words.pts);
             Some(run_view(alloc, words.file, streams, world, out, err))
         }
+        Command::Times(words) => { Some(run_times(alloc, words.file, words.pts, world, out, err)) }
         Command::Script(words) => {
             let transcript = RecordingView::Transcript(request_of(words));
             Some(run_view(alloc, words.file, transcript, world, out, err))
@@ -108,6 +110,7 @@ pub fn carry_out<R: Threads + Wait + Sync, W: World, K: Sink, E: Sink, G: Gate +
         | Command::Relay(_)
         | Command::Channel(_)
         | Command::Show(_)
+        | Command::Times(_)
         | Command::Script(_)
         | Command::Check(_)
         | Command::Help(_)

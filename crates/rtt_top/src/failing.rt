@@ -179,11 +179,12 @@ const SENT: &[&str] = &["sent"];
 const SAID: &[&str] = &["said"];
 
 // Of all others.
-const OF_OTHERS: [Case<'static>; 30] = [
+const OF_OTHERS: [Case<'static>; 33] = [
     // a recording or a script can't be opened
     Ended("read a.in 1001", NONE, &[Open("a.in")]),
     Ended("list a.in", NONE, &[Open("a.in")]),
     Ended("show a.in", NONE, &[Open("a.in")]),
+    Ended("times a.in", NONE, &[Open("a.in")]),
     Ended("script a.in 1001", NONE, &[Open("a.in")]),
     Ended("send two.txt sent 1001 0 0", SENT, &[Open("two.txt")]),
     Ended("relay frames sent 1001 0 0", SENT, &[Open("frames")]),
@@ -192,6 +193,7 @@ const OF_OTHERS: [Case<'static>; 30] = [
     Ended("read a.in 1001", NONE, &[Read("a.in")]),
     Ended("list a.in", NONE, &[Read("a.in")]),
     Ended("show a.in", NONE, &[Read("a.in")]),
+    Ended("times a.in", NONE, &[Read("a.in")]),
     Ended("script a.in 1001", NONE, &[Read("a.in")]),
     Ended("send two.txt sent 1001 0 0", SENT, &[Read("two.txt")]),
     Ended("relay frames sent 1001 0 0", SENT, &[Read("frames")]),
@@ -207,6 +209,7 @@ const OF_OTHERS: [Case<'static>; 30] = [
     Ended("read a.in 1001", NONE, &[Print("| Hey")]),
     Ended("list a.in", NONE, &[Print("0 0 mark 0")]),
     Ended("show a.in", NONE, &[Print("== 1001")]),
+    Ended("times a.in", NONE, &[Print("-- began")]),
     Ended("script a.in 1001", NONE, &[Print("0 H")]),
     Ended("make 13", NONE, &[Print("make 1")]),
     Ended("version", NONE, &[Print("rtt")]),

@@ -19,6 +19,7 @@ mod relay;
 mod runs;
 mod send;
 mod serving;
+mod timed;
 mod told;
 mod trunk;
 mod version;

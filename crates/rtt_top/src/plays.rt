@@ -121,6 +121,7 @@ usage: rtt_program read FILE SSRC [SOURCE [T140 RED]]
 \x20      rtt_program relay FRAMES OUT SSRC SEQ STAMP
 \x20      rtt_program channel FILE SSRC OUT
 \x20      rtt_program show FILE [T140 RED]
+\x20      rtt_program times FILE [T140 RED]
 \x20      rtt_program script FILE SSRC [SOURCE [T140 RED]]
 \x20      rtt_program check FILE
 \x20      rtt_program help [COMMAND]

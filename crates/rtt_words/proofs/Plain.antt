@@ -11,7 +11,7 @@ use Rattle.rtt_base.specs.declared.text_packets.Pts.{Pts}
 use Rattle.file_spec.specs.Numbers.{is_number, number, most_ssrc, payload_type}
 use Rattle.command_spec.specs.Usual.{usual_pts}
 use Rattle.rtt_words.specs.Help.{topic}
-use Rattle.rtt_words.specs.Words.{Read, ListRecords, Send, Cascade, Live, Watch, Relay, Channel, ChannelWords, Show, Script, Check, Help, Command, before_conf, to_check, cascade_words, channel_words, command, help_words, if_different, is_word, list_of, list_words, make_words, Make, mix_words, Mix, Attend, payload_types, read_of, read_words, send_of, send_words, version_words}
+use Rattle.rtt_words.specs.Words.{Read, ListRecords, Send, Cascade, Live, Watch, Relay, Channel, ChannelWords, Show, Times, Script, Check, Help, Command, before_conf, to_check, cascade_words, channel_words, command, help_words, if_different, is_word, list_of, list_words, make_words, Make, mix_words, Mix, Attend, payload_types, read_of, read_words, send_of, send_words, version_words}
 
 abbrev Text : Type 0
 Text = List ℕ
@@ -205,13 +205,14 @@ command_off name words e =
     (choice (bytes_eq name (codes "relay")) (option_map Relay (send_words words)) _ (ap (option_map Relay) (send_off words e))
     (choice (bytes_eq name (codes "channel")) (option_map Channel (channel_words words)) _ (ap (option_map Channel) (channel_off words e))
     (choice (bytes_eq name (codes "show")) (option_map Show (list_words words)) _ (ap (option_map Show) (list_off words e))
+    (choice (bytes_eq name (codes "times")) (option_map Times (list_words words)) _ (ap (option_map Times) (list_off words e))
     (choice (bytes_eq name (codes "script")) (option_map Script (read_words words)) _ (ap (option_map Script) (read_off words e))
     (choice (bytes_eq name (codes "check")) (option_map Check (option_map to_check (mix_words words))) _ (ap (λ o. option_map Check (option_map to_check o)) (mix_off words e))
     (choice (bytes_eq name (codes "help")) (help_words words) _ (help_off words e)
     (choice (bytes_eq name (codes "--help")) (help_words words) _ (help_off words e)
     (choice (bytes_eq name (codes "-h")) (help_words words) _ (help_off words e)
     (choice (bytes_eq name (codes "version")) (version_words words) _ (version_off words e)
-    (choice (bytes_eq name (codes "--version")) (version_words words) None (version_off words e) refl))))))))))))))))))
+    (choice (bytes_eq name (codes "--version")) (version_words words) None (version_off words e) refl)))))))))))))))))))
 
 -- the same of a list of words, of which the first is the name
 pub command_off_rest : (words : List (String Global)) → 1 ≤ length words

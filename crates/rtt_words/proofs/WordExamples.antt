@@ -3,7 +3,7 @@ use Rattle.std.proofs.Common.{◌≡◌, ℕ, List, [], ◌∷◌, Some, true, c
 use Rattle.std.specs.List.{list_all}
 use Rattle.std.specs.Option.{is_none}
 use Rattle.rtt_words.specs.declared.topics.Topic.TheVariants as of
-use Rattle.rtt_words.specs.Words.{command, Command, Read, ListRecords, Send, Mix, Attend, Cascade, Make, Live, Watch, Relay, Channel, Show, Script, Check, Help, Version}
+use Rattle.rtt_words.specs.Words.{command, Command, Read, ListRecords, Send, Mix, Attend, Cascade, Make, Live, Watch, Relay, Channel, Show, Times, Script, Check, Help, Version}
 
 -- the words of each row ask for what stands behind them
 abbrev AskFor : List (List (List ℕ) × Command) → Type 0
@@ -25,6 +25,7 @@ list_a_recording : AskFor (
     (codes "list" ∷ codes "a.rtp" ∷ [], ListRecords (record { file = codes "a.rtp"; pts = record { t140 = 98; red = 100 } }))
     ∷ (codes "show" ∷ codes "a.rtp" ∷ [], Show (record { file = codes "a.rtp"; pts = record { t140 = 98; red = 100 } }))
     ∷ (codes "show" ∷ codes "a.rtp" ∷ codes "96" ∷ codes "97" ∷ [], Show (record { file = codes "a.rtp"; pts = record { t140 = 96; red = 97 } }))
+    ∷ (codes "times" ∷ codes "a.rtp" ∷ codes "96" ∷ codes "97" ∷ [], Times (record { file = codes "a.rtp"; pts = record { t140 = 96; red = 97 } }))
     ∷ [])
 list_a_recording = refl
 

@@ -41,7 +41,7 @@ app_with name all some = with_rules false (with_rules true (bare_app name) all) 
 abbrev pub read_app : App
 read_app = app_with (codes "read") (codes "FILE" ∷ codes "SSRC" ∷ []) (codes "SOURCE" ∷ codes "T140" ∷ codes "RED" ∷ [])
 
--- `list FILE`, and then T140 and RED; `show` has the same
+-- `list FILE`, and then T140 and RED; `show` and `times` have the same
 abbrev pub list_app : App
 list_app = app_with (codes "list") (codes "FILE" ∷ []) (codes "T140" ∷ codes "RED" ∷ [])
 

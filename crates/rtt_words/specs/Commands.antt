@@ -9,7 +9,7 @@ use Rattle.rtt_words.specs.declared.commands.ChannelWords.{ChannelWords}
 use Rattle.rtt_words.specs.declared.commands.CascadeWords.{CascadeWords}
 use Rattle.rtt_words.specs.declared.commands.CheckWords.{CheckWords}
 use Rattle.rtt_words.specs.declared.commands.Command.{Command}
-use Rattle.rtt_words.specs.declared.commands.Command.TheVariants.{Read, ListRecords, Send, Mix, Attend, Cascade, Make, Live, Watch, Relay, Channel, Show, Script, Check, Help, Version}
+use Rattle.rtt_words.specs.declared.commands.Command.TheVariants.{Read, ListRecords, Send, Mix, Attend, Cascade, Make, Live, Watch, Relay, Channel, Show, Times, Script, Check, Help, Version}
 
 abbrev pub asked : ReadWords → words.ReadWords
 asked r = record { file = r.file.now; ssrc = r.ssrc; source = r.source; pts = r.pts }
@@ -48,6 +48,7 @@ meaning (Watch m) = words.Watch (mixed m)
 meaning (Relay s) = words.Relay (sent s)
 meaning (Channel c) = words.Channel (channelled c)
 meaning (Show l) = words.Show (listed l)
+meaning (Times l) = words.Times (listed l)
 meaning (Script r) = words.Script (asked r)
 meaning (Check c) = words.Check (checked c)
 meaning (Help t) = words.Help t

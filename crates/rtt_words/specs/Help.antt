@@ -7,7 +7,7 @@ use Rattle.rtt_words.specs.declared.topics.Topic.TheVariants as of
 
 -- the commands, in the order in which they are told
 abbrev pub commands : List Topic
-commands = of.Read ∷ of.List ∷ of.Send ∷ of.Mix ∷ of.Attend ∷ of.Cascade ∷ of.Make ∷ of.Live ∷ of.Watch ∷ of.Relay ∷ of.Channel ∷ of.Show ∷ of.Script ∷ of.Check ∷ of.Help ∷ of.Version ∷ []
+commands = of.Read ∷ of.List ∷ of.Send ∷ of.Mix ∷ of.Attend ∷ of.Cascade ∷ of.Make ∷ of.Live ∷ of.Watch ∷ of.Relay ∷ of.Channel ∷ of.Show ∷ of.Times ∷ of.Script ∷ of.Check ∷ of.Help ∷ of.Version ∷ []
 
 -- the command of this name, or all of them
 abbrev pub topic : List ℕ → Option Topic
@@ -24,10 +24,11 @@ topic name =
     else (if bytes_eq name (codes "relay") then Some of.Relay
     else (if bytes_eq name (codes "channel") then Some of.Channel
     else (if bytes_eq name (codes "show") then Some of.Show
+    else (if bytes_eq name (codes "times") then Some of.Times
     else (if bytes_eq name (codes "script") then Some of.Script
     else (if bytes_eq name (codes "check") then Some of.Check
     else (if bytes_eq name (codes "help") then Some of.Help
-    else (if bytes_eq name (codes "version") then Some of.Version else None)))))))))))))))
+    else (if bytes_eq name (codes "version") then Some of.Version else None))))))))))))))))
 
 -- its words
 abbrev pub row : Topic → List ℕ
@@ -44,6 +45,7 @@ row of.Watch = codes "watch CONF"
 row of.Relay = codes "relay FRAMES OUT SSRC SEQ STAMP"
 row of.Channel = codes "channel FILE SSRC OUT"
 row of.Show = codes "show FILE [T140 RED]"
+row of.Times = codes "times FILE [T140 RED]"
 row of.Script = codes "script FILE SSRC [SOURCE [T140 RED]]"
 row of.Check = codes "check FILE"
 row of.Help = codes "help [COMMAND]"
@@ -104,6 +106,7 @@ does of.Watch = codes "does what live does while a reader follows the texts, and
 does of.Relay = codes "makes the recording of what a sender sends of frames of text\n" ++ (codes "FRAMES: frames, each a time in 32 bits, a length in 16 bits, and so many octets of text\n" ++ (out_word ++ sending_words))
 does of.Channel = codes "writes the text of a recording as frames\n" ++ (file_word ++ (ssrc_word ++ (codes "OUT: the file of frames that is made\n")))
 does of.Show = codes "prints all that was typed in each stream of a recording, and what else is in it; of one that is broken, the front\n" ++ (file_word ++ types_words)
+does of.Times = codes "prints what came in a recording in the order of its moments, by the clock: each text, and which numbers were lost or late\n" ++ (file_word ++ types_words)
 does of.Script = codes "prints the text of a source of a recording as a script, which send takes\n" ++ (file_word ++ (ssrc_word ++ (source_word ++ types_words)))
 does of.Check = codes "prints what a file is, whether the program takes it, and if not where, why, and what to do\n" ++ (codes "FILE: a recording, a script, a conference or frames\n")
 does of.Help = codes "prints the words of all commands, or of one its words, what it does, and the statuses with which it ends\n" ++ (codes "COMMAND: the first word of a command\n")
@@ -124,6 +127,7 @@ statuses of.Watch = 0 ∷ 3 ∷ 4 ∷ 5 ∷ 7 ∷ 8 ∷ 70 ∷ []
 statuses of.Relay = 0 ∷ 3 ∷ 4 ∷ 6 ∷ 7 ∷ 70 ∷ []
 statuses of.Channel = 0 ∷ 3 ∷ 4 ∷ 6 ∷ 7 ∷ 70 ∷ []
 statuses of.Show = 0 ∷ 3 ∷ 4 ∷ 6 ∷ 7 ∷ 70 ∷ []
+statuses of.Times = 0 ∷ 3 ∷ 4 ∷ 6 ∷ 7 ∷ 70 ∷ []
 statuses of.Script = 0 ∷ 3 ∷ 4 ∷ 6 ∷ 7 ∷ 70 ∷ []
 statuses of.Check = 0 ∷ 1 ∷ 3 ∷ 4 ∷ 7 ∷ 70 ∷ []
 statuses of.Help = 0 ∷ 7 ∷ 70 ∷ []
@@ -138,7 +142,7 @@ status_line status =
     else (if status == 5 then codes "status 5: the script or the conference is refused\n"
     else (if status == 6 then codes "status 6: a recording, or frames, are refused\n"
     else (if status == 7 then codes "status 7: the output, or OUT, cannot be written\n"
-    else (if status == 8 then codes "status 8: a link cannot be opened, or fails\n"
+    else (if status == 8 then codes "status 8: a link cannot be opened\n"
     else (if status == 9 then codes "status 9: the conference takes too many turns\n" else codes "status 70: out of memory\n"))))))))
 
 abbrev pub help_text : Topic → List ℕ

@@ -6,7 +6,7 @@ use Rattle.file_spec.specs.declared.kinds.ConfKind.TheVariants.{Full}
 use Rattle.file_spec.specs.Script.{ScriptLine}
 use Rattle.file_spec.specs.Lines as lines
 use Rattle.file_spec.specs.Script.{script}
-use Rattle.rtt_words.specs.Words.{ReadWords, SendWords, Command, Read, ListRecords, Send, Mix, Attend, Cascade, Make, Live, Watch, Relay, Channel, Show, Script, Check, Help, Version}
+use Rattle.rtt_words.specs.Words.{ReadWords, SendWords, Command, Read, ListRecords, Send, Mix, Attend, Cascade, Make, Live, Watch, Relay, Channel, Show, Times, Script, Check, Help, Version}
 use Rattle.check_spec.specs.Checking.{report}
 use Rattle.rtt_words.specs.Help.{help_text}
 use Rattle.command_spec.specs.declared.faults.Refusal.TheVariants.{AtByte, AtFrame, AtLine}
@@ -18,7 +18,9 @@ use Rattle.command_spec.specs.Making.{making}
 use Rattle.command_spec.specs.Messages.{version_line}
 use Rattle.command_spec.specs.Mixing.{mixing}
 use Rattle.command_spec.specs.Reading.{read_view}
-use Rattle.command_spec.specs.Showing.{show_refusal, show_view}
+use Rattle.command_spec.specs.Showing.{show_refusal}
+use Rattle.show_spec.specs.Showing.{show_view}
+use Rattle.times_spec.specs.Times.{times_view}
 use Rattle.command_spec.specs.Transcripts.{transcript_view}
 use Rattle.command_spec.specs.Frames.{relay, channel}
 use Rattle.frame_spec.specs.declared.frames.FrameFault.{FrameFault}
@@ -90,6 +92,7 @@ work (Channel c) = record {
   steps = Reads c.file (λ octets. unless_broken (recording_fault octets) (saves_frames c.out (channel c.ssrc octets)));
 }
 work (Show l) = prints_unless show_refusal l.file (show_view l.pts)
+work (Times l) = prints_unless show_refusal l.file (times_view l.pts)
 work (Script r) = prints_recording r.file (transcript_view (request_of r))
 work (Check c) = record { prints = true; steps = Reads c.file (λ octets. Makes (report c.file octets).text []) }
 work (Help t) = record { prints = true; steps = Makes (help_text t) [] }

@@ -15,7 +15,7 @@ pub record ReadWords : Type 0 where
   pub source : ℕ
   pub pts : Pts
 
--- what `list` and `show` are asked for: the records of a recording, under two payload types
+-- what `list`, `show` and `times` are asked for: the records of a recording, under two payload types
 pub record ListWords : Type 0 where
   pub file : List ℕ
   pub pts : Pts
@@ -66,6 +66,7 @@ pub data Command : Type 0 where
   Relay : SendWords → Command
   Channel : ChannelWords → Command
   Show : ListWords → Command
+  Times : ListWords → Command
   Script : ReadWords → Command
   Check : CheckWords → Command
   Help : Topic → Command
@@ -184,10 +185,11 @@ command (name ∷ words) =
     else (if bytes_eq name (codes "relay") then option_map Relay (send_words words)
     else (if bytes_eq name (codes "channel") then option_map Channel (channel_words words)
     else (if bytes_eq name (codes "show") then option_map Show (list_words words)
+    else (if bytes_eq name (codes "times") then option_map Times (list_words words)
     else (if bytes_eq name (codes "script") then option_map Script (read_words words)
     else (if bytes_eq name (codes "check") then option_map Check (check_words words)
     else (if bytes_eq name (codes "help") then help_words words
     else (if bytes_eq name (codes "--help") then help_words words
     else (if bytes_eq name (codes "-h") then help_words words
     else (if bytes_eq name (codes "version") then version_words words
-    else (if bytes_eq name (codes "--version") then version_words words else None))))))))))))))))))
+    else (if bytes_eq name (codes "--version") then version_words words else None)))))))))))))))))))

@@ -14,7 +14,7 @@ pub struct ReadWords<'a> {
     pub pts: Pts,
 }
 
-/// What `list` and `show` are asked for.
+/// What `list`, `show` and `times` are asked for.
 #[derive(Clone, Copy, Debug, PartialEq, Eq)]
 pub struct ListWords<'a> {
     /// The name of the recording.
@@ -106,6 +106,8 @@ pub enum Command<'a> {
     Channel(ChannelWords<'a>),
     /// Prints what was typed in each stream of a recording, and what else is there.
     Show(ListWords<'a>),
+    /// Prints what came in a recording, by the clock.
+    Times(ListWords<'a>),
     /// Prints the text of a source of a recording as a script.
     Script(ReadWords<'a>),
     /// Prints what a file is, and what is wrong with it.

@@ -117,7 +117,7 @@ impl<'a> Arguments<'a> for ListWords<'a> {
 
     ghost table_row = { record { meant = listed; given = list_given; said = table.list_words } };
 
-    /// `list FILE`, and then T140 and RED. `show` has the same.
+    /// `list FILE`, and then T140 and RED. `show` and `times` have the same.
     fn form(alloc: Global) -> Result<Command<'a>, AllocError> {
         command_with(alloc, "list", &["FILE"], &["T140", "RED"])
     }

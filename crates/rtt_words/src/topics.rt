@@ -19,6 +19,7 @@ pub enum Topic {
     Relay,
     Channel,
     Show,
+    Times,
     Script,
     Check,
     Help,
@@ -42,6 +43,7 @@ pub(crate) fn topic_of(name: &str) -> Option<Topic>
         "relay" => Some(Topic::Relay),
         "channel" => Some(Topic::Channel),
         "show" => Some(Topic::Show),
+        "times" => Some(Topic::Times),
         "script" => Some(Topic::Script),
         "check" => Some(Topic::Check),
         "help" => Some(Topic::Help),
@@ -63,6 +65,7 @@ usage: rtt_program read FILE SSRC [SOURCE [T140 RED]]
 \x20      rtt_program relay FRAMES OUT SSRC SEQ STAMP
 \x20      rtt_program channel FILE SSRC OUT
 \x20      rtt_program show FILE [T140 RED]
+\x20      rtt_program times FILE [T140 RED]
 \x20      rtt_program script FILE SSRC [SOURCE [T140 RED]]
 \x20      rtt_program check FILE
 \x20      rtt_program help [COMMAND]
@@ -174,7 +177,7 @@ status 3: a file cannot be opened
 status 4: a file cannot be read to its end
 status 5: the script or the conference is refused
 status 7: the output, or OUT, cannot be written
-status 8: a link cannot be opened, or fails
+status 8: a link cannot be opened
 status 70: out of memory
 ";
 
@@ -187,7 +190,7 @@ status 3: a file cannot be opened
 status 4: a file cannot be read to its end
 status 5: the script or the conference is refused
 status 7: the output, or OUT, cannot be written
-status 8: a link cannot be opened, or fails
+status 8: a link cannot be opened
 status 70: out of memory
 ";
 
@@ -222,6 +225,19 @@ status 70: out of memory
 const SHOW: &[u8] = b"\
 usage: rtt_program show FILE [T140 RED]
 prints all that was typed in each stream of a recording, and what else is in it; of one that is broken, the front
+FILE: a recording, in the form of rtpdump
+T140 RED: the payload types of text/t140 and text/red, two different numbers from 96 to 127; left out, 98 100
+status 0: all is done
+status 3: a file cannot be opened
+status 4: a file cannot be read to its end
+status 6: a recording, or frames, are refused
+status 7: the output, or OUT, cannot be written
+status 70: out of memory
+";
+
+const TIMES: &[u8] = b"\
+usage: rtt_program times FILE [T140 RED]
+prints what came in a recording in the order of its moments, by the clock: each text, and which numbers were lost or late
 FILE: a recording, in the form of rtpdump
 T140 RED: the payload types of text/t140 and text/red, two different numbers from 96 to 127; left out, 98 100
 status 0: all is done
@@ -295,6 +311,7 @@ pub fn help_text(topic: Topic) -> &'static [u8]
         Topic::Relay => RELAY,
         Topic::Channel => CHANNEL,
         Topic::Show => SHOW,
+        Topic::Times => TIMES,
         Topic::Script => SCRIPT,
         Topic::Check => CHECK,
         Topic::Help => HELP,

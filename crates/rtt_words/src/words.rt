@@ -94,6 +94,7 @@ fn named<'a>(alloc: Global, name: &str, words: &'a [String]) -> Result<Command<'
         "relay" => Ok(Command::Relay(from_words(alloc, words)?)),
         "channel" => Ok(Command::Channel(from_words(alloc, words)?)),
         "show" => Ok(Command::Show(from_words(alloc, words)?)),
+        "times" => Ok(Command::Times(from_words(alloc, words)?)),
         "script" => Ok(Command::Script(from_words(alloc, words)?)),
         "check" => Ok(Command::Check(check_command(alloc, words)?)),
         "help" | "--help" | "-h" => Ok(Command::Help(from_words(alloc, words)?)),

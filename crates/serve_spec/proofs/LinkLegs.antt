@@ -18,7 +18,7 @@ use Rattle.file_spec.specs.Steps.{unless}
 use Rattle.file_spec.specs.Lines.{Line, at_line, read_lines, told, words}
 use Rattle.file_spec.specs.Numbers.{most_ssrc, number, pts}
 use Rattle.file_spec.specs.Stays.{is_crowd}
-use Rattle.file_spec.specs.Conf.{Above, Conf, Entry, Gens, Leg, Mixer, Plan, Relabel, Spacing, Stays, Tick, Turns, Wait, and_line, aware_of, change_leg, clashes, complete, conf, entry, gens, has_names, has_port, is_blank, is_mixers, leg, leg_of, mixer, most_legs, new_leg, nothing, port, says, setting, shares_own, shares_path, stay_or_plan, time_or_other, usual_types, whole, whole_stay, with_entry, with_gens}
+use Rattle.file_spec.specs.Conf.{Above, Conf, Entry, Gens, Leg, Mixer, Plan, Relabel, Serves, Spacing, Stays, Tick, Turns, Wait, and_line, aware_of, change_leg, clashes, complete, conf, entry, gens, has_names, has_port, is_blank, is_mixers, is_operators, leg, leg_of, mixer, most_legs, new_leg, nothing, port, says, setting, shares_own, shares_path, stay_or_plan, time_or_other, usual_types, whole, whole_stay, with_entry, with_gens}
 use Rattle.rtt_base.proofs.Steps.{bind_ok}
 use Rattle.file_spec.proofs.Passed.{unless_ok}
 use Rattle.rtt_base.specs.declared.limits.TheConstants.{LONGEST_WAIT}
@@ -41,6 +41,7 @@ Fits above (Wait n) = Unit {0}
 Fits above (Turns n) = Unit {0}
 Fits above (Relabel n) = Unit {0}
 Fits above (Plan p) = Unit {0}
+Fits above (Serves s) = Unit {0}
 
 -- ---- legs
 new_leg_is : (above : Above) (l x : LegLine) → l.stay ≡ whole_stay → is_some (port l.input) ≡ true → new_leg Links above l ≡ Ok x → IsNewLink above.legs x
@@ -49,10 +50,11 @@ new_leg_is above l x stays numbered e =
     let b = bind_ok (unless (nat_le (most_legs Links) (length above.legs)) Many l) (unless (list_any (λ a. bytes_eq a.name l.name) above.legs) Twice) a.0 a.1 in
     let u = unless_ok (clashes Links above l) Clash a.0 x a.2 in
     let same : l ≡ x = (unless_ok (nat_le (most_legs Links) (length above.legs)) Many l b.0 b.1).1 ∙ ((unless_ok (list_any (λ a. bytes_eq a.name l.name) above.legs) Twice b.0 a.0 b.2).1 ∙ u.1) in
-    let first = or_parts (list_any (λ a. a.ssrc == l.ssrc) above.legs) (is_mixers above.mixer l.ssrc || (shares_own Links l || list_any (λ a. shares_path Links a l) above.legs)) u.0 in
-    let second = or_parts (is_mixers above.mixer l.ssrc) (shares_own Links l || list_any (λ a. shares_path Links a l) above.legs) first.1 in
-    let third = or_parts (shares_own Links l) (list_any (λ a. shares_path Links a l) above.legs) second.1 in
-    subst (IsNewLink above.legs) same (record { stays = stays; numbered = numbered; apart = third.1 })
+    let first = or_parts (list_any (λ a. a.ssrc == l.ssrc) above.legs) (is_mixers above.mixer l.ssrc || (shares_own Links l || (list_any (λ a. shares_path Links a l) above.legs || is_operators above.service.operator (port l.input)))) u.0 in
+    let second = or_parts (is_mixers above.mixer l.ssrc) (shares_own Links l || (list_any (λ a. shares_path Links a l) above.legs || is_operators above.service.operator (port l.input))) first.1 in
+    let third = or_parts (shares_own Links l) (list_any (λ a. shares_path Links a l) above.legs || is_operators above.service.operator (port l.input)) second.1 in
+    let fourth = or_parts (list_any (λ a. shares_path Links a l) above.legs) (is_operators above.service.operator (port l.input)) third.1 in
+    subst (IsNewLink above.legs) same (record { stays = stays; numbered = numbered; apart = fourth.0 })
 
 leg_of_fits : (above : Above) (n : ℕ) (name mode ssrc input output : List ℕ) (types : Option Pts) (x : LegLine) → leg_of Links above n name mode ssrc input output types ≡ Ok x → IsNewLink above.legs x
 leg_of_fits above n name mode ssrc input output types x e =
@@ -84,6 +86,7 @@ entry_fits above n = record {
   each_wait = λ ws x e. tt;
   each_turns = λ ws x e. tt;
   each_relabel = λ ws x e. tt;
+  each_service = λ q word ws x e. tt;
 }
 
 -- ---- the whole, where none keeps it, one more keeps it, and another count of generations does
@@ -100,6 +103,7 @@ module _ (Fit : List LegLine → Type 0) (none : Fit []) (push : (above : List L
   more above (Relabel m) f n = f
   more above (Mixer x) f n = f
   more above (Plan p) f n = f
+  more above (Serves s) f n = f
 
   line_fits : (above later : Above) (line : Line) → and_line Links above line ≡ Ok later → Fit above.legs → Fit later.legs
   line_fits above later line e f =

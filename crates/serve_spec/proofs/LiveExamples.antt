@@ -9,6 +9,7 @@ use Rattle.wire_spec.specs.Red.{headers_at, texts_at, red}
 use Rattle.wire_spec.specs.Text.{text_of_short, text_of}
 use Rattle.file_spec.specs.declared.conf_lines.Form.TheVariants.{Links}
 use Rattle.file_spec.specs.declared.conf_lines.LegLine.{LegLine}
+use Rattle.file_spec.specs.Services.{no_service}
 use Rattle.file_spec.specs.Conf.{Conf, conf, entry, leg_of, mixer_of, stay_or_plan, time_or_other}
 use Rattle.stream_spec.specs.Ready.{Chunk}
 use Rattle.text_spec.specs.Characters.{class_of}
@@ -38,7 +39,7 @@ abbrev bob : LegLine
 bob = record { line = 2; name = codes "Bob"; aware = true; ssrc = 1002; input = codes "5006"; output = codes "127.0.0.1:6006"; pts = types; gens = 2; stay = for_good }
 
 abbrev call : ℕ → Conf
-call turns = record { legs = ann ∷ bob ∷ []; tick = 100; spacing = 300; wait = 1000; turns = turns; relabel = None; mixer = record { ssrc = 9000; seq = 100; stamp = 5000 }; plan = [] }
+call turns = record { legs = ann ∷ bob ∷ []; tick = 100; spacing = 300; wait = 1000; turns = turns; relabel = None; mixer = record { ssrc = 9000; seq = 100; stamp = 5000 }; plan = []; service = no_service }
 
 many_turns : conf Links legs ≡ Ok (call 5000000)
 unfolding entry time_or_other stay_or_plan leg_of mixer_of is_utf8 chars encode_utf8

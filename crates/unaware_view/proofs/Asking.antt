@@ -2,14 +2,13 @@
 use Rattle.std.proofs.Common.{◌≡◌, ℕ, suc, ◌<◌, ◌≤◌, Bool, true, false, cond, not, ◌&&◌, ◌||◌, inl, inr, Option, Some, None, List, [], length, refl, sym, ap, subst, ◌∙◌, arith}
 use Rattle.std.specs.Prelude.{◌==◌, chars}
 use Rattle.std.proofs.lemmas.Bool.{cases_eq, eq-eqb, ne_eqb}
-use Rattle.text_spec.specs.Shown.{ends_with_cr}
 use Rattle.t140_text.specs.Endings.{IsEnding}
 use Rattle.t140_text.proofs.Endings.{line_of, sentence_of}
 use Rattle.stream_spec.specs.Ready.{Chunk}
 use Rattle.mixer_spec.specs.Chunks.{joined, has_chunk}
 use Rattle.mixer_spec.specs.Rounds.{any_below, first_round}
 use Rattle.mixer_spec.specs.Setups.{Setup}
-use Rattle.mixer_spec.specs.Composed.{Answer, Asked, answer, answer_after, begin_with, chars_of, go_on, headed, is_labelled_again, is_open, latest, run_of, since, speak_on, text_of, is_ago, is_switch, ends_turn, waits_here}
+use Rattle.mixer_spec.specs.Composed.{Answer, Asked, answer, answer_after, begin_with, chars_of, go_on, headed, is_after_cr, is_labelled_again, is_open, latest, run_of, since, speak_on, text_of, is_ago, is_switch, ends_turn, waits_here}
 use Rattle.unaware_view.specs.declared.composers.Current.{Current}
 use Rattle.unaware_view.specs.declared.composers.Choice.{Choice}
 use Rattle.unaware_view.specs.declared.composers.Choice.TheVariants.{Nobody, Begins, GoesOn}
@@ -25,7 +24,7 @@ use Rattle.unaware_view.proofs.Firsts.{any_same, round_same}
 -- what is given of a choice
 abbrev pub given_of : (ℕ → List ℕ) → (ℕ → List Chunk) → List Asked → Choice → Option Answer
 given_of name w asks Nobody = None
-given_of name w asks (Begins i) = Some (headed w (name i) (ends_with_cr (chars_of (run_of asks))) (is_open asks) [] i)
+given_of name w asks (Begins i) = Some (headed w (name i) (is_after_cr asks) (is_open asks) [] i)
 given_of name w asks (GoesOn i) = Some (go_on name w asks i)
 
 begins_given : (name : ℕ → List ℕ) (w : ℕ → List Chunk) (asks : List Asked) (o : Option ℕ) → given_of name w asks (begins o) ≡ begin_with name w asks o
@@ -92,7 +91,7 @@ choice_is s c asks w true now h = go (latest asks) c.current h.stands.current
         ∙ ap (begin_with s.name w asks) (round_same (is_set c.waits) (waits_here c.own w) start (length c.waits) (let k = h.legs in omega (arith, l, k)) h.flags ∙ ap (first_round (waits_here c.own w) start) h.legs)
 
     on : (a : Bool) → ℕ → Answer
-    on a i = cond a (headed w (s.name i) (ends_with_cr (chars_of (run_of asks))) (is_open asks) [] i) (go_on s.name w asks i)
+    on a i = cond a (headed w (s.name i) (is_after_cr asks) (is_open asks) [] i) (go_on s.name w asks i)
 
     by : (b d a : Bool) (k : Choice) (i : ℕ) (o : Option Answer) → given_of s.name w asks k ≡ o → given_of s.name w asks (cond b k (cond d (onward a i) Nobody)) ≡ cond b o (cond d (Some (on a i)) None)
     by true d a k i o e = e

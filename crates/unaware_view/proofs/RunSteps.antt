@@ -13,11 +13,11 @@ use Rattle.text_spec.proofs.Erasing.{loose-append, loose-one_back}
 use Rattle.text_spec.proofs.Steps.{ends_with_cr-last, stands-erase, stands-marker, stands-print, stands-new_line, stands-cr_lf, stands-bell, stands-silent}
 use Rattle.t140_text.specs.Endings.{IsEnding}
 use Rattle.t140_text.proofs.Endings.{push_step}
-use Rattle.mixer_spec.specs.Composed.{from_seen, is_erased, is_seen, labelled, own_part, written}
+use Rattle.mixer_spec.specs.Composed.{cr_last, from_seen, is_erased, is_seen, labelled, own_part, written}
 use Rattle.mixer_spec.proofs.Labels.{unseen_one}
 use Rattle.mixer_spec.proofs.Texts.{encode_some, one_short}
 use Rattle.unaware_view.specs.declared.runs.Run.{Run}
-use Rattle.unaware_view.specs.Runs.{IsAhead, IsBehind, IsRun, Sends, Writes, after_one, before_by, behind, cr_last, erasable_after, erasable_by, is_headed, is_seen_at, sent_for, sent_of, step_by, stepped, text_after_one, text_by, text_of_one}
+use Rattle.unaware_view.specs.Runs.{IsAhead, IsBehind, IsRun, Sends, Writes, after_one, before_by, behind, erasable_after, erasable_by, is_headed, is_seen_at, sent_for, sent_of, step_by, stepped, text_after_one, text_by, text_of_one}
 
 -- ---- what can be taken back
 one_longer : (cs : List ℕ) (c n : ℕ) → is_marker (class_of c) ≡ false → loose cs ≡ n → loose (cs ++ c ∷ []) ≡ n + 1

@@ -7,7 +7,6 @@ use Rattle.std.specs.Prelude.{IsUtf8, chars}
 use Rattle.std.proofs.lemmas.Str.{IsUtf8-append, chars-append, chars-encodes}
 use Rattle.std.proofs.lemmas.Bool.{and_right}
 use Rattle.text_spec.specs.Characters.{is_open_after}
-use Rattle.text_spec.specs.Shown.{ends_with_cr}
 use Rattle.text_spec.specs.Views.{is_direction, label_after, without_directions}
 use Rattle.std.proofs.lemmas.List.Elements.{filter-append}
 use Rattle.stream_spec.specs.Ready.{Chunk}
@@ -15,7 +14,7 @@ use Rattle.mixer_spec.specs.Chunks.{joined, has_chunk, front}
 use Rattle.mixer_spec.specs.Rounds.{first_round}
 use Rattle.mixer_spec.specs.Setups.{Setup}
 use Rattle.mixer_spec.specs.Table.{Table}
-use Rattle.mixer_spec.specs.Composed.{Answer, Asked, began_alone, began_behind_cr, behind_label, chars_of, go_on, gone_on, headed, is_open, is_unlabelled, labelled, latest, room_beside, seen_part, text_given, run_of, given_at, since, is_of, waits_here, with_label, written}
+use Rattle.mixer_spec.specs.Composed.{Answer, Asked, began_alone, began_behind_cr, behind_label, chars_of, go_on, gone_on, headed, is_after_cr, is_open, is_unlabelled, labelled, latest, room_beside, seen_part, text_given, run_of, given_at, since, is_of, waits_here, with_label, written}
 use Rattle.mixer_spec.proofs.Rounds.{round_some}
 use Rattle.slot_table.specs.Lanes.{Waiting}
 use Rattle.slot_table.specs.Standing as slots
@@ -185,15 +184,15 @@ new_heads : (name : List ℕ) (r next : Run) (other : Bool) (cs : List Chunk) (t
 new_heads name r next other cs text h = subst (λ (xs : List ℕ). Heads name r next other xs cs text) (sym no_chars) h
 
 begins_text : (s : Setup) (table : Table) (c : State) (asks : List Asked) (names : List (List ℕ)) (i : ℕ) (next : Run) (text : List ℕ) (after : List Waiting)
-    → Turns s table c asks names (Begins i) next text after → text ≡ (headed (waits_of table c.own) (s.name i) (ends_with_cr (chars_of (run_of asks))) (is_open asks) [] i).text
+    → Turns s table c asks names (Begins i) next text after → text ≡ (headed (waits_of table c.own) (s.name i) (is_after_cr asks) (is_open asks) [] i).text
 begins_text s table c asks names i next text after h =
     let g = h.gives in
     let name : List ℕ = name_at names i in
     let cs : List ℕ → List Chunk = λ n. front (room_beside n) (waits_of table c.own i) in
     let b = g.begun in
-    heads_text name g.start next (ends_with_cr (chars_of (run_of asks))) (is_open asks) [] (cs name) text (b.is_open ∙ h.looks.stands.run.line) b.labelled
-    (new_heads name g.start next (ends_with_cr (chars_of (run_of asks))) (cs name) text g.headed.heads)
-    ∙ ap (λ n. with_label n (ends_with_cr (chars_of (run_of asks))) (is_open asks) [] (cs n)) (h.names_are i h.below)
+    heads_text name g.start next (is_after_cr asks) (is_open asks) [] (cs name) text (b.is_open ∙ h.looks.stands.run.line) b.labelled
+    (new_heads name g.start next (is_after_cr asks) (cs name) text g.headed.heads)
+    ∙ ap (λ n. with_label n (is_after_cr asks) (is_open asks) [] (cs n)) (h.names_are i h.below)
 
 on_text : (s : Setup) (table : Table) (c : State) (asks : List Asked) (names : List (List ℕ)) (i : ℕ) (next : Run) (text : List ℕ) (after : List Waiting)
     → Turns s table c asks names (GoesOn i) next text after → text ≡ (go_on s.name (waits_of table c.own) asks i).text
@@ -286,11 +285,11 @@ now_current s own asks w media g i e l o = record {
 
 -- what stands of the run then, where something was given
 on_then : (s : Setup) (table : Table) (c : State) (asks : List Asked) (names : List (List ℕ)) (i : ℕ) (next : Run) (text : List ℕ) (after : List Waiting) → Turns s table c asks names (GoesOn i) next text after
-    → let g = go_on s.name (waits_of table c.own) asks i in Then next g.begins (run_of asks) g.chunks (began_alone asks) (ends_with_cr (chars_of (run_of asks))) (began_behind_cr asks) (is_open asks)
+    → let g = go_on s.name (waits_of table c.own) asks i in Then next g.begins (run_of asks) g.chunks (began_alone asks) (is_after_cr asks) (began_behind_cr asks) (is_open asks)
 on_then s table c asks names i next text after h = elim h.gives [ inl g ↦ on g | inr g ↦ label g ]
   where
     after_by : Answer → Type 0
-    after_by g = Then next g.begins (run_of asks) g.chunks (began_alone asks) (ends_with_cr (chars_of (run_of asks))) (began_behind_cr asks) (is_open asks)
+    after_by g = Then next g.begins (run_of asks) g.chunks (began_alone asks) (is_after_cr asks) (began_behind_cr asks) (is_open asks)
 
     at : Bool → Type 0
     at b = after_by (cond b (headed (waits_of table c.own) (s.name i) (began_behind_cr asks) (is_open asks) (run_of asks) i) (gone_on (waits_of table c.own) (behind_label asks) i))
@@ -299,7 +298,7 @@ on_then s table c asks names i next text after h = elim h.gives [ inl g ↦ on g
     on g =
         let st = h.looks.stands in
         subst at (sym (unlabelled_is s c asks st ∙ ap not g.labelled))
-        (goes_then (name_at names i) c.run next (began_alone asks) (ends_with_cr (chars_of (run_of asks))) (began_behind_cr asks) (is_open asks) (run_of asks) (front MOST_TEXT_OCTETS (waits_of table c.own i)) text
+        (goes_then (name_at names i) c.run next (began_alone asks) (is_after_cr asks) (began_behind_cr asks) (is_open asks) (run_of asks) (front MOST_TEXT_OCTETS (waits_of table c.own i)) text
         st.run.utf8 (front_texts MOST_TEXT_OCTETS (waits_of table c.own i) (h.texts i)) st.run.line st.run.chunk st.run.begun g.goes)
 
     parts : is_unlabelled asks ≡ true → (has_chunk (run_of asks) ≡ true) × (began_alone asks ≡ false)
@@ -314,22 +313,22 @@ on_then s table c asks names i next text after h = elim h.gives [ inl g ↦ on g
         let p = parts q in
         subst at (sym q)
         (subst (λ (n : List ℕ). after_by (headed (waits_of table c.own) n (began_behind_cr asks) (is_open asks) (run_of asks) i)) (h.names_are i h.below)
-        (more_then (name_at names i) c.run next (began_alone asks) (ends_with_cr (chars_of (run_of asks))) (began_behind_cr asks) (is_open asks) (run_of asks) (front (room_beside (name_at names i)) (waits_of table c.own i)) text
+        (more_then (name_at names i) c.run next (began_alone asks) (is_after_cr asks) (began_behind_cr asks) (is_open asks) (run_of asks) (front (room_beside (name_at names i)) (waits_of table c.own i)) text
         st.run.utf8 (front_texts (room_beside (name_at names i)) (waits_of table c.own i) (h.texts i)) st.run.line st.run.chunk p.1 p.0 g.headed.heads))
 
 begins_then : (s : Setup) (table : Table) (c : State) (asks : List Asked) (names : List (List ℕ)) (i : ℕ) (next : Run) (text : List ℕ) (after : List Waiting) → Turns s table c asks names (Begins i) next text after
-    → Then next true (run_of asks) (front (room_beside (s.name i)) (waits_of table c.own i)) (began_alone asks) (ends_with_cr (chars_of (run_of asks))) (began_behind_cr asks) (is_open asks)
+    → Then next true (run_of asks) (front (room_beside (s.name i)) (waits_of table c.own i)) (began_alone asks) (is_after_cr asks) (began_behind_cr asks) (is_open asks)
 begins_then s table c asks names i next text after h =
     let g = h.gives in
     let b = g.begun in
-    subst (λ (n : List ℕ). Then next true (run_of asks) (front (room_beside n) (waits_of table c.own i)) (began_alone asks) (ends_with_cr (chars_of (run_of asks))) (began_behind_cr asks) (is_open asks)) (h.names_are i h.below)
-    (new_then (name_at names i) g.start next (began_alone asks) (ends_with_cr (chars_of (run_of asks))) (began_behind_cr asks) (is_open asks) (run_of asks) (front (room_beside (name_at names i)) (waits_of table c.own i)) text
+    subst (λ (n : List ℕ). Then next true (run_of asks) (front (room_beside n) (waits_of table c.own i)) (began_alone asks) (is_after_cr asks) (began_behind_cr asks) (is_open asks)) (h.names_are i h.below)
+    (new_then (name_at names i) g.start next (began_alone asks) (is_after_cr asks) (began_behind_cr asks) (is_open asks) (run_of asks) (front (room_beside (name_at names i)) (waits_of table c.own i)) text
     (front_texts (room_beside (name_at names i)) (waits_of table c.own i) (h.texts i)) (b.is_open ∙ h.looks.stands.run.line) b.has_chunk g.headed.heads)
 
 -- where this was given, of the leg i
 spoken : (s : Setup) (c : State) (asks : List Asked) (w : ℕ → List Chunk) (media : ℕ) (g : Answer) (i : ℕ) (next : Run) (moments : List (Option ℕ)) → c.relabel ≡ s.relabel → g.source ≡ i → i < s.legs → (i ≡ c.own → ⊥) → length moments ≡ s.legs
     → ((j : ℕ) → j < s.legs → (j ≡ c.own → ⊥) → since_at moments j ≡ since j (asked_more w media asks (Some g)))
-    → Then next g.begins (run_of asks) g.chunks (began_alone asks) (ends_with_cr (chars_of (run_of asks))) (began_behind_cr asks) (is_open asks)
+    → Then next g.begins (run_of asks) g.chunks (began_alone asks) (is_after_cr asks) (began_behind_cr asks) (is_open asks)
     → StandsFor s (remembered (record c { run = next; since = moments; asked = media + 1 }) (Some i) media) (asked_more w media asks (Some g))
 spoken s c asks w media g i next moments again source below other legs since_are t = record {
   legs = legs;

@@ -1,19 +1,18 @@
 -- What was taken is written.
-use Rattle.std.proofs.Common.{◌≡◌, ℕ, Bool, true, false, inl, inr, List, [], ◌∷◌, ◌++◌, length, refl, sym, ap, subst, ◌∙◌, arith}
-use Rattle.std.specs.Prelude.{◌==◌, ◌||◌, not}
+use Rattle.std.proofs.Common.{◌≡◌, ℕ, Bool, true, false, cond, inl, inr, List, [], ◌∷◌, ◌++◌, length, refl, sym, ap, subst, ◌∙◌, arith}
+use Rattle.std.specs.Prelude.{◌==◌, ◌&&◌, ◌||◌, not}
 use Rattle.std.specs.Str.{chars}
 use Rattle.std.proofs.lemmas.Bool.{true≢false, ne_eqb}
 use Rattle.wire_spec.specs.Packets.{has_text}
 use Rattle.stream_spec.specs.Ready.{Chunk}
 use Rattle.text_spec.specs.Characters.{is_open_after}
 use Rattle.text_spec.specs.Shown.{ends_with_cr, loose, signs, survivors}
-use Rattle.t140_text.proofs.Endings.{cr_of}
 use Rattle.mixer_spec.specs.Chunks.{joined, has_chunk}
 use Rattle.mixer_spec.specs.Laws.{AreTexts}
-use Rattle.mixer_spec.specs.Composed.{own_part}
+use Rattle.mixer_spec.specs.Composed.{after_cr, cr_last, from_seen, is_seen, own_part}
 use Rattle.text_spec.specs.Views.{without_directions}
 use Rattle.unaware_view.specs.declared.runs.Run.{Run}
-use Rattle.unaware_view.specs.Runs.{GoesAlone, GoesOn, Heads, IsBegun, IsRun, Sends, sent_of}
+use Rattle.unaware_view.specs.Runs.{GoesAlone, GoesOn, Heads, IsBegun, IsRun, Sends, behind, sent_of}
 
 some_text : (cs : List Chunk) → AreTexts cs → not (length (joined cs) == 0) ≡ has_chunk cs
 some_text [] a = refl
@@ -67,16 +66,43 @@ pub heads_some : (name : List ℕ) (r next : Run) (behind_cr : Bool) (before : L
 heads_some name r next behind_cr before [] text e h = absurd (true≢false (sym e))
 heads_some name r next behind_cr before (c ∷ cs) text e h = h
 
+-- ---- what came last
+last_more : (c : ℕ) (cs : List ℕ) → cr_last (c == 0x0D) cs ≡ ends_with_cr (c ∷ cs)
+last_more c [] = refl
+last_more c (d ∷ cs) = refl
+
+-- what is seen ends as all does
+seen_last : (behind_cr was : Bool) (run cs : List ℕ) → (length (from_seen behind_cr run cs) == 0) ≡ false → ends_with_cr (from_seen behind_cr run cs) ≡ cr_last was cs
+seen_last behind_cr was run [] e = absurd (true≢false e)
+seen_last behind_cr was run (c ∷ cs) e = go (is_seen behind_cr run c) e (seen_last behind_cr (c == 0x0D) (run ++ c ∷ []) cs)
+  where
+    go : (b : Bool) → (length (cond b (c ∷ cs) (from_seen behind_cr (run ++ c ∷ []) cs)) == 0) ≡ false
+        → ((length (from_seen behind_cr (run ++ c ∷ []) cs) == 0) ≡ false → ends_with_cr (from_seen behind_cr (run ++ c ∷ []) cs) ≡ cr_last (c == 0x0D) cs)
+        → ends_with_cr (cond b (c ∷ cs) (from_seen behind_cr (run ++ c ∷ []) cs)) ≡ ends_with_cr (c ∷ cs)
+    go true q rest = refl
+    go false q rest = rest q ∙ last_more c cs
+
+behind_last : (alone behind_cr : Bool) (cs : List ℕ) → (not alone && length (from_seen behind_cr [] cs) == 0) ≡ false → after_cr alone behind_cr cs ≡ ends_with_cr (behind alone behind_cr cs)
+behind_last true behind_cr [] e = refl
+behind_last true behind_cr (c ∷ cs) e = refl
+behind_last false behind_cr cs e = sym (seen_last behind_cr behind_cr [] cs e)
+
+after_run : (r : Run) (alone behind_cr : Bool) (cs : List ℕ) → IsRun r alone behind_cr cs → after_cr alone behind_cr cs ≡ r.after_cr
+after_run r alone behind_cr cs h = elim h.part [
+  | inl a ↦ ap (λ (b : Bool). cr_last (not b && behind_cr) cs) a.not_alone ∙ a.after_cr
+  | inr b ↦ behind_last alone behind_cr cs b.seen ∙ b.after_cr
+]
+
 -- a run that begins behind one with these characters
-pub begun_is : (r next : Run) (alone behind_cr : Bool) (cs : List ℕ) → IsRun r alone behind_cr cs → IsBegun r next → IsRun next false (ends_with_cr cs) []
+pub begun_is : (r next : Run) (alone behind_cr : Bool) (cs : List ℕ) → IsRun r alone behind_cr cs → IsBegun r next → IsRun next false (after_cr alone behind_cr cs) []
 begun_is r next alone behind_cr cs h b = record {
   ending = b.ending;
   part = inl (record {
     labelled = b.labelled;
     not_alone = refl;
     unseen = refl;
-    erasable = none (ends_with_cr cs) ∙ sym b.erasable;
-    after_cr = sym (b.after_cr ∙ cr_of r.ending cs h.ending);
+    erasable = none (after_cr alone behind_cr cs) ∙ sym b.erasable;
+    after_cr = after_run r alone behind_cr cs h ∙ sym b.after_cr;
   });
 }
   where

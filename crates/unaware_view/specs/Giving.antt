@@ -1,9 +1,8 @@
 -- What one ask changes in a composer.
 use Rattle.std.specs.Prelude.{◌≡◌, ℕ, Bool, true, false, ◌⊎◌, Option, None, Some, List, []}
-use Rattle.text_spec.specs.Shown.{ends_with_cr}
 use Rattle.stream_spec.specs.Ready.{Chunk}
 use Rattle.mixer_spec.specs.Chunks.{front}
-use Rattle.mixer_spec.specs.Composed.{room_beside}
+use Rattle.mixer_spec.specs.Composed.{after_cr, room_beside}
 use Rattle.mixer_spec.specs.Setups.{Setup}
 use Rattle.mixer_spec.specs.Table.{Table}
 use Rattle.slot_table.specs.Lanes.{Waiting}
@@ -37,11 +36,11 @@ pub record GivesHeaded (s : Setup) (table : Table) (own : ℕ) (name : List ℕ)
   pub heads : Heads name r next behind_cr run (front (room_beside name) (waits_of table own speaker)) text
   pub stands : slots.StandsFor s after (fetched own speaker (room_beside name) table)
 
--- a run of the speaker begins, behind one that had these characters
-pub record GivesRun (s : Setup) (table : Table) (own : ℕ) (name : List ℕ) (r next : Run) (before : List ℕ) (speaker : ℕ) (text : List ℕ) (after : List Waiting) : Type 0 where
+-- a run of the speaker begins, behind CR or not
+pub record GivesRun (s : Setup) (table : Table) (own : ℕ) (name : List ℕ) (r next : Run) (behind_cr : Bool) (speaker : ℕ) (text : List ℕ) (after : List Waiting) : Type 0 where
   pub start : Run
   pub begun : IsBegun r start
-  pub headed : GivesHeaded s table own name start next (ends_with_cr before) [] speaker text after
+  pub headed : GivesHeaded s table own name start next behind_cr [] speaker text after
 
 -- the run of the speaker goes on behind its label
 pub record GivesOn (s : Setup) (table : Table) (own : ℕ) (name : List ℕ) (r next : Run) (alone behind_cr : Bool) (run : List ℕ) (speaker : ℕ) (text : List ℕ) (after : List Waiting) : Type 0 where
@@ -62,5 +61,5 @@ GivesMore s table own name r next alone behind_cr run speaker text after =
 -- The text of the choice was given: the run, which had these characters, is `next` then, and these are the slots.
 abbrev pub Gives : Setup → Table → ℕ → List (List ℕ) → Run → Run → Bool → Bool → List ℕ → Choice → List ℕ → List Waiting → Type 0
 Gives s table own names r next alone behind_cr run Nobody text after = GivesNone s table r next text after
-Gives s table own names r next alone behind_cr run (Begins i) text after = GivesRun s table own (name_at names i) r next run i text after
+Gives s table own names r next alone behind_cr run (Begins i) text after = GivesRun s table own (name_at names i) r next (after_cr alone behind_cr run) i text after
 Gives s table own names r next alone behind_cr run (GoesOn i) text after = GivesMore s table own (name_at names i) r next alone behind_cr run i text after

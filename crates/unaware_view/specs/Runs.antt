@@ -9,7 +9,7 @@ use Rattle.t140_text.specs.declared.ends.Ending.{Ending}
 use Rattle.t140_text.specs.Endings.{IsEnding, is_line_end, is_sentence_end, pushed}
 use Rattle.stream_spec.specs.Ready.{Chunk}
 use Rattle.mixer_spec.specs.Chunks.{has_chunk}
-use Rattle.mixer_spec.specs.Composed.{chars_of, from_seen, labelled, own_part, written}
+use Rattle.mixer_spec.specs.Composed.{chars_of, cr_last, from_seen, labelled, own_part, written}
 use Rattle.unaware_view.specs.declared.runs.Run.{Run}
 
 -- another speaker may follow
@@ -89,18 +89,13 @@ label_room labelled name = if labelled then 0 else length (label_after true name
 -- a new run behind this one, whose label is to come
 pub record IsBegun (r next : Run) : Type 0 where
   pub erasable : next.erasable ≡ 0
-  pub after_cr : next.after_cr ≡ (r.ending.last == 0x0D)
+  pub after_cr : next.after_cr ≡ r.after_cr
   pub ending : IsEnding next.ending []
   pub has_chunk : next.has_chunk ≡ false
   pub labelled : next.labelled ≡ false
   pub is_open : next.is_open ≡ r.is_open
 
 -- ---- a run
--- CR comes last of the run, or of the one before where it has no character
-abbrev pub cr_last : Bool → List ℕ → Bool
-cr_last behind_cr [] = behind_cr
-cr_last behind_cr (c ∷ cs) = ends_with_cr (c ∷ cs)
-
 -- the characters behind the label, which went alone or not
 abbrev pub behind : Bool → Bool → List ℕ → List ℕ
 behind alone behind_cr cs = if alone then cs else from_seen behind_cr [] cs

@@ -16,7 +16,8 @@ pub(crate) struct Run {
     /// How many of its characters an erasure can take back, one after the other: of those behind its label, or of all
     /// where that is to come.
     pub(crate) erasable: u64,
-    /// Whether an LF is a part of the new line before it, which is counted or another run's.
+    /// Whether CR came last of all that was given, so that an LF is a part of the new line before it, which is counted or
+    /// another run's.
     pub(crate) after_cr: bool,
     /// What its text ends with.
     pub(crate) ending: Ending,
@@ -110,7 +111,6 @@ impl Run {
     pub(crate) fn begin(&mut self)
         ensures { IsBegun self.old self.new }
     {
-        self.after_cr = self.ending.ends_with_cr();
         self.erasable = 0;
         self.ending = Ending::new();
         self.has_chunk = false;

@@ -8,14 +8,14 @@ use Rattle.mixer_turn.specs.States.{State}
 use Rattle.mixer_turn.specs.Standing.{StandsFor}
 use Rattle.mixer_posts.specs.Posts.{sent_by}
 use Rattle.live_run.specs.declared.far_ends.FarEnds.{FarEnds}
-use Rattle.live_run.specs.Ends.{WereGiven, counts_of}
+use Rattle.live_run.specs.Ends.{packets_in, WereGiven, counts_of}
 use Rattle.live_run.specs.Mixers.{all_admitted}
 use Rattle.live_run.proofs.Seating.{all_seated, no_turn, none_late, none_sent}
 use Rattle.live_run.proofs.Writing.{counts_are}
 use Rattle.live_run.proofs.mixers.live_mixer.Goals as goal
 
 pub new-requires-2 : goal.new-requires-2
-new-requires-2 g c = let o = g.O.LinkOut in counts_are o.tells o.given o.faults (conf_of c.args.conf.now) c.args.ends c.requires.none ∙ sym c.in-Ok.ensures.sources
+new-requires-2 g c = let o = g.O.LinkOut in counts_are o.tells (packets_in o.given) o.faults (conf_of c.args.conf.now) c.args.ends c.requires.none ∙ sym c.in-Ok.ensures.sources
 
 pub returns-clause-stands : goal.returns-clause-stands
 returns-clause-stands g c =
@@ -26,9 +26,9 @@ returns-clause-stands g c =
     let o = g.O.LinkOut in
     record {
       stands = subst (λ (m : State). StandsFor s m (all_admitted n)) (sym made.mixer) c.in-Ok.ensures.stands;
-      sent = subst (λ (ends : FarEnds g.row.O.Denot). WereGiven o.tells o.given o.faults ends s pts (sent_by s (all_admitted n))) (sym made.outbound)
-          (subst (λ (sent : List (ℕ × Post)). WereGiven o.tells o.given o.faults c.args.ends s pts sent) (sym (none_sent s n)) c.requires.none);
-      all = ap (λ (ends : FarEnds g.row.O.Denot). length (counts_of ends)) made.outbound ∙ (ap (λ (xs : List ℕ). length xs) (counts_are o.tells o.given o.faults (conf_of c.args.conf.now) c.args.ends c.requires.none) ∙ length-map c.args.conf.now.legs _);
+      sent = subst (λ (ends : FarEnds g.row.O.Denot). WereGiven o.tells (packets_in o.given) o.faults ends s pts (sent_by s (all_admitted n))) (sym made.outbound)
+          (subst (λ (sent : List (ℕ × Post)). WereGiven o.tells (packets_in o.given) o.faults c.args.ends s pts sent) (sym (none_sent s n)) c.requires.none);
+      all = ap (λ (ends : FarEnds g.row.O.Denot). length (counts_of ends)) made.outbound ∙ (ap (λ (xs : List ℕ). length xs) (counts_are o.tells (packets_in o.given) o.faults (conf_of c.args.conf.now) c.args.ends c.requires.none) ∙ length-map c.args.conf.now.legs _);
       early = none_late (2 ^ 47) n;
       few = omega (arith, no_turn n);
     }

@@ -9,7 +9,7 @@ returns-in-Err-clause-given_up g c = was_not_opened g.W.Links.tells _ (g.W.Links
 
 pub returns-in-Err-answer_of-clause-given_up : goal.returns-in-Err-answer_of-clause-given_up
 returns-in-Err-answer_of-clause-given_up g c =
-    given_up_by g.W.In.LinkIn g.W.Out.LinkOut (g.T.Tap.stands c.call-turned.result.tap) g.W.Links.tells (conf_of c.args.conf.now) _ c.call-turned.result c.call-turned.ensures.called c.requires.links _ _ (g.W.Links.object_faults c.args.world.now) (g.W.Links.object_faults c.call-turned.new.world) (g.W.Links.object_faults c.close_legs.new.world) (g.W.Links.object_faults c.close_ends.new.world)
+    given_up_by g.W.In.LinkIn g.W.Out.LinkOut (g.T.Tap.stands c.call-turned.result.tap) g.W.Links.tells (conf_of c.args.conf.now) _ _ c.call-turned.result c.call-turned.ensures.called c.requires.links _ _ (g.W.Links.object_faults c.args.world.now) (g.W.Links.object_faults c.call-turned.new.world) (g.W.Links.object_faults c.close_legs.new.world) (g.W.Links.object_faults c.close_ends.new.world)
     (λ p. c.call-turned.ensures.same_objects p ∙ c.open_links.ensures.same_objects p) c.close_legs.ensures.objects_never_fall c.close_ends.ensures.objects_never_fall c.close_legs.ensures.failed c.close_ends.ensures.failed c.in-Err-answer_of.fault (sym c.in-Err-answer_of.ensures)
 
 pub returns-in-Err-answer_of-clause-objects_never_fall : goal.returns-in-Err-answer_of-clause-objects_never_fall
@@ -17,7 +17,7 @@ returns-in-Err-answer_of-clause-objects_never_fall g c = λ p. omega (arith, c.c
 
 pub returns-in-Ok-printed-clause-tapped : goal.returns-in-Ok-printed-clause-tapped
 returns-in-Ok-printed-clause-tapped g c =
-    served_by g.W.In.LinkIn g.W.Out.LinkOut (g.T.Tap.stands c.call-turned.result.tap) g.W.Links.tells (conf_of c.args.conf.now) (g.W.Links.opened c.call-turned.new.world) c.call-turned.result c.call-turned.ensures.called c.requires.links (g.W.Links.opened c.close_legs.new.world) (g.W.Links.taken_at c.close_legs.new.world) (g.W.Links.taken_at c.close_ends.new.world) (g.W.Links.given_at c.close_ends.new.world)
+    served_by g.W.In.LinkIn g.W.Out.LinkOut (g.T.Tap.stands c.call-turned.result.tap) g.W.Links.tells (conf_of c.args.conf.now) _ (g.W.Links.opened c.call-turned.new.world) c.call-turned.result c.call-turned.ensures.called c.requires.links (g.W.Links.pauses c.args.world.now) c.in-Ok-open_links.ensures.same_pauses (g.W.Links.opened c.close_legs.new.world) (g.W.Links.taken_at c.close_legs.new.world) (g.W.Links.taken_at c.close_ends.new.world) (g.W.Links.given_at c.close_ends.new.world)
     c.close_legs.ensures.stored c.close_ends.ensures.same_taken c.close_legs.ensures.same_opened c.close_ends.ensures.stored c.in-Ok-answer_of.end c.in-Ok-printed.views (sym c.in-Ok-answer_of.ensures) c.in-Ok-printed.ensures
 
 pub returns-in-Ok-printed-clause-objects_never_fall : goal.returns-in-Ok-printed-clause-objects_never_fall
@@ -36,18 +36,18 @@ returns-in-Ok-printed-clause-paced g c = λ t done.
 
 pub returns-in_default-clause-broke_off : goal.returns-in_default-clause-broke_off
 returns-in_default-clause-broke_off g c =
-    gave_nothing g.W.Links.tells (g.W.Links.given_at c.args.world.now) (g.W.Links.given_at c.args.world.now) (g.W.Links.taken_at c.args.world.now) (conf_of c.args.conf.now) (λ t p. inl refl)
+    gave_nothing g.W.Links.tells (g.W.Links.pauses c.args.world.now) (g.W.Links.given_at c.args.world.now) (g.W.Links.given_at c.args.world.now) (g.W.Links.taken_at c.args.world.now) (conf_of c.args.conf.now) (λ t p. inl refl)
 
 pub returns-in-Err-clause-broke_off : goal.returns-in-Err-clause-broke_off
 returns-in-Err-clause-broke_off g c =
-    gave_nothing g.W.Links.tells (g.W.Links.given_at c.args.world.now) (g.W.Links.given_at c.open_links.new.world) (g.W.Links.taken_at c.open_links.new.world) (conf_of c.args.conf.now) c.in-Err.ensures.gives_nothing
+    gave_nothing g.W.Links.tells (g.W.Links.pauses c.args.world.now) (g.W.Links.given_at c.args.world.now) (g.W.Links.given_at c.open_links.new.world) (g.W.Links.taken_at c.open_links.new.world) (conf_of c.args.conf.now) c.in-Err.ensures.gives_nothing
 
 pub returns-in-Err-answer_of-clause-broke_off : goal.returns-in-Err-answer_of-clause-broke_off
 returns-in-Err-answer_of-clause-broke_off g c =
-    broke_off_by g.W.In.LinkIn g.W.Out.LinkOut (g.T.Tap.stands c.call-turned.result.tap) g.W.Links.tells (conf_of c.args.conf.now) (g.W.Links.opened c.call-turned.new.world) c.call-turned.result c.call-turned.ensures.called c.requires.links (g.W.Links.opened c.close_legs.new.world) (g.W.Links.taken_at c.close_legs.new.world) (g.W.Links.taken_at c.close_ends.new.world) (g.W.Links.given_at c.close_ends.new.world)
+    broke_off_by g.W.In.LinkIn g.W.Out.LinkOut (g.T.Tap.stands c.call-turned.result.tap) g.W.Links.tells (conf_of c.args.conf.now) _ (g.W.Links.opened c.call-turned.new.world) c.call-turned.result c.call-turned.ensures.called c.requires.links (g.W.Links.pauses c.args.world.now) c.in-Ok-open_links.ensures.same_pauses (g.W.Links.opened c.close_legs.new.world) (g.W.Links.taken_at c.close_legs.new.world) (g.W.Links.taken_at c.close_ends.new.world) (g.W.Links.given_at c.close_ends.new.world)
     c.close_legs.ensures.stored c.close_ends.ensures.same_taken c.close_legs.ensures.same_opened c.close_ends.ensures.stored (g.W.Links.given_at c.args.world.now)
 
 pub returns-in-Err-printed-clause-broke_off : goal.returns-in-Err-printed-clause-broke_off
 returns-in-Err-printed-clause-broke_off g c =
-    broke_off_by g.W.In.LinkIn g.W.Out.LinkOut (g.T.Tap.stands c.call-turned.result.tap) g.W.Links.tells (conf_of c.args.conf.now) (g.W.Links.opened c.call-turned.new.world) c.call-turned.result c.call-turned.ensures.called c.requires.links (g.W.Links.opened c.close_legs.new.world) (g.W.Links.taken_at c.close_legs.new.world) (g.W.Links.taken_at c.close_ends.new.world) (g.W.Links.given_at c.close_ends.new.world)
+    broke_off_by g.W.In.LinkIn g.W.Out.LinkOut (g.T.Tap.stands c.call-turned.result.tap) g.W.Links.tells (conf_of c.args.conf.now) _ (g.W.Links.opened c.call-turned.new.world) c.call-turned.result c.call-turned.ensures.called c.requires.links (g.W.Links.pauses c.args.world.now) c.in-Ok-open_links.ensures.same_pauses (g.W.Links.opened c.close_legs.new.world) (g.W.Links.taken_at c.close_legs.new.world) (g.W.Links.taken_at c.close_ends.new.world) (g.W.Links.given_at c.close_ends.new.world)
     c.close_legs.ensures.stored c.close_ends.ensures.same_taken c.close_legs.ensures.same_opened c.close_ends.ensures.stored (g.W.Links.given_at c.args.world.now)

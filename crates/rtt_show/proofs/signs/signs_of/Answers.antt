@@ -5,8 +5,8 @@ use Rattle.rtpdump_io.proofs.Fronts.{left_less, some_left, front_more, front_all
 use Rattle.rtt_show.proofs.Signing.{signs_more}
 use Rattle.rtt_show.proofs.signs.signs_of.Goals as goal
 
-pub take-requires : goal.take-requires
-take-requires c =
+pub take-requires-clause-few : goal.take-requires-clause-few
+take-requires-clause-few c =
     let e = some_left c.loop-octets.rest.now c.in-Some.field-0-0 c.in-Some.octets.now c.in-Some.more.now c.loop-octets.signs.packets c.in-Some.ensures.record c.in-Some.ensures.shorter c.loop-octets.invariant.left in
     omega (arith, e)
 
@@ -19,6 +19,7 @@ loop-octets-preserved c =
     let old = c.loop-octets.signs in
     let new = c.take.new.self in
     record {
+      filled = c.take.ensures.filled;
       left = left_less rest at octets more old.packets new.packets c.in-Some.ensures.record c.in-Some.ensures.shorter (omega (arith, c.take.ensures.packets)) c.loop-octets.invariant.left;
       signs = λ all a.
           front_more (AreSigns old) (AreSigns new) rest at octets more all c.in-Some.ensures.record c.in-Some.ensures.shorter

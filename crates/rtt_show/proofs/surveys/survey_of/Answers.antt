@@ -1,7 +1,7 @@
 use Rattle.std.proofs.Common.{ℕ, ◌+◌, arith, subst}
 use Rattle.std.specs.Prelude.{Result}
 use Rattle.wire_spec.specs.declared.faults.TextFault.{TextFault}
-use Rattle.wire_spec.specs.Dump.{sent_item}
+use Rattle.rtt_show.specs.declared.origins.Origin.{Origin}
 use Rattle.rtt_show.specs.Surveys.{IsSurvey, SurveysMore}
 use Rattle.rtpdump_io.proofs.Fronts.{left_less, some_left, front_none, front_more, front_all}
 use Rattle.rtt_show.proofs.Surveying.{survey_more}
@@ -32,7 +32,7 @@ loop-at-preserved c =
       few = (i.few.0 + 1, left_less rest at octets more i.few.0 (i.few.0 + 1) c.in-Some.ensures.record c.in-Some.ensures.shorter (omega arith) i.few.1, c.in_ok-take.ensures.few i.few.0 i.few.2);
       found = λ all a.
           front_more (IsSurvey c.args.pts c.args.ssrc old) (IsSurvey c.args.pts c.args.ssrc new) rest at octets more all c.in-Some.ensures.record c.in-Some.ensures.shorter
-          (λ came s. survey_more c.args.pts c.args.ssrc old new came (sent_item (at, octets)) s (subst (λ (read : Result ℕ TextFault). SurveysMore old at read new) c.read_source-read.ensures c.in_ok-take.ensures.more))
+          (λ came s. survey_more c.args.pts c.args.ssrc old new came at octets s (subst (λ (read : Result Origin TextFault). SurveysMore old at read new) c.read_source-read.ensures c.in_ok-take.ensures.more))
           (i.found all a);
     }
 

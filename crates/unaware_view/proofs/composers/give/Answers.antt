@@ -1,7 +1,7 @@
 use Rattle.unaware_view.proofs.composers.give.Goals as goal
 use Rattle.std.proofs.Common.{ℕ, ◌≡◌, ◌<◌, List, [], length, subst, sym, ◌∙◌, arith}
 use Rattle.std.proofs.lemmas.List.{get_or_default}
-use Rattle.text_spec.specs.Shown.{ends_with_cr}
+use Rattle.mixer_spec.specs.Composed.{after_cr}
 use Rattle.unaware_view.specs.declared.composers.Choice.{Choice}
 use Rattle.unaware_view.specs.Choices.{IsBelow}
 use Rattle.unaware_view.specs.Giving.{Gives, GivesHeaded, GivesMore, GivesRun}
@@ -13,12 +13,12 @@ returns-in-Begins-clause-gives c = λ s t h alone behind_cr before a r.
     let i = c.in-Begins.speaker in
     let below : i < length c.args.slots.now = subst (IsBelow (length c.args.slots.now)) c.in-Begins.is c.requires.leg in
     let named : c.index-names-speaker.result ≡ name_at c.args.names.now i = c.index-names-speaker.is ∙ get_or_default c.args.names.now i c.index-names-speaker.result [] (omega (arith, below, c.requires.names)) in
-    let run : GivesRun s t c.args.own (name_at c.args.names.now i) c.args.run.now c.give_headed.new.run before i c.give_headed.new.text c.give_headed.new.slots = record {
+    let run : GivesRun s t c.args.own (name_at c.args.names.now i) c.args.run.now c.give_headed.new.run (after_cr alone behind_cr before) i c.give_headed.new.text c.give_headed.new.slots = record {
       start = c.begin.new.self;
       begun = c.begin.ensures;
       headed =
-          subst (λ (n : List ℕ). GivesHeaded s t c.args.own n c.begin.new.self c.give_headed.new.run (ends_with_cr before) [] i c.give_headed.new.text c.give_headed.new.slots) named
-          (c.give_headed.ensures.gives s t h (ends_with_cr before) [] (a i) (begun_is c.args.run.now c.begin.new.self alone behind_cr before r c.begin.ensures));
+          subst (λ (n : List ℕ). GivesHeaded s t c.args.own n c.begin.new.self c.give_headed.new.run (after_cr alone behind_cr before) [] i c.give_headed.new.text c.give_headed.new.slots) named
+          (c.give_headed.ensures.gives s t h (after_cr alone behind_cr before) [] (a i) (begun_is c.args.run.now c.begin.new.self alone behind_cr before r c.begin.ensures));
     } in
     subst (λ (k : Choice). Gives s t c.args.own c.args.names.now c.args.run.now c.give_headed.new.run alone behind_cr before k c.give_headed.new.text c.give_headed.new.slots) (sym c.in-Begins.is) run
 

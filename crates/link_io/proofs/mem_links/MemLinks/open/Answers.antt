@@ -1,6 +1,7 @@
 use Rattle.std.proofs.Common.{◌∙◌, ap, refl, sym, ◌≡◌, ◌++◌, ◌∷◌, [], None}
 use Rattle.std.specs.List.{position}
 use Rattle.link_io.specs.Told.{takes_told}
+use Rattle.link_io.specs.GivenTold.{gives_told}
 use Rattle.rtt_io.specs.declared.faults.Faults.{Faults}
 use Rattle.link_io.specs.MemPorts.{is_of, is_there, takes_in, given_in, own_count, object_count}
 use Rattle.link_io.proofs.Entries.{added, placed, unplaced, stay_opened, told, Changes}
@@ -26,7 +27,7 @@ pub returns-clause-same_taken : goal.returns-clause-same_taken
 returns-clause-same_taken c = rw c.in_ok-push.ensures.items (stays told (addition c _ refl) takes_in (sym (ap takes_told c.new.ensures.items)))
 
 pub returns-clause-same_given : goal.returns-clause-same_given
-returns-clause-same_given c = rw c.in_ok-push.ensures.items (stays told (addition c _ refl) given_in (sym c.new-2.ensures.items))
+returns-clause-same_given c = rw c.in_ok-push.ensures.items (stays told (addition c _ refl) given_in (sym (ap gives_told c.new-2.ensures.items)))
 
 pub returns-clause-same_own : goal.returns-clause-same_own
 returns-clause-same_own c = rw c.in_ok-push.ensures.items (count_stays told (addition c _ refl) own_count (sym (ap (λ (x : Faults). x.own) c.none.ensures)) _)

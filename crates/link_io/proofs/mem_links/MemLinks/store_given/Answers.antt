@@ -1,5 +1,6 @@
 use Rattle.std.proofs.Common.{◌∙◌, ap, refl}
 use Rattle.std.specs.List.{position}
+use Rattle.link_io.specs.GivenTold.{gives_told}
 use Rattle.link_io.specs.MemPorts.{is_of, takes_in, given_in}
 use Rattle.link_io.proofs.Entries.{written, unplaced}
 use Rattle.link_io.proofs.Holding.{stores, stores_nothing}
@@ -11,4 +12,4 @@ returns-in-Some c =
 
 pub returns-in_default : goal.returns-in_default
 returns-in_default c =
-    stores_nothing given_in takes_in c.args.given.items (unplaced c.args.self.now.ports.items c.args.port (c.in_default.ensures ∙ ap (position (is_of c.args.port)) c.as_slice.ensures.value))
+    stores_nothing given_in takes_in (gives_told c.args.given.items) (unplaced c.args.self.now.ports.items c.args.port (c.in_default.ensures ∙ ap (position (is_of c.args.port)) c.as_slice.ensures.value))

@@ -5,7 +5,8 @@ use Rattle.rtpdump_io.specs.Faults.{FaultOf}
 use Rattle.rtpdump_io.specs.Reading.{to_come}
 use Rattle.wire_spec.specs.Dump.{Recording, dump, usual_limit}
 use Rattle.command_spec.specs.Listing.{list_view}
-use Rattle.command_spec.specs.Showing.{if_no_recording, recording_view, show_view}
+use Rattle.command_spec.specs.Showing.{if_no_recording}
+use Rattle.show_spec.specs.Showing.{recording_view, show_view}
 use Rattle.rtt_show.specs.Gathers.{IsRefused}
 use Rattle.rtt_top.specs.declared.views.RecordingView.{RecordingView}
 use Rattle.rtt_top.specs.RecordingViews.{IsRefusal, IsViewOf, refused_by, view_by}

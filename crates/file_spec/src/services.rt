@@ -1,0 +1,87 @@
+//! What is asked of a call over links beside the mixing.
+ghost use Rattle.std.specs.Prelude.{◌≡◌, ◌≤◌, length};
+
+use arrayvec::ArrayString;
+use std::marker::Model;
+
+/// The word with which an operator's datagrams begin, of at most 64 octets of UTF-8. Contracts see its octets.
+#[derive(Debug, Default, Drop)]
+pub struct OperatorWord {
+    text: ArrayString<64>,
+}
+
+impl Model for OperatorWord {
+    ghost use Rattle.std.specs.Prelude.{ℕ, List};
+
+    ghost Value = { List ℕ };
+
+    ghost view = { λ w. w.text.bytes };
+}
+
+impl OperatorWord {
+    /// The word that is this text.
+    pub fn from_text(text: &str) -> OperatorWord
+        requires { length text.now ≤ 64 }
+        ensures { result ≡ text.now }
+    {
+        let mut word = ArrayString::new();
+        word.push_str(text);
+        OperatorWord { text: word }
+    }
+
+    pub fn as_str(&self) -> &str
+        ensures { result.now ≡ self.now }
+    {
+        self.text.as_str()
+    }
+}
+
+/// Where an operator is heard.
+#[derive(Debug, Drop)]
+pub struct OperatorLine {
+    /// A port that no leg has.
+    pub port: u16,
+    pub word: OperatorWord,
+}
+
+/// What one line asks.
+#[derive(Debug, Drop)]
+pub enum ServiceLine {
+    /// A link at which nothing comes for so many milliseconds is closed.
+    Gone(u32),
+    /// An operator is heard.
+    Operator(OperatorLine),
+}
+
+/// What is asked of a call over links beside the mixing.
+#[derive(Debug, Drop)]
+pub struct Service {
+    /// After how many milliseconds in which nothing comes a link is closed, if it is.
+    pub gone: Option<u32>,
+    pub operator: Option<OperatorLine>,
+}
+
+impl Service {
+    ghost use Rattle.std.specs.Prelude.{◌≡◌};
+    ghost use Rattle.file_spec.specs.Services.{no_service, with_service};
+
+    /// Nothing is asked.
+    pub fn none() -> Service
+        ensures { result ≡ no_service }
+    {
+        Service {
+            gone: None,
+            operator: None,
+        }
+    }
+
+    /// Asks for what one line more does.
+    pub fn add(&mut self, line: ServiceLine)
+        ensures { self.new ≡ with_service self.old line }
+    {
+        match line {
+            ServiceLine::Gone(silence) => self.gone = Some(silence),
+            ServiceLine::Operator(operator) => self.operator = Some(operator),
+        }
+    }
+}

@@ -1,0 +1,48 @@
+use Rattle.std.proofs.Common.{ℕ, ◌+◌, List, [], Some, refl, sym, ◌∙◌, subst, arith, map}
+use Rattle.wire_spec.specs.Packets.{Arrival}
+use Rattle.wire_spec.specs.Text.{text_of}
+use Rattle.wire_spec.specs.Dump.{Item, sent_item, arrivals_after}
+use Rattle.rtpdump_io.proofs.Fronts.{left_less, some_left, front_none, front_more, front_all}
+use Rattle.rtt_show.specs.Strays.{Strayed}
+use Rattle.rtt_show.proofs.Surveying.{arrives_more}
+use Rattle.rtt_show.proofs.Following.{strayed_arrived, missed_strayed}
+use Rattle.rtt_show.proofs.strays.strays_of.Goals as goal
+
+pub loop-at-init : goal.loop-at-init
+loop-at-init c = record {
+  few = (0, record { back = c.requires.0; left = c.requires.1; few = omega (arith, c.requires.1.few) }, (c.in_ok-follower.ensures.short, c.new-strays.ensures.few));
+  found = λ all a. front_none (λ came. Strayed c.in_ok-follower.follower c.new-strays.result (arrivals_after c.args.ssrc c.args.pts [] came)) c.args.records.now all (record { follows = c.in_ok-follower.ensures.nothing; strays = c.new-strays.ensures.nothing }) a;
+}
+
+pub take_packet-requires : goal.take_packet-requires
+take_packet-requires c =
+    let i = c.loop-at.invariant.few in
+    let e = some_left c.loop-at.rest.now c.in-Some.at c.in-Some.octets.now c.in-Some.more.now i.0 c.in-Some.ensures.record c.in-Some.ensures.shorter i.1 in
+    (i.0, omega (arith, e), i.2)
+
+pub loop-at-preserved : goal.loop-at-preserved
+loop-at-preserved c =
+    let i = c.loop-at.invariant in
+    let rest = c.loop-at.rest.now in
+    let at = c.in-Some.at in
+    let octets = c.in-Some.octets.now in
+    let more = c.in-Some.more.now in
+    let f = c.loop-at.follower in
+    let s = c.loop-at.strays in
+    let g = c.take_packet.new.follower in
+    let t = c.take_packet.new.strays in
+    let past : List Item → List Arrival = arrivals_after c.args.ssrc c.args.pts [] in
+    record {
+      few = (i.few.0 + 1, left_less rest at octets more i.few.0 (i.few.0 + 1) c.in-Some.ensures.record c.in-Some.ensures.shorter (omega arith) i.few.1, c.in_ok-take_packet.ensures.few i.few.0 i.few.2);
+      found = λ all a.
+          front_more (λ came. Strayed f s (past came)) (λ came. Strayed g t (past came)) rest at octets more all c.in-Some.ensures.record c.in-Some.ensures.shorter
+          (λ came h. subst (Strayed g t) (sym (arrives_more c.args.pts c.args.ssrc came at octets)) (strayed_arrived f g s t at (text_of octets (Some c.args.ssrc) c.args.pts) (past came) c.in_ok-take_packet.ensures.more h))
+          (i.found all a);
+    }
+
+pub returns : goal.returns
+returns c = λ all a.
+    let f = c.loop-at.follower in
+    let s = c.loop-at.strays in
+    missed_strayed c.args.pts c.args.ssrc f s (record { lost = c.missing.result; late = s.packets }) (map sent_item all) c.missing.ensures refl
+    (front_all (λ came. Strayed f s (arrivals_after c.args.ssrc c.args.pts [] came)) c.loop-at.rest.now all c.in_default.ensures.record (c.loop-at.invariant.found all a))

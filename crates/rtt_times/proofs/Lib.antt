@@ -1,0 +1,7 @@
+pub mod Writing
+pub mod Kept
+pub mod Hearing
+pub mod Missing
+pub mod Early
+pub mod Telling
+pub mod Beginning

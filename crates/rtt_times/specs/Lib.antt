@@ -1,0 +1,7 @@
+pub mod Lines
+pub mod Writing
+pub mod Heard
+pub mod Numbers
+pub mod Found
+pub mod Heads
+pub mod Openings

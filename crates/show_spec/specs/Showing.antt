@@ -1,0 +1,58 @@
+-- What `show` prints of a recording: what was typed in each stream of text, what else is there, and where the recording can't
+-- be read further (profile). Each line ends with LF.
+use Rattle.std.specs.Prelude.{ℕ, ◌==◌, List, [], ◌++◌, length, flat_map, codes, decimal, if◌then◌else◌}
+use Rattle.rtt_base.specs.declared.text_packets.Pts.{Pts}
+use Rattle.wire_spec.specs.Dump.{Item, Recording, dump, usual_limit}
+use Rattle.stream_spec.specs.Numbering.{Numbered, numbered}
+use Rattle.view_spec.specs.Seen.{arrivals_at}
+use Rattle.view_spec.specs.Views.{printed_line}
+use Rattle.command_spec.specs.Reading.{usual_wait}
+use Rattle.command_spec.specs.Streams.{ssrc_of, type_of, streams, stream, pairs, packets_of, sources}
+use Rattle.command_spec.specs.Showing.{hearing, least_time, greatest_time, hearing_view, other_lines, end_line}
+use Rattle.show_spec.specs.Missed.{lost_count, late_count}
+use Rattle.show_spec.specs.Guesses.{guess_line}
+
+-- ---- a stream of text
+
+-- a number behind these words, where it is not 0
+abbrev pub counted : List ℕ → ℕ → List ℕ
+counted words number = if number == 0 then [] else words ++ decimal number
+
+-- the packets of the stream with their numbers, newest first
+abbrev pub numbers_of : Pts → ℕ → List Item → List Numbered
+numbers_of pts ssrc came = numbered (arrivals_at (hearing pts ssrc) came)
+
+abbrev pub title_of : ℕ → ℕ → ℕ → ℕ → ℕ → List ℕ
+title_of ssrc from to lost late =
+    printed_line (codes "== " ++ decimal ssrc ++ codes " from " ++ decimal from ++ codes " to " ++ decimal to
+    ++ counted (codes " lost ") lost ++ counted (codes " late ") late)
+
+unfoldable pub stream_title : Pts → ℕ → List Item → List ℕ
+stream_title pts ssrc came =
+    title_of ssrc (least_time came) (greatest_time came) (lost_count (numbers_of pts ssrc came))
+    (late_count usual_wait (numbers_of pts ssrc came))
+
+-- what is seen of the stream whose packets these are
+unfoldable pub stream_view : Pts → ℕ → List Item → List ℕ
+stream_view pts ssrc came = stream_title pts ssrc came ++ hearing_view (hearing pts ssrc) (sources ssrc pts came) came
+
+-- ---- the packets of another payload type
+
+unfoldable pub pair_view : ℕ → List Item → List ℕ
+pair_view pair came =
+    printed_line (codes "-- ssrc " ++ decimal (ssrc_of pair) ++ codes " type " ++ decimal (type_of pair)
+    ++ codes " packets " ++ decimal (length came) ++ guess_line (ssrc_of pair) (type_of pair) came)
+
+-- ---- all
+
+unfoldable pub items_view : Pts → List Item → List ℕ
+items_view pts items =
+    flat_map (λ ssrc. stream_view pts ssrc (stream pts ssrc items)) (streams pts items).kept
+    ++ flat_map (λ pair. pair_view pair (packets_of pts pair items)) (pairs pts items).kept
+    ++ other_lines pts items
+
+abbrev pub recording_view : Pts → Recording → List ℕ
+recording_view pts r = items_view pts r.items ++ end_line r.fault
+
+unfoldable pub show_view : Pts → List ℕ → List ℕ
+show_view pts octets = recording_view pts (dump usual_limit octets)

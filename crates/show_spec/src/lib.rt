@@ -1,0 +1,2 @@
+//! What `show` prints of a recording. No code stands here.
+#![tactic(auto)]
