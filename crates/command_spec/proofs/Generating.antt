@@ -274,7 +274,7 @@ conference_is n lines some few plan short = record {
     delays = All-weaker (IsInPlan n) (λ p. IsShort p.what) (λ p h. h.delay) _ (stays (IsInPlan n) lines plan);
     differ = all_differ lines;
   };
-  service = record { gone = λ n e. absurd (cc e); operator = λ o e. absurd (cc e) };
+  service = record { gone = λ n e. absurd (cc e); operator = λ o e. absurd (cc e); recorded = λ p e. absurd (cc e) };
 }
 
 -- ---- the whole

@@ -9,7 +9,6 @@ pub mod PrintedNames
 pub mod Headlines
 pub mod OneBridge
 mod MixExamples
-mod ShowExamples
 mod RealTerminals
 pub mod Outputs
 mod GeneratedExamples

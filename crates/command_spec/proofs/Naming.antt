@@ -285,6 +285,7 @@ named_conference says c keeps =
           word = was.word;
           differs = inputs_told (λ input. port input ≢ Some o.port) c.wait says (length c.legs) c.legs was.differs;
         };
+        recorded = keeps.service.recorded;
       };
     }
 

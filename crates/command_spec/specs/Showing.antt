@@ -1,5 +1,5 @@
--- What `show` prints of a recording: what was typed in each stream of text, what else is there, and where the recording can't
--- be read further (profile). Each line ends with LF.
+-- What `show` prints of a stream's sources, what else there is, and where the recording can't be read further (profile). Each
+-- line ends with LF.
 use Rattle.std.specs.Prelude.{ℕ, ◌+◌, ◌==◌, Bool, true, false, Option, None, Some, List, [], ◌∷◌, ◌++◌, length, map, filter, flat_map, min, max, Result, Ok, Err, codes, decimal, if◌then◌else◌}
 use Rattle.rtt_base.specs.declared.text_packets.Pts.{Pts}
 use Rattle.wire_spec.specs.declared.faults.DumpKind.{DumpKind}
@@ -8,7 +8,7 @@ use Rattle.wire_spec.specs.declared.faults.TextFault.{TextFault}
 use Rattle.wire_spec.specs.declared.faults.TextFault.TheVariants.{Short, Version, Padding, Sources, WrongType, Cut, Many, Long, NotText, Foreign}
 use Rattle.wire_spec.specs.declared.limits.TheConstants.{LAST_RECORD_MOMENT}
 use Rattle.wire_spec.specs.Packets.{Packet}
-use Rattle.wire_spec.specs.Dump.{Item, Fault, Recording, dump, usual_limit}
+use Rattle.wire_spec.specs.Dump.{Item, Fault, dump, usual_limit}
 use Rattle.view_spec.specs.Seen.{Reception, Speaker, source_at, counts_at}
 use Rattle.view_spec.specs.Views.{Source, printed_line, source_view, counts_line}
 use Rattle.command_spec.specs.Firsts.{Firsts}
@@ -16,7 +16,7 @@ use Rattle.command_spec.specs.Listing.{fault_name}
 use Rattle.command_spec.specs.Messages.{dump_kind_name}
 use Rattle.command_spec.specs.Reading.{usual_wait}
 use Rattle.command_spec.specs.Streams as sorts
-use Rattle.command_spec.specs.Streams.{Sort, sort_of, is_same_sort, ssrc_of, type_of, streams, stream, pairs, packets_of, sources, text_at, is_dynamic, type_inside, may_be_red, may_be_text}
+use Rattle.command_spec.specs.Streams.{Sort, sort_of, is_same_sort, streams, stream, pairs, sources, text_at}
 
 -- a line of a number, where it is not 0
 abbrev pub number_line : List ℕ → ℕ → List ℕ
@@ -36,10 +36,6 @@ least_time (item ∷ items) = min item.time (least_time items)
 abbrev pub greatest_time : List Item → ℕ
 greatest_time [] = 0
 greatest_time (item ∷ items) = max item.time (greatest_time items)
-
-unfoldable pub stream_title : ℕ → List Item → List ℕ
-stream_title ssrc came =
-    printed_line (codes "== " ++ decimal ssrc ++ codes " from " ++ decimal (least_time came) ++ codes " to " ++ decimal (greatest_time came))
 
 -- a source goes by its number
 abbrev pub speaker : ℕ → Speaker
@@ -83,26 +79,6 @@ hearing_view r named came =
     flat_map source_view (sources_seen r named.kept came) ++ counts_line (counts_at r came)
     ++ refusal_lines r came ++ number_line (codes "-- other sources ") named.others
 
--- what is seen of the stream whose packets these are
-unfoldable pub stream_view : Pts → ℕ → List Item → List ℕ
-stream_view pts ssrc came = stream_title ssrc came ++ hearing_view (hearing pts ssrc) (sources ssrc pts came) came
-
--- ---- the packets of another payload type
-
-abbrev pub guess : ℕ → ℕ → List Item → List ℕ
-guess ssrc pt came =
-    if may_be_red ssrc pt (type_inside came) came then codes " red of " ++ decimal (type_inside came)
-    else (if may_be_text ssrc pt came then codes " text" else [])
-
--- what they may be, where their type may be one of text
-abbrev pub guess_line : ℕ → ℕ → List Item → List ℕ
-guess_line ssrc pt came = if is_dynamic pt then guess ssrc pt came else []
-
-unfoldable pub pair_view : ℕ → List Item → List ℕ
-pair_view pair came =
-    printed_line (codes "-- ssrc " ++ decimal (ssrc_of pair) ++ codes " type " ++ decimal (type_of pair)
-    ++ codes " packets " ++ decimal (length came) ++ guess_line (ssrc_of pair) (type_of pair) came)
-
 -- ---- all
 
 -- how many records are of this sort, of which no header is read
@@ -123,18 +99,6 @@ other_lines pts items =
 unfoldable pub end_line : Option Fault → List ℕ
 end_line None = printed_line (codes "-- whole")
 end_line (Some fault) = printed_line (codes "-- byte " ++ decimal fault.byte ++ codes ": " ++ dump_kind_name fault.kind)
-
-unfoldable pub items_view : Pts → List Item → List ℕ
-items_view pts items =
-    flat_map (λ ssrc. stream_view pts ssrc (stream pts ssrc items)) (streams pts items).kept
-    ++ flat_map (λ pair. pair_view pair (packets_of pts pair items)) (pairs pts items).kept
-    ++ other_lines pts items
-
-abbrev pub recording_view : Pts → Recording → List ℕ
-recording_view pts r = items_view pts r.items ++ end_line r.fault
-
-unfoldable pub show_view : Pts → List ℕ → List ℕ
-show_view pts octets = recording_view pts (dump usual_limit octets)
 
 -- ---- what is refused
 

@@ -1,15 +1,15 @@
 //! The lines of what is asked of a call over links beside the mixing.
 ghost use Rattle.std.specs.Prelude.{◌≡◌};
-ghost use Rattle.file_spec.specs.Conf.{operator, operator_of, service_word};
+ghost use Rattle.file_spec.specs.Conf.{operator, operator_of, prefix, service_word};
 ghost use Rattle.conf_text.specs.Lines.{above_of, texts_of};
 
 use crate::ConfKind;
 use crate::drafts::Draft;
 use crate::entries::read_setting;
 use crate::leg_lines::{hears_at, port_of};
-use crate::names::is_word;
+use crate::names::{is_word, names_path};
 use file_spec::limits::{LEAST_GONE, MOST_GONE};
-use file_spec::{OperatorLine, OperatorWord, ServiceLine};
+use file_spec::{OperatorLine, OperatorWord, RecordPrefix, ServiceLine};
 
 #[tactic(auto, unfolding(file_spec::specs::Conf::operator_of))]
 fn read_operator_at(above: &Draft, port: &str, word: &str) -> Result<OperatorLine, ConfKind>
@@ -40,6 +40,17 @@ fn read_operator(above: &Draft, words: &[&str]) -> Result<OperatorLine, ConfKind
     }
 }
 
+fn read_prefix(above: &Draft, words: &[&str]) -> Result<RecordPrefix, ConfKind>
+    ensures { result ≡ prefix (above_of above.now) (texts_of words.now) }
+{
+    match words {
+        [text] if !names_path(text) => Err(ConfKind::Name),
+        [_] if above.service.recorded.is_some() => Err(ConfKind::Twice),
+        [text] => Ok(RecordPrefix::from_text(text)),
+        _ => Err(ConfKind::Count),
+    }
+}
+
 /// What is asked on a line, from its first word and those after it.
 pub(crate) fn read_service(
     above: &Draft,
@@ -54,6 +65,7 @@ pub(crate) fn read_service(
             Ok(ServiceLine::Gone(silence))
         }
         "operator" => Ok(ServiceLine::Operator(read_operator(above, words)?)),
+        "record" => Ok(ServiceLine::Record(read_prefix(above, words)?)),
         _ => Err(ConfKind::Word),
     }
 }

@@ -148,6 +148,7 @@ fn what_is_not_said_has_its_default(rt: HostRuntime) -> Result<(), Fail> {
     assert!(rt; conf.plan.is_empty());
     assert_eq!(rt; conf.service.gone, None);
     assert!(rt; conf.service.operator.is_none());
+    assert!(rt; conf.service.recorded.is_none());
     assert_eq!(rt; conf.legs.as_slice().len(), 2);
     Ok(())
 }
@@ -173,6 +174,8 @@ gone 60000 => line 3: Word\n\
 gone => line 3: Word\n\
 operator 6100 Word4Watch => line 3: Word\n\
 operator => line 3: Word\n\
+record calls/Ann => line 3: Word\n\
+record => line 3: Word\n\
 tick => line 3: Count\n\
 tick 20 20 => line 3: Count\n\
 mixer 1 2 => line 3: Count\n\
@@ -332,6 +335,11 @@ gone 10000; gone 10000 => line 2: Twice\n\
 gone 10000; gone 9999 => line 2: Number\n\
 gone 10000; gone => line 2: Count\n\
 Gone 10000 => line 1: Word\n\
+record => line 1: Count\n\
+record a b => line 1: Count\n\
+record a; record b => line 2: Twice\n\
+record a; record => line 2: Count\n\
+records a => line 1: Word\n\
 operator 6100 aZ34567 => line 1: Name\n\
 operator 6100 aZ345-78 => line 1: Name\n\
 operator 6100 aZ3456\u{e9} => line 1: Name\n\

@@ -39,13 +39,13 @@ labelled_again : conf Links (codes "leg A aware 1 5004 h:1\nleg B unaware 2 5006
 unfolding entry gens_of leg_of mixer_of plan_of stay_of stay_or_plan time_or_other is_utf8 chars encode_utf8
 labelled_again = refl
 
-asked_of_links : conf Links (codes "gone 60000\nleg A aware 1 5004 h:1\noperator 06100 Word4Watch\nleg B unaware 2 5006 h:2\nmixer 3 0 0")
+asked_of_links : conf Links (codes "gone 60000\nleg A aware 1 5004 h:1\noperator 06100 Word4Watch\nleg B unaware 2 5006 h:2\nmixer 3 0 0\nrecord calls/main")
     ≡ Ok (record (
     usual
     (record { line = 2; name = codes "A"; aware = true; ssrc = 1; input = codes "5004"; output = codes "h:1"; pts = record { t140 = 98; red = 100 }; gens = 2; stay = record { from = 0; until = None } }
     ∷ record { line = 4; name = codes "B"; aware = false; ssrc = 2; input = codes "5006"; output = codes "h:2"; pts = record { t140 = 98; red = 100 }; gens = 2; stay = record { from = 0; until = None } } ∷ [])
     (record { ssrc = 3; seq = 0; stamp = 0 })
-    ) { service = record { gone = Some 60000; operator = Some (record { port = 6100; word = codes "Word4Watch" }) } })
+    ) { service = record { gone = Some 60000; operator = Some (record { port = 6100; word = codes "Word4Watch" }); recorded = Some (codes "calls/main") } })
 unfolding entry gens_of leg_of mixer_of operator_of plan_of stay_of stay_or_plan time_or_other is_utf8 chars encode_utf8
 asked_of_links = refl
 
@@ -109,13 +109,18 @@ faulty =
     ∷ (Links, codes "mixer 1 0 0\nleg A aware 2 5004 h:1\nlose A 0", record { line = 3; kind = Word })
     -- no stay among links
     ∷ (Links, codes "leg A aware 2 5004 h:1\nstay A 0 1", record { line = 2; kind = Word })
-    -- no operator and nobody gone among files
+    -- no operator, nobody gone and nothing recorded among files
     ∷ (Files, codes "gone 60000", record { line = 1; kind = Word })
     ∷ (Files, codes "operator 6100 Word4Watch", record { line = 1; kind = Word })
+    ∷ (Files, codes "record calls/main", record { line = 1; kind = Word })
     -- gone too soon, and twice
     ∷ (Links, codes "gone 9999", record { line = 1; kind = Number })
     ∷ (Links, codes "gone 86400001", record { line = 1; kind = Number })
     ∷ (Links, codes "gone 10000\ngone 86400000", record { line = 2; kind = Twice })
+    -- recorded under no name, under two, and twice
+    ∷ (Links, codes "record", record { line = 1; kind = Count })
+    ∷ (Links, codes "record calls main", record { line = 1; kind = Count })
+    ∷ (Links, codes "record a\nrecord a", record { line = 2; kind = Twice })
     -- an operator without a word, with a short one, and one of other letters
     ∷ (Links, codes "operator 6100", record { line = 1; kind = Count })
     ∷ (Links, codes "operator 6100 Word4Op", record { line = 1; kind = Name })

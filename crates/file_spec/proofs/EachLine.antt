@@ -21,7 +21,7 @@ use Rattle.file_spec.specs.Steps.{unless}
 use Rattle.file_spec.specs.Lines.{Line, words, told, at_line, read_lines}
 use Rattle.file_spec.specs.Stays.{is_crowd}
 use Rattle.file_spec.specs.Services.{is_operator_word}
-use Rattle.file_spec.specs.Conf.{Above, Conf, Entry, Leg, Gens, Stays, Tick, Spacing, Wait, Turns, Relabel, Mixer, Plan, Serves, says, time_or_other, stay_or_plan, of_form, service_word, operator, operator_of, port, is_same_port, nothing, with_entry, setting, mixer, leg, gens, stay, plan_word, entry, is_blank, and_line, whole, complete, conf, mixer_of, leg_of, new_leg, has_names, has_port, aware_of, whole_stay}
+use Rattle.file_spec.specs.Conf.{Above, Conf, Entry, Leg, Gens, Stays, Tick, Spacing, Wait, Turns, Relabel, Mixer, Plan, Serves, says, time_or_other, stay_or_plan, of_form, service_word, operator, operator_of, prefix, port, is_same_port, nothing, with_entry, setting, mixer, leg, gens, stay, plan_word, entry, is_blank, and_line, whole, complete, conf, mixer_of, leg_of, new_leg, has_names, has_port, aware_of, whole_stay}
 use Rattle.rtt_base.proofs.Steps.{bind_ok}
 use Rattle.file_spec.proofs.Passed.{unless_ok, ok_or_ok}
 use Rattle.rtt_base.specs.declared.limits.TheConstants.{LONGEST_WAIT}
@@ -109,18 +109,22 @@ leg_read form above n name mode ssrc input output types x e =
 pub record HoldsOfService (P : ServiceLine → Type 0) (above : Above) : Type 0 where
   pub each_gone : (ws : List (List ℕ)) (x : ℕ) → setting LEAST_GONE MOST_GONE above.service.gone ws ≡ Ok x → P (service.Gone x)
   pub each_operator : (ws : List (List ℕ)) (x : OperatorLine) → operator above ws ≡ Ok x → P (service.Operator x)
+  pub each_record : (ws : List (List ℕ)) (x : List ℕ) → prefix above ws ≡ Ok x → P (service.Record x)
 
 says_holds : {A B : Type 0} (P : B → Type 0) (make : A → B) (r : Result A ConfKind) (e : B) → ((x : A) → r ≡ Ok x → P (make x)) → says make r ≡ Ok e → P e
 says_holds P make (Ok x) e f q = let same : make x ≡ e = cc q in subst P same (f x refl)
 says_holds P make (Err k) e f q = absurd (cc q)
 
 pub service_holds : (P : ServiceLine → Type 0) (above : Above) → HoldsOfService P above → (word : List ℕ) (more : List (List ℕ)) (e : ServiceLine) → service_word above word more ≡ Ok e → P e
-service_holds P above h word more e q = go (bytes_eq word (codes "gone")) (bytes_eq word (codes "operator")) q
+service_holds P above h word more e q = go (bytes_eq word (codes "gone")) (bytes_eq word (codes "operator")) (bytes_eq word (codes "record")) q
   where
-    go : (a b : Bool) → (if a then says service.Gone (setting LEAST_GONE MOST_GONE above.service.gone more) else (if b then says service.Operator (operator above more) else Err Word)) ≡ Ok e → P e
-    go true b q = says_holds P service.Gone (setting LEAST_GONE MOST_GONE above.service.gone more) e (h.each_gone more) q
-    go false true q = says_holds P service.Operator (operator above more) e (h.each_operator more) q
-    go false false q = absurd (cc q)
+    go : (a b c : Bool)
+        → (if a then says service.Gone (setting LEAST_GONE MOST_GONE above.service.gone more) else (if b then says service.Operator (operator above more) else (if c then says service.Record (prefix above more) else Err Word))) ≡ Ok e
+        → P e
+    go true b c q = says_holds P service.Gone (setting LEAST_GONE MOST_GONE above.service.gone more) e (h.each_gone more) q
+    go false true c q = says_holds P service.Operator (operator above more) e (h.each_operator more) q
+    go false false true q = says_holds P service.Record (prefix above more) e (h.each_record more) q
+    go false false false q = absurd (cc q)
 
 -- ---- one line
 -- this holds of whatever a line says, word by word

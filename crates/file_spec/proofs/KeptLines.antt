@@ -1,6 +1,6 @@
 -- What a conference keeps, line by line.
 use Rattle.std.proofs.Common.{◌≡◌, ℕ, zero, suc, ◌<◌, ◌≤◌, Bool, true, false, Option, Some, None, List, [], ◌∷◌, length, get_or, refl, ap, subst, sym, ◌∙◌, arith}
-use Rattle.std.specs.Prelude.{◌≢◌, ◌==◌, not, nat_le, if◌then◌else◌, unwrap_or, Ok, Err, is_some, codes, bytes_eq, All}
+use Rattle.std.specs.Prelude.{◌≢◌, IsTrue, ◌==◌, not, nat_le, if◌then◌else◌, unwrap_or, Ok, Err, is_some, codes, bytes_eq, All}
 use Rattle.std.specs.List.{list_any, position}
 use Rattle.std.specs.Option.{ForSome, ok_or}
 use Rattle.std.proofs.lemmas.Bool.{true≢false, and_parts, or_parts, eq-eqb, not-false, leb-false, ltb-false}
@@ -31,7 +31,7 @@ use Rattle.file_spec.specs.Steps.{unless}
 use Rattle.file_spec.specs.Lines.{Line}
 use Rattle.file_spec.specs.Numbers.{number, most_ssrc, number_between, payload_type, pts}
 use Rattle.file_spec.specs.Stays.{IsStay, is_crowd}
-use Rattle.file_spec.specs.Conf.{Above, Conf, Entry, Leg, Gens, Stays, Tick, Spacing, Wait, Turns, Relabel, Mixer, Plan, Serves, nothing, with_entry, change_leg, with_gens, with_stay, setting, mixer, mixer_of, is_mixers, is_name, has_names, has_port, shares_own, shares_path, clashes, most_legs, new_leg, aware_of, whole_stay, usual_types, leg_of, leg, place_of, gens_of, gens, stay_of, stay, is_same_packet, plan_of, plan, delay_of, delay, plan_word, service_word, operator, port, is_same_port, is_operators, and_line, whole, conf}
+use Rattle.file_spec.specs.Conf.{Above, Conf, Entry, Leg, Gens, Stays, Tick, Spacing, Wait, Turns, Relabel, Mixer, Plan, Serves, nothing, with_entry, change_leg, with_gens, with_stay, setting, mixer, mixer_of, is_mixers, is_name, has_names, has_port, shares_own, shares_path, clashes, most_legs, new_leg, aware_of, whole_stay, usual_types, leg_of, leg, place_of, gens_of, gens, stay_of, stay, is_same_packet, plan_of, plan, delay_of, delay, plan_word, service_word, operator, port, is_same_port, is_operators, and_line, whole, conf, prefix, is_path}
 use Rattle.file_spec.specs.Sound.{IsBetween}
 use Rattle.file_spec.specs.Services.{with_service}
 use Rattle.file_spec.specs.Kept.{IsLeg, Differ, AreLegs, IsMixerFor, IsShort, IsTick, IsSpacing, IsWait, AreTurns, IsRelabel, IsGone, IsOperatorFor, IsServiceFor, Keeps, IsConference}
@@ -61,6 +61,7 @@ record IsNewPlan (above : Above) (p : PlanLine) : Type 0 where
 abbrev IsNewService : Above → ServiceLine → Type 0
 IsNewService above (service.Gone n) = IsGone n
 IsNewService above (service.Operator o) = IsOperatorFor above.legs o
+IsNewService above (service.Record p) = IsTrue (is_path p)
 
 abbrev IsNew : Above → Entry → Type 0
 IsNew above (Leg l) = IsNewLeg above l
@@ -97,6 +98,7 @@ leg_more above l k new = record {
   service = record {
     gone = k.service.gone;
     operator = λ o e. let was = k.service.operator o e in record { at = was.at; word = was.word; differs = All-push (λ a. port a.input ≢ Some o.port) above.legs l was.differs (new.operator o e) };
+    recorded = k.service.recorded;
   };
 }
 
@@ -119,8 +121,9 @@ plan_more above p k new = record {
 }
 
 service_more : (above : Above) (s : ServiceLine) → Keeps above → IsNewService above s → IsServiceFor above.legs (with_service above.service s)
-service_more above (service.Gone n) k new = record { gone = λ m e. subst IsGone (some_same n m e) new; operator = k.service.operator }
-service_more above (service.Operator x) k new = record { gone = k.service.gone; operator = λ o e. subst (IsOperatorFor above.legs) (some_same x o e) new }
+service_more above (service.Gone n) k new = record { gone = λ m e. subst IsGone (some_same n m e) new; operator = k.service.operator; recorded = k.service.recorded }
+service_more above (service.Operator x) k new = record { gone = k.service.gone; operator = λ o e. subst (IsOperatorFor above.legs) (some_same x o e) new; recorded = k.service.recorded }
+service_more above (service.Record x) k new = record { gone = k.service.gone; operator = k.service.operator; recorded = λ p e. subst (λ (text : List ℕ). IsTrue (is_path text)) (some_same x p e) new }
 
 -- ---- a leg that is changed
 -- what is said of a leg leaves what it is known by
@@ -195,6 +198,7 @@ changed above change leaves k gs ss kept = record {
       word = was.word;
       differs = λ i d h. changed_at change (λ l. port l.input ≢ Some o.port) (λ l f q. f (ap port (sym (leaves.input l)) ∙ q)) above.legs k i d (was.differs i d (shorter change k above.legs i h));
     };
+    recorded = kept.service.recorded;
   };
 }
 
@@ -463,8 +467,17 @@ operator_ok above (a ∷ b ∷ []) x e =
     }
 operator_ok above (a ∷ b ∷ c ∷ more) x e = absurd (cc e)
 
+prefix_ok : (above : Above) (ws : List (List ℕ)) (x : List ℕ) → prefix above ws ≡ Ok x → IsTrue (is_path x)
+prefix_ok above [] x e = absurd (cc e)
+prefix_ok above (a ∷ []) x e =
+    let b = bind_ok (unless (not (is_path a)) Name a) (unless (is_some above.service.recorded) Twice) x e in
+    let t = unless_ok (not (is_path a)) Name a b.0 b.1 in
+    let u = unless_ok (is_some above.service.recorded) Twice b.0 x b.2 in
+    subst (λ (text : List ℕ). IsTrue (is_path text)) (t.1 ∙ u.1) (not-false (is_path a) t.0)
+prefix_ok above (a ∷ b ∷ more) x e = absurd (cc e)
+
 service_ok : (above : Above) (word : List ℕ) (ws : List (List ℕ)) (x : ServiceLine) → service_word above word ws ≡ Ok x → IsNewService above x
-service_ok above = service_holds (IsNewService above) above (record { each_gone = setting_ok LEAST_GONE MOST_GONE above.service.gone; each_operator = operator_ok above })
+service_ok above = service_holds (IsNewService above) above (record { each_gone = setting_ok LEAST_GONE MOST_GONE above.service.gone; each_operator = operator_ok above; each_record = prefix_ok above })
 
 -- ---- lines
 entry_ok : (form : Form) (above : Above) (n : ℕ) → HoldsOf (IsNew above) form above n
@@ -497,7 +510,7 @@ nothing_keeps = record {
   relabel = λ m e. absurd (cc e);
   mixer = λ m e. absurd (cc e);
   plan = record { most = omega arith; terminals = All-nil (λ a. a.terminal < 0); delays = All-nil (λ a. IsShort a.what); differ = λ i j d l h. absurd (omega arith) };
-  service = record { gone = λ m e. absurd (cc e); operator = λ m e. absurd (cc e) };
+  service = record { gone = λ m e. absurd (cc e); operator = λ m e. absurd (cc e); recorded = λ m e. absurd (cc e) };
 }
 
 -- ---- the whole

@@ -286,10 +286,19 @@ abbrev pub operator : Above → List (List ℕ) → Result OperatorLine ConfKind
 operator above (at ∷ word ∷ []) = operator_of above at word
 operator above _ = Err Count
 
+-- what the names of recordings begin with
+abbrev pub prefix_of : Above → List ℕ → Result (List ℕ) ConfKind
+prefix_of above text = unless (not (is_path text)) Name text >>= unless (is_some above.service.recorded) Twice
+
+abbrev pub prefix : Above → List (List ℕ) → Result (List ℕ) ConfKind
+prefix above (text ∷ []) = prefix_of above text
+prefix above _ = Err Count
+
 abbrev pub service_word : Above → List ℕ → List (List ℕ) → Result ServiceLine ConfKind
 service_word above word more =
     if bytes_eq word (codes "gone") then says service.Gone (setting LEAST_GONE MOST_GONE above.service.gone more)
-    else (if bytes_eq word (codes "operator") then says service.Operator (operator above more) else Err Word)
+    else (if bytes_eq word (codes "operator") then says service.Operator (operator above more)
+    else (if bytes_eq word (codes "record") then says service.Record (prefix above more) else Err Word))
 
 -- ---- lines
 

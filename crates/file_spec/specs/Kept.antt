@@ -10,7 +10,7 @@ use Rattle.file_spec.specs.declared.conf_lines.What.{What}
 use Rattle.file_spec.specs.declared.conf_lines.What.TheVariants.{Delay}
 use Rattle.file_spec.specs.declared.services.OperatorLine.{OperatorLine}
 use Rattle.file_spec.specs.declared.services.Service.{Service}
-use Rattle.file_spec.specs.Conf.{Above, Conf, is_name, is_same_packet, port}
+use Rattle.file_spec.specs.Conf.{Above, Conf, is_name, is_path, is_same_packet, port}
 use Rattle.file_spec.specs.Services.{is_operator_word}
 use Rattle.file_spec.specs.Sound.{IsBetween}
 use Rattle.file_spec.specs.Stays.{IsStay, NeverCrowd}
@@ -82,6 +82,7 @@ pub record IsOperatorFor (legs : List LegLine) (line : OperatorLine) : Type 0 wh
 pub record IsServiceFor (legs : List LegLine) (service : Service) : Type 0 where
   pub gone : ForSome service.gone (λ n. IsGone n)
   pub operator : ForSome service.operator (λ o. IsOperatorFor legs o)
+  pub recorded : ForSome service.recorded (λ prefix. IsTrue (is_path prefix))
 
 -- what the lines so far keep
 pub record Keeps (above : Above) : Type 0 where

@@ -5,16 +5,17 @@ use Rattle.std.specs.Char.{is_ascii_alphanumeric}
 use Rattle.file_spec.specs.declared.limits.TheConstants.{SHORTEST_WORD, LONGEST_WORD}
 use Rattle.file_spec.specs.declared.services.Service.{Service}
 use Rattle.file_spec.specs.declared.services.ServiceLine.{ServiceLine}
-use Rattle.file_spec.specs.declared.services.ServiceLine.TheVariants.{Gone, Operator}
+use Rattle.file_spec.specs.declared.services.ServiceLine.TheVariants.{Gone, Operator, Record}
 
 -- nothing is asked
 abbrev pub no_service : Service
-no_service = record { gone = None; operator = None }
+no_service = record { gone = None; operator = None; recorded = None }
 
 -- what is asked, and what one line more asks
 abbrev pub with_service : Service → ServiceLine → Service
 with_service s (Gone n) = record s { gone = Some n }
 with_service s (Operator o) = record s { operator = Some o }
+with_service s (Record p) = record s { recorded = Some p }
 
 -- 8 to 64 ASCII letters and digits
 abbrev pub is_operator_word : List ℕ → Bool

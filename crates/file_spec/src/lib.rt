@@ -10,4 +10,4 @@ mod services;
 pub use conf_lines::{Form, GensLine, LegLine, MixerLine, PlanLine, Stay, StayLine, What};
 pub use kinds::ConfKind;
 pub use laws::{accepted_conferences_keep, crowds_are_seen};
-pub use services::{OperatorLine, OperatorWord, Service, ServiceLine};
+pub use services::{OperatorLine, OperatorWord, RecordPrefix, Service, ServiceLine};

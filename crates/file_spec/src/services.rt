@@ -36,6 +36,38 @@ impl OperatorWord {
     }
 }
 
+/// What the names of a call's recordings begin with, of at most 255 octets of UTF-8. Contracts see its octets.
+#[derive(Debug, Default, Drop)]
+pub struct RecordPrefix {
+    text: ArrayString<255>,
+}
+
+impl Model for RecordPrefix {
+    ghost use Rattle.std.specs.Prelude.{ℕ, List};
+
+    ghost Value = { List ℕ };
+
+    ghost view = { λ p. p.text.bytes };
+}
+
+impl RecordPrefix {
+    /// The prefix that is this text.
+    pub fn from_text(text: &str) -> RecordPrefix
+        requires { length text.now ≤ 255 }
+        ensures { result ≡ text.now }
+    {
+        let mut prefix = ArrayString::new();
+        prefix.push_str(text);
+        RecordPrefix { text: prefix }
+    }
+
+    pub fn as_str(&self) -> &str
+        ensures { result.now ≡ self.now }
+    {
+        self.text.as_str()
+    }
+}
+
 /// Where an operator is heard.
 #[derive(Debug, Drop)]
 pub struct OperatorLine {
@@ -51,6 +83,8 @@ pub enum ServiceLine {
     Gone(u32),
     /// An operator is heard.
     Operator(OperatorLine),
+    /// What comes and what is sent is recorded, in files whose names begin so.
+    Record(RecordPrefix),
 }
 
 /// What is asked of a call over links beside the mixing.
@@ -59,6 +93,8 @@ pub struct Service {
     /// After how many milliseconds in which nothing comes a link is closed, if it is.
     pub gone: Option<u32>,
     pub operator: Option<OperatorLine>,
+    /// What the names of its recordings begin with, if it is recorded.
+    pub recorded: Option<RecordPrefix>,
 }
 
 impl Service {
@@ -72,6 +108,7 @@ impl Service {
         Service {
             gone: None,
             operator: None,
+            recorded: None,
         }
     }
 
@@ -82,6 +119,7 @@ impl Service {
         match line {
             ServiceLine::Gone(silence) => self.gone = Some(silence),
             ServiceLine::Operator(operator) => self.operator = Some(operator),
+            ServiceLine::Record(prefix) => self.recorded = Some(prefix),
         }
     }
 }
