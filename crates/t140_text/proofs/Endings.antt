@@ -1,12 +1,10 @@
 -- The last three characters tell as much as all.
-use Rattle.std.proofs.Common.{◌≡◌, ℕ, Bool, true, false, cond, ◌&&◌, ◌||◌, List, [], ◌∷◌, ◌++◌, take, refl, sym, ap, subst, ◌∙◌}
+use Rattle.std.proofs.Common.{◌≡◌, ℕ, Bool, true, false, cond, ◌&&◌, ◌||◌, List, [], ◌∷◌, ◌++◌, take, refl, sym, ap, ◌∙◌}
 use Rattle.std.specs.Prelude.{◌==◌, reverse}
 use Rattle.std.specs.Str.{chars}
-use Rattle.std.proofs.lemmas.List.{reverse-append, reverse-reverse}
+use Rattle.std.proofs.lemmas.List.{reverse-append}
 use Rattle.text_spec.specs.Characters.{is_new_line}
 use Rattle.text_spec.specs.Ends.{ends_line, ends_sentence, first_is, is_closing, is_space, is_stop, is_stopped, is_wide_closing, is_wide_stop, is_wide_stopped, past_one}
-use Rattle.text_spec.specs.Shown.{ends_with_cr}
-use Rattle.text_spec.proofs.Steps.{ends_with_cr-last}
 use Rattle.t140_text.specs.declared.ends.Ending.{Ending}
 use Rattle.t140_text.specs.Endings.{IsEnding, back, is_line_end, is_sentence_end, pushed}
 
@@ -97,16 +95,6 @@ unfolding ends_sentence
 sentence_of e text h =
     ap (λ xs. is_stopped xs || is_wide_stopped xs) (sym h)
     ∙ (λ i. sym (stopped_three (reverse (chars text))) i || sym (wide_three (reverse (chars text))) i)
-
--- CR comes last
-cr_first : (rs : List ℕ) → ends_with_cr (reverse rs) ≡ first_is (λ c. c == 0x0D) rs
-cr_first [] = refl
-cr_first (r ∷ rs) = ap ends_with_cr (reverse-append (r ∷ []) rs) ∙ ends_with_cr-last (reverse rs) r
-
-pub cr_of : (e : Ending) (cs : List ℕ) → IsEnding e cs → (e.last == 0x0D) ≡ ends_with_cr cs
-cr_of e cs h =
-    ap (first_is (λ c. c == 0x0D)) (sym h)
-    ∙ (sym (first_of_three (λ c. c == 0x0D) refl (reverse cs)) ∙ (sym (cr_first (reverse cs)) ∙ ap ends_with_cr (reverse-reverse cs)))
 
 -- ---- at the three
 one_mark : (p q : ℕ → Bool) (x y : ℕ) (more : List ℕ) → p (cond (q x) y x) ≡ first_is p (past_one q (x ∷ y ∷ more))

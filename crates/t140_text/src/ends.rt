@@ -1,7 +1,6 @@
 //! Where a text ends a line or a sentence.
 ghost use Rattle.std.specs.Prelude.{◌≡◌, ◌==◌, ◌++◌, ℕ, List, [], ◌∷◌, chars, if◌then◌else◌};
 ghost use Rattle.text_spec.specs.Ends.{ends_line, ends_sentence, is_closing, is_stop, is_wide_closing, is_wide_stop};
-ghost use Rattle.text_spec.specs.Shown.{ends_with_cr};
 ghost use Rattle.t140_text.specs.Endings.{IsEnding, is_line_end, is_sentence_end, pushed};
 
 /// The last three characters of a text: as many as tell whether it ends a line or a sentence.
@@ -86,14 +85,6 @@ impl Ending {
         self.third = self.second;
         self.second = self.last;
         self.last = c;
-    }
-
-    /// Whether the text's last character is CR.
-    pub fn ends_with_cr(&self) -> bool
-        ensures value { result ≡ (self.now.last == 0x0D) }
-        ensures cr { (cs : List ℕ) → IsEnding self.now cs → result ≡ ends_with_cr cs }
-    {
-        self.last == '\r'
     }
 
     /// Whether the last character is a new line.
