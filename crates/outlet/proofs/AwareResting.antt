@@ -7,7 +7,6 @@ use Rattle.stream_spec.specs.Ready.{Chunk}
 use Rattle.mixer_spec.specs.Rounds.{all_below}
 use Rattle.mixer_spec.specs.Setups.{Setup}
 use Rattle.mixer_spec.specs.Table.{Terminal, Seats, has_work, is_due, is_due_leg, is_due_at, is_spaced, last_media, sent_from, leg_in, round_start, served, is_quiet}
-use Rattle.mixer_spec.proofs.Done.{below_all}
 use Rattle.mixer_spec.proofs.Rounds.{round_some}
 use Rattle.mixer_spec.proofs.Seats.{leg_in_some}
 use Rattle.outlet.proofs.Below.{no_text}

@@ -1,5 +1,5 @@
 -- The round of an aware terminal, and a turn that serves nobody.
-use Rattle.std.proofs.Common.{◌≡◌, ℕ, ◌-◌, Bool, true, false, cond, inl, inr, Option, Some, None, List, refl, ap, sym, ◌∙◌, arith}
+use Rattle.std.proofs.Common.{◌≡◌, ℕ, zero, suc, ◌+◌, ◌-◌, ◌<◌, ◌≤◌, Bool, true, false, cond, inl, inr, Option, Some, None, List, refl, ap, sym, ◌∙◌, arith}
 use Rattle.std.specs.Prelude.{◌==◌}
 use Rattle.std.specs.Option.{option_or}
 use Rattle.std.proofs.lemmas.Bool.{cases_eq, ne_eqb}
@@ -15,6 +15,13 @@ use Rattle.outlet.specs.AwareStanding.{StandsFor}
 use Rattle.outlet.specs.AwareTurns.{IsIn, IsTurned}
 
 -- ---- the round
+-- none of these numbers passes
+pub first_nowhere : (p : ℕ → Bool) (low n : ℕ) → ((k : ℕ) → low ≤ k → k < low + n → p k ≡ false) → first_from p low n ≡ None
+first_nowhere p low zero f = refl
+first_nowhere p low (suc n) f =
+    ap (λ (b : Bool). cond b (Some low) (first_from p (suc low) n)) (f low (omega arith) (omega arith))
+    ∙ first_nowhere p (suc low) n (λ k a b. f k (omega (arith, a)) (omega (arith, b)))
+
 pub round_here : (p : ℕ → Bool) (next start places u : ℕ) → next ≡ start → places ≡ 16 → Some u ≡ first_from p next (16 - next) → Some u ≡ first_round p start places
 round_here p next start places u n e f =
     ap (λ (o : Option ℕ). option_or o (first_from p 0 start)) (f ∙ ((λ r. first_from p (n r) (16 - n r)) ∙ ap (λ (x : ℕ). first_from p start (x - start)) (sym e)))

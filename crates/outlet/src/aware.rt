@@ -215,7 +215,8 @@ impl AwareOutlet {
             result ≡ first_from (is_due_at s table.seats self.now.own media d) low (high - low)) }
         ensures within { IfSome result (λ place. place < high) }
     {
-        for place in low..high {
+        let end = high.min(seating.reach());
+        for place in low..end {
             if self.is_due_at(place, media, seating, slots) {
                 return Some(place);
             }
@@ -223,8 +224,26 @@ impl AwareOutlet {
         None
     }
 
-    /// The place that a turn at this media time serves: counted round from the one after the place served last.
+    /// The place that a turn at this media time serves: counted round from the one after the place served last. Where all
+    /// type that is mostly the first.
     fn served(&self, media: u64, seating: &Seating, slots: &Slots) -> Option<usize>
+        requires slots { length slots.now ≡ length self.now.free_at }
+        requires seating { length seating.now.legs ≡ length self.now.free_at }
+        ensures served { AtSeats self.now seating.now slots.now (λ s table d.
+            result ≡ served s table.seats self.now.own media d) }
+        ensures within { IfSome result (λ place. place < PLACES) }
+    {
+        if self.next < PLACES {
+            if self.is_due_at(self.next, media, seating, slots) {
+                return Some(self.next);
+            }
+        }
+        self.served_round(media, seating, slots)
+    }
+
+    /// `served`, wherever that place is.
+    #[inline(never)]
+    fn served_round(&self, media: u64, seating: &Seating, slots: &Slots) -> Option<usize>
         requires slots { length slots.now ≡ length self.now.free_at }
         requires seating { length seating.now.legs ≡ length self.now.free_at }
         ensures served { AtSeats self.now seating.now slots.now (λ s table d.

@@ -1,10 +1,10 @@
 -- What was sent is added to the texts of its sources; a terminal that has these heard it.
-use Rattle.std.proofs.Common.{◌≡◌, ℕ, ◌<◌, ◌^◌, Bool, inl, inr, Result, Ok, Err, List, [], ◌++◌, length, append-nil, refl, ap, subst, sym, ◌∙◌, arith, set}
+use Rattle.std.proofs.Common.{◌≡◌, ℕ, ◌+◌, ◌<◌, ◌^◌, Bool, inl, inr, Result, Ok, Err, List, [], ◌∷◌, ◌++◌, length, append-nil, refl, ap, subst, sym, ◌∙◌, arith, set}
 use Rattle.std.specs.Prelude.{◌==◌, ◌≢◌, All, AllPairs, map, slice_index, slice_index_or, if◌then◌else◌, IsUtf8, IfOk}
 use Rattle.std.specs.List.{concat}
 use Rattle.std.proofs.Math.Seq.{get_or-set_same, get_or-set_other}
 use Rattle.std.proofs.lemmas.Bool.{cases_eq, cases_order, eq-eqb, ne_eqb}
-use Rattle.std.proofs.lemmas.List.{length-set}
+use Rattle.std.proofs.lemmas.List.{get_or_append_left, get_or_push, length-set}
 use Rattle.rtt_base.specs.declared.text_packets.Pts.{Pts}
 use Rattle.wire_spec.specs.Packets.{Arrival}
 use Rattle.wire_spec.specs.Dump.{Item, arrivals_after, sent_item}
@@ -95,6 +95,19 @@ said_other sources ssrc text texts a past media s =
           let was = s.are k f below in
           record { text = was.text ∙ sym (other_text (slice_index sources k) e (said (slice_index sources k) past) (λ r. a k 0 below (sym r))); marks = was.marks };
     }
+
+-- ---- one source behind the others
+pub one_said : (sources : List ℕ) (past : List Sent) (texts new : List SourceText) (place : ℕ) (source : SourceText) → length texts ≡ place → new ≡ texts ++ source ∷ []
+    → ((k : ℕ) (d : SourceText) → k < place → IsSaid (slice_index sources k) past (slice_index_or texts k d)) → IsSaid (slice_index sources place) past source
+    → (k : ℕ) (d : SourceText) → k < place + 1 → IsSaid (slice_index sources k) past (slice_index_or new k d)
+one_said sources past texts new place source n e all own k d l = elim (cases_eq k place) [
+  | inl q ↦
+      let here : slice_index_or new k d ≡ source = ap (λ (xs : List SourceText). slice_index_or xs k d) e ∙ get_or_push texts source d k (omega (arith, n, q)) in
+      subst (λ (t : SourceText). IsSaid (slice_index sources k) past t) (sym here) (subst (λ (i : ℕ). IsSaid (slice_index sources i) past source) (sym q) own)
+  | inr other ↦
+      let there : slice_index_or new k d ≡ slice_index_or texts k d = ap (λ (xs : List SourceText). slice_index_or xs k d) e ∙ get_or_append_left texts (source ∷ []) d k (omega (arith, n, l, other)) in
+      subst (λ (t : SourceText). IsSaid (slice_index sources k) past t) (sym there) (all k d (omega (arith, l, other)))
+]
 
 -- ---- a terminal that has these texts
 same_counts : (a a' b b' c c' d d' : ℕ) → a ≡ a' → b ≡ b' → c ≡ c' → d ≡ d' → (let n : Counts = record { packets = a; used = b; refused = c; foreign = d } in n) ≡ record { packets = a'; used = b'; refused = c'; foreign = d' }

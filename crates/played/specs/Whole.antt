@@ -1,12 +1,8 @@
 -- What is heard where all that was sent to a terminal comes, in order: what was sent (profile).
-use Rattle.std.specs.Prelude.{◌≡◌, ◌<◌, ◌==◌, ℕ, List, [], ◌∷◌, ◌++◌, length, slice_index, slice_index_or, if◌then◌else◌}
+use Rattle.std.specs.Prelude.{◌≡◌, ◌<◌, ℕ, List, ◌∷◌, ◌++◌, length, slice_index, slice_index_or}
 use Rattle.stream_spec.specs.Own.{Sent}
+pub use Rattle.sent_log.specs.States.{said}
 use Rattle.source_receiver.specs.declared.source_texts.SourceText.{SourceText}
-
--- all texts that were sent of the source, one behind the other, where what was sent stands newest first
-abbrev pub said : ℕ → List Sent → List ℕ
-said s [] = []
-said s (e ∷ past) = said s past ++ (if e.source == s then e.text else [])
 
 -- that is the text, and no marker was put
 pub record IsSaid (s : ℕ) (past : List Sent) (t : SourceText) : Type 0 where

@@ -95,6 +95,49 @@ fn add_said(
     Ok(())
 }
 
+/// All that was sent to the terminal of each of these sources, where the log has each in one piece.
+fn said_at_once(
+    alloc: Global,
+    log: &SentLog,
+    terminal: usize,
+    sources: &[u32],
+) -> Result<Option<Vec<SourceText>>, NoMemory>
+    requires { terminal < length log.now }
+    ensures { IfOk result (λ told. IfSome told (λ texts.
+        OfTerminal log.now terminal (λ x. AreSaid sources.now (sents x.sent) texts.items))) }
+{
+    let mut texts = Vec::with_capacity(alloc, sources.len())?;
+    for place in 0..sources.len() {
+        let Some(said) = log.said(terminal, place, sources[place]) else {
+            return Ok(None);
+        };
+        let mut source = SourceText::new(alloc);
+        source.text.append(said)?;
+        texts.push(source)?;
+    }
+    Ok(Some(texts))
+}
+
+/// All that was sent to the terminal of each of these sources.
+fn said_texts(
+    alloc: Global,
+    log: &SentLog,
+    terminal: usize,
+    sources: &[u32],
+) -> Result<Vec<SourceText>, NoMemory>
+    requires terminal { terminal < length log.now }
+    requires differ { AllPairs (λ a b. a ≢ b) sources.now }
+    ensures { IfOk result (λ texts.
+        OfTerminal log.now terminal (λ x. AreSaid sources.now (sents x.sent) texts.items)) }
+{
+    if let Some(texts) = said_at_once(alloc, log, terminal, sources)? {
+        return Ok(texts);
+    }
+    let mut added = nothing_said(alloc, sources.len())?;
+    add_said(log, terminal, sources, added.as_mut_slice())?;
+    Ok(added)
+}
+
 /// The terminal that heard all that was sent to it, which is a stream that it hears.
 pub(crate) fn heard_all(
     alloc: Global,
@@ -115,7 +158,6 @@ pub(crate) fn heard_all(
     ensures few { IfOk result (λ terminal. (counts_of terminal).packets < MOST_ARRIVALS) }
 {
     has_32_bits(conf.ssrc);
-    let mut texts = nothing_said(alloc, sources.len())?;
-    add_said(log, terminal, sources, texts.as_mut_slice())?;
+    let texts = said_texts(alloc, log, terminal, sources)?;
     Terminal::told(alloc, conf, sources, texts, log.count(terminal) as u64)
 }

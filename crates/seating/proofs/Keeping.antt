@@ -1,5 +1,5 @@
 -- What each call changes of what places stand for.
-use Rattle.std.proofs.Common.{◌≡◌, ℕ, zero, suc, ◌+◌, ◌-◌, ◌<◌, Bool, true, false, cond, not, inl, inr, Option, Some, None, List, length, length-set, set, get_or, replicate, refl, ap, subst, sym, ◌∙◌, arith}
+use Rattle.std.proofs.Common.{◌≡◌, ℕ, zero, suc, ◌+◌, ◌-◌, ◌<◌, ◌≤◌, Bool, true, false, cond, not, inl, inr, Option, Some, None, List, length, length-set, set, get_or, replicate, refl, ap, subst, sym, ◌∙◌, arith}
 use Rattle.std.specs.Prelude.{slice_get, slice_index_or, is_some, unwrap_or, IfSome}
 use Rattle.std.proofs.lemmas.Bool.{cases_eq, ne_eqb}
 use Rattle.std.proofs.lemmas.Option.{slice_get_within, slice_get-get_or, unwrap_or-slice_get}
@@ -37,6 +37,27 @@ legs_set ys q n m o same all here p k e = elim (cases_eq p q) [
       omega (arith, here k z)
   | inr other ↦ omega (arith, all p k (sym (get_set_other ys q p o other) ∙ e))
 ]
+
+-- one place is held by another leg, or by none
+pub reach_set : (ys : List (Option ℕ)) (q n m : ℕ) (o : Option ℕ) → n ≤ m → ((p k : ℕ) → slice_get ys p ≡ Some (Some k) → p < n) → ((k : ℕ) → o ≡ Some k → q < m)
+    → (p k : ℕ) → slice_get (set ys q o) p ≡ Some (Some k) → p < m
+reach_set ys q n m o more all here p k e = elim (cases_eq p q) [
+  | inl at ↦
+      let l : q < length ys = omega (arith, slice_get_within (set ys q o) p (Some k) e, length-set ys q o) in
+      let g : Some o ≡ Some (Some k) = sym (ap (slice_get (set ys q o)) at ∙ get_set_same ys q o l) ∙ e in
+      let z : o ≡ Some k = cc g in
+      omega (arith, here k z)
+  | inr other ↦ omega (arith, all p k (sym (get_set_other ys q p o other) ∙ e))
+]
+
+-- no leg holds a place from some place on
+pub vacant_from : (s : Setup) (m : State) (table : Table) (n : ℕ) → StandsFor s m table.seats → ((p k : ℕ) → slice_get m.places p ≡ Some (Some k) → p < n)
+    → (p : ℕ) → n ≤ p → p < 16 → leg_in table.seats s.legs p ≡ None
+vacant_from s m table n h all p l w = go (leg_in table.seats s.legs p) (h.holder p w)
+  where
+    go : (o : Option ℕ) → slice_get m.places p ≡ Some o → o ≡ None
+    go None e = refl
+    go (Some k) e = absurd (omega (arith, l, all p k e))
 
 pub some_within : (ys : List (Option ℕ)) (p n : ℕ) → ((q k : ℕ) → slice_get ys q ≡ Some (Some k) → k < n) → p < length ys → IfSome (slice_index_or ys p None) (λ k. k < n)
 some_within ys p n all l = go (slice_index_or ys p None) (slice_get-get_or ys p None l)

@@ -1,5 +1,5 @@
--- What holds of all places: each is one of the mixer's, and is held by one of the legs.
-use Rattle.std.specs.Prelude.{◌≡◌, ℕ, ◌<◌, Some, length, slice_get}
+-- What holds of all places: each is one of the mixer's, and is held by one of the legs; none is held from some place on.
+use Rattle.std.specs.Prelude.{◌≡◌, ℕ, ◌<◌, ◌≤◌, Some, length, slice_get}
 use Rattle.seating.specs.declared.seats.Seat.{Seat}
 use Rattle.seating.specs.declared.seats.Seating.TheInside.{Inside}
 use Rattle.seating.specs.States.{State}
@@ -13,3 +13,5 @@ pub record IsSeating (i : Inside) : Type 0 where
   pub places : (k : ℕ) (x : Seat) (p : ℕ) → slice_get i.seats.items k ≡ Some x → x.place ≡ Some p → p < PLACES
   pub held : (k : ℕ) (x : Seat) (p : ℕ) → slice_get i.seats.items k ≡ Some x → x.place ≡ Some p → slice_get i.holders p ≡ Some (Some k)
   pub legs : (p k : ℕ) → slice_get i.holders p ≡ Some (Some k) → k < length i.seats.items
+  pub few : i.reach ≤ PLACES
+  pub reach : (p k : ℕ) → slice_get i.holders p ≡ Some (Some k) → p < i.reach

@@ -1,5 +1,5 @@
 //! Who holds which place.
-ghost use Rattle.std.specs.Prelude.{◌≡◌, ◌<◌, ◌≤◌, None, length, IfOk, IfSome, is_some};
+ghost use Rattle.std.specs.Prelude.{ℕ, ◌≡◌, ◌<◌, ◌≤◌, None, length, IfOk, IfSome, is_some};
 ghost use Rattle.mixer_spec.specs.Rounds.{count_below, first_from};
 ghost use Rattle.mixer_spec.specs.Setups.{Setup};
 ghost use Rattle.mixer_spec.specs.Table.{Table, admitted, free_place, freed, hushed, is_seated, leg_in, no_seats};
@@ -25,6 +25,8 @@ pub struct Seat {
 pub struct Seating {
     seats: Vec<Seat>,
     holders: [Option<usize>; PLACES],
+    /// Neither this place nor one behind it was ever held.
+    reach: usize,
 }
 
 impl Model for Seating {
@@ -65,6 +67,7 @@ impl Seating {
         Ok(Seating {
             seats,
             holders: [None; PLACES],
+            reach: 0,
         })
     }
 
@@ -87,12 +90,14 @@ impl Seating {
         let Some(place) = first_vacant(&self.holders) else {
             return false;
         };
+        let reach = self.reach.max(place + 1);
         self.holders[place] = Some(leg);
         self.seats[leg] = Seat {
             place: Some(place),
             came: true,
             listens,
         };
+        self.reach = reach;
         true
     }
 
@@ -124,6 +129,15 @@ impl Seating {
         ensures within { IfSome result (λ place. place < PLACES) }
     {
         self.seats[leg].place
+    }
+
+    /// No leg holds this place or one behind it.
+    pub fn reach(&self) -> usize
+        ensures vacant { Tells self.now (λ s table. (place : ℕ) → result ≤ place → place < PLACES
+            → leg_in table.seats s.legs place ≡ None) }
+        ensures within { result ≤ PLACES }
+    {
+        self.reach
     }
 
     /// The leg that holds the place.

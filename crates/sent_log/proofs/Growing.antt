@@ -1,6 +1,6 @@
 -- Where turns and texts are appended, what entries stand for stays.
 use Rattle.std.proofs.Common.{◌≡◌, ℕ, zero, suc, ◌+◌, ◌<◌, ◌≤◌, List, [], ◌∷◌, ◌++◌, length, get_or, take, drop, set, refl, ap, subst, sym, ◌∙◌, arith, append_assoc}
-use Rattle.std.specs.Prelude.{All, map, reverse}
+use Rattle.std.specs.Prelude.{◌-◌, All, map, reverse, slice_index, slice_index_or}
 use Rattle.std.proofs.lemmas.List.{append-nil, drop-append-le, get_or_append_left, get_or_read, length-append, length-drop, length-set, length_push, take-append-le}
 use Rattle.std.proofs.lemmas.List.Elements.{All-tail}
 use Rattle.stream_spec.specs.Own.{Sent}
@@ -11,7 +11,7 @@ use Rattle.sent_log.specs.declared.terminals.Terminal.{Terminal}
 use Rattle.sent_log.specs.declared.turns.Turn.{Turn}
 use Rattle.sent_log.specs.Insides.{IsEntry, IsLog, IsTerminal, sending_of, sent_by, state_of, turn_at}
 use Rattle.sent_log.specs.Lists.{EachGrows, Grows, list_at, octets_at}
-use Rattle.sent_log.specs.States.{State}
+use Rattle.sent_log.specs.States.{Sending, State, said, sents}
 
 -- ---- one list
 
@@ -70,7 +70,7 @@ each_written xs i x ys l e g = each_set xs i ys (subst (λ (zs : List ℕ). Grow
 
 -- ---- an entry
 
-octets_still : (xs ys : List ℕ) (place len : ℕ) → Grows xs ys → place + len ≤ length xs → octets_at ys place len ≡ octets_at xs place len
+pub octets_still : (xs ys : List ℕ) (place len : ℕ) → Grows xs ys → place + len ≤ length xs → octets_at ys place len ≡ octets_at xs place len
 octets_still xs ys place len g w =
     ap (λ (zs : List ℕ). octets_at zs place len) g.1
     ∙ (ap (λ (zs : List ℕ). take len zs) (drop-append-le place xs g.0 (omega arith)) ∙ take-append-le len (drop place xs) g.0 (omega (arith, length-drop place xs)))
@@ -113,8 +113,16 @@ terminal_still turns turns' texts texts' t g h k = record {
   conf = k.conf;
   distinct = k.distinct;
   lists = omega (arith, k.lists, h.count);
-  expected = k.expected;
+  each = k.each;
   entries = λ i d l. entry_still turns turns' texts texts' t.first t.sources.items _ g h (k.entries i d l);
+  runs = λ s d l.
+      let r = k.runs s d l in
+      let grows = h.each (t.first + s) in record {
+        order = r.order;
+        within = omega (arith, r.within, grown_length (list_at texts (t.first + s)) (list_at texts' (t.first + s)) grows);
+        is = λ j. octets_still (list_at texts (t.first + s)) (list_at texts' (t.first + s)) (slice_index_or t.runs.items s d).from ((slice_index_or t.runs.items s d).to - (slice_index_or t.runs.items s d).from) grows (omega (arith, r.order, r.within))
+            ∙ (r.is j ∙ ap (λ (x : Sending). said (slice_index t.sources.items s) (sents x.sent)) (sym (terminal_same turns turns' texts texts' t g h k)));
+      };
 }
 
 pub all_same : (turns turns' : List Turn) (texts texts' : List (List ℕ)) (ts : List Terminal) → Grows turns turns' → EachGrows texts texts' → All (IsTerminal turns texts) ts

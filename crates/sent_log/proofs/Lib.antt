@@ -1,4 +1,5 @@
 pub mod Agreeing
 pub mod Growing
+pub mod Running
 pub mod Noting
 pub mod Rendering

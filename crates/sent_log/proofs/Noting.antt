@@ -1,7 +1,7 @@
 -- One entry more is one packet more.
-use Rattle.std.proofs.Common.{◌≡◌, ℕ, zero, suc, ◌+◌, ◌<◌, ◌≤◌, List, [], ◌∷◌, ◌++◌, length, get_or, set, Some, Result, Ok, Err, refl, ap, subst, sym, ◌∙◌}
-use Rattle.std.specs.Prelude.{All, OnErr, OnOk, map, reverse, slice_get, slice_set}
-use Rattle.std.proofs.lemmas.List.{map-set, map_push, reverse-append}
+use Rattle.std.proofs.Common.{◌≡◌, ℕ, zero, suc, ◌+◌, ◌<◌, ◌≤◌, List, [], ◌∷◌, ◌++◌, length, get_or, set, Some, Result, Ok, Err, refl, ap, subst, sym, ◌∙◌, arith}
+use Rattle.std.specs.Prelude.{All, OnErr, OnOk, map, reverse, slice_get, slice_index, slice_index_or, slice_set}
+use Rattle.std.proofs.lemmas.List.{length-set, map-set, map_push, reverse-append}
 use Rattle.std.proofs.lemmas.List.Elements.{All-nil, All-push, All-same, All-set}
 use Rattle.std.proofs.lemmas.Option.{get_or_from_slice_get, slice_get-map, slice_get_within}
 use Rattle.std.proofs.Math.Seq.{map-set_same}
@@ -14,10 +14,13 @@ use Rattle.sent_log.specs.declared.logs.SentLog.TheInside.{Inside}
 use Rattle.sent_log.specs.declared.terminals.Entry.{Entry}
 use Rattle.sent_log.specs.declared.terminals.Terminal.{Terminal}
 use Rattle.sent_log.specs.declared.turns.Turn.{Turn}
-use Rattle.sent_log.specs.Insides.{HasNoted, IsEntry, IsLog, IsSame, IsTerminal, sending_of, sent_by, state_of, turn_at}
-use Rattle.sent_log.specs.Lists.{EachGrows, Grows, list_at, octets_at}
-use Rattle.sent_log.specs.States.{HasSource, Sending, State, sent_to, with_sent}
+use Rattle.sent_log.specs.Insides.{HasNoted, IsEntry, IsLog, IsSame, IsTerminal, NotesNothing, sending_of, sent_by, state_of, turn_at}
+use Rattle.sent_log.specs.Lists.{EachGrows, Grows, StandsAt, list_at, octets_at}
+use Rattle.sent_log.specs.declared.runs.Run.{Run}
+use Rattle.sent_log.specs.Runs.{IsRun, empty_run}
+use Rattle.sent_log.specs.States.{HasSource, Sending, State, said, sent_to, sents, with_sent}
 use Rattle.sent_log.proofs.Growing.{all_same, all_still}
+use Rattle.sent_log.proofs.Running.{run_empty, runs_more}
 
 -- ---- a terminal
 
@@ -53,21 +56,38 @@ noted_sent turns texts t t' now media turn source text e s n =
     ∙ ap (λ (x : ℕ × Sent). record { conf = t.conf; sources = sources; sent = x ∷ (sending_of turns texts t).sent }) one)
 
 -- what holds of it where its entries are these
-still : (turns : List Turn) (texts : List (List ℕ)) (t t' : Terminal) (entries : List Entry) → IsTerminal turns texts t → IsSame t t' → t'.entries.items ≡ entries → All (IsEntry turns texts t.first t.sources.items) entries → IsTerminal turns texts t'
-still turns texts t t' entries k s e a = record {
+still : (turns : List Turn) (texts : List (List ℕ)) (t t' : Terminal) (entries : List Entry) → IsTerminal turns texts t → IsSame t t' → t'.entries.items ≡ entries → All (IsEntry turns texts t.first t.sources.items) entries
+    → length t'.runs.items ≡ length t.sources.items
+    → ((source : ℕ) (d : Run) → source < length t.sources.items → IsRun (list_at texts (t.first + source)) (said (slice_index t.sources.items source) (sents (sending_of turns texts t').sent)) (slice_index_or t'.runs.items source d))
+    → IsTerminal turns texts t'
+still turns texts t t' entries k s e a many runs = record {
   conf = rw s.conf k.conf;
   distinct = rw s.sources k.distinct;
   lists = rw (s.first, s.sources) k.lists;
-  expected = s.expected ∙ (k.expected ∙ sym (ap length s.sources));
   entries = rw (s.first, s.sources, e) a;
+  each = many ∙ sym (ap length s.sources);
+  runs = λ source d l.
+      let sent = sents (sending_of turns texts t').sent in
+      let run = slice_index_or t'.runs.items source d in
+      subst (λ (n : ℕ). IsRun (list_at texts (n + source)) (said (slice_index t'.sources.items source) sent) run) (sym s.first)
+      (subst (λ (xs : List ℕ). IsRun (list_at texts (t.first + source)) (said (slice_index xs source) sent) run) (sym s.sources) (runs source d (omega (arith, l, ap length s.sources))));
 }
 
-noted_still : (turns : List Turn) (texts : List (List ℕ)) (t t' : Terminal) (turn source : ℕ) (text : List ℕ) → IsTerminal turns texts t → turn < length turns → source < length t.sources.items → length text < 1024 → IsSame t t'
-    → HasNoted turn source text texts t t' → IsTerminal turns texts t'
-noted_still turns texts t t' turn source text k l m short s n =
+noted_still : (turns : List Turn) (texts : List (List ℕ)) (t t' : Terminal) (now media turn source : ℕ) (text : List ℕ) → IsTerminal turns texts t → turn_at turns turn ≡ record { now = now; media = media } → turn < length turns
+    → source < length t.sources.items → length text < 1024 → IsSame t t' → HasNoted turn source text texts t t' → IsTerminal turns texts t'
+noted_still turns texts t t' now media turn source text k is_turn l m short s n =
     let entry : Entry = record { turn = turn; place = n.place; len = length text; source = source } in
     let is : IsEntry turns texts t.first t.sources.items entry = record { turn = l; source = m; short = short; within = n.stands.within } in
     still turns texts t t' (t.entries.items ++ entry ∷ []) k s n.entries (All-push (IsEntry turns texts t.first t.sources.items) t.entries.items entry k.entries is)
+    (ap (λ (rs : List Run). length rs) n.runs ∙ (length-set t.runs.items source n.run ∙ k.each))
+    (λ i d below.
+    let e = text_of t.sources.items source media text in
+    let noted = noted_sent turns texts t t' now media turn source text is_turn s n in
+    let past = sents (sending_of turns texts t).sent in
+    let all : said (slice_index t.sources.items i) (sents (sending_of turns texts t').sent) ≡ said (slice_index t.sources.items i) (e ∷ past) = ap (λ (x : Sending). said (slice_index t.sources.items i) (sents x.sent)) noted in
+    subst (λ (xs : List ℕ). IsRun (list_at texts (t.first + i)) xs (slice_index_or t'.runs.items i d)) (sym all)
+    (runs_more t.sources.items source i (list_at texts (t.first + i)) t.runs.items t'.runs.items n.run d past e n.place k.distinct m below k.each refl (λ x. k.runs i x below)
+    (λ q. subst (λ (j : ℕ). StandsAt (list_at texts (t.first + j)) n.place text) (sym q) n.stands) n.follows n.runs))
 
 -- ---- all of them
 
@@ -85,7 +105,7 @@ pub record Steps (turns : List Turn) (texts : List (List ℕ)) (t t' : Terminal)
   pub short : length text < 1024
   pub same : IsSame t t'
   pub ok : OnOk r (HasNoted turn source text texts t t')
-  pub err : OnErr r (t'.entries.items ≡ t.entries.items)
+  pub err : OnErr r (NotesNothing t t')
 
 steps_still : (turns : List Turn) (texts : List (List ℕ)) (ts : List Terminal) (terminal : ℕ) (t t' : Terminal) (now media turn source : ℕ) (text : List ℕ) (r : Result (Unit {0}) NoMemory) → All (IsTerminal turns texts) ts → slice_get ts terminal ≡ Some t
     → Steps turns texts t t' now media turn source text r → All (IsTerminal turns texts) (set ts terminal t')
@@ -94,9 +114,14 @@ steps_still turns texts ts terminal t t' now media turn source text r a g s = Al
     k : IsTerminal turns texts t
     k = subst (λ (u : Terminal). IsTerminal turns texts u) (get_or_from_slice_get ts terminal t t g) (a terminal t (slice_get_within ts terminal t g))
 
-    go : (r : Result (Unit {0}) NoMemory) → OnOk r (HasNoted turn source text texts t t') → OnErr r (t'.entries.items ≡ t.entries.items) → IsTerminal turns texts t'
-    go (Ok x) n e = noted_still turns texts t t' turn source text k s.turn_below s.source_below s.short s.same n
-    go (Err x) n e = still turns texts t t' t.entries.items k s.same e k.entries
+    go : (r : Result (Unit {0}) NoMemory) → OnOk r (HasNoted turn source text texts t t') → OnErr r (NotesNothing t t') → IsTerminal turns texts t'
+    go (Ok x) n e = noted_still turns texts t t' now media turn source text k s.turn_is s.turn_below s.source_below s.short s.same n
+    go (Err x) n e =
+        let same = sending_same turns texts t t' t.entries.items s.same e.entries in
+        still turns texts t t' t.entries.items k s.same e.entries k.entries (ap (λ (rs : List Run). length rs) e.runs ∙ k.each)
+        (λ source d l.
+        subst (λ (rs : List Run). IsRun (list_at texts (t.first + source)) (said (slice_index t.sources.items source) (sents (sending_of turns texts t').sent)) (slice_index_or rs source d)) (sym e.runs)
+        (subst (λ (x : Sending). IsRun (list_at texts (t.first + source)) (said (slice_index t.sources.items source) (sents x.sent)) (slice_index_or t.runs.items source d)) (sym same) (k.runs source d l)))
 
 steps_sent : (turns : List Turn) (texts : List (List ℕ)) (ts : List Terminal) (terminal : ℕ) (t t' : Terminal) (now media turn source : ℕ) (text : List ℕ) (r : Result (Unit {0}) NoMemory) → slice_get ts terminal ≡ Some t
     → Steps turns texts t t' now media turn source text r
@@ -113,7 +138,7 @@ steps_refused : (turns : List Turn) (texts : List (List ℕ)) (ts : List Termina
     → OnErr r (map (sending_of turns texts) (set ts terminal t') ≡ map (sending_of turns texts) ts)
 steps_refused turns texts ts terminal t t' now media turn source text (Ok x) g s = tt
 steps_refused turns texts ts terminal t t' now media turn source text (Err x) g s =
-    map-set_same (sending_of turns texts) ts terminal t' t (sending_same turns texts t t' t.entries.items s.same s.err ∙ ap (sending_of turns texts) (sym (get_or_from_slice_get ts terminal t t g)))
+    map-set_same (sending_of turns texts) ts terminal t' t (sending_same turns texts t t' t.entries.items s.same s.err.entries ∙ ap (sending_of turns texts) (sym (get_or_from_slice_get ts terminal t t g)))
 
 -- the terminal is there, and the source is one of its
 pub source_in : (turns : List Turn) (texts : List (List ℕ)) (ts : List Terminal) (terminal source : ℕ) → HasSource (map (sending_of turns texts) ts) terminal source → (t : Terminal) × (slice_get ts terminal ≡ Some t) × (source < length t.sources.items)
@@ -138,7 +163,7 @@ pub record Noted (i : Inside) (log : State) (terminal source : ℕ) (turns : Lis
 
 pub noting : (i : Inside) (log : State) (terminal source : ℕ) (t : Terminal) (turns : List Turn) (texts : List (List ℕ)) (t' : Terminal) (now media turn : ℕ) (text : List ℕ) (r : Result (Unit {0}) NoMemory)
     → state_of i ≡ log → IsLog i → t ≡ get_or i.terminals.items terminal t → HasSource log terminal source → Grows i.turns.items turns → EachGrows i.texts.items texts
-    → turn_at turns turn ≡ record { now = now; media = media } → turn < length turns → length text < 1024 → IsSame t t' → OnOk r (HasNoted turn source text texts t t') → OnErr r (t'.entries.items ≡ t.entries.items)
+    → turn_at turns turn ≡ record { now = now; media = media } → turn < length turns → length text < 1024 → IsSame t t' → OnOk r (HasNoted turn source text texts t t') → OnErr r (NotesNothing t t')
     → Noted i log terminal source turns texts t' now media text r
 noting i log terminal source t turns texts t' now media turn text r v a read has g h turn_is below short same ok err =
     let ts = i.terminals.items in
@@ -161,7 +186,18 @@ added_all turns texts ts t log v e =
     map_push f ts t ∙ (ap (λ (xs : State). xs ++ f t ∷ []) v ∙ ap (λ (x : Sending). log ++ x ∷ []) one)
 
 pub added_still : (turns : List Turn) (texts : List (List ℕ)) (ts : List Terminal) (t : Terminal) → All (IsTerminal turns texts) ts → IsConf t.conf → AreDistinct t.sources.items → t.first + length t.sources.items ≤ length texts
-    → length t.expected.items ≡ length t.sources.items → t.entries.items ≡ [] → All (IsTerminal turns texts) (ts ++ t ∷ [])
-added_still turns texts ts t a conf distinct lists expected e =
+    → length t.runs.items ≡ length t.sources.items → All (λ run. run ≡ empty_run) t.runs.items → t.entries.items ≡ [] → All (IsTerminal turns texts) (ts ++ t ∷ [])
+added_still turns texts ts t a conf distinct lists each empty e =
     let none = All-same (IsEntry turns texts t.first t.sources.items) t.entries.items [] e (All-nil (IsEntry turns texts t.first t.sources.items)) in
-    All-push (IsTerminal turns texts) ts t a (record { conf = conf; distinct = distinct; lists = lists; expected = expected; entries = none })
+    All-push (IsTerminal turns texts) ts t a (record {
+      conf = conf;
+      distinct = distinct;
+      lists = lists;
+      entries = none;
+      each = each;
+      runs = λ source d l.
+          let nothing : said (slice_index t.sources.items source) (sents (sending_of turns texts t).sent) ≡ [] =
+          ap (λ (es : List Entry). said (slice_index t.sources.items source) (sents (reverse (map (sent_by turns texts t.first t.sources.items) es)))) e in
+          subst (λ (xs : List ℕ). IsRun (list_at texts (t.first + source)) xs (slice_index_or t.runs.items source d)) (sym nothing)
+          (run_empty (list_at texts (t.first + source)) (slice_index_or t.runs.items source d) (empty source d (omega (arith, l, each))));
+    })

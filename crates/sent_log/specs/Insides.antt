@@ -1,5 +1,5 @@
 -- What the entries of a log stand for, and what holds of each log.
-use Rattle.std.specs.Prelude.{◌≡◌, ◌+◌, ◌<◌, ◌≤◌, ℕ, All, List, [], ◌∷◌, ◌++◌, length, map, reverse, slice_index_or}
+use Rattle.std.specs.Prelude.{◌≡◌, ◌+◌, ◌<◌, ◌≤◌, ℕ, All, List, [], ◌∷◌, ◌++◌, length, map, reverse, slice_index, slice_index_or, slice_set}
 use Rattle.stream_spec.specs.Own.{Sent}
 use Rattle.aware_output.specs.Confs.{IsConf}
 use Rattle.aware_output.specs.Speakers.{AreDistinct, text_of}
@@ -7,8 +7,10 @@ use Rattle.sent_log.specs.declared.logs.SentLog.TheInside.{Inside}
 use Rattle.sent_log.specs.declared.terminals.Entry.{Entry}
 use Rattle.sent_log.specs.declared.terminals.Terminal.{Terminal}
 use Rattle.sent_log.specs.declared.turns.Turn.{Turn}
+use Rattle.sent_log.specs.declared.runs.Run.{Run}
 use Rattle.sent_log.specs.Lists.{StandsAt, list_at, octets_at}
-use Rattle.sent_log.specs.States.{Sending, State}
+use Rattle.sent_log.specs.Runs.{Follows, IsRun}
+use Rattle.sent_log.specs.States.{Sending, State, said, sents}
 
 -- ---- what an entry stands for
 
@@ -40,27 +42,40 @@ pub record IsEntry (turns : List Turn) (texts : List (List ℕ)) (first : ℕ) (
   pub short : e.len < 1024
   pub within : e.place + e.len ≤ length (list_at texts (first + e.source))
 
+-- all texts that were sent to it of the source with this number
+abbrev pub said_of : List Turn → List (List ℕ) → Terminal → ℕ → List ℕ
+said_of turns texts t source = said (slice_index t.sources.items source) (sents (sending_of turns texts t).sent)
+
 pub record IsTerminal (turns : List Turn) (texts : List (List ℕ)) (t : Terminal) : Type 0 where
   pub conf : IsConf t.conf
   pub distinct : AreDistinct t.sources.items
   pub lists : t.first + length t.sources.items ≤ length texts
-  pub expected : length t.expected.items ≡ length t.sources.items
   pub entries : All (IsEntry turns texts t.first t.sources.items) t.entries.items
+  pub each : length t.runs.items ≡ length t.sources.items
+  pub runs : (source : ℕ) (d : Run) → source < length t.sources.items
+      → IsRun (list_at texts (t.first + source)) (said_of turns texts t source) (slice_index_or t.runs.items source d)
 
 abbrev pub IsLog : Inside → Type 0
 IsLog l = All (IsTerminal l.turns.items l.texts.items) l.terminals.items
 
 -- ---- one entry more
 
--- all but its entries is as it was
+-- all but its entries and runs is as it was
 pub record IsSame (old new : Terminal) : Type 0 where
   pub conf : new.conf ≡ old.conf
   pub sources : new.sources.items ≡ old.sources.items
   pub first : new.first ≡ old.first
-  pub expected : length new.expected.items ≡ length old.expected.items
+
+-- so are these
+pub record NotesNothing (old new : Terminal) : Type 0 where
+  pub entries : new.entries.items ≡ old.entries.items
+  pub runs : new.runs.items ≡ old.runs.items
 
 -- it has one entry more: of this turn, and of this text of the source, which stands in the source's list
 pub record HasNoted (turn source : ℕ) (text : List ℕ) (texts : List (List ℕ)) (old new : Terminal) : Type 0 where
   pub place : ℕ
   pub stands : StandsAt (list_at texts (old.first + source)) place text
   pub entries : new.entries.items ≡ old.entries.items ++ record { turn = turn; place = place; len = length text; source = source } ∷ []
+  pub run : Run
+  pub follows : (d : Run) → Follows (slice_index_or old.runs.items source d) place (length text) run
+  pub runs : new.runs.items ≡ slice_set old.runs.items source run

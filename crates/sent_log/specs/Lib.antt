@@ -1,3 +1,4 @@
 pub mod States
 pub mod Lists
+pub mod Runs
 pub mod Insides

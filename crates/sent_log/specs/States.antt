@@ -1,5 +1,5 @@
 -- What was sent to the terminals of a conference, and its recordings (profile).
-use Rattle.std.specs.Prelude.{◌≡◌, ◌+◌, ◌-◌, ◌<◌, ◌^◌, ℕ, Option, None, Some, MatchOption, All, List, [], ◌∷◌, ◌++◌, drop, length, map, slice_get, slice_set}
+use Rattle.std.specs.Prelude.{◌≡◌, ◌+◌, ◌-◌, ◌<◌, ◌^◌, ◌==◌, ℕ, Option, None, Some, MatchOption, All, List, [], ◌∷◌, ◌++◌, drop, length, map, slice_get, slice_set, if◌then◌else◌}
 use Rattle.std.specs.List.Sorted.{IsNonDecreasing}
 use Rattle.wire_spec.specs.Dump.{dump_written}
 use Rattle.stream_spec.specs.Own.{Sent}
@@ -86,6 +86,11 @@ pub record TellsText (x : Sending) (number ssrc : ℕ) (text : List ℕ) : Type 
   pub at : ℕ
   pub media : ℕ
   pub next : first_sent (number + 1) x.sent ≡ (at, record { source = ssrc; media = media; text = text }) ∷ first_sent number x.sent
+
+-- all texts that were sent of the source, one behind the other, where what was sent stands newest first
+abbrev pub said : ℕ → List Sent → List ℕ
+said s [] = []
+said s (e ∷ past) = said s past ++ (if e.source == s then e.text else [])
 
 -- ---- the whole stream
 

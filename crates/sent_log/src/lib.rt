@@ -2,6 +2,7 @@
 #![tactic(auto)]
 
 mod logs;
+mod runs;
 mod terminals;
 #[cfg(test)]
 mod tests;

@@ -1,11 +1,12 @@
 //! A log of what was sent.
-ghost use Rattle.std.specs.Prelude.{◌≡◌, ◌<◌, ◌≤◌, ◌++◌, ◌∷◌, [], true, length, IfOk, OnOk, OnErr};
+ghost use Rattle.std.specs.Prelude.{◌≡◌, ◌<◌, ◌≤◌, ◌++◌, ◌∷◌, [], true, length, IfOk, IfSome, OnOk, OnErr};
 ghost use Rattle.aware_output.specs.Confs.{IsConf};
 ghost use Rattle.aware_output.specs.Speakers.{AreDistinct, text_of};
 ghost use Rattle.aware_output.specs.Standing.{StandsFor};
-ghost use Rattle.sent_log.specs.States.{HasSource, IsStreamOf, Makes, NeverFalls, OfTerminal, State, TellsText, sent_to};
+ghost use Rattle.sent_log.specs.States.{HasSource, IsStreamOf, Makes, NeverFalls, OfTerminal, State, TellsText, said, sent_to, sents};
 ghost use Rattle.sent_log.specs.Insides.{IsLog, state_of};
 
+use crate::runs::empty_runs;
 use crate::terminals::{Terminal, make_lists, never_fall};
 use crate::text_lists::TextList;
 use crate::turns::{Turn, note_turn};
@@ -66,12 +67,12 @@ impl SentLog {
     {
         let first = first_list(sources.len(), self.texts.len());
         make_lists(alloc, &mut self.texts, first + sources.len())?;
-        let expected = vec![in alloc; 0usize; sources.len()]?;
+        let runs = empty_runs(alloc, sources.len())?;
         self.terminals.push(Terminal {
             conf,
             sources,
             first,
-            expected,
+            runs,
             entries: Vec::new(alloc),
         })?;
         Ok(())
@@ -145,6 +146,24 @@ impl SentLog {
         let list = &self.texts[sent_to.first + source];
         let text = list.text(entry.place as usize, entry.len as usize);
         (source, ssrc, text)
+    }
+
+    /// All texts that were sent to the terminal of the source with this SSRC, one behind the other: where they stand so in one
+    /// piece, and the source is one of the terminal's with the number `near`, counted from 0, or the next one.
+    pub fn said(&self, terminal: usize, near: usize, ssrc: u32) -> Option<&[u8]>
+        requires { terminal < length self.now }
+        ensures { OfTerminal self.now terminal (λ x. IfSome result (λ text. text.now ≡ said ssrc (sents x.sent))) }
+    {
+        let sent_to = &self.terminals[terminal];
+        let Some(source) = sent_to.number_near(near, ssrc) else {
+            return None;
+        };
+        let run = sent_to.runs[source];
+        if !run.joined {
+            return None;
+        }
+        let list = &self.texts[sent_to.first + source];
+        Some(list.text(run.from, run.to - run.from))
     }
 
     /// An output to the terminal that has sent nothing.

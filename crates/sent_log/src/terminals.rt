@@ -1,9 +1,10 @@
 //! What was sent to one terminal.
-ghost use Rattle.std.specs.Prelude.{◌≡◌, ◌+◌, ◌<◌, ◌≤◌, ◌^◌, true, length, All, IfOk, OnOk, OnErr};
+ghost use Rattle.std.specs.Prelude.{◌≡◌, ◌+◌, ◌<◌, ◌≤◌, ◌^◌, true, length, slice_index, All, IfOk, IfSome, OnOk, OnErr};
 ghost use Rattle.std.specs.List.Sorted.{IsNonDecreasingBy};
-ghost use Rattle.sent_log.specs.Insides.{HasNoted, IsSame, turn_at};
+ghost use Rattle.sent_log.specs.Insides.{HasNoted, IsSame, NotesNothing, turn_at};
 ghost use Rattle.sent_log.specs.Lists.{EachGrows};
 
+use crate::runs::Run;
 use crate::text_lists::TextList;
 use crate::turns::Turn;
 use aware_output::OutConf;
@@ -30,8 +31,8 @@ pub struct Terminal {
     pub sources: Vec<u32>,
     /// The number of the list of the first source's texts; those of the others follow.
     pub first: usize,
-    /// Where the next text of each source is expected, in its list.
-    pub expected: Vec<usize>,
+    /// Where the texts of each source stand, in its list.
+    pub runs: Vec<Run>,
     /// Oldest first.
     pub entries: Vec<Entry>,
 }
@@ -43,6 +44,29 @@ impl Terminal {
         ensures pts { result ≡ true → self.now.conf.pts ≡ pts }
     {
         self.conf.ssrc == ssrc && self.conf.pts == pts
+    }
+
+    /// Whether the source with this number, if there is one, has this SSRC.
+    fn is_source(&self, number: usize, ssrc: u32) -> bool
+        ensures within { result ≡ true → number < length self.now.sources.items }
+        ensures is { result ≡ true → slice_index self.now.sources.items number ≡ ssrc }
+    {
+        number < self.sources.len() && self.sources[number] == ssrc
+    }
+
+    /// The number of the source with this SSRC, where it is `near` or the next one.
+    pub fn number_near(&self, near: usize, ssrc: u32) -> Option<usize>
+        ensures within { IfSome result (λ number. number < length self.now.sources.items) }
+        ensures is { IfSome result (λ number. slice_index self.now.sources.items number ≡ ssrc) }
+    {
+        if self.is_source(near, ssrc) {
+            return Some(near);
+        }
+        let next = near.saturating_add(1);
+        if self.is_source(next, ssrc) {
+            return Some(next);
+        }
+        None
     }
 
     /// The SSRC of each source has 32 bits. Nothing is done.
@@ -63,19 +87,19 @@ impl Terminal {
         texts: &mut Vec<TextList>,
     ) -> Result<(), NoMemory>
         requires source { source < length self.old.sources.items }
-        requires expected { length self.old.expected.items ≡ length self.old.sources.items }
+        requires runs { length self.old.runs.items ≡ length self.old.sources.items }
         requires lists { self.old.first + length self.old.sources.items ≤ length texts.old.items }
         requires text { length text.now < 1024 }
         ensures grows { EachGrows texts.old.items texts.new.items }
         ensures same { IsSame self.old self.new }
         ensures ok { OnOk result (HasNoted turn source text.now texts.new.items self.old self.new) }
-        ensures err { OnErr result (self.new.entries.items ≡ self.old.entries.items) }
+        ensures err { OnErr result (NotesNothing self.old self.new) }
     {
         let list = &mut texts[self.first + source];
-        let place = list.keep(self.expected[source], text)?;
+        let place = list.keep(self.runs[source].to, text)?;
         let entry = entry_of(turn, source, place, text.len())?;
         self.entries.push(entry)?;
-        self.expected[source] = place + text.len();
+        self.runs[source].follow(place, text.len());
         Ok(())
     }
 }

@@ -126,3 +126,52 @@ fn a_text_is_kept_once_however_it_is_cut(rt: HostRuntime) -> Result<(), Fail> {
     assert_eq!(rt; list.keep(7, b"g")?, 7);
     Ok(())
 }
+
+/// What the log tells at once of a source of the first terminal.
+fn expect_said(rt: &impl Abort, log: &SentLog, ssrc: u32, text: Option<&[u8]>) {
+    assert!(rt; log.terminals() > 0);
+    assert!(rt; log.said(0, 0, ssrc) == text);
+}
+
+#[test]
+fn what_was_sent_of_a_source_is_told_in_one_piece(rt: HostRuntime) -> Result<(), Fail> {
+    let mut log = SentLog::new(rt.alloc(), 2)?;
+    log.add(rt.alloc(), conf(), vec![in rt.alloc(); 1001u32, 1002]?)?;
+    log.add(rt.alloc(), conf(), vec![in rt.alloc(); 1001u32, 1002]?)?;
+    let first = Sent {
+        media: 0,
+        source: 0,
+        text: b"ab",
+    };
+    let other = Sent {
+        media: 300,
+        source: 1,
+        text: b"x",
+    };
+    let second = Sent {
+        media: 600,
+        source: 0,
+        text: b"c",
+    };
+    let late = Sent {
+        media: 900,
+        source: 0,
+        text: b"d",
+    };
+    let last = Sent {
+        media: 1200,
+        source: 0,
+        text: b"e",
+    };
+    send(&rt, rt.alloc(), &mut log, 0, &first)?;
+    send(&rt, rt.alloc(), &mut log, 0, &other)?;
+    send(&rt, rt.alloc(), &mut log, 0, &second)?;
+    expect_said(&rt, &log, 1001, Some(b"abc".as_slice()));
+    expect_said(&rt, &log, 1002, Some(b"x".as_slice()));
+    expect_said(&rt, &log, 1003, None);
+    // Another terminal is sent something else in between.
+    send(&rt, rt.alloc(), &mut log, 1, &late)?;
+    send(&rt, rt.alloc(), &mut log, 0, &last)?;
+    expect_said(&rt, &log, 1001, None);
+    Ok(())
+}

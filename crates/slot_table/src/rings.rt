@@ -150,6 +150,10 @@ impl Ring {
     {
         let (first, second) = self.octets.as_slices();
         let split = first.len();
+        if end <= split {
+            let _ = text.append(&first[from..end]);
+            return;
+        }
         let from_first = from.min(split);
         let end_first = end.min(split);
         let _ = text.append(&first[from_first..end_first]);

@@ -4,7 +4,7 @@ use Rattle.seating.specs.declared.seats.Seat.{Seat}
 use Rattle.seating.specs.States.{State}
 use Rattle.seating.specs.Insides.{state_of}
 use Rattle.seating.specs.Standing.{StandsFor}
-use Rattle.seating.proofs.Keeping.{places_set, legs_set, first_within, stands_admitted}
+use Rattle.seating.proofs.Keeping.{places_set, legs_set, reach_set, first_within, stands_admitted}
 use Rattle.seating.proofs.Few.{holds_come, vacant_at}
 use Rattle.seating.proofs.seats.Seating.admit.Goals as goal
 
@@ -20,6 +20,8 @@ invariant_of-self c =
       held = holds_come i.seats.items i.holders c.args.leg c.in-Some.place y c.self.invariant.held (vacant_at i.holders c.in-Some.place c.in-Some.ensures) (λ j. Some c.in-Some.place);
       legs = legs_set i.holders c.in-Some.place (length i.seats.items) (length (set i.seats.items c.args.leg y)) (Some c.args.leg) (length-set i.seats.items c.args.leg y) c.self.invariant.legs
           (λ k e. let q : c.args.leg ≡ k = cc e in omega arith);
+      few = omega (arith, w, c.max-reach.ensures, c.self.invariant.few, c.self.invariant.sixteen);
+      reach = reach_set i.holders c.in-Some.place i.reach c.max-reach.result (Some c.args.leg) (omega (arith, c.max-reach.ensures)) c.self.invariant.reach (λ k e. omega (arith, c.max-reach.ensures));
     }
 
 pub returns-clause-stands : goal.returns-clause-stands

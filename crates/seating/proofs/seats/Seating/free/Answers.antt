@@ -6,7 +6,7 @@ use Rattle.seating.specs.declared.seats.Seat.{Seat}
 use Rattle.seating.specs.States.{State}
 use Rattle.seating.specs.Insides.{state_of}
 use Rattle.seating.specs.Standing.{StandsFor}
-use Rattle.seating.proofs.Keeping.{places_set, legs_set, stands_freed, stands_placeless}
+use Rattle.seating.proofs.Keeping.{places_set, legs_set, reach_set, stands_freed, stands_placeless}
 use Rattle.seating.proofs.Few.{holds_left}
 use Rattle.seating.proofs.seats.Seating.free.Goals as goal
 
@@ -22,6 +22,8 @@ invariant_of-self c =
       places = places_set i.seats.items c.args.leg y c.self.invariant.places (λ p e. cc e);
       held = holds_left i.seats.items i.holders c.args.leg c.in-Some.place w y c.self.invariant.held f c.in-Some.is refl;
       legs = legs_set i.holders c.in-Some.place (length i.seats.items) (length (set i.seats.items c.args.leg y)) None (length-set i.seats.items c.args.leg y) c.self.invariant.legs (λ k e. cc e);
+      few = c.self.invariant.few;
+      reach = reach_set i.holders c.in-Some.place i.reach i.reach None (omega arith) c.self.invariant.reach (λ k e. cc e);
     }
 
 pub returns-in-Some-clause-stands : goal.returns-in-Some-clause-stands

@@ -21,6 +21,8 @@ invariant_of-self c =
       places = places_set xs c.args.leg y c.self.invariant.places (λ p e. c.self.invariant.places c.args.leg x p g e);
       held = holds_kept xs c.self.inside.holders c.args.leg x y c.self.invariant.held g refl;
       legs = λ p k e. omega (arith, c.self.invariant.legs p k e, length-set xs c.args.leg y);
+      few = c.self.invariant.few;
+      reach = c.self.invariant.reach;
     }
 
 pub returns-clause-stands : goal.returns-clause-stands

@@ -20,4 +20,6 @@ invariant_of-result c =
       places = λ k x p g e. absurd (none_replicated c.args.legs c.in_ok-seats.seats.items all k x p g e);
       held = λ k x p g e. absurd (none_replicated c.args.legs c.in_ok-seats.seats.items all k x p g e);
       legs = λ p k e. absurd (vacant_replicated 16 p k e);
+      few = omega arith;
+      reach = λ p k e. absurd (vacant_replicated 16 p k e);
     }

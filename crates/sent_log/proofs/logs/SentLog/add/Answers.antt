@@ -16,11 +16,11 @@ invariant_of-self c = lists_still c.self.inside c.make_lists.new.texts.items c.m
 pub returns-in_err-make_lists-clause-err : goal.returns-in_err-make_lists-clause-err
 returns-in_err-make_lists-clause-err c = on_err _ _ (lists_same c.self.inside _ c.make_lists.new.texts.items c.make_lists.ensures.grows c.self.invariant c.self.view_is)
 
-pub invariant_of-self-in_err-expected : goal.invariant_of-self-in_err-expected
-invariant_of-self-in_err-expected c = lists_still c.self.inside c.make_lists.new.texts.items c.make_lists.ensures.grows c.self.invariant
+pub invariant_of-self-in_err-runs : goal.invariant_of-self-in_err-runs
+invariant_of-self-in_err-runs c = lists_still c.self.inside c.make_lists.new.texts.items c.make_lists.ensures.grows c.self.invariant
 
-pub returns-in_err-expected-clause-err : goal.returns-in_err-expected-clause-err
-returns-in_err-expected-clause-err c = on_err _ _ (lists_same c.self.inside _ c.make_lists.new.texts.items c.make_lists.ensures.grows c.self.invariant c.self.view_is)
+pub returns-in_err-runs-clause-err : goal.returns-in_err-runs-clause-err
+returns-in_err-runs-clause-err c = on_err _ _ (lists_same c.self.inside _ c.make_lists.new.texts.items c.make_lists.ensures.grows c.self.invariant c.self.view_is)
 
 pub invariant_of-self-in_err-push : goal.invariant_of-self-in_err-push
 invariant_of-self-in_err-push c =
@@ -41,19 +41,19 @@ invariant_of-self-2 c =
     let i = c.self.inside in
     let texts = c.make_lists.new.texts.items in
     let sources = c.args.sources in
-    let expected = c.in_ok-expected.expected in
-    let t : Terminal = record { conf = c.args.conf; sources = sources; first = c.first_list-first.result; expected = expected; entries = c.new.result } in
+    let runs = c.in_ok-runs.runs in
+    let t : Terminal = record { conf = c.args.conf; sources = sources; first = c.first_list-first.result; runs = runs; entries = c.new.result } in
     let before = lists_still i texts c.make_lists.ensures.grows c.self.invariant in
     let lists : t.first + length sources.items ≤ length texts = omega (arith, c.in_ok-make_lists.ensures.ok, c.len-3.ensures, sources.ok.0) in
-    let as_many : length expected.items ≡ length sources.items = omega (arith, c.in_ok-expected.ensures.len, c.len-4.ensures, sources.ok.0, expected.ok.0) in
+    let as_many : length runs.items ≡ length sources.items = omega (arith, c.in_ok-runs.ensures.count, c.len-4.ensures, sources.ok.0, runs.ok.0) in
     subst (λ (ts : List Terminal). All (IsTerminal i.turns.items texts) ts) (sym {A = List Terminal} c.in_ok-push.ensures.items)
-    (added_still i.turns.items texts i.terminals.items t before c.requires.conf c.requires.distinct lists as_many c.new.ensures.items)
+    (added_still i.turns.items texts i.terminals.items t before c.requires.conf c.requires.distinct lists as_many c.in_ok-runs.ensures.empty c.new.ensures.items)
 
 pub returns-clause-ok : goal.returns-clause-ok
 returns-clause-ok c =
     let i = c.self.inside in
     let texts = c.make_lists.new.texts.items in
-    let t : Terminal = record { conf = c.args.conf; sources = c.args.sources; first = c.first_list-first.result; expected = c.in_ok-expected.expected; entries = c.new.result } in
+    let t : Terminal = record { conf = c.args.conf; sources = c.args.sources; first = c.first_list-first.result; runs = c.in_ok-runs.runs; entries = c.new.result } in
     let before = lists_same i _ texts c.make_lists.ensures.grows c.self.invariant c.self.view_is in
     ap (λ (ts : List Terminal). map (sending_of i.turns.items texts) ts) c.in_ok-push.ensures.items
     ∙ added_all i.turns.items texts i.terminals.items t c.args.self.now before c.new.ensures.items

@@ -5,7 +5,7 @@ use Rattle.sent_log.specs.declared.logs.SentLog.TheInside.{Inside}
 use Rattle.sent_log.specs.declared.terminals.Terminal.{Terminal}
 use Rattle.sent_log.specs.Insides.{IsLog, IsTerminal, state_of}
 use Rattle.sent_log.specs.States.{HasSource, State}
-use Rattle.sent_log.proofs.Growing.{all_same, each_same}
+use Rattle.sent_log.proofs.Growing.{all_same, all_still, each_same}
 use Rattle.sent_log.proofs.Noting.{noting, source_in, source_there}
 use Rattle.sent_log.proofs.Rendering.{is_terminal}
 use Rattle.sent_log.proofs.logs.SentLog.send.Goals as goal
@@ -18,6 +18,11 @@ pub returns-in_err-turn-clause-err : goal.returns-in_err-turn-clause-err
 returns-in_err-turn-clause-err c =
     let i = c.self.inside in
     on_err _ _ (all_same i.turns.items c.note_turn.new.turns.items i.texts.items i.texts.items i.terminals.items c.note_turn.ensures.grows (each_same i.texts.items) c.self.invariant ∙ c.self.view_is)
+
+pub invariant_of-self : goal.invariant_of-self
+invariant_of-self c =
+    let i = c.self.inside in
+    all_still i.turns.items c.note_turn.new.turns.items i.texts.items i.texts.items i.terminals.items c.note_turn.ensures.grows (each_same i.texts.items) c.self.invariant
 
 pub index_mut-sent_to-requires : goal.index_mut-sent_to-requires
 index_mut-sent_to-requires c =
@@ -33,8 +38,8 @@ read i log terminal source t v a e h = is_terminal i.turns.items i.texts.items i
 pub note-requires-clause-source : goal.note-requires-clause-source
 note-requires-clause-source c = (source_there c.self.inside _ c.args.terminal c.args.source c.index_mut-sent_to.result.now c.self.view_is c.index_mut-sent_to.ensures.value c.requires.source).1
 
-pub note-requires-clause-expected : goal.note-requires-clause-expected
-note-requires-clause-expected c = (read c.self.inside _ c.args.terminal c.args.source c.index_mut-sent_to.result.now c.self.view_is c.self.invariant c.index_mut-sent_to.ensures.value c.requires.source).expected
+pub note-requires-clause-runs : goal.note-requires-clause-runs
+note-requires-clause-runs c = (read c.self.inside _ c.args.terminal c.args.source c.index_mut-sent_to.result.now c.self.view_is c.self.invariant c.index_mut-sent_to.ensures.value c.requires.source).each
 
 pub note-requires-clause-lists : goal.note-requires-clause-lists
 note-requires-clause-lists c = (read c.self.inside _ c.args.terminal c.args.source c.index_mut-sent_to.result.now c.self.view_is c.self.invariant c.index_mut-sent_to.ensures.value c.requires.source).lists
