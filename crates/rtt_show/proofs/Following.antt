@@ -1,12 +1,11 @@
 -- Packets of a stream that are followed by their numbers.
-use Rattle.std.proofs.Common.{◌≡◌, ℕ, suc, ◌+◌, ◌-◌, ◌<◌, ◌≤◌, Bool, false, Some, None, List, [], ◌∷◌, ◌++◌, length, refl, ap, sym, ◌∙◌, subst, arith, Result, Ok, Err}
-use Rattle.std.specs.Prelude.{max}
+use Rattle.std.proofs.Common.{◌≡◌, ℕ, suc, ◌+◌, ◌-◌, Bool, false, Some, None, List, [], ◌∷◌, ◌++◌, length, refl, ap, sym, ◌∙◌, subst, arith, Result, Ok, Err}
 use Rattle.rtt_base.specs.declared.text_packets.Pts.{Pts}
 use Rattle.rtt_base.specs.declared.text_packets.TextPacket.{TextPacket}
 use Rattle.wire_spec.specs.declared.faults.TextFault.{TextFault}
 use Rattle.wire_spec.specs.Packets.{Packet, Arrival, packet_of}
-use Rattle.wire_spec.specs.Dump.{Item, arrived, latest, arrivals_after}
-use Rattle.stream_spec.specs.Numbering.{Numbered, numbered, number_it, in_time, used, first_number, greatest, distinct_from}
+use Rattle.wire_spec.specs.Dump.{Item, arrived, arrivals_after}
+use Rattle.stream_spec.specs.Numbering.{Numbered, numbered, number_it, in_time, first_number, greatest, distinct_from}
 use Rattle.command_spec.specs.Reading.{usual_wait}
 use Rattle.gap_tracker.specs.declared.answers.Due.{Due}
 use Rattle.gap_tracker.specs.Stories.{Story, given_of, begun}
@@ -17,16 +16,16 @@ use Rattle.gap_tracker.specs.Told.{Leads, Tells, Gives, came_current, is_current
 use Rattle.gap_tracker.proofs.Steps.{tracks_with}
 use Rattle.ear.specs.Hears.{IsToldOf}
 use Rattle.ear.proofs.ReadyBy.{told_arrived}
-use Rattle.show_spec.specs.Missed.{lost_count, late_count}
+use Rattle.show_spec.specs.Missed.{lost_count}
 use Rattle.show_spec.specs.Showing.{numbers_of}
 use Rattle.rtt_show.specs.declared.missed.Missed.{Missed}
 use Rattle.rtt_show.specs.declared.spreads.Spread.{Spread}
 use Rattle.rtt_show.specs.declared.strays.Came.{Came}
 use Rattle.rtt_show.specs.declared.strays.Follower.{Follower}
 use Rattle.rtt_show.specs.declared.strays.Strays.{Strays}
-use Rattle.rtt_show.specs.Spreads.{IsSpread, IsNarrow, SpreadsBy}
+use Rattle.rtt_show.specs.Spreads.{IsSpread, SpreadsBy}
 use Rattle.rtt_show.specs.Missed.{IsMissed, IsMissedOf}
-use Rattle.rtt_show.specs.Strays.{Drains, Follows, IsShort, IsCame, CurrentComes, FollowsMore, StraysMore, IsFewStrays, IsBound, Strayed, StrayedMore, arriving}
+use Rattle.rtt_show.specs.Strays.{Drains, Follows, IsShort, CurrentComes, FollowsMore, StraysMore, IsFewStrays, IsBound, Strayed, StrayedMore, arriving}
 use Rattle.rtt_show.proofs.Straying.{in_order}
 
 -- ---- what a tracker gives

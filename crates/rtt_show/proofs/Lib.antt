@@ -9,3 +9,4 @@ pub mod Spreading
 pub mod Straying
 pub mod Following
 pub mod Gathering
+pub mod Rowing

@@ -21,7 +21,6 @@ use Rattle.show_spec.specs.Showing.{numbers_of, title_of, stream_title, stream_v
 use Rattle.show_spec.specs.Guesses.{has_payload, filled, is_accepted, accepted, are_mostly_text, may_be_plain, guess, guess_line}
 use Rattle.show_spec.specs.Missed.{lost_count, late_count}
 use Rattle.command_spec.specs.Reading.{usual_wait}
-use Rattle.stream_spec.specs.Numbering.{used}
 use Rattle.rtt_show.specs.declared.missed.Missed.{Missed}
 use Rattle.rtt_show.specs.Missed.{IsMissed, IsMissedOf}
 use Rattle.terminal.specs.declared.terminals.Terminal.{Terminal}

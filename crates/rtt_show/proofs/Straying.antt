@@ -1,6 +1,6 @@
 -- One packet more of a stream, where some came twice or late.
 use Rattle.std.proofs.Common.{◌≡◌, ℕ, suc, ◌+◌, ◌-◌, ◌<◌, ◌≤◌, ◌⊎◌, Bool, true, false, cond, not, List, [], ◌∷◌, length, filter, refl, ap, sym, ◌∙◌, subst, arith, inl, inr}
-use Rattle.std.specs.Prelude.{◌==◌, ◌&&◌, ◌||◌, nat_lt, nat_le, reverse, if◌then◌else◌}
+use Rattle.std.specs.Prelude.{◌==◌, ◌&&◌, ◌||◌, nat_lt, nat_le}
 use Rattle.std.specs.List.{list_any}
 use Rattle.std.specs.Ordering.{nat_cmp}
 use Rattle.std.specs.BTreeMap.{is_at}
@@ -18,7 +18,7 @@ use Rattle.show_spec.specs.Missed.{late_count}
 use Rattle.rtt_show.specs.declared.strays.Came.{Came}
 use Rattle.rtt_show.specs.declared.strays.Strays.{Strays}
 use Rattle.rtt_show.specs.Finds.{one_if}
-use Rattle.rtt_show.specs.Strays.{has, is_late_number, AreStrays, IsCame, UsesMore, LatesMore, StraysMore}
+use Rattle.rtt_show.specs.Strays.{has, is_late_number, AreStrays, UsesMore, LatesMore, StraysMore}
 
 zero_more : (n : ℕ) → 0 + n ≡ n
 zero_more n = omega arith
@@ -99,7 +99,7 @@ module _ (wait : ℕ) where
       go true h = refl
       go false h = h
 
-  used_few : (past : List Numbered) → length (used wait past) ≤ length past
+  pub used_few : (past : List Numbered) → length (used wait past) ≤ length past
   used_few [] = omega arith
   used_few (e ∷ past) = go (in_time wait e past) (used_few past)
     where

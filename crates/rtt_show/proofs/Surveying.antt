@@ -22,11 +22,11 @@ use Rattle.rtt_show.specs.Finds.{one_if}
 use Rattle.show_spec.specs.Guesses.{is_ok}
 use Rattle.rtt_show.specs.declared.surveys.Survey.{Survey}
 
-least_more : (came : List Item) (item : Item) → least_time (came ++ item ∷ []) ≡ min (least_time came) item.time
+pub least_more : (came : List Item) (item : Item) → least_time (came ++ item ∷ []) ≡ min (least_time came) item.time
 least_more [] item = omega arith
 least_more (c ∷ came) item = ap (min c.time) (least_more came item) ∙ omega arith
 
-greatest_more : (came : List Item) (item : Item) → greatest_time (came ++ item ∷ []) ≡ max (greatest_time came) item.time
+pub greatest_more : (came : List Item) (item : Item) → greatest_time (came ++ item ∷ []) ≡ max (greatest_time came) item.time
 greatest_more [] item = omega arith
 greatest_more (c ∷ came) item = ap (max c.time) (greatest_more came item) ∙ omega arith
 
@@ -75,10 +75,10 @@ counts_more n (Err Long) = refl
 counts_more n (Err NotText) = refl
 counts_more n (Err Foreign) = refl
 
-refused_more : (r : Reception) (came : List Item) (item : Item) (fault : TextFault) → refused_as r (came ++ item ∷ []) fault ≡ (if is_refused_as fault (text_at r.ssrc r.pts item) then suc (refused_as r came fault) else refused_as r came fault)
+pub refused_more : (r : Reception) (came : List Item) (item : Item) (fault : TextFault) → refused_as r (came ++ item ∷ []) fault ≡ (if is_refused_as fault (text_at r.ssrc r.pts item) then suc (refused_as r came fault) else refused_as r came fault)
 refused_more r came item fault = filter_more (λ i. is_refused_as fault (text_at r.ssrc r.pts i)) came item
 
-map_alike : {X Y : Type 0} (f g : X → Y) → ((x : X) → f x ≡ g x) → (xs : List X) → map f xs ≡ map g xs
+pub map_alike : {X Y : Type 0} (f g : X → Y) → ((x : X) → f x ≡ g x) → (xs : List X) → map f xs ≡ map g xs
 map_alike f g e [] = refl
 map_alike f g e (x ∷ xs) = ap (λ y. y ∷ map f xs) (e x) ∙ ap (λ ys. g x ∷ ys) (map_alike f g e xs)
 

@@ -10,3 +10,4 @@ pub mod Finds
 pub mod Shown
 pub mod Whole
 pub mod Gathers
+pub mod Rows

@@ -4,7 +4,7 @@ use Rattle.wire_spec.specs.Dump.{Item, Fault}
 use Rattle.rtpdump_io.specs.declared.items.DumpFault.{DumpFault}
 use Rattle.command_spec.specs.Streams.{Sort, naming}
 use Rattle.command_spec.specs.Showing.{number_line}
-use Rattle.show_spec.specs.Showing.{stream_view, pair_view}
+use Rattle.show_spec.specs.Showing.{stream_view, pair_view, recording_view}
 use Rattle.rtt_show.specs.declared.views.Shape.{Shape}
 use Rattle.rtt_show.specs.declared.views.Shape.TheVariants.{Stream, Pair}
 use Rattle.rtt_show.specs.declared.groups.Group.{Group}
@@ -12,6 +12,7 @@ use Rattle.rtt_show.specs.declared.found.Found.{Found}
 use Rattle.rtpdump_io.specs.InMemory.{HasRecords}
 use Rattle.rtt_show.specs.Records.{OfRecords}
 use Rattle.rtt_show.specs.Groups.{Holds}
+use Rattle.rtt_show.specs.Finds.{IsFound}
 
 -- ---- groups
 
@@ -50,3 +51,11 @@ others_text f =
 abbrev pub ends : Option DumpFault → Option Fault
 ends None = None
 ends (Some fault) = Some (record { byte = fault.offset; kind = fault.kind })
+
+-- ---- all
+
+-- this is what is printed
+abbrev pub IsShownOf : Found → Option ℕ → Option DumpFault → List ℕ → Type 0
+IsShownOf found start end printed =
+    (items : List Item) → length items < 2 ^ 32 → IsFound found items
+    → printed ≡ recording_view found.pts start (record { items = items; fault = ends end })

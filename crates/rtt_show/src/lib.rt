@@ -11,6 +11,7 @@ mod missed;
 mod origins;
 mod pairs;
 mod printing;
+mod rows;
 mod shows;
 mod signs;
 mod sorts;
@@ -23,6 +24,7 @@ mod views;
 pub use first_sources::FirstSources;
 pub use found::Found;
 pub use groups::{Group, Groups};
+pub use rows::{Row, row_of};
 pub use shows::{gather, show_recording};
 pub use views::append_end;
 

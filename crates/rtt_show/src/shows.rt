@@ -1,5 +1,5 @@
 //! The work of `show`: all records of a recording are read once, and then shown.
-ghost use Rattle.std.specs.Prelude.{◌≡◌, ◌≤◌, ◌&&◌, not, Bool, None, [], IfErr, IfOk, OnOk};
+ghost use Rattle.std.specs.Prelude.{◌≡◌, ◌<◌, ◌≤◌, ◌^◌, ◌&&◌, not, Bool, None, [], IfErr, IfOk, IfSome, OnOk};
 ghost use Rattle.rtpdump_io.specs.Reading.{is_ended, is_of_source, to_come, source_of};
 ghost use Rattle.rtpdump_io.specs.Faults.{HasCause};
 ghost use Rattle.command_spec.specs.Showing.{if_no_recording, is_no_recording};
@@ -61,16 +61,19 @@ pub fn gather<S: Source>(
     }
 }
 
-/// What `show` prints of a recording, where these are the payload types of text: what was typed in each stream, what
-/// else is there, and the fault behind which it can't be read, if there is one. `Dump` is answered only of octets that
-/// are no recording, `NotDump`, or where the source failed, `Read`.
+/// What `show` prints of a recording that began at `start`, in milliseconds since 1970, where these are the payload types of
+/// text: what was typed in each stream, what else is there, the fault behind which it can't be read, if there is one, and the
+/// start, where it is not 0. `Dump` is answered only of octets that are no recording, `NotDump`, or where the source failed,
+/// `Read`.
 pub fn show_recording<S: Source>(
     alloc: Global,
     reader: &mut DumpReader<S>,
+    start: Option<u64>,
     pts: Pts,
 ) -> Result<Bytes, RecordingFault>
     requires open { is_ended reader.old ≡ Bool.false }
-    ensures shown { S.tells → IfOk result (λ printed. printed ≡ recording_view pts (to_come S.left reader.old)) }
+    requires start { IfSome start (λ start. start < 2 ^ 48) }
+    ensures shown { S.tells → IfOk result (λ printed. printed ≡ recording_view pts start (to_come S.left reader.old)) }
     ensures accepted { S.tells → OnOk result (if_no_recording (to_come S.left reader.old).fault ≡ None) }
     ensures refused { S.tells → IfErr result (IsRefused (to_come S.left reader.old)) }
     ensures read { IfErr result (HasCause S.faults reader.old reader.new) }
@@ -82,7 +85,7 @@ pub fn show_recording<S: Source>(
         Ok(end) => end,
         Err(fault) => return Err(fault),
     };
-    match show_found(alloc, &found, end) {
+    match show_found(alloc, &found, start, end) {
         Ok(printed) => Ok(printed),
         Err(_) => Err(RecordingFault::NoMemory),
     }

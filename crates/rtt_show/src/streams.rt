@@ -1,5 +1,5 @@
 //! What is shown of a stream of text.
-ghost use Rattle.std.specs.Prelude.{◌≡◌, ◌≢◌, ◌++◌, ◌≤◌, length, map, flat_map, decimal, AllPairs, IsUtf8, IfOk, OnOk};
+ghost use Rattle.std.specs.Prelude.{◌≡◌, ◌≢◌, ◌++◌, ◌≤◌, true, false, length, map, flat_map, decimal, AllPairs, IsUtf8, IfOk, OnOk};
 ghost use Rattle.command_spec.specs.Showing.{refusal_line};
 ghost use Rattle.show_spec.specs.Showing.{stream_view};
 ghost use Rattle.view_spec.specs.Views.{source_view};
@@ -9,12 +9,15 @@ ghost use Rattle.rtt_base.specs.declared.limits.TheConstants.{MOST_SOURCES};
 ghost use Rattle.rtt_show.specs.Hearing.{HasHeard};
 ghost use Rattle.rtpdump_io.specs.InMemory.{HasRecords};
 ghost use Rattle.rtt_show.specs.Records.{OfRecords};
+ghost use Rattle.rtt_show.specs.Rows.{IsRow};
+ghost use Rattle.rtt_show.specs.Surveys.{IsSurvey};
 ghost use Rattle.rtt_show.specs.Shown.{asked, conf_of, heard_text, refusal_lines};
 
 use crate::first_sources::FirstSources;
 use crate::hearing::hear_all;
 use crate::missed::missed_of;
 use crate::printing::{append_number_line, append_title};
+use crate::rows::{Row, row_of};
 use crate::sorts::place_among;
 use crate::surveys::{Survey, survey_of};
 use command_spec::fault_name;
@@ -146,8 +149,77 @@ fn append_heard(
     append_number_line(b"-- other sources ", found.sources.others, out)
 }
 
-/// Appends what is shown of a stream with these packets.
-pub(crate) fn show_stream(
+/// Appends what is shown of a stream with these packets, of which this was found out, and which this terminal heard.
+fn append_stream(
+    alloc: Global,
+    ssrc: u32,
+    pts: Pts,
+    records: &[u8],
+    found: &Survey,
+    terminal: &Terminal,
+    out: &mut Bytes,
+) -> Result<(), NoMemory>
+    requires records { HasRecords records.now }
+    requires found { OfRecords records.now (IsSurvey pts ssrc found.now) }
+    requires heard { HasHeard (conf_of pts ssrc) (asked ssrc found.now.sources.kept.items) records.now terminal.now }
+    ensures { OnOk result (OfRecords records.now (λ came. out.new ≡ out.old ++ stream_view pts ssrc came)) }
+{
+    let used = terminal.counts().used;
+    let missed = missed_of(alloc, ssrc, pts, records, found.spread, used)?;
+    append_title(ssrc, found.from, found.to, missed, out)?;
+    append_heard(alloc, found, terminal, out)
+}
+
+/// Appends what is shown of a stream with these packets, which come in this row, and tells whether it was shown: where each
+/// of them is used. Else nothing is appended.
+fn show_row(
+    alloc: Global,
+    ssrc: u32,
+    pts: Pts,
+    records: &[u8],
+    row: Row,
+    out: &mut Bytes,
+) -> Result<bool, NoMemory>
+    requires records { HasRecords records.now }
+    requires row { OfRecords records.now (IsRow row) }
+    ensures shown { IfOk result (λ shown. shown ≡ true → OfRecords records.now (λ came. out.new ≡ out.old ++ stream_view pts ssrc came)) }
+    ensures unchanged { IfOk result (λ shown. shown ≡ false → out.new ≡ out.old) }
+{
+    if row.packets == 0 {
+        return Ok(false);
+    }
+    let conf = conf_for(ssrc, pts);
+    let terminal = hear_all(alloc, conf, &[row.source], records)?;
+    let used = terminal.counts().used;
+    if used != row.packets {
+        return Ok(false);
+    }
+    let found = Survey::of_row(alloc, row)?;
+    append_stream(alloc, ssrc, pts, records, &found, &terminal, out)?;
+    Ok(true)
+}
+
+/// Appends what is shown of a stream with these packets, and tells whether it was shown: where they are seen to come in a row,
+/// and each of them is used. Else nothing is appended.
+fn show_if_row(
+    alloc: Global,
+    ssrc: u32,
+    pts: Pts,
+    records: &[u8],
+    out: &mut Bytes,
+) -> Result<bool, NoMemory>
+    requires { HasRecords records.now }
+    ensures shown { IfOk result (λ shown. shown ≡ true → OfRecords records.now (λ came. out.new ≡ out.old ++ stream_view pts ssrc came)) }
+    ensures unchanged { IfOk result (λ shown. shown ≡ false → out.new ≡ out.old) }
+{
+    match row_of(records) {
+        Some(row) => show_row(alloc, ssrc, pts, records, row, out),
+        None => Ok(false),
+    }
+}
+
+/// Appends what is shown of a stream with these packets, however they come.
+fn show_any(
     alloc: Global,
     ssrc: u32,
     pts: Pts,
@@ -159,8 +231,22 @@ pub(crate) fn show_stream(
 {
     let found = survey_of(alloc, records, ssrc, pts)?;
     let terminal = hear_sources(alloc, ssrc, pts, &found.sources, records)?;
-    let used = terminal.counts().used;
-    let missed = missed_of(alloc, ssrc, pts, records, found.spread, used)?;
-    append_title(ssrc, found.from, found.to, missed, out)?;
-    append_heard(alloc, &found, &terminal, out)
+    append_stream(alloc, ssrc, pts, records, &found, &terminal, out)
+}
+
+/// Appends what is shown of a stream with these packets.
+pub(crate) fn show_stream(
+    alloc: Global,
+    ssrc: u32,
+    pts: Pts,
+    records: &[u8],
+    out: &mut Bytes,
+) -> Result<(), NoMemory>
+    requires { HasRecords records.now }
+    ensures { OnOk result (OfRecords records.now (λ came. out.new ≡ out.old ++ stream_view pts ssrc came)) }
+{
+    if show_if_row(alloc, ssrc, pts, records, out)? {
+        return Ok(());
+    }
+    show_any(alloc, ssrc, pts, records, out)
 }

@@ -1,12 +1,14 @@
 //! What is found out of the packets of a stream before they are heard.
-ghost use Rattle.std.specs.Prelude.{◌≡◌, ℕ, ◌+◌, ◌<◌, ◌^◌, [], suc, slice_index, slice_set, IfOk, OnOk, Result};
+ghost use Rattle.std.specs.Prelude.{◌≡◌, ℕ, ◌+◌, ◌<◌, ◌^◌, [], ◌∷◌, suc, slice_index, slice_set, IfOk, OnOk, Result};
 ghost use Rattle.rtpdump_io.specs.InMemory.{HasRecords};
 ghost use Rattle.rtt_show.specs.Records.{OfRecords};
+ghost use Rattle.rtt_show.specs.Rows.{SurveysRow};
 ghost use Rattle.rtt_show.specs.Surveys.{IsFew, IsSurvey, SurveysMore};
 ghost use Rattle.rtt_base.specs.declared.text_packets.Pts.{Pts as PayloadTypes};
 
 use crate::first_sources::FirstSources;
 use crate::origins::Origin;
+use crate::rows::Row;
 use crate::sorts::{place_among, read_source};
 use crate::spreads::Spread;
 use rtpdump_io::next_record;
@@ -49,6 +51,29 @@ impl Survey {
             sources: FirstSources::new(alloc),
             spread: Spread::none(),
         }
+    }
+
+    /// What is found out of packets that come in this row, each of which is one of text of the stream.
+    pub(crate) fn of_row(alloc: Global, row: Row) -> Result<Survey, NoMemory>
+        requires some { 0 < row.packets }
+        requires few { row.packets < 2 ^ 32 }
+        ensures survey { IfOk result (SurveysRow row) }
+        ensures kept { IfOk result (λ found. found.sources.kept.items ≡ row.source ∷ []) }
+    {
+        let mut sources = FirstSources::new(alloc);
+        sources.name(row.source)?;
+        let first = u64::from(row.first) + 65536;
+        Ok(Survey {
+            from: row.from,
+            to: row.to,
+            refused: [0; 10],
+            sources,
+            spread: Spread {
+                packets: row.packets,
+                first,
+                top: first + (row.packets - 1),
+            },
+        })
     }
 
     /// A packet came, with a text from there or none.

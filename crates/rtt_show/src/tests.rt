@@ -1,4 +1,5 @@
 use crate::show_recording;
+use recording_starts::Opened;
 use rtpdump_io::{DumpReader, RecordingFault};
 use rtt_base::{Bytes, Pts};
 use rtt_io::SteadySource;
@@ -9,8 +10,19 @@ use wire_spec::DumpKind;
 
 const USUAL: Pts = Pts { t140: 98, red: 100 };
 
-// The line and the head of a recording.
-const OPENING: [u8; 44] = *b"#!rtpplay1.0 127.0.0.1/5004\n\0\0\0\0\0\0\0\0\x7F\0\0\x01\x13\x8C\0\0";
+// The line of a recording, and what its head has behind the start.
+const LINE: [u8; 28] = *b"#!rtpplay1.0 127.0.0.1/5004\n";
+
+const REST: [u8; 8] = *b"\x7F\0\0\x01\x13\x8C\0\0";
+
+// Starts: 1970 begins, and 999 microseconds later; 2026-11-28 14:03:00; the greatest seconds and microseconds.
+const AT_NO_TIME: [u8; 8] = *b"\0\0\0\0\0\0\0\0";
+
+const BELOW_A_MILLISECOND: [u8; 8] = *b"\0\0\0\0\0\0\x03\xE7";
+
+const AFTERNOON: [u8; 8] = *b"k\x0A\xDF\x14\0\0\0\0";
+
+const AT_THE_END: [u8; 8] = *b"\xFF\xFF\xFF\xFF\xFF\xFF\xFF\xFF";
 
 // Records at 0, 300, 600 and 900 ms: Ann types A, then B, and each packet repeats the two before it.
 const LETTERS: [u8; 122] =
@@ -47,7 +59,35 @@ const WITH_GAPS: [u8; 63] = *b"\0\x15\0\x0D\0\0\0\0\x80\x62\0\x0A\0\0\0\0\0\0\x0
     \0\x15\0\x0D\0\0\0\x64\x80\x62\0\x0D\0\0\0\x64\0\0\x03\xE9d\
     \0\x15\0\x0D\0\0\x05\xDC\x80\x62\0\x0C\0\0\x05\xDC\0\0\x03\xE9c";
 
-// Expects that this is shown of a recording with these records.
+// Expects that this is shown of a recording with this start and these records.
+fn expect_shown_from(
+    rt: &impl Abort,
+    alloc: Global,
+    start: [u8; 8],
+    records: &[&[u8]],
+    pts: Pts,
+    expected: &str,
+) -> Result<(), Fail> {
+    let mut recording = Bytes::new(alloc);
+    recording.append(&LINE)?;
+    recording.append(&start)?;
+    recording.append(&REST)?;
+    for record in records {
+        recording.append(record)?;
+    }
+    let (opened, looked) = Opened::open(SteadySource::new(recording));
+    let Ok(began) = looked else {
+        panic!(rt; "the head is not read");
+    };
+    let mut reader = DumpReader::new(opened);
+    match show_recording(alloc, &mut reader, began, pts) {
+        Ok(shown) => assert!(rt; shown.as_slice() == expected.as_bytes()),
+        Err(_) => panic!(rt; "the recording is not shown"),
+    }
+    Ok(())
+}
+
+// Expects that this is shown of a recording without a start that has these records.
 fn expect_shown(
     rt: &impl Abort,
     alloc: Global,
@@ -55,17 +95,7 @@ fn expect_shown(
     pts: Pts,
     expected: &str,
 ) -> Result<(), Fail> {
-    let mut recording = Bytes::new(alloc);
-    recording.append(&OPENING)?;
-    for record in records {
-        recording.append(record)?;
-    }
-    let mut reader = DumpReader::new(SteadySource::new(recording));
-    match show_recording(alloc, &mut reader, pts) {
-        Ok(shown) => assert!(rt; shown.as_slice() == expected.as_bytes()),
-        Err(_) => panic!(rt; "the recording is not shown"),
-    }
-    Ok(())
+    expect_shown_from(rt, alloc, AT_NO_TIME, records, pts, expected)
 }
 
 #[test]
@@ -118,9 +148,28 @@ fn noise_is_no_text(rt: HostRuntime) -> Result<(), Fail> {
 }
 
 #[test]
+fn the_start_is_the_last_line(rt: HostRuntime) -> Result<(), Fail> {
+    let shown = "-- ssrc 7 type 111 packets 3\n-- whole\n-- began 2026-11-28 14:03:00.000\n";
+    expect_shown_from(&rt, rt.alloc(), AFTERNOON, &[&NOISE], USUAL, shown)?;
+    let cut = "-- byte 44: EndsInside\n-- began 2026-11-28 14:03:00.000\n";
+    expect_shown_from(&rt, rt.alloc(), AFTERNOON, &[&NOISE[..20]], USUAL, cut)?;
+    let empty = "-- whole\n-- began 2106-02-07 07:39:49.967\n";
+    expect_shown_from(&rt, rt.alloc(), AT_THE_END, &[], USUAL, empty)?;
+    expect_shown_from(
+        &rt,
+        rt.alloc(),
+        BELOW_A_MILLISECOND,
+        &[],
+        USUAL,
+        "-- whole\n",
+    )
+}
+
+#[test]
 fn what_is_no_recording_is_refused(rt: HostRuntime) {
     let mut reader = DumpReader::new(SteadySource::new(Bytes::new(rt.alloc())));
-    let Err(RecordingFault::Dump(fault)) = show_recording(rt.alloc(), &mut reader, USUAL) else {
+    let Err(RecordingFault::Dump(fault)) = show_recording(rt.alloc(), &mut reader, None, USUAL)
+    else {
         panic!(rt; "what is no recording is shown");
     };
     assert!(rt; fault.offset == 0 && fault.kind == DumpKind::NotDump);

@@ -1,12 +1,12 @@
 //! What is shown of all that was found in a recording.
-ghost use Rattle.std.specs.Prelude.{◌≡◌, ℕ, ◌<◌, ◌^◌, ◌++◌, List, length, All, IfOk, OnOk};
+ghost use Rattle.std.specs.Prelude.{◌≡◌, ℕ, ◌<◌, ◌^◌, ◌++◌, List, length, All, IfOk, IfSome, OnOk};
 ghost use Rattle.wire_spec.specs.Dump.{Item};
 ghost use Rattle.command_spec.specs.Streams.{ssrc_of, type_of};
 ghost use Rattle.command_spec.specs.Showing.{end_line};
-ghost use Rattle.show_spec.specs.Showing.{items_view};
+ghost use Rattle.show_spec.specs.Showing.{start_line};
 ghost use Rattle.rtpdump_io.specs.InMemory.{HasRecords};
 ghost use Rattle.rtt_show.specs.Finds.{IsFound, IsSmall};
-ghost use Rattle.rtt_show.specs.Whole.{AreShown, IsGroupOf, IsGroupShown, ends, others_text, shape_limit};
+ghost use Rattle.rtt_show.specs.Whole.{AreShown, IsGroupOf, IsGroupShown, IsShownOf, ends, others_text, shape_limit};
 
 use crate::found::Found;
 use crate::groups::{Group, Groups};
@@ -14,6 +14,7 @@ use crate::pairs::show_pair;
 use crate::printing::{append_number, append_number_line};
 use crate::streams::show_stream;
 use command_spec::dump_kind_name;
+use recording_starts::append_began;
 use rtpdump_io::DumpFault;
 use rtt_base::{Bytes, NoMemory, Pts};
 use std::alloc::Global;
@@ -82,7 +83,7 @@ fn append_others(found: &Found, out: &mut Bytes) -> Result<(), NoMemory>
     append_number_line(b"-- more ", more, out)
 }
 
-/// Appends the last line: that the recording is whole, or the fault behind which it can't be read.
+/// Appends a line: that the recording is whole, or the fault behind which it can't be read.
 #[tactic(auto, unfolding(command_spec::specs::Showing::end_line))]
 pub fn append_end(end: Option<DumpFault>, out: &mut Bytes) -> Result<(), NoMemory>
     ensures { OnOk result (out.new ≡ out.old ++ end_line (ends end)) }
@@ -98,16 +99,28 @@ pub fn append_end(end: Option<DumpFault>, out: &mut Bytes) -> Result<(), NoMemor
     }
 }
 
-/// All that is shown, with the fault that ends the recording.
+/// Appends when the recording began, in milliseconds since 1970, where it has a start that is not 0.
+fn append_start(start: Option<u64>, out: &mut Bytes) -> Result<(), NoMemory>
+    requires { IfSome start (λ start. start < 2 ^ 48) }
+    ensures { OnOk result (out.new ≡ out.old ++ start_line start) }
+{
+    match start {
+        None | Some(0) => Ok(()),
+        Some(start) => append_began(start, out),
+    }
+}
+
+/// All that is shown of a recording that began at `start`, with the fault that ends it.
 pub(crate) fn show_found(
     alloc: Global,
     found: &Found,
+    start: Option<u64>,
     end: Option<DumpFault>,
 ) -> Result<Bytes, NoMemory>
     requires found { (items : List Item) × (length items < 2 ^ 32) × IsFound found.now items }
     requires small { (n : ℕ) × (n < 2 ^ 32) × IsSmall n found.now }
-    ensures { IfOk result (λ out. (items : List Item) → length items < 2 ^ 32 → IsFound found.now items
-        → out ≡ items_view found.now.pts items ++ end_line (ends end)) }
+    requires start { IfSome start (λ start. start < 2 ^ 48) }
+    ensures { IfOk result (IsShownOf found.now start end) }
 {
     let mut out = Bytes::new(alloc);
     let shape = Shape::Stream(found.pts);
@@ -115,5 +128,6 @@ pub(crate) fn show_found(
     show_groups(alloc, Shape::Pair, found.pairs.groups.as_slice(), &mut out)?;
     append_others(found, &mut out)?;
     append_end(end, &mut out)?;
+    append_start(start, &mut out)?;
     Ok(out)
 }

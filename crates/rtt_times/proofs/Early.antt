@@ -1,17 +1,17 @@
 -- No line is of a late moment.
-use Rattle.std.proofs.Common.{◌≡◌, ℕ, zero, suc, ◌+◌, ◌-◌, ◌<◌, ◌≤◌, Bool, true, false, cond, Some, Result, Ok, Err, List, [], ◌∷◌, ◌++◌, map, filter, flat_map, length, get_or, refl, ap, sym, ◌∙◌, subst, arith, inl, inr, ◌⊎◌, ◌==◌, nat_lt}
-use Rattle.std.specs.Prelude.{All, reverse, Option, None, min, max, ◌&&◌, ◌^◌}
+use Rattle.std.proofs.Common.{◌≡◌, ℕ, zero, suc, ◌+◌, ◌-◌, ◌<◌, ◌≤◌, Bool, true, false, cond, Some, Result, Ok, Err, List, [], ◌∷◌, ◌++◌, map, filter, flat_map, refl, sym, subst, arith, inl, inr, ◌⊎◌, ◌==◌, nat_lt}
+use Rattle.std.specs.Prelude.{All, reverse, Option, None, ◌&&◌}
 use Rattle.std.proofs.lemmas.List.{reverse-append}
 use Rattle.std.proofs.lemmas.List.Elements.{All-nil, All-cons, All-append}
 use Rattle.rtt_base.specs.declared.text_packets.Pts.{Pts}
 use Rattle.wire_spec.specs.declared.faults.TextFault.{TextFault}
 use Rattle.wire_spec.specs.Packets.{Packet, Arrival, has_text}
 use Rattle.wire_spec.specs.Text.{text_of}
-use Rattle.wire_spec.specs.Dump.{Item, What, Whole, Rtcp, Cut, Large, arrivals_after, arrivals_with, arrived, latest, sent_item}
+use Rattle.wire_spec.specs.Dump.{Item, What, Whole, Rtcp, Cut, Large, arrivals_after, arrivals_with, arrived, latest}
 use Rattle.stream_spec.specs.Lists.{In}
 use Rattle.stream_spec.specs.Numbering.{Numbered, distinct_from, first_number, has_number, in_time, numbered, used}
 use Rattle.stream_spec.specs.Hearing.{piece, is_packet_of}
-use Rattle.stream_spec.specs.Ready.{Chunk, chunk, chunks, chunks_over, end_of, latest_end, least, moments, ready_of, when}
+use Rattle.stream_spec.specs.Ready.{Chunk, chunk, chunks, chunks_over, latest_end, least, moments, ready_of, when}
 use Rattle.stream_spec.proofs.Lists.{in_append, in_filter, in_when}
 use Rattle.stream_spec.proofs.Matched.{used_in}
 use Rattle.rtt_base.specs.declared.limits.TheConstants.{MOST_HELD}
@@ -21,7 +21,7 @@ use Rattle.times_spec.specs.Ordered.{end_by, given_by, ordered_below, ordered_by
 use Rattle.times_spec.specs.Numbers.{Lost, Row, is_late, late, lost, lost_among, lost_before, lost_from, missing}
 use Rattle.times_spec.specs.Times as times
 use Rattle.times_spec.specs.Times.{chunk_lines, late_line, lost_line, number_lines, source_lines, text_lines}
-use Rattle.rtt_times.specs.Lines.{Line, at_of, written}
+use Rattle.rtt_times.specs.Lines.{Line, at_of}
 
 -- ---- lists
 pub in_map : {X Y : Type 0} (f : X → Y) (y : Y) (xs : List X) → In y (map f xs) → (x : X) × In x xs × (y ≡ f x)

@@ -1,22 +1,21 @@
 -- What is heard of a stream, packet by packet.
-use Rattle.std.proofs.Common.{◌≡◌, ℕ, zero, suc, ◌+◌, ◌*◌, ◌-◌, ◌<◌, ◌≤◌, ◌%◌, Bool, true, false, cond, Some, None, Result, Ok, Err, List, [], ◌∷◌, ◌++◌, map, refl, ap, sym, ◌∙◌, subst, arith, length}
+use Rattle.std.proofs.Common.{◌≡◌, ℕ, ◌+◌, ◌≤◌, false, cond, Some, Result, Ok, Err, List, [], ◌∷◌, ◌++◌, map, refl, ap, sym, ◌∙◌, subst, arith}
 use Rattle.std.specs.Prelude.{max, ◌==◌}
-use Rattle.std.specs.List.{filter_map}
 use Rattle.std.proofs.lemmas.Bool.{ne_eqb}
 use Rattle.std.proofs.lemmas.List.{map-append}
 use Rattle.rtt_base.specs.declared.text_packets.Pts.{Pts}
 use Rattle.rtt_base.specs.declared.text_packets.TextPacket.{TextPacket}
 use Rattle.wire_spec.specs.declared.faults.TextFault.{TextFault}
-use Rattle.wire_spec.specs.Packets.{Packet, Arrival, packet_of}
+use Rattle.wire_spec.specs.Packets.{Packet, Arrival}
 use Rattle.wire_spec.specs.Text.{text_of}
 use Rattle.wire_spec.specs.Dump.{Item, arrivals_after, arrivals_with, sent_item}
-use Rattle.stream_spec.specs.Numbering.{Numbered, numbered, number_after, greatest, nearest}
-use Rattle.command_spec.specs.Firsts.{Firsts, firsts, with_name}
+use Rattle.stream_spec.specs.Numbering.{numbered, number_after, greatest, nearest}
+use Rattle.command_spec.specs.Firsts.{Firsts, with_name}
 use Rattle.command_spec.specs.Reading.{usual_wait}
 use Rattle.command_spec.specs.Streams.{source_in, sources, text_at}
 use Rattle.gap_tracker.specs.declared.answers.Due.{Due}
-use Rattle.gap_tracker.specs.Stories.{Story, Given, begun, came, ended, gave, given_of, given_packet, dues, ready_dues}
-use Rattle.gap_tracker.specs.States.{State, IsNext, has_ready, with_packet}
+use Rattle.gap_tracker.specs.Stories.{Story, Given, begun, came, ended, given_of, given_packet, dues, ready_dues}
+use Rattle.gap_tracker.specs.States.{State, with_packet}
 use Rattle.gap_tracker.specs.Tracks.{Tracks}
 use Rattle.gap_tracker.specs.Views.{next_number}
 use Rattle.gap_tracker.specs.Told.{Leads, Gives, GivesAtOnce, GaveReady, AllReady}
@@ -27,7 +26,7 @@ use Rattle.rtt_show.specs.Surveys.{firsts_of}
 use Rattle.rtt_show.proofs.Surveying.{firsts_more}
 use Rattle.rtt_times.specs.declared.heard.Came.{Came}
 use Rattle.rtt_times.specs.declared.heard.Heard.{Heard}
-use Rattle.rtt_times.specs.Heard.{Counts, Drains, HasNumbers, Hearing, HearsOctets, HearsPacket, IsEmpty, IsHeard, IsSmall, Listening, came_in, came_of, due_in, number_from, with_given}
+use Rattle.rtt_times.specs.Heard.{Counts, Drains, Hearing, HearsOctets, HearsPacket, IsEmpty, IsHeard, Listening, came_in, due_in, number_from, with_given}
 
 -- ---- numbers
 high : (a : Arrival) (before : List Arrival) → 65536 ≤ greatest (numbered (a ∷ before))

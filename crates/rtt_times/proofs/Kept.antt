@@ -1,27 +1,26 @@
 -- Lines that are kept.
-use Rattle.std.proofs.Common.{◌≡◌, ℕ, zero, suc, ◌+◌, ◌-◌, ◌<◌, ◌≤◌, Bool, true, false, cond, not, List, [], ◌∷◌, ◌++◌, map, filter, length, take, drop, get_or, refl, ap, sym, ◌∙◌, subst, arith, append-nil, append_assoc, length-append, inl, inr, ◌⊎◌, ◌==◌, nat_lt}
+use Rattle.std.proofs.Common.{◌≡◌, ℕ, zero, suc, ◌+◌, ◌<◌, ◌≤◌, Bool, true, false, cond, not, List, [], ◌∷◌, ◌++◌, map, filter, length, take, drop, get_or, refl, ap, sym, ◌∙◌, subst, arith, append-nil, append_assoc, length-append, inl, inr, ◌⊎◌, ◌==◌, nat_lt}
 use Rattle.std.specs.Prelude.{All, ◌^◌, ◌&&◌, if◌then◌else◌}
 use Rattle.std.specs.List.Sorted.{IsNonDecreasingBy, IsPermutation, IsStableByKey}
 use Rattle.std.specs.declared.cmp.Ordering.TheVariants.{Less, Equal, Greater}
 use Rattle.std.specs.Ordering.{is_lt, nat_cmp}
 use Rattle.std.proofs.lemmas.Bool.{cases_lt, ne_eqb, eq-eqb, lt-ltb, le-ltb}
 use Rattle.std.proofs.lemmas.List.{map-append, length-map, get_or-map, take-append-le}
-use Rattle.std.proofs.lemmas.List.Elements.{All-nil, All-push, All-weaker, All-map, All-append, All-cons, All-head, All-tail}
+use Rattle.std.proofs.lemmas.List.Elements.{All-push, All-weaker, All-head, All-tail}
 use Rattle.std.proofs.lemmas.List.Sorted.{All-permutation}
 use Rattle.wire_spec.specs.Packets.{has_text}
 use Rattle.view_spec.specs.Views.{printed_line}
-use Rattle.stream_spec.specs.Lists.{In}
 use Rattle.stream_spec.specs.Ready.{Chunk}
 use Rattle.command_spec.specs.declared.requests.ReadRequest.{ReadRequest}
 use Rattle.command_spec.specs.Transcripts.{escaped}
-use Rattle.times_spec.specs.Ordered.{end_by, given_by, ordered_by, ordered_below}
+use Rattle.times_spec.specs.Ordered.{given_by, ordered_by}
 use Rattle.times_spec.proofs.Ordered.{Rises, AreFrom, is_ordered, ordered_made}
 use Rattle.times_spec.specs.Times as times
 use Rattle.times_spec.specs.Times.{name_of, day_of}
 use Rattle.rtt_times.specs.declared.lines.Span.{Span}
 use Rattle.rtt_times.specs.declared.lines.Lines.{Lines}
-use Rattle.rtt_times.specs.Lines.{Adds, AddsText, AreEarly, IsTimed, Keeps, KeepsFrom, LiesIn, Line, Sorts, at_of, chunk_written, line_in, name_before, said_line, line_with, timed_line, timed_written, written}
-use Rattle.rtt_times.proofs.Writing.{adds_none, adds_same}
+use Rattle.rtt_times.specs.Lines.{Adds, AddsText, AreEarly, Keeps, KeepsFrom, LiesIn, Line, Sorts, at_of, chunk_written, line_in, name_before, said_line, line_with, timed_line, timed_written, written}
+use Rattle.rtt_times.proofs.Writing.{adds_same}
 
 -- ---- one more
 lie_still : (octets more : List ℕ) (spans : List Span) → All (LiesIn octets) spans → All (LiesIn (octets ++ more)) spans

@@ -4,4 +4,4 @@ pub mod Hearing
 pub mod Missing
 pub mod Early
 pub mod Telling
-pub mod Beginning
+pub mod Rowing

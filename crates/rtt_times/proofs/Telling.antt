@@ -1,5 +1,5 @@
 -- What is told of all streams of a recording.
-use Rattle.std.proofs.Common.{◌≡◌, ℕ, zero, suc, ◌+◌, ◌-◌, ◌<◌, ◌≤◌, ◌^◌, Bool, true, false, cond, List, [], ◌∷◌, ◌++◌, map, flat_map, length, take, get_or, refl, ap, sym, ◌∙◌, subst, arith, append-nil, append_assoc, inl, inr, ◌⊎◌}
+use Rattle.std.proofs.Common.{◌≡◌, ℕ, zero, suc, ◌+◌, ◌<◌, ◌≤◌, ◌^◌, List, [], ◌∷◌, ◌++◌, map, flat_map, length, take, get_or, refl, ap, sym, ◌∙◌, subst, arith, append-nil, append_assoc, inl, inr, ◌⊎◌}
 use Rattle.std.specs.Prelude.{All, Option, None, Some, codes}
 use Rattle.std.specs.List.{sum, AllByRecursion, filter_map}
 use Rattle.std.proofs.lemmas.List.Elements.{All-head, All-tail}
@@ -7,7 +7,6 @@ use Rattle.std.proofs.lemmas.Grind.{flat_map-append}
 use Rattle.std.proofs.lemmas.List.Sums.{sum_by-append}
 use Rattle.std.proofs.lemmas.List.{map-append, length-map, get_or-map}
 use Rattle.rtt_base.specs.declared.text_packets.Pts.{Pts}
-use Rattle.wire_spec.specs.Packets.{Arrival}
 use Rattle.wire_spec.specs.Dump.{Item, arrivals_after, sent_item}
 use Rattle.stream_spec.specs.Lists.{In}
 use Rattle.stream_spec.specs.Numbering.{numbered}
@@ -15,7 +14,7 @@ use Rattle.stream_spec.proofs.Lists.{in_append}
 use Rattle.command_spec.specs.Firsts.{Firsts}
 use Rattle.command_spec.specs.Streams.{sort_of, sources, stream, stream_of, streams}
 use Rattle.command_spec.specs.Showing.{end_line, number_line}
-use Rattle.rtpdump_io.specs.InMemory.{AreRecords, IsRecord}
+use Rattle.rtpdump_io.specs.InMemory.{IsRecord}
 use Rattle.rtpdump_io.specs.declared.items.DumpFault.{DumpFault}
 use Rattle.rtt_show.specs.declared.first_sources.FirstSources.{FirstSources}
 use Rattle.rtt_show.specs.declared.found.Found.{Found}
@@ -52,7 +51,7 @@ take_over (x ∷ xs) zero l = absurd (omega (arith, l))
 take_over (x ∷ xs) (suc n) l = ap (λ ys. x ∷ ys) (take_over xs n (omega (arith, l)))
 
 -- what is made of one more
-made_more : (f : ℕ → List times.Line) (xs : List ℕ) (i d : ℕ) → i < length xs → map written (flat_map f (take (i + 1) xs)) ≡ map written (flat_map f (take i xs)) ++ map written (f (get_or xs i d))
+pub made_more : (f : ℕ → List times.Line) (xs : List ℕ) (i d : ℕ) → i < length xs → map written (flat_map f (take (i + 1) xs)) ≡ map written (flat_map f (take i xs)) ++ map written (f (get_or xs i d))
 made_more f xs i d l =
     ap (λ (ys : List ℕ). map written (flat_map f ys)) (take_more xs i d l)
     ∙ (ap (map written) (flat_map-append f (take i xs) (get_or xs i d ∷ []) ∙ ap (λ ys. flat_map f (take i xs) ++ ys) (append-nil (f (get_or xs i d))))
@@ -91,14 +90,14 @@ module _ (pts : Pts) (groups : List Group) (items : List Item) where
   abbrev texts_of : ℕ → List times.Line
   texts_of ssrc = text_lines ssrc (arrivals_in pts items ssrc) (sources_in pts items ssrc)
 
-  names_at : (i : ℕ) (g : Group) → i < length groups → get_or (names groups) i g.name ≡ (get_or groups i g).name
+  pub names_at : (i : ℕ) (g : Group) → i < length groups → get_or (names groups) i g.name ≡ (get_or groups i g).name
   names_at i g l = get_or-map (λ (group : Group). group.name) groups i g g.name l
 
-  long : (i : ℕ) → i < length groups → i < length (names groups)
+  pub long : (i : ℕ) → i < length groups → i < length (names groups)
   long i l = omega (arith, l, length-map groups (λ (group : Group). group.name))
 
   -- the records of a stream are those of the recording that name it
-  its : (g : Group) (P : List Item → Type 0) → length items < 2 ^ 32 → Holds (stream_of pts) items g → OfRecords g.records P → P (stream pts g.name items)
+  pub its : (g : Group) (P : List Item → Type 0) → length items < 2 ^ 32 → Holds (stream_of pts) items g → OfRecords g.records P → P (stream pts g.name items)
   its g P few h f = subst P h.are (f h.records (records_of (stream_of pts) items g few h))
 
 -- the first of them were numbered

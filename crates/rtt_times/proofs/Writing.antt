@@ -1,25 +1,25 @@
 -- An ear that is told and gives, and what is written of it.
-use Rattle.std.proofs.Common.{◌≡◌, ℕ, ◌≤◌, true, false, Some, Ok, Err, Result, List, [], ◌∷◌, ◌++◌, map, flat_map, length, refl, ap, sym, ◌∙◌, subst, append-nil, append_assoc}
+use Rattle.std.proofs.Common.{◌≡◌, ℕ, Some, Ok, Err, Result, List, [], ◌∷◌, ◌++◌, map, flat_map, length, refl, ap, sym, ◌∙◌, subst, append-nil, append_assoc}
 use Rattle.std.specs.Prelude.{IfOk, OnOk}
 use Rattle.std.proofs.lemmas.Grind.{flat_map-append}
 use Rattle.std.proofs.lemmas.List.{map-append}
 use Rattle.wire_spec.specs.declared.faults.TextFault.{TextFault}
 use Rattle.wire_spec.specs.Packets.{Packet, Arrival}
 use Rattle.wire_spec.specs.Text.{text_of}
-use Rattle.wire_spec.specs.Dump.{Item, Whole, arrivals_after, arrivals_with, sent_item}
+use Rattle.wire_spec.specs.Dump.{Item, arrivals_after, arrivals_with, sent_item}
 use Rattle.stream_spec.specs.Ready.{Chunk, chunks}
 use Rattle.command_spec.specs.declared.requests.ReadRequest.{ReadRequest}
 use Rattle.command_spec.specs.Reading.{usual_wait}
 use Rattle.gap_tracker.specs.Stories.{Story, Given, begun, ended}
 use Rattle.ear.specs.declared.confs.EarConf.{EarConf}
 use Rattle.ear.specs.declared.ears.Ear.{Ear}
-use Rattle.ear.specs.Hears.{AllReady, Becomes, Gave, GaveReady, GivesChunk, GivesNone, IsGiving, is_finished, is_quiet, arrival_count, text_for, told}
+use Rattle.ear.specs.Hears.{AllReady, Becomes, Gave, GaveReady, GivesChunk, GivesNone, IsGiving, arrival_count, text_for, told}
 use Rattle.ear.specs.Plain.{GivesPlain}
 use Rattle.ear.proofs.ReadyBy.{told_arrived}
 use Rattle.times_spec.specs.Times.{chunk_lines, source_lines}
 use Rattle.rtt_times.specs.declared.lines.Lines.{Lines}
 use Rattle.rtt_times.specs.Lines.{Line, Adds, Keeps, written, chunk_written}
-use Rattle.rtt_times.specs.Writing.{HasWritten, HasWrittenOf, Written, WritesEnd, WritesPacket, WritesReady, WritesRecords, asked_of, lines_of}
+use Rattle.rtt_times.specs.Writing.{HasWritten, HasWrittenOf, Written, WritesEnd, WritesPacket, WritesReady, asked_of, lines_of}
 
 -- ---- what is always so
 pub still_giving : (old new : Ear) (c : Chunk) → GivesChunk old new c → IsGiving old → IsGiving new
@@ -144,3 +144,7 @@ source_written r before first old new came h e =
     (ap (λ (a : List Arrival). lines_of r (chunks usual_wait 0 a r.source)) h.1.arrivals
     ∙ all_written r (chunks usual_wait 0 past r.source))
     (e first (asked_of r) r.source h.0 h.2)
+
+-- how many packets of text came
+pub arrivals_written : (r : ReadRequest) (ear : Ear) (first lines : Lines) (came : List Item) → HasWrittenOf r first ear lines came → arrival_count ear ≡ length (arrivals_after r.ssrc r.pts [] came)
+arrivals_written r ear first lines came h = h.2.1.1.hears.tracks.follows.arrivals ∙ ap (λ (a : List Arrival). length a) h.1.arrivals

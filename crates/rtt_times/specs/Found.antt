@@ -1,5 +1,5 @@
 -- What is told of all that was found in a recording.
-use Rattle.std.specs.Prelude.{◌≡◌, ℕ, ◌<◌, ◌^◌, Option, None, Some, List, [], ◌∷◌, ◌++◌, length, map, flat_map, All}
+use Rattle.std.specs.Prelude.{◌≡◌, ℕ, ◌<◌, ◌^◌, Option, None, Some, List, [], ◌++◌, length, map, flat_map, All}
 use Rattle.std.specs.List.{sum}
 use Rattle.rtt_base.specs.declared.text_packets.Pts.{Pts}
 use Rattle.wire_spec.specs.Dump.{Item, arrivals_after}

@@ -3,5 +3,4 @@ pub mod Writing
 pub mod Heard
 pub mod Numbers
 pub mod Found
-pub mod Heads
-pub mod Openings
+pub mod Rows

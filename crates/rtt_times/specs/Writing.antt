@@ -1,5 +1,5 @@
 -- What was written of the texts of a source whose packets come one after another.
-use Rattle.std.specs.Prelude.{◌≡◌, ℕ, List, [], map, flat_map}
+use Rattle.std.specs.Prelude.{◌≡◌, ℕ, List, [], length, map, flat_map}
 use Rattle.wire_spec.specs.Packets.{Arrival}
 use Rattle.wire_spec.specs.Dump.{Item, arrivals_after}
 use Rattle.stream_spec.specs.Ready.{Chunk}
@@ -66,3 +66,7 @@ WritesRecords r octets before old after new = (first : Lines) → HasWrittenOf r
 -- the lines of the source were added, of the stream with these records
 abbrev pub AddsSource : ReadRequest → List ℕ → Lines → Lines → Type 0
 AddsSource r octets old new = OfRecords octets (λ came. Adds old (map written (source_lines r.ssrc (arrivals_after r.ssrc r.pts [] came) r.source)) new)
+
+-- so many of these records are packets of text of the stream
+abbrev pub HasArrivals : ReadRequest → List ℕ → ℕ → Type 0
+HasArrivals r octets n = OfRecords octets (λ came. n ≡ length (arrivals_after r.ssrc r.pts [] came))

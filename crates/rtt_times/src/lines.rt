@@ -5,8 +5,8 @@ ghost use Rattle.view_spec.specs.Views.{printed_line};
 ghost use Rattle.times_spec.specs.Times.{LostRow, LateNumber, name_of, on_wire, told_text};
 ghost use Rattle.rtt_times.specs.Lines.{Adds, AddsText, AreEarly, IsTimed, Keeps, KeepsFrom, LiesIn, Sorts, said_line, timed_line, written};
 
-use crate::clock::{append_day_line, append_time, day_of};
 use itoa::Buffer;
+use recording_starts::{append_day_line, append_time, day_of};
 use rtt_base::{Bytes, Chunk, NoMemory};
 use rtt_script::append_escaped;
 use std::alloc::Global;

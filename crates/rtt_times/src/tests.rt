@@ -1,4 +1,5 @@
-use crate::{Opened, times_recording};
+use crate::times_recording;
+use recording_starts::Opened;
 use rtpdump_io::{DumpReader, RecordingFault};
 use rtt_base::{Bytes, NoMemory, Pts};
 use rtt_io::SteadySource;
@@ -40,6 +41,10 @@ const WITH_A_GAP: [u8; 148] =
 // Without redundancy: the numbers 10, 13 and 12 at 0, 100 and 1500 ms.
 const LATE: [u8; 63] =
     *b"\0\x15\0\x0D\0\0\0\0\x80b\0\x0A\0\0\0\0\0\0\x03\xE9a\0\x15\0\x0D\0\0\0d\x80b\0\x0D\0\0\0d\0\0\x03\xE9d\0\x15\0\x0D\0\0\x05\xDC\x80b\0\x0C\0\0\x05\xDC\0\0\x03\xE9c";
+
+// The numbers 10, 11 and 12 at 0, 100 and 200 ms; the text of the second is not UTF-8.
+const NOT_ALL_TEXT: [u8; 63] =
+    *b"\0\x15\0\x0D\0\0\0\0\x80b\0\x0A\0\0\0\0\0\0\x03\xE9a\0\x15\0\x0D\0\0\0d\x80b\0\x0B\0\0\0d\0\0\x03\xE9\xFF\0\x15\0\x0D\0\0\0\xC8\x80b\0\x0C\0\0\0\xC8\0\0\x03\xE9c";
 
 // Another stream has one text at 300 ms.
 const OTHER: [u8; 21] = *b"\0\x15\0\x0D\0\0\x01,\x80b\0\x01\0\0\x01,\0\0\0\x07x";
@@ -99,6 +104,13 @@ fn what_came_late_was_not_lost(rt: HostRuntime) -> Result<(), Fail> {
     let text =
         "-- began 1970-01-01 00:00:00.000\n00:00:00.000 1001 a\n00:00:01.100 1001 lost 11\n00:00:01.100 1001 \u{FFFD}\n00:00:01.100 1001 d\n00:00:01.500 1001 late 12\n-- whole\n";
     expect_printed(&rt, rt.alloc(), AT_NO_TIME, &[&LATE], text)
+}
+
+#[test]
+fn what_is_no_text_leaves_a_number_out(rt: HostRuntime) -> Result<(), Fail> {
+    let text =
+        "-- began 1970-01-01 00:00:00.000\n00:00:00.000 1001 a\n00:00:01.200 1001 lost 11\n00:00:01.200 1001 \u{FFFD}\n00:00:01.200 1001 c\n-- whole\n";
+    expect_printed(&rt, rt.alloc(), AT_NO_TIME, &[&NOT_ALL_TEXT], text)
 }
 
 #[test]

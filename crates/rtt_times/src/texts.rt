@@ -3,7 +3,7 @@ ghost use Rattle.std.specs.Prelude.{◌≡◌, ◌+◌, ◌≤◌, ◌<◌, Bool
 ghost use Rattle.rtpdump_io.specs.InMemory.{HasRecords};
 ghost use Rattle.ear.specs.Hears.{IsGiving, arrival_count, is_finished, is_quiet};
 ghost use Rattle.rtt_times.specs.Lines.{name_before};
-ghost use Rattle.rtt_times.specs.Writing.{AddsSource, BeginsWriting, UnderName, WritesEnd, WritesPacket, WritesReady, WritesRecords};
+ghost use Rattle.rtt_times.specs.Writing.{AddsSource, BeginsWriting, HasArrivals, UnderName, WritesEnd, WritesPacket, WritesReady, WritesRecords};
 ghost use Rattle.rtt_base.specs.declared.limits.TheConstants.{END_OF_MOMENTS, MOST_ARRIVALS};
 
 use crate::lines::{Lines, append_name};
@@ -135,19 +135,23 @@ fn add_rest(
     add_heard(ear, name, chunk, lines)
 }
 
-/// Adds a line for each text of a source of the stream with these records.
+/// Adds a line for each text of a source of the stream with these records, and answers how many of them are packets of text of
+/// the stream.
 pub(crate) fn add_texts(
     alloc: Global,
     of: ReadRequest,
     records: &[u8],
     lines: &mut Lines,
-) -> Result<(), OutOfMemory>
+) -> Result<u64, OutOfMemory>
     requires { HasRecords records.now }
-    ensures { OnOk result (AddsSource of records.now lines.old lines.new) }
+    ensures source { OnOk result (AddsSource of records.now lines.old lines.new) }
+    ensures arrivals { IfOk result (λ arrivals. HasArrivals of records.now arrivals) }
 {
     let mut ear = ear_for(alloc, of)?;
     let mut chunk = Chunk::default();
     let name = name_of(alloc, of)?;
     add_records(&mut ear, records, name.as_slice(), &mut chunk, lines)?;
-    add_rest(&mut ear, name.as_slice(), &mut chunk, lines)
+    let arrivals = ear.arrivals();
+    add_rest(&mut ear, name.as_slice(), &mut chunk, lines)?;
+    Ok(arrivals)
 }

@@ -9,12 +9,13 @@ ghost use Rattle.times_spec.specs.Times.{timed_view};
 ghost use Rattle.rtt_times.specs.Found.{AddsTexts, AreFew, AreNumbered, AreTexted, HasNumbersAdded, IsFoundOf, IsPrintedOf, IsStream, IsTimedFrom, IsToldOf, NamesSources, sum_others};
 ghost use Rattle.rtt_times.specs.Lines.{AreEarly};
 
-use crate::clock::append_began;
 use crate::heard::{Heard, heard_of};
 use crate::lines::{Lines, append_decimal};
 use crate::numbers::add_numbers;
+use crate::rows::lines_in_rows;
 use crate::texts::add_texts;
 use command_spec::ReadRequest;
+use recording_starts::append_began;
 use rtpdump_io::{DumpFault, DumpReader, RecordingFault};
 use rtt_base::{Bytes, NoMemory, Pts};
 use rtt_io::Source;
@@ -36,7 +37,7 @@ fn add_sources(
     for index in 0..sources.len() {
         let source = sources[index];
         let of = ReadRequest { ssrc, source, pts };
-        add_texts(alloc, of, records, lines)?;
+        let _arrivals = add_texts(alloc, of, records, lines)?;
     }
     Ok(())
 }
@@ -148,8 +149,8 @@ fn append_lines(start: Option<u64>, lines: &Lines, out: &mut Bytes) -> Result<()
     }
 }
 
-/// The lines of all streams, in the order of their moments, and how many packets are of sources behind the 64th.
-fn lines_of(alloc: Global, found: &Found) -> Result<(Lines, u64), NoMemory>
+/// The lines of all streams, in the order of their moments, and how many packets are of sources behind the 64th, whatever came.
+fn any_lines_of(alloc: Global, found: &Found) -> Result<(Lines, u64), NoMemory>
     requires { IsFoundOf found.now }
     ensures told { IfOk result (λ told. IsToldOf found.now told.0 told.1) }
     ensures early { IfOk result (λ told. AreEarly told.0) }
@@ -160,6 +161,19 @@ fn lines_of(alloc: Global, found: &Found) -> Result<(Lines, u64), NoMemory>
     add_all_texts(alloc, found.pts, streams, named.as_slice(), &mut lines)?;
     lines.sort()?;
     Ok((lines, others_of(named.as_slice())))
+}
+
+/// The lines of all streams, in the order of their moments, and how many packets are of sources behind the 64th. Where the
+/// packets of each stream come in a row, their numbers need not be kept.
+fn lines_of(alloc: Global, found: &Found) -> Result<(Lines, u64), NoMemory>
+    requires { IsFoundOf found.now }
+    ensures told { IfOk result (λ told. IsToldOf found.now told.0 told.1) }
+    ensures early { IfOk result (λ told. AreEarly told.0) }
+{
+    match lines_in_rows(alloc, found)? {
+        Some(lines) => Ok((lines, 0)),
+        None => any_lines_of(alloc, found),
+    }
 }
 
 /// All that is printed, with the fault that ends the recording.

@@ -1,1 +1,2 @@
 pub mod ShowExamples
+pub mod Rows

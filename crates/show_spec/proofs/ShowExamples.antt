@@ -18,6 +18,8 @@ use Rattle.text_spec.specs.Characters.{class_of}
 use Rattle.text_spec.specs.Shown.{shown}
 use Rattle.view_spec.specs.Views.{source_view, counts_line}
 use Rattle.command_spec.specs.Showing.{other_lines, end_line, show_refusal}
+use Rattle.calendar.specs.Dates.{date_of}
+use Rattle.times_spec.specs.Times.{start_of, began_line, day_text, time_text}
 use Rattle.show_spec.specs.Showing.{show_view, stream_view, stream_title, pair_view, items_view}
 
 -- ---- recordings
@@ -64,37 +66,62 @@ of_noise octet = 0x80 ∷ 111 ∷ 0 ∷ 1 ∷ 0 ∷ 0 ∷ 0 ∷ 0 ∷ 0 ∷ 0 �
 abbrev noise : List (ℕ × List ℕ)
 noise = (0, of_noise 0xC3) ∷ (5, of_noise 0xC3) ∷ (10, of_noise 0x55) ∷ []
 
+-- a recording that has no record, with this start: seconds and microseconds
+abbrev head_alone : List ℕ → List ℕ
+head_alone start = codes "#!rtpplay1.0 127.0.0.1/5004\n" ++ start ++ 127 ∷ 0 ∷ 0 ∷ 1 ∷ 0x13 ∷ 0x8C ∷ 0 ∷ 0 ∷ []
+
+-- 5148180 seconds, and 1250999 microseconds, which are more than a second
+abbrev in_march : List ℕ
+in_march = 0 ∷ 0x4E ∷ 0x8E ∷ 0x14 ∷ 0 ∷ 0x13 ∷ 0x16 ∷ 0xB7 ∷ []
+
 -- ---- what is printed
 show_two : show_view types with_others
     ≡ codes "== 1001 from 0 to 900\n1001: AB\n-- 1001 bells 0\n-- packets 4 used 4 refused 0 foreign 0\n-- ssrc 7 type 0 packets 1\n-- rtcp 1\n-- whole\n"
-unfolding show_view items_view stream_view stream_title pair_view other_lines end_line source_view counts_line digits text_of text_of_short rtp rtp_of_header red headers_at texts_at dump records records_within dump_step opening shown class_of is_utf8 chars encode_utf8
+unfolding show_view start_of items_view stream_view stream_title pair_view other_lines end_line source_view counts_line digits text_of text_of_short rtp rtp_of_header red headers_at texts_at dump records records_within dump_step opening shown class_of is_utf8 chars encode_utf8
 show_two = refl
 
 -- without its last 13 octets, which are of the fourth packet
 show_cut : show_view types (take 153 two_letters)
     ≡ codes "== 1001 from 0 to 600\n1001: AB\n-- 1001 bells 0\n-- packets 3 used 3 refused 0 foreign 0\n-- byte 136: EndsInside\n"
-unfolding show_view items_view stream_view stream_title pair_view other_lines end_line source_view counts_line digits text_of text_of_short rtp rtp_of_header red headers_at texts_at dump records records_within dump_step opening shown class_of is_utf8 chars encode_utf8
+unfolding show_view start_of items_view stream_view stream_title pair_view other_lines end_line source_view counts_line digits text_of text_of_short rtp rtp_of_header red headers_at texts_at dump records records_within dump_step opening shown class_of is_utf8 chars encode_utf8
 show_cut = refl
 
 -- of those numbered 10, 13 and 12 the last comes 1400 ms behind the second: 11 was lost, and 12 is too late
 show_gaps : show_view types with_gaps
     ≡ codes "== 1001 from 0 to 1500 lost 1 late 1\n1001: a" ++ marker ++ codes "d\n-- 1001 bells 0\n-- packets 3 used 2 refused 0 foreign 0\n-- whole\n"
-unfolding show_view items_view stream_view stream_title pair_view other_lines end_line source_view counts_line digits text_of text_of_short rtp rtp_of_header red headers_at texts_at dump records records_within dump_step opening shown class_of is_utf8 chars encode_utf8
+unfolding show_view start_of items_view stream_view stream_title pair_view other_lines end_line source_view counts_line digits text_of text_of_short rtp rtp_of_header red headers_at texts_at dump records records_within dump_step opening shown class_of is_utf8 chars encode_utf8
 show_gaps = refl
 
 -- one of three payloads is text, and then one of two
 show_noise : show_view types (dump_written noise) ≡ codes "-- ssrc 7 type 111 packets 3\n-- whole\n"
-unfolding show_view items_view stream_view stream_title pair_view other_lines end_line source_view counts_line digits text_of text_of_short rtp rtp_of_header red headers_at texts_at dump records records_within dump_step opening shown class_of is_utf8 chars encode_utf8
+unfolding show_view start_of items_view stream_view stream_title pair_view other_lines end_line source_view counts_line digits text_of text_of_short rtp rtp_of_header red headers_at texts_at dump records records_within dump_step opening shown class_of is_utf8 chars encode_utf8
 show_noise = refl
 
 show_half : show_view types (dump_written (drop 1 noise)) ≡ codes "-- ssrc 7 type 111 packets 2 text\n-- whole\n"
-unfolding show_view items_view stream_view stream_title pair_view other_lines end_line source_view counts_line digits text_of text_of_short rtp rtp_of_header red headers_at texts_at dump records records_within dump_step opening shown class_of is_utf8 chars encode_utf8
+unfolding show_view start_of items_view stream_view stream_title pair_view other_lines end_line source_view counts_line digits text_of text_of_short rtp rtp_of_header red headers_at texts_at dump records records_within dump_step opening shown class_of is_utf8 chars encode_utf8
 show_half = refl
+
+-- the start is the last line
+show_start : show_view types (head_alone in_march ++ of_sound)
+    ≡ codes "-- ssrc 7 type 0 packets 1\n-- whole\n-- began 1970-03-01 14:03:01.250\n"
+unfolding show_view start_of began_line day_text time_text date_of items_view stream_view stream_title pair_view other_lines end_line source_view counts_line digits text_of text_of_short rtp rtp_of_header red headers_at texts_at dump records records_within dump_step opening shown class_of is_utf8 chars encode_utf8
+show_start = refl
+
+-- also where the recording breaks off, behind that
+show_cut_start : show_view types (head_alone in_march ++ 0 ∷ [])
+    ≡ codes "-- byte 44: EndsInside\n-- began 1970-03-01 14:03:01.250\n"
+unfolding show_view start_of began_line day_text time_text date_of items_view stream_view stream_title pair_view other_lines end_line source_view counts_line digits text_of text_of_short rtp rtp_of_header red headers_at texts_at dump records records_within dump_step opening shown class_of is_utf8 chars encode_utf8
+show_cut_start = refl
+
+-- the first millisecond of 1970 is no start
+show_no_start : show_view types (head_alone (0 ∷ 0 ∷ 0 ∷ 0 ∷ 0 ∷ 0 ∷ 3 ∷ 0xE7 ∷ [])) ≡ codes "-- whole\n"
+unfolding show_view start_of items_view other_lines end_line dump records records_within dump_step opening digits is_utf8 chars encode_utf8
+show_no_start = refl
 
 -- with other payload types all are of one pair, which may be red with texts of type 98 inside
 show_types : show_view (record { t140 = 96; red = 97 }) two_letters
     ≡ codes "-- ssrc 1001 type 100 packets 4 red of 98\n-- whole\n"
-unfolding show_view items_view stream_view stream_title pair_view other_lines end_line source_view counts_line digits text_of text_of_short rtp rtp_of_header red headers_at texts_at dump records records_within dump_step opening shown class_of is_utf8 chars encode_utf8
+unfolding show_view start_of items_view stream_view stream_title pair_view other_lines end_line source_view counts_line digits text_of text_of_short rtp rtp_of_header red headers_at texts_at dump records records_within dump_step opening shown class_of is_utf8 chars encode_utf8
 show_types = refl
 
 -- octets that don't begin as a recording does are refused, and no others

@@ -1,3 +1,4 @@
 pub mod Missed
 pub mod Guesses
 pub mod Showing
+pub mod Laws

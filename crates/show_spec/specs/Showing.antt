@@ -1,6 +1,6 @@
--- What `show` prints of a recording: what was typed in each stream of text, what else is there, and where the recording can't
--- be read further (profile). Each line ends with LF.
-use Rattle.std.specs.Prelude.{ℕ, ◌==◌, List, [], ◌++◌, length, flat_map, codes, decimal, if◌then◌else◌}
+-- What `show` prints of a recording: what was typed in each stream of text, what else is there, where the recording can't
+-- be read further, and when it began (profile). Each line ends with LF.
+use Rattle.std.specs.Prelude.{ℕ, ◌==◌, Option, None, Some, List, [], ◌++◌, length, flat_map, codes, decimal, if◌then◌else◌}
 use Rattle.rtt_base.specs.declared.text_packets.Pts.{Pts}
 use Rattle.wire_spec.specs.Dump.{Item, Recording, dump, usual_limit}
 use Rattle.stream_spec.specs.Numbering.{Numbered, numbered}
@@ -9,6 +9,7 @@ use Rattle.view_spec.specs.Views.{printed_line}
 use Rattle.command_spec.specs.Reading.{usual_wait}
 use Rattle.command_spec.specs.Streams.{ssrc_of, type_of, streams, stream, pairs, packets_of, sources}
 use Rattle.command_spec.specs.Showing.{hearing, least_time, greatest_time, hearing_view, other_lines, end_line}
+use Rattle.times_spec.specs.Times.{start_of, began_line}
 use Rattle.show_spec.specs.Missed.{lost_count, late_count}
 use Rattle.show_spec.specs.Guesses.{guess_line}
 
@@ -51,8 +52,13 @@ items_view pts items =
     ++ flat_map (λ pair. pair_view pair (packets_of pts pair items)) (pairs pts items).kept
     ++ other_lines pts items
 
-abbrev pub recording_view : Pts → Recording → List ℕ
-recording_view pts r = items_view pts r.items ++ end_line r.fault
+-- when it began, where it has a start, and that is not 0
+abbrev pub start_line : Option ℕ → List ℕ
+start_line None = []
+start_line (Some start) = if start == 0 then [] else began_line start
+
+abbrev pub recording_view : Pts → Option ℕ → Recording → List ℕ
+recording_view pts start r = items_view pts r.items ++ end_line r.fault ++ start_line start
 
 unfoldable pub show_view : Pts → List ℕ → List ℕ
-show_view pts octets = recording_view pts (dump usual_limit octets)
+show_view pts octets = recording_view pts (start_of octets) (dump usual_limit octets)

@@ -1,2 +1,4 @@
-//! What `show` prints of a recording. No code stands here.
+//! What `show` prints of a recording, and the law of its counts. No code stands here.
 #![tactic(auto)]
+
+pub mod laws;

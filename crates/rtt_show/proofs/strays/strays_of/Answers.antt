@@ -1,4 +1,4 @@
-use Rattle.std.proofs.Common.{ℕ, ◌+◌, List, [], Some, refl, sym, ◌∙◌, subst, arith, map}
+use Rattle.std.proofs.Common.{◌+◌, List, [], Some, refl, sym, subst, arith, map}
 use Rattle.wire_spec.specs.Packets.{Arrival}
 use Rattle.wire_spec.specs.Text.{text_of}
 use Rattle.wire_spec.specs.Dump.{Item, sent_item, arrivals_after}

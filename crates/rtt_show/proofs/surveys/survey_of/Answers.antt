@@ -1,4 +1,4 @@
-use Rattle.std.proofs.Common.{ℕ, ◌+◌, arith, subst}
+use Rattle.std.proofs.Common.{◌+◌, arith, subst}
 use Rattle.std.specs.Prelude.{Result}
 use Rattle.wire_spec.specs.declared.faults.TextFault.{TextFault}
 use Rattle.rtt_show.specs.declared.origins.Origin.{Origin}

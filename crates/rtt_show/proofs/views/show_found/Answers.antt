@@ -1,7 +1,8 @@
-use Rattle.std.proofs.Common.{List, sym, subst}
+use Rattle.std.proofs.Common.{ℕ, List, ◌++◌, ap, sym, subst, ◌∙◌}
 use Rattle.std.specs.Prelude.{All}
 use Rattle.command_spec.specs.Streams.{stream_of, pair_of}
 use Rattle.command_spec.specs.Showing.{end_line}
+use Rattle.show_spec.specs.Showing.{start_line}
 use Rattle.rtt_show.specs.declared.groups.Group.{Group}
 use Rattle.rtt_show.specs.declared.views.Shape.TheVariants.{Stream, Pair}
 use Rattle.rtt_show.specs.Whole.{IsGroupOf, AreShown, ends}
@@ -18,7 +19,9 @@ show_groups-requires-2 c = subst (All (IsGroupOf Pair)) (sym c.as_slice-2.ensure
 
 pub returns : goal.returns
 returns c = λ items few w.
-    all_shown c.args.found.now items (end_line (ends c.args.end)) c.new-out.result c.show_groups.new.out c.show_groups-2.new.out c.append_others.new.out c.append_end.new.out w few c.new-out.ensures
+    c.in_ok-append_start.ensures
+    ∙ ap (λ (xs : List ℕ). xs ++ start_line c.args.start)
+    (all_shown c.args.found.now items (end_line (ends c.args.end)) c.new-out.result c.show_groups.new.out c.show_groups-2.new.out c.append_others.new.out c.append_end.new.out w few c.new-out.ensures
     (subst (λ (gs : List Group). AreShown (Stream c.args.found.now.pts) gs c.new-out.result c.show_groups.new.out) c.as_slice.ensures.value c.in_ok-show_groups.ensures)
     (subst (λ (gs : List Group). AreShown Pair gs c.show_groups.new.out c.show_groups-2.new.out) c.as_slice-2.ensures.value c.in_ok-show_groups-2.ensures)
-    c.in_ok-append_others.ensures c.in_ok-append_end.ensures
+    c.in_ok-append_others.ensures c.in_ok-append_end.ensures)

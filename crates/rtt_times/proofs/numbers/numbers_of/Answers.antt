@@ -1,4 +1,4 @@
-use Rattle.std.proofs.Common.{map, take, arith, ◌∙◌, ap}
+use Rattle.std.proofs.Common.{map, arith, ◌∙◌, ap}
 use Rattle.std.proofs.lemmas.List.Sorted.{IsNonDecreasingBy-from_sort}
 use Rattle.rtt_times.proofs.Missing.{late_numbers}
 use Rattle.rtt_times.proofs.Telling.{take_over}

@@ -1,5 +1,4 @@
 use Rattle.std.proofs.Common.{◌≡◌}
-use Rattle.command_spec.specs.declared.requests.ReadRequest.{ReadRequest}
 use Rattle.ear.specs.Hears.{IsGiving, arrival_count, is_finished}
 use Rattle.rtt_times.specs.Writing.{UnderName}
 use Rattle.rtt_times.proofs.Writing.{WritesStill}

@@ -1,7 +1,6 @@
-use Rattle.std.proofs.Common.{◌≡◌, ℕ, List, ◌∷◌, [], ◌++◌, ◌+◌, ◌∙◌, arith, subst}
-use Rattle.wire_spec.specs.Dump.{Item, sent_item}
+use Rattle.std.proofs.Common.{ℕ, ◌∙◌, arith, subst}
 use Rattle.ear.specs.Hears.{arrival_count}
-use Rattle.rtpdump_io.proofs.Fronts.{left_less, some_left, front_none, front_more, front_all}
+use Rattle.rtpdump_io.proofs.Fronts.{left_less, front_none, front_more, front_all}
 use Rattle.rtt_times.specs.Writing.{HasWrittenOf, WritesPacket}
 use Rattle.rtt_times.proofs.Writing.{item_written}
 use Rattle.rtt_times.proofs.texts.add_records.Goals as goal

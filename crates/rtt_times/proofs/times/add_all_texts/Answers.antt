@@ -1,4 +1,4 @@
-use Rattle.std.proofs.Common.{◌<◌, ◌≤◌, ℕ, List, arith, length, subst}
+use Rattle.std.proofs.Common.{ℕ, List, arith, subst}
 use Rattle.rtt_times.specs.Found.{AddsTexts}
 use Rattle.rtt_times.proofs.Telling.{texted_end, texted_more}
 use Rattle.rtt_times.proofs.times.add_all_texts.Goals as goal

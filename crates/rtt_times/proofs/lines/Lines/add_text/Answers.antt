@@ -1,4 +1,4 @@
-use Rattle.std.proofs.Common.{ℕ, List, ◌++◌, refl, ap, arith, subst, ◌∙◌, length}
+use Rattle.std.proofs.Common.{ℕ, List, ◌++◌, refl, ap, arith, subst, ◌∙◌}
 use Rattle.stream_spec.specs.Ready.{chunk_of}
 use Rattle.rtt_times.specs.declared.lines.Lines.{Lines}
 use Rattle.rtt_times.specs.Lines.{KeepsFrom, said_line}

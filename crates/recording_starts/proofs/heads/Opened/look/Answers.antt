@@ -1,6 +1,6 @@
 use Rattle.std.proofs.Common.{◌≤◌, ◌∙◌, [], append-nil, arith, length, length-append, length-drop, length-take, sym, take}
 use Rattle.rtpdump_io.proofs.Pieces.{fills_more}
-use Rattle.rtt_times.proofs.heads.Opened.look.Goals as goal
+use Rattle.recording_starts.proofs.heads.Opened.look.Goals as goal
 
 pub loop-self-preserved : goal.loop-self-preserved
 loop-self-preserved g c =

@@ -1,6 +1,6 @@
 -- The front of a recording, which was read and is given again.
 use Rattle.std.specs.Prelude.{◌≡◌, ℕ, ◌⊎◌, List, [], ◌++◌, length, take, drop}
-use Rattle.rtt_times.specs.declared.heads.Opened.{Opened}
+use Rattle.recording_starts.specs.declared.heads.Opened.{Opened}
 
 module _ {S : Type 0} where
   -- what was read and is still to be given

@@ -7,7 +7,7 @@ use itoa::Buffer;
 use rtt_base::{Bytes, NoMemory};
 
 /// The day of a moment, both counted from the begin of 1970, the moment in milliseconds.
-pub(crate) fn day_of(moment: u64) -> u64
+pub fn day_of(moment: u64) -> u64
     ensures { result ≡ day_of moment }
 {
     moment / 86_400_000
@@ -30,7 +30,7 @@ fn append_two(number: u32, out: &mut Bytes) -> Result<(), NoMemory>
 
 /// Appends the time of day of a moment, and this octet.
 #[tactic(auto, unfolding(times_spec::specs::Times::time_text))]
-pub(crate) fn append_time(moment: u64, end: u8, out: &mut Bytes) -> Result<(), NoMemory>
+pub fn append_time(moment: u64, end: u8, out: &mut Bytes) -> Result<(), NoMemory>
     ensures { OnOk result (out.new ≡ out.old ++ (time_text moment ++ end ∷ [])) }
 {
     let hours = (moment / 3_600_000 % 24) as u32;
@@ -69,8 +69,8 @@ fn append_day(day: u64, out: &mut Bytes) -> Result<(), NoMemory>
     append_two(date.day, out)
 }
 
-/// Appends a line of the day, where it is another than before.
-pub(crate) fn append_day_line(before: u64, day: u64, out: &mut Bytes) -> Result<(), NoMemory>
+/// Appends a line of the day, where it is another than before: both are counted from the begin of 1970.
+pub fn append_day_line(before: u64, day: u64, out: &mut Bytes) -> Result<(), NoMemory>
     requires { day < 2 ^ 24 }
     ensures { OnOk result (out.new ≡ out.old ++ day_line before day) }
 {
@@ -82,9 +82,9 @@ pub(crate) fn append_day_line(before: u64, day: u64, out: &mut Bytes) -> Result<
     out.push(b'\n')
 }
 
-/// Appends the first line: when the recording began, in milliseconds since 1970.
+/// Appends a line that says when a recording began, in milliseconds since 1970.
 #[tactic(auto, unfolding(times_spec::specs::Times::began_line))]
-pub(crate) fn append_began(start: u64, out: &mut Bytes) -> Result<(), NoMemory>
+pub fn append_began(start: u64, out: &mut Bytes) -> Result<(), NoMemory>
     requires { start < 2 ^ 48 }
     ensures { OnOk result (out.new ≡ out.old ++ began_line start) }
 {

@@ -3,7 +3,7 @@ ghost use Rattle.std.specs.Prelude.{◌≡◌, ◌<◌, ◌≤◌, ◌^◌, ◌+
 ghost use Rattle.std.specs.Int.{w32, from_be_bytes};
 ghost use Rattle.wire_spec.specs.Dump.{past_line};
 ghost use Rattle.times_spec.specs.Times.{start_of};
-ghost use Rattle.rtt_times.specs.Openings.{behind_line};
+ghost use Rattle.recording_starts.specs.Openings.{behind_line};
 
 use rtt_base::Failed;
 use rtt_io::Source;
@@ -80,7 +80,7 @@ fn start_in(front: &[u8]) -> Option<u64>
 
 impl<S: Source> Opened<S> {
     ghost use Rattle.rtpdump_io.specs.Input.{CountsFaults};
-    ghost use Rattle.rtt_times.specs.Heads.{LooksAt, held, left_of};
+    ghost use Rattle.recording_starts.specs.Heads.{LooksAt, held, left_of};
 
     /// Looks at the first octets of a source, and tells when the recording began, in milliseconds since 1970, if its line and its
     /// head are there.
@@ -162,7 +162,7 @@ impl<S: Source> Opened<S> {
 }
 
 impl<S: Source> Source for Opened<S> {
-    ghost use Rattle.rtt_times.specs.Heads.{left_of};
+    ghost use Rattle.recording_starts.specs.Heads.{left_of};
 
     ghost tells = { S.tells };
 

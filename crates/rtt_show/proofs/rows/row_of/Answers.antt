@@ -1,0 +1,36 @@
+use Rattle.std.proofs.Common.{arith}
+use Rattle.rtt_show.specs.Rows.{IsRow}
+use Rattle.rtpdump_io.proofs.Fronts.{left_less, some_left, front_none, front_more, front_all}
+use Rattle.rtt_show.proofs.Rowing.{row_more}
+use Rattle.rtt_show.proofs.rows.row_of.Goals as goal
+
+pub loop-at-init : goal.loop-at-init
+loop-at-init c = record {
+  left = record { back = c.requires.0; left = c.requires.1; few = omega (arith, c.requires.1.few, c.none-row.ensures.packets) };
+  row = λ all a. front_none (IsRow c.none-row.result) c.args.records.now all c.none-row.ensures.nothing a;
+}
+
+pub take-requires : goal.take-requires
+take-requires c =
+    let e = some_left c.loop-at.rest.now c.in-Some.at c.in-Some.octets.now c.in-Some.more.now c.loop-at.row.packets c.in-Some.ensures.record c.in-Some.ensures.shorter c.loop-at.invariant.left in
+    omega (arith, e)
+
+pub loop-at-preserved : goal.loop-at-preserved
+loop-at-preserved c =
+    let i = c.loop-at.invariant in
+    let rest = c.loop-at.rest.now in
+    let at = c.in-Some.at in
+    let octets = c.in-Some.octets.now in
+    let more = c.in-Some.more.now in
+    let old = c.loop-at.row in
+    let new = c.take.new.self in
+    let m = c.take.ensures c.if-not-take.false in
+    record {
+      left = left_less rest at octets more old.packets new.packets c.in-Some.ensures.record c.in-Some.ensures.shorter (omega (arith, m.packets)) i.left;
+      row = λ all a.
+          front_more (IsRow old) (IsRow new) rest at octets more all c.in-Some.ensures.record c.in-Some.ensures.shorter
+          (row_more old new at octets c.in-Some-origin_of.origin c.in-Some-origin_of.ensures m) (i.row all a);
+    }
+
+pub returns : goal.returns
+returns c = λ all a. front_all (IsRow c.loop-at.row) c.loop-at.rest.now all c.in_default.ensures.record (c.loop-at.invariant.row all a)

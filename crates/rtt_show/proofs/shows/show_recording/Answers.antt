@@ -1,0 +1,12 @@
+use Rattle.std.proofs.Common.{◌∙◌, ap, sym}
+use Rattle.rtt_base.specs.declared.text_packets.Pts.{Pts}
+use Rattle.rtt_show.specs.Whole.{ends}
+use Rattle.show_spec.specs.Showing.{recording_view}
+use Rattle.rtt_show.proofs.shows.show_recording.Goals as goal
+
+pub returns-in-Ok-show_found-clause-shown : goal.returns-in-Ok-show_found-clause-shown
+returns-in-Ok-show_found-clause-shown g c = λ t.
+    let q = c.in-Ok.ensures.gathered in
+    c.in-Ok-show_found.ensures q.items q.few q.is_found
+    ∙ (ap (λ (p : Pts). recording_view p c.args.start (record { items = q.items; fault = ends c.in-Ok.end })) (c.gather.ensures.pts ∙ c.new-found.ensures.pts)
+    ∙ ap (recording_view c.args.pts c.args.start) (sym (q.is t)))
