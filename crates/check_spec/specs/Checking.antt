@@ -26,6 +26,7 @@ use Rattle.check_spec.specs.declared.forms.LineWord.TheVariants.{Other}
 use Rattle.check_spec.specs.declared.limits.TheConstants.{MOST_CHECKED_OCTETS, MOST_SHOWN_AT_BYTE, MOST_SHOWN_OCTETS}
 use Rattle.check_spec.specs.Forms.{foreign, form_of, has_mark, said, word_of}
 use Rattle.check_spec.specs.Sentences.{cascade_name, conf_sentence, dump_sentence, form_name, form_sentence, frame_sentence, mark_sentence, script_sentence, trunk_sentence}
+use Rattle.check_spec.specs.Told.{told_name}
 
 -- what is told, and whether the program takes the file
 pub record Report : Type 0 where
@@ -87,7 +88,7 @@ whole form count unit = whole_as (form_name form) count unit
 
 abbrev pub refused : FileForm → List ℕ → Refusal → List ℕ → List ℕ → Report
 refused form name refusal line sentence = record {
-  text = form_name form ++ (codes "\n" ++ (refusal_message name refusal ++ (line ++ (sentence ++ codes "\n"))));
+  text = form_name form ++ (codes "\n" ++ (refusal_message (told_name name) refusal ++ (line ++ (sentence ++ codes "\n"))));
   taken = false;
 }
 

@@ -1,11 +1,15 @@
--- What a file is (profile): by its first octets, or, where it is text, by its first line that says something and by its legs.
-use Rattle.std.specs.Prelude.{ℕ, ◌==◌, Bool, true, false, not, ◌&&◌, ◌||◌, nat_eq, if◌then◌else◌, List, [], ◌∷◌, Option, None, Some, find, drop, length, codes, bytes_eq}
+-- What a file is (profile): by its first octets, or, where it is text, by its first line that says something and by its legs; where some
+-- legs are over links and others over recordings, by the form in which it goes furthest.
+use Rattle.std.specs.Prelude.{ℕ, ◌==◌, Bool, true, false, not, ◌&&◌, ◌||◌, nat_eq, nat_lt, if◌then◌else◌, List, [], ◌∷◌, Option, None, Some, Result, Ok, Err, find, drop, length, codes, bytes_eq}
 use Rattle.std.specs.List.{list_any, starts_with}
 use Rattle.std.specs.Char.{is_ascii_digit}
 use Rattle.std.specs.Option.{option_map_or}
 use Rattle.std.specs.Str.{byte, is_utf8}
 use Rattle.std.specs.Str.Lines.{lines}
-use Rattle.file_spec.specs.Conf.{is_blank}
+use Rattle.file_spec.specs.declared.conf_lines.Form.{Form}
+use Rattle.file_spec.specs.declared.conf_lines.Form.TheVariants as of
+use Rattle.file_spec.specs.Conf.{Conf, conf, is_blank}
+use Rattle.file_spec.specs.Lines as file
 use Rattle.file_spec.specs.Lines.{words}
 use Rattle.file_spec.specs.Numbers.{is_number}
 use Rattle.check_spec.specs.declared.forms.FileForm.{FileForm}
@@ -49,10 +53,28 @@ abbrev pub is_of_conference : List (List ℕ) → Bool
 is_of_conference [] = false
 is_of_conference (w ∷ _) = is_conference_word w
 
--- a leg whose IN is a number, as a port is, or whose OUT has a colon, as an address with a port has
+-- the IN of a leg is a number, as a port is, or its OUT has a colon, as an address with a port has
+abbrev pub is_linked : List ℕ → List ℕ → Bool
+is_linked input output = is_number input || list_any (λ c. c == byte ":") output
+
+-- as many words as a leg has, with payload types or without: where a space stands in a name there are others
+abbrev pub has_leg_words : List (List ℕ) → Bool
+has_leg_words all = length all == 6 || length all == 8
+
+abbrev pub leg_is_linked : List (List ℕ) → Bool
+leg_is_linked (w ∷ _ ∷ _ ∷ _ ∷ input ∷ output ∷ _) = bytes_eq w (codes "leg") && is_linked input output
+leg_is_linked _ = false
+
+abbrev pub leg_is_recorded : List (List ℕ) → Bool
+leg_is_recorded (w ∷ _ ∷ _ ∷ _ ∷ input ∷ output ∷ _) = bytes_eq w (codes "leg") && not (is_linked input output)
+leg_is_recorded _ = false
+
+-- a leg over a link, and one over recordings
 abbrev pub is_of_link : List (List ℕ) → Bool
-is_of_link (w ∷ _ ∷ _ ∷ _ ∷ input ∷ output ∷ _) = bytes_eq w (codes "leg") && (is_number input || list_any (λ c. c == byte ":") output)
-is_of_link _ = false
+is_of_link all = has_leg_words all && leg_is_linked all
+
+abbrev pub is_of_recording : List (List ℕ) → Bool
+is_of_recording all = has_leg_words all && leg_is_recorded all
 
 -- what a line tells that begins with this word: of a packet, of what is asked beside the mixing, of a time or the turns, of anything
 abbrev pub packet_word : List ℕ → LineWord
@@ -64,7 +86,8 @@ packet_word w =
 abbrev pub service_word : List ℕ → LineWord
 service_word w =
     if bytes_eq w (codes "gone") then word.Gone
-    else (if bytes_eq w (codes "operator") then word.Operator else packet_word w)
+    else (if bytes_eq w (codes "operator") then word.Operator
+    else (if bytes_eq w (codes "record") then word.Record else packet_word w))
 
 abbrev pub time_word : List ℕ → LineWord
 time_word w =
@@ -93,16 +116,42 @@ abbrev pub first_said : List (List ℕ) → Option (List ℕ)
 first_said [] = None
 first_said (l ∷ more) = if is_blank l then first_said more else Some l
 
-abbrev pub conference_of : List (List ℕ) → FileForm
-conference_of all = if list_any (λ l. is_of_link (said l)) all then Links else Recordings
+-- the line of the first fault of a conference, where it has one
+abbrev pub line_refused : Result Conf file.Refusal → Option ℕ
+line_refused (Ok c) = None
+line_refused (Err r) = Some r.line
+
+abbrev pub fault_line : Form → List ℕ → Option ℕ
+fault_line form text = line_refused (conf form text)
+
+-- there is no fault in the lines up to this one
+abbrev pub is_right_to : ℕ → Option ℕ → Bool
+is_right_to line None = true
+is_right_to line (Some fault) = nat_lt line fault
+
+-- what has the one first fault goes further than what has the other
+abbrev pub goes_further : Option ℕ → Option ℕ → Bool
+goes_further fault None = false
+goes_further fault (Some line) = is_right_to line fault
+
+-- the form in which a conference goes furthest, which is that of recordings where it goes as far in both
+abbrev pub furthest : List ℕ → FileForm
+furthest text = if goes_further (fault_line of.Links text) (fault_line of.Files text) then Links else Recordings
+
+abbrev pub mixed_of : List ℕ → FileForm
+mixed_of text = if list_any (λ l. is_of_recording (said l)) (lines text) then furthest text else Links
+
+-- it is of links where its legs are, of recordings where none is over a link, and of the form in which it goes furthest where some are
+abbrev pub conference_of : List ℕ → FileForm
+conference_of text = if list_any (λ l. is_of_link (said l)) (lines text) then mixed_of text else Recordings
 
 -- a text that does not begin as a script does is a conference where it has a leg or a mixer
-abbrev pub other_text : List (List ℕ) → FileForm
-other_text all = if list_any (λ l. is_of_conference (said l)) all then conference_of all else Nothing
+abbrev pub other_text : List ℕ → FileForm
+other_text text = if list_any (λ l. is_of_conference (said l)) (lines text) then conference_of text else Nothing
 
-abbrev pub text_form : Option (List ℕ) → List (List ℕ) → FileForm
-text_form None all = Script
-text_form (Some l) all = if begins_with_moment l then Script else other_text all
+abbrev pub text_form : Option (List ℕ) → List ℕ → FileForm
+text_form None text = Script
+text_form (Some l) text = if begins_with_moment l then Script else other_text text
 
 -- ---- a file
 
@@ -123,4 +172,4 @@ form_of octets =
     else (if begins octets (codes "#!rtpplay1.0 ") then Recording
     else (if begins octets (0 ∷ []) then Frames
     else (if is_utf16 octets then Utf16
-    else text_form (first_said (lines (without_mark octets))) (lines (without_mark octets)))))
+    else text_form (first_said (lines (without_mark octets))) (without_mark octets))))

@@ -12,6 +12,8 @@ use Rattle.check_spec.specs.declared.forms.FileForm.{FileForm}
 use Rattle.check_spec.specs.declared.forms.FileForm.TheVariants as form
 use Rattle.check_spec.specs.declared.forms.LineWord.{LineWord}
 use Rattle.check_spec.specs.declared.forms.LineWord.TheVariants as word
+use Rattle.check_spec.specs.declared.ports.PortFault.{PortFault}
+use Rattle.check_spec.specs.declared.ports.PortFault.TheVariants as port
 
 -- what a file is
 abbrev pub form_name : FileForm → List ℕ
@@ -96,27 +98,29 @@ word_sentence of.Files word.Spacing = codes "a line begins with mixer, leg, gens
 word_sentence of.Files word.Wait = codes "a line begins with mixer, leg, gens, stay, tick, spacing, wait, turns, relabel, lose, delay or twice, in small letters, or with # as its first octet: correct the word, and part words by spaces, not by tabs"
 word_sentence of.Files word.Turns = codes "a line begins with mixer, leg, gens, stay, tick, spacing, wait, turns, relabel, lose, delay or twice, in small letters, or with # as its first octet: correct the word, and part words by spaces, not by tabs"
 word_sentence of.Files word.Relabel = codes "a line begins with mixer, leg, gens, stay, tick, spacing, wait, turns, relabel, lose, delay or twice, in small letters, or with # as its first octet: correct the word, and part words by spaces, not by tabs"
-word_sentence of.Files word.Gone = codes "a conference of recordings has no lines gone and operator: leave the line out"
-word_sentence of.Files word.Operator = codes "a conference of recordings has no lines gone and operator: leave the line out"
+word_sentence of.Files word.Gone = codes "a conference of recordings has no lines gone, operator and record: leave the line out"
+word_sentence of.Files word.Operator = codes "a conference of recordings has no lines gone, operator and record: leave the line out"
+word_sentence of.Files word.Record = codes "a conference of recordings has no lines gone, operator and record: leave the line out"
 word_sentence of.Files word.Lose = codes "a line begins with mixer, leg, gens, stay, tick, spacing, wait, turns, relabel, lose, delay or twice, in small letters, or with # as its first octet: correct the word, and part words by spaces, not by tabs"
 word_sentence of.Files word.Delay = codes "a line begins with mixer, leg, gens, stay, tick, spacing, wait, turns, relabel, lose, delay or twice, in small letters, or with # as its first octet: correct the word, and part words by spaces, not by tabs"
 word_sentence of.Files word.Twice = codes "a line begins with mixer, leg, gens, stay, tick, spacing, wait, turns, relabel, lose, delay or twice, in small letters, or with # as its first octet: correct the word, and part words by spaces, not by tabs"
 word_sentence of.Files word.Other = codes "a line begins with mixer, leg, gens, stay, tick, spacing, wait, turns, relabel, lose, delay or twice, in small letters, or with # as its first octet: correct the word, and part words by spaces, not by tabs"
 word_sentence of.Links word.Leg = codes "behind the name of a leg stands aware or unaware, in small letters"
-word_sentence of.Links word.Mixer = codes "a line begins with mixer, leg, gens, tick, spacing, wait, turns, relabel, gone or operator, in small letters, or with # as its first octet: correct the word, and part words by spaces, not by tabs"
-word_sentence of.Links word.Gens = codes "a line begins with mixer, leg, gens, tick, spacing, wait, turns, relabel, gone or operator, in small letters, or with # as its first octet: correct the word, and part words by spaces, not by tabs"
+word_sentence of.Links word.Mixer = codes "a line begins with mixer, leg, gens, tick, spacing, wait, turns, relabel, gone, operator or record, in small letters, or with # as its first octet: correct the word, and part words by spaces, not by tabs"
+word_sentence of.Links word.Gens = codes "a line begins with mixer, leg, gens, tick, spacing, wait, turns, relabel, gone, operator or record, in small letters, or with # as its first octet: correct the word, and part words by spaces, not by tabs"
 word_sentence of.Links word.Stay = codes "a conference of links has no lines stay, lose, delay and twice: leave the line out"
-word_sentence of.Links word.Tick = codes "a line begins with mixer, leg, gens, tick, spacing, wait, turns, relabel, gone or operator, in small letters, or with # as its first octet: correct the word, and part words by spaces, not by tabs"
-word_sentence of.Links word.Spacing = codes "a line begins with mixer, leg, gens, tick, spacing, wait, turns, relabel, gone or operator, in small letters, or with # as its first octet: correct the word, and part words by spaces, not by tabs"
-word_sentence of.Links word.Wait = codes "a line begins with mixer, leg, gens, tick, spacing, wait, turns, relabel, gone or operator, in small letters, or with # as its first octet: correct the word, and part words by spaces, not by tabs"
-word_sentence of.Links word.Turns = codes "a line begins with mixer, leg, gens, tick, spacing, wait, turns, relabel, gone or operator, in small letters, or with # as its first octet: correct the word, and part words by spaces, not by tabs"
-word_sentence of.Links word.Relabel = codes "a line begins with mixer, leg, gens, tick, spacing, wait, turns, relabel, gone or operator, in small letters, or with # as its first octet: correct the word, and part words by spaces, not by tabs"
-word_sentence of.Links word.Gone = codes "a line begins with mixer, leg, gens, tick, spacing, wait, turns, relabel, gone or operator, in small letters, or with # as its first octet: correct the word, and part words by spaces, not by tabs"
-word_sentence of.Links word.Operator = codes "a line begins with mixer, leg, gens, tick, spacing, wait, turns, relabel, gone or operator, in small letters, or with # as its first octet: correct the word, and part words by spaces, not by tabs"
+word_sentence of.Links word.Tick = codes "a line begins with mixer, leg, gens, tick, spacing, wait, turns, relabel, gone, operator or record, in small letters, or with # as its first octet: correct the word, and part words by spaces, not by tabs"
+word_sentence of.Links word.Spacing = codes "a line begins with mixer, leg, gens, tick, spacing, wait, turns, relabel, gone, operator or record, in small letters, or with # as its first octet: correct the word, and part words by spaces, not by tabs"
+word_sentence of.Links word.Wait = codes "a line begins with mixer, leg, gens, tick, spacing, wait, turns, relabel, gone, operator or record, in small letters, or with # as its first octet: correct the word, and part words by spaces, not by tabs"
+word_sentence of.Links word.Turns = codes "a line begins with mixer, leg, gens, tick, spacing, wait, turns, relabel, gone, operator or record, in small letters, or with # as its first octet: correct the word, and part words by spaces, not by tabs"
+word_sentence of.Links word.Relabel = codes "a line begins with mixer, leg, gens, tick, spacing, wait, turns, relabel, gone, operator or record, in small letters, or with # as its first octet: correct the word, and part words by spaces, not by tabs"
+word_sentence of.Links word.Gone = codes "a line begins with mixer, leg, gens, tick, spacing, wait, turns, relabel, gone, operator or record, in small letters, or with # as its first octet: correct the word, and part words by spaces, not by tabs"
+word_sentence of.Links word.Operator = codes "a line begins with mixer, leg, gens, tick, spacing, wait, turns, relabel, gone, operator or record, in small letters, or with # as its first octet: correct the word, and part words by spaces, not by tabs"
+word_sentence of.Links word.Record = codes "a line begins with mixer, leg, gens, tick, spacing, wait, turns, relabel, gone, operator or record, in small letters, or with # as its first octet: correct the word, and part words by spaces, not by tabs"
 word_sentence of.Links word.Lose = codes "a conference of links has no lines stay, lose, delay and twice: leave the line out"
 word_sentence of.Links word.Delay = codes "a conference of links has no lines stay, lose, delay and twice: leave the line out"
 word_sentence of.Links word.Twice = codes "a conference of links has no lines stay, lose, delay and twice: leave the line out"
-word_sentence of.Links word.Other = codes "a line begins with mixer, leg, gens, tick, spacing, wait, turns, relabel, gone or operator, in small letters, or with # as its first octet: correct the word, and part words by spaces, not by tabs"
+word_sentence of.Links word.Other = codes "a line begins with mixer, leg, gens, tick, spacing, wait, turns, relabel, gone, operator or record, in small letters, or with # as its first octet: correct the word, and part words by spaces, not by tabs"
 
 -- the words are too few or too many
 abbrev pub count_sentence : LineWord → List ℕ
@@ -131,6 +135,7 @@ count_sentence word.Turns = codes "one number stands behind the word, and nothin
 count_sentence word.Relabel = codes "one number stands behind the word, and nothing else: a comment needs a line of its own"
 count_sentence word.Gone = codes "one number stands behind the word, and nothing else: a comment needs a line of its own"
 count_sentence word.Operator = codes "operator has the words PORT WORD, and no other"
+count_sentence word.Record = codes "record has the word PREFIX, and no other: no name has a space"
 count_sentence word.Lose = codes "lose has the words NAME K, and no other"
 count_sentence word.Delay = codes "delay has the words NAME K MS, and no other"
 count_sentence word.Twice = codes "twice has the words NAME K, and no other"
@@ -149,6 +154,7 @@ name_sentence word.Turns = codes "no leg above has this name: correct it, or mov
 name_sentence word.Relabel = codes "no leg above has this name: correct it, or move the line below that of the leg"
 name_sentence word.Gone = codes "no leg above has this name: correct it, or move the line below that of the leg"
 name_sentence word.Operator = codes "WORD has 8 to 64 letters A to Z and a to z and digits"
+name_sentence word.Record = codes "PREFIX has 1 to 255 octets"
 name_sentence word.Lose = codes "no leg above has this name: correct it, or move the line below that of the leg"
 name_sentence word.Delay = codes "no leg above has this name: correct it, or move the line below that of the leg"
 name_sentence word.Twice = codes "no leg above has this name: correct it, or move the line below that of the leg"
@@ -167,6 +173,7 @@ number_sentence of.Files word.Turns = codes "turns is a number from 1 to 5000000
 number_sentence of.Files word.Relabel = codes "relabel is a number of milliseconds from 2000 to 60000"
 number_sentence of.Files word.Gone = codes "gone is a number of milliseconds from 10000 to 86400000"
 number_sentence of.Files word.Operator = codes "PORT is a number from 1 to 65535"
+number_sentence of.Files word.Record = codes "the number of a packet is one from 0 to 4294967295"
 number_sentence of.Files word.Lose = codes "the number of a packet is one from 0 to 4294967295"
 number_sentence of.Files word.Delay = codes "the number of a packet is one from 0 to 4294967295, and MS one of milliseconds up to 60000"
 number_sentence of.Files word.Twice = codes "the number of a packet is one from 0 to 4294967295"
@@ -182,6 +189,7 @@ number_sentence of.Links word.Turns = codes "turns is a number from 1 to 5000000
 number_sentence of.Links word.Relabel = codes "relabel is a number of milliseconds from 2000 to 60000"
 number_sentence of.Links word.Gone = codes "gone is a number of milliseconds from 10000 to 86400000"
 number_sentence of.Links word.Operator = codes "PORT is a number from 1 to 65535"
+number_sentence of.Links word.Record = codes "the number of a packet is one from 0 to 4294967295"
 number_sentence of.Links word.Lose = codes "the number of a packet is one from 0 to 4294967295"
 number_sentence of.Links word.Delay = codes "the number of a packet is one from 0 to 4294967295, and MS one of milliseconds up to 60000"
 number_sentence of.Links word.Twice = codes "the number of a packet is one from 0 to 4294967295"
@@ -200,6 +208,7 @@ twice_sentence word.Turns = codes "a line above says it: leave one of them out"
 twice_sentence word.Relabel = codes "a line above says it: leave one of them out"
 twice_sentence word.Gone = codes "a line above says it: leave one of them out"
 twice_sentence word.Operator = codes "a line above says it: leave one of them out"
+twice_sentence word.Record = codes "a line above says it: leave one of them out"
 twice_sentence word.Lose = codes "a line above says it of this packet: leave one of them out"
 twice_sentence word.Delay = codes "a line above says it of this packet: leave one of them out"
 twice_sentence word.Twice = codes "a line above says it of this packet: leave one of them out"
@@ -218,6 +227,7 @@ clash_sentence of.Files word.Turns = codes "a leg above has this SSRC: give the 
 clash_sentence of.Files word.Relabel = codes "a leg above has this SSRC: give the mixer its own"
 clash_sentence of.Files word.Gone = codes "a leg above has this SSRC: give the mixer its own"
 clash_sentence of.Files word.Operator = codes "a leg above has this port: give the operator its own"
+clash_sentence of.Files word.Record = codes "a leg above has this SSRC: give the mixer its own"
 clash_sentence of.Files word.Lose = codes "a leg above has this SSRC: give the mixer its own"
 clash_sentence of.Files word.Delay = codes "a leg above has this SSRC: give the mixer its own"
 clash_sentence of.Files word.Twice = codes "a leg above has this SSRC: give the mixer its own"
@@ -233,6 +243,7 @@ clash_sentence of.Links word.Turns = codes "a leg above has this SSRC: give the 
 clash_sentence of.Links word.Relabel = codes "a leg above has this SSRC: give the mixer its own"
 clash_sentence of.Links word.Gone = codes "a leg above has this SSRC: give the mixer its own"
 clash_sentence of.Links word.Operator = codes "a leg above has this port: give the operator its own"
+clash_sentence of.Links word.Record = codes "a leg above has this SSRC: give the mixer its own"
 clash_sentence of.Links word.Lose = codes "a leg above has this SSRC: give the mixer its own"
 clash_sentence of.Links word.Delay = codes "a leg above has this SSRC: give the mixer its own"
 clash_sentence of.Links word.Twice = codes "a leg above has this SSRC: give the mixer its own"
@@ -269,3 +280,35 @@ mark_sentence = codes "the file begins with a byte order mark: save it as UTF-8 
 -- what is wrong with a leg behind another mixer
 abbrev pub trunk_sentence : List ℕ
 trunk_sentence = codes "the recording of another mixer has the payload types 98 and 100: leave them out of the line, or name another IN than trunk"
+
+-- ---- what is wrong with the IN of a leg
+
+-- a recording of the leg's has a fault
+abbrev pub input_dump_sentence : DumpKind → List ℕ
+input_dump_sentence dump.NotDump = dump_sentence dump.NotDump
+input_dump_sentence dump.BadLength = dump_sentence dump.BadLength
+input_dump_sentence dump.EndsInside = dump_sentence dump.EndsInside
+input_dump_sentence dump.TooLong = dump_sentence dump.TooLong
+input_dump_sentence dump.TooLarge = codes "an IN has at most 4194304 octets, and at most 1048576 where the conference has more than 16 legs: export the call in parts"
+input_dump_sentence dump.Read = dump_sentence dump.Read
+
+-- it is none
+abbrev pub input_sentence : FileForm → List ℕ
+input_sentence form.Gzip = form_sentence form.Gzip
+input_sentence form.Pcap = form_sentence form.Pcap
+input_sentence form.PcapNg = form_sentence form.PcapNg
+input_sentence form.TooLarge = form_sentence form.TooLarge
+input_sentence _ = codes "an IN is a recording, which begins with #!rtpplay1.0: send makes one of a script, and relay one of frames"
+
+-- it has other packets than those of the leg, or none
+abbrev pub stream_sentence : List ℕ
+stream_sentence = codes "no packet of the IN has the SSRC of the leg and one of its payload types: correct the line, or name another IN; list prints what it has"
+
+-- ---- what is wrong with the port of a leg
+
+abbrev pub port_sentence : PortFault → List ℕ
+port_sentence port.Taken = codes "another program has the port, or another call: end it, or name another port"
+port_sentence port.NoRight = codes "whoever runs the program may not have this port: name one from 1024 on"
+port_sentence port.NoAddress = codes "OUT is 127.0.0.1, another address of 127.0.0.0/8, or [::1], with a colon and a port from 1 to 65535 behind it: no name, and no other machine"
+port_sentence port.ManyFiles = codes "as many files are open as may be, and each leg takes three: raise the limit (ulimit -n), or end what has them"
+port_sentence port.Other = codes "the system does not give the port: try again, or name another port"

@@ -43,6 +43,7 @@ pub enum LineWord {
     Relabel,
     Gone,
     Operator,
+    Record,
     Lose,
     Delay,
     Twice,

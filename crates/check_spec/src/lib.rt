@@ -3,5 +3,9 @@
 
 mod forms;
 pub mod limits;
+mod ports;
+mod streams;
 
 pub use forms::{FileForm, LineWord};
+pub use ports::PortFault;
+pub use streams::Stream;

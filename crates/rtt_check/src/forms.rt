@@ -1,10 +1,12 @@
 //! What a file is.
 ghost use Rattle.std.specs.Prelude.{◌≡◌, IfOk};
 ghost use Rattle.std.specs.Str.Lines.{lines};
-ghost use Rattle.check_spec.specs.Forms.{begins, conference_of, first_said, foreign, form_of, has_mark, is_utf16, other_text, text_form, without_mark};
+ghost use Rattle.check_spec.specs.Forms.{begins, conference_of, fault_line, first_said, foreign, form_of, furthest, goes_further, has_mark, is_right_to, is_utf16, mixed_of, other_text, text_form, without_mark};
 
-use crate::lines::{begins_with_moment, first_said, has_conference, has_link};
+use crate::lines::{begins_with_moment, first_said, has_conference, has_link, has_recording};
 use check_spec::FileForm;
+use conf_text::{ConfFault, read_conf};
+use file_spec::Form;
 use rtt_base::NoMemory;
 use std::alloc::Global;
 
@@ -56,18 +58,73 @@ fn is_utf16(octets: &[u8]) -> bool
     begins(octets, b"\xFF\xFE") || begins(octets, b"\xFE\xFF")
 }
 
-fn conference_of(alloc: Global, text: &[u8]) -> Result<FileForm, NoMemory>
-    ensures { IfOk result (λ form. form ≡ conference_of (lines text.now)) }
+/// The line of the first fault of a conference of this form.
+fn fault_line(alloc: Global, form: Form, text: &[u8]) -> Result<Option<u32>, NoMemory>
+    ensures { IfOk result (λ line. line ≡ fault_line form text.now) }
 {
-    if has_link(alloc, text)? {
+    match read_conf(alloc, text, form) {
+        Ok(_) => Ok(None),
+        Err(ConfFault::Refused { line, kind: _ }) => Ok(Some(line)),
+        Err(ConfFault::NoMemory) => Err(NoMemory),
+    }
+}
+
+/// Whether there is no fault in the lines up to this one.
+fn is_right_to(line: u32, fault: Option<u32>) -> bool
+    ensures { result ≡ is_right_to line fault }
+{
+    match fault {
+        None => true,
+        Some(fault) => line < fault,
+    }
+}
+
+/// Whether what has the one first fault goes further than what has the other.
+fn goes_further(fault: Option<u32>, other: Option<u32>) -> bool
+    ensures { result ≡ goes_further fault other }
+{
+    match other {
+        None => false,
+        Some(line) => is_right_to(line, fault),
+    }
+}
+
+/// The form in which a conference goes furthest.
+fn furthest(alloc: Global, text: &[u8]) -> Result<FileForm, NoMemory>
+    ensures { IfOk result (λ form. form ≡ furthest text.now) }
+{
+    let of_links = fault_line(alloc, Form::Links, text)?;
+    let of_files = fault_line(alloc, Form::Files, text)?;
+    if goes_further(of_links, of_files) {
         Ok(FileForm::Links)
     } else {
         Ok(FileForm::Recordings)
     }
 }
 
+/// A conference with a leg over a link.
+fn mixed_of(alloc: Global, text: &[u8]) -> Result<FileForm, NoMemory>
+    ensures { IfOk result (λ form. form ≡ mixed_of text.now) }
+{
+    if has_recording(alloc, text)? {
+        furthest(alloc, text)
+    } else {
+        Ok(FileForm::Links)
+    }
+}
+
+fn conference_of(alloc: Global, text: &[u8]) -> Result<FileForm, NoMemory>
+    ensures { IfOk result (λ form. form ≡ conference_of text.now) }
+{
+    if has_link(alloc, text)? {
+        mixed_of(alloc, text)
+    } else {
+        Ok(FileForm::Recordings)
+    }
+}
+
 fn other_text(alloc: Global, text: &[u8]) -> Result<FileForm, NoMemory>
-    ensures { IfOk result (λ form. form ≡ other_text (lines text.now)) }
+    ensures { IfOk result (λ form. form ≡ other_text text.now) }
 {
     if has_conference(alloc, text)? {
         conference_of(alloc, text)
@@ -77,7 +134,7 @@ fn other_text(alloc: Global, text: &[u8]) -> Result<FileForm, NoMemory>
 }
 
 fn text_form(alloc: Global, text: &[u8]) -> Result<FileForm, NoMemory>
-    ensures { IfOk result (λ form. form ≡ text_form (first_said (lines text.now)) (lines text.now)) }
+    ensures { IfOk result (λ form. form ≡ text_form (first_said (lines text.now)) text.now) }
 {
     match first_said(text) {
         None => Ok(FileForm::Script),

@@ -7,7 +7,7 @@ ghost use Rattle.file_spec.specs.Conf.{is_blank};
 ghost use Rattle.file_spec.specs.Lines.{words};
 ghost use Rattle.file_spec.specs.Numbers.{is_number};
 ghost use Rattle.check_spec.specs.Checking.{line_at, word_in};
-ghost use Rattle.check_spec.specs.Forms.{begins_with_moment, first_said, is_conference_word, is_of_conference, is_of_link, is_of_moment, line_word, packet_word, said, service_word, time_word, word_of};
+ghost use Rattle.check_spec.specs.Forms.{begins_with_moment, first_said, is_conference_word, is_of_conference, is_linked, is_of_link, is_of_moment, is_of_recording, has_leg_words, leg_is_linked, leg_is_recorded, line_word, packet_word, said, service_word, time_word, word_of};
 
 use check_spec::LineWord;
 use file_lines::{next_line, says_nothing, text_of};
@@ -105,15 +105,48 @@ fn has_colon(word: &str) -> bool
     word.as_bytes().iter().any(|octet| *octet == b':')
 }
 
+/// Whether the IN of a leg is a number, as a port is, or its OUT has a colon, as an address with a port has.
+fn is_linked(input: &str, output: &str) -> bool
+    ensures { result ≡ is_linked input.now output.now }
+{
+    is_port(input) || has_colon(output)
+}
+
+/// Whether these are as many words as a leg has.
+fn has_leg_words(words: &[&str]) -> bool
+    ensures { result ≡ has_leg_words (map (λ w. w.now) words.now) }
+{
+    words.len() == 6 || words.len() == 8
+}
+
+fn leg_is_linked(words: &[&str]) -> bool
+    ensures { result ≡ leg_is_linked (map (λ w. w.now) words.now) }
+{
+    match words {
+        [word, _, _, _, input, output, ..] => *word == "leg" && is_linked(input, output),
+        _ => false,
+    }
+}
+
+fn leg_is_recorded(words: &[&str]) -> bool
+    ensures { result ≡ leg_is_recorded (map (λ w. w.now) words.now) }
+{
+    match words {
+        [word, _, _, _, input, output, ..] => *word == "leg" && !is_linked(input, output),
+        _ => false,
+    }
+}
+
 fn is_of_link(words: &[&str]) -> bool
     ensures { result ≡ is_of_link (map (λ w. w.now) words.now) }
 {
-    match words {
-        [word, _, _, _, input, output, ..] => {
-            *word == "leg" && (is_port(input) || has_colon(output))
-        }
-        _ => false,
-    }
+    has_leg_words(words) && leg_is_linked(words)
+}
+
+fn is_of_recording(words: &[&str]) -> bool
+    ensures { result ≡ is_of_recording (map (λ w. w.now) words.now) }
+{
+    has_leg_words(words) && leg_is_recorded(words)
 }
 
 fn packet_word(word: &str) -> LineWord
@@ -133,6 +166,7 @@ fn service_word(word: &str) -> LineWord
     match word {
         "gone" => LineWord::Gone,
         "operator" => LineWord::Operator,
+        "record" => LineWord::Record,
         other => packet_word(other),
     }
 }
@@ -221,6 +255,21 @@ pub(crate) fn has_link(alloc: Global, octets: &[u8]) -> Result<bool, NoMemory>
     while let Some((line, after)) = next_line(rest) {
         let words = words_of(alloc, line)?;
         if is_of_link(words.as_slice()) {
+            return Ok(true);
+        }
+        rest = after;
+    }
+    Ok(false)
+}
+
+/// Whether a line has a leg over recordings.
+pub(crate) fn has_recording(alloc: Global, octets: &[u8]) -> Result<bool, NoMemory>
+    ensures { IfOk result (λ has. has ≡ list_any (λ l. is_of_recording (said l)) (lines octets.now)) }
+{
+    let mut rest = octets;
+    while let Some((line, after)) = next_line(rest) {
+        let words = words_of(alloc, line)?;
+        if is_of_recording(words.as_slice()) {
             return Ok(true);
         }
         rest = after;

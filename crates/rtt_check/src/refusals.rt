@@ -3,8 +3,10 @@ ghost use Rattle.std.specs.Prelude.{◌≡◌, ◌<◌, ◌++◌, drop, flat_map
 ghost use Rattle.command_spec.specs.declared.faults.Refusal.TheVariants.{AtByte, AtFrame, AtLine, AtTrunk};
 ghost use Rattle.command_spec.specs.Messages.{byte_message, line_message, refusal_message};
 ghost use Rattle.check_spec.specs.Checking.{hex_digit, hex_octet, shown, shown_at, shown_line, shown_octet, shown_octets};
+ghost use Rattle.check_spec.specs.Told.{told_name};
 
 use crate::names::{conf_kind_name, frame_kind_name};
+use crate::told::append_told;
 use check_spec::limits::{MOST_SHOWN_AT_BYTE, MOST_SHOWN_OCTETS};
 use command_spec::dump_kind_name;
 use file_spec::ConfKind;
@@ -14,11 +16,11 @@ use rtt_base::{Bytes, NoMemory};
 use wire_spec::DumpKind;
 
 /// Appends at which byte a file of this name is refused, and why.
-fn append_byte(text: &mut Bytes, name: &[u8], byte: u64, why: &[u8]) -> Result<(), NoMemory>
-    ensures { OnOk result (text.new ≡ text.old ++ byte_message name.now byte why.now) }
+fn append_byte(text: &mut Bytes, name: &str, byte: u64, why: &[u8]) -> Result<(), NoMemory>
+    ensures { OnOk result (text.new ≡ text.old ++ byte_message (told_name name.now) byte why.now) }
 {
     let mut digits = Buffer::new();
-    text.append(name)?;
+    append_told(text, name)?;
     text.append(b" byte ")?;
     text.append(digits.format(byte).as_bytes())?;
     text.append(b": ")?;
@@ -29,11 +31,11 @@ fn append_byte(text: &mut Bytes, name: &[u8], byte: u64, why: &[u8]) -> Result<(
 /// The same of a recording.
 pub(crate) fn append_dump(
     text: &mut Bytes,
-    name: &[u8],
+    name: &str,
     byte: u64,
     kind: DumpKind,
 ) -> Result<(), NoMemory>
-    ensures { OnOk result (text.new ≡ text.old ++ refusal_message name.now (AtByte byte kind)) }
+    ensures { OnOk result (text.new ≡ text.old ++ refusal_message (told_name name.now) (AtByte byte kind)) }
 {
     append_byte(text, name, byte, dump_kind_name(kind))
 }
@@ -41,21 +43,21 @@ pub(crate) fn append_dump(
 /// The same of frames.
 pub(crate) fn append_frame(
     text: &mut Bytes,
-    name: &[u8],
+    name: &str,
     byte: u64,
     kind: FrameKind,
 ) -> Result<(), NoMemory>
-    ensures { OnOk result (text.new ≡ text.old ++ refusal_message name.now (AtFrame byte kind)) }
+    ensures { OnOk result (text.new ≡ text.old ++ refusal_message (told_name name.now) (AtFrame byte kind)) }
 {
     append_byte(text, name, byte, frame_kind_name(kind))
 }
 
 /// Appends which line of a file of this name is refused, and the name of the reason.
-fn append_at_line(text: &mut Bytes, name: &[u8], line: u32, why: &[u8]) -> Result<(), NoMemory>
-    ensures { OnOk result (text.new ≡ text.old ++ line_message name.now line why.now) }
+fn append_at_line(text: &mut Bytes, name: &str, line: u32, why: &[u8]) -> Result<(), NoMemory>
+    ensures { OnOk result (text.new ≡ text.old ++ line_message (told_name name.now) line why.now) }
 {
     let mut digits = Buffer::new();
-    text.append(name)?;
+    append_told(text, name)?;
     text.append(b" line ")?;
     text.append(digits.format(line).as_bytes())?;
     text.append(b": ")?;
@@ -66,18 +68,18 @@ fn append_at_line(text: &mut Bytes, name: &[u8], line: u32, why: &[u8]) -> Resul
 /// The same of a script or a conference.
 pub(crate) fn append_line(
     text: &mut Bytes,
-    name: &[u8],
+    name: &str,
     line: u32,
     kind: ConfKind,
 ) -> Result<(), NoMemory>
-    ensures { OnOk result (text.new ≡ text.old ++ refusal_message name.now (AtLine line kind)) }
+    ensures { OnOk result (text.new ≡ text.old ++ refusal_message (told_name name.now) (AtLine line kind)) }
 {
     append_at_line(text, name, line, conf_kind_name(kind))
 }
 
 /// The same of a leg behind another mixer.
-pub(crate) fn append_trunk(text: &mut Bytes, name: &[u8], line: u32) -> Result<(), NoMemory>
-    ensures { OnOk result (text.new ≡ text.old ++ refusal_message name.now (AtTrunk line)) }
+pub(crate) fn append_trunk(text: &mut Bytes, name: &str, line: u32) -> Result<(), NoMemory>
+    ensures { OnOk result (text.new ≡ text.old ++ refusal_message (told_name name.now) (AtTrunk line)) }
 {
     append_at_line(text, name, line, b"Trunk")
 }

@@ -77,7 +77,7 @@ fn untaken(alloc: Global, form: FileForm) -> Result<Report, NoMemory>
 }
 
 /// What is told of a refusal begins with what the file is.
-fn begin(alloc: Global, form: FileForm) -> Result<Bytes, NoMemory>
+pub(crate) fn begin(alloc: Global, form: FileForm) -> Result<Bytes, NoMemory>
     ensures { IfOk result (λ text. text ≡ form_name form ++ codes "\n") }
 {
     let mut text = Bytes::new(alloc);
@@ -87,7 +87,7 @@ fn begin(alloc: Global, form: FileForm) -> Result<Bytes, NoMemory>
 }
 
 /// It ends with a sentence.
-fn end(mut text: Bytes, sentence: &[u8]) -> Result<Report, NoMemory>
+pub(crate) fn end(mut text: Bytes, sentence: &[u8]) -> Result<Report, NoMemory>
     ensures { IfOk result (λ report. (report.text ≡ text ++ (sentence.now ++ codes "\n")) × (report.taken ≡ false)) }
 {
     text.append(sentence)?;
@@ -95,7 +95,7 @@ fn end(mut text: Bytes, sentence: &[u8]) -> Result<Report, NoMemory>
     Ok(Report { text, taken: false })
 }
 
-fn copy_of(alloc: Global, octets: &[u8]) -> Result<Bytes, NoMemory>
+pub(crate) fn copy_of(alloc: Global, octets: &[u8]) -> Result<Bytes, NoMemory>
     ensures { IfOk result (λ copy. copy ≡ octets.now) }
 {
     let mut copy = Bytes::new(alloc);
@@ -106,7 +106,7 @@ fn copy_of(alloc: Global, octets: &[u8]) -> Result<Bytes, NoMemory>
 /// A recording that is refused.
 fn dump_refused(
     alloc: Global,
-    name: &[u8],
+    name: &str,
     octets: &[u8],
     fault: DumpFault,
 ) -> Result<Report, NoMemory>
@@ -119,7 +119,7 @@ fn dump_refused(
     end(text, dump_sentence(fault.kind))
 }
 
-fn recording_report(alloc: Global, name: &[u8], octets: &[u8]) -> Result<Report, NoMemory>
+fn recording_report(alloc: Global, name: &str, octets: &[u8]) -> Result<Report, NoMemory>
     ensures { IfOk result (λ report. as_told report ≡ checking.recording_report name.now octets.now) }
 {
     let copy = copy_of(alloc, octets)?;
@@ -146,7 +146,7 @@ fn unless_mark<'a>(octets: &[u8], sentence: &'a [u8]) -> &'a [u8]
 fn line_refused(
     alloc: Global,
     form: FileForm,
-    name: &[u8],
+    name: &str,
     octets: &[u8],
     line: u32,
     kind: ConfKind,
@@ -163,7 +163,7 @@ fn line_refused(
 
 fn script_refused(
     alloc: Global,
-    name: &[u8],
+    name: &str,
     octets: &[u8],
     line: u32,
     kind: ConfKind,
@@ -177,7 +177,7 @@ fn script_refused(
 /// A script all of whose lines are lines, of which one may be full.
 fn script_sent(
     alloc: Global,
-    name: &[u8],
+    name: &str,
     octets: &[u8],
     script: &Script,
 ) -> Result<Report, NoMemory>
@@ -193,7 +193,7 @@ fn script_sent(
     }
 }
 
-fn script_report(alloc: Global, name: &[u8], octets: &[u8]) -> Result<Report, NoMemory>
+fn script_report(alloc: Global, name: &str, octets: &[u8]) -> Result<Report, NoMemory>
     ensures { IfOk result (λ report. as_told report ≡ checking.script_report name.now octets.now) }
 {
     match read_script(alloc, octets) {
@@ -239,7 +239,7 @@ fn recordings_name(legs: &[LegLine]) -> &'static [u8]
 fn trunk_refused(
     alloc: Global,
     form: FileForm,
-    name: &[u8],
+    name: &str,
     octets: &[u8],
     line: u32,
     sentence: &[u8],
@@ -256,7 +256,7 @@ fn trunk_refused(
 /// A conference of recordings that is whole, unless it is wrong for `cascade`.
 fn unless_odd(
     alloc: Global,
-    name: &[u8],
+    name: &str,
     octets: &[u8],
     legs: &[LegLine],
 ) -> Result<Report, NoMemory>
@@ -275,7 +275,7 @@ fn unless_odd(
 fn conf_whole(
     alloc: Global,
     form: Form,
-    name: &[u8],
+    name: &str,
     octets: &[u8],
     legs: &[LegLine],
 ) -> Result<Report, NoMemory>
@@ -287,7 +287,7 @@ fn conf_whole(
     }
 }
 
-fn conf_report(alloc: Global, form: Form, name: &[u8], octets: &[u8]) -> Result<Report, NoMemory>
+fn conf_report(alloc: Global, form: Form, name: &str, octets: &[u8]) -> Result<Report, NoMemory>
     ensures { IfOk result (λ report. as_told report ≡ checking.conf_report form name.now octets.now) }
 {
     match read_conf(alloc, octets, form) {
@@ -304,7 +304,7 @@ fn conf_report(alloc: Global, form: Form, name: &[u8], octets: &[u8]) -> Result<
 /// Frames that are refused.
 fn frame_refused(
     alloc: Global,
-    name: &[u8],
+    name: &str,
     octets: &[u8],
     fault: FrameFault,
 ) -> Result<Report, NoMemory>
@@ -317,7 +317,7 @@ fn frame_refused(
     end(text, frame_sentence(fault.kind))
 }
 
-fn frames_report(alloc: Global, name: &[u8], octets: &[u8]) -> Result<Report, NoMemory>
+fn frames_report(alloc: Global, name: &str, octets: &[u8]) -> Result<Report, NoMemory>
     ensures { IfOk result (λ report. as_told report ≡ checking.frames_report name.now octets.now) }
 {
     match relay_frames(alloc, octets, usual_conf(0, 0, 0)) {
@@ -327,7 +327,7 @@ fn frames_report(alloc: Global, name: &[u8], octets: &[u8]) -> Result<Report, No
     }
 }
 
-fn report_as(alloc: Global, form: FileForm, name: &[u8], octets: &[u8]) -> Result<Report, NoMemory>
+fn report_as(alloc: Global, form: FileForm, name: &str, octets: &[u8]) -> Result<Report, NoMemory>
     ensures { IfOk result (λ report. as_told report ≡ checking.report_as form name.now octets.now) }
 {
     match form {
@@ -347,7 +347,7 @@ fn report_as(alloc: Global, form: FileForm, name: &[u8], octets: &[u8]) -> Resul
 }
 
 /// What is told of a file of this name that has these octets, alone.
-pub fn report_of(alloc: Global, name: &[u8], octets: &[u8]) -> Result<Report, NoMemory>
+pub fn report_of(alloc: Global, name: &str, octets: &[u8]) -> Result<Report, NoMemory>
     ensures { IfOk result (λ report. as_told report ≡ checking.report name.now octets.now) }
 {
     if let Some(form) = foreign(octets) {

@@ -1,8 +1,8 @@
 //! What is wrong with a file, and what to do.
 ghost use Rattle.std.specs.Prelude.{◌≡◌};
-ghost use Rattle.check_spec.specs.Sentences.{clash_sentence, conf_sentence, count_sentence, dump_sentence, form_name, form_sentence, frame_sentence, many_sentence, name_sentence, number_sentence, script_sentence, trunk_sentence, twice_sentence, word_sentence};
+ghost use Rattle.check_spec.specs.Sentences.{clash_sentence, conf_sentence, count_sentence, dump_sentence, form_name, form_sentence, frame_sentence, input_dump_sentence, input_sentence, many_sentence, name_sentence, number_sentence, port_sentence, script_sentence, trunk_sentence, twice_sentence, word_sentence};
 
-use check_spec::{FileForm, LineWord};
+use check_spec::{FileForm, LineWord, PortFault};
 use file_spec::{ConfKind, Form};
 use frame_spec::FrameKind;
 use wire_spec::DumpKind;
@@ -143,9 +143,11 @@ fn word_sentence(form: Form, word: LineWord) -> &'static [u8]
         (Form::Files, LineWord::Relabel) =>
             b"a line begins with mixer, leg, gens, stay, tick, spacing, wait, turns, relabel, lose, delay or twice, in small letters, or with # as its first octet: correct the word, and part words by spaces, not by tabs",
         (Form::Files, LineWord::Gone) =>
-            b"a conference of recordings has no lines gone and operator: leave the line out",
+            b"a conference of recordings has no lines gone, operator and record: leave the line out",
         (Form::Files, LineWord::Operator) =>
-            b"a conference of recordings has no lines gone and operator: leave the line out",
+            b"a conference of recordings has no lines gone, operator and record: leave the line out",
+        (Form::Files, LineWord::Record) =>
+            b"a conference of recordings has no lines gone, operator and record: leave the line out",
         (Form::Files, LineWord::Lose) =>
             b"a line begins with mixer, leg, gens, stay, tick, spacing, wait, turns, relabel, lose, delay or twice, in small letters, or with # as its first octet: correct the word, and part words by spaces, not by tabs",
         (Form::Files, LineWord::Delay) =>
@@ -157,25 +159,27 @@ fn word_sentence(form: Form, word: LineWord) -> &'static [u8]
         (Form::Links, LineWord::Leg) =>
             b"behind the name of a leg stands aware or unaware, in small letters",
         (Form::Links, LineWord::Mixer) =>
-            b"a line begins with mixer, leg, gens, tick, spacing, wait, turns, relabel, gone or operator, in small letters, or with # as its first octet: correct the word, and part words by spaces, not by tabs",
+            b"a line begins with mixer, leg, gens, tick, spacing, wait, turns, relabel, gone, operator or record, in small letters, or with # as its first octet: correct the word, and part words by spaces, not by tabs",
         (Form::Links, LineWord::Gens) =>
-            b"a line begins with mixer, leg, gens, tick, spacing, wait, turns, relabel, gone or operator, in small letters, or with # as its first octet: correct the word, and part words by spaces, not by tabs",
+            b"a line begins with mixer, leg, gens, tick, spacing, wait, turns, relabel, gone, operator or record, in small letters, or with # as its first octet: correct the word, and part words by spaces, not by tabs",
         (Form::Links, LineWord::Stay) =>
             b"a conference of links has no lines stay, lose, delay and twice: leave the line out",
         (Form::Links, LineWord::Tick) =>
-            b"a line begins with mixer, leg, gens, tick, spacing, wait, turns, relabel, gone or operator, in small letters, or with # as its first octet: correct the word, and part words by spaces, not by tabs",
+            b"a line begins with mixer, leg, gens, tick, spacing, wait, turns, relabel, gone, operator or record, in small letters, or with # as its first octet: correct the word, and part words by spaces, not by tabs",
         (Form::Links, LineWord::Spacing) =>
-            b"a line begins with mixer, leg, gens, tick, spacing, wait, turns, relabel, gone or operator, in small letters, or with # as its first octet: correct the word, and part words by spaces, not by tabs",
+            b"a line begins with mixer, leg, gens, tick, spacing, wait, turns, relabel, gone, operator or record, in small letters, or with # as its first octet: correct the word, and part words by spaces, not by tabs",
         (Form::Links, LineWord::Wait) =>
-            b"a line begins with mixer, leg, gens, tick, spacing, wait, turns, relabel, gone or operator, in small letters, or with # as its first octet: correct the word, and part words by spaces, not by tabs",
+            b"a line begins with mixer, leg, gens, tick, spacing, wait, turns, relabel, gone, operator or record, in small letters, or with # as its first octet: correct the word, and part words by spaces, not by tabs",
         (Form::Links, LineWord::Turns) =>
-            b"a line begins with mixer, leg, gens, tick, spacing, wait, turns, relabel, gone or operator, in small letters, or with # as its first octet: correct the word, and part words by spaces, not by tabs",
+            b"a line begins with mixer, leg, gens, tick, spacing, wait, turns, relabel, gone, operator or record, in small letters, or with # as its first octet: correct the word, and part words by spaces, not by tabs",
         (Form::Links, LineWord::Relabel) =>
-            b"a line begins with mixer, leg, gens, tick, spacing, wait, turns, relabel, gone or operator, in small letters, or with # as its first octet: correct the word, and part words by spaces, not by tabs",
+            b"a line begins with mixer, leg, gens, tick, spacing, wait, turns, relabel, gone, operator or record, in small letters, or with # as its first octet: correct the word, and part words by spaces, not by tabs",
         (Form::Links, LineWord::Gone) =>
-            b"a line begins with mixer, leg, gens, tick, spacing, wait, turns, relabel, gone or operator, in small letters, or with # as its first octet: correct the word, and part words by spaces, not by tabs",
+            b"a line begins with mixer, leg, gens, tick, spacing, wait, turns, relabel, gone, operator or record, in small letters, or with # as its first octet: correct the word, and part words by spaces, not by tabs",
         (Form::Links, LineWord::Operator) =>
-            b"a line begins with mixer, leg, gens, tick, spacing, wait, turns, relabel, gone or operator, in small letters, or with # as its first octet: correct the word, and part words by spaces, not by tabs",
+            b"a line begins with mixer, leg, gens, tick, spacing, wait, turns, relabel, gone, operator or record, in small letters, or with # as its first octet: correct the word, and part words by spaces, not by tabs",
+        (Form::Links, LineWord::Record) =>
+            b"a line begins with mixer, leg, gens, tick, spacing, wait, turns, relabel, gone, operator or record, in small letters, or with # as its first octet: correct the word, and part words by spaces, not by tabs",
         (Form::Links, LineWord::Lose) =>
             b"a conference of links has no lines stay, lose, delay and twice: leave the line out",
         (Form::Links, LineWord::Delay) =>
@@ -183,7 +187,7 @@ fn word_sentence(form: Form, word: LineWord) -> &'static [u8]
         (Form::Links, LineWord::Twice) =>
             b"a conference of links has no lines stay, lose, delay and twice: leave the line out",
         (Form::Links, LineWord::Other) =>
-            b"a line begins with mixer, leg, gens, tick, spacing, wait, turns, relabel, gone or operator, in small letters, or with # as its first octet: correct the word, and part words by spaces, not by tabs",
+            b"a line begins with mixer, leg, gens, tick, spacing, wait, turns, relabel, gone, operator or record, in small letters, or with # as its first octet: correct the word, and part words by spaces, not by tabs",
     }
 }
 
@@ -211,6 +215,7 @@ fn count_sentence(word: LineWord) -> &'static [u8]
         LineWord::Gone =>
             b"one number stands behind the word, and nothing else: a comment needs a line of its own",
         LineWord::Operator => b"operator has the words PORT WORD, and no other",
+        LineWord::Record => b"record has the word PREFIX, and no other: no name has a space",
         LineWord::Lose => b"lose has the words NAME K, and no other",
         LineWord::Delay => b"delay has the words NAME K MS, and no other",
         LineWord::Twice => b"twice has the words NAME K, and no other",
@@ -245,6 +250,7 @@ fn name_sentence(word: LineWord) -> &'static [u8]
         LineWord::Gone =>
             b"no leg above has this name: correct it, or move the line below that of the leg",
         LineWord::Operator => b"WORD has 8 to 64 letters A to Z and a to z and digits",
+        LineWord::Record => b"PREFIX has 1 to 255 octets",
         LineWord::Lose =>
             b"no leg above has this name: correct it, or move the line below that of the leg",
         LineWord::Delay =>
@@ -276,6 +282,7 @@ fn number_sentence(form: Form, word: LineWord) -> &'static [u8]
             b"relabel is a number of milliseconds from 2000 to 60000",
         (Form::Files, LineWord::Gone) => b"gone is a number of milliseconds from 10000 to 86400000",
         (Form::Files, LineWord::Operator) => b"PORT is a number from 1 to 65535",
+        (Form::Files, LineWord::Record) => b"the number of a packet is one from 0 to 4294967295",
         (Form::Files, LineWord::Lose) => b"the number of a packet is one from 0 to 4294967295",
         (Form::Files, LineWord::Delay) =>
             b"the number of a packet is one from 0 to 4294967295, and MS one of milliseconds up to 60000",
@@ -296,6 +303,7 @@ fn number_sentence(form: Form, word: LineWord) -> &'static [u8]
             b"relabel is a number of milliseconds from 2000 to 60000",
         (Form::Links, LineWord::Gone) => b"gone is a number of milliseconds from 10000 to 86400000",
         (Form::Links, LineWord::Operator) => b"PORT is a number from 1 to 65535",
+        (Form::Links, LineWord::Record) => b"the number of a packet is one from 0 to 4294967295",
         (Form::Links, LineWord::Lose) => b"the number of a packet is one from 0 to 4294967295",
         (Form::Links, LineWord::Delay) =>
             b"the number of a packet is one from 0 to 4294967295, and MS one of milliseconds up to 60000",
@@ -320,6 +328,7 @@ fn twice_sentence(word: LineWord) -> &'static [u8]
         LineWord::Relabel => b"a line above says it: leave one of them out",
         LineWord::Gone => b"a line above says it: leave one of them out",
         LineWord::Operator => b"a line above says it: leave one of them out",
+        LineWord::Record => b"a line above says it: leave one of them out",
         LineWord::Lose => b"a line above says it of this packet: leave one of them out",
         LineWord::Delay => b"a line above says it of this packet: leave one of them out",
         LineWord::Twice => b"a line above says it of this packet: leave one of them out",
@@ -345,6 +354,7 @@ fn clash_sentence(form: Form, word: LineWord) -> &'static [u8]
         (Form::Files, LineWord::Gone) => b"a leg above has this SSRC: give the mixer its own",
         (Form::Files, LineWord::Operator) =>
             b"a leg above has this port: give the operator its own",
+        (Form::Files, LineWord::Record) => b"a leg above has this SSRC: give the mixer its own",
         (Form::Files, LineWord::Lose) => b"a leg above has this SSRC: give the mixer its own",
         (Form::Files, LineWord::Delay) => b"a leg above has this SSRC: give the mixer its own",
         (Form::Files, LineWord::Twice) => b"a leg above has this SSRC: give the mixer its own",
@@ -362,6 +372,7 @@ fn clash_sentence(form: Form, word: LineWord) -> &'static [u8]
         (Form::Links, LineWord::Gone) => b"a leg above has this SSRC: give the mixer its own",
         (Form::Links, LineWord::Operator) =>
             b"a leg above has this port: give the operator its own",
+        (Form::Links, LineWord::Record) => b"a leg above has this SSRC: give the mixer its own",
         (Form::Links, LineWord::Lose) => b"a leg above has this SSRC: give the mixer its own",
         (Form::Links, LineWord::Delay) => b"a leg above has this SSRC: give the mixer its own",
         (Form::Links, LineWord::Twice) => b"a leg above has this SSRC: give the mixer its own",
@@ -418,4 +429,49 @@ pub(crate) fn trunk_sentence() -> &'static [u8]
     ensures { result.now ≡ trunk_sentence }
 {
     b"the recording of another mixer has the payload types 98 and 100: leave them out of the line, or name another IN than trunk"
+}
+
+/// What is wrong with the recording of a leg.
+pub(crate) fn input_dump_sentence(kind: DumpKind) -> &'static [u8]
+    ensures { result.now ≡ input_dump_sentence kind }
+{
+    match kind {
+        DumpKind::TooLarge =>
+            b"an IN has at most 4194304 octets, and at most 1048576 where the conference has more than 16 legs: export the call in parts",
+        other => dump_sentence(other),
+    }
+}
+
+/// What is wrong with an IN of this form.
+pub(crate) fn input_sentence(form: FileForm) -> &'static [u8]
+    ensures { result.now ≡ input_sentence form }
+{
+    match form {
+        FileForm::Gzip | FileForm::Pcap | FileForm::PcapNg | FileForm::TooLarge => {
+            form_sentence(form)
+        }
+        _ =>
+            b"an IN is a recording, which begins with #!rtpplay1.0: send makes one of a script, and relay one of frames",
+    }
+}
+
+/// What is wrong with an IN that has no packets of its leg.
+pub(crate) const STREAM_SENTENCE: &[u8] =
+    b"no packet of the IN has the SSRC of the leg and one of its payload types: correct the line, or name another IN; list prints what it has";
+
+/// What is wrong with a port that can't be had.
+pub(crate) fn port_sentence(fault: PortFault) -> &'static [u8]
+    ensures { result.now ≡ port_sentence fault }
+{
+    match fault {
+        PortFault::Taken =>
+            b"another program has the port, or another call: end it, or name another port",
+        PortFault::NoRight =>
+            b"whoever runs the program may not have this port: name one from 1024 on",
+        PortFault::NoAddress =>
+            b"OUT is 127.0.0.1, another address of 127.0.0.0/8, or [::1], with a colon and a port from 1 to 65535 behind it: no name, and no other machine",
+        PortFault::ManyFiles =>
+            b"as many files are open as may be, and each leg takes three: raise the limit (ulimit -n), or end what has them",
+        PortFault::Other => b"the system does not give the port: try again, or name another port",
+    }
 }

@@ -1,11 +1,13 @@
-use crate::report_of;
+use crate::{leg_told, legs_in, links_in, most_of_input, ports_told, report_of};
+use check_spec::PortFault;
+use port_io::MemPorts;
 use rtt_base::{Bytes, NoMemory};
 use std::alloc::Global;
 use std::test::Fail;
 
 // What is told of the file f that has these octets.
 fn tells(alloc: Global, octets: &[u8], wanted: &[u8]) -> Result<bool, NoMemory> {
-    let report = report_of(alloc, b"f", octets)?;
+    let report = report_of(alloc, "f", octets)?;
     Ok(report.text.as_slice() == wanted)
 }
 
@@ -44,7 +46,7 @@ const TOLD: [(&str, &str); 22] = [
     ),
     (
         "mixer 9 0 0\nleg A aware 1 a.in a.out\nleg B aware 2 b.in b.out\ngone 60000\n",
-        "conference of recordings\nf line 4: Word\n| gone 60000\na conference of recordings has no lines gone and operator: leave the line out\n",
+        "conference of recordings\nf line 4: Word\n| gone 60000\na conference of recordings has no lines gone, operator and record: leave the line out\n",
     ),
     (
         "mixer 9 0 0\nleg A aware 1 a.in a.out\nleg B aware 2 b.in b.out\n",
@@ -113,7 +115,7 @@ const TOLD_OF_LINKS: [(&str, &str); 11] = [
     ),
     (
         "mixer 9 0 0\nleg A aware 1 5001 127.0.0.1:5101\nleg B aware 2 5002 127.0.0.1:5102\nseat A\n",
-        "conference of links\nf line 4: Word\n| seat A\na line begins with mixer, leg, gens, tick, spacing, wait, turns, relabel, gone or operator, in small letters, or with # as its first octet: correct the word, and part words by spaces, not by tabs\n",
+        "conference of links\nf line 4: Word\n| seat A\na line begins with mixer, leg, gens, tick, spacing, wait, turns, relabel, gone, operator or record, in small letters, or with # as its first octet: correct the word, and part words by spaces, not by tabs\n",
     ),
     (
         "mixer 9 0 0\nleg A aware 1 5001 127.0.0.1:5101\nleg B aware 2 5002 127.0.0.1:5102\ngone 9999\n",
@@ -152,6 +154,34 @@ fn each_kind_of_fault_has_its_sentence(rt: HostRuntime) -> Result<(), Fail> {
 #[test]
 fn each_kind_of_fault_of_links_has_its_sentence(rt: HostRuntime) -> Result<(), Fail> {
     for (octets, wanted) in &TOLD_OF_LINKS {
+        assert!(rt; tells(rt.alloc(), octets.as_bytes(), wanted.as_bytes())?);
+    }
+    Ok(())
+}
+
+// A name with a space is two words; and legs over links beside legs over recordings.
+const TOLD_OF_FORMS: [(&str, &str); 4] = [
+    (
+        "mixer 9 0 0\nleg \"Ann Lee\" aware 3 c c.out\nleg B aware 2 b.in b.out\n",
+        "conference of recordings\nf line 2: Count\n| leg \"Ann Lee\" aware 3 c c.out\na leg has the words NAME MODE SSRC IN OUT, and two payload types behind them or none: no name has a space, and a comment needs a line of its own\n",
+    ),
+    (
+        "mixer 9 0 0\nleg A aware 1 7 a.out\nleg B aware 2 b.in b.out\n",
+        "conference of recordings: 2 legs, whole\n",
+    ),
+    (
+        "mixer 9 0 0\noperator 6100 Word4Watch\nleg A aware 1 5001 127.0.0.1:5101\nleg B aware 2 b.in b.out\n",
+        "conference of links\nf line 4: Number\n| leg B aware 2 b.in b.out\nSSRC is a number up to 4294967295, in decimal digits, IN is a port from 1 to 65535, and T140 and RED are numbers from 96 to 127\n",
+    ),
+    (
+        "mixer 9 0 0\ntick 10\nleg A aware 1 5001 127.0.0.1:5101\nleg B aware 2 b.in b.out\n",
+        "conference of recordings\nf line 2: Number\n| tick 10\ntick is a number of milliseconds from 20 to 200\n",
+    ),
+];
+
+#[test]
+fn conferences_are_told_apart(rt: HostRuntime) -> Result<(), Fail> {
+    for (octets, wanted) in &TOLD_OF_FORMS {
         assert!(rt; tells(rt.alloc(), octets.as_bytes(), wanted.as_bytes())?);
     }
     Ok(())
@@ -254,7 +284,7 @@ fn what_is_too_large_is_told(rt: HostRuntime) -> Result<(), Fail> {
     for _ in 0..4097 {
         octets.append(&[b'#'; 1024])?;
     }
-    let report = report_of(rt.alloc(), b"f", octets.as_slice())?;
+    let report = report_of(rt.alloc(), "f", octets.as_slice())?;
     assert!(rt;
         report
             .text
@@ -262,5 +292,120 @@ fn what_is_too_large_is_told(rt: HostRuntime) -> Result<(), Fail> {
             .starts_with(b"more than 4194304 octets\n")
     );
     assert!(rt; !report.taken);
+    Ok(())
+}
+
+// A conference whose first leg has the IN that is looked at.
+const CALL: &[u8] = b"mixer 9 0 0\nleg A aware 1001 a\x7F.rtp a.out\nleg B aware 2 b.rtp b.out\n";
+
+// What is told of the IN with these octets: nothing where all is well.
+fn tells_input(alloc: Global, octets: &[u8], wanted: &[u8]) -> Result<bool, NoMemory> {
+    let legs = legs_in(alloc, CALL)?;
+    let [leg, _] = legs.as_slice() else {
+        return Ok(false);
+    };
+    let limit = most_of_input(legs.as_slice());
+    match leg_told(alloc, limit, CALL, leg, octets)? {
+        Some(report) => Ok(report.text.as_slice() == wanted && !report.taken),
+        None => Ok(wanted.is_empty()),
+    }
+}
+
+const TOLD_OF_INPUTS: [(&[u8], &str); 7] = [
+    (
+        b"#!rtpplay1.0 127.0.0.1/5004\x0A\x00\x00\x00\x00\x00\x00\x00\x00\x00\x00\x00\x00\x00\x00\x00\x00\x00\x15\x00\x0D\x00\x00\x00\x00\x80b\x00\x00\x00\x00\x00\x00\x00\x00\x03\xE9A",
+        "",
+    ),
+    (
+        b"#!rtpplay1.0 127.0.0.1/5004\x0A\x00\x00\x00\x00\x00\x00\x00\x00\x00\x00\x00\x00\x00\x00\x00\x00\x00\x15\x00\x0D\x00\x00\x00\x00\x80d\x00\x00\x00\x00\x00\x00\x00\x00\x00MA",
+        "conference of recordings\na\u{FFFD}.rtp has SSRC 77, type 100\n| leg A aware 1001 a?.rtp a.out\nno packet of the IN has the SSRC of the leg and one of its payload types: correct the line, or name another IN; list prints what it has\n",
+    ),
+    (
+        b"#!rtpplay1.0 127.0.0.1/5004\x0A\x00\x00\x00\x00\x00\x00\x00\x00\x00\x00\x00\x00\x00\x00\x00\x00\x00\x15\x00\x0D\x00\x00\x00\x00\x80`\x00\x00\x00\x00\x00\x00\x00\x00\x03\xE9A",
+        "conference of recordings\na\u{FFFD}.rtp has SSRC 1001, type 96\n| leg A aware 1001 a?.rtp a.out\nno packet of the IN has the SSRC of the leg and one of its payload types: correct the line, or name another IN; list prints what it has\n",
+    ),
+    (
+        b"#!rtpplay1.0 127.0.0.1/5004\x0A\x00\x00\x00\x00\x00\x00\x00\x00\x00\x00\x00\x00\x00\x00\x00\x00\x00\x08\x00\x00\x00\x00\x00\x01",
+        "conference of recordings\na\u{FFFD}.rtp has no packets\n| leg A aware 1001 a?.rtp a.out\nno packet of the IN has the SSRC of the leg and one of its payload types: correct the line, or name another IN; list prints what it has\n",
+    ),
+    (
+        b"0 Hi\n",
+        "conference of recordings\na\u{FFFD}.rtp is: script\n| leg A aware 1001 a?.rtp a.out\nan IN is a recording, which begins with #!rtpplay1.0: send makes one of a script, and relay one of frames\n",
+    ),
+    (
+        b"\x1F\x8B\x08",
+        "conference of recordings\na\u{FFFD}.rtp is: gzip\n| leg A aware 1001 a?.rtp a.out\nthe file is compressed: unpack it first\n",
+    ),
+    (
+        b"#!rtpplay1.0 127.0.0.1/5004\x0A\x00\x00\x00\x00\x00\x00\x00\x00\x00\x00\x00\x00\x00\x00\x00\x00\x00\x1E",
+        "conference of recordings\na\u{FFFD}.rtp byte 44: EndsInside\n| 00 1e\nthe file ends inside the head or the record that begins at this byte: it was broken off; keep what stands before it, which show prints\n",
+    ),
+];
+
+#[test]
+fn inputs_are_told_of(rt: HostRuntime) -> Result<(), Fail> {
+    for (octets, wanted) in &TOLD_OF_INPUTS {
+        assert!(rt; tells_input(rt.alloc(), *octets, wanted.as_bytes())?);
+    }
+    Ok(())
+}
+
+const CALL_OF_LINKS: &[u8] =
+    b"mixer 9 0 0\noperator 6100 Word4Watch\nleg A aware 1 5001 127.0.0.1:5101\nleg B aware 2 5002 127.0.0.1:5102\n";
+
+// What is told of the ports of that call where this one can't be had: nothing where it is none of them. None is kept.
+fn tells_port(alloc: Global, port: u16, fault: PortFault, wanted: &[u8]) -> Result<bool, NoMemory> {
+    let Some(conf) = links_in(alloc, CALL_OF_LINKS)? else {
+        return Ok(false);
+    };
+    let mut ports = MemPorts::new(alloc);
+    ports.refuse(port, fault)?;
+    let found = ports_told(alloc, CALL_OF_LINKS, &conf, &mut ports)?;
+    let kept = ports.kept();
+    match found {
+        Some(report) => Ok(report.text.as_slice() == wanted && !report.taken && kept == 0),
+        None => Ok(wanted.is_empty() && kept == 0),
+    }
+}
+
+const TOLD_OF_PORTS: [(u16, PortFault, &str); 7] = [
+    (5003, PortFault::Taken, ""),
+    (
+        5001,
+        PortFault::Taken,
+        "conference of links\nport 5001: taken\n| leg A aware 1 5001 127.0.0.1:5101\nanother program has the port, or another call: end it, or name another port\n",
+    ),
+    (
+        5002,
+        PortFault::NoRight,
+        "conference of links\nport 5002: no right\n| leg B aware 2 5002 127.0.0.1:5102\nwhoever runs the program may not have this port: name one from 1024 on\n",
+    ),
+    (
+        5001,
+        PortFault::NoAddress,
+        "conference of links\n127.0.0.1:5101: no address of this machine\n| leg A aware 1 5001 127.0.0.1:5101\nOUT is 127.0.0.1, another address of 127.0.0.0/8, or [::1], with a colon and a port from 1 to 65535 behind it: no name, and no other machine\n",
+    ),
+    (
+        5002,
+        PortFault::ManyFiles,
+        "conference of links\nport 5002: too many open files\n| leg B aware 2 5002 127.0.0.1:5102\nas many files are open as may be, and each leg takes three: raise the limit (ulimit -n), or end what has them\n",
+    ),
+    (
+        5002,
+        PortFault::Other,
+        "conference of links\nport 5002: not given\n| leg B aware 2 5002 127.0.0.1:5102\nthe system does not give the port: try again, or name another port\n",
+    ),
+    (
+        6100,
+        PortFault::Taken,
+        "conference of links\nport 6100 of the operator: taken\nanother program has the port, or another call: end it, or name another port\n",
+    ),
+];
+
+#[test]
+fn ports_are_told_of(rt: HostRuntime) -> Result<(), Fail> {
+    for (port, fault, wanted) in &TOLD_OF_PORTS {
+        assert!(rt; tells_port(rt.alloc(), *port, *fault, wanted.as_bytes())?);
+    }
     Ok(())
 }

@@ -6,7 +6,7 @@ use file_spec::LegLine;
 use file_spec::limits::{USUAL_RED, USUAL_T140};
 
 /// Whether a leg stands behind the other mixer.
-pub(crate) fn is_on_trunk(leg: &LegLine) -> bool
+pub fn is_on_trunk(leg: &LegLine) -> bool
     ensures { result ≡ is_on_trunk leg.now }
 {
     leg.input.as_str() == "trunk"
@@ -20,7 +20,7 @@ fn has_other_types(leg: &LegLine) -> bool
 }
 
 /// The line of the first leg behind the other mixer that has other payload types than the recording.
-pub(crate) fn odd_line(legs: &[LegLine]) -> Option<u32>
+pub fn odd_line(legs: &[LegLine]) -> Option<u32>
     ensures { result ≡ odd_line legs.now }
 {
     match legs {

@@ -1,0 +1,11 @@
+use Rattle.std.proofs.Common.{◌≡◌, length}
+use Rattle.std.specs.List.{list_any}
+use Rattle.std.specs.Str.Lines.{lines}
+use Rattle.check_spec.specs.Forms.{is_of_recording, said}
+use Rattle.rtt_check.proofs.lines.has_recording.Given as goal
+
+abbrev pub invariant-loop-line : goal.invariant-loop-line
+invariant-loop-line l = list_any (λ line. is_of_recording (said line)) (lines l.rest) ≡ list_any (λ line. is_of_recording (said line)) (lines l.octets)
+
+abbrev pub decreases-loop-line : goal.decreases-loop-line
+decreases-loop-line l = length l.rest
