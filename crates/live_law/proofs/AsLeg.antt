@@ -3,7 +3,7 @@ use Rattle.std.proofs.Common.{◌≡◌, ℕ, Bool, true, false, List, [], ◌�
 use Rattle.std.specs.Prelude.{filter, map}
 use Rattle.std.proofs.lemmas.List.{map-append}
 use Rattle.stream_spec.specs.Fronts.{IsFront, is_ready_by}
-use Rattle.stream_spec.specs.Ready.{Chunk, chunks}
+use Rattle.stream_spec.specs.Ready.{chunks}
 use Rattle.stream_spec.specs.Still.{still}
 use Rattle.link_spec.specs.Links.{Came, Datagram, Large, Quiet, Closed, Takes}
 use Rattle.live_spec.specs.Told.{Hearing, Told, all_by, all_told, ready_by, ready_told, told_by, told_came}

@@ -6,7 +6,7 @@ use Rattle.std.proofs.lemmas.List.{append-nil}
 use Rattle.stream_spec.specs.Ready.{Chunk}
 use Rattle.mixer_spec.specs.Rounds.{set_at}
 use Rattle.mixer_spec.specs.Setups.{Setup, is_before_end}
-use Rattle.mixer_spec.specs.Table.{Admit, Call, Hush, Leave, Offer, Table, Taken, admitted, after_calls, chunks_taken, entered, free_place, given, has_room, is_idle, is_seated, may_enter, offered, turned}
+use Rattle.mixer_spec.specs.Table.{Admit, Call, Hush, Leave, Offer, Table, Taken, admitted, after_calls, chunks_taken, entered, free_place, given, has_room, is_idle, is_seated, may_enter, turned}
 use Rattle.mixer_spec.specs.Table as table
 use Rattle.mixer_spec.specs.Legs.{Leg, begin, held, picked, pushed, take_hand}
 use Rattle.mixer_spec.specs.Core.{Core, Enter, Event, Push, Take, after, happens, is_taken, offer_hand, turns_in}

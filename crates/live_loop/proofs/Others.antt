@@ -1,11 +1,10 @@
 -- What is known of a leg stays where a chunk of another one is offered.
-use Rattle.std.proofs.Common.{◌≡◌, ℕ, suc, true, false, cond, Some, None, List, [], ◌∷◌, ◌++◌, refl, ap, sym, ◌∙◌, not}
-use Rattle.std.specs.Prelude.{Bool, Option, length, zero, nat_le, ◌&&◌, ◌||◌, if◌then◌else◌}
+use Rattle.std.proofs.Common.{◌≡◌, ℕ, true, false, cond, Some, None, List, [], ◌∷◌, ◌++◌, refl, ap, sym, ◌∙◌, not}
+use Rattle.std.specs.Prelude.{Bool, Option, if◌then◌else◌}
 use Rattle.std.proofs.lemmas.Bool.{ne_eqb}
 use Rattle.stream_spec.specs.Ready.{Chunk}
-use Rattle.mixer_spec.specs.Rounds.{any_below}
 use Rattle.mixer_spec.specs.Setups.{Setup}
-use Rattle.mixer_spec.specs.Table.{Call, Offer, Table, Taken, after_calls, chunks_taken, count_given, give, given, has_room, is_fit, is_given, is_seated, offered, span_of, still_waits}
+use Rattle.mixer_spec.specs.Table.{Call, Offer, Table, after_calls, chunks_taken, given, has_room, is_given, offered}
 use Rattle.mixer_spec.specs.Calls.{took}
 use Rattle.mixer_spec.proofs.Lists.{set_other}
 use Rattle.live_leg.specs.Items.{Item}

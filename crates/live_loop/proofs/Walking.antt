@@ -6,18 +6,18 @@ use Rattle.std.proofs.lemmas.Bool.{cases_eq}
 use Rattle.rtt_base.specs.declared.text_packets.Pts.{Pts}
 use Rattle.stream_spec.specs.Ready.{Chunk, chunk_of}
 use Rattle.mixer_spec.specs.Setups.{Setup}
-use Rattle.mixer_spec.specs.Table.{Admit, Call, Hush, Leave, Offer, Seats, Table, Turn, after_calls, given, has_room, is_idle, is_seated}
+use Rattle.mixer_spec.specs.Table.{Admit, Call, Hush, Leave, Offer, Seats, Table, Turn, after_calls, given, has_room, is_seated}
 use Rattle.mixer_spec.specs.Calls.{turns_made}
 use Rattle.mix_loop.specs.Mixers.{TellsIdle, Turns}
 use Rattle.mix_loop.proofs.Lists.{get_set_other, get_set_same, get_within}
 use Rattle.live_spec.specs.Live.{AllSeated, at_last}
 use Rattle.live_leg.specs.Items.{Item, marks_in}
 use Rattle.live_loop.specs.declared.ports.LivePort.{LivePort}
-use Rattle.live_loop.specs.Clocks.{AtTicks, moments_of}
+use Rattle.live_loop.specs.Clocks.{AtTicks, RiseTo, moments_of}
 use Rattle.live_loop.specs.Order.{SameTurns}
-use Rattle.live_loop.specs.Handed.{AreLiveCalls, HasMarks, IsEnough, IsNext, has_end, is_blocked_after}
+use Rattle.live_loop.specs.Handed.{AreLiveCalls, HasMarks, IsEnough, IsNext, is_blocked_after}
 use Rattle.live_loop.specs.Ports.{AreNext, Gathered, Grew, PortAt, with_offers}
-use Rattle.live_loop.specs.Walks.{AllGrew, AllNext, AreAt, AreOf, HasFailed, IsServing, MayBeTurned, NoneFailed, WalkedTo, is_spent}
+use Rattle.live_loop.specs.Walks.{AllGrew, AllNext, AreAt, AreOf, HasFailed, IsServing, MayBeTurned, NoneFailed, NoneFailedBelow, WalkedTo, is_spent}
 use Rattle.live_loop.proofs.Advancing.{offers_append, same_grew, then_grew}
 use Rattle.live_loop.proofs.Others.{others_at, others_blocked}
 use Rattle.live_loop.proofs.Ordering.{ups_same}
@@ -44,19 +44,24 @@ moments_long (Offer c ∷ past) = moments_long past
 moments_long (Turn now ∷ past) = ap suc (moments_long past)
 
 -- before the first turn there is no moment
-pub at_none : (tick began : ℕ) (calls : List Call) → turns_made calls ≡ 0 → AtTicks tick began (moments_of calls)
-at_none tick began calls none = go (moments_of calls) (moments_long calls ∙ none)
+pub at_none : (tick began until : ℕ) (calls : List Call) → turns_made calls ≡ 0 → AtTicks tick began (moments_of calls) × RiseTo until (moments_of calls)
+at_none tick began until calls none = go (moments_of calls) (moments_long calls ∙ none)
   where
-    go : (ms : List ℕ) → length ms ≡ 0 → AtTicks tick began ms
-    go [] e = tt
+    go : (ms : List ℕ) → length ms ≡ 0 → AtTicks tick began ms × RiseTo until ms
+    go [] e = (tt, tt)
     go (m ∷ ms) e = absurd (omega (arith, e))
 
--- then one more
-pub at_more : (tick began k now : ℕ) (calls next : List Call) → next ≡ Turn now ∷ calls → turns_made calls ≡ k → (began + k * tick < 2 ^ 47 → began + k * tick ≤ now)
-    → AtTicks tick began (moments_of calls) → AtTicks tick began (moments_of next)
-at_more tick began k now calls next is turned late at =
-    subst (λ (cs : List Call). AtTicks tick began (moments_of cs)) (sym is)
-    (subst (λ (n : ℕ). began + n * tick < 2 ^ 47 → began + n * tick ≤ now) (sym (moments_long calls ∙ turned)) late, at)
+-- the clock may go on
+pub rise_on : (old new : ℕ) (ms : List ℕ) → old ≤ new → RiseTo old ms → RiseTo new ms
+rise_on old new [] on r = tt
+rise_on old new (m ∷ ms) on r = (let low = r.0 in omega (arith, low, on), r.1)
+
+-- then one more, which the clock told behind the moment of the last
+pub at_more : (tick began k last now until : ℕ) (calls next : List Call) → next ≡ Turn now ∷ calls → turns_made calls ≡ k → (began + k * tick < 2 ^ 47 → began + k * tick ≤ now)
+    → last ≤ now → now ≤ until → AtTicks tick began (moments_of calls) × RiseTo last (moments_of calls) → AtTicks tick began (moments_of next) × RiseTo until (moments_of next)
+at_more tick began k last now until calls next is turned late on most at =
+    subst (λ (cs : List Call). AtTicks tick began (moments_of cs) × RiseTo until (moments_of cs)) (sym is)
+    ((subst (λ (n : ℕ). began + n * tick < 2 ^ 47 → began + n * tick ≤ now) (sym (moments_long calls ∙ turned)) late, at.0), (most, rise_on last now (moments_of calls) on at.1))
 
 seats_same : (s : Setup) (offers : List Chunk) (calls : List Call) → (after_calls s (with_offers offers calls)).seats ≡ (after_calls s calls).seats
 seats_same s [] calls = refl
@@ -119,13 +124,12 @@ module _ {I : Type 0} where
     | inr other ↦ a j r (sym (get_set_other ps i q j other) ∙ e)
   ]
 
-  -- a fault was popped of this leg
-  pub one_failed : (ps : List (LivePort I)) (i : ℕ) (q : LivePort I) → AreAt ps → slice_get ps i ≡ Some q → q.failed ≡ true → HasFailed q.leg ps
-  one_failed ps i q a at failed = (q, ap (slice_get ps) (a i q at) ∙ at, failed)
+  -- a fault was popped of this leg, and of none below it
+  pub one_failed : (ps : List (LivePort I)) (i : ℕ) (q : LivePort I) → AreAt ps → slice_get ps i ≡ Some q → q.failed ≡ true → NoneFailedBelow i ps → HasFailed q.leg ps
+  one_failed ps i q a at failed below = (q, ap (slice_get ps) (a i q at) ∙ at, failed, subst (λ (n : ℕ). NoneFailedBelow n ps) (sym (a i q at)) below)
 
   -- or of none of the first legs, and not of one more
-  pub none_failed : (ps : List (LivePort I)) (i : ℕ) (q : LivePort I) → slice_get ps i ≡ Some q → q.failed ≡ false → ((j : ℕ) (p : LivePort I) → j < i → slice_get ps j ≡ Some p → p.failed ≡ false)
-      → (j : ℕ) (p : LivePort I) → j < i + 1 → slice_get ps j ≡ Some p → p.failed ≡ false
+  pub none_failed : (ps : List (LivePort I)) (i : ℕ) (q : LivePort I) → slice_get ps i ≡ Some q → q.failed ≡ false → NoneFailedBelow i ps → NoneFailedBelow (i + 1) ps
   none_failed ps i q at well below j p low e = elim (cases_eq j i) [
     | inl same ↦
         let is : Some q ≡ Some p = sym at ∙ (ap (slice_get ps) (sym same) ∙ e) in

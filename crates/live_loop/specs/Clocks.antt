@@ -21,15 +21,22 @@ abbrev pub AtTicks : ℕ → ℕ → List ℕ → Type 0
 AtTicks tick began [] = Unit {0}
 AtTicks tick began (now ∷ past) = (began + length past * tick < 2 ^ 47 → began + length past * tick ≤ now) × AtTicks tick began past
 
--- The turns that these calls make are told such moments, since one that was no earlier than the first.
-pub record ArePaced (tick old : ℕ) (calls : List Call) : Type 0 where
+-- these never fall, and the last of them is no later than this
+abbrev pub RiseTo : ℕ → List ℕ → Type 0
+RiseTo until [] = Unit {0}
+RiseTo until (now ∷ past) = (now ≤ until) × RiseTo now past
+
+-- The turns that these calls make are told such moments, since one that was no earlier than the first: they never fall, and none is
+-- later than the last that the clock told.
+pub record ArePaced (tick old new : ℕ) (calls : List Call) : Type 0 where
   pub began : ℕ
   pub behind : old ≤ began
   pub at : AtTicks tick began (moments_of calls)
+  pub told : RiseTo new (moments_of calls)
 
 -- what is known of a mixer of which these calls were made, that, where links tell, their turns are paced, and what is known of their order
-abbrev pub StandsPaced : {M : Type 0} → (tells : Type 0) → (tick old : ℕ) → (order stands : M → Setup → (ℕ → Pts) → List Call → Type 0) → M → Setup → (ℕ → Pts) → List Call → Type 0
-StandsPaced tells tick old order stands m s pts calls = stands m s pts calls × (tells → ArePaced tick old calls) × order m s pts calls
+abbrev pub StandsPaced : {M : Type 0} → (tells : Type 0) → (tick old new : ℕ) → (order stands : M → Setup → (ℕ → Pts) → List Call → Type 0) → M → Setup → (ℕ → Pts) → List Call → Type 0
+StandsPaced tells tick old new order stands m s pts calls = stands m s pts calls × (tells → ArePaced tick old new calls) × order m s pts calls
 
 -- ---- time
 -- So many ticks have passed since a moment, which was no earlier than the first: so long as clocks tell moments.

@@ -33,11 +33,15 @@ module _ {I : Type 0} where
   abbrev pub NoneFailed : List (LivePort I) → Type 0
   NoneFailed ps = (j : ℕ) (p : LivePort I) → slice_get ps j ≡ Some p → p.failed ≡ false
 
-  -- a fault was popped of the leg
-  abbrev pub HasFailed : ℕ → List (LivePort I) → Type 0
-  HasFailed leg ps = (p : LivePort I) × (slice_get ps leg ≡ Some p) × (p.failed ≡ true)
+  -- none was popped of the legs below this one
+  abbrev pub NoneFailedBelow : ℕ → List (LivePort I) → Type 0
+  NoneFailedBelow leg ps = (j : ℕ) (p : LivePort I) → j < leg → slice_get ps j ≡ Some p → p.failed ≡ false
 
-  -- where turns ended at the fault of a leg, it was popped
+  -- the leg is the lowest of which a fault was popped
+  abbrev pub HasFailed : ℕ → List (LivePort I) → Type 0
+  HasFailed leg ps = (p : LivePort I) × (slice_get ps leg ≡ Some p) × (p.failed ≡ true) × NoneFailedBelow leg ps
+
+  -- where turns ended at the fault of a leg, it was popped, and none of a lower one
   abbrev pub WasFaulted : {T : Type 0} → Turned T → List (LivePort I) → Type 0
   WasFaulted Done ps = Unit {0}
   WasFaulted Closed ps = Unit {0}

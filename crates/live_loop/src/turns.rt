@@ -101,8 +101,8 @@ pub fn take_turns<I: Pops, M: Mixes<Clock = C::Clock>, C: TurnClock, R: Wait>(
     ensures at { AreAt ports.new }
     ensures grew { AllGrew I.popped I.began ports.old ports.new }
     ensures ran { Ran I.popped result M.stands
-        (StandsPaced C.tells tick (C.moment clock.old) (AreInTurn M.stands M.addresses (C.pauses clock.old)) M.stands)
-        (StandsPaced C.tells tick (C.moment clock.old) (AreInTurn M.stands M.addresses (C.pauses clock.old)) (HaltsThen M.halted))
+        (StandsPaced C.tells tick (C.moment clock.old) (C.moment clock.new) (AreInTurn M.stands M.addresses (C.pauses clock.old)) M.stands)
+        (StandsPaced C.tells tick (C.moment clock.old) (C.moment clock.new) (AreInTurn M.stands M.addresses (C.pauses clock.old)) (HaltsThen M.halted))
         turns ports.old ports.new mixer.old mixer.new }
     ensures addresses { ports_of (M.addresses mixer.new) ≡ ports_of (M.addresses mixer.old) }
     ensures faulted { WasFaulted result ports.new }

@@ -33,7 +33,7 @@ use Rattle.live_loop.specs.declared.clocks.TurnClock as clocks
 use Rattle.live_loop.specs.declared.ports.LivePort.{LivePort}
 use Rattle.live_loop.specs.declared.turns.Turned.{Turned}
 use Rattle.live_loop.specs.declared.turns.Turned.TheVariants.{Done, Closed, Faulted, Stopped}
-use Rattle.live_loop.specs.Clocks.{ArePaced, AtTicks, StandsPaced, moments_of}
+use Rattle.live_loop.specs.Clocks.{ArePaced, AtTicks, RiseTo, StandsPaced, moments_of}
 use Rattle.live_loop.specs.Order.{AreInTurn, up_to_turn}
 use Rattle.live_loop.specs.Walks.{BrokenTo, HaltsThen, RanTo, WasFaulted, WasStopped}
 use Rattle.mix_loop.proofs.Lists.{lt_or_ge}
@@ -57,6 +57,7 @@ use Rattle.live_run.specs.Jobs.{GaveFirst, RanAs, popped_in}
 use Rattle.live_run.specs.Mixers.{GivesFor, HaltsGiving, HasAll, all_admitted}
 use Rattle.live_run.specs.Listeners.{HasHeard}
 use Rattle.live_run.specs.Opened.{AreUnused, OpenEnds, OpenLegs, ear_at, link_in}
+use Rattle.live_run.specs.Spans.{Span}
 use Rattle.live_run.specs.Taps.{HaltsTold, IsUnsentIn, Learns, Notice, Shows, TellsFor, ended_with, notices_by}
 use Rattle.live_run.proofs.Failing.{closed_calm, fault_rose}
 use Rattle.mix_loop.specs.Addresses.{Address}
@@ -187,14 +188,14 @@ module _ {I G : Type 0} (i : ins.Ghosts I) (tells : Type 0) (opened : ℕ → Bo
     addresses x = addresses_of o.port o.given x.mixer.outbound.links.items
 
     -- the turns of these calls are at ticks, and what they send was given before the pause behind each
-    abbrev PacedBy : (paused : ℕ) → List Call → Type 0
-    PacedBy paused calls = (began : ℕ) × AtTicks c.tick began (moments_of calls) × GaveInTurn c paused (at_link o.given far.links.items) calls
+    abbrev PacedBy : (span : Span) → List Call → Type 0
+    PacedBy span calls = (began : ℕ) × (span.first ≤ began) × AtTicks c.tick began (moments_of calls) × RiseTo span.last (moments_of calls) × GaveInTurn c span.pauses (at_link o.given far.links.items) calls
 
-    is_call : (paused : ℕ) (end : End) (calls : List Call) → gives m (setup c) (pts_at c) calls → (tells → PacedBy paused calls) → m.short ≡ false
+    is_call : (span : Span) (end : End) (calls : List Call) → gives m (setup c) (pts_at c) calls → (tells → PacedBy span calls) → m.short ≡ false
         → (serves : (takes : ℕ → Takes) (given : ℕ → List (List ℕ)) → IsOfConf popped_in c calls ports takes given → IsServed c takes given end (live_printed c given end))
         → ((takes : ℕ → Takes) (given : ℕ → List (List ℕ)) (w : IsOfConf popped_in c calls ports takes given) → (serves takes given w).table ≡ after_calls (setup c) calls)
-        → IsCallOf i o (stands tap) tells c paused backs far.links.items far.listeners.items end
-    is_call paused end calls gave_all paced long serves leads =
+        → IsCallOf i o (stands tap) tells c span backs far.links.items far.listeners.items end
+    is_call span end calls gave_all paced long serves leads =
         let made = gave_all.made in
         let takes : ℕ → Takes = pick [] took (length c.legs) took_at in
         let table = after_calls (setup c) calls in
@@ -233,7 +234,7 @@ module _ {I G : Type 0} (i : ins.Ghosts I) (tells : Type 0) (opened : ℕ → Bo
               let here : j < length c.legs = omega (arith, low, many, many_backs) in
               (pick_holds [] took (length c.legs) took_at j here).calm ((serves takes given w).drained closed j here).closed leg e;
           told = record { calls = calls; made = sym (leads takes given w); told = shows (notices_by (setup c) calls) (gave_all.told long) };
-          paced = λ t. let p = paced t in record { calls = calls; made = sym (leads takes given w); began = p.0; at = p.1; in_turn = p.2 };
+          paced = λ t. let p = paced t in record { calls = calls; made = sym (leads takes given w); began = p.0; behind = p.1; at = p.2; told = p.3; in_turn = p.4 };
         }
 
     -- what a turn sends was given by the time of the pause behind it
@@ -249,10 +250,10 @@ module _ {I G : Type 0} (i : ins.Ghosts I) (tells : Type 0) (opened : ℕ → Bo
         was_given (paused + k) o.port o.given far.links.items other.links.items j link.0 w.gave link.1 ∙ ((here.gave link.0 link.1).1 (tells_out t j low) ∙ sent_law c (up_to_turn (suc k) calls) j line here.sources at here.are)
 
     -- turns at the ticks of a clock are those of the conference's tick
-    at_ticks : (known : Type 0) (tick old paused : ℕ) (calls : List Call) → tick ≡ c.tick → (tells → known) → (known → ArePaced tick old calls) → AreInTurn gives addresses paused m (setup c) (pts_at c) calls → tells → PacedBy paused calls
-    at_ticks known tick old paused calls same tell paced order t =
+    at_ticks : (known : Type 0) (tick : ℕ) (span : Span) (calls : List Call) → tick ≡ c.tick → (tells → known) → (known → ArePaced tick span.first span.last calls) → AreInTurn gives addresses span.pauses m (setup c) (pts_at c) calls → tells → PacedBy span calls
+    at_ticks known tick span calls same tell paced order t =
         let p = paced (tell t) in
-        (p.began, subst (λ (n : ℕ). AtTicks n p.began (moments_of calls)) same p.at, gave_in_turn paused calls order t)
+        (p.began, p.behind, subst (λ (n : ℕ). AtTicks n p.began (moments_of calls)) same p.at, p.told, gave_in_turn span.pauses calls order t)
 
     -- ---- one that broke off
     -- what was given by calls, to the links and by definition
@@ -288,11 +289,11 @@ module _ {I G : Type 0} (i : ins.Ghosts I) (tells : Type 0) (opened : ℕ → Bo
     given_then calls now (inl h) j link line e at tell = given_cut calls now h j link line e at tell
     given_then calls now (inr made) j link line e at tell = inr (given_whole (Turn now ∷ calls) made j link line e at tell)
 
-    is_broken : (paused : ℕ) (then : Tapped (SendingState (FarEnds O)) T → Setup → (ℕ → Pts) → List Call → Type 0) (w : BrokenTo popped_in then (setup c) (pts_at c) c.turns ports m) (now : ℕ)
+    is_broken : (span : Span) (then : Tapped (SendingState (FarEnds O)) T → Setup → (ℕ → Pts) → List Call → Type 0) (w : BrokenTo popped_in then (setup c) (pts_at c) c.turns ports m) (now : ℕ)
         → ((j : ℕ) (link : O) (line : LegLine) → slice_get far.links.items j ≡ Some link → leg_at c.legs j ≡ Some line → o.tells → IsCutShort c (after_calls (setup c) w.serving.calls) now j line (packets_in o.given link))
-        → (tells → PacedBy paused w.serving.calls) → IsBrokenOff i o tells c paused backs far.links.items
+        → (tells → PacedBy span w.serving.calls) → IsBrokenOff i o tells c span backs far.links.items
     unfolding broken_law
-    is_broken paused then w now cut paced =
+    is_broken span then w now cut paced =
         let calls = w.serving.calls in
         let takes : ℕ → Takes = pick [] took (length c.legs) took_at in
         let table = after_calls (setup c) calls in
@@ -310,38 +311,38 @@ module _ {I G : Type 0} (i : ins.Ghosts I) (tells : Type 0) (opened : ℕ → Bo
           now = now;
           taken = λ t j leg e. (pick_holds [] took (length c.legs) took_at j (let low = slice_get_within backs j leg e in omega (arith, low, many, many_backs))).taken t leg e;
           gave = λ t j link line e at. cut j link line e at (tells_out t j (leg_within c.legs j line at));
-          paced = λ t. let p = paced t in record { calls = calls; made = refl; began = p.0; at = p.1; in_turn = p.2 };
+          paced = λ t. let p = paced t in record { calls = calls; made = refl; began = p.0; behind = p.1; at = p.2; told = p.3; in_turn = p.4 };
         }
 
     -- however its turns ended
-    breaks : (known : Type 0) (tick old paused : ℕ) (same_tick : tick ≡ c.tick) (tell : tells → known) (t : Turned LiveFault)
-        → RanTo popped_in t (StandsPaced known tick old (AreInTurn gives addresses paused) gives) (StandsPaced known tick old (AreInTurn gives addresses paused) (HaltsThen halts)) (setup c) (pts_at c) c.turns ports m → IsBrokenOff i o tells c paused backs far.links.items
-    breaks known tick old paused same_tick tell Done v = is_broken paused (StandsPaced known tick old (AreInTurn gives addresses paused) gives) (record { turns = c.turns; few = omega arith; serving = v.serving }) 0
-        (λ j link line e at told. inl (given_whole v.serving.calls v.serving.made.0.made j link line e at told)) (at_ticks known tick old paused v.serving.calls same_tick tell v.serving.made.1 v.serving.made.2)
-    breaks known tick old paused same_tick tell Closed v = is_broken paused (StandsPaced known tick old (AreInTurn gives addresses paused) gives) (record { turns = v.turns; few = v.few; serving = v.serving }) 0
-        (λ j link line e at told. inl (given_whole v.serving.calls v.serving.made.0.made j link line e at told)) (at_ticks known tick old paused v.serving.calls same_tick tell v.serving.made.1 v.serving.made.2)
-    breaks known tick old paused same_tick tell (Faulted k) v = is_broken paused (StandsPaced known tick old (AreInTurn gives addresses paused) gives) v 0
-        (λ j link line e at told. inl (given_whole v.serving.calls v.serving.made.0.made j link line e at told)) (at_ticks known tick old paused v.serving.calls same_tick tell v.serving.made.1 v.serving.made.2)
-    breaks known tick old paused same_tick tell (Stopped why) v = is_broken paused (StandsPaced known tick old (AreInTurn gives addresses paused) (HaltsThen halts)) v v.serving.made.0.0
-        (given_then v.serving.calls v.serving.made.0.0 v.serving.made.0.1) (at_ticks known tick old paused v.serving.calls same_tick tell v.serving.made.1 v.serving.made.2)
+    breaks : (known : Type 0) (tick : ℕ) (span : Span) (same_tick : tick ≡ c.tick) (tell : tells → known) (t : Turned LiveFault)
+        → RanTo popped_in t (StandsPaced known tick span.first span.last (AreInTurn gives addresses span.pauses) gives) (StandsPaced known tick span.first span.last (AreInTurn gives addresses span.pauses) (HaltsThen halts)) (setup c) (pts_at c) c.turns ports m → IsBrokenOff i o tells c span backs far.links.items
+    breaks known tick span same_tick tell Done v = is_broken span (StandsPaced known tick span.first span.last (AreInTurn gives addresses span.pauses) gives) (record { turns = c.turns; few = omega arith; serving = v.serving }) 0
+        (λ j link line e at told. inl (given_whole v.serving.calls v.serving.made.0.made j link line e at told)) (at_ticks known tick span v.serving.calls same_tick tell v.serving.made.1 v.serving.made.2)
+    breaks known tick span same_tick tell Closed v = is_broken span (StandsPaced known tick span.first span.last (AreInTurn gives addresses span.pauses) gives) (record { turns = v.turns; few = v.few; serving = v.serving }) 0
+        (λ j link line e at told. inl (given_whole v.serving.calls v.serving.made.0.made j link line e at told)) (at_ticks known tick span v.serving.calls same_tick tell v.serving.made.1 v.serving.made.2)
+    breaks known tick span same_tick tell (Faulted k) v = is_broken span (StandsPaced known tick span.first span.last (AreInTurn gives addresses span.pauses) gives) v 0
+        (λ j link line e at told. inl (given_whole v.serving.calls v.serving.made.0.made j link line e at told)) (at_ticks known tick span v.serving.calls same_tick tell v.serving.made.1 v.serving.made.2)
+    breaks known tick span same_tick tell (Stopped why) v = is_broken span (StandsPaced known tick span.first span.last (AreInTurn gives addresses span.pauses) (HaltsThen halts)) v v.serving.made.0.0
+        (given_then v.serving.calls v.serving.made.0.0 v.serving.made.0.1) (at_ticks known tick span v.serving.calls same_tick tell v.serving.made.1 v.serving.made.2)
 
-    ends_as : (known : Type 0) (tick old paused : ℕ) (same_tick : tick ≡ c.tick) (tell : tells → known) (failed : (j : ℕ) (p : LivePort (Lane LegItem (LinkLeg I) G)) → slice_get ports j ≡ Some p → p.failed ≡ true → has_fault (popped_in p.inlet) ≡ true) (t : Turned LiveFault)
-        → RanTo popped_in t (StandsPaced known tick old (AreInTurn gives addresses paused) gives) (StandsPaced known tick old (AreInTurn gives addresses paused) (HaltsThen halts)) (setup c) (pts_at c) c.turns ports m → WasFaulted t ports → WasStopped (IsUnsentIn (λ (x : SendingState (FarEnds O)) (why : LiveFault). IsUnsent o.faults x.outbound why)) t m → m.short ≡ false
-        → EndsAs i o (stands tap) tells c paused backs far.links.items far.listeners.items t
+    ends_as : (known : Type 0) (tick : ℕ) (span : Span) (same_tick : tick ≡ c.tick) (tell : tells → known) (failed : (j : ℕ) (p : LivePort (Lane LegItem (LinkLeg I) G)) → slice_get ports j ≡ Some p → p.failed ≡ true → has_fault (popped_in p.inlet) ≡ true) (t : Turned LiveFault)
+        → RanTo popped_in t (StandsPaced known tick span.first span.last (AreInTurn gives addresses span.pauses) gives) (StandsPaced known tick span.first span.last (AreInTurn gives addresses span.pauses) (HaltsThen halts)) (setup c) (pts_at c) c.turns ports m → WasFaulted t ports → WasStopped (IsUnsentIn (λ (x : SendingState (FarEnds O)) (why : LiveFault). IsUnsent o.faults x.outbound why)) t m → m.short ≡ false
+        → EndsAs i o (stands tap) tells c span backs far.links.items far.listeners.items t
     unfolding done_law closed_law
-    ends_as known tick old paused same_tick tell failed Done v f s long = is_call paused served.Done v.serving.calls v.serving.made.0 (at_ticks known tick old paused v.serving.calls same_tick tell v.serving.made.1 v.serving.made.2) long (λ takes given w. done_law popped_in (StandsPaced known tick old (AreInTurn gives addresses paused) gives) c (pts_at c) ports m takes given v w) (λ takes given w. refl)
-    ends_as known tick old paused same_tick tell failed Closed v f s long = is_call paused served.Closed v.serving.calls v.serving.made.0 (at_ticks known tick old paused v.serving.calls same_tick tell v.serving.made.1 v.serving.made.2) long (λ takes given w. closed_law popped_in (StandsPaced known tick old (AreInTurn gives addresses paused) gives) c (pts_at c) ports m takes given v w) (λ takes given w. refl)
-    ends_as known tick old paused same_tick tell failed (Faulted j) v f s long = (fault_at j f.0 f.1 (failed j f.0 f.1 f.2), breaks known tick old paused same_tick tell (Faulted j) v)
-    ends_as known tick old paused same_tick tell failed (Stopped (Link j)) v f s long = (s, let t : Turned LiveFault = Stopped (Link j) in breaks known tick old paused same_tick tell t v)
-    ends_as known tick old paused same_tick tell failed (Stopped NoMemory) v f s long = inl (let t : Turned LiveFault = Stopped NoMemory in breaks known tick old paused same_tick tell t v)
+    ends_as known tick span same_tick tell failed Done v f s long = is_call span served.Done v.serving.calls v.serving.made.0 (at_ticks known tick span v.serving.calls same_tick tell v.serving.made.1 v.serving.made.2) long (λ takes given w. done_law popped_in (StandsPaced known tick span.first span.last (AreInTurn gives addresses span.pauses) gives) c (pts_at c) ports m takes given v w) (λ takes given w. refl)
+    ends_as known tick span same_tick tell failed Closed v f s long = is_call span served.Closed v.serving.calls v.serving.made.0 (at_ticks known tick span v.serving.calls same_tick tell v.serving.made.1 v.serving.made.2) long (λ takes given w. closed_law popped_in (StandsPaced known tick span.first span.last (AreInTurn gives addresses span.pauses) gives) c (pts_at c) ports m takes given v w) (λ takes given w. refl)
+    ends_as known tick span same_tick tell failed (Faulted j) v f s long = (fault_at j f.0 f.1 (failed j f.0 f.1 f.2), breaks known tick span same_tick tell (Faulted j) v)
+    ends_as known tick span same_tick tell failed (Stopped (Link j)) v f s long = (s, let t : Turned LiveFault = Stopped (Link j) in breaks known tick span same_tick tell t v)
+    ends_as known tick span same_tick tell failed (Stopped NoMemory) v f s long = inl (let t : Turned LiveFault = Stopped NoMemory in breaks known tick span same_tick tell t v)
 
     -- or for want of memory, where the tap had none
-    pub ends_told : (known : Type 0) (tick old paused : ℕ) (same_tick : tick ≡ c.tick) (tell : tells → known) (failed : (j : ℕ) (p : LivePort (Lane LegItem (LinkLeg I) G)) → slice_get ports j ≡ Some p → p.failed ≡ true → has_fault (popped_in p.inlet) ≡ true) (t : Turned LiveFault) (short : Bool)
+    pub ends_told : (known : Type 0) (tick : ℕ) (span : Span) (same_tick : tick ≡ c.tick) (tell : tells → known) (failed : (j : ℕ) (p : LivePort (Lane LegItem (LinkLeg I) G)) → slice_get ports j ≡ Some p → p.failed ≡ true → has_fault (popped_in p.inlet) ≡ true) (t : Turned LiveFault) (short : Bool)
         → m.short ≡ short
-        → RanTo popped_in t (StandsPaced known tick old (AreInTurn gives addresses paused) gives) (StandsPaced known tick old (AreInTurn gives addresses paused) (HaltsThen halts)) (setup c) (pts_at c) c.turns ports m → WasFaulted t ports → WasStopped (IsUnsentIn (λ (x : SendingState (FarEnds O)) (why : LiveFault). IsUnsent o.faults x.outbound why)) t m
-        → EndsAs i o (stands tap) tells c paused backs far.links.items far.listeners.items (ended_with short t)
-    ends_told known tick old paused same_tick tell failed t true is v f s = inl (breaks known tick old paused same_tick tell t v)
-    ends_told known tick old paused same_tick tell failed t false is v f s = ends_as known tick old paused same_tick tell failed t v f s is
+        → RanTo popped_in t (StandsPaced known tick span.first span.last (AreInTurn gives addresses span.pauses) gives) (StandsPaced known tick span.first span.last (AreInTurn gives addresses span.pauses) (HaltsThen halts)) (setup c) (pts_at c) c.turns ports m → WasFaulted t ports → WasStopped (IsUnsentIn (λ (x : SendingState (FarEnds O)) (why : LiveFault). IsUnsent o.faults x.outbound why)) t m
+        → EndsAs i o (stands tap) tells c span backs far.links.items far.listeners.items (ended_with short t)
+    ends_told known tick span same_tick tell failed t true is v f s = inl (breaks known tick span same_tick tell t v)
+    ends_told known tick span same_tick tell failed t false is v f s = ends_as known tick span same_tick tell failed t v f s is
 
 -- ---- before the first turn
 pub are_unused : {O K : Type 0} (o : outs.Ghosts O K) (tells : Type 0) (c : Conf) (ends : List O) → OpenEnds o tells c ends → length ends ≡ length c.legs → AreUnused o.given o.faults ends
@@ -367,9 +368,9 @@ module _ {O K : Type 0} (o : outs.Ghosts O K) (tells : Type 0) (c : Conf) (first
       (are j first.0 first.1 line at).at ∙ ap Some (sym one)
 
 -- ---- a call that did not begin
-pub not_called : {I O T K : Type 0} (i : ins.Ghosts I) (o : outs.Ghosts O K) (stands : List Notice → Type 0) (tells : Type 0) (c : Conf) (paused : ℕ) (opened : ℕ → Bool) (legs : List (LinkLeg I)) (links : List O) (called : Called I O T) → OpenLegs i tells opened c legs → OpenEnds o tells c links
-    → length legs ≡ length c.legs → length links ≡ length c.legs → called.turned ≡ Stopped NoMemory → called.legs.items ≡ legs → called.ends.items ≡ links → IsCalled i o stands tells c paused opened called
-not_called {I} {O} i o stands tells c paused opened legs links called are_legs are_ends many many_ends turned is is_ends = record {
+pub not_called : {I O T K : Type 0} (i : ins.Ghosts I) (o : outs.Ghosts O K) (stands : List Notice → Type 0) (tells : Type 0) (c : Conf) (span : Span) (opened : ℕ → Bool) (legs : List (LinkLeg I)) (links : List O) (called : Called I O T) → OpenLegs i tells opened c legs → OpenEnds o tells c links
+    → length legs ≡ length c.legs → length links ≡ length c.legs → called.turned ≡ Stopped NoMemory → called.legs.items ≡ legs → called.ends.items ≡ links → IsCalled i o stands tells c span opened called
+not_called {I} {O} i o stands tells c span opened legs links called are_legs are_ends many many_ends turned is is_ends = record {
   many_legs = ap (λ (xs : List (LinkLeg _)). length xs) is ∙ many;
   many_ends = ap (λ (xs : List _). length xs) is_ends ∙ many_ends;
   legs_at = λ j leg line there at. (are_legs j leg (ap (λ (xs : List (LinkLeg _)). slice_get xs j) (sym is) ∙ there) line at).at;
@@ -379,7 +380,7 @@ not_called {I} {O} i o stands tells c paused opened legs links called are_legs a
       let w = are_legs j first.0 first.1 line at in
       let same : i.port first.0.link ≡ p = cc (sym w.at ∙ e) in
       subst (λ (q : ℕ). opened q ≡ true) same (w.told t).2;
-  ended = subst (λ (t : Turned LiveFault). EndsAs i o stands tells c paused called.legs.items called.ends.items called.listeners.items t) (sym turned)
+  ended = subst (λ (t : Turned LiveFault). EndsAs i o stands tells c span called.legs.items called.ends.items called.listeners.items t) (sym turned)
       (inr (subst (λ (xs : List O). AreUnused o.given o.faults xs) (sym is_ends) (are_unused o tells c links are_ends many_ends)));
 }
 
@@ -393,18 +394,17 @@ pub call_made : {I O W G T K H : Type 0} (i : ins.Ghosts I) (o : outs.Ghosts O K
     → job.mixer.mixer.outbound.links.items ≡ firsts → HasAll o.tells (packets_in o.given) o.faults c job.mixer.mixer → stands job.mixer.tap [] → job.turns ≡ c.turns → job.tick ≡ c.tick → (tells → k.tells) → (tells → (p : ℕ) → later p ≡ opened p)
     → RanAs i k (TellsFor (GivesFor o.tells (packets_in o.given) o.faults) stands) (HaltsTold (GivesFor o.tells (packets_in o.given) o.faults) (HaltsGiving o.tells (packets_in o.given))) (λ (m : Tapped (SendingState (FarEnds O)) T). addresses_of o.port o.given m.mixer.outbound.links.items) (IsUnsentIn (λ (m : SendingState (FarEnds O)) (why : LiveFault). IsUnsent o.faults m.outbound why)) job ended
     → Learns stands ended.mixer.tap tap Shows
-    → IsCalled i o (stands tap) tells c (k.pauses job.clock.now) later (record { turned = ended_with ended.mixer.short ended.turned; legs = ended.legs; ends = ended.mixer.mixer.outbound.links; listeners = ended.mixer.mixer.outbound.listeners; tap = tap })
+    → IsCalled i o (stands tap) tells c (record { pauses = k.pauses job.clock.now; first = k.moment job.clock.now; last = k.moment ended.clock.now }) later (record { turned = ended_with ended.mixer.short ended.turned; legs = ended.legs; ends = ended.mixer.mixer.outbound.links; listeners = ended.mixer.mixer.outbound.listeners; tap = tap })
 call_made {I} {O} {W} {G} {T} i o k stands tells c job ended tap opened later firsts links are many are_ends many_ends is all none turns ticks tell still ran shows =
     let m = ended.mixer in
     let legs = job.legs.items in
     let backs = ended.legs.items in
-    let paused = k.pauses job.clock.now in
-    let moment = k.moment job.clock.now in
+    let span : Span = record { pauses = k.pauses job.clock.now; first = k.moment job.clock.now; last = k.moment ended.clock.now } in
     let gives : Tapped (SendingState (FarEnds O)) T → Setup → (ℕ → Pts) → List Call → Type 0 = TellsFor (GivesFor o.tells (packets_in o.given) o.faults) stands in
     let first : gives job.mixer (setup c) (pts_at c) (all_admitted (length c.legs)) = tells_first (GivesFor o.tells (packets_in o.given) o.faults) stands job.mixer (setup c) (pts_at c) (length c.legs) all none in
-    let order : Tapped (SendingState (FarEnds O)) T → Setup → (ℕ → Pts) → List Call → Type 0 = AreInTurn gives (λ (x : Tapped (SendingState (FarEnds O)) T). addresses_of o.port o.given x.mixer.outbound.links.items) paused in
-    let gives_paced : Tapped (SendingState (FarEnds O)) T → Setup → (ℕ → Pts) → List Call → Type 0 = StandsPaced k.tells job.tick moment order gives in
-    let halts_paced : Tapped (SendingState (FarEnds O)) T → Setup → (ℕ → Pts) → List Call → Type 0 = StandsPaced k.tells job.tick moment order (HaltsThen (HaltsTold (GivesFor o.tells (packets_in o.given) o.faults) (HaltsGiving o.tells (packets_in o.given)))) in
+    let order : Tapped (SendingState (FarEnds O)) T → Setup → (ℕ → Pts) → List Call → Type 0 = AreInTurn gives (λ (x : Tapped (SendingState (FarEnds O)) T). addresses_of o.port o.given x.mixer.outbound.links.items) span.pauses in
+    let gives_paced : Tapped (SendingState (FarEnds O)) T → Setup → (ℕ → Pts) → List Call → Type 0 = StandsPaced k.tells job.tick span.first span.last order gives in
+    let halts_paced : Tapped (SendingState (FarEnds O)) T → Setup → (ℕ → Pts) → List Call → Type 0 = StandsPaced k.tells job.tick span.first span.last order (HaltsThen (HaltsTold (GivesFor o.tells (packets_in o.given) o.faults) (HaltsGiving o.tells (packets_in o.given)))) in
     let made : RanTo popped_in ended.turned gives_paced halts_paced (setup c) (pts_at c) c.turns ran.ports m = subst (λ (n : ℕ). RanTo popped_in ended.turned gives_paced halts_paced (setup c) (pts_at c) n ran.ports m) turns (ran.ran (setup c) (pts_at c) (sym many) links.stay first) in
     let same : map o.port m.mixer.outbound.links.items ≡ map o.port firsts =
     sym (ports_are o.port o.given m.mixer.outbound.links.items) ∙ (ran.addresses_are ∙ (ports_are o.port o.given job.mixer.mixer.outbound.links.items ∙ ap (λ (xs : List O). map o.port xs) is)) in
@@ -418,7 +418,7 @@ call_made {I} {O} {W} {G} {T} i o k stands tells c job ended tap opened later fi
       legs_at = backs_at i tells opened c legs backs ran.ports are many ran.each ran.many ran.legs;
       ends_at = far_ends_at o tells c firsts m.mixer.outbound.links.items are_ends same;
       are_open = λ t j line p at e. still t p ∙ ports_open i tells opened c legs backs ran.ports are many ran.each ran.many ran.legs t j line p at e;
-      ended = ends_told i tells opened c legs backs ran.ports are many ran.each ran.many ran.legs o tells_out stands m tap shows k.tells job.tick moment paused ticks tell ran.failed ended.turned m.short refl made ran.faulted ran.stopped;
+      ended = ends_told i tells opened c legs backs ran.ports are many ran.each ran.many ran.legs o tells_out stands m tap shows k.tells job.tick span ticks tell ran.failed ended.turned m.short refl made ran.faulted ran.stopped;
     }
 
 -- all turns were made where the call ended so

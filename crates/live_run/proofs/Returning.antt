@@ -10,6 +10,7 @@ use Rattle.link_spec.specs.Links.{Takes}
 use Rattle.link_io.specs.Given.{given_by, packets}
 use Rattle.link_io.specs.declared.ends.LinkIn as ins
 use Rattle.link_io.specs.declared.ends.LinkOut as outs
+use Rattle.link_io.specs.declared.links.Links as over
 use Rattle.live_leg.specs.declared.legs.LinkLeg.{LinkLeg}
 use Rattle.live_loop.specs.declared.turns.Turned.{Turned}
 use Rattle.live_loop.specs.declared.turns.Turned.TheVariants.{Done, Closed, Faulted, Stopped}
@@ -30,6 +31,7 @@ use Rattle.live_run.specs.Listeners.{ArePrintedOf, Listening}
 use Rattle.live_run.specs.Opened.{AreCalm, AreStored, FaultsRose, GivesNothing, HaveOwnPorts, IsNotOpened, link_in, link_of, port_of}
 use Rattle.live_run.specs.Ends.{packets_in}
 use Rattle.live_run.specs.Reports.{end_of}
+use Rattle.live_run.specs.Spans.{Span, span_of}
 use Rattle.live_run.specs.Taps.{Notice}
 use Rattle.live_run.proofs.Closing.{rose_on}
 use Rattle.live_run.proofs.Composing.{leg_within}
@@ -71,16 +73,18 @@ module _ {X : Type 0} (c : Conf) (links : IsOfLinks c) (port_of : X → ℕ) (xs
 
 -- ---- in turn
 -- what was given to the links lies at the ports
-paced_at : (c : Conf) → IsOfLinks c → (table : Table) (paused : ℕ) (given under : ℕ → List (ℕ × List ℕ)) → AtPorts c under given → WasPaced c table paused given → WasPaced c table paused (at_ports_of c under)
-paced_at c links table paused given under lies w = record {
+paced_at : (c : Conf) → IsOfLinks c → (table : Table) (span : Span) (given under : ℕ → List (ℕ × List ℕ)) → AtPorts c under given → WasPaced c table span given → WasPaced c table span (at_ports_of c under)
+paced_at c links table span given under lies w = record {
   calls = w.calls;
   made = w.made;
   began = w.began;
+  behind = w.behind;
   at = w.at;
+  told = w.told;
   in_turn = λ k j line made early at.
       let p = some_port (port line.input) (links.ports j line at) in
       let number : port_of c j ≡ p.0 = ap (λ (x : Option LegLine). option_map_or (λ (leg : LegLine). (link_of leg).0) x 0) at ∙ ap (λ (x : Option ℕ). option_map_or (λ (q : ℕ). q) x 0) p.1 in
-      ap (λ (xs : List (ℕ × List ℕ)). packets (given_by (paused + k) xs)) (ap under number ∙ lies j line p.0 at p.1) ∙ w.in_turn k j line made early at;
+      ap (λ (xs : List (ℕ × List ℕ)). packets (given_by (span.pauses + k) xs)) (ap under number ∙ lies j line p.0 at p.1) ∙ w.in_turn k j line made early at;
 }
 
 -- ---- counts
@@ -90,16 +94,16 @@ rose_since first before last l (inl r) = inl (omega (arith, l, r))
 rose_since first before last l (inr r) = inr r
 
 -- ---- what is answered
-ended_call : {I O K : Type 0} (i : ins.Ghosts I) (o : outs.Ghosts O K) (stands : List Notice → Type 0) (tells : Type 0) (c : Conf) (paused : ℕ) (legs : List (LinkLeg I)) (links : List O) (listeners : List Listening) (t : Turned LiveFault) (end : LiveEnd)
-    → EndsAs i o stands tells c paused legs links listeners t → answer_of t ≡ Ok end → IsCallOf i o stands tells c paused legs links listeners (end_of end)
-ended_call i o stands tells c paused legs links listeners Done end w e =
+ended_call : {I O K : Type 0} (i : ins.Ghosts I) (o : outs.Ghosts O K) (stands : List Notice → Type 0) (tells : Type 0) (c : Conf) (span : Span) (legs : List (LinkLeg I)) (links : List O) (listeners : List Listening) (t : Turned LiveFault) (end : LiveEnd)
+    → EndsAs i o stands tells c span legs links listeners t → answer_of t ≡ Ok end → IsCallOf i o stands tells c span legs links listeners (end_of end)
+ended_call i o stands tells c span legs links listeners Done end w e =
     let same : ends.Done ≡ end = cc e in
-    subst (λ (x : LiveEnd). IsCallOf i o stands tells c paused legs links listeners (end_of x)) same w
-ended_call i o stands tells c paused legs links listeners Closed end w e =
+    subst (λ (x : LiveEnd). IsCallOf i o stands tells c span legs links listeners (end_of x)) same w
+ended_call i o stands tells c span legs links listeners Closed end w e =
     let same : ends.Closed ≡ end = cc e in
-    subst (λ (x : LiveEnd). IsCallOf i o stands tells c paused legs links listeners (end_of x)) same w
-ended_call i o stands tells c paused legs links listeners (Faulted j) end w e = absurd (cc e)
-ended_call i o stands tells c paused legs links listeners (Stopped why) end w e = absurd (cc e)
+    subst (λ (x : LiveEnd). IsCallOf i o stands tells c span legs links listeners (end_of x)) same w
+ended_call i o stands tells c span legs links listeners (Faulted j) end w e = absurd (cc e)
+ended_call i o stands tells c span legs links listeners (Stopped why) end w e = absurd (cc e)
 
 pub done_turned : (t : Turned LiveFault) (end : LiveEnd) → answer_of t ≡ Ok end → end ≡ ends.Done → t ≡ Done
 done_turned Done end e d = refl
@@ -116,10 +120,10 @@ broken : (c : Conf) (takes : ℕ → Takes) (given : ℕ → List (List ℕ)) (e
 broken c takes given end printed w = record { table = w.table; turns = w.turns; live = w.live; few = w.few; gives = w.gives; prints = refl; done = λ e. absurd (cc e); goes_on = λ e. absurd (cc e); drained = λ e. absurd (cc e); idle = λ e. absurd (cc e) }
 
 -- so did any that was served
-call_breaks : {I O K : Type 0} (i : ins.Ghosts I) (o : outs.Ghosts O K) (stands : List Notice → Type 0) (tells : Type 0) (c : Conf) (paused : ℕ) (legs : List (LinkLeg I)) (links : List O) (listeners : List Listening) (end : End)
-    → IsCallOf i o stands tells c paused legs links listeners end → IsBrokenOff i o tells c paused legs links
+call_breaks : {I O K : Type 0} (i : ins.Ghosts I) (o : outs.Ghosts O K) (stands : List Notice → Type 0) (tells : Type 0) (c : Conf) (span : Span) (legs : List (LinkLeg I)) (links : List O) (listeners : List Listening) (end : End)
+    → IsCallOf i o stands tells c span legs links listeners end → IsBrokenOff i o tells c span legs links
 unfolding broken
-call_breaks i o stands tells c paused legs links listeners end w = record {
+call_breaks i o stands tells c span legs links listeners end w = record {
   takes = w.takes;
   given = w.given;
   served = broken c w.takes w.given end (live_printed c w.given end) w.served;
@@ -129,18 +133,18 @@ call_breaks i o stands tells c paused legs links listeners end w = record {
   paced = w.paced;
 }
 
-any_breaks : {I O K : Type 0} (i : ins.Ghosts I) (o : outs.Ghosts O K) (stands : List Notice → Type 0) (tells : Type 0) (c : Conf) (paused : ℕ) (legs : List (LinkLeg I)) (links : List O) (listeners : List Listening) (t : Turned LiveFault)
-    → EndsAs i o stands tells c paused legs links listeners t → HasGivenUp i o tells c paused legs links
-any_breaks i o stands tells c paused legs links listeners Done w = inl (call_breaks i o stands tells c paused legs links listeners served.Done w)
-any_breaks i o stands tells c paused legs links listeners Closed w = inl (call_breaks i o stands tells c paused legs links listeners served.Closed w)
-any_breaks i o stands tells c paused legs links listeners (Faulted j) w = inl w.1
-any_breaks i o stands tells c paused legs links listeners (Stopped (Link j)) w = inl w.1
-any_breaks i o stands tells c paused legs links listeners (Stopped NoMemory) w = w
+any_breaks : {I O K : Type 0} (i : ins.Ghosts I) (o : outs.Ghosts O K) (stands : List Notice → Type 0) (tells : Type 0) (c : Conf) (span : Span) (legs : List (LinkLeg I)) (links : List O) (listeners : List Listening) (t : Turned LiveFault)
+    → EndsAs i o stands tells c span legs links listeners t → HasGivenUp i o tells c span legs links
+any_breaks i o stands tells c span legs links listeners Done w = inl (call_breaks i o stands tells c span legs links listeners served.Done w)
+any_breaks i o stands tells c span legs links listeners Closed w = inl (call_breaks i o stands tells c span legs links listeners served.Closed w)
+any_breaks i o stands tells c span legs links listeners (Faulted j) w = inl w.1
+any_breaks i o stands tells c span legs links listeners (Stopped (Link j)) w = inl w.1
+any_breaks i o stands tells c span legs links listeners (Stopped NoMemory) w = w
 
 -- when its links were handed back
-pub was_broken : (tells : Type 0) (paused : ℕ) (taken_at : ℕ → Takes) (given_at : ℕ → List (ℕ × List ℕ)) (c : Conf) (end : End) (printed : List ℕ) → WasServed tells paused taken_at given_at c end printed → WasBroken tells paused taken_at given_at c
+pub was_broken : (tells : Type 0) (span : Span) (taken_at : ℕ → Takes) (given_at : ℕ → List (ℕ × List ℕ)) (c : Conf) (end : End) (printed : List ℕ) → WasServed tells span taken_at given_at c end printed → WasBroken tells span taken_at given_at c
 unfolding broken
-was_broken tells paused taken_at given_at c end printed w =
+was_broken tells span taken_at given_at c end printed w =
     let b = broken c w.takes w.given end printed w.served in
     record {
       takes = w.takes;
@@ -153,15 +157,15 @@ was_broken tells paused taken_at given_at c end printed w =
       paced = w.paced;
     }
 
-module _ {I O T K : Type 0} (i : ins.Ghosts I) (o : outs.Ghosts O K) (stands : List Notice → Type 0) (tells : Type 0) (c : Conf) (paused : ℕ) (opened : ℕ → Bool) (called : Called I O T) (w : IsCalled i o stands tells c paused opened called) where
+module _ {I O T K : Type 0} (i : ins.Ghosts I) (o : outs.Ghosts O K) (stands : List Notice → Type 0) (tells : Type 0) (c : Conf) (span : Span) (opened : ℕ → Bool) (called : Called I O T) (w : IsCalled i o stands tells c span opened called) where
   pub each_heard : (end : LiveEnd) → answer_of called.turned ≡ Ok end → length called.listeners.items ≡ length c.legs
-  each_heard end e = (ended_call i o stands tells c paused called.legs.items called.ends.items called.listeners.items called.turned end w.ended e).many
+  each_heard end e = (ended_call i o stands tells c span called.legs.items called.ends.items called.listeners.items called.turned end w.ended e).many
 
   -- no end had failed where all links were closed
   pub calm_closed : {first at_call between last : ℕ → ℕ} → ((p : ℕ) → at_call p ≡ first p) → (AreCalm (λ (leg : LinkLeg I). i.faults (link_in leg)) called.legs.items → (p : ℕ) → between p ≡ at_call p)
       → (AreCalm o.faults called.ends.items → (p : ℕ) → last p ≡ between p) → (end : LiveEnd) → answer_of called.turned ≡ Ok end → end ≡ ends.Closed → (p : ℕ) → last p ≡ first p
   calm_closed same legs links end e closed p =
-      let v = ended_call i o stands tells c paused called.legs.items called.ends.items called.listeners.items called.turned end w.ended e in
+      let v = ended_call i o stands tells c span called.legs.items called.ends.items called.listeners.items called.turned end w.ended e in
       links v.calm_ends p ∙ (legs (v.calm_legs (ap end_of closed)) p ∙ same p)
 
   -- all ends were handed back
@@ -171,10 +175,10 @@ module _ {I O T K : Type 0} (i : ins.Ghosts I) (o : outs.Ghosts O K) (stands : L
     lies_there : tells → AtPorts c given_at (at_link o.given called.ends.items)
     lies_there t = at_ports c links o.port called.ends.items w.many_ends w.ends_at o.given opened given_at (at_link o.given called.ends.items) (w.are_open t) (stored_ends t) (λ j link e. sym (ap (λ (x : Option O). option_map_or o.given x []) e))
 
-    pub was_served : (end : LiveEnd) (printed : List ℕ) → answer_of called.turned ≡ Ok end → ArePrintedOf c called.listeners.items (end_of end) printed → WasTapped stands tells paused taken_at given_at c (end_of end) printed
+    pub was_served : (end : LiveEnd) (printed : List ℕ) → answer_of called.turned ≡ Ok end → ArePrintedOf c called.listeners.items (end_of end) printed → WasTapped stands tells span taken_at given_at c (end_of end) printed
     unfolding prints_so ended_call
     was_served end printed e shown =
-        let v = ended_call i o stands tells c paused called.legs.items called.ends.items called.listeners.items called.turned end w.ended e in
+        let v = ended_call i o stands tells c span called.legs.items called.ends.items called.listeners.items called.turned end w.ended e in
         let is : printed ≡ live_printed c v.given (end_of end) = shown v.given v.heard in
         let served : IsServed c v.takes v.given (end_of end) printed = prints_so c v.takes v.given (end_of end) printed v.served is in
         record {
@@ -186,17 +190,17 @@ module _ {I O T K : Type 0} (i : ins.Ghosts I) (o : outs.Ghosts O K) (stands : L
             same = λ octets read. same_run octets c v.takes v.given (end_of end) printed read served;
             taken = λ t. at_ports c links (λ (leg : LinkLeg I). i.port (link_in leg)) called.legs.items w.many_legs w.legs_at (λ (leg : LinkLeg I). i.taken (link_in leg)) opened taken_at v.takes (w.are_open t) (stored_legs t) (v.taken t);
             gave = λ t. at_ports c links o.port called.ends.items w.many_ends w.ends_at (packets_in o.given) opened (packets_in given_at) v.given (w.are_open t) (λ own j x at is. ap packets (stored_ends t own j x at is)) (v.gave t);
-            paced = λ t. paced_at c links v.served.table paused (at_link o.given called.ends.items) given_at (lies_there t) (v.paced t);
+            paced = λ t. paced_at c links v.served.table span (at_link o.given called.ends.items) given_at (lies_there t) (v.paced t);
           };
           told = v.told;
         }
 
-    pub broke_off : (before : ℕ → List (ℕ × List ℕ)) → BrokeOff tells paused before taken_at given_at c
+    pub broke_off : (before : ℕ → List (ℕ × List ℕ)) → BrokeOff tells span before taken_at given_at c
     broke_off before =
         let legs = called.legs.items in
         let ends = called.ends.items in
         let in_port : LinkLeg I → ℕ = λ leg. i.port (link_in leg) in
-        elim (any_breaks i o stands tells c paused legs ends called.listeners.items called.turned w.ended) [
+        elim (any_breaks i o stands tells c span legs ends called.listeners.items called.turned w.ended) [
           | inl b ↦ inl (record {
             takes = b.takes;
             given = b.given;
@@ -207,7 +211,7 @@ module _ {I O T K : Type 0} (i : ins.Ghosts I) (o : outs.Ghosts O K) (stands : L
             gave = λ t j line p at e.
                 let x = stored_at c links o.port ends w.many_ends w.ends_at o.given opened given_at (w.are_open t) (stored_ends t) j line p at e in
                 subst (λ (given : List (ℕ × List ℕ)). IsCutShort c b.served.table b.now j line (packets given)) (sym x.2) (b.gave t j x.0 line x.1 at);
-            paced = λ t. paced_at c links b.served.table paused (at_link o.given ends) given_at (lies_there t) (b.paced t);
+            paced = λ t. paced_at c links b.served.table span (at_link o.given ends) given_at (lies_there t) (b.paced t);
           })
           | inr unused ↦ inr (λ t j line p at e. inr (at_ports c links o.port ends w.many_ends w.ends_at o.given opened given_at (λ j. []) (w.are_open t) (stored_ends t) (λ j link there. (unused j link there).0) j line p at e))
         ]
@@ -216,7 +220,7 @@ module _ {I O T K : Type 0} (i : ins.Ghosts I) (o : outs.Ghosts O K) (stands : L
   module _ (links : IsOfLinks c) (own own' ends_before ends_between ends_after : ℕ → ℕ) (never : (p : ℕ) → ends_before p ≤ ends_between p) (never_then : (p : ℕ) → ends_between p ≤ ends_after p)
       (rose_legs : FaultsRose (λ (leg : LinkLeg I). i.faults (link_in leg)) (λ (leg : LinkLeg I). i.port (link_in leg)) ends_before ends_between called.legs.items)
       (rose_ends : FaultsRose o.faults o.port ends_between ends_after called.ends.items) where
-    given_up_so : (t : Turned LiveFault) (fault : LiveFault) → EndsAs i o stands tells c paused called.legs.items called.ends.items called.listeners.items t → answer_of t ≡ Err fault → WasGivenUp own own' ends_before ends_after c fault
+    given_up_so : (t : Turned LiveFault) (fault : LiveFault) → EndsAs i o stands tells c span called.legs.items called.ends.items called.listeners.items t → answer_of t ≡ Err fault → WasGivenUp own own' ends_before ends_after c fault
     given_up_so Done fault e q = absurd (cc q)
     given_up_so Closed fault e q = absurd (cc q)
     given_up_so (Faulted j) fault e q =
@@ -245,38 +249,48 @@ was_not_opened tells opened own own' ends_before ends_after c links (Link k) n =
 was_not_opened tells opened own own' ends_before ends_after c links NoMemory n = tt
 
 -- then nothing was given
-pub gave_nothing : (tells : Type 0) (paused : ℕ) (before given_at : ℕ → List (ℕ × List ℕ)) (taken_at : ℕ → Takes) (c : Conf) → (tells → GivesNothing before given_at) → BrokeOff tells paused before taken_at given_at c
-gave_nothing tells paused before given_at taken_at c nothing = inr (λ t j line p at e. nothing t p)
+pub gave_nothing : (tells : Type 0) (span : Span) (before given_at : ℕ → List (ℕ × List ℕ)) (taken_at : ℕ → Takes) (c : Conf) → (tells → GivesNothing before given_at) → BrokeOff tells span before taken_at given_at c
+gave_nothing tells span before given_at taken_at c nothing = inr (λ t j line p at e. nothing t p)
 
 -- ---- by the calls that opened the links, made the call, and closed them
-module _ {I O T K : Type 0} (i : ins.Ghosts I) (o : outs.Ghosts O K) (stands : List Notice → Type 0) (tells : Type 0) (c : Conf) (paused : ℕ) (opened : ℕ → Bool) (called : Called I O T) (w : IsCalled i o stands tells c paused opened called) (links : IsOfLinks c) where
-  pub served_by : (first : ℕ) → paused ≡ first → (open_then : ℕ → Bool) (taken_then taken_at : ℕ → Takes) (given_at : ℕ → List (ℕ × List ℕ))
+-- the clock stood while links were opened and closed
+abbrev span_from : ℕ → ℕ → ℕ → Span
+span_from pauses first last = record { pauses = pauses; first = first; last = last }
+
+pub same_span : {W I O C : Type 0} (g : over.Ghosts W I O C) (first opened called last : W) → g.pauses opened ≡ g.pauses first → g.moment opened ≡ g.moment first → g.moment last ≡ g.moment called → span_of g opened called ≡ span_of g first last
+same_span g first opened called last pauses began ended =
+    ap (λ (n : ℕ). span_from n (g.moment opened) (g.moment called)) pauses
+    ∙ (ap (λ (n : ℕ). span_from (g.pauses first) n (g.moment called)) began
+    ∙ ap (λ (n : ℕ). span_from (g.pauses first) (g.moment first) n) (sym ended))
+
+module _ {I O T K : Type 0} (i : ins.Ghosts I) (o : outs.Ghosts O K) (stands : List Notice → Type 0) (tells : Type 0) (c : Conf) (span : Span) (opened : ℕ → Bool) (called : Called I O T) (w : IsCalled i o stands tells c span opened called) (links : IsOfLinks c) where
+  pub served_by : (first : Span) → span ≡ first → (open_then : ℕ → Bool) (taken_then taken_at : ℕ → Takes) (given_at : ℕ → List (ℕ × List ℕ))
       → (tells → AreStored (λ (leg : LinkLeg I). i.taken (link_in leg)) (λ (leg : LinkLeg I). i.port (link_in leg)) opened taken_then called.legs.items)
       → (tells → (p : ℕ) → taken_at p ≡ taken_then p) → (tells → (p : ℕ) → open_then p ≡ opened p) → (tells → AreStored o.given o.port open_then given_at called.ends.items)
       → (end : LiveEnd) (printed : List ℕ) → answer_of called.turned ≡ Ok end → ArePrintedOf c called.listeners.items (end_of end) printed → WasTapped stands tells first taken_at given_at c (end_of end) printed
   served_by first same open_then taken_then taken_at given_at legs same_taken same_open ends end printed e shown =
-      subst (λ (n : ℕ). WasTapped stands tells n taken_at given_at c (end_of end) printed) same
-      (was_served i o stands tells c paused opened called w links taken_at given_at (λ t own j leg at is. same_taken t (i.port (link_in leg)) ∙ legs t own j leg at is)
+      subst (λ (n : Span). WasTapped stands tells n taken_at given_at c (end_of end) printed) same
+      (was_served i o stands tells c span opened called w links taken_at given_at (λ t own j leg at is. same_taken t (i.port (link_in leg)) ∙ legs t own j leg at is)
       (λ t own j link at is. ends t own j link at (same_open t (o.port link) ∙ is)) end printed e shown)
 
-  pub broke_off_by : (first : ℕ) → paused ≡ first → (open_then : ℕ → Bool) (taken_then taken_at : ℕ → Takes) (given_at : ℕ → List (ℕ × List ℕ))
+  pub broke_off_by : (first : Span) → span ≡ first → (open_then : ℕ → Bool) (taken_then taken_at : ℕ → Takes) (given_at : ℕ → List (ℕ × List ℕ))
       → (tells → AreStored (λ (leg : LinkLeg I). i.taken (link_in leg)) (λ (leg : LinkLeg I). i.port (link_in leg)) opened taken_then called.legs.items)
       → (tells → (p : ℕ) → taken_at p ≡ taken_then p) → (tells → (p : ℕ) → open_then p ≡ opened p) → (tells → AreStored o.given o.port open_then given_at called.ends.items)
       → (before : ℕ → List (ℕ × List ℕ)) → BrokeOff tells first before taken_at given_at c
   broke_off_by first same open_then taken_then taken_at given_at legs same_taken same_open ends before =
-      subst (λ (n : ℕ). BrokeOff tells n before taken_at given_at c) same
-      (broke_off i o stands tells c paused opened called w links taken_at given_at (λ t own j leg at is. same_taken t (i.port (link_in leg)) ∙ legs t own j leg at is)
+      subst (λ (n : Span). BrokeOff tells n before taken_at given_at c) same
+      (broke_off i o stands tells c span opened called w links taken_at given_at (λ t own j leg at is. same_taken t (i.port (link_in leg)) ∙ legs t own j leg at is)
       (λ t own j link at is. ends t own j link at (same_open t (o.port link) ∙ is)) before)
 
   pub given_up_by : (own own' first at_call between last : ℕ → ℕ) → ((p : ℕ) → at_call p ≡ first p) → ((p : ℕ) → at_call p ≤ between p) → ((p : ℕ) → between p ≤ last p)
       → FaultsRose (λ (leg : LinkLeg I). i.faults (link_in leg)) (λ (leg : LinkLeg I). i.port (link_in leg)) at_call between called.legs.items → FaultsRose o.faults o.port between last called.ends.items
       → (fault : LiveFault) → answer_of called.turned ≡ Err fault → WasGivenUp own own' first last c fault
   given_up_by own own' first at_call between last same never never_then legs ends fault q =
-      was_given_up i o stands tells c paused opened called w links own own' first between last (λ p. let s = same p in let n = never p in omega (arith, s, n)) never_then
+      was_given_up i o stands tells c span opened called w links own own' first between last (λ p. let s = same p in let n = never p in omega (arith, s, n)) never_then
       (λ j leg at r. subst (λ (n : ℕ). Rose n (between (i.port (link_in leg)))) (same (i.port (link_in leg))) (legs j leg at r)) ends fault q
 
 -- ---- of a tap that shows nothing
-pub as_served : (stands : List Notice → Type 0) (tells : Type 0) (paused : ℕ) (taken_at : ℕ → Takes) (given_at : ℕ → List (ℕ × List ℕ)) (c : Conf) (result : Result LiveReport LiveFault)
-    → IfOk result (λ report. WasTapped stands tells paused taken_at given_at c (end_of report.end) report.views) → IfOk result (λ report. WasServed tells paused taken_at given_at c (end_of report.end) report.views)
-as_served stands tells paused taken_at given_at c (Ok report) w = w.was
-as_served stands tells paused taken_at given_at c (Err fault) w = w
+pub as_served : (stands : List Notice → Type 0) (tells : Type 0) (span : Span) (taken_at : ℕ → Takes) (given_at : ℕ → List (ℕ × List ℕ)) (c : Conf) (result : Result LiveReport LiveFault)
+    → IfOk result (λ report. WasTapped stands tells span taken_at given_at c (end_of report.end) report.views) → IfOk result (λ report. WasServed tells span taken_at given_at c (end_of report.end) report.views)
+as_served stands tells span taken_at given_at c (Ok report) w = w.was
+as_served stands tells span taken_at given_at c (Err fault) w = w

@@ -1,5 +1,5 @@
 -- What a live call of a conference of links comes to: behind its last turn, and when its links were handed back.
-use Rattle.std.specs.Prelude.{◌≡◌, ◌<◌, ◌+◌, ◌⊎◌, ℕ, suc, Bool, true, Some, Result, Ok, Err, List, [], ◌∷◌, length, slice_get}
+use Rattle.std.specs.Prelude.{◌≡◌, ◌≤◌, ◌<◌, ◌+◌, ◌⊎◌, ℕ, suc, Bool, true, Some, Result, Ok, Err, List, [], ◌∷◌, length, slice_get}
 use Rattle.std.specs.Option.{option_map_or}
 use Rattle.rtt_io.specs.Counts.{Rose, last_count}
 use Rattle.stream_spec.specs.Ready.{Chunk}
@@ -14,7 +14,7 @@ use Rattle.link_io.specs.Given.{given_by, packets}
 use Rattle.link_io.specs.declared.ends.LinkIn as ins
 use Rattle.link_io.specs.declared.ends.LinkOut as outs
 use Rattle.live_leg.specs.declared.legs.LinkLeg.{LinkLeg}
-use Rattle.live_loop.specs.Clocks.{AtTicks, moments_of}
+use Rattle.live_loop.specs.Clocks.{AtTicks, RiseTo, moments_of}
 use Rattle.live_loop.specs.Order.{up_to_turn}
 use Rattle.live_loop.specs.declared.turns.Turned.{Turned}
 use Rattle.live_loop.specs.declared.turns.Turned.TheVariants.{Done, Closed, Faulted, Stopped}
@@ -29,6 +29,7 @@ use Rattle.live_run.specs.declared.reports.LiveEnd.TheVariants as ends
 use Rattle.live_run.specs.Ends.{packets_in}
 use Rattle.live_run.specs.Listeners.{HasHeard, Listening}
 use Rattle.live_run.specs.Opened.{AreCalm, AreUnused, HavePorts, link_in, port_of}
+use Rattle.live_run.specs.Spans.{Span}
 use Rattle.live_run.specs.Taps.{Notice, Shows, chunks_of, notices_by}
 
 -- ---- conferences
@@ -85,20 +86,23 @@ GaveInTurn c paused given calls =
     (k j : ℕ) (line : LegLine) → k < turns_made calls → paused + k < last_count → leg_at c.legs j ≡ Some line
     → packets (given_by (paused + k) (given j)) ≡ given_to c (after_calls (setup c) (up_to_turn (suc k) calls)) j line
 
--- The calls by which the mixer came to this table: each turn was told a moment that lies at its multiple of the tick since the call
--- began, or later, and what it sends was given before the pause behind it, where the clock had paused so often when the call began.
-pub record WasPaced (c : Conf) (table : Table) (paused : ℕ) (given : ℕ → List (ℕ × List ℕ)) : Type 0 where
+-- The calls by which the mixer came to this table, while the clock went on so. The turns were told moments that never fall: each lies
+-- at its multiple of the tick since the call began, or later, and is none that the clock had not told by the call's end. What a turn
+-- sends was given before the pause behind it.
+pub record WasPaced (c : Conf) (table : Table) (span : Span) (given : ℕ → List (ℕ × List ℕ)) : Type 0 where
   pub calls : List Call
   pub made : after_calls (setup c) calls ≡ table
   pub began : ℕ
+  pub behind : span.first ≤ began
   pub at : AtTicks c.tick began (moments_of calls)
-  pub in_turn : GaveInTurn c paused given calls
+  pub told : RiseTo span.last (moments_of calls)
+  pub in_turn : GaveInTurn c span.pauses given calls
 
 -- what lies at the port of each leg
 abbrev pub at_ports_of : {K : Type 0} → Conf → (ℕ → K) → ℕ → K
 at_ports_of c under j = under (port_of c j)
 
-module _ {I O K : Type 0} (i : ins.Ghosts I) (o : outs.Ghosts O K) (tells : Type 0) (c : Conf) (paused : ℕ) where
+module _ {I O K : Type 0} (i : ins.Ghosts I) (o : outs.Ghosts O K) (tells : Type 0) (c : Conf) (span : Span) where
   -- A live call of the conference broke off: the legs' links gave this, and the turns that were made give that. Where the world tells
   -- it, this is what the inbound ends have taken, and the outbound ends were given that, or what one more turn gives besides.
   pub record IsBrokenOff (legs : List (LinkLeg I)) (links : List O) : Type 0 where
@@ -109,14 +113,14 @@ module _ {I O K : Type 0} (i : ins.Ghosts I) (o : outs.Ghosts O K) (tells : Type
     pub taken : tells → (j : ℕ) (leg : LinkLeg I) → slice_get legs j ≡ Some leg → i.taken leg.link ≡ takes j
     pub gave : tells → (j : ℕ) (link : O) (line : LegLine) → slice_get links j ≡ Some link → leg_at c.legs j ≡ Some line
         → IsCutShort c served.table now j line (packets_in o.given link)
-    pub paced : tells → WasPaced c served.table paused (at_link o.given links)
+    pub paced : tells → WasPaced c served.table span (at_link o.given links)
 
   -- or nothing was given
   abbrev pub HasGivenUp : List (LinkLeg I) → List O → Type 0
   HasGivenUp legs links = IsBrokenOff legs links ⊎ AreUnused o.given o.faults links
 
 -- `stands` is what is known of the tap that was told this
-module _ {I O K : Type 0} (i : ins.Ghosts I) (o : outs.Ghosts O K) (stands : List Notice → Type 0) (tells : Type 0) (c : Conf) (paused : ℕ) where
+module _ {I O K : Type 0} (i : ins.Ghosts I) (o : outs.Ghosts O K) (stands : List Notice → Type 0) (tells : Type 0) (c : Conf) (span : Span) where
   -- It is a live call of the conference: the legs' links gave this and were given that. Where the world tells it, that is what these
   -- ends have taken and were given. The tap was told what the mixer took, and of its turns.
   pub record IsCallOf (legs : List (LinkLeg I)) (links : List O) (listeners : List Listening) (end : End) : Type 0 where
@@ -131,15 +135,15 @@ module _ {I O K : Type 0} (i : ins.Ghosts I) (o : outs.Ghosts O K) (stands : Lis
     pub taken : tells → (j : ℕ) (leg : LinkLeg I) → slice_get legs j ≡ Some leg → i.taken leg.link ≡ takes j
     pub gave : tells → (j : ℕ) (link : O) → slice_get links j ≡ Some link → packets_in o.given link ≡ given j
     pub told : WasTold stands c served.table
-    pub paced : tells → WasPaced c served.table paused (at_link o.given links)
+    pub paced : tells → WasPaced c served.table span (at_link o.given links)
 
   -- how it ended
   abbrev pub EndsAs : List (LinkLeg I) → List O → List Listening → Turned LiveFault → Type 0
   EndsAs legs links listeners Done = IsCallOf legs links listeners served.Done
   EndsAs legs links listeners Closed = IsCallOf legs links listeners served.Closed
-  EndsAs legs links listeners (Faulted j) = FailedAt (λ (leg : LinkLeg I). i.faults (link_in leg)) legs j × IsBrokenOff i o tells c paused legs links
-  EndsAs legs links listeners (Stopped (Link j)) = FailedAt o.faults links j × IsBrokenOff i o tells c paused legs links
-  EndsAs legs links listeners (Stopped NoMemory) = HasGivenUp i o tells c paused legs links
+  EndsAs legs links listeners (Faulted j) = FailedAt (λ (leg : LinkLeg I). i.faults (link_in leg)) legs j × IsBrokenOff i o tells c span legs links
+  EndsAs legs links listeners (Stopped (Link j)) = FailedAt o.faults links j × IsBrokenOff i o tells c span legs links
+  EndsAs legs links listeners (Stopped NoMemory) = HasGivenUp i o tells c span legs links
 
   -- Each end of a link is that of its leg. Where the world tells it, links are open at their ports.
   pub record IsCalled {T : Type 0} (opened : ℕ → Bool) (called : Called I O T) : Type 0 where
@@ -160,7 +164,7 @@ answer_of (Stopped why) = Err why
 -- ---- when its links were handed back
 -- A live call of the conference ended so, and this is printed of it: its legs' links gave this and were given that. It keeps what a
 -- live call promises, and that tells of this very run. Where the world tells it, that is what is stored under the ports of the legs.
-pub record WasServed (tells : Type 0) (paused : ℕ) (taken_at : ℕ → Takes) (given_at : ℕ → List (ℕ × List ℕ)) (c : Conf) (end : End) (printed : List ℕ) : Type 0 where
+pub record WasServed (tells : Type 0) (span : Span) (taken_at : ℕ → Takes) (given_at : ℕ → List (ℕ × List ℕ)) (c : Conf) (end : End) (printed : List ℕ) : Type 0 where
   pub takes : ℕ → Takes
   pub given : ℕ → List (List ℕ)
   pub served : IsServed c takes given end printed
@@ -168,17 +172,17 @@ pub record WasServed (tells : Type 0) (paused : ℕ) (taken_at : ℕ → Takes) 
   pub same : (octets : List ℕ) (read : conf Links octets ≡ Ok c) → (keeps octets read).served ≡ served
   pub taken : tells → AtPorts c taken_at takes
   pub gave : tells → AtPorts c (packets_in given_at) given
-  pub paced : tells → WasPaced c served.table paused (at_ports_of c given_at)
+  pub paced : tells → WasPaced c served.table span (at_ports_of c given_at)
 
 -- The same, where the tap was told what the mixer took, and of its turns.
-pub record WasTapped (stands : List Notice → Type 0) (tells : Type 0) (paused : ℕ) (taken_at : ℕ → Takes) (given_at : ℕ → List (ℕ × List ℕ)) (c : Conf) (end : End) (printed : List ℕ) : Type 0 where
-  pub was : WasServed tells paused taken_at given_at c end printed
+pub record WasTapped (stands : List Notice → Type 0) (tells : Type 0) (span : Span) (taken_at : ℕ → Takes) (given_at : ℕ → List (ℕ × List ℕ)) (c : Conf) (end : End) (printed : List ℕ) : Type 0 where
+  pub was : WasServed tells span taken_at given_at c end printed
   pub told : WasTold stands c was.served.table
 
 -- A live call of the conference broke off: its legs' links gave this, and the turns that were made give that. It keeps what a live
 -- call promises. Where the world tells it, this is what is stored under the ports of the legs, and that, or, of a terminal to which
 -- one more turn was sent, what that turn gives besides.
-pub record WasBroken (tells : Type 0) (paused : ℕ) (taken_at : ℕ → Takes) (given_at : ℕ → List (ℕ × List ℕ)) (c : Conf) : Type 0 where
+pub record WasBroken (tells : Type 0) (span : Span) (taken_at : ℕ → Takes) (given_at : ℕ → List (ℕ × List ℕ)) (c : Conf) : Type 0 where
   pub takes : ℕ → Takes
   pub given : ℕ → List (List ℕ)
   pub served : IsServed c takes given Broken (live_printed c given Broken)
@@ -187,11 +191,11 @@ pub record WasBroken (tells : Type 0) (paused : ℕ) (taken_at : ℕ → Takes) 
   pub taken : tells → AtPorts c taken_at takes
   pub gave : tells → (j : ℕ) (line : LegLine) (p : ℕ) → leg_at c.legs j ≡ Some line → port line.input ≡ Some p
       → IsCutShort c served.table now j line (packets (given_at p))
-  pub paced : tells → WasPaced c served.table paused (at_ports_of c given_at)
+  pub paced : tells → WasPaced c served.table span (at_ports_of c given_at)
 
 -- What became of a live call of the conference that was given up: it broke off so, or nothing was given.
-abbrev pub BrokeOff : (tells : Type 0) → (paused : ℕ) → (given_before : ℕ → List (ℕ × List ℕ)) → (taken_at : ℕ → Takes) → (given_at : ℕ → List (ℕ × List ℕ)) → Conf → Type 0
-BrokeOff tells paused given_before taken_at given_at c = WasBroken tells paused taken_at given_at c ⊎ (tells → GaveNothing c given_before given_at)
+abbrev pub BrokeOff : (tells : Type 0) → (span : Span) → (given_before : ℕ → List (ℕ × List ℕ)) → (taken_at : ℕ → Takes) → (given_at : ℕ → List (ℕ × List ℕ)) → Conf → Type 0
+BrokeOff tells span given_before taken_at given_at c = WasBroken tells span taken_at given_at c ⊎ (tells → GaveNothing c given_before given_at)
 
 -- The link of the leg j failed: a count of its port rose, of the calls that open it or of its ends.
 pub record LinkFailed (own own' ends ends' : ℕ → ℕ) (c : Conf) (j : ℕ) : Type 0 where

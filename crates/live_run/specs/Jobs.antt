@@ -94,8 +94,8 @@ module _ {L M C G : Type 0} where
     pub legs : (j : ℕ) (p : LivePort (Lane LegItem (LinkLeg L) G)) (first back : LinkLeg L) → slice_get ports j ≡ Some p
         → slice_get job.legs.items j ≡ Some first → slice_get ended.legs.items j ≡ Some back → GaveFirst g first back (popped_in p.inlet)
     pub ran : (s : Setup) (pts : ℕ → Pts) → s.legs ≡ length job.legs.items → AllStay s → stands job.mixer s pts (all_admitted s.legs)
-        → RanTo popped_in ended.turned (StandsPaced k.tells job.tick (k.moment job.clock.now) (AreInTurn stands addresses (k.pauses job.clock.now)) stands)
-        (StandsPaced k.tells job.tick (k.moment job.clock.now) (AreInTurn stands addresses (k.pauses job.clock.now)) (HaltsThen halted)) s pts job.turns ports ended.mixer
+        → RanTo popped_in ended.turned (StandsPaced k.tells job.tick (k.moment job.clock.now) (k.moment ended.clock.now) (AreInTurn stands addresses (k.pauses job.clock.now)) stands)
+        (StandsPaced k.tells job.tick (k.moment job.clock.now) (k.moment ended.clock.now) (AreInTurn stands addresses (k.pauses job.clock.now)) (HaltsThen halted)) s pts job.turns ports ended.mixer
     pub faulted : WasFaulted ended.turned ports
     pub failed : (j : ℕ) (p : LivePort (Lane LegItem (LinkLeg L) G)) → slice_get ports j ≡ Some p → p.failed ≡ true → has_fault (popped_in p.inlet) ≡ true
     pub stopped : WasStopped unsent ended.turned ended.mixer

@@ -9,4 +9,5 @@ pub mod Jobs
 pub mod Taps
 pub mod Rooms
 pub mod Opened
+pub mod Spans
 pub mod Calls

@@ -9,6 +9,7 @@ ghost use Rattle.live_loop.specs.Walks.{IsPaused};
 ghost use Rattle.live_run.specs.Calls.{IsCalled, IsOfLinks};
 ghost use Rattle.live_run.specs.Ends.{packets_in};
 ghost use Rattle.live_run.specs.Mixers.{HasAll};
+ghost use Rattle.live_run.specs.Spans.{span_of};
 ghost use Rattle.live_run.specs.Opened.{AreUnused, OpenEnds, OpenLegs};
 
 use crate::listeners::listeners_of;
@@ -117,7 +118,7 @@ pub(crate) fn call<W: Links, R: Threads + Wait + Sync, G: Gate + Sync, T: Tap>(
     requires legs { OpenLegs W.In.LinkIn W.tells (W.opened world.old) (conf_of conf.now) opened.legs.items }
     requires ends { OpenEnds W.Out.LinkOut W.tells (conf_of conf.now) opened.ends.items }
     requires told { T.stands tap [] }
-    ensures called { IsCalled W.In.LinkIn W.Out.LinkOut (T.stands result.tap) W.tells (conf_of conf.now) (W.pauses world.old)
+    ensures called { IsCalled W.In.LinkIn W.Out.LinkOut (T.stands result.tap) W.tells (conf_of conf.now) (span_of W.Links world.old world.new)
         (W.opened world.new) result }
     ensures paced { W.tells → result.turned ≡ Turned.Done → IsPaced conf.now.turns conf.now.tick (W.moment world.old) (W.moment world.new) }
     ensures paused { result.turned ≡ Turned.Done → IsPaused conf.now.turns (W.pauses world.old) (W.pauses world.new) }

@@ -66,8 +66,8 @@ fn turn_and_stop<I: Pops, M: Mixes<Fault = LiveFault, Clock = C::Clock>, C: Turn
     requires horizon { 2 ^ 47 ≤ M.horizon }
     requires given { AreWithin (C.pauses clock.old) (M.addresses mixer.old) }
     ensures were { TurnsWere I.popped I.began M.stands
-        (StandsPaced C.tells tick (C.moment clock.old) (AreInTurn M.stands M.addresses (C.pauses clock.old)) M.stands)
-        (StandsPaced C.tells tick (C.moment clock.old) (AreInTurn M.stands M.addresses (C.pauses clock.old)) (HaltsThen M.halted))
+        (StandsPaced C.tells tick (C.moment clock.old) (C.moment clock.new) (AreInTurn M.stands M.addresses (C.pauses clock.old)) M.stands)
+        (StandsPaced C.tells tick (C.moment clock.old) (C.moment clock.new) (AreInTurn M.stands M.addresses (C.pauses clock.old)) (HaltsThen M.halted))
         turns result ports.old ports.new mixer.old mixer.new }
     ensures addresses { ports_of (M.addresses mixer.new) ≡ ports_of (M.addresses mixer.old) }
     ensures unsent { WasStopped M.unsent result mixer.new }

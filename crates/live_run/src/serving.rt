@@ -5,6 +5,7 @@ ghost use Rattle.conference.specs.Conferences.{conf_of};
 ghost use Rattle.live_loop.specs.Clocks.{IsPaced};
 ghost use Rattle.live_loop.specs.Walks.{IsPaused};
 ghost use Rattle.live_run.specs.Calls.{BrokeOff, IsOfLinks, WasGivenUp, WasServed, WasTapped, answer_of};
+ghost use Rattle.live_run.specs.Spans.{span_of};
 ghost use Rattle.live_run.specs.Opened.{LeadsAll, LeadsSome};
 ghost use Rattle.live_run.specs.Reports.{end_of};
 
@@ -48,11 +49,11 @@ pub fn serve<R: Threads + Wait + Sync, W: Links, G: Gate + Sync>(
     gate: &G,
 ) -> Result<LiveReport, LiveFault>
     requires { IsOfLinks (conf_of conf.now) }
-    ensures served { IfOk result (λ report. WasServed W.tells (W.pauses world.old)
+    ensures served { IfOk result (λ report. WasServed W.tells (span_of W.Links world.old world.new)
         (W.taken_at world.new) (W.given_at world.new) (conf_of conf.now) (end_of report.end) report.views) }
     ensures given_up { IfErr result (WasGivenUp (W.own_faults world.old) (W.own_faults world.new)
         (W.object_faults world.old) (W.object_faults world.new) (conf_of conf.now)) }
-    ensures broke_off { OnErr result (BrokeOff W.tells (W.pauses world.old) (W.given_at world.old)
+    ensures broke_off { OnErr result (BrokeOff W.tells (span_of W.Links world.old world.new) (W.given_at world.old)
         (W.taken_at world.new) (W.given_at world.new) (conf_of conf.now)) }
     ensures calm { IfOk result (λ report. report.end ≡ LiveEnd.Closed
         → Same W.object_faults world.old world.new) }
@@ -82,11 +83,11 @@ pub fn serve_tapped<R: Threads + Wait + Sync, W: Links, G: Gate + Sync, T: Tap>(
 ) -> (Result<LiveReport, LiveFault>, T)
     requires links { IsOfLinks (conf_of conf.now) }
     requires told { T.stands tap [] }
-    ensures tapped { IfOk result.0 (λ report. WasTapped (T.stands result.1) W.tells (W.pauses world.old)
+    ensures tapped { IfOk result.0 (λ report. WasTapped (T.stands result.1) W.tells (span_of W.Links world.old world.new)
         (W.taken_at world.new) (W.given_at world.new) (conf_of conf.now) (end_of report.end) report.views) }
     ensures given_up { IfErr result.0 (WasGivenUp (W.own_faults world.old) (W.own_faults world.new)
         (W.object_faults world.old) (W.object_faults world.new) (conf_of conf.now)) }
-    ensures broke_off { OnErr result.0 (BrokeOff W.tells (W.pauses world.old) (W.given_at world.old)
+    ensures broke_off { OnErr result.0 (BrokeOff W.tells (span_of W.Links world.old world.new) (W.given_at world.old)
         (W.taken_at world.new) (W.given_at world.new) (conf_of conf.now)) }
     ensures calm { IfOk result.0 (λ report. report.end ≡ LiveEnd.Closed
         → Same W.object_faults world.old world.new) }

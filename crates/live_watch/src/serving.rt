@@ -7,6 +7,7 @@ ghost use Rattle.live_loop.specs.Walks.{IsPaused};
 ghost use Rattle.live_run.specs.Calls.{BrokeOff, IsOfLinks, WasGivenUp, WasTapped};
 ghost use Rattle.live_run.specs.Opened.{LeadsAll, LeadsSome};
 ghost use Rattle.live_run.specs.Reports.{end_of};
+ghost use Rattle.live_run.specs.Spans.{span_of};
 ghost use Rattle.live_watch.specs.Watched.{IsWrittenFor, WasWatched};
 
 use crate::board_taps::{BoardTap, OnBoard};
@@ -38,11 +39,11 @@ fn serve_on<B: OnBoard, R: Threads + Wait + Sync, W: Links, G: Gate + Sync>(
     requires board { writer.board ≡ B.board }
     requires new { (writer.published ≡ []) × (writer.pending ≡ []) × (writer.ended ≡ false) }
     ensures open { result.1.ended ≡ false }
-    ensures tapped { IfOk result.0 (λ report. WasTapped (IsWrittenFor B.board result.1) W.tells (W.pauses world.old)
+    ensures tapped { IfOk result.0 (λ report. WasTapped (IsWrittenFor B.board result.1) W.tells (span_of W.Links world.old world.new)
         (W.taken_at world.new) (W.given_at world.new) (conf_of conf.now) (end_of report.end) report.views) }
     ensures given_up { IfErr result.0 (WasGivenUp (W.own_faults world.old) (W.own_faults world.new)
         (W.object_faults world.old) (W.object_faults world.new) (conf_of conf.now)) }
-    ensures broke_off { OnErr result.0 (BrokeOff W.tells (W.pauses world.old) (W.given_at world.old)
+    ensures broke_off { OnErr result.0 (BrokeOff W.tells (span_of W.Links world.old world.new) (W.given_at world.old)
         (W.taken_at world.new) (W.given_at world.new) (conf_of conf.now)) }
     ensures calm { IfOk result.0 (λ report. report.end ≡ LiveEnd.Closed
         → Same W.object_faults world.old world.new) }
@@ -80,11 +81,11 @@ pub fn serve_watched<
     G: Gate + Sync,
 >(rt: &R, alloc: Global, conf: &Conf, world: &mut W, gate: &G) -> Result<LiveReport, LiveFault>
     requires { IsOfLinks (conf_of conf.now) }
-    ensures watched { IfOk result (λ report. WasWatched W.tells (W.pauses world.old)
+    ensures watched { IfOk result (λ report. WasWatched W.tells (span_of W.Links world.old world.new)
         (W.taken_at world.new) (W.given_at world.new) (conf_of conf.now) (end_of report.end) report.views) }
     ensures given_up { IfErr result (WasGivenUp (W.own_faults world.old) (W.own_faults world.new)
         (W.object_faults world.old) (W.object_faults world.new) (conf_of conf.now)) }
-    ensures broke_off { OnErr result (BrokeOff W.tells (W.pauses world.old) (W.given_at world.old)
+    ensures broke_off { OnErr result (BrokeOff W.tells (span_of W.Links world.old world.new) (W.given_at world.old)
         (W.taken_at world.new) (W.given_at world.new) (conf_of conf.now)) }
     ensures calm { IfOk result (λ report. report.end ≡ LiveEnd.Closed
         → Same W.object_faults world.old world.new) }

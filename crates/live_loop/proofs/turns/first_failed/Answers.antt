@@ -7,7 +7,7 @@ pub returns-then-port : goal.returns-then-port
 returns-then-port g c =
     let port = c.index-ports-leg.result in
     let at = get_read c.args.ports.now c.loop-leg.leg port c.loop-leg-test.true c.index-ports-leg.is in
-    one_failed c.args.ports.now c.loop-leg.leg port c.requires at c.if-port.true
+    one_failed c.args.ports.now c.loop-leg.leg port c.requires at c.if-port.true c.loop-leg.invariant
 
 pub loop-leg-preserved : goal.loop-leg-preserved
 loop-leg-preserved g c =

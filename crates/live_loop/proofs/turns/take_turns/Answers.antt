@@ -1,15 +1,13 @@
 use Rattle.std.proofs.Common.{◌≡◌, ◌≤◌, ◌<◌, ◌+◌, ◌*◌, ◌^◌, ℕ, true, true≢false, List, length, inl, refl, ap, sym, subst, ◌∙◌, arith}
-use Rattle.rtt_base.specs.declared.text_packets.Pts.{Pts}
-use Rattle.mixer_spec.specs.Setups.{Setup}
-use Rattle.mixer_spec.specs.Table.{Call, Turn, after_calls, is_idle}
+use Rattle.mixer_spec.specs.Table.{Call, after_calls, is_idle}
 use Rattle.mix_loop.specs.Addresses.{Address, AreWithin, ports_of}
 use Rattle.mix_loop.proofs.Addresses.{same_ports, within_later, within_then}
-use Rattle.live_loop.specs.Clocks.{AtTicks, StandsPaced, moments_of}
+use Rattle.live_loop.specs.Clocks.{AtTicks, RiseTo, StandsPaced}
 use Rattle.live_loop.specs.Order.{AreInTurn}
 use Rattle.live_loop.specs.Walks.{DoneTo, HaltsThen, IsPaused, is_spent}
 use Rattle.live_loop.proofs.Ordering.{order_kept, order_none, order_same, order_turn, paused_at_most}
 use Rattle.live_loop.proofs.Pausing.{all_at, count_same, due_more, first_due, is_told, passed_on, paused_more}
-use Rattle.live_loop.proofs.Walking.{all_then_grew, all_true, at_more, at_none, becomes, none_grew, turn_made}
+use Rattle.live_loop.proofs.Walking.{all_then_grew, all_true, at_more, at_none, becomes, none_grew, rise_on, turn_made}
 use Rattle.live_loop.proofs.turns.take_turns.Goals as goal
 
 pub loop-k-init : goal.loop-k-init
@@ -19,7 +17,7 @@ loop-k-init g c =
       c.requires.legs,
       c.requires.none,
       (let same = c.clock_now-began.ensures.same_pauses in inl (omega (arith, same))),
-      λ s pts legs v. (v, λ t. at_none c.args.tick c.clock_now-began.result v.calls v.turned, order_none g.M.Mixes.stands g.M.Mixes.addresses paused s pts c.args.mixer.now v.calls v.turned),
+      λ s pts legs v. (v, λ t. at_none c.args.tick c.clock_now-began.result (g.C.TurnClock.moment c.clock_now-began.new.self) v.calls v.turned, order_none g.M.Mixes.stands g.M.Mixes.addresses paused s pts c.args.mixer.now v.calls v.turned),
       none_grew g.I.Pops.popped g.I.Pops.began c.args.ports.now,
       (let is = c.clock_now-began.ensures.is in omega (arith, is)),
       (let is = c.clock_now-began.ensures.is in let rises = c.clock_now-began.ensures.rises in omega (arith, is, rises)),
@@ -40,9 +38,10 @@ returns-then-is_over-clause-ran g c = λ s pts legs v.
     let v = w.0.serving in
     let paused = g.C.TurnClock.pauses c.args.clock.now in
     let order = order_same g.M.Mixes.stands g.M.Mixes.addresses paused s pts c.loop-k.mixer c.gather_all.new.mixer b.0.calls v.calls c.gather_all.ensures.keeps.addresses w.1 (v.turned ∙ sym b.0.turned) b.2 in
-    let x = becomes g.I.Pops.popped g.I.Pops.began g.M.Mixes.stands (StandsPaced g.C.TurnClock.tells c.args.tick (g.C.TurnClock.moment c.args.clock.now) (AreInTurn g.M.Mixes.stands g.M.Mixes.addresses paused) g.M.Mixes.stands) s pts c.loop-k.k c.gather_all.new.ports c.gather_all.new.mixer c.gather_all.new.mixer v (
+    let x = becomes g.I.Pops.popped g.I.Pops.began g.M.Mixes.stands (StandsPaced g.C.TurnClock.tells c.args.tick (g.C.TurnClock.moment c.args.clock.now) (g.C.TurnClock.moment c.loop-k.clock) (AreInTurn g.M.Mixes.stands g.M.Mixes.addresses paused) g.M.Mixes.stands) s pts c.loop-k.k c.gather_all.new.ports c.gather_all.new.mixer c.gather_all.new.mixer v (
       v.made,
-      λ t. record { began = c.clock_now-began.result; behind = c.loop-k.invariant.7; at = subst (λ (ms : List ℕ). AtTicks c.args.tick c.clock_now-began.result ms) (sym w.1.moments) (b.1 t) },
+      λ t. let at = subst (λ (ms : List ℕ). AtTicks c.args.tick c.clock_now-began.result ms × RiseTo (g.C.TurnClock.moment c.loop-k.clock) ms) (sym w.1.moments) (b.1 t) in
+          record { began = c.clock_now-began.result; behind = c.loop-k.invariant.7; at = at.0; told = at.1 },
       order,
     ) in
     record {
@@ -81,9 +80,11 @@ loop-k-preserved g c =
           let order = order_same g.M.Mixes.stands addresses paused s pts c.loop-k.mixer c.gather_all.new.mixer b.0.calls gathered.calls keeps.addresses w.1 (gathered.turned ∙ sym b.0.turned) b.2 in
           let turned = order_turn g.M.Mixes.stands addresses paused s pts c.loop-k.k beat c.gather_all.new.mixer c.turn.new.self gathered.calls gathered.turned counted gives c.clock_now-now.result upper within (c.in-Ok.ensures.turned s pts gathered.calls gathered.made) order in (
             x.0,
-            λ t. at_more c.args.tick c.clock_now-began.result c.loop-k.k c.clock_now-now.result w.0.serving.calls x.0.calls x.1 w.0.serving.turned
+            λ t. at_more c.args.tick c.clock_now-began.result c.loop-k.k (g.C.TurnClock.moment c.loop-k.clock) c.clock_now-now.result (g.C.TurnClock.moment c.sleep_until.new.self) w.0.serving.calls x.0.calls x.1 w.0.serving.turned
                 (λ early. let s = c.loop-k.invariant.8 t early in let is = c.clock_now-now.ensures.is in let rises = c.clock_now-now.ensures.rises in omega (arith, s, is, rises))
-                (subst (λ (ms : List ℕ). AtTicks c.args.tick c.clock_now-began.result ms) (sym w.1.moments) (b.1 t)),
+                (let is = c.clock_now-now.ensures.is in let rises = c.clock_now-now.ensures.rises in omega (arith, is, rises))
+                (let is = c.clock_now-now.ensures.is in let rises = c.sleep_until.ensures.rises in omega (arith, is, rises))
+                (subst (λ (ms : List ℕ). AtTicks c.args.tick c.clock_now-began.result ms × RiseTo (g.C.TurnClock.moment c.loop-k.clock) ms) (sym w.1.moments) (b.1 t)),
             subst (λ (calls : List Call). AreInTurn g.M.Mixes.stands addresses paused c.turn.new.self s pts calls) (sym x.1) turned,
           ),
       all_then_grew g.I.Pops.popped g.I.Pops.began c.args.ports.now c.loop-k.ports c.gather_all.new.ports c.loop-k.invariant.5 c.gather_all.ensures.grew,
@@ -109,8 +110,8 @@ loop-k-preserved g c =
 pub returns-then-is_over-2-clause-ran : goal.returns-then-is_over-2-clause-ran
 returns-then-is_over-2-clause-ran g c = λ s pts legs v.
     let b = c.loop-k.invariant.4 s pts legs v in
-    let x = becomes g.I.Pops.popped g.I.Pops.began g.M.Mixes.stands (StandsPaced g.C.TurnClock.tells c.args.tick (g.C.TurnClock.moment c.args.clock.now) (AreInTurn g.M.Mixes.stands g.M.Mixes.addresses (g.C.TurnClock.pauses c.args.clock.now)) g.M.Mixes.stands) s pts c.loop-k.k c.loop-k.ports c.loop-k.mixer c.loop-k.mixer b.0
-    (b.0.made, λ t. record { began = c.clock_now-began.result; behind = c.loop-k.invariant.7; at = b.1 t }, b.2) in
+    let x = becomes g.I.Pops.popped g.I.Pops.began g.M.Mixes.stands (StandsPaced g.C.TurnClock.tells c.args.tick (g.C.TurnClock.moment c.args.clock.now) (g.C.TurnClock.moment c.loop-k.clock) (AreInTurn g.M.Mixes.stands g.M.Mixes.addresses (g.C.TurnClock.pauses c.args.clock.now)) g.M.Mixes.stands) s pts c.loop-k.k c.loop-k.ports c.loop-k.mixer c.loop-k.mixer b.0
+    (b.0.made, λ t. record { began = c.clock_now-began.result; behind = c.loop-k.invariant.7; at = (b.1 t).0; told = (b.1 t).1 }, b.2) in
     record {
       turns = c.loop-k.k;
       few = omega (arith, c.loop-k-test.false, c.loop-k.auto.k-end);
@@ -125,9 +126,9 @@ pub returns-clause-ran : goal.returns-clause-ran
 returns-clause-ran g c = λ s pts legs v.
     let last : c.loop-k.k ≡ c.args.turns = omega (arith, c.loop-k-test.false, c.loop-k.auto.k-end) in
     let b = c.loop-k.invariant.4 s pts legs v in
-    let meets = StandsPaced g.C.TurnClock.tells c.args.tick (g.C.TurnClock.moment c.args.clock.now) (AreInTurn g.M.Mixes.stands g.M.Mixes.addresses (g.C.TurnClock.pauses c.args.clock.now)) g.M.Mixes.stands in
+    let meets = StandsPaced g.C.TurnClock.tells c.args.tick (g.C.TurnClock.moment c.args.clock.now) (g.C.TurnClock.moment c.loop-k.clock) (AreInTurn g.M.Mixes.stands g.M.Mixes.addresses (g.C.TurnClock.pauses c.args.clock.now)) g.M.Mixes.stands in
     let x = becomes g.I.Pops.popped g.I.Pops.began g.M.Mixes.stands meets s pts c.loop-k.k c.loop-k.ports c.loop-k.mixer c.loop-k.mixer b.0
-    (b.0.made, λ t. record { began = c.clock_now-began.result; behind = c.loop-k.invariant.7; at = b.1 t }, b.2) in
+    (b.0.made, λ t. record { began = c.clock_now-began.result; behind = c.loop-k.invariant.7; at = (b.1 t).0; told = (b.1 t).1 }, b.2) in
     subst (λ (k : ℕ). DoneTo g.I.Pops.popped meets s pts k c.loop-k.ports c.loop-k.mixer) last (record {
       serving = x.0;
       goes_on = λ closed. true≢false (
@@ -145,9 +146,10 @@ returns-in-Some-clause-ran g c = λ s pts legs v.
     let v = w.0.serving in
     let paused = g.C.TurnClock.pauses c.args.clock.now in
     let order = order_same g.M.Mixes.stands g.M.Mixes.addresses paused s pts c.loop-k.mixer c.gather_all.new.mixer b.0.calls v.calls c.gather_all.ensures.keeps.addresses w.1 (v.turned ∙ sym b.0.turned) b.2 in
-    let x = becomes g.I.Pops.popped g.I.Pops.began g.M.Mixes.stands (StandsPaced g.C.TurnClock.tells c.args.tick (g.C.TurnClock.moment c.args.clock.now) (AreInTurn g.M.Mixes.stands g.M.Mixes.addresses paused) g.M.Mixes.stands) s pts c.loop-k.k c.gather_all.new.ports c.gather_all.new.mixer c.gather_all.new.mixer v (
+    let x = becomes g.I.Pops.popped g.I.Pops.began g.M.Mixes.stands (StandsPaced g.C.TurnClock.tells c.args.tick (g.C.TurnClock.moment c.args.clock.now) (g.C.TurnClock.moment c.loop-k.clock) (AreInTurn g.M.Mixes.stands g.M.Mixes.addresses paused) g.M.Mixes.stands) s pts c.loop-k.k c.gather_all.new.ports c.gather_all.new.mixer c.gather_all.new.mixer v (
       v.made,
-      λ t. record { began = c.clock_now-began.result; behind = c.loop-k.invariant.7; at = subst (λ (ms : List ℕ). AtTicks c.args.tick c.clock_now-began.result ms) (sym w.1.moments) (b.1 t) },
+      λ t. let at = subst (λ (ms : List ℕ). AtTicks c.args.tick c.clock_now-began.result ms × RiseTo (g.C.TurnClock.moment c.loop-k.clock) ms) (sym w.1.moments) (b.1 t) in
+          record { began = c.clock_now-began.result; behind = c.loop-k.invariant.7; at = at.0; told = at.1 },
       order,
     ) in
     record { turns = c.loop-k.k; few = omega (arith, c.loop-k-test.true); serving = x.0 }
@@ -164,9 +166,10 @@ returns-in-Err-clause-ran g c = λ s pts legs v.
     let is_beat : beat ≡ g.C.TurnClock.pauses c.loop-k.clock = c.clock_beat.ensures ∙ c.clock_now-now.ensures.same_pauses in
     let counted : IsPaused c.loop-k.k paused beat = subst (λ (n : ℕ). IsPaused c.loop-k.k paused n) (sym is_beat) c.loop-k.invariant.3 in
     let order = order_same g.M.Mixes.stands g.M.Mixes.addresses paused s pts c.loop-k.mixer c.gather_all.new.mixer b.0.calls v.calls c.gather_all.ensures.keeps.addresses w.1 (v.turned ∙ sym b.0.turned) b.2 in
-    let x = becomes g.I.Pops.popped g.I.Pops.began g.M.Mixes.stands (StandsPaced g.C.TurnClock.tells c.args.tick (g.C.TurnClock.moment c.args.clock.now) (AreInTurn g.M.Mixes.stands g.M.Mixes.addresses paused) (HaltsThen g.M.Mixes.halted)) s pts c.loop-k.k c.gather_all.new.ports c.gather_all.new.mixer c.turn.new.self v (
+    let x = becomes g.I.Pops.popped g.I.Pops.began g.M.Mixes.stands (StandsPaced g.C.TurnClock.tells c.args.tick (g.C.TurnClock.moment c.args.clock.now) (g.C.TurnClock.moment c.clock_now-now.new.self) (AreInTurn g.M.Mixes.stands g.M.Mixes.addresses paused) (HaltsThen g.M.Mixes.halted)) s pts c.loop-k.k c.gather_all.new.ports c.gather_all.new.mixer c.turn.new.self v (
       (c.clock_now-now.result, c.in-Err.ensures.halted s pts v.calls v.made),
-      λ t. record { began = c.clock_now-began.result; behind = c.loop-k.invariant.7; at = subst (λ (ms : List ℕ). AtTicks c.args.tick c.clock_now-began.result ms) (sym w.1.moments) (b.1 t) },
+      λ t. let at = subst (λ (ms : List ℕ). AtTicks c.args.tick c.clock_now-began.result ms × RiseTo (g.C.TurnClock.moment c.loop-k.clock) ms) (sym w.1.moments) (b.1 t) in
+          record { began = c.clock_now-began.result; behind = c.loop-k.invariant.7; at = at.0; told = rise_on (g.C.TurnClock.moment c.loop-k.clock) (g.C.TurnClock.moment c.clock_now-now.new.self) _ c.clock_now-now.ensures.rises at.1 },
       order_kept g.M.Mixes.stands g.M.Mixes.addresses paused s pts c.loop-k.k beat c.gather_all.new.mixer c.turn.new.self v.calls v.turned counted c.turn.ensures.addresses order,
     ) in
     record { turns = c.loop-k.k; few = omega (arith, c.loop-k-test.true); serving = x.0 }

@@ -3,7 +3,7 @@ use Rattle.rtt_base.specs.declared.text_packets.Pts.{Pts}
 use Rattle.mixer_spec.specs.Setups.{Setup}
 use Rattle.mix_loop.specs.Addresses.{AreWithin, ports_of}
 use Rattle.live_loop.specs.Order.{AreInTurn}
-use Rattle.live_loop.specs.Clocks.{AtTicks, OnlyTimePassed, moments_of}
+use Rattle.live_loop.specs.Clocks.{AtTicks, OnlyTimePassed, RiseTo, moments_of}
 use Rattle.live_loop.specs.Walks.{AllGrew, AreAt, IsPaused, IsServing}
 use Rattle.live_loop.proofs.turns.take_turns.Given as goal
 
@@ -14,7 +14,7 @@ invariant-loop-k g l =
     × (g.M.Mixes.turns l.mixer ≡ l.k)
     × IsPaused l.k (g.C.TurnClock.pauses l.fn.clock) (g.C.TurnClock.pauses l.clock)
     × ((s : Setup) (pts : ℕ → Pts) → s.legs ≡ length l.fn.ports → IsServing g.I.Pops.popped g.M.Mixes.stands s pts 0 l.fn.ports l.fn.mixer
-    → (v : IsServing g.I.Pops.popped g.M.Mixes.stands s pts l.k l.ports l.mixer) × (g.C.TurnClock.tells → AtTicks l.fn.tick l.began (moments_of v.calls))
+    → (v : IsServing g.I.Pops.popped g.M.Mixes.stands s pts l.k l.ports l.mixer) × (g.C.TurnClock.tells → AtTicks l.fn.tick l.began (moments_of v.calls) × RiseTo (g.C.TurnClock.moment l.clock) (moments_of v.calls))
     × AreInTurn g.M.Mixes.stands g.M.Mixes.addresses (g.C.TurnClock.pauses l.fn.clock) l.mixer s pts v.calls)
     × AllGrew g.I.Pops.popped g.I.Pops.began l.fn.ports l.ports
     × (l.began ≤ g.C.TurnClock.moment l.clock)

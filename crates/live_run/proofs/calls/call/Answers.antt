@@ -16,6 +16,7 @@ use Rattle.live_run.specs.Calls.{IsCalled}
 use Rattle.mix_loop.specs.Addresses.{AreWithin}
 use Rattle.live_run.specs.Ends.{addresses_of, packets_in}
 use Rattle.live_run.specs.Mixers.{HasAll}
+use Rattle.live_run.specs.Spans.{span_of}
 use Rattle.live_run.specs.Taps.{ended_with}
 use Rattle.live_run.proofs.Composing.{are_new, are_unused, call_made, ended_done, not_called}
 use Rattle.live_run.proofs.Ordering.{none_within}
@@ -24,7 +25,7 @@ use Rattle.live_run.proofs.calls.call.Goals as goal
 pub returns-in_default-clause-called : goal.returns-in_default-clause-called
 returns-in_default-clause-called g c =
     let e = c.not_begun.ensures in
-    not_called g.W.In.LinkIn g.W.Out.LinkOut (g.T.Tap.stands c.not_begun.result.tap) g.W.Links.tells (conf_of c.args.conf.now) (g.W.Links.pauses c.args.world.now) (g.W.Links.opened c.args.world.now) c.args.opened.legs.items c.args.opened.ends.items c.not_begun.result c.requires.legs c.requires.ends c.requires.each_leg c.requires.each_end e.turned
+    not_called g.W.In.LinkIn g.W.Out.LinkOut (g.T.Tap.stands c.not_begun.result.tap) g.W.Links.tells (conf_of c.args.conf.now) (span_of g.W.Links c.args.world.now c.args.world.now) (g.W.Links.opened c.args.world.now) c.args.opened.legs.items c.args.opened.ends.items c.not_begun.result c.requires.legs c.requires.ends c.requires.each_leg c.requires.each_end e.turned
     (ap (λ (v : Vec (LinkLeg g.row.W-In.Denot)). v.items) e.legs) (ap (λ (v : Vec g.row.W-Out.Denot). v.items) e.ends)
 
 pub mixer_over-requires-clause-unused : goal.mixer_over-requires-clause-unused
@@ -33,7 +34,7 @@ mixer_over-requires-clause-unused g c = are_unused g.W.Out.LinkOut g.W.Links.tel
 pub returns-in-Err-clause-called : goal.returns-in-Err-clause-called
 returns-in-Err-clause-called g c =
     let e = c.not_begun-in-Err.ensures in
-    not_called g.W.In.LinkIn g.W.Out.LinkOut (g.T.Tap.stands c.not_begun-in-Err.result.tap) g.W.Links.tells (conf_of c.args.conf.now) (g.W.Links.pauses c.args.world.now) (g.W.Links.opened c.args.world.now) c.args.opened.legs.items c.args.opened.ends.items c.not_begun-in-Err.result c.requires.legs c.requires.ends c.requires.each_leg c.requires.each_end e.turned
+    not_called g.W.In.LinkIn g.W.Out.LinkOut (g.T.Tap.stands c.not_begun-in-Err.result.tap) g.W.Links.tells (conf_of c.args.conf.now) (span_of g.W.Links c.args.world.now c.args.world.now) (g.W.Links.opened c.args.world.now) c.args.opened.legs.items c.args.opened.ends.items c.not_begun-in-Err.result c.requires.legs c.requires.ends c.requires.each_leg c.requires.each_end e.turned
     (ap (λ (v : Vec (LinkLeg g.row.W-In.Denot)). v.items) e.legs) (ap (λ (v : Vec g.row.W-Out.Denot). v.items) (e.ends ∙ c.in-Err.ensures.back))
 
 pub run_job-turned-requires-after_bounds : goal.run_job-turned-requires-after_bounds
@@ -110,10 +111,10 @@ returns-clause-called g c =
     let first : Tapped (SendingState (FarEnds g.row.W-Out.Denot)) g.row.T.Denot = record { mixer = c.in-Ok-mixer_over.mixer; tap = c.args.tap; short = false } in
     let far_is : far ≡ c.run_job-turned.result.mixer.mixer.outbound = c.into_outbound-links.ensures ∙ ap (λ (m : SendingState (FarEnds g.row.W-Out.Denot)). m.outbound) c.finish-turned.ensures.mixer in
     let later = g.W.Links.opened c.run_job-turned.result.clock.now in
-    let paused = g.W.Links.pauses c.args.world.now in
-    subst (λ (w : g.row.W.Denot). IsCalled g.W.In.LinkIn g.W.Out.LinkOut (stands over.tap) g.W.Links.tells conf paused (g.W.Links.opened w) (record { turned = over.turned; legs = legs; ends = far.links; listeners = far.listeners; tap = over.tap })) (sym last)
-    (subst (λ (t : Turned LiveFault). IsCalled g.W.In.LinkIn g.W.Out.LinkOut (stands over.tap) g.W.Links.tells conf paused later (record { turned = t; legs = legs; ends = far.links; listeners = far.listeners; tap = over.tap })) (sym c.finish-turned.ensures.turned)
-    (subst (λ (f : FarEnds g.row.W-Out.Denot). IsCalled g.W.In.LinkIn g.W.Out.LinkOut (stands over.tap) g.W.Links.tells conf paused later (record { turned = ended_with c.run_job-turned.result.mixer.short c.run_job-turned.result.turned; legs = legs; ends = f.links; listeners = f.listeners; tap = over.tap })) (sym far_is)
+    let span = span_of g.W.Links c.args.world.now c.run_job-turned.result.clock.now in
+    subst (λ (w : g.row.W.Denot). IsCalled g.W.In.LinkIn g.W.Out.LinkOut (stands over.tap) g.W.Links.tells conf (span_of g.W.Links c.args.world.now w) (g.W.Links.opened w) (record { turned = over.turned; legs = legs; ends = far.links; listeners = far.listeners; tap = over.tap })) (sym last)
+    (subst (λ (t : Turned LiveFault). IsCalled g.W.In.LinkIn g.W.Out.LinkOut (stands over.tap) g.W.Links.tells conf span later (record { turned = t; legs = legs; ends = far.links; listeners = far.listeners; tap = over.tap })) (sym c.finish-turned.ensures.turned)
+    (subst (λ (f : FarEnds g.row.W-Out.Denot). IsCalled g.W.In.LinkIn g.W.Out.LinkOut (stands over.tap) g.W.Links.tells conf span later (record { turned = ended_with c.run_job-turned.result.mixer.short c.run_job-turned.result.turned; legs = legs; ends = f.links; listeners = f.listeners; tap = over.tap })) (sym far_is)
     (call_made g.W.In.LinkIn g.W.Out.LinkOut _ stands g.W.Links.tells conf _ c.run_job-turned.result over.tap (g.W.Links.opened c.args.world.now) later c.args.opened.ends.items c.requires.links c.requires.legs c.requires.each_leg c.requires.ends c.requires.each_end
     (ap (λ (m : Tapped (SendingState (FarEnds g.row.W-Out.Denot)) g.row.T.Denot). m.mixer.outbound.links.items) tapped ∙ ap (λ (v : Vec g.row.W-Out.Denot). v.items) made.links)
     (subst (λ (m : Tapped (SendingState (FarEnds g.row.W-Out.Denot)) g.row.T.Denot). HasAll g.W.Out.LinkOut.tells (packets_in g.W.Out.LinkOut.given) g.W.Out.LinkOut.faults conf m.mixer) (sym tapped) made.stands)

@@ -1,7 +1,8 @@
 use Rattle.std.proofs.Common.{◌∙◌, inl, refl, ℕ, subst, sym, arith}
 use Rattle.conference.specs.Conferences.{conf_of}
 use Rattle.live_loop.specs.Clocks.{IsPaced}
-use Rattle.live_run.proofs.Returning.{broke_off_by, done_turned, gave_nothing, given_up_by, served_by, was_not_opened}
+use Rattle.live_run.specs.Spans.{span_of}
+use Rattle.live_run.proofs.Returning.{broke_off_by, done_turned, gave_nothing, given_up_by, same_span, served_by, was_not_opened}
 use Rattle.live_run.proofs.serving.serve_tapped.Goals as goal
 
 pub returns-in-Err-clause-given_up : goal.returns-in-Err-clause-given_up
@@ -17,7 +18,8 @@ returns-in-Err-answer_of-clause-objects_never_fall g c = λ p. omega (arith, c.c
 
 pub returns-in-Ok-printed-clause-tapped : goal.returns-in-Ok-printed-clause-tapped
 returns-in-Ok-printed-clause-tapped g c =
-    served_by g.W.In.LinkIn g.W.Out.LinkOut (g.T.Tap.stands c.call-turned.result.tap) g.W.Links.tells (conf_of c.args.conf.now) _ (g.W.Links.opened c.call-turned.new.world) c.call-turned.result c.call-turned.ensures.called c.requires.links (g.W.Links.pauses c.args.world.now) c.in-Ok-open_links.ensures.same_pauses (g.W.Links.opened c.close_legs.new.world) (g.W.Links.taken_at c.close_legs.new.world) (g.W.Links.taken_at c.close_ends.new.world) (g.W.Links.given_at c.close_ends.new.world)
+    served_by g.W.In.LinkIn g.W.Out.LinkOut (g.T.Tap.stands c.call-turned.result.tap) g.W.Links.tells (conf_of c.args.conf.now) _ (g.W.Links.opened c.call-turned.new.world) c.call-turned.result c.call-turned.ensures.called c.requires.links (span_of g.W.Links c.args.world.now c.close_ends.new.world)
+    (same_span g.W.Links c.args.world.now c.open_links.new.world c.call-turned.new.world c.close_ends.new.world c.in-Ok-open_links.ensures.same_pauses c.in-Ok-open_links.ensures.same_moment (c.close_ends.ensures.same_moment ∙ c.close_legs.ensures.same_moment)) (g.W.Links.opened c.close_legs.new.world) (g.W.Links.taken_at c.close_legs.new.world) (g.W.Links.taken_at c.close_ends.new.world) (g.W.Links.given_at c.close_ends.new.world)
     c.close_legs.ensures.stored c.close_ends.ensures.same_taken c.close_legs.ensures.same_opened c.close_ends.ensures.stored c.in-Ok-answer_of.end c.in-Ok-printed.views (sym c.in-Ok-answer_of.ensures) c.in-Ok-printed.ensures
 
 pub returns-in-Ok-printed-clause-objects_never_fall : goal.returns-in-Ok-printed-clause-objects_never_fall
@@ -36,18 +38,20 @@ returns-in-Ok-printed-clause-paced g c = λ t done.
 
 pub returns-in_default-clause-broke_off : goal.returns-in_default-clause-broke_off
 returns-in_default-clause-broke_off g c =
-    gave_nothing g.W.Links.tells (g.W.Links.pauses c.args.world.now) (g.W.Links.given_at c.args.world.now) (g.W.Links.given_at c.args.world.now) (g.W.Links.taken_at c.args.world.now) (conf_of c.args.conf.now) (λ t p. inl refl)
+    gave_nothing g.W.Links.tells (span_of g.W.Links c.args.world.now c.args.world.now) (g.W.Links.given_at c.args.world.now) (g.W.Links.given_at c.args.world.now) (g.W.Links.taken_at c.args.world.now) (conf_of c.args.conf.now) (λ t p. inl refl)
 
 pub returns-in-Err-clause-broke_off : goal.returns-in-Err-clause-broke_off
 returns-in-Err-clause-broke_off g c =
-    gave_nothing g.W.Links.tells (g.W.Links.pauses c.args.world.now) (g.W.Links.given_at c.args.world.now) (g.W.Links.given_at c.open_links.new.world) (g.W.Links.taken_at c.open_links.new.world) (conf_of c.args.conf.now) c.in-Err.ensures.gives_nothing
+    gave_nothing g.W.Links.tells (span_of g.W.Links c.args.world.now c.open_links.new.world) (g.W.Links.given_at c.args.world.now) (g.W.Links.given_at c.open_links.new.world) (g.W.Links.taken_at c.open_links.new.world) (conf_of c.args.conf.now) c.in-Err.ensures.gives_nothing
 
 pub returns-in-Err-answer_of-clause-broke_off : goal.returns-in-Err-answer_of-clause-broke_off
 returns-in-Err-answer_of-clause-broke_off g c =
-    broke_off_by g.W.In.LinkIn g.W.Out.LinkOut (g.T.Tap.stands c.call-turned.result.tap) g.W.Links.tells (conf_of c.args.conf.now) _ (g.W.Links.opened c.call-turned.new.world) c.call-turned.result c.call-turned.ensures.called c.requires.links (g.W.Links.pauses c.args.world.now) c.in-Ok-open_links.ensures.same_pauses (g.W.Links.opened c.close_legs.new.world) (g.W.Links.taken_at c.close_legs.new.world) (g.W.Links.taken_at c.close_ends.new.world) (g.W.Links.given_at c.close_ends.new.world)
+    broke_off_by g.W.In.LinkIn g.W.Out.LinkOut (g.T.Tap.stands c.call-turned.result.tap) g.W.Links.tells (conf_of c.args.conf.now) _ (g.W.Links.opened c.call-turned.new.world) c.call-turned.result c.call-turned.ensures.called c.requires.links (span_of g.W.Links c.args.world.now c.close_ends.new.world)
+    (same_span g.W.Links c.args.world.now c.open_links.new.world c.call-turned.new.world c.close_ends.new.world c.in-Ok-open_links.ensures.same_pauses c.in-Ok-open_links.ensures.same_moment (c.close_ends.ensures.same_moment ∙ c.close_legs.ensures.same_moment)) (g.W.Links.opened c.close_legs.new.world) (g.W.Links.taken_at c.close_legs.new.world) (g.W.Links.taken_at c.close_ends.new.world) (g.W.Links.given_at c.close_ends.new.world)
     c.close_legs.ensures.stored c.close_ends.ensures.same_taken c.close_legs.ensures.same_opened c.close_ends.ensures.stored (g.W.Links.given_at c.args.world.now)
 
 pub returns-in-Err-printed-clause-broke_off : goal.returns-in-Err-printed-clause-broke_off
 returns-in-Err-printed-clause-broke_off g c =
-    broke_off_by g.W.In.LinkIn g.W.Out.LinkOut (g.T.Tap.stands c.call-turned.result.tap) g.W.Links.tells (conf_of c.args.conf.now) _ (g.W.Links.opened c.call-turned.new.world) c.call-turned.result c.call-turned.ensures.called c.requires.links (g.W.Links.pauses c.args.world.now) c.in-Ok-open_links.ensures.same_pauses (g.W.Links.opened c.close_legs.new.world) (g.W.Links.taken_at c.close_legs.new.world) (g.W.Links.taken_at c.close_ends.new.world) (g.W.Links.given_at c.close_ends.new.world)
+    broke_off_by g.W.In.LinkIn g.W.Out.LinkOut (g.T.Tap.stands c.call-turned.result.tap) g.W.Links.tells (conf_of c.args.conf.now) _ (g.W.Links.opened c.call-turned.new.world) c.call-turned.result c.call-turned.ensures.called c.requires.links (span_of g.W.Links c.args.world.now c.close_ends.new.world)
+    (same_span g.W.Links c.args.world.now c.open_links.new.world c.call-turned.new.world c.close_ends.new.world c.in-Ok-open_links.ensures.same_pauses c.in-Ok-open_links.ensures.same_moment (c.close_ends.ensures.same_moment ∙ c.close_legs.ensures.same_moment)) (g.W.Links.opened c.close_legs.new.world) (g.W.Links.taken_at c.close_legs.new.world) (g.W.Links.taken_at c.close_ends.new.world) (g.W.Links.given_at c.close_ends.new.world)
     c.close_legs.ensures.stored c.close_ends.ensures.same_taken c.close_legs.ensures.same_opened c.close_ends.ensures.stored (g.W.Links.given_at c.args.world.now)

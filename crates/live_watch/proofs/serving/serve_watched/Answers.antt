@@ -7,6 +7,7 @@ use Rattle.live_run.specs.declared.reports.LiveReport.{LiveReport}
 use Rattle.live_run.specs.Calls.{WasTapped}
 use Rattle.live_run.specs.Opened.{LeadsAll}
 use Rattle.live_run.specs.Reports.{end_of}
+use Rattle.live_run.specs.Spans.{span_of}
 use Rattle.live_watch.specs.Watched.{IsWrittenFor}
 use Rattle.live_watch.proofs.Breaking.{after_all}
 use Rattle.live_watch.proofs.Leading.{some_all}
@@ -18,7 +19,7 @@ learn-requires g c =
     let writer = c.serve_on-served.result.1 in
     let first = c.in-Ok.writer in
     let world = c.serve_on-served.new.world in
-    let P : LiveReport → Type 0 = λ report. WasTapped (IsWrittenFor first.board writer) g.W.Links.tells (g.W.Links.pauses c.args.world.now) (g.W.Links.taken_at world) (g.W.Links.given_at world) (conf_of c.args.conf.now) (end_of report.end) report.views in
+    let P : LiveReport → Type 0 = λ report. WasTapped (IsWrittenFor first.board writer) g.W.Links.tells (span_of g.W.Links c.args.world.now world) (g.W.Links.taken_at world) (g.W.Links.given_at world) (conf_of c.args.conf.now) (end_of report.end) report.views in
     let w = ok_has P c.serve_on-served.result.0 c.in-Ok-served.report c.in-Ok-served.is c.serve_on-served.ensures.tapped in
     let Q : Telling → Type 0 = λ n. n ≡ record { board = writer.board; changes = writer.published ++ writer.pending; ended = true } in
     let told = ok_has Q c.last-noted.result c.in-Ok-noted.note c.in-Ok-noted.is c.last-noted.ensures.told in
@@ -38,12 +39,12 @@ returns-in-Ok-append_lines-clause-watched g c =
     let world = c.serve_on-served.new.world in
     let report = c.in-Ok-served.report in
     let conf = conf_of c.args.conf.now in
-    let P : LiveReport → Type 0 = λ report. WasTapped (IsWrittenFor first.board writer) g.W.Links.tells (g.W.Links.pauses c.args.world.now) (g.W.Links.taken_at world) (g.W.Links.given_at world) conf (end_of report.end) report.views in
+    let P : LiveReport → Type 0 = λ report. WasTapped (IsWrittenFor first.board writer) g.W.Links.tells (span_of g.W.Links c.args.world.now world) (g.W.Links.taken_at world) (g.W.Links.given_at world) conf (end_of report.end) report.views in
     let w = ok_has P c.serve_on-served.result.0 report c.in-Ok-served.is c.serve_on-served.ensures.tapped in
     let Q : Telling → Type 0 = λ n. n ≡ record { board = writer.board; changes = writer.published ++ writer.pending; ended = true } in
     let told = ok_has Q c.last-noted.result c.in-Ok-noted.note c.in-Ok-noted.is c.last-noted.ensures.told in
     let seen = (c.learn.ensures.all (ap (λ (t : Telling). t.ended) told)).0 in
-    was_watched g.W.Links.tells (g.W.Links.pauses c.args.world.now) (g.W.Links.taken_at world) (g.W.Links.given_at world) conf (end_of report.end) report.views c.append_lines.new.printed first.board writer c.learn.new.self.seen w
+    was_watched g.W.Links.tells (span_of g.W.Links c.args.world.now world) (g.W.Links.taken_at world) (g.W.Links.given_at world) conf (end_of report.end) report.views c.append_lines.new.printed first.board writer c.learn.new.self.seen w
     (sym (seen ∙ ap (λ (t : Telling). t.changes) told)) c.in-Ok-append_lines.ensures
 
 pub returns-clause-leads_some : goal.returns-clause-leads_some
@@ -67,9 +68,9 @@ returns-in_default-noted-clause-broke_off g c =
     let world = c.serve_on-served.new.world in
     let report = c.in-Ok-served.report in
     let conf = conf_of c.args.conf.now in
-    let P : LiveReport → Type 0 = λ report. WasTapped (IsWrittenFor first.board writer) g.W.Links.tells (g.W.Links.pauses c.args.world.now) (g.W.Links.taken_at world) (g.W.Links.given_at world) conf (end_of report.end) report.views in
+    let P : LiveReport → Type 0 = λ report. WasTapped (IsWrittenFor first.board writer) g.W.Links.tells (span_of g.W.Links c.args.world.now world) (g.W.Links.taken_at world) (g.W.Links.given_at world) conf (end_of report.end) report.views in
     let w = ok_has P c.serve_on-served.result.0 report c.in-Ok-served.is c.serve_on-served.ensures.tapped in
-    after_all (IsWrittenFor first.board writer) g.W.Links.tells (g.W.Links.pauses c.args.world.now) (g.W.Links.given_at c.args.world.now) (g.W.Links.taken_at world) (g.W.Links.given_at world) conf (end_of report.end) report.views w
+    after_all (IsWrittenFor first.board writer) g.W.Links.tells (span_of g.W.Links c.args.world.now world) (g.W.Links.given_at c.args.world.now) (g.W.Links.taken_at world) (g.W.Links.given_at world) conf (end_of report.end) report.views w
 
 pub returns-clause-broke_off : goal.returns-clause-broke_off
 returns-clause-broke_off g c =
@@ -78,6 +79,6 @@ returns-clause-broke_off g c =
     let world = c.serve_on-served.new.world in
     let report = c.in-Ok-served.report in
     let conf = conf_of c.args.conf.now in
-    let P : LiveReport → Type 0 = λ report. WasTapped (IsWrittenFor first.board writer) g.W.Links.tells (g.W.Links.pauses c.args.world.now) (g.W.Links.taken_at world) (g.W.Links.given_at world) conf (end_of report.end) report.views in
+    let P : LiveReport → Type 0 = λ report. WasTapped (IsWrittenFor first.board writer) g.W.Links.tells (span_of g.W.Links c.args.world.now world) (g.W.Links.taken_at world) (g.W.Links.given_at world) conf (end_of report.end) report.views in
     let w = ok_has P c.serve_on-served.result.0 report c.in-Ok-served.is c.serve_on-served.ensures.tapped in
-    after_all (IsWrittenFor first.board writer) g.W.Links.tells (g.W.Links.pauses c.args.world.now) (g.W.Links.given_at c.args.world.now) (g.W.Links.taken_at world) (g.W.Links.given_at world) conf (end_of report.end) report.views w
+    after_all (IsWrittenFor first.board writer) g.W.Links.tells (span_of g.W.Links c.args.world.now world) (g.W.Links.given_at c.args.world.now) (g.W.Links.taken_at world) (g.W.Links.given_at world) conf (end_of report.end) report.views w
