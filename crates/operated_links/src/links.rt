@@ -30,6 +30,19 @@ impl<L: Links, P: OperatorPort> Operated<L, P> {
             refused: 0,
         }
     }
+
+    /// The links below.
+    pub fn into_links(self) -> L
+        ensures objects { (p : ℕ) → ⟦<Operated<L, P> as Links>⟧.object_faults self p ≡ L.object_faults result p }
+        ensures pauses { ⟦<Operated<L, P> as Links>⟧.pauses self ≡ L.pauses result }
+    {
+        let Operated {
+            links,
+            operator: _,
+            refused: _,
+        } = self;
+        links
+    }
 }
 
 impl<L: Links, P: OperatorPort> Links for Operated<L, P> {

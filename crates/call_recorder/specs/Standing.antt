@@ -1,0 +1,64 @@
+-- What a recording that is being written stands for.
+use Rattle.std.specs.Prelude.{◌≡◌, ℕ, ◌+◌, Option, None, Some, IsSome, List, [], ◌∷◌, ◌++◌, length, map, take}
+use Rattle.rtt_io.specs.declared.sinks.Sink as sinks
+use Rattle.record_spec.specs.Recorded.{Entry, Parts, noted, part_written, record_in, with_entry, begun_with}
+use Rattle.call_recorder.specs.declared.places.Place.{Place}
+use Rattle.call_recorder.specs.Names.{numbered}
+use Rattle.call_recorder.specs.Places.{IsPlaceOf}
+use Rattle.call_recorder.specs.Files.{AreUnder, files_written}
+
+-- what is kept of a recording
+pub record Keeping (F : Type 0) : Type 0 where
+  pub stem : List ℕ
+  pub start : ℕ
+  pub number : ℕ
+  pub place : Place
+  pub file : Option F
+
+-- with an entry more in the last file
+abbrev pub with_more : Parts → Entry → Parts
+with_more ps e = record { over = ps.over; last = with_entry ps.last e }
+
+-- with a next file, which begins with this entry
+abbrev pub with_next : Parts → Entry → Parts
+with_next ps e = record { over = ps.over ++ ps.last ∷ []; last = begun_with e }
+
+-- All that stands in these files lies under their names, and behind it some octets of the record of this entry, or none.
+pub record StillHolds (stem : List ℕ) (start : ℕ) (contents : List ℕ → Option (List ℕ)) (ps : Parts) (e : Entry) : Type 0 where
+  pub octets : ℕ
+  pub under : AreUnder stem contents (map (part_written start) ps.over ++ (part_written start ps.last ++ take octets (record_in ps.last.begins e)) ∷ [])
+
+module _ {F : Type 0} (g : sinks.Ghosts F) where
+  -- it never failed, and has the name of this number
+  abbrev pub IsFresh : List ℕ → ℕ → F → Type 0
+  IsFresh stem number file = (g.faults file ≡ 0) × (g.name file ≡ numbered stem number)
+
+  -- the files that are over lie there, and the last one is being written
+  pub record IsWriting (contents : List ℕ → Option (List ℕ)) (k : Keeping F) (file : F) (ps : Parts) : Type 0 where
+    pub tells : g.tells
+    pub number : k.number ≡ length ps.over + 1
+    pub place : IsPlaceOf k.start ps.last k.place
+    pub over : AreUnder k.stem contents (map (part_written k.start) ps.over)
+    pub took : g.took file ≡ part_written k.start ps.last
+    pub there : IsSome (contents (numbered k.stem k.number))
+
+  -- of a recording that ended before its call no more is said than when it ended
+  abbrev pub by_file : (List ℕ → Option (List ℕ)) → Keeping F → Option F → Parts → Type 0
+  by_file contents k None ps = Unit {0}
+  by_file contents k (Some file) ps = IsWriting contents k file ps
+
+  -- these are its files
+  abbrev pub StandsFor : (List ℕ → Option (List ℕ)) → Keeping F → Parts → Type 0
+  StandsFor contents k ps = by_file contents k k.file ps
+
+  -- whatever were its files, an entry more was noted
+  abbrev pub NotesMore : (before after : List ℕ → Option (List ℕ)) → (old new : Keeping F) → Entry → Type 0
+  NotesMore before after old new e = (ps : Parts) → StandsFor before old ps → StandsFor after new (noted old.start ps e)
+
+  -- whatever are its files, all that stands in them lies under their names
+  abbrev pub LiesThere : (before after : List ℕ → Option (List ℕ)) → Keeping F → Type 0
+  LiesThere before after k = (ps : Parts) → StandsFor before k ps → AreUnder k.stem after (files_written k.start ps)
+
+  -- whatever were its files, all that was noted before this entry lies there
+  abbrev pub KeepsAll : (before after : List ℕ → Option (List ℕ)) → Keeping F → Entry → Type 0
+  KeepsAll before after k e = (ps : Parts) → StandsFor before k ps → StillHolds k.stem k.start after ps e

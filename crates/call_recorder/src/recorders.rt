@@ -1,0 +1,260 @@
+//! A recording that is written as a call runs.
+ghost use Rattle.std.specs.Prelude.{◌≡◌, ◌≢◌, ◌<◌, ◌≤◌, ◌^◌, ◌++◌, true, None, Some, IsSome, length, string_bytes, is_none, IfSome, IfOk, OnOk, OnErr, OnSome, Ok, Err};
+ghost use Rattle.rtt_io.specs.Names.{SameBut};
+ghost use Rattle.rtt_base.specs.declared.limits.TheConstants.{MOST_PACKET_OCTETS};
+ghost use Rattle.record_spec.specs.Recorded.{entry_written, head_written, nothing_noted};
+ghost use Rattle.call_recorder.specs.Places.{entry};
+ghost use Rattle.call_recorder.specs.Names.{numbered};
+ghost use Rattle.call_recorder.specs.Standing.{KeepsAll, LiesThere, NotesMore, StandsFor};
+ghost use Rattle.call_recorder.specs.Writing.{IsCalm, IsCaused, LeavesFront, SameButBoth};
+
+use crate::names::file_name;
+use crate::octets::{first_piece, head_piece, record_piece};
+use crate::places::Place;
+use journal_io::Journals;
+use rtt_base::{Failed, NoMemory};
+use rtt_io::Sink;
+use std::alloc::Global;
+use std::marker::Model;
+
+/// Why a recording ended before its call.
+#[derive(Clone, Copy, Debug, PartialEq, Eq)]
+pub enum RecordFault {
+    /// Its file could not be made, or not be written any more.
+    Failed,
+    NoMemory,
+}
+
+/// A recording that is written as a call runs, one file behind the other. Where a file can't be made or written any more, or
+/// memory runs out, the recording ends there: what was written so far stays.
+#[derive(Drop)]
+pub struct Recorder<J: Journals> {
+    alloc: Global,
+    /// What the names of its files begin with.
+    stem: String,
+    /// The wall clock at moment 0, in milliseconds since 1970.
+    start: u64,
+    /// The number of the last file.
+    number: u64,
+    place: Place,
+    /// The last file; none where the recording ended.
+    file: Option<J::File>,
+}
+
+impl<J: Journals> Model for Recorder<J> {
+    ghost use Rattle.std.specs.Prelude.{◌≡◌, ◌<◌, ◌^◌, IfSome, string_bytes};
+    ghost use Rattle.call_recorder.specs.Standing.{IsFresh, Keeping};
+
+    ghost Value = { Keeping J.File };
+
+    ghost view = { λ r. record { stem = string_bytes r.stem; start = r.start; number = r.number; place = r.place; file = r.file } };
+
+    ghost invariant = { λ r. (r.start < 2 ^ 63) × IfSome r.file (λ f. IsFresh J.File.Sink (string_bytes r.stem) r.number f) };
+}
+
+/// Writes octets to a file, and has it again, or hands it back where it fails.
+fn write_to<J: Journals>(journals: &mut J, mut file: J::File, octets: &[u8]) -> Option<J::File>
+    requires { J.File.faults file ≡ 0 }
+    ensures fresh { IfSome result (λ f. J.File.faults f ≡ 0) }
+    ensures named { IfSome result (λ f. J.File.name f ≡ J.File.name file) }
+    ensures took { J.File.tells → IfSome result (λ f. J.File.took f ≡ J.File.took file ++ octets.now) }
+    ensures same { OnSome result (journals.new ≡ journals.old) }
+    ensures caused { result ≡ None → IsCaused J.own_faults J.object_faults journals.old journals.new (J.File.name file) }
+    ensures left { J.File.tells → J.tells → result ≡ None
+        → LeavesFront J.contents journals.old journals.new (J.File.name file) (J.File.took file) octets.now }
+    ensures others { J.tells → SameBut (J.File.name file) J.contents journals.old journals.new }
+{
+    match file.write_part(octets) {
+        Ok(()) => Some(file),
+        Err(Failed) => {
+            journals.done(file);
+            None
+        }
+    }
+}
+
+/// Writes a record more to a file, and has it again, or hands it back where it fails or memory runs out.
+fn add_record<J: Journals>(
+    journals: &mut J,
+    alloc: Global,
+    file: J::File,
+    moment: u32,
+    octets: &[u8],
+) -> Result<J::File, RecordFault>
+    requires fresh { J.File.faults file ≡ 0 }
+    requires few { length octets.now ≤ MOST_PACKET_OCTETS }
+    ensures fresh { IfOk result (λ f. J.File.faults f ≡ 0) }
+    ensures named { IfOk result (λ f. J.File.name f ≡ J.File.name file) }
+    ensures took { J.File.tells → IfOk result (λ f. J.File.took f ≡ J.File.took file ++ entry_written moment octets.now) }
+    ensures same { OnOk result (journals.new ≡ journals.old) }
+    ensures calm { result ≢ Err RecordFault.Failed → IsCalm J.own_faults J.object_faults journals.old journals.new }
+    ensures caused { result ≡ Err RecordFault.Failed → IsCaused J.own_faults J.object_faults journals.old journals.new (J.File.name file) }
+    ensures left { J.File.tells → J.tells
+        → OnErr result (LeavesFront J.contents journals.old journals.new (J.File.name file) (J.File.took file) (entry_written moment octets.now)) }
+    ensures others { J.tells → SameBut (J.File.name file) J.contents journals.old journals.new }
+{
+    let Ok(piece) = record_piece(alloc, moment, octets) else {
+        journals.done(file);
+        return Err(RecordFault::NoMemory);
+    };
+    match write_to(journals, file, piece.as_slice()) {
+        Some(file) => Ok(file),
+        None => Err(RecordFault::Failed),
+    }
+}
+
+/// Makes the file of this number, and writes these octets into it.
+fn begin_file<J: Journals>(
+    journals: &mut J,
+    alloc: Global,
+    stem: &str,
+    number: u64,
+    octets: &[u8],
+) -> Result<J::File, RecordFault>
+    ensures fresh { IfOk result (λ f. J.File.faults f ≡ 0) }
+    ensures named { IfOk result (λ f. J.File.name f ≡ numbered stem.now number) }
+    ensures told { J.tells → OnOk result J.File.tells }
+    ensures took { J.tells → IfOk result (λ f. J.File.took f ≡ octets.now) }
+    ensures there { J.tells → OnOk result (IsSome (J.contents journals.new (numbered stem.now number))) }
+    ensures calm { result ≢ Err RecordFault.Failed → IsCalm J.own_faults J.object_faults journals.old journals.new }
+    ensures caused { result ≡ Err RecordFault.Failed → IsCaused J.own_faults J.object_faults journals.old journals.new (numbered stem.now number) }
+    ensures others { J.tells → SameBut (numbered stem.now number) J.contents journals.old journals.new }
+{
+    let Ok(name) = file_name(alloc, stem, number) else {
+        return Err(RecordFault::NoMemory);
+    };
+    let Ok(file) = journals.begin(name.as_str()) else {
+        return Err(RecordFault::Failed);
+    };
+    match write_to(journals, file, octets) {
+        Some(file) => Ok(file),
+        None => Err(RecordFault::Failed),
+    }
+}
+
+/// Hands a file back, makes the next one, of this number, and writes its head and its first record.
+fn next_file<J: Journals>(
+    journals: &mut J,
+    alloc: Global,
+    file: J::File,
+    stem: &str,
+    number: u64,
+    t: u64,
+    octets: &[u8],
+) -> Result<J::File, RecordFault>
+    requires fresh { J.File.faults file ≡ 0 }
+    requires few { length octets.now ≤ MOST_PACKET_OCTETS }
+    ensures fresh { IfOk result (λ f. J.File.faults f ≡ 0) }
+    ensures named { IfOk result (λ f. J.File.name f ≡ numbered stem.now number) }
+    ensures told { J.tells → OnOk result J.File.tells }
+    ensures took { J.tells → IfOk result (λ f. J.File.took f ≡ head_written t ++ entry_written 0 octets.now) }
+    ensures there { J.tells → OnOk result (IsSome (J.contents journals.new (numbered stem.now number))) }
+    ensures calm { result ≢ Err RecordFault.Failed → IsCalm J.own_faults J.object_faults journals.old journals.new }
+    ensures caused { result ≡ Err RecordFault.Failed → IsCaused J.own_faults J.object_faults journals.old journals.new (numbered stem.now number) }
+    ensures kept { J.tells → IsSome (J.contents journals.old (J.File.name file)) → J.File.name file ≢ numbered stem.now number
+        → J.contents journals.new (J.File.name file) ≡ Some (J.File.took file) }
+    ensures others { J.tells → SameButBoth (J.File.name file) (numbered stem.now number) J.contents journals.old journals.new }
+{
+    journals.done(file);
+    let Ok(piece) = first_piece(alloc, t, octets) else {
+        return Err(RecordFault::NoMemory);
+    };
+    begin_file(journals, alloc, stem, number, piece.as_slice())
+}
+
+impl<J: Journals> Recorder<J> {
+    /// Begins a recording whose files have names that begin with `stem`: makes the first one, with its head. `start` is the wall
+    /// clock at moment 0, in milliseconds since 1970.
+    pub fn begin(
+        journals: &mut J,
+        alloc: Global,
+        stem: String,
+        start: u64,
+    ) -> Result<Recorder<J>, RecordFault>
+        requires { start < 2 ^ 63 }
+        ensures named { IfOk result (λ r. (r.stem ≡ string_bytes stem) × (r.start ≡ start)) }
+        ensures stands { J.tells → IfOk result (λ r. StandsFor J.File.Sink (J.contents journals.new) r nothing_noted) }
+        ensures calm { result ≢ Err RecordFault.Failed → IsCalm J.own_faults J.object_faults journals.old journals.new }
+        ensures caused { result ≡ Err RecordFault.Failed → IsCaused J.own_faults J.object_faults journals.old journals.new (numbered (string_bytes stem) 1) }
+    {
+        let Ok(head) = head_piece(alloc, start) else {
+            return Err(RecordFault::NoMemory);
+        };
+        match begin_file(journals, alloc, stem.as_str(), 1, head.as_slice()) {
+            Ok(file) => Ok(Recorder {
+                alloc,
+                stem,
+                start,
+                number: 1,
+                place: Place::at(0),
+                file: Some(file),
+            }),
+            Err(fault) => Err(fault),
+        }
+    }
+
+    /// Notes octets that came, or were given, at the moment `at` of the links' clock (milliseconds): in the last file, or where that
+    /// has no room in the next one. A recording that ended notes nothing.
+    pub fn note(&mut self, journals: &mut J, at: u64, octets: &[u8]) -> Result<(), RecordFault>
+        requires few { length octets.now ≤ MOST_PACKET_OCTETS }
+        requires early { at < 2 ^ 63 }
+        ensures named { (self.new.stem ≡ self.old.stem) × (self.new.start ≡ self.old.start) }
+        ensures notes { J.tells → NotesMore J.File.Sink (J.contents journals.old) (J.contents journals.new) self.old self.new (entry at octets.now) }
+        ensures keeps { J.tells → OnErr result (KeepsAll J.File.Sink (J.contents journals.old) (J.contents journals.new) self.old (entry at octets.now)) }
+        ensures ended { OnErr result (self.new.file ≡ None) }
+        ensures calm { result ≢ Err RecordFault.Failed → IsCalm J.own_faults J.object_faults journals.old journals.new }
+        ensures caused { result ≡ Err RecordFault.Failed → IsCaused J.own_faults J.object_faults journals.old journals.new (numbered self.new.stem self.new.number) }
+    {
+        let Some(file) = self.file.take() else {
+            return Ok(());
+        };
+        if self.place.has_room(at, octets) {
+            let moment = self.place.moment(at) as u32;
+            let file = add_record(journals, self.alloc, file, moment, octets)?;
+            self.place = self.place.after(octets);
+            self.file = Some(file);
+            return Ok(());
+        }
+        let Some(number) = self.number.checked_add(1) else {
+            journals.done(file);
+            return Err(RecordFault::NoMemory);
+        };
+        self.number = number;
+        let t = self.start + at;
+        let stem = self.stem.as_str();
+        let file = next_file(journals, self.alloc, file, stem, number, t, octets)?;
+        self.place = Place::at(at).after(octets);
+        self.file = Some(file);
+        Ok(())
+    }
+
+    /// Ends the recording, and hands its last file back. The answer is whether all that was noted is in its files: that it did not end before.
+    pub fn end(&mut self, journals: &mut J) -> bool
+        ensures named { (self.new.stem ≡ self.old.stem) × (self.new.start ≡ self.old.start) × (self.new.number ≡ self.old.number) }
+        ensures ended { self.new.file ≡ None }
+        ensures whole { J.tells → result ≡ true → LiesThere J.File.Sink (J.contents journals.old) (J.contents journals.new) self.old }
+        ensures calm { IsCalm J.own_faults J.object_faults journals.old journals.new }
+    {
+        match self.file.take() {
+            Some(file) => {
+                journals.done(file);
+                true
+            }
+            None => false,
+        }
+    }
+
+    /// Whether it ended before its call.
+    pub fn is_over(&self) -> bool
+        ensures { result ≡ is_none self.now.file }
+    {
+        self.file.is_none()
+    }
+
+    /// The name of its last file, or of the one that could not be made.
+    pub fn last_name(&self) -> Result<String, NoMemory>
+        ensures { IfOk result (λ name. string_bytes name ≡ numbered self.now.stem self.now.number) }
+    {
+        file_name(self.alloc, self.stem.as_str(), self.number)
+    }
+}

@@ -1,0 +1,178 @@
+use crate::{BeginFault, Finished, Recorded};
+use conf_text::{Form, read_conf};
+use conference::Conf;
+use journal_io::MemJournals;
+use link_io::{Came, LinkIn, LinkOut, Links, MemLinks, Planned};
+use rtt_base::{Bytes, NoMemory, Packet, Path};
+use rtt_io::{FailingCall, FailingWrite};
+use std::alloc::Global;
+use std::sync::Wait;
+use std::test::Fail;
+use std::thread::Threads;
+
+/// Ann and Bob.
+const CONF: &[u8] =
+    b"mixer 9000 0 0\nleg Ann aware 1001 5001 127.0.0.1:6001\nleg Bob aware 1002 5002 127.0.0.1:6002\nturns 600\n";
+
+/// A packet of text of SSRC 1001.
+const TEXT: &[u8] = b"\x80\xE2\0\x05\0\0\0\x64\0\0\x03\xE9Hi";
+
+/// An empty report of SSRC 1001.
+const REPORT: &[u8] = b"\x80\xC9\0\x01\0\0\x03\xE9";
+
+/// 1.5 s after the begin of 1970.
+const START: u64 = 1500;
+
+/// The line and the head of a recording that begins so.
+const HEAD: &[u8] =
+    b"#!rtpplay1.0 127.0.0.1/5004\n\0\0\0\x01\0\x07\xA1\x20\x7F\0\0\x01\x13\x8C\0\0";
+
+/// What came of Ann: a text at 100 and a report at 250.
+const ANN_IN: &[u8] =
+    b"\0\x16\0\x0E\0\0\0\x64\x80\xE2\0\x05\0\0\0\x64\0\0\x03\xE9Hi\0\x10\0\0\0\0\0\xFA\x80\xC9\0\x01\0\0\x03\xE9";
+
+/// What Ann was given: a text at 1000.
+const ANN_OUT: &[u8] = b"\0\x16\0\x0E\0\0\x03\xE8\x80\xE2\0\x05\0\0\0\x64\0\0\x03\xE9Hi";
+
+fn conf(alloc: Global) -> Result<Conf, NoMemory> {
+    match read_conf(alloc, CONF, Form::Links) {
+        Ok(conf) => Ok(conf),
+        Err(_) => Err(NoMemory),
+    }
+}
+
+/// Links at which this comes: of Ann a text, a datagram that is too long, and a report.
+fn links(alloc: Global) -> Result<MemLinks, NoMemory> {
+    let mut links = MemLinks::new(alloc);
+    links.plan(5001, Planned::new(alloc, 100, Came::Datagram, TEXT)?)?;
+    links.plan(5001, Planned::new(alloc, 200, Came::Large, b"")?)?;
+    links.plan(5001, Planned::new(alloc, 250, Came::Datagram, REPORT)?)?;
+    Ok(links)
+}
+
+/// Whether a head and these records, and nothing else, lie under a name.
+fn holds(
+    alloc: Global,
+    journals: &MemJournals,
+    name: &str,
+    records: &[u8],
+) -> Result<bool, NoMemory> {
+    let mut all = Bytes::new(alloc);
+    all.append(HEAD)?;
+    all.append(records)?;
+    Ok(match journals.contents(name) {
+        Some(found) => found == all.as_slice(),
+        None => false,
+    })
+}
+
+/// How a call goes.
+#[derive(Clone, Copy)]
+enum Course {
+    /// All is taken, and Ann is given a text at 1000.
+    Whole,
+    /// No link is opened.
+    Unopened,
+}
+
+/// A call whose recordings are written into these journals.
+fn call<R: Threads + Wait + Copy + Drop + Send + 'static>(
+    rt: R,
+    alloc: Global,
+    journals: MemJournals,
+    course: Course,
+) -> Result<Finished<MemLinks, MemJournals>, BeginFault> {
+    let (Ok(conf), Ok(below)) = (conf(alloc), links(alloc)) else {
+        return Err(BeginFault::NoMemory);
+    };
+    let legs = conf.legs.as_slice();
+    let mut links = Recorded::begin(rt, alloc, below, journals, "call", legs, START, 20)?;
+    match course {
+        Course::Whole => run(&mut links),
+        Course::Unopened => {}
+    }
+    Ok(links.finish())
+}
+
+/// Takes all that comes, and gives Ann a text at 1000.
+fn run<L: Links>(links: &mut L) {
+    let Ok((mut ann, mut ann_out)) = links.link(5001, "127.0.0.1:6001") else {
+        return;
+    };
+    let mut out = Packet::new();
+    for _ in 0..5 {
+        let _taken = ann.take(&mut out, 0);
+    }
+    links.pause_until(1000);
+    let beat = links.beat();
+    let _given = ann_out.give(&beat, TEXT);
+    links.done_in(ann);
+    links.done_out(ann_out);
+}
+
+/// Whether a fault is that the file of this name could not be made.
+fn is_name<T>(answer: &Result<T, BeginFault>, name: &str) -> bool {
+    match answer {
+        Err(BeginFault::Failed(found)) => found.as_str() == name,
+        _ => false,
+    }
+}
+
+#[test]
+fn what_came_and_what_was_given_is_in_the_files(rt: HostRuntime) -> Result<(), Fail> {
+    let alloc = rt.alloc();
+    let done = call(rt, alloc, MemJournals::new(rt.alloc()), Course::Whole)?;
+    assert!(rt; done.failed?.is_none());
+    assert!(rt; holds(rt.alloc(), &done.journals, "call.Ann.in.1.rtp", ANN_IN)?);
+    assert!(rt; holds(rt.alloc(), &done.journals, "call.Ann.out.1.rtp", ANN_OUT)?);
+    assert!(rt; holds(rt.alloc(), &done.journals, "call.Bob.in.1.rtp", b"")?);
+    assert!(rt; holds(rt.alloc(), &done.journals, "call.Bob.out.1.rtp", b"")?);
+    Ok(())
+}
+
+#[test]
+fn a_disk_that_is_full_ends_one_recording(rt: HostRuntime) -> Result<(), Fail> {
+    let alloc = rt.alloc();
+    let mut journals = MemJournals::new(rt.alloc());
+    let write = FailingWrite {
+        write: 2,
+        through: 5,
+    };
+    let name = Path::from_text(rt.alloc(), "call.Ann.in.1.rtp")?;
+    journals.fail(FailingCall::Write(name, write))?;
+    let done = call(rt, alloc, journals, Course::Whole)?;
+    assert!(rt;
+        done.failed?
+            .is_some_and(|name| name.as_str() == "call.Ann.in.1.rtp")
+    );
+    assert!(rt;
+        holds(
+            rt.alloc(),
+            &done.journals,
+            "call.Ann.in.1.rtp",
+            b"\0\x16\0\x0E\0"
+        )?
+    );
+    assert!(rt; holds(rt.alloc(), &done.journals, "call.Ann.out.1.rtp", ANN_OUT)?);
+    Ok(())
+}
+
+#[test]
+fn a_file_that_is_there_is_not_written_over(rt: HostRuntime) -> Result<(), Fail> {
+    let alloc = rt.alloc();
+    let mut journals = MemJournals::new(rt.alloc());
+    journals.add_file("call.Ann.out.1.rtp", b"mine")?;
+    let answer = call(rt, alloc, journals, Course::Whole);
+    assert!(rt; is_name(&answer, "call.Ann.out.1.rtp"));
+    Ok(())
+}
+
+#[test]
+fn a_call_without_links_has_files_without_records(rt: HostRuntime) -> Result<(), Fail> {
+    let alloc = rt.alloc();
+    let done = call(rt, alloc, MemJournals::new(rt.alloc()), Course::Unopened)?;
+    assert!(rt; done.failed?.is_none());
+    assert!(rt; holds(rt.alloc(), &done.journals, "call.Ann.in.1.rtp", b"")?);
+    assert!(rt; holds(rt.alloc(), &done.journals, "call.Bob.out.1.rtp", b"")?);
+    Ok(())
+}
