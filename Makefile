@@ -64,7 +64,7 @@ bench: $(PROGRAM)
 	bench/read $(PROGRAM)
 	bench/list $(PROGRAM)
 	bench/send $(PROGRAM)
-	for it in show show-64 script channel relay; do bench/run $$it $(PROGRAM) || exit 1; done
+	for it in show show-64 times script channel relay; do bench/run $$it $(PROGRAM) || exit 1; done
 	bench/mix $(PROGRAM)
 	bench/idle $(PROGRAM)
 	bench/threads $(PROGRAM)

@@ -1,8 +1,11 @@
-//! What the conference of a live call says of its links and of an operator, before the call begins.
+//! What the conference of a live call says of its links, of an operator and of recordings, before the call begins.
 use conf_text::{ConfFault, Form, read_conf};
 use conference::Conf;
 use file_spec::limits::MOST_CONF_OCTETS;
+use journal_io::Journals;
+use link_io::Links;
 use operated_links::{Desk, Operator, RealPort};
+use recorded_links::{BeginFault, Recorded, start_of};
 use rtt_base::NoMemory;
 use rtt_io::{ReadFault, World, read_whole};
 use rtt_words::{Command, WordFault, command_of};
@@ -11,22 +14,31 @@ use std::fs;
 use std::fs::File;
 use std::net::Net;
 use std::rt::Files;
+use std::sync::Wait;
+use std::thread::Threads;
+use std::time::Clock;
 
 /// What a call is given beside what `run` makes of its conference.
 #[derive(Drop)]
-pub(crate) struct CallService {
+pub(crate) struct CallService<L: Links, J: Journals, R> {
     /// After how long without a datagram a terminal has gone (milliseconds), if it does.
     pub(crate) gone: Option<u32>,
     pub(crate) operator: Operator<RealPort>,
+    /// Its links, which are recorded where its conference says so.
+    pub(crate) links: Recorded<L, J, R>,
 }
 
-impl CallService {
-    /// Nothing.
-    pub(crate) fn none() -> CallService {
-        CallService {
-            gone: None,
-            operator: Operator::Nobody,
-        }
+/// Why no command is begun.
+#[derive(Drop)]
+pub(crate) enum CallFault {
+    /// The recording of this name can't be made.
+    Unwritten(String),
+    NoMemory,
+}
+
+impl From<NoMemory> for CallFault {
+    fn from(_: NoMemory) -> CallFault {
+        CallFault::NoMemory
     }
 }
 
@@ -84,24 +96,86 @@ fn operator_of<R: Net>(rt: &R, alloc: Global, conf: Conf) -> Result<Operator<Rea
     Ok(Operator::At(desk))
 }
 
-/// What the live call is given that these words ask for: nothing where they ask for none, or its conference is not read from an ordinary
-/// file. What is wrong with it is not told here.
-pub(crate) fn service_of<R: Files<File = File> + Net, W: World>(
+/// The conference of the live call that these words ask for, where they do, and it can be read from an ordinary file.
+fn conf_of_call<R: Files<File = File>, W: World>(
     rt: &R,
     alloc: Global,
     words: &[String],
     world: &mut W,
-) -> Result<CallService, NoMemory> {
-    let Some(name) = name_of(alloc, words)? else {
-        return Ok(CallService::none());
-    };
-    if !is_ordinary(rt, name) {
-        return Ok(CallService::none());
+) -> Result<Option<Conf>, NoMemory> {
+    match name_of(alloc, words)? {
+        Some(name) if is_ordinary(rt, name) => conf_under(alloc, name, world),
+        _ => Ok(None),
     }
-    let Some(conf) = conf_under(alloc, name, world)? else {
-        return Ok(CallService::none());
+}
+
+/// The links of a call of this conference: where it says so they are recorded, in files that are made now.
+fn links_of<
+    R: Threads + Wait + Clock + Copy + Drop + Send + 'static,
+    L: Links + Drop,
+    J: Journals + Drop + Send + 'static,
+>(
+    rt: R,
+    alloc: Global,
+    conf: &Conf,
+    mut links: L,
+    journals: J,
+) -> Result<Recorded<L, J, R>, CallFault>
+where
+    J::File: 'static,
+{
+    let Some(prefix) = &conf.service.recorded else {
+        return Ok(Recorded::plain(rt, alloc, links, journals)?);
     };
+    let start = start_of(&rt, &mut links);
+    let legs = conf.legs.as_slice();
+    match Recorded::begin(
+        rt,
+        alloc,
+        links,
+        journals,
+        prefix.as_str(),
+        legs,
+        start,
+        conf.tick,
+    ) {
+        Ok(links) => Ok(links),
+        Err(BeginFault::Failed(name)) => Err(CallFault::Unwritten(name)),
+        Err(BeginFault::NoMemory) => Err(CallFault::NoMemory),
+    }
+}
+
+/// What the command is given that these words ask for: over these links, nothing more where they ask for no live call, or its conference
+/// is not read from an ordinary file. What is wrong with that is not told here. Recordings are made before any port is opened.
+pub(crate) fn service_of<
+    R: Files<File = File> + Net + Threads + Wait + Clock + Copy + Drop + Send + 'static,
+    W: World,
+    L: Links + Drop,
+    J: Journals + Drop + Send + 'static,
+>(
+    rt: R,
+    alloc: Global,
+    words: &[String],
+    world: &mut W,
+    links: L,
+    journals: J,
+) -> Result<CallService<L, J, R>, CallFault>
+where
+    J::File: 'static,
+{
+    let Some(conf) = conf_of_call(&rt, alloc, words, world)? else {
+        return Ok(CallService {
+            gone: None,
+            operator: Operator::Nobody,
+            links: Recorded::plain(rt, alloc, links, journals)?,
+        });
+    };
+    let links = links_of(rt, alloc, &conf, links, journals)?;
     let gone = conf.service.gone;
-    let operator = operator_of(rt, alloc, conf)?;
-    Ok(CallService { gone, operator })
+    let operator = operator_of(&rt, alloc, conf)?;
+    Ok(CallService {
+        gone,
+        operator,
+        links,
+    })
 }

@@ -1,23 +1,30 @@
-//! The program: its words go to `run`, over the files of the system, its network, on which terminals leave by RTCP or without a word and
-//! an operator is heard, and its standard streams.
+//! The program: its words go to `run`, over the files of the system, its network, on which terminals leave by RTCP or without a word, an
+//! operator is heard and what comes and goes is recorded, and its standard streams.
 #![tactic(auto)]
 
 mod calls;
 
-ghost use Rattle.std.specs.Prelude.{◌≡◌, ◌++◌, true, drop, codes, IfOk, OnErr};
+ghost use Rattle.std.specs.Prelude.{◌≡◌, ◌≢◌, ◌++◌, true, None, Ok, drop, codes, string_bytes, IfOk, IfSome, IsSome, OnErr};
 ghost use Rattle.std.specs.Process.{exit_status};
+ghost use Rattle.check_spec.specs.Told.{told_name};
+ghost use Rattle.command_spec.specs.Messages.{trouble};
 ghost use Rattle.rtt_io.specs.Counts.{Rose};
 ghost use Rattle.rtt_top.specs.Lives.{RunsCall, uses_no_link};
 ghost use Rattle.rtt_top.specs.Outside.{outside_over, output_at};
 ghost use Rattle.rtt_top.specs.Runs.{asked_by, Runs};
+ghost use Rattle.rtt_top.specs.Trials.{RunsLook, tries_no_port};
 
-use calls::{CallService, service_of};
+use calls::{CallFault, CallService, service_of};
+use command_spec::Fault;
+use journal_io::{Journals, RealJournals};
 use leaving_links::{Leaving, Silence};
 use link_io::{Links, RealLinks};
 use operated_links::{Operated, Operator, OperatorPort};
+use port_io::{Ports, RealPorts};
+use recorded_links::{Finished, Recorded};
 use rtt_base::NoMemory;
 use rtt_io::{RealWorld, Sink, StandardError, StandardOutput, StillGate, World};
-use rtt_top::run;
+use rtt_top::{finish_with, run};
 use std::alloc::{AllocError, Global};
 use std::env;
 use std::io::ErrorKind;
@@ -60,6 +67,14 @@ fn no_memory<E: Sink>(err: &mut E) -> u8
     70
 }
 
+/// The status where a recording of this name could not be written, which is told.
+fn unwritten<E: Sink>(name: &str, err: &mut E) -> u8
+    ensures status { result ≡ 7 }
+    ensures told { E.tells → (Rose (E.faults err.old) (E.faults err.new) → ⊥) → E.took err.new ≡ E.took err.old ++ trouble (codes "cannot write ") (told_name name.now) }
+{
+    finish_with(Err(Fault::CannotWrite { output: 0 }), name, err)
+}
+
 /// The program's exit with a status.
 fn exit_with(status: u8) -> ExitCode
     ensures { exit_status result ≡ status }
@@ -67,12 +82,13 @@ fn exit_with(status: u8) -> ExitCode
     ExitCode::from(status)
 }
 
-/// The program over this world, these links and these outputs. `words` are all words, of which the first is the program's name; where
+/// The program over this world, these links, ports and outputs. `words` are all words, of which the first is the program's name; where
 /// memory ran out before they were read there are none.
 fn program<
     R: Threads + Wait + Clock + Copy + Send + Sync + 'static,
     W: World,
     L: Links,
+    P: Ports,
     K: Sink,
     E: Sink,
 >(
@@ -81,6 +97,7 @@ fn program<
     words: Result<Vec<String>, AllocError>,
     world: &mut W,
     links: &mut L,
+    ports: &mut P,
     out: &mut K,
     err: &mut E,
 ) -> ExitCode
@@ -92,26 +109,54 @@ fn program<
         (exit_status result)) }
     ensures offline { IfOk words (λ all.
         uses_no_link (asked_by (drop 1 all.items)) (exit_status result) ≡ true → links.new ≡ links.old) }
+    ensures looks { IfOk words (λ all. RunsLook (asked_by (drop 1 all.items)) W.tells K.tells P.tells (P.answers ports.old) (W.contents world.old)
+        (output_at K.Sink out.old) (output_at K.Sink out.new) (exit_status result)) }
+    ensures untried { IfOk words (λ all. tries_no_port (asked_by (drop 1 all.items)) ≡ true → ports.new ≡ ports.old) }
+    ensures let_go { P.kept ports.old ≡ 0 → P.kept ports.new ≡ 0 }
     ensures no_memory { OnErr words (exit_status result ≡ 70) }
-    ensures same { OnErr words ((world.new ≡ world.old) × (links.new ≡ links.old) × (out.new ≡ out.old)) }
+    ensures same { OnErr words ((world.new ≡ world.old) × (links.new ≡ links.old) × (ports.new ≡ ports.old) × (out.new ≡ out.old)) }
     ensures told { E.tells → OnErr words ((Rose (E.faults err.old) (E.faults err.new) → ⊥) → E.took err.new ≡ E.took err.old ++ codes "out of memory\n") }
 {
     let Ok(all) = words else {
         return exit_with(no_memory(err));
     };
     let words = after_name(all.as_slice());
-    let status = run(rt, alloc, words, world, links, out, err, &StillGate);
+    let status = run(rt, alloc, words, world, links, ports, out, err, &StillGate);
     exit_with(status)
 }
 
-/// The program over links that terminals leave by RTCP, or without a word where they are silent so long (milliseconds), of whose call an
-/// operator may ask.
+/// The exit of a program whose call's recordings ended so: where one could not be written, 7 in place of 0, which is told.
+fn recorded_exit<E: Sink>(
+    exit: ExitCode,
+    failed: Result<Option<String>, NoMemory>,
+    err: &mut E,
+) -> ExitCode
+    ensures stays { exit_status exit ≢ 0 → (result ≡ exit) × (err.new ≡ err.old) }
+    ensures whole { failed ≡ Ok None → (result ≡ exit) × (err.new ≡ err.old) }
+    ensures unwritten { exit_status exit ≡ 0 → IfOk failed (λ name. IsSome name → exit_status result ≡ 7) }
+    ensures told { E.tells → exit_status exit ≡ 0 → IfOk failed (λ name. IfSome name (λ n. (Rose (E.faults err.old) (E.faults err.new) → ⊥) →
+        E.took err.new ≡ E.took err.old ++ trouble (codes "cannot write ") (told_name (string_bytes n)))) }
+{
+    if exit != ExitCode::SUCCESS {
+        return exit;
+    }
+    match failed {
+        Ok(None) => exit,
+        Ok(Some(name)) => exit_with(unwritten(name.as_str(), err)),
+        Err(NoMemory) => exit_with(no_memory(err)),
+    }
+}
+
+/// The program over links that are recorded, that terminals leave by RTCP, or without a word where they are silent so long
+/// (milliseconds), and of whose call an operator may ask.
 fn program_over<
     S: Silence + Send,
-    R: Threads + Wait + Clock + Copy + Send + Sync + 'static,
+    R: Threads + Wait + Clock + Copy + Drop + Send + Sync + 'static,
     W: World,
     L: Links + Drop,
+    J: Journals + Drop + Send + 'static,
     P: OperatorPort,
+    T: Ports,
     K: Sink,
     E: Sink,
 >(
@@ -121,23 +166,34 @@ fn program_over<
     gone: Option<u32>,
     operator: Operator<P>,
     world: &mut W,
-    links: L,
+    links: Recorded<L, J, R>,
+    ports: &mut T,
     out: &mut K,
     err: &mut E,
 ) -> ExitCode
+where
+    J::File: 'static,
     requires { gone ≡ S.longest }
 {
-    let leaving: Leaving<L, S> = Leaving::new(links, gone);
+    let leaving: Leaving<Recorded<L, J, R>, S> = Leaving::new(links, gone);
     let mut links = Operated::new(leaving, operator);
-    program(rt, alloc, words, world, &mut links, out, err)
+    let exit = program(rt, alloc, words, world, &mut links, ports, out, err);
+    let Finished {
+        links: _,
+        journals: _,
+        failed,
+    } = links.into_links().into_links().finish();
+    recorded_exit(exit, failed, err)
 }
 
 /// The same, for whichever silence is said.
 fn program_for<
-    R: Threads + Wait + Clock + Copy + Send + Sync + 'static,
+    R: Threads + Wait + Clock + Copy + Drop + Send + Sync + 'static,
     W: World,
     L: Links + Drop,
+    J: Journals + Drop + Send + 'static,
     P: OperatorPort,
+    T: Ports,
     K: Sink,
     E: Sink,
 >(
@@ -147,12 +203,16 @@ fn program_for<
     gone: Option<u32>,
     operator: Operator<P>,
     world: &mut W,
-    links: L,
+    links: Recorded<L, J, R>,
+    ports: &mut T,
     out: &mut K,
     err: &mut E,
-) -> ExitCode {
-    program_over::<Brand, R, W, L, P, K, E>(
-        rt, alloc, words, gone, operator, world, links, out, err,
+) -> ExitCode
+where
+    J::File: 'static,
+{
+    program_over::<Brand, R, W, L, J, P, T, K, E>(
+        rt, alloc, words, gone, operator, world, links, ports, out, err,
     )
 }
 
@@ -160,17 +220,30 @@ fn main(rt: HostRuntime) -> ExitCode {
     let mut world = RealWorld::new(&rt, rt.alloc());
     let mut out = StandardOutput::new(rt.stdout());
     let mut err = StandardError::new(rt.stderr());
+    let links = RealLinks::new(rt, rt.alloc());
+    let journals = RealJournals::new(rt, rt.alloc());
     let words = all_words(&rt);
     let asked = match &words {
-        Ok(all) => service_of(&rt, rt.alloc(), after_name(all.as_slice()), &mut world),
-        Err(AllocError) => Err(NoMemory),
+        Ok(all) => service_of(
+            rt,
+            rt.alloc(),
+            after_name(all.as_slice()),
+            &mut world,
+            links,
+            journals,
+        ),
+        Err(AllocError) => Err(CallFault::NoMemory),
     };
-    let (words, service) = match asked {
-        Ok(service) => (words, service),
-        Err(NoMemory) => (Err(AllocError), CallService::none()),
+    let CallService {
+        gone,
+        operator,
+        links,
+    } = match asked {
+        Ok(service) => service,
+        Err(CallFault::NoMemory) => return exit_with(no_memory(&mut err)),
+        Err(CallFault::Unwritten(name)) => return exit_with(unwritten(name.as_str(), &mut err)),
     };
-    let CallService { gone, operator } = service;
-    let links = RealLinks::new(&rt, rt.alloc());
+    let mut ports = RealPorts::new(&rt, rt.alloc());
     program_for(
         &rt,
         rt.alloc(),
@@ -179,6 +252,7 @@ fn main(rt: HostRuntime) -> ExitCode {
         operator,
         &mut world,
         links,
+        &mut ports,
         &mut out,
         &mut err,
     )

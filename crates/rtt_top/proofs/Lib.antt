@@ -27,4 +27,5 @@ pub mod FrameFronts
 pub mod Framing
 pub mod Converting
 pub mod Looking
+pub mod Trying
 pub mod Refusals

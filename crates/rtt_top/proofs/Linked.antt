@@ -6,11 +6,12 @@ use Rattle.file_spec.specs.Conf.{Conf}
 use Rattle.serve_spec.specs.Served.{End}
 use Rattle.rtt_words.specs.Words.{MixWords, Command, Read, ListRecords, Send, Mix, Attend, Cascade, Make, Live, Watch, Relay, Channel, Show, Times, Script, Check, Help, Version}
 use Rattle.command_spec.specs.Messages.{Ending}
+use Rattle.rtt_words.specs.declared.commands.CheckWords as looked
 use Rattle.rtt_words.specs.declared.commands.MixWords as coded
 use Rattle.rtt_words.specs.declared.commands.Command as asked
 use Rattle.rtt_words.specs.declared.commands.Command.TheVariants as word
 use Rattle.rtt_words.specs.Commands.{meaning}
-use Rattle.rtt_top.specs.Faults.{is_live}
+use Rattle.rtt_top.specs.Faults.{is_check, is_live}
 use Rattle.rtt_top.specs.Lives.{Front, IsCallOf, IsServedTo, IsWatchedTo, RunsCall, Share, Whole, status_at}
 use Rattle.rtt_top.specs.Outside.{LinksLeft, Output, Outside, with_links}
 use Rattle.rtt_top.specs.Runs.{Ends, Runs, is_plain}
@@ -77,6 +78,26 @@ other_is_not_live (word.Script r) other watch = refl
 other_is_not_live (word.Check c) other watch = refl
 other_is_not_live (word.Help t) other watch = refl
 other_is_not_live word.Version other watch = refl
+
+-- what asks for no look at a file
+pub other_is_no_check : (command : asked.Command) → ((words : looked.CheckWords) → command ≡ word.Check words → ⊥) → is_check (meaning command) ≡ false
+other_is_no_check (word.Read r) other = refl
+other_is_no_check (word.ListRecords l) other = refl
+other_is_no_check (word.Send s) other = refl
+other_is_no_check (word.Mix m) other = refl
+other_is_no_check (word.Attend m) other = refl
+other_is_no_check (word.Cascade c) other = refl
+other_is_no_check (word.Make m) other = refl
+other_is_no_check (word.Live m) other = refl
+other_is_no_check (word.Watch m) other = refl
+other_is_no_check (word.Relay s) other = refl
+other_is_no_check (word.Channel c) other = refl
+other_is_no_check (word.Show l) other = refl
+other_is_no_check (word.Times l) other = refl
+other_is_no_check (word.Script r) other = refl
+other_is_no_check (word.Check c) other = absurd (other c refl)
+other_is_no_check (word.Help t) other = refl
+other_is_no_check word.Version other = refl
 
 -- of another command nothing is said of a live call
 no_call_of : (c : Command) (WorldTells OutTells LinksTell : Type 0) (old new : Outside) (status : ℕ) → is_live c ≡ false → RunsCall (Some c) WorldTells OutTells LinksTell old new status

@@ -35,7 +35,7 @@ use Rattle.rtt_top.specs.Faults.{Stops, is_check}
 use Rattle.rtt_top.specs.Outside.{Failed, LinksLeft, Output, Outside, output_at}
 use Rattle.rtt_top.specs.Ports.{LegFailed}
 use Rattle.rtt_top.specs.Runs.{Prints, PrintsFront, Ends, Runs}
-use Rattle.rtt_top.specs.Lives.{EndsServing, Front, GivesUp, IsGivenUp, IsGivenUpFrom, IsServedFrom, OnGivenUp, RunsCall, ServedAs, IsServedTo, IsWatchedTo, LiveEnds, PrintsReport, ServingEnds, Share, Whole, is_unserved, status_at}
+use Rattle.rtt_top.specs.Lives.{EndsServing, Front, GivesUp, IsGivenUp, IsGivenUpFrom, IsServedFrom, IsServedTo, IsWatchedTo, LiveEnds, OnGivenUp, PrintsReport, RunsCall, ServedAs, ServingEnds, Share, Whole, is_unserved, span_between, status_at}
 use Rattle.rtt_top.specs.Statuses.{is_unread}
 use Rattle.rtt_top.proofs.Statused.{other}
 use Rattle.rtt_top.proofs.Working.{lies}
@@ -56,14 +56,14 @@ is_closed ends.Done e = absurd (cc e)
 is_closed ends.Closed e = refl
 
 pub was_served : (LinksTell : Type 0) (old new : LinksLeft) (octets : List ℕ) (c : Conf) (end : LiveEnd) (printed : List ℕ) → conf Links octets ≡ Ok c
-    → WasServed LinksTell old.pauses new.taken new.given c (end_of end) printed → (end ≡ ends.Done → IsPaused c.turns old.pauses new.pauses)
+    → WasServed LinksTell (span_between old new) new.taken new.given c (end_of end) printed → (end ≡ ends.Done → IsPaused c.turns old.pauses new.pauses)
     → (LinksTell → end ≡ ends.Done → IsPaced c.turns c.tick old.moment new.moment) → (LinksTell → LeadsAll c old.leads new.leads) → ((port : ℕ) → new.calls port ≡ old.calls port) → (end ≡ ends.Closed → (port : ℕ) → new.ends port ≡ old.ends port)
     → IsServedTo c LinksTell old new (end_of end) printed
 was_served LinksTell old new octets c end printed read w paused paced leads opened calm = record {
   takes = w.takes;
   given = w.given;
   keeps = w.keeps octets read;
-  turned = λ t. subst (λ (s : IsServed c w.takes w.given (end_of end) printed). WasPaced c s.table old.pauses (at_ports_of c new.given)) (sym (w.same octets read)) (w.paced t);
+  turned = λ t. subst (λ (s : IsServed c w.takes w.given (end_of end) printed). WasPaced c s.table (span_between old new) (at_ports_of c new.given)) (sym (w.same octets read)) (w.paced t);
   taken = w.taken;
   gave = w.gave;
   leads = leads;
@@ -74,7 +74,7 @@ was_served LinksTell old new octets c end printed read w paused paced leads open
 }
 
 pub was_watched : (LinksTell : Type 0) (old new : LinksLeft) (octets : List ℕ) (c : Conf) (end : LiveEnd) (printed : List ℕ) → conf Links octets ≡ Ok c
-    → WasWatched LinksTell old.pauses new.taken new.given c (end_of end) printed → (end ≡ ends.Done → IsPaused c.turns old.pauses new.pauses)
+    → WasWatched LinksTell (span_between old new) new.taken new.given c (end_of end) printed → (end ≡ ends.Done → IsPaused c.turns old.pauses new.pauses)
     → (LinksTell → end ≡ ends.Done → IsPaced c.turns c.tick old.moment new.moment) → (LinksTell → LeadsAll c old.leads new.leads) → ((port : ℕ) → new.calls port ≡ old.calls port) → (end ≡ ends.Closed → (port : ℕ) → new.ends port ≡ old.ends port)
     → IsWatchedTo c LinksTell old new (end_of end) printed
 unfolding was_served
@@ -102,12 +102,12 @@ AllOpened old new = (port : ℕ) → new.calls port ≡ old.calls port
 abbrev pub IsCalmAtEnd : LinksLeft → LinksLeft → LiveReport → Type 0
 IsCalmAtEnd old new report = report.end ≡ ends.Closed → (port : ℕ) → new.ends port ≡ old.ends port
 
-pub served_as : (LinksTell : Type 0) (old new : LinksLeft) (c : Conf) (answer : Result LiveReport LiveFault) → IfOk answer (λ r. WasServed LinksTell old.pauses new.taken new.given c (end_of r.end) r.views) → IfOk answer (IsPausedAtEnd old new c)
+pub served_as : (LinksTell : Type 0) (old new : LinksLeft) (c : Conf) (answer : Result LiveReport LiveFault) → IfOk answer (λ r. WasServed LinksTell (span_between old new) new.taken new.given c (end_of r.end) r.views) → IfOk answer (IsPausedAtEnd old new c)
     → (LinksTell → IfOk answer (IsPacedAtEnd old new c)) → (LinksTell → OnOk answer (LeadsAll c old.leads new.leads)) → OnOk answer (AllOpened old new) → IfOk answer (IsCalmAtEnd old new) → IfOk answer (λ r. ServedAs IsServedTo LinksTell old new c (end_of r.end) r.views)
 served_as LinksTell old new c (Ok r) w paused paced leads opened calm = λ octets read. was_served LinksTell old new octets c r.end r.views read w paused paced leads opened calm
 served_as LinksTell old new c (Err fault) w paused paced leads opened calm = w
 
-pub watched_as : (LinksTell : Type 0) (old new : LinksLeft) (c : Conf) (answer : Result LiveReport LiveFault) → IfOk answer (λ r. WasWatched LinksTell old.pauses new.taken new.given c (end_of r.end) r.views) → IfOk answer (IsPausedAtEnd old new c)
+pub watched_as : (LinksTell : Type 0) (old new : LinksLeft) (c : Conf) (answer : Result LiveReport LiveFault) → IfOk answer (λ r. WasWatched LinksTell (span_between old new) new.taken new.given c (end_of r.end) r.views) → IfOk answer (IsPausedAtEnd old new c)
     → (LinksTell → IfOk answer (IsPacedAtEnd old new c)) → (LinksTell → OnOk answer (LeadsAll c old.leads new.leads)) → OnOk answer (AllOpened old new) → IfOk answer (IsCalmAtEnd old new) → IfOk answer (λ r. ServedAs IsWatchedTo LinksTell old new c (end_of r.end) r.views)
 watched_as LinksTell old new c (Ok r) w paused paced leads opened calm = λ octets read. was_watched LinksTell old new octets c r.end r.views read w paused paced leads opened calm
 watched_as LinksTell old new c (Err fault) w paused paced leads opened calm = w
@@ -239,7 +239,7 @@ used S OutTells old new before after c status (Err (LinkFailed leg)) is l e = tr
 used S OutTells old new before after c status (Err NoMemory) is l e = true≢false (sym e ∙ ap (λ n. is_unread n || n == 5) is)
 
 -- ---- a call that was given up
-pub given_up_as : (LinksTell : Type 0) (old new : LinksLeft) (c : Conf) (answer : Result LiveReport LiveFault) → (LinksTell → OnErr answer (LeadsSome c old.leads new.leads)) → OnErr answer (BrokeOff LinksTell old.pauses old.given new.taken new.given c)
+pub given_up_as : (LinksTell : Type 0) (old new : LinksLeft) (c : Conf) (answer : Result LiveReport LiveFault) → (LinksTell → OnErr answer (LeadsSome c old.leads new.leads)) → OnErr answer (BrokeOff LinksTell (span_between old new) old.given new.taken new.given c)
     → OnErr answer (IsGivenUp c LinksTell old new)
 given_up_as LinksTell old new c (Ok r) leads broke = tt
 given_up_as LinksTell old new c (Err fault) leads broke = record { leads = leads; broke_off = broke }

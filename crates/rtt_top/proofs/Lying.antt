@@ -3,7 +3,7 @@ use Rattle.std.proofs.Common.{◌≡◌, ℕ, ◌<◌, ◌≤◌, Option, Some, 
 use Rattle.std.proofs.lemmas.Bool.{cases_lt}
 use Rattle.rtt_top.specs.Files.{IsFrontOf}
 
-short_front : (most : ℕ) (octets whole : List ℕ) → length octets ≤ most → IsFrontOf most octets whole → whole ≡ octets
+pub short_front : (most : ℕ) (octets whole : List ℕ) → length octets ≤ most → IsFrontOf most octets whole → whole ≡ octets
 short_front most octets whole short (inl e) = e
 short_front most octets whole short (inr f) = let long = f.0 in absurd (omega arith)
 

@@ -10,7 +10,7 @@ use Rattle.show_spec.specs.Showing.{recording_view, show_view}
 use Rattle.rtt_show.specs.Gathers.{IsRefused}
 use Rattle.times_spec.specs.Times.{start_of, timed_view, times_view}
 use Rattle.rtt_top.specs.declared.views.RecordingView.{RecordingView}
-use Rattle.rtt_top.specs.declared.views.RecordingView.TheVariants.{Lines, Streams, Text, Transcript}
+use Rattle.rtt_top.specs.declared.views.RecordingView.TheVariants.{Lines, Streams, Times, Text, Transcript}
 use Rattle.rtt_top.specs.RecordingViews.{IsRefusal, PrintsView, command_of, refused_by, view_by}
 
 -- a recording that is refused for any fault
@@ -23,9 +23,10 @@ pub shown_refusal : (recording : Recording) (fault : RecordingFault) → IsRefus
 shown_refusal recording (Dump fault) refused = refused
 shown_refusal recording NoMemory refused = tt
 
-pub printed_is : (pts : Pts) (come : Recording) (octets printed : List ℕ) → printed ≡ recording_view pts come → come ≡ dump usual_limit octets → printed ≡ show_view pts octets
+pub printed_is : (pts : Pts) (start : Option ℕ) (come : Recording) (octets printed : List ℕ) → printed ≡ recording_view pts start come
+    → start ≡ start_of octets → come ≡ dump usual_limit octets → printed ≡ show_view pts octets
 unfolding show_view
-printed_is pts come octets printed is to = is ∙ ap (recording_view pts) to
+printed_is pts start come octets printed is at to = is ∙ (ap (λ s. recording_view pts s come) at ∙ ap (recording_view pts (start_of octets)) to)
 
 -- what is told of it by the clock
 pub timed_is : (pts : Pts) (start : Option ℕ) (come : Recording) (octets printed : List ℕ) → printed ≡ timed_view pts start come
@@ -37,5 +38,6 @@ timed_is pts start come octets printed is at to = is ∙ (ap (λ s. timed_view p
 pub prints_view : (it : RecordingView) (file : List ℕ) → PrintsView (refused_by it) (view_by it) file (command_of it file)
 prints_view (Lines pts) file = record { does = refl; recording = refl }
 prints_view (Streams pts) file = record { does = refl; recording = refl }
+prints_view (Times pts) file = record { does = refl; recording = refl }
 prints_view (Text request) file = record { does = refl; recording = refl }
 prints_view (Transcript request) file = record { does = refl; recording = refl }

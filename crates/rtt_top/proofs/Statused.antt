@@ -105,6 +105,7 @@ pub no_check_view : (it : RecordingView) (file : List ℕ) → is_check (command
 no_check_view (view.Text r) file = refl
 no_check_view (view.Lines p) file = refl
 no_check_view (view.Streams p) file = refl
+no_check_view (view.Times p) file = refl
 no_check_view (view.Transcript r) file = refl
 
 pub no_check_conversion : (it : Conversion) → is_check (asked_for it) ≡ false

@@ -18,6 +18,8 @@ use Rattle.command_spec.specs.Messages.{Ending, status_of}
 use Rattle.rtt_top.specs.Faults.{RefusesSo, has_frames, is_live, is_mixed, is_recording}
 use Rattle.rtt_top.specs.Outside.{Outside}
 use Rattle.rtt_top.specs.Runs.{Ends, IsInputOf}
+use Rattle.check_spec.specs.Looks.{look}
+use Rattle.rtt_top.proofs.Looking.{never_refuses}
 use Rattle.rtt_top.proofs.Statused.{can_be}
 use Rattle.rtt_top.specs.Statuses.{EndsAsItCan, HelpNamesThem, can_end}
 
@@ -101,7 +103,7 @@ module _ (WorldTells : Type 0) (old : Outside) (n : ℕ) (name : List ℕ) where
   with_input (Show l) i = (refl, refl, λ refusal line r. absurd (no_line WorldTells old.contents (show_refusal r.0) (Makes _ []) n refusal line (λ none. none) r.2))
   with_input (Times l) i = (refl, refl, λ refusal line r. absurd (no_line WorldTells old.contents (show_refusal r.0) (Makes _ []) n refusal line (λ none. none) r.2))
   with_input (Script q) i = (refl, refl, λ refusal line r. absurd (no_line WorldTells old.contents (dump usual_limit r.0).fault (Makes _ []) n refusal line (λ none. none) r.2))
-  with_input (Check c) i = (refl, refl, λ refusal line r. absurd r.2)
+  with_input (Check c) i = (refl, refl, λ refusal line r. absurd (never_refuses WorldTells old.contents (look c.file) n refusal r))
   with_input (Help t) i = absurd i
   with_input Version i = absurd i
 

@@ -10,7 +10,7 @@ use Rattle.std.proofs.lemmas.Bool.Decides.{nat_tests}
 use Rattle.std.proofs.lemmas.Str.{encode_ascii, chars-IsAscii}
 use Rattle.std.proofs.lemmas.Str.Ascii.{IsAscii-cons, IsAscii-nil}
 use Rattle.text_spec.specs.Views.{is_direction}
-use Rattle.rtt_words.specs.Told.{told_character, told_name}
+use Rattle.check_spec.specs.Told.{told_character, told_name}
 use Rattle.rtt_top.specs.Sinks.{is_plain_octet}
 use Rattle.rtt_io.specs.Fronts.{TakesFront}
 use Rattle.rtt_top.proofs.Fronts.{both, concat_push, front_at}

@@ -4,6 +4,7 @@ pub mod Outside
 pub mod Ports
 pub mod Runs
 pub mod Lives
+pub mod Trials
 pub mod Outputs
 pub mod Across
 pub mod Conferences

@@ -19,6 +19,7 @@ use Rattle.live_run.specs.declared.reports.LiveReport.{LiveReport}
 use Rattle.live_run.specs.Calls.{AtPorts, BrokeOff, WasPaced, at_ports_of}
 use Rattle.live_run.specs.Ends.{packets_in}
 use Rattle.live_run.specs.Opened.{LeadsAll, LeadsSome}
+use Rattle.live_run.specs.Spans.{Span}
 use Rattle.rtt_top.specs.declared.serving.Serving.{Serving}
 use Rattle.rtt_top.specs.declared.serving.Serving.TheVariants.{Alone, Watched}
 use Rattle.rtt_top.specs.Conferences.{fault_of_live, serving_of}
@@ -29,6 +30,10 @@ use Rattle.rtt_top.specs.Runs.{Ends, Prints, PrintsFront}
 use Rattle.rtt_top.specs.Sinks.{Wrote, WrotePartly}
 use Rattle.rtt_top.specs.Statuses.{is_unread}
 
+-- the clock of these links, from the ones to the others
+abbrev pub span_between : LinksLeft → LinksLeft → Span
+span_between old new = record { pauses = old.pauses; first = old.moment; last = new.moment }
+
 -- A live call of a conference was served to this end, and this was printed of it: the legs' links gave this and were given that, and it
 -- keeps what a live call promises. Where the links tell it, that is what they left at the legs' ports, and
 -- the links that were opened are one of each leg, from its port to its peer, and no other; and where all
@@ -38,7 +43,7 @@ pub record IsServedTo (c : Conf) (LinksTell : Type 0) (old new : LinksLeft) (end
   pub takes : ℕ → Takes
   pub given : ℕ → List (List ℕ)
   pub keeps : HeadLive c takes given end printed
-  pub turned : LinksTell → WasPaced c keeps.served.table old.pauses (at_ports_of c new.given)
+  pub turned : LinksTell → WasPaced c keeps.served.table (span_between old new) (at_ports_of c new.given)
   pub taken : LinksTell → AtPorts c new.taken takes
   pub gave : LinksTell → AtPorts c (packets_in new.given) given
   pub leads : LinksTell → LeadsAll c old.leads new.leads
@@ -127,7 +132,7 @@ pub record IsServedFrom (share : Share) (S : Conf → End → List ℕ → Type 
 -- first one on, each from its port to its peer, and no other. It broke off, or no terminal was given anything.
 pub record IsGivenUp (c : Conf) (LinksTell : Type 0) (old new : LinksLeft) : Type 0 where
   pub leads : LinksTell → LeadsSome c old.leads new.leads
-  pub broke_off : BrokeOff LinksTell old.pauses old.given new.taken new.given c
+  pub broke_off : BrokeOff LinksTell (span_between old new) old.given new.taken new.given c
 
 -- where the ending says that it was given up, this holds
 abbrev pub OnGivenUp : Ending → Type 0 → Type 0

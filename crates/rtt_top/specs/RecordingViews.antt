@@ -10,11 +10,13 @@ use Rattle.command_spec.specs.Listing.{list_view}
 use Rattle.command_spec.specs.Reading.{read_view}
 use Rattle.command_spec.specs.Showing.{if_no_recording}
 use Rattle.show_spec.specs.Showing.{show_view}
+use Rattle.times_spec.specs.Times.{start_of, times_view}
 use Rattle.command_spec.specs.Transcripts.{transcript_view}
-use Rattle.rtt_words.specs.Words.{Command, ListRecords, Read, ReadWords, Script, Show, Times}
+use Rattle.rtt_words.specs.Words.{Command, ListRecords, Read, ReadWords, Script, Show}
+use Rattle.rtt_words.specs.Words as words
 use Rattle.rtt_words.specs.Tasks.{prints_unless, work}
 use Rattle.rtt_top.specs.declared.views.RecordingView.{RecordingView}
-use Rattle.rtt_top.specs.declared.views.RecordingView.TheVariants.{Lines, Streams, Text, Transcript}
+use Rattle.rtt_top.specs.declared.views.RecordingView.TheVariants.{Lines, Streams, Times, Text, Transcript}
 use Rattle.rtt_top.specs.Faults.{is_recording}
 
 -- The command prints this view of the recording of this name, unless it is refused by the fault that it has.
@@ -25,6 +27,10 @@ pub record PrintsView (refuses : Option dumps.Fault → Option dumps.Fault) (vie
 -- this is the view of the octets that the recording is of
 abbrev pub IsViewOf : (List ℕ → List ℕ) → Recording → List ℕ → Type 0
 IsViewOf view recording printed = (octets : List ℕ) → recording ≡ dump usual_limit octets → printed ≡ view octets
+
+-- the same, where they tell this start
+abbrev pub IsViewFrom : (List ℕ → List ℕ) → Option ℕ → Recording → List ℕ → Type 0
+IsViewFrom view start recording printed = (octets : List ℕ) → recording ≡ dump usual_limit octets → start ≡ start_of octets → printed ≡ view octets
 
 -- a recording is refused so, and this is the fault of its reading, where that is none of the source
 abbrev pub IsRefusal : Option dumps.Fault → RecordingFault → Type 0
@@ -38,17 +44,15 @@ words_for r file = record { file = file; ssrc = r.ssrc; source = r.source; pts =
 abbrev pub command_of : RecordingView → List ℕ → Command
 command_of (Lines pts) file = ListRecords (record { file = file; pts = pts })
 command_of (Streams pts) file = Show (record { file = file; pts = pts })
+command_of (Times pts) file = words.Times (record { file = file; pts = pts })
 command_of (Text request) file = Read (words_for request file)
 command_of (Transcript request) file = Script (words_for request file)
-
--- the command that tells, by the clock, what came in the recording of this name
-abbrev pub times_command : Pts → List ℕ → Command
-times_command pts file = Times (record { file = file; pts = pts })
 
 -- why nothing is printed, where the recording has this fault or none
 abbrev pub refused_by : RecordingView → Option dumps.Fault → Option dumps.Fault
 refused_by (Lines pts) fault = fault
 refused_by (Streams pts) fault = if_no_recording fault
+refused_by (Times pts) fault = if_no_recording fault
 refused_by (Text request) fault = fault
 refused_by (Transcript request) fault = fault
 
@@ -56,5 +60,6 @@ refused_by (Transcript request) fault = fault
 abbrev pub view_by : RecordingView → List ℕ → List ℕ
 view_by (Lines pts) octets = list_view pts (dump usual_limit octets).items
 view_by (Streams pts) octets = show_view pts octets
+view_by (Times pts) octets = times_view pts octets
 view_by (Text request) octets = read_view request octets
 view_by (Transcript request) octets = transcript_view request octets

@@ -16,7 +16,8 @@ use Rattle.command_spec.specs.Cascaded.{IsCascaded}
 use Rattle.command_spec.specs.Reading.{arrivals_of, history_view}
 use Rattle.rtt_words.specs.Tasks.{request_of, work}
 use Rattle.command_spec.specs.Messages.{Ending, ending_of, status_of}
-use Rattle.check_spec.specs.Checking.{report}
+use Rattle.check_spec.specs.Checking.{Report}
+use Rattle.check_spec.specs.Looks.{look, told_by}
 use Rattle.rtt_words.specs.Told.{message_of}
 use Rattle.rtt_top.specs.Faults.{NoneBefore, RefusesSo, WhereRead, has_frames, is_live, is_mixed, is_recording}
 use Rattle.rtt_top.specs.Files.{IsPartlyStored}
@@ -27,7 +28,7 @@ use Rattle.rtt_top.specs.Ports.{LegFailed}
 abbrev pub asked_by : List (String Global) → Option Command
 asked_by words = command (map string_bytes words)
 
--- Commands that need no thread and wait for nobody, and words that ask for none.
+-- Commands that need no thread and no network, and wait for nobody, and words that ask for none.
 abbrev pub is_plain : Option Command → Bool
 is_plain (Some (Mix m)) = false
 is_plain (Some (Attend m)) = false
@@ -35,6 +36,7 @@ is_plain (Some (Cascade c)) = false
 is_plain (Some (Make m)) = false
 is_plain (Some (Live m)) = false
 is_plain (Some (Watch m)) = false
+is_plain (Some (Check c)) = false
 is_plain _ = true
 
 -- this was printed
@@ -167,11 +169,11 @@ abbrev pub found_status : Bool → ℕ
 found_status true = 0
 found_status false = 1
 
--- the status says whether the file is taken that lies there, as far as that is told
+-- the status says whether the file is taken that lies there, by what lies in files, as far as that is told
 pub record IsFound (w : CheckWords) (WorldTells : Type 0) (held : Contents) (status : ℕ) : Type 0 where
   pub taken : Bool
   pub is_status : status ≡ found_status taken
-  pub is_taken : WorldTells → (octets : List ℕ) → held w.file ≡ Some octets → taken ≡ (report w.file octets).taken
+  pub is_taken : WorldTells → (told : Report) → told_by held (look w.file) ≡ Some told → taken ≡ told.taken
 
 -- the status is that of the ending; where `check` has looked at a file, that of what was found
 abbrev pub HasStatus : Option Command → (WorldTells : Type 0) → Contents → Ending → ℕ → Type 0

@@ -1,17 +1,15 @@
 //! Which command is asked for: it is carried out, and its status answered.
 ghost use Rattle.std.specs.Prelude.{◌≡◌, false, None, Some, is_some, IfSome};
 ghost use Rattle.rtt_words.specs.Commands.{meaning};
-ghost use Rattle.rtt_top.specs.Faults.{is_live};
+ghost use Rattle.rtt_top.specs.Faults.{is_check, is_live};
 ghost use Rattle.rtt_top.specs.Runs.{is_plain};
 ghost use Rattle.rtt_top.specs.Across.{RunsAcross};
 
-use crate::check::run_check;
 use crate::conversions::{Conversion, run_conversion};
 use crate::help::run_help;
 use crate::make::run_make;
 use crate::recorded::{Mixing, run_mixing};
 use crate::recordings::run_view;
-use crate::timed::run_times;
 use crate::trunk::run_cascade;
 use crate::version::run_version;
 use crate::views::{RecordingView, request_of};
@@ -21,7 +19,7 @@ use std::alloc::Global;
 use std::sync::Wait;
 use std::thread::Threads;
 
-/// Does what is asked for, where that needs no thread and waits for nobody, and answers the status.
+/// Does what is asked for, where that needs no thread and no network and waits for nobody, and answers the status.
 pub fn carry_out_plain<W: World, K: Sink, E: Sink>(
     alloc: Global,
     command: &Command<'_>,
@@ -46,7 +44,10 @@ pub fn carry_out_plain<W: World, K: Sink, E: Sink>(
             let streams = RecordingView::Streams(words.pts);
             Some(run_view(alloc, words.file, streams, world, out, err))
         }
-        Command::Times(words) => { Some(run_times(alloc, words.file, words.pts, world, out, err)) }
+        Command::Times(words) => {
+            let times = RecordingView::Times(words.pts);
+            Some(run_view(alloc, words.file, times, world, out, err))
+        }
         Command::Script(words) => {
             let transcript = RecordingView::Transcript(request_of(words));
             Some(run_view(alloc, words.file, transcript, world, out, err))
@@ -63,7 +64,6 @@ pub fn carry_out_plain<W: World, K: Sink, E: Sink>(
             let recording = Conversion::Recording(*words);
             Some(run_conversion(alloc, &recording, world, out, err))
         }
-        Command::Check(words) => Some(run_check(alloc, words, world, out, err)),
         Command::Help(topic) => Some(run_help(*topic, world, out, err)),
         Command::Version => Some(run_version(world, out, err)),
         Command::Mix(_)
@@ -71,11 +71,12 @@ pub fn carry_out_plain<W: World, K: Sink, E: Sink>(
         | Command::Cascade(_)
         | Command::Make(_)
         | Command::Live(_)
-        | Command::Watch(_) => None,
+        | Command::Watch(_)
+        | Command::Check(_) => None,
     }
 }
 
-/// Does what is asked for, where that is no live call, and answers the status.
+/// Does what is asked for, where that is no live call and no look at a file, and answers the status.
 pub fn carry_out<R: Threads + Wait + Sync, W: World, K: Sink, E: Sink, G: Gate + Sync>(
     rt: &R,
     alloc: Global,
@@ -85,7 +86,8 @@ pub fn carry_out<R: Threads + Wait + Sync, W: World, K: Sink, E: Sink, G: Gate +
     err: &mut E,
     gate: &G,
 ) -> u8
-    requires { is_live (meaning command.now) ≡ false }
+    requires live { is_live (meaning command.now) ≡ false }
+    requires check { is_check (meaning command.now) ≡ false }
     ensures { RunsAcross W.World K.Sink E.Sink (meaning command.now) world.old out.old err.old world.new out.new err.new result }
 {
     if let Some(status) = carry_out_plain(alloc, command, world, out, err) {

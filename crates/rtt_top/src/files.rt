@@ -2,7 +2,7 @@
 ghost use Rattle.std.specs.Prelude.{◌≡◌, ◌<◌, ◌≤◌, ◌++◌, length, OnOk, OnErr, IfOk, IfErr};
 ghost use Rattle.rtt_io.specs.Counts.{Rose};
 ghost use Rattle.rtt_io.specs.Fronts.{TakesFront};
-ghost use Rattle.rtt_io.specs.Names.{NoneFalls, Same as KeepsCounts};
+ghost use Rattle.rtt_io.specs.Names.{NoneFalls, Same as KeepsCounts, SameBut};
 ghost use Rattle.rtpdump_io.specs.Faults.{IsSourceFault, FaultOf};
 ghost use Rattle.sent_files.specs.Files.{recording_at};
 ghost use Rattle.command_spec.specs.Outcomes.{Same};
@@ -35,6 +35,7 @@ pub fn read_input<W: World>(
     ensures opened { OnOk result (KeepsCounts W.own_faults world.old world.new) }
     ensures calls_never_fall { NoneFalls W.own_faults world.old world.new }
     ensures objects_never_fall { NoneFalls W.object_faults world.old world.new }
+    ensures no_other { W.tells → SameBut name.now W.object_faults world.old world.new }
 {
     let Ok(mut source) = world.open_source(name) else {
         return Err(Fault::CannotOpen { input: 0 });

@@ -19,12 +19,12 @@ mod relay;
 mod runs;
 mod send;
 mod serving;
-mod timed;
 mod told;
 mod trunk;
 mod version;
 mod views;
 
+pub use messages::finish_with;
 pub use runs::{run, run_plain};
 
 #[cfg(test)]

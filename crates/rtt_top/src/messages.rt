@@ -3,7 +3,8 @@ ghost use Rattle.std.specs.Prelude.{◌≡◌, ◌++◌, ◌≤◌, decimal, Ok,
 ghost use Rattle.std.specs.List.{concat};
 ghost use Rattle.rtt_io.specs.Counts.{Rose};
 ghost use Rattle.command_spec.specs.Messages.{refusal_status, fault_status, status_of, refusal_message, trouble, byte_message, line_message};
-ghost use Rattle.rtt_words.specs.Told.{fault_message, message_of, told_name};
+ghost use Rattle.check_spec.specs.Told.{told_name};
+ghost use Rattle.rtt_words.specs.Told.{fault_message, message_of};
 ghost use Rattle.rtt_top.specs.Faults.{message_in};
 ghost use Rattle.rtt_top.specs.Sinks.{Wrote, WrotePartly, TookFront, TookIfCalm, place_message};
 
@@ -178,7 +179,7 @@ pub fn tell<E: Sink>(err: &mut E, name: &str, fault: Fault)
 }
 
 /// Tells how a command ended, where the file or the leg that is told of has this name, and answers the status.
-pub(crate) fn finish_with<E: Sink>(ending: Result<(), Fault>, name: &str, err: &mut E) -> u8
+pub fn finish_with<E: Sink>(ending: Result<(), Fault>, name: &str, err: &mut E) -> u8
     ensures status { result ≡ status_of ending }
     ensures silent { ending ≡ Ok tt → E.took err.new ≡ E.took err.old }
     ensures front { E.tells → TookFront E.Sink err.old err.new (message_of name.now ending) }

@@ -1,7 +1,9 @@
 //! Runs over files in memory, and what each has to leave.
 use crate::failing::{End, ends_with_first};
 use crate::run;
+use check_spec::PortFault;
 use link_io::{Came, FailingLink, MemLinks, Planned};
+use port_io::MemPorts;
 use rtt_base::{Bytes, NoMemory, Path};
 use rtt_io::{MemSink, MemWorld, StillGate};
 use std::alloc::Global;
@@ -223,7 +225,11 @@ pub fn status_of<R: Threads + Wait + Clock + Copy + Send + Sync + 'static>(
 ) -> Result<u8, Fail> {
     let words = words(alloc, text)?;
     let words = words.as_slice();
-    Ok(run(rt, alloc, words, world, links, out, err, &StillGate))
+    let mut ports = MemPorts::new(alloc);
+    ports.refuse(5003, PortFault::Taken)?;
+    Ok(run(
+        rt, alloc, words, world, links, &mut ports, out, err, &StillGate,
+    ))
 }
 
 /// Puts a file of these lines into the world.

@@ -1,4 +1,4 @@
-//! A view of a recording: the recording is opened and read, and its view is printed.
+//! A view of a recording: the recording is opened, its head looked at, and read; and its view is printed.
 ghost use Rattle.std.specs.Prelude.{IfOk, IfErr};
 ghost use Rattle.command_spec.specs.Outcomes.{Same};
 ghost use Rattle.rtt_top.specs.Faults.{name_in};
@@ -10,6 +10,7 @@ use crate::files::fault_of_recording;
 use crate::messages::{finish, print};
 use crate::views::RecordingView;
 use command_spec::Fault;
+use recording_starts::Opened;
 use rtpdump_io::DumpReader;
 use rtt_base::Bytes;
 use rtt_io::{Sink, World};
@@ -29,9 +30,14 @@ fn view_under<W: World>(
     let Ok(source) = world.open_source(name) else {
         return Err(Fault::CannotOpen { input: 0 });
     };
-    let mut reader = DumpReader::new(source);
-    let made = view.view_of(alloc, &mut reader);
-    world.done_src(reader.into_source());
+    let (opened, looked) = Opened::open(source);
+    let Ok(start) = looked else {
+        world.done_src(opened.into_source());
+        return Err(Fault::CannotRead { input: 0 });
+    };
+    let mut reader = DumpReader::new(opened);
+    let made = view.view_of(alloc, &mut reader, start);
+    world.done_src(reader.into_source().into_source());
     match made {
         Ok(octets) => Ok(octets),
         Err(fault) => Err(fault_of_recording(fault)),

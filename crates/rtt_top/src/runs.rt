@@ -3,12 +3,15 @@ ghost use Rattle.std.specs.Prelude.{◌≡◌, None, true, false, IsSome, IfSome
 ghost use Rattle.rtt_top.specs.Lives.{RunsCall, uses_no_link};
 ghost use Rattle.rtt_top.specs.Outside.{outside_at, outside_over, output_at};
 ghost use Rattle.rtt_top.specs.Runs.{asked_by, is_plain, Runs};
+ghost use Rattle.rtt_top.specs.Trials.{RunsLook, tries_no_port};
 
+use crate::check::run_check;
 use crate::commands::{carry_out, carry_out_plain};
 use crate::messages::finish;
 use crate::serving::{Serving, serve_file};
 use command_spec::Fault;
 use link_io::Links;
+use port_io::Ports;
 use rtt_io::{Gate, Sink, World};
 use rtt_words::{Command, WordFault, command_of};
 use std::alloc::Global;
@@ -16,7 +19,7 @@ use std::sync::Wait;
 use std::thread::Threads;
 use std::time::Clock;
 
-/// Runs a command that needs no thread and waits for nobody. `words` are the words after the program's name; the
+/// Runs a command that needs no thread and no network, and waits for nobody. `words` are the words after the program's name; the
 /// answer is the status, or `None` where another command is asked for; then nothing was read or written. Of another command it
 /// may tell that memory ran out before the words were told apart, and nothing else.
 pub fn run_plain<W: World, K: Sink, E: Sink>(
@@ -44,11 +47,13 @@ pub fn run_plain<W: World, K: Sink, E: Sink>(
 
 /// Runs one command and answers the program's status. `words` are the words after the program's name. `Runs` has what
 /// a run is, a clause a line: by what the words ask for, what lay outside before and lies there after, and the status.
-/// `RunsCall` has what a live call is, with a board or without: one that was served to its end, and one that was given up.
+/// `RunsCall` has what a live call is, with a board or without: one that was served to its end, and one that was given up. `RunsLook` has
+/// what `check` tells, which alone tries ports, and lets go of all that it had.
 pub fn run<
     R: Threads + Wait + Clock + Copy + Send + Sync + 'static,
     W: World,
     L: Links,
+    P: Ports,
     K: Sink,
     E: Sink,
     G: Gate + Sync,
@@ -58,6 +63,7 @@ pub fn run<
     words: &[String],
     world: &mut W,
     links: &mut L,
+    ports: &mut P,
     out: &mut K,
     err: &mut E,
     gate: &G,
@@ -68,6 +74,10 @@ pub fn run<
     ensures call { RunsCall (asked_by words.now) W.tells K.tells L.tells
         (outside_over W.World K.Sink L.Links world.old out.old links.old) (outside_over W.World K.Sink L.Links world.new out.new links.new) result }
     ensures offline { uses_no_link (asked_by words.now) result ≡ true → links.new ≡ links.old }
+    ensures looks { RunsLook (asked_by words.now) W.tells K.tells P.tells (P.answers ports.old) (W.contents world.old)
+        (output_at K.Sink out.old) (output_at K.Sink out.new) result }
+    ensures untried { tries_no_port (asked_by words.now) ≡ true → ports.new ≡ ports.old }
+    ensures let_go { P.kept ports.old ≡ 0 → P.kept ports.new ≡ 0 }
 {
     let command = match command_of(alloc, words) {
         Ok(command) => command,
@@ -83,6 +93,7 @@ pub fn run<
             let watched = Serving::Watched;
             serve_file(watched, rt, alloc, call, world, links, out, err, gate)
         }
+        Command::Check(words) => run_check(alloc, words, world, ports, out, err),
         _ => carry_out(rt, alloc, &command, world, out, err, gate),
     }
 }

@@ -137,7 +137,7 @@ const MIXED_LOST: [Piece<'static>; 4] = [
     Octets(SENT_LAST),
 ];
 
-const VIEWS: [Case<'static>; 30] = [
+const VIEWS: [Case<'static>; 32] = [
     // two lost packets leave no marker, and three leave one
     View(
         &TWO_LETTERS,
@@ -282,6 +282,16 @@ const VIEWS: [Case<'static>; 30] = [
         "mixer 9 0 0\ntick 10\n",
         "conference of recordings\nf line 2: Number\n| tick 10\ntick is a number of milliseconds from 20 to 200\n",
     ),
+    // and the INs of a conference
+    Untaken(
+        "mixer 9 0 0\nleg A aware 1001 a.rtp x\nleg B aware 2 a.rtp y\n",
+        "conference of recordings\na.rtp has SSRC 1001, type 100\n| leg B aware 2 a.rtp y\nno packet of the IN has the SSRC of the leg and one of its payload types: correct the line, or name another IN; list prints what it has\n",
+    ),
+    // and the ports of one of links
+    Untaken(
+        "mixer 9 0 0\nleg A aware 1001 5001 127.0.0.1:5101\nleg B aware 2 5003 127.0.0.1:5103\n",
+        "conference of links\nport 5003: taken\n| leg B aware 2 5003 127.0.0.1:5103\nanother program has the port, or another call: end it, or name another port\n",
+    ),
     // help tells of all commands, or of one
     View(&[], "help", USAGE),
     View(&[], "help version", HELP_OF_VERSION),
@@ -379,6 +389,15 @@ fn add_frames(world: &mut MemWorld) -> Result<(), Fail> {
     Ok(())
 }
 
+// Conferences with an IN behind another mixer, and one that can't be read, or is not there.
+fn add_conferences(world: &mut MemWorld) -> Result<(), Fail> {
+    let unread: &[u8] = b"mixer 9 0 0\nleg A aware 1 trunk x\nleg B aware 2 whole.rtp y\n";
+    world.add_file("unread.conf", unread)?;
+    let missing: &[u8] = b"mixer 9 0 0\nleg A aware 1 trunk x\nleg B aware 2 b.rtp y\n";
+    world.add_file("missing.conf", missing)?;
+    Ok(())
+}
+
 fn add_scripts(world: &mut MemWorld, alloc: Global) -> Result<(), Fail> {
     world.add_file("number.txt", b"0 A\n# B\nx C\n")?;
     world.add_file("two.txt", b"0 A\n300 B\n")?;
@@ -391,6 +410,7 @@ fn add_refused(world: &mut MemWorld, alloc: Global) -> Result<(), Fail> {
     add_broken(world, alloc)?;
     add_beyond(world, alloc)?;
     add_scripts(world, alloc)?;
+    add_conferences(world)?;
     add_frames(world)
 }
 
@@ -410,7 +430,7 @@ fn add_failing(world: &mut MemWorld, alloc: Global) -> Result<(), Fail> {
     Ok(())
 }
 
-const FAILURES: [Case<'static>; 21] = [
+const FAILURES: [Case<'static>; 23] = [
     // broken recordings are refused at their byte
     Silent("read few.rtp 1001", 6, "few.rtp byte 136: EndsInside\n"),
     Silent("read head.rtp 1001", 6, "head.rtp byte 28: EndsInside\n"),
@@ -463,6 +483,9 @@ const FAILURES: [Case<'static>; 21] = [
         "cannot open Gr\u{fc}\u{df}e\u{202f}\u{2065}~.rtp\n",
     ),
     Silent("read whole.rtp 1001", 4, "cannot read whole.rtp\n"),
+    // so of the INs of a conference that is looked at
+    Silent("check unread.conf", 4, "cannot read whole.rtp\n"),
+    Silent("check missing.conf", 3, "cannot open b.rtp\n"),
     Silent("send two.txt a.rtp 1001 0 0", 7, "cannot write a.rtp\n"),
     Silent("send two.txt b.rtp 1001 0 0", 7, "cannot write b.rtp\n"),
 ];

@@ -2,11 +2,11 @@
 ghost use Rattle.std.specs.Prelude.{◌≡◌, ◌≤◌, encode_utf8, OnErr};
 ghost use Rattle.std.specs.List.{list_all};
 ghost use Rattle.rtt_io.specs.Counts.{Rose};
-ghost use Rattle.text_spec.specs.Views.{is_direction};
-ghost use Rattle.rtt_words.specs.Told.{told_character, told_name};
+ghost use Rattle.check_spec.specs.Told.{told_character, told_name};
 ghost use Rattle.rtt_top.specs.Sinks.{Wrote, WrotePartly, is_plain_octet};
 
 use rtt_base::Failed;
+use rtt_check::told_character;
 use rtt_io::Sink;
 
 /// Whether all octets are characters of ASCII that are told as they are.
@@ -14,24 +14,6 @@ fn are_plain(octets: &[u8]) -> bool
     ensures { result ≡ list_all is_plain_octet octets.now }
 {
     octets.iter().all(|octet| matches!(*octet, b' '..=b'~'))
-}
-
-/// Whether the character turns the direction in which text runs.
-fn is_direction(c: char) -> bool
-    ensures { result ≡ is_direction c }
-{
-    matches!(c, '\u{202A}'..='\u{202E}' | '\u{2066}'..='\u{2069}')
-}
-
-/// The character that is told of a name's character.
-fn told_character(c: char) -> char
-    ensures { result ≡ told_character c }
-{
-    if c.is_control() || is_direction(c) {
-        char::REPLACEMENT_CHARACTER
-    } else {
-        c
-    }
 }
 
 /// Writes a character of a name as it is told.

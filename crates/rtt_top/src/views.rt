@@ -1,11 +1,11 @@
-//! What `list`, `show`, `read` and `script` print of a recording.
-ghost use Rattle.std.specs.Prelude.{◌≡◌, ℕ, List, None, false, OnOk, IfOk, IfErr};
+//! What `list`, `show`, `times`, `read` and `script` print of a recording.
+ghost use Rattle.std.specs.Prelude.{◌≡◌, ◌<◌, ◌^◌, ℕ, List, None, false, OnOk, IfOk, IfErr, IfSome};
 ghost use Rattle.rtpdump_io.specs.Reading.{is_ended, source_of, to_come};
 ghost use Rattle.rtpdump_io.specs.Faults.{FaultOf, HasCause};
 ghost use Rattle.command_spec.specs.Reading.{read_view};
 ghost use Rattle.command_spec.specs.declared.requests.ReadRequest.{ReadRequest};
 ghost use Rattle.rtt_read.specs.Recordings.{HasHeard, HasHeardOne};
-ghost use Rattle.rtt_top.specs.RecordingViews.{IsViewOf, IsRefusal, refused_by, view_by};
+ghost use Rattle.rtt_top.specs.RecordingViews.{IsViewFrom, IsViewOf, IsRefusal, refused_by, view_by};
 
 use command_spec::ReadRequest;
 use rtpdump_io::{DumpReader, RecordingFault};
@@ -15,6 +15,7 @@ use rtt_list::list_records;
 use rtt_read::hear_recording;
 use rtt_script::script_recording;
 use rtt_show::show_recording;
+use rtt_times::times_recording;
 use rtt_words::ReadWords;
 use std::alloc::Global;
 use terminal::{Terminal, View};
@@ -37,6 +38,8 @@ pub(crate) enum RecordingView {
     Lines(Pts),
     /// `show`: all that it has, as far as it can be read, under these payload types.
     Streams(Pts),
+    /// `times`: what came in it by the clock, as far as it can be read, under these payload types.
+    Times(Pts),
     /// `read`: the text that is asked for.
     Text(ReadRequest),
     /// `script`: when each text that is asked for could be read.
@@ -76,14 +79,16 @@ fn text_heard<S: Source>(
 }
 
 impl RecordingView {
-    /// Reads the recording, and makes what is printed of it.
+    /// Reads the recording, which began at `start`, in milliseconds since 1970, and makes what is printed of it.
     pub(crate) fn view_of<S: Source>(
         self,
         alloc: Global,
         reader: &mut DumpReader<S>,
+        start: Option<u64>,
     ) -> Result<Bytes, RecordingFault>
         requires open { is_ended reader.old ≡ false }
-        ensures view { S.tells → IfOk result (IsViewOf (view_by self) (to_come S.left reader.old)) }
+        requires start { IfSome start (λ start. start < 2 ^ 48) }
+        ensures view { S.tells → IfOk result (IsViewFrom (view_by self) start (to_come S.left reader.old)) }
         ensures whole { S.tells → OnOk result (refused_by self (to_come S.left reader.old).fault ≡ None) }
         ensures refused { S.tells → IfErr result (IsRefusal (refused_by self (to_come S.left reader.old).fault)) }
         ensures failed { IfErr result (HasCause S.faults reader.old reader.new) }
@@ -91,7 +96,8 @@ impl RecordingView {
     {
         match self {
             RecordingView::Lines(pts) => list_records(alloc, reader, pts),
-            RecordingView::Streams(pts) => show_recording(alloc, reader, pts),
+            RecordingView::Streams(pts) => show_recording(alloc, reader, start, pts),
+            RecordingView::Times(pts) => times_recording(alloc, reader, start, pts),
             RecordingView::Text(request) => text_heard(alloc, reader, request),
             RecordingView::Transcript(request) => script_recording(alloc, reader, request),
         }

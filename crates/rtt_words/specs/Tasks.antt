@@ -7,7 +7,7 @@ use Rattle.file_spec.specs.Script.{ScriptLine}
 use Rattle.file_spec.specs.Lines as lines
 use Rattle.file_spec.specs.Script.{script}
 use Rattle.rtt_words.specs.Words.{ReadWords, SendWords, Command, Read, ListRecords, Send, Mix, Attend, Cascade, Make, Live, Watch, Relay, Channel, Show, Times, Script, Check, Help, Version}
-use Rattle.check_spec.specs.Checking.{report}
+use Rattle.check_spec.specs.Looks.{look, steps_of}
 use Rattle.rtt_words.specs.Help.{help_text}
 use Rattle.command_spec.specs.declared.faults.Refusal.TheVariants.{AtByte, AtFrame, AtLine}
 use Rattle.command_spec.specs.declared.requests.ReadRequest.{ReadRequest}
@@ -94,6 +94,6 @@ work (Channel c) = record {
 work (Show l) = prints_unless show_refusal l.file (show_view l.pts)
 work (Times l) = prints_unless show_refusal l.file (times_view l.pts)
 work (Script r) = prints_recording r.file (transcript_view (request_of r))
-work (Check c) = record { prints = true; steps = Reads c.file (λ octets. Makes (report c.file octets).text []) }
+work (Check c) = record { prints = true; steps = steps_of (look c.file) }
 work (Help t) = record { prints = true; steps = Makes (help_text t) [] }
 work Version = record { prints = true; steps = Makes version_line [] }

@@ -1,22 +1,11 @@
 -- What is told of a fault (profile). Each line ends with LF.
-use Rattle.std.specs.Prelude.{List, [], ℕ, ◌||◌, Ok, Err, codes, chars, encode_utf8, flat_map, if◌then◌else◌}
-use Rattle.std.specs.Char.{is_control}
-use Rattle.text_spec.specs.Views.{is_direction}
+use Rattle.std.specs.Prelude.{List, [], ℕ, Ok, Err, codes}
+use Rattle.check_spec.specs.Told.{told_name}
 use Rattle.command_spec.specs.declared.faults.Fault.{Fault}
 use Rattle.command_spec.specs.declared.faults.Fault.TheVariants.{WrongWords, CannotOpen, CannotRead, Refused, CannotPrint, CannotWrite, LinkFailed, NoMemory}
 use Rattle.command_spec.specs.Messages.{Ending, refusal_message, trouble}
 use Rattle.rtt_words.specs.Help.{usage}
 
--- ---- names
--- a character of a name as it is told: U+FFFD for a control character, and for one that turns the direction in which text runs
-abbrev pub told_character : ℕ → ℕ
-told_character c = if is_control c || is_direction c then 0xFFFD else c
-
--- a name as it is told
-abbrev pub told_name : List ℕ → List ℕ
-told_name name = flat_map (λ c. encode_utf8 (told_character c)) (chars name)
-
--- ---- messages
 -- what is told of a fault whose file or leg is told of by this name
 abbrev pub fault_message : List ℕ → Fault → List ℕ
 fault_message name WrongWords = usage

@@ -4,6 +4,7 @@ use Rattle.std.specs.Process.{exit_status}
 use Rattle.rtt_top.specs.Lives.{RunsCall, uses_no_link}
 use Rattle.rtt_top.specs.Outside.{outside_over, output_at}
 use Rattle.rtt_top.specs.Runs.{Runs, asked_by}
+use Rattle.rtt_top.specs.Trials.{RunsLook, tries_no_port}
 use Rattle.rtt_program.proofs.program.Goals as goal
 
 -- what holds of the words that were run and of the status holds of the words that came and of the exit
@@ -31,6 +32,10 @@ returns g c =
       runs = carry (λ items status. Runs (asked_by items) g.W.World.tells g.K.Sink.tells g.E.Sink.tells old new before after status) run.ensures.runs;
       call = carry (λ items status. RunsCall (asked_by items) g.W.World.tells g.K.Sink.tells g.L.Links.tells old new status) run.ensures.call;
       offline = carry (λ items status. uses_no_link (asked_by items) status ≡ true → run.new.links ≡ c.args.links.now) run.ensures.offline;
+      looks = carry (λ items status. RunsLook (asked_by items) g.W.World.tells g.K.Sink.tells g.P.Ports.tells (g.P.Ports.answers c.args.ports.now) (g.W.World.contents c.args.world.now)
+          (output_at g.K.Sink c.args.out.now) (output_at g.K.Sink run.new.out) status) run.ensures.looks;
+      untried = carry (λ items status. tries_no_port (asked_by items) ≡ true → run.new.ports ≡ c.args.ports.now) run.ensures.untried;
+      let_go = run.ensures.let_go;
       no_memory = not_failed _ c.args.words c.in-Ok.all c.in-Ok.is;
       same = not_failed _ c.args.words c.in-Ok.all c.in-Ok.is;
       told = λ t. not_failed _ c.args.words c.in-Ok.all c.in-Ok.is;

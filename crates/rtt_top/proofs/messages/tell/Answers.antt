@@ -1,4 +1,5 @@
-use Rattle.rtt_words.specs.Told.{fault_message, told_name}
+use Rattle.check_spec.specs.Told.{told_name}
+use Rattle.rtt_words.specs.Told.{fault_message}
 use Rattle.rtt_top.proofs.Fronts.{front_of}
 use Rattle.rtt_top.proofs.messages.tell.Goals as goal
 
