@@ -1,7 +1,8 @@
 # make try         builds the program unproved, in some two minutes, keeps it, and prints the view of the stored recording
 # make test        proves and tests all, and leaves the proved program: what .ci/run does
 # make run         proves what the program is made of, builds it, and prints that view
-# make examples    runs the commands of the documents and compares what they print, and what is stored in examples
+# make examples    runs the commands of the documents and compares what they print, what is stored in examples, and what pages
+#                  have of the sources
 # make trials      tries the program against the system, with each request of memory refused, against a second program, with
 #                  terminals over UDP, on a call that is captured, in a browser, on an archive and two machines, in pods, and
 #                  as a package; and a capture of 2 GB
@@ -42,6 +43,7 @@ examples: $(PROGRAM)
 	examples/captures/try $(PROGRAM)
 	examples/wrong/try $(PROGRAM)
 	examples/words
+	examples/definitions --check
 
 trials: $(PROGRAM)
 	examples/system $(PROGRAM)
