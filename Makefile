@@ -44,6 +44,7 @@ examples: $(PROGRAM)
 	examples/wrong/try $(PROGRAM)
 	examples/words
 	examples/definitions --check
+	examples/crates --check
 
 trials: $(PROGRAM)
 	examples/system $(PROGRAM)
