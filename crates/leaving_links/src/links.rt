@@ -22,11 +22,13 @@ impl<L: Links, S: Silence + Send> Leaving<L, S> {
     /// The links over these, whose peers may be silent for so many milliseconds, where there is an end to it.
     pub fn new(links: L, longest: Option<u32>) -> Leaving<L, S>
         requires { longest ≡ S.longest }
+        ensures opened { (p : ℕ) → ⟦<Leaving<L, S> as Links>⟧.opened result p ≡ L.opened links p }
         ensures leads { ⟦<Leaving<L, S> as Links>⟧.leads result ≡ L.leads links }
         ensures taken { (p : ℕ) → ⟦<Leaving<L, S> as Links>⟧.taken_at result p ≡ takes_told S.longest (L.taken_at links p) }
         ensures given { (p : ℕ) → ⟦<Leaving<L, S> as Links>⟧.given_at result p ≡ L.given_at links p }
         ensures own { (p : ℕ) → ⟦<Leaving<L, S> as Links>⟧.own_faults result p ≡ L.own_faults links p }
         ensures objects { (p : ℕ) → ⟦<Leaving<L, S> as Links>⟧.object_faults result p ≡ L.object_faults links p }
+        ensures moment { ⟦<Leaving<L, S> as Links>⟧.moment result ≡ L.moment links }
         ensures pauses { ⟦<Leaving<L, S> as Links>⟧.pauses result ≡ L.pauses links }
     {
         Leaving {
@@ -38,11 +40,13 @@ impl<L: Links, S: Silence + Send> Leaving<L, S> {
 
     /// The links below.
     pub fn into_links(self) -> L
+        ensures opened { (p : ℕ) → ⟦<Leaving<L, S> as Links>⟧.opened self p ≡ L.opened result p }
         ensures leads { ⟦<Leaving<L, S> as Links>⟧.leads self ≡ L.leads result }
         ensures taken { (p : ℕ) → ⟦<Leaving<L, S> as Links>⟧.taken_at self p ≡ takes_told S.longest (L.taken_at result p) }
         ensures given { (p : ℕ) → ⟦<Leaving<L, S> as Links>⟧.given_at self p ≡ L.given_at result p }
         ensures own { (p : ℕ) → ⟦<Leaving<L, S> as Links>⟧.own_faults self p ≡ L.own_faults result p }
         ensures objects { (p : ℕ) → ⟦<Leaving<L, S> as Links>⟧.object_faults self p ≡ L.object_faults result p }
+        ensures moment { ⟦<Leaving<L, S> as Links>⟧.moment self ≡ L.moment result }
         ensures pauses { ⟦<Leaving<L, S> as Links>⟧.pauses self ≡ L.pauses result }
     {
         let Leaving {

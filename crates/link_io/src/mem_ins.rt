@@ -105,6 +105,7 @@ impl MemIn {
         ensures at { ⟦<MemIn as LinkIn>⟧.port result ≡ port }
         ensures fresh { ⟦<MemIn as LinkIn>⟧.faults result ≡ 0 }
         ensures not_closed { ⟦<MemIn as LinkIn>⟧.closed result ≡ false }
+        ensures at_first { ⟦<MemIn as LinkIn>⟧.moment result ≡ 0 }
     {
         MemIn {
             alloc,

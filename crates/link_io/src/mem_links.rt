@@ -113,10 +113,12 @@ impl MemLinks {
     /// Links that are quiet for good, where no call is to fail, at moment 0. It takes no memory.
     pub fn new(alloc: Global) -> MemLinks
         ensures none { (p : ℕ) → ⟦<MemLinks as Links>⟧.taken_at result p ≡ [] }
-        ensures none_opened { ⟦<MemLinks as Links>⟧.leads result ≡ [] }
+        ensures none_opened { (p : ℕ) → ⟦<MemLinks as Links>⟧.opened result p ≡ false }
+        ensures no_lead { ⟦<MemLinks as Links>⟧.leads result ≡ [] }
         ensures none_given { (p : ℕ) → ⟦<MemLinks as Links>⟧.given_at result p ≡ [] }
         ensures fresh { (p : ℕ) → ⟦<MemLinks as Links>⟧.own_faults result p ≡ 0 }
         ensures fresh_objects { (p : ℕ) → ⟦<MemLinks as Links>⟧.object_faults result p ≡ 0 }
+        ensures at_first { ⟦<MemLinks as Links>⟧.moment result ≡ 0 }
         ensures no_pause { ⟦<MemLinks as Links>⟧.pauses result ≡ 0 }
     {
         MemLinks {

@@ -31,6 +31,7 @@ impl<R: Net + Clock + Copy + Send> RealLinks<R> {
     pub fn new(rt: R, alloc: Global) -> RealLinks<R>
         ensures fresh { (p : ℕ) → ⟦<RealLinks<R> as Links>⟧.own_faults result p ≡ 0 }
         ensures fresh_objects { (p : ℕ) → ⟦<RealLinks<R> as Links>⟧.object_faults result p ≡ 0 }
+        ensures at_first { ⟦<RealLinks<R> as Links>⟧.moment result ≡ 0 }
         ensures no_pause { ⟦<RealLinks<R> as Links>⟧.pauses result ≡ 0 }
     {
         let start = millis_since(&rt, 0);
