@@ -26,11 +26,12 @@ abbrev pub RiseTo : ℕ → List ℕ → Type 0
 RiseTo until [] = Unit {0}
 RiseTo until (now ∷ past) = (now ≤ until) × RiseTo now past
 
--- The turns that these calls make are told such moments, since one that was no earlier than the first: they never fall, and none is
--- later than the last that the clock told.
+-- The turns that these calls make are told such moments, since one that was no earlier than the first, and no later than the last
+-- that the clock told: they never fall, and none is later than that last one.
 pub record ArePaced (tick old new : ℕ) (calls : List Call) : Type 0 where
   pub began : ℕ
   pub behind : old ≤ began
+  pub before : began ≤ new
   pub at : AtTicks tick began (moments_of calls)
   pub told : RiseTo new (moments_of calls)
 
@@ -39,10 +40,12 @@ abbrev pub StandsPaced : {M : Type 0} → (tells : Type 0) → (tick old new : �
 StandsPaced tells tick old new order stands m s pts calls = stands m s pts calls × (tells → ArePaced tick old new calls) × order m s pts calls
 
 -- ---- time
--- So many ticks have passed since a moment, which was no earlier than the first: so long as clocks tell moments.
+-- So many ticks have passed since a moment, which was no earlier than the first, and no later than the last: so long as clocks tell
+-- moments.
 pub record IsPaced (turns tick old new : ℕ) : Type 0 where
   pub began : ℕ
   pub behind : old ≤ began
+  pub before : began ≤ new
   pub passed : began + turns * tick < 2 ^ 47 → began + turns * tick ≤ new
 
 -- Only time did: the counts of faults and the links are the same, and the moment did not fall.

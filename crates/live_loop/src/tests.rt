@@ -25,6 +25,8 @@ struct Counting {
     turns: u64,
     // the moments of the first turns
     moments: [u64; 3],
+    // how many texts were taken before the first turn
+    first: u64,
 }
 
 impl Mixes for Counting {
@@ -67,6 +69,9 @@ impl Mixes for Counting {
         if self.turns < 3 {
             self.moments[self.turns as usize] = now;
         }
+        if self.turns == 0 {
+            self.first = self.taken;
+        }
         self.turns += 1;
         Ok(())
     }
@@ -82,13 +87,13 @@ fn typed(number: u16) -> [u8; 13] {
     [0x80, 98, high, low, 0, 0, 0, 0, 0, 0, 3, 0xE9, b'A']
 }
 
-// Plans so many packets, with a text each.
-fn plan_typed(alloc: Global, link: &mut MemIn, count: u16) -> Result<(), NoMemory> {
+// Plans so many packets, with a text each, at this moment.
+fn plan_typed(alloc: Global, link: &mut MemIn, count: u16, at: u32) -> Result<(), NoMemory> {
     for number in 0..count {
         let mut octets = Bytes::new(alloc);
         octets.append(&typed(number))?;
         link.plan(Planned {
-            at: 100,
+            at,
             came: Came::Datagram,
             octets,
         })?;
@@ -99,7 +104,7 @@ fn plan_typed(alloc: Global, link: &mut MemIn, count: u16) -> Result<(), NoMemor
 // A link that gives so many texts and is closed, or is quiet behind them.
 fn link(alloc: Global, count: u16, closes: bool) -> Result<MemIn, NoMemory> {
     let mut link = MemIn::new(alloc, 5001);
-    plan_typed(alloc, &mut link, count)?;
+    plan_typed(alloc, &mut link, count, 100)?;
     if closes {
         link.plan(Planned {
             at: 200,
@@ -119,6 +124,7 @@ struct Ran {
     turns: u64,
     taken: u64,
     moments: [u64; 3],
+    first: u64,
 }
 
 // Makes five turns, one each 100 milliseconds, and lets go what comes behind them.
@@ -196,6 +202,7 @@ fn run<R: Threads + Wait>(rt: &R, alloc: Global, link: MemIn, begin: u64) -> Opt
         taken: 0,
         turns: 0,
         moments: [0; 3],
+        first: 0,
     };
     let mut world = MemLinks::new(alloc);
     world.pause_until(begin);
@@ -212,6 +219,7 @@ fn run<R: Threads + Wait>(rt: &R, alloc: Global, link: MemIn, begin: u64) -> Opt
         turns: mixer.turns,
         taken: mixer.taken,
         moments: mixer.moments,
+        first: mixer.first,
     })
 }
 
@@ -271,5 +279,27 @@ fn turns_are_at_the_ticks_of_the_clock(rt: HostRuntime) -> Result<(), Fail> {
         return Err(NoMemory)?;
     };
     assert!(rt; ran.moments == [30, 200, 300]);
+    Ok(())
+}
+
+// A link that has nothing at moment 0, and gives a text at moment 50.
+fn link_behind_a_silence(alloc: Global) -> Result<MemIn, NoMemory> {
+    let mut link = MemIn::new(alloc, 5001);
+    link.plan(Planned {
+        at: 0,
+        came: Came::Quiet,
+        octets: Bytes::new(alloc),
+    })?;
+    plan_typed(alloc, &mut link, 1, 50)?;
+    Ok(link)
+}
+
+#[test]
+fn what_comes_behind_a_silence_is_offered_before_the_turn(rt: HostRuntime) -> Result<(), Fail> {
+    let link = link_behind_a_silence(rt.alloc())?;
+    let Some(ran) = run(&rt, rt.alloc(), link, 30) else {
+        return Err(NoMemory)?;
+    };
+    assert!(rt; ran.first == 1);
     Ok(())
 }

@@ -189,7 +189,7 @@ module _ {I G : Type 0} (i : ins.Ghosts I) (tells : Type 0) (opened : ℕ → Bo
 
     -- the turns of these calls are at ticks, and what they send was given before the pause behind each
     abbrev PacedBy : (span : Span) → List Call → Type 0
-    PacedBy span calls = (began : ℕ) × (span.first ≤ began) × AtTicks c.tick began (moments_of calls) × RiseTo span.last (moments_of calls) × GaveInTurn c span.pauses (at_link o.given far.links.items) calls
+    PacedBy span calls = (began : ℕ) × (span.first ≤ began) × (began ≤ span.last) × AtTicks c.tick began (moments_of calls) × RiseTo span.last (moments_of calls) × GaveInTurn c span.pauses (at_link o.given far.links.items) calls
 
     is_call : (span : Span) (end : End) (calls : List Call) → gives m (setup c) (pts_at c) calls → (tells → PacedBy span calls) → m.short ≡ false
         → (serves : (takes : ℕ → Takes) (given : ℕ → List (List ℕ)) → IsOfConf popped_in c calls ports takes given → IsServed c takes given end (live_printed c given end))
@@ -234,7 +234,7 @@ module _ {I G : Type 0} (i : ins.Ghosts I) (tells : Type 0) (opened : ℕ → Bo
               let here : j < length c.legs = omega (arith, low, many, many_backs) in
               (pick_holds [] took (length c.legs) took_at j here).calm ((serves takes given w).drained closed j here).closed leg e;
           told = record { calls = calls; made = sym (leads takes given w); told = shows (notices_by (setup c) calls) (gave_all.told long) };
-          paced = λ t. let p = paced t in record { calls = calls; made = sym (leads takes given w); began = p.0; behind = p.1; at = p.2; told = p.3; in_turn = p.4 };
+          paced = λ t. let p = paced t in record { calls = calls; made = sym (leads takes given w); began = p.0; behind = p.1; before = p.2; at = p.3; told = p.4; in_turn = p.5 };
         }
 
     -- what a turn sends was given by the time of the pause behind it
@@ -253,7 +253,7 @@ module _ {I G : Type 0} (i : ins.Ghosts I) (tells : Type 0) (opened : ℕ → Bo
     at_ticks : (known : Type 0) (tick : ℕ) (span : Span) (calls : List Call) → tick ≡ c.tick → (tells → known) → (known → ArePaced tick span.first span.last calls) → AreInTurn gives addresses span.pauses m (setup c) (pts_at c) calls → tells → PacedBy span calls
     at_ticks known tick span calls same tell paced order t =
         let p = paced (tell t) in
-        (p.began, p.behind, subst (λ (n : ℕ). AtTicks n p.began (moments_of calls)) same p.at, p.told, gave_in_turn span.pauses calls order t)
+        (p.began, p.behind, p.before, subst (λ (n : ℕ). AtTicks n p.began (moments_of calls)) same p.at, p.told, gave_in_turn span.pauses calls order t)
 
     -- ---- one that broke off
     -- what was given by calls, to the links and by definition
@@ -311,7 +311,7 @@ module _ {I G : Type 0} (i : ins.Ghosts I) (tells : Type 0) (opened : ℕ → Bo
           now = now;
           taken = λ t j leg e. (pick_holds [] took (length c.legs) took_at j (let low = slice_get_within backs j leg e in omega (arith, low, many, many_backs))).taken t leg e;
           gave = λ t j link line e at. cut j link line e at (tells_out t j (leg_within c.legs j line at));
-          paced = λ t. let p = paced t in record { calls = calls; made = refl; began = p.0; behind = p.1; at = p.2; told = p.3; in_turn = p.4 };
+          paced = λ t. let p = paced t in record { calls = calls; made = refl; began = p.0; behind = p.1; before = p.2; at = p.3; told = p.4; in_turn = p.5 };
         }
 
     -- however its turns ended

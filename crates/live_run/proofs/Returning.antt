@@ -79,6 +79,7 @@ paced_at c links table span given under lies w = record {
   made = w.made;
   began = w.began;
   behind = w.behind;
+  before = w.before;
   at = w.at;
   told = w.told;
   in_turn = λ k j line made early at.

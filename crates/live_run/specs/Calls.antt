@@ -94,6 +94,7 @@ pub record WasPaced (c : Conf) (table : Table) (span : Span) (given : ℕ → Li
   pub made : after_calls (setup c) calls ≡ table
   pub began : ℕ
   pub behind : span.first ≤ began
+  pub before : began ≤ span.last
   pub at : AtTicks c.tick began (moments_of calls)
   pub told : RiseTo span.last (moments_of calls)
   pub in_turn : GaveInTurn c span.pauses given calls

@@ -41,7 +41,7 @@ returns-then-is_over-clause-ran g c = λ s pts legs v.
     let x = becomes g.I.Pops.popped g.I.Pops.began g.M.Mixes.stands (StandsPaced g.C.TurnClock.tells c.args.tick (g.C.TurnClock.moment c.args.clock.now) (g.C.TurnClock.moment c.loop-k.clock) (AreInTurn g.M.Mixes.stands g.M.Mixes.addresses paused) g.M.Mixes.stands) s pts c.loop-k.k c.gather_all.new.ports c.gather_all.new.mixer c.gather_all.new.mixer v (
       v.made,
       λ t. let at = subst (λ (ms : List ℕ). AtTicks c.args.tick c.clock_now-began.result ms × RiseTo (g.C.TurnClock.moment c.loop-k.clock) ms) (sym w.1.moments) (b.1 t) in
-          record { began = c.clock_now-began.result; behind = c.loop-k.invariant.7; at = at.0; told = at.1 },
+          record { began = c.clock_now-began.result; behind = c.loop-k.invariant.7; before = c.loop-k.invariant.6; at = at.0; told = at.1 },
       order,
     ) in
     record {
@@ -111,7 +111,7 @@ pub returns-then-is_over-2-clause-ran : goal.returns-then-is_over-2-clause-ran
 returns-then-is_over-2-clause-ran g c = λ s pts legs v.
     let b = c.loop-k.invariant.4 s pts legs v in
     let x = becomes g.I.Pops.popped g.I.Pops.began g.M.Mixes.stands (StandsPaced g.C.TurnClock.tells c.args.tick (g.C.TurnClock.moment c.args.clock.now) (g.C.TurnClock.moment c.loop-k.clock) (AreInTurn g.M.Mixes.stands g.M.Mixes.addresses (g.C.TurnClock.pauses c.args.clock.now)) g.M.Mixes.stands) s pts c.loop-k.k c.loop-k.ports c.loop-k.mixer c.loop-k.mixer b.0
-    (b.0.made, λ t. record { began = c.clock_now-began.result; behind = c.loop-k.invariant.7; at = (b.1 t).0; told = (b.1 t).1 }, b.2) in
+    (b.0.made, λ t. record { began = c.clock_now-began.result; behind = c.loop-k.invariant.7; before = c.loop-k.invariant.6; at = (b.1 t).0; told = (b.1 t).1 }, b.2) in
     record {
       turns = c.loop-k.k;
       few = omega (arith, c.loop-k-test.false, c.loop-k.auto.k-end);
@@ -128,7 +128,7 @@ returns-clause-ran g c = λ s pts legs v.
     let b = c.loop-k.invariant.4 s pts legs v in
     let meets = StandsPaced g.C.TurnClock.tells c.args.tick (g.C.TurnClock.moment c.args.clock.now) (g.C.TurnClock.moment c.loop-k.clock) (AreInTurn g.M.Mixes.stands g.M.Mixes.addresses (g.C.TurnClock.pauses c.args.clock.now)) g.M.Mixes.stands in
     let x = becomes g.I.Pops.popped g.I.Pops.began g.M.Mixes.stands meets s pts c.loop-k.k c.loop-k.ports c.loop-k.mixer c.loop-k.mixer b.0
-    (b.0.made, λ t. record { began = c.clock_now-began.result; behind = c.loop-k.invariant.7; at = (b.1 t).0; told = (b.1 t).1 }, b.2) in
+    (b.0.made, λ t. record { began = c.clock_now-began.result; behind = c.loop-k.invariant.7; before = c.loop-k.invariant.6; at = (b.1 t).0; told = (b.1 t).1 }, b.2) in
     subst (λ (k : ℕ). DoneTo g.I.Pops.popped meets s pts k c.loop-k.ports c.loop-k.mixer) last (record {
       serving = x.0;
       goes_on = λ closed. true≢false (
@@ -149,7 +149,7 @@ returns-in-Some-clause-ran g c = λ s pts legs v.
     let x = becomes g.I.Pops.popped g.I.Pops.began g.M.Mixes.stands (StandsPaced g.C.TurnClock.tells c.args.tick (g.C.TurnClock.moment c.args.clock.now) (g.C.TurnClock.moment c.loop-k.clock) (AreInTurn g.M.Mixes.stands g.M.Mixes.addresses paused) g.M.Mixes.stands) s pts c.loop-k.k c.gather_all.new.ports c.gather_all.new.mixer c.gather_all.new.mixer v (
       v.made,
       λ t. let at = subst (λ (ms : List ℕ). AtTicks c.args.tick c.clock_now-began.result ms × RiseTo (g.C.TurnClock.moment c.loop-k.clock) ms) (sym w.1.moments) (b.1 t) in
-          record { began = c.clock_now-began.result; behind = c.loop-k.invariant.7; at = at.0; told = at.1 },
+          record { began = c.clock_now-began.result; behind = c.loop-k.invariant.7; before = c.loop-k.invariant.6; at = at.0; told = at.1 },
       order,
     ) in
     record { turns = c.loop-k.k; few = omega (arith, c.loop-k-test.true); serving = x.0 }
@@ -169,7 +169,7 @@ returns-in-Err-clause-ran g c = λ s pts legs v.
     let x = becomes g.I.Pops.popped g.I.Pops.began g.M.Mixes.stands (StandsPaced g.C.TurnClock.tells c.args.tick (g.C.TurnClock.moment c.args.clock.now) (g.C.TurnClock.moment c.clock_now-now.new.self) (AreInTurn g.M.Mixes.stands g.M.Mixes.addresses paused) (HaltsThen g.M.Mixes.halted)) s pts c.loop-k.k c.gather_all.new.ports c.gather_all.new.mixer c.turn.new.self v (
       (c.clock_now-now.result, c.in-Err.ensures.halted s pts v.calls v.made),
       λ t. let at = subst (λ (ms : List ℕ). AtTicks c.args.tick c.clock_now-began.result ms × RiseTo (g.C.TurnClock.moment c.loop-k.clock) ms) (sym w.1.moments) (b.1 t) in
-          record { began = c.clock_now-began.result; behind = c.loop-k.invariant.7; at = at.0; told = rise_on (g.C.TurnClock.moment c.loop-k.clock) (g.C.TurnClock.moment c.clock_now-now.new.self) _ c.clock_now-now.ensures.rises at.1 },
+          record { began = c.clock_now-began.result; behind = c.loop-k.invariant.7; before = (let before = c.loop-k.invariant.6 in let rises = c.clock_now-now.ensures.rises in omega (arith, before, rises)); at = at.0; told = rise_on (g.C.TurnClock.moment c.loop-k.clock) (g.C.TurnClock.moment c.clock_now-now.new.self) _ c.clock_now-now.ensures.rises at.1 },
       order_kept g.M.Mixes.stands g.M.Mixes.addresses paused s pts c.loop-k.k beat c.gather_all.new.mixer c.turn.new.self v.calls v.turned counted c.turn.ensures.addresses order,
     ) in
     record { turns = c.loop-k.k; few = omega (arith, c.loop-k-test.true); serving = x.0 }
@@ -204,5 +204,6 @@ returns-clause-paced g c = λ t done.
     record {
       began = c.clock_now-began.result;
       behind = c.loop-k.invariant.7;
+      before = c.loop-k.invariant.6;
       passed = subst (λ (k : ℕ). c.clock_now-began.result + k * c.args.tick < 2 ^ 47 → c.clock_now-began.result + k * c.args.tick ≤ g.C.TurnClock.moment c.loop-k.clock) last (c.loop-k.invariant.8 t);
     }
