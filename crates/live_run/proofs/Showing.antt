@@ -64,6 +64,11 @@ module _ (c : Conf) (own : ℕ) (leg : LegLine) (given : List (List ℕ)) (t : T
       g (terminal_conf c leg) c.mixer.ssrc items (subst (λ (q : TermConf). Heard t q (c.mixer.ssrc ∷ []) items) f h)
       ∙ ap (λ (b : Bool). old ++ cond b (aware_seen (reception (terminal_conf c leg)) leg.name (map speaker_of (remove c.legs own)) items) (unaware_seen (reception (terminal_conf c leg)) leg.name c.mixer.ssrc items)) (sym e)
 
+-- what is appended to nothing and then behind others is appended to them
+pub adds_view : (c : Conf) (j : ℕ) (l : Listening) (none view old new octets : List ℕ) → none ≡ [] → AppendsView c j l none view → octets ≡ view → new ≡ old ++ octets → AppendsView c j l old new
+adds_view c j l none view old new octets empty appends same is = λ leg given at heard.
+    is ∙ ap (λ (xs : List ℕ). old ++ xs) (same ∙ (appends leg given at heard ∙ ap (λ (xs : List ℕ). xs ++ live_view c j leg given) empty))
+
 -- ---- all terminals
 -- what the first k terminals show, where these were given to each
 abbrev pub views_below : Conf → (ℕ → List (List ℕ)) → ℕ → List ℕ

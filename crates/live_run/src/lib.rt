@@ -23,7 +23,7 @@ pub use faults::LiveFault;
 pub use laws::{links_are_apart, sent_is_given};
 pub use listeners::Listener;
 pub use mixers::live_mixer;
-pub use reports::{LiveEnd, LiveReport};
+pub use reports::{LiveEnd, LiveReport, Views};
 pub use serving::{serve, serve_tapped};
 pub use taps::{NoTap, Tap};
 pub use views::printed;

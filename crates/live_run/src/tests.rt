@@ -1,5 +1,5 @@
 //! Live calls over links in memory.
-use crate::{LiveFault, links_are_apart, serve};
+use crate::{LiveFault, Views, links_are_apart, serve};
 use conf_text::{Form, read_conf};
 use link_io::{Came, FailingLink, MemLinks, Planned};
 use rtt_base::{Bytes, NoMemory};
@@ -78,6 +78,15 @@ fn links(alloc: Global, comings: &[Coming]) -> Result<MemLinks, NoMemory> {
     Ok(world)
 }
 
+/// The octets of a text in parts.
+fn joined(alloc: Global, views: &Views) -> Result<Bytes, NoMemory> {
+    let mut octets = Bytes::new(alloc);
+    for part in views.parts() {
+        octets.append(part.as_slice())?;
+    }
+    Ok(octets)
+}
+
 /// How a call ended.
 #[derive(Clone, Copy, PartialEq)]
 enum Ended {
@@ -101,7 +110,8 @@ fn end_of<R: Threads + Wait + Sync>(
     links_are_apart();
     match serve(rt, alloc, &conf, world, &StillGate) {
         Ok(report) => {
-            if report.views.as_slice() == printed {
+            let shown = joined(alloc, &report.views)?;
+            if shown.as_slice() == printed {
                 return Ok(Ended::Printed);
             }
             Ok(Ended::PrintedElse)
@@ -277,7 +287,9 @@ fn same_by<R: Threads + Wait + Sync, G: Gate + Sync>(
     let Ok(held) = serve(rt, alloc, &conf, &mut world, gate) else {
         return Ok(false);
     };
-    Ok(plain.views.as_slice() == held.views.as_slice())
+    let plain = joined(alloc, &plain.views)?;
+    let held = joined(alloc, &held.views)?;
+    Ok(plain.as_slice() == held.as_slice())
 }
 
 #[test]

@@ -6,7 +6,7 @@ ghost use Rattle.serve_spec.specs.Served.{end_line};
 ghost use Rattle.live_run.specs.Reports.{end_of};
 
 use crate::speakers::conf_at;
-use crate::{Listener, LiveEnd};
+use crate::{Listener, LiveEnd, Views};
 use conference::{Conf, others};
 use rtt_base::{Bytes, NoMemory};
 use std::alloc::Global;
@@ -55,27 +55,46 @@ fn append_view(
     conf: &Conf,
     own: usize,
     listener: Listener,
-    views: &mut Bytes,
+    view: &mut Bytes,
+) -> Result<(), NoMemory>
+    requires own { own < length conf.now.legs }
+    ensures { OnOk result (AppendsView (conf_of conf.now) own listener view.old view.new) }
+{
+    if conf.legs.as_slice()[own].aware {
+        append_aware(alloc, conf, own, listener, view)
+    } else {
+        append_unaware(alloc, conf, own, listener, view)
+    }
+}
+
+/// Appends what is seen at the terminal of a leg to what is seen at others. It is made in place of the one before it, and what the
+/// terminal heard is let go before it is kept.
+fn add_view(
+    alloc: Global,
+    conf: &Conf,
+    own: usize,
+    listener: Listener,
+    view: &mut Bytes,
+    views: &mut Views,
 ) -> Result<(), NoMemory>
     requires own { own < length conf.now.legs }
     ensures { OnOk result (AppendsView (conf_of conf.now) own listener views.old views.new) }
 {
-    if conf.legs.as_slice()[own].aware {
-        append_aware(alloc, conf, own, listener, views)
-    } else {
-        append_unaware(alloc, conf, own, listener, views)
-    }
+    view.clear();
+    append_view(alloc, conf, own, listener, view)?;
+    views.append(alloc, view.as_slice())
 }
 
 /// What is seen at the terminals of a conference, in leg order.
-fn views_of(alloc: Global, conf: &Conf, listeners: Vec<Listener>) -> Result<Bytes, NoMemory>
+fn views_of(alloc: Global, conf: &Conf, listeners: Vec<Listener>) -> Result<Views, NoMemory>
     requires each { length listeners.items ≡ length conf.now.legs }
     ensures { IfOk result (AreViewsOf (conf_of conf.now) listeners.items) }
 {
-    let mut views = Bytes::new(alloc);
+    let mut views = Views::new(alloc);
+    let mut view = Bytes::new(alloc);
     let mut own = 0;
     for listener in listeners {
-        append_view(alloc, conf, own, listener, &mut views)?;
+        add_view(alloc, conf, own, listener, &mut view, &mut views)?;
         own += 1;
     }
     Ok(views)
@@ -97,11 +116,11 @@ pub fn printed(
     conf: &Conf,
     listeners: Vec<Listener>,
     end: LiveEnd,
-) -> Result<Bytes, NoMemory>
+) -> Result<Views, NoMemory>
     requires each { length listeners.items ≡ length conf.now.legs }
     ensures { IfOk result (ArePrintedOf (conf_of conf.now) listeners.items (end_of end)) }
 {
     let mut printed = views_of(alloc, conf, listeners)?;
-    printed.append(end_line(end))?;
+    printed.append(alloc, end_line(end))?;
     Ok(printed)
 }

@@ -11,7 +11,7 @@ ghost use Rattle.live_run.specs.Spans.{span_of};
 ghost use Rattle.live_watch.specs.Watched.{IsWrittenFor, WasWatched};
 
 use crate::board_taps::{BoardTap, OnBoard};
-use crate::lines::append_lines;
+use crate::lines::add_lines;
 use crate::watchers::Watcher;
 use conference::Conf;
 use link_io::Links;
@@ -124,7 +124,7 @@ pub fn serve_watched<
         return Err(LiveFault::NoMemory);
     };
     reader.learn(note);
-    match append_lines(conf, reader, &mut report.views) {
+    match add_lines(alloc, conf, reader, &mut report.views) {
         Ok(()) => Ok(report),
         Err(NoMemory) => Err(LiveFault::NoMemory),
     }

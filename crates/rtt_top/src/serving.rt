@@ -8,7 +8,7 @@ ghost use Rattle.rtt_top.specs.Lives.{EndsServing, GivesUp, IsGivenUp, IsServedF
 ghost use Rattle.rtt_top.specs.Outside.{left_by, outside_over, output_at};
 
 use crate::conferences::{conf_under, name_at_end};
-use crate::messages::{finish_with, print};
+use crate::messages::{finish_with, print_all};
 use command_spec::Fault;
 use conf_text::Form;
 use conference::Conf;
@@ -47,7 +47,7 @@ fn print_report<K: Sink>(served: Result<LiveReport, LiveFault>, out: &mut K) -> 
     ensures { PrintsReport K.Sink served out.old out.new result }
 {
     match served {
-        Ok(report) => print(report.views.as_slice(), out),
+        Ok(report) => print_all(report.views.parts(), out),
         Err(fault) => Err(fault_of_live(fault)),
     }
 }

@@ -7,8 +7,8 @@ use Rattle.live_run.specs.Listeners.{AreViewsOf, Listening}
 use Rattle.live_run.proofs.Showing.{first_all, first_more, get_seam, no_leg}
 use Rattle.live_run.proofs.views.views_of.Goals as goal
 
-pub append_view-requires : goal.append_view-requires
-append_view-requires c =
+pub add_view-requires : goal.add_view-requires
+add_view-requires c =
     let i = c.loop-listener.invariant in
     let yielded = c.loop-listener.yielded in
     let rest = into_iter_items c.next.new.self in
@@ -37,7 +37,7 @@ loop-listener-preserved c =
       all = append_assoc yielded (listener ∷ []) rest ∙ whole;
       left = omega (arith, i.left, c.in-Some.ensures.steps.1, ap (λ (xs : List Listening). length xs) steps);
       number = omega (arith, i.number, length_push yielded listener);
-      views = first_more conf all own no_leg listener c.loop-listener.views c.append_view.new.views below at i.views c.in_ok-append_view.ensures;
+      views = first_more conf all own no_leg listener c.loop-listener.views c.add_view.new.views below at i.views c.in_ok-add_view.ensures;
     }
 
 pub returns : goal.returns

@@ -26,14 +26,14 @@ learn-requires g c =
     let back = c.finish-reader.ensures c.in-Ok.reader c.start-watcher.ensures in
     ap (λ (t : Telling). t.board) told ∙ (w.told.told.same ∙ (sym c.in-Ok.ensures.board ∙ sym back.board))
 
-pub append_lines-requires-clause-each : goal.append_lines-requires-clause-each
-append_lines-requires-clause-each g c =
+pub add_lines-requires-clause-each : goal.add_lines-requires-clause-each
+add_lines-requires-clause-each g c =
     let back = c.finish-reader.ensures c.in-Ok.reader c.start-watcher.ensures in
     let legs = c.learn.ensures.board.1 ∙ (back.legs ∙ ap (λ (r : Reading). r.legs) c.in-Ok.ensures.reader) in
     omega (arith, legs, c.len-legs.ensures)
 
-pub returns-in-Ok-append_lines-clause-watched : goal.returns-in-Ok-append_lines-clause-watched
-returns-in-Ok-append_lines-clause-watched g c =
+pub returns-in-Ok-add_lines-clause-watched : goal.returns-in-Ok-add_lines-clause-watched
+returns-in-Ok-add_lines-clause-watched g c =
     let writer = c.serve_on-served.result.1 in
     let first = c.in-Ok.writer in
     let world = c.serve_on-served.new.world in
@@ -44,8 +44,8 @@ returns-in-Ok-append_lines-clause-watched g c =
     let Q : Telling → Type 0 = λ n. n ≡ record { board = writer.board; changes = writer.published ++ writer.pending; ended = true } in
     let told = ok_has Q c.last-noted.result c.in-Ok-noted.note c.in-Ok-noted.is c.last-noted.ensures.told in
     let seen = (c.learn.ensures.all (ap (λ (t : Telling). t.ended) told)).0 in
-    was_watched g.W.Links.tells (span_of g.W.Links c.args.world.now world) (g.W.Links.taken_at world) (g.W.Links.given_at world) conf (end_of report.end) report.views c.append_lines.new.printed first.board writer c.learn.new.self.seen w
-    (sym (seen ∙ ap (λ (t : Telling). t.changes) told)) c.in-Ok-append_lines.ensures
+    was_watched g.W.Links.tells (span_of g.W.Links c.args.world.now world) (g.W.Links.taken_at world) (g.W.Links.given_at world) conf (end_of report.end) report.views c.add_lines.new.printed first.board writer c.learn.new.self.seen w
+    (sym (seen ∙ ap (λ (t : Telling). t.changes) told)) c.in-Ok-add_lines.ensures
 
 pub returns-clause-leads_some : goal.returns-clause-leads_some
 returns-clause-leads_some g c = λ t.

@@ -10,12 +10,12 @@ use Rattle.rtt_top.proofs.serving.print_report.Goals as goal
 pub returns-in-Ok : goal.returns-in-Ok
 returns-in-Ok g c =
     let old = c.args.out.now in
-    let new = c.print.new.out in
-    subst (λ (s : Result LiveReport LiveFault). PrintsReport g.K.Sink s old new c.print.result) (sym c.in-Ok.is) (
-      c.print.ensures.fault,
-      c.print.ensures.cause,
-      subst (λ views. Wrote g.K.Sink old new views c.print.result) c.as_slice.ensures c.print.ensures.printed,
-      subst (λ views. WrotePartly g.K.Sink old new views c.print.result) c.as_slice.ensures c.print.ensures.partly,
+    let new = c.print_all.new.out in
+    subst (λ (s : Result LiveReport LiveFault). PrintsReport g.K.Sink s old new c.print_all.result) (sym c.in-Ok.is) (
+      c.print_all.ensures.fault,
+      c.print_all.ensures.cause,
+      subst (λ views. Wrote g.K.Sink old new views c.print_all.result) c.parts.ensures c.print_all.ensures.printed,
+      subst (λ views. WrotePartly g.K.Sink old new views c.print_all.result) c.parts.ensures c.print_all.ensures.partly,
     )
 
 pub returns-in-Err : goal.returns-in-Err
