@@ -12,6 +12,7 @@ use rtt_words::{Command, WordFault, command_of};
 use std::alloc::Global;
 use std::fs;
 use std::fs::File;
+use std::io::Write;
 use std::net::Net;
 use std::rt::Files;
 use std::sync::Wait;
@@ -31,6 +32,8 @@ pub(crate) struct CallService<L: Links, J: Journals, R> {
 /// Why no command is begun.
 #[derive(Drop)]
 pub(crate) enum CallFault {
+    /// The output is closed.
+    Unprinted,
     /// The recording of this name can't be made.
     Unwritten(String),
     NoMemory,
@@ -145,13 +148,20 @@ where
     }
 }
 
+/// Whether a stream is open. That there is room for what is written, or that somebody reads it, is not known before.
+fn is_open<O: Write>(out: &mut O) -> bool {
+    out.write(b"").is_ok()
+}
+
 /// What the command is given that these words ask for: over these links, nothing more where they ask for no live call, or its conference
-/// is not read from an ordinary file. What is wrong with that is not told here. Recordings are made before any port is opened.
+/// is not read from an ordinary file. What is wrong with that is not told here. Before any port is opened the output is tried, and then
+/// recordings are made.
 pub(crate) fn service_of<
     R: Files<File = File> + Net + Threads + Wait + Clock + Copy + Drop + Send + 'static,
     W: World,
     L: Links + Drop,
     J: Journals + Drop + Send + 'static,
+    O: Write,
 >(
     rt: R,
     alloc: Global,
@@ -159,6 +169,7 @@ pub(crate) fn service_of<
     world: &mut W,
     links: L,
     journals: J,
+    out: &mut O,
 ) -> Result<CallService<L, J, R>, CallFault>
 where
     J::File: 'static,
@@ -170,6 +181,9 @@ where
             links: Recorded::plain(rt, alloc, links, journals)?,
         });
     };
+    if !is_open(out) {
+        return Err(CallFault::Unprinted);
+    }
     let links = links_of(rt, alloc, &conf, links, journals)?;
     let gone = conf.service.gone;
     let operator = operator_of(&rt, alloc, conf)?;

@@ -67,6 +67,14 @@ fn no_memory<E: Sink>(err: &mut E) -> u8
     70
 }
 
+/// The status where the output is closed before a call begins, which is told.
+fn unprinted<E: Sink>(err: &mut E) -> u8
+    ensures status { result ≡ 7 }
+    ensures told { E.tells → (Rose (E.faults err.old) (E.faults err.new) → ⊥) → E.took err.new ≡ E.took err.old ++ codes "cannot write the output\n" }
+{
+    finish_with(Err(Fault::CannotPrint), "", err)
+}
+
 /// The status where a recording of this name could not be written, which is told.
 fn unwritten<E: Sink>(name: &str, err: &mut E) -> u8
     ensures status { result ≡ 7 }
@@ -231,6 +239,7 @@ fn main(rt: HostRuntime) -> ExitCode {
             &mut world,
             links,
             journals,
+            &mut rt.stdout(),
         ),
         Err(AllocError) => Err(CallFault::NoMemory),
     };
@@ -241,6 +250,7 @@ fn main(rt: HostRuntime) -> ExitCode {
     } = match asked {
         Ok(service) => service,
         Err(CallFault::NoMemory) => return exit_with(no_memory(&mut err)),
+        Err(CallFault::Unprinted) => return exit_with(unprinted(&mut err)),
         Err(CallFault::Unwritten(name)) => return exit_with(unwritten(name.as_str(), &mut err)),
     };
     let mut ports = RealPorts::new(&rt, rt.alloc());
