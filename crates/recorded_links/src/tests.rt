@@ -47,6 +47,7 @@ fn links(alloc: Global) -> Result<MemLinks, NoMemory> {
     links.plan(5001, Planned::new(alloc, 100, Came::Datagram, TEXT)?)?;
     links.plan(5001, Planned::new(alloc, 200, Came::Large, b"")?)?;
     links.plan(5001, Planned::new(alloc, 250, Came::Datagram, REPORT)?)?;
+    links.plan(5001, Planned::new(alloc, FIVE_HOURS, Came::Datagram, TEXT)?)?;
     Ok(links)
 }
 
@@ -66,11 +67,21 @@ fn holds(
     })
 }
 
+/// The moment at which five hours have gone by (milliseconds).
+const FIVE_HOURS: u32 = 18_000_000;
+
+/// The line and the head of a recording that begins five hours behind the others, with the text that came then.
+const BEHIND: &[u8] =
+    b"#!rtpplay1.0 127.0.0.1/5004\n\0\0\x46\x51\0\x07\xA1\x20\x7F\0\0\x01\x13\x8C\0\0\
+    \0\x16\0\x0E\0\0\0\0\x80\xE2\0\x05\0\0\0\x64\0\0\x03\xE9Hi";
+
 /// How a call goes.
 #[derive(Clone, Copy)]
 enum Course {
     /// All is taken, and Ann is given a text at 1000.
     Whole,
+    /// So it is, and five hours later another text of Ann is taken.
+    Long,
     /// No link is opened.
     Unopened,
 }
@@ -88,14 +99,15 @@ fn call<R: Threads + Wait + Copy + Drop + Send + 'static>(
     let legs = conf.legs.as_slice();
     let mut links = Recorded::begin(rt, alloc, below, journals, "call", legs, START, 20)?;
     match course {
-        Course::Whole => run(&mut links),
+        Course::Whole => run(&mut links, 1000),
+        Course::Long => run(&mut links, u64::from(FIVE_HOURS)),
         Course::Unopened => {}
     }
     Ok(links.finish())
 }
 
-/// Takes all that comes, and gives Ann a text at 1000.
-fn run<L: Links>(links: &mut L) {
+/// Takes all that comes up to this moment (milliseconds), and gives Ann a text at 1000.
+fn run<L: Links>(links: &mut L, last: u64) {
     let Ok((mut ann, mut ann_out)) = links.link(5001, "127.0.0.1:6001") else {
         return;
     };
@@ -106,6 +118,8 @@ fn run<L: Links>(links: &mut L) {
     links.pause_until(1000);
     let beat = links.beat();
     let _given = ann_out.give(&beat, TEXT);
+    links.pause_until(last);
+    let _taken = ann.take(&mut out, 0);
     links.done_in(ann);
     links.done_out(ann_out);
 }
@@ -127,6 +141,19 @@ fn what_came_and_what_was_given_is_in_the_files(rt: HostRuntime) -> Result<(), F
     assert!(rt; holds(rt.alloc(), &done.journals, "call.Ann.out.1.rtp", ANN_OUT)?);
     assert!(rt; holds(rt.alloc(), &done.journals, "call.Bob.in.1.rtp", b"")?);
     assert!(rt; holds(rt.alloc(), &done.journals, "call.Bob.out.1.rtp", b"")?);
+    Ok(())
+}
+
+#[test]
+fn a_call_of_five_hours_has_two_files_a_link(rt: HostRuntime) -> Result<(), Fail> {
+    let alloc = rt.alloc();
+    let done = call(rt, alloc, MemJournals::new(rt.alloc()), Course::Long)?;
+    assert!(rt; done.failed?.is_none());
+    assert!(rt; holds(rt.alloc(), &done.journals, "call.Ann.in.1.rtp", ANN_IN)?);
+    assert!(rt; done.journals.contents("call.Ann.in.2.rtp") == Some(BEHIND));
+    assert!(rt; done.journals.contents("call.Ann.in.3.rtp").is_none());
+    assert!(rt; holds(rt.alloc(), &done.journals, "call.Ann.out.1.rtp", ANN_OUT)?);
+    assert!(rt; done.journals.contents("call.Ann.out.2.rtp").is_none());
     Ok(())
 }
 
