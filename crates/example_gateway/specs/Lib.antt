@@ -1,0 +1,3 @@
+pub mod Mixers
+pub mod Outputs
+pub mod Gateways

@@ -1,0 +1,134 @@
+//! A leg of a gateway.
+ghost use Rattle.std.specs.Prelude.{◌≡◌, ◌<◌, true, false, length};
+ghost use Rattle.std.specs.Str.{is_utf8};
+ghost use Rattle.ear.specs.Hears.{IsGiving, is_quiet};
+ghost use Rattle.mixer_turn.specs.States.{legs_of};
+ghost use Rattle.example_gateway.specs.Mixers.{IsSame};
+ghost use Rattle.rtt_base.specs.declared.limits.TheConstants.{END_OF_MOMENTS};
+
+use conference::Conf;
+use ear::{Ear, EarConf, is_blank};
+use mixer_turn::Mixer;
+use rtt_base::limits::MOST_ARRIVALS;
+use rtt_base::{Chunk, Full, NoMemory};
+use std::alloc::Global;
+
+/// A leg: its ear, and the text that is offered to the mixer next.
+#[derive(Drop)]
+pub(crate) struct Leg {
+    ear: Ear,
+    next: Chunk,
+    /// Whether there is a next text.
+    waits: bool,
+    ghost giving: { ∥ IsGiving ear ∥₁ },
+    ghost text: { waits ≡ true → is_utf8 next.text ≡ true },
+}
+
+/// What became of the next text of a leg.
+#[derive(Clone, Copy, Debug, PartialEq, Eq)]
+enum Offered {
+    /// There is none.
+    Nothing,
+    /// The mixer took it, or it is a keep-alive.
+    Taken,
+    /// It waits for room.
+    Waits,
+}
+
+impl Leg {
+    /// The leg with this number, of which nothing came.
+    pub(crate) fn new(alloc: Global, conf: &Conf, leg: usize) -> Result<Leg, NoMemory>
+        requires { leg < length conf.now.legs }
+    {
+        let line = &conf.legs.as_slice()[leg];
+        let ear = EarConf {
+            ssrc: line.ssrc,
+            pts: line.pts,
+            wait: u64::from(conf.wait),
+        };
+        Ok(Leg {
+            ear: Ear::new(alloc, ear, &[ear.ssrc])?,
+            next: Chunk::default(),
+            waits: false,
+        })
+    }
+
+    /// Hears the next text, unless one waits. Whether there is one now.
+    fn listen(&mut self) -> bool
+        ensures waits { result ≡ true → self.new.waits ≡ true }
+        ensures quiet { result ≡ false → is_quiet self.new.ear ≡ true }
+    {
+        if !self.waits {
+            self.waits = self.ear.next(&mut self.next);
+        }
+        self.waits
+    }
+
+    /// Offers the next text.
+    fn offer(&mut self, leg: u8, mixer: &mut Mixer) -> Offered
+        requires leg { leg < legs_of mixer.old }
+        ensures quiet { result ≡ Offered.Nothing → is_quiet self.new.ear ≡ true }
+        ensures same { IsSame mixer.old mixer.new }
+    {
+        if !self.listen() {
+            return Offered::Nothing;
+        }
+        self.next.source = leg;
+        self.waits = !is_blank(self.next.text.as_slice()) && mixer.offer(&self.next).is_err();
+        if self.waits {
+            Offered::Waits
+        } else {
+            Offered::Taken
+        }
+    }
+}
+
+impl Leg {
+    /// Offers all that is heard, as far as the mixer has room. Whether nothing is left.
+    fn offer_all(&mut self, leg: u8, mixer: &mut Mixer) -> bool
+        requires leg { leg < legs_of mixer.old }
+        ensures quiet { result ≡ true → is_quiet self.new.ear ≡ true }
+        ensures same { IsSame mixer.old mixer.new }
+    {
+        for _ in 0..u64::MAX {
+            match self.offer(leg, mixer) {
+                Offered::Nothing => return true,
+                Offered::Taken => {}
+                Offered::Waits => return false,
+            }
+        }
+        false
+    }
+
+    /// Hears a datagram that came at `now`, in milliseconds. `Full`: text of before waits for room.
+    pub(crate) fn hear(
+        &mut self,
+        leg: u8,
+        now: u64,
+        datagram: &[u8],
+        mixer: &mut Mixer,
+    ) -> Result<(), Full>
+        requires leg { leg < legs_of mixer.old }
+        requires now { now < END_OF_MOMENTS }
+        ensures same { IsSame mixer.old mixer.new }
+    {
+        if !self.offer_all(leg, mixer) || self.ear.arrivals() >= MOST_ARRIVALS {
+            return Err(Full);
+        }
+        let _no_text = self.ear.hear(now, datagram);
+        self.offer_all(leg, mixer);
+        Ok(())
+    }
+
+    /// Lets time go on to `now`, in milliseconds: what is lost is waited for no longer than the conference says.
+    pub(crate) fn expire(&mut self, leg: u8, now: u64, mixer: &mut Mixer)
+        requires leg { leg < legs_of mixer.old }
+        requires now { now < END_OF_MOMENTS }
+        ensures same { IsSame mixer.old mixer.new }
+    {
+        if self.offer_all(leg, mixer) {
+            self.ear.expire(now);
+            self.offer_all(leg, mixer);
+        }
+    }
+}
